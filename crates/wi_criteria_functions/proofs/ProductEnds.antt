@@ -21,8 +21,9 @@ use Rattle.wi_standard_functions.specs.Steps.{◌>>=◌, and_then, map_until_err
 use Rattle.wi_lookup.specs.declared.argument.Argument as given
 use Rattle.wi_lookup.specs.declared.stop.Stop.TheVariants.{Missing, Memory}
 use Rattle.wi_lookup.specs.Arguments.{arguments_in, refers_to, area_referred}
-use Rattle.wi_criteria_functions.specs.declared.ending.Ending.{Ending}
-use Rattle.wi_criteria_functions.specs.declared.ending.Ending.TheVariants.{Error, Stopped}
+use Rattle.wi_lookup.specs.declared.stop.Stop.{Stop}
+use Rattle.wi_lookup.specs.declared.ending.Ending.{Ending}
+use Rattle.wi_lookup.specs.declared.ending.Ending.TheVariants.{Error, Stopped}
 use Rattle.wi_criteria_functions.specs.Inner.Giving.{Agrees, Gives}
 use Rattle.wi_criteria_functions.specs.Inner.Products.{areas_of, product_there, sum_over, sum_through, with_factor, with_place, IsAreaError, IsMissingInAny}
 use Rattle.wi_criteria_functions.specs.Inner.Sums.{same_extent, same_place}
@@ -91,7 +92,7 @@ module _ (cells : ℕ → Value) (r : Area) where
 -- ---- rectangles, of which one is the first
 
 -- the outcome is the sum over the rectangles
-abbrev pub Summed : (ℕ → Option Value) → List Area → Result numbers.Number Ending → Type 0
+abbrev pub Summed : (ℕ → Option Value) → List Area → Result numbers.Number (Ending Stop) → Type 0
 Summed known rs o = Agrees known (IsMissingInAny known rs) (λ (x : numbers.Number). x) (λ cells. sum_over (map (region_of cells) rs)) o
 
 itself : (r : Area) → same_extent r r ≡ true
@@ -137,7 +138,7 @@ module _ (known : ℕ → Option Value) (rs : List Area) where
     pub sizes_differ : list_all (same_extent r) rs ≡ false → Summed known rs (Err (Error BadValue))
     sizes_differ h = λ cells l. sum_is false cells h
 
-    pub through_is : (o : Result numbers.Number Ending) → list_all (same_extent r) rs ≡ true → Agrees known (IsMissingInAny known rs) (λ (x : numbers.Number). x) (λ cells. sum_through cells r rs) o → Summed known rs o
+    pub through_is : (o : Result numbers.Number (Ending Stop)) → list_all (same_extent r) rs ≡ true → Agrees known (IsMissingInAny known rs) (λ (x : numbers.Number). x) (λ cells. sum_through cells r rs) o → Summed known rs o
     through_is (Ok x) h q = λ cells l. sum_is true cells h ∙ q cells l
     through_is (Err (Error e)) h q = λ cells l. sum_is true cells h ∙ q cells l
     through_is (Err (Stopped t)) h q = q
@@ -188,7 +189,7 @@ module _ (args : List given.Argument) where
       at (Ok rs) = ap Ok (append_assoc taken (r ∷ []) rs)
       at (Err e) = refl
 
-  pub not_taken : (taken : List Area) (i : ℕ) (a : given.Argument) (e : ErrorKind) (x : Ending) → x ≡ Error e → i < length args → a ≡ get_or args i a → Err e ≡ area_referred a → Taken taken (drop i args) → IsAreaError args x
+  pub not_taken : (taken : List Area) (i : ℕ) (a : given.Argument) (e : ErrorKind) (x : Ending Stop) → x ≡ Error e → i < length args → a ≡ get_or args i a → Err e ≡ area_referred a → Taken taken (drop i args) → IsAreaError args x
   not_taken taken i a e x n l is m h = subst (IsAreaError args) (sym n) (sym (next taken i a (Err e) l is m h))
 
   pub all_taken : (taken : List Area) (i : ℕ) → length args ≤ i → Taken taken (drop i args) → areas_of args ≡ Ok taken
@@ -211,10 +212,10 @@ module _ (args : List given.Argument) where
   at_sum cells rs o e h = at_areas cells (Ok rs) e ∙ shown_sum (of_one_size (map (region_of cells) rs)) ∙ ap (λ (p : Result numbers.Number ErrorKind). p >>= (λ x. Number x)) h
 
   module _ (known : ℕ → Option Value) where
-    pub ends_at_areas : (y x : Ending) → x ≡ y → IsAreaError args y → Gives known sum_product_value args (Err x)
-    ends_at_areas y x m h = subst (λ (z : Ending). Gives known sum_product_value args (Err z)) (sym m) (at y h)
+    pub ends_at_areas : (y x : Ending Stop) → x ≡ y → IsAreaError args y → Gives known sum_product_value args (Err x)
+    ends_at_areas y x m h = subst (λ (z : Ending Stop). Gives known sum_product_value args (Err z)) (sym m) (at y h)
       where
-        at : (z : Ending) → IsAreaError args z → Gives known sum_product_value args (Err z)
+        at : (z : Ending Stop) → IsAreaError args z → Gives known sum_product_value args (Err z)
         at (Error e) k = λ cells l. sym (at_areas cells (Err e) k)
         at (Stopped (Missing c)) k = cc
         at (Stopped Memory) k = tt
@@ -222,10 +223,10 @@ module _ (args : List given.Argument) where
     pub ends_summed : (rs : List Area) (x : numbers.Number) → areas_of args ≡ Ok rs → Summed known rs (Ok x) → Gives known sum_product_value args (Ok (Number x))
     ends_summed rs x e q = λ cells l. sym (at_sum cells rs (Ok x) e (q cells l))
 
-    pub ends_in_sum : (rs : List Area) (y x : Ending) → x ≡ y → areas_of args ≡ Ok rs → Summed known rs (Err y) → Gives known sum_product_value args (Err x)
-    ends_in_sum rs y x m e q = subst (λ (z : Ending). Gives known sum_product_value args (Err z)) (sym m) (at y q)
+    pub ends_in_sum : (rs : List Area) (y x : Ending Stop) → x ≡ y → areas_of args ≡ Ok rs → Summed known rs (Err y) → Gives known sum_product_value args (Err x)
+    ends_in_sum rs y x m e q = subst (λ (z : Ending Stop). Gives known sum_product_value args (Err z)) (sym m) (at y q)
       where
-        at : (z : Ending) → Summed known rs (Err z) → Gives known sum_product_value args (Err z)
+        at : (z : Ending Stop) → Summed known rs (Err z) → Gives known sum_product_value args (Err z)
         at (Error n) p = λ cells l. sym (at_sum cells rs (Err n) e (p cells l))
         at (Stopped (Missing c)) p = (p.0, referred c args rs e ∙ p.1)
         at (Stopped Memory) p = tt

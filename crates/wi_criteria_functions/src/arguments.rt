@@ -8,9 +8,8 @@ ghost use Rattle.wi_lookup.specs.Arguments.{argument_in, arguments_in, region_in
 ghost use Rattle.wi_matching.specs.Inner.Meeting.{criterion_held};
 ghost use Rattle.wi_criteria_functions.specs.Inner.Giving.{criterion_argument, Agrees, IsCriterionOf};
 
-use crate::ending::Ending;
 use std::alloc::Global;
-use wi_lookup::{Argument, Lookup};
+use wi_lookup::{Argument, Ending, Lookup, Stop};
 use wi_matching::Criterion;
 use wi_scalar_functions::no_error;
 use wi_values::{ErrorKind, Rect, Value};
@@ -37,7 +36,7 @@ pub(crate) fn criterion_at<L: Lookup>(
     arguments: &[Argument],
     place: usize,
     lookup: &L,
-) -> Result<Criterion, Ending>
+) -> Result<Criterion, Ending<Stop>>
     ensures { Agrees (L.known_cell lookup.now) (IsMissing (L.known_cell lookup.now) arguments.now) criterion_held (λ cells. criterion_argument (value_at (arguments_in cells arguments.now) place)) result }
 {
     match argument_at(arguments, place) {
@@ -51,7 +50,7 @@ fn criterion_in<L: Lookup>(
     alloc: Global,
     argument: &Argument,
     lookup: &L,
-) -> Result<Criterion, Ending>
+) -> Result<Criterion, Ending<Stop>>
     ensures { Agrees (L.known_cell lookup.now) (IsMissing (L.known_cell lookup.now) (argument.now ∷ [])) criterion_held (λ cells. criterion_argument (argument_in cells argument.now).value) result }
 {
     let lent = argument.value(lookup)?;
@@ -60,7 +59,7 @@ fn criterion_in<L: Lookup>(
 }
 
 /// The criterion that a value is, unless that is an error.
-fn criterion_of(alloc: Global, value: &Value) -> Result<Criterion, Ending>
+fn criterion_of(alloc: Global, value: &Value) -> Result<Criterion, Ending<Stop>>
     ensures { IsCriterionOf value.now result }
 {
     no_error(value)?;

@@ -12,10 +12,9 @@ ghost use Rattle.wi_criteria_functions.specs.Inner.Laws.{empty_not_counted};
 ghost use Rattle.wi_criteria_functions.specs.Inner.Giving.{Gives};
 
 use crate::arguments::criterion_at;
-use crate::ending::{Ending, settled};
 use std::alloc::Global;
 use std::ops::ControlFlow;
-use wi_lookup::{Argument, Lookup, Stop, TakesCells, area_at, take_cells};
+use wi_lookup::{Argument, Ending, Lookup, Stop, TakesCells, area_at, settled, take_cells};
 use wi_matching::Criterion;
 use wi_scalar_functions::{counted, whole_value};
 use wi_values::{Address, Rect, Value};
@@ -33,7 +32,11 @@ pub fn count_if_value<L: Lookup>(
     settled(count_if(alloc, arguments, lookup))
 }
 
-fn count_if<L: Lookup>(alloc: Global, arguments: &[Argument], lookup: &L) -> Result<Value, Ending>
+fn count_if<L: Lookup>(
+    alloc: Global,
+    arguments: &[Argument],
+    lookup: &L,
+) -> Result<Value, Ending<Stop>>
     ensures { Gives (L.known_cell lookup.now) count_if_value arguments.now result }
 {
     let area = area_at(arguments, 0)?;

@@ -4,7 +4,6 @@
 mod arguments;
 mod cells;
 mod counting;
-mod ending;
 mod extent;
 mod places;
 mod products;

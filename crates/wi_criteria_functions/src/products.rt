@@ -11,12 +11,11 @@ ghost use Rattle.wi_criteria_functions.specs.Inner.Products.{areas_of, product_t
 ghost use Rattle.wi_criteria_functions.specs.Inner.Sums.{same_extent};
 
 use crate::cells::value_of;
-use crate::ending::{Ending, settled};
 use crate::extent::same_place;
 use crate::places::{have_one_size, next_place};
 use std::alloc::Global;
 use wi_fraction::Fraction;
-use wi_lookup::{Argument, Lookup, Stop};
+use wi_lookup::{Argument, Ending, Lookup, Stop, settled};
 use wi_scalar_functions::{add, multiply, one, zero};
 use wi_values::{Address, ErrorKind, Rect, Value};
 
@@ -39,7 +38,7 @@ fn sum_product<L: Lookup>(
     alloc: Global,
     arguments: &[Argument],
     lookup: &L,
-) -> Result<Value, Ending>
+) -> Result<Value, Ending<Stop>>
     ensures { Gives (L.known_cell lookup.now) sum_product_value arguments.now result }
 {
     let areas = areas_of(alloc, arguments)?;
@@ -48,7 +47,7 @@ fn sum_product<L: Lookup>(
 }
 
 /// The rectangles that all arguments refer to.
-fn areas_of(alloc: Global, arguments: &[Argument]) -> Result<Vec<Rect>, Ending>
+fn areas_of(alloc: Global, arguments: &[Argument]) -> Result<Vec<Rect>, Ending<Stop>>
     ensures done { IfOk result (λ areas. areas_of arguments.now ≡ Ok areas.items) }
     ensures error { IfErr result (IsAreaError arguments.now) }
 {
@@ -60,7 +59,7 @@ fn areas_of(alloc: Global, arguments: &[Argument]) -> Result<Vec<Rect>, Ending>
 }
 
 /// The sum of the products at all places of rectangles, where these have one size.
-fn sum_over<L: Lookup>(areas: &[Rect], lookup: &L) -> Result<Fraction, Ending>
+fn sum_over<L: Lookup>(areas: &[Rect], lookup: &L) -> Result<Fraction, Ending<Stop>>
     ensures { Agrees (L.known_cell lookup.now) (IsMissingInAny (L.known_cell lookup.now) areas.now) (λ x. x) (λ cells. sum_over (map (region_of cells) areas.now)) result }
 {
     let Some(first) = first_of(areas) else {
@@ -79,7 +78,11 @@ fn first_of(areas: &[Rect]) -> Option<Rect>
 }
 
 /// The same, of which one is the first.
-fn sum_of_products<L: Lookup>(first: Rect, areas: &[Rect], lookup: &L) -> Result<Fraction, Ending>
+fn sum_of_products<L: Lookup>(
+    first: Rect,
+    areas: &[Rect],
+    lookup: &L,
+) -> Result<Fraction, Ending<Stop>>
     requires head { Some first ≡ slice_get areas.now 0 }
     requires size { list_all (same_extent first) areas.now ≡ true }
     ensures { Agrees (L.known_cell lookup.now) (IsMissingInAny (L.known_cell lookup.now) areas.now) (λ x. x) (λ cells. sum_through cells first areas.now) result }
@@ -102,7 +105,7 @@ fn product_at<L: Lookup>(
     areas: &[Rect],
     at: Address,
     lookup: &L,
-) -> Result<Fraction, Ending>
+) -> Result<Fraction, Ending<Stop>>
     requires within { is_within first at ≡ true }
     requires size { list_all (same_extent first) areas.now ≡ true }
     ensures { Agrees (L.known_cell lookup.now) (IsMissingInAny (L.known_cell lookup.now) areas.now) (λ x. x) (λ cells. product_there cells first areas.now at) result }

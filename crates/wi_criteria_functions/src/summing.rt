@@ -12,11 +12,10 @@ ghost use Rattle.wi_criteria_functions.specs.Inner.Sums.{same_extent, same_place
 
 use crate::arguments::{area_or, criterion_at};
 use crate::cells::{next_after, value_of};
-use crate::ending::{Ending, settled};
 use crate::extent::{same_extent, same_place};
 use std::alloc::Global;
 use wi_fraction::Fraction;
-use wi_lookup::{Argument, Lookup, Stop, area_at};
+use wi_lookup::{Argument, Ending, Lookup, Stop, area_at, settled};
 use wi_matching::Criterion;
 use wi_scalar_functions::{add, zero};
 use wi_values::{Address, ErrorKind, Rect, Value};
@@ -35,7 +34,11 @@ pub fn sum_if_value<L: Lookup>(
     settled(sum_if(alloc, arguments, lookup))
 }
 
-fn sum_if<L: Lookup>(alloc: Global, arguments: &[Argument], lookup: &L) -> Result<Value, Ending>
+fn sum_if<L: Lookup>(
+    alloc: Global,
+    arguments: &[Argument],
+    lookup: &L,
+) -> Result<Value, Ending<Stop>>
     ensures { Gives (L.known_cell lookup.now) sum_if_value arguments.now result }
 {
     let area = area_at(arguments, 0)?;
@@ -54,7 +57,7 @@ fn sum_met<L: Lookup>(
     area: Rect,
     added: Rect,
     lookup: &L,
-) -> Result<Fraction, Ending>
+) -> Result<Fraction, Ending<Stop>>
     requires { same_extent area added ≡ true }
     ensures { Agrees (L.known_cell lookup.now) (IsMissingIn (L.known_cell lookup.now) area added) (λ x. x) (λ cells. sum_of_items (values_where (is_met criterion.now) (region_of cells area).values (region_of cells added).values)) result }
 {
@@ -76,7 +79,7 @@ fn with_met<L: Lookup>(
     sum: Fraction,
     other: Address,
     lookup: &L,
-) -> Result<Fraction, Ending>
+) -> Result<Fraction, Ending<Stop>>
     ensures { Agrees (L.known_cell lookup.now) (λ c. (c ≡ other) × (L.known_cell lookup.now c ≡ None)) (λ x. x) (λ cells. if is_met criterion.now value.now then with_cell (Ok sum) (cells other) else Ok sum) result }
 {
     if !criterion.meets(value) {

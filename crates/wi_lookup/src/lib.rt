@@ -3,6 +3,7 @@
 
 mod argument;
 mod cells;
+mod ending;
 mod lookup;
 mod stop;
 mod taker;
@@ -10,6 +11,7 @@ mod walk;
 
 pub use argument::{Argument, area_at};
 pub use cells::successor;
+pub use ending::{Ending, settled};
 pub use lookup::{LookedUp, Lookup};
 pub use stop::Stop;
 pub use taker::TakesCells;

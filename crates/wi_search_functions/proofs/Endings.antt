@@ -18,8 +18,8 @@ use Rattle.wi_standard_functions.specs.FirstError.{no_error}
 use Rattle.wi_standard_functions.specs.Lookup.{cell_in, index_value, index_along, index_by_both, nth_cell, nth_cell_along, place_among}
 use Rattle.wi_standard_functions.specs.Matching.{sought_for}
 use Rattle.wi_standard_functions.specs.Steps.{◌>>=◌, and_then}
-use Rattle.wi_search_functions.specs.declared.halt.Halt.{Halt}
-use Rattle.wi_search_functions.specs.declared.halt.Halt.TheVariants.{Error, Missing}
+use Rattle.wi_lookup.specs.declared.ending.Ending.{Ending}
+use Rattle.wi_lookup.specs.declared.ending.Ending.TheVariants.{Error, Stopped}
 use Rattle.wi_search_functions.specs.Inner.Giving.{WhateverHeld, Agrees, Finds, Places, IsPlacedIn}
 use Rattle.wi_search_functions.specs.Inner.Lines.{height, width}
 use Rattle.wi_search_functions.proofs.Asked.{itself, fault, sought_or_zero}
@@ -28,47 +28,47 @@ use Rattle.wi_search_functions.proofs.Places.{cell_at}
 
 -- ---- at the exit of a `?`
 
-pub gives_so : {A B : Type 0} (known : ℕ → Option Value) (P : ℕ → Type 0) (view : A → B) (asked : (ℕ → Value) → Result B ErrorKind) (r : Result A Halt) (h : Halt) → IsErrAnd r (λ y. y ≡ h) → Agrees {A = A} {B = B} known P view asked (Err h) → Agrees {A = A} {B = B} known P view asked r
+pub gives_so : {A B : Type 0} (known : ℕ → Option Value) (P : ℕ → Type 0) (view : A → B) (asked : (ℕ → Value) → Result B ErrorKind) (r : Result A (Ending ℕ)) (h : Ending ℕ) → IsErrAnd r (λ y. y ≡ h) → Agrees {A = A} {B = B} known P view asked (Err h) → Agrees {A = A} {B = B} known P view asked r
 gives_so known P view asked (Ok x) h k g = absurd k
-gives_so {A} {B} known P view asked (Err y) h k g = subst (λ (z : Halt). Agrees {A = A} {B = B} known P view asked (Err z)) (sym k) g
+gives_so {A} {B} known P view asked (Err y) h k g = subst (λ (z : Ending ℕ). Agrees {A = A} {B = B} known P view asked (Err z)) (sym k) g
 
-pub finds_so : (known : ℕ → Option Value) (args : List given.Argument) (f : List Argument → Value) (r : Result ℕ Halt) (h : Halt) → IsErrAnd r (λ y. y ≡ h) → Finds known args f (Err h) → Finds known args f r
+pub finds_so : (known : ℕ → Option Value) (args : List given.Argument) (f : List Argument → Value) (r : Result ℕ (Ending ℕ)) (h : Ending ℕ) → IsErrAnd r (λ y. y ≡ h) → Finds known args f (Err h) → Finds known args f r
 finds_so known args f (Ok x) h k g = absurd k
-finds_so known args f (Err y) h k g = subst (λ (z : Halt). Finds known args f (Err z)) (sym k) g
+finds_so known args f (Err y) h k g = subst (λ (z : Ending ℕ). Finds known args f (Err z)) (sym k) g
 
-pub places_so : (known : ℕ → Option Value) (args : List given.Argument) (f : List Argument → Value) (r : Result ℕ Halt) (h : Halt) → IsErrAnd r (λ y. y ≡ h) → Places known args f (Err h) → Places known args f r
+pub places_so : (known : ℕ → Option Value) (args : List given.Argument) (f : List Argument → Value) (r : Result ℕ (Ending ℕ)) (h : Ending ℕ) → IsErrAnd r (λ y. y ≡ h) → Places known args f (Err h) → Places known args f r
 places_so known args f (Ok x) h k g = absurd k
-places_so known args f (Err y) h k g = subst (λ (z : Halt). Places known args f (Err z)) (sym k) g
+places_so known args f (Err y) h k g = subst (λ (z : Ending ℕ). Places known args f (Err z)) (sym k) g
 
-pub passes_on : {A B C D : Type 0} (known : ℕ → Option Value) (P : ℕ → Type 0) (view : A → B) (other : C → D) (asked : (ℕ → Value) → Result B ErrorKind) (asks : (ℕ → Value) → Result D ErrorKind) (h : Halt) →
+pub passes_on : {A B C D : Type 0} (known : ℕ → Option Value) (P : ℕ → Type 0) (view : A → B) (other : C → D) (asked : (ℕ → Value) → Result B ErrorKind) (asks : (ℕ → Value) → Result D ErrorKind) (h : Ending ℕ) →
     ((cells : ℕ → Value) (e : ErrorKind) → asked cells ≡ Err e → asks cells ≡ Err e) → Agrees {A = A} {B = B} known P view asked (Err h) → Agrees {A = C} {B = D} known P other asks (Err h)
 passes_on known P view other asked asks (Error e) k g = λ cells a. k cells e (g cells a)
-passes_on known P view other asked asks (Missing c) k g = g
+passes_on known P view other asked asks (Stopped c) k g = g
 
-pub ended : {A B : Type 0} (known : ℕ → Option Value) (args : List given.Argument) (f : List Argument → Value) (P : ℕ → Type 0) (view : A → B) (asked : (ℕ → Value) → Result B ErrorKind) (h : Halt) →
+pub ended : {A B : Type 0} (known : ℕ → Option Value) (args : List given.Argument) (f : List Argument → Value) (P : ℕ → Type 0) (view : A → B) (asked : (ℕ → Value) → Result B ErrorKind) (h : Ending ℕ) →
     ((c : ℕ) → P c → IsMissing known args c) → ((cells : ℕ → Value) → KnownAgrees known cells → (e : ErrorKind) → asked cells ≡ Err e → f (arguments_in cells args) ≡ Fault e) →
     Agrees {A = A} {B = B} known P view asked (Err h) → Finds known args f (Err h)
 ended known args f P view asked (Error e) m k g = λ cells a. k cells a e (g cells a)
-ended known args f P view asked (Missing c) m k g = m c g
+ended known args f P view asked (Stopped c) m k g = m c g
 
-pub placing_ended : {A B : Type 0} (known : ℕ → Option Value) (args : List given.Argument) (f : List Argument → Value) (P : ℕ → Type 0) (view : A → B) (asked : (ℕ → Value) → Result B ErrorKind) (h : Halt) →
+pub placing_ended : {A B : Type 0} (known : ℕ → Option Value) (args : List given.Argument) (f : List Argument → Value) (P : ℕ → Type 0) (view : A → B) (asked : (ℕ → Value) → Result B ErrorKind) (h : Ending ℕ) →
     ((c : ℕ) → P c → IsMissing known args c) → ((cells : ℕ → Value) → KnownAgrees known cells → (e : ErrorKind) → asked cells ≡ Err e → f (arguments_in cells args) ≡ Fault e) →
     Agrees {A = A} {B = B} known P view asked (Err h) → Places known args f (Err h)
 placing_ended known args f P view asked (Error e) m k g = λ cells a. k cells a e (g cells a)
-placing_ended known args f P view asked (Missing c) m k g = m c g
+placing_ended known args f P view asked (Stopped c) m k g = m c g
 
 -- from a place that is given to the function's
-pub placed : (known : ℕ → Option Value) (args : List given.Argument) (f : List Argument → Value) (P : ℕ → Type 0) (asked : (ℕ → Value) → Result ℕ ErrorKind) (r : Result ℕ Halt) →
+pub placed : (known : ℕ → Option Value) (args : List given.Argument) (f : List Argument → Value) (P : ℕ → Type 0) (asked : (ℕ → Value) → Result ℕ ErrorKind) (r : Result ℕ (Ending ℕ)) →
     ((c : ℕ) → P c → IsMissing known args c) → ((cells : ℕ → Value) → KnownAgrees known cells → f (arguments_in cells args) ≡ (asked cells >>= (λ i. whole_value (i + 1)))) →
     Agrees {A = ℕ} {B = ℕ} known P (λ i. i) asked r → Places known args f r
 placed known args f P asked (Ok i) m k g = λ cells a. k cells a ∙ ap (λ (o : Result ℕ ErrorKind). o >>= (λ i. whole_value (i + 1))) (g cells a)
 placed known args f P asked (Err (Error e)) m k g = λ cells a. k cells a ∙ ap (λ (o : Result ℕ ErrorKind). o >>= (λ i. whole_value (i + 1))) (g cells a)
-placed known args f P asked (Err (Missing c)) m k g = m c g
+placed known args f P asked (Err (Stopped c)) m k g = m c g
 
-pub finds_same : (known : ℕ → Option Value) (args : List given.Argument) (f g : List Argument → Value) (r : Result ℕ Halt) → ((cells : ℕ → Value) → g (arguments_in cells args) ≡ f (arguments_in cells args)) → Finds known args f r → Finds known args g r
+pub finds_same : (known : ℕ → Option Value) (args : List given.Argument) (f g : List Argument → Value) (r : Result ℕ (Ending ℕ)) → ((cells : ℕ → Value) → g (arguments_in cells args) ≡ f (arguments_in cells args)) → Finds known args f r → Finds known args g r
 finds_same known args f g (Ok c) e h = (λ cells a. e cells ∙ h.0 cells a, h.1)
 finds_same known args f g (Err (Error x)) e h = λ cells a. e cells ∙ h cells a
-finds_same known args f g (Err (Missing c)) e h = h
+finds_same known args f g (Err (Stopped c)) e h = h
 
 pub placed_same : (r : Area) (f g : Region → Value) (o : Result ℕ ErrorKind) → ((cells : ℕ → Value) → g (region_of cells r) ≡ f (region_of cells r)) → IsPlacedIn r f o → IsPlacedIn r g o
 placed_same r f g (Ok c) e h = (λ cells. e cells ∙ h.0 cells, h.1)
@@ -76,7 +76,7 @@ placed_same r f g (Err x) e h = λ cells. e cells ∙ h cells
 
 -- ---- what is taken for a number or a truth value
 
-pub taken_halts : {B : Type 0} (known : ℕ → Option Value) (args : List given.Argument) (i : ℕ) (default : Value) (convert : Value → Result B ErrorKind) (r : Result B Halt) (h : Halt) →
+pub taken_halts : {B : Type 0} (known : ℕ → Option Value) (args : List given.Argument) (i : ℕ) (default : Value) (convert : Value → Result B ErrorKind) (r : Result B (Ending ℕ)) (h : Ending ℕ) →
     ((e : ErrorKind) → convert (Fault e) ≡ Err e) → IsErrAnd r (λ y. y ≡ h) → Agrees {A = Bor Value} {B = Value} known (IsMissing known args) (λ v. v.now) (λ cells. no_error (value_or default (arguments_in cells args) i)) (Err h) →
     Agrees {A = B} {B = B} known (IsMissing known args) (λ x. x) (λ cells. convert (value_or default (arguments_in cells args) i)) r
 taken_halts {B} known args i default convert r h c k g =
@@ -84,14 +84,14 @@ taken_halts {B} known args i default convert r h c k g =
     (passes_on {A = Bor Value} {B = Value} {C = B} {D = B} known (IsMissing known args) (λ v. v.now) (λ x. x) (λ cells. no_error (value_or default (arguments_in cells args) i)) (λ cells. convert (value_or default (arguments_in cells args) i)) h
     (λ cells e q. ap convert (fault (value_or default (arguments_in cells args) i) e q) ∙ c e) g)
 
-pub taken_fails : {B : Type 0} (known : ℕ → Option Value) (args : List given.Argument) (i : ℕ) (default : Value) (convert : Value → Result B ErrorKind) (r : Result B Halt) (v : Value) (e : ErrorKind) →
+pub taken_fails : {B : Type 0} (known : ℕ → Option Value) (args : List given.Argument) (i : ℕ) (default : Value) (convert : Value → Result B ErrorKind) (r : Result B (Ending ℕ)) (v : Value) (e : ErrorKind) →
     IsErrAnd r (λ y. y ≡ Error e) → WhateverHeld known (λ cells. no_error (value_or default (arguments_in cells args) i) ≡ Ok v) → Err e ≡ convert v →
     Agrees {A = B} {B = B} known (IsMissing known args) (λ x. x) (λ cells. convert (value_or default (arguments_in cells args) i)) r
 taken_fails {B} known args i default convert r v e k g t =
     gives_so {A = B} {B = B} known (IsMissing known args) (λ x. x) (λ cells. convert (value_or default (arguments_in cells args) i)) r (Error e) k
     (λ cells a. ap convert (itself (value_or default (arguments_in cells args) i) v (g cells a)) ∙ sym t)
 
-pub sought_halts : (known : ℕ → Option Value) (args : List given.Argument) (i : ℕ) (zero : Value) (r : Result (Bor Value) Halt) (h : Halt) →
+pub sought_halts : (known : ℕ → Option Value) (args : List given.Argument) (i : ℕ) (zero : Value) (r : Result (Bor Value) (Ending ℕ)) (h : Ending ℕ) →
     zero ≡ Number zero_number → IsErrAnd r (λ y. y ≡ h) → Agrees {A = Bor Value} {B = Value} known (IsMissing known args) (λ v. v.now) (λ cells. no_error (value_or zero (arguments_in cells args) i)) (Err h) →
     Agrees {A = Bor Value} {B = Value} known (IsMissing known args) (λ v. v.now) (λ cells. and_then (λ v. Ok (sought_for v)) (no_error (value_at (arguments_in cells args) i))) r
 sought_halts known args i zero r h z k g =

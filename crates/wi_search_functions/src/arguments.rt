@@ -10,11 +10,10 @@ ghost use Rattle.wi_standard_functions.specs.Steps.{and_then};
 ghost use Rattle.wi_values.specs.declared.value.Value.TheVariants.{Number, Logical};
 ghost use Rattle.wi_search_functions.specs.Inner.Giving.{Agrees};
 
-use crate::halt::Halt;
 use wi_fraction::Fraction;
-use wi_lookup::{Argument, Lookup};
+use wi_lookup::{Argument, Ending, Lookup};
 use wi_scalar_functions::{to_logical, to_number, to_whole};
-use wi_values::Value;
+use wi_values::{Address, Value};
 
 /// The value of an argument, or the default where it isn't given. An error that stands there ends the function.
 fn value_or<'a, L: Lookup>(
@@ -22,7 +21,7 @@ fn value_or<'a, L: Lookup>(
     arguments: &'a [Argument],
     place: usize,
     lookup: &'a L,
-) -> Result<&'a Value, Halt>
+) -> Result<&'a Value, Ending<Address>>
     ensures { Agrees (L.known_cell lookup.now) (IsMissing (L.known_cell lookup.now) arguments.now) (λ v. v.now) (λ cells. no_error (value_or default.now (arguments_in cells arguments.now) place)) result }
 {
     let given = match arguments.get(place) {
@@ -30,7 +29,7 @@ fn value_or<'a, L: Lookup>(
         None => default,
     };
     match given {
-        Value::Fault(e) => Err(Halt::Error(*e)),
+        Value::Fault(e) => Err(Ending::Error(*e)),
         _ => Ok(given),
     }
 }
@@ -41,7 +40,7 @@ pub(crate) fn sought_at<'a, L: Lookup>(
     arguments: &'a [Argument],
     place: usize,
     lookup: &'a L,
-) -> Result<&'a Value, Halt>
+) -> Result<&'a Value, Ending<Address>>
     requires { zero.now ≡ Number zero_number }
     ensures { Agrees (L.known_cell lookup.now) (IsMissing (L.known_cell lookup.now) arguments.now) (λ v. v.now) (λ cells. and_then (λ v. Ok (sought_for v)) (no_error (value_at (arguments_in cells arguments.now) place))) result }
 {
@@ -56,7 +55,7 @@ pub(crate) fn whole_at<L: Lookup>(
     arguments: &[Argument],
     place: usize,
     lookup: &L,
-) -> Result<i128, Halt>
+) -> Result<i128, Ending<Address>>
     ensures { Agrees (L.known_cell lookup.now) (IsMissing (L.known_cell lookup.now) arguments.now) (λ k. k) (λ cells. to_whole (value_at (arguments_in cells arguments.now) place)) result }
 {
     let default = Value::Empty;
@@ -70,7 +69,7 @@ pub(crate) fn number_or<L: Lookup>(
     arguments: &[Argument],
     place: usize,
     lookup: &L,
-) -> Result<Fraction, Halt>
+) -> Result<Fraction, Ending<Address>>
     ensures { Agrees (L.known_cell lookup.now) (IsMissing (L.known_cell lookup.now) arguments.now) (λ x. x) (λ cells. to_number (value_or (Number default) (arguments_in cells arguments.now) place)) result }
 {
     let default = Value::Number(default);
@@ -84,7 +83,7 @@ pub(crate) fn logical_or<L: Lookup>(
     arguments: &[Argument],
     place: usize,
     lookup: &L,
-) -> Result<bool, Halt>
+) -> Result<bool, Ending<Address>>
     ensures { Agrees (L.known_cell lookup.now) (IsMissing (L.known_cell lookup.now) arguments.now) (λ b. b) (λ cells. to_logical (value_or (Logical default) (arguments_in cells arguments.now) place)) result }
 {
     let default = Value::Logical(default);

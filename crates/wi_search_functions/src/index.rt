@@ -8,11 +8,10 @@ ghost use Rattle.wi_values.specs.declared.value.Value.{Value as Values};
 ghost use Rattle.wi_search_functions.specs.Inner.Giving.{Finds, IsPlacedIn};
 
 use crate::arguments::whole_at;
-use crate::halt::Halt;
 use crate::outcome::value_found;
 use crate::region::{cell_at, height, place_among, width};
 use std::alloc::Global;
-use wi_lookup::{Argument, Lookup, Stop, area_at};
+use wi_lookup::{Argument, Ending, Lookup, Stop, area_at};
 use wi_values::{Address, ErrorKind, Rect, Value};
 
 /// The value of a cell by its row and its column in a rectangle, or by its place along a row or a column. One cell is looked
@@ -28,7 +27,7 @@ pub fn index_value<L: Lookup>(
     value_found(alloc, index(arguments, lookup), lookup)
 }
 
-fn index<L: Lookup>(arguments: &[Argument], lookup: &L) -> Result<Address, Halt>
+fn index<L: Lookup>(arguments: &[Argument], lookup: &L) -> Result<Address, Ending<Address>>
     ensures { Finds (L.known_cell lookup.now) arguments.now index_value result }
 {
     if arguments.len() <= 2 {
@@ -38,7 +37,7 @@ fn index<L: Lookup>(arguments: &[Argument], lookup: &L) -> Result<Address, Halt>
     }
 }
 
-fn index_along<L: Lookup>(arguments: &[Argument], lookup: &L) -> Result<Address, Halt>
+fn index_along<L: Lookup>(arguments: &[Argument], lookup: &L) -> Result<Address, Ending<Address>>
     ensures { Finds (L.known_cell lookup.now) arguments.now index_along result }
 {
     let area = area_at(arguments, 0)?;
@@ -46,7 +45,7 @@ fn index_along<L: Lookup>(arguments: &[Argument], lookup: &L) -> Result<Address,
     Ok(nth_cell_along(area, k)?)
 }
 
-fn index_by_both<L: Lookup>(arguments: &[Argument], lookup: &L) -> Result<Address, Halt>
+fn index_by_both<L: Lookup>(arguments: &[Argument], lookup: &L) -> Result<Address, Ending<Address>>
     ensures { Finds (L.known_cell lookup.now) arguments.now index_by_both result }
 {
     let area = area_at(arguments, 0)?;

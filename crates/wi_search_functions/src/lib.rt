@@ -3,7 +3,6 @@
 
 mod arguments;
 mod axis;
-mod halt;
 mod index;
 mod match_place;
 mod outcome;

@@ -6,12 +6,11 @@ ghost use Rattle.wi_standard_functions.specs.Lookup.{match_value};
 ghost use Rattle.wi_search_functions.specs.Inner.Giving.{Places};
 
 use crate::arguments::{number_or, sought_at};
-use crate::halt::Halt;
 use crate::outcome::value_placed;
 use crate::region::is_line;
 use crate::rule::Rule;
 use crate::search::place_along;
-use wi_lookup::{Argument, Lookup, area_at};
+use wi_lookup::{Argument, Ending, Lookup, area_at};
 use wi_scalar_functions::{one, zero};
 use wi_values::{Address, ErrorKind, Value};
 
@@ -25,7 +24,7 @@ pub fn match_value<L: Lookup>(arguments: &[Argument], lookup: &L) -> Result<Valu
 }
 
 /// The place, counted from 0.
-fn match_place<L: Lookup>(arguments: &[Argument], lookup: &L) -> Result<u32, Halt>
+fn match_place<L: Lookup>(arguments: &[Argument], lookup: &L) -> Result<u32, Ending<Address>>
     ensures { Places (L.known_cell lookup.now) arguments.now match_value result }
 {
     let zero = Value::Number(zero());
@@ -33,7 +32,7 @@ fn match_place<L: Lookup>(arguments: &[Argument], lookup: &L) -> Result<u32, Hal
     let area = area_at(arguments, 1)?;
     let match_type = number_or(one(), arguments, 2, lookup)?;
     if !is_line(area) {
-        return Err(Halt::Error(ErrorKind::BadValue));
+        return Err(Ending::Error(ErrorKind::BadValue));
     }
     place_along(Rule::of_match_type(match_type), sought, area, lookup)
 }

@@ -8,16 +8,15 @@ ghost use Rattle.wi_standard_functions.specs.Arithmetic.{whole_value};
 ghost use Rattle.wi_values.specs.declared.value.Value.{Value as Values};
 ghost use Rattle.wi_search_functions.specs.Inner.Giving.{Finds, Places};
 
-use crate::halt::Halt;
 use std::alloc::Global;
-use wi_lookup::{LookedUp, Lookup, Stop};
+use wi_lookup::{Ending, LookedUp, Lookup, Stop};
 use wi_scalar_functions::whole_value;
 use wi_values::{Address, Value};
 
 /// The value of the cell that was found, or the error. A text is copied.
 pub(crate) fn value_found<L: Lookup>(
     alloc: Global,
-    found: Result<Address, Halt>,
+    found: Result<Address, Ending<Address>>,
     lookup: &L,
 ) -> Result<Value, Stop>
     ensures done { (args : List given.Argument) → (f : List Argument → Values) → Finds (L.known_cell lookup.now) args f found → IfOk result (IsOfArguments (L.known_cell lookup.now) f args) }
@@ -28,23 +27,23 @@ pub(crate) fn value_found<L: Lookup>(
             LookedUp::Known(value) => Ok(value.copy(alloc)?),
             LookedUp::Missing => Err(Stop::Missing(cell)),
         },
-        Err(halt) => match halt {
-            Halt::Error(e) => Ok(Value::Fault(e)),
-            Halt::Missing(cell) => Err(Stop::Missing(cell)),
+        Err(ending) => match ending {
+            Ending::Error(e) => Ok(Value::Fault(e)),
+            Ending::Stopped(cell) => Err(Stop::Missing(cell)),
         },
     }
 }
 
 /// The place that was found, counted from 1, or the error.
-pub(crate) fn value_placed(found: Result<u32, Halt>) -> Result<Value, Address>
+pub(crate) fn value_placed(found: Result<u32, Ending<Address>>) -> Result<Value, Address>
     ensures done { (known : ℕ → Option Values) → (args : List given.Argument) → (f : List Argument → Values) → Places known args f found → IfOk result (IsOfArguments known f args) }
     ensures missing { (known : ℕ → Option Values) → (args : List given.Argument) → (f : List Argument → Values) → Places known args f found → IfErr result (IsMissing known args) }
 {
     match found {
         Ok(place) => Ok(counted_from_one(place)),
-        Err(halt) => match halt {
-            Halt::Error(e) => Ok(Value::Fault(e)),
-            Halt::Missing(cell) => Err(cell),
+        Err(ending) => match ending {
+            Ending::Error(e) => Ok(Value::Fault(e)),
+            Ending::Stopped(cell) => Err(cell),
         },
     }
 }

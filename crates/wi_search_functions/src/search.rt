@@ -8,11 +8,10 @@ ghost use Rattle.wi_search_functions.specs.Inner.Lines.{is_line};
 ghost use Rattle.wi_standard_functions.specs.Matching.{is_match};
 ghost use Rattle.wi_search_functions.specs.Inner.Search.{is_settled, passes, position_by};
 
-use crate::halt::Halt;
 use crate::region::steps;
 use crate::rule::Rule;
 use std::ops::ControlFlow;
-use wi_lookup::{Lookup, TakesCells, take_cells};
+use wi_lookup::{Ending, Lookup, TakesCells, take_cells};
 use wi_matching::match_order;
 use wi_values::{Address, ErrorKind, Rect, Value};
 
@@ -74,7 +73,7 @@ pub(crate) fn place_along<L: Lookup>(
     sought: &Value,
     line: Rect,
     lookup: &L,
-) -> Result<u32, Halt>
+) -> Result<u32, Ending<Address>>
     requires { is_line line ≡ true }
     ensures within { IfOk result (λ i. i < length (cells_of line)) }
     ensures place { Agrees (L.known_cell lookup.now) (IsMissingIn (L.known_cell lookup.now) line) (λ i. i) (λ cells. ok_or (position_by rule sought.now (map cells (cells_of line))) NotAvailable) result }
@@ -87,8 +86,8 @@ pub(crate) fn place_along<L: Lookup>(
     match take_cells(line, lookup, &mut search) {
         Ok(()) => match search.found {
             Some(cell) => Ok(steps(line, cell)),
-            None => Err(Halt::Error(ErrorKind::NotAvailable)),
+            None => Err(Ending::Error(ErrorKind::NotAvailable)),
         },
-        Err(cell) => Err(Halt::Missing(cell)),
+        Err(cell) => Err(Ending::Stopped(cell)),
     }
 }

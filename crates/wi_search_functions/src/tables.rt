@@ -8,13 +8,12 @@ ghost use Rattle.wi_search_functions.specs.Inner.Giving.{Finds};
 
 use crate::arguments::{logical_or, sought_at, whole_at};
 use crate::axis::Axis;
-use crate::halt::Halt;
 use crate::outcome::value_found;
 use crate::region::place_among;
 use crate::rule::Rule;
 use crate::search::place_along;
 use std::alloc::Global;
-use wi_lookup::{Argument, Lookup, Stop, area_at};
+use wi_lookup::{Argument, Ending, Lookup, Stop, area_at};
 use wi_scalar_functions::zero;
 use wi_values::{Address, ErrorKind, Value};
 
@@ -45,7 +44,11 @@ pub fn h_lookup_value<L: Lookup>(
 }
 
 /// The cell at a place in the line whose first cell is found.
-fn look_up<L: Lookup>(axis: Axis, arguments: &[Argument], lookup: &L) -> Result<Address, Halt>
+fn look_up<L: Lookup>(
+    axis: Axis,
+    arguments: &[Argument],
+    lookup: &L,
+) -> Result<Address, Ending<Address>>
     ensures { Finds (L.known_cell lookup.now) arguments.now (look_up_by axis) result }
 {
     let zero = Value::Number(zero());

@@ -14,23 +14,17 @@ use Rattle.wi_lookup.specs.declared.stop.Stop.TheVariants.{Memory}
 use Rattle.wi_lookup.specs.Arguments.{KnownAgrees, IsOfArguments, IsMissing, IfMissing}
 use Rattle.wi_matching.specs.declared.criterion.Criterion.{Criterion}
 use Rattle.wi_matching.specs.Inner.Meeting.{criterion_held}
-use Rattle.wi_criteria_functions.specs.declared.ending.Ending.{Ending}
-use Rattle.wi_criteria_functions.specs.declared.ending.Ending.TheVariants.{Error, Stopped}
-
--- the value, which an error is too
-abbrev pub settled : Result Value Ending → Result Value Stop
-settled (Ok v) = Ok v
-settled (Err (Error e)) = Ok (Fault e)
-settled (Err (Stopped s)) = Err s
+use Rattle.wi_lookup.specs.declared.ending.Ending.{Ending}
+use Rattle.wi_lookup.specs.declared.ending.Ending.TheVariants.{Error, Stopped}
 
 -- the function's value or error, whatever the cells hold of which this is known, or a cell whose value is missing
-abbrev pub Gives : (ℕ → Option Value) → (List Argument → Value) → List given.Argument → Result Value Ending → Type 0
+abbrev pub Gives : (ℕ → Option Value) → (List Argument → Value) → List given.Argument → Result Value (Ending Stop) → Type 0
 Gives known f args (Ok v) = IsOfArguments known f args v
 Gives known f args (Err (Error e)) = IsOfArguments known f args (Fault e)
 Gives known f args (Err (Stopped s)) = IfMissing s (IsMissing known args)
 
 -- a step's result as `seen`, or its error, whatever the cells hold of which this is known; where it stops for a cell, that is so of the cell
-abbrev pub Agrees : {A B : Type 0} → (ℕ → Option Value) → (ℕ → Type 0) → (A → B) → ((ℕ → Value) → Result B ErrorKind) → Result A Ending → Type 0
+abbrev pub Agrees : {A B : Type 0} → (ℕ → Option Value) → (ℕ → Type 0) → (A → B) → ((ℕ → Value) → Result B ErrorKind) → Result A (Ending Stop) → Type 0
 Agrees known missing seen r (Ok x) = (cells : ℕ → Value) → KnownAgrees known cells → r cells ≡ Ok (seen x)
 Agrees known missing seen r (Err (Error e)) = (cells : ℕ → Value) → KnownAgrees known cells → r cells ≡ Err e
 Agrees known missing seen r (Err (Stopped s)) = IfMissing s missing
@@ -41,7 +35,7 @@ Agrees known missing seen r (Err (Stopped s)) = IfMissing s missing
 abbrev pub criterion_argument : Value → Result defined.Criterion ErrorKind
 criterion_argument v = and_then (λ w. Ok (criterion_of w)) (no_error v)
 
-abbrev pub IsCriterionOf : Value → Result Criterion Ending → Type 0
+abbrev pub IsCriterionOf : Value → Result Criterion (Ending Stop) → Type 0
 IsCriterionOf v (Ok c) = criterion_argument v ≡ Ok (criterion_held c)
 IsCriterionOf v (Err (Error e)) = criterion_argument v ≡ Err e
 IsCriterionOf v (Err (Stopped s)) = s ≡ Memory

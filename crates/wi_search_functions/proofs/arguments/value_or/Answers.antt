@@ -8,7 +8,7 @@ use Rattle.wi_standard_functions.specs.Arguments as given
 use Rattle.wi_standard_functions.specs.FirstError.{no_error}
 use Rattle.wi_values.specs.declared.value.Value.{Value}
 use Rattle.wi_values.specs.declared.value.Value.TheVariants.{Fault}
-use Rattle.wi_search_functions.specs.declared.halt.Halt.TheVariants.{Error, Missing}
+use Rattle.wi_lookup.specs.declared.ending.Ending.TheVariants.{Error, Stopped}
 use Rattle.wi_lookup.proofs.Given.{refers_alone, value_absent, value_given}
 use Rattle.wi_search_functions.proofs.Asked.{no_fault}
 use Rattle.wi_search_functions.proofs.Endings.{gives_so}
@@ -22,7 +22,7 @@ returns-in_err-value-in-Some g c =
     let one = c.in-Some.argument.now in
     let there : Some one ≡ slice_get args c.args.place = sym (slice_get_read args (length args) c.args.place one refl c.in-Some.ensures.lookup.3.0 c.in-Some.ensures.lookup.1) in
     let cell = c.in_err-value-in-Some.field-0.0 in
-    gives_so {A = Bor Value} {B = Value} known (IsMissing known args) (λ v. v.now) (λ cells. no_error (given.value_or c.args.default.now (arguments_in cells args) c.args.place)) c.from_residual.result (Missing cell) c.from_residual.ensures.1
+    gives_so {A = Bor Value} {B = Value} known (IsMissing known args) (λ v. v.now) (λ cells. no_error (given.value_or c.args.default.now (arguments_in cells args) c.args.place)) c.from_residual.result (Stopped cell) c.from_residual.ensures.1
     (c.in_err-value-in-Some.ensures.missing.0, refers_alone args c.args.place one cell there c.in_err-value-in-Some.ensures.missing.1)
 
 pub returns-in_err-given-in-Some : goal.returns-in_err-given-in-Some
