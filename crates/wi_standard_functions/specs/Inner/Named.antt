@@ -1,6 +1,5 @@
 -- Parts of the definitions by names of their own.
-use Rattle.std.specs.Prelude.{ℕ, Bool, true, false, not, ◌&&◌, ◌||◌, ◌==◌, Result, Ok, Err, List, map, Option, option_map, if◌then◌else◌}
-use Rattle.std.specs.List.{range_with_len}
+use Rattle.std.specs.Prelude.{ℕ, Bool, true, false, not, ◌&&◌, ◌||◌, ◌==◌, Result, Ok, Err, List, Option, option_map, if◌then◌else◌}
 use Rattle.std.specs.Ordering.{is_lt, is_gt}
 use Rattle.wi_fraction.specs.Number as numbers
 use Rattle.wi_fraction.specs.Order.{cross_cmp}
@@ -13,7 +12,6 @@ use Rattle.wi_standard_functions.specs.Arguments.{Argument, Region, region_of}
 use Rattle.wi_standard_functions.specs.Arithmetic.{calculated, exponentiation}
 use Rattle.wi_standard_functions.specs.Convert.{zero_number, one_number}
 use Rattle.wi_standard_functions.specs.Information.{is_text_value, is_error_value, is_not_available}
-use Rattle.wi_standard_functions.specs.Lookup.{cell_in}
 
 abbrev pub of_none : Value → List Argument → Value
 of_none v args = v
@@ -52,12 +50,6 @@ smaller_number x y = if is_lt (cross_cmp y x) then y else x
 
 abbrev pub greater_number : numbers.Number → numbers.Number → numbers.Number
 greater_number x y = if is_gt (cross_cmp y x) then y else x
-
-abbrev pub first_column_of : Region → List Value
-first_column_of r = map (λ row. cell_in r row 0) (range_with_len 0 r.height)
-
-abbrev pub first_row_of : Region → List Value
-first_row_of r = map (λ column. cell_in r 0 column) (range_with_len 0 r.width)
 
 -- of one row or one column
 abbrev pub values_along : Region → Result (List Value) ErrorKind
