@@ -1,89 +1,45 @@
--- The first bit of a word from one on.
-use Rattle.std.proofs.Common.{◌≡◌, ℕ, Some, ◌+◌, ◌-◌, ◌/◌, ◌%◌, ◌^◌, ◌<◌, ◌≤◌, List, [], ◌∷◌, length, None, sym, ap, arith, ◌∙◌, get_or, zero, suc, subst, refl}
+-- The bits of a tile that have something, and the first of some bits.
+use Rattle.std.proofs.Common.{◌≡◌, ℕ, Option, Some, ◌^◌, ◌<◌, List, [], ◌∷◌, length, None, sym, arith, ◌∙◌, ⊎_elim, get_or, zero, suc, subst, refl}
 use Rattle.std.specs.Prelude.{slice_get, count_ones, IsSome, bit_and}
 use Rattle.std.specs.Int.{bit_at, w64, trailing_zeros}
-use Rattle.std.proofs.lemmas.Nat.{shr-shr, shr_le, and_le_l}
-use Rattle.std.proofs.lemmas.Nat.Bits.{bit_at-zero, bit_at-lt, bit_at-trailing_zeros, bit_at_and}
+use Rattle.std.proofs.lemmas.Nat.Bits.{bit_at-trailing_zeros}
 use mathlib.Core.Logic.{◌≢◌}
+use Rattle.wi_tiles.specs.Inner.Lines.{slot}
 use Rattle.wi_tiles.specs.Inner.Tile.{rank, slots}
-use Rattle.wi_tiles.proofs.Tiles.{at_zero, at_one, get-slots, remove_within}
-
-bit_of_part : (n f i : ℕ) → bit_at (n / 2 ^ f) i ≡ bit_at n (f + i)
-bit_of_part n f i = ap (λ x. x % 2) (shr-shr n f i)
-
--- what a bit that is not set has
-clear_at : {V : Type 0} (n : ℕ) (vs : List V) (f i : ℕ) → f ≤ i → i < 64 → bit_at (n / 2 ^ f) (i - f) ≡ 0 → get_or (slots n vs) i None ≡ None
-clear_at n vs f i l h clear =
-    let place : f + (i - f) ≡ i = omega arith in
-    get-slots n vs i h None ∙ at_zero n vs i (ap (λ j. bit_at n j) (sym place) ∙ sym (bit_of_part n f (i - f)) ∙ clear)
-
-pub none_in_part : {V : Type 0} (n : ℕ) (vs : List V) (f e : ℕ) → e ≤ 64 → n / 2 ^ f ≡ 0 → (i : ℕ) → f ≤ i → i < e → get_or (slots n vs) i None ≡ None
-none_in_part n vs f e w none i l u = clear_at n vs f i l (omega (arith, u, w)) (ap (λ x. bit_at x (i - f)) none ∙ bit_at-zero (i - f))
+use Rattle.wi_tiles.specs.Inner.Within.{filled, IsFirstLeft}
+use Rattle.wi_tiles.proofs.MaskLemmas.{both_parts, both_from}
+use Rattle.wi_tiles.proofs.Ranks.{rank_below, rank_at_most}
+use Rattle.wi_tiles.proofs.Tiles.{at_zero, at_one, get-slots, bit_or_not}
 
 is_some_within : {V : Type 0} (vs : List V) (r : ℕ) → r < length vs → IsSome (slice_get vs r)
 is_some_within [] r h = absurd (omega arith)
 is_some_within (v ∷ vs) zero h = refl
 is_some_within (v ∷ vs) (suc r) h = is_some_within vs r (omega arith)
 
--- the lowest one of what is left
-abbrev pub lowest : ℕ → ℕ → ℕ
-lowest n f = f + trailing_zeros w64 (n / 2 ^ f)
+never : (V : Type 0) → IsSome {T = V} None → ⊥
+never V e = grind arith
 
-least : (n f : ℕ) → n / 2 ^ f ≢ 0 → n < 2 ^ 64 → (trailing_zeros w64 (n / 2 ^ f) < 64) × (bit_at (n / 2 ^ f) (trailing_zeros w64 (n / 2 ^ f)) ≡ 1) × ((i : ℕ) → i < trailing_zeros w64 (n / 2 ^ f) → bit_at (n / 2 ^ f) i ≡ 0)
-least n f ne below = bit_at-trailing_zeros w64 (n / 2 ^ f) (omega (arith, ne)) (omega (arith, below, shr_le n f))
+pub there_one : {V : Type 0} (n : ℕ) (vs : List V) (i : ℕ) → i < 64 → IsSome (get_or (slots n vs) i None) → bit_at n i ≡ 1
+there_one {V} n vs i u there = ⊎_elim (λ one. one) (λ z. absurd (never V (subst (λ o. IsSome o) (get-slots n vs i u None ∙ at_zero n vs i z) there))) (bit_or_not n i)
 
-none_below : {V : Type 0} (n : ℕ) (vs : List V) (f : ℕ) → n / 2 ^ f ≢ 0 → n < 2 ^ 64 → (i : ℕ) → f ≤ i → i < lowest n f → i < 64 → get_or (slots n vs) i None ≡ None
-none_below n vs f ne below i l u h = clear_at n vs f i l h ((least n f ne below).2 (i - f) (omega (arith, l, u)))
+pub one_within : {V : Type 0} (n : ℕ) (vs : List V) (i : ℕ) → i < 64 → length vs ≡ count_ones n → bit_at n i ≡ 1 → rank n i < length vs
+one_within n vs i u full one = omega (arith, rank_below n i 64 u one, rank_at_most n, full)
 
-pub none_before : {V : Type 0} (n : ℕ) (vs : List V) (f e : ℕ) → e ≤ 64 → n / 2 ^ f ≢ 0 → n < 2 ^ 64 → e ≤ lowest n f → (i : ℕ) → f ≤ i → i < e → get_or (slots n vs) i None ≡ None
-none_before n vs f e w ne below o i l u = none_below n vs f ne below i l (omega (arith, u, o)) (omega (arith, u, w))
+pub one_there : {V : Type 0} (n : ℕ) (vs : List V) (i : ℕ) → i < 64 → length vs ≡ count_ones n → bit_at n i ≡ 1 → IsSome (get_or (slots n vs) i None)
+one_there n vs i u full one = subst (λ o. IsSome o) (sym (get-slots n vs i u None ∙ at_one n vs i one)) (is_some_within vs (rank n i) (one_within n vs i u full one))
 
-pub first_in_part : {V : Type 0} (n : ℕ) (vs : List V) (f e : ℕ) → e ≤ 64 → n < 2 ^ 64 → length vs ≡ count_ones n → n / 2 ^ f ≢ 0 → lowest n f < e
-    → (f ≤ lowest n f) × (lowest n f < e) × IsSome (get_or (slots n vs) (lowest n f) None) × ((i : ℕ) → f ≤ i → i < lowest n f → get_or (slots n vs) i None ≡ None)
-first_in_part {V} n vs f e w below full ne inside = (omega arith, inside, found, λ i l u. none_below n vs f ne below i l u (omega (arith, u, inside, w)))
-  where
-    set : bit_at n (lowest n f) ≡ 1
-    set = sym (bit_of_part n f (trailing_zeros w64 (n / 2 ^ f))) ∙ (least n f ne below).1
+-- the bits of a mask that have something
+pub masked_sound : {V : Type 0} (n m : ℕ) (vs : List V) (i : ℕ) → i < 64 → length vs ≡ count_ones n → bit_at (bit_and n m) i ≡ 1 → (bit_at m i ≡ 1) × IsSome (get_or (slots n vs) i None)
+masked_sound n m vs i u full e =
+    let p = both_parts n m i e in
+    (p.1, one_there n vs i u full p.0)
 
-    room : lowest n f < 64
-    room = omega (arith, inside, w)
+pub masked_whole : {V : Type 0} (n m : ℕ) (vs : List V) (i : ℕ) → i < 64 → bit_at m i ≡ 1 → IsSome (get_or (slots n vs) i None) → bit_at (bit_and n m) i ≡ 1
+masked_whole n m vs i u one there = both_from n m i (there_one n vs i u there) one
 
-    found : IsSome (get_or (slots n vs) (lowest n f) None)
-    found = subst (λ q. IsSome q) (sym (get-slots n vs (lowest n f) room None ∙ at_one n vs (lowest n f) set)) (is_some_within vs (rank n (lowest n f)) (remove_within n (lowest n f) vs set room below full))
+-- the first bit of a word
+pub first_bit : (n : ℕ) → n ≢ 0 → n < 2 ^ 64 → (trailing_zeros w64 n < 64) × (bit_at n (trailing_zeros w64 n) ≡ 1) × ((i : ℕ) → i < trailing_zeros w64 n → bit_at n i ≡ 0)
+first_bit n ne below = bit_at-trailing_zeros w64 n (omega (arith, ne)) below
 
--- among the bits of a mask
-masked_none : (n m i : ℕ) → bit_at (bit_and n m) i ≡ 0 → bit_at m i ≡ 1 → bit_at n i ≡ 0
-masked_none n m i z one = omega (arith, sym (bit_at_and n m i) ∙ z, one, bit_at-lt n i)
-
-masked_one : (n m i : ℕ) → bit_at (bit_and n m) i ≡ 1 → (bit_at n i ≡ 1) × (bit_at m i ≡ 1)
-masked_one n m i e = (omega (arith, sym (bit_at_and n m i) ∙ e, bit_at-lt n i, bit_at-lt m i), omega (arith, sym (bit_at_and n m i) ∙ e, bit_at-lt n i, bit_at-lt m i))
-
-masked_clear : {V : Type 0} (n m : ℕ) (vs : List V) (f i : ℕ) → f ≤ i → i < 64 → bit_at (bit_and n m / 2 ^ f) (i - f) ≡ 0 → bit_at m i ≡ 1 → get_or (slots n vs) i None ≡ None
-masked_clear n m vs f i l h clear one =
-    let place : f + (i - f) ≡ i = omega arith in
-    get-slots n vs i h None ∙ at_zero n vs i (masked_none n m i (ap (λ j. bit_at (bit_and n m) j) (sym place) ∙ sym (bit_of_part (bit_and n m) f (i - f)) ∙ clear) one)
-
-pub none_masked : {V : Type 0} (n m : ℕ) (vs : List V) (f e : ℕ) → e ≤ 64 → bit_and n m / 2 ^ f ≡ 0 → (i : ℕ) → f ≤ i → i < e → bit_at m i ≡ 1 → get_or (slots n vs) i None ≡ None
-none_masked n m vs f e w none i l u one = masked_clear n m vs f i l (omega (arith, u, w)) (ap (λ x. bit_at x (i - f)) none ∙ bit_at-zero (i - f)) one
-
-masked_below : (n m : ℕ) → n < 2 ^ 64 → bit_and n m < 2 ^ 64
-masked_below n m h = omega (arith, h, and_le_l n m)
-
-pub none_masked_before : {V : Type 0} (n m : ℕ) (vs : List V) (f e : ℕ) → e ≤ 64 → bit_and n m / 2 ^ f ≢ 0 → n < 2 ^ 64 → (i : ℕ) → f ≤ i → i < lowest (bit_and n m) f → i < e → bit_at m i ≡ 1 → get_or (slots n vs) i None ≡ None
-none_masked_before n m vs f e w ne below i l u h one = masked_clear n m vs f i l (omega (arith, h, w)) ((least (bit_and n m) f ne (masked_below n m below)).2 (i - f) (omega (arith, l, u))) one
-
-module _ {V : Type 0} (n m : ℕ) (vs : List V) (f e : ℕ) (w : e ≤ 64) (below : n < 2 ^ 64) (full : length vs ≡ count_ones n) (ne : bit_and n m / 2 ^ f ≢ 0) (inside : lowest (bit_and n m) f < e) where
-  abbrev b : ℕ
-  b = lowest (bit_and n m) f
-
-  both : (bit_at n b ≡ 1) × (bit_at m b ≡ 1)
-  both = masked_one n m b (sym (bit_of_part (bit_and n m) f (trailing_zeros w64 (bit_and n m / 2 ^ f))) ∙ (least (bit_and n m) f ne (masked_below n m below)).1)
-
-  room : b < 64
-  room = omega (arith, inside, w)
-
-  pub masked_within : rank n b < length vs
-  masked_within = remove_within n b vs both.0 room below full
-
-  pub masked_first : (v : V) → slice_get vs (rank n b) ≡ Some v → (f ≤ b) × (b < e) × (bit_at m b ≡ 1) × (get_or (slots n vs) b None ≡ Some v) × ((i : ℕ) → f ≤ i → i < b → bit_at m i ≡ 1 → get_or (slots n vs) i None ≡ None)
-  masked_first v is = (omega arith, inside, both.1, get-slots n vs b room None ∙ at_one n vs b both.0 ∙ is, λ i l u one. none_masked_before n m vs f e w ne below i l u (omega (arith, u, inside)) one)
+pub first_value : {V : Type 0} (t : List (Option V)) (left place : ℕ) (v : V) → left ≢ 0 → left < 2 ^ 64 → filled t (trailing_zeros w64 left) ≡ place → slot t (trailing_zeros w64 left) ≡ Some v → IsFirstLeft t left (trailing_zeros w64 left) place v
+first_value t left place v ne below count is = let first = first_bit left ne below in record { within = first.0; set = first.1; first = first.2; before = count; value = is }

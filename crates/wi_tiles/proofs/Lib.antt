@@ -1,8 +1,9 @@
+pub mod BandLemmas
 pub mod CellLemmas
+pub mod Counts
 pub mod Digits
 pub mod EntryLemmas
 pub mod Firsts
-pub mod FoundLemmas
 pub mod Keys
 pub mod LineLemmas
 pub mod MapLemmas
@@ -12,6 +13,8 @@ pub mod Outcomes
 pub mod Ranks
 pub mod Replaced
 pub mod Sorts
+pub mod StepLemmas
 pub mod Tiles
+pub mod TurnLemmas
 pub mod WalkLemmas
 pub mod Windows

@@ -1,6 +1,7 @@
 -- The entries of all pages, after a change of one path.
 use Rattle.std.proofs.Common.{◌≡◌, ℕ, ◌+◌, ◌<◌, ◌≤◌, [], length, Option, Some, None, sym, ap, arith, ◌∙◌, ⊎_elim, cond, refl, true, false}
 use Rattle.std.specs.Prelude.{Bool, ◌==◌, if◌then◌else◌, option_map, nat_le, filter, IfSome, IfNone, is_some, not}
+use Rattle.std.specs.Borrow.{Bor}
 use Rattle.std.specs.Int.{from_bool}
 use Rattle.std.specs.Ordering.{nat_cmp}
 use Rattle.std.specs.Option.{option_or}
@@ -138,6 +139,10 @@ next_is w area from a h next =
 pub next_none : {V : Type 0} (w : Pages V) (area : Area) (from : ℕ) → ((b : ℕ) → is_ahead area from b ≡ true → at_cell w b ≡ None) → find (λ c. nat_le from c) (filter (is_within area) (keys_of (entries_of w))) ≡ None
 next_none w area from none = sought_none (λ c. at_cell w c) (λ c. nat_le from c) (is_within area) 0 cells (λ b l u both. none b both)
 
-pub next_found : {V : Type 0} (w : Pages V) (area : Area) (from : ℕ) (o : Option ℕ) → IfSome o (λ a. IsNext w area from a) → IfSome o (λ a. a < 17179869184) → IfNone o ((b : ℕ) → is_ahead area from b ≡ true → at_cell w b ≡ None) → o ≡ find (λ c. nat_le from c) (filter (is_within area) (keys_of (entries_of w)))
-next_found w area from None some within none = sym (next_none w area from none)
-next_found w area from (Some a) some within none = sym (next_is w area from a within some)
+pub first_is : {V : Type 0} (w : Pages V) (area : Area) (from : ℕ) (o : Option (ℕ × Bor V)) → IfSome o (λ x. IsNext w area from x.0 × (at_cell w x.0 ≡ Some x.1.now)) → IfSome o (λ x. x.0 < 17179869184) → IfNone o ((b : ℕ) → is_ahead area from b ≡ true → at_cell w b ≡ None) → option_map (λ x. x.0) o ≡ find (λ c. nat_le from c) (filter (is_within area) (keys_of (entries_of w)))
+first_is w area from None some within none = sym (next_none w area from none)
+first_is w area from (Some x) some within none = sym (next_is w area from x.0 within some.0)
+
+pub first_has : {V : Type 0} (w : Pages V) (area : Area) (from : ℕ) (o : Option (ℕ × Bor V)) → IfSome o (λ x. IsNext w area from x.0 × (at_cell w x.0 ≡ Some x.1.now)) → IfSome o (λ x. x.0 < 17179869184) → IfSome o (λ x. get nat_cmp (map_of (entries_of w)) x.0 ≡ Some x.1.now)
+first_has w area from None some within = tt
+first_has w area from (Some x) some within = get_is w x.0 within ∙ some.1

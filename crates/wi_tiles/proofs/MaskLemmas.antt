@@ -1,13 +1,14 @@
--- The bits of a rectangle's columns.
+-- The bits of a rectangle's columns, and of some of a band's lines.
 use Rattle.std.proofs.Common.{◌≡◌, ℕ, ◌+◌, ◌-◌, ◌*◌, ◌/◌, ◌%◌, ◌^◌, ◌<◌, ◌≤◌, sym, ap, arith, ◌∙◌, ⊎_elim, zero, suc, refl, Bool, true, false}
-use Rattle.std.specs.Prelude.{◌&&◌, ◌==◌, nat_le, nat_lt, min, max, not}
+use Rattle.std.specs.Prelude.{◌&&◌, ◌==◌, nat_le, nat_lt, min, max, not, bit_and}
 use Rattle.std.specs.Int.{bit_at}
 use Rattle.std.proofs.lemmas.Bool.{cases_eq, and_parts, and_from, leb-true, le-leb, lt-ltb}
 use Rattle.std.proofs.lemmas.Nat.{and_le_l, shr_le}
-use borrow.Author.Tests.{ltb-true}
-use Rattle.wi_values.specs.Address.{column_of}
-use Rattle.wi_tiles.specs.Inner.Within.{cell_in, line_of, lines_of}
-use Rattle.wi_tiles.proofs.WalkLemmas.{same_test, column_in}
+use Rattle.std.proofs.lemmas.Nat.Bits.{bit_at-lt, bit_at_and}
+use borrow.Author.Tests.{ltb-true, eqb-true, eq-eqb}
+use Rattle.wi_values.specs.Address.{Area, column_of}
+use Rattle.wi_tiles.specs.Inner.Within.{line_of, lines_of, lines_from, lines_to, IsInside}
+use Rattle.wi_tiles.proofs.WalkLemmas.{same_test}
 
 pub line_within : (low high : ℕ) → line_of low high ≤ 15
 line_within low high = omega (arith, and_le_l (15 / 2 ^ (4 - high)) (15 * 2 ^ low % 2 ^ 64), shr_le 15 (4 - high))
@@ -39,23 +40,61 @@ table = refl
 line_bits : (low high i : ℕ) → low < 4 → high < 5 → i < 64 → (bit_at (lines_of (line_of low high)) i == 1) ≡ (nat_le low (i % 4) && nat_lt (i % 4) high)
 line_bits low high i l h u = agreed (bit_at (lines_of (line_of low high)) i == 1) (nat_le low (i % 4) && nat_lt (i % 4) high) (one_of (λ k. is_right low high k) 64 i (one_of (λ k. all_below (λ j. is_right low k j) 64) 5 high (one_of (λ k. all_below (λ j. all_below (λ m. is_right k j m) 64) 5) 4 low table l) h) u)
 
-columns_bits : (first last a low high i : ℕ) → first ≤ column_of a → column_of a ≤ last → low ≡ max (column_of a / 4 * 4) first - column_of a / 4 * 4 → high ≡ min (column_of a / 4 * 4 + 4) (last + 1) - column_of a / 4 * 4 → i < 64
-    → (bit_at (lines_of (line_of low high)) i == 1) ≡ (nat_le first (column_of (cell_in a i)) && nat_le (column_of (cell_in a i)) last)
-columns_bits first last a low high i left right is so u =
-    let column : column_of (cell_in a i) ≡ column_of a / 4 * 4 + i % 4 = column_in a i in
-    line_bits low high i (omega (arith, is, left)) (omega (arith, so)) u
-    ∙ same_test (nat_le first (column_of (cell_in a i)) && nat_le (column_of (cell_in a i)) last) (nat_le low (i % 4) && nat_lt (i % 4) high)
-    (λ q.
-    let p = and_parts (nat_le first (column_of (cell_in a i))) (nat_le (column_of (cell_in a i)) last) q in
-    let x : first ≤ column_of (cell_in a i) = leb-true first (column_of (cell_in a i)) p.0 in
-    let y : column_of (cell_in a i) ≤ last = leb-true (column_of (cell_in a i)) last p.1 in
-    and_from (nat_le low (i % 4)) (nat_lt (i % 4) high) (le-leb low (i % 4) (omega (arith, x, column, is))) (lt-ltb (i % 4) high (omega (arith, y, column, so))))
-    (λ q.
-    let p = and_parts (nat_le low (i % 4)) (nat_lt (i % 4) high) q in
-    let x : low ≤ i % 4 = leb-true low (i % 4) p.0 in
-    let y : i % 4 < high = ltb-true (i % 4) high p.1 in
-    and_from (nat_le first (column_of (cell_in a i))) (nat_le (column_of (cell_in a i)) last) (le-leb first (column_of (cell_in a i)) (omega (arith, x, column, is))) (le-leb (column_of (cell_in a i)) last (omega (arith, y, column, so))))
+abbrev is_from : ℕ → ℕ → Bool
+is_from top i = agree (bit_at (lines_from top) i == 1) (nat_le top (i / 4))
 
-pub columns_made : (first last a low high line word : ℕ) → first ≤ column_of a → column_of a ≤ last → low ≡ max (column_of a / 4 * 4) first - column_of a / 4 * 4 → high ≡ min (column_of a / 4 * 4 + 4) (last + 1) - column_of a / 4 * 4 → line ≡ line_of low high → word ≡ lines_of line
-    → (i : ℕ) → i < 64 → (bit_at word i == 1) ≡ (nat_le first (column_of (cell_in a i)) && nat_le (column_of (cell_in a i)) last)
-columns_made first last a low high line word left right is so e f i u = ap (λ q. bit_at q i == 1) (f ∙ ap lines_of e) ∙ columns_bits first last a low high i left right is so u
+from_table : all_below (λ top. all_below (λ i. is_from top i) 64) 16 ≡ true
+from_table = refl
+
+abbrev is_to : ℕ → ℕ → Bool
+is_to bottom i = agree (bit_at (lines_to bottom) i == 1) (nat_le (i / 4) bottom)
+
+to_table : all_below (λ bottom. all_below (λ i. is_to bottom i) 64) 16 ≡ true
+to_table = refl
+
+from_bits : (top i : ℕ) → top < 16 → i < 64 → (bit_at (lines_from top) i == 1) ≡ nat_le top (i / 4)
+from_bits top i l u = agreed (bit_at (lines_from top) i == 1) (nat_le top (i / 4)) (one_of (λ k. is_from top k) 64 i (one_of (λ k. all_below (λ j. is_from k j) 64) 16 top from_table l) u)
+
+to_bits : (bottom i : ℕ) → bottom < 16 → i < 64 → (bit_at (lines_to bottom) i == 1) ≡ nat_le (i / 4) bottom
+to_bits bottom i l u = agreed (bit_at (lines_to bottom) i == 1) (nat_le (i / 4) bottom) (one_of (λ k. is_to bottom k) 64 i (one_of (λ k. all_below (λ j. is_to k j) 64) 16 bottom to_table l) u)
+
+-- a bit of both
+pub both_parts : (n m i : ℕ) → bit_at (bit_and n m) i ≡ 1 → (bit_at n i ≡ 1) × (bit_at m i ≡ 1)
+both_parts n m i e = (omega (arith, sym (bit_at_and n m i) ∙ e, bit_at-lt n i, bit_at-lt m i), omega (arith, sym (bit_at_and n m i) ∙ e, bit_at-lt n i, bit_at-lt m i))
+
+pub both_from : (n m i : ℕ) → bit_at n i ≡ 1 → bit_at m i ≡ 1 → bit_at (bit_and n m) i ≡ 1
+both_from n m i e f = bit_at_and n m i ∙ omega (arith, e, f)
+
+-- the lines from one to another
+pub between_bits : (top bottom : ℕ) → top < 16 → bottom < 16 → (i : ℕ) → i < 64 → (bit_at (bit_and (lines_from top) (lines_to bottom)) i == 1) ≡ (nat_le top (i / 4) && nat_le (i / 4) bottom)
+between_bits top bottom l h i u = same_test (nat_le top (i / 4) && nat_le (i / 4) bottom) (bit_at (bit_and (lines_from top) (lines_to bottom)) i == 1)
+    (λ q.
+    let p = and_parts (nat_le top (i / 4)) (nat_le (i / 4) bottom) q in
+    eq-eqb _ _ (both_from (lines_from top) (lines_to bottom) i (eqb-true _ _ (from_bits top i l u ∙ p.0)) (eqb-true _ _ (to_bits bottom i h u ∙ p.1))))
+    (λ q.
+    let p = both_parts (lines_from top) (lines_to bottom) i (eqb-true _ _ q) in
+    and_from (nat_le top (i / 4)) (nat_le (i / 4) bottom) (sym (from_bits top i l u) ∙ eq-eqb _ _ p.0) (sym (to_bits bottom i h u) ∙ eq-eqb _ _ p.1))
+
+-- the bits of a group of columns
+module _ (r : Area) (g column top bottom low high line columns lines : ℕ) (left : column / 4 ≤ g) (right : g ≤ column_of r.last / 4)
+    (is : low ≡ max (g * 4) column - g * 4) (so : high ≡ min (g * 4 + 4) (column_of r.last + 1) - g * 4) (made : line ≡ line_of low high) (spread : columns ≡ lines_of line)
+    (between : (i : ℕ) → i < 64 → (bit_at lines i == 1) ≡ (nat_le top (i / 4) && nat_le (i / 4) bottom)) where
+  column_bits : (i : ℕ) → i < 64 → (bit_at columns i == 1) ≡ (nat_le low (i % 4) && nat_lt (i % 4) high)
+  column_bits i u = ap (λ q. bit_at q i == 1) (spread ∙ ap lines_of made) ∙ line_bits low high i (omega (arith, is, left)) (omega (arith, so)) u
+
+  pub inside_sound : (i : ℕ) → i < 64 → bit_at (bit_and columns lines) i ≡ 1 → IsInside r g column top bottom i
+  inside_sound i u e =
+      let p = both_parts columns lines i e in
+      let c = and_parts (nat_le low (i % 4)) (nat_lt (i % 4) high) (sym (column_bits i u) ∙ eq-eqb _ _ p.0) in
+      let x : low ≤ i % 4 = leb-true low (i % 4) c.0 in
+      let y : i % 4 < high = ltb-true (i % 4) high c.1 in
+      let l = and_parts (nat_le top (i / 4)) (nat_le (i / 4) bottom) (sym (between i u) ∙ eq-eqb _ _ p.1) in
+      (leb-true top (i / 4) l.0, leb-true (i / 4) bottom l.1, omega (arith, x, is), omega (arith, y, so))
+
+  pub inside_whole : (i : ℕ) → i < 64 → IsInside r g column top bottom i → bit_at (bit_and columns lines) i ≡ 1
+  inside_whole i u inside =
+      let x : column ≤ g * 4 + i % 4 = inside.2 in
+      let y : g * 4 + i % 4 ≤ column_of r.last = inside.3 in
+      both_from columns lines i
+      (eqb-true _ _ (column_bits i u ∙ and_from (nat_le low (i % 4)) (nat_lt (i % 4) high) (le-leb low (i % 4) (omega (arith, x, is))) (lt-ltb (i % 4) high (omega (arith, y, so)))))
+      (eqb-true _ _ (between i u ∙ and_from (nat_le top (i / 4)) (nat_le (i / 4) bottom) (le-leb top (i / 4) inside.0) (le-leb (i / 4) bottom inside.1)))

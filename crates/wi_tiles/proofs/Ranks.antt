@@ -49,6 +49,13 @@ rank_below n i j h e = omega (arith, rank-suc n i, rank_grows n (suc i) j (let l
 pub rank-whole : (n : ℕ) → n < 2 ^ 64 → rank n 64 ≡ count_ones n
 rank-whole n h = ap count_ones (mod-eq_of_lt h)
 
+pub rank_at_most : (n : ℕ) → rank n 64 ≤ count_ones n
+rank_at_most n =
+    let whole : n / 2 ^ 64 * 2 ^ 64 + n % 2 ^ 64 ≡ n = omega arith in
+    let cut : ones (n / 2 ^ 64 * 2 ^ 64 + n % 2 ^ 64) ≡ ones (n / 2 ^ 64) + ones (n % 2 ^ 64) = ones_cat 64 (n / 2 ^ 64) (n % 2 ^ 64) (mod_below n (2 ^ 64) (pow_pos 64)) in
+    let all : ones n ≡ ones (n / 2 ^ 64) + ones (n % 2 ^ 64) = ap ones (sym whole) ∙ cut in
+    omega (arith, all)
+
 -- below a changed bit all counts stay, above it they are one more
 pub rank_same : (m n k : ℕ) → ((i : ℕ) → i < k → bit_at m i ≡ bit_at n i) → rank m k ≡ rank n k
 rank_same m n zero same = rank-zero m ∙ sym (rank-zero n)

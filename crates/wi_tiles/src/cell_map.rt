@@ -119,8 +119,8 @@ impl<V: Drop> CellMap<V> {
     }
 
     /// The first cell of a rectangle, in row-major order, at a cell or after it, that has something. One search among the tiles
-    /// of 16 rows for each row up to it, and where the rectangle lies in one column of tiles, of four columns, for 16 rows; rows
-    /// where nothing stands are passed at once.
+    /// of 16 rows for these, and if more than one of them lie in the rectangle, one step for each in each row up to it; rows where
+    /// nothing stands are passed at once.
     pub fn next_in(&self, area: Rect, from: Address) -> Option<Address>
         ensures { result ≡ find (λ a. nat_le from a) (filter (is_within area) (keys_of self.now.entries)) }
     {
@@ -143,10 +143,7 @@ impl<V: Drop> CellMap<V> {
         ensures cell { option_map (λ x. x.0) result ≡ find (λ a. nat_le from a) (filter (is_within area) (keys_of self.now.entries)) }
         ensures value { IfSome result (λ x. get nat_cmp self.now x.0 ≡ Some x.1.now) }
     {
-        match found_from(&self.pages, area, from) {
-            Some(found) => Some((found.0, found.2)),
-            None => None,
-        }
+        found_from(&self.pages, area, from)
     }
 
     /// What all cells have, with the cells, in row-major order. Takes no memory. The work is that of its steps.

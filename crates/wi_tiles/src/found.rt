@@ -1,77 +1,72 @@
-//! The first cell of a rectangle that has something, with what it has.
+//! The next tile of which a rectangle has something, and the first cell of a rectangle that has something.
 
-ghost use Rattle.std.specs.Prelude.{◌≡◌, ◌<◌, ◌≤◌, ℕ, true, None, Some, IsSome, IsTrue, IfSome, IfNone, IfOk, IfErr, MatchOption, length};
-ghost use Rattle.wi_values.specs.Address.{rows, place, row_of, column_of, is_within};
+ghost use Rattle.std.specs.Prelude.{◌≡◌, ◌<◌, ◌≤◌, ◌+◌, ◌*◌, ◌/◌, ℕ, true, Some, None, IfSome, IfNone, IfOk, IfErr};
+ghost use Rattle.wi_values.specs.Address.{rows, columns, place, row_of, column_of};
 ghost use Rattle.wi_tiles.specs.Inner.Cells.{at_cell, is_ahead};
-ghost use Rattle.wi_tiles.specs.Inner.Next.{IsNext, band_at};
-ghost use Rattle.wi_tiles.specs.Inner.Within.{is_narrow, tile_at, IsAlone};
+ghost use Rattle.wi_tiles.specs.Inner.Next.{IsNext};
+ghost use Rattle.wi_tiles.specs.Inner.Within.{GoesOn, AreBeside, IsTurn};
 
-use crate::masks::{bit_of, cell_in, end_narrow, is_narrow, left_in, mask_in};
-use crate::pages::{Pages, band_of, next_cell, past_gap, start, tile_of};
-use crate::sorted::part_of;
-use crate::tile::Tile;
+use crate::band::{Tiles, Turn, tiles_in, turn_among, turn_beside};
+use crate::masks::cell_in;
+use crate::pages::{Pages, band_of, past_gap, start};
 use wi_values::{Address, Rect};
 
-/// The first cell of a rectangle, at a cell or after it, that has something, with its tile and with what it has.
-pub fn found_from<'a, V>(
-    pages: &'a Pages<V>,
-    area: Rect,
-    from: Address,
-) -> Option<(Address, &'a Tile<V>, &'a V)>
-    ensures some { IfSome result (λ x. IsNext pages.now area from x.0 × (tile_at pages.now x.0 ≡ Some x.1.now)
-        × (at_cell pages.now x.0 ≡ Some x.2.now)) }
+/// The first cell of a rectangle, at a cell or after it, that has something, with what it has.
+pub fn found_from<V>(pages: &Pages<V>, area: Rect, from: Address) -> Option<(Address, &V)>
+    ensures some { IfSome result (λ x. IsNext pages.now area from x.0 × (at_cell pages.now x.0 ≡ Some x.1.now)) }
     ensures sheet { IfSome result (λ x. x.0 < 17179869184) }
     ensures none { IfNone result ((c : ℕ) → is_ahead area from c ≡ true → at_cell pages.now c ≡ None) }
 {
-    if is_narrow(area) {
-        found_narrow(pages, area, from)
-    } else {
-        found_wide(pages, area, from)
+    let begin = start(area, from);
+    match turn_below(pages, area, begin.0, begin.1) {
+        Some(turn) => {
+            let bit = turn.left.trailing_zeros();
+            Some((cell_in(turn.corner, bit), turn.tile.value_at(turn.before)))
+        }
+        None => None,
     }
 }
 
-/// Whether what a rectangle has in the band of a cell stands in the tile of the cell alone.
-pub fn is_alone<V>(pages: &Pages<V>, area: Rect, cell: Address) -> bool
-    requires within { is_within area cell ≡ true }
-    requires there { IsSome (at_cell pages.now cell) }
-    ensures { IsTrue result → IsAlone pages.now area cell }
-{
-    if is_narrow(area) {
-        return true;
-    }
-    has_one_tile(pages, cell.row())
-}
-
-/// Whether the band of a row has one tile.
-fn has_one_tile<V>(pages: &Pages<V>, row: u32) -> bool
-    ensures { IsTrue result → MatchOption (band_at pages.now row) ⊥ (λ ts. length ts ≡ 1) }
-{
-    match band_of(pages, row) {
-        Some(band) => band.parts().len() == 1,
-        None => false,
-    }
-}
-
-/// The same, where the rectangle lies in one column of tiles: one step for each band.
-fn found_narrow<'a, V>(
+/// Turns to the next tile of which a rectangle has something, from a row and a column on, where tiles of the row's band may be at
+/// hand: those before a first place lie left of the column.
+pub fn turn_on<'a, V>(
     pages: &'a Pages<V>,
     area: Rect,
-    from: Address,
-) -> Option<(Address, &'a Tile<V>, &'a V)>
-    requires { is_narrow area ≡ true }
-    ensures some { IfSome result (λ x. IsNext pages.now area from x.0 × (tile_at pages.now x.0 ≡ Some x.1.now)
-        × (at_cell pages.now x.0 ≡ Some x.2.now)) }
-    ensures sheet { IfSome result (λ x. x.0 < 17179869184) }
-    ensures none { IfNone result ((c : ℕ) → is_ahead area from c ≡ true → at_cell pages.now c ≡ None) }
+    row: u32,
+    column: u32,
+    tiles: Option<Tiles<'a, V>>,
+    first: usize,
+) -> Option<Turn<'a, V>>
+    requires goes { GoesOn area row column tiles first }
+    requires band { AreBeside pages.now area row tiles }
+    ensures some { IfSome result (λ t. IsTurn pages.now area (place row column) t.tile.now t.corner t.left t.before t.whole t.row t.column t.tiles t.first) }
+    ensures none { IfNone result ((c : ℕ) → is_ahead area (place row column) c ≡ true → at_cell pages.now c ≡ None) }
+{
+    match tiles {
+        Some(tiles) => match turn_beside(tiles, area, row, column, first) {
+            Some(turn) => Some(turn),
+            None => turn_below(pages, area, row / 16 * 16 + 16, area.first().column()),
+        },
+        None => turn_below(pages, area, row, column),
+    }
+}
+
+/// The same, where none are at hand: one search for each band.
+fn turn_below<'a, V>(pages: &'a Pages<V>, area: Rect, from: u32, side: u32) -> Option<Turn<'a, V>>
+    requires top { row_of area.first ≤ from }
+    requires sheet { from ≤ rows }
+    requires left { column_of area.first ≤ side }
+    requires right { side ≤ columns }
+    ensures some { IfSome result (λ t. IsTurn pages.now area (place from side) t.tile.now t.corner t.left t.before t.whole t.row t.column t.tiles t.first) }
+    ensures none { IfNone result ((c : ℕ) → is_ahead area (place from side) c ≡ true → at_cell pages.now c ≡ None) }
 {
     let left = area.first().column();
     let last = area.last().row();
-    let begin = start(area, from);
-    let mut row = begin.0;
-    let mut column = begin.1;
+    let mut row = from;
+    let mut column = side;
     'bands: while row <= last {
-        match found_in_band(pages, area, row, column) {
-            Ok(found) => return Some(found),
+        match turn_into(pages, area, row, column) {
+            Ok(turn) => return Some(turn),
             Err(next) => {
                 row = next;
                 column = left;
@@ -81,59 +76,26 @@ fn found_narrow<'a, V>(
     None
 }
 
-/// The first such cell in the rows of a band, from a row and a column on; else the row to go on with.
-fn found_in_band<'a, V>(
+/// The same within the rows of a band; else the row to go on with.
+fn turn_into<'a, V>(
     pages: &'a Pages<V>,
     area: Rect,
     row: u32,
     column: u32,
-) -> Result<(Address, &'a Tile<V>, &'a V), u32>
-    requires narrow { is_narrow area ≡ true }
+) -> Result<Turn<'a, V>, u32>
     requires top { row_of area.first ≤ row }
-    requires row { row ≤ row_of area.last }
-    requires sheet { row < rows }
+    requires bottom { row ≤ row_of area.last }
     requires left { column_of area.first ≤ column }
-    requires column { column ≤ column_of area.last }
-    ensures found { IfOk result (λ x. IsNext pages.now area (place row column) x.0 × (tile_at pages.now x.0 ≡ Some x.1.now)
-        × (at_cell pages.now x.0 ≡ Some x.2.now) × (x.0 < 17179869184)) }
+    requires right { column ≤ columns }
+    ensures found { IfOk result (λ t. IsTurn pages.now area (place row column) t.tile.now t.corner t.left t.before t.whole t.row t.column t.tiles t.first) }
     ensures none { IfErr result (λ next. (row < next) × (next ≤ rows)
         × ((c : ℕ) → is_ahead area (place row column) c ≡ true → row_of c < next → at_cell pages.now c ≡ None)) }
 {
-    let here = Address::at(row, column);
     match band_of(pages, row) {
-        Some(band) => match part_of(band.parts(), column / 4) {
-            Some(tile) => {
-                let mask = mask_in(area, here);
-                match left_in(tile, area, mask, here, bit_of(here), end_narrow(area, here)) {
-                    Some(found) => Ok((cell_in(here, found.0), tile, found.1)),
-                    None => Err(row / 16 * 16 + 16),
-                }
-            }
+        Some(band) => match turn_among(tiles_in(band.parts(), area), area, row, column) {
+            Some(turn) => Ok(turn),
             None => Err(row / 16 * 16 + 16),
         },
         None => Err(past_gap(pages, row)),
-    }
-}
-
-/// The same, where the rectangle lies in more tiles than one beside another: row by row.
-fn found_wide<'a, V>(
-    pages: &'a Pages<V>,
-    area: Rect,
-    from: Address,
-) -> Option<(Address, &'a Tile<V>, &'a V)>
-    ensures some { IfSome result (λ x. IsNext pages.now area from x.0 × (tile_at pages.now x.0 ≡ Some x.1.now)
-        × (at_cell pages.now x.0 ≡ Some x.2.now)) }
-    ensures sheet { IfSome result (λ x. x.0 < 17179869184) }
-    ensures none { IfNone result ((c : ℕ) → is_ahead area from c ≡ true → at_cell pages.now c ≡ None) }
-{
-    match next_cell(pages, area, from) {
-        Some(cell) => match tile_of(pages, cell) {
-            Some(tile) => match tile.value(bit_of(cell)) {
-                Some(value) => Some((cell, tile, value)),
-                None => unreachable!(),
-            },
-            None => unreachable!(),
-        },
-        None => None,
     }
 }

@@ -1,9 +1,9 @@
 //! A map by cell address, ordered row by row.
 #![tactic(auto)]
 
+mod band;
 mod cell_map;
 mod found;
-mod line;
 mod masks;
 mod pages;
 mod places;

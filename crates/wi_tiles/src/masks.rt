@@ -1,20 +1,11 @@
 //! The bits of a tile whose cells lie in a rectangle.
 
-ghost use Rattle.std.specs.Prelude.{◌≡◌, ◌<◌, ◌≤◌, ◌==◌, ◌&&◌, ℕ, nat_le, IfSome, IfNone};
+ghost use Rattle.std.specs.Prelude.{◌≡◌, ◌<◌, ◌≤◌, ◌/◌, ◌==◌, ◌&&◌, ℕ, nat_le};
 ghost use Rattle.std.specs.Int.{bit_at};
 ghost use Rattle.wi_values.specs.Address.{column_of};
-ghost use Rattle.wi_tiles.specs.Inner.Within.{bit_of, cell_in, is_narrow, end_in, end_narrow, line_of, lines_of, IsMask, IsNextLeft, HasNoneLeft};
+ghost use Rattle.wi_tiles.specs.Inner.Within.{cell_in, line_of, lines_of, IsInside};
 
-use crate::tile::Tile;
 use wi_values::{Address, Rect};
-
-/// The bit of a cell in its tile.
-pub fn bit_of(cell: Address) -> u32
-    ensures bit { result ≡ bit_of cell }
-    ensures within { result < 64 }
-{
-    cell.row() % 16 * 4 + cell.column() % 4
-}
 
 /// The cell of a bit of the tile in which a cell stands.
 pub fn cell_in(corner: Address, bit: u32) -> Address
@@ -27,46 +18,19 @@ pub fn cell_in(corner: Address, bit: u32) -> Address
     )
 }
 
-/// Whether a rectangle lies in one column of tiles.
-pub fn is_narrow(area: Rect) -> bool
-    ensures { result ≡ is_narrow area }
+/// The bits of a group of columns that stand in a band's lines from one to another, from a column on, and in a rectangle's columns.
+pub fn bits_in(area: Rect, group: u32, column: u32, top: u32, bottom: u32) -> u64
+    requires left { column / 4 ≤ group }
+    requires right { group ≤ column_of area.last / 4 }
+    requires top { top < 16 }
+    requires bottom { bottom < 16 }
+    ensures sound { (i : ℕ) → i < 64 → bit_at result i ≡ 1 → IsInside area group column top bottom i }
+    ensures whole { (i : ℕ) → i < 64 → IsInside area group column top bottom i → bit_at result i ≡ 1 }
 {
-    area.first().column() / 4 == area.last().column() / 4
-}
-
-/// Up to which bit a walk stays in the tile of a cell: through all rows of it, or to the end of the cell's row.
-pub fn end_in(area: Rect, alone: bool, cell: Address) -> u32
-    ensures { result ≡ end_in area alone cell }
-{
-    if alone {
-        end_narrow(area, cell)
-    } else {
-        cell.row() % 16 * 4 + 4
-    }
-}
-
-/// The end of the last row of a rectangle, or of the tile of a cell.
-pub fn end_narrow(area: Rect, cell: Address) -> u32
-    ensures { result ≡ end_narrow area cell }
-{
-    if area.last().row() < cell.row() / 16 * 16 + 16 {
-        area.last().row() % 16 * 4 + 4
-    } else {
-        64
-    }
-}
-
-/// The bits of the tile of a cell that lie in the columns of a rectangle.
-pub fn mask_in(area: Rect, cell: Address) -> u64
-    requires left { column_of area.first ≤ column_of cell }
-    requires right { column_of cell ≤ column_of area.last }
-    ensures { (i : ℕ) → i < 64 → (bit_at result i == 1) ≡ (nat_le (column_of area.first) (column_of (cell_in cell i))
-        && nat_le (column_of (cell_in cell i)) (column_of area.last)) }
-{
-    let left = cell.column() / 4 * 4;
-    let low = left.max(area.first().column()) - left;
+    let left = group * 4;
+    let low = left.max(column) - left;
     let high = (left + 4).min(area.last().column() + 1) - left;
-    lines_of(line_of(low, high))
+    lines_of(line_of(low, high)) & lines_between(top, bottom)
 }
 
 /// The bits from one of a line up to another.
@@ -88,22 +52,11 @@ fn lines_of(line: u64) -> u64
     line * 0x1111_1111_1111_1111
 }
 
-/// The first bit of what is left of a tile, of a cell of a rectangle, that has something, with what it has.
-pub fn left_in<'a, V>(
-    tile: &'a Tile<V>,
-    area: Rect,
-    mask: u64,
-    corner: Address,
-    bit: u32,
-    end: u32,
-) -> Option<(u32, &'a V)>
-    requires end { end ≤ 64 }
-    requires mask { IsMask area corner mask bit end }
-    ensures some { IfSome result (λ x. IsNextLeft area tile.now corner bit end x.0 x.1.now) }
-    ensures none { IfNone result (HasNoneLeft area tile.now corner bit end) }
+/// The bits of the lines from one to another.
+pub fn lines_between(top: u32, bottom: u32) -> u64
+    requires top { top < 16 }
+    requires bottom { bottom < 16 }
+    ensures { (i : ℕ) → i < 64 → (bit_at result i == 1) ≡ (nat_le top (i / 4) && nat_le (i / 4) bottom) }
 {
-    if end <= bit {
-        return None;
-    }
-    tile.first_of(mask, bit, end)
+    (u64::MAX << (4 * top)) & (u64::MAX >> (60 - 4 * bottom))
 }

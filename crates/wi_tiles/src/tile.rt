@@ -1,8 +1,9 @@
 //! Something for each of some of 64 cells.
 
-ghost use Rattle.std.specs.Prelude.{◌≡◌, ◌<◌, ◌≤◌, ◌+◌, ◌*◌, ◌%◌, ◌==◌, if◌then◌else◌, ◌^◌, ℕ, Some, None, IsSome, IsTrue, IfSome, IfNone, OnOk, OnErr, option_copied, option_map, slice_index_or, slice_set};
+ghost use Rattle.std.specs.Prelude.{◌≡◌, ◌<◌, ◌≤◌, ◌+◌, ◌*◌, ◌%◌, ◌==◌, if◌then◌else◌, ◌^◌, ℕ, Some, None, IsSome, IsTrue, OnOk, OnErr, option_copied, option_map, slice_index_or, slice_set};
 ghost use Rattle.std.specs.Int.{bit_at};
 ghost use Rattle.wi_tiles.specs.Inner.Tile.{rank};
+ghost use Rattle.wi_tiles.specs.Inner.Within.{filled};
 
 use crate::places::Places;
 use std::alloc::{AllocError, AllocFailed, Global};
@@ -57,44 +58,28 @@ impl<V> Tile<V> {
         Some(&self.values[place])
     }
 
-    /// The first bit from one up to another that has something.
-    pub fn first(&self, from: u32, end: u32) -> Option<u32>
-        requires from { from < 64 }
-        requires end { end ≤ 64 }
-        ensures some { IfSome result (λ b. (from ≤ b) × (b < end) × IsSome (slice_index_or self.now b None)
-            × ((i : ℕ) → from ≤ i → i < b → slice_index_or self.now i None ≡ None)) }
-        ensures none { IfNone result ((i : ℕ) → from ≤ i → i < end → slice_index_or self.now i None ≡ None) }
+    /// The bits of a mask that have something.
+    pub fn bits_of(&self, mask: u64) -> u64
+        ensures sound { (i : ℕ) → i < 64 → bit_at result i ≡ 1 → (bit_at mask i ≡ 1) × IsSome (slice_index_or self.now i None) }
+        ensures whole { (i : ℕ) → i < 64 → bit_at mask i ≡ 1 → IsSome (slice_index_or self.now i None) → bit_at result i ≡ 1 }
     {
-        let part = self.bits >> from;
-        if part == 0 {
-            return None;
-        }
-        let bit = from + part.trailing_zeros();
-        if end <= bit {
-            return None;
-        }
-        Some(bit)
+        self.bits & mask
     }
 
-    /// The first bit from one up to another, among those of a mask, that has something, with what it has.
-    pub fn first_of(&self, mask: u64, from: u32, end: u32) -> Option<(u32, &V)>
-        requires from { from < 64 }
-        requires end { end ≤ 64 }
-        ensures some { IfSome result (λ x. (from ≤ x.0) × (x.0 < end) × (bit_at mask x.0 ≡ 1)
-            × (slice_index_or self.now x.0 None ≡ Some x.1.now)
-            × ((i : ℕ) → from ≤ i → i < x.0 → bit_at mask i ≡ 1 → slice_index_or self.now i None ≡ None)) }
-        ensures none { IfNone result ((i : ℕ) → from ≤ i → i < end → bit_at mask i ≡ 1 → slice_index_or self.now i None ≡ None) }
+    /// How many bits before one have something.
+    pub fn count_before(&self, bit: u32) -> usize
+        requires { bit < 64 }
+        ensures { result ≡ filled self.now bit }
     {
-        let part = (self.bits & mask) >> from;
-        if part == 0 {
-            return None;
-        }
-        let bit = from + part.trailing_zeros();
-        if end <= bit {
-            return None;
-        }
-        let place = rank(self.bits, bit);
-        Some((bit, &self.values[place]))
+        rank(self.bits, bit)
+    }
+
+    /// What the bit has before which so many have something.
+    pub fn value_at(&self, place: usize) -> &V
+        requires { place < filled self.now 64 }
+        ensures { (i : ℕ) → i < 64 → IsSome (slice_index_or self.now i None) → filled self.now i ≡ place → slice_index_or self.now i None ≡ Some result.now }
+    {
+        &self.values[place]
     }
 
     /// Puts a value where nothing stands. If memory runs out, all is as before.

@@ -1,14 +1,18 @@
 //! What the cells of a rectangle have, one after another.
 
-ghost use Rattle.std.specs.Prelude.{◌≡◌, ◌≤◌, IfSome, IfNone, MatchOption, filter};
+ghost use Rattle.std.specs.Prelude.{◌≡◌, ◌≢◌, ◌<◌, ℕ, true, IsSome, IfSome, IfNone, MatchOption, filter};
+ghost use Rattle.std.specs.Int.{bit_at};
 ghost use Rattle.std.specs.Map.Iter.{TakesFirst};
-ghost use Rattle.wi_tiles.specs.Inner.Cells.{is_ahead};
+ghost use Rattle.wi_values.specs.Address.{place};
+ghost use Rattle.wi_tiles.specs.Inner.Cells.{Pages as AllPages, is_ahead};
 ghost use Rattle.wi_tiles.specs.Inner.Entries.{entries_of};
-ghost use Rattle.wi_tiles.specs.Inner.Within.{entry, IsMask, IsNextLeft, HasNoneLeft, ahead_in, ahead_narrow, ahead_wide};
+ghost use Rattle.wi_tiles.specs.Inner.Lines.{slot};
+ghost use Rattle.wi_tiles.specs.Inner.Within.{entry, filled, CountsFirst, GoesOn, AreBeside, IsFirstLeft, IsTurn};
 
-use crate::found::{found_from, is_alone};
-use crate::masks::{bit_of, cell_in, end_in, left_in, mask_in};
-use crate::pages::Pages;
+use crate::band::{Tiles, Turn, turn_beside};
+use crate::found::turn_on;
+use crate::masks::cell_in;
+use crate::pages::{Pages, start};
 use crate::tile::Tile;
 use std::marker::Model;
 use wi_values::{Address, Rect};
@@ -18,27 +22,32 @@ use wi_values::{Address, Rect};
 pub struct Within<'a, V> {
     pages: &'a Pages<V>,
     area: Rect,
-    // The tile that is walked through, and one of its cells.
+    // The tile that is walked through, one of its cells, and its bits that are to come.
     tile: Option<&'a Tile<V>>,
     corner: Address,
-    // What is left of it: which of its bits lie in the rectangle, from which of them up to which.
-    mask: u64,
-    bit: u32,
-    end: u32,
-    // Where the walk goes on behind it, if it does.
-    ahead: Option<Address>,
+    left: u64,
+    // Whether no bit between those has anything, and if so, how many before them have something.
+    whole: bool,
+    before: usize,
+    // The row and the column from which the walk goes on behind it, and if more tiles of the row's band lie in the rectangle, all
+    // these, and how many of them lie left of the column.
+    row: u32,
+    column: u32,
+    tiles: Option<Tiles<'a, V>>,
+    first: usize,
 }
 
 impl<'a, V> Model for Within<'a, V> {
     ghost use Rattle.std.specs.Prelude.{ℕ, List, filter};
+    ghost use Rattle.wi_values.specs.Address.{place};
     ghost use Rattle.wi_tiles.specs.Inner.Entries.{entries_of};
     ghost use Rattle.wi_tiles.specs.Inner.Within.{is_pending, IsWalk};
 
     ghost Value = { List (ℕ × V) };
 
-    ghost view = { λ w. filter (λ e. is_pending w.area w.ahead w.corner w.bit w.end e.0) (entries_of w.pages.now) };
+    ghost view = { λ w. filter (λ e. is_pending w.area (place w.row w.column) w.corner w.left e.0) (entries_of w.pages.now) };
 
-    ghost invariant = { λ w. IsWalk w.pages.now w.area w.ahead w.tile w.corner w.mask w.bit w.end };
+    ghost invariant = { λ w. IsWalk w.pages.now w.area w.tile w.corner w.left w.before w.whole w.row w.column w.tiles w.first };
 }
 
 impl<'a, V> Within<'a, V> {
@@ -46,50 +55,85 @@ impl<'a, V> Within<'a, V> {
     pub(crate) fn new(pages: &'a Pages<V>, area: Rect, from: Address) -> Within<'a, V>
         ensures { result ≡ filter (λ e. is_ahead area from e.0) (entries_of pages.now) }
     {
+        let begin = start(area, from);
         Within {
             pages,
             area,
             tile: None,
             corner: from,
-            mask: 0,
-            bit: 0,
-            end: 0,
-            ahead: Some(from),
+            left: 0,
+            whole: false,
+            before: 0,
+            row: begin.0,
+            column: begin.1,
+            tiles: None,
+            first: 0,
         }
     }
 
-    /// The next entry, where nothing may be left of the tile. It stands apart, so that a step from one cell of a tile to the
-    /// next takes little.
+    /// The next entry, where nothing may be left of the tile, and the next tile may be one of its band. It stands apart, so that a
+    /// step from one cell of a tile to the next takes little.
     #[inline(never)]
-    fn next_behind(&mut self) -> Option<(Address, &'a V)>
+    fn next_beside(&mut self) -> Option<(Address, &'a V)>
         ensures { TakesFirst entry self.old result self.new }
     {
-        match left_of(
-            self.tile,
+        match beside(
+            self.left,
             self.area,
-            self.mask,
-            self.corner,
-            self.bit,
-            self.end,
+            self.row,
+            self.column,
+            self.tiles,
+            self.first,
         ) {
-            Some(found) => {
-                self.bit = found.0 + 1;
-                Some((cell_in(self.corner, found.0), found.1))
+            Some(turn) => {
+                let bit = turn.left.trailing_zeros();
+                self.tile = Some(turn.tile);
+                self.corner = turn.corner;
+                self.left = without(turn.left, bit);
+                self.before = turn.before + 1;
+                self.whole = turn.whole;
+                self.row = turn.row;
+                self.column = turn.column;
+                self.tiles = turn.tiles;
+                self.first = turn.first;
+                Some((cell_in(turn.corner, bit), turn.tile.value_at(turn.before)))
             }
-            None => match self.ahead {
-                Some(from) => match found_from(self.pages, self.area, from) {
-                    Some(found) => {
-                        let alone = is_alone(self.pages, self.area, found.0);
-                        self.tile = Some(found.1);
-                        self.corner = found.0;
-                        self.mask = mask_in(self.area, found.0);
-                        self.bit = bit_of(found.0) + 1;
-                        self.end = end_in(self.area, alone, found.0);
-                        self.ahead = ahead_in(self.area, alone, found.0);
-                        Some((found.0, found.2))
-                    }
-                    None => None,
-                },
+            None => self.next_below(),
+        }
+    }
+
+    /// The next entry, wherever it stands. It stands apart, so that a step to the tile beside takes little.
+    #[inline(never)]
+    fn next_below(&mut self) -> Option<(Address, &'a V)>
+        ensures { TakesFirst entry self.old result self.new }
+    {
+        match first_left(self.tile, self.left, self.before, self.whole) {
+            Some(found) => {
+                self.left = without(self.left, found.0);
+                self.before = found.1 + 1;
+                Some((cell_in(self.corner, found.0), found.2))
+            }
+            None => match turn_on(
+                self.pages,
+                self.area,
+                self.row,
+                self.column,
+                self.tiles,
+                self.first,
+            ) {
+                Some(turn) => {
+                    let bit = turn.left.trailing_zeros();
+                    self.tile = Some(turn.tile);
+                    self.corner = turn.corner;
+                    self.left = without(turn.left, bit);
+                    self.before = turn.before + 1;
+                    self.whole = turn.whole;
+                    self.row = turn.row;
+                    self.column = turn.column;
+                    self.tiles = turn.tiles;
+                    self.first = turn.first;
+                    Some((cell_in(turn.corner, bit), turn.tile.value_at(turn.before)))
+                }
                 None => None,
             },
         }
@@ -108,78 +152,89 @@ impl<'a, V> Iterator for Within<'a, V> {
 
     ghost remaining = { λ s. at_most (length s) };
 
-    /// A step among the bits of a tile for each cell, and one search for each tile; for each row of a tile, where the rectangle
-    /// lies in more tiles than one beside another, and 16 rows have more than one.
+    /// A step among the bits of a tile for each cell, and one search for each 16 rows; and where more than one of their tiles lie in
+    /// the rectangle, one step more for each tile of each row.
     fn next(&mut self) -> Option<(Address, &'a V)> {
-        match left_of(
-            self.tile,
-            self.area,
-            self.mask,
-            self.corner,
-            self.bit,
-            self.end,
-        ) {
+        match first_left(self.tile, self.left, self.before, self.whole) {
             Some(found) => {
-                self.bit = found.0 + 1;
-                Some((cell_in(self.corner, found.0), found.1))
+                self.left = without(self.left, found.0);
+                self.before = found.1 + 1;
+                Some((cell_in(self.corner, found.0), found.2))
             }
-            None => self.next_behind(),
+            None => self.next_beside(),
         }
     }
 }
 
-/// The first bit of what is left of a tile, if there is one, of a cell of a rectangle, that has something, with what it has.
-fn left_of<'a, V>(
-    tile: Option<&'a Tile<V>>,
-    area: Rect,
-    mask: u64,
-    corner: Address,
-    bit: u32,
-    end: u32,
-) -> Option<(u32, &'a V)>
-    requires end { end ≤ 64 }
-    requires mask { IsMask area corner mask bit end }
-    ensures some { IfSome result (λ x. MatchOption tile.entry ⊥ (λ t. IsNextLeft area t.now corner bit end x.0 x.1.now)) }
-    ensures none { IfNone result (IfSome tile.entry (λ t. HasNoneLeft area t.now corner bit end)) }
+/// The first of the bits that are left of a tile, how many before it have something, and what it has; nothing is left where there
+/// is no tile.
+fn first_left<V>(
+    tile: Option<&Tile<V>>,
+    left: u64,
+    before: usize,
+    whole: bool,
+) -> Option<(u32, usize, &V)>
+    requires there { IfSome tile (λ t. (i : ℕ) → i < 64 → bit_at left i ≡ 1 → IsSome (slot t.now i)) }
+    requires counted { IfSome tile (λ t. whole ≡ true → CountsFirst t.now left before) }
+    requires nothing { IfNone tile (left ≡ 0) }
+    ensures some { IfSome result (λ x. MatchOption tile.entry ⊥ (λ t. IsFirstLeft t.now left x.0 x.1 x.2.now)) }
+    ensures small { IfSome result (λ x. x.1 < 64) }
+    ensures none { IfNone result (left ≡ 0) }
 {
+    if left == 0 {
+        return None;
+    }
     match tile {
-        Some(tile) => left_in(tile, area, mask, corner, bit, end),
+        Some(tile) => {
+            let bit = left.trailing_zeros();
+            let place = place_of(tile, bit, before, whole);
+            Some((bit, place, tile.value_at(place)))
+        }
+        None => unreachable!(),
+    }
+}
+
+/// How many bits before one have something, where it may be known.
+fn place_of<V>(tile: &Tile<V>, bit: u32, before: usize, whole: bool) -> usize
+    requires within { bit < 64 }
+    requires counted { whole ≡ true → filled tile.now bit ≡ before }
+    ensures { result ≡ filled tile.now bit }
+{
+    if whole {
+        before
+    } else {
+        tile.count_before(bit)
+    }
+}
+
+/// Turns to the next tile of a band, where nothing is left of one, and tiles of the band are at hand.
+fn beside<'a, V>(
+    left: u64,
+    area: Rect,
+    row: u32,
+    column: u32,
+    tiles: Option<Tiles<'a, V>>,
+    first: usize,
+) -> Option<Turn<'a, V>>
+    requires { GoesOn area row column tiles first }
+    ensures empty { IfSome result (λ t. left ≡ 0) }
+    ensures some { IfSome result (λ t. (w : AllPages V) → AreBeside w area row tiles.entry
+        → IsTurn w area (place row column) t.tile.now t.corner t.left t.before t.whole t.row t.column t.tiles t.first) }
+{
+    if left != 0 {
+        return None;
+    }
+    match tiles {
+        Some(tiles) => turn_beside(tiles, area, row, column, first),
         None => None,
     }
 }
 
-/// Where it goes on behind that.
-fn ahead_in(area: Rect, alone: bool, cell: Address) -> Option<Address>
-    ensures { result ≡ ahead_in area alone cell }
+/// All bits but one.
+fn without(bits: u64, bit: u32) -> u64
+    requires { bit < 64 }
+    ensures cleared { bit_at result bit ≡ 0 }
+    ensures others { (i : ℕ) → i < 64 → i ≢ bit → bit_at result i ≡ bit_at bits i }
 {
-    if alone {
-        ahead_narrow(area, cell)
-    } else {
-        ahead_wide(area, cell)
-    }
-}
-
-/// The first cell of the band below.
-fn ahead_narrow(area: Rect, cell: Address) -> Option<Address>
-    ensures { result ≡ ahead_narrow area cell }
-{
-    let row = cell.row() / 16 * 16 + 16;
-    if area.last().row() < row {
-        return None;
-    }
-    Some(Address::at(row, area.first().column()))
-}
-
-/// The first column of the tile beside it, or of the next row.
-fn ahead_wide(area: Rect, cell: Address) -> Option<Address>
-    ensures { result ≡ ahead_wide area cell }
-{
-    let column = cell.column() / 4 * 4 + 4;
-    if column <= area.last().column() {
-        return Some(Address::at(cell.row(), column));
-    }
-    if cell.row() < area.last().row() {
-        return Some(Address::at(cell.row() + 1, area.first().column()));
-    }
-    None
+    bits & !(1 << bit)
 }

@@ -18,10 +18,6 @@ abbrev pub in_band : {V : Type 0} → Option (Band V) → ℕ → ℕ → Option
 in_band None line k = None
 in_band (Some ts) line k = cell ts line k
 
--- the cells from one up to another have nothing
-abbrev pub HasNothing : {V : Type 0} → Pages V → ℕ → ℕ → Type 0
-HasNothing w from end = (b : ℕ) → from ≤ b → b < end → at_cell w b ≡ None
-
 -- the first cell of the rectangle, at a cell or after it, that has something
 pub record IsNext {V : Type 0} (w : Pages V) (area : Area) (from a : ℕ) : Type 0 where
   pub there : IsSome (at_cell w a)

@@ -1,12 +1,12 @@
 -- Where a walk through a rectangle stands.
-use Rattle.std.specs.Prelude.{◌≡◌, ℕ, ◌+◌, ◌-◌, ◌*◌, ◌/◌, ◌%◌, ◌^◌, bit_and, ◌<◌, ◌≤◌, Bool, true, false, ◌&&◌, ◌||◌, ◌==◌, nat_le, nat_lt, if◌then◌else◌, List, Option, Some, None, IsSome, IfSome, IfNone}
+use Rattle.std.specs.Prelude.{◌≡◌, ◌≢◌, ℕ, zero, suc, ◌+◌, ◌-◌, ◌*◌, ◌/◌, ◌%◌, ◌^◌, bit_and, ◌<◌, ◌≤◌, Bool, true, ◌&&◌, ◌||◌, ◌==◌, nat_le, is_some, if◌then◌else◌, List, length, Option, Some, None, IsSome, IfSome, IfNone}
 use Rattle.std.specs.Borrow.{Bor}
 use Rattle.std.specs.Int.{bit_at}
 use Rattle.wi_values.specs.Address.{Area, place, row_of, column_of, is_within}
-use Rattle.wi_tiles.specs.Inner.Cells.{Pages, Band, at_cell}
-use Rattle.wi_tiles.specs.Inner.Lines.{slot}
+use Rattle.wi_tiles.specs.Inner.Cells.{Pages, Band, at_cell, is_ahead}
+use Rattle.wi_tiles.specs.Inner.Lines.{slot, cell}
 use Rattle.wi_tiles.specs.Inner.Next.{band_at}
-use Rattle.wi_tiles.specs.Inner.Sorted.{find}
+use Rattle.wi_tiles.specs.Inner.Sorted.{find, key, Rises}
 
 -- a value that is lent, with its cell
 abbrev pub entry : {V : Type 0} → ℕ × Bor V → ℕ × V
@@ -28,75 +28,121 @@ in_band_tile (Some ts) g = find g ts
 abbrev pub tile_at : {V : Type 0} → Pages V → ℕ → Option (List (Option V))
 tile_at w c = in_band_tile (band_at w (row_of c)) (column_of c / 4)
 
--- the cell comes at a cell or after it; none does where there is no such cell
-abbrev pub is_from : Option ℕ → ℕ → Bool
-is_from None c = false
-is_from (Some a) c = nat_le a c
-
--- it stands in the tile of a cell
+-- a cell stands in the tile of another
 abbrev pub in_tile : ℕ → ℕ → Bool
 in_tile corner c = row_of c / 16 == row_of corner / 16 && column_of c / 4 == column_of corner / 4
 
--- and there among the bits from one up to another
-abbrev pub is_left : ℕ → ℕ → ℕ → ℕ → Bool
-is_left corner bit end c = in_tile corner c && (nat_le bit (bit_of c) && nat_lt (bit_of c) end)
+-- and there at one of the bits that are left
+abbrev pub is_left : ℕ → ℕ → ℕ → Bool
+is_left corner left c = in_tile corner c && bit_at left (bit_of c) == 1
 
--- it lies in the rectangle, among what is left of the tile or behind it
-abbrev pub is_pending : Area → Option ℕ → ℕ → ℕ → ℕ → ℕ → Bool
-is_pending r ahead corner bit end c = (is_left corner bit end c || is_from ahead c) && is_within r c
+-- it lies in the rectangle, and is left of the tile, or comes at the cell where the walk goes on, or later
+abbrev pub is_pending : Area → ℕ → ℕ → ℕ → ℕ → Bool
+is_pending r ahead corner left c = (is_left corner left c || nat_le ahead c) && is_within r c
 
--- b is the first of its bits, from one up to another, that has something and whose cell lies in the rectangle
-abbrev pub IsNextLeft : {V : Type 0} → Area → List (Option V) → ℕ → ℕ → ℕ → ℕ → V → Type 0
-IsNextLeft r t corner bit end b v = (bit ≤ b) × (b < end) × (is_within r (cell_in corner b) ≡ true) × (slot t b ≡ Some v)
-    × ((i : ℕ) → bit ≤ i → i < b → is_within r (cell_in corner i) ≡ true → slot t i ≡ None)
-
-abbrev pub HasNoneLeft : {V : Type 0} → Area → List (Option V) → ℕ → ℕ → ℕ → Type 0
-HasNoneLeft r t corner bit end = (i : ℕ) → bit ≤ i → i < end → is_within r (cell_in corner i) ≡ true → slot t i ≡ None
-
--- of its bits, from one up to another, those are in the mask whose cells lie in the rectangle
-abbrev pub IsMask : Area → ℕ → ℕ → ℕ → ℕ → Type 0
-IsMask r corner mask bit end = (i : ℕ) → bit ≤ i → i < end → (bit_at mask i == 1) ≡ is_within r (cell_in corner i)
-
--- the bits from one of a line up to another, and the same in each line
+-- the bits from one of a line up to another, the same in each line, and all bits of the lines from one on and up to one
 abbrev pub line_of : ℕ → ℕ → ℕ
 line_of low high = bit_and (15 / 2 ^ (4 - high)) (15 * 2 ^ low % 2 ^ 64)
 
 abbrev pub lines_of : ℕ → ℕ
 lines_of line = line * 1229782938247303441
 
--- what is left of the tile comes before what comes behind it
-pub record IsWalk {V : Type 0} (w : Pages V) (r : Area) (ahead : Option ℕ) (tile : Option (Bor (List (Option V)))) (corner mask bit end : ℕ) : Type 0 where
-  pub stands : IfSome tile (λ t. tile_at w corner ≡ Some t.now)
-  pub nothing : IfNone tile (end ≤ bit)
-  pub within : end ≤ 64
-  pub masks : IsMask r corner mask bit end
+abbrev pub lines_from : ℕ → ℕ
+lines_from top = 18446744073709551615 * 2 ^ (4 * top) % 2 ^ 64
+
+abbrev pub lines_to : ℕ → ℕ
+lines_to bottom = 18446744073709551615 / 2 ^ (60 - 4 * bottom)
+
+-- a bit of a group of columns stands in the lines from one to another, from a column on, and in the columns of a rectangle
+abbrev pub IsInside : Area → ℕ → ℕ → ℕ → ℕ → ℕ → Type 0
+IsInside r g column top bottom i = (top ≤ i / 4) × (i / 4 ≤ bottom) × (column ≤ g * 4 + i % 4) × (g * 4 + i % 4 ≤ column_of r.last)
+
+-- tiles in order, of groups of columns in which the rectangle has columns
+pub record AreTiles {V : Type 0} (r : Area) (ts : Band V) : Type 0 where
+  pub rises : Rises ts
+  pub low : (i : ℕ) → i < length ts → column_of r.first / 4 ≤ key ts i
+  pub high : (i : ℕ) → i < length ts → key ts i ≤ column_of r.last / 4
+
+-- a row's band has these tiles there
+abbrev pub AreOfBand : {V : Type 0} → Pages V → Area → ℕ → Band V → Type 0
+AreOfBand w r row ts = (g : ℕ) → column_of r.first / 4 ≤ g → g ≤ column_of r.last / 4 → in_band_tile (band_at w row) g ≡ find g ts
+
+-- those before a place are of groups left of one, and no others are
+abbrev pub IsPlace : {V : Type 0} → Band V → ℕ → ℕ → Type 0
+IsPlace ts place g = ((i : ℕ) → i < place → key ts i < g) × ((i : ℕ) → place ≤ i → i < length ts → g ≤ key ts i)
+
+-- how many of the first bits of a tile have something
+unfoldable pub filled : {V : Type 0} → List (Option V) → ℕ → ℕ
+filled t zero = 0
+filled t (suc i) = filled t i + (if is_some (slot t i) then 1 else 0)
+
+-- so many have something before the first of the bits that are left
+abbrev pub CountsFirst : {V : Type 0} → List (Option V) → ℕ → ℕ → Type 0
+CountsFirst t left before = (b : ℕ) → b < 64 → bit_at left b ≡ 1 → ((i : ℕ) → i < b → bit_at left i ≡ 0) → filled t b ≡ before
+
+-- no bit between those that are left has anything
+abbrev pub IsWhole : {V : Type 0} → List (Option V) → ℕ → Type 0
+IsWhole t left = (i j k : ℕ) → i < k → k < j → j < 64 → bit_at left i ≡ 1 → bit_at left j ≡ 1 → IsSome (slot t k) → bit_at left k ≡ 1
+
+-- the bits of a tile that have something, and lie in the rectangle's columns from a column on, in the lines from one to another
+pub record HasBits {V : Type 0} (r : Area) (t : List (Option V)) (g column top bottom left : ℕ) : Type 0 where
+  pub some : left ≢ 0
+  pub sound : (i : ℕ) → i < 64 → bit_at left i ≡ 1 → IsInside r g column top bottom i × IsSome (slot t i)
+  pub whole : (i : ℕ) → i < 64 → IsInside r g column top bottom i → IsSome (slot t i) → bit_at left i ≡ 1
+
+-- the tile at a place is the first of them that has something in a line from a column on
+pub record IsNextTile {V : Type 0} (r : Area) (ts : Band V) (line column n left : ℕ) : Type 0 where
+  pub within : n < length ts
+  pub some : left ≢ 0
+  pub right : column / 4 ≤ key ts n
+  pub bits : (t : List (Option V)) → find (key ts n) ts ≡ Some t → HasBits r t (key ts n) column line line left
+  pub before : (k : ℕ) → column ≤ k → k < key ts n * 4 → cell ts line k ≡ None
+
+-- the bits that are left have something, lie in the rectangle, and come before what comes behind them
+pub record IsRest {V : Type 0} (w : Pages V) (r : Area) (ahead : ℕ) (t : List (Option V)) (corner left : ℕ) : Type 0 where
+  pub stands : tile_at w corner ≡ Some t
   pub sheet : corner < 17179869184
-  pub order : (b c : ℕ) → is_left corner bit end b ≡ true → is_within r b ≡ true → is_from ahead c ≡ true → is_within r c ≡ true → b < c
+  pub there : (i : ℕ) → i < 64 → bit_at left i ≡ 1 → IsSome (slot t i)
+  pub inside : (i : ℕ) → i < 64 → bit_at left i ≡ 1 → is_within r (cell_in corner i) ≡ true
+  pub order : (i c : ℕ) → i < 64 → bit_at left i ≡ 1 → ahead ≤ c → is_within r c ≡ true → cell_in corner i < c
 
--- whether the rectangle lies in one column of tiles
-abbrev pub is_narrow : Area → Bool
-is_narrow r = column_of r.first / 4 == column_of r.last / 4
+-- where the walk goes on: in a row from a column on, and if tiles are at hand, those before a place lie left of the column
+pub record GoesOn {V : Type 0} (r : Area) (row column : ℕ) (tiles : Option (Bor (Band V))) (n : ℕ) : Type 0 where
+  pub top : row_of r.first ≤ row
+  pub left : column_of r.first ≤ column
+  pub right : column ≤ 16384
+  pub sheet : row ≤ 1048576
+  pub beside : IfSome tiles (λ ts. (row < 1048576) × AreTiles r ts.now × IsPlace ts.now n (column / 4))
 
--- what the rectangle has in a cell's band stands in the cell's tile alone
-abbrev pub IsAlone : {V : Type 0} → Pages V → Area → ℕ → Type 0
-IsAlone w r a = (c : ℕ) → c < 17179869184 → is_within r c ≡ true → row_of c / 16 ≡ row_of a / 16 → IsSome (at_cell w c) → column_of c / 4 ≡ column_of a / 4
+-- those are the tiles of the row's band
+abbrev pub AreBeside : {V : Type 0} → Pages V → Area → ℕ → Option (Bor (Band V)) → Type 0
+AreBeside w r row tiles = IfSome tiles (λ ts. AreOfBand w r row ts.now)
 
--- up to which bit the walk stays in the tile of a cell: to the end of the rectangle or the tile, or to the end of the cell's row
-abbrev pub end_narrow : Area → ℕ → ℕ
-end_narrow r a = if nat_lt (row_of r.last) (row_of a / 16 * 16 + 16) then row_of r.last % 16 * 4 + 4 else 64
+-- the next tile of which something is to come, at a cell or after it, and where the walk goes on behind that
+pub record IsTurn {V : Type 0} (w : Pages V) (r : Area) (from : ℕ) (t : List (Option V)) (corner left before : ℕ) (whole : Bool) (row column : ℕ) (tiles : Option (Bor (Band V))) (n : ℕ) : Type 0 where
+  pub some : left ≢ 0
+  pub small : left < 18446744073709551616
+  pub counts : CountsFirst t left before
+  pub follow : whole ≡ true → IsWhole t left
+  pub rest : IsRest w r (place row column) t corner left
+  pub goes : GoesOn r row column tiles n
+  pub band : AreBeside w r row tiles
+  pub after : (i : ℕ) → i < 64 → bit_at left i ≡ 1 → from ≤ cell_in corner i
+  pub later : from ≤ place row column
+  pub all : (c : ℕ) → c < 17179869184 → is_ahead r from c ≡ true → c < place row column → IsSome (at_cell w c) → is_left corner left c ≡ true
 
-abbrev pub end_in : Area → Bool → ℕ → ℕ
-end_in r alone a = if alone then end_narrow r a else row_of a % 16 * 4 + 4
+-- where a walk stands
+pub record IsWalk {V : Type 0} (w : Pages V) (r : Area) (tile : Option (Bor (List (Option V)))) (corner left before : ℕ) (whole : Bool) (row column : ℕ) (tiles : Option (Bor (Band V))) (n : ℕ) : Type 0 where
+  pub counted : IfSome tile (λ t. whole ≡ true → CountsFirst t.now left before × IsWhole t.now left)
+  pub rest : IfSome tile (λ t. IsRest w r (place row column) t.now corner left)
+  pub nothing : IfNone tile (left ≡ 0)
+  pub goes : GoesOn r row column tiles n
+  pub band : AreBeside w r row tiles
 
--- where it goes on behind that
-abbrev pub ahead_narrow : Area → ℕ → Option ℕ
-ahead_narrow r a = if nat_lt (row_of r.last) (row_of a / 16 * 16 + 16) then None else Some (place (row_of a / 16 * 16 + 16) (column_of r.first))
-
-abbrev pub ahead_below : Area → ℕ → Option ℕ
-ahead_below r a = if nat_lt (row_of a) (row_of r.last) then Some (place (row_of a + 1) (column_of r.first)) else None
-
-abbrev pub ahead_wide : Area → ℕ → Option ℕ
-ahead_wide r a = if nat_le (column_of a / 4 * 4 + 4) (column_of r.last) then Some (place (row_of a) (column_of a / 4 * 4 + 4)) else ahead_below r a
-
-abbrev pub ahead_in : Area → Bool → ℕ → Option ℕ
-ahead_in r alone a = if alone then ahead_narrow r a else ahead_wide r a
+-- the first of the bits that are left, how many before it have something, and what the tile has there
+pub record IsFirstLeft {V : Type 0} (t : List (Option V)) (left b place : ℕ) (v : V) : Type 0 where
+  pub within : b < 64
+  pub set : bit_at left b ≡ 1
+  pub first : (i : ℕ) → i < b → bit_at left i ≡ 0
+  pub before : filled t b ≡ place
+  pub value : slot t b ≡ Some v

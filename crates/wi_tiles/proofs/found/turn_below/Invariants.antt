@@ -1,0 +1,10 @@
+use Rattle.std.proofs.Common.{◌-◌, ◌+◌}
+use Rattle.wi_values.specs.Address.{place, row_of}
+use Rattle.wi_tiles.proofs.TurnLemmas.{Reached}
+use Rattle.wi_tiles.proofs.found.turn_below.Given as goal
+
+abbrev pub invariant-bands : goal.invariant-bands
+invariant-bands g l = Reached l.pages l.area (place l.fn.from l.fn.side) l.row l.column
+
+abbrev pub decreases-bands : goal.decreases-bands
+decreases-bands g l = (row_of l.area.last + 1) - l.row
