@@ -11,10 +11,8 @@ use Rattle.std.proofs.lemmas.List.Elements.{All-set}
 use Rattle.std.proofs.Math.Seq.{map-set_same}
 use Rattle.wi_parser.specs.Sheet.{Sheet, content_of, with_content}
 use Rattle.wi_parser.specs.declared.content.Content.{Content}
-use Rattle.wi_values.specs.declared.value.Value.TheVariants.{Empty}
-use Rattle.wi_parser.specs.declared.content.Content.TheVariants.{Constant, Formula}
-use Rattle.wi_store.specs.Store.{edited, settled, settled_change}
-use Rattle.wi_store.specs.Inner.Rooms.{Rooms, sheet_in, room_of, HasNoVacancy, VacantOnlyAt, HasRoomFor, IsSettled}
+use Rattle.wi_store.specs.Store.{edited, settled_change}
+use Rattle.wi_store.specs.Inner.Rooms.{Rooms, sheet_in, room_of, HasNoVacancy, VacantOnlyAt, HasRoomFor}
 use Rattle.wi_store.specs.Inner.Exchange.{stood, restored}
 use Rattle.wi_store.proofs.RoomLemmas.{Ascends, length-sheet_in-le}
 use Rattle.wi_store.proofs.ExchangeLemmas.{nothing_stands, count, length-with_content}
@@ -95,25 +93,18 @@ pub room_more : (cs : Changes) (i a : ℕ) (o : Option Content) (old new : Rooms
 room_more cs i a o old new order kept e h =
     All-set (HasRoomFor new) cs i (a, o) (λ n. e ∙ nothing_stands a old order (kept a n)) (λ k d l n. h k d l (kept (get_or cs k d).0 n))
 
--- ---- settled changes
+-- ---- the rooms that changes bring
 
--- after the i-th change was exchanged
-pub settled_more : (cs : Changes) (i a : ℕ) (o : Option Content) → IsSettled (a, o) → All IsSettled cs → All IsSettled (set cs i (a, o))
-settled_more cs i a o is h = All-set IsSettled cs i (a, o) is h
-
-settled_twice : (o : Option Content) → settled (settled o) ≡ settled o
-settled_twice None = refl
-settled_twice (Some (Constant Empty)) = refl
-settled_twice (Some (Constant v)) = refl
-settled_twice (Some (Formula t)) = refl
-
-all_settled : (cs : Changes) → All IsSettled (map settled_change cs)
-all_settled [] i d l = absurd (omega arith)
-all_settled (x ∷ xs) zero d l = settled_twice x.1
-all_settled (x ∷ xs) (suc i) d l = all_settled xs i d (omega arith)
-
-pub settled_all : (cs ds : Changes) → ds ≡ map settled_change cs → All IsSettled ds
-settled_all cs ds e = subst (λ (es : Changes). All IsSettled es) (sym e) (all_settled cs)
+-- after that of the i-th change was made
+pub brought_more : (made made' all cs : Changes) (i : ℕ) (d v : ℕ × Option Content) → i < length cs
+    → made' ≡ made ++ settled_change (get_or cs i d) ∷ []
+    → made ++ map settled_change (drop i cs) ≡ all → made' ++ map settled_change (drop (i + 1) (set cs i v)) ≡ all
+brought_more made made' all cs i d v l e h =
+    let x : ℕ × Option Content = settled_change (get_or cs i d) in
+    ap (λ (xs : Changes). xs ++ map settled_change (drop (i + 1) (set cs i v))) e
+    ∙ append_assoc made (x ∷ []) (map settled_change (drop (i + 1) (set cs i v)))
+    ∙ ap (λ (xs : Changes). made ++ x ∷ map settled_change xs) (drop-set-lt (i + 1) cs i v (omega arith))
+    ∙ ap (λ (xs : Changes). made ++ map settled_change xs) (sym (drop_at cs i d l)) ∙ h
 
 -- ---- the sheet
 

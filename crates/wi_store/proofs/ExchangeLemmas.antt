@@ -1,16 +1,18 @@
 -- Laws of exchanging contents: in rooms, in the sheet, and back.
-use Rattle.std.proofs.Common.{◌≡◌, ℕ, ◌+◌, ◌<◌, ◌==◌, Bool, true, false, cond, List, [], ◌∷◌, length, not, Option, Some, None, refl, sym, ap, ◌∙◌, subst, arith, ⊎_elim, inl, inr, ◌⊎◌}
-use Rattle.std.specs.Option.{option_flatten, unwrap_or}
+use Rattle.std.proofs.Common.{◌≡◌, ℕ, ◌+◌, ◌<◌, ◌==◌, Bool, true, false, cond, List, [], ◌∷◌, length, not, Option, Some, None, refl, sym, ap, ◌∙◌, subst, arith, ⊎_elim, inl, inr, ◌⊎◌, if◌then◌else◌}
+use Rattle.std.specs.Option.{option_flatten, is_some}
 use Rattle.std.specs.Ordering.{nat_cmp}
 use Rattle.std.specs.Map.{set_value, remove_entry}
 use Rattle.std.specs.BTreeMap.{is_at, insert_entry}
 use Rattle.std.proofs.lemmas.Bool.{cases_order, cases_eq, eq-eqb}
+use Rattle.std.proofs.lemmas.Map.{keys-set_value, length-set_value}
+use Rattle.std.specs.List.Sorted.{IsStrictlySortedBy}
 use Rattle.std.proofs.lemmas.Bool.Decides.{nat_tests}
-use Rattle.wi_values.proofs.Order.{ComeAfter, Ascends, Ascends-filter, Ascends-insert, cmp_before, cmp_equal, cmp_after, come_after_earlier, at_itself, at_earlier, lookup_after}
+use Rattle.wi_values.proofs.Order.{ComeAfter, Ascends, Ascends-from_order, order-from_Ascends, Ascends-filter, Ascends-insert, cmp_before, cmp_equal, cmp_after, come_after_earlier, at_same, at_itself, at_earlier, lookup_after}
 use Rattle.wi_parser.specs.Sheet.{Sheet, content_of, without, with_content}
 use Rattle.wi_parser.specs.declared.content.Content.{Content}
 use Rattle.wi_store.specs.Store.{edited}
-use Rattle.wi_store.specs.Inner.Rooms.{Rooms, sheet_in, room_of}
+use Rattle.wi_store.specs.Inner.Rooms.{Rooms, sheet_in, room_of, RoomsAreInOrder, HasRoomFor}
 use Rattle.wi_store.specs.Inner.Exchange.{stood, restored}
 use Rattle.wi_store.proofs.RoomLemmas.{ComeAfter-sheet_in, Ascends-sheet_in, content_of-sheet_in}
 
@@ -79,7 +81,7 @@ exchanges_later a c p o rooms l h =
     ∙ sym (with_content-past a c p o (sheet_in rooms) l) ∙ ap (λ (s : Sheet). with_content s a o) (sym (sheet_in-cons c p rooms)))
 
 -- a content put into a cell's room is put into the sheet
-pub sheet_in-set_value : (a : ℕ) (p o : Option Content) (rooms : Rooms) → Ascends rooms → room_of rooms a ≡ Some p → sheet_in (set_value (is_at (nat_cmp a)) rooms o) ≡ with_content (sheet_in rooms) a o
+sheet_in-set_value : (a : ℕ) (p o : Option Content) (rooms : Rooms) → Ascends rooms → room_of rooms a ≡ Some p → sheet_in (set_value (is_at (nat_cmp a)) rooms o) ≡ with_content (sheet_in rooms) a o
 sheet_in-set_value a p o [] h r = cc
 sheet_in-set_value a p o (e ∷ es) h r =
     ⊎_elim (λ q. subst (λ (b : ℕ). Exchanges (e ∷ es) b o) (sym q) (exchanges_here e.0 e.1 o es h.0))
@@ -108,27 +110,8 @@ sheet_in-make a (e ∷ es) r =
     ∙ ap (λ (s : Sheet). with_front e.0 e.1 s) (sheet_in-make a es (rw (at_earlier a e.0 l) at r)) ∙ sym (sheet_in-cons e.0 e.1 es))))
     (cases_order a e.0)
 
--- a content put where it stands
-insert_entry-same : (a : ℕ) (p : Option Content) (rooms : Rooms) → Ascends rooms → room_of rooms a ≡ Some p → insert_entry nat_cmp rooms a p ≡ rooms
-insert_entry-same a p [] h r = cc
-insert_entry-same a p (e ∷ es) h r =
-    ⊎_elim (λ q. let n : room_of (e ∷ es) a ≡ Some e.1 = rw (is_at_equal a e.0 q) refl in
-    let s : e.1 ≡ p = cc in rw (cmp_equal a e.0 q) (ap (λ (o : Option Content). (e.0, o) ∷ es) (sym s)))
-    (⊎_elim (λ l. let n : room_of (e ∷ es) a ≡ None = lookup_after a (e ∷ es) (l, come_after_earlier a e.0 es l h.0) in cc)
-    (λ l. rw (cmp_after a e.0 l) (ap (λ (r : Rooms). e ∷ r) (insert_entry-same a p es h.1 (rw (at_earlier a e.0 l) at r)))))
-    (cases_order a e.0)
-
--- a room that is there, or else is made, adds nothing to the sheet
-pub sheet_in-enter : (a : ℕ) (o : Option Content) (old new : Rooms) → Ascends old → new ≡ insert_entry nat_cmp old a o → o ≡ unwrap_or (room_of old a) None
-    → sheet_in new ≡ sheet_in old
-sheet_in-enter a o old new h p e = ap (λ (r : Rooms). sheet_in r) p ∙ by (room_of old a) refl e
-  where
-    by : (r : Option (Option Content)) → room_of old a ≡ r → o ≡ unwrap_or r None → sheet_in (insert_entry nat_cmp old a o) ≡ sheet_in old
-    by None n e = ap (λ (p : Option Content). sheet_in (insert_entry nat_cmp old a p)) e ∙ sheet_in-make a old n
-    by (Some x) n e = ap (λ (r : Rooms). sheet_in r) (insert_entry-same a o old h (n ∙ ap (λ (y : Option Content). Some y) (sym e)))
-
 -- a vacant room taken away takes nothing from the sheet
-pub sheet_in-release : (a : ℕ) (rooms : Rooms) → room_of rooms a ≡ Some None → sheet_in (remove_entry (is_at (nat_cmp a)) rooms) ≡ sheet_in rooms
+sheet_in-release : (a : ℕ) (rooms : Rooms) → room_of rooms a ≡ Some None → sheet_in (remove_entry (is_at (nat_cmp a)) rooms) ≡ sheet_in rooms
 sheet_in-release a [] r = refl
 sheet_in-release a (e ∷ es) r = by (is_at (nat_cmp a) e.0) e.1 r (sheet_in-release a es)
   where
@@ -213,25 +196,207 @@ length-with_content a o (e ∷ es) h =
 
 -- ---- rooms before and after
 
-pub is_at_apart : (a q : ℕ) → (q ≡ a → ⊥) → is_at (nat_cmp a) q ≡ false
+is_at_apart : (a q : ℕ) → (q ≡ a → ⊥) → is_at (nat_cmp a) q ≡ false
 is_at_apart a q h = grind (arith, nat_tests)
 
+-- two tests that don't both hold, in either order
+either_first : {X : Type 0} (b c : Bool) (x y z : X) → (b ≡ true → c ≡ true → ⊥) → cond c y (cond b x z) ≡ cond b x (cond c y z)
+either_first true true x y z n = absurd (n refl refl)
+either_first true false x y z n = refl
+either_first false c x y z n = refl
+
+turned_test : (a q : ℕ) → is_at (nat_cmp q) a ≡ is_at (nat_cmp a) q
+turned_test a q = grind (arith, nat_tests)
+
+not_both : (a b q : ℕ) → (a ≡ b → ⊥) → is_at (nat_cmp a) q ≡ true → is_at (nat_cmp q) b ≡ true → ⊥
+not_both a b q n h k = n (sym (at_same a q h) ∙ sym (at_same q b k))
+
+-- the rooms after one was made
+room_of-make : (a q : ℕ) (o : Option Content) (rooms : Rooms) → room_of rooms a ≡ None → room_of (insert_entry nat_cmp rooms a o) q ≡ cond (is_at (nat_cmp a) q) (Some o) (room_of rooms q)
+room_of-make a q o [] r = ap (λ (b : Bool). cond b (Some o) None) (turned_test a q)
+room_of-make a q o (e ∷ es) r =
+    ⊎_elim (λ p. let n : room_of (e ∷ es) a ≡ Some e.1 = rw (is_at_equal a e.0 p) refl in cc)
+    (⊎_elim (λ l. rw (cmp_before a e.0 l) (ap (λ (b : Bool). cond b (Some o) (room_of (e ∷ es) q)) (turned_test a q)))
+    (λ l. rw (cmp_after a e.0 l) (ap (λ (x : Option (Option Content)). cond (is_at (nat_cmp q) e.0) (Some e.1) x) (room_of-make a q o es (rw (at_earlier a e.0 l) at r))
+    ∙ either_first (is_at (nat_cmp a) q) (is_at (nat_cmp q) e.0) (Some o) (Some e.1) (room_of es q) (not_both a e.0 q (λ p. omega (arith, l, p))))))
+    (cases_order a e.0)
+
+no_room : (b : Bool) (q : ℕ) → room_of [] q ≡ cond b None (room_of [] q)
+no_room true q = refl
+no_room false q = refl
+
+-- the rooms after one was taken away
+room_of-release : (a q : ℕ) (rooms : Rooms) → Ascends rooms → room_of (remove_entry (is_at (nat_cmp a)) rooms) q ≡ cond (is_at (nat_cmp a) q) None (room_of rooms q)
+room_of-release a q [] h = no_room (is_at (nat_cmp a) q) q
+room_of-release a q (e ∷ es) h = at (is_at (nat_cmp a) e.0) refl (room_of-release a q es h.1)
+  where
+    here : e.0 ≡ a → (t : Bool) → is_at (nat_cmp a) q ≡ t → room_of es q ≡ cond t None (room_of (e ∷ es) q)
+    here p true k = lookup_after q es (subst (λ (b : ℕ). ComeAfter b es) (p ∙ sym (at_same a q k)) h.0)
+    here p false k = sym (ap (λ (b : Bool). cond b (Some e.1) (room_of es q)) (turned_test e.0 q ∙ ap (λ (b : ℕ). is_at (nat_cmp b) q) p ∙ k))
+
+    at : (b : Bool) → is_at (nat_cmp a) e.0 ≡ b → room_of (remove_entry (is_at (nat_cmp a)) es) q ≡ cond (is_at (nat_cmp a) q) None (room_of es q)
+        → room_of (cond b es (e ∷ remove_entry (is_at (nat_cmp a)) es)) q ≡ cond (is_at (nat_cmp a) q) None (room_of (e ∷ es) q)
+    at true k ih = here (at_same a e.0 k) (is_at (nat_cmp a) q) refl
+    at false k ih = ap (λ (x : Option (Option Content)). cond (is_at (nat_cmp q) e.0) (Some e.1) x) ih
+        ∙ either_first (is_at (nat_cmp a) q) (is_at (nat_cmp q) e.0) None (Some e.1) (room_of es q)
+        (not_both a e.0 q (λ p. let z : is_at (nat_cmp a) e.0 ≡ true = is_at_equal a e.0 p in cc))
+
+-- the rooms after another was put in the place of one
+room_of-put : (a q : ℕ) (o : Option Content) (rooms : Rooms) → (q ≡ a → ⊥) → room_of (set_value (is_at (nat_cmp a)) rooms o) q ≡ room_of rooms q
+room_of-put a q o [] n = refl
+room_of-put a q o (e ∷ es) n = at (is_at (nat_cmp a) e.0) refl (room_of-put a q o es n)
+  where
+    at : (b : Bool) → is_at (nat_cmp a) e.0 ≡ b → room_of (set_value (is_at (nat_cmp a)) es o) q ≡ room_of es q
+        → room_of (cond b ((e.0, o) ∷ es) (e ∷ set_value (is_at (nat_cmp a)) es o)) q ≡ room_of (e ∷ es) q
+    at true k ih =
+        let other : is_at (nat_cmp q) e.0 ≡ false = is_at_apart q e.0 (λ p. n (sym p ∙ at_same a e.0 k)) in
+        ap (λ (b : Bool). cond b (Some o) (room_of es q)) other ∙ sym (ap (λ (b : Bool). cond b (Some e.1) (room_of es q)) other)
+    at false k ih = ap (λ (x : Option (Option Content)). cond (is_at (nat_cmp q) e.0) (Some e.1) x) ih
+
+-- a cell that has no room then had none before
+none_before : (a q : ℕ) (o : Option Content) (rooms : Rooms) → room_of (set_value (is_at (nat_cmp a)) rooms o) q ≡ None → room_of rooms q ≡ None
+none_before a q o [] h = refl
+none_before a q o (e ∷ es) h = at (is_at (nat_cmp a) e.0) h (none_before a q o es)
+  where
+    first : (c : Bool) (x : Option Content) (y z : Option (Option Content)) → (y ≡ None → z ≡ None) → cond c (Some x) y ≡ None → cond c (Some e.1) z ≡ None
+    first true x y z k h = cc
+    first false x y z k h = k h
+
+    at : (b : Bool) → room_of (cond b ((e.0, o) ∷ es) (e ∷ set_value (is_at (nat_cmp a)) es o)) q ≡ None → (room_of (set_value (is_at (nat_cmp a)) es o) q ≡ None → room_of es q ≡ None)
+        → cond (is_at (nat_cmp q) e.0) (Some e.1) (room_of es q) ≡ None
+    at true h ih = first (is_at (nat_cmp q) e.0) o (room_of es q) (room_of es q) (λ n. n) h
+    at false h ih = first (is_at (nat_cmp q) e.0) e.1 (room_of (set_value (is_at (nat_cmp a)) es o) q) (room_of es q) ih h
+
+-- a room put where there is none
+put_nowhere : (a : ℕ) (o : Option Content) (rooms : Rooms) → room_of rooms a ≡ None → set_value (is_at (nat_cmp a)) rooms o ≡ rooms
+put_nowhere a o [] h = refl
+put_nowhere a o (e ∷ es) h = at (is_at (nat_cmp a) e.0) h (put_nowhere a o es)
+  where
+    at : (b : Bool) → cond b (Some e.1) (room_of es a) ≡ None → (room_of es a ≡ None → set_value (is_at (nat_cmp a)) es o ≡ es)
+        → cond b ((e.0, o) ∷ es) (e ∷ set_value (is_at (nat_cmp a)) es o) ≡ e ∷ es
+    at true h ih = cc
+    at false h ih = ap (λ (r : Rooms). e ∷ r) (ih h)
+
+-- rooms stay in order
+ComeAfter-release : (b a : ℕ) (rooms : Rooms) → ComeAfter b rooms → ComeAfter b (remove_entry (is_at (nat_cmp a)) rooms)
+ComeAfter-release b a [] h = tt
+ComeAfter-release b a (e ∷ es) h = at (is_at (nat_cmp a) e.0) (ComeAfter-release b a es h.1)
+  where
+    at : (t : Bool) → ComeAfter b (remove_entry (is_at (nat_cmp a)) es) → ComeAfter b (cond t es (e ∷ remove_entry (is_at (nat_cmp a)) es))
+    at true ih = h.1
+    at false ih = (h.0, ih)
+
+Ascends-release : (a : ℕ) (rooms : Rooms) → Ascends rooms → Ascends (remove_entry (is_at (nat_cmp a)) rooms)
+Ascends-release a [] h = tt
+Ascends-release a (e ∷ es) h = at (is_at (nat_cmp a) e.0) (Ascends-release a es h.1)
+  where
+    at : (t : Bool) → Ascends (remove_entry (is_at (nat_cmp a)) es) → Ascends (cond t es (e ∷ remove_entry (is_at (nat_cmp a)) es))
+    at true ih = h.1
+    at false ih = (ComeAfter-release e.0 a es h.0, ih)
+
+order_made : (a : ℕ) (o : Option Content) (rooms : Rooms) → RoomsAreInOrder rooms → RoomsAreInOrder (insert_entry nat_cmp rooms a o)
+order_made a o rooms h = order-from_Ascends _ (Ascends-insert a o rooms (Ascends-from_order rooms h))
+
+order_released : (a : ℕ) (rooms : Rooms) → RoomsAreInOrder rooms → RoomsAreInOrder (remove_entry (is_at (nat_cmp a)) rooms)
+order_released a rooms h = order-from_Ascends _ (Ascends-release a rooms (Ascends-from_order rooms h))
+
+order_put : (a : ℕ) (o : Option Content) (rooms : Rooms) → RoomsAreInOrder rooms → RoomsAreInOrder (set_value (is_at (nat_cmp a)) rooms o)
+order_put a o rooms h = subst (λ (cs : List ℕ). IsStrictlySortedBy nat_cmp cs) (sym (keys-set_value (is_at (nat_cmp a)) rooms o)) h
+
 -- a cell that has no room after a content was written had none before
-pub none_kept : (b : Bool) (x : Option (Option Content)) (w : Option Content) (y : Option (Option Content)) → x ≡ cond b (Some w) y → x ≡ None → y ≡ None
+none_kept : (b : Bool) (x : Option (Option Content)) (w : Option Content) (y : Option (Option Content)) → x ≡ cond b (Some w) y → x ≡ None → y ≡ None
 none_kept true x w y e h = cc
 none_kept false x w y e h = sym e ∙ h
 
 -- a room that is vacant after one was taken away was so before
-pub vacancy_kept : (b : Bool) (x y : Option (Option Content)) → x ≡ cond b None y → x ≡ Some None → y ≡ Some None
+vacancy_kept : (b : Bool) (x y : Option (Option Content)) → x ≡ cond b None y → x ≡ Some None → y ≡ Some None
 vacancy_kept true x y e h = cc
 vacancy_kept false x y e h = sym e ∙ h
 
 pub nothing_stands : (a : ℕ) (rooms : Rooms) → Ascends rooms → room_of rooms a ≡ None → content_of (sheet_in rooms) a ≡ None
 nothing_stands a rooms h n = content_of-sheet_in a rooms h ∙ ap (λ (o : Option (Option Content)). option_flatten o) n
 
-pub nothing_put : (a : ℕ) (o : Option Content) (rooms : Rooms) → Ascends rooms → room_of rooms a ≡ None → o ≡ None → sheet_in rooms ≡ with_content (sheet_in rooms) a o
+nothing_put : (a : ℕ) (o : Option Content) (rooms : Rooms) → Ascends rooms → room_of rooms a ≡ None → o ≡ None → sheet_in rooms ≡ with_content (sheet_in rooms) a o
 nothing_put a o rooms h n e = rw e (sym (without-nothing a (sheet_in rooms) (Ascends-sheet_in rooms h) (nothing_stands a rooms h n)))
 
 -- a room that is vacant after one was made is that one, or was so before
-pub vacancy_made : (a q : ℕ) (w : Option Content) (x y : Option (Option Content)) → x ≡ cond (is_at (nat_cmp a) q) (Some w) y → x ≡ Some None → (q ≡ a) ⊎ (y ≡ Some None)
+vacancy_made : (a q : ℕ) (w : Option Content) (x y : Option (Option Content)) → x ≡ cond (is_at (nat_cmp a) q) (Some w) y → x ≡ Some None → (q ≡ a) ⊎ (y ≡ Some None)
 vacancy_made a q w x y e h = ⊎_elim (λ p. inl p) (λ apart. inr (sym (rw (is_at_apart a q apart) at e) ∙ h)) (cases_eq q a)
+
+-- a content put in the place of what stands in a cell's room, or none put where there is no room
+pub sheet_in-put : (a : ℕ) (o : Option Content) (old new : Rooms) → RoomsAreInOrder old → HasRoomFor old (a, o) → new ≡ set_value (is_at (nat_cmp a)) old o → sheet_in new ≡ with_content (sheet_in old) a o
+sheet_in-put a o old new order room is = ap (λ (r : Rooms). sheet_in r) is ∙ by (room_of old a) refl
+  where
+    asc : Ascends old
+    asc = Ascends-from_order old order
+
+    by : (r : Option (Option Content)) → room_of old a ≡ r → sheet_in (set_value (is_at (nat_cmp a)) old o) ≡ with_content (sheet_in old) a o
+    by None n = ap (λ (r : Rooms). sheet_in r) (put_nowhere a o old n) ∙ nothing_put a o old asc n (room n)
+    by (Some p) r = sheet_in-set_value a p o old asc r
+
+-- what stood there
+pub stood_there : (a : ℕ) (o : Option Content) (r : Option (Option Content)) (rooms : Rooms) → RoomsAreInOrder rooms → r ≡ room_of rooms a → o ≡ option_flatten r → o ≡ content_of (sheet_in rooms) a
+stood_there a o r rooms order is e = e ∙ ap (λ (x : Option (Option Content)). option_flatten x) is ∙ sym (content_of-sheet_in a rooms (Ascends-from_order rooms order))
+
+-- ---- a cell's room made where it has none
+
+module _ (a : ℕ) (w : Option Content) (old new : Rooms) (vacant : w ≡ None) (is : new ≡ (if is_some (room_of old a) then old else insert_entry nat_cmp old a w)) where
+  by_room : (r : Option (Option Content)) → room_of old a ≡ r → new ≡ (if is_some r then old else insert_entry nat_cmp old a w)
+      → ((new ≡ old) × (room_of old a ≡ None → ⊥)) ⊎ ((new ≡ insert_entry nat_cmp old a None) × (room_of old a ≡ None))
+  by_room None e h = inr (h ∙ ap (λ (o : Option Content). insert_entry nat_cmp old a o) vacant, e)
+  by_room (Some x) e h = inl (h, λ n. let z : Some x ≡ None = sym e ∙ n in cc)
+
+  made_or_there : ((new ≡ old) × (room_of old a ≡ None → ⊥)) ⊎ ((new ≡ insert_entry nat_cmp old a None) × (room_of old a ≡ None))
+  made_or_there = by_room (room_of old a) refl is
+
+  pub made_sheet : sheet_in new ≡ sheet_in old
+  made_sheet = ⊎_elim (λ h. ap (λ (r : Rooms). sheet_in r) h.0) (λ h. ap (λ (r : Rooms). sheet_in r) h.0 ∙ sheet_in-make a old h.1) made_or_there
+
+  pub made_order : RoomsAreInOrder old → RoomsAreInOrder new
+  made_order order = ⊎_elim (λ h. subst (λ (r : Rooms). RoomsAreInOrder r) (sym h.0) order)
+      (λ h. subst (λ (r : Rooms). RoomsAreInOrder r) (sym h.0) (order_made a None old order)) made_or_there
+
+  pub made_vacant : (q : ℕ) → room_of new q ≡ Some None → (q ≡ a) ⊎ (room_of old q ≡ Some None)
+  made_vacant q v = ⊎_elim (λ h. inr (ap (λ (r : Rooms). room_of r q) (sym h.0) ∙ v))
+      (λ h. vacancy_made a q None (room_of new q) (room_of old q) (ap (λ (r : Rooms). room_of r q) h.0 ∙ room_of-make a q None old h.1) v) made_or_there
+
+  pub made_kept : (q : ℕ) → room_of new q ≡ None → room_of old q ≡ None
+  made_kept q n = ⊎_elim (λ h. ap (λ (r : Rooms). room_of r q) (sym h.0) ∙ n)
+      (λ h. none_kept (is_at (nat_cmp a) q) (room_of new q) None (room_of old q) (ap (λ (r : Rooms). room_of r q) h.0 ∙ room_of-make a q None old h.1) n) made_or_there
+
+  pub made_room : room_of new a ≡ None → ⊥
+  made_room n = ⊎_elim (λ h. h.1 (ap (λ (r : Rooms). room_of r a) (sym h.0) ∙ n))
+      (λ h. let z : room_of new a ≡ Some None = ap (λ (r : Rooms). room_of r a) h.0 ∙ room_of-make a a None old h.1 ∙ ap (λ (b : Bool). cond b (Some None) (room_of old a)) (at_itself a) in cc) made_or_there
+
+-- ---- a room put in the place of a cell's
+
+module _ (a : ℕ) (o : Option Content) (old new : Rooms) (is : new ≡ set_value (is_at (nat_cmp a)) old o) where
+  pub put_order : RoomsAreInOrder old → RoomsAreInOrder new
+  put_order order = subst (λ (r : Rooms). RoomsAreInOrder r) (sym is) (order_put a o old order)
+
+  pub put_length : length new ≡ length old
+  put_length = ap length is ∙ length-set_value (is_at (nat_cmp a)) old o
+
+  pub put_kept : (q : ℕ) → room_of new q ≡ None → room_of old q ≡ None
+  put_kept q n = none_before a q o old (ap (λ (r : Rooms). room_of r q) (sym is) ∙ n)
+
+  pub put_others : (q : ℕ) → (q ≡ a → ⊥) → room_of new q ≡ room_of old q
+  put_others q apart = ap (λ (r : Rooms). room_of r q) is ∙ room_of-put a q o old apart
+
+-- ---- a cell's vacant room taken away
+
+module _ (a : ℕ) (old new : Rooms) (order : RoomsAreInOrder old) (is : new ≡ remove_entry (is_at (nat_cmp a)) old) where
+  rooms_left : (q : ℕ) → room_of new q ≡ cond (is_at (nat_cmp a) q) None (room_of old q)
+  rooms_left q = ap (λ (r : Rooms). room_of r q) is ∙ room_of-release a q old (Ascends-from_order old order)
+
+  pub released_sheet : room_of old a ≡ Some None → sheet_in new ≡ sheet_in old
+  released_sheet v = ap (λ (r : Rooms). sheet_in r) is ∙ sheet_in-release a old v
+
+  pub released_order : RoomsAreInOrder new
+  released_order = subst (λ (r : Rooms). RoomsAreInOrder r) (sym is) (order_released a old order)
+
+  pub released_room : room_of new a ≡ Some None → ⊥
+  released_room v = let z : room_of new a ≡ None = rooms_left a ∙ ap (λ (b : Bool). cond b None (room_of old a)) (at_itself a) in cc
+
+  pub released_vacant : (q : ℕ) → room_of new q ≡ Some None → room_of old q ≡ Some None
+  released_vacant q v = vacancy_kept (is_at (nat_cmp a) q) (room_of new q) (room_of old q) (rooms_left q) v

@@ -1,16 +1,17 @@
 -- Laws of rooms and of the sheet in them.
 use Rattle.std.proofs.Common.{◌≡◌, ℕ, ◌+◌, ◌<◌, ◌≤◌, Bool, true, false, cond, List, [], ◌∷◌, filter, length, Option, Some, None, refl, sym, ap, ◌∙◌, subst, arith, ⊎_elim}
 use Rattle.std.specs.Option.{option_flatten}
-use Rattle.std.specs.List.{AllByRecursion}
+use Rattle.std.specs.List.{All, AllByRecursion}
 use Rattle.std.specs.Ordering.{nat_cmp}
 use Rattle.std.specs.Map.{lookup, keys_of}
 use Rattle.std.specs.BTreeMap.{is_at}
 use Rattle.std.proofs.lemmas.Bool.{cases_order}
+use Rattle.std.proofs.lemmas.List.Elements.{All-head, All-tail}
 pub use Rattle.wi_values.proofs.Order.{ComeAfter, Ascends, Ascends-from_order, order-from_Ascends}
 use Rattle.wi_values.proofs.Order.{at_itself, at_later, at_earlier, lookup_after}
 use Rattle.wi_parser.specs.Sheet.{Sheet, content_of, cells_with_formula, has_formula}
 use Rattle.wi_parser.specs.declared.content.Content.{Content}
-use Rattle.wi_store.specs.Inner.Rooms.{Rooms, sheet_in, room_of, formula_rooms, HasNoVacancy}
+use Rattle.wi_store.specs.Inner.Rooms.{Rooms, sheet_in, room_of, formula_cells, IsOccupied, HaveContents, RoomsAreInOrder, HasNoVacancy}
 
 -- ---- the sheet in rooms
 
@@ -96,6 +97,22 @@ keys-sheet_in (e ∷ es) h n =
     let o : e.1 ≡ None → ⊥ = λ p. n e.0 (room_of-here e.0 e.1 es ∙ ap (λ (o : Option Content). Some o) p) in
     keys-one_more e.0 e.1 es o (keys-sheet_in es h.1 (λ a v. n a (room_of-tail a e.0 e.1 es h.0 v)))
 
+-- where there is no room
+pub none_at_all : (rooms : Rooms) → rooms ≡ [] → RoomsAreInOrder rooms × HasNoVacancy rooms
+none_at_all rooms e = (
+  subst (λ (r : Rooms). RoomsAreInOrder r) (sym e) (order-from_Ascends {X = Option Content} [] tt),
+  λ c h. let z : room_of [] c ≡ Some None = ap (λ (r : Rooms). room_of r c) (sym e) ∙ h in cc,
+)
+
+-- each of them has a content
+pub all_occupied : (rooms : Rooms) → Ascends rooms → HasNoVacancy rooms → HaveContents rooms
+all_occupied [] h n = tt
+all_occupied (e ∷ es) h n = (by e.1 (λ p. n e.0 (room_of-here e.0 e.1 es ∙ ap (λ (o : Option Content). Some o) p)), all_occupied es h.1 (λ a v. n a (room_of-tail a e.0 e.1 es h.0 v)))
+  where
+    by : (o : Option Content) → (o ≡ None → ⊥) → IsOccupied o
+    by None n = n refl
+    by (Some x) n = tt
+
 -- ---- where some are
 
 -- the sheet is no longer than the rooms
@@ -125,6 +142,16 @@ pub no_vacancy : (rooms : Rooms) → length rooms ≤ length (sheet_in rooms) �
 no_vacancy [] l = λ a v. cc
 no_vacancy (e ∷ es) l = no_vacancy-one_more e.0 e.1 es (no_vacancy es) (omega arith)
 
+-- ---- no more rooms than cells
+
+few_after : (n a : ℕ) (rooms : Rooms) → a < n → ComeAfter a rooms → Ascends rooms → All (λ e. e.0 < n) rooms → length rooms + (a + 1) ≤ n
+few_after n a [] l c h k = omega (arith, l)
+few_after n a (e ∷ es) l c h k = omega (arith, c.0, few_after n e.0 es (All-head (λ e. e.0 < n) e es k) h.0 h.1 (All-tail (λ e. e.0 < n) e es k))
+
+pub few : (n : ℕ) (rooms : Rooms) → RoomsAreInOrder rooms → All (λ e. e.0 < n) rooms → length rooms ≤ n
+few n [] h k = omega arith
+few n (e ∷ es) h k = let o = Ascends-from_order (e ∷ es) h in omega (arith, few_after n e.0 es (All-head (λ e. e.0 < n) e es k) o.0 o.1 (All-tail (λ e. e.0 < n) e es k))
+
 -- ---- formula cells
 
 filter_same : (p q : ℕ → Bool) (cs : List ℕ) → AllByRecursion (λ c. p c ≡ q c) cs → filter p cs ≡ filter q cs
@@ -136,31 +163,14 @@ same_later : {X : Type 0} (f : Option X → Bool) (c : ℕ) (x : X) (all es : Li
 same_later f c x all [] h = tt
 same_later f c x all (e ∷ es) h = (rw (at_earlier e.0 c h.0), same_later f c x all es h.1)
 
-abbrev own_formulas : Sheet → List ℕ
-own_formulas s = keys_of (filter (λ e. has_formula (Some e.1)) s)
-
-cells_with_formula-own : (s : Sheet) → Ascends s → cells_with_formula s ≡ own_formulas s
-cells_with_formula-own [] h = refl
-cells_with_formula-own (e ∷ es) h =
-    let later : filter (λ c. has_formula (content_of (e ∷ es) c)) (keys_of es) ≡ own_formulas es =
-    filter_same _ _ (keys_of es) (same_later has_formula e.0 e.1 es es h.0) ∙ cells_with_formula-own es h.1 in
+-- of a sheet in order, those that have a formula
+pub formula_cells-all : (s : Sheet) → Ascends s → cells_with_formula s ≡ formula_cells s
+formula_cells-all [] h = refl
+formula_cells-all (e ∷ es) h =
+    let later : filter (λ c. has_formula (content_of (e ∷ es) c)) (keys_of es) ≡ formula_cells es =
+    filter_same _ _ (keys_of es) (same_later has_formula e.0 e.1 es es h.0) ∙ formula_cells-all es h.1 in
     rw (at_itself e.0, later) (by (has_formula (Some e.1)))
   where
-    by : (b : Bool) → cond b (e.0 ∷ own_formulas es) (own_formulas es) ≡ keys_of (cond b (e ∷ filter (λ e. has_formula (Some e.1)) es) (filter (λ e. has_formula (Some e.1)) es))
+    by : (b : Bool) → cond b (e.0 ∷ formula_cells es) (formula_cells es) ≡ keys_of (cond b (e ∷ filter (λ e. has_formula (Some e.1)) es) (filter (λ e. has_formula (Some e.1)) es))
     by true = refl
     by false = refl
-
-own_formulas-one_more : (c : ℕ) (o : Option Content) (es : Rooms) → own_formulas (sheet_in es) ≡ formula_rooms es → own_formulas (sheet_in ((c, o) ∷ es)) ≡ formula_rooms ((c, o) ∷ es)
-own_formulas-one_more c None es h = h
-own_formulas-one_more c (Some x) es h = by (has_formula (Some x))
-  where
-    by : (b : Bool) → keys_of (cond b ((c, x) ∷ filter (λ e. has_formula (Some e.1)) (sheet_in es)) (filter (λ e. has_formula (Some e.1)) (sheet_in es))) ≡ keys_of (cond b ((c, Some x) ∷ filter (λ e. has_formula e.1) es) (filter (λ e. has_formula e.1) es))
-    by true = ap (λ cs. c ∷ cs) h
-    by false = h
-
-own_formulas-sheet_in : (rooms : Rooms) → own_formulas (sheet_in rooms) ≡ formula_rooms rooms
-own_formulas-sheet_in [] = refl
-own_formulas-sheet_in (e ∷ es) = own_formulas-one_more e.0 e.1 es (own_formulas-sheet_in es)
-
-pub cells_with_formula-sheet_in : (rooms : Rooms) → Ascends rooms → cells_with_formula (sheet_in rooms) ≡ formula_rooms rooms
-cells_with_formula-sheet_in rooms h = cells_with_formula-own (sheet_in rooms) (Ascends-sheet_in rooms h) ∙ own_formulas-sheet_in rooms

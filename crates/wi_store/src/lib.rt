@@ -1,14 +1,11 @@
 //! The contents of a sheet, within limits, and the log of edits.
 #![tactic(auto)]
 
-mod columns;
 mod contents;
 mod fault;
 mod limits;
 mod room;
 mod rooms;
-mod search;
-mod settle;
 mod store;
 
 pub use contents::Contents;

@@ -1,21 +1,19 @@
 //! A room for what stands in one cell.
 
 ghost use Rattle.std.specs.Prelude.{◌≡◌, None, IfOk};
-ghost use Rattle.std.specs.Option.{option_copied, is_none};
-ghost use Rattle.wi_parser.specs.Sheet.{has_formula};
+ghost use Rattle.std.specs.Option.{option_copied, is_some};
 ghost use Rattle.wi_store.specs.Store.{settled};
 
-use crate::settle::settle_one;
 use std::alloc::{AllocError, Global};
 use std::marker::Model;
 use wi_parser::Content;
 use wi_values::Value;
 
-/// A room, seen as its content, or none if it is vacant. A vacant room holds the constant Empty, which is no content.
+/// A room, seen as its content, or none if it is vacant.
 #[derive(Drop)]
 pub(crate) struct Room {
-    /// Behind a box, since a map has rooms to spare.
-    held: Box<Content>,
+    /// Behind a box, since a tile has rooms to spare.
+    held: Option<Box<Content>>,
 }
 
 impl Model for Room {
@@ -29,54 +27,46 @@ impl Model for Room {
 
     ghost coded = { Prim.hlevel (codes, content.the_row.coded) };
 
-    ghost use Rattle.std.specs.Prelude.{Some};
-    ghost use Rattle.wi_store.specs.Store.{settled};
+    ghost use Rattle.std.specs.Prelude.{option_map};
 
-    ghost view = { λ r. settled (Some r.held.value) };
+    ghost view = { λ r. option_map (λ b. b.value) r.held };
 }
 
 impl Room {
-    /// A vacant room. Takes the memory of a content.
-    pub(crate) fn vacant(alloc: Global) -> Result<Room, AllocError>
-        ensures { IfOk result (λ r. r ≡ None) }
+    /// A vacant room. Takes no memory.
+    pub(crate) fn vacant() -> Room
+        ensures { result ≡ None }
     {
-        Ok(Room {
-            held: Box::new(alloc, Content::Constant(Value::Empty))?,
-        })
+        Room { held: None }
     }
 
-    /// Whether nothing stands in it.
-    pub(crate) fn is_vacant(&self) -> bool
-        ensures { result ≡ is_none self.now }
+    /// A room with a content, or a vacant one; the constant Empty is no content. Takes the memory of a content.
+    pub(crate) fn new(alloc: Global, content: Option<Content>) -> Result<Room, AllocError>
+        ensures { IfOk result (λ r. r ≡ settled content) }
     {
-        matches!(&*self.held, Content::Constant(Value::Empty))
+        match content {
+            None => Ok(Room::vacant()),
+            Some(Content::Constant(Value::Empty)) => Ok(Room::vacant()),
+            Some(content) => Ok(Room {
+                held: Some(Box::new(alloc, content)?),
+            }),
+        }
     }
 
-    /// Whether a formula stands in it.
-    pub(crate) fn has_formula(&self) -> bool
-        ensures { result ≡ has_formula self.now }
+    /// Whether it has a content.
+    pub(crate) fn has_content(&self) -> bool
+        ensures { result ≡ is_some self.now }
     {
-        matches!(&*self.held, Content::Formula(_))
+        self.held.is_some()
     }
 
     /// What stands in it.
     pub(crate) fn content(&self) -> Option<&Content>
         ensures { option_copied result ≡ self.now }
     {
-        match &*self.held {
-            Content::Constant(Value::Empty) => None,
-            content => Some(content),
+        match &self.held {
+            Some(content) => Some(&**content),
+            None => None,
         }
-    }
-
-    /// Exchanges what stands in it with a content, or none; the constant Empty is none. Takes no memory.
-    pub(crate) fn exchange(&mut self, content: &mut Option<Content>)
-        ensures put { self.new ≡ settled content.old }
-        ensures stood { content.new ≡ self.old }
-        ensures settled { settled content.new ≡ content.new }
-    {
-        let next = content.take().unwrap_or(Content::Constant(Value::Empty));
-        *content = Some(Box::replace(&mut self.held, next));
-        settle_one(content);
     }
 }

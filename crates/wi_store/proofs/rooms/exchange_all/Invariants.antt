@@ -2,9 +2,8 @@ use Rattle.std.proofs.Common.{◌≡◌, ◌++◌, length, take, drop}
 use Rattle.std.specs.List.{All}
 use Rattle.std.specs.Map.{keys_of}
 use Rattle.wi_store.specs.Store.{edited}
-use Rattle.wi_store.specs.Inner.Rooms.{sheet_in, RoomsAreInOrder, VacantOnlyAt, HasRoomFor, IsSettled}
+use Rattle.wi_store.specs.Inner.Rooms.{sheet_in, RoomsAreInOrder, VacantOnlyAt, HasRoomFor}
 use Rattle.wi_store.specs.Inner.Exchange.{stood}
-use Rattle.wi_store.specs.Inner.Columns.{HaveSameCells}
 use Rattle.wi_store.proofs.rooms.exchange_all.Given as goal
 
 abbrev pub invariant-loop-change : goal.invariant-loop-change
@@ -15,7 +14,5 @@ invariant-loop-change l = record {
   rooms : length l.rooms.entries ≡ length l.initial.rooms.entries;
   order : RoomsAreInOrder l.rooms.entries;
   room : All (HasRoomFor l.rooms.entries) l.changes;
-  settled : All IsSettled l.changes;
   vacant : VacantOnlyAt (keys_of l.changes) l.rooms.entries;
-  cells : HaveSameCells l.initial.rooms.entries l.rooms.entries;
 }

@@ -2,15 +2,11 @@ use Rattle.std.proofs.Common.{◌≡◌, ◌+◌, ◌-◌, ◌<◌, length, arit
 use Rattle.wi_store.specs.Inner.Rooms.{sheet_in}
 use Rattle.wi_store.specs.Inner.Exchange.{restored}
 use Rattle.wi_store.proofs.RoomLemmas.{Ascends-from_order}
-use Rattle.wi_store.proofs.ChangeLemmas.{restored_more, room_more, settled_more, vacant_more, keys_of-set}
-use Rattle.wi_store.proofs.ColumnRooms.{same_cells-then}
+use Rattle.wi_store.proofs.ChangeLemmas.{restored_more, room_more, vacant_more, keys_of-set}
 use Rattle.wi_store.proofs.rooms.exchange_back.Goals as goal
 
 pub exchange-requires-clause-room : goal.exchange-requires-clause-room
 exchange-requires-clause-room c = c.loop-i.invariant.room (c.loop-i.i - 1) c.index-changes-i.result (omega arith)
-
-pub exchange-requires-clause-settled : goal.exchange-requires-clause-settled
-exchange-requires-clause-settled c = c.loop-i.invariant.settled (c.loop-i.i - 1) c.index-changes-i.result (omega arith)
 
 pub loop-i-preserved : goal.loop-i-preserved
 loop-i-preserved c =
@@ -21,11 +17,9 @@ loop-i-preserved c =
           (restored (sheet_in c.args.rooms.now.entries) c.args.changes.now)
           c.loop-i.changes (c.loop-i.i - 1) c.index-changes-i.result _ below c.exchange.ensures.sheet (rw before c.loop-i.invariant.sheet);
       order = c.exchange.ensures.order;
-      room = room_more c.loop-i.changes (c.loop-i.i - 1) _ c.exchange.new.content c.loop-i.rooms.entries c.exchange.new.rooms.entries
+      room = room_more c.loop-i.changes (c.loop-i.i - 1) _ c.exchange.new.room c.loop-i.rooms.entries c.exchange.new.rooms.entries
           (Ascends-from_order c.loop-i.rooms.entries c.loop-i.invariant.order) c.exchange.ensures.kept c.exchange.ensures.stood c.loop-i.invariant.room;
-      settled = settled_more c.loop-i.changes (c.loop-i.i - 1) _ c.exchange.new.content c.exchange.ensures.settled c.loop-i.invariant.settled;
-      vacant = rw (keys_of-set c.loop-i.changes (c.loop-i.i - 1) c.index-changes-i.result c.exchange.new.content)
+      vacant = rw (keys_of-set c.loop-i.changes (c.loop-i.i - 1) c.index-changes-i.result c.exchange.new.room)
           (vacant_more c.loop-i.changes (c.loop-i.i - 1) c.index-changes-i.result c.loop-i.rooms.entries c.exchange.new.rooms.entries
           below c.exchange.ensures.others c.loop-i.invariant.vacant);
-      cells = same_cells-then c.args.rooms.now.entries c.loop-i.rooms.entries c.exchange.new.rooms.entries c.loop-i.invariant.cells c.exchange.ensures.cells;
     }

@@ -17,10 +17,10 @@ returns-then-is_err-clause-refused c =
     on_err_from c.admit-answer.result
     (c.exchange_back.ensures.sheet
     ∙ ap (λ (s : Sheet). restored s c.exchange_all-occupied.new.changes) c.exchange_all-occupied.ensures.sheet
-    ∙ ap (λ (es : List (ℕ × Option Content)). restored (edited (sheet_in c.make_room.new.rooms.entries) c.args.changes.now) es) c.exchange_all-occupied.ensures.stood
-    ∙ restored-stood (sheet_in c.make_room.new.rooms.entries) c.args.changes.now
-    (Ascends-sheet_in c.make_room.new.rooms.entries (Ascends-from_order c.make_room.new.rooms.entries c.make_room.ensures.order))
-    ∙ c.make_room.ensures.sheet)
+    ∙ ap (λ (es : List (ℕ × Option Content)). restored (edited (sheet_in c.make_rooms.new.rooms.entries) c.args.changes.now) es) c.exchange_all-occupied.ensures.stood
+    ∙ restored-stood (sheet_in c.make_rooms.new.rooms.entries) c.args.changes.now
+    (Ascends-sheet_in c.make_rooms.new.rooms.entries (Ascends-from_order c.make_rooms.new.rooms.entries c.make_rooms.ensures.order))
+    ∙ c.make_rooms.ensures.sheet)
 
 pub exchange_back-requires-clause-only : goal.exchange_back-requires-clause-only
 exchange_back-requires-clause-only c = search rules

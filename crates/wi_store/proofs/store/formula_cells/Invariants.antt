@@ -1,7 +1,7 @@
 use Rattle.std.proofs.Common.{◌≡◌, ◌++◌}
-use Rattle.wi_store.specs.Inner.Rooms.{formula_rooms}
+use Rattle.wi_store.specs.Inner.Rooms.{formula_cells}
 use Rattle.wi_store.proofs.store.formula_cells.Given as goal
 
 -- what was found, with what is still to come, is all
 abbrev pub invariant-loop-cell : goal.invariant-loop-cell
-invariant-loop-cell l = l.found.items ++ formula_rooms l.cell-iterator ≡ formula_rooms l.rooms.entries
+invariant-loop-cell l = l.found.items ++ formula_cells l.cell-iterator ≡ formula_cells l.initial.cell-iterator

@@ -1,13 +1,11 @@
-use Rattle.wi_store.proofs.ContentsLemmas.{all_to_come, ends_from}
+use Rattle.std.proofs.Common.{Some, ap, ◌∙◌}
+use Rattle.wi_store.specs.Store.{is_ahead}
+use Rattle.wi_store.specs.Inner.Rooms.{sheet_in}
+use Rattle.wi_store.proofs.ContentsLemmas.{those_have, sheet_in-filter}
 use Rattle.wi_store.proofs.contents.Contents.new.Goals as goal
 
 pub invariant_of-result : goal.invariant_of-result
-invariant_of-result c = (
-  c.requires.order,
-  c.requires.full,
-  c.requires.columns,
-  ends_from c.args.from c.args.rooms.now.entries c.range.result c.requires.order (c.range.ensures.between tt),
-)
+invariant_of-result c = those_have (is_ahead c.args.area (Some c.args.from)) c.args.rooms.now.entries c.within.result c.requires.order c.requires.full c.within.ensures
 
 pub returns : goal.returns
-returns c = all_to_come c.args.area c.args.from c.args.rooms.now.entries c.range.result (c.range.ensures.between tt)
+returns c = ap sheet_in c.within.ensures ∙ sheet_in-filter (is_ahead c.args.area (Some c.args.from)) c.args.rooms.now.entries

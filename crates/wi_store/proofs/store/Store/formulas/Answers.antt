@@ -1,11 +1,12 @@
-use Rattle.std.proofs.Common.{◌≡◌, ◌∙◌, ℕ, List, IfOk, sym, ap, subst}
-use Rattle.wi_parser.specs.Sheet.{cells_with_formula}
+use Rattle.std.proofs.Common.{◌≡◌, ◌∙◌, ℕ, List, IfOk, ap, subst}
+use Rattle.wi_store.specs.Inner.Rooms.{formula_cells}
 use Rattle.wi_store.specs.Store.{Stored}
-use Rattle.wi_store.proofs.RoomLemmas.{Ascends-from_order, cells_with_formula-sheet_in}
+use Rattle.wi_store.proofs.ContentsLemmas.{formulas_of}
 use Rattle.wi_store.proofs.store.Store.formulas.Goals as goal
 
 pub returns : goal.returns
 returns c =
-    let rooms = c.self.inside.rooms.entries in
-    let same = sym (cells_with_formula-sheet_in rooms (Ascends-from_order rooms c.self.invariant.0)) ∙ ap (λ (s : Stored). cells_with_formula s.sheet) c.self.view_is in
-    subst (λ (cs : List ℕ). IfOk c.formula_cells.result (λ found. found.items ≡ cs)) same c.formula_cells.ensures
+    subst (λ (cs : List ℕ). IfOk c.formula_cells.result (λ found. found.items ≡ cs))
+    (ap formula_cells c.all.ensures ∙ ap (λ (s : Stored). formula_cells s.sheet) c.self.view_is
+    ∙ formulas_of c.self.inside.rooms.entries c.args.self.now.sheet c.self.invariant.0 (ap (λ (s : Stored). s.sheet) c.self.view_is))
+    c.formula_cells.ensures

@@ -1,5 +1,9 @@
 use Rattle.std.proofs.Common.{rules}
+use Rattle.wi_store.proofs.RoomLemmas.{none_at_all}
 use Rattle.wi_store.proofs.store.Store.new.Goals as goal
 
 pub returns-clause-edits : goal.returns-clause-edits
 returns-clause-edits c = search rules
+
+pub invariant_of-result : goal.invariant_of-result
+invariant_of-result c = none_at_all c.new.result.entries c.new.ensures

@@ -1,11 +1,12 @@
 use Rattle.std.proofs.Common.{ap, rules}
 use Rattle.wi_store.specs.Store.{Stored}
-use Rattle.wi_store.proofs.NextRoom.{cell_of, sought_in, stands_in}
+use Rattle.wi_store.proofs.NextRoom.{sought_in, stands_in}
 use Rattle.wi_store.proofs.store.Store.next_content.Goals as goal
 
 pub returns-in-Some-content-clause-cell : goal.returns-in-Some-content-clause-cell
 returns-in-Some-content-clause-cell c =
-    sought_in c.args.area c.args.from c.self.inside.rooms.entries c.args.self.now.sheet (cell_of c.next_room.result) _ c.self.invariant.0 c.self.invariant.1 (ap (λ (s : Stored). s.sheet) c.self.view_is) c.next_room.ensures.cell (search rules)
+    sought_in c.args.area c.args.from c.self.inside.rooms.entries c.args.self.now.sheet _ c.self.invariant.0 c.self.invariant.1
+    (ap (λ (s : Stored). s.sheet) c.self.view_is) (search rules)
 
 pub returns-in-Some-content-clause-content : goal.returns-in-Some-content-clause-content
 returns-in-Some-content-clause-content c =
@@ -13,4 +14,5 @@ returns-in-Some-content-clause-content c =
 
 pub returns-in-None-clause-cell : goal.returns-in-None-clause-cell
 returns-in-None-clause-cell c =
-    sought_in c.args.area c.args.from c.self.inside.rooms.entries c.args.self.now.sheet (cell_of c.next_room.result) _ c.self.invariant.0 c.self.invariant.1 (ap (λ (s : Stored). s.sheet) c.self.view_is) c.next_room.ensures.cell (ap cell_of c.in-None.is)
+    sought_in c.args.area c.args.from c.self.inside.rooms.entries c.args.self.now.sheet _ c.self.invariant.0 c.self.invariant.1
+    (ap (λ (s : Stored). s.sheet) c.self.view_is) (search rules)

@@ -1,8 +1,9 @@
-use Rattle.std.proofs.Common.{rules}
+use Rattle.std.proofs.Common.{ap}
+use Rattle.wi_store.specs.Store.{Stored}
+use Rattle.wi_store.proofs.NextRoom.{sought_in}
 use Rattle.wi_store.proofs.store.Store.next_occupied.Goals as goal
 
-pub returns-in-Some : goal.returns-in-Some
-returns-in-Some c = search rules
-
-pub returns-in-None : goal.returns-in-None
-returns-in-None c = search rules
+pub returns : goal.returns
+returns c =
+    sought_in c.args.area c.args.from c.self.inside.rooms.entries c.args.self.now.sheet c.next_in.result c.self.invariant.0 c.self.invariant.1
+    (ap (λ (s : Stored). s.sheet) c.self.view_is) c.next_in.ensures

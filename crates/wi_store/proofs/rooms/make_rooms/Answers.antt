@@ -3,13 +3,12 @@ use Rattle.std.proofs.lemmas.Result.{IfOk-at_ok}
 use Rattle.wi_store.specs.Inner.Rooms.{HasRoomFor}
 use Rattle.wi_store.proofs.RoomLemmas.{Ascends-from_order, length-sheet_in-le, length-made}
 use Rattle.wi_store.proofs.ChangeLemmas.{vacant_none, vacant_more_made, room_more_made}
-use Rattle.wi_store.proofs.rooms.make_room.Goals as goal
+use Rattle.wi_store.proofs.rooms.make_rooms.Goals as goal
 
 pub loop-at-init : goal.loop-at-init
 loop-at-init c = record {
   sheet = refl;
   order = c.requires.order;
-  columns = c.requires.columns;
   vacant = vacant_none _ c.args.rooms.now.entries c.requires.full;
   room = λ k d l. absurd (omega arith);
 }
@@ -25,7 +24,6 @@ loop-at-preserved c =
     record {
       sheet = c.make_one.ensures.sheet ∙ c.loop-at.invariant.sheet;
       order = c.make_one.ensures.order c.loop-at.invariant.order;
-      columns = c.make_one.ensures.columns c.loop-at.invariant.columns;
       vacant = vacant_more_made c.args.changes.now c.loop-at.at-index c.loop-at-item.result c.loop-at.rooms.entries c.make_one.new.rooms.entries
           below c.loop-at-item.is c.make_one.ensures.vacant c.loop-at.invariant.vacant;
       room = room_more_made c.args.changes.now c.loop-at.at-index c.loop-at-item.result c.loop-at.rooms.entries c.make_one.new.rooms.entries

@@ -2,14 +2,12 @@ use Rattle.std.proofs.Common.{◌≡◌, ℕ, ◌<◌, get_or, Option}
 use Rattle.std.specs.Map.{keys_of}
 use Rattle.wi_parser.specs.declared.content.Content.{Content}
 use Rattle.wi_store.specs.Inner.Rooms.{sheet_in, RoomsAreInOrder, VacantOnlyAt, HasRoomFor}
-use Rattle.wi_store.specs.Inner.Columns.{HasCellsOf}
-use Rattle.wi_store.proofs.rooms.make_room.Given as goal
+use Rattle.wi_store.proofs.rooms.make_rooms.Given as goal
 
 abbrev pub invariant-loop-at : goal.invariant-loop-at
 invariant-loop-at l = record {
   sheet : sheet_in l.rooms.entries ≡ sheet_in l.initial.rooms.entries;
   order : RoomsAreInOrder l.rooms.entries;
-  columns : HasCellsOf l.rooms.entries l.columns;
   vacant : VacantOnlyAt (keys_of l.changes) l.rooms.entries;
   room : (k : ℕ) (d : ℕ × Option Content) → k < l.at-index → HasRoomFor l.rooms.entries (get_or l.changes k d);
 }

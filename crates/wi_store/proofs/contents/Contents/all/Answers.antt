@@ -1,0 +1,10 @@
+use Rattle.std.proofs.Common.{ap}
+use Rattle.wi_store.specs.Inner.Rooms.{sheet_in}
+use Rattle.wi_store.proofs.ContentsLemmas.{all_have}
+use Rattle.wi_store.proofs.contents.Contents.all.Goals as goal
+
+pub invariant_of-result : goal.invariant_of-result
+invariant_of-result c = all_have c.args.rooms.now.entries c.iter.result c.requires.order c.requires.full c.iter.ensures.entries
+
+pub returns : goal.returns
+returns c = ap sheet_in c.iter.ensures.entries
