@@ -93,18 +93,28 @@ window_up at f ts s nothing p = ⊎_elim
     (λ l. ap (λ x. at_part at x (p / span)) (part_here f (ts ++ s ∷ []) (p % span) l) ∙ more_at at ts s (p % span - f) (p / span) nothing ∙ sym (ap (λ x. at_part at x (p / span)) (part_here f ts (p % span) l)))
     (cases_lt (p % span) f)
 
--- and one before the first
-pub window_down : {S V : Type 0} (at : S → ℕ → Option V) (f : ℕ) (ts : List S) (s : S) → 0 < f → ((p : ℕ) → at s p ≡ None) → (p : ℕ) → at_window at (f - 1, s ∷ ts) p ≡ at_window at (f, ts) p
-window_down at f ts s pos nothing p = ⊎_elim below above (cases_lt (p % span) f)
-  where
-    below : p % span < f → at_window at (f - 1, s ∷ ts) p ≡ at_window at (f, ts) p
-    below l = ⊎_elim
-        (λ m. ap (λ x. at_part at x (p / span)) (part_before (f - 1) (s ∷ ts) (p % span) m ∙ sym (part_before f ts (p % span) l)))
-        (λ m. ap (λ x. at_part at x (p / span)) (part_here (f - 1) (s ∷ ts) (p % span) m ∙ ap (λ j. slice_get (s ∷ ts) j) (let z : (p % span) - (f - 1) ≡ 0 = omega (arith, l, m) in z)) ∙ nothing (p / span) ∙ sym (ap (λ x. at_part at x (p / span)) (part_before f ts (p % span) l)))
-        (cases_lt (p % span) (f - 1))
+-- and those before the first
+get_front : {S : Type 0} (vs ts : List S) (i : ℕ) → i < length vs → slice_get (vs ++ ts) i ≡ slice_get vs i
+get_front [] ts i l = absurd (omega arith)
+get_front (v ∷ vs) ts zero l = refl
+get_front (v ∷ vs) ts (suc i) l = get_front vs ts i (omega arith)
 
-    above : f ≤ p % span → at_window at (f - 1, s ∷ ts) p ≡ at_window at (f, ts) p
-    above l = ap (λ x. at_part at x (p / span)) (part_here (f - 1) (s ∷ ts) (p % span) (omega (arith, l)) ∙ ap (λ j. slice_get (s ∷ ts) j) (let z : (p % span) - (f - 1) ≡ suc ((p % span) - f) = omega (arith, l, pos) in z) ∙ sym (part_here f ts (p % span) l))
+get_behind : {S : Type 0} (vs ts : List S) (i j : ℕ) → i ≡ length vs + j → slice_get (vs ++ ts) i ≡ slice_get ts j
+get_behind [] ts i j is = ap (λ k. slice_get ts k) (let z : i ≡ j = omega (arith, is) in z)
+get_behind (v ∷ vs) ts zero j is = absurd (omega arith)
+get_behind (v ∷ vs) ts (suc i) j is = get_behind vs ts i j (omega arith)
+
+pub window_before : {S V : Type 0} (at : S → ℕ → Option V) (k f : ℕ) (vs ts : List S) → k + length vs ≡ f → ((p : ℕ) → at_window at (k, vs) p ≡ None) → (p : ℕ) → at_window at (k, vs ++ ts) p ≡ at_window at (f, ts) p
+window_before at k f vs ts is nothing p = ⊎_elim below above (cases_lt (p % span) f)
+  where
+    below : p % span < f → at_window at (k, vs ++ ts) p ≡ at_window at (f, ts) p
+    below l = ⊎_elim
+        (λ m. ap (λ x. at_part at x (p / span)) (part_before k (vs ++ ts) (p % span) m ∙ sym (part_before f ts (p % span) l)))
+        (λ m. ap (λ x. at_part at x (p / span)) (part_here k (vs ++ ts) (p % span) m ∙ get_front vs ts (p % span - k) (omega (arith, is, l, m)) ∙ sym (part_here k vs (p % span) m)) ∙ nothing p ∙ sym (ap (λ x. at_part at x (p / span)) (part_before f ts (p % span) l)))
+        (cases_lt (p % span) k)
+
+    above : f ≤ p % span → at_window at (k, vs ++ ts) p ≡ at_window at (f, ts) p
+    above l = ap (λ x. at_part at x (p / span)) (part_here k (vs ++ ts) (p % span) (omega (arith, is, l)) ∙ get_behind vs ts (p % span - k) (p % span - f) (omega (arith, is, l)) ∙ sym (part_here f ts (p % span) l))
 
 -- where there are no parts, any may be the first
 none_from : {S : Type 0} (f i : ℕ) → part_from {S = S} (f, []) i ≡ None

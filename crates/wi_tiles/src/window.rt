@@ -1,6 +1,6 @@
 //! Parts by their index, from a first one on.
 
-ghost use Rattle.std.specs.Prelude.{◌≡◌, ◌<◌, ◌≤◌, ◌+◌, ◌-◌, ◌*◌, ◌%◌, ◌==◌, ◌++◌, ◌∷◌, [], ℕ, List, length, Some, None, IfSome, IfNone, IsTrue, OnOk, OnErr, option_copied, option_map, if◌then◌else◌};
+ghost use Rattle.std.specs.Prelude.{◌≡◌, ◌<◌, ◌≤◌, ◌+◌, ◌-◌, ◌*◌, ◌%◌, ◌==◌, ◌++◌, ◌∷◌, [], ℕ, List, length, Some, None, IfSome, IfNone, IsTrue, IfOk, OnOk, OnErr, option_copied, option_map, if◌then◌else◌};
 ghost use Rattle.wi_tiles.specs.Inner.Parts.{part_from, at_window, span};
 
 use crate::places::{Places, room_for_first};
@@ -137,11 +137,46 @@ fn reach_down<V, T: Places<V> + Drop>(
         *first = index;
         return Ok(());
     }
-    'down: while index < *first {
-        parts.insert(0, T::vacant(alloc))?;
-        *first -= 1;
+    if index < *first {
+        put_before(*first, index, parts, alloc)?;
+        *first = index;
     }
     Ok(())
+}
+
+/// Puts parts with nothing before the first, from an index on. All move once. If memory runs out, all is as before.
+#[inline(never)]
+fn put_before<V, T: Places<V> + Drop>(
+    first: usize,
+    index: usize,
+    parts: &mut Vec<T>,
+    alloc: Global,
+) -> Result<(), AllocError>
+    requires { index < first }
+    ensures ok { OnOk result ((p : ℕ) → at_window T.at (index, parts.new.items) p ≡ at_window T.at (first, parts.old.items) p) }
+    ensures err { OnErr result (parts.new.items ≡ parts.old.items) }
+{
+    let mut all = vacant_from(index, first - index, parts.len(), alloc)?;
+    all.append(parts)?;
+    *parts = all;
+    Ok(())
+}
+
+/// So many parts with nothing, from an index on, and room for more.
+fn vacant_from<V, T: Places<V> + Drop>(
+    index: usize,
+    count: usize,
+    more: usize,
+    alloc: Global,
+) -> Result<Vec<T>, AllocError>
+    ensures count { IfOk result (λ made. length made.items ≡ count) }
+    ensures vacant { IfOk result (λ made. (p : ℕ) → at_window T.at (index, made.items) p ≡ None) }
+{
+    let mut made = Vec::with_capacity(alloc, count.saturating_add(more))?;
+    'more: while made.len() < count {
+        push_vacant(index, &mut made, alloc)?;
+    }
+    Ok(made)
 }
 
 /// Sees to it that a part stands. If memory runs out, each place has what it had.
