@@ -276,6 +276,9 @@ pub none_told : (all vacant : List ℕ) (at : ℕ) (s : Bool) → s ≡ is_liste
 none_told all vacant at s e f =
     f ∙ sym (listed_filter (λ c. not (is_listed vacant c)) all at ∙ ap (λ b. b && not (is_listed vacant at)) (sym e ∙ f))
 
+pub none_listed : {X : Type 0} (es : List (ℕ × X)) → es ≡ [] → keys_of es ≡ []
+none_listed es e = ap (λ ds. keys_of ds) e
+
 pub none_in_order : (ks : List ℕ) → ks ≡ [] → IsStrictlySortedBy nat_cmp ks
 unfolding IsStrictlySortedBy
 none_in_order ks e = rw e tt

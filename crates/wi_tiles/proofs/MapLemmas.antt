@@ -1,6 +1,6 @@
 -- The entries of all pages, after a change of one path.
-use Rattle.std.proofs.Common.{◌≡◌, ℕ, ◌+◌, ◌<◌, ◌≤◌, [], length, Option, Some, None, sym, ap, arith, ◌∙◌, ⊎_elim, cond, refl, true, false}
-use Rattle.std.specs.Prelude.{Bool, ◌==◌, if◌then◌else◌, option_map, nat_le, filter, IfSome, IfNone, is_some, not}
+use Rattle.std.proofs.Common.{◌≡◌, ℕ, ◌+◌, ◌<◌, ◌≤◌, List, [], ◌∷◌, length, Option, Some, None, sym, ap, arith, ◌∙◌, ⊎_elim, cond, refl, true, false}
+use Rattle.std.specs.Prelude.{Bool, ◌↔◌, IsTrue, ◌==◌, if◌then◌else◌, option_map, nat_le, filter, IfSome, IfNone, is_some, not}
 use Rattle.std.specs.Borrow.{Bor}
 use Rattle.std.specs.Int.{from_bool}
 use Rattle.std.specs.Ordering.{nat_cmp}
@@ -10,7 +10,7 @@ use Rattle.std.specs.Map.{keys_of, remove_entry, set_value}
 use Rattle.std.specs.BTreeMap.{is_at, insert_entry}
 use Rattle.wi_tiles.specs.Entries.{get, IsOrdered}
 use Rattle.std.proofs.lemmas.Bool.{cases_eq, and_parts}
-use borrow.Author.Tests.{eq-eqb, ne_eqb}
+use borrow.Author.Tests.{eq-eqb, eq-true, eqb-true, ne_eqb}
 use Rattle.wi_values.specs.Address.{Area, is_within}
 use Rattle.wi_tiles.specs.Inner.Cells.{Pages, path_of, at_cell, is_ahead}
 use Rattle.wi_tiles.specs.Inner.Entries.{cells, entries_of, map_of}
@@ -146,3 +146,13 @@ first_is w area from (Some x) some within none = sym (next_is w area from x.0 wi
 pub first_has : {V : Type 0} (w : Pages V) (area : Area) (from : ℕ) (o : Option (ℕ × Bor V)) → IfSome o (λ x. IsNext w area from x.0 × (at_cell w x.0 ≡ Some x.1.now)) → IfSome o (λ x. x.0 < 17179869184) → IfSome o (λ x. get nat_cmp (map_of (entries_of w)) x.0 ≡ Some x.1.now)
 first_has w area from None some within = tt
 first_has w area from (Some x) some within = get_is w x.0 within ∙ some.1
+-- none are counted where there are none
+pub none_counted : {X : Type 0} (n : ℕ) (es : List X) → n ≡ length es → IsTrue (n == 0) ↔ (es ≡ [])
+none_counted n [] h = (λ t. refl, λ e. sym (eq-true n 0 h))
+none_counted {X} n (x ∷ es) h = (λ t. absurd (some_counted (eqb-true n 0 t)), λ e. absurd (some_listed e))
+  where
+    some_counted : n ≡ 0 → ⊥
+    some_counted z = omega (arith, h, z)
+
+    some_listed : x ∷ es ≡ [] → ⊥
+    some_listed e = grind arith
