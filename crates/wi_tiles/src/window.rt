@@ -190,6 +190,26 @@ fn reach_up<V, T: Places<V> + Drop>(
     ensures within { OnOk result (place < length parts.new.items) }
     ensures kept { (p : ℕ) → at_window T.at (first, parts.new.items) p ≡ at_window T.at (first, parts.old.items) p }
 {
+    if parts.len() <= place {
+        return lengthen(first, parts, place, alloc);
+    }
+    Ok(())
+}
+
+/// The same, where it doesn't stand. Room for all is taken at once.
+#[inline(never)]
+fn lengthen<V, T: Places<V> + Drop>(
+    first: usize,
+    parts: &mut Vec<T>,
+    place: usize,
+    alloc: Global,
+) -> Result<(), AllocError>
+    requires { place < span }
+    ensures within { OnOk result (place < length parts.new.items) }
+    ensures kept { (p : ℕ) → at_window T.at (first, parts.new.items) p ≡ at_window T.at (first, parts.old.items) p }
+{
+    room_for_first(parts)?;
+    parts.reserve((place + 1).saturating_sub(parts.len()))?;
     'up: while parts.len() <= place {
         push_vacant(first, parts, alloc)?;
     }
@@ -205,7 +225,6 @@ fn push_vacant<V, T: Places<V> + Drop>(
     ensures longer { OnOk result (length parts.new.items ≡ length parts.old.items + 1) }
     ensures kept { (p : ℕ) → at_window T.at (first, parts.new.items) p ≡ at_window T.at (first, parts.old.items) p }
 {
-    room_for_first(parts)?;
     parts.push(T::vacant(alloc))?;
     Ok(())
 }
