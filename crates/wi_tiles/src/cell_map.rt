@@ -114,7 +114,7 @@ impl<V: Drop> CellMap<V> {
     pub fn clear(&mut self)
         ensures { self.new.entries ≡ [] }
     {
-        self.pages = Window::vacant(self.alloc);
+        self.pages.clear();
         self.occupied = 0;
     }
 

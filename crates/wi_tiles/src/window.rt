@@ -55,6 +55,15 @@ impl<T> Window<T> {
     }
 }
 
+impl<T: Drop> Window<T> {
+    /// Takes all parts away, and keeps the room for them.
+    pub fn clear(&mut self)
+        ensures { self.new.1 ≡ [] }
+    {
+        self.parts.clear();
+    }
+}
+
 impl<V: Drop, T: Places<V> + Drop> Places<V> for Window<T> {
     ghost use Rattle.std.specs.Prelude.{◌*◌};
     ghost use Rattle.wi_tiles.specs.Inner.Parts.{at_window, span};
