@@ -1,5 +1,3 @@
 pub mod Callers
 pub mod Keeping
 pub mod Keys
-pub mod Looking
-pub mod Putting

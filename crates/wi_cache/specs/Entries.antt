@@ -1,9 +1,8 @@
 -- Values by keys.
-use Rattle.std.specs.Prelude.{◌≡◌, ℕ, ◌+◌, ◌<◌, ◌≤◌, ◌⊎◌, Bool, List, length, min, Option, Some, None, IsSome, is_some, nat_lt, refl, if◌then◌else◌}
+use Rattle.std.specs.Prelude.{◌≡◌, ℕ, ◌+◌, ◌-◌, ◌<◌, ◌≤◌, ◌⊎◌, Bool, List, ◌∷◌, ◌++◌, length, take, drop, reverse, slice_get, min, Option, Some, None, IsSome, is_some, nat_lt, refl, if◌then◌else◌}
 use Rattle.std.specs.List.{IsDistinct}
 use Rattle.std.specs.Map.{keys_of, lookup, update}
 use Rattle.std.specs.Coded.{Coded, code_by, coded×, coded_list, coded_ℕ}
-use Rattle.lru.specs.LruCache.{last_entry}
 use Rattle.wi_values.specs.declared.value.Value.{Value}
 use Rattle.wi_cache.specs.declared.key.Key.{Key}
 use Rattle.wi_cache.specs.contracts.key.KeyPartialEq.TheImpl as equality
@@ -49,17 +48,33 @@ kept es n = record { entries = es; capacity = n }
 abbrev pub kept_code : Coded Key → Coded Value → Coded KeptValues
 kept_code k v = code_by (Entries × ℕ) (coded× (coded_list (coded× k v)) coded_ℕ) (λ m. (m.entries, m.capacity)) (λ p. kept p.0 p.1) (λ _. refl)
 
--- what holds of kept values at any time
-abbrev pub IsKept : KeptValues → Type 0
-IsKept m = HasOneEach m.entries × (length m.entries ≤ m.capacity) × (1 ≤ m.capacity)
+-- what stands in a circle, of which the one at a place came first, then those behind it, and then those before it: the last that came first
+abbrev pub latest : {X : Type 0} → ℕ → List X → List X
+latest oldest xs = reverse (drop oldest xs ++ take oldest xs)
+
+-- the place behind another of n, and behind the last of them the first
+abbrev pub place_after : ℕ → ℕ → ℕ
+place_after i n = if nat_lt (i + 1) n then i + 1 else 0
+
+-- what holds of such entries at any time: until there are as many as there may be, the first came first
+abbrev pub IsLine : Entries → ℕ → ℕ → Type 0
+IsLine es oldest n = HasOneEach es × (length es ≤ n) × (oldest < n) × (length es < n → oldest ≡ 0)
 
 -- a value for k asks for none to go: k has one, or the list isn't full
 abbrev pub HasRoom : KeptValues → Key → Type 0
 HasRoom m k = IsSome (value_for m.entries k) ⊎ (length m.entries < m.capacity)
 
+-- the entry that came first
+abbrev pub last_entry : Entries → Option (Key × Value)
+last_entry es = slice_get es (length es - 1)
+
 -- how many there are after one is kept for k
 abbrev pub len_after : KeptValues → Key → ℕ
 len_after m k = if is_some (value_for m.entries k) then length m.entries else min (length m.entries + 1) m.capacity
+
+-- the keys after one is kept for k, the latest first: one that was there stays in its place, and a new one comes before as many as there is room for
+abbrev pub keys_after : KeptValues → Key → List Key
+keys_after m k = if is_some (value_for m.entries k) then keys_of m.entries else k ∷ take (m.capacity - 1) (keys_of m.entries)
 
 -- the entry that goes where a value is kept for k: none where there is room, else the one that was kept longest ago
 abbrev pub going : KeptValues → Key → Option (Key × Value)

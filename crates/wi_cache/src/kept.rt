@@ -1,26 +1,30 @@
 //! Values that outlive a call.
 
-ghost use Rattle.std.specs.Prelude.{◌≡◌, ◌≤◌, [], length, Some, None, IfOk, OnOk, OnErr, option_map};
+ghost use Rattle.std.specs.Prelude.{◌≡◌, ◌<◌, ◌≤◌, [], length, Some, None, IfOk, OnOk, OnErr, option_map};
+ghost use Rattle.std.specs.Map.{keys_of};
 ghost use Rattle.std.specs.Map.Iter.{deref_pair};
 ghost use Rattle.std.specs.Option.{option_copied};
-ghost use Rattle.wi_cache.specs.Entries.{HasOneEach, HasRoom, Puts, PutsForGoing, PutsForOne, going, kept, len_after, value_for};
+ghost use Rattle.wi_cache.specs.Entries.{HasOneEach, HasRoom, Puts, PutsForGoing, PutsForOne, going, kept, keys_after, len_after, place_after, value_for};
 
 use crate::key::Key;
-use lru::LruCache;
+use indexmap::IndexMap;
 use std::alloc::{AllocError, Global};
 use std::marker::Model;
-use std::num::NonZeroUsize;
 use wi_values::Value;
 
 /// Values by keys, of which there are at most so many as the capacity. Where one has to go, it is the entry that was kept
 /// longest ago, however often it was looked at since: a look leaves the order as it is.
 #[derive(Drop)]
 pub struct Kept {
-    entries: LruCache<Key, Value>,
+    // A new entry goes last, and where the list is full into the place of the oldest.
+    entries: IndexMap<Key, Value>,
+    // Where the entry stands that was kept longest ago. Those behind it came after it, and then those before it.
+    oldest: usize,
+    capacity: usize,
 }
 
 impl Model for Kept {
-    ghost use Rattle.wi_cache.specs.Entries.{KeptValues, IsKept, kept, kept_code};
+    ghost use Rattle.wi_cache.specs.Entries.{KeptValues, IsLine, kept, kept_code, latest};
     ghost use Rattle.wi_cache.specs.contracts.key.Key as key;
     ghost use Rattle.wi_values.specs.contracts.value.Value as value;
 
@@ -28,9 +32,9 @@ impl Model for Kept {
 
     ghost coded = { kept_code key.the_row.coded value.the_row.coded };
 
-    ghost view = { λ k. kept k.entries.entries k.entries.cap };
+    ghost view = { λ k. kept (latest k.oldest k.entries.entries) k.capacity };
 
-    ghost invariant = { λ k. IsKept (kept k.entries.entries k.entries.cap) };
+    ghost invariant = { λ k. IsLine k.entries.entries k.oldest k.capacity };
 }
 
 impl Kept {
@@ -39,20 +43,18 @@ impl Kept {
         requires { 1 ≤ capacity }
         ensures { IfOk result (λ k. k ≡ kept [] capacity) }
     {
-        let capacity = NonZeroUsize::new(capacity).unwrap();
-        let entries = LruCache::sparse(alloc, capacity)?;
-        Ok(Kept { entries })
+        Ok(Kept {
+            entries: IndexMap::new(alloc),
+            oldest: 0,
+            capacity,
+        })
     }
 
-    /// The value that is kept for a key. Expected constant time, beside the hash of the key, which isn't taken where the
-    /// key is the one that was kept last.
+    /// The value that is kept for a key. Expected constant time, beside the hash of the key.
     pub fn look(&self, key: &Key) -> Option<&Value>
         ensures { option_copied result ≡ value_for self.now.entries key.now }
     {
-        match self.entries.peek_mru() {
-            Some((last, value)) if key == last => Some(value),
-            _ => self.entries.peek(key),
-        }
+        self.entries.get(key)
     }
 
     /// The entry that goes where a value is kept for a key: none where there is room, and else the one that was kept
@@ -60,29 +62,33 @@ impl Kept {
     pub fn going(&self, key: &Key) -> Option<(&Key, &Value)>
         ensures { option_map deref_pair result ≡ going self.now key.now }
     {
-        if self.entries.len() < self.entries.cap().get() {
+        if self.entries.len() < self.capacity {
             return None;
         }
-        if self.entries.contains(key) {
+        if self.entries.contains_key(key) {
             return None;
         }
-        self.entries.peek_lru()
+        self.entries.get_index(self.oldest)
     }
 
     /// Keeps a value for a key, in the place of an earlier one. A new key that comes to a full list takes the place of
     /// the one that was kept longest ago. If memory runs out, all stays as it was. Expected constant time over many
     /// calls, beside the hash of the key.
-    #[tactic(auto, using(crate::proofs::Keeping::keeping))]
     pub fn keep(&mut self, key: Key, value: Value) -> Result<(), AllocError>
         ensures found { OnOk result (value_for self.new.entries key ≡ Some value) }
         ensures stays { OnOk result (HasRoom self.old key → Puts self.old.entries self.new.entries key value) }
         ensures one_goes { OnOk result (value_for self.old.entries key ≡ None → self.old.capacity ≤ length self.old.entries → PutsForOne self.old.entries self.new.entries key value) }
         ensures going { OnOk result (PutsForGoing self.old self.new key value) }
+        ensures order { OnOk result (keys_of self.new.entries ≡ keys_after self.old key) }
         ensures len { OnOk result (length self.new.entries ≡ len_after self.old key) }
         ensures capacity { self.new.capacity ≡ self.old.capacity }
         ensures err { OnErr result (self.new ≡ self.old) }
     {
-        self.entries.put(key, value)?;
+        self.entries.insert(key, value)?;
+        if self.entries.len() > self.capacity {
+            drop(self.entries.swap_remove_index(self.oldest));
+            self.oldest = place_after(self.oldest, self.capacity);
+        }
         Ok(())
     }
 
@@ -94,4 +100,12 @@ impl Kept {
     {
         self.entries.len()
     }
+}
+
+/// The place behind another of so many, and behind the last of them the first.
+fn place_after(place: usize, count: usize) -> usize
+    requires { place < count }
+    ensures { result ≡ place_after place count }
+{
+    if place + 1 < count { place + 1 } else { 0 }
 }
