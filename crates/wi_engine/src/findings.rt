@@ -53,6 +53,7 @@ impl Findings {
     }
 
     /// Takes the values away. Arrays keep their memory. The work grows with the count of values.
+    #[inline(always)]
     pub fn clear(&mut self)
         ensures cells { (c : ℕ) → found_value self.new c ≡ None }
         ensures what_ifs { self.new.what_ifs.items ≡ [] }
@@ -79,6 +80,7 @@ impl Findings {
     }
 
     /// The value found of a cell. The work grows with the logarithm of the count of cells found.
+    #[inline(always)]
     pub fn cell(&self, at: Address) -> Option<&Value>
         ensures { option_copied result ≡ found_value self.now at }
     {
@@ -107,6 +109,7 @@ impl Findings {
     }
 
     /// Adds the value of a cell of which none was found. The work grows with the logarithm of the count of cells found.
+    #[inline(always)]
     pub fn add_cell(&mut self, at: Address, value: Value) -> Result<(), AllocError>
         requires { found_value self.old at ≡ None }
         ensures ok { OnOk result (IsWithCell self.old self.new at value) }

@@ -87,6 +87,7 @@ impl<'a> Frame<'a> {
     }
 
     /// The key, where the frame is done. Its arrays are put into a pool, or go. The work is that of `Pool::put`.
+    #[inline(always)]
     pub fn retire(self, pool: &mut Pool) -> Key
         ensures { result ≡ self.entry.key }
     {

@@ -58,6 +58,7 @@ impl Pool {
 
     /// Puts arrays in, without what is in them. They go where there are many already or they are large, and where memory
     /// runs out. The work grows with the count of what is in them; the list may take memory for more.
+    #[inline(always)]
     pub(crate) fn put(&mut self, mut arrays: Arrays) {
         if self.kept.len() < MAX_KEPT && arrays.are_small() {
             arrays.found.clear();
