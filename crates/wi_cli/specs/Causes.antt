@@ -8,10 +8,10 @@ use Rattle.wi_parser.specs.declared.fault.ParseFault.TheVariants as parse
 use Rattle.wi_parser.specs.Contents.{IsContent}
 use Rattle.wi_import.specs.Fields.{IsInside}
 use Rattle.wi_edit_log.specs.EditLog.{first_stale}
-use Rattle.wi_scenario_list.specs.Scenarios.{has_scenario, chain, is_full}
+use Rattle.wi_scenario_list.specs.Scenarios.{has_scenario, is_full}
 use Rattle.wi_sessions.specs.Sessions.{has_session, max_sessions}
 use Rattle.wi_scenarios.specs.State.{State, max_area}
-use Rattle.wi_scenarios.specs.Views.{current_session}
+use Rattle.wi_scenarios.specs.Views.{current_session, chain_of}
 use Rattle.wi_cli.specs.Lines.{max_line, without_lf, Bytes}
 use Rattle.wi_cli.specs.Operands.{Cell, Corners, is_outside, address, area, Operand, ADDR, RECT, NAME, SIDE, ANY}
 use Rattle.wi_cli.specs.Command.{Command, Set, Clear, Fill, Csv, Scenario, Drop, Base, As, Table, Unknown, Unreadable, form}
@@ -103,7 +103,7 @@ module _ (s : State) where
   -- The edit names a stale cell, and isn't forced.
   Holds Stale c = (is_forced c ≡ false) × (stale_cell c ≢ None)
   -- OTHER is NAME, or is based on it at any remove.
-  Holds Loop (Base name (Some other)) = Any (λ x. x.name ≡ name) (chain s.scenarios (Some other))
+  Holds Loop (Base name (Some other)) = Any (λ x. x.name ≡ name) (chain_of s.scenarios (Some other)).0
   -- The sheet would have too many occupied cells.
   Holds Full c = (puts : List Put) × Puts s c puts × (s.stored.limits.cells < length (sheet_with s puts))
   -- There were as many edits as there may be.

@@ -2,7 +2,7 @@
 use Rattle.std.specs.Prelude.{◌≡◌, length, List, [], ◌∷◌, Some, option_map}
 use Rattle.wi_values.specs.declared.value.Value.{Value}
 use Rattle.wi_values.specs.Imported.{IsImported}
-use Rattle.wi_scenario_list.specs.Scenarios.{Scenario as Kept, scenario_for, with_scenario, without_scenario, with_own, without_own, effective}
+use Rattle.wi_scenario_list.specs.Scenarios.{Scenario as Kept, scenario_for, with_scenario, without_scenario, with_own, without_own, layered}
 use Rattle.wi_sessions.specs.Sessions.{with_session, place_of, told}
 use Rattle.wi_reports.specs.Rows.{rows_shown, export_of}
 use Rattle.wi_reports.specs.Changes.{change_records}
@@ -10,7 +10,7 @@ use Rattle.wi_reports.specs.Compare.{cells_compared}
 use Rattle.wi_reports.specs.Table.{table_of}
 use Rattle.wi_reports.specs.Contents.{content_record}
 use Rattle.wi_scenarios.specs.State.{State}
-use Rattle.wi_scenarios.specs.Views.{current_session, with_current, current_replacements}
+use Rattle.wi_scenarios.specs.Views.{current_session, with_current, current_replacements, chain_of}
 use Rattle.wi_scenarios.specs.Changes.{change_list}
 use Rattle.wi_cli.specs.Operands.{address, area}
 use Rattle.wi_cli.specs.Lines.{Bytes}
@@ -40,7 +40,7 @@ module _ (s : State) where
   Does Changes done =
       done ≡ (with_current s (told (current_session s) (change_list s) (length s.log)), change_records (change_list s))
   Does (Compare p q rect) done =
-      done ≡ (s, cells_compared s.stored.sheet (effective s.scenarios p) (effective s.scenarios q) (area rect))
+      done ≡ (s, cells_compared s.stored.sheet (layered (chain_of s.scenarios p).0) (layered (chain_of s.scenarios q).0) (area rect))
   Does (Table f r xs second) done =
       done ≡ (
         s,

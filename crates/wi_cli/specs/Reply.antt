@@ -7,7 +7,7 @@ use Rattle.wi_scenarios.specs.State.{State}
 use Rattle.wi_cli.specs.Operands.{is_outside}
 use Rattle.wi_cli.specs.Lines.{Bytes}
 use Rattle.wi_cli.specs.Command.{Command, Csv, Drop, As}
-use Rattle.wi_cli.specs.Causes.{Cause, BadField, OutOfSheet, NumberRange, TooDeep, Syntax, LeavesSheet, Stale, Full, EditLimit, order, Holds, IsFirst, stale_cell}
+use Rattle.wi_cli.specs.Causes.{Cause, OutOfSheet, NumberRange, TooDeep, Syntax, LeavesSheet, Stale, Full, EditLimit, order, Holds, IsFirst, stale_cell}
 use Rattle.wi_cli.specs.Does.{Does}
 
 -- behind the code of a stale edit a space and the cell
@@ -17,7 +17,7 @@ cell_told cause o = []
 
 -- the causes that are found only once something may have grown
 abbrev pub late : List Cause
-late = BadField ∷ OutOfSheet ∷ NumberRange ∷ TooDeep ∷ Syntax ∷ LeavesSheet ∷ Stale ∷ Full ∷ EditLimit ∷ []
+late = OutOfSheet ∷ NumberRange ∷ TooDeep ∷ Syntax ∷ LeavesSheet ∷ Stale ∷ Full ∷ EditLimit ∷ []
 
 -- E01 may stand in place of any answer but a cause that is found before. `drop`, and `as` of a session that is there, grow
 -- nothing; data lines for a cell of the sheet always may.

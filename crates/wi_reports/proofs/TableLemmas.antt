@@ -7,7 +7,7 @@ use Rattle.wi_values.specs.Address.{Area, place, row_of, column_of, cells_of, ce
 use Rattle.wi_values.specs.declared.replacement.Replacement.{Replacement}
 use Rattle.wi_store.specs.Store.{Stored}
 use Rattle.wi_csv.specs.Row.{row}
-use Rattle.wi_reports.specs.Table.{is_column, is_row}
+use Rattle.wi_reports.specs.Inner.Shape.{is_column, is_row}
 use Rattle.wi_reports.specs.Inner.Parts.{table_row}
 use Rattle.wi_reports.proofs.RowLemmas.{rows_from, one_row}
 

@@ -7,6 +7,7 @@ ghost use Rattle.wi_values.specs.Address.{row_of, cells_of, cells_of_row};
 ghost use Rattle.wi_values.specs.Replacements.{IsInOrder};
 ghost use Rattle.wi_csv.specs.Row.{row};
 ghost use Rattle.wi_reports.specs.Rows.{text_under};
+ghost use Rattle.wi_reports.specs.Inner.Shape as shape;
 ghost use Rattle.wi_reports.specs.Table as spec;
 ghost use Rattle.wi_reports.specs.Inner.Parts.{pairs_at, table_row};
 
@@ -32,14 +33,14 @@ pub struct DataTable {
 impl DataTable {
     /// Whether the column is one, and the row too, where there is one.
     pub fn is_shaped(&self) -> bool
-        ensures { result ≡ (spec.is_column self.now.column && spec.has_row self.now.second) }
+        ensures { result ≡ (shape.is_column self.now.column && shape.has_row self.now.second) }
     {
         is_column(self.column) && self.has_row()
     }
 
     /// Whether there are at most so many entries. The head and the texts of the column don't count.
     pub fn is_within(&self, most: u64) -> bool
-        ensures { result ≡ nat_le (spec.entries self.now.column self.now.second) most }
+        ensures { result ≡ nat_le (shape.entries self.now.column self.now.second) most }
     {
         match self.column.size().checked_mul(self.width()) {
             Some(entries) => entries <= most,
@@ -49,7 +50,7 @@ impl DataTable {
 
     /// Whether the cells for a second input stand in one row, where there is one.
     fn has_row(&self) -> bool
-        ensures { result ≡ spec.has_row self.now.second }
+        ensures { result ≡ shape.has_row self.now.second }
     {
         match self.second {
             None => true,
@@ -59,7 +60,7 @@ impl DataTable {
 
     /// How many entries stand beside a cell of the column.
     fn width(&self) -> u64
-        ensures { result ≡ spec.width self.now.second }
+        ensures { result ≡ shape.width self.now.second }
     {
         match self.second {
             None => 1,
@@ -70,14 +71,14 @@ impl DataTable {
 
 /// Whether all cells of a rectangle stand in one column.
 fn is_column(area: Rect) -> bool
-    ensures { result ≡ spec.is_column area }
+    ensures { result ≡ shape.is_column area }
 {
     area.first().column() == area.last().column()
 }
 
 /// Whether all cells of a rectangle stand in one row.
 fn is_row(area: Rect) -> bool
-    ensures { result ≡ spec.is_row area }
+    ensures { result ≡ shape.is_row area }
 {
     area.first().row() == area.last().row()
 }
@@ -94,7 +95,7 @@ pub fn push_table<C: Calculator>(
     out: &mut Vec<u8>,
 ) -> Result<(), AllocError>
     requires order { IsInOrder put.now }
-    requires shaped { (spec.is_column table.now.column && spec.has_row table.now.second) ≡ true }
+    requires shaped { (shape.is_column table.now.column && shape.has_row table.now.second) ≡ true }
     ensures ok { let sheet = (C.stored calculator.old).sheet in
         let records = spec.table_of sheet put.now table.now.formula_cell table.now.input table.now.column table.now.second in
         OnOk result (out.new.items ≡ out.old.items ++ records) }
@@ -118,7 +119,7 @@ fn push_all<C: Calculator>(
     out: &mut Vec<u8>,
 ) -> Result<(), AllocError>
     requires order { IsInOrder put.now }
-    requires shaped { (spec.is_column table.now.column && spec.has_row table.now.second) ≡ true }
+    requires shaped { (shape.is_column table.now.column && shape.has_row table.now.second) ≡ true }
     ensures ok { let sheet = (C.stored calculator.old).sheet in
         let records = spec.table_of sheet put.now table.now.formula_cell table.now.input table.now.column table.now.second in
         OnOk result (out.new.items ≡ out.old.items ++ records) }
@@ -162,8 +163,8 @@ fn push_rows<C: Calculator>(
     out: &mut Vec<u8>,
 ) -> Result<(), AllocError>
     requires order { IsInOrder put.now }
-    requires column { spec.is_column table.now.column ≡ true }
-    requires row { spec.has_row table.now.second ≡ true }
+    requires column { shape.is_column table.now.column ≡ true }
+    requires row { shape.has_row table.now.second ≡ true }
     ensures ok { let sheet = (C.stored calculator.old).sheet in
         let row = table_row sheet put.now table.now.formula_cell table.now.input table.now.second in
         OnOk result (out.new.items ≡ out.old.items ++ flat_map row (cells_of table.now.column)) }
@@ -188,7 +189,7 @@ fn push_row<C: Calculator>(
     out: &mut Vec<u8>,
 ) -> Result<(), AllocError>
     requires order { IsInOrder put.now }
-    requires row { spec.has_row table.now.second ≡ true }
+    requires row { shape.has_row table.now.second ≡ true }
     ensures ok { let sheet = (C.stored calculator.old).sheet in
         OnOk result (out.new.items ≡ out.old.items
         ++ table_row sheet put.now table.now.formula_cell table.now.input table.now.second x) }
@@ -211,7 +212,7 @@ fn push_entries<C: Calculator>(
     texts: &mut Vec<String>,
 ) -> Result<(), AllocError>
     requires order { IsInOrder put.now }
-    requires row { spec.has_row table.now.second ≡ true }
+    requires row { shape.has_row table.now.second ≡ true }
     ensures texts { let sheet = (C.stored calculator.old).sheet in
         let entries = spec.entries_beside sheet put.now table.now.formula_cell table.now.input table.now.second x in
         OnOk result (map string_bytes texts.new.items ≡ map string_bytes texts.old.items ++ entries) }

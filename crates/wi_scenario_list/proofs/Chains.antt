@@ -1,9 +1,10 @@
 -- Steps along a chain of scenarios.
-use Rattle.std.proofs.Common.{◌≡◌, ℕ, ◌-◌, ◌<◌, suc, zero, List, ◌∷◌, Option, Some, sym, ap, ◌∙◌, arith}
+use Rattle.std.proofs.Common.{◌≡◌, ℕ, ◌-◌, ◌<◌, ◌≤◌, suc, zero, length, List, ◌∷◌, Option, Some, refl, sym, ap, ◌∙◌, arith}
 use Rattle.wi_values.specs.declared.value.Value.{Value}
 use Rattle.wi_values.specs.declared.replacement.Replacement.{Replacement}
 use Rattle.wi_values.specs.Replacements.{as_map, overridden}
-use Rattle.wi_scenario_list.specs.Scenarios.{Scenario, scenario_of, chain, chain_within, layered, effective}
+use Rattle.wi_scenario_list.specs.Scenarios.{Scenario, scenario_of, IsChain, ended, based, IsChainOf, layered}
+use Rattle.wi_scenario_list.specs.Inner.Chains.{chain, chain_within, effective}
 use Rattle.wi_scenario_list.specs.Inner.Parts.{as_replacements}
 use Rattle.wi_scenario_list.proofs.Own.{as_map-as_replacements, as_replacements-as_map}
 
@@ -29,3 +30,19 @@ pub effective_listed : (xs : List Scenario) (name : Option (List ℕ)) (es : Lis
 unfolding chain
 effective_listed xs name es rs h g =
     sym (as_replacements-as_map rs) ∙ ap as_replacements (g ∙ h) ∙ as_replacements-as_map (layered (chain_within 64 xs (scenario_of xs name)))
+
+-- ---- the chain, where it ends within so many steps
+
+ends_within : (k : ℕ) (xs : List Scenario) (o : Option Scenario) (ys : List Scenario) → IsChain xs o ys → length ys ≤ k → chain_within k xs o ≡ ys
+ends_within zero xs o ys ended h = refl
+ends_within zero xs o ys (based x bases c) h = absurd (omega (arith, h))
+ends_within (suc k) xs o ys ended h = refl
+ends_within (suc k) xs o ys (based x bases c) h = ap (λ zs. x ∷ zs) (ends_within k xs (scenario_of xs x.base) bases c (omega (arith, h)))
+
+pub one_chain : (xs : List Scenario) (name : Option (List ℕ)) → IsChainOf xs name (chain xs name)
+unfolding chain
+one_chain xs name = λ ys c h. ends_within 64 xs (scenario_of xs name) ys c h
+
+-- the chain of the scenario of a name, where it has one of at most so many as there may be
+abbrev pub the_chain : (xs : List Scenario) (name : Option (List ℕ)) → (ys : List Scenario) × IsChainOf xs name ys
+the_chain xs name = (chain xs name, one_chain xs name)

@@ -10,8 +10,8 @@ use Rattle.std.specs.declared.rc.RcStr.{RcStr}
 use Rattle.std.proofs.Math.Bool.{or-false}
 use Rattle.std.proofs.lemmas.Slice.Eq.{bytes_eq-Decides}
 use Rattle.indexmap.specs.IndexMap.{insert_entry}
-use Rattle.wi_scenario_list.specs.Scenarios.{Scenario, is_named, has_scenario, is_full, is_replaced, max_replacements, scenario_of, scenario_for, with_scenario, without_scenario}
-use Rattle.wi_scenario_list.specs.Inner.Parts.{scenario_or_new}
+use Rattle.wi_scenario_list.specs.Scenarios.{Scenario, is_named, has_scenario, is_full, max_replacements, scenario_of, scenario_for, with_scenario, without_scenario}
+use Rattle.wi_scenario_list.specs.Inner.Parts.{is_replaced, scenario_or_new}
 use Rattle.wi_scenario_list.specs.Bases.{is_name_of, is_base}
 use Rattle.wi_scenario_list.specs.Inner.Held.{IsSame, base_of, held, scenario_in, with_name}
 use Rattle.wi_scenario_list.specs.declared.layer.Layer.{Layer}

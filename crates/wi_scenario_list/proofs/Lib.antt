@@ -1,5 +1,5 @@
 mod Listed
 mod Held
 mod Own
-mod Chains
+pub mod Chains
 mod Rows

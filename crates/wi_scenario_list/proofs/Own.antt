@@ -11,8 +11,8 @@ use Rattle.wi_values.specs.Replacements.{IsInOrder, as_map, overridden}
 use Rattle.wi_values.proofs.Order.{is_at-eq, turn_test}
 use Rattle.wi_values.proofs.Replacements.InOrder.{order_from_entries}
 use Rattle.wi_values.proofs.Replacements.Overriding.{overridden-nothing}
-use Rattle.wi_scenario_list.specs.Scenarios.{with_replacements, is_replaced, max_replacements}
-use Rattle.wi_scenario_list.specs.Inner.Parts.{as_replacements, without_replacement}
+use Rattle.wi_scenario_list.specs.Scenarios.{with_replacements, max_replacements}
+use Rattle.wi_scenario_list.specs.Inner.Parts.{is_replaced, as_replacements, without_replacement}
 use Rattle.wi_scenario_list.proofs.Listed.{found-any, removed-filter}
 
 pub as_map-as_replacements : (es : List (ℕ × Value)) → as_map (as_replacements es) ≡ es

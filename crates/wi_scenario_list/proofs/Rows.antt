@@ -5,7 +5,8 @@ use Rattle.wi_values.specs.Address.{place}
 use Rattle.wi_values.specs.declared.value.Value.{Value}
 use Rattle.wi_values.specs.declared.value.Value.TheVariants.{Logical}
 use Rattle.wi_values.specs.declared.replacement.Replacement.{Replacement}
-use Rattle.wi_scenario_list.specs.Scenarios.{Scenario, chain, effective, with_scenario, with_own}
+use Rattle.wi_scenario_list.specs.Scenarios.{Scenario, with_scenario, with_own}
+use Rattle.wi_scenario_list.specs.Inner.Chains.{chain, effective}
 
 abbrev by : ℕ → Value → Replacement
 by a v = record { at = a; value = v }

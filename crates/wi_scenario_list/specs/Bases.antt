@@ -2,7 +2,8 @@
 use Rattle.std.specs.Prelude.{ℕ, Bool, false, not, List, Option, Some, None}
 use Rattle.std.specs.List.{list_any}
 use Rattle.std.specs.Str.{bytes_eq}
-use Rattle.wi_scenario_list.specs.Scenarios.{Scenario, is_named, has_scenario, chain}
+use Rattle.wi_scenario_list.specs.Scenarios.{Scenario, is_named, has_scenario}
+use Rattle.wi_scenario_list.specs.Inner.Chains.{chain}
 
 -- whether a scenario is the other, or is based on the other at any remove
 abbrev pub rests_on : List Scenario → List ℕ → List ℕ → Bool

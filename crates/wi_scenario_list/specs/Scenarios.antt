@@ -1,5 +1,5 @@
 -- Scenarios by name, and the replacements that each puts in.
-use Rattle.std.specs.Prelude.{◌==◌, ◌&&◌, ◌||◌, ℕ, zero, suc, Bool, not, nat_le, List, [], ◌∷◌, filter, length, map, Option, Some, None, unwrap_or, if◌then◌else◌}
+use Rattle.std.specs.Prelude.{◌≡◌, ◌≤◌, ◌==◌, ◌&&◌, ◌||◌, ℕ, Bool, not, nat_le, List, [], ◌∷◌, filter, length, map, Option, Some, None, unwrap_or, if◌then◌else◌}
 use Rattle.std.specs.List.{find, list_any}
 use Rattle.std.specs.Str.{bytes_eq}
 use Rattle.wi_values.specs.Replacements.{as_map, overridden}
@@ -32,15 +32,14 @@ max_replacements = 256
 
 -- ---- what a scenario puts in
 
--- a scenario, its base scenario, that one's, and so on, so many at most
-abbrev pub chain_within : ℕ → List Scenario → Option Scenario → List Scenario
-chain_within zero xs o = []
-chain_within (suc k) xs None = []
-chain_within (suc k) xs (Some x) = x ∷ chain_within k xs (scenario_of xs x.base)
+-- a scenario, its base scenario, that one's, and so on, to one that has none
+pub data IsChain (xs : List Scenario) : Option Scenario → List Scenario → Type 0 where
+  ended : IsChain xs None []
+  based : (x : Scenario) (bases : List Scenario) → IsChain xs (scenario_of xs x.base) bases → IsChain xs (Some x) (x ∷ bases)
 
--- the scenario of this name and those that it is based on, at any remove; there are never more than may be
-unfoldable pub chain : List Scenario → Option (List ℕ) → List Scenario
-chain xs name = chain_within max_scenarios xs (scenario_of xs name)
+-- the scenario of this name and those that it is based on, at any remove: there is no loop, and never more than may be
+abbrev pub IsChainOf : List Scenario → Option (List ℕ) → List Scenario → Type 0
+IsChainOf xs name ys = (zs : List Scenario) → IsChain xs (scenario_of xs name) zs → length zs ≤ max_scenarios → ys ≡ zs
 
 -- replacements with others put in, each in the place of the one that its address had
 abbrev pub with_replacements : List Replacement → List Replacement → List Replacement
@@ -50,10 +49,6 @@ with_replacements rs others = map (λ e. record { at = e.0; value = e.1 }) (over
 abbrev pub layered : List Scenario → List Replacement
 layered [] = []
 layered (x ∷ xs) = with_replacements (layered xs) x.own
-
--- what a scenario puts in; where none is named, nothing
-abbrev pub effective : List Scenario → Option (List ℕ) → List Replacement
-effective xs name = layered (chain xs name)
 
 -- ---- a scenario made or changed
 
@@ -69,9 +64,6 @@ without_scenario xs name = filter (λ x. not (is_named name x)) xs
 abbrev pub scenario_for : List Scenario → List ℕ → Scenario
 scenario_for xs name = unwrap_or (scenario_of xs (Some name)) (record { name = name; own = []; base = None })
 
-abbrev pub is_replaced : List Replacement → ℕ → Bool
-is_replaced rs a = list_any (λ r. r.at == a) rs
-
 -- a scenario with these put into its own replacements
 abbrev pub with_own : Scenario → List Replacement → Scenario
 with_own x rs = record x { own = with_replacements x.own rs }
@@ -84,4 +76,4 @@ without_own x at = record x { own = filter (λ r. not (r.at == at)) x.own }
 abbrev pub is_full : List Scenario → List ℕ → ℕ → Bool
 is_full xs name at =
     (not (has_scenario xs name) && nat_le max_scenarios (length xs))
-    || (not (is_replaced (scenario_for xs name).own at) && nat_le max_replacements (length (scenario_for xs name).own))
+    || (not (list_any (λ r. r.at == at) (scenario_for xs name).own) && nat_le max_replacements (length (scenario_for xs name).own))

@@ -6,10 +6,10 @@ ghost use Rattle.indexmap.specs.IndexMap.{values};
 ghost use Rattle.std.specs.Option.{option_copied, option_map};
 ghost use Rattle.std.specs.Rc.{rc_str_bytes};
 ghost use Rattle.wi_values.specs.Replacements.{IsInOrder, as_map};
-ghost use Rattle.wi_scenario_list.specs.Scenarios.{scenario_of, has_scenario, chain_within, layered, effective, with_scenario, without_scenario, scenario_for, with_own, without_own, is_full};
+ghost use Rattle.wi_scenario_list.specs.Scenarios.{scenario_of, has_scenario, layered, with_scenario, without_scenario, scenario_for, with_own, without_own, is_full};
+ghost use Rattle.wi_scenario_list.specs.Inner.Chains.{chain_within, effective, is_in_chain};
 ghost use Rattle.wi_scenario_list.specs.Bases.{rests_on, is_base, is_name_of, based_on};
 ghost use Rattle.wi_scenario_list.specs.Inner.Held.{base_of, held, with_name};
-ghost use Rattle.wi_scenario_list.specs.Inner.Chains.{is_in_chain};
 ghost use Rattle.wi_scenario_list.specs.declared.fault.ScenarioFault.TheVariants.{TooMany};
 
 use crate::entries::{ValueMap, listed, with_entries};

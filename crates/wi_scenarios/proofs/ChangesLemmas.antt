@@ -6,7 +6,7 @@ use Rattle.wi_values.specs.declared.value.Value.{Value}
 use Rattle.wi_values.specs.declared.replacement.Replacement.{Replacement}
 use Rattle.wi_store.specs.Store.{Stored}
 use Rattle.wi_sheet.specs.Shown.{shown}
-use Rattle.wi_scenario_list.specs.Scenarios.{effective}
+use Rattle.wi_scenario_list.specs.Inner.Chains.{effective}
 use Rattle.wi_edit_log.specs.EditLog.{Entry}
 use Rattle.wi_sessions.specs.Pictures.{value_in, sheet_size}
 use Rattle.wi_sessions.specs.Pictures.Laws.{is_listed, Rises, changes_among}

@@ -7,7 +7,8 @@ use Rattle.std.proofs.lemmas.List.Folds.{list_any_at}
 use Rattle.wi_values.specs.declared.replacement.Replacement.{Replacement}
 use Rattle.wi_sheet.specs.Shown.{shown}
 use Rattle.wi_store.specs.Store.{Stored}
-use Rattle.wi_scenario_list.specs.Scenarios.{Scenario, is_named, scenario_of, has_scenario, effective, layered, chain, chain_within, max_scenarios, without_scenario}
+use Rattle.wi_scenario_list.specs.Scenarios.{Scenario, is_named, scenario_of, has_scenario, layered, max_scenarios, without_scenario}
+use Rattle.wi_scenario_list.specs.Inner.Chains.{effective, chain, chain_within}
 use Rattle.wi_scenario_list.specs.Bases.{is_name_of, is_base}
 use Rattle.wi_sessions.specs.Sessions.{Session, new_session}
 use Rattle.wi_scenarios.specs.declared.refusal.Refusal.TheVariants.{NoScenario, InUse}

@@ -21,7 +21,8 @@ use Rattle.wi_sheet.specs.Shown.{shown}
 use Rattle.wi_sheet.specs.Unmoved.{IsUnmoved}
 use Rattle.wi_propagate.proofs.Editing.{same_off_edited, accepted_is}
 use Rattle.wi_edit_log.specs.EditLog.{Entry}
-use Rattle.wi_scenario_list.specs.Scenarios.{Scenario, effective}
+use Rattle.wi_scenario_list.specs.Scenarios.{Scenario}
+use Rattle.wi_scenario_list.specs.Inner.Chains.{effective}
 use Rattle.wi_sessions.specs.Pictures.{value_in, sheet_size}
 use Rattle.wi_sessions.specs.Pictures.Laws.{is_listed}
 use Rattle.wi_sessions.specs.Sessions.{Session, new_session}

@@ -7,11 +7,12 @@ use Rattle.std.proofs.lemmas.List.{append-nil}
 use Rattle.std.proofs.lemmas.Bool.Decides.{nat_tests}
 use Rattle.wi_values.specs.Address.{Area, size_of}
 use Rattle.wi_values.specs.declared.replacement.Replacement.{Replacement}
-use Rattle.wi_scenario_list.specs.Scenarios.{effective}
+use Rattle.wi_scenario_list.specs.Inner.Chains.{effective}
 use Rattle.wi_scenario_list.specs.Bases.{lacks}
 use Rattle.wi_reports.specs.Rows.{rows_shown, export_of}
 use Rattle.wi_reports.specs.Compare.{cells_compared}
-use Rattle.wi_reports.specs.Table.{table_of, is_column, has_row, entries}
+use Rattle.wi_reports.specs.Table.{table_of}
+use Rattle.wi_reports.specs.Inner.Shape.{is_column, has_row, entries}
 use Rattle.wi_scenarios.specs.declared.refusal.Refusal.{Refusal}
 use Rattle.wi_scenarios.specs.declared.refusal.Refusal.TheVariants.{Memory}
 use Rattle.wi_scenarios.specs.State.{State, max_area}

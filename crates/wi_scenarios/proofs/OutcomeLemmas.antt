@@ -15,12 +15,13 @@ use Rattle.wi_scenario_list.specs.Scenarios.{is_named, has_scenario, scenario_of
 use Rattle.wi_scenario_list.specs.Inner.Parts.{scenario_or_new}
 use Rattle.wi_scenario_list.specs.Bases.{lacks, would_loop, based_on}
 use Rattle.wi_sessions.specs.Sessions.{max_sessions, has_session, with_session, place_of, using_scenario, told}
-use Rattle.wi_reports.specs.Table.{is_column, has_row, entries, table_of}
+use Rattle.wi_reports.specs.Table.{table_of}
+use Rattle.wi_reports.specs.Inner.Shape.{is_column, has_row, entries}
 use Rattle.wi_reports.specs.Rows.{rows_shown, export_of}
 use Rattle.wi_reports.specs.Compare.{cells_compared}
 use Rattle.wi_reports.specs.Changes.{change_records}
 use Rattle.wi_reports.specs.Contents.{content_record}
-use Rattle.wi_scenario_list.specs.Scenarios.{effective}
+use Rattle.wi_scenario_list.specs.Inner.Chains.{effective}
 use Rattle.wi_scenarios.specs.declared.refusal.Refusal.{Refusal}
 use Rattle.wi_scenarios.specs.declared.refusal.Refusal.TheVariants.{Memory, BadCommand, TooLarge, NoScenario, InUse, TooMany, BadField, LeavesSheet, Stale, TooLong}
 use Rattle.wi_scenarios.specs.declared.refusal.Refusal.TheVariants as refusal

@@ -17,7 +17,8 @@ use Rattle.wi_store.specs.Store.{Stored}
 use Rattle.wi_sessions.specs.Pictures.{sheet_size, value_in}
 use Rattle.wi_sessions.specs.Pictures.Laws.{is_listed}
 use Rattle.wi_values.specs.declared.replacement.Replacement.{Replacement}
-use Rattle.wi_scenario_list.specs.Scenarios.{Scenario, effective, chain}
+use Rattle.wi_scenario_list.specs.Scenarios.{Scenario}
+use Rattle.wi_scenario_list.specs.Inner.Chains.{effective, chain}
 use Rattle.wi_sessions.specs.Sessions.{Session, new_session, max_sessions, has_session, place_of}
 use Rattle.wi_sessions.specs.Roster.{Roster, vacant_of, SameCells}
 use Rattle.wi_edit_log.specs.EditLog.{Entry}

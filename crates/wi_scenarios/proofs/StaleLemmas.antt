@@ -30,7 +30,7 @@ use Rattle.wi_scenarios.specs.Edits.{limit_of, edit_refusal, stale_in, after_edi
 use Rattle.wi_scenarios.specs.Set.{cell_area, fault_in, content_in}
 use Rattle.wi_scenarios.specs.Clear.{clear_edit}
 use Rattle.wi_scenarios.specs.Fill.{fill_edit, has_no_copy}
-use Rattle.wi_scenarios.specs.Csv.{Imported, has_bad_field, field_fault, contents_in}
+use Rattle.wi_scenarios.specs.Csv.{ImportOutcome, has_bad_field, field_fault, contents_in}
 use Rattle.wi_scenarios.specs.Step.{Command, Set, Clear, Fill, Csv, IsStep}
 use Rattle.wi_scenarios.specs.Laws.{Event, MayHappen, IsRun, state_after, IsSettled, named_by, is_forced, edits_since, unseen, is_newer, IsFirstNewer, counts_before, is_refused_before, StaleIsNewer, ForcedIsNotStale}
 use Rattle.wi_scenarios.proofs.OutcomeLemmas.{edit_cause}
@@ -147,7 +147,7 @@ fault_before (Err parse.TooDeep) = refl
 fault_before (Err parse.Syntax) = refl
 fault_before (Err parse.Memory) = refl
 
-field_before : (r : Imported) → CountsBefore (field_fault r)
+field_before : (r : ImportOutcome) → CountsBefore (field_fault r)
 field_before (Ok contents) = tt
 field_before (Err import.BadField) = tt
 field_before (Err import.TooLong) = refl

@@ -10,7 +10,8 @@ use Rattle.wi_sheet.specs.Shown.{shown}
 use Rattle.wi_sheet.specs.Unmoved.{IsUnmoved}
 use Rattle.wi_sheet.proofs.Cones.{outside_unmoved}
 use Rattle.wi_sheet.proofs.Overrides.{last_in_order, override_in_order}
-use Rattle.wi_scenario_list.specs.Scenarios.{Scenario, layered, chain, effective}
+use Rattle.wi_scenario_list.specs.Scenarios.{Scenario, layered}
+use Rattle.wi_scenario_list.specs.Inner.Chains.{chain, effective}
 use Rattle.wi_sessions.specs.Pictures.Laws.{is_listed}
 use Rattle.std.specs.List.{slice_index_or}
 use Rattle.wi_sessions.specs.Sessions.{Session, new_session}

@@ -9,7 +9,8 @@ use Rattle.wi_values.specs.declared.value.Value.{Value}
 use Rattle.wi_values.specs.declared.replacement.Replacement.{Replacement}
 use Rattle.wi_parser.specs.Sheet.{Sheet}
 use Rattle.wi_store.specs.Store.{Stored}
-use Rattle.wi_scenario_list.specs.Scenarios.{Scenario, effective}
+use Rattle.wi_scenario_list.specs.Scenarios.{Scenario}
+use Rattle.wi_scenario_list.specs.Inner.Chains.{effective}
 use Rattle.wi_sessions.specs.Pictures.{value_in}
 use Rattle.wi_sessions.specs.Pictures.Laws.{is_listed}
 use Rattle.wi_sessions.specs.Sessions.{Session, new_session, max_sessions, using_scenario}

@@ -1,7 +1,7 @@
 -- The command `compare`: the cells of a rectangle whose values under two scenarios differ. No name is the sheet as it stands.
 use Rattle.std.specs.Prelude.{ℕ, nat_lt, ◌||◌, List, Option}
 use Rattle.wi_values.specs.Address.{Area, size_of}
-use Rattle.wi_scenario_list.specs.Scenarios.{effective}
+use Rattle.wi_scenario_list.specs.Inner.Chains.{effective}
 use Rattle.wi_scenario_list.specs.Bases.{lacks}
 use Rattle.wi_reports.specs.Compare.{cells_compared}
 use Rattle.wi_scenarios.specs.State.{State, max_area}

@@ -14,19 +14,19 @@ use Rattle.wi_scenarios.specs.Causes.{no_cause}
 use Rattle.wi_scenarios.specs.Edits.{edit_answer}
 
 -- what an import comes to: what cells get, or a fault
-abbrev pub Imported : Type 0
-Imported = Result (List (ℕ × Option Content)) ImportFault
+abbrev pub ImportOutcome : Type 0
+ImportOutcome = Result (List (ℕ × Option Content)) ImportFault
 
-abbrev pub has_bad_field : Imported → Bool
+abbrev pub has_bad_field : ImportOutcome → Bool
 has_bad_field (Err import.BadField) = true
 has_bad_field read = false
 
-abbrev pub field_fault : Imported → Option Refusal
+abbrev pub field_fault : ImportOutcome → Option Refusal
 field_fault (Err import.TooLong) = Some TooLong
 field_fault (Err import.OutOfSheet) = Some OutOfSheet
 field_fault read = None
 
-abbrev pub contents_in : Imported → List (ℕ × Option Content)
+abbrev pub contents_in : ImportOutcome → List (ℕ × Option Content)
 contents_in (Ok contents) = contents
 contents_in (Err fault) = []
 
@@ -35,13 +35,13 @@ abbrev pub imported_cells : ℕ → List ℕ → List ℕ
 imported_cells at text = map field_cell (fields_at at text)
 
 -- the answer to an import that comes to this
-abbrev pub csv_answer : State → Bool → ℕ → List ℕ → Imported → Answer
+abbrev pub csv_answer : State → Bool → ℕ → List ℕ → ImportOutcome → Answer
 csv_answer s force at text read =
     edit_answer s force (record no_cause { bad_field = has_bad_field read; content = field_fault read })
     (record { named = areas_at at text; contents = contents_in read })
 
 -- The answer to importing a text: that of what its fields come to.
 pub record IsCsvStep (s : State) (force : Bool) (at : ℕ) (text : List ℕ) (a : Answer) : Type 0 where
-  pub read : Imported
+  pub read : ImportOutcome
   pub is_read : IsImport (fields_at at text) read
   pub answered : csv_answer s force at text read ≡ a

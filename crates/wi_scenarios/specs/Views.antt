@@ -1,12 +1,17 @@
 -- What each session is shown.
-use Rattle.std.specs.Prelude.{ℕ, List, []}
+use Rattle.std.specs.Prelude.{ℕ, List, [], Option}
 use Rattle.std.specs.List.{slice_index_or, slice_set}
 use Rattle.wi_values.specs.declared.value.Value.{Value}
 use Rattle.wi_values.specs.declared.replacement.Replacement.{Replacement}
 use Rattle.wi_sheet.specs.Shown as cell
-use Rattle.wi_scenario_list.specs.Scenarios.{effective}
+use Rattle.wi_scenario_list.specs.Scenarios.{Scenario, IsChainOf, layered}
+use Rattle.wi_scenario_list.specs.Inner.Chains.{effective}
+use Rattle.wi_scenario_list.proofs.Chains.{the_chain}
 use Rattle.wi_sessions.specs.Sessions.{Session, new_session}
 use Rattle.wi_scenarios.specs.State.{State}
+
+abbrev pub chain_of : (xs : List Scenario) (name : Option (List ℕ)) → (ys : List Scenario) × IsChainOf xs name ys
+chain_of xs name = the_chain xs name
 
 -- the i-th session
 abbrev pub session_at : State → ℕ → Session
@@ -24,7 +29,7 @@ abbrev pub replacements_for : State → Session → List Replacement
 replacements_for s x = effective s.scenarios x.scenario
 
 abbrev pub current_replacements : State → List Replacement
-current_replacements s = effective s.scenarios (current_session s).scenario
+current_replacements s = layered (chain_of s.scenarios (current_session s).scenario).0
 
 -- the value that a session is shown at a cell
 abbrev pub shown_to : State → Session → ℕ → Value

@@ -3,7 +3,7 @@
 ghost use Rattle.std.specs.Prelude.{◌≡◌, ◌++◌, ◌||◌, ℕ, List, OnOk, OnErr};
 ghost use Rattle.wi_scenarios.specs.Answer.{Serves};
 ghost use Rattle.std.specs.Option.{option_copied};
-ghost use Rattle.wi_scenario_list.specs.Scenarios.{effective};
+ghost use Rattle.wi_scenario_list.specs.Inner.Chains.{effective};
 ghost use Rattle.wi_scenario_list.specs.Bases.{lacks};
 ghost use Rattle.wi_reports.specs.Compare.{cells_compared};
 ghost use Rattle.wi_scenarios.specs.Compare.{compare_step};

@@ -16,7 +16,7 @@ use Rattle.wi_scenarios.specs.declared.refusal.Refusal.TheVariants as refusal
 use Rattle.wi_scenarios.specs.State.{State, max_area}
 use Rattle.wi_scenarios.specs.Causes.{no_cause}
 use Rattle.wi_scenarios.specs.Edits.{edit_answer}
-use Rattle.wi_scenarios.specs.Csv.{csv_answer, Imported}
+use Rattle.wi_scenarios.specs.Csv.{csv_answer, ImportOutcome}
 use Rattle.wi_scenarios.specs.Step as old
 use Rattle.wi_cli.specs.Lines.{max_line, without_lf, Bytes}
 use Rattle.wi_cli.specs.Inner.CsvCommand.{is_long, csv_command}
@@ -145,7 +145,7 @@ module _ (s : State) (force : Bool) (c : Cell) (n : ℕ) (lines : List Bytes) wh
         module _ (puts : List Put) (are : AreChanges (fields c lines) puts) where
           other : (e : ImportFault) → IsFault (fields c lines) e → ⊥
           other e h =
-              let same : ◌≡◌ {A = Imported} (Ok puts) (Err e) = no_other (fields c lines) (Ok puts) (Err e) are h in
+              let same : ◌≡◌ {A = ImportOutcome} (Ok puts) (Err e) = no_other (fields c lines) (Ok puts) (Err e) are h in
               cc
 
           no_bad : Any (λ f. IsText f → ⊥) (fields c lines) → ⊥
@@ -159,7 +159,7 @@ module _ (s : State) (force : Bool) (c : Cell) (n : ℕ) (lines : List Bytes) wh
 
           one_put : (q : List Put) → Puts s csv q → q ≡ puts
           one_put q h =
-              let same : ◌≡◌ {A = Imported} (Ok q) (Ok puts) = no_other (fields c lines) (Ok q) (Ok puts) h are in
+              let same : ◌≡◌ {A = ImportOutcome} (Ok q) (Ok puts) = no_other (fields c lines) (Ok q) (Ok puts) h are in
               cc
 
           later : (x : Cause) → IsFirstOf s csv last x → IsFirstOf s csv causes x
@@ -191,7 +191,7 @@ module _ (s : State) (force : Bool) (c : Cell) (n : ℕ) (lines : List Bytes) wh
             no_long : All (λ f. IsTooLong f → ⊥) (fields c lines) → Any IsTooLong (fields c lines) → ⊥
             no_long none k = none k.0 k.1 k.2 (subst IsTooLong (sym k.3) k.4)
 
-        step : (r : Imported) → IsImport (fields c lines) r → IsStep s csv (csv_answer s force (address c) text r)
+        step : (r : ImportOutcome) → IsImport (fields c lines) r → IsStep s csv (csv_answer s force (address c) text r)
         step (Ok puts) is = importing puts is
         step (Err e) is = fault_is e is
 
@@ -203,7 +203,7 @@ module _ (s : State) (force : Bool) (c : Cell) (n : ℕ) (lines : List Bytes) wh
 
   csv_done : (x y : State × Bytes) → Does s csv x → Does s csv y → x ≡ y
   csv_done x y h k =
-      let same : ◌≡◌ {A = Imported} (Ok h.0) (Ok k.0) = no_other (fields c lines) (Ok h.0) (Ok k.0) h.1 k.1 in
+      let same : ◌≡◌ {A = ImportOutcome} (Ok h.0) (Ok k.0) = no_other (fields c lines) (Ok h.0) (Ok k.0) h.1 k.1 in
       let puts : h.0 ≡ k.0 = cc in
       h.2 ∙ ap (λ (q : List Put). let d : State × Bytes = (after_edit s csv q, []) in d) puts ∙ sym k.2
 

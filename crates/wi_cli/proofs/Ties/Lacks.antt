@@ -25,11 +25,11 @@ none_in : (x : Cause) → Contains [] x → ⊥
 none_in x h = omega (arith, h.1)
 
 -- a cause isn't one of the late ones that differs from each of them
-pub not_late : (x : Cause) → (BadField ≡ x → ⊥) → (OutOfSheet ≡ x → ⊥) → (NumberRange ≡ x → ⊥) → (TooDeep ≡ x → ⊥) → (Syntax ≡ x → ⊥) → (LeavesSheet ≡ x → ⊥) → (Stale ≡ x → ⊥)
+pub not_late : (x : Cause) → (OutOfSheet ≡ x → ⊥) → (NumberRange ≡ x → ⊥) → (TooDeep ≡ x → ⊥) → (Syntax ≡ x → ⊥) → (LeavesSheet ≡ x → ⊥) → (Stale ≡ x → ⊥)
     → (Full ≡ x → ⊥) → (EditLimit ≡ x → ⊥) → Contains late x → ⊥
-not_late x a b c d e f g i j h =
-    step BadField (OutOfSheet ∷ NumberRange ∷ TooDeep ∷ Syntax ∷ LeavesSheet ∷ Stale ∷ Full ∷ EditLimit ∷ []) a (λ h. step OutOfSheet (NumberRange ∷ TooDeep ∷ Syntax ∷ LeavesSheet ∷ Stale ∷ Full ∷ EditLimit ∷ []) b (λ h. step NumberRange (TooDeep ∷ Syntax ∷ LeavesSheet ∷ Stale ∷ Full ∷ EditLimit ∷ []) c (λ h. step TooDeep (Syntax ∷ LeavesSheet ∷ Stale ∷ Full ∷ EditLimit ∷ []) d (λ h. step Syntax (LeavesSheet ∷ Stale ∷ Full ∷ EditLimit ∷ []) e (λ h. step LeavesSheet (Stale ∷ Full ∷ EditLimit ∷ []) f
-    (λ h. step Stale (Full ∷ EditLimit ∷ []) g (λ h. step Full (EditLimit ∷ []) i (λ h. step EditLimit [] j (none_in x) h) h) h) h) h) h) h) h) h
+not_late x b c d e f g i j h =
+    step OutOfSheet (NumberRange ∷ TooDeep ∷ Syntax ∷ LeavesSheet ∷ Stale ∷ Full ∷ EditLimit ∷ []) b (λ h. step NumberRange (TooDeep ∷ Syntax ∷ LeavesSheet ∷ Stale ∷ Full ∷ EditLimit ∷ []) c (λ h. step TooDeep (Syntax ∷ LeavesSheet ∷ Stale ∷ Full ∷ EditLimit ∷ []) d (λ h. step Syntax (LeavesSheet ∷ Stale ∷ Full ∷ EditLimit ∷ []) e (λ h. step LeavesSheet (Stale ∷ Full ∷ EditLimit ∷ []) f
+    (λ h. step Stale (Full ∷ EditLimit ∷ []) g (λ h. step Full (EditLimit ∷ []) i (λ h. step EditLimit [] j (none_in x) h) h) h) h) h) h) h) h
   where
     step : (y : Cause) (ys : List Cause) → (y ≡ x → ⊥) → (Contains ys x → ⊥) → Contains (y ∷ ys) x → ⊥
     step y ys p q h = by (split y ys x h)
@@ -38,33 +38,34 @@ not_late x a b c d e f g i j h =
         by (inl e) = p e
         by (inr h) = q h
 
-module _ (s : State) (c : Command) (inside : Holds s Outside c → ⊥) (come : Holds s CutShort c → ⊥) where
+module _ (s : State) (c : Command) (inside : Holds s Outside c → ⊥) (come : Holds s CutShort c → ⊥) (texts : Holds s BadField c → ⊥) where
   grows : (x : Cause) → Holds s x c → (e : Refusal) → Tells s c x e → Contains late x → may_grow (Err e) ≡ true
   grows Outside h e t l = absurd (inside h)
   grows CutShort h e t l = absurd (come h)
-  grows BadLine h e t l = absurd (not_late BadLine (λ e. cc) (λ e. cc) (λ e. cc) (λ e. cc) (λ e. cc) (λ e. cc) (λ e. cc) (λ e. cc) (λ e. cc) l)
-  grows BadCommand h e t l = absurd (not_late BadCommand (λ e. cc) (λ e. cc) (λ e. cc) (λ e. cc) (λ e. cc) (λ e. cc) (λ e. cc) (λ e. cc) (λ e. cc) l)
-  grows TooLarge h e t l = absurd (not_late TooLarge (λ e. cc) (λ e. cc) (λ e. cc) (λ e. cc) (λ e. cc) (λ e. cc) (λ e. cc) (λ e. cc) (λ e. cc) l)
-  grows NoScenario h e t l = absurd (not_late NoScenario (λ e. cc) (λ e. cc) (λ e. cc) (λ e. cc) (λ e. cc) (λ e. cc) (λ e. cc) (λ e. cc) (λ e. cc) l)
-  grows InUse h e t l = absurd (not_late InUse (λ e. cc) (λ e. cc) (λ e. cc) (λ e. cc) (λ e. cc) (λ e. cc) (λ e. cc) (λ e. cc) (λ e. cc) l)
-  grows TooMany h e t l = absurd (not_late TooMany (λ e. cc) (λ e. cc) (λ e. cc) (λ e. cc) (λ e. cc) (λ e. cc) (λ e. cc) (λ e. cc) (λ e. cc) l)
-  grows TooLong h e t l = absurd (not_late TooLong (λ e. cc) (λ e. cc) (λ e. cc) (λ e. cc) (λ e. cc) (λ e. cc) (λ e. cc) (λ e. cc) (λ e. cc) l)
-  grows Loop h e t l = absurd (not_late Loop (λ e. cc) (λ e. cc) (λ e. cc) (λ e. cc) (λ e. cc) (λ e. cc) (λ e. cc) (λ e. cc) (λ e. cc) l)
+  grows BadField h e t l = absurd (texts h)
+  grows BadLine h e t l = absurd (not_late BadLine (λ e. cc) (λ e. cc) (λ e. cc) (λ e. cc) (λ e. cc) (λ e. cc) (λ e. cc) (λ e. cc) l)
+  grows BadCommand h e t l = absurd (not_late BadCommand (λ e. cc) (λ e. cc) (λ e. cc) (λ e. cc) (λ e. cc) (λ e. cc) (λ e. cc) (λ e. cc) l)
+  grows TooLarge h e t l = absurd (not_late TooLarge (λ e. cc) (λ e. cc) (λ e. cc) (λ e. cc) (λ e. cc) (λ e. cc) (λ e. cc) (λ e. cc) l)
+  grows NoScenario h e t l = absurd (not_late NoScenario (λ e. cc) (λ e. cc) (λ e. cc) (λ e. cc) (λ e. cc) (λ e. cc) (λ e. cc) (λ e. cc) l)
+  grows InUse h e t l = absurd (not_late InUse (λ e. cc) (λ e. cc) (λ e. cc) (λ e. cc) (λ e. cc) (λ e. cc) (λ e. cc) (λ e. cc) l)
+  grows TooMany h e t l = absurd (not_late TooMany (λ e. cc) (λ e. cc) (λ e. cc) (λ e. cc) (λ e. cc) (λ e. cc) (λ e. cc) (λ e. cc) l)
+  grows TooLong h e t l = absurd (not_late TooLong (λ e. cc) (λ e. cc) (λ e. cc) (λ e. cc) (λ e. cc) (λ e. cc) (λ e. cc) (λ e. cc) l)
+  grows Loop h e t l = absurd (not_late Loop (λ e. cc) (λ e. cc) (λ e. cc) (λ e. cc) (λ e. cc) (λ e. cc) (λ e. cc) (λ e. cc) l)
   grows Stale h e t l = ap (λ (r : Refusal). may_grow (Err r)) t.2
   grows x h e t l = ap (λ (r : Refusal). may_grow (Err r)) t
 
   is_late : (x : Cause) → Holds s x c → (e : Refusal) → Tells s c x e → may_grow (Err e) ≡ true → Contains late x
   is_late Outside h e t g = absurd (inside h)
   is_late CutShort h e t g = absurd (come h)
-  is_late BadField h e t g = (0, omega arith, refl)
-  is_late OutOfSheet h e t g = (1, omega arith, refl)
-  is_late NumberRange h e t g = (2, omega arith, refl)
-  is_late TooDeep h e t g = (3, omega arith, refl)
-  is_late Syntax h e t g = (4, omega arith, refl)
-  is_late LeavesSheet h e t g = (5, omega arith, refl)
-  is_late Stale h e t g = (6, omega arith, refl)
-  is_late Full h e t g = (7, omega arith, refl)
-  is_late EditLimit h e t g = (8, omega arith, refl)
+  is_late BadField h e t g = absurd (texts h)
+  is_late OutOfSheet h e t g = (0, omega arith, refl)
+  is_late NumberRange h e t g = (1, omega arith, refl)
+  is_late TooDeep h e t g = (2, omega arith, refl)
+  is_late Syntax h e t g = (3, omega arith, refl)
+  is_late LeavesSheet h e t g = (4, omega arith, refl)
+  is_late Stale h e t g = (5, omega arith, refl)
+  is_late Full h e t g = (6, omega arith, refl)
+  is_late EditLimit h e t g = (7, omega arith, refl)
   is_late x h e t g = absurd (clash false refl (sym (ap (λ (r : Refusal). may_grow (Err r)) t) ∙ g))
 
   pub same_lack : (was : old.Command) → ((a : Answer) → old.IsStep s was a ↔ IsStep s c a) → MayGrow (old.IsStep s was) ↔ ((x : Cause) → IsFirstOf s c causes x → Contains late x)

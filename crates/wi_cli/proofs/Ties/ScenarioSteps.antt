@@ -8,7 +8,8 @@ use Rattle.wi_values.specs.declared.value.Value.{Value}
 use Rattle.wi_values.specs.Imported.{IsImported}
 use Rattle.wi_values.specs.Inner.Import.{imported}
 use Rattle.wi_values.proofs.Imports.{imported_exactly}
-use Rattle.wi_scenario_list.specs.Scenarios.{Scenario as Kept, is_named, has_scenario, chain, scenario_for, without_scenario, with_own, without_own, is_full}
+use Rattle.wi_scenario_list.specs.Scenarios.{Scenario as Kept, is_named, has_scenario, scenario_for, without_scenario, with_own, without_own, is_full}
+use Rattle.wi_scenario_list.specs.Inner.Chains.{chain}
 use Rattle.wi_scenario_list.specs.Bases.{is_name_of, is_base, based_on, lacks, would_loop}
 use Rattle.wi_sessions.specs.Sessions.{Session, has_session, max_sessions, with_session, place_of, using_scenario}
 use Rattle.wi_scenarios.specs.State.{State}

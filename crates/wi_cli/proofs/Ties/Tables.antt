@@ -6,7 +6,8 @@ use Rattle.wi_scenarios.specs.declared.refusal.Refusal.TheVariants as refusal
 use Rattle.wi_scenarios.specs.State.{State, max_area}
 use Rattle.wi_scenarios.specs.Views.{current_replacements}
 use Rattle.wi_scenarios.specs.Step as old
-use Rattle.wi_reports.specs.Table.{table_of, is_column, entries}
+use Rattle.wi_reports.specs.Table.{table_of}
+use Rattle.wi_reports.specs.Inner.Shape.{is_column, entries}
 use Rattle.wi_cli.specs.Inner.TableCommand.{table_of_one}
 use Rattle.wi_cli.specs.Operands.{Cell, Corners, is_outside, address, area}
 use Rattle.wi_cli.specs.Lines.{Bytes}

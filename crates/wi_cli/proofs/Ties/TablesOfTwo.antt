@@ -9,7 +9,8 @@ use Rattle.wi_scenarios.specs.declared.refusal.Refusal.TheVariants as refusal
 use Rattle.wi_scenarios.specs.State.{State, max_area}
 use Rattle.wi_scenarios.specs.Views.{current_replacements}
 use Rattle.wi_scenarios.specs.Step as old
-use Rattle.wi_reports.specs.Table.{table_of, is_column, is_row}
+use Rattle.wi_reports.specs.Table.{table_of}
+use Rattle.wi_reports.specs.Inner.Shape.{is_column, is_row}
 use Rattle.wi_cli.specs.Inner.Operands.{of_operand, worse, column_fault, row_fault}
 use Rattle.wi_cli.specs.Inner.TableCommand.{unless_refused, table_of_one, table_of_two}
 use Rattle.wi_cli.specs.Operands.{Cell, Corners, is_outside, address, area}

@@ -6,7 +6,7 @@ use Rattle.wi_values.specs.Address.{Area}
 use Rattle.wi_values.specs.Name.{read_name}
 use Rattle.wi_values.specs.declared.address.AddressFault.{AddressFault}
 use Rattle.wi_values.specs.declared.address.AddressFault.TheVariants.{Shape, Outside}
-use Rattle.wi_reports.specs.Table.{is_column, is_row}
+use Rattle.wi_reports.specs.Inner.Shape.{is_column, is_row}
 use Rattle.wi_scenarios.specs.declared.refusal.Refusal.TheVariants.{BadCommand}
 use Rattle.wi_scenarios.specs.Answer.{operand_refusal}
 use Rattle.wi_scenarios.specs.Step.{Command, Refused}

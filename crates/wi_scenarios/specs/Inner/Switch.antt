@@ -5,7 +5,8 @@ use Rattle.wi_values.specs.declared.replacement.Replacement.{Replacement}
 use Rattle.wi_values.specs.Replacements.{replaced}
 use Rattle.wi_parser.specs.Sheet.{Sheet}
 use Rattle.wi_sheet.specs.Shown.{shown}
-use Rattle.wi_scenario_list.specs.Scenarios.{Scenario, effective}
+use Rattle.wi_scenario_list.specs.Scenarios.{Scenario}
+use Rattle.wi_scenario_list.specs.Inner.Chains.{effective}
 use Rattle.wi_sessions.specs.Pictures.{same_value}
 use Rattle.wi_sessions.specs.Pictures.Laws.{is_listed}
 use Rattle.wi_sessions.specs.Roster.{Roster, session_at, pending_of, vacant_of}

@@ -1,7 +1,7 @@
 use Rattle.std.proofs.Common.{◌≡◌, ◌∙◌, length, refl, arith}
 use Rattle.std.proofs.lemmas.Grind.{common_steps}
 use Rattle.std.proofs.lemmas.Result.{IfOk-from_err}
-use Rattle.wi_scenario_list.specs.Scenarios.{effective}
+use Rattle.wi_scenario_list.specs.Inner.Chains.{effective}
 use Rattle.wi_sessions.specs.Roster.{session_at}
 use Rattle.wi_scenarios.proofs.ChangesLemmas.{changes_found, nothing_found, looked, begun_again, no_more, if_ok}
 use Rattle.wi_scenarios.proofs.changes.find.Goals as goal

@@ -1,6 +1,6 @@
 use Rattle.std.proofs.Common.{refl, ap, rules}
 use Rattle.std.specs.Option.{option_copied}
-use Rattle.wi_scenario_list.specs.Scenarios.{effective}
+use Rattle.wi_scenario_list.specs.Inner.Chains.{effective}
 use Rattle.wi_scenarios.specs.Inner.Held.{state_of}
 use Rattle.wi_scenarios.proofs.LookLemmas.{compare_lacked, compare_done}
 use Rattle.wi_scenarios.proofs.compare.compare.Goals as goal

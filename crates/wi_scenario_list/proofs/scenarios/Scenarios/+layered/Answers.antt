@@ -2,7 +2,8 @@ use Rattle.std.proofs.Common.{◌∙◌, ◌-◌, ℕ, List, Option, BTreeMap, a
 use Rattle.wi_values.specs.declared.value.Value.{Value}
 use Rattle.std.specs.Option.{option_copied}
 use Rattle.wi_values.specs.Replacements.{as_map, overridden}
-use Rattle.wi_scenario_list.specs.Scenarios.{chain_within, layered, scenario_of}
+use Rattle.wi_scenario_list.specs.Scenarios.{layered, scenario_of}
+use Rattle.wi_scenario_list.specs.Inner.Chains.{chain_within}
 use Rattle.wi_scenario_list.specs.Inner.Parts.{as_replacements}
 use Rattle.wi_scenario_list.specs.Inner.Held.{with_name}
 use Rattle.wi_scenario_list.proofs.Own.{if_ok}

@@ -1,0 +1,22 @@
+-- Of which shape a table's column and row are, and how many entries it has.
+use Rattle.std.specs.Prelude.{ℕ, ◌*◌, ◌==◌, Bool, true, Option, Some, None}
+use Rattle.wi_values.specs.Address.{Area, size_of, row_of, column_of}
+
+abbrev pub is_column : Area → Bool
+is_column a = column_of a.first == column_of a.last
+
+abbrev pub is_row : Area → Bool
+is_row a = row_of a.first == row_of a.last
+
+abbrev pub has_row : Option (ℕ × Area) → Bool
+has_row None = true
+has_row (Some second) = is_row second.1
+
+-- how many entries stand beside a cell of the column
+abbrev pub width : Option (ℕ × Area) → ℕ
+width None = 1
+width (Some second) = size_of second.1
+
+-- how many entries the table has
+abbrev pub entries : Area → Option (ℕ × Area) → ℕ
+entries xs second = size_of xs * width second
