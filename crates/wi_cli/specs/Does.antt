@@ -2,8 +2,9 @@
 use Rattle.std.specs.Prelude.{◌≡◌, length, List, [], ◌∷◌, Some, option_map}
 use Rattle.wi_values.specs.declared.value.Value.{Value}
 use Rattle.wi_values.specs.Imported.{IsImported}
-use Rattle.wi_scenario_list.specs.Scenarios.{Scenario as Kept, scenario_for, with_scenario, without_scenario, with_own, without_own, layered}
-use Rattle.wi_sessions.specs.Sessions.{with_session, place_of, told}
+use Rattle.wi_scenario_list.specs.Scenarios.{scenario_for, with_scenario, without_scenario, with_own, without_own, layered}
+use Rattle.wi_scenario_list.specs.Scenarios as list
+use Rattle.wi_sessions.specs.Sessions.{with_session, index_of, told}
 use Rattle.wi_reports.specs.Rows.{rows_shown, export_of}
 use Rattle.wi_reports.specs.Changes.{change_records}
 use Rattle.wi_reports.specs.Compare.{cells_compared}
@@ -19,22 +20,22 @@ use Rattle.wi_cli.specs.Edits.{after_edit, Put, Puts}
 
 module _ (s : State) where
   -- the state with a scenario made or changed
-  abbrev pub keeping : Kept → State
-  keeping x = record s { scenarios = with_scenario s.scenarios x }
+  abbrev pub having : list.Scenario → State
+  having x = record s { scenarios = with_scenario s.scenarios x }
 
   -- the state that is left, and the records that are written
   abbrev pub Does : Command → State × Bytes → Type 0
   -- Takes the replacement away, if there is one.
-  Does (Scenario name at []) done = done ≡ (keeping (without_own (scenario_for s.scenarios name) (address at)), [])
+  Does (Scenario name at []) done = done ≡ (having (without_own (scenario_for s.scenarios name) (address at)), [])
   -- Puts a replacement by the import rule, and makes the scenario if there is none.
   Does (Scenario name at text) done =
       (v : Value) × IsImported text (Some v)
-      × (done ≡ (keeping (with_own (scenario_for s.scenarios name) (record { at = address at; value = v } ∷ [])), []))
+      × (done ≡ (having (with_own (scenario_for s.scenarios name) (record { at = address at; value = v } ∷ [])), []))
   Does (Drop name) done = done ≡ (record s { scenarios = without_scenario s.scenarios name }, [])
-  Does (Base name other) done = done ≡ (keeping (record (scenario_for s.scenarios name) { base = other }), [])
+  Does (Base name other) done = done ≡ (having (record (scenario_for s.scenarios name) { base = other }), [])
   Does (Use name) done = done ≡ (with_current s (record (current_session s) { scenario = name }), [])
   Does (As name) done =
-      done ≡ (record s { sessions = with_session s.sessions name; current = place_of s.sessions name }, [])
+      done ≡ (record s { sessions = with_session s.sessions name; current = index_of s.sessions name }, [])
   Does (Show rect) done = done ≡ (s, rows_shown s.stored.sheet (current_replacements s) (area rect))
   Does (Export rect) done = done ≡ (s, export_of (rows_shown s.stored.sheet (current_replacements s) (area rect)))
   Does Changes done =
@@ -48,5 +49,5 @@ module _ (s : State) where
             (option_map (λ y. (address y.0, area y.1)) second),
       )
   Does (Formula at) done = done ≡ (s, content_record s.stored.sheet (address at))
-  -- `set`, `clear`, `fill` and `csv` put what they put.
+  -- An edit puts what it puts.
   Does c done = (puts : List Put) × Puts s c puts × (done ≡ (after_edit s c puts, []))

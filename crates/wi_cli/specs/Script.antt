@@ -7,7 +7,7 @@ use Rattle.wi_cli.specs.Lines.{without_lf, without_cr, max_line, is_space, Bytes
 use Rattle.wi_cli.specs.Operands.{Cell, IsWritten}
 use Rattle.wi_cli.specs.Command.{Command, Csv, Unknown, Unreadable, form, data_of}
 
--- a line without its LF and a CR before it
+-- without the LF, and one CR before it
 abbrev pub text_of : Bytes → Bytes
 text_of line = without_cr (without_lf line)
 
@@ -17,16 +17,16 @@ IsWithin line = length (without_lf line) ≤ max_line
 abbrev pub IsGood : Bytes → Type 0
 IsGood line = IsWithin line × IsUtf8 (text_of line)
 
--- the line is written as `csv` with so many data lines
+-- exactly the words `csv`, any second word and a good LINES
 abbrev pub Asks : Bytes → ℕ → Type 0
 Asks line n = IsWithin line × ((force : Bool) × (at : Option Cell) × IsWritten (text_of line) (form (Csv force at n [])))
 
--- only spaces, or a comment
+-- empty, only spaces, or beginning with `#`
 abbrev pub is_passed_over : Bytes → Bool
 is_passed_over [] = true
 is_passed_over (b ∷ bs) = if b == byte "#" then true else list_all is_space (b ∷ bs)
 
--- what a line and its data lines ask for, if anything
+-- Too long or not UTF-8 is Unreadable; of no form is Unknown.
 abbrev pub IsCommand : Bytes → List Bytes → Option Command → Type 0
 IsCommand line taken None = IsGood line × (is_passed_over (text_of line) ≡ true)
 IsCommand line taken (Some Unreadable) = IsGood line → ⊥
@@ -34,7 +34,7 @@ IsCommand line taken (Some Unknown) =
     IsGood line × (is_passed_over (text_of line) ≡ false) × ((c : Command) → IsWritten (text_of line) (form c) → ⊥)
 IsCommand line taken (Some c) = IsGood line × IsWritten (text_of line) (form c) × (data_of c ≡ taken)
 
--- The commands of lines. A line whose data lines haven't all come counts only where the script has ended.
+-- Data lines are taken whatever is answered. A line that lacks some counts only where the script has ended.
 pub data AreCommands (ended : Bool) : List Bytes → List Command → Type 0 where
   none : AreCommands ended [] []
   a_line : (line : Bytes) (taken lines : List Bytes) (o : Option Command) (cs : List Command)

@@ -10,16 +10,16 @@ use Rattle.wi_import.specs.declared.fault.ImportFault.{ImportFault}
 use Rattle.wi_import.specs.declared.fault.ImportFault.TheVariants.{BadField, TooLong, OutOfSheet}
 use Rattle.wi_import.specs.Fields.{Field, IsInside}
 
--- what a field of these bytes puts into its cell
+-- an empty field empties its cell; another puts a constant there by the import rule
 pub data IsFieldContent : List ℕ → Option Content → Type 0 where
   no_content : IsFieldContent [] None
   a_constant : (bytes : List ℕ) (v : Value) → bytes ≢ [] → IsImported bytes (Some v) → IsFieldContent bytes (Some (Constant v))
 
--- a field's cell, and what it gets
+-- a field's cell, and what it puts there
 abbrev pub IsChange : Field → ℕ × Option Content → Type 0
 IsChange f change = (change.0 ≡ place f.row f.column) × IsFieldContent f.bytes change.1
 
--- One change for each field, in the order of the fields, which are all UTF-8 and inside the sheet.
+-- One change for each field, in their order. All are UTF-8, and for cells of the sheet, empty ones too. Cells without a field stay.
 pub record AreChanges (fields : List Field) (changes : List (ℕ × Option Content)) : Type 0 where
   pub texts : All (λ f. IsUtf8 f.bytes) fields
   pub inside : All IsInside fields

@@ -1,4 +1,4 @@
--- What has changed, a record for each cell: its address, and the kind and the text of the value that it has now.
+-- `changes`: for each cell that has changed its address, its kind and its shown text.
 use Rattle.std.specs.Prelude.{ℕ, List, [], ◌∷◌, codes}
 use Rattle.std.specs.List.{flat_map}
 use Rattle.wi_values.specs.Address.{address_text}
@@ -7,7 +7,7 @@ use Rattle.wi_values.specs.declared.value.Value.{Value}
 use Rattle.wi_values.specs.declared.value.Value.TheVariants.{Empty, Number, Text, Logical, Fault}
 use Rattle.wi_csv.specs.Row.{row}
 
--- the letter of a value's kind
+-- `N` number, `T` text, `L` truth value, `E` error, `-` empty
 abbrev pub kind_text : Value → List ℕ
 kind_text Empty = codes "-"
 kind_text (Number x) = codes "N"

@@ -1,7 +1,8 @@
--- The cells of a rectangle whose values under two lists of replacements differ, a record for each.
+-- `compare S T RECT`: for each cell of the rectangle, in row-major order, whose values in S and T differ, its address, the text in S,
+-- the text in T, and their difference.
 use Rattle.std.specs.Prelude.{ℕ, if◌then◌else◌, List, [], ◌∷◌, Option, Some, None}
 use Rattle.std.specs.List.{flat_map}
-use Rattle.wi_fraction.specs.Number.{Number as Numbers}
+use Rattle.wi_fraction.specs.Number.{Number as Fraction}
 use Rattle.wi_fraction.specs.Arithmetic.{sum_of, negated}
 use Rattle.wi_fraction.specs.Text.{text_of}
 use Rattle.wi_values.specs.Address.{Area, cells_of, address_text}
@@ -15,21 +16,21 @@ use Rattle.wi_sheet.specs.Shown.{shown}
 use Rattle.wi_sessions.specs.Pictures.{same_value}
 use Rattle.wi_csv.specs.Row.{row}
 
--- a number's text, or the error's name where there is none
-abbrev pub number_text : Option Numbers → List ℕ
+-- a number's text, or `#NUM!` where it is too large
+abbrev pub number_text : Option Fraction → List ℕ
 number_text None = error_name BadNumber
 number_text (Some x) = text_of x
 
--- the second less the first, where both are numbers, else an empty text
+-- the value in T minus that in S where both are numbers, else an empty field
 abbrev pub difference_text : Value → Value → List ℕ
 difference_text (Number x) (Number y) = number_text (sum_of y (negated x))
 difference_text v w = []
 
--- a cell's address, the first value, the second, and their difference; nothing where the values are one
+-- nothing where the values are one
 abbrev pub difference_record : ℕ → Value → Value → List ℕ
 difference_record a v w =
     if same_value v w then [] else row (address_text a ∷ shown_text v ∷ shown_text w ∷ difference_text v w ∷ [])
 
--- the records of a rectangle, in row-major order
+-- for the replacements of S and those of T
 abbrev pub cells_compared : Sheet → List Replacement → List Replacement → Area → List ℕ
 cells_compared sheet p q area = flat_map (λ a. difference_record a (shown sheet p a) (shown sheet q a)) (cells_of area)

@@ -1,8 +1,7 @@
--- A cell's address, and its content as a text.
+-- `formula ADDR`: address and content.
 use Rattle.std.specs.Prelude.{ℕ, List, [], ◌∷◌, ◌++◌, codes, Option, Some, None}
 use Rattle.wi_values.specs.Address.{address_text}
 use Rattle.wi_values.specs.Value.{shown_text}
-use Rattle.wi_values.specs.declared.value.Value.{Value}
 use Rattle.wi_values.specs.declared.value.Value.TheVariants.{Text}
 use Rattle.wi_parser.specs.declared.content.Content.{Content}
 use Rattle.wi_parser.specs.declared.content.Content.TheVariants.{Constant, Formula}
@@ -10,15 +9,11 @@ use Rattle.wi_parser.specs.Printing.{printed}
 use Rattle.wi_parser.specs.Sheet.{Sheet, content_of}
 use Rattle.wi_csv.specs.Row.{row}
 
--- a text after an apostrophe, another constant as it is shown
-abbrev pub constant_text : Value → List ℕ
-constant_text (Text bytes) = codes "'" ++ bytes
-constant_text v = shown_text v
-
--- a formula as it is printed, and nothing where there is no content
+-- a formula as it is printed, a text after `'`, another constant as it is shown, an empty text for no content
 abbrev pub content_text : Option Content → List ℕ
 content_text None = []
-content_text (Some (Constant v)) = constant_text v
+content_text (Some (Constant (Text bytes))) = codes "'" ++ bytes
+content_text (Some (Constant v)) = shown_text v
 content_text (Some (Formula t)) = printed t
 
 abbrev pub content_record : Sheet → ℕ → List ℕ

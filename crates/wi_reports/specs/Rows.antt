@@ -1,4 +1,4 @@
--- The shown texts of a rectangle, a record for each row.
+-- `show RECT`: one record for each row, the shown texts. `export RECT`: the line `lines N`, then the records of `show`.
 use Rattle.std.specs.Prelude.{ℕ, ◌==◌, List, ◌++◌, map, codes, decimal}
 use Rattle.std.specs.List.{flat_map, count_by}
 use Rattle.std.specs.Str.{byte}
@@ -16,6 +16,6 @@ text_under sheet put c = value.shown_text (cell.shown sheet put c)
 abbrev pub rows_shown : Sheet → List Replacement → Area → List ℕ
 rows_shown sheet put area = flat_map (λ r. row (map (text_under sheet put) (cells_of_row r area))) (rows_in area)
 
--- records after a line that tells how many lines they are, by their LF bytes
+-- the line `lines N`, N being the number of LF bytes in the records, then these
 abbrev pub export_of : List ℕ → List ℕ
 export_of records = codes "lines " ++ decimal (count_by (λ b. b == byte "\n") records) ++ codes "\n" ++ records

@@ -2,7 +2,8 @@
 
 ghost use Rattle.std.specs.Prelude.{◌≡◌, ◌++◌, Some, IfOk, OnOk, OnErr, string_bytes};
 ghost use Rattle.wi_parser.specs.Sheet.{content_of};
-ghost use Rattle.wi_reports.specs.Contents.{constant_text, content_text, content_record};
+ghost use Rattle.wi_parser.specs.declared.content.Content.TheVariants.{Constant};
+ghost use Rattle.wi_reports.specs.Contents.{content_text, content_record};
 
 use crate::texts::address_text;
 use std::alloc::{AllocError, Global};
@@ -54,7 +55,7 @@ fn push_content_text(content: &Content, text: &mut String) -> Result<(), AllocEr
 
 /// Appends a constant.
 fn push_constant(value: &Value, text: &mut String) -> Result<(), AllocError>
-    ensures { OnOk result (string_bytes text.new ≡ string_bytes text.old ++ constant_text value.now) }
+    ensures { OnOk result (string_bytes text.new ≡ string_bytes text.old ++ content_text (Some (Constant value.now))) }
 {
     match value {
         Value::Text(bytes) => {

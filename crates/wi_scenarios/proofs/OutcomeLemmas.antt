@@ -14,7 +14,7 @@ use Rattle.wi_scenario_list.specs.Scenarios as list
 use Rattle.wi_scenario_list.specs.Scenarios.{is_named, has_scenario, scenario_of, scenario_for, with_scenario, without_scenario, with_own, without_own, is_full}
 use Rattle.wi_scenario_list.specs.Inner.Parts.{scenario_or_new}
 use Rattle.wi_scenario_list.specs.Bases.{lacks, would_loop, based_on}
-use Rattle.wi_sessions.specs.Sessions.{max_sessions, has_session, with_session, place_of, using_scenario, told}
+use Rattle.wi_sessions.specs.Sessions.{max_sessions, has_session, with_session, index_of, using_scenario, told}
 use Rattle.wi_reports.specs.Table.{table_of}
 use Rattle.wi_reports.specs.Inner.Shape.{is_column, has_row, entries}
 use Rattle.wi_reports.specs.Rows.{rows_shown, export_of}
@@ -189,7 +189,7 @@ outcome s (Use name) a h =
 outcome s (As name) a h =
     done_so s (As name)
     (first_cause (record no_cause { too_many = not (has_session s.sessions name) && nat_le max_sessions (length s.sessions) }))
-    (record s { sessions = with_session s.sessions name; current = place_of s.sessions name }, []) a h refl
+    (record s { sessions = with_session s.sessions name; current = index_of s.sessions name }, []) a h refl
 outcome s (Show area) a h =
     done_so s (Show area) (option_or (when (nat_lt max_area (size_of area)) TooLarge) None) (s, rows_shown s.stored.sheet (current_replacements s) area) a h refl
 outcome s (Export area) a h =

@@ -8,7 +8,7 @@ use Rattle.wi_values.specs.declared.value.Value.{Value}
 use Rattle.wi_store.specs.Store.{Stored}
 use Rattle.wi_edit_log.specs.EditLog.{Entry}
 use Rattle.wi_sessions.specs.Pictures.{value_in, with_changes, sheet_size}
-use Rattle.wi_sessions.specs.Sessions.{Session, new_session, has_session, with_session, place_of, using_scenario, told}
+use Rattle.wi_sessions.specs.Sessions.{Session, new_session, has_session, with_session, index_of, using_scenario, told}
 use Rattle.wi_sessions.proofs.ChangeLists.{picture_is_shown}
 use Rattle.wi_scenarios.specs.State.{State, state_over}
 use Rattle.wi_scenarios.specs.Views.{session_at, current_session, with_current, shown_to}
@@ -117,13 +117,13 @@ first_at_most p (x ∷ xs) = by (p x) (first_at_most p xs)
     by true k = omega arith
     by false k = omega (arith, k)
 
-place_within : (xs : List Session) (name : List ℕ) → place_of xs name < length (with_session xs name)
+place_within : (xs : List Session) (name : List ℕ) → index_of xs name < length (with_session xs name)
 place_within xs name = by (has_session xs name) refl
   where
-    by : (b : Bool) → has_session xs name ≡ b → place_of xs name < length (cond b xs (xs ++ new_session name ∷ []))
+    by : (b : Bool) → has_session xs name ≡ b → index_of xs name < length (cond b xs (xs ++ new_session name ∷ []))
     by true h = first_before (λ x. bytes_eq name x.name) xs h
     by false h =
-        let k : place_of xs name ≤ length xs = first_at_most (λ x. bytes_eq name x.name) xs in
+        let k : index_of xs name ≤ length xs = first_at_most (λ x. bytes_eq name x.name) xs in
         let l = length-append xs (new_session name ∷ []) in
         omega (arith, k, l)
 

@@ -19,7 +19,7 @@ use Rattle.wi_sessions.specs.Pictures.Laws.{is_listed}
 use Rattle.wi_values.specs.declared.replacement.Replacement.{Replacement}
 use Rattle.wi_scenario_list.specs.Scenarios.{Scenario}
 use Rattle.wi_scenario_list.specs.Inner.Chains.{effective, chain}
-use Rattle.wi_sessions.specs.Sessions.{Session, new_session, max_sessions, has_session, place_of}
+use Rattle.wi_sessions.specs.Sessions.{Session, new_session, max_sessions, has_session, index_of}
 use Rattle.wi_sessions.specs.Roster.{Roster, vacant_of, SameCells}
 use Rattle.wi_edit_log.specs.EditLog.{Entry}
 use Rattle.wi_scenarios.specs.declared.refusal.Refusal.TheVariants.{TooMany}
@@ -75,13 +75,13 @@ unoccupied s a l h =
 abbrev step_by : State → List ℕ → Bool → Bool → Answer
 step_by s name there full =
     answer (record no_cause { too_many = not there && full })
-    (record s { sessions = if there then s.sessions else s.sessions ++ new_session name ∷ []; current = place_of s.sessions name }, [])
+    (record s { sessions = if there then s.sessions else s.sessions ++ new_session name ∷ []; current = index_of s.sessions name }, [])
 
 -- the answer that is found
 abbrev pub session_by : State → List ℕ → Bool → Bool → Answer
 session_by s name there full =
-    if there then Ok (record s { current = place_of s.sessions name }, [])
-    else (if full then Err TooMany else Ok (record s { sessions = s.sessions ++ new_session name ∷ []; current = place_of s.sessions name }, []))
+    if there then Ok (record s { current = index_of s.sessions name }, [])
+    else (if full then Err TooMany else Ok (record s { sessions = s.sessions ++ new_session name ∷ []; current = index_of s.sessions name }, []))
 
 abbrev pub session_found : State → List ℕ → Answer
 session_found s name = session_by s name (has_session s.sessions name) (nat_le max_sessions (length s.sessions))
@@ -92,7 +92,7 @@ step_is s name false true = refl
 step_is s name false false = refl
 
 -- a session that is there
-pub there_answer : (s : State) (name : List ℕ) (place : ℕ) → has_session s.sessions name ≡ true → place ≡ place_of s.sessions name → session_found s name ≡ Ok (record s { current = place }, [])
+pub there_answer : (s : State) (name : List ℕ) (place : ℕ) → has_session s.sessions name ≡ true → place ≡ index_of s.sessions name → session_found s name ≡ Ok (record s { current = place }, [])
 there_answer s name place h e =
     ap (λ b. session_by s name b (nat_le max_sessions (length s.sessions))) h ∙ ap (λ (p : ℕ). ok_of s p) (sym e)
   where
@@ -185,7 +185,7 @@ sound_new stored d r place name cells new few at grown more same are vacant h =
     by i a m (inl l) n k = before i a m l k
     by i a m (inr g) n k = last i a m (omega (arith, g, n)) k
 
-pub there_step : (s : State) (name : List ℕ) (place : ℕ) → has_session s.sessions name ≡ true → place ≡ place_of s.sessions name → as_step s name ≡ Ok (record s { current = place }, [])
+pub there_step : (s : State) (name : List ℕ) (place : ℕ) → has_session s.sessions name ≡ true → place ≡ index_of s.sessions name → as_step s name ≡ Ok (record s { current = place }, [])
 there_step s name place h e =
     step_is s name (has_session s.sessions name) (nat_le max_sessions (length s.sessions)) ∙ there_answer s name place h e
 

@@ -9,7 +9,7 @@ use Rattle.wi_import.specs.Fields.{areas_at}
 use Rattle.wi_edit_log.specs.EditLog.{Entry, have_cell}
 use Rattle.wi_scenario_list.specs.Scenarios.{scenario_of}
 use Rattle.wi_sessions.specs.Pictures.{sheet_size, value_in, with_changes}
-use Rattle.wi_sessions.specs.Sessions.{told, using_scenario, with_session, place_of}
+use Rattle.wi_sessions.specs.Sessions.{told, using_scenario, with_session, index_of}
 use Rattle.wi_reports.specs.Changes.{kind_text}
 use Rattle.wi_scenarios.specs.declared.refusal.Refusal.{Refusal}
 use Rattle.wi_scenarios.specs.declared.refusal.Refusal.TheVariants.{Memory, Full, EditLimit, Stale, Loop}
@@ -78,7 +78,7 @@ Leaves (Scenario name at text) old new = HasScenarioChanged name old new
 Leaves (Drop name) old new = HasScenarioChanged name old new
 Leaves (Base name other) old new = HasScenarioChanged name old new
 Leaves (Use name) old new = new ≡ with_current old (using_scenario (current_session old) name)
-Leaves (As name) old new = new ≡ record old { sessions = with_session old.sessions name; current = place_of old.sessions name }
+Leaves (As name) old new = new ≡ record old { sessions = with_session old.sessions name; current = index_of old.sessions name }
 Leaves Changes old new = new ≡ with_current old (told (current_session old) (change_list old) (length old.log))
 Leaves c old new = new ≡ old
 

@@ -10,8 +10,9 @@ use Rattle.wi_scenario_list.proofs.Chains.{the_chain}
 use Rattle.wi_sessions.specs.Sessions.{Session, new_session}
 use Rattle.wi_scenarios.specs.State.{State}
 
+-- a scenario's chain
 abbrev pub chain_of : (xs : List Scenario) (name : Option (List ℕ)) → (ys : List Scenario) × IsChainOf xs name ys
-chain_of xs name = the_chain xs name
+chain_of = the_chain
 
 -- the i-th session
 abbrev pub session_at : State → ℕ → Session

@@ -16,7 +16,7 @@ use Rattle.std.proofs.lemmas.Iterator.Adapters.{position_from-zero}
 use Rattle.indexmap.specs.IndexMap.{IndexMap, insert_entry, set_value_at}
 use Rattle.indexmap.proofs.CallerLemmas.{insert_entry-new}
 use Rattle.wi_sessions.specs.Pictures.Laws.{is_listed}
-use Rattle.wi_sessions.specs.Sessions.{has_session, place_of}
+use Rattle.wi_sessions.specs.Sessions.{has_session, index_of}
 use Rattle.wi_sessions.specs.Roster.{SameCells}
 use Rattle.wi_sessions.specs.Inner.Held.{session_in, pending_cells, rooms_of}
 use Rattle.wi_sessions.specs.declared.held.Held.{Held}
@@ -47,14 +47,14 @@ module _ {Z : Type 0} (name : List ℕ) where
   pub found_session : (es : List (Entry Z)) → is_some (position key_is (keys_of es)) ≡ has_session (map session_in es) name
   found_session es = ap is_some (position_from-zero key_is (keys_of es)) ∙ some_from key_is 0 (keys_of es) ∙ any_session es
 
-  same_place : (es : List (Entry Z)) → position_or_len key_is (keys_of es) ≡ place_of (map session_in es) name
+  same_place : (es : List (Entry Z)) → position_or_len key_is (keys_of es) ≡ index_of (map session_in es) name
   same_place [] = refl
   same_place (e ∷ es) = ap (λ (n : ℕ). cond (not (key_is e.0)) (1 + n) 0) (same_place es)
 
-  pub place_found : (es : List (Entry Z)) → IfSome (position key_is (keys_of es)) (λ i. i ≡ place_of (map session_in es) name)
+  pub place_found : (es : List (Entry Z)) → IfSome (position key_is (keys_of es)) (λ i. i ≡ index_of (map session_in es) name)
   place_found es = by (nat_lt (position_or_len key_is (keys_of es)) (length (keys_of es)))
     where
-      by : (b : Bool) → IfSome (cond b (Some (position_or_len key_is (keys_of es))) None) (λ i. i ≡ place_of (map session_in es) name)
+      by : (b : Bool) → IfSome (cond b (Some (position_or_len key_is (keys_of es))) None) (λ i. i ≡ index_of (map session_in es) name)
       by true = same_place es
       by false = tt
 

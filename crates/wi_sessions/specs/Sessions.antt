@@ -24,9 +24,9 @@ max_sessions = 64
 abbrev pub has_session : List Session → List ℕ → Bool
 has_session xs name = list_any (λ x. bytes_eq name x.name) xs
 
--- the place of the session of this name, the end where there is none
-abbrev pub place_of : List Session → List ℕ → ℕ
-place_of xs name = position_or_len (λ x. bytes_eq name x.name) xs
+-- the index of the session of this name, the end where there is none
+abbrev pub index_of : List Session → List ℕ → ℕ
+index_of xs name = position_or_len (λ x. bytes_eq name x.name) xs
 
 -- the sessions with one of this name, a new one at the end where there is none
 abbrev pub with_session : List Session → List ℕ → List Session

@@ -7,7 +7,7 @@ ghost use Rattle.std.specs.Map.{lookup};
 ghost use Rattle.std.specs.Rc.{rc_str_bytes};
 ghost use Rattle.std.specs.Str.{bytes_eq};
 ghost use Rattle.wi_sessions.specs.Pictures.Laws.{is_listed};
-ghost use Rattle.wi_sessions.specs.Sessions.{new_session, told, using_scenario, has_session, place_of};
+ghost use Rattle.wi_sessions.specs.Sessions.{new_session, told, using_scenario, has_session, index_of};
 ghost use Rattle.wi_sessions.specs.Roster.{session_at, pending_of, vacant_of, SameCells};
 ghost use Rattle.wi_sessions.specs.Inner.Held.{roster_in, with_name};
 
@@ -26,7 +26,7 @@ pub const MAX_SESSIONS: usize = 64;
 /// What sessions hold beside their names, by these names.
 type SessionMap = IndexMap<RcStr, Held>;
 
-/// Sessions in order of making. A session is named by its place in that order, which never changes.
+/// Sessions in order of making. A session is named by its index in that order, which never changes.
 #[derive(Drop)]
 pub struct Sessions {
     held: SessionMap,
@@ -84,10 +84,10 @@ impl Sessions {
         self.held.len()
     }
 
-    /// The place of the session of this name, if there is one. One look-up in a map, however many sessions there are.
+    /// The index of the session of this name, if there is one. One look-up in a map, however many sessions there are.
     pub fn find(&self, name: &str) -> Option<usize>
         ensures found { is_some result ≡ has_session self.now.sessions name.now }
-        ensures place { IfSome result (λ i. i ≡ place_of self.now.sessions name.now) }
+        ensures place { IfSome result (λ i. i ≡ index_of self.now.sessions name.now) }
         ensures within { IfSome result (λ i. i < length self.now.sessions) }
     {
         self.held.get_index_of(name)

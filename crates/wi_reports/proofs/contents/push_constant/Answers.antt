@@ -1,15 +1,16 @@
-use Rattle.std.proofs.Common.{◌≡◌, ℕ, List, ◌++◌, Result, Ok, Err, OnOk, is_ok, if◌then◌else◌, sym, ap, ◌∙◌, append_assoc}
+use Rattle.std.proofs.Common.{◌≡◌, ℕ, List, ◌++◌, Some, Result, Ok, Err, OnOk, is_ok, if◌then◌else◌, sym, ap, ◌∙◌, append_assoc}
 use Rattle.std.specs.Prelude.{codes}
 use Rattle.wi_values.specs.declared.value.Value.{Value}
 use Rattle.wi_values.specs.declared.value.Value.TheVariants.{Text}
-use Rattle.wi_reports.specs.Contents.{constant_text}
+use Rattle.wi_parser.specs.declared.content.Content.TheVariants.{Constant}
+use Rattle.wi_reports.specs.Contents.{content_text}
 use Rattle.wi_reports.proofs.contents.push_constant.Goals as goal
 
 -- a text behind its apostrophe
 marked : {E : Type 0} (r : Result (Unit {0}) E) (before mid next lent bytes : List ℕ) (v : Value) → mid ≡ before ++ codes "'" → next ≡ (if is_ok r then mid ++ lent else mid) → lent ≡ bytes → v ≡ Text bytes
-    → OnOk r (next ≡ before ++ constant_text v)
+    → OnOk r (next ≡ before ++ content_text (Some (Constant v)))
 marked (Ok u) before mid next lent bytes v first second same is =
-    second ∙ ap (λ xs. xs ++ lent) first ∙ append_assoc before (codes "'") lent ∙ ap (λ xs. before ++ (codes "'" ++ xs)) same ∙ sym (ap (λ x. before ++ constant_text x) is)
+    second ∙ ap (λ xs. xs ++ lent) first ∙ append_assoc before (codes "'") lent ∙ ap (λ xs. before ++ (codes "'" ++ xs)) same ∙ sym (ap (λ x. before ++ content_text (Some (Constant x))) is)
 marked (Err e) before mid next lent bytes v first second same is = tt
 
 pub returns-in_ok-push_str-in-Text : goal.returns-in_ok-push_str-in-Text

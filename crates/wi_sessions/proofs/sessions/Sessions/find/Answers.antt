@@ -1,7 +1,7 @@
 use Rattle.std.proofs.Common.{◌≡◌, ℕ, Option, map, sym, ap, subst, ◌∙◌}
 use Rattle.std.specs.Prelude.{IfSome}
 use Rattle.std.specs.Option.{is_some}
-use Rattle.wi_sessions.specs.Sessions.{has_session, place_of}
+use Rattle.wi_sessions.specs.Sessions.{has_session, index_of}
 use Rattle.wi_sessions.specs.Roster.{Roster}
 use Rattle.wi_sessions.specs.Inner.Held.{session_in}
 use Rattle.wi_sessions.proofs.RosterLemmas.{found_session, place_found}
@@ -14,6 +14,6 @@ returns-clause-found c =
 
 pub returns-clause-place : goal.returns-clause-place
 returns-clause-place c =
-    subst (λ (r : Roster). IfSome c.get_index_of.result (λ i. i ≡ place_of r.sessions c.args.name.now)) c.self.view_is
-    (subst (λ (o : Option ℕ). IfSome o (λ i. i ≡ place_of (map session_in c.self.inside.held.entries) c.args.name.now)) (sym c.get_index_of.ensures.index)
+    subst (λ (r : Roster). IfSome c.get_index_of.result (λ i. i ≡ index_of r.sessions c.args.name.now)) c.self.view_is
+    (subst (λ (o : Option ℕ). IfSome o (λ i. i ≡ index_of (map session_in c.self.inside.held.entries) c.args.name.now)) (sym c.get_index_of.ensures.index)
     (place_found c.args.name.now c.self.inside.held.entries))
