@@ -15,6 +15,7 @@ pub mod Steps
 pub mod Lacks
 pub mod Wants
 pub mod Replies
+pub mod Events
 pub mod Addresses
 pub mod Rects
 pub mod Splitting

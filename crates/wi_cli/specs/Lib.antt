@@ -9,6 +9,7 @@ pub mod Script
 pub mod Outcome
 pub mod Step
 pub mod Laws
+pub mod Events
 pub mod InTurn
 pub mod Status
 pub mod Inner

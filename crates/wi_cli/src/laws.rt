@@ -1,12 +1,16 @@
-//! That the definitions of a script's commands and of its outcome are what the code's own contracts say.
+//! That the definitions of a script's commands and of its outcome are what the code's own contracts say, and what holds of commands one
+//! after another.
 
-ghost use Rattle.std.specs.Prelude.{Bool, List, Option, Result};
+ghost use Rattle.std.specs.Prelude.{ℕ, Bool, List, Option, Result, Ok};
 ghost use Rattle.wi_scenarios.specs.State.{State};
+ghost use Rattle.wi_scenarios.specs.Laws.{IsSettled};
 ghost use Rattle.wi_cli.specs.declared.fault.RunFault.{RunFault};
 ghost use Rattle.wi_cli.specs.Inner.Blocks.{blocks};
 ghost use Rattle.wi_cli.specs.Lines.{Bytes};
-ghost use Rattle.wi_cli.specs.Command.{Command};
+ghost use Rattle.wi_cli.specs.Command.{Command, Changes};
+ghost use Rattle.wi_cli.specs.Step.{IsStep};
 ghost use Rattle.wi_cli.specs.Laws.{before, HasCommands, HasOneAnswer, SameAddr, SameCommands, SameLack, SameOutcome, SameRect, SameReply, SameRuns, SameStep, Splits};
+ghost use Rattle.wi_cli.specs.Events.{Event, ForcedIsNotStale, KeepsApart, ListsAddUp, LogIsRun, MayFollow, MayHappen, RecordsTellList, StaleIsNewer, StaysSettled};
 
 /// A command is answered as its step says.
 #[tactic(auto, using(crate::proofs::Ties::Steps::same_step))]
@@ -71,4 +75,33 @@ pub fn lines_have_no_others()
 #[tactic(auto, using(crate::proofs::Ties::Outcomes::same_outcome))]
 pub fn outcomes_are_the_same()
     ensures { (r : Result (Unit {0}) RunFault) (left : Option Bytes) (s t : State) (input out : Bytes) → SameOutcome r left s t input out }
+{}
+
+/// After commands one after another, the current session is one of the sessions, and none has seen more of the log than there is, if that
+/// was so before. In a new workbook it is so.
+pub fn runs_stay_settled()
+    ensures { (s : State) (es : List Event) → StaysSettled s es }
+{}
+
+/// In every interleaving, the change lists that a session is told add up to its picture, which has what it was last shown.
+pub fn change_lists_add_up()
+    ensures { (s : State) (es : List Event) (i : ℕ) → IsSettled s → MayFollow s es → ListsAddUp s es i }
+{}
+
+/// The records of a change list tell its addresses, kinds and texts, and with them the list.
+pub fn records_tell_lists()
+    ensures { (s t : State) (records : Bytes) → IsStep s Changes (Ok (t, records)) → RecordsTellList s records }
+{}
+
+/// No command changes a session that isn't current.
+pub fn sessions_keep_apart()
+    ensures { (s : State) (e : Event) (i : ℕ) → IsSettled s → MayHappen s e → KeepsApart s e i }
+{}
+
+/// The log is the accepted edits, and what a session hasn't seen of it are those since it was last told a change list. An edit is
+/// refused for a stale cell exactly where others' edits since then name the cell; one that is forced never is.
+pub fn stale_is_newer()
+    ensures log { (s : State) (es : List Event) (i : ℕ) → IsSettled s → MayFollow s es → LogIsRun s es i }
+    ensures stale { (s : State) (es : List Event) (e : Event) → IsSettled s → MayFollow s es → StaleIsNewer s es e }
+    ensures forced { (s : State) (e : Event) → ForcedIsNotStale s e }
 {}

@@ -1,0 +1,324 @@
+-- What holds of commands one after another, by the laws over the calls of a workbook.
+use Rattle.std.proofs.Common.{◌≡◌, ◌≢◌, ◌↔◌, ◌==◌, ◌-◌, ◌&&◌, ◌++◌, ◌⊎◌, inl, inr, ℕ, Bool, true, false, cond, List, [], ◌∷◌, length, map, Option, Some, None, Result, Ok, Err, refl, sym, ap, ap₂, ◌∙◌, subst, append-nil}
+use Rattle.std.specs.List.{list_any, list_all, concat}
+use Rattle.std.specs.Result.{result_err}
+use Rattle.std.proofs.lemmas.Bool.{and_parts, both_ways, false≢true}
+use Rattle.std.proofs.lemmas.List.{append_cancel_left}
+use Rattle.std.proofs.lemmas.Option.{none-some}
+use Rattle.wi_values.specs.Address.{Area}
+use Rattle.wi_values.specs.declared.address.AddressFault.{AddressFault}
+use Rattle.wi_values.specs.declared.address.AddressFault.TheVariants.{Shape, Outside as AtOutside}
+use Rattle.wi_values.specs.declared.value.Value.{Value}
+use Rattle.wi_edit_log.specs.EditLog.{Entry}
+use Rattle.wi_sessions.specs.Pictures.{value_in}
+use Rattle.wi_scenarios.specs.declared.refusal.Refusal.{Refusal}
+use Rattle.wi_scenarios.specs.declared.refusal.Refusal.TheVariants as refusal
+use Rattle.wi_scenarios.specs.State.{State}
+use Rattle.wi_scenarios.specs.Views.{session_at, shown_to}
+use Rattle.wi_scenarios.specs.Changes.{change_list}
+use Rattle.wi_scenarios.specs.Step as old
+use Rattle.wi_scenarios.specs.Laws as laws
+use Rattle.wi_scenarios.specs.Laws.{left_by, IsSettled, with_lists, unseen, IsFirstNewer, counts_before, is_refused_before}
+use Rattle.wi_scenarios.proofs.RunLemmas as runs
+use Rattle.wi_scenarios.proofs.StaleLemmas.{stale_exactly}
+use Rattle.wi_scenarios.proofs.RecordLemmas.{records_tell_list}
+use Rattle.wi_cli.specs.Inner.Operands.{of_operand, worse, column_fault, row_fault}
+use Rattle.wi_cli.specs.Inner.EditCommands.{fill_command_of}
+use Rattle.wi_cli.specs.Inner.TableCommand.{unless_refused, table_of_one, table_of_two}
+use Rattle.wi_cli.specs.Inner.CsvCommand.{is_long, csv_command}
+use Rattle.wi_cli.specs.Lines.{Bytes}
+use Rattle.wi_cli.specs.Command.{Command, Set, Clear, Fill, Csv, Scenario, Drop, Base, Use, As, Show, Export, Compare, Table, Formula, Changes, Unknown, Unreadable}
+use Rattle.wi_cli.specs.Edits.{named, is_forced}
+use Rattle.wi_cli.specs.Causes.{Cause, BadLine, BadCommand, CutShort, Outside, TooLarge, NoScenario, InUse, TooMany, BadField, TooLong, OutOfSheet, NumberRange, TooDeep, Syntax, LeavesSheet, Stale, Loop, Full, EditLimit, Holds, stale_cell}
+use Rattle.wi_cli.specs.Does.{Does}
+use Rattle.wi_cli.specs.Step.{Answer, Tells, IsStep, causes, IsFirstOf}
+use Rattle.wi_cli.specs.Laws.{was, read_cell, read_corners, read_any}
+use Rattle.wi_cli.specs.Events.{Event, MayHappen, MayFollow, state_after, StaysSettled, KeepsApart, tells, is_told, lists_told, last_shown, ListsAddUp, RecordsTellList, logged_by, edits_in, edits_since, LogIsRun, StaleIsNewer, ForcedIsNotStale}
+use Rattle.wi_cli.proofs.Ties.Uniqueness.{first_holds}
+use Rattle.wi_cli.proofs.Ties.Steps.{same_step}
+
+-- ---- an event as one of the calls of a workbook
+
+abbrev as_was : Event → laws.Event
+as_was e = record { command = was e.command; answer = e.answer }
+
+abbrev were : List Event → List laws.Event
+were es = map as_was es
+
+happens : (s : State) (e : Event) → MayHappen s e → laws.MayHappen s (as_was e)
+happens s e (inl h) = inl ((same_step s e.command e.answer).1 h)
+happens s e (inr h) = inr h
+
+follow : (s : State) (es : List Event) → MayFollow s es → laws.IsRun s (were es)
+follow s [] h = h
+follow s (e ∷ es) h = (happens s e h.0, follow (left_by s e.answer) es h.1)
+
+state_was : (s : State) (es : List Event) → laws.state_after s (were es) ≡ state_after s es
+state_was s [] = refl
+state_was s (e ∷ es) = state_was (left_by s e.answer) es
+
+pub stays_settled : (s : State) (es : List Event) → StaysSettled s es
+stays_settled s es settled run = subst IsSettled (state_was s es) (runs.stays_settled s (were es) settled (follow s es run))
+
+pub keeps_apart : (s : State) (e : Event) (i : ℕ) → IsSettled s → MayHappen s e → KeepsApart s e i
+keeps_apart s e i settled h = runs.keeps_apart s (as_was e) i settled (happens s e h)
+
+-- ---- what is told
+
+module _ (done : State × Bytes) where
+  abbrev TellsNothing : old.Command → Type 0
+  TellsNothing c = laws.tells (Ok done) c ≡ false
+
+  by_operand : {X : Type 0} (r : Result X AddressFault) (f : X → old.Command) → ((x : X) → TellsNothing (f x)) → TellsNothing (of_operand r f)
+  by_operand (Ok x) f h = h x
+  by_operand (Err fault) f h = refl
+
+  by_set : (b : Bool) (c : old.Command) → TellsNothing c → TellsNothing (cond b (old.Refused refusal.BadCommand) c)
+  by_set true c h = refl
+  by_set false c h = h
+
+  by_fill : (force : Bool) (from : Result ℕ AddressFault) (area : Result Area AddressFault) → TellsNothing (fill_command_of force from area)
+  by_fill force (Ok from) (Ok area) = refl
+  by_fill force (Ok from) (Err fault) = refl
+  by_fill force (Err Shape) area = refl
+  by_fill force (Err AtOutside) (Ok area) = refl
+  by_fill force (Err AtOutside) (Err fault) = refl
+
+  by_csv : (force : Bool) (at : Result ℕ AddressFault) (lines : List Bytes) (missing : ℕ) → TellsNothing (csv_command force at lines missing)
+  by_csv force (Ok at) lines missing = by (list_any is_long lines) (missing == 0)
+    where
+      by : (b c : Bool) → TellsNothing (cond b (old.RefusedData refusal.BadLine) (cond c (old.Csv force at (concat lines)) (old.RefusedData refusal.CutShort)))
+      by true c = refl
+      by false true = refl
+      by false false = refl
+  by_csv force (Err Shape) lines missing = by (list_any is_long lines)
+    where
+      by : (b : Bool) → TellsNothing (cond b (old.Refused refusal.BadLine) (old.Refused refusal.BadCommand))
+      by true = refl
+      by false = refl
+  by_csv force (Err AtOutside) lines missing = by (list_any is_long lines) (missing == 0)
+    where
+      by : (b c : Bool) → TellsNothing (cond b (old.Refused refusal.BadLine) (cond c (old.Refused refusal.OutOfSheet) (old.Refused refusal.CutShort)))
+      by true c = refl
+      by false true = refl
+      by false false = refl
+
+  by_table : (o : Option AddressFault) (c : old.Command) → TellsNothing c → TellsNothing (unless_refused o c)
+  by_table None c h = h
+  by_table (Some fault) c h = refl
+
+  by_one : (f r : Result ℕ AddressFault) (xs : Result Area AddressFault) → TellsNothing (table_of_one f r xs)
+  by_one f r xs =
+      by_table (worse (result_err f) (worse (result_err r) (column_fault xs))) (of_operand f (λ f. of_operand r (λ r. of_operand xs (λ xs. old.Table f r xs None))))
+      (by_operand f (λ f. of_operand r (λ r. of_operand xs (λ xs. old.Table f r xs None)))
+      (λ f. by_operand r (λ r. of_operand xs (λ xs. old.Table f r xs None)) (λ r. by_operand xs (λ xs. old.Table f r xs None) (λ xs. refl))))
+
+  by_two : (f r : Result ℕ AddressFault) (xs : Result Area AddressFault) (c : Result ℕ AddressFault) (ys : Result Area AddressFault) → TellsNothing (table_of_two f r xs c ys)
+  by_two f r xs c ys =
+      by_table (worse (result_err f) (worse (result_err r) (worse (column_fault xs) (worse (result_err c) (row_fault ys)))))
+      (of_operand f (λ f. of_operand r (λ r. of_operand xs (λ xs. of_operand c (λ c. of_operand ys (λ ys. old.Table f r xs (Some (c, ys))))))))
+      (by_operand f (λ f. of_operand r (λ r. of_operand xs (λ xs. of_operand c (λ c. of_operand ys (λ ys. old.Table f r xs (Some (c, ys)))))))
+      (λ f. by_operand r (λ r. of_operand xs (λ xs. of_operand c (λ c. of_operand ys (λ ys. old.Table f r xs (Some (c, ys))))))
+      (λ r. by_operand xs (λ xs. of_operand c (λ c. of_operand ys (λ ys. old.Table f r xs (Some (c, ys)))))
+      (λ xs. by_operand c (λ c. of_operand ys (λ ys. old.Table f r xs (Some (c, ys)))) (λ c. by_operand ys (λ ys. old.Table f r xs (Some (c, ys))) (λ ys. refl))))))
+
+  told_by : (c : Command) → laws.tells (Ok done) (was c) ≡ tells (Ok done) c
+  told_by (Set force at text) =
+      by_set (length text == 0) (of_operand (read_cell at) (λ a. old.Set force a text)) (by_operand (read_cell at) (λ a. old.Set force a text) (λ x. refl))
+  told_by (Clear force rect) = by_operand (read_corners rect) (λ r. old.Clear force r) (λ x. refl)
+  told_by (Fill force at rect) = by_fill force (read_cell at) (read_corners rect)
+  told_by (Csv force at n lines) = by_csv force (read_any at) lines (n - length lines)
+  told_by (Scenario name at text) = by_operand (read_cell at) (λ a. old.Scenario name a text) (λ x. refl)
+  told_by (Drop name) = refl
+  told_by (Base name other) = refl
+  told_by (Use name) = refl
+  told_by (As name) = refl
+  told_by (Show rect) = by_operand (read_corners rect) (λ r. old.Show r) (λ x. refl)
+  told_by (Export rect) = by_operand (read_corners rect) (λ r. old.Export r) (λ x. refl)
+  told_by (Compare p q rect) = by_operand (read_corners rect) (λ r. old.Compare p q r) (λ x. refl)
+  told_by (Table f r xs None) = by_one (read_cell f) (read_cell r) (read_corners xs)
+  told_by (Table f r xs (Some y)) = by_two (read_cell f) (read_cell r) (read_corners xs) (read_cell y.0) (read_corners y.1)
+  told_by (Formula at) = by_operand (read_cell at) (λ a. old.Formula a) (λ x. refl)
+  told_by Changes = refl
+  told_by Unknown = refl
+  told_by Unreadable = refl
+
+same_tells : (a : Answer) (c : Command) → laws.tells a (was c) ≡ tells a c
+same_tells (Ok done) c = told_by done c
+same_tells (Err e) c = refl
+
+same_told : (i : ℕ) (s : State) (e : Event) → laws.is_told i s (as_was e) ≡ is_told i s e
+same_told i s e = ap (λ (b : Bool). b && (s.current == i)) (same_tells e.answer e.command)
+
+same_lists : (i : ℕ) (s : State) (es : List Event) → laws.lists_told i s (were es) ≡ lists_told i s es
+same_lists i s [] = refl
+same_lists i s (e ∷ es) =
+    ap₂ (λ (b : Bool) (ls : List (List (ℕ × Value))). cond b (change_list s ∷ []) [] ++ ls) (same_told i s e) (same_lists i (left_by s e.answer) es)
+
+same_shown : (i a : ℕ) (v : Value) (s : State) (es : List Event) → laws.last_shown i a v s (were es) ≡ last_shown i a v s es
+same_shown i a v s [] = refl
+same_shown i a v s (e ∷ es) =
+    ap (λ (b : Bool). laws.last_shown i a (cond b (shown_to s (session_at s i) a) v) (left_by s e.answer) (were es)) (same_told i s e)
+    ∙ same_shown i a (cond (is_told i s e) (shown_to s (session_at s i) a) v) (left_by s e.answer) es
+
+pub lists_add_up : (s : State) (es : List Event) (i : ℕ) → IsSettled s → MayFollow s es → ListsAddUp s es i
+lists_add_up s es i settled run =
+    let h = runs.lists_add_up s (were es) i settled (follow s es run) in
+    let before = (session_at s i).picture in
+    record {
+      picture = ap (λ (t : State). (session_at t i).picture) (sym (state_was s es)) ∙ h.picture ∙ ap (with_lists before) (same_lists i s es);
+      shown = λ a l.
+          ap (λ (ls : List (List (ℕ × Value))). value_in (with_lists before ls) a) (sym (same_lists i s es))
+          ∙ h.shown a l ∙ same_shown i a (value_in before a) s es;
+    }
+
+pub records_tell : (s t : State) (records : Bytes) → IsStep s Changes (Ok (t, records)) → RecordsTellList s records
+records_tell s t records h =
+    let told = records_tell_list s t records ((same_step s Changes (Ok (t, records))).1 h) in
+    record { read = told.read; one = λ r u k. told.one r u ((same_step r Changes (Ok (u, records))).1 k) }
+
+-- ---- the log
+
+unlike : (done : State × Bytes) (e : Refusal) → ◌≡◌ {A = Answer} (Ok done) (Err e) → ⊥
+unlike done e h = cc
+
+module _ (s : State) where
+  abbrev log_in : State × Bytes → List Entry
+  log_in done = done.0.log
+
+  grown : (c : Command) (done : State × Bytes) → Does s c done → log_in done ≡ s.log ++ logged_by s (record { command = c; answer = Ok done })
+  grown (Set force at text) done h = ap log_in h.2
+  grown (Clear force rect) done h = ap log_in h.2
+  grown (Fill force at rect) done h = ap log_in h.2
+  grown (Csv force at n lines) done h = ap log_in h.2
+  grown (Scenario name at []) done h = ap log_in h ∙ sym (append-nil s.log)
+  grown (Scenario name at (b ∷ bs)) done h = ap log_in h.2 ∙ sym (append-nil s.log)
+  grown (Drop name) done h = ap log_in h ∙ sym (append-nil s.log)
+  grown (Base name other) done h = ap log_in h ∙ sym (append-nil s.log)
+  grown (Use name) done h = ap log_in h ∙ sym (append-nil s.log)
+  grown (As name) done h = ap log_in h ∙ sym (append-nil s.log)
+  grown (Show rect) done h = ap log_in h ∙ sym (append-nil s.log)
+  grown (Export rect) done h = ap log_in h ∙ sym (append-nil s.log)
+  grown (Compare p q rect) done h = ap log_in h ∙ sym (append-nil s.log)
+  grown (Table f r xs second) done h = ap log_in h ∙ sym (append-nil s.log)
+  grown (Formula at) done h = ap log_in h ∙ sym (append-nil s.log)
+  grown Changes done h = ap log_in h ∙ sym (append-nil s.log)
+  grown Unknown done h = absurd h.1
+  grown Unreadable done h = absurd h.1
+
+  log_then : (c : Command) (a : Answer) → MayHappen s (record { command = c; answer = a }) → (left_by s a).log ≡ s.log ++ logged_by s (record { command = c; answer = a })
+  log_then c (Err e) h = sym (append-nil s.log)
+  log_then c (Ok done) (inl h) = grown c done h.1
+  log_then c (Ok done) (inr h) = absurd (unlike done refusal.Memory h)
+
+same_logged : (s : State) (e : Event) → MayHappen s e → laws.logged_by s (as_was e) ≡ logged_by s e
+same_logged s e h = append_cancel_left s.log (laws.logged_by s (as_was e)) (logged_by s e) (sym (runs.log_by s (as_was e) (happens s e h)) ∙ log_then s e.command e.answer h)
+
+same_edits : (s : State) (es : List Event) → MayFollow s es → laws.edits_in s (were es) ≡ edits_in s es
+same_edits s [] run = refl
+same_edits s (e ∷ es) run =
+    ap₂ (λ (xs ys : List Entry). xs ++ ys) (same_logged s e run.0) (same_edits (left_by s e.answer) es run.1)
+
+same_since : (i : ℕ) (earlier : List Entry) (s : State) (es : List Event) → MayFollow s es → laws.edits_since i earlier s (were es) ≡ edits_since i earlier s es
+same_since i earlier s [] run = refl
+same_since i earlier s (e ∷ es) run =
+    ap₂ (λ (b : Bool) (xs : List Entry). laws.edits_since i (cond b [] (earlier ++ xs)) (left_by s e.answer) (were es)) (same_told i s e) (same_logged s e run.0)
+    ∙ same_since i (cond (is_told i s e) [] (earlier ++ logged_by s e)) (left_by s e.answer) es run.1
+
+pub log_is_run : (s : State) (es : List Event) (i : ℕ) → IsSettled s → MayFollow s es → LogIsRun s es i
+log_is_run s es i settled run =
+    let h = runs.log_is_run s (were es) i settled (follow s es run) in
+    record {
+      log = ap (λ (t : State). t.log) (sym (state_was s es)) ∙ h.log ∙ ap (λ (xs : List Entry). s.log ++ xs) (same_edits s es run);
+      behind = ap (λ (t : State). unseen t i) (sym (state_was s es)) ∙ h.place ∙ same_since i (unseen s i) s es run;
+    }
+
+-- ---- stale cells
+
+one_cell : (a b : ℕ) → ◌≡◌ {A = Refusal} (refusal.Stale a) (refusal.Stale b) → a ≡ b
+one_cell a b h = cc
+
+refused_so : (d e : Refusal) → ◌≡◌ {A = Answer} (Err d) (Err e) → d ≡ e
+refused_so d e h = cc
+
+module _ (s : State) (c : Command) where
+  -- no other cause is told so
+  stale_only : (x : Cause) (a : ℕ) → Tells s c x (refusal.Stale a) → x ≡ Stale
+  stale_only Stale a t = refl
+  stale_only x a t = cc
+
+  -- the cause stands before that of a stale cell
+  abbrev is_before : Cause → Bool
+  is_before Stale = false
+  is_before Loop = false
+  is_before Full = false
+  is_before EditLimit = false
+  is_before x = true
+
+  counts : (x : Cause) → is_before x ≡ true → (e : Refusal) → Tells s c x e → counts_before e ≡ true
+  counts Stale b e t = absurd (false≢true b)
+  counts Loop b e t = absurd (false≢true b)
+  counts Full b e t = absurd (false≢true b)
+  counts EditLimit b e t = absurd (false≢true b)
+  counts x b e t = ap counts_before t
+
+  -- where the cause y holds, the first that holds is in front of it, or is y
+  at_most : (front : List Cause) (y : Cause) (rest : List Cause) → list_all is_before front ≡ true → Holds s y c → (x : Cause) → IsFirstOf s c (front ++ y ∷ rest) x
+      → (is_before x ≡ true) ⊎ (x ≡ y)
+  at_most [] y rest all h x (inl k) = inr k.1
+  at_most [] y rest all h x (inr k) = absurd (k.0 h)
+  at_most (z ∷ zs) y rest all h x (inl k) = inl (ap is_before k.1 ∙ (and_parts (is_before z) (list_all is_before zs) all).0)
+  at_most (z ∷ zs) y rest all h x (inr k) = at_most zs y rest (and_parts (is_before z) (list_all is_before zs) all).1 h x k.1
+
+  abbrev front : List Cause
+  front =
+      BadLine ∷ BadCommand ∷ CutShort ∷ Outside ∷ TooLarge ∷ NoScenario ∷ InUse ∷ TooMany ∷ BadField ∷ TooLong ∷ OutOfSheet ∷ NumberRange ∷ TooDeep ∷ Syntax ∷ LeavesSheet ∷ []
+
+  is_stale : (b : Answer) (a : ℕ) → IsStep s c b → b ≡ Err (refusal.Stale a) → stale_cell s c ≡ Some a
+  is_stale b a h e =
+      let k = subst (IsStep s c) e h in
+      let t = subst (λ (x : Cause). Tells s c x (refusal.Stale a)) (stale_only k.0 a k.2) k.2 in
+      t.1 ∙ ap Some (sym (one_cell a t.0 t.2))
+
+  told_stale : (b : Answer) (a : ℕ) → IsStep s c b → is_forced c ≡ false → is_refused_before b ≡ false → stale_cell s c ≡ Some a → b ≡ Err (refusal.Stale a)
+  told_stale (Ok done) a h free f e = absurd (h.0 Stale (free, λ n. none-some a (sym n ∙ e)))
+  told_stale (Err d) a h free f e = by (at_most front Stale (Loop ∷ Full ∷ EditLimit ∷ []) refl (free, λ n. none-some a (sym n ∙ e)) h.0 h.1)
+    where
+      one : (b : ℕ) → ◌≡◌ {A = Option ℕ} (Some b) (Some a) → b ≡ a
+      one b k = cc
+
+      by : (is_before h.0 ≡ true) ⊎ (h.0 ≡ Stale) → ◌≡◌ {A = Answer} (Err d) (Err (refusal.Stale a))
+      by (inl k) = absurd (both_ways (counts_before d) f (counts h.0 k d h.2))
+      by (inr k) =
+          let t = subst (λ (x : Cause). Tells s c x d) k h.2 in
+          ap (λ (x : Refusal). let z : Answer = Err x in z) (t.2 ∙ ap refusal.Stale (one t.0 (sym t.1 ∙ e)))
+
+  forced_not : (b : Answer) (a : ℕ) → IsStep s c b → is_forced c ≡ true → b ≢ Err (refusal.Stale a)
+  forced_not b a h forced e =
+      let k = subst (IsStep s c) e h in
+      let held = subst (λ (x : Cause). Holds s x c) (stale_only k.0 a k.2) (first_holds s c causes k.0 k.1) in
+      both_ways (is_forced c) held.0 forced
+
+pub stale_is_newer : (s : State) (es : List Event) (e : Event) → IsSettled s → MayFollow s es → StaleIsNewer s es e
+stale_is_newer s es e settled run h free f a = by h
+  where
+    t : State
+    t = state_after s es
+
+    since : List Entry
+    since = edits_since t.current (unseen s t.current) s es
+
+    exactly : (stale_cell t e.command ≡ Some a) ↔ IsFirstNewer since t.current (named e.command) a
+    exactly = subst (λ (edits : List Entry). (stale_cell t e.command ≡ Some a) ↔ IsFirstNewer edits t.current (named e.command) a)
+        (log_is_run s es t.current settled run).behind (stale_exactly (unseen t t.current) t.current (named e.command) a)
+
+    by : MayHappen t e → (e.answer ≡ Err (refusal.Stale a)) ↔ IsFirstNewer since t.current (named e.command) a
+    by (inl k) = (λ x. exactly.0 (is_stale t e.command e.answer a k x), λ y. told_stale t e.command e.answer a k free f (exactly.1 y))
+    by (inr k) = absurd (both_ways (is_refused_before e.answer) f (ap is_refused_before k))
+
+pub forced_is_not_stale : (s : State) (e : Event) → ForcedIsNotStale s e
+forced_is_not_stale s e (inl h) forced a x = forced_not s e.command e.answer a h forced x
+forced_is_not_stale s e (inr h) forced a x = other (refused_so refusal.Memory (refusal.Stale a) (sym h ∙ x))
+  where
+    other : ◌≡◌ {A = Refusal} refusal.Memory (refusal.Stale a) → ⊥
+    other k = cc
