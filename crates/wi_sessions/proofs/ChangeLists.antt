@@ -4,16 +4,13 @@ use Rattle.std.specs.Prelude.{filter, unwrap_or, nat_eq, ◌==◌}
 use Rattle.std.specs.List.{range_with_len}
 use Rattle.std.proofs.lemmas.Bool.{false≢true}
 use Rattle.std.proofs.lemmas.Bool.Decides.{nat_tests}
-use Rattle.std.proofs.lemmas.Grind.{common_steps}
-use Rattle.wi_fraction.specs.Order.Laws.{numbers}
-use Rattle.wi_values.specs.Inner.Same.{texts}
 use Rattle.wi_values.specs.declared.value.Value.{Value}
 use Rattle.wi_values.specs.declared.value.Value.TheVariants.{Empty, Number, Text, Logical, Fault}
 use Rattle.std.specs.Ordering.{nat_cmp}
 use Rattle.std.specs.Map.{lookup}
 use Rattle.std.specs.BTreeMap.{is_at}
 use Rattle.wi_values.proofs.Lookups.{found-insert, found-without}
-use Rattle.wi_sessions.specs.Pictures.{same_value, value_in, with_value, with_changes, sheet_size}
+use Rattle.wi_sessions.specs.Pictures.{equality, same_value, value_in, with_value, with_changes, sheet_size}
 use Rattle.wi_sessions.specs.Pictures.Laws.{is_listed, Rises, AnyCells, PictureIsShown, every_cell}
 
 -- an element at which the test fails is left out
@@ -70,7 +67,7 @@ in_range p (suc n) a high (c ∷ cs) e r all =
     ] refl
 
 same_itself : (v : Value) → same_value v v ≡ true
-same_itself v = grind (arith, common_steps, numbers, texts)
+same_itself v = (equality.1 v v).1 refl
 
 pub any_cells : AnyCells
 any_cells cells picture shown h =
@@ -151,7 +148,7 @@ among p q (suc n) a high e low top =
     there false h t = ap (λ x. is_listed (cond x (a ∷ filter p (range_with_len (a + 1) n)) (filter p (range_with_len (a + 1) n))) q) h
 
 same_means : (v w : Value) → same_value v w ≡ true → v ≡ w
-same_means v w e = grind (arith, common_steps, numbers, texts)
+same_means v w e = (equality.1 v w).0 e
 
 pub picture_is_shown : PictureIsShown
 picture_is_shown picture shown a h =

@@ -1,5 +1,5 @@
 -- Pictures of a sheet: the values that a session was last shown, and what has changed since.
-use Rattle.std.specs.Prelude.{ℕ, ◌*◌, Bool, not, ◌==◌, List, [], ◌∷◌, map, filter, unwrap_or}
+use Rattle.std.specs.Prelude.{◌≡◌, ℕ, ◌*◌, Bool, not, ◌==◌, Decides, List, [], ◌∷◌, map, filter, unwrap_or}
 use Rattle.std.specs.List.{range_with_len}
 use Rattle.std.specs.Ordering.{nat_cmp}
 use Rattle.std.specs.Map.{lookup}
@@ -7,12 +7,15 @@ use Rattle.std.specs.BTreeMap.{is_at, insert_entry}
 use Rattle.wi_values.specs.Address.{rows, columns}
 use Rattle.wi_values.specs.declared.value.Value.{Value}
 use Rattle.wi_values.specs.declared.value.Value.TheVariants.{Empty}
-use Rattle.wi_values.specs.contracts.value.ValuePartialEq.TheImpl as equality
+use Rattle.wi_values.proofs.Equal.{the_equality}
 pub mod Laws
 
--- two values are one: of the same kind, and with the same content
+-- a test that is true exactly where two values are one
+abbrev pub equality : (test : Value → Value → Bool) × ((v w : Value) → Decides (test v w) (v ≡ w))
+equality = the_equality
+
 abbrev pub same_value : Value → Value → Bool
-same_value = equality.ghosts.eq
+same_value = equality.0
 
 -- the value that a picture has at a cell, Empty where it names none
 abbrev pub value_in : List (ℕ × Value) → ℕ → Value
