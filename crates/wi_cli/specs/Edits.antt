@@ -9,7 +9,7 @@ use Rattle.wi_parser.specs.Sheet.{Sheet, content_of}
 use Rattle.wi_csv.specs.Records.{recs}
 use Rattle.wi_import.specs.Fields.{Field, fields_from, areas_from}
 use Rattle.wi_import.specs.Imports.{AreChanges}
-use Rattle.wi_store.specs.Store.{edited, settled}
+use Rattle.wi_store.specs.Store.{edited, without_empty}
 use Rattle.wi_scenarios.specs.State.{State}
 use Rattle.wi_scenarios.specs.Fill.{copied}
 use Rattle.wi_cli.specs.Operands.{Cell, address, area}
@@ -55,7 +55,7 @@ module _ (s : State) where
 
   -- the sheet after an edit, and the state, whose log has it
   abbrev pub sheet_with : List Put → Sheet
-  sheet_with puts = edited s.stored.sheet (map (λ p. (p.0, settled p.1)) puts)
+  sheet_with puts = edited s.stored.sheet (map (λ p. (p.0, without_empty p.1)) puts)
 
   abbrev pub after_edit : Command → List Put → State
   after_edit c puts = record s {

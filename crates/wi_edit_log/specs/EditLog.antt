@@ -3,7 +3,7 @@ use Rattle.std.specs.Prelude.{ℕ, Bool, ◌==◌, ◌&&◌, not, min, List, dro
 use Rattle.std.specs.List.{list_any, flat_map, reduce}
 use Rattle.wi_values.specs.Address.{Area, is_within, cells_of}
 
--- an edit: the place of its session in the order of making, and the rectangles that it named
+-- an edit: the index of its session in the order of making, and the rectangles that it named
 pub record Entry : Type 0 where
   pub session : ℕ
   pub cells : List Area

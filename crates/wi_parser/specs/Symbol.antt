@@ -11,7 +11,7 @@ use Rattle.wi_parser.specs.declared.fault.ParseFault.{ParseFault}
 use Rattle.wi_parser.specs.declared.fault.ParseFault.TheVariants.{OutOfSheet, NumberRange}
 use Rattle.wi_fraction.specs.Text.{Bytes}
 
--- A refused token has no value: no formula has it, for this reason.
+-- A bad token has no value: no formula has it, for this reason.
 pub data Symbol : Type 0 where
   numeral : Number → Symbol
   -- without its quotes
@@ -25,7 +25,7 @@ pub data Symbol : Type 0 where
   what_if_name : Symbol
   -- another name, in capitals
   name : Bytes → Symbol
-  refused : ParseFault → Symbol
+  bad_token : ParseFault → Symbol
 
 abbrev pub written_as : Sign → Operator
 written_as Plus = Add
@@ -36,10 +36,10 @@ sign_mark s = infix_mark (written_as s)
 
 -- a reference to a cell outside the sheet
 abbrev pub is_outside : Symbol → Bool
-is_outside (refused OutOfSheet) = true
+is_outside (bad_token OutOfSheet) = true
 is_outside s = false
 
 -- a number that does not fit
 abbrev pub is_unfit : Symbol → Bool
-is_unfit (refused NumberRange) = true
+is_unfit (bad_token NumberRange) = true
 is_unfit s = false

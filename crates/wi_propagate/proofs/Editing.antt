@@ -6,7 +6,7 @@ use Rattle.wi_values.proofs.Order.{turn_test}
 use Rattle.wi_parser.specs.declared.content.Content.{Content}
 use Rattle.wi_parser.specs.declared.content.Content.TheVariants.{Constant, Formula}
 use Rattle.wi_parser.specs.Sheet.{Sheet, content_of, with_content}
-use Rattle.wi_store.specs.Store.{Stored, edited, settled, settled_change, accepted, applied}
+use Rattle.wi_store.specs.Store.{Stored, edited, without_empty, change_without_empty, accepted, applied}
 use Rattle.wi_store.specs.declared.fault.StoreFault.{StoreFault}
 use Rattle.wi_store.specs.declared.fault.StoreFault.TheVariants.{Full, EditLimit}
 use Rattle.wi_functions.specs.Counts.{Counts}
@@ -21,26 +21,26 @@ use Rattle.wi_propagate.proofs.RightValues.{AreRaised, kept_over_edit}
 
 -- ---- the edges are those of the edited sheet
 
-same_settled : (o : Option Content) → settled o ≡ brought o
+same_settled : (o : Option Content) → without_empty o ≡ brought o
 same_settled None = refl
 same_settled (Some (Constant v)) = refl
 same_settled (Some (Formula t)) = refl
 
 -- the store and the graph say the same of what an edit makes of a sheet
-edited_is_after : (s : Sheet) (changes : List (ℕ × Option Content)) → edited s (map settled_change changes) ≡ sheet_after s changes
+edited_is_after : (s : Sheet) (changes : List (ℕ × Option Content)) → edited s (map change_without_empty changes) ≡ sheet_after s changes
 edited_is_after s [] = refl
-edited_is_after s (x ∷ xs) = ap (λ (o : Option Content). edited (with_content s x.0 o) (map settled_change xs)) (same_settled x.1) ∙ edited_is_after (with_content s x.0 (brought x.1)) xs
+edited_is_after s (x ∷ xs) = ap (λ (o : Option Content). edited (with_content s x.0 o) (map change_without_empty xs)) (same_settled x.1) ∙ edited_is_after (with_content s x.0 (brought x.1)) xs
 
 -- ---- and the sheet is the same but for the edited cells
 
 kept_content : (s : Sheet) (c : ℕ) (o : Option Content) (d : ℕ) → (c == d) ≡ false → content_of s d ≡ content_of (with_content s c o) d
 kept_content s c o d n = sym (content_of-with s c o d ∙ ap (λ (b : Bool). cond b o (content_of s d)) (turn_test d c ∙ n))
 
-pub same_off_edited : (s : Sheet) (changes : List (ℕ × Option Content)) → SameOff s (edited s (map settled_change changes)) (keys_of changes)
+pub same_off_edited : (s : Sheet) (changes : List (ℕ × Option Content)) → SameOff s (edited s (map change_without_empty changes)) (keys_of changes)
 same_off_edited s [] d h = refl
 same_off_edited s (x ∷ xs) d h =
     let n = or_parts (x.0 == d) _ h in
-    kept_content s x.0 (settled x.1) d n.0 ∙ same_off_edited (with_content s x.0 (settled x.1)) xs d n.1
+    kept_content s x.0 (without_empty x.1) d n.0 ∙ same_off_edited (with_content s x.0 (without_empty x.1)) xs d n.1
 
 -- ---- an accepted edit
 
@@ -75,9 +75,9 @@ pub right_over_edit : (old new : Stored) (changes : List (ℕ × Option Content)
     ((c : ℕ) → generation_in m c ≡ generation_in g c) → ((c : ℕ) → generation_in r c ≡ cond (is_one_of cone c) n (generation_in m c)) → n ≡ new.edits →
     AreKeptRight (record { stored = old; values = values; generations = g; counts = before }) → AreKeptRight (record { stored = new; values = values; generations = r; counts = after })
 right_over_edit old new changes cone n g m r values before after h i same up e k =
-    let a = accepted_is old new (map settled_change changes) h in
+    let a = accepted_is old new (map change_without_empty changes) h in
     let number : n ≡ old.edits + 1 = e ∙ a.1 in
-    let right = kept_over_edit old.sheet (edited old.sheet (map settled_change changes)) (keys_of changes) old.edits (generation_in g) (generation_in r) values.entries (same_off_edited old.sheet changes)
+    let right = kept_over_edit old.sheet (edited old.sheet (map change_without_empty changes)) (keys_of changes) old.edits (generation_in g) (generation_in r) values.entries (same_off_edited old.sheet changes)
     (raised_in_cone old.sheet (keys_of changes) cone old.edits n g m r i same up number) k.right in
     record {
       room = k.room;
@@ -87,4 +87,4 @@ right_over_edit old new changes cone n g m r values before after h i same up e k
 
 pub edges_applied : (es : Edges) (old new : Stored) (changes : List (ℕ × Option Content)) → AreEdgesOf es old.sheet → applied old changes ≡ Ok new → AreEdgesOf (edges_after es changes) new.sheet
 edges_applied es old new changes h e =
-    subst (AreEdgesOf (edges_after es changes)) (sym ((accepted_is old new (map settled_change changes) e).0 ∙ edited_is_after old.sheet changes)) (edges_follow es old.sheet changes h)
+    subst (AreEdgesOf (edges_after es changes)) (sym ((accepted_is old new (map change_without_empty changes) e).0 ∙ edited_is_after old.sheet changes)) (edges_follow es old.sheet changes h)

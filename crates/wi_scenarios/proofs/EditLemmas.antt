@@ -16,7 +16,7 @@ use Rattle.wi_parser.specs.declared.content.Content.{Content}
 use Rattle.wi_parser.specs.Sheet.{Sheet}
 use Rattle.wi_store.specs.declared.fault.StoreFault.{StoreFault}
 use Rattle.wi_store.specs.declared.fault.StoreFault.TheVariants as store
-use Rattle.wi_store.specs.Store.{Stored, edited, settled_change, applied, Applies}
+use Rattle.wi_store.specs.Store.{Stored, edited, change_without_empty, applied, Applies}
 use Rattle.wi_sheet.specs.Shown.{shown}
 use Rattle.wi_sheet.specs.Unmoved.{IsUnmoved}
 use Rattle.wi_propagate.proofs.Editing.{same_off_edited, accepted_is}
@@ -155,7 +155,7 @@ pub some_marked : (marked : Sheet → List ℕ → ℕ → Bool) (sheet : Sheet)
     ((a : ℕ) → is_listed found a ≡ marked sheet cells a) → ((a : ℕ) → is_listed found a ≡ false → IsUnmoved sheet cells a) → AreMarked marked sheet contents found
 some_marked marked sheet contents cells found l e m u = record {
   only = λ a h. (l, ap (λ (xs : List ℕ). marked sheet xs a) (sym e) ∙ sym (m a) ∙ h);
-  unmoved = λ a p h. u a h (edited sheet (map settled_change contents)) sheet p p
+  unmoved = λ a p h. u a h (edited sheet (map change_without_empty contents)) sheet p p
       (λ d n. same_off_edited sheet contents d (ap (λ (xs : List ℕ). is_listed xs d) (sym e) ∙ n)) (λ d n. refl) (λ d n. refl);
 }
 
@@ -276,7 +276,7 @@ module _ (marked : Sheet → List ℕ → ℕ → Bool) (s t : Stored) (d n : De
         (λ i l a w h. let both = quiet i a l h in
         let put : List Replacement = effective d.scenarios (slice_index_or d.sessions.sessions i (new_session [])).scenario in
         sound.covered i l a w both.0 ∙ sym (are.unmoved a put both.1)
-        ∙ ap (λ (x : Sheet). shown x put a) (sym ((accepted_is s t (map settled_change contents) made).0))))
+        ∙ ap (λ (x : Sheet). shown x put a) (sym ((accepted_is s t (map change_without_empty contents) made).0))))
 
     pub sound_taken : applied s contents ≡ Ok t → IsSound t (record n { sessions = r })
     sound_taken made =

@@ -7,7 +7,7 @@ use Rattle.wi_lookup.specs.declared.argument.Argument as given
 use Rattle.wi_lookup.specs.Arguments.{arguments_in, area_at}
 use Rattle.wi_standard_functions.specs.Arguments.{region_of, value_at}
 use Rattle.wi_standard_functions.specs.Convert.{to_whole}
-use Rattle.wi_standard_functions.specs.Lookup.{place_among}
+use Rattle.wi_standard_functions.specs.Lookup.{position_among}
 use Rattle.wi_search_functions.specs.declared.axis.Axis.{Axis}
 use Rattle.wi_search_functions.specs.declared.axis.Axis.TheVariants.{Rows, Columns}
 use Rattle.wi_search_functions.specs.Inner.Axis.{cell_along, cell_in_line, line_count, line_width, width_in}
@@ -20,8 +20,8 @@ pub width_is : (axis : Axis) (cells : ℕ → Value) (r : Area) → width_in axi
 width_is Rows cells r = refl
 width_is Columns cells r = refl
 
-pub placed_along : (axis : Axis) (cells : ℕ → Value) (r : Area) (k : ℤ) (n : ℕ) (o : Result ℕ ErrorKind) → n ≡ line_width axis r → o ≡ place_among n k → place_among (width_in axis (region_of cells r)) k ≡ o
-placed_along axis cells r k n o e h = ap (λ (m : ℕ). place_among m k) (width_is axis cells r ∙ sym e) ∙ sym h
+pub placed_along : (axis : Axis) (cells : ℕ → Value) (r : Area) (k : ℤ) (n : ℕ) (o : Result ℕ ErrorKind) → n ≡ line_width axis r → o ≡ position_among n k → position_among (width_in axis (region_of cells r)) k ≡ o
+placed_along axis cells r k n o e h = ap (λ (m : ℕ). position_among m k) (width_is axis cells r ∙ sym e) ∙ sym h
 
 pub along_is : (axis : Axis) (cells : ℕ → Value) (r : Area) (line i : ℕ) → line < line_count axis r → i < line_width axis r → cell_in_line axis (region_of cells r) line i ≡ cells (cell_along axis r line i)
 along_is Rows cells r line i h k = cell_at cells r line i h k

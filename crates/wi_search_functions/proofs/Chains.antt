@@ -12,7 +12,7 @@ use Rattle.wi_standard_functions.specs.Arguments.{Argument, Region, region_of, r
 use Rattle.wi_standard_functions.specs.Arithmetic.{whole_value}
 use Rattle.wi_standard_functions.specs.Convert.{one_number, to_number, to_whole, to_logical}
 use Rattle.wi_standard_functions.specs.FirstError.{no_error}
-use Rattle.wi_standard_functions.specs.Lookup.{index_along, index_by_both, match_value, nth_cell, nth_cell_along, place_among}
+use Rattle.wi_standard_functions.specs.Lookup.{index_along, index_by_both, match_value, nth_cell, nth_cell_along, position_among}
 use Rattle.wi_standard_functions.specs.Inner.Named.{values_along, type_for}
 use Rattle.wi_standard_functions.specs.Matching.{match_position, sought_for}
 use Rattle.wi_standard_functions.specs.Steps.{◌>>=◌, and_then}
@@ -123,7 +123,7 @@ seen_in b s vs = ok_or (match_position (type_for b) s vs) NotAvailable
 
 -- what they do with the values of their arguments
 abbrev in_line : Axis → Value → Region → ℤ → Bool → Value
-in_line axis s r k b = place_among (width_in axis r) k >>= (λ i. seen_in b s (first_cells_in axis r) >>= (λ line. cell_in_line axis r line i))
+in_line axis s r k b = position_among (width_in axis r) k >>= (λ i. seen_in b s (first_cells_in axis r) >>= (λ line. cell_in_line axis r line i))
 
 abbrev look_up : Axis → List Argument → Value → Value
 look_up axis args s = region_at args 1 >>= (λ r. to_whole (value_at args 2) >>= (λ k. order_in args >>= in_line axis s r k))
@@ -161,16 +161,16 @@ module _ (axis : Axis) (args : List Argument) where
   looks : (s : Value) (r : Region) (k : ℤ) (b : Bool) → IsAsked args s r k b → look_up_by axis args ≡ in_line axis s r k b
   looks s r k b a = with_number s r k a.sought_is a.region_is a.number_is ∙ step (order_in args) b (in_line axis s r k) a.order_is
 
-  pub no_place : (s : Value) (r : Region) (k : ℤ) (b : Bool) (e : ErrorKind) → IsAsked args s r k b → place_among (width_in axis r) k ≡ Err e → look_up_by axis args ≡ Fault e
-  no_place s r k b e a h = looks s r k b a ∙ fails (place_among (width_in axis r) k) e (λ i. seen_in b s (first_cells_in axis r) >>= (λ line. cell_in_line axis r line i)) h
+  pub no_place : (s : Value) (r : Region) (k : ℤ) (b : Bool) (e : ErrorKind) → IsAsked args s r k b → position_among (width_in axis r) k ≡ Err e → look_up_by axis args ≡ Fault e
+  no_place s r k b e a h = looks s r k b a ∙ fails (position_among (width_in axis r) k) e (λ i. seen_in b s (first_cells_in axis r) >>= (λ line. cell_in_line axis r line i)) h
 
-  with_place : (s : Value) (r : Region) (k : ℤ) (b : Bool) (i : ℕ) → IsAsked args s r k b → place_among (width_in axis r) k ≡ Ok i → look_up_by axis args ≡ (seen_in b s (first_cells_in axis r) >>= (λ line. cell_in_line axis r line i))
-  with_place s r k b i a h = looks s r k b a ∙ step (place_among (width_in axis r) k) i (λ j. seen_in b s (first_cells_in axis r) >>= (λ line. cell_in_line axis r line j)) h
+  with_place : (s : Value) (r : Region) (k : ℤ) (b : Bool) (i : ℕ) → IsAsked args s r k b → position_among (width_in axis r) k ≡ Ok i → look_up_by axis args ≡ (seen_in b s (first_cells_in axis r) >>= (λ line. cell_in_line axis r line i))
+  with_place s r k b i a h = looks s r k b a ∙ step (position_among (width_in axis r) k) i (λ j. seen_in b s (first_cells_in axis r) >>= (λ line. cell_in_line axis r line j)) h
 
-  pub not_seen : (s : Value) (r : Region) (k : ℤ) (b : Bool) (i : ℕ) (e : ErrorKind) → IsAsked args s r k b → place_among (width_in axis r) k ≡ Ok i → seen_in b s (first_cells_in axis r) ≡ Err e → look_up_by axis args ≡ Fault e
+  pub not_seen : (s : Value) (r : Region) (k : ℤ) (b : Bool) (i : ℕ) (e : ErrorKind) → IsAsked args s r k b → position_among (width_in axis r) k ≡ Ok i → seen_in b s (first_cells_in axis r) ≡ Err e → look_up_by axis args ≡ Fault e
   not_seen s r k b i e a h l = with_place s r k b i a h ∙ fails (seen_in b s (first_cells_in axis r)) e (λ line. cell_in_line axis r line i) l
 
-  pub seen : (s : Value) (r : Region) (k : ℤ) (b : Bool) (i line : ℕ) → IsAsked args s r k b → place_among (width_in axis r) k ≡ Ok i → seen_in b s (first_cells_in axis r) ≡ Ok line → look_up_by axis args ≡ cell_in_line axis r line i
+  pub seen : (s : Value) (r : Region) (k : ℤ) (b : Bool) (i line : ℕ) → IsAsked args s r k b → position_among (width_in axis r) k ≡ Ok i → seen_in b s (first_cells_in axis r) ≡ Ok line → look_up_by axis args ≡ cell_in_line axis r line i
   seen s r k b i line a h l = with_place s r k b i a h ∙ step (seen_in b s (first_cells_in axis r)) line (λ j. cell_in_line axis r j i) l
 
 pub seen_along : (rule : Rule) (b : Bool) (s : Value) (vs ws : List Value) → vs ≡ ws → rule ≡ rule_in_order b → seen_in b s vs ≡ ok_or (position_by rule s ws) NotAvailable

@@ -15,7 +15,7 @@ use Rattle.wi_standard_functions.specs.Arguments.{Argument, Region, region_of, v
 use Rattle.wi_standard_functions.specs.Arithmetic.{whole_value}
 use Rattle.wi_standard_functions.specs.Convert.{zero_number}
 use Rattle.wi_standard_functions.specs.FirstError.{no_error}
-use Rattle.wi_standard_functions.specs.Lookup.{cell_in, index_value, index_along, index_by_both, nth_cell, nth_cell_along, place_among}
+use Rattle.wi_standard_functions.specs.Lookup.{cell_in, index_value, index_along, index_by_both, nth_cell, nth_cell_along, position_among}
 use Rattle.wi_standard_functions.specs.Matching.{sought_for}
 use Rattle.wi_standard_functions.specs.Steps.{◌>>=◌, and_then}
 use Rattle.wi_lookup.specs.declared.ending.Ending.{Ending}
@@ -104,7 +104,7 @@ sought_halts known args i zero r h z k g =
 
 -- ---- INDEX
 
-at_least_one : (n : ℕ) (k : ℤ) (i : ℕ) → Ok i ≡ place_among n k → int_lt k (pos 1) ≡ false
+at_least_one : (n : ℕ) (k : ℤ) (i : ℕ) → Ok i ≡ position_among n k → int_lt k (pos 1) ≡ false
 at_least_one n k i h = at (int_lt k (pos 1)) h
   where
     at : (b : Bool) → Ok i ≡ cond b (Err BadValue) (cond (nat_lt n (unsigned_abs k)) (Err BadReference) (Ok (unsigned_abs k - 1))) → b ≡ false
@@ -115,18 +115,18 @@ at_least_one n k i h = at (int_lt k (pos 1)) h
 abbrev cell_found : (ℕ → Value) → Area → Result ℕ ErrorKind → Result ℕ ErrorKind → Value
 cell_found cells r o w = o >>= (λ row. w >>= (λ column. cell_in (region_of cells r) row column))
 
-pub nth_is : (cells : ℕ → Value) (r : Area) (j k : ℤ) (row column : ℕ) → Ok row ≡ place_among (height r) j → Ok column ≡ place_among (width r) k → row < height r → column < width r → nth_cell (region_of cells r) j k ≡ cells (place (row_of r.first + row) (column_of r.first + column))
+pub nth_is : (cells : ℕ → Value) (r : Area) (j k : ℤ) (row column : ℕ) → Ok row ≡ position_among (height r) j → Ok column ≡ position_among (width r) k → row < height r → column < width r → nth_cell (region_of cells r) j k ≡ cells (place (row_of r.first + row) (column_of r.first + column))
 nth_is cells r j k row column e f l m =
-    ap (λ (b : Bool). cond b (Fault BadValue) (cell_found cells r (place_among (height r) j) (place_among (width r) k))) (or_from (int_lt j (pos 1)) (int_lt k (pos 1)) (at_least_one (height r) j row e) (at_least_one (width r) k column f))
-    ∙ ap (λ (o : Result ℕ ErrorKind). cell_found cells r o (place_among (width r) k)) (sym e)
+    ap (λ (b : Bool). cond b (Fault BadValue) (cell_found cells r (position_among (height r) j) (position_among (width r) k))) (or_from (int_lt j (pos 1)) (int_lt k (pos 1)) (at_least_one (height r) j row e) (at_least_one (width r) k column f))
+    ∙ ap (λ (o : Result ℕ ErrorKind). cell_found cells r o (position_among (width r) k)) (sym e)
     ∙ ap (λ (o : Result ℕ ErrorKind). cell_found cells r (Ok row) o) (sym f)
     ∙ cell_at cells r row column l m
 
-pub nth_no_row : (r : Area) (j k : ℤ) (o : Result ℕ ErrorKind) (e : ErrorKind) → IsErrAnd o (λ x. x ≡ e) → (int_lt j (pos 1) || int_lt k (pos 1)) ≡ false → Err e ≡ place_among (height r) j → IsPlacedIn r (λ q. nth_cell q j k) o
+pub nth_no_row : (r : Area) (j k : ℤ) (o : Result ℕ ErrorKind) (e : ErrorKind) → IsErrAnd o (λ x. x ≡ e) → (int_lt j (pos 1) || int_lt k (pos 1)) ≡ false → Err e ≡ position_among (height r) j → IsPlacedIn r (λ q. nth_cell q j k) o
 nth_no_row r j k (Ok c) e h b p = absurd h
 nth_no_row r j k (Err x) e h b p = λ cells.
-    ap (λ (t : Bool). cond t (Fault BadValue) (cell_found cells r (place_among (height r) j) (place_among (width r) k))) b
-    ∙ ap (λ (w : Result ℕ ErrorKind). cell_found cells r w (place_among (width r) k)) (sym p)
+    ap (λ (t : Bool). cond t (Fault BadValue) (cell_found cells r (position_among (height r) j) (position_among (width r) k))) b
+    ∙ ap (λ (w : Result ℕ ErrorKind). cell_found cells r w (position_among (width r) k)) (sym p)
     ∙ ap (λ (y : ErrorKind). Fault y) (sym h)
 
 pub nth_within : (r : Area) (row column : ℕ) → row < height r → column < width r → is_within r (place (row_of r.first + row) (column_of r.first + column)) ≡ true

@@ -1,7 +1,7 @@
 //! Rows and columns of a rectangle.
 
 ghost use Rattle.std.specs.Prelude.{◌≡◌, ◌+◌, ◌<◌, IfOk};
-ghost use Rattle.wi_standard_functions.specs.Lookup.{place_among};
+ghost use Rattle.wi_standard_functions.specs.Lookup.{position_among};
 ghost use Rattle.wi_values.specs.Address.{column_of, place, row_of};
 ghost use Rattle.wi_search_functions.specs.Inner.Lines.{first_column, first_row, height, is_line, steps, width};
 
@@ -23,7 +23,7 @@ pub(crate) fn width(area: Rect) -> u32
 
 /// The place, from 0, of the k-th of so many.
 pub(crate) fn place_among(count: u32, k: i128) -> Result<u32, ErrorKind>
-    ensures place { result ≡ place_among count k }
+    ensures place { result ≡ position_among count k }
     ensures within { IfOk result (λ i. i < count) }
 {
     if k < 1 {

@@ -21,11 +21,11 @@ chosen k args = ok_or (if int_lt k (pos 1) then None else slice_get args (unsign
 abbrev pub choose_value : List Argument → Value
 choose_value args = do k ← to_whole (value_at args 0); a ← chosen k args; a.value
 
--- ---- places in a region
+-- ---- positions in a region
 
--- the place, from 0, of the k-th of n
-abbrev pub place_among : ℕ → ℤ → Result ℕ ErrorKind
-place_among n k =
+-- the position, from 0, of the k-th of n
+abbrev pub position_among : ℕ → ℤ → Result ℕ ErrorKind
+position_among n k =
     if int_lt k (pos 1) then Err BadValue else
     if nat_lt n (unsigned_abs k) then Err BadReference else
     Ok (unsigned_abs k - 1)
@@ -40,8 +40,8 @@ cell_in r row column = unwrap_or (slice_get r.values (row * r.width + column)) (
 abbrev pub nth_cell : Region → ℤ → ℤ → Value
 nth_cell r j k =
     if int_lt j (pos 1) || int_lt k (pos 1) then Fault BadValue else (do
-      row ← place_among r.height j
-      column ← place_among r.width k
+      row ← position_among r.height j
+      column ← position_among r.width k
       cell_in r row column)
 
 -- the k-th cell of a region that is one column or one row
@@ -66,7 +66,7 @@ index_value args = if nat_le (length args) 2 then index_along args else index_by
 abbrev pub position_of : numbers.Number → Value → List Value → Result ℕ ErrorKind
 position_of match_type v vs = ok_or (match_position match_type (sought_for v) vs) NotAvailable
 
--- the place counts from 1, and the type is 1 if it is not given
+-- the position counts from 1, and the type is 1 if it is not given
 abbrev pub match_value : List Argument → Value
 match_value args = do
   v ← no_error (value_at args 0)
@@ -83,7 +83,7 @@ look_up_value lines width cell args = do
   r ← region_at args 1
   k ← to_whole (value_at args 2)
   in_order ← to_logical (value_or (Logical true) args 3)
-  i ← place_among (width r) k
+  i ← position_among (width r) k
   line ← position_of (if in_order then one_number else zero_number) v (map (λ l. cell r l 0) (range_with_len 0 (lines r)))
   cell r line i
 

@@ -31,7 +31,7 @@ is_match test sought v = same_kind v sought && test (order v sought)
 abbrev pub last_position : (Value → Bool) → List Value → Option ℕ
 last_position test vs = last_or None (map (λ p. p.0) (filter (λ p. test p.1) (enumerate_from 0 vs)))
 
--- The place, from 0, also where the list isn't sorted: for type 0 of the first that is equal, below 0 of the last that is at
+-- The position, from 0, also where the list isn't sorted: for type 0 of the first that is equal, below 0 of the last that is at
 -- least the one sought, above 0 of the last that is at most that.
 abbrev pub match_position : numbers.Number → Value → List Value → Option ℕ
 match_position match_type sought vs =

@@ -85,19 +85,19 @@ factor (Number x) = from_cell (Number x)
 factor (Fault e) = from_cell (Fault e)
 factor v = from_cell (Number zero_number)
 
--- the product of the factors at one place, one of each region
+-- the product of the factors at one position, one of each region
 abbrev pub product_at : List Region → ℕ → Value
 product_at rs i = do
   x ← number_fold multiplication one_number (map (λ r. factor (unwrap_or (slice_get r.values i) Empty)) rs)
   Number x
 
 -- as many as the first has
-abbrev pub place_count : List Region → ℕ
-place_count [] = 0
-place_count (r ∷ rs) = length r.values
+abbrev pub position_count : List Region → ℕ
+position_count [] = 0
+position_count (r ∷ rs) = length r.values
 
 abbrev pub products : List Region → List Item
-products rs = map (λ i. scalar (product_at rs i)) (range_with_len 0 (place_count rs))
+products rs = map (λ i. scalar (product_at rs i)) (range_with_len 0 (position_count rs))
 
 abbrev pub sum_product_value : List Argument → Value
 sum_product_value args = do

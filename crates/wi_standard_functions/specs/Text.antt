@@ -24,11 +24,11 @@ left_value t count = do s ← to_text t; k ← to_whole count; n ← at_least 0 
 abbrev pub right_value : Value → Value → Value
 right_value t count = do s ← to_text t; k ← to_whole count; n ← at_least 0 k; of_chars (drop (length (chars s) - n) (chars s))
 
--- places count from 1
+-- `start` counts from 1
 abbrev pub mid_value : Value → Value → Value → Value
-mid_value t place count = do
+mid_value t start count = do
   s ← to_text t
-  j ← to_whole place
+  j ← to_whole start
   k ← to_whole count
   first ← at_least 1 j
   n ← at_least 0 k
@@ -40,22 +40,22 @@ concatenate_value vs = do ts ← map_until_error to_text vs; limited_text (conca
 abbrev pub exact_value : Value → Value → Value
 exact_value t u = do s ← to_text t; r ← to_text u; Logical (bytes_eq s r)
 
--- the first place, from 0, where the characters stand in others
-abbrev pub first_place : List ℕ → List ℕ → Option ℕ
-first_place sought cs = find (λ i. starts_with nat_eq (drop i cs) sought) (range_with_len 0 (length cs + 1))
+-- the first position, from 0, where the characters stand in others
+abbrev pub first_position : List ℕ → List ℕ → Option ℕ
+first_position sought cs = find (λ i. starts_with nat_eq (drop i cs) sought) (range_with_len 0 (length cs + 1))
 
--- from a place on, at most the one behind the last character
-abbrev pub place_from : ℕ → List ℕ → List ℕ → Option ℕ
-place_from from sought cs = if nat_le from (length cs) then option_map (λ i. from + i) (first_place sought (drop from cs)) else None
+-- from a position on, at most the one behind the last character
+abbrev pub position_from : ℕ → List ℕ → List ℕ → Option ℕ
+position_from from sought cs = if nat_le from (length cs) then option_map (λ i. from + i) (first_position sought (drop from cs)) else None
 
--- places count from 1
+-- `start` counts from 1
 abbrev pub find_value : Value → Value → Value → Value
-find_value t u place = do
+find_value t u start = do
   sought ← to_text t
   s ← to_text u
-  k ← to_whole place
+  k ← to_whole start
   from ← at_least 1 k
-  i ← ok_or (place_from (from - 1) (chars sought) (chars s)) BadValue
+  i ← ok_or (position_from (from - 1) (chars sought) (chars s)) BadValue
   whole_value (i + 1)
 
 abbrev pub rept_value : Value → Value → Value

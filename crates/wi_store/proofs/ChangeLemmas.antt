@@ -11,7 +11,7 @@ use Rattle.std.proofs.lemmas.List.Elements.{All-set}
 use Rattle.std.proofs.Math.Seq.{map-set_same}
 use Rattle.wi_parser.specs.Sheet.{Sheet, content_of, with_content}
 use Rattle.wi_parser.specs.declared.content.Content.{Content}
-use Rattle.wi_store.specs.Store.{edited, settled_change}
+use Rattle.wi_store.specs.Store.{edited, change_without_empty}
 use Rattle.wi_store.specs.Inner.Rooms.{Rooms, sheet_in, room_of, HasNoVacancy, VacantOnlyAt, HasRoomFor}
 use Rattle.wi_store.specs.Inner.Exchange.{stood, restored}
 use Rattle.wi_store.proofs.RoomLemmas.{Ascends, length-sheet_in-le}
@@ -97,14 +97,14 @@ room_more cs i a o old new order kept e h =
 
 -- after that of the i-th change was made
 pub brought_more : (made made' all cs : Changes) (i : ℕ) (d v : ℕ × Option Content) → i < length cs
-    → made' ≡ made ++ settled_change (get_or cs i d) ∷ []
-    → made ++ map settled_change (drop i cs) ≡ all → made' ++ map settled_change (drop (i + 1) (set cs i v)) ≡ all
+    → made' ≡ made ++ change_without_empty (get_or cs i d) ∷ []
+    → made ++ map change_without_empty (drop i cs) ≡ all → made' ++ map change_without_empty (drop (i + 1) (set cs i v)) ≡ all
 brought_more made made' all cs i d v l e h =
-    let x : ℕ × Option Content = settled_change (get_or cs i d) in
-    ap (λ (xs : Changes). xs ++ map settled_change (drop (i + 1) (set cs i v))) e
-    ∙ append_assoc made (x ∷ []) (map settled_change (drop (i + 1) (set cs i v)))
-    ∙ ap (λ (xs : Changes). made ++ x ∷ map settled_change xs) (drop-set-lt (i + 1) cs i v (omega arith))
-    ∙ ap (λ (xs : Changes). made ++ map settled_change xs) (sym (drop_at cs i d l)) ∙ h
+    let x : ℕ × Option Content = change_without_empty (get_or cs i d) in
+    ap (λ (xs : Changes). xs ++ map change_without_empty (drop (i + 1) (set cs i v))) e
+    ∙ append_assoc made (x ∷ []) (map change_without_empty (drop (i + 1) (set cs i v)))
+    ∙ ap (λ (xs : Changes). made ++ x ∷ map change_without_empty xs) (drop-set-lt (i + 1) cs i v (omega arith))
+    ∙ ap (λ (xs : Changes). made ++ map change_without_empty xs) (sym (drop_at cs i d l)) ∙ h
 
 -- ---- the sheet
 

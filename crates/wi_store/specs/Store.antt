@@ -20,13 +20,13 @@ edited s [] = s
 edited s (e ∷ es) = edited (with_content s e.0 e.1) es
 
 -- what a cell gets: the constant Empty is no content
-abbrev pub settled : Option Content → Option Content
-settled None = None
-settled (Some (Constant v)) = constant v
-settled (Some (Formula t)) = Some (Formula t)
+abbrev pub without_empty : Option Content → Option Content
+without_empty None = None
+without_empty (Some (Constant v)) = constant v
+without_empty (Some (Formula t)) = Some (Formula t)
 
-abbrev pub settled_change : ℕ × Option Content → ℕ × Option Content
-settled_change e = (e.0, settled e.1)
+abbrev pub change_without_empty : ℕ × Option Content → ℕ × Option Content
+change_without_empty e = (e.0, without_empty e.1)
 
 -- one edit of contents of which none is the constant Empty, or the first refusal that holds
 unfoldable pub accepted : Stored → List (ℕ × Option Content) → Result Stored StoreFault
@@ -37,7 +37,7 @@ accepted s es =
 
 -- one edit, which names cells and gives each a content or none, or the first refusal that holds
 abbrev pub applied : Stored → List (ℕ × Option Content) → Result Stored StoreFault
-applied s es = accepted s (map settled_change es)
+applied s es = accepted s (map change_without_empty es)
 
 -- the call did the edit, or refused it and left all as it was
 abbrev pub Applies : Result Stored StoreFault → Result (Unit {0}) StoreFault → Stored → Stored → Type 0

@@ -2,7 +2,7 @@
 
 ghost use Rattle.std.specs.Prelude.{◌≡◌, None, IfOk};
 ghost use Rattle.std.specs.Option.{option_copied, is_some};
-ghost use Rattle.wi_store.specs.Store.{settled};
+ghost use Rattle.wi_store.specs.Store.{without_empty};
 
 use std::alloc::{AllocError, Global};
 use std::marker::Model;
@@ -42,7 +42,7 @@ impl Room {
 
     /// A room with a content, or a vacant one; the constant Empty is no content. Takes the memory of a content.
     pub(crate) fn new(alloc: Global, content: Option<Content>) -> Result<Room, AllocError>
-        ensures { IfOk result (λ r. r ≡ settled content) }
+        ensures { IfOk result (λ r. r ≡ without_empty content) }
     {
         match content {
             None => Ok(Room::vacant()),

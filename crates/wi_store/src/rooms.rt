@@ -4,7 +4,7 @@
 ghost use Rattle.std.specs.Prelude.{◌≡◌, ◌≢◌, ◌+◌, ◌⊎◌, ◌↔◌, ℕ, IsTrue, All, Some, None, map, length, OnOk, IfOk};
 ghost use Rattle.std.specs.Map.{keys_of};
 ghost use Rattle.wi_parser.specs.Sheet.{content_of, with_content};
-ghost use Rattle.wi_store.specs.Store.{edited, settled_change};
+ghost use Rattle.wi_store.specs.Store.{edited, change_without_empty};
 ghost use Rattle.wi_store.specs.Inner.Rooms.{sheet_in, room_of, RoomsAreInOrder, HasNoVacancy, VacantOnlyAt, HasRoomFor};
 ghost use Rattle.wi_store.specs.Inner.Exchange.{stood, restored};
 
@@ -26,7 +26,7 @@ pub(crate) fn prepare(
     alloc: Global,
     changes: &mut [(Address, Option<Content>)],
 ) -> Result<Vec<Change>, AllocError>
-    ensures { IfOk result (λ made. made.items ≡ map settled_change changes.old) }
+    ensures { IfOk result (λ made. made.items ≡ map change_without_empty changes.old) }
 {
     let mut made = Vec::with_capacity(alloc, changes.len())?;
     for change in changes.iter_mut() {

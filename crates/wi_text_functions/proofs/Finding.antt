@@ -9,7 +9,7 @@ use Rattle.std.specs.List.{starts_with, range_with_len}
 use Rattle.std.specs.Prelude.{nat_eq, find, encode_utf8_all, Some, None}
 use Rattle.std.specs.Str.{IsUtf8, IsCharBoundary}
 use Rattle.std.specs.Str.Pattern.{LacksTextAt}
-use Rattle.wi_standard_functions.specs.Text.{first_place}
+use Rattle.wi_standard_functions.specs.Text.{first_position}
 
 -- ---- the first of some numbers that passes a test
 
@@ -68,7 +68,7 @@ earlier fs gs j l =
 -- ---- the two answers
 
 found_in : (fs ns ms : List ℕ) → ((i : ℕ) → i < length (encode_utf8_all fs) → LacksTextAt (encode_utf8_all ns) (encode_utf8_all (fs ++ (ns ++ ms))) i)
-    → first_place ns (fs ++ (ns ++ ms)) ≡ Some (length fs)
+    → first_position ns (fs ++ (ns ++ ms)) ≡ Some (length fs)
 found_in fs ns ms none =
     let cs = fs ++ (ns ++ ms) in
     let e : 0 + length fs ≡ length fs = omega arith in
@@ -78,7 +78,7 @@ found_in fs ns ms none =
     ∙ ap Some e
 
 -- the text occurs nowhere
-pub found_nowhere : (bs ns : List ℕ) → IsUtf8 bs → IsUtf8 ns → ((i : ℕ) → i ≤ length bs → LacksTextAt ns bs i) → first_place (chars ns) (chars bs) ≡ None
+pub found_nowhere : (bs ns : List ℕ) → IsUtf8 bs → IsUtf8 ns → ((i : ℕ) → i ≤ length bs → LacksTextAt ns bs i) → first_position (chars ns) (chars bs) ≡ None
 found_nowhere bs ns u v none =
     let cs = chars bs in
     find_none (λ i. starts_with nat_eq (drop i cs) (chars ns)) (length cs + 1) 0 (λ j l.
@@ -91,13 +91,13 @@ found_nowhere bs ns u v none =
 
 -- the text occurs first behind these bytes
 pub found_behind : (bs ns front rest : List ℕ) (p : ℕ) → IsUtf8 bs → IsUtf8 ns → IsCharBoundary bs p → front ≡ take p bs → drop p bs ≡ ns ++ rest
-    → ((i : ℕ) → i < p → LacksTextAt ns bs i) → first_place (chars ns) (chars bs) ≡ Some (length (chars front))
+    → ((i : ℕ) → i < p → LacksTextAt ns bs i) → first_position (chars ns) (chars bs) ≡ Some (length (chars front))
 found_behind bs ns front rest p u v b f s none =
     let fronted : IsUtf8 front = subst IsUtf8 (sym f) (IsUtf8-take bs p u b) in
     let whole : bs ≡ front ++ (ns ++ rest) = sym (take-append-drop p bs) ∙ ap (λ x. x ++ drop p bs) (sym f) ∙ ap (λ x. front ++ x) s in
     let cs : chars bs ≡ chars front ++ (chars ns ++ chars rest) = ap chars whole ∙ chars-append front (ns ++ rest) fronted ∙ ap (λ x. chars front ++ x) (chars-append ns rest v) in
     let size : length (encode_utf8_all (chars front)) ≤ p = omega (arith, ap length (encodes-chars front fronted), ap length f, length-take p bs, b.0) in
-    ap (first_place (chars ns)) cs
+    ap (first_position (chars ns)) cs
     ∙ found_in (chars front) (chars ns) (chars rest)
     (λ i l.
     subst (λ x. LacksTextAt x (encode_utf8_all (chars front ++ (chars ns ++ chars rest))) i) (sym (encodes-chars ns v))

@@ -1,7 +1,7 @@
 //! EXACT and FIND (OpenFormula, "Text Functions").
 
 ghost use Rattle.std.specs.Prelude.{◌≡◌, ◌≤◌, IfOk, IfSome, length, chars};
-ghost use Rattle.wi_standard_functions.specs.Text.{exact_value, find_value, first_place, place_from};
+ghost use Rattle.wi_standard_functions.specs.Text.{exact_value, find_value, first_position, position_from};
 ghost use Rattle.wi_text_functions.specs.Inner.Gives.{Gives};
 
 use crate::characters::{after, count};
@@ -52,7 +52,7 @@ fn find(alloc: Global, sought: &Value, text: &Value, start: &Value) -> Result<Va
 
 /// The first place from a place on, both counted from 0, where one text stands in another.
 fn place_from(from: u128, sought: &str, text: &str) -> Option<usize>
-    ensures place { result ≡ place_from from (chars sought.now) (chars text.now) }
+    ensures place { result ≡ position_from from (chars sought.now) (chars text.now) }
     ensures within { IfSome result (λ i. i ≤ length text.now) }
 {
     if from > count(text) as u128 {
@@ -64,7 +64,7 @@ fn place_from(from: u128, sought: &str, text: &str) -> Option<usize>
 
 /// The first place, counted from 0, where one text stands in another.
 fn first_place(sought: &str, text: &str) -> Option<usize>
-    ensures place { result ≡ first_place (chars sought.now) (chars text.now) }
+    ensures place { result ≡ first_position (chars sought.now) (chars text.now) }
     ensures within { IfSome result (λ i. i ≤ length (chars text.now)) }
 {
     let start = text.find(sought)?;

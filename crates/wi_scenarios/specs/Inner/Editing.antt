@@ -6,7 +6,7 @@ use Rattle.wi_values.specs.declared.replacement.Replacement.{Replacement}
 use Rattle.wi_parser.specs.declared.content.Content.{Content}
 use Rattle.wi_parser.specs.Sheet.{Sheet}
 use Rattle.wi_store.specs.declared.fault.StoreFault.{StoreFault}
-use Rattle.wi_store.specs.Store.{Stored, edited, settled_change}
+use Rattle.wi_store.specs.Store.{Stored, edited, change_without_empty}
 use Rattle.wi_sheet.specs.Shown.{shown}
 use Rattle.wi_edit_log.specs.EditLog.{Entry, first_stale}
 use Rattle.wi_sessions.specs.Pictures.Laws.{is_listed}
@@ -24,7 +24,7 @@ stale_on d force named = if force then None else first_stale d.log d.current (se
 -- under whatever replacements.
 pub record AreMarked (marked : Sheet → List ℕ → ℕ → Bool) (sheet : Sheet) (contents : List (ℕ × Option Content)) (found : List ℕ) : Type 0 where
   pub only : (a : ℕ) → is_listed found a ≡ true → (0 < length contents) × (marked sheet (keys_of contents) a ≡ true)
-  pub unmoved : (a : ℕ) (p : List Replacement) → is_listed found a ≡ false → shown (edited sheet (map settled_change contents)) p a ≡ shown sheet p a
+  pub unmoved : (a : ℕ) (p : List Replacement) → is_listed found a ≡ false → shown (edited sheet (map change_without_empty contents)) p a ≡ shown sheet p a
 
 -- they are exactly those, where there is an edited cell
 abbrev pub AreAllMarked : (Sheet → List ℕ → ℕ → Bool) → Sheet → List (ℕ × Option Content) → List ℕ → Type 0

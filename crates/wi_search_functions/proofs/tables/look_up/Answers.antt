@@ -7,7 +7,7 @@ use Rattle.std.specs.Prelude.{ok_or}
 use Rattle.wi_lookup.specs.Arguments.{arguments_in, IsMissing}
 use Rattle.wi_standard_functions.specs.Arguments.{region_of, value_at}
 use Rattle.wi_standard_functions.specs.Convert.{to_whole}
-use Rattle.wi_standard_functions.specs.Lookup.{place_among}
+use Rattle.wi_standard_functions.specs.Lookup.{position_among}
 use Rattle.wi_values.specs.Address.{cells_of, is_within}
 use Rattle.wi_values.specs.declared.value.ErrorKind.TheVariants.{NotAvailable}
 use Rattle.wi_lookup.specs.declared.ending.Ending.TheVariants.{Error}
@@ -67,7 +67,7 @@ returns-in_err-place g c =
     (λ cells a.
     no_place c.args.axis (arguments_in cells args) s (region_of cells r) c.in_ok-k.k c.in_ok-in_order.in_order e
     (asked cells args s r c.in_ok-k.k c.in_ok-in_order.in_order (c.in_ok-sought.ensures cells a) c.in_ok-area.ensures (c.in_ok-k.ensures cells a) (c.in_ok-in_order.ensures cells a))
-    (placed_along c.args.axis cells r c.in_ok-k.k c.width.result (Err e) c.width.ensures (c.in_err-place.ensures.place ∙ ap (place_among c.width.result) same)))
+    (placed_along c.args.axis cells r c.in_ok-k.k c.width.result (Err e) c.width.ensures (c.in_err-place.ensures.place ∙ ap (position_among c.width.result) same)))
 
 pub returns-in_err-line : goal.returns-in_err-line
 returns-in_err-line g c =
@@ -87,7 +87,7 @@ returns-in_err-line g c =
     (λ cells a e q.
     not_seen axis (arguments_in cells args) s (region_of cells r) c.in_ok-k.k c.in_ok-in_order.in_order c.in_ok-place.place e
     (asked cells args s r c.in_ok-k.k c.in_ok-in_order.in_order (c.in_ok-sought.ensures cells a) c.in_ok-area.ensures (c.in_ok-k.ensures cells a) (c.in_ok-in_order.ensures cells a))
-    (placed_along axis cells r c.in_ok-k.k c.width.result (Ok c.in_ok-place.place) c.width.ensures (c.in_ok-place.ensures.place ∙ ap (place_among c.width.result) same))
+    (placed_along axis cells r c.in_ok-k.k c.width.result (Ok c.in_ok-place.place) c.width.ensures (c.in_ok-place.ensures.place ∙ ap (position_among c.width.result) same))
     (seen_along c.in_order.result c.in_ok-in_order.in_order s (first_cells_in axis (region_of cells r)) (map cells (cells_of l)) (line.values_are cells) c.in_order.ensures ∙ q))
     c.in_err-line.ensures.place)
 
@@ -115,7 +115,7 @@ returns g c =
       λ cells a.
           seen axis (arguments_in cells args) s (region_of cells r) c.in_ok-k.k c.in_ok-in_order.in_order c.in_ok-place.place c.in_ok-line.line
           (asked cells args s r c.in_ok-k.k c.in_ok-in_order.in_order (c.in_ok-sought.ensures cells a) c.in_ok-area.ensures (c.in_ok-k.ensures cells a) (c.in_ok-in_order.ensures cells a))
-          (placed_along axis cells r c.in_ok-k.k c.width.result (Ok c.in_ok-place.place) c.width.ensures (c.in_ok-place.ensures.place ∙ ap (place_among c.width.result) same))
+          (placed_along axis cells r c.in_ok-k.k c.width.result (Ok c.in_ok-place.place) c.width.ensures (c.in_ok-place.ensures.place ∙ ap (position_among c.width.result) same))
           (seen_along c.in_order.result c.in_ok-in_order.in_order s (first_cells_in axis (region_of cells r)) (map cells (cells_of l)) (line.values_are cells) c.in_order.ensures ∙ c.in_ok-line.ensures.place cells a)
           ∙ along_is axis cells r c.in_ok-line.line c.in_ok-place.place line_within place_within ∙ ap cells (sym c.cell_at.ensures),
       is_referred args 1 r c.in_ok-area.ensures c.cell_at.result (subst (λ (b : ℕ). is_within r b ≡ true) (sym c.cell_at.ensures) (along_within axis r c.in_ok-line.line c.in_ok-place.place line_within place_within)),
