@@ -92,6 +92,13 @@ impl Kept {
         Ok(())
     }
 
+    /// How many values there may be.
+    pub fn capacity(&self) -> usize
+        ensures { result ≡ self.now.capacity }
+    {
+        self.capacity
+    }
+
     /// How many values are kept.
     pub fn len(&self) -> usize
         ensures len { result ≡ length self.now.entries }

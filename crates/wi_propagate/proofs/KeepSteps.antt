@@ -1,5 +1,5 @@
 -- A value is kept in one question, and for longer.
-use Rattle.std.proofs.Common.{◌≡◌, ◌==◌, ◌<◌, ◌≤◌, ◌-◌, ◌+◌, inl, inr, ◌||◌, ◌&&◌, ℕ, Bool, true, false, cond, min, List, length, Option, Some, None, IsSome, is_some, Result, Ok, Err, OnOk, OnErr, refl, ap, sym, ◌∙◌, subst, arith, if◌then◌else◌}
+use Rattle.std.proofs.Common.{◌≡◌, ◌==◌, ◌<◌, ◌≤◌, ◌-◌, ◌+◌, inl, inr, ◌||◌, ◌&&◌, ℕ, Bool, true, false, cond, min, List, length, Option, Some, None, IsSome, is_some, Result, Ok, Err, OnOk, refl, ap, sym, ◌∙◌, subst, arith, if◌then◌else◌}
 use Rattle.std.proofs.lemmas.Bool.{eqb-true, or_left}
 use Rattle.std.specs.Map.{update}
 use Rattle.std.specs.declared.alloc.AllocError.{AllocError}
@@ -8,24 +8,15 @@ use Rattle.wi_values.specs.declared.replacement.Replacement.{Replacement}
 use Rattle.wi_values.specs.Replacements.{same_replacements}
 use Rattle.wi_values.proofs.Order.{is_itself}
 use Rattle.wi_cache.specs.declared.key.Key.{Key}
-use Rattle.wi_cache.specs.Entries.{Entries, KeptValues, HasRoom, Puts, PutsForGoing, PutsForOne, same_key, value_for, len_after}
+use Rattle.wi_cache.specs.Entries.{Entries, KeptValues, HasRoom, Puts, same_key, value_for}
 use Rattle.wi_cache.proofs.Callers.{holds_after_keep}
 use Rattle.wi_parser.specs.Sheet.{Sheet}
 use Rattle.wi_sheet.specs.Demand.{same_case}
 use Rattle.wi_engine.specs.Inner.Saving.{GivesUpWhenFull}
 use Rattle.wi_propagate.specs.Right.{IsKeptFor, AreRight}
 use Rattle.wi_propagate.specs.KeptSheet.{Generations, generation_in, key_in}
+pub use Rattle.wi_propagate.specs.Inner.Keeping.{KeepsIn}
 use Rattle.wi_propagate.specs.Inner.Keeping.{keeping, state_in}
-
--- what an accepted `keep` of kept values ensures, and what a refused one does
-pub record KeepsIn (r : Result (Unit {0}) AllocError) (m n : KeptValues) (k : Key) (v : Value) : Type 0 where
-  pub found : OnOk r (value_for n.entries k ≡ Some v)
-  pub stays : OnOk r (HasRoom m k → Puts m.entries n.entries k v)
-  pub goes : OnOk r (value_for m.entries k ≡ None → m.capacity ≤ length m.entries → PutsForOne m.entries n.entries k v)
-  pub len : OnOk r (length n.entries ≡ len_after m k)
-  pub going : OnOk r (PutsForGoing m n k v)
-  pub capacity : n.capacity ≡ m.capacity
-  pub err : OnErr r (n ≡ m)
 
 pub right_after : (r : Result (Unit {0}) AllocError) (s : Sheet) (edits : ℕ) (g : ℕ → ℕ) (m n : KeptValues) (k : Key) (v : Value) → KeepsIn r m n k v → IsKeptFor s edits g k v → AreRight s edits g m.entries → AreRight s edits g n.entries
 right_after (Ok x) s edits g m n k v h i a = holds_after_keep (IsKeptFor s edits g) k v i m n h.stays h.goes a
@@ -81,14 +72,14 @@ pub stays_put : (es fs : Entries) (k q : Key) (v : Value) → Puts es fs k v →
 stays_put es fs k q v p h = ap (λ (o : Option Value). is_some o) (p q) ∙ is_some_cond (same_key k q) v (value_for es q) ∙ or_left (is_some (value_for es q)) (same_key k q) h
 
 -- none goes but for a key that comes to a full list
-pub gives_up_after : (r : Result (Unit {0}) AllocError) (s : Sheet) (edits : ℕ) (g : Generations) (es fs : Entries) (m n : KeptValues) (k : Key) (v : Value) → KeepsIn r m n k v → GivesUpWhenFull (state_in (keeping s edits g es m)) (state_in (keeping s edits g fs n))
-gives_up_after (Err x) s edits g es fs m n k v h = subst (λ (y : KeptValues). GivesUpWhenFull (state_in (keeping s edits g es m)) (state_in (keeping s edits g fs y))) (sym h.err) (record { room = omega arith; stays = λ l q i. i })
-gives_up_after (Ok x) s edits g es fs m n k v h = by_old (value_for m.entries k) refl
+pub gives_up_after : (r : Result (Unit {0}) AllocError) (s : Sheet) (edits : ℕ) (g : Generations) (es fs : Entries) (m n : KeptValues) (y z : ℕ) (k : Key) (v : Value) → KeepsIn r m n k v → GivesUpWhenFull (state_in (keeping s edits g es m y)) (state_in (keeping s edits g fs n z))
+gives_up_after (Err x) s edits g es fs m n y z k v h = subst (λ (x : KeptValues). GivesUpWhenFull (state_in (keeping s edits g es m y)) (state_in (keeping s edits g fs x z))) (sym h.err) (record { room = omega arith; stays = λ l q i. i })
+gives_up_after (Ok x) s edits g es fs m n y z k v h = by_old (value_for m.entries k) refl
   where
     Lens : Option Value → Type 0
     Lens o = length n.entries ≡ (if is_some o then length m.entries else min (length m.entries + 1) m.capacity)
 
-    by_old : (o : Option Value) → value_for m.entries k ≡ o → GivesUpWhenFull (state_in (keeping s edits g es m)) (state_in (keeping s edits g fs n))
+    by_old : (o : Option Value) → value_for m.entries k ≡ o → GivesUpWhenFull (state_in (keeping s edits g es m y)) (state_in (keeping s edits g fs n z))
     by_old (Some u) e =
         let len : length n.entries ≡ length m.entries = subst Lens e h.len in
         let cap = h.capacity in

@@ -3,7 +3,7 @@
 -- Of what is kept:
 -- `RightValues`: values that are kept stay right, over an edit, where one is kept, and where a question begins.
 -- `KeepSteps`: what is so where one value is kept; over it `ValuesAtHand`, what is kept or was given up in the question, and
--- `PlaceCounts`, each value takes one place.
+-- `PlaceCounts`, each value takes one place. `Ages`: what of that counts as found in the question.
 -- `Editing`: what is so of a calculator stays so over an edit, by generations and `RightValues`.
 -- Of a question:
 -- `Questions`: how it begins (`Begins`), what is kept when it ends, and that it owes what its contract says (`Owes`).
@@ -15,6 +15,7 @@ pub mod KeptCones
 pub mod RightValues
 pub mod KeepSteps
 pub mod ValuesAtHand
+pub mod Ages
 pub mod PlaceCounts
 pub mod Editing
 pub mod Questions

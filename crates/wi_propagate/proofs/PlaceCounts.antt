@@ -100,9 +100,9 @@ stays_but es fs k v p q e h = at (same_key k q) (p.others q)
     at true i = ap (λ (o : Option Value). is_some o) i
     at false i = ap (λ (o : Option Value). is_some o) (i ∙ ap (λ (b : Bool). cond b None (value_for es q)) e) ∙ h
 
-pub one_place_after : (r : Result (Unit {0}) AllocError) (s : Sheet) (edits : ℕ) (g : Generations) (es fs : Entries) (m n : KeptValues) (k : Key) (v : Value) → KeepsIn r m n k v → TakesPlaces (state_in (keeping s edits g es m)) (state_in (keeping s edits g fs n)) 0 1
-one_place_after (Err x) s edits g es fs m n k v h = subst (λ (y : KeptValues). TakesPlaces (state_in (keeping s edits g es m)) (state_in (keeping s edits g fs y)) 0 1) (sym h.err) (λ ks d. omega arith)
-one_place_after (Ok x) s edits g es fs m n k v h = by_old (value_for m.entries k) refl
+pub one_place_after : (r : Result (Unit {0}) AllocError) (s : Sheet) (edits : ℕ) (g : Generations) (es fs : Entries) (m n : KeptValues) (y z : ℕ) (k : Key) (v : Value) → KeepsIn r m n k v → TakesPlaces (state_in (keeping s edits g es m y)) (state_in (keeping s edits g fs n z)) 0 1
+one_place_after (Err x) s edits g es fs m n y z k v h = subst (λ (x : KeptValues). TakesPlaces (state_in (keeping s edits g es m y)) (state_in (keeping s edits g fs x z)) 0 1) (sym h.err) (λ ks d. omega arith)
+one_place_after (Ok x) s edits g es fs m n y z k v h = by_old (value_for m.entries k) refl
   where
     old : Key → Bool
     old q = is_some (value_for m.entries q)
@@ -113,7 +113,7 @@ one_place_after (Ok x) s edits g es fs m n k v h = by_old (value_for m.entries k
     Lens : Option Value → Type 0
     Lens o = length n.entries ≡ (if is_some o then length m.entries else min (length m.entries + 1) m.capacity)
 
-    by_old : (o : Option Value) → value_for m.entries k ≡ o → TakesPlaces (state_in (keeping s edits g es m)) (state_in (keeping s edits g fs n)) 0 1
+    by_old : (o : Option Value) → value_for m.entries k ≡ o → TakesPlaces (state_in (keeping s edits g es m y)) (state_in (keeping s edits g fs n z)) 0 1
     by_old (Some u) e = λ ks d.
         let len : length n.entries ≡ length m.entries = subst Lens e h.len in
         let cap = h.capacity in

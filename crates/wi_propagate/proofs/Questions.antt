@@ -1,5 +1,5 @@
 -- A question asked of a calculator that keeps values.
-use Rattle.std.proofs.Common.{◌≡◌, ◌≤◌, ◌<◌, ◌+◌, ◌-◌, ◌^◌, inl, inr, length, All, filter, not, is_some, ℕ, Bool, true, false, List, [], Option, Some, refl, ap, sym, ◌∙◌, subst, arith}
+use Rattle.std.proofs.Common.{◌≡◌, ◌≤◌, ◌<◌, ◌+◌, ◌-◌, ◌^◌, ◌||◌, inl, inr, lt-ltb, if◌then◌else◌, length, All, filter, not, is_some, ℕ, Bool, true, false, List, [], Option, Some, refl, ap, sym, ◌∙◌, subst, arith}
 use Rattle.std.specs.Map.{keys_of}
 use Rattle.std.proofs.lemmas.Bool.{cases_lt, true≢false}
 use Rattle.wi_values.specs.declared.value.Value.{Value}
@@ -27,9 +27,9 @@ use Rattle.wi_sheet.proofs.SettledTables.{what_if_more, rests_more}
 use Rattle.wi_engine.proofs.Places.{none_went}
 use Rattle.wi_propagate.specs.KeptSheet.{Generations, generation_in, KeptSheet, key_in, stands, is_kept, unkept, gone, IsAtHand, HasRoomFor, KeepsAll, KeepsNoMore, KeepsOld, KeepsWhileRoom}
 use Rattle.wi_propagate.specs.Right.{AreRight, AreKeptRight}
-use Rattle.wi_propagate.specs.Inner.Keeping.{kept_sheet, values_in, Keeping, keeping, begun, state_in, IsKeepingRight}
+use Rattle.wi_propagate.specs.Inner.Keeping.{kept_sheet, values_in, Keeping, keeping, begun, state_in, is_young, young_at_first, IsKeepingRight}
 use Rattle.wi_propagate.specs.Inner.Owes.{Owes}
-use Rattle.wi_propagate.proofs.RightValues.{or_none}
+use Rattle.wi_propagate.proofs.RightValues.{or_none, young_stands}
 use Rattle.wi_propagate.proofs.PlaceCounts.{all_stand}
 
 -- ---- how it begins
@@ -40,27 +40,43 @@ pub record Begins (k : KeptSheet) (q : Keeping) : Type 0 where
   pub within : length k.values.entries ≤ k.values.capacity
   pub one_each : HasOneEach k.values.entries
 
-pub begins : (s : Stored) (gs : Generations) (o : Option KeptValues) (n : Counts) (v : KeptValues) (q : Keeping) → Some v ≡ o → q ≡ keeping s.sheet s.edits gs [] v → length v.entries ≤ v.capacity → HasOneEach v.entries → Begins (kept_sheet s gs o n) q
+pub begins : (s : Stored) (gs : Generations) (o : Option KeptValues) (n : Counts) (v : KeptValues) (q : Keeping) → Some v ≡ o → q ≡ keeping s.sheet s.edits gs [] v (young_at_first v) → length v.entries ≤ v.capacity → HasOneEach v.entries → Begins (kept_sheet s gs o n) q
 begins s gs o n v q f e within one_each = record {
-  is = e ∙ ap (λ (x : Option KeptValues). keeping s.sheet s.edits gs [] (values_in x)) f;
+  is = e ∙ ap (λ (x : Option KeptValues). keeping s.sheet s.edits gs [] (values_in x) (young_at_first (values_in x))) f;
   within = subst (λ (x : Option KeptValues). length (values_in x).entries ≤ (values_in x).capacity) f within;
   one_each = subst (λ (x : Option KeptValues). HasOneEach (values_in x).entries) f one_each;
 }
 
 -- and what was kept is right
-pub begun_right : (s : Stored) (gs : Generations) (o : Option KeptValues) (n : Counts) (v : KeptValues) → Some v ≡ o → AreKeptRight (kept_sheet s gs o n) → IsKeepingRight (keeping s.sheet s.edits gs [] v)
+pub begun_right : (s : Stored) (gs : Generations) (o : Option KeptValues) (n : Counts) (v : KeptValues) → Some v ≡ o → AreKeptRight (kept_sheet s gs o n) → IsKeepingRight (keeping s.sheet s.edits gs [] v (young_at_first v))
 begun_right s gs o n v f h = record {
   past = h.past;
   right = subst (λ (x : Option KeptValues). AreRight s.sheet s.edits (generation_in gs) (values_in x).entries) (sym f) h.right;
+  given_right = λ k. tt;
+  all_young = λ few. subst (λ b. v.capacity ≤ (if b then v.capacity else 0)) (sym (lt-ltb (length v.entries) v.capacity few)) (omega arith);
 }
 
 module _ {k : KeptSheet} {q : Keeping} (e : Begins k q) where
-  -- at its beginning what is found is what is kept
-  begun_found : (c : ℕ) (w : List Replacement) → (state_in q).found c w ≡ is_kept k c w
-  begun_found c w = ap (λ (x : Keeping). (state_in x).found c w) e.is ∙ ap (λ (o : Option Value). is_some o) (or_none (value_for k.values.entries (key_in k.generations c w)))
+  -- at its beginning what is known is what is kept
+  begun_known : (c : ℕ) (w : List Replacement) → is_some ((state_in q).known c w) ≡ is_kept k c w
+  begun_known c w = ap (λ (x : Keeping). is_some ((state_in x).known c w)) e.is ∙ ap (λ (o : Option Value). is_some o) (or_none (value_for k.values.entries (key_in k.generations c w)))
 
+  -- and what is found is among that
   keeps_found : KeepsFound (state_in q)
-  keeps_found c w h = ap (λ (x : Keeping). (state_in x).kept c w) e.is ∙ sym (begun_found c w) ∙ h
+  keeps_found c w h =
+      ap (λ (x : Keeping). (state_in x).kept c w) e.is
+      ∙ young_stands k.values.entries (young_at_first k.values) (key_in k.generations c w) (alone (is_young k.values (young_at_first k.values) (key_in k.generations c w)) (sym (ap (λ (x : Keeping). (state_in x).found c w) e.is) ∙ h))
+    where
+      alone : (b : Bool) → (b || false) ≡ true → b ≡ true
+      alone true i = refl
+      alone false i = i
+
+  begun_unfound : (c : ℕ) (w : List Replacement) → is_kept k c w ≡ false → (state_in q).found c w ≡ false
+  begun_unfound c w h = by ((state_in q).found c w) refl
+    where
+      by : (b : Bool) → (state_in q).found c w ≡ b → b ≡ false
+      by false i = refl
+      by true i = absurd (true≢false (sym (keeps_found c w i) ∙ ap (λ (x : Keeping). (state_in x).kept c w) e.is ∙ h))
 
   room_left : (ks : List Case) → HasRoomFor k ks → saving.not_kept (state_in q) ks ≤ (state_in q).room
   room_left ks h =
@@ -112,11 +128,11 @@ module _ {k : KeptSheet} {q : Keeping} (e : Begins k q) (last : Keeping) (values
       let edits : last.edits ≡ k.stored.edits = beside.latest ∙ ap (λ (x : Keeping). x.edits) e.is in
       let here = subst (λ (t : Sheet). AreRight t last.edits (generation_in last.generations) last.values.entries) sheet h.right in
       let now = subst (λ (m : ℕ). AreRight k.stored.sheet m (generation_in last.generations) last.values.entries) edits here in
-      let then = subst (λ (f : ℕ → ℕ). AreRight k.stored.sheet k.stored.edits f last.values.entries) same_generations now in
+      let here_now = subst (λ (f : ℕ → ℕ). AreRight k.stored.sheet k.stored.edits f last.values.entries) same_generations now in
       record {
         room = omega (arith, same_capacity, before.room);
         past = before.past;
-        right = subst (λ (v : KeptValues). AreRight k.stored.sheet k.stored.edits (generation_in k.generations) v.entries) (sym same) then;
+        right = subst (λ (v : KeptValues). AreRight k.stored.sheet k.stored.edits (generation_in k.generations) v.entries) (sym same) here_now;
       }
 
   pub asked_keeps : (ks : List Case) → HasRoomFor k ks → Saved k.stored.sheet (state_in q) (state_in last) k.counts counts ks → KeepsAll k after
@@ -169,7 +185,7 @@ module _ {k : KeptSheet} {q : Keeping} (e : Begins k q) (w put : List Replacemen
   pub at_hand_is : IsAtHand k put a → NeedsNoEvaluation k.stored.sheet (state_in q) w a
   at_hand_is (inl h) = let z = o in cc
   at_hand_is (inr (inl h)) = inl (ap (λ (p : List Replacement). has_formula (content_of (put_all k.stored.sheet p) a)) same ∙ h)
-  at_hand_is (inr (inr h)) = inr (begun_found e a (reaching k.stored.sheet a w) ∙ ap (λ (p : List Replacement). is_kept k a (reaching k.stored.sheet a p)) same ∙ h)
+  at_hand_is (inr (inr h)) = inr (begun_known e a (reaching k.stored.sheet a w) ∙ ap (λ (p : List Replacement). is_kept k a (reaching k.stored.sheet a p)) same ∙ h)
 
   unkept_of : (b : Bool) → is_kept k a (reaching k.stored.sheet a put) ≡ b → (IsAtHand k put a → ⊥) → is_kept k a (reaching k.stored.sheet a put) ≡ false
   unkept_of true i h = absurd (h (inr (inr i)))
@@ -188,8 +204,8 @@ module _ {k : KeptSheet} {q : Keeping} (e : Begins k q) (w put : List Replacemen
       let anew : IsValuedAnew k.stored.sheet (state_in q) w a = record {
         formula = ap (λ (p : List Replacement). has_formula (content_of (put_all k.stored.sheet p) a)) same ∙ f;
         unfound =
-            begun_found e a (reaching k.stored.sheet a w) ∙ ap (λ (p : List Replacement). is_kept k a (reaching k.stored.sheet a p)) same
-            ∙ unkept_of (is_kept k a (reaching k.stored.sheet a put)) refl hard;
+            begun_unfound e a (reaching k.stored.sheet a w)
+            (ap (λ (p : List Replacement). is_kept k a (reaching k.stored.sheet a p)) same ∙ unkept_of (is_kept k a (reaching k.stored.sheet a put)) refl hard);
       } in
       let room : 1 ≤ (state_in q).capacity = omega (arith, ap (λ (x : Keeping). (state_in x).capacity) e.is, one) in
       kept_after_is e last values counts beside there a (reaching k.stored.sheet a put) ∙ ap (λ (p : List Replacement). (state_in last).kept a (reaching k.stored.sheet a p)) (sym same) ∙ h anew room

@@ -1,19 +1,21 @@
 -- Values that are kept are right: over an edit, where one is found, and where a question begins.
-use Rattle.std.proofs.Common.{◌≡◌, ◌≤◌, ◌<◌, ◌+◌, ◌||◌, ℕ, Bool, true, false, List, [], Option, Some, None, IfSome, is_some, refl, sym, ◌∙◌, subst, arith}
+use Rattle.std.proofs.Common.{◌≡◌, ◌≤◌, ◌<◌, ◌+◌, ◌||◌, ℕ, zero, suc, Bool, true, false, cond, List, [], ◌∷◌, take, Option, Some, None, IfSome, is_some, refl, sym, ◌∙◌, subst, arith}
 use Rattle.std.proofs.lemmas.Bool.{true≢false}
+use Rattle.std.specs.List.{list_any}
+use Rattle.std.specs.Map.{keys_of}
 use Rattle.std.specs.Option.{option_or}
 use Rattle.wi_values.specs.declared.value.Value.{Value}
 use Rattle.wi_values.specs.declared.replacement.Replacement.{Replacement}
 use Rattle.wi_parser.specs.Sheet.{Sheet, put_all}
 use Rattle.wi_cache.specs.declared.key.Key.{Key}
-use Rattle.wi_cache.specs.Entries.{Entries, KeptValues, value_for}
+use Rattle.wi_cache.specs.Entries.{Entries, KeptValues, same_key, value_for}
 use Rattle.wi_graph.specs.Circular.{circular}
 use Rattle.wi_sheet.specs.CellValue.{cell_value}
 use Rattle.wi_graph.specs.Reach.{IsInCone, SameOff, in_cone}
 use Rattle.wi_propagate.specs.Right.{IsRight, IsKeptFor, AreRight}
 use Rattle.wi_engine.specs.Inner.MemoState.{IsMemoOf, IsTold}
 use Rattle.wi_propagate.specs.KeptSheet.{Generations, generation_in, key_in}
-use Rattle.wi_propagate.specs.Inner.Keeping.{Keeping, keeping, state_in, IsKeepingRight}
+use Rattle.wi_propagate.specs.Inner.Keeping.{Keeping, keeping, state_in, is_young, IsKeepingRight}
 use Rattle.wi_sheet.proofs.Overrides.{same_for_reached}
 use Rattle.wi_graph.proofs.Cones.{outside_circular, outside_reaches}
 use Rattle.wi_sheet.proofs.Cones.{outside_value}
@@ -69,22 +71,40 @@ pub or_none : (o : Option Value) → option_or o None ≡ o
 or_none None = refl
 or_none (Some v) = refl
 
-pub told_in : (q : Keeping) → IsTold (state_in q)
-told_in q c w = at (value_for q.values.entries (key_in q.generations c w)) (value_for q.given_up (key_in q.generations c w))
+-- each of the latest stands
+pub young_stands : (es : Entries) (y : ℕ) (q : Key) → list_any (same_key q) (take y (keys_of es)) ≡ true → is_some (value_for es q) ≡ true
+young_stands [] y q h = absurd (true≢false (sym h ∙ nothing y))
   where
-    at : (o p : Option Value) → is_some (option_or o p) ≡ (is_some (option_or o p) || is_some o)
-    at None None = refl
-    at None (Some v) = refl
-    at (Some v) p = refl
+    nothing : (n : ℕ) → list_any (same_key q) (take n []) ≡ false
+    nothing zero = refl
+    nothing (suc n) = refl
+young_stands (e ∷ es) zero q h = absurd (true≢false (sym h))
+young_stands (e ∷ es) (suc y) q h = (elim (same_key q e.0) as (λ b. (b || list_any (same_key q) (take y (keys_of es))) ≡ true → is_some (cond b (Some e.1) (value_for es q)) ≡ true) [
+  | true ↦ λ t. refl
+  | false ↦ λ t. young_stands es y q t
+]) h
+
+pub told_in : (q : Keeping) → IsTold (state_in q)
+told_in q c w =
+    let k = key_in q.generations c w in
+    at (value_for q.values.entries k) (value_for q.given_up k) (is_young q.values q.young k) (young_stands q.values.entries q.young k)
+  where
+    at : (o p : Option Value) (b : Bool) → (b ≡ true → is_some o ≡ true) → is_some (option_or o p) ≡ ((b || is_some p) || is_some o)
+    at (Some v) p true h = refl
+    at (Some v) None false h = refl
+    at (Some v) (Some u) false h = refl
+    at None p true h = absurd (true≢false (sym (h refl)))
+    at None None false h = refl
+    at None (Some v) false h = refl
 
 known_right : (s : Sheet) (n : ℕ) (g : ℕ → ℕ) (c : ℕ) (w : List Replacement) (o : Option Value) → IfSome o (IsKeptFor s n g (record { cell = c; generation = g c; world = w })) → IfSome o (λ v. v ≡ cell_value (put_all s w) c)
 known_right s n g c w None h = tt
 known_right s n g c w (Some v) h = found_right s c w v (h.right refl)
 
-pub begun_is_memo : (s : Sheet) (n : ℕ) (gs : Generations) (es : Entries) (k : KeptValues) → es ≡ [] → IsKeepingRight (keeping s n gs [] k) → IsMemoOf s (state_in (keeping s n gs es k))
-begun_is_memo s n gs es k e h = subst (λ (x : Entries). IsMemoOf s (state_in (keeping s n gs x k))) (sym e) (record {
+pub begun_is_memo : (s : Sheet) (n : ℕ) (gs : Generations) (es : Entries) (k : KeptValues) (y : ℕ) → es ≡ [] → IsKeepingRight (keeping s n gs [] k y) → IsMemoOf s (state_in (keeping s n gs es k y))
+begun_is_memo s n gs es k y e h = subst (λ (x : Entries). IsMemoOf s (state_in (keeping s n gs x k y))) (sym e) (record {
   sheet = refl;
   right = λ c w. subst (λ (o : Option Value). IfSome o (λ v. v ≡ cell_value (put_all s w) c)) (sym (or_none (value_for k.entries (key_in gs c w)))) (known_right s n (generation_in gs) c w (value_for k.entries (key_in gs c w)) (h.right (key_in gs c w)));
   closed = λ c d i r f. refl;
-  told = told_in (keeping s n gs [] k);
+  told = told_in (keeping s n gs [] k y);
 })

@@ -19,7 +19,7 @@ use Rattle.wi_propagate.proofs.KeepSteps.{KeepsIn, put_is_some}
 
 -- ---- the entry that goes for a new value
 
-abbrev last : Entries → Option (Key × Value)
+abbrev pub last : Entries → Option (Key × Value)
 last es = slice_get es (length es - 1)
 
 none_goes : (e : Key × Value) → ◌≡◌ {A = Option (Key × Value)} None (Some e) → ⊥
@@ -31,12 +31,12 @@ goes_last false true o e h = absurd (none_goes e h)
 goes_last false false o e h = h
 
 -- it stands under its key
-going_stands : (m : KeptValues) (k : Key) (e : Key × Value) → HasOneEach m.entries → going m k ≡ Some e → value_for m.entries e.0 ≡ Some e.1
+pub going_stands : (m : KeptValues) (k : Key) (e : Key × Value) → HasOneEach m.entries → going m k ≡ Some e → value_for m.entries e.0 ≡ Some e.1
 going_stands m k e one_each h =
     lookup_from_place same_key_equiv m.entries (length m.entries - 1) e.0 e.1 one_each
     (goes_last (is_some (value_for m.entries k)) (nat_lt (length m.entries) m.capacity) (last m.entries) e h)
 
-no_last : (es : Entries) → last es ≡ None → length es ≡ 0
+pub no_last : (es : Entries) → last es ≡ None → length es ≡ 0
 no_last es h = elim (slice_get_cases es (length es - 1)).1 [
   | inl p ↦ absurd (none_goes p.0 (sym h ∙ p.2))
   | inr p ↦ (let less = p.0 in omega (arith, less))
@@ -47,7 +47,7 @@ none_stands [] q l h = let z = h in cc
 none_stands (e ∷ es) q l h = absurd (omega (arith, l))
 
 -- where none goes, all that stood stands beside the new one
-none_gone : (m n : KeptValues) (k : Key) (v : Value) → KeepsIn (Ok tt) m n k v → going m k ≡ None → Puts m.entries n.entries k v
+pub none_gone : (m n : KeptValues) (k : Key) (v : Value) → KeepsIn (Ok tt) m n k v → going m k ≡ None → Puts m.entries n.entries k v
 none_gone m n k v h none = at (value_for m.entries k) (nat_lt (length m.entries) m.capacity) refl refl
   where
     goes : Option Value → Bool → Option (Key × Value)

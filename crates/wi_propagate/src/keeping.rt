@@ -5,7 +5,7 @@ ghost use Rattle.wi_graph.specs.Edges.{AreEdgesOf};
 ghost use Rattle.wi_cache.specs.Entries.{HasOneEach, Puts, going};
 ghost use Rattle.wi_engine.specs.Inner.MemoState.{IsMemoOf};
 ghost use Rattle.wi_propagate.specs.Inner.Cones.{AreAllCones};
-ghost use Rattle.wi_propagate.specs.Inner.Keeping.{keeping, state_in, IsKeepingRight, TakesOver};
+ghost use Rattle.wi_propagate.specs.Inner.Keeping.{keeping, state_in, young_at_first, Ages, IsKeepingRight, KeepsIn, TakesOver};
 
 use crate::cones::add_cones;
 use crate::generations::{Generations, generation_of};
@@ -18,8 +18,8 @@ use wi_store::Store;
 use wi_values::{Address, Value};
 use wi_worlds::{Reaches, World};
 
-/// What is remembered in one question: the values that are kept for longer, and a copy of each that was given up in it, so that
-/// none is lost before it ends.
+/// What is remembered in one question: the values that are kept for longer, and a copy of each that came in it and was given up in
+/// it, so that none is lost before it ends.
 #[derive(Drop)]
 pub struct Keeping<'a> {
     alloc: Global,
@@ -33,6 +33,9 @@ pub struct Keeping<'a> {
     // Copies of the values that were given up in this question.
     given_up: RunTable,
     kept: Kept,
+    // Of those that are kept the latest came in this question, so many at most; all there may be where the list wasn't full when it
+    // began.
+    young: usize,
 }
 
 impl<'a> Model for Keeping<'a> {
@@ -52,12 +55,12 @@ impl<'a> Model for Keeping<'a> {
     ghost use Rattle.wi_propagate.specs.Inner.Cones.{AreAllCones};
     ghost use Rattle.wi_propagate.specs.Inner.Keeping.{keeping, IsKeepingRight};
 
-    ghost view = { λ m. keeping m.store.now.sheet m.store.now.edits m.generations.now.entries m.given_up m.kept };
+    ghost view = { λ m. keeping m.store.now.sheet m.store.now.edits m.generations.now.entries m.given_up m.kept m.young };
 
     ghost invariant = { λ m. AreEdgesOf m.graph.now.now m.store.now.sheet
         × (m.graph.now.staged ≡ None)
         × AreAllCones m.store.now.sheet m.cones
-        × IsKeepingRight (keeping m.store.now.sheet m.store.now.edits m.generations.now.entries m.given_up m.kept) };
+        × IsKeepingRight (keeping m.store.now.sheet m.store.now.edits m.generations.now.entries m.given_up m.kept m.young) };
 }
 
 impl<'a> Keeping<'a> {
@@ -74,14 +77,15 @@ impl<'a> Keeping<'a> {
         requires staged { graph.now.staged ≡ None }
         requires cones { AreAllCones store.now.sheet cones }
         requires right { IsKeepingRight
-            (keeping store.now.sheet store.now.edits generations.now.entries [] kept) }
+            (keeping store.now.sheet store.now.edits generations.now.entries [] kept (young_at_first kept)) }
         ensures value { result
-            ≡ keeping store.now.sheet store.now.edits generations.now.entries [] kept }
+            ≡ keeping store.now.sheet store.now.edits generations.now.entries [] kept (young_at_first kept) }
         ensures memo { IsMemoOf store.now.sheet (state_in result) }
         ensures within { length kept.entries ≤ kept.capacity }
         ensures one_each { HasOneEach kept.entries }
     {
         let _ = kept.len();
+        let young = young_at_first(&kept);
         Keeping {
             alloc,
             store,
@@ -91,6 +95,7 @@ impl<'a> Keeping<'a> {
             last: World::new(alloc),
             given_up: RunTable::new(alloc),
             kept,
+            young,
         }
     }
 
@@ -130,13 +135,45 @@ impl<'a> Memo for Keeping<'a> {
         }
     }
 
-    /// Keeps a value for longer. Where another goes for it, a copy of that one is made first, so that none is lost if memory runs
-    /// out.
+    /// Keeps a value for longer. Where another goes for it that may have come in this question, a copy of that one is made first, so
+    /// that none is lost if memory runs out.
     fn keep(&mut self, key: Key, value: Value) -> Result<(), AllocError> {
         let _ = self.kept.len();
-        save_going(self.alloc, &self.kept, &key, &mut self.given_up)?;
-        self.kept.keep(key, value)
+        keep_aged(
+            self.alloc,
+            &mut self.kept,
+            &mut self.given_up,
+            &mut self.young,
+            key,
+            value,
+        )
     }
+}
+
+// Keeps a value for longer, where of those that are kept so many, the latest, count as found in this question. Of a key that was there
+// a copy of its new value is given up, since it keeps its place, which may be of an earlier question.
+fn keep_aged(
+    alloc: Global,
+    kept: &mut Kept,
+    given_up: &mut RunTable,
+    young: &mut usize,
+    key: Key,
+    value: Value,
+) -> Result<(), AllocError>
+    ensures keeps { KeepsIn result kept.old kept.new key value }
+    ensures ages { Ages result kept.old key value given_up.old given_up.new young.old young.new }
+{
+    if *young >= kept.len() {
+        save_going(alloc, kept, &key, given_up)?;
+        return kept.keep(key, value);
+    }
+    if kept.going(&key).is_none() {
+        keep_copy(alloc, given_up, &key, &value)?;
+        return kept.keep(key, value);
+    }
+    kept.keep(key, value)?;
+    *young += 1;
+    Ok(())
 }
 
 // Puts a copy of the value that goes for a new one of a key, if one does, among those given up. If memory runs out, these stay as
@@ -181,4 +218,15 @@ fn copied(key: &Key) -> Result<Key, AllocError>
         generation: key.generation,
         world,
     })
+}
+
+// How many of those that are kept count as found when a question begins: none where the list is full, and else all that there may be.
+fn young_at_first(kept: &Kept) -> usize
+    ensures { result ≡ young_at_first kept.now }
+{
+    if kept.len() < kept.capacity() {
+        kept.capacity()
+    } else {
+        0
+    }
 }

@@ -1,8 +1,9 @@
 use Rattle.std.proofs.Common.{rules}
+use Rattle.wi_propagate.proofs.Ages.{none_known}
 use Rattle.wi_propagate.proofs.keeping.KeepingMemo.look.Goals as goal
 
 pub returns-in-None-clause-value : goal.returns-in-None-clause-value
 returns-in-None-clause-value c = search rules
 
 pub returns-in-None-clause-unfound : goal.returns-in-None-clause-unfound
-returns-in-None-clause-unfound c = search rules
+returns-in-None-clause-unfound c = search (rules, none_known)
