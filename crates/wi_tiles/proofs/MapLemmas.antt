@@ -146,6 +146,7 @@ first_is w area from (Some x) some within none = sym (next_is w area from x.0 wi
 pub first_has : {V : Type 0} (w : Pages V) (area : Area) (from : ℕ) (o : Option (ℕ × Bor V)) → IfSome o (λ x. IsNext w area from x.0 × (at_cell w x.0 ≡ Some x.1.now)) → IfSome o (λ x. x.0 < 17179869184) → IfSome o (λ x. get nat_cmp (map_of (entries_of w)) x.0 ≡ Some x.1.now)
 first_has w area from None some within = tt
 first_has w area from (Some x) some within = get_is w x.0 within ∙ some.1
+
 -- none are counted where there are none
 pub none_counted : {X : Type 0} (n : ℕ) (es : List X) → n ≡ length es → IsTrue (n == 0) ↔ (es ≡ [])
 none_counted n [] h = (λ t. refl, λ e. sym (eq-true n 0 h))
