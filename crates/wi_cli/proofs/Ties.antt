@@ -16,6 +16,7 @@ pub mod Lacks
 pub mod Wants
 pub mod Replies
 pub mod Events
+pub mod Written
 pub mod Addresses
 pub mod Rects
 pub mod Splitting

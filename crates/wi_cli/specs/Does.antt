@@ -20,19 +20,19 @@ use Rattle.wi_cli.specs.Edits.{after_edit, Put, Puts}
 
 module _ (s : State) where
   -- the state with a scenario made or changed
-  abbrev pub having : list.Scenario → State
-  having x = record s { scenarios = with_scenario s.scenarios x }
+  abbrev pub state_with : list.Scenario → State
+  state_with x = record s { scenarios = with_scenario s.scenarios x }
 
   -- the state that is left, and the records that are written
   abbrev pub Does : Command → State × Bytes → Type 0
   -- Takes the replacement away, if there is one.
-  Does (Scenario name at []) done = done ≡ (having (without_own (scenario_for s.scenarios name) (address at)), [])
+  Does (Scenario name at []) done = done ≡ (state_with (without_own (scenario_for s.scenarios name) (address at)), [])
   -- Puts a replacement by the import rule, and makes the scenario if there is none.
   Does (Scenario name at text) done =
       (v : Value) × IsImported text (Some v)
-      × (done ≡ (having (with_own (scenario_for s.scenarios name) (record { at = address at; value = v } ∷ [])), []))
+      × (done ≡ (state_with (with_own (scenario_for s.scenarios name) (record { at = address at; value = v } ∷ [])), []))
   Does (Drop name) done = done ≡ (record s { scenarios = without_scenario s.scenarios name }, [])
-  Does (Base name other) done = done ≡ (having (record (scenario_for s.scenarios name) { base = other }), [])
+  Does (Base name other) done = done ≡ (state_with (record (scenario_for s.scenarios name) { base = other }), [])
   Does (Use name) done = done ≡ (with_current s (record (current_session s) { scenario = name }), [])
   Does (As name) done =
       done ≡ (record s { sessions = with_session s.sessions name; current = index_of s.sessions name }, [])

@@ -1,5 +1,6 @@
 -- Commands one after another, each with its answer, and what holds of them, whoever gives which.
 use Rattle.std.specs.Prelude.{◌≡◌, ◌≢◌, ◌↔◌, ◌⊎◌, ◌==◌, ◌&&◌, ℕ, ◌<◌, Bool, true, false, if◌then◌else◌, List, [], ◌∷◌, ◌++◌, length, map, Ok, Err, is_ok}
+use Rattle.std.specs.List.{flat_map}
 use Rattle.wi_values.specs.declared.value.Value.{Value}
 use Rattle.wi_csv.specs.Records.{recs}
 use Rattle.wi_edit_log.specs.EditLog.{Entry}
@@ -8,7 +9,8 @@ use Rattle.wi_scenarios.specs.declared.refusal.Refusal.TheVariants as refusal
 use Rattle.wi_scenarios.specs.State.{State}
 use Rattle.wi_scenarios.specs.Views.{session_at, shown_to}
 use Rattle.wi_scenarios.specs.Changes.{change_list}
-use Rattle.wi_scenarios.specs.Laws.{left_by, IsSettled, with_lists, change_fields, unseen, IsFirstNewer, is_refused_before}
+use Rattle.wi_scenarios.specs.Laws.{left_by, IsCoherent, with_lists, change_fields, unseen, IsFirstNewer, is_refused_before}
+use Rattle.wi_cli.specs.Inner.Reply.{reply}
 use Rattle.wi_cli.specs.Lines.{Bytes}
 use Rattle.wi_cli.specs.Command.{Command, Set, Clear, Fill, Csv, Changes}
 use Rattle.wi_cli.specs.Edits.{named, is_forced}
@@ -33,9 +35,18 @@ abbrev pub state_after : State → List Event → State
 state_after s [] = s
 state_after s (e ∷ es) = state_after (left_by s e.answer) es
 
--- a settled state is left settled
-abbrev pub StaysSettled : State → List Event → Type 0
-StaysSettled s es = IsSettled s → MayFollow s es → IsSettled (state_after s es)
+-- Commands and the bytes that they have for replies are events: each has an answer that it may have, whose reply stands there, and
+-- the state that they leave is this one.
+pub record AreEvents (s : State) (cs : List Command) (out : Bytes) (t : State) : Type 0 where
+  pub events : List Event
+  pub follow : MayFollow s events
+  pub commands : cs ≡ map (λ e. e.command) events
+  pub replies : out ≡ flat_map (λ e. reply e.answer) events
+  pub left : t ≡ state_after s events
+
+-- a coherent state is left coherent
+abbrev pub StaysCoherent : State → List Event → Type 0
+StaysCoherent s es = IsCoherent s → MayFollow s es → IsCoherent (state_after s es)
 
 -- the i-th session is as it was, name, scenario, picture and what it has seen of the log, if it isn't the current one
 abbrev pub KeepsApart : State → Event → ℕ → Type 0
@@ -44,14 +55,14 @@ KeepsApart s e i = i < length s.sessions → i ≢ s.current → session_at (lef
 -- ---- change lists
 
 -- whether this is `changes`, and accepted
-abbrev pub tells : Answer → Command → Bool
-tells (Err e) c = false
-tells (Ok done) Changes = true
-tells (Ok done) c = false
+abbrev pub is_accepted_changes : Answer → Command → Bool
+is_accepted_changes (Err e) c = false
+is_accepted_changes (Ok done) Changes = true
+is_accepted_changes (Ok done) c = false
 
 -- whether the i-th session is told a change list: it is current, and its `changes` is accepted
 abbrev pub is_told : ℕ → State → Event → Bool
-is_told i s e = tells e.answer e.command && (s.current == i)
+is_told i s e = is_accepted_changes e.answer e.command && (s.current == i)
 
 -- the change lists that the i-th session is told
 abbrev pub lists_told : ℕ → State → List Event → List (List (ℕ × Value))
@@ -100,7 +111,7 @@ edits_since i earlier s [] = earlier
 edits_since i earlier s (e ∷ es) = edits_since i (if is_told i s e then [] else earlier ++ logged_by s e) (left_by s e.answer) es
 
 -- The log has grown by the accepted edits, and what a session hasn't seen of it are those since it was last told a list.
-pub record LogIsRun (s : State) (es : List Event) (i : ℕ) : Type 0 where
+pub record LogGrows (s : State) (es : List Event) (i : ℕ) : Type 0 where
   pub log : (state_after s es).log ≡ s.log ++ edits_in s es
   pub behind : unseen (state_after s es) i ≡ edits_since i (unseen s i) s es
 

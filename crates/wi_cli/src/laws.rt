@@ -1,16 +1,18 @@
 //! That the definitions of a script's commands and of its outcome are what the code's own contracts say, and what holds of commands one
 //! after another.
 
-ghost use Rattle.std.specs.Prelude.{ℕ, Bool, List, Option, Result, Ok};
-ghost use Rattle.wi_scenarios.specs.State.{State};
-ghost use Rattle.wi_scenarios.specs.Laws.{IsSettled};
+ghost use Rattle.std.specs.Prelude.{ℕ, Bool, false, List, Option, Result, Ok};
+ghost use Rattle.wi_store.specs.Store.{Stored};
+ghost use Rattle.wi_scenarios.specs.State.{State, state_over};
+ghost use Rattle.wi_scenarios.specs.Laws.{IsCoherent};
 ghost use Rattle.wi_cli.specs.declared.fault.RunFault.{RunFault};
 ghost use Rattle.wi_cli.specs.Inner.Blocks.{blocks};
 ghost use Rattle.wi_cli.specs.Lines.{Bytes};
 ghost use Rattle.wi_cli.specs.Command.{Command, Changes};
 ghost use Rattle.wi_cli.specs.Step.{IsStep};
 ghost use Rattle.wi_cli.specs.Laws.{before, HasCommands, HasOneAnswer, SameAddr, SameCommands, SameLack, SameOutcome, SameRect, SameReply, SameRuns, SameStep, Splits};
-ghost use Rattle.wi_cli.specs.Events.{Event, ForcedIsNotStale, KeepsApart, ListsAddUp, LogIsRun, MayFollow, MayHappen, RecordsTellList, StaleIsNewer, StaysSettled};
+ghost use Rattle.wi_cli.specs.Outcome.{Writes};
+ghost use Rattle.wi_cli.specs.Events.{AreEvents, Event, ForcedIsNotStale, KeepsApart, ListsAddUp, LogGrows, MayFollow, MayHappen, RecordsTellList, StaleIsNewer, StaysCoherent};
 
 /// A command is answered as its step says.
 #[tactic(auto, using(crate::proofs::Ties::Steps::same_step))]
@@ -77,15 +79,23 @@ pub fn outcomes_are_the_same()
     ensures { (r : Result (Unit {0}) RunFault) (left : Option Bytes) (s t : State) (input out : Bytes) → SameOutcome r left s t input out }
 {}
 
-/// After commands one after another, the current session is one of the sessions, and none has seen more of the log than there is, if that
-/// was so before. In a new workbook it is so.
-pub fn runs_stay_settled()
-    ensures { (s : State) (es : List Event) → StaysSettled s es }
+/// What a run has written, where its sink doesn't fail, is the replies of events: of each command one of its answers. So what holds of events one after
+/// another holds of each run.
+#[tactic(auto, using(crate::proofs::Ties::Written::are_events))]
+pub fn runs_have_events()
+    ensures { (s t : State) (cs : List Command) (out : Bytes) → Writes false s cs out t → AreEvents s cs out t }
+{}
+
+/// In a workbook that was just made, and so after each run from there, the current session is one of the sessions, and none has seen more
+/// of the log than there is.
+pub fn runs_stay_coherent()
+    ensures new { (stored : Stored) → IsCoherent (state_over stored) }
+    ensures stays { (s : State) (es : List Event) → StaysCoherent s es }
 {}
 
 /// In every interleaving, the change lists that a session is told add up to its picture, which has what it was last shown.
 pub fn change_lists_add_up()
-    ensures { (s : State) (es : List Event) (i : ℕ) → IsSettled s → MayFollow s es → ListsAddUp s es i }
+    ensures { (s : State) (es : List Event) (i : ℕ) → IsCoherent s → MayFollow s es → ListsAddUp s es i }
 {}
 
 /// The records of a change list tell its addresses, kinds and texts, and with them the list.
@@ -95,13 +105,13 @@ pub fn records_tell_lists()
 
 /// No command changes a session that isn't current.
 pub fn sessions_keep_apart()
-    ensures { (s : State) (e : Event) (i : ℕ) → IsSettled s → MayHappen s e → KeepsApart s e i }
+    ensures { (s : State) (e : Event) (i : ℕ) → IsCoherent s → MayHappen s e → KeepsApart s e i }
 {}
 
 /// The log is the accepted edits, and what a session hasn't seen of it are those since it was last told a change list. An edit is
 /// refused for a stale cell exactly where others' edits since then name the cell; one that is forced never is.
 pub fn stale_is_newer()
-    ensures log { (s : State) (es : List Event) (i : ℕ) → IsSettled s → MayFollow s es → LogIsRun s es i }
-    ensures stale { (s : State) (es : List Event) (e : Event) → IsSettled s → MayFollow s es → StaleIsNewer s es e }
+    ensures log { (s : State) (es : List Event) (i : ℕ) → IsCoherent s → MayFollow s es → LogGrows s es i }
+    ensures stale { (s : State) (es : List Event) (e : Event) → IsCoherent s → MayFollow s es → StaleIsNewer s es e }
     ensures forced { (s : State) (e : Event) → ForcedIsNotStale s e }
 {}

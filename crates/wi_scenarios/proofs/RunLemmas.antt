@@ -15,7 +15,7 @@ use Rattle.wi_scenarios.specs.Views.{session_at, current_session, with_current, 
 use Rattle.wi_scenarios.specs.Answer.{Answer}
 use Rattle.wi_scenarios.specs.Changes.{change_list}
 use Rattle.wi_scenarios.specs.Step.{Command, Set, Clear, Fill, Csv, Scenario, Drop, Base, Use, As, Changes}
-use Rattle.wi_scenarios.specs.Laws.{Event, MayHappen, left_by, IsRun, state_after, IsSettled, KeepsApart, tells, is_told, lists_told, with_lists, last_shown, ListsAddUp, named_by, logged, logged_by, edits_in, edits_since, unseen, LogIsRun}
+use Rattle.wi_scenarios.specs.Laws.{Event, MayHappen, left_by, IsRun, state_after, IsCoherent, KeepsApart, is_accepted_changes, is_told, lists_told, with_lists, last_shown, ListsAddUp, named_by, logged, logged_by, edits_in, edits_since, unseen, LogGrows}
 use Rattle.wi_scenarios.proofs.OutcomeLemmas.{Outcome, what_happens}
 
 -- ---- the log after a command
@@ -95,7 +95,7 @@ other_then s Changes (Ok done) i n =
     ap (λ (b : Bool). cond b (told (current_session s) (change_list s) (length s.log)) (session_at s i)) (ne_eqb s.current i (λ e. n (sym e)))
 other_then s c (Ok done) i n = refl
 
-pub keeps_apart : (s : State) (e : Event) (i : ℕ) → IsSettled s → MayHappen s e → KeepsApart s e i
+pub keeps_apart : (s : State) (e : Event) (i : ℕ) → IsCoherent s → MayHappen s e → KeepsApart s e i
 keeps_apart s e i settled h l n =
     part_then (λ (x : Session). x) s e.command e.answer i settled.within (inl l) (what_happens s e h) ∙ other_then s e.command e.answer i n
 
@@ -152,7 +152,7 @@ within_then s (As name) (Ok done) w h = subst IsWithin (sym h) (place_within s.s
 within_then s c (Ok done) w h = subst IsWithin (sym h) w
 
 -- how much of the log a session has seen
-seen_then : (i : ℕ) (s : State) (c : Command) (a : Answer) → (session_then i s c a).seen ≡ cond (tells a c && (s.current == i)) (length s.log) (session_at s i).seen
+seen_then : (i : ℕ) (s : State) (c : Command) (a : Answer) → (session_then i s c a).seen ≡ cond (is_accepted_changes a c && (s.current == i)) (length s.log) (session_at s i).seen
 seen_then i s c (Err e) = refl
 seen_then i s (Use name) (Ok done) = by (s.current == i) refl
   where
@@ -166,7 +166,7 @@ seen_then i s Changes (Ok done) = by (s.current == i)
     by false = refl
 seen_then i s c (Ok done) = refl
 
-pub seen_by : (s : State) (e : Event) (i : ℕ) → IsSettled s → MayHappen s e
+pub seen_by : (s : State) (e : Event) (i : ℕ) → IsCoherent s → MayHappen s e
     → (session_at (left_by s e.answer) i).seen ≡ cond (is_told i s e) (length s.log) (session_at s i).seen
 seen_by s e i settled h =
     part_then (λ (x : Session). x.seen) s e.command e.answer i settled.within (inr (λ name. refl)) (what_happens s e h) ∙ seen_then i s e.command e.answer
@@ -178,7 +178,7 @@ at_most : (b : Bool) (n k m l : ℕ) → n ≡ cond b k m → m ≤ k → k ≤ 
 at_most true n k m l e h g = omega (arith, e, g)
 at_most false n k m l e h g = omega (arith, e, h, g)
 
-pub settled_then : (s : State) (e : Event) → IsSettled s → MayHappen s e → IsSettled (left_by s e.answer)
+pub settled_then : (s : State) (e : Event) → IsCoherent s → MayHappen s e → IsCoherent (left_by s e.answer)
 settled_then s e settled h = record {
   within = within_then s e.command e.answer settled.within (what_happens s e h);
   seen = λ i.
@@ -187,12 +187,12 @@ settled_then s e settled h = record {
       (seen_by s e i settled h) (settled.seen i) (omega (arith, grown));
 }
 
-pub stays_settled : (s : State) (es : List Event) → IsSettled s → IsRun s es → IsSettled (state_after s es)
-stays_settled s [] settled run = settled
-stays_settled s (e ∷ es) settled run = stays_settled (left_by s e.answer) es (settled_then s e settled run.0) run.1
+pub stays_coherent : (s : State) (es : List Event) → IsCoherent s → IsRun s es → IsCoherent (state_after s es)
+stays_coherent s [] settled run = settled
+stays_coherent s (e ∷ es) settled run = stays_coherent (left_by s e.answer) es (settled_then s e settled run.0) run.1
 
-pub new_is_settled : (stored : Stored) → IsSettled (state_over stored)
-new_is_settled stored = record { within = omega arith; seen = by }
+pub new_is_coherent : (stored : Stored) → IsCoherent (state_over stored)
+new_is_coherent stored = record { within = omega arith; seen = by }
   where
     by : (i : ℕ) → (session_at (state_over stored) i).seen ≤ 0
     by zero = omega arith
@@ -201,7 +201,7 @@ new_is_settled stored = record { within = omega arith; seen = by }
 -- ---- change lists
 
 picture_then : (i : ℕ) (s : State) (c : Command) (a : Answer)
-    → (session_then i s c a).picture ≡ with_lists (session_at s i).picture (cond (tells a c && (s.current == i)) (change_list s ∷ []) [])
+    → (session_then i s c a).picture ≡ with_lists (session_at s i).picture (cond (is_accepted_changes a c && (s.current == i)) (change_list s ∷ []) [])
 picture_then i s c (Err e) = refl
 picture_then i s (Use name) (Ok done) = by (s.current == i) refl
   where
@@ -216,7 +216,7 @@ picture_then i s Changes (Ok done) = by (s.current == i) refl
     by false h = refl
 picture_then i s c (Ok done) = refl
 
-picture_by : (s : State) (e : Event) (i : ℕ) → IsSettled s → MayHappen s e
+picture_by : (s : State) (e : Event) (i : ℕ) → IsCoherent s → MayHappen s e
     → (session_at (left_by s e.answer) i).picture ≡ with_lists (session_at s i).picture (cond (is_told i s e) (change_list s ∷ []) [])
 picture_by s e i settled h =
     part_then (λ (x : Session). x.picture) s e.command e.answer i settled.within (inr (λ name. refl)) (what_happens s e h) ∙ picture_then i s e.command e.answer
@@ -225,7 +225,7 @@ lists_in_turn : (picture : List (ℕ × Value)) (ls ms : List (List (ℕ × Valu
 lists_in_turn picture [] ms = refl
 lists_in_turn picture (l ∷ ls) ms = lists_in_turn (with_changes picture l) ls ms
 
-pictures_add_up : (s : State) (es : List Event) (i : ℕ) → IsSettled s → IsRun s es
+pictures_add_up : (s : State) (es : List Event) (i : ℕ) → IsCoherent s → IsRun s es
     → (session_at (state_after s es) i).picture ≡ with_lists (session_at s i).picture (lists_told i s es)
 pictures_add_up s [] i settled run = refl
 pictures_add_up s (e ∷ es) i settled run =
@@ -243,13 +243,13 @@ shown_then s i a v true same l h =
 shown_then s i a v false same l h = h
 
 told_to_current : (i : ℕ) (s : State) (e : Event) → is_told i s e ≡ true → s.current ≡ i
-told_to_current i s e h = eqb-true s.current i (both (tells e.answer e.command) (s.current == i) h)
+told_to_current i s e h = eqb-true s.current i (both (is_accepted_changes e.answer e.command) (s.current == i) h)
   where
     both : (b c : Bool) → (b && c) ≡ true → c ≡ true
     both true c h = h
     both false c h = absurd (false≢true h)
 
-shown_at_last : (s : State) (es : List Event) (i a : ℕ) (v : Value) → IsSettled s → IsRun s es → a < sheet_size → value_in (session_at s i).picture a ≡ v
+shown_at_last : (s : State) (es : List Event) (i a : ℕ) (v : Value) → IsCoherent s → IsRun s es → a < sheet_size → value_in (session_at s i).picture a ≡ v
     → value_in (session_at (state_after s es) i).picture a ≡ last_shown i a v s es
 shown_at_last s [] i a v settled run l h = h
 shown_at_last s (e ∷ es) i a v settled run l h =
@@ -257,7 +257,7 @@ shown_at_last s (e ∷ es) i a v settled run l h =
     (ap (λ (p : List (ℕ × Value)). value_in p a) (picture_by s e i settled run.0)
     ∙ shown_then s i a v (is_told i s e) (told_to_current i s e) l h)
 
-pub lists_add_up : (s : State) (es : List Event) (i : ℕ) → IsSettled s → IsRun s es → ListsAddUp s es i
+pub lists_add_up : (s : State) (es : List Event) (i : ℕ) → IsCoherent s → IsRun s es → ListsAddUp s es i
 lists_add_up s es i settled run = record {
   picture = pictures_add_up s es i settled run;
   shown = λ a l.
@@ -276,19 +276,19 @@ logs_add_up s (e ∷ es) run =
     ∙ append_assoc s.log (logged_by s e) (edits_in t es)
 
 -- `changes` adds nothing to the log
-told_adds_nothing : (n : ℕ) (a : Answer) (c : Command) → tells a c ≡ true → logged n a (named_by c) ≡ []
+told_adds_nothing : (n : ℕ) (a : Answer) (c : Command) → is_accepted_changes a c ≡ true → logged n a (named_by c) ≡ []
 told_adds_nothing n (Err e) c h = refl
 told_adds_nothing n (Ok done) Changes h = refl
 told_adds_nothing n (Ok done) c h = absurd (false≢true h)
 
-unseen_then : (s : State) (e : Event) (i : ℕ) → IsSettled s → MayHappen s e
+unseen_then : (s : State) (e : Event) (i : ℕ) → IsCoherent s → MayHappen s e
     → unseen (left_by s e.answer) i ≡ cond (is_told i s e) [] (unseen s i ++ logged_by s e)
 unseen_then s e i settled h =
     ap (λ (log : List Entry). drop (session_at (left_by s e.answer) i).seen log) (log_by s e h)
     ∙ ap (λ (n : ℕ). drop n (s.log ++ logged_by s e)) (seen_by s e i settled h)
-    ∙ by (tells e.answer e.command) (s.current == i) refl
+    ∙ by (is_accepted_changes e.answer e.command) (s.current == i) refl
   where
-    by : (b c : Bool) → tells e.answer e.command ≡ b
+    by : (b c : Bool) → is_accepted_changes e.answer e.command ≡ b
         → drop (cond (b && c) (length s.log) (session_at s i).seen) (s.log ++ logged_by s e) ≡ cond (b && c) [] (unseen s i ++ logged_by s e)
     by true true t =
         ap (λ (es : List Entry). drop (length s.log) (s.log ++ es)) (told_adds_nothing s.current e.answer e.command t)
@@ -297,12 +297,12 @@ unseen_then s e i settled h =
     by true false t = drop-append-le (session_at s i).seen s.log (logged_by s e) (settled.seen i)
     by false c t = drop-append-le (session_at s i).seen s.log (logged_by s e) (settled.seen i)
 
-unseen_is_since : (s : State) (es : List Event) (i : ℕ) → IsSettled s → IsRun s es → unseen (state_after s es) i ≡ edits_since i (unseen s i) s es
+unseen_is_since : (s : State) (es : List Event) (i : ℕ) → IsCoherent s → IsRun s es → unseen (state_after s es) i ≡ edits_since i (unseen s i) s es
 unseen_is_since s [] i settled run = refl
 unseen_is_since s (e ∷ es) i settled run =
     let t = left_by s e.answer in
     unseen_is_since t es i (settled_then s e settled run.0) run.1
     ∙ ap (λ (earlier : List Entry). edits_since i earlier t es) (unseen_then s e i settled run.0)
 
-pub log_is_run : (s : State) (es : List Event) (i : ℕ) → IsSettled s → IsRun s es → LogIsRun s es i
-log_is_run s es i settled run = record { log = logs_add_up s es run; place = unseen_is_since s es i settled run }
+pub log_grows : (s : State) (es : List Event) (i : ℕ) → IsCoherent s → IsRun s es → LogGrows s es i
+log_grows s es i settled run = record { log = logs_add_up s es run; place = unseen_is_since s es i settled run }

@@ -32,9 +32,9 @@ use Rattle.wi_scenarios.specs.Clear.{clear_edit}
 use Rattle.wi_scenarios.specs.Fill.{fill_edit, has_no_copy}
 use Rattle.wi_scenarios.specs.Csv.{ImportOutcome, has_bad_field, field_fault, contents_in}
 use Rattle.wi_scenarios.specs.Step.{Command, Set, Clear, Fill, Csv, IsStep}
-use Rattle.wi_scenarios.specs.Laws.{Event, MayHappen, IsRun, state_after, IsSettled, named_by, is_forced, edits_since, unseen, is_newer, IsFirstNewer, counts_before, is_refused_before, StaleIsNewer, ForcedIsNotStale}
+use Rattle.wi_scenarios.specs.Laws.{Event, MayHappen, IsRun, state_after, IsCoherent, named_by, is_forced, edits_since, unseen, is_newer, IsFirstNewer, counts_before, is_refused_before, StaleIsNewer, ForcedIsNotStale}
 use Rattle.wi_scenarios.proofs.OutcomeLemmas.{edit_cause}
-use Rattle.wi_scenarios.proofs.RunLemmas.{log_is_run}
+use Rattle.wi_scenarios.proofs.RunLemmas.{log_grows}
 
 -- ---- the first stale cell
 
@@ -228,14 +228,14 @@ edit_stale s c a named at h n f = absurd (none-some named n)
 
 -- ---- the laws
 
-pub stale_is_newer : (s : State) (es : List Event) (e : Event) (named : List Area) → IsSettled s → IsRun s es → StaleIsNewer s es e named
+pub stale_is_newer : (s : State) (es : List Event) (e : Event) (named : List Area) → IsCoherent s → IsRun s es → StaleIsNewer s es e named
 stale_is_newer s es e named settled run h n free f a = by h
   where
     t : State
     t = state_after s es
 
     place : unseen t t.current ≡ edits_since t.current (unseen s t.current) s es
-    place = (log_is_run s es t.current settled run).place
+    place = (log_grows s es t.current settled run).place
 
     stale : stale_of t (is_forced e.command) (named_by e.command) ≡ first_stale (unseen t t.current) t.current 0 named
     stale = ap (λ (b : Bool). stale_of t b (named_by e.command)) free ∙ ap (stale_of t false) n

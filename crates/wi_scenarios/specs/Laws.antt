@@ -47,7 +47,7 @@ state_after s [] = s
 state_after s (e ∷ es) = state_after (left_by s e.answer) es
 
 -- The current session is one of the sessions, and none has seen more of the log than there is.
-pub record IsSettled (s : State) : Type 0 where
+pub record IsCoherent (s : State) : Type 0 where
   pub within : s.current < length s.sessions
   pub seen : (i : ℕ) → (session_at s i).seen ≤ length s.log
 
@@ -89,14 +89,14 @@ KeepsApart s e i = i < length s.sessions → i ≢ s.current → session_at (lef
 -- ---- change lists
 
 -- whether this is `changes`, and accepted
-abbrev pub tells : Answer → Command → Bool
-tells (Err e) c = false
-tells (Ok done) Changes = true
-tells (Ok done) c = false
+abbrev pub is_accepted_changes : Answer → Command → Bool
+is_accepted_changes (Err e) c = false
+is_accepted_changes (Ok done) Changes = true
+is_accepted_changes (Ok done) c = false
 
 -- whether the i-th session is told a change list: it is current, and its `changes` is accepted
 abbrev pub is_told : ℕ → State → Event → Bool
-is_told i s e = tells e.answer e.command && (s.current == i)
+is_told i s e = is_accepted_changes e.answer e.command && (s.current == i)
 
 -- the change lists that the i-th session is told
 abbrev pub lists_told : ℕ → State → List Event → List (List (ℕ × Value))
@@ -172,7 +172,7 @@ abbrev pub unseen : State → ℕ → List Entry
 unseen s i = drop (session_at s i).seen s.log
 
 -- The log has grown by the accepted edits, and a session's place in it is where it was last told a list.
-pub record LogIsRun (s : State) (es : List Event) (i : ℕ) : Type 0 where
+pub record LogGrows (s : State) (es : List Event) (i : ℕ) : Type 0 where
   pub log : (state_after s es).log ≡ s.log ++ edits_in s es
   pub place : unseen (state_after s es) i ≡ edits_since i (unseen s i) s es
 

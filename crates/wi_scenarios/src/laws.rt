@@ -6,7 +6,7 @@ ghost use Rattle.wi_store.specs.Store.{Stored};
 ghost use Rattle.wi_scenarios.specs.State.{State, state_over};
 ghost use Rattle.wi_scenarios.specs.Answer.{Answer};
 ghost use Rattle.wi_scenarios.specs.Step.{Changes, Command, IsStep};
-ghost use Rattle.wi_scenarios.specs.Laws.{Event, ForcedIsNotStale, IsRun, IsSettled, KeepsApart, Leaves, ListsAddUp, LogIsRun, MayHappen, RecordsTellList, StaleIsNewer, state_after};
+ghost use Rattle.wi_scenarios.specs.Laws.{Event, ForcedIsNotStale, IsRun, IsCoherent, KeepsApart, Leaves, ListsAddUp, LogGrows, MayHappen, RecordsTellList, StaleIsNewer, state_after};
 
 /// A command has one answer in each state.
 #[tactic(auto, using(crate::proofs::StepLemmas::an_answer, crate::proofs::StepLemmas::no_other))]
@@ -17,15 +17,15 @@ pub fn one_answer()
 
 /// In a workbook that was just made, and so after each run from there, the current session is one of the sessions, and none
 /// has seen more of the log than there is.
-#[tactic(auto, using(crate::proofs::RunLemmas::new_is_settled, crate::proofs::RunLemmas::stays_settled))]
-pub fn runs_stay_settled()
-    ensures new { (stored : Stored) → IsSettled (state_over stored) }
-    ensures stays { (s : State) (es : List Event) → IsSettled s → IsRun s es → IsSettled (state_after s es) }
+#[tactic(auto, using(crate::proofs::RunLemmas::new_is_coherent, crate::proofs::RunLemmas::stays_coherent))]
+pub fn runs_stay_coherent()
+    ensures new { (stored : Stored) → IsCoherent (state_over stored) }
+    ensures stays { (s : State) (es : List Event) → IsCoherent s → IsRun s es → IsCoherent (state_after s es) }
 {}
 
 /// In every interleaving, the change lists that a session is told add up to its picture, which has what it was last shown.
 pub fn change_lists_add_up()
-    ensures { (s : State) (es : List Event) (i : ℕ) → IsSettled s → IsRun s es → ListsAddUp s es i }
+    ensures { (s : State) (es : List Event) (i : ℕ) → IsCoherent s → IsRun s es → ListsAddUp s es i }
 {}
 
 /// The records of a change list tell its addresses, kinds and texts, and with them the list.
@@ -37,14 +37,14 @@ pub fn records_tell_lists()
 #[tactic(auto, using(crate::proofs::OutcomeLemmas::leaves, crate::proofs::RunLemmas::keeps_apart))]
 pub fn sessions_keep_apart()
     ensures leaves { (s t : State) (c : Command) (records : List ℕ) → IsStep s c (Ok (t, records)) → Leaves c s t }
-    ensures apart { (s : State) (e : Event) (i : ℕ) → IsSettled s → MayHappen s e → KeepsApart s e i }
+    ensures apart { (s : State) (e : Event) (i : ℕ) → IsCoherent s → MayHappen s e → KeepsApart s e i }
 {}
 
 /// The log is the accepted edits, and a session's place in it that of the last change list that it was told. An edit is
 /// refused for a stale cell exactly where others' edits since then name the cell; one that is forced never is.
 #[tactic(auto, using(crate::proofs::StaleLemmas::forced_is_not_stale))]
 pub fn stale_is_newer()
-    ensures log { (s : State) (es : List Event) (i : ℕ) → IsSettled s → IsRun s es → LogIsRun s es i }
-    ensures stale { (s : State) (es : List Event) (e : Event) (named : List Area) → IsSettled s → IsRun s es → StaleIsNewer s es e named }
+    ensures log { (s : State) (es : List Event) (i : ℕ) → IsCoherent s → IsRun s es → LogGrows s es i }
+    ensures stale { (s : State) (es : List Event) (e : Event) (named : List Area) → IsCoherent s → IsRun s es → StaleIsNewer s es e named }
     ensures forced { (s : State) (e : Event) → ForcedIsNotStale s e }
 {}

@@ -18,7 +18,7 @@ use Rattle.wi_scenarios.specs.Views.{session_at, shown_to}
 use Rattle.wi_scenarios.specs.Changes.{change_list}
 use Rattle.wi_scenarios.specs.Step as old
 use Rattle.wi_scenarios.specs.Laws as laws
-use Rattle.wi_scenarios.specs.Laws.{left_by, IsSettled, with_lists, unseen, IsFirstNewer, counts_before, is_refused_before}
+use Rattle.wi_scenarios.specs.Laws.{left_by, IsCoherent, with_lists, unseen, IsFirstNewer, counts_before, is_refused_before}
 use Rattle.wi_scenarios.proofs.RunLemmas as runs
 use Rattle.wi_scenarios.proofs.StaleLemmas.{stale_exactly}
 use Rattle.wi_scenarios.proofs.RecordLemmas.{records_tell_list}
@@ -33,7 +33,7 @@ use Rattle.wi_cli.specs.Causes.{Cause, BadLine, BadCommand, CutShort, Outside, T
 use Rattle.wi_cli.specs.Does.{Does}
 use Rattle.wi_cli.specs.Step.{Answer, Tells, IsStep, causes, IsFirstOf}
 use Rattle.wi_cli.specs.Laws.{was, read_cell, read_corners, read_any}
-use Rattle.wi_cli.specs.Events.{Event, MayHappen, MayFollow, state_after, StaysSettled, KeepsApart, tells, is_told, lists_told, last_shown, ListsAddUp, RecordsTellList, logged_by, edits_in, edits_since, LogIsRun, StaleIsNewer, ForcedIsNotStale}
+use Rattle.wi_cli.specs.Events.{Event, MayHappen, MayFollow, state_after, StaysCoherent, KeepsApart, is_accepted_changes, is_told, lists_told, last_shown, ListsAddUp, RecordsTellList, logged_by, edits_in, edits_since, LogGrows, StaleIsNewer, ForcedIsNotStale}
 use Rattle.wi_cli.proofs.Ties.Uniqueness.{first_holds}
 use Rattle.wi_cli.proofs.Ties.Steps.{same_step}
 
@@ -57,17 +57,17 @@ state_was : (s : State) (es : List Event) → laws.state_after s (were es) ≡ s
 state_was s [] = refl
 state_was s (e ∷ es) = state_was (left_by s e.answer) es
 
-pub stays_settled : (s : State) (es : List Event) → StaysSettled s es
-stays_settled s es settled run = subst IsSettled (state_was s es) (runs.stays_settled s (were es) settled (follow s es run))
+pub stays_coherent : (s : State) (es : List Event) → StaysCoherent s es
+stays_coherent s es settled run = subst IsCoherent (state_was s es) (runs.stays_coherent s (were es) settled (follow s es run))
 
-pub keeps_apart : (s : State) (e : Event) (i : ℕ) → IsSettled s → MayHappen s e → KeepsApart s e i
+pub keeps_apart : (s : State) (e : Event) (i : ℕ) → IsCoherent s → MayHappen s e → KeepsApart s e i
 keeps_apart s e i settled h = runs.keeps_apart s (as_was e) i settled (happens s e h)
 
 -- ---- what is told
 
 module _ (done : State × Bytes) where
   abbrev TellsNothing : old.Command → Type 0
-  TellsNothing c = laws.tells (Ok done) c ≡ false
+  TellsNothing c = laws.is_accepted_changes (Ok done) c ≡ false
 
   by_operand : {X : Type 0} (r : Result X AddressFault) (f : X → old.Command) → ((x : X) → TellsNothing (f x)) → TellsNothing (of_operand r f)
   by_operand (Ok x) f h = h x
@@ -122,7 +122,7 @@ module _ (done : State × Bytes) where
       (λ r. by_operand xs (λ xs. of_operand c (λ c. of_operand ys (λ ys. old.Table f r xs (Some (c, ys)))))
       (λ xs. by_operand c (λ c. of_operand ys (λ ys. old.Table f r xs (Some (c, ys)))) (λ c. by_operand ys (λ ys. old.Table f r xs (Some (c, ys))) (λ ys. refl))))))
 
-  told_by : (c : Command) → laws.tells (Ok done) (was c) ≡ tells (Ok done) c
+  told_by : (c : Command) → laws.is_accepted_changes (Ok done) (was c) ≡ is_accepted_changes (Ok done) c
   told_by (Set force at text) =
       by_set (length text == 0) (of_operand (read_cell at) (λ a. old.Set force a text)) (by_operand (read_cell at) (λ a. old.Set force a text) (λ x. refl))
   told_by (Clear force rect) = by_operand (read_corners rect) (λ r. old.Clear force r) (λ x. refl)
@@ -143,12 +143,12 @@ module _ (done : State × Bytes) where
   told_by Unknown = refl
   told_by Unreadable = refl
 
-same_tells : (a : Answer) (c : Command) → laws.tells a (was c) ≡ tells a c
-same_tells (Ok done) c = told_by done c
-same_tells (Err e) c = refl
+same_is_accepted_changes : (a : Answer) (c : Command) → laws.is_accepted_changes a (was c) ≡ is_accepted_changes a c
+same_is_accepted_changes (Ok done) c = told_by done c
+same_is_accepted_changes (Err e) c = refl
 
 same_told : (i : ℕ) (s : State) (e : Event) → laws.is_told i s (as_was e) ≡ is_told i s e
-same_told i s e = ap (λ (b : Bool). b && (s.current == i)) (same_tells e.answer e.command)
+same_told i s e = ap (λ (b : Bool). b && (s.current == i)) (same_is_accepted_changes e.answer e.command)
 
 same_lists : (i : ℕ) (s : State) (es : List Event) → laws.lists_told i s (were es) ≡ lists_told i s es
 same_lists i s [] = refl
@@ -161,7 +161,7 @@ same_shown i a v s (e ∷ es) =
     ap (λ (b : Bool). laws.last_shown i a (cond b (shown_to s (session_at s i) a) v) (left_by s e.answer) (were es)) (same_told i s e)
     ∙ same_shown i a (cond (is_told i s e) (shown_to s (session_at s i) a) v) (left_by s e.answer) es
 
-pub lists_add_up : (s : State) (es : List Event) (i : ℕ) → IsSettled s → MayFollow s es → ListsAddUp s es i
+pub lists_add_up : (s : State) (es : List Event) (i : ℕ) → IsCoherent s → MayFollow s es → ListsAddUp s es i
 lists_add_up s es i settled run =
     let h = runs.lists_add_up s (were es) i settled (follow s es run) in
     let before = (session_at s i).picture in
@@ -225,9 +225,9 @@ same_since i earlier s (e ∷ es) run =
     ap₂ (λ (b : Bool) (xs : List Entry). laws.edits_since i (cond b [] (earlier ++ xs)) (left_by s e.answer) (were es)) (same_told i s e) (same_logged s e run.0)
     ∙ same_since i (cond (is_told i s e) [] (earlier ++ logged_by s e)) (left_by s e.answer) es run.1
 
-pub log_is_run : (s : State) (es : List Event) (i : ℕ) → IsSettled s → MayFollow s es → LogIsRun s es i
-log_is_run s es i settled run =
-    let h = runs.log_is_run s (were es) i settled (follow s es run) in
+pub log_grows : (s : State) (es : List Event) (i : ℕ) → IsCoherent s → MayFollow s es → LogGrows s es i
+log_grows s es i settled run =
+    let h = runs.log_grows s (were es) i settled (follow s es run) in
     record {
       log = ap (λ (t : State). t.log) (sym (state_was s es)) ∙ h.log ∙ ap (λ (xs : List Entry). s.log ++ xs) (same_edits s es run);
       behind = ap (λ (t : State). unseen t i) (sym (state_was s es)) ∙ h.place ∙ same_since i (unseen s i) s es run;
@@ -299,7 +299,7 @@ module _ (s : State) (c : Command) where
       let held = subst (λ (x : Cause). Holds s x c) (stale_only k.0 a k.2) (first_holds s c causes k.0 k.1) in
       both_ways (is_forced c) held.0 forced
 
-pub stale_is_newer : (s : State) (es : List Event) (e : Event) → IsSettled s → MayFollow s es → StaleIsNewer s es e
+pub stale_is_newer : (s : State) (es : List Event) (e : Event) → IsCoherent s → MayFollow s es → StaleIsNewer s es e
 stale_is_newer s es e settled run h free f a = by h
   where
     t : State
@@ -310,7 +310,7 @@ stale_is_newer s es e settled run h free f a = by h
 
     exactly : (stale_cell t e.command ≡ Some a) ↔ IsFirstNewer since t.current (named e.command) a
     exactly = subst (λ (edits : List Entry). (stale_cell t e.command ≡ Some a) ↔ IsFirstNewer edits t.current (named e.command) a)
-        (log_is_run s es t.current settled run).behind (stale_exactly (unseen t t.current) t.current (named e.command) a)
+        (log_grows s es t.current settled run).behind (stale_exactly (unseen t t.current) t.current (named e.command) a)
 
     by : MayHappen t e → (e.answer ≡ Err (refusal.Stale a)) ↔ IsFirstNewer since t.current (named e.command) a
     by (inl k) = (λ x. exactly.0 (is_stale t e.command e.answer a k x), λ y. told_stale t e.command e.answer a k free f (exactly.1 y))

@@ -20,7 +20,7 @@ use Rattle.wi_cli.specs.Operands.{Cell, is_outside, address}
 use Rattle.wi_cli.specs.Lines.{Bytes}
 use Rattle.wi_cli.specs.Command.{Command, Scenario, Drop, Base, Use, As, form}
 use Rattle.wi_cli.specs.Causes.{Cause, Outside, TooLarge, NoScenario, InUse, TooMany, TooLong, Stale, Loop, Full, EditLimit, Holds, lies_outside, is_missing}
-use Rattle.wi_cli.specs.Does.{Does, having}
+use Rattle.wi_cli.specs.Does.{Does, state_with}
 use Rattle.wi_cli.specs.Step.{causes}
 use Rattle.wi_cli.specs.Laws.{SameStep, was}
 use Rattle.wi_cli.proofs.Ties.Tables.{clash, first_inside, second_inside}
@@ -197,7 +197,7 @@ module _ (s : State) (name : Bytes) where
 
 module _ (s : State) (name : Bytes) (other : Option Bytes) where
   abbrev based : State × Bytes
-  based = (having s (based_on (scenario_for s.scenarios name) other), [])
+  based = (state_with s (based_on (scenario_for s.scenarios name) other), [])
 
   abbrev base_test : Cause → Bool
   base_test NoScenario = not (has_scenario s.scenarios name) || lacks s.scenarios other
@@ -243,7 +243,7 @@ module _ (s : State) (name : Bytes) (other : Option Bytes) where
 
 module _ (s : State) (name : Bytes) (at : Cell) where
   abbrev taken_away : State × Bytes
-  taken_away = (having s (without_own (scenario_for s.scenarios name) (address at)), [])
+  taken_away = (state_with s (without_own (scenario_for s.scenarios name) (address at)), [])
 
   abbrev away_test : Cause → Bool
   away_test Outside = list_any lies_outside (form (Scenario name at []))
@@ -280,7 +280,7 @@ module _ (s : State) (name : Bytes) (at : Cell) (b : ℕ) (bs : Bytes) (value : 
   put = Scenario name at (b ∷ bs)
 
   abbrev putting : Option Value → State × Bytes
-  putting (Some v) = (having s (with_own (scenario_for s.scenarios name) (record { at = address at; value = v } ∷ [])), [])
+  putting (Some v) = (state_with s (with_own (scenario_for s.scenarios name) (record { at = address at; value = v } ∷ [])), [])
   putting None = (s, [])
 
   one_value : (v w : Option Value) → IsImported (b ∷ bs) v → IsImported (b ∷ bs) w → v ≡ w

@@ -1,8 +1,8 @@
-use Rattle.wi_cli.proofs.Ties.Events.{log_is_run, stale_is_newer, forced_is_not_stale}
+use Rattle.wi_cli.proofs.Ties.Events.{log_grows, stale_is_newer, forced_is_not_stale}
 use Rattle.wi_cli.proofs.laws.stale_is_newer.Goals as goal
 
 pub returns-clause-log : goal.returns-clause-log
-returns-clause-log c = log_is_run
+returns-clause-log c = log_grows
 
 pub returns-clause-stale : goal.returns-clause-stale
 returns-clause-stale c = stale_is_newer
