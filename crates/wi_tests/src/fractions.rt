@@ -1,3 +1,5 @@
+//! Numbers: their order, hash and laws.
+
 use std::alloc::Global;
 use std::collections::HashSet;
 use std::process::Abort;

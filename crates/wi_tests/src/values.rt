@@ -1,3 +1,5 @@
+//! Values: copies and equality.
+
 use crate::texts::expect_text;
 use std::alloc::Global;
 use std::process::Abort;
