@@ -93,7 +93,8 @@ pub fn runs_stay_coherent()
     ensures stays { (s : State) (es : List Event) → StaysCoherent s es }
 {}
 
-/// In every interleaving, the change lists that a session is told add up to its picture, which has what it was last shown.
+/// In every interleaving, the change lists that a session is told, put into the picture that it had before, make the one that it has
+/// at the end, which has what it was shown at the last of them.
 pub fn change_lists_add_up()
     ensures { (s : State) (es : List Event) (i : ℕ) → IsCoherent s → MayFollow s es → ListsAddUp s es i }
 {}
@@ -108,8 +109,9 @@ pub fn sessions_keep_apart()
     ensures { (s : State) (e : Event) (i : ℕ) → IsCoherent s → MayHappen s e → KeepsApart s e i }
 {}
 
-/// The log is the accepted edits, and what a session hasn't seen of it are those since it was last told a change list. An edit is
-/// refused for a stale cell exactly where others' edits since then name the cell; one that is forced never is.
+/// The log grows by the accepted edits, and what a session hasn't seen of it are those since it was last told a change list. An edit
+/// that isn't forced, and isn't refused for a cause that counts before or for want of memory, is refused for a stale cell exactly where
+/// others' edits since then name one of its cells, and for the first such. One that is forced never is.
 pub fn stale_is_newer()
     ensures log { (s : State) (es : List Event) (i : ℕ) → IsCoherent s → MayFollow s es → LogGrows s es i }
     ensures stale { (s : State) (es : List Event) (e : Event) → IsCoherent s → MayFollow s es → StaleIsNewer s es e }

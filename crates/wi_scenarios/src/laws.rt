@@ -23,7 +23,8 @@ pub fn runs_stay_coherent()
     ensures stays { (s : State) (es : List Event) → IsCoherent s → IsRun s es → IsCoherent (state_after s es) }
 {}
 
-/// In every interleaving, the change lists that a session is told add up to its picture, which has what it was last shown.
+/// In every interleaving, the change lists that a session is told, put into the picture that it had before, make the one that
+/// it has at the end, which has what it was shown at the last of them.
 pub fn change_lists_add_up()
     ensures { (s : State) (es : List Event) (i : ℕ) → IsCoherent s → IsRun s es → ListsAddUp s es i }
 {}
@@ -40,8 +41,9 @@ pub fn sessions_keep_apart()
     ensures apart { (s : State) (e : Event) (i : ℕ) → IsCoherent s → MayHappen s e → KeepsApart s e i }
 {}
 
-/// The log is the accepted edits, and a session's place in it that of the last change list that it was told. An edit is
-/// refused for a stale cell exactly where others' edits since then name the cell; one that is forced never is.
+/// The log grows by the accepted edits, and a session's place in it is that of the last change list that it was told. An edit
+/// that isn't forced, and isn't refused for a cause that counts before or for want of memory, is refused for a stale cell exactly
+/// where others' edits since then name one of its cells, and for the first such. One that is forced never is.
 #[tactic(auto, using(crate::proofs::StaleLemmas::forced_is_not_stale))]
 pub fn stale_is_newer()
     ensures log { (s : State) (es : List Event) (i : ℕ) → IsCoherent s → IsRun s es → LogGrows s es i }
