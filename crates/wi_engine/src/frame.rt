@@ -23,7 +23,7 @@ pub enum Waiting {
     WhatIf(Address, Vec<Pair>),
 }
 
-/// A cell under the replacements that reach it, whose formula is being valued, with the values that were found for it.
+/// A cell under the replacements of cells that it reaches, whose formula is being valued, with the values that were found for it.
 #[derive(Drop)]
 pub struct Frame<'a> {
     pub key: Key,

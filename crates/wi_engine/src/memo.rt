@@ -16,7 +16,7 @@ use wi_values::{Address, Value};
 use wi_worlds::World;
 
 /// What is remembered of the values of a sheet's cells under replacements. A value stands under a key: its cell, the
-/// cell's generation, and the replacements that reach it.
+/// cell's generation, and the replacements of cells that it reaches.
 pub trait Memo {
     /// The sheet, the cells for which keys are made, and what is remembered of them.
     ghost state: { Self → MemoState };

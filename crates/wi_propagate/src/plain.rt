@@ -59,16 +59,16 @@ impl Calculator for PlainCalculator {
         self.store.apply(changes)
     }
 
-    /// What a cell shows under replacements. A formula is evaluated once for each list of the replacements that reach it
-    /// under which its value is asked for, and begun again where it lacks a value. No sheet is copied: the replacements
-    /// are carried along. What was found is forgotten at the end.
+    /// What a cell shows under replacements. A formula is evaluated once for each list of replacements of cells that it
+    /// reaches under which its value is asked for, and begun again where it lacks a value. No sheet is copied: the
+    /// replacements are carried along. What was found is forgotten at the end.
     fn value(&mut self, put: &[Replacement], at: Address) -> Result<Value, AllocError> {
         shown(self.alloc, &self.store, put, at, &mut self.meter)
     }
 
-    /// What an entry of a data table shows under replacements. A formula is evaluated once for each list of the replacements
-    /// that reach it under which its value is asked for, for whichever cell of the entry. What was found is forgotten at the
-    /// end.
+    /// What an entry of a data table shows under replacements. A formula is evaluated once for each list of replacements of
+    /// cells that it reaches under which its value is asked for, for whichever cell of the entry. What was found is forgotten at
+    /// the end.
     fn what_if_value(
         &mut self,
         put: &[Replacement],

@@ -25,8 +25,8 @@ use wi_worlds::World;
 /// What an entry of a data table shows under replacements, which stand in the order of their addresses, one for each: the
 /// value of the formula cell if each input, the first of a pair, had the value of its replacement cell, the second. All
 /// these values are taken before any is put, and of two pairs for one input the later counts. A formula is valued once for
-/// each list of the replacements that reach its cell under which its value is asked for, for whichever of these cells. What
-/// is found is forgotten at the end.
+/// each list of replacements of cells that its cell reaches under which its value is asked for, for whichever of these cells.
+/// What is found is forgotten at the end.
 pub fn table_entry(
     alloc: Global,
     store: &Store,

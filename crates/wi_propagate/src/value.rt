@@ -14,8 +14,8 @@ use wi_values::{Address, ErrorKind, Replacement, Value};
 use wi_worlds::World;
 
 /// What a cell shows under replacements, which stand in the order of their addresses, one for each. A formula is valued once
-/// for each list of the replacements that reach its cell under which its value is asked for. What is found is forgotten
-/// at the end.
+/// for each list of replacements of cells that its cell reaches under which its value is asked for. What is found is
+/// forgotten at the end.
 pub fn shown(
     alloc: Global,
     store: &Store,

@@ -135,9 +135,8 @@ impl World {
     /// The replacements whose cone has a cell, the cones being those of the replaced addresses. Where they are all of them, or
     /// none, or the same as the last that were neither, they are shared, without memory and without a hash; else they are
     /// copied and hashed, and become the last. The answer is the same whatever the last are. If memory runs out, the last stay as
-    /// they were. The work for each replacement
-    /// grows with the logarithms of the count of cones and of the count of cells in its own; texts are compared with the
-    /// last byte by byte.
+    /// they were. The work for each replacement grows with the logarithms of the count of cones and of the count of cells in its
+    /// own; texts are compared with the last byte by byte.
     pub fn reaching(
         &self,
         at: Address,
