@@ -5,7 +5,7 @@ use wi_fraction::Mode;
 /// A function.
 #[derive(Clone, Copy)]
 pub enum Function {
-    /// A function that values its first parameter, and then one that this chooses, and no other.
+    /// A function that evaluates its first parameter, and then one that this chooses, and no other.
     Lazy(LazyFunction),
     /// A function that takes the values of its parameters, whether they are references or not.
     Values(ValueFunction),
@@ -13,7 +13,7 @@ pub enum Function {
     References(ReferenceFunction),
 }
 
-/// A function that values the parameter that counts, and no other.
+/// A function that evaluates the parameter that counts, and no other.
 #[derive(Clone, Copy)]
 pub enum LazyFunction {
     If,

@@ -45,7 +45,7 @@ fn count_if<L: Lookup>(
     Ok(whole_value(count))
 }
 
-/// How many cells of a rectangle meet a criterion. The cell that is missing is told.
+/// How many cells of a rectangle meet a criterion. `Err` has a cell whose value isn't known.
 fn count_met<L: Lookup>(criterion: &Criterion, area: Rect, lookup: &L) -> Result<u128, Address>
     ensures count { IfOk result (λ n. (cells : ℕ → Values) → KnownAgrees (L.known_cell lookup.now) cells → IsCut n (count_by (is_met criterion.now) (map cells (cells_of area)))) }
     ensures missing { IfErr result (λ c. L.known_cell lookup.now c ≡ None) }

@@ -10,7 +10,7 @@ use crate::search::first_between;
 use std::marker::Model;
 use wi_values::{Address, Rect};
 
-/// So many cells a rectangle has at most that is noted cell by cell.
+/// A narrow rectangle has at most so many cells. Edits of such are noted cell by cell.
 const FEW: u64 = 32;
 
 /// Rectangles, seen as their list.

@@ -27,8 +27,8 @@ pub(crate) struct Last {
 
 type Notes = HashMap<Address, Last>;
 
-/// For each cell that one of the first edits of a log named, and with it narrow rectangles alone, the last that did. Of so
-/// many edits it is noted.
+/// Of the first `known` edits of a log, those that named narrow rectangles alone: for each cell that they named, the last that
+/// did.
 #[derive(Drop)]
 pub(crate) struct Noted {
     notes: Notes,
@@ -56,7 +56,7 @@ impl Noted {
         self.known = 0;
     }
 
-    /// Forgets all if it is noted of more edits than are left.
+    /// Forgets all if more edits are noted than are left.
     pub(crate) fn forget_beyond(&mut self, left: usize)
         ensures { (es : List Edit) → AreNoted es self.old.known self.old.notes.entries → AreNoted (take left es) self.new.known self.new.notes.entries }
     {
@@ -65,7 +65,7 @@ impl Noted {
         }
     }
 
-    /// Notes edits until those that are left are the session's own. If memory runs out, nothing is noted any more.
+    /// Notes edits until all that are left are the session's own. If memory runs out, nothing is noted any more.
     pub(crate) fn catch_up(&mut self, edits: &[Edit], session: u32) -> Result<(), AllocError>
         requires runs { AreInRuns edits.now }
         requires noted { AreNoted edits.now self.old.known self.old.notes.entries }
@@ -78,7 +78,7 @@ impl Noted {
         Ok(())
     }
 
-    /// Notes one edit more, so that it is of this count of edits. If memory runs out, nothing is noted any more.
+    /// Notes one edit more, so that this count of edits is noted. If memory runs out, nothing is noted any more.
     fn note_next(&mut self, edits: &[Edit], count: u32) -> Result<(), AllocError>
         requires within { self.old.known < length edits.now }
         requires next { count ≡ self.old.known + 1 }
@@ -95,8 +95,8 @@ impl Noted {
         Ok(())
     }
 
-    /// Whether an edit of another session that isn't among the first ones, so many, named the cell, as far as it is
-    /// noted. One look.
+    /// Whether an edit of another session that isn't among the first `since` ones named the cell, as far as edits are noted.
+    /// One look.
     fn tells(&self, at: Address, session: u32, since: usize) -> bool
         ensures { result ≡ tells (last_of self.now.notes.entries at) session since }
     {

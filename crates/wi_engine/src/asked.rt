@@ -16,7 +16,7 @@ use wi_values::{Address, Value};
 use wi_worlds::World;
 
 /// A cell's value under replacements, where nothing or a constant stands there, or its value is remembered; else its formula
-/// has to be valued. The work is that of `replaced`, of `stored` and, for a formula, of `remembered_value`.
+/// has to be evaluated. The work is that of `replaced`, of `stored` and, for a formula, of `remembered_value`.
 pub fn value_now<'a, M: Memo>(
     alloc: Global,
     store: &'a Store,
@@ -39,7 +39,7 @@ pub fn value_now<'a, M: Memo>(
     }
 }
 
-/// The value of a cell that has this formula under replacements, where it is remembered; else the formula has to be valued. The
+/// The value of a cell that has this formula under replacements, where it is remembered; else the formula has to be evaluated. The
 /// work is that of `Memo::key`, of `Memo::look` and of a copy of the value.
 pub fn remembered_value<'a, M: Memo>(
     alloc: Global,

@@ -1,16 +1,16 @@
-//! Which cells of a rectangle a formula wanted one after another, and through which part of it they lead.
+//! Which cells of a rectangle a formula wanted one after another, and in which direction they go on.
 
 ghost use Rattle.std.specs.Prelude.{◌≡◌, ◌≤◌, ◌*◌, ◌⊎◌};
 ghost use Rattle.wi_engine.specs.Inner.Courses.{max_breaks, part};
 
 use wi_values::{Address, Rect};
 
-/// How often a course may break before more than one cell is found at a break. A formula may look up some cells here and there;
-/// one that wants many, as SUMIF does of those at the places where its criterion is met, is then begun anew no more often than
-/// the logarithm of their count.
+/// How often a course may break off before more than one cell is found there. A formula may look up some cells here and there.
+/// One that wants many cells apart, as SUMIF does at the places where its criterion is met, is then begun anew no more often
+/// than the logarithm of their count.
 const MAX_BREAKS: usize = 8;
 
-/// The part of a rectangle through which the cells that are wanted lead.
+/// The direction in which the cells that are wanted go on: along a row, down a column, or through the whole rectangle.
 #[derive(Clone, Copy)]
 pub enum Way {
     /// The one cell that was wanted.
@@ -21,7 +21,7 @@ pub enum Way {
 }
 
 impl Way {
-    /// Whether it may lead on in this way: in its own, and in a wider one.
+    /// Whether a course of this way may go on in another: in the same, or in a wider one.
     pub fn may_become(self, way: Way) -> bool {
         match self {
             Way::Alone => !matches!(way, Way::Alone),
@@ -31,20 +31,20 @@ impl Way {
         }
     }
 
-    /// Whether it leads from a line of the rectangle into the lines beside it, where it goes on in this way.
+    /// Whether a course leaves a line of the rectangle for those beside it, where it goes on in another way.
     fn leaves_line(self, way: Way) -> bool {
         matches!(self, Way::Row | Way::Column) && matches!(way, Way::Whole)
     }
 }
 
-/// What was wanted of a rectangle, as far as it tells what will be.
+/// What a formula wanted of a rectangle, as far as that tells what it will want.
 #[derive(Clone, Copy)]
 pub struct Course {
     pub rectangle: Rect,
     pub way: Way,
     /// The last cell that was found.
     pub last: Address,
-    /// How many cells are found together, where there are as many.
+    /// How many cells are found together, if there are so many.
     pub count: usize,
     /// How often a cell was wanted that didn't follow the last one.
     pub breaks: usize,

@@ -82,7 +82,7 @@ fn next_lacking(store: &Store, frame: &Frame, cells: &mut Vec<Address>) -> Optio
 }
 
 /// Finds the values of cells for a frame that waits for nothing else, so that it lacks none of them, or gives one that has
-/// to be valued first.
+/// to be evaluated first.
 fn settle_cells<'a, M: Memo>(
     alloc: Global,
     store: &'a Store,
@@ -121,7 +121,7 @@ fn settle_cells<'a, M: Memo>(
     }
 }
 
-/// Finds the value of a what-if for a frame that waits for nothing else, or gives a cell that has to be valued first: that of
+/// Finds the value of a what-if for a frame that waits for nothing else, or gives a cell that has to be evaluated first: that of
 /// an input's value, and else its formula cell.
 fn settle_what_if<'a, M: Memo>(
     alloc: Global,
@@ -160,7 +160,7 @@ fn settle_what_if<'a, M: Memo>(
     }
 }
 
-/// Finds what a frame waits for, or gives a cell that has to be valued first.
+/// Finds what a frame waits for, or gives a cell that has to be evaluated first.
 fn settle<'a, M: Memo>(
     alloc: Global,
     store: &'a Store,

@@ -23,7 +23,7 @@ pub enum Waiting {
     WhatIf(Address, Vec<Pair>),
 }
 
-/// A cell under the replacements of cells that it reaches, whose formula is being valued, with the values that were found for it.
+/// A cell under the replacements of cells that it reaches, whose formula is being evaluated, with the values that were found for it.
 #[derive(Drop)]
 pub struct Frame<'a> {
     pub key: Key,
@@ -99,7 +99,7 @@ impl<'a> Frame<'a> {
     }
 }
 
-/// A formula that has to be valued, and the key of its value.
+/// A formula that has to be evaluated, and the key of its value.
 #[derive(Drop)]
 pub struct Unvalued<'a> {
     pub key: Key,
@@ -117,7 +117,7 @@ pub enum Asked<'a> {
 #[derive(Drop)]
 pub enum Inputs<'a> {
     Known(World),
-    /// It has to be valued first.
+    /// It has to be evaluated first.
     Unvalued(Unvalued<'a>),
 }
 
@@ -125,6 +125,6 @@ pub enum Inputs<'a> {
 #[derive(Drop)]
 pub enum Advance<'a> {
     Done(Value),
-    /// It has to be valued first.
+    /// It has to be evaluated first.
     Unvalued(Unvalued<'a>),
 }

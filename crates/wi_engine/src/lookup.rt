@@ -1,4 +1,4 @@
-//! What is known while one formula is valued.
+//! What is known while one formula is evaluated.
 
 ghost use Rattle.std.specs.Prelude.{◌≡◌, ◌<◌, ◌≤◌, ℕ, true, false, Some, None, OnOk, IfErr, IfSome};
 ghost use Rattle.std.specs.Option.{option_copied};

@@ -4,7 +4,7 @@ use crate::course::Course;
 use crate::findings::Findings;
 use std::alloc::Global;
 
-/// Of how many frames the arrays are kept. Formulas that are valued one after another seldom stand deeper in one another.
+/// Of how many frames the arrays are kept. Formulas that are evaluated one after another seldom stand deeper in one another.
 const MAX_KEPT: usize = 64;
 
 /// How many values or courses an array may have that is kept. A pool takes less than a megabyte then.

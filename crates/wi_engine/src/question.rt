@@ -33,7 +33,7 @@ pub struct Question<M: Memo + Drop> {
 }
 
 impl<M: Memo + Drop> Question<M> {
-    /// The value of a cell under replacements, with what is remembered of others, and of it. A formula is valued where no
+    /// The value of a cell under replacements, with what is remembered of others, and of it. A formula is evaluated where no
     /// value is remembered for its key, and each only once, however many rest on it. No formula calls for another on the
     /// machine's stack: those that wait stand in a list, which grows as the references lead on. Each takes its arrays
     /// from a pool, into which they go when its value is there.

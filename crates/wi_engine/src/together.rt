@@ -1,9 +1,9 @@
 //! Which cells are found together with one that a formula lacks.
 //!
-//! A formula is valued anew each time that it lacks a value. A fold over a thousand formulas would be begun a thousand times
+//! A formula is evaluated anew each time that it lacks a value. A fold over a thousand formulas would be begun a thousand times
 //! if one of them were found each time; and of a table from which INDEX reads one cell the others aren't wanted. So how many
 //! are found goes by what was wanted of the same rectangle before. A cell is found alone, and where the next one that is wanted
-//! follows, in its row, its column or the whole rectangle, twice as many are found each time, as far as that reaches.
+//! follows, in its row, its column or the whole rectangle, twice as many are found each time, if there are so many.
 
 ghost use Rattle.std.specs.Prelude.{◌≡◌, ℕ, true, nat_lt, if◌then◌else◌, IfOk, IfSome};
 ghost use Rattle.std.specs.List.{list_any};

@@ -11,8 +11,8 @@ use crate::item::Item;
 use wi_lookup::{Argument, Lookup};
 use wi_values::{Address, ErrorKind, Value};
 
-/// AND: whether all truth values that count are TRUE, or the first error met; `BadValue` where none counts. The cell that is missing
-/// is told.
+/// AND: whether all truth values that count are TRUE, or the first error met; `BadValue` where none counts. `Err` has a cell
+/// whose value isn't known.
 pub fn and_value<L: Lookup>(arguments: &[Argument], lookup: &L) -> Result<Value, Address>
     ensures done { IfOk result (IsOfArguments (L.known_cell lookup.now) and_value arguments.now) }
     ensures missing { IfErr result (IsMissing (L.known_cell lookup.now) arguments.now) }
@@ -20,8 +20,8 @@ pub fn and_value<L: Lookup>(arguments: &[Argument], lookup: &L) -> Result<Value,
     fold_arguments(arguments, lookup, AllTrue { all: None })
 }
 
-/// OR: whether one of the truth values that count is TRUE, or the first error met; `BadValue` where none counts. The cell that is
-/// missing is told.
+/// OR: whether one of the truth values that count is TRUE, or the first error met; `BadValue` where none counts. `Err` has a cell
+/// whose value isn't known.
 pub fn or_value<L: Lookup>(arguments: &[Argument], lookup: &L) -> Result<Value, Address>
     ensures done { IfOk result (IsOfArguments (L.known_cell lookup.now) or_value arguments.now) }
     ensures missing { IfErr result (IsMissing (L.known_cell lookup.now) arguments.now) }

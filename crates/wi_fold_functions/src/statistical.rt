@@ -15,7 +15,7 @@ use wi_lookup::{Argument, Lookup};
 use wi_scalar_functions::{add, counted, divide, number_value, whole_number, zero};
 use wi_values::{Address, ErrorKind, Value};
 
-/// MIN: the smallest number, and of none 0, or the first error met. The cell that is missing is told.
+/// MIN: the smallest number, and of none 0, or the first error met. `Err` has a cell whose value isn't known.
 pub fn min_value<L: Lookup>(arguments: &[Argument], lookup: &L) -> Result<Value, Address>
     ensures done { IfOk result (IsOfArguments (L.known_cell lookup.now) min_value arguments.now) }
     ensures missing { IfErr result (IsMissing (L.known_cell lookup.now) arguments.now) }
@@ -23,7 +23,7 @@ pub fn min_value<L: Lookup>(arguments: &[Argument], lookup: &L) -> Result<Value,
     fold_arguments(arguments, lookup, Least { least: None })
 }
 
-/// MAX: the greatest number, and of none 0, or the first error met. The cell that is missing is told.
+/// MAX: the greatest number, and of none 0, or the first error met. `Err` has a cell whose value isn't known.
 pub fn max_value<L: Lookup>(arguments: &[Argument], lookup: &L) -> Result<Value, Address>
     ensures done { IfOk result (IsOfArguments (L.known_cell lookup.now) max_value arguments.now) }
     ensures missing { IfErr result (IsMissing (L.known_cell lookup.now) arguments.now) }
@@ -32,7 +32,7 @@ pub fn max_value<L: Lookup>(arguments: &[Argument], lookup: &L) -> Result<Value,
 }
 
 /// AVERAGE: the sum of the numbers divided by their count, or the first error met; `DivisionByZero` where there is none,
-/// `BadNumber` where a step doesn't fit. The cell that is missing is told.
+/// `BadNumber` where a step doesn't fit. `Err` has a cell whose value isn't known.
 pub fn average_value<L: Lookup>(arguments: &[Argument], lookup: &L) -> Result<Value, Address>
     ensures done { IfOk result (IsOfArguments (L.known_cell lookup.now) average_value arguments.now) }
     ensures missing { IfErr result (IsMissing (L.known_cell lookup.now) arguments.now) }

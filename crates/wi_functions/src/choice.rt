@@ -1,4 +1,4 @@
-//! Which parameter a call is worth, where one is chosen (OpenFormula, "Logical Functions" and
+//! Which parameter gives the value of a call, where one is chosen (OpenFormula, "Logical Functions" and
 //! CHOOSE).
 
 ghost use Rattle.std.specs.Prelude.{ℕ};
@@ -9,7 +9,7 @@ use wi_calls::LazyFunction;
 use wi_scalar_functions::{to_logical, to_whole};
 use wi_values::{ErrorKind, Value};
 
-/// What a call is worth, once the value of its first parameter is there.
+/// What a call gives, once the value of its first parameter is there.
 #[derive(Drop)]
 pub(crate) enum Choice {
     Value(Value),
@@ -17,7 +17,7 @@ pub(crate) enum Choice {
     Parameter(usize, Value),
 }
 
-/// What a call of a function is worth that has so many parameters, and whose first has this value.
+/// What a call of a function gives that has so many parameters, and whose first has this value.
 pub(crate) fn choose(function: LazyFunction, first: Value, count: usize) -> Choice
     ensures { Chooses function first count result }
 {

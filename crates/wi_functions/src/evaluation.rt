@@ -237,8 +237,8 @@ fn call_value<L: Lookup>(
     }
 }
 
-/// What a function gives that values its first parameter, and then the one that this chooses and no
-/// other.
+/// What a function gives that evaluates its first parameter, and then the one that this chooses and
+/// no other.
 #[cycle(evaluating)]
 #[inline(never)]
 fn lazy_value<L: Lookup>(

@@ -28,10 +28,11 @@ pub(crate) struct Turns {
     pub(crate) went: Vec<Address>,
 }
 
-/// The cells that turn once what is next is put in, of which the cone is given in row-major order. Where each cell reads what
-/// it read before, the work grows with what is next, and with what that reads where the cone is one cell; where no cell is circular and no cycle is closed, also with the count of
-/// the cone, and with the rows of what that reads where the rectangle around the cone meets it, times the logarithm of that
-/// count, and it takes no memory; else also with the cone and what its cells read, times logarithms.
+/// The cells that turn, circular or no longer so, once what is next is put in; the cone of that is given in row-major order.
+/// Where each cell reads what it read before, the work grows with what is next, and with what that reads where the cone is one
+/// cell. Where no cell is circular and no cycle is closed, it grows also with the count of the cone, and with the rows of what
+/// that reads where the rectangle around the cone meets it, times the logarithm of that count, and it takes no memory. Else it
+/// grows also with the cone and what its cells read, times logarithms.
 pub(crate) fn turns_of(
     alloc: Global,
     rooms: &Rooms,

@@ -26,8 +26,8 @@ impl Argument {
         }
     }
 
-    /// Its value: of a reference to one cell what that cell holds, and of one to more an error. The cell that is missing is
-    /// told.
+    /// Its value: of a reference to one cell what that cell holds, and of one to more an error. If a cell's value isn't
+    /// known, that cell is given.
     pub fn value<'a, L: Lookup>(
         &'a self,
         lookup: &'a L,

@@ -24,7 +24,7 @@ use wi_worlds::World;
 
 /// What an entry of a data table shows under replacements, which stand in the order of their addresses, one for each: the
 /// value of the formula cell if each input, the first of a pair, had the value of its replacement cell, the second. All
-/// these values are taken before any is put, and of two pairs for one input the later counts. A formula is valued once for
+/// these values are taken before any is put, and of two pairs for one input the later counts. A formula is evaluated once for
 /// each list of replacements of cells that its cell reaches under which its value is asked for, for whichever of these cells.
 /// What is found is forgotten at the end.
 pub fn table_entry(
@@ -39,7 +39,7 @@ pub fn table_entry(
     ensures value { IfOk result
         (λ v. v ≡ table.table_entry store.now.sheet put.now formula_cell pairs.now) }
 
-    // No more than what the entry demands is valued, also where memory runs out.
+    // No more than what the entry demands is evaluated, also where memory runs out.
     ensures within { let cases = entry_demanded store.now.sheet put.now formula_cell pairs.now in
         NeverFall meter.new (plus meter.old (price store.now.sheet cases)) }
     ensures counts { NeverFall meter.old meter.new }

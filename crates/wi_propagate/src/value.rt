@@ -13,7 +13,7 @@ use wi_store::Store;
 use wi_values::{Address, ErrorKind, Replacement, Value};
 use wi_worlds::World;
 
-/// What a cell shows under replacements, which stand in the order of their addresses, one for each. A formula is valued once
+/// What a cell shows under replacements, which stand in the order of their addresses, one for each. A formula is evaluated once
 /// for each list of replacements of cells that its cell reaches under which its value is asked for. What is found is
 /// forgotten at the end.
 pub fn shown(
@@ -26,7 +26,7 @@ pub fn shown(
     requires { IsInOrder put.now }
     ensures value { IfOk result (λ v. v ≡ show.shown store.now.sheet put.now at) }
 
-    // No more than what the cell demands is valued, also where memory runs out.
+    // No more than what the cell demands is evaluated, also where memory runs out.
     ensures within { let cases = demanded store.now.sheet put.now at in
         NeverFall meter.new (plus meter.old (price store.now.sheet cases)) }
     ensures counts { NeverFall meter.old meter.new }

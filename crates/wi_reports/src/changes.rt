@@ -17,8 +17,8 @@ use wi_sessions::Picture;
 use wi_values::{Address, Replacement, Value};
 
 /// Those of some cells whose value under replacements isn't the picture's, each with its value, in the order in which they are
-/// given. The replacements stand in the order of their addresses, one for each. Each cell is valued once, by the calculator;
-/// where there is none nothing is.
+/// given. The replacements stand in the order of their addresses, one for each. The calculator is asked once for each cell,
+/// and for nothing else.
 pub fn find_changes<C: Calculator>(
     alloc: Global,
     calculator: &mut C,

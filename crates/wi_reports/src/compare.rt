@@ -22,8 +22,8 @@ use wi_values::{Address, ErrorKind, Rect, Replacement, Value};
 
 /// Appends a record for each cell of a rectangle whose values under two lists of replacements differ, in row-major order: the
 /// address, the first value, the second, and the second less the first where both are numbers. Each list stands in the order of
-/// its addresses, one for each. On an error the bytes are as before. Each cell is valued twice, by the calculator; beside that
-/// the work grows with the length of the two texts of each cell.
+/// its addresses, one for each. On an error the bytes are as before. The calculator is asked twice for each cell; beside that the
+/// work grows with the length of the two texts of each cell.
 pub fn push_comparison<C: Calculator>(
     alloc: Global,
     calculator: &mut C,

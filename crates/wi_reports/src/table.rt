@@ -85,8 +85,8 @@ fn is_row(area: Rect) -> bool
 
 /// Appends the records of a data table under replacements, which stand in the order of their addresses, one for each: one for
 /// each cell of the column, its text and the entries beside it, under a head with the texts of the row where there is one.
-/// On an error the bytes are as before. Each cell of the column and of the row is valued once, and each entry once, by the
-/// calculator; beside that the work grows with the length of the records.
+/// On an error the bytes are as before. The calculator is asked once for each cell of the column and of the row, and once for
+/// each entry; beside that the work grows with the length of the records.
 pub fn push_table<C: Calculator>(
     alloc: Global,
     calculator: &mut C,

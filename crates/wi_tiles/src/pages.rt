@@ -37,7 +37,7 @@ pub fn band_of<V>(pages: &Pages<V>, row: u32) -> Option<&Sorted<Tile<V>>>
     }
 }
 
-/// The row behind those that have nothing because a row has no band.
+/// A row up to which none has a band, where this one has none; it is found without a search.
 pub fn past_gap<V>(pages: &Pages<V>, row: u32) -> u32
     requires row { row < rows }
     requires bare { band_at pages.now row ≡ None }

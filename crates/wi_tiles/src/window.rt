@@ -39,7 +39,7 @@ impl<T> Window<T> {
 }
 
 impl<T> Window<T> {
-    /// The index behind those, from one without a part on, that have none because it has none.
+    /// An index up to which none has a part, where this one has none; it is found without a search.
     pub fn past_gap(&self, index: usize) -> usize
         requires within { index < span }
         requires bare { part_from self.now index ≡ None }

@@ -21,7 +21,7 @@ pub(crate) struct Part {
     pub(crate) is_last: bool,
 }
 
-/// How many replacements there are to a cell, at the least, where the cells are searched for among them.
+/// Where there are at least so many replacements for each cell, the cells are searched for among the replacements.
 const MANY: usize = 4;
 
 /// Whether a search for each of the cells among the replacements is less work than one for each replacement among the cells.

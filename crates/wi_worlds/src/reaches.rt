@@ -16,7 +16,7 @@ use wi_values::{Address, Replacement};
 /// Cells by a cell that reaches them.
 type Reached = HashMap<Address, RisingCells>;
 
-/// Which cells reach which of some others, by those that reach them. Of the others it is known of some which all these are.
+/// Which of some others each cell reaches. Of those others that are known, all cells that reach them are told.
 #[derive(Drop)]
 pub struct Reaches {
     known: RisingCells,
