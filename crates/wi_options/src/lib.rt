@@ -1,4 +1,4 @@
-//! The words with which the program is called: `whatif [--load FILE] [--keep N]`.
+//! The command-line arguments, here called words: `whatif [--load FILE] [--keep N]`.
 #![tactic(auto)]
 
 mod command;
