@@ -49,5 +49,5 @@ module _ (s : State) where
             (option_map (λ y. (address y.0, area y.1)) second),
       )
   Does (Formula at) done = done ≡ (s, content_record s.stored.sheet (address at))
-  -- An edit puts what it puts.
+  -- An edit puts contents, and stands in the log.
   Does c done = (puts : List Put) × Puts s c puts × (done ≡ (after_edit s c puts, []))

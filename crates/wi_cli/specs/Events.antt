@@ -115,9 +115,9 @@ pub record LogGrows (s : State) (es : List Event) (i : ℕ) : Type 0 where
   pub log : (state_after s es).log ≡ s.log ++ edits_in s es
   pub behind : unseen (state_after s es) i ≡ edits_since i (unseen s i) s es
 
--- What a command is answered after these events, if it isn't forced and no cause that counts before holds: it is refused for a
--- stale cell exactly where this is the first of the cells it names that other sessions' edits name, of those accepted since its
--- session was last told a list.
+-- What a command is answered after these events, if it isn't forced, and isn't refused for a cause that counts before or for want
+-- of memory: it is refused for a stale cell exactly where this is the first of the cells it names that other sessions' edits name,
+-- of those accepted since its session was last told a list.
 abbrev pub StaleIsNewer : State → List Event → Event → Type 0
 StaleIsNewer s es e =
     let t = state_after s es in

@@ -7,7 +7,7 @@ use Rattle.wi_cli.specs.Lines.{without_lf, without_cr, max_line, is_space, Bytes
 use Rattle.wi_cli.specs.Operands.{Cell, IsWritten}
 use Rattle.wi_cli.specs.Command.{Command, Csv, Unknown, Unreadable, form, data_of}
 
--- without the LF, and one CR before it
+-- without its LF, and then without a CR at its end
 abbrev pub text_of : Bytes → Bytes
 text_of line = without_cr (without_lf line)
 
@@ -17,7 +17,7 @@ IsWithin line = length (without_lf line) ≤ max_line
 abbrev pub IsGood : Bytes → Type 0
 IsGood line = IsWithin line × IsUtf8 (text_of line)
 
--- exactly the words `csv`, any second word and a good LINES
+-- within the limit, and written as a `csv` with any second word
 abbrev pub Asks : Bytes → ℕ → Type 0
 Asks line n = IsWithin line × ((force : Bool) × (at : Option Cell) × IsWritten (text_of line) (form (Csv force at n [])))
 

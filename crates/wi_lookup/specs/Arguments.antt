@@ -56,7 +56,7 @@ abbrev pub refers_to : ℕ → given.Argument → Bool
 refers_to c (given.TheVariants.Reference r) = is_within r c
 refers_to c (given.TheVariants.Value v) = false
 
--- one of the arguments refers to each cell of the rectangle
+-- each cell of the rectangle is one to which some argument refers
 abbrev pub IsReferred : List given.Argument → Area → Type 0
 IsReferred args r = (c : ℕ) → is_within r c ≡ true → list_any (refers_to c) args ≡ true
 

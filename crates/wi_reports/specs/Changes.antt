@@ -1,4 +1,4 @@
--- `changes`: for each cell that has changed its address, its kind and its shown text.
+-- `changes`: a record for each cell that has changed: its address, its kind and its shown text.
 use Rattle.std.specs.Prelude.{ℕ, List, [], ◌∷◌, codes}
 use Rattle.std.specs.List.{flat_map}
 use Rattle.wi_values.specs.Address.{address_text}

@@ -16,7 +16,7 @@ use Rattle.wi_sheet.specs.Shown.{shown}
 use Rattle.wi_sessions.specs.Pictures.{same_value}
 use Rattle.wi_csv.specs.Row.{row}
 
--- a number's text, or `#NUM!` where it is too large
+-- the text of a number, or `#NUM!` where there is none, as it doesn't fit
 abbrev pub number_text : Option Fraction → List ℕ
 number_text None = error_name BadNumber
 number_text (Some x) = text_of x

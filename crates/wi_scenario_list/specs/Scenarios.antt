@@ -37,7 +37,7 @@ pub data IsChain (xs : List Scenario) : Option Scenario → List Scenario → Ty
   ended : IsChain xs None []
   based : (x : Scenario) (bases : List Scenario) → IsChain xs (scenario_of xs x.base) bases → IsChain xs (Some x) (x ∷ bases)
 
--- the scenario of this name and those that it is based on, at any remove: there is no loop, and never more than may be
+-- If the scenario of this name has a chain of at most so many as there may be, this is it.
 abbrev pub IsChainOf : List Scenario → Option (List ℕ) → List Scenario → Type 0
 IsChainOf xs name ys = (zs : List Scenario) → IsChain xs (scenario_of xs name) zs → length zs ≤ max_scenarios → ys ≡ zs
 

@@ -198,9 +198,9 @@ abbrev pub is_refused_before : Answer → Bool
 is_refused_before (Ok done) = false
 is_refused_before (Err e) = counts_before e
 
--- What an edit is answered at the end of a run, if it isn't forced and no cause that counts before holds: it is refused for a
--- stale cell exactly where this is the first of the cells it names that other sessions' edits name, of those accepted since its
--- session was last told a list.
+-- What an edit is answered at the end of a run, if it isn't forced, and isn't refused for a cause that counts before or for want
+-- of memory: it is refused for a stale cell exactly where this is the first of the cells it names that other sessions' edits name,
+-- of those accepted since its session was last told a list.
 abbrev pub StaleIsNewer : State → List Event → Event → List Area → Type 0
 StaleIsNewer s es e named =
     let t = state_after s es in
