@@ -16,8 +16,8 @@ use std::alloc::{AllocError, Global};
 use std::collections::HashMap;
 use wi_values::{Address, Rect};
 
-/// Of a cell: the length of the log after the last edit of narrow rectangles that named it, the session of that edit, and
-/// the length after the last such edit of another session than that, 0 where there is none.
+/// What is noted of a cell, over the edits of narrow rectangles that named it: how long the log was after the last of them, whose that one
+/// was, and how long the log was after the last of any other session, 0 where there is none.
 #[derive(Clone, Copy)]
 pub(crate) struct Last {
     length: u32,

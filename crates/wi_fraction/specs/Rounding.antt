@@ -18,7 +18,7 @@ rounded_size HalfAway n d = (2 * n + d) / (2 * d)
 rounded_size Away n d = (n + (d - 1)) / d
 rounded_size Toward n d = n / d
 
--- a number, as x is one
+-- the greatest whole number that is at most x; it fits, as x does
 unfoldable pub floored : Number → Number
 floored x = unwrap_or (number_of (floor_of x.num x.den) 1) x
 

@@ -18,7 +18,7 @@ pub(crate) type Areas = BTreeMap<Address, Vec<Rect>>;
 /// Cells that wait, by a cell that they read.
 type Waiters = BTreeMap<Address, Vec<Address>>;
 
-/// Takes away from a set, again and again, each cell that reads none of the set; those that are held stay. The work grows
+/// Takes away from a set, again and again, each cell that reads none of the set; the cells of `held` stay, whatever they read. The work grows
 /// with the count of the cells, of the rectangles that they read, of the cells of the set in each of these, and, where the
 /// rectangle around the set meets it, of its rows where a cell of the set stands beside it, times logarithms. If memory runs
 /// out, some that could go stay.

@@ -51,7 +51,7 @@ pub(crate) fn apply_edit<C: Calculator>(
     edit_caught_up(alloc, calculator, desk, edit, force)
 }
 
-/// The same with a log that has caught up for the current session, so that a cell takes one look; the answer is the same without.
+/// The same, once the log has noted for the current session who edited which cell, so that it takes one look whether a cell is stale.
 fn edit_caught_up<C: Calculator>(
     alloc: Global,
     calculator: &mut C,

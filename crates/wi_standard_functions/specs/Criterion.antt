@@ -10,7 +10,7 @@ use Rattle.wi_values.specs.declared.value.Value.TheVariants.{Text}
 use Rattle.wi_standard_functions.specs.Matching.{can_be_found, is_match, sought_for}
 use Rattle.wi_fraction.specs.Text.{Bytes}
 
--- a value meets it that stands in the relation to the operand, which the relation takes first
+-- met by a value where the relation holds of the operand and the value
 pub record Criterion : Type 0 where
   pub relation : Value → Value → Bool
   pub operand : Value
@@ -18,7 +18,7 @@ pub record Criterion : Type 0 where
 abbrev pub equal_to : Value → Criterion
 equal_to operand = record { relation = is_match is_eq; operand = operand }
 
--- not equal, in kind or else
+-- of another kind, or of the same and not equal
 abbrev pub is_unequal : Value → Value → Bool
 is_unequal operand v = can_be_found v && not (is_match is_eq operand v)
 

@@ -14,7 +14,7 @@ use Rattle.wi_standard_functions.specs.Mathematical.{sum_of_items}
 use Rattle.wi_standard_functions.specs.Sequence.{sequence_of, numbers_of}
 use Rattle.wi_standard_functions.specs.Steps.{◌>>=◌}
 
--- the number that stands so to all others; of none 0
+-- the least number, or the greatest, as the test says; of none 0
 abbrev pub extreme_value : (Ordering → Bool) → List Argument → Value
 extreme_value test args = do
   xs ← numbers_of (sequence_of args)

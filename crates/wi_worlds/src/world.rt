@@ -132,10 +132,10 @@ impl World {
         value_at(self.replacements(), at)
     }
 
-    /// The replacements whose cone has a cell, the cones being those of the replaced addresses. Where they are all of them, or
-    /// none, or the same as the last that were neither, they are shared, without memory and without a hash; else they are
-    /// copied and hashed, and become the last. The answer is the same whatever the last are. If memory runs out, the last stay as
-    /// they were. The work for each replacement grows with the logarithms of the count of cones and of the count of cells in its
+    /// The replacements that a cell reaches, where each replaced address has its cone. What an earlier call gave is remembered,
+    /// where it was neither all nor none: the same again, and all and none, are shared, without memory and without a hash;
+    /// any other is copied and hashed, and remembered. The answer is the same whatever is remembered. If memory runs out, that
+    /// stays as it was. The work for each replacement grows with the logarithms of the count of cones and of the count of cells in its
     /// own; texts are compared with the last byte by byte.
     pub fn reaching(
         &self,
