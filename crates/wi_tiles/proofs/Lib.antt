@@ -1,4 +1,5 @@
 pub mod BandLemmas
+pub mod BareLemmas
 pub mod CellLemmas
 pub mod Counts
 pub mod Digits

@@ -7,6 +7,7 @@ use Rattle.std.proofs.lemmas.Nat.{and_le_l, shr_le}
 use Rattle.std.proofs.lemmas.Nat.Bits.{bit_at-lt, bit_at_and}
 use borrow.Author.Tests.{ltb-true, eqb-true, eq-eqb}
 use Rattle.wi_values.specs.Address.{Area, column_of}
+use Rattle.wi_tiles.specs.Inner.Columns.{HasEach}
 use Rattle.wi_tiles.specs.Inner.Within.{line_of, lines_of, lines_from, lines_to, IsInside}
 use Rattle.wi_tiles.proofs.WalkLemmas.{same_test}
 
@@ -98,3 +99,40 @@ module _ (r : Area) (g column top bottom low high line columns lines : ℕ) (lef
       both_from columns lines i
       (eqb-true _ _ (column_bits i u ∙ and_from (nat_le low (i % 4)) (nat_lt (i % 4) high) (le-leb low (i % 4) (omega (arith, x, is))) (lt-ltb (i % 4) high (omega (arith, y, so)))))
       (eqb-true _ _ (between i u ∙ and_from (nat_le top (i / 4)) (nat_le (i / 4) bottom) (le-leb top (i / 4) inside.0) (le-leb (i / 4) bottom inside.1)))
+
+-- the bits from one on, and up to one
+abbrev columns_from : ℕ → ℕ
+columns_from low = 18446744073709551615 * 2 ^ low % 2 ^ 64
+
+abbrev columns_to : ℕ → ℕ
+columns_to high = 18446744073709551615 / 2 ^ (63 - high)
+
+abbrev is_upward : ℕ → ℕ → Bool
+is_upward low i = agree (bit_at (columns_from low) i == 1) (nat_le low i)
+
+upward_table : all_below (λ low. all_below (λ i. is_upward low i) 64) 64 ≡ true
+upward_table = refl
+
+abbrev is_downward : ℕ → ℕ → Bool
+is_downward high i = agree (bit_at (columns_to high) i == 1) (nat_le i high)
+
+downward_table : all_below (λ high. all_below (λ i. is_downward high i) 64) 64 ≡ true
+downward_table = refl
+
+upward_bits : (low i : ℕ) → low < 64 → i < 64 → (bit_at (columns_from low) i == 1) ≡ nat_le low i
+upward_bits low i l u = agreed (bit_at (columns_from low) i == 1) (nat_le low i) (one_of (λ k. is_upward low k) 64 i (one_of (λ k. all_below (λ j. is_upward k j) 64) 64 low upward_table l) u)
+
+downward_bits : (high i : ℕ) → high < 64 → i < 64 → (bit_at (columns_to high) i == 1) ≡ nat_le i high
+downward_bits high i l u = agreed (bit_at (columns_to high) i == 1) (nat_le i high) (one_of (λ k. is_downward high k) 64 i (one_of (λ k. all_below (λ j. is_downward k j) 64) 64 high downward_table l) u)
+
+-- a bit for each column of a rectangle
+pub columns_between : (r : Area) (left right : ℕ) → left ≡ column_of r.first → right ≡ column_of r.last → right / 64 ≤ left / 64 → HasEach r (bit_and (columns_from (left % 64)) (columns_to (right % 64)))
+columns_between r left right is so same k l u = both_from (columns_from (left % 64)) (columns_to (right % 64)) (k % 64)
+    (eqb-true _ _ (upward_bits (left % 64) (k % 64) (omega arith) (omega arith) ∙ le-leb (left % 64) (k % 64) (omega (arith, is, so, same, l, u))))
+    (eqb-true _ _ (downward_bits (right % 64) (k % 64) (omega arith) (omega arith) ∙ le-leb (k % 64) (right % 64) (omega (arith, is, so, same, l, u))))
+
+all_table : all_below (λ i. bit_at 18446744073709551615 i == 1) 64 ≡ true
+all_table = refl
+
+pub columns_all : (r : Area) → HasEach r 18446744073709551615
+columns_all r k l u = eqb-true _ _ (one_of (λ i. bit_at 18446744073709551615 i == 1) 64 (k % 64) all_table (omega arith))

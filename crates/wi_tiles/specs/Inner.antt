@@ -1,5 +1,6 @@
 -- What the representation means: no public clause cites it.
 pub mod Cells
+pub mod Columns
 pub mod Entries
 pub mod Lines
 pub mod Next

@@ -119,8 +119,9 @@ impl<V: Drop> CellMap<V> {
     }
 
     /// The first cell of a rectangle, in row-major order, at a cell or after it, that has something. One search among the tiles
-    /// of 16 rows for these, and if more than one of them lie in the rectangle, one step for each in each row up to it; rows where
-    /// nothing stands are passed at once.
+    /// of 16 rows for these, and if more than one of them lie in the rectangle, one step for each in each row up to it. Rows where
+    /// nothing stands are passed at once, and so are 4,096 rows where nothing has stood in its columns, nor in any with the same
+    /// remainder by 64.
     pub fn next_in(&self, area: Rect, from: Address) -> Option<Address>
         ensures { result ≡ find (λ a. nat_le from a) (filter (is_within area) (keys_of self.now.entries)) }
     {

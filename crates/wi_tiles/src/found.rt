@@ -7,6 +7,7 @@ ghost use Rattle.wi_tiles.specs.Inner.Next.{IsNext};
 ghost use Rattle.wi_tiles.specs.Inner.Within.{GoesOn, AreBeside, IsTurn};
 
 use crate::band::{Tiles, Turn, tiles_in, turn_among, turn_beside};
+use crate::bare::past_bare;
 use crate::masks::cell_in;
 use crate::pages::{Pages, band_of, past_gap, start};
 use wi_values::{Address, Rect};
@@ -94,7 +95,7 @@ fn turn_into<'a, V>(
     match band_of(pages, row) {
         Some(band) => match turn_among(tiles_in(band.parts(), area), area, row, column) {
             Some(turn) => Ok(turn),
-            None => Err(row / 16 * 16 + 16),
+            None => Err(past_bare(pages, area, row)),
         },
         None => Err(past_gap(pages, row)),
     }

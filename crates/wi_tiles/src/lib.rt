@@ -2,9 +2,11 @@
 #![tactic(auto)]
 
 mod band;
+mod bare;
 mod cell_map;
 mod found;
 mod masks;
+mod page;
 mod pages;
 mod places;
 mod sorted;

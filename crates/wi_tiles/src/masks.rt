@@ -3,6 +3,7 @@
 ghost use Rattle.std.specs.Prelude.{◌≡◌, ◌<◌, ◌≤◌, ◌/◌, ◌==◌, ◌&&◌, ℕ, nat_le};
 ghost use Rattle.std.specs.Int.{bit_at};
 ghost use Rattle.wi_values.specs.Address.{column_of};
+ghost use Rattle.wi_tiles.specs.Inner.Columns.{HasEach};
 ghost use Rattle.wi_tiles.specs.Inner.Within.{cell_in, line_of, lines_of, IsInside};
 
 use wi_values::{Address, Rect};
@@ -59,4 +60,16 @@ pub fn lines_between(top: u32, bottom: u32) -> u64
     ensures { (i : ℕ) → i < 64 → (bit_at result i == 1) ≡ (nat_le top (i / 4) && nat_le (i / 4) bottom) }
 {
     (u64::MAX << (4 * top)) & (u64::MAX >> (60 - 4 * bottom))
+}
+
+/// A bit for each column of a rectangle, by its remainder, and maybe for others.
+pub fn columns_of(area: Rect) -> u64
+    ensures { HasEach area result }
+{
+    let left = area.first().column();
+    let right = area.last().column();
+    if left / 64 < right / 64 {
+        return u64::MAX;
+    }
+    (u64::MAX << (left % 64)) & (u64::MAX >> (63 - right % 64))
 }

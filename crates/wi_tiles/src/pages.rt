@@ -5,13 +5,14 @@ ghost use Rattle.wi_values.specs.Address.{rows};
 ghost use Rattle.wi_tiles.specs.Inner.Cells.{path_of};
 ghost use Rattle.wi_tiles.specs.Inner.Next.{band_at, IsStart};
 
+use crate::page::Page;
 use crate::sorted::Sorted;
 use crate::tile::Tile;
 use crate::window::Window;
 use wi_values::{Address, Rect};
 
 /// Tiles of 16 rows by 4 columns, in order of their columns in a band of 16 rows; 256 bands are a page.
-pub type Pages<V> = Window<Window<Sorted<Tile<V>>>>;
+pub type Pages<V> = Window<Page<V>>;
 
 /// The digits of a cell: its page, its band, its group of columns, and its place in a tile.
 pub fn path_of(cell: Address) -> u64
@@ -32,7 +33,7 @@ pub fn band_of<V>(pages: &Pages<V>, row: u32) -> Option<&Sorted<Tile<V>>>
     ensures { option_copied result ≡ band_at pages.now row }
 {
     match pages.part((row / 4_096) as usize) {
-        Some(page) => page.part((row / 16 % 256) as usize),
+        Some(page) => page.band((row / 16 % 256) as usize),
         None => None,
     }
 }

@@ -1,5 +1,6 @@
-use Rattle.std.proofs.Common.{rules, arith, Some, ◌≡◌, ◌<◌}
+use Rattle.std.proofs.Common.{rules, Some, ◌≡◌}
 use Rattle.wi_tiles.specs.Inner.Next.{band_at}
+use Rattle.wi_tiles.proofs.BareLemmas.{bare_below}
 use Rattle.wi_tiles.proofs.TurnLemmas.{band_tiles, gap_none}
 use Rattle.wi_tiles.proofs.found.turn_into.Goals as goal
 
@@ -11,8 +12,8 @@ returns-in-Some-turn_among-clause-found g c =
 pub returns-in-None-turn_among-clause-none : goal.returns-in-None-turn_among-clause-none
 returns-in-None-turn_among-clause-none g c =
     let band : band_at c.args.pages.now c.args.row ≡ Some c.parts.result.now = search rules in
-    let sheet : c.args.row < 1048576 = search rules in
-    (omega arith, omega (arith, sheet), c.in-None-turn_among.ensures.none c.args.pages.now (band_tiles c.args.pages.now c.args.area c.args.row c.parts.result.now c.tiles_in.result.now band c.tiles_in.ensures.same))
+    let none = c.in-None-turn_among.ensures.none c.args.pages.now (band_tiles c.args.pages.now c.args.area c.args.row c.parts.result.now c.tiles_in.result.now band c.tiles_in.ensures.same) in
+    (c.past_bare.ensures.later, c.past_bare.ensures.sheet, bare_below c.args.pages.now c.args.area c.args.row c.args.column c.past_bare.result none c.past_bare.ensures.bare)
 
 pub returns-in-None-clause-none : goal.returns-in-None-clause-none
 returns-in-None-clause-none g c = (c.past_gap.ensures.later, c.past_gap.ensures.within, gap_none c.args.pages.now c.args.area c.args.row c.args.column c.past_gap.result c.past_gap.ensures.within c.past_gap.ensures.gap)

@@ -1,0 +1,10 @@
+use Rattle.std.proofs.Common.{◌-◌, ◌≤◌, ◌<◌, ℕ}
+use Rattle.wi_tiles.specs.Inner.Columns.{IsBare}
+use Rattle.wi_tiles.specs.Inner.Parts.{part_from}
+use Rattle.wi_tiles.proofs.bare.past_bands.Given as goal
+
+abbrev pub invariant-bands : goal.invariant-bands
+invariant-bands g l = record { later : l.fn.from ≤ l.index; within : l.index ≤ 256; bare : (i : ℕ) → l.fn.from ≤ i → i < l.index → IsBare l.area (part_from l.page i) }
+
+abbrev pub decreases-bands : goal.decreases-bands
+decreases-bands g l = 256 - l.index
