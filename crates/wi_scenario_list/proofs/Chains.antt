@@ -33,7 +33,7 @@ effective_listed xs name es rs h g =
 
 -- ---- the chain, where it ends within so many steps
 
-ends_within : (k : ℕ) (xs : List Scenario) (o : Option Scenario) (ys : List Scenario) → IsChain xs o ys → length ys ≤ k → chain_within k xs o ≡ ys
+pub ends_within : (k : ℕ) (xs : List Scenario) (o : Option Scenario) (ys : List Scenario) → IsChain xs o ys → length ys ≤ k → chain_within k xs o ≡ ys
 ends_within zero xs o ys ended h = refl
 ends_within zero xs o ys (based x bases c) h = absurd (omega (arith, h))
 ends_within (suc k) xs o ys ended h = refl

@@ -2,4 +2,6 @@ mod Listed
 mod Held
 mod Own
 pub mod Chains
+pub mod Named
+pub mod ChainsKept
 mod Rows

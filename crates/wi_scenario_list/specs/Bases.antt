@@ -1,8 +1,8 @@
 -- Which scenario is based on which.
-use Rattle.std.specs.Prelude.{ℕ, Bool, false, not, List, Option, Some, None}
+use Rattle.std.specs.Prelude.{◌≡◌, ◌≤◌, ℕ, Bool, false, not, List, length, Option, Some, None}
 use Rattle.std.specs.List.{list_any}
 use Rattle.std.specs.Str.{bytes_eq}
-use Rattle.wi_scenario_list.specs.Scenarios.{Scenario, is_named, has_scenario}
+use Rattle.wi_scenario_list.specs.Scenarios.{Scenario, is_named, scenario_of, has_scenario, max_scenarios, IsChain}
 use Rattle.wi_scenario_list.specs.Inner.Chains.{chain}
 
 -- whether a scenario is the other, or is based on the other at any remove
@@ -31,3 +31,10 @@ would_loop xs name (Some other) = rests_on xs other name
 -- a scenario with this base scenario, or with none
 abbrev pub based_on : Scenario → Option (List ℕ) → Scenario
 based_on x other = record x { base = other }
+
+-- There are no more scenarios than may be. Each has a chain, of no more than may be, so that none is based on itself, at any remove; and
+-- none is based on one that isn't there.
+pub record HasChains (xs : List Scenario) : Type 0 where
+  pub few : length xs ≤ max_scenarios
+  pub chains : (name : Option (List ℕ)) → (ys : List Scenario) × IsChain xs (scenario_of xs name) ys × (length ys ≤ max_scenarios)
+  pub whole : list_any (λ x. lacks xs x.base) xs ≡ false
