@@ -1,15 +1,14 @@
 -- What `drop` answers, and that no session is shown anything else after it.
-use Rattle.std.proofs.Common.{◌≡◌, ℕ, zero, suc, ◌<◌, Bool, true, false, not, ◌||◌, List, [], ◌∷◌, length, Option, Some, None, Ok, Err, if◌then◌else◌, refl, sym, ap, ◌∙◌, subst}
-use Rattle.std.specs.List.{find, list_any, slice_index_or}
-use Rattle.std.specs.Str.{bytes_eq}
-use Rattle.std.proofs.lemmas.Slice.Eq.{bytes_eq-Decides}
+use Rattle.std.proofs.Common.{◌≡◌, ℕ, zero, suc, ◌<◌, Bool, true, false, not, List, [], ◌∷◌, length, Option, Some, None, Ok, Err, if◌then◌else◌, refl, sym, ap, ◌∙◌}
+use Rattle.std.specs.List.{list_any, slice_index_or}
 use Rattle.std.proofs.lemmas.List.Folds.{list_any_at}
 use Rattle.wi_values.specs.declared.replacement.Replacement.{Replacement}
 use Rattle.wi_sheet.specs.Shown.{shown}
 use Rattle.wi_store.specs.Store.{Stored}
-use Rattle.wi_scenario_list.specs.Scenarios.{Scenario, is_named, scenario_of, has_scenario, layered, max_scenarios, without_scenario}
+use Rattle.wi_scenario_list.specs.Scenarios.{Scenario, scenario_of, has_scenario, layered, max_scenarios, without_scenario}
 use Rattle.wi_scenario_list.specs.Inner.Chains.{effective, chain, chain_within}
 use Rattle.wi_scenario_list.specs.Bases.{is_name_of, is_base}
+use Rattle.wi_scenario_list.proofs.Named.{scenario_without, not_based}
 use Rattle.wi_sessions.specs.Sessions.{Session, new_session}
 use Rattle.wi_scenarios.specs.declared.refusal.Refusal.TheVariants.{NoScenario, InUse}
 use Rattle.wi_scenarios.specs.declared.desk.Desk.{Desk}
@@ -48,64 +47,10 @@ dropped_answer s name h k = ap (λ b. drop_by s name b (is_in_use s name)) h ∙
 
 -- ---- what the others put in
 
--- neither of two
-pub neither : (a b : Bool) → (a || b) ≡ false → (a ≡ false) × (b ≡ false)
-neither true b h = absurd (let k = h in cc)
-neither false b h = (refl, h)
-
--- one name for two scenarios
-same_name : (name other : List ℕ) (x : Scenario) → is_named name x ≡ true → is_named other x ≡ true → bytes_eq name other ≡ true
-same_name name other x h k =
-    let e : name ≡ x.name = (bytes_eq-Decides name x.name).0 h in
-    let f : other ≡ x.name = (bytes_eq-Decides other x.name).0 k in
-    (bytes_eq-Decides name other).1 (e ∙ sym f)
-
--- another scenario is found all the same
-find_other : (xs : List Scenario) (name other : List ℕ) → bytes_eq name other ≡ false → find (is_named other) (without_scenario xs name) ≡ find (is_named other) xs
-find_other [] name other h = refl
-find_other (x ∷ xs) name other h = by (is_named name x) (is_named other x) refl refl (find_other xs name other h)
-  where
-    by : (b c : Bool) → is_named name x ≡ b → is_named other x ≡ c → find (is_named other) (without_scenario xs name) ≡ find (is_named other) xs
-        → find (is_named other) (without_scenario (x ∷ xs) name) ≡ find (is_named other) (x ∷ xs)
-    by true true e f rest = absurd (let k = sym (same_name name other x e f) ∙ h in cc)
-    by true false e f rest = rw e (rw f rest)
-    by false true e f rest = rw e (rw f refl)
-    by false false e f rest = rw e (rw f rest)
-
-of_other : (xs : List Scenario) (name : List ℕ) (o : Option (List ℕ)) → is_name_of name o ≡ false → scenario_of (without_scenario xs name) o ≡ scenario_of xs o
-of_other xs name None h = refl
-of_other xs name (Some other) h = find_other xs name other h
-
--- the first is found, or what the others have
-find_at : (p : Scenario → Bool) (y : Scenario) (ys : List Scenario) → p y ≡ true → find p (y ∷ ys) ≡ Some y
-find_at p y ys f = rw f refl
-
-find_past : (p : Scenario → Bool) (y : Scenario) (ys : List Scenario) → p y ≡ false → find p (y ∷ ys) ≡ find p ys
-find_past p y ys f = rw f refl
-
-some_is : (x y : Scenario) → Some x ≡ Some y → x ≡ y
-some_is x y e = cc
-
--- what is found isn't based on a scenario that is nobody's base
-base_of_found : (xs : List Scenario) (name other : List ℕ) (x : Scenario) → is_base xs name ≡ false → find (is_named other) xs ≡ Some x → is_name_of name x.base ≡ false
-base_of_found [] name other x h e = absurd (let k = e in cc)
-base_of_found (y ∷ ys) name other x h e = by (is_named other y) refl (base_of_found ys name other x)
-  where
-    apart : (is_name_of name y.base ≡ false) × (is_base ys name ≡ false)
-    apart = neither (is_name_of name y.base) (is_base ys name) h
-
-    by : (b : Bool) → is_named other y ≡ b → (is_base ys name ≡ false → find (is_named other) ys ≡ Some x → is_name_of name x.base ≡ false) → is_name_of name x.base ≡ false
-    by true f rest = subst (λ (z : Scenario). is_name_of name z.base ≡ false) (some_is y x (sym (find_at (is_named other) y ys f) ∙ e)) apart.0
-    by false f rest = rest apart.1 (sym (find_past (is_named other) y ys f) ∙ e)
-
-base_of : (xs : List Scenario) (name : List ℕ) (o : Option (List ℕ)) (x : Scenario) → is_base xs name ≡ false → scenario_of xs o ≡ Some x → is_name_of name x.base ≡ false
-base_of xs name None x h e = absurd (let k = e in cc)
-base_of xs name (Some other) x h e = base_of_found xs name other x h e
-
 chain_stays : (k : ℕ) (xs : List Scenario) (name : List ℕ) (o : Option (List ℕ)) → is_base xs name ≡ false → is_name_of name o ≡ false
     → chain_within k (without_scenario xs name) (scenario_of (without_scenario xs name) o) ≡ chain_within k xs (scenario_of xs o)
 chain_stays zero xs name o h n = refl
-chain_stays (suc k) xs name o h n = ap (chain_within (suc k) (without_scenario xs name)) (of_other xs name o n) ∙ by (scenario_of xs o) refl (λ x e. chain_stays k xs name x.base h (base_of xs name o x h e))
+chain_stays (suc k) xs name o h n = ap (chain_within (suc k) (without_scenario xs name)) (scenario_without xs name o n) ∙ by (scenario_of xs o) refl (λ x e. chain_stays k xs name x.base h (not_based xs name o x h e))
   where
     by : (found : Option Scenario) → scenario_of xs o ≡ found
         → ((x : Scenario) → scenario_of xs o ≡ Some x → chain_within k (without_scenario xs name) (scenario_of (without_scenario xs name) x.base) ≡ chain_within k xs (scenario_of xs x.base))

@@ -1,6 +1,6 @@
 -- What each command leaves.
 use Rattle.std.specs.Prelude.{nat_le, nat_lt, option_map}
-use Rattle.std.proofs.Common.{◌≡◌, ◌≢◌, ◌∙◌, ℕ, ◌==◌, inl, inr, Bool, true, false, not, ◌&&◌, ◌||◌, cond, List, [], ◌∷◌, length, Option, Some, None, is_some, Result, Ok, Err, refl, sym, ap, subst}
+use Rattle.std.proofs.Common.{◌≡◌, ◌∙◌, ℕ, ◌==◌, inl, inr, Bool, true, false, not, ◌&&◌, ◌||◌, cond, List, [], ◌∷◌, length, Option, Some, None, is_some, Result, Ok, Err, refl, sym, subst}
 use Rattle.std.specs.List.{list_any, find}
 use Rattle.std.specs.Option.{option_or}
 use Rattle.std.specs.Str.{bytes_eq}
@@ -11,9 +11,10 @@ use Rattle.wi_store.specs.Store.{Stored, applied}
 use Rattle.wi_store.specs.declared.fault.StoreFault.{StoreFault}
 use Rattle.wi_import.specs.Fields.{areas_at}
 use Rattle.wi_scenario_list.specs.Scenarios as list
-use Rattle.wi_scenario_list.specs.Scenarios.{is_named, has_scenario, scenario_of, scenario_for, with_scenario, without_scenario, with_own, without_own, is_full}
+use Rattle.wi_scenario_list.specs.Scenarios.{is_named, has_scenario, scenario_for, with_scenario, without_scenario, with_own, without_own, is_full}
 use Rattle.wi_scenario_list.specs.Inner.Parts.{scenario_or_new}
 use Rattle.wi_scenario_list.specs.Bases.{lacks, would_loop, based_on}
+use Rattle.wi_scenario_list.proofs.Named.{found_with, found_without}
 use Rattle.wi_sessions.specs.Sessions.{max_sessions, has_session, with_session, index_of, using_scenario, told}
 use Rattle.wi_reports.specs.Table.{table_of}
 use Rattle.wi_reports.specs.Inner.Shape.{is_column, has_row, entries}
@@ -23,7 +24,7 @@ use Rattle.wi_reports.specs.Changes.{change_records}
 use Rattle.wi_reports.specs.Contents.{content_record}
 use Rattle.wi_scenario_list.specs.Inner.Chains.{effective}
 use Rattle.wi_scenarios.specs.declared.refusal.Refusal.{Refusal}
-use Rattle.wi_scenarios.specs.declared.refusal.Refusal.TheVariants.{Memory, BadCommand, TooLarge, NoScenario, InUse, TooMany, BadField, LeavesSheet, Stale, TooLong}
+use Rattle.wi_scenarios.specs.declared.refusal.Refusal.TheVariants.{BadCommand, TooLarge, NoScenario, InUse, TooMany, BadField, LeavesSheet, Stale, TooLong}
 use Rattle.wi_scenarios.specs.declared.refusal.Refusal.TheVariants as refusal
 use Rattle.wi_scenarios.specs.State.{State, max_area}
 use Rattle.wi_scenarios.specs.Views.{current_session, with_current, current_replacements}
@@ -79,36 +80,6 @@ edited named s None None None (Ok stored) a h =
     subst (EditOutcome named s) h (record { scenarios = refl; sessions = refl; current = refl; log = refl })
 
 -- ---- scenarios
-
--- where the first that has a name is looked for, others that don't have it make no difference
-other_name : (other name : List ℕ) → other ≢ name → bytes_eq other name ≡ false
-other_name other name n = by (bytes_eq other name) refl
-  where
-    by : (b : Bool) → bytes_eq other name ≡ b → bytes_eq other name ≡ false
-    by true h = absurd (n ((bytes_eq-Decides other name).0 h))
-    by false h = h
-
-found_with : (other : List ℕ) (x : list.Scenario) (ys : List list.Scenario) → other ≢ x.name → find (is_named other) (with_scenario ys x) ≡ find (is_named other) ys
-found_with other x [] n = ap (λ (b : Bool). cond b (Some x) None) (other_name other x.name n)
-found_with other x (y ∷ ys) n = by (bytes_eq x.name y.name) refl (found_with other x ys n)
-  where
-    by : (b : Bool) → bytes_eq x.name y.name ≡ b → find (is_named other) (with_scenario ys x) ≡ find (is_named other) ys
-        → find (is_named other) (cond b (x ∷ ys) (y ∷ with_scenario ys x)) ≡ find (is_named other) (y ∷ ys)
-    by true h rest =
-        ap (λ (c : Bool). cond c (Some x) (find (is_named other) ys)) (other_name other x.name n)
-        ∙ sym (ap (λ (c : Bool). cond c (Some y) (find (is_named other) ys)) (ap (bytes_eq other) (sym ((bytes_eq-Decides x.name y.name).0 h)) ∙ other_name other x.name n))
-    by false h rest = ap (cond (is_named other y) (Some y)) rest
-
-found_without : (other name : List ℕ) (ys : List list.Scenario) → other ≢ name → find (is_named other) (without_scenario ys name) ≡ find (is_named other) ys
-found_without other name [] n = refl
-found_without other name (y ∷ ys) n = by (bytes_eq name y.name) refl (found_without other name ys n)
-  where
-    by : (b : Bool) → bytes_eq name y.name ≡ b → find (is_named other) (without_scenario ys name) ≡ find (is_named other) ys
-        → find (is_named other) (cond (not b) (y ∷ without_scenario ys name) (without_scenario ys name)) ≡ find (is_named other) (y ∷ ys)
-    by true h rest =
-        rest
-        ∙ sym (ap (λ (c : Bool). cond c (Some y) (find (is_named other) ys)) (ap (bytes_eq other) (sym ((bytes_eq-Decides name y.name).0 h)) ∙ other_name other name n))
-    by false h rest = ap (cond (is_named other y) (Some y)) rest
 
 -- the scenario that is found by a name, or made for it, has that name
 name_found : (name : List ℕ) (ys : List list.Scenario) → (scenario_or_new name (find (is_named name) ys)).name ≡ name
