@@ -1,13 +1,15 @@
 -- Commands one after another, each with its answer, and what holds of them, whoever gives which.
-use Rattle.std.specs.Prelude.{◌≡◌, ◌≢◌, ◌↔◌, ◌⊎◌, ◌==◌, ◌&&◌, ℕ, ◌<◌, Bool, true, false, if◌then◌else◌, List, [], ◌∷◌, ◌++◌, length, map, Ok, Err, is_ok}
+use Rattle.std.specs.Prelude.{◌≡◌, ◌≢◌, ◌↔◌, ◌⊎◌, ◌==◌, ◌&&◌, ℕ, ◌<◌, Bool, true, false, if◌then◌else◌, List, [], ◌∷◌, ◌++◌, length, map, Option, Ok, Err, is_ok}
 use Rattle.std.specs.List.{flat_map}
 use Rattle.wi_values.specs.declared.value.Value.{Value}
 use Rattle.wi_csv.specs.Records.{recs}
 use Rattle.wi_edit_log.specs.EditLog.{Entry}
+use Rattle.wi_scenario_list.specs.Scenarios.{IsChain, scenario_of}
+use Rattle.wi_scenario_list.specs.Bases.{HasChains}
 use Rattle.wi_sessions.specs.Pictures.{sheet_size, value_in}
 use Rattle.wi_scenarios.specs.declared.refusal.Refusal.TheVariants as refusal
 use Rattle.wi_scenarios.specs.State.{State}
-use Rattle.wi_scenarios.specs.Views.{session_at, shown_to}
+use Rattle.wi_scenarios.specs.Views.{session_at, shown_to, chain_of}
 use Rattle.wi_scenarios.specs.Changes.{change_list}
 use Rattle.wi_scenarios.specs.Laws.{left_by, IsCoherent, with_lists, change_fields, unseen, IsFirstNewer, is_refused_before}
 use Rattle.wi_cli.specs.Inner.Reply.{reply}
@@ -51,6 +53,16 @@ StaysCoherent s es = IsCoherent s → MayFollow s es → IsCoherent (state_after
 -- the i-th session is as it was, name, scenario, picture and what it has seen of the log, if it isn't the current one
 abbrev pub KeepsApart : State → Event → ℕ → Type 0
 KeepsApart s e i = i < length s.sessions → i ≢ s.current → session_at (left_by s e.answer) i ≡ session_at s i
+
+-- ---- chains
+
+-- where the scenarios have chains, those at the end have chains
+abbrev pub KeepsChains : State → List Event → Type 0
+KeepsChains s es = HasChains s.scenarios → MayFollow s es → HasChains (state_after s es).scenarios
+
+-- what `chain_of` gives is the chain
+abbrev pub GivesChain : State → Option Bytes → Type 0
+GivesChain s name = HasChains s.scenarios → IsChain s.scenarios (scenario_of s.scenarios name) (chain_of s.scenarios name).0
 
 -- ---- change lists
 

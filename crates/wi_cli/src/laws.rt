@@ -3,6 +3,7 @@
 
 ghost use Rattle.std.specs.Prelude.{ℕ, Bool, false, List, Option, Result, Ok};
 ghost use Rattle.wi_store.specs.Store.{Stored};
+ghost use Rattle.wi_scenario_list.specs.Bases.{HasChains};
 ghost use Rattle.wi_scenarios.specs.State.{State, state_over};
 ghost use Rattle.wi_scenarios.specs.Laws.{IsCoherent};
 ghost use Rattle.wi_cli.specs.declared.fault.RunFault.{RunFault};
@@ -12,7 +13,7 @@ ghost use Rattle.wi_cli.specs.Command.{Command, Changes};
 ghost use Rattle.wi_cli.specs.Step.{IsStep};
 ghost use Rattle.wi_cli.specs.Laws.{before, HasCommands, HasOneAnswer, SameAddr, SameCommands, SameLack, SameOutcome, SameRect, SameReply, SameRuns, SameStep, Splits};
 ghost use Rattle.wi_cli.specs.Outcome.{Writes};
-ghost use Rattle.wi_cli.specs.Events.{AreEvents, Event, ForcedIsNotStale, KeepsApart, ListsAddUp, LogGrows, MayFollow, MayHappen, RecordsTellList, StaleIsNewer, StaysCoherent};
+ghost use Rattle.wi_cli.specs.Events.{AreEvents, Event, ForcedIsNotStale, GivesChain, KeepsApart, KeepsChains, ListsAddUp, LogGrows, MayFollow, MayHappen, RecordsTellList, StaleIsNewer, StaysCoherent};
 
 /// A command is answered as its step says.
 #[tactic(auto, using(crate::proofs::Ties::Steps::same_step))]
@@ -91,6 +92,14 @@ pub fn runs_have_events()
 pub fn runs_stay_coherent()
     ensures new { (stored : Stored) → IsCoherent (state_over stored) }
     ensures stays { (s : State) (es : List Event) → StaysCoherent s es }
+{}
+
+/// In a workbook that was just made, and so after each run from there, there are no more scenarios than may be, and each has a chain: none is based
+/// on itself, at any remove, or on one that isn't there. So what `chain_of` gives, by which commands show what scenarios put in, is the chain.
+pub fn scenarios_have_chains()
+    ensures new { (stored : Stored) → HasChains (state_over stored).scenarios }
+    ensures kept { (s : State) (es : List Event) → KeepsChains s es }
+    ensures is_chain { (s : State) (name : Option Bytes) → GivesChain s name }
 {}
 
 /// In every interleaving, the change lists that a session is told, put into the picture that it had before, make the one that it has

@@ -179,7 +179,7 @@ records_tell s t records h =
 
 -- ---- the log
 
-unlike : (done : State × Bytes) (e : Refusal) → ◌≡◌ {A = Answer} (Ok done) (Err e) → ⊥
+pub unlike : (done : State × Bytes) (e : Refusal) → ◌≡◌ {A = Answer} (Ok done) (Err e) → ⊥
 unlike done e h = cc
 
 module _ (s : State) where

@@ -68,7 +68,7 @@ module _ (s : State) (name : Bytes) where
   drop_test InUse = is_in_use s name
   drop_test x = false
 
-  drop_yes : (x : Cause) → drop_test x ≡ true → Holds s x (Drop name)
+  pub drop_yes : (x : Cause) → drop_test x ≡ true → Holds s x (Drop name)
   drop_yes NoScenario e = e
   drop_yes InUse e = by (either (list_any (λ x. is_name_of name x.scenario) s.sessions) (is_base s.scenarios name) e)
     where
@@ -208,7 +208,7 @@ missing_base : (s : State) (name : Bytes) (other : Option Bytes) → list_any (i
 missing_base s name None = refl
 missing_base s name (Some other) = ap (λ (b : Bool). not (has_scenario s.scenarios name) || b) (or_false (not (has_scenario s.scenarios other)))
 
-base_yes : (s : State) (name : Bytes) (other : Option Bytes) (x : Cause) → base_test s name other x ≡ true → Holds s x (Base name other)
+pub base_yes : (s : State) (name : Bytes) (other : Option Bytes) (x : Cause) → base_test s name other x ≡ true → Holds s x (Base name other)
 base_yes s name other NoScenario e = missing_base s name other ∙ e
 base_yes s name None Loop e = absurd (clash false refl e)
 base_yes s name (Some other) Loop e = in_chain name (chain s.scenarios (Some other)) e

@@ -1,0 +1,86 @@
+-- That each scenario has a chain after every run.
+use Rattle.std.proofs.Common.{◌||◌, Bool, false, not, inl, inr, List, [], ◌∷◌, Option, Ok, Err, refl, sym, ap, subst}
+use Rattle.std.specs.List.{list_any}
+use Rattle.std.proofs.lemmas.Bool.{false_from_ne_true, not-false, or_parts}
+use Rattle.wi_store.specs.Store.{Stored}
+use Rattle.wi_scenario_list.specs.Scenarios as list
+use Rattle.wi_scenario_list.specs.Scenarios.{has_scenario, scenario_for, with_own, without_own, is_full}
+use Rattle.wi_scenario_list.specs.Bases.{HasChains, is_name_of, is_base, lacks, would_loop}
+use Rattle.wi_scenario_list.proofs.ChainsKept.{no_scenarios, is_chain, has_room, own_kept, based_kept, dropped_kept}
+use Rattle.wi_scenarios.specs.declared.refusal.Refusal.TheVariants as refusal
+use Rattle.wi_scenarios.specs.State.{State, state_over}
+use Rattle.wi_scenarios.specs.Drop.{is_in_use}
+use Rattle.wi_scenarios.specs.Laws.{left_by}
+use Rattle.wi_cli.specs.Operands.{Cell, address}
+use Rattle.wi_cli.specs.Lines.{Bytes}
+use Rattle.wi_cli.specs.Command.{Command, Set, Clear, Fill, Csv, Scenario, Drop, Base, Use, As, Show, Export, Compare, Table, Formula, Changes, Unknown, Unreadable}
+use Rattle.wi_cli.specs.Causes.{Cause, NoScenario, InUse, TooMany, Loop, Holds}
+use Rattle.wi_cli.specs.Does.{Does}
+use Rattle.wi_cli.specs.Step.{Answer}
+use Rattle.wi_cli.specs.Events.{Event, MayHappen, KeepsChains, GivesChain}
+use Rattle.wi_cli.proofs.Ties.ScenarioSteps.{drop_yes, base_yes}
+use Rattle.wi_cli.proofs.Ties.Events.{unlike}
+
+module _ (s : State) where
+  abbrev scenarios_in : State × Bytes → List list.Scenario
+  scenarios_in done = done.0.scenarios
+
+  -- what is left unchanged, or has become these
+  abbrev AreKept : List list.Scenario → Type 0
+  AreKept xs = HasChains s.scenarios → HasChains xs
+
+  own_less : (name : Bytes) (at : Cell) → ((x : Cause) → Holds s x (Scenario name at []) → ⊥)
+      → AreKept (list.with_scenario s.scenarios (without_own (scenario_for s.scenarios name) (address at)))
+  own_less name at free k =
+      own_kept s.scenarios name (without_own (scenario_for s.scenarios name) (address at)) k refl refl (λ missing. absurd (free NoScenario (ap (λ (b : Bool). not b || false) missing)))
+
+  based_anew : (name : Bytes) (other : Option Bytes) → ((x : Cause) → Holds s x (Base name other) → ⊥)
+      → AreKept (list.with_scenario s.scenarios (record (scenario_for s.scenarios name) { base = other }))
+  based_anew name other free k =
+      let there = or_parts (not (has_scenario s.scenarios name)) (lacks s.scenarios other)
+      (false_from_ne_true (not (has_scenario s.scenarios name) || lacks s.scenarios other) (λ e. free NoScenario (base_yes s name other NoScenario e))) in
+      based_kept s.scenarios name other k (not-false (has_scenario s.scenarios name) there.0) there.1
+      (false_from_ne_true (would_loop s.scenarios name other) (λ e. free Loop (base_yes s name other Loop e)))
+
+  dropped : (name : Bytes) → ((x : Cause) → Holds s x (Drop name) → ⊥) → AreKept (list.without_scenario s.scenarios name)
+  dropped name free k =
+      dropped_kept s.scenarios name k
+      (or_parts (list_any (λ x. is_name_of name x.scenario) s.sessions) (is_base s.scenarios name) (false_from_ne_true (is_in_use s name) (λ e. free InUse (drop_yes s name InUse e)))).1
+
+  kept : (c : Command) (done : State × Bytes) → ((x : Cause) → Holds s x c → ⊥) → Does s c done → AreKept (scenarios_in done)
+  kept (Set force at text) done free h k = subst HasChains (sym (ap scenarios_in h.2)) k
+  kept (Clear force rect) done free h k = subst HasChains (sym (ap scenarios_in h.2)) k
+  kept (Fill force at rect) done free h k = subst HasChains (sym (ap scenarios_in h.2)) k
+  kept (Csv force at n lines) done free h k = subst HasChains (sym (ap scenarios_in h.2)) k
+  kept (Scenario name at []) done free h k = subst HasChains (sym (ap scenarios_in h)) (own_less name at free k)
+  kept (Scenario name at (b ∷ bs)) done free h k =
+      subst HasChains (sym (ap scenarios_in h.2))
+      (own_kept s.scenarios name (with_own (scenario_for s.scenarios name) (record { at = address at; value = h.0 } ∷ [])) k refl refl
+      (has_room s.scenarios name (address at) (false_from_ne_true (is_full s.scenarios name (address at)) (λ e. free TooMany e))))
+  kept (Drop name) done free h k = subst HasChains (sym (ap scenarios_in h)) (dropped name free k)
+  kept (Base name other) done free h k = subst HasChains (sym (ap scenarios_in h)) (based_anew name other free k)
+  kept (Use name) done free h k = subst HasChains (sym (ap scenarios_in h)) k
+  kept (As name) done free h k = subst HasChains (sym (ap scenarios_in h)) k
+  kept (Show rect) done free h k = subst HasChains (sym (ap scenarios_in h)) k
+  kept (Export rect) done free h k = subst HasChains (sym (ap scenarios_in h)) k
+  kept (Compare p q rect) done free h k = subst HasChains (sym (ap scenarios_in h)) k
+  kept (Table f r xs second) done free h k = subst HasChains (sym (ap scenarios_in h)) k
+  kept (Formula at) done free h k = subst HasChains (sym (ap scenarios_in h)) k
+  kept Changes done free h k = subst HasChains (sym (ap scenarios_in h)) k
+  kept Unknown done free h k = absurd h.1
+  kept Unreadable done free h k = absurd h.1
+
+  kept_by : (c : Command) (a : Answer) → MayHappen s (record { command = c; answer = a }) → AreKept (left_by s a).scenarios
+  kept_by c (Err e) h k = k
+  kept_by c (Ok done) (inl h) k = kept c done h.0 h.1 k
+  kept_by c (Ok done) (inr h) k = absurd (unlike done refusal.Memory h)
+
+pub new_has_chains : (stored : Stored) → HasChains (state_over stored).scenarios
+new_has_chains stored = no_scenarios
+
+pub keeps_chains : (s : State) (es : List Event) → KeepsChains s es
+keeps_chains s [] k run = k
+keeps_chains s (e ∷ es) k run = keeps_chains (left_by s e.answer) es (kept_by s e.command e.answer run.0 k) run.1
+
+pub gives_chain : (s : State) (name : Option Bytes) → GivesChain s name
+gives_chain s name k = is_chain s.scenarios name k
