@@ -10,7 +10,7 @@ use Rattle.wi_edit_log.proofs.edit_log.EditLog.add.Goals as goal
 
 pub invariant_of-self : goal.invariant_of-self
 invariant_of-self c =
-    subst (λ (es : List Edit). IsKept es c.self.inside.noted.known c.self.inside.noted.notes.entries) (sym c.in_err-push.ensures.items) c.self.invariant
+    subst (λ (es : List Edit). IsKept es c.self.inside.noted.known c.self.inside.noted.notes.entries) (sym c.in_err-push_edit.ensures.err) c.self.invariant
 
 pub invariant_of-self-2 : goal.invariant_of-self-2
 invariant_of-self-2 c =
@@ -21,15 +21,15 @@ invariant_of-self-2 c =
       noted = noted_before_more old c.self.inside.noted.known c.self.inside.noted.notes.entries edit c.self.invariant.noted;
     })
 
-pub returns-in_err-push-clause-ok : goal.returns-in_err-push-clause-ok
-returns-in_err-push-clause-ok c =
+pub returns-in_err-push_edit-clause-ok : goal.returns-in_err-push_edit-clause-ok
+returns-in_err-push_edit-clause-ok c =
     let p = err_from_is_err_and c.from_residual.result c.from_residual.ensures.1 in
     rw p.1 tt
 
-pub returns-in_err-push-clause-err : goal.returns-in_err-push-clause-err
-returns-in_err-push-clause-err c =
+pub returns-in_err-push_edit-clause-err : goal.returns-in_err-push_edit-clause-err
+returns-in_err-push_edit-clause-err c =
     let p = err_from_is_err_and c.from_residual.result c.from_residual.ensures.1 in
-    rw p.1 (ap entries_in c.in_err-push.ensures.items ∙ c.self.view_is)
+    rw p.1 (ap entries_in c.in_err-push_edit.ensures.err ∙ c.self.view_is)
 
 pub returns-clause-ok : goal.returns-clause-ok
 returns-clause-ok c = grind (arith, common_steps)
