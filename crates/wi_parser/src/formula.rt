@@ -1,6 +1,6 @@
 //! A formula.
 
-ghost use Rattle.std.specs.Prelude.{◌≡◌, ◌≤◌, ◌++◌, map, length, Ok, IfOk, OnOk, OnErr, string_bytes};
+ghost use Rattle.std.specs.Prelude.{◌≡◌, ◌≤◌, ◌++◌, ◌∷◌, [], map, length, Ok, IfOk, OnOk, OnErr, string_bytes};
 ghost use Rattle.std.specs.List.{flat_map};
 ghost use Rattle.wi_parser.specs.View.{tree_of, all_of, pair_of};
 ghost use Rattle.wi_parser.specs.Leaves.{all_leaves};
@@ -170,11 +170,11 @@ fn push_leaves(
         Expr::Number(_) => Ok(()),
         Expr::Text(_) => Ok(()),
         Expr::Cell(reference) => {
-            rectangles.push(cell_area(reference.at))?;
+            push_area(rectangles, cell_area(reference.at))?;
             Ok(())
         }
         Expr::Rectangle(corners) => {
-            rectangles.push(corners.area())?;
+            push_area(rectangles, corners.area())?;
             Ok(())
         }
         Expr::Parenthesized(inner) => push_leaves(inner, inputs, rectangles),
@@ -185,7 +185,7 @@ fn push_leaves(
             push_leaves(right, inputs, rectangles)
         }
         Expr::WhatIf(formula_cell, pairs) => {
-            rectangles.push(cell_area(formula_cell.at))?;
+            push_area(rectangles, cell_area(formula_cell.at))?;
             push_pairs(pairs, inputs, rectangles)
         }
         Expr::Call(_, parameters) => push_all_leaves(parameters, inputs, rectangles),
@@ -221,6 +221,17 @@ fn push_pairs(
         inputs.push(pair.input.at)?;
         rectangles.push(cell_area(pair.replacement.at))?;
     }
+    Ok(())
+}
+
+// Appends a rectangle. The first takes room for itself alone, as most formulas read one.
+fn push_area(rectangles: &mut Vec<Rect>, area: Rect) -> Result<(), AllocError>
+    ensures { IfOk result (λ _. rectangles.new.items ≡ rectangles.old.items ++ area ∷ []) }
+{
+    if rectangles.is_empty() {
+        rectangles.reserve_exact(1)?;
+    }
+    rectangles.push(area)?;
     Ok(())
 }
 

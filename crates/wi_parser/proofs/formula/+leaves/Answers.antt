@@ -22,21 +22,21 @@ pub push_leaves-returns-in-Text-clause-rectangles : goal.push_leaves-returns-in-
 push_leaves-returns-in-Text-clause-rectangles t c =
     none_appended leaf_rectangles c.args.rectangles.now.items (leaves (tree_of c.args.expr.now)) (ap (flat_map leaf_rectangles) (text_leaves _ _ c.in-Text.is))
 
-pub push_leaves-returns-in_ok-push-in-Cell-clause-inputs : goal.push_leaves-returns-in_ok-push-in-Cell-clause-inputs
-push_leaves-returns-in_ok-push-in-Cell-clause-inputs t c =
+pub push_leaves-returns-in_ok-push_area-in-Cell-clause-inputs : goal.push_leaves-returns-in_ok-push_area-in-Cell-clause-inputs
+push_leaves-returns-in_ok-push_area-in-Cell-clause-inputs t c =
     none_appended leaf_inputs c.args.inputs.now.items (leaves (tree_of c.args.expr.now)) (ap (flat_map leaf_inputs) (cell_leaves _ _ c.in-Cell.is))
 
-pub push_leaves-returns-in_ok-push-in-Cell-clause-rectangles : goal.push_leaves-returns-in_ok-push-in-Cell-clause-rectangles
-push_leaves-returns-in_ok-push-in-Cell-clause-rectangles t c =
-    one_appended leaf_rectangles _ _ _ _ (ap (flat_map leaf_rectangles) (cell_leaves _ _ c.in-Cell.is) ∙ ap (λ a. a ∷ []) (sym c.cell_area.ensures)) c.in_ok-push-in-Cell.ensures.items
+pub push_leaves-returns-in_ok-push_area-in-Cell-clause-rectangles : goal.push_leaves-returns-in_ok-push_area-in-Cell-clause-rectangles
+push_leaves-returns-in_ok-push_area-in-Cell-clause-rectangles t c =
+    one_appended leaf_rectangles _ _ _ _ (ap (flat_map leaf_rectangles) (cell_leaves _ _ c.in-Cell.is) ∙ ap (λ a. a ∷ []) (sym c.cell_area.ensures)) c.in_ok-push_area-in-Cell.ensures
 
-pub push_leaves-returns-in_ok-push-in-Rectangle-clause-inputs : goal.push_leaves-returns-in_ok-push-in-Rectangle-clause-inputs
-push_leaves-returns-in_ok-push-in-Rectangle-clause-inputs t c =
+pub push_leaves-returns-in_ok-push_area-in-Rectangle-clause-inputs : goal.push_leaves-returns-in_ok-push_area-in-Rectangle-clause-inputs
+push_leaves-returns-in_ok-push_area-in-Rectangle-clause-inputs t c =
     none_appended leaf_inputs c.args.inputs.now.items (leaves (tree_of c.args.expr.now)) (ap (flat_map leaf_inputs) (rectangle_leaves _ _ c.in-Rectangle.is))
 
-pub push_leaves-returns-in_ok-push-in-Rectangle-clause-rectangles : goal.push_leaves-returns-in_ok-push-in-Rectangle-clause-rectangles
-push_leaves-returns-in_ok-push-in-Rectangle-clause-rectangles t c =
-    one_appended leaf_rectangles _ _ _ _ (ap (flat_map leaf_rectangles) (rectangle_leaves _ _ c.in-Rectangle.is) ∙ ap (λ a. a ∷ []) (sym c.area.ensures)) c.in_ok-push-in-Rectangle.ensures.items
+pub push_leaves-returns-in_ok-push_area-in-Rectangle-clause-rectangles : goal.push_leaves-returns-in_ok-push_area-in-Rectangle-clause-rectangles
+push_leaves-returns-in_ok-push_area-in-Rectangle-clause-rectangles t c =
+    one_appended leaf_rectangles _ _ _ _ (ap (flat_map leaf_rectangles) (rectangle_leaves _ _ c.in-Rectangle.is) ∙ ap (λ a. a ∷ []) (sym c.area.ensures)) c.in_ok-push_area-in-Rectangle.ensures
 
 pub push_leaves-returns-in-Parenthesized-clause-inputs : goal.push_leaves-returns-in-Parenthesized-clause-inputs
 push_leaves-returns-in-Parenthesized-clause-inputs t c =
@@ -74,14 +74,14 @@ push_leaves-returns-in_ok-push_leaves-in-Binary-clause-rectangles t c =
     (both_appended leaf_rectangles c.push_leaves-in-Binary-2.result c.args.rectangles.now.items c.push_leaves-in-Binary.new.rectangles.items c.push_leaves-in-Binary-2.new.rectangles.items
     (leaves (tree_of c.deref-in-Binary.result.now)) (leaves (tree_of c.deref-in-Binary-2.result.now)) c.in_ok-push_leaves-in-Binary.ensures.rectangles c.push_leaves-in-Binary-2.ensures.rectangles)
 
-pub push_leaves-returns-in_ok-push-in-WhatIf-clause-inputs : goal.push_leaves-returns-in_ok-push-in-WhatIf-clause-inputs
-push_leaves-returns-in_ok-push-in-WhatIf-clause-inputs t c =
+pub push_leaves-returns-in_ok-push_area-in-WhatIf-clause-inputs : goal.push_leaves-returns-in_ok-push_area-in-WhatIf-clause-inputs
+push_leaves-returns-in_ok-push_area-in-WhatIf-clause-inputs t c =
     what_if_inputs _ _ _ _ _ _ (what_if_leaves _ _ _ _ c.in-WhatIf.is c.deref-in-WhatIf.ensures.value) c.push_pairs.ensures.inputs
 
-pub push_leaves-returns-in_ok-push-in-WhatIf-clause-rectangles : goal.push_leaves-returns-in_ok-push-in-WhatIf-clause-rectangles
-push_leaves-returns-in_ok-push-in-WhatIf-clause-rectangles t c =
+pub push_leaves-returns-in_ok-push_area-in-WhatIf-clause-rectangles : goal.push_leaves-returns-in_ok-push_area-in-WhatIf-clause-rectangles
+push_leaves-returns-in_ok-push_area-in-WhatIf-clause-rectangles t c =
     what_if_rectangles _ _ _ _ _ _ _ (what_if_leaves _ _ _ _ c.in-WhatIf.is c.deref-in-WhatIf.ensures.value)
-    (c.in_ok-push-in-WhatIf.ensures.items ∙ ap (λ a. c.args.rectangles.now.items ++ a ∷ []) c.cell_area-in-WhatIf.ensures) c.push_pairs.ensures.rectangles
+    (c.in_ok-push_area-in-WhatIf.ensures ∙ ap (λ a. c.args.rectangles.now.items ++ a ∷ []) c.cell_area-in-WhatIf.ensures) c.push_pairs.ensures.rectangles
 
 pub push_leaves-returns-in-Call-clause-inputs : goal.push_leaves-returns-in-Call-clause-inputs
 push_leaves-returns-in-Call-clause-inputs t c =
