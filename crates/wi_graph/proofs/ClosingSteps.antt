@@ -1,8 +1,8 @@
 -- Edits that close no cycle.
-use Rattle.std.proofs.Common.{◌≡◌, ◌==◌, ◌&&◌, ◌||◌, ◌⊎◌, inl, inr, not, ℕ, Bool, true, false, cond, List, [], ◌∷◌, Option, Some, None, IfSome, is_some, refl, ap, sym, ◌∙◌, subst}
-use Rattle.std.proofs.lemmas.Bool.{or_cases, or_left, or_right, or_parts, false_from_ne_true}
+use Rattle.std.proofs.Common.{◌≡◌, ◌==◌, ◌&&◌, ◌||◌, ◌⊎◌, inl, inr, not, ℕ, Bool, true, false, cond, filter, nat_le, get_or, length, arith, List, [], ◌∷◌, Option, Some, None, IfSome, is_some, refl, ap, sym, ◌∙◌, subst}
+use Rattle.std.proofs.lemmas.Bool.{or_cases, or_left, or_right, or_parts, false_from_ne_true, le-leb}
 use Rattle.std.proofs.lemmas.List.{nil_from_length}
-use Rattle.std.specs.List.{list_any}
+use Rattle.std.specs.List.{list_any, find}
 use Rattle.std.specs.Map.{keys_of, lookup}
 use Rattle.std.specs.Ordering.{nat_cmp}
 use Rattle.std.specs.Global.{Vec}
@@ -10,26 +10,27 @@ use Rattle.std.specs.BTreeMap.{is_at}
 use Rattle.std.specs.BTreeSet.{BTreeSet, btree_set_len, contains}
 use Rattle.wi_values.specs.Address.{Area, is_within}
 use Rattle.wi_values.proofs.Within.{within_between}
+use Rattle.wi_parser.specs.declared.content.Content.{Content}
 use Rattle.wi_parser.specs.Sheet.{Sheet, content_of}
 use Rattle.wi_parser.specs.Reads.{content_reads}
 use Rattle.wi_graph.specs.Circular.{circular}
 use Rattle.wi_graph.specs.Reach.{is_one_of}
 use Rattle.wi_graph.specs.Edges.{areas_in}
 use Rattle.wi_graph.specs.declared.turning.Turns.{Turns}
-use Rattle.wi_graph.specs.Inner.Changes.{IsEditCone}
-use Rattle.wi_graph.specs.Inner.Rooms.{Rooms, Coming, brought_to, items_of, room_at, put_over, areas_of, AreCircles}
+use Rattle.wi_graph.specs.Inner.Changes.{areas_then, Brings, IsEditCone}
+use Rattle.wi_graph.specs.Inner.Rooms.{Rooms, Coming, brought_to, in_room, items_of, room_at, put_over, room_over, areas_of, AreCircles}
 use Rattle.wi_graph.specs.Inner.Stripping.{is_in}
-use Rattle.wi_graph.specs.Inner.Turning.{has_one, reads_one_of, AreTurns}
+use Rattle.wi_graph.specs.Inner.Turning.{has_one, reads_one_of, meets_one_of, has_room_in, StandsApart, AreTurns}
 use Rattle.wi_graph.specs.Inner.Within.{IsAhead, IsFoundBy}
-use Rattle.wi_graph.proofs.Tests.{is_itself, clash, turned}
-use Rattle.wi_graph.proofs.Walks.{found}
+use Rattle.wi_graph.proofs.Tests.{is_at-eq, turn_test, is_itself, clash, turned}
+use Rattle.wi_graph.proofs.Walks.{found, same_cell, same_tests}
 use Rattle.wi_graph.proofs.Graphs.{left_circular}
 use Rattle.wi_graph.proofs.Cones.{outside_circular}
 use Rattle.wi_graph.proofs.ReachTest.{not_in_cone}
 use Rattle.wi_graph.proofs.CircularAfter.{reads_circular}
-use Rattle.wi_graph.proofs.ChangeSteps.{then_sheet, then_same}
+use Rattle.wi_graph.proofs.ChangeSteps.{then_sheet, then_contents, then_same}
 use Rattle.wi_graph.proofs.GraphSteps.{reads_areas}
-use Rattle.wi_graph.proofs.TurningSteps.{brought, none_came}
+use Rattle.wi_graph.proofs.TurningSteps.{brought, none_came, none_turned}
 
 -- ---- whether a rectangle has one of the cells
 
@@ -67,47 +68,159 @@ apart_from cells (r ∷ rs) d n h = at (or_cases (is_within r d) _ h) (or_parts 
     at (inl w) p ih = false_from_ne_true (contains nat_cmp cells d) (λ k. clash (has_one cells r) (found (is_within r) cells.keys d (sym (turned cells.keys d) ∙ k) w) p.0)
     at (inr w) p ih = ih p.1 w
 
--- ---- so no cycle is closed
-
--- a cell that is circular after the edit reads such a cell before it too
-still_reads : (rooms : Rooms) (next : Coming) (circles cone : BTreeSet ℕ) (g : AreCircles (room_at rooms) (contains nat_cmp circles)) (k : IsEditCone rooms next (contains nat_cmp cone)) → ((c : ℕ) → circular g.sheet c ≡ false) → reads_one_of next cone ≡ false →
-    (c : ℕ) → circular (then_sheet g.sheet k.changes) c ≡ true → (d : ℕ) × (content_reads (content_of g.sheet c) d ≡ true) × (circular (then_sheet g.sheet k.changes) d ≡ true)
-still_reads rooms next circles cone g k none n c h =
-    let f = reads_circular (then_sheet g.sheet k.changes) c h in
-    at f.0 f.1 f.2 (brought_to next c) refl
+-- what is for none of them, and reads none
+none_met : (cells : BTreeSet ℕ) (es : Coming) (c : ℕ) (r : Option (Vec Area)) → brought_to es c ≡ Some r → meets_one_of es cells ≡ false → (contains nat_cmp cells c ≡ false) × (list_any (has_one cells) (areas_of (items_of r)) ≡ false)
+none_met cells [] c r e h = cc
+none_met cells (x ∷ xs) c r e h = at (is_at (nat_cmp c) x.0) (is_at-eq c x.0) e (or_parts (contains nat_cmp cells x.0 || list_any (has_one cells) (areas_of (items_of x.1))) _ h) (none_met cells xs c r)
   where
-    t : Sheet
-    t = then_sheet g.sheet k.changes
+    at : (b : Bool) → b ≡ (c == x.0) → cond b (Some x.1) (lookup (is_at (nat_cmp c)) xs) ≡ Some r → ((contains nat_cmp cells x.0 || list_any (has_one cells) (areas_of (items_of x.1))) ≡ false) × (meets_one_of xs cells ≡ false) →
+        (lookup (is_at (nat_cmp c)) xs ≡ Some r → meets_one_of xs cells ≡ false → (contains nat_cmp cells c ≡ false) × (list_any (has_one cells) (areas_of (items_of r)) ≡ false)) → (contains nat_cmp cells c ≡ false) × (list_any (has_one cells) (areas_of (items_of r)) ≡ false)
+    at true t k p ih =
+        let z : x.1 ≡ r = cc in
+        let q = or_parts (contains nat_cmp cells x.0) _ p.0 in
+        (ap (contains nat_cmp cells) (same_cell x.0 c (sym t)) ∙ q.0, subst (λ (o : Option (Vec Area)). list_any (has_one cells) (areas_of (items_of o)) ≡ false) z q.1)
+    at false t k p ih = ih k p.1
 
-    reads : (o : Option (List Area)) → areas_in (content_of t c) ≡ o → (d : ℕ) → content_reads (content_of t c) d ≡ is_in (areas_of o) d
-    reads o e d = reads_areas (content_of t c) d ∙ ap (λ (x : Option (List Area)). is_in (areas_of x) d) e
+-- ---- so no cycle is closed, and none is opened
 
-    at : (d : ℕ) → content_reads (content_of t c) d ≡ true → circular t d ≡ true → (o : Option (Option (Vec Area))) → brought_to next c ≡ o → (d : ℕ) × (content_reads (content_of g.sheet c) d ≡ true) × (circular t d ≡ true)
-    at d r u None e =
-        (d, reads_areas (content_of g.sheet c) d ∙ ap (λ (x : Option (List Area)). is_in (areas_of x) d) (sym (g.are c)) ∙ sym (reads (room_at rooms c) (sym (brought rooms next circles cone g k c) ∙ ap (λ (x : Option (Option (Vec Area))). put_over x (room_at rooms c)) e) d) ∙ r, u)
-    at d r u (Some v) e =
-        let w : is_in (areas_of (items_of v)) d ≡ true = sym (reads (items_of v) (sym (brought rooms next circles cone g k c) ∙ ap (λ (x : Option (Option (Vec Area))). put_over x (room_at rooms c)) e) d) ∙ r in
-        let a = apart_from cone (areas_of (items_of v)) d (none_read cone next c v e n) w in
-        let s = outside_circular g.sheet t (keys_of k.changes) d (then_same g.sheet k.changes) (not_in_cone g.sheet (keys_of k.changes) d (sym (k.is_cone g.sheet g.are d) ∙ a)) in
-        clash (circular t d) u (sym s ∙ none d)
+-- no cell that gets something else is circular, and what it reads then isn't circular after the edit
+record IsApart (rooms : Rooms) (next : Coming) (circles : BTreeSet ℕ) (then : Sheet) : Type 0 where
+  before : AreCircles (room_at rooms) (contains nat_cmp circles)
+  after : (c : ℕ) → room_over next rooms c ≡ areas_in (content_of then c)
+  named : (c : ℕ) (v : Option (Vec Area)) → brought_to next c ≡ Some v → contains nat_cmp circles c ≡ false
+  reads : (c : ℕ) (v : Option (Vec Area)) → brought_to next c ≡ Some v → (d : ℕ) → is_in (areas_of (items_of v)) d ≡ true → circular then d ≡ false
 
-pub none_turn : (rooms : Rooms) (next : Coming) (circles cone : BTreeSet ℕ) (turns : Turns) → AreCircles (room_at rooms) (contains nat_cmp circles) → IsEditCone rooms next (contains nat_cmp cone) → btree_set_len circles ≡ 0 → reads_one_of next cone ≡ false → turns.came.items ≡ [] → turns.went.items ≡ [] →
+module _ {rooms : Rooms} {next : Coming} {circles : BTreeSet ℕ} {then : Sheet} (k : IsApart rooms next circles then) where
+  reads_then : (c : ℕ) (o : Option (Option (Vec Area))) → brought_to next c ≡ o → (d : ℕ) → content_reads (content_of then c) d ≡ is_in (areas_of (put_over o (room_at rooms c))) d
+  reads_then c o e d =
+      reads_areas (content_of then c) d
+      ∙ ap (λ (x : Option (List Area)). is_in (areas_of x) d) (sym (k.after c) ∙ ap (λ (x : Option (Option (Vec Area))). put_over x (room_at rooms c)) e)
+
+  reads_before : (c d : ℕ) → content_reads (content_of k.before.sheet c) d ≡ is_in (areas_of (room_at rooms c)) d
+  reads_before c d = reads_areas (content_of k.before.sheet c) d ∙ ap (λ (x : Option (List Area)). is_in (areas_of x) d) (sym (k.before.are c))
+
+  -- a cell that is circular after the edit reads such a cell before it too
+  still_reads : (c : ℕ) → circular then c ≡ true → (d : ℕ) × (content_reads (content_of k.before.sheet c) d ≡ true) × (circular then d ≡ true)
+  still_reads c h = let f = reads_circular then c h in at f.0 f.1 f.2 (brought_to next c) refl
+    where
+      at : (d : ℕ) → content_reads (content_of then c) d ≡ true → circular then d ≡ true → (o : Option (Option (Vec Area))) → brought_to next c ≡ o → (d : ℕ) × (content_reads (content_of k.before.sheet c) d ≡ true) × (circular then d ≡ true)
+      at d r u None e = (d, reads_before c d ∙ sym (reads_then c None e d) ∙ r, u)
+      at d r u (Some v) e = clash (circular then d) u (k.reads c v e d (sym (reads_then c (Some v) e d) ∙ r))
+
+  -- and one that was circular before it reads such a cell after it too
+  reads_still : (c : ℕ) → circular k.before.sheet c ≡ true → (d : ℕ) × (content_reads (content_of then c) d ≡ true) × (circular k.before.sheet d ≡ true)
+  reads_still c h = let f = reads_circular k.before.sheet c h in at f.0 f.1 f.2 (brought_to next c) refl
+    where
+      at : (d : ℕ) → content_reads (content_of k.before.sheet c) d ≡ true → circular k.before.sheet d ≡ true → (o : Option (Option (Vec Area))) → brought_to next c ≡ o → (d : ℕ) × (content_reads (content_of then c) d ≡ true) × (circular k.before.sheet d ≡ true)
+      at d r u None e = (d, reads_then c None e d ∙ sym (reads_before c d) ∙ r, u)
+      at d r u (Some v) e = clash (circular k.before.sheet c) h (sym (k.before.circles c) ∙ k.named c v e)
+
+  same_circles : (c : ℕ) → contains nat_cmp circles c ≡ circular then c
+  same_circles c =
+      k.before.circles c
+      ∙ same_tests (circular k.before.sheet c) (circular then c) (left_circular then (circular k.before.sheet) reads_still c) (left_circular k.before.sheet (circular then) still_reads c)
+
+  none_turns : (turns : Turns) → turns.came.items ≡ [] → turns.went.items ≡ [] → AreTurns rooms next circles turns
+  none_turns turns f h = record {
+    fresh = none_came circles turns f;
+    after = record { sheet = then; are = k.after; circles = λ c. none_turned circles turns f h c ∙ same_circles c };
+  }
+
+-- where no circular cell is met, and none of the cone is read
+pub none_turn : (rooms : Rooms) (next : Coming) (circles cone : BTreeSet ℕ) (turns : Turns) → AreCircles (room_at rooms) (contains nat_cmp circles) → IsEditCone rooms next (contains nat_cmp cone) → meets_one_of next circles ≡ false → reads_one_of next cone ≡ false → turns.came.items ≡ [] → turns.went.items ≡ [] →
     AreTurns rooms next circles turns
-none_turn rooms next circles cone turns g k z n f h = record {
-  fresh = none_came circles turns f;
-  after = record {
-    sheet = then_sheet g.sheet k.changes;
-    are = brought rooms next circles cone g k;
-    circles = λ c. ap (λ (xs : List ℕ). (contains nat_cmp circles c || is_one_of xs c) && not (is_one_of turns.went.items c)) f ∙ ap (λ (b : Bool). (b || false) && not (is_one_of turns.went.items c)) (none_there c) ∙ sym (open_after c);
-  };
-}
+none_turn rooms next circles cone turns g e m n f h = none_turns {then = then_sheet g.sheet e.changes} (record {
+  before = g;
+  after = brought rooms next circles cone g e;
+  named = λ c v k. (none_met circles next c v k m).0;
+  reads = λ c v k d i.
+      sym (outside_circular g.sheet (then_sheet g.sheet e.changes) (keys_of e.changes) d (then_same g.sheet e.changes) (not_in_cone g.sheet (keys_of e.changes) d (sym (e.is_cone g.sheet g.are d) ∙ apart_from cone (areas_of (items_of v)) d (none_read cone next c v k n) i)))
+      ∙ sym (g.circles d) ∙ apart_from circles (areas_of (items_of v)) d (none_met circles next c v k m).1 i;
+}) turns f h
+
+-- where what is next reads no formula
+pub apart_turn : (rooms : Rooms) (next : Coming) (circles : BTreeSet ℕ) (changes : List (ℕ × Option Content)) (turns : Turns) → AreCircles (room_at rooms) (contains nat_cmp circles) → Brings rooms next changes → StandsApart rooms next circles → turns.came.items ≡ [] → turns.went.items ≡ [] →
+    AreTurns rooms next circles turns
+apart_turn rooms next circles changes turns g b a f h = none_turns {then = then_sheet g.sheet changes} (record {
+  before = g;
+  after = after;
+  named = λ c v e. (a c v e).0;
+  reads = λ c v e d i. false_from_ne_true (circular (then_sheet g.sheet changes) d) (λ u. ends d ((a c v e).1 d i) (reads_circular (then_sheet g.sheet changes) d u));
+}) turns f h
   where
-    none_there : (c : ℕ) → contains nat_cmp circles c ≡ false
-    none_there c = ap (λ (xs : List ℕ). list_any (is_at (nat_cmp c)) xs) (nil_from_length circles.keys z)
+    after : (c : ℕ) → room_over next rooms c ≡ areas_in (content_of (then_sheet g.sheet changes) c)
+    after c = b c ∙ ap (areas_then changes c) (g.are c) ∙ sym (then_contents g.sheet changes c)
 
-    none : (c : ℕ) → circular g.sheet c ≡ false
-    none c = sym (g.circles c) ∙ none_there c
+    ends : (d : ℕ) → room_over next rooms d ≡ None → (x : ℕ) × (content_reads (content_of (then_sheet g.sheet changes) d) x ≡ true) × (circular (then_sheet g.sheet changes) x ≡ true) → ⊥
+    ends d n x =
+        let z : is_in (areas_of None) x.0 ≡ true = ap (λ (o : Option (List Area)). is_in (areas_of o) x.0) (sym n ∙ after d) ∙ sym (reads_areas (content_of (then_sheet g.sheet changes) d) x.0) ∙ x.1 in
+        cc
 
-    open_after : (c : ℕ) → circular (then_sheet g.sheet k.changes) c ≡ false
-    open_after c = false_from_ne_true (circular (then_sheet g.sheet k.changes) c) (λ u.
-        clash (circular g.sheet c) (left_circular g.sheet (circular (then_sheet g.sheet k.changes)) (still_reads rooms next circles cone g k none n) c u) (none c))
+-- ---- what reads no formula
+
+-- one of some rooms lies in a rectangle
+pub has_rooms_is : (r : Area) (ks : List ℕ) → is_some (find (λ a. nat_le r.first a) (filter (is_within r) ks)) ≡ list_any (is_within r) ks
+has_rooms_is r [] = refl
+has_rooms_is r (k ∷ ks) = at (is_within r k) refl (has_rooms_is r ks)
+  where
+    at : (b : Bool) → is_within r k ≡ b → is_some (find (λ a. nat_le r.first a) (filter (is_within r) ks)) ≡ list_any (is_within r) ks →
+        is_some (find (λ a. nat_le r.first a) (cond b (k ∷ filter (is_within r) ks) (filter (is_within r) ks))) ≡ (b || list_any (is_within r) ks)
+    at false e ih = ih
+    at true e ih = first (nat_le r.first k) (le-leb r.first k (within_between r k e).0)
+      where
+        first : (b : Bool) → b ≡ true → is_some (cond b (Some k) (find (λ a. nat_le r.first a) (filter (is_within r) ks))) ≡ true
+        first true h = refl
+        first false h = cc
+
+no_key : (es : List (ℕ × Option (Vec Area))) (d : ℕ) → is_one_of (keys_of es) d ≡ false → lookup (is_at (nat_cmp d)) es ≡ None
+no_key [] d h = refl
+no_key (e ∷ es) d h = at (is_at (nat_cmp d) e.0) (is_at-eq d e.0) (or_parts (e.0 == d) _ h) (no_key es d)
+  where
+    at : (b : Bool) → b ≡ (d == e.0) → ((e.0 == d) ≡ false) × (is_one_of (keys_of es) d ≡ false) → (is_one_of (keys_of es) d ≡ false → lookup (is_at (nat_cmp d)) es ≡ None) → cond b (Some e.1) (lookup (is_at (nat_cmp d)) es) ≡ None
+    at true t p ih = clash (e.0 == d) (turn_test e.0 d ∙ sym t) p.0
+    at false t p ih = ih p.1
+
+no_room_there : (rooms : Rooms) (cell : ℕ) (rs : List Area) (d : ℕ) → list_any (has_room_in rooms cell) rs ≡ false → is_in rs d ≡ true → ((cell == d) ≡ false) × (is_one_of (keys_of rooms.entries) d ≡ false)
+no_room_there rooms cell [] d n h = cc
+no_room_there rooms cell (r ∷ rs) d n h = at (or_cases (is_within r d) _ h) (or_parts (has_room_in rooms cell r) _ n) (no_room_there rooms cell rs d)
+  where
+    at : (is_within r d ≡ true) ⊎ (is_in rs d ≡ true) → (has_room_in rooms cell r ≡ false) × (list_any (has_room_in rooms cell) rs ≡ false) → (list_any (has_room_in rooms cell) rs ≡ false → is_in rs d ≡ true → ((cell == d) ≡ false) × (is_one_of (keys_of rooms.entries) d ≡ false)) →
+        ((cell == d) ≡ false) × (is_one_of (keys_of rooms.entries) d ≡ false)
+    at (inl w) p ih =
+        let q = or_parts (is_within r cell) _ p.0 in (
+          false_from_ne_true (cell == d) (λ e. clash (is_within r cell) (ap (is_within r) (same_cell d cell e) ∙ w) q.0),
+          false_from_ne_true (is_one_of (keys_of rooms.entries) d) (λ m. clash (list_any (is_within r) (keys_of rooms.entries)) (found (is_within r) (keys_of rooms.entries) d m w) q.1),
+        )
+    at (inr w) p ih = ih p.1 w
+
+pub one_stands_apart : (rooms : Rooms) (next : Coming) (circles : BTreeSet ℕ) (x : ℕ × Option (Vec Area)) → length next ≡ 1 → x ≡ get_or next 0 x → contains nat_cmp circles x.0 ≡ false → list_any (has_room_in rooms x.0) (areas_of (items_of x.1)) ≡ false → StandsApart rooms next circles
+one_stands_apart rooms [] circles x l e n m c v h = cc
+one_stands_apart rooms (y ∷ []) circles x l e n m c v h = at (is_at (nat_cmp c) y.0) (is_at-eq c y.0) h
+  where
+    is_y : x ≡ y
+    is_y = e
+
+    at : (b : Bool) → b ≡ (c == y.0) → cond b (Some y.1) None ≡ Some v → (contains nat_cmp circles c ≡ false) × ((d : ℕ) → is_in (areas_of (items_of v)) d ≡ true → room_over (y ∷ []) rooms d ≡ None)
+    at false t k = cc
+    at true t k =
+        let z : y.1 ≡ v = cc in
+        let s : y.0 ≡ c = sym (same_cell y.0 c (sym t)) in
+        (ap (contains nat_cmp circles) (sym s ∙ sym (ap (λ (w : ℕ × Option (Vec Area)). w.0) is_y)) ∙ n, λ d i. none d (no_room_there rooms x.0 (areas_of (items_of x.1)) d m (ap (λ (w : Option (Vec Area)). is_in (areas_of (items_of w)) d) (ap (λ (w : ℕ × Option (Vec Area)). w.1) is_y ∙ z) ∙ i)))
+      where
+        none : (d : ℕ) → ((x.0 == d) ≡ false) × (is_one_of (keys_of rooms.entries) d ≡ false) → room_over (y ∷ []) rooms d ≡ None
+        none d p =
+            ap (λ (b : Bool). put_over (cond b (Some y.1) None) (room_at rooms d)) (is_at-eq d y.0 ∙ turn_test d y.0 ∙ ap (λ (w : ℕ). w == d) (sym (ap (λ (w : ℕ × Option (Vec Area)). w.0) is_y)) ∙ p.0)
+            ∙ ap in_room (no_key rooms.entries d p.1)
+one_stands_apart rooms (y ∷ z ∷ zs) circles x l e n m c v h = absurd (omega arith)
+
+-- where no cell is circular, none is met
+pub no_circle_met : (es : Coming) (cells : BTreeSet ℕ) → btree_set_len cells ≡ 0 → false ≡ meets_one_of es cells
+no_circle_met es cells z = subst (λ (ks : List ℕ). false ≡ meets_one_of es (record { keys = ks })) (sym (nil_from_length cells.keys z)) (sym (nothing_met es))
+  where
+    none_in : (rs : List Area) → list_any (has_one (record { keys = [] })) rs ≡ false
+    none_in [] = refl
+    none_in (r ∷ rs) = none_in rs
+
+    nothing_met : (xs : Coming) → meets_one_of xs (record { keys = [] }) ≡ false
+    nothing_met [] = refl
+    nothing_met (x ∷ xs) = ap (λ (b : Bool). b || meets_one_of xs (record { keys = [] })) (none_in (areas_of (items_of x.1))) ∙ nothing_met xs

@@ -25,3 +25,5 @@ pub mod ChangeSteps
 pub mod GraphSteps
 pub mod GraphEnds
 pub mod StageEnds
+pub mod BeyondSteps
+pub mod LatestLaws

@@ -142,7 +142,7 @@ search_start readers cells none found empty work e f n = record {
 abbrev pub AreReaders : Bag → ℕ → List ℕ → Type 0
 AreReaders readers a next = (r : ℕ) → Contains next r ↔ IsReader readers a r
 
-listed_one : (xs : List ℕ) (c : ℕ) → Contains xs c → is_one_of xs c ≡ true
+pub listed_one : (xs : List ℕ) (c : ℕ) → Contains xs c → is_one_of xs c ≡ true
 listed_one xs c h = at xs h.0 h.1 h.2
   where
     at : (ys : List ℕ) (i : ℕ) → i < length ys → get_or ys i c ≡ c → is_one_of ys c ≡ true
@@ -150,7 +150,7 @@ listed_one xs c h = at xs h.0 h.1 h.2
     at (y ∷ ys) zero l e = or_left (y == c) _ (ap (λ (z : ℕ). z == c) e ∙ is_itself c)
     at (y ∷ ys) (suc i) l e = or_right (y == c) _ (at ys i (omega arith) e)
 
-one_listed : (xs : List ℕ) (c : ℕ) → is_one_of xs c ≡ true → Contains xs c
+pub one_listed : (xs : List ℕ) (c : ℕ) → is_one_of xs c ≡ true → Contains xs c
 one_listed [] c h = cc
 one_listed (x ∷ xs) c h = at (or_cases (x == c) _ h) (one_listed xs c)
   where
@@ -209,7 +209,7 @@ search_end readers cells found work e s a r h i = at (s.opened a r h i)
 abbrev pub all_readers : Bag → List ℕ
 all_readers bag = map (λ e. e.0.reader) bag
 
-reader_there : (bag : Bag) (p : RangePair) → 0 < count_of bag p → is_one_of (all_readers bag) p.reader ≡ true
+pub reader_there : (bag : Bag) (p : RangePair) → 0 < count_of bag p → is_one_of (all_readers bag) p.reader ≡ true
 reader_there [] p h = absurd (omega arith)
 reader_there (e ∷ es) p h = at (is_same p e.0) refl h (reader_there es p)
   where
@@ -217,7 +217,7 @@ reader_there (e ∷ es) p h = at (is_same p e.0) refl h (reader_there es p)
     at true f k ih = or_left (e.0.reader == p.reader) _ (ap (λ (q : RangePair). q.reader == p.reader) (sym (same_is p e.0 f)) ∙ is_itself p.reader)
     at false f k ih = or_right (e.0.reader == p.reader) _ (ih k)
 
-readers_there : (bag : Bag) (a r : ℕ) → IsReader bag a r → is_one_of (all_readers bag) r ≡ true
+pub readers_there : (bag : Bag) (a r : ℕ) → IsReader bag a r → is_one_of (all_readers bag) r ≡ true
 readers_there bag a r i = ap (λ (x : ℕ). is_one_of (all_readers bag) x) (sym i.1) ∙ reader_there bag i.0 i.2
 
 pub search_ends : (readers : Bag) (found more : BTreeSet ℕ) (work less after next noted : List ℕ) (cell : ℕ) → work ≡ less ++ cell ∷ [] → AreReaders readers cell next → noted ≡ next → AreNoted noted found more less after →

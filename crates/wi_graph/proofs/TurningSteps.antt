@@ -158,19 +158,19 @@ cone_turns rooms next circles cells rest turns g k st w e = record {
 pub none_came : (circles : BTreeSet ℕ) (turns : Turns) → turns.came.items ≡ [] → (c : ℕ) → is_one_of turns.came.items c ≡ true → contains nat_cmp circles c ≡ false
 none_came circles turns f c k = let z : is_one_of [] c ≡ true = ap (λ (xs : List ℕ). is_one_of xs c) (sym f) ∙ k in cc
 
--- where each cell reads what it read before
-pub same_turns : (rooms : Rooms) (next : Coming) (circles : BTreeSet ℕ) (turns : Turns) → AreCircles (room_at rooms) (contains nat_cmp circles) → ReadsStay rooms next → turns.came.items ≡ [] → turns.went.items ≡ [] → AreTurns rooms next circles turns
-same_turns rooms next circles turns g e f h = record {
-  fresh = none_came circles turns f;
-  after = circles_over (room_over next rooms) (room_at rooms) (turned_by circles turns) (contains nat_cmp circles) e same g;
-}
+pub none_turned : (circles : BTreeSet ℕ) (turns : Turns) → turns.came.items ≡ [] → turns.went.items ≡ [] → (c : ℕ) → turned_by circles turns c ≡ contains nat_cmp circles c
+none_turned circles turns f h c =
+    ap (λ (xs : List ℕ). (contains nat_cmp circles c || is_one_of xs c) && not (is_one_of turns.went.items c)) f
+    ∙ ap (λ (xs : List ℕ). (contains nat_cmp circles c || false) && not (is_one_of xs c)) h
+    ∙ at (contains nat_cmp circles c)
   where
     at : (b : Bool) → ((b || false) && true) ≡ b
     at true = refl
     at false = refl
 
-    same : (c : ℕ) → turned_by circles turns c ≡ contains nat_cmp circles c
-    same c =
-        ap (λ (xs : List ℕ). (contains nat_cmp circles c || is_one_of xs c) && not (is_one_of turns.went.items c)) f
-        ∙ ap (λ (xs : List ℕ). (contains nat_cmp circles c || false) && not (is_one_of xs c)) h
-        ∙ at (contains nat_cmp circles c)
+-- where each cell reads what it read before
+pub same_turns : (rooms : Rooms) (next : Coming) (circles : BTreeSet ℕ) (turns : Turns) → AreCircles (room_at rooms) (contains nat_cmp circles) → ReadsStay rooms next → turns.came.items ≡ [] → turns.went.items ≡ [] → AreTurns rooms next circles turns
+same_turns rooms next circles turns g e f h = record {
+  fresh = none_came circles turns f;
+  after = circles_over (room_over next rooms) (room_at rooms) (turned_by circles turns) (contains nat_cmp circles) e (none_turned circles turns f h) g;
+}

@@ -1,16 +1,22 @@
-//! Whether an edit may close a cycle: whether what it brings reads a cell of its cone.
+//! Whether an edit may close a cycle, or open one: whether what it brings reads a cell of its cone, and whether it meets a circular
+//! cell.
 
-ghost use Rattle.std.specs.Prelude.{◌≡◌};
+ghost use Rattle.std.specs.Prelude.{◌≡◌, ◌||◌, false, IsTrue};
 ghost use Rattle.std.specs.List.{list_any};
 ghost use Rattle.std.specs.List.Sorted.{IsStrictlyIncreasing};
+ghost use Rattle.std.specs.Map.{keys_of};
+ghost use Rattle.std.specs.Ordering.{nat_cmp};
+ghost use Rattle.std.specs.BTreeSet.{contains};
+ghost use Rattle.wi_values.specs.Address.{is_within};
 ghost use Rattle.wi_graph.specs.Inner.Bounds.{AreWithin};
 ghost use Rattle.wi_graph.specs.Inner.Rooms.{items_of, areas_of};
 ghost use Rattle.wi_graph.specs.Inner.Search.{as_set};
-ghost use Rattle.wi_graph.specs.Inner.Turning.{has_one, reads_one_of};
+ghost use Rattle.wi_graph.specs.Inner.Turning.{has_one, reads_one_of, meets_one_of, has_room_in, StandsApart};
 
 use crate::bounds::around;
-use crate::rooms::Coming;
-use crate::within::first_listed;
+use crate::cell_set::CellSet;
+use crate::rooms::{Brought, Coming, Rooms};
+use crate::within::{first_listed, next_within};
 use wi_values::{Address, Rect};
 
 /// Whether what is next reads a cell of a cone, which is in row-major order. The work grows with the count of the cone, and is
@@ -42,4 +48,85 @@ fn has_one(area: Rect, cells: &[Address], bounds: Rect) -> bool
     ensures { result ≡ has_one (as_set cells.now) area }
 {
     first_listed(cells, bounds, area).is_some()
+}
+
+/// Whether what is next is for a circular cell, or reads one. The work is that of `next_within` for each rectangle that is read;
+/// where no cell is circular, it is constant.
+pub(crate) fn meets_circle(next: &Coming, circles: &CellSet) -> bool
+    ensures { result ≡ meets_one_of next.now.items circles.now }
+{
+    if circles.is_empty() {
+        return false;
+    }
+    next.iter().any(|entry| is_met(entry.0, &entry.1, circles))
+}
+
+/// Whether a cell is circular, or its room reads a circular cell.
+fn is_met(cell: Address, room: &Option<Vec<Rect>>, circles: &CellSet) -> bool
+    ensures { result ≡ (contains nat_cmp circles.now cell || list_any (has_one circles.now) (areas_of (items_of room.now))) }
+{
+    circles.contains(&cell) || reads_circle(room, circles)
+}
+
+/// Whether the rectangles of a room have a circular cell.
+fn reads_circle(room: &Option<Vec<Rect>>, circles: &CellSet) -> bool
+    ensures { result ≡ list_any (has_one circles.now) (areas_of (items_of room.now)) }
+{
+    match room {
+        Some(areas) => areas.iter().any(|area| has_circle(*area, circles)),
+        None => false,
+    }
+}
+
+/// Whether a rectangle has a circular cell.
+fn has_circle(area: Rect, circles: &CellSet) -> bool
+    ensures { result ≡ has_one circles.now area }
+{
+    next_within(circles, area, area.first()).is_some()
+}
+
+/// Whether what is next is for one cell that isn't circular, and reads neither that cell nor a formula. The work is that of a search
+/// among the rooms for each rectangle that is read.
+pub(crate) fn stands_apart(rooms: &Rooms, circles: &CellSet, next: &Coming) -> bool
+    ensures { IsTrue result → StandsApart rooms.now next.now.items circles.now }
+{
+    if next.len() != 1 {
+        return false;
+    }
+    is_apart(rooms, circles, &next[0])
+}
+
+/// The same of what one cell gets.
+fn is_apart(rooms: &Rooms, circles: &CellSet, entry: &Brought) -> bool
+    ensures open_cell { IsTrue result → contains nat_cmp circles.now entry.now.0 ≡ false }
+    ensures reads { IsTrue result → list_any (has_room_in rooms.now entry.now.0) (areas_of (items_of entry.now.1)) ≡ false }
+{
+    if circles.contains(&entry.0) {
+        return false;
+    }
+    !reads_room(rooms, entry.0, &entry.1)
+}
+
+/// Whether what a cell gets reads the cell, or one that has a room.
+fn reads_room(rooms: &Rooms, cell: Address, room: &Option<Vec<Rect>>) -> bool
+    ensures { result ≡ list_any (has_room_in rooms.now cell) (areas_of (items_of room.now)) }
+{
+    match room {
+        Some(areas) => areas.iter().any(|area| has_room(rooms, cell, *area)),
+        None => false,
+    }
+}
+
+/// Whether a rectangle has a cell, or one that has a room.
+fn has_room(rooms: &Rooms, cell: Address, area: Rect) -> bool
+    ensures { result ≡ has_room_in rooms.now cell area }
+{
+    area.contains(cell) || has_rooms(rooms, area)
+}
+
+/// Whether a cell of a rectangle has a room.
+fn has_rooms(rooms: &Rooms, area: Rect) -> bool
+    ensures { result ≡ list_any (is_within area) (keys_of rooms.now.entries) }
+{
+    rooms.next_in(area, area.first()).is_some()
 }

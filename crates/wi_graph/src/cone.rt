@@ -53,7 +53,7 @@ pub(crate) fn rise(cells: &[Address]) -> bool
 }
 
 /// Whether nothing reads one of the cells.
-fn none_is_read(readers: &RangeIndex, cells: &[Address]) -> Result<bool, AllocError>
+pub(crate) fn none_is_read(readers: &RangeIndex, cells: &[Address]) -> Result<bool, AllocError>
     ensures { IfOk result (λ none. IsTrue none → (a r : ℕ) → is_one_of cells.now a ≡ true → IsReader readers.now a r → ⊥) }
 {
     for cell in cells {
@@ -81,7 +81,11 @@ fn cone_of(alloc: Global, readers: &RangeIndex, cells: &[Address]) -> Result<Ris
 }
 
 /// Puts cells into a set, and those that are new there at the end of a list.
-fn note(cells: &[Address], found: &mut RisingSet, work: &mut Vec<Address>) -> Result<(), AllocError>
+pub(crate) fn note(
+    cells: &[Address],
+    found: &mut RisingSet,
+    work: &mut Vec<Address>,
+) -> Result<(), AllocError>
     ensures { OnOk result (AreNoted cells.now found.old found.new work.old.items work.new.items) }
 {
     for cell in cells {

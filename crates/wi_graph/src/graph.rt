@@ -1,6 +1,6 @@
 //! The graph of references.
 
-ghost use Rattle.std.specs.Prelude.{◌≡◌, ◌↔◌, [], ℕ, Some, None, IsTrue, IfOk, OnOk, OnErr};
+ghost use Rattle.std.specs.Prelude.{◌≡◌, ◌↔◌, ◌&&◌, [], ℕ, true, false, not, Some, None, IsTrue, IfOk, OnOk, OnErr};
 ghost use Rattle.std.specs.List.Sorted.{IsStrictlyIncreasing};
 ghost use Rattle.std.specs.Map.{keys_of};
 ghost use Rattle.std.specs.Option.{unwrap_or};
@@ -9,17 +9,22 @@ ghost use Rattle.wi_tiles.specs.Entries.{IsOrdered};
 ghost use Rattle.wi_parser.specs.Sheet.{Sheet, content_of};
 ghost use Rattle.wi_graph.specs.Circular.{circular};
 ghost use Rattle.wi_graph.specs.Reach.{is_one_of, in_cone};
+ghost use Rattle.wi_graph.specs.Watched.{IsClosedUp};
+ghost use Rattle.wi_graph.specs.Latest.{IsUnread};
 ghost use Rattle.wi_graph.specs.Edges.{AreEdgesOf, areas_in, edges_after, staging};
 ghost use Rattle.wi_graph.specs.Inner.Changes.{Brings};
-ghost use Rattle.wi_graph.specs.Inner.Rooms.{room_at, IsGraph, IsStaged};
+ghost use Rattle.wi_graph.specs.Inner.Rooms.{room_at, AreInOrder, IsGraph, IsStaged};
+ghost use Rattle.wi_graph.specs.Inner.Turning.{AreTurns};
 
+use crate::beyond::listed_beyond;
 use crate::cell_set::CellSet;
 use crate::changes::{Change, reads_stay, rooms_of};
-use crate::cone::{edit_cone, listed_cone, rise};
+use crate::cone::{edit_cone, listed_cone, none_is_read, rise};
 use crate::rooms::{Coming, Rooms, take_back, take_over};
 use crate::sets::take_away;
 use crate::staging::bring_in;
-use crate::turning::{Turns, bring_circles, turns_of};
+use crate::turning::{Turns, bring_circles, turns_alone, turns_of};
+use crate::watch::Watch;
 use std::alloc::{AllocError, Global};
 use std::marker::Model;
 use wi_parser::Content;
@@ -147,6 +152,25 @@ impl Graph {
         Ok(cone)
     }
 
+    /// The same as `stage`, without an answer. The cone is searched for only where a cycle may be closed or opened: not where each
+    /// cell reads what it read, nor where one cell that isn't circular gets something that reads neither it nor a formula.
+    pub fn stage_alone(&mut self, changes: &[(Address, Option<Content>)]) -> Result<(), AllocError>
+        requires { self.old.staged ≡ None }
+        ensures ok { OnOk result (self.new
+            ≡ staging self.old.now (Some (edges_after self.old.now changes.now))) }
+        ensures err { OnErr result (self.new ≡ self.old) }
+    {
+        let staged = make_ready_alone(
+            self.alloc,
+            &mut self.rooms,
+            &mut self.readers,
+            &mut self.circles,
+            changes,
+        )?;
+        self.staged = Some(staged);
+        Ok(())
+    }
+
     /// Whether an edit is staged after which each cell reads what it read before. The work grows with what the edited cells
     /// read.
     pub fn reads_stay(&self) -> bool
@@ -196,6 +220,32 @@ impl Graph {
     {
         listed_cone(self.alloc, &self.readers, cells)
     }
+
+    /// Whether some formula reads one of these cells. The work is that of a search for their readers.
+    pub fn any_is_read(&self, cells: &[Address]) -> Result<bool, AllocError>
+        requires { self.now.staged ≡ None }
+        ensures { IfOk result (λ any. any ≡ false → (s : Sheet) → AreEdgesOf self.now.now s
+            → (x : ℕ) → is_one_of cells.now x ≡ true → IsUnread s x) }
+    {
+        let none = none_is_read(&self.readers, cells)?;
+        Ok(!none)
+    }
+
+    /// What `cone` answers but for cells that are watched, where each that reads a watched cell is watched. The work grows with the count of
+    /// the cells that it tells and that of their readers, times logarithms.
+    pub fn cone_beyond<W: Watch>(
+        &self,
+        cells: &[Address],
+        watch: &W,
+    ) -> Result<Vec<Address>, AllocError>
+        requires staged { self.now.staged ≡ None }
+        requires closed { (s : Sheet) → AreEdgesOf self.now.now s → IsClosedUp s (W.watched watch.now) }
+        ensures order { IfOk result (λ cone. IsStrictlyIncreasing cone.items) }
+        ensures cells { IfOk result (λ cone. (s : Sheet) → AreEdgesOf self.now.now s
+            → (c : ℕ) → is_one_of cone.items c ≡ (in_cone s cells.now c && not (W.watched watch.now c))) }
+    {
+        listed_beyond(self.alloc, &self.readers, cells, watch)
+    }
 }
 
 /// Makes ready an edit of which the cone is given, in row-major order. If memory runs out, all is as before.
@@ -220,6 +270,48 @@ fn make_ready(
 {
     let next = rooms_of(alloc, rooms, changes)?;
     let turns = turns_of(alloc, rooms, circles, &next, cone)?;
+    bring(rooms, readers, circles, next, turns)
+}
+
+/// The same of an edit whose cone isn't given.
+fn make_ready_alone(
+    alloc: Global,
+    rooms: &mut Rooms,
+    readers: &mut RangeIndex,
+    circles: &mut CellSet,
+    changes: &[Change],
+) -> Result<Staged, AllocError>
+    requires { IsGraph rooms.old readers.old circles.old }
+    ensures ordered { IsOrdered nat_cmp rooms.new }
+    ensures rooms { (c : ℕ) → room_at rooms.new c ≡ room_at rooms.old c }
+    ensures brings { IfOk result (λ staged. Brings rooms.old staged.next.items changes.now) }
+    ensures staged { IfOk result (λ staged.
+        IsStaged rooms.new staged.next.items readers.new circles.new staged.turns) }
+    ensures err { OnErr result (IsGraph rooms.new readers.new circles.new) }
+{
+    let next = rooms_of(alloc, rooms, changes)?;
+    let turns = turns_alone(alloc, rooms, readers, circles, &next, changes)?;
+    bring(rooms, readers, circles, next, turns)
+}
+
+/// Brings in what is next, with the cells that it turns. If memory runs out, all is as before.
+fn bring(
+    rooms: &mut Rooms,
+    readers: &mut RangeIndex,
+    circles: &mut CellSet,
+    next: Coming,
+    turns: Turns,
+) -> Result<Staged, AllocError>
+    requires graph { IsGraph rooms.old readers.old circles.old }
+    requires order { AreInOrder next.items }
+    requires turns { AreTurns rooms.old next.items circles.old turns }
+    ensures ordered { IsOrdered nat_cmp rooms.new }
+    ensures rooms { (c : ℕ) → room_at rooms.new c ≡ room_at rooms.old c }
+    ensures next { IfOk result (λ staged. staged.next ≡ next) }
+    ensures staged { IfOk result (λ staged.
+        IsStaged rooms.new staged.next.items readers.new circles.new staged.turns) }
+    ensures err { OnErr result (IsGraph rooms.new readers.new circles.new) }
+{
     bring_circles(circles, &turns.came)?;
     match bring_in(rooms, readers, &next) {
         Ok(()) => Ok(Staged { next, turns }),

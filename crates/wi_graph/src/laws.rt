@@ -4,9 +4,28 @@ ghost use Rattle.std.specs.Prelude.{ℕ, List, Option};
 ghost use Rattle.wi_parser.specs.declared.content.Content.{Content};
 ghost use Rattle.wi_parser.specs.Sheet.{Sheet};
 ghost use Rattle.wi_graph.specs.Edges.{Edges, AreEdgesOf, edges_after, sheet_after};
+ghost use Rattle.wi_graph.specs.Latest.{LatestOfCone, OneIsLatest, LatestRises, LatestByStep, LatestIsAmong, EditOwes, NoneIsOwed, OwedStays, SettlingBegins, SettlesOne};
 
 /// The edges after an edit are those of the edited sheet. So what is staged and then taken is the graph of that sheet.
 pub fn edges_follow_edits()
     ensures { (es : Edges) (s : Sheet) (changes : List (ℕ × Option Content)) → AreEdgesOf es s
         → AreEdgesOf (edges_after es changes) (sheet_after s changes) }
+{}
+
+/// The latest edit that a cell's value may rest on is the latest of those that named a cell which it reaches now.
+pub fn latest_is_reached()
+    ensures cone { LatestOfCone }
+    ensures one { OneIsLatest }
+    ensures rises { LatestRises }
+    ensures step { LatestByStep }
+    ensures among { LatestIsAmong }
+{}
+
+/// It may be noted late, as long as it is known which edits are owed.
+pub fn latest_may_be_owed()
+    ensures edit { EditOwes }
+    ensures none { NoneIsOwed }
+    ensures stays { OwedStays }
+    ensures begins { SettlingBegins }
+    ensures settles { SettlesOne }
 {}

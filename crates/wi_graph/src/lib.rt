@@ -1,6 +1,7 @@
 //! The graph of references: which cells are on or above a cycle, and which cells depend on a cell.
 #![tactic(auto)]
 
+mod beyond;
 mod bounds;
 mod cell_set;
 mod changes;
@@ -15,6 +16,8 @@ mod sets;
 mod staging;
 mod stripping;
 mod turning;
+mod watch;
 mod within;
 
 pub use graph::Graph;
+pub use watch::Watch;

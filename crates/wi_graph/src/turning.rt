@@ -5,20 +5,22 @@ ghost use Rattle.std.specs.List.Sorted.{IsStrictlyIncreasing};
 ghost use Rattle.std.specs.Ordering.{nat_cmp};
 ghost use Rattle.std.specs.BTreeSet.{btree_set_len, contains};
 ghost use Rattle.wi_graph.specs.Reach.{is_one_of};
-ghost use Rattle.wi_graph.specs.Inner.Changes.{ReadsStay, IsEditCone, went_from};
-ghost use Rattle.wi_graph.specs.Inner.Rooms.{room_at, AreCircles, AreInOrder};
+ghost use Rattle.wi_graph.specs.Inner.Changes.{Brings, ReadsStay, IsEditCone, went_from};
+ghost use Rattle.wi_graph.specs.Inner.Rooms.{room_at, AreCircles, AreInOrder, IsGraph};
 ghost use Rattle.wi_graph.specs.Inner.Stripping.{IsWithin};
-ghost use Rattle.wi_graph.specs.Inner.Turning.{reads_one_of, AreTurns, SettlesCone};
+ghost use Rattle.wi_graph.specs.Inner.Turning.{reads_one_of, AreTurns, SettlesCone, StandsApart};
 
 use crate::cell_set::CellSet;
-use crate::changes::reads_stay;
-use crate::closing::closes_cycle;
+use crate::changes::{Change, reads_stay};
+use crate::closing::{closes_cycle, meets_circle, stands_apart};
+use crate::cone::edit_cone;
 use crate::held::held_set;
 use crate::reads::reads_of;
 use crate::rooms::{Coming, Rooms};
 use crate::sets::{insert_all, listed, set_of, take_away, without};
 use crate::stripping::strip;
 use std::alloc::{AllocError, Global};
+use wi_ranges::RangeIndex;
 use wi_values::Address;
 
 /// The cells that are circular after an edit alone, and those that are circular before it alone.
@@ -30,9 +32,9 @@ pub(crate) struct Turns {
 
 /// The cells that turn, circular or no longer so, once what is next is put in; the cone of that is given in row-major order.
 /// Where each cell reads what it read before, the work grows with what is next, and with what that reads where the cone is one
-/// cell. Where no cell is circular and no cycle is closed, it grows also with the count of the cone, and with the rows of what
-/// that reads where the rectangle around the cone meets it, times the logarithm of that count, and it takes no memory. Else it
-/// grows also with the cone and what its cells read, times logarithms.
+/// cell. Where what is next is for no circular cell and reads none, and no cycle is closed, it grows also with the count of the cone, and
+/// with the rows of what that reads where the rectangle around the cone or that around the circular cells meets it, times the
+/// logarithms of their counts, and it takes no memory. Else it grows also with the cone and what its cells read, times logarithms.
 pub(crate) fn turns_of(
     alloc: Global,
     rooms: &Rooms,
@@ -54,6 +56,31 @@ pub(crate) fn turns_of(
     turns_in(alloc, rooms, circles, next, cone)
 }
 
+/// The same, where the cone is searched for only if it is needed: not where each cell reads what it read before, nor where one cell
+/// gets something else that reads neither it nor a formula, and isn't circular.
+pub(crate) fn turns_alone(
+    alloc: Global,
+    rooms: &Rooms,
+    readers: &RangeIndex,
+    circles: &CellSet,
+    next: &Coming,
+    changes: &[Change],
+) -> Result<Turns, AllocError>
+    requires graph { IsGraph rooms.now readers.now circles.now }
+    requires order { AreInOrder next.now.items }
+    requires brings { Brings rooms.now next.now.items changes.now }
+    ensures { IfOk result (AreTurns rooms.now next.now.items circles.now) }
+{
+    if reads_stay(rooms, next) {
+        return Ok(no_turns(alloc));
+    }
+    if stands_apart(rooms, circles, next) {
+        return Ok(no_turns(alloc));
+    }
+    let cone = edit_cone(alloc, readers, changes)?;
+    turns_of(alloc, rooms, circles, next, &cone)
+}
+
 /// Whether no cell is circular and a cone is one cell, so that a cycle that is closed is found with no search for what the cell
 /// read before.
 fn is_alone(circles: &CellSet, cone: &[Address]) -> bool {
@@ -73,7 +100,7 @@ fn turns_in(
     requires cone { IsEditCone rooms.now next.now.items (is_one_of cone.now) }
     ensures { IfOk result (AreTurns rooms.now next.now.items circles.now) }
 {
-    if circles.is_empty() && !closes_cycle(next, cone) {
+    if !meets_circle(next, circles) && !closes_cycle(next, cone) {
         return Ok(no_turns(alloc));
     }
     let cone = set_of(alloc, cone)?;

@@ -34,6 +34,22 @@ pub record IsConeOf (readers : Bag) (cells list : List ℕ) : Type 0 where
   pub closed : HasReaders readers (as_set list)
   pub least : IsLeast readers cells (as_set list)
 
+-- those of the list that aren't watched
+abbrev pub beyond : (ℕ → Bool) → List ℕ → List ℕ
+beyond watched cells = filter (λ c. not (watched c)) cells
+
+-- the set has those of these cells, and of all that read one of it, that aren't watched, and no other
+pub record IsConeBeyond (readers : Bag) (watched : ℕ → Bool) (cells : List ℕ) (found : BTreeSet ℕ) : Type 0 where
+  pub all : HasAll (beyond watched cells) found
+  pub closed : (a r : ℕ) → contains nat_cmp found a ≡ true → IsReader readers a r → watched r ≡ false → contains nat_cmp found r ≡ true
+  pub unwatched : (c : ℕ) → contains nat_cmp found c ≡ true → watched c ≡ false
+  pub least : IsLeast readers cells found
+
+-- the list has them, each once and in order
+pub record IsListBeyond (readers : Bag) (watched : ℕ → Bool) (cells list : List ℕ) : Type 0 where
+  pub order : IsStrictlyIncreasing list
+  pub cone : IsConeBeyond readers watched cells (as_set list)
+
 -- those of the list that the set lacks
 abbrev pub missing : BTreeSet ℕ → List ℕ → List ℕ
 missing found cells = filter (λ c. not (contains nat_cmp found c)) cells

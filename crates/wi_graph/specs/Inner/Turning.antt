@@ -1,6 +1,7 @@
 -- Which cells of a cone turn circular.
-use Rattle.std.specs.Prelude.{◌≡◌, ◌&&◌, ◌||◌, ℕ, Bool, true, false, cond, not, List}
+use Rattle.std.specs.Prelude.{◌≡◌, ◌&&◌, ◌||◌, ℕ, Bool, true, false, cond, not, List, Option, Some, None}
 use Rattle.std.specs.List.{list_any}
+use Rattle.std.specs.Map.{keys_of}
 use Rattle.std.specs.Ordering.{nat_cmp}
 use Rattle.std.specs.Global.{Vec}
 use Rattle.std.specs.BTreeMap.{BTreeMap, get}
@@ -10,8 +11,8 @@ use Rattle.wi_parser.specs.Sheet.{Sheet, content_of}
 use Rattle.wi_graph.specs.Circular.{circular}
 use Rattle.wi_graph.specs.Reach.{is_one_of, SameOff, in_cone}
 use Rattle.wi_graph.specs.Edges.{areas_in}
-use Rattle.wi_graph.specs.Inner.Stripping.{items_there}
-use Rattle.wi_graph.specs.Inner.Rooms.{Rooms, Coming, items_of, areas_of, room_over, AreCircles}
+use Rattle.wi_graph.specs.Inner.Stripping.{items_there, is_in}
+use Rattle.wi_graph.specs.Inner.Rooms.{Rooms, Coming, brought_to, items_of, areas_of, room_over, AreCircles}
 use Rattle.wi_graph.specs.declared.turning.Turns.{Turns}
 
 -- the rectangle has one of the circular cells outside the cone
@@ -29,6 +30,18 @@ has_one cells r = list_any (is_within r) cells.keys
 -- what is next reads one of the cells
 abbrev pub reads_one_of : Coming → BTreeSet ℕ → Bool
 reads_one_of es cells = list_any (λ e. list_any (has_one cells) (areas_of (items_of e.1))) es
+
+-- what is next is for one of the cells, or reads one
+abbrev pub meets_one_of : Coming → BTreeSet ℕ → Bool
+meets_one_of es cells = list_any (λ e. contains nat_cmp cells e.0 || list_any (has_one cells) (areas_of (items_of e.1))) es
+
+-- the rectangle has a cell, or one with something in its room
+abbrev pub has_room_in : Rooms → ℕ → Area → Bool
+has_room_in rooms cell r = is_within r cell || list_any (is_within r) (keys_of rooms.entries)
+
+-- each cell that gets something else isn't circular, and reads no formula then
+abbrev pub StandsApart : Rooms → Coming → BTreeSet ℕ → Type 0
+StandsApart rooms next circles = (c : ℕ) (v : Option (Vec Area)) → brought_to next c ≡ Some v → (contains nat_cmp circles c ≡ false) × ((d : ℕ) → is_in (areas_of (items_of v)) d ≡ true → room_over next rooms d ≡ None)
 
 -- the cell was circular or came, and did not go
 abbrev pub turned_by : BTreeSet ℕ → Turns → ℕ → Bool

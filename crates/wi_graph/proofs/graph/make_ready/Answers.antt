@@ -1,4 +1,3 @@
-use Rattle.wi_graph.proofs.StageEnds.{on_err, same_graph, staged_graph, refused_graph}
 use Rattle.wi_graph.proofs.graph.make_ready.Goals as goal
 
 pub turns_of-requires-clause-circles : goal.turns_of-requires-clause-circles
@@ -10,19 +9,5 @@ turns_of-requires-clause-order c = c.requires.order
 pub turns_of-requires-clause-cone : goal.turns_of-requires-clause-cone
 turns_of-requires-clause-cone c = record { order = c.in_ok-next.ensures.order; changes = c.args.changes.now; brings = c.in_ok-next.ensures.brings; is_cone = c.requires.cone }
 
-pub returns-in-Ok-clause-brings : goal.returns-in-Ok-clause-brings
-returns-in-Ok-clause-brings c = c.in_ok-next.ensures.brings
-
-pub returns-in-Ok-clause-staged : goal.returns-in-Ok-clause-staged
-returns-in-Ok-clause-staged c =
-    staged_graph c.args.rooms.now c.bring_in.new.rooms c.in_ok-next.next.items c.args.readers.now c.bring_in.new.readers c.args.circles.now c.bring_circles.new.circles c.in_ok-turns.turns c.requires.graph c.in_ok-next.ensures.order c.bring_in.ensures.ordered
-    c.in-Ok.ensures.has_rooms c.in-Ok.ensures.pairs c.bring_in.ensures.rooms c.in_ok-turns.ensures (rw c.deref.ensures.value at c.in_ok-bring_circles.ensures.ok)
-
-pub returns-in_err-bring_circles-clause-err : goal.returns-in_err-bring_circles-clause-err
-returns-in_err-bring_circles-clause-err c =
-    on_err c.from_residual-in_err-bring_circles.result (same_graph c.args.rooms.now c.args.readers.now c.args.circles.now c.bring_circles.new.circles c.requires.graph c.in_err-bring_circles.ensures.err)
-
-pub returns-in-Err-clause-err : goal.returns-in-Err-clause-err
-returns-in-Err-clause-err c =
-    refused_graph c.args.rooms.now c.bring_in.new.rooms c.args.readers.now c.bring_in.new.readers c.args.circles.now c.bring_circles.new.circles c.take_away.new.set c.in_ok-turns.turns.came.items c.deref-in-Err.result.now c.requires.graph
-    c.bring_in.ensures.ordered c.bring_in.ensures.rooms c.in-Err.ensures.err c.in_ok-turns.ensures.fresh (rw c.deref.ensures.value at c.in_ok-bring_circles.ensures.ok) (search c.deref-in-Err.ensures.value) c.take_away.ensures
+pub bring-requires-clause-order : goal.bring-requires-clause-order
+bring-requires-clause-order c = c.in_ok-next.ensures.order

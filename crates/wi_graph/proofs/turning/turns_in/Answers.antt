@@ -11,7 +11,7 @@ returns-then-not-closes_cycle c =
       changes = c.requires.cone.changes;
       brings = c.requires.cone.brings;
       is_cone = λ s h d. turned c.args.cone.now d ∙ c.requires.cone.is_cone s h d;
-    }) (search rules) (sym c.closes_cycle.ensures ∙ c.if-not-closes_cycle.true) c.no_turns.ensures.came c.no_turns.ensures.went
+    }) (sym c.meets_circle.ensures ∙ c.if-not-meets_circle.true) (sym c.closes_cycle.ensures ∙ c.if-not-closes_cycle.true) c.no_turns.ensures.came c.no_turns.ensures.went
 
 pub turns_among-requires-clause-cone : goal.turns_among-requires-clause-cone
 turns_among-requires-clause-cone c = record { order = c.requires.cone.order; changes = c.requires.cone.changes; brings = c.requires.cone.brings; is_cone = λ s h d. c.in_ok-cone.ensures d ∙ c.requires.cone.is_cone s h d }

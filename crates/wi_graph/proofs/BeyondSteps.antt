@@ -1,0 +1,220 @@
+-- Steps of a search over readers that stops at watched cells.
+use Rattle.std.proofs.Common.{◌≡◌, ◌==◌, ◌&&◌, ◌||◌, ◌⊎◌, inl, inr, not, ℕ, ◌+◌, ◌<◌, ◌↔◌, Bool, true, false, List, [], ◌∷◌, ◌++◌, length, Result, Ok, Err, IfOk, refl, ap, sym, ◌∙◌, subst, arith}
+use Rattle.std.proofs.lemmas.Bool.{or_cases, or_left, or_right, and_parts, and_from, cases_Bool, not-true, not_from_false, false_from_ne_true}
+use Rattle.std.proofs.lemmas.List.{length-append}
+use Rattle.std.proofs.lemmas.Map.Views.{any-filter_same}
+use Rattle.std.proofs.lemmas.List.Kept.{IsStrictlyIncreasing-filter}
+use Rattle.std.specs.Global.{Vec}
+use Rattle.std.specs.List.{list_any, Contains}
+use Rattle.std.specs.Ordering.{nat_cmp}
+use Rattle.std.specs.BTreeMap.{is_at}
+use Rattle.std.specs.BTreeSet.{BTreeSet, contains}
+use Rattle.std.specs.List.Sorted.{IsStrictlyIncreasing}
+use Rattle.wi_parser.specs.Sheet.{Sheet, content_of}
+use Rattle.wi_parser.specs.Reads.{content_reads}
+use Rattle.wi_ranges.specs.Bag.{Bag, IsReader}
+use Rattle.wi_graph.specs.Reach.{is_one_of, in_cone}
+use Rattle.wi_graph.specs.Watched.{IsClosedUp}
+use Rattle.wi_graph.specs.Latest.{IsUnread}
+use Rattle.wi_graph.specs.Edges.{AreEdgesOf}
+use Rattle.wi_graph.specs.Inner.Rooms.{Rooms, edges_in, IsGraph}
+use Rattle.wi_graph.specs.Inner.Search.{HasAll, GoesToReaders, IsLeast, IsConeBeyond, IsListBeyond, beyond, as_set, missing, AreNoted}
+use Rattle.wi_graph.proofs.Tests.{is_itself, clash, turned}
+use Rattle.wi_graph.proofs.Walks.{same_cell, same_tests}
+use Rattle.wi_graph.proofs.SetSteps.{in_last, in_front, in_back}
+use Rattle.wi_graph.proofs.SearchSteps.{AreReaders, listed_one, one_listed, all_readers, readers_there}
+use Rattle.wi_graph.proofs.Cones.{cone_has, cone_closed, cone_least}
+use Rattle.wi_graph.proofs.GraphSteps.{graph_readers}
+
+-- ---- cells that aren't watched
+
+among : (w : ℕ → Bool) (xs : List ℕ) (c : ℕ) → is_one_of (beyond w xs) c ≡ (not (w c) && is_one_of xs c)
+among w xs c = any-filter_same (λ x. x == c) (λ d. not (w d)) (not (w c)) (λ k h. ap (λ (d : ℕ). not (w d)) (same_cell c k h)) xs
+
+in_beyond : (w : ℕ → Bool) (xs : List ℕ) (c : ℕ) → is_one_of (beyond w xs) c ≡ true → (is_one_of xs c ≡ true) × (w c ≡ false)
+in_beyond w xs c h =
+    let x = and_parts (not (w c)) (is_one_of xs c) (sym (among w xs c) ∙ h) in
+    (x.1, not-true (w c) x.0)
+
+beyond_in : (w : ℕ → Bool) (xs : List ℕ) (c : ℕ) → is_one_of xs c ≡ true → w c ≡ false → is_one_of (beyond w xs) c ≡ true
+beyond_in w xs c h n = among w xs c ∙ and_from (not (w c)) (is_one_of xs c) (not_from_false (w c) n) h
+
+-- ---- the search
+
+pub record IsSearchingBeyond (readers : Bag) (w : ℕ → Bool) (cells : List ℕ) (found : BTreeSet ℕ) (work : List ℕ) : Type 0 where
+  pub all : HasAll (beyond w cells) found
+  pub opened : (a r : ℕ) → contains nat_cmp found a ≡ true → IsReader readers a r → w r ≡ false → (is_one_of work a ≡ true) ⊎ (contains nat_cmp found r ≡ true)
+  pub within : (c : ℕ) → is_one_of work c ≡ true → contains nat_cmp found c ≡ true
+  pub unwatched : (c : ℕ) → contains nat_cmp found c ≡ true → w c ≡ false
+  pub least : IsLeast readers cells found
+
+pub beyond_start : (readers : Bag) (w : ℕ → Bool) (cells : List ℕ) (none found : BTreeSet ℕ) (empty work fresh noted : List ℕ) → none.keys ≡ [] → empty ≡ [] → fresh ≡ beyond w cells → noted ≡ fresh → AreNoted noted none found empty work →
+    IsSearchingBeyond readers w cells found work
+beyond_start readers w cells none found empty work fresh noted e f h k m = record {
+  all = λ c i. n.found c ∙ or_right (contains nat_cmp none c) _ i;
+  opened = λ a r i j u. inl (n.fresh a i (nothing a));
+  within = λ c i. at c (n.within c i);
+  unwatched = λ c i. (in_beyond w cells c (first c i)).1;
+  least = λ p i g c j. i c (in_beyond w cells c (first c j)).0;
+}
+  where
+    n : AreNoted (beyond w cells) none found empty work
+    n = subst (λ (xs : List ℕ). AreNoted xs none found empty work) (k ∙ h) m
+
+    nothing : (c : ℕ) → contains nat_cmp none c ≡ false
+    nothing c = ap (λ (xs : List ℕ). list_any (is_at (nat_cmp c)) xs) e
+
+    at : (c : ℕ) → (is_one_of empty c ≡ true) ⊎ (contains nat_cmp found c ≡ true) → contains nat_cmp found c ≡ true
+    at c (inl i) = clash (is_one_of empty c) i (ap (λ (xs : List ℕ). is_one_of xs c) f)
+    at c (inr i) = i
+
+    is_first : (c : ℕ) → (contains nat_cmp none c ≡ true) ⊎ (is_one_of (beyond w cells) c ≡ true) → is_one_of (beyond w cells) c ≡ true
+    is_first c (inl i) = clash (contains nat_cmp none c) i (nothing c)
+    is_first c (inr i) = i
+
+    first : (c : ℕ) → contains nat_cmp found c ≡ true → is_one_of (beyond w cells) c ≡ true
+    first c i = is_first c (or_cases (contains nat_cmp none c) _ (sym (n.found c) ∙ i))
+
+pub beyond_step : (readers : Bag) (w : ℕ → Bool) (cells : List ℕ) (found more : BTreeSet ℕ) (work less after next looked fresh noted : List ℕ) (cell : ℕ) → work ≡ less ++ cell ∷ [] → AreReaders readers cell next → looked ≡ next → fresh ≡ beyond w looked → noted ≡ fresh →
+    AreNoted noted found more less after → IsSearchingBeyond readers w cells found work → IsSearchingBeyond readers w cells more after
+beyond_step readers w cells found more work less after next looked fresh noted cell e r q h k m s = record {
+  all = λ c i. still c (s.all c i);
+  opened = λ a d i j u. opened a d i j u (cases_Bool (contains nat_cmp found a));
+  within = λ c i. within c (n.within c i);
+  unwatched = λ c i. unwatched c (or_cases (contains nat_cmp found c) _ (sym (n.found c) ∙ i));
+  least = λ p i g c j. first p i g c (or_cases (contains nat_cmp found c) _ (sym (n.found c) ∙ j));
+}
+  where
+    n : AreNoted (beyond w next) found more less after
+    n = subst (λ (xs : List ℕ). AreNoted xs found more less after) (k ∙ h ∙ ap (beyond w) q) m
+
+    still : (c : ℕ) → contains nat_cmp found c ≡ true → contains nat_cmp more c ≡ true
+    still c i = n.found c ∙ or_left (contains nat_cmp found c) _ i
+
+    gone : (a d : ℕ) → IsReader readers a d → w d ≡ false → (is_one_of less a ≡ true) ⊎ (cell ≡ a) → (is_one_of after a ≡ true) ⊎ (contains nat_cmp more d ≡ true)
+    gone a d i u (inl j) = inl (n.stays a j)
+    gone a d i u (inr j) = inr (n.found d ∙ or_right (contains nat_cmp found d) _ (beyond_in w next d (listed_one next d ((r d).1 (subst (λ (x : ℕ). IsReader readers x d) (sym j) i))) u))
+
+    known : (a d : ℕ) → IsReader readers a d → w d ≡ false → (is_one_of work a ≡ true) ⊎ (contains nat_cmp found d ≡ true) → (is_one_of after a ≡ true) ⊎ (contains nat_cmp more d ≡ true)
+    known a d i u (inl j) = gone a d i u (in_last less cell a (ap (λ (xs : List ℕ). is_one_of xs a) (sym e) ∙ j))
+    known a d i u (inr j) = inr (still d j)
+
+    opened : (a d : ℕ) → contains nat_cmp more a ≡ true → IsReader readers a d → w d ≡ false → (contains nat_cmp found a ≡ true) ⊎ (contains nat_cmp found a ≡ false) → (is_one_of after a ≡ true) ⊎ (contains nat_cmp more d ≡ true)
+    opened a d i j u (inl v) = known a d j u (s.opened a d v j u)
+    opened a d i j u (inr v) = inl (n.fresh a i v)
+
+    within : (c : ℕ) → (is_one_of less c ≡ true) ⊎ (contains nat_cmp more c ≡ true) → contains nat_cmp more c ≡ true
+    within c (inl i) = still c (s.within c (ap (λ (xs : List ℕ). is_one_of xs c) e ∙ in_front less (cell ∷ []) c i))
+    within c (inr i) = i
+
+    unwatched : (c : ℕ) → (contains nat_cmp found c ≡ true) ⊎ (is_one_of (beyond w next) c ≡ true) → w c ≡ false
+    unwatched c (inl i) = s.unwatched c i
+    unwatched c (inr i) = (in_beyond w next c i).1
+
+    here : contains nat_cmp found cell ≡ true
+    here = s.within cell (ap (λ (xs : List ℕ). is_one_of xs cell) e ∙ in_back less (cell ∷ []) cell (or_left (cell == cell) false (is_itself cell)))
+
+    first : (p : ℕ → Bool) → ((c : ℕ) → is_one_of cells c ≡ true → p c ≡ true) → GoesToReaders readers p → (c : ℕ) → (contains nat_cmp found c ≡ true) ⊎ (is_one_of (beyond w next) c ≡ true) → p c ≡ true
+    first p i g c (inl j) = s.least p i g c j
+    first p i g c (inr j) = g cell c (s.least p i g cell here) ((r c).0 (one_listed next c (in_beyond w next c j).0))
+
+pub beyond_end : (readers : Bag) (w : ℕ → Bool) (cells : List ℕ) (found : BTreeSet ℕ) (work : List ℕ) → work ≡ [] → IsSearchingBeyond readers w cells found work → IsConeBeyond readers w cells found
+beyond_end readers w cells found work e s = record {
+  all = s.all;
+  closed = λ a r i j u. at a r (s.opened a r i j u);
+  unwatched = s.unwatched;
+  least = s.least;
+}
+  where
+    at : (a r : ℕ) → (is_one_of work a ≡ true) ⊎ (contains nat_cmp found r ≡ true) → contains nat_cmp found r ≡ true
+    at a r (inl k) = clash (is_one_of work a) k (ap (λ (xs : List ℕ). is_one_of xs a) e)
+    at a r (inr k) = k
+
+-- it ends
+pub beyond_ends : (readers : Bag) (w : ℕ → Bool) (found more : BTreeSet ℕ) (work less after next looked fresh noted : List ℕ) (cell : ℕ) → work ≡ less ++ cell ∷ [] → AreReaders readers cell next → looked ≡ next → fresh ≡ beyond w looked → noted ≡ fresh →
+    AreNoted noted found more less after → length (missing more (all_readers readers)) + length after < length (missing found (all_readers readers)) + length work
+beyond_ends readers w found more work less after next looked fresh noted cell e r q h k m =
+    let n = subst (λ (xs : List ℕ). AreNoted xs found more less after) (k ∙ h ∙ ap (beyond w) q) m in
+    let f = n.fewer (all_readers readers) (λ c i. readers_there readers cell c ((r c).0 (one_listed next c (in_beyond w next c i).0))) in
+    let t : length work ≡ length less + 1 = ap (λ (xs : List ℕ). length xs) e ∙ length-append less (cell ∷ []) in
+    omega (arith, f, t)
+
+-- ---- what it finds
+
+-- the cone but for the watched cells, where with each of them each that reads it is watched
+pub found_beyond : (s : Sheet) (readers : Bag) (w : ℕ → Bool) (cells : List ℕ) (found : BTreeSet ℕ) → ((a r : ℕ) → (content_reads (content_of s r) a ≡ true) ↔ IsReader readers a r) → IsClosedUp s w → IsConeBeyond readers w cells found →
+    (c : ℕ) → is_one_of found.keys c ≡ (in_cone s cells c && not (w c))
+found_beyond s readers w cells found i g k c = sym (turned found.keys c) ∙ same_tests (contains nat_cmp found c) (in_cone s cells c && not (w c)) to from
+  where
+    to : contains nat_cmp found c ≡ true → (in_cone s cells c && not (w c)) ≡ true
+    to h = and_from (in_cone s cells c) (not (w c)) (k.least (in_cone s cells) (cone_has s cells) (λ a r m u. cone_closed s cells r a ((i a r).1 u) m) c h) (not_from_false (w c) (k.unwatched c h))
+
+    has : (a : ℕ) → is_one_of cells a ≡ true → (w a ≡ true) ⊎ (w a ≡ false) → (contains nat_cmp found a || w a) ≡ true
+    has a m (inl u) = or_right (contains nat_cmp found a) (w a) u
+    has a m (inr u) = or_left (contains nat_cmp found a) (w a) (k.all a (beyond_in w cells a m u))
+
+    read : (d a : ℕ) → content_reads (content_of s d) a ≡ true → contains nat_cmp found a ≡ true → (w d ≡ true) ⊎ (w d ≡ false) → (contains nat_cmp found d || w d) ≡ true
+    read d a r m (inl u) = or_right (contains nat_cmp found d) (w d) u
+    read d a r m (inr u) = or_left (contains nat_cmp found d) (w d) (k.closed a d m ((i a d).0 r) u)
+
+    up : (d a : ℕ) → content_reads (content_of s d) a ≡ true → (contains nat_cmp found a ≡ true) ⊎ (w a ≡ true) → (contains nat_cmp found d || w d) ≡ true
+    up d a r (inl m) = read d a r m (cases_Bool (w d))
+    up d a r (inr m) = or_right (contains nat_cmp found d) (w d) (g d a r m)
+
+    is_found : w c ≡ false → (contains nat_cmp found c ≡ true) ⊎ (w c ≡ true) → contains nat_cmp found c ≡ true
+    is_found n (inl m) = m
+    is_found n (inr m) = clash (w c) m n
+
+    from : (in_cone s cells c && not (w c)) ≡ true → contains nat_cmp found c ≡ true
+    from h =
+        let x = and_parts (in_cone s cells c) (not (w c)) h in
+        let y = cone_least s cells (λ d. contains nat_cmp found d || w d) (λ a m. has a m (cases_Bool (w a))) (λ d a r m. up d a r (or_cases (contains nat_cmp found a) (w a) m)) c x.0 in
+        is_found (not-true (w c) x.1) (or_cases (contains nat_cmp found c) (w c) y)
+
+-- ---- as a list
+
+beyond_list : (readers : Bag) (w : ℕ → Bool) (cells list : List ℕ) (found : BTreeSet ℕ) → IsStrictlyIncreasing list → ((c : ℕ) → Contains list c ↔ (contains nat_cmp found c ≡ true)) → IsConeBeyond readers w cells found → IsListBeyond readers w cells list
+beyond_list readers w cells list found o e k = record {
+  order = o;
+  cone = record {
+    all = λ c h. same c ∙ k.all c h;
+    closed = λ a r h i u. same r ∙ k.closed a r (sym (same a) ∙ h) i u;
+    unwatched = λ c h. k.unwatched c (sym (same c) ∙ h);
+    least = λ p h g c m. k.least p h g c (sym (same c) ∙ m);
+  };
+}
+  where
+    same : (c : ℕ) → contains nat_cmp (as_set list) c ≡ contains nat_cmp found c
+    same c = turned list c ∙ same_tests (is_one_of list c) (contains nat_cmp found c) (λ h. (e c).0 (one_listed list c h)) (λ h. listed_one list c ((e c).1 h))
+
+pub beyond_listed : {E : Type 0} (readers : Bag) (w : ℕ → Bool) (cells : List ℕ) (found : BTreeSet ℕ) (r : Result (Vec ℕ) E) → IsConeBeyond readers w cells found → IfOk r (λ list. IsStrictlyIncreasing list.items) →
+    IfOk r (λ list. (c : ℕ) → Contains list.items c ↔ (contains nat_cmp found c ≡ true)) → IfOk r (λ list. IsListBeyond readers w cells list.items)
+beyond_listed readers w cells found (Ok list) k o e = beyond_list readers w cells list.items found o e k
+beyond_listed readers w cells found (Err error) k o e = tt
+
+-- cells in order that nothing reads
+pub own_beyond : (readers : Bag) (w : ℕ → Bool) (cells list : List ℕ) → IsStrictlyIncreasing cells → ((a r : ℕ) → is_one_of cells a ≡ true → IsReader readers a r → ⊥) → list ≡ beyond w cells → IsListBeyond readers w cells list
+own_beyond readers w cells list o n e = subst (IsListBeyond readers w cells) (sym e) (record {
+  order = IsStrictlyIncreasing-filter (λ c. not (w c)) cells o;
+  cone = record {
+    all = λ c h. turned (beyond w cells) c ∙ h;
+    closed = λ a r h i u. absurd (n a r (own a h) i);
+    unwatched = λ c h. (in_beyond w cells c (sym (turned (beyond w cells) c) ∙ h)).1;
+    least = λ p h g c m. h c (own c m);
+  };
+})
+  where
+    own : (c : ℕ) → contains nat_cmp (as_set (beyond w cells)) c ≡ true → is_one_of cells c ≡ true
+    own c h = (in_beyond w cells c (sym (turned (beyond w cells) c) ∙ h)).0
+
+-- by the edges
+pub edge_beyond : (rooms : Rooms) (readers : Bag) (circles : BTreeSet ℕ) (w : ℕ → Bool) (cells list : List ℕ) → IsGraph rooms readers circles → ((s : Sheet) → AreEdgesOf (edges_in rooms.entries) s → IsClosedUp s w) → IsListBeyond readers w cells list →
+    (s : Sheet) → AreEdgesOf (edges_in rooms.entries) s → (c : ℕ) → is_one_of list c ≡ (in_cone s cells c && not (w c))
+edge_beyond rooms readers circles w cells list g k m s h = found_beyond s readers w cells (as_set list) (graph_readers rooms readers g.ordered g.pairs s h) (k s h) m.cone
+
+-- ---- cells that nothing reads
+
+pub unread_cells : (rooms : Rooms) (readers : Bag) (circles : BTreeSet ℕ) (cells : List ℕ) (none : Bool) → IsGraph rooms readers circles → (none ≡ true → (a r : ℕ) → is_one_of cells a ≡ true → IsReader readers a r → ⊥) → not none ≡ false →
+    (s : Sheet) → AreEdgesOf (edges_in rooms.entries) s → (x : ℕ) → is_one_of cells x ≡ true → IsUnread s x
+unread_cells rooms readers circles cells false g n e s h x m c = cc
+unread_cells rooms readers circles cells true g n e s h x m c = false_from_ne_true (content_reads (content_of s c) x) (λ r. n refl x c m ((graph_readers rooms readers g.ordered g.pairs s h x c).0 r))

@@ -1,0 +1,11 @@
+use Rattle.std.proofs.Common.{◌+◌, length}
+use Rattle.wi_graph.specs.Inner.Search.{missing}
+use Rattle.wi_graph.proofs.SearchSteps.{all_readers}
+use Rattle.wi_graph.proofs.BeyondSteps.{IsSearchingBeyond}
+use Rattle.wi_graph.proofs.beyond.cone_beyond.Given as goal
+
+abbrev pub invariant-cells : goal.invariant-cells
+invariant-cells g l = IsSearchingBeyond l.readers (g.W.Watch.watched l.watch) l.cells l.found l.work.items
+
+abbrev pub decreases-cells : goal.decreases-cells
+decreases-cells g l = length (missing l.found (all_readers l.readers)) + length l.work.items

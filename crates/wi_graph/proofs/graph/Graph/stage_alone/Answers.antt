@@ -1,0 +1,37 @@
+use Rattle.std.proofs.Common.{◌∙◌, ℕ, List, refl, ap, sym, subst}
+use Rattle.std.specs.List.Sorted.{IsStrictlyIncreasing}
+use Rattle.wi_values.proofs.Order.{Ascends-from_order}
+use Rattle.wi_graph.specs.Reach.{is_one_of}
+use Rattle.wi_graph.specs.Edges.{AreEdgesOf, Staging}
+use Rattle.wi_graph.proofs.EdgeLemmas.{areas_rooms, rooms_same}
+use Rattle.wi_graph.proofs.GraphEnds.{unstaged}
+use Rattle.wi_graph.proofs.ChangeSteps.{staged_edges}
+use Rattle.wi_graph.proofs.StageEnds.{on_err, refused_invariant, refused_view, staged_view}
+use Rattle.wi_graph.proofs.graph.Graph.stage_alone.Goals as goal
+
+pub make_ready_alone-requires : goal.make_ready_alone-requires
+make_ready_alone-requires c =
+    let g = c.self.inside in
+    unstaged g.rooms g.readers g.circles g.staged (ap (λ (x : Staging). x.staged) c.self.view_is ∙ c.requires) c.self.invariant.0
+
+pub invariant_of-self-2 : goal.invariant_of-self-2
+invariant_of-self-2 c = (tt, c.in_ok-staged.ensures.staged)
+
+pub returns-clause-ok : goal.returns-clause-ok
+returns-clause-ok c =
+    let g = c.self.inside in
+    let old = unstaged g.rooms g.readers g.circles g.staged (ap (λ (x : Staging). x.staged) c.self.view_is ∙ c.requires) c.self.invariant.0 in
+    staged_view g.rooms c.make_ready_alone.new.rooms c.in_ok-staged.staged.next.items g.staged c.args.self.now c.args.changes.now c.self.view_is (rooms_same g.rooms c.make_ready_alone.new.rooms old.ordered c.make_ready_alone.ensures.ordered c.make_ready_alone.ensures.rooms)
+    (staged_edges g.rooms c.make_ready_alone.new.rooms c.in_ok-staged.staged.next.items c.in_ok-staged.staged.next.items c.args.changes.now old.ordered c.make_ready_alone.ensures.ordered c.in_ok-staged.ensures.brings c.make_ready_alone.ensures.rooms (λ d. refl))
+
+pub invariant_of-self : goal.invariant_of-self
+invariant_of-self c =
+    let g = c.self.inside in
+    let none = ap (λ (x : Staging). x.staged) c.self.view_is ∙ c.requires in
+    refused_invariant g.rooms c.make_ready_alone.new.rooms c.make_ready_alone.new.readers c.make_ready_alone.new.circles g.staged none c.in_err-staged.ensures.err
+
+pub returns-in_err-staged-clause-err : goal.returns-in_err-staged-clause-err
+returns-in_err-staged-clause-err c =
+    let g = c.self.inside in
+    let old = unstaged g.rooms g.readers g.circles g.staged (ap (λ (x : Staging). x.staged) c.self.view_is ∙ c.requires) c.self.invariant.0 in
+    on_err c.from_residual.result (refused_view g.rooms c.make_ready_alone.new.rooms g.staged c.args.self.now c.self.view_is (rooms_same g.rooms c.make_ready_alone.new.rooms old.ordered c.make_ready_alone.ensures.ordered c.make_ready_alone.ensures.rooms))

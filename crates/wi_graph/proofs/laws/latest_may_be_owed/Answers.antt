@@ -1,0 +1,17 @@
+use Rattle.wi_graph.proofs.LatestLaws.{edit_owes, none_is_owed, owed_stays, settling_begins, settles_one}
+use Rattle.wi_graph.proofs.laws.latest_may_be_owed.Goals as goal
+
+pub returns-clause-edit : goal.returns-clause-edit
+returns-clause-edit c = edit_owes
+
+pub returns-clause-none : goal.returns-clause-none
+returns-clause-none c = none_is_owed
+
+pub returns-clause-settles : goal.returns-clause-settles
+returns-clause-settles c = settles_one
+
+pub returns-clause-stays : goal.returns-clause-stays
+returns-clause-stays c = owed_stays
+
+pub returns-clause-begins : goal.returns-clause-begins
+returns-clause-begins c = settling_begins

@@ -1,0 +1,13 @@
+//! Cells at which a search for a cone may stop.
+
+ghost use Rattle.std.specs.Prelude.{◌≡◌, ℕ, Bool};
+
+use wi_values::Address;
+
+/// Cells that are watched. Where with each of them each that reads it is watched too, a search for dependents may stop at them.
+pub trait Watch {
+    ghost watched: { Self → ℕ → Bool };
+
+    fn has(&self, at: Address) -> bool
+        ensures { result ≡ watched self.now at };
+}
