@@ -1,6 +1,6 @@
 -- Cones that are kept over an edit.
-use Rattle.std.proofs.Common.{◌≡◌, ◌||◌, ℕ, Bool, List, [], ◌∷◌, Option, Some, None, IfSome, refl, ap, sym, ◌∙◌, subst}
-use Rattle.std.proofs.lemmas.Bool.{false≢true}
+use Rattle.std.proofs.Common.{◌≡◌, ◌==◌, ◌&&◌, ◌||◌, ◌⊎◌, inl, inr, not, ℕ, Bool, true, false, List, [], ◌∷◌, Option, Some, None, IfSome, refl, ap, sym, ◌∙◌, subst}
+use Rattle.std.proofs.lemmas.Bool.{false≢true, or_left}
 use Rattle.std.specs.Global.{Vec}
 use Rattle.std.specs.Map.{keys_of}
 use Rattle.wi_parser.specs.declared.content.Content.{Content}
@@ -8,7 +8,10 @@ use Rattle.wi_parser.specs.Sheet.{Sheet}
 use Rattle.wi_worlds.specs.Reached.{ReachTable}
 use Rattle.wi_graph.specs.Reach.{is_one_of, reaches, in_cone}
 use Rattle.wi_graph.specs.Edges.{Edges, AreEdgesOf}
+use Rattle.wi_graph.specs.Watched.{IsClosedUp}
+use Rattle.wi_graph.proofs.Cones.{cone_has, cone_closed}
 use Rattle.wi_graph.proofs.GraphSteps.{same_reaches}
+use Rattle.wi_values.proofs.Order.{is_itself}
 use Rattle.wi_propagate.specs.Inner.Cones.{AreAllCones}
 
 -- where nothing is told
@@ -38,3 +41,16 @@ pub cone_given : (es : Edges) (sheet now : Sheet) (changes lent : List (ℕ × O
 cone_given es sheet now changes lent None e f a h = tt
 cone_given es sheet now changes lent (Some cone) e f a h = λ s b c. h c ∙ ap (λ (t : Sheet). in_cone t (keys_of changes) c) (sym e) ∙ in_same_cone es sheet s a b (keys_of changes) c
     ∙ ap (λ (xs : List (ℕ × Option Content)). in_cone s (keys_of xs) c) (sym f)
+
+-- ---- watched cells
+
+-- where each cell is watched that reaches a watched one, each is that reads one in a sheet with these edges
+pub watch_closed : (es : Edges) (sheet now : Sheet) (w : ℕ → Bool) → sheet ≡ now → AreEdgesOf es sheet → ((a c : ℕ) → w a ≡ true → in_cone now (a ∷ []) c ≡ true → w c ≡ true) → (s : Sheet) → AreEdgesOf es s → IsClosedUp s w
+watch_closed es sheet now w e a h s b c d r k =
+    h d c k (ap (λ (t : Sheet). in_cone t (d ∷ []) c) (sym e) ∙ in_same_cone es sheet s a b (d ∷ []) c ∙ cone_closed s (d ∷ []) c d r (cone_has s (d ∷ []) d (or_left (d == d) false (is_itself d))))
+
+-- a cell that isn't found is watched
+pub found_or_watched : (f i w : Bool) → f ≡ (i && not w) → i ≡ true → (f ≡ true) ⊎ (w ≡ true)
+found_or_watched f true true e h = inr refl
+found_or_watched f true false e h = inl e
+found_or_watched f false w e h = cc

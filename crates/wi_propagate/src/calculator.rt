@@ -1,6 +1,6 @@
 //! What a calculator promises: values, and how much recalculation they take.
 
-ghost use Rattle.std.specs.Prelude.{◌≡◌, ◌+◌, ◌≤◌, ℕ, Bool, false, nat_le, List, filter, length, sum_by, IfOk};
+ghost use Rattle.std.specs.Prelude.{◌≡◌, ◌⊎◌, ◌+◌, ◌≤◌, ℕ, Bool, true, false, nat_le, List, [], ◌∷◌, filter, length, sum_by, IfOk};
 ghost use Rattle.std.specs.Option.{option_copied};
 ghost use Rattle.std.specs.List.{find};
 ghost use Rattle.std.specs.List.Sorted.{IsStrictlyIncreasing};
@@ -16,6 +16,7 @@ ghost use Rattle.wi_sheet.specs.TableEntry.{table_entry, entry_demanded};
 ghost use Rattle.wi_sheet.specs.Unmoved.{IsUnmoved};
 
 use std::alloc::AllocError;
+use wi_graph::Watch;
 use wi_parser::Content;
 use wi_store::StoreFault;
 use wi_values::{Address, Rect, Replacement, Value};
@@ -116,6 +117,24 @@ pub trait Calculator {
         ensures unmoved { let sheet = (stored self.now).sheet in
             IfOk result (λ found. (c : ℕ) → is_one_of found.items c ≡ false
             → IsUnmoved sheet cells.now c) };
+
+    /// Of the cells that `mark` finds at least those that aren't watched, where each cell is watched that a watched one marks.
+    fn mark_beyond<W: Watch>(
+        &self,
+        cells: &[Address],
+        watch: &W,
+    ) -> Result<Vec<Address>, AllocError>
+        requires { let sheet = (stored self.now).sheet in
+            (a c : ℕ) → W.watched watch.now a ≡ true → marked sheet (a ∷ []) c ≡ true → W.watched watch.now c ≡ true }
+        ensures marked { let sheet = (stored self.now).sheet in
+            IfOk result (λ found. (c : ℕ) → is_one_of found.items c ≡ true → marked sheet cells.now c ≡ true) }
+        ensures others { let sheet = (stored self.now).sheet in
+            IfOk result (λ found. (c : ℕ) → marked sheet cells.now c ≡ true
+            → (is_one_of found.items c ≡ true) ⊎ (W.watched watch.now c ≡ true)) }
+    {
+        let _ = watch;
+        self.mark(cells)
+    }
 
     fn evaluations(&self) -> u64
         ensures { result ≡ evaluated self.now };

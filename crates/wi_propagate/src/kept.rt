@@ -34,7 +34,7 @@ use std::mem;
 use wi_cache::Kept;
 use wi_engine::{Pool, Question};
 use wi_functions::Meter;
-use wi_graph::Graph;
+use wi_graph::{Graph, Watch};
 use wi_parser::Content;
 use wi_store::{Limits, Store, StoreFault};
 use wi_values::{Address, ErrorKind, Rect, Replacement, Value};
@@ -419,6 +419,16 @@ impl Calculator for KeptCalculator {
             → is_one_of found.items c ≡ false → IsUnmoved sheet cells.now c) }
     {
         self.graph.cone(cells)
+    }
+
+    /// Exactly those of them that aren't watched, each once, in row-major order. The work grows with their count and that of their
+    /// readers, times logarithms, and not with the watched cells behind them.
+    fn mark_beyond<W: Watch>(
+        &self,
+        cells: &[Address],
+        watch: &W,
+    ) -> Result<Vec<Address>, AllocError> {
+        self.graph.cone_beyond(cells, watch)
     }
 
     fn evaluations(&self) -> u64 {

@@ -18,3 +18,4 @@ pub use calculator::Calculator;
 pub use kept::KeptCalculator;
 pub use occupied::occupied_in;
 pub use plain::PlainCalculator;
+pub use wi_graph::Watch;
