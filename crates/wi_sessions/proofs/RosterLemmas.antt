@@ -1,5 +1,5 @@
 -- Laws of sessions and their pending cells, as lists of parts of each.
-use Rattle.std.proofs.Common.{◌≡◌, ◌≢◌, ◌<◌, ◌≤◌, ◌+◌, zero, suc, ⊎_elim, ◌||◌, ◌&&◌, ◌∙◌, ℕ, Bool, true, false, cond, not, List, [], ◌∷◌, ◌++◌, map, length, get_or, set, slice_get, nat_eq, Option, Some, None, refl, sym, ap, subst, arith, true≢false}
+use Rattle.std.proofs.Common.{◌≡◌, ◌≢◌, ◌<◌, ◌≤◌, ◌+◌, ◌⊎◌, inl, inr, zero, suc, ⊎_elim, ◌||◌, ◌&&◌, ◌∙◌, ℕ, Bool, true, false, cond, not, List, [], ◌∷◌, ◌++◌, map, length, get_or, set, slice_get, nat_eq, Option, Some, None, refl, sym, ap, subst, arith, true≢false}
 use Rattle.std.specs.Prelude.{IfSome, nat_lt}
 use Rattle.std.specs.Option.{is_some, option_map}
 use Rattle.std.specs.List.{AllZip, list_any, position, position_or_len, position_from}
@@ -8,7 +8,7 @@ use Rattle.std.specs.Map.{keys_of, values_of, lookup}
 use Rattle.std.specs.Rc.{rc_str_bytes}
 use Rattle.std.specs.Str.{bytes_eq}
 use Rattle.std.specs.declared.rc.RcStr.{RcStr}
-use Rattle.std.proofs.lemmas.Bool.{cases_eq}
+use Rattle.std.proofs.lemmas.Bool.{cases_eq, cases_lt}
 use Rattle.std.proofs.lemmas.List.{length-map, map-append, map-set, get_or-set_same, get_or-set_other}
 use Rattle.std.proofs.lemmas.Option.{get_or_from_slice_get, slice_get-map, slice_get_within}
 use Rattle.std.proofs.Math.Seq.{map-set_same}
@@ -217,3 +217,13 @@ module _ {Z : Type 0} where
   -- a session whose vacant rooms went
   abbrev pub Gave : Entry Z → Entry Z → Type 0
   Gave x y = (session_in y ≡ session_in x) × (pending_cells y ≡ pending_cells x) × (rooms_of y ≡ [])
+
+-- ---- what each has
+
+-- what holds up to one, and of it, holds up to the next
+pub one_more_has : (f : ℕ → Bool) (i : ℕ) → f i ≡ true → ((j : ℕ) → j < i → f j ≡ true) → (j : ℕ) → j < i + 1 → f j ≡ true
+one_more_has f i h k j l = at (cases_lt j i)
+  where
+    at : (j < i) ⊎ (i ≤ j) → f j ≡ true
+    at (inl g) = k j g
+    at (inr g) = let e : j ≡ i = omega (arith, l, g) in ap f e ∙ h

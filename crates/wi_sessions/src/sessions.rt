@@ -1,6 +1,6 @@
 //! All sessions.
 
-ghost use Rattle.std.specs.Prelude.{◌≡◌, ◌≢◌, ◌<◌, ◌||◌, ◌&&◌, ◌++◌, ◌∷◌, ℕ, List, not, length, false, [], IfOk, IfSome, OnOk, OnErr, string_bytes};
+ghost use Rattle.std.specs.Prelude.{◌≡◌, ◌≢◌, ◌↔◌, ◌<◌, ◌||◌, ◌&&◌, ◌++◌, ◌∷◌, ℕ, List, not, length, true, false, [], IsTrue, IfOk, IfSome, OnOk, OnErr, string_bytes};
 ghost use Rattle.std.specs.Option.{is_some, option_map};
 ghost use Rattle.std.specs.List.{slice_set};
 ghost use Rattle.std.specs.Map.{lookup};
@@ -136,6 +136,19 @@ impl Sessions {
         ensures vacant { result.now.vacant ≡ vacant_of self.now i }
     {
         &self.at(i).pending
+    }
+
+    /// Whether a cell is pending for each session. The work is that of `Pending::contains` for each up to the first that lacks it.
+    pub fn all_have(&self, at: Address) -> bool
+        ensures { IsTrue result ↔ ((i : ℕ) → i < length self.now.sessions
+            → is_listed (pending_of self.now i) at ≡ true) }
+    {
+        for i in 0..self.len() {
+            if !self.pending(i).contains(at) {
+                return false;
+            }
+        }
+        true
     }
 
     /// A session uses a scenario of this name, or the sheet as it stands. Takes no memory.
