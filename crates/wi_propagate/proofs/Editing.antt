@@ -1,23 +1,38 @@
 -- What is so of a calculator that keeps values stays so over an edit.
-use Rattle.std.proofs.Common.{◌≡◌, ◌==◌, ◌≤◌, ◌+◌, ℕ, Bool, true, false, cond, nat_lt, nat_le, List, [], ◌∷◌, map, Option, Some, None, Result, Ok, Err, refl, ap, sym, ◌∙◌, subst, arith}
+use Rattle.std.proofs.Common.{◌≡◌, ◌==◌, ◌⊎◌, ◌≤◌, ◌+◌, ℕ, Bool, true, false, cond, nat_lt, nat_le, List, [], ◌∷◌, map, Option, Some, None, IfSome, Result, Ok, Err, refl, ap, sym, ◌∙◌, subst, arith}
 use Rattle.std.proofs.lemmas.Bool.{or_parts}
 use Rattle.std.specs.Map.{keys_of}
 use Rattle.wi_values.proofs.Order.{turn_test}
 use Rattle.wi_parser.specs.declared.content.Content.{Content}
 use Rattle.wi_parser.specs.declared.content.Content.TheVariants.{Constant, Formula}
 use Rattle.wi_parser.specs.Sheet.{Sheet, content_of, with_content}
-use Rattle.wi_store.specs.Store.{Stored, edited, without_empty, change_without_empty, accepted, applied}
+use Rattle.wi_store.specs.Store.{Stored, edited, without_empty, change_without_empty, accepted, applied, Applies}
 use Rattle.wi_store.specs.declared.fault.StoreFault.{StoreFault}
-use Rattle.wi_store.specs.declared.fault.StoreFault.TheVariants.{Full, EditLimit}
+use Rattle.wi_store.specs.declared.fault.StoreFault.TheVariants.{Full, EditLimit, Memory}
 use Rattle.wi_functions.specs.Counts.{Counts}
-use Rattle.wi_cache.specs.Entries.{KeptValues}
+use Rattle.wi_cache.specs.Entries.{KeptValues, kept, value_for}
 use Rattle.wi_graph.specs.Reach.{is_one_of, SameOff, in_cone}
 use Rattle.wi_graph.specs.Edges.{Edges, AreEdgesOf, brought, edges_after, sheet_after}
 use Rattle.wi_graph.proofs.EdgeLemmas.{edges_follow}
 use Rattle.wi_propagate.specs.KeptSheet.{Generations, generation_in}
-use Rattle.wi_propagate.specs.Right.{AreKeptRight}
+use Rattle.wi_propagate.specs.Right.{IsKeptFor, AreKeptRight}
 use Rattle.wi_sheet.proofs.Puts.{content_of-with}
+use Rattle.wi_values.specs.declared.value.Value.{Value}
+use Rattle.wi_cache.specs.declared.key.Key.{Key}
+use Rattle.wi_graph.specs.Latest.{numbered, IsUnread}
+use Rattle.wi_propagate.specs.Inner.Keeping.{kept_sheet}
+use Rattle.wi_propagate.specs.Inner.Noted.{Noted, told, AreKeptUp}
 use Rattle.wi_propagate.proofs.RightValues.{AreRaised, kept_over_edit}
+use Rattle.wi_propagate.proofs.NotedSteps.{told_after, told_same, kept_up_after, no_numbers, told_none}
+
+-- ---- where nothing was edited, and nothing is kept
+
+pub begins_right : (s : Stored) (g : Noted) (k : KeptValues) (n : Counts) (keep : ℕ) → g ≡ no_numbers → k ≡ kept [] keep → 1 ≤ keep → AreKeptRight (kept_sheet s (told s.sheet g.named) (Some k) n)
+begins_right s g k n keep e v one = record {
+  room = subst (λ (x : KeptValues). 1 ≤ x.capacity) (sym v) one;
+  past = λ c. let z = told_none s.sheet g c e in omega (arith, z);
+  right = λ q. subst (λ (x : KeptValues). IfSome (value_for x.entries q) (IsKeptFor s.sheet s.edits (generation_in (told s.sheet g.named)) q)) (sym v) tt;
+}
 
 -- ---- the edges are those of the edited sheet
 
@@ -53,37 +68,79 @@ accepted_is s t es h = at (nat_lt s.limits.cells _) (nat_le s.limits.edits s.edi
     at false true k = cc
     at false false k = let e : ◌≡◌ {A = Stored} (record s { sheet = edited s.sheet es; edits = s.edits + 1 }) t = cc in (ap (λ (x : Stored). x.sheet) (sym e), ap (λ (x : Stored). x.edits) (sym e))
 
+pub same_off_applied : (old new : Stored) (changes : List (ℕ × Option Content)) → applied old changes ≡ Ok new → SameOff old.sheet new.sheet (keys_of changes)
+same_off_applied old new changes h = subst (λ (t : Sheet). SameOff old.sheet t (keys_of changes)) (sym (accepted_is old new (map change_without_empty changes) h).0) (same_off_edited old.sheet changes)
+
+pub number_applied : (old new : Stored) (changes : List (ℕ × Option Content)) → applied old changes ≡ Ok new → new.edits ≡ old.edits + 1
+number_applied old new changes h = (accepted_is old new (map change_without_empty changes) h).1
+
+-- after a refusal all is as it was
+pub refused_same : (answer : Result Stored StoreFault) (fault : StoreFault) (old new : Stored) → Applies answer (Err fault) old new → new ≡ old
+refused_same answer Full old new h = h.1
+refused_same answer EditLimit old new h = h.1
+refused_same answer Memory old new h = h
+
 -- ---- generations
 
 -- after an accepted edit the generations of its cone are its number, and the others are as they were
-pub raised_in_cone : (s : Sheet) (cells cone : List ℕ) (edits n : ℕ) (old mid new : Generations) → ((c : ℕ) → is_one_of cone c ≡ in_cone s cells c) → ((c : ℕ) → generation_in mid c ≡ generation_in old c) →
-    ((c : ℕ) → generation_in new c ≡ cond (is_one_of cone c) n (generation_in mid c)) → n ≡ edits + 1 → AreRaised s cells edits (generation_in old) (generation_in new)
-raised_in_cone s cells cone edits n old mid new i same up e = record {
-  inside = λ c h. let z = up c ∙ ap (λ (b : Bool). cond b n (generation_in mid c)) (i c ∙ h) in omega (arith, z, e);
-  beside = λ c h. up c ∙ ap (λ (b : Bool). cond b n (generation_in mid c)) (i c ∙ h) ∙ same c;
-}
-
-past_edit : (cone : List ℕ) (edits n : ℕ) (old mid new : Generations) → ((c : ℕ) → generation_in mid c ≡ generation_in old c) → ((c : ℕ) → generation_in new c ≡ cond (is_one_of cone c) n (generation_in mid c)) → n ≡ edits + 1 →
-    ((c : ℕ) → generation_in old c ≤ edits) → (c : ℕ) → generation_in new c ≤ edits + 1
-past_edit cone edits n old mid new same up e h c = at (is_one_of cone c) (up c)
-  where
-    at : (b : Bool) → generation_in new c ≡ cond b n (generation_in mid c) → generation_in new c ≤ edits + 1
-    at true k = omega (arith, k, e)
-    at false k = let y = same c in let z = h c in omega (arith, k, y, z)
-
-pub right_over_edit : (old new : Stored) (changes : List (ℕ × Option Content)) (cone : List ℕ) (n : ℕ) (g m r : Generations) (values : KeptValues) (before after : Counts) → applied old changes ≡ Ok new → ((c : ℕ) → is_one_of cone c ≡ in_cone old.sheet (keys_of changes) c) →
-    ((c : ℕ) → generation_in m c ≡ generation_in g c) → ((c : ℕ) → generation_in r c ≡ cond (is_one_of cone c) n (generation_in m c)) → n ≡ new.edits →
+pub right_after_edit : (old new : Stored) (changes : List (ℕ × Option Content)) (n : ℕ) (g r : Generations) (values : KeptValues) (before after : Counts) → applied old changes ≡ Ok new →
+    ((c : ℕ) → generation_in r c ≡ cond (in_cone old.sheet (keys_of changes) c) n (generation_in g c)) → n ≡ new.edits →
     AreKeptRight (record { stored = old; values = values; generations = g; counts = before }) → AreKeptRight (record { stored = new; values = values; generations = r; counts = after })
-right_over_edit old new changes cone n g m r values before after h i same up e k =
+right_after_edit old new changes n g r values before after h up e k =
     let a = accepted_is old new (map change_without_empty changes) h in
     let number : n ≡ old.edits + 1 = e ∙ a.1 in
-    let right = kept_over_edit old.sheet (edited old.sheet (map change_without_empty changes)) (keys_of changes) old.edits (generation_in g) (generation_in r) values.entries (same_off_edited old.sheet changes)
-    (raised_in_cone old.sheet (keys_of changes) cone old.edits n g m r i same up number) k.right in
+    let right = kept_over_edit old.sheet (edited old.sheet (map change_without_empty changes)) (keys_of changes) old.edits (generation_in g) (generation_in r) values.entries (same_off_edited old.sheet changes) (raised number) k.right in
     record {
       room = k.room;
-      past = λ c. let z = past_edit cone old.edits n g m r same up number k.past c in let y = a.1 in omega (arith, z, y);
+      past = λ c. let z = past c number (in_cone old.sheet (keys_of changes) c) (up c) in let y = a.1 in omega (arith, z, y);
       right = rw (a.0, a.1) right;
     }
+  where
+    raised : n ≡ old.edits + 1 → AreRaised old.sheet (keys_of changes) old.edits (generation_in g) (generation_in r)
+    raised m = record {
+      inside = λ c i. let z = up c ∙ ap (λ (b : Bool). cond b n (generation_in g c)) i in omega (arith, z, m);
+      beside = λ c i. up c ∙ ap (λ (b : Bool). cond b n (generation_in g c)) i;
+    }
+
+    past : (c : ℕ) → n ≡ old.edits + 1 → (b : Bool) → generation_in r c ≡ cond b n (generation_in g c) → generation_in r c ≤ old.edits + 1
+    past c m true z = omega (arith, z, m)
+    past c m false z = let y = k.past c in omega (arith, z, y)
+
+-- and where only the numbers stand in another list, all is right still
+pub right_same : (s : Stored) (values : KeptValues) (g r : Generations) (counts : Counts) → ((c : ℕ) → generation_in r c ≡ generation_in g c) → AreKeptRight (record { stored = s; values = values; generations = g; counts = counts }) →
+    AreKeptRight (record { stored = s; values = values; generations = r; counts = counts })
+right_same s values g r counts e k = record {
+  room = k.room;
+  past = λ c. subst (λ (m : ℕ). m ≤ s.edits) (sym (e c)) (k.past c);
+  right = λ q. at (value_for values.entries q) q (k.right q);
+}
+  where
+    at : (o : Option Value) (q : Key) → IfSome o (IsKeptFor s.sheet s.edits (generation_in g) q) → IfSome o (IsKeptFor s.sheet s.edits (generation_in r) q)
+    at None q h = h
+    at (Some v) q h = record { past = h.past; right = λ m. h.right (m ∙ e q.cell) }
+
+-- also where room was made for numbers
+pub right_unnamed : (s : Stored) (first mid : Noted) → ((c : ℕ) → generation_in mid.named c ≡ generation_in first.named c) → (values : KeptValues) (counts : Counts) → AreKeptRight (record { stored = s; values = values; generations = told s.sheet first.named; counts = counts }) →
+    AreKeptRight (record { stored = s; values = values; generations = told s.sheet mid.named; counts = counts })
+right_unnamed s first mid e values counts k = right_same s values (told s.sheet first.named) (told s.sheet mid.named) counts (told_same s.sheet first.named mid.named e) k
+
+-- what an edit tells, and what it owes
+module _ (old new : Stored) (changes : List (ℕ × Option Content)) (first mid last : Noted) (cells : List ℕ) (n : ℕ) (h : applied old changes ≡ Ok new) (are : cells ≡ keys_of changes) (number : n ≡ new.edits)
+    (room : (c : ℕ) → generation_in mid.named c ≡ generation_in first.named c) (named : (c : ℕ) → generation_in last.named c ≡ cond (is_one_of cells c) n (generation_in mid.named c)) (k : AreKeptUp old.sheet old.edits first) where
+  numbers : (c : ℕ) → generation_in last.named c ≡ numbered (keys_of changes) n (generation_in mid.named) c
+  numbers c = named c ∙ ap (λ (xs : List ℕ). cond (is_one_of xs c) n (generation_in mid.named c)) are
+
+  pub edit_told : (c : ℕ) → generation_in (told new.sheet last.named) c ≡ cond (in_cone old.sheet (keys_of changes) c) n (generation_in (told old.sheet first.named) c)
+  edit_told c =
+      told_after old.sheet new.sheet (keys_of changes) mid.named last.named n (same_off_applied old new changes h) below numbers c
+      ∙ ap (λ (m : ℕ). cond (in_cone old.sheet (keys_of changes) c) n m) (told_same old.sheet first.named mid.named room c)
+    where
+      below : (d : ℕ) → generation_in mid.named d ≤ n
+      below d = let a = k.past d in let b = room d in let m = number_applied old new changes h in omega (arith, a, b, m, number)
+
+  pub edit_keeps_up : mid.noted ≡ first.noted → ((x : ℕ) → is_one_of first.owed x ≡ true → is_one_of mid.owed x ≡ true) → ((x : ℕ) → is_one_of cells x ≡ true → (is_one_of mid.owed x ≡ true) ⊎ IsUnread old.sheet x) → last.noted ≡ mid.noted → last.owed ≡ mid.owed → AreKeptUp new.sheet new.edits last
+  edit_keeps_up noted stays owed again still = subst (λ (m : ℕ). AreKeptUp new.sheet m last) number (kept_up_after old.sheet new.sheet (keys_of changes) first mid last old.edits n (same_off_applied old new changes h) (number ∙ number_applied old new changes h) room noted stays
+      (λ x m. owed x (ap (λ (xs : List ℕ). is_one_of xs x) are ∙ m)) numbers again still k)
 
 pub edges_applied : (es : Edges) (old new : Stored) (changes : List (ℕ × Option Content)) → AreEdgesOf es old.sheet → applied old changes ≡ Ok new → AreEdgesOf (edges_after es changes) new.sheet
 edges_applied es old new changes h e =

@@ -16,7 +16,7 @@ use Rattle.wi_propagate.specs.KeptSheet.{Generations, generation_in}
 use Rattle.wi_propagate.specs.Inner.Keeping.{HasGeneration}
 
 -- a cell is given a generation, and no other cell
-abbrev IsGiven : Generations → Generations → ℕ → ℕ → Type 0
+abbrev pub IsGiven : Generations → Generations → ℕ → ℕ → Type 0
 IsGiven old new a w = (c : ℕ) → lookup (is_at (nat_cmp c)) new ≡ cond (a == c) (Some w) (lookup (is_at (nat_cmp c)) old)
 
 -- each cell that had a generation has one then

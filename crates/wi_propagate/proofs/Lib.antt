@@ -1,5 +1,6 @@
 -- What the proofs use, in the order in which the lemmas rest on each other. Of cells and cones:
--- `EmptyCells`, passed on from `wi_sheet`; `GenerationSteps`, how generations are given and raised; `ReplacedCones`, `KeptCones`.
+-- `EmptyCells`, passed on from `wi_sheet`; `GenerationSteps`, how numbers are given and raised; over it `NotedSteps`, what generations they tell and
+-- what is owed, and `SettlingSteps`, how what is owed is noted; `ReplacedCones`, `KeptCones`.
 -- Of what is kept:
 -- `RightValues`: values that are kept stay right, over an edit, where one is kept, and where a question begins.
 -- `KeepSteps`: what is so where one value is kept; over it `ValuesAtHand`, what is kept or was given up in the question, and
@@ -10,6 +11,8 @@
 -- `EntryQuestions`: an entry of a data table.
 pub mod EmptyCells
 pub mod GenerationSteps
+pub mod NotedSteps
+pub mod SettlingSteps
 pub mod ReplacedCones
 pub mod KeptCones
 pub mod RightValues

@@ -29,8 +29,19 @@ use Rattle.wi_propagate.specs.KeptSheet.{Generations, generation_in, KeptSheet, 
 use Rattle.wi_propagate.specs.Right.{AreRight, AreKeptRight}
 use Rattle.wi_propagate.specs.Inner.Keeping.{kept_sheet, values_in, Keeping, keeping, begun, state_in, IsKeepingRight}
 use Rattle.wi_propagate.specs.Inner.Owes.{Owes}
+use Rattle.wi_propagate.specs.Inner.Noted.{told}
 use Rattle.wi_propagate.proofs.RightValues.{or_none}
 use Rattle.wi_propagate.proofs.PlaceCounts.{all_stand}
+
+-- ---- what is owed is settled first
+
+-- where the numbers of edits are the same, so is the calculator
+module _ {s : Stored} {old new : Generations} (e : new ≡ old) (o : Option KeptValues) (n : Counts) where
+  pub settled_view : (k : KeptSheet) → kept_sheet s (told s.sheet old) o n ≡ k → kept_sheet s (told s.sheet new) o n ≡ k
+  settled_view k h = ap (λ (ns : Generations). kept_sheet s (told s.sheet ns) o n) e ∙ h
+
+  pub settled_right : AreKeptRight (kept_sheet s (told s.sheet old) o n) → AreKeptRight (kept_sheet s (told s.sheet new) o n)
+  settled_right h = subst (λ (ns : Generations). AreKeptRight (kept_sheet s (told s.sheet ns) o n)) (sym e) h
 
 -- ---- how it begins
 
@@ -221,6 +232,10 @@ owes_none k cases done = record {
   while_room = record { count = omega arith; stays = λ few j i. i; fits = λ few short j i. i };
   keeps = λ d room. record { added = omega arith; stays = λ j i. i; settled = λ c w i o. absurd (true≢false (sym i ∙ o)) };
 }
+
+-- and where it was settled alone
+pub owes_settled : (old new : KeptSheet) (cases : List Case) (done : Bool) → new ≡ old → Owes old new cases done
+owes_settled old new cases done e = subst (λ (k : KeptSheet). Owes k new cases done) e (owes_none new cases done)
 
 module _ {k : KeptSheet} {q : Keeping} (e : Begins k q) (last : Keeping) (values : KeptValues) (counts : Counts) (same : values ≡ last.values) (within : length values.entries ≤ values.capacity) (Has : List Case → Type 0) (cases : List Case) (closed : IsClosed k.stored.sheet cases) (has : Has cases) where
   -- of each closed list that has what it is to have, so of the cases that are demanded

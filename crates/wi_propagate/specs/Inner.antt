@@ -3,3 +3,5 @@ pub mod Plain
 pub mod Cones
 pub mod Keeping
 pub mod Owes
+pub mod Noted
+pub mod Settling

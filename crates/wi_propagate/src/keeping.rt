@@ -6,9 +6,10 @@ ghost use Rattle.wi_cache.specs.Entries.{HasOneEach, Puts, going};
 ghost use Rattle.wi_engine.specs.Inner.MemoState.{IsMemoOf};
 ghost use Rattle.wi_propagate.specs.Inner.Cones.{AreAllCones};
 ghost use Rattle.wi_propagate.specs.Inner.Keeping.{keeping, state_in, IsKeepingRight, TakesOver};
+ghost use Rattle.wi_propagate.specs.Inner.Noted.{told, AreKeptUp};
 
 use crate::cones::add_cones;
-use crate::generations::{Generations, generation_of};
+use crate::generations::Generations;
 use std::alloc::{AllocError, Global};
 use std::marker::Model;
 use wi_cache::{Kept, Key, RunTable};
@@ -47,17 +48,20 @@ impl<'a> Model for Keeping<'a> {
 
     ghost coded = { Prim.hlevel (codes, content.the_row.coded, key.the_row.coded, value.the_row.coded) };
 
-    ghost use Rattle.std.specs.Prelude.{◌≡◌, None};
+    ghost use Rattle.std.specs.Prelude.{◌≡◌, [], None};
     ghost use Rattle.wi_graph.specs.Edges.{AreEdgesOf};
     ghost use Rattle.wi_propagate.specs.Inner.Cones.{AreAllCones};
     ghost use Rattle.wi_propagate.specs.Inner.Keeping.{keeping, IsKeepingRight};
+    ghost use Rattle.wi_propagate.specs.Inner.Noted.{told, AreKeptUp};
 
-    ghost view = { λ m. keeping m.store.now.sheet m.store.now.edits m.generations.now.entries m.given_up m.kept };
+    ghost view = { λ m. keeping m.store.now.sheet m.store.now.edits (told m.store.now.sheet m.generations.now.named) m.given_up m.kept };
 
     ghost invariant = { λ m. AreEdgesOf m.graph.now.now m.store.now.sheet
         × (m.graph.now.staged ≡ None)
         × AreAllCones m.store.now.sheet m.cones
-        × IsKeepingRight (keeping m.store.now.sheet m.store.now.edits m.generations.now.entries m.given_up m.kept) };
+        × IsKeepingRight (keeping m.store.now.sheet m.store.now.edits (told m.store.now.sheet m.generations.now.named) m.given_up m.kept)
+        × AreKeptUp m.store.now.sheet m.store.now.edits m.generations.now
+        × (m.generations.now.owed ≡ []) };
 }
 
 impl<'a> Keeping<'a> {
@@ -74,9 +78,11 @@ impl<'a> Keeping<'a> {
         requires staged { graph.now.staged ≡ None }
         requires cones { AreAllCones store.now.sheet cones }
         requires right { IsKeepingRight
-            (keeping store.now.sheet store.now.edits generations.now.entries [] kept) }
+            (keeping store.now.sheet store.now.edits (told store.now.sheet generations.now.named) [] kept) }
+        requires kept_up { AreKeptUp store.now.sheet store.now.edits generations.now }
+        requires settled { generations.now.owed ≡ [] }
         ensures value { result
-            ≡ keeping store.now.sheet store.now.edits generations.now.entries [] kept }
+            ≡ keeping store.now.sheet store.now.edits (told store.now.sheet generations.now.named) [] kept }
         ensures memo { IsMemoOf store.now.sheet (state_in result) }
         ensures within { length kept.entries ≤ kept.capacity }
         ensures one_each { HasOneEach kept.entries }
@@ -118,7 +124,7 @@ impl<'a> Memo for Keeping<'a> {
         let world = world.reaching_by(at, &self.cones, &mut self.last)?;
         Ok(Key {
             cell: at,
-            generation: generation_of(self.generations, at),
+            generation: self.generations.generation_of(at),
             world,
         })
     }

@@ -1,6 +1,6 @@
 //! A calculator that keeps what it has calculated.
 
-ghost use Rattle.std.specs.Prelude.{◌≡◌, ◌≤◌, ◌+◌, ◌||◌, [], ℕ, Some, None, true, false, if◌then◌else◌, length, sum_by, All, IfSome, IfOk, OnOk, OnErr, is_ok};
+ghost use Rattle.std.specs.Prelude.{◌≡◌, ◌≤◌, ◌+◌, ◌||◌, [], ℕ, Some, None, true, false, if◌then◌else◌, length, sum_by, All, IfOk, OnOk, OnErr, is_ok};
 ghost use Rattle.std.specs.List.{list_any};
 ghost use Rattle.std.specs.List.Sorted.{IsStrictlyIncreasing};
 ghost use Rattle.std.specs.Map.{keys_of};
@@ -9,7 +9,7 @@ ghost use Rattle.wi_parser.specs.Sheet.{Sheet};
 ghost use Rattle.wi_store.specs.Store.{applied, Applies};
 ghost use Rattle.wi_cache.specs.Entries.{kept};
 ghost use Rattle.wi_graph.specs.Circular.{circular};
-ghost use Rattle.wi_graph.specs.Edges.{AreEdgesOf, edges_after, staging};
+ghost use Rattle.wi_graph.specs.Edges.{AreEdgesOf};
 ghost use Rattle.wi_graph.specs.Reach.{is_one_of, in_cone};
 ghost use Rattle.wi_sheet.specs.Shown as show;
 ghost use Rattle.wi_sheet.specs.TableEntry.{table_entry, entry_demanded};
@@ -19,11 +19,10 @@ ghost use Rattle.wi_sheet.specs.Unmoved.{IsUnmoved};
 ghost use Rattle.wi_propagate.specs.Inner.Owes.{Owes};
 ghost use Rattle.wi_propagate.specs.KeptSheet.{generation_in, is_kept, unkept, IsAtHand, HasRoomFor, KeepsAll, KeepsNoMore, KeepsWhileRoom};
 ghost use Rattle.wi_propagate.specs.Right.{AreKeptRight};
-ghost use Rattle.wi_propagate.specs.Inner.Keeping.{HasGeneration};
 
 use crate::calculator::Calculator;
 use crate::cones::{keep_over_edit, take_cones};
-use crate::generations::{Generations, make_room, raise};
+use crate::generations::Generations;
 use crate::keeping::Keeping;
 use crate::last_worlds::LastWorlds;
 use crate::standing::standing_value;
@@ -78,14 +77,16 @@ impl Model for KeptCalculator {
     ghost use Rattle.wi_propagate.specs.Right.{AreKeptRight};
     ghost use Rattle.wi_propagate.specs.Inner.Cones.{AreAllCones};
     ghost use Rattle.wi_propagate.specs.Inner.Keeping.{kept_sheet};
+    ghost use Rattle.wi_propagate.specs.Inner.Noted.{told, AreKeptUp};
 
-    ghost view = { λ k. kept_sheet k.store k.generations.entries k.kept k.meter };
+    ghost view = { λ k. kept_sheet k.store (told k.store.sheet k.generations.named) k.kept k.meter };
 
     ghost invariant = { λ k. IsSome k.kept
         × AreEdgesOf k.graph.now k.store.sheet
         × (k.graph.staged ≡ None)
-        × AreKeptRight (kept_sheet k.store k.generations.entries k.kept k.meter)
-        × AreAllCones k.store.sheet k.cones };
+        × AreKeptRight (kept_sheet k.store (told k.store.sheet k.generations.named) k.kept k.meter)
+        × AreAllCones k.store.sheet k.cones
+        × AreKeptUp k.store.sheet k.store.edits k.generations };
 }
 
 impl KeptCalculator {
@@ -123,14 +124,8 @@ impl KeptCalculator {
         let _ = &self.store;
     }
 
-    // Does an edit over its cone, which is searched for where it isn't given.
-    fn apply_over(
-        &mut self,
-        changes: Vec<(Address, Option<Content>)>,
-        cone: Option<Vec<Address>>,
-    ) -> Result<(), StoreFault>
-        requires { IfSome cone (λ cone. (c : ℕ)
-            → is_one_of cone.items c ≡ in_cone self.old.stored.sheet (keys_of changes.items) c) }
+    // Does an edit.
+    fn edit(&mut self, changes: Vec<(Address, Option<Content>)>) -> Result<(), StoreFault>
         ensures applied { Applies
             (applied self.old.stored changes.items) result self.old.stored self.new.stored }
         ensures same_counts { self.new.counts ≡ self.old.counts }
@@ -142,12 +137,14 @@ impl KeptCalculator {
         ensures same_generations { OnErr result ((c : ℕ)
             → generation_in self.new.generations c ≡ generation_in self.old.generations c) }
     {
-        let cone = stage(&mut self.graph, &changes, cone)?;
-        match edit(&mut self.store, &mut self.generations, &cone, changes) {
+        let cells = changed_cells(self.alloc, &changes)?;
+        self.generations.owe(&self.graph, &cells)?;
+        self.graph.stage_alone(&changes)?;
+        match self.store.apply(changes) {
             Ok(()) => {
                 keep_over_edit(self.alloc, &self.graph, &mut self.cones);
                 self.graph.commit();
-                raise(&mut self.generations, &cone, self.store.edits());
+                self.generations.name(&cells, self.store.edits());
                 Ok(())
             }
             Err(fault) => {
@@ -175,6 +172,7 @@ impl KeptCalculator {
             return Ok(value);
         }
         let world = self.worlds.world_for(self.alloc, put)?;
+        self.generations.settle(&self.graph)?;
         let Some(kept) = self.kept.take() else {
             unreachable!()
         };
@@ -226,6 +224,7 @@ impl KeptCalculator {
             return Ok(Value::Fault(ErrorKind::Circular));
         }
         let world = self.worlds.world_for(self.alloc, put)?;
+        self.generations.settle(&self.graph)?;
         let Some(kept) = self.kept.take() else {
             unreachable!()
         };
@@ -275,9 +274,9 @@ impl Calculator for KeptCalculator {
         self.store.next_occupied(area, from)
     }
 
-    /// One edit. The work grows with the cone of the edited cells, what its cells read and who reads them, times logarithms. An
-    /// accepted edit is the new generation of each cell of the cone. What is kept stays; so do the cones that are known, if each
-    /// cell reads what it read before.
+    /// One edit. The work grows with what the edited cells read and who reads them; with their cone, what its cells read and who reads
+    /// them, times logarithms, only where a cycle may be closed or opened. An accepted edit is the new generation of each cell of the cone;
+    /// it is noted when a question asks. What is kept stays; so do the cones that are known, if each cell reads what it read before.
     fn apply(&mut self, changes: Vec<(Address, Option<Content>)>) -> Result<(), StoreFault>
         ensures applied { Applies
             (applied self.old.stored changes.items) result self.old.stored self.new.stored }
@@ -290,10 +289,10 @@ impl Calculator for KeptCalculator {
         ensures same_generations { OnErr result ((c : ℕ)
             → generation_in self.new.generations c ≡ generation_in self.old.generations c) }
     {
-        self.apply_over(changes, None)
+        self.edit(changes)
     }
 
-    /// The same, where the cone of the edited cells is at hand, as `mark` gives it, and isn't searched for again.
+    /// The same; the cells that are marked aren't needed.
     fn apply_marked(
         &mut self,
         changes: Vec<(Address, Option<Content>)>,
@@ -312,7 +311,8 @@ impl Calculator for KeptCalculator {
         ensures same_generations { OnErr result ((c : ℕ)
             → generation_in self.new.generations c ≡ generation_in self.old.generations c) }
     {
-        self.apply_over(changes, Some(cells))
+        drop(cells);
+        self.edit(changes)
     }
 
     /// What a cell shows under replacements. A formula is evaluated where its value is not kept, and its value is kept then.
@@ -440,42 +440,18 @@ impl Calculator for KeptCalculator {
     }
 }
 
-// Stages an edit over its cone, which is searched for where it isn't given.
-fn stage(
-    graph: &mut Graph,
+// The cells of an edit.
+fn changed_cells(
+    alloc: Global,
     changes: &[(Address, Option<Content>)],
-    cone: Option<Vec<Address>>,
 ) -> Result<Vec<Address>, AllocError>
-    requires staged { graph.old.staged ≡ None }
-    requires cone { IfSome cone (λ cone. (s : Sheet) → AreEdgesOf graph.old.now s
-        → (c : ℕ) → is_one_of cone.items c ≡ in_cone s (keys_of changes.now) c) }
-    ensures ok { OnOk result (graph.new
-        ≡ staging graph.old.now (Some (edges_after graph.old.now changes.now))) }
-    ensures err { OnErr result (graph.new ≡ graph.old) }
-    ensures cells { IfOk result (λ cone. (s : Sheet) → AreEdgesOf graph.old.now s
-        → (c : ℕ) → is_one_of cone.items c ≡ in_cone s (keys_of changes.now) c) }
+    ensures { IfOk result (λ v. v.items ≡ keys_of changes.now) }
 {
-    match cone {
-        Some(cone) => graph.stage_over(changes, cone),
-        None => graph.stage(changes),
+    let mut cells = Vec::new(alloc);
+    for change in changes {
+        cells.push(change.0)?;
     }
-}
-
-// Does an edit of a sheet, with room for the generations of its cone. After a refusal the sheet is as it was.
-fn edit(
-    store: &mut Store,
-    generations: &mut Generations,
-    cone: &[Address],
-    changes: Vec<(Address, Option<Content>)>,
-) -> Result<(), StoreFault>
-    ensures applied { Applies (applied store.old changes.items) result store.old store.new }
-    ensures same { (c : ℕ)
-        → generation_in generations.new.entries c ≡ generation_in generations.old.entries c }
-    ensures there { OnOk result ((c : ℕ) → is_one_of cone.now c ≡ true
-        → HasGeneration generations.new.entries c) }
-{
-    make_room(generations, cone)?;
-    store.apply(changes)
+    Ok(cells)
 }
 
 // Whether one of the cells is circular whose values an entry asks for: its formula cell and its replacement cells.

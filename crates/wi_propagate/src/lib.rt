@@ -10,6 +10,7 @@ mod last_worlds;
 pub mod laws;
 mod occupied;
 mod plain;
+mod settling;
 mod standing;
 mod table_entry;
 mod value;

@@ -8,6 +8,7 @@ loop-cell-preserved c =
     let new = c.put_new.new.self.entries in
     let made = room_made old new c.cell-item.result c.in_ok-put_new.ensures.entries in
     record {
+      stay = λ q h. made.stay q (c.loop-cell.invariant.stay q h);
       same = λ q. made.same q ∙ c.loop-cell.invariant.same q;
       there = there_more old new c.args.cells.now c.loop-cell.cell-index c.cell-item.result c.loop-cell-test.true c.cell-item.is made c.loop-cell.invariant.there;
     }

@@ -2,6 +2,8 @@ use Rattle.std.proofs.Common.{◌∙◌, ap}
 use Rattle.wi_sheet.specs.Demand.{reaching}
 use Rattle.wi_propagate.specs.Inner.Keeping.{Keeping}
 use Rattle.wi_propagate.proofs.ReplacedCones.{worlds_all}
+use Rattle.wi_propagate.specs.KeptSheet.{generation_in}
+use Rattle.wi_propagate.proofs.NotedSteps.{noted_is_told}
 use Rattle.wi_propagate.proofs.keeping.KeepingMemo.key.Goals as goal
 
 pub returns-clause-world : goal.returns-clause-world
@@ -10,3 +12,8 @@ returns-clause-world c =
     let h = c.self.invariant in
     c.in_ok-world.ensures.list ∙ worlds_all s c.add_cones.new.cones c.args.at (c.in_ok-add_cones.ensures.cones s h.0 h.2) c.args.world.now c.in_ok-add_cones.ensures.all
     ∙ ap (λ (q : Keeping). reaching q.sheet c.args.at c.args.world.now) c.self.view_is
+
+pub returns-clause-generation : goal.returns-clause-generation
+returns-clause-generation c =
+    let i = c.self.inside in
+    c.generation_of.ensures ∙ noted_is_told i.store.now.sheet i.store.now.edits i.generations.now c.self.invariant.4 c.self.invariant.5 c.args.at ∙ ap (λ (q : Keeping). generation_in q.generations c.args.at) c.self.view_is

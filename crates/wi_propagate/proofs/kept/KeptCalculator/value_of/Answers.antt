@@ -7,9 +7,12 @@ use Rattle.wi_sheet.specs.Demand.{case_of, reaching, demanded}
 use Rattle.wi_sheet.specs.Inner.Spending.{HasCase}
 use Rattle.wi_sheet.proofs.Cases.{demands_itself, different_closed}
 use Rattle.wi_sheet.proofs.Steps.{shown_circular, shown_value}
-use Rattle.wi_propagate.specs.KeptSheet.{KeptSheet, IsAtHand, is_kept}
+use Rattle.wi_propagate.specs.KeptSheet.{KeptSheet, generation_in, IsAtHand, is_kept}
 use Rattle.wi_propagate.specs.Inner.Cones.{AreAllCones}
-use Rattle.wi_propagate.proofs.Questions.{begins, begun_right, may_be_read, right_then, asked_kept, at_hand_is, owes_none, owes_spent}
+use Rattle.wi_propagate.specs.Inner.Noted.{told, noted_in}
+use Rattle.wi_propagate.proofs.NotedSteps.{settled_up}
+use Rattle.wi_propagate.proofs.SettlingSteps.{owed_over}
+use Rattle.wi_propagate.proofs.Questions.{begins, begun_right, may_be_read, right_then, asked_kept, at_hand_is, owes_none, owes_settled, owes_spent, settled_view, settled_right}
 use Rattle.wi_propagate.specs.Inner.Owes.{Owes}
 use Rattle.wi_propagate.proofs.kept.KeptCalculator.value_of.Goals as goal
 
@@ -21,26 +24,27 @@ returns-then-is_circular-clause-value c =
 pub new-memo-requires-clause-right : goal.new-memo-requires-clause-right
 new-memo-requires-clause-right c =
     let i = c.self.inside in
-    begun_right i.store i.generations.entries i.kept i.meter _ c.in-Some-take.ensures.value c.self.invariant.3
+    begun_right i.store (told i.store.sheet c.settle.new.self.named) i.kept i.meter _ c.in-Some-take.ensures.value (settled_right {s = i.store} c.in_ok-settle.ensures.named i.kept i.meter c.self.invariant.3)
 
 pub value-result-requires-clause-read : goal.value-result-requires-clause-read
 value-result-requires-clause-read c =
     let i = c.self.inside in
     let o : circular i.store.sheet c.args.at ≡ false = sym (c.is_circular.ensures i.store.sheet c.self.invariant.1) ∙ c.if-is_circular.false in
-    let q = begins i.store i.generations.entries i.kept i.meter _ c.new-memo.result c.in-Some-take.ensures.value c.new-memo.ensures.value c.new-memo.ensures.within c.new-memo.ensures.one_each in
+    let q = begins i.store (told i.store.sheet c.settle.new.self.named) i.kept i.meter _ c.new-memo.result c.in-Some-take.ensures.value c.new-memo.ensures.value c.new-memo.ensures.within c.new-memo.ensures.one_each in
     may_be_read q c.args.at o
 
-pub invariant_of-self : goal.invariant_of-self
-invariant_of-self c =
+pub invariant_of-self-2 : goal.invariant_of-self-2
+invariant_of-self-2 c =
     let i = c.self.inside in
-    let q = begins i.store i.generations.entries i.kept i.meter _ c.new-memo.result c.in-Some-take.ensures.value c.new-memo.ensures.value c.new-memo.ensures.within c.new-memo.ensures.one_each in
+    let q = begins i.store (told i.store.sheet c.settle.new.self.named) i.kept i.meter _ c.new-memo.result c.in-Some-take.ensures.value c.new-memo.ensures.value c.new-memo.ensures.within c.new-memo.ensures.one_each in
     let e = c.value-result.ensures in
     let h = c.self.invariant in (
       refl,
       h.1,
       h.2,
-      right_then q c.value-result.new.self.memo c.into_parts-kept.result.0 c.value-result.new.self.meter e.spends.same c.into_parts-kept.ensures.kept e.spends.right.sheet h.3 c.into_parts-kept.ensures.right,
+      right_then q c.value-result.new.self.memo c.into_parts-kept.result.0 c.value-result.new.self.meter e.spends.same c.into_parts-kept.ensures.kept e.spends.right.sheet (settled_right {s = i.store} c.in_ok-settle.ensures.named i.kept i.meter c.self.invariant.3) c.into_parts-kept.ensures.right,
       subst (λ (x : Sheet). AreAllCones x c.into_parts-kept.result.1) e.spends.right.sheet c.into_parts-kept.ensures.cones,
+      settled_up i.store.sheet i.store.edits i.generations c.settle.new.self c.in_ok-settle.ensures.named (c.in_ok-settle.ensures.owed i.store.sheet h.1) h.5,
     )
 
 pub returns-clause-value : goal.returns-clause-value
@@ -53,19 +57,21 @@ returns-clause-value c =
 pub returns-clause-easy : goal.returns-clause-easy
 returns-clause-easy c =
     let i = c.self.inside in
+    let view = settled_view {s = i.store} c.in_ok-settle.ensures.named i.kept i.meter c.args.self.now c.self.view_is in
     let o : circular i.store.sheet c.args.at ≡ false = sym (c.is_circular.ensures i.store.sheet c.self.invariant.1) ∙ c.if-is_circular.false in
-    let q = begins i.store i.generations.entries i.kept i.meter _ c.new-memo.result c.in-Some-take.ensures.value c.new-memo.ensures.value c.new-memo.ensures.within c.new-memo.ensures.one_each in
-    subst (λ (x : KeptSheet). IsAtHand x c.args.put.now c.args.at → c.value-result.new.self.meter ≡ x.counts) c.self.view_is
+    let q = begins i.store (told i.store.sheet c.settle.new.self.named) i.kept i.meter _ c.new-memo.result c.in-Some-take.ensures.value c.new-memo.ensures.value c.new-memo.ensures.within c.new-memo.ensures.one_each in
+    subst (λ (x : KeptSheet). IsAtHand x c.args.put.now c.args.at → c.value-result.new.self.meter ≡ x.counts) view
     (λ h. c.value-result.ensures.uncounted (at_hand_is q c.in_ok-world.world c.args.put.now c.args.at o c.in_ok-world.ensures h))
 
 pub returns-clause-kept : goal.returns-clause-kept
 returns-clause-kept c =
     let i = c.self.inside in
+    let view = settled_view {s = i.store} c.in_ok-settle.ensures.named i.kept i.meter c.args.self.now c.self.view_is in
     let o : circular i.store.sheet c.args.at ≡ false = sym (c.is_circular.ensures i.store.sheet c.self.invariant.1) ∙ c.if-is_circular.false in
-    let q = begins i.store i.generations.entries i.kept i.meter _ c.new-memo.result c.in-Some-take.ensures.value c.new-memo.ensures.value c.new-memo.ensures.within c.new-memo.ensures.one_each in
-    let new : KeptSheet = record { stored = i.store; generations = i.generations.entries; values = c.into_parts-kept.result.0; counts = c.value-result.new.self.meter } in
+    let q = begins i.store (told i.store.sheet c.settle.new.self.named) i.kept i.meter _ c.new-memo.result c.in-Some-take.ensures.value c.new-memo.ensures.value c.new-memo.ensures.within c.new-memo.ensures.one_each in
+    let new : KeptSheet = record { stored = i.store; generations = told i.store.sheet c.settle.new.self.named; values = c.into_parts-kept.result.0; counts = c.value-result.new.self.meter } in
     let e = c.value-result.ensures in
-    subst (λ (x : KeptSheet). OnOk c.value-result.result ((IsAtHand x c.args.put.now c.args.at → ⊥) → is_kept new c.args.at (reaching x.stored.sheet c.args.at c.args.put.now) ≡ true)) c.self.view_is
+    subst (λ (x : KeptSheet). OnOk c.value-result.result ((IsAtHand x c.args.put.now c.args.at → ⊥) → is_kept new c.args.at (reaching x.stored.sheet c.args.at c.args.put.now) ≡ true)) view
     (IfOk-weaker c.value-result.result _ _ (λ v h. asked_kept q c.in_ok-world.world c.args.put.now c.args.at o c.in_ok-world.ensures c.value-result.new.self.memo c.into_parts-kept.result.0 c.value-result.new.self.meter
     e.spends.same c.into_parts-kept.ensures.kept c.self.invariant.3.room h) e.kept)
 
@@ -102,11 +108,47 @@ returns-in_err-world-clause-owes c = owes_none c.args.self.now _ _
 pub returns-clause-owes : goal.returns-clause-owes
 returns-clause-owes c =
     let i = c.self.inside in
+    let view = settled_view {s = i.store} c.in_ok-settle.ensures.named i.kept i.meter c.args.self.now c.self.view_is in
     let o : circular i.store.sheet c.args.at ≡ false = sym (c.is_circular.ensures i.store.sheet c.self.invariant.1) ∙ c.if-is_circular.false in
-    let q = begins i.store i.generations.entries i.kept i.meter _ c.new-memo.result c.in-Some-take.ensures.value c.new-memo.ensures.value c.new-memo.ensures.within c.new-memo.ensures.one_each in
+    let q = begins i.store (told i.store.sheet c.settle.new.self.named) i.kept i.meter _ c.new-memo.result c.in-Some-take.ensures.value c.new-memo.ensures.value c.new-memo.ensures.within c.new-memo.ensures.one_each in
     let has = demands_itself i.store.sheet c.in_ok-world.world c.args.put.now c.args.at o c.in_ok-world.ensures in
     let closed = different_closed i.store.sheet (case_of i.store.sheet c.args.put.now c.args.at) in
     let Has = HasCase i.store.sheet c.in_ok-world.world c.args.at in
-    let new : KeptSheet = record { stored = i.store; generations = i.generations.entries; values = c.into_parts-kept.result.0; counts = c.value-result.new.self.meter } in
-    subst (λ (x : KeptSheet). Owes x new (demanded x.stored.sheet c.args.put.now c.args.at) (is_ok c.value-result.result)) c.self.view_is
+    let new : KeptSheet = record { stored = i.store; generations = told i.store.sheet c.settle.new.self.named; values = c.into_parts-kept.result.0; counts = c.value-result.new.self.meter } in
+    subst (λ (x : KeptSheet). Owes x new (demanded x.stored.sheet c.args.put.now c.args.at) (is_ok c.value-result.result)) view
     (owes_spent q c.value-result.new.self.memo c.into_parts-kept.result.0 c.value-result.new.self.meter c.into_parts-kept.ensures.kept c.into_parts-kept.ensures.within Has (demanded i.store.sheet c.args.put.now c.args.at) closed has _ c.value-result.ensures.spends)
+
+pub settle-requires-clause-owed : goal.settle-requires-clause-owed
+settle-requires-clause-owed c =
+    let i = c.self.inside in
+    let h = c.self.invariant in
+    λ s a. owed_over i.graph.now i.store.sheet s (generation_in i.generations.named) i.generations.owed (noted_in i.generations) h.1 a h.5.owed
+
+pub new-memo-requires-clause-kept_up : goal.new-memo-requires-clause-kept_up
+new-memo-requires-clause-kept_up c =
+    let i = c.self.inside in
+    let h = c.self.invariant in
+    settled_up i.store.sheet i.store.edits i.generations c.settle.new.self c.in_ok-settle.ensures.named (c.in_ok-settle.ensures.owed i.store.sheet h.1) h.5
+
+pub new-memo-requires-clause-settled : goal.new-memo-requires-clause-settled
+new-memo-requires-clause-settled c = c.in_ok-settle.ensures.settled
+
+pub returns-in_err-settle-clause-owes : goal.returns-in_err-settle-clause-owes
+returns-in_err-settle-clause-owes c =
+    let i = c.self.inside in
+    owes_settled c.args.self.now _ _ _ (settled_view {s = i.store} c.settle.ensures.named i.kept i.meter c.args.self.now c.self.view_is)
+
+pub returns-in_err-settle-clause-easy : goal.returns-in_err-settle-clause-easy
+returns-in_err-settle-clause-easy c = λ h. ap (λ (k : KeptSheet). k.counts) c.self.view_is
+
+pub invariant_of-self : goal.invariant_of-self
+invariant_of-self c =
+    let i = c.self.inside in
+    let h = c.self.invariant in (
+      h.0,
+      h.1,
+      h.2,
+      settled_right {s = i.store} c.settle.ensures.named i.kept i.meter h.3,
+      h.4,
+      settled_up i.store.sheet i.store.edits i.generations c.settle.new.self c.settle.ensures.named (c.settle.ensures.owed i.store.sheet h.1) h.5,
+    )

@@ -6,10 +6,13 @@ use Rattle.wi_sheet.specs.Inner.Spending.{HasEntry}
 use Rattle.wi_sheet.specs.TableEntry.{table_entry, entry_demanded}
 use Rattle.wi_sheet.specs.Settled.{IsWhatIfSettled}
 use Rattle.wi_sheet.proofs.TableEntries.{table_closed, entry_has, entry_shown}
-use Rattle.wi_propagate.specs.KeptSheet.{KeptSheet, HasRoomFor, is_kept}
+use Rattle.wi_propagate.specs.KeptSheet.{KeptSheet, generation_in, HasRoomFor, is_kept}
 use Rattle.wi_propagate.specs.Inner.Cones.{AreAllCones}
+use Rattle.wi_propagate.specs.Inner.Noted.{told, noted_in}
+use Rattle.wi_propagate.proofs.NotedSteps.{settled_up}
+use Rattle.wi_propagate.proofs.SettlingSteps.{owed_over}
 use Rattle.wi_propagate.specs.Inner.Keeping.{state_in}
-use Rattle.wi_propagate.proofs.Questions.{begins, begun_right, may_be_read, right_then, asked_where, asked_settled, circular_entry, circular_clash, open_cells, owes_none, owes_spent}
+use Rattle.wi_propagate.proofs.Questions.{begins, begun_right, may_be_read, right_then, asked_where, asked_settled, circular_entry, circular_clash, open_cells, owes_none, owes_settled, owes_spent, settled_view, settled_right}
 use Rattle.wi_propagate.specs.Inner.Owes.{Owes}
 use Rattle.wi_propagate.proofs.kept.KeptCalculator.value_of_entry.Goals as goal
 
@@ -26,12 +29,12 @@ returns-then-entry_is_circular-clause-settled c = λ room one all.
 pub new-memo-requires-clause-right : goal.new-memo-requires-clause-right
 new-memo-requires-clause-right c =
     let i = c.self.inside in
-    begun_right i.store i.generations.entries i.kept i.meter _ c.in-Some.ensures.value c.self.invariant.3
+    begun_right i.store (told i.store.sheet c.settle.new.self.named) i.kept i.meter _ c.in-Some.ensures.value (settled_right {s = i.store} c.in_ok-settle.ensures.named i.kept i.meter c.self.invariant.3)
 
 pub open_entry-result-requires-clause-formula_cell : goal.open_entry-result-requires-clause-formula_cell
 open_entry-result-requires-clause-formula_cell c =
     let i = c.self.inside in
-    let q = begins i.store i.generations.entries i.kept i.meter _ c.new-memo.result c.in-Some.ensures.value c.new-memo.ensures.value c.new-memo.ensures.within c.new-memo.ensures.one_each in
+    let q = begins i.store (told i.store.sheet c.settle.new.self.named) i.kept i.meter _ c.new-memo.result c.in-Some.ensures.value c.new-memo.ensures.value c.new-memo.ensures.within c.new-memo.ensures.one_each in
     let s = i.store.sheet in
     let o = open_cells s c.args.formula_cell c.args.pairs.now c.entry_is_circular.result (c.entry_is_circular.ensures s c.self.invariant.1) c.if-entry_is_circular.false in
     may_be_read q c.args.formula_cell o.0
@@ -39,22 +42,23 @@ open_entry-result-requires-clause-formula_cell c =
 pub open_entry-result-requires-clause-replacing : goal.open_entry-result-requires-clause-replacing
 open_entry-result-requires-clause-replacing c =
     let i = c.self.inside in
-    let q = begins i.store i.generations.entries i.kept i.meter _ c.new-memo.result c.in-Some.ensures.value c.new-memo.ensures.value c.new-memo.ensures.within c.new-memo.ensures.one_each in
+    let q = begins i.store (told i.store.sheet c.settle.new.self.named) i.kept i.meter _ c.new-memo.result c.in-Some.ensures.value c.new-memo.ensures.value c.new-memo.ensures.within c.new-memo.ensures.one_each in
     let s = i.store.sheet in
     let o = open_cells s c.args.formula_cell c.args.pairs.now c.entry_is_circular.result (c.entry_is_circular.ensures s c.self.invariant.1) c.if-entry_is_circular.false in
     λ j x less. may_be_read q (get_or c.args.pairs.now j x).1 (o.1 j x less)
 
-pub invariant_of-self : goal.invariant_of-self
-invariant_of-self c =
+pub invariant_of-self-2 : goal.invariant_of-self-2
+invariant_of-self-2 c =
     let i = c.self.inside in
-    let q = begins i.store i.generations.entries i.kept i.meter _ c.new-memo.result c.in-Some.ensures.value c.new-memo.ensures.value c.new-memo.ensures.within c.new-memo.ensures.one_each in
+    let q = begins i.store (told i.store.sheet c.settle.new.self.named) i.kept i.meter _ c.new-memo.result c.in-Some.ensures.value c.new-memo.ensures.value c.new-memo.ensures.within c.new-memo.ensures.one_each in
     let e = c.open_entry-result.ensures in
     let h = c.self.invariant in (
       refl,
       h.1,
       h.2,
-      right_then q c.open_entry-result.new.question.memo c.into_parts-kept.result.0 c.open_entry-result.new.question.meter e.spends.same c.into_parts-kept.ensures.kept e.spends.right.sheet h.3 c.into_parts-kept.ensures.right,
+      right_then q c.open_entry-result.new.question.memo c.into_parts-kept.result.0 c.open_entry-result.new.question.meter e.spends.same c.into_parts-kept.ensures.kept e.spends.right.sheet (settled_right {s = i.store} c.in_ok-settle.ensures.named i.kept i.meter c.self.invariant.3) c.into_parts-kept.ensures.right,
       subst (λ (x : Sheet). AreAllCones x c.into_parts-kept.result.1) e.spends.right.sheet c.into_parts-kept.ensures.cones,
+      settled_up i.store.sheet i.store.edits i.generations c.settle.new.self c.in_ok-settle.ensures.named (c.in_ok-settle.ensures.owed i.store.sheet h.1) h.5,
     )
 
 pub returns-clause-value : goal.returns-clause-value
@@ -68,18 +72,19 @@ returns-clause-value c =
 pub returns-clause-settled : goal.returns-clause-settled
 returns-clause-settled c =
     let i = c.self.inside in
-    let q = begins i.store i.generations.entries i.kept i.meter _ c.new-memo.result c.in-Some.ensures.value c.new-memo.ensures.value c.new-memo.ensures.within c.new-memo.ensures.one_each in
+    let view = settled_view {s = i.store} c.in_ok-settle.ensures.named i.kept i.meter c.args.self.now c.self.view_is in
+    let q = begins i.store (told i.store.sheet c.settle.new.self.named) i.kept i.meter _ c.new-memo.result c.in-Some.ensures.value c.new-memo.ensures.value c.new-memo.ensures.within c.new-memo.ensures.one_each in
     let s = i.store.sheet in
     let o = open_cells s c.args.formula_cell c.args.pairs.now c.entry_is_circular.result (c.entry_is_circular.ensures s c.self.invariant.1) c.if-entry_is_circular.false in
     let cases = entry_demanded s c.args.put.now c.args.formula_cell c.args.pairs.now in
     let has = entry_has s c.in_ok-world.world c.args.put.now c.args.formula_cell c.args.pairs.now o c.in_ok-world.ensures in
     let closed = table_closed s c.args.put.now c.args.formula_cell c.args.pairs.now in
     let Has = HasEntry s c.in_ok-world.world c.args.formula_cell c.args.pairs.now in
-    let new : KeptSheet = record { stored = i.store; generations = i.generations.entries; values = c.into_parts-kept.result.0; counts = c.open_entry-result.new.question.meter } in
+    let new : KeptSheet = record { stored = i.store; generations = told i.store.sheet c.settle.new.self.named; values = c.into_parts-kept.result.0; counts = c.open_entry-result.new.question.meter } in
     let e = c.open_entry-result.ensures in
     let x : ℕ × List (ℕ × ℕ) = (c.args.formula_cell, c.args.pairs.now) in
     subst (λ (y : KeptSheet). OnOk c.open_entry-result.result (HasRoomFor y (entry_demanded y.stored.sheet c.args.put.now c.args.formula_cell c.args.pairs.now) → circular y.stored.sheet c.args.formula_cell ≡ false → All (λ p. circular y.stored.sheet p.1 ≡ false) c.args.pairs.now
-    → IsWhatIfSettled y.stored.sheet (is_kept new) c.args.put.now x)) c.self.view_is
+    → IsWhatIfSettled y.stored.sheet (is_kept new) c.args.put.now x)) view
     (IfOk-weaker c.open_entry-result.result _ _ (λ v g room a b. asked_settled q c.open_entry-result.new.question.memo c.into_parts-kept.result.0 c.open_entry-result.new.question.meter e.spends.same c.into_parts-kept.ensures.kept c.in_ok-world.world c.args.put.now x c.in_ok-world.ensures
     (asked_where q (λ ks. IsWhatIfSettled s (state_in c.open_entry-result.new.question.memo).kept c.in_ok-world.world x) cases Has g closed has room)) e.settled)
 
@@ -98,13 +103,46 @@ returns-in_err-world-clause-owes c = owes_none c.args.self.now _ _
 pub returns-clause-owes : goal.returns-clause-owes
 returns-clause-owes c =
     let i = c.self.inside in
-    let q = begins i.store i.generations.entries i.kept i.meter _ c.new-memo.result c.in-Some.ensures.value c.new-memo.ensures.value c.new-memo.ensures.within c.new-memo.ensures.one_each in
+    let view = settled_view {s = i.store} c.in_ok-settle.ensures.named i.kept i.meter c.args.self.now c.self.view_is in
+    let q = begins i.store (told i.store.sheet c.settle.new.self.named) i.kept i.meter _ c.new-memo.result c.in-Some.ensures.value c.new-memo.ensures.value c.new-memo.ensures.within c.new-memo.ensures.one_each in
     let s = i.store.sheet in
     let o = open_cells s c.args.formula_cell c.args.pairs.now c.entry_is_circular.result (c.entry_is_circular.ensures s c.self.invariant.1) c.if-entry_is_circular.false in
     let cases = entry_demanded s c.args.put.now c.args.formula_cell c.args.pairs.now in
     let has = entry_has s c.in_ok-world.world c.args.put.now c.args.formula_cell c.args.pairs.now o c.in_ok-world.ensures in
     let closed = table_closed s c.args.put.now c.args.formula_cell c.args.pairs.now in
     let Has = HasEntry s c.in_ok-world.world c.args.formula_cell c.args.pairs.now in
-    let new : KeptSheet = record { stored = i.store; generations = i.generations.entries; values = c.into_parts-kept.result.0; counts = c.open_entry-result.new.question.meter } in
-    subst (λ (x : KeptSheet). Owes x new (entry_demanded x.stored.sheet c.args.put.now c.args.formula_cell c.args.pairs.now) (is_ok c.open_entry-result.result)) c.self.view_is
+    let new : KeptSheet = record { stored = i.store; generations = told i.store.sheet c.settle.new.self.named; values = c.into_parts-kept.result.0; counts = c.open_entry-result.new.question.meter } in
+    subst (λ (x : KeptSheet). Owes x new (entry_demanded x.stored.sheet c.args.put.now c.args.formula_cell c.args.pairs.now) (is_ok c.open_entry-result.result)) view
     (owes_spent q c.open_entry-result.new.question.memo c.into_parts-kept.result.0 c.open_entry-result.new.question.meter c.into_parts-kept.ensures.kept c.into_parts-kept.ensures.within Has cases closed has _ c.open_entry-result.ensures.spends)
+
+pub settle-requires-clause-owed : goal.settle-requires-clause-owed
+settle-requires-clause-owed c =
+    let i = c.self.inside in
+    let h = c.self.invariant in
+    λ s a. owed_over i.graph.now i.store.sheet s (generation_in i.generations.named) i.generations.owed (noted_in i.generations) h.1 a h.5.owed
+
+pub new-memo-requires-clause-kept_up : goal.new-memo-requires-clause-kept_up
+new-memo-requires-clause-kept_up c =
+    let i = c.self.inside in
+    let h = c.self.invariant in
+    settled_up i.store.sheet i.store.edits i.generations c.settle.new.self c.in_ok-settle.ensures.named (c.in_ok-settle.ensures.owed i.store.sheet h.1) h.5
+
+pub new-memo-requires-clause-settled : goal.new-memo-requires-clause-settled
+new-memo-requires-clause-settled c = c.in_ok-settle.ensures.settled
+
+pub returns-in_err-settle-clause-owes : goal.returns-in_err-settle-clause-owes
+returns-in_err-settle-clause-owes c =
+    let i = c.self.inside in
+    owes_settled c.args.self.now _ _ _ (settled_view {s = i.store} c.settle.ensures.named i.kept i.meter c.args.self.now c.self.view_is)
+
+pub invariant_of-self : goal.invariant_of-self
+invariant_of-self c =
+    let i = c.self.inside in
+    let h = c.self.invariant in (
+      h.0,
+      h.1,
+      h.2,
+      settled_right {s = i.store} c.settle.ensures.named i.kept i.meter h.3,
+      h.4,
+      settled_up i.store.sheet i.store.edits i.generations c.settle.new.self c.settle.ensures.named (c.settle.ensures.owed i.store.sheet h.1) h.5,
+    )

@@ -1,0 +1,193 @@
+-- What is owed is noted, one edit after another.
+use Rattle.std.proofs.Common.{◌≡◌, ◌==◌, ◌||◌, ◌&&◌, ◌⊎◌, inl, inr, not, ◌≤◌, ◌<◌, ◌+◌, max, ℕ, Bool, true, false, cond, List, [], ◌∷◌, length, take, get_or, map, ◌++◌, nat_lt, Option, Some, None, is_some, refl, ap, sym, ◌∙◌, subst, arith}
+use Rattle.std.proofs.lemmas.Bool.{eqb-true, or_left, or_right, cases_lt, lt-ltb}
+use Rattle.std.proofs.Math.Bool.{or-false}
+use Rattle.std.proofs.lemmas.List.{map-append}
+use Rattle.std.proofs.lemmas.List.Folds.{list_any-append}
+use Rattle.std.proofs.lemmas.List.Sorted.{list_any-IsPermutation, IsPermutation-map}
+use Rattle.std.specs.List.Sorted.{IsPermutation}
+use Rattle.std.specs.Option.{unwrap_or}
+use Rattle.std.specs.Ordering.{nat_cmp}
+use Rattle.std.specs.Map.{keys_of, lookup}
+use Rattle.std.specs.BTreeMap.{is_at, insert_entry}
+use Rattle.wi_values.proofs.Lookups.{found-insert}
+use Rattle.wi_values.proofs.Order.{turn_test}
+use Rattle.wi_tiles.specs.Entries.{CellEntries, get}
+use Rattle.wi_parser.specs.Sheet.{Sheet}
+use Rattle.wi_graph.specs.Reach.{Reaches, is_one_of, reaches, in_cone}
+use Rattle.wi_graph.specs.Edges.{Edges, AreEdgesOf}
+use Rattle.wi_graph.specs.Latest.{IsLatest, IsOwed, AreOwed, IsSettling}
+use Rattle.wi_graph.proofs.ReachTest.{reaches_true, true_reaches}
+use Rattle.wi_graph.proofs.GraphSteps.{same_reaches}
+use Rattle.wi_graph.proofs.SetSteps.{in_last, in_front}
+use Rattle.wi_graph.proofs.LatestLaws.{settles_one, settling_begins, owed_stays}
+use Rattle.wi_sheet.proofs.Filters.{one_more}
+use Rattle.wi_propagate.specs.KeptSheet.{Generations, generation_in}
+use Rattle.wi_propagate.specs.Inner.Settling.{higher, second_cells, has_seen}
+use Rattle.wi_propagate.proofs.GenerationSteps.{IsGiven}
+
+-- ---- one cell more is seen
+
+seen_one : {X : Type 0} (old new : CellEntries X) (a : ℕ) (v : X) → new.entries ≡ cond (is_some (get nat_cmp old a)) old.entries (insert_entry nat_cmp old.entries a v) → (c : ℕ) → has_seen new c ≡ (has_seen old c || (a == c))
+seen_one {X} old new a v e c = at (get nat_cmp old a) refl e
+  where
+    or_false : (b : Bool) → b ≡ (b || false)
+    or_false true = refl
+    or_false false = refl
+
+    there : (b : Bool) → (a == c) ≡ b → is_some (get nat_cmp old a) ≡ true → has_seen old c ≡ (has_seen old c || b)
+    there true t h = let z : has_seen old c ≡ true = ap (λ (x : ℕ). is_some (get nat_cmp old x)) (sym (eqb-true a c t)) ∙ h in z ∙ sym (or_left (has_seen old c) true z)
+    there false t h = or_false (has_seen old c)
+
+    put : (b : Bool) → is_some (cond b (Some v) (lookup (is_at (nat_cmp c)) old.entries)) ≡ (has_seen old c || b)
+    put true = sym (or_right (has_seen old c) true refl)
+    put false = or_false (has_seen old c)
+
+    at : (o : Option X) → get nat_cmp old a ≡ o → new.entries ≡ cond (is_some o) old.entries (insert_entry nat_cmp old.entries a v) → has_seen new c ≡ (has_seen old c || (a == c))
+    at (Some w) h k = ap (λ (es : List (ℕ × X)). is_some (lookup (is_at (nat_cmp c)) es)) k ∙ there (a == c) refl (ap (λ (o : Option X). is_some o) h)
+    at None h k = ap (λ (es : List (ℕ × X)). is_some (lookup (is_at (nat_cmp c)) es)) k ∙ ap (λ (o : Option X). is_some o) (found-insert old.entries a v c ∙ ap (λ (b : Bool). cond b (Some v) (lookup (is_at (nat_cmp c)) old.entries)) (turn_test c a)) ∙ put (a == c)
+
+pub seen_more : {X : Type 0} (first old new : CellEntries X) (xs : List ℕ) (i a : ℕ) (v : X) → i < length xs → a ≡ get_or xs i a → new.entries ≡ cond (is_some (get nat_cmp old a)) old.entries (insert_entry nat_cmp old.entries a v) →
+    ((c : ℕ) → has_seen old c ≡ (has_seen first c || is_one_of (take i xs) c)) → (c : ℕ) → has_seen new c ≡ (has_seen first c || is_one_of (take (i + 1) xs) c)
+seen_more first old new xs i a v l e k h c =
+    seen_one old new a v k c ∙ ap (λ (b : Bool). b || (a == c)) (h c) ∙ three (has_seen first c) (is_one_of (take i xs) c) (a == c) ∙ ap (λ (b : Bool). has_seen first c || b) (sym (one_more xs i a c l e))
+  where
+    three : (p q r : Bool) → ((p || q) || r) ≡ (p || (q || r))
+    three true q r = refl
+    three false q r = refl
+
+-- ---- one number more is lifted
+
+pub lifted_more : (old new first : Generations) (xs : List ℕ) (i a number lifted : ℕ) → i < length xs → a ≡ get_or xs i a → lifted ≡ max (generation_in old a) number → IsGiven old new a lifted →
+    ((c : ℕ) → generation_in old c ≡ cond (is_one_of (take i xs) c) (max (generation_in first c) number) (generation_in first c)) → (c : ℕ) → generation_in new c ≡ cond (is_one_of (take (i + 1) xs) c) (max (generation_in first c) number) (generation_in first c)
+lifted_more old new first xs i a number lifted l e w u h c =
+    ap (λ (o : Option ℕ). unwrap_or o 0) (u c) ∙ at (is_one_of (take i xs) c) (a == c) refl (h c)
+    ∙ ap (λ (b : Bool). cond b (max (generation_in first c) number) (generation_in first c)) (sym (one_more xs i a c l e))
+  where
+    here : (b : Bool) → (a == c) ≡ true → generation_in old c ≡ cond b (max (generation_in first c) number) (generation_in first c) → lifted ≡ max (generation_in first c) number
+    here true t k = let f = ap (generation_in old) (eqb-true a c t) in omega (arith, w, f, k)
+    here false t k = let f = ap (generation_in old) (eqb-true a c t) in omega (arith, w, f, k)
+
+    at : (b d : Bool) → (a == c) ≡ d → generation_in old c ≡ cond b (max (generation_in first c) number) (generation_in first c) →
+        unwrap_or (cond d (Some lifted) (lookup (is_at (nat_cmp c)) old)) 0 ≡ cond (b || d) (max (generation_in first c) number) (generation_in first c)
+    at true true t k = here true t k
+    at true false t k = k
+    at false true t k = here false t k
+    at false false t k = k
+
+-- ---- one edit more is settled
+
+-- of each sheet with these edges
+abbrev pub IsSettlingOver : Edges → Generations → Generations → List ℕ → (ℕ → Bool) → ℕ → Type 0
+IsSettlingOver es named noted rest seen last = (s : Sheet) → AreEdgesOf es s → IsSettling s (generation_in named) (higher named noted) rest seen last
+
+pub settling_more : (es : Edges) (named old new : Generations) (rest less : List ℕ) (x number last : ℕ) (seen now : ℕ → Bool) → ((y : ℕ) → is_one_of rest y ≡ true → (x ≡ y) ⊎ (is_one_of less y ≡ true)) → number ≡ generation_in named x → number ≤ last →
+    ((s : Sheet) → AreEdgesOf es s → (c : ℕ) → generation_in new c ≡ cond (in_cone s (x ∷ []) c && not (seen c)) (max (generation_in old c) number) (generation_in old c)) →
+    ((s : Sheet) → AreEdgesOf es s → (c : ℕ) → now c ≡ (seen c || (in_cone s (x ∷ []) c && not (seen c)))) → IsSettlingOver es named old rest seen last → IsSettlingOver es named new less now number
+settling_more es named old new rest less x number last seen now part e falls raised shown k s a =
+    subst (IsSettling s (generation_in named) (higher named new) less now) (sym e) (settles_one s (generation_in named) (higher named old) (higher named new) rest less x last seen now part (subst (λ (m : ℕ). m ≤ last) e falls)
+    (λ c. shown s a c ∙ either (seen c) (in_cone s (x ∷ []) c)) (λ c. ap (λ (m : ℕ). max (generation_in named c) m) (raised s a c) ∙ over c (in_cone s (x ∷ []) c && not (seen c))) (k s a))
+  where
+    either : (p q : Bool) → (p || (q && not p)) ≡ (p || q)
+    either true q = refl
+    either false true = refl
+    either false false = refl
+
+    over : (c : ℕ) (b : Bool) → max (generation_in named c) (cond b (max (generation_in old c) number) (generation_in old c)) ≡ cond b (max (higher named old c) (generation_in named x)) (higher named old c)
+    over c true = omega (arith, e)
+    over c false = refl
+
+not_less : (a b : ℕ) → nat_lt a b ≡ false → b ≤ a
+not_less a b h = at (cases_lt a b)
+  where
+    at : (a < b) ⊎ (b ≤ a) → b ≤ a
+    at (inl l) = let z = lt-ltb a b l in cc
+    at (inr l) = l
+
+-- cells that come back into view where a later edit comes behind an earlier one
+pub settling_again : (es : Edges) (named noted : Generations) (rest : List ℕ) (last number : ℕ) (seen now : ℕ → Bool) → ((c : ℕ) → now c ≡ cond (nat_lt last number) false (seen c)) → IsSettlingOver es named noted rest seen last → IsSettlingOver es named noted rest now (max last number)
+settling_again es named noted rest last number seen now e k s a = at (nat_lt last number) refl
+  where
+    at : (b : Bool) → nat_lt last number ≡ b → IsSettling s (generation_in named) (higher named noted) rest now (max last number)
+    at true t = settling_begins s (generation_in named) (higher named noted) rest now (max last number) (λ c. e c ∙ ap (λ (b : Bool). cond b false (seen c)) t) (k s a).owed
+    at false t =
+        let l : number ≤ last = not_less last number t in
+        let m : max last number ≡ last = omega (arith, l) in
+        record {
+          owed = (k s a).owed;
+          closed = λ c d r h. same c ∙ (k s a).closed c d r (sym (same d) ∙ h);
+          high = λ c h. let z = (k s a).high c (sym (same c) ∙ h) in omega (arith, z, m);
+        }
+      where
+        same : (c : ℕ) → now c ≡ seen c
+        same c = e c ∙ ap (λ (b : Bool). cond b false (seen c)) t
+
+-- ---- the cells that are owed, as a list
+
+pub lists_one : {X : Type 0} (order more : List (ℕ × ℕ)) (n : ℕ) (e : ℕ × X) (rest it all : List (ℕ × X)) → more ≡ order ++ (n, e.0) ∷ [] → it ≡ e ∷ rest → ((x : ℕ) → (is_one_of (second_cells order) x || is_one_of (keys_of it) x) ≡ is_one_of (keys_of all) x) →
+    (x : ℕ) → (is_one_of (second_cells more) x || is_one_of (keys_of rest) x) ≡ is_one_of (keys_of all) x
+lists_one {X} order more n e rest it all m i h x =
+    ap (λ (ys : List (ℕ × ℕ)). is_one_of (second_cells ys) x || is_one_of (keys_of rest) x) m
+    ∙ ap (λ (b : Bool). b || is_one_of (keys_of rest) x) (ap (λ (ys : List ℕ). is_one_of ys x) (map-append (λ (y : ℕ × ℕ). y.1) order ((n, e.0) ∷ [])) ∙ list_any-append (λ y. y == x) (second_cells order) (e.0 ∷ []))
+    ∙ three (is_one_of (second_cells order) x) (e.0 == x) (is_one_of (keys_of rest) x) ∙ ap (λ (ys : List (ℕ × X)). is_one_of (second_cells order) x || is_one_of (keys_of ys) x) (sym i) ∙ h x
+  where
+    three : (p q r : Bool) → ((p || (q || false)) || r) ≡ (p || (q || r))
+    three true q r = refl
+    three false true r = refl
+    three false false r = refl
+
+pub lists_all : {X : Type 0} (order : List (ℕ × ℕ)) (rest all : List (ℕ × X)) → rest ≡ [] → ((x : ℕ) → (is_one_of (second_cells order) x || is_one_of (keys_of rest) x) ≡ is_one_of (keys_of all) x) → (x : ℕ) → is_one_of (keys_of all) x ≡ is_one_of (second_cells order) x
+lists_all {X} order rest all e h x = sym (h x) ∙ ap (λ (ys : List (ℕ × X)). is_one_of (second_cells order) x || is_one_of (keys_of ys) x) e ∙ or-false (is_one_of (second_cells order) x)
+
+pub sorted_same : (xs ys : List (ℕ × ℕ)) → IsPermutation xs ys → (x : ℕ) → is_one_of (second_cells xs) x ≡ is_one_of (second_cells ys) x
+sorted_same xs ys k x = list_any-IsPermutation (λ y. y == x) (second_cells xs) (second_cells ys) (IsPermutation-map (λ (y : ℕ × ℕ). y.1) xs ys k)
+
+pub last_part : (rest less : List (ℕ × ℕ)) (e : ℕ × ℕ) → rest ≡ less ++ e ∷ [] → (y : ℕ) → is_one_of (second_cells rest) y ≡ true → (e.1 ≡ y) ⊎ (is_one_of (second_cells less) y ≡ true)
+last_part rest less e i y h = turned (in_last (second_cells less) e.1 y (ap (λ (ys : List ℕ). is_one_of ys y) (sym (ap second_cells i ∙ map-append (λ (z : ℕ × ℕ). z.1) less (e ∷ []))) ∙ h))
+  where
+    turned : (is_one_of (second_cells less) y ≡ true) ⊎ (e.1 ≡ y) → (e.1 ≡ y) ⊎ (is_one_of (second_cells less) y ≡ true)
+    turned (inl m) = inr m
+    turned (inr m) = inl m
+
+pub part_within : (rest less : List (ℕ × ℕ)) (e : ℕ × ℕ) → rest ≡ less ++ e ∷ [] → (y : ℕ) → is_one_of (second_cells less) y ≡ true → is_one_of (second_cells rest) y ≡ true
+part_within rest less e i y h = ap (λ (ys : List ℕ). is_one_of ys y) (ap second_cells i ∙ map-append (λ (z : ℕ × ℕ). z.1) less (e ∷ [])) ∙ in_front (second_cells less) (e.1 ∷ []) y h
+
+-- at first all that is owed is listed, and nothing was seen
+pub settling_first : {X : Type 0} (es : Edges) (named noted : Generations) (owed : List ℕ) (order : List (ℕ × ℕ)) (seen : CellEntries X) (last : ℕ) → ((x : ℕ) → is_one_of owed x ≡ is_one_of (second_cells order) x) → seen.entries ≡ [] →
+    ((s : Sheet) → AreEdgesOf es s → AreOwed s (generation_in named) owed (higher named noted)) → IsSettlingOver es named noted (second_cells order) (has_seen seen) last
+settling_first {X} es named noted owed order seen last same empty o s a =
+    settling_begins s (generation_in named) (higher named noted) (second_cells order) (has_seen seen) last (λ c. ap (λ (xs : List (ℕ × X)). is_some (lookup (is_at (nat_cmp c)) xs)) empty)
+    (owed_stays s (generation_in named) (higher named noted) (higher named noted) owed (second_cells order) (λ x h. sym (same x) ∙ h) (λ c n l. (omega arith, (o s a c n l).no_later)) (o s a))
+
+-- What is owed by the rest is owed by all, also where memory ran out, and what is noted is as before.
+pub settling_stays : (es : Edges) (named old new : Generations) (owed rest : List ℕ) (seen : ℕ → Bool) (last : ℕ) → ((c : ℕ) → generation_in new c ≡ generation_in old c) → ((x : ℕ) → is_one_of rest x ≡ true → is_one_of owed x ≡ true) → IsSettlingOver es named old rest seen last →
+    (s : Sheet) → AreEdgesOf es s → AreOwed s (generation_in named) owed (higher named new)
+settling_stays es named old new owed rest seen last same g k s a =
+    owed_stays s (generation_in named) (higher named old) (higher named new) rest owed g (λ c n l. let e = same c in let b = ((k s a).owed c n l).no_later in (omega (arith, e), omega (arith, e, b))) (k s a).owed
+
+-- and where none is left, none is owed
+pub settling_ends : (es : Edges) (named noted : Generations) (order : List (ℕ × ℕ)) (seen : ℕ → Bool) (last : ℕ) → order ≡ [] → IsSettlingOver es named noted (second_cells order) seen last →
+    (s : Sheet) → AreEdgesOf es s → AreOwed s (generation_in named) [] (higher named noted)
+settling_ends es named noted order seen last e k s a = subst (λ (ys : List (ℕ × ℕ)). AreOwed s (generation_in named) (second_cells ys) (higher named noted)) e (k s a).owed
+
+-- ---- sheets with the same edges
+
+latest_over : (s t : Sheet) (f : ℕ → ℕ) (c n : ℕ) → ((x : ℕ) → reaches s c x ≡ reaches t c x) → IsLatest s f c n → IsLatest t f c n
+latest_over s t f c n e l = record { most = λ d w. l.most d (reaches_true s c d (e d ∙ true_reaches t c d w)); reached = at l.reached }
+  where
+    at : (n ≡ 0) ⊎ ((d : ℕ) × Reaches s c d × (f d ≡ n)) → (n ≡ 0) ⊎ ((d : ℕ) × Reaches t c d × (f d ≡ n))
+    at (inl z) = inl z
+    at (inr x) = inr (x.0, reaches_true t c x.0 (sym (e x.0) ∙ true_reaches s c x.0 x.1), x.2)
+
+pub owed_over : (es : Edges) (s t : Sheet) (f : ℕ → ℕ) (owed : List ℕ) (noted : ℕ → ℕ) → AreEdgesOf es s → AreEdgesOf es t → AreOwed s f owed noted → AreOwed t f owed noted
+owed_over es s t f owed noted a b o c n l = record { no_later = before.no_later; noted_or_owed = at before.noted_or_owed }
+  where
+    same : (x : ℕ) → reaches s c x ≡ reaches t c x
+    same x = same_reaches s t (λ d. sym (a d) ∙ b d) c x
+
+    before : IsOwed s f owed noted c n
+    before = o c n (latest_over t s f c n (λ x. sym (same x)) l)
+
+    at : (noted c ≡ n) ⊎ ((x : ℕ) × (is_one_of owed x ≡ true) × Reaches s c x × (f x ≡ n)) → (noted c ≡ n) ⊎ ((x : ℕ) × (is_one_of owed x ≡ true) × Reaches t c x × (f x ≡ n))
+    at (inl h) = inl h
+    at (inr x) = inr (x.0, x.1, reaches_true t c x.0 (sym (same x.0) ∙ true_reaches s c x.0 x.2), x.3)

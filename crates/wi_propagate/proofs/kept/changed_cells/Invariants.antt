@@ -1,0 +1,6 @@
+use Rattle.std.proofs.Common.{◌≡◌, take}
+use Rattle.std.specs.Map.{keys_of}
+use Rattle.wi_propagate.proofs.kept.changed_cells.Given as goal
+
+abbrev pub invariant-loop-change : goal.invariant-loop-change
+invariant-loop-change l = l.cells.items ≡ keys_of (take l.change-index l.changes)

@@ -1,0 +1,17 @@
+use Rattle.std.proofs.Common.{◌∙◌, ℕ, max, ap}
+use Rattle.wi_propagate.specs.Inner.Keeping.{HasGeneration}
+use Rattle.wi_propagate.proofs.GenerationSteps.{replaced, still_there, is_there}
+use Rattle.wi_propagate.proofs.SettlingSteps.{lifted_more}
+use Rattle.wi_propagate.proofs.settling.lift.Goals as goal
+
+pub loop-cell-preserved : goal.loop-cell-preserved
+loop-cell-preserved c =
+    let a = c.cell-item.result in
+    let old = c.loop-cell.noted.entries in
+    let new = c.replace.new.self.entries in
+    let there : HasGeneration old a = c.loop-cell.invariant.there a (c.requires a (is_there c.args.cells.now c.loop-cell.cell-index a c.loop-cell-test.true c.cell-item.is)) in
+    let u = replaced old new a c.greater-lifted.result there c.replace.ensures.entries in
+    record {
+      lifted = lifted_more old new c.args.noted.now.entries c.args.cells.now c.loop-cell.cell-index a c.args.number c.greater-lifted.result c.loop-cell-test.true c.cell-item.is (c.greater-lifted.ensures ∙ ap (λ (n : ℕ). max n c.args.number) c.number_at.ensures) u c.loop-cell.invariant.lifted;
+      there = λ q h. still_there old new a c.greater-lifted.result u q (c.loop-cell.invariant.there q h);
+    }

@@ -1,0 +1,11 @@
+use Rattle.std.proofs.Common.{◌≡◌, ℕ, max, take, if◌then◌else◌}
+use Rattle.wi_graph.specs.Reach.{is_one_of}
+use Rattle.wi_propagate.specs.KeptSheet.{generation_in}
+use Rattle.wi_propagate.specs.Inner.Keeping.{HasGeneration}
+use Rattle.wi_propagate.proofs.settling.lift.Given as goal
+
+abbrev pub invariant-loop-cell : goal.invariant-loop-cell
+invariant-loop-cell l = record {
+  lifted : (c : ℕ) → generation_in l.noted.entries c ≡ (if is_one_of (take l.cell-index l.cells) c then max (generation_in l.initial.noted.entries c) l.number else generation_in l.initial.noted.entries c);
+  there : (c : ℕ) → HasGeneration l.initial.noted.entries c → HasGeneration l.noted.entries c;
+}

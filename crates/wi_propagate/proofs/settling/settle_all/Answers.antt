@@ -1,0 +1,50 @@
+use Rattle.std.proofs.Common.{◌∙◌, ap, sym, subst, rules, arith}
+use Rattle.std.specs.Map.{keys_of}
+use Rattle.wi_parser.specs.Sheet.{Sheet}
+use Rattle.wi_graph.specs.Edges.{AreEdgesOf}
+use Rattle.wi_graph.specs.Latest.{AreOwed}
+use Rattle.wi_propagate.specs.KeptSheet.{Generations, generation_in}
+use Rattle.wi_propagate.specs.Inner.Settling.{higher, second_cells, has_seen}
+use Rattle.wi_propagate.proofs.SettlingSteps.{settling_first, settling_again, settling_more, settling_stays, settling_ends, last_part, part_within}
+use Rattle.wi_propagate.proofs.settling.settle_all.Goals as goal
+
+pub cells-init : goal.cells-init
+cells-init c =
+    record {
+      settling = settling_first c.args.graph.now.now c.args.named.now.entries c.args.noted.now.entries (keys_of c.args.owed.now.entries) c.in_ok-order.order.items c.new-seen.result 0 c.in_ok-order.ensures c.new-seen.ensures c.requires.owed;
+      within = λ x h. c.in_ok-order.ensures x ∙ h;
+    }
+
+pub settle_one-requires-clause-closed : goal.settle_one-requires-clause-closed
+settle_one-requires-clause-closed c = λ s a.
+    (settling_again c.args.graph.now.now c.args.named.now.entries c.cells.noted.entries (second_cells c.cells.order.items) c.cells.last c.number_at-number.result (has_seen c.cells.seen) (has_seen c.forget.new.seen) c.forget.ensures c.cells.invariant.settling s a).closed
+
+pub cells-preserved : goal.cells-preserved
+cells-preserved c =
+    let es = c.args.graph.now.now in
+    let named = c.args.named.now.entries in
+    let rest = second_cells c.cells.order.items in
+    let less = second_cells c.pop.new.self.items in
+    let number = c.number_at-number.result in
+    let again = settling_again es named c.cells.noted.entries rest c.cells.last number (has_seen c.cells.seen) (has_seen c.forget.new.seen) c.forget.ensures c.cells.invariant.settling in
+    record {
+      settling = settling_more es named c.cells.noted.entries c.settle_one.new.noted.entries rest less c.in-Some.entry.1 number _ (has_seen c.forget.new.seen) (has_seen c.settle_one.new.seen) (last_part c.cells.order.items c.pop.new.self.items c.in-Some.entry c.in-Some.ensures.items)
+          c.number_at-number.ensures (omega arith) c.in_ok-settle_one.ensures.noted c.in_ok-settle_one.ensures.seen again;
+      within = λ x h. c.cells.invariant.within x (part_within c.cells.order.items c.pop.new.self.items c.in-Some.entry c.in-Some.ensures.items x h);
+    }
+
+pub returns-in_err-settle_one-clause-owed : goal.returns-in_err-settle_one-clause-owed
+returns-in_err-settle_one-clause-owed c =
+    let named = c.args.named.now.entries in
+    let whole : (s : Sheet) → AreEdgesOf c.args.graph.now.now s → AreOwed s (generation_in named) (keys_of c.args.owed.now.entries) (higher named c.settle_one.new.noted.entries) =
+    settling_stays c.args.graph.now.now named c.cells.noted.entries c.settle_one.new.noted.entries (keys_of c.args.owed.now.entries) (second_cells c.cells.order.items) (has_seen c.cells.seen) c.cells.last c.in_err-settle_one.ensures.err c.cells.invariant.within
+    c.cells.invariant.settling in
+    search whole
+
+pub returns-clause-owed : goal.returns-clause-owed
+returns-clause-owed c = λ s a.
+    subst (λ (es : Generations). AreOwed s (generation_in c.args.named.now.entries) (keys_of es) (higher c.args.named.now.entries c.cells.noted.entries)) (sym c.clear.ensures)
+    (settling_ends c.args.graph.now.now c.args.named.now.entries c.cells.noted.entries c.cells.order.items (has_seen c.cells.seen) c.cells.last (search rules) c.cells.invariant.settling s a)
+
+pub returns-clause-settled : goal.returns-clause-settled
+returns-clause-settled c = ap keys_of c.clear.ensures

@@ -1,0 +1,15 @@
+use Rattle.std.proofs.Common.{◌≡◌, ℕ, true, length}
+use Rattle.std.specs.Map.{keys_of}
+use Rattle.wi_graph.specs.Reach.{is_one_of}
+use Rattle.wi_propagate.specs.Inner.Settling.{second_cells, has_seen}
+use Rattle.wi_propagate.proofs.SettlingSteps.{IsSettlingOver}
+use Rattle.wi_propagate.proofs.settling.settle_all.Given as goal
+
+abbrev pub invariant-cells : goal.invariant-cells
+invariant-cells l = record {
+  settling : IsSettlingOver l.graph.now l.named.entries l.noted.entries (second_cells l.order.items) (has_seen l.seen) l.last;
+  within : (x : ℕ) → is_one_of (second_cells l.order.items) x ≡ true → is_one_of (keys_of l.owed.entries) x ≡ true;
+}
+
+abbrev pub decreases-cells : goal.decreases-cells
+decreases-cells l = length l.order.items
