@@ -1,9 +1,9 @@
 -- Steps of a search over readers that stops at watched cells.
-use Rattle.std.proofs.Common.{◌≡◌, ◌==◌, ◌&&◌, ◌||◌, ◌⊎◌, inl, inr, not, ℕ, ◌+◌, ◌<◌, ◌↔◌, Bool, true, false, List, [], ◌∷◌, ◌++◌, length, Result, Ok, Err, IfOk, refl, ap, sym, ◌∙◌, subst, arith}
+use Rattle.std.proofs.Common.{◌≡◌, ◌==◌, ◌&&◌, ◌||◌, ◌⊎◌, inl, inr, not, ℕ, ◌+◌, ◌<◌, ◌↔◌, Bool, true, false, cond, List, [], ◌∷◌, ◌++◌, length, take, get_or, Result, Ok, Err, IfOk, refl, ap, sym, ◌∙◌, subst, arith}
 use Rattle.std.proofs.lemmas.Bool.{or_cases, or_left, or_right, and_parts, and_from, cases_Bool, not-true, not_from_false, false_from_ne_true}
 use Rattle.std.proofs.lemmas.List.{length-append}
 use Rattle.std.proofs.lemmas.Map.Views.{any-filter_same}
-use Rattle.std.proofs.lemmas.List.Kept.{IsStrictlyIncreasing-filter}
+use Rattle.std.proofs.lemmas.List.Elements.{filter-append}
 use Rattle.std.specs.Global.{Vec}
 use Rattle.std.specs.List.{list_any, Contains}
 use Rattle.std.specs.Ordering.{nat_cmp}
@@ -22,7 +22,7 @@ use Rattle.wi_graph.specs.Inner.Search.{HasAll, GoesToReaders, IsLeast, IsConeBe
 use Rattle.wi_graph.proofs.Tests.{is_itself, clash, turned}
 use Rattle.wi_graph.proofs.Walks.{same_cell, same_tests}
 use Rattle.wi_graph.proofs.SetSteps.{in_last, in_front, in_back}
-use Rattle.wi_graph.proofs.SearchSteps.{AreReaders, listed_one, one_listed, all_readers, readers_there}
+use Rattle.wi_graph.proofs.SearchSteps.{AreReaders, listed_one, one_listed, all_readers, readers_there, noted_none, noted_both, one_taken}
 use Rattle.wi_graph.proofs.Cones.{cone_has, cone_closed, cone_least}
 use Rattle.wi_graph.proofs.GraphSteps.{graph_readers}
 
@@ -39,6 +39,20 @@ in_beyond w xs c h =
 beyond_in : (w : ℕ → Bool) (xs : List ℕ) (c : ℕ) → is_one_of xs c ≡ true → w c ≡ false → is_one_of (beyond w xs) c ≡ true
 beyond_in w xs c h n = among w xs c ∙ and_from (not (w c)) (is_one_of xs c) (not_from_false (w c) n) h
 
+-- one more of some cells is noted
+pub beyond_more : (w : ℕ → Bool) (cells : List ℕ) (i x : ℕ) (old mid new : BTreeSet ℕ) (before work more : List ℕ) → i < length cells → x ≡ get_or cells i x → AreNoted (beyond w (take i cells)) old mid before work → AreNoted (beyond w (x ∷ [])) mid new work more →
+    AreNoted (beyond w (take (i + 1) cells)) old new before more
+beyond_more w cells i x old mid new before work more l e m n =
+    subst (λ (xs : List ℕ). AreNoted xs old new before more) (sym (ap (beyond w) (one_taken cells i x l e) ∙ filter-append (λ c. not (w c)) (take i cells) (x ∷ []))) (noted_both (beyond w (take i cells)) (beyond w (x ∷ [])) old mid new before work more m n)
+
+-- one that is watched
+pub beyond_watched : (w : ℕ → Bool) (x : ℕ) (b : Bool) (old : BTreeSet ℕ) (work : List ℕ) → b ≡ w x → b ≡ true → AreNoted (beyond w (x ∷ [])) old old work work
+beyond_watched w x b old work e h = subst (λ (xs : List ℕ). AreNoted xs old old work work) (sym (ap (λ (d : Bool). cond (not d) (x ∷ []) []) (sym e ∙ h))) (noted_none old work)
+
+-- one that isn't
+pub beyond_unwatched : (w : ℕ → Bool) (x : ℕ) (b : Bool) → b ≡ w x → b ≡ false → x ∷ [] ≡ beyond w (x ∷ [])
+beyond_unwatched w x b e h = sym (ap (λ (d : Bool). cond (not d) (x ∷ []) []) (sym e ∙ h))
+
 -- ---- the search
 
 pub record IsSearchingBeyond (readers : Bag) (w : ℕ → Bool) (cells : List ℕ) (found : BTreeSet ℕ) (work : List ℕ) : Type 0 where
@@ -48,19 +62,16 @@ pub record IsSearchingBeyond (readers : Bag) (w : ℕ → Bool) (cells : List �
   pub unwatched : (c : ℕ) → contains nat_cmp found c ≡ true → w c ≡ false
   pub least : IsLeast readers cells found
 
-pub beyond_start : (readers : Bag) (w : ℕ → Bool) (cells : List ℕ) (none found : BTreeSet ℕ) (empty work fresh noted : List ℕ) → none.keys ≡ [] → empty ≡ [] → fresh ≡ beyond w cells → noted ≡ fresh → AreNoted noted none found empty work →
+pub beyond_start : (readers : Bag) (w : ℕ → Bool) (cells : List ℕ) (none found : BTreeSet ℕ) (empty work : List ℕ) → none.keys ≡ [] → empty ≡ [] → ((c : ℕ) → is_one_of cells c ≡ true → w c ≡ false) → AreNoted cells none found empty work →
     IsSearchingBeyond readers w cells found work
-beyond_start readers w cells none found empty work fresh noted e f h k m = record {
-  all = λ c i. n.found c ∙ or_right (contains nat_cmp none c) _ i;
+beyond_start readers w cells none found empty work e f k n = record {
+  all = λ c i. n.found c ∙ or_right (contains nat_cmp none c) _ (in_beyond w cells c i).0;
   opened = λ a r i j u. inl (n.fresh a i (nothing a));
   within = λ c i. at c (n.within c i);
-  unwatched = λ c i. (in_beyond w cells c (first c i)).1;
-  least = λ p i g c j. i c (in_beyond w cells c (first c j)).0;
+  unwatched = λ c i. k c (first c i);
+  least = λ p i g c j. i c (first c j);
 }
   where
-    n : AreNoted (beyond w cells) none found empty work
-    n = subst (λ (xs : List ℕ). AreNoted xs none found empty work) (k ∙ h) m
-
     nothing : (c : ℕ) → contains nat_cmp none c ≡ false
     nothing c = ap (λ (xs : List ℕ). list_any (is_at (nat_cmp c)) xs) e
 
@@ -68,16 +79,16 @@ beyond_start readers w cells none found empty work fresh noted e f h k m = recor
     at c (inl i) = clash (is_one_of empty c) i (ap (λ (xs : List ℕ). is_one_of xs c) f)
     at c (inr i) = i
 
-    is_first : (c : ℕ) → (contains nat_cmp none c ≡ true) ⊎ (is_one_of (beyond w cells) c ≡ true) → is_one_of (beyond w cells) c ≡ true
+    is_first : (c : ℕ) → (contains nat_cmp none c ≡ true) ⊎ (is_one_of cells c ≡ true) → is_one_of cells c ≡ true
     is_first c (inl i) = clash (contains nat_cmp none c) i (nothing c)
     is_first c (inr i) = i
 
-    first : (c : ℕ) → contains nat_cmp found c ≡ true → is_one_of (beyond w cells) c ≡ true
+    first : (c : ℕ) → contains nat_cmp found c ≡ true → is_one_of cells c ≡ true
     first c i = is_first c (or_cases (contains nat_cmp none c) _ (sym (n.found c) ∙ i))
 
-pub beyond_step : (readers : Bag) (w : ℕ → Bool) (cells : List ℕ) (found more : BTreeSet ℕ) (work less after next looked fresh noted : List ℕ) (cell : ℕ) → work ≡ less ++ cell ∷ [] → AreReaders readers cell next → looked ≡ next → fresh ≡ beyond w looked → noted ≡ fresh →
-    AreNoted noted found more less after → IsSearchingBeyond readers w cells found work → IsSearchingBeyond readers w cells more after
-beyond_step readers w cells found more work less after next looked fresh noted cell e r q h k m s = record {
+pub beyond_step : (readers : Bag) (w : ℕ → Bool) (cells : List ℕ) (found more : BTreeSet ℕ) (work less after next noted : List ℕ) (cell : ℕ) → work ≡ less ++ cell ∷ [] → AreReaders readers cell next → noted ≡ next →
+    AreNoted (beyond w noted) found more less after → IsSearchingBeyond readers w cells found work → IsSearchingBeyond readers w cells more after
+beyond_step readers w cells found more work less after next noted cell e r q m s = record {
   all = λ c i. still c (s.all c i);
   opened = λ a d i j u. opened a d i j u (cases_Bool (contains nat_cmp found a));
   within = λ c i. within c (n.within c i);
@@ -86,7 +97,7 @@ beyond_step readers w cells found more work less after next looked fresh noted c
 }
   where
     n : AreNoted (beyond w next) found more less after
-    n = subst (λ (xs : List ℕ). AreNoted xs found more less after) (k ∙ h ∙ ap (beyond w) q) m
+    n = subst (λ (xs : List ℕ). AreNoted xs found more less after) (ap (beyond w) q) m
 
     still : (c : ℕ) → contains nat_cmp found c ≡ true → contains nat_cmp more c ≡ true
     still c i = n.found c ∙ or_left (contains nat_cmp found c) _ i
@@ -131,10 +142,10 @@ beyond_end readers w cells found work e s = record {
     at a r (inr k) = k
 
 -- it ends
-pub beyond_ends : (readers : Bag) (w : ℕ → Bool) (found more : BTreeSet ℕ) (work less after next looked fresh noted : List ℕ) (cell : ℕ) → work ≡ less ++ cell ∷ [] → AreReaders readers cell next → looked ≡ next → fresh ≡ beyond w looked → noted ≡ fresh →
-    AreNoted noted found more less after → length (missing more (all_readers readers)) + length after < length (missing found (all_readers readers)) + length work
-beyond_ends readers w found more work less after next looked fresh noted cell e r q h k m =
-    let n = subst (λ (xs : List ℕ). AreNoted xs found more less after) (k ∙ h ∙ ap (beyond w) q) m in
+pub beyond_ends : (readers : Bag) (w : ℕ → Bool) (found more : BTreeSet ℕ) (work less after next noted : List ℕ) (cell : ℕ) → work ≡ less ++ cell ∷ [] → AreReaders readers cell next → noted ≡ next → AreNoted (beyond w noted) found more less after →
+    length (missing more (all_readers readers)) + length after < length (missing found (all_readers readers)) + length work
+beyond_ends readers w found more work less after next noted cell e r q m =
+    let n = subst (λ (xs : List ℕ). AreNoted xs found more less after) (ap (beyond w) q) m in
     let f = n.fewer (all_readers readers) (λ c i. readers_there readers cell c ((r c).0 (one_listed next c (in_beyond w next c i).0))) in
     let t : length work ≡ length less + 1 = ap (λ (xs : List ℕ). length xs) e ∙ length-append less (cell ∷ []) in
     omega (arith, f, t)
@@ -192,20 +203,33 @@ pub beyond_listed : {E : Type 0} (readers : Bag) (w : ℕ → Bool) (cells : Lis
 beyond_listed readers w cells found (Ok list) k o e = beyond_list readers w cells list.items found o e k
 beyond_listed readers w cells found (Err error) k o e = tt
 
--- cells in order that nothing reads
-pub own_beyond : (readers : Bag) (w : ℕ → Bool) (cells list : List ℕ) → IsStrictlyIncreasing cells → ((a r : ℕ) → is_one_of cells a ≡ true → IsReader readers a r → ⊥) → list ≡ beyond w cells → IsListBeyond readers w cells list
-own_beyond readers w cells list o n e = subst (IsListBeyond readers w cells) (sym e) (record {
-  order = IsStrictlyIncreasing-filter (λ c. not (w c)) cells o;
+-- those that aren't watched, where they stand in order and nothing reads them
+pub own_beyond : (readers : Bag) (w : ℕ → Bool) (cells list looked : List ℕ) → list ≡ beyond w cells → looked ≡ list → IsStrictlyIncreasing looked → ((a r : ℕ) → is_one_of looked a ≡ true → IsReader readers a r → ⊥) → IsListBeyond readers w cells list
+own_beyond readers w cells list looked e q o n = record {
+  order = subst IsStrictlyIncreasing q o;
   cone = record {
-    all = λ c h. turned (beyond w cells) c ∙ h;
-    closed = λ a r h i u. absurd (n a r (own a h) i);
-    unwatched = λ c h. (in_beyond w cells c (sym (turned (beyond w cells) c) ∙ h)).1;
-    least = λ p h g c m. h c (own c m);
+    all = λ c h. turned list c ∙ ap (λ (xs : List ℕ). is_one_of xs c) e ∙ h;
+    closed = λ a r h i u. absurd (n a r (ap (λ (xs : List ℕ). is_one_of xs a) q ∙ sym (turned list a) ∙ h) i);
+    unwatched = λ c h. (own c h).1;
+    least = λ p h g c m. h c (own c m).0;
   };
-})
+}
   where
-    own : (c : ℕ) → contains nat_cmp (as_set (beyond w cells)) c ≡ true → is_one_of cells c ≡ true
-    own c h = (in_beyond w cells c (sym (turned (beyond w cells) c) ∙ h)).0
+    own : (c : ℕ) → contains nat_cmp (as_set list) c ≡ true → (is_one_of cells c ≡ true) × (w c ≡ false)
+    own c h = in_beyond w cells c (ap (λ (xs : List ℕ). is_one_of xs c) (sym e) ∙ sym (turned list c) ∙ h)
+
+-- none of them is watched
+pub none_watched : (w : ℕ → Bool) (cells list looked : List ℕ) → list ≡ beyond w cells → looked ≡ list → (c : ℕ) → is_one_of looked c ≡ true → w c ≡ false
+none_watched w cells list looked e q c h = (in_beyond w cells c (ap (λ (xs : List ℕ). is_one_of xs c) (sym (q ∙ e)) ∙ h)).1
+
+-- and what is found by them is found by all
+pub beyond_all : (readers : Bag) (w : ℕ → Bool) (cells list looked : List ℕ) (found : BTreeSet ℕ) → list ≡ beyond w cells → looked ≡ list → IsConeBeyond readers w looked found → IsConeBeyond readers w cells found
+beyond_all readers w cells list looked found e q k = record {
+  all = λ c h. k.all c (beyond_in w looked c (ap (λ (xs : List ℕ). is_one_of xs c) (q ∙ e) ∙ h) (in_beyond w cells c h).1);
+  closed = k.closed;
+  unwatched = k.unwatched;
+  least = λ p h g c m. k.least p (λ d i. h d (in_beyond w cells d (ap (λ (xs : List ℕ). is_one_of xs d) (sym (q ∙ e)) ∙ i)).0) g c m;
+}
 
 -- by the edges
 pub edge_beyond : (rooms : Rooms) (readers : Bag) (circles : BTreeSet ℕ) (w : ℕ → Bool) (cells list : List ℕ) → IsGraph rooms readers circles → ((s : Sheet) → AreEdgesOf (edges_in rooms.entries) s → IsClosedUp s w) → IsListBeyond readers w cells list →

@@ -4,7 +4,7 @@ use Rattle.wi_parser.specs.declared.content.Content.{Content}
 use Rattle.wi_parser.specs.Sheet.{Sheet, content_of}
 use Rattle.wi_parser.specs.Reads.{content_reads}
 use Rattle.wi_graph.specs.Reach.{Walks, Reaches, is_one_of, SameOff, reaches, in_cone}
-use Rattle.wi_graph.specs.Latest.{numbered, IsLatest, LatestOfCone, OneIsLatest, LatestRises, LatestByStep, IsOwed, AreOwed, IsUnread, EditOwes, NoneIsOwed, IsSettling, SettlesOne, SettlingBegins, OwedStays, latest_among, LatestIsAmong}
+use Rattle.wi_graph.specs.Latest.{numbered, IsLatest, LatestOfCone, OneIsLatest, LatestRises, LatestByStep, IsOwed, IsUnread, EditOwes, NoneIsOwed, SettlesOne, SettlingBegins, OwedStays, latest_among, LatestIsAmong}
 use Rattle.wi_graph.proofs.Tests.{clash, is_itself}
 use Rattle.wi_graph.proofs.Walks.{same_cell}
 use Rattle.wi_graph.proofs.ReachTest.{reaches_true, true_reaches, in_cone_true, true_in_cone, not_in_cone}

@@ -1,6 +1,8 @@
 -- Steps of a search over readers.
-use Rattle.std.proofs.Common.{◌≡◌, ◌==◌, ◌||◌, ◌⊎◌, inl, inr, not, ℕ, zero, suc, ◌+◌, ◌<◌, ◌↔◌, Bool, true, false, cond, List, [], ◌∷◌, ◌++◌, map, length, take, get_or, Some, Result, Ok, Err, IfOk, refl, ap, sym, ◌∙◌, subst, arith}
-use Rattle.std.proofs.Math.Bool.{or-false}
+use Rattle.std.proofs.Common.{◌≡◌, ◌==◌, ◌||◌, ◌⊎◌, inl, inr, not, ℕ, zero, suc, ◌+◌, ◌<◌, ◌↔◌, Bool, true, false, cond, List, [], ◌∷◌, ◌++◌, map, length, take, get_or, Some, Result, Ok, Err, IfOk, refl, ap, sym, ◌∙◌, subst, arith, add-one}
+use Rattle.std.proofs.Math.Bool.{or-false, or_assoc}
+use Rattle.std.proofs.Math.Seq.{take-suc}
+use Rattle.std.proofs.lemmas.List.Folds.{list_any-append}
 use Rattle.std.proofs.lemmas.Bool.{or_cases, or_left, or_right, cases_Bool, not-true, not_from_false}
 use Rattle.std.proofs.lemmas.List.{length-append}
 use Rattle.std.specs.Global.{Vec}
@@ -21,7 +23,7 @@ use Rattle.wi_graph.specs.Inner.Search.{HasAll, HasReaders, GoesToReaders, IsLea
 use Rattle.wi_graph.proofs.Tests.{is_itself, clash, turned}
 use Rattle.std.proofs.lemmas.List.Elements.{filter_agree}
 use Rattle.wi_graph.proofs.Walks.{same_cell, same_tests, shrinks, Same}
-use Rattle.wi_graph.proofs.SetSteps.{in_last, in_front, in_back, Gains, gains, gains_stays, gains_one, gains_cases, taken, found_more}
+use Rattle.wi_graph.proofs.SetSteps.{in_last, in_front, in_back, Gains, gains, gains_stays, gains_one, gains_cases, taken}
 use Rattle.wi_graph.proofs.Cones.{cone_has, cone_closed, cone_least}
 
 -- ---- cells are noted
@@ -35,12 +37,6 @@ noted_none s work = record {
   fewer = λ all h. omega arith;
 }
 
-taken_front : (cells : List ℕ) (i x c : ℕ) → i < length cells → x ≡ get_or cells i x → is_one_of (take i cells) c ≡ true → is_one_of (take (i + 1) cells) c ≡ true
-taken_front cells i x c l e h = taken cells i x c l e ∙ or_left (is_one_of (take i cells) c) _ h
-
-taken_last : (cells : List ℕ) (i x : ℕ) → i < length cells → x ≡ get_or cells i x → is_one_of (take (i + 1) cells) x ≡ true
-taken_last cells i x l e = taken cells i x x l e ∙ or_right (is_one_of (take i cells) x) _ (or_left (x == x) false (is_itself x))
-
 pub was_new : (b d : Bool) → b ≡ not d → b ≡ true → d ≡ false
 was_new b true e h = cc
 was_new b false e h = refl
@@ -49,30 +45,36 @@ pub was_old : (b d : Bool) → b ≡ not d → b ≡ false → d ≡ true
 was_old b true e h = refl
 was_old b false e h = cc
 
+has_more : (old new : BTreeSet ℕ) (x : ℕ) → Gains old new x → (c : ℕ) → contains nat_cmp new c ≡ (contains nat_cmp old c || is_one_of (x ∷ []) c)
+has_more old new x g c = gains old new x g c ∙ by (x == c) (contains nat_cmp old c)
+  where
+    by : (b o : Bool) → cond b true o ≡ (o || (b || false))
+    by true true = refl
+    by true false = refl
+    by false true = refl
+    by false false = refl
+
+its_own : (x : ℕ) → is_one_of (x ∷ []) x ≡ true
+its_own x = or_left (x == x) false (is_itself x)
+
 -- one that the set has already
-pub noted_old : (cells : List ℕ) (i x : ℕ) (old mid new : BTreeSet ℕ) (before work : List ℕ) → i < length cells → x ≡ get_or cells i x → contains nat_cmp mid x ≡ true → Gains mid new x →
-    AreNoted (take i cells) old mid before work → AreNoted (take (i + 1) cells) old new before work
-noted_old cells i x old mid new before work l e h g n = record {
-  found = found_more cells i x old mid new l e g n.found;
-  stays = n.stays;
-  fresh = λ c k u. n.fresh c (sym (same c) ∙ k) u;
-  within = λ c k. at c (n.within c k);
+pub noted_old : (x : ℕ) (old new : BTreeSet ℕ) (work : List ℕ) → contains nat_cmp old x ≡ true → Gains old new x → AreNoted (x ∷ []) old new work work
+noted_old x old new work h g = record {
+  found = has_more old new x g;
+  stays = λ c k. k;
+  fresh = λ c k u. clash (contains nat_cmp old c) (sym (same c) ∙ k) u;
+  within = λ c k. inl k;
   fewer = λ all k.
-      let f = n.fewer all (λ c m. k c (taken_front cells i x c l e m)) in
-      let s : length (missing new all) ≡ length (missing mid all) = ap (λ (xs : List ℕ). length xs) (filter_agree (λ c. not (contains nat_cmp new c)) (λ c. not (contains nat_cmp mid c)) (λ c. ap (λ (b : Bool). not b) (same c)) all) in
-      omega (arith, f, s);
+      let s : length (missing new all) ≡ length (missing old all) = ap (λ (xs : List ℕ). length xs) (filter_agree (λ c. not (contains nat_cmp new c)) (λ c. not (contains nat_cmp old c)) (λ c. ap (λ (b : Bool). not b) (same c)) all) in
+      omega (arith, s);
 }
   where
-    same : (c : ℕ) → contains nat_cmp new c ≡ contains nat_cmp mid c
-    same c = gains mid new x g c ∙ by (x == c) refl
+    same : (c : ℕ) → contains nat_cmp new c ≡ contains nat_cmp old c
+    same c = gains old new x g c ∙ by (x == c) refl
       where
-        by : (b : Bool) → (x == c) ≡ b → cond b true (contains nat_cmp mid c) ≡ contains nat_cmp mid c
-        by true f = sym h ∙ ap (λ (y : ℕ). contains nat_cmp mid y) (same_cell c x f)
+        by : (b : Bool) → (x == c) ≡ b → cond b true (contains nat_cmp old c) ≡ contains nat_cmp old c
+        by true f = sym h ∙ ap (λ (y : ℕ). contains nat_cmp old y) (same_cell c x f)
         by false f = refl
-
-    at : (c : ℕ) → (is_one_of before c ≡ true) ⊎ (contains nat_cmp mid c ≡ true) → (is_one_of before c ≡ true) ⊎ (contains nat_cmp new c ≡ true)
-    at c (inl k) = inl k
-    at c (inr k) = inr (same c ∙ k)
 
 fewer_missing : (all : List ℕ) (mid new : BTreeSet ℕ) (x : ℕ) → Gains mid new x → contains nat_cmp mid x ≡ false → is_one_of all x ≡ true → length (missing new all) < length (missing mid all)
 fewer_missing all mid new x g n m = at (shrinks (λ c. not (contains nat_cmp mid c)) (λ c. not (contains nat_cmp new c)) (λ c h. lacks c (contains nat_cmp mid c) refl (not-true (contains nat_cmp new c) h)) all)
@@ -86,31 +88,60 @@ fewer_missing all mid new x g n m = at (shrinks (λ c. not (contains nat_cmp mid
     at (inr s) = clash (contains nat_cmp new x) (gains_one mid new x g) (not-true (contains nat_cmp new x) (s.1 x m (not_from_false (contains nat_cmp mid x) n)))
 
 -- one that is new
-pub noted_new : (cells : List ℕ) (i x : ℕ) (old mid new : BTreeSet ℕ) (before work more : List ℕ) → i < length cells → x ≡ get_or cells i x → contains nat_cmp mid x ≡ false → Gains mid new x → more ≡ work ++ x ∷ [] →
-    AreNoted (take i cells) old mid before work → AreNoted (take (i + 1) cells) old new before more
-noted_new cells i x old mid new before work more l e h g w n = record {
-  found = found_more cells i x old mid new l e g n.found;
-  stays = λ c k. ap (λ (xs : List ℕ). is_one_of xs c) w ∙ in_front work (x ∷ []) c (n.stays c k);
-  fresh = λ c k u. ap (λ (xs : List ℕ). is_one_of xs c) w ∙ new_one c u (gains_cases mid new x g c k);
+pub noted_new : (x : ℕ) (old new : BTreeSet ℕ) (work more : List ℕ) → contains nat_cmp old x ≡ false → Gains old new x → more ≡ work ++ x ∷ [] → AreNoted (x ∷ []) old new work more
+noted_new x old new work more h g w = record {
+  found = has_more old new x g;
+  stays = λ c k. ap (λ (xs : List ℕ). is_one_of xs c) w ∙ in_front work (x ∷ []) c k;
+  fresh = λ c k u. ap (λ (xs : List ℕ). is_one_of xs c) w ∙ new_one c u (gains_cases old new x g c k);
   within = λ c k. at c (in_last work x c (ap (λ (xs : List ℕ). is_one_of xs c) (sym w) ∙ k));
   fewer = λ all k.
-      let f = n.fewer all (λ c m. k c (taken_front cells i x c l e m)) in
-      let s = fewer_missing all mid new x g h (k x (taken_last cells i x l e)) in
+      let s = fewer_missing all old new x g h (k x (its_own x)) in
       let t : length more ≡ length work + 1 = ap (λ (xs : List ℕ). length xs) w ∙ length-append work (x ∷ []) in
-      omega (arith, f, s, t);
+      omega (arith, s, t);
 }
   where
-    new_one : (c : ℕ) → contains nat_cmp old c ≡ false → (x ≡ c) ⊎ (contains nat_cmp mid c ≡ true) → is_one_of (work ++ x ∷ []) c ≡ true
+    new_one : (c : ℕ) → contains nat_cmp old c ≡ false → (x ≡ c) ⊎ (contains nat_cmp old c ≡ true) → is_one_of (work ++ x ∷ []) c ≡ true
     new_one c u (inl k) = in_back work (x ∷ []) c (or_left (x == c) false (ap (λ (y : ℕ). x == y) (sym k) ∙ is_itself x))
-    new_one c u (inr k) = in_front work (x ∷ []) c (n.fresh c k u)
+    new_one c u (inr k) = clash (contains nat_cmp old c) k u
 
-    on : (c : ℕ) → (is_one_of before c ≡ true) ⊎ (contains nat_cmp mid c ≡ true) → (is_one_of before c ≡ true) ⊎ (contains nat_cmp new c ≡ true)
-    on c (inl k) = inl k
-    on c (inr k) = inr (gains_stays mid new x g c k)
+    at : (c : ℕ) → (is_one_of work c ≡ true) ⊎ (x ≡ c) → (is_one_of work c ≡ true) ⊎ (contains nat_cmp new c ≡ true)
+    at c (inl k) = inl k
+    at c (inr k) = inr (ap (λ (y : ℕ). contains nat_cmp new y) (sym k) ∙ gains_one old new x g)
 
-    at : (c : ℕ) → (is_one_of work c ≡ true) ⊎ (x ≡ c) → (is_one_of before c ≡ true) ⊎ (contains nat_cmp new c ≡ true)
-    at c (inl k) = on c (n.within c k)
-    at c (inr k) = inr (ap (λ (y : ℕ). contains nat_cmp new y) (sym k) ∙ gains_one mid new x g)
+-- some, and then others
+pub noted_both : (xs ys : List ℕ) (old mid new : BTreeSet ℕ) (before between after : List ℕ) → AreNoted xs old mid before between → AreNoted ys mid new between after → AreNoted (xs ++ ys) old new before after
+noted_both xs ys old mid new before between after m n = record {
+  found = λ c.
+      n.found c ∙ ap (λ (b : Bool). b || is_one_of ys c) (m.found c) ∙ or_assoc (contains nat_cmp old c) (is_one_of xs c) (is_one_of ys c)
+      ∙ ap (λ (b : Bool). contains nat_cmp old c || b) (sym (list_any-append (λ (y : ℕ). y == c) xs ys));
+  stays = λ c h. n.stays c (m.stays c h);
+  fresh = λ c h k. fresh c h k (cases_Bool (contains nat_cmp mid c));
+  within = λ c h. last c (n.within c h);
+  fewer = λ all h.
+      let f = m.fewer all (λ c k. h c (in_front xs ys c k)) in
+      let g = n.fewer all (λ c k. h c (in_back xs ys c k)) in
+      omega (arith, f, g);
+}
+  where
+    fresh : (c : ℕ) → contains nat_cmp new c ≡ true → contains nat_cmp old c ≡ false → (contains nat_cmp mid c ≡ true) ⊎ (contains nat_cmp mid c ≡ false) → is_one_of after c ≡ true
+    fresh c h k (inl i) = n.stays c (m.fresh c i k)
+    fresh c h k (inr i) = n.fresh c h i
+
+    first : (c : ℕ) → (is_one_of before c ≡ true) ⊎ (contains nat_cmp mid c ≡ true) → (is_one_of before c ≡ true) ⊎ (contains nat_cmp new c ≡ true)
+    first c (inl h) = inl h
+    first c (inr h) = inr (n.found c ∙ or_left (contains nat_cmp mid c) _ h)
+
+    last : (c : ℕ) → (is_one_of between c ≡ true) ⊎ (contains nat_cmp new c ≡ true) → (is_one_of before c ≡ true) ⊎ (contains nat_cmp new c ≡ true)
+    last c (inl h) = first c (m.within c h)
+    last c (inr h) = inr h
+
+pub one_taken : (cells : List ℕ) (i x : ℕ) → i < length cells → x ≡ get_or cells i x → take (i + 1) cells ≡ take i cells ++ x ∷ []
+one_taken cells i x l e = ap (λ (n : ℕ). take n cells) (add-one i) ∙ take-suc cells i x l ∙ ap (λ (y : ℕ). take i cells ++ y ∷ []) (sym e)
+
+-- one more of some cells
+pub noted_more : (cells : List ℕ) (i x : ℕ) (old mid new : BTreeSet ℕ) (before work more : List ℕ) → i < length cells → x ≡ get_or cells i x → AreNoted (take i cells) old mid before work → AreNoted (x ∷ []) mid new work more →
+    AreNoted (take (i + 1) cells) old new before more
+noted_more cells i x old mid new before work more l e m n = subst (λ (xs : List ℕ). AreNoted xs old new before more) (sym (one_taken cells i x l e)) (noted_both (take i cells) (x ∷ []) old mid new before work more m n)
 
 -- ---- the search
 

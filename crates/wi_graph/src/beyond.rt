@@ -1,16 +1,18 @@
 //! The cells that read one of a list, at any remove, but for those that are watched.
 
-ghost use Rattle.std.specs.Prelude.{◌≡◌, IfOk};
-ghost use Rattle.wi_graph.specs.Inner.Search.{IsConeBeyond, IsListBeyond, beyond};
+ghost use Rattle.std.specs.Prelude.{◌≡◌, ◌∷◌, ℕ, [], true, false, IfOk, OnOk};
+ghost use Rattle.wi_graph.specs.Reach.{is_one_of};
+ghost use Rattle.wi_graph.specs.Inner.Search.{IsConeBeyond, IsListBeyond, AreNoted, beyond};
 
-use crate::cone::{none_is_read, note, rise};
+use crate::cone::{are_alone, note, note_one};
 use crate::watch::Watch;
 use std::alloc::{AllocError, Global};
 use wi_ranges::{RangeIndex, RisingSet};
 use wi_values::Address;
 
 /// The cells that read one of these, at any remove, with themselves, but for those that are watched and what is found by them
-/// alone: each once, in row-major order. Cells in that order which nothing reads cost no more than the search for their readers.
+/// alone: each once, in row-major order. Of the cells given those that are watched cost a look, and where the others stand in that order and
+/// nothing reads them, they cost no more than the search for their readers.
 pub(crate) fn listed_beyond<W: Watch>(
     alloc: Global,
     readers: &RangeIndex,
@@ -19,32 +21,62 @@ pub(crate) fn listed_beyond<W: Watch>(
 ) -> Result<Vec<Address>, AllocError>
     ensures { IfOk result (λ list. IsListBeyond readers.now (W.watched watch.now) cells.now list.items) }
 {
-    if rise(cells) && none_is_read(readers, cells)? {
-        return unwatched(alloc, cells, watch);
+    let own = unwatched(alloc, cells, watch)?;
+    if are_alone(readers, &own)? {
+        return Ok(own);
     }
-    let found = cone_beyond(alloc, readers, cells, watch)?;
+    let found = cone_beyond(alloc, readers, &own, watch)?;
     found.into_list()
 }
 
-/// The same as a set.
+/// The same as a set, of cells that aren't watched.
 fn cone_beyond<W: Watch>(
     alloc: Global,
     readers: &RangeIndex,
     cells: &[Address],
     watch: &W,
 ) -> Result<RisingSet, AllocError>
+    requires { (c : ℕ) → is_one_of cells.now c ≡ true → W.watched watch.now c ≡ false }
     ensures { IfOk result (λ found. IsConeBeyond readers.now (W.watched watch.now) cells.now found) }
 {
     let mut found = RisingSet::new(alloc);
     let mut work = Vec::new(alloc);
-    let fresh = unwatched(alloc, cells, watch)?;
-    note(&fresh, &mut found, &mut work)?;
+    note(cells, &mut found, &mut work)?;
     'cells: while let Some(cell) = work.pop() {
         let next = readers.readers_of(cell)?;
-        let more = unwatched(alloc, &next, watch)?;
-        note(&more, &mut found, &mut work)?;
+        note_beyond(&next, watch, &mut found, &mut work)?;
     }
     Ok(found)
+}
+
+/// Puts those of some cells that aren't watched into a set, and those that are new there at the end of a list.
+fn note_beyond<W: Watch>(
+    cells: &[Address],
+    watch: &W,
+    found: &mut RisingSet,
+    work: &mut Vec<Address>,
+) -> Result<(), AllocError>
+    ensures { OnOk result (AreNoted (beyond (W.watched watch.now) cells.now) found.old found.new work.old.items work.new.items) }
+{
+    for cell in cells {
+        note_unwatched(*cell, watch, found, work)?;
+    }
+    Ok(())
+}
+
+/// The same of one cell.
+fn note_unwatched<W: Watch>(
+    cell: Address,
+    watch: &W,
+    found: &mut RisingSet,
+    work: &mut Vec<Address>,
+) -> Result<(), AllocError>
+    ensures { OnOk result (AreNoted (beyond (W.watched watch.now) (cell ∷ [])) found.old found.new work.old.items work.new.items) }
+{
+    if watch.has(cell) {
+        return Ok(());
+    }
+    note_one(cell, found, work)
 }
 
 /// Those of the cells that aren't watched.

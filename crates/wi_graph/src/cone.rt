@@ -1,6 +1,6 @@
 //! The cells that read one of a list, at any remove.
 
-ghost use Rattle.std.specs.Prelude.{◌≡◌, ℕ, true, IsTrue, IfOk, OnOk};
+ghost use Rattle.std.specs.Prelude.{◌≡◌, ◌∷◌, ℕ, [], true, IsTrue, IfOk, OnOk};
 ghost use Rattle.std.specs.List.Sorted.{IsStrictlyIncreasing};
 ghost use Rattle.std.specs.Map.{keys_of};
 ghost use Rattle.wi_ranges.specs.Bag.{IsReader};
@@ -33,11 +33,22 @@ pub(crate) fn listed_cone(
 ) -> Result<Vec<Address>, AllocError>
     ensures { IfOk result (λ list. IsConeOf readers.now cells.now list.items) }
 {
-    if rise(cells) && none_is_read(readers, cells)? {
+    if are_alone(readers, cells)? {
         return Vec::from_slice(alloc, cells);
     }
     let found = cone_of(alloc, readers, cells)?;
     found.into_list()
+}
+
+/// Whether cells stand in row-major order, each once, and nothing reads one of them: they are their own cone then.
+pub(crate) fn are_alone(readers: &RangeIndex, cells: &[Address]) -> Result<bool, AllocError>
+    ensures order { IfOk result (λ alone. IsTrue alone → IsStrictlyIncreasing cells.now) }
+    ensures unread { IfOk result (λ alone. IsTrue alone → (a r : ℕ) → is_one_of cells.now a ≡ true → IsReader readers.now a r → ⊥) }
+{
+    if !rise(cells) {
+        return Ok(false);
+    }
+    none_is_read(readers, cells)
 }
 
 /// Whether cells stand in row-major order, each once.
@@ -89,9 +100,21 @@ pub(crate) fn note(
     ensures { OnOk result (AreNoted cells.now found.old found.new work.old.items work.new.items) }
 {
     for cell in cells {
-        if found.insert(*cell)? {
-            work.push(*cell)?;
-        }
+        note_one(*cell, found, work)?;
+    }
+    Ok(())
+}
+
+/// Puts a cell into a set, and at the end of a list if it is new there.
+pub(crate) fn note_one(
+    cell: Address,
+    found: &mut RisingSet,
+    work: &mut Vec<Address>,
+) -> Result<(), AllocError>
+    ensures { OnOk result (AreNoted (cell ∷ []) found.old found.new work.old.items work.new.items) }
+{
+    if found.insert(cell)? {
+        work.push(cell)?;
     }
     Ok(())
 }

@@ -9,7 +9,7 @@ pub returns-then-branch : goal.returns-then-branch
 returns-then-branch c =
     let cells = c.args.cells.now in
     IfOk-weaker c.from_slice.result (λ (list : Vec ℕ). list.items ≡ cells) (λ list. IsConeOf c.args.readers.now cells list.items)
-    (λ list. own_cone c.args.readers.now cells list.items (c.rise.ensures c.if-rise.true) (c.in_ok-none_is_read.ensures (search rules))) c.from_slice.ensures.items
+    (λ list. own_cone c.args.readers.now cells list.items (c.in_ok-are_alone.ensures.order (search rules)) (c.in_ok-are_alone.ensures.unread (search rules))) c.from_slice.ensures.items
 
 pub returns : goal.returns
 returns c =

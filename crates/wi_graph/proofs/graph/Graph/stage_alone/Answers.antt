@@ -1,9 +1,6 @@
-use Rattle.std.proofs.Common.{◌∙◌, ℕ, List, refl, ap, sym, subst}
-use Rattle.std.specs.List.Sorted.{IsStrictlyIncreasing}
-use Rattle.wi_values.proofs.Order.{Ascends-from_order}
-use Rattle.wi_graph.specs.Reach.{is_one_of}
-use Rattle.wi_graph.specs.Edges.{AreEdgesOf, Staging}
-use Rattle.wi_graph.proofs.EdgeLemmas.{areas_rooms, rooms_same}
+use Rattle.std.proofs.Common.{◌∙◌, refl, ap}
+use Rattle.wi_graph.specs.Edges.{Staging}
+use Rattle.wi_graph.proofs.EdgeLemmas.{rooms_same}
 use Rattle.wi_graph.proofs.GraphEnds.{unstaged}
 use Rattle.wi_graph.proofs.ChangeSteps.{staged_edges}
 use Rattle.wi_graph.proofs.StageEnds.{on_err, refused_invariant, refused_view, staged_view}
