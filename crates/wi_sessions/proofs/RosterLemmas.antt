@@ -1,15 +1,16 @@
 -- Laws of sessions and their pending cells, as lists of parts of each.
-use Rattle.std.proofs.Common.{◌≡◌, ◌≢◌, ◌<◌, ◌≤◌, ◌+◌, ◌⊎◌, inl, inr, zero, suc, ⊎_elim, ◌||◌, ◌&&◌, ◌∙◌, ℕ, Bool, true, false, cond, not, List, [], ◌∷◌, ◌++◌, map, length, get_or, set, slice_get, nat_eq, Option, Some, None, refl, sym, ap, subst, arith, true≢false}
+use Rattle.std.proofs.Common.{◌≡◌, ◌≢◌, ◌<◌, ◌≤◌, ◌+◌, zero, suc, ⊎_elim, ◌||◌, ◌&&◌, ◌∙◌, ℕ, Bool, true, false, cond, not, List, [], ◌∷◌, ◌++◌, map, length, get_or, set, take, slice_get, nat_eq, Option, Some, None, refl, sym, ap, subst, arith, true≢false}
 use Rattle.std.specs.Prelude.{IfSome, nat_lt}
 use Rattle.std.specs.Option.{is_some, option_map}
-use Rattle.std.specs.List.{AllZip, list_any, position, position_or_len, position_from}
+use Rattle.std.specs.List.{AllZip, list_all, list_any, position, position_or_len, position_from}
 use Rattle.std.specs.Cmp.Lexicographic.{pointwise}
 use Rattle.std.specs.Map.{keys_of, values_of, lookup}
 use Rattle.std.specs.Rc.{rc_str_bytes}
 use Rattle.std.specs.Str.{bytes_eq}
 use Rattle.std.specs.declared.rc.RcStr.{RcStr}
-use Rattle.std.proofs.lemmas.Bool.{cases_eq, cases_lt}
-use Rattle.std.proofs.lemmas.List.{length-map, map-append, map-set, get_or-set_same, get_or-set_other}
+use Rattle.std.proofs.lemmas.Bool.{cases_eq}
+use Rattle.std.proofs.lemmas.List.{length-map, map-append, map-set, get_or-set_same, get_or-set_other, take_all}
+use Rattle.std.proofs.lemmas.List.Folds.{list_all_at, list_all_more}
 use Rattle.std.proofs.lemmas.Option.{get_or_from_slice_get, slice_get-map, slice_get_within}
 use Rattle.std.proofs.Math.Seq.{map-set_same}
 use Rattle.std.proofs.lemmas.Iterator.Adapters.{position_from-zero}
@@ -220,10 +221,30 @@ module _ {Z : Type 0} where
 
 -- ---- what each has
 
--- what holds up to one, and of it, holds up to the next
-pub one_more_has : (f : ℕ → Bool) (i : ℕ) → f i ≡ true → ((j : ℕ) → j < i → f j ≡ true) → (j : ℕ) → j < i + 1 → f j ≡ true
-one_more_has f i h k j l = at (cases_lt j i)
-  where
-    at : (j < i) ⊎ (i ≤ j) → f j ≡ true
-    at (inl g) = k j g
-    at (inr g) = let e : j ≡ i = omega (arith, l, g) in ap f e ∙ h
+module _ (p : List ℕ → Bool) (xss : List (List ℕ)) where
+  pub none_yet : list_all p (take 0 xss) ≡ true
+  none_yet = by xss
+    where
+      by : (yss : List (List ℕ)) → list_all p (take 0 yss) ≡ true
+      by [] = refl
+      by (ys ∷ yss) = refl
+
+  -- what each before the i-th has, and the i-th
+  pub one_more_has : (i : ℕ) → i < length xss → p (get_or xss i []) ≡ true → list_all p (take i xss) ≡ true → list_all p (take (i + 1) xss) ≡ true
+  one_more_has i l h k = list_all_more p xss i [] l ∙ ap (λ (b : Bool). b && p (get_or xss i [])) k ∙ h
+
+  pub all_were : (n : ℕ) → length xss ≤ n → list_all p (take n xss) ≡ true → list_all p xss ≡ true
+  all_were n l h = sym (ap (λ (yss : List (List ℕ)). list_all p yss) (take_all n xss l)) ∙ h
+
+  -- each has what all have
+  pub one_of_all_has : (i : ℕ) → list_all p xss ≡ true → i < length xss → p (get_or xss i []) ≡ true
+  one_of_all_has i h l = by (p (get_or xss i [])) refl
+    where
+      by : (b : Bool) → p (get_or xss i []) ≡ b → b ≡ true
+      by true e = refl
+      by false e = absurd (true≢false (sym h ∙ list_all_at p xss i [] l e))
+
+-- all have what each has
+pub all_have_so : (p : List ℕ → Bool) (xss : List (List ℕ)) → ((i : ℕ) → i < length xss → p (get_or xss i []) ≡ true) → list_all p xss ≡ true
+all_have_so p [] h = refl
+all_have_so p (xs ∷ xss) h = ap (λ (b : Bool). b && list_all p xss) (h 0 (omega arith)) ∙ all_have_so p xss (λ i l. h (suc i) (omega (arith, l)))

@@ -1,6 +1,6 @@
 -- All sessions, with their pending cells.
-use Rattle.std.specs.Prelude.{◌≡◌, ℕ, List, []}
-use Rattle.std.specs.List.{slice_index_or}
+use Rattle.std.specs.Prelude.{◌≡◌, ℕ, Bool, List, []}
+use Rattle.std.specs.List.{slice_index_or, list_all}
 use Rattle.wi_sessions.specs.Pictures.Laws.{is_listed}
 use Rattle.wi_sessions.specs.Sessions.{Session, new_session}
 
@@ -18,6 +18,10 @@ session_at r i = slice_index_or r.sessions i (new_session [])
 -- the cells that are pending for the i-th session
 abbrev pub pending_of : Roster → ℕ → List ℕ
 pending_of r i = slice_index_or r.pending i []
+
+-- the cell is pending for each session
+abbrev pub is_pending_for_all : Roster → ℕ → Bool
+is_pending_for_all r a = list_all (λ cells. is_listed cells a) r.pending
 
 -- the cells for which there is room in the list of the i-th session
 abbrev pub vacant_of : Roster → ℕ → List ℕ

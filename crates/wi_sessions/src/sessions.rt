@@ -1,6 +1,6 @@
 //! All sessions.
 
-ghost use Rattle.std.specs.Prelude.{◌≡◌, ◌≢◌, ◌↔◌, ◌<◌, ◌||◌, ◌&&◌, ◌++◌, ◌∷◌, ℕ, List, not, length, true, false, [], IsTrue, IfOk, IfSome, OnOk, OnErr, string_bytes};
+ghost use Rattle.std.specs.Prelude.{◌≡◌, ◌≢◌, ◌<◌, ◌||◌, ◌&&◌, ◌++◌, ◌∷◌, ℕ, List, not, length, false, [], IfOk, IfSome, OnOk, OnErr, string_bytes};
 ghost use Rattle.std.specs.Option.{is_some, option_map};
 ghost use Rattle.std.specs.List.{slice_set};
 ghost use Rattle.std.specs.Map.{lookup};
@@ -8,7 +8,7 @@ ghost use Rattle.std.specs.Rc.{rc_str_bytes};
 ghost use Rattle.std.specs.Str.{bytes_eq};
 ghost use Rattle.wi_sessions.specs.Pictures.Laws.{is_listed};
 ghost use Rattle.wi_sessions.specs.Sessions.{new_session, told, using_scenario, has_session, index_of};
-ghost use Rattle.wi_sessions.specs.Roster.{session_at, pending_of, vacant_of, SameCells};
+ghost use Rattle.wi_sessions.specs.Roster.{session_at, pending_of, vacant_of, is_pending_for_all, SameCells};
 ghost use Rattle.wi_sessions.specs.Inner.Held.{roster_in, with_name};
 
 use crate::held::Held;
@@ -140,9 +140,9 @@ impl Sessions {
 
     /// Whether a cell is pending for each session. The work is that of `Pending::contains` for each up to the first that lacks it.
     pub fn all_have(&self, at: Address) -> bool
-        ensures { IsTrue result ↔ ((i : ℕ) → i < length self.now.sessions
-            → is_listed (pending_of self.now i) at ≡ true) }
+        ensures { result ≡ is_pending_for_all self.now at }
     {
+        self.each_has_pending_cells();
         for i in 0..self.len() {
             if !self.pending(i).contains(at) {
                 return false;

@@ -1,7 +1,8 @@
-use Rattle.std.proofs.Common.{◌≡◌, ◌<◌, ℕ, true}
+use Rattle.std.proofs.Common.{◌≡◌, true, take}
+use Rattle.std.specs.List.{list_all}
 use Rattle.wi_sessions.specs.Pictures.Laws.{is_listed}
-use Rattle.wi_sessions.specs.Roster.{pending_of}
 use Rattle.wi_sessions.proofs.sessions.Sessions.all_have.Given as goal
 
+-- each session before this one has it
 abbrev pub invariant-loop-i : goal.invariant-loop-i
-invariant-loop-i l = (j : ℕ) → j < l.i → is_listed (pending_of l.self j) l.at ≡ true
+invariant-loop-i l = list_all (λ cells. is_listed cells l.at) (take l.i l.self.pending) ≡ true
