@@ -6,7 +6,7 @@ use Rattle.std.specs.Ordering.{nat_cmp}
 use Rattle.std.specs.Map.{lookup, keys_of}
 use Rattle.std.specs.BTreeMap.{is_at}
 use Rattle.std.proofs.lemmas.Bool.{cases_order}
-use Rattle.std.proofs.lemmas.List.Elements.{All-head, All-tail}
+use Rattle.std.proofs.lemmas.List.Elements.{All-cons, All-head, All-tail}
 pub use Rattle.wi_values.proofs.Order.{ComeAfter, Ascends, Ascends-from_order, order-from_Ascends}
 use Rattle.wi_values.proofs.Order.{at_itself, at_later, at_earlier, lookup_after}
 use Rattle.wi_parser.specs.Sheet.{Sheet, content_of, cells_with_formula, has_formula}
@@ -141,6 +141,16 @@ no_vacancy-one_more c (Some x) es h l = λ a v. content_first (is_at (nat_cmp a)
 pub no_vacancy : (rooms : Rooms) → length rooms ≤ length (sheet_in rooms) → HasNoVacancy rooms
 no_vacancy [] l = λ a v. cc
 no_vacancy (e ∷ es) l = no_vacancy-one_more e.0 e.1 es (no_vacancy es) (omega arith)
+
+-- ---- each room is of a cell of the sheet
+
+within-one_more : (n c : ℕ) (o : Option Content) (es : Rooms) → c < n → All (λ a. a < n) (keys_of (sheet_in es)) → All (λ a. a < n) (keys_of (sheet_in ((c, o) ∷ es)))
+within-one_more n c None es l h = h
+within-one_more n c (Some x) es l h = All-cons (λ a. a < n) c (keys_of (sheet_in es)) l h
+
+pub within-sheet_in : (n : ℕ) (rooms : Rooms) → All (λ e. e.0 < n) rooms → All (λ a. a < n) (keys_of (sheet_in rooms))
+within-sheet_in n [] h = λ k d l. absurd (omega (arith, l))
+within-sheet_in n (e ∷ es) h = within-one_more n e.0 e.1 es (All-head (λ d. d.0 < n) e es h) (within-sheet_in n es (All-tail (λ d. d.0 < n) e es h))
 
 -- ---- no more rooms than cells
 

@@ -1,11 +1,11 @@
 //! A sheet within limits.
 
-ghost use Rattle.std.specs.Prelude.{◌≡◌, ◌⊎◌, [], nat_le, filter, length, option_map, Some, IfOk, IfSome, OnOk, OnErr};
+ghost use Rattle.std.specs.Prelude.{◌≡◌, ◌⊎◌, ◌<◌, ◌*◌, [], All, nat_le, filter, length, option_map, Some, IfOk, IfSome, OnOk, OnErr};
 ghost use Rattle.std.specs.Option.{option_copied};
 ghost use Rattle.std.specs.List.{find};
 ghost use Rattle.std.specs.List.Sorted.{IsStrictlyIncreasing};
 ghost use Rattle.std.specs.Map.{keys_of};
-ghost use Rattle.wi_values.specs.Address.{is_within};
+ghost use Rattle.wi_values.specs.Address.{is_within, rows, columns};
 ghost use Rattle.wi_parser.specs.Sheet.{content_of, cells_with_formula, has_formula};
 ghost use Rattle.wi_store.specs.Store.{edited, applied, Applies, is_ahead};
 ghost use Rattle.wi_store.specs.Inner.Rooms.{sheet_in, formula_cells, RoomsAreInOrder, HasNoVacancy, VacantOnlyAt};
@@ -99,6 +99,13 @@ impl Store {
         ensures { IsStrictlyIncreasing (keys_of self.now.sheet) }
     {
         let _ = &self.rooms;
+    }
+
+    /// The cells that have a content lie in the sheet. This is a law: the call does nothing.
+    pub fn cells_lie_in_the_sheet(&self)
+        ensures { All (λ a. a < rows * columns) (keys_of self.now.sheet) }
+    {
+        let _ = self.rooms.len();
     }
 
     /// One edit, which gives each named cell a content or none; the constant Empty is none. Of two pairs for one

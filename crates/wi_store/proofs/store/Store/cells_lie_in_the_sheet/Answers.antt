@@ -1,0 +1,12 @@
+use Rattle.std.proofs.Common.{◌<◌, ◌*◌, subst}
+use Rattle.std.specs.List.{All}
+use Rattle.std.specs.Map.{keys_of}
+use Rattle.wi_values.specs.Address.{rows, columns}
+use Rattle.wi_store.specs.Store.{Stored}
+use Rattle.wi_store.proofs.RoomLemmas.{within-sheet_in}
+use Rattle.wi_store.proofs.store.Store.cells_lie_in_the_sheet.Goals as goal
+
+pub returns : goal.returns
+returns c =
+    subst (λ (s : Stored). All (λ a. a < rows * columns) (keys_of s.sheet)) c.self.view_is
+    (within-sheet_in (rows * columns) c.self.inside.rooms.entries c.len.ensures.sheet)
