@@ -1,11 +1,11 @@
 //! What a calculator promises: values, and how much recalculation they take.
 
-ghost use Rattle.std.specs.Prelude.{◌≡◌, ◌⊎◌, ◌+◌, ◌≤◌, ℕ, Bool, true, false, nat_le, List, [], ◌∷◌, filter, length, sum_by, IfOk};
+ghost use Rattle.std.specs.Prelude.{◌≡◌, ◌⊎◌, ◌+◌, ◌*◌, ◌<◌, ◌≤◌, ℕ, Bool, true, false, nat_le, List, [], ◌∷◌, All, filter, length, sum_by, IfOk};
 ghost use Rattle.std.specs.Option.{option_copied};
 ghost use Rattle.std.specs.List.{find};
 ghost use Rattle.std.specs.List.Sorted.{IsStrictlyIncreasing};
 ghost use Rattle.std.specs.Map.{keys_of};
-ghost use Rattle.wi_values.specs.Address.{is_within};
+ghost use Rattle.wi_values.specs.Address.{is_within, rows, columns};
 ghost use Rattle.wi_values.specs.Replacements.{IsInOrder};
 ghost use Rattle.wi_parser.specs.Sheet.{Sheet, content_of};
 ghost use Rattle.wi_store.specs.Store.{Stored, applied, Applies};
@@ -13,7 +13,7 @@ ghost use Rattle.wi_graph.specs.Reach.{is_one_of};
 ghost use Rattle.wi_sheet.specs.Shown as show;
 ghost use Rattle.wi_sheet.specs.Demand.{demanded, wants};
 ghost use Rattle.wi_sheet.specs.TableEntry.{table_entry, entry_demanded};
-ghost use Rattle.wi_sheet.specs.Unmoved.{IsUnmoved};
+ghost use Rattle.wi_sheet.specs.Unmoved.{IsUnmoved, IsMarking};
 
 use std::alloc::AllocError;
 use wi_graph::Watch;
@@ -35,6 +35,9 @@ pub trait Calculator {
     /// Which cells it marks where these cells of a sheet change.
     ghost marked: { Sheet → List ℕ → ℕ → Bool };
 
+    /// A cell that isn't marked keeps what it shows, and what a marked cell marks is marked too.
+    ghost marks: { IsMarking marked };
+
     /// What stands in a cell.
     fn content(&self, at: Address) -> Option<&Content>
         ensures { option_copied result ≡ content_of (stored self.now).sheet at };
@@ -44,6 +47,10 @@ pub trait Calculator {
         ensures first { let occupied = keys_of (stored self.now).sheet in
             result ≡ find (λ a. nat_le from a) (filter (is_within area) occupied) }
         ensures order { IsStrictlyIncreasing (keys_of (stored self.now).sheet) };
+
+    /// The occupied cells lie in the sheet. This is a law: the call does nothing.
+    fn cells_lie_in_the_sheet(&self)
+        ensures { All (λ a. a < rows * columns) (keys_of (stored self.now).sheet) };
 
     /// One edit: puts contents in or takes them away, one after another, or refuses and leaves all as it was.
     fn apply(&mut self, changes: Vec<(Address, Option<Content>)>) -> Result<(), StoreFault>

@@ -256,6 +256,7 @@ impl KeptCalculator {
 
 impl Calculator for KeptCalculator {
     ghost use Rattle.wi_graph.specs.Reach.{in_cone};
+    ghost use Rattle.wi_sheet.proofs.Marks.{cone_marks};
 
     ghost stored = { λ k. k.stored };
 
@@ -265,6 +266,8 @@ impl Calculator for KeptCalculator {
 
     ghost marked = { in_cone };
 
+    ghost marks = { cone_marks };
+
     fn content(&self, at: Address) -> Option<&Content> {
         self.store.get(at)
     }
@@ -272,6 +275,10 @@ impl Calculator for KeptCalculator {
     fn next_occupied(&self, area: Rect, from: Address) -> Option<Address> {
         self.store.cells_stand_in_order();
         self.store.next_occupied(area, from)
+    }
+
+    fn cells_lie_in_the_sheet(&self) {
+        self.store.cells_lie_in_the_sheet();
     }
 
     /// One edit. The work grows with what the edited cells read and who reads them; with their cone, what its cells read and who reads

@@ -37,6 +37,7 @@ impl PlainCalculator {
 
 impl Calculator for PlainCalculator {
     ghost use Rattle.wi_propagate.specs.Inner.Plain.{stored_of, counts_of, has_formula_or_is_one_of};
+    ghost use Rattle.wi_sheet.proofs.Marks.{formulas_mark};
 
     ghost stored = { stored_of };
 
@@ -46,6 +47,8 @@ impl Calculator for PlainCalculator {
 
     ghost marked = { has_formula_or_is_one_of };
 
+    ghost marks = { formulas_mark };
+
     fn content(&self, at: Address) -> Option<&Content> {
         self.store.get(at)
     }
@@ -53,6 +56,10 @@ impl Calculator for PlainCalculator {
     fn next_occupied(&self, area: Rect, from: Address) -> Option<Address> {
         self.store.cells_stand_in_order();
         self.store.next_occupied(area, from)
+    }
+
+    fn cells_lie_in_the_sheet(&self) {
+        self.store.cells_lie_in_the_sheet();
     }
 
     fn apply(&mut self, changes: Vec<(Address, Option<Content>)>) -> Result<(), StoreFault> {

@@ -1,0 +1,9 @@
+use Rattle.std.proofs.Common.{◌<◌, ◌*◌, subst}
+use Rattle.std.specs.List.{All}
+use Rattle.std.specs.Map.{keys_of}
+use Rattle.wi_values.specs.Address.{rows, columns}
+use Rattle.wi_propagate.specs.KeptSheet.{KeptSheet}
+use Rattle.wi_propagate.proofs.kept.KeptCalculatorCalculator.cells_lie_in_the_sheet.Goals as goal
+
+pub returns : goal.returns
+returns c = subst (λ (k : KeptSheet). All (λ a. a < rows * columns) (keys_of k.stored.sheet)) c.self.view_is c.cells_lie_in_the_sheet.ensures
