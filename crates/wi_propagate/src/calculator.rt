@@ -35,9 +35,6 @@ pub trait Calculator {
     /// Which cells it marks where these cells of a sheet change.
     ghost marked: { Sheet → List ℕ → ℕ → Bool };
 
-    /// A cell that isn't marked keeps what it shows, and what a marked cell marks is marked too.
-    ghost marks: { IsMarking marked };
-
     /// What stands in a cell.
     fn content(&self, at: Address) -> Option<&Content>
         ensures { option_copied result ≡ content_of (stored self.now).sheet at };
@@ -148,4 +145,7 @@ pub trait Calculator {
 
     fn restarts(&self) -> u64
         ensures { result ≡ restarted self.now };
+
+    /// A cell that isn't marked keeps what it shows, and what a marked cell marks is marked too.
+    ghost marks: { IsMarking marked };
 }

@@ -266,8 +266,6 @@ impl Calculator for KeptCalculator {
 
     ghost marked = { in_cone };
 
-    ghost marks = { cone_marks };
-
     fn content(&self, at: Address) -> Option<&Content> {
         self.store.get(at)
     }
@@ -445,6 +443,8 @@ impl Calculator for KeptCalculator {
     fn restarts(&self) -> u64 {
         self.meter.restarts()
     }
+
+    ghost marks = { cone_marks };
 }
 
 // The cells of an edit.

@@ -47,8 +47,6 @@ impl Calculator for PlainCalculator {
 
     ghost marked = { has_formula_or_is_one_of };
 
-    ghost marks = { formulas_mark };
-
     fn content(&self, at: Address) -> Option<&Content> {
         self.store.get(at)
     }
@@ -106,4 +104,6 @@ impl Calculator for PlainCalculator {
     fn restarts(&self) -> u64 {
         self.meter.restarts()
     }
+
+    ghost marks = { formulas_mark };
 }
