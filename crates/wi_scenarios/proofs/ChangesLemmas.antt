@@ -1,9 +1,10 @@
 -- What `changes` answers, and that pictures are right after it.
-use Rattle.std.proofs.Common.{◌≡◌, ◌≢◌, ◌<◌, ◌≤◌, ◌+◌, ℕ, zero, suc, List, [], ◌∷◌, length, get_or, set, Result, Ok, Err, IfOk, refl, sym, ap, subst, ◌∙◌, arith, ⊎_elim}
-use Rattle.std.proofs.lemmas.Bool.{cases_eq}
+use Rattle.std.proofs.Common.{◌≡◌, ◌≢◌, ◌<◌, ◌≤◌, ◌+◌, ℕ, zero, suc, Bool, true, false, List, [], ◌∷◌, length, get_or, set, Result, Ok, Err, IfOk, refl, sym, ap, subst, ◌∙◌, arith, ⊎_elim}
+use Rattle.std.proofs.lemmas.Bool.{cases_eq, false≢true}
 use Rattle.std.proofs.lemmas.List.{get_or-set_same, get_or-set_other, length-set}
 use Rattle.wi_values.specs.declared.value.Value.{Value}
 use Rattle.wi_values.specs.declared.replacement.Replacement.{Replacement}
+use Rattle.wi_parser.specs.Sheet.{Sheet}
 use Rattle.wi_store.specs.Store.{Stored}
 use Rattle.wi_sheet.specs.Shown.{shown}
 use Rattle.wi_scenario_list.specs.Inner.Chains.{effective}
@@ -21,11 +22,11 @@ use Rattle.wi_scenarios.specs.Views.{current_session, with_current, shown_to}
 use Rattle.wi_scenarios.specs.Changes.{change_list, changes_step}
 use Rattle.wi_scenarios.specs.Pending.{pending_evaluations, pending_restarts}
 use Rattle.wi_scenarios.specs.declared.desk.Desk.{Desk}
-use Rattle.wi_scenarios.specs.Inner.Held.{state_of, pending_in, IsUpToDate, AreCovered, IsSound}
+use Rattle.wi_scenarios.specs.Inner.Held.{state_of, pending_in, IsUpToDate, AreCovered, AreClosed, IsSound}
 use Rattle.wi_scenarios.specs.Inner.Told.{IsTold}
 
 -- what has changed is found among the pending cells
-pub changes_found : (stored : Stored) (d : Desk) (own cells : List ℕ) (put : List Replacement) (picture found : List (ℕ × Value)) → IsSound stored d → Rises 0 sheet_size own
+pub changes_found : {marked : Sheet → List ℕ → ℕ → Bool} (stored : Stored) (d : Desk) (own cells : List ℕ) (put : List Replacement) (picture found : List (ℕ × Value)) → IsSound marked stored d → Rises 0 sheet_size own
     → own ≡ pending_of d.sessions d.current → cells ≡ own → put ≡ effective d.scenarios (session_at d.sessions d.current).scenario → picture ≡ (session_at d.sessions d.current).picture
     → found ≡ changes_among cells picture (shown stored.sheet put) → found ≡ change_list (state_of stored d)
 changes_found stored d own cells put picture found sound rises own_is cells_is put_is picture_is is =
@@ -43,7 +44,7 @@ no_cell [] e = refl
 no_cell (a ∷ cells) e = absurd (omega (arith, e))
 
 -- where no cell is pending, nothing has changed
-pub nothing_found : (stored : Stored) (d : Desk) (own cells : List ℕ) (found : List (ℕ × Value)) → IsSound stored d → Rises 0 sheet_size own
+pub nothing_found : {marked : Sheet → List ℕ → ℕ → Bool} (stored : Stored) (d : Desk) (own cells : List ℕ) (found : List (ℕ × Value)) → IsSound marked stored d → Rises 0 sheet_size own
     → own ≡ pending_of d.sessions d.current → cells ≡ own → length cells ≡ 0 → found ≡ [] → found ≡ change_list (state_of stored d)
 nothing_found stored d own cells found sound rises own_is cells_is none is =
     let x = session_at d.sessions d.current in
@@ -131,7 +132,7 @@ other_up_to_date stored d d' changes i other h before a l none =
     ∙ ap (λ (xs : List Scenario). shown stored.sheet (effective xs x.scenario) a) (sym h.scenarios)
     ∙ ap (λ (z : Session). shown stored.sheet (effective d'.scenarios z.scenario) a) (sym here)
 
-covered_after : (stored : Stored) (d d' : Desk) (changes : List (ℕ × Value)) → changes ≡ change_list (state_of stored d) → IsSound stored d → IsTold d changes d'
+covered_after : {marked : Sheet → List ℕ → ℕ → Bool} (stored : Stored) (d d' : Desk) (changes : List (ℕ × Value)) → changes ≡ change_list (state_of stored d) → IsSound marked stored d → IsTold d changes d'
     → AreCovered (state_of stored d') (pending_in d')
 covered_after stored d d' changes is sound h i l =
     let below : i < length d.sessions.sessions =
@@ -139,15 +140,37 @@ covered_after stored d d' changes is sound h i l =
     ⊎_elim (λ same. subst (IsUpToDate (state_of stored d') (pending_in d')) (sym same) (current_up_to_date stored d d' changes is sound.within h))
     (λ other. other_up_to_date stored d d' changes i other h (sound.covered i below)) (cases_eq i d.current)
 
-pub sound_after : (stored stored' : Stored) (d d' : Desk) (changes : List (ℕ × Value)) → stored' ≡ stored → changes ≡ change_list (state_of stored d) → IsSound stored d → IsTold d changes d' → IsSound stored' d'
-sound_after stored stored' d d' changes same is sound h =
+-- the current session has no pending cell, and the others have those that they had
+closed_after : {marked : Sheet → List ℕ → ℕ → Bool} (stored : Stored) (d d' : Desk) (changes : List (ℕ × Value)) → IsSound marked stored d → IsTold d changes d' → AreClosed marked (state_of stored d') (pending_in d')
+closed_after {marked} stored d d' changes sound h i l a c p m = ⊎_elim (λ same. absurd (false≢true (sym (none same) ∙ p))) (λ other. had other) (cases_eq i d.current)
+  where
+    below : i < length d.sessions.sessions
+    below = subst (λ (n : ℕ). i < n) (ap length h.sessions ∙ length-set d.sessions.sessions d.current (told (session_at d.sessions d.current) changes (length d.log))) l
+
+    here : d.current < length d.sessions.pending
+    here = subst (λ (n : ℕ). d.current < n) (sym sound.each) sound.within
+
+    none : i ≡ d.current → is_listed (get_or d'.sessions.pending i []) a ≡ false
+    none same =
+        ap (λ (xs : List (List ℕ)). is_listed (get_or xs i []) a) h.pending ∙ ap (λ (j : ℕ). is_listed (get_or (set d.sessions.pending d.current []) j []) a) same
+        ∙ ap (λ (cs : List ℕ). is_listed cs a) (get_or-set_same d.sessions.pending d.current [] [] here)
+
+    had : i ≢ d.current → is_listed (get_or d'.sessions.pending i []) c ≡ true
+    had other =
+        let cells : get_or d'.sessions.pending i [] ≡ get_or d.sessions.pending i [] =
+        ap (λ xs. get_or xs i []) h.pending ∙ get_or-set_other d.sessions.pending d.current i [] [] other in
+        ap (λ cs. is_listed cs c) cells ∙ sound.closed i below a c (ap (λ cs. is_listed cs a) (sym cells) ∙ p) m
+
+pub sound_after : {marked : Sheet → List ℕ → ℕ → Bool} (stored stored' : Stored) (d d' : Desk) (changes : List (ℕ × Value)) → stored' ≡ stored → changes ≡ change_list (state_of stored d) → IsSound marked stored d → IsTold d changes d' → IsSound marked stored' d'
+sound_after {marked} stored stored' d d' changes same is sound h =
     let y = told (session_at d.sessions d.current) changes (length d.log) in
     let sessions : length d'.sessions.sessions ≡ length d.sessions.sessions = ap length h.sessions ∙ length-set d.sessions.sessions d.current y in
     let lists : length d'.sessions.pending ≡ length d.sessions.pending = ap length h.pending ∙ length-set d.sessions.pending d.current [] in
-    subst (λ x. IsSound x d') (sym same) (record {
+    subst (λ x. IsSound marked x d') (sym same) (record {
       within = subst (λ (n : ℕ). d'.current < n) (sym sessions) (subst (λ (i : ℕ). i < length d.sessions.sessions) (sym h.current) sound.within);
       few = subst (λ (n : ℕ). n ≤ 64) (sym sessions) sound.few;
       each = lists ∙ sound.each ∙ sym sessions;
       full = λ i. ap (λ xs. get_or xs i []) h.vacant ∙ set_nothing d.sessions.vacant d.current i (sound.full i);
+      closed = closed_after stored d d' changes sound h;
       covered = covered_after stored d d' changes is sound h;
     })

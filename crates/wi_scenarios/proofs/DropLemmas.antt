@@ -3,6 +3,7 @@ use Rattle.std.proofs.Common.{◌≡◌, ℕ, zero, suc, ◌<◌, Bool, true, fa
 use Rattle.std.specs.List.{list_any, slice_index_or}
 use Rattle.std.proofs.lemmas.List.Folds.{list_any_at}
 use Rattle.wi_values.specs.declared.replacement.Replacement.{Replacement}
+use Rattle.wi_parser.specs.Sheet.{Sheet}
 use Rattle.wi_sheet.specs.Shown.{shown}
 use Rattle.wi_store.specs.Store.{Stored}
 use Rattle.wi_scenario_list.specs.Scenarios.{Scenario, scenario_of, has_scenario, layered, max_scenarios, without_scenario}
@@ -70,13 +71,14 @@ unused_at xs name i h l = by (is_name_of name (slice_index_or xs i (new_session 
     by false e = refl
     by true e = absurd (let k = sym (list_any_at (λ x. is_name_of name x.scenario) xs i (new_session []) l e) ∙ h in cc)
 
-pub sound_without : (stored : Stored) (d : Desk) (next : List Scenario) (name : List ℕ) → next ≡ without_scenario d.scenarios name → list_any (λ x. is_name_of name x.scenario) d.sessions.sessions ≡ false
-    → is_base d.scenarios name ≡ false → IsSound stored d → IsSound stored (record d { scenarios = next })
+pub sound_without : {marked : Sheet → List ℕ → ℕ → Bool} (stored : Stored) (d : Desk) (next : List Scenario) (name : List ℕ) → next ≡ without_scenario d.scenarios name → list_any (λ x. is_name_of name x.scenario) d.sessions.sessions ≡ false
+    → is_base d.scenarios name ≡ false → IsSound marked stored d → IsSound marked stored (record d { scenarios = next })
 sound_without stored d next name e unused free h = record {
   within = h.within;
   few = h.few;
   each = h.each;
   full = h.full;
+  closed = h.closed;
   covered = λ i l a m k.
       h.covered i l a m k
       ∙ ap (λ (p : List Replacement). shown stored.sheet p a) (sym (effective_stays d.scenarios name (slice_index_or d.sessions.sessions i (new_session [])).scenario free (unused_at d.sessions.sessions name i unused l)))

@@ -7,7 +7,7 @@ use Rattle.std.proofs.lemmas.Result.{err_from_is_err_and}
 use Rattle.std.specs.Map.{keys_of}
 use Rattle.std.proofs.Math.Seq.{take-append_seam}
 use Rattle.std.proofs.lemmas.List.{length-append}
-use Rattle.std.proofs.lemmas.Bool.{cases_eq}
+use Rattle.std.proofs.lemmas.Bool.{cases_eq, cases_lt, false_from_ne_true, false≢true, or_left, or_right}
 use Rattle.std.proofs.lemmas.Map.Entries.{length-keys_of}
 use Rattle.std.proofs.lemmas.Bool.Decides.{nat_tests}
 use Rattle.wi_values.specs.Address.{Area}
@@ -18,7 +18,7 @@ use Rattle.wi_store.specs.declared.fault.StoreFault.{StoreFault}
 use Rattle.wi_store.specs.declared.fault.StoreFault.TheVariants as store
 use Rattle.wi_store.specs.Store.{Stored, edited, change_without_empty, applied, Applies}
 use Rattle.wi_sheet.specs.Shown.{shown}
-use Rattle.wi_sheet.specs.Unmoved.{IsUnmoved}
+use Rattle.wi_sheet.specs.Unmoved.{IsMarking}
 use Rattle.wi_propagate.proofs.Editing.{same_off_edited, accepted_is}
 use Rattle.wi_edit_log.specs.EditLog.{Entry}
 use Rattle.wi_scenario_list.specs.Scenarios.{Scenario}
@@ -26,7 +26,8 @@ use Rattle.wi_scenario_list.specs.Inner.Chains.{effective}
 use Rattle.wi_sessions.specs.Pictures.{value_in, sheet_size}
 use Rattle.wi_sessions.specs.Pictures.Laws.{is_listed}
 use Rattle.wi_sessions.specs.Sessions.{Session, new_session}
-use Rattle.wi_sessions.specs.Roster.{Roster, pending_of, vacant_of}
+use Rattle.wi_sessions.specs.Roster.{Roster, pending_of, vacant_of, is_pending_for_all}
+use Rattle.wi_sessions.proofs.RosterLemmas.{all_have_so, one_of_all_has}
 use Rattle.wi_scenarios.specs.declared.refusal.Refusal.{Refusal}
 use Rattle.wi_scenarios.specs.declared.refusal.Refusal.TheVariants.{Memory, Stale}
 use Rattle.wi_scenarios.specs.declared.desk.Desk.{Desk}
@@ -35,8 +36,8 @@ use Rattle.wi_scenarios.specs.Answer.{Answer, may_grow, MayRefuse, Serves}
 use Rattle.wi_scenarios.specs.Causes.{no_cause, answer}
 use Rattle.wi_scenarios.specs.Edits.{Edit, edit_refusal, limit_of, stale_in, after_edit, edit_answer}
 use Rattle.wi_scenarios.specs.Pending.{is_pending, AddsOnly}
-use Rattle.wi_scenarios.specs.Inner.Held.{state_of, AreCovered, IsSound}
-use Rattle.wi_scenarios.specs.Inner.Editing.{AreMarked, AreAllMarked, HasRooms, SameBeside, MayFail, Commits}
+use Rattle.wi_scenarios.specs.Inner.Held.{state_of, AreCovered, IsClosed, AreClosed, IsSound}
+use Rattle.wi_scenarios.specs.Inner.Editing.{AreMarked, HasRooms, SameBeside, MayFail, Commits}
 
 -- an edit of these
 pub same_edit : (named areas : List Area) (contents changes : List (ℕ × Option Content)) → named ≡ areas → contents ≡ changes →
@@ -142,22 +143,26 @@ applied_as a entry (Err store.Memory) s t log h = (tt, h, refl)
 
 -- ---- which cells are marked
 
--- with no cell the sheet stays as it is
-pub none_marked : (marked : Sheet → List ℕ → ℕ → Bool) (sheet : Sheet) (contents : List (ℕ × Option Content)) → length contents ≡ 0 → AreMarked marked sheet contents []
-none_marked marked sheet [] e = record { only = λ a h. cc; unmoved = λ a p h. refl }
-none_marked marked sheet (x ∷ xs) e = absurd (omega (arith, e))
+-- with no cell none is
+pub none_marked : (marked : Sheet → List ℕ → ℕ → Bool) (sheet : Sheet) (test : ℕ → Bool) (contents : List (ℕ × Option Content)) (found : List ℕ) → length contents ≡ 0 → found ≡ [] → AreMarked marked sheet test contents found
+none_marked marked sheet test contents found none empty = record {
+  only = λ a h. absurd (false≢true (sym (ap (λ (xs : List ℕ). is_listed xs a) empty) ∙ h));
+  others = λ l a h. absurd (omega (arith, none, l));
+}
 
 pub if_ok_both : {X E : Type 0} (A B C : X → Type 0) (r : Result X E) → ((x : X) → A x → B x → C x) → IfOk r A → IfOk r B → IfOk r C
 if_ok_both A B C (Ok x) f a b = f x a b
 if_ok_both A B C (Err e) f a b = tt
 
-pub some_marked : (marked : Sheet → List ℕ → ℕ → Bool) (sheet : Sheet) (contents : List (ℕ × Option Content)) (cells found : List ℕ) → 0 < length contents → cells ≡ keys_of contents →
-    ((a : ℕ) → is_listed found a ≡ marked sheet cells a) → ((a : ℕ) → is_listed found a ≡ false → IsUnmoved sheet cells a) → AreMarked marked sheet contents found
-some_marked marked sheet contents cells found l e m u = record {
-  only = λ a h. (l, ap (λ (xs : List ℕ). marked sheet xs a) (sym e) ∙ sym (m a) ∙ h);
-  unmoved = λ a p h. u a h (edited sheet (map change_without_empty contents)) sheet p p
-      (λ d n. same_off_edited sheet contents d (ap (λ (xs : List ℕ). is_listed xs d) (sym e) ∙ n)) (λ d n. refl) (λ d n. refl);
+pub some_marked : (marked : Sheet → List ℕ → ℕ → Bool) (sheet : Sheet) (test : ℕ → Bool) (contents : List (ℕ × Option Content)) (cells found : List ℕ) → 0 < length contents → cells ≡ keys_of contents →
+    ((a : ℕ) → is_listed found a ≡ true → marked sheet cells a ≡ true) → ((a : ℕ) → marked sheet cells a ≡ true → (is_listed found a ≡ true) ⊎ (test a ≡ true)) → AreMarked marked sheet test contents found
+some_marked marked sheet test contents cells found l e m o = record {
+  only = λ a h. (l, sym (same a) ∙ m a h);
+  others = λ k a h. o a (same a ∙ h);
 }
+  where
+    same : (a : ℕ) → marked sheet cells a ≡ marked sheet (keys_of contents) a
+    same a = ap (λ (xs : List ℕ). marked sheet xs a) e
 
 pub is_none : (b : Bool) (n : ℕ) → b ≡ (n == 0) → b ≡ true → n ≡ 0
 is_none b n e h = grind (arith, nat_tests)
@@ -165,22 +170,24 @@ is_none b n e h = grind (arith, nat_tests)
 pub is_one : (b : Bool) (n : ℕ) → b ≡ (n == 0) → b ≡ false → 0 < n
 is_one b n e h = grind (arith, nat_tests)
 
-pub marked_as : (marked : Sheet → List ℕ → ℕ → Bool) (sheet : Sheet) (contents changes : List (ℕ × Option Content)) (found cells : List ℕ) → changes ≡ contents → cells ≡ found → AreMarked marked sheet changes found → AreMarked marked sheet contents cells
-marked_as marked sheet contents changes found cells c f h =
-    subst (λ (xs : List ℕ). AreMarked marked sheet contents xs) (sym f) (subst (λ (es : List (ℕ × Option Content)). AreMarked marked sheet es found) c h)
+pub marked_as : (marked : Sheet → List ℕ → ℕ → Bool) (sheet : Sheet) (test : ℕ → Bool) (contents changes : List (ℕ × Option Content)) (found cells : List ℕ) → changes ≡ contents → cells ≡ found →
+    AreMarked marked sheet test changes found → AreMarked marked sheet test contents cells
+marked_as marked sheet test contents changes found cells c f h =
+    subst (λ (xs : List ℕ). AreMarked marked sheet test contents xs) (sym f) (subst (λ (es : List (ℕ × Option Content)). AreMarked marked sheet test es found) c h)
 
--- ---- and that they are all
+-- ---- what is pending for all
 
-pub none_lacks : (marked : Sheet → List ℕ → ℕ → Bool) (sheet : Sheet) (contents : List (ℕ × Option Content)) (found : List ℕ) → length contents ≡ 0 → AreAllMarked marked sheet contents found
-none_lacks marked sheet contents found e l = absurd (omega (arith, e, l))
+module _ (marked : Sheet → List ℕ → ℕ → Bool) (s : Stored) (d : Desk) (sound : IsSound marked s d) where
+  -- is so for each
+  pub pending_for_each : (i a : ℕ) → i < length d.sessions.sessions → is_pending_for_all d.sessions a ≡ true → is_listed (pending_of d.sessions i) a ≡ true
+  pending_for_each i a l h =
+      one_of_all_has (λ cells. is_listed cells a) d.sessions.pending i h (subst (λ (n : ℕ). i < n) (sym sound.each) l)
 
-pub all_marked : (marked : Sheet → List ℕ → ℕ → Bool) (sheet : Sheet) (contents : List (ℕ × Option Content)) (cells found : List ℕ) → cells ≡ keys_of contents →
-    ((a : ℕ) → is_listed found a ≡ marked sheet cells a) → AreAllMarked marked sheet contents found
-all_marked marked sheet contents cells found e m l a = m a ∙ ap (λ (xs : List ℕ). marked sheet xs a) e
-
-pub all_as : (marked : Sheet → List ℕ → ℕ → Bool) (sheet : Sheet) (contents changes : List (ℕ × Option Content)) (found cells : List ℕ) → changes ≡ contents → cells ≡ found → AreAllMarked marked sheet changes found → AreAllMarked marked sheet contents cells
-all_as marked sheet contents changes found cells c f h =
-    subst (λ (xs : List ℕ). AreAllMarked marked sheet contents xs) (sym f) (subst (λ (es : List (ℕ × Option Content)). AreAllMarked marked sheet es found) c h)
+  -- and so is what it marks
+  pub closed_for_all : IsClosed marked s.sheet (is_pending_for_all d.sessions)
+  closed_for_all a c h m =
+      all_have_so (λ cells. is_listed cells c) d.sessions.pending
+      (λ i l. let k : i < length d.sessions.sessions = subst (λ (n : ℕ). i < n) sound.each l in sound.closed i k a c (pending_for_each i a k h) m)
 
 -- ---- rooms for them
 
@@ -247,10 +254,37 @@ listed_at (x ∷ xs) (suc k) d l = by (x == slice_index_or xs k d) (listed_at xs
     by true h = refl
     by false h = h
 
-module _ (marked : Sheet → List ℕ → ℕ → Bool) (s t : Stored) (d n : Desk) (r : Roster) (contents : List (ℕ × Option Content)) (found : List ℕ)
-    (sound : IsSound s d) (beside : SameBeside d n) (are : AreMarked marked s.sheet contents found) where
+-- an edit of no cell leaves the sheet as it is
+stays : (s : Sheet) (contents : List (ℕ × Option Content)) → length contents ≡ 0 → edited s (map change_without_empty contents) ≡ s
+stays s [] e = refl
+stays s (x ∷ xs) e = absurd (omega (arith, e))
+
+-- what is found is pending then, whether it was or got room
+covers : (p q v f : Bool) → q ≡ p → v ≡ (f && not p) → f ≡ true → (q || v) ≡ true
+covers true q v f e w h = ap (λ (b : Bool). b || v) e
+covers false q v f e w h = or_right q v (w ∙ ap (λ (b : Bool). b && true) h)
+
+module _ (marked : Sheet → List ℕ → ℕ → Bool) (law : IsMarking marked) (s t : Stored) (d n : Desk) (r : Roster) (contents : List (ℕ × Option Content)) (found : List ℕ)
+    (sound : IsSound marked s d) (beside : SameBeside d n) (are : AreMarked marked s.sheet (is_pending_for_all d.sessions) contents found) where
   pending_then : (i a : ℕ) → is_listed (pending_of n.sessions i) a ≡ is_listed (pending_of d.sessions i) a
   pending_then i a = ap (λ (xss : List (List ℕ)). is_listed (slice_index_or xss i []) a) beside.pending
+
+  abbrev then_sheet : Sheet
+  then_sheet = edited s.sheet (map change_without_empty contents)
+
+  -- a cell that was neither found nor is pending for all shows the same
+  unmoved : (a : ℕ) (p : List Replacement) → is_listed found a ≡ false → is_pending_for_all d.sessions a ≡ false → shown then_sheet p a ≡ shown s.sheet p a
+  unmoved a p f k = at (cases_lt 0 (length contents))
+    where
+      neither_is : (is_listed found a ≡ true) ⊎ (is_pending_for_all d.sessions a ≡ true) → ⊥
+      neither_is (inl e) = false≢true (sym f ∙ e)
+      neither_is (inr e) = false≢true (sym k ∙ e)
+
+      at : (0 < length contents) ⊎ (length contents ≤ 0) → shown then_sheet p a ≡ shown s.sheet p a
+      at (inl l) =
+          law.unmoved s.sheet (keys_of contents) a (false_from_ne_true (marked s.sheet (keys_of contents) a) (λ m. neither_is (are.others l a m)))
+          then_sheet s.sheet p p (same_off_edited s.sheet contents) (λ c o. refl) (λ c o. refl)
+      at (inr g) = ap (λ (x : Sheet). shown x p a) (stays s.sheet contents (omega (arith, g)))
 
   module _ (rooms : HasRooms found n.sessions) (taken : AreTaken n.sessions r) where
     room_at : (i a : ℕ) → i < length d.sessions.sessions → is_listed (vacant_of n.sessions i) a ≡ (is_listed found a && not (is_listed (pending_of d.sessions i) a))
@@ -264,6 +298,9 @@ module _ (marked : Sheet → List ℕ → ℕ → Bool) (s t : Stored) (d n : De
         let before : is_listed (pending_of d.sessions i) a ≡ false = sym (pending_then i a) ∙ both.0 in
         (before, not_found _ _ _ (room_at i a l) before both.1)
 
+    not_for_all : (i a : ℕ) → i < length d.sessions.sessions → is_listed (pending_of d.sessions i) a ≡ false → is_pending_for_all d.sessions a ≡ false
+    not_for_all i a l h = false_from_ne_true (is_pending_for_all d.sessions a) (λ k. false≢true (sym h ∙ pending_for_each marked s d sound i a l k))
+
     -- the picture of a session, of the old sheet and of the new one
     abbrev RightAt : List Session → List Scenario → Type 0
     RightAt xs scenarios =
@@ -275,10 +312,57 @@ module _ (marked : Sheet → List ℕ → ℕ → Bool) (s t : Stored) (d n : De
         (subst (λ (xs : List Session). RightAt xs d.scenarios) (sym (taken.sessions ∙ beside.sessions))
         (λ i l a w h. let both = quiet i a l h in
         let put : List Replacement = effective d.scenarios (slice_index_or d.sessions.sessions i (new_session [])).scenario in
-        sound.covered i l a w both.0 ∙ sym (are.unmoved a put both.1)
+        sound.covered i l a w both.0 ∙ sym (unmoved a put both.1 (not_for_all i a l both.0))
         ∙ ap (λ (x : Sheet). shown x put a) (sym ((accepted_is s t (map change_without_empty contents) made).0))))
 
-    pub sound_taken : applied s contents ≡ Ok t → IsSound t (record n { sessions = r })
+    -- ---- and with each cell those that it marks
+
+    still_pending : (i a : ℕ) → is_listed (pending_of d.sessions i) a ≡ true → is_listed (pending_of r i) a ≡ true
+    still_pending i a h = taken.pending i a ∙ or_left (is_listed (pending_of n.sessions i) a) (is_listed (vacant_of n.sessions i) a) (pending_then i a ∙ h)
+
+    marked_pending : (i a : ℕ) → i < length d.sessions.sessions → 0 < length contents → marked s.sheet (keys_of contents) a ≡ true → is_listed (pending_of r i) a ≡ true
+    marked_pending i a l g m = at (are.others g a m)
+      where
+        at : (is_listed found a ≡ true) ⊎ (is_pending_for_all d.sessions a ≡ true) → is_listed (pending_of r i) a ≡ true
+        at (inl f) =
+            taken.pending i a
+            ∙ covers (is_listed (pending_of d.sessions i) a) (is_listed (pending_of n.sessions i) a) (is_listed (vacant_of n.sessions i) a) (is_listed found a) (pending_then i a) (room_at i a l) f
+        at (inr k) = still_pending i a (pending_for_each marked s d sound i a l k)
+
+    was_or_found : (i a : ℕ) → i < length d.sessions.sessions → is_listed (pending_of r i) a ≡ true → (is_listed (pending_of d.sessions i) a ≡ true) ⊎ (is_listed found a ≡ true)
+    was_or_found i a l h =
+        ⊎_elim (λ (p : is_listed (pending_of n.sessions i) a ≡ true). inl (sym (pending_then i a) ∙ p))
+        (λ (v : is_listed (vacant_of n.sessions i) a ≡ true). inr (is_found _ _ _ (room_at i a l) v))
+        (either _ _ (sym (taken.pending i a) ∙ h))
+
+    -- what a cell marks in the new sheet it marked in the old one, or the edited cells did
+    marked_before : applied s contents ≡ Ok t → (a c : ℕ) → marked t.sheet (a ∷ []) c ≡ true → (marked s.sheet (a ∷ []) c ≡ true) ⊎ ((0 < length contents) × (marked s.sheet (keys_of contents) c ≡ true))
+    marked_before made a c m = at (cases_lt 0 (length contents))
+      where
+        here : marked then_sheet (a ∷ []) c ≡ true
+        here = ap (λ (x : Sheet). marked x (a ∷ []) c) (sym ((accepted_is s t (map change_without_empty contents) made).0)) ∙ m
+
+        at : (0 < length contents) ⊎ (length contents ≤ 0) → (marked s.sheet (a ∷ []) c ≡ true) ⊎ ((0 < length contents) × (marked s.sheet (keys_of contents) c ≡ true))
+        at (inl l) =
+            ⊎_elim (λ (b : marked s.sheet (a ∷ []) c ≡ true). inl b) (λ (b : marked s.sheet (keys_of contents) c ≡ true). inr (l, b))
+            (law.edited s.sheet then_sheet (keys_of contents) a c (same_off_edited s.sheet contents) here)
+        at (inr g) = inl (ap (λ (x : Sheet). marked x (a ∷ []) c) (sym (stays s.sheet contents (omega (arith, g)))) ∙ here)
+
+    closed_taken : applied s contents ≡ Ok t → AreClosed marked (state_of t (record n { sessions = r })) r.pending
+    closed_taken made i l a c h m = at (marked_before made a c m)
+      where
+        old : i < length d.sessions.sessions
+        old = subst (λ (xs : List Session). i < length xs) (taken.sessions ∙ beside.sessions) l
+
+        by : marked s.sheet (a ∷ []) c ≡ true → (is_listed (pending_of d.sessions i) a ≡ true) ⊎ (is_listed found a ≡ true) → is_listed (pending_of r i) c ≡ true
+        by b (inl p) = still_pending i c (sound.closed i old a c p b)
+        by b (inr f) = let o = are.only a f in marked_pending i c old o.0 (law.further s.sheet (keys_of contents) a c o.1 b)
+
+        at : (marked s.sheet (a ∷ []) c ≡ true) ⊎ ((0 < length contents) × (marked s.sheet (keys_of contents) c ≡ true)) → is_listed (pending_of r i) c ≡ true
+        at (inl b) = by b (was_or_found i a old h)
+        at (inr b) = marked_pending i c old b.0 b.1
+
+    pub sound_taken : applied s contents ≡ Ok t → IsSound marked t (record n { sessions = r })
     sound_taken made =
         let same : r.sessions ≡ d.sessions.sessions = taken.sessions ∙ beside.sessions in
         let lists : length r.pending ≡ length d.sessions.pending = taken.lists ∙ ap (λ (xss : List (List ℕ)). length xss) beside.pending in
@@ -289,19 +373,19 @@ module _ (marked : Sheet → List ℕ → ℕ → Bool) (s t : Stored) (d n : De
           few = omega (arith, many, sound.few);
           each = lists ∙ sound.each ∙ sym many;
           full = taken.vacant;
+          closed = closed_taken made;
           covered = covered_taken made;
         }
 
     pub adds_taken : AddsOnly marked (keys_of contents) (state_of s d) (state_of t (record n { sessions = r })) d.sessions.pending r.pending
     adds_taken i a l h =
-        ⊎_elim
-        (λ (p : is_listed (pending_of n.sessions i) a ≡ true). inl (sym (pending_then i a) ∙ p))
-        (λ (v : is_listed (vacant_of n.sessions i) a ≡ true). let o = are.only a (is_found _ _ _ (room_at i a l) v) in
+        ⊎_elim (λ (p : is_listed (pending_of d.sessions i) a ≡ true). inl p)
+        (λ (f : is_listed found a ≡ true). let o = are.only a f in
         inr (record { cells = keys_of contents; some = omega (arith, o.0, length-keys_of contents); touched = λ k e m. inl (listed_at (keys_of contents) k e m); has = o.1 }))
-        (either _ _ (sym (taken.pending i a) ∙ h))
+        (was_or_found i a l h)
 
-module _ (s t : Stored) (d n : Desk) (r : Roster) (sound : IsSound s d) (beside : SameBeside d n) (given : AreGivenBack n.sessions r) where
-  pub sound_given_back : t ≡ s → IsSound t (record n { sessions = r })
+module _ (marked : Sheet → List ℕ → ℕ → Bool) (s t : Stored) (d n : Desk) (r : Roster) (sound : IsSound marked s d) (beside : SameBeside d n) (given : AreGivenBack n.sessions r) where
+  pub sound_given_back : t ≡ s → IsSound marked t (record n { sessions = r })
   sound_given_back same =
       let sessions : r.sessions ≡ d.sessions.sessions = given.sessions ∙ beside.sessions in
       let pending : r.pending ≡ d.sessions.pending = given.pending ∙ beside.pending in
@@ -312,5 +396,6 @@ module _ (s t : Stored) (d n : Desk) (r : Roster) (sound : IsSound s d) (beside 
         few = omega (arith, many, sound.few);
         each = ap (λ (xss : List (List ℕ)). length xss) pending ∙ sound.each ∙ sym many;
         full = given.vacant;
+        closed = rw (same, sessions, pending) sound.closed;
         covered = rw (same, sessions, pending, beside.scenarios) sound.covered;
       }

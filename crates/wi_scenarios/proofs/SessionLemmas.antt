@@ -1,17 +1,19 @@
 -- What `session` answers.
 use Rattle.std.proofs.Common.{◌≡◌, ℕ, suc, ◌+◌, ◌-◌, ◌*◌, ◌/◌, ◌%◌, ◌<◌, ◌≤◌, Bool, true, false, not, ◌&&◌, ◌||◌, ◌==◌, List, [], ◌∷◌, ◌++◌, length, None, Ok, Err, if◌then◌else◌, refl, sym, ap, ◌∙◌, subst, arith, ◌⊎◌, inl, inr}
 use Rattle.std.specs.Prelude.{nat_le, codes}
-use Rattle.std.specs.List.{list_any, slice_index_or, position_or_len}
+use Rattle.std.specs.List.{All, list_any, slice_index_or, position_or_len}
 use Rattle.std.specs.Str.{bytes_eq}
 use Rattle.std.specs.Map.{keys_of}
 use Rattle.std.proofs.Math.Nat.{div-lt_iff_lt-mul, mod-lt}
-use Rattle.std.proofs.lemmas.Bool.{eqb-true, leb-true, le-leb, cases_lt}
+use Rattle.std.proofs.lemmas.Bool.{eqb-true, leb-true, le-leb, cases_lt, false≢true, or_cases}
 use Rattle.std.proofs.lemmas.List.{get_or_append_left, length-append}
+use Rattle.std.proofs.lemmas.List.Elements.{All-head, All-tail}
 use Rattle.std.proofs.Math.Seq.{get_or-append_seam}
 use Rattle.std.proofs.lemmas.Map.Views.{any-filter_same}
-use Rattle.wi_values.specs.Address.{Area, is_within, row_of, column_of, rect_of}
-use Rattle.wi_parser.specs.Sheet.{Sheet, content_of}
+use Rattle.wi_values.specs.Address.{Area, is_within, row_of, column_of, rect_of, rows, columns}
+use Rattle.wi_parser.specs.Sheet.{Sheet, content_of, has_formula}
 use Rattle.wi_sheet.specs.Shown.{shown}
+use Rattle.wi_sheet.specs.Unmoved.{IsMarking}
 use Rattle.wi_propagate.proofs.EmptyCells.{shows_nothing, has_none}
 use Rattle.wi_store.specs.Store.{Stored}
 use Rattle.wi_sessions.specs.Pictures.{sheet_size, value_in}
@@ -29,7 +31,7 @@ use Rattle.wi_scenarios.specs.Answer.{Answer}
 use Rattle.wi_scenarios.specs.Causes.{no_cause, answer}
 use Rattle.wi_scenarios.specs.As.{as_step}
 use Rattle.wi_scenarios.specs.Pending.{occupied_cells}
-use Rattle.wi_scenarios.specs.Inner.Held.{IsSound, state_of}
+use Rattle.wi_scenarios.specs.Inner.Held.{IsClosed, IsSound, state_of}
 
 -- ---- cells of the sheet
 
@@ -68,6 +70,43 @@ unoccupied s a l h =
     let there : list_any (λ c. c == a) (keys_of s) ≡ false =
     sym (any-filter_same (λ c. c == a) (is_within whole) true (λ k e. subst (λ x. is_within whole x ≡ true) (sym (eqb-true k a e)) (whole_has a l)) (keys_of s)) ∙ h in
     has_none s a there
+
+-- a cell of a list lies below its bound
+below_all : (n : ℕ) (xs : List ℕ) (c : ℕ) → All (λ a. a < n) xs → list_any (λ x. x == c) xs ≡ true → c < n
+below_all n [] c h e = absurd (false≢true e)
+below_all n (x ∷ xs) c h e = at (or_cases (x == c) (list_any (λ k. k == c) xs) e) (below_all n xs c (All-tail (λ a. a < n) x xs h))
+  where
+    at : ((x == c) ≡ true) ⊎ (list_any (λ k. k == c) xs ≡ true) → (list_any (λ k. k == c) xs ≡ true → c < n) → c < n
+    at (inl t) rest = subst (λ k. k < n) (eqb-true x c t) (All-head (λ a. a < n) x xs h)
+    at (inr m) rest = rest m
+
+-- a cell with a formula is occupied
+formula_occupied : (s : Sheet) (c : ℕ) → All (λ a. a < rows * columns) (keys_of s) → has_formula (content_of s c) ≡ true → is_listed (occupied_cells s) c ≡ true
+unfolding sheet_size
+formula_occupied s c within f = at (is_listed (occupied_cells s) c) refl
+  where
+    no_content : content_of s c ≡ None → ⊥
+    no_content e = false≢true (sym (ap has_formula e) ∙ f)
+
+    key : (b : Bool) → list_any (λ k. k == c) (keys_of s) ≡ b → c < rows * columns
+    key true e = below_all (rows * columns) (keys_of s) c within e
+    key false e = absurd (no_content (has_none s c e))
+
+    at : (b : Bool) → is_listed (occupied_cells s) c ≡ b → b ≡ true
+    at true e = refl
+    at false e = absurd (no_content (unoccupied s c (key (list_any (λ k. k == c) (keys_of s)) refl) e))
+
+-- so with the occupied cells those are occupied that they mark
+pub occupied_closed : (marked : Sheet → List ℕ → ℕ → Bool) → IsMarking marked → (s : Sheet) → All (λ a. a < rows * columns) (keys_of s) → IsClosed marked s (is_listed (occupied_cells s))
+occupied_closed marked law s within a c h m = at (or_cases (has_formula (content_of s c)) (is_listed (a ∷ []) c) (law.formulas s (a ∷ []) c m))
+  where
+    itself : (b : Bool) → (a == c) ≡ b → (b || false) ≡ true → is_listed (occupied_cells s) c ≡ true
+    itself true e k = subst (λ x. is_listed (occupied_cells s) x ≡ true) (eqb-true a c e) h
+    itself false e k = absurd (false≢true k)
+
+    at : (has_formula (content_of s c) ≡ true) ⊎ (is_listed (a ∷ []) c ≡ true) → is_listed (occupied_cells s) c ≡ true
+    at (inl f) = formula_occupied s c within f
+    at (inr e) = itself (a == c) refl e
 
 -- ---- what `session` answers
 
@@ -134,34 +173,53 @@ new_answer s name place h l e =
 
 -- ---- what holds of the desk
 
-pub sound_there : (stored : Stored) (d : Desk) (place : ℕ) → place < length d.sessions.sessions → IsSound stored d → IsSound stored (record d { current = place })
-sound_there stored d place l h = record { within = l; few = h.few; each = h.each; full = h.full; covered = h.covered }
+pub sound_there : {marked : Sheet → List ℕ → ℕ → Bool} (stored : Stored) (d : Desk) (place : ℕ) → place < length d.sessions.sessions → IsSound marked stored d → IsSound marked stored (record d { current = place })
+sound_there stored d place l h = record { within = l; few = h.few; each = h.each; full = h.full; closed = h.closed; covered = h.covered }
+
+-- a list with the same cells has those that they mark too
+closed_as : (marked : Sheet → List ℕ → ℕ → Bool) (s : Sheet) (xs ys : List ℕ) → SameCells xs ys → IsClosed marked s (is_listed ys) → IsClosed marked s (is_listed xs)
+closed_as marked s xs ys e h a c p m = e c ∙ h a c (sym (e a) ∙ p) m
 
 -- what a scenario that is none puts in
 none_put : (xs : List Scenario) → effective xs None ≡ []
 unfolding chain
 none_put xs = refl
 
-pub sound_new : (stored : Stored) (d : Desk) (r : Roster) (place : ℕ) (name cells new : List ℕ) → length d.sessions.sessions < max_sessions → place ≡ length d.sessions.sessions
+pub sound_new : {marked : Sheet → List ℕ → ℕ → Bool} (stored : Stored) (d : Desk) (r : Roster) (place : ℕ) (name cells new : List ℕ) → length d.sessions.sessions < max_sessions → place ≡ length d.sessions.sessions
     → r.sessions ≡ d.sessions.sessions ++ new_session name ∷ [] → r.pending ≡ d.sessions.pending ++ new ∷ [] → SameCells new cells → cells ≡ occupied_cells stored.sheet
-    → ((i : ℕ) → vacant_of r i ≡ vacant_of d.sessions i) → IsSound stored d → IsSound stored (record d { sessions = r; current = place })
-sound_new stored d r place name cells new few at grown more same are vacant h =
+    → IsClosed marked stored.sheet (is_listed (occupied_cells stored.sheet)) → ((i : ℕ) → vacant_of r i ≡ vacant_of d.sessions i) → IsSound marked stored d
+    → IsSound marked stored (record d { sessions = r; current = place })
+sound_new {marked} stored d r place name cells new few at grown more same are marks vacant h =
     let count : length r.sessions ≡ length d.sessions.sessions + 1 = ap length grown ∙ length-append d.sessions.sessions (new_session name ∷ []) in
     record {
       within = subst (λ n. place < n) (sym count) (omega (arith, at));
       few = subst (λ n. n ≤ max_sessions) (sym count) (omega (arith, few));
       each = ap length more ∙ length-append d.sessions.pending (new ∷ []) ∙ ap (λ n. n + 1) h.each ∙ sym count;
       full = λ i. vacant i ∙ h.full i;
+      closed = λ i l. closed_by i (cases_lt i (length d.sessions.sessions)) (subst (λ n. i < n) count l);
       covered = λ i l a m k. by i a m (cases_lt i (length d.sessions.sessions)) (subst (λ n. i < n) count l) k;
     }
   where
+    listed_before : (i : ℕ) → i < length d.sessions.sessions → slice_index_or r.pending i [] ≡ slice_index_or d.sessions.pending i []
+    listed_before i l = ap (λ xs. slice_index_or xs i []) more ∙ get_or_append_left d.sessions.pending (new ∷ []) [] i (subst (λ n. i < n) (sym h.each) l)
+
+    listed_last : (i : ℕ) → i ≡ length d.sessions.sessions → slice_index_or r.pending i [] ≡ new
+    listed_last i e =
+        ap (λ xs. slice_index_or xs i []) more ∙ ap (λ n. slice_index_or (d.sessions.pending ++ new ∷ []) n []) (e ∙ sym h.each) ∙ get_or-append_seam d.sessions.pending new [] []
+
+    closed_by : (i : ℕ) → (i < length d.sessions.sessions) ⊎ (length d.sessions.sessions ≤ i) → i < length d.sessions.sessions + 1 → IsClosed marked stored.sheet (is_listed (slice_index_or r.pending i []))
+    closed_by i (inl l) n =
+        closed_as marked stored.sheet (slice_index_or r.pending i []) (slice_index_or d.sessions.pending i []) (λ a. ap (λ xs. is_listed xs a) (listed_before i l)) (h.closed i l)
+    closed_by i (inr g) n =
+        closed_as marked stored.sheet (slice_index_or r.pending i []) (occupied_cells stored.sheet)
+        (λ a. ap (λ xs. is_listed xs a) (listed_last i (omega (arith, g, n))) ∙ same a ∙ ap (λ xs. is_listed xs a) are) marks
+
     before : (i a : ℕ) → a < sheet_size → i < length d.sessions.sessions → is_listed (slice_index_or r.pending i []) a ≡ false
         → value_in (slice_index_or r.sessions i (new_session [])).picture a ≡ shown stored.sheet (effective d.scenarios (slice_index_or r.sessions i (new_session [])).scenario) a
     before i a m l k =
         let here : slice_index_or r.sessions i (new_session []) ≡ slice_index_or d.sessions.sessions i (new_session []) =
         ap (λ xs. slice_index_or xs i (new_session [])) grown ∙ get_or_append_left d.sessions.sessions (new_session name ∷ []) (new_session []) i l in
-        let listed : slice_index_or r.pending i [] ≡ slice_index_or d.sessions.pending i [] =
-        ap (λ xs. slice_index_or xs i []) more ∙ get_or_append_left d.sessions.pending (new ∷ []) [] i (subst (λ n. i < n) (sym h.each) l) in
+        let listed : slice_index_or r.pending i [] ≡ slice_index_or d.sessions.pending i [] = listed_before i l in
         ap (λ (x : Session). value_in x.picture a) here
         ∙ h.covered i l a m (sym (ap (λ xs. is_listed xs a) listed) ∙ k)
         ∙ ap (λ (x : Session). shown stored.sheet (effective d.scenarios x.scenario) a) (sym here)
@@ -172,8 +230,7 @@ sound_new stored d r place name cells new few at grown more same are vacant h =
         let here : slice_index_or r.sessions i (new_session []) ≡ new_session name =
         ap (λ xs. slice_index_or xs i (new_session [])) grown ∙ ap (λ n. slice_index_or (d.sessions.sessions ++ new_session name ∷ []) n (new_session [])) e
         ∙ get_or-append_seam d.sessions.sessions (new_session name) [] (new_session []) in
-        let listed : slice_index_or r.pending i [] ≡ new =
-        ap (λ xs. slice_index_or xs i []) more ∙ ap (λ n. slice_index_or (d.sessions.pending ++ new ∷ []) n []) (e ∙ sym h.each) ∙ get_or-append_seam d.sessions.pending new [] [] in
+        let listed : slice_index_or r.pending i [] ≡ new = listed_last i e in
         let free : is_listed (occupied_cells stored.sheet) a ≡ false =
         sym (ap (λ xs. is_listed xs a) are) ∙ sym (same a) ∙ sym (ap (λ xs. is_listed xs a) listed) ∙ k in
         ap (λ (x : Session). value_in x.picture a) here ∙ sym (shows_nothing stored.sheet a (unoccupied stored.sheet a m free))
@@ -225,15 +282,19 @@ grown_state s name after place more at =
     ∙ ap (λ (n : ℕ). record s { sessions = s.sessions ++ new_session name ∷ []; current = n }) at
 
 -- the first session
-pub sound_first : (stored : Stored) (d : Desk) (name cells : List ℕ) → d.scenarios ≡ [] → d.current ≡ 0 → d.sessions.sessions ≡ new_session name ∷ [] → length d.sessions.pending ≡ length d.sessions.sessions
-    → SameCells (slice_index_or d.sessions.pending 0 []) cells → cells ≡ occupied_cells stored.sheet → ((i : ℕ) → vacant_of d.sessions i ≡ []) → IsSound stored d
-sound_first stored d name cells none zeroth is each same are vacant =
+pub sound_first : {marked : Sheet → List ℕ → ℕ → Bool} (stored : Stored) (d : Desk) (name cells : List ℕ) → d.scenarios ≡ [] → d.current ≡ 0 → d.sessions.sessions ≡ new_session name ∷ [] → length d.sessions.pending ≡ length d.sessions.sessions
+    → SameCells (slice_index_or d.sessions.pending 0 []) cells → cells ≡ occupied_cells stored.sheet → IsClosed marked stored.sheet (is_listed (occupied_cells stored.sheet))
+    → ((i : ℕ) → vacant_of d.sessions i ≡ []) → IsSound marked stored d
+sound_first {marked} stored d name cells none zeroth is each same are marks vacant =
     let one : length d.sessions.sessions ≡ 1 = ap length is in
     record {
       within = subst (λ n. d.current < n) (sym one) (omega (arith, zeroth));
       few = subst (λ n. n ≤ max_sessions) (sym one) (omega arith);
       each = each;
       full = vacant;
+      closed = λ i l.
+          closed_as marked stored.sheet (slice_index_or d.sessions.pending i []) (occupied_cells stored.sheet)
+          (λ a. ap (λ n. is_listed (slice_index_or d.sessions.pending n []) a) (let e : i ≡ 0 = omega (arith, subst (λ n. i < n) one l) in e) ∙ same a ∙ ap (λ xs. is_listed xs a) are) marks;
       covered = λ i l a m k. by i a m (omega (arith, subst (λ n. i < n) one l)) k;
     }
   where

@@ -7,7 +7,7 @@ use Rattle.wi_values.specs.declared.replacement.Replacement.{Replacement}
 use Rattle.wi_values.specs.Replacements.{IsInOrder, replaced}
 use Rattle.wi_parser.specs.Sheet.{Sheet}
 use Rattle.wi_sheet.specs.Shown.{shown}
-use Rattle.wi_sheet.specs.Unmoved.{IsUnmoved}
+use Rattle.wi_sheet.specs.Unmoved.{IsMarking}
 use Rattle.wi_sheet.proofs.Cones.{outside_unmoved}
 use Rattle.wi_sheet.proofs.Overrides.{last_in_order, override_in_order}
 use Rattle.wi_scenario_list.specs.Scenarios.{Scenario, layered}
@@ -41,6 +41,7 @@ pub none_differs : (marked : Sheet → List ℕ → ℕ → Bool) (sheet : Sheet
     → IsInOrder before → IsInOrder after → AreDiffering before after cells → length cells ≡ 0 → vacant ≡ [] → HasRoom marked sheet before after pending vacant
 none_differs marked sheet before after cells pending vacant first second found none empty = record {
   marks = λ a h. absurd (false≢true (sym (ap (λ (xs : List ℕ). is_listed xs a) empty) ∙ h));
+  further = λ a c h m. absurd (false≢true (sym (ap (λ (xs : List ℕ). is_listed xs a) empty) ∙ h));
   others = λ a h k. shown_alike sheet before after a first second (λ d. found.others d (none_listed cells none d));
 }
 
@@ -49,6 +50,11 @@ none_differs marked sheet before after cells pending vacant first second found n
 both_true : (x y : Bool) → (false || (x && y)) ≡ true → x ≡ true
 both_true true y h = refl
 both_true false y h = h
+
+-- what is told is pending or gets room
+told_has : (p v t : Bool) → v ≡ (false || (t && not p)) → t ≡ true → (p || v) ≡ true
+told_has true v t e h = refl
+told_has false v t e h = e ∙ ap (λ (b : Bool). false || (b && true)) h
 
 left_false : (x y : Bool) → (false || (x && not y)) ≡ false → y ≡ false → x ≡ false
 left_false true true h e = cc
@@ -61,37 +67,40 @@ all_differ before after cells found k d l =
     let itself : (a == a) ≡ true = grind (arith, nat_tests) in
     found.each a (list_any_at (λ (c : ℕ). c == a) cells k d l itself)
 
-pub some_differ : (marked : Sheet → List ℕ → ℕ → Bool) (sheet : Sheet) (before after : List Replacement) (cells told pending vacant vacant' : List ℕ)
+pub some_differ : (marked : Sheet → List ℕ → ℕ → Bool) (law : IsMarking marked) (sheet : Sheet) (before after : List Replacement) (cells told pending vacant vacant' : List ℕ)
     → IsInOrder before → IsInOrder after → AreDiffering before after cells → 0 < length cells → vacant ≡ []
-    → ((c : ℕ) → is_listed told c ≡ marked sheet cells c) → ((c : ℕ) → is_listed told c ≡ false → IsUnmoved sheet cells c)
+    → ((c : ℕ) → is_listed told c ≡ marked sheet cells c)
     → ((a : ℕ) → is_listed vacant' a ≡ (is_listed vacant a || (is_listed told a && not (is_listed pending a))))
     → HasRoom marked sheet before after pending vacant'
-some_differ marked sheet before after cells told pending vacant vacant' first second found some empty marks unmoved room = record {
+some_differ marked law sheet before after cells told pending vacant vacant' first second found some empty marks room = record {
   marks = λ a h. record {
     cells = cells;
     some = some;
     touched = λ k d l. all_differ before after cells found k d l;
-    has = sym (marks a) ∙ both_true (is_listed told a) (not (is_listed pending a)) (sym (now a) ∙ h);
+    has = it_is a h;
   };
+  further = λ a c h m. told_has (is_listed pending c) (is_listed vacant' c) (is_listed told c) (now c) (marks c ∙ law.further sheet cells a c (it_is a h) m);
   others = λ a h k.
-      unmoved a (left_false (is_listed told a) (is_listed pending a) (sym (now a) ∙ k) h) sheet sheet before after (λ d n. refl) (λ d n. refl)
+      law.unmoved sheet cells a (sym (marks a) ∙ left_false (is_listed told a) (is_listed pending a) (sym (now a) ∙ k) h) sheet sheet before after (λ d n. refl) (λ d n. refl)
       (λ d n. last_in_order before first d ∙ found.others d n ∙ sym (last_in_order after second d));
 }
   where
     now : (a : ℕ) → is_listed vacant' a ≡ (false || (is_listed told a && not (is_listed pending a)))
     now a = room a ∙ ap (λ (xs : List ℕ). is_listed xs a || (is_listed told a && not (is_listed pending a))) empty
 
+    it_is : (a : ℕ) → is_listed vacant' a ≡ true → marked sheet cells a ≡ true
+    it_is a h = sym (marks a) ∙ both_true (is_listed told a) (not (is_listed pending a)) (sym (now a) ∙ h)
+
 -- the same of lists as they are lent
-pub room_marked : (marked : Sheet → List ℕ → ℕ → Bool) (sheet : Sheet) (before after : List Replacement) (cells lent found told pending vacant vacant' : List ℕ)
+pub room_marked : (marked : Sheet → List ℕ → ℕ → Bool) (law : IsMarking marked) (sheet : Sheet) (before after : List Replacement) (cells lent found told pending vacant vacant' : List ℕ)
     → IsInOrder before → IsInOrder after → AreDiffering before after cells → lent ≡ cells → 0 < length cells → vacant ≡ []
-    → ((c : ℕ) → is_listed found c ≡ marked sheet lent c) → ((c : ℕ) → is_listed found c ≡ false → IsUnmoved sheet lent c) → told ≡ found
+    → ((c : ℕ) → is_listed found c ≡ marked sheet lent c) → told ≡ found
     → ((a : ℕ) → is_listed vacant' a ≡ (is_listed vacant a || (is_listed told a && not (is_listed pending a))))
     → HasRoom marked sheet before after pending vacant'
-room_marked marked sheet before after cells lent found told pending vacant vacant' first second differ e some empty marks unmoved t room =
-    some_differ marked sheet before after lent told pending vacant vacant' first second
+room_marked marked law sheet before after cells lent found told pending vacant vacant' first second differ e some empty marks t room =
+    some_differ marked law sheet before after lent told pending vacant vacant' first second
     (subst (AreDiffering before after) (sym e) differ) (subst (λ (xs : List ℕ). 0 < length xs) (sym e) some) empty
-    (λ c. ap (λ (xs : List ℕ). is_listed xs c) t ∙ marks c)
-    (λ c n. unmoved c (sym (ap (λ (xs : List ℕ). is_listed xs c) t) ∙ n)) room
+    (λ c. ap (λ (xs : List ℕ). is_listed xs c) t ∙ marks c) room
 
 -- ---- each session in turn
 

@@ -2,7 +2,7 @@
 use Rattle.std.proofs.Common.{◌≡◌, ◌≢◌, ◌==◌, arith, ◌⊎◌, inl, inr, ℕ, ◌<◌, ◌≤◌, Bool, true, false, ◌||◌, List, [], length, Option, refl, sym, ap, ◌∙◌, subst}
 use Rattle.std.specs.List.{slice_index_or, slice_set}
 use Rattle.std.proofs.Math.Bool.{or-false}
-use Rattle.std.proofs.lemmas.Bool.{false≢true}
+use Rattle.std.proofs.lemmas.Bool.{false≢true, or_left}
 use Rattle.std.proofs.lemmas.Bool.Decides.{nat_tests}
 use Rattle.std.proofs.lemmas.List.{get_or-set_same, get_or-set_other, length-set}
 use Rattle.wi_values.specs.declared.value.Value.{Value}
@@ -18,19 +18,22 @@ use Rattle.wi_sessions.specs.Roster.{Roster, session_at, pending_of, vacant_of}
 use Rattle.wi_scenarios.specs.State.{State}
 use Rattle.wi_scenarios.specs.Pending.{IsMarked, IsTouched, AddsOnly, SameForOthers}
 use Rattle.wi_scenarios.specs.declared.desk.Desk.{Desk}
-use Rattle.wi_scenarios.specs.Inner.Held.{state_of, pending_in, AreCovered, IsSound}
+use Rattle.wi_scenarios.specs.Inner.Held.{state_of, pending_in, AreCovered, AreClosed, IsSound}
 use Rattle.wi_scenarios.specs.Inner.Switch.{Differs, HasRoom, HasRoomFor}
 
 -- ---- nothing is switched
 
 -- a desk that is the same but for vacant rooms, of which it has none
-pub sound_again : (stored : Stored) (d e : Desk) → IsSound stored d → state_of stored e ≡ state_of stored d → e.sessions.pending ≡ d.sessions.pending
-    → ((i : ℕ) → vacant_of e.sessions i ≡ []) → IsSound stored e
-sound_again stored d e h same pending none = record {
+pub sound_again : {marked : Sheet → List ℕ → ℕ → Bool} (stored : Stored) (d e : Desk) → IsSound marked stored d → state_of stored e ≡ state_of stored d → e.sessions.pending ≡ d.sessions.pending
+    → ((i : ℕ) → vacant_of e.sessions i ≡ []) → IsSound marked stored e
+sound_again {marked} stored d e h same pending none = record {
   within = subst (λ (s : State). s.current < length s.sessions) (sym same) h.within;
   few = subst (λ (s : State). length s.sessions ≤ max_sessions) (sym same) h.few;
   each = ap length pending ∙ h.each ∙ sym (ap (λ (s : State). length s.sessions) same);
   full = none;
+  closed =
+      subst (λ (s : State). AreClosed marked s (pending_in e)) (sym same)
+      (subst (λ (cs : List (List ℕ)). AreClosed marked (state_of stored d) cs) (sym pending) h.closed);
   covered =
       subst (λ (s : State). AreCovered s (pending_in e)) (sym same)
       (subst (λ (cs : List (List ℕ)). AreCovered (state_of stored d) cs) (sym pending) h.covered);
@@ -65,12 +68,24 @@ either_true true y h = inl refl
 either_true false y h = inr h
 
 module _ (marked : Sheet → List ℕ → ℕ → Bool) (stored : Stored) (d e : Desk) (vacant : ℕ → List ℕ) (w : IsSwitch marked stored d e vacant) where
-  pub switched_sound : IsSound stored d → IsSound stored e
+  -- with what was pending or gets room what it marks is pending then
+  switched_closed : IsSound marked stored d → AreClosed marked (state_of stored e) (pending_in e)
+  switched_closed h i l a c p m = w.pending i c ∙ at (either_true (is_listed (pending_of d.sessions i) a) (is_listed (vacant i) a) (sym (w.pending i a) ∙ p))
+    where
+      old : i < length d.sessions.sessions
+      old = subst (λ (k : ℕ). i < k) w.count l
+
+      at : (is_listed (pending_of d.sessions i) a ≡ true) ⊎ (is_listed (vacant i) a ≡ true) → (is_listed (pending_of d.sessions i) c || is_listed (vacant i) c) ≡ true
+      at (inl there) = or_left (is_listed (pending_of d.sessions i) c) (is_listed (vacant i) c) (h.closed i old a c there m)
+      at (inr new) = (w.room i old).further a c new m
+
+  pub switched_sound : IsSound marked stored d → IsSound marked stored e
   switched_sound h = record {
     within = subst (λ (n : ℕ). n < length e.sessions.sessions) (sym w.current) (subst (λ (n : ℕ). d.current < n) (sym w.count) h.within);
     few = subst (λ (n : ℕ). n ≤ max_sessions) (sym w.count) h.few;
     each = w.lists ∙ h.each ∙ sym w.count;
     full = w.empty;
+    closed = switched_closed h;
     covered = λ i l a m n.
         let old : i < length d.sessions.sessions = subst (λ (k : ℕ). i < k) w.count l in
         let both : (is_listed (pending_of d.sessions i) a || is_listed (vacant i) a) ≡ false = sym (w.pending i a) ∙ n in
@@ -132,10 +147,11 @@ scenarios_switched marked stored d e mid sessions pending room after lists took 
 same_room : (marked : Sheet → List ℕ → ℕ → Bool) (sheet : Sheet) (p : List Replacement) (pending vacant : List ℕ) → vacant ≡ [] → HasRoom marked sheet p p pending vacant
 same_room marked sheet p pending vacant empty = record {
   marks = λ a h. absurd (false≢true (sym (ap (λ (xs : List ℕ). is_listed xs a) empty) ∙ h));
+  further = λ a c h m. absurd (false≢true (sym (ap (λ (xs : List ℕ). is_listed xs a) empty) ∙ h));
   others = λ a h k. refl;
 }
 
-module _ (marked : Sheet → List ℕ → ℕ → Bool) (stored : Stored) (d e : Desk) (mid : Roster) (name : Option (List ℕ)) (h : IsSound stored d)
+module _ (marked : Sheet → List ℕ → ℕ → Bool) (stored : Stored) (d e : Desk) (mid : Roster) (name : Option (List ℕ)) (h : IsSound marked stored d)
     (room : HasRoom marked stored.sheet (effective d.scenarios (session_at d.sessions d.current).scenario) (effective d.scenarios name) (pending_of d.sessions d.current) (vacant_of mid d.current))
     (others : (j : ℕ) → j ≢ d.current → vacant_of mid j ≡ vacant_of d.sessions j)
     (scenarios : e.scenarios ≡ d.scenarios)
@@ -194,7 +210,7 @@ used_sessions stored d r used after n name same turned named e =
     ∙ ap (λ (s : State). slice_set s.sessions s.current (using_scenario (slice_index_or s.sessions s.current (new_session [])) n)) same
     ∙ ap (λ (m : Option (List ℕ)). slice_set d.sessions.sessions d.current (using_scenario (session_at d.sessions d.current) m)) named
 
-pub use_switched : (marked : Sheet → List ℕ → ℕ → Bool) (stored : Stored) (d r : Desk) (u t : Roster) (n name : Option (List ℕ)) → IsSound stored d
+pub use_switched : (marked : Sheet → List ℕ → ℕ → Bool) (stored : Stored) (d r : Desk) (u t : Roster) (n name : Option (List ℕ)) → IsSound marked stored d
     → state_of stored r ≡ state_of stored d → r.sessions.pending ≡ d.sessions.pending → ((j : ℕ) → j ≢ d.current → vacant_of r.sessions j ≡ vacant_of d.sessions j)
     → HasRoom marked stored.sheet (effective d.scenarios (session_at d.sessions d.current).scenario) (effective d.scenarios name) (pending_of d.sessions d.current) (vacant_of r.sessions d.current)
     → u.sessions ≡ slice_set r.sessions.sessions r.current (using_scenario (session_at r.sessions r.current) n) → n ≡ name

@@ -25,13 +25,13 @@ pub(crate) fn base<C: Calculator>(
     name: &str,
     other: Option<&str>,
 ) -> Result<(), Refusal>
-    requires { IsSound (C.stored calculator.now) desk.old }
+    requires { IsSound C.marked (C.stored calculator.now) desk.old }
     ensures step { let old = state_of (C.stored calculator.now) desk.old in
         Serves (λ a. base_step old name.now (option_copied other.entry) ≡ a) result old (state_of (C.stored calculator.now) desk.new) [] }
     ensures adds { AddsOnly C.marked ([]) (state_of (C.stored calculator.now) desk.old)
         (state_of (C.stored calculator.now) desk.new) (pending_in desk.old) (pending_in desk.new) }
     ensures refused { OnErr result (pending_in desk.new ≡ pending_in desk.old) }
-    ensures sound { IsSound (C.stored calculator.now) desk.new }
+    ensures sound { IsSound C.marked (C.stored calculator.now) desk.new }
 {
     if is_any_missing(&desk.scenarios, name, other) {
         return Err(Refusal::NoScenario);

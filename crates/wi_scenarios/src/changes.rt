@@ -25,7 +25,7 @@ pub(crate) fn changes<C: Calculator>(
     desk: &mut Desk,
     out: &mut Vec<u8>,
 ) -> Result<(), Refusal>
-    requires { IsSound (C.stored calculator.old) desk.old }
+    requires { IsSound C.marked (C.stored calculator.old) desk.old }
     ensures step { let old = state_of (C.stored calculator.old) desk.old in
         (records : List ℕ) × (out.new.items ≡ out.old.items ++ records)
         × Serves (λ a. changes_step old ≡ a) result old (state_of (C.stored calculator.new) desk.new) records }
@@ -41,7 +41,7 @@ pub(crate) fn changes<C: Calculator>(
         C.evaluated calculator.new ≤ C.evaluated calculator.old + pending_evaluations old (pending_in desk.old) }
     ensures restarts { let old = state_of (C.stored calculator.old) desk.old in
         C.restarted calculator.new ≤ C.restarted calculator.old + pending_restarts old (pending_in desk.old) }
-    ensures sound { IsSound (C.stored calculator.new) desk.new }
+    ensures sound { IsSound C.marked (C.stored calculator.new) desk.new }
 {
     let found = find(alloc, calculator, desk)?;
     tell(alloc, desk, found, out)?;
@@ -55,7 +55,7 @@ fn find<C: Calculator>(
     calculator: &mut C,
     desk: &Desk,
 ) -> Result<Vec<(Address, Value)>, AllocError>
-    requires { IsSound (C.stored calculator.old) desk.now }
+    requires { IsSound C.marked (C.stored calculator.old) desk.now }
     ensures list { let state = state_of (C.stored calculator.old) desk.now in IfOk result (λ found. found.items ≡ change_list state) }
     ensures same { C.stored calculator.new ≡ C.stored calculator.old }
     ensures quiet { pending_for (pending_in desk.now) desk.now.current ≡ []

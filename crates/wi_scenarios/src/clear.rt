@@ -24,13 +24,13 @@ pub(crate) fn clear<C: Calculator>(
     area: Rect,
     force: bool,
 ) -> Result<(), Refusal>
-    requires { IsSound (C.stored calculator.old) desk.old }
+    requires { IsSound C.marked (C.stored calculator.old) desk.old }
     ensures step { let old = state_of (C.stored calculator.old) desk.old in
         Serves (λ a. clear_step old force area ≡ a) result old (state_of (C.stored calculator.new) desk.new) [] }
     ensures adds { AddsOnly C.marked (keys_of (clear_edit (C.stored calculator.old).sheet area).contents) (state_of (C.stored calculator.old) desk.old)
         (state_of (C.stored calculator.new) desk.new) (pending_in desk.old) (pending_in desk.new) }
     ensures refused { OnErr result (pending_in desk.new ≡ pending_in desk.old) }
-    ensures sound { IsSound (C.stored calculator.new) desk.new }
+    ensures sound { IsSound C.marked (C.stored calculator.new) desk.new }
 {
     let cells = occupied_in(alloc, calculator, area)?;
     let contents = emptied(alloc, &cells)?;

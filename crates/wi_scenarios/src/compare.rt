@@ -29,7 +29,7 @@ pub(crate) fn compare<C: Calculator>(
     area: Rect,
     out: &mut Vec<u8>,
 ) -> Result<(), Refusal>
-    requires { IsSound (C.stored calculator.old) desk.now }
+    requires { IsSound C.marked (C.stored calculator.old) desk.now }
     ensures step { let old = state_of (C.stored calculator.old) desk.now in
         (records : List ℕ) × (out.new.items ≡ out.old.items ++ records)
         × Serves (λ a. compare_step old (option_copied first.entry) (option_copied second.entry) area ≡ a) result old (state_of (C.stored calculator.new) desk.now) records }

@@ -2,24 +2,23 @@
 
 ghost use Rattle.std.specs.Prelude.{◌≡◌, ◌<◌, ◌≤◌, ℕ, [], ◌∷◌, length, IfOk, OnOk, OnErr};
 ghost use Rattle.std.specs.Map.{keys_of};
-ghost use Rattle.wi_store.specs.Store.{applied, Applies};
-ghost use Rattle.wi_sessions.specs.Roster.{vacant_of};
+ghost use Rattle.wi_store.specs.Store.{applied};
+ghost use Rattle.wi_sessions.specs.Roster.{vacant_of, is_pending_for_all};
 ghost use Rattle.wi_sessions.specs.Sessions.{max_sessions};
 ghost use Rattle.wi_scenarios.specs.Answer.{Serves};
 ghost use Rattle.wi_scenarios.specs.Causes.{no_cause};
 ghost use Rattle.wi_scenarios.specs.Edits.{edit_answer};
 ghost use Rattle.wi_scenarios.specs.Pending.{AddsOnly};
-ghost use Rattle.wi_scenarios.specs.Inner.Held.{state_of, pending_in, edit_in, IsSound};
-ghost use Rattle.wi_scenarios.specs.Inner.Editing.{stale_on, AreMarked, AreAllMarked, HasRooms, SameBeside, Commits};
+ghost use Rattle.wi_scenarios.specs.Inner.Held.{state_of, pending_in, edit_in, IsClosed, IsSound};
+ghost use Rattle.wi_scenarios.specs.Inner.Editing.{stale_on, AreMarked, HasRooms, SameBeside, Commits};
 
 use crate::desk::Desk;
 use crate::refusal::Refusal;
 use std::alloc::{AllocError, Global};
 use wi_edit_log::EditLog;
 use wi_parser::Content;
-use wi_propagate::Calculator;
+use wi_propagate::{Calculator, Watch};
 use wi_sessions::Sessions;
-use wi_store::StoreFault;
 use wi_values::{Address, Rect};
 
 /// The rectangles that an edit names, and what each of some cells gets: a content, or none.
@@ -31,7 +30,8 @@ pub struct Edit {
 
 /// Edits the sheet and notes it in the log; the cells that may show something else then are pending for each session. An edit
 /// that isn't forced is refused as `Stale` where it names a cell that another session has edited since the current one was last
-/// shown what has changed. The work is that of `catch_up`, of `first_stale`, of `mark`, of `apply_marked`, and for each session of the rooms for marked cells.
+/// shown what has changed. The work is that of `catch_up`, of `first_stale`, of `mark_beyond` the cells that are pending for each session,
+/// of `apply`, and for each session of the rooms for marked cells.
 pub(crate) fn apply_edit<C: Calculator>(
     alloc: Global,
     calculator: &mut C,
@@ -39,13 +39,13 @@ pub(crate) fn apply_edit<C: Calculator>(
     edit: Edit,
     force: bool,
 ) -> Result<(), Refusal>
-    requires { IsSound (C.stored calculator.old) desk.old }
+    requires { IsSound C.marked (C.stored calculator.old) desk.old }
     ensures step { let old = state_of (C.stored calculator.old) desk.old in
         Serves (λ a. edit_answer old force no_cause (edit_in edit) ≡ a) result old (state_of (C.stored calculator.new) desk.new) [] }
     ensures adds { AddsOnly C.marked (keys_of edit.contents.items) (state_of (C.stored calculator.old) desk.old)
         (state_of (C.stored calculator.new) desk.new) (pending_in desk.old) (pending_in desk.new) }
     ensures refused { OnErr result (pending_in desk.new ≡ pending_in desk.old) }
-    ensures sound { IsSound (C.stored calculator.new) desk.new }
+    ensures sound { IsSound C.marked (C.stored calculator.new) desk.new }
 {
     desk.log.catch_up(desk.current as u32)?;
     edit_caught_up(alloc, calculator, desk, edit, force)
@@ -59,19 +59,19 @@ fn edit_caught_up<C: Calculator>(
     edit: Edit,
     force: bool,
 ) -> Result<(), Refusal>
-    requires { IsSound (C.stored calculator.old) desk.old }
+    requires { IsSound C.marked (C.stored calculator.old) desk.old }
     ensures step { let old = state_of (C.stored calculator.old) desk.old in
         Serves (λ a. edit_answer old force no_cause (edit_in edit) ≡ a) result old (state_of (C.stored calculator.new) desk.new) [] }
     ensures adds { AddsOnly C.marked (keys_of edit.contents.items) (state_of (C.stored calculator.old) desk.old)
         (state_of (C.stored calculator.new) desk.new) (pending_in desk.old) (pending_in desk.new) }
     ensures refused { OnErr result (pending_in desk.new ≡ pending_in desk.old) }
-    ensures sound { IsSound (C.stored calculator.new) desk.new }
+    ensures sound { IsSound C.marked (C.stored calculator.new) desk.new }
 {
     if let Some(at) = first_stale(desk, &edit.named, force) {
         return Err(Refusal::Stale(at));
     }
-    let marked = marked_by(alloc, calculator, &edit.contents)?;
-    match edit_with_rooms(calculator, desk, edit, marked) {
+    let marked = marked_by(alloc, calculator, &desk.sessions, &edit.contents)?;
+    match edit_with_rooms(calculator, desk, edit, &marked) {
         Ok(()) => {
             desk.sessions.take_all();
             Ok(())
@@ -92,13 +92,13 @@ pub(crate) fn edit_area<C: Calculator>(
     contents: Vec<(Address, Option<Content>)>,
     force: bool,
 ) -> Result<(), Refusal>
-    requires { IsSound (C.stored calculator.old) desk.old }
+    requires { IsSound C.marked (C.stored calculator.old) desk.old }
     ensures step { let old = state_of (C.stored calculator.old) desk.old in
         Serves (λ a. edit_answer old force no_cause (record { named = area ∷ []; contents = contents.items }) ≡ a) result old (state_of (C.stored calculator.new) desk.new) [] }
     ensures adds { AddsOnly C.marked (keys_of contents.items) (state_of (C.stored calculator.old) desk.old)
         (state_of (C.stored calculator.new) desk.new) (pending_in desk.old) (pending_in desk.new) }
     ensures refused { OnErr result (pending_in desk.new ≡ pending_in desk.old) }
-    ensures sound { IsSound (C.stored calculator.new) desk.new }
+    ensures sound { IsSound C.marked (C.stored calculator.new) desk.new }
 {
     let named = vec![in alloc; area]?;
     apply_edit(alloc, calculator, desk, Edit { named, contents }, force)
@@ -117,20 +117,38 @@ fn first_stale(desk: &Desk, named: &[Rect], force: bool) -> Option<Address>
     desk.log.first_stale(desk.current as u32, seen, named)
 }
 
-/// The cells that may show something else once some cells get these contents; for no cell there is none.
+/// The cells that may show something else once some cells get these contents, of those that are pending for each session perhaps not
+/// all; for no cell there is none.
 fn marked_by<C: Calculator>(
     alloc: Global,
     calculator: &C,
+    sessions: &Sessions,
     contents: &[(Address, Option<Content>)],
 ) -> Result<Vec<Address>, AllocError>
-    ensures marked { IfOk result (λ found. AreMarked C.marked (C.stored calculator.now).sheet contents.now found.items) }
-    ensures all { IfOk result (λ found. AreAllMarked C.marked (C.stored calculator.now).sheet contents.now found.items) }
+    requires { IsClosed C.marked (C.stored calculator.now).sheet (is_pending_for_all sessions.now) }
+    ensures { IfOk result (λ found. AreMarked C.marked (C.stored calculator.now).sheet (is_pending_for_all sessions.now) contents.now found.items) }
 {
     if contents.is_empty() {
         return Ok(Vec::new(alloc));
     }
     let cells = addresses(alloc, contents)?;
-    calculator.mark(&cells)
+    calculator.mark_beyond(&cells, &PendingForAll { sessions })
+}
+
+/// The cells that are pending for each session.
+#[derive(Drop)]
+struct PendingForAll<'a> {
+    sessions: &'a Sessions,
+}
+
+impl<'a> Watch for PendingForAll<'a> {
+    ghost use Rattle.wi_sessions.specs.Roster.{is_pending_for_all};
+
+    ghost watched = { λ w. is_pending_for_all w.sessions.now };
+
+    fn has(&self, at: Address) -> bool {
+        self.sessions.all_have(at)
+    }
 }
 
 /// The cells that get contents.
@@ -152,19 +170,18 @@ fn edit_with_rooms<C: Calculator>(
     calculator: &mut C,
     desk: &mut Desk,
     edit: Edit,
-    marked: Vec<Address>,
+    marked: &[Address],
 ) -> Result<(), Refusal>
     requires within { desk.old.current < length desk.old.sessions.sessions }
     requires few { length desk.old.sessions.sessions ≤ max_sessions }
     requires full { (i : ℕ) → vacant_of desk.old.sessions i ≡ [] }
-    requires marked { AreAllMarked C.marked (C.stored calculator.old).sheet edit.contents.items marked.items }
     ensures beside { SameBeside desk.old desk.new }
-    ensures rooms { OnOk result (HasRooms marked.items desk.new.sessions) }
+    ensures rooms { OnOk result (HasRooms marked.now desk.new.sessions) }
     ensures edit { Commits (applied (C.stored calculator.old) edit.contents.items) (record { session = desk.old.current; cells = edit.named.items })
         result (C.stored calculator.old) (C.stored calculator.new) desk.old.log desk.new.log }
 {
-    make_rooms(&mut desk.sessions, &marked)?;
-    commit(calculator, &mut desk.log, desk.current as u32, edit, marked)
+    make_rooms(&mut desk.sessions, marked)?;
+    commit(calculator, &mut desk.log, desk.current as u32, edit)
 }
 
 /// Makes room for cells in the list of each session for which they aren't pending. On an error a part of the rooms may be there.
@@ -186,31 +203,14 @@ fn commit<C: Calculator>(
     log: &mut EditLog,
     session: u32,
     edit: Edit,
-    marked: Vec<Address>,
 ) -> Result<(), Refusal>
-    requires { AreAllMarked C.marked (C.stored calculator.old).sheet edit.contents.items marked.items }
     ensures { Commits (applied (C.stored calculator.old) edit.contents.items) (record { session = session; cells = edit.named.items })
         result (C.stored calculator.old) (C.stored calculator.new) log.old log.new }
 {
     log.add(session, edit.named)?;
-    let done = apply_over_marked(calculator, edit.contents, marked);
+    let done = calculator.apply(edit.contents);
     if done.is_err() {
         log.take_back();
     }
     Ok(done?)
-}
-
-/// Edits the sheet, where the cells are at hand that are marked for the edited ones.
-fn apply_over_marked<C: Calculator>(
-    calculator: &mut C,
-    contents: Vec<(Address, Option<Content>)>,
-    marked: Vec<Address>,
-) -> Result<(), StoreFault>
-    requires { AreAllMarked C.marked (C.stored calculator.old).sheet contents.items marked.items }
-    ensures { Applies (applied (C.stored calculator.old) contents.items) result (C.stored calculator.old) (C.stored calculator.new) }
-{
-    if contents.is_empty() {
-        return calculator.apply(contents);
-    }
-    calculator.apply_marked(contents, marked)
 }

@@ -22,7 +22,7 @@ pub(crate) fn export<C: Calculator>(
     area: Rect,
     out: &mut Vec<u8>,
 ) -> Result<(), Refusal>
-    requires { IsSound (C.stored calculator.old) desk.now }
+    requires { IsSound C.marked (C.stored calculator.old) desk.now }
     ensures step { let old = state_of (C.stored calculator.old) desk.now in
         (records : List ℕ) × (out.new.items ≡ out.old.items ++ records)
         × Serves (λ a. export_step old area ≡ a) result old (state_of (C.stored calculator.new) desk.now) records }

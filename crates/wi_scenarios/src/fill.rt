@@ -31,13 +31,13 @@ pub(crate) fn fill<C: Calculator>(
     area: Rect,
     force: bool,
 ) -> Result<(), Refusal>
-    requires { IsSound (C.stored calculator.old) desk.old }
+    requires { IsSound C.marked (C.stored calculator.old) desk.old }
     ensures step { let old = state_of (C.stored calculator.old) desk.old in
         Serves (λ a. fill_step old force from area ≡ a) result old (state_of (C.stored calculator.new) desk.new) [] }
     ensures adds { AddsOnly C.marked (cells_of area) (state_of (C.stored calculator.old) desk.old)
         (state_of (C.stored calculator.new) desk.new) (pending_in desk.old) (pending_in desk.new) }
     ensures refused { OnErr result (pending_in desk.new ≡ pending_in desk.old) }
-    ensures sound { IsSound (C.stored calculator.new) desk.new }
+    ensures sound { IsSound C.marked (C.stored calculator.new) desk.new }
 {
     if area.size() > MAX_AREA {
         return Err(Refusal::TooLarge);

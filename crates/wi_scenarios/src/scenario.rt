@@ -26,13 +26,13 @@ pub(crate) fn put<C: Calculator>(
     at: Address,
     content: &str,
 ) -> Result<(), Refusal>
-    requires { IsSound (C.stored calculator.now) desk.old }
+    requires { IsSound C.marked (C.stored calculator.now) desk.old }
     ensures step { let old = state_of (C.stored calculator.now) desk.old in
         Serves (IsScenarioStep old name.now at content.now) result old (state_of (C.stored calculator.now) desk.new) [] }
     ensures adds { AddsOnly C.marked ([]) (state_of (C.stored calculator.now) desk.old)
         (state_of (C.stored calculator.now) desk.new) (pending_in desk.old) (pending_in desk.new) }
     ensures refused { OnErr result (pending_in desk.new ≡ pending_in desk.old) }
-    ensures sound { IsSound (C.stored calculator.now) desk.new }
+    ensures sound { IsSound C.marked (C.stored calculator.now) desk.new }
 {
     if content.is_empty() {
         return take_away(alloc, calculator, desk, name, at);
@@ -49,13 +49,13 @@ fn put_text<C: Calculator>(
     at: Address,
     text: &str,
 ) -> Result<(), Refusal>
-    requires { IsSound (C.stored calculator.now) desk.old }
+    requires { IsSound C.marked (C.stored calculator.now) desk.old }
     ensures step { let old = state_of (C.stored calculator.now) desk.old in
         Serves (λ a. put_answer old name.now at (imported text.now) ≡ a) result old (state_of (C.stored calculator.now) desk.new) [] }
     ensures adds { AddsOnly C.marked ([]) (state_of (C.stored calculator.now) desk.old)
         (state_of (C.stored calculator.now) desk.new) (pending_in desk.old) (pending_in desk.new) }
     ensures refused { OnErr result (pending_in desk.new ≡ pending_in desk.old) }
-    ensures sound { IsSound (C.stored calculator.now) desk.new }
+    ensures sound { IsSound C.marked (C.stored calculator.now) desk.new }
 {
     if desk.scenarios.is_full(name, at) {
         return Err(Refusal::TooMany);
@@ -74,13 +74,13 @@ pub(crate) fn take_away<C: Calculator>(
     name: &str,
     at: Address,
 ) -> Result<(), Refusal>
-    requires { IsSound (C.stored calculator.now) desk.old }
+    requires { IsSound C.marked (C.stored calculator.now) desk.old }
     ensures step { let old = state_of (C.stored calculator.now) desk.old in
         Serves (λ a. take_away_step old name.now at ≡ a) result old (state_of (C.stored calculator.now) desk.new) [] }
     ensures adds { AddsOnly C.marked ([]) (state_of (C.stored calculator.now) desk.old)
         (state_of (C.stored calculator.now) desk.new) (pending_in desk.old) (pending_in desk.new) }
     ensures refused { OnErr result (pending_in desk.new ≡ pending_in desk.old) }
-    ensures sound { IsSound (C.stored calculator.now) desk.new }
+    ensures sound { IsSound C.marked (C.stored calculator.now) desk.new }
 {
     if !desk.scenarios.contains(name) {
         return Err(Refusal::NoScenario);

@@ -1,6 +1,7 @@
 //! The command `as`: makes a session current.
 
 ghost use Rattle.std.specs.Prelude.{◌≡◌, ◌≢◌, ◌<◌, ◌∷◌, ◌++◌, ℕ, List, [], true, false, length, Err, IfOk, OnOk, OnErr};
+ghost use Rattle.wi_sessions.specs.Pictures.Laws.{is_listed};
 ghost use Rattle.wi_sessions.specs.Sessions.{has_session, new_session, max_sessions};
 ghost use Rattle.wi_scenarios.specs.declared.refusal.Refusal.TheVariants.{Memory};
 ghost use Rattle.wi_scenarios.specs.Answer.{Serves};
@@ -8,7 +9,7 @@ ghost use Rattle.wi_scenarios.specs.As.{as_step};
 ghost use Rattle.wi_sessions.specs.Roster.{SameCells};
 ghost use Rattle.wi_scenarios.specs.State.{state_over};
 ghost use Rattle.wi_scenarios.specs.Pending.{HasNewSession, occupied_cells};
-ghost use Rattle.wi_scenarios.specs.Inner.Held.{state_of, pending_in, IsSound};
+ghost use Rattle.wi_scenarios.specs.Inner.Held.{state_of, pending_in, IsClosed, IsSound};
 
 use crate::desk::Desk;
 use crate::refusal::Refusal;
@@ -27,10 +28,10 @@ pub(crate) fn session<C: Calculator>(
     desk: &mut Desk,
     name: &str,
 ) -> Result<(), Refusal>
-    requires { IsSound (C.stored calculator.now) desk.old }
+    requires { IsSound C.marked (C.stored calculator.now) desk.old }
     ensures step { let old = state_of (C.stored calculator.now) desk.old in
         Serves (λ a. as_step old name.now ≡ a) result old (state_of (C.stored calculator.now) desk.new) [] }
-    ensures sound { IsSound (C.stored calculator.now) desk.new }
+    ensures sound { IsSound C.marked (C.stored calculator.now) desk.new }
     ensures there { has_session desk.old.sessions.sessions name.now ≡ true → pending_in desk.new ≡ pending_in desk.old }
     ensures made { has_session desk.old.sessions.sessions name.now ≡ false
         → OnOk result (HasNewSession (C.stored calculator.now).sheet (pending_in desk.old) (pending_in desk.new)) }
@@ -55,14 +56,14 @@ fn add<C: Calculator>(
     desk: &mut Desk,
     name: &str,
 ) -> Result<(), AllocError>
-    requires sound { IsSound (C.stored calculator.now) desk.old }
+    requires sound { IsSound C.marked (C.stored calculator.now) desk.old }
     requires few { length desk.old.sessions.sessions < max_sessions }
     ensures state { let old = state_of (C.stored calculator.now) desk.old in
         OnOk result (state_of (C.stored calculator.now) desk.new
         ≡ record old { sessions = old.sessions ++ new_session name.now ∷ []; current = length old.sessions }) }
     ensures kept { OnErr result (desk.new ≡ desk.old) }
     ensures made { OnOk result (HasNewSession (C.stored calculator.now).sheet (pending_in desk.old) (pending_in desk.new)) }
-    ensures sound { IsSound (C.stored calculator.now) desk.new }
+    ensures sound { IsSound C.marked (C.stored calculator.now) desk.new }
 {
     let cells = occupied(alloc, calculator)?;
     let place = desk.sessions.len();
@@ -71,10 +72,12 @@ fn add<C: Calculator>(
     Ok(())
 }
 
-/// The occupied cells of the sheet.
+/// The occupied cells of the sheet, among which is each that one of them marks.
 fn occupied<C: Calculator>(alloc: Global, calculator: &C) -> Result<Vec<Address>, AllocError>
-    ensures { IfOk result (λ cells. cells.items ≡ occupied_cells (C.stored calculator.now).sheet) }
+    ensures cells { IfOk result (λ cells. cells.items ≡ occupied_cells (C.stored calculator.now).sheet) }
+    ensures closed { let sheet = (C.stored calculator.now).sheet in IsClosed C.marked sheet (is_listed (occupied_cells sheet)) }
 {
+    calculator.cells_lie_in_the_sheet();
     let first = Address::at(0, 0);
     let last = Address::at(ROWS - 1, COLUMNS - 1);
     occupied_in(alloc, calculator, Rect::new(first, last))
@@ -86,7 +89,7 @@ pub(crate) fn new_desk<C: Calculator>(alloc: Global, calculator: &C) -> Result<D
     ensures state { let stored = C.stored calculator.now in IfOk result (λ desk. state_of stored desk ≡ state_over stored) }
     ensures pending { let sheet = (C.stored calculator.now).sheet in
         IfOk result (λ desk. (cells : List ℕ) × (pending_in desk ≡ cells ∷ []) × SameCells cells (occupied_cells sheet)) }
-    ensures sound { IfOk result (λ desk. IsSound (C.stored calculator.now) desk) }
+    ensures sound { IfOk result (λ desk. IsSound C.marked (C.stored calculator.now) desk) }
 {
     let cells = occupied(alloc, calculator)?;
     let sessions = Sessions::new(alloc, "main", &cells)?;

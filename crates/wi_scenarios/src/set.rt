@@ -23,13 +23,13 @@ pub(crate) fn set<C: Calculator>(
     content: &str,
     force: bool,
 ) -> Result<(), Refusal>
-    requires { IsSound (C.stored calculator.old) desk.old }
+    requires { IsSound C.marked (C.stored calculator.old) desk.old }
     ensures step { let old = state_of (C.stored calculator.old) desk.old in
         Serves (IsSetStep old force at content.now) result old (state_of (C.stored calculator.new) desk.new) [] }
     ensures adds { AddsOnly C.marked (at ∷ []) (state_of (C.stored calculator.old) desk.old)
         (state_of (C.stored calculator.new) desk.new) (pending_in desk.old) (pending_in desk.new) }
     ensures refused { OnErr result (pending_in desk.new ≡ pending_in desk.old) }
-    ensures sound { IsSound (C.stored calculator.new) desk.new }
+    ensures sound { IsSound C.marked (C.stored calculator.new) desk.new }
 {
     if content.is_empty() {
         return Err(Refusal::BadCommand);

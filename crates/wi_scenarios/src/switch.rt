@@ -96,14 +96,14 @@ pub(crate) fn switch_to<C: Calculator>(
     desk: &mut Desk,
     next: Scenarios,
 ) -> Result<(), AllocError>
-    requires { IsSound (C.stored calculator.now) desk.old }
+    requires { IsSound C.marked (C.stored calculator.now) desk.old }
     ensures state { let old = state_of (C.stored calculator.now) desk.old in
         OnOk result (state_of (C.stored calculator.now) desk.new ≡ record old { scenarios = next }) }
     ensures kept { OnErr result (state_of (C.stored calculator.now) desk.new ≡ state_of (C.stored calculator.now) desk.old) }
     ensures adds { AddsOnly C.marked ([]) (state_of (C.stored calculator.now) desk.old)
         (state_of (C.stored calculator.now) desk.new) (pending_in desk.old) (pending_in desk.new) }
     ensures refused { OnErr result (pending_in desk.new ≡ pending_in desk.old) }
-    ensures sound { IsSound (C.stored calculator.now) desk.new }
+    ensures sound { IsSound C.marked (C.stored calculator.now) desk.new }
 {
     match make_room_for_each(
         alloc,

@@ -27,14 +27,14 @@ pub(crate) fn use_scenario<C: Calculator>(
     desk: &mut Desk,
     name: Option<&str>,
 ) -> Result<(), Refusal>
-    requires { IsSound (C.stored calculator.now) desk.old }
+    requires { IsSound C.marked (C.stored calculator.now) desk.old }
     ensures step { let old = state_of (C.stored calculator.now) desk.old in
         Serves (λ a. use_step old (option_copied name.entry) ≡ a) result old (state_of (C.stored calculator.now) desk.new) [] }
     ensures adds { AddsOnly C.marked ([]) (state_of (C.stored calculator.now) desk.old)
         (state_of (C.stored calculator.now) desk.new) (pending_in desk.old) (pending_in desk.new) }
     ensures others { SameForOthers desk.old.current (pending_in desk.old) (pending_in desk.new) }
     ensures refused { OnErr result (pending_in desk.new ≡ pending_in desk.old) }
-    ensures sound { IsSound (C.stored calculator.now) desk.new }
+    ensures sound { IsSound C.marked (C.stored calculator.now) desk.new }
 {
     if is_missing(&desk.scenarios, name) {
         return Err(Refusal::NoScenario);
@@ -52,7 +52,7 @@ fn use_in_current<C: Calculator>(
     name: Option<&str>,
     used: Option<String>,
 ) -> Result<(), AllocError>
-    requires sound { IsSound (C.stored calculator.now) desk.old }
+    requires sound { IsSound C.marked (C.stored calculator.now) desk.old }
     requires named { option_map string_bytes used ≡ option_copied name }
     ensures state { let old = state_of (C.stored calculator.now) desk.old in
         OnOk result (state_of (C.stored calculator.now) desk.new ≡ with_current old (using_scenario (current_session old) (option_copied name.entry))) }
@@ -61,7 +61,7 @@ fn use_in_current<C: Calculator>(
         (state_of (C.stored calculator.now) desk.new) (pending_in desk.old) (pending_in desk.new) }
     ensures others { SameForOthers desk.old.current (pending_in desk.old) (pending_in desk.new) }
     ensures refused { OnErr result (pending_in desk.new ≡ pending_in desk.old) }
-    ensures sound { IsSound (C.stored calculator.now) desk.new }
+    ensures sound { IsSound C.marked (C.stored calculator.now) desk.new }
 {
     match make_room_for_current(alloc, calculator, desk, name) {
         Ok(()) => {

@@ -64,7 +64,7 @@ impl<C: Calculator> Model for Workbook<C> {
 
     ghost view = { λ w. book_of (C.stored w.calculator) (C.evaluated w.calculator) (C.restarted w.calculator) w.desk };
 
-    ghost invariant = { λ w. IsSound (C.stored w.calculator) w.desk };
+    ghost invariant = { λ w. IsSound C.marked (C.stored w.calculator) w.desk };
 }
 
 /// The texts of names.

@@ -1,13 +1,11 @@
 -- What an edit of the sheet finds on its way, step by step.
-use Rattle.std.specs.Prelude.{◌≡◌, ℕ, ◌<◌, Bool, true, false, not, ◌&&◌, if◌then◌else◌, List, [], ◌∷◌, ◌++◌, length, map, Option, Some, None, Result, Ok, Err}
+use Rattle.std.specs.Prelude.{◌≡◌, ℕ, ◌<◌, ◌⊎◌, Bool, true, not, ◌&&◌, if◌then◌else◌, List, [], ◌∷◌, ◌++◌, length, Option, Some, None, Result, Ok, Err}
 use Rattle.std.specs.Map.{keys_of}
 use Rattle.wi_values.specs.Address.{Area}
-use Rattle.wi_values.specs.declared.replacement.Replacement.{Replacement}
 use Rattle.wi_parser.specs.declared.content.Content.{Content}
 use Rattle.wi_parser.specs.Sheet.{Sheet}
 use Rattle.wi_store.specs.declared.fault.StoreFault.{StoreFault}
-use Rattle.wi_store.specs.Store.{Stored, edited, change_without_empty}
-use Rattle.wi_sheet.specs.Shown.{shown}
+use Rattle.wi_store.specs.Store.{Stored}
 use Rattle.wi_edit_log.specs.EditLog.{Entry, first_stale}
 use Rattle.wi_sessions.specs.Pictures.Laws.{is_listed}
 use Rattle.wi_sessions.specs.Roster.{Roster, session_at, pending_of, vacant_of}
@@ -20,16 +18,10 @@ use Rattle.wi_scenarios.specs.Edits.{limit_of}
 abbrev pub stale_on : Desk → Bool → List Area → Option ℕ
 stale_on d force named = if force then None else first_stale d.log d.current (session_at d.sessions d.current).seen named
 
--- Cells that are marked for the edited ones, of which there is one at least then. Each other cell shows the same after the edit,
--- under whatever replacements.
-pub record AreMarked (marked : Sheet → List ℕ → ℕ → Bool) (sheet : Sheet) (contents : List (ℕ × Option Content)) (found : List ℕ) : Type 0 where
+-- Cells that are marked for the edited ones, of which there is one at least then, and among them all those that don't pass the test.
+pub record AreMarked (marked : Sheet → List ℕ → ℕ → Bool) (sheet : Sheet) (test : ℕ → Bool) (contents : List (ℕ × Option Content)) (found : List ℕ) : Type 0 where
   pub only : (a : ℕ) → is_listed found a ≡ true → (0 < length contents) × (marked sheet (keys_of contents) a ≡ true)
-  pub unmoved : (a : ℕ) (p : List Replacement) → is_listed found a ≡ false → shown (edited sheet (map change_without_empty contents)) p a ≡ shown sheet p a
-
--- they are exactly those, where there is an edited cell
-abbrev pub AreAllMarked : (Sheet → List ℕ → ℕ → Bool) → Sheet → List (ℕ × Option Content) → List ℕ → Type 0
-AreAllMarked marked sheet contents found =
-    0 < length contents → (a : ℕ) → is_listed found a ≡ marked sheet (keys_of contents) a
+  pub others : 0 < length contents → (a : ℕ) → marked sheet (keys_of contents) a ≡ true → (is_listed found a ≡ true) ⊎ (test a ≡ true)
 
 -- in the list of each session there is room for those of the cells that aren't pending for it, and for no other
 abbrev pub HasRooms : List ℕ → Roster → Type 0

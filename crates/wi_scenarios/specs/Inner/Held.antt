@@ -1,5 +1,6 @@
 -- What the fields of a workbook stand for, and what holds of them between commands.
-use Rattle.std.specs.Prelude.{◌≡◌, ℕ, ◌<◌, ◌≤◌, false, List, [], length}
+use Rattle.std.specs.Prelude.{◌≡◌, ℕ, ◌<◌, ◌≤◌, Bool, true, false, List, [], ◌∷◌, length}
+use Rattle.wi_parser.specs.Sheet.{Sheet}
 use Rattle.wi_store.specs.Store.{Stored}
 use Rattle.wi_sessions.specs.Pictures.{value_in, sheet_size}
 use Rattle.wi_sessions.specs.Roster.{vacant_of}
@@ -31,13 +32,21 @@ IsUpToDate s pending i =
 abbrev pub AreCovered : State → List (List ℕ) → Type 0
 AreCovered s pending = (i : ℕ) → i < length s.sessions → IsUpToDate s pending i
 
--- The current session is one of the sessions, of which there are no more than may be; each has its pending cells, no vacant room,
--- and a picture that is right in all other cells.
-pub record IsSound (stored : Stored) (d : Desk) : Type 0 where
+-- with each cell that passes the test those pass that it marks
+abbrev pub IsClosed : (Sheet → List ℕ → ℕ → Bool) → Sheet → (ℕ → Bool) → Type 0
+IsClosed marked sheet test = (a c : ℕ) → test a ≡ true → marked sheet (a ∷ []) c ≡ true → test c ≡ true
+
+abbrev pub AreClosed : (Sheet → List ℕ → ℕ → Bool) → State → List (List ℕ) → Type 0
+AreClosed marked s pending = (i : ℕ) → i < length s.sessions → IsClosed marked s.stored.sheet (is_pending pending i)
+
+-- The current session is one of the sessions, of which there are no more than may be; each has its pending cells, with each of them
+-- those that it marks, no vacant room, and a picture that is right in all other cells.
+pub record IsSound (marked : Sheet → List ℕ → ℕ → Bool) (stored : Stored) (d : Desk) : Type 0 where
   pub within : d.current < length d.sessions.sessions
   pub few : length d.sessions.sessions ≤ max_sessions
   pub each : length d.sessions.pending ≡ length d.sessions.sessions
   pub full : (i : ℕ) → vacant_of d.sessions i ≡ []
+  pub closed : AreClosed marked (state_of stored d) (pending_in d)
   pub covered : AreCovered (state_of stored d) (pending_in d)
 
 -- an edit, as the definitions see it

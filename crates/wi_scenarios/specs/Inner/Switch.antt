@@ -1,5 +1,5 @@
 -- What there is room for where a scenario that puts in something else takes the place of one.
-use Rattle.std.specs.Prelude.{◌≡◌, ◌≢◌, ℕ, Bool, true, false, List, not, filter, map, Option, Some, None}
+use Rattle.std.specs.Prelude.{◌≡◌, ◌≢◌, ◌||◌, ℕ, Bool, true, false, List, [], ◌∷◌, not, filter, map, Option, Some, None}
 use Rattle.wi_values.specs.declared.value.Value.{Value}
 use Rattle.wi_values.specs.declared.replacement.Replacement.{Replacement}
 use Rattle.wi_values.specs.Replacements.{replaced}
@@ -32,10 +32,11 @@ pub record AreDiffering (before after : List Replacement) (cells : List ℕ) : T
   pub each : (a : ℕ) → is_listed cells a ≡ true → Differs before after a
   pub others : (a : ℕ) → is_listed cells a ≡ false → replaced before a ≡ replaced after a
 
--- There is room for cells alone that are marked for some whose replacement is another. A cell that is neither one of them nor
--- pending shows the same.
+-- There is room for cells alone that are marked for some whose replacement is another, and with each of them for those that it marks, where
+-- they aren't pending. A cell that is neither one of them nor pending shows the same.
 pub record HasRoom (marked : Sheet → List ℕ → ℕ → Bool) (sheet : Sheet) (before after : List Replacement) (pending vacant : List ℕ) : Type 0 where
   pub marks : (a : ℕ) → is_listed vacant a ≡ true → IsMarked marked sheet (Differs before after) a
+  pub further : (a c : ℕ) → is_listed vacant a ≡ true → marked sheet (a ∷ []) c ≡ true → (is_listed pending c || is_listed vacant c) ≡ true
   pub others : (a : ℕ) → is_listed pending a ≡ false → is_listed vacant a ≡ false → shown sheet before a ≡ shown sheet after a
 
 -- the same of the i-th session, where other scenarios take the place of all

@@ -11,7 +11,7 @@ use Rattle.wi_scenarios.proofs.edit.apply_edit.Goals as goal
 
 pub edit_caught_up-requires : goal.edit_caught_up-requires
 edit_caught_up-requires g c =
-    subst (IsSound (g.C.Calculator.stored c.args.calculator.now)) (sym (same_log c.args.desk.now c.catch_up.new.self c.catch_up.ensures)) c.requires
+    subst (IsSound g.C.Calculator.marked (g.C.Calculator.stored c.args.calculator.now)) (sym (same_log c.args.desk.now c.catch_up.new.self c.catch_up.ensures)) c.requires
 
 pub returns-in_err-catch_up-clause-step : goal.returns-in_err-catch_up-clause-step
 returns-in_err-catch_up-clause-step g c =
@@ -28,7 +28,7 @@ returns-in_err-catch_up-clause-adds g c =
 
 pub returns-in_err-catch_up-clause-sound : goal.returns-in_err-catch_up-clause-sound
 returns-in_err-catch_up-clause-sound g c =
-    subst (IsSound (g.C.Calculator.stored c.args.calculator.now)) (sym (same_log c.args.desk.now c.catch_up.new.self c.catch_up.ensures)) c.requires
+    subst (IsSound g.C.Calculator.marked (g.C.Calculator.stored c.args.calculator.now)) (sym (same_log c.args.desk.now c.catch_up.new.self c.catch_up.ensures)) c.requires
 
 pub returns-clause-step : goal.returns-clause-step
 returns-clause-step g c =

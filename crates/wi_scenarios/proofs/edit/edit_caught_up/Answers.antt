@@ -1,11 +1,11 @@
 use Rattle.std.proofs.Common.{◌∙◌, Ok, rules}
+use Rattle.wi_sessions.specs.Roster.{is_pending_for_all}
 use Rattle.wi_scenarios.specs.Inner.Held.{state_of, edit_in}
-use Rattle.wi_scenarios.proofs.EditLemmas.{marked_as, all_as, AreTaken, edit_served, sound_taken, adds_taken}
+use Rattle.wi_scenarios.proofs.EditLemmas.{closed_for_all, marked_as, AreTaken, edit_served, sound_taken, adds_taken}
 use Rattle.wi_scenarios.proofs.edit.edit_caught_up.Goals as goal
 
-pub edit_with_rooms-requires-clause-marked : goal.edit_with_rooms-requires-clause-marked
-edit_with_rooms-requires-clause-marked g c =
-    all_as g.C.Calculator.marked (g.C.Calculator.stored c.args.calculator.now).sheet c.args.edit.contents.items c.deref-2.result.now c.in_ok-marked.marked.items _ c.deref-2.ensures.value (search rules) c.in_ok-marked.ensures.all
+pub marked_by-requires : goal.marked_by-requires
+marked_by-requires g c = closed_for_all g.C.Calculator.marked (g.C.Calculator.stored c.args.calculator.now) c.args.desk.now c.requires
 
 pub returns-in-Ok-clause-step : goal.returns-in-Ok-clause-step
 returns-in-Ok-clause-step g c =
@@ -25,9 +25,10 @@ returns-in-Ok-clause-adds g c =
       pending = c.take_all.ensures.pending;
       vacant = c.take_all.ensures.vacant;
     } in
-    adds_taken g.C.Calculator.marked old new c.args.desk.now c.edit_with_rooms.new.desk c.take_all.new.self c.args.edit.contents.items _
+    adds_taken g.C.Calculator.marked g.met.C.Calculator.marks old new c.args.desk.now c.edit_with_rooms.new.desk c.take_all.new.self c.args.edit.contents.items _
     c.requires c.in-Ok.ensures.beside
-    (marked_as g.C.Calculator.marked old.sheet c.args.edit.contents.items c.deref-2.result.now c.in_ok-marked.marked.items _ c.deref-2.ensures.value (search rules) c.in_ok-marked.ensures.marked)
+    (marked_as g.C.Calculator.marked old.sheet (is_pending_for_all c.args.desk.now.sessions) c.args.edit.contents.items c.deref-2.result.now c.in_ok-marked.marked.items c.deref-3.result.now
+    c.deref-2.ensures.value c.deref-3.ensures.value c.in_ok-marked.ensures)
     c.in-Ok.ensures.rooms taken
 
 pub returns-in-Ok-clause-sound : goal.returns-in-Ok-clause-sound
@@ -40,7 +41,8 @@ returns-in-Ok-clause-sound g c =
       pending = c.take_all.ensures.pending;
       vacant = c.take_all.ensures.vacant;
     } in
-    sound_taken g.C.Calculator.marked old new c.args.desk.now c.edit_with_rooms.new.desk c.take_all.new.self c.args.edit.contents.items _
+    sound_taken g.C.Calculator.marked g.met.C.Calculator.marks old new c.args.desk.now c.edit_with_rooms.new.desk c.take_all.new.self c.args.edit.contents.items _
     c.requires c.in-Ok.ensures.beside
-    (marked_as g.C.Calculator.marked old.sheet c.args.edit.contents.items c.deref-2.result.now c.in_ok-marked.marked.items _ c.deref-2.ensures.value (search rules) c.in_ok-marked.ensures.marked)
+    (marked_as g.C.Calculator.marked old.sheet (is_pending_for_all c.args.desk.now.sessions) c.args.edit.contents.items c.deref-2.result.now c.in_ok-marked.marked.items c.deref-3.result.now
+    c.deref-2.ensures.value c.deref-3.ensures.value c.in_ok-marked.ensures)
     c.in-Ok.ensures.rooms taken c.in-Ok.ensures.edit.0

@@ -1,31 +1,20 @@
-use Rattle.std.proofs.Common.{◌∙◌, length, sym, subst}
-use Rattle.std.proofs.lemmas.Result.{IfOk-weaker}
-use Rattle.wi_scenarios.specs.Inner.Editing.{AreMarked}
-use Rattle.wi_scenarios.proofs.EditLemmas.{none_marked, none_lacks, some_marked, all_marked, is_none, is_one, if_ok_both}
+use Rattle.std.proofs.Common.{◌∙◌, length}
+use Rattle.wi_sessions.specs.Roster.{is_pending_for_all}
+use Rattle.wi_scenarios.proofs.EditLemmas.{none_marked, some_marked, is_none, is_one, if_ok_both}
 use Rattle.wi_scenarios.proofs.edit.marked_by.Goals as goal
 
-pub returns-then-is_empty-clause-marked : goal.returns-then-is_empty-clause-marked
-returns-then-is_empty-clause-marked g c =
-    let contents = c.args.contents.now in
-    let sheet = (g.C.Calculator.stored c.args.calculator.now).sheet in
-    subst (AreMarked g.C.Calculator.marked sheet contents) (sym c.new.ensures.items)
-    (none_marked g.C.Calculator.marked sheet contents (is_none c.is_empty.result (length contents) c.is_empty.ensures c.if-is_empty.true))
+pub mark_beyond-requires : goal.mark_beyond-requires
+mark_beyond-requires g c = c.requires
 
-pub returns-then-is_empty-clause-all : goal.returns-then-is_empty-clause-all
-returns-then-is_empty-clause-all g c =
+pub returns-then-is_empty : goal.returns-then-is_empty
+returns-then-is_empty g c =
     let contents = c.args.contents.now in
-    none_lacks g.C.Calculator.marked (g.C.Calculator.stored c.args.calculator.now).sheet contents c.new.result.items (is_none c.is_empty.result (length contents) c.is_empty.ensures c.if-is_empty.true)
+    none_marked g.C.Calculator.marked (g.C.Calculator.stored c.args.calculator.now).sheet (is_pending_for_all c.args.sessions.now) contents c.new.result.items
+    (is_none c.is_empty.result (length contents) c.is_empty.ensures c.if-is_empty.true) c.new.ensures.items
 
-pub returns-clause-marked : goal.returns-clause-marked
-returns-clause-marked g c =
+pub returns : goal.returns
+returns g c =
     let contents = c.args.contents.now in
-    let sheet = (g.C.Calculator.stored c.args.calculator.now).sheet in
-    if_ok_both _ _ _ c.mark.result
-    (λ found m u. some_marked g.C.Calculator.marked sheet contents c.deref.result.now found.items
-    (is_one c.is_empty.result (length contents) c.is_empty.ensures c.if-is_empty.false) (c.deref.ensures.value ∙ c.in_ok-cells.ensures) m u) c.mark.ensures.marked c.mark.ensures.unmoved
-
-pub returns-clause-all : goal.returns-clause-all
-returns-clause-all g c =
-    let contents = c.args.contents.now in
-    let sheet = (g.C.Calculator.stored c.args.calculator.now).sheet in
-    IfOk-weaker c.mark.result _ _ (λ found m. all_marked g.C.Calculator.marked sheet contents c.deref.result.now found.items (c.deref.ensures.value ∙ c.in_ok-cells.ensures) m) c.mark.ensures.marked
+    if_ok_both _ _ _ c.mark_beyond.result
+    (λ found m o. some_marked g.C.Calculator.marked (g.C.Calculator.stored c.args.calculator.now).sheet (is_pending_for_all c.args.sessions.now) contents c.deref.result.now found.items
+    (is_one c.is_empty.result (length contents) c.is_empty.ensures c.if-is_empty.false) (c.deref.ensures.value ∙ c.in_ok-cells.ensures) m o) c.mark_beyond.ensures.marked c.mark_beyond.ensures.others

@@ -11,9 +11,9 @@ returns-clause-state g c =
 pub returns-clause-made : goal.returns-clause-made
 returns-clause-made g c =
     let new = c.in_ok-push.ensures.pending in
-    (new.0, search rules, λ a. new.2 a ∙ ap (λ (xs : List ℕ). is_listed xs a) (c.deref.ensures.value ∙ c.in_ok-cells.ensures))
+    (new.0, search rules, λ a. new.2 a ∙ ap (λ (xs : List ℕ). is_listed xs a) (c.deref.ensures.value ∙ c.in_ok-cells.ensures.cells))
 
 pub returns-clause-sound : goal.returns-clause-sound
 returns-clause-sound g c =
     sound_new (g.C.Calculator.stored c.args.calculator.now) c.args.desk.now _ c.len-place.result c.args.name.now c.deref.result.now c.in_ok-push.ensures.pending.0 c.requires.few c.len-place.ensures
-    (search rules) (search rules) c.in_ok-push.ensures.pending.2 (c.deref.ensures.value ∙ c.in_ok-cells.ensures) (search rules) c.requires.sound
+    (search rules) (search rules) c.in_ok-push.ensures.pending.2 (c.deref.ensures.value ∙ c.in_ok-cells.ensures.cells) c.in_ok-cells.ensures.closed (search rules) c.requires.sound

@@ -19,8 +19,8 @@ returns-clause-room g c =
     let some : 0 < length cells = grind (arith, common_steps) in
     let sessions = c.args.sessions.now in
     on_ok_weaker c.make_room.result
-    (λ room. room_marked g.C.Calculator.marked (g.C.Calculator.stored c.args.calculator.now).sheet c.args.before.now c.args.after.now
+    (λ room. room_marked g.C.Calculator.marked g.met.C.Calculator.marks (g.C.Calculator.stored c.args.calculator.now).sheet c.args.before.now c.args.after.now
     cells c.deref.result.now c.in_ok-marked.marked.items c.deref-2.result.now (pending_of sessions c.args.i) (vacant_of sessions c.args.i) (vacant_of c.make_room.new.self c.args.i)
     c.requires.before c.requires.after c.in_ok-cells.ensures c.deref.ensures.value some c.requires.none
-    c.in_ok-marked.ensures.marked c.in_ok-marked.ensures.unmoved c.deref-2.ensures.value room)
+    c.in_ok-marked.ensures.marked c.deref-2.ensures.value room)
     c.make_room.ensures.room
