@@ -37,8 +37,7 @@ abbrev pub state_after : State → List Event → State
 state_after s [] = s
 state_after s (e ∷ es) = state_after (left_by s e.answer) es
 
--- Commands and the bytes that they have for replies are events: each has an answer that it may have, whose reply stands there, and
--- the state that they leave is this one.
+-- Events of these commands may follow one another from s; their replies are these bytes, and they leave this state.
 pub record AreEvents (s : State) (cs : List Command) (out : Bytes) (t : State) : Type 0 where
   pub events : List Event
   pub follow : MayFollow s events
@@ -60,7 +59,7 @@ KeepsApart s e i = i < length s.sessions → i ≢ s.current → session_at (lef
 abbrev pub KeepsChains : State → List Event → Type 0
 KeepsChains s es = HasChains s.scenarios → MayFollow s es → HasChains (state_after s es).scenarios
 
--- what `chain_of` gives is the chain
+-- where the scenarios have chains, what `chain_of` gives is the chain
 abbrev pub GivesChain : State → Option Bytes → Type 0
 GivesChain s name = HasChains s.scenarios → IsChain s.scenarios (scenario_of s.scenarios name) (chain_of s.scenarios name).0
 

@@ -17,7 +17,7 @@ IsWithin line = length (without_lf line) ≤ max_line
 abbrev pub IsGood : Bytes → Type 0
 IsGood line = IsWithin line × IsUtf8 (text_of line)
 
--- within the limit, and written as a `csv` with any second word
+-- within the limit, written as `csv`, any second word and n
 abbrev pub Asks : Bytes → ℕ → Type 0
 Asks line n = IsWithin line × ((force : Bool) × (at : Option Cell) × IsWritten (text_of line) (form (Csv force at n [])))
 

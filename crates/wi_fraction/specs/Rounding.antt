@@ -22,7 +22,7 @@ rounded_size Toward n d = n / d
 unfoldable pub floored : Number → Number
 floored x = unwrap_or (number_of (floor_of x.num x.den) 1) x
 
--- the same, with the sign of x
+-- x rounded to a whole number as the mode says; it fits, as x does
 unfoldable pub rounded : Mode → Number → Number
 rounded m x = unwrap_or (number_of (signed (int_lt x.num (pos 0)) (rounded_size m (unsigned_abs x.num) x.den)) 1) x
 

@@ -31,7 +31,7 @@ abbrev pub area_of_record : ℕ → ℕ → List (List ℕ) → Option Area
 area_of_record row column [] = None
 area_of_record row column (field ∷ others) = Some (record { first = place row column; last = place row (column + length others) })
 
--- those of records, the first in this row, each in the next, all from a column on
+-- the cells of each record that has fields, the first record in this row, each in the next, all from a column on
 abbrev pub areas_from : ℕ → ℕ → List (List (List ℕ)) → List Area
 areas_from row column records = filter_map (λ r. area_of_record r.0 column r.1) (enumerate_from row records)
 

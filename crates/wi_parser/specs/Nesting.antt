@@ -40,7 +40,7 @@ is_sign s = false
 abbrev pub max_depth : ℕ
 max_depth = 64
 
--- from some symbol on more parentheses open, or more signs stand one after another
+-- from some symbol on more parentheses than that are open at once, or more signs than that stand one after another
 abbrev pub is_too_deep : List Symbol → Bool
 is_too_deep [] = false
 is_too_deep (s ∷ ts) = (nat_lt max_depth (opened (s ∷ ts)) || nat_lt max_depth (prefix_len is_sign (s ∷ ts))) || is_too_deep ts

@@ -171,7 +171,7 @@ edits_since i earlier s (e ∷ es) = edits_since i (if is_told i s e then [] els
 abbrev pub unseen : State → ℕ → List Entry
 unseen s i = drop (session_at s i).seen s.log
 
--- The log has grown by the accepted edits, and a session's place in it is where it was last told a list.
+-- The log has grown by the accepted edits, and what a session hasn't seen of it are those since it was last told a list.
 pub record LogGrows (s : State) (es : List Event) (i : ℕ) : Type 0 where
   pub log : (state_after s es).log ≡ s.log ++ edits_in s es
   pub place : unseen (state_after s es) i ≡ edits_since i (unseen s i) s es

@@ -18,7 +18,7 @@ pub record Criterion : Type 0 where
 abbrev pub equal_to : Value → Criterion
 equal_to operand = record { relation = is_match is_eq; operand = operand }
 
--- of another kind, or of the same and not equal
+-- neither Empty nor an error, and of another kind or not equal
 abbrev pub is_unequal : Value → Value → Bool
 is_unequal operand v = can_be_found v && not (is_match is_eq operand v)
 

@@ -58,16 +58,16 @@ size_of r = ((row_of r.last + 1) - row_of r.first) * ((column_of r.last + 1) - c
 
 -- ---- texts of addresses
 
--- letters of either case as digits of 26: A is 1, Z 26, AA 27 and so on
+-- letters of either case in base 26: A is 1, Z 26, AA 27 and so on
 abbrev pub letters_value : Bytes → ℕ
 letters_value [] = 0
 letters_value (c ∷ cs) = (to_ascii_uppercase c - (byte "A" - 1)) * 26 ^ length cs + letters_value cs
 
--- A is 0, Z 25, and A comes after Z again
+-- 0 is A, 25 Z, and after Z comes A again
 abbrev pub letter : ℕ → ℕ
 letter n = byte "A" + n % 26
 
--- A to Z, then AA to ZZ, then AAA to XFD
+-- of a column, counted from 0: A to Z, from 26 on AA to ZZ, from 26 + 26^2 on AAA to XFD
 unfoldable pub column_letters : ℕ → Bytes
 column_letters n =
     if nat_lt n 26 then letter n ∷ []
