@@ -1,6 +1,6 @@
 -- Edits that close no cycle.
-use Rattle.std.proofs.Common.{◌≡◌, ◌==◌, ◌||◌, ◌⊎◌, inl, inr, ℕ, Bool, true, false, cond, filter, nat_le, get_or, length, arith, List, [], ◌∷◌, Option, Some, None, IfSome, is_some, refl, ap, sym, ◌∙◌, subst}
-use Rattle.std.proofs.lemmas.Bool.{or_cases, or_left, or_right, or_parts, false_from_ne_true, le-leb}
+use Rattle.std.proofs.Common.{◌≡◌, ◌==◌, ◌&&◌, ◌||◌, ◌⊎◌, inl, inr, ℕ, Bool, true, false, cond, filter, nat_le, get_or, length, arith, List, [], ◌∷◌, Option, Some, None, IfSome, is_some, refl, ap, sym, ◌∙◌, subst}
+use Rattle.std.proofs.lemmas.Bool.{or_cases, or_left, or_right, or_parts, and_parts, and_from, false_from_ne_true, le-leb}
 use Rattle.std.proofs.lemmas.List.{nil_from_length}
 use Rattle.std.specs.List.{list_any, find}
 use Rattle.std.specs.Map.{keys_of, lookup}
@@ -21,6 +21,7 @@ use Rattle.wi_graph.specs.Inner.Changes.{areas_then, Brings, IsEditCone}
 use Rattle.wi_graph.specs.Inner.Rooms.{Rooms, Coming, brought_to, in_room, items_of, room_at, put_over, room_over, areas_of, AreCircles}
 use Rattle.wi_graph.specs.Inner.Stripping.{is_in}
 use Rattle.wi_graph.specs.Inner.Turning.{has_one, reads_one_of, meets_one_of, has_room_in, StandsApart, AreTurns}
+use Rattle.wi_graph.specs.Inner.Below.{is_ahead, IsLookedAt, ReachesNot, ReadsApart}
 use Rattle.wi_graph.specs.Inner.Within.{IsAhead, IsFoundBy}
 use Rattle.wi_graph.proofs.Tests.{is_at-eq, turn_test, is_itself, clash, turned}
 use Rattle.wi_graph.proofs.Walks.{found, same_cell, same_tests}
@@ -172,7 +173,7 @@ has_rooms_is r (k ∷ ks) = at (is_within r k) refl (has_rooms_is r ks)
         first true h = refl
         first false h = cc
 
-no_key : (es : List (ℕ × Option (Vec Area))) (d : ℕ) → is_one_of (keys_of es) d ≡ false → lookup (is_at (nat_cmp d)) es ≡ None
+pub no_key : (es : List (ℕ × Option (Vec Area))) (d : ℕ) → is_one_of (keys_of es) d ≡ false → lookup (is_at (nat_cmp d)) es ≡ None
 no_key [] d h = refl
 no_key (e ∷ es) d h = at (is_at (nat_cmp d) e.0) (is_at-eq d e.0) (or_parts (e.0 == d) _ h) (no_key es d)
   where
@@ -224,3 +225,74 @@ no_circle_met es cells z = subst (λ (ks : List ℕ). false ≡ meets_one_of es 
     nothing_met : (xs : Coming) → meets_one_of xs (record { keys = [] }) ≡ false
     nothing_met [] = refl
     nothing_met (x ∷ xs) = ap (λ (b : Bool). b || meets_one_of xs (record { keys = [] })) (none_in (areas_of (items_of x.1))) ∙ nothing_met xs
+
+-- ---- where what one cell is to read, at any remove, isn't circular and isn't the cell
+
+pub reach_turn : (rooms : Rooms) (next : Coming) (circles : BTreeSet ℕ) (changes : List (ℕ × Option Content)) (turns : Turns) → AreCircles (room_at rooms) (contains nat_cmp circles) → Brings rooms next changes → ReadsApart rooms next circles → turns.came.items ≡ [] → turns.went.items ≡ [] →
+    AreTurns rooms next circles turns
+reach_turn rooms next circles changes turns g b k f h = none_turns {then = then_sheet g.sheet changes} (record {
+  before = g;
+  after = after;
+  named = λ c v e. (none_met circles next c v e k.unmet).0;
+  reads = λ c v e d i. false_from_ne_true (circular (then_sheet g.sheet changes) d) (λ u. clash (circular g.sheet d) (was_circular d (first c v e d i) u) (is_open c v e d i));
+}) turns f h
+  where
+    after : (c : ℕ) → room_over next rooms c ≡ areas_in (content_of (then_sheet g.sheet changes) c)
+    after c = b c ∙ ap (areas_then changes c) (g.are c) ∙ sym (then_contents g.sheet changes c)
+
+    is_open : (c : ℕ) (v : Option (Vec Area)) → brought_to next c ≡ Some v → (d : ℕ) → is_in (areas_of (items_of v)) d ≡ true → circular g.sheet d ≡ false
+    is_open c v e d i = sym (g.circles d) ∙ apart_from circles (areas_of (items_of v)) d (none_met circles next c v e k.unmet).1 i
+
+    -- nothing is next for another cell
+    others : (d : ℕ) → (k.cell == d) ≡ false → brought_to next d ≡ None
+    others d n = ap (λ (es : Coming). brought_to es d) k.alone ∙ ap (λ (x : Bool). cond x (Some k.room) None) (is_at-eq d k.cell ∙ turn_test d k.cell ∙ n)
+
+    its_room : (x : Bool) (v : Option (Vec Area)) → cond x (Some k.room) None ≡ Some v → k.room ≡ v
+    its_room true v e = cc
+    its_room false v e = cc
+
+    first : (c : ℕ) (v : Option (Vec Area)) → brought_to next c ≡ Some v → (d : ℕ) → is_in (areas_of (items_of v)) d ≡ true → IsLookedAt rooms k.cell k.not_met.0 [] d
+    first c v e d i =
+        k.not_met.1.first d (ap (λ (w : Option (Vec Area)). is_in (areas_of (items_of w)) d) (its_room (is_at (nat_cmp c) k.cell) v (ap (λ (es : Coming). brought_to es c) (sym k.alone) ∙ e)) ∙ i)
+
+    reads_then : (x y : ℕ) → brought_to next x ≡ None → content_reads (content_of (then_sheet g.sheet changes) x) y ≡ is_in (areas_of (room_at rooms x)) y
+    reads_then x y n =
+        reads_areas (content_of (then_sheet g.sheet changes) x) y
+        ∙ ap (λ (o : Option (List Area)). is_in (areas_of o) y) (sym (after x) ∙ ap (λ (o : Option (Option (Vec Area))). put_over o (room_at rooms x)) n)
+
+    reads_before : (x y : ℕ) → content_reads (content_of g.sheet x) y ≡ is_in (areas_of (room_at rooms x)) y
+    reads_before x y = reads_areas (content_of g.sheet x) y ∙ ap (λ (o : Option (List Area)). is_in (areas_of o) y) (sym (g.are x))
+
+    -- what is looked at and circular then was found
+    found_at : (d : ℕ) → (k.cell == d) ≡ false → circular (then_sheet g.sheet changes) d ≡ true → (room_at rooms d ≡ None) ⊎ ((k.not_met.0 d ≡ true) ⊎ (is_ahead [] d ≡ true)) → k.not_met.0 d ≡ true
+    found_at d n u (inl e) =
+        let x = reads_circular (then_sheet g.sheet changes) d u in
+        clash (content_reads (content_of (then_sheet g.sheet changes) d) x.0) x.1 (reads_then d x.0 (others d n) ∙ ap (λ (o : Option (List Area)). is_in (areas_of o) x.0) e)
+    found_at d n u (inr (inl i)) = i
+    found_at d n u (inr (inr i)) = cc
+
+    both : ℕ → Bool
+    both x = circular (then_sheet g.sheet changes) x && k.not_met.0 x
+
+    down : (x : ℕ) → both x ≡ true → (y : ℕ) × (content_reads (content_of g.sheet x) y ≡ true) × (both y ≡ true)
+    down x m =
+        let p = and_parts (circular (then_sheet g.sheet changes) x) (k.not_met.0 x) m in
+        let r = reads_circular (then_sheet g.sheet changes) x p.0 in
+        let j : is_in (areas_of (room_at rooms x)) r.0 ≡ true = sym (reads_then x r.0 (others x (k.not_met.1.apart x p.1))) ∙ r.1 in
+        let l = k.not_met.1.reads x r.0 p.1 j in
+        (r.0, reads_before x r.0 ∙ j, and_from (circular (then_sheet g.sheet changes) r.0) (k.not_met.0 r.0) r.2 (found_at r.0 l.0 r.2 l.1))
+
+    was_circular : (d : ℕ) → IsLookedAt rooms k.cell k.not_met.0 [] d → circular (then_sheet g.sheet changes) d ≡ true → circular g.sheet d ≡ true
+    was_circular d l u = left_circular g.sheet both down d (and_from (circular (then_sheet g.sheet changes) d) (k.not_met.0 d) u (found_at d l.0 u l.1))
+
+-- one cell gets something
+pub reads_apart : (rooms : Rooms) (next : Coming) (circles : BTreeSet ℕ) (x : ℕ × Option (Vec Area)) → length next ≡ 1 → x ≡ get_or next 0 x → meets_one_of next circles ≡ false → ReachesNot rooms x.0 (areas_of (items_of x.1)) → ReadsApart rooms next circles
+reads_apart rooms [] circles x l e m n = absurd (omega arith)
+reads_apart rooms (y ∷ []) circles x l e m n = record {
+  cell = x.0;
+  room = x.1;
+  alone = ap (λ (w : ℕ × Option (Vec Area)). w ∷ []) (sym e);
+  unmet = m;
+  not_met = n;
+}
+reads_apart rooms (y ∷ z ∷ zs) circles x l e m n = absurd (omega arith)

@@ -26,4 +26,5 @@ pub mod GraphSteps
 pub mod GraphEnds
 pub mod StageEnds
 pub mod BeyondSteps
+pub mod BelowSteps
 pub mod LatestLaws

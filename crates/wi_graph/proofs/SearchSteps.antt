@@ -279,6 +279,9 @@ own_cone readers cells list o n e = subst (IsConeOf readers cells) (sym e) (reco
   least = λ p h g c k. h c (sym (turned cells c) ∙ k);
 })
 
+pub alone_cone : (readers : Bag) (cells list looked : List ℕ) → list ≡ cells → looked ≡ list → IsStrictlyIncreasing looked → ((a r : ℕ) → is_one_of looked a ≡ true → IsReader readers a r → ⊥) → IsConeOf readers cells list
+alone_cone readers cells list looked e q o n = own_cone readers cells list (subst IsStrictlyIncreasing (q ∙ e) o) (λ a r h k. n a r (ap (λ (xs : List ℕ). is_one_of xs a) (q ∙ e) ∙ h) k) e
+
 -- a set that was found
 pub found_list : (readers : Bag) (cells list : List ℕ) (found : BTreeSet ℕ) → IsStrictlyIncreasing list → ((c : ℕ) → Contains list c ↔ (contains nat_cmp found c ≡ true)) → HasAll cells found → HasReaders readers found →
     IsLeast readers cells found → IsConeOf readers cells list

@@ -6,5 +6,6 @@ pub mod Search
 pub mod Rooms
 pub mod Staging
 pub mod Turning
+pub mod Below
 pub mod Changes
 pub mod Walks

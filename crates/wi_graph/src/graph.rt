@@ -153,7 +153,9 @@ impl Graph {
     }
 
     /// The same as `stage`, without an answer. The cone is searched for only where a cycle may be closed or opened: not where each
-    /// cell reads what it read, nor where one cell that isn't circular gets something that reads neither it nor a formula.
+    /// cell reads what it read, nor where one cell that isn't circular gets something that reads neither it nor a formula. Where it reads
+    /// formulas, but no circular cell, what it reads at any remove is searched for it at the same time, so that the work is that of the
+    /// smaller search.
     pub fn stage_alone(&mut self, changes: &[(Address, Option<Content>)]) -> Result<(), AllocError>
         requires { self.old.staged ≡ None }
         ensures ok { OnOk result (self.new

@@ -1,6 +1,7 @@
 //! The graph of references: which cells are on or above a cycle, and which cells depend on a cell.
 #![tactic(auto)]
 
+mod below;
 mod beyond;
 mod bounds;
 mod cell_set;
@@ -13,6 +14,7 @@ pub mod laws;
 mod reads;
 mod rooms;
 mod sets;
+mod sides;
 mod staging;
 mod stripping;
 mod turning;

@@ -13,11 +13,11 @@ ghost use Rattle.wi_graph.specs.Inner.Turning.{reads_one_of, AreTurns, SettlesCo
 use crate::cell_set::CellSet;
 use crate::changes::{Change, reads_stay};
 use crate::closing::{closes_cycle, meets_circle, stands_apart};
-use crate::cone::edit_cone;
 use crate::held::held_set;
 use crate::reads::reads_of;
 use crate::rooms::{Coming, Rooms};
 use crate::sets::{insert_all, listed, set_of, take_away, without};
+use crate::sides::cone_unless_apart;
 use crate::stripping::strip;
 use std::alloc::{AllocError, Global};
 use wi_ranges::RangeIndex;
@@ -57,7 +57,8 @@ pub(crate) fn turns_of(
 }
 
 /// The same, where the cone is searched for only if it is needed: not where each cell reads what it read before, nor where one cell
-/// gets something else that reads neither it nor a formula, and isn't circular.
+/// gets something else that reads neither it nor a formula, and isn't circular. Where it reads formulas, none of them circular, the work is
+/// that of the smaller of two searches, among what depends on the cell and among what it is to read.
 pub(crate) fn turns_alone(
     alloc: Global,
     rooms: &Rooms,
@@ -77,8 +78,10 @@ pub(crate) fn turns_alone(
     if stands_apart(rooms, circles, next) {
         return Ok(no_turns(alloc));
     }
-    let cone = edit_cone(alloc, readers, changes)?;
-    turns_of(alloc, rooms, circles, next, &cone)
+    match cone_unless_apart(alloc, rooms, readers, circles, next, changes)? {
+        Some(cone) => turns_of(alloc, rooms, circles, next, &cone),
+        None => Ok(no_turns(alloc)),
+    }
 }
 
 /// Whether no cell is circular and a cone is one cell, so that a cycle that is closed is found with no search for what the cell

@@ -132,7 +132,7 @@ fn count_before(cells: &[Address], from: Address) -> usize
 }
 
 /// The first place of a rectangle after a cell, if one comes after it.
-fn place_after(area: Rect, cell: Address) -> Option<Address>
+pub(crate) fn place_after(area: Rect, cell: Address) -> Option<Address>
     requires { cell ≤ area.last }
     ensures after { IfSome result (λ a. (cell < a) × (a ≤ area.last)) }
     ensures first { (a : ℕ) → is_within area a ≡ true → cell < a → IsFoundBy result a }

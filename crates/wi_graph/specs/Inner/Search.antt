@@ -23,6 +23,10 @@ abbrev pub IsLeast : Bag → List ℕ → BTreeSet ℕ → Type 0
 IsLeast readers cells found = (p : ℕ → Bool) → ((c : ℕ) → is_one_of cells c ≡ true → p c ≡ true) → GoesToReaders readers p →
     (c : ℕ) → contains nat_cmp found c ≡ true → p c ≡ true
 
+-- the set has these cells and all that read one of it, and no other
+abbrev pub IsConeSet : Bag → List ℕ → BTreeSet ℕ → Type 0
+IsConeSet readers cells found = HasAll cells found × HasReaders readers found × IsLeast readers cells found
+
 -- the cells of a list as a set
 abbrev pub as_set : List ℕ → BTreeSet ℕ
 as_set cells = record { keys = cells }

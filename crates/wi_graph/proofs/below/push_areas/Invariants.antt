@@ -1,0 +1,6 @@
+use Rattle.std.proofs.Common.{take}
+use Rattle.wi_graph.specs.Inner.Below.{HasAreas}
+use Rattle.wi_graph.proofs.below.push_areas.Given as goal
+
+abbrev pub invariant-loop-area : goal.invariant-loop-area
+invariant-loop-area l = HasAreas l.cell (take l.area-index l.areas) l.initial.ahead.items l.ahead.items

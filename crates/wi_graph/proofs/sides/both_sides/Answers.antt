@@ -1,0 +1,33 @@
+use Rattle.std.proofs.Common.{rules}
+use Rattle.wi_graph.specs.Inner.Rooms.{items_of, areas_of}
+use Rattle.wi_graph.specs.Inner.Below.{has_seen}
+use Rattle.wi_graph.proofs.SearchSteps.{search_start, search_step, search_end, search_ends}
+use Rattle.wi_graph.proofs.BelowSteps.{none_seen, below_start, below_end}
+use Rattle.wi_graph.proofs.sides.both_sides.Goals as goal
+
+pub cells-init : goal.cells-init
+cells-init c =
+    let start = c.in_ok-below.below in (
+      search_start c.args.readers.now c.args.cells.now c.new-found.result c.note.new.found c.new-work.result.items c.note.new.work.items c.new-found.ensures c.new-work.ensures.items c.in_ok-note.ensures,
+      λ t. below_start c.args.rooms.now c.args.entry.now.0 (areas_of (items_of c.args.entry.now.1)) (has_seen start.seen) start.ahead.items (none_seen start.seen c.in_ok-below.ensures.seen) (c.in_ok-below.ensures.ahead t),
+    )
+
+pub cells-smaller : goal.cells-smaller
+cells-smaller c =
+    search_ends c.args.readers.now c.cells.found c.note-in-Some.new.found c.cells.work.items c.pop.new.self.items c.note-in-Some.new.work.items c.in_ok-next.next.items c.deref.result.now c.in-Some.cell c.in-Some.ensures.items
+    c.in_ok-next.ensures.readers c.deref.ensures.value c.in_ok-note-2.ensures
+
+pub cells-preserved : goal.cells-preserved
+cells-preserved c = (
+  search_step c.args.readers.now c.args.cells.now c.cells.found c.note-in-Some.new.found c.cells.work.items c.pop.new.self.items _ c.in_ok-next.next.items c.deref.result.now c.in-Some.cell c.in-Some.ensures.items
+      c.in_ok-next.ensures.readers c.deref.ensures.value c.in_ok-note-2.ensures c.cells.invariant.0,
+  c.in_ok-go_below.ensures (areas_of (items_of c.args.entry.now.1)) c.cells.invariant.1,
+)
+
+pub returns-then-is_clear-clause-apart : goal.returns-then-is_clear-clause-apart
+returns-then-is_clear-clause-apart c =
+    let on = c.go_below.new.below in
+    below_end c.args.rooms.now c.args.entry.now.0 (areas_of (items_of c.args.entry.now.1)) (has_seen on.seen) on.ahead.items (c.is_clear.ensures.done (search rules)) (c.in_ok-go_below.ensures (areas_of (items_of c.args.entry.now.1)) c.cells.invariant.1 (c.is_clear.ensures.clear (search rules)))
+
+pub returns-clause-cone : goal.returns-clause-cone
+returns-clause-cone c = (c.cells.invariant.0.all, search_end c.args.readers.now c.args.cells.now c.cells.found c.cells.work.items (search rules) c.cells.invariant.0, c.cells.invariant.0.least)

@@ -1,0 +1,12 @@
+use Rattle.std.proofs.Common.{◌+◌, length}
+use Rattle.wi_graph.specs.Inner.Rooms.{items_of, areas_of}
+use Rattle.wi_graph.specs.Inner.Search.{missing}
+use Rattle.wi_graph.specs.Inner.Below.{IsBelow}
+use Rattle.wi_graph.proofs.SearchSteps.{IsSearching, all_readers}
+use Rattle.wi_graph.proofs.sides.both_sides.Given as goal
+
+abbrev pub invariant-cells : goal.invariant-cells
+invariant-cells l = IsSearching l.readers l.cells l.found l.work.items × IsBelow l.rooms l.entry.0 (areas_of (items_of l.entry.1)) l.below
+
+abbrev pub decreases-cells : goal.decreases-cells
+decreases-cells l = length (missing l.found (all_readers l.readers)) + length l.work.items

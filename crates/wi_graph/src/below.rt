@@ -1,0 +1,154 @@
+//! Whether a cell that is to read some rectangles reads itself, at any remove: a search that goes a step at a time.
+
+ghost use Rattle.std.specs.Prelude.{◌≡◌, ◌++◌, ◌∷◌, List, [], true, IsTrue, IfOk, OnOk};
+ghost use Rattle.std.specs.Ordering.{nat_cmp};
+ghost use Rattle.wi_values.specs.Address.{Area, is_within};
+ghost use Rattle.wi_tiles.specs.Entries.{IsOrdered};
+ghost use Rattle.wi_graph.specs.Inner.Rooms.{items_of, areas_of, room_at};
+ghost use Rattle.wi_graph.specs.Inner.Below.{HasAreas, HasRest, has_seen, IsSearchingBelow, IsBelow};
+
+use crate::rooms::Rooms;
+use crate::within::place_after;
+use std::alloc::{AllocError, Global};
+use wi_tiles::CellMap;
+use wi_values::{Address, Rect};
+
+/// Rectangles that are still to be looked at, each from a cell on.
+type Ahead = Vec<(Rect, Address)>;
+
+/// How far a search among what a cell is to read has come.
+#[derive(Drop)]
+pub(crate) struct Below {
+    // The cells with a formula that were found.
+    pub(crate) seen: CellMap<()>,
+    pub(crate) ahead: Ahead,
+    // Whether the cell wasn't met. Once it was, the search is over.
+    pub(crate) clear: bool,
+}
+
+/// A search that begins at the rectangles of a room.
+pub(crate) fn begin_below(
+    alloc: Global,
+    cell: Address,
+    room: &Option<Vec<Rect>>,
+) -> Result<Below, AllocError>
+    ensures seen { IfOk result (λ below. below.seen.entries ≡ []) }
+    ensures ahead { IfOk result (λ below. IsTrue below.clear → HasAreas cell (areas_of (items_of room.now)) [] below.ahead.items) }
+{
+    let seen = CellMap::new(alloc);
+    let mut ahead = Vec::new(alloc);
+    let clear = push_room(room, cell, &mut ahead)?;
+    Ok(Below { seen, ahead, clear })
+}
+
+/// Whether all was looked at, and the cell wasn't met.
+pub(crate) fn is_clear(below: &Below) -> bool
+    ensures clear { IsTrue result → below.now.clear ≡ true }
+    ensures done { IsTrue result → below.now.ahead.items ≡ [] }
+{
+    if !below.clear {
+        return false;
+    }
+    below.ahead.is_empty()
+}
+
+/// Goes on by so many steps at most. The work of a step is that of a search among the rooms, and grows with the rectangles of a
+/// formula that is found.
+pub(crate) fn go_below(
+    rooms: &Rooms,
+    cell: Address,
+    steps: usize,
+    below: &mut Below,
+) -> Result<(), AllocError>
+    requires { IsOrdered nat_cmp rooms.now }
+    ensures { OnOk result ((areas : List Area) → IsBelow rooms.now cell areas below.old → IsBelow rooms.now cell areas below.new) }
+{
+    for _ in 0..steps {
+        step_below(rooms, cell, below)?;
+    }
+    Ok(())
+}
+
+/// Goes on by a step, if one is left.
+fn step_below(rooms: &Rooms, cell: Address, below: &mut Below) -> Result<(), AllocError>
+    requires { IsOrdered nat_cmp rooms.now }
+    ensures { OnOk result ((areas : List Area) → IsBelow rooms.now cell areas below.old → IsBelow rooms.now cell areas below.new) }
+{
+    if !below.clear {
+        return Ok(());
+    }
+    let Some(entry) = below.ahead.pop() else {
+        return Ok(());
+    };
+    look(rooms, cell, entry.0, entry.1, below)
+}
+
+/// Finds the first cell of a rectangle that has a room, from a cell on.
+fn look(
+    rooms: &Rooms,
+    cell: Address,
+    area: Rect,
+    from: Address,
+    below: &mut Below,
+) -> Result<(), AllocError>
+    requires { IsOrdered nat_cmp rooms.now }
+    ensures { OnOk result ((areas : List Area) → IsSearchingBelow rooms.now cell areas (has_seen below.old.seen) (below.old.ahead.items ++ (area, from) ∷ []) → IsBelow rooms.now cell areas below.new) }
+{
+    let Some(read) = rooms.next_in(area, from) else {
+        return Ok(());
+    };
+    go_on(area, read, &mut below.ahead)?;
+    if below.seen.put_new(read, ())? {
+        below.clear = push_read(rooms, read, cell, &mut below.ahead)?;
+    }
+    Ok(())
+}
+
+/// Puts ahead what of a rectangle comes after one of its cells.
+fn go_on(area: Rect, read: Address, ahead: &mut Ahead) -> Result<(), AllocError>
+    requires { is_within area read ≡ true }
+    ensures { OnOk result (HasRest area read ahead.old.items ahead.new.items) }
+{
+    if let Some(on) = place_after(area, read) {
+        ahead.push((area, on))?;
+    }
+    Ok(())
+}
+
+/// Puts ahead what a cell reads, and answers whether another cell isn't in that.
+fn push_read(
+    rooms: &Rooms,
+    read: Address,
+    cell: Address,
+    ahead: &mut Ahead,
+) -> Result<bool, AllocError>
+    ensures { IfOk result (λ clear. IsTrue clear → HasAreas cell (areas_of (room_at rooms.now read)) ahead.old.items ahead.new.items) }
+{
+    match rooms.get(read) {
+        Some(room) => push_room(room, cell, ahead),
+        None => Ok(true),
+    }
+}
+
+/// The same of the rectangles of a room.
+fn push_room(room: &Option<Vec<Rect>>, cell: Address, ahead: &mut Ahead) -> Result<bool, AllocError>
+    ensures { IfOk result (λ clear. IsTrue clear → HasAreas cell (areas_of (items_of room.now)) ahead.old.items ahead.new.items) }
+{
+    match room {
+        Some(areas) => push_areas(areas, cell, ahead),
+        None => Ok(true),
+    }
+}
+
+/// The same of some rectangles.
+fn push_areas(areas: &[Rect], cell: Address, ahead: &mut Ahead) -> Result<bool, AllocError>
+    ensures { IfOk result (λ clear. IsTrue clear → HasAreas cell areas.now ahead.old.items ahead.new.items) }
+{
+    for area in areas {
+        if area.contains(cell) {
+            return Ok(false);
+        }
+        ahead.push((*area, area.first()))?;
+    }
+    Ok(true)
+}

@@ -1,0 +1,109 @@
+//! Whether an edit closes a cycle, asked from both sides: among the dependents of the edited cell, and among what it is to read.
+
+ghost use Rattle.std.specs.Prelude.{◌≡◌, [], false, IsTrue, IfSome, IfNone, IfOk, length};
+ghost use Rattle.std.specs.Map.{keys_of};
+ghost use Rattle.std.specs.Ordering.{nat_cmp};
+ghost use Rattle.wi_tiles.specs.Entries.{IsOrdered};
+ghost use Rattle.wi_graph.specs.Inner.Rooms.{items_of, areas_of};
+ghost use Rattle.wi_graph.specs.Inner.Search.{IsConeOf, IsConeSet};
+ghost use Rattle.wi_graph.specs.Inner.Turning.{meets_one_of};
+ghost use Rattle.wi_graph.specs.Inner.Below.{ReachesNot, ReadsApart};
+
+use crate::below::{begin_below, go_below, is_clear};
+use crate::cell_set::CellSet;
+use crate::changes::{Change, changed_cells};
+use crate::closing::meets_circle;
+use crate::cone::{are_alone, listed_cone, note};
+use crate::rooms::{Brought, Coming, Rooms};
+use std::alloc::{AllocError, Global};
+use wi_ranges::{RangeIndex, RisingSet};
+use wi_values::Address;
+
+/// The cone of an edit; none where one cell gets something and isn't circular, and what it is to read, at any remove, isn't circular
+/// and isn't the cell. For such an edit the work is that of the smaller of two searches, among what depends on the cell and among what
+/// it is to read.
+pub(crate) fn cone_unless_apart(
+    alloc: Global,
+    rooms: &Rooms,
+    readers: &RangeIndex,
+    circles: &CellSet,
+    next: &Coming,
+    changes: &[Change],
+) -> Result<Option<Vec<Address>>, AllocError>
+    requires { IsOrdered nat_cmp rooms.now }
+    ensures cone { IfOk result (λ o. IfSome o (λ cone. IsConeOf readers.now (keys_of changes.now) cone.items)) }
+    ensures apart { IfOk result (λ o. IfNone o (ReadsApart rooms.now next.now.items circles.now)) }
+{
+    let cells = changed_cells(alloc, changes)?;
+    if are_alone(readers, &cells)? {
+        return Ok(Some(cells));
+    }
+    listed_unless_apart(alloc, rooms, readers, circles, next, &cells)
+}
+
+/// The same of the cells of an edit.
+fn listed_unless_apart(
+    alloc: Global,
+    rooms: &Rooms,
+    readers: &RangeIndex,
+    circles: &CellSet,
+    next: &Coming,
+    cells: &[Address],
+) -> Result<Option<Vec<Address>>, AllocError>
+    requires { IsOrdered nat_cmp rooms.now }
+    ensures cone { IfOk result (λ o. IfSome o (λ cone. IsConeOf readers.now cells.now cone.items)) }
+    ensures apart { IfOk result (λ o. IfNone o (ReadsApart rooms.now next.now.items circles.now)) }
+{
+    if !is_for_open_cell(circles, next) {
+        let own = listed_cone(alloc, readers, cells)?;
+        return Ok(Some(own));
+    }
+    match both_sides(alloc, rooms, readers, cells, &next[0])? {
+        Some(found) => {
+            let cone = found.into_list()?;
+            Ok(Some(cone))
+        }
+        None => Ok(None),
+    }
+}
+
+/// Whether what is next is for one cell, and meets no circular cell.
+fn is_for_open_cell(circles: &CellSet, next: &Coming) -> bool
+    ensures one { IsTrue result → length next.now.items ≡ 1 }
+    ensures unmet { IsTrue result → meets_one_of next.now.items circles.now ≡ false }
+{
+    if next.len() != 1 {
+        return false;
+    }
+    !meets_circle(next, circles)
+}
+
+/// The cells that read one of these, at any remove, with themselves; none where what one cell is to read, at any remove, isn't the
+/// cell. With each cell found as many steps go the other way as there are readers of it.
+fn both_sides(
+    alloc: Global,
+    rooms: &Rooms,
+    readers: &RangeIndex,
+    cells: &[Address],
+    entry: &Brought,
+) -> Result<Option<RisingSet>, AllocError>
+    requires { IsOrdered nat_cmp rooms.now }
+    ensures cone { IfOk result (λ o. IfSome o (λ found. IsConeSet readers.now cells.now found)) }
+    ensures apart { IfOk result (λ o. IfNone o (ReachesNot rooms.now entry.now.0 (areas_of (items_of entry.now.1)))) }
+{
+    let mut found = RisingSet::new(alloc);
+    let mut work = Vec::new(alloc);
+    note(cells, &mut found, &mut work)?;
+    let mut below = begin_below(alloc, entry.0, &entry.1)?;
+    let mut steps = 1;
+    'cells: while let Some(cell) = work.pop() {
+        go_below(rooms, entry.0, steps, &mut below)?;
+        if is_clear(&below) {
+            return Ok(None);
+        }
+        let next = readers.readers_of(cell)?;
+        note(&next, &mut found, &mut work)?;
+        steps = next.len().max(1);
+    }
+    Ok(Some(found))
+}
