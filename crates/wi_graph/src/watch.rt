@@ -8,6 +8,7 @@ use wi_values::Address;
 pub trait Watch {
     ghost watched: { Self → ℕ → Bool };
 
+    /// Whether a cell is watched.
     fn has(&self, at: Address) -> bool
         ensures { result ≡ watched self.now at };
 }

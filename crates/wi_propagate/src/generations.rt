@@ -64,8 +64,8 @@ impl Generations {
         greater(number_at(&self.named, at), number_at(&self.noted, at))
     }
 
-    /// Makes room for the number of an edit of these cells, and owes it where some formula reads one of them. If memory runs out, some
-    /// may be owed.
+    /// Makes room for the number of an edit of these cells, and owes it where some formula reads one of them. The work is
+    /// that of `any_is_read`. If memory runs out, some may be owed; after an edit that is refused, its cells stay owed.
     pub fn owe(&mut self, graph: &Graph, cells: &[Address]) -> Result<(), AllocError>
         requires { graph.now.staged ≡ None }
         ensures named { (c : ℕ) → generation_in self.new.named c ≡ generation_in self.old.named c }
@@ -90,7 +90,8 @@ impl Generations {
         raise(&mut self.named, cells, edit);
     }
 
-    /// Notes what is owed. The work is that of the cone of what is owed, and of a sort. If memory runs out, all is owed still.
+    /// Notes what is owed. The work is that of the cone of what is owed, of a sort, and of a search for readers for each owed cell. If memory
+    /// runs out, all is owed still.
     pub fn settle(&mut self, graph: &Graph) -> Result<(), AllocError>
         requires staged { graph.now.staged ≡ None }
         requires owed { (s : Sheet) → AreEdgesOf graph.now.now s

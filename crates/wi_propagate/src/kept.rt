@@ -280,7 +280,7 @@ impl Calculator for KeptCalculator {
     }
 
     /// One edit. The work grows with what the edited cells read and who reads them; with their cone, what its cells read and who reads
-    /// them, times logarithms, only where a cycle may be closed or opened. An accepted edit is the new generation of each cell of the cone;
+    /// them, times logarithms, only where several cells read something new, or a cycle may be closed or opened. An accepted edit is the new generation of each cell of the cone;
     /// it is noted when a question asks. What is kept stays; so do the cones that are known, if each cell reads what it read before.
     fn apply(&mut self, changes: Vec<(Address, Option<Content>)>) -> Result<(), StoreFault>
         ensures applied { Applies
@@ -326,7 +326,8 @@ impl Calculator for KeptCalculator {
     /// questions, and where they are others they are copied, put in order and hashed. The key of each formula that is asked for
     /// compares the replaced cells with those that are known, and finds the cone of one that isn't. Those that the formula reaches
     /// are looked up at once, with work that grows with their count where they are few, and where they are many with that of all.
-    /// They are copied and hashed where they aren't all, and aren't the same as for the last such key.
+    /// They are copied and hashed where they aren't all, and aren't the same as for the last such key. Before a key is made, what
+    /// edits owe is noted, with all that depends on what was edited since the last such question.
     fn value(&mut self, put: &[Replacement], at: Address) -> Result<Value, AllocError>
         requires { IsInOrder put.now }
         ensures value { IfOk result (λ v. v ≡ show.shown self.old.stored.sheet put.now at) }
@@ -365,8 +366,8 @@ impl Calculator for KeptCalculator {
     }
 
     /// What an entry of a data table shows under replacements. A formula is evaluated where its value is not kept, and its value
-    /// is kept then. The replacements cost what they do in `value`; with the inputs put in, they are copied and hashed for each
-    /// entry.
+    /// is kept then. The replacements, and what edits owe, cost what they do in `value`; with the inputs put in, they are copied and
+    /// hashed for each entry.
     fn what_if_value(
         &mut self,
         put: &[Replacement],

@@ -105,8 +105,9 @@ impl<C: Calculator> Workbook<C> {
 
     /// Puts a content into a cell. An empty one is refused as `BadCommand`. An edit of a cell that another session has edited since
     /// the current one was last shown what has changed is refused as `Stale`, but not where it is forced. The work of this and
-    /// the other edits grows with the cells that depend on the edited ones, for each session; the memory for a session with those
-    /// that aren't pending for it.
+    /// the other edits grows with the cells that depend on the edited ones and aren't pending for each session, for each session, and
+    /// with those that read the edited ones; where several cells read something new, or a cycle may be closed or opened, with all that
+    /// depend on them; the memory for a session with those that aren't pending for it.
     pub fn set(&mut self, at: Address, content: &str, force: bool) -> Result<(), Refusal>
         ensures step { Serves (IsStep self.old.state (command.Set force at content.now)) result self.old.state self.new.state [] }
         ensures adds { AddsOnly C.marked (at ∷ []) self.old.state self.new.state self.old.pending self.new.pending }
