@@ -3,6 +3,7 @@
 ghost use Rattle.std.specs.Prelude.{◌≡◌, ◌≤◌, ◌*◌, ◌⊎◌};
 ghost use Rattle.wi_engine.specs.Inner.Courses.{max_breaks, part};
 
+use std::alloc::AllocError;
 use wi_values::{Address, Rect};
 
 /// How often a course may break before more than one cell is found at a break. A formula may look up some cells here and there;
@@ -120,4 +121,26 @@ pub fn part(rectangle: Rect, way: Way, at: Address) -> Rect
         ),
         Way::Whole => rectangle,
     }
+}
+
+/// The course through a rectangle. The work grows with the count of courses.
+pub fn course_through(courses: &[Course], rectangle: Rect) -> Option<Course> {
+    for course in courses {
+        if course.rectangle == rectangle {
+            return Some(*course);
+        }
+    }
+    None
+}
+
+/// Keeps a course, in the place of an earlier one through its rectangle. The work grows with the count of courses.
+pub fn keep_course(courses: &mut Vec<Course>, course: Course) -> Result<(), AllocError> {
+    for kept in courses.iter_mut() {
+        if kept.rectangle == course.rectangle {
+            *kept = course;
+            return Ok(());
+        }
+    }
+    courses.push(course)?;
+    Ok(())
 }

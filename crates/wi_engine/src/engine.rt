@@ -16,6 +16,7 @@ ghost use Rattle.wi_engine.specs.declared.frame.Waiting.TheVariants as waiting;
 use crate::ahead::look_ahead;
 use crate::asked::value_now;
 use crate::attempt::attempt;
+use crate::course::keep_course;
 use crate::findings::FoundWhatIf;
 use crate::frame::{Advance, Asked, Frame, Inputs, Unvalued, Waiting};
 use crate::lacking::is_lacking;
@@ -74,7 +75,7 @@ fn next_lacking(store: &Store, frame: &Frame, cells: &mut Vec<Address>) -> Optio
         → lacks_cell store.now.sheet frame.now.key.world frame.now.found d ≡ false) }
 {
     while let Some(at) = cells.pop() {
-        if is_lacking(store, frame, at) {
+        if is_lacking(store, &frame.key.world, &frame.found, at) {
             return Some(at);
         }
     }
@@ -192,8 +193,8 @@ fn wait_for(alloc: Global, store: &Store, frame: &mut Frame, want: Want) -> Resu
 {
     match want {
         Want::Cell(at) => {
-            let batch = together(alloc, store, frame, at)?;
-            frame.keep_course(batch.course)?;
+            let batch = together(alloc, store, &frame.reader(), at)?;
+            keep_course(&mut frame.courses, batch.course)?;
             frame.waiting = Waiting::Cells(at, batch.cells);
             Ok(())
         }

@@ -6,6 +6,7 @@ ghost use Rattle.wi_parser.specs.View.{pair_of};
 ghost use Rattle.wi_lookup.specs.Assignment.{addresses};
 ghost use Rattle.wi_engine.specs.Inner.Findings.{same_pairs, found_value, what_if_found, IsWithCell, IsWithWhatIf, IsSame};
 
+use crate::found::Found;
 use crate::rising::Rising;
 use std::alloc::{AllocError, Global};
 use std::collections::BTreeMap;
@@ -134,6 +135,16 @@ impl Findings {
     {
         self.what_ifs.push(found)?;
         Ok(())
+    }
+}
+
+impl Found for Findings {
+    fn value_of(&self, at: Address) -> Option<&Value> {
+        self.cell(at)
+    }
+
+    fn value_of_what_if(&self, at: Address, pairs: &[Pair]) -> Option<&Value> {
+        self.what_if(at, pairs)
     }
 }
 

@@ -7,10 +7,11 @@ ghost use Rattle.wi_engine.specs.declared.frame.Waiting.TheVariants.{Nothing};
 use crate::course::Course;
 use crate::findings::Findings;
 use crate::pool::{Arrays, Pool};
+use crate::together::Reader;
 use std::alloc::AllocError;
 use wi_cache::Key;
 use wi_parser::{Formula, Pair};
-use wi_values::{Address, Rect, Value};
+use wi_values::{Address, Value};
 use wi_worlds::World;
 
 /// What a frame waits for.
@@ -57,33 +58,23 @@ impl<'a> Frame<'a> {
         }
     }
 
-    /// The course through a rectangle. The work grows with the count of courses.
-    pub fn course_through(&self, rectangle: Rect) -> Option<Course>
-        ensures { IfSome result (λ c. Contains self.now.courses.items c
-            × (c.rectangle ≡ rectangle)) }
-    {
-        for course in &self.courses {
-            if course.rectangle == rectangle {
-                return Some(*course);
-            }
+    /// Its formula, with what was found for it.
+    pub fn reader(&self) -> Reader<'_, Findings> {
+        Reader {
+            formula: self.formula,
+            world: &self.key.world,
+            found: &self.found,
+            courses: &self.courses,
         }
-        None
     }
 
-    /// Keeps a course, in the place of an earlier one through its rectangle. The work grows with the count of courses.
-    pub fn keep_course(&mut self, course: Course) -> Result<(), AllocError>
-        ensures key { self.new.key ≡ self.old.key }
-        ensures formula { self.new.formula.now ≡ self.old.formula.now }
-        ensures found { self.new.found ≡ self.old.found }
-    {
-        for kept in self.courses.iter_mut() {
-            if kept.rectangle == course.rectangle {
-                *kept = course;
-                return Ok(());
-            }
+    /// Whether it waits for a what-if of a cell.
+    pub fn waits_for_what_if(&self, cell: Address) -> bool {
+        match &self.waiting {
+            Waiting::Nothing => false,
+            Waiting::Cells(_, _) => false,
+            Waiting::WhatIf(at, _) => *at == cell,
         }
-        self.courses.push(course)?;
-        Ok(())
     }
 
     /// The key, where the frame is done. Its arrays are put into a pool, or go. The work is that of `Pool::put`.

@@ -3,23 +3,30 @@
 ghost use Rattle.std.specs.Prelude.{◌≡◌, ◌∷◌, [], ◌-◌, IfOk, IfSome, IfNone, take};
 ghost use Rattle.wi_engine.specs.Inner.Attempt.{lacks_cell, lacking_after};
 
-use crate::frame::Frame;
+use crate::found::Found;
 use crate::occupied::next_within;
 use crate::seen::formula_in;
 use std::alloc::{AllocError, Global};
 use wi_store::Store;
 use wi_values::{Address, Rect};
+use wi_worlds::World;
 
 /// Whether a frame lacks the value of a cell: it has a formula under the frame's replacements, and was not found.
-pub fn is_lacking(store: &Store, frame: &Frame, at: Address) -> bool
+pub fn is_lacking<F: Found>(store: &Store, world: &World, found: &F, at: Address) -> bool
     ensures { result ≡ lacks_cell store.now.sheet frame.now.key.world frame.now.found at }
 {
-    formula_in(store, &frame.key.world, at).is_some() && frame.found.cell(at).is_none()
+    formula_in(store, world, at).is_some() && found.value_of(at).is_none()
 }
 
 /// The first cell of a rectangle after another whose value a frame lacks. The work is that of `next_within` for each occupied
 /// cell passed.
-pub fn next_lacking_in(store: &Store, frame: &Frame, area: Rect, after: Address) -> Option<Address>
+pub fn next_lacking_in<F: Found>(
+    store: &Store,
+    world: &World,
+    found: &F,
+    area: Rect,
+    after: Address,
+) -> Option<Address>
     ensures some { IfSome result (λ c.
         lacking_after store.now.sheet frame.now.key.world frame.now.found area after
         ≡ c ∷ lacking_after store.now.sheet frame.now.key.world frame.now.found area c) }
@@ -28,7 +35,7 @@ pub fn next_lacking_in(store: &Store, frame: &Frame, area: Rect, after: Address)
 {
     let mut ahead = next_within(store, area, Some(after));
     while let Some(cell) = ahead {
-        if is_lacking(store, frame, cell) {
+        if is_lacking(store, world, found, cell) {
             return Some(cell);
         }
         ahead = next_within(store, area, Some(cell));
@@ -39,10 +46,11 @@ pub fn next_lacking_in(store: &Store, frame: &Frame, area: Rect, after: Address)
 /// A cell, and behind it the next cells of a rectangle whose values a frame lacks: so many in all, or as many as there are. The
 /// work is that of `next_within` for each occupied cell of the rectangle from this one to the last that is listed, and to the
 /// end where fewer are left.
-pub fn with_next_lacking(
+pub fn with_next_lacking<F: Found>(
     alloc: Global,
     store: &Store,
-    frame: &Frame,
+    world: &World,
+    found: &F,
     area: Rect,
     at: Address,
     count: usize,
@@ -55,7 +63,7 @@ pub fn with_next_lacking(
     listed.push(at)?;
     let mut last = at;
     for _ in 1..count {
-        let Some(next) = next_lacking_in(store, frame, area, last) else {
+        let Some(next) = next_lacking_in(store, world, found, area, last) else {
             return Ok(listed);
         };
         listed.push(next)?;

@@ -2,6 +2,7 @@
 #![tactic(auto)]
 
 mod ahead;
+mod array;
 mod asked;
 mod attempt;
 mod cone;
@@ -9,16 +10,21 @@ mod course;
 mod engine;
 mod filled;
 mod findings;
+mod found;
 mod frame;
+mod in_plan;
 mod lacking;
 mod lookup;
 mod memo;
 mod occupied;
+mod plan;
+mod planning;
 mod pool;
 mod question;
 mod remembered;
 mod rising;
 mod seen;
+mod standing;
 mod together;
 mod walk;
 

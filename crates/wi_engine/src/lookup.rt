@@ -16,7 +16,7 @@ ghost use Rattle.wi_engine.specs.Inner.Findings.{AreAllRight, found_value};
 ghost use Rattle.wi_engine.specs.Inner.Seen.{content_seen};
 
 use crate::filled::{next_replaced, next_touched};
-use crate::findings::Findings;
+use crate::found::Found;
 use crate::seen::{Seen, as_seen, content_in};
 use wi_lookup::{LookedUp, Lookup, TakesCells, successor};
 use wi_parser::Pair;
@@ -27,10 +27,10 @@ use wi_worlds::World;
 /// A cell without a formula under the replacements shows what stands there; the values of others, and of what-ifs, are
 /// known where they were found.
 #[derive(Drop)]
-pub struct Known<'a> {
+pub struct Known<'a, F: Found> {
     store: &'a Store,
     world: &'a World,
-    found: &'a Findings,
+    found: &'a F,
     // What a cell shows where nothing stands, to be lent.
     empty: Value,
     ghost is_empty: { empty ≡ Empty },
@@ -40,9 +40,9 @@ pub struct Known<'a> {
         found.now } by { Prim.hlevel props },
 }
 
-impl<'a> Known<'a> {
+impl<'a, F: Found> Known<'a, F> {
     /// What is known with these values found.
-    pub fn new(store: &'a Store, world: &'a World, found: &'a Findings) -> Known<'a>
+    pub fn new(store: &'a Store, world: &'a World, found: &'a F) -> Known<'a, F>
         requires right { AreAllRight (show.cell_value (put_all store.now.sheet world.now))
             (show.what_if_value (put_all store.now.sheet world.now)) found.now }
         ensures store { result.store.now ≡ store.now }
@@ -65,7 +65,7 @@ impl<'a> Known<'a> {
         match seen {
             Seen::Nothing => LookedUp::Known(&self.empty),
             Seen::Constant(value) => LookedUp::Known(value),
-            Seen::Formula(_) => looked_up(self.found.cell(at)),
+            Seen::Formula(_) => looked_up(self.found.value_of(at)),
         }
     }
 
@@ -118,7 +118,7 @@ impl<'a> Known<'a> {
     }
 }
 
-impl<'a> Lookup for Known<'a> {
+impl<'a, F: Found> Lookup for Known<'a, F> {
     ghost use Rattle.wi_engine.specs.Inner.Findings.{what_if_found};
     ghost use Rattle.wi_engine.specs.Inner.Attempt.{cell_known};
 
@@ -127,14 +127,14 @@ impl<'a> Lookup for Known<'a> {
     ghost known_what_if = { λ k. what_if_found k.found.now };
 
     fn cell(&self, at: Address) -> LookedUp<'_> {
-        match self.found.cell(at) {
+        match self.found.value_of(at) {
             Some(value) => LookedUp::Known(value),
             None => self.standing(content_in(self.store, self.world, at)),
         }
     }
 
     fn what_if(&self, formula_cell: Address, pairs: &[Pair]) -> LookedUp<'_> {
-        looked_up(self.found.what_if(formula_cell, pairs))
+        looked_up(self.found.value_of_what_if(formula_cell, pairs))
     }
 
     fn next_value(&self, area: Rect, from: Address) -> Option<(Address, LookedUp<'_>)> {

@@ -2,7 +2,8 @@
 
 use crate::course::Course;
 use crate::findings::Findings;
-use std::alloc::Global;
+use crate::plan::Plan;
+use std::alloc::{AllocError, Global};
 
 /// Of how many frames the arrays are kept. Formulas that are valued one after another seldom stand deeper in one another.
 const MAX_KEPT: usize = 64;
@@ -28,6 +29,8 @@ impl Arrays {
 #[derive(Drop)]
 pub struct Pool {
     kept: Vec<Arrays>,
+    // What was planned for the what-ifs of the last questions. Behind a box, since each question takes the pool out and puts it back.
+    plan: Option<Box<Plan>>,
     alloc: Global,
 }
 
@@ -36,6 +39,7 @@ impl Pool {
     pub fn new(alloc: Global) -> Pool {
         Pool {
             kept: Vec::new(alloc),
+            plan: None,
             alloc,
         }
     }
@@ -43,6 +47,29 @@ impl Pool {
     /// Where its arrays have their memory.
     pub fn allocator(&self) -> Global {
         self.alloc
+    }
+
+    /// What is planned for what-ifs.
+    pub(crate) fn plan(&mut self) -> Result<&mut Plan, AllocError> {
+        if self.plan.is_none() {
+            self.plan = Some(Box::new(self.alloc, Plan::new(self.alloc))?);
+        }
+        match &mut self.plan {
+            Some(plan) => Ok(plan),
+            None => unreachable!(),
+        }
+    }
+
+    /// Takes the values away that plans have found.
+    pub fn begin_question(&mut self) {
+        if let Some(plan) = &mut self.plan {
+            plan.begin_question();
+        }
+    }
+
+    /// Throws plans away, as must be done where the sheet changes.
+    pub fn forget_plans(&mut self) {
+        self.plan = None;
     }
 
     /// The arrays that were put in last, or new ones, without values. Takes no memory.

@@ -13,8 +13,9 @@ ghost use Rattle.wi_engine.specs.Inner.Spends.{Spends};
 
 use crate::asked::value_now;
 use crate::engine::{advance, take_in};
-use crate::frame::{Advance, Asked, Frame};
+use crate::frame::{Advance, Asked, Frame, Unvalued};
 use crate::memo::Memo;
+use crate::plan::Planned;
 use crate::pool::Pool;
 use std::alloc::AllocError;
 use wi_cache::Key;
@@ -69,6 +70,52 @@ impl<M: Memo + Drop> Question<M> {
         }
     }
 
+    /// The same for a cell of which what-ifs are asked, with the same cells replaced again and again: its value is found by a plan,
+    /// where there is one.
+    pub fn what_if_value(
+        &mut self,
+        store: &Store,
+        world: &World,
+        at: Address,
+    ) -> Result<Value, AllocError> {
+        match value_now(self.pool.allocator(), store, world, at, &mut self.memo)? {
+            Asked::Known(value) => Ok(value),
+            Asked::Unvalued(cell) => self.run_by_plan(store, cell),
+        }
+    }
+
+    /// The value of a formula that has to be valued, by a plan where there is one.
+    fn run_by_plan(&mut self, store: &Store, cell: Unvalued) -> Result<Value, AllocError> {
+        'rounds: loop {
+            match self.planned(store, &cell.key)? {
+                Planned::Done(value) => return Ok(value),
+                Planned::Waits(first) => drop(self.run(store, first.key, first.formula)?),
+                Planned::Unplanned => return self.run(store, cell.key, cell.formula),
+            }
+        }
+    }
+
+    /// How far a plan brings the value of a key.
+    #[inline(never)]
+    fn planned<'a>(&mut self, store: &'a Store, key: &Key) -> Result<Planned<'a>, AllocError> {
+        let plan = self.pool.plan()?;
+        plan.value(store, key, &mut self.memo, &mut self.meter)
+    }
+
+    /// The same for a key whose value a frame needs: there are plans for formula cells of what-ifs alone.
+    #[inline(always)]
+    fn way_to<'a>(
+        &mut self,
+        store: &'a Store,
+        frame: &Frame,
+        key: &Key,
+    ) -> Result<Planned<'a>, AllocError> {
+        if frame.waits_for_what_if(key.cell) {
+            return self.planned(store, key);
+        }
+        Ok(Planned::Unplanned)
+    }
+
     /// The value of a formula under the replacements of its key, found by a stack of frames. The value of each frame goes to
     /// the one below, which may wait for it, and then to the memory, by `Memo::keep`.
     fn run(&mut self, store: &Store, key: Key, formula: &Formula) -> Result<Value, AllocError>
@@ -90,10 +137,17 @@ impl<M: Memo + Drop> Question<M> {
         let mut frame = Frame::new(key, formula, self.pool.take());
         'frames: loop {
             match advance(alloc, store, &mut frame, &mut self.memo, &mut self.meter)? {
-                Advance::Unvalued(next) => {
-                    stack.push(frame)?;
-                    frame = Frame::new(next.key, next.formula, self.pool.take());
-                }
+                Advance::Unvalued(next) => match self.way_to(store, &frame, &next.key)? {
+                    Planned::Unplanned => {
+                        stack.push(frame)?;
+                        frame = Frame::new(next.key, next.formula, self.pool.take());
+                    }
+                    Planned::Waits(first) => {
+                        stack.push(frame)?;
+                        frame = Frame::new(first.key, first.formula, self.pool.take());
+                    }
+                    Planned::Done(value) => drop(value),
+                },
                 Advance::Done(value) => match stack.pop() {
                     None => {
                         let shown = value.copy(alloc)?;

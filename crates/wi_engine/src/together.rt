@@ -13,12 +13,24 @@ ghost use Rattle.wi_graph.specs.Reach.{is_one_of};
 ghost use Rattle.wi_sheet.specs.Demand.{reads_here};
 ghost use Rattle.wi_engine.specs.Inner.Courses.{AreTogether, IsCourseTo, IsSmallestWith, is_next};
 
-use crate::course::{Course, Way, part};
-use crate::frame::Frame;
+use crate::course::{Course, Way, course_through, part};
+use crate::found::Found;
 use crate::lacking::{next_lacking_in, with_next_lacking};
 use std::alloc::{AllocError, Global};
+use wi_parser::Formula;
 use wi_store::Store;
 use wi_values::{Address, Rect};
+use wi_worlds::World;
+
+/// A formula that is being valued under replacements, with what was found for it, and one course for each of its rectangles from
+/// which a cell was wanted.
+#[derive(Drop)]
+pub struct Reader<'a, F: Found> {
+    pub formula: &'a Formula,
+    pub world: &'a World,
+    pub found: &'a F,
+    pub courses: &'a [Course],
+}
 
 /// Cells that are to be found together, and the course that they take.
 #[derive(Drop)]
@@ -30,10 +42,10 @@ pub struct Batch {
 /// The cells that are to be found together with one that a frame's formula lacks, that one first. They lie in the smallest of
 /// the formula's rectangles that hold it. The work grows with the count of the formula's rectangles, and as that of
 /// `next_lacking_in` and of `with_next_lacking`.
-pub fn together(
+pub fn together<F: Found>(
     alloc: Global,
     store: &Store,
-    frame: &Frame,
+    reader: &Reader<F>,
     at: Address,
 ) -> Result<Batch, AllocError>
     requires read { reads_here frame.now.formula.now at ≡ true }
@@ -45,10 +57,18 @@ pub fn together(
     ensures following { IfOk result (λ b.
         AreTogether store.now.sheet frame.now frame.now.formula.now at b.course b.cells.items) }
 {
-    let rectangle = smallest_with(frame.formula.rectangles(), at);
-    let course = course_to(store, frame, rectangle, at);
+    let rectangle = smallest_with(reader.formula.rectangles(), at);
+    let course = course_to(store, reader, rectangle, at);
     let area = part(rectangle, course.way, at);
-    let cells = with_next_lacking(alloc, store, frame, area, at, course.count)?;
+    let cells = with_next_lacking(
+        alloc,
+        store,
+        reader.world,
+        reader.found,
+        area,
+        at,
+        course.count,
+    )?;
     let last = *cells.last().unwrap_or(&at);
     Ok(Batch {
         cells,
@@ -57,13 +77,13 @@ pub fn together(
 }
 
 /// The course through a rectangle with one more cell that is wanted.
-fn course_to(store: &Store, frame: &Frame, rectangle: Rect, at: Address) -> Course
+fn course_to<F: Found>(store: &Store, reader: &Reader<F>, rectangle: Rect, at: Address) -> Course
     ensures rectangle { result.rectangle ≡ rectangle }
     ensures count { IsCourseTo store.now.sheet frame.now at result }
 {
-    match frame.course_through(rectangle) {
+    match course_through(reader.courses, rectangle) {
         None => Course::begun(rectangle, at),
-        Some(course) => match way_on(store, frame, &course, at) {
+        Some(course) => match way_on(store, reader, &course, at) {
             Some(way) => course.led_on(way),
             None => course.broken(),
         },
@@ -71,38 +91,50 @@ fn course_to(store: &Store, frame: &Frame, rectangle: Rect, at: Address) -> Cour
 }
 
 /// The way in which a cell follows the last one of a course.
-fn way_on(store: &Store, frame: &Frame, course: &Course, at: Address) -> Option<Way>
+fn way_on<F: Found>(store: &Store, reader: &Reader<F>, course: &Course, at: Address) -> Option<Way>
     ensures { IfSome result (λ way. is_next store.now.sheet frame.now course.now way at ≡ true) }
 {
-    if leads_to(store, frame, course, Way::Row, at) {
+    if leads_to(store, reader, course, Way::Row, at) {
         return Some(Way::Row);
     }
-    if leads_to(store, frame, course, Way::Column, at) {
+    if leads_to(store, reader, course, Way::Column, at) {
         return Some(Way::Column);
     }
-    if leads_to(store, frame, course, Way::Whole, at) {
+    if leads_to(store, reader, course, Way::Whole, at) {
         return Some(Way::Whole);
     }
     None
 }
 
 /// Whether a course goes on to a cell in this way.
-fn leads_to(store: &Store, frame: &Frame, course: &Course, way: Way, at: Address) -> bool
+fn leads_to<F: Found>(
+    store: &Store,
+    reader: &Reader<F>,
+    course: &Course,
+    way: Way,
+    at: Address,
+) -> bool
     ensures { result ≡ true → is_next store.now.sheet frame.now course.now way at ≡ true }
 {
-    course.way.may_become(way) && is_next(store, frame, course, way, at)
+    course.way.may_become(way) && is_next(store, reader, course, way, at)
 }
 
 /// Whether a cell is the next one that is lacking after the last one of a course, in the part of its rectangle through which this
 /// way leads.
-fn is_next(store: &Store, frame: &Frame, course: &Course, way: Way, at: Address) -> bool
+fn is_next<F: Found>(
+    store: &Store,
+    reader: &Reader<F>,
+    course: &Course,
+    way: Way,
+    at: Address,
+) -> bool
     ensures { result ≡ is_next store.now.sheet frame.now course.now way at }
 {
     let area = part(course.rectangle, way, at);
     if !area.contains(course.last) || at <= course.last {
         return false;
     }
-    match next_lacking_in(store, frame, area, course.last) {
+    match next_lacking_in(store, reader.world, reader.found, area, course.last) {
         Some(next) => next == at,
         None => false,
     }

@@ -146,6 +146,7 @@ impl KeptCalculator {
         match edit(&mut self.store, &mut self.generations, &cone, changes) {
             Ok(()) => {
                 keep_over_edit(self.alloc, &self.graph, &mut self.cones);
+                self.pool.forget_plans();
                 self.graph.commit();
                 raise(&mut self.generations, &cone, self.store.edits());
                 Ok(())
@@ -188,6 +189,7 @@ impl KeptCalculator {
             cones,
             kept,
         );
+        self.pool.begin_question();
         let mut question = Question {
             memo,
             meter: self.meter,
@@ -239,6 +241,7 @@ impl KeptCalculator {
             cones,
             kept,
         );
+        self.pool.begin_question();
         let mut question = Question {
             memo,
             meter: self.meter,

@@ -104,7 +104,7 @@ pub fn open_entry<M: Memo + Drop>(
         world.now (formula_cell, pairs.now))) }
 {
     let replaced = with_inputs(question, store, world, pairs)?;
-    let value = question.value(store, &replaced, formula_cell)?;
+    let value = question.what_if_value(store, &replaced, formula_cell)?;
     Ok(zero_for_empty(value))
 }
 

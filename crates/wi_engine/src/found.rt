@@ -1,0 +1,13 @@
+//! What was found for a formula that is being valued.
+
+use wi_parser::Pair;
+use wi_values::{Address, Value};
+
+/// Whatever has some of the values of cells and of what-ifs.
+pub trait Found {
+    /// The value found of a cell.
+    fn value_of(&self, at: Address) -> Option<&Value>;
+
+    /// The value found of a what-if.
+    fn value_of_what_if(&self, at: Address, pairs: &[Pair]) -> Option<&Value>;
+}
