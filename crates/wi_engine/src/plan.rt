@@ -29,15 +29,14 @@ enum Task {
     Evaluate(usize),
 }
 
-/// How far a cell has come for which there may be a plan.
+/// What came of a task.
 #[derive(Drop)]
-pub enum Planned<'a> {
-    /// Its value, which is remembered.
-    Done(Value),
-    /// It has to be valued first.
-    Waits(Unvalued<'a>),
-    /// There is no plan for it.
-    Unplanned,
+pub enum Went<'a> {
+    On,
+    /// The cell at a place has to be valued the ordinary way.
+    Waits(usize, Unvalued<'a>),
+    /// There is no task any more.
+    ToTheEnd,
 }
 
 /// The plan for some replaced cells, and the values found in a question with other values for them.
@@ -76,29 +75,26 @@ impl Plan {
         self.standing.clear();
     }
 
-    /// Values the cell of a key over the plan for the replacements of the key, if there is one or can be made. What is found is
-    /// kept.
-    pub fn value<'a, M: Memo>(
+    /// The place of a key's cell in the plan for its replacements, if there is one or can be made. The values then are those of these
+    /// replacements.
+    pub fn place_for<M: Memo>(
         &mut self,
-        store: &'a Store,
+        store: &Store,
         key: &Key,
         memo: &mut M,
-        meter: &mut Meter,
-    ) -> Result<Planned<'a>, AllocError> {
+    ) -> Result<Option<usize>, AllocError> {
         if key.world.replacements().is_empty() {
-            return Ok(Planned::Unplanned);
+            return Ok(None);
         }
-        match self.place_for(store, key, memo)? {
-            Some(place) => {
-                self.take_world(&key.world)?;
-                self.fill(store, place, memo, meter)
-            }
-            None => Ok(Planned::Unplanned),
+        let place = self.planned_place(store, key, memo)?;
+        if place.is_some() {
+            self.take_world(&key.world)?;
         }
+        Ok(place)
     }
 
     // The place of a key's cell in the plan for its replacements, if there is such a plan.
-    fn place_for<M: Memo>(
+    fn planned_place<M: Memo>(
         &mut self,
         store: &Store,
         key: &Key,
@@ -187,33 +183,37 @@ impl Plan {
         Ok(())
     }
 
-    // Values a place, with all that it lacks.
-    fn fill<'a, M: Memo>(
+    /// Begins to value a place.
+    pub fn begin_at(&mut self, root: usize) -> Result<(), AllocError> {
+        self.tasks.clear();
+        self.open(root)
+    }
+
+    /// The value at a place, once all tasks are done.
+    pub fn value(&self, place: usize) -> Option<&Value> {
+        self.standing.value(place)
+    }
+
+    /// Does the next task. Gives a cell that has to be valued the ordinary way, at its place.
+    pub fn go_on<'a, M: Memo>(
         &mut self,
         store: &'a Store,
-        root: usize,
         memo: &mut M,
         meter: &mut Meter,
-    ) -> Result<Planned<'a>, AllocError> {
-        self.tasks.clear();
-        self.open(root)?;
-        for _ in 0..u64::MAX {
-            match self.tasks.pop() {
-                Some(Task::Ask(place)) => {
-                    if let Some(first) = self.ask(store, place, memo)? {
-                        return Ok(Planned::Waits(first));
-                    }
-                }
-                Some(Task::Evaluate(place)) => self.evaluate(store, place, memo, meter)?,
-                None => {
-                    return match self.standing.value(root) {
-                        Some(value) => Ok(Planned::Done(value.copy(self.alloc)?)),
-                        None => Ok(Planned::Unplanned),
-                    };
-                }
+    ) -> Result<Went<'a>, AllocError> {
+        match self.tasks.pop() {
+            Some(Task::Ask(place)) => self.ask(store, place, memo),
+            Some(Task::Evaluate(place)) => {
+                self.evaluate(store, place, memo, meter)?;
+                Ok(Went::On)
             }
+            None => Ok(Went::ToTheEnd),
         }
-        Ok(Planned::Unplanned)
+    }
+
+    /// Puts in the value of a place that was found the ordinary way.
+    pub fn put(&mut self, place: usize, value: Value) {
+        self.standing.put(place, value);
     }
 
     // Lets a place be evaluated, once its sure reads have their values.
@@ -226,30 +226,30 @@ impl Plan {
         Ok(())
     }
 
-    // Looks for the value of a place. Gives a formula that has to be valued the ordinary way.
+    // Looks for the value of a place.
     fn ask<'a, M: Memo>(
         &mut self,
         store: &'a Store,
         place: usize,
         memo: &mut M,
-    ) -> Result<Option<Unvalued<'a>>, AllocError> {
+    ) -> Result<Went<'a>, AllocError> {
         if self.standing.value(place).is_some() {
-            return Ok(None);
+            return Ok(Went::On);
         }
         let entry = self.array.entry(place);
         let key = self.key_of(entry)?;
         if let Some(value) = memo.look(&key) {
             let shown = value.copy(self.alloc)?;
             self.standing.put(place, shown);
-            return Ok(None);
+            return Ok(Went::On);
         }
         match entry.kind {
             Kind::Inner => {
                 self.open(place)?;
-                Ok(None)
+                Ok(Went::On)
             }
             Kind::Base => match formula_at(store, entry.at) {
-                Some(formula) => Ok(Some(Unvalued { key, formula })),
+                Some(formula) => Ok(Went::Waits(place, Unvalued { key, formula })),
                 None => unreachable!(),
             },
             Kind::Closed => unreachable!(),

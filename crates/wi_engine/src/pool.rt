@@ -49,15 +49,17 @@ impl Pool {
         self.alloc
     }
 
-    /// What is planned for what-ifs.
-    pub(crate) fn plan(&mut self) -> Result<&mut Plan, AllocError> {
-        if self.plan.is_none() {
-            self.plan = Some(Box::new(self.alloc, Plan::new(self.alloc))?);
-        }
-        match &mut self.plan {
+    /// What is planned for what-ifs, which then is nothing in the pool.
+    pub(crate) fn take_plan(&mut self) -> Result<Box<Plan>, AllocError> {
+        match self.plan.take() {
             Some(plan) => Ok(plan),
-            None => unreachable!(),
+            None => Box::new(self.alloc, Plan::new(self.alloc)),
         }
+    }
+
+    /// Puts back what is planned.
+    pub(crate) fn put_plan(&mut self, plan: Box<Plan>) {
+        self.plan = Some(plan);
     }
 
     /// Takes the values away that plans have found.

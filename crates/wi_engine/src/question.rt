@@ -13,9 +13,9 @@ ghost use Rattle.wi_engine.specs.Inner.Spends.{Spends};
 
 use crate::asked::value_now;
 use crate::engine::{advance, take_in};
-use crate::frame::{Advance, Asked, Frame, Unvalued};
+use crate::frame::{Advance, Asked, Frame};
 use crate::memo::Memo;
-use crate::plan::Planned;
+use crate::plan::{Plan, Went};
 use crate::pool::Pool;
 use std::alloc::AllocError;
 use wi_cache::Key;
@@ -24,6 +24,56 @@ use wi_parser::Formula;
 use wi_store::Store;
 use wi_values::{Address, Value};
 use wi_worlds::World;
+
+/// How a run of frames finds values beside frames.
+trait Plans {
+    /// Whether the value of a key for which a frame waits was found, and is remembered now.
+    fn find<M: Memo + Drop>(
+        &self,
+        question: &mut Question<M>,
+        store: &Store,
+        frame: &Frame,
+        key: &Key,
+    ) -> Result<bool, AllocError>;
+}
+
+/// By plans, for the formula cells of what-ifs.
+struct ByPlans;
+
+impl Plans for ByPlans {
+    #[inline(always)]
+    fn find<M: Memo + Drop>(
+        &self,
+        question: &mut Question<M>,
+        store: &Store,
+        frame: &Frame,
+        key: &Key,
+    ) -> Result<bool, AllocError> {
+        if !frame.waits_for_what_if(key.cell) {
+            return Ok(false);
+        }
+        Ok(question.planned_value(store, key)?.is_some())
+    }
+}
+
+/// By frames alone.
+struct WithoutPlans;
+
+impl Plans for WithoutPlans {
+    fn find<M: Memo + Drop>(
+        &self,
+        question: &mut Question<M>,
+        store: &Store,
+        frame: &Frame,
+        key: &Key,
+    ) -> Result<bool, AllocError> {
+        let _ = question.meter;
+        let _ = store;
+        let _ = frame;
+        let _ = key;
+        Ok(false)
+    }
+}
 
 /// A question in progress: what is remembered of values, what was counted, and arrays for the formulas to come.
 #[derive(Drop)]
@@ -66,7 +116,7 @@ impl<M: Memo + Drop> Question<M> {
     {
         match value_now(self.pool.allocator(), store, world, at, &mut self.memo)? {
             Asked::Known(value) => Ok(value),
-            Asked::Unvalued(cell) => self.run(store, cell.key, cell.formula),
+            Asked::Unvalued(cell) => self.run(&ByPlans, store, cell.key, cell.formula),
         }
     }
 
@@ -80,45 +130,59 @@ impl<M: Memo + Drop> Question<M> {
     ) -> Result<Value, AllocError> {
         match value_now(self.pool.allocator(), store, world, at, &mut self.memo)? {
             Asked::Known(value) => Ok(value),
-            Asked::Unvalued(cell) => self.run_by_plan(store, cell),
+            Asked::Unvalued(cell) => match self.planned_value(store, &cell.key)? {
+                Some(value) => Ok(value),
+                None => self.run(&ByPlans, store, cell.key, cell.formula),
+            },
         }
     }
 
-    /// The value of a formula that has to be valued, by a plan where there is one.
-    fn run_by_plan(&mut self, store: &Store, cell: Unvalued) -> Result<Value, AllocError> {
-        'rounds: loop {
-            match self.planned(store, &cell.key)? {
-                Planned::Done(value) => return Ok(value),
-                Planned::Waits(first) => drop(self.run(store, first.key, first.formula)?),
-                Planned::Unplanned => return self.run(store, cell.key, cell.formula),
+    /// The value of a key that has to be valued, where there is a plan for it.
+    #[inline(never)]
+    fn planned_value(&mut self, store: &Store, key: &Key) -> Result<Option<Value>, AllocError> {
+        let mut plan = self.pool.take_plan()?;
+        let value = self.value_by(&mut plan, store, key);
+        self.pool.put_plan(plan);
+        value
+    }
+
+    /// The same, by this plan.
+    fn value_by(
+        &mut self,
+        plan: &mut Plan,
+        store: &Store,
+        key: &Key,
+    ) -> Result<Option<Value>, AllocError> {
+        let Some(root) = plan.place_for(store, key, &mut self.memo)? else {
+            return Ok(None);
+        };
+        plan.begin_at(root)?;
+        'tasks: loop {
+            match plan.go_on(store, &mut self.memo, &mut self.meter)? {
+                Went::On => (),
+                Went::Waits(place, cell) => {
+                    let value = self.run(&WithoutPlans, store, cell.key, cell.formula)?;
+                    plan.put(place, value);
+                }
+                Went::ToTheEnd => {
+                    return match plan.value(root) {
+                        Some(value) => Ok(Some(value.copy(self.pool.allocator())?)),
+                        None => Ok(None),
+                    };
+                }
             }
         }
     }
 
-    /// How far a plan brings the value of a key.
-    #[inline(never)]
-    fn planned<'a>(&mut self, store: &'a Store, key: &Key) -> Result<Planned<'a>, AllocError> {
-        let plan = self.pool.plan()?;
-        plan.value(store, key, &mut self.memo, &mut self.meter)
-    }
-
-    /// The same for a key whose value a frame needs: there are plans for formula cells of what-ifs alone.
-    #[inline(always)]
-    fn way_to<'a>(
-        &mut self,
-        store: &'a Store,
-        frame: &Frame,
-        key: &Key,
-    ) -> Result<Planned<'a>, AllocError> {
-        if frame.waits_for_what_if(key.cell) {
-            return self.planned(store, key);
-        }
-        Ok(Planned::Unplanned)
-    }
-
     /// The value of a formula under the replacements of its key, found by a stack of frames. The value of each frame goes to
     /// the one below, which may wait for it, and then to the memory, by `Memo::keep`.
-    fn run(&mut self, store: &Store, key: Key, formula: &Formula) -> Result<Value, AllocError>
+    fn run<P: Plans>(
+        &mut self,
+        plans: &P,
+        store: &Store,
+        key: Key,
+        formula: &Formula,
+    ) -> Result<Value, AllocError>
         requires memo { IsMemoOf store.now.sheet (M.state self.old.memo) }
         requires key { IsUnvaluedKey store.now.sheet (M.state self.old.memo) key }
         requires formula { StandsAt store.now.sheet key formula.now }
@@ -137,17 +201,12 @@ impl<M: Memo + Drop> Question<M> {
         let mut frame = Frame::new(key, formula, self.pool.take());
         'frames: loop {
             match advance(alloc, store, &mut frame, &mut self.memo, &mut self.meter)? {
-                Advance::Unvalued(next) => match self.way_to(store, &frame, &next.key)? {
-                    Planned::Unplanned => {
+                Advance::Unvalued(next) => {
+                    if !plans.find(self, store, &frame, &next.key)? {
                         stack.push(frame)?;
                         frame = Frame::new(next.key, next.formula, self.pool.take());
                     }
-                    Planned::Waits(first) => {
-                        stack.push(frame)?;
-                        frame = Frame::new(first.key, first.formula, self.pool.take());
-                    }
-                    Planned::Done(value) => drop(value),
-                },
+                }
                 Advance::Done(value) => match stack.pop() {
                     None => {
                         let shown = value.copy(alloc)?;
