@@ -1,7 +1,7 @@
 //! The formula cells that a plan values, in an array.
 
 use crate::occupied::next_within;
-use crate::seen::formula_at;
+use crate::seen::{formula_at, formula_in};
 use std::alloc::{AllocError, Global};
 use wi_functions::push_first_cells;
 use wi_parser::Formula;
@@ -11,7 +11,7 @@ use wi_values::{Address, Rect};
 use wi_worlds::World;
 
 /// How a cell is valued.
-#[derive(Clone, Copy, PartialEq, Eq)]
+#[derive(Clone, Copy)]
 pub enum Kind {
     /// It reaches no replaced cell, so its value is found the ordinary way.
     Base,
@@ -22,80 +22,72 @@ pub enum Kind {
     Closed,
 }
 
-/// What stands at a place of the array: a cell with a formula.
-#[derive(Clone, Copy)]
+/// A cell with a formula, and which cells of the array this reads.
+#[derive(Drop)]
 pub struct Entry {
     pub at: Address,
     pub generation: u64,
     pub kind: Kind,
-    // Which of the reads are its own, and up to which of them each evaluation asks for.
-    first: usize,
-    sure: usize,
-    end: usize,
+    /// The places of the cells that it reads.
+    pub reads: Vec<usize>,
+    /// Those for which each evaluation asks, the first one last.
+    pub sure: Vec<usize>,
 }
 
-/// Cells with a formula, each behind those that it reads and that have a place. None of them is replaced.
+/// Entries of cells, one for each, and each behind those of the cells that it reads.
 #[derive(Drop)]
 pub struct Array {
+    alloc: Global,
     entries: Vec<Entry>,
-    // Of each entry in turn, the places of the cells that its formula reads.
-    reads: Vec<usize>,
     places: CellMap<usize>,
 }
 
 impl Array {
-    /// No cells. Takes no memory.
+    /// No entries. Takes no memory.
     pub fn new(alloc: Global) -> Array {
         Array {
+            alloc,
             entries: Vec::new(alloc),
-            reads: Vec::new(alloc),
             places: CellMap::new(alloc),
         }
     }
 
+    /// How many entries there are.
     pub fn len(&self) -> usize {
         self.entries.len()
     }
 
-    /// The place of a cell, if it has one.
+    /// The place of a cell, if it has an entry. One look-up.
     pub fn place(&self, at: Address) -> Option<usize> {
-        self.places.get(at).copied()
+        match self.places.get(at) {
+            Some(place) => Some(*place),
+            None => None,
+        }
     }
 
     // The place of a cell that may be read over the array.
     fn open_place(&self, at: Address) -> Option<usize> {
         let place = self.place(at)?;
-        if self.entries[place].kind == Kind::Closed {
-            return None;
+        match self.entries[place].kind {
+            Kind::Base => Some(place),
+            Kind::Inner => Some(place),
+            Kind::Closed => None,
         }
-        Some(place)
     }
 
-    /// What stands at a place.
-    pub fn entry(&self, place: usize) -> Entry {
-        self.entries[place]
-    }
-
-    /// The places of the cells that an entry reads, in no order.
-    pub fn reads(&self, entry: Entry) -> &[usize] {
-        &self.reads[entry.first..entry.end]
-    }
-
-    /// Those of them for which each evaluation asks, the first one last.
-    pub fn sure_reads(&self, entry: Entry) -> &[usize] {
-        &self.reads[entry.first..entry.sure]
+    /// The entry at a place.
+    pub fn entry(&self, place: usize) -> &Entry {
+        &self.entries[place]
     }
 
     /// Adds a cell that is not valued over the array. It has no place yet.
     pub fn add_leaf(&mut self, at: Address, generation: u64, kind: Kind) -> Result<(), AllocError> {
-        let end = self.reads.len();
-        self.add(Entry {
+        self.push(Entry {
             at,
             generation,
             kind,
-            first: end,
-            sure: end,
-            end,
+            reads: Vec::new(self.alloc),
+            sure: Vec::new(self.alloc),
         })
     }
 
@@ -103,7 +95,6 @@ impl Array {
     /// isn't added.
     pub fn add_inner(
         &mut self,
-        alloc: Global,
         store: &Store,
         world: &World,
         at: Address,
@@ -112,76 +103,78 @@ impl Array {
         let Some(formula) = formula_at(store, at) else {
             return Ok(false);
         };
-        let first = self.reads.len();
-        self.push_sure(alloc, formula)?;
-        let sure = self.reads.len();
-        if !self.push_all(store, world, formula)? {
-            self.reads.truncate(first);
+        let Some(reads) = self.reads_of(store, world, formula)? else {
             return Ok(false);
-        }
-        let end = self.reads.len();
-        self.add(Entry {
+        };
+        let sure = self.sure_of(&reads, formula)?;
+        self.push(Entry {
             at,
             generation,
             kind: Kind::Inner,
-            first,
+            reads,
             sure,
-            end,
         })?;
         Ok(true)
     }
 
-    // Puts an entry behind the others.
-    fn add(&mut self, entry: Entry) -> Result<(), AllocError> {
+    // Puts an entry behind the others. If memory runs out, all is as before.
+    fn push(&mut self, entry: Entry) -> Result<(), AllocError> {
         self.entries.reserve(1)?;
-        self.places.put_new(entry.at, self.entries.len())?;
-        self.entries.push(entry)?;
+        let place = self.entries.len();
+        let _new = self.places.put_new(entry.at, place)?;
+        self.entries.push(entry).unwrap();
         Ok(())
     }
 
-    // Lists the places of cells for which each evaluation of a formula asks, the first one last.
-    fn push_sure(&mut self, alloc: Global, formula: &Formula) -> Result<(), AllocError> {
-        let mut cells = Vec::new(alloc);
-        push_first_cells(formula, &mut cells)?;
-        while let Some(cell) = cells.pop() {
-            if let Some(place) = self.place(cell) {
-                self.reads.push(place)?;
-            }
-        }
-        Ok(())
-    }
-
-    // Lists the places of all cells with a formula that a formula reads and that aren't replaced. Answers whether each has one.
-    fn push_all(
-        &mut self,
+    // The places of all cells that a formula reads and that have one under some replacements, if each has a place.
+    fn reads_of(
+        &self,
         store: &Store,
         world: &World,
         formula: &Formula,
-    ) -> Result<bool, AllocError> {
+    ) -> Result<Option<Vec<usize>>, AllocError> {
+        let mut reads = Vec::new(self.alloc);
         for area in formula.rectangles() {
-            if !self.push_within(store, world, *area)? {
-                return Ok(false);
+            if !self.push_reads(store, world, *area, &mut reads)? {
+                return Ok(None);
             }
         }
-        Ok(true)
+        Ok(Some(reads))
     }
 
-    fn push_within(
-        &mut self,
+    // Appends those of a rectangle. Answers whether each has a place.
+    fn push_reads(
+        &self,
         store: &Store,
         world: &World,
         area: Rect,
+        reads: &mut Vec<usize>,
     ) -> Result<bool, AllocError> {
         let mut ahead = next_within(store, area, None);
         while let Some(cell) = ahead {
-            if world.replacement(cell).is_none() && formula_at(store, cell).is_some() {
+            if formula_in(store, world, cell).is_some() {
                 match self.open_place(cell) {
-                    Some(place) => self.reads.push(place)?,
+                    Some(place) => reads.push(place)?,
                     None => return Ok(false),
                 }
             }
             ahead = next_within(store, area, Some(cell));
         }
         Ok(true)
+    }
+
+    // Those of these places for whose cells each evaluation of a formula asks, the first one last.
+    fn sure_of(&self, reads: &[usize], formula: &Formula) -> Result<Vec<usize>, AllocError> {
+        let mut cells = Vec::new(self.alloc);
+        push_first_cells(formula, &mut cells)?;
+        let mut sure = Vec::new(self.alloc);
+        while let Some(cell) = cells.pop() {
+            if let Some(place) = self.place(cell) {
+                if reads.contains(&place) {
+                    sure.push(place)?;
+                }
+            }
+        }
+        Ok(sure)
     }
 }

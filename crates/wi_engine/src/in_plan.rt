@@ -1,6 +1,6 @@
 //! What an array has found for one of its cells.
 
-use crate::array::{Array, Entry};
+use crate::array::Array;
 use crate::found::Found;
 use crate::standing::Standing;
 use wi_parser::Pair;
@@ -14,14 +14,15 @@ const MOST_SOUGHT: usize = 8;
 pub struct InPlan<'a> {
     pub array: &'a Array,
     pub standing: &'a Standing,
-    pub reader: Entry,
+    // The places of the cells that it reads.
+    pub reads: &'a [usize],
 }
 
 impl<'a> InPlan<'a> {
     // The place of a cell.
     fn place(&self, at: Address) -> Option<usize> {
         let mut sought = 0;
-        for place in self.array.reads(self.reader) {
+        for place in self.reads {
             if self.array.entry(*place).at == at {
                 return Some(*place);
             }

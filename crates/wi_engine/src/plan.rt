@@ -13,6 +13,7 @@ use crate::together::{Reader, together};
 use std::alloc::{AllocError, Global};
 use wi_cache::Key;
 use wi_functions::{Meter, Outcome, Want, evaluate};
+use wi_parser::Formula;
 use wi_store::Store;
 use wi_values::{Address, Value};
 use wi_worlds::World;
@@ -20,23 +21,30 @@ use wi_worlds::World;
 /// How often the same cells are replaced, one time after another, until a plan is made.
 const ASKED_BEFORE: u32 = 2;
 
-/// What has to be done at a place.
+/// A place whose formula is being valued, and how many places are asked for by those below it.
 #[derive(Clone, Copy)]
-enum Task {
-    /// To look whether its value is remembered.
-    Ask(usize),
-    /// To evaluate its formula.
-    Evaluate(usize),
+pub struct Step {
+    pub place: usize,
+    base: usize,
 }
 
-/// What came of a task.
+/// How far a step has come.
 #[derive(Drop)]
-pub enum Went<'a> {
-    On,
-    /// The cell at a place has to be valued the ordinary way.
+pub enum Stepped<'a> {
+    /// Its value is there, and is remembered.
+    Done,
+    /// A place has to be valued over the array first.
+    Deeper(usize),
+    /// The cell at a place has to be valued by frames first.
     Waits(usize, Unvalued<'a>),
-    /// There is no task any more.
-    ToTheEnd,
+}
+
+/// What is found where a place is asked for.
+enum Sought<'a> {
+    Here,
+    /// It has to be valued first, over the array or by frames.
+    Inner,
+    Base(Unvalued<'a>),
 }
 
 /// The plan for some replaced cells, and the values found in a question with other values for them.
@@ -52,7 +60,9 @@ pub struct Plan {
     standing: Standing,
     // Of each place, the courses through its formula's rectangles, while it is being evaluated.
     courses: Vec<Vec<Course>>,
-    tasks: Vec<Task>,
+    // Those that wait, each for the next, and the places for which they ask yet.
+    steps: Vec<Step>,
+    asks: Vec<usize>,
 }
 
 impl Plan {
@@ -66,7 +76,8 @@ impl Plan {
             world: World::new(alloc),
             standing: Standing::new(alloc),
             courses: Vec::new(alloc),
-            tasks: Vec::new(alloc),
+            steps: Vec::new(alloc),
+            asks: Vec::new(alloc),
         }
     }
 
@@ -183,73 +194,98 @@ impl Plan {
         Ok(())
     }
 
-    /// Begins to value a place.
-    pub fn begin_at(&mut self, root: usize) -> Result<(), AllocError> {
-        self.tasks.clear();
-        self.open(root)
+    /// The first step, of a place, where none waits.
+    pub fn first_step(&mut self, place: usize) -> Result<Step, AllocError> {
+        self.steps.clear();
+        self.asks.clear();
+        self.step(place)
     }
 
-    /// The value at a place, once all tasks are done.
+    /// Lets a step wait for one of a place, which is given.
+    pub fn deeper(&mut self, step: Step, place: usize) -> Result<Step, AllocError> {
+        self.steps.push(step)?;
+        self.step(place)
+    }
+
+    /// The step that waited last, if one waits.
+    pub fn back(&mut self) -> Option<Step> {
+        self.steps.pop()
+    }
+
+    // A step of a place, which asks for its sure reads.
+    fn step(&mut self, place: usize) -> Result<Step, AllocError> {
+        let base = self.asks.len();
+        for read in &self.array.entry(place).sure {
+            self.asks.push(*read)?;
+        }
+        Ok(Step { place, base })
+    }
+
+    /// The value at a place, if it was found.
     pub fn value(&self, place: usize) -> Option<&Value> {
         self.standing.value(place)
     }
 
-    /// Does the next task. Gives a cell that has to be valued the ordinary way, at its place.
-    pub fn go_on<'a, M: Memo>(
-        &mut self,
-        store: &'a Store,
-        memo: &mut M,
-        meter: &mut Meter,
-    ) -> Result<Went<'a>, AllocError> {
-        match self.tasks.pop() {
-            Some(Task::Ask(place)) => self.ask(store, place, memo),
-            Some(Task::Evaluate(place)) => {
-                self.evaluate(store, place, memo, meter)?;
-                Ok(Went::On)
-            }
-            None => Ok(Went::ToTheEnd),
-        }
-    }
-
-    /// Puts in the value of a place that was found the ordinary way.
+    /// Puts in the value of a place that was found by frames.
     pub fn put(&mut self, place: usize, value: Value) {
         self.standing.put(place, value);
     }
 
-    // Lets a place be evaluated, once its sure reads have their values.
-    fn open(&mut self, place: usize) -> Result<(), AllocError> {
-        let entry = self.array.entry(place);
-        self.tasks.push(Task::Evaluate(place))?;
-        for read in self.array.sure_reads(entry) {
-            self.tasks.push(Task::Ask(*read))?;
+    /// Goes on with a step until its value is there or another has to be found first.
+    pub fn advance<'a, M: Memo>(
+        &mut self,
+        store: &'a Store,
+        step: Step,
+        memo: &mut M,
+        meter: &mut Meter,
+    ) -> Result<Stepped<'a>, AllocError> {
+        let at = self.array.entry(step.place).at;
+        let Some(formula) = formula_at(store, at) else {
+            unreachable!()
+        };
+        'rounds: loop {
+            while self.asks.len() > step.base {
+                let Some(place) = self.asks.pop() else {
+                    unreachable!()
+                };
+                match self.ask(store, place, memo)? {
+                    Sought::Here => (),
+                    Sought::Inner => return Ok(Stepped::Deeper(place)),
+                    Sought::Base(cell) => return Ok(Stepped::Waits(place, cell)),
+                }
+            }
+            match self.attempt(store, step.place, formula, meter)? {
+                Outcome::Done(value) => {
+                    self.keep(step.place, value, memo)?;
+                    return Ok(Stepped::Done);
+                }
+                Outcome::Needs(want) => self.ask_for(store, step.place, formula, want)?,
+            }
         }
-        Ok(())
     }
 
     // Looks for the value of a place.
+    #[inline(always)]
     fn ask<'a, M: Memo>(
         &mut self,
         store: &'a Store,
         place: usize,
         memo: &mut M,
-    ) -> Result<Went<'a>, AllocError> {
+    ) -> Result<Sought<'a>, AllocError> {
         if self.standing.value(place).is_some() {
-            return Ok(Went::On);
+            return Ok(Sought::Here);
         }
         let entry = self.array.entry(place);
         let key = self.key_of(entry)?;
         if let Some(value) = memo.look(&key) {
             let shown = value.copy(self.alloc)?;
             self.standing.put(place, shown);
-            return Ok(Went::On);
+            return Ok(Sought::Here);
         }
         match entry.kind {
-            Kind::Inner => {
-                self.open(place)?;
-                Ok(Went::On)
-            }
+            Kind::Inner => Ok(Sought::Inner),
             Kind::Base => match formula_at(store, entry.at) {
-                Some(formula) => Ok(Went::Waits(place, Unvalued { key, formula })),
+                Some(formula) => Ok(Sought::Base(Unvalued { key, formula })),
                 None => unreachable!(),
             },
             Kind::Closed => unreachable!(),
@@ -257,7 +293,8 @@ impl Plan {
     }
 
     // The key of a place.
-    fn key_of(&self, entry: Entry) -> Result<Key, AllocError> {
+    #[inline(always)]
+    fn key_of(&self, entry: &Entry) -> Result<Key, AllocError> {
         let world = match entry.kind {
             Kind::Base => World::new(self.alloc),
             Kind::Inner => self.world.copy()?,
@@ -270,25 +307,20 @@ impl Plan {
         })
     }
 
-    // Evaluates the formula of a place, and keeps its value, or asks for what it lacks.
-    fn evaluate<M: Memo>(
+    // Keeps the value of a place.
+    #[inline(always)]
+    fn keep<M: Memo>(
         &mut self,
-        store: &Store,
         place: usize,
+        value: Value,
         memo: &mut M,
-        meter: &mut Meter,
     ) -> Result<(), AllocError> {
-        match self.attempt(store, place, meter)? {
-            Outcome::Done(value) => {
-                let key = self.key_of(self.array.entry(place))?;
-                let shown = value.copy(self.alloc)?;
-                memo.keep(key, value)?;
-                self.standing.put(place, shown);
-                self.courses[place].clear();
-                Ok(())
-            }
-            Outcome::Needs(want) => self.wait_for(store, place, want),
-        }
+        let key = self.key_of(self.array.entry(place))?;
+        let shown = value.copy(self.alloc)?;
+        memo.keep(key, value)?;
+        self.standing.put(place, shown);
+        self.courses[place].clear();
+        Ok(())
     }
 
     // The value of a place's formula, where what stands suffices, or what is lacking.
@@ -296,34 +328,34 @@ impl Plan {
         &self,
         store: &Store,
         place: usize,
+        formula: &Formula,
         meter: &mut Meter,
     ) -> Result<Outcome, AllocError> {
-        let reader = self.array.entry(place);
-        let Some(formula) = formula_at(store, reader.at) else {
-            unreachable!()
-        };
-        let found = InPlan {
-            array: &self.array,
-            standing: &self.standing,
-            reader,
-        };
+        let found = self.found_for(place);
         let known = Known::new(store, &self.world, &found);
         evaluate(self.alloc, formula, &known, meter)
     }
 
-    // Lets a place be evaluated once more, once what it lacks has a value, with the cells that are found together with it.
-    #[inline(never)]
-    fn wait_for(&mut self, store: &Store, place: usize, want: Want) -> Result<(), AllocError> {
-        let Want::Cell(at) = want else { unreachable!() };
-        let entry = self.array.entry(place);
-        let Some(formula) = formula_at(store, entry.at) else {
-            unreachable!()
-        };
-        let found = InPlan {
+    // What stands, for the formula of a place.
+    fn found_for(&self, place: usize) -> InPlan<'_> {
+        InPlan {
             array: &self.array,
             standing: &self.standing,
-            reader: entry,
-        };
+            reads: &self.array.entry(place).reads,
+        }
+    }
+
+    // Asks for what a place's formula lacks, with the cells that are found together with it.
+    #[inline(never)]
+    fn ask_for(
+        &mut self,
+        store: &Store,
+        place: usize,
+        formula: &Formula,
+        want: Want,
+    ) -> Result<(), AllocError> {
+        let Want::Cell(at) = want else { unreachable!() };
+        let found = self.found_for(place);
         let reader = Reader {
             formula,
             world: &self.world,
@@ -332,7 +364,6 @@ impl Plan {
         };
         let batch = together(self.alloc, store, &reader, at)?;
         keep_course(&mut self.courses[place], batch.course)?;
-        self.tasks.push(Task::Evaluate(place))?;
         for cell in &batch.cells {
             self.push_ask(*cell)?;
         }
@@ -342,7 +373,7 @@ impl Plan {
     // Asks for a cell, which has a place.
     fn push_ask(&mut self, at: Address) -> Result<(), AllocError> {
         match self.array.place(at) {
-            Some(place) => Ok(self.tasks.push(Task::Ask(place))?),
+            Some(place) => Ok(self.asks.push(place)?),
             None => unreachable!(),
         }
     }

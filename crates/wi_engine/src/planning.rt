@@ -71,7 +71,7 @@ fn add_opened<M: Memo>(
             }
             None => {
                 let key = memo.key(current, world)?;
-                if !array.add_inner(alloc, store, world, current, key.generation)? {
+                if !array.add_inner(store, world, current, key.generation)? {
                     return Ok(false);
                 }
             }

@@ -53,7 +53,7 @@ impl Pool {
     pub(crate) fn take_plan(&mut self) -> Result<Box<Plan>, AllocError> {
         match self.plan.take() {
             Some(plan) => Ok(plan),
-            None => Box::new(self.alloc, Plan::new(self.alloc)),
+            None => Ok(Box::new(self.alloc, Plan::new(self.alloc))?),
         }
     }
 

@@ -15,7 +15,7 @@ use crate::asked::value_now;
 use crate::engine::{advance, take_in};
 use crate::frame::{Advance, Asked, Frame};
 use crate::memo::Memo;
-use crate::plan::{Plan, Went};
+use crate::plan::{Plan, Stepped};
 use crate::pool::Pool;
 use std::alloc::AllocError;
 use wi_cache::Key;
@@ -156,21 +156,27 @@ impl<M: Memo + Drop> Question<M> {
         let Some(root) = plan.place_for(store, key, &mut self.memo)? else {
             return Ok(None);
         };
-        plan.begin_at(root)?;
-        'tasks: loop {
-            match plan.go_on(store, &mut self.memo, &mut self.meter)? {
-                Went::On => (),
-                Went::Waits(place, cell) => {
+        let mut step = plan.first_step(root)?;
+        'steps: loop {
+            match plan.advance(store, step, &mut self.memo, &mut self.meter)? {
+                Stepped::Deeper(place) => step = plan.deeper(step, place)?,
+                Stepped::Waits(place, cell) => {
                     let value = self.run(&WithoutPlans, store, cell.key, cell.formula)?;
                     plan.put(place, value);
                 }
-                Went::ToTheEnd => {
-                    return match plan.value(root) {
-                        Some(value) => Ok(Some(value.copy(self.pool.allocator())?)),
-                        None => Ok(None),
-                    };
-                }
+                Stepped::Done => match plan.back() {
+                    Some(below) => step = below,
+                    None => return self.planned(plan, root),
+                },
             }
+        }
+    }
+
+    // The value at a place of a plan, where it is there.
+    fn planned(&self, plan: &Plan, place: usize) -> Result<Option<Value>, AllocError> {
+        match plan.value(place) {
+            Some(value) => Ok(Some(value.copy(self.pool.allocator())?)),
+            None => Ok(None),
         }
     }
 
