@@ -11,3 +11,19 @@ pub trait Found {
     /// The value found of a what-if.
     fn value_of_what_if(&self, at: Address, pairs: &[Pair]) -> Option<&Value>;
 }
+
+/// Nothing was found.
+pub struct Nothing;
+
+impl Found for Nothing {
+    fn value_of(&self, at: Address) -> Option<&Value> {
+        let _ = at;
+        None
+    }
+
+    fn value_of_what_if(&self, at: Address, pairs: &[Pair]) -> Option<&Value> {
+        let _ = at;
+        let _ = pairs;
+        None
+    }
+}

@@ -59,11 +59,12 @@ impl<'a> Frame<'a> {
     }
 
     /// Its formula, with what was found for it.
-    pub fn reader(&self) -> Reader<'_, Findings> {
+    pub fn reader(&self) -> Reader<'_, Findings, Findings> {
         Reader {
             formula: self.formula,
             world: &self.key.world,
             found: &self.found,
+            counted: &self.found,
             courses: &self.courses,
         }
     }

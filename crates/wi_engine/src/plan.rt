@@ -2,6 +2,7 @@
 
 use crate::array::{Array, Entry, Kind};
 use crate::course::{Course, keep_course};
+use crate::found::Nothing;
 use crate::frame::Unvalued;
 use crate::in_plan::InPlan;
 use crate::lookup::Known;
@@ -360,6 +361,7 @@ impl Plan {
             formula,
             world: &self.world,
             found: &found,
+            counted: &Nothing,
             courses: &self.courses[place],
         };
         let batch = together(self.alloc, store, &reader, at)?;

@@ -23,12 +23,14 @@ use wi_values::{Address, Rect};
 use wi_worlds::World;
 
 /// A formula that is being valued under replacements, with what was found for it, and one course for each of its rectangles from
-/// which a cell was wanted.
+/// which a cell was wanted. Of the cells that are found together those count whose value isn't among `counted`: where values are
+/// found for other formulas too, that is nothing, so that no cell is found for those.
 #[derive(Drop)]
-pub struct Reader<'a, F: Found> {
+pub struct Reader<'a, F: Found, C: Found> {
     pub formula: &'a Formula,
     pub world: &'a World,
     pub found: &'a F,
+    pub counted: &'a C,
     pub courses: &'a [Course],
 }
 
@@ -42,10 +44,10 @@ pub struct Batch {
 /// The cells that are to be found together with one that a frame's formula lacks, that one first. They lie in the smallest of
 /// the formula's rectangles that hold it. The work grows with the count of the formula's rectangles, and as that of
 /// `next_lacking_in` and of `with_next_lacking`.
-pub fn together<F: Found>(
+pub fn together<F: Found, C: Found>(
     alloc: Global,
     store: &Store,
-    reader: &Reader<F>,
+    reader: &Reader<F, C>,
     at: Address,
 ) -> Result<Batch, AllocError>
     requires read { reads_here frame.now.formula.now at ≡ true }
@@ -64,7 +66,7 @@ pub fn together<F: Found>(
         alloc,
         store,
         reader.world,
-        reader.found,
+        reader.counted,
         area,
         at,
         course.count,
@@ -77,7 +79,12 @@ pub fn together<F: Found>(
 }
 
 /// The course through a rectangle with one more cell that is wanted.
-fn course_to<F: Found>(store: &Store, reader: &Reader<F>, rectangle: Rect, at: Address) -> Course
+fn course_to<F: Found, C: Found>(
+    store: &Store,
+    reader: &Reader<F, C>,
+    rectangle: Rect,
+    at: Address,
+) -> Course
     ensures rectangle { result.rectangle ≡ rectangle }
     ensures count { IsCourseTo store.now.sheet frame.now at result }
 {
@@ -91,7 +98,12 @@ fn course_to<F: Found>(store: &Store, reader: &Reader<F>, rectangle: Rect, at: A
 }
 
 /// The way in which a cell follows the last one of a course.
-fn way_on<F: Found>(store: &Store, reader: &Reader<F>, course: &Course, at: Address) -> Option<Way>
+fn way_on<F: Found, C: Found>(
+    store: &Store,
+    reader: &Reader<F, C>,
+    course: &Course,
+    at: Address,
+) -> Option<Way>
     ensures { IfSome result (λ way. is_next store.now.sheet frame.now course.now way at ≡ true) }
 {
     if leads_to(store, reader, course, Way::Row, at) {
@@ -107,9 +119,9 @@ fn way_on<F: Found>(store: &Store, reader: &Reader<F>, course: &Course, at: Addr
 }
 
 /// Whether a course goes on to a cell in this way.
-fn leads_to<F: Found>(
+fn leads_to<F: Found, C: Found>(
     store: &Store,
-    reader: &Reader<F>,
+    reader: &Reader<F, C>,
     course: &Course,
     way: Way,
     at: Address,
@@ -121,9 +133,9 @@ fn leads_to<F: Found>(
 
 /// Whether a cell is the next one that is lacking after the last one of a course, in the part of its rectangle through which this
 /// way leads.
-fn is_next<F: Found>(
+fn is_next<F: Found, C: Found>(
     store: &Store,
-    reader: &Reader<F>,
+    reader: &Reader<F, C>,
     course: &Course,
     way: Way,
     at: Address,
