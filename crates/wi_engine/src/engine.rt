@@ -206,7 +206,6 @@ fn wait_for(alloc: Global, store: &Store, frame: &mut Frame, want: Want) -> Resu
 }
 
 /// Goes on with a frame until its value is there or another has to be found first.
-#[inline(always)]
 pub fn advance<'a, M: Memo>(
     alloc: Global,
     store: &'a Store,
@@ -262,7 +261,6 @@ fn wait_for_others(store: &Store, frame: &mut Frame, others: Vec<Address>)
 
 /// Takes in the value that was found for a key, where a frame waits for it, so that it isn't looked up. The frame then waits for
 /// the next cell that it lacks.
-#[inline(always)]
 pub fn take_in(
     alloc: Global,
     store: &Store,

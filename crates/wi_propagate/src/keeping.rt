@@ -113,7 +113,6 @@ impl<'a> Memo for Keeping<'a> {
     /// The key for a cell under replacements. The work for a cell that is replaced for the first time is that of its cone;
     /// else it is a comparison for each replacement, and that of `reaching_by`. Keys in turn with the same part of the
     /// replacements share it.
-    #[inline(always)]
     fn key(&mut self, at: Address, world: &World) -> Result<Key, AllocError> {
         add_cones(self.graph, world, &mut self.cones)?;
         let world = world.reaching_by(at, &self.cones, &mut self.last)?;
