@@ -240,10 +240,6 @@ impl Plan {
         memo: &mut M,
         meter: &mut Meter,
     ) -> Result<Stepped<'a>, AllocError> {
-        let at = self.array.entry(step.place).at;
-        let Some(formula) = formula_at(store, at) else {
-            unreachable!()
-        };
         'rounds: loop {
             while self.asks.len() > step.base {
                 let Some(place) = self.asks.pop() else {
@@ -255,6 +251,10 @@ impl Plan {
                     Sought::Base(cell) => return Ok(Stepped::Waits(place, cell)),
                 }
             }
+            let at = self.array.entry(step.place).at;
+            let Some(formula) = formula_at(store, at) else {
+                unreachable!()
+            };
             match self.attempt(store, step.place, formula, meter)? {
                 Outcome::Done(value) => {
                     self.keep(step.place, value, memo)?;
