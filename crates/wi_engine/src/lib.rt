@@ -2,6 +2,7 @@
 #![tactic(auto)]
 
 mod ahead;
+mod array;
 mod asked;
 mod attempt;
 mod cone;
@@ -11,9 +12,11 @@ mod filled;
 mod findings;
 mod frame;
 mod lacking;
+mod listing;
 mod lookup;
 mod memo;
 mod occupied;
+mod planning;
 mod pool;
 mod question;
 mod remembered;

@@ -22,8 +22,8 @@ use wi_values::Address;
 
 /// A cell that the walk is below, and how far it has come in what the cell's formula reads.
 #[derive(Clone, Copy)]
-struct Visit {
-    cell: Address,
+pub(crate) struct Visit {
+    pub(crate) cell: Address,
     // The rectangle of the formula that it has come to.
     rectangle: usize,
     // The cell of that rectangle that was looked at last, if one was.
@@ -211,8 +211,19 @@ impl Walk {
 }
 
 impl Visit {
+    /// A visit that has looked at nothing.
+    pub(crate) fn begun(cell: Address) -> Visit
+        ensures { result ≡ begun cell }
+    {
+        Visit {
+            cell,
+            rectangle: 0,
+            after: None,
+        }
+    }
+
     /// The next occupied cell that the formula reads, and the visit once that was looked at.
-    fn next(self, store: &Store) -> Option<(Address, Visit)>
+    pub(crate) fn next(self, store: &Store) -> Option<(Address, Visit)>
         ensures some { IfSome result (λ r.
             unread store.now.sheet self ≡ r.0 ∷ unread store.now.sheet r.1) }
         ensures same { IfSome result (λ r. r.1.cell ≡ self.cell) }

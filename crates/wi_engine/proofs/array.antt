@@ -1,0 +1,2 @@
+-- What the proofs about the array of a plan use.
+pub mod OneMore

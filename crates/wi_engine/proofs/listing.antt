@@ -1,0 +1,3 @@
+-- What the proofs about the places of the cells that a formula reads use.
+pub mod Listed
+pub mod PlacesRead

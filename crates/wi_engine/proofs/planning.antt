@@ -1,0 +1,3 @@
+-- What the proofs about how the array of a plan is made use.
+pub mod Whole
+pub mod Paths
