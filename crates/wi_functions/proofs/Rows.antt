@@ -3,7 +3,7 @@ use Rattle.std.proofs.Common.{◌≡◌, ℕ, ◌≤◌, refl, lit<, lit≤}
 use Rattle.std.specs.Prelude.{pos, ◌^◌, ◌-◌}
 use Rattle.wi_fraction.specs.Number as numbers
 use Rattle.wi_fraction.specs.Number.{max_size}
-use Rattle.wi_fraction.specs.Gcd.{gcd, gcd_within}
+use Rattle.wi_fraction.specs.Gcd.{gcd}
 use Rattle.wi_fraction.specs.Arithmetic.{sum_of}
 use Rattle.wi_fraction.specs.Gcd.Laws.{gcd-one}
 use Rattle.wi_values.specs.declared.value.ErrorKind.TheVariants.{BadNumber}
@@ -23,5 +23,5 @@ abbrev greatest : numbers.Number
 greatest = whole (2 ^ 127 - 1) (lit≤ tt)
 
 above_greatest : meaning (binary Add (number greatest) (number one)) (λ _. Empty) (λ _ _. Empty) ≡ Fault BadNumber
-unfolding sum_of gcd gcd_within
+unfolding sum_of gcd
 above_greatest = refl
