@@ -10,8 +10,9 @@ use Rattle.std.proofs.lemmas.List.{take-append-le, take_all, length-take, take-t
 use Rattle.std.proofs.lemmas.Nat.{div-mul-add}
 use Rattle.std.proofs.lemmas.Str.{IsCharBoundary-from_take, IsUtf8-string_bytes}
 use Rattle.std.proofs.Math.Nat.{div-add-mod', mul-div_cancel, mul_assoc, mul_comm, mul_right_comm, pow-suc, pow-zero, mul-one, mod-eq_of_lt, mul-add-mod_self_right, add-mul-div_right, div-lt_iff_lt-mul}
-use Rattle.wi_fraction.specs.Text.{places_from, padded, size_text}
+use Rattle.wi_fraction.specs.Text.{padded, size_text}
 use Rattle.wi_fraction.specs.Decimal.{all_places}
+use Rattle.wi_fraction.specs.Inner.Places.{places_from}
 use Rattle.wi_fraction.proofs.Places.{places_from_end, places_from_found, places_from_more, all_divide, multiple_of}
 
 -- ---- bytes that stay at the front
@@ -80,7 +81,7 @@ double_parts w r d =
 -- ---- the places
 
 pub all_places_begin : (d : ℕ) → all_places d ≡ places_from (127 - 0) 0 d
-unfolding all_places
+unfolding all_places places_from
 all_places_begin d = refl
 
 tenfold_parts : (n d : ℕ) → n * 10 ≡ n / d * 10 * d + n % d * 10

@@ -10,8 +10,8 @@ use Rattle.wi_fraction.specs.declared.rounding.Mode.TheVariants.{HalfAway, Away,
 use Rattle.wi_fraction.specs.Laws.{NotAbove, NotBelow, distance, IsGreatestNotAbove, IsLeastNotBelow, IsNearest, HasFloor, IsRounded}
 use Rattle.wi_fraction.specs.Number.{Number, signed}
 use Rattle.wi_fraction.specs.Number.Laws.{abs-neg}
-use Rattle.wi_fraction.specs.Rounding.{floored, floor_of, rounded, rounded_size}
-use Rattle.wi_fraction.proofs.NearWholes.{rounded_below, floor_number, floored_is, rounded_is}
+use Rattle.wi_fraction.specs.Rounding.{floor_of, rounded, rounded_size}
+use Rattle.wi_fraction.proofs.NearWholes.{rounded_below, floored_is, rounded_is}
 use Rattle.wi_fraction.proofs.Values.{neg-neg, neg-mul}
 
 -- ---- below and above

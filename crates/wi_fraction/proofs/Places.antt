@@ -1,59 +1,60 @@
 -- The places of a decimal: how many, and that no fewer will do.
 use Rattle.std.specs.Prelude.{◌≡◌, ℕ, zero, suc, ◌+◌, ◌-◌, ◌*◌, ◌/◌, ◌%◌, ◌^◌, ◌<◌, ◌≤◌, Option, Some, None, refl, ◌≢◌}
-use Rattle.std.proofs.Common.{◌∙◌, sym, arith}
+use Rattle.std.proofs.Common.{◌∙◌, sym, ap, arith}
 use Rattle.std.proofs.lemmas.Bool.Decides.{nat_tests}
 use Rattle.std.proofs.Math.Nat.{mod-lt, div-add-mod, mul-lt-mul_of_pos_right, mod-eq_of_lt, pow-le-pow_right}
 use Rattle.wi_fraction.specs.Laws.{ShowsFewestPlaces}
-use Rattle.wi_fraction.specs.Text.{places_from, places}
+use Rattle.wi_fraction.specs.Text.{places}
+use Rattle.wi_fraction.specs.Inner.Places.{places_from}
 use Rattle.wi_fraction.specs.Decimal.{all_places}
 
 pub places_from_divide : (t k d j : ℕ) → places_from t k d ≡ Some j → 10 ^ j % d ≡ 0
 unfolding places_from
 places_from_divide zero k d j e = cc
 places_from_divide (suc t) k d j e =
-    let further = places_from_divide t (suc k) d j in
+    let further = places_from_divide t (k + 1) d j in
     grind (arith, nat_tests, further)
 
 pub places_divide : (d j : ℕ) → places d ≡ Some j → 10 ^ j % d ≡ 0
-unfolding places
+unfolding places places_from
 places_divide d j e = places_from_divide 13 0 d j e
 
 places_from_least : (t k d j i : ℕ) → places_from t k d ≡ Some j → k ≤ i → i < j → 10 ^ i % d ≢ 0
 unfolding places_from
 places_from_least zero k d j i e from below z = cc
 places_from_least (suc t) k d j i e from below z =
-    let further = places_from_least t (suc k) d j i in
+    let further = places_from_least t (k + 1) d j i in
     grind (arith, nat_tests, further)
 
 -- no fewer places will do
 pub places_least : (d j i : ℕ) → places d ≡ Some j → i < j → 10 ^ i % d ≢ 0
-unfolding places
+unfolding places places_from
 places_least d j i e h = places_from_least 13 0 d j i e (omega arith) h
 
 pub places_from_none : (t k d i : ℕ) → places_from t k d ≡ None → k ≤ i → i < k + t → 10 ^ i % d ≢ 0
 unfolding places_from
 places_from_none zero k d i e from below z = omega arith
 places_from_none (suc t) k d i e from below z =
-    let further = places_from_none t (suc k) d i in
+    let further = places_from_none t (k + 1) d i in
     grind (arith, nat_tests, further)
 
 -- where there are none, d does not divide the twelfth power of ten
 pub places_none : (d : ℕ) → places d ≡ None → 10 ^ 12 % d ≢ 0
-unfolding places
+unfolding places places_from
 places_none d e = places_from_none 13 0 d 12 e (omega arith) (omega arith)
 
 -- ---- as an exact decimal
 
 pub all_divide : (d j : ℕ) → all_places d ≡ Some j → 10 ^ j % d ≡ 0
-unfolding all_places
+unfolding all_places places_from
 all_divide d j e = places_from_divide 127 0 d j e
 
 all_least : (d j i : ℕ) → all_places d ≡ Some j → i < j → 10 ^ i % d ≢ 0
-unfolding all_places
+unfolding all_places places_from
 all_least d j i e h = places_from_least 127 0 d j i e (omega arith) h
 
 pub all_none : (d : ℕ) → all_places d ≡ None → 10 ^ 126 % d ≢ 0
-unfolding all_places
+unfolding all_places places_from
 all_none d e = places_from_none 127 0 d 126 e (omega arith) (omega arith)
 
 -- ---- divisors of powers
@@ -77,11 +78,11 @@ places_from_few : (t k d j : ℕ) → places_from t k d ≡ Some j → j < k + t
 unfolding places_from
 places_from_few zero k d j e = cc
 places_from_few (suc t) k d j e =
-    let further = places_from_few t (suc k) d j in
+    let further = places_from_few t (k + 1) d j in
     grind (arith, nat_tests, further)
 
 pub places_few : (d j : ℕ) → places d ≡ Some j → j ≤ 12
-unfolding places
+unfolding places places_from
 places_few d j e = omega (arith, places_from_few 13 0 d j e)
 
 pub power_few : (k : ℕ) → k ≤ 12 → 10 ^ k ≤ 10 ^ 12
@@ -102,8 +103,7 @@ places_from_more zero k p d r e h f g = absurd (h refl)
 places_from_more (suc t) k p d r e h f g =
     let apart : 10 ^ k % d ≢ 0 = rw (← e) f in
     let before : suc t - 1 ≡ t = omega arith in
-    let next : k + 1 ≡ suc k = omega arith in
-    let same : r ≡ places_from t (suc k) d = g ∙ rw (before, next) refl in
+    let same : r ≡ places_from t (k + 1) d = g ∙ ap (λ n. places_from n (k + 1) d) before in
     grind (arith, nat_tests, apart, same)
 
 pub shows_fewest_places : (d : ℕ) → ShowsFewestPlaces d

@@ -1,7 +1,8 @@
 -- The exact decimal of a number, of any number of places.
-use Rattle.std.specs.Prelude.{◌≡◌, ℕ, ◌%◌, ◌^◌, pos, ◌++◌, Option, unsigned_abs, int_lt, false}
+use Rattle.std.specs.Prelude.{◌≡◌, ℕ, ◌%◌, ◌^◌, pos, ◌++◌, ◌==◌, find, Option, unsigned_abs, int_lt, false}
+use Rattle.std.specs.List.{range_with_len}
 use Rattle.wi_fraction.specs.Number.{Number}
-use Rattle.wi_fraction.specs.Text.{Bytes, places_from, size_text, sign_text}
+use Rattle.wi_fraction.specs.Text.{Bytes, size_text, sign_text}
 
 -- the denominator divides a power of ten
 abbrev pub IsDecimal : Number → Type 0
@@ -14,7 +15,7 @@ pub record IsUnsignedDecimal (x : Number) : Type 0 where
 
 -- the fewest decimal places, at most 126, that write each fraction over d exactly
 unfoldable pub all_places : ℕ → Option ℕ
-all_places d = places_from 127 0 d
+all_places d = find (λ k. 10 ^ k % d == 0) (range_with_len 0 127)
 
 -- n/d where no decimal is exact
 unfoldable pub decimal_text : Number → Bytes

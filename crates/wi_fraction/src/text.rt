@@ -1,7 +1,8 @@
 // The shown text.
 
 ghost use Rattle.std.specs.Prelude.{◌≡◌, ◌+◌, ◌<◌, ◌≤◌, ◌^◌, ◌++◌, OnOk, OnErr, IfSome, string_bytes, length};
-ghost use Rattle.wi_fraction.specs.Text.{text_of, places, places_from, sign_text, size_text};
+ghost use Rattle.wi_fraction.specs.Text.{text_of, places, sign_text, size_text};
+ghost use Rattle.wi_fraction.specs.Inner.Places.{places_from};
 
 use crate::Fraction;
 use crate::division::{divide, remainder};
@@ -25,7 +26,7 @@ impl Fraction {
 }
 
 /// The fewest decimal places, at most twelve, that write each fraction over d exactly.
-#[tactic(auto, using(crate::proofs::Places::places_few), unfolding(crate::specs::Text::places))]
+#[tactic(auto, using(crate::proofs::Places::places_few), unfolding(crate::specs::Text::places, crate::specs::Inner::Places::places_from))]
 fn places(d: u128) -> Option<u32>
     requires { 0 < d }
     ensures value { result ≡ places d }
@@ -34,7 +35,7 @@ fn places(d: u128) -> Option<u32>
     places_from(13, 0, 1, d)
 }
 
-/// The least number of places from k on, of so many, at which d divides the power of ten.
+/// The first number of places from k on, among so many, at which d divides the power of ten.
 fn places_from(tries: u32, k: u32, power: u128, d: u128) -> Option<u32>
     requires above_zero { 0 < d }
     requires power { power ≡ 10 ^ k }

@@ -1,6 +1,6 @@
 use Rattle.std.proofs.Common.{◌≡◌, ◌<◌, ◌-◌, ◌%◌}
 use Rattle.std.specs.Prelude.{◌^◌}
-use Rattle.wi_fraction.specs.Text.{places_from}
+use Rattle.wi_fraction.specs.Inner.Places.{places_from}
 use Rattle.wi_fraction.specs.Decimal.{all_places}
 use Rattle.wi_fraction.proofs.decimal.all_places.Given as goal
 
