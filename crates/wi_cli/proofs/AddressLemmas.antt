@@ -3,7 +3,7 @@ use Rattle.std.proofs.Common.{◌≡◌, ℕ, zero, suc, ◌+◌, ◌-◌, ◌/�
 use Rattle.std.specs.Io.KnownBytes.{Appends}
 use Rattle.std.proofs.KnownBytes.{Appends-nil, Appends-trans}
 use Rattle.std.proofs.lemmas.Bool.{false≢true, ne_eqb}
-use Rattle.wi_values.specs.Address.{letters_within}
+use Rattle.wi_values.specs.Inner.Letters.{letters_within}
 use Rattle.wi_cli.specs.Inner.Front.{AppendsFront}
 use Rattle.wi_cli.proofs.TurnLemmas.{AppendsFront-append, AppendsFront-of}
 

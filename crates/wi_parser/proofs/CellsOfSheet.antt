@@ -10,7 +10,7 @@ use Rattle.std.proofs.lemmas.Bool.{and_parts}
 use Rattle.wi_values.specs.Address.{columns, rows, row_of, column_of, column_letters, address_text, is_row_number}
 use Rattle.wi_values.specs.AddressReading.{address_at, read_address}
 use Rattle.wi_values.specs.declared.address.AddressFault.TheVariants.{Shape, Outside}
-use Rattle.wi_values.proofs.ReadsBack.{addresses_read_back, letters_are, letters_some}
+use Rattle.wi_values.proofs.ReadsBack.{addresses_read_back, column_are_letters, column_some}
 use Rattle.wi_lexer.specs.Runs.{IsRun}
 use Rattle.wi_lexer.specs.Cell.{IsCell}
 use Rattle.wi_lexer.proofs.RunLemmas.{run_stops, run_more, digits_run}
@@ -22,8 +22,7 @@ use Rattle.wi_parser.specs.Symbols.{reference_to}
 -- ---- the column, and the row
 
 column_is : (column : ℕ) → IsRun is_ascii_alphabetic (column_letters column)
-column_is column =
-    record { some = letters_some 3 (column + 1) (omega arith) (omega arith); all = letters_are 3 (column + 1) }
+column_is column = record { some = column_some column; all = column_are_letters column }
 
 short : (row : ℕ) → row < rows → row + 1 < 2 ^ 64
 short row h = omega arith

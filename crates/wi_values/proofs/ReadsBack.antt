@@ -1,5 +1,5 @@
 -- The text of a cell's address reads back to that address.
-use Rattle.std.proofs.Common.{◌≡◌, ℕ, zero, suc, ◌+◌, ◌-◌, ◌*◌, ◌/◌, ◌%◌, ◌^◌, ◌<◌, ◌≤◌, true, false, nat_lt, ◌==◌, List, [], ◌∷◌, ◌++◌, length, get_or, Some, ok_or, refl, length-append, ap, ◌∙◌, arith, rules, tests}
+use Rattle.std.proofs.Common.{◌≡◌, ℕ, zero, suc, ◌+◌, ◌-◌, ◌*◌, ◌/◌, ◌%◌, ◌^◌, ◌<◌, ◌≤◌, true, false, nat_lt, ◌==◌, List, [], ◌∷◌, ◌++◌, length, get_or, Some, ok_or, refl, length-append, ap, sym, subst, ◌∙◌, arith, rules, tests}
 use Rattle.std.proofs.Math.Seq.{take-append_seam, drop-append_seam}
 use Rattle.std.proofs.lemmas.Bool.Decides.{nat_tests}
 use Rattle.std.proofs.lemmas.Fmt.{decimal_is_IsNumeral, decimal_nonempty, first_decimal}
@@ -10,8 +10,10 @@ use Rattle.std.specs.List.{list_all, prefix_len}
 use Rattle.std.specs.Str.{all_ascii_digits}
 use Rattle.std.specs.Str.Parse.{digits_value}
 use Rattle.wi_fraction.proofs.Scanning.{own}
-use Rattle.wi_values.proofs.Letters.{letters_at_most_none, letters_of_none, letters_more}
-use Rattle.wi_values.specs.Address.{columns, rows, place, row_of, column_of, letters_value, letters_value_after, letters_within, column_letters, address_text, is_row_number}
+use Rattle.wi_values.proofs.Letters.{letters_at_most_none, letters_of_none, letters_more, letters_of_column}
+use Rattle.wi_values.proofs.Spelling.{letters_value_after, letters_from_none}
+use Rattle.wi_values.specs.Address.{columns, rows, place, row_of, column_of, letters_value, column_letters, address_text, is_row_number}
+use Rattle.wi_values.specs.Inner.Letters.{letters_within}
 use Rattle.wi_values.specs.AddressReading.{cell_at, address_at, read_address}
 use Rattle.wi_values.specs.declared.address.AddressFault.TheVariants.{Outside}
 use Rattle.wi_values.specs.Laws.{AddressesReadBack}
@@ -21,7 +23,7 @@ capital : (n : ℕ) → n < 26 → (to_ascii_uppercase (65 + n) - 64 ≡ n + 1) 
 capital n h = (grind (arith, nat_tests), grind (arith, nat_tests))
 
 -- the letters of a column are letters, and stand for its number
-pub letters_are : (k n : ℕ) → list_all is_ascii_alphabetic (letters_within k n) ≡ true
+letters_are : (k n : ℕ) → list_all is_ascii_alphabetic (letters_within k n) ≡ true
 letters_are zero n = rw letters_at_most_none refl
 letters_are (suc k) zero = rw (letters_of_none (suc k)) refl
 letters_are (suc k) (suc n) =
@@ -39,18 +41,27 @@ abbrev most_letters : ℕ → ℕ
 most_letters zero = 0
 most_letters (suc k) = most_letters k * 26 + 26
 
-letters_value-within : (k n : ℕ) → n ≤ most_letters k → letters_value (letters_within k n) ≡ n
-letters_value-within zero n h = rw letters_at_most_none (omega arith)
-letters_value-within (suc k) zero h = rw (letters_of_none (suc k))
-letters_value-within (suc k) (suc n) h =
+value_within : (k n : ℕ) → n ≤ most_letters k → letters_value_after 0 (letters_within k n) ≡ n
+value_within zero n h = rw letters_at_most_none (omega arith)
+value_within (suc k) zero h = rw (letters_of_none (suc k))
+value_within (suc k) (suc n) h =
     let more = letters_more (suc k) (suc n) (omega arith) (omega arith) in
     let fewer : suc k - 1 ≡ k = omega arith in
     let last : (suc n - 1) % 26 < 26 = omega arith in
-    let others : letters_value_after 0 (letters_within k ((suc n - 1) / 26)) ≡ (suc n - 1) / 26 = letters_value-within k ((suc n - 1) / 26) (omega arith) in
+    let others : letters_value_after 0 (letters_within k ((suc n - 1) / 26)) ≡ (suc n - 1) / 26 = value_within k ((suc n - 1) / 26) (omega arith) in
     rw (more, fewer, value_pushed 0 (letters_within k ((suc n - 1) / 26)) (65 + (suc n - 1) % 26), others, (capital _ last).0) (omega arith)
 
-pub letters_some : (k n : ℕ) → 0 < k → 0 < n → 0 < length (letters_within k n)
+letters_some : (k n : ℕ) → 0 < k → 0 < n → 0 < length (letters_within k n)
 letters_some k n h i = rw (letters_more k n h i, length-append) (omega arith)
+
+pub column_are_letters : (n : ℕ) → list_all is_ascii_alphabetic (column_letters n) ≡ true
+column_are_letters n = subst (λ ls. list_all is_ascii_alphabetic ls ≡ true) (letters_of_column n) (letters_are 3 (n + 1))
+
+pub column_some : (n : ℕ) → 0 < length (column_letters n)
+column_some n = subst (λ ls. 0 < length ls) (letters_of_column n) (letters_some 3 (n + 1) (omega arith) (omega arith))
+
+column_value : (n : ℕ) → n < columns → letters_value (column_letters n) ≡ n + 1
+column_value n h = sym (letters_from_none (column_letters n)) ∙ ap (letters_value_after 0) (sym (letters_of_column n)) ∙ value_within 3 (n + 1) (omega arith)
 
 scan : (cs rest : List ℕ) → list_all is_ascii_alphabetic cs ≡ true → prefix_len is_ascii_alphabetic rest ≡ 0 → prefix_len is_ascii_alphabetic (cs ++ rest) ≡ length cs
 scan [] rest h e = e
@@ -92,7 +103,7 @@ addresses_read_back a h =
     let ls = column_letters (column_of a) in
     let ds = decimal (row_of a + 1) in
     let short : row_of a + 1 < 2 ^ 64 = omega arith in
-    let spelled : letters_value ls ≡ column_of a + 1 = letters_value-within 3 (column_of a + 1) (omega arith) in
+    let spelled : letters_value ls ≡ column_of a + 1 = column_value (column_of a) column in
     let counted : digits_value 10 ds ≡ row_of a + 1 = (decimal_is_IsNumeral (row_of a + 1) short).1 in
     let there : address_at ls ds ≡ Some a = rw (spelled, counted, cell_found (row_of a) (column_of a) row column) (ap Some (omega arith)) in
-    read_joined ls ds (letters_are 3 (column_of a + 1)) (letters_some 3 (column_of a + 1) (omega arith) (omega arith)) (own.from ds (decimal_is_IsNumeral (row_of a + 1) short).0.1) (row_numbers (row_of a + 1) (omega arith) short) ∙ ap (λ o. ok_or o Outside) there
+    read_joined ls ds (column_are_letters (column_of a)) (column_some (column_of a)) (own.from ds (decimal_is_IsNumeral (row_of a + 1) short).0.1) (row_numbers (row_of a + 1) (omega arith) short) ∙ ap (λ o. ok_or o Outside) there

@@ -1,12 +1,44 @@
 -- Numbers read from the left, held at a bound once they pass it.
-use Rattle.std.proofs.Common.{◌≡◌, ℕ, ◌+◌, ◌-◌, ◌*◌, ◌<◌, ◌≤◌, min, List, [], ◌∷◌, length, drop, get_or, sym, ◌∙◌, ap, arith, inl, inr, Option, Some, None, unwrap_or}
+use Rattle.std.proofs.Common.{◌≡◌, ℕ, suc, ◌+◌, ◌-◌, ◌*◌, ◌^◌, ◌<◌, ◌≤◌, min, List, [], ◌∷◌, length, drop, get_or, sym, ◌∙◌, ap, arith, rules, tests, inl, inr, true, Option, Some, None, unwrap_or}
 use Rattle.std.proofs.lemmas.Bool.Decides.{nat_tests}
 use Rattle.std.specs.Option.{SomeIff}
+use Rattle.std.proofs.Math.Nat.{add_assoc, add-mul, mul_assoc, mul_right_comm, mul-pos, pow-le-pow_right, pow-suc}
 use Rattle.std.proofs.lemmas.Bool.{cases_lt}
 use Rattle.std.proofs.lemmas.List.{at_drop_more}
-use Rattle.std.specs.Char.{digit_value, to_ascii_uppercase}
+use Rattle.std.specs.Char.{digit_value, is_ascii_alphabetic, to_ascii_uppercase}
+use Rattle.std.specs.List.{list_all}
 use Rattle.std.specs.Str.Parse.{digits_value_after}
-use Rattle.wi_values.specs.Address.{letters_value_after}
+use Rattle.wi_values.specs.Address.{letters_value}
+
+-- the number of letters that follow on those of n
+abbrev pub letters_value_after : ℕ → List ℕ → ℕ
+letters_value_after n [] = n
+letters_value_after n (c ∷ cs) = letters_value_after (n * 26 + (to_ascii_uppercase c - 64)) cs
+
+one_place_up : (n d k v : ℕ) → (n * 26 + d) * 26 ^ k + v ≡ n * 26 ^ suc k + (d * 26 ^ k + v)
+one_place_up n d k v =
+    let parts : (n * 26 + d) * 26 ^ k ≡ n * 26 * 26 ^ k + d * 26 ^ k = add-mul (n * 26) d (26 ^ k) in
+    let turned : n * 26 * 26 ^ k ≡ n * (26 ^ k * 26) = mul_right_comm n 26 (26 ^ k) ∙ mul_assoc n (26 ^ k) 26 in
+    let more : n * 26 ^ suc k ≡ n * (26 ^ k * 26) = ap (λ m. n * m) (pow-suc 26 k) in
+    ap (λ m. m + v) (parts ∙ ap (λ m. m + d * 26 ^ k) (turned ∙ sym more)) ∙ add_assoc (n * 26 ^ suc k) (d * 26 ^ k) v
+
+letters_follow : (n : ℕ) (cs : List ℕ) → letters_value_after n cs ≡ n * 26 ^ length cs + letters_value cs
+letters_follow n [] = omega arith
+letters_follow n (c ∷ cs) = letters_follow (n * 26 + (to_ascii_uppercase c - 64)) cs ∙ one_place_up n (to_ascii_uppercase c - 64) (length cs) (letters_value cs)
+
+pub letters_from_none : (cs : List ℕ) → letters_value_after 0 cs ≡ letters_value cs
+letters_from_none cs = omega (arith, letters_follow 0 cs)
+
+-- letters, one at least, stand for a number above 0
+pub letters_above_zero : (cs : List ℕ) → 0 < length cs → list_all is_ascii_alphabetic cs ≡ true → 0 < letters_value cs
+letters_above_zero [] h e = absurd (omega (arith, h))
+letters_above_zero (c ∷ cs) h e =
+    let first : is_ascii_alphabetic c ≡ true = search (rules, tests) in
+    let above : 0 < to_ascii_uppercase c - 64 = grind (arith, nat_tests) in
+    let none : 0 ≤ length cs = omega arith in
+    let power : 26 ^ 0 ≤ 26 ^ length cs = pow-le-pow_right (omega arith) none in
+    let product : 0 < (to_ascii_uppercase c - 64) * 26 ^ length cs = mul-pos above (omega (arith, power)) in
+    omega (arith, product)
 
 -- a number past the bound stays past it
 pub letters_large : (most n : ℕ) (cs : List ℕ) → most ≤ n → most ≤ letters_value_after n cs

@@ -1,5 +1,5 @@
 -- Addresses and rectangles. A cell's address is its place in row-major order: row after row, in each from the left.
-use Rattle.std.specs.Prelude.{ℕ, zero, suc, ◌+◌, ◌-◌, ◌*◌, ◌/◌, ◌%◌, ◌≤◌, min, max, List, [], ◌∷◌, ◌++◌, Bool, ◌&&◌, not, ◌==◌, nat_lt, nat_le, length, slice_index, if◌then◌else◌, map, decimal}
+use Rattle.std.specs.Prelude.{ℕ, ◌+◌, ◌-◌, ◌*◌, ◌/◌, ◌%◌, ◌^◌, ◌≤◌, min, max, List, [], ◌∷◌, ◌++◌, Bool, ◌&&◌, not, ◌==◌, nat_lt, nat_le, length, slice_index, if◌then◌else◌, map, decimal}
 use Rattle.std.specs.List.{range_with_len, flat_map}
 use Rattle.std.specs.Char.{to_ascii_uppercase}
 use Rattle.std.specs.Str.{byte, all_ascii_digits}
@@ -58,21 +58,21 @@ size_of r = ((row_of r.last + 1) - row_of r.first) * ((column_of r.last + 1) - c
 
 -- ---- texts of addresses
 
--- letters of either case: A is 1, Z 26, AA 27 and so on
-abbrev pub letters_value_after : ℕ → Bytes → ℕ
-letters_value_after n [] = n
-letters_value_after n (c ∷ cs) = letters_value_after (n * 26 + (to_ascii_uppercase c - (byte "A" - 1))) cs
-
+-- letters of either case as digits of 26: A is 1, Z 26, AA 27 and so on
 abbrev pub letters_value : Bytes → ℕ
-letters_value cs = letters_value_after 0 cs
+letters_value [] = 0
+letters_value (c ∷ cs) = (to_ascii_uppercase c - (byte "A" - 1)) * 26 ^ length cs + letters_value cs
 
--- at most so many, of the column with this number
-unfoldable pub letters_within : ℕ → ℕ → Bytes
-letters_within zero n = []
-letters_within (suc k) n = if n == 0 then [] else letters_within k ((n - 1) / 26) ++ (byte "A" + (n - 1) % 26) ∷ []
+-- A is 0, Z 25, and A comes after Z again
+abbrev pub letter : ℕ → ℕ
+letter n = byte "A" + n % 26
 
-abbrev pub column_letters : ℕ → Bytes
-column_letters column = letters_within 3 (column + 1)
+-- A to Z, then AA to ZZ, then AAA to XFD
+unfoldable pub column_letters : ℕ → Bytes
+column_letters n =
+    if nat_lt n 26 then letter n ∷ []
+    else (if nat_lt n 702 then letter ((n - 26) / 26) ∷ letter (n - 26) ∷ []
+    else letter ((n - 702) / 676) ∷ letter ((n - 702) / 26) ∷ letter (n - 702) ∷ [])
 
 unfoldable pub address_text : ℕ → Bytes
 address_text a = column_letters (column_of a) ++ decimal (row_of a + 1)

@@ -4,13 +4,14 @@ use Rattle.std.proofs.Math.Seq.{take-append_seam, drop-append_seam}
 use Rattle.std.proofs.lemmas.Bool.Decides.{nat_tests}
 use Rattle.std.proofs.lemmas.List.{take-append-drop}
 use Rattle.std.proofs.lemmas.List.Folds.{length-prefix_len}
-use Rattle.std.specs.Char.{is_ascii_alphabetic, is_ascii_digit, to_ascii_uppercase, digit_value}
+use Rattle.std.specs.Char.{is_ascii_alphabetic, is_ascii_digit, digit_value}
 use Rattle.std.specs.List.{list_all, prefix_len}
 use Rattle.std.specs.Str.{all_ascii_digits}
 use Rattle.std.specs.Str.Parse.{digits_value, digits_value_after}
-use Rattle.wi_values.specs.Address.{columns, rows, place, letters_value, letters_value_after, is_row_number}
+use Rattle.wi_values.specs.Address.{columns, rows, place, letters_value, is_row_number}
 use Rattle.wi_values.specs.AddressReading.{cell_at, address_at, read_address}
 use Rattle.wi_values.specs.declared.address.AddressFault.TheVariants.{Shape, Outside}
+use Rattle.wi_values.proofs.Spelling.{letters_above_zero}
 use Rattle.wi_cli.specs.Operands.{Cell, is_outside, address, IsAddr, addr}
 use Rattle.wi_cli.specs.Lines.{Bytes}
 use Rattle.wi_cli.specs.Laws.{read_by, read_cell, SameAddr}
@@ -71,17 +72,6 @@ front_letters (b ∷ bs) = by (is_ascii_alphabetic b) refl (front_letters bs)
 front_length : (bs : Bytes) → length (take (prefix_len is_ascii_alphabetic bs) bs) ≡ prefix_len is_ascii_alphabetic bs
 front_length bs = length-prefix_len is_ascii_alphabetic bs
 
-more_letters : (n : ℕ) (cs : Bytes) → 0 < n → 0 < letters_value_after n cs
-more_letters n [] h = h
-more_letters n (c ∷ cs) h = more_letters (n * 26 + (to_ascii_uppercase c - 64)) cs (omega (arith, h))
-
-some_letters : (cs : Bytes) → 0 < length cs → list_all is_ascii_alphabetic cs ≡ true → 0 < letters_value cs
-some_letters [] h e = absurd (omega (arith, h))
-some_letters (c ∷ cs) h e =
-    let first : is_ascii_alphabetic c ≡ true = search (rules, tests) in
-    let above : 0 < 0 * 26 + (to_ascii_uppercase c - 64) = grind (arith, nat_tests) in
-    more_letters (0 * 26 + (to_ascii_uppercase c - 64)) cs above
-
 more_digits : (n : ℕ) (ds : Bytes) → 0 < n → 0 < digits_value_after 10 n ds
 more_digits n [] h = h
 more_digits n (d ∷ ds) h = more_digits (n * 10 + digit_value d) ds (omega (arith, h))
@@ -101,7 +91,7 @@ back n h = omega (arith, h)
 is_spelled : (ls ds : Bytes) → list_all is_ascii_alphabetic ls ≡ true → 0 < length ls → is_row_number ds ≡ true → (c : Cell) × IsAddr (ls ++ ds) c
 is_spelled ls ds h some r =
     let c : Cell = record { row = digits_value 10 ds - 1; column = letters_value ls - 1 } in
-    (c, addr ls ds c some h r (back _ (some_letters ls some h)) (back _ (some_digits ds r)))
+    (c, addr ls ds c some h r (back _ (letters_above_zero ls some h)) (back _ (some_digits ds r)))
 
 read : (word : Bytes) → (read_address word ≡ Err Shape → ⊥) → (c : Cell) × IsAddr word c
 unfolding read_address

@@ -1,7 +1,11 @@
-use Rattle.std.proofs.Common.{◌≡◌, ◌-◌, ◌∙◌, get_or, ap, arith}
+use Rattle.std.proofs.Common.{◌≡◌, ◌+◌, ◌-◌, ◌∙◌, get_or, min, ap, arith}
 use Rattle.std.specs.Char.{to_ascii_uppercase}
-use Rattle.wi_values.proofs.Spelling.{letters_step}
+use Rattle.wi_values.proofs.Spelling.{letters_step, letters_from_none}
+use Rattle.wi_values.specs.Address.{columns}
 use Rattle.wi_values.proofs.address.column_number.Goals as goal
+
+pub loop-letter-init : goal.loop-letter-init
+loop-letter-init c = (omega arith, ap (λ n. min n (columns + 1)) (letters_from_none c.args.letters.now))
 
 pub loop-letter-preserved : goal.loop-letter-preserved
 loop-letter-preserved c =

@@ -1,5 +1,6 @@
 use Rattle.std.proofs.Common.{◌≡◌, ◌+◌, ◌≤◌, min, drop}
-use Rattle.wi_values.specs.Address.{columns, letters_value, letters_value_after}
+use Rattle.wi_values.specs.Address.{columns, letters_value}
+use Rattle.wi_values.proofs.Spelling.{letters_value_after}
 use Rattle.wi_values.proofs.address.column_number.Given as goal
 
 abbrev pub invariant-loop-letter : goal.invariant-loop-letter

@@ -1,8 +1,9 @@
 use Rattle.std.proofs.Common.{arith}
 use Rattle.std.proofs.lemmas.Grind.{common_steps}
 use Rattle.wi_values.specs.Address.{address_text}
+use Rattle.wi_values.proofs.Letters.{letters_of_column}
 use Rattle.wi_values.proofs.address.Address.push_text.Goals as goal
 
 pub returns-clause-ok : goal.returns-clause-ok
 unfolding address_text
-returns-clause-ok c = grind (arith, common_steps)
+returns-clause-ok c = grind (arith, common_steps, letters_of_column)
