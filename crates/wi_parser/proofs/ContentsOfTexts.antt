@@ -25,6 +25,7 @@ use Rattle.wi_parser.specs.Symbols.{AreSymbols}
 use Rattle.wi_parser.specs.Tree.{Tree}
 use Rattle.wi_parser.proofs.Complete.{whole_complete, one_tree}
 use Rattle.wi_parser.proofs.Depth.{depth-deepest}
+use Rattle.wi_parser.proofs.TooDeep.{few_open}
 use Rattle.wi_parser.proofs.Fronts.{after-append, after-some}
 use Rattle.wi_parser.proofs.Grammatical.{spelling_exactly}
 use Rattle.wi_parser.proofs.Parses.{parsed_exactly, parsed_long, parsed_short, no_refused_first, shallow}
@@ -35,7 +36,7 @@ use Rattle.wi_parser.proofs.SymbolsOfTexts.{symbols_exactly}
 
 -- what is spelled is read, where it is not refused
 spelled_read : (ts : List Symbol) (t : Tree) → refusal_of ts ≡ None → Spells loosest t ts → whole (max_depth + 1) ts ≡ Some t
-spelled_read ts t h s = whole_complete max_depth ts t s (omega (arith, depth-deepest t ts s, (shallow ts h).0))
+spelled_read ts t h s = whole_complete max_depth ts t s (omega (arith, depth-deepest t ts s, few_open ts (shallow ts h)))
 
 nothing_read : (ts : List Symbol) → ((t : Tree) → Spells loosest t ts → ⊥) → (o : Option Tree) → whole (max_depth + 1) ts ≡ o → whole (max_depth + 1) ts ≡ None
 nothing_read ts none None e = e

@@ -1,6 +1,6 @@
 -- Which trees are a formula's.
-use Rattle.std.proofs.Common.{◌≡◌, ℕ, suc, ◌-◌, ◌*◌, ◌<◌, ◌≤◌, max, pos, negsuc, ℤ, ◌+ℤ◌, Bool, true, false, nat_lt, List, [], ◌∷◌, ◌++◌, length, map, All, Some, None, unwrap_or, Ok, refl, sym, ap, ap₂, ◌∙◌, subst, arith, if◌then◌else◌}
-use Rattle.std.specs.List.{flat_map}
+use Rattle.std.proofs.Common.{◌≡◌, ℕ, suc, ◌+◌, ◌-◌, ◌*◌, ◌<◌, ◌≤◌, pos, negsuc, ℤ, ◌+ℤ◌, Bool, true, false, ◌||◌, nat_lt, List, [], ◌∷◌, ◌++◌, length, map, All, Some, None, unwrap_or, Ok, refl, sym, ap, ap₂, ◌∙◌, subst, arith, if◌then◌else◌}
+use Rattle.std.specs.List.{flat_map, prefix_len}
 use Rattle.std.proofs.lemmas.Bool.Decides.{nat_tests}
 use Rattle.std.proofs.lemmas.List.Elements.{All-map, All-weaker}
 use Rattle.wi_values.specs.Address.{columns, rows, place, row_of, column_of}
@@ -9,7 +9,7 @@ use Rattle.wi_parser.specs.declared.expr.Reference.{Reference}
 use Rattle.wi_parser.specs.Inner.FormulaText.{formula_symbols}
 use Rattle.wi_parser.specs.Inner.WhatIf.{pair_symbols}
 use Rattle.wi_parser.specs.Inner.Lines.{loosest, Spells}
-use Rattle.wi_parser.specs.Nesting.{deepest, most_signs, max_depth, is_sign}
+use Rattle.wi_parser.specs.Nesting.{opened, max_depth, is_sign, is_too_deep}
 use Rattle.wi_parser.specs.Printing.{printed}
 use Rattle.wi_parser.specs.Limits.{max_formula}
 use Rattle.wi_parser.specs.Inner.Reading.{parsed}
@@ -34,8 +34,7 @@ read_tree bs t h =
     record {
       spelled = has_spelling t (formula_symbols bs) found.1;
       symbols = subst (All IsWritable) same (text_writable bs);
-      parentheses = subst (λ ts. deepest 0 ts ≤ max_depth) same found.0.parentheses;
-      signs = subst (λ ts. most_signs 0 ts ≤ max_depth) same found.0.signs;
+      shallow = subst (λ ts. is_too_deep ts ≡ false) same found.0.shallow;
     }
 
 -- ---- trees with other references
@@ -84,22 +83,26 @@ mutual
       ap₂ (λ a b. separator ∷ a ++ b) (spelling_turned f t) (more_turned f ts)
       ∙ ap (λ l. separator ∷ l) (turned_append f (spelling t) (spelling_of_more ts))
 
-deepest_turned : (f : Reference → Reference) (h : ℕ) (ts : List Symbol) → deepest h (map (turned f) ts) ≡ deepest h ts
-deepest_turned f h [] = refl
-deepest_turned f h (open_parenthesis ∷ ts) = deepest_turned f (suc h) ts
-deepest_turned f h (close_parenthesis ∷ ts) = ap (max h) (deepest_turned f (h - 1) ts)
-deepest_turned f h (s ∷ ts) = deepest_turned f h ts
+opened_turned : (f : Reference → Reference) (ts : List Symbol) → opened (map (turned f) ts) ≡ opened ts
+opened_turned f [] = refl
+opened_turned f (open_parenthesis ∷ ts) = ap (λ n. suc n) (opened_turned f ts)
+opened_turned f (close_parenthesis ∷ ts) = ap (λ n. n - 1) (opened_turned f ts)
+opened_turned f (s ∷ ts) = opened_turned f ts
 
 sign_turned : (f : Reference → Reference) (s : Symbol) → is_sign (turned f s) ≡ is_sign s
 sign_turned f (reference r) = refl
 sign_turned f (corners c) = refl
 sign_turned f s = refl
 
-signs_turned : (f : Reference → Reference) (n : ℕ) (ts : List Symbol) → most_signs n (map (turned f) ts) ≡ most_signs n ts
-signs_turned f n [] = refl
-signs_turned f n (s ∷ ts) =
-    ap (λ b. if b then most_signs (suc n) (map (turned f) ts) else max n (most_signs 0 (map (turned f) ts))) (sign_turned f s)
-    ∙ ap₂ (λ a b. if is_sign s then a else max n b) (signs_turned f (suc n) ts) (signs_turned f 0 ts)
+signs_turned : (f : Reference → Reference) (ts : List Symbol) → prefix_len is_sign (map (turned f) ts) ≡ prefix_len is_sign ts
+signs_turned f [] = refl
+signs_turned f (s ∷ ts) = ap₂ (λ b n. if b then 1 + n else 0) (sign_turned f s) (signs_turned f ts)
+
+depth_turned : (f : Reference → Reference) (ts : List Symbol) → is_too_deep (map (turned f) ts) ≡ is_too_deep ts
+depth_turned f [] = refl
+depth_turned f (s ∷ ts) =
+    ap₂ (λ m n. (nat_lt max_depth m || nat_lt max_depth n) || is_too_deep (map (turned f) ts)) (opened_turned f (s ∷ ts)) (signs_turned f (s ∷ ts))
+    ∙ ap (λ b. (nat_lt max_depth (opened (s ∷ ts)) || nat_lt max_depth (prefix_len is_sign (s ∷ ts))) || b) (depth_turned f ts)
 
 turned_writable : (f : Reference → Reference) → ((r : Reference) → in_sheet r ≡ true → in_sheet (f r) ≡ true) → (s : Symbol) → IsWritable s → IsWritable (turned f s)
 turned_writable f k (reference r) h = k r h
@@ -112,8 +115,7 @@ with_references f k t h =
     let ts = spelling t in record {
       spelled = still_spelled f h.spelled;
       symbols = subst (All IsWritable) same (All-map IsWritable (turned f) ts (All-weaker IsWritable (λ s. IsWritable (turned f s)) (turned_writable f k) ts h.symbols));
-      parentheses = subst (λ us. deepest 0 us ≤ max_depth) same (subst (λ n. n ≤ max_depth) (sym (deepest_turned f 0 ts)) h.parentheses);
-      signs = subst (λ us. most_signs 0 us ≤ max_depth) same (subst (λ n. n ≤ max_depth) (sym (signs_turned f 0 ts)) h.signs);
+      shallow = subst (λ us. is_too_deep us ≡ false) same (depth_turned f ts ∙ h.shallow);
     }
 
 -- ---- shifted trees

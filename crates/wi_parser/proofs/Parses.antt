@@ -8,7 +8,7 @@ use Rattle.wi_parser.specs.declared.fault.ParseFault.TheVariants.{TooLong, OutOf
 use Rattle.wi_parser.specs.Tree.{Tree, Trees}
 use Rattle.wi_parser.specs.Symbol.{Symbol, close_parenthesis, infix_mark, percent_mark, bad_token, is_outside, is_unfit}
 use Rattle.wi_parser.specs.Inner.Lines.{loosest, Spells, a_number, a_cell, a_rectangle, in_parentheses, one_input, two_inputs, with_sign, with_percent, tighter, joined, SpellsAll, SpellsMore, a_text, a_call, no_parameter, parameters, last_parameter, another_parameter}
-use Rattle.wi_parser.specs.Nesting.{deepest, most_signs, max_depth, is_too_deep}
+use Rattle.wi_parser.specs.Nesting.{max_depth, is_too_deep}
 use Rattle.wi_parser.specs.Inner.Reader.{whole}
 use Rattle.wi_parser.specs.Inner.Outcome.{Fails}
 use Rattle.wi_parser.specs.Inner.FormulaText.{formula_symbols}
@@ -17,6 +17,7 @@ use Rattle.wi_parser.specs.Inner.Reading.{unless_refused, judged, parsed, IsWith
 use Rattle.wi_parser.proofs.Sound.{whole_sound}
 use Rattle.wi_parser.proofs.Complete.{whole_complete}
 use Rattle.wi_parser.proofs.Depth.{depth-deepest}
+use Rattle.wi_parser.proofs.TooDeep.{few_open}
 
 -- ---- symbols that spell a tree are not refused
 
@@ -69,9 +70,6 @@ unfit_is_refused : (s : Symbol) → is_refused s ≡ false → is_unfit s ≡ fa
 unfit_is_refused (bad_token e) h = cc
 unfit_is_refused s h = refl
 
-not_too_deep : (ts : List Symbol) → deepest 0 ts ≤ max_depth → most_signs 0 ts ≤ max_depth → is_too_deep ts ≡ false
-not_too_deep ts h e = ap (λ b. b || nat_lt max_depth (most_signs 0 ts)) (le-ltb max_depth _ h) ∙ le-ltb max_depth _ e
-
 not_refused : (ts : List Symbol) → list_any is_outside ts ≡ false → list_any is_unfit ts ≡ false → is_too_deep ts ≡ false → refusal_of ts ≡ None
 not_refused ts o u d =
     ap (λ b. if b then Some OutOfSheet else (if list_any is_unfit ts then Some NumberRange else (if is_too_deep ts then Some TooDeep else None))) o
@@ -79,10 +77,10 @@ not_refused ts o u d =
     ∙ ap (λ b. if b then Some TooDeep else None) d
 
 -- what is spelled and does not nest too deep is judged to be the tree
-judged_spelled : (ts : List Symbol) (t : Tree) → Spells loosest t ts → deepest 0 ts ≤ max_depth → most_signs 0 ts ≤ max_depth → judged ts ≡ Ok t
-judged_spelled ts t s h e =
-    ap (λ o. unless_refused o (whole (max_depth + 1) ts)) (not_refused ts (none_passes is_outside outside_is_refused ts (none_is_refused s)) (none_passes is_unfit unfit_is_refused ts (none_is_refused s)) (not_too_deep ts h e))
-    ∙ ap (λ found. ok_or found Syntax) (whole_complete max_depth ts t s (omega (arith, depth-deepest t ts s)))
+judged_spelled : (ts : List Symbol) (t : Tree) → Spells loosest t ts → is_too_deep ts ≡ false → judged ts ≡ Ok t
+judged_spelled ts t s h =
+    ap (λ o. unless_refused o (whole (max_depth + 1) ts)) (not_refused ts (none_passes is_outside outside_is_refused ts (none_is_refused s)) (none_passes is_unfit unfit_is_refused ts (none_is_refused s)) h)
+    ∙ ap (λ found. ok_or found Syntax) (whole_complete max_depth ts t s (omega (arith, depth-deepest t ts s, few_open ts h)))
 
 -- ---- a text
 
@@ -117,7 +115,7 @@ parsed_spells text t h =
     whole_sound (max_depth + 1) ts t (judged_ok ts t (refusal_of ts) (whole (max_depth + 1) ts) inside)
 
 pub spelled_parsed : (text : List ℕ) (t : Tree) → IsWithinLimits text → Spells loosest t (formula_symbols text) → parsed text ≡ Ok t
-spelled_parsed text t w s = parsed_short text w.short ∙ judged_spelled (formula_symbols text) t s w.parentheses w.signs
+spelled_parsed text t w s = parsed_short text w.short ∙ judged_spelled (formula_symbols text) t s w.shallow
 
 -- what is judged to be a tree is not refused
 none_refused : (o : Option ParseFault) (found : Option Tree) (t : Tree) → unless_refused o found ≡ Ok t → o ≡ None
@@ -129,13 +127,11 @@ not_chosen : (b : Bool) (e : ParseFault) (o : Option ParseFault) → (if b then 
 not_chosen true e o h = cc
 not_chosen false e o h = (refl, h)
 
-pub shallow : (ts : List Symbol) → refusal_of ts ≡ None → (deepest 0 ts ≤ max_depth) × (most_signs 0 ts ≤ max_depth)
+pub shallow : (ts : List Symbol) → refusal_of ts ≡ None → is_too_deep ts ≡ false
 shallow ts h =
     let a = not_chosen (list_any is_outside ts) OutOfSheet _ h in
     let b = not_chosen (list_any is_unfit ts) NumberRange _ a.1 in
-    let c = not_chosen (is_too_deep ts) TooDeep None b.1 in
-    let d = or_parts (nat_lt max_depth (deepest 0 ts)) (nat_lt max_depth (most_signs 0 ts)) c.0 in
-    (ltb-false max_depth _ d.0, ltb-false max_depth _ d.1)
+    (not_chosen (is_too_deep ts) TooDeep None b.1).0
 
 not_long : (b : Bool) (r : Result Tree ParseFault) (t : Tree) → (if b then Err TooLong else r) ≡ Ok t → b ≡ false
 not_long true r t h = cc
@@ -147,8 +143,7 @@ within text t h =
     let ts = formula_symbols text in
     let long = nat_lt max_formula (length text) in
     let inside : judged ts ≡ Ok t = length_or long (judged ts) t h in
-    let nesting = shallow ts (none_refused (refusal_of ts) (whole (max_depth + 1) ts) t inside) in
-    record { short = ltb-false max_formula (length text) (not_long long (judged ts) t h); parentheses = nesting.0; signs = nesting.1 }
+    record { short = ltb-false max_formula (length text) (not_long long (judged ts) t h); shallow = shallow ts (none_refused (refusal_of ts) (whole (max_depth + 1) ts) t inside) }
 
 pub parsed_exactly : (text : List ℕ) (t : Tree) → (parsed text ≡ Ok t) ↔ (IsWithinLimits text × Spells loosest t (formula_symbols text))
 parsed_exactly text t = (λ h. (within text t h, parsed_spells text t h), λ p. spelled_parsed text t p.0 p.1)

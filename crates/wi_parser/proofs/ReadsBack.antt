@@ -1,5 +1,5 @@
 -- A printed formula reads back.
-use Rattle.std.proofs.Common.{◌≡◌, ◌≤◌, List, [], ◌∷◌, length, Ok, refl, sym, ap, ap₂, ◌∙◌, subst}
+use Rattle.std.proofs.Common.{◌≡◌, ◌≤◌, false, List, [], ◌∷◌, length, Ok, refl, sym, ap, ap₂, ◌∙◌, subst}
 use Rattle.std.specs.List.{All}
 use Rattle.std.proofs.lemmas.List.Elements.{All-head, All-tail}
 use Rattle.wi_lexer.specs.Inner.Tokens.{tokens, tokens_within}
@@ -7,7 +7,7 @@ use Rattle.wi_lexer.proofs.EndLemmas.{token_and_rest}
 use Rattle.wi_parser.specs.Tree.{Tree}
 use Rattle.wi_parser.specs.Symbol.{Symbol}
 use Rattle.wi_parser.specs.Inner.Lines.{loosest, Spells}
-use Rattle.wi_parser.specs.Nesting.{deepest, most_signs, max_depth}
+use Rattle.wi_parser.specs.Nesting.{is_too_deep}
 use Rattle.wi_parser.specs.Spelling.{spelling}
 use Rattle.wi_parser.specs.Printing.{symbol_text, printed}
 use Rattle.wi_parser.specs.Inner.SymbolLists.{symbols_text}
@@ -39,7 +39,6 @@ printed_reads_back t h short =
     let is = sym (printed_symbols t h) in
     let limits : IsWithinLimits (printed t) = record {
       short = short;
-      parentheses = subst (λ (ts : List Symbol). deepest 0 ts ≤ max_depth) is h.parentheses;
-      signs = subst (λ (ts : List Symbol). most_signs 0 ts ≤ max_depth) is h.signs;
+      shallow = subst (λ (ts : List Symbol). is_too_deep ts ≡ false) is h.shallow;
     } in
     spelled_parsed (printed t) t limits (subst (Spells loosest t) is h.spelled)

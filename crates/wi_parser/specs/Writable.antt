@@ -4,7 +4,7 @@ use Rattle.std.specs.Str.{str_eq_ignore_ascii_case}
 use Rattle.wi_fraction.specs.Decimal.{IsUnsignedDecimal}
 use Rattle.wi_lexer.specs.Name.{IsName}
 use Rattle.wi_parser.specs.Capitals.{in_capitals}
-use Rattle.wi_parser.specs.Nesting.{deepest, most_signs, max_depth}
+use Rattle.wi_parser.specs.Nesting.{is_too_deep}
 use Rattle.wi_parser.specs.Shift.{in_sheet}
 use Rattle.wi_parser.specs.Spelling.{HasSpelling, spelling}
 use Rattle.wi_parser.specs.Symbol.{Symbol, numeral, reference, corners, name}
@@ -30,5 +30,4 @@ IsWritable s = Unit {0}
 pub record IsFormulaTree (t : Tree) : Type 0 where
   pub spelled : HasSpelling t
   pub symbols : All IsWritable (spelling t)
-  pub parentheses : deepest 0 (spelling t) ≤ max_depth
-  pub signs : most_signs 0 (spelling t) ≤ max_depth
+  pub shallow : is_too_deep (spelling t) ≡ false

@@ -5,7 +5,8 @@ ghost use Rattle.std.specs.List.{list_any};
 ghost use Rattle.wi_parser.specs.Symbol.{is_outside, is_unfit};
 ghost use Rattle.wi_parser.specs.Inner.SymbolCode.{meant_by, all_meant};
 ghost use Rattle.wi_parser.specs.Nesting as nesting;
-ghost use Rattle.wi_parser.specs.Nesting.{deepest, most_signs, max_depth};
+ghost use Rattle.wi_parser.specs.Nesting.{max_depth};
+ghost use Rattle.wi_parser.specs.Inner.Deepest.{deepest, most_signs};
 ghost use Rattle.wi_parser.specs.Limits as spec;
 
 use crate::expr::Operator;

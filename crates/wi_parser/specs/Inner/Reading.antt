@@ -9,7 +9,7 @@ use Rattle.wi_parser.specs.declared.fault.ParseFault.{ParseFault}
 use Rattle.wi_parser.specs.declared.fault.ParseFault.TheVariants.{TooLong, Syntax, Memory}
 use Rattle.wi_parser.specs.Tree.{Tree}
 use Rattle.wi_parser.specs.Symbol.{Symbol}
-use Rattle.wi_parser.specs.Nesting.{deepest, most_signs, max_depth}
+use Rattle.wi_parser.specs.Nesting.{max_depth, is_too_deep}
 use Rattle.wi_parser.specs.Inner.Reader.{whole}
 use Rattle.wi_parser.specs.Inner.FormulaText.{after, after_equals, formula_symbols}
 use Rattle.wi_parser.specs.Limits.{max_formula, refusal_of}
@@ -29,8 +29,7 @@ parsed text = if nat_lt max_formula (length text) then Err TooLong else judged (
 -- the text and how deep it nests are within their limits
 pub record IsWithinLimits (text : List ℕ) : Type 0 where
   pub short : length text ≤ max_formula
-  pub parentheses : deepest 0 (formula_symbols text) ≤ max_depth
-  pub signs : most_signs 0 (formula_symbols text) ≤ max_depth
+  pub shallow : is_too_deep (formula_symbols text) ≡ false
 
 abbrev pub as_content : Result Tree ParseFault → Result Content ParseFault
 as_content (Ok t) = Ok (Formula t)

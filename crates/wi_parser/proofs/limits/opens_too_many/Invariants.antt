@@ -1,5 +1,6 @@
 use Rattle.std.proofs.Common.{◌<◌, ◌≤◌, ◌↔◌, drop}
-use Rattle.wi_parser.specs.Nesting.{deepest, max_depth}
+use Rattle.wi_parser.specs.Nesting.{max_depth}
+use Rattle.wi_parser.specs.Inner.Deepest.{deepest}
 use Rattle.wi_parser.specs.Inner.SymbolCode.{all_meant}
 use Rattle.wi_parser.proofs.limits.opens_too_many.Given as goal
 

@@ -1,5 +1,6 @@
 use Rattle.std.proofs.Common.{◌<◌, ◌≤◌, ◌↔◌, drop}
-use Rattle.wi_parser.specs.Nesting.{most_signs, max_depth}
+use Rattle.wi_parser.specs.Nesting.{max_depth}
+use Rattle.wi_parser.specs.Inner.Deepest.{most_signs}
 use Rattle.wi_parser.specs.Inner.SymbolCode.{all_meant}
 use Rattle.wi_parser.proofs.limits.repeats_signs.Given as goal
 
