@@ -4,8 +4,8 @@ use Rattle.std.specs.declared.alloc.Global.{Global}
 use Rattle.std.proofs.lemmas.List.{at_drop_more, length-map, append_assoc, append-nil, drop_all}
 use Rattle.std.proofs.lemmas.Nat.{div-mul-add, mod-mul-add}
 use Rattle.wi_values.specs.Address.{Area, columns, place, row_of, column_of, rect_of}
-use Rattle.wi_import.specs.Fields.{areas_from}
-use Rattle.wi_import.specs.Inner.Records.{bytes_of, all_bytes, area_of_record}
+use Rattle.wi_import.specs.Fields.{area_of_record, areas_from}
+use Rattle.wi_import.specs.Inner.Records.{bytes_of, all_bytes}
 
 abbrev pub area_before : Option Area → List Area → List Area
 area_before None areas = areas

@@ -1,5 +1,6 @@
 -- The fields of a CSV text, each with the cell for which it is, and the rectangles that they fill.
-use Rattle.std.specs.Prelude.{ℕ, ◌+◌, ◌<◌, List, [], ◌∷◌, ◌++◌, length}
+use Rattle.std.specs.Prelude.{ℕ, ◌+◌, ◌<◌, List, [], ◌∷◌, length, map, flat_map, filter_map, Option, Some, None}
+use Rattle.std.specs.List.{enumerate_from}
 use Rattle.wi_values.specs.Address.{Area, rows, columns, place, row_of, column_of}
 use Rattle.wi_csv.specs.Records.{recs}
 
@@ -15,24 +16,24 @@ IsInside f = (f.row < rows) × (f.column < columns)
 
 -- the fields of a record, from a column on
 abbrev pub fields_of : ℕ → ℕ → List (List ℕ) → List Field
-fields_of row column [] = []
-fields_of row column (bytes ∷ more) = record { row = row; column = column; bytes = bytes } ∷ fields_of row (column + 1) more
+fields_of row column fields = map (λ f. record { row = row; column = f.0; bytes = f.1 }) (enumerate_from column fields)
 
--- the fields of records, the first in this row, each in the next row, all from a column on
+-- the fields of records, the first in this row, each in the next, all from a column on
 abbrev pub fields_from : ℕ → ℕ → List (List (List ℕ)) → List Field
-fields_from row column [] = []
-fields_from row column (fields ∷ more) = fields_of row column fields ++ fields_from (row + 1) column more
+fields_from row column records = flat_map (λ r. fields_of r.0 column r.1) (enumerate_from row records)
 
 -- the fields of a text, the first for the cell `at`
 abbrev pub fields_at : ℕ → List ℕ → List Field
 fields_at at text = fields_from (row_of at) (column_of at) (recs text)
 
--- the cells of each record, a part of its row from a column on; a record with no field has none
+-- the cells of a record, a part of its row from a column on, where it has fields
+abbrev pub area_of_record : ℕ → ℕ → List (List ℕ) → Option Area
+area_of_record row column [] = None
+area_of_record row column (field ∷ others) = Some (record { first = place row column; last = place row (column + length others) })
+
+-- those of records, the first in this row, each in the next, all from a column on
 abbrev pub areas_from : ℕ → ℕ → List (List (List ℕ)) → List Area
-areas_from row column [] = []
-areas_from row column ([] ∷ more) = areas_from (row + 1) column more
-areas_from row column ((field ∷ others) ∷ more) =
-    record { first = place row column; last = place row (column + length others) } ∷ areas_from (row + 1) column more
+areas_from row column records = filter_map (λ r. area_of_record r.0 column r.1) (enumerate_from row records)
 
 -- the rectangles of a text's records, the first from the cell `at` on
 abbrev pub areas_at : ℕ → List ℕ → List Area
