@@ -3,7 +3,8 @@ use Rattle.std.proofs.Common.{◌≡◌, ℕ, zero, suc, true, Option, refl, ap,
 use Rattle.wi_parser.specs.declared.content.Content.{Content}
 use Rattle.wi_parser.specs.Sheet.{Sheet, content_of, has_formula}
 use Rattle.wi_parser.specs.Reads.{content_reads}
-use Rattle.wi_graph.specs.Circular.{has_walk, circular}
+use Rattle.wi_graph.specs.Circular.{circular}
+use Rattle.wi_graph.specs.Inner.Walks.{has_walk}
 use Rattle.wi_graph.specs.Reach.{Walks, Reaches, AgreeFrom}
 use Rattle.wi_graph.proofs.Walks.{same_tests, step, first_step, circular_walks, walks_circular}
 

@@ -7,15 +7,16 @@ use Rattle.wi_parser.specs.Sheet.{Sheet, content_of, cells_with_formula}
 use Rattle.wi_parser.specs.Reads.{content_reads}
 use Rattle.wi_graph.specs.Circular.{circular}
 use Rattle.wi_graph.specs.Reach.{SameOff, in_cone}
-use Rattle.wi_graph.proofs.Walks.{first_step, circular_walks}
+use Rattle.wi_graph.proofs.Walks.{first_step, circular_walks, circular_is}
 use Rattle.wi_graph.proofs.Graphs.{left_circular, stripped}
 use Rattle.wi_graph.proofs.Cones.{cone_closed, outside_circular, outside_content}
 use Rattle.wi_graph.proofs.ReachTest.{not_in_cone}
 
 -- a circular cell reads a circular one
 pub reads_circular : (s : Sheet) (c : ℕ) → circular s c ≡ true → (d : ℕ) × (content_reads (content_of s c) d ≡ true) × (circular s d ≡ true)
-unfolding circular
-reads_circular s c h = first_step (length (cells_with_formula s)) s c (circular_walks s c h (suc (length (cells_with_formula s))))
+reads_circular s c h =
+    let f = first_step (length (cells_with_formula s)) s c (circular_walks s c h (suc (length (cells_with_formula s)))) in
+    (f.0, f.1, circular_is s f.0 ∙ f.2)
 
 -- what stripping leaves of the cells in the cone: a cell is held where it reads a circular cell outside
 pub record IsLeft (s t : Sheet) (xs : List ℕ) (held rest : ℕ → Bool) : Type 0 where

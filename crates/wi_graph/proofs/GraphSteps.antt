@@ -14,7 +14,8 @@ use Rattle.wi_parser.proofs.Rectangles.{reads_within}
 use Rattle.wi_ranges.specs.declared.pair.RangePair.{RangePair}
 use Rattle.wi_ranges.specs.Bag.{Bag, IsReader, pair_for, pair_area, is_same}
 use Rattle.wi_ranges.proofs.Exact.{same_is, same_self}
-use Rattle.wi_graph.specs.Circular.{has_walk, circular}
+use Rattle.wi_graph.specs.Circular.{circular}
+use Rattle.wi_graph.specs.Inner.Walks.{has_walk}
 use Rattle.wi_graph.specs.Reach.{Walks, reaches}
 use Rattle.wi_graph.specs.Edges.{areas_in, AreEdgesOf}
 use Rattle.wi_graph.specs.Inner.Rooms.{Rooms, room_at, edges_in, areas_of, times, HasPairs, IsGraph}

@@ -1,10 +1,11 @@
 -- What a search for cycles rests on.
-use Rattle.std.proofs.Common.{◌≡◌, ℕ, zero, suc, Bool, true, false, length}
+use Rattle.std.proofs.Common.{◌≡◌, ℕ, zero, suc, Bool, true, false, length, sym, ◌∙◌}
 use Rattle.std.proofs.lemmas.Bool.{false_from_ne_true}
 use Rattle.wi_parser.specs.Sheet.{Sheet, content_of, cells_with_formula}
 use Rattle.wi_parser.specs.Reads.{content_reads}
-use Rattle.wi_graph.specs.Circular.{has_walk, circular}
-use Rattle.wi_graph.proofs.Walks.{step, first_step, circular_walks, walks_circular, reader_formula}
+use Rattle.wi_graph.specs.Circular.{circular}
+use Rattle.wi_graph.specs.Inner.Walks.{has_walk}
+use Rattle.wi_graph.proofs.Walks.{step, first_step, circular_walks, walks_circular, circular_is, reader_formula}
 
 -- ---- cells that can't be stripped are circular, and cells that can are not
 
@@ -18,8 +19,7 @@ left_circular s P k c h = walks_circular s c (λ n. all n c h)
 
 -- a cell that reads no circular cell isn't circular
 pub stripped : (s : Sheet) (c : ℕ) → ((d : ℕ) → content_reads (content_of s c) d ≡ true → circular s d ≡ false) → circular s c ≡ false
-unfolding circular
 stripped s c k = false_from_ne_true (circular s c) (λ h.
     let f = first_step (length (cells_with_formula s)) s c (circular_walks s c h (suc (length (cells_with_formula s)))) in
-    let z = k f.0 f.1 in
+    let z = sym (circular_is s f.0 ∙ f.2) ∙ k f.0 f.1 in
     cc)

@@ -12,7 +12,7 @@ use Rattle.wi_parser.specs.declared.content.Content.{Content}
 use Rattle.wi_parser.specs.declared.content.Content.TheVariants.{Constant, Formula}
 use Rattle.wi_parser.specs.Sheet.{Sheet, content_of, has_formula, cells_with_formula}
 use Rattle.wi_parser.specs.Reads.{content_reads}
-use Rattle.wi_graph.specs.Circular.{has_walk, circular}
+use Rattle.wi_graph.specs.Inner.Walks.{has_walk}
 pub use Rattle.wi_graph.specs.Reach.{is_one_of}
 use Rattle.wi_graph.proofs.Tests.{turn_test, is_at-eq}
 
@@ -86,8 +86,3 @@ pub in_layer : (n : ℕ) (s : Sheet) (a : ℕ) → list_any (λ x. x == a) (laye
 in_layer n s a = among (has_walk n s) (cells_with_formula s) a ∙ implied (has_walk n s a) _ (λ h.
     let f = walker_has_formula n s a h in
     among (λ c. has_formula (content_of s c)) (keys_of s) a ∙ ap (λ (b : Bool). b && list_any (λ k. k == a) (keys_of s)) f ∙ is_key s a f)
-
--- what a plain search for a cycle answers
-pub circular_layer : (s : Sheet) (a : ℕ) → list_any (λ x. x == a) (layer (length (cells_with_formula s)) s) ≡ circular s a
-unfolding circular
-circular_layer s a = in_layer (length (cells_with_formula s)) s a

@@ -1,14 +1,17 @@
 -- Walks between formulas: one that is as long as there are formulas has no end.
-use Rattle.std.proofs.Common.{◌≡◌, ◌==◌, ℕ, zero, suc, ◌+◌, ◌<◌, ◌≤◌, Bool, true, false, ◌&&◌, ◌||◌, cond, List, [], ◌∷◌, filter, Option, Some, None, length, refl, ap, sym, ◌∙◌, subst, arith, inl, inr, ◌⊎◌}
-use Rattle.std.proofs.lemmas.Bool.{and_parts, and_from, or_cases, cases_lt, eqb-true}
+use Rattle.std.proofs.Common.{◌≡◌, ◌==◌, ℕ, zero, suc, ◌+◌, ◌<◌, ◌≤◌, Bool, true, false, ◌&&◌, ◌||◌, cond, List, [], ◌∷◌, filter, map, get_or, Option, Some, None, length, refl, ap, sym, ◌∙◌, subst, arith, inl, inr, ◌⊎◌, eq-eqb}
+use Rattle.std.proofs.lemmas.Bool.{and_parts, and_from, or_cases, or_left, or_right, cases_lt, eqb-true}
 use Rattle.std.proofs.lemmas.List.{nil_from_length}
-use Rattle.std.specs.List.{list_any}
+use Rattle.std.proofs.lemmas.List.Folds.{Any-from_list_any, list_any_at, list_any-append}
+use Rattle.std.proofs.lemmas.List.Sums.{AllPass-from_list_all, list_all-from_AllPass}
+use Rattle.std.specs.List.{list_any, list_all}
 use Rattle.wi_parser.specs.declared.content.Content.{Content}
 use Rattle.wi_parser.specs.declared.content.Content.TheVariants.{Constant, Formula}
 use Rattle.wi_parser.specs.Sheet.{Sheet, content_of, has_formula, cells_with_formula}
 use Rattle.wi_parser.specs.Reads.{content_reads}
-use Rattle.wi_graph.specs.Circular.{has_walk, circular}
-use Rattle.wi_graph.proofs.Layers.{is_one_of, layer, layer_zero, in_layer, walker_has_formula}
+use Rattle.wi_graph.specs.Circular.{sublists, circular}
+use Rattle.wi_graph.specs.Inner.Walks.{has_walk}
+use Rattle.wi_graph.proofs.Layers.{is_one_of, layer, layer_zero, in_layer, has_walk_more, walker_has_formula}
 
 pub same_cell : (a k : ℕ) → (k == a) ≡ true → k ≡ a
 same_cell a k h = eqb-true k a h
@@ -160,16 +163,74 @@ all_lead s = at (thins (length (cells_with_formula s)) s)
         let i = ap (λ (xs : List ℕ). is_one_of xs c) e in
         cc
 
+-- ---- circular cells
+
+any_added : (p : List ℕ → Bool) (x : ℕ) (lists : List (List ℕ)) → list_any p (map (λ ys. x ∷ ys) lists) ≡ list_any (λ ys. p (x ∷ ys)) lists
+any_added p x [] = refl
+any_added p x (ys ∷ lists) = ap (λ (b : Bool). p (x ∷ ys) || b) (any_added p x lists)
+
+-- the sublists without the first element, and those with it
+any_sublist : (p : List ℕ → Bool) (x : ℕ) (xs : List ℕ) → list_any p (sublists (x ∷ xs)) ≡ (list_any p (sublists xs) || list_any (λ ys. p (x ∷ ys)) (sublists xs))
+any_sublist p x xs = list_any-append p (sublists xs) (map (λ ys. x ∷ ys) (sublists xs)) ∙ ap (λ (b : Bool). list_any p (sublists xs) || b) (any_added p x (sublists xs))
+
+-- what a filter keeps is one of the sublists
+filter_passes : (p : List ℕ → Bool) (q : ℕ → Bool) (xs : List ℕ) → p (filter q xs) ≡ true → list_any p (sublists xs) ≡ true
+filter_passes p q [] h = or_left (p []) false h
+filter_passes p q (x ∷ xs) h = any_sublist p x xs ∙ by (q x) h (filter_passes p q xs) (filter_passes (λ ys. p (x ∷ ys)) q xs)
+  where
+    by : (b : Bool) → p (cond b (x ∷ filter q xs) (filter q xs)) ≡ true → (p (filter q xs) ≡ true → list_any p (sublists xs) ≡ true)
+        → (p (x ∷ filter q xs) ≡ true → list_any (λ ys. p (x ∷ ys)) (sublists xs) ≡ true) → (list_any p (sublists xs) || list_any (λ ys. p (x ∷ ys)) (sublists xs)) ≡ true
+    by true h left added = or_right (list_any p (sublists xs)) _ (added h)
+    by false h left added = or_left (list_any p (sublists xs)) _ (left h)
+
+-- each of the cells reads one of them
+abbrev all_read : Sheet → List ℕ → Bool
+all_read s cs = list_all (λ d. list_any (content_reads (content_of s d)) cs) cs
+
+reads_one : (s : Sheet) (cs : List ℕ) → all_read s cs ≡ true → (c : ℕ) → is_one_of cs c ≡ true → (d : ℕ) × (content_reads (content_of s c) d ≡ true) × (is_one_of cs d ≡ true)
+reads_one s cs all c m =
+    let i = Any-from_list_any (λ x. x == c) cs m in
+    let same : get_or cs i.0 i.1 ≡ c = i.3 ∙ same_cell c i.1 i.4 in
+    let here = AllPass-from_list_all (λ d. list_any (content_reads (content_of s d)) cs) cs all i.0 i.1 i.2 in
+    let reads : list_any (content_reads (content_of s c)) cs ≡ true = ap (λ d. list_any (content_reads (content_of s d)) cs) (sym same) ∙ here in
+    let j = Any-from_list_any (content_reads (content_of s c)) cs reads in
+    (j.1, j.4, list_any_at (λ x. x == j.1) cs j.0 j.1 j.2 (eq-eqb (get_or cs j.0 j.1) j.1 j.3))
+
+all_walk : (s : Sheet) (cs : List ℕ) → all_read s cs ≡ true → (n c : ℕ) → is_one_of cs c ≡ true → has_walk n s c ≡ true
+all_walk s cs all zero c m = let x = reads_one s cs all c m in reader_formula (content_of s c) x.0 x.1
+all_walk s cs all (suc n) c m = let x = reads_one s cs all c m in step n s c x.0 x.1 (all_walk s cs all n x.0 x.2)
+
+-- the cells from which as many steps lead as there are formulas
+layer_read : (s : Sheet) → all_read s (layer (length (cells_with_formula s)) s) ≡ true
+layer_read s =
+    let n = length (cells_with_formula s) in
+    list_all-from_AllPass (λ d. list_any (content_reads (content_of s d)) (layer n s)) (layer n s) (λ k d l.
+    let c = get_or (layer n s) k d in
+    let walk : has_walk n s c ≡ true = sym (in_layer n s c) ∙ list_any_at (λ x. x == c) (layer n s) k d l (eq-eqb c c refl) in
+    sym (has_walk_more n s c) ∙ all_lead s c walk)
+
 -- from a circular cell lead walks of every length
 pub circular_walks : (s : Sheet) (c : ℕ) → circular s c ≡ true → (n : ℕ) → has_walk n s c ≡ true
 unfolding circular
-circular_walks s c h n = at (cases_lt n (length (cells_with_formula s)))
-  where
-    at : (n < length (cells_with_formula s)) ⊎ (length (cells_with_formula s) ≤ n) → has_walk n s c ≡ true
-    at (inl l) = fewer (length (cells_with_formula s)) n s c (omega arith) h
-    at (inr l) = (further n (length (cells_with_formula s)) s l (all_lead s) c h).0
+circular_walks s c h n =
+    let f = Any-from_list_any (λ cs. list_any (λ d. d == c) cs && all_read s cs) (sublists (cells_with_formula s)) h in
+    let x = and_parts (list_any (λ d. d == c) f.1) (all_read s f.1) f.4 in
+    all_walk s f.1 x.1 n c x.0
 
--- and from no other
-pub walks_circular : (s : Sheet) (c : ℕ) → ((n : ℕ) → has_walk n s c ≡ true) → circular s c ≡ true
+long_walk : (s : Sheet) (c : ℕ) → has_walk (length (cells_with_formula s)) s c ≡ true → circular s c ≡ true
 unfolding circular
-walks_circular s c h = h (length (cells_with_formula s))
+long_walk s c h =
+    let n = length (cells_with_formula s) in
+    filter_passes (λ cs. list_any (λ d. d == c) cs && all_read s cs) (has_walk n s) (cells_with_formula s) (and_from _ _ (in_layer n s c ∙ h) (layer_read s))
+
+-- a cell is circular exactly where as many steps lead from it as there are formulas
+pub circular_is : (s : Sheet) (c : ℕ) → circular s c ≡ has_walk (length (cells_with_formula s)) s c
+circular_is s c = same_tests (circular s c) (has_walk (length (cells_with_formula s)) s c) (λ h. circular_walks s c h (length (cells_with_formula s))) (long_walk s c)
+
+-- and so exactly where walks of every length do
+pub walks_circular : (s : Sheet) (c : ℕ) → ((n : ℕ) → has_walk n s c ≡ true) → circular s c ≡ true
+walks_circular s c h = long_walk s c (h (length (cells_with_formula s)))
+
+-- what a plain search for a cycle answers
+pub circular_layer : (s : Sheet) (a : ℕ) → list_any (λ x. x == a) (layer (length (cells_with_formula s)) s) ≡ circular s a
+circular_layer s a = in_layer (length (cells_with_formula s)) s a ∙ sym (circular_is s a)

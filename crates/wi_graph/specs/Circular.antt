@@ -1,14 +1,14 @@
 -- Which cells are on or above a cycle of references.
-use Rattle.std.specs.Prelude.{ℕ, zero, suc, Bool, ◌&&◌, length}
-use Rattle.std.specs.List.{list_any}
-use Rattle.wi_parser.specs.Sheet.{Sheet, content_of, has_formula, cells_with_formula}
+use Rattle.std.specs.Prelude.{◌==◌, ℕ, Bool, ◌&&◌, List, [], ◌∷◌, ◌++◌, map}
+use Rattle.std.specs.List.{list_any, list_all}
+use Rattle.wi_parser.specs.Sheet.{Sheet, content_of, cells_with_formula}
 use Rattle.wi_parser.specs.Reads.{content_reads}
 
--- from c lead n steps, each from a cell with a formula to one with a formula that it reads
-abbrev pub has_walk : ℕ → Sheet → ℕ → Bool
-has_walk zero s c = has_formula (content_of s c)
-has_walk (suc n) s c = list_any (λ d. content_reads (content_of s c) d && has_walk n s d) (cells_with_formula s)
+-- the lists that have some of the elements, or none, in their order
+abbrev pub sublists : List ℕ → List (List ℕ)
+sublists [] = [] ∷ []
+sublists (x ∷ xs) = sublists xs ++ map (λ ys. x ∷ ys) (sublists xs)
 
--- c is on or above a cycle: with n formulas in the sheet, n steps lead on from c, so some cell is met twice
+-- c is on or above a cycle: it is one of some cells with a formula each of which reads one of them
 unfoldable pub circular : Sheet → ℕ → Bool
-circular s c = has_walk (length (cells_with_formula s)) s c
+circular s c = list_any (λ cs. list_any (λ d. d == c) cs && list_all (λ d. list_any (content_reads (content_of s d)) cs) cs) (sublists (cells_with_formula s))

@@ -7,3 +7,4 @@ pub mod Rooms
 pub mod Staging
 pub mod Turning
 pub mod Changes
+pub mod Walks

@@ -12,8 +12,9 @@ use Rattle.wi_parser.specs.declared.content.Content.TheVariants.{Constant, Formu
 use Rattle.wi_parser.specs.Sheet.{Sheet, constant, content_of, put_all, has_formula, cells_with_formula}
 use Rattle.wi_parser.specs.Reads.{reads, content_reads}
 use Rattle.wi_functions.specs.Meaning.{zero_for_empty}
-use Rattle.wi_graph.specs.Circular.{has_walk, circular}
-use Rattle.wi_graph.proofs.Walks.{step, first_step}
+use Rattle.wi_graph.specs.Circular.{circular}
+use Rattle.wi_graph.specs.Inner.Walks.{has_walk}
+use Rattle.wi_graph.proofs.Walks.{step, first_step, circular_is}
 use Rattle.wi_sheet.specs.CellValue.{value_of, replacements, what_if_in, value_within, cell_value}
 use Rattle.wi_sheet.proofs.Puts.{overlaid, plain, content_of-put_all, formula_cells_put_all}
 use Rattle.wi_sheet.proofs.Meanings.{meaning_same, replacements_same}
@@ -113,9 +114,9 @@ bound_same (suc n) (suc j) (suc k) s c h a b =
 
 -- every bound from the number of formulas on gives a cell its value
 pub bound_not_felt : (k : ℕ) (s : Sheet) (c : ℕ) → length (cells_with_formula s) ≤ k → value_within k s c ≡ cell_value s c
-unfolding cell_value circular
+unfolding cell_value
 bound_not_felt k s c l = at (circular s c) refl
   where
     at : (b : Bool) → circular s c ≡ b → value_within k s c ≡ value_within (length (cells_with_formula s)) s c
     at true e = circular_value k s c e ∙ sym (circular_value (length (cells_with_formula s)) s c e)
-    at false e = bound_same (length (cells_with_formula s)) k (length (cells_with_formula s)) s c e l (omega arith)
+    at false e = bound_same (length (cells_with_formula s)) k (length (cells_with_formula s)) s c (sym (circular_is s c) ∙ e) l (omega arith)

@@ -9,7 +9,8 @@ use Rattle.wi_parser.specs.declared.content.Content.{Content}
 use Rattle.wi_parser.specs.declared.content.Content.TheVariants.{Constant, Formula}
 use Rattle.wi_parser.specs.Sheet.{Sheet, content_of, put_all, has_formula, cells_with_formula}
 use Rattle.wi_parser.specs.Reads.{leaf_reads, reads, content_reads}
-use Rattle.wi_graph.specs.Circular.{has_walk, circular}
+use Rattle.wi_graph.specs.Circular.{circular}
+use Rattle.wi_graph.specs.Inner.Walks.{has_walk}
 use Rattle.wi_graph.proofs.Ends.{ends_open}
 use Rattle.wi_sheet.specs.Demand.{Case, case_of, with_what_if, leaf_what_ifs, what_ifs_of, leaf_reads_here, reads_here, formulas_read_here, rests_on, of_formula, demand_within, demand}
 use Rattle.wi_sheet.specs.Inner.Spending.{RestsOn, IsClosed}

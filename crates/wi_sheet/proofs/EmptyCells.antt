@@ -9,17 +9,18 @@ use Rattle.std.proofs.lemmas.Map.Made.{is_some-lookup}
 use Rattle.wi_values.specs.declared.value.Value.TheVariants.{Empty}
 use Rattle.wi_parser.specs.declared.content.Content.{Content}
 use Rattle.wi_parser.specs.Sheet.{Sheet, content_of, has_formula, cells_with_formula}
-use Rattle.wi_graph.specs.Circular.{circular, has_walk}
+use Rattle.wi_graph.specs.Circular.{circular}
+use Rattle.wi_graph.specs.Inner.Walks.{has_walk}
 use Rattle.wi_graph.proofs.Layers.{walker_has_formula}
 use Rattle.wi_graph.proofs.Tests.{turned}
+use Rattle.wi_graph.proofs.Walks.{circular_is}
 use Rattle.wi_sheet.specs.CellValue.{value_of}
 use Rattle.wi_sheet.specs.Shown.{shown}
 use Rattle.wi_sheet.proofs.Steps.{value_plain, shown_open}
 
 -- such a cell is on no cycle and above none
 open_at : (s : Sheet) (a : ℕ) → content_of s a ≡ None → circular s a ≡ false
-unfolding circular
-open_at s a e = by (has_walk (length (cells_with_formula s)) s a) refl
+open_at s a e = circular_is s a ∙ by (has_walk (length (cells_with_formula s)) s a) refl
   where
     by : (b : Bool) → has_walk (length (cells_with_formula s)) s a ≡ b → b ≡ false
     by false h = refl

@@ -1,9 +1,10 @@
 -- Ranks fall along reads.
-use Rattle.std.proofs.Common.{◌≡◌, ◌<◌, ◌≤◌, ◌+◌, ◌*◌, ℕ, zero, suc, Bool, true, false, length, refl, arith, if◌then◌else◌}
+use Rattle.std.proofs.Common.{◌≡◌, ◌<◌, ◌≤◌, ◌+◌, ◌*◌, ℕ, zero, suc, Bool, true, false, length, refl, sym, ◌∙◌, arith, if◌then◌else◌}
 use Rattle.wi_parser.specs.Sheet.{Sheet, content_of, has_formula, cells_with_formula}
 use Rattle.wi_parser.specs.Reads.{content_reads}
-use Rattle.wi_graph.specs.Circular.{has_walk, circular}
-use Rattle.wi_graph.proofs.Walks.{step, reader_formula}
+use Rattle.wi_graph.specs.Circular.{circular}
+use Rattle.wi_graph.specs.Inner.Walks.{has_walk}
+use Rattle.wi_graph.proofs.Walks.{step, reader_formula, circular_is}
 use Rattle.wi_sheet.specs.Demand.{Case, rests_on}
 use Rattle.wi_sheet.specs.Inner.Spending.{RestsOn}
 use Rattle.wi_sheet.proofs.Bounds.{put_formula}
@@ -31,10 +32,10 @@ no_more n s c h = rw h (omega arith)
 
 -- ranks fall from a cell that is not circular to each formula that it reads
 pub rank_falls : (s : Sheet) (c d : ℕ) → content_reads (content_of s c) d ≡ true → circular s c ≡ false → has_formula (content_of s d) ≡ true → reach_rank s d < reach_rank s c
-unfolding reach_rank circular
+unfolding reach_rank
 rank_falls s c d r o f =
     let more = longer (length (cells_with_formula s)) s c d r in
-    let same = no_more (length (cells_with_formula s)) s c o in
+    let same = no_more (length (cells_with_formula s)) s c (sym (circular_is s c) ∙ o) in
     omega (arith, more, same)
 
 bit_small : (b : Bool) → (if b then 1 else 0) ≤ 1

@@ -11,8 +11,9 @@ use Rattle.wi_parser.specs.declared.content.Content.TheVariants.{Formula}
 use Rattle.wi_parser.specs.Sheet.{Sheet, content_of, put_all, has_formula, cells_with_formula}
 use Rattle.wi_parser.specs.Reads.{content_reads}
 use Rattle.wi_functions.specs.Meaning.{meaning, zero_for_empty}
-use Rattle.wi_graph.specs.Circular.{has_walk, circular}
-use Rattle.wi_graph.proofs.Walks.{step, circular_walks, walks_circular, formula_cell, reader_formula}
+use Rattle.wi_graph.specs.Circular.{circular}
+use Rattle.wi_graph.specs.Inner.Walks.{has_walk}
+use Rattle.wi_graph.proofs.Walks.{step, circular_walks, walks_circular, circular_is, formula_cell, reader_formula}
 use Rattle.wi_sheet.specs.CellValue.{value_of, replacements, what_if_in, formula_in, value_within, cell_value, what_if_value}
 use Rattle.wi_sheet.specs.Shown.{shown}
 use Rattle.wi_sheet.proofs.Meanings.{meaning_same, replacements_same}
@@ -67,8 +68,7 @@ by_steps n s c t l w e =
     (replacements_same ps (value_within n s) (cell_value s) (λ d m. near n s d l (read_walk n s c d w (tree_reads s c t d e (i.1 d m)))))))
 
 pub no_walk : (n : ℕ) (s : Sheet) (c : ℕ) → length (cells_with_formula s) ≡ n → circular s c ≡ false → has_walk n s c ≡ false
-unfolding circular
-no_walk n s c l h = subst (λ (m : ℕ). has_walk m s c ≡ false) l h
+no_walk n s c l h = subst (λ (m : ℕ). has_walk m s c ≡ false) l (sym (circular_is s c) ∙ h)
 
 -- a formula's value: the meaning of its tree, each cell that it reads standing for its value
 pub value_step : (s : Sheet) (c : ℕ) (t : Tree) → circular s c ≡ false → content_of s c ≡ Some (Formula t) → cell_value s c ≡ zero_for_empty (meaning t (cell_value s) (what_if_value s))

@@ -1,7 +1,7 @@
 -- How far a cell stands above those that read no formula.
 use Rattle.std.specs.Prelude.{ℕ, zero, suc, ◌+◌, if◌then◌else◌, length}
 use Rattle.wi_parser.specs.Sheet.{Sheet, cells_with_formula}
-use Rattle.wi_graph.specs.Circular.{has_walk}
+use Rattle.wi_graph.specs.Inner.Walks.{has_walk}
 
 -- how many of the lengths below n are those of walks from c
 abbrev pub lengths_below : ℕ → Sheet → ℕ → ℕ
