@@ -4,7 +4,7 @@ use Rattle.wi_parser.specs.declared.expr.Reference.{Reference}
 use Rattle.wi_parser.specs.declared.expr.Sign.{Sign}
 use Rattle.wi_parser.specs.declared.expr.Sign.TheVariants.{Plus, Minus}
 use Rattle.wi_parser.specs.Tree.{Tree, Trees}
-use Rattle.wi_parser.specs.Symbol.{Symbol, numeral, text_literal, open_parenthesis, close_parenthesis, separator, infix_mark, sign_mark, percent_mark, what_if_name, name, bad_token}
+use Rattle.wi_parser.specs.Symbol.{Symbol, numeral, text_literal, open_parenthesis, close_parenthesis, separator, infix_mark, sign_mark, percent_mark, what_if_name, name, faulty}
 use Rattle.wi_parser.specs.Nesting.{is_sign}
 use Rattle.wi_parser.specs.Inner.WhatIf.{pair_symbols}
 use Rattle.wi_parser.specs.Inner.Lines.{loosest, Spells, a_number, a_text, a_cell, a_rectangle, in_parentheses, one_input, two_inputs, a_call, with_sign, with_percent, tighter, joined, SpellsAll, SpellsMore, no_parameter, parameters, last_parameter, another_parameter}
@@ -14,7 +14,7 @@ abbrev pub begins : Symbol → Bool
 begins close_parenthesis = false
 begins separator = false
 begins percent_mark = false
-begins (bad_token e) = false
+begins (faulty e) = false
 begins (infix_mark op) = is_sign (infix_mark op)
 begins s = true
 
@@ -48,7 +48,7 @@ stands_before (text_literal s) ts = after_operand ts
 stands_before (infix_mark op) ts = at_operand ts
 stands_before what_if_name ts = at_parenthesis ts
 stands_before (name f) ts = at_parenthesis ts
-stands_before (bad_token e) ts = false
+stands_before (faulty e) ts = false
 stands_before s ts = true
 
 -- each may stand before those that follow it

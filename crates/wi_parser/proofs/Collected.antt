@@ -8,7 +8,7 @@ use Rattle.wi_lexer.specs.Inner.Tokens.{tokens}
 use Rattle.wi_lexer.proofs.CallerLemmas.{tokens_next, tokens_bad, tokens_end}
 use Rattle.wi_parser.specs.declared.fault.ParseFault.TheVariants.{Syntax}
 use Rattle.wi_parser.specs.declared.symbol.Symbol as code
-use Rattle.wi_parser.specs.Symbol.{Symbol, bad_token}
+use Rattle.wi_parser.specs.Symbol.{Symbol, faulty}
 use Rattle.wi_parser.specs.Inner.FormulaText.{symbol_of, symbols_of}
 use Rattle.wi_parser.specs.Inner.SymbolCode.{meant_by, all_meant}
 
@@ -22,9 +22,9 @@ left_next old t new h = ap symbols_of (tokens_next old t new h)
 pub left_end : (s : Scan) → ahead s ≡ [] → left s ≡ []
 left_end s h = ap symbols_of (tokens_end s h)
 
-pub left_bad : (old new : Scan) → (ahead old ≡ [] → ⊥) → NoToken (ahead old) → IsDone old new → left old ≡ bad_token Syntax ∷ left new
+pub left_bad : (old new : Scan) → (ahead old ≡ [] → ⊥) → NoToken (ahead old) → IsDone old new → left old ≡ faulty Syntax ∷ left new
 left_bad old new some none done =
-    ap symbols_of (tokens_bad old some none) ∙ ap (λ ts. bad_token Syntax ∷ ts) (sym (left_end new (ap after_blanks done.rest)))
+    ap symbols_of (tokens_bad old some none) ∙ ap (λ ts. faulty Syntax ∷ ts) (sym (left_end new (ap after_blanks done.rest)))
 
 shortens : (old new : List ℕ) → (after_blanks old ≡ [] → ⊥) → new ≡ [] → length new < length old
 shortens [] new some none = absurd (some refl)

@@ -1,7 +1,7 @@
 -- A tree nests no deeper than the parentheses of its symbols.
 use Rattle.std.proofs.Common.{◌≡◌, ℕ, suc, ◌+◌, ◌-◌, ◌≤◌, List, [], ◌∷◌, ◌++◌, ap, arith, append_assoc, append-nil, max}
 use Rattle.wi_parser.specs.Tree.{Tree, Trees}
-use Rattle.wi_parser.specs.Symbol.{Symbol, numeral, reference, corners, open_parenthesis, close_parenthesis, separator, infix_mark, percent_mark, what_if_name, bad_token, text_literal, name}
+use Rattle.wi_parser.specs.Symbol.{Symbol, numeral, reference, corners, open_parenthesis, close_parenthesis, separator, infix_mark, percent_mark, what_if_name, faulty, text_literal, name}
 use Rattle.wi_parser.specs.Inner.Lines.{loosest, Spells, a_number, a_cell, a_rectangle, in_parentheses, one_input, two_inputs, with_sign, with_percent, tighter, joined, SpellsAll, SpellsMore, a_text, a_call, no_parameter, parameters, last_parameter, another_parameter}
 use Rattle.wi_parser.specs.Nesting.{depth, greatest_depth}
 use Rattle.wi_parser.specs.Inner.Deepest.{deepest}
@@ -19,7 +19,7 @@ least h (infix_mark op ∷ ts) = least h ts
 least h (percent_mark ∷ ts) = least h ts
 least h (what_if_name ∷ ts) = least h ts
 least h (name f ∷ ts) = least h ts
-least h (bad_token e ∷ ts) = least h ts
+least h (faulty e ∷ ts) = least h ts
 
 -- from h open parentheses on, the symbols before rest reach d more, and no less than rest does
 record Reaches (d h : ℕ) (ts rest : List Symbol) : Type 0 where

@@ -25,7 +25,7 @@ use Rattle.wi_parser.specs.declared.fault.ParseFault.TheVariants.{OutOfSheet}
 use Rattle.wi_parser.specs.Inner.FormulaText.{number_symbol, cell_symbol, reference_symbol, corners_symbol, rectangle_symbol, mark_symbol, symbol_of}
 use Rattle.wi_parser.specs.Symbols.{reference_to}
 use Rattle.wi_parser.specs.Printing.{operator_text}
-use Rattle.wi_parser.specs.Symbol.{Symbol, text_literal, bad_token, infix_mark}
+use Rattle.wi_parser.specs.Symbol.{Symbol, text_literal, faulty, infix_mark}
 use Rattle.wi_parser.specs.Symbols.{Means, a_number, an_unfit_number, a_text, a_reference, an_outside_reference, a_rectangle, an_outside_rectangle, a_name, an_opening_parenthesis, a_closing_parenthesis, a_separator, a_percent_mark, an_operator}
 
 -- ---- a token means what it stands for
@@ -85,7 +85,7 @@ token_means Name text h = a_name text h
 
 -- ---- and nothing else means anything
 
-no_corners : (o p : Option references.Reference) → (o ≡ None) ⊎ (p ≡ None) → corners_symbol o p ≡ bad_token OutOfSheet
+no_corners : (o p : Option references.Reference) → (o ≡ None) ⊎ (p ≡ None) → corners_symbol o p ≡ faulty OutOfSheet
 no_corners None p h = refl
 no_corners (Some r) None h = refl
 no_corners (Some r) (Some s) (inl e) = cc

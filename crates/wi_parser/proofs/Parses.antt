@@ -6,7 +6,7 @@ use Rattle.std.specs.List.{list_any}
 use Rattle.wi_parser.specs.declared.fault.ParseFault.{ParseFault}
 use Rattle.wi_parser.specs.declared.fault.ParseFault.TheVariants.{TooLong, OutOfSheet, NumberRange, TooDeep, Syntax, Memory}
 use Rattle.wi_parser.specs.Tree.{Tree, Trees}
-use Rattle.wi_parser.specs.Symbol.{Symbol, close_parenthesis, infix_mark, percent_mark, bad_token, is_outside, is_unfit}
+use Rattle.wi_parser.specs.Symbol.{Symbol, close_parenthesis, infix_mark, percent_mark, faulty, is_outside, is_unfit}
 use Rattle.wi_parser.specs.Inner.Lines.{loosest, Spells, a_number, a_cell, a_rectangle, in_parentheses, one_input, two_inputs, with_sign, with_percent, tighter, joined, SpellsAll, SpellsMore, a_text, a_call, no_parameter, parameters, last_parameter, another_parameter}
 use Rattle.wi_parser.specs.Nesting.{max_depth, is_too_deep}
 use Rattle.wi_parser.specs.Inner.Reader.{whole}
@@ -22,7 +22,7 @@ use Rattle.wi_parser.proofs.TooDeep.{few_open}
 -- ---- symbols that spell a tree are not refused
 
 abbrev is_refused : Symbol → Bool
-is_refused (bad_token e) = true
+is_refused (faulty e) = true
 is_refused s = false
 
 none_in_both : (xs ys : List Symbol) → list_any is_refused xs ≡ false → list_any is_refused ys ≡ false → list_any is_refused (xs ++ ys) ≡ false
@@ -52,7 +52,7 @@ mutual
   none_in_more (another_parameter t all ts us s u) = none_in_both ts us (none_is_refused s) (none_in_more u)
 
 -- no tree is spelled by symbols of which the first is refused
-pub no_refused_first : (e : ParseFault) (ts : List Symbol) (t : Tree) → Spells loosest t (bad_token e ∷ ts) → ⊥
+pub no_refused_first : (e : ParseFault) (ts : List Symbol) (t : Tree) → Spells loosest t (faulty e ∷ ts) → ⊥
 no_refused_first e ts t s = let h : true ≡ false = none_is_refused s in cc
 
 -- a test that no symbol passes but a refused one
@@ -63,11 +63,11 @@ none_passes p h (s ∷ ts) e =
     ap₂ (λ a b. a || b) (h s i.0) (none_passes p h ts i.1)
 
 outside_is_refused : (s : Symbol) → is_refused s ≡ false → is_outside s ≡ false
-outside_is_refused (bad_token e) h = cc
+outside_is_refused (faulty e) h = cc
 outside_is_refused s h = refl
 
 unfit_is_refused : (s : Symbol) → is_refused s ≡ false → is_unfit s ≡ false
-unfit_is_refused (bad_token e) h = cc
+unfit_is_refused (faulty e) h = cc
 unfit_is_refused s h = refl
 
 not_refused : (ts : List Symbol) → list_any is_outside ts ≡ false → list_any is_unfit ts ≡ false → is_too_deep ts ≡ false → refusal_of ts ≡ None

@@ -5,7 +5,7 @@ use Rattle.wi_parser.specs.declared.expr.Operator.{Operator}
 use Rattle.wi_parser.specs.declared.expr.Reference.{Reference}
 use Rattle.wi_parser.specs.declared.expr.Sign.{Sign}
 use Rattle.wi_parser.specs.Tree.{Tree, number, cell, rectangle, parenthesized, signed, percent, binary, what_if, Trees, text, call, no_trees, more_trees}
-use Rattle.wi_parser.specs.Symbol.{Symbol, numeral, reference, corners, open_parenthesis, close_parenthesis, separator, infix_mark, sign_mark, percent_mark, what_if_name, bad_token, text_literal, name}
+use Rattle.wi_parser.specs.Symbol.{Symbol, numeral, reference, corners, open_parenthesis, close_parenthesis, separator, infix_mark, sign_mark, percent_mark, what_if_name, faulty, text_literal, name}
 use Rattle.wi_parser.specs.Inner.WhatIf.{pair_symbols, what_if_symbols}
 use Rattle.wi_parser.specs.Inner.Lines.{loosest, Spells, a_number, a_cell, a_rectangle, in_parentheses, one_input, two_inputs, with_sign, with_percent, tighter, joined, SpellsAll, SpellsMore, a_text, a_call, no_parameter, parameters, last_parameter, another_parameter}
 use Rattle.wi_parser.specs.Inner.Reader.{Parse, Read, read_then, then_close, after_open, after_close, reference_at, sign_of, operator_at, pair_at, one_or_two, inputs_at, what_if_at, atom, prefix_step, prefixed, percents, chain, chain_step, line, expression, if_last, whole, ParseAll, after_separator, put_first, and_then_all, after_parameter, unless_closed, more_parameters, first_parameter, parameters_at, called}
@@ -191,7 +191,7 @@ module _ (inner : Parse) (sound : Finds loosest inner) where
   atom_sound (separator ∷ ts) t rest h = cc
   atom_sound (infix_mark op ∷ ts) t rest h = cc
   atom_sound (percent_mark ∷ ts) t rest h = cc
-  atom_sound (bad_token e ∷ ts) t rest h = cc
+  atom_sound (faulty e ∷ ts) t rest h = cc
 
   chain_sound : (next : Parse) (k : ℕ) → Finds k next → (n : ℕ) (left : Tree) (ls ts : List Symbol) (t : Tree) (rest : List Symbol) → Spells (suc k) left ls → chain next (suc k) n left ts ≡ Some (t, rest)
       → (us : List Symbol) × Spells (suc k) t us × (ls ++ ts ≡ us ++ rest)

@@ -16,7 +16,7 @@ use Rattle.wi_lexer.specs.Inner.Ends.{goes_on, ends}
 use Rattle.wi_lexer.proofs.RunLemmas.{digits_all}
 use Rattle.wi_parser.specs.declared.expr.Operator.{Operator}
 use Rattle.wi_parser.specs.declared.expr.Operator.TheVariants as operator
-use Rattle.wi_parser.specs.Symbol.{Symbol, numeral, text_literal, reference, corners, open_parenthesis, close_parenthesis, separator, infix_mark, percent_mark, what_if_name, name, bad_token}
+use Rattle.wi_parser.specs.Symbol.{Symbol, numeral, text_literal, reference, corners, open_parenthesis, close_parenthesis, separator, infix_mark, percent_mark, what_if_name, name, faulty}
 use Rattle.wi_parser.specs.Printing.{symbol_text}
 use Rattle.wi_parser.specs.Inner.SymbolLists.{symbols_text}
 use Rattle.wi_parser.proofs.Meanings.{mark_of}
@@ -98,5 +98,5 @@ text_ends (text_literal s) ts w e = (follower_ends ts e).1
 text_ends (infix_mark op) ts w e = operator_ends op (symbols_text ts) (operand_ends ts w e)
 text_ends what_if_name ts w e = name_ends ts e
 text_ends (name f) ts w e = name_ends ts e
-text_ends (bad_token f) ts w e = cc
+text_ends (faulty f) ts w e = cc
 text_ends s ts w e = always_ends (kind_of s) (λ b. refl) (symbols_text ts)

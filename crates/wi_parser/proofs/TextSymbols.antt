@@ -32,7 +32,7 @@ use Rattle.wi_parser.specs.Capitals.{in_capitals}
 use Rattle.wi_parser.specs.Inner.FormulaText.{number_symbol, cell_symbol, reference_symbol, corners_symbol, rectangle_symbol, mark_symbol, symbol_of, symbols_of, after_prefix, after_equals, symbols_by, formula_symbols}
 use Rattle.wi_parser.specs.Symbols.{reference_to, name_symbol}
 use Rattle.wi_parser.specs.Shift.{in_sheet}
-use Rattle.wi_parser.specs.Symbol.{bad_token, what_if_name, name}
+use Rattle.wi_parser.specs.Symbol.{faulty, what_if_name, name}
 use Rattle.wi_parser.specs.Writable.{IsWritable}
 
 -- ---- numbers
@@ -172,8 +172,8 @@ each_is_one (ended text none) = All-nil IsOne
 each_is_one (bad text some none) = All-nil IsOne
 each_is_one (more text k n ts longest rest) = All-cons IsOne _ ts.found longest.token (each_is_one rest)
 
-bad_writable : (b : Bool) → All IsWritable (if b then bad_token Syntax ∷ [] else [])
-bad_writable true = All-cons IsWritable (bad_token Syntax) [] tt (All-nil IsWritable)
+bad_writable : (b : Bool) → All IsWritable (if b then faulty Syntax ∷ [] else [])
+bad_writable true = All-cons IsWritable (faulty Syntax) [] tt (All-nil IsWritable)
 bad_writable false = All-nil IsWritable
 
 tokens_writable : (text : List ℕ) → All IsWritable (symbols_of (tokens text))
@@ -186,7 +186,7 @@ tokens_writable text =
 
 by_writable : (text : List ℕ) (o : Option (List ℕ)) → All IsWritable (symbols_by text o)
 by_writable text (Some body) = tokens_writable body
-by_writable text None = All-cons IsWritable (bad_token Syntax) _ tt (tokens_writable text)
+by_writable text None = All-cons IsWritable (faulty Syntax) _ tt (tokens_writable text)
 
 pub text_writable : (text : List ℕ) → All IsWritable (formula_symbols text)
 unfolding formula_symbols

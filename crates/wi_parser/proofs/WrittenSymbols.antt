@@ -23,7 +23,7 @@ use Rattle.wi_lexer.proofs.RectangleLemmas.{rectangle_of_complete}
 use Rattle.wi_lexer.proofs.QuoteLemmas.{text_reads_back}
 use Rattle.wi_parser.specs.declared.expr.Corners.{Corners}
 use Rattle.wi_parser.specs.declared.expr.Reference as references
-use Rattle.wi_parser.specs.Symbol.{Symbol, numeral, text_literal, reference, corners, open_parenthesis, close_parenthesis, separator, infix_mark, percent_mark, what_if_name, name, bad_token}
+use Rattle.wi_parser.specs.Symbol.{Symbol, numeral, text_literal, reference, corners, open_parenthesis, close_parenthesis, separator, infix_mark, percent_mark, what_if_name, name, faulty}
 use Rattle.wi_parser.specs.Capitals.{in_capitals}
 use Rattle.wi_parser.specs.Shift.{in_sheet}
 use Rattle.wi_parser.specs.Printing.{cell_named, symbol_text}
@@ -46,7 +46,7 @@ kind_of (infix_mark op) = Mark (mark_of op)
 kind_of percent_mark = Mark Percent
 kind_of what_if_name = Name
 kind_of (name f) = Name
-kind_of (bad_token e) = Name
+kind_of (faulty e) = Name
 
 -- the text of the symbol is a token, and means the symbol
 pub record IsWritten (s : Symbol) : Type 0 where
@@ -106,5 +106,5 @@ written (corners c) ts w e = corners_written c w.0 w.1
 written (infix_mark op) ts w e = record { token = operator_is op; means = operator_means op }
 written what_if_name ts w e = record { token = record { start = refl; parts = refl }; means = refl }
 written (name f) ts w e = name_written f w
-written (bad_token f) ts w e = cc
+written (faulty f) ts w e = cc
 written s ts w e = record { token = refl; means = refl }

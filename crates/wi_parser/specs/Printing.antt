@@ -12,7 +12,7 @@ use Rattle.wi_parser.specs.declared.expr.Operator.{Operator}
 use Rattle.wi_parser.specs.declared.expr.Operator.TheVariants.{Add, Subtract, Multiply, Divide, Power, Join, Equal, NotEqual, Less, LessOrEqual, Greater, GreaterOrEqual}
 use Rattle.wi_parser.specs.declared.expr.Reference.{Reference}
 use Rattle.wi_parser.specs.Tree.{Tree}
-use Rattle.wi_parser.specs.Symbol.{Symbol, numeral, text_literal, reference, corners, open_parenthesis, close_parenthesis, separator, infix_mark, percent_mark, what_if_name, name, bad_token}
+use Rattle.wi_parser.specs.Symbol.{Symbol, numeral, text_literal, reference, corners, open_parenthesis, close_parenthesis, separator, infix_mark, percent_mark, what_if_name, name, faulty}
 use Rattle.wi_parser.specs.Spelling.{spelling}
 use Rattle.wi_fraction.specs.Text.{Bytes}
 
@@ -52,7 +52,7 @@ symbol_text (infix_mark op) = operator_text op
 symbol_text percent_mark = codes "%"
 symbol_text what_if_name = codes "MULTIPLE.OPERATIONS"
 symbol_text (name f) = f
-symbol_text (bad_token e) = []
+symbol_text (faulty e) = []
 
 abbrev pub printed : Tree → Bytes
 printed t = codes "=" ++ flat_map symbol_text (spelling t)

@@ -25,7 +25,7 @@ pub data Symbol : Type 0 where
   what_if_name : Symbol
   -- another name, in capitals
   name : Bytes → Symbol
-  bad_token : ParseFault → Symbol
+  faulty : ParseFault → Symbol
 
 abbrev pub written_as : Sign → Operator
 written_as Plus = Add
@@ -36,10 +36,10 @@ sign_mark s = infix_mark (written_as s)
 
 -- a reference to a cell outside the sheet
 abbrev pub is_outside : Symbol → Bool
-is_outside (bad_token OutOfSheet) = true
+is_outside (faulty OutOfSheet) = true
 is_outside s = false
 
 -- a number that does not fit
 abbrev pub is_unfit : Symbol → Bool
-is_unfit (bad_token NumberRange) = true
+is_unfit (faulty NumberRange) = true
 is_unfit s = false

@@ -13,7 +13,7 @@ use Rattle.wi_parser.specs.declared.expr.Operator.{Operator}
 use Rattle.wi_parser.specs.declared.expr.Reference.{Reference}
 use Rattle.wi_parser.specs.declared.fault.ParseFault.TheVariants.{OutOfSheet, NumberRange, Syntax}
 use Rattle.wi_parser.specs.Printing.{operator_text}
-use Rattle.wi_parser.specs.Symbol.{Symbol, numeral, text_literal, reference, corners, open_parenthesis, close_parenthesis, separator, infix_mark, percent_mark, bad_token, what_if_name, name}
+use Rattle.wi_parser.specs.Symbol.{Symbol, numeral, text_literal, reference, corners, open_parenthesis, close_parenthesis, separator, infix_mark, percent_mark, faulty, what_if_name, name}
 use Rattle.std.specs.Str.{str_eq_ignore_ascii_case}
 use Rattle.wi_values.specs.AddressReading.{address_at}
 use Rattle.std.specs.Char.{to_ascii_uppercase}
@@ -32,14 +32,14 @@ pub data Means : Bytes → Symbol → Type 0 where
   a_number : (text whole parts : Bytes) (k : ℤ) (x : Number) → Writes text whole parts k → written_value whole parts k ≡ Some x
       → Means text (numeral x)
   an_unfit_number : (text whole parts : Bytes) (k : ℤ) → Writes text whole parts k → written_value whole parts k ≡ None
-      → Means text (bad_token NumberRange)
+      → Means text (faulty NumberRange)
   a_text : (content : Bytes) → Means (quoted content) (text_literal content)
   a_reference : (c : Cell) (r : Reference) → IsCell c → reference_to c ≡ Some r → Means (reference_text c) (reference r)
-  an_outside_reference : (c : Cell) → IsCell c → reference_to c ≡ None → Means (reference_text c) (bad_token OutOfSheet)
+  an_outside_reference : (c : Cell) → IsCell c → reference_to c ≡ None → Means (reference_text c) (faulty OutOfSheet)
   a_rectangle : (c d : Cell) (p : Corners) → IsCell c → IsCell d → reference_to c ≡ Some p.one → reference_to d ≡ Some p.other
       → Means (rectangle_text c d) (corners p)
   an_outside_rectangle : (c d : Cell) → IsCell c → IsCell d → (reference_to c ≡ None) ⊎ (reference_to d ≡ None)
-      → Means (rectangle_text c d) (bad_token OutOfSheet)
+      → Means (rectangle_text c d) (faulty OutOfSheet)
   a_name : (text : Bytes) → IsName text → Means text (name_symbol text)
   an_opening_parenthesis : Means (codes "(") open_parenthesis
   a_closing_parenthesis : Means (codes ")") close_parenthesis
@@ -59,4 +59,4 @@ pub data AreSymbols : Bytes → List Symbol → Type 0 where
   white_space : (b : ℕ) (text : Bytes) (ts : List Symbol) → is_blank b ≡ true → AreSymbols text ts → AreSymbols (b ∷ text) ts
   a_token : (token rest : Bytes) (s : Symbol) (ts : List Symbol) → Means token s → NoneLonger token (token ++ rest) → AreSymbols rest ts
       → AreSymbols (token ++ rest) (s ∷ ts)
-  no_token : (b : ℕ) (text : Bytes) → is_blank b ≡ false → NoneBegins (b ∷ text) → AreSymbols (b ∷ text) (bad_token Syntax ∷ [])
+  no_token : (b : ℕ) (text : Bytes) → is_blank b ≡ false → NoneBegins (b ∷ text) → AreSymbols (b ∷ text) (faulty Syntax ∷ [])

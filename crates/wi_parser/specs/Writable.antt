@@ -1,5 +1,5 @@
 -- Which symbols and trees a formula's text can have.
-use Rattle.std.specs.Prelude.{◌≡◌, ◌≤◌, All, true, false, codes}
+use Rattle.std.specs.Prelude.{◌≡◌, All, true, false, codes}
 use Rattle.std.specs.Str.{str_eq_ignore_ascii_case}
 use Rattle.wi_fraction.specs.Decimal.{IsUnsignedDecimal}
 use Rattle.wi_lexer.specs.Name.{IsName}

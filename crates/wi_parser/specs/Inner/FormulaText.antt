@@ -15,30 +15,30 @@ use Rattle.wi_lexer.specs.Inner.Tokens.{tokens}
 use Rattle.wi_parser.specs.declared.expr.Operator.TheVariants as operator
 use Rattle.wi_parser.specs.declared.expr.Reference as references
 use Rattle.wi_parser.specs.declared.fault.ParseFault.TheVariants.{OutOfSheet, NumberRange, Syntax}
-use Rattle.wi_parser.specs.Symbol.{Symbol, numeral, text_literal, reference, corners, open_parenthesis, close_parenthesis, separator, infix_mark, percent_mark, bad_token}
+use Rattle.wi_parser.specs.Symbol.{Symbol, numeral, text_literal, reference, corners, open_parenthesis, close_parenthesis, separator, infix_mark, percent_mark, faulty}
 use Rattle.wi_parser.specs.Symbols.{name_symbol, reference_to}
 
 -- a number, if it fits
 abbrev pub number_symbol : Option Numbers → Symbol
-number_symbol None = bad_token NumberRange
+number_symbol None = faulty NumberRange
 number_symbol (Some x) = numeral x
 
 abbrev pub cell_symbol : Option references.Reference → Symbol
-cell_symbol None = bad_token OutOfSheet
+cell_symbol None = faulty OutOfSheet
 cell_symbol (Some r) = reference r
 
 abbrev pub reference_symbol : Option Cell → Symbol
-reference_symbol None = bad_token Syntax
+reference_symbol None = faulty Syntax
 reference_symbol (Some c) = cell_symbol (reference_to c)
 
 -- a rectangle, if the sheet has both corners
 abbrev pub corners_symbol : Option references.Reference → Option references.Reference → Symbol
-corners_symbol None d = bad_token OutOfSheet
-corners_symbol (Some c) None = bad_token OutOfSheet
+corners_symbol None d = faulty OutOfSheet
+corners_symbol (Some c) None = faulty OutOfSheet
 corners_symbol (Some c) (Some d) = corners (record { one = c; other = d })
 
 abbrev pub rectangle_symbol : Option (Cell × Cell) → Symbol
-rectangle_symbol None = bad_token Syntax
+rectangle_symbol None = faulty Syntax
 rectangle_symbol (Some p) = corners_symbol (reference_to p.0) (reference_to p.1)
 
 -- a mark
@@ -71,7 +71,7 @@ symbol_of Name bs = name_symbol bs
 
 -- what tokens mean; a bad one, which ends them, is refused
 abbrev pub symbols_of : Tokens → List Symbol
-symbols_of ts = map (λ t. symbol_of t.0 t.1) ts.found ++ (if ts.bad then bad_token Syntax ∷ [] else [])
+symbols_of ts = map (λ t. symbol_of t.0 t.1) ts.found ++ (if ts.bad then faulty Syntax ∷ [] else [])
 
 -- what follows the front, where the bytes begin with it
 abbrev pub after : List ℕ → List ℕ → Option (List ℕ)
@@ -89,7 +89,7 @@ after_equals text = after (codes "=") (after_prefix text)
 
 abbrev pub symbols_by : List ℕ → Option (List ℕ) → List Symbol
 symbols_by text (Some body) = symbols_of (tokens body)
-symbols_by text None = bad_token Syntax ∷ symbols_of (tokens text)
+symbols_by text None = faulty Syntax ∷ symbols_of (tokens text)
 
 -- the symbols of a formula after its `=`; a text that does not begin with it has a refused one first
 unfoldable pub formula_symbols : List ℕ → List Symbol
