@@ -49,16 +49,16 @@ abbrev pub kept_code : Coded Key → Coded Value → Coded KeptValues
 kept_code k v = code_by (Entries × ℕ) (coded× (coded_list (coded× k v)) coded_ℕ) (λ m. (m.entries, m.capacity)) (λ p. kept p.0 p.1) (λ _. refl)
 
 -- what stands in a circle, of which the one at a place came first, then those behind it, and then those before it: the last that came first
-abbrev pub latest : {X : Type 0} → ℕ → List X → List X
-latest oldest xs = reverse (drop oldest xs ++ take oldest xs)
+abbrev pub latest_first : {X : Type 0} → ℕ → List X → List X
+latest_first oldest xs = reverse (drop oldest xs ++ take oldest xs)
 
--- the place behind another of n, and behind the last of them the first
-abbrev pub place_after : ℕ → ℕ → ℕ
-place_after i n = if nat_lt (i + 1) n then i + 1 else 0
+-- the index behind another of n, and behind the last of them the first
+abbrev pub index_after : ℕ → ℕ → ℕ
+index_after i n = if nat_lt (i + 1) n then i + 1 else 0
 
 -- what holds of such entries at any time: until there are as many as there may be, the first came first
-abbrev pub IsLine : Entries → ℕ → ℕ → Type 0
-IsLine es oldest n = HasOneEach es × (length es ≤ n) × (oldest < n) × (length es < n → oldest ≡ 0)
+abbrev pub IsRing : Entries → ℕ → ℕ → Type 0
+IsRing es oldest n = HasOneEach es × (length es ≤ n) × (oldest < n) × (length es < n → oldest ≡ 0)
 
 -- a value for k asks for none to go: k has one, or the list isn't full
 abbrev pub HasRoom : KeptValues → Key → Type 0

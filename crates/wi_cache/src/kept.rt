@@ -4,7 +4,7 @@ ghost use Rattle.std.specs.Prelude.{◌≡◌, ◌<◌, ◌≤◌, [], length, S
 ghost use Rattle.std.specs.Map.{keys_of};
 ghost use Rattle.std.specs.Map.Iter.{deref_pair};
 ghost use Rattle.std.specs.Option.{option_copied};
-ghost use Rattle.wi_cache.specs.Entries.{HasOneEach, HasRoom, Puts, PutsForGoing, PutsForOne, going, kept, keys_after, len_after, place_after, value_for};
+ghost use Rattle.wi_cache.specs.Entries.{HasOneEach, HasRoom, Puts, PutsForGoing, PutsForOne, going, kept, keys_after, len_after, index_after, value_for};
 
 use crate::key::Key;
 use indexmap::IndexMap;
@@ -24,7 +24,7 @@ pub struct Kept {
 }
 
 impl Model for Kept {
-    ghost use Rattle.wi_cache.specs.Entries.{KeptValues, IsLine, kept, kept_code, latest};
+    ghost use Rattle.wi_cache.specs.Entries.{KeptValues, IsRing, kept, kept_code, latest_first};
     ghost use Rattle.wi_cache.specs.contracts.key.Key as key;
     ghost use Rattle.wi_values.specs.contracts.value.Value as value;
 
@@ -32,9 +32,9 @@ impl Model for Kept {
 
     ghost coded = { kept_code key.the_row.coded value.the_row.coded };
 
-    ghost view = { λ k. kept (latest k.oldest k.entries.entries) k.capacity };
+    ghost view = { λ k. kept (latest_first k.oldest k.entries.entries) k.capacity };
 
-    ghost invariant = { λ k. IsLine k.entries.entries k.oldest k.capacity };
+    ghost invariant = { λ k. IsRing k.entries.entries k.oldest k.capacity };
 }
 
 impl Kept {
@@ -87,7 +87,7 @@ impl Kept {
         self.entries.insert(key, value)?;
         if self.entries.len() > self.capacity {
             drop(self.entries.swap_remove_index(self.oldest));
-            self.oldest = place_after(self.oldest, self.capacity);
+            self.oldest = index_after(self.oldest, self.capacity);
         }
         Ok(())
     }
@@ -102,10 +102,10 @@ impl Kept {
     }
 }
 
-/// The place behind another of so many, and behind the last of them the first.
-fn place_after(place: usize, count: usize) -> usize
+/// The index behind another of so many, and behind the last of them the first.
+fn index_after(place: usize, count: usize) -> usize
     requires { place < count }
-    ensures { result ≡ place_after place count }
+    ensures { result ≡ index_after place count }
 {
     if place + 1 < count { place + 1 } else { 0 }
 }
