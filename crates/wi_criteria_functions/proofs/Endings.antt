@@ -10,21 +10,21 @@ use Rattle.wi_lookup.specs.declared.stop.Stop.TheVariants.{Missing}
 use Rattle.wi_lookup.specs.Arguments.{IsOfArguments, IsMissing, IfMissing, IsReferred}
 use Rattle.wi_lookup.specs.declared.ending.Ending.{Ending}
 use Rattle.wi_lookup.specs.declared.ending.Ending.TheVariants.{Error, Stopped}
-use Rattle.wi_lookup.specs.Endings.{settled}
+use Rattle.wi_lookup.specs.Endings.{error_as_value}
 use Rattle.wi_criteria_functions.specs.Inner.Giving.{Gives}
 
-pub settled_done : (known : ℕ → Option Value) (f : List Argument → Value) (args : List given.Argument) (o : Result Value (Ending Stop)) (r : Result Value Stop) → r ≡ settled o → Gives known f args o → IfOk r (IsOfArguments known f args)
-settled_done known f args o r e h = subst (λ (s : Result Value Stop). IfOk s (IsOfArguments known f args)) (sym e) (at o h)
+pub error_as_value_done : (known : ℕ → Option Value) (f : List Argument → Value) (args : List given.Argument) (o : Result Value (Ending Stop)) (r : Result Value Stop) → r ≡ error_as_value o → Gives known f args o → IfOk r (IsOfArguments known f args)
+error_as_value_done known f args o r e h = subst (λ (s : Result Value Stop). IfOk s (IsOfArguments known f args)) (sym e) (at o h)
   where
-    at : (p : Result Value (Ending Stop)) → Gives known f args p → IfOk (settled p) (IsOfArguments known f args)
+    at : (p : Result Value (Ending Stop)) → Gives known f args p → IfOk (error_as_value p) (IsOfArguments known f args)
     at (Ok v) g = g
     at (Err (Error x)) g = g
     at (Err (Stopped s)) g = tt
 
-pub settled_missing : (known : ℕ → Option Value) (f : List Argument → Value) (args : List given.Argument) (o : Result Value (Ending Stop)) (r : Result Value Stop) → r ≡ settled o → Gives known f args o → IfErr r (λ s. IfMissing s (IsMissing known args))
-settled_missing known f args o r e h = subst (λ (p : Result Value Stop). IfErr p (λ s. IfMissing s (IsMissing known args))) (sym e) (at o h)
+pub error_as_value_missing : (known : ℕ → Option Value) (f : List Argument → Value) (args : List given.Argument) (o : Result Value (Ending Stop)) (r : Result Value Stop) → r ≡ error_as_value o → Gives known f args o → IfErr r (λ s. IfMissing s (IsMissing known args))
+error_as_value_missing known f args o r e h = subst (λ (p : Result Value Stop). IfErr p (λ s. IfMissing s (IsMissing known args))) (sym e) (at o h)
   where
-    at : (p : Result Value (Ending Stop)) → Gives known f args p → IfErr (settled p) (λ s. IfMissing s (IsMissing known args))
+    at : (p : Result Value (Ending Stop)) → Gives known f args p → IfErr (error_as_value p) (λ s. IfMissing s (IsMissing known args))
     at (Ok v) g = tt
     at (Err (Error x)) g = tt
     at (Err (Stopped s)) g = g

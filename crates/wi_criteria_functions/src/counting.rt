@@ -14,7 +14,7 @@ ghost use Rattle.wi_criteria_functions.specs.Inner.Giving.{Gives};
 use crate::arguments::criterion_at;
 use std::alloc::Global;
 use std::ops::ControlFlow;
-use wi_lookup::{Argument, Ending, Lookup, Stop, TakesCells, area_at, settled, take_cells};
+use wi_lookup::{Argument, Ending, Lookup, Stop, TakesCells, area_at, error_as_value, take_cells};
 use wi_matching::Criterion;
 use wi_scalar_functions::{counted, whole_value};
 use wi_values::{Address, Rect, Value};
@@ -29,7 +29,7 @@ pub fn count_if_value<L: Lookup>(
     ensures done { IfOk result (IsOfArguments (L.known_cell lookup.now) count_if_value arguments.now) }
     ensures missing { IfErr result (λ s. IfMissing s (IsMissing (L.known_cell lookup.now) arguments.now)) }
 {
-    settled(count_if(alloc, arguments, lookup))
+    error_as_value(count_if(alloc, arguments, lookup))
 }
 
 fn count_if<L: Lookup>(

@@ -15,7 +15,7 @@ use crate::extent::same_place;
 use crate::places::{have_one_size, next_place};
 use std::alloc::Global;
 use wi_fraction::Fraction;
-use wi_lookup::{Argument, Ending, Lookup, Stop, settled};
+use wi_lookup::{Argument, Ending, Lookup, Stop, error_as_value};
 use wi_scalar_functions::{add, multiply, one, zero};
 use wi_values::{Address, ErrorKind, Rect, Value};
 
@@ -31,7 +31,7 @@ pub fn sum_product_value<L: Lookup>(
     ensures done { IfOk result (IsOfArguments (L.known_cell lookup.now) sum_product_value arguments.now) }
     ensures missing { IfErr result (λ s. IfMissing s (IsMissing (L.known_cell lookup.now) arguments.now)) }
 {
-    settled(sum_product(alloc, arguments, lookup))
+    error_as_value(sum_product(alloc, arguments, lookup))
 }
 
 fn sum_product<L: Lookup>(

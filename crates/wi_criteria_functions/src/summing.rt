@@ -15,7 +15,7 @@ use crate::cells::{next_after, value_of};
 use crate::extent::{same_extent, same_place};
 use std::alloc::Global;
 use wi_fraction::Fraction;
-use wi_lookup::{Argument, Ending, Lookup, Stop, area_at, settled};
+use wi_lookup::{Argument, Ending, Lookup, Stop, area_at, error_as_value};
 use wi_matching::Criterion;
 use wi_scalar_functions::{add, zero};
 use wi_values::{Address, ErrorKind, Rect, Value};
@@ -31,7 +31,7 @@ pub fn sum_if_value<L: Lookup>(
     ensures done { IfOk result (IsOfArguments (L.known_cell lookup.now) sum_if_value arguments.now) }
     ensures missing { IfErr result (λ s. IfMissing s (IsMissing (L.known_cell lookup.now) arguments.now)) }
 {
-    settled(sum_if(alloc, arguments, lookup))
+    error_as_value(sum_if(alloc, arguments, lookup))
 }
 
 fn sum_if<L: Lookup>(

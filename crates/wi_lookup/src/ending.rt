@@ -1,7 +1,7 @@
 //! Why a function ends before its value.
 
 ghost use Rattle.std.specs.Prelude.{◌≡◌};
-ghost use Rattle.wi_lookup.specs.Endings.{settled};
+ghost use Rattle.wi_lookup.specs.Endings.{error_as_value};
 
 use crate::stop::Stop;
 use std::alloc::{AllocError, AllocFailed};
@@ -68,8 +68,8 @@ impl<T: Drop> From<AllocFailed<T>> for Ending<Stop> {
 }
 
 /// The value of a function, which an error is too.
-pub fn settled<S: Drop>(outcome: Result<Value, Ending<S>>) -> Result<Value, S>
-    ensures { result ≡ settled outcome }
+pub fn error_as_value<S: Drop>(outcome: Result<Value, Ending<S>>) -> Result<Value, S>
+    ensures { result ≡ error_as_value outcome }
 {
     match outcome {
         Ok(value) => Ok(value),

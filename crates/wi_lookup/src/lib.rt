@@ -11,7 +11,7 @@ mod walk;
 
 pub use argument::{Argument, area_at};
 pub use cells::successor;
-pub use ending::{Ending, settled};
+pub use ending::{Ending, error_as_value};
 pub use lookup::{LookedUp, Lookup};
 pub use stop::Stop;
 pub use taker::TakesCells;
