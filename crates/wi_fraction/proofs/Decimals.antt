@@ -14,6 +14,7 @@ use Rattle.wi_fraction.specs.Text.{padded, size_text}
 use Rattle.wi_fraction.specs.Decimal.{all_places}
 use Rattle.wi_fraction.specs.Inner.Places.{places_from}
 use Rattle.wi_fraction.proofs.Places.{places_from_end, places_from_found, places_from_more, all_divide, multiple_of}
+use Rattle.wi_fraction.proofs.Digits.{padded_suc}
 
 -- ---- bytes that stay at the front
 
@@ -125,11 +126,10 @@ digit_small : (r d : ℕ) → r < d → r * 10 / d < 10
 digit_small r d h = (div-lt_iff_lt-mul {k = d} {x = r * 10} {y = 10} (omega (arith, h))).1 (omega (arith, h))
 
 padded_next : (i q c : ℕ) → c < 10 → padded (suc i) (q * 10 + c) ≡ padded i q ++ decimal c
-unfolding padded
 padded_next i q c h =
     let front : (q * 10 + c) / 10 ≡ q = omega (arith, h) in
     let last : (q * 10 + c) % 10 ≡ c = omega (arith, h) in
-    rw (front, last, decimal_digit c h) refl
+    rw (padded_suc i (q * 10 + c), front, last, decimal_digit c h) refl
 
 power_of_next : (n i : ℕ) → n * 10 ^ (i + 1) ≡ n * 10 ^ i * 10
 power_of_next n i = rw (power_next i) (sym (mul_assoc n (10 ^ i) 10))
