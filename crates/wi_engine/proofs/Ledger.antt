@@ -1,17 +1,5 @@
 -- What one question after another spends.
-use Rattle.std.proofs.Common.{◌≡◌, ℕ, Bool, true, false, List, Result, Ok, Err, IsErr, is_ok, refl, sym, ◌∙◌, subst, arith}
-use Rattle.std.proofs.lemmas.Bool.{true≢false}
-use Rattle.wi_values.specs.declared.replacement.Replacement.{Replacement}
-use Rattle.wi_parser.specs.Sheet.{Sheet}
-use Rattle.wi_functions.specs.Counts.{Counts}
-use Rattle.wi_sheet.specs.Demand.{Case}
-use Rattle.wi_sheet.specs.Settled.{RestsOnKept}
-use Rattle.wi_sheet.specs.Inner.Spending.{SpentOn}
-use Rattle.wi_sheet.proofs.CaseCosts.{never_fall-same, never_fall-then, spent_none, spent_then, spent_weaken}
-use Rattle.wi_engine.specs.Inner.MemoState.{MemoState, IsMemoOf}
-use Rattle.wi_engine.specs.Inner.Saving.{WhereRoom}
-use Rattle.wi_engine.specs.Inner.Spends.{IsSameBeside, Saved, Spends}
-use Rattle.wi_sheet.proofs.SettledTables.{rests_more}
+use Rattle.wi_engine.proofs.Words.{◌≡◌, ℕ, Bool, true, false, List, Result, Ok, Err, IsErr, is_ok, refl, sym, ◌∙◌, subst, arith, true≢false, Replacement, Sheet, Counts, Case, RestsOnKept, SpentOn, never_fall-same, never_fall-then, spent_none, spent_then, spent_weaken, MemoState, IsMemoOf, WhereRoom, IsSameBeside, Saved, Spends, rests_more}
 use Rattle.wi_engine.proofs.Places.{takes_none, takes_then, gives_up_none, gives_up_then}
 
 -- ---- of what is kept

@@ -1,17 +1,5 @@
 -- What is kept for longer where one question follows another over the same memory.
-use Rattle.std.proofs.Common.{◌≡◌, ◌≤◌, ◌+◌, ◌||◌, inl, inr, ℕ, Bool, true, false, not, cond, List, [], ◌∷◌, length, Option, Some, None, IfSome, Result, Ok, Err, OnOk, ◌⊎◌, refl, ap, sym, subst, arith}
-use Rattle.std.proofs.lemmas.Bool.{true≢false}
-use Rattle.std.specs.List.{IsDistinct}
-use Rattle.std.proofs.lemmas.Map.Keys.{IsDistinct-cons}
-use Rattle.wi_values.specs.declared.value.Value.{Value}
-use Rattle.wi_values.specs.declared.replacement.Replacement.{Replacement}
-use Rattle.wi_cache.specs.declared.key.Key.{Key}
-use Rattle.wi_cache.specs.Entries.{same_key}
-use Rattle.wi_cache.proofs.Keys.{same_key_Decides}
-use Rattle.wi_sheet.specs.Demand.{same_case}
-use Rattle.wi_engine.specs.Inner.MemoState.{MemoState}
-use Rattle.wi_engine.specs.Inner.Keeps.{HasKept}
-use Rattle.wi_engine.specs.Inner.Saving.{TakesPlaces, TakesNoMore, GivesUpWhenFull}
+use Rattle.wi_engine.proofs.Words.{◌≡◌, ◌≤◌, ◌+◌, ◌||◌, inl, inr, ℕ, Bool, true, false, not, cond, List, [], ◌∷◌, length, Option, Some, None, IfSome, Result, Ok, Err, OnOk, ◌⊎◌, refl, ap, sym, subst, arith, true≢false, IsDistinct, IsDistinct-cons, Value, Replacement, Key, same_key, same_key_Decides, same_case, MemoState, HasKept, TakesPlaces, TakesNoMore, GivesUpWhenFull}
 
 pub takes_then : (old mid new : MemoState) (a b c : ℕ) → TakesNoMore old mid a b → TakesNoMore mid new b c → b ≤ c → TakesNoMore old new a c
 takes_then old mid new a b c (inl h) (inl k) l = inl (λ ks d. let x = h ks d in let y = k ks d in omega (arith, x, y))

@@ -1,27 +1,5 @@
 -- What is so of a calculator that keeps values stays so over an edit.
-use Rattle.std.proofs.Common.{◌≡◌, ◌==◌, ◌⊎◌, ◌≤◌, ◌+◌, ℕ, Bool, true, false, cond, nat_lt, nat_le, List, [], ◌∷◌, map, Option, Some, None, IfSome, Result, Ok, Err, refl, ap, sym, ◌∙◌, subst, arith}
-use Rattle.std.proofs.lemmas.Bool.{or_parts}
-use Rattle.std.specs.Map.{keys_of}
-use Rattle.wi_values.proofs.Order.{turn_test}
-use Rattle.wi_parser.specs.declared.content.Content.{Content}
-use Rattle.wi_parser.specs.declared.content.Content.TheVariants.{Constant, Formula}
-use Rattle.wi_parser.specs.Sheet.{Sheet, content_of, with_content}
-use Rattle.wi_store.specs.Store.{Stored, edited, without_empty, change_without_empty, accepted, applied, Applies}
-use Rattle.wi_store.specs.declared.fault.StoreFault.{StoreFault}
-use Rattle.wi_store.specs.declared.fault.StoreFault.TheVariants.{Full, EditLimit, Memory}
-use Rattle.wi_functions.specs.Counts.{Counts}
-use Rattle.wi_cache.specs.Entries.{KeptValues, kept, value_for}
-use Rattle.wi_graph.specs.Reach.{is_one_of, SameOff, in_cone}
-use Rattle.wi_graph.specs.Edges.{Edges, AreEdgesOf, brought, edges_after, sheet_after}
-use Rattle.wi_graph.proofs.EdgeLemmas.{edges_follow}
-use Rattle.wi_propagate.specs.KeptSheet.{Generations, generation_in}
-use Rattle.wi_propagate.specs.Right.{IsKeptFor, AreKeptRight}
-use Rattle.wi_sheet.proofs.Puts.{content_of-with}
-use Rattle.wi_values.specs.declared.value.Value.{Value}
-use Rattle.wi_cache.specs.declared.key.Key.{Key}
-use Rattle.wi_graph.specs.Latest.{numbered, IsUnread}
-use Rattle.wi_propagate.specs.Inner.Keeping.{kept_sheet}
-use Rattle.wi_propagate.specs.Inner.Noted.{Noted, told, AreKeptUp}
+use Rattle.wi_propagate.proofs.Words.{◌≡◌, ◌==◌, ◌⊎◌, ◌≤◌, ◌+◌, ℕ, Bool, true, false, cond, nat_lt, nat_le, List, [], ◌∷◌, map, Option, Some, None, IfSome, Result, Ok, Err, refl, ap, sym, ◌∙◌, subst, arith, or_parts, keys_of, turn_test, Content, Constant, Formula, Sheet, content_of, with_content, Stored, edited, without_empty, change_without_empty, accepted, applied, Applies, StoreFault, Full, EditLimit, Memory, Counts, KeptValues, kept, value_for, is_one_of, SameOff, in_cone, Edges, AreEdgesOf, brought, edges_after, sheet_after, edges_follow, Generations, generation_in, IsKeptFor, AreKeptRight, content_of-with, Value, Key, numbered, IsUnread, kept_sheet, Noted, told, AreKeptUp}
 use Rattle.wi_propagate.proofs.RightValues.{AreRaised, kept_over_edit}
 use Rattle.wi_propagate.proofs.NotedSteps.{told_after, told_same, kept_up_after, no_numbers, told_none}
 

@@ -1,24 +1,5 @@
 -- An entry of a data table that is asked for: which cells may be read, and what is kept for longer.
-use Rattle.std.proofs.Common.{◌≡◌, ◌==◌, ◌<◌, ◌+◌, ℕ, zero, suc, true, false, List, [], ◌∷◌, map, take, get_or, length, All, refl, sym, ap, ◌∙◌, subst, arith, eq-eqb}
-use Rattle.std.proofs.lemmas.Bool.{or_left, or_right}
-use Rattle.std.proofs.lemmas.List.Elements.{All-more}
-use Rattle.std.specs.List.{list_any}
-use Rattle.wi_values.specs.declared.replacement.Replacement.{Replacement}
-use Rattle.wi_parser.specs.Sheet.{Sheet, content_of, has_formula}
-use Rattle.wi_functions.specs.Counts.{Counts}
-use Rattle.wi_graph.specs.Circular.{circular}
-use Rattle.wi_graph.specs.Reach.{is_one_of}
-use Rattle.wi_sheet.specs.Demand.{Case, with_what_if}
-use Rattle.wi_sheet.specs.Settled.{IsSettled, IsWhatIfSettled}
-use Rattle.wi_sheet.specs.Inner.Spending.{HasCase, HasReplacing, HasEntry}
-use Rattle.wi_sheet.proofs.SettledTables.{all_more}
-use Rattle.wi_sheet.proofs.TableEntries.{test_of_cells, cells_open}
-use Rattle.wi_engine.specs.Inner.MemoState.{MemoState}
-use Rattle.wi_engine.specs.Inner.Frames.{MayBeRead}
-use Rattle.wi_engine.specs.Inner.Remembered.{OneQuestion, remembered, question_state}
-use Rattle.wi_engine.specs.Inner.Saving.{WhereRoom}
-use Rattle.wi_engine.specs.Inner.Spends.{Saved, Spends}
-use Rattle.wi_engine.proofs.Ledger.{where_then}
+use Rattle.wi_propagate.proofs.Words.{◌≡◌, ◌==◌, ◌<◌, ◌+◌, ℕ, zero, suc, true, false, List, [], ◌∷◌, map, take, get_or, length, All, refl, sym, ap, ◌∙◌, subst, arith, eq-eqb, or_left, or_right, All-more, list_any, Replacement, Sheet, content_of, has_formula, Counts, circular, is_one_of, Case, with_what_if, IsSettled, IsWhatIfSettled, HasCase, HasReplacing, HasEntry, all_more, test_of_cells, cells_open, MemoState, MayBeRead, OneQuestion, remembered, question_state, WhereRoom, Saved, Spends, where_then}
 
 -- ---- the cells whose values it asks for
 

@@ -1,19 +1,5 @@
 -- Generations are given and raised, one cell after another.
-use Rattle.std.proofs.Common.{◌≡◌, ◌==◌, ◌||◌, ◌⊎◌, inl, inr, ◌<◌, ◌+◌, ℕ, Bool, true, false, cond, List, length, take, get_or, Option, Some, None, IsSome, is_some, refl, ap, sym, ◌∙◌, subst, eq-eqb}
-use Rattle.std.proofs.lemmas.Bool.{eqb-true, or_cases}
-use Rattle.std.proofs.lemmas.Cmp.{eq_by_cmp_equiv, nat_cmp_total}
-use Rattle.std.proofs.lemmas.List.Folds.{list_any_at}
-use Rattle.std.proofs.lemmas.Map.{lookup-set_value}
-use Rattle.std.specs.Option.{unwrap_or}
-use Rattle.std.specs.Ordering.{nat_cmp, eq_by_cmp}
-use Rattle.std.specs.Map.{lookup, set_value}
-use Rattle.std.specs.BTreeMap.{is_at, insert_entry}
-use Rattle.wi_values.proofs.Lookups.{found-insert}
-use Rattle.wi_values.proofs.Order.{is_at-eq, is_itself, turn_test}
-use Rattle.wi_graph.specs.Reach.{is_one_of}
-use Rattle.wi_sheet.proofs.Filters.{one_more}
-use Rattle.wi_propagate.specs.KeptSheet.{Generations, generation_in}
-use Rattle.wi_propagate.specs.Inner.Keeping.{HasGeneration}
+use Rattle.wi_propagate.proofs.Words.{◌≡◌, ◌==◌, ◌||◌, ◌⊎◌, inl, inr, ◌<◌, ◌+◌, ℕ, Bool, true, false, cond, List, length, take, get_or, Option, Some, None, IsSome, is_some, refl, ap, sym, ◌∙◌, subst, eq-eqb, eqb-true, or_cases, eq_by_cmp_equiv, nat_cmp_total, list_any_at, lookup-set_value, unwrap_or, nat_cmp, eq_by_cmp, lookup, set_value, is_at, insert_entry, found-insert, is_at-eq, is_itself, turn_test, is_one_of, one_more, Generations, generation_in, HasGeneration}
 
 -- a cell is given a generation, and no other cell
 abbrev pub IsGiven : Generations → Generations → ℕ → ℕ → Type 0

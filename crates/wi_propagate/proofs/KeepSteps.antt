@@ -1,21 +1,5 @@
 -- A value is kept in one question, and for longer.
-use Rattle.std.proofs.Common.{◌≡◌, ◌==◌, ◌<◌, ◌≤◌, ◌-◌, ◌+◌, inl, inr, ◌||◌, ◌&&◌, ℕ, Bool, true, false, cond, min, List, length, Option, Some, None, IsSome, is_some, Result, Ok, Err, OnOk, OnErr, refl, ap, sym, ◌∙◌, subst, arith, if◌then◌else◌}
-use Rattle.std.proofs.lemmas.Bool.{eqb-true, or_left}
-use Rattle.std.specs.Map.{update}
-use Rattle.std.specs.declared.alloc.AllocError.{AllocError}
-use Rattle.wi_values.specs.declared.value.Value.{Value}
-use Rattle.wi_values.specs.declared.replacement.Replacement.{Replacement}
-use Rattle.wi_values.specs.Replacements.{same_replacements}
-use Rattle.wi_values.proofs.Order.{is_itself}
-use Rattle.wi_cache.specs.declared.key.Key.{Key}
-use Rattle.wi_cache.specs.Entries.{Entries, KeptValues, HasRoom, Puts, PutsForGoing, PutsForOne, same_key, value_for, len_after}
-use Rattle.wi_cache.proofs.Callers.{holds_after_keep}
-use Rattle.wi_parser.specs.Sheet.{Sheet}
-use Rattle.wi_sheet.specs.Demand.{same_case}
-use Rattle.wi_engine.specs.Inner.Saving.{GivesUpWhenFull}
-use Rattle.wi_propagate.specs.Right.{IsKeptFor, AreRight}
-use Rattle.wi_propagate.specs.KeptSheet.{Generations, generation_in, key_in}
-use Rattle.wi_propagate.specs.Inner.Keeping.{keeping, state_in}
+use Rattle.wi_propagate.proofs.Words.{◌≡◌, ◌==◌, ◌<◌, ◌≤◌, ◌-◌, ◌+◌, inl, inr, ◌||◌, ◌&&◌, ℕ, Bool, true, false, cond, min, List, length, Option, Some, None, IsSome, is_some, Result, Ok, Err, OnOk, OnErr, refl, ap, sym, ◌∙◌, subst, arith, if◌then◌else◌, eqb-true, or_left, update, AllocError, Value, Replacement, same_replacements, is_itself, Key, Entries, KeptValues, HasRoom, Puts, PutsForGoing, PutsForOne, same_key, value_for, len_after, holds_after_keep, Sheet, same_case, GivesUpWhenFull, IsKeptFor, AreRight, Generations, generation_in, key_in, keeping, state_in}
 
 -- what an accepted `keep` of kept values ensures, and what a refused one does
 pub record KeepsIn (r : Result (Unit {0}) AllocError) (m n : KeptValues) (k : Key) (v : Value) : Type 0 where

@@ -1,18 +1,5 @@
 -- Cones that are kept over an edit.
-use Rattle.std.proofs.Common.{◌≡◌, ◌==◌, ◌&&◌, ◌||◌, ◌⊎◌, inl, inr, not, ℕ, Bool, true, false, List, [], ◌∷◌, Option, Some, None, IfSome, refl, ap, sym, ◌∙◌, subst}
-use Rattle.std.proofs.lemmas.Bool.{false≢true, or_left}
-use Rattle.std.specs.Global.{Vec}
-use Rattle.std.specs.Map.{keys_of}
-use Rattle.wi_parser.specs.declared.content.Content.{Content}
-use Rattle.wi_parser.specs.Sheet.{Sheet}
-use Rattle.wi_worlds.specs.Reached.{ReachTable}
-use Rattle.wi_graph.specs.Reach.{is_one_of, reaches, in_cone}
-use Rattle.wi_graph.specs.Edges.{Edges, AreEdgesOf}
-use Rattle.wi_graph.specs.Watched.{IsClosedUp}
-use Rattle.wi_graph.proofs.Cones.{cone_has, cone_closed}
-use Rattle.wi_graph.proofs.GraphSteps.{same_reaches}
-use Rattle.wi_values.proofs.Order.{is_itself}
-use Rattle.wi_propagate.specs.Inner.Cones.{AreAllCones}
+use Rattle.wi_propagate.proofs.Words.{◌≡◌, ◌==◌, ◌&&◌, ◌||◌, ◌⊎◌, inl, inr, not, ℕ, Bool, true, false, List, [], ◌∷◌, Option, Some, None, IfSome, refl, ap, sym, ◌∙◌, subst, false≢true, or_left, Vec, keys_of, Content, Sheet, ReachTable, is_one_of, reaches, in_cone, Edges, AreEdgesOf, IsClosedUp, cone_has, cone_closed, same_reaches, is_itself, AreAllCones}
 
 -- where nothing is told
 pub none_told : (s : Sheet) (t : ReachTable) → t ≡ record { known = []; reached = [] } → AreAllCones s t

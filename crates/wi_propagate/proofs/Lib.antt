@@ -9,6 +9,7 @@
 -- Of a question:
 -- `Questions`: how it begins (`Begins`), what is kept when it ends, and that it owes what its contract says (`Owes`).
 -- `EntryQuestions`: an entry of a data table.
+-- And `Words`: all that these proofs are written in and don't say themselves: names of the library, of the crates below and of the definitions.
 pub mod EmptyCells
 pub mod GenerationSteps
 pub mod NotedSteps
@@ -22,3 +23,4 @@ pub mod PlaceCounts
 pub mod Editing
 pub mod Questions
 pub mod EntryQuestions
+pub mod Words

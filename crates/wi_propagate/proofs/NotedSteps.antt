@@ -1,21 +1,5 @@
 -- Generations that the numbers of edits tell, and that are noted late.
-use Rattle.std.proofs.Common.{◌≡◌, ◌==◌, ◌||◌, ◌⊎◌, inl, inr, ◌≤◌, ◌+◌, ◌++◌, max, ℕ, zero, suc, Bool, true, false, cond, List, [], ◌∷◌, map, Option, Some, None, IsSome, Result, Ok, Err, OnOk, refl, ap, sym, ◌∙◌, subst, arith}
-use Rattle.std.proofs.lemmas.Bool.{or_cases, or_left, or_right, or_parts, false_from_ne_true}
-use Rattle.std.specs.Option.{unwrap_or}
-use Rattle.std.specs.Ordering.{nat_cmp}
-use Rattle.std.specs.Map.{keys_of, lookup}
-use Rattle.std.specs.BTreeMap.{is_at}
-use Rattle.wi_values.proofs.Order.{is_at-eq, turn_test}
-use Rattle.wi_parser.specs.Sheet.{Sheet, content_of, cells_with_formula}
-use Rattle.wi_graph.specs.Reach.{Walks, Reaches, is_one_of, SameOff, in_cone}
-use Rattle.wi_graph.specs.Latest.{numbered, IsLatest, IsOwed, AreOwed, IsUnread, latest_among}
-use Rattle.wi_graph.proofs.Tests.{clash}
-use Rattle.wi_graph.proofs.Walks.{same_cell, formula_cell, reader_formula}
-use Rattle.wi_graph.proofs.SetSteps.{in_front, in_back}
-use Rattle.wi_graph.proofs.LatestLaws.{latest_of_cone, one_is_latest, latest_is_among, edit_owes, none_is_owed}
-use Rattle.wi_propagate.specs.KeptSheet.{Generations, generation_in}
-use Rattle.wi_propagate.specs.Inner.Keeping.{HasGeneration}
-use Rattle.wi_propagate.specs.Inner.Noted.{Noted, noted_in, told, AreKeptUp}
+use Rattle.wi_propagate.proofs.Words.{◌≡◌, ◌==◌, ◌||◌, ◌⊎◌, inl, inr, ◌≤◌, ◌+◌, ◌++◌, max, ℕ, zero, suc, Bool, true, false, cond, List, [], ◌∷◌, map, Option, Some, None, IsSome, Result, Ok, Err, OnOk, refl, ap, sym, ◌∙◌, subst, arith, or_cases, or_left, or_right, or_parts, false_from_ne_true, unwrap_or, nat_cmp, keys_of, lookup, is_at, is_at-eq, turn_test, Sheet, content_of, cells_with_formula, Walks, Reaches, is_one_of, SameOff, in_cone, numbered, IsLatest, IsOwed, AreOwed, IsUnread, latest_among, clash, same_cell, formula_cell, reader_formula, in_front, in_back, latest_of_cone, one_is_latest, latest_is_among, edit_owes, none_is_owed, Generations, generation_in, HasGeneration, Noted, noted_in, told, AreKeptUp}
 
 -- ---- what is told
 

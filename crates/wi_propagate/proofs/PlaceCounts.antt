@@ -1,19 +1,5 @@
 -- Each value that is kept takes one place: of the entries one goes at most.
-use Rattle.std.proofs.Common.{◌≡◌, ◌≤◌, ◌+◌, inl, inr, ℕ, Bool, true, false, not, cond, min, List, [], ◌∷◌, filter, length, Option, Some, None, IsSome, is_some, Result, Ok, Err, refl, ap, sym, ◌∙◌, subst, arith, if◌then◌else◌}
-use Rattle.std.specs.List.{AllByRecursion, IsDistinct}
-use Rattle.std.specs.Map.{keys_of}
-use Rattle.std.specs.declared.alloc.AllocError.{AllocError}
-use Rattle.std.proofs.lemmas.Bool.{cases_lt, true≢false}
-use Rattle.std.proofs.lemmas.Map.Keys.{IsDistinct-head, IsDistinct-tail}
-use Rattle.wi_values.specs.declared.value.Value.{Value}
-use Rattle.wi_cache.specs.declared.key.Key.{Key}
-use Rattle.wi_cache.specs.Entries.{Entries, KeptValues, PutsForOne, same_key, value_for}
-use Rattle.wi_cache.proofs.Keys.{key_itself, key_means}
-use Rattle.wi_parser.specs.Sheet.{Sheet}
-use Rattle.wi_sheet.proofs.Members.{IsIn}
-use Rattle.wi_engine.specs.Inner.Saving.{TakesPlaces}
-use Rattle.wi_propagate.specs.KeptSheet.{Generations}
-use Rattle.wi_propagate.specs.Inner.Keeping.{keeping, state_in}
+use Rattle.wi_propagate.proofs.Words.{◌≡◌, ◌≤◌, ◌+◌, inl, inr, ℕ, Bool, true, false, not, cond, min, List, [], ◌∷◌, filter, length, Option, Some, None, IsSome, is_some, Result, Ok, Err, refl, ap, sym, ◌∙◌, subst, arith, if◌then◌else◌, AllByRecursion, IsDistinct, keys_of, AllocError, cases_lt, true≢false, IsDistinct-head, IsDistinct-tail, Value, Key, Entries, KeptValues, PutsForOne, same_key, value_for, key_itself, key_means, Sheet, IsIn, TakesPlaces, Generations, keeping, state_in}
 use Rattle.wi_propagate.proofs.KeepSteps.{KeepsIn, stays_put}
 
 -- ---- where one key alone may go

@@ -1,35 +1,6 @@
 -- A question asked of a calculator that keeps values.
-use Rattle.std.proofs.Common.{◌≡◌, ◌≤◌, ◌<◌, ◌+◌, ◌-◌, ◌^◌, inl, inr, length, All, filter, not, is_some, ℕ, Bool, true, false, List, [], Option, Some, refl, ap, sym, ◌∙◌, subst, arith}
-use Rattle.std.specs.Map.{keys_of}
-use Rattle.std.proofs.lemmas.Bool.{cases_lt, true≢false}
-use Rattle.wi_values.specs.declared.value.Value.{Value}
-use Rattle.wi_values.specs.declared.value.Value.TheVariants.{Fault}
-use Rattle.wi_values.specs.declared.value.ErrorKind.TheVariants.{Circular}
-use Rattle.wi_values.specs.declared.replacement.Replacement.{Replacement}
-use Rattle.wi_parser.specs.Sheet.{Sheet, content_of, put_all, has_formula}
-use Rattle.wi_functions.specs.Counts.{Counts}
-use Rattle.wi_store.specs.Store.{Stored}
-use Rattle.wi_cache.specs.declared.key.Key.{Key}
-use Rattle.wi_cache.specs.Entries.{KeptValues, HasOneEach, value_for}
-use Rattle.wi_graph.specs.Circular.{circular}
-use Rattle.wi_graph.proofs.Tests.{clash}
-use Rattle.wi_sheet.specs.Demand.{Case, reaching}
-use Rattle.wi_sheet.specs.TableEntry.{asks_circular, table_entry}
-use Rattle.wi_sheet.specs.Settled.{IsWhatIfSettled}
-use Rattle.wi_sheet.specs.Inner.Spending.{IsClosed, SpentOn}
-use Rattle.wi_sheet.proofs.CaseCosts.{left_is_unkept, sum_of_ones, never_fall-same, spent_price, spent_unkept}
-use Rattle.wi_sheet.proofs.TableEntries.{cells_open, entry_circular, none_circular}
-use Rattle.wi_engine.specs.Inner.Frames.{MayBeRead}
+use Rattle.wi_propagate.proofs.Words.{◌≡◌, ◌≤◌, ◌<◌, ◌+◌, ◌-◌, ◌^◌, inl, inr, length, All, filter, not, is_some, ℕ, Bool, true, false, List, [], Option, Some, refl, ap, sym, ◌∙◌, subst, arith, keys_of, cases_lt, true≢false, Value, Fault, Circular, Replacement, Sheet, content_of, put_all, has_formula, Counts, Stored, Key, KeptValues, HasOneEach, value_for, circular, clash, Case, reaching, asks_circular, table_entry, IsWhatIfSettled, IsClosed, SpentOn, left_is_unkept, sum_of_ones, never_fall-same, spent_price, spent_unkept, cells_open, entry_circular, none_circular, MayBeRead, KeepsFound, WhereRoom, TakesNoMore, GivesUpWhenFull, NeedsNoEvaluation, IsValuedAnew, IsSameBeside, Saved, Spends, what_if_more, rests_more, none_went, Generations, generation_in, KeptSheet, key_in, stands, is_kept, unkept, gone, IsAtHand, HasRoomFor, KeepsAll, KeepsNoMore, KeepsOld, KeepsWhileRoom, AreRight, AreKeptRight, kept_sheet, values_in, Keeping, keeping, begun, state_in, IsKeepingRight, Owes, told}
 use Rattle.wi_engine.specs.Inner.Saving as saving
-use Rattle.wi_engine.specs.Inner.Saving.{KeepsFound, WhereRoom, TakesNoMore, GivesUpWhenFull, NeedsNoEvaluation, IsValuedAnew}
-use Rattle.wi_engine.specs.Inner.Spends.{IsSameBeside, Saved, Spends}
-use Rattle.wi_sheet.proofs.SettledTables.{what_if_more, rests_more}
-use Rattle.wi_engine.proofs.Places.{none_went}
-use Rattle.wi_propagate.specs.KeptSheet.{Generations, generation_in, KeptSheet, key_in, stands, is_kept, unkept, gone, IsAtHand, HasRoomFor, KeepsAll, KeepsNoMore, KeepsOld, KeepsWhileRoom}
-use Rattle.wi_propagate.specs.Right.{AreRight, AreKeptRight}
-use Rattle.wi_propagate.specs.Inner.Keeping.{kept_sheet, values_in, Keeping, keeping, begun, state_in, IsKeepingRight}
-use Rattle.wi_propagate.specs.Inner.Owes.{Owes}
-use Rattle.wi_propagate.specs.Inner.Noted.{told}
 use Rattle.wi_propagate.proofs.RightValues.{or_none}
 use Rattle.wi_propagate.proofs.PlaceCounts.{all_stand}
 

@@ -1,16 +1,5 @@
 -- What is told of replaced cells, and the replacements that reach a cell.
-use Rattle.std.proofs.Common.{◌≡◌, ◌==◌, ◌||◌, ◌&&◌, ◌⊎◌, inl, inr, ◌<◌, ◌+◌, ℕ, Bool, true, false, cond, List, [], ◌∷◌, length, take, get_or, Result, Ok, Err, OnOk, OnErr, filter, refl, ap, sym, ◌∙◌, subst}
-use Rattle.std.specs.List.{list_all}
-use Rattle.std.proofs.lemmas.Bool.{or_cases, and_parts}
-use Rattle.std.proofs.Math.Bool.{or-false}
-use Rattle.std.proofs.lemmas.List.Folds.{list_all_more}
-use Rattle.wi_values.specs.declared.replacement.Replacement.{Replacement}
-use Rattle.wi_parser.specs.Sheet.{Sheet}
-use Rattle.wi_worlds.specs.Reached.{ReachTable, AddsOf, is_known, is_reached_by, reached_by}
-use Rattle.wi_graph.specs.Reach.{is_one_of, reaches, in_cone}
-use Rattle.wi_graph.proofs.Walks.{same_cell, same_tests}
-use Rattle.wi_sheet.specs.Demand.{reaching}
-use Rattle.wi_propagate.specs.Inner.Cones.{AreAllCones}
+use Rattle.wi_propagate.proofs.Words.{◌≡◌, ◌==◌, ◌||◌, ◌&&◌, ◌⊎◌, inl, inr, ◌<◌, ◌+◌, ℕ, Bool, true, false, cond, List, [], ◌∷◌, length, take, get_or, Result, Ok, Err, OnOk, OnErr, filter, refl, ap, sym, ◌∙◌, subst, list_all, or_cases, and_parts, or-false, list_all_more, Replacement, Sheet, ReachTable, AddsOf, is_known, is_reached_by, reached_by, is_one_of, reaches, in_cone, same_cell, same_tests, reaching, AreAllCones}
 
 -- ---- one cell more
 

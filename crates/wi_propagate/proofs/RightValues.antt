@@ -1,23 +1,5 @@
 -- Values that are kept are right: over an edit, where one is found, and where a question begins.
-use Rattle.std.proofs.Common.{◌≡◌, ◌≤◌, ◌<◌, ◌+◌, ◌||◌, ℕ, Bool, true, false, List, [], Option, Some, None, IfSome, is_some, refl, sym, ◌∙◌, subst, arith}
-use Rattle.std.proofs.lemmas.Bool.{true≢false}
-use Rattle.std.specs.Option.{option_or}
-use Rattle.wi_values.specs.declared.value.Value.{Value}
-use Rattle.wi_values.specs.declared.replacement.Replacement.{Replacement}
-use Rattle.wi_parser.specs.Sheet.{Sheet, put_all}
-use Rattle.wi_cache.specs.declared.key.Key.{Key}
-use Rattle.wi_cache.specs.Entries.{Entries, KeptValues, value_for}
-use Rattle.wi_graph.specs.Circular.{circular}
-use Rattle.wi_sheet.specs.CellValue.{cell_value}
-use Rattle.wi_graph.specs.Reach.{IsInCone, SameOff, in_cone}
-use Rattle.wi_propagate.specs.Right.{IsRight, IsKeptFor, AreRight}
-use Rattle.wi_engine.specs.Inner.MemoState.{IsMemoOf, IsTold}
-use Rattle.wi_propagate.specs.KeptSheet.{Generations, generation_in, key_in}
-use Rattle.wi_propagate.specs.Inner.Keeping.{Keeping, keeping, state_in, IsKeepingRight}
-use Rattle.wi_sheet.proofs.Overrides.{same_for_reached}
-use Rattle.wi_graph.proofs.Cones.{outside_circular, outside_reaches}
-use Rattle.wi_sheet.proofs.Cones.{outside_value}
-use Rattle.wi_graph.proofs.ReachTest.{reaches_true, true_reaches, true_in_cone}
+use Rattle.wi_propagate.proofs.Words.{◌≡◌, ◌≤◌, ◌<◌, ◌+◌, ◌||◌, ℕ, Bool, true, false, List, [], Option, Some, None, IfSome, is_some, refl, sym, ◌∙◌, subst, arith, true≢false, option_or, Value, Replacement, Sheet, put_all, Key, Entries, KeptValues, value_for, circular, cell_value, IsInCone, SameOff, in_cone, IsRight, IsKeptFor, AreRight, IsMemoOf, IsTold, Generations, generation_in, key_in, Keeping, keeping, state_in, IsKeepingRight, same_for_reached, outside_circular, outside_reaches, outside_value, reaches_true, true_reaches, true_in_cone}
 
 -- a value found under the replacements that reach its cell
 pub made_right : (s : Sheet) (c : ℕ) (w : List Replacement) (v : Value) → circular s c ≡ false → v ≡ cell_value (put_all s w) c → IsRight s c w v

@@ -1,29 +1,5 @@
 -- What is owed is noted, one edit after another.
-use Rattle.std.proofs.Common.{◌≡◌, ◌==◌, ◌||◌, ◌&&◌, ◌⊎◌, inl, inr, not, ◌≤◌, ◌<◌, ◌+◌, max, ℕ, Bool, true, false, cond, List, [], ◌∷◌, length, take, get_or, map, ◌++◌, nat_lt, Option, Some, None, is_some, refl, ap, sym, ◌∙◌, subst, arith}
-use Rattle.std.proofs.lemmas.Bool.{eqb-true, or_left, or_right, cases_lt, lt-ltb}
-use Rattle.std.proofs.Math.Bool.{or-false}
-use Rattle.std.proofs.lemmas.List.{map-append}
-use Rattle.std.proofs.lemmas.List.Folds.{list_any-append}
-use Rattle.std.proofs.lemmas.List.Sorted.{list_any-IsPermutation, IsPermutation-map}
-use Rattle.std.specs.List.Sorted.{IsPermutation}
-use Rattle.std.specs.Option.{unwrap_or}
-use Rattle.std.specs.Ordering.{nat_cmp}
-use Rattle.std.specs.Map.{keys_of, lookup}
-use Rattle.std.specs.BTreeMap.{is_at, insert_entry}
-use Rattle.wi_values.proofs.Lookups.{found-insert}
-use Rattle.wi_values.proofs.Order.{turn_test}
-use Rattle.wi_tiles.specs.Entries.{CellEntries, get}
-use Rattle.wi_parser.specs.Sheet.{Sheet}
-use Rattle.wi_graph.specs.Reach.{Reaches, is_one_of, reaches, in_cone}
-use Rattle.wi_graph.specs.Edges.{Edges, AreEdgesOf}
-use Rattle.wi_graph.specs.Latest.{IsLatest, IsOwed, AreOwed, IsSettling}
-use Rattle.wi_graph.proofs.ReachTest.{reaches_true, true_reaches}
-use Rattle.wi_graph.proofs.GraphSteps.{same_reaches}
-use Rattle.wi_graph.proofs.SetSteps.{in_last, in_front}
-use Rattle.wi_graph.proofs.LatestLaws.{settles_one, settling_begins, owed_stays}
-use Rattle.wi_sheet.proofs.Filters.{one_more}
-use Rattle.wi_propagate.specs.KeptSheet.{Generations, generation_in}
-use Rattle.wi_propagate.specs.Inner.Settling.{higher, second_cells, has_seen}
+use Rattle.wi_propagate.proofs.Words.{◌≡◌, ◌==◌, ◌||◌, ◌&&◌, ◌⊎◌, inl, inr, not, ◌≤◌, ◌<◌, ◌+◌, max, ℕ, Bool, true, false, cond, List, [], ◌∷◌, length, take, get_or, map, ◌++◌, nat_lt, Option, Some, None, is_some, refl, ap, sym, ◌∙◌, subst, arith, eqb-true, or_left, or_right, cases_lt, lt-ltb, or-false, map-append, list_any-append, list_any-IsPermutation, IsPermutation-map, IsPermutation, unwrap_or, nat_cmp, keys_of, lookup, is_at, insert_entry, found-insert, turn_test, CellEntries, get, Sheet, Reaches, is_one_of, reaches, in_cone, Edges, AreEdgesOf, IsLatest, IsOwed, AreOwed, IsSettling, reaches_true, true_reaches, same_reaches, in_last, in_front, settles_one, settling_begins, owed_stays, one_more, Generations, generation_in, higher, second_cells, has_seen}
 use Rattle.wi_propagate.proofs.GenerationSteps.{IsGiven}
 
 -- ---- one cell more is seen

@@ -1,20 +1,5 @@
 -- What is kept or was given up in a question: a value comes, and none goes.
-use Rattle.std.proofs.Common.{◌≡◌, ◌≤◌, ◌-◌, ◌⊎◌, inl, inr, ◌||◌, ℕ, Bool, true, false, cond, nat_lt, List, [], ◌∷◌, length, slice_get, Option, Some, None, IfSome, IsSome, is_some, Result, Ok, Err, OnOk, refl, ap, sym, ◌∙◌, subst, arith, if◌then◌else◌}
-use Rattle.std.proofs.lemmas.Bool.Decides.{nat_tests}
-use Rattle.std.proofs.lemmas.Map.Entries.{lookup_from_place}
-use Rattle.std.proofs.lemmas.Option.{slice_get_cases}
-use Rattle.std.specs.Map.{update}
-use Rattle.std.specs.Option.{option_or}
-use Rattle.std.specs.declared.alloc.AllocError.{AllocError}
-use Rattle.wi_values.specs.declared.value.Value.{Value}
-use Rattle.wi_values.specs.declared.replacement.Replacement.{Replacement}
-use Rattle.wi_cache.specs.declared.key.Key.{Key}
-use Rattle.wi_cache.specs.Entries.{Entries, KeptValues, HasOneEach, Puts, going, same_key, value_for}
-use Rattle.wi_cache.proofs.Keys.{key_means, same_key_equiv}
-use Rattle.wi_sheet.specs.Demand.{same_case}
-use Rattle.wi_engine.proofs.Places.{known_still, known_then}
-use Rattle.wi_propagate.specs.KeptSheet.{Generations, generation_in, key_in}
-use Rattle.wi_propagate.specs.Inner.Keeping.{TakesOver}
+use Rattle.wi_propagate.proofs.Words.{◌≡◌, ◌≤◌, ◌-◌, ◌⊎◌, inl, inr, ◌||◌, ℕ, Bool, true, false, cond, nat_lt, List, [], ◌∷◌, length, slice_get, Option, Some, None, IfSome, IsSome, is_some, Result, Ok, Err, OnOk, refl, ap, sym, ◌∙◌, subst, arith, if◌then◌else◌, nat_tests, lookup_from_place, slice_get_cases, update, option_or, AllocError, Value, Replacement, Key, Entries, KeptValues, HasOneEach, Puts, going, same_key, value_for, key_means, same_key_equiv, same_case, known_still, known_then, Generations, generation_in, key_in, TakesOver}
 use Rattle.wi_propagate.proofs.KeepSteps.{KeepsIn, put_is_some}
 
 -- ---- the entry that goes for a new value

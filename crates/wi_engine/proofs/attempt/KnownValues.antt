@@ -1,31 +1,6 @@
 -- A formula's value, by what is known.
-use Rattle.std.proofs.Common.{◌≡◌, ℕ, true, false, List, Option, Some, None, IfSome, refl, ap, sym, ◌∙◌, subst}
-use Rattle.wi_values.specs.declared.value.Value.{Value}
-use Rattle.wi_values.specs.declared.value.Value.TheVariants.{Empty}
-use Rattle.wi_values.specs.declared.replacement.Replacement.{Replacement}
-use Rattle.wi_parser.specs.Tree.{Tree}
-use Rattle.wi_parser.specs.Sheet.{Sheet, content_of, put_all, has_formula}
-use Rattle.wi_parser.specs.declared.content.Content.{Content}
-use Rattle.wi_parser.specs.declared.content.Content.TheVariants.{Constant, Formula}
-use Rattle.wi_lookup.specs.Assignment.{Assignment, AgreesWith}
-use Rattle.wi_functions.specs.Meaning.{meaning}
-use Rattle.wi_functions.specs.Wants.{IsUnknown}
-use Rattle.wi_functions.specs.Evaluation.{IsOutcomeOf}
-use Rattle.wi_functions.specs.declared.evaluation.Want.{Want}
-use Rattle.wi_functions.specs.declared.evaluation.Want.TheVariants.{Cell, WhatIf}
-use Rattle.wi_functions.specs.declared.evaluation.Outcome.{Outcome}
-use Rattle.wi_functions.specs.declared.evaluation.Outcome.TheVariants.{Done, Needs}
-use Rattle.wi_functions.proofs.Outcomes.{value_by_all, same_by_all}
-use Rattle.wi_cache.specs.declared.key.Key.{Key}
-use Rattle.wi_graph.specs.Circular.{circular}
-use Rattle.wi_graph.proofs.Ends.{ends_open}
-use Rattle.wi_sheet.specs.CellValue.{value_of, cell_value, what_if_value}
-use Rattle.wi_sheet.proofs.Steps.{value_step, value_plain, put_not_circular}
-use Rattle.wi_sheet.proofs.Demands.{same_tree}
-use Rattle.wi_engine.specs.Inner.Findings.{found_value, what_if_found, AreAllRight}
-use Rattle.wi_engine.specs.Inner.Attempt.{known_in, cell_known, IsLacking}
-use Rattle.wi_engine.specs.Inner.Attempts.{IsAttemptOf}
-use Rattle.wi_engine.specs.declared.findings.Findings.{Findings}
+use Rattle.wi_engine.proofs.Words.{◌≡◌, ℕ, true, false, List, Option, Some, None, IfSome, refl, ap, sym, ◌∙◌, subst, Value, Empty, Replacement, Tree, Sheet, content_of, put_all, has_formula, Content, Constant, Formula, Assignment, AgreesWith, meaning, IsUnknown, IsOutcomeOf, Want, Cell, WhatIf, Outcome, Needs, value_by_all, same_by_all, Key, circular, ends_open, value_of, cell_value, what_if_value, value_step, value_plain, put_not_circular, same_tree, found_value, what_if_found, AreAllRight, known_in, cell_known, IsLacking, IsAttemptOf, Findings}
+use Rattle.wi_functions.specs.declared.evaluation.Outcome.TheVariants.{Done}
 
 -- the values of a sheet's cells and what-ifs
 abbrev pub values_in : Sheet → Assignment

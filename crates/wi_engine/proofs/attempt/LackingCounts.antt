@@ -1,24 +1,5 @@
 -- One value more is found, and fewer are lacking.
-use Rattle.std.proofs.Common.{◌≡◌, ◌==◌, ℕ, ◌+◌, ◌<◌, ◌≤◌, Bool, true, false, ◌&&◌, cond, List, [], filter, length, Option, Some, None, refl, ap, sym, ◌∙◌, arith, eq-eqb}
-use Rattle.std.proofs.lemmas.Bool.{and_from, and_parts}
-use Rattle.std.specs.List.{list_any}
-use Rattle.std.specs.Option.{is_none, option_or}
-use Rattle.wi_values.specs.declared.value.Value.{Value}
-use Rattle.wi_parser.specs.Tree.{Tree}
-use Rattle.wi_parser.specs.Sheet.{Sheet, content_of, has_formula, cells_with_formula}
-use Rattle.wi_functions.specs.Wants.{Asks}
-use Rattle.wi_functions.specs.declared.evaluation.Want.TheVariants.{WhatIf}
-use Rattle.wi_graph.proofs.Layers.{list_any-both}
-use Rattle.wi_graph.proofs.Walks.{same_cell, found, formula_cell}
-use Rattle.wi_graph.proofs.ReachTest.{keeps_few}
-use Rattle.wi_sheet.specs.Demand.{reads_here, formulas_read_here, what_ifs_of}
-use Rattle.wi_sheet.proofs.Wants.{asked_what_if}
-use Rattle.wi_sheet.proofs.Members.{in_contained, found_in}
-use Rattle.wi_engine.specs.declared.findings.Findings.{Findings}
-use Rattle.wi_engine.specs.declared.findings.FoundWhatIf.{FoundWhatIf}
-use Rattle.wi_engine.specs.Inner.Findings.{same_pairs, pairs_of, first_for, found_value, what_if_found, IsWithCell, IsWithWhatIf}
-use Rattle.wi_engine.specs.Inner.Attempt.{lacking}
-use Rattle.wi_sheet.proofs.Filters.{PassesToo, no_more, fewer}
+use Rattle.wi_engine.proofs.Words.{◌≡◌, ◌==◌, ℕ, ◌+◌, ◌<◌, ◌≤◌, Bool, true, false, ◌&&◌, cond, List, [], filter, length, Option, Some, None, refl, ap, sym, ◌∙◌, arith, eq-eqb, and_from, and_parts, list_any, is_none, option_or, Value, Tree, Sheet, content_of, has_formula, cells_with_formula, Asks, WhatIf, list_any-both, same_cell, found, formula_cell, keeps_few, reads_here, formulas_read_here, what_ifs_of, asked_what_if, in_contained, found_in, Findings, FoundWhatIf, same_pairs, pairs_of, first_for, found_value, what_if_found, IsWithCell, IsWithWhatIf, lacking, PassesToo, no_more, fewer}
 use Rattle.wi_engine.proofs.findings.FoundPairs.{same_lists, same_pairs-refl, first_for-push}
 
 -- a cell of which no value was found

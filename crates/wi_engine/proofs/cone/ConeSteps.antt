@@ -1,30 +1,6 @@
 -- One pass over an order of reading finds the cells that reach a cell.
-use Rattle.std.proofs.Common.{◌≡◌, ◌==◌, ℕ, suc, ◌+◌, ◌<◌, Bool, true, false, ◌&&◌, ◌||◌, cond, List, [], ◌∷◌, ◌++◌, filter, take, drop, length, get_or, Option, Some, None, IsSome, IfSome, All, refl, ap, sym, ◌∙◌, subst, inl, inr, ◌⊎◌, eq-eqb, drop-cons}
-use Rattle.std.proofs.lemmas.Bool.{and_parts, and_from, or_cases, or_left, or_right}
-use Rattle.std.proofs.lemmas.List.{take-append-drop}
-use Rattle.std.proofs.lemmas.List.Elements.{All-head, All-more, All-tail}
-use Rattle.std.specs.List.{list_any}
-use Rattle.std.specs.Ordering.{nat_cmp}
-use Rattle.std.specs.BTreeMap.{BTreeMap, get, is_at}
-use Rattle.std.specs.BTreeSet.{BTreeSet, contains}
-use Rattle.wi_values.specs.Address.{Area, is_within}
-use Rattle.wi_values.specs.declared.replacement.Replacement.{Replacement}
-use Rattle.wi_parser.specs.declared.content.Content.TheVariants.{Formula}
-use Rattle.wi_parser.specs.Tree.{Tree}
-use Rattle.wi_parser.specs.Sheet.{Sheet, content_of, has_formula}
-use Rattle.wi_parser.specs.Reads.{content_reads, rectangles_of}
-use Rattle.wi_parser.proofs.Rectangles.{reads_within}
+use Rattle.wi_engine.proofs.Words.{◌≡◌, ◌==◌, ℕ, suc, ◌+◌, ◌<◌, Bool, true, false, ◌&&◌, ◌||◌, cond, List, [], ◌∷◌, ◌++◌, filter, take, drop, length, get_or, Option, Some, None, IsSome, IfSome, All, refl, ap, sym, ◌∙◌, subst, inl, inr, ◌⊎◌, eq-eqb, drop-cons, and_parts, and_from, or_cases, or_left, or_right, take-append-drop, All-head, All-more, All-tail, list_any, nat_cmp, BTreeMap, get, is_at, BTreeSet, contains, Area, is_within, Replacement, Formula, Tree, Sheet, content_of, has_formula, content_reads, rectangles_of, reads_within, is_one_of, reaches, same_cell, same_tests, found, finds_in, reaches_here, reaches_read, reaches_step, reaches_by_step, is_at-eq, at_same, reaching, rectangles_in, occupied_within, IsReadOrder, AreCones, occupied_read, read_occupied}
 use Rattle.wi_worlds.specs.Reaching as cones
-use Rattle.wi_graph.specs.Reach.{is_one_of, reaches}
-use Rattle.wi_graph.proofs.Walks.{same_cell, same_tests, found}
-use Rattle.wi_graph.proofs.ReachTest.{finds_in}
-use Rattle.wi_graph.proofs.ReachSteps.{reaches_here, reaches_read, reaches_step, reaches_by_step}
-use Rattle.wi_values.proofs.Order.{is_at-eq, at_same}
-use Rattle.wi_sheet.specs.Demand.{reaching}
-use Rattle.wi_sheet.specs.Inner.ReadCells.{rectangles_in, occupied_within}
-use Rattle.wi_sheet.specs.Inner.ReadOrder.{IsReadOrder}
-use Rattle.wi_engine.specs.Inner.Remembered.{AreCones}
-use Rattle.wi_sheet.proofs.ReadLists.{occupied_read, read_occupied}
 use Rattle.wi_sheet.proofs.Filters.{one_more}
 
 -- a formula reads what lies in one of its rectangles

@@ -1,22 +1,5 @@
 -- What is counted stays within what was left to find.
-use Rattle.std.proofs.Common.{◌≡◌, ◌<◌, ◌≤◌, ◌+◌, ◌||◌, ℕ, Bool, true, false, List, [], ◌∷◌, ◌++◌, length, Contains, Option, Some, None, refl, ap, sym, ◌∙◌, arith}
-use Rattle.std.proofs.lemmas.Bool.{or_from}
-use Rattle.wi_values.specs.declared.replacement.Replacement.{Replacement}
-use Rattle.wi_values.specs.Replacements.{same_replacements}
-use Rattle.wi_parser.specs.declared.content.Content.{Content}
-use Rattle.wi_parser.specs.declared.content.Content.TheVariants.{Constant, Formula}
-use Rattle.wi_parser.specs.Sheet.{Sheet, content_of, put_all}
-use Rattle.wi_functions.specs.Counts.{Counts}
-use Rattle.wi_cache.specs.declared.key.Key.{Key}
-use Rattle.wi_sheet.specs.Demand.{Case, same_case, of_formula, formulas_read_here, what_ifs_of, wants}
-use Rattle.wi_sheet.specs.Inner.Spending.{NeverFall, Table, cost, left, plus}
-use Rattle.wi_sheet.proofs.CaseCosts.{left_falls, left_at_keep}
-use Rattle.wi_sheet.specs.Inner.Rank.{reach_rank}
-use Rattle.wi_engine.specs.Inner.MemoState.{MemoState}
-use Rattle.wi_engine.specs.Inner.Attempt.{lacking}
-use Rattle.wi_engine.specs.Inner.Frames.{case_at, IsStack, taken, frame_cost, frames_cost, at_most, spare, waits}
-use Rattle.wi_engine.specs.declared.frame.Frame.{Frame}
-use Rattle.wi_engine.specs.declared.frame.Waiting.TheVariants.{Nothing}
+use Rattle.wi_engine.proofs.Words.{◌≡◌, ◌<◌, ◌≤◌, ◌+◌, ◌||◌, ℕ, Bool, true, false, List, [], ◌∷◌, ◌++◌, length, Contains, Option, Some, None, refl, ap, sym, ◌∙◌, arith, or_from, Replacement, same_replacements, Content, Constant, Formula, Sheet, content_of, put_all, Counts, Key, Case, same_case, of_formula, formulas_read_here, what_ifs_of, wants, NeverFall, Table, cost, left, plus, left_falls, left_at_keep, reach_rank, MemoState, lacking, case_at, IsStack, taken, frame_cost, frames_cost, at_most, spare, waits, Frame, Nothing}
 use Rattle.wi_engine.proofs.attempt.LackingCounts.{lacking_at_most}
 use Rattle.wi_engine.proofs.engine.Stacks.{other_case}
 

@@ -1,20 +1,5 @@
 -- A question in progress: what is so all the way, and what it has spent where it ends.
-use Rattle.std.proofs.Common.{◌≡◌, ◌<◌, ◌≤◌, ◌+◌, ◌-◌, ◌^◌, ◌⊎◌, inl, inr, ℕ, true, false, List, [], ◌∷◌, ◌++◌, Contains, Result, is_ok, IsErr, refl, sym, subst, arith}
-use Rattle.std.proofs.lemmas.Bool.{cases_lt, true≢false}
-use Rattle.wi_values.specs.declared.value.Value.{Value}
-use Rattle.wi_parser.specs.Sheet.{Sheet}
-use Rattle.wi_functions.specs.Counts.{Counts, one_more}
-use Rattle.wi_cache.specs.declared.key.Key.{Key}
-use Rattle.wi_sheet.specs.Demand.{Case}
-use Rattle.wi_sheet.specs.Inner.Spending.{NeverFall}
-use Rattle.wi_sheet.proofs.CaseCosts.{never_fall-same, never_fall-then}
-use Rattle.wi_engine.specs.Inner.MemoState.{MemoState, IsMemoOf}
-use Rattle.wi_engine.specs.Inner.Frames.{case_at, IsUnvaluedKey}
-use Rattle.wi_engine.specs.Inner.Saving.{WhereRoom, TakesPlaces, TakesNoMore, GivesUpWhenFull}
-use Rattle.wi_engine.specs.Inner.Keeps.{Keeps, HasKept}
-use Rattle.wi_engine.specs.Inner.Spends.{IsSameBeside, Spends}
-use Rattle.wi_engine.specs.Inner.Steps.{FrameCounts, FrameTakes, IsFrameValue}
-use Rattle.wi_engine.specs.declared.frame.Frame.{Frame}
+use Rattle.wi_engine.proofs.Words.{◌≡◌, ◌<◌, ◌≤◌, ◌+◌, ◌-◌, ◌^◌, ◌⊎◌, inl, inr, ℕ, true, false, List, [], ◌∷◌, ◌++◌, Contains, Result, is_ok, IsErr, refl, sym, subst, arith, cases_lt, true≢false, Value, Sheet, Counts, one_more, Key, Case, NeverFall, never_fall-same, never_fall-then, MemoState, IsMemoOf, case_at, IsUnvaluedKey, WhereRoom, TakesPlaces, TakesNoMore, GivesUpWhenFull, Keeps, HasKept, IsSameBeside, Spends, FrameCounts, FrameTakes, IsFrameValue, Frame}
 use Rattle.wi_engine.proofs.Places.{takes_then, gives_up_none, gives_up_then}
 use Rattle.wi_engine.proofs.Ledger.{same_itself, same_then, spends_err}
 use Rattle.wi_engine.proofs.engine.Stacks.{run_keeps}

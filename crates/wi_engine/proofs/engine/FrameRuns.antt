@@ -1,27 +1,6 @@
 -- A run of frames: what is so of it all the way, and what its turns do to that.
-use Rattle.std.proofs.Common.{◌≡◌, ◌<◌, ◌≤◌, ◌+◌, ◌-◌, ◌*◌, ◌||◌, ℕ, true, false, List, [], ◌∷◌, ◌++◌, length, Contains, None, refl, ap, sym, ◌∙◌}
-use Rattle.std.proofs.lemmas.Bool.{true≢false}
-use Rattle.wi_values.specs.declared.value.Value.{Value}
-use Rattle.wi_values.specs.declared.replacement.Replacement.{Replacement}
-use Rattle.wi_parser.specs.Sheet.{Sheet, content_of, put_all, has_formula, cells_with_formula}
-use Rattle.wi_functions.specs.Counts.{Counts, one_more}
-use Rattle.wi_cache.specs.declared.key.Key.{Key}
-use Rattle.wi_graph.specs.Circular.{circular}
-use Rattle.wi_sheet.specs.CellValue.{cell_value, what_if_value}
-use Rattle.wi_sheet.specs.Demand.{Case, same_case, demand}
-use Rattle.wi_sheet.specs.Inner.Spending.{IsClosed, NeverFall, SpentOn, cost, left, plus}
-use Rattle.wi_sheet.proofs.CaseCosts.{one_less_left, spent_all}
-use Rattle.wi_sheet.proofs.Demands.{demand_closed, demand_has_itself}
-use Rattle.wi_sheet.specs.Inner.Rank.{reach_rank}
-use Rattle.wi_engine.specs.Inner.MemoState.{MemoState, IsMemoOf}
-use Rattle.wi_engine.specs.Inner.Findings.{found_value}
-use Rattle.wi_engine.specs.Inner.Frames.{case_at, IsFormulaKey, StandsAt, IsFrame, IsNext, IsBegun, IsStack, BottomIs, at_most, spare}
-use Rattle.wi_engine.specs.Inner.Keeps.{Keeps, HasKept}
-use Rattle.wi_engine.specs.Inner.Steps.{FrameSteps, FrameCounts, IsFrameValue}
-use Rattle.wi_engine.specs.declared.frame.Frame.{Frame}
-use Rattle.wi_engine.specs.declared.frame.Waiting.TheVariants.{Nothing}
+use Rattle.wi_engine.proofs.Words.{◌≡◌, ◌<◌, ◌≤◌, ◌+◌, ◌-◌, ◌*◌, ◌||◌, ℕ, true, false, List, [], ◌∷◌, ◌++◌, length, Contains, None, refl, ap, sym, ◌∙◌, true≢false, Value, Replacement, Sheet, content_of, put_all, has_formula, cells_with_formula, Counts, one_more, Key, circular, cell_value, what_if_value, Case, same_case, demand, IsClosed, NeverFall, SpentOn, cost, left, plus, one_less_left, spent_all, demand_closed, demand_has_itself, reach_rank, MemoState, IsMemoOf, found_value, case_at, IsFormulaKey, StandsAt, IsFrame, IsNext, IsBegun, IsStack, BottomIs, at_most, spare, Keeps, HasKept, FrameSteps, FrameCounts, IsFrameValue, Frame, Nothing, rests_rank, measure_falls_at_keep, measure_falls_at_push}
 use Rattle.wi_engine.proofs.findings.FoundValues.{right_none}
-use Rattle.wi_sheet.proofs.Ranks.{rests_rank, measure_falls_at_keep, measure_falls_at_push}
 use Rattle.wi_engine.proofs.engine.Stacks.{push_stack, pop_stack, push_bottom, pop_bottom, same_bottom, found_stack, run_keeps, begun_next, same_begun}
 use Rattle.wi_engine.proofs.engine.Steps.{restarts_after}
 use Rattle.wi_engine.proofs.engine.Budgets.{budget_start, budget_push, budget_pop, budget_same, budget_end, budget_kept, not_taken, spare_new}

@@ -1,36 +1,5 @@
 -- On which cases the value of a case rests.
-use Rattle.std.proofs.Common.{◌≡◌, ◌==◌, ℕ, Bool, true, false, List, map, Option, Some, None, refl, ap, sym, ◌∙◌, subst}
-use Rattle.std.specs.List.{list_any}
-use Rattle.std.specs.Global.{Vec}
-use Rattle.wi_values.specs.declared.value.Value.{Value}
-use Rattle.wi_values.specs.declared.replacement.Replacement.{Replacement}
-use Rattle.wi_parser.specs.declared.expr.Pair.{Pair}
-use Rattle.wi_parser.specs.Tree.{Tree}
-use Rattle.wi_parser.specs.View.{pair_of}
-use Rattle.wi_parser.specs.declared.content.Content.{Content}
-use Rattle.wi_parser.specs.declared.content.Content.TheVariants.{Constant, Formula}
-use Rattle.wi_parser.specs.Sheet.{Sheet, content_of, put_all, has_formula}
-use Rattle.wi_parser.specs.Reads.{content_reads}
-use Rattle.wi_lookup.specs.Assignment.{addresses}
-use Rattle.wi_functions.specs.Wants.{Asks}
-use Rattle.wi_functions.specs.declared.evaluation.Want.TheVariants.{WhatIf}
-use Rattle.wi_cache.specs.declared.key.Key.{Key}
-use Rattle.wi_graph.specs.Circular.{circular}
-use Rattle.wi_graph.proofs.ReachSteps.{reaches_here}
-use Rattle.wi_sheet.specs.CellValue.{cell_value}
-use Rattle.wi_sheet.specs.Demand.{Case, case_of, reaching, with_what_if, what_ifs_of, reads_here, of_formula}
-use Rattle.wi_sheet.specs.Inner.Spending.{RestsOn}
-use Rattle.wi_sheet.proofs.Bounds.{put_formula, put_reads, tree_reads}
-use Rattle.wi_sheet.proofs.Cases.{pair_path}
-use Rattle.wi_sheet.proofs.Steps.{reads_not_circular}
-use Rattle.wi_sheet.proofs.Overrides.{reaching_suffices}
-use Rattle.wi_sheet.proofs.Members.{IsIn, in_contained, contains_in}
-use Rattle.wi_sheet.proofs.SmallerWorlds.{content_below, reaching_below}
-use Rattle.wi_sheet.proofs.Wants.{rests_on_read, rests_on_what_if, asked_what_if, asked_replacing}
-use Rattle.wi_sheet.proofs.Demands.{here_reads, what_if_reads}
-use Rattle.wi_engine.specs.Inner.MemoState.{MemoState, IsMemoOf}
-use Rattle.wi_engine.specs.Inner.Attempt.{AsksAt}
-use Rattle.wi_engine.specs.Inner.Frames.{case_at, content_reads_here, MayBeRead, StandsAt, IsUnvalued, IsNext}
+use Rattle.wi_engine.proofs.Words.{◌≡◌, ◌==◌, ℕ, Bool, true, false, List, map, Option, Some, None, refl, ap, sym, ◌∙◌, subst, list_any, Vec, Value, Replacement, Pair, Tree, pair_of, Content, Constant, Formula, Sheet, content_of, put_all, has_formula, content_reads, addresses, Asks, WhatIf, Key, circular, reaches_here, cell_value, Case, case_of, reaching, with_what_if, what_ifs_of, reads_here, of_formula, RestsOn, put_formula, put_reads, tree_reads, pair_path, reads_not_circular, reaching_suffices, IsIn, in_contained, contains_in, content_below, reaching_below, rests_on_read, rests_on_what_if, asked_what_if, asked_replacing, here_reads, what_if_reads, MemoState, IsMemoOf, AsksAt, case_at, content_reads_here, MayBeRead, StandsAt, IsUnvalued, IsNext}
 
 -- ---- what is read
 

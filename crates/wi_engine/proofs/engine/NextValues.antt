@@ -1,36 +1,6 @@
 -- What a frame waits for is found, or a key is next.
-use Rattle.std.proofs.Common.{◌≡◌, ◌==◌, ◌+◌, ◌-◌, ◌<◌, ◌≤◌, ℕ, Bool, true, false, ◌&&◌, List, [], ◌∷◌, map, get_or, All, Option, Some, inl, inr, ◌⊎◌, refl, ap, sym, ◌∙◌, subst, arith, eq-eqb, if◌then◌else◌}
-use Rattle.std.proofs.lemmas.Bool.{or_left}
-use Rattle.std.specs.List.{list_any}
-use Rattle.std.specs.Option.{is_none}
-use Rattle.std.specs.Global.{Vec}
-use Rattle.wi_values.specs.declared.value.Value.{Value}
-use Rattle.wi_values.specs.declared.replacement.Replacement.{Replacement}
-use Rattle.wi_values.specs.Replacements.{IsInOrder}
-use Rattle.wi_parser.specs.declared.expr.Pair.{Pair}
-use Rattle.wi_parser.specs.View.{pair_of}
-use Rattle.wi_parser.specs.Sheet.{Sheet, content_of, put_all, has_formula}
-use Rattle.wi_lookup.specs.Assignment.{addresses}
-use Rattle.wi_functions.specs.Counts.{one_more}
-use Rattle.wi_functions.specs.declared.evaluation.Want.{Want}
+use Rattle.wi_engine.proofs.Words.{◌≡◌, ◌==◌, ◌+◌, ◌-◌, ◌<◌, ◌≤◌, ℕ, Bool, true, false, ◌&&◌, List, [], ◌∷◌, map, get_or, All, Option, Some, inl, inr, ◌⊎◌, refl, ap, sym, ◌∙◌, subst, arith, eq-eqb, if◌then◌else◌, or_left, list_any, is_none, Vec, Value, Replacement, IsInOrder, Pair, pair_of, Sheet, content_of, put_all, has_formula, addresses, one_more, Want, Key, is_one_of, cell_value, what_if_value, Case, with_what_if, put_formula, with_what_if_value, MemoState, IsMemoOf, AsksAt, IsLacking, lacks_cell, IsWithCell, IsWithWhatIf, pairs_of, found_value, case_at, content_reads_here, MayBeRead, IsFormulaKey, IsUnvaluedFormula, IsNextFormula, IsFrame, AreReadHere, Awaits, lacks, spare, waits, FrameWaits, IsWorldWith, Findings, FoundWhatIf, Frame, Unvalued, Waiting, Nothing, Cells}
 use Rattle.wi_functions.specs.declared.evaluation.Want.TheVariants as wanted
-use Rattle.wi_cache.specs.declared.key.Key.{Key}
-use Rattle.wi_graph.specs.Reach.{is_one_of}
-use Rattle.wi_sheet.specs.CellValue.{cell_value, what_if_value}
-use Rattle.wi_sheet.specs.Demand.{Case, with_what_if}
-use Rattle.wi_sheet.proofs.Bounds.{put_formula}
-use Rattle.wi_sheet.proofs.Overrides.{with_what_if_value}
-use Rattle.wi_engine.specs.Inner.MemoState.{MemoState, IsMemoOf}
-use Rattle.wi_engine.specs.Inner.Attempt.{AsksAt, IsLacking, lacks_cell}
-use Rattle.wi_engine.specs.Inner.Findings.{IsWithCell, IsWithWhatIf, pairs_of, found_value}
-use Rattle.wi_engine.specs.Inner.Frames.{case_at, content_reads_here, MayBeRead, IsFormulaKey, IsUnvaluedFormula, IsNextFormula, IsFrame, AreReadHere, Awaits, lacks, spare, waits}
-use Rattle.wi_engine.specs.Inner.Steps.{FrameWaits, IsWorldWith}
-use Rattle.wi_engine.specs.declared.findings.Findings.{Findings}
-use Rattle.wi_engine.specs.declared.findings.FoundWhatIf.{FoundWhatIf}
-use Rattle.wi_engine.specs.declared.frame.Frame.{Frame}
-use Rattle.wi_engine.specs.declared.frame.Unvalued.{Unvalued}
-use Rattle.wi_engine.specs.declared.frame.Waiting.{Waiting}
-use Rattle.wi_engine.specs.declared.frame.Waiting.TheVariants.{Nothing, Cells}
 use Rattle.wi_engine.proofs.findings.FoundValues.{right_cell, right_what_if}
 use Rattle.wi_engine.proofs.engine.NextCases.{may_be_read, here_in_sheet, what_if_in_sheet, replacing_reads, next_cell, next_what_if}
 use Rattle.wi_engine.proofs.engine.Waits.{found_at, asked_here, some_cell, some_what_if, some_lacks, cell_falls, frame_with}

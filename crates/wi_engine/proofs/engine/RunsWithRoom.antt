@@ -1,25 +1,5 @@
 -- A run of frames while there is room for all that it finds.
-use Rattle.std.proofs.Common.{◌≡◌, ◌≤◌, ◌+◌, ◌⊎◌, inl, inr, ◌||◌, ℕ, Bool, true, false, List, [], ◌∷◌, ◌++◌, Contains, Option, Some, is_some, refl, ap, sym, ◌∙◌, subst, arith}
-use Rattle.std.proofs.lemmas.Bool.{or_cases, or_from, or_left, or_right, true≢false}
-use Rattle.wi_values.specs.declared.value.Value.{Value}
-use Rattle.wi_values.specs.declared.replacement.Replacement.{Replacement}
-use Rattle.wi_parser.specs.Sheet.{Sheet, put_all}
-use Rattle.wi_functions.specs.Counts.{Counts}
-use Rattle.wi_cache.specs.declared.key.Key.{Key}
-use Rattle.wi_sheet.specs.CellValue.{cell_value}
-use Rattle.wi_sheet.specs.Demand.{Case, case_of, reaching, same_case}
-use Rattle.wi_sheet.specs.Inner.Spending.{Table, IsClosed, HasCase, SpentOn}
-use Rattle.wi_sheet.specs.Settled.{IsSettled, RestsOnKept}
-use Rattle.wi_sheet.proofs.Cases.{same_case-refl}
-use Rattle.wi_sheet.proofs.Overrides.{reaching_suffices}
-use Rattle.wi_sheet.proofs.CaseCosts.{one_less_left}
-use Rattle.wi_engine.specs.Inner.MemoState.{MemoState, IsTold, IsMemoOf}
-use Rattle.wi_engine.specs.Inner.Frames.{case_at, IsFormulaKey, IsUnvaluedKey, IsUnvalued, IsNext}
-use Rattle.wi_engine.specs.Inner.Saving.{not_kept, KeepsFound, WhereRoom, NeedsNoEvaluation, IsValuedAnew}
-use Rattle.wi_engine.specs.Inner.Spends.{Saved}
-use Rattle.wi_engine.specs.Inner.Steps.{FrameTakes}
-use Rattle.wi_engine.specs.Inner.Keeps.{Keeps}
-use Rattle.wi_engine.specs.declared.frame.Frame.{Frame}
+use Rattle.wi_engine.proofs.Words.{◌≡◌, ◌≤◌, ◌+◌, ◌⊎◌, inl, inr, ◌||◌, ℕ, Bool, true, false, List, [], ◌∷◌, ◌++◌, Contains, Option, Some, is_some, refl, ap, sym, ◌∙◌, subst, arith, or_cases, or_from, or_left, or_right, true≢false, Value, Replacement, Sheet, put_all, Counts, Key, cell_value, Case, case_of, reaching, same_case, Table, IsClosed, HasCase, SpentOn, IsSettled, RestsOnKept, same_case-refl, reaching_suffices, one_less_left, MemoState, IsTold, IsMemoOf, case_at, IsFormulaKey, IsUnvaluedKey, IsUnvalued, IsNext, not_kept, KeepsFound, WhereRoom, NeedsNoEvaluation, IsValuedAnew, Saved, FrameTakes, Keeps, Frame}
 use Rattle.wi_engine.proofs.Places.{none_went}
 use Rattle.wi_engine.proofs.engine.NextCases.{unvalued_case}
 use Rattle.wi_engine.proofs.engine.NextValues.{one_more_at_most}

@@ -1,37 +1,6 @@
 -- What is found for a formula is settled, and so its value rests on kept ones.
-use Rattle.std.proofs.Common.{◌≡◌, ◌⊎◌, inl, inr, ℕ, Bool, true, false, cond, List, [], Option, Some, None, IfSome, All, Contains, map, is_some, refl, ap, sym, ◌∙◌, subst}
-use Rattle.std.proofs.lemmas.Bool.{or_cases}
-use Rattle.std.proofs.lemmas.List.Elements.{All-map}
-use Rattle.wi_values.specs.declared.value.Value.{Value}
-use Rattle.wi_values.specs.declared.replacement.Replacement.{Replacement}
-use Rattle.wi_parser.specs.Tree.{Tree}
-use Rattle.wi_parser.specs.Reads.{reads}
-use Rattle.wi_parser.specs.Sheet.{Sheet, content_of, put_all, has_formula}
-use Rattle.wi_parser.specs.View.{pair_of}
-use Rattle.wi_parser.specs.declared.content.Content.{Content}
-use Rattle.wi_parser.specs.declared.content.Content.TheVariants.{Constant, Formula}
-use Rattle.wi_parser.specs.declared.expr.Pair.{Pair}
-use Rattle.wi_lookup.specs.Assignment.{Assignment, AgreesWith}
-use Rattle.wi_functions.specs.Meaning.{meaning}
-use Rattle.wi_lookup.specs.Assignment.{addresses}
+use Rattle.wi_engine.proofs.Words.{◌≡◌, ◌⊎◌, inl, inr, ℕ, Bool, true, false, cond, List, [], Option, Some, None, IfSome, All, Contains, map, is_some, refl, ap, sym, ◌∙◌, subst, or_cases, All-map, Value, Replacement, Tree, reads, Sheet, content_of, put_all, has_formula, pair_of, Content, Constant, Formula, Pair, Assignment, AgreesWith, meaning, addresses, Key, cell_value, what_if_value, reaching, with_what_if, what_ifs_of, IsSettled, IsWhatIfSettled, AgreesWhereSettled, RestsOnKept, contains_in, same_tree, meaning_same, pairs_of, found_value, what_if_found, AreAllRight, IsWithCell, IsWithWhatIf, AsksAt, known_in, cell_known, AreFoundSettled, IsFrameSettled, HasOneMeaning, MemoState, IsMemoOf, KeepsFound, NeedsNoEvaluation, case_at, Frame, Findings, FoundWhatIf, settled_more, what_if_more}
 use Rattle.wi_functions.specs.declared.evaluation.Want.TheVariants as wanted
-use Rattle.wi_cache.specs.declared.key.Key.{Key}
-use Rattle.wi_sheet.specs.CellValue.{cell_value, what_if_value}
-use Rattle.wi_sheet.specs.Demand.{reaching, with_what_if, what_ifs_of}
-use Rattle.wi_sheet.specs.Settled.{IsSettled, IsWhatIfSettled, AgreesWhereSettled, RestsOnKept}
-use Rattle.wi_sheet.proofs.Members.{contains_in}
-use Rattle.wi_sheet.proofs.Demands.{same_tree}
-use Rattle.wi_sheet.proofs.Meanings.{meaning_same}
-use Rattle.wi_engine.specs.Inner.Findings.{pairs_of, found_value, what_if_found, AreAllRight, IsWithCell, IsWithWhatIf}
-use Rattle.wi_engine.specs.Inner.Attempt.{AsksAt, known_in, cell_known}
-use Rattle.wi_engine.specs.Inner.SettledFrames.{AreFoundSettled, IsFrameSettled, HasOneMeaning}
-use Rattle.wi_engine.specs.Inner.MemoState.{MemoState, IsMemoOf}
-use Rattle.wi_engine.specs.Inner.Saving.{KeepsFound, NeedsNoEvaluation}
-use Rattle.wi_engine.specs.Inner.Frames.{case_at}
-use Rattle.wi_engine.specs.declared.frame.Frame.{Frame}
-use Rattle.wi_engine.specs.declared.findings.Findings.{Findings}
-use Rattle.wi_engine.specs.declared.findings.FoundWhatIf.{FoundWhatIf}
-use Rattle.wi_sheet.proofs.SettledTables.{settled_more, what_if_more}
 use Rattle.wi_engine.proofs.engine.NextCases.{asked_in}
 use Rattle.wi_engine.proofs.attempt.KnownValues.{known_agrees, values_in}
 use Rattle.wi_engine.proofs.findings.FoundValues.{cells_none, cells_same, cells_more, what_ifs_none, what_ifs_same, what_ifs_more}

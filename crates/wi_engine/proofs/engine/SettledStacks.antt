@@ -1,17 +1,6 @@
 -- What comes to be kept in a run of frames rests on kept values.
-use Rattle.std.proofs.Common.{◌≡◌, ◌⊎◌, inl, inr, ◌||◌, ℕ, Bool, true, false, List, [], ◌∷◌, ◌++◌, sym, ◌∙◌, subst}
-use Rattle.std.proofs.lemmas.Bool.{or_cases, or_left, true≢false}
-use Rattle.wi_values.specs.declared.replacement.Replacement.{Replacement}
-use Rattle.wi_parser.specs.Sheet.{Sheet}
-use Rattle.wi_cache.specs.declared.key.Key.{Key}
-use Rattle.wi_sheet.specs.Demand.{Case, same_case}
-use Rattle.wi_sheet.specs.Settled.{RestsOnKept}
-use Rattle.wi_sheet.proofs.Cases.{one_case}
-use Rattle.wi_engine.specs.Inner.MemoState.{MemoState}
-use Rattle.wi_engine.specs.Inner.SettledFrames.{IsFrameSettled}
-use Rattle.wi_engine.specs.declared.frame.Frame.{Frame}
+use Rattle.wi_engine.proofs.Words.{◌≡◌, ◌⊎◌, inl, inr, ◌||◌, ℕ, Bool, true, false, List, [], ◌∷◌, ◌++◌, sym, ◌∙◌, subst, or_cases, or_left, true≢false, Replacement, Sheet, Key, Case, same_case, RestsOnKept, one_case, MemoState, IsFrameSettled, Frame, rests_more}
 use Rattle.wi_engine.proofs.engine.FrameRuns.{IsNew}
-use Rattle.wi_sheet.proofs.SettledTables.{rests_more}
 use Rattle.wi_engine.proofs.engine.SettledFindings.{settled_none, found_more}
 
 abbrev pub AreFramesSettled : Sheet → (ℕ → List Replacement → Bool) → List Frame → Type 0

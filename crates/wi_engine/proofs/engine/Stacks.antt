@@ -1,19 +1,5 @@
 -- The stack of frames, a push and a pop.
-use Rattle.std.proofs.Common.{◌≡◌, ◌==◌, ◌<◌, ◌⊎◌, inl, inr, ◌||◌, ◌&&◌, ℕ, Bool, true, false, List, [], ◌∷◌, ◌++◌, Contains, Option, Some, None, IfSome, ap, sym, ◌∙◌, subst, arith}
-use Rattle.std.proofs.lemmas.Bool.Decides.{nat_tests}
-use Rattle.std.proofs.lemmas.Bool.{or_from}
-use Rattle.wi_values.specs.declared.value.Value.{Value}
-use Rattle.wi_values.specs.declared.replacement.Replacement.{Replacement}
-use Rattle.wi_values.specs.Replacements.{same_replacements}
-use Rattle.wi_parser.specs.Sheet.{Sheet, put_all}
-use Rattle.wi_cache.specs.declared.key.Key.{Key}
-use Rattle.wi_sheet.specs.CellValue.{cell_value}
-use Rattle.wi_sheet.specs.Demand.{Case, same_case}
-use Rattle.wi_sheet.specs.Inner.Rank.{reach_rank}
-use Rattle.wi_engine.specs.Inner.MemoState.{MemoState, IsMemoOf, AreKnownRight, IsClosedUnderReads}
-use Rattle.wi_engine.specs.Inner.Frames.{case_at, IsFrame, IsBegun, IsNext, IsDemanded, AreBelow, IsStack, BottomIs}
-use Rattle.wi_engine.specs.Inner.Keeps.{Keeps}
-use Rattle.wi_engine.specs.declared.frame.Frame.{Frame}
+use Rattle.wi_engine.proofs.Words.{◌≡◌, ◌==◌, ◌<◌, ◌⊎◌, inl, inr, ◌||◌, ◌&&◌, ℕ, Bool, true, false, List, [], ◌∷◌, ◌++◌, Contains, Option, Some, None, IfSome, ap, sym, ◌∙◌, subst, arith, nat_tests, or_from, Value, Replacement, same_replacements, Sheet, put_all, Key, cell_value, Case, same_case, reach_rank, MemoState, IsMemoOf, AreKnownRight, IsClosedUnderReads, case_at, IsFrame, IsBegun, IsNext, IsDemanded, AreBelow, IsStack, BottomIs, Keeps, Frame}
 
 -- ---- ranks fall from the bottom to the top
 

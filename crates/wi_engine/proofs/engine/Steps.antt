@@ -1,26 +1,7 @@
 -- What the steps of a frame leave and count, one after another.
-use Rattle.std.proofs.Common.{◌≡◌, ◌+◌, ◌-◌, ◌≤◌, ℕ, Bool, true, false, List, None, Result, Ok, Err, IsErr, is_ok, refl, ap, sym, ◌∙◌, subst, arith}
-use Rattle.std.proofs.lemmas.Bool.{true≢false}
-use Rattle.wi_values.specs.declared.value.Value.{Value}
-use Rattle.wi_values.specs.declared.replacement.Replacement.{Replacement}
-use Rattle.wi_values.specs.Replacements.{IsInOrder}
-use Rattle.wi_parser.specs.declared.expr.Pair.{Pair}
-use Rattle.wi_parser.specs.Sheet.{Sheet, content_of, put_all, has_formula}
-use Rattle.wi_functions.specs.Counts.{Counts, one_more}
-use Rattle.wi_functions.specs.declared.evaluation.Want.{Want}
+use Rattle.wi_engine.proofs.Words.{◌≡◌, ◌+◌, ◌-◌, ◌≤◌, ℕ, Bool, true, false, List, None, Result, Ok, Err, IsErr, is_ok, refl, ap, sym, ◌∙◌, subst, arith, true≢false, Value, Replacement, IsInOrder, Pair, Sheet, content_of, put_all, has_formula, Counts, one_more, Want, Key, NeverFall, never_fall-same, never_fall-then, MemoState, IsMemoOf, found_value, IsWithCell, IsWithWhatIf, AsksAt, IsLacking, content_reads_here, IsFrame, lacks, spare, waits, FrameSteps, FrameCounts, FrameWaits, IsShownNow, IsWorldWith, FoundWhatIf, Frame, Waiting, Nothing, Cells}
 use Rattle.wi_functions.specs.declared.evaluation.Want.TheVariants as wanted
-use Rattle.wi_cache.specs.declared.key.Key.{Key}
-use Rattle.wi_sheet.specs.Inner.Spending.{NeverFall}
-use Rattle.wi_sheet.proofs.CaseCosts.{never_fall-same, never_fall-then}
-use Rattle.wi_engine.specs.Inner.MemoState.{MemoState, IsMemoOf}
-use Rattle.wi_engine.specs.Inner.Findings.{found_value, IsWithCell, IsWithWhatIf}
-use Rattle.wi_engine.specs.Inner.Attempt.{AsksAt, IsLacking}
-use Rattle.wi_engine.specs.Inner.Frames.{content_reads_here, IsFrame, lacks, spare, waits}
-use Rattle.wi_engine.specs.Inner.Steps.{FrameSteps, FrameCounts, FrameWaits, IsShownNow, IsWorldWith}
-use Rattle.wi_engine.specs.declared.findings.FoundWhatIf.{FoundWhatIf}
-use Rattle.wi_engine.specs.declared.frame.Frame.{Frame}
-use Rattle.wi_engine.specs.declared.frame.Waiting.{Waiting}
-use Rattle.wi_engine.specs.declared.frame.Waiting.TheVariants.{Nothing, Cells, WhatIf}
+use Rattle.wi_engine.specs.declared.frame.Waiting.TheVariants.{WhatIf}
 use Rattle.wi_engine.proofs.engine.Waits.{cell_falls, frame_with, what_if_falls}
 use Rattle.wi_engine.proofs.engine.SettledFindings.{IsSettledFor, frame_cell, frame_what_if, settled_again, settled_now}
 use Rattle.wi_engine.proofs.engine.NextValues.{cell_found_frame, frame_waits, one_more_at_most, spare_falls, want_lacks, what_if_found_frame, what_if_right}

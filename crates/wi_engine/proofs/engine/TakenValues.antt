@@ -1,26 +1,5 @@
 -- A frame takes in the value for which it waits.
-use Rattle.std.proofs.Common.{◌≡◌, ◌&&◌, ◌≤◌, inr, ℕ, Bool, true, List, Result, Ok, Err, IsErr, is_ok, refl, ap, sym, ◌∙◌, subst, arith, eqb-true}
-use Rattle.std.proofs.lemmas.Bool.{and_parts, true≢false}
-use Rattle.std.specs.Global.{Vec}
-use Rattle.wi_values.specs.declared.value.Value.{Value}
-use Rattle.wi_values.specs.declared.replacement.Replacement.{Replacement}
-use Rattle.wi_values.specs.Replacements.{same_replacements}
-use Rattle.wi_values.proofs.Replacements.Same.{same_replacements_Decides}
-use Rattle.wi_parser.specs.Sheet.{Sheet, put_all}
-use Rattle.wi_cache.specs.declared.key.Key.{Key}
-use Rattle.wi_sheet.specs.CellValue.{cell_value, what_if_value}
-use Rattle.wi_sheet.specs.Demand.{reaching}
-use Rattle.wi_sheet.specs.Settled.{IsSettled}
-use Rattle.wi_sheet.specs.Inner.Spending.{Table}
-use Rattle.wi_engine.specs.Inner.MemoState.{MemoState}
-use Rattle.wi_engine.specs.Inner.Findings.{IsWithCell}
-use Rattle.wi_engine.specs.Inner.Frames.{case_at, Awaits, IsFrame, lacks, spare, waits, waits_at}
-use Rattle.wi_engine.specs.Inner.SettledFrames.{IsFrameSettled}
-use Rattle.wi_engine.specs.Inner.Steps.{FrameTakes}
-use Rattle.wi_engine.specs.declared.findings.Findings.{Findings}
-use Rattle.wi_engine.specs.declared.frame.Frame.{Frame}
-use Rattle.wi_engine.specs.declared.frame.Waiting.{Waiting}
-use Rattle.wi_engine.specs.declared.frame.Waiting.TheVariants.{Cells}
+use Rattle.wi_engine.proofs.Words.{◌≡◌, ◌&&◌, ◌≤◌, inr, ℕ, Bool, true, List, Result, Ok, Err, IsErr, is_ok, refl, ap, sym, ◌∙◌, subst, arith, eqb-true, and_parts, true≢false, Vec, Value, Replacement, same_replacements, same_replacements_Decides, Sheet, put_all, Key, cell_value, what_if_value, reaching, IsSettled, Table, MemoState, IsWithCell, case_at, Awaits, IsFrame, lacks, spare, waits, waits_at, IsFrameSettled, FrameTakes, Findings, Frame, Waiting, Cells}
 use Rattle.wi_engine.proofs.engine.Waits.{cell_falls, frame_with}
 use Rattle.wi_engine.proofs.engine.SettledFindings.{IsSettledFor, frame_cell}
 use Rattle.wi_engine.proofs.findings.FoundValues.{right_cell}

@@ -1,40 +1,8 @@
 -- What a frame waits for, and what it gets.
-use Rattle.std.proofs.Common.{◌≡◌, ◌==◌, ◌+◌, ◌<◌, ◌≤◌, ℕ, zero, suc, true, List, [], ◌∷◌, map, filter, length, get_or, Option, Some, None, Result, Ok, Err, IsErr, is_ok, refl, ap, sym, ◌∙◌, arith, eq-eqb}
-use Rattle.std.proofs.lemmas.Bool.{or_left, or_right, true≢false}
-use Rattle.std.specs.List.{list_any}
-use Rattle.std.specs.Option.{is_none}
-use Rattle.std.specs.Global.{Vec}
-use Rattle.wi_values.specs.declared.value.Value.{Value}
-use Rattle.wi_values.specs.declared.replacement.Replacement.{Replacement}
-use Rattle.wi_parser.specs.declared.expr.Pair.{Pair}
-use Rattle.wi_parser.specs.View.{pair_of}
-use Rattle.wi_parser.specs.Tree.{Tree}
-use Rattle.wi_parser.specs.declared.content.Content.{Content}
-use Rattle.wi_parser.specs.declared.content.Content.TheVariants.{Formula}
-use Rattle.wi_parser.specs.Sheet.{Sheet, content_of, put_all, has_formula, cells_with_formula}
-use Rattle.wi_functions.specs.Wants.{Asks}
-use Rattle.wi_functions.specs.declared.evaluation.Want.{Want}
+use Rattle.wi_engine.proofs.Words.{◌≡◌, ◌==◌, ◌+◌, ◌<◌, ◌≤◌, ℕ, zero, suc, true, List, [], ◌∷◌, map, filter, length, get_or, Option, Some, None, Result, Ok, Err, IsErr, is_ok, refl, ap, sym, ◌∙◌, arith, eq-eqb, or_left, or_right, true≢false, list_any, is_none, Vec, Value, Replacement, Pair, pair_of, Tree, Content, Formula, Sheet, content_of, put_all, has_formula, cells_with_formula, Asks, Want, Key, is_one_of, formula_cell, cell_value, what_if_value, what_ifs_of, reads_here, formulas_read_here, of_formula, put_formula, IsIn, is_in, asked_cell, same_tree, MemoState, pairs_of, found_value, what_if_found, AreAllRight, IsWithCell, IsWithWhatIf, AsksAt, IsLacking, lacking, case_at, StandsAt, content_reads_here, Awaits, IsUnvaluedFormula, IsFrame, lacks, waits, FrameWaits, Findings, FoundWhatIf, Frame, Unvalued, Waiting, Nothing, Cells}
 use Rattle.wi_functions.specs.declared.evaluation.Want.TheVariants as wanted
-use Rattle.wi_cache.specs.declared.key.Key.{Key}
-use Rattle.wi_graph.specs.Reach.{is_one_of}
-use Rattle.wi_graph.proofs.Walks.{formula_cell}
-use Rattle.wi_sheet.specs.CellValue.{cell_value, what_if_value}
-use Rattle.wi_sheet.specs.Demand.{what_ifs_of, reads_here, formulas_read_here, of_formula}
-use Rattle.wi_sheet.proofs.Bounds.{put_formula}
-use Rattle.wi_sheet.proofs.Members.{IsIn, in_filter}
-use Rattle.wi_sheet.proofs.Wants.{is_in, asked_cell}
-use Rattle.wi_sheet.proofs.Demands.{same_tree}
-use Rattle.wi_engine.specs.Inner.MemoState.{MemoState}
-use Rattle.wi_engine.specs.Inner.Findings.{pairs_of, found_value, what_if_found, AreAllRight, IsWithCell, IsWithWhatIf}
-use Rattle.wi_engine.specs.Inner.Attempt.{AsksAt, IsLacking, lacking}
-use Rattle.wi_engine.specs.Inner.Frames.{case_at, StandsAt, content_reads_here, Awaits, IsUnvaluedFormula, IsFrame, lacks, waits}
-use Rattle.wi_engine.specs.Inner.Steps.{FrameWaits}
-use Rattle.wi_engine.specs.declared.findings.Findings.{Findings}
-use Rattle.wi_engine.specs.declared.findings.FoundWhatIf.{FoundWhatIf}
-use Rattle.wi_engine.specs.declared.frame.Frame.{Frame}
-use Rattle.wi_engine.specs.declared.frame.Unvalued.{Unvalued}
-use Rattle.wi_engine.specs.declared.frame.Waiting.{Waiting}
-use Rattle.wi_engine.specs.declared.frame.Waiting.TheVariants.{Nothing, Cells, WhatIf}
+use Rattle.wi_sheet.proofs.Members.{in_filter}
+use Rattle.wi_engine.specs.declared.frame.Waiting.TheVariants.{WhatIf}
 use Rattle.wi_engine.proofs.attempt.LackingCounts.{cell_lacks_fewer, what_if_lacks_fewer}
 use Rattle.wi_engine.proofs.engine.NextCases.{named, asked_in, tree_with}
 

@@ -1,24 +1,5 @@
 -- The first of replacements in order that lies in a rectangle.
-use Rattle.std.proofs.Common.{◌≡◌, ℕ, zero, suc, ◌<◌, ◌≤◌, Bool, true, false, cond, List, [], ◌∷◌, drop, length, get_or, map, Option, Some, None, IfSome, refl, sym, ap, ◌∙◌, subst, arith}
-use Rattle.std.specs.Prelude.{nat_le, nat_lt}
-use Rattle.std.specs.List.{find}
-use Rattle.std.specs.List.Sorted.{IsPartitionPoint, IsNonDecreasingBy}
-use Rattle.std.specs.Map.{keys_of}
-use Rattle.std.specs.Borrow.{Bor}
-use Rattle.std.specs.Ordering.{nat_cmp}
-use Rattle.std.specs.BTreeMap.{is_at}
-use Rattle.std.proofs.lemmas.Bool.{false_from_ne_true, leb-true, le-leb, ltb-true, ltb-false}
-use Rattle.std.proofs.Math.Seq.{drop-cons}
-use Rattle.std.proofs.lemmas.Map.Keys.{sorted_from_strictly_increasing, below_from_sorted}
-use Rattle.std.proofs.lemmas.List.{length-map, get_or-map}
-use Rattle.wi_values.specs.Address.{Area, is_within}
-use Rattle.wi_values.specs.declared.value.Value.{Value}
-use Rattle.wi_values.specs.declared.replacement.Replacement.{Replacement}
-use Rattle.wi_values.specs.Replacements.{IsInOrder, as_map, replaced}
-use Rattle.wi_values.proofs.Order.{ComeAfter, Ascends, Ascends-from_order, order-from_Ascends, at_same, at_itself, lookup_after}
-use Rattle.wi_values.proofs.Replacements.InOrder.{sorted_from_order, order_from_sorted}
-use Rattle.wi_values.proofs.Within.{within_between}
-use Rattle.wi_store.specs.Store.{is_ahead}
+use Rattle.wi_engine.proofs.Words.{◌≡◌, ℕ, zero, suc, ◌<◌, ◌≤◌, Bool, true, false, cond, List, [], ◌∷◌, drop, length, get_or, map, Option, Some, None, IfSome, refl, sym, ap, ◌∙◌, subst, arith, nat_le, nat_lt, find, IsPartitionPoint, IsNonDecreasingBy, keys_of, Bor, nat_cmp, is_at, false_from_ne_true, leb-true, le-leb, ltb-true, ltb-false, drop-cons, sorted_from_strictly_increasing, below_from_sorted, length-map, get_or-map, Area, is_within, Value, Replacement, IsInOrder, as_map, replaced, ComeAfter, Ascends, Ascends-from_order, order-from_Ascends, at_same, at_itself, lookup_after, sorted_from_order, order_from_sorted, within_between, is_ahead}
 
 -- ---- those from a place on are in order
 

@@ -1,35 +1,5 @@
 -- The cells before the first one that is occupied or replaced.
-use Rattle.std.proofs.Common.{◌≡◌, ℕ, ◌<◌, ◌≤◌, ◌+◌, Bool, true, false, cond, List, [], ◌∷◌, filter, Option, Some, None, IfSome, IfNone, refl, sym, ap, ◌∙◌, subst, arith}
-use Rattle.std.specs.Prelude.{nat_le, nat_lt, option_map}
-use Rattle.std.specs.Option.{option_copied}
-use Rattle.std.specs.Borrow.{Bor}
-use Rattle.std.specs.List.{find}
-use Rattle.std.specs.Map.{lookup, keys_of}
-use Rattle.std.specs.BTreeMap.{is_at}
-use Rattle.std.specs.Ordering.{nat_cmp}
-use Rattle.std.proofs.lemmas.Bool.{and_parts, and_from, le-leb, leb-true, ltb-true, ltb-false}
-use Rattle.std.specs.List.Sorted.{IsStrictlyIncreasing}
-use Rattle.std.proofs.lemmas.Map.Keys.{sorted_from_strictly_increasing}
-use Rattle.wi_values.specs.Address.{Area, is_within}
-use Rattle.wi_values.specs.declared.value.Value.{Value}
-use Rattle.wi_values.specs.declared.replacement.Replacement.{Replacement}
-use Rattle.wi_values.specs.Replacements.{IsInOrder, as_map, replaced}
-use Rattle.wi_values.proofs.Order.{Ascends, at_same, lookup_after, come_after_earlier, Ascends-from_order}
-use Rattle.wi_values.proofs.Replacements.InOrder.{sorted_from_order}
-use Rattle.wi_parser.specs.declared.content.Content.{Content}
-use Rattle.wi_parser.specs.Sheet.{Sheet, constant, content_of, put_all}
-use Rattle.wi_store.specs.Store.{is_ahead}
-use Rattle.wi_store.proofs.NextRoom.{find_ahead}
-use Rattle.wi_lookup.specs.Filled.{ComesBefore, is_known_empty}
-use Rattle.wi_lookup.proofs.Passing.{Passed, passed_on}
-use Rattle.wi_sheet.proofs.Last.{over}
-use Rattle.wi_sheet.proofs.Overrides.{content_in_order}
-use Rattle.wi_engine.specs.Inner.Seen.{content_seen}
-use Rattle.wi_engine.specs.Inner.Touched.{earlier}
-use Rattle.wi_engine.specs.declared.seen.Seen.{Seen}
-use Rattle.wi_engine.specs.Inner.Attempt.{cell_known, known_in}
-use Rattle.wi_engine.specs.Inner.Findings.{found_value}
-use Rattle.wi_engine.specs.declared.findings.Findings.{Findings}
+use Rattle.wi_engine.proofs.Words.{◌≡◌, ℕ, ◌<◌, ◌≤◌, ◌+◌, Bool, true, false, cond, List, [], ◌∷◌, filter, Option, Some, None, IfSome, IfNone, refl, sym, ap, ◌∙◌, subst, arith, nat_le, nat_lt, option_map, option_copied, Bor, find, lookup, keys_of, is_at, nat_cmp, and_parts, and_from, le-leb, leb-true, ltb-true, ltb-false, IsStrictlyIncreasing, sorted_from_strictly_increasing, Area, is_within, Value, Replacement, IsInOrder, as_map, replaced, Ascends, at_same, lookup_after, come_after_earlier, Ascends-from_order, sorted_from_order, Content, Sheet, constant, content_of, put_all, is_ahead, find_ahead, ComesBefore, is_known_empty, Passed, passed_on, over, content_in_order, content_seen, earlier, Seen, cell_known, known_in, found_value, Findings}
 
 pub found_passes : (p : ℕ → Bool) (xs : List ℕ) → IfSome (find p xs) (λ c. p c ≡ true)
 found_passes p [] = tt

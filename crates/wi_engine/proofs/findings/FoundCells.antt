@@ -1,13 +1,5 @@
 -- Values of cells that are found: in a list, in a run, or elsewhere.
-use Rattle.std.proofs.Common.{◌≡◌, ◌==◌, ℕ, ◌++◌, Bool, true, false, cond, List, [], ◌∷◌, Option, Some, None, refl, ap, ◌∙◌, subst}
-use Rattle.std.specs.Option.{option_or}
-use Rattle.std.specs.Ordering.{nat_cmp}
-use Rattle.std.specs.Map.{lookup}
-use Rattle.std.specs.BTreeMap.{is_at}
-use Rattle.wi_values.specs.declared.value.Value.{Value}
-use Rattle.wi_values.proofs.Order.{is_at-eq, turn_test}
-use Rattle.wi_graph.proofs.Walks.{same_cell}
-use Rattle.wi_engine.specs.Inner.Findings.{first_of}
+use Rattle.wi_engine.proofs.Words.{◌≡◌, ◌==◌, ℕ, ◌++◌, Bool, true, false, cond, List, [], ◌∷◌, Option, Some, None, refl, ap, ◌∙◌, subst, option_or, nat_cmp, lookup, is_at, Value, is_at-eq, turn_test, same_cell, first_of}
 
 -- the value of the last entry stands where none before it is of its cell
 first_of-push : (es : List (ℕ × Value)) (x : ℕ × Value) (c : ℕ) → first_of (es ++ x ∷ []) c ≡ option_or (first_of es c) (cond (x.0 == c) (Some x.1) None)

@@ -1,11 +1,5 @@
 -- What-ifs that are found.
-use Rattle.std.proofs.Common.{◌≡◌, ◌==◌, ℕ, ◌++◌, ◌&&◌, Bool, true, false, cond, List, [], ◌∷◌, Option, Some, None, refl, ap, ◌∙◌, eq-eqb}
-use Rattle.std.proofs.lemmas.Bool.{and_from, and_parts, eqb-true}
-use Rattle.std.specs.Option.{option_or}
-use Rattle.wi_values.specs.declared.value.Value.{Value}
-use Rattle.wi_sheet.proofs.Cases.{pair_path}
-use Rattle.wi_engine.specs.Inner.Findings.{same_pairs, pairs_of, first_for}
-use Rattle.wi_engine.specs.declared.findings.FoundWhatIf.{FoundWhatIf}
+use Rattle.wi_engine.proofs.Words.{◌≡◌, ◌==◌, ℕ, ◌++◌, ◌&&◌, Bool, true, false, cond, List, [], ◌∷◌, Option, Some, None, refl, ap, ◌∙◌, eq-eqb, and_from, and_parts, eqb-true, option_or, Value, pair_path, same_pairs, pairs_of, first_for, FoundWhatIf}
 
 pub same_lists : (ps qs : List (ℕ × ℕ)) → same_pairs ps qs ≡ true → ps ≡ qs
 same_lists [] [] h = refl

@@ -1,29 +1,6 @@
 -- The occupied cells of a rectangle, handed over up to the first that is replaced.
-use Rattle.std.proofs.Common.{◌≡◌, ℕ, ◌<◌, ◌≤◌, ◌+◌, Bool, true, false, ◌&&◌, cond, List, [], ◌∷◌, filter, Option, Some, None, IfSome, IfNone, refl, sym, ap, ◌∙◌, subst, arith}
-use Rattle.std.specs.List.{find}
-use Rattle.std.specs.List.Sorted.{IsStrictlyIncreasing}
-use Rattle.std.specs.Map.{keys_of}
-use Rattle.std.proofs.lemmas.Bool.{le-leb, lt-leb, and_from}
-use Rattle.std.proofs.lemmas.Map.Keys.{sorted_from_strictly_increasing}
-use Rattle.wi_values.specs.Address.{Area, is_within}
-use Rattle.wi_values.specs.declared.value.Value.{Value}
-use Rattle.wi_values.specs.declared.value.Value.TheVariants.{Empty, Number, Text, Logical, Fault}
-use Rattle.wi_values.specs.declared.replacement.Replacement.{Replacement}
-use Rattle.wi_values.specs.Replacements.{IsInOrder, as_map, replaced}
-use Rattle.wi_values.proofs.Order.{ComeAfter, Ascends, Ascends-from_order, at_itself, at_earlier}
-use Rattle.wi_parser.specs.declared.content.Content.{Content}
-use Rattle.wi_parser.specs.Sheet.{Sheet, constant, content_of, put_all}
-use Rattle.wi_store.specs.Store.{is_ahead}
-use Rattle.wi_lookup.specs.declared.lookup.LookedUp.{LookedUp}
-use Rattle.wi_lookup.specs.Assignment.{value_if_known}
-use Rattle.wi_lookup.specs.Filled.{ComesBefore, is_known_empty}
-use Rattle.wi_lookup.specs.Walk.{HasTaken, after_cells}
-use Rattle.wi_lookup.proofs.Walking.{PassesEmpty, enough, joined, moves_on, reaches, successor_to_come}
-use Rattle.wi_sheet.proofs.Last.{over}
-use Rattle.wi_sheet.proofs.Overrides.{content_in_order}
-use Rattle.wi_engine.specs.Inner.Attempt.{cell_known, known_in}
-use Rattle.wi_engine.specs.Inner.Findings.{found_value}
-use Rattle.wi_engine.specs.declared.findings.Findings.{Findings}
+use Rattle.wi_engine.proofs.Words.{◌≡◌, ℕ, ◌<◌, ◌≤◌, ◌+◌, Bool, true, false, ◌&&◌, cond, List, [], ◌∷◌, filter, Option, Some, None, IfSome, IfNone, refl, sym, ap, ◌∙◌, subst, arith, find, IsStrictlyIncreasing, keys_of, le-leb, lt-leb, and_from, sorted_from_strictly_increasing, Area, is_within, Value, Empty, Number, Text, Logical, Fault, Replacement, IsInOrder, as_map, replaced, ComeAfter, Ascends, Ascends-from_order, at_itself, at_earlier, Content, Sheet, constant, content_of, put_all, is_ahead, LookedUp, value_if_known, ComesBefore, is_known_empty, HasTaken, after_cells, PassesEmpty, enough, joined, moves_on, successor_to_come, over, content_in_order, cell_known, known_in, found_value, Findings}
+use Rattle.wi_lookup.proofs.Walking.{reaches}
 use Rattle.wi_engine.proofs.filled.FirstTouched.{ahead_means, found_passes, none_before, stands_ahead}
 
 -- the occupied cells ahead in a rectangle, with what stands there

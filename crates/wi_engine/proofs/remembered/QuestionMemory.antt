@@ -1,20 +1,5 @@
 -- What is remembered in one question.
-use Rattle.std.proofs.Common.{◌≡◌, ◌==◌, ℕ, true, is_some, List, [], ◌∷◌, ◌++◌, Some, IfSome, Result, Ok, Err, OnOk, OnErr, refl, ap, sym, ◌∙◌, subst, inl, inr, ◌⊎◌}
-use Rattle.std.proofs.lemmas.Bool.{or_cases, or_left}
-use Rattle.std.proofs.lemmas.List.Folds.{list_any-append}
-use Rattle.std.proofs.Math.Bool.{or-false}
-use Rattle.std.specs.declared.alloc.AllocError.{AllocError}
-use Rattle.wi_values.specs.declared.value.Value.{Value}
-use Rattle.wi_values.specs.declared.replacement.Replacement.{Replacement}
-use Rattle.wi_parser.specs.Sheet.{Sheet, put_all}
-use Rattle.wi_cache.specs.declared.key.Key.{Key}
-use Rattle.wi_cache.specs.Entries.{Entries, Puts, same_key, value_for}
-use Rattle.wi_graph.specs.Reach.{is_one_of}
-use Rattle.wi_graph.proofs.Walks.{same_cell}
-use Rattle.wi_sheet.specs.CellValue.{cell_value}
-use Rattle.wi_engine.specs.Inner.MemoState.{IsClosedUnderReads, IsTold, IsMemoOf}
-use Rattle.wi_sheet.specs.Inner.ReadOrder.{IsReadOrder}
-use Rattle.wi_engine.specs.Inner.Remembered.{OneQuestion, key_of, question_state, remembered}
+use Rattle.wi_engine.proofs.Words.{◌≡◌, ◌==◌, ℕ, true, is_some, List, [], ◌∷◌, ◌++◌, Some, IfSome, Result, Ok, Err, OnOk, OnErr, refl, ap, sym, ◌∙◌, subst, inl, inr, ◌⊎◌, or_cases, or_left, list_any-append, or-false, AllocError, Value, Replacement, Sheet, put_all, Key, Entries, Puts, same_key, value_for, is_one_of, same_cell, cell_value, IsClosedUnderReads, IsTold, IsMemoOf, IsReadOrder, OneQuestion, key_of, question_state, remembered}
 use Rattle.wi_engine.proofs.Places.{known_still, known_then}
 
 -- a list, cut before one of its cells

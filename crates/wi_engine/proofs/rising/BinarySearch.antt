@@ -1,16 +1,5 @@
 -- What a binary search among cells in row-major order finds, and how the order is kept.
-use Rattle.std.proofs.Common.{◌≡◌, ◌++◌, ℕ, zero, suc, ◌<◌, ◌≤◌, ◌-◌, List, [], ◌∷◌, Some, None, Result, Ok, Err, MatchResult, All, length, get_or, map, slice_get, refl, sym, ap, ◌∙◌, subst, arith}
-use Rattle.std.specs.Ordering.{nat_cmp, ordering_index}
-use Rattle.std.specs.List.Sorted.{IsSearchInRange, IsBinarySearchResult, IsNonDecreasingBy, IsStrictlySortedBy}
-use Rattle.std.specs.Map.{lookup, keys_of}
-use Rattle.std.specs.BTreeMap.{is_at}
-use Rattle.std.proofs.lemmas.Bool.Decides.{nat_tests}
-use Rattle.std.proofs.lemmas.Cmp.{ranked}
-use Rattle.std.proofs.lemmas.Map.Keys.{below_from_sorted}
-use Rattle.std.proofs.lemmas.List.{length-map, get_or-map}
-use Rattle.std.proofs.lemmas.List.Elements.{All-nil, All-cons, All-head, All-tail}
-use Rattle.wi_values.specs.declared.value.Value.{Value}
-use Rattle.wi_values.proofs.Order.{ComeAfter, Ascends, Ascends-from_order, order-from_Ascends}
+use Rattle.wi_engine.proofs.Words.{◌≡◌, ◌++◌, ℕ, zero, suc, ◌<◌, ◌≤◌, ◌-◌, List, [], ◌∷◌, Some, None, Result, Ok, Err, MatchResult, All, length, get_or, map, slice_get, refl, sym, ap, ◌∙◌, subst, arith, nat_cmp, ordering_index, IsSearchInRange, IsBinarySearchResult, IsNonDecreasingBy, IsStrictlySortedBy, lookup, keys_of, is_at, nat_tests, ranked, below_from_sorted, length-map, get_or-map, All-nil, All-cons, All-head, All-tail, Value, ComeAfter, Ascends, Ascends-from_order, order-from_Ascends}
 
 -- the keys ascend
 abbrev pub Rises : List (ℕ × Value) → Type 0

@@ -1,28 +1,5 @@
 -- The cells that are found together with one, and the course that they make.
-use Rattle.std.proofs.Common.{◌≡◌, ◌==◌, ◌-◌, ◌≤◌, ◌<◌, ◌*◌, ℕ, ◌||◌, Bool, true, false, List, [], ◌∷◌, filter, take, Some, Contains, refl, ap, sym, ◌∙◌, subst, inl, inr, ◌⊎◌, eq-eqb, arith}
-use Rattle.std.proofs.lemmas.Bool.{and_parts, or_left}
-use Rattle.std.proofs.Math.Nat.{mod-lt}
-use Rattle.std.specs.Map.{keys_of}
-use Rattle.wi_values.specs.Address.{Area, row_of, column_of, is_within}
-use Rattle.wi_values.specs.declared.replacement.Replacement.{Replacement}
-use Rattle.wi_parser.specs.Tree.{Tree}
-use Rattle.wi_parser.specs.Sheet.{Sheet, content_of, has_formula, put_all}
-use Rattle.wi_parser.specs.Reads.{rectangles_of}
-use Rattle.wi_parser.proofs.Rectangles.{one_cell}
-use Rattle.wi_graph.specs.Reach.{is_one_of}
-use Rattle.wi_graph.proofs.Walks.{same_cell}
-use Rattle.wi_sheet.specs.Demand.{reads_here}
-use Rattle.wi_sheet.specs.Inner.ReadCells.{cells_after, is_after}
-use Rattle.wi_sheet.proofs.Bounds.{put_formula}
-use Rattle.wi_sheet.proofs.Filters.{in_filter, in_first}
-use Rattle.wi_sheet.proofs.Rectangles.{IsWhole, rectangle_whole, lies, is_inside, in_corners}
-use Rattle.wi_engine.specs.Inner.Attempt.{lacks_cell, lacking_after}
-use Rattle.wi_engine.specs.Inner.Courses.{IsSmallestWith, AreTogether, IsCourseTo, is_next, part}
-use Rattle.wi_engine.specs.declared.course.Course.{Course}
-use Rattle.wi_engine.specs.declared.course.Way.{Way}
-use Rattle.wi_engine.specs.declared.course.Way.TheVariants.{Alone, Row, Column, Whole}
-use Rattle.wi_engine.specs.declared.findings.Findings.{Findings}
-use Rattle.wi_engine.specs.declared.frame.Frame.{Frame}
+use Rattle.wi_engine.proofs.Words.{◌≡◌, ◌==◌, ◌-◌, ◌≤◌, ◌<◌, ◌*◌, ℕ, ◌||◌, Bool, true, false, List, [], ◌∷◌, filter, take, Some, Contains, refl, ap, sym, ◌∙◌, subst, inl, inr, ◌⊎◌, eq-eqb, arith, and_parts, or_left, mod-lt, keys_of, Area, row_of, column_of, is_within, Replacement, Tree, Sheet, content_of, has_formula, put_all, rectangles_of, one_cell, is_one_of, same_cell, reads_here, cells_after, is_after, put_formula, in_filter, in_first, IsWhole, rectangle_whole, lies, is_inside, in_corners, lacks_cell, lacking_after, IsSmallestWith, AreTogether, IsCourseTo, is_next, part, Course, Way, Alone, Row, Column, Whole, Findings, Frame}
 
 -- ---- the parts of a rectangle through which ways lead lie in it
 

@@ -1,13 +1,5 @@
 -- The smallest of those in a list that pass a test.
-use Rattle.std.proofs.Common.{◌≡◌, ◌≤◌, ◌||◌, ◌⊎◌, inl, inr, ℕ, Bool, true, false, List, [], ◌∷◌, drop, length, Option, Some, None, IfSome, refl, ap, sym, ◌∙◌, subst, arith, true≢false, if◌then◌else◌}
-use Rattle.std.specs.Prelude.{nat_lt}
-use Rattle.std.specs.List.{list_any}
-use Rattle.std.proofs.Math.ListN.{drop_of_length-le}
-use Rattle.std.proofs.lemmas.Bool.{ltb-true, ltb-false}
-use Rattle.std.proofs.lemmas.Option.{IfSome_then}
-use Rattle.wi_values.specs.Address.{Area, is_within, size_of}
-use Rattle.wi_sheet.proofs.Members.{IsIn, in_contained, contains_in}
-use Rattle.wi_engine.specs.Inner.Courses.{IsSmallestWith}
+use Rattle.wi_engine.proofs.Words.{◌≡◌, ◌≤◌, ◌||◌, ◌⊎◌, inl, inr, ℕ, Bool, true, false, List, [], ◌∷◌, drop, length, Option, Some, None, IfSome, refl, ap, sym, ◌∙◌, subst, arith, true≢false, if◌then◌else◌, nat_lt, list_any, drop_of_length-le, ltb-true, ltb-false, IfSome_then, Area, is_within, size_of, IsIn, in_contained, contains_in, IsSmallestWith}
 
 -- the smaller of what is kept and another, the kept one where they are equal
 abbrev lesser : (Area → ℕ) → Option Area → Area → Area

@@ -1,12 +1,5 @@
 -- What a visit is still to look at.
-use Rattle.std.proofs.Common.{◌≡◌, ℕ, suc, ◌+◌, ◌<◌, List, [], ◌∷◌, ◌++◌, length, get_or, drop, Option, Some, None, refl, sym, ap, ◌∙◌, arith, append_assoc, append-nil}
-use Rattle.std.proofs.Math.Seq.{drop-cons}
-use Rattle.wi_values.specs.Address.{Area}
-use Rattle.wi_parser.specs.Sheet.{Sheet, content_of}
-use Rattle.wi_sheet.specs.Inner.ReadCells.{rectangles_in, occupied_within, cells_after}
-use Rattle.wi_engine.specs.Inner.Walk.{Task, Enter, Leave, cells_ahead, unread, begun, enters, tasks_at, tasks_in}
-use Rattle.wi_engine.specs.declared.walk.Visit.{Visit}
-use Rattle.wi_sheet.proofs.NextCells.{all_after}
+use Rattle.wi_engine.proofs.Words.{◌≡◌, ℕ, suc, ◌+◌, ◌<◌, List, [], ◌∷◌, ◌++◌, length, get_or, drop, Option, Some, None, refl, sym, ap, ◌∙◌, arith, append_assoc, append-nil, drop-cons, Area, Sheet, content_of, rectangles_in, occupied_within, cells_after, Task, Enter, Leave, cells_ahead, unread, begun, enters, tasks_at, tasks_in, Visit, all_after}
 
 -- ---- rectangles
 

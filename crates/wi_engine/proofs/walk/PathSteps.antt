@@ -1,15 +1,5 @@
 -- Steps of a walk, as its path takes them.
-use Rattle.std.proofs.Common.{◌≡◌, ◌<◌, ℕ, suc, get_or, drop, drop-cons, true, false, cond, List, [], ◌∷◌, ◌++◌, length, Some, None, sym, ap, ◌∙◌, subst, append_assoc, append-nil, arith}
-use Rattle.std.specs.List.{list_any}
-use Rattle.std.specs.Ordering.{nat_cmp}
-use Rattle.std.specs.BTreeMap.{BTreeMap, get, is_at, Updates}
-use Rattle.wi_parser.specs.Sheet.{Sheet, content_of, has_formula}
-use Rattle.wi_graph.specs.Circular.{circular}
-use Rattle.wi_sheet.specs.Inner.ReadCells.{rectangles_in, occupied_within}
-use Rattle.wi_engine.specs.Inner.Walk.{tasks_in, Task, Enter, Leave, enters, IsWalk, GoesOn, HasCycle}
-use Rattle.wi_engine.specs.declared.walk.Visit.{Visit}
-use Rattle.wi_engine.specs.declared.walk.Progress.{Progress}
-use Rattle.wi_engine.specs.declared.walk.Progress.TheVariants.{Open, Done}
+use Rattle.wi_engine.proofs.Words.{◌≡◌, ◌<◌, ℕ, suc, get_or, drop, drop-cons, true, false, cond, List, [], ◌∷◌, ◌++◌, length, Some, None, sym, ap, ◌∙◌, subst, append_assoc, append-nil, arith, list_any, nat_cmp, BTreeMap, get, is_at, Updates, Sheet, content_of, has_formula, circular, rectangles_in, occupied_within, tasks_in, Task, Enter, Leave, enters, IsWalk, GoesOn, HasCycle, Visit, Progress, Open, Done}
 use Rattle.wi_engine.proofs.walk.WalkSteps.{walk-cycle, walk-passed, walk-left, walk-taken, done_ordered}
 
 grouped : (s : Sheet) (roots : List ℕ) (front ts : List Task) (t : Task) (progress : BTreeMap ℕ Progress) (order : List ℕ) → IsWalk s roots (front ++ (ts ++ t ∷ [])) progress order → IsWalk s roots (front ++ ts ++ t ∷ []) progress order

@@ -1,17 +1,5 @@
 -- How many tasks of a walk are left.
-use Rattle.std.proofs.Common.{◌≡◌, ◌==◌, ℕ, ◌+◌, ◌≤◌, ◌<◌, Bool, true, false, cond, List, [], ◌∷◌, ◌++◌, length, length-append, Option, Some, None, is_some, refl, ap, arith, inl, inr, ◌⊎◌, sum_by, if◌then◌else◌}
-use Rattle.std.proofs.lemmas.Bool.{or_cases}
-use Rattle.std.proofs.lemmas.Bool.Decides.{nat_tests}
-use Rattle.std.proofs.lemmas.List.Sums.{sum_by-cons, sum_by-le-sum_by}
-use Rattle.std.specs.Ordering.{nat_cmp}
-use Rattle.std.specs.BTreeMap.{BTreeMap, get, is_at, Updates}
-use Rattle.wi_parser.specs.Sheet.{Sheet, content_of, has_formula, cells_with_formula}
-use Rattle.wi_graph.specs.Reach.{is_one_of}
-use Rattle.wi_graph.proofs.Walks.{same_cell, formula_cell}
-use Rattle.wi_engine.specs.Inner.Walk.{Task, Enter, Leave, enters, tasks_of, tasks_left}
-use Rattle.wi_sheet.specs.Inner.ReadCells.{rectangles_in, occupied_within}
-use Rattle.wi_engine.specs.declared.walk.Progress.TheVariants.{Open}
-use Rattle.wi_engine.specs.declared.walk.Progress.{Progress}
+use Rattle.wi_engine.proofs.Words.{◌≡◌, ◌==◌, ℕ, ◌+◌, ◌≤◌, ◌<◌, Bool, true, false, cond, List, [], ◌∷◌, ◌++◌, length, length-append, Option, Some, None, is_some, refl, ap, arith, inl, inr, ◌⊎◌, sum_by, if◌then◌else◌, or_cases, nat_tests, sum_by-cons, sum_by-le-sum_by, nat_cmp, BTreeMap, get, is_at, Updates, Sheet, content_of, has_formula, cells_with_formula, is_one_of, same_cell, formula_cell, Task, Enter, Leave, enters, tasks_of, tasks_left, rectangles_in, occupied_within, Open, Progress}
 
 -- one of them that comes to nothing
 sums_less : (f g : ℕ → ℕ) → ((x : ℕ) → g x ≤ f x) → (a : ℕ) → g a ≡ 0 → (xs : List ℕ) → is_one_of xs a ≡ true → sum_by g xs + f a ≤ sum_by f xs

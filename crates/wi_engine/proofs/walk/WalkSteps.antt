@@ -1,28 +1,5 @@
 -- Steps of a walk along references.
-use Rattle.std.proofs.Common.{◌≡◌, ◌==◌, ℕ, Bool, true, false, ◌||◌, cond, List, [], ◌∷◌, ◌++◌, length, Option, Some, None, refl, ap, sym, ◌∙◌, subst, append_assoc, append-nil, arith, inl, inr, ◌⊎◌, eq-eqb, true≢false, if◌then◌else◌}
-use Rattle.std.proofs.lemmas.Bool.{or_cases, or_left, or_right, or_parts, false_from_ne_true}
-use Rattle.std.proofs.lemmas.List.Folds.{list_any-append}
-use Rattle.std.proofs.Math.Bool.{or-false}
-use Rattle.std.specs.List.{list_any}
-use Rattle.std.specs.Ordering.{nat_cmp}
-use Rattle.std.specs.BTreeMap.{BTreeMap, get, is_at, Updates, IsEmpty}
-use Rattle.wi_parser.specs.Sheet.{Sheet, content_of, has_formula}
-use Rattle.wi_parser.specs.Reads.{content_reads}
-use Rattle.wi_graph.specs.Circular.{circular}
-use Rattle.wi_graph.specs.Reach.{is_one_of, Reaches, reaches}
-use Rattle.wi_graph.proofs.Walks.{same_cell, found}
-use Rattle.wi_graph.proofs.Ends.{ends_open}
-use Rattle.wi_graph.proofs.Graphs.{left_circular}
-use Rattle.wi_graph.proofs.ReachTest.{finds_in, reaches_true, true_reaches}
-use Rattle.wi_graph.proofs.ReachSteps.{reaches_here, reaches_read, reaches_on, reaches_by_step}
-use Rattle.wi_values.proofs.Order.{turn_test, is_at-eq}
-use Rattle.wi_sheet.specs.Inner.ReadCells.{rectangles_in, occupied_within}
-use Rattle.wi_sheet.specs.Inner.ReadOrder.{MayFollow}
-use Rattle.wi_engine.specs.Inner.Walk.{Task, Enter, Leave, enters, task_cell, leaves, has_task, has_leave, LeadsTo, IsOpen, EachLeave, progress_of, IsWalk, IsBelow}
-use Rattle.wi_engine.specs.declared.walk.Progress.{Progress}
-use Rattle.wi_engine.specs.declared.walk.Progress.TheVariants.{Open, Done}
-use Rattle.wi_sheet.proofs.ReadLists.{occupied_read, read_occupied}
-use Rattle.wi_sheet.proofs.ReadOrders.{order-push, order_clear, no_order}
+use Rattle.wi_engine.proofs.Words.{◌≡◌, ◌==◌, ℕ, Bool, true, false, ◌||◌, cond, List, [], ◌∷◌, ◌++◌, length, Option, Some, None, refl, ap, sym, ◌∙◌, subst, append_assoc, append-nil, arith, inl, inr, ◌⊎◌, eq-eqb, true≢false, if◌then◌else◌, or_cases, or_left, or_right, or_parts, false_from_ne_true, list_any-append, or-false, list_any, nat_cmp, BTreeMap, get, is_at, Updates, IsEmpty, Sheet, content_of, has_formula, content_reads, circular, is_one_of, Reaches, reaches, same_cell, found, ends_open, left_circular, finds_in, reaches_true, true_reaches, reaches_here, reaches_read, reaches_on, reaches_by_step, turn_test, is_at-eq, rectangles_in, occupied_within, MayFollow, Task, Enter, Leave, enters, task_cell, leaves, has_task, has_leave, LeadsTo, IsOpen, EachLeave, progress_of, IsWalk, IsBelow, Progress, Open, Done, occupied_read, read_occupied, order-push, order_clear, no_order}
 
 -- ---- tasks one after another
 

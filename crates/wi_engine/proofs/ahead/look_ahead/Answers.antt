@@ -1,7 +1,4 @@
-use Rattle.std.proofs.Common.{refl, ap, sym, subst, arith}
-use Rattle.wi_parser.specs.Sheet.{Sheet, has_formula}
-use Rattle.wi_sheet.proofs.Bounds.{put_formula}
-use Rattle.wi_engine.specs.Inner.Frames.{MayBeRead}
+use Rattle.wi_engine.proofs.Words.{refl, ap, sym, subst, arith, Sheet, has_formula, put_formula, MayBeRead}
 use Rattle.wi_engine.proofs.engine.Waits.{asks_at, read_at, awaits_alone}
 use Rattle.wi_engine.proofs.engine.NextValues.{may_read_here, next_here}
 use Rattle.wi_engine.proofs.engine.Steps.{steps_none, steps_err, steps_less, steps_wait, steps_cell}

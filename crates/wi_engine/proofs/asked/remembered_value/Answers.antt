@@ -1,6 +1,4 @@
-use Rattle.std.proofs.Common.{refl, ap, ◌∙◌}
-use Rattle.wi_parser.specs.Sheet.{has_formula}
-use Rattle.wi_sheet.proofs.Bounds.{put_formula}
+use Rattle.wi_engine.proofs.Words.{refl, ap, ◌∙◌, has_formula, put_formula}
 use Rattle.wi_engine.proofs.engine.NextCases.{known_value, unvalued, stands_below}
 use Rattle.wi_engine.proofs.engine.RunsWithRoom.{found_easy}
 use Rattle.wi_engine.proofs.asked.remembered_value.Goals as goal

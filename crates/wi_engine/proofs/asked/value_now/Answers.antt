@@ -1,8 +1,4 @@
-use Rattle.std.proofs.Common.{None, Some, inl, refl, ap, sym, ◌∙◌}
-use Rattle.wi_parser.specs.declared.content.Content.TheVariants.{Constant}
-use Rattle.wi_parser.specs.Sheet.{has_formula, put_all}
-use Rattle.wi_sheet.proofs.Puts.{plain}
-use Rattle.wi_sheet.proofs.PlainCells.{plain_cell, put_cell}
+use Rattle.wi_engine.proofs.Words.{None, Some, inl, refl, ap, sym, ◌∙◌, Constant, has_formula, put_all, plain, plain_cell, put_cell}
 use Rattle.wi_engine.proofs.asked.value_now.Goals as goal
 
 pub returns-in-Some-clause-asked : goal.returns-in-Some-clause-asked

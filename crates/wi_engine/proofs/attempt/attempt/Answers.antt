@@ -1,12 +1,4 @@
-use Rattle.std.proofs.Common.{List, ap, ◌∙◌}
-use Rattle.std.proofs.lemmas.Result.{IfOk-weaker}
-use Rattle.wi_values.specs.declared.replacement.Replacement.{Replacement}
-use Rattle.wi_parser.specs.Sheet.{Sheet}
-use Rattle.wi_store.specs.Store.{Stored}
-use Rattle.wi_engine.specs.Inner.Attempt.{cell_known}
-use Rattle.wi_engine.specs.Inner.Findings.{what_if_found}
-use Rattle.wi_engine.specs.declared.findings.Findings.{Findings}
-use Rattle.wi_engine.specs.declared.lookup.Known.{Known}
+use Rattle.wi_engine.proofs.Words.{List, ap, ◌∙◌, IfOk-weaker, Replacement, Sheet, Stored, cell_known, what_if_found, Findings, Known}
 use Rattle.wi_engine.proofs.attempt.KnownValues.{attempted}
 use Rattle.wi_engine.proofs.attempt.attempt.Goals as goal
 

@@ -1,5 +1,4 @@
-use Rattle.std.proofs.Common.{◌≡◌, ◌∙◌, subst, take, arith}
-use Rattle.std.proofs.lemmas.Grind.{common_steps}
+use Rattle.wi_engine.proofs.Words.{◌≡◌, ◌∙◌, subst, take, arith, common_steps}
 use Rattle.wi_engine.proofs.cone.ConeSteps.{HaveCones, have_more}
 use Rattle.wi_engine.proofs.cone.add_cones.Goals as goal
 

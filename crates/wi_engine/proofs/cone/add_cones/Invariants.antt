@@ -1,7 +1,4 @@
-use Rattle.std.proofs.Common.{All, IsSome, take}
-use Rattle.std.specs.Ordering.{nat_cmp}
-use Rattle.std.specs.BTreeMap.{get}
-use Rattle.wi_engine.specs.Inner.Remembered.{AreCones}
+use Rattle.wi_engine.proofs.Words.{All, IsSome, take, nat_cmp, get, AreCones}
 use Rattle.wi_engine.proofs.cone.add_cones.Given as goal
 
 abbrev pub invariant-loop-replacement : goal.invariant-loop-replacement

@@ -1,6 +1,4 @@
-use Rattle.std.proofs.Common.{◌∙◌, sym}
-use Rattle.std.specs.Ordering.{nat_cmp}
-use Rattle.std.specs.BTreeSet.{contains}
+use Rattle.wi_engine.proofs.Words.{◌∙◌, sym, nat_cmp, contains}
 use Rattle.wi_engine.proofs.cone.ConeSteps.{step_reaches, cone_more, cone_same}
 use Rattle.wi_engine.proofs.cone.cone.Goals.{then-steps_into+in_ok-insert, else-steps_into}
 use Rattle.wi_engine.proofs.cone.cone.Goals as goal

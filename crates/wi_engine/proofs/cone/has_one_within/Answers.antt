@@ -1,8 +1,4 @@
-use Rattle.std.proofs.Common.{ap}
-use Rattle.std.specs.List.{list_any}
-use Rattle.std.specs.Ordering.{nat_cmp}
-use Rattle.std.specs.BTreeSet.{contains}
-use Rattle.wi_sheet.proofs.NextCells.{next_is_first}
+use Rattle.wi_engine.proofs.Words.{ap, list_any, nat_cmp, contains, next_is_first}
 use Rattle.wi_engine.proofs.cone.has_one_within.Goals as goal
 
 pub loop-ahead-init : goal.loop-ahead-init

@@ -1,10 +1,4 @@
-use Rattle.std.proofs.Common.{◌≡◌, filter, length}
-use Rattle.std.specs.List.{list_any}
-use Rattle.std.specs.Map.{keys_of}
-use Rattle.std.specs.Ordering.{nat_cmp}
-use Rattle.std.specs.BTreeSet.{contains}
-use Rattle.wi_values.specs.Address.{is_within}
-use Rattle.wi_sheet.proofs.NextCells.{from_next}
+use Rattle.wi_engine.proofs.Words.{◌≡◌, filter, length, list_any, keys_of, nat_cmp, contains, is_within, from_next}
 use Rattle.wi_engine.proofs.cone.has_one_within.Given as goal
 
 abbrev pub invariant-loop-ahead : goal.invariant-loop-ahead

@@ -1,13 +1,4 @@
-use Rattle.std.proofs.Common.{◌==◌, ◌||◌, List, ap, sym, ◌∙◌}
-use Rattle.std.proofs.lemmas.Bool.{or_left, or_right}
-use Rattle.std.specs.List.{list_any}
-use Rattle.std.specs.Ordering.{nat_cmp}
-use Rattle.std.specs.BTreeSet.{contains}
-use Rattle.wi_values.specs.Address.{Area, is_within}
-use Rattle.wi_parser.specs.Sheet.{content_of}
-use Rattle.wi_parser.specs.Reads.{content_reads}
-use Rattle.wi_sheet.specs.Inner.ReadCells.{occupied_within, rectangles_in}
-use Rattle.wi_sheet.proofs.NextCells.{any_within}
+use Rattle.wi_engine.proofs.Words.{◌==◌, ◌||◌, List, ap, sym, ◌∙◌, or_left, or_right, list_any, nat_cmp, contains, Area, is_within, content_of, content_reads, occupied_within, rectangles_in, any_within}
 use Rattle.wi_engine.proofs.cone.ConeSteps.{reads_rectangles, only_last}
 use Rattle.wi_engine.proofs.cone.steps_into.Goals as goal
 

@@ -1,12 +1,4 @@
-use Rattle.std.proofs.Common.{◌-◌, Ok, ap, refl, sym, subst, arith, ◌∙◌}
-use Rattle.wi_parser.specs.Sheet.{put_all}
-use Rattle.wi_functions.specs.Counts.{Counts, one_more}
-use Rattle.wi_cache.specs.declared.key.Key.{Key}
-use Rattle.wi_sheet.specs.CellValue.{cell_value}
-use Rattle.wi_sheet.proofs.CaseCosts.{never_fall-same, never_fall-then}
-use Rattle.wi_engine.specs.Inner.MemoState.{MemoState, IsMemoOf}
-use Rattle.wi_engine.specs.Inner.Frames.{IsFrame, IsNextFormula}
-use Rattle.wi_engine.specs.Inner.Steps.{IsFrameValue}
+use Rattle.wi_engine.proofs.Words.{◌-◌, Ok, ap, refl, sym, subst, arith, ◌∙◌, put_all, Counts, one_more, Key, cell_value, never_fall-same, never_fall-then, MemoState, IsMemoOf, IsFrame, IsNextFormula, IsFrameValue}
 use Rattle.wi_engine.proofs.engine.NextValues.{one_more_at_most}
 use Rattle.wi_engine.proofs.engine.SettledFindings.{done_settled}
 use Rattle.wi_engine.proofs.engine.Steps.{steps_err, steps_then, steps_less, steps_wait, counts_none, counts_want, counts_done, counts_then}

@@ -1,7 +1,4 @@
-use Rattle.std.proofs.Common.{◌≡◌, ◌-◌, true}
-use Rattle.wi_sheet.specs.Inner.Spending.{NeverFall}
-use Rattle.wi_engine.specs.Inner.Frames.{spare}
-use Rattle.wi_engine.specs.Inner.Steps.{FrameSteps}
+use Rattle.wi_engine.proofs.Words.{◌≡◌, ◌-◌, true, NeverFall, spare, FrameSteps}
 use Rattle.wi_engine.proofs.engine.advance.Given as goal
 
 abbrev pub invariant-rounds : goal.invariant-rounds

@@ -1,5 +1,4 @@
-use Rattle.std.proofs.Common.{arith}
-use Rattle.std.proofs.lemmas.Grind.{common_steps}
+use Rattle.wi_engine.proofs.Words.{arith, common_steps}
 use Rattle.wi_engine.proofs.engine.next_lacking.Goals as goal
 
 pub loop-at-preserved : goal.loop-at-preserved

@@ -1,7 +1,4 @@
-use Rattle.std.proofs.Common.{◌≡◌, ℕ, true}
-use Rattle.wi_graph.specs.Reach.{is_one_of}
-use Rattle.wi_engine.specs.Inner.Frames.{AreReadHere, case_at}
-use Rattle.wi_engine.specs.Inner.Attempt.{lacks_cell}
+use Rattle.wi_engine.proofs.Words.{◌≡◌, ℕ, true, is_one_of, AreReadHere, case_at, lacks_cell}
 use Rattle.wi_engine.proofs.engine.next_lacking.Given as goal
 
 abbrev pub invariant-loop-at : goal.invariant-loop-at

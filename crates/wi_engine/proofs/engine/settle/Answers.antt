@@ -1,4 +1,4 @@
-use Rattle.std.proofs.Common.{refl, rules}
+use Rattle.wi_engine.proofs.Words.{refl, rules}
 use Rattle.wi_engine.proofs.engine.Steps.{steps_emptied, steps_replaced}
 use Rattle.wi_engine.proofs.engine.settle.Goals as goal
 

@@ -1,6 +1,4 @@
-use Rattle.std.proofs.Common.{inl, refl, sym, subst, ◌∙◌, arith}
-use Rattle.wi_engine.specs.Inner.MemoState.{MemoState, IsMemoOf}
-use Rattle.wi_engine.specs.Inner.Frames.{case_at}
+use Rattle.wi_engine.proofs.Words.{inl, refl, sym, subst, ◌∙◌, arith, MemoState, IsMemoOf, case_at}
 use Rattle.wi_engine.proofs.engine.NextValues.{may_read_here, next_here, awaits_next, lacks_less, lacked_next}
 use Rattle.wi_engine.proofs.engine.Steps.{steps_none, steps_err, steps_less, steps_wait, steps_cell}
 use Rattle.wi_engine.proofs.engine.settle_cells.Goals as goal

@@ -1,8 +1,4 @@
-use Rattle.std.proofs.Common.{◌≡◌, ℕ, true, ◌⊎◌}
-use Rattle.wi_graph.specs.Reach.{is_one_of}
-use Rattle.wi_engine.specs.Inner.Attempt.{lacks_cell}
-use Rattle.wi_engine.specs.Inner.Frames.{Awaits, case_at, lacks}
-use Rattle.wi_engine.specs.Inner.Steps.{FrameSteps}
+use Rattle.wi_engine.proofs.Words.{◌≡◌, ℕ, true, ◌⊎◌, is_one_of, lacks_cell, Awaits, case_at, lacks, FrameSteps}
 use Rattle.wi_engine.specs.declared.frame.Waiting.TheVariants as states
 use Rattle.wi_engine.proofs.engine.settle_cells.Given as goal
 

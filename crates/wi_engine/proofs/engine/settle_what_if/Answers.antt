@@ -1,6 +1,4 @@
-use Rattle.std.proofs.Common.{refl, sym, subst, ◌∙◌}
-use Rattle.wi_engine.specs.Inner.MemoState.{MemoState, IsMemoOf}
-use Rattle.wi_engine.specs.declared.findings.FoundWhatIf.{FoundWhatIf}
+use Rattle.wi_engine.proofs.Words.{refl, sym, subst, ◌∙◌, MemoState, IsMemoOf, FoundWhatIf}
 use Rattle.wi_engine.proofs.engine.NextValues.{may_read_what_if, may_read_inputs, next_input, next_inner}
 use Rattle.wi_engine.proofs.engine.Steps.{steps_none, steps_err, steps_wait, steps_what_if}
 use Rattle.wi_engine.proofs.engine.settle_what_if.Goals as goal

@@ -1,4 +1,4 @@
-use Rattle.std.proofs.Common.{◌∙◌, refl, rules, sym}
+use Rattle.wi_engine.proofs.Words.{◌∙◌, refl, rules, sym}
 use Rattle.wi_engine.proofs.engine.TakenValues.{takes_none, takes_err, takes_value}
 use Rattle.wi_engine.proofs.engine.take_in.Goals as goal
 

@@ -1,5 +1,4 @@
-use Rattle.std.proofs.Common.{refl}
-use Rattle.wi_sheet.proofs.Bounds.{put_formula}
+use Rattle.wi_engine.proofs.Words.{refl, put_formula}
 use Rattle.wi_engine.proofs.engine.Waits.{cell_here, awaits_cells, waits_err}
 use Rattle.wi_engine.proofs.engine.wait_for.Goals as goal
 

@@ -1,15 +1,6 @@
-use Rattle.std.proofs.Common.{◌≡◌, All, List, map, take, take_all, ap, subst, ◌∙◌, arith, rules}
-use Rattle.std.proofs.lemmas.List.Elements.{All-more}
-use Rattle.wi_parser.specs.declared.expr.Pair.{Pair}
-use Rattle.wi_parser.specs.View.{pair_of}
-use Rattle.wi_parser.specs.Sheet.{put_all}
-use Rattle.wi_lookup.specs.Assignment.{addresses}
-use Rattle.wi_sheet.specs.CellValue.{replacements, cell_value}
-use Rattle.wi_sheet.proofs.Overrides.{replaced_world}
+use Rattle.wi_engine.proofs.Words.{◌≡◌, All, List, map, take, take_all, ap, subst, ◌∙◌, arith, rules, All-more, Pair, pair_of, put_all, addresses, replacements, cell_value, replaced_world, IsSettled, one_more_input}
 use Rattle.wi_engine.proofs.engine.Waits.{input_unvalued}
-use Rattle.wi_sheet.specs.Settled.{IsSettled}
 use Rattle.wi_engine.proofs.engine.SettledFindings.{settled_now}
-use Rattle.wi_sheet.proofs.Inputs.{one_more_input}
 use Rattle.wi_engine.proofs.engine.world_of_what_if.Goals as goal
 
 pub loop-pair-preserved : goal.loop-pair-preserved

@@ -1,10 +1,4 @@
-use Rattle.std.proofs.Common.{◌≡◌, All, map, take}
-use Rattle.wi_parser.specs.View.{pair_of}
-use Rattle.wi_parser.specs.Sheet.{put_all}
-use Rattle.wi_lookup.specs.Assignment.{addresses}
-use Rattle.wi_sheet.specs.CellValue.{replacements, cell_value}
-use Rattle.wi_sheet.specs.Settled.{IsSettled}
-use Rattle.wi_engine.specs.Inner.Saving.{KeepsFound}
+use Rattle.wi_engine.proofs.Words.{◌≡◌, All, map, take, pair_of, put_all, addresses, replacements, cell_value, IsSettled, KeepsFound}
 use Rattle.wi_engine.proofs.engine.world_of_what_if.Given as goal
 
 abbrev pub invariant-loop-pair : goal.invariant-loop-pair

@@ -1,5 +1,4 @@
-use Rattle.std.proofs.Common.{◌<◌, ◌∙◌, sym, arith}
-use Rattle.std.proofs.lemmas.Bool.Decides.{nat_tests}
+use Rattle.wi_engine.proofs.Words.{◌<◌, ◌∙◌, sym, arith, nat_tests}
 use Rattle.wi_engine.proofs.filled.FirstReplaced.{past_the_last, stands_at}
 use Rattle.wi_engine.proofs.filled.first_within.Goals as goal
 

@@ -1,12 +1,4 @@
-use Rattle.std.proofs.Common.{◌≡◌, ◌∙◌, List, Some, IfSome, ap, sym, subst, rules}
-use Rattle.std.specs.Prelude.{nat_lt}
-use Rattle.std.specs.List.{find}
-use Rattle.std.specs.Map.{keys_of}
-use Rattle.std.proofs.lemmas.List.{take_rest}
-use Rattle.std.proofs.lemmas.List.Sorted.{IsPartitionPoint-from_clause, IsPartitionedBy-ltb}
-use Rattle.wi_values.specs.Address.{is_within}
-use Rattle.wi_values.specs.declared.replacement.Replacement.{Replacement}
-use Rattle.wi_values.specs.Replacements.{IsInOrder, as_map, replaced}
+use Rattle.wi_engine.proofs.Words.{◌≡◌, ◌∙◌, List, Some, IfSome, ap, sym, subst, rules, nat_lt, find, keys_of, take_rest, IsPartitionPoint-from_clause, IsPartitionedBy-ltb, is_within, Replacement, IsInOrder, as_map, replaced}
 use Rattle.wi_engine.proofs.filled.FirstReplaced.{addresses_rise, drop_in_order, from_point, of_all}
 use Rattle.wi_engine.proofs.filled.next_replaced.Goals as goal
 

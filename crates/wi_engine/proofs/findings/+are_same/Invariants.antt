@@ -1,4 +1,4 @@
-use Rattle.std.proofs.Common.{length}
+use Rattle.wi_engine.proofs.Words.{length}
 use Rattle.wi_engine.proofs.findings.+are_same.Given as goal
 
 abbrev pub decreases-are_same : goal.decreases-are_same

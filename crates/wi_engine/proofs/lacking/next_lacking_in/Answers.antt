@@ -1,6 +1,4 @@
-use Rattle.std.proofs.Common.{◌∙◌, sym}
-use Rattle.wi_engine.specs.Inner.Attempt.{lacks_cell}
-use Rattle.wi_sheet.proofs.NextCells.{first_passing, passes_here, passes_beyond, none_left}
+use Rattle.wi_engine.proofs.Words.{◌∙◌, sym, lacks_cell, first_passing, passes_here, passes_beyond, none_left}
 use Rattle.wi_engine.proofs.lacking.next_lacking_in.Goals as goal
 
 pub loop-ahead-init : goal.loop-ahead-init

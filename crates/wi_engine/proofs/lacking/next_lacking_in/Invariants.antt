@@ -1,6 +1,4 @@
-use Rattle.std.proofs.Common.{◌≡◌, length}
-use Rattle.wi_engine.specs.Inner.Attempt.{lacks_cell, lacking_after}
-use Rattle.wi_sheet.proofs.NextCells.{from_next, passing_from}
+use Rattle.wi_engine.proofs.Words.{◌≡◌, length, lacks_cell, lacking_after, from_next, passing_from}
 use Rattle.wi_engine.proofs.lacking.next_lacking_in.Given as goal
 
 abbrev pub invariant-loop-ahead : goal.invariant-loop-ahead

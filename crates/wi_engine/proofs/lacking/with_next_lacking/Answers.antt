@@ -1,6 +1,4 @@
-use Rattle.std.proofs.Common.{◌∷◌, ◌-◌, take, rules}
-use Rattle.wi_engine.specs.Inner.Attempt.{lacks_cell, lacking_after}
-use Rattle.wi_sheet.proofs.NextCells.{listed_first, listed_on, listed_all, listed_enough}
+use Rattle.wi_engine.proofs.Words.{◌∷◌, ◌-◌, take, rules, lacks_cell, lacking_after, listed_first, listed_on, listed_all, listed_enough}
 use Rattle.wi_engine.proofs.lacking.with_next_lacking.Goals as goal
 
 pub loop-init : goal.loop-init

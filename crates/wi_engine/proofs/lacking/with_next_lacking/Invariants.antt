@@ -1,5 +1,4 @@
-use Rattle.std.proofs.Common.{◌≡◌, ◌∷◌, ◌++◌, ◌-◌, take}
-use Rattle.wi_engine.specs.Inner.Attempt.{lacking_after}
+use Rattle.wi_engine.proofs.Words.{◌≡◌, ◌∷◌, ◌++◌, ◌-◌, take, lacking_after}
 use Rattle.wi_engine.proofs.lacking.with_next_lacking.Given as goal
 
 -- what is listed, and what is still to be listed

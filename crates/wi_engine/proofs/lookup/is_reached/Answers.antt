@@ -1,4 +1,4 @@
-use Rattle.std.proofs.Common.{rules}
+use Rattle.wi_engine.proofs.Words.{rules}
 use Rattle.wi_engine.proofs.lookup.is_reached.Goals as goal
 
 pub returns-in-Some-clause-before : goal.returns-in-Some-clause-before

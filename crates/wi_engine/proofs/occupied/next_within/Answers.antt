@@ -1,4 +1,4 @@
-use Rattle.wi_sheet.proofs.NextCells.{next_if_some, next_if_none, none_after}
+use Rattle.wi_engine.proofs.Words.{next_if_some, next_if_none, none_after}
 use Rattle.wi_engine.proofs.occupied.next_within.Goals as goal
 
 pub returns-in_err-from-clause-none : goal.returns-in_err-from-clause-none

@@ -1,4 +1,4 @@
-use Rattle.std.proofs.Common.{sym, ◌∙◌}
+use Rattle.wi_engine.proofs.Words.{sym, ◌∙◌}
 use Rattle.wi_engine.proofs.seen.content_in.Goals as goal
 
 pub returns-in-Some : goal.returns-in-Some

@@ -1,4 +1,4 @@
-use Rattle.wi_sheet.proofs.PutOrders.{put_there, left_there}
+use Rattle.wi_engine.proofs.Words.{put_there, left_there}
 use Rattle.wi_engine.proofs.seen.replaced.Goals as goal
 
 pub returns-clause-some : goal.returns-clause-some

@@ -1,6 +1,4 @@
-use Rattle.std.proofs.Common.{◌∙◌, arith}
-use Rattle.std.proofs.lemmas.Grind.{common_steps}
-use Rattle.wi_values.specs.Address.{Area, is_within, size_of}
+use Rattle.wi_engine.proofs.Words.{◌∙◌, arith, common_steps, Area, is_within, size_of}
 use Rattle.wi_engine.proofs.together.Smallest.{smallest, some_least, after_all}
 use Rattle.wi_engine.proofs.together.smallest_with.Goals as goal
 

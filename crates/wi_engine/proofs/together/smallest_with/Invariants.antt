@@ -1,5 +1,4 @@
-use Rattle.std.proofs.Common.{◌≡◌, drop, None}
-use Rattle.wi_values.specs.Address.{Area, is_within, size_of}
+use Rattle.wi_engine.proofs.Words.{◌≡◌, drop, None, Area, is_within, size_of}
 use Rattle.wi_engine.proofs.together.Smallest.{least_from}
 use Rattle.wi_engine.proofs.together.smallest_with.Given as goal
 

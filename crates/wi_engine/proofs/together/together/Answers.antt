@@ -1,5 +1,4 @@
-use Rattle.std.proofs.Common.{refl}
-use Rattle.wi_sheet.proofs.Rectangles.{in_one_of}
+use Rattle.wi_engine.proofs.Words.{refl, in_one_of}
 use Rattle.wi_engine.proofs.together.Courses.{among_them, they_are_read, of_rectangle}
 use Rattle.wi_engine.proofs.together.together.Goals as goal
 

@@ -1,4 +1,4 @@
-use Rattle.std.proofs.Common.{rules}
+use Rattle.wi_engine.proofs.Words.{rules}
 use Rattle.wi_engine.proofs.walk.reached.Goals as goal
 
 pub returns-clause-circular : goal.returns-clause-circular

@@ -1,6 +1,4 @@
-use Rattle.std.proofs.Common.{◌≡◌, ◌+◌, [], List, ℕ, length, drop, suc, sym, ap, subst, arith}
-use Rattle.std.proofs.lemmas.List.{drop_all}
-use Rattle.wi_engine.specs.Inner.Walk.{IsWalk, enters}
+use Rattle.wi_engine.proofs.Words.{◌≡◌, ◌+◌, [], List, ℕ, length, drop, suc, sym, ap, subst, arith, drop_all, IsWalk, enters}
 use Rattle.wi_engine.proofs.walk.WalkSteps.{walk-begun, walk-ended, walk-roots}
 use Rattle.wi_engine.proofs.walk.PathSteps.{root-cycle, root-walked}
 use Rattle.wi_engine.proofs.walk.reached_from.Goals as goal

@@ -1,5 +1,4 @@
-use Rattle.std.proofs.Common.{◌≡◌, [], drop}
-use Rattle.wi_engine.specs.Inner.Walk.{IsWalk, enters}
+use Rattle.wi_engine.proofs.Words.{◌≡◌, [], drop, IsWalk, enters}
 use Rattle.wi_engine.proofs.walk.reached_from.Given as goal
 
 abbrev pub invariant-loop-cell : goal.invariant-loop-cell

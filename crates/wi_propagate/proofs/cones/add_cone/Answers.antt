@@ -1,5 +1,4 @@
-use Rattle.std.proofs.Common.{◌∙◌, ℕ, List, ap}
-use Rattle.wi_graph.specs.Reach.{is_one_of}
+use Rattle.wi_propagate.proofs.Words.{◌∙◌, ℕ, List, ap, is_one_of}
 use Rattle.wi_propagate.proofs.ReplacedCones.{cones_tried, known_still}
 use Rattle.wi_propagate.proofs.cones.add_cone.Goals as goal
 

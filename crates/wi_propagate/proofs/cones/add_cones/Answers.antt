@@ -1,8 +1,4 @@
-use Rattle.std.proofs.Common.{◌≡◌, ◌∙◌, true, subst, take, arith}
-use Rattle.std.specs.List.{list_all}
-use Rattle.std.proofs.lemmas.Grind.{common_steps}
-use Rattle.wi_values.specs.declared.replacement.Replacement.{Replacement}
-use Rattle.wi_worlds.specs.Reached.{is_known}
+use Rattle.wi_propagate.proofs.Words.{◌≡◌, ◌∙◌, true, subst, take, arith, list_all, common_steps, Replacement, is_known}
 use Rattle.wi_propagate.proofs.ReplacedCones.{all_known_more}
 use Rattle.wi_propagate.proofs.cones.add_cones.Goals as goal
 

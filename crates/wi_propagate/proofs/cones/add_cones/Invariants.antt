@@ -1,9 +1,4 @@
-use Rattle.std.proofs.Common.{◌≡◌, true, take}
-use Rattle.std.specs.List.{list_all}
-use Rattle.wi_parser.specs.Sheet.{Sheet}
-use Rattle.wi_worlds.specs.Reached.{is_known}
-use Rattle.wi_graph.specs.Edges.{AreEdgesOf}
-use Rattle.wi_propagate.specs.Inner.Cones.{AreAllCones}
+use Rattle.wi_propagate.proofs.Words.{◌≡◌, true, take, list_all, Sheet, is_known, AreEdgesOf, AreAllCones}
 use Rattle.wi_propagate.proofs.cones.add_cones.Given as goal
 
 -- the cones so far are right where those before were, and the replaced cells that were passed have one

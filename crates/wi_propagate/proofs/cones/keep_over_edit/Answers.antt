@@ -1,5 +1,4 @@
-use Rattle.std.proofs.Common.{Option, subst, IfSome}
-use Rattle.wi_graph.specs.Edges.{Edges, AreEdgesOf}
+use Rattle.wi_propagate.proofs.Words.{Option, subst, IfSome, Edges, AreEdgesOf}
 use Rattle.wi_propagate.proofs.KeptCones.{cones_over, none_told}
 use Rattle.wi_propagate.proofs.cones.keep_over_edit.Goals as goal
 

@@ -1,4 +1,4 @@
-use Rattle.std.proofs.Common.{◌∙◌}
+use Rattle.wi_propagate.proofs.Words.{◌∙◌}
 use Rattle.wi_propagate.proofs.GenerationSteps.{room_made, there_more}
 use Rattle.wi_propagate.proofs.generations.make_room.Goals as goal
 

@@ -1,4 +1,4 @@
-use Rattle.wi_propagate.specs.Inner.Keeping.{HasGeneration}
+use Rattle.wi_propagate.proofs.Words.{HasGeneration}
 use Rattle.wi_propagate.proofs.GenerationSteps.{replaced, raised_more, still_there, is_there}
 use Rattle.wi_propagate.proofs.generations.raise.Goals as goal
 

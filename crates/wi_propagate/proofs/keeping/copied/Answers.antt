@@ -1,6 +1,4 @@
-use Rattle.std.proofs.Common.{List, ap}
-use Rattle.wi_values.specs.declared.replacement.Replacement.{Replacement}
-use Rattle.wi_cache.specs.declared.key.Key.{Key}
+use Rattle.wi_propagate.proofs.Words.{List, ap, Replacement, Key}
 use Rattle.wi_propagate.proofs.keeping.copied.Goals as goal
 
 pub returns : goal.returns

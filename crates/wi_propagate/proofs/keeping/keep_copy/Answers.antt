@@ -1,4 +1,4 @@
-use Rattle.std.proofs.lemmas.Result.{IfOk-weaker}
+use Rattle.wi_propagate.proofs.Words.{IfOk-weaker}
 use Rattle.wi_propagate.proofs.KeepSteps.{put_found}
 use Rattle.wi_propagate.proofs.keeping.keep_copy.Goals as goal
 

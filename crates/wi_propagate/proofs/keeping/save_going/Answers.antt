@@ -1,4 +1,4 @@
-use Rattle.std.proofs.Common.{rules}
+use Rattle.wi_propagate.proofs.Words.{rules}
 use Rattle.wi_propagate.proofs.keeping.save_going.Goals as goal
 
 pub returns-in-Some-clause-ok : goal.returns-in-Some-clause-ok

@@ -1,5 +1,4 @@
-use Rattle.std.proofs.Common.{arith}
-use Rattle.std.proofs.lemmas.Grind.{common_steps}
+use Rattle.wi_propagate.proofs.Words.{arith, common_steps}
 use Rattle.wi_propagate.proofs.kept.any_circular.Goals as goal
 
 pub returns-then-is_circular : goal.returns-then-is_circular

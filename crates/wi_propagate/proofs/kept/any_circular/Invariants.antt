@@ -1,8 +1,4 @@
-use Rattle.std.proofs.Common.{◌≡◌, false, take}
-use Rattle.std.specs.List.{list_any}
-use Rattle.wi_parser.specs.Sheet.{Sheet}
-use Rattle.wi_graph.specs.Circular.{circular}
-use Rattle.wi_graph.specs.Edges.{AreEdgesOf}
+use Rattle.wi_propagate.proofs.Words.{◌≡◌, false, take, list_any, Sheet, circular, AreEdgesOf}
 use Rattle.wi_propagate.proofs.kept.any_circular.Given as goal
 
 -- none of those passed is circular

@@ -1,6 +1,4 @@
-use Rattle.std.proofs.Common.{arith}
-use Rattle.std.proofs.lemmas.Grind.{common_steps}
-use Rattle.wi_graph.proofs.ChangeSteps.{cells_step}
+use Rattle.wi_propagate.proofs.Words.{arith, common_steps, cells_step}
 use Rattle.wi_propagate.proofs.kept.changed_cells.Goals as goal
 
 pub loop-change-preserved : goal.loop-change-preserved

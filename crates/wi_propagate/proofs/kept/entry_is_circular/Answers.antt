@@ -1,6 +1,4 @@
-use Rattle.std.proofs.Common.{◌||◌, ◌∙◌, Bool, ap, sym}
-use Rattle.std.specs.List.{list_any}
-use Rattle.wi_graph.specs.Circular.{circular}
+use Rattle.wi_propagate.proofs.Words.{◌||◌, ◌∙◌, Bool, ap, sym, list_any, circular}
 use Rattle.wi_propagate.proofs.kept.entry_is_circular.Goals as goal
 
 pub returns-then-is_circular : goal.returns-then-is_circular

@@ -1,5 +1,4 @@
-use Rattle.std.proofs.Common.{◌∙◌, sym}
-use Rattle.wi_values.proofs.Replacements.Same.{same_replacements_Decides}
+use Rattle.wi_propagate.proofs.Words.{◌∙◌, sym, same_replacements_Decides}
 use Rattle.wi_propagate.proofs.last_worlds.has_exactly.Goals as goal
 
 pub returns : goal.returns

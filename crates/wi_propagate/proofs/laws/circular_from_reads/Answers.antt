@@ -1,5 +1,4 @@
-use Rattle.wi_graph.proofs.Graphs.{stripped}
-use Rattle.wi_sheet.proofs.Steps.{put_circular_back, reads_circular}
+use Rattle.wi_propagate.proofs.Words.{stripped, put_circular_back, reads_circular}
 use Rattle.wi_propagate.proofs.laws.circular_from_reads.Goals as goal
 
 pub returns-clause-above : goal.returns-clause-above

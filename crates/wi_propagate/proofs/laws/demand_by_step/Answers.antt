@@ -1,5 +1,5 @@
 use Rattle.wi_sheet.proofs.Demands as demands
-use Rattle.wi_sheet.proofs.Limits.{demand_by_replacements}
+use Rattle.wi_propagate.proofs.Words.{demand_by_replacements}
 use Rattle.wi_propagate.proofs.laws.demand_by_step.Goals as goal
 
 pub returns-clause-step : goal.returns-clause-step

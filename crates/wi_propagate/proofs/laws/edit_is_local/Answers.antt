@@ -1,5 +1,4 @@
-use Rattle.wi_graph.proofs.Cones.{cone_stays, outside_content, outside_circular, outside_reaches}
-use Rattle.wi_sheet.proofs.Cones.{outside_shown_same, outside_shown, outside_unmoved}
+use Rattle.wi_propagate.proofs.Words.{cone_stays, outside_content, outside_circular, outside_reaches, outside_shown_same, outside_shown, outside_unmoved}
 use Rattle.wi_propagate.proofs.laws.edit_is_local.Goals as goal
 
 pub returns-clause-cone : goal.returns-clause-cone

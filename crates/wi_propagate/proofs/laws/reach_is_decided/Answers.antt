@@ -1,4 +1,4 @@
-use Rattle.wi_graph.proofs.ReachTest.{reaches_true, true_reaches, in_cone_true, true_in_cone}
+use Rattle.wi_propagate.proofs.Words.{reaches_true, true_reaches, in_cone_true, true_in_cone}
 use Rattle.wi_propagate.proofs.laws.reach_is_decided.Goals as goal
 
 pub returns-clause-reach : goal.returns-clause-reach

@@ -1,5 +1,4 @@
-use Rattle.wi_sheet.proofs.Overrides.{reaching_in_order, what_if_in_order}
-use Rattle.wi_sheet.proofs.RestsUnder.{rests_stay}
+use Rattle.wi_propagate.proofs.Words.{reaching_in_order, what_if_in_order, rests_stay}
 use Rattle.wi_propagate.proofs.laws.replacements_are_local.Goals as goal
 
 pub returns-clause-order : goal.returns-clause-order

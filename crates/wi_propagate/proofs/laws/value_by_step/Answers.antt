@@ -1,6 +1,4 @@
-use Rattle.wi_parser.specs.Sheet.{put_all}
-use Rattle.wi_sheet.proofs.Bounds.{bound_not_felt}
-use Rattle.wi_sheet.proofs.Steps.{value_step, put_not_circular}
+use Rattle.wi_propagate.proofs.Words.{put_all, bound_not_felt, value_step, put_not_circular}
 use Rattle.wi_propagate.proofs.laws.value_by_step.Goals as goal
 
 pub returns-clause-bound : goal.returns-clause-bound

@@ -1,6 +1,4 @@
-use Rattle.wi_graph.proofs.Agreement.{circular_same}
-use Rattle.wi_sheet.proofs.Locality.{value_same, others_do_not_count}
-use Rattle.wi_sheet.proofs.Overrides.{reaching_suffices, same_for_reached, with_what_if_value}
+use Rattle.wi_propagate.proofs.Words.{circular_same, value_same, others_do_not_count, reaching_suffices, same_for_reached, with_what_if_value}
 use Rattle.wi_propagate.proofs.laws.value_is_local.Goals as goal
 
 pub returns-clause-local : goal.returns-clause-local

@@ -1,5 +1,4 @@
-use Rattle.std.proofs.Common.{◌++◌, sym, ◌∙◌, ap, Some}
-use Rattle.wi_sheet.proofs.CellsAhead.{cells_ahead, all_ahead, none_ahead, one_ahead, fewer}
+use Rattle.wi_propagate.proofs.Words.{◌++◌, sym, ◌∙◌, ap, Some, cells_ahead, all_ahead, none_ahead, one_ahead, fewer}
 use Rattle.wi_propagate.proofs.occupied.occupied_in.Goals as goal
 
 pub loop-ahead-init : goal.loop-ahead-init

@@ -1,6 +1,4 @@
-use Rattle.std.proofs.Common.{◌≡◌, ◌++◌}
-use Rattle.wi_values.proofs.Within.{places_left}
-use Rattle.wi_sheet.proofs.CellsAhead.{occupied, cells_ahead}
+use Rattle.wi_propagate.proofs.Words.{◌≡◌, ◌++◌, places_left, occupied, cells_ahead}
 use Rattle.wi_propagate.proofs.occupied.occupied_in.Given as goal
 
 -- what is found and what is ahead are all of them

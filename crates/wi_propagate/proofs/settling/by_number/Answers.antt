@@ -1,8 +1,4 @@
-use Rattle.std.proofs.Common.{◌≡◌, ◌∙◌, ℕ, length, arith}
-use Rattle.std.proofs.lemmas.List.{nil_from_length}
-use Rattle.std.specs.Map.{keys_of}
-use Rattle.wi_graph.specs.Reach.{is_one_of}
-use Rattle.wi_propagate.specs.Inner.Settling.{second_cells}
+use Rattle.wi_propagate.proofs.Words.{◌≡◌, ◌∙◌, ℕ, length, arith, nil_from_length, keys_of, is_one_of, second_cells}
 use Rattle.wi_propagate.proofs.SettlingSteps.{lists_all, sorted_same}
 use Rattle.wi_propagate.proofs.settling.by_number.Goals as goal
 

@@ -1,7 +1,4 @@
-use Rattle.std.proofs.Common.{◌≡◌, ◌||◌, ◌+◌, ℕ, length}
-use Rattle.std.specs.Map.{keys_of}
-use Rattle.wi_graph.specs.Reach.{is_one_of}
-use Rattle.wi_propagate.specs.Inner.Settling.{second_cells}
+use Rattle.wi_propagate.proofs.Words.{◌≡◌, ◌||◌, ◌+◌, ℕ, length, keys_of, is_one_of, second_cells}
 use Rattle.wi_propagate.proofs.settling.by_number.Given as goal
 
 -- those that were listed, with those still to come, are all

@@ -1,5 +1,4 @@
-use Rattle.std.proofs.Common.{◌∙◌, ℕ, max, ap}
-use Rattle.wi_propagate.specs.Inner.Keeping.{HasGeneration}
+use Rattle.wi_propagate.proofs.Words.{◌∙◌, ℕ, max, ap, HasGeneration}
 use Rattle.wi_propagate.proofs.GenerationSteps.{replaced, still_there, is_there}
 use Rattle.wi_propagate.proofs.SettlingSteps.{lifted_more}
 use Rattle.wi_propagate.proofs.settling.lift.Goals as goal

@@ -1,7 +1,4 @@
-use Rattle.std.proofs.Common.{◌≡◌, ℕ, max, take, if◌then◌else◌}
-use Rattle.wi_graph.specs.Reach.{is_one_of}
-use Rattle.wi_propagate.specs.KeptSheet.{generation_in}
-use Rattle.wi_propagate.specs.Inner.Keeping.{HasGeneration}
+use Rattle.wi_propagate.proofs.Words.{◌≡◌, ℕ, max, take, if◌then◌else◌, is_one_of, generation_in, HasGeneration}
 use Rattle.wi_propagate.proofs.settling.lift.Given as goal
 
 abbrev pub invariant-loop-cell : goal.invariant-loop-cell

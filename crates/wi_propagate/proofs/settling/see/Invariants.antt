@@ -1,6 +1,4 @@
-use Rattle.std.proofs.Common.{◌≡◌, ◌||◌, ℕ, take}
-use Rattle.wi_graph.specs.Reach.{is_one_of}
-use Rattle.wi_propagate.specs.Inner.Settling.{has_seen}
+use Rattle.wi_propagate.proofs.Words.{◌≡◌, ◌||◌, ℕ, take, is_one_of, has_seen}
 use Rattle.wi_propagate.proofs.settling.see.Given as goal
 
 abbrev pub invariant-loop-cell : goal.invariant-loop-cell

@@ -1,10 +1,4 @@
-use Rattle.std.proofs.Common.{◌∙◌, ap, sym, subst, rules, arith}
-use Rattle.std.specs.Map.{keys_of}
-use Rattle.wi_parser.specs.Sheet.{Sheet}
-use Rattle.wi_graph.specs.Edges.{AreEdgesOf}
-use Rattle.wi_graph.specs.Latest.{AreOwed}
-use Rattle.wi_propagate.specs.KeptSheet.{Generations, generation_in}
-use Rattle.wi_propagate.specs.Inner.Settling.{higher, second_cells, has_seen}
+use Rattle.wi_propagate.proofs.Words.{◌∙◌, ap, sym, subst, rules, arith, keys_of, Sheet, AreEdgesOf, AreOwed, Generations, generation_in, higher, second_cells, has_seen}
 use Rattle.wi_propagate.proofs.SettlingSteps.{settling_first, settling_again, settling_more, settling_stays, settling_ends, last_part, part_within}
 use Rattle.wi_propagate.proofs.settling.settle_all.Goals as goal
 

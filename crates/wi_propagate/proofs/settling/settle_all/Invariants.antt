@@ -1,7 +1,4 @@
-use Rattle.std.proofs.Common.{◌≡◌, ℕ, true, length}
-use Rattle.std.specs.Map.{keys_of}
-use Rattle.wi_graph.specs.Reach.{is_one_of}
-use Rattle.wi_propagate.specs.Inner.Settling.{second_cells, has_seen}
+use Rattle.wi_propagate.proofs.Words.{◌≡◌, ℕ, true, length, keys_of, is_one_of, second_cells, has_seen}
 use Rattle.wi_propagate.proofs.SettlingSteps.{IsSettlingOver}
 use Rattle.wi_propagate.proofs.settling.settle_all.Given as goal
 

@@ -1,7 +1,4 @@
-use Rattle.std.proofs.Common.{◌∙◌, ◌&&◌, ◌||◌, not, [], ◌∷◌, ℕ, Bool, List, max, ap, sym, if◌then◌else◌}
-use Rattle.wi_graph.specs.Reach.{is_one_of, in_cone}
-use Rattle.wi_propagate.specs.KeptSheet.{generation_in}
-use Rattle.wi_propagate.specs.Inner.Settling.{has_seen}
+use Rattle.wi_propagate.proofs.Words.{◌∙◌, ◌&&◌, ◌||◌, not, [], ◌∷◌, ℕ, Bool, List, max, ap, sym, if◌then◌else◌, is_one_of, in_cone, generation_in, has_seen}
 use Rattle.wi_propagate.proofs.settling.settle_one.Goals as goal
 
 pub lift-requires : goal.lift-requires

@@ -1,5 +1,4 @@
-use Rattle.std.proofs.Common.{◌∙◌}
-use Rattle.wi_sheet.proofs.StandingCells.{found_where_replaced}
+use Rattle.wi_propagate.proofs.Words.{◌∙◌, found_where_replaced}
 use Rattle.wi_propagate.proofs.standing.is_replaced.Goals as goal
 
 pub returns : goal.returns

@@ -1,8 +1,4 @@
-use Rattle.std.proofs.Common.{◌≡◌, ◌∙◌, None, Some, refl, ap, sym}
-use Rattle.wi_parser.specs.declared.content.Content.{Content}
-use Rattle.wi_parser.specs.declared.content.Content.TheVariants.{Constant}
-use Rattle.wi_parser.specs.Sheet.{content_of}
-use Rattle.wi_sheet.proofs.StandingCells.{no_formula_put, shows_content}
+use Rattle.wi_propagate.proofs.Words.{◌≡◌, ◌∙◌, None, Some, refl, ap, sym, Content, Constant, content_of, no_formula_put, shows_content}
 use Rattle.wi_propagate.proofs.standing.standing_value.Goals as goal
 
 pub returns-in-None-clause-value : goal.returns-in-None-clause-value

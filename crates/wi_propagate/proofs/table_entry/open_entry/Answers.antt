@@ -1,10 +1,4 @@
-use Rattle.std.proofs.Common.{ℕ, Bool, List, ap, refl, ◌∙◌}
-use Rattle.wi_values.specs.declared.value.Value.{Value}
-use Rattle.wi_values.specs.declared.replacement.Replacement.{Replacement}
-use Rattle.wi_parser.specs.Sheet.{put_all}
-use Rattle.wi_functions.specs.Meaning.{zero_for_empty}
-use Rattle.wi_sheet.specs.CellValue.{cell_value}
-use Rattle.wi_engine.proofs.Ledger.{spends_then, spends_weaken, spends_err}
+use Rattle.wi_propagate.proofs.Words.{ℕ, Bool, List, ap, refl, ◌∙◌, Value, Replacement, put_all, zero_for_empty, cell_value, spends_then, spends_weaken, spends_err}
 use Rattle.wi_propagate.proofs.EntryQuestions.{has_formula_cell, entry_settled}
 use Rattle.wi_propagate.proofs.table_entry.open_entry.Goals as goal
 

@@ -1,11 +1,4 @@
-use Rattle.std.proofs.Common.{◌≡◌, true, false, sym, ◌∙◌}
-use Rattle.std.proofs.lemmas.Result.{IfOk-weaker}
-use Rattle.std.specs.List.{list_any}
-use Rattle.wi_graph.specs.Circular.{circular}
-use Rattle.wi_sheet.specs.TableEntry.{entry_demanded}
-use Rattle.wi_sheet.proofs.CaseCosts.{never_fall-same, spent_nothing, spent_price}
-use Rattle.wi_sheet.proofs.Overrides.{put_alone}
-use Rattle.wi_sheet.proofs.TableEntries.{test_of_cells, table_closed, entry_circular, entry_has, entry_shown}
+use Rattle.wi_propagate.proofs.Words.{◌≡◌, true, false, sym, ◌∙◌, IfOk-weaker, list_any, circular, entry_demanded, never_fall-same, spent_nothing, spent_price, put_alone, test_of_cells, table_closed, entry_circular, entry_has, entry_shown}
 use Rattle.wi_propagate.proofs.EntryQuestions.{open_cells_of, replacing_readable, formula_cell_readable}
 use Rattle.wi_propagate.proofs.table_entry.table_entry.Goals as goal
 

@@ -1,5 +1,4 @@
-use Rattle.std.proofs.Common.{arith}
-use Rattle.std.proofs.lemmas.Grind.{common_steps}
+use Rattle.wi_propagate.proofs.Words.{arith, common_steps}
 use Rattle.wi_propagate.proofs.table_entry.valued_cells.Goals as goal
 
 pub loop-pair-preserved : goal.loop-pair-preserved

@@ -1,4 +1,4 @@
-use Rattle.std.proofs.Common.{◌≡◌, ◌∷◌, map, take}
+use Rattle.wi_propagate.proofs.Words.{◌≡◌, ◌∷◌, map, take}
 use Rattle.wi_propagate.proofs.table_entry.valued_cells.Given as goal
 
 abbrev pub invariant-loop-pair : goal.invariant-loop-pair

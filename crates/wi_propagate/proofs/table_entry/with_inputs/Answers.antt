@@ -1,14 +1,4 @@
-use Rattle.std.proofs.Common.{◌≡◌, All, List, ℕ, Bool, take, ap, sym, refl, subst, ◌∙◌, arith}
-use Rattle.std.proofs.lemmas.Grind.{common_steps}
-use Rattle.std.proofs.lemmas.Result.{IfOk-weaker}
-use Rattle.wi_parser.specs.Sheet.{put_all}
-use Rattle.wi_sheet.specs.CellValue.{replacements, cell_value}
-use Rattle.wi_sheet.specs.Settled.{IsSettled}
-use Rattle.wi_sheet.specs.Inner.Spending.{HasReplacing}
-use Rattle.wi_sheet.proofs.Overrides.{replaced_world}
-use Rattle.wi_engine.specs.Inner.Frames.{MayBeRead}
-use Rattle.wi_engine.specs.Inner.Saving.{WhereRoom}
-use Rattle.wi_engine.proofs.Ledger.{spends_then, spends_weaken, spends_err}
+use Rattle.wi_propagate.proofs.Words.{◌≡◌, All, List, ℕ, Bool, take, ap, sym, refl, subst, ◌∙◌, arith, common_steps, IfOk-weaker, put_all, replacements, cell_value, IsSettled, HasReplacing, replaced_world, MayBeRead, WhereRoom, spends_then, spends_weaken, spends_err}
 use Rattle.wi_propagate.proofs.EntryQuestions.{has_pair, more_settled}
 use Rattle.wi_propagate.proofs.table_entry.with_inputs.Goals as goal
 

@@ -1,10 +1,4 @@
-use Rattle.std.proofs.Common.{◌≡◌, true, All, take}
-use Rattle.wi_parser.specs.Sheet.{put_all}
-use Rattle.wi_sheet.specs.CellValue.{replacements, cell_value}
-use Rattle.wi_sheet.specs.Settled.{IsSettled}
-use Rattle.wi_sheet.specs.Inner.Spending.{HasReplacing}
-use Rattle.wi_engine.specs.Inner.Saving.{WhereRoom}
-use Rattle.wi_engine.specs.Inner.Spends.{Spends}
+use Rattle.wi_propagate.proofs.Words.{◌≡◌, true, All, take, put_all, replacements, cell_value, IsSettled, HasReplacing, WhereRoom, Spends}
 use Rattle.wi_propagate.proofs.table_entry.with_inputs.Given as goal
 
 abbrev pub invariant-loop-pair : goal.invariant-loop-pair

@@ -1,11 +1,4 @@
-use Rattle.std.proofs.Common.{◌≡◌, true, false, sym}
-use Rattle.std.proofs.lemmas.Result.{IfOk-weaker}
-use Rattle.wi_graph.specs.Circular.{circular}
-use Rattle.wi_sheet.specs.Demand.{case_of, demanded}
-use Rattle.wi_sheet.proofs.Cases.{demands_itself, different_closed}
-use Rattle.wi_sheet.proofs.CaseCosts.{spent_nothing, spent_price}
-use Rattle.wi_sheet.proofs.Overrides.{put_alone}
-use Rattle.wi_sheet.proofs.Steps.{shown_circular, shown_value}
+use Rattle.wi_propagate.proofs.Words.{◌≡◌, true, false, sym, IfOk-weaker, circular, case_of, demanded, demands_itself, different_closed, spent_nothing, spent_price, put_alone, shown_circular, shown_value}
 use Rattle.wi_propagate.proofs.value.shown.Goals as goal
 
 pub returns-in_default-clause-value : goal.returns-in_default-clause-value

@@ -1,6 +1,4 @@
-use Rattle.std.proofs.Common.{refl}
-use Rattle.std.specs.Ordering.{nat_cmp}
-use Rattle.std.specs.BTreeMap.{get}
+use Rattle.wi_engine.proofs.Words.{refl, nat_cmp, get}
 use Rattle.wi_engine.proofs.findings.FoundCells.{listed_more, risen_more, put_more}
 use Rattle.wi_engine.proofs.findings.Findings.add_cell.Goals as goal
 

@@ -1,5 +1,4 @@
-use Rattle.std.proofs.Common.{◌≡◌, drop}
-use Rattle.wi_engine.specs.Inner.Findings.{first_of}
+use Rattle.wi_engine.proofs.Words.{◌≡◌, drop, first_of}
 use Rattle.wi_engine.proofs.findings.Findings.cell.Given as goal
 
 abbrev pub invariant-loop-cell : goal.invariant-loop-cell

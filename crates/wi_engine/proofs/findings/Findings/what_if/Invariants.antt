@@ -1,7 +1,4 @@
-use Rattle.std.proofs.Common.{◌≡◌, drop, map}
-use Rattle.wi_parser.specs.View.{pair_of}
-use Rattle.wi_lookup.specs.Assignment.{addresses}
-use Rattle.wi_engine.specs.Inner.Findings.{first_for}
+use Rattle.wi_engine.proofs.Words.{◌≡◌, drop, map, pair_of, addresses, first_for}
 use Rattle.wi_engine.proofs.findings.Findings.what_if.Given as goal
 
 abbrev pub invariant-loop-found : goal.invariant-loop-found

@@ -1,9 +1,4 @@
-use Rattle.std.proofs.Common.{ap, ◌∙◌, sym}
-use Rattle.wi_lookup.specs.Assignment.{value_if_known}
-use Rattle.wi_parser.specs.declared.content.Content.{Content}
-use Rattle.std.specs.Prelude.{Option}
-use Rattle.wi_engine.specs.Inner.Attempt.{known_in}
-use Rattle.wi_engine.specs.Inner.Findings.{found_value}
+use Rattle.wi_engine.proofs.Words.{ap, ◌∙◌, sym, value_if_known, Content, Option, known_in, found_value}
 use Rattle.wi_engine.proofs.lookup.HandOver.{handed_enough, handed_to_end, handed_to_limit, inside_here, missing_here, one_more}
 use Rattle.wi_engine.proofs.lookup.Known.hand_stored.Goals as goal
 

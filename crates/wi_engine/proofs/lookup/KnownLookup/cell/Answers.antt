@@ -1,9 +1,4 @@
-use Rattle.std.proofs.Common.{◌≡◌, Option, Some, IfSome, ap, refl, subst, sym, ◌∙◌}
-use Rattle.wi_values.specs.declared.value.Value.{Value}
-use Rattle.wi_parser.specs.Sheet.{content_of, put_all}
-use Rattle.wi_sheet.specs.CellValue.{cell_value}
-use Rattle.wi_engine.specs.Inner.Attempt.{known_in}
-use Rattle.wi_engine.specs.Inner.Findings.{found_value}
+use Rattle.wi_engine.proofs.Words.{◌≡◌, Option, Some, IfSome, ap, refl, subst, sym, ◌∙◌, Value, content_of, put_all, cell_value, known_in, found_value}
 use Rattle.wi_engine.proofs.attempt.KnownValues.{found_known}
 use Rattle.wi_engine.proofs.lookup.KnownLookup.cell.Goals as goal
 

@@ -1,4 +1,4 @@
-use Rattle.std.proofs.Common.{◌∙◌, None, Some, sym}
+use Rattle.wi_engine.proofs.Words.{◌∙◌, None, Some, sym}
 use Rattle.wi_engine.proofs.lookup.HandOver.{further, replaced_ahead, replaced_last, replaced_on, stands}
 use Rattle.wi_engine.proofs.lookup.KnownLookup.hand_over.Goals as goal
 

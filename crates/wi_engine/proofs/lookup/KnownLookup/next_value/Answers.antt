@@ -1,4 +1,4 @@
-use Rattle.std.proofs.Common.{rules}
+use Rattle.wi_engine.proofs.Words.{rules}
 use Rattle.wi_engine.proofs.filled.FirstTouched.{passed_over}
 use Rattle.wi_engine.proofs.lookup.KnownLookup.next_value.Goals as goal
 

@@ -1,6 +1,4 @@
-use Rattle.wi_values.proofs.Within.{places_left}
-use Rattle.wi_engine.specs.Inner.Attempt.{cell_known}
-use Rattle.wi_lookup.proofs.Passing.{Passed}
+use Rattle.wi_engine.proofs.Words.{places_left, cell_known, Passed}
 use Rattle.wi_engine.proofs.lookup.KnownLookup.next_value.Given as goal
 
 abbrev pub invariant-loop-ahead : goal.invariant-loop-ahead

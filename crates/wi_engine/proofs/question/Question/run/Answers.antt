@@ -1,5 +1,4 @@
-use Rattle.std.proofs.Common.{◌≡◌, ◌∙◌, ℕ, List, [], ◌∷◌, length, refl, arith}
-use Rattle.wi_engine.specs.declared.frame.Frame.{Frame}
+use Rattle.wi_engine.proofs.Words.{◌≡◌, ◌∙◌, ℕ, List, [], ◌∷◌, length, refl, arith, Frame}
 use Rattle.wi_engine.proofs.engine.FrameRuns.{IsNew, GoesDeeper, deeper_smaller, back_smaller, run_below, run_value}
 use Rattle.wi_engine.proofs.engine.Ends.{turn_same, turn_kept, comes_back, going_start, going_deeper, going_back, going_stops, going_ends, root_kept, root_there}
 use Rattle.wi_engine.proofs.engine.Steps.{counts_less}

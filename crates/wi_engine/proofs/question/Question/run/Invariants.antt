@@ -1,9 +1,4 @@
-use Rattle.std.proofs.Common.{◌+◌, ◌*◌, length}
-use Rattle.wi_parser.specs.Sheet.{cells_with_formula}
-use Rattle.wi_sheet.specs.Demand.{demand}
-use Rattle.wi_sheet.specs.Inner.Spending.{left}
-use Rattle.wi_sheet.specs.Inner.Rank.{reach_rank}
-use Rattle.wi_engine.specs.Inner.Frames.{case_at}
+use Rattle.wi_engine.proofs.Words.{◌+◌, ◌*◌, length, cells_with_formula, demand, left, reach_rank, case_at}
 use Rattle.wi_engine.proofs.engine.Ends.{IsGoing}
 use Rattle.wi_engine.proofs.question.Question.run.Given as goal
 

@@ -1,7 +1,4 @@
-use Rattle.std.proofs.lemmas.Result.{IfOk-weaker}
-use Rattle.std.proofs.Common.{refl, subst, sym}
-use Rattle.wi_engine.specs.Inner.MemoState.{MemoState, IsMemoOf}
-use Rattle.wi_engine.specs.Inner.Frames.{IsUnvaluedKey}
+use Rattle.wi_engine.proofs.Words.{IfOk-weaker, refl, subst, sym, MemoState, IsMemoOf, IsUnvaluedKey}
 use Rattle.wi_engine.proofs.engine.RunsWithRoom.{kept_before, settled_before, not_easy, unvalued_in, unvalued_value, unvalued_kept, unvalued_settled}
 use Rattle.wi_engine.proofs.Ledger.{spends_none, spends_weaken}
 use Rattle.wi_engine.proofs.question.Question.value.Goals as goal

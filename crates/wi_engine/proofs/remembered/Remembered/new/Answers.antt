@@ -1,4 +1,4 @@
-use Rattle.std.proofs.Common.{rules}
+use Rattle.wi_engine.proofs.Words.{rules}
 use Rattle.wi_engine.proofs.remembered.QuestionMemory.{no_values}
 use Rattle.wi_engine.proofs.remembered.Remembered.new.Goals as goal
 

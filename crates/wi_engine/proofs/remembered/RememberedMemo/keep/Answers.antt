@@ -1,5 +1,4 @@
-use Rattle.std.proofs.Common.{ap, arith, rules}
-use Rattle.wi_engine.specs.Inner.Remembered.{OneQuestion, question_state, remembered}
+use Rattle.wi_engine.proofs.Words.{ap, arith, rules, OneQuestion, question_state, remembered}
 use Rattle.wi_engine.proofs.Places.{has_kept}
 use Rattle.wi_engine.proofs.remembered.QuestionMemory.{known_kept}
 use Rattle.wi_engine.proofs.remembered.RememberedMemo.keep.Goals as goal

@@ -1,7 +1,4 @@
-use Rattle.std.proofs.Common.{◌∙◌, ap, subst, List, ℕ}
-use Rattle.wi_graph.specs.Reach.{is_one_of}
-use Rattle.wi_sheet.specs.Demand.{reaching}
-use Rattle.wi_engine.specs.Inner.Remembered.{AreCones, OneQuestion}
+use Rattle.wi_engine.proofs.Words.{◌∙◌, ap, subst, List, ℕ, is_one_of, reaching, AreCones, OneQuestion}
 use Rattle.wi_engine.proofs.cone.ConeSteps.{worlds_same}
 use Rattle.wi_engine.proofs.remembered.RememberedMemo.key.Goals as goal
 

@@ -1,4 +1,4 @@
-use Rattle.std.proofs.Common.{rules}
+use Rattle.wi_engine.proofs.Words.{rules}
 use Rattle.wi_engine.proofs.remembered.RememberedMemo.look.Goals as goal
 
 pub returns-clause-value : goal.returns-clause-value

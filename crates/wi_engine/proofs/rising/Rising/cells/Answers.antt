@@ -1,8 +1,4 @@
-use Rattle.std.proofs.Common.{List, ℕ, subst}
-use Rattle.std.specs.Ordering.{nat_cmp}
-use Rattle.std.specs.List.Sorted.{IsStrictlySortedBy}
-use Rattle.std.specs.Map.{keys_of}
-use Rattle.wi_values.specs.declared.value.Value.{Value}
+use Rattle.wi_engine.proofs.Words.{List, ℕ, subst, nat_cmp, IsStrictlySortedBy, keys_of, Value}
 use Rattle.wi_engine.proofs.rising.Rising.cells.Goals as goal
 
 pub returns-clause-order : goal.returns-clause-order

@@ -1,4 +1,4 @@
-use Rattle.std.proofs.Common.{rules}
+use Rattle.wi_engine.proofs.Words.{rules}
 use Rattle.wi_engine.proofs.rising.BinarySearch.{ends}
 use Rattle.wi_engine.proofs.rising.Rising.ends_before.Goals as goal
 

@@ -1,5 +1,4 @@
-use Rattle.std.proofs.Common.{ℕ, ◌<◌, List, All, subst, sym}
-use Rattle.wi_values.specs.declared.value.Value.{Value}
+use Rattle.wi_engine.proofs.Words.{ℕ, ◌<◌, List, All, subst, sym, Value}
 use Rattle.wi_engine.proofs.rising.BinarySearch.{rise_more}
 use Rattle.wi_engine.proofs.rising.Rising.push.Goals as goal
 

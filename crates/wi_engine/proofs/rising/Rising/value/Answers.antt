@@ -1,6 +1,4 @@
-use Rattle.std.proofs.Common.{ℕ, rules}
-use Rattle.std.proofs.lemmas.List.Sorted.{answers_always}
-use Rattle.wi_values.specs.declared.value.Value.{Value}
+use Rattle.wi_engine.proofs.Words.{ℕ, rules, answers_always, Value}
 use Rattle.wi_engine.proofs.rising.BinarySearch.{searched_of}
 use Rattle.wi_engine.proofs.rising.Rising.value.Goals as goal
 

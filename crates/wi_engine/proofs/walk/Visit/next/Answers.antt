@@ -1,5 +1,4 @@
-use Rattle.std.proofs.Common.{◌∙◌, arith}
-use Rattle.std.proofs.lemmas.Grind.{common_steps}
+use Rattle.wi_engine.proofs.Words.{◌∙◌, arith, common_steps}
 use Rattle.wi_engine.proofs.walk.Cursors.{next_rectangle}
 use Rattle.wi_engine.proofs.walk.Visit.next.Goals as goal
 

@@ -1,5 +1,4 @@
-use Rattle.std.proofs.Common.{◌≡◌, ◌-◌, drop, length}
-use Rattle.wi_engine.specs.Inner.Walk.{cells_ahead, unread}
+use Rattle.wi_engine.proofs.Words.{◌≡◌, ◌-◌, drop, length, cells_ahead, unread}
 use Rattle.wi_engine.proofs.walk.Visit.next.Given as goal
 
 abbrev pub invariant-loop-area : goal.invariant-loop-area

@@ -1,9 +1,4 @@
-use Rattle.std.proofs.Common.{◌≡◌, Some, sym, ap, ◌∙◌}
-use Rattle.std.specs.Ordering.{nat_cmp}
-use Rattle.std.specs.BTreeMap.{get}
-use Rattle.wi_engine.specs.Inner.Walk.{tasks_in}
-use Rattle.wi_engine.specs.declared.walk.Progress.TheVariants.{Open, Done}
-use Rattle.wi_engine.specs.declared.walk.Progress.{Progress}
+use Rattle.wi_engine.proofs.Words.{◌≡◌, Some, sym, ap, ◌∙◌, nat_cmp, get, tasks_in, Open, Done, Progress}
 use Rattle.wi_engine.proofs.walk.Cursors.{path-begun}
 use Rattle.wi_engine.proofs.walk.PathSteps.{path-cycle, path-passed, path-taken}
 use Rattle.wi_engine.proofs.walk.WalkLengths.{less-taken}

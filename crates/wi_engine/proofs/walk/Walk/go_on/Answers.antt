@@ -1,5 +1,4 @@
-use Rattle.wi_engine.specs.Inner.Walk.{tasks_in}
-use Rattle.wi_engine.specs.declared.walk.Progress.TheVariants.{Done}
+use Rattle.wi_engine.proofs.Words.{tasks_in, Done}
 use Rattle.wi_engine.proofs.walk.Cursors.{path-on, path-done}
 use Rattle.wi_engine.proofs.walk.PathSteps.{path-left}
 use Rattle.wi_engine.proofs.walk.WalkLengths.{less-gone}

@@ -1,5 +1,4 @@
-use Rattle.std.proofs.Common.{[], ◌∷◌, arith}
-use Rattle.wi_engine.specs.Inner.Walk.{Enter}
+use Rattle.wi_engine.proofs.Words.{[], ◌∷◌, arith, Enter}
 use Rattle.wi_engine.proofs.walk.PathSteps.{path-ended}
 use Rattle.wi_engine.proofs.walk.Walk.meets_cycle.Goals as goal
 

@@ -1,5 +1,4 @@
-use Rattle.std.proofs.Common.{[], ◌∷◌}
-use Rattle.wi_engine.specs.Inner.Walk.{Enter, GoesOn, tasks_in, tasks_left}
+use Rattle.wi_engine.proofs.Words.{[], ◌∷◌, Enter, GoesOn, tasks_in, tasks_left}
 use Rattle.wi_engine.proofs.walk.Walk.meets_cycle.Given as goal
 
 abbrev pub invariant-loop-visit : goal.invariant-loop-visit

@@ -1,5 +1,4 @@
-use Rattle.std.proofs.Common.{◌∙◌, inl, sym}
-use Rattle.std.proofs.lemmas.Result.{IfOk-weaker}
+use Rattle.wi_propagate.proofs.Words.{◌∙◌, inl, sym, IfOk-weaker}
 use Rattle.wi_propagate.proofs.calculator.Calculator.mark_beyond.Goals as goal
 
 pub returns-clause-marked : goal.returns-clause-marked

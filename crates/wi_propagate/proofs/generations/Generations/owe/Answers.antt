@@ -1,6 +1,4 @@
-use Rattle.std.proofs.Common.{◌∙◌, ap}
-use Rattle.wi_graph.specs.Reach.{is_one_of}
-use Rattle.wi_propagate.specs.Inner.Noted.{Noted}
+use Rattle.wi_propagate.proofs.Words.{◌∙◌, ap, is_one_of, Noted}
 use Rattle.wi_propagate.proofs.NotedSteps.{key_there, there_key, owed_key, on_ok}
 use Rattle.wi_propagate.proofs.generations.Generations.owe.Goals as goal
 

@@ -1,9 +1,4 @@
-use Rattle.std.proofs.Common.{subst, sym}
-use Rattle.wi_parser.specs.Sheet.{Sheet}
-use Rattle.wi_graph.specs.Edges.{AreEdgesOf}
-use Rattle.wi_graph.specs.Latest.{AreOwed}
-use Rattle.wi_propagate.specs.KeptSheet.{generation_in}
-use Rattle.wi_propagate.specs.Inner.Noted.{Noted, noted_in}
+use Rattle.wi_propagate.proofs.Words.{subst, sym, Sheet, AreEdgesOf, AreOwed, generation_in, Noted, noted_in}
 use Rattle.wi_propagate.proofs.generations.Generations.settle.Goals as goal
 
 pub settle_all-requires-clause-owed : goal.settle_all-requires-clause-owed

@@ -1,5 +1,5 @@
 use Rattle.wi_propagate.proofs.RightValues.{begun_is_memo}
-use Rattle.wi_propagate.specs.Inner.Noted.{told}
+use Rattle.wi_propagate.proofs.Words.{told}
 use Rattle.wi_propagate.proofs.keeping.Keeping.new.Goals as goal
 
 pub returns-clause-memo : goal.returns-clause-memo

@@ -1,23 +1,8 @@
-use Rattle.std.proofs.Common.{◌≡◌, ◌≤◌, ◌-◌, ◌+◌, ◌⊎◌, ◌||◌, ◌∙◌, ℕ, false, true, List, length, Option, Some, IfSome, OnOk, is_some, refl, ap, sym, subst, rules}
-use Rattle.std.proofs.lemmas.Result.{IfOk-weaker}
-use Rattle.std.specs.Option.{option_or}
-use Rattle.wi_values.specs.declared.replacement.Replacement.{Replacement}
-use Rattle.wi_parser.specs.Sheet.{put_all}
-use Rattle.wi_values.specs.declared.value.Value.{Value}
-use Rattle.wi_cache.specs.Entries.{going, value_for}
-use Rattle.wi_graph.specs.Circular.{circular}
-use Rattle.wi_sheet.specs.CellValue.{cell_value}
-use Rattle.wi_sheet.specs.Demand.{same_case}
-use Rattle.wi_propagate.specs.Right.{IsKeptFor}
-use Rattle.wi_engine.specs.Inner.Saving.{TakesPlaces, GivesUpWhenFull}
-use Rattle.wi_propagate.specs.Inner.Keeping.{Keeping, TakesOver, keeping, state_in, value_in}
-use Rattle.wi_propagate.specs.KeptSheet.{generation_in, key_in}
-use Rattle.wi_engine.proofs.Places.{has_kept}
+use Rattle.wi_propagate.proofs.Words.{◌≡◌, ◌≤◌, ◌-◌, ◌+◌, ◌⊎◌, ◌||◌, ◌∙◌, ℕ, false, true, List, length, Option, Some, IfSome, OnOk, is_some, refl, ap, sym, subst, rules, IfOk-weaker, option_or, Replacement, put_all, Value, going, value_for, circular, cell_value, same_case, IsKeptFor, TakesPlaces, GivesUpWhenFull, Keeping, TakesOver, keeping, state_in, value_in, generation_in, key_in, has_kept, told}
 use Rattle.wi_propagate.proofs.RightValues.{found_is_kept}
 use Rattle.wi_propagate.proofs.KeepSteps.{KeepsIn, right_after, kept_after, there_after, room_after, gives_up_after}
 use Rattle.wi_propagate.proofs.ValuesAtHand.{known_after, stays_after, found_after}
 use Rattle.wi_propagate.proofs.PlaceCounts.{one_place_after}
-use Rattle.wi_propagate.specs.Inner.Noted.{told}
 use Rattle.wi_propagate.proofs.keeping.KeepingMemo.keep.Goals as goal
 
 pub returns-clause-keeps : goal.returns-clause-keeps

@@ -1,8 +1,5 @@
-use Rattle.std.proofs.Common.{◌∙◌, ap}
-use Rattle.wi_sheet.specs.Demand.{reaching}
-use Rattle.wi_propagate.specs.Inner.Keeping.{Keeping}
+use Rattle.wi_propagate.proofs.Words.{◌∙◌, ap, reaching, Keeping, generation_in}
 use Rattle.wi_propagate.proofs.ReplacedCones.{worlds_all}
-use Rattle.wi_propagate.specs.KeptSheet.{generation_in}
 use Rattle.wi_propagate.proofs.NotedSteps.{noted_is_told}
 use Rattle.wi_propagate.proofs.keeping.KeepingMemo.key.Goals as goal
 

@@ -1,4 +1,4 @@
-use Rattle.std.proofs.Common.{rules}
+use Rattle.wi_propagate.proofs.Words.{rules}
 use Rattle.wi_propagate.proofs.keeping.KeepingMemo.look.Goals as goal
 
 pub returns-in-None-clause-value : goal.returns-in-None-clause-value

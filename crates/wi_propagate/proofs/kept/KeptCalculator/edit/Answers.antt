@@ -1,16 +1,4 @@
-use Rattle.std.proofs.Common.{◌≡◌, ◌∙◌, ℕ, List, Option, Some, None, Ok, IfSome, ap, sym, subst, if◌then◌else◌}
-use Rattle.std.specs.Map.{keys_of}
-use Rattle.std.specs.Option.{unwrap_or}
-use Rattle.wi_parser.specs.declared.content.Content.{Content}
-use Rattle.wi_store.specs.Store.{Stored, applied}
-use Rattle.wi_graph.specs.Reach.{is_one_of, in_cone}
-use Rattle.wi_graph.specs.Edges.{AreEdgesOf, Staging, staging, edges_after}
-use Rattle.wi_propagate.specs.KeptSheet.{KeptSheet, generation_in}
-use Rattle.wi_propagate.specs.Right.{AreKeptRight}
-use Rattle.wi_propagate.specs.Inner.Cones.{AreAllCones}
-use Rattle.wi_propagate.specs.Inner.Keeping.{kept_sheet}
-use Rattle.wi_propagate.specs.Inner.Noted.{told, AreKeptUp}
-use Rattle.wi_graph.proofs.StageEnds.{on_err}
+use Rattle.wi_propagate.proofs.Words.{◌≡◌, ◌∙◌, ℕ, List, Option, Some, None, Ok, IfSome, ap, sym, subst, if◌then◌else◌, keys_of, unwrap_or, Content, Stored, applied, is_one_of, in_cone, AreEdgesOf, Staging, staging, edges_after, KeptSheet, generation_in, AreKeptRight, AreAllCones, kept_sheet, told, AreKeptUp, on_err}
 use Rattle.wi_propagate.proofs.Editing.{edges_applied, refused_same, right_after_edit, right_unnamed, edit_told, edit_keeps_up}
 use Rattle.wi_propagate.proofs.NotedSteps.{told_same, kept_up_more}
 use Rattle.wi_propagate.proofs.kept.KeptCalculator.edit.Goals as goal

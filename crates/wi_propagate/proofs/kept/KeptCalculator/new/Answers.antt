@@ -1,6 +1,4 @@
-use Rattle.std.proofs.Common.{[], refl, ap, sym, subst}
-use Rattle.wi_parser.specs.Sheet.{Sheet}
-use Rattle.wi_graph.specs.Edges.{AreEdgesOf, Staging}
+use Rattle.wi_propagate.proofs.Words.{[], refl, ap, sym, subst, Sheet, AreEdgesOf, Staging}
 use Rattle.wi_propagate.proofs.KeptCones.{none_told}
 use Rattle.wi_propagate.proofs.NotedSteps.{told_none, none_kept_up}
 use Rattle.wi_propagate.proofs.Editing.{begins_right}

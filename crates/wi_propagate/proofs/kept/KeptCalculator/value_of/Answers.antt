@@ -1,19 +1,7 @@
-use Rattle.std.proofs.Common.{is_ok, ◌≡◌, ◌∙◌, IfOk, OnOk, false, true, refl, ap, sym, subst}
-use Rattle.std.proofs.lemmas.Result.{IfOk-weaker}
-use Rattle.wi_parser.specs.Sheet.{Sheet}
-use Rattle.wi_graph.specs.Circular.{circular}
-use Rattle.wi_sheet.specs.Shown.{shown}
-use Rattle.wi_sheet.specs.Demand.{case_of, reaching, demanded}
-use Rattle.wi_sheet.specs.Inner.Spending.{HasCase}
-use Rattle.wi_sheet.proofs.Cases.{demands_itself, different_closed}
-use Rattle.wi_sheet.proofs.Steps.{shown_circular, shown_value}
-use Rattle.wi_propagate.specs.KeptSheet.{KeptSheet, generation_in, IsAtHand, is_kept}
-use Rattle.wi_propagate.specs.Inner.Cones.{AreAllCones}
-use Rattle.wi_propagate.specs.Inner.Noted.{told, noted_in}
+use Rattle.wi_propagate.proofs.Words.{is_ok, ◌≡◌, ◌∙◌, IfOk, OnOk, false, true, refl, ap, sym, subst, IfOk-weaker, Sheet, circular, shown, case_of, reaching, demanded, HasCase, demands_itself, different_closed, shown_circular, shown_value, KeptSheet, generation_in, IsAtHand, is_kept, AreAllCones, told, noted_in, Owes}
 use Rattle.wi_propagate.proofs.NotedSteps.{settled_up}
 use Rattle.wi_propagate.proofs.SettlingSteps.{owed_over}
 use Rattle.wi_propagate.proofs.Questions.{begins, begun_right, may_be_read, right_then, asked_kept, at_hand_is, owes_none, owes_settled, owes_spent, settled_view, settled_right}
-use Rattle.wi_propagate.specs.Inner.Owes.{Owes}
 use Rattle.wi_propagate.proofs.kept.KeptCalculator.value_of.Goals as goal
 
 pub returns-then-is_circular-clause-value : goal.returns-then-is_circular-clause-value

@@ -1,19 +1,7 @@
-use Rattle.std.proofs.Common.{is_ok, get_or, ◌≡◌, All, IfOk, OnOk, false, ℕ, List, refl, ap, subst}
-use Rattle.std.proofs.lemmas.Result.{IfOk-weaker}
-use Rattle.wi_parser.specs.Sheet.{Sheet}
-use Rattle.wi_graph.specs.Circular.{circular}
-use Rattle.wi_sheet.specs.Inner.Spending.{HasEntry}
-use Rattle.wi_sheet.specs.TableEntry.{table_entry, entry_demanded}
-use Rattle.wi_sheet.specs.Settled.{IsWhatIfSettled}
-use Rattle.wi_sheet.proofs.TableEntries.{table_closed, entry_has, entry_shown}
-use Rattle.wi_propagate.specs.KeptSheet.{KeptSheet, generation_in, HasRoomFor, is_kept}
-use Rattle.wi_propagate.specs.Inner.Cones.{AreAllCones}
-use Rattle.wi_propagate.specs.Inner.Noted.{told, noted_in}
+use Rattle.wi_propagate.proofs.Words.{is_ok, get_or, ◌≡◌, All, IfOk, OnOk, false, ℕ, List, refl, ap, subst, IfOk-weaker, Sheet, circular, HasEntry, table_entry, entry_demanded, IsWhatIfSettled, table_closed, entry_has, entry_shown, KeptSheet, generation_in, HasRoomFor, is_kept, AreAllCones, told, noted_in, state_in, Owes}
 use Rattle.wi_propagate.proofs.NotedSteps.{settled_up}
 use Rattle.wi_propagate.proofs.SettlingSteps.{owed_over}
-use Rattle.wi_propagate.specs.Inner.Keeping.{state_in}
 use Rattle.wi_propagate.proofs.Questions.{begins, begun_right, may_be_read, right_then, asked_where, asked_settled, circular_entry, circular_clash, open_cells, owes_none, owes_settled, owes_spent, settled_view, settled_right}
-use Rattle.wi_propagate.specs.Inner.Owes.{Owes}
 use Rattle.wi_propagate.proofs.kept.KeptCalculator.value_of_entry.Goals as goal
 
 pub returns-then-entry_is_circular-clause-value : goal.returns-then-entry_is_circular-clause-value

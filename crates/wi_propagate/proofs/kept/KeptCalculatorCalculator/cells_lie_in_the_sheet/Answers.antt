@@ -1,8 +1,4 @@
-use Rattle.std.proofs.Common.{◌<◌, ◌*◌, subst}
-use Rattle.std.specs.List.{All}
-use Rattle.std.specs.Map.{keys_of}
-use Rattle.wi_values.specs.Address.{rows, columns}
-use Rattle.wi_propagate.specs.KeptSheet.{KeptSheet}
+use Rattle.wi_propagate.proofs.Words.{◌<◌, ◌*◌, subst, All, keys_of, rows, columns, KeptSheet}
 use Rattle.wi_propagate.proofs.kept.KeptCalculatorCalculator.cells_lie_in_the_sheet.Goals as goal
 
 pub returns : goal.returns

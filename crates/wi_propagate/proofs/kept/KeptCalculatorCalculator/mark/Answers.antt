@@ -1,9 +1,4 @@
-use Rattle.std.proofs.Common.{◌≡◌, ◌∙◌, ℕ, false, IfOk, subst, sym}
-use Rattle.std.proofs.lemmas.Result.{IfOk-weaker}
-use Rattle.wi_graph.specs.Reach.{is_one_of, in_cone}
-use Rattle.wi_sheet.specs.Unmoved.{IsUnmoved}
-use Rattle.wi_sheet.proofs.Cones.{outside_unmoved}
-use Rattle.wi_propagate.specs.KeptSheet.{KeptSheet}
+use Rattle.wi_propagate.proofs.Words.{◌≡◌, ◌∙◌, ℕ, false, IfOk, subst, sym, IfOk-weaker, is_one_of, in_cone, IsUnmoved, outside_unmoved, KeptSheet}
 use Rattle.wi_propagate.proofs.kept.KeptCalculatorCalculator.mark.Goals as goal
 
 pub returns-clause-marked : goal.returns-clause-marked

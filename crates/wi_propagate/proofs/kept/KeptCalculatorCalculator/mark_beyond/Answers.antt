@@ -1,8 +1,4 @@
-use Rattle.std.proofs.Common.{◌≡◌, ◌⊎◌, ◌∙◌, ℕ, true, IfOk, ap, subst, sym}
-use Rattle.std.proofs.lemmas.Bool.{and_parts}
-use Rattle.std.proofs.lemmas.Result.{IfOk-weaker}
-use Rattle.wi_graph.specs.Reach.{is_one_of, in_cone}
-use Rattle.wi_propagate.specs.KeptSheet.{KeptSheet}
+use Rattle.wi_propagate.proofs.Words.{◌≡◌, ◌⊎◌, ◌∙◌, ℕ, true, IfOk, ap, subst, sym, and_parts, IfOk-weaker, is_one_of, in_cone, KeptSheet}
 use Rattle.wi_propagate.proofs.KeptCones.{watch_closed, found_or_watched}
 use Rattle.wi_propagate.proofs.kept.KeptCalculatorCalculator.mark_beyond.Goals as goal
 

@@ -1,6 +1,4 @@
-use Rattle.std.proofs.Common.{◌∙◌}
-use Rattle.std.proofs.lemmas.Result.{IfOk-weaker}
-use Rattle.wi_sheet.proofs.Overrides.{put_alone}
+use Rattle.wi_propagate.proofs.Words.{◌∙◌, IfOk-weaker, put_alone}
 use Rattle.wi_propagate.proofs.last_worlds.LastWorlds.world_for.Goals as goal
 
 pub returns-then-has_exactly : goal.returns-then-has_exactly

@@ -1,4 +1,4 @@
-use Rattle.wi_sheet.proofs.Marks.{formulas_and_cells, others_unmoved}
+use Rattle.wi_propagate.proofs.Words.{formulas_and_cells, others_unmoved}
 use Rattle.wi_propagate.proofs.plain.PlainCalculatorCalculator.mark.Goals as goal
 
 pub returns-clause-marked : goal.returns-clause-marked

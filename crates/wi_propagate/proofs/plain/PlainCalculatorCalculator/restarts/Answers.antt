@@ -1,4 +1,4 @@
-use Rattle.std.proofs.Common.{rules}
+use Rattle.wi_propagate.proofs.Words.{rules}
 use Rattle.wi_propagate.proofs.plain.PlainCalculatorCalculator.restarts.Goals as goal
 
 pub returns : goal.returns

@@ -1,4 +1,4 @@
-use Rattle.std.proofs.Common.{rules}
+use Rattle.wi_propagate.proofs.Words.{rules}
 use Rattle.wi_propagate.proofs.plain.PlainCalculatorCalculator.value.Goals as goal
 
 pub returns-clause-value : goal.returns-clause-value
