@@ -57,7 +57,8 @@ pub use Rattle.wi_parser.specs.declared.content.Content.{Content}
 pub use Rattle.wi_parser.specs.declared.content.Content.TheVariants.{Constant, Formula}
 pub use Rattle.wi_propagate.specs.Inner.Cones.{AreAllCones}
 pub use Rattle.wi_propagate.specs.Inner.Keeping.{HasGeneration, IsKeepingRight, Keeping, TakesOver, begun, keeping, kept_sheet, state_in, value_in, values_in}
-pub use Rattle.wi_propagate.specs.Inner.Noted.{AreKeptUp, Noted, noted_in, told}
+pub use Rattle.wi_propagate.specs.Inner.Noted.{AreKeptUp, Noted, noted_in}
+unfoldable pub use Rattle.wi_propagate.specs.Inner.Noted.{told}
 pub use Rattle.wi_propagate.specs.Inner.Owes.{Owes}
 pub use Rattle.wi_propagate.specs.Inner.Settling.{has_seen, higher, second_cells}
 pub use Rattle.wi_propagate.specs.KeptSheet.{Generations, HasRoomFor, IsAtHand, KeepsAll, KeepsNoMore, KeepsOld, KeepsWhileRoom, KeptSheet, generation_in, gone, is_kept, key_in, stands, unkept}
@@ -86,7 +87,8 @@ pub use Rattle.wi_sheet.specs.Settled.{IsSettled, IsWhatIfSettled}
 pub use Rattle.wi_sheet.specs.Shown.{shown}
 pub use Rattle.wi_sheet.specs.TableEntry.{asks_circular, entry_demanded, table_entry}
 pub use Rattle.wi_sheet.specs.Unmoved.{IsUnmoved}
-pub use Rattle.wi_store.specs.Store.{Applies, Stored, accepted, applied, change_without_empty, edited, without_empty}
+pub use Rattle.wi_store.specs.Store.{Applies, Stored, applied, change_without_empty, edited, without_empty}
+unfoldable pub use Rattle.wi_store.specs.Store.{accepted}
 pub use Rattle.wi_store.specs.declared.fault.StoreFault.{StoreFault}
 pub use Rattle.wi_store.specs.declared.fault.StoreFault.TheVariants.{EditLimit, Full, Memory}
 pub use Rattle.wi_tiles.specs.Entries.{CellEntries, get}
