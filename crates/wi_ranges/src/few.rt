@@ -1,6 +1,6 @@
 //! The readers of one cell, of which there is mostly one.
 
-ghost use Rattle.std.specs.Prelude.{◌≡◌, ◌<◌, ◌==◌, ◌||◌, ◌∷◌, ◌++◌, ◌↔◌, ℕ, [], false, IsTrue, IfSome, IfOk, OnOk, OnErr, length};
+ghost use Rattle.std.specs.Prelude.{◌≡◌, ◌<◌, ◌==◌, ◌||◌, ◌∷◌, ◌++◌, ◌↔◌, ℕ, [], true, false, IsTrue, IfSome, IfOk, OnOk, OnErr, length};
 ghost use Rattle.std.specs.List.{position};
 ghost use Rattle.std.specs.List.Sorted.{IsPermutation};
 ghost use Rattle.std.specs.Ordering.{nat_cmp};
@@ -40,6 +40,13 @@ impl Few {
             first: cell,
             others: Vec::new(alloc),
         }
+    }
+
+    /// One of them is there. This is a law: the call does nothing.
+    pub(crate) fn has_one(&self)
+        ensures { (c : ℕ) × (has_cell self.now c ≡ true) }
+    {
+        let _ = &self.first;
     }
 
     /// Puts one more in if there is room for it, and answers whether there is. If memory runs out, all is as before.
