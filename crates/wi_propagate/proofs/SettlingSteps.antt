@@ -1,5 +1,5 @@
 -- What is owed is noted, one edit after another.
-use Rattle.wi_propagate.proofs.Words.{◌≡◌, ◌==◌, ◌||◌, ◌&&◌, ◌⊎◌, inl, inr, not, ◌≤◌, ◌<◌, ◌+◌, max, ℕ, Bool, true, false, cond, List, [], ◌∷◌, length, take, get_or, map, ◌++◌, nat_lt, Option, Some, None, is_some, refl, ap, sym, ◌∙◌, subst, arith, eqb-true, or_left, or_right, cases_lt, lt-ltb, or-false, map-append, list_any-append, list_any-IsPermutation, IsPermutation-map, IsPermutation, unwrap_or, nat_cmp, keys_of, lookup, is_at, insert_entry, found-insert, turn_test, CellEntries, get, Sheet, Reaches, is_one_of, reaches, in_cone, Edges, AreEdgesOf, IsLatest, IsOwed, AreOwed, IsSettling, reaches_true, true_reaches, same_reaches, in_last, in_front, settles_one, settling_begins, owed_stays, one_more, Generations, generation_in, noted_in, second_cells, has_seen}
+use Rattle.wi_propagate.proofs.Words.{in_back, is_itself, length-append, or_cases, ◌≡◌, ◌==◌, ◌||◌, ◌&&◌, ◌⊎◌, inl, inr, not, ◌≤◌, ◌<◌, ◌+◌, max, ℕ, Bool, true, false, cond, List, [], ◌∷◌, length, take, get_or, map, ◌++◌, nat_lt, Option, Some, None, is_some, refl, ap, sym, ◌∙◌, subst, arith, eqb-true, or_left, or_right, cases_lt, lt-ltb, or-false, map-append, list_any-append, list_any-IsPermutation, IsPermutation-map, IsPermutation, unwrap_or, nat_cmp, keys_of, lookup, is_at, insert_entry, found-insert, turn_test, CellEntries, get, Sheet, Reaches, is_one_of, reaches, in_cone, Edges, AreEdgesOf, IsLatest, IsOwed, AreOwed, IsSettling, reaches_true, true_reaches, same_reaches, in_last, in_front, settles_one, settling_begins, owed_stays, one_more, Generations, generation_in, noted_in, second_cells, has_seen}
 use Rattle.wi_propagate.proofs.GenerationSteps.{IsGiven}
 
 -- ---- one cell more is seen
@@ -57,20 +57,73 @@ lifted_more old new first xs i a number lifted l e w u h c =
 abbrev pub IsSettlingOver : Edges → Generations → Generations → List ℕ → (ℕ → Bool) → ℕ → Type 0
 IsSettlingOver es named noted rest seen last = (s : Sheet) → AreEdgesOf es s → IsSettling s (generation_in named) (noted_in named noted) rest seen last
 
-pub settling_more : (es : Edges) (named old new : Generations) (rest less : List ℕ) (x number last : ℕ) (seen now : ℕ → Bool) → ((y : ℕ) → is_one_of rest y ≡ true → (x ≡ y) ⊎ (is_one_of less y ≡ true)) → number ≡ generation_in named x → number ≤ last →
-    ((s : Sheet) → AreEdgesOf es s → (c : ℕ) → generation_in new c ≡ cond (in_cone s (x ∷ []) c && not (seen c)) (max (generation_in old c) number) (generation_in old c)) →
-    ((s : Sheet) → AreEdgesOf es s → (c : ℕ) → now c ≡ (seen c || (in_cone s (x ∷ []) c && not (seen c)))) → IsSettlingOver es named old rest seen last → IsSettlingOver es named new less now number
-settling_more es named old new rest less x number last seen now part e falls raised shown k s a =
-    subst (IsSettling s (generation_in named) (noted_in named new) less now) (sym e) (settles_one s (generation_in named) (noted_in named old) (noted_in named new) rest less x last seen now part (subst (λ (m : ℕ). m ≤ last) e falls)
-    (λ c. shown s a c ∙ either (seen c) (in_cone s (x ∷ []) c)) (λ c. ap (λ (m : ℕ). max (generation_in named c) m) (raised s a c) ∙ over c (in_cone s (x ∷ []) c && not (seen c))) (k s a))
+-- several edits of one number
+settles_run : (s : Sheet) (number noted after : ℕ → ℕ) (rest less run : List ℕ) (n last : ℕ) (seen now : ℕ → Bool) → ((y : ℕ) → is_one_of rest y ≡ true → (is_one_of run y ≡ true) ⊎ (is_one_of less y ≡ true)) → ((y : ℕ) → is_one_of run y ≡ true → number y ≡ n) → n ≤ last →
+    ((c : ℕ) → now c ≡ (seen c || in_cone s run c)) → ((c : ℕ) → after c ≡ cond (in_cone s run c && not (seen c)) (max (noted c) n) (noted c)) → IsSettling s number noted rest seen last → IsSettling s number after less now n
+settles_run s number noted after rest less [] n last seen now part same falls shown raised k = record {
+  owed = owed_stays s number noted after rest less (λ y h. in_less y (part y h)) (λ c m l. let e = raised c in let b = (k.owed c m l).no_later in (omega (arith, e), omega (arith, e, b))) k.owed;
+  closed = λ c d r h. as_seen c ∙ k.closed c d r (sym (as_seen d) ∙ h);
+  high = λ c h. let e = raised c in let z = k.high c (sym (as_seen c) ∙ h) in omega (arith, e, z, falls);
+}
+  where
+    in_less : (y : ℕ) → (is_one_of [] y ≡ true) ⊎ (is_one_of less y ≡ true) → is_one_of less y ≡ true
+    in_less y (inl h) = cc
+    in_less y (inr h) = h
+
+    as_seen : (c : ℕ) → now c ≡ seen c
+    as_seen c = shown c ∙ or-false (seen c)
+settles_run s number noted after rest less (x ∷ xs) n last seen now part same falls shown raised k =
+    settles_run s number mid after (xs ++ less) less xs n (number x) then now (λ y h. or_cases (is_one_of xs y) (is_one_of less y) (sym (list_any-append (λ z. z == y) xs less) ∙ h)) (λ y h. same y (or_right (x == y) (is_one_of xs y) h)) (omega (arith, here))
+    (λ c. shown c ∙ more (seen c) (reaches s c x) (in_cone s xs c)) (λ c. raised c ∙ higher c (reaches s c x) (in_cone s xs c) (seen c))
+    (settles_one s number noted mid rest (xs ++ less) x last seen then (λ y h. first y (part y h)) (omega (arith, here, falls)) (λ c. refl) (λ c. refl) k)
+  where
+    here : number x ≡ n
+    here = same x (or_left (x == x) (is_one_of xs x) (is_itself x))
+
+    then : ℕ → Bool
+    then c = seen c || in_cone s (x ∷ []) c
+
+    mid : ℕ → ℕ
+    mid c = cond (in_cone s (x ∷ []) c && not (seen c)) (max (noted c) (number x)) (noted c)
+
+    first : (y : ℕ) → (is_one_of (x ∷ xs) y ≡ true) ⊎ (is_one_of less y ≡ true) → (x ≡ y) ⊎ (is_one_of (xs ++ less) y ≡ true)
+    first y (inl h) = at (or_cases (x == y) (is_one_of xs y) h)
+      where
+        at : ((x == y) ≡ true) ⊎ (is_one_of xs y ≡ true) → (x ≡ y) ⊎ (is_one_of (xs ++ less) y ≡ true)
+        at (inl e) = inl (eqb-true x y e)
+        at (inr m) = inr (list_any-append (λ z. z == y) xs less ∙ or_left (is_one_of xs y) (is_one_of less y) m)
+    first y (inr h) = inr (list_any-append (λ z. z == y) xs less ∙ or_right (is_one_of xs y) (is_one_of less y) h)
+
+    more : (p q r : Bool) → (p || (q || r)) ≡ ((p || (q || false)) || r)
+    more true q r = refl
+    more false true r = refl
+    more false false r = refl
+
+    higher : (c : ℕ) (a b p : Bool) → cond ((a || b) && not p) (max (noted c) n) (noted c)
+        ≡ cond (b && not (p || (a || false))) (max (cond ((a || false) && not p) (max (noted c) (number x)) (noted c)) n) (cond ((a || false) && not p) (max (noted c) (number x)) (noted c))
+    higher c true true true = refl
+    higher c true false true = refl
+    higher c false true true = refl
+    higher c false false true = refl
+    higher c true true false = ap (λ (m : ℕ). max (noted c) m) (sym here)
+    higher c true false false = ap (λ (m : ℕ). max (noted c) m) (sym here)
+    higher c false true false = refl
+    higher c false false false = refl
+
+pub settling_more : (es : Edges) (named old new : Generations) (rest less run : List ℕ) (number last : ℕ) (seen now : ℕ → Bool) → ((y : ℕ) → is_one_of rest y ≡ true → (is_one_of run y ≡ true) ⊎ (is_one_of less y ≡ true)) → ((y : ℕ) → is_one_of run y ≡ true → generation_in named y ≡ number) → number ≤ last →
+    ((s : Sheet) → AreEdgesOf es s → (c : ℕ) → generation_in new c ≡ cond (in_cone s run c && not (seen c)) (max (generation_in old c) number) (generation_in old c)) →
+    ((s : Sheet) → AreEdgesOf es s → (c : ℕ) → now c ≡ (seen c || (in_cone s run c && not (seen c)))) → IsSettlingOver es named old rest seen last → IsSettlingOver es named new less now number
+settling_more es named old new rest less run number last seen now part same falls raised shown k s a =
+    settles_run s (generation_in named) (noted_in named old) (noted_in named new) rest less run number last seen now part same falls
+    (λ c. shown s a c ∙ either (seen c) (in_cone s run c)) (λ c. ap (λ (m : ℕ). max (generation_in named c) m) (raised s a c) ∙ over c (in_cone s run c && not (seen c))) (k s a)
   where
     either : (p q : Bool) → (p || (q && not p)) ≡ (p || q)
     either true q = refl
     either false true = refl
     either false false = refl
 
-    over : (c : ℕ) (b : Bool) → max (generation_in named c) (cond b (max (generation_in old c) number) (generation_in old c)) ≡ cond b (max (noted_in named old c) (generation_in named x)) (noted_in named old c)
-    over c true = omega (arith, e)
+    over : (c : ℕ) (b : Bool) → max (generation_in named c) (cond b (max (generation_in old c) number) (generation_in old c)) ≡ cond b (max (noted_in named old c) number) (noted_in named old c)
+    over c true = omega arith
     over c false = refl
 
 not_less : (a b : ℕ) → nat_lt a b ≡ false → b ≤ a
@@ -127,6 +180,50 @@ last_part rest less e i y h = turned (in_last (second_cells less) e.1 y (ap (λ 
 
 pub part_within : (rest less : List (ℕ × ℕ)) (e : ℕ × ℕ) → rest ≡ less ++ e ∷ [] → (y : ℕ) → is_one_of (second_cells less) y ≡ true → is_one_of (second_cells rest) y ≡ true
 part_within rest less e i y h = ap (λ (ys : List ℕ). is_one_of ys y) (ap second_cells i ∙ map-append (λ (z : ℕ × ℕ). z.1) less (e ∷ [])) ∙ in_front (second_cells less) (e.1 ∷ []) y h
+
+-- those that are in a run, and those that are left
+pub run_part : (rest less left : List (ℕ × ℕ)) (run : List ℕ) (e : ℕ × ℕ) → rest ≡ less ++ e ∷ [] → ((y : ℕ) → ((e.1 == y) || is_one_of (second_cells less) y) ≡ true → (is_one_of run y ≡ true) ⊎ (is_one_of (second_cells left) y ≡ true)) →
+    (y : ℕ) → is_one_of (second_cells rest) y ≡ true → (is_one_of run y ≡ true) ⊎ (is_one_of (second_cells left) y ≡ true)
+run_part rest less left run e i h y m = h y (at (last_part rest less e i y m))
+  where
+    at : (e.1 ≡ y) ⊎ (is_one_of (second_cells less) y ≡ true) → ((e.1 == y) || is_one_of (second_cells less) y) ≡ true
+    at (inl k) = or_left (e.1 == y) _ (ap (λ (z : ℕ). e.1 == z) (sym k) ∙ is_itself e.1)
+    at (inr k) = or_right (e.1 == y) _ k
+
+pub run_shorter : (rest less left : List (ℕ × ℕ)) (e : ℕ × ℕ) → rest ≡ less ++ e ∷ [] → length left ≤ length less → length left < length rest
+run_shorter rest less left e i h = let l = ap (λ (ys : List (ℕ × ℕ)). length ys) i ∙ length-append less (e ∷ []) in omega (arith, l, h)
+
+-- one more of a run: what is in it or still in the list, and what its numbers are
+abbrev pub IsRun : List (ℕ × ℕ) → ℕ → List ℕ → List (ℕ × ℕ) → Type 0
+IsRun first at run left = (y : ℕ) → ((at == y) || is_one_of (second_cells first) y) ≡ true → (is_one_of run y ≡ true) ⊎ (is_one_of (second_cells left) y ≡ true)
+
+pub run_begins : (first : List (ℕ × ℕ)) (at : ℕ) (run : List ℕ) → run ≡ at ∷ [] → IsRun first at run first
+run_begins first at run e y h = by (or_cases (at == y) _ h)
+  where
+    by : ((at == y) ≡ true) ⊎ (is_one_of (second_cells first) y ≡ true) → (is_one_of run y ≡ true) ⊎ (is_one_of (second_cells first) y ≡ true)
+    by (inl k) = inl (ap (λ (xs : List ℕ). is_one_of xs y) e ∙ or_left (at == y) false k)
+    by (inr k) = inr k
+
+pub run_more : (first left less : List (ℕ × ℕ)) (at : ℕ) (run more : List ℕ) (e : ℕ × ℕ) → left ≡ less ++ e ∷ [] → more ≡ run ++ e.1 ∷ [] → IsRun first at run left → IsRun first at more less
+run_more first left less at run more e i m k y h = by (k y h)
+  where
+    by : (is_one_of run y ≡ true) ⊎ (is_one_of (second_cells left) y ≡ true) → (is_one_of more y ≡ true) ⊎ (is_one_of (second_cells less) y ≡ true)
+    by (inl t) = inl (ap (λ (xs : List ℕ). is_one_of xs y) m ∙ in_front run (e.1 ∷ []) y t)
+    by (inr t) = last (last_part left less e i y t)
+      where
+        last : (e.1 ≡ y) ⊎ (is_one_of (second_cells less) y ≡ true) → (is_one_of more y ≡ true) ⊎ (is_one_of (second_cells less) y ≡ true)
+        last (inl u) = inl (ap (λ (xs : List ℕ). is_one_of xs y) m ∙ in_back run (e.1 ∷ []) y (or_left (e.1 == y) false (ap (λ (z : ℕ). e.1 == z) (sym u) ∙ is_itself e.1)))
+        last (inr u) = inr u
+
+pub numbers_more : (named : Generations) (number x : ℕ) (run more : List ℕ) → more ≡ run ++ x ∷ [] → generation_in named x ≡ number → ((y : ℕ) → is_one_of run y ≡ true → generation_in named y ≡ number) → (y : ℕ) → is_one_of more y ≡ true → generation_in named y ≡ number
+numbers_more named number x run more m e h y k = at (in_last run x y (ap (λ (xs : List ℕ). is_one_of xs y) (sym m) ∙ k))
+  where
+    at : (is_one_of run y ≡ true) ⊎ (x ≡ y) → generation_in named y ≡ number
+    at (inl t) = h y t
+    at (inr t) = ap (generation_in named) (sym t) ∙ e
+
+pub numbers_first : (named : Generations) (number x : ℕ) (run : List ℕ) → run ≡ x ∷ [] → generation_in named x ≡ number → (y : ℕ) → is_one_of run y ≡ true → generation_in named y ≡ number
+numbers_first named number x run m e = numbers_more named number x [] run m e (λ y h. cc)
 
 -- at first all that is owed is listed, and nothing was seen
 pub settling_first : {X : Type 0} (es : Edges) (named noted : Generations) (owed : List ℕ) (order : List (ℕ × ℕ)) (seen : CellEntries X) (last : ℕ) → ((x : ℕ) → is_one_of owed x ≡ is_one_of (second_cells order) x) → seen.entries ≡ [] →

@@ -5,7 +5,7 @@ pub use Rattle.std.proofs.lemmas.Bool.{and_parts, cases_lt, eqb-true, false_from
 pub use Rattle.std.proofs.lemmas.Bool.Decides.{nat_tests}
 pub use Rattle.std.proofs.lemmas.Cmp.{eq_by_cmp_equiv, nat_cmp_total}
 pub use Rattle.std.proofs.lemmas.Grind.{common_steps}
-pub use Rattle.std.proofs.lemmas.List.{map-append, nil_from_length}
+pub use Rattle.std.proofs.lemmas.List.{length-append, map-append, nil_from_length}
 pub use Rattle.std.proofs.lemmas.List.Elements.{All-more}
 pub use Rattle.std.proofs.lemmas.List.Folds.{list_all_more, list_any-append, list_any_at}
 pub use Rattle.std.proofs.lemmas.List.Sorted.{IsPermutation-map, list_any-IsPermutation}

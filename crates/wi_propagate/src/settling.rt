@@ -1,6 +1,6 @@
 //! Numbers of edits that are noted of the cells which reach what was edited.
 
-ghost use Rattle.std.specs.Prelude.{◌≡◌, ◌&&◌, ◌||◌, ◌∷◌, ℕ, [], max, nat_lt, not, None, true, false, if◌then◌else◌, IfOk, OnOk, OnErr};
+ghost use Rattle.std.specs.Prelude.{◌≡◌, ◌==◌, ◌≤◌, ◌&&◌, ◌||◌, ◌⊎◌, ◌∷◌, ℕ, [], length, max, nat_lt, not, None, true, false, if◌then◌else◌, IfOk, OnOk, OnErr};
 ghost use Rattle.std.specs.Map.{keys_of};
 ghost use Rattle.wi_parser.specs.Sheet.{Sheet};
 ghost use Rattle.wi_graph.specs.Reach.{is_one_of, in_cone};
@@ -35,8 +35,8 @@ impl<'a> Watch for Seen<'a> {
     }
 }
 
-/// Notes of each cell that reaches some of those that are owed the greatest of their numbers, and none is owed then. If memory runs out,
-/// they are owed still.
+/// Notes of each cell that reaches some of those that are owed the greatest of their numbers, and none is owed then. The cells of one edit
+/// are taken together. If memory runs out, they are owed still.
 pub fn settle_all(
     alloc: Global,
     graph: &Graph,
@@ -56,9 +56,10 @@ pub fn settle_all(
     let mut last = 0;
     'cells: while let Some(entry) = order.pop() {
         let number = number_at(named, entry.1);
+        let run = run_of(alloc, named, entry.1, number, &mut order)?;
         forget(&mut seen, last, number);
         last = number;
-        settle_one(graph, noted, &mut seen, entry.1, number)?;
+        settle_run(graph, noted, &mut seen, &run, number)?;
     }
     owed.clear();
     Ok(())
@@ -93,39 +94,70 @@ fn by_number(
     Ok(order)
 }
 
-/// Notes the number of a cell's last edit of those cells of its cone that weren't seen, and they are seen then. If memory runs out,
-/// what is noted is as before.
-fn settle_one(
+/// A cell, and those at the end of the list whose last edits have the same number, as one edit of several cells leaves them. They leave
+/// the list.
+fn run_of(
+    alloc: Global,
+    named: &Numbers,
+    at: Address,
+    number: u64,
+    order: &mut Vec<(u64, Address)>,
+) -> Result<Vec<Address>, AllocError>
+    requires { number ≡ generation_in named.now.entries at }
+    ensures parts { IfOk result (λ run. (y : ℕ) → (at == y || is_one_of (second_cells order.old.items) y) ≡ true
+        → (is_one_of run.items y ≡ true) ⊎ (is_one_of (second_cells order.new.items) y ≡ true)) }
+    ensures numbered { IfOk result (λ run. (y : ℕ) → is_one_of run.items y ≡ true → generation_in named.now.entries y ≡ number) }
+    ensures within { OnOk result ((y : ℕ) → is_one_of (second_cells order.new.items) y ≡ true → is_one_of (second_cells order.old.items) y ≡ true) }
+    ensures fewer { OnOk result (length order.new.items ≤ length order.old.items) }
+{
+    let mut run = vec![in alloc; at]?;
+    'run: while let Some(entry) = order.pop() {
+        if number_at(named, entry.1) != number {
+            order.push(entry)?;
+            return Ok(run);
+        }
+        run.push(entry.1)?;
+    }
+    Ok(run)
+}
+
+/// Notes the number of the last edit of some cells of those cells of their cone that weren't seen, and they are seen then. If memory runs
+/// out, what is noted is as before.
+fn settle_run(
     graph: &Graph,
     noted: &mut Numbers,
     seen: &mut CellMap<()>,
-    at: Address,
+    run: &[Address],
     number: u64,
 ) -> Result<(), AllocError>
     requires staged { graph.now.staged ≡ None }
     requires closed { (s : Sheet) → AreEdgesOf graph.now.now s → IsClosedUp s (has_seen seen.old) }
     ensures noted { OnOk result ((s : Sheet) → AreEdgesOf graph.now.now s → (c : ℕ) → generation_in noted.new.entries c
-        ≡ (if in_cone s (at ∷ []) c && not (has_seen seen.old c)
+        ≡ (if in_cone s run.now c && not (has_seen seen.old c)
         then max (generation_in noted.old.entries c) number else generation_in noted.old.entries c)) }
     ensures seen { OnOk result ((s : Sheet) → AreEdgesOf graph.now.now s
-        → (c : ℕ) → has_seen seen.new c ≡ (has_seen seen.old c || (in_cone s (at ∷ []) c && not (has_seen seen.old c)))) }
+        → (c : ℕ) → has_seen seen.new c ≡ (has_seen seen.old c || (in_cone s run.now c && not (has_seen seen.old c)))) }
     ensures err { OnErr result ((c : ℕ) → generation_in noted.new.entries c ≡ generation_in noted.old.entries c) }
 {
-    let cone = beyond_seen(graph, seen, at)?;
+    let cone = beyond_seen(graph, seen, run)?;
     see(seen, &cone)?;
     make_room(noted, &cone)?;
     lift(noted, &cone, number);
     Ok(())
 }
 
-/// The cells of a cell's cone that weren't seen.
-fn beyond_seen(graph: &Graph, seen: &CellMap<()>, at: Address) -> Result<Vec<Address>, AllocError>
+/// The cells of the cone of some cells that weren't seen.
+fn beyond_seen(
+    graph: &Graph,
+    seen: &CellMap<()>,
+    run: &[Address],
+) -> Result<Vec<Address>, AllocError>
     requires staged { graph.now.staged ≡ None }
     requires closed { (s : Sheet) → AreEdgesOf graph.now.now s → IsClosedUp s (has_seen seen.now) }
     ensures { IfOk result (λ cone. (s : Sheet) → AreEdgesOf graph.now.now s
-        → (c : ℕ) → is_one_of cone.items c ≡ (in_cone s (at ∷ []) c && not (has_seen seen.now c))) }
+        → (c : ℕ) → is_one_of cone.items c ≡ (in_cone s run.now c && not (has_seen seen.now c))) }
 {
-    graph.cone_beyond(&[at], &Seen { cells: seen })
+    graph.cone_beyond(run, &Seen { cells: seen })
 }
 
 /// These cells are seen.

@@ -1,5 +1,5 @@
-use Rattle.wi_propagate.proofs.Words.{◌∙◌, ap, sym, subst, rules, arith, keys_of, Sheet, AreEdgesOf, AreOwed, Generations, generation_in, noted_in, second_cells, has_seen}
-use Rattle.wi_propagate.proofs.SettlingSteps.{settling_first, settling_again, settling_more, settling_stays, settling_ends, last_part, part_within}
+use Rattle.wi_propagate.proofs.Words.{is_one_of, refl, true, List, ℕ, ◌⊎◌, ◌≡◌, ◌∙◌, ap, sym, subst, rules, arith, keys_of, Sheet, AreEdgesOf, AreOwed, Generations, generation_in, noted_in, second_cells, has_seen}
+use Rattle.wi_propagate.proofs.SettlingSteps.{settling_first, settling_again, settling_more, settling_stays, settling_ends, part_within, run_part, run_shorter}
 use Rattle.wi_propagate.proofs.settling.settle_all.Goals as goal
 
 pub cells-init : goal.cells-init
@@ -9,8 +9,8 @@ cells-init c =
       within = λ x h. c.in_ok-order.ensures x ∙ h;
     }
 
-pub settle_one-requires-clause-closed : goal.settle_one-requires-clause-closed
-settle_one-requires-clause-closed c = λ s a.
+pub settle_run-requires-clause-closed : goal.settle_run-requires-clause-closed
+settle_run-requires-clause-closed c = λ s a.
     (settling_again c.args.graph.now.now c.args.named.now.entries c.cells.noted.entries (second_cells c.cells.order.items) c.cells.last c.number_at-number.result (has_seen c.cells.seen) (has_seen c.forget.new.seen) c.forget.ensures c.cells.invariant.settling s a).closed
 
 pub cells-preserved : goal.cells-preserved
@@ -18,20 +18,33 @@ cells-preserved c =
     let es = c.args.graph.now.now in
     let named = c.args.named.now.entries in
     let rest = second_cells c.cells.order.items in
-    let less = second_cells c.pop.new.self.items in
+    let left = c.run_of.new.order.items in
+    let part = run_part c.cells.order.items c.pop.new.self.items left c.in_ok-run.run.items c.in-Some.entry c.in-Some.ensures.items c.in_ok-run.ensures.parts in
     let number = c.number_at-number.result in
     let again = settling_again es named c.cells.noted.entries rest c.cells.last number (has_seen c.cells.seen) (has_seen c.forget.new.seen) c.forget.ensures c.cells.invariant.settling in
     record {
-      settling = settling_more es named c.cells.noted.entries c.settle_one.new.noted.entries rest less c.in-Some.entry.1 number _ (has_seen c.forget.new.seen) (has_seen c.settle_one.new.seen) (last_part c.cells.order.items c.pop.new.self.items c.in-Some.entry c.in-Some.ensures.items)
-          c.number_at-number.ensures (omega arith) c.in_ok-settle_one.ensures.noted c.in_ok-settle_one.ensures.seen again;
-      within = λ x h. c.cells.invariant.within x (part_within c.cells.order.items c.pop.new.self.items c.in-Some.entry c.in-Some.ensures.items x h);
+      settling = settling_more es named c.cells.noted.entries c.settle_run.new.noted.entries rest (second_cells left) c.deref.result.now number _ (has_seen c.forget.new.seen) (has_seen c.settle_run.new.seen)
+          (λ y h. subst (λ (run : List ℕ). (is_one_of run y ≡ true) ⊎ (is_one_of (second_cells left) y ≡ true)) (sym c.deref.ensures.value) (part y h)) (λ y h. c.in_ok-run.ensures.numbered y (ap (λ (run : List ℕ). is_one_of run y) (sym c.deref.ensures.value) ∙ h))
+          (omega arith) c.in_ok-settle_run.ensures.noted c.in_ok-settle_run.ensures.seen again;
+      within = λ x h. c.cells.invariant.within x (part_within c.cells.order.items c.pop.new.self.items c.in-Some.entry c.in-Some.ensures.items x (c.in_ok-run.ensures.within x h));
     }
 
-pub returns-in_err-settle_one-clause-owed : goal.returns-in_err-settle_one-clause-owed
-returns-in_err-settle_one-clause-owed c =
+pub cells-smaller : goal.cells-smaller
+cells-smaller c = run_shorter c.cells.order.items c.pop.new.self.items c.run_of.new.order.items c.in-Some.entry c.in-Some.ensures.items c.in_ok-run.ensures.fewer
+
+pub returns-in_err-run-clause-owed : goal.returns-in_err-run-clause-owed
+returns-in_err-run-clause-owed c =
     let named = c.args.named.now.entries in
-    let whole : (s : Sheet) → AreEdgesOf c.args.graph.now.now s → AreOwed s (generation_in named) (keys_of c.args.owed.now.entries) (noted_in named c.settle_one.new.noted.entries) =
-    settling_stays c.args.graph.now.now named c.cells.noted.entries c.settle_one.new.noted.entries (keys_of c.args.owed.now.entries) (second_cells c.cells.order.items) (has_seen c.cells.seen) c.cells.last c.in_err-settle_one.ensures.err c.cells.invariant.within
+    let whole : (s : Sheet) → AreEdgesOf c.args.graph.now.now s → AreOwed s (generation_in named) (keys_of c.args.owed.now.entries) (noted_in named c.cells.noted.entries) =
+    settling_stays c.args.graph.now.now named c.cells.noted.entries c.cells.noted.entries (keys_of c.args.owed.now.entries) (second_cells c.cells.order.items) (has_seen c.cells.seen) c.cells.last (λ d. refl) c.cells.invariant.within
+    c.cells.invariant.settling in
+    search whole
+
+pub returns-in_err-settle_run-clause-owed : goal.returns-in_err-settle_run-clause-owed
+returns-in_err-settle_run-clause-owed c =
+    let named = c.args.named.now.entries in
+    let whole : (s : Sheet) → AreEdgesOf c.args.graph.now.now s → AreOwed s (generation_in named) (keys_of c.args.owed.now.entries) (noted_in named c.settle_run.new.noted.entries) =
+    settling_stays c.args.graph.now.now named c.cells.noted.entries c.settle_run.new.noted.entries (keys_of c.args.owed.now.entries) (second_cells c.cells.order.items) (has_seen c.cells.seen) c.cells.last c.in_err-settle_run.ensures.err c.cells.invariant.within
     c.cells.invariant.settling in
     search whole
 
