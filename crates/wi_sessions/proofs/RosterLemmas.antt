@@ -19,7 +19,7 @@ use Rattle.indexmap.proofs.CallerLemmas.{insert_entry-new}
 use Rattle.wi_sessions.specs.Pictures.Laws.{is_listed}
 use Rattle.wi_sessions.specs.Sessions.{has_session, index_of}
 use Rattle.wi_sessions.specs.Roster.{SameCells}
-use Rattle.wi_sessions.specs.Inner.Held.{session_in, pending_cells, rooms_of}
+use Rattle.wi_sessions.specs.Inner.Held.{session_in}
 use Rattle.wi_sessions.specs.declared.held.Held.{Held}
 
 -- a name, and what is held under it
@@ -58,20 +58,6 @@ module _ {Z : Type 0} (name : List ℕ) where
       by : (b : Bool) → IfSome (cond b (Some (position_or_len key_is (keys_of es))) None) (λ i. i ≡ index_of (map session_in es) name)
       by true = same_place es
       by false = tt
-
--- ---- the pending cells of a new session
-
-all_new : (b : Bool) → (false || (b && not false)) ≡ b
-all_new true = refl
-all_new false = refl
-
--- where none was pending or had room, room was made for these cells, and they were taken
-pub pending_are : (cells none vacant pending : List ℕ) → none ≡ []
-    → ((a : ℕ) → is_listed vacant a ≡ (is_listed [] a || (is_listed cells a && not (is_listed [] a))))
-    → ((a : ℕ) → is_listed pending a ≡ (is_listed none a || is_listed vacant a))
-    → SameCells pending cells
-pending_are cells none vacant pending e made taken =
-    λ a. taken a ∙ ap (λ (xs : List ℕ). is_listed xs a || is_listed vacant a) e ∙ made a ∙ all_new (is_listed cells a)
 
 -- ---- one session among all
 
@@ -152,72 +138,6 @@ empty_after [] zero = refl
 empty_after [] (suc i) = refl
 empty_after (x ∷ xs) zero = refl
 empty_after (x ∷ xs) (suc i) = empty_after xs i
-
--- ---- each session in turn
-
-module _ {Z : Type 0} (R : Entry Z → Entry Z → Type 0) where
-  -- those before the i-th are done
-  abbrev pub Done : List (Entry Z) → List (Entry Z) → ℕ → Type 0
-  Done old new i = (j : ℕ) (d : Entry Z) → j < i → R (get_or old j d) (get_or new j d)
-
-  -- those from the i-th on are as they were
-  abbrev pub Left : List (Entry Z) → List (Entry Z) → ℕ → Type 0
-  Left old new i = (j : ℕ) (d : Entry Z) → i ≤ j → get_or new j d ≡ get_or old j d
-
-  pub done_more : (old now : List (Entry Z)) (i : ℕ) (k : RcStr Z) (x y : Held) → slice_get now i ≡ Some (k, x) → R (k, x) (k, y)
-      → Done old now i → Left old now i → Done old (set_value_at now i y) (i + 1)
-  done_more old now i k x y at r done left =
-      subst (λ (es : List (Entry Z)). Done old es (i + 1)) (sym (set_entry now i k x y at))
-      (λ j d h. ⊎_elim
-      (λ (p : j ≡ i). subst (λ (n : ℕ). R (get_or old n d) (get_or (set now i (k, y)) n d)) (sym p)
-      (subst (λ (z : Entry Z). R (get_or old i d) z) (sym (get_or-set_same now i (k, y) d (slice_get_within now i (k, x) at)))
-      (subst (λ (z : Entry Z). R z (k, y)) (sym (get_or_from_slice_get now i (k, x) d at) ∙ left i d (let h : i ≤ i = omega arith in h)) r)))
-      (λ (n : j ≢ i). subst (λ (z : Entry Z). R (get_or old j d) z) (sym (get_or-set_other now i j (k, y) d n)) (done j d (omega (arith, h, n))))
-      (cases_eq j i))
-
-  pub left_more : (old now : List (Entry Z)) (i : ℕ) (k : RcStr Z) (x y : Held) → slice_get now i ≡ Some (k, x)
-      → Left old now i → Left old (set_value_at now i y) (i + 1)
-  left_more old now i k x y at left =
-      subst (λ (es : List (Entry Z)). Left old es (i + 1)) (sym (set_entry now i k x y at))
-      (λ j d h. get_or-set_other now i j (k, y) d (λ p. let n : ⊥ = omega (arith, h, p) in n) ∙ left j d (omega (arith, h)))
-
-  pub all_done : (old new : List (Entry Z)) → length new ≡ length old → Done old new (length old) → AllZip R old new
-  all_done [] [] e h = tt
-  all_done [] (y ∷ ys) e h = let n : ⊥ = omega (arith, e) in absurd n
-  all_done (x ∷ xs) [] e h = let n : ⊥ = omega (arith, e) in absurd n
-  all_done (x ∷ xs) (y ∷ ys) e h = (h 0 x (omega arith), all_done xs ys (omega (arith, e)) (λ k d l. h (suc k) d (omega (arith, l))))
-
-  pub each_same : {Y : Type 0} (f : Entry Z → Y) → ((x y : Entry Z) → R x y → f y ≡ f x) → (old new : List (Entry Z)) → AllZip R old new → map f new ≡ map f old
-  each_same {Y} f same [] [] h = refl
-  each_same {Y} f same [] (y ∷ ys) h = absurd h
-  each_same {Y} f same (x ∷ xs) [] h = absurd h
-  each_same {Y} f same (x ∷ xs) (y ∷ ys) h = ap (λ (z : Y). z ∷ map f ys) (same x y h.0) ∙ ap (λ (zs : List Y). f x ∷ zs) (each_same f same xs ys h.1)
-
-  pub each_empty : ((x y : Entry Z) → R x y → rooms_of y ≡ []) → (old new : List (Entry Z)) → AllZip R old new → (i : ℕ) → get_or (map rooms_of new) i [] ≡ []
-  each_empty gone [] [] h i = refl
-  each_empty gone [] (y ∷ ys) h i = absurd h
-  each_empty gone (x ∷ xs) [] h i = absurd h
-  each_empty gone (x ∷ xs) (y ∷ ys) h zero = gone x y h.0
-  each_empty gone (x ∷ xs) (y ∷ ys) h (suc i) = each_empty gone xs ys h.1 i
-
-module _ {Z : Type 0} where
-  -- a session whose cells with room became pending
-  abbrev pub Took : Entry Z → Entry Z → Type 0
-  Took x y = (session_in y ≡ session_in x)
-      × ((a : ℕ) → is_listed (pending_cells y) a ≡ (is_listed (pending_cells x) a || is_listed (rooms_of x) a))
-      × (rooms_of y ≡ [])
-
-  pub each_took : (old new : List (Entry Z)) → AllZip Took old new → (i a : ℕ)
-      → is_listed (get_or (map pending_cells new) i []) a ≡ (is_listed (get_or (map pending_cells old) i []) a || is_listed (get_or (map rooms_of old) i []) a)
-  each_took [] [] h i a = refl
-  each_took [] (y ∷ ys) h i a = absurd h
-  each_took (x ∷ xs) [] h i a = absurd h
-  each_took (x ∷ xs) (y ∷ ys) h zero a = (h.0).1 a
-  each_took (x ∷ xs) (y ∷ ys) h (suc i) a = each_took xs ys h.1 i a
-
-  -- a session whose vacant rooms went
-  abbrev pub Gave : Entry Z → Entry Z → Type 0
-  Gave x y = (session_in y ≡ session_in x) × (pending_cells y ≡ pending_cells x) × (rooms_of y ≡ [])
 
 -- ---- what each has
 

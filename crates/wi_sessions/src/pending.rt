@@ -1,102 +1,208 @@
-//! Which cells may differ from a picture.
+//! Which cells may differ from which pictures.
 
-ghost use Rattle.std.specs.Prelude.{◌≡◌, ◌||◌, ◌&&◌, ◌↔◌, ℕ, IsTrue, not, [], IfOk, OnOk, OnErr};
+ghost use Rattle.std.specs.Prelude.{◌≡◌, ◌≢◌, ◌<◌, ◌||◌, ◌&&◌, ◌++◌, ◌∷◌, ℕ, List, not, length, [], IfOk, OnOk, OnErr, true};
+ghost use Rattle.std.specs.List.{list_all, slice_set};
 ghost use Rattle.wi_sessions.specs.Pictures.{sheet_size};
 ghost use Rattle.wi_sessions.specs.Pictures.Laws.{is_listed, Rises};
+ghost use Rattle.wi_sessions.specs.Pending.{list_at};
+ghost use Rattle.wi_sessions.specs.Roster.{SameCells};
 
-use crate::cells::{Cells, clear, give_back, has, listed, make_room};
+use crate::bits::{are_alike, bit_of, bits_of, without};
+use crate::cells::{
+    Room, Words, clear_each, give_back, is_staged, push_those, put_in_order, stage, staged_of,
+    walked, word_of,
+};
+use crate::unread::{Unread, note};
 use std::alloc::{AllocError, Global};
 use std::marker::Model;
 use wi_tiles::CellMap;
 use wi_values::Address;
 
-/// The cells that are pending: of all others a session's picture has the value. An edit first makes room for the cells that
+/// The cells that are pending for each session: of all others its picture has the value. An edit first makes room for the cells that
 /// it may change, and lets them take it once it is done, which takes no memory.
 #[derive(Drop)]
-pub struct Pending {
-    all: Cells,
-    // Those for which there is room only.
-    vacant: Vec<Address>,
+pub(crate) struct Pending {
+    words: Words,
+    // Rooms only.
+    staged: Vec<Room>,
+    // Cells that edits changed, in turn, as far as a session may have to look for them here.
+    changed: Vec<Address>,
+    // Where the cells of each session stand.
+    unread: Vec<Unread>,
     alloc: Global,
 }
 
 impl Model for Pending {
-    ghost use Rattle.wi_sessions.specs.Pending.{PendingCells};
+    ghost use Rattle.wi_sessions.specs.Pending.{AllPending};
     ghost use Rattle.std.specs.Coded.{codes};
-    ghost use Rattle.wi_sessions.specs.Inner.Cells.{cells_of, pending_in};
-    ghost use Rattle.std.specs.Ordering.{nat_cmp};
-    ghost use Rattle.wi_tiles.specs.Entries.{IsOrdered};
+    ghost use Rattle.std.specs.Prelude.{length};
+    ghost use Rattle.wi_sessions.specs.Inner.Cells.{pending_in};
+    ghost use Rattle.wi_sessions.specs.Inner.Unread.{AreKept};
 
-    ghost Value = { PendingCells };
+    ghost Value = { AllPending };
 
     ghost coded = { Prim.hlevel codes };
 
-    ghost view = { λ p. pending_in (cells_of p.all) p.vacant.items };
+    ghost view = { λ p. pending_in p.words.entries p.staged.items (length p.unread.items) };
 
-    ghost invariant = { λ p. IsOrdered nat_cmp p.all };
+    ghost invariant = { λ p. AreKept p.words.entries p.staged.items p.changed.items p.unread.items };
 }
 
 impl Pending {
-    /// No pending cells. Takes no memory.
-    pub fn new(alloc: Global) -> Pending
-        ensures cells { result.cells ≡ [] }
+    /// Of no session. Takes no memory.
+    pub(crate) fn new(alloc: Global) -> Pending
+        ensures pending { result.pending ≡ [] }
         ensures vacant { result.vacant ≡ [] }
     {
         Pending {
-            all: CellMap::new(alloc),
-            vacant: Vec::new(alloc),
+            words: CellMap::new(alloc),
+            staged: Vec::new(alloc),
+            changed: Vec::new(alloc),
+            unread: Vec::new(alloc),
             alloc,
         }
     }
 
-    /// Makes room for each of the cells that isn't pending; none is pending yet. On an error the vacant rooms go, those that
-    /// were there before too. The work for each cell is that of one look-up, and of putting it in where it isn't pending: the same
-    /// however many are, but for a search among the tiles of 16 rows.
-    pub fn make_room(&mut self, cells: &[Address]) -> Result<(), AllocError>
-        ensures cells { self.new.cells ≡ self.old.cells }
-        ensures room { OnOk result ((a : ℕ) → is_listed self.new.vacant a
-            ≡ (is_listed self.old.vacant a || (is_listed cells.now a && not (is_listed self.old.cells a)))) }
-        ensures refused { OnErr result (self.new.vacant ≡ []) }
+    /// One session more, for which these cells are pending. On an error all is as before. It is an error too where there are 64.
+    /// The work is that of `make_room`.
+    pub(crate) fn push(&mut self, cells: &[Address]) -> Result<(), AllocError>
+        ensures pending { OnOk result ((new : List ℕ) × (self.new.pending ≡ self.old.pending ++ new ∷ []) × SameCells new cells.now) }
+        ensures vacant { OnOk result (self.new.vacant ≡ self.old.vacant ++ [] ∷ []) }
+        ensures refused { OnErr result (self.new ≡ self.old) }
     {
-        make_room(&mut self.all, &mut self.vacant, cells)
+        let i = self.unread.len();
+        if i >= 64 {
+            return Err(AllocError);
+        }
+        self.unread.reserve(1)?;
+        let mut unread = Unread::new(self.alloc, self.changed.len());
+        unread.note(cells, self.words.len() / 16 + 64)?;
+        let mut rooms = Vec::new(self.alloc);
+        stage(&mut self.words, &mut rooms, cells, bit_of(i))?;
+        self.unread.push(unread).unwrap();
+        Ok(())
+    }
+
+    /// Makes room for each of the cells that isn't pending for a session; none is pending yet. On an error its rooms go. The work for
+    /// each cell is that of two look-ups, and of putting it in where it stands for no session: the same however many cells there are,
+    /// but for a search among the tiles of 16 rows.
+    pub(crate) fn make_room(&mut self, i: usize, cells: &[Address]) -> Result<(), AllocError>
+        requires { i < length self.old.pending }
+        ensures lists { self.new.pending ≡ self.old.pending }
+        ensures room { OnOk result ((a : ℕ) → is_listed (list_at self.new.vacant i) a
+            ≡ (is_listed (list_at self.old.vacant i) a || (is_listed cells.now a && not (is_listed (list_at self.old.pending i) a)))) }
+        ensures refused { OnErr result (list_at self.new.vacant i ≡ []) }
+        ensures others { (j : ℕ) → j ≢ i → list_at self.new.vacant j ≡ list_at self.old.vacant j }
+    {
+        let limit = self.words.len() / 16 + 64;
+        if let Err(error) = self.unread[i].note(cells, limit) {
+            drop_rooms(&mut self.words, &self.staged, bit_of(i));
+            return Err(error);
+        }
+        if let Err(error) = stage_each(&mut self.words, &mut self.staged, cells, bit_of(i)) {
+            drop_rooms(&mut self.words, &self.staged, bit_of(i));
+            return Err(error);
+        }
+        Ok(())
+    }
+
+    /// The same for each session, in one walk through the cells.
+    pub(crate) fn make_room_all(&mut self, cells: &[Address]) -> Result<(), AllocError>
+        ensures pending { self.new.pending ≡ self.old.pending }
+        ensures room { OnOk result ((i a : ℕ) → i < length self.old.pending → is_listed (list_at self.new.vacant i) a
+            ≡ (is_listed (list_at self.old.vacant i) a || (is_listed cells.now a && not (is_listed (list_at self.old.pending i) a)))) }
+        ensures refused { OnErr result ((j : ℕ) → list_at self.new.vacant j ≡ []) }
+    {
+        let limit = self.words.len() / 2 + 64;
+        if let Err(error) = note(&mut self.changed, &mut self.unread, cells, limit) {
+            give_back(&mut self.words, &mut self.staged);
+            return Err(error);
+        }
+        stage(
+            &mut self.words,
+            &mut self.staged,
+            cells,
+            bits_of(self.unread.len()),
+        )
     }
 
     /// The cells for which there is room are pending now. Takes no memory, and no search.
-    pub fn take(&mut self)
-        ensures cells { (a : ℕ) → is_listed self.new.cells a ≡ (is_listed self.old.cells a || is_listed self.old.vacant a) }
-        ensures vacant { self.new.vacant ≡ [] }
+    pub(crate) fn take(&mut self)
+        ensures lists { length self.new.pending ≡ length self.old.pending }
+        ensures pending { (i a : ℕ) → is_listed (list_at self.new.pending i) a ≡ (is_listed (list_at self.old.pending i) a || is_listed (list_at self.old.vacant i) a) }
+        ensures vacant { (i : ℕ) → list_at self.new.vacant i ≡ [] }
     {
-        self.vacant.clear();
+        self.staged.clear();
     }
 
-    /// The vacant rooms go. Takes no memory. The work is that of `make_room` for them.
+    /// All rooms go. Takes no memory. The work is that of `make_room` for them.
     pub(crate) fn give_back(&mut self)
-        ensures cells { self.new.cells ≡ self.old.cells }
-        ensures vacant { self.new.vacant ≡ [] }
+        ensures pending { self.new.pending ≡ self.old.pending }
+        ensures vacant { (i : ℕ) → list_at self.new.vacant i ≡ [] }
     {
-        give_back(&mut self.all, &mut self.vacant);
+        give_back(&mut self.words, &mut self.staged);
     }
 
-    /// No cell is pending any more, and the vacant rooms go. Takes no memory.
-    pub fn clear(&mut self)
-        ensures cells { self.new.cells ≡ [] }
-        ensures vacant { self.new.vacant ≡ [] }
+    /// Whether a cell is pending for each session. One look-up.
+    pub(crate) fn all_have(&self, at: Address) -> bool
+        ensures { result ≡ list_all (λ cells. is_listed cells at) self.now.pending }
     {
-        clear(&mut self.all, &mut self.vacant);
+        let word = without(word_of(&self.words, at), staged_of(&self.staged, at));
+        are_alike(word, bits_of(self.unread.len()))
     }
 
-    /// Whether a cell is pending. The work is that of one look-up, as in `make_room`.
-    pub fn contains(&self, at: Address) -> bool
-        ensures { result ≡ is_listed self.now.cells at }
+    /// The cells that are pending for a session or have room only, in row-major order.
+    pub(crate) fn all(&self, i: usize) -> Result<Vec<Address>, AllocError>
+        requires { i < length self.now.pending }
+        ensures { IfOk result (λ found. (a : ℕ) → is_listed found.items a ≡ (is_listed (list_at self.now.pending i) a || is_listed (list_at self.now.vacant i) a)) }
     {
-        has(&self.all, &self.vacant, at)
+        let unread = &self.unread[i];
+        let behind = &self.changed[unread.from..];
+        let count = behind.len().saturating_add(unread.own.len());
+        if unread.anywhere || count >= self.words.len() {
+            return walked(self.alloc, &self.words, i);
+        }
+        let mut found = Vec::new(self.alloc);
+        push_those(&mut found, &self.words, behind, i)?;
+        push_those(&mut found, &self.words, &unread.own, i)?;
+        put_in_order(&mut found);
+        Ok(found)
     }
 
-    /// The pending cells, in row-major order. The work is a step for each; 16 rows with none between them are passed at once.
-    pub fn cells(&self) -> Result<Vec<Address>, AllocError>
-        ensures list { IfOk result (λ found. found.items ≡ self.now.cells) }
-        ensures order { OnOk result (Rises 0 sheet_size self.now.cells) }
+    /// The cells that are pending for a session, in row-major order. The work is that of a look-up for each cell that was marked since it
+    /// was last told, and of a sort, or a step for each cell that is pending for any, whichever is less.
+    pub(crate) fn cells(&self, i: usize) -> Result<Vec<Address>, AllocError>
+        requires { i < length self.now.pending }
+        ensures list { IfOk result (λ found. found.items ≡ list_at self.now.pending i) }
+        ensures order { OnOk result (Rises 0 sheet_size (list_at self.now.pending i)) }
     {
-        listed(self.alloc, &self.all, &self.vacant)
+        let all = self.all(i)?;
+        if self.staged.is_empty() {
+            return Ok(all);
+        }
+        let mut found = Vec::new(self.alloc);
+        for at in &all {
+            if !is_staged(&self.staged, i, *at) {
+                found.push(*at)?;
+            }
+        }
+        Ok(found)
+    }
+
+    /// No cell is pending for a session any more, nor has room; these are all of them. Takes no memory. The work is that of a look-up
+    /// for each.
+    pub(crate) fn clear(&mut self, i: usize, all: &[Address])
+        requires within { i < length self.old.pending }
+        requires all { (a : ℕ) → is_listed all.now a ≡ (is_listed (list_at self.old.pending i) a || is_listed (list_at self.old.vacant i) a) }
+        ensures pending { self.new.pending ≡ slice_set self.old.pending i [] }
+        ensures vacant { self.new.vacant ≡ slice_set self.old.vacant i [] }
+    {
+        if self.unread.len() == 1 {
+            self.words.clear();
+        } else {
+            clear_each(&mut self.words, all, bit_of(i));
+        }
+        let length = self.changed.len();
+        self.unread[i].read(length);
     }
 }

@@ -1,0 +1,96 @@
+//! Where to look for the cells that are pending for a session.
+
+ghost use Rattle.std.specs.Prelude.{◌≡◌, ◌≤◌, ◌<◌, ℕ, List, true, length, [], OnOk};
+ghost use Rattle.wi_sessions.specs.Pictures.Laws.{is_listed};
+ghost use Rattle.std.specs.List.{slice_index_or};
+ghost use Rattle.wi_sessions.specs.declared.unread.Unread.{Unread};
+ghost use Rattle.wi_sessions.specs.Inner.Unread.{is_unread, HavePlaces};
+
+use std::alloc::{AllocError, Global};
+use wi_values::Address;
+
+/// Where the cells stand that are pending for a session or have room only: behind a place of the list of changed cells, or in a
+/// list of its own. They may stand anywhere where it hasn't looked for long.
+#[derive(Drop)]
+pub(crate) struct Unread {
+    pub(crate) anywhere: bool,
+    pub(crate) from: usize,
+    pub(crate) own: Vec<Address>,
+}
+
+impl Unread {
+    /// Nothing before a place, and nothing of its own. Takes no memory.
+    pub(crate) fn new(alloc: Global, from: usize) -> Unread
+        ensures { result.from ≡ from }
+    {
+        Unread {
+            anywhere: false,
+            from,
+            own: Vec::new(alloc),
+        }
+    }
+
+    /// Notes cells of its own; where there are more than so many, they may stand anywhere.
+    pub(crate) fn note(&mut self, cells: &[Address], limit: usize) -> Result<(), AllocError>
+        ensures from { self.new.from ≡ self.old.from }
+        ensures stay { (changed : List ℕ) (c : ℕ) → is_unread changed self.old c ≡ true → is_unread changed self.new c ≡ true }
+        ensures own { OnOk result ((changed : List ℕ) (c : ℕ) → is_listed cells.now c ≡ true → is_unread changed self.new c ≡ true) }
+    {
+        if self.own.len().saturating_add(cells.len()) > limit {
+            self.anywhere = true;
+            self.own.clear();
+            return Ok(());
+        }
+        self.own.extend_from_slice(cells)
+    }
+
+    /// The list of changed cells, which had this length, is empty now.
+    fn begin_anew(&mut self, length: usize)
+        ensures from { self.new.from ≡ 0 }
+        ensures stay { (changed : List ℕ) (c : ℕ) → length changed ≡ length → is_unread changed self.old c ≡ true → is_unread ([]) self.new c ≡ true }
+    {
+        if self.from != length {
+            self.anywhere = true;
+            self.own.clear();
+        }
+        self.from = 0;
+    }
+
+    /// All is read up to a place. Takes no memory.
+    pub(crate) fn read(&mut self, length: usize)
+        ensures { self.new.from ≡ length }
+    {
+        self.anywhere = false;
+        self.from = length;
+        self.own.clear();
+    }
+}
+
+/// The list of changed cells, which had this length, is empty now.
+fn begin_anew(unread: &mut [Unread], length: usize)
+    ensures lists { length unread.new ≡ length unread.old }
+    ensures places { (words : List (ℕ × ℕ)) (changed : List ℕ) → length changed ≡ length → HavePlaces words changed unread.old → HavePlaces words ([]) unread.new }
+{
+    for one in unread.iter_mut() {
+        one.begin_anew(length);
+    }
+}
+
+/// Notes changed cells. Where their list would be longer than so many, it begins anew, and who hasn't read it has to look anywhere.
+pub(crate) fn note(
+    changed: &mut Vec<Address>,
+    unread: &mut Vec<Unread>,
+    cells: &[Address],
+    limit: usize,
+) -> Result<(), AllocError>
+    ensures lists { length unread.new.items ≡ length unread.old.items }
+    ensures places { (words : List (ℕ × ℕ)) → HavePlaces words changed.old.items unread.old.items → HavePlaces words changed.new.items unread.new.items }
+    ensures looked { OnOk result ((words : List (ℕ × ℕ)) → HavePlaces words changed.old.items unread.old.items
+        → (i c : ℕ) (d : Unread) → i < length unread.old.items → is_listed cells.now c ≡ true → is_unread changed.new.items (slice_index_or unread.new.items i d) c ≡ true) }
+{
+    if changed.len().saturating_add(cells.len()) > limit {
+        begin_anew(unread, changed.len());
+        changed.clear();
+    }
+    changed.extend_from_slice(cells)
+}
