@@ -133,7 +133,7 @@ rises xs a h = rising 0 (rows * columns) xs a (from_zero xs) h
 
 -- ---- lists that are sorted
 
-same_answers : (b d : Bool) → (b ≡ true → d ≡ true) → (d ≡ true → b ≡ true) → b ≡ d
+pub same_answers : (b d : Bool) → (b ≡ true → d ≡ true) → (d ≡ true → b ≡ true) → b ≡ d
 same_answers true d h k = sym (h refl)
 same_answers false true h k = k refl
 same_answers false false h k = refl

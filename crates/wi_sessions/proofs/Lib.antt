@@ -9,3 +9,4 @@ pub mod BitLemmas
 pub mod WordLemmas
 pub mod ViewLemmas
 pub mod PlaceLemmas
+pub mod PendingLemmas

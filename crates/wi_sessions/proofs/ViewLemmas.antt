@@ -38,12 +38,8 @@ module _ (f : ℕ → List ℕ) (n : ℕ) where
   one_list_more = map-range_with_len_more f 0 n n (omega arith)
 
   -- the same lists
-  pub same_as : (g : ℕ → List ℕ) → ((i : ℕ) → g i ≡ f i) → map g (range_with_len 0 n) ≡ lists
-  same_as g h = by (range_with_len 0 n)
-    where
-      by : (is : List ℕ) → map g is ≡ map f is
-      by [] = refl
-      by (i ∷ is) = ap (λ (xs : List ℕ). xs ∷ map g is) (h i) ∙ ap (λ (xss : List (List ℕ)). f i ∷ xss) (by is)
+  pub same_as : (g : ℕ → List ℕ) → ((i : ℕ) → i < n → g i ≡ f i) → map g (range_with_len 0 n) ≡ lists
+  same_as g h = fill_by_all f (map g (range_with_len 0 n)) n [] (length-map-range_with_len g 0 n) (λ k l. get_or-map-range_with_len g 0 n k k [] l (omega arith) ∙ h k l)
 
   -- the same but for one
   pub one_set : (g : ℕ → List ℕ) (i : ℕ) (xs : List ℕ) → i < n → g i ≡ xs → ((j : ℕ) → j ≢ i → g j ≡ f j) → map g (range_with_len 0 n) ≡ set lists i xs

@@ -1,0 +1,259 @@
+-- Laws of what is pending for all sessions, for each call.
+use Rattle.std.proofs.Common.{◌≡◌, ◌≢◌, ◌==◌, ◌<◌, ◌≤◌, ◌+◌, ◌||◌, ◌&&◌, ◌∙◌, ◌⊎◌, ℕ, Bool, true, false, not, List, [], ◌∷◌, ◌++◌, map, length, get_or, set, drop, filter, refl, sym, ap, subst, arith, ⊎_elim}
+use Rattle.std.proofs.Math.Bool.{and-false, and-true, or-false, or-true}
+use Rattle.std.specs.Prelude.{nat_lt}
+use Rattle.std.specs.List.{list_all, range_with_len}
+use Rattle.std.specs.List.Sorted.{IsStrictlySortedBy}
+use Rattle.std.specs.Ordering.{nat_cmp}
+use Rattle.std.specs.Map.{keys_of}
+use Rattle.std.proofs.lemmas.Bool.{and_parts, both_ways, cases_eq, cases_lt, eq-eqb, ne_eqb, le-ltb, lt-ltb, or_cases}
+use Rattle.std.proofs.lemmas.List.{get_or-set_same, length-append, length-set}
+use Rattle.std.proofs.lemmas.List.Folds.{list_any-append}
+use Rattle.wi_sessions.specs.Pictures.Laws.{is_listed}
+use Rattle.wi_sessions.specs.Pending.{list_at}
+use Rattle.wi_sessions.specs.Roster.{SameCells}
+use Rattle.wi_sessions.specs.declared.unread.Unread.{Unread}
+use Rattle.wi_sessions.specs.Inner.Cells.{has_bit, is_in, is_staged, cells_with, cells_in, vacant_in, at_cells, SamePending, HasMade, HasCleared}
+use Rattle.wi_sessions.specs.Inner.Unread.{is_unread, HasPlace, HavePlaces, AreKept}
+use Rattle.wi_sessions.proofs.CellLemmas.{listed_filter, same_answers, same_listed}
+use Rattle.wi_sessions.proofs.WordLemmas.{Words, OthersStay, listed_with, pending_stay}
+use Rattle.wi_sessions.proofs.ViewLemmas.{all_pass, ascend_in, ascend_vacant, list_any_there, list_beyond, list_there, listed_either, listed_in, listed_vacant, lists, no_vacant, none_in, none_vacant, one_list_more, one_set, pending_cleared, pending_taken, same_as, same_in, same_vacant, so_many, vacant_cleared, vacant_made, vacant_stays}
+use Rattle.wi_sessions.proofs.PlaceLemmas.{kept_at, kept_cleared, kept_fewer, kept_given, kept_made, kept_taken, places_pushed, places_set}
+use Rattle.wi_sessions.proofs.RosterLemmas.{one_of_all_has}
+
+abbrev pub Ordered : Words → Type 0
+Ordered words = IsStrictlySortedBy nat_cmp (keys_of words)
+
+-- ---- what stays the same
+
+module _ (words staged more rooms : Words) (n : ℕ) (a : Ordered words) (b : Ordered more) where
+  pub pending_same : SamePending words staged more rooms → map (cells_in more rooms) (range_with_len 0 n) ≡ map (cells_in words staged) (range_with_len 0 n)
+  pending_same h = same_as (cells_in words staged) n (cells_in more rooms) (λ i l. same_in words staged more rooms a b h i)
+
+-- no list of rooms has a cell
+pub rooms_gone : (words none : Words) (n j : ℕ) → none ≡ [] → list_at (map (vacant_in words none) (range_with_len 0 n)) j ≡ []
+rooms_gone words none n j e = ⊎_elim (λ l. list_there (vacant_in words none) n j l ∙ none_vacant words none j e) (list_beyond (vacant_in words none) n j) (cases_lt j n)
+
+-- the same list of a session before and after
+pub list_same : (f g : ℕ → List ℕ) (n j : ℕ) → (j < n → g j ≡ f j) → list_at (map g (range_with_len 0 n)) j ≡ list_at (map f (range_with_len 0 n)) j
+list_same f g n j h =
+    ⊎_elim (λ l. list_there g n j l ∙ h l ∙ sym (list_there f n j l)) (λ l. list_beyond g n j l ∙ sym (list_beyond f n j l)) (cases_lt j n)
+
+-- ---- one session alone
+
+module _ (words staged more rooms : Words) (i n bit : ℕ) (cells : List ℕ) (a : Ordered words) (b : Ordered more) (l : i < n)
+    (alone : (j : ℕ) → has_bit j bit ≡ (j == i)) (h : HasMade (at_cells cells bit) words staged more rooms) where
+  here : has_bit i bit ≡ true
+  here = alone i ∙ eq-eqb i i refl
+
+  elsewhere : (j : ℕ) → j ≢ i → has_bit j bit ≡ false
+  elsewhere j apart = alone j ∙ ne_eqb j i apart
+
+  not_elsewhere : (j c : ℕ) → j ≢ i → at_cells cells bit j c ≡ false
+  not_elsewhere j c apart = ap (λ t. is_listed cells c && t) (elsewhere j apart) ∙ and-false (is_listed cells c)
+
+  pub room_here : (q : ℕ) → is_listed (list_at (map (vacant_in more rooms) (range_with_len 0 n)) i) q
+      ≡ (is_listed (list_at (map (vacant_in words staged) (range_with_len 0 n)) i) q
+      || (is_listed cells q && not (is_listed (list_at (map (cells_in words staged) (range_with_len 0 n)) i) q)))
+  room_here q =
+      ap (λ (xs : List ℕ). is_listed xs q) (list_there (vacant_in more rooms) n i l) ∙ vacant_made words staged more rooms a b (at_cells cells bit) h i q
+      ∙ ap (λ t. is_listed (vacant_in words staged i) q || (t && not (is_listed (cells_in words staged i) q))) (ap (λ t. is_listed cells q && t) here ∙ and-true (is_listed cells q))
+      ∙ ap (λ (xs : List ℕ). is_listed xs q || (is_listed cells q && not (is_listed (cells_in words staged i) q))) (sym (list_there (vacant_in words staged) n i l))
+      ∙ ap (λ (xs : List ℕ). is_listed (list_at (map (vacant_in words staged) (range_with_len 0 n)) i) q || (is_listed cells q && not (is_listed xs q))) (sym (list_there (cells_in words staged) n i l))
+
+  pub room_elsewhere : (j : ℕ) → j ≢ i → list_at (map (vacant_in more rooms) (range_with_len 0 n)) j ≡ list_at (map (vacant_in words staged) (range_with_len 0 n)) j
+  room_elsewhere j apart =
+      list_same (vacant_in words staged) (vacant_in more rooms) n j
+      (λ m. vacant_stays words staged more rooms a b (at_cells cells bit) h j (λ c. not_elsewhere j c apart))
+
+  -- where its cells are looked at
+  pub kept_here : (changed : List ℕ) (unread : List Unread) (u : Unread) → length unread ≡ n → AreKept words staged changed unread → HasPlace words changed i u
+      → ((c : ℕ) → is_listed cells c ≡ true → is_unread changed u c ≡ true) → AreKept more rooms changed (set unread i u)
+  kept_here changed unread u e k p own =
+      kept_made words staged changed (set unread i u)
+      (kept_at words staged changed unread k changed (set unread i u) (length-set unread i u) (places_set words changed unread i u within k.places p))
+      (at_cells cells bit) more rooms b h
+      (λ j c m. not_elsewhere j c (λ (s : j ≡ i). let n' : n ≤ j = subst (λ (c : ℕ). c ≤ j) (length-set unread i u ∙ e) m in let none : Prim.⊥ = omega (arith, l, n', s) in none))
+      (λ j c d m t. ⊎_elim
+      (λ s. subst (λ (v : Unread). is_unread changed v c ≡ true) (sym (at_i j d s)) (own c (and_parts (is_listed cells c) (has_bit j bit) t).0))
+      (λ apart. absurd (both_ways (has_bit j bit) (elsewhere j apart) (and_parts (is_listed cells c) (has_bit j bit) t).1))
+      (cases_eq j i))
+    where
+      within : i < length unread
+      within = subst (λ (m : ℕ). i < m) (sym e) l
+
+      at_i : (j : ℕ) (d : Unread) → j ≡ i → get_or (set unread i u) j d ≡ u
+      at_i j d s = ap (λ (m : ℕ). get_or (set unread i u) m d) s ∙ get_or-set_same unread i u d within
+
+-- its rooms dropped
+module _ (words staged more rooms less : Words) (i n bit : ℕ) (a : Ordered words) (b : Ordered less) (l : i < n)
+    (alone : (j : ℕ) → has_bit j bit ≡ (j == i)) (same : SamePending words staged more rooms) (stay : OthersStay bit words staged more rooms)
+    (h : HasCleared (λ j c. is_staged rooms j c && has_bit j bit) more less) where
+  bit_here : has_bit i bit ≡ true
+  bit_here = alone i ∙ eq-eqb i i refl
+
+  left_here : (c : ℕ) → is_in less i c ≡ (is_in more i c && not (is_staged rooms i c))
+  left_here c = h i c ∙ ap (λ t. is_in more i c && not (is_staged rooms i c && t)) bit_here ∙ ap (λ t. is_in more i c && not t) (and-true (is_staged rooms i c))
+
+  left_elsewhere : (j c : ℕ) → j ≢ i → is_in less j c ≡ is_in words j c
+  left_elsewhere j c apart =
+      let none : has_bit j bit ≡ false = alone j ∙ ne_eqb j i apart in
+      h j c ∙ ap (λ t. is_in more j c && not (is_staged rooms j c && t)) none ∙ ap (λ t. is_in more j c && not t) (and-false (is_staged rooms j c))
+      ∙ and-true (is_in more j c) ∙ (stay j c none).0
+
+  twice : (m r : Bool) → ((m && not r) && not r) ≡ (m && not r)
+  twice true true = refl
+  twice true false = refl
+  twice false r = refl
+
+  never : (m r : Bool) → ((m && not r) && r) ≡ false
+  never true true = refl
+  never true false = refl
+  never false r = refl
+
+  rooms_elsewhere : (j c : ℕ) → j ≢ i → is_staged rooms j c ≡ is_staged staged j c
+  rooms_elsewhere j c apart = (stay j c (alone j ∙ ne_eqb j i apart)).1
+
+  pub dropped_pending : SamePending words staged less rooms
+  dropped_pending j c = ⊎_elim at_i (λ apart. ap (λ t. t && not (is_staged rooms j c)) (left_elsewhere j c apart) ∙ ap (λ t. is_in words j c && not t) (rooms_elsewhere j c apart)) (cases_eq j i)
+    where
+      at_i : j ≡ i → (is_in less j c && not (is_staged rooms j c)) ≡ (is_in words j c && not (is_staged staged j c))
+      at_i e =
+          subst (λ (k : ℕ). (is_in less k c && not (is_staged rooms k c)) ≡ (is_in words k c && not (is_staged staged k c))) (sym e)
+          (ap (λ t. t && not (is_staged rooms i c)) (left_here c) ∙ twice (is_in more i c) (is_staged rooms i c) ∙ same i c)
+
+  pub dropped_here : list_at (map (vacant_in less rooms) (range_with_len 0 n)) i ≡ []
+  dropped_here =
+      list_there (vacant_in less rooms) n i l
+      ∙ same_listed (vacant_in less rooms i) [] (ascend_vacant less rooms i b) tt
+      (λ q. listed_vacant less rooms i b q ∙ ap (λ t. t && is_staged rooms i q) (left_here q) ∙ never (is_in more i q) (is_staged rooms i q))
+
+  pub dropped_elsewhere : (j : ℕ) → j ≢ i → list_at (map (vacant_in less rooms) (range_with_len 0 n)) j ≡ list_at (map (vacant_in words staged) (range_with_len 0 n)) j
+  dropped_elsewhere j apart =
+      list_same (vacant_in words staged) (vacant_in less rooms) n j
+      (λ m. same_vacant words staged less rooms a b j (λ c. left_elsewhere j c apart) (λ c. rooms_elsewhere j c apart))
+
+  pub dropped_kept : (changed : List ℕ) (unread : List Unread) → length unread ≡ n → AreKept words staged changed unread → AreKept less rooms changed unread
+  dropped_kept changed unread e k =
+      kept_fewer words staged changed unread k less rooms b
+      (λ j c t. ⊎_elim
+      (λ s. subst (λ (m : ℕ). is_in words m c ≡ true) (sym s)
+      (and_parts (is_in words i c) (not (is_staged staged i c)) (sym (same i c) ∙ sym (left_here c) ∙ subst (λ (m : ℕ). is_in less m c ≡ true) s t)).0)
+      (λ apart. sym (left_elsewhere j c apart) ∙ t) (cases_eq j i))
+      (λ j c m. rooms_elsewhere j c (λ (s : j ≡ i). let n' : n ≤ j = subst (λ (z : ℕ). z ≤ j) e m in let none : Prim.⊥ = omega (arith, l, n', s) in none) ∙ k.bare j c m)
+
+-- ---- each session
+
+module _ (words staged more rooms : Words) (n bits : ℕ) (cells : List ℕ) (a : Ordered words) (b : Ordered more)
+    (all : (j : ℕ) → has_bit j bits ≡ nat_lt j n) (h : HasMade (at_cells cells bits) words staged more rooms) where
+  pub room_each : (i q : ℕ) → i < n → is_listed (list_at (map (vacant_in more rooms) (range_with_len 0 n)) i) q
+      ≡ (is_listed (list_at (map (vacant_in words staged) (range_with_len 0 n)) i) q
+      || (is_listed cells q && not (is_listed (list_at (map (cells_in words staged) (range_with_len 0 n)) i) q)))
+  room_each i q l =
+      ap (λ (xs : List ℕ). is_listed xs q) (list_there (vacant_in more rooms) n i l) ∙ vacant_made words staged more rooms a b (at_cells cells bits) h i q
+      ∙ ap (λ t. is_listed (vacant_in words staged i) q || (t && not (is_listed (cells_in words staged i) q)))
+      (ap (λ t. is_listed cells q && t) (all i ∙ lt-ltb i n l) ∙ and-true (is_listed cells q))
+      ∙ ap (λ (xs : List ℕ). is_listed xs q || (is_listed cells q && not (is_listed (cells_in words staged i) q))) (sym (list_there (vacant_in words staged) n i l))
+      ∙ ap (λ (xs : List ℕ). is_listed (list_at (map (vacant_in words staged) (range_with_len 0 n)) i) q || (is_listed cells q && not (is_listed xs q))) (sym (list_there (cells_in words staged) n i l))
+
+  pub kept_each : (changed : List ℕ) (unread : List Unread) → length unread ≡ n → AreKept words staged changed unread
+      → ((i c : ℕ) (d : Unread) → i < length unread → is_listed cells c ≡ true → is_unread changed (get_or unread i d) c ≡ true) → AreKept more rooms changed unread
+  kept_each changed unread e k look =
+      kept_made words staged changed unread k (at_cells cells bits) more rooms b h
+      (λ i c m. ap (λ t. is_listed cells c && t) (all i ∙ le-ltb i n (subst (λ (z : ℕ). z ≤ i) e m)) ∙ and-false (is_listed cells c))
+      (λ i c d m t. look i c d m (and_parts (is_listed cells c) (has_bit i bits) t).0)
+
+-- ---- one session more
+
+module _ (words staged more rooms : Words) (changed : List ℕ) (unread : List Unread) (u : Unread) (n bit : ℕ) (cells : List ℕ) (e : length unread ≡ n) (k : AreKept words staged changed unread) (b : Ordered more)
+    (few : n < 64) (alone : (j : ℕ) → has_bit j bit ≡ (j == n)) (h : HasMade (at_cells cells bit) words [] more rooms) where
+  as_before : (j c : ℕ) → j ≢ n → is_in more j c ≡ is_in words j c
+  as_before j c apart =
+      h.put j c ∙ ap (λ t. is_in words j c || (is_listed cells c && t)) (alone j ∙ ne_eqb j n apart) ∙ ap (λ t. is_in words j c || t) (and-false (is_listed cells c))
+      ∙ or-false (is_in words j c)
+
+  none_before : (c : ℕ) → is_in words n c ≡ false
+  none_before c = k.none n c (omega (arith, e))
+
+  new_has : (c : ℕ) → is_in more n c ≡ is_listed cells c
+  new_has c =
+      h.put n c ∙ ap (λ t. t || (is_listed cells c && has_bit n bit)) (none_before c) ∙ ap (λ t. is_listed cells c && t) (alone n ∙ eq-eqb n n refl) ∙ and-true (is_listed cells c)
+
+  apart_below : (i : ℕ) → i < n → i ≢ n
+  apart_below i l s = let none : Prim.⊥ = omega (arith, l, s) in none
+
+  pub pushed_pending : map (cells_in more staged) (range_with_len 0 (n + 1)) ≡ map (cells_in words staged) (range_with_len 0 n) ++ cells_in more staged n ∷ []
+  pushed_pending =
+      one_list_more (cells_in more staged) n
+      ∙ ap (λ (xss : List (List ℕ)). xss ++ cells_in more staged n ∷ []) (same_as (cells_in words staged) n (cells_in more staged) (λ i l.
+      same_listed (cells_in more staged i) (cells_in words staged i) (ascend_in more staged i b) (ascend_in words staged i k.order)
+      (λ q. listed_in more staged i b q ∙ ap (λ t. t && not (is_staged staged i q)) (as_before i q (apart_below i l)) ∙ sym (listed_in words staged i k.order q))))
+
+  pub pushed_cells : SameCells (cells_in more staged n) cells
+  pushed_cells q =
+      listed_in more staged n b q ∙ ap (λ t. is_in more n q && not t) (k.bare n q (omega (arith, e))) ∙ and-true (is_in more n q) ∙ new_has q
+
+  pub pushed_vacant : map (vacant_in more staged) (range_with_len 0 (n + 1)) ≡ map (vacant_in words staged) (range_with_len 0 n) ++ [] ∷ []
+  pushed_vacant =
+      one_list_more (vacant_in more staged) n
+      ∙ ap (λ (xss : List (List ℕ)). xss ++ vacant_in more staged n ∷ []) (same_as (vacant_in words staged) n (vacant_in more staged) (λ i l.
+      same_vacant words staged more staged k.order b i (λ c. as_before i c (apart_below i l)) (λ c. refl)))
+      ∙ ap (λ (xs : List ℕ). map (vacant_in words staged) (range_with_len 0 n) ++ xs ∷ []) empty
+    where
+      empty : vacant_in more staged n ≡ []
+      empty =
+          same_listed (vacant_in more staged n) [] (ascend_vacant more staged n b) tt
+          (λ q. listed_vacant more staged n b q ∙ ap (λ t. is_in more n q && t) (k.bare n q (omega (arith, e))) ∙ and-false (is_in more n q))
+
+  pub pushed_kept : u.from ≤ length changed → ((c : ℕ) → is_listed cells c ≡ true → is_unread changed u c ≡ true) → AreKept more staged changed (unread ++ u ∷ [])
+  pushed_kept within own = record {
+    order = b;
+    few = subst (λ (m : ℕ). m ≤ 64) (sym (length-append unread (u ∷ []))) (omega (arith, e, few));
+    none = λ i c l. let m : n < i = beyond i l in as_before i c (λ (s : i ≡ n). let none : Prim.⊥ = omega (arith, m, s) in none) ∙ k.none i c (omega (arith, m, e));
+    bare = λ i c l. let m : n < i = beyond i l in k.bare i c (omega (arith, m, e));
+    places = places_pushed more changed unread u (λ i d l. let p = k.places i d l in record { within = p.within; found = λ c t. p.found c (sym (as_before i c (apart_below i (subst (λ (m : ℕ). i < m) e l))) ∙ t) })
+        (subst (λ (m : ℕ). HasPlace more changed m u) (sym e) (record { within = within; found = λ c t. own c (sym (new_has c) ∙ t) }));
+  }
+    where
+      beyond : (i : ℕ) → length (unread ++ u ∷ []) ≤ i → n < i
+      beyond i l = let l' = subst (λ (m : ℕ). m ≤ i) (length-append unread (u ∷ [])) l in omega (arith, l', e)
+
+-- ---- whether a cell is pending for each session
+
+pub each_has : (words staged : Words) (changed : List ℕ) (unread : List Unread) (at word bits n : ℕ) (answer : Bool) → length unread ≡ n → AreKept words staged changed unread
+    → ((j : ℕ) → has_bit j word ≡ (is_in words j at && not (is_staged staged j at))) → ((j : ℕ) → has_bit j bits ≡ nat_lt j n)
+    → (answer ≡ true → (j : ℕ) → has_bit j word ≡ has_bit j bits) → (((j : ℕ) → has_bit j word ≡ has_bit j bits) → answer ≡ true)
+    → answer ≡ list_all (λ cells. is_listed cells at) (map (cells_in words staged) (range_with_len 0 n))
+each_has words staged changed unread at word bits n answer e k is all alike unlike =
+    same_answers answer (list_all (λ cells. is_listed cells at) lists)
+    (λ t. all_pass (λ cells. is_listed cells at) (cells_in words staged) n (λ i l. listed i ∙ sym (is i) ∙ alike t i ∙ all i ∙ lt-ltb i n l))
+    (λ t. unlike (λ j. ⊎_elim
+    (λ l. is j ∙ sym (listed j) ∙ ap (λ (xs : List ℕ). is_listed xs at) (sym (list_there (cells_in words staged) n j l))
+    ∙ one_of_all_has (λ cells. is_listed cells at) lists j t (subst (λ (m : ℕ). j < m) (sym (so_many (cells_in words staged) n)) l) ∙ sym (all j ∙ lt-ltb j n l))
+    (λ l. is j ∙ ap (λ b. b && not (is_staged staged j at)) (k.none j at (subst (λ (m : ℕ). m ≤ j) (sym e) l)) ∙ sym (all j ∙ le-ltb j n l))
+    (cases_lt j n)))
+  where
+    lists : List (List ℕ)
+    lists = map (cells_in words staged) (range_with_len 0 n)
+
+    listed : (i : ℕ) → is_listed (cells_in words staged i) at ≡ (is_in words i at && not (is_staged staged i at))
+    listed i = listed_in words staged i k.order at
+
+-- ---- the cells of a session, found where they stand
+
+pub found_cells : (words : Words) (changed : List ℕ) (i : ℕ) (u : Unread) (found sorted : List ℕ) → HasPlace words changed i u → u.anywhere ≡ false
+    → found ≡ filter (is_in words i) (drop u.from changed) ++ filter (is_in words i) u.own.items → ((c : ℕ) → is_listed sorted c ≡ is_listed found c)
+    → (c : ℕ) → is_listed sorted c ≡ is_in words i c
+found_cells words changed i u found sorted p n e same c =
+    same c ∙ ap (λ (xs : List ℕ). is_listed xs c) e
+    ∙ list_any-append (λ d. d == c) (filter (is_in words i) (drop u.from changed)) (filter (is_in words i) u.own.items)
+    ∙ ap (λ b. b || is_listed (filter (is_in words i) u.own.items) c) (listed_filter (is_in words i) (drop u.from changed) c)
+    ∙ ap (λ b. (is_listed (drop u.from changed) c && is_in words i c) || b) (listed_filter (is_in words i) u.own.items c)
+    ∙ by (is_listed (drop u.from changed) c) (is_listed u.own.items c) (is_in words i c)
+    (λ t. sym (ap (λ b. b || (is_listed (drop u.from changed) c || is_listed u.own.items c)) n) ∙ p.found c t)
+  where
+    by : (b o s : Bool) → (s ≡ true → (b || o) ≡ true) → ((b && s) || (o && s)) ≡ s
+    by true o true h = refl
+    by true o false h = and-false o
+    by false o true h = and-true o ∙ h refl
+    by false o false h = and-false o
