@@ -36,6 +36,14 @@ same_below_two zero (suc (suc b)) l m h = absurd (omega (arith, m))
 same_below_two (suc zero) (suc (suc b)) l m h = absurd (omega (arith, m))
 same_below_two (suc (suc a)) b l m h = absurd (omega (arith, l))
 
+least : (n : ℕ) → min 0 n ≡ 0
+least zero = refl
+least (suc n) = refl
+
+beside_zero : (n : ℕ) → max 0 n ≡ n
+beside_zero zero = refl
+beside_zero (suc n) = refl
+
 -- ---- bits of words
 
 pub none_in_zero : (i : ℕ) → has_bit i 0 ≡ false
@@ -75,14 +83,8 @@ has_without a b i l m = ⊎_elim below beyond (cases_lt i 64)
         one ∙ ap (λ n. min n (bit_at (bit_not w64 b) i) == 1) (bit_at_above a 64 i l h)
         ∙ ap (λ n. n == 1) (least (bit_at (bit_not w64 b) i))
         ∙ sym (ap (λ t. t && not (has_bit i b)) (none_above a i l h))
-      where
-        least : (n : ℕ) → min 0 n ≡ 0
-        least n = omega arith
 
 -- ---- one bit
-
-beside_zero : (n : ℕ) → max 0 n ≡ n
-beside_zero n = omega arith
 
 alone : (x i : ℕ) → bit_at x i ≡ bit_at (bit_or 0 x) i
 alone x i = sym (bit_at_or 0 x i ∙ ap (λ n. max n (bit_at x i)) (bit_at-zero i) ∙ beside_zero (bit_at x i))

@@ -17,7 +17,7 @@ use Rattle.wi_sessions.specs.Inner.Cells.{has_bit, is_in, is_staged, cells_with,
 use Rattle.wi_sessions.specs.Inner.Unread.{is_unread, HasPlace, HavePlaces, AreKept}
 use Rattle.wi_sessions.proofs.CellLemmas.{listed_filter, same_answers, same_listed}
 use Rattle.wi_sessions.proofs.WordLemmas.{Words, OthersStay, listed_with, pending_stay}
-use Rattle.wi_sessions.proofs.ViewLemmas.{all_pass, ascend_in, ascend_vacant, list_any_there, list_beyond, list_there, listed_either, listed_in, listed_vacant, lists, no_vacant, none_in, none_vacant, one_list_more, one_set, pending_cleared, pending_taken, same_as, same_in, same_vacant, so_many, vacant_cleared, vacant_made, vacant_stays}
+use Rattle.wi_sessions.proofs.ViewLemmas.{all_pass, ascend_in, ascend_vacant, list_beyond, list_there, listed_either, listed_in, listed_vacant, lists, no_vacant, none_in, none_vacant, one_list_more, one_set, pending_cleared, pending_taken, same_as, same_in, same_vacant, so_many, vacant_cleared, vacant_made, vacant_stays}
 use Rattle.wi_sessions.proofs.PlaceLemmas.{kept_at, kept_cleared, kept_fewer, kept_given, kept_made, kept_taken, places_pushed, places_set}
 use Rattle.wi_sessions.proofs.RosterLemmas.{one_of_all_has}
 
@@ -38,6 +38,19 @@ rooms_gone words none n j e = ⊎_elim (λ l. list_there (vacant_in words none) 
 pub list_same : (f g : ℕ → List ℕ) (n j : ℕ) → (j < n → g j ≡ f j) → list_at (map g (range_with_len 0 n)) j ≡ list_at (map f (range_with_len 0 n)) j
 list_same f g n j h =
     ⊎_elim (λ l. list_there g n j l ∙ h l ∙ sym (list_there f n j l)) (λ l. list_beyond g n j l ∙ sym (list_beyond f n j l)) (cases_lt j n)
+
+-- once the rooms are taken
+pub taken_at : (words staged none : Words) (n i q : ℕ) → Ordered words → none ≡ []
+    → is_listed (list_at (map (cells_in words none) (range_with_len 0 n)) i) q
+    ≡ (is_listed (list_at (map (cells_in words staged) (range_with_len 0 n)) i) q || is_listed (list_at (map (vacant_in words staged) (range_with_len 0 n)) i) q)
+taken_at words staged none n i q order e = ⊎_elim
+    (λ l. ap (λ (xs : List ℕ). is_listed xs q) (list_there (cells_in words none) n i l) ∙ pending_taken words staged none i order e q
+    ∙ ap (λ (xs : List ℕ). is_listed xs q || is_listed (vacant_in words staged i) q) (sym (list_there (cells_in words staged) n i l))
+    ∙ ap (λ (xs : List ℕ). is_listed (list_at (map (cells_in words staged) (range_with_len 0 n)) i) q || is_listed xs q) (sym (list_there (vacant_in words staged) n i l)))
+    (λ l. ap (λ (xs : List ℕ). is_listed xs q) (list_beyond (cells_in words none) n i l)
+    ∙ sym (ap (λ (xs : List ℕ). is_listed xs q || is_listed (list_at (map (vacant_in words staged) (range_with_len 0 n)) i) q) (list_beyond (cells_in words staged) n i l)
+    ∙ ap (λ (xs : List ℕ). is_listed xs q) (list_beyond (vacant_in words staged) n i l)))
+    (cases_lt i n)
 
 -- ---- one session alone
 
@@ -115,10 +128,10 @@ module _ (words staged more rooms less : Words) (i n bit : ℕ) (a : Ordered wor
   rooms_elsewhere j c apart = (stay j c (alone j ∙ ne_eqb j i apart)).1
 
   pub dropped_pending : SamePending words staged less rooms
-  dropped_pending j c = ⊎_elim at_i (λ apart. ap (λ t. t && not (is_staged rooms j c)) (left_elsewhere j c apart) ∙ ap (λ t. is_in words j c && not t) (rooms_elsewhere j c apart)) (cases_eq j i)
+  dropped_pending = λ j c. ⊎_elim (at_i j c) (λ apart. ap (λ t. t && not (is_staged rooms j c)) (left_elsewhere j c apart) ∙ ap (λ t. is_in words j c && not t) (rooms_elsewhere j c apart)) (cases_eq j i)
     where
-      at_i : j ≡ i → (is_in less j c && not (is_staged rooms j c)) ≡ (is_in words j c && not (is_staged staged j c))
-      at_i e =
+      at_i : (j c : ℕ) → j ≡ i → (is_in less j c && not (is_staged rooms j c)) ≡ (is_in words j c && not (is_staged staged j c))
+      at_i j c e =
           subst (λ (k : ℕ). (is_in less k c && not (is_staged rooms k c)) ≡ (is_in words k c && not (is_staged staged k c))) (sym e)
           (ap (λ t. t && not (is_staged rooms i c)) (left_here c) ∙ twice (is_in more i c) (is_staged rooms i c) ∙ same i c)
 
@@ -179,7 +192,7 @@ module _ (words staged more rooms : Words) (changed : List ℕ) (unread : List U
   new_has c =
       h.put n c ∙ ap (λ t. t || (is_listed cells c && has_bit n bit)) (none_before c) ∙ ap (λ t. is_listed cells c && t) (alone n ∙ eq-eqb n n refl) ∙ and-true (is_listed cells c)
 
-  apart_below : (i : ℕ) → i < n → i ≢ n
+  apart_below : (i : ℕ) → i < n → i ≡ n → Prim.⊥
   apart_below i l s = let none : Prim.⊥ = omega (arith, l, s) in none
 
   pub pushed_pending : map (cells_in more staged) (range_with_len 0 (n + 1)) ≡ map (cells_in words staged) (range_with_len 0 n) ++ cells_in more staged n ∷ []
@@ -190,7 +203,7 @@ module _ (words staged more rooms : Words) (changed : List ℕ) (unread : List U
       (λ q. listed_in more staged i b q ∙ ap (λ t. t && not (is_staged staged i q)) (as_before i q (apart_below i l)) ∙ sym (listed_in words staged i k.order q))))
 
   pub pushed_cells : SameCells (cells_in more staged n) cells
-  pushed_cells q =
+  pushed_cells = λ q.
       listed_in more staged n b q ∙ ap (λ t. is_in more n q && not t) (k.bare n q (omega (arith, e))) ∙ and-true (is_in more n q) ∙ new_has q
 
   pub pushed_vacant : map (vacant_in more staged) (range_with_len 0 (n + 1)) ≡ map (vacant_in words staged) (range_with_len 0 n) ++ [] ∷ []
@@ -211,7 +224,7 @@ module _ (words staged more rooms : Words) (changed : List ℕ) (unread : List U
     few = subst (λ (m : ℕ). m ≤ 64) (sym (length-append unread (u ∷ []))) (omega (arith, e, few));
     none = λ i c l. let m : n < i = beyond i l in as_before i c (λ (s : i ≡ n). let none : Prim.⊥ = omega (arith, m, s) in none) ∙ k.none i c (omega (arith, m, e));
     bare = λ i c l. let m : n < i = beyond i l in k.bare i c (omega (arith, m, e));
-    places = places_pushed more changed unread u (λ i d l. let p = k.places i d l in record { within = p.within; found = λ c t. p.found c (sym (as_before i c (apart_below i (subst (λ (m : ℕ). i < m) e l))) ∙ t) })
+    places = places_pushed more changed unread u (λ i d l. let p : HasPlace words changed i (get_or unread i d) = k.places i d l in record { within = p.within; found = λ c t. p.found c (sym (as_before i c (apart_below i (subst (λ (m : ℕ). i < m) e l))) ∙ t) })
         (subst (λ (m : ℕ). HasPlace more changed m u) (sym e) (record { within = within; found = λ c t. own c (sym (new_has c) ∙ t) }));
   }
     where

@@ -83,8 +83,8 @@ module _ (words : Words) (changed : List ℕ) (unread : List Unread) where
   -- the list grows
   pub places_longer : (cells : List ℕ) → HavePlaces words changed unread → HavePlaces words (changed ++ cells) unread
   places_longer cells h = λ j d m.
-      let p = h j d m in
-      let l = p.within in
+      let p : HasPlace words changed j (get_or unread j d) = h j d m in
+      let l : (get_or unread j d).from ≤ length changed = p.within in
       record {
         within = subst (λ (n : ℕ). (get_or unread j d).from ≤ n) (sym (length-append changed cells)) (omega (arith, l));
         found = λ c s. unread_longer changed cells (get_or unread j d) c l (p.found c s);
@@ -93,14 +93,14 @@ module _ (words : Words) (changed : List ℕ) (unread : List Unread) where
   -- fewer cells have bits
   pub places_fewer : (less : Words) → ((i c : ℕ) → is_in less i c ≡ true → is_in words i c ≡ true) → HavePlaces words changed unread → HavePlaces less changed unread
   places_fewer less f h = λ j d m.
-      let p = h j d m in
+      let p : HasPlace words changed j (get_or unread j d) = h j d m in
       record { within = p.within; found = λ c s. p.found c (f j c s) }
 
   -- more cells have bits, which are looked at
   pub places_more : (more : Words) (test : ℕ → ℕ → Bool) → ((i c : ℕ) → is_in more i c ≡ (is_in words i c || test i c))
       → ((i c : ℕ) (d : Unread) → i < length unread → test i c ≡ true → is_unread changed (get_or unread i d) c ≡ true) → HavePlaces words changed unread → HavePlaces more changed unread
   places_more more test f g h = λ j d m.
-      let p = h j d m in
+      let p : HasPlace words changed j (get_or unread j d) = h j d m in
       record { within = p.within; found = λ c s. ⊎_elim (p.found c) (g j c d m) (or_cases (is_in words j c) (test j c) (sym (f j c) ∙ s)) }
 
   -- one more session, of which no cell has the bit yet

@@ -18,8 +18,9 @@ use Rattle.indexmap.specs.IndexMap.{IndexMap, insert_entry, set_value_at}
 use Rattle.indexmap.proofs.CallerLemmas.{insert_entry-new}
 use Rattle.wi_sessions.specs.Pictures.Laws.{is_listed}
 use Rattle.wi_sessions.specs.Sessions.{has_session, index_of}
-use Rattle.wi_sessions.specs.Roster.{SameCells}
-use Rattle.wi_sessions.specs.Inner.Held.{session_in}
+use Rattle.wi_sessions.specs.Pending.{AllPending}
+use Rattle.wi_sessions.specs.Roster.{Roster}
+use Rattle.wi_sessions.specs.Inner.Held.{roster_in, session_in}
 use Rattle.wi_sessions.specs.declared.held.Held.{Held}
 
 -- a name, and what is held under it
@@ -112,6 +113,10 @@ module _ {Z Y : Type 0} (f : Entry Z → Y) (es : List (Entry Z)) (i : ℕ) (k :
   pub part_other : (y : Held) (j : ℕ) (d : Y) → j ≢ i → get_or (map f (set_value_at es i y)) j d ≡ get_or ys j d
   part_other y j d n =
       ap (λ (zs : List Y). get_or zs j d) (set_told y) ∙ get_or-set_other (map f es) i j (f (k, y)) d n ∙ ap (λ (zs : List Y). get_or zs j d) v
+
+-- it has its list
+pub within_lists : {Z : Type 0} (es : List (Entry Z)) (p : AllPending) (r : Roster) (i : ℕ) → roster_in es p ≡ r → length p.pending ≡ length es → i < length r.sessions → i < length p.pending
+within_lists es p r i v e l = subst (λ (n : ℕ). i < n) (ap (λ (q : Roster). length q.sessions) (sym v) ∙ length-map es session_in ∙ sym e) l
 
 -- ---- a session added
 

@@ -29,10 +29,6 @@ module _ (f : ℕ → List ℕ) (n : ℕ) where
   pub list_beyond : (i : ℕ) → n ≤ i → list_at lists i ≡ []
   list_beyond i l = get_or_past lists i [] (subst (λ (m : ℕ). m ≤ i) (sym so_many) l)
 
-  -- where those beyond would be empty
-  pub list_any_there : ((i : ℕ) → n ≤ i → f i ≡ []) → (i : ℕ) → list_at lists i ≡ f i
-  list_any_there h i = ⊎_elim (list_there i) (λ l. list_beyond i l ∙ sym (h i l)) (cases_lt i n)
-
   -- one list more
   pub one_list_more : map f (range_with_len 0 (n + 1)) ≡ lists ++ f n ∷ []
   one_list_more = map-range_with_len_more f 0 n n (omega arith)

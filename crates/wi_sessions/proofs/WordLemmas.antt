@@ -215,9 +215,10 @@ OthersStay bits words staged more rooms = (i c : ℕ) → has_bit i bits ≡ fal
 
 pub others_as_made : (bits : ℕ) (test : ℕ → Bool) (words staged more rooms : Words) → HasMade (λ i c. test c && has_bit i bits) words staged more rooms → OthersStay bits words staged more rooms
 others_as_made bits test words staged more rooms h = λ i c n.
-    let none : (test c && has_bit i bits) ≡ false = ap (λ b. test c && b) n ∙ and-false (test c) in
-    (h.put i c ∙ ap (λ b. is_in words i c || b) none ∙ or-false (is_in words i c),
-    h.made i c ∙ ap (λ b. is_staged staged i c || (b && not (is_in words i c))) none ∙ or-false (is_staged staged i c))
+    let none : (test c && has_bit i bits) ≡ false = ap (λ b. test c && b) n ∙ and-false (test c) in (
+      h.put i c ∙ ap (λ b. is_in words i c || b) none ∙ or-false (is_in words i c),
+      h.made i c ∙ ap (λ b. is_staged staged i c || (b && not (is_in words i c))) none ∙ or-false (is_staged staged i c),
+    )
 
 pub others_stay : (bits : ℕ) (cells : List ℕ) (words staged more rooms : Words) → HasMade (at_cells cells bits) words staged more rooms → OthersStay bits words staged more rooms
 others_stay bits cells words staged more rooms h = others_as_made bits (is_listed cells) words staged more rooms h

@@ -1,0 +1,27 @@
+use Rattle.std.proofs.Common.{[], sym, ap, ◌∙◌, length}
+use Rattle.std.specs.Rc.{rc_str_bytes}
+use Rattle.std.specs.List.{slice_set}
+use Rattle.indexmap.proofs.CallerLemmas.{index_map_len-with_value_at}
+use Rattle.wi_sessions.specs.Sessions.{Session, new_session, told}
+use Rattle.wi_sessions.specs.Roster.{Roster}
+use Rattle.wi_sessions.specs.Inner.Held.{session_in}
+use Rattle.wi_sessions.proofs.RosterLemmas.{entry_at, part_at, part_set, within_lists}
+use Rattle.wi_sessions.proofs.sessions.Sessions.tell.Goals as goal
+
+pub all-requires : goal.all-requires
+all-requires c = within_lists c.self.inside.held.entries c.self.inside.pending c.args.self.now c.args.i c.self.view_is c.self.invariant c.requires
+
+pub returns-clause-sessions : goal.returns-clause-sessions
+returns-clause-sessions c =
+    let items = c.self.inside.held.entries in
+    let x = c.index_mut.result.now in
+    let e = entry_at items c.args.i x c.index_mut.ensures.value in
+    part_set session_in items c.args.i e.0 x c.args.self.now.sessions e.1 (ap (λ (r : Roster). r.sessions) c.self.view_is) c.tell.new.self _
+    (c.in_ok-tell.ensures.told (rc_str_bytes e.0) ∙ ap (λ (s : Session). told s c.args.changes.items c.args.seen)
+    (sym (part_at session_in items c.args.i e.0 x c.args.self.now.sessions e.1 (ap (λ (r : Roster). r.sessions) c.self.view_is) (new_session []))))
+
+pub returns-clause-pending : goal.returns-clause-pending
+returns-clause-pending c = c.clear.ensures.pending ∙ ap (λ (r : Roster). slice_set r.pending c.args.i []) c.self.view_is
+
+pub returns-clause-vacant : goal.returns-clause-vacant
+returns-clause-vacant c = c.clear.ensures.vacant ∙ ap (λ (r : Roster). slice_set r.vacant c.args.i []) c.self.view_is
