@@ -10,11 +10,11 @@ use Rattle.std.proofs.lemmas.Bool.{and_parts, both_ways, cases_eq, cases_lt, eq-
 use Rattle.std.proofs.lemmas.List.{get_or-set_same, length-append, length-set}
 use Rattle.std.proofs.lemmas.List.Folds.{list_any-append}
 use Rattle.wi_sessions.specs.Pictures.Laws.{is_listed}
-use Rattle.wi_sessions.specs.Pending.{list_at}
+use Rattle.wi_sessions.specs.Pending.{AllPending, list_at}
 use Rattle.wi_sessions.specs.Roster.{SameCells}
 use Rattle.wi_sessions.specs.declared.unread.Unread.{Unread}
-use Rattle.wi_sessions.specs.Inner.Cells.{has_bit, is_in, is_staged, cells_with, cells_in, vacant_in, at_cells, SamePending, HasMade, HasCleared}
-use Rattle.wi_sessions.specs.Inner.Unread.{is_unread, HasPlace, HavePlaces, AreKept}
+use Rattle.wi_sessions.specs.Inner.Cells.{has_bit, is_in, is_staged, cells_with, cells_in, vacant_in, pending_in, at_cells, SamePending, HasMade, HasCleared}
+use Rattle.wi_sessions.specs.Inner.Unread.{is_unread, HasPlace, HavePlaces, AreKept, AreLookedAt}
 use Rattle.wi_sessions.proofs.CellLemmas.{listed_filter, same_answers, same_listed}
 use Rattle.wi_sessions.proofs.WordLemmas.{Words, OthersStay, listed_with, pending_stay}
 use Rattle.wi_sessions.proofs.ViewLemmas.{all_pass, ascend_in, ascend_vacant, list_beyond, list_there, listed_either, listed_in, listed_vacant, lists, no_vacant, none_in, none_vacant, one_list_more, one_set, pending_cleared, pending_taken, same_as, same_in, same_vacant, so_many, vacant_cleared, vacant_made, vacant_stays}
@@ -29,6 +29,10 @@ Ordered words = IsStrictlySortedBy nat_cmp (keys_of words)
 module _ (words staged more rooms : Words) (n : ℕ) (a : Ordered words) (b : Ordered more) where
   pub pending_same : SamePending words staged more rooms → map (cells_in more rooms) (range_with_len 0 n) ≡ map (cells_in words staged) (range_with_len 0 n)
   pending_same h = same_as (cells_in words staged) n (cells_in more rooms) (λ i l. same_in words staged more rooms a b h i)
+
+-- how many lists there are
+pub within_unread : (words staged : Words) (n i : ℕ) (p : AllPending) → pending_in words staged n ≡ p → i < length p.pending → i < n
+within_unread words staged n i p v l = subst (λ (m : ℕ). i < m) (ap (λ (q : AllPending). length q.pending) (sym v) ∙ so_many (cells_in words staged) n) l
 
 -- no list of rooms has a cell
 pub rooms_gone : (words none : Words) (n j : ℕ) → none ≡ [] → list_at (map (vacant_in words none) (range_with_len 0 n)) j ≡ []
@@ -157,24 +161,23 @@ module _ (words staged more rooms less : Words) (i n bit : ℕ) (a : Ordered wor
 
 -- ---- each session
 
-module _ (words staged more rooms : Words) (n bits : ℕ) (cells : List ℕ) (a : Ordered words) (b : Ordered more)
-    (all : (j : ℕ) → has_bit j bits ≡ nat_lt j n) (h : HasMade (at_cells cells bits) words staged more rooms) where
+module _ (words staged more rooms : Words) (n : ℕ) (cells : List ℕ) (a : Ordered words) (b : Ordered more)
+    (h : HasMade (λ i c. is_listed cells c && nat_lt i n) words staged more rooms) where
   pub room_each : (i q : ℕ) → i < n → is_listed (list_at (map (vacant_in more rooms) (range_with_len 0 n)) i) q
       ≡ (is_listed (list_at (map (vacant_in words staged) (range_with_len 0 n)) i) q
       || (is_listed cells q && not (is_listed (list_at (map (cells_in words staged) (range_with_len 0 n)) i) q)))
   room_each i q l =
-      ap (λ (xs : List ℕ). is_listed xs q) (list_there (vacant_in more rooms) n i l) ∙ vacant_made words staged more rooms a b (at_cells cells bits) h i q
+      ap (λ (xs : List ℕ). is_listed xs q) (list_there (vacant_in more rooms) n i l) ∙ vacant_made words staged more rooms a b (λ j c. is_listed cells c && nat_lt j n) h i q
       ∙ ap (λ t. is_listed (vacant_in words staged i) q || (t && not (is_listed (cells_in words staged i) q)))
-      (ap (λ t. is_listed cells q && t) (all i ∙ lt-ltb i n l) ∙ and-true (is_listed cells q))
+      (ap (λ t. is_listed cells q && t) (lt-ltb i n l) ∙ and-true (is_listed cells q))
       ∙ ap (λ (xs : List ℕ). is_listed xs q || (is_listed cells q && not (is_listed (cells_in words staged i) q))) (sym (list_there (vacant_in words staged) n i l))
       ∙ ap (λ (xs : List ℕ). is_listed (list_at (map (vacant_in words staged) (range_with_len 0 n)) i) q || (is_listed cells q && not (is_listed xs q))) (sym (list_there (cells_in words staged) n i l))
 
-  pub kept_each : (changed : List ℕ) (unread : List Unread) → length unread ≡ n → AreKept words staged changed unread
-      → ((i c : ℕ) (d : Unread) → i < length unread → is_listed cells c ≡ true → is_unread changed (get_or unread i d) c ≡ true) → AreKept more rooms changed unread
+  pub kept_each : (changed : List ℕ) (unread : List Unread) → length unread ≡ n → AreKept words staged changed unread → AreLookedAt cells changed unread → AreKept more rooms changed unread
   kept_each changed unread e k look =
-      kept_made words staged changed unread k (at_cells cells bits) more rooms b h
-      (λ i c m. ap (λ t. is_listed cells c && t) (all i ∙ le-ltb i n (subst (λ (z : ℕ). z ≤ i) e m)) ∙ and-false (is_listed cells c))
-      (λ i c d m t. look i c d m (and_parts (is_listed cells c) (has_bit i bits) t).0)
+      kept_made words staged changed unread k (λ i c. is_listed cells c && nat_lt i n) more rooms b h
+      (λ i c m. ap (λ t. is_listed cells c && t) (le-ltb i n (subst (λ (z : ℕ). z ≤ i) e m)) ∙ and-false (is_listed cells c))
+      (λ i c d m t. look i c d m (and_parts (is_listed cells c) (nat_lt i n) t).0)
 
 -- ---- one session more
 

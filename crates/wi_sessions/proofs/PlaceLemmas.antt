@@ -11,7 +11,8 @@ use Rattle.std.proofs.lemmas.List.Folds.{list_any-append}
 use Rattle.wi_sessions.specs.Pictures.Laws.{is_listed}
 use Rattle.wi_sessions.specs.declared.unread.Unread.{Unread}
 use Rattle.wi_sessions.specs.Inner.Cells.{has_bit, is_in, is_staged, at_cells, SamePending, HasMade, HasCleared}
-use Rattle.wi_sessions.specs.Inner.Unread.{is_unread, HasPlace, HavePlaces, AreKept}
+use Rattle.wi_sessions.specs.Inner.Unread.{is_unread, HasPlace, HavePlaces, AreKept, AreLookedAt}
+use Rattle.wi_sessions.proofs.BitLemmas.{none_in_zero}
 use Rattle.wi_sessions.proofs.WordLemmas.{Words}
 
 -- ---- one session's place
@@ -90,6 +91,9 @@ module _ (words : Words) (changed : List ℕ) (unread : List Unread) where
         found = λ c s. unread_longer changed cells (get_or unread j d) c l (p.found c s);
       }
 
+  pub places_looked : (cells : List ℕ) → HavePlaces words changed unread → AreLookedAt cells (changed ++ cells) unread
+  places_looked cells h = λ i c d m s. unread_new changed cells (get_or unread i d) c (h i d m).within s
+
   -- fewer cells have bits
   pub places_fewer : (less : Words) → ((i c : ℕ) → is_in less i c ≡ true → is_in words i c ≡ true) → HavePlaces words changed unread → HavePlaces less changed unread
   places_fewer less f h = λ j d m.
@@ -114,6 +118,41 @@ module _ (words : Words) (changed : List ℕ) (unread : List Unread) where
     where
       last : (j : ℕ) → length unread ≤ j → j < length unread + length (u ∷ []) → j ≡ length unread
       last j l m = omega (arith, l, m)
+
+-- ---- the list of changed cells begins anew, for one session after another
+
+-- those before the i-th have
+abbrev pub HaveBegun : Words → List ℕ → List Unread → List Unread → ℕ → Type 0
+HaveBegun words changed old now i = HavePlaces words changed old → (j : ℕ) (d : Unread) → j < i → j < length now → HasPlace words [] j (get_or now j d)
+
+-- the others are as they were
+abbrev pub LeftAsWere : (old now : List Unread) → ℕ → Type 0
+LeftAsWere old now i = (j : ℕ) (d : Unread) → i ≤ j → get_or now j d ≡ get_or old j d
+
+-- one session at an empty list
+pub place_anew : (words : Words) (changed : List ℕ) (i : ℕ) (u v : Unread) → HasPlace words changed i u → v.from ≡ 0 → ((c : ℕ) → is_unread changed u c ≡ true → is_unread [] v c ≡ true) → HasPlace words [] i v
+place_anew words changed i u v p z stay = record { within = omega (arith, z); found = λ c s. stay c (p.found c s) }
+
+pub begun_more : (words : Words) (changed : List ℕ) (old now : List Unread) (i : ℕ) (u v : Unread) → i < length now → length now ≡ length old → u ≡ get_or now i u → v.from ≡ 0
+    → ((c : ℕ) → is_unread changed u c ≡ true → is_unread [] v c ≡ true) → LeftAsWere old now i → HaveBegun words changed old now i → HaveBegun words changed old (set now i v) (i + 1)
+begun_more words changed old now i u v l e is z stay left h = λ p j d m k. ⊎_elim
+    (λ s. subst (λ (n : ℕ). HasPlace words [] n (get_or (set now i v) n d)) (sym s)
+    (subst (λ (w : Unread). HasPlace words [] i w) (sym (get_or-set_same now i v d l))
+    (place_anew words changed i u v
+    (subst (λ (w : Unread). HasPlace words changed i w) (sym (left i u (let n : i ≤ i = omega arith in n)) ∙ sym is) (p i u (subst (λ (n : ℕ). i < n) e l))) z stay)))
+    (λ apart. subst (λ (w : Unread). HasPlace words [] j w) (sym (get_or-set_other now i j v d apart)) (h p j d (omega (arith, m, apart)) (subst (λ (n : ℕ). j < n) (length-set now i v) k)))
+    (cases_eq j i)
+
+pub left_more : (old now : List Unread) (i : ℕ) (v : Unread) → LeftAsWere old now i → LeftAsWere old (set now i v) (i + 1)
+left_more old now i v h = λ j d l. get_or-set_other now i j v d (λ s. let none : Prim.⊥ = omega (arith, l, s) in none) ∙ h j d (omega (arith, l))
+
+-- cells of its own noted
+pub place_noted : (words : Words) (changed : List ℕ) (i : ℕ) (u v : Unread) → HasPlace words changed i u → v.from ≡ u.from → ((c : ℕ) → is_unread changed u c ≡ true → is_unread changed v c ≡ true) → HasPlace words changed i v
+place_noted words changed i u v p f stay = record { within = subst (λ (n : ℕ). n ≤ length changed) (sym f) p.within; found = λ c s. stay c (p.found c s) }
+
+-- that of the i-th, as the code reads it
+pub place_read : (words : Words) (changed : List ℕ) (unread : List Unread) (i : ℕ) (u : Unread) → HavePlaces words changed unread → i < length unread → u ≡ get_or unread i u → HasPlace words changed i u
+place_read words changed unread i u h l e = subst (λ (v : Unread). HasPlace words changed i v) (sym e) (h i u l)
 
 -- ---- what always holds
 
@@ -170,3 +209,14 @@ module _ (words staged : Words) (changed : List ℕ) (unread : List Unread) (k :
   -- the rooms are taken
   pub kept_taken : (none : Words) → none ≡ [] → AreKept words none changed unread
   kept_taken none e = kept_fewer words none k.order (λ i c t. t) (no_rooms none e)
+
+-- of no session
+pub kept_none : (words staged : Words) (changed : List ℕ) (unread : List Unread) → words ≡ [] → staged ≡ [] → unread ≡ [] → AreKept words staged changed unread
+unfolding IsStrictlySortedBy
+kept_none words staged changed unread w s u = record {
+  order = subst (λ (es : Words). IsStrictlySortedBy nat_cmp (keys_of es)) (sym w) tt;
+  few = subst (λ (us : List Unread). length us ≤ 64) (sym u) (omega arith);
+  none = λ i c l. ap (λ (es : Words). is_in es i c) w ∙ none_in_zero i;
+  bare = λ i c l. ap (λ (rs : Words). is_staged rs i c) s;
+  places = λ i d l. let none : Prim.⊥ = omega (arith, subst (λ (us : List Unread). i < length us) u l) in absurd none;
+}

@@ -209,6 +209,14 @@ pub made_all : (cells : List ℕ) (k bits : ℕ) (words staged more rooms : Word
     → HasMade (at_cells cells bits) words staged more rooms
 made_all cells k bits words staged more rooms l h = subst (λ xs. HasMade (at_cells xs bits) words staged more rooms) (take_all k cells l) h
 
+-- the same, told by another test of sessions
+pub has_made_same : (cells : List ℕ) (bits : ℕ) (has : ℕ → Bool) (words staged more rooms : Words) → ((i : ℕ) → has_bit i bits ≡ has i) → HasMade (at_cells cells bits) words staged more rooms
+    → HasMade (λ i c. is_listed cells c && has i) words staged more rooms
+has_made_same cells bits has words staged more rooms e h = record {
+  put = λ i c. h.put i c ∙ ap (λ b. is_in words i c || (is_listed cells c && b)) (e i);
+  made = λ i c. h.made i c ∙ ap (λ b. is_staged staged i c || ((is_listed cells c && b) && not (is_in words i c))) (e i);
+}
+
 -- for sessions without a bit all is as it was
 abbrev pub OthersStay : ℕ → (words staged more rooms : Words) → Type 0
 OthersStay bits words staged more rooms = (i c : ℕ) → has_bit i bits ≡ false → (is_in more i c ≡ is_in words i c) × (is_staged rooms i c ≡ is_staged staged i c)

@@ -77,8 +77,9 @@ fn stage_there(
     if is_bare(more) {
         return Ok(());
     }
-    staged.push((at, more))?;
+    staged.reserve(1)?;
     let _ = words.replace(at, joined(word, more));
+    staged.push((at, more)).unwrap();
     Ok(())
 }
 
@@ -148,9 +149,19 @@ fn clear_one(words: &mut Words, at: Address, bits: u64)
     ensures order { IsOrdered nat_cmp words.new }
     ensures less { HasCleared (λ i c. at == c && has_bit i bits) words.old.entries words.new.entries }
 {
-    let Some(word) = found(words, at) else {
-        return;
-    };
+    match found(words, at) {
+        Some(word) => clear_there(words, at, word, bits),
+        None => {}
+    }
+}
+
+/// Takes bits of a cell that has these bits away. A cell without bits goes.
+fn clear_there(words: &mut Words, at: Address, word: u64, bits: u64)
+    requires order { IsOrdered nat_cmp words.old }
+    requires there { lookup (is_at (nat_cmp at)) words.old.entries ≡ Some word }
+    ensures order { IsOrdered nat_cmp words.new }
+    ensures less { HasCleared (λ i c. at == c && has_bit i bits) words.old.entries words.new.entries }
+{
     let left = without(word, bits);
     if is_bare(left) {
         let _ = words.remove(at);

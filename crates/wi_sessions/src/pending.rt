@@ -1,11 +1,15 @@
 //! Which cells may differ from which pictures.
 
-ghost use Rattle.std.specs.Prelude.{◌≡◌, ◌≢◌, ◌<◌, ◌||◌, ◌&&◌, ◌++◌, ◌∷◌, ℕ, List, not, length, [], IfOk, OnOk, OnErr, true};
+ghost use Rattle.std.specs.Prelude.{◌≡◌, ◌≢◌, ◌<◌, ◌≤◌, ◌||◌, ◌&&◌, ◌++◌, ◌∷◌, ℕ, List, not, length, [], IfOk, OnOk, OnErr, true, false, nat_lt};
 ghost use Rattle.std.specs.List.{list_all, slice_set};
 ghost use Rattle.wi_sessions.specs.Pictures.{sheet_size};
 ghost use Rattle.wi_sessions.specs.Pictures.Laws.{is_listed, Rises};
 ghost use Rattle.wi_sessions.specs.Pending.{list_at};
+ghost use Rattle.std.specs.Ordering.{nat_cmp};
+ghost use Rattle.wi_tiles.specs.Entries.{IsOrdered};
 ghost use Rattle.wi_sessions.specs.Roster.{SameCells};
+ghost use Rattle.wi_sessions.specs.Inner.Cells.{has_bit, is_in, is_staged, at_cells, SamePending, HasMade};
+ghost use Rattle.wi_sessions.specs.Inner.Unread.{is_unread, HavePlaces, AreLookedAt};
 
 use crate::bits::{are_alike, bit_of, bits_of, without};
 use crate::cells::{
@@ -54,11 +58,15 @@ impl Pending {
         ensures pending { result.pending ≡ [] }
         ensures vacant { result.vacant ≡ [] }
     {
+        let words = CellMap::new(alloc);
+        let staged = Vec::new(alloc);
+        let changed = Vec::new(alloc);
+        let unread = Vec::new(alloc);
         Pending {
-            words: CellMap::new(alloc),
-            staged: Vec::new(alloc),
-            changed: Vec::new(alloc),
-            unread: Vec::new(alloc),
+            words,
+            staged,
+            changed,
+            unread,
             alloc,
         }
     }
@@ -95,15 +103,21 @@ impl Pending {
         ensures others { (j : ℕ) → j ≢ i → list_at self.new.vacant j ≡ list_at self.old.vacant j }
     {
         let limit = self.words.len() / 16 + 64;
-        if let Err(error) = self.unread[i].note(cells, limit) {
-            drop_rooms(&mut self.words, &self.staged, bit_of(i));
-            return Err(error);
+        let bit = bit_of(i);
+        match stage_own(
+            &mut self.words,
+            &mut self.staged,
+            &mut self.unread[i],
+            cells,
+            bit,
+            limit,
+        ) {
+            Ok(()) => Ok(()),
+            Err(error) => {
+                drop_rooms(&mut self.words, &self.staged, bit);
+                Err(error)
+            }
         }
-        if let Err(error) = stage_each(&mut self.words, &mut self.staged, cells, bit_of(i)) {
-            drop_rooms(&mut self.words, &self.staged, bit_of(i));
-            return Err(error);
-        }
-        Ok(())
     }
 
     /// The same for each session, in one walk through the cells.
@@ -114,16 +128,20 @@ impl Pending {
         ensures refused { OnErr result ((j : ℕ) → list_at self.new.vacant j ≡ []) }
     {
         let limit = self.words.len() / 2 + 64;
-        if let Err(error) = note(&mut self.changed, &mut self.unread, cells, limit) {
-            give_back(&mut self.words, &mut self.staged);
-            return Err(error);
-        }
-        stage(
+        match stage_all(
             &mut self.words,
             &mut self.staged,
+            &mut self.changed,
+            &mut self.unread,
             cells,
-            bits_of(self.unread.len()),
-        )
+            limit,
+        ) {
+            Ok(()) => Ok(()),
+            Err(error) => {
+                give_back(&mut self.words, &mut self.staged);
+                Err(error)
+            }
+        }
     }
 
     /// The cells for which there is room are pending now. Takes no memory, and no search.
@@ -205,4 +223,51 @@ impl Pending {
         let length = self.changed.len();
         self.unread[i].read(length);
     }
+}
+
+/// Notes cells as a session's own, and makes room for them. If memory runs out, there is room for a part of them.
+fn stage_own(
+    words: &mut Words,
+    staged: &mut Vec<Room>,
+    own: &mut Unread,
+    cells: &[Address],
+    bit: u64,
+    limit: usize,
+) -> Result<(), AllocError>
+    requires { IsOrdered nat_cmp words.old }
+    ensures order { IsOrdered nat_cmp words.new }
+    ensures pending { SamePending words.old.entries staged.old.items words.new.entries staged.new.items }
+    ensures others { (i c : ℕ) → has_bit i bit ≡ false → (is_in words.new.entries i c ≡ is_in words.old.entries i c) × (is_staged staged.new.items i c ≡ is_staged staged.old.items i c) }
+    ensures from { own.new.from ≡ own.old.from }
+    ensures stay { (changed : List ℕ) (c : ℕ) → is_unread changed own.old c ≡ true → is_unread changed own.new c ≡ true }
+    ensures room { OnOk result (HasMade (at_cells cells.now bit) words.old.entries staged.old.items words.new.entries staged.new.items) }
+    ensures own { OnOk result ((changed : List ℕ) (c : ℕ) → is_listed cells.now c ≡ true → is_unread changed own.new c ≡ true) }
+{
+    own.note(cells, limit)?;
+    stage_each(words, staged, cells, bit)?;
+    Ok(())
+}
+
+/// Notes cells that an edit may change, and makes room for them for each session. If memory runs out, there is room for a part of them.
+fn stage_all(
+    words: &mut Words,
+    staged: &mut Vec<Room>,
+    changed: &mut Vec<Address>,
+    unread: &mut Vec<Unread>,
+    cells: &[Address],
+    limit: usize,
+) -> Result<(), AllocError>
+    requires order { IsOrdered nat_cmp words.old }
+    requires few { length unread.old.items ≤ 64 }
+    ensures order { IsOrdered nat_cmp words.new }
+    ensures pending { SamePending words.old.entries staged.old.items words.new.entries staged.new.items }
+    ensures lists { length unread.new.items ≡ length unread.old.items }
+    ensures places { (all : List (ℕ × ℕ)) → HavePlaces all changed.old.items unread.old.items → HavePlaces all changed.new.items unread.new.items }
+    ensures room { OnOk result (HasMade (λ i c. is_listed cells.now c && nat_lt i (length unread.old.items)) words.old.entries staged.old.items words.new.entries staged.new.items) }
+    ensures looked { OnOk result ((all : List (ℕ × ℕ)) → HavePlaces all changed.old.items unread.old.items → AreLookedAt cells.now changed.new.items unread.new.items) }
+{
+    note(changed, unread, cells, limit)?;
+    let bits = bits_of(unread.len());
+    stage_each(words, staged, cells, bits)?;
+    Ok(())
 }

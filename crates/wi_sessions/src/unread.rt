@@ -2,9 +2,7 @@
 
 ghost use Rattle.std.specs.Prelude.{◌≡◌, ◌≤◌, ◌<◌, ℕ, List, true, length, [], OnOk};
 ghost use Rattle.wi_sessions.specs.Pictures.Laws.{is_listed};
-ghost use Rattle.std.specs.List.{slice_index_or};
-ghost use Rattle.wi_sessions.specs.declared.unread.Unread.{Unread};
-ghost use Rattle.wi_sessions.specs.Inner.Unread.{is_unread, HavePlaces};
+ghost use Rattle.wi_sessions.specs.Inner.Unread.{is_unread, HavePlaces, AreLookedAt};
 
 use std::alloc::{AllocError, Global};
 use wi_values::Address;
@@ -36,23 +34,33 @@ impl Unread {
         ensures stay { (changed : List ℕ) (c : ℕ) → is_unread changed self.old c ≡ true → is_unread changed self.new c ≡ true }
         ensures own { OnOk result ((changed : List ℕ) (c : ℕ) → is_listed cells.now c ≡ true → is_unread changed self.new c ≡ true) }
     {
-        if self.own.len().saturating_add(cells.len()) > limit {
+        if is_longer(self.own.len(), cells.len(), limit) {
             self.anywhere = true;
             self.own.clear();
             return Ok(());
         }
-        self.own.extend_from_slice(cells)
+        self.own.extend_from_slice(cells)?;
+        Ok(())
     }
 
-    /// The list of changed cells, which had this length, is empty now.
+    /// Whether nothing stands behind its place in a list of this length.
+    fn has_read(&self, length: usize) -> bool
+        ensures { result ≡ true → self.now.from ≡ length }
+    {
+        self.from == length
+    }
+
+    /// The list of changed cells, which had this length, is empty now. Takes no memory.
     fn begin_anew(&mut self, length: usize)
         ensures from { self.new.from ≡ 0 }
         ensures stay { (changed : List ℕ) (c : ℕ) → length changed ≡ length → is_unread changed self.old c ≡ true → is_unread ([]) self.new c ≡ true }
     {
-        if self.from != length {
-            self.anywhere = true;
-            self.own.clear();
+        if self.has_read(length) {
+            self.from = 0;
+            return;
         }
+        self.anywhere = true;
+        self.own.clear();
         self.from = 0;
     }
 
@@ -66,13 +74,18 @@ impl Unread {
     }
 }
 
+/// Whether two counts together are more than so many.
+fn is_longer(count: usize, more: usize, limit: usize) -> bool {
+    count.saturating_add(more) > limit
+}
+
 /// The list of changed cells, which had this length, is empty now.
-fn begin_anew(unread: &mut [Unread], length: usize)
-    ensures lists { length unread.new ≡ length unread.old }
-    ensures places { (words : List (ℕ × ℕ)) (changed : List ℕ) → length changed ≡ length → HavePlaces words changed unread.old → HavePlaces words ([]) unread.new }
+fn begin_anew(unread: &mut Vec<Unread>, length: usize)
+    ensures lists { length unread.new.items ≡ length unread.old.items }
+    ensures places { (words : List (ℕ × ℕ)) (changed : List ℕ) → length changed ≡ length → HavePlaces words changed unread.old.items → HavePlaces words ([]) unread.new.items }
 {
-    for one in unread.iter_mut() {
-        one.begin_anew(length);
+    for i in 0..unread.len() {
+        unread[i].begin_anew(length);
     }
 }
 
@@ -85,12 +98,27 @@ pub(crate) fn note(
 ) -> Result<(), AllocError>
     ensures lists { length unread.new.items ≡ length unread.old.items }
     ensures places { (words : List (ℕ × ℕ)) → HavePlaces words changed.old.items unread.old.items → HavePlaces words changed.new.items unread.new.items }
-    ensures looked { OnOk result ((words : List (ℕ × ℕ)) → HavePlaces words changed.old.items unread.old.items
-        → (i c : ℕ) (d : Unread) → i < length unread.old.items → is_listed cells.now c ≡ true → is_unread changed.new.items (slice_index_or unread.new.items i d) c ≡ true) }
+    ensures looked { OnOk result ((words : List (ℕ × ℕ)) → HavePlaces words changed.old.items unread.old.items → AreLookedAt cells.now changed.new.items unread.new.items) }
 {
-    if changed.len().saturating_add(cells.len()) > limit {
-        begin_anew(unread, changed.len());
-        changed.clear();
+    if is_longer(changed.len(), cells.len(), limit) {
+        return note_anew(changed, unread, cells);
     }
-    changed.extend_from_slice(cells)
+    changed.extend_from_slice(cells)?;
+    Ok(())
+}
+
+/// The same, where the list begins anew.
+fn note_anew(
+    changed: &mut Vec<Address>,
+    unread: &mut Vec<Unread>,
+    cells: &[Address],
+) -> Result<(), AllocError>
+    ensures lists { length unread.new.items ≡ length unread.old.items }
+    ensures places { (words : List (ℕ × ℕ)) → HavePlaces words changed.old.items unread.old.items → HavePlaces words changed.new.items unread.new.items }
+    ensures looked { OnOk result ((words : List (ℕ × ℕ)) → HavePlaces words changed.old.items unread.old.items → AreLookedAt cells.now changed.new.items unread.new.items) }
+{
+    begin_anew(unread, changed.len());
+    changed.clear();
+    changed.extend_from_slice(cells)?;
+    Ok(())
 }
