@@ -1,21 +1,25 @@
 -- Laws of what is pending for all sessions, for each call.
-use Rattle.std.proofs.Common.{◌≡◌, ◌≢◌, ◌==◌, ◌<◌, ◌≤◌, ◌+◌, ◌||◌, ◌&&◌, ◌∙◌, ◌⊎◌, ℕ, Bool, true, false, not, List, [], ◌∷◌, ◌++◌, map, length, get_or, set, drop, filter, refl, sym, ap, subst, arith, ⊎_elim}
+use Rattle.std.proofs.Common.{◌≡◌, ◌≢◌, ◌==◌, ◌<◌, ◌≤◌, ◌+◌, ◌||◌, ◌&&◌, ◌∙◌, ◌⊎◌, ℕ, Bool, true, false, not, List, [], ◌∷◌, ◌++◌, map, length, get_or, set, drop, filter, Result, Ok, Err, ◌*◌, refl, sym, ap, subst, arith, ⊎_elim}
 use Rattle.std.proofs.Math.Bool.{and-false, and-true, or-false, or-true}
-use Rattle.std.specs.Prelude.{nat_lt}
-use Rattle.std.specs.List.{list_all, range_with_len}
+use Rattle.std.specs.Prelude.{nat_lt, IfOk}
+use Rattle.std.specs.List.{All, list_all, range_with_len}
 use Rattle.std.specs.List.Sorted.{IsStrictlySortedBy}
 use Rattle.std.specs.Ordering.{nat_cmp}
 use Rattle.std.specs.Map.{keys_of}
 use Rattle.std.proofs.lemmas.Bool.{and_parts, both_ways, cases_eq, cases_lt, eq-eqb, ne_eqb, le-ltb, lt-ltb, or_cases}
 use Rattle.std.proofs.lemmas.List.{get_or-set_same, length-append, length-set}
+use Rattle.std.proofs.lemmas.List.Elements.{All-filter, All-map}
 use Rattle.std.proofs.lemmas.List.Folds.{list_any-append}
-use Rattle.wi_sessions.specs.Pictures.Laws.{is_listed}
+use Rattle.wi_values.specs.Address.{rows, columns}
+use Rattle.wi_sessions.specs.Pictures.{sheet_size}
+use Rattle.wi_sessions.specs.Pictures.Laws.{is_listed, Rises}
 use Rattle.wi_sessions.specs.Pending.{AllPending, list_at}
 use Rattle.wi_sessions.specs.Roster.{SameCells}
 use Rattle.wi_sessions.specs.declared.unread.Unread.{Unread}
 use Rattle.wi_sessions.specs.Inner.Cells.{has_bit, is_in, is_staged, cells_with, cells_in, vacant_in, pending_in, at_cells, SamePending, HasMade, HasCleared}
 use Rattle.wi_sessions.specs.Inner.Unread.{is_unread, HasPlace, HavePlaces, AreKept, AreLookedAt}
-use Rattle.wi_sessions.proofs.CellLemmas.{listed_filter, same_answers, same_listed}
+use Rattle.wi_sessions.proofs.BitLemmas.{none_in_zero}
+use Rattle.wi_sessions.proofs.CellLemmas.{listed_filter, rises, same_answers, same_listed}
 use Rattle.wi_sessions.proofs.WordLemmas.{Words, OthersStay, listed_with, pending_stay}
 use Rattle.wi_sessions.proofs.ViewLemmas.{all_pass, ascend_in, ascend_vacant, list_beyond, list_there, listed_either, listed_in, listed_vacant, lists, no_vacant, none_in, none_vacant, one_list_more, one_set, pending_cleared, pending_taken, same_as, same_in, same_vacant, so_many, vacant_cleared, vacant_made, vacant_stays}
 use Rattle.wi_sessions.proofs.PlaceLemmas.{kept_at, kept_cleared, kept_fewer, kept_given, kept_made, kept_taken, places_pushed, places_set}
@@ -23,6 +27,9 @@ use Rattle.wi_sessions.proofs.RosterLemmas.{one_of_all_has}
 
 abbrev pub Ordered : Words → Type 0
 Ordered words = IsStrictlySortedBy nat_cmp (keys_of words)
+
+abbrev as_pending : List (List ℕ) → List (List ℕ) → AllPending
+as_pending pending vacant = record { pending = pending; vacant = vacant }
 
 -- ---- what stays the same
 
@@ -234,6 +241,22 @@ module _ (words staged more rooms : Words) (changed : List ℕ) (unread : List U
       beyond : (i : ℕ) → length (unread ++ u ∷ []) ≤ i → n < i
       beyond i l = let l' = subst (λ (m : ℕ). m ≤ i) (length-append unread (u ∷ [])) l in omega (arith, l', e)
 
+-- where memory ran out all is as it was
+module _ (words staged more none : Words) (a : Ordered words) (b : Ordered more) (h : SamePending words [] more none) (e : none ≡ []) where
+  pub bits_same : (i c : ℕ) → is_in more i c ≡ is_in words i c
+  bits_same i c = sym (ap (λ (rs : Words). is_in more i c && not (is_staged rs i c)) e ∙ and-true (is_in more i c)) ∙ h i c ∙ and-true (is_in words i c)
+
+  pub refused_same : (n : ℕ) → pending_in more staged n ≡ pending_in words staged n
+  refused_same n =
+      ap (λ (xss : List (List ℕ)). as_pending xss (map (vacant_in more staged) (range_with_len 0 n)))
+      (same_as (cells_in words staged) n (cells_in more staged) (λ i l. same_listed (cells_in more staged i) (cells_in words staged i) (ascend_in more staged i b) (ascend_in words staged i a)
+      (λ q. listed_in more staged i b q ∙ ap (λ t. t && not (is_staged staged i q)) (bits_same i q) ∙ sym (listed_in words staged i a q))))
+      ∙ ap (λ (xss : List (List ℕ)). as_pending (map (cells_in words staged) (range_with_len 0 n)) xss)
+      (same_as (vacant_in words staged) n (vacant_in more staged) (λ i l. same_vacant words staged more staged a b i (bits_same i) (λ c. refl)))
+
+  pub refused_kept : (changed : List ℕ) (unread : List Unread) → AreKept words staged changed unread → AreKept more staged changed unread
+  refused_kept changed unread k = kept_fewer words staged changed unread k more staged b (λ i c t. sym (bits_same i c) ∙ t) k.bare
+
 -- ---- whether a cell is pending for each session
 
 pub each_has : (words staged : Words) (changed : List ℕ) (unread : List Unread) (at word bits n : ℕ) (answer : Bool) → length unread ≡ n → AreKept words staged changed unread
@@ -273,3 +296,81 @@ found_cells words changed i u found sorted p n e same c =
     by true o false h = and-false o
     by false o true h = and-true o ∙ h refl
     by false o false h = and-false o
+
+pub if_ok_both : {V E : Type 0} {P Q R : List ℕ → Type 0} (r : Result V E) (items : V → List ℕ) → IfOk r (λ v. P (items v)) → IfOk r (λ v. Q (items v))
+    → ((xs : List ℕ) → P xs → Q xs → R xs) → IfOk r (λ v. R (items v))
+if_ok_both (Ok v) items p q f = f (items v) p q
+if_ok_both (Err e) items p q f = tt
+
+-- ---- a session's bit taken from all its cells
+
+none_left : (s t : Bool) → t ≡ s → (s && not t) ≡ false
+none_left s t e = ap (λ x. s && not x) e ∙ by s
+  where
+    by : (s : Bool) → (s && not s) ≡ false
+    by true = refl
+    by false = refl
+
+pub all_forgotten : (words less : Words) (all : List ℕ) (i count : ℕ) → less ≡ [] → count ≡ 1 → i < count → ((c : ℕ) → is_listed all c ≡ is_in words i c)
+    → ((j c : ℕ) → count ≤ j → is_in words j c ≡ false) → HasCleared (λ j c. is_listed all c && (j == i)) words less
+all_forgotten words less all i count e one l is none = λ j c.
+    ap (λ (es : Words). is_in es j c) e ∙ none_in_zero j
+    ∙ sym (⊎_elim
+    (λ (s : j ≡ i). subst (λ (k : ℕ). (is_in words k c && not (is_listed all c && (k == i))) ≡ false) (sym s)
+    (none_left (is_in words i c) (is_listed all c && (i == i)) (ap (λ t. is_listed all c && t) (eq-eqb i i refl) ∙ and-true (is_listed all c) ∙ is c)))
+    (λ (apart : j ≡ i → Prim.⊥). ap (λ t. t && not (is_listed all c && (j == i))) (none j c (beyond j apart)))
+    (cases_eq j i))
+  where
+    beyond : (j : ℕ) → (j ≡ i → Prim.⊥) → count ≤ j
+    beyond j apart = omega (arith, one, l, apart)
+
+pub cleared_same : (all : List ℕ) (bit i : ℕ) (words less : Words) → ((j : ℕ) → has_bit j bit ≡ (j == i)) → HasCleared (at_cells all bit) words less → HasCleared (λ j c. is_listed all c && (j == i)) words less
+cleared_same all bit i words less e h = λ j c. h j c ∙ ap (λ t. is_in words j c && not (is_listed all c && t)) (e j)
+
+-- what is left of it
+module _ (words less staged : Words) (changed : List ℕ) (unread : List Unread) (u : Unread) (all : List ℕ) (i : ℕ) (k : AreKept words staged changed unread) (b : Ordered less)
+    (l : i < length unread) (is : (c : ℕ) → is_listed all c ≡ is_in words i c) (h : HasCleared (λ j c. is_listed all c && (j == i)) words less) where
+  test_here : (c : ℕ) → (is_listed all c && (i == i)) ≡ is_in words i c
+  test_here c = ap (λ t. is_listed all c && t) (eq-eqb i i refl) ∙ and-true (is_listed all c) ∙ is c
+
+  test_elsewhere : (j c : ℕ) → j ≢ i → (is_listed all c && (j == i)) ≡ false
+  test_elsewhere j c apart = ap (λ t. is_listed all c && t) (ne_eqb j i apart) ∙ and-false (is_listed all c)
+
+  bit_gone : (c : ℕ) → is_in less i c ≡ false
+  bit_gone c = h i c ∙ none_left (is_in words i c) (is_listed all c && (i == i)) (test_here c)
+
+  pub forgotten_pending : map (cells_in less staged) (range_with_len 0 (length unread)) ≡ set (map (cells_in words staged) (range_with_len 0 (length unread))) i []
+  forgotten_pending = pending_cleared words less staged i (length unread) (λ j c. is_listed all c && (j == i)) k.order b h l test_here test_elsewhere
+
+  pub forgotten_vacant : map (vacant_in less staged) (range_with_len 0 (length unread)) ≡ set (map (vacant_in words staged) (range_with_len 0 (length unread))) i []
+  forgotten_vacant = vacant_cleared words less staged i (length unread) (λ j c. is_listed all c && (j == i)) k.order b h l test_here test_elsewhere
+
+  pub forgotten_kept : u.from ≡ length changed → AreKept less staged changed (set unread i u)
+  forgotten_kept e =
+      let less_kept : AreKept less staged changed unread = kept_cleared words staged changed unread k (λ j c. is_listed all c && (j == i)) less b h in
+      kept_at less staged changed unread less_kept changed (set unread i u) (length-set unread i u)
+      (places_set less changed unread i u l less_kept.places (record { within = omega (arith, e); found = λ c t. absurd (both_ways (is_in less i c) (bit_gone c) t) }))
+
+-- all cells of a session, as its lists tell them
+pub listed_told : (words staged : Words) (n i : ℕ) (p : AllPending) → Ordered words → pending_in words staged n ≡ p → i < n
+    → (q : ℕ) → (is_listed (list_at p.pending i) q || is_listed (list_at p.vacant i) q) ≡ is_in words i q
+listed_told words staged n i p order v l q =
+    ap (λ (r : AllPending). is_listed (list_at r.pending i) q || is_listed (list_at r.vacant i) q) (sym v)
+    ∙ ap (λ (xs : List ℕ). is_listed xs q || is_listed (list_at (map (vacant_in words staged) (range_with_len 0 n)) i) q) (list_there (cells_in words staged) n i l)
+    ∙ ap (λ (xs : List ℕ). is_listed (cells_in words staged i) q || is_listed xs q) (list_there (vacant_in words staged) n i l) ∙ listed_either words staged i order q
+
+-- its pending cells rise
+pub cells_rise : (words staged : Words) (n i : ℕ) (p : AllPending) → Ordered words → All (λ e. e.0 < rows * columns) words → pending_in words staged n ≡ p → i < n → Rises 0 sheet_size (list_at p.pending i)
+cells_rise words staged n i p order sheet v l =
+    subst (λ (xs : List ℕ). Rises 0 sheet_size xs) (sym (list_there (cells_in words staged) n i l) ∙ ap (λ (r : AllPending). list_at r.pending i) v)
+    (rises (cells_in words staged i) (ascend_in words staged i order)
+    (All-filter (λ c. not (is_staged staged i c)) (λ a. a < rows * columns) (cells_with words i)
+    (All-map (λ a. a < rows * columns) (λ e. e.0) (filter (λ e. has_bit i e.1) words) (All-filter (λ e. has_bit i e.1) (λ e. e.0 < rows * columns) words sheet))))
+
+all_kept : (xs : List ℕ) → filter (λ c. true) xs ≡ xs
+all_kept [] = refl
+all_kept (x ∷ xs) = ap (λ (ys : List ℕ). x ∷ ys) (all_kept xs)
+
+-- where no room is listed, all are pending
+pub none_staged : (words staged : Words) (i : ℕ) → staged ≡ [] → cells_in words staged i ≡ cells_with words i
+none_staged words staged i e = ap (λ (rs : Words). cells_in words rs i) e ∙ all_kept (cells_with words i)

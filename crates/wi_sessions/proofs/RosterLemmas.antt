@@ -1,7 +1,7 @@
 -- Laws of sessions and their pending cells, as lists of parts of each.
 use Rattle.std.proofs.Common.{◌≡◌, ◌≢◌, ◌<◌, ◌≤◌, ◌+◌, zero, suc, ⊎_elim, ◌||◌, ◌&&◌, ◌∙◌, ℕ, Bool, true, false, cond, not, List, [], ◌∷◌, ◌++◌, map, length, get_or, set, take, slice_get, nat_eq, Option, Some, None, refl, sym, ap, subst, arith, true≢false}
 use Rattle.std.specs.Prelude.{IfSome, nat_lt}
-use Rattle.std.specs.Option.{is_some, option_map}
+use Rattle.std.specs.Option.{is_some, option_map, option_to_list}
 use Rattle.std.specs.List.{AllZip, list_all, list_any, position, position_or_len, position_from}
 use Rattle.std.specs.Cmp.Lexicographic.{pointwise}
 use Rattle.std.specs.Map.{keys_of, values_of, lookup}
@@ -97,23 +97,6 @@ module _ {Z Y : Type 0} (f : Entry Z → Y) (es : List (Entry Z)) (i : ℕ) (k :
   pub part_set : (y : Held) (w : Y) → f (k, y) ≡ w → map f (set_value_at es i y) ≡ set ys i w
   part_set y w e = set_told y ∙ ap (λ (z : Y). set (map f es) i z) e ∙ ap (λ (zs : List Y). set zs i w) v
 
-  -- another in its place, of which the same is told
-  pub part_same : (y : Held) → f (k, y) ≡ f (k, x) → map f (set_value_at es i y) ≡ ys
-  part_same y e =
-      ap (λ (ds : List (Entry Z)). map f ds) (set_entry es i k x y at)
-      ∙ map-set_same f es i (k, y) (k, x) (e ∙ ap f (sym (get_or_from_slice_get es i (k, x) (k, x) at))) ∙ v
-
-  -- what is told of the other itself
-  pub part_new : (y : Held) (d : Y) → get_or (map f (set_value_at es i y)) i d ≡ f (k, y)
-  part_new y d =
-      ap (λ (zs : List Y). get_or zs i d) (set_told y)
-      ∙ get_or-set_same (map f es) i (f (k, y)) d (subst (λ (n : ℕ). i < n) (sym (length-map es f)) (slice_get_within es i (k, x) at))
-
-  -- and of all sessions but the i-th
-  pub part_other : (y : Held) (j : ℕ) (d : Y) → j ≢ i → get_or (map f (set_value_at es i y)) j d ≡ get_or ys j d
-  part_other y j d n =
-      ap (λ (zs : List Y). get_or zs j d) (set_told y) ∙ get_or-set_other (map f es) i j (f (k, y)) d n ∙ ap (λ (zs : List Y). get_or zs j d) v
-
 -- it has its list
 pub within_lists : {Z : Type 0} (es : List (Entry Z)) (p : AllPending) (r : Roster) (i : ℕ) → roster_in es p ≡ r → length p.pending ≡ length es → i < length r.sessions → i < length p.pending
 within_lists es p r i v e l = subst (λ (n : ℕ). i < n) (ap (λ (q : Roster). length q.sessions) (sym v) ∙ length-map es session_in ∙ sym e) l
@@ -137,6 +120,22 @@ pub told_more : {Z Y : Type 0} (f : Entry Z → Y) (es new : List (Entry Z)) (k 
 told_more {Z} {Y} f es new k x ys y h v g =
     ap (λ (ds : List (Entry Z)). map f ds) h ∙ map-append f es ((k, x) ∷ []) ∙ ap (λ (zs : List Y). zs ++ f (k, x) ∷ []) v ∙ ap (λ (z : Y). ys ++ z ∷ []) g
 
+same_front : {X : Type 0} (x y : X) (es less : List X) → less ++ y ∷ [] ≡ es ++ x ∷ [] → less ≡ es
+same_front x y [] [] h = refl
+same_front x y [] (l ∷ []) h = cc
+same_front x y [] (l ∷ m ∷ less) h = cc
+same_front x y (e ∷ []) [] h = cc
+same_front x y (e ∷ d ∷ es) [] h = cc
+same_front {X} x y (e ∷ es) (l ∷ less) h =
+    let first : l ≡ e = cc in
+    let rest : less ++ y ∷ [] ≡ es ++ x ∷ [] = cc in
+    ap (λ (z : X). z ∷ less) first ∙ ap (λ (zs : List X). e ∷ zs) (same_front x y es less rest)
+
+-- once the last is taken away
+pub popped_again : {X : Type 0} (es more less : List X) (x : X) (o : Option X) → more ≡ es ++ x ∷ [] → more ≡ less ++ option_to_list o → is_some o ≡ true → less ≡ es
+popped_again es more less x None e f s = absurd (true≢false (sym s))
+popped_again es more less x (Some y) e f s = same_front x y es less (sym f ∙ e)
+
 -- an empty list at the end is like none
 pub empty_after : (xs : List (List ℕ)) (i : ℕ) → get_or (xs ++ [] ∷ []) i [] ≡ get_or xs i []
 empty_after [] zero = refl
@@ -147,20 +146,6 @@ empty_after (x ∷ xs) (suc i) = empty_after xs i
 -- ---- what each has
 
 module _ (p : List ℕ → Bool) (xss : List (List ℕ)) where
-  pub none_yet : list_all p (take 0 xss) ≡ true
-  none_yet = by xss
-    where
-      by : (yss : List (List ℕ)) → list_all p (take 0 yss) ≡ true
-      by [] = refl
-      by (ys ∷ yss) = refl
-
-  -- what each before the i-th has, and the i-th
-  pub one_more_has : (i : ℕ) → i < length xss → p (get_or xss i []) ≡ true → list_all p (take i xss) ≡ true → list_all p (take (i + 1) xss) ≡ true
-  one_more_has i l h k = list_all_more p xss i [] l ∙ ap (λ (b : Bool). b && p (get_or xss i [])) k ∙ h
-
-  pub all_were : (n : ℕ) → length xss ≤ n → list_all p (take n xss) ≡ true → list_all p xss ≡ true
-  all_were n l h = sym (ap (λ (yss : List (List ℕ)). list_all p yss) (take_all n xss l)) ∙ h
-
   -- each has what all have
   pub one_of_all_has : (i : ℕ) → list_all p xss ≡ true → i < length xss → p (get_or xss i []) ≡ true
   one_of_all_has i h l = by (p (get_or xss i [])) refl

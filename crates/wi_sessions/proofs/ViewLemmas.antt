@@ -84,13 +84,13 @@ module _ (words staged : Words) (i : ℕ) (order : IsStrictlySortedBy nat_cmp (k
   pub no_vacant : ((c : ℕ) → is_in words i c ≡ false) → vacant_in words staged i ≡ []
   no_vacant h = same_listed (vacant_in words staged i) [] ascend_vacant tt (λ q. listed_vacant q ∙ ap (λ b. b && is_staged staged i q) (h q))
 
+none_kept : (xs : List ℕ) → filter (λ c. false) xs ≡ []
+none_kept [] = refl
+none_kept (x ∷ xs) = none_kept xs
+
 -- where no room is listed
 pub none_vacant : (words none : Words) (i : ℕ) → none ≡ [] → vacant_in words none i ≡ []
-none_vacant words none i e = ap (λ (rs : Words). vacant_in words rs i) e ∙ nothing (cells_with words i)
-  where
-    nothing : (xs : List ℕ) → filter (λ c. false) xs ≡ []
-    nothing [] = refl
-    nothing (x ∷ xs) = nothing xs
+none_vacant words none i e = ap (λ (rs : Words). vacant_in words rs i) e ∙ none_kept (cells_with words i)
 
 -- ---- the same cells
 
@@ -166,12 +166,12 @@ module _ (words less staged : Words) (i n : ℕ) (test : ℕ → ℕ → Bool) (
 
 -- ---- what each has
 
--- each of the first n passes, or one doesn't
+all_from : (p : List ℕ → Bool) (f : ℕ → List ℕ) (from count : ℕ) → ((i : ℕ) → from ≤ i → i < from + count → p (f i) ≡ true) → list_all p (map f (range_with_len from count)) ≡ true
+all_from p f from zero g = refl
+all_from p f from (suc count) g =
+    ap (λ (b : Bool). b && list_all p (map f (range_with_len (from + 1) count))) (g from (omega arith) (omega arith))
+    ∙ all_from p f (from + 1) count (λ i l m. g i (omega (arith, l)) (omega (arith, m)))
+
+-- each of the first n passes
 pub all_pass : (p : List ℕ → Bool) (f : ℕ → List ℕ) (n : ℕ) → ((i : ℕ) → i < n → p (f i) ≡ true) → list_all p (map f (range_with_len 0 n)) ≡ true
-all_pass p f n h = by 0 n (λ i l m. h i m)
-  where
-    by : (from count : ℕ) → ((i : ℕ) → from ≤ i → i < from + count → p (f i) ≡ true) → list_all p (map f (range_with_len from count)) ≡ true
-    by from zero g = refl
-    by from (suc count) g =
-        ap (λ (b : Bool). b && list_all p (map f (range_with_len (from + 1) count))) (g from (omega arith) (omega arith))
-        ∙ by (from + 1) count (λ i l m. g i (omega (arith, l)) (omega (arith, m)))
+all_pass p f n h = all_from p f 0 n (λ i l m. h i m)

@@ -220,9 +220,17 @@ pub(crate) fn staged_of(staged: &[Room], at: Address) -> u64
 {
     let mut bits = 0;
     for (cell, more) in staged {
-        if *cell == at {
-            bits = joined(bits, *more);
-        }
+        bits = with_room(bits, *cell, *more, at);
+    }
+    bits
+}
+
+/// The bits, with those of a room if it is a cell's.
+fn with_room(bits: u64, cell: Address, more: u64, at: Address) -> u64
+    ensures { (i : ℕ) → has_bit i result ≡ (has_bit i bits || (cell == at && has_bit i more)) }
+{
+    if cell == at {
+        return joined(bits, more);
     }
     bits
 }

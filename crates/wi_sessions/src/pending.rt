@@ -1,15 +1,16 @@
 //! Which cells may differ from which pictures.
 
-ghost use Rattle.std.specs.Prelude.{◌≡◌, ◌≢◌, ◌<◌, ◌≤◌, ◌||◌, ◌&&◌, ◌++◌, ◌∷◌, ℕ, List, not, length, [], IfOk, OnOk, OnErr, true, false, nat_lt};
+ghost use Rattle.std.specs.Prelude.{◌≡◌, ◌≢◌, ◌<◌, ◌≤◌, ◌||◌, ◌&&◌, ◌++◌, ◌∷◌, ℕ, List, not, length, [], IfOk, OnOk, OnErr, true, false, nat_lt, filter, ◌==◌};
 ghost use Rattle.std.specs.List.{list_all, slice_set};
 ghost use Rattle.wi_sessions.specs.Pictures.{sheet_size};
 ghost use Rattle.wi_sessions.specs.Pictures.Laws.{is_listed, Rises};
 ghost use Rattle.wi_sessions.specs.Pending.{list_at};
+ghost use Rattle.std.specs.List.Sorted.{IsStrictlyIncreasing};
 ghost use Rattle.std.specs.Ordering.{nat_cmp};
 ghost use Rattle.wi_tiles.specs.Entries.{IsOrdered};
 ghost use Rattle.wi_sessions.specs.Roster.{SameCells};
-ghost use Rattle.wi_sessions.specs.Inner.Cells.{has_bit, is_in, is_staged, at_cells, SamePending, HasMade};
-ghost use Rattle.wi_sessions.specs.Inner.Unread.{is_unread, HavePlaces, AreLookedAt};
+ghost use Rattle.wi_sessions.specs.Inner.Cells.{has_bit, is_in, is_staged, cells_with, at_cells, SamePending, HasMade, HasCleared};
+ghost use Rattle.wi_sessions.specs.Inner.Unread.{is_unread, HasPlace, HavePlaces, AreLookedAt};
 
 use crate::bits::{are_alike, bit_of, bits_of, without};
 use crate::cells::{
@@ -169,60 +170,133 @@ impl Pending {
         are_alike(word, bits_of(self.unread.len()))
     }
 
-    /// The cells that are pending for a session or have room only, in row-major order.
+    /// The cells that are pending for a session or have room only, in row-major order. The work is that of `cells`.
     pub(crate) fn all(&self, i: usize) -> Result<Vec<Address>, AllocError>
         requires { i < length self.now.pending }
         ensures { IfOk result (λ found. (a : ℕ) → is_listed found.items a ≡ (is_listed (list_at self.now.pending i) a || is_listed (list_at self.now.vacant i) a)) }
     {
-        let unread = &self.unread[i];
-        let behind = &self.changed[unread.from..];
-        let count = behind.len().saturating_add(unread.own.len());
-        if unread.anywhere || count >= self.words.len() {
-            return walked(self.alloc, &self.words, i);
-        }
-        let mut found = Vec::new(self.alloc);
-        push_those(&mut found, &self.words, behind, i)?;
-        push_those(&mut found, &self.words, &unread.own, i)?;
-        put_in_order(&mut found);
-        Ok(found)
+        all_of(self.alloc, &self.words, &self.changed, &self.unread[i], i)
     }
 
     /// The cells that are pending for a session, in row-major order. The work is that of a look-up for each cell that was marked since it
-    /// was last told, and of a sort, or a step for each cell that is pending for any, whichever is less.
+    /// was last told, and of a sort where they were marked by several edits; or of a step for each cell that is pending for any session,
+    /// where these are no more.
     pub(crate) fn cells(&self, i: usize) -> Result<Vec<Address>, AllocError>
         requires { i < length self.now.pending }
         ensures list { IfOk result (λ found. found.items ≡ list_at self.now.pending i) }
         ensures order { OnOk result (Rises 0 sheet_size (list_at self.now.pending i)) }
     {
-        let all = self.all(i)?;
+        self.cells_rise(i);
+        let all = all_of(self.alloc, &self.words, &self.changed, &self.unread[i], i)?;
         if self.staged.is_empty() {
             return Ok(all);
         }
-        let mut found = Vec::new(self.alloc);
-        for at in &all {
-            if !is_staged(&self.staged, i, *at) {
-                found.push(*at)?;
-            }
-        }
-        Ok(found)
+        without_rooms(self.alloc, &self.staged, &all, i)
+    }
+
+    /// The cells rise. This is a law: the call does nothing.
+    fn cells_rise(&self, i: usize)
+        requires { i < length self.now.pending }
+        ensures { Rises 0 sheet_size (list_at self.now.pending i) }
+    {
+        let _ = self.words.len();
     }
 
     /// No cell is pending for a session any more, nor has room; these are all of them. Takes no memory. The work is that of a look-up
-    /// for each.
+    /// for each; where there is one session, that of dropping them.
     pub(crate) fn clear(&mut self, i: usize, all: &[Address])
         requires within { i < length self.old.pending }
         requires all { (a : ℕ) → is_listed all.now a ≡ (is_listed (list_at self.old.pending i) a || is_listed (list_at self.old.vacant i) a) }
         ensures pending { self.new.pending ≡ slice_set self.old.pending i [] }
         ensures vacant { self.new.vacant ≡ slice_set self.old.vacant i [] }
     {
-        if self.unread.len() == 1 {
-            self.words.clear();
-        } else {
-            clear_each(&mut self.words, all, bit_of(i));
-        }
+        forget(&mut self.words, all, i, self.unread.len());
         let length = self.changed.len();
         self.unread[i].read(length);
     }
+}
+
+/// The cells with a session's bit, where they stand.
+fn all_of(
+    alloc: Global,
+    words: &Words,
+    changed: &[Address],
+    unread: &Unread,
+    i: usize,
+) -> Result<Vec<Address>, AllocError>
+    requires order { IsOrdered nat_cmp words.now }
+    requires few { i < 64 }
+    requires place { HasPlace words.now.entries changed.now i unread.now }
+    ensures { IfOk result (λ found. found.items ≡ cells_with words.now.entries i) }
+{
+    let behind = &changed[unread.from..];
+    if looks_anywhere(words, behind, unread) {
+        return walked(alloc, words, i);
+    }
+    looked_up(alloc, words, behind, &unread.own, i)
+}
+
+/// Whether a walk through all cells is less than to look for those of a session, or it must be.
+fn looks_anywhere(words: &Words, behind: &[Address], unread: &Unread) -> bool
+    ensures { result ≡ false → unread.now.anywhere ≡ false }
+{
+    unread.anywhere || behind.len().saturating_add(unread.own.len()) >= words.len()
+}
+
+/// Those of two lists of cells that have a session's bit, in row-major order.
+fn looked_up(
+    alloc: Global,
+    words: &Words,
+    behind: &[Address],
+    own: &[Address],
+    i: usize,
+) -> Result<Vec<Address>, AllocError>
+    requires { i < 64 }
+    ensures order { IfOk result (λ found. IsStrictlyIncreasing found.items) }
+    ensures same { IfOk result (λ found. (c : ℕ) → is_listed found.items c
+        ≡ is_listed (filter (is_in words.now.entries i) behind.now ++ filter (is_in words.now.entries i) own.now) c) }
+{
+    let mut found = Vec::new(alloc);
+    push_those(&mut found, words, behind, i)?;
+    push_those(&mut found, words, own, i)?;
+    put_in_order(&mut found);
+    Ok(found)
+}
+
+/// Cells but for those with room only.
+fn without_rooms(
+    alloc: Global,
+    staged: &[Room],
+    cells: &[Address],
+    i: usize,
+) -> Result<Vec<Address>, AllocError>
+    requires { i < 64 }
+    ensures { IfOk result (λ found. found.items ≡ filter (λ c. not (is_staged staged.now i c)) cells.now) }
+{
+    let mut found = Vec::new(alloc);
+    for at in cells {
+        if !is_staged(staged, i, *at) {
+            found.push(*at)?;
+        }
+    }
+    Ok(found)
+}
+
+/// Takes a session's bit from all its cells, where there are so many sessions.
+fn forget(words: &mut Words, all: &[Address], i: usize, count: usize)
+    requires order { IsOrdered nat_cmp words.old }
+    requires within { i < count }
+    requires few { count ≤ 64 }
+    requires all { (c : ℕ) → is_listed all.now c ≡ is_in words.old.entries i c }
+    requires none { (j c : ℕ) → count ≤ j → is_in words.old.entries j c ≡ false }
+    ensures order { IsOrdered nat_cmp words.new }
+    ensures less { HasCleared (λ j c. is_listed all.now c && j == i) words.old.entries words.new.entries }
+{
+    if count == 1 {
+        words.clear();
+        return;
+    }
+    clear_each(words, all, bit_of(i));
 }
 
 /// Notes cells as a session's own, and makes room for them. If memory runs out, there is room for a part of them.

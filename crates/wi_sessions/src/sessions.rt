@@ -58,9 +58,11 @@ impl Sessions {
         ensures pending { IfOk result (λ s. SameCells (pending_of s 0) cells.now) }
         ensures vacant { IfOk result (λ s. (i : ℕ) → vacant_of s i ≡ []) }
     {
+        let held = IndexMap::new(alloc);
+        let pending = Pending::new(alloc);
         let mut sessions = Sessions {
-            held: IndexMap::new(alloc),
-            pending: Pending::new(alloc),
+            held,
+            pending,
             alloc,
         };
         sessions.push(name, cells)?;
@@ -68,7 +70,7 @@ impl Sessions {
     }
 
     /// Adds a session at the end, as `new` makes one. On an error all is as before. It is an error too where a session of this name is
-    /// there already, as `find` tells. The work is that of `Pending::make_room` for the cells.
+    /// there already, as `find` tells, and where there are 64. The work is that of `make_room` for the cells.
     pub fn push(&mut self, name: &str, cells: &[Address]) -> Result<(), AllocError>
         ensures sessions { OnOk result (self.new.sessions ≡ self.old.sessions ++ new_session name.now ∷ []) }
         ensures pending { OnOk result ((new : List ℕ) × (self.new.pending ≡ self.old.pending ++ new ∷ []) × SameCells new cells.now) }
@@ -80,11 +82,13 @@ impl Sessions {
         }
         let name = RcStr::from_str(self.alloc, name)?;
         add(&mut self.held, name, Held::new(self.alloc))?;
-        let put = self.pending.push(cells);
-        if put.is_err() {
-            let _ = self.held.pop();
+        match self.pending.push(cells) {
+            Ok(()) => Ok(()),
+            Err(error) => {
+                let _ = self.held.pop();
+                Err(error)
+            }
         }
-        put
     }
 
     /// How many sessions there are.
@@ -139,7 +143,9 @@ impl Sessions {
         self.at(i).seen
     }
 
-    /// The cells that are pending for a session, in row-major order.
+    /// The cells that are pending for a session, in row-major order. The work is that of a look-up for each cell that was marked since it
+    /// was last told, and of a sort where several edits marked them; or of a step for each cell that is pending for any session, where
+    /// these are no more.
     pub fn pending_cells(&self, i: usize) -> Result<Vec<Address>, AllocError>
         requires { i < length self.now.sessions }
         ensures list { IfOk result (λ found. found.items ≡ pending_of self.now i) }
@@ -166,7 +172,7 @@ impl Sessions {
     }
 
     /// Puts a change list into a session's picture, when the log has this length; no cell is pending for it then. On an error
-    /// all is as before. The work is that of `Picture::apply`, and of dropping the pending cells.
+    /// all is as before. The work is that of `Picture::apply`, and of `pending_cells`, with a look-up for each.
     pub fn tell(
         &mut self,
         i: usize,
@@ -186,7 +192,7 @@ impl Sessions {
     }
 
     /// Makes room for each of the cells that isn't pending for a session; none is pending yet. On an error its vacant rooms go.
-    /// The work is that of `Pending::make_room`.
+    /// The work for each cell is that of two look-ups in a map, and of putting it in where it is pending for no session.
     pub fn make_room(&mut self, i: usize, cells: &[Address]) -> Result<(), AllocError>
         requires { i < length self.old.sessions }
         ensures sessions { self.new.sessions ≡ self.old.sessions }
@@ -199,7 +205,7 @@ impl Sessions {
         self.pending.make_room(i, cells)
     }
 
-    /// The same for each session.
+    /// The same for each session, in one walk through the cells. The work is that of `make_room`.
     pub fn make_room_all(&mut self, cells: &[Address]) -> Result<(), AllocError>
         ensures sessions { self.new.sessions ≡ self.old.sessions }
         ensures pending { self.new.pending ≡ self.old.pending }
@@ -209,7 +215,7 @@ impl Sessions {
         self.pending.make_room_all(cells)
     }
 
-    /// The cells for which there is room are pending now, for each session. Takes no memory. The work is that of `Pending::take`.
+    /// The cells for which there is room are pending now, for each session. Takes no memory, and no search.
     pub fn take_all(&mut self)
         ensures sessions { self.new.sessions ≡ self.old.sessions }
         ensures lists { length self.new.pending ≡ length self.old.pending }
@@ -219,7 +225,7 @@ impl Sessions {
         self.pending.take();
     }
 
-    /// The vacant rooms of all sessions go. Takes no memory. The work is that of `Pending::give_back`.
+    /// The vacant rooms of all sessions go. Takes no memory. The work for each is that of two look-ups.
     pub fn give_back_all(&mut self)
         ensures sessions { self.new.sessions ≡ self.old.sessions }
         ensures pending { self.new.pending ≡ self.old.pending }

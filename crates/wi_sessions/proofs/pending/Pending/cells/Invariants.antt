@@ -1,7 +1,0 @@
-use Rattle.std.proofs.Common.{◌≡◌, ◌++◌, drop, not}
-use Rattle.std.specs.Prelude.{filter}
-use Rattle.wi_sessions.specs.Inner.Cells.{is_staged}
-use Rattle.wi_sessions.proofs.pending.Pending.cells.Given as goal
-
-abbrev pub invariant-loop-at : goal.invariant-loop-at
-invariant-loop-at l = l.found.items ++ filter (λ c. not (is_staged l.self.inside.staged.items l.i c)) (drop l.at-index l.all.items) ≡ filter (λ c. not (is_staged l.self.inside.staged.items l.i c)) l.all.items
