@@ -188,11 +188,11 @@ module _ (words staged more rooms : Words) (n : ℕ) (cells : List ℕ) (a : Ord
 
 -- ---- one session more
 
-module _ (words staged more rooms : Words) (changed : List ℕ) (unread : List Unread) (u : Unread) (n bit : ℕ) (cells : List ℕ) (e : length unread ≡ n) (k : AreKept words staged changed unread) (b : Ordered more)
-    (few : n < 64) (alone : (j : ℕ) → has_bit j bit ≡ (j == n)) (h : HasMade (at_cells cells bit) words [] more rooms) where
+module _ (words staged more : Words) (changed : List ℕ) (unread : List Unread) (u : Unread) (n bit : ℕ) (cells : List ℕ) (e : length unread ≡ n) (k : AreKept words staged changed unread) (b : Ordered more)
+    (few : n < 64) (alone : (j : ℕ) → has_bit j bit ≡ (j == n)) (put : (j c : ℕ) → is_in more j c ≡ (is_in words j c || at_cells cells bit j c)) where
   as_before : (j c : ℕ) → j ≢ n → is_in more j c ≡ is_in words j c
   as_before j c apart =
-      h.put j c ∙ ap (λ t. is_in words j c || (is_listed cells c && t)) (alone j ∙ ne_eqb j n apart) ∙ ap (λ t. is_in words j c || t) (and-false (is_listed cells c))
+      put j c ∙ ap (λ t. is_in words j c || (is_listed cells c && t)) (alone j ∙ ne_eqb j n apart) ∙ ap (λ t. is_in words j c || t) (and-false (is_listed cells c))
       ∙ or-false (is_in words j c)
 
   none_before : (c : ℕ) → is_in words n c ≡ false
@@ -200,7 +200,7 @@ module _ (words staged more rooms : Words) (changed : List ℕ) (unread : List U
 
   new_has : (c : ℕ) → is_in more n c ≡ is_listed cells c
   new_has c =
-      h.put n c ∙ ap (λ t. t || (is_listed cells c && has_bit n bit)) (none_before c) ∙ ap (λ t. is_listed cells c && t) (alone n ∙ eq-eqb n n refl) ∙ and-true (is_listed cells c)
+      put n c ∙ ap (λ t. t || (is_listed cells c && has_bit n bit)) (none_before c) ∙ ap (λ t. is_listed cells c && t) (alone n ∙ eq-eqb n n refl) ∙ and-true (is_listed cells c)
 
   apart_below : (i : ℕ) → i < n → i ≡ n → Prim.⊥
   apart_below i l s = let none : Prim.⊥ = omega (arith, l, s) in none
@@ -242,10 +242,7 @@ module _ (words staged more rooms : Words) (changed : List ℕ) (unread : List U
       beyond i l = let l' = subst (λ (m : ℕ). m ≤ i) (length-append unread (u ∷ [])) l in omega (arith, l', e)
 
 -- where memory ran out all is as it was
-module _ (words staged more none : Words) (a : Ordered words) (b : Ordered more) (h : SamePending words [] more none) (e : none ≡ []) where
-  pub bits_same : (i c : ℕ) → is_in more i c ≡ is_in words i c
-  bits_same i c = sym (ap (λ (rs : Words). is_in more i c && not (is_staged rs i c)) e ∙ and-true (is_in more i c)) ∙ h i c ∙ and-true (is_in words i c)
-
+module _ (words staged more : Words) (a : Ordered words) (b : Ordered more) (bits_same : (i c : ℕ) → is_in more i c ≡ is_in words i c) where
   pub refused_same : (n : ℕ) → pending_in more staged n ≡ pending_in words staged n
   refused_same n =
       ap (λ (xss : List (List ℕ)). as_pending xss (map (vacant_in more staged) (range_with_len 0 n)))
@@ -374,3 +371,7 @@ all_kept (x ∷ xs) = ap (λ (ys : List ℕ). x ∷ ys) (all_kept xs)
 -- where no room is listed, all are pending
 pub none_staged : (words staged : Words) (i : ℕ) → staged ≡ [] → cells_in words staged i ≡ cells_with words i
 none_staged words staged i e = ap (λ (rs : Words). cells_in words rs i) e ∙ all_kept (cells_with words i)
+
+-- bits put in, as rooms that are taken at once
+pub same_bits : (words more none : Words) → SamePending words [] more none → none ≡ [] → (i c : ℕ) → is_in more i c ≡ is_in words i c
+same_bits words more none h e i c = sym (ap (λ (rs : Words). is_in more i c && not (is_staged rs i c)) e ∙ and-true (is_in more i c)) ∙ h i c ∙ and-true (is_in words i c)

@@ -84,10 +84,9 @@ impl Pending {
             return Err(AllocError);
         }
         self.unread.reserve(1)?;
-        let mut unread = Unread::new(self.alloc, self.changed.len());
-        unread.note(cells, self.words.len() / 16 + 64)?;
-        let mut rooms = Vec::new(self.alloc);
-        stage(&mut self.words, &mut rooms, cells, bit_of(i))?;
+        let limit = self.words.len() / 16 + 64;
+        let unread = begun(self.alloc, self.changed.len(), cells, limit)?;
+        put_in(self.alloc, &mut self.words, cells, bit_of(i))?;
         self.unread.push(unread).unwrap();
         Ok(())
     }
@@ -297,6 +296,30 @@ fn forget(words: &mut Words, all: &[Address], i: usize, count: usize)
         return;
     }
     clear_each(words, all, bit_of(i));
+}
+
+/// Where the cells of a new session stand, which are noted as its own.
+fn begun(alloc: Global, from: usize, cells: &[Address], limit: usize) -> Result<Unread, AllocError>
+    ensures from { IfOk result (λ u. u.from ≡ from) }
+    ensures own { IfOk result (λ u. (changed : List ℕ) (c : ℕ) → is_listed cells.now c ≡ true → is_unread changed u c ≡ true) }
+{
+    let mut unread = Unread::new(alloc, from);
+    unread.note(cells, limit)?;
+    Ok(unread)
+}
+
+/// Puts bits into cells. If memory runs out, all is as before.
+fn put_in(alloc: Global, words: &mut Words, cells: &[Address], bits: u64) -> Result<(), AllocError>
+    requires { IsOrdered nat_cmp words.old }
+    ensures order { IsOrdered nat_cmp words.new }
+    ensures put { OnOk result ((i c : ℕ) → is_in words.new.entries i c ≡ (is_in words.old.entries i c || at_cells cells.now bits i c)) }
+    ensures refused { OnErr result ((i c : ℕ) → is_in words.new.entries i c ≡ is_in words.old.entries i c) }
+{
+    let mut rooms = Vec::new(alloc);
+    match stage(words, &mut rooms, cells, bits) {
+        Ok(()) => Ok(()),
+        Err(error) => Err(error),
+    }
 }
 
 /// Notes cells as a session's own, and makes room for them. If memory runs out, there is room for a part of them.
