@@ -17,16 +17,7 @@ use Rattle.wi_values.proofs.Order.{Ascends, Ascends-filter, Ascends-from_order, 
 use Rattle.wi_sessions.specs.Pictures.Laws.{is_listed}
 use Rattle.wi_sessions.proofs.CellLemmas.{found_listed}
 
-there_already : (s t : Bool) → (t ≡ true → s ≡ true) → s ≡ (s || t)
-there_already true t h = refl
-there_already false true h = h refl
-there_already false false h = refl
-
 module _ {X : Type 0} where
-  pub is_some-lent : (o : Option (Bor X)) → is_some o ≡ is_some (option_copied o)
-  is_some-lent None = refl
-  is_some-lent (Some b) = refl
-
   -- whether a cell has something, as a look-up tells it
   pub has_listed : (es : List (ℕ × X)) (q : ℕ) → is_some (lookup (is_at (nat_cmp q)) es) ≡ is_listed (keys_of es) q
   has_listed es q = is_some-lookup (is_at (nat_cmp q)) es ∙ found_listed q (keys_of es)
@@ -58,22 +49,6 @@ module _ {X : Type 0} where
       by None f g =
           ap (λ (ds : List (ℕ × X)). lookup (is_at (nat_cmp q)) ds) g ∙ found-insert es at x q
           ∙ ap (λ (b : Bool). cond b (Some x) (lookup (is_at (nat_cmp q)) es)) (turn_test q at ∙ sym (is_at-eq at q))
-
-  one_or : (t : Bool) (x : X) (o : Option X) → is_some (cond t (Some x) o) ≡ (is_some o || t)
-  one_or true x o = sym (or-true (is_some o))
-  one_or false x o = sym (or-false (is_some o))
-
-  pub listed-with_new : (es new : List (ℕ × X)) (at : ℕ) (x : X) → new ≡ with_new es at x → (q : ℕ) → is_listed (keys_of new) q ≡ (is_listed (keys_of es) q || (at == q))
-  listed-with_new es new at x e q = by (is_some (lookup (is_at (nat_cmp at)) es)) (has_listed es at) e
-    where
-      by : (b : Bool) → b ≡ is_listed (keys_of es) at → new ≡ cond b es (insert_entry nat_cmp es at x) → is_listed (keys_of new) q ≡ (is_listed (keys_of es) q || (at == q))
-      by true t f =
-          ap (λ (ds : List (ℕ × X)). is_listed (keys_of ds) q) f
-          ∙ there_already (is_listed (keys_of es) q) (at == q) (λ s. ap (is_listed (keys_of es)) (sym (eqb-true at q s)) ∙ sym t)
-      by false t f =
-          ap (λ (ds : List (ℕ × X)). is_listed (keys_of ds) q) f ∙ sym (has_listed (insert_entry nat_cmp es at x) q)
-          ∙ ap is_some (found-insert es at x q) ∙ one_or (q == at) x (lookup (is_at (nat_cmp q)) es)
-          ∙ ap (λ (b : Bool). b || (q == at)) (has_listed es q) ∙ ap (λ (b : Bool). is_listed (keys_of es) q || b) (turn_test q at)
 
   -- ---- something put in the place of what stands
 
@@ -118,13 +93,3 @@ module _ {X : Type 0} where
   order-removed es new at e h =
       let up = Ascends-from_order es h in
       subst (λ (ds : List (ℕ × X)). IsStrictlySortedBy nat_cmp (keys_of ds)) (sym (e ∙ without_one at es up)) (order-from_Ascends _ (Ascends-filter (λ e. not (e.0 == at)) es up))
-
-  one_less : (t : Bool) (o : Option X) → is_some (cond t None o) ≡ (is_some o && not t)
-  one_less true o = sym (and-false (is_some o))
-  one_less false o = sym (and-true (is_some o))
-
-  pub listed-removed : (es new : List (ℕ × X)) (at : ℕ) → new ≡ remove_entry (is_at (nat_cmp at)) es → IsStrictlySortedBy nat_cmp (keys_of es)
-      → (q : ℕ) → is_listed (keys_of new) q ≡ (is_listed (keys_of es) q && not (at == q))
-  listed-removed es new at e h q =
-      sym (has_listed new q) ∙ ap is_some (found-removed es new at e h q) ∙ one_less (is_at (nat_cmp at) q) (lookup (is_at (nat_cmp q)) es)
-      ∙ ap (λ (b : Bool). b && not (is_at (nat_cmp at) q)) (has_listed es q) ∙ ap (λ (b : Bool). is_listed (keys_of es) q && not b) (is_at-eq at q)

@@ -20,9 +20,9 @@ use Rattle.wi_sessions.specs.Inner.Cells.{has_bit, is_in, is_staged, cells_with,
 use Rattle.wi_sessions.specs.Inner.Unread.{is_unread, HasPlace, HavePlaces, AreKept, AreLookedAt}
 use Rattle.wi_sessions.proofs.BitLemmas.{none_in_zero}
 use Rattle.wi_sessions.proofs.CellLemmas.{listed_filter, rises, same_answers, same_listed}
-use Rattle.wi_sessions.proofs.WordLemmas.{Words, OthersStay, listed_with, pending_stay}
-use Rattle.wi_sessions.proofs.ViewLemmas.{all_pass, ascend_in, ascend_vacant, list_beyond, list_there, listed_either, listed_in, listed_vacant, lists, no_vacant, none_in, none_vacant, one_list_more, one_set, pending_cleared, pending_taken, same_as, same_in, same_vacant, so_many, vacant_cleared, vacant_made, vacant_stays}
-use Rattle.wi_sessions.proofs.PlaceLemmas.{kept_at, kept_cleared, kept_fewer, kept_given, kept_made, kept_taken, places_pushed, places_set}
+use Rattle.wi_sessions.proofs.WordLemmas.{Words, OthersStay}
+use Rattle.wi_sessions.proofs.ViewLemmas.{all_pass, ascend_in, ascend_vacant, list_beyond, list_there, listed_either, listed_in, listed_vacant, none_vacant, one_list_more, pending_cleared, pending_taken, same_as, same_in, same_vacant, so_many, vacant_cleared, vacant_made, vacant_stays}
+use Rattle.wi_sessions.proofs.PlaceLemmas.{kept_at, kept_cleared, kept_fewer, kept_made, places_pushed, places_set}
 use Rattle.wi_sessions.proofs.RosterLemmas.{one_of_all_has}
 
 abbrev pub Ordered : Words → Type 0
