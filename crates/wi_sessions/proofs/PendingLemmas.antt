@@ -1,7 +1,7 @@
 -- Laws of what is pending for all sessions, for each call.
 use Rattle.std.proofs.Common.{◌≡◌, ◌≢◌, ◌==◌, ◌<◌, ◌≤◌, ◌+◌, ◌||◌, ◌&&◌, ◌∙◌, ◌⊎◌, ℕ, Bool, true, false, not, List, [], ◌∷◌, ◌++◌, map, length, get_or, set, drop, filter, Result, Ok, Err, ◌*◌, refl, sym, ap, subst, arith, ⊎_elim}
 use Rattle.std.proofs.Math.Bool.{and-false, and-true, or-false, or-true}
-use Rattle.std.specs.Prelude.{nat_lt, IfOk}
+use Rattle.std.specs.Prelude.{nat_lt, IfOk, OnOk}
 use Rattle.std.specs.List.{All, list_all, range_with_len}
 use Rattle.std.specs.List.Sorted.{IsStrictlySortedBy}
 use Rattle.std.specs.Ordering.{nat_cmp}
@@ -369,8 +369,24 @@ all_kept [] = refl
 all_kept (x ∷ xs) = ap (λ (ys : List ℕ). x ∷ ys) (all_kept xs)
 
 -- where no room is listed, all are pending
-pub none_staged : (words staged : Words) (i : ℕ) → staged ≡ [] → cells_in words staged i ≡ cells_with words i
-none_staged words staged i e = ap (λ (rs : Words). cells_in words rs i) e ∙ all_kept (cells_with words i)
+none_staged : (words staged : Words) (i : ℕ) → length staged ≡ 0 → cells_with words i ≡ cells_in words staged i
+none_staged words [] i e = sym (all_kept (cells_with words i))
+none_staged words (r ∷ staged) i e = absurd (omega (arith, e))
+
+-- the pending cells of a session, told by those with its bit
+pub all_told : (words staged : Words) (n i : ℕ) (p : AllPending) (all : List ℕ) → pending_in words staged n ≡ p → i < n → all ≡ cells_with words i → length staged ≡ 0 → all ≡ list_at p.pending i
+all_told words staged n i p all v l e none =
+    e ∙ none_staged words staged i none ∙ sym (list_there (cells_in words staged) n i l) ∙ ap (λ (r : AllPending). list_at r.pending i) v
+
+pub cells_told : (words staged rooms : Words) (n i : ℕ) (p : AllPending) (all lent found : List ℕ) → pending_in words staged n ≡ p → i < n → all ≡ cells_with words i → lent ≡ all → rooms ≡ staged
+    → found ≡ filter (λ c. not (is_staged rooms i c)) lent → found ≡ list_at p.pending i
+cells_told words staged rooms n i p all lent found v l e f g h =
+    h ∙ ap (λ (xs : List ℕ). filter (λ c. not (is_staged rooms i c)) xs) (f ∙ e) ∙ ap (λ (rs : Words). filter (λ c. not (is_staged rs i c)) (cells_with words i)) g
+    ∙ sym (list_there (cells_in words staged) n i l) ∙ ap (λ (r : AllPending). list_at r.pending i) v
+
+pub on_ok_always : {T E P : Type 0} (r : Result T E) → P → OnOk r P
+on_ok_always (Ok v) p = p
+on_ok_always (Err e) p = tt
 
 -- bits put in, as rooms that are taken at once
 pub same_bits : (words more none : Words) → SamePending words [] more none → none ≡ [] → (i c : ℕ) → is_in more i c ≡ is_in words i c
