@@ -14,9 +14,8 @@ use Rattle.wi_sheet.proofs.CaseCosts.{left_falls, left_at_keep}
 use Rattle.wi_sheet.specs.Inner.Rank.{reach_rank}
 use Rattle.wi_engine.specs.Inner.MemoState.{MemoState}
 use Rattle.wi_engine.specs.Inner.Attempt.{lacking}
-use Rattle.wi_engine.specs.Inner.Frames.{case_at, IsStack, taken, frame_cost, frames_cost, at_most, spare, waits}
+use Rattle.wi_engine.specs.Inner.Frames.{case_at, IsStack, taken, frame_cost, frames_cost, at_most, spare}
 use Rattle.wi_engine.specs.declared.frame.Frame.{Frame}
-use Rattle.wi_engine.specs.declared.frame.Waiting.TheVariants.{Nothing}
 use Rattle.wi_engine.proofs.attempt.LackingCounts.{lacking_at_most}
 use Rattle.wi_engine.proofs.engine.Stacks.{other_case}
 
@@ -113,15 +112,20 @@ module _ (s : Sheet) (found after : Table) (ks : List Case) (f : Frame) (now nex
       let l = cost_same s (taken found (f ∷ [])) ks after e in
       (omega (arith, within.0, step.0, l.0), omega (arith, within.1, step.1, l.1))
 
--- a frame with no values yet lacks at most what its formula may ask for
-pub spare_new : (s : Sheet) (k : Key) (f : Frame) → f.key ≡ k → f.waiting ≡ Nothing → spare s f ≤ wants s (case_at k)
-spare_new s k f e n =
-    let z = ap waits n in
+-- a frame lacks at most what its formula may ask for
+pub spare_any : (s : Sheet) (f : Frame) → spare s f ≤ wants s (case_at f.key)
+spare_any s f =
     let l = within (content_of (put_all s f.key.world) f.key.cell) in
-    let same = ap (λ (x : Key). wants s (case_at x)) e in
-    omega (arith, z, l, same)
+    omega (arith, l)
   where
     within : (o : Option Content) → of_formula o 0 (λ t. lacking s t f.found) ≤ of_formula o 0 (λ t. length (formulas_read_here s t) + length (what_ifs_of t))
     within None = omega arith
     within (Some (Constant v)) = omega arith
     within (Some (Formula t)) = lacking_at_most s t f.found
+
+-- and one that is begun for a key
+pub spare_new : (s : Sheet) (k : Key) (f : Frame) → f.key ≡ k → spare s f ≤ wants s (case_at k)
+spare_new s k f e =
+    let less = spare_any s f in
+    let same = ap (λ (x : Key). wants s (case_at x)) e in
+    omega (arith, less, same)

@@ -15,6 +15,8 @@ use Rattle.wi_sheet.proofs.Overrides.{reaching_suffices}
 use Rattle.wi_sheet.proofs.CaseCosts.{one_less_left}
 use Rattle.wi_engine.specs.Inner.MemoState.{MemoState, IsTold, IsMemoOf}
 use Rattle.wi_engine.specs.Inner.Frames.{case_at, IsFormulaKey, IsUnvaluedKey, IsUnvalued, IsNext}
+use Rattle.wi_engine.specs.Inner.Begins.{MayBegin}
+use Rattle.wi_engine.specs.Inner.SettledFrames.{IsFrameSettled}
 use Rattle.wi_engine.specs.Inner.Saving.{not_kept, KeepsFound, WhereRoom, NeedsNoEvaluation, IsValuedAnew}
 use Rattle.wi_engine.specs.Inner.Spends.{Saved}
 use Rattle.wi_engine.specs.Inner.Steps.{FrameTakes}
@@ -24,9 +26,9 @@ use Rattle.wi_engine.proofs.Places.{none_went}
 use Rattle.wi_engine.proofs.engine.NextCases.{unvalued_case}
 use Rattle.wi_engine.proofs.engine.NextValues.{one_more_at_most}
 use Rattle.wi_engine.proofs.engine.SettledFindings.{settled_now}
-use Rattle.wi_engine.proofs.engine.SettledStacks.{IsSettling, settling_start, settling_push, settling_pop, rests_after}
+use Rattle.wi_engine.proofs.engine.SettledStacks.{IsSettling, new_settled, settling_start, settling_push, settling_pop, rests_after}
 use Rattle.wi_engine.proofs.engine.Stacks.{same_frame}
-use Rattle.wi_engine.proofs.engine.FrameRuns.{IsRunning, IsNew, Finds, GoesDeeper, ComesBack, run_start, run_deeper, run_back, run_take, run_ends}
+use Rattle.wi_engine.proofs.engine.FrameRuns.{IsRunning, IsNew, Finds, GoesDeeper, ComesBack, new_frame, run_start, run_deeper, run_back, run_take, run_ends}
 
 -- a memory, seen as if what is kept were what was found
 abbrev pub by_kept : MemoState → MemoState
@@ -91,15 +93,23 @@ pub record IsSaving (s : Sheet) (old m : MemoState) (root : Case) (start now : C
   pub stand : (k : Key) → old.stands k ≡ true → m.stands k ≡ true
   pub settling : IsSettling s old m fs f
 
-pub saving_start : (s : Sheet) (m : MemoState) (k : Key) (f : Frame) (now : Counts) (ks : List Case) → IsMemoOf s m → IsUnvaluedKey s m k → IsNew s f k → KeepsFound m → not_kept m ks ≤ m.room → IsSaving s m m (case_at k) now now [] f ks
-saving_start s m k f now ks h key n whole room = record {
-  running = run_start s (by_kept m) k f now (kept_memory_of s m h whole) (kept_to_value s m k key.key) key.unkept n;
+-- with a frame that has no values yet
+pub begins_new : {s : Sheet} {m : MemoState} {f : Frame} {k : Key} → IsNew s f k → IsUnvaluedKey s m k → MayBegin s m f
+begins_new {s} {m} {f} {k} n h = record {
+  unvalued = rw n.key h;
+  frame = new_frame s m f k n h.key;
+  settled = λ ks closed top whole room. new_settled s m.kept f k n;
+}
+
+pub saving_start : (s : Sheet) (m : MemoState) (f : Frame) (now : Counts) (ks : List Case) → IsMemoOf s m → MayBegin s m f → IsFrameSettled s m.kept f → KeepsFound m → not_kept m ks ≤ m.room → IsSaving s m m (case_at f.key) now now [] f ks
+saving_start s m f now ks h b settled whole room = record {
+  running = run_start s (by_kept m) f now (kept_memory_of s m h whole) (same_frame s m (by_kept m) f refl refl b.frame) b.unvalued.unkept;
   whole = whole;
   added = omega arith;
   room = room;
   stays = λ c v i. i;
   stand = λ j i. i;
-  settling = settling_start s m f k n;
+  settling = settling_start s m f settled;
 }
 
 pub saving_deeper : {s : Sheet} {old m : MemoState} {root : Case} {start now next : Counts} {fs : List Frame} {f h g : Frame} {k : Key} {ks : List Case} → GoesDeeper s m now next f h g k → IsSaving s old m root start now fs f ks → IsSaving s old m root start next (fs ++ h ∷ []) g ks

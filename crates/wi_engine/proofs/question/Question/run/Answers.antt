@@ -16,7 +16,7 @@ pub frames-init : goal.frames-init
 frames-init g c =
     let n = c.new-frame.ensures in
     let new : IsNew c.args.store.now.sheet c.new-frame.result c.args.key = record { key = n.key; formula = rw n.formula c.requires.formula; cells = n.cells; what_ifs = n.what_ifs; waiting = n.waiting } in
-    rw c.new-stack.ensures.items (going_start c.args.self.now.meter c.requires.memo c.requires.key new)
+    rw c.new-stack.ensures.items (rw (← n.key) (going_start c.args.self.now.meter c.requires.memo (begins_new new c.requires.key)))
 
 pub advance-requires-clause-memo : goal.advance-requires-clause-memo
 advance-requires-clause-memo g c = c.frames.invariant.running.memo

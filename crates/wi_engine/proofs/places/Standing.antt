@@ -1,0 +1,47 @@
+-- A value that stands at a place, where more is remembered.
+use Rattle.std.proofs.Common.{◌≡◌, ◌≤◌, ◌⊎◌, inl, inr, ◌||◌, ℕ, Bool, true, false, List, [], ◌∷◌, All, Option, Some, is_some, slice_set, refl, ap, sym, ◌∙◌, subst, arith}
+use Rattle.std.proofs.lemmas.Bool.{or_cases}
+use Rattle.wi_values.specs.declared.value.Value.{Value}
+use Rattle.wi_values.specs.declared.replacement.Replacement.{Replacement}
+use Rattle.wi_parser.specs.Sheet.{Sheet, content_of, put_all, has_formula}
+use Rattle.wi_sheet.specs.Demand.{Case, reaching}
+use Rattle.wi_engine.specs.Inner.MemoState.{MemoState, IsMemoOf}
+use Rattle.wi_engine.specs.Inner.Frames.{MayBeRead}
+use Rattle.wi_engine.specs.Inner.Saving.{NeedsNoEvaluation, Remembers, GivesUpWhenFull}
+use Rattle.wi_engine.specs.Inner.Steps.{IsShownNow}
+use Rattle.wi_engine.specs.Inner.Plans.{IsWanted, IsAtHand, IsStanding, IsStateOf, IsPlaceOf, ArePlacesOf}
+use Rattle.wi_engine.specs.declared.places.Place.{Place}
+use Rattle.wi_engine.specs.declared.places.State.{State}
+use Rattle.wi_engine.specs.declared.places.State.TheVariants.{Unneeded, Needed, Opened, Known}
+
+-- a value that is there now stands
+pub shown_stands : {s : Sheet} {m : MemoState} {w : List Replacement} {a : ℕ} {v : Value} → IsMemoOf s m → IsShownNow s m w a v → IsStanding s m w a v
+shown_stands {s} {m} {w} {a} {v} memo h = record { value = h.value; at_hand = at h.easy }
+  where
+    kept : (m.found a (reaching s a w) ≡ true) ⊎ (m.kept a (reaching s a w) ≡ true) → (m.found a (reaching s a w) ≡ true) ⊎ (1 ≤ m.room → m.kept a (reaching s a w) ≡ true)
+    kept (inl i) = inl i
+    kept (inr i) = inr (λ r. i)
+
+    at : NeedsNoEvaluation s m w a → IsAtHand s m w a
+    at (inl i) = inl i
+    at (inr i) = inr (kept (or_cases (m.found a (reaching s a w)) (m.kept a (reaching s a w)) (sym (memo.told a (reaching s a w)) ∙ i)))
+
+-- ---- where more is remembered
+
+module _ {s : Sheet} {m n : MemoState} (more : Remembers m n) (less : n.room ≤ m.room) (covers : n.covers ≡ m.covers) where
+  hand_more : (w : List Replacement) (a : ℕ) → IsAtHand s m w a → IsAtHand s n w a
+  hand_more w a (inl i) = inl i
+  hand_more w a (inr (inl i)) = inr (inl (more.found a (reaching s a w) i))
+  hand_more w a (inr (inr i)) = inr (inr (λ r. more.kept r a (reaching s a w) (i (omega (arith, r, less)))))
+
+  wanted_more : (root : Case) (a : ℕ) → IsWanted s m root a → IsWanted s n root a
+  wanted_more root a h = record { read = record { open_cell = h.read.open_cell; covered = λ f. rw covers (h.read.covered f) }; below = h.below }
+
+  state_more : (root : Case) (a : ℕ) (st : State) → IsStateOf s m root a st → IsStateOf s n root a st
+  state_more root a Unneeded h = h
+  state_more root a Needed h = wanted_more root a h
+  state_more root a (Opened f) h = (wanted_more root a h.0, h.1)
+  state_more root a (Known v) h = record { value = h.value; at_hand = hand_more root.1 a h.at_hand }
+
+  pub places_more : (root : Case) (ps : List Place) → ArePlacesOf s m root ps → ArePlacesOf s n root ps
+  places_more root ps h = λ i d l. state_more root _ _ (h i d l)

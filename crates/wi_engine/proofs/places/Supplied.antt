@@ -1,0 +1,64 @@
+-- A frame takes in a value that stands, of a cell that its formula reads.
+use Rattle.std.proofs.Common.{◌≡◌, ◌≤◌, ◌⊎◌, inl, inr, ◌||◌, ℕ, Bool, true, false, List, Option, Contains, refl, ap, sym, ◌∙◌, subst, arith}
+use Rattle.wi_values.specs.declared.value.Value.{Value}
+use Rattle.wi_values.specs.declared.replacement.Replacement.{Replacement}
+use Rattle.wi_parser.specs.Reads.{content_reads}
+use Rattle.wi_parser.specs.declared.content.Content.{Content}
+use Rattle.wi_parser.specs.Sheet.{Sheet, content_of, put_all, has_formula}
+use Rattle.wi_cache.specs.declared.key.Key.{Key}
+use Rattle.wi_graph.specs.Reach.{reaches}
+use Rattle.wi_graph.proofs.ReachSteps.{reaches_read}
+use Rattle.wi_sheet.specs.CellValue.{cell_value}
+use Rattle.wi_sheet.specs.Demand.{Case, reaching, same_case}
+use Rattle.wi_sheet.specs.Settled.{IsSettled}
+use Rattle.wi_sheet.proofs.Bounds.{put_reads, tree_reads}
+use Rattle.wi_sheet.proofs.CaseCosts.{one_less_left}
+use Rattle.wi_sheet.proofs.SmallerWorlds.{content_below, reaching_below, value_below}
+use Rattle.wi_engine.specs.Inner.MemoState.{MemoState}
+use Rattle.wi_engine.specs.Inner.Findings.{IsWithCell}
+use Rattle.wi_engine.specs.Inner.Frames.{case_at}
+use Rattle.wi_engine.specs.Inner.Saving.{KeepsFound, not_kept}
+use Rattle.wi_engine.specs.Inner.SettledFrames.{IsFrameSettled}
+use Rattle.wi_engine.specs.Inner.Planned.{IsPlannedFrame}
+use Rattle.wi_engine.specs.Inner.Plans.{ReadsPlainly, IsAtHand, IsStanding}
+use Rattle.wi_engine.specs.declared.frame.Frame.{Frame}
+use Rattle.wi_engine.proofs.engine.NextValues.{cell_found_frame}
+use Rattle.wi_engine.proofs.engine.SettledFindings.{IsSettledFor, frame_cell}
+
+module _ {s : Sheet} {m : MemoState} {root : Case} {f g : Frame} {a : ℕ} {v x : Value} (p : IsPlannedFrame s m root f) (h : ReadsPlainly f.formula.now a) (st : IsStanding s m root.1 a v) (is : x ≡ v) (more : IsWithCell f.found g.found a x)
+    (key : g.key ≡ f.key) (formula : g.formula.now ≡ f.formula.now) (waiting : g.waiting ≡ f.waiting) where
+  reached : reaches s f.key.cell a ≡ true
+  reached = reaches_read s f.key.cell a (put_reads s f.key.world f.key.cell a (tree_reads (put_all s f.key.world) f.key.cell f.formula.now a p.begins.frame.formula h.read))
+
+  -- the frame's replacements are those of the root for the cell
+  same_world : reaching s a f.key.world ≡ reaching s a root.1
+  same_world = ap (reaching s a) p.world ∙ reaching_below s f.key.cell a root.1 reached
+
+  same_content : content_of (put_all s f.key.world) a ≡ content_of (put_all s root.1) a
+  same_content = sym (content_below s a f.key.world) ∙ ap (λ (w : List Replacement). content_of (put_all s w) a) same_world ∙ content_below s a root.1
+
+  right : x ≡ cell_value (put_all s f.key.world) a
+  right = is ∙ st.value ∙ sym (value_below s f.key.cell a root.1 reached) ∙ ap (λ (w : List Replacement). cell_value (put_all s w) a) (sym p.world)
+
+  there : (ks : List Case) → Contains ks (case_at f.key) → KeepsFound m → not_kept m ks ≤ m.room → IsAtHand s m root.1 a → IsSettled s m.kept f.key.world a
+  there ks top whole room (inl i) = inl (ap (λ (o : Option Content). has_formula o) same_content ∙ i)
+  there ks top whole room (inr (inl i)) = inr (ap (m.kept a) same_world ∙ whole a (reaching s a root.1) i)
+  there ks top whole room (inr (inr i)) =
+      let one = one_less_left m.kept (λ c w. m.kept c w || same_case (case_at f.key) (c, w)) (case_at f.key) ks (λ c w. refl) p.begins.unvalued.unkept top in
+      inr (ap (m.kept a) same_world ∙ i (omega (arith, one, room)))
+
+  settled : (ks : List Case) → Contains ks (case_at f.key) → KeepsFound m → not_kept m ks ≤ m.room → IsFrameSettled s m.kept f → IsFrameSettled s m.kept g
+  settled ks top whole room k = subst (λ (j : Key). IsSettledFor s m.kept j g.found) (sym key) (frame_cell s m.kept f g.found a x more (there ks top whole room st.at_hand) k)
+
+  pub supplied : IsPlannedFrame s m root g
+  supplied = record {
+    begins = record {
+      unvalued = rw key p.begins.unvalued;
+      frame = cell_found_frame s m f g a x p.begins.frame key formula (waiting ∙ p.waiting) more right;
+      settled = λ ks closed top whole room.
+          let here : Contains ks (case_at f.key) = subst (λ (j : Key). Contains ks (case_at j)) key top in
+          settled ks here whole room (p.begins.settled ks closed here whole room);
+    };
+    waiting = waiting ∙ p.waiting;
+    world = rw key p.world;
+  }

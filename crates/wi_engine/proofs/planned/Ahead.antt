@@ -1,0 +1,127 @@
+-- One value of a plan after another.
+use Rattle.std.proofs.Common.{◌≡◌, ◌<◌, ◌≤◌, ◌+◌, ◌⊎◌, inl, inr, ◌||◌, ℕ, Bool, true, false, List, Contains, is_some, refl, ap, sym, ◌∙◌, subst, arith}
+use Rattle.std.proofs.lemmas.Bool.{or_from, or_left, or_right, true≢false}
+use Rattle.wi_values.specs.declared.value.Value.{Value}
+use Rattle.wi_values.specs.declared.replacement.Replacement.{Replacement}
+use Rattle.wi_parser.specs.Sheet.{Sheet}
+use Rattle.wi_functions.specs.Counts.{Counts}
+use Rattle.wi_cache.specs.declared.key.Key.{Key}
+use Rattle.wi_sheet.specs.Demand.{Case, wants}
+use Rattle.wi_sheet.specs.Inner.Spending.{IsClosed, NeverFall}
+use Rattle.wi_sheet.specs.Inner.Rank.{reach_rank}
+use Rattle.wi_sheet.proofs.CaseCosts.{never_fall-same}
+use Rattle.wi_engine.specs.Inner.MemoState.{MemoState, IsMemoOf}
+use Rattle.wi_engine.specs.Inner.Frames.{case_at, IsFormulaKey, IsUnvaluedKey, IsFrame, IsBegun, spare}
+use Rattle.wi_engine.specs.Inner.Begins.{MayBegin}
+use Rattle.wi_engine.specs.Inner.Saving.{Remembers}
+use Rattle.wi_engine.specs.Inner.Spends.{Spends}
+use Rattle.wi_engine.specs.Inner.Planned.{Adds, IsValued, IsWaiting, GoesAhead, HandsOver}
+use Rattle.wi_engine.specs.Inner.Plans.{IsBelow}
+use Rattle.wi_engine.specs.declared.frame.Frame.{Frame}
+use Rattle.wi_engine.proofs.Places.{remembers_itself, remembers_then}
+use Rattle.wi_engine.proofs.Ledger.{spends_none, spends_closed, spends_then}
+use Rattle.wi_engine.proofs.engine.Budgets.{spare_any}
+
+-- ---- what is remembered
+
+adds_none : (Passes : ℕ → Type 0) (m : MemoState) → Adds Passes m m
+adds_none Passes m = record { found = λ c w h. inl h; known = λ c w h. inl h }
+
+either : {A B P : Type 0} → A ⊎ P → (A → B ⊎ P) → B ⊎ P
+either (inl a) h = h a
+either (inr p) h = inr p
+
+adds_then : {Passes : ℕ → Type 0} {old mid new : MemoState} → Adds Passes old mid → Adds Passes mid new → Adds Passes old new
+adds_then h k = record { found = λ c w i. either (k.found c w i) (h.found c w); known = λ c w i. either (k.known c w i) (h.known c w) }
+
+weaker : {A P Q : Type 0} → (P → Q) → A ⊎ P → A ⊎ Q
+weaker f (inl a) = inl a
+weaker f (inr p) = inr (f p)
+
+adds_weaken : {P Q : ℕ → Type 0} {old new : MemoState} → ((c : ℕ) → P c → Q c) → Adds P old new → Adds Q old new
+adds_weaken f h = record { found = λ c w i. weaker (f c) (h.found c w i); known = λ c w i. weaker (f c) (h.known c w i) }
+
+-- ---- what is spent
+
+-- a case below the root is in each list that has the root
+spends_below : {s : Sheet} {root k : Case} {m n : MemoState} {a b : Counts} {done : Bool} → IsBelow s root k → Spends s (λ ks. Contains ks k) m n a b done → Spends s (λ ks. Contains ks root) m n a b done
+spends_below h k = spends_closed (λ ks closed top. h.demanded ks closed top) k
+
+module _ {s : Sheet} {root : Case} {m n : MemoState} {a b : Counts} (h : GoesAhead s root m n a b) where
+  pub spent_then : {l : MemoState} {c : Counts} {done : Bool} → Spends s (λ ks. Contains ks root) n l b c done → Spends s (λ ks. Contains ks root) m l a c done
+  spent_then k = spends_then (λ ks top. top) (λ ks top. top) h.spends k
+
+  pub ahead_then : {l : MemoState} {c : Counts} → GoesAhead s root n l b c → GoesAhead s root m l a c
+  ahead_then k = record { spends = spent_then k.spends; remembers = remembers_then h.remembers k.remembers k.spends.gives_up; adds = adds_then h.adds k.adds }
+
+  pub ahead_hands : {l : MemoState} {c : Counts} {g : Frame} → HandsOver s root n l b c g → HandsOver s root m l a c g
+  ahead_hands k = record { mid = k.mid; ahead = ahead_then k.ahead; begun = k.begun; lower = k.lower; settled = k.settled; rises = k.rises; evaluations = k.evaluations; restarts = k.restarts }
+
+pub ahead_none : {s : Sheet} {root : Case} {m n : MemoState} {a : Counts} → IsMemoOf s m → n ≡ m → GoesAhead s root m n a a
+ahead_none {s} {root} {m} {n} {a} memo e =
+    let alone : GoesAhead s root m m a a = record { spends = spends_none memo refl; remembers = remembers_itself m; adds = adds_none (λ c. reach_rank s c < reach_rank s root.0) m } in
+    rw e alone
+
+-- ---- one formula
+
+module _ {s : Sheet} {root : Case} {m n : MemoState} {a b : Counts} where
+  pub ahead_valued : {k : Key} {v : Value} → IsBelow s root (case_at k) → IsValued s m n k a b v → GoesAhead s root m n a b
+  ahead_valued {k} {v} below h = record {
+    spends = spends_below below h.spends;
+    remembers = h.remembers;
+    adds = adds_weaken (λ c e. subst (λ (d : ℕ). reach_rank s d < reach_rank s root.0) (sym e) below.lower) h.adds;
+  }
+
+  pub spent_below : {k : Key} → IsBelow s root (case_at k) → Spends s (λ ks. Contains ks (case_at k)) m n a b false → Spends s (λ ks. Contains ks root) m n a b false
+  spent_below below h = spends_below below h
+
+  pub hands_waiting : {f g : Frame} → IsMemoOf s m → MayBegin s m f → IsBelow s root (case_at f.key) → IsWaiting s m n f a b g → HandsOver s root m n a b g
+  hands_waiting {f} {g} memo begins below h =
+      let more = h.restarts in
+      let few = spare_any s f in
+      let alone : HandsOver s root m m a b g = record {
+        mid = a;
+        ahead = ahead_none memo refl;
+        begun = record { frame = h.frame; unfound = rw h.key begins.unvalued.unfound; demanded = rw h.key below.demanded };
+        lower = rw h.key below.lower;
+        settled = rw h.key h.settled;
+        rises = h.rises;
+        evaluations = h.evaluations;
+        restarts = rw h.key (omega (arith, more, few));
+      } in
+      rw h.same alone
+
+-- ---- the root's own frame
+
+-- nothing is remembered for its key still
+pub unvalued_still : {s : Sheet} {k : Key} {m n : MemoState} {a b : Counts} → IsMemoOf s m → IsUnvaluedKey s m k → GoesAhead s (case_at k) m n a b → IsUnvaluedKey s n k
+unvalued_still {s} {k} {m} {n} {a} {b} memo h ahead = record {
+  key = record {
+    formula = h.key.formula;
+    open_cell = h.key.open_cell;
+    covered = rw ahead.spends.same.covers h.key.covered;
+    own = h.key.own;
+    generation = rw ahead.spends.same.generation h.key.generation;
+  };
+  unfound = unknown.0;
+  unkept = unknown.1;
+}
+  where
+    before : (is_some (m.known k.cell k.world) ≡ true) → ⊥
+    before i = true≢false (sym i ∙ memo.told k.cell k.world ∙ or_from (m.found k.cell k.world) (m.kept k.cell k.world) h.unfound h.unkept)
+
+    known : (is_some (m.known k.cell k.world) ≡ true) ⊎ (reach_rank s k.cell < reach_rank s k.cell) → ⊥
+    known (inl i) = before i
+    known (inr i) = absurd (omega (arith, i))
+
+    neither : (b : Bool) → is_some (n.known k.cell k.world) ≡ b → b ≡ false
+    neither true e = absurd (known (ahead.adds.known k.cell k.world e))
+    neither false e = refl
+
+    parts : (x y : Bool) → (x || y) ≡ false → (x ≡ false) × (y ≡ false)
+    parts false false e = (refl, refl)
+    parts false true e = cc
+    parts true y e = cc
+
+    unknown : (n.found k.cell k.world ≡ false) × (n.kept k.cell k.world ≡ false)
+    unknown = parts (n.found k.cell k.world) (n.kept k.cell k.world) (sym (ahead.spends.right.told k.cell k.world) ∙ neither (is_some (n.known k.cell k.world)) refl)
