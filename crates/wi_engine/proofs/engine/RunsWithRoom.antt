@@ -43,7 +43,7 @@ once a false false e h = e
 kept_told : (m : MemoState) → IsTold m → KeepsFound m → IsTold (by_kept m)
 kept_told m t h c w = once (is_some (m.known c w)) (m.found c w) (m.kept c w) (t c w) (h c w)
 
-kept_memory_of : (s : Sheet) (m : MemoState) → IsMemoOf s m → KeepsFound m → IsMemoOf s (by_kept m)
+pub kept_memory_of : (s : Sheet) (m : MemoState) → IsMemoOf s m → KeepsFound m → IsMemoOf s (by_kept m)
 kept_memory_of s m h w = record {
   sheet = h.sheet;
   right = h.right;
@@ -213,8 +213,13 @@ saving_back {s} {old} {m} {n} {root} {start} {now} {next} {fs} {f} {b} {v} {ks} 
   settling = settling_pop s m n (case_at f.key) (kept t closed top i) old fs f b i.settling (rests_then t closed top i);
 }
 
+-- for each list that has the root, with room or not
+pub saving_ends_all : {s : Sheet} {old m n : MemoState} {root : Case} {start now next : Counts} {f : Frame} {v : Value} {ks : List Case} → ComesBack s m n now next f v → IsClosed s ks → Contains ks root → IsSaving s old m root start now [] f ks →
+    (qs : List Case) → IsClosed s qs → Contains qs root → SpentOn s old.kept n.kept start next true qs
+saving_ends_all {s} {old} {m} {n} t closed top i = λ qs others there. run_ends (by_kept n) (kept t closed top i) t.counts i.running qs others there
+
 pub saving_ends : {s : Sheet} {old m n : MemoState} {root : Case} {start now next : Counts} {f : Frame} {v : Value} {ks : List Case} → ComesBack s m n now next f v → IsClosed s ks → Contains ks root → IsSaving s old m root start now [] f ks → SpentOn s old.kept n.kept start next true ks
-saving_ends {s} {old} {m} {n} t closed top i = run_ends (by_kept n) (kept t closed top i) t.counts i.running _ closed top
+saving_ends t closed top i = saving_ends_all t closed top i _ closed top
 
 -- ---- a cell under any replacements, where no formula has to be evaluated for it
 

@@ -30,7 +30,7 @@ new_settled s kept f k n t e = settled_none s kept f.key.world t f.found n.cells
 pub settling_start : (s : Sheet) (m : MemoState) (f : Frame) → IsFrameSettled s m.kept f → IsSettling s m m [] f
 settling_start s m f h = record { top = h; below = tt; rests = λ c w h g. absurd (true≢false (sym h ∙ g)) }
 
-one_more : (s : Sheet) (kept : ℕ → List Replacement → Bool) (fs : List Frame) (f : Frame) → AreFramesSettled s kept fs → IsFrameSettled s kept f → AreFramesSettled s kept (fs ++ f ∷ [])
+pub one_more : (s : Sheet) (kept : ℕ → List Replacement → Bool) (fs : List Frame) (f : Frame) → AreFramesSettled s kept fs → IsFrameSettled s kept f → AreFramesSettled s kept (fs ++ f ∷ [])
 one_more s kept [] f h k = (k, tt)
 one_more s kept (g ∷ fs) f h k = (h.0, one_more s kept fs f h.1 k)
 

@@ -9,13 +9,13 @@ use Rattle.wi_cache.specs.declared.key.Key.{Key}
 use Rattle.wi_sheet.specs.Demand.{Case, wants}
 use Rattle.wi_sheet.specs.Inner.Spending.{IsClosed, NeverFall}
 use Rattle.wi_sheet.specs.Inner.Rank.{reach_rank}
-use Rattle.wi_sheet.proofs.CaseCosts.{never_fall-same}
+use Rattle.wi_sheet.proofs.CaseCosts.{spent_none, spent_then}
 use Rattle.wi_engine.specs.Inner.MemoState.{MemoState, IsMemoOf}
 use Rattle.wi_engine.specs.Inner.Frames.{case_at, IsFormulaKey, IsUnvaluedKey, IsFrame, IsBegun, spare}
 use Rattle.wi_engine.specs.Inner.Begins.{MayBegin}
 use Rattle.wi_engine.specs.Inner.Saving.{Remembers}
 use Rattle.wi_engine.specs.Inner.Spends.{Spends}
-use Rattle.wi_engine.specs.Inner.Planned.{Adds, IsValued, IsWaiting, GoesAhead, HandsOver}
+use Rattle.wi_engine.specs.Inner.Planned.{Adds, SpendsOnKept, IsValued, IsWaiting, GoesAhead, HandsOver}
 use Rattle.wi_engine.specs.Inner.Plans.{IsBelow}
 use Rattle.wi_engine.specs.declared.frame.Frame.{Frame}
 use Rattle.wi_engine.proofs.Places.{remembers_itself, remembers_then}
@@ -47,19 +47,30 @@ adds_weaken f h = record { found = λ c w i. weaker (f c) (h.found c w i); known
 spends_below : {s : Sheet} {root k : Case} {m n : MemoState} {a b : Counts} {done : Bool} → IsBelow s root k → Spends s (λ ks. Contains ks k) m n a b done → Spends s (λ ks. Contains ks root) m n a b done
 spends_below h k = spends_closed (λ ks closed top. h.demanded ks closed top) k
 
+kept_none : {s : Sheet} {root : Case} {m : MemoState} {a : Counts} → SpendsOnKept s root m m a a
+kept_none {s} {root} {m} {a} = λ ks closed top whole room. λ qs others there. spent_none s m.kept a true qs
+
+kept_below : {s : Sheet} {root k : Case} {m n : MemoState} {a b : Counts} → IsBelow s root k → SpendsOnKept s k m n a b → SpendsOnKept s root m n a b
+kept_below below h = λ ks closed top whole room. λ qs others there. h ks closed (below.demanded ks closed top) whole room qs others (below.demanded qs others there)
+
 module _ {s : Sheet} {root : Case} {m n : MemoState} {a b : Counts} (h : GoesAhead s root m n a b) where
-  pub spent_then : {l : MemoState} {c : Counts} {done : Bool} → Spends s (λ ks. Contains ks root) n l b c done → Spends s (λ ks. Contains ks root) m l a c done
-  spent_then k = spends_then (λ ks top. top) (λ ks top. top) h.spends k
+  kept_then : {l : MemoState} {c : Counts} → SpendsOnKept s root n l b c → SpendsOnKept s root m l a c
+  kept_then k = λ ks closed top whole room. λ qs others there.
+      let saved = h.spends.saved refl ks closed top whole room in
+      spent_then (h.on_kept ks closed top whole room qs others there) (k ks closed top saved.found saved.room qs others there)
+
+  pub spent_after : {l : MemoState} {c : Counts} {done : Bool} → Spends s (λ ks. Contains ks root) n l b c done → Spends s (λ ks. Contains ks root) m l a c done
+  spent_after k = spends_then (λ ks top. top) (λ ks top. top) h.spends k
 
   pub ahead_then : {l : MemoState} {c : Counts} → GoesAhead s root n l b c → GoesAhead s root m l a c
-  ahead_then k = record { spends = spent_then k.spends; remembers = remembers_then h.remembers k.remembers k.spends.gives_up; adds = adds_then h.adds k.adds }
+  ahead_then k = record { spends = spent_after k.spends; on_kept = kept_then k.on_kept; remembers = remembers_then h.remembers k.remembers k.spends.gives_up; adds = adds_then h.adds k.adds }
 
   pub ahead_hands : {l : MemoState} {c : Counts} {g : Frame} → HandsOver s root n l b c g → HandsOver s root m l a c g
-  ahead_hands k = record { mid = k.mid; ahead = ahead_then k.ahead; begun = k.begun; lower = k.lower; settled = k.settled; rises = k.rises; evaluations = k.evaluations; restarts = k.restarts }
+  ahead_hands k = record { mid = k.mid; ahead = ahead_then k.ahead; begun = k.begun; unkept = k.unkept; lower = k.lower; settled = k.settled; rises = k.rises; evaluations = k.evaluations; restarts = k.restarts }
 
 pub ahead_none : {s : Sheet} {root : Case} {m n : MemoState} {a : Counts} → IsMemoOf s m → n ≡ m → GoesAhead s root m n a a
 ahead_none {s} {root} {m} {n} {a} memo e =
-    let alone : GoesAhead s root m m a a = record { spends = spends_none memo refl; remembers = remembers_itself m; adds = adds_none (λ c. reach_rank s c < reach_rank s root.0) m } in
+    let alone : GoesAhead s root m m a a = record { spends = spends_none memo refl; on_kept = kept_none; remembers = remembers_itself m; adds = adds_none (λ c. reach_rank s c < reach_rank s root.0) m } in
     rw e alone
 
 -- ---- one formula
@@ -68,6 +79,7 @@ module _ {s : Sheet} {root : Case} {m n : MemoState} {a b : Counts} where
   pub ahead_valued : {k : Key} {v : Value} → IsBelow s root (case_at k) → IsValued s m n k a b v → GoesAhead s root m n a b
   ahead_valued {k} {v} below h = record {
     spends = spends_below below h.spends;
+    on_kept = kept_below below h.on_kept;
     remembers = h.remembers;
     adds = adds_weaken (λ c e. subst (λ (d : ℕ). reach_rank s d < reach_rank s root.0) (sym e) below.lower) h.adds;
   }
@@ -83,6 +95,7 @@ module _ {s : Sheet} {root : Case} {m n : MemoState} {a b : Counts} where
         mid = a;
         ahead = ahead_none memo refl;
         begun = record { frame = h.frame; unfound = rw h.key begins.unvalued.unfound; demanded = rw h.key below.demanded };
+        unkept = rw h.key begins.unvalued.unkept;
         lower = rw h.key below.lower;
         settled = rw h.key h.settled;
         rises = h.rises;

@@ -23,6 +23,7 @@ use Rattle.wi_engine.proofs.Places.{keeps_remembers}
 use Rattle.wi_engine.proofs.engine.NextValues.{one_more_at_most, frame_waits, spare_falls}
 use Rattle.wi_engine.proofs.engine.SettledFindings.{done_settled, settled_again}
 use Rattle.wi_engine.proofs.engine.FrameRuns.{ComesBack}
+use Rattle.wi_engine.proofs.engine.RunsWithRoom.{saving_ends_all}
 use Rattle.wi_engine.proofs.engine.Ends.{going_start, going_ends}
 
 -- what is so in any case is so where memory runs out
@@ -65,6 +66,7 @@ pub valued_once : {s : Sheet} {m n : MemoState} {f : Frame} {a b : Counts} {v x 
 valued_once {s} {m} {n} {f} {a} {b} {v} {x} memo begins turn is = record {
   value = is ∙ turn.value.value;
   spends = going_ends (going_start a memo begins) turn;
+  on_kept = λ ks closed top whole room. saving_ends_all turn closed top ((going_start a memo begins).saving ks closed top whole room);
   found = turn.kept.found f.key.cell f.key.world ∙ or_right (m.found f.key.cell f.key.world) _ (same_case-refl (case_at f.key));
   remembers = keeps_remembers turn.keeps turn.kept;
   adds = keep_adds turn.keeps turn.kept;

@@ -1,5 +1,5 @@
 -- What the cells of a plan leave that are valued for a root, the case of a frame that has no values yet.
-use Rattle.std.specs.Prelude.{◌≡◌, ◌<◌, ◌≤◌, ◌+◌, ◌⊎◌, ℕ, true, List, Option, Some, None, Contains, is_some}
+use Rattle.std.specs.Prelude.{◌≡◌, ◌<◌, ◌≤◌, ◌+◌, ◌⊎◌, ℕ, true, false, List, Option, Some, None, Contains, is_some}
 use Rattle.wi_values.specs.declared.value.Value.{Value}
 use Rattle.wi_values.specs.declared.replacement.Replacement.{Replacement}
 use Rattle.wi_parser.specs.Sheet.{Sheet, put_all}
@@ -7,7 +7,7 @@ use Rattle.wi_functions.specs.Counts.{Counts}
 use Rattle.wi_cache.specs.declared.key.Key.{Key}
 use Rattle.wi_sheet.specs.CellValue.{cell_value}
 use Rattle.wi_sheet.specs.Demand.{Case, reaching, wants}
-use Rattle.wi_sheet.specs.Inner.Spending.{NeverFall}
+use Rattle.wi_sheet.specs.Inner.Spending.{IsClosed, NeverFall, SpentOn}
 use Rattle.wi_sheet.specs.Inner.Rank.{reach_rank}
 use Rattle.wi_engine.specs.Inner.MemoState.{MemoState}
 use Rattle.wi_engine.specs.Inner.Frames.{IsFrame, IsBegun, case_at, spare}
@@ -31,12 +31,18 @@ pub record Adds (Passes : ℕ → Type 0) (old new : MemoState) : Type 0 where
   pub found : (c : ℕ) (w : List Replacement) → new.found c w ≡ true → (old.found c w ≡ true) ⊎ Passes c
   pub known : (c : ℕ) (w : List Replacement) → is_some (new.known c w) ≡ true → (is_some (old.known c w) ≡ true) ⊎ Passes c
 
+-- Where there is room for the cases on which one rests, what was spent is within what they cost that weren't kept, and so for
+-- each list that has them, with room or not.
+abbrev pub SpendsOnKept : Sheet → Case → MemoState → MemoState → Counts → Counts → Type 0
+SpendsOnKept s k m n a b = WhereRoom s (λ ks. Contains ks k) m (λ ks. (qs : List Case) → IsClosed s qs → Contains qs k → SpentOn s m.kept n.kept a b true qs)
+
 -- ---- one formula, evaluated once
 
 -- its value, which is remembered
 pub record IsValued (s : Sheet) (m n : MemoState) (k : Key) (a b : Counts) (v : Value) : Type 0 where
   pub value : v ≡ cell_value (put_all s k.world) k.cell
   pub spends : Spends s (λ ks. Contains ks (case_at k)) m n a b true
+  pub on_kept : SpendsOnKept s (case_at k) m n a b
   pub found : n.found k.cell k.world ≡ true
   pub remembers : Remembers m n
   pub adds : Adds (λ c. c ≡ k.cell) m n
@@ -60,6 +66,7 @@ IsTried s m n f a b (Waits g) = IsWaiting s m n f a b g
 -- values are remembered of what the root demands, all below it
 pub record GoesAhead (s : Sheet) (root : Case) (m n : MemoState) (a b : Counts) : Type 0 where
   pub spends : Spends s (λ ks. Contains ks root) m n a b true
+  pub on_kept : SpendsOnKept s root m n a b
   pub remembers : Remembers m n
   pub adds : Adds (λ c. reach_rank s c < reach_rank s root.0) m n
 
@@ -68,6 +75,7 @@ pub record HandsOver (s : Sheet) (root : Case) (m n : MemoState) (a b : Counts) 
   pub mid : Counts
   pub ahead : GoesAhead s root m n a mid
   pub begun : IsBegun s n root g
+  pub unkept : n.kept g.key.cell g.key.world ≡ false
   pub lower : reach_rank s g.key.cell < reach_rank s root.0
   pub settled : WhereRoom s (λ ks. Contains ks (case_at g.key)) n (λ ks. IsFrameSettled s n.kept g)
   pub rises : NeverFall mid b

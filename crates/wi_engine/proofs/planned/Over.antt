@@ -1,0 +1,182 @@
+-- A run of frames goes on after a plan's values were found for the frame on top, or with a frame that was handed over.
+use Rattle.std.proofs.Common.{◌≡◌, ◌<◌, ◌≤◌, ◌+◌, ◌*◌, ◌⊎◌, inl, inr, ◌||◌, ℕ, Bool, true, false, List, [], ◌∷◌, ◌++◌, length, Contains, is_some, refl, ap, sym, ◌∙◌, subst, arith}
+use Rattle.std.proofs.lemmas.Bool.{or_cases, or_left, or_right, true≢false}
+use Rattle.wi_values.specs.declared.replacement.Replacement.{Replacement}
+use Rattle.wi_parser.specs.Sheet.{Sheet}
+use Rattle.wi_functions.specs.Counts.{Counts}
+use Rattle.wi_cache.specs.declared.key.Key.{Key}
+use Rattle.wi_sheet.specs.Demand.{Case, demand, wants}
+use Rattle.wi_sheet.specs.Settled.{RestsOnKept}
+use Rattle.wi_sheet.specs.Inner.Rank.{reach_rank}
+use Rattle.wi_sheet.specs.Inner.Spending.{IsClosed, NeverFall, cost, left, plus}
+use Rattle.wi_sheet.proofs.CaseCosts.{left_falls, never_fall-then}
+use Rattle.wi_sheet.proofs.SettledTables.{rests_more}
+use Rattle.wi_engine.specs.Inner.MemoState.{MemoState, IsMemoOf}
+use Rattle.wi_engine.specs.Inner.Begins.{MayBegin}
+use Rattle.wi_engine.specs.Inner.Frames.{case_at, IsFrame, IsBegun, IsStack, spare}
+use Rattle.wi_engine.specs.Inner.Planned.{GoesAhead, HandsOver}
+use Rattle.wi_engine.specs.Inner.Saving.{KeepsFound, not_kept}
+use Rattle.wi_engine.specs.Inner.SettledFrames.{IsFrameSettled}
+use Rattle.wi_engine.specs.Inner.Spends.{Saved}
+use Rattle.wi_engine.specs.declared.frame.Frame.{Frame}
+use Rattle.wi_engine.proofs.Ledger.{same_then}
+use Rattle.wi_engine.proofs.Places.{takes_then, gives_up_then}
+use Rattle.wi_engine.proofs.engine.Budgets.{all_apart, budget_over, budget_hands, not_taken}
+use Rattle.wi_engine.proofs.engine.Ends.{IsGoing}
+use Rattle.wi_engine.proofs.engine.FrameRuns.{IsRunning}
+use Rattle.wi_engine.proofs.engine.RunsWithRoom.{IsSaving, by_kept, kept_memory_of}
+use Rattle.wi_engine.proofs.engine.SettledFindings.{found_more}
+use Rattle.wi_engine.proofs.engine.SettledStacks.{AreFramesSettled, one_more}
+use Rattle.wi_engine.proofs.engine.Stacks.{same_frame, push_stack, push_bottom, same_bottom}
+
+not_then : (b : Bool) → (b ≡ true → ⊥) → b ≡ false
+not_then true h = absurd (h refl)
+not_then false h = refl
+
+-- what is found besides is of cells below the frames
+abbrev FindsBelow : Sheet → ℕ → MemoState → MemoState → Type 0
+FindsBelow s r m n = (c : ℕ) (w : List Replacement) → n.found c w ≡ true → (m.found c w ≡ true) ⊎ (reach_rank s c < r)
+
+unfound_still : {s : Sheet} {r : ℕ} {m n : MemoState} → FindsBelow s r m n → (k : Key) → r ≤ reach_rank s k.cell → m.found k.cell k.world ≡ false → n.found k.cell k.world ≡ false
+unfound_still {s} {r} {m} {n} finds k l u = not_then (n.found k.cell k.world) (λ h. none (finds k.cell k.world h))
+  where
+    none : (m.found k.cell k.world ≡ true) ⊎ (reach_rank s k.cell < r) → ⊥
+    none (inl i) = true≢false (sym i ∙ u)
+    none (inr i) = absurd (omega (arith, i, l))
+
+stack_over : (s : Sheet) (m n : MemoState) (root : Case) (fs : List Frame) (r : ℕ) → n.covers ≡ m.covers → n.generation ≡ m.generation → FindsBelow s r m n → IsStack s m root fs r → IsStack s n root fs r
+stack_over s m n root [] r covers generation finds st = tt
+stack_over s m n root (f ∷ fs) r covers generation finds st =
+    let higher = st.1 in (
+      record { frame = same_frame s m n f covers generation st.0.frame; unfound = unfound_still finds f.key (omega (arith, higher)) st.0.unfound; demanded = st.0.demanded },
+      st.1,
+      st.2,
+      stack_over s m n root fs r covers generation finds st.3,
+    )
+
+module _ {s : Sheet} {old m n : MemoState} {root : Case} {start now next : Counts} {fs : List Frame} {f g : Frame} (i : IsRunning s old m root start now fs f) (memo : IsMemoOf s n) (covers : n.covers ≡ m.covers) (generation : n.generation ≡ m.generation)
+    (finds : FindsBelow s (reach_rank s f.key.cell) m n) (paid : (ks : List Case) → IsClosed s ks → Contains ks (case_at f.key) → NeverFall (plus next (cost s n.found ks)) (plus now (cost s m.found ks))) where
+  unfound : n.found f.key.cell f.key.world ≡ false
+  unfound = unfound_still finds f.key (omega arith) i.begun.unfound
+
+  stack : IsStack s n root fs (reach_rank s f.key.cell)
+  stack = stack_over s m n root fs (reach_rank s f.key.cell) covers generation finds i.stack
+
+  run_over : IsFrame s n g → g.key ≡ f.key → spare s g ≤ spare s f → IsRunning s old n root start next fs g
+  run_over frame key less = record {
+    memo = memo;
+    begun = record { frame = frame; unfound = rw key unfound; demanded = rw key i.begun.demanded };
+    stack = rw key stack;
+    bottom = same_bottom root fs f g key i.bottom;
+    within = λ ks closed top.
+        budget_over s m.found ks fs f now _ (i.within ks closed top) n.found g next
+        (λ c w h. (all_apart s m root fs f i.stack i.begun.unfound c w h, all_apart s n root fs f stack unfound c w h)) (paid ks closed (i.begun.demanded ks closed top)) key less;
+  }
+
+-- with a frame more, for a case that the one on top demands
+run_hands : {s : Sheet} {old n : MemoState} {root : Case} {start mid next : Counts} {fs : List Frame} {f g : Frame} → IsRunning s old n root start mid fs f → IsBegun s n (case_at f.key) g → reach_rank s g.key.cell < reach_rank s f.key.cell → next.evaluations ≡ mid.evaluations →
+    next.restarts + spare s g ≤ mid.restarts + wants s (case_at g.key) → IsRunning s old n root start next (fs ++ f ∷ []) g
+run_hands {s} {old} {n} {root} {start} {mid} {next} {fs} {f} {g} i b lower same few =
+    let demanded = λ (ks : List Case) (closed : IsClosed s ks) (top : Contains ks root). b.demanded ks closed (i.begun.demanded ks closed top) in
+    record {
+      memo = i.memo;
+      begun = record { frame = b.frame; unfound = b.unfound; demanded = demanded };
+      stack = push_stack s n root fs f (reach_rank s g.key.cell) i.stack i.begun lower;
+      bottom = push_bottom root fs f g i.bottom;
+      within = λ ks closed top. budget_hands s n.found ks fs f mid _ (i.within ks closed top) g next same few (not_taken s n root f fs g.key i.stack lower b.unfound) (demanded ks closed top);
+    }
+
+-- ---- where there is room
+
+module _ (s : Sheet) (kept more : ℕ → List Replacement → Bool) (grows : (c : ℕ) (w : List Replacement) → kept c w ≡ true → more c w ≡ true) where
+  frames_grow : (fs : List Frame) → AreFramesSettled s kept fs → AreFramesSettled s more fs
+  frames_grow [] h = tt
+  frames_grow (f ∷ fs) h = (λ t e. found_more s kept more grows f.key.world t f.found (h.0 t e), frames_grow fs h.1)
+
+module _ {s : Sheet} {old m n : MemoState} {root : Case} {start now next : Counts} {fs : List Frame} {f g : Frame} {ks : List Case} (memo : IsMemoOf s m) (ahead : GoesAhead s (case_at f.key) m n now next) (closed : IsClosed s ks) (top : Contains ks root) (i : IsSaving s old m root start now fs f ks) where
+  demanded : Contains ks (case_at f.key)
+  demanded = i.running.begun.demanded ks closed top
+
+  -- what came to be kept was kept already, or is below
+  kept_besides : FindsBelow s (reach_rank s f.key.cell) (by_kept m) (by_kept n)
+  kept_besides c w h = by (ahead.adds.known c w (ahead.spends.right.told c w ∙ or_right (n.found c w) _ h))
+    where
+      kept : (m.found c w ≡ true) ⊎ (m.kept c w ≡ true) → m.kept c w ≡ true
+      kept (inl j) = i.whole c w j
+      kept (inr j) = j
+
+      by : (is_some (m.known c w) ≡ true) ⊎ (reach_rank s c < reach_rank s f.key.cell) → (m.kept c w ≡ true) ⊎ (reach_rank s c < reach_rank s f.key.cell)
+      by (inl j) = inl (kept (or_cases (m.found c w) (m.kept c w) (sym (memo.told c w) ∙ j)))
+      by (inr j) = inr j
+
+  saved : Saved s m n now next ks
+  saved = ahead.spends.saved refl ks closed demanded i.whole i.room
+
+  rests_over : (c : ℕ) (w : List Replacement) → n.kept c w ≡ true → old.kept c w ≡ false → (t : Bool) → m.kept c w ≡ t → RestsOnKept s n.kept (c, w)
+  rests_over c w h o true e = rests_more s m.kept n.kept saved.stays (c, w) (i.settling.rests c w e o)
+  rests_over c w h o false e = saved.rests c w h e
+
+  paid_over : (qs : List Case) → IsClosed s qs → Contains qs (case_at f.key) → NeverFall (plus next (cost s n.kept qs)) (plus now (cost s m.kept qs))
+  paid_over qs others there = (ahead.on_kept ks closed demanded i.whole i.room qs others there).paid refl
+
+  pub saving_over : IsFrame s n g → IsFrameSettled s n.kept g → g.key ≡ f.key → spare s g ≤ spare s f → IsSaving s old n root start next fs g ks
+  saving_over frame settled key less =
+      let added = i.added in
+      let more = saved.added in
+      record {
+        running = run_over i.running (kept_memory_of s n ahead.spends.right saved.found) ahead.spends.same.covers ahead.spends.same.generation kept_besides paid_over (same_frame s n (by_kept n) g refl refl frame) key less;
+        whole = saved.found;
+        added = omega (arith, added, more);
+        room = saved.room;
+        stays = λ c w h. saved.stays c w (i.stays c w h);
+        stand = λ j h. saved.stand j (i.stand j h);
+        settling = record { top = settled; below = frames_grow s m.kept n.kept saved.stays fs i.settling.below; rests = λ c w h o. rests_over c w h o (m.kept c w) refl };
+      }
+
+-- ---- all of it
+
+pub going_over : {s : Sheet} {old m n : MemoState} {root : Case} {start now next : Counts} {fs : List Frame} {f g : Frame} → IsGoing s old m root start now fs f → GoesAhead s (case_at f.key) m n now next → MayBegin s n g → g.key ≡ f.key → spare s g ≤ spare s f → IsGoing s old n root start next fs g
+going_over {s} {old} {m} {n} {root} {start} {now} {next} {fs} {f} {g} i ahead begins key less = record {
+  running = run_over i.running ahead.spends.right ahead.spends.same.covers ahead.spends.same.generation ahead.adds.found (λ ks closed top. (ahead.spends.on_found ks closed top).paid refl) begins.frame key less;
+  same = same_then i.same ahead.spends.same;
+  counts = never_fall-then start now next i.counts ahead.spends.counts;
+  places = takes_then old m n start.evaluations now.evaluations next.evaluations i.places ahead.spends.places ahead.spends.counts.0;
+  gives_up = gives_up_then old m n i.gives_up ahead.spends.gives_up;
+  saving = λ ks closed top whole room.
+      let saving = i.saving ks closed top whole room in
+      let here = saving.running.begun.demanded ks closed top in
+      let saved = ahead.spends.saved refl ks closed here saving.whole saving.room in
+      saving_over i.running.memo ahead closed top saving begins.frame (begins.settled ks closed (subst (λ (j : Key). Contains ks (case_at j)) (sym key) here) saved.found saved.room) key less;
+}
+
+pub going_hands : {s : Sheet} {old m n : MemoState} {root : Case} {start now next : Counts} {fs : List Frame} {f h g : Frame} → IsGoing s old m root start now fs f → HandsOver s (case_at f.key) m n now next g → MayBegin s n h → h.key ≡ f.key → spare s h ≤ spare s f → IsGoing s old n root start next (fs ++ h ∷ []) g
+going_hands {s} {old} {m} {n} {root} {start} {now} {next} {fs} {f} {h} {g} i hands begins key less =
+    let j = going_over i hands.ahead begins key less in
+    let begun : IsBegun s n (case_at h.key) g = rw key hands.begun in
+    let lower : reach_rank s g.key.cell < reach_rank s h.key.cell = rw key hands.lower in
+    record {
+      running = run_hands j.running begun lower hands.evaluations hands.restarts;
+      same = j.same;
+      counts = never_fall-then start hands.mid next j.counts hands.rises;
+      places = rw hands.evaluations j.places;
+      gives_up = j.gives_up;
+      saving = λ ks closed top whole room.
+          let saving = j.saving ks closed top whole room in
+          let there : Contains ks (case_at g.key) = begun.demanded ks closed (saving.running.begun.demanded ks closed top) in
+          let kept : IsBegun s (by_kept n) (case_at h.key) g = record { frame = same_frame s n (by_kept n) g refl refl begun.frame; unfound = hands.unkept; demanded = begun.demanded } in
+          let added = saving.added in
+          let same = hands.evaluations in
+          record {
+            running = run_hands saving.running kept lower hands.evaluations hands.restarts;
+            whole = saving.whole;
+            added = omega (arith, added, same);
+            room = saving.room;
+            stays = saving.stays;
+            stand = saving.stand;
+            settling = record { top = hands.settled ks closed there saving.whole saving.room; below = one_more s n.kept fs h saving.settling.below saving.settling.top; rests = saving.settling.rests };
+          };
+    }
+
+-- more is found, so that less is left
+pub ahead_less : {s : Sheet} {root k : Case} {m n : MemoState} {a b : Counts} → GoesAhead s k m n a b → left (λ j. 1) n.found (demand s root) ≤ left (λ j. 1) m.found (demand s root)
+ahead_less {s} {root} {k} {m} {n} {a} {b} ahead = left_falls (λ j. 1) m.found n.found (demand s root) ahead.remembers.found
