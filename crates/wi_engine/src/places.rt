@@ -144,15 +144,21 @@ pub fn open_all<'a>(store: &'a Store, world: &World, cells: &[Planned], places: 
         → ArePlacesOf store.now.sheet m root places.old
         → ArePlacesOf store.now.sheet m root places.new }
 {
-    for at in (0..cells.len()).rev() {
-        if let Some(cell) = cells.get(at) {
-            open(store, world, &cell.reads, at, places);
+    for place in (0..cells.len()).rev() {
+        if let Some(cell) = cells.get(place) {
+            open_one(store, world, &cell.reads, place, places);
         }
     }
 }
 
 /// Looks for the formula of the cell at a place, if it is needed, and marks what that reads.
-fn open<'a>(store: &'a Store, world: &World, reads: &[usize], at: usize, places: &mut [Place<'a>])
+fn open_one<'a>(
+    store: &'a Store,
+    world: &World,
+    reads: &[usize],
+    at: usize,
+    places: &mut [Place<'a>],
+)
     ensures { (m : MemoState) (root : Case) → root.1 ≡ world.now → IsMemoOf store.now.sheet m
         → ArePlacesOf store.now.sheet m root places.old
         → ArePlacesOf store.now.sheet m root places.new }

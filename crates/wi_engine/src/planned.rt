@@ -140,9 +140,9 @@ fn value_all<'a, M: Memo + Drop>(
         (M.state question.old.memo) (M.state question.new.memo)
         question.old.meter question.new.meter false) }
 {
-    for at in 0..cells.len() {
-        if let Some(cell) = cells.get(at) {
-            let waits = value_place(question, store, root, &cell.reads, at, places)?;
+    for place in 0..cells.len() {
+        if let Some(cell) = cells.get(place) {
+            let waits = value_place(question, store, root, &cell.reads, place, places)?;
             if waits.is_some() {
                 return Ok(waits);
             }

@@ -1,5 +1,5 @@
 -- A value that stands at a place, where more is remembered.
-use Rattle.std.proofs.Common.{◌≡◌, ◌≤◌, ◌⊎◌, inl, inr, ◌||◌, ℕ, Bool, true, false, List, [], ◌∷◌, All, Option, Some, is_some, slice_set, refl, ap, sym, ◌∙◌, subst, arith}
+use Rattle.std.proofs.Common.{◌≡◌, ◌<◌, ◌≤◌, ◌⊎◌, inl, inr, ◌||◌, ℕ, Bool, true, false, List, All, get_or, length, refl, ap, sym, ◌∙◌, subst, arith}
 use Rattle.std.proofs.lemmas.Bool.{or_cases}
 use Rattle.wi_values.specs.declared.value.Value.{Value}
 use Rattle.wi_values.specs.declared.replacement.Replacement.{Replacement}
@@ -25,6 +25,10 @@ shown_stands {s} {m} {w} {a} {v} memo h = record { value = h.value; at_hand = at
     at : NeedsNoEvaluation s m w a → IsAtHand s m w a
     at (inl i) = inl i
     at (inr i) = inr (kept (or_cases (m.found a (reaching s a w)) (m.kept a (reaching s a w)) (sym (memo.told a (reaching s a w)) ∙ i)))
+
+-- what is so of all places is so of one
+pub place_at : {s : Sheet} {m : MemoState} {root : Case} (ps : List Place) (i : ℕ) (p : Place) → ArePlacesOf s m root ps → i < length ps → p ≡ get_or ps i p → IsPlaceOf s m root p
+place_at {s} {m} {root} ps i p h l e = subst (IsPlaceOf s m root) (sym e) (h i p l)
 
 -- ---- where more is remembered
 

@@ -1,0 +1,9 @@
+use Rattle.std.proofs.Common.{◌≡◌}
+use Rattle.wi_sheet.specs.Demand.{Case}
+use Rattle.wi_engine.specs.Inner.MemoState.{MemoState, IsMemoOf}
+use Rattle.wi_engine.specs.Inner.Plans.{ArePlacesOf}
+use Rattle.wi_engine.proofs.places.open_all.Given as goal
+
+-- all places are right still
+abbrev pub invariant-loop-place : goal.invariant-loop-place
+invariant-loop-place l = (m : MemoState) (root : Case) → root.1 ≡ l.world → IsMemoOf l.store.sheet m → ArePlacesOf l.store.sheet m root l.fn.places → ArePlacesOf l.store.sheet m root l.places
