@@ -95,10 +95,10 @@ fn value_place<'a, M: Memo + Drop>(
     };
     let cell = place.at;
     match remembered_value(alloc, &root.world, cell, formula, &mut question.memo)? {
-        Asked::Known(value) => {
+        Asked::Known(shown) => {
             let known = Place {
                 at: cell,
-                state: State::Known(value),
+                state: State::Known(shown),
             };
             put(places, at, known);
             Ok(None)
@@ -115,7 +115,7 @@ fn value_place<'a, M: Memo + Drop>(
                     put(places, at, known);
                     Ok(None)
                 }
-                Tried::Waits(frame) => Ok(Some(frame)),
+                Tried::Waits(waiting) => Ok(Some(waiting)),
             }
         }
     }
@@ -142,9 +142,8 @@ fn value_all<'a, M: Memo + Drop>(
 {
     for place in 0..cells.len() {
         if let Some(cell) = cells.get(place) {
-            let waits = value_place(question, store, root, &cell.reads, place, places)?;
-            if waits.is_some() {
-                return Ok(waits);
+            if let Some(frame) = value_place(question, store, root, &cell.reads, place, places)? {
+                return Ok(Some(frame));
             }
         }
     }
@@ -176,14 +175,17 @@ pub fn go_ahead<'a, M: Memo + Drop>(
         question.old.meter question.new.meter false) }
 {
     let alloc = question.pool.allocator();
-    let mut places = places_of(alloc, &plan.cells)?;
-    need_all(frame.formula, &plan.reads, &mut places);
-    open_all(store, &frame.key.world, &plan.cells, &mut places);
-    let waits = value_all(question, store, &frame.key, &plan.cells, &mut places)?;
-    if waits.is_none() {
-        give_all(alloc, &plan.reads, &places, frame)?;
+    let mut made = places_of(alloc, &plan.cells)?;
+    let places = made.as_mut_slice();
+    need_all(frame.formula, &plan.reads, places);
+    open_all(store, &frame.key.world, &plan.cells, places);
+    match value_all(question, store, &frame.key, &plan.cells, places)? {
+        Some(next) => Ok(Some(next)),
+        None => {
+            give_all(alloc, &plan.reads, places, frame)?;
+            Ok(None)
+        }
     }
-    Ok(waits)
 }
 
 /// Places for cells, none of which is needed.

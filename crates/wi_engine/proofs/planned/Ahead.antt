@@ -6,21 +6,24 @@ use Rattle.wi_values.specs.declared.replacement.Replacement.{Replacement}
 use Rattle.wi_parser.specs.Sheet.{Sheet}
 use Rattle.wi_functions.specs.Counts.{Counts}
 use Rattle.wi_cache.specs.declared.key.Key.{Key}
-use Rattle.wi_sheet.specs.Demand.{Case, wants}
+use Rattle.wi_sheet.specs.Demand.{Case, reaching, wants}
 use Rattle.wi_sheet.specs.Inner.Spending.{IsClosed, NeverFall}
 use Rattle.wi_sheet.specs.Inner.Rank.{reach_rank}
 use Rattle.wi_sheet.proofs.CaseCosts.{spent_none, spent_then}
 use Rattle.wi_engine.specs.Inner.MemoState.{MemoState, IsMemoOf}
-use Rattle.wi_engine.specs.Inner.Frames.{case_at, IsFormulaKey, IsUnvaluedKey, IsFrame, IsBegun, spare}
+use Rattle.wi_engine.specs.Inner.Frames.{case_at, IsUnvaluedKey, IsUnvalued, spare}
 use Rattle.wi_engine.specs.Inner.Begins.{MayBegin}
 use Rattle.wi_engine.specs.Inner.Saving.{Remembers}
 use Rattle.wi_engine.specs.Inner.Spends.{Spends}
-use Rattle.wi_engine.specs.Inner.Planned.{Adds, SpendsOnKept, IsValued, IsWaiting, GoesAhead, HandsOver}
-use Rattle.wi_engine.specs.Inner.Plans.{IsBelow}
+use Rattle.wi_engine.specs.Inner.Planned.{Adds, SpendsOnKept, IsPlannedFrame, IsValued, IsWaiting, GoesAhead, HandsOver}
+use Rattle.wi_engine.specs.Inner.Plans.{IsBelow, IsStanding, IsWanted}
 use Rattle.wi_engine.specs.declared.frame.Frame.{Frame}
 use Rattle.wi_engine.proofs.Places.{remembers_itself, remembers_then}
 use Rattle.wi_engine.proofs.Ledger.{spends_none, spends_closed, spends_then}
 use Rattle.wi_engine.proofs.engine.Budgets.{spare_any}
+use Rattle.wi_engine.proofs.engine.FrameRuns.{IsNew}
+use Rattle.wi_engine.proofs.engine.NextCases.{unvalued_case}
+use Rattle.wi_engine.proofs.engine.RunsWithRoom.{begins_new, unvalued_value}
 
 -- ---- what is remembered
 
@@ -104,6 +107,29 @@ module _ {s : Sheet} {root : Case} {m n : MemoState} {a b : Counts} where
       } in
       rw h.same alone
 
+-- the value of a cell under its own key stands
+pub valued_stands : {s : Sheet} {m n : MemoState} {w : List Replacement} {c : ℕ} {k j : Key} {a b : Counts} {v : Value} → IsUnvalued s m w c k → j ≡ k → IsValued s m n j a b v → IsStanding s n w c v
+valued_stands {s} {m} {n} {w} {c} {k} {j} {a} {b} {v} u e h =
+    let there : IsValued s m n k a b v = rw e at h in
+    record {
+      value = unvalued_value u v there.value;
+      at_hand = inr (inl (subst (λ (i : Case). n.found i.0 i.1 ≡ true) (sym (unvalued_case s m w c k u)) there.found));
+    }
+
+-- and its case is below the root
+pub below_unvalued : {s : Sheet} {m : MemoState} {root : Case} {c : ℕ} {k j : Key} → IsWanted s m root c → IsUnvalued s m root.1 c k → j ≡ k → IsBelow s root (case_at j)
+below_unvalued {s} {m} {root} {c} {k} {j} wanted u e =
+    let here : IsBelow s root (case_at k) = subst (λ (i : Case). IsBelow s root i) (unvalued_case s m root.1 c k u) (wanted.below u.formula) in
+    rw e here
+
+-- a frame with no values yet, for such a key
+pub planned_new : {s : Sheet} {m : MemoState} {root : Case} {c : ℕ} {k : Key} {f : Frame} → IsNew s f k → IsUnvalued s m root.1 c k → IsPlannedFrame s m root f
+planned_new {s} {m} {root} {c} {k} {f} n u = record {
+  begins = begins_new n u.to_find;
+  waiting = n.waiting;
+  world = rw n.key (u.world ∙ ap (λ (d : ℕ). reaching s d root.1) (sym u.cell));
+}
+
 -- ---- the root's own frame
 
 -- nothing is remembered for its key still
@@ -138,3 +164,11 @@ unvalued_still {s} {k} {m} {n} {a} {b} memo h ahead = record {
 
     unknown : (n.found k.cell k.world ≡ false) × (n.kept k.cell k.world ≡ false)
     unknown = parts (n.found k.cell k.world) (n.kept k.cell k.world) (sym (ahead.spends.right.told k.cell k.world) ∙ neither (is_some (n.known k.cell k.world)) refl)
+
+-- it begins with no values
+pub planned_root : {s : Sheet} {m n : MemoState} {k : Key} {a b : Counts} {f : Frame} → IsMemoOf s m → IsUnvaluedKey s m k → IsNew s f k → GoesAhead s (case_at k) m n a b → IsPlannedFrame s n (case_at k) f
+planned_root memo h n ahead = record {
+  begins = begins_new n (unvalued_still memo h ahead);
+  waiting = n.waiting;
+  world = rw n.key (sym h.key.own);
+}
