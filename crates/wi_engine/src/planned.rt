@@ -176,7 +176,34 @@ pub fn go_ahead<'a, M: Memo + Drop>(
 {
     let alloc = question.pool.allocator();
     let mut made = places_of(alloc, &plan.cells)?;
-    let places = made.as_mut_slice();
+    go_over(question, store, plan, frame, &mut made)
+}
+
+/// The same over places, none of which is needed yet.
+fn go_over<'a, M: Memo + Drop>(
+    question: &mut Question<M>,
+    store: &'a Store,
+    plan: &Plan,
+    frame: &mut Frame<'a>,
+    places: &mut [Place<'a>],
+) -> Result<Option<Frame<'a>>, AllocError>
+    requires memo { IsMemoOf store.now.sheet (M.state question.old.memo) }
+    requires key { IsUnvaluedKey store.now.sheet (M.state question.old.memo) frame.old.key }
+    requires formula { StandsAt store.now.sheet frame.old.key frame.old.formula.now }
+    requires cells { (c : ℕ) → found_value frame.old.found c ≡ None }
+    requires what_ifs { frame.old.found.what_ifs.items ≡ [] }
+    requires waiting { frame.old.waiting ≡ waiting.Nothing }
+    requires places { (s : Sheet) (m : MemoState) (root : Case) → ArePlacesOf s m root places.old }
+    ensures ahead { IfOk result (IsAheadOf store.now.sheet (case_at frame.old.key)
+        (M.state question.old.memo) (M.state question.new.memo)
+        question.old.meter question.new.meter) }
+    ensures ready { OnOk result (IsReadyFrame store.now.sheet
+        (M.state question.new.memo) frame.old frame.new) }
+    ensures spent { OnErr result (Spends store.now.sheet (λ ks. Contains ks (case_at frame.old.key))
+        (M.state question.old.memo) (M.state question.new.memo)
+        question.old.meter question.new.meter false) }
+{
+    let alloc = question.pool.allocator();
     need_all(frame.formula, &plan.reads, places);
     open_all(store, &frame.key.world, &plan.cells, places);
     match value_all(question, store, &frame.key, &plan.cells, places)? {

@@ -1,0 +1,52 @@
+use Rattle.std.proofs.Common.{◌≡◌, ◌∙◌, refl, rules, sym, subst}
+use Rattle.wi_engine.specs.Inner.MemoState.{MemoState}
+use Rattle.wi_engine.specs.Inner.Frames.{case_at}
+use Rattle.wi_engine.proofs.Ledger.{spends_weaken}
+use Rattle.wi_engine.proofs.engine.FrameRuns.{IsNew}
+use Rattle.wi_engine.proofs.engine.RunsWithRoom.{begins_new}
+use Rattle.wi_engine.proofs.places.Wanted.{reads_wanted, root_reader}
+use Rattle.wi_engine.proofs.planned.Ahead.{planned_root, unvalued_still}
+use Rattle.wi_engine.proofs.planned.Once.{on_err}
+use Rattle.wi_engine.proofs.planned.go_over.Goals as goal
+
+pub value_all-requires-clause-memo : goal.value_all-requires-clause-memo
+value_all-requires-clause-memo g c = c.requires.memo
+
+pub value_all-requires-clause-places : goal.value_all-requires-clause-places
+value_all-requires-clause-places g c =
+    let s = c.args.store.now.sheet in
+    let m = g.M.Memo.state c.args.question.now.memo in
+    let root = case_at c.args.frame.now.key in
+    let marked = c.need_all.ensures s m root (reads_wanted (root_reader c.requires.key.key c.requires.formula) c.requires.memo) (c.requires.places s m root) in
+    c.open_all.ensures m root refl c.requires.memo marked
+
+pub returns-in-Some-clause-ahead : goal.returns-in-Some-clause-ahead
+returns-in-Some-clause-ahead g c = rw c.in-Some.is at c.in_ok-next.ensures.ahead
+
+pub returns-in-Some-clause-ready : goal.returns-in-Some-clause-ready
+returns-in-Some-clause-ready g c =
+    let s = c.args.store.now.sheet in
+    let new : IsNew s c.args.frame.now c.args.frame.now.key = record { key = refl; formula = c.requires.formula; cells = c.requires.cells; what_ifs = c.requires.what_ifs; waiting = c.requires.waiting } in
+    let hands = rw c.in-Some.is at c.in_ok-next.ensures.ahead in
+    record { key = refl; begins = begins_new new (unvalued_still c.requires.memo c.requires.key hands.ahead); waiting = c.requires.waiting }
+
+pub returns-in_ok-give_all-in-None-clause-ahead : goal.returns-in_ok-give_all-in-None-clause-ahead
+returns-in_ok-give_all-in-None-clause-ahead g c = rw c.in-None.is at c.in_ok-next.ensures.ahead
+
+pub returns-in_ok-give_all-in-None-clause-ready : goal.returns-in_ok-give_all-in-None-clause-ready
+returns-in_ok-give_all-in-None-clause-ready g c =
+    let s = c.args.store.now.sheet in
+    let k = c.args.frame.now.key in
+    let new : IsNew s c.args.frame.now k = record { key = refl; formula = c.requires.formula; cells = c.requires.cells; what_ifs = c.requires.what_ifs; waiting = c.requires.waiting } in
+    let ahead = rw c.in-None.is at c.in_ok-next.ensures.ahead in
+    let given = c.in_ok-give_all-in-None.ensures in
+    let planned = given.planned s (g.M.Memo.state c.value_all.new.question.memo) (case_at k) c.in_ok-next.ensures.places (planned_root c.requires.memo c.requires.key new ahead) in
+    record { key = given.key; begins = planned.begins; waiting = planned.waiting }
+
+pub returns-in_err-next-clause-spent : goal.returns-in_err-next-clause-spent
+returns-in_err-next-clause-spent g c = on_err c.from_residual.result c.in_err-next.ensures.spent
+
+pub returns-in_err-give_all-in-None-clause-spent : goal.returns-in_err-give_all-in-None-clause-spent
+returns-in_err-give_all-in-None-clause-spent g c =
+    let ahead = rw c.in-None.is at c.in_ok-next.ensures.ahead in
+    on_err c.from_residual-in_err-give_all-in-None.result (spends_weaken refl (λ ks top. top) (λ d. refl) ahead.spends)
