@@ -1,13 +1,12 @@
 -- A value that stands at a place, where more is remembered.
-use Rattle.std.proofs.Common.{◌≡◌, ◌<◌, ◌≤◌, ◌⊎◌, inl, inr, ◌||◌, ℕ, Bool, true, false, List, All, get_or, length, refl, ap, sym, ◌∙◌, subst, arith}
+use Rattle.std.proofs.Common.{◌≡◌, ◌<◌, ◌≤◌, ◌⊎◌, inl, inr, ℕ, true, List, get_or, length, sym, ◌∙◌, subst, arith}
 use Rattle.std.proofs.lemmas.Bool.{or_cases}
 use Rattle.wi_values.specs.declared.value.Value.{Value}
 use Rattle.wi_values.specs.declared.replacement.Replacement.{Replacement}
-use Rattle.wi_parser.specs.Sheet.{Sheet, content_of, put_all, has_formula}
+use Rattle.wi_parser.specs.Sheet.{Sheet}
 use Rattle.wi_sheet.specs.Demand.{Case, reaching}
 use Rattle.wi_engine.specs.Inner.MemoState.{MemoState, IsMemoOf}
-use Rattle.wi_engine.specs.Inner.Frames.{MayBeRead}
-use Rattle.wi_engine.specs.Inner.Saving.{NeedsNoEvaluation, Remembers, GivesUpWhenFull}
+use Rattle.wi_engine.specs.Inner.Saving.{NeedsNoEvaluation, Remembers}
 use Rattle.wi_engine.specs.Inner.Steps.{IsShownNow}
 use Rattle.wi_engine.specs.Inner.Plans.{IsWanted, IsAtHand, IsStanding, IsStateOf, IsPlaceOf, ArePlacesOf}
 use Rattle.wi_engine.specs.declared.places.Place.{Place}

@@ -1,21 +1,18 @@
 -- What a formula reads that is valued for a root is wanted for it.
-use Rattle.std.proofs.Common.{◌≡◌, ◌==◌, ◌<◌, ◌≤◌, ◌⊎◌, inl, inr, ℕ, Bool, true, false, ◌||◌, List, [], ◌∷◌, All, Contains, Some, refl, ap, sym, ◌∙◌, subst, arith}
+use Rattle.std.proofs.Common.{◌≡◌, ◌==◌, ◌⊎◌, inl, inr, ℕ, Bool, true, false, ◌||◌, List, [], ◌∷◌, Contains, Some, refl, ap, sym, ◌∙◌, subst, arith}
 use Rattle.std.proofs.lemmas.Bool.{or_cases, or_left, or_right}
 use Rattle.std.specs.List.{list_any, flat_map}
-use Rattle.wi_values.specs.Address.{Area, is_within}
 use Rattle.wi_values.specs.declared.replacement.Replacement.{Replacement}
 use Rattle.wi_parser.specs.Tree.{Tree}
 use Rattle.wi_parser.specs.Leaves.{Leaf, cell_leaf, rectangle_leaf, what_if_leaf, leaves}
-use Rattle.wi_parser.specs.Reads.{leaf_reads, reads, content_reads, leaf_inputs, inputs_of, rectangles_of}
+use Rattle.wi_parser.specs.Reads.{leaf_reads, content_reads, leaf_inputs}
 use Rattle.wi_parser.specs.declared.content.Content.TheVariants.{Formula}
 use Rattle.wi_parser.specs.Sheet.{Sheet, content_of, put_all, has_formula}
-use Rattle.wi_parser.proofs.Rectangles.{reads_within}
 use Rattle.wi_cache.specs.declared.key.Key.{Key}
 use Rattle.wi_graph.proofs.ReachSteps.{reaches_read}
 use Rattle.wi_graph.proofs.Walks.{same_cell}
 use Rattle.wi_sheet.specs.Demand.{Case, case_of, reaching, with_what_if, leaf_reads_here, reads_here, leaf_what_ifs, what_ifs_of}
-use Rattle.wi_sheet.specs.Inner.Rank.{reach_rank}
-use Rattle.wi_sheet.specs.Inner.Spending.{RestsOn, IsClosed}
+use Rattle.wi_sheet.specs.Inner.Spending.{RestsOn}
 use Rattle.wi_sheet.proofs.Bounds.{put_formula, put_reads, tree_reads}
 use Rattle.wi_sheet.proofs.Members.{IsIn, contains_in}
 use Rattle.wi_sheet.proofs.Overrides.{puts_as_map}
@@ -23,7 +20,7 @@ use Rattle.wi_sheet.proofs.Ranks.{rank_falls}
 use Rattle.wi_sheet.proofs.SmallerWorlds.{content_below, reaching_below}
 use Rattle.wi_sheet.proofs.Wants.{rests_on_read, rests_on_what_if}
 use Rattle.wi_engine.specs.Inner.MemoState.{MemoState, IsMemoOf}
-use Rattle.wi_engine.specs.Inner.Frames.{case_at, IsFormulaKey, IsDemanded, MayBeRead, StandsAt}
+use Rattle.wi_engine.specs.Inner.Frames.{case_at, IsFormulaKey, StandsAt}
 use Rattle.wi_engine.specs.Inner.Plans.{ReadsPlainly, IsBelow, IsWanted, AreReadsWanted, IsReader}
 use Rattle.wi_engine.proofs.engine.NextCases.{may_be_read}
 

@@ -1,19 +1,17 @@
 -- One value of a plan after another.
-use Rattle.std.proofs.Common.{◌≡◌, ◌<◌, ◌≤◌, ◌+◌, ◌⊎◌, inl, inr, ◌||◌, ℕ, Bool, true, false, List, Contains, is_some, refl, ap, sym, ◌∙◌, subst, arith}
-use Rattle.std.proofs.lemmas.Bool.{or_from, or_left, or_right, true≢false}
+use Rattle.std.proofs.Common.{◌≡◌, ◌<◌, ◌⊎◌, inl, inr, ◌||◌, ℕ, Bool, true, false, List, Contains, is_some, refl, ap, sym, ◌∙◌, subst, arith}
+use Rattle.std.proofs.lemmas.Bool.{or_from, true≢false}
 use Rattle.wi_values.specs.declared.value.Value.{Value}
 use Rattle.wi_values.specs.declared.replacement.Replacement.{Replacement}
 use Rattle.wi_parser.specs.Sheet.{Sheet}
 use Rattle.wi_functions.specs.Counts.{Counts}
 use Rattle.wi_cache.specs.declared.key.Key.{Key}
-use Rattle.wi_sheet.specs.Demand.{Case, reaching, wants}
-use Rattle.wi_sheet.specs.Inner.Spending.{IsClosed, NeverFall}
+use Rattle.wi_sheet.specs.Demand.{Case, reaching}
 use Rattle.wi_sheet.specs.Inner.Rank.{reach_rank}
 use Rattle.wi_sheet.proofs.CaseCosts.{spent_none, spent_then}
 use Rattle.wi_engine.specs.Inner.MemoState.{MemoState, IsMemoOf}
-use Rattle.wi_engine.specs.Inner.Frames.{case_at, IsUnvaluedKey, IsUnvalued, spare}
+use Rattle.wi_engine.specs.Inner.Frames.{case_at, IsUnvaluedKey, IsUnvalued}
 use Rattle.wi_engine.specs.Inner.Begins.{MayBegin}
-use Rattle.wi_engine.specs.Inner.Saving.{Remembers}
 use Rattle.wi_engine.specs.Inner.Spends.{Spends}
 use Rattle.wi_engine.specs.Inner.Planned.{Adds, SpendsOnKept, IsPlannedFrame, IsValued, IsWaiting, GoesAhead, HandsOver}
 use Rattle.wi_engine.specs.Inner.Plans.{IsBelow, IsStanding, IsWanted}

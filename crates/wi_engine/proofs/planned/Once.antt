@@ -1,5 +1,5 @@
 -- What one evaluation of a frame's formula leaves.
-use Rattle.std.proofs.Common.{◌≡◌, ◌≤◌, ◌+◌, ◌⊎◌, inl, inr, ◌||◌, ◌&&◌, ◌==◌, ℕ, Bool, true, List, [], Option, Some, None, IfSome, is_some, Result, Ok, Err, OnErr, refl, ap, sym, ◌∙◌, arith}
+use Rattle.std.proofs.Common.{◌≡◌, ◌⊎◌, inl, inr, ◌==◌, ℕ, true, List, Option, Some, None, IfSome, is_some, Result, Ok, Err, OnErr, refl, ap, sym, ◌∙◌, arith}
 use Rattle.std.proofs.lemmas.Bool.{and_parts, or_cases, or_right}
 use Rattle.wi_values.specs.declared.value.Value.{Value}
 use Rattle.wi_values.specs.declared.replacement.Replacement.{Replacement}
@@ -12,7 +12,7 @@ use Rattle.wi_sheet.specs.Inner.Spending.{NeverFall}
 use Rattle.wi_sheet.proofs.Cases.{same_case-refl}
 use Rattle.wi_engine.specs.Inner.MemoState.{MemoState, IsMemoOf}
 use Rattle.wi_engine.specs.Inner.Attempts.{IsValueAt}
-use Rattle.wi_engine.specs.Inner.Frames.{case_at, spare, waits}
+use Rattle.wi_engine.specs.Inner.Frames.{case_at, waits}
 use Rattle.wi_engine.specs.Inner.Begins.{MayBegin}
 use Rattle.wi_engine.specs.Inner.Keeps.{Keeps, HasKept}
 use Rattle.wi_engine.specs.Inner.Steps.{FrameWaits, IsFrameValue}

@@ -1,6 +1,6 @@
 -- A run of frames goes on after a plan's values were found for the frame on top, or with a frame that was handed over.
-use Rattle.std.proofs.Common.{◌≡◌, ◌<◌, ◌≤◌, ◌+◌, ◌*◌, ◌⊎◌, inl, inr, ◌||◌, ℕ, Bool, true, false, List, [], ◌∷◌, ◌++◌, length, Contains, is_some, refl, ap, sym, ◌∙◌, subst, arith}
-use Rattle.std.proofs.lemmas.Bool.{or_cases, or_left, or_right, true≢false}
+use Rattle.std.proofs.Common.{◌≡◌, ◌<◌, ◌≤◌, ◌+◌, ◌⊎◌, inl, inr, ℕ, Bool, true, false, List, [], ◌∷◌, ◌++◌, Contains, is_some, refl, sym, ◌∙◌, subst, arith}
+use Rattle.std.proofs.lemmas.Bool.{or_cases, or_right, true≢false}
 use Rattle.wi_values.specs.declared.replacement.Replacement.{Replacement}
 use Rattle.wi_parser.specs.Sheet.{Sheet}
 use Rattle.wi_functions.specs.Counts.{Counts}
@@ -15,7 +15,6 @@ use Rattle.wi_engine.specs.Inner.MemoState.{MemoState, IsMemoOf}
 use Rattle.wi_engine.specs.Inner.Begins.{MayBegin}
 use Rattle.wi_engine.specs.Inner.Frames.{case_at, IsFrame, IsBegun, IsStack, spare}
 use Rattle.wi_engine.specs.Inner.Planned.{GoesAhead, HandsOver}
-use Rattle.wi_engine.specs.Inner.Saving.{KeepsFound, not_kept}
 use Rattle.wi_engine.specs.Inner.SettledFrames.{IsFrameSettled}
 use Rattle.wi_engine.specs.Inner.Spends.{Saved}
 use Rattle.wi_engine.specs.declared.frame.Frame.{Frame}

@@ -1,5 +1,4 @@
-use Rattle.std.proofs.Common.{◌≡◌, Some, sym, ap, ◌∙◌}
-use Rattle.wi_values.specs.declared.replacement.Replacement.{Replacement}
+use Rattle.std.proofs.Common.{ap, ◌∙◌}
 use Rattle.wi_parser.specs.Sheet.{content_of, put_all}
 use Rattle.wi_engine.proofs.places.Standing.{place_at}
 use Rattle.wi_engine.proofs.places.Wanted.{reads_wanted, wanted_reader}

@@ -1,4 +1,4 @@
-use Rattle.std.proofs.Common.{◌∙◌, List, sym, ap}
+use Rattle.std.proofs.Common.{◌∙◌, List, sym, ap, rules}
 use Rattle.std.specs.List.{list_any}
 use Rattle.wi_values.specs.Address.{Area, is_within}
 use Rattle.wi_parser.proofs.Rectangles.{reads_within}

@@ -1,6 +1,5 @@
-use Rattle.std.proofs.Common.{◌≡◌, ◌∙◌, refl, ap, sym, subst}
+use Rattle.std.proofs.Common.{refl, ap}
 use Rattle.wi_functions.specs.Counts.{Counts}
-use Rattle.wi_engine.specs.Inner.MemoState.{MemoState}
 use Rattle.wi_engine.proofs.Ledger.{spends_none}
 use Rattle.wi_engine.proofs.engine.Steps.{counts_done, counts_want}
 use Rattle.wi_engine.proofs.engine.Ends.{going_start, going_stopped, turn_same, turn_kept, comes_back}

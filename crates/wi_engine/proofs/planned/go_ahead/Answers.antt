@@ -1,4 +1,4 @@
-use Rattle.std.proofs.Common.{◌≡◌, refl, sym, subst, List}
+use Rattle.std.proofs.Common.{refl, sym, subst, List}
 use Rattle.wi_engine.specs.Inner.Plans.{ArePlacesOf}
 use Rattle.wi_engine.specs.declared.places.Place.{Place}
 use Rattle.wi_engine.proofs.Ledger.{spends_none}

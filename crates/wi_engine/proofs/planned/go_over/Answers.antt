@@ -1,5 +1,4 @@
-use Rattle.std.proofs.Common.{◌≡◌, ◌∙◌, refl, rules, sym, subst}
-use Rattle.wi_engine.specs.Inner.MemoState.{MemoState}
+use Rattle.std.proofs.Common.{refl, rules}
 use Rattle.wi_engine.specs.Inner.Frames.{case_at}
 use Rattle.wi_engine.proofs.Ledger.{spends_weaken}
 use Rattle.wi_engine.proofs.engine.FrameRuns.{IsNew}

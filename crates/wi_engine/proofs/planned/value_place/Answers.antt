@@ -1,11 +1,9 @@
-use Rattle.std.proofs.Common.{◌≡◌, ◌∙◌, refl, ap, sym, subst}
+use Rattle.std.proofs.Common.{◌∙◌, refl, sym, subst}
 use Rattle.wi_parser.specs.Sheet.{Sheet}
 use Rattle.wi_engine.specs.Inner.MemoState.{MemoState, IsMemoOf}
 use Rattle.wi_engine.specs.Inner.Begins.{MayBegin}
-use Rattle.wi_engine.specs.Inner.Frames.{MayBeRead, IsUnvaluedFormula, case_at}
-use Rattle.wi_engine.specs.Inner.Planned.{IsPlannedFrame, IsValued, IsWaiting}
+use Rattle.wi_engine.specs.Inner.Frames.{MayBeRead, case_at}
 use Rattle.wi_engine.specs.Inner.Plans.{ArePlacesOf}
-use Rattle.wi_engine.specs.Inner.Spends.{Spends}
 use Rattle.wi_engine.proofs.Ledger.{spends_none}
 use Rattle.wi_engine.proofs.engine.FrameRuns.{IsNew}
 use Rattle.wi_engine.proofs.places.Standing.{place_at, places_more, shown_stands}
