@@ -7,7 +7,7 @@ ghost use Rattle.wi_parser.specs.Sheet.{Sheet, content_of, put_all};
 ghost use Rattle.wi_sheet.specs.Demand.{Case};
 ghost use Rattle.wi_engine.specs.Inner.MemoState.{MemoState, IsMemoOf};
 ghost use Rattle.wi_engine.specs.Inner.Planned.{IsPlannedFrame};
-ghost use Rattle.wi_engine.specs.Inner.Plans.{AreReadsWanted, ArePlacesOf, IsPlaceOf, IsWanted, ReadsPlainly};
+ghost use Rattle.wi_engine.specs.Inner.Plans.{AreReadsNeeded, ArePlacesOf, IsPlaceOf, IsNeeded, ReadsPlainly};
 
 use crate::frame::Frame;
 use crate::plan::Planned;
@@ -41,7 +41,7 @@ impl<'a> Place<'a> {
     /// The cell, where a formula needs its value and nothing more is known.
     fn needed(&self) -> Option<Address>
         ensures { (s : Sheet) (m : MemoState) (root : Case) → IsPlaceOf s m root self.now
-            → IfSome result (λ a. (a ≡ self.now.at) × IsWanted s m root a) }
+            → IfSome result (λ a. (a ≡ self.now.at) × IsNeeded s m root a) }
     {
         match &self.state {
             State::Unneeded => None,
@@ -54,7 +54,7 @@ impl<'a> Place<'a> {
     /// The formula that may have to be evaluated.
     pub fn opened(&self) -> Option<&'a Formula>
         ensures { (s : Sheet) (m : MemoState) (root : Case) → IsPlaceOf s m root self.now
-            → IfSome result (λ f. IsWanted s m root self.now.at
+            → IfSome result (λ f. IsNeeded s m root self.now.at
             × (content_of (put_all s root.1) self.now.at ≡ Some (Content.Formula f.now))) }
     {
         match &self.state {
@@ -112,7 +112,7 @@ pub fn put<'a>(places: &mut [Place<'a>], at: usize, place: Place<'a>)
 
 /// Marks a place whose cell a formula reads, if it has no mark yet.
 fn need<'a>(formula: &Formula, at: usize, places: &mut [Place<'a>])
-    ensures { (s : Sheet) (m : MemoState) (root : Case) → AreReadsWanted s m root formula.now
+    ensures { (s : Sheet) (m : MemoState) (root : Case) → AreReadsNeeded s m root formula.now
         → ArePlacesOf s m root places.old → ArePlacesOf s m root places.new }
 {
     let Some(place) = places.get(at) else {
@@ -129,7 +129,7 @@ fn need<'a>(formula: &Formula, at: usize, places: &mut [Place<'a>])
 
 /// Marks those of some places whose cells a formula reads. The work grows with their count, and with that of its rectangles.
 pub fn need_all<'a>(formula: &Formula, reads: &[usize], places: &mut [Place<'a>])
-    ensures { (s : Sheet) (m : MemoState) (root : Case) → AreReadsWanted s m root formula.now
+    ensures { (s : Sheet) (m : MemoState) (root : Case) → AreReadsNeeded s m root formula.now
         → ArePlacesOf s m root places.old → ArePlacesOf s m root places.new }
 {
     for read in reads {

@@ -19,7 +19,7 @@ use Rattle.wi_engine.specs.Inner.Frames.{case_at}
 use Rattle.wi_engine.specs.Inner.Saving.{KeepsFound, not_kept}
 use Rattle.wi_engine.specs.Inner.SettledFrames.{IsFrameSettled}
 use Rattle.wi_engine.specs.Inner.Planned.{IsPlannedFrame}
-use Rattle.wi_engine.specs.Inner.Plans.{ReadsPlainly, IsAtHand, IsStanding}
+use Rattle.wi_engine.specs.Inner.Plans.{ReadsPlainly, IsSpared, IsStanding}
 use Rattle.wi_engine.specs.declared.frame.Frame.{Frame}
 use Rattle.wi_engine.proofs.engine.NextValues.{cell_found_frame}
 use Rattle.wi_engine.proofs.engine.SettledFindings.{IsSettledFor, frame_cell}
@@ -39,7 +39,7 @@ module _ {s : Sheet} {m : MemoState} {root : Case} {f g : Frame} {a : ℕ} {v x 
   right : x ≡ cell_value (put_all s f.key.world) a
   right = is ∙ st.value ∙ sym (value_below s f.key.cell a root.1 reached) ∙ ap (λ (w : List Replacement). cell_value (put_all s w) a) (sym p.world)
 
-  there : (ks : List Case) → Contains ks (case_at f.key) → KeepsFound m → not_kept m ks ≤ m.room → IsAtHand s m root.1 a → IsSettled s m.kept f.key.world a
+  there : (ks : List Case) → Contains ks (case_at f.key) → KeepsFound m → not_kept m ks ≤ m.room → IsSpared s m root.1 a → IsSettled s m.kept f.key.world a
   there ks top whole room (inl i) = inl (ap (λ (o : Option Content). has_formula o) same_content ∙ i)
   there ks top whole room (inr (inl i)) = inr (ap (m.kept a) same_world ∙ whole a (reaching s a root.1) i)
   there ks top whole room (inr (inr i)) =
@@ -47,7 +47,7 @@ module _ {s : Sheet} {m : MemoState} {root : Case} {f g : Frame} {a : ℕ} {v x 
       inr (ap (m.kept a) same_world ∙ i (omega (arith, one, room)))
 
   settled : (ks : List Case) → Contains ks (case_at f.key) → KeepsFound m → not_kept m ks ≤ m.room → IsFrameSettled s m.kept f → IsFrameSettled s m.kept g
-  settled ks top whole room k = subst (λ (j : Key). IsSettledFor s m.kept j g.found) (sym key) (frame_cell s m.kept f g.found a x more (there ks top whole room st.at_hand) k)
+  settled ks top whole room k = subst (λ (j : Key). IsSettledFor s m.kept j g.found) (sym key) (frame_cell s m.kept f g.found a x more (there ks top whole room st.spared) k)
 
   pub supplied : IsPlannedFrame s m root g
   supplied = record {

@@ -14,7 +14,7 @@ use Rattle.wi_engine.specs.Inner.Frames.{case_at, IsUnvaluedKey, IsUnvalued}
 use Rattle.wi_engine.specs.Inner.Begins.{MayBegin}
 use Rattle.wi_engine.specs.Inner.Spends.{Spends}
 use Rattle.wi_engine.specs.Inner.Planned.{Adds, SpendsOnKept, IsPlannedFrame, IsValued, IsWaiting, GoesAhead, HandsOver}
-use Rattle.wi_engine.specs.Inner.Plans.{IsBelow, IsStanding, IsWanted}
+use Rattle.wi_engine.specs.Inner.Plans.{StandsBelow, IsStanding, IsNeeded}
 use Rattle.wi_engine.specs.declared.frame.Frame.{Frame}
 use Rattle.wi_engine.proofs.Places.{remembers_itself, remembers_then}
 use Rattle.wi_engine.proofs.Ledger.{spends_none, spends_closed, spends_then}
@@ -45,13 +45,13 @@ adds_weaken f h = record { found = λ c w i. weaker (f c) (h.found c w i); known
 -- ---- what is spent
 
 -- a case below the root is in each list that has the root
-spends_below : {s : Sheet} {root k : Case} {m n : MemoState} {a b : Counts} {done : Bool} → IsBelow s root k → Spends s (λ ks. Contains ks k) m n a b done → Spends s (λ ks. Contains ks root) m n a b done
+spends_below : {s : Sheet} {root k : Case} {m n : MemoState} {a b : Counts} {done : Bool} → StandsBelow s root k → Spends s (λ ks. Contains ks k) m n a b done → Spends s (λ ks. Contains ks root) m n a b done
 spends_below h k = spends_closed (λ ks closed top. h.demanded ks closed top) k
 
 kept_none : {s : Sheet} {root : Case} {m : MemoState} {a : Counts} → SpendsOnKept s root m m a a
 kept_none {s} {root} {m} {a} = λ ks closed top whole room. λ qs others there. spent_none s m.kept a true qs
 
-kept_below : {s : Sheet} {root k : Case} {m n : MemoState} {a b : Counts} → IsBelow s root k → SpendsOnKept s k m n a b → SpendsOnKept s root m n a b
+kept_below : {s : Sheet} {root k : Case} {m n : MemoState} {a b : Counts} → StandsBelow s root k → SpendsOnKept s k m n a b → SpendsOnKept s root m n a b
 kept_below below h = λ ks closed top whole room. λ qs others there. h ks closed (below.demanded ks closed top) whole room qs others (below.demanded qs others there)
 
 module _ {s : Sheet} {root : Case} {m n : MemoState} {a b : Counts} (h : GoesAhead s root m n a b) where
@@ -77,7 +77,7 @@ ahead_none {s} {root} {m} {n} {a} memo e =
 -- ---- one formula
 
 module _ {s : Sheet} {root : Case} {m n : MemoState} {a b : Counts} where
-  pub ahead_valued : {k : Key} {v : Value} → IsBelow s root (case_at k) → IsValued s m n k a b v → GoesAhead s root m n a b
+  pub ahead_valued : {k : Key} {v : Value} → StandsBelow s root (case_at k) → IsValued s m n k a b v → GoesAhead s root m n a b
   ahead_valued {k} {v} below h = record {
     spends = spends_below below h.spends;
     on_kept = kept_below below h.on_kept;
@@ -85,10 +85,10 @@ module _ {s : Sheet} {root : Case} {m n : MemoState} {a b : Counts} where
     adds = adds_weaken (λ c e. subst (λ (d : ℕ). reach_rank s d < reach_rank s root.0) (sym e) below.lower) h.adds;
   }
 
-  pub spent_below : {k : Key} → IsBelow s root (case_at k) → Spends s (λ ks. Contains ks (case_at k)) m n a b false → Spends s (λ ks. Contains ks root) m n a b false
+  pub spent_below : {k : Key} → StandsBelow s root (case_at k) → Spends s (λ ks. Contains ks (case_at k)) m n a b false → Spends s (λ ks. Contains ks root) m n a b false
   spent_below below h = spends_below below h
 
-  pub hands_waiting : {f g : Frame} → IsMemoOf s m → MayBegin s m f → IsBelow s root (case_at f.key) → IsWaiting s m n f a b g → HandsOver s root m n a b g
+  pub hands_waiting : {f g : Frame} → IsMemoOf s m → MayBegin s m f → StandsBelow s root (case_at f.key) → IsWaiting s m n f a b g → HandsOver s root m n a b g
   hands_waiting {f} {g} memo begins below h =
       let more = h.restarts in
       let few = spare_any s f in
@@ -111,13 +111,13 @@ valued_stands {s} {m} {n} {w} {c} {k} {j} {a} {b} {v} u e h =
     let there : IsValued s m n k a b v = rw e at h in
     record {
       value = unvalued_value u v there.value;
-      at_hand = inr (inl (subst (λ (i : Case). n.found i.0 i.1 ≡ true) (sym (unvalued_case s m w c k u)) there.found));
+      spared = inr (inl (subst (λ (i : Case). n.found i.0 i.1 ≡ true) (sym (unvalued_case s m w c k u)) there.found));
     }
 
 -- and its case is below the root
-pub below_unvalued : {s : Sheet} {m : MemoState} {root : Case} {c : ℕ} {k j : Key} → IsWanted s m root c → IsUnvalued s m root.1 c k → j ≡ k → IsBelow s root (case_at j)
-below_unvalued {s} {m} {root} {c} {k} {j} wanted u e =
-    let here : IsBelow s root (case_at k) = subst (λ (i : Case). IsBelow s root i) (unvalued_case s m root.1 c k u) (wanted.below u.formula) in
+pub below_unvalued : {s : Sheet} {m : MemoState} {root : Case} {c : ℕ} {k j : Key} → IsNeeded s m root c → IsUnvalued s m root.1 c k → j ≡ k → StandsBelow s root (case_at j)
+below_unvalued {s} {m} {root} {c} {k} {j} needed u e =
+    let here : StandsBelow s root (case_at k) = subst (λ (i : Case). StandsBelow s root i) (unvalued_case s m root.1 c k u) (needed.below u.formula) in
     rw e here
 
 -- a frame with no values yet, for such a key

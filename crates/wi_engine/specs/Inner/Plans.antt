@@ -23,21 +23,21 @@ pub record ReadsPlainly (t : Tree) (a : ℕ) : Type 0 where
   pub read : reads t a ≡ true
 
 -- a case that is demanded for the root, of a cell below it
-pub record IsBelow (s : Sheet) (root k : Case) : Type 0 where
+pub record StandsBelow (s : Sheet) (root k : Case) : Type 0 where
   pub demanded : IsDemanded s root k
   pub lower : reach_rank s k.0 < reach_rank s root.0
 
 -- a cell that may be valued, and whose case is demanded where it has a formula under the root's replacements
-pub record IsWanted (s : Sheet) (m : MemoState) (root : Case) (a : ℕ) : Type 0 where
+pub record IsNeeded (s : Sheet) (m : MemoState) (root : Case) (a : ℕ) : Type 0 where
   pub read : MayBeRead s m a
-  pub below : has_formula (content_of (put_all s root.1) a) ≡ true → IsBelow s root (case_of s root.1 a)
+  pub below : has_formula (content_of (put_all s root.1) a) ≡ true → StandsBelow s root (case_of s root.1 a)
 
 -- and so is each cell that this formula reads
-abbrev pub AreReadsWanted : Sheet → MemoState → Case → Tree → Type 0
-AreReadsWanted s m root t = (d : ℕ) → ReadsPlainly t d → IsWanted s m root d
+abbrev pub AreReadsNeeded : Sheet → MemoState → Case → Tree → Type 0
+AreReadsNeeded s m root t = (d : ℕ) → ReadsPlainly t d → IsNeeded s m root d
 
--- the formula of a cell that is valued for the root: of a wanted one, or of the root itself
-pub record IsReader (s : Sheet) (m : MemoState) (root : Case) (c : ℕ) (t : Tree) : Type 0 where
+-- the formula of a cell that is valued for the root: of a needed one, or of the root itself
+pub record ReadsForRoot (s : Sheet) (m : MemoState) (root : Case) (c : ℕ) (t : Tree) : Type 0 where
   pub open_cell : circular s c ≡ false
   pub covered : m.covers c ≡ true
   pub stands : content_of (put_all s root.1) c ≡ Some (stored.TheVariants.Formula t)
@@ -45,19 +45,19 @@ pub record IsReader (s : Sheet) (m : MemoState) (root : Case) (c : ℕ) (t : Tre
   pub no_higher : reach_rank s c ≤ reach_rank s root.0
 
 -- no formula has to be evaluated for a cell: it has none, or its value was found, or it is kept as long as there is room
-abbrev pub IsAtHand : Sheet → MemoState → List Replacement → ℕ → Type 0
-IsAtHand s m w a = (has_formula (content_of (put_all s w) a) ≡ false) ⊎ ((m.found a (reaching s a w) ≡ true) ⊎ (1 ≤ m.room → m.kept a (reaching s a w) ≡ true))
+abbrev pub IsSpared : Sheet → MemoState → List Replacement → ℕ → Type 0
+IsSpared s m w a = (has_formula (content_of (put_all s w) a) ≡ false) ⊎ ((m.found a (reaching s a w) ≡ true) ⊎ (1 ≤ m.room → m.kept a (reaching s a w) ≡ true))
 
 -- a cell's value under replacements
 pub record IsStanding (s : Sheet) (m : MemoState) (w : List Replacement) (a : ℕ) (v : Value) : Type 0 where
   pub value : v ≡ cell_value (put_all s w) a
-  pub at_hand : IsAtHand s m w a
+  pub spared : IsSpared s m w a
 
 -- how far a cell has come
 abbrev pub IsStateOf : Sheet → MemoState → Case → ℕ → State → Type 0
 IsStateOf s m root a Unneeded = Unit {0}
-IsStateOf s m root a Needed = IsWanted s m root a
-IsStateOf s m root a (Opened f) = IsWanted s m root a × (content_of (put_all s root.1) a ≡ Some (stored.TheVariants.Formula f.now))
+IsStateOf s m root a Needed = IsNeeded s m root a
+IsStateOf s m root a (Opened f) = IsNeeded s m root a × (content_of (put_all s root.1) a ≡ Some (stored.TheVariants.Formula f.now))
 IsStateOf s m root a (Known v) = IsStanding s m root.1 a v
 
 abbrev pub IsPlaceOf : Sheet → MemoState → Case → Place → Type 0

@@ -1,9 +1,9 @@
 use Rattle.wi_parser.specs.Sheet.{Sheet}
 use Rattle.wi_sheet.specs.Demand.{Case}
 use Rattle.wi_engine.specs.Inner.MemoState.{MemoState}
-use Rattle.wi_engine.specs.Inner.Plans.{AreReadsWanted, ArePlacesOf}
+use Rattle.wi_engine.specs.Inner.Plans.{AreReadsNeeded, ArePlacesOf}
 use Rattle.wi_engine.proofs.places.need_all.Given as goal
 
 -- all places are right still
 abbrev pub invariant-loop-read : goal.invariant-loop-read
-invariant-loop-read l = (s : Sheet) (m : MemoState) (root : Case) → AreReadsWanted s m root l.formula → ArePlacesOf s m root l.fn.places → ArePlacesOf s m root l.places
+invariant-loop-read l = (s : Sheet) (m : MemoState) (root : Case) → AreReadsNeeded s m root l.formula → ArePlacesOf s m root l.fn.places → ArePlacesOf s m root l.places

@@ -1,7 +1,7 @@
 use Rattle.std.proofs.Common.{ap, ◌∙◌}
 use Rattle.wi_parser.specs.Sheet.{content_of, put_all}
 use Rattle.wi_engine.proofs.places.Standing.{place_at}
-use Rattle.wi_engine.proofs.places.Wanted.{reads_wanted, wanted_reader}
+use Rattle.wi_engine.proofs.places.Needs.{reads_needed, needed_reader}
 use Rattle.wi_engine.proofs.places.open_one.Goals as goal
 
 pub returns-in_default : goal.returns-in_default
@@ -17,6 +17,6 @@ pub returns : goal.returns
 returns c = λ m root e memo h.
     let s = c.args.store.now.sheet in
     let place = place_at c.args.places.now c.args.at c.in-Some.place.now h c.in-Some.ensures.lookup.3.0 c.in-Some.ensures.lookup.1 in
-    let wanted = (c.in-Some-needed.ensures s m root place).1 in
+    let needed = (c.in-Some-needed.ensures s m root place).1 in
     let stands = ap (λ w. content_of (put_all s w) c.in-Some-needed.cell) e ∙ c.in-Some-formula_in.ensures.found in
-    c.put.ensures s m root (wanted, stands) (c.need_all.ensures s m root (reads_wanted (wanted_reader wanted stands) memo) h)
+    c.put.ensures s m root (needed, stands) (c.need_all.ensures s m root (reads_needed (needed_reader needed stands) memo) h)

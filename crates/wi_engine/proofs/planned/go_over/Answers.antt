@@ -3,7 +3,7 @@ use Rattle.wi_engine.specs.Inner.Frames.{case_at}
 use Rattle.wi_engine.proofs.Ledger.{spends_weaken}
 use Rattle.wi_engine.proofs.engine.FrameRuns.{IsNew}
 use Rattle.wi_engine.proofs.engine.RunsWithRoom.{begins_new}
-use Rattle.wi_engine.proofs.places.Wanted.{reads_wanted, root_reader}
+use Rattle.wi_engine.proofs.places.Needs.{reads_needed, root_reader}
 use Rattle.wi_engine.proofs.planned.Ahead.{planned_root, unvalued_still}
 use Rattle.wi_engine.proofs.planned.Once.{on_err}
 use Rattle.wi_engine.proofs.planned.go_over.Goals as goal
@@ -16,7 +16,7 @@ value_all-requires-clause-places g c =
     let s = c.args.store.now.sheet in
     let m = g.M.Memo.state c.args.question.now.memo in
     let root = case_at c.args.frame.now.key in
-    let marked = c.need_all.ensures s m root (reads_wanted (root_reader c.requires.key.key c.requires.formula) c.requires.memo) (c.requires.places s m root) in
+    let marked = c.need_all.ensures s m root (reads_needed (root_reader c.requires.key.key c.requires.formula) c.requires.memo) (c.requires.places s m root) in
     c.open_all.ensures m root refl c.requires.memo marked
 
 pub returns-in-Some-clause-ahead : goal.returns-in-Some-clause-ahead

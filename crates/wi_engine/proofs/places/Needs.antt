@@ -1,4 +1,4 @@
--- What a formula reads that is valued for a root is wanted for it.
+-- What a formula reads that is valued for a root is needed for it.
 use Rattle.std.proofs.Common.{◌≡◌, ◌==◌, ◌⊎◌, inl, inr, ℕ, Bool, true, false, ◌||◌, List, [], ◌∷◌, Contains, Some, refl, ap, sym, ◌∙◌, subst, arith}
 use Rattle.std.proofs.lemmas.Bool.{or_cases, or_left, or_right}
 use Rattle.std.specs.List.{list_any, flat_map}
@@ -21,7 +21,7 @@ use Rattle.wi_sheet.proofs.SmallerWorlds.{content_below, reaching_below}
 use Rattle.wi_sheet.proofs.Wants.{rests_on_read, rests_on_what_if}
 use Rattle.wi_engine.specs.Inner.MemoState.{MemoState, IsMemoOf}
 use Rattle.wi_engine.specs.Inner.Frames.{case_at, IsFormulaKey, StandsAt}
-use Rattle.wi_engine.specs.Inner.Plans.{ReadsPlainly, IsBelow, IsWanted, AreReadsWanted, IsReader}
+use Rattle.wi_engine.specs.Inner.Plans.{ReadsPlainly, StandsBelow, IsNeeded, AreReadsNeeded, ReadsForRoot}
 use Rattle.wi_engine.proofs.engine.NextCases.{may_be_read}
 
 -- ---- a cell that is read is read as the sheet stands, or is that of a what-if without inputs
@@ -71,12 +71,12 @@ rests_plainly s k t d e h f = at (plain_in (leaves t) d h.inputs h.read)
 
 -- ---- what is read by a formula that is valued for the root
 
-module _ {s : Sheet} {m : MemoState} {root : Case} {c : ℕ} {t : Tree} (r : IsReader s m root c t) where
+module _ {s : Sheet} {m : MemoState} {root : Case} {c : ℕ} {t : Tree} (r : ReadsForRoot s m root c t) where
   reads_it : (d : ℕ) → ReadsPlainly t d → content_reads (content_of s c) d ≡ true
   reads_it d h = put_reads s root.1 c d (tree_reads (put_all s root.1) c t d r.stands h.read)
 
-  wanted_below : (d : ℕ) → ReadsPlainly t d → has_formula (content_of (put_all s root.1) d) ≡ true → IsBelow s root (case_of s root.1 d)
-  wanted_below d h f =
+  needed_below : (d : ℕ) → ReadsPlainly t d → has_formula (content_of (put_all s root.1) d) ≡ true → StandsBelow s root (case_of s root.1 d)
+  needed_below d h f =
       let reached = reaches_read s c d (reads_it d h) in
       let below = reaching_below s c d root.1 reached in
       let here = content_below s c root.1 ∙ r.stands in
@@ -89,12 +89,12 @@ module _ {s : Sheet} {m : MemoState} {root : Case} {c : ℕ} {t : Tree} (r : IsR
         lower = omega (arith, lower, no_higher);
       }
 
-  pub reads_wanted : IsMemoOf s m → AreReadsWanted s m root t
-  reads_wanted memo = λ d h. record { read = may_be_read s m c d memo r.open_cell r.covered (reads_it d h); below = wanted_below d h }
+  pub reads_needed : IsMemoOf s m → AreReadsNeeded s m root t
+  reads_needed memo = λ d h. record { read = may_be_read s m c d memo r.open_cell r.covered (reads_it d h); below = needed_below d h }
 
 -- ---- whose formula is valued for the root: its own
 
-pub root_reader : {s : Sheet} {m : MemoState} {k : Key} {t : Tree} → IsFormulaKey s m k → StandsAt s k t → IsReader s m (case_at k) k.cell t
+pub root_reader : {s : Sheet} {m : MemoState} {k : Key} {t : Tree} → IsFormulaKey s m k → StandsAt s k t → ReadsForRoot s m (case_at k) k.cell t
 root_reader {s} {m} {k} {t} h stands = record {
   open_cell = h.open_cell;
   covered = h.covered;
@@ -103,9 +103,9 @@ root_reader {s} {m} {k} {t} h stands = record {
   no_higher = omega arith;
 }
 
--- and that of a wanted cell
-pub wanted_reader : {s : Sheet} {m : MemoState} {root : Case} {a : ℕ} {t : Tree} → IsWanted s m root a → content_of (put_all s root.1) a ≡ Some (Formula t) → IsReader s m root a t
-wanted_reader {s} {m} {root} {a} {t} h stands =
+-- and that of a needed cell
+pub needed_reader : {s : Sheet} {m : MemoState} {root : Case} {a : ℕ} {t : Tree} → IsNeeded s m root a → content_of (put_all s root.1) a ≡ Some (Formula t) → ReadsForRoot s m root a t
+needed_reader {s} {m} {root} {a} {t} h stands =
     let formula : has_formula (content_of (put_all s root.1) a) ≡ true = ap has_formula stands in
     let below = h.below formula in
     let lower = below.lower in
