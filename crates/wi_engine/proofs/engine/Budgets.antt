@@ -65,7 +65,7 @@ not_taken s m root f fs k st l u =
 
 -- ---- what is found besides what the frames find
 
-nothing : Table
+abbrev pub nothing : Table
 nothing c w = false
 
 or_assoc : (a b c : Bool) → ((a || b) || c) ≡ (a || (b || c))
@@ -152,10 +152,10 @@ module _ (s : Sheet) (found : Table) (ks : List Case) (fs : List Frame) (f : Fra
       NeverFall (at_most s after (g ∷ fs) next ks) bound
   budget_over after g next apart paid e less =
       let before = cost_same s (λ c w. found c w || taken nothing (f ∷ fs) c w) ks (taken found (f ∷ fs)) (taken_or found (f ∷ fs)) in
-      let then = cost_same s (λ c w. after c w || taken nothing (f ∷ fs) c w) ks (taken after (g ∷ fs)) (λ c w. ap (λ (x : Key). taken after fs c w || same_case (case_at x) (c, w)) e ∙ taken_or after (f ∷ fs) c w) in
+      let later = cost_same s (λ c w. after c w || taken nothing (f ∷ fs) c w) ks (taken after (g ∷ fs)) (λ c w. ap (λ (x : Key). taken after fs c w || same_case (case_at x) (c, w)) e ∙ taken_or after (f ∷ fs) c w) in
       let one = left_over (λ k. 1) found after (taken nothing (f ∷ fs)) ks apart in
       let other = left_over (wants s) found after (taken nothing (f ∷ fs)) ks apart in
-      (omega (arith, within.0, before.0, then.0, one, paid.0), omega (arith, within.1, before.1, then.1, other, paid.1, less))
+      (omega (arith, within.0, before.0, later.0, one, paid.0), omega (arith, within.1, before.1, later.1, other, paid.1, less))
 
   -- with a frame more, of which restarts were counted already
   pub budget_hands : (g : Frame) (next : Counts) → next.evaluations ≡ now.evaluations → next.restarts + spare s g ≤ now.restarts + wants s (case_at g.key) → taken found (f ∷ fs) g.key.cell g.key.world ≡ false → Contains ks (case_at g.key) →

@@ -26,12 +26,12 @@ shown_stands {s} {m} {w} {a} {v} memo h = record { value = h.value; spared = at 
     at (inr i) = inr (kept (or_cases (m.found a (reaching s a w)) (m.kept a (reaching s a w)) (sym (memo.told a (reaching s a w)) ∙ i)))
 
 -- what is so of all places is so of one
-pub place_at : {s : Sheet} {m : MemoState} {root : Case} (ps : List Place) (i : ℕ) (p : Place) → ArePlacesOf s m root ps → i < length ps → p ≡ get_or ps i p → IsPlaceOf s m root p
-place_at {s} {m} {root} ps i p h l e = subst (IsPlaceOf s m root) (sym e) (h i p l)
+pub place_at : (s : Sheet) (m : MemoState) (root : Case) (ps : List Place) (i : ℕ) (p : Place) → ArePlacesOf s m root ps → i < length ps → p ≡ get_or ps i p → IsPlaceOf s m root p
+place_at s m root ps i p h l e = subst (IsPlaceOf s m root) (sym e) (h i p l)
 
 -- ---- where more is remembered
 
-module _ {s : Sheet} {m n : MemoState} (more : Remembers m n) (less : n.room ≤ m.room) (covers : n.covers ≡ m.covers) where
+module _ (s : Sheet) {m n : MemoState} (more : Remembers m n) (less : n.room ≤ m.room) (covers : n.covers ≡ m.covers) where
   hand_more : (w : List Replacement) (a : ℕ) → IsSpared s m w a → IsSpared s n w a
   hand_more w a (inl i) = inl i
   hand_more w a (inr (inl i)) = inr (inl (more.found a (reaching s a w) i))

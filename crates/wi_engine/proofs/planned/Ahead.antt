@@ -6,7 +6,7 @@ use Rattle.wi_values.specs.declared.replacement.Replacement.{Replacement}
 use Rattle.wi_parser.specs.Sheet.{Sheet}
 use Rattle.wi_functions.specs.Counts.{Counts}
 use Rattle.wi_cache.specs.declared.key.Key.{Key}
-use Rattle.wi_sheet.specs.Demand.{Case, reaching}
+use Rattle.wi_sheet.specs.Demand.{Case, reaching, wants}
 use Rattle.wi_sheet.specs.Inner.Rank.{reach_rank}
 use Rattle.wi_sheet.proofs.CaseCosts.{spent_none, spent_then}
 use Rattle.wi_engine.specs.Inner.MemoState.{MemoState, IsMemoOf}
@@ -92,16 +92,17 @@ module _ {s : Sheet} {root : Case} {m n : MemoState} {a b : Counts} where
   hands_waiting {f} {g} memo begins below h =
       let more = h.restarts in
       let few = spare_any s f in
+      let same = ap (λ (j : Key). wants s (case_at j)) h.key in
       let alone : HandsOver s root m m a b g = record {
         mid = a;
         ahead = ahead_none memo refl;
         begun = record { frame = h.frame; unfound = rw h.key begins.unvalued.unfound; demanded = rw h.key below.demanded };
         unkept = rw h.key begins.unvalued.unkept;
         lower = rw h.key below.lower;
-        settled = rw h.key h.settled;
+        settled = λ ks closed top whole room. h.settled ks closed (subst (λ (j : Key). Contains ks (case_at j)) h.key top) whole room;
         rises = h.rises;
         evaluations = h.evaluations;
-        restarts = rw h.key (omega (arith, more, few));
+        restarts = omega (arith, more, few, same);
       } in
       rw h.same alone
 

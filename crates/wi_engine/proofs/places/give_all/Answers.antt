@@ -11,7 +11,7 @@ loop-read-preserved-in-Some c =
     record {
       key = c.in_ok-give-in-Some.ensures.key ∙ i.key;
       planned = λ s m root h p.
-          let place = place_at c.args.places.now c.read-item.result c.in-Some.place.now h c.in-Some.ensures.lookup.3.0 c.in-Some.ensures.lookup.1 in
+          let place = place_at s m root c.args.places.now c.read-item.result c.in-Some.place.now h c.in-Some.ensures.lookup.3.0 c.in-Some.ensures.lookup.1 in
           c.in_ok-give-in-Some.ensures.planned s m root place (i.planned s m root h p);
     }
 

@@ -19,14 +19,14 @@ remembered_value-requires-clause-memo g c = subst (λ (x : Sheet). IsMemoOf x (g
 pub remembered_value-requires-clause-read : goal.remembered_value-requires-clause-read
 remembered_value-requires-clause-read g c =
     let m = g.M.Memo.state c.args.question.now.memo in
-    let place = place_at c.args.places.now c.args.at c.in-Some.place.now c.requires.places c.in-Some.ensures.lookup.3.0 c.in-Some.ensures.lookup.1 in
+    let place = place_at c.args.store.now.sheet (g.M.Memo.state c.args.question.now.memo) (case_at c.args.root.now) c.args.places.now c.args.at c.in-Some.place.now c.requires.places c.in-Some.ensures.lookup.3.0 c.in-Some.ensures.lookup.1 in
     let opened = c.in-Some-opened.ensures c.args.store.now.sheet m (case_at c.args.root.now) place in
     subst (λ (x : Sheet). MayBeRead x m c.in-Some.place.now.at) (sym c.requires.memo.sheet) opened.0.read
 
 pub remembered_value-requires-clause-formula : goal.remembered_value-requires-clause-formula
 remembered_value-requires-clause-formula g c =
     let m = g.M.Memo.state c.args.question.now.memo in
-    let place = place_at c.args.places.now c.args.at c.in-Some.place.now c.requires.places c.in-Some.ensures.lookup.3.0 c.in-Some.ensures.lookup.1 in
+    let place = place_at c.args.store.now.sheet (g.M.Memo.state c.args.question.now.memo) (case_at c.args.root.now) c.args.places.now c.args.at c.in-Some.place.now c.requires.places c.in-Some.ensures.lookup.3.0 c.in-Some.ensures.lookup.1 in
     rw c.requires.memo.sheet (c.in-Some-opened.ensures c.args.store.now.sheet m (case_at c.args.root.now) place).1
 
 pub evaluate_once-requires-clause-memo : goal.evaluate_once-requires-clause-memo
@@ -75,7 +75,7 @@ pub returns-in-Valued-clause-ahead : goal.returns-in-Valued-clause-ahead
 returns-in-Valued-clause-ahead g c =
     let s = c.args.store.now.sheet in
     let m = g.M.Memo.state c.args.question.now.memo in
-    let place = place_at c.args.places.now c.args.at c.in-Some.place.now c.requires.places c.in-Some.ensures.lookup.3.0 c.in-Some.ensures.lookup.1 in
+    let place = place_at c.args.store.now.sheet (g.M.Memo.state c.args.question.now.memo) (case_at c.args.root.now) c.args.places.now c.args.at c.in-Some.place.now c.requires.places c.in-Some.ensures.lookup.3.0 c.in-Some.ensures.lookup.1 in
     let opened = c.in-Some-opened.ensures s m (case_at c.args.root.now) place in
     let u = rw (c.in-Unvalued.is, c.requires.memo.sheet) at c.in_ok-shown.ensures.asked in
     let tried = rw (c.in-Valued.is, c.in_ok-shown.ensures.same) at c.in_ok-value-in-Unvalued.ensures.tried in
@@ -88,7 +88,7 @@ returns-in-Valued-clause-places g c =
     let u = rw (c.in-Unvalued.is, c.requires.memo.sheet) at c.in_ok-shown.ensures.asked in
     let tried = rw (c.in-Valued.is, c.in_ok-shown.ensures.same) at c.in_ok-value-in-Unvalued.ensures.tried in
     let stands = valued_stands u.unvalued (c.in_ok-give_all-in-Unvalued.ensures.key ∙ c.new-frame.ensures.key) tried in
-    c.put-in-Valued.ensures s (g.M.Memo.state c.evaluate_once.new.question.memo) root stands (places_more tried.remembers tried.spends.gives_up.room tried.spends.same.covers root c.args.places.now c.requires.places)
+    c.put-in-Valued.ensures s (g.M.Memo.state c.evaluate_once.new.question.memo) root stands (places_more s tried.remembers tried.spends.gives_up.room tried.spends.same.covers root c.args.places.now c.requires.places)
 
 -- ---- a formula that lacks one
 
@@ -97,7 +97,7 @@ returns-in-Waits-clause-ahead g c =
     let s = c.args.store.now.sheet in
     let m = g.M.Memo.state c.args.question.now.memo in
     let root = case_at c.args.root.now in
-    let place = place_at c.args.places.now c.args.at c.in-Some.place.now c.requires.places c.in-Some.ensures.lookup.3.0 c.in-Some.ensures.lookup.1 in
+    let place = place_at c.args.store.now.sheet (g.M.Memo.state c.args.question.now.memo) (case_at c.args.root.now) c.args.places.now c.args.at c.in-Some.place.now c.requires.places c.in-Some.ensures.lookup.3.0 c.in-Some.ensures.lookup.1 in
     let opened = c.in-Some-opened.ensures s m root place in
     let n = c.new-frame.ensures in
     let u = rw (c.in-Unvalued.is, c.requires.memo.sheet) at c.in_ok-shown.ensures.asked in
@@ -123,7 +123,7 @@ pub returns-in_err-value-in-Unvalued-clause-spent : goal.returns-in_err-value-in
 returns-in_err-value-in-Unvalued-clause-spent g c =
     let s = c.args.store.now.sheet in
     let m = g.M.Memo.state c.args.question.now.memo in
-    let place = place_at c.args.places.now c.args.at c.in-Some.place.now c.requires.places c.in-Some.ensures.lookup.3.0 c.in-Some.ensures.lookup.1 in
+    let place = place_at c.args.store.now.sheet (g.M.Memo.state c.args.question.now.memo) (case_at c.args.root.now) c.args.places.now c.args.at c.in-Some.place.now c.requires.places c.in-Some.ensures.lookup.3.0 c.in-Some.ensures.lookup.1 in
     let opened = c.in-Some-opened.ensures s m (case_at c.args.root.now) place in
     let u = rw (c.in-Unvalued.is, c.requires.memo.sheet) at c.in_ok-shown.ensures.asked in
     let spent = rw c.in_ok-shown.ensures.same at c.in_err-value-in-Unvalued.ensures.spent in
