@@ -16,4 +16,5 @@ pub mod SettledFrames
 pub mod Spends
 pub mod Steps
 pub mod Touched
+pub mod Turns
 pub mod Walk

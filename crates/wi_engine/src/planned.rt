@@ -1,15 +1,15 @@
 //! The values of a plan's cells, found before the frame that needs them goes on.
 
-ghost use Rattle.std.specs.Prelude.{◌≡◌, ℕ, [], false, None, Contains, IfOk, OnOk, OnErr};
+ghost use Rattle.std.specs.Prelude.{◌≡◌, ℕ, [], None, IfOk, OnOk, OnErr};
 ghost use Rattle.wi_sheet.specs.Demand.{Case};
 ghost use Rattle.wi_parser.specs.Sheet.{Sheet};
 ghost use Rattle.wi_engine.specs.Inner.MemoState.{MemoState, IsMemoOf};
 ghost use Rattle.wi_engine.specs.Inner.Begins.{MayBegin};
-ghost use Rattle.wi_engine.specs.Inner.Frames.{IsFormulaKey, IsUnvaluedKey, StandsAt, case_at};
-ghost use Rattle.wi_engine.specs.Inner.Planned.{IsAheadOf, IsReadyFrame, IsTried};
+ghost use Rattle.wi_engine.specs.Inner.Frames.{IsUnvaluedKey, StandsAt, case_at};
+ghost use Rattle.wi_engine.specs.Inner.Planned.{IsAheadOf, IsReadyFrame, IsTried, StopsAhead};
 ghost use Rattle.wi_engine.specs.Inner.Plans.{ArePlacesOf};
 ghost use Rattle.wi_engine.specs.Inner.Findings.{found_value};
-ghost use Rattle.wi_engine.specs.Inner.Spends.{Spends};
+ghost use Rattle.wi_engine.specs.Inner.Turns.{IsTurn};
 ghost use Rattle.wi_engine.specs.declared.frame.Waiting.TheVariants as waiting;
 
 use crate::asked::remembered_value;
@@ -45,9 +45,8 @@ fn evaluate_once<'a, M: Memo + Drop>(
     requires waiting { frame.waiting ≡ waiting.Nothing }
     ensures tried { IfOk result (IsTried store.now.sheet (M.state question.old.memo)
         (M.state question.new.memo) frame.entry question.old.meter question.new.meter) }
-    ensures spent { OnErr result (Spends store.now.sheet (λ ks. Contains ks (case_at frame.entry.key))
-        (M.state question.old.memo) (M.state question.new.memo)
-        question.old.meter question.new.meter false) }
+    ensures turn { OnErr result (IsTurn store.now.sheet (M.state question.old.memo)
+        (M.state question.new.memo) frame.entry question.old.meter question.new.meter) }
 {
     let alloc = question.pool.allocator();
     let mut frame = frame;
@@ -82,9 +81,9 @@ fn value_place<'a, M: Memo + Drop>(
         question.old.meter question.new.meter) }
     ensures places { OnOk result (ArePlacesOf store.now.sheet
         (M.state question.new.memo) (case_at root.now) places.new) }
-    ensures spent { OnErr result (Spends store.now.sheet (λ ks. Contains ks (case_at root.now))
+    ensures stops { OnErr result (StopsAhead store.now.sheet (case_at root.now)
         (M.state question.old.memo) (M.state question.new.memo)
-        question.old.meter question.new.meter false) }
+        question.old.meter question.new.meter) }
 {
     let alloc = question.pool.allocator();
     let Some(place) = places.get(at) else {
@@ -136,9 +135,9 @@ fn value_all<'a, M: Memo + Drop>(
         question.old.meter question.new.meter) }
     ensures places { OnOk result (ArePlacesOf store.now.sheet
         (M.state question.new.memo) (case_at root.now) places.new) }
-    ensures spent { OnErr result (Spends store.now.sheet (λ ks. Contains ks (case_at root.now))
+    ensures stops { OnErr result (StopsAhead store.now.sheet (case_at root.now)
         (M.state question.old.memo) (M.state question.new.memo)
-        question.old.meter question.new.meter false) }
+        question.old.meter question.new.meter) }
 {
     for place in 0..cells.len() {
         if let Some(cell) = cells.get(place) {
@@ -170,9 +169,9 @@ pub fn go_ahead<'a, M: Memo + Drop>(
         question.old.meter question.new.meter) }
     ensures ready { OnOk result (IsReadyFrame store.now.sheet
         (M.state question.new.memo) frame.old frame.new) }
-    ensures spent { OnErr result (Spends store.now.sheet (λ ks. Contains ks (case_at frame.old.key))
+    ensures stops { OnErr result (StopsAhead store.now.sheet (case_at frame.old.key)
         (M.state question.old.memo) (M.state question.new.memo)
-        question.old.meter question.new.meter false) }
+        question.old.meter question.new.meter) }
 {
     let alloc = question.pool.allocator();
     let mut made = places_of(alloc, &plan.cells)?;
@@ -199,9 +198,9 @@ fn go_over<'a, M: Memo + Drop>(
         question.old.meter question.new.meter) }
     ensures ready { OnOk result (IsReadyFrame store.now.sheet
         (M.state question.new.memo) frame.old frame.new) }
-    ensures spent { OnErr result (Spends store.now.sheet (λ ks. Contains ks (case_at frame.old.key))
+    ensures stops { OnErr result (StopsAhead store.now.sheet (case_at frame.old.key)
         (M.state question.old.memo) (M.state question.new.memo)
-        question.old.meter question.new.meter false) }
+        question.old.meter question.new.meter) }
 {
     let alloc = question.pool.allocator();
     need_all(frame.formula, &plan.reads, places);

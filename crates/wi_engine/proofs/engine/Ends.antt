@@ -15,6 +15,7 @@ use Rattle.wi_engine.specs.Inner.Saving.{WhereRoom, TakesPlaces, TakesNoMore, Gi
 use Rattle.wi_engine.specs.Inner.Keeps.{Keeps, HasKept}
 use Rattle.wi_engine.specs.Inner.Spends.{IsSameBeside, Spends}
 use Rattle.wi_engine.specs.Inner.Steps.{FrameCounts, FrameTakes, IsFrameValue}
+use Rattle.wi_engine.specs.Inner.Turns.{IsTurn}
 use Rattle.wi_engine.specs.declared.frame.Frame.{Frame}
 use Rattle.wi_engine.proofs.Places.{takes_then, gives_up_none, gives_up_then}
 use Rattle.wi_engine.proofs.Ledger.{same_itself, same_then, spends_err}
@@ -39,13 +40,6 @@ takes_one m n now next l e = at (cases_lt now (2 ^ 64 - 1))
     at (inr f) = inr (omega (arith, f, e))
 
 -- ---- a turn, and what it leaves
-
-pub record IsTurn (s : Sheet) (m n : MemoState) (f : Frame) (now next : Counts) : Type 0 where
-  pub right : IsMemoOf s n
-  pub same : IsSameBeside m n
-  pub counts : FrameCounts s f now next true
-  pub places : TakesNoMore m n now.evaluations next.evaluations
-  pub gives_up : GivesUpWhenFull m n
 
 -- one that keeps nothing
 pub turn_same : {s : Sheet} {m n : MemoState} {f : Frame} {now next : Counts} → IsMemoOf s m → n ≡ m → FrameCounts s f now next true → IsTurn s m n f now next

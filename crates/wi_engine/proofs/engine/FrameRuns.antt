@@ -13,6 +13,7 @@ use Rattle.wi_sheet.specs.Inner.Spending.{IsClosed, NeverFall, SpentOn, cost, le
 use Rattle.wi_sheet.proofs.CaseCosts.{one_less_left, spent_all}
 use Rattle.wi_sheet.proofs.Demands.{demand_closed, demand_has_itself}
 use Rattle.wi_sheet.specs.Inner.Rank.{reach_rank}
+use Rattle.wi_engine.specs.Inner.Begins.{IsNew}
 use Rattle.wi_engine.specs.Inner.MemoState.{MemoState, IsMemoOf}
 use Rattle.wi_engine.specs.Inner.Findings.{found_value}
 use Rattle.wi_engine.specs.Inner.Frames.{case_at, IsFormulaKey, StandsAt, IsFrame, IsNext, IsBegun, IsStack, BottomIs, at_most, spare}
@@ -37,14 +38,6 @@ pub record IsRunning (s : Sheet) (old m : MemoState) (root : Case) (start now : 
 -- a key is found from then on
 abbrev pub Finds : MemoState → MemoState → Key → Type 0
 Finds m n k = (c : ℕ) (w : List Replacement) → n.found c w ≡ (m.found c w || same_case (case_at k) (c, w))
-
--- a frame with no values yet, and the formula of its key
-pub record IsNew (s : Sheet) (f : Frame) (k : Key) : Type 0 where
-  pub key : f.key ≡ k
-  pub formula : StandsAt s k f.formula.now
-  pub cells : (c : ℕ) → found_value f.found c ≡ None
-  pub what_ifs : f.found.what_ifs.items ≡ []
-  pub waiting : f.waiting ≡ Nothing
 
 -- a turn in which the frame on top comes to wait, as h, for a key whose frame is on top from then on
 pub record GoesDeeper (s : Sheet) (m : MemoState) (now next : Counts) (f h g : Frame) (k : Key) : Type 0 where

@@ -15,7 +15,7 @@ use Rattle.wi_sheet.proofs.Overrides.{reaching_suffices}
 use Rattle.wi_sheet.proofs.CaseCosts.{one_less_left}
 use Rattle.wi_engine.specs.Inner.MemoState.{MemoState, IsTold, IsMemoOf}
 use Rattle.wi_engine.specs.Inner.Frames.{case_at, IsFormulaKey, IsUnvaluedKey, IsUnvalued, IsNext}
-use Rattle.wi_engine.specs.Inner.Begins.{MayBegin}
+use Rattle.wi_engine.specs.Inner.Begins.{IsNew, MayBegin}
 use Rattle.wi_engine.specs.Inner.SettledFrames.{IsFrameSettled}
 use Rattle.wi_engine.specs.Inner.Saving.{not_kept, KeepsFound, WhereRoom, NeedsNoEvaluation, IsValuedAnew}
 use Rattle.wi_engine.specs.Inner.Spends.{Saved}
@@ -28,7 +28,7 @@ use Rattle.wi_engine.proofs.engine.NextValues.{one_more_at_most}
 use Rattle.wi_engine.proofs.engine.SettledFindings.{settled_now}
 use Rattle.wi_engine.proofs.engine.SettledStacks.{IsSettling, new_settled, settling_start, settling_push, settling_pop, rests_after}
 use Rattle.wi_engine.proofs.engine.Stacks.{same_frame}
-use Rattle.wi_engine.proofs.engine.FrameRuns.{IsRunning, IsNew, Finds, GoesDeeper, ComesBack, new_frame, run_start, run_deeper, run_back, run_take, run_ends}
+use Rattle.wi_engine.proofs.engine.FrameRuns.{IsRunning, Finds, GoesDeeper, ComesBack, new_frame, run_start, run_deeper, run_back, run_take, run_ends}
 
 -- a memory, seen as if what is kept were what was found
 abbrev pub by_kept : MemoState → MemoState

@@ -7,10 +7,10 @@ use Rattle.wi_cache.specs.declared.key.Key.{Key}
 use Rattle.wi_sheet.specs.Demand.{Case, same_case}
 use Rattle.wi_sheet.specs.Settled.{RestsOnKept}
 use Rattle.wi_sheet.proofs.Cases.{one_case}
+use Rattle.wi_engine.specs.Inner.Begins.{IsNew}
 use Rattle.wi_engine.specs.Inner.MemoState.{MemoState}
 use Rattle.wi_engine.specs.Inner.SettledFrames.{IsFrameSettled}
 use Rattle.wi_engine.specs.declared.frame.Frame.{Frame}
-use Rattle.wi_engine.proofs.engine.FrameRuns.{IsNew}
 use Rattle.wi_sheet.proofs.SettledTables.{rests_more}
 use Rattle.wi_engine.proofs.engine.SettledFindings.{settled_none, found_more}
 

@@ -11,15 +11,15 @@ use Rattle.wi_sheet.specs.Inner.Rank.{reach_rank}
 use Rattle.wi_sheet.proofs.CaseCosts.{spent_none, spent_then}
 use Rattle.wi_engine.specs.Inner.MemoState.{MemoState, IsMemoOf}
 use Rattle.wi_engine.specs.Inner.Frames.{case_at, IsUnvaluedKey, IsUnvalued}
-use Rattle.wi_engine.specs.Inner.Begins.{MayBegin}
+use Rattle.wi_engine.specs.Inner.Begins.{IsNew, MayBegin}
 use Rattle.wi_engine.specs.Inner.Spends.{Spends}
-use Rattle.wi_engine.specs.Inner.Planned.{Adds, SpendsOnKept, IsPlannedFrame, IsValued, IsWaiting, GoesAhead, HandsOver}
+use Rattle.wi_engine.specs.Inner.Turns.{IsTurn}
+use Rattle.wi_engine.specs.Inner.Planned.{Adds, SpendsOnKept, IsPlannedFrame, IsValued, IsWaiting, GoesAhead, HandsOver, StopsAhead}
 use Rattle.wi_engine.specs.Inner.Plans.{StandsBelow, IsStanding, IsNeeded}
 use Rattle.wi_engine.specs.declared.frame.Frame.{Frame}
 use Rattle.wi_engine.proofs.Places.{remembers_itself, remembers_then}
 use Rattle.wi_engine.proofs.Ledger.{spends_none, spends_closed, spends_then}
 use Rattle.wi_engine.proofs.engine.Budgets.{spare_any}
-use Rattle.wi_engine.proofs.engine.FrameRuns.{IsNew}
 use Rattle.wi_engine.proofs.engine.NextCases.{unvalued_case}
 use Rattle.wi_engine.proofs.engine.RunsWithRoom.{begins_new, unvalued_value}
 
@@ -66,6 +66,13 @@ module _ {s : Sheet} {root : Case} {m n : MemoState} {a b : Counts} (h : GoesAhe
   pub ahead_then : {l : MemoState} {c : Counts} → GoesAhead s root n l b c → GoesAhead s root m l a c
   ahead_then k = record { spends = spent_after k.spends; on_kept = kept_then k.on_kept; remembers = remembers_then h.remembers k.remembers k.spends.gives_up; adds = adds_then h.adds k.adds }
 
+  pub ahead_stops : {l : MemoState} {c : Counts} → StopsAhead s root n l b c → StopsAhead s root m l a c
+  ahead_stops k = record { past = k.past; mid = k.mid; ahead = ahead_then k.ahead; ends = k.ends }
+
+  -- where memory runs out then
+  pub stops_here : {l : MemoState} {c : Counts} → l ≡ n → c ≡ b → StopsAhead s root m l a c
+  stops_here {l} {c} e same = record { past = n; mid = b; ahead = h; ends = inl (e, same) }
+
   pub ahead_hands : {l : MemoState} {c : Counts} {g : Frame} → HandsOver s root n l b c g → HandsOver s root m l a c g
   ahead_hands k = record { mid = k.mid; ahead = ahead_then k.ahead; begun = k.begun; unkept = k.unkept; lower = k.lower; settled = k.settled; rises = k.rises; evaluations = k.evaluations; restarts = k.restarts }
 
@@ -73,6 +80,14 @@ pub ahead_none : {s : Sheet} {root : Case} {m n : MemoState} {a : Counts} → Is
 ahead_none {s} {root} {m} {n} {a} memo e =
     let alone : GoesAhead s root m m a a = record { spends = spends_none memo refl; on_kept = kept_none; remembers = remembers_itself m; adds = adds_none (λ c. reach_rank s c < reach_rank s root.0) m } in
     rw e alone
+
+-- where memory runs out before anything is done, and while a formula is evaluated
+pub stops_first : {s : Sheet} {root : Case} {m n : MemoState} {a : Counts} → IsMemoOf s m → n ≡ m → StopsAhead s root m n a a
+stops_first memo e = stops_here (ahead_none memo refl) e refl
+
+pub stops_frame : {s : Sheet} {root : Case} {m n l : MemoState} {a b : Counts} {g : Frame} → IsMemoOf s m → l ≡ m → StandsBelow s root (case_at g.key) → MayBegin s m g → IsTurn s l n g a b → StopsAhead s root m n a b
+stops_frame {s} {root} {m} {n} {l} {a} {b} {g} memo e below begins turn =
+    record { past = m; mid = a; ahead = ahead_none memo refl; ends = inr (g, record { below = below; begins = begins; turn = subst (λ (x : MemoState). IsTurn s x n g a b) e turn }) }
 
 -- ---- one formula
 
@@ -84,9 +99,6 @@ module _ {s : Sheet} {root : Case} {m n : MemoState} {a b : Counts} where
     remembers = h.remembers;
     adds = adds_weaken (λ c e. subst (λ (d : ℕ). reach_rank s d < reach_rank s root.0) (sym e) below.lower) h.adds;
   }
-
-  pub spent_below : {k : Key} → StandsBelow s root (case_at k) → Spends s (λ ks. Contains ks (case_at k)) m n a b false → Spends s (λ ks. Contains ks root) m n a b false
-  spent_below below h = spends_below below h
 
   pub hands_waiting : {f g : Frame} → IsMemoOf s m → MayBegin s m f → StandsBelow s root (case_at f.key) → IsWaiting s m n f a b g → HandsOver s root m n a b g
   hands_waiting {f} {g} memo begins below h =

@@ -9,24 +9,26 @@ use Rattle.wi_sheet.specs.Demand.{Case, demand, wants}
 use Rattle.wi_sheet.specs.Settled.{RestsOnKept}
 use Rattle.wi_sheet.specs.Inner.Rank.{reach_rank}
 use Rattle.wi_sheet.specs.Inner.Spending.{IsClosed, NeverFall, cost, left, plus}
-use Rattle.wi_sheet.proofs.CaseCosts.{left_falls, never_fall-then}
+use Rattle.wi_sheet.proofs.CaseCosts.{left_falls, never_fall-same, never_fall-then}
 use Rattle.wi_sheet.proofs.SettledTables.{rests_more}
 use Rattle.wi_engine.specs.Inner.MemoState.{MemoState, IsMemoOf}
-use Rattle.wi_engine.specs.Inner.Begins.{MayBegin}
-use Rattle.wi_engine.specs.Inner.Frames.{case_at, IsFrame, IsBegun, IsStack, spare}
-use Rattle.wi_engine.specs.Inner.Planned.{GoesAhead, HandsOver}
+use Rattle.wi_engine.specs.Inner.Begins.{IsNew, MayBegin}
+use Rattle.wi_engine.specs.Inner.Frames.{case_at, IsFrame, IsBegun, IsStack, IsUnvaluedKey, spare}
+use Rattle.wi_engine.specs.Inner.Planned.{GoesAhead, HandsOver, IsStoppedFrame, StopsAhead}
 use Rattle.wi_engine.specs.Inner.SettledFrames.{IsFrameSettled}
-use Rattle.wi_engine.specs.Inner.Spends.{Saved}
+use Rattle.wi_engine.specs.Inner.Spends.{Saved, Spends}
 use Rattle.wi_engine.specs.declared.frame.Frame.{Frame}
 use Rattle.wi_engine.proofs.Ledger.{same_then}
 use Rattle.wi_engine.proofs.Places.{takes_then, gives_up_then}
-use Rattle.wi_engine.proofs.engine.Budgets.{all_apart, budget_over, budget_hands, not_taken}
-use Rattle.wi_engine.proofs.engine.Ends.{IsGoing}
+use Rattle.wi_engine.proofs.engine.Budgets.{all_apart, budget_over, budget_hands, not_taken, spare_any}
+use Rattle.wi_engine.proofs.engine.Ends.{IsGoing, going_stopped, turn_same}
 use Rattle.wi_engine.proofs.engine.FrameRuns.{IsRunning}
-use Rattle.wi_engine.proofs.engine.RunsWithRoom.{IsSaving, by_kept, kept_memory_of}
+use Rattle.wi_engine.proofs.engine.RunsWithRoom.{IsSaving, begins_new, by_kept, kept_memory_of}
 use Rattle.wi_engine.proofs.engine.SettledFindings.{found_more}
+use Rattle.wi_engine.proofs.engine.Steps.{counts_none}
 use Rattle.wi_engine.proofs.engine.SettledStacks.{AreFramesSettled, one_more}
 use Rattle.wi_engine.proofs.engine.Stacks.{same_frame, push_stack, push_bottom, same_bottom}
+use Rattle.wi_engine.proofs.planned.Ahead.{ahead_none, unvalued_still}
 
 not_then : (b : Bool) → (b ≡ true → ⊥) → b ≡ false
 not_then true h = absurd (h refl)
@@ -175,6 +177,36 @@ going_hands {s} {old} {m} {n} {root} {start} {now} {next} {fs} {f} {h} {g} i han
             settling = record { top = hands.settled ks closed there saving.whole saving.room; below = one_more s n.kept fs h saving.settling.below saving.settling.top; rests = saving.settling.rests };
           };
     }
+
+-- where memory runs out on the way
+pub going_stops_ahead : {s : Sheet} {old m n : MemoState} {root : Case} {start now next : Counts} {fs : List Frame} {f : Frame} {k : Key} → IsGoing s old m root start now fs f → IsNew s f k → IsUnvaluedKey s m f.key → StopsAhead s (case_at f.key) m n now next → Spends s (λ ks. Contains ks root) old n start next false
+going_stops_ahead {s} {old} {m} {n} {root} {start} {now} {next} {fs} {f} {k} i new key stops = at stops.ends
+  where
+    begins : MayBegin s stops.past f
+    begins = begins_new new (rw (← new.key) (unvalued_still i.running.memo key stops.ahead))
+
+    there : IsGoing s old stops.past root start stops.mid fs f
+    there = going_over i stops.ahead begins refl (omega arith)
+
+    one : (g : Frame) → IsStoppedFrame s (case_at f.key) stops.past n stops.mid next g → Spends s (λ ks. Contains ks root) old n start next false
+    one g h =
+        let few = spare_any s g in
+        let hands : HandsOver s (case_at f.key) stops.past stops.past stops.mid stops.mid g = record {
+          mid = stops.mid;
+          ahead = ahead_none stops.ahead.spends.right refl;
+          begun = record { frame = h.begins.frame; unfound = h.begins.unvalued.unfound; demanded = h.below.demanded };
+          unkept = h.begins.unvalued.unkept;
+          lower = h.below.lower;
+          settled = h.begins.settled;
+          rises = never_fall-same stops.mid;
+          evaluations = refl;
+          restarts = omega (arith, few);
+        } in
+        going_stopped (going_hands there hands begins refl (omega arith)) h.turn
+
+    at : ((n ≡ stops.past) × (next ≡ stops.mid)) ⊎ ((g : Frame) × IsStoppedFrame s (case_at f.key) stops.past n stops.mid next g) → Spends s (λ ks. Contains ks root) old n start next false
+    at (inl h) = going_stopped there (turn_same stops.ahead.spends.right h.0 (rw h.1 counts_none))
+    at (inr h) = one h.0 h.1
 
 -- more is found, so that less is left
 pub ahead_less : {s : Sheet} {root k : Case} {m n : MemoState} {a b : Counts} → GoesAhead s k m n a b → left (λ j. 1) n.found (demand s root) ≤ left (λ j. 1) m.found (demand s root)

@@ -14,7 +14,9 @@ use Rattle.wi_engine.specs.Inner.Frames.{IsFrame, IsBegun, case_at, spare}
 use Rattle.wi_engine.specs.Inner.Begins.{MayBegin}
 use Rattle.wi_engine.specs.Inner.Saving.{WhereRoom, Remembers}
 use Rattle.wi_engine.specs.Inner.SettledFrames.{IsFrameSettled}
+use Rattle.wi_engine.specs.Inner.Plans.{StandsBelow}
 use Rattle.wi_engine.specs.Inner.Spends.{Spends}
+use Rattle.wi_engine.specs.Inner.Turns.{IsTurn}
 use Rattle.wi_engine.specs.declared.frame.Frame.{Frame}
 use Rattle.wi_engine.specs.declared.frame.Waiting.TheVariants.{Nothing}
 use Rattle.wi_engine.specs.declared.planned.Tried.{Tried}
@@ -86,6 +88,18 @@ pub record HandsOver (s : Sheet) (root : Case) (m n : MemoState) (a b : Counts) 
 abbrev pub IsAheadOf : Sheet → Case → MemoState → MemoState → Counts → Counts → Option Frame → Type 0
 IsAheadOf s root m n a b None = GoesAhead s root m n a b
 IsAheadOf s root m n a b (Some g) = HandsOver s root m n a b g
+
+-- where memory runs out: what was done till then, and the frame that was evaluated, if one was
+pub record IsStoppedFrame (s : Sheet) (root : Case) (m n : MemoState) (a b : Counts) (g : Frame) : Type 0 where
+  pub below : StandsBelow s root (case_at g.key)
+  pub begins : MayBegin s m g
+  pub turn : IsTurn s m n g a b
+
+pub record StopsAhead (s : Sheet) (root : Case) (m n : MemoState) (a b : Counts) : Type 0 where
+  pub past : MemoState
+  pub mid : Counts
+  pub ahead : GoesAhead s root m past a mid
+  pub ends : ((n ≡ past) × (b ≡ mid)) ⊎ ((g : Frame) × IsStoppedFrame s root past n mid b g)
 
 -- with the values that the root's own formula reads
 pub record IsReadyFrame (s : Sheet) (n : MemoState) (f g : Frame) : Type 0 where

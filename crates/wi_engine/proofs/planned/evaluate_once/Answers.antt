@@ -1,8 +1,7 @@
 use Rattle.std.proofs.Common.{refl, ap}
 use Rattle.wi_functions.specs.Counts.{Counts}
-use Rattle.wi_engine.proofs.Ledger.{spends_none}
-use Rattle.wi_engine.proofs.engine.Steps.{counts_done, counts_want}
-use Rattle.wi_engine.proofs.engine.Ends.{going_start, going_stopped, turn_same, turn_kept, comes_back}
+use Rattle.wi_engine.proofs.engine.Steps.{counts_none, counts_done, counts_want}
+use Rattle.wi_engine.proofs.engine.Ends.{turn_same, turn_kept, comes_back}
 use Rattle.wi_engine.proofs.planned.Once.{on_err, first_value, valued_once, waiting_once}
 use Rattle.wi_engine.proofs.planned.evaluate_once.Goals as goal
 
@@ -54,26 +53,25 @@ returns-in_ok-wait_for-in-Needs-clause-tried g c =
 
 -- ---- where memory runs out
 
-pub returns-in_err-value-clause-spent : goal.returns-in_err-value-clause-spent
-returns-in_err-value-clause-spent g c = on_err c.from_residual.result (rw c.in_err-value.ensures.err (spends_none c.requires.memo refl))
+pub returns-in_err-value-clause-turn : goal.returns-in_err-value-clause-turn
+returns-in_err-value-clause-turn g c = on_err c.from_residual.result (turn_same c.requires.memo refl (rw c.in_err-value.ensures.err counts_none))
 
-pub returns-in_err-shown-in-Done-clause-spent : goal.returns-in_err-shown-in-Done-clause-spent
-returns-in_err-shown-in-Done-clause-spent g c =
+pub returns-in_err-shown-in-Done-clause-turn : goal.returns-in_err-shown-in-Done-clause-turn
+returns-in_err-shown-in-Done-clause-turn g c =
     let counted = rw c.in-Done.is at c.in_ok-value.ensures.counted in
     let counts = counts_done c.attempt.ensures.counts (ap (λ (n : Counts). n.evaluations) counted) (ap (λ (n : Counts). n.restarts) counted) in
-    on_err c.from_residual-in_err-shown-in-Done.result (going_stopped (going_start c.args.question.now.meter c.requires.memo c.requires.begins) (turn_same c.requires.memo refl counts))
+    on_err c.from_residual-in_err-shown-in-Done.result (turn_same c.requires.memo refl counts)
 
-pub returns-in_err-keep-in-Done-clause-spent : goal.returns-in_err-keep-in-Done-clause-spent
-returns-in_err-keep-in-Done-clause-spent g c =
+pub returns-in_err-keep-in-Done-clause-turn : goal.returns-in_err-keep-in-Done-clause-turn
+returns-in_err-keep-in-Done-clause-turn g c =
     let found = rw c.in-Done.is at c.in_ok-value.ensures.outcome in
     let counted = rw c.in-Done.is at c.in_ok-value.ensures.counted in
     let counts = counts_done c.attempt.ensures.counts (ap (λ (n : Counts). n.evaluations) counted) (ap (λ (n : Counts). n.restarts) counted) in
-    let turn = turn_kept c.requires.memo refl c.retire-key.ensures (first_value c.requires.begins found, ap (λ (n : Counts). n.evaluations) counted) c.in_err-keep-in-Done.ensures.keeps counts in
-    on_err c.from_residual-in_err-keep-in-Done.result (going_stopped (going_start c.args.question.now.meter c.requires.memo c.requires.begins) turn)
+    on_err c.from_residual-in_err-keep-in-Done.result (turn_kept c.requires.memo refl c.retire-key.ensures (first_value c.requires.begins found, ap (λ (n : Counts). n.evaluations) counted) c.in_err-keep-in-Done.ensures.keeps counts)
 
-pub returns-in_err-wait_for-in-Needs-clause-spent : goal.returns-in_err-wait_for-in-Needs-clause-spent
-returns-in_err-wait_for-in-Needs-clause-spent g c =
+pub returns-in_err-wait_for-in-Needs-clause-turn : goal.returns-in_err-wait_for-in-Needs-clause-turn
+returns-in_err-wait_for-in-Needs-clause-turn g c =
     let lacks = rw c.in-Needs.is at c.in_ok-value.ensures.outcome in
     let counted = rw c.in-Needs.is at c.in_ok-value.ensures.counted in
     let counts = counts_want c.in-Needs.want lacks.asked lacks.lacking c.requires.waiting c.attempt.ensures.counts (ap (λ (n : Counts). n.evaluations) counted) (ap (λ (n : Counts). n.restarts) counted) in
-    on_err c.from_residual-in_err-wait_for-in-Needs.result (going_stopped (going_start c.args.question.now.meter c.requires.memo c.requires.begins) (turn_same c.requires.memo refl counts))
+    on_err c.from_residual-in_err-wait_for-in-Needs.result (turn_same c.requires.memo refl counts)

@@ -1,12 +1,12 @@
 use Rattle.std.proofs.Common.{refl, sym, subst, List}
 use Rattle.wi_engine.specs.Inner.Plans.{ArePlacesOf}
 use Rattle.wi_engine.specs.declared.places.Place.{Place}
-use Rattle.wi_engine.proofs.Ledger.{spends_none}
+use Rattle.wi_engine.proofs.planned.Ahead.{stops_first}
 use Rattle.wi_engine.proofs.planned.Once.{on_err}
 use Rattle.wi_engine.proofs.planned.go_ahead.Goals as goal
 
 pub go_over-requires-clause-places : goal.go_over-requires-clause-places
 go_over-requires-clause-places g c = λ s m root. subst (λ (ps : List Place). ArePlacesOf s m root ps) (sym c.deref_mut.ensures.value) (c.in_ok-made.ensures s m root)
 
-pub returns-in_err-made-clause-spent : goal.returns-in_err-made-clause-spent
-returns-in_err-made-clause-spent g c = on_err c.from_residual.result (spends_none c.requires.memo refl)
+pub returns-in_err-made-clause-stops : goal.returns-in_err-made-clause-stops
+returns-in_err-made-clause-stops g c = on_err c.from_residual.result (stops_first c.requires.memo refl)

@@ -1,10 +1,9 @@
 use Rattle.std.proofs.Common.{refl, rules}
+use Rattle.wi_engine.specs.Inner.Begins.{IsNew}
 use Rattle.wi_engine.specs.Inner.Frames.{case_at}
-use Rattle.wi_engine.proofs.Ledger.{spends_weaken}
-use Rattle.wi_engine.proofs.engine.FrameRuns.{IsNew}
 use Rattle.wi_engine.proofs.engine.RunsWithRoom.{begins_new}
 use Rattle.wi_engine.proofs.places.Needs.{reads_needed, root_reader}
-use Rattle.wi_engine.proofs.planned.Ahead.{planned_root, unvalued_still}
+use Rattle.wi_engine.proofs.planned.Ahead.{planned_root, stops_here, unvalued_still}
 use Rattle.wi_engine.proofs.planned.Once.{on_err}
 use Rattle.wi_engine.proofs.planned.go_over.Goals as goal
 
@@ -42,10 +41,10 @@ returns-in_ok-give_all-in-None-clause-ready g c =
     let planned = given.planned s (g.M.Memo.state c.value_all.new.question.memo) (case_at k) c.in_ok-next.ensures.places (planned_root c.requires.memo c.requires.key new ahead) in
     record { key = given.key; begins = planned.begins; waiting = planned.waiting }
 
-pub returns-in_err-next-clause-spent : goal.returns-in_err-next-clause-spent
-returns-in_err-next-clause-spent g c = on_err c.from_residual.result c.in_err-next.ensures.spent
+pub returns-in_err-next-clause-stops : goal.returns-in_err-next-clause-stops
+returns-in_err-next-clause-stops g c = on_err c.from_residual.result c.in_err-next.ensures.stops
 
-pub returns-in_err-give_all-in-None-clause-spent : goal.returns-in_err-give_all-in-None-clause-spent
-returns-in_err-give_all-in-None-clause-spent g c =
+pub returns-in_err-give_all-in-None-clause-stops : goal.returns-in_err-give_all-in-None-clause-stops
+returns-in_err-give_all-in-None-clause-stops g c =
     let ahead = rw c.in-None.is at c.in_ok-next.ensures.ahead in
-    on_err c.from_residual-in_err-give_all-in-None.result (spends_weaken refl (λ ks top. top) (λ d. refl) ahead.spends)
+    on_err c.from_residual-in_err-give_all-in-None.result (stops_here ahead refl refl)

@@ -1,5 +1,5 @@
 use Rattle.std.proofs.Common.{refl}
-use Rattle.wi_engine.proofs.planned.Ahead.{ahead_none, ahead_then, ahead_hands, spent_after}
+use Rattle.wi_engine.proofs.planned.Ahead.{ahead_none, ahead_then, ahead_hands, ahead_stops}
 use Rattle.wi_engine.proofs.planned.Once.{on_err}
 use Rattle.wi_engine.proofs.planned.value_all.Goals as goal
 
@@ -21,8 +21,8 @@ loop-place-preserved-in-Some g c = record { ahead = ahead_then c.loop-place.inva
 pub loop-place-preserved : goal.loop-place-preserved
 loop-place-preserved g c = c.loop-place.invariant
 
-pub returns-in_err-frame-in-Some-clause-spent : goal.returns-in_err-frame-in-Some-clause-spent
-returns-in_err-frame-in-Some-clause-spent g c = on_err c.from_residual.result (spent_after c.loop-place.invariant.ahead c.in_err-frame-in-Some.ensures.spent)
+pub returns-in_err-frame-in-Some-clause-stops : goal.returns-in_err-frame-in-Some-clause-stops
+returns-in_err-frame-in-Some-clause-stops g c = on_err c.from_residual.result (ahead_stops c.loop-place.invariant.ahead c.in_err-frame-in-Some.ensures.stops)
 
 pub returns-clause-ahead : goal.returns-clause-ahead
 returns-clause-ahead g c = c.loop-place.invariant.ahead

@@ -1,13 +1,11 @@
 use Rattle.std.proofs.Common.{◌∙◌, refl, sym, subst}
 use Rattle.wi_parser.specs.Sheet.{Sheet}
 use Rattle.wi_engine.specs.Inner.MemoState.{MemoState, IsMemoOf}
-use Rattle.wi_engine.specs.Inner.Begins.{MayBegin}
+use Rattle.wi_engine.specs.Inner.Begins.{IsNew, MayBegin}
 use Rattle.wi_engine.specs.Inner.Frames.{MayBeRead, case_at}
 use Rattle.wi_engine.specs.Inner.Plans.{ArePlacesOf}
-use Rattle.wi_engine.proofs.Ledger.{spends_none}
-use Rattle.wi_engine.proofs.engine.FrameRuns.{IsNew}
 use Rattle.wi_engine.proofs.places.Standing.{place_at, places_more, shown_stands}
-use Rattle.wi_engine.proofs.planned.Ahead.{ahead_none, ahead_valued, hands_waiting, spent_below, below_unvalued, planned_new, valued_stands}
+use Rattle.wi_engine.proofs.planned.Ahead.{ahead_none, ahead_valued, hands_waiting, stops_first, stops_frame, below_unvalued, planned_new, valued_stands}
 use Rattle.wi_engine.proofs.planned.Once.{on_err}
 use Rattle.wi_engine.proofs.planned.value_place.Goals as goal
 
@@ -113,18 +111,21 @@ returns-in-Waits-clause-places g c =
 
 -- ---- where memory runs out
 
-pub returns-in_err-shown-clause-spent : goal.returns-in_err-shown-clause-spent
-returns-in_err-shown-clause-spent g c = on_err c.from_residual.result (spends_none c.requires.memo c.remembered_value.ensures.same)
+pub returns-in_err-shown-clause-stops : goal.returns-in_err-shown-clause-stops
+returns-in_err-shown-clause-stops g c = on_err c.from_residual.result (stops_first c.requires.memo c.remembered_value.ensures.same)
 
-pub returns-in_err-give_all-in-Unvalued-clause-spent : goal.returns-in_err-give_all-in-Unvalued-clause-spent
-returns-in_err-give_all-in-Unvalued-clause-spent g c = on_err c.from_residual-in_err-give_all-in-Unvalued.result (spends_none c.requires.memo c.in_ok-shown.ensures.same)
+pub returns-in_err-give_all-in-Unvalued-clause-stops : goal.returns-in_err-give_all-in-Unvalued-clause-stops
+returns-in_err-give_all-in-Unvalued-clause-stops g c = on_err c.from_residual-in_err-give_all-in-Unvalued.result (stops_first c.requires.memo c.in_ok-shown.ensures.same)
 
-pub returns-in_err-value-in-Unvalued-clause-spent : goal.returns-in_err-value-in-Unvalued-clause-spent
-returns-in_err-value-in-Unvalued-clause-spent g c =
+pub returns-in_err-value-in-Unvalued-clause-stops : goal.returns-in_err-value-in-Unvalued-clause-stops
+returns-in_err-value-in-Unvalued-clause-stops g c =
     let s = c.args.store.now.sheet in
     let m = g.M.Memo.state c.args.question.now.memo in
-    let place = place_at c.args.store.now.sheet (g.M.Memo.state c.args.question.now.memo) (case_at c.args.root.now) c.args.places.now c.args.at c.in-Some.place.now c.requires.places c.in-Some.ensures.lookup.3.0 c.in-Some.ensures.lookup.1 in
-    let opened = c.in-Some-opened.ensures s m (case_at c.args.root.now) place in
+    let root = case_at c.args.root.now in
+    let place = place_at s m root c.args.places.now c.args.at c.in-Some.place.now c.requires.places c.in-Some.ensures.lookup.3.0 c.in-Some.ensures.lookup.1 in
+    let opened = c.in-Some-opened.ensures s m root place in
+    let n = c.new-frame.ensures in
     let u = rw (c.in-Unvalued.is, c.requires.memo.sheet) at c.in_ok-shown.ensures.asked in
-    let spent = rw c.in_ok-shown.ensures.same at c.in_err-value-in-Unvalued.ensures.spent in
-    on_err c.from_residual-in_err-value-in-Unvalued.result (spent_below (below_unvalued opened.0 u.unvalued (c.in_ok-give_all-in-Unvalued.ensures.key ∙ c.new-frame.ensures.key)) spent)
+    let new : IsNew s c.new-frame.result c.in-Unvalued.next.key = record { key = n.key; formula = rw n.formula u.stands; cells = n.cells; what_ifs = n.what_ifs; waiting = n.waiting } in
+    let planned = c.in_ok-give_all-in-Unvalued.ensures.planned s m root c.requires.places (planned_new new u.unvalued) in
+    on_err c.from_residual-in_err-value-in-Unvalued.result (stops_frame c.requires.memo c.in_ok-shown.ensures.same (below_unvalued opened.0 u.unvalued (c.in_ok-give_all-in-Unvalued.ensures.key ∙ n.key)) planned.begins c.in_err-value-in-Unvalued.ensures.turn)

@@ -1,6 +1,7 @@
 use Rattle.std.proofs.Common.{◌≡◌, ◌∙◌, ℕ, List, [], ◌∷◌, length, refl, arith}
+use Rattle.wi_engine.specs.Inner.Begins.{IsNew}
 use Rattle.wi_engine.specs.declared.frame.Frame.{Frame}
-use Rattle.wi_engine.proofs.engine.FrameRuns.{IsNew, GoesDeeper, deeper_smaller, back_smaller, run_below, run_value}
+use Rattle.wi_engine.proofs.engine.FrameRuns.{GoesDeeper, deeper_smaller, back_smaller, run_below, run_value}
 use Rattle.wi_engine.proofs.engine.RunsWithRoom.{begins_new}
 use Rattle.wi_engine.proofs.engine.Ends.{turn_same, turn_kept, comes_back, going_start, going_deeper, going_back, going_stops, going_ends, root_kept, root_there}
 use Rattle.wi_engine.proofs.engine.Steps.{counts_less}
