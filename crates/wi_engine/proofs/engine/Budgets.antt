@@ -167,6 +167,12 @@ module _ (s : Sheet) (found : Table) (ks : List Case) (fs : List Frame) (f : Fra
       let p = frames_push s fs f in
       (omega (arith, within.0, ev, l.0, p.0), omega (arith, within.1, more, l.1, p.1))
 
+  -- where memory runs out while a case is valued that is none of the frames'
+  pub budget_beside : (k : Case) (next : Counts) → next.evaluations ≤ now.evaluations + 1 → next.restarts ≤ now.restarts + wants s k → taken found (f ∷ fs) k.0 k.1 ≡ false → Contains ks k → NeverFall next bound
+  budget_beside k next one few u i =
+      let l = cost_at_keep s (taken found (f ∷ fs)) ks (λ c w. taken found (f ∷ fs) c w || same_case k (c, w)) k (λ c w. refl) u i in
+      (omega (arith, within.0, one, l.0), omega (arith, within.1, few, l.1))
+
   pub budget_kept : (next : Counts) → NeverFall next (plus now (frame_cost s f true)) → NeverFall next bound
   budget_kept next step = (omega (arith, within.0, step.0), omega (arith, within.1, step.1))
 

@@ -1,5 +1,5 @@
 -- One value of a plan after another.
-use Rattle.std.proofs.Common.{◌≡◌, ◌<◌, ◌⊎◌, inl, inr, ◌||◌, ℕ, Bool, true, false, List, Contains, is_some, refl, ap, sym, ◌∙◌, subst, arith}
+use Rattle.std.proofs.Common.{◌≡◌, ◌<◌, ◌+◌, ◌≤◌, ◌⊎◌, inl, inr, ◌||◌, ℕ, Bool, true, false, List, Contains, is_some, refl, ap, sym, ◌∙◌, subst, arith}
 use Rattle.std.proofs.lemmas.Bool.{or_from, true≢false}
 use Rattle.wi_values.specs.declared.value.Value.{Value}
 use Rattle.wi_values.specs.declared.replacement.Replacement.{Replacement}
@@ -14,11 +14,11 @@ use Rattle.wi_engine.specs.Inner.Frames.{case_at, IsUnvaluedKey, IsUnvalued}
 use Rattle.wi_engine.specs.Inner.Begins.{IsNew, MayBegin}
 use Rattle.wi_engine.specs.Inner.Spends.{Spends}
 use Rattle.wi_engine.specs.Inner.Turns.{IsTurn}
-use Rattle.wi_engine.specs.Inner.Planned.{Adds, SpendsOnKept, IsPlannedFrame, IsValued, IsWaiting, GoesAhead, HandsOver, StopsAhead}
+use Rattle.wi_engine.specs.Inner.Planned.{Adds, SpendsOnKept, IsPlannedFrame, IsValued, IsWaiting, GoesAhead, HandsOver, IsStoppedAt, StopsAhead}
 use Rattle.wi_engine.specs.Inner.Plans.{StandsBelow, IsStanding, IsNeeded}
 use Rattle.wi_engine.specs.declared.frame.Frame.{Frame}
-use Rattle.wi_engine.proofs.Places.{remembers_itself, remembers_then}
-use Rattle.wi_engine.proofs.Ledger.{spends_none, spends_closed, spends_then}
+use Rattle.wi_engine.proofs.Places.{gives_up_none, remembers_itself, remembers_then, takes_none}
+use Rattle.wi_engine.proofs.Ledger.{same_itself, spends_none, spends_closed, spends_then}
 use Rattle.wi_engine.proofs.engine.Budgets.{spare_any}
 use Rattle.wi_engine.proofs.engine.NextCases.{unvalued_case}
 use Rattle.wi_engine.proofs.engine.RunsWithRoom.{begins_new, unvalued_value}
@@ -87,7 +87,39 @@ stops_first memo e = stops_here (ahead_none memo refl) e refl
 
 pub stops_frame : {s : Sheet} {root : Case} {m n l : MemoState} {a b : Counts} {g : Frame} → IsMemoOf s m → l ≡ m → StandsBelow s root (case_at g.key) → MayBegin s m g → IsTurn s l n g a b → StopsAhead s root m n a b
 stops_frame {s} {root} {m} {n} {l} {a} {b} {g} memo e below begins turn =
-    record { past = m; mid = a; ahead = ahead_none memo refl; ends = inr (g, record { below = below; begins = begins; turn = subst (λ (x : MemoState). IsTurn s x n g a b) e turn }) }
+    let here : IsTurn s m n g a b = subst (λ (x : MemoState). IsTurn s x n g a b) e turn in
+    let few = spare_any s g in
+    let within = here.counts.within in
+    let stopped : IsStoppedAt s root m n a b g.key = record {
+      below = below;
+      unvalued = begins.unvalued;
+      memo = here.right;
+      same = here.same;
+      rises = here.counts.rises;
+      evaluations = within.0;
+      restarts = omega (arith, within.1, few);
+      places = here.places;
+      gives_up = here.gives_up;
+    } in
+    record { past = m; mid = a; ahead = ahead_none memo refl; ends = inr (g.key, stopped) }
+
+-- or before a frame that was handed over is waited for
+pub stops_hands : {s : Sheet} {root : Case} {m n : MemoState} {a b : Counts} {g : Frame} → HandsOver s root m n a b g → IsUnvaluedKey s n g.key → StopsAhead s root m n a b
+stops_hands {s} {root} {m} {n} {a} {b} {g} h key =
+    let few = h.restarts in
+    let same = h.evaluations in
+    let stopped : IsStoppedAt s root n n h.mid b g.key = record {
+      below = record { demanded = h.begun.demanded; lower = h.lower };
+      unvalued = key;
+      memo = h.ahead.spends.right;
+      same = same_itself n;
+      rises = h.rises;
+      evaluations = omega (arith, same);
+      restarts = omega (arith, few);
+      places = rw h.evaluations (takes_none n n h.mid.evaluations refl);
+      gives_up = gives_up_none n n refl;
+    } in
+    record { past = n; mid = h.mid; ahead = h.ahead; ends = inr (g.key, stopped) }
 
 -- ---- one formula
 

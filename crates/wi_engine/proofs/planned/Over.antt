@@ -8,19 +8,19 @@ use Rattle.wi_cache.specs.declared.key.Key.{Key}
 use Rattle.wi_sheet.specs.Demand.{Case, demand, wants}
 use Rattle.wi_sheet.specs.Settled.{RestsOnKept}
 use Rattle.wi_sheet.specs.Inner.Rank.{reach_rank}
-use Rattle.wi_sheet.specs.Inner.Spending.{IsClosed, NeverFall, cost, left, plus}
-use Rattle.wi_sheet.proofs.CaseCosts.{left_falls, never_fall-same, never_fall-then}
+use Rattle.wi_sheet.specs.Inner.Spending.{IsClosed, NeverFall, SpentOn, Table, cost, left, plus}
+use Rattle.wi_sheet.proofs.CaseCosts.{left_falls, never_fall-then}
 use Rattle.wi_sheet.proofs.SettledTables.{rests_more}
 use Rattle.wi_engine.specs.Inner.MemoState.{MemoState, IsMemoOf}
 use Rattle.wi_engine.specs.Inner.Begins.{IsNew, MayBegin}
-use Rattle.wi_engine.specs.Inner.Frames.{case_at, IsFrame, IsBegun, IsStack, IsUnvaluedKey, spare}
-use Rattle.wi_engine.specs.Inner.Planned.{GoesAhead, HandsOver, IsStoppedFrame, StopsAhead}
+use Rattle.wi_engine.specs.Inner.Frames.{case_at, IsFrame, IsBegun, IsDemanded, IsStack, IsUnvaluedKey, spare}
+use Rattle.wi_engine.specs.Inner.Planned.{GoesAhead, HandsOver, IsStoppedAt, StopsAhead}
 use Rattle.wi_engine.specs.Inner.SettledFrames.{IsFrameSettled}
 use Rattle.wi_engine.specs.Inner.Spends.{Saved, Spends}
 use Rattle.wi_engine.specs.declared.frame.Frame.{Frame}
 use Rattle.wi_engine.proofs.Ledger.{same_then}
 use Rattle.wi_engine.proofs.Places.{takes_then, gives_up_then}
-use Rattle.wi_engine.proofs.engine.Budgets.{all_apart, budget_over, budget_hands, not_taken, spare_any}
+use Rattle.wi_engine.proofs.engine.Budgets.{all_apart, budget_over, budget_hands, budget_beside, not_taken}
 use Rattle.wi_engine.proofs.engine.Ends.{IsGoing, going_stopped, turn_same}
 use Rattle.wi_engine.proofs.engine.FrameRuns.{IsRunning}
 use Rattle.wi_engine.proofs.engine.RunsWithRoom.{IsSaving, begins_new, by_kept, kept_memory_of}
@@ -28,7 +28,7 @@ use Rattle.wi_engine.proofs.engine.SettledFindings.{found_more}
 use Rattle.wi_engine.proofs.engine.Steps.{counts_none}
 use Rattle.wi_engine.proofs.engine.SettledStacks.{AreFramesSettled, one_more}
 use Rattle.wi_engine.proofs.engine.Stacks.{same_frame, push_stack, push_bottom, same_bottom}
-use Rattle.wi_engine.proofs.planned.Ahead.{ahead_none, unvalued_still}
+use Rattle.wi_engine.proofs.planned.Ahead.{unvalued_still}
 
 not_then : (b : Bool) → (b ≡ true → ⊥) → b ≡ false
 not_then true h = absurd (h refl)
@@ -179,6 +179,13 @@ going_hands {s} {old} {m} {n} {root} {start} {now} {next} {fs} {f} {h} {g} i han
     }
 
 -- where memory runs out on the way
+stops_within : {s : Sheet} {old past : MemoState} {root : Case} {start mid next : Counts} {fs : List Frame} {f : Frame} {k : Key} (table : Table) → IsRunning s old past root start mid fs f → reach_rank s k.cell < reach_rank s f.key.cell → past.found k.cell k.world ≡ false →
+    IsDemanded s (case_at f.key) (case_at k) → next.evaluations ≤ mid.evaluations + 1 → next.restarts ≤ mid.restarts + wants s (case_at k) → (ks : List Case) → IsClosed s ks → Contains ks root → SpentOn s old.found table start next false ks
+stops_within {s} {old} {past} {root} {start} {mid} {next} {fs} {f} {k} table i lower unfound demanded one few ks closed top = record {
+  within = budget_beside s past.found ks fs f mid _ (i.within ks closed top) (case_at k) next one few (not_taken s past root f fs k i.stack lower unfound) (demanded ks closed (i.begun.demanded ks closed top));
+  paid = λ d. absurd (true≢false (sym d));
+}
+
 pub going_stops_ahead : {s : Sheet} {old m n : MemoState} {root : Case} {start now next : Counts} {fs : List Frame} {f : Frame} {k : Key} → IsGoing s old m root start now fs f → IsNew s f k → IsUnvaluedKey s m f.key → StopsAhead s (case_at f.key) m n now next → Spends s (λ ks. Contains ks root) old n start next false
 going_stops_ahead {s} {old} {m} {n} {root} {start} {now} {next} {fs} {f} {k} i new key stops = at stops.ends
   where
@@ -188,23 +195,19 @@ going_stops_ahead {s} {old} {m} {n} {root} {start} {now} {next} {fs} {f} {k} i n
     there : IsGoing s old stops.past root start stops.mid fs f
     there = going_over i stops.ahead begins refl (omega arith)
 
-    one : (g : Frame) → IsStoppedFrame s (case_at f.key) stops.past n stops.mid next g → Spends s (λ ks. Contains ks root) old n start next false
-    one g h =
-        let few = spare_any s g in
-        let hands : HandsOver s (case_at f.key) stops.past stops.past stops.mid stops.mid g = record {
-          mid = stops.mid;
-          ahead = ahead_none stops.ahead.spends.right refl;
-          begun = record { frame = h.begins.frame; unfound = h.begins.unvalued.unfound; demanded = h.below.demanded };
-          unkept = h.begins.unvalued.unkept;
-          lower = h.below.lower;
-          settled = h.begins.settled;
-          rises = never_fall-same stops.mid;
-          evaluations = refl;
-          restarts = omega (arith, few);
-        } in
-        going_stopped (going_hands there hands begins refl (omega arith)) h.turn
+    one : (j : Key) → IsStoppedAt s (case_at f.key) stops.past n stops.mid next j → Spends s (λ ks. Contains ks root) old n start next false
+    one j h = record {
+      right = h.memo;
+      same = same_then there.same h.same;
+      counts = never_fall-then start stops.mid next there.counts h.rises;
+      places = takes_then old stops.past n start.evaluations stops.mid.evaluations next.evaluations there.places h.places h.rises.0;
+      gives_up = gives_up_then old stops.past n there.gives_up h.gives_up;
+      on_found = stops_within n.found there.running h.below.lower h.unvalued.unfound h.below.demanded h.evaluations h.restarts;
+      on_kept = λ ks closed top whole room. stops_within n.kept (there.saving ks closed top whole room).running h.below.lower h.unvalued.unkept h.below.demanded h.evaluations h.restarts ks closed top;
+      saved = λ d. absurd (true≢false (sym d));
+    }
 
-    at : ((n ≡ stops.past) × (next ≡ stops.mid)) ⊎ ((g : Frame) × IsStoppedFrame s (case_at f.key) stops.past n stops.mid next g) → Spends s (λ ks. Contains ks root) old n start next false
+    at : ((n ≡ stops.past) × (next ≡ stops.mid)) ⊎ ((j : Key) × IsStoppedAt s (case_at f.key) stops.past n stops.mid next j) → Spends s (λ ks. Contains ks root) old n start next false
     at (inl h) = going_stopped there (turn_same stops.ahead.spends.right h.0 (rw h.1 counts_none))
     at (inr h) = one h.0 h.1
 

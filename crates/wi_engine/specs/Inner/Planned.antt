@@ -9,14 +9,13 @@ use Rattle.wi_sheet.specs.CellValue.{cell_value}
 use Rattle.wi_sheet.specs.Demand.{Case, reaching, wants}
 use Rattle.wi_sheet.specs.Inner.Spending.{IsClosed, NeverFall, SpentOn}
 use Rattle.wi_sheet.specs.Inner.Rank.{reach_rank}
-use Rattle.wi_engine.specs.Inner.MemoState.{MemoState}
-use Rattle.wi_engine.specs.Inner.Frames.{IsFrame, IsBegun, case_at, spare}
+use Rattle.wi_engine.specs.Inner.MemoState.{MemoState, IsMemoOf}
+use Rattle.wi_engine.specs.Inner.Frames.{IsFrame, IsBegun, IsUnvaluedKey, case_at, spare}
 use Rattle.wi_engine.specs.Inner.Begins.{MayBegin}
-use Rattle.wi_engine.specs.Inner.Saving.{WhereRoom, Remembers}
+use Rattle.wi_engine.specs.Inner.Saving.{WhereRoom, Remembers, TakesNoMore, GivesUpWhenFull}
 use Rattle.wi_engine.specs.Inner.SettledFrames.{IsFrameSettled}
 use Rattle.wi_engine.specs.Inner.Plans.{StandsBelow}
-use Rattle.wi_engine.specs.Inner.Spends.{Spends}
-use Rattle.wi_engine.specs.Inner.Turns.{IsTurn}
+use Rattle.wi_engine.specs.Inner.Spends.{IsSameBeside, Spends}
 use Rattle.wi_engine.specs.declared.frame.Frame.{Frame}
 use Rattle.wi_engine.specs.declared.frame.Waiting.TheVariants.{Nothing}
 use Rattle.wi_engine.specs.declared.planned.Tried.{Tried}
@@ -89,17 +88,24 @@ abbrev pub IsAheadOf : Sheet → Case → MemoState → MemoState → Counts →
 IsAheadOf s root m n a b None = GoesAhead s root m n a b
 IsAheadOf s root m n a b (Some g) = HandsOver s root m n a b g
 
--- where memory runs out: what was done till then, and the frame that was evaluated, if one was
-pub record IsStoppedFrame (s : Sheet) (root : Case) (m n : MemoState) (a b : Counts) (g : Frame) : Type 0 where
-  pub below : StandsBelow s root (case_at g.key)
-  pub begins : MayBegin s m g
-  pub turn : IsTurn s m n g a b
+-- where memory runs out while a formula is valued: no more was counted than its case may
+pub record IsStoppedAt (s : Sheet) (root : Case) (m n : MemoState) (a b : Counts) (k : Key) : Type 0 where
+  pub below : StandsBelow s root (case_at k)
+  pub unvalued : IsUnvaluedKey s m k
+  pub memo : IsMemoOf s n
+  pub same : IsSameBeside m n
+  pub rises : NeverFall a b
+  pub evaluations : b.evaluations ≤ a.evaluations + 1
+  pub restarts : b.restarts ≤ a.restarts + wants s (case_at k)
+  pub places : TakesNoMore m n a.evaluations b.evaluations
+  pub gives_up : GivesUpWhenFull m n
 
+-- what was done till then, and that formula, if there is one
 pub record StopsAhead (s : Sheet) (root : Case) (m n : MemoState) (a b : Counts) : Type 0 where
   pub past : MemoState
   pub mid : Counts
   pub ahead : GoesAhead s root m past a mid
-  pub ends : ((n ≡ past) × (b ≡ mid)) ⊎ ((g : Frame) × IsStoppedFrame s root past n mid b g)
+  pub ends : ((n ≡ past) × (b ≡ mid)) ⊎ ((k : Key) × IsStoppedAt s root past n mid b k)
 
 -- with the values that the root's own formula reads
 pub record IsReadyFrame (s : Sheet) (n : MemoState) (f g : Frame) : Type 0 where
