@@ -1,6 +1,6 @@
 //! A question in progress.
 
-ghost use Rattle.std.specs.Prelude.{◌≡◌, ◌≤◌, true, Contains, IfOk, OnOk, is_ok};
+ghost use Rattle.std.specs.Prelude.{◌≡◌, ◌≤◌, true, Contains, IfOk, OnErr, OnOk, is_ok};
 ghost use Rattle.wi_parser.specs.Sheet.{put_all};
 ghost use Rattle.wi_sheet.specs.CellValue as show;
 ghost use Rattle.wi_sheet.specs.Demand.{reaching};
@@ -8,13 +8,15 @@ ghost use Rattle.wi_sheet.specs.Settled.{IsSettled};
 ghost use Rattle.wi_sheet.specs.Inner.Spending.{HasCase};
 ghost use Rattle.wi_engine.specs.Inner.MemoState.{IsMemoOf};
 ghost use Rattle.wi_engine.specs.Inner.Frames.{MayBeRead, IsUnvaluedKey, StandsAt, case_at};
+ghost use Rattle.wi_engine.specs.Inner.Planned.{BeginsOver, StopsOver};
 ghost use Rattle.wi_engine.specs.Inner.Saving.{WhereRoom, NeedsNoEvaluation, IsValuedAnew};
 ghost use Rattle.wi_engine.specs.Inner.Spends.{Spends};
 
 use crate::asked::value_now;
 use crate::engine::{advance, take_in};
-use crate::frame::{Advance, Asked, Frame};
+use crate::frame::{Advance, Asked, Frame, Unvalued};
 use crate::memo::Memo;
+use crate::planned::go_ahead;
 use crate::pool::Pool;
 use std::alloc::AllocError;
 use wi_cache::Key;
@@ -87,27 +89,69 @@ impl<M: Memo + Drop> Question<M> {
     {
         let alloc = self.pool.allocator();
         let mut stack = Vec::new(alloc);
-        let mut frame = Frame::new(key, formula, self.pool.take());
+        let lowest = Unvalued { key, formula };
+        let mut frame = self.begin(store, &mut stack, lowest, true)?;
         'frames: loop {
             match advance(alloc, store, &mut frame, &mut self.memo, &mut self.meter)? {
                 Advance::Unvalued(next) => {
+                    let asks = frame.waits_for_what_if(next.key.cell);
                     stack.push(frame)?;
-                    frame = Frame::new(next.key, next.formula, self.pool.take());
+                    frame = self.begin(store, &mut stack, next, asks)?;
                 }
                 Advance::Done(value) => match stack.pop() {
                     None => {
                         let shown = value.copy(alloc)?;
                         let root = frame.retire(&mut self.pool);
+                        self.pool.note(store, &root);
                         self.memo.keep(root, value)?;
                         return Ok(shown);
                     }
                     Some(below) => {
                         let key = frame.retire(&mut self.pool);
+                        self.pool.note(store, &key);
                         frame = below;
                         take_in(alloc, store, &mut frame, &key, &value)?;
                         self.memo.keep(key, value)?;
                     }
                 },
+            }
+        }
+    }
+
+    /// The frame that goes on where a formula has to be valued: a new one for it. Where it may be one of many what-ifs, a plan is asked
+    /// for, and the values are found before on which it rests; if that lacks one, a frame for it goes on, and the new one waits on the
+    /// stack.
+    fn begin<'a>(
+        &mut self,
+        store: &'a Store,
+        stack: &mut Vec<Frame<'a>>,
+        next: Unvalued<'a>,
+        asks: bool,
+    ) -> Result<Frame<'a>, AllocError>
+        requires memo { IsMemoOf store.now.sheet (M.state self.old.memo) }
+        requires key { IsUnvaluedKey store.now.sheet (M.state self.old.memo) next.key }
+        requires formula { StandsAt store.now.sheet next.key next.formula.now }
+        ensures begins { IfOk result (BeginsOver store.now.sheet
+            (M.state self.old.memo) (M.state self.new.memo) self.old.meter self.new.meter
+            next.entry.key stack.old.items stack.new.items) }
+        ensures stops { OnErr result (StopsOver store.now.sheet
+            (M.state self.old.memo) (M.state self.new.memo) self.old.meter self.new.meter
+            next.entry.key) }
+    {
+        let mut frame = Frame::new(next.key, next.formula, self.pool.take());
+        if !asks {
+            return Ok(frame);
+        }
+        let Some(plan) = self.pool.take_plan(&frame.key) else {
+            return Ok(frame);
+        };
+        let waits = go_ahead(self, store, &plan, &mut frame);
+        self.pool.put_plan(plan);
+        match waits? {
+            None => Ok(frame),
+            Some(first) => {
+                stack.push(frame)?;
+                Ok(first)
             }
         }
     }

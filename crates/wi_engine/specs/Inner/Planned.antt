@@ -1,5 +1,5 @@
 -- What the cells of a plan leave that are valued for a root, the case of a frame that has no values yet.
-use Rattle.std.specs.Prelude.{◌≡◌, ◌<◌, ◌≤◌, ◌+◌, ◌⊎◌, ℕ, true, false, List, Option, Some, None, Contains, is_some}
+use Rattle.std.specs.Prelude.{◌≡◌, ◌<◌, ◌≤◌, ◌+◌, ◌⊎◌, ℕ, true, false, List, [], ◌∷◌, ◌++◌, Option, Some, None, Contains, is_some}
 use Rattle.wi_values.specs.declared.value.Value.{Value}
 use Rattle.wi_values.specs.declared.replacement.Replacement.{Replacement}
 use Rattle.wi_parser.specs.Sheet.{Sheet, put_all}
@@ -11,7 +11,7 @@ use Rattle.wi_sheet.specs.Inner.Spending.{IsClosed, NeverFall, SpentOn}
 use Rattle.wi_sheet.specs.Inner.Rank.{reach_rank}
 use Rattle.wi_engine.specs.Inner.MemoState.{MemoState, IsMemoOf}
 use Rattle.wi_engine.specs.Inner.Frames.{IsFrame, IsBegun, IsUnvaluedKey, case_at, spare}
-use Rattle.wi_engine.specs.Inner.Begins.{MayBegin}
+use Rattle.wi_engine.specs.Inner.Begins.{IsNew, MayBegin}
 use Rattle.wi_engine.specs.Inner.Saving.{WhereRoom, Remembers, TakesNoMore, GivesUpWhenFull}
 use Rattle.wi_engine.specs.Inner.SettledFrames.{IsFrameSettled}
 use Rattle.wi_engine.specs.Inner.Plans.{StandsBelow}
@@ -112,3 +112,30 @@ pub record IsReadyFrame (s : Sheet) (n : MemoState) (f g : Frame) : Type 0 where
   pub key : g.key ≡ f.key
   pub begins : MayBegin s n g
   pub waiting : g.waiting ≡ Nothing
+
+-- ---- a frame that is begun for a key
+
+-- which goes on itself
+pub record GoesItself (s : Sheet) (m n : MemoState) (a b : Counts) (k : Key) (old new : List Frame) (g : Frame) : Type 0 where
+  pub ahead : GoesAhead s (case_at k) m n a b
+  pub begins : MayBegin s n g
+  pub key : g.key ≡ k
+  pub stack : new ≡ old
+
+-- or one that it rests on does, and it waits on the stack
+pub record GoesAbove (s : Sheet) (m n : MemoState) (a b : Counts) (k : Key) (old new : List Frame) (g h : Frame) : Type 0 where
+  pub hands : HandsOver s (case_at k) m n a b g
+  pub begins : MayBegin s n h
+  pub key : h.key ≡ k
+  pub stack : new ≡ old ++ h ∷ []
+
+-- in the place of a frame that has no values yet
+pub record BeginsOver (s : Sheet) (m n : MemoState) (a b : Counts) (k : Key) (old new : List Frame) (g : Frame) : Type 0 where
+  pub first : Frame
+  pub fresh : IsNew s first k
+  pub goes : GoesItself s m n a b k old new g ⊎ ((h : Frame) × GoesAbove s m n a b k old new g h)
+
+pub record StopsOver (s : Sheet) (m n : MemoState) (a b : Counts) (k : Key) : Type 0 where
+  pub first : Frame
+  pub fresh : IsNew s first k
+  pub stops : StopsAhead s (case_at k) m n a b
