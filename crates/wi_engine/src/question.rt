@@ -147,12 +147,10 @@ impl<M: Memo + Drop> Question<M> {
         };
         let waits = go_ahead(self, store, &plan, &mut frame);
         self.pool.put_plan(plan);
-        match waits? {
-            None => Ok(frame),
-            Some(first) => {
-                stack.push(frame)?;
-                Ok(first)
-            }
-        }
+        let Some(first) = waits? else {
+            return Ok(frame);
+        };
+        stack.push(frame)?;
+        Ok(first)
     }
 }

@@ -104,13 +104,13 @@ stops_frame {s} {root} {m} {n} {l} {a} {b} {g} memo e below begins turn =
     record { past = m; mid = a; ahead = ahead_none memo refl; ends = inr (g.key, stopped) }
 
 -- or before a frame that was handed over is waited for
-pub stops_hands : {s : Sheet} {root : Case} {m n : MemoState} {a b : Counts} {g : Frame} → HandsOver s root m n a b g → IsUnvaluedKey s n g.key → StopsAhead s root m n a b
-stops_hands {s} {root} {m} {n} {a} {b} {g} h key =
+pub stops_hands : {s : Sheet} {root : Case} {m n : MemoState} {a b : Counts} {g : Frame} → HandsOver s root m n a b g → StopsAhead s root m n a b
+stops_hands {s} {root} {m} {n} {a} {b} {g} h =
     let few = h.restarts in
     let same = h.evaluations in
     let stopped : IsStoppedAt s root n n h.mid b g.key = record {
       below = record { demanded = h.begun.demanded; lower = h.lower };
-      unvalued = key;
+      unvalued = record { key = h.begun.frame.key; unfound = h.begun.unfound; unkept = h.unkept };
       memo = h.ahead.spends.right;
       same = same_itself n;
       rises = h.rises;

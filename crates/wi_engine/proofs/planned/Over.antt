@@ -1,26 +1,35 @@
 -- A run of frames goes on after a plan's values were found for the frame on top, or with a frame that was handed over.
-use Rattle.std.proofs.Common.{◌≡◌, ◌<◌, ◌≤◌, ◌+◌, ◌⊎◌, inl, inr, ℕ, Bool, true, false, List, [], ◌∷◌, ◌++◌, Contains, is_some, refl, sym, ◌∙◌, subst, arith}
+use Rattle.std.proofs.Common.{◌≡◌, ◌<◌, ◌≤◌, ◌+◌, ◌⊎◌, inl, inr, ℕ, Bool, true, false, List, [], ◌∷◌, ◌++◌, filter, length, Contains, Option, Some, None, Result, IsErr, is_ok, is_some, refl, ap, sym, ◌∙◌, subst, arith}
 use Rattle.std.proofs.lemmas.Bool.{or_cases, or_right, true≢false}
+use Rattle.std.specs.Option.{is_none}
+use Rattle.wi_values.specs.declared.value.Value.{Value}
 use Rattle.wi_values.specs.declared.replacement.Replacement.{Replacement}
-use Rattle.wi_parser.specs.Sheet.{Sheet}
+use Rattle.wi_parser.specs.Tree.{Tree}
+use Rattle.wi_parser.specs.declared.content.Content.{Content}
+use Rattle.wi_parser.specs.declared.content.Content.TheVariants.{Constant, Formula}
+use Rattle.wi_parser.specs.Sheet.{Sheet, content_of, put_all}
 use Rattle.wi_functions.specs.Counts.{Counts}
 use Rattle.wi_cache.specs.declared.key.Key.{Key}
-use Rattle.wi_sheet.specs.Demand.{Case, demand, wants}
+use Rattle.wi_sheet.specs.Demand.{Case, demand, formulas_read_here, of_formula, wants, what_ifs_of}
 use Rattle.wi_sheet.specs.Settled.{RestsOnKept}
 use Rattle.wi_sheet.specs.Inner.Rank.{reach_rank}
 use Rattle.wi_sheet.specs.Inner.Spending.{IsClosed, NeverFall, SpentOn, Table, cost, left, plus}
 use Rattle.wi_sheet.proofs.CaseCosts.{left_falls, never_fall-then}
+use Rattle.wi_sheet.proofs.Filters.{all_pass}
 use Rattle.wi_sheet.proofs.SettledTables.{rests_more}
 use Rattle.wi_engine.specs.Inner.MemoState.{MemoState, IsMemoOf}
+use Rattle.wi_engine.specs.Inner.Attempt.{lacking}
 use Rattle.wi_engine.specs.Inner.Begins.{IsNew, MayBegin}
-use Rattle.wi_engine.specs.Inner.Frames.{case_at, IsFrame, IsBegun, IsDemanded, IsStack, IsUnvaluedKey, spare}
-use Rattle.wi_engine.specs.Inner.Planned.{GoesAhead, HandsOver, IsStoppedAt, StopsAhead}
+use Rattle.wi_engine.specs.Inner.Findings.{first_for, found_value, what_if_found}
+use Rattle.wi_engine.specs.Inner.Frames.{case_at, IsFrame, IsBegun, IsDemanded, IsStack, IsUnvaluedKey, spare, waits}
+use Rattle.wi_engine.specs.Inner.Planned.{BeginsOver, GoesAbove, GoesAhead, GoesItself, HandsOver, IsReadyFrame, IsStoppedAt, StopsAhead, StopsOver}
 use Rattle.wi_engine.specs.Inner.SettledFrames.{IsFrameSettled}
 use Rattle.wi_engine.specs.Inner.Spends.{Saved, Spends}
+use Rattle.wi_engine.specs.declared.findings.FoundWhatIf.{FoundWhatIf}
 use Rattle.wi_engine.specs.declared.frame.Frame.{Frame}
-use Rattle.wi_engine.proofs.Ledger.{same_then}
+use Rattle.wi_engine.proofs.Ledger.{same_then, spends_err}
 use Rattle.wi_engine.proofs.Places.{takes_then, gives_up_then}
-use Rattle.wi_engine.proofs.engine.Budgets.{all_apart, budget_over, budget_hands, budget_beside, not_taken}
+use Rattle.wi_engine.proofs.engine.Budgets.{all_apart, budget_over, budget_hands, budget_beside, not_taken, spare_any}
 use Rattle.wi_engine.proofs.engine.Ends.{IsGoing, going_stopped, turn_same}
 use Rattle.wi_engine.proofs.engine.FrameRuns.{IsRunning}
 use Rattle.wi_engine.proofs.engine.RunsWithRoom.{IsSaving, begins_new, by_kept, kept_memory_of}
@@ -28,7 +37,7 @@ use Rattle.wi_engine.proofs.engine.SettledFindings.{found_more}
 use Rattle.wi_engine.proofs.engine.Steps.{counts_none}
 use Rattle.wi_engine.proofs.engine.SettledStacks.{AreFramesSettled, one_more}
 use Rattle.wi_engine.proofs.engine.Stacks.{same_frame, push_stack, push_bottom, same_bottom}
-use Rattle.wi_engine.proofs.planned.Ahead.{unvalued_still}
+use Rattle.wi_engine.proofs.planned.Ahead.{ahead_none, unvalued_still}
 
 not_then : (b : Bool) → (b ≡ true → ⊥) → b ≡ false
 not_then true h = absurd (h refl)
@@ -214,3 +223,81 @@ going_stops_ahead {s} {old} {m} {n} {root} {start} {now} {next} {fs} {f} {k} i n
 -- more is found, so that less is left
 pub ahead_less : {s : Sheet} {root k : Case} {m n : MemoState} {a b : Counts} → GoesAhead s k m n a b → left (λ j. 1) n.found (demand s root) ≤ left (λ j. 1) m.found (demand s root)
 ahead_less {s} {root} {k} {m} {n} {a} {b} ahead = left_falls (λ j. 1) m.found n.found (demand s root) ahead.remembers.found
+
+-- ---- a frame that is begun
+
+module _ {s : Sheet} {m n : MemoState} {a b : Counts} {k : Key} {f : Frame} (new : IsNew s f k) where
+  pub begin_alone : {os : List Frame} → IsMemoOf s m → IsUnvaluedKey s m k → BeginsOver s m m a a k os os f
+  begin_alone memo key = record { first = f; fresh = new; goes = inl (record { ahead = ahead_none memo refl; begins = begins_new new key; key = new.key; stack = refl }) }
+
+  pub begin_ahead : {os : List Frame} {g : Frame} → GoesAhead s (case_at f.key) m n a b → IsReadyFrame s n f g → BeginsOver s m n a b k os os g
+  begin_ahead ahead ready = record { first = f; fresh = new; goes = inl (record { ahead = rw (← new.key) ahead; begins = ready.begins; key = ready.key ∙ new.key; stack = refl }) }
+
+  pub begin_hands : {os ns : List Frame} {g h : Frame} → HandsOver s (case_at f.key) m n a b g → IsReadyFrame s n f h → ns ≡ os ++ h ∷ [] → BeginsOver s m n a b k os ns g
+  begin_hands {os} {ns} {g} {h} hands ready pushed = record { first = f; fresh = new; goes = inr (h, record { hands = rw (← new.key) hands; begins = ready.begins; key = ready.key ∙ new.key; stack = pushed }) }
+
+  pub begin_stops : StopsAhead s (case_at f.key) m n a b → StopsOver s m n a b k
+  begin_stops stops = record { first = f; fresh = new; stops = rw (← new.key) stops }
+
+  -- it lacks all that its formula may ask for
+  full : wants s (case_at f.key) ≤ spare s f
+  full =
+      let nothing = ap waits new.waiting in
+      let l = within (content_of (put_all s f.key.world) f.key.cell) in
+      omega (arith, nothing, l)
+    where
+      cells : (t : Tree) → filter (λ (c : ℕ). is_none (found_value f.found c)) (formulas_read_here s t) ≡ formulas_read_here s t
+      cells t = all_pass (λ (c : ℕ). is_none (found_value f.found c)) (λ c. ap (λ (o : Option Value). is_none o) (new.cells c)) (formulas_read_here s t)
+
+      none : (c : ℕ) (ps : List (ℕ × ℕ)) → what_if_found f.found c ps ≡ None
+      none c ps = ap (λ (fs : List FoundWhatIf). first_for fs c ps) new.what_ifs
+
+      what_ifs : (t : Tree) → filter (λ (x : ℕ × List (ℕ × ℕ)). is_none (what_if_found f.found x.0 x.1)) (what_ifs_of t) ≡ what_ifs_of t
+      what_ifs t = all_pass (λ (x : ℕ × List (ℕ × ℕ)). is_none (what_if_found f.found x.0 x.1)) (λ x. ap (λ (o : Option Value). is_none o) (none x.0 x.1)) (what_ifs_of t)
+
+      within : (o : Option Content) → of_formula o 0 (λ t. length (formulas_read_here s t) + length (what_ifs_of t)) ≤ of_formula o 0 (λ t. lacking s t f.found)
+      within None = omega arith
+      within (Some (Constant v)) = omega arith
+      within (Some (Formula t)) =
+          let c = ap (λ (xs : List ℕ). length xs) (cells t) in
+          let x = ap (λ (xs : List (ℕ × List (ℕ × ℕ))). length xs) (what_ifs t) in
+          omega (arith, c, x)
+
+  less_new : {g : Frame} → g.key ≡ f.key → spare s g ≤ spare s f
+  less_new {g} key =
+      let few = spare_any s g in
+      let same = ap (λ (j : Key). wants s (case_at j)) key in
+      let all = full in
+      omega (arith, few, same, all)
+
+-- a run goes on with it
+pub begun_over : {s : Sheet} {old m n : MemoState} {root : Case} {start now next : Counts} {k : Key} {os ns : List Frame} {g : Frame} → ((f : Frame) → IsNew s f k → IsGoing s old m root start now os f) → BeginsOver s m n now next k os ns g → IsGoing s old n root start next ns g
+begun_over {s} {old} {m} {n} {root} {start} {now} {next} {k} {os} {ns} {g} i h = at h.goes
+  where
+    itself : GoesItself s m n now next k os ns g → IsGoing s old n root start next ns g
+    itself o = rw o.stack (going_over (i h.first h.fresh) (rw h.fresh.key o.ahead) o.begins (o.key ∙ sym h.fresh.key) (less_new h.fresh (o.key ∙ sym h.fresh.key)))
+
+    above : (f : Frame) → GoesAbove s m n now next k os ns g f → IsGoing s old n root start next ns g
+    above f o = rw o.stack (going_hands (i h.first h.fresh) (rw h.fresh.key o.hands) o.begins (o.key ∙ sym h.fresh.key) (less_new h.fresh (o.key ∙ sym h.fresh.key)))
+
+    at : GoesItself s m n now next k os ns g ⊎ ((f : Frame) × GoesAbove s m n now next k os ns g f) → IsGoing s old n root start next ns g
+    at (inl o) = itself o
+    at (inr o) = above o.0 o.1
+
+-- with no more left to find, and no higher
+pub begun_less : {s : Sheet} {m n : MemoState} {root : Case} {a b : Counts} {k : Key} {os ns : List Frame} {g : Frame} → BeginsOver s m n a b k os ns g → (left (λ j. 1) n.found (demand s root) ≤ left (λ j. 1) m.found (demand s root)) × (reach_rank s g.key.cell ≤ reach_rank s k.cell)
+begun_less {s} {m} {n} {root} {a} {b} {k} {os} {ns} {g} h = at h.goes
+  where
+    at : GoesItself s m n a b k os ns g ⊎ ((f : Frame) × GoesAbove s m n a b k os ns g f) → (left (λ j. 1) n.found (demand s root) ≤ left (λ j. 1) m.found (demand s root)) × (reach_rank s g.key.cell ≤ reach_rank s k.cell)
+    at (inl o) = let same = ap (λ (j : Key). reach_rank s j.cell) o.key in (ahead_less o.ahead, omega (arith, same))
+    at (inr o) = let lower = o.1.hands.lower in (ahead_less o.1.hands.ahead, omega (arith, lower))
+
+pub measure_less : (a b c x y z : ℕ) → a ≤ b → x ≤ y → b * c + y < z → a * c + x < z
+measure_less a b c x y z h k l =
+    let times : a * c ≤ b * c = grind (arith, h) in
+    omega (arith, times, k, l)
+
+-- where memory runs out on the way to it
+pub begun_stops : {X E : Type 0} {s : Sheet} {old m n : MemoState} {root : Case} {start now next : Counts} {k : Key} {os : List Frame} → ((f : Frame) → IsNew s f k → IsGoing s old m root start now os f) → IsUnvaluedKey s m k → StopsOver s m n now next k → (r : Result X E) → IsErr r → Spends s (λ ks. Contains ks root) old n start next (is_ok r)
+begun_stops {X} {E} {s} {old} {m} {n} {root} {start} {now} {next} {k} {os} i key h r e =
+    spends_err r e (going_stops_ahead (i h.first h.fresh) h.fresh (rw h.fresh.key key) (rw h.fresh.key h.stops))
