@@ -22,6 +22,7 @@ mod question;
 mod remembered;
 mod rising;
 mod seen;
+mod sure;
 mod together;
 mod walk;
 

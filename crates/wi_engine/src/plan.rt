@@ -1,10 +1,10 @@
 //! In which order the cells are valued on which a what-if's formula cell rests.
 
 use crate::seen::formula_at;
+use crate::sure::push_sure_cells;
 use std::alloc::{AllocError, Global};
 use std::collections::BTreeMap;
 use wi_cache::Key;
-use wi_functions::push_first_cells;
 use wi_store::Store;
 use wi_values::Address;
 use wi_worlds::World;
@@ -234,7 +234,7 @@ impl Making {
             return Ok(reads);
         };
         let mut first = Vec::new(self.alloc);
-        push_first_cells(formula, &mut first)?;
+        push_sure_cells(formula, &mut first)?;
         for read in &first {
             if formula_at(store, *read).is_some() {
                 let place = self.place_of(*read)?;

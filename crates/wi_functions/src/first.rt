@@ -5,8 +5,6 @@ ghost use Rattle.wi_parser.specs.View.{tree_of, all_of};
 ghost use Rattle.wi_functions.specs.Wants.{Asks, AnyAsks};
 ghost use Rattle.wi_functions.specs.declared.evaluation.Want.TheVariants as wanted;
 
-use crate::references::referred;
-use std::alloc::AllocError;
 use wi_calls::{Function, function_for};
 use wi_parser::{Expr, Formula};
 use wi_values::{Address, Text};
@@ -57,60 +55,5 @@ fn first_of_call(name: &Text, parameters: &[Expr]) -> Option<Address>
         Ok(Function::Values(_)) => first,
         Ok(Function::References(_)) => None,
         Err(_) => None,
-    }
-}
-
-/// Cells whose values each evaluation of the formula asks for, in the order in which it does.
-pub fn push_first_cells(formula: &Formula, cells: &mut Vec<Address>) -> Result<(), AllocError> {
-    push_first(formula.tree(), cells)
-}
-
-/// Cells that each evaluation of the expression asks for.
-#[cycle(listing)]
-fn push_first(expr: &Expr, cells: &mut Vec<Address>) -> Result<(), AllocError> {
-    match expr {
-        Expr::Number(_) => Ok(()),
-        Expr::Text(_) => Ok(()),
-        Expr::Cell(reference) => Ok(cells.push(reference.at)?),
-        Expr::Rectangle(_) => Ok(()),
-        Expr::Parenthesized(inner) => push_first(inner, cells),
-        Expr::Signed(_, inner) => push_first(inner, cells),
-        Expr::Percent(inner) => push_first(inner, cells),
-        Expr::Binary(_, left, right) => {
-            push_first(left, cells)?;
-            push_first(right, cells)
-        }
-        Expr::WhatIf(_, _) => Ok(()),
-        Expr::Call(name, parameters) => push_first_of_call(name, parameters, cells),
-    }
-}
-
-/// Cells that each evaluation of a call asks for.
-#[cycle(listing)]
-fn push_first_of_call(
-    name: &Text,
-    parameters: &[Expr],
-    cells: &mut Vec<Address>,
-) -> Result<(), AllocError> {
-    match function_for(name.as_str(), parameters.len()) {
-        Ok(Function::Lazy(_)) => match parameters.first() {
-            Some(parameter) => push_first(parameter, cells),
-            None => Ok(()),
-        },
-        Ok(Function::Values(_)) => {
-            for parameter in parameters {
-                push_first(parameter, cells)?;
-            }
-            Ok(())
-        }
-        Ok(Function::References(_)) => {
-            for parameter in parameters {
-                if referred(parameter).is_none() {
-                    push_first(parameter, cells)?;
-                }
-            }
-            Ok(())
-        }
-        Err(_) => Ok(()),
     }
 }

@@ -9,6 +9,6 @@ mod operators;
 mod references;
 
 pub use evaluation::{Outcome, Want, evaluate, zero_for_empty};
-pub use first::{first_cell, push_first_cells};
+pub use first::first_cell;
 pub use meter::Meter;
 pub use wi_lookup::{LookedUp, Lookup};

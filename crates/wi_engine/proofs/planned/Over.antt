@@ -1,5 +1,5 @@
 -- A run of frames goes on after a plan's values were found for the frame on top, or with a frame that was handed over.
-use Rattle.std.proofs.Common.{◌≡◌, ◌<◌, ◌≤◌, ◌+◌, ◌⊎◌, inl, inr, ℕ, Bool, true, false, List, [], ◌∷◌, ◌++◌, filter, length, Contains, Option, Some, None, Result, IsErr, is_ok, is_some, refl, ap, sym, ◌∙◌, subst, arith}
+use Rattle.std.proofs.Common.{◌≡◌, ◌<◌, ◌≤◌, ◌+◌, ◌*◌, ◌⊎◌, inl, inr, ℕ, Bool, true, false, List, [], ◌∷◌, ◌++◌, filter, length, Contains, Option, Some, None, Result, IsErr, is_ok, is_some, refl, ap, sym, ◌∙◌, subst, arith}
 use Rattle.std.proofs.lemmas.Bool.{or_cases, or_right, true≢false}
 use Rattle.std.specs.Option.{is_none}
 use Rattle.wi_values.specs.declared.value.Value.{Value}
