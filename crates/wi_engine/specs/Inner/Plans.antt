@@ -13,9 +13,9 @@ use Rattle.wi_sheet.specs.Demand.{Case, case_of, reaching}
 use Rattle.wi_sheet.specs.Inner.Rank.{reach_rank}
 use Rattle.wi_engine.specs.Inner.MemoState.{MemoState}
 use Rattle.wi_engine.specs.Inner.Frames.{MayBeRead, IsDemanded}
-use Rattle.wi_engine.specs.declared.places.Place.{Place}
-use Rattle.wi_engine.specs.declared.places.State.{State}
-use Rattle.wi_engine.specs.declared.places.State.TheVariants.{Unneeded, Needed, Opened, Known}
+use Rattle.wi_engine.specs.declared.standing.Place.{Place}
+use Rattle.wi_engine.specs.declared.standing.State.{State}
+use Rattle.wi_engine.specs.declared.standing.State.TheVariants.{Unneeded, Needed, Opened, Known}
 
 -- a formula reads this cell, and no what-if in it has an input
 pub record ReadsPlainly (t : Tree) (a : ℕ) : Type 0 where

@@ -1,6 +1,6 @@
 use Rattle.std.proofs.Common.{refl, sym, subst, List}
 use Rattle.wi_engine.specs.Inner.Plans.{ArePlacesOf}
-use Rattle.wi_engine.specs.declared.places.Place.{Place}
+use Rattle.wi_engine.specs.declared.standing.Place.{Place}
 use Rattle.wi_engine.proofs.planned.Ahead.{stops_first}
 use Rattle.wi_engine.proofs.planned.Once.{on_err}
 use Rattle.wi_engine.proofs.planned.go_ahead.Goals as goal

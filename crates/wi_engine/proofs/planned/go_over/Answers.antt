@@ -2,7 +2,7 @@ use Rattle.std.proofs.Common.{refl, rules}
 use Rattle.wi_engine.specs.Inner.Begins.{IsNew}
 use Rattle.wi_engine.specs.Inner.Frames.{case_at}
 use Rattle.wi_engine.proofs.engine.RunsWithRoom.{begins_new}
-use Rattle.wi_engine.proofs.places.Needs.{reads_needed, root_reader}
+use Rattle.wi_engine.proofs.standing.Needs.{reads_needed, root_reader}
 use Rattle.wi_engine.proofs.planned.Ahead.{planned_root, stops_here, unvalued_still}
 use Rattle.wi_engine.proofs.planned.Once.{on_err}
 use Rattle.wi_engine.proofs.planned.go_over.Goals as goal

@@ -1,7 +1,7 @@
 use Rattle.std.proofs.Common.{List, sym, subst}
 use Rattle.std.proofs.lemmas.List.Elements.{All-nil, All-push}
 use Rattle.wi_engine.specs.Inner.Plans.{IsPlaceOf, ArePlacesOf}
-use Rattle.wi_engine.specs.declared.places.Place.{Place}
+use Rattle.wi_engine.specs.declared.standing.Place.{Place}
 use Rattle.wi_engine.proofs.planned.places_of.Goals as goal
 
 pub loop-cell-init : goal.loop-cell-init

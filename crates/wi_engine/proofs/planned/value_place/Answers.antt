@@ -4,7 +4,7 @@ use Rattle.wi_engine.specs.Inner.MemoState.{MemoState, IsMemoOf}
 use Rattle.wi_engine.specs.Inner.Begins.{IsNew, MayBegin}
 use Rattle.wi_engine.specs.Inner.Frames.{MayBeRead, case_at}
 use Rattle.wi_engine.specs.Inner.Plans.{ArePlacesOf}
-use Rattle.wi_engine.proofs.places.Standing.{place_at, places_more, shown_stands}
+use Rattle.wi_engine.proofs.standing.Values.{place_at, places_more, shown_stands}
 use Rattle.wi_engine.proofs.planned.Ahead.{ahead_none, ahead_valued, hands_waiting, stops_first, stops_frame, below_unvalued, planned_new, valued_stands}
 use Rattle.wi_engine.proofs.planned.Once.{on_err}
 use Rattle.wi_engine.proofs.planned.value_place.Goals as goal

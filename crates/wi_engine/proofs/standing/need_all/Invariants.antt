@@ -2,7 +2,7 @@ use Rattle.wi_parser.specs.Sheet.{Sheet}
 use Rattle.wi_sheet.specs.Demand.{Case}
 use Rattle.wi_engine.specs.Inner.MemoState.{MemoState}
 use Rattle.wi_engine.specs.Inner.Plans.{AreReadsNeeded, ArePlacesOf}
-use Rattle.wi_engine.proofs.places.need_all.Given as goal
+use Rattle.wi_engine.proofs.standing.need_all.Given as goal
 
 -- all places are right still
 abbrev pub invariant-loop-read : goal.invariant-loop-read

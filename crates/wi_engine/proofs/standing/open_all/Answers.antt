@@ -1,4 +1,4 @@
-use Rattle.wi_engine.proofs.places.open_all.Goals as goal
+use Rattle.wi_engine.proofs.standing.open_all.Goals as goal
 
 pub loop-place-init : goal.loop-place-init
 loop-place-init c = λ m root e memo h. h

@@ -1,6 +1,6 @@
 use Rattle.std.proofs.Common.{refl, ◌∙◌}
-use Rattle.wi_engine.proofs.places.Standing.{place_at}
-use Rattle.wi_engine.proofs.places.give_all.Goals as goal
+use Rattle.wi_engine.proofs.standing.Values.{place_at}
+use Rattle.wi_engine.proofs.standing.give_all.Goals as goal
 
 pub loop-read-init : goal.loop-read-init
 loop-read-init c = record { key = refl; planned = λ s m root h p. p }

@@ -1,6 +1,6 @@
 use Rattle.std.proofs.Common.{arith}
 use Rattle.std.proofs.lemmas.Grind.{common_steps}
-use Rattle.wi_engine.proofs.places.is_in_one.Goals as goal
+use Rattle.wi_engine.proofs.standing.is_in_one.Goals as goal
 
 pub returns-then-contains : goal.returns-then-contains
 returns-then-contains c = grind (arith, common_steps)

@@ -4,7 +4,7 @@ use Rattle.wi_sheet.specs.Demand.{Case}
 use Rattle.wi_engine.specs.Inner.MemoState.{MemoState}
 use Rattle.wi_engine.specs.Inner.Planned.{IsPlannedFrame}
 use Rattle.wi_engine.specs.Inner.Plans.{ArePlacesOf}
-use Rattle.wi_engine.proofs.places.give_all.Given as goal
+use Rattle.wi_engine.proofs.standing.give_all.Given as goal
 
 -- it is the frame of the same key, and right still
 abbrev pub invariant-loop-read : goal.invariant-loop-read

@@ -2,7 +2,7 @@ use Rattle.std.proofs.Common.{◌∙◌, List, sym, ap, rules}
 use Rattle.std.specs.List.{list_any}
 use Rattle.wi_values.specs.Address.{Area, is_within}
 use Rattle.wi_parser.proofs.Rectangles.{reads_within}
-use Rattle.wi_engine.proofs.places.reads_plainly.Goals as goal
+use Rattle.wi_engine.proofs.standing.reads_plainly.Goals as goal
 
 pub returns : goal.returns
 returns c = λ h. record {

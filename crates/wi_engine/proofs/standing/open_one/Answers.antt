@@ -1,8 +1,8 @@
 use Rattle.std.proofs.Common.{ap, ◌∙◌}
 use Rattle.wi_parser.specs.Sheet.{content_of, put_all}
-use Rattle.wi_engine.proofs.places.Standing.{place_at}
-use Rattle.wi_engine.proofs.places.Needs.{reads_needed, needed_reader}
-use Rattle.wi_engine.proofs.places.open_one.Goals as goal
+use Rattle.wi_engine.proofs.standing.Values.{place_at}
+use Rattle.wi_engine.proofs.standing.Needs.{reads_needed, needed_reader}
+use Rattle.wi_engine.proofs.standing.open_one.Goals as goal
 
 pub returns-in_default : goal.returns-in_default
 returns-in_default c = λ m root e memo h. h

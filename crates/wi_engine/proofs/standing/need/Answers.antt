@@ -1,4 +1,4 @@
-use Rattle.wi_engine.proofs.places.need.Goals as goal
+use Rattle.wi_engine.proofs.standing.need.Goals as goal
 
 pub returns-in_default : goal.returns-in_default
 returns-in_default c = λ s m root r h. h

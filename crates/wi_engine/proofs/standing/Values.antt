@@ -9,9 +9,9 @@ use Rattle.wi_engine.specs.Inner.MemoState.{MemoState, IsMemoOf}
 use Rattle.wi_engine.specs.Inner.Saving.{NeedsNoEvaluation, Remembers}
 use Rattle.wi_engine.specs.Inner.Steps.{IsShownNow}
 use Rattle.wi_engine.specs.Inner.Plans.{IsNeeded, IsSpared, IsStanding, IsStateOf, IsPlaceOf, ArePlacesOf}
-use Rattle.wi_engine.specs.declared.places.Place.{Place}
-use Rattle.wi_engine.specs.declared.places.State.{State}
-use Rattle.wi_engine.specs.declared.places.State.TheVariants.{Unneeded, Needed, Opened, Known}
+use Rattle.wi_engine.specs.declared.standing.Place.{Place}
+use Rattle.wi_engine.specs.declared.standing.State.{State}
+use Rattle.wi_engine.specs.declared.standing.State.TheVariants.{Unneeded, Needed, Opened, Known}
 
 -- a value that is there now stands
 pub shown_stands : {s : Sheet} {m : MemoState} {w : List Replacement} {a : ℕ} {v : Value} → IsMemoOf s m → IsShownNow s m w a v → IsStanding s m w a v

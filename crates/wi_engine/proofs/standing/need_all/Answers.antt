@@ -1,4 +1,4 @@
-use Rattle.wi_engine.proofs.places.need_all.Goals as goal
+use Rattle.wi_engine.proofs.standing.need_all.Goals as goal
 
 pub loop-read-init : goal.loop-read-init
 loop-read-init c = λ s m root r h. h

@@ -2,7 +2,7 @@ use Rattle.std.proofs.Common.{◌≡◌}
 use Rattle.wi_sheet.specs.Demand.{Case}
 use Rattle.wi_engine.specs.Inner.MemoState.{MemoState, IsMemoOf}
 use Rattle.wi_engine.specs.Inner.Plans.{ArePlacesOf}
-use Rattle.wi_engine.proofs.places.open_all.Given as goal
+use Rattle.wi_engine.proofs.standing.open_all.Given as goal
 
 -- all places are right still
 abbrev pub invariant-loop-place : goal.invariant-loop-place
