@@ -174,7 +174,7 @@ pub fn go_ahead<'a, M: Memo + Drop>(
         question.old.meter question.new.meter) }
 {
     let alloc = question.pool.allocator();
-    let mut made = places_of(alloc, &plan.cells)?;
+    let mut made: Vec<Place<'a>> = places_of(alloc, &plan.cells)?;
     go_over(question, store, plan, frame, &mut made)
 }
 

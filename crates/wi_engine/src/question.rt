@@ -73,7 +73,12 @@ impl<M: Memo + Drop> Question<M> {
 
     /// The value of a formula under the replacements of its key, found by a stack of frames. The value of each frame goes to
     /// the one below, which may wait for it, and then to the memory, by `Memo::keep`.
-    fn run(&mut self, store: &Store, key: Key, formula: &Formula) -> Result<Value, AllocError>
+    fn run<'a>(
+        &mut self,
+        store: &'a Store,
+        key: Key,
+        formula: &'a Formula,
+    ) -> Result<Value, AllocError>
         requires memo { IsMemoOf store.now.sheet (M.state self.old.memo) }
         requires key { IsUnvaluedKey store.now.sheet (M.state self.old.memo) key }
         requires formula { StandsAt store.now.sheet key formula.now }
