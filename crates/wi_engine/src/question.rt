@@ -14,7 +14,7 @@ ghost use Rattle.wi_engine.specs.Inner.Spends.{Spends};
 
 use crate::asked::value_now;
 use crate::engine::{advance, take_in};
-use crate::frame::{Advance, Asked, Frame, Unvalued};
+use crate::frame::{Advance, Asked, Frame};
 use crate::memo::Memo;
 use crate::planned::go_ahead;
 use crate::pool::Pool;
@@ -94,14 +94,13 @@ impl<M: Memo + Drop> Question<M> {
     {
         let alloc = self.pool.allocator();
         let mut stack = Vec::new(alloc);
-        let lowest = Unvalued { key, formula };
-        let mut frame = self.begin(store, &mut stack, lowest, true)?;
+        let mut frame = self.begin(store, &mut stack, key, formula, true)?;
         'frames: loop {
             match advance(alloc, store, &mut frame, &mut self.memo, &mut self.meter)? {
                 Advance::Unvalued(next) => {
                     let asks = frame.waits_for_what_if(next.key.cell);
                     stack.push(frame)?;
-                    frame = self.begin(store, &mut stack, next, asks)?;
+                    frame = self.begin(store, &mut stack, next.key, next.formula, asks)?;
                 }
                 Advance::Done(value) => match stack.pop() {
                     None => {
@@ -130,20 +129,21 @@ impl<M: Memo + Drop> Question<M> {
         &mut self,
         store: &'a Store,
         stack: &mut Vec<Frame<'a>>,
-        next: Unvalued<'a>,
+        key: Key,
+        formula: &'a Formula,
         asks: bool,
     ) -> Result<Frame<'a>, AllocError>
         requires memo { IsMemoOf store.now.sheet (M.state self.old.memo) }
-        requires key { IsUnvaluedKey store.now.sheet (M.state self.old.memo) next.key }
-        requires formula { StandsAt store.now.sheet next.key next.formula.now }
+        requires key { IsUnvaluedKey store.now.sheet (M.state self.old.memo) key }
+        requires formula { StandsAt store.now.sheet key formula.now }
         ensures begins { IfOk result (BeginsOver store.now.sheet
             (M.state self.old.memo) (M.state self.new.memo) self.old.meter self.new.meter
-            next.entry.key stack.old.items stack.new.items) }
+            key stack.old.items stack.new.items) }
         ensures stops { OnErr result (StopsOver store.now.sheet
             (M.state self.old.memo) (M.state self.new.memo) self.old.meter self.new.meter
-            next.entry.key) }
+            key) }
     {
-        let mut frame = Frame::new(next.key, next.formula, self.pool.take());
+        let mut frame = Frame::new(key, formula, self.pool.take());
         if !asks {
             return Ok(frame);
         }
