@@ -194,11 +194,27 @@ pub fn give_all<'a>(
         → IsPlannedFrame s m root frame.new) }
 {
     for read in reads {
-        if let Some(place) = places.get(*read) {
-            give(alloc, place, frame)?;
-        }
+        give_at(alloc, *read, places, frame)?;
     }
     Ok(())
+}
+
+/// Puts the value of the cell at a place into what was found for a frame, if there is such a place.
+fn give_at<'a>(
+    alloc: Global,
+    at: usize,
+    places: &[Place<'a>],
+    frame: &mut Frame<'a>,
+) -> Result<(), AllocError>
+    ensures key { frame.new.key ≡ frame.old.key }
+    ensures planned { OnOk result ((s : Sheet) (m : MemoState) (root : Case)
+        → ArePlacesOf s m root places.now → IsPlannedFrame s m root frame.old
+        → IsPlannedFrame s m root frame.new) }
+{
+    let Some(place) = places.get(at) else {
+        return Ok(());
+    };
+    give(alloc, place, frame)
 }
 
 /// Puts the value of the cell at a place into what was found for a frame.

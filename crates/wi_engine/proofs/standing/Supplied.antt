@@ -17,15 +17,13 @@ use Rattle.wi_engine.specs.Inner.MemoState.{MemoState}
 use Rattle.wi_engine.specs.Inner.Findings.{IsWithCell}
 use Rattle.wi_engine.specs.Inner.Frames.{case_at}
 use Rattle.wi_engine.specs.Inner.Saving.{KeepsFound, not_kept}
-use Rattle.wi_engine.specs.Inner.SettledFrames.{IsFrameSettled}
 use Rattle.wi_engine.specs.Inner.Planned.{IsPlannedFrame}
 use Rattle.wi_engine.specs.Inner.Plans.{ReadsPlainly, IsSpared, IsStanding}
 use Rattle.wi_engine.specs.declared.frame.Frame.{Frame}
 use Rattle.wi_engine.proofs.engine.NextValues.{cell_found_frame}
 use Rattle.wi_engine.proofs.engine.SettledFindings.{IsSettledFor, frame_cell}
 
-module _ {s : Sheet} {m : MemoState} {root : Case} {f g : Frame} {a : ℕ} {v x : Value} (p : IsPlannedFrame s m root f) (h : ReadsPlainly f.formula.now a) (st : IsStanding s m root.1 a v) (is : x ≡ v) (more : IsWithCell f.found g.found a x)
-    (key : g.key ≡ f.key) (formula : g.formula.now ≡ f.formula.now) (waiting : g.waiting ≡ f.waiting) where
+module _ {s : Sheet} {m : MemoState} {root : Case} {f : Frame} {a : ℕ} {v : Value} (p : IsPlannedFrame s m root f) (h : ReadsPlainly f.formula.now a) (st : IsStanding s m root.1 a v) where
   reached : reaches s f.key.cell a ≡ true
   reached = reaches_read s f.key.cell a (put_reads s f.key.world f.key.cell a (tree_reads (put_all s f.key.world) f.key.cell f.formula.now a p.begins.frame.formula h.read))
 
@@ -36,8 +34,8 @@ module _ {s : Sheet} {m : MemoState} {root : Case} {f g : Frame} {a : ℕ} {v x 
   same_content : content_of (put_all s f.key.world) a ≡ content_of (put_all s root.1) a
   same_content = sym (content_below s a f.key.world) ∙ ap (λ (w : List Replacement). content_of (put_all s w) a) same_world ∙ content_below s a root.1
 
-  right : x ≡ cell_value (put_all s f.key.world) a
-  right = is ∙ st.value ∙ sym (value_below s f.key.cell a root.1 reached) ∙ ap (λ (w : List Replacement). cell_value (put_all s w) a) (sym p.world)
+  right : v ≡ cell_value (put_all s f.key.world) a
+  right = st.value ∙ sym (value_below s f.key.cell a root.1 reached) ∙ ap (λ (w : List Replacement). cell_value (put_all s w) a) (sym p.world)
 
   there : (ks : List Case) → Contains ks (case_at f.key) → KeepsFound m → not_kept m ks ≤ m.room → IsSpared s m root.1 a → IsSettled s m.kept f.key.world a
   there ks top whole room (inl i) = inl (ap (λ (o : Option Content). has_formula o) same_content ∙ i)
@@ -46,17 +44,14 @@ module _ {s : Sheet} {m : MemoState} {root : Case} {f g : Frame} {a : ℕ} {v x 
       let one = one_less_left m.kept (λ c w. m.kept c w || same_case (case_at f.key) (c, w)) (case_at f.key) ks (λ c w. refl) p.begins.unvalued.unkept top in
       inr (ap (m.kept a) same_world ∙ i (omega (arith, one, room)))
 
-  settled : (ks : List Case) → Contains ks (case_at f.key) → KeepsFound m → not_kept m ks ≤ m.room → IsFrameSettled s m.kept f → IsFrameSettled s m.kept g
-  settled ks top whole room k = subst (λ (j : Key). IsSettledFor s m.kept j g.found) (sym key) (frame_cell s m.kept f g.found a x more (there ks top whole room st.spared) k)
-
-  pub supplied : IsPlannedFrame s m root g
-  supplied = record {
+  pub supplied : {g : Frame} (x : Value) → x ≡ v → IsWithCell f.found g.found a x → g.key ≡ f.key → g.formula.now ≡ f.formula.now → g.waiting ≡ f.waiting → IsPlannedFrame s m root g
+  supplied {g} x is more key formula waiting = record {
     begins = record {
       unvalued = rw key p.begins.unvalued;
-      frame = cell_found_frame s m f g a x p.begins.frame key formula (waiting ∙ p.waiting) more right;
+      frame = cell_found_frame s m f g a x p.begins.frame key formula (waiting ∙ p.waiting) more (is ∙ right);
       settled = λ ks closed top whole room.
           let here : Contains ks (case_at f.key) = subst (λ (j : Key). Contains ks (case_at j)) key top in
-          settled ks here whole room (p.begins.settled ks closed here whole room);
+          subst (λ (j : Key). IsSettledFor s m.kept j g.found) (sym key) (frame_cell s m.kept f g.found a x more (there ks here whole room st.spared) (p.begins.settled ks closed here whole room));
     };
     waiting = waiting ∙ p.waiting;
     world = rw key p.world;
