@@ -1,10 +1,14 @@
+use Rattle.std.proofs.Common.{false, refl, rules}
+use Rattle.wi_cli.specs.Inner.EditCommands.{edit_command}
 use Rattle.wi_cli.specs.Inner.Script.{named_command, spelled_command}
+use Rattle.wi_cli.specs.Inner.Spelling.{IsCommandOf}
+use Rattle.wi_cli.specs.Lines.{first_word, after_word}
 use Rattle.wi_cli.proofs.NamedLemmas.{named}
 use Rattle.wi_cli.proofs.command.read_command.Goals as goal
 
 pub returns-in-force : goal.returns-in-force
 unfolding spelled_command
-returns-in-force c = named named_command c.args.text.now _ _ _ _ c.split_word.ensures.word c.split_word.ensures.rest c.in-force.is c.read_edit.ensures
+returns-in-force c = named named_command c.args.text.now _ _ _ _ c.split_word.ensures.word c.split_word.ensures.rest c.in-force.is c.read_forced.ensures
 
 pub returns-in-scenario : goal.returns-in-scenario
 unfolding spelled_command
@@ -49,3 +53,10 @@ returns-in-table c = named named_command c.args.text.now _ _ _ _ c.split_word.en
 pub returns-in-formula : goal.returns-in-formula
 unfolding spelled_command
 returns-in-formula c = named named_command c.args.text.now _ _ _ _ c.split_word.ensures.word c.split_word.ensures.rest c.in-formula.is c.read_formula.ensures
+
+pub returns-in_default : goal.returns-in_default
+unfolding spelled_command
+returns-in_default c =
+    let same : IsCommandOf (edit_command false (first_word c.args.text.now) (after_word c.args.text.now)) c.read_edit.result =
+    named (edit_command false) c.args.text.now _ _ _ _ c.split_word.ensures.word c.split_word.ensures.rest refl c.read_edit.ensures in
+    search rules
