@@ -3,7 +3,7 @@ use Rattle.std.proofs.Common.{◌≡◌, ℕ, zero, suc, List, [], ◌∷◌, sl
 use Rattle.std.specs.Prelude.{map, unwrap_or}
 use Rattle.wi_values.specs.declared.value.Value.{Value}
 use Rattle.wi_standard_functions.specs.Arguments.{Argument, value_or}
-use Rattle.wi_calls.specs.Applied.{arguments_of}
+use Rattle.wi_names.specs.Applied.{arguments_of}
 
 -- at a place
 pub given_or : (default : Value) (vs : List Value) (i : ℕ) → value_or default (arguments_of vs) i ≡ unwrap_or (slice_get vs i) default

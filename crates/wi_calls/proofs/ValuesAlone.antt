@@ -11,11 +11,11 @@ use Rattle.wi_standard_functions.specs.Rounding.{int_value, round_value}
 use Rattle.wi_standard_functions.specs.Text.{len_value, left_value, right_value, mid_value, concatenate_value, exact_value, find_value, rept_value}
 use Rattle.wi_values.specs.declared.value.Value.{Value as AnyValue}
 use Rattle.wi_values.specs.declared.value.Value.TheVariants.{Empty, Logical}
-use Rattle.wi_calls.specs.Applied.{applied, applied_to_values, arguments_of, passes}
-use Rattle.wi_calls.specs.declared.function.Function.TheVariants.{Values}
-use Rattle.wi_calls.specs.declared.function.TextFunction.TheVariants.{Concatenate, Exact, Find, Left, Len, Mid, Rept, Right}
-use Rattle.wi_calls.specs.declared.function.ValueFunction.{ValueFunction}
-use Rattle.wi_calls.specs.declared.function.ValueFunction.TheVariants.{Abs, False, Int, Is, Mod, Na, Not, Power, Quotient, Round, Sign, Text, True, Value}
+use Rattle.wi_names.specs.Applied.{applied, applied_to_values, arguments_of, passes}
+use Rattle.wi_names.specs.declared.function.Function.TheVariants.{Values}
+use Rattle.wi_names.specs.declared.function.TextFunction.TheVariants.{Concatenate, Exact, Find, Left, Len, Mid, Rept, Right}
+use Rattle.wi_names.specs.declared.function.ValueFunction.{ValueFunction}
+use Rattle.wi_names.specs.declared.function.ValueFunction.TheVariants.{Abs, False, Int, Is, Mod, Na, Not, Power, Quotient, Round, Sign, Text, True, Value}
 
 -- the arguments' values
 abbrev pub values_of : List Argument → List AnyValue

@@ -2,10 +2,10 @@
 
 ghost use Rattle.std.specs.Prelude.{◌≡◌, IfOk};
 ghost use Rattle.wi_standard_functions.specs.Arguments.{value_or};
-ghost use Rattle.wi_calls.specs.Applied.{applied_to_values, arguments_of, passes};
+ghost use Rattle.wi_names.specs.Applied.{applied_to_values, arguments_of, passes};
 
-use crate::function::{Test, TextFunction, ValueFunction};
 use std::alloc::{AllocError, Global};
+use wi_names::{Test, TextFunction, ValueFunction};
 use wi_scalar_functions::{
     abs_value, false_value, int_value, is_empty_value, is_error_value, is_logical_value,
     is_no_text, is_not_available, is_number_value, is_other_error, is_text_value, mod_value,

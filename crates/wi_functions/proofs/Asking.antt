@@ -6,7 +6,8 @@ use Rattle.wi_values.specs.declared.value.Value.{Value}
 use Rattle.wi_parser.specs.declared.expr.Corners.{Corners}
 use Rattle.wi_parser.specs.declared.expr.Operator.{Operator}
 use Rattle.wi_parser.specs.Tree.{Tree, Trees, cell, rectangle, binary}
-use Rattle.wi_parser.specs.Leaves.{Leaf, rectangle_leaf, leaves, all_leaves}
+use Rattle.wi_parser.specs.Inner.Firsts.{IsReferenceTo, Refers}
+use Rattle.wi_parser.specs.Leaves.{Leaf, cell_leaf, rectangle_leaf, what_if_leaf, leaves, all_leaves}
 use Rattle.wi_values.specs.Address.{is_within}
 use Rattle.wi_values.proofs.Corners.{corners_may_turn}
 use Rattle.wi_parser.specs.Reads.{area_of}
@@ -53,6 +54,15 @@ left_asks op t u w a = any_left (λ l. LeafAsks l w) (leaves t) (leaves u) a
 
 pub right_asks : (op : Operator) (t u : Tree) (w : Want) → Asks u w → Asks (binary op t u) w
 right_asks op t u w a = any_right (λ l. LeafAsks l w) (leaves t) (leaves u) a
+
+-- the cell to which a reference of a tree refers, the tree asks for
+pub reference_to_asks : (t : Tree) (a : ℕ) → Refers t a → Asks t (Cell a)
+reference_to_asks t a (k, l, i, same, h) = (k, l, i, same, by l h)
+  where
+    by : (m : Leaf) → IsReferenceTo a m → LeafAsks m (Cell a)
+    by (cell_leaf r) e = e
+    by (rectangle_leaf c) e = absurd e
+    by (what_if_leaf f pairs) e = absurd e
 
 -- ---- how an evaluation stops
 

@@ -19,8 +19,8 @@ use Rattle.wi_parser.specs.View.{tree_of, all_of}
 use Rattle.wi_standard_functions.specs.Arguments.{Argument, value_or}
 use Rattle.wi_standard_functions.specs.Inner.Named.{argument_of}
 use Rattle.wi_standard_functions.specs.Functions.{call_value}
-use Rattle.wi_calls.specs.Applied.{applied}
-use Rattle.wi_calls.specs.declared.function.Function.{Function}
+use Rattle.wi_names.specs.Applied.{applied}
+use Rattle.wi_names.specs.declared.function.Function.{Function}
 use Rattle.wi_lookup.specs.Arguments.{value_of_area, argument_in, arguments_in, refers_to}
 use Rattle.wi_lookup.specs.declared.argument.Argument as given
 use Rattle.wi_functions.specs.Meaning.{meaning, arguments, referred}
@@ -58,12 +58,12 @@ length_arguments [] cells what_ifs = refl
 length_arguments (x ∷ es) cells what_ifs = ap (λ (n : ℕ). suc n) (length_arguments es cells what_ifs)
 
 -- a call is worth what the function gives that is found for its name
-pub call_found : (es : List Expr) (name given_name : List ℕ) (f g : Function) (cells : ℕ → Value) (what_ifs : ℕ → List (ℕ × ℕ) → Value) →
-    ((args : List Argument) → length args ≡ length es → call_value name args ≡ applied f args) → f ≡ g → name ≡ given_name →
-    applied g (arguments (all_of es) cells what_ifs) ≡ call_value given_name (arguments (all_of es) cells what_ifs)
-call_found es name given_name f g cells what_ifs found is same =
+pub call_found : (es : List Expr) (name : List ℕ) (f g : Function) (cells : ℕ → Value) (what_ifs : ℕ → List (ℕ × ℕ) → Value) →
+    ((args : List Argument) → length args ≡ length es → call_value name args ≡ applied f args) → f ≡ g →
+    applied g (arguments (all_of es) cells what_ifs) ≡ call_value name (arguments (all_of es) cells what_ifs)
+call_found es name f g cells what_ifs found is =
     let args = arguments (all_of es) cells what_ifs in
-    ap (λ (h : Function). applied h args) (sym is) ∙ sym (found args (length_arguments es cells what_ifs)) ∙ ap (λ (n : List ℕ). call_value n args) same
+    ap (λ (h : Function). applied h args) (sym is) ∙ sym (found args (length_arguments es cells what_ifs))
 
 -- ---- the value of a reference
 

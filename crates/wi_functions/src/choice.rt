@@ -2,7 +2,7 @@
 //! CHOOSE).
 
 ghost use Rattle.std.specs.Prelude.{ℕ};
-ghost use Rattle.wi_calls.specs.declared.function.LazyFunction.TheVariants as functions;
+ghost use Rattle.wi_names.specs.declared.function.LazyFunction.TheVariants as functions;
 ghost use Rattle.wi_functions.specs.Inner.Calls.{Chooses};
 
 use wi_calls::LazyFunction;

@@ -5,8 +5,8 @@ ghost use Rattle.wi_parser.specs.View.{tree_of, all_of, pair_of};
 ghost use Rattle.wi_parser.specs.Tree.{cell, rectangle, signed, percent, binary, call};
 ghost use Rattle.wi_parser.specs.Tree.{what_if as what_if_tree};
 ghost use Rattle.wi_standard_functions.specs.Arguments.{value_or};
-ghost use Rattle.wi_calls.specs.Applied.{applied};
-ghost use Rattle.wi_calls.specs.declared.function.Function.TheVariants.{Lazy};
+ghost use Rattle.wi_names.specs.Applied.{applied};
+ghost use Rattle.wi_names.specs.declared.function.Function.TheVariants.{Lazy};
 ghost use Rattle.wi_lookup.specs.Arguments.{arguments_in};
 ghost use Rattle.wi_functions.specs.Meaning as formulas;
 ghost use Rattle.wi_functions.specs.Operators as operators;
@@ -21,8 +21,9 @@ use crate::meter::Meter;
 use crate::operators::{hundredth, operate, with_sign};
 use crate::references::{referred, value_of_references};
 use std::alloc::{AllocError, AllocFailed, Global};
-use wi_calls::{Function, LazyFunction, function_for, value_of_values};
+use wi_calls::{Function, LazyFunction, value_of_values};
 use wi_lookup::{Argument, LookedUp, Lookup, Stop as Missing};
+use wi_names::Name;
 use wi_parser::{Corners, Expr, Formula, Operator, Pair, Reference, Sign};
 use wi_scalar_functions::zero;
 use wi_values::{Address, ErrorKind, Text, Value};
@@ -213,14 +214,14 @@ fn with_right_operand<L: Lookup>(
 #[inline(never)]
 fn call_value<L: Lookup>(
     alloc: Global,
-    name: &Text,
+    name: &Name,
     parameters: &[Expr],
     lookup: &L,
 ) -> Result<Value, Stop>
     ensures { Evaluates L.known_cell L.known_what_if lookup.now result
         (of_tree (call name.now (all_of parameters.now))) }
 {
-    match function_for(name.as_str(), parameters.len()) {
+    match name.function(parameters.len()) {
         Err(error) => Ok(Value::Fault(error)),
         Ok(Function::Lazy(function)) => lazy_value(alloc, function, parameters, lookup),
         Ok(Function::Values(function)) => {

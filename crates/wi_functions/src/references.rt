@@ -2,9 +2,9 @@
 
 ghost use Rattle.std.specs.Prelude.{◌≡◌, IfOk, IfErr};
 ghost use Rattle.wi_parser.specs.View.{tree_of};
-ghost use Rattle.wi_calls.specs.Applied.{applied};
-ghost use Rattle.wi_calls.specs.declared.function.Function.TheVariants.{References};
-ghost use Rattle.wi_calls.specs.declared.function.ReferenceFunction.TheVariants.{Fold};
+ghost use Rattle.wi_names.specs.Applied.{applied};
+ghost use Rattle.wi_names.specs.declared.function.Function.TheVariants.{References};
+ghost use Rattle.wi_names.specs.declared.function.ReferenceFunction.TheVariants.{Fold};
 ghost use Rattle.wi_lookup.specs.Arguments.{IsOfArguments, IsMissing, IfMissing};
 ghost use Rattle.wi_functions.specs.Meaning as formulas;
 

@@ -1,6 +1,7 @@
 -- Words of the code's own contracts, and readers that laws tie to the definitions. Nothing here needs belief.
 pub mod Deepest
 pub mod Faults
+pub mod Firsts
 pub mod FormulaText
 pub mod Inside
 pub mod Lines

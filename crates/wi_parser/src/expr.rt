@@ -7,6 +7,7 @@ ghost use Rattle.wi_parser.specs.Tree as tree;
 
 use std::alloc::{AllocError, Global};
 use wi_fraction::Fraction;
+use wi_names::Name;
 use wi_values::{Address, Rect, Text};
 
 /// A reference to one cell. What is absolute stays where a formula is filled into other cells.
@@ -80,7 +81,7 @@ pub enum Expr {
     /// The value of a formula cell, if each input had the value of its replacement cell.
     WhatIf(Reference, Vec<Pair>),
     /// A function by its name in capitals, with its parameters.
-    Call(Text, Vec<Expr>),
+    Call(Name, Vec<Expr>),
 }
 
 impl Expr {
@@ -144,7 +145,7 @@ pub(crate) fn what_if(
 }
 
 /// The tree of a call of the function with this name.
-pub(crate) fn call(alloc: Global, name: &Text, parameters: Vec<Expr>) -> Result<Expr, AllocError>
+pub(crate) fn call(alloc: Global, name: &Name, parameters: Vec<Expr>) -> Result<Expr, AllocError>
     ensures { IfOk result (λ e. tree_of e ≡ tree.call name.now (all_of parameters.items)) }
 {
     Ok(Expr::Call(name.copy(alloc)?, parameters))

@@ -1,6 +1,6 @@
 //! A formula.
 
-ghost use Rattle.std.specs.Prelude.{◌≡◌, ◌≤◌, ◌++◌, ◌∷◌, [], map, length, Ok, IfOk, OnOk, OnErr, string_bytes};
+ghost use Rattle.std.specs.Prelude.{◌≡◌, ◌≤◌, ◌++◌, ◌∷◌, [], map, length, Ok, IfOk, IfSome, OnOk, OnErr, string_bytes};
 ghost use Rattle.std.specs.List.{flat_map};
 ghost use Rattle.wi_parser.specs.View.{tree_of, all_of, pair_of};
 ghost use Rattle.wi_parser.specs.Leaves.{all_leaves};
@@ -10,10 +10,12 @@ ghost use Rattle.wi_parser.specs.Shift.{shifted, ShiftsTo};
 ghost use Rattle.wi_parser.specs.Printing.{printed};
 ghost use Rattle.wi_parser.specs.Inner.Lines.{Spells, loosest};
 ghost use Rattle.wi_parser.specs.Inner.FormulaText.{formula_symbols};
+ghost use Rattle.wi_parser.specs.Inner.Firsts.{Refers};
 ghost use Rattle.wi_parser.specs.Limits.{max_formula};
 ghost use Rattle.wi_parser.specs.Inner.Reading.{parsed};
 
 use crate::expr::{Expr, Pair};
+use crate::first::first_of;
 use crate::print;
 use crate::shift::{self, ShiftFault};
 use std::alloc::{AllocError, Global};
@@ -34,6 +36,8 @@ struct Parts {
     inputs: Vec<Address>,
     /// The rectangles of its precedents.
     rectangles: Vec<Rect>,
+    /// A cell whose value each evaluation asks for.
+    first: Option<Address>,
 }
 
 impl Parts {
@@ -42,6 +46,7 @@ impl Parts {
         ensures expr { IfOk result (λ p. tree_of p.expr ≡ tree_of self.now.expr) }
         ensures inputs { IfOk result (λ p. p.inputs.items ≡ self.now.inputs.items) }
         ensures rectangles { IfOk result (λ p. p.rectangles.items ≡ self.now.rectangles.items) }
+        ensures first { IfOk result (λ p. p.first ≡ self.now.first) }
     {
         let expr = self.expr.copy(alloc)?;
         let inputs = Vec::from_slice(alloc, &self.inputs)?;
@@ -50,6 +55,7 @@ impl Parts {
             expr,
             inputs,
             rectangles,
+            first: self.first,
         })
     }
 }
@@ -80,10 +86,12 @@ impl Formula {
         let mut inputs = Vec::new(alloc);
         let mut rectangles = Vec::new(alloc);
         push_leaves(&expr, &mut inputs, &mut rectangles)?;
+        let first = first_of(&expr);
         let parts = Parts {
             expr,
             inputs,
             rectangles,
+            first,
         };
         Ok(Formula {
             parts: Box::new(alloc, parts)?,
@@ -110,6 +118,14 @@ impl Formula {
         ensures { result.now ≡ rectangles_of self.now }
     {
         &self.parts.rectangles
+    }
+
+    /// A cell to which it refers and whose value each evaluation of it asks for, where one is easily seen: the first of these in
+    /// the order of evaluation. `None` says nothing.
+    pub fn first(&self) -> Option<Address>
+        ensures { IfSome result (λ a. Refers self.now a) }
+    {
+        self.parts.first
     }
 
     /// The same formula once more.

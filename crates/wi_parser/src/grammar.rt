@@ -7,13 +7,14 @@ ghost use Rattle.wi_parser.specs.Inner.Nests.{Nests};
 ghost use Rattle.wi_parser.specs.View.{tree_of, all_of};
 ghost use Rattle.wi_parser.specs.Tree as tree;
 
-use crate::expr::{Corners, Expr, Operator, Reference, Sign, call, text};
+use crate::expr::{Corners, Expr, Operator, Reference, Sign, text};
 use crate::fault::ParseFault;
 use crate::symbol::Symbol;
 use crate::symbols::{Symbols, line_of};
 use crate::what_if::what_if;
 use std::alloc::{AllocError, Global};
 use wi_fraction::Fraction;
+use wi_names::Name;
 use wi_values::Text;
 
 #[derive(Drop)]
@@ -238,4 +239,12 @@ fn binary(alloc: Global, op: Operator, left: Expr, right: Expr) -> Result<Expr, 
     let left = Box::new(alloc, left)?;
     let right = Box::new(alloc, right)?;
     Ok(Expr::Binary(op, left, right))
+}
+
+// The call of the function with this name, which is searched for.
+fn call(alloc: Global, name: &Text, parameters: Vec<Expr>) -> Result<Expr, AllocError>
+    ensures { IfOk result (λ e. tree_of e ≡ tree.call name.now (all_of parameters.items)) }
+{
+    let name = Name::new(alloc, name.as_str())?;
+    Ok(Expr::Call(name, parameters))
 }

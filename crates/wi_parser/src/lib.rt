@@ -4,6 +4,7 @@
 mod content;
 mod expr;
 mod fault;
+mod first;
 mod formula;
 mod front;
 mod grammar;

@@ -20,7 +20,7 @@ ghost use Rattle.wi_parser.specs.Inner.PrintedParts.{pairs_text};
 use crate::expr::{Corners, Expr, Operator, Pair, Reference, Sign};
 use std::alloc::AllocError;
 use wi_fraction::Fraction;
-use wi_values::Text;
+use wi_names::Name;
 
 /// Appends the text of a formula with this tree. On an error a part of it may be there.
 pub(crate) fn push_formula(expr: &Expr, out: &mut String) -> Result<(), AllocError>
@@ -97,7 +97,7 @@ fn push_operation(op: Operator, operand: &Expr, out: &mut String) -> Result<(), 
 
 // Appends a call. On an error a part of it may be there.
 #[cycle(print)]
-fn push_call(name: &Text, parameters: &[Expr], out: &mut String) -> Result<(), AllocError>
+fn push_call(name: &Name, parameters: &[Expr], out: &mut String) -> Result<(), AllocError>
     ensures ok { OnOk result (string_bytes out.new ≡ string_bytes out.old ++ tree_text (tree.call name.now (all_of parameters.now))) }
     ensures kept { StartsWith (string_bytes out.new) (string_bytes out.old) }
 {

@@ -52,8 +52,8 @@ fn push_between(
 }
 
 #[cycle(tree)]
-fn push_call(name: &Text, parameters: &[Expr], text: &mut String) -> Result<(), AllocError> {
-    text.push_str(name.as_str())?;
+fn push_call(name: &str, parameters: &[Expr], text: &mut String) -> Result<(), AllocError> {
+    text.push_str(name)?;
     for parameter in parameters {
         push_between("<", parameter, ">", text)?;
     }
@@ -101,7 +101,7 @@ pub fn push_tree(tree: &Expr, text: &mut String) -> Result<(), AllocError> {
             push_between("{", left, mark_of(*operator), text)?;
             push_between("", right, "}", text)
         }
-        Expr::Call(name, parameters) => push_call(name, parameters, text),
+        Expr::Call(name, parameters) => push_call(name.as_str(), parameters, text),
         Expr::Text(content) => push_content(content, text),
         Expr::WhatIf(formula_cell, pairs) => push_what_if(*formula_cell, pairs, text),
     }

@@ -1,4 +1,4 @@
-use Rattle.std.proofs.Common.{◌≡◌, ℕ, List, refl, sym, ap, ◌∙◌, subst, arith, rules}
+use Rattle.std.proofs.Common.{◌≡◌, List, refl, sym, ap, ◌∙◌, subst, arith, rules}
 use Rattle.std.proofs.lemmas.Result.{err_from_is_err_and, MatchResult-weaker}
 use Rattle.wi_values.specs.declared.value.Value.{Value}
 use Rattle.wi_parser.specs.declared.expr.Expr.{Expr, the_lemmas}
@@ -6,9 +6,8 @@ use Rattle.wi_parser.specs.Tree.{Tree, text, binary, call}
 use Rattle.wi_parser.specs.Leaves.{leaves, all_leaves}
 use Rattle.wi_parser.specs.View.{tree_of, all_of}
 use Rattle.wi_standard_functions.specs.Arguments.{value_or}
-use Rattle.wi_standard_functions.specs.Functions.{call_value}
-use Rattle.wi_calls.specs.Applied.{applied, applied_to_values}
-use Rattle.wi_calls.specs.declared.function.Function.TheVariants.{Lazy, References}
+use Rattle.wi_names.specs.Applied.{applied, applied_to_values}
+use Rattle.wi_names.specs.declared.function.Function.TheVariants.{Lazy, References}
 use Rattle.wi_calls.proofs.ValuesAlone.{values_alone}
 use Rattle.wi_lookup.specs.Arguments.{arguments_in}
 use Rattle.wi_lookup.specs.declared.argument.Argument as given
@@ -100,27 +99,27 @@ all_values-returns g t c =
 pub call_value-returns-in-Err : goal.call_value-returns-in-Err
 call_value-returns-in-Err g t c =
     λ a agrees. let args = arguments (all_of c.args.parameters.now) a.cells a.what_ifs in
-    sym (ap (λ (n : List ℕ). call_value n args) (sym c.as_str.ensures) ∙ c.in-Err.ensures.refused args (length_arguments c.args.parameters.now a.cells a.what_ifs))
+    sym (c.in-Err.ensures.refused args (length_arguments c.args.parameters.now a.cells a.what_ifs))
 
 pub call_value-returns-in-Ok-Lazy : goal.call_value-returns-in-Ok-Lazy
 call_value-returns-in-Ok-Lazy g t c =
     let trees = all_of c.args.parameters.now in
     evaluates_too g.L.Lookup.known_cell g.L.Lookup.known_what_if c.args.lookup.now (mapped (applied (Lazy c.in-Ok-Lazy.function)) (of_parameters trees)) (of_tree (call c.args.name.now trees)) c.lazy_value.result
-    (λ a agrees. call_found c.args.parameters.now _ _ _ _ a.cells a.what_ifs c.in-Ok-Lazy.ensures.found c.in-Ok-Lazy.field-0-is c.as_str.ensures) (λ w h. h) c.lazy_value.ensures
+    (λ a agrees. call_found c.args.parameters.now c.args.name.now _ _ a.cells a.what_ifs c.in-Ok-Lazy.ensures.found c.in-Ok-Lazy.field-0-is) (λ w h. h) c.lazy_value.ensures
 
 pub call_value-returns-in-Ok-Values : goal.call_value-returns-in-Ok-Values
 call_value-returns-in-Ok-Values g t c =
     λ a agrees. c.in_ok-value_of_values-in-Ok-Values.ensures
     ∙ ap (applied_to_values c.in-Ok-Values.function) (c.deref.ensures.value ∙ c.in_ok-values-in-Ok-Values.ensures a agrees)
     ∙ sym (values_alone c.in-Ok-Values.function (arguments (all_of c.args.parameters.now) a.cells a.what_ifs))
-    ∙ call_found c.args.parameters.now _ _ _ _ a.cells a.what_ifs c.in-Ok-Values.ensures.found c.in-Ok-Values.field-0-is c.as_str.ensures
+    ∙ call_found c.args.parameters.now c.args.name.now _ _ a.cells a.what_ifs c.in-Ok-Values.ensures.found c.in-Ok-Values.field-0-is
 
 pub call_value-returns-in-Ok : goal.call_value-returns-in-Ok
 call_value-returns-in-Ok g t c =
     λ a agrees. c.in-Ok.ensures.done a.cells agrees.cells
     ∙ ap (λ (xs : List given.Argument). applied (References c.in-Ok-References.function) (arguments_in a.cells xs)) c.deref-in-Ok-References.ensures.value
     ∙ ap (applied (References c.in-Ok-References.function)) (c.in_ok-arguments-in-Ok-References.ensures.meant a agrees)
-    ∙ call_found c.args.parameters.now _ _ _ _ a.cells a.what_ifs c.in-Ok-References.ensures.found c.in-Ok-References.field-0-is c.as_str.ensures
+    ∙ call_found c.args.parameters.now c.args.name.now _ _ a.cells a.what_ifs c.in-Ok-References.ensures.found c.in-Ok-References.field-0-is
 
 pub call_value-returns : goal.call_value-returns
 call_value-returns g t c =

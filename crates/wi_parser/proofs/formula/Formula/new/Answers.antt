@@ -1,5 +1,6 @@
-use Rattle.std.proofs.Common.{◌≡◌, ◌++◌, ap, sym, subst, ◌∙◌}
+use Rattle.std.proofs.Common.{◌≡◌, ◌++◌, IfSome, ap, sym, subst, ◌∙◌}
 use Rattle.wi_parser.specs.declared.formula.Parts.{Parts}
+use Rattle.wi_parser.specs.Inner.Firsts.{Refers}
 use Rattle.wi_parser.specs.View.{tree_of}
 use Rattle.wi_parser.specs.Reads.{inputs_of, rectangles_of}
 use Rattle.wi_parser.specs.Writable.{IsFormulaTree}
@@ -14,6 +15,7 @@ invariant_of-result c =
       tree = subst (λ (p : Parts). IsFormulaTree (tree_of p.expr)) made c.requires;
       inputs = subst (λ (p : Parts). p.inputs.items ≡ inputs_of (tree_of p.expr)) made inputs;
       rectangles = subst (λ (p : Parts). p.rectangles.items ≡ rectangles_of (tree_of p.expr)) made rectangles;
+      first = subst (λ (p : Parts). IfSome p.first (λ a. Refers (tree_of p.expr) a)) made c.first_of-first.ensures;
     }
 
 pub returns : goal.returns

@@ -2,8 +2,8 @@
 use Rattle.std.specs.Prelude.{ℕ, List, Option}
 use Rattle.std.specs.Borrow.{Bor}
 use Rattle.wi_standard_functions.specs.Functions as functions
-use Rattle.wi_calls.specs.Applied.{applied}
-use Rattle.wi_calls.specs.declared.function.Function.{Function}
+use Rattle.wi_names.specs.Applied.{applied}
+use Rattle.wi_names.specs.declared.function.Function.{Function}
 
 -- a row as the definitions have it
 abbrev pub function_of : Bor (List ℕ) × ℕ × Option ℕ × Function → functions.Function

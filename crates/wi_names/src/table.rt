@@ -5,9 +5,10 @@ ghost use Rattle.std.specs.Cmp.Lexicographic.{slice_cmp};
 ghost use Rattle.std.specs.Ordering.{nat_cmp};
 ghost use Rattle.wi_standard_functions.specs.Arguments.{Argument};
 ghost use Rattle.wi_standard_functions.specs.Functions.{call_value, function_named, functions, is_not_above};
+ghost use Rattle.wi_fraction.specs.Text.{Bytes};
 ghost use Rattle.wi_values.specs.declared.value.Value.TheVariants.{Fault};
-ghost use Rattle.wi_calls.specs.Applied.{applied};
-ghost use Rattle.wi_calls.specs.Inner.Rows.{function_of};
+ghost use Rattle.wi_names.specs.Applied.{applied};
+ghost use Rattle.wi_names.specs.Inner.Rows.{function_of};
 
 use crate::function::FoldFunction::{And, Average, Count, CountA, Max, Min, Or, Product, Sum};
 use crate::function::Function::{self, Lazy, References, Values};
@@ -26,7 +27,7 @@ use wi_values::ErrorKind;
 
 /// A function's name in capitals, how many parameters it has at least and at most, where `None` is any number, and the
 /// function.
-type Row = (&'static str, usize, Option<usize>, Function);
+pub(crate) type Row = (&'static str, usize, Option<usize>, Function);
 
 static ROWS: [Row; 51] = [
     ("ABS", 1, Some(1), Values(Abs)),
@@ -88,11 +89,19 @@ pub fn function_for(name: &str, count: usize) -> Result<Function, ErrorKind>
     ensures found { IfOk result (λ f. (args : List Argument) → length args ≡ count → call_value name.now args ≡ applied f args) }
     ensures refused { IfErr result (λ e. (args : List Argument) → length args ≡ count → call_value name.now args ≡ Fault e) }
 {
-    let Some((_, least, greatest, function)) = row_of(name) else {
-        return Err(ErrorKind::UnknownName);
-    };
-    if is_between(count, *least, *greatest) {
-        Ok(*function)
+    match row_of(name) {
+        Some(row) => function_in(row, count),
+        None => Err(ErrorKind::UnknownName),
+    }
+}
+
+/// The function of a row, where it takes so many parameters, else `BadValue`.
+pub(crate) fn function_in(row: &Row, count: usize) -> Result<Function, ErrorKind>
+    ensures found { IfOk result (λ f. (name : Bytes) → function_named name ≡ Some (function_of row.now) → (args : List Argument) → length args ≡ count → call_value name args ≡ applied f args) }
+    ensures refused { IfErr result (λ e. (name : Bytes) → function_named name ≡ Some (function_of row.now) → (args : List Argument) → length args ≡ count → call_value name args ≡ Fault e) }
+{
+    if is_between(count, row.1, row.2) {
+        Ok(row.3)
     } else {
         Err(ErrorKind::BadValue)
     }
@@ -100,7 +109,8 @@ pub fn function_for(name: &str, count: usize) -> Result<Function, ErrorKind>
 
 /// The row with that name, if one has it. Unlike a slice's own, the search ends where the names are equal: of at most six
 /// comparisons IF takes two.
-fn row_of(name: &str) -> Option<&'static Row>
+pub(crate) fn row_of(name: &str) -> Option<&'static Row>
+    ensures same { IfSome result (λ row. row.now.0.now ≡ name.now) }
     ensures some { IfSome result (λ row. function_named name.now ≡ Some (function_of row.now)) }
     ensures none { IfNone result (function_named name.now ≡ None) }
 {

@@ -1,6 +1,6 @@
 use Rattle.std.proofs.Common.{sym, ◌∙◌, rules, arith}
-use Rattle.wi_calls.proofs.Comparing.{apart, alike, ended}
-use Rattle.wi_calls.proofs.table.compare.Goals as goal
+use Rattle.wi_names.proofs.Comparing.{apart, alike, ended}
+use Rattle.wi_names.proofs.table.compare.Goals as goal
 
 pub loop-i-preserved : goal.loop-i-preserved
 loop-i-preserved c =

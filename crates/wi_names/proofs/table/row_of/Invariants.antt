@@ -1,6 +1,6 @@
 use Rattle.std.proofs.Common.{◌-◌, ◌≤◌, length}
-use Rattle.wi_calls.proofs.Searching.{IsWithin}
-use Rattle.wi_calls.proofs.table.row_of.Given as goal
+use Rattle.wi_names.proofs.Searching.{IsWithin}
+use Rattle.wi_names.proofs.table.row_of.Given as goal
 
 -- if a row has the name, it stands from `from` up to `to`
 abbrev pub invariant-loop-from : goal.invariant-loop-from

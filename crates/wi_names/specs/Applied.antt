@@ -11,16 +11,16 @@ use Rattle.wi_standard_functions.specs.Mathematical.{abs_value, sign_value, quot
 use Rattle.wi_standard_functions.specs.Rounding.{int_value, round_value}
 use Rattle.wi_standard_functions.specs.Statistical.{min_value, max_value, average_value}
 use Rattle.wi_standard_functions.specs.Text.{len_value, left_value, right_value, mid_value, concatenate_value, exact_value, find_value, rept_value}
-use Rattle.wi_calls.specs.declared.function.Function.{Function}
-use Rattle.wi_calls.specs.declared.function.Function.TheVariants.{Lazy, Values, References}
-use Rattle.wi_calls.specs.declared.function.LazyFunction.TheVariants.{If, IfError, IfNa, Choose}
-use Rattle.wi_calls.specs.declared.function.FoldFunction.TheVariants.{And, Average, Count, CountA, Max, Min, Or, Product, Sum}
-use Rattle.wi_calls.specs.declared.function.ReferenceFunction.TheVariants.{CountIf, Fold, HLookup, Index, Match, SumIf, SumProduct, VLookup}
-use Rattle.wi_calls.specs.declared.function.Test.{Test}
-use Rattle.wi_calls.specs.declared.function.Test.TheVariants as test
-use Rattle.wi_calls.specs.declared.function.TextFunction.TheVariants.{Concatenate, Exact, Find, Left, Len, Mid, Rept, Right}
-use Rattle.wi_calls.specs.declared.function.ValueFunction.{ValueFunction}
-use Rattle.wi_calls.specs.declared.function.ValueFunction.TheVariants.{Abs, False, Int, Is, Mod, Na, Not, Power, Quotient, Round, Sign, Text, True, Value}
+use Rattle.wi_names.specs.declared.function.Function.{Function}
+use Rattle.wi_names.specs.declared.function.Function.TheVariants.{Lazy, Values, References}
+use Rattle.wi_names.specs.declared.function.LazyFunction.TheVariants.{If, IfError, IfNa, Choose}
+use Rattle.wi_names.specs.declared.function.FoldFunction.TheVariants.{And, Average, Count, CountA, Max, Min, Or, Product, Sum}
+use Rattle.wi_names.specs.declared.function.ReferenceFunction.TheVariants.{CountIf, Fold, HLookup, Index, Match, SumIf, SumProduct, VLookup}
+use Rattle.wi_names.specs.declared.function.Test.{Test}
+use Rattle.wi_names.specs.declared.function.Test.TheVariants as test
+use Rattle.wi_names.specs.declared.function.TextFunction.TheVariants.{Concatenate, Exact, Find, Left, Len, Mid, Rept, Right}
+use Rattle.wi_names.specs.declared.function.ValueFunction.{ValueFunction}
+use Rattle.wi_names.specs.declared.function.ValueFunction.TheVariants.{Abs, False, Int, Is, Mod, Na, Not, Power, Quotient, Round, Sign, Text, True, Value}
 
 -- what ISBLANK, ISERR, ISERROR and so on test
 abbrev pub passes : Test → AnyValue → Bool

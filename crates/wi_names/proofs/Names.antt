@@ -15,7 +15,7 @@ use Rattle.wi_values.specs.declared.value.Value.TheVariants.{Fault}
 use Rattle.wi_standard_functions.specs.Arguments.{Argument}
 use Rattle.wi_standard_functions.specs.Functions as functions
 use Rattle.wi_standard_functions.specs.Functions.{functions as all_functions, function_named, has_parameters, call_value, value_of_call}
-use Rattle.wi_calls.proofs.Searching.{KeysAscend, IsWithin, named, one_named, nowhere, find-map}
+use Rattle.wi_names.proofs.Searching.{KeysAscend, IsWithin, named, one_named, nowhere, find-map}
 
 -- ---- the names ascend
 

@@ -1,8 +1,8 @@
 use Rattle.std.proofs.Common.{◌≡◌}
 use Rattle.std.specs.Cmp.Lexicographic.{slice_cmp}
 use Rattle.std.specs.Ordering.{nat_cmp}
-use Rattle.wi_calls.proofs.Comparing.{order_from}
-use Rattle.wi_calls.proofs.table.compare.Given as goal
+use Rattle.wi_names.proofs.Comparing.{order_from}
+use Rattle.wi_names.proofs.table.compare.Given as goal
 
 -- what is left tells the order
 abbrev pub invariant-loop-i : goal.invariant-loop-i

@@ -1,8 +1,9 @@
 use Rattle.std.proofs.Common.{◌+◌, ◌/◌, sym, ◌∙◌, arith}
-use Rattle.wi_calls.specs.Inner.Rows.{function_of}
-use Rattle.wi_calls.proofs.Searching.{before, behind}
-use Rattle.wi_calls.proofs.Names.{rows_ascend, row_found, none_found}
-use Rattle.wi_calls.proofs.table.row_of.Goals as goal
+use Rattle.std.proofs.lemmas.Map.Lookups.{exact_bytes}
+use Rattle.wi_names.specs.Inner.Rows.{function_of}
+use Rattle.wi_names.proofs.Searching.{before, behind}
+use Rattle.wi_names.proofs.Names.{rows_ascend, row_found, none_found}
+use Rattle.wi_names.proofs.table.row_of.Goals as goal
 
 pub loop-from-preserved-in-Less : goal.loop-from-preserved-in-Less
 loop-from-preserved-in-Less c =
@@ -28,6 +29,9 @@ returns-in-Equal-clause-some c =
     let test = c.loop-from-test.true in
     let equal = sym c.compare.ensures ∙ c.in-Equal.is in
     row_found function_of c.rows-rows.result.now c.rows-rows.ensures c.args.name.now ((l.from + l.to) / 2) _ (omega arith) equal
+
+pub returns-in-Equal-clause-same : goal.returns-in-Equal-clause-same
+returns-in-Equal-clause-same c = exact_bytes _ _ (sym c.compare.ensures ∙ c.in-Equal.is)
 
 pub returns-clause-none : goal.returns-clause-none
 returns-clause-none c =

@@ -1,6 +1,6 @@
 use Rattle.std.proofs.Common.{refl}
 use Rattle.wi_standard_functions.specs.Functions.{functions}
-use Rattle.wi_calls.proofs.table.rows.Goals as goal
+use Rattle.wi_names.proofs.table.rows.Goals as goal
 
 pub returns : goal.returns
 unfolding functions

@@ -1,2 +1,3 @@
 -- Words of the code's own contracts. Nothing here needs belief.
 pub mod Rows
+pub mod Kept

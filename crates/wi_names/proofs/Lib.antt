@@ -1,0 +1,4 @@
+pub mod Searching
+pub mod Names
+pub mod Comparing
+pub mod Keeping
