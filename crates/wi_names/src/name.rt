@@ -82,8 +82,8 @@ impl Name {
         match &self.kept {
             Kept::Known(row) => Ok(known(*row)),
             Kept::Other(text) => {
-                let text = text.copy(alloc)?;
-                Ok(other(Box::new(alloc, text)?))
+                let again = text.copy(alloc)?;
+                Ok(other(Box::new(alloc, again)?))
             }
         }
     }
