@@ -16,6 +16,7 @@ use crate::engine::{advance, take_in};
 use crate::frame::{Advance, Asked, Frame};
 use crate::memo::Memo;
 use crate::pool::Pool;
+use crate::stack::{let_room_go, make_room};
 use std::alloc::AllocError;
 use wi_cache::Key;
 use wi_functions::Meter;
@@ -91,6 +92,7 @@ impl<M: Memo + Drop> Question<M> {
         'frames: loop {
             match advance(alloc, store, &mut frame, &mut self.memo, &mut self.meter)? {
                 Advance::Unvalued(next) => {
+                    make_room(&mut stack);
                     stack.push(frame)?;
                     frame = Frame::new(next.key, next.formula, self.pool.take());
                 }
@@ -106,6 +108,7 @@ impl<M: Memo + Drop> Question<M> {
                         frame = below;
                         take_in(alloc, store, &mut frame, &key, &value)?;
                         self.memo.keep(key, value)?;
+                        let_room_go(&mut stack);
                     }
                 },
             }

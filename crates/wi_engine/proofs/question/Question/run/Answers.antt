@@ -41,7 +41,7 @@ frames-preserved-in-Unvalued g c =
       key = u.0.next;
       new = record { key = n.key; formula = rw n.formula u.0.stands; cells = n.cells; what_ifs = n.what_ifs; waiting = n.waiting };
     } in
-    rw (c.in_ok-push-in-Unvalued.ensures.items, a.steps.same) (going_deeper c.frames.invariant turn)
+    rw (c.in_ok-push-in-Unvalued.ensures.items, c.make_room.ensures, a.steps.same) (going_deeper c.frames.invariant turn)
 
 pub take_in-requires-clause-awaits : goal.take_in-requires-clause-awaits
 take_in-requires-clause-awaits g c = (run_below _ (rw c.in-Some.ensures.items at c.frames.invariant).running).waiting
@@ -68,7 +68,7 @@ frames-preserved g c =
     let key = c.retire-key.ensures ∙ a.steps.key in
     let turn = comes_back a.steps.same key k.keeps k.kept (rw c.in-Done.is at a.gives) a.counts in
     let going = rw c.in-Some.ensures.items at c.frames.invariant in
-    going_back going turn (rw key at c.in_ok-take_in-in-Some.ensures)
+    rw c.let_room_go.ensures (going_back going turn (rw key at c.in_ok-take_in-in-Some.ensures))
 
 -- ---- what is asked of the memory
 
