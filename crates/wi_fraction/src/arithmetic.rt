@@ -8,6 +8,7 @@ ghost use Rattle.wi_fraction.specs.Arithmetic.{bounded, int_bounded, sum_of, pro
 
 use crate::division::{divide, gcd};
 use crate::lowest_terms::{integer, number_at, reduced};
+use crate::words::Parts;
 use crate::{Fraction, FractionError, MAX};
 
 impl Fraction {
@@ -36,14 +37,14 @@ impl Fraction {
         ensures value { result ≡ ok_or (product_of self other) FractionError.Overflow }
         ensures exact { IfOk result (IsValue (self.num *ℤ other.num) (self.den * other.den)) }
     {
-        let Fraction {
+        let Parts {
             numerator: a,
             denominator: b,
-        } = self;
-        let Fraction {
+        } = self.parts();
+        let Parts {
             numerator: c,
             denominator: d,
-        } = other;
+        } = other.parts();
         multiplied((a < 0) != (c < 0), a.unsigned_abs(), b, c.unsigned_abs(), d).ok_or(
             FractionError::Overflow,
         )
@@ -56,7 +57,7 @@ impl Fraction {
         ensures exact { IfOk result
             (λ z. (self.num *ℤ pos other.den) *ℤ pos z.den ≡ z.num *ℤ (pos self.den *ℤ other.num)) }
     {
-        if other.numerator == 0 {
+        if other.parts().numerator == 0 {
             return Err(FractionError::ZeroDenominator);
         }
         self.quotient(other).ok_or(FractionError::Overflow)
@@ -66,18 +67,21 @@ impl Fraction {
     pub fn neg(self) -> Fraction
         ensures { result ≡ negated self }
     {
-        let numerator = self.numerator;
-        let denominator = self.denominator;
-        Fraction {
+        let Parts {
+            numerator,
+            denominator,
+        } = self.parts();
+        let parts = Parts {
             numerator: -numerator,
             denominator,
-        }
+        };
+        Fraction::of(parts)
     }
 
     fn sum(self, other: Fraction) -> Option<Fraction>
         ensures { result ≡ sum_of self other }
     {
-        if self.denominator == other.denominator {
+        if self.parts().denominator == other.parts().denominator {
             self.like_sum(other)
         } else {
             self.unlike_sum(other)
@@ -89,25 +93,29 @@ impl Fraction {
         requires { self.den ≡ other.den }
         ensures { result ≡ sum_of self other }
     {
-        let total = total(self.numerator, other.numerator)?;
-        if self.denominator == 1 {
+        let Parts {
+            numerator: a,
+            denominator: b,
+        } = self.parts();
+        let total = total(a, other.parts().numerator)?;
+        if b == 1 {
             return Some(integer(total));
         }
-        reduced(total < 0, total.unsigned_abs(), self.denominator)
+        reduced(total < 0, total.unsigned_abs(), b)
     }
 
     /// The sum over the least common multiple of the denominators.
     fn unlike_sum(self, other: Fraction) -> Option<Fraction>
         ensures { result ≡ sum_of self other }
     {
-        let Fraction {
+        let Parts {
             numerator: a,
             denominator: b,
-        } = self;
-        let Fraction {
+        } = self.parts();
+        let Parts {
             numerator: c,
             denominator: d,
-        } = other;
+        } = other.parts();
         let multiple = product(divide(b, gcd(b, d)), d)?;
         let first = scaled(a, divide(multiple, b))?;
         let second = scaled(c, divide(multiple, d))?;
@@ -119,14 +127,14 @@ impl Fraction {
         requires { other.num ≢ pos 0 }
         ensures { result ≡ quotient_of self other }
     {
-        let Fraction {
+        let Parts {
             numerator: a,
             denominator: b,
-        } = self;
-        let Fraction {
+        } = self.parts();
+        let Parts {
             numerator: c,
             denominator: d,
-        } = other;
+        } = other.parts();
         multiplied((a < 0) != (c < 0), a.unsigned_abs(), b, d, c.unsigned_abs())
     }
 }

@@ -9,6 +9,7 @@ ghost use Rattle.wi_fraction.specs.Decimal.{all_places, decimal_text};
 use crate::Fraction;
 use crate::division::{divide, remainder};
 use crate::text::push_joined;
+use crate::words::Parts;
 use itoa::Buffer;
 use std::alloc::AllocError;
 
@@ -27,10 +28,10 @@ impl Fraction {
         ensures ok { OnOk result (string_bytes text.new ≡ string_bytes text.old ++ decimal_text self.now) }
         ensures err { OnErr result (string_bytes text.new ≡ string_bytes text.old) }
     {
-        let Fraction {
+        let Parts {
             numerator: n,
             denominator: d,
-        } = *self;
+        } = self.parts();
         let before = text.as_str().len();
         let pushed = push_exact(n < 0, n.unsigned_abs(), d, text);
         if pushed.is_err() {

@@ -5,6 +5,7 @@ ghost use Rattle.wi_fraction.specs.Gcd.{gcd};
 ghost use Rattle.wi_fraction.specs.Number.{max_size, number_at, number_of, signed};
 
 use crate::division::{divide, gcd};
+use crate::words::Parts;
 use crate::{Fraction, MAX};
 
 /// The number of that sign, size and denominator, in lowest terms.
@@ -25,10 +26,11 @@ pub(crate) fn number_at(negative: bool, size: u128, denominator: u128) -> Option
     if size > MAX || denominator > MAX {
         return None;
     }
-    Some(Fraction {
+    let parts = Parts {
         numerator: signed(negative, size),
         denominator,
-    })
+    };
+    Some(Fraction::of(parts))
 }
 
 /// The whole number as a fraction.
@@ -37,10 +39,11 @@ pub(crate) fn integer(n: i128) -> Fraction
     ensures numerator { result.num ≡ n }
     ensures denominator { result.den ≡ 1 }
 {
-    Fraction {
+    let parts = Parts {
         numerator: n,
         denominator: 1,
-    }
+    };
+    Fraction::of(parts)
 }
 
 /// The whole number of that sign and size.

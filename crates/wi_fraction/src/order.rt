@@ -11,6 +11,7 @@ ghost use Rattle.wi_fraction.specs.Order.Laws.{cross_total, cross_same_parts, sa
 
 use crate::Fraction;
 use crate::division::{divide, remainder};
+use crate::words::Parts;
 use std::cmp::Ordering;
 use std::hash::{Hash, Hasher};
 
@@ -21,7 +22,15 @@ impl PartialEq for Fraction {
 
     #[tactic(auto, unfolding(crate::specs::Order::same_parts))]
     fn eq(&self, other: &Fraction) -> bool {
-        self.numerator == other.numerator && self.denominator == other.denominator
+        let Parts {
+            numerator: a,
+            denominator: b,
+        } = self.parts();
+        let Parts {
+            numerator: c,
+            denominator: d,
+        } = other.parts();
+        a == c && b == d
     }
 }
 
@@ -35,8 +44,12 @@ impl Hash for Fraction {
     ghost respects_eq = { λ x y e. ap (λ (z : Number). fed.i128 z.num ++ fed.u128 z.den) (same_from_parts x y e) };
 
     fn hash<H: Hasher>(&self, state: &mut H) {
-        self.numerator.hash(state);
-        self.denominator.hash(state);
+        let Parts {
+            numerator,
+            denominator,
+        } = self.parts();
+        numerator.hash(state);
+        denominator.hash(state);
     }
 }
 
@@ -50,16 +63,24 @@ impl Ord for Fraction {
     ghost matches_eq = { cross_same_parts };
 
     fn cmp(&self, other: &Fraction) -> Ordering {
-        if self.denominator == other.denominator {
-            return self.numerator.cmp(&other.numerator);
+        let Parts {
+            numerator: m,
+            denominator: b,
+        } = self.parts();
+        let Parts {
+            numerator: n,
+            denominator: d,
+        } = other.parts();
+        if b == d {
+            return m.cmp(&n);
         }
-        let a = self.numerator.unsigned_abs();
-        let c = other.numerator.unsigned_abs();
-        match (self.numerator < 0, other.numerator < 0) {
+        let a = m.unsigned_abs();
+        let c = n.unsigned_abs();
+        match (m < 0, n < 0) {
             (true, false) => Ordering::Less,
             (false, true) => Ordering::Greater,
-            (false, false) => compare_sizes(a, self.denominator, c, other.denominator),
-            (true, true) => compare_sizes(c, other.denominator, a, self.denominator),
+            (false, false) => compare_sizes(a, b, c, d),
+            (true, true) => compare_sizes(c, d, a, b),
         }
     }
 }

@@ -7,6 +7,7 @@ ghost use Rattle.wi_fraction.specs.Number.{number_of, signed};
 ghost use Rattle.wi_fraction.specs.Arithmetic.{bounded, power_of};
 
 use crate::lowest_terms::number_at;
+use crate::words::Parts;
 use crate::{Fraction, FractionError, MAX};
 
 impl Fraction {
@@ -14,10 +15,10 @@ impl Fraction {
     pub fn checked_pow(self, exponent: i128) -> Result<Fraction, FractionError>
         ensures { result ≡ (if int_eq self.num (pos 0) && int_lt exponent (pos 0) then Err FractionError.ZeroDenominator else ok_or (power_of self exponent) FractionError.Overflow) }
     {
-        let Fraction {
+        let Parts {
             numerator: a,
             denominator: b,
-        } = self;
+        } = self.parts();
         let count = exponent.unsigned_abs();
         let negative = is_odd_negative(a, count);
         if exponent >= 0 {

@@ -12,6 +12,7 @@ ghost use Rattle.wi_fraction.specs.Inner.Reading.{read, read_size, read_after, r
 
 use crate::arithmetic::multiplied;
 use crate::lowest_terms::{number_at, reduced};
+use crate::words::Parts;
 use crate::{Fraction, MAX};
 
 impl Fraction {
@@ -43,7 +44,7 @@ impl Fraction {
     fn size(&self) -> u128
         ensures { result ≡ unsigned_abs self.now.num }
     {
-        self.numerator.unsigned_abs()
+        self.parts().numerator.unsigned_abs()
     }
 }
 
@@ -279,10 +280,11 @@ fn decimal_part(first: &[u8], second: &[u8]) -> Option<Fraction>
 fn zero() -> Fraction
     ensures { Some result ≡ number_of (pos 0) 1 }
 {
-    Fraction {
+    let parts = Parts {
         numerator: 0,
         denominator: 1,
-    }
+    };
+    Fraction::of(parts)
 }
 
 /// A tenth of the digit and n/d together. Of a tenth that five does not cancel, the denominator is at least 5 * d.

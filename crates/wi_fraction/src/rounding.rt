@@ -7,6 +7,7 @@ ghost use Rattle.wi_fraction.specs.Rounding.{floored, rounded, rounded_size, rou
 use crate::arithmetic::multiplied;
 use crate::division::{divide, remainder};
 use crate::lowest_terms::{integer, signed};
+use crate::words::Parts;
 use crate::{Fraction, FractionError};
 
 /// Which whole number a number is rounded to.
@@ -25,10 +26,10 @@ impl Fraction {
     pub fn floor(self) -> Fraction
         ensures { result ≡ floored self }
     {
-        let Fraction {
+        let Parts {
             numerator: n,
             denominator: d,
-        } = self;
+        } = self.parts();
         let size = n.unsigned_abs();
         if n >= 0 {
             return whole(false, divide(size, d));
@@ -62,10 +63,10 @@ impl Fraction {
         requires { power ≤ 38 }
         ensures { result ≡ times_ten_to (signed down power) self }
     {
-        let Fraction {
+        let Parts {
             numerator: n,
             denominator: d,
-        } = self;
+        } = self.parts();
         let ten = 10u128.pow(power);
         if down {
             return multiplied(n < 0, n.unsigned_abs(), d, 1, ten);
@@ -76,10 +77,10 @@ impl Fraction {
     fn rounded(self, mode: Mode) -> Fraction
         ensures { result ≡ rounded mode self }
     {
-        let Fraction {
+        let Parts {
             numerator: n,
             denominator: d,
-        } = self;
+        } = self.parts();
         whole(n < 0, rounded_size(mode, n.unsigned_abs(), d))
     }
 }

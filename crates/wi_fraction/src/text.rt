@@ -6,6 +6,7 @@ ghost use Rattle.wi_fraction.specs.Inner.Places.{places_from};
 
 use crate::Fraction;
 use crate::division::{divide, remainder};
+use crate::words::Parts;
 use itoa::Buffer;
 use std::alloc::AllocError;
 
@@ -17,10 +18,10 @@ impl Fraction {
         ensures ok { OnOk result (string_bytes text.new ≡ string_bytes text.old ++ text_of self.now) }
         ensures err { OnErr result (string_bytes text.new ≡ string_bytes text.old) }
     {
-        let Fraction {
+        let Parts {
             numerator: n,
             denominator: d,
-        } = *self;
+        } = self.parts();
         push_parts(n < 0, n.unsigned_abs(), d, text)
     }
 }

@@ -7,8 +7,8 @@ use Rattle.wi_fraction.proofs.Fraction.rounded.Goals as goal
 
 pub returns : goal.returns
 returns c =
-    let fits : FitsSigned w128 c.self.inside.numerator = search rules in
-    let size : c.unsigned_abs.result ≡ unsigned_abs c.self.inside.numerator = c.unsigned_abs.ensures.value ∙ simp to_z-of_z refl in
-    let x : Number = record { num = c.self.inside.numerator; den = c.self.inside.denominator; is_number = c.self.inside.is_number } in
+    let fits : FitsSigned w128 c.parts-n.result.numerator = search rules in
+    let size : c.unsigned_abs.result ≡ unsigned_abs c.parts-n.result.numerator = c.unsigned_abs.ensures.value ∙ simp to_z-of_z refl in
+    let x : Number = record { num = c.parts-n.result.numerator; den = c.parts-n.result.denominator; is_number = c.parts-n.result.is_number } in
     let sign = simp to_z-of_z at c.whole.ensures.numerator in
-    rw (← c.self.view_is) (rounded_from c.args.mode x c.whole.result (sign ∙ rw (c.rounded_size.ensures.value, size) refl) c.whole.ensures.denominator)
+    rw (← c.parts-n.ensures) (rounded_from c.args.mode x c.whole.result (sign ∙ rw (c.rounded_size.ensures.value, size) refl) c.whole.ensures.denominator)

@@ -1,9 +1,10 @@
-use Rattle.std.proofs.Common.{refl}
+use Rattle.std.proofs.Common.{ap}
+use Rattle.wi_fraction.specs.Number.{Number}
 use Rattle.wi_fraction.proofs.Numbers.{zero_is, zero_number}
 use Rattle.wi_fraction.proofs.read.zero.Goals as goal
 
-pub invariant_of-result : goal.invariant_of-result
-invariant_of-result c = (zero_is, tt)
+pub invariant_of-parts : goal.invariant_of-parts
+invariant_of-parts c = record { is_number = zero_is }
 
 pub returns : goal.returns
-returns c = zero_number _ refl refl
+returns c = zero_number c.of.result (ap (λ (x : Number). x.num) c.of.ensures) (ap (λ (x : Number). x.den) c.of.ensures)

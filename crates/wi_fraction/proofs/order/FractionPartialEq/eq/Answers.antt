@@ -2,6 +2,6 @@ use Rattle.std.proofs.Common.{rules}
 use Rattle.wi_fraction.specs.Order.{same_parts}
 use Rattle.wi_fraction.proofs.order.FractionPartialEq.eq.Goals as goal
 
-pub returns-then-self-other : goal.returns-then-self-other
+pub returns-then-a-c : goal.returns-then-a-c
 unfolding same_parts
-returns-then-self-other c = search rules
+returns-then-a-c c = search rules

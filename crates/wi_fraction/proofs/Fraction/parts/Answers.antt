@@ -1,0 +1,16 @@
+use Rattle.std.proofs.Common.{◌∙◌, FitsSigned, ap, rules}
+use Rattle.std.specs.Int.{w128}
+use Rattle.std.proofs.lemmas.Int.{to_z-of_z}
+use Rattle.wi_fraction.specs.Number.{Number}
+use Rattle.wi_fraction.specs.Number.Laws.{same_number}
+use Rattle.wi_fraction.proofs.Fraction.parts.Goals as goal
+
+pub invariant_of-result : goal.invariant_of-result
+invariant_of-result c =
+    let fits : FitsSigned w128 c.get.result = search rules in
+    record { is_number = simp to_z-of_z (rw (c.get.ensures, c.get-2.ensures) c.self.inside.is_number) }
+
+pub returns : goal.returns
+returns c =
+    let fits : FitsSigned w128 c.get.result = search rules in
+    same_number _ c.args.self (simp to_z-of_z (c.get.ensures ∙ ap (λ (x : Number). x.num) c.self.view_is)) (c.get-2.ensures ∙ ap (λ (x : Number). x.den) c.self.view_is)

@@ -1,0 +1,9 @@
+use Rattle.std.proofs.Common.{◌∙◌, FitsSigned, ap, rules}
+use Rattle.std.specs.Int.{w128, cast_signed}
+use Rattle.std.proofs.lemmas.Int.{to_z-of_z}
+use Rattle.wi_fraction.proofs.words.Signed.get.Goals as goal
+
+pub returns : goal.returns
+returns c =
+    let fits : FitsSigned w128 c.cast_signed.result = search rules in
+    to_z-of_z w128 c.cast_signed.result fits ∙ c.cast_signed.ensures ∙ ap (cast_signed w128) c.joined.ensures ∙ c.self.view_is

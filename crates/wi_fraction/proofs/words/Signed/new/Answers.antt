@@ -1,0 +1,11 @@
+use Rattle.std.proofs.Common.{◌≡◌, ◌∙◌, FitsSigned, refl, rules}
+use Rattle.std.specs.Int.{w128, cast_unsigned}
+use Rattle.std.proofs.lemmas.Int.{to_z-of_z}
+use Rattle.wi_fraction.specs.Inner.Halves.{from_halves}
+use Rattle.wi_fraction.proofs.words.Signed.new.Goals as goal
+
+pub returns : goal.returns
+returns c =
+    let fits : FitsSigned w128 c.args.n = search rules in
+    let bits : c.cast_unsigned-bits.result ≡ cast_unsigned w128 c.args.n = c.cast_unsigned-bits.ensures ∙ simp to_z-of_z refl in
+    rw (c.high_half.ensures, c.low_half.ensures, from_halves c.cast_unsigned-bits.result, bits) (to_z-of_z w128 c.args.n fits)
