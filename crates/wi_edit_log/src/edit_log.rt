@@ -10,13 +10,13 @@ use std::alloc::{AllocError, Global};
 use std::marker::Model;
 use wi_values::{Address, Rect};
 
-/// From so many edits on, their list grows by an eighth.
+/// From so many edits on, their list grows by a sixteenth.
 const MANY: usize = 16_384;
 
-/// The edits in their order, each with its session, and the rectangles that it named as they were given. An edit takes 48
-/// bytes, and where it named another number of rectangles than one 16 more for each. A cell that was named by an edit of
+/// The edits in their order, each with its session, and the rectangles that it named as they were given. An edit takes 40
+/// bytes, and where it named another number of rectangles than one 24 more, and 16 for each. A cell that was named by an edit of
 /// narrow rectangles, which have 32 cells at most, takes some 36 more once another session than that edit's has asked. The list
-/// of 16,384 edits or more has room for an eighth more at most, and what else grows for twice as much.
+/// of 16,384 edits or more has room for a sixteenth more at most, and what else grows for twice as much.
 #[derive(Drop)]
 pub struct EditLog {
     edits: Vec<Edit>,
@@ -53,7 +53,7 @@ impl EditLog {
         ensures ok { OnOk result (self.new ≡ self.old ++ record { session = session; cells = cells.items } ∷ []) }
         ensures err { OnErr result (self.new ≡ self.old) }
     {
-        let edit = Edit::after(&self.edits, session, cells);
+        let edit = Edit::after(&self.edits, session, cells)?;
         push_edit(&mut self.edits, edit)?;
         Ok(())
     }
@@ -109,14 +109,14 @@ impl EditLog {
     }
 }
 
-/// Puts an edit at the end. Where there are many and no room is left, it makes room for an eighth more, since an edit takes nearly
+/// Puts an edit at the end. Where there are many and no room is left, it makes room for a sixteenth more, since an edit takes nearly
 /// as much as a cell. On an error all is as before.
 fn push_edit(edits: &mut Vec<Edit>, edit: Edit) -> Result<(), AllocError>
     ensures ok { OnOk result (edits.new.items ≡ edits.old.items ++ edit ∷ []) }
     ensures err { OnErr result (edits.new.items ≡ edits.old.items) }
 {
     if edits.len() >= MANY && edits.len() == edits.capacity() {
-        edits.reserve_exact(edits.len() / 8)?;
+        edits.reserve_exact(edits.len() / 16)?;
     }
     edits.push(edit)?;
     Ok(())

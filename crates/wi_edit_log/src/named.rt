@@ -1,12 +1,13 @@
 //! The rectangles that one edit named.
 
-ghost use Rattle.std.specs.Prelude.{◌≡◌, true};
+ghost use Rattle.std.specs.Prelude.{◌≡◌, true, IfOk};
 ghost use Rattle.wi_edit_log.specs.Inner.First.{IsFirst, in_each};
 ghost use Rattle.wi_edit_log.specs.Inner.Narrow.{are_narrow};
 ghost use Rattle.wi_edit_log.specs.Inner.Rising.{are_rising};
 
 use crate::rising::are_rising;
 use crate::search::first_between;
+use std::alloc::AllocError;
 use std::marker::Model;
 use wi_values::{Address, Rect};
 
@@ -19,15 +20,21 @@ pub(crate) struct Named {
     areas: Areas,
 }
 
+/// Rectangles of which there are more than one, or none. They stand behind a box, so that an edit of one rectangle takes little.
+#[derive(Drop)]
+struct Several {
+    areas: Vec<Rect>,
+}
+
 /// Rectangles as they are kept.
 #[derive(Drop)]
 enum Areas {
     /// One takes no memory of its own.
     One([Rect; 1]),
     /// Each lies below the one before.
-    Rising(Vec<Rect>),
+    Rising(Box<Several>),
     /// They stand in any order.
-    Any(Vec<Rect>),
+    Any(Box<Several>),
 }
 
 impl Model for Named {
@@ -44,23 +51,26 @@ impl Model for Named {
 }
 
 impl Named {
-    /// The rectangles as they are given.
-    pub(crate) fn new(cells: Vec<Rect>) -> Named
-        ensures { result ≡ cells.items }
+    /// The rectangles as they are given. One takes no memory.
+    pub(crate) fn new(cells: Vec<Rect>) -> Result<Named, AllocError>
+        ensures { IfOk result (λ n. n ≡ cells.items) }
     {
         if cells.len() == 1 {
-            Named {
+            return Ok(Named {
                 areas: Areas::One([cells[0]]),
-            }
-        } else if are_rising(&cells) {
-            Named {
-                areas: Areas::Rising(cells),
-            }
-        } else {
-            Named {
-                areas: Areas::Any(cells),
-            }
+            });
         }
+        let rise = are_rising(&cells);
+        let alloc = *cells.allocator();
+        let several = Box::new(alloc, Several { areas: cells })?;
+        if rise {
+            return Ok(Named {
+                areas: Areas::Rising(several),
+            });
+        }
+        Ok(Named {
+            areas: Areas::Any(several),
+        })
     }
 
     /// The rectangles.
@@ -69,8 +79,8 @@ impl Named {
     {
         match &self.areas {
             Areas::One(areas) => areas,
-            Areas::Rising(areas) => areas,
-            Areas::Any(areas) => areas,
+            Areas::Rising(several) => &several.areas,
+            Areas::Any(several) => &several.areas,
         }
     }
 
@@ -81,8 +91,8 @@ impl Named {
     {
         match &self.areas {
             Areas::One(areas) => first_between(areas, false, others, others_rise),
-            Areas::Rising(areas) => first_between(areas, true, others, others_rise),
-            Areas::Any(areas) => first_between(areas, false, others, others_rise),
+            Areas::Rising(several) => first_between(&several.areas, true, others, others_rise),
+            Areas::Any(several) => first_between(&several.areas, false, others, others_rise),
         }
     }
 }

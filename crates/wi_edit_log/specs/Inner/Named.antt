@@ -7,11 +7,11 @@ use Rattle.wi_edit_log.specs.declared.named.Areas.TheVariants.{One, Rising, Any}
 
 abbrev pub areas_in : Areas → List Area
 areas_in (One areas) = areas
-areas_in (Rising areas) = areas.items
-areas_in (Any areas) = areas.items
+areas_in (Rising several) = several.value.areas.items
+areas_in (Any several) = several.value.areas.items
 
 -- those that are said to rise do
 abbrev pub IsTold : Areas → Type 0
 IsTold (One areas) = Unit {0}
-IsTold (Rising areas) = are_rising areas.items ≡ true
-IsTold (Any areas) = Unit {0}
+IsTold (Rising several) = are_rising several.value.areas.items ≡ true
+IsTold (Any several) = Unit {0}
