@@ -1,15 +1,15 @@
 -- The readers of one cell: one more, one less, and whether a cell is among them.
-use Rattle.std.proofs.Common.{◌≡◌, ◌==◌, ℕ, ◌<◌, ◌≤◌, ◌+◌, Bool, true, false, ◌||◌, cond, List, [], ◌∷◌, ◌++◌, length, take, get_or, Option, Some, None, refl, sym, ap, subst, ◌∙◌, arith, nat_lt}
+use Rattle.std.proofs.Common.{◌≡◌, ◌↔◌, ◌==◌, ℕ, ◌<◌, ◌≤◌, ◌+◌, Bool, true, false, ◌||◌, cond, List, [], ◌∷◌, ◌++◌, length, take, get_or, Option, Some, None, refl, sym, ap, subst, ◌∙◌, arith, nat_lt}
 use Rattle.std.specs.Ordering.{nat_cmp}
 use Rattle.std.specs.Option.{unwrap_or}
 use Rattle.std.specs.List.{position, position_or_len, swap_remove}
 use Rattle.std.specs.List.Sorted.{IsPermutation}
 use Rattle.std.specs.BTreeMap.{is_at}
-use Rattle.std.proofs.lemmas.Bool.{true≢false, or_from, ltb-false, ltb-true, eqb-true, eq-eqb}
+use Rattle.std.proofs.lemmas.Bool.{true≢false, or_from, ltb-false, ltb-true, eqb-true, eq-eqb, ne_eqb}
 use Rattle.std.proofs.lemmas.List.Folds.{list_any_more}
 use Rattle.std.proofs.lemmas.List.Sums.{passes_at_first, fails_before_first}
 use Rattle.std.proofs.lemmas.List.Sorted.{IsPermutation-cons, IsPermutation-trans, IsPermutation-to_front, IsPermutation-middle, IsPermutation-swap_remove}
-use Rattle.std.proofs.Math.Bool.{or_assoc}
+use Rattle.std.proofs.Math.Bool.{or-false, or_assoc}
 use Rattle.wi_values.proofs.Order.{turn_test, is_at-eq}
 use Rattle.wi_ranges.specs.Inner.Rising.{has_cell}
 use Rattle.wi_ranges.proofs.RisingLemmas.{has_nowhere}
@@ -62,3 +62,18 @@ one_more_in cells i x r old mid new l e f g =
 pub first_and_others : (first r : ℕ) (others : List ℕ) (old mid new : Bool) → mid ≡ (old || r == first) → new ≡ (mid || has_cell others r) → new ≡ (old || has_cell (first ∷ others) r)
 first_and_others first r others old mid new e f =
     f ∙ ap (λ b. b || has_cell others r) (e ∙ ap (λ b. old || b) (sym (is_at-eq r first))) ∙ or_assoc old _ _
+
+-- ---- one alone
+
+pub only_one : (x r : ℕ) (xs : List ℕ) (old new : Bool) → xs ≡ x ∷ [] → new ≡ (old || r == x) → new ≡ (old || has_cell xs r)
+only_one x r xs old new e f = first_and_others x r [] old new new f (sym (or-false new)) ∙ ap (λ (ys : List ℕ). old || has_cell ys r) (sym e)
+
+pub none_alone : (x c : ℕ) (xs : List ℕ) → xs ≡ x ∷ [] → (xs ≡ c ∷ [] → Prim.⊥) → has_cell xs c ≡ false
+none_alone x c xs e h = ap (λ (ys : List ℕ). has_cell ys c) e ∙ not_there x c [] (ne_eqb x c (λ f. h (e ∙ ap (λ (y : ℕ). y ∷ []) f))) refl
+
+pub is_alone : (x c : ℕ) (xs : List ℕ) (b : Bool) → xs ≡ x ∷ [] → b ≡ (x == c) → (b ≡ true) ↔ (xs ≡ c ∷ [])
+is_alone x c xs b e f =
+    (λ t. e ∙ ap (λ (y : ℕ). y ∷ []) (eqb-true x c (sym f ∙ t)), λ g. f ∙ eq-eqb x c (ap (λ (ys : List ℕ). get_or ys 0 0) (sym e ∙ g)))
+
+pub one_and_one : (x c : ℕ) (xs ys : List ℕ) → xs ≡ x ∷ [] → ys ≡ x ∷ c ∷ [] → ys ≡ xs ++ c ∷ []
+one_and_one x c xs ys e f = f ∙ ap (λ (zs : List ℕ). zs ++ c ∷ []) (sym e)

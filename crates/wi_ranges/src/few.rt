@@ -18,12 +18,100 @@ const MOST_OTHERS: usize = 64;
 /// A cell or more, each any number of times.
 #[derive(Drop)]
 pub struct Few {
+    held: Held,
+}
+
+/// Cells as they are kept.
+#[derive(Drop)]
+enum Held {
+    /// One takes no memory of its own.
+    One(Address),
+    More(Box<Many>),
+}
+
+impl Model for Few {
+    ghost use Rattle.std.specs.Prelude.{List, ℕ};
+
+    ghost Value = { List ℕ };
+
+    ghost use Rattle.wi_ranges.specs.Inner.Held.{cells_in};
+
+    ghost view = { λ f. cells_in f.held };
+}
+
+impl Few {
+    /// One cell. Takes no memory.
+    pub(crate) fn one(cell: Address) -> Few
+        ensures { result ≡ cell ∷ [] }
+    {
+        Few {
+            held: Held::One(cell),
+        }
+    }
+
+    /// Puts one more in if there is room for it, and answers whether there is. If memory runs out, all is as before.
+    pub(crate) fn add(&mut self, alloc: Global, cell: Address) -> Result<bool, AllocError>
+        ensures more { IfOk result (λ added. IsTrue added → self.new ≡ self.old ++ cell ∷ []) }
+        ensures same { IfOk result (λ added. added ≡ false → self.new ≡ self.old) }
+        ensures err { OnErr result (self.new ≡ self.old) }
+    {
+        match &mut self.held {
+            Held::One(first) => {
+                let many = Many::two(alloc, *first, cell)?;
+                let more = Box::new(alloc, many)?;
+                self.held = Held::More(more);
+                Ok(true)
+            }
+            Held::More(many) => many.add(cell),
+        }
+    }
+
+    /// Whether there is this one alone.
+    pub(crate) fn is_only(&self, cell: Address) -> bool
+        ensures { IsTrue result ↔ (self.now ≡ cell ∷ []) }
+    {
+        match &self.held {
+            Held::One(first) => *first == cell,
+            Held::More(many) => many.is_only(cell),
+        }
+    }
+
+    /// Takes one such cell away if there is one, and answers whether there was. One is left.
+    pub(crate) fn remove(&mut self, cell: Address) -> bool
+        requires { self.old ≡ cell ∷ [] → ⊥ }
+        ensures less { IsTrue result → IsPermutation self.old (cell ∷ self.new) }
+        ensures none { result ≡ false → has_cell self.old cell ≡ false }
+        ensures same { result ≡ false → self.new ≡ self.old }
+    {
+        match &mut self.held {
+            Held::One(_) => false,
+            Held::More(many) => many.remove(cell),
+        }
+    }
+
+    /// Puts them into a set. If memory runs out, some of them may be in it.
+    pub(crate) fn add_to(&self, set: &mut RisingSet) -> Result<(), AllocError>
+        ensures { OnOk result ((r : ℕ) → contains nat_cmp set.new r ≡ (contains nat_cmp set.old r || has_cell self.now r)) }
+    {
+        match &self.held {
+            Held::One(first) => {
+                set.insert(*first)?;
+                Ok(())
+            }
+            Held::More(many) => many.add_to(set),
+        }
+    }
+}
+
+/// A cell and others.
+#[derive(Drop)]
+struct Many {
     first: Address,
     // In any order.
     others: Vec<Address>,
 }
 
-impl Model for Few {
+impl Model for Many {
     ghost use Rattle.std.specs.Prelude.{List, ℕ, ◌∷◌};
 
     ghost Value = { List ℕ };
@@ -31,19 +119,18 @@ impl Model for Few {
     ghost view = { λ f. f.first ∷ f.others.items };
 }
 
-impl Few {
-    /// One cell. Takes no memory.
-    pub(crate) fn one(alloc: Global, cell: Address) -> Few
-        ensures { result ≡ cell ∷ [] }
+impl Many {
+    /// Two cells.
+    fn two(alloc: Global, first: Address, second: Address) -> Result<Many, AllocError>
+        ensures { IfOk result (λ m. m ≡ first ∷ second ∷ []) }
     {
-        Few {
-            first: cell,
-            others: Vec::new(alloc),
-        }
+        let mut others = Vec::new(alloc);
+        others.push(second)?;
+        Ok(Many { first, others })
     }
 
     /// Puts one more in if there is room for it, and answers whether there is. If memory runs out, all is as before.
-    pub(crate) fn add(&mut self, cell: Address) -> Result<bool, AllocError>
+    fn add(&mut self, cell: Address) -> Result<bool, AllocError>
         ensures more { IfOk result (λ added. IsTrue added → self.new ≡ self.old ++ cell ∷ []) }
         ensures same { IfOk result (λ added. added ≡ false → self.new ≡ self.old) }
         ensures err { OnErr result (self.new ≡ self.old) }
@@ -56,14 +143,14 @@ impl Few {
     }
 
     /// Whether there is this one alone.
-    pub(crate) fn is_only(&self, cell: Address) -> bool
+    fn is_only(&self, cell: Address) -> bool
         ensures { IsTrue result ↔ (self.now ≡ cell ∷ []) }
     {
         self.others.is_empty() && self.first == cell
     }
 
     /// Takes one such cell away if there is one, and answers whether there was. One is left.
-    pub(crate) fn remove(&mut self, cell: Address) -> bool
+    fn remove(&mut self, cell: Address) -> bool
         requires { self.old ≡ cell ∷ [] → ⊥ }
         ensures less { IsTrue result → IsPermutation self.old (cell ∷ self.new) }
         ensures none { result ≡ false → has_cell self.old cell ≡ false }
@@ -86,7 +173,7 @@ impl Few {
     }
 
     /// Puts them into a set. If memory runs out, some of them may be in it.
-    pub(crate) fn add_to(&self, set: &mut RisingSet) -> Result<(), AllocError>
+    fn add_to(&self, set: &mut RisingSet) -> Result<(), AllocError>
         ensures { OnOk result ((r : ℕ) → contains nat_cmp set.new r ≡ (contains nat_cmp set.old r || has_cell self.now r)) }
     {
         set.insert(self.first)?;

@@ -119,9 +119,9 @@ fn add_reader(alloc: Global, readers: &mut Readers, pair: &RangePair) -> Result<
         return Ok(false);
     }
     if let Some(few) = readers.get_mut(&pair.first) {
-        return few.add(pair.reader);
+        return few.add(alloc, pair.reader);
     }
-    readers.insert(pair.first, Few::one(alloc, pair.reader))?;
+    readers.insert(pair.first, Few::one(pair.reader))?;
     Ok(true)
 }
 

@@ -4,7 +4,7 @@ use Rattle.std.specs.List.Sorted.{IsPermutation}
 use Rattle.std.proofs.lemmas.Bool.{eqb-true}
 use Rattle.wi_ranges.specs.Inner.Rising.{has_cell}
 use Rattle.wi_ranges.proofs.FewLemmas.{first_gone, not_there, other_gone, place_found, place_none}
-use Rattle.wi_ranges.proofs.few.Few.remove.Goals as goal
+use Rattle.wi_ranges.proofs.few.Many.remove.Goals as goal
 
 pub returns-then-eq-clause-less : goal.returns-then-eq-clause-less
 returns-then-eq-clause-less c =

@@ -1,5 +1,5 @@
 use Rattle.std.proofs.Common.{rules}
-use Rattle.wi_ranges.proofs.few.Few.add.Goals as goal
+use Rattle.wi_ranges.proofs.few.Many.add.Goals as goal
 
 pub returns-clause-more : goal.returns-clause-more
 returns-clause-more c = search rules

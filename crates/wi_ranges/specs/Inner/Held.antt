@@ -1,0 +1,8 @@
+-- What the readers of one cell are kept as.
+use Rattle.std.specs.Prelude.{ℕ, List, [], ◌∷◌}
+use Rattle.wi_ranges.specs.declared.few.Held.{Held}
+use Rattle.wi_ranges.specs.declared.few.Held.TheVariants.{One, More}
+
+abbrev pub cells_in : Held → List ℕ
+cells_in (One cell) = cell ∷ []
+cells_in (More many) = many.value
