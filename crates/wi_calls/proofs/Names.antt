@@ -7,6 +7,7 @@ use Rattle.std.specs.List.{AllByRecursion}
 use Rattle.std.specs.List.Sorted.{IsStrictlySortedBy}
 use Rattle.std.specs.Ordering.{is_lt, nat_cmp}
 use Rattle.std.specs.Str.{bytes_eq}
+use Rattle.std.proofs.lemmas.Bool.{and_parts}
 use Rattle.std.proofs.lemmas.Map.Lookups.{exact_bytes}
 use Rattle.std.specs.declared.cmp.Ordering.{Ordering}
 use Rattle.std.specs.declared.cmp.Ordering.TheVariants.{Less, Equal, Greater}
@@ -34,21 +35,17 @@ less Less h = refl
 less Equal h = cc
 less Greater h = cc
 
-both_true : (a b : Bool) → (a && b) ≡ true → (a ≡ true) × (b ≡ true)
-both_true true b h = (refl, h)
-both_true false b h = cc
-
 below_all : (x : List ℕ) (ys : List (List ℕ)) → is_below_all x ys ≡ true → AllByRecursion (λ y. slice_cmp nat_cmp x y ≡ Less) ys
 below_all x [] h = tt
 below_all x (y ∷ ys) h =
-    let parts = both_true (is_lt (slice_cmp nat_cmp x y)) (is_below_all x ys) h in
+    let parts = and_parts (is_lt (slice_cmp nat_cmp x y)) (is_below_all x ys) h in
     (less _ parts.0, below_all x ys parts.1)
 
 sorted : (xs : List (List ℕ)) → ascend xs ≡ true → IsStrictlySortedBy (slice_cmp nat_cmp) xs
 unfolding IsStrictlySortedBy
 sorted [] h = tt
 sorted (x ∷ xs) h =
-    let parts = both_true (is_below_all x xs) (ascend xs) h in
+    let parts = and_parts (is_below_all x xs) (ascend xs) h in
     (below_all x xs parts.0, sorted xs parts.1)
 
 names_ascend : IsStrictlySortedBy (slice_cmp nat_cmp) (map (λ (f : functions.Function). f.name) all_functions)

@@ -2,7 +2,7 @@
 use Rattle.std.proofs.Common.{◌≡◌, ℕ, zero, suc, ◌<◌, ◌≤◌, ◌+◌, ◌-◌, Bool, true, false, ◌&&◌, ◌||◌, List, [], ◌∷◌, fold, drop, get_or, length, Option, Some, None, IfSome, refl, sym, ap, ◌∙◌, subst, arith}
 use Rattle.std.specs.Prelude.{Result, Ok, Err, slice_get, nat_lt, if◌then◌else◌}
 use Rattle.std.specs.List.{list_all, list_any}
-use Rattle.std.proofs.lemmas.Bool.{and_parts, and_from}
+use Rattle.std.proofs.lemmas.Bool.{and_parts, and_from, ltb-true}
 use Rattle.std.proofs.lemmas.Bool.Decides.{nat_tests}
 use Rattle.std.proofs.lemmas.List.{drop_more, drop_all}
 use Rattle.wi_fraction.specs.Number as numbers
@@ -15,17 +15,16 @@ use Rattle.wi_standard_functions.specs.Convert.{zero_number, one_number}
 use Rattle.wi_standard_functions.specs.Information.{is_empty_value}
 use Rattle.wi_standard_functions.specs.Steps.{and_then}
 use Rattle.wi_values.proofs.Within.{places_left, within_between}
-use Rattle.wi_lookup.specs.declared.stop.Stop.TheVariants.{Missing}
+use Rattle.wi_scalar_functions.specs.declared.ending.Stop.TheVariants.{Missing}
 use Rattle.wi_lookup.specs.Arguments.{KnownAgrees}
 use Rattle.wi_lookup.specs.Filled.{ComesBefore, IsNextFilled, is_known_empty}
 use Rattle.wi_lookup.specs.Walk.{after_cells}
 use Rattle.wi_lookup.proofs.Given.{known_is}
 use Rattle.wi_lookup.proofs.Walking as walk
 use Rattle.wi_lookup.proofs.Walking.{first_of}
-use Rattle.wi_lookup.proofs.RowMajor.{is_less}
-use Rattle.wi_lookup.specs.declared.stop.Stop.{Stop}
-use Rattle.wi_lookup.specs.declared.ending.Ending.{Ending}
-use Rattle.wi_lookup.specs.declared.ending.Ending.TheVariants.{Error, Stopped}
+use Rattle.wi_scalar_functions.specs.declared.ending.Stop.{Stop}
+use Rattle.wi_scalar_functions.specs.declared.ending.Ending.{Ending}
+use Rattle.wi_scalar_functions.specs.declared.ending.Ending.TheVariants.{Error, Stopped}
 use Rattle.wi_criteria_functions.specs.Inner.Giving.{Agrees}
 use Rattle.wi_criteria_functions.specs.Inner.Places.{ComesAfter, IsNextPlace}
 use Rattle.wi_criteria_functions.specs.Inner.Products.{product_there, sum_through, with_factor, with_place, IsMissingInAny}
@@ -73,18 +72,18 @@ module _ (known : ℕ → Option Value) (r : Area) (rs : List Area) (c : ℕ) wh
   goes_on product more i s other v l is k e m h = λ cells a. ap (λ (o : Result numbers.Number ErrorKind). fold (times cells) o (drop (i + 1) rs)) m ∙ taken product i s other v l is k e h cells a
 
   -- the outcome is the product
-  abbrev pub IsProduct : Result numbers.Number (Ending Stop) → Type 0
+  abbrev pub IsProduct : Result numbers.Number (Ending (Stop ℕ)) → Type 0
   IsProduct o = Agrees known (IsMissingInAny known rs) (λ (x : numbers.Number). x) (λ cells. product_there cells r rs c) o
 
-  pub fails : (product : numbers.Number) (i : ℕ) (s : Area) (other : ℕ) (v : Value) (e : ErrorKind) (x : Ending Stop) → x ≡ Error e → i < length rs → s ≡ get_or rs i s → Some v ≡ known other → other ≡ same_place r s c → Err e ≡ with_factor product v → Left product (drop i rs) → IsProduct (Err x)
+  pub fails : (product : numbers.Number) (i : ℕ) (s : Area) (other : ℕ) (v : Value) (e : ErrorKind) (x : Ending (Stop ℕ)) → x ≡ Error e → i < length rs → s ≡ get_or rs i s → Some v ≡ known other → other ≡ same_place r s c → Err e ≡ with_factor product v → Left product (drop i rs) → IsProduct (Err x)
   fails product i s other v e x n l is k o m h =
-      subst (λ (y : Ending Stop). IsProduct (Err y)) (sym n) (λ cells a.
+      subst (λ (y : Ending (Stop ℕ)). IsProduct (Err y)) (sym n) (λ cells a.
       sym (taken product i s other v l is k o h cells a)
       ∙ ap (λ (q : Result numbers.Number ErrorKind). fold (times cells) q (drop (i + 1) rs)) (sym m)
       ∙ failed cells e (drop (i + 1) rs))
 
-  pub misses : (i : ℕ) (s : Area) (other d : ℕ) (x : Ending Stop) → x ≡ Stopped (Missing d) → is_within r c ≡ true → list_all (same_extent r) rs ≡ true → i < length rs → s ≡ get_or rs i s → other ≡ same_place r s c → d ≡ other → known d ≡ None → IsProduct (Err x)
-  misses i s other d x n w k l is o e m = subst (λ (y : Ending Stop). IsProduct (Err y)) (sym n) (m, any_at (λ t. is_within t d) rs i s l is (subst (λ (b : ℕ). is_within s b ≡ true) (sym (e ∙ o)) (same_place_inside r s c w (all_at (same_extent r) rs i s l is k))))
+  pub misses : (i : ℕ) (s : Area) (other d : ℕ) (x : Ending (Stop ℕ)) → x ≡ Stopped (Missing d) → is_within r c ≡ true → list_all (same_extent r) rs ≡ true → i < length rs → s ≡ get_or rs i s → other ≡ same_place r s c → d ≡ other → known d ≡ None → IsProduct (Err x)
+  misses i s other d x n w k l is o e m = subst (λ (y : Ending (Stop ℕ)). IsProduct (Err y)) (sym n) (m, any_at (λ t. is_within t d) rs i s l is (subst (λ (b : ℕ). is_within s b ≡ true) (sym (e ∙ o)) (same_place_inside r s c w (all_at (same_extent r) rs i s l is k))))
 
   pub ends : (product : numbers.Number) (i : ℕ) → length rs ≤ i → Left product (drop i rs) → IsProduct (Ok product)
   ends product i l h = λ cells a. sym (h cells a) ∙ ap (fold (times cells) (Ok product)) (drop_all i rs l)
@@ -169,7 +168,7 @@ module _ (known : ℕ → Option Value) (r : Area) (all : List Area) where
 
   is_before : (found : Option ℕ) (a : ℕ) → comes_before found a ≡ true → ComesBefore a found
   is_before None a h = tt
-  is_before (Some c) a h = is_less a c h
+  is_before (Some c) a h = ltb-true a c h
 
   before_is : (found : Option ℕ) (a : ℕ) → ComesBefore a found → comes_before found a ≡ true
   before_is None a h = refl
@@ -214,7 +213,7 @@ module _ (known : ℕ → Option Value) (r : Area) (all : List Area) where
   }
 
   -- the outcome is the sum
-  abbrev pub IsSum : Result numbers.Number (Ending Stop) → Type 0
+  abbrev pub IsSum : Result numbers.Number (Ending (Stop ℕ)) → Type 0
   IsSum o = Agrees known (IsMissingInAny known all) (λ (x : numbers.Number). x) (λ cells. sum_through cells r all) o
 
   -- and each place comes after the one before
@@ -260,16 +259,16 @@ module _ (known : ℕ → Option Value) (r : Area) (all : List Area) where
         ∙ sym (walk.stops (after cells) (all_known cells) r (Ok zero_number) (Ok sum) (Err e) ahead c (shown cells c) (h.whole cells l) a refl (sym m ∙ sym (after_place cells (Ok sum) c)) (λ d w. error_stays cells e d w) (shown cells) (λ d. refl))
 
     -- the product at a place fails or a cell is missing
-    pub product_fails : (sum : numbers.Number) (ahead : Option ℕ) (c : ℕ) (y x : Ending Stop) → x ≡ y → Rest sum ahead → ahead ≡ Some c → IsProduct known r all c (Err y) → IsSum (Err x)
-    product_fails sum ahead c y x n h a p = subst (λ (z : Ending Stop). IsSum (Err z)) (sym n) (at y p)
+    pub product_fails : (sum : numbers.Number) (ahead : Option ℕ) (c : ℕ) (y x : Ending (Stop ℕ)) → x ≡ y → Rest sum ahead → ahead ≡ Some c → IsProduct known r all c (Err y) → IsSum (Err x)
+    product_fails sum ahead c y x n h a p = subst (λ (z : Ending (Stop ℕ)). IsSum (Err z)) (sym n) (at y p)
       where
-        at : (z : Ending Stop) → IsProduct known r all c (Err z) → IsSum (Err z)
+        at : (z : Ending (Stop ℕ)) → IsProduct known r all c (Err z) → IsSum (Err z)
         at (Error e) q = λ cells l. stopped sum e ahead c h a cells l (ap (and_then (addition sum)) (q cells l))
         at (Stopped t) q = q
 
     -- or the sum doesn't fit
-    pub sum_fails : (sum product : numbers.Number) (ahead : Option ℕ) (c : ℕ) (e : ErrorKind) (x : Ending Stop) → x ≡ Error e → Rest sum ahead → ahead ≡ Some c → IsProduct known r all c (Ok product) → Err e ≡ addition sum product → IsSum (Err x)
-    sum_fails sum product ahead c e x n h a p m = subst (λ (z : Ending Stop). IsSum (Err z)) (sym n) (λ cells l. stopped sum e ahead c h a cells l (ap (and_then (addition sum)) (p cells l) ∙ sym m))
+    pub sum_fails : (sum product : numbers.Number) (ahead : Option ℕ) (c : ℕ) (e : ErrorKind) (x : Ending (Stop ℕ)) → x ≡ Error e → Rest sum ahead → ahead ≡ Some c → IsProduct known r all c (Ok product) → Err e ≡ addition sum product → IsSum (Err x)
+    sum_fails sum product ahead c e x n h a p m = subst (λ (z : Ending (Stop ℕ)). IsSum (Err z)) (sym n) (λ cells l. stopped sum e ahead c h a cells l (ap (and_then (addition sum)) (p cells l) ∙ sym m))
 
     pub sum_ends : (sum : numbers.Number) (ahead : Option ℕ) → Rest sum ahead → ahead ≡ None → IsSum (Ok sum)
     sum_ends sum ahead h a = λ cells l. sym (walked_is cells (Ok zero_number) (cells_of r)) ∙ sym (walk.ends (after cells) (all_known cells) r (Ok zero_number) (Ok sum) ahead (h.whole cells l) a (shown cells) (λ d. refl))

@@ -20,9 +20,9 @@ use Rattle.wi_scalar_functions.proofs.Counts.{cut_counted, cut_value}
 use Rattle.wi_matching.specs.declared.criterion.Criterion.{Criterion}
 use Rattle.wi_matching.specs.Inner.Meeting.{criterion_held, is_met}
 use Rattle.wi_criteria_functions.specs.declared.counting.Counting.{Counting}
-use Rattle.wi_lookup.specs.declared.stop.Stop.{Stop}
-use Rattle.wi_lookup.specs.declared.ending.Ending.{Ending}
-use Rattle.wi_lookup.specs.declared.ending.Ending.TheVariants.{Error, Stopped}
+use Rattle.wi_scalar_functions.specs.declared.ending.Stop.{Stop}
+use Rattle.wi_scalar_functions.specs.declared.ending.Ending.{Ending}
+use Rattle.wi_scalar_functions.specs.declared.ending.Ending.TheVariants.{Error, Stopped}
 use Rattle.wi_criteria_functions.specs.Inner.Giving.{criterion_argument, Gives}
 use Rattle.wi_criteria_functions.proofs.Referring.{IsCriterionAt, by_criterion}
 
@@ -63,13 +63,13 @@ module _ (known : ℕ → Option Value) (args : List given.Argument) where
   abbrev pub IsAreaAt : Result Area ErrorKind → Type 0
   IsAreaAt r = (cells : ℕ → Value) → region_at (arguments_in cells args) 0 ≡ region_in cells r
 
-  pub ends_at_area : (e : ErrorKind) (x : Ending Stop) → x ≡ Error e → IsAreaAt (Err e) → Gives known count_if_value args (Err x)
-  ends_at_area e x m h = subst (λ (y : Ending Stop). Gives known count_if_value args (Err y)) (sym m) (λ cells k. sym (by_steps (arguments_in cells args) (Err e) (criterion_argument (value_at (arguments_in cells args) 1)) (h cells) refl))
+  pub ends_at_area : (e : ErrorKind) (x : Ending (Stop ℕ)) → x ≡ Error e → IsAreaAt (Err e) → Gives known count_if_value args (Err x)
+  ends_at_area e x m h = subst (λ (y : Ending (Stop ℕ)). Gives known count_if_value args (Err y)) (sym m) (λ cells k. sym (by_steps (arguments_in cells args) (Err e) (criterion_argument (value_at (arguments_in cells args) 1)) (h cells) refl))
 
-  pub ends_at_criterion : (r : Area) (y x : Ending Stop) → x ≡ y → IsAreaAt (Ok r) → IsCriterionAt known args 1 (Err y) → Gives known count_if_value args (Err x)
-  ends_at_criterion r y x m h g = subst (λ (z : Ending Stop). Gives known count_if_value args (Err z)) (sym m) (at y g)
+  pub ends_at_criterion : (r : Area) (y x : Ending (Stop ℕ)) → x ≡ y → IsAreaAt (Ok r) → IsCriterionAt known args 1 (Err y) → Gives known count_if_value args (Err x)
+  ends_at_criterion r y x m h g = subst (λ (z : Ending (Stop ℕ)). Gives known count_if_value args (Err z)) (sym m) (at y g)
     where
-      at : (z : Ending Stop) → IsCriterionAt known args 1 (Err z) → Gives known count_if_value args (Err z)
+      at : (z : Ending (Stop ℕ)) → IsCriterionAt known args 1 (Err z) → Gives known count_if_value args (Err z)
       at (Error e) k = λ cells a. sym (by_steps (arguments_in cells args) (region_in cells (Ok r)) (Err e) (h cells) (k cells a))
       at (Stopped s) k = k
 

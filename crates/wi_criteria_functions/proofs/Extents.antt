@@ -1,10 +1,10 @@
 -- Rectangles of one size, cell by cell.
 use Rattle.std.proofs.Common.{◌≡◌, ℕ, zero, suc, ◌<◌, ◌≤◌, ◌-◌, ◌+◌, ◌==◌, true, List, ◌∷◌, ◌++◌, map, refl, sym, ap, ◌∙◌, arith}
-use Rattle.std.proofs.lemmas.Bool.{and_parts, and_from, eqb-true}
+use Rattle.std.proofs.lemmas.Bool.{and_parts, and_from, eqb-true, le-leb}
 use Rattle.std.proofs.lemmas.List.{map-append}
 use Rattle.std.proofs.Math.Nat.{mod-lt}
 use Rattle.wi_values.specs.Address.{Area, is_within, cells_of, place, row_of, column_of}
-use Rattle.wi_lookup.proofs.RowMajor.{at_most_is, block, run, within_parts}
+use Rattle.wi_lookup.proofs.RowMajor.{block, run, within_parts}
 use Rattle.wi_criteria_functions.specs.Inner.Sums.{same_extent, same_place}
 
 -- where a cell of a rectangle stands
@@ -46,7 +46,7 @@ same_place_inside r s c h k =
     let p = within_other r s c h k in
     let row_is : row_of (same_place r s c) ≡ row_of s.first + (row_of c - row_of r.first) = omega (arith, p.narrow, p.right) in
     let column_is : column_of (same_place r s c) ≡ column_of s.first + (column_of c - column_of r.first) = omega (arith, p.narrow, p.right) in
-    rw (row_is, column_is) (and_from _ _ (and_from _ _ (at_most_is _ _ (omega arith)) (at_most_is _ _ p.bottom)) (and_from _ _ (at_most_is _ _ (omega arith)) (at_most_is _ _ p.right)))
+    rw (row_is, column_is) (and_from _ _ (and_from _ _ (le-leb _ _ (omega arith)) (le-leb _ _ p.bottom)) (and_from _ _ (le-leb _ _ (omega arith)) (le-leb _ _ p.right)))
 
 -- ---- one row, and rows
 

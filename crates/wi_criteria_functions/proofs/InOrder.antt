@@ -1,10 +1,9 @@
 -- Places of rectangles of one size, in row-major order.
-use Rattle.std.proofs.Common.{◌≡◌, ℕ, ◌<◌, ◌≤◌, ◌-◌, ◌+◌, ◌==◌, Bool, true, false, ◌&&◌, inl, inr, List, [], ◌∷◌, length, take, get_or, Option, Some, None, IfSome, option_map, refl, sym, ap, ◌∙◌, subst, arith}
-use Rattle.std.specs.Prelude.{min}
+use Rattle.std.proofs.Common.{◌≡◌, ℕ, ◌<◌, ◌≤◌, ◌-◌, ◌+◌, Bool, true, false, ◌&&◌, inl, inr, List, [], ◌∷◌, length, take, get_or, Option, Some, None, IfSome, option_map, refl, sym, ap, ◌∙◌, subst, arith}
 use Rattle.std.specs.List.{list_all}
-use Rattle.std.proofs.lemmas.Bool.{and_parts, and_from, cases_lt}
-use Rattle.std.proofs.lemmas.Bool.Decides.{nat_tests}
+use Rattle.std.proofs.lemmas.Bool.{and_parts, and_from, cases_lt, eq-eqb}
 use Rattle.std.proofs.lemmas.List.{take_all}
+use Rattle.std.proofs.Math.Nat.{min-eq_left, min-eq_right}
 use Rattle.std.proofs.lemmas.List.Folds.{list_all_more, list_all_at}
 use Rattle.wi_values.specs.Address.{Area, is_within, row_of, column_of}
 use Rattle.wi_values.specs.declared.value.Value.{Value}
@@ -15,11 +14,8 @@ use Rattle.wi_criteria_functions.specs.Inner.Places.{earlier, ComesAfter, IsNext
 use Rattle.wi_criteria_functions.specs.Inner.Sums.{same_extent, same_place}
 use Rattle.wi_criteria_functions.proofs.Extents.{within_other, same_place_inside, sizes}
 
-pub equal_is : (x y : ℕ) → x ≡ y → (x == y) ≡ true
-equal_is x y h = grind (arith, nat_tests, h)
-
 pub turned : (r s : Area) → same_extent r s ≡ true → same_extent s r ≡ true
-turned r s k = let p = sizes r s k in and_from _ _ (equal_is _ _ (sym p.heights)) (equal_is _ _ (sym p.widths))
+turned r s k = let p = sizes r s k in and_from _ _ (eq-eqb _ _ (sym p.heights)) (eq-eqb _ _ (sym p.widths))
 
 -- ---- the same place of another rectangle
 
@@ -104,18 +100,12 @@ module _ (known : ℕ → Option Value) (r s : Area) (k : same_extent r s ≡ tr
 
 -- ---- of several
 
-least_is : (x y : ℕ) → x ≤ y → min x y ≡ x
-least_is x y h = omega (arith, h)
-
-least_other : (x y : ℕ) → y ≤ x → min x y ≡ y
-least_other x y h = omega (arith, h)
-
 either : (P : ℕ → Type 0) (o n : Option ℕ) → IfSome o P → IfSome n P → IfSome (earlier o n) P
 either P None n h k = k
 either P (Some a) None h k = h
 either P (Some a) (Some b) h k = elim (cases_lt a b) [
-  | inl before ↦ subst P (sym (least_is a b (omega (arith, before)))) h
-  | inr behind ↦ subst P (sym (least_other a b behind)) k
+  | inl before ↦ subst P (sym (min-eq_left {n = a} {m = b} (omega (arith, before)))) h
+  | inr behind ↦ subst P (sym (min-eq_right {n = b} {m = a} behind)) k
 ]
 
 before_both : (a : ℕ) (o n : Option ℕ) → ComesBefore a (earlier o n) → ComesBefore a o × ComesBefore a n

@@ -2,7 +2,7 @@
 use Rattle.std.proofs.Common.{◌≡◌, ℕ, suc, ◌<◌, ◌≤◌, ◌+◌, ◌-◌, ◌==◌, Bool, true, false, ◌&&◌, ◌||◌, List, [], ◌∷◌, ◌++◌, map, fold, drop, get_or, length, Option, Some, None, option_map, refl, sym, ap, ◌∙◌, subst, arith}
 use Rattle.std.specs.Prelude.{Result, Ok, Err, slice_get, unwrap_or, if◌then◌else◌}
 use Rattle.std.specs.List.{list_all, list_any, range_with_len}
-use Rattle.std.proofs.lemmas.Bool.{and_parts, and_from}
+use Rattle.std.proofs.lemmas.Bool.{and_parts, and_from, eq-eqb}
 use Rattle.std.proofs.lemmas.List.{drop_more, drop_all, length-map, append_assoc, append-nil}
 use Rattle.std.proofs.lemmas.List.Folds.{list_all-map}
 use Rattle.std.proofs.lemmas.Option.{slice_get-map}
@@ -19,16 +19,15 @@ use Rattle.wi_standard_functions.specs.Mathematical.{same_size, of_one_size, fac
 use Rattle.wi_standard_functions.specs.Sequence.{Item, scalar, number_of_item, with_number}
 use Rattle.wi_standard_functions.specs.Steps.{◌>>=◌, and_then, map_until_error}
 use Rattle.wi_lookup.specs.declared.argument.Argument as given
-use Rattle.wi_lookup.specs.declared.stop.Stop.TheVariants.{Missing, Memory}
+use Rattle.wi_scalar_functions.specs.declared.ending.Stop.TheVariants.{Missing, Memory}
 use Rattle.wi_lookup.specs.Arguments.{arguments_in, refers_to, area_referred}
-use Rattle.wi_lookup.specs.declared.stop.Stop.{Stop}
-use Rattle.wi_lookup.specs.declared.ending.Ending.{Ending}
-use Rattle.wi_lookup.specs.declared.ending.Ending.TheVariants.{Error, Stopped}
+use Rattle.wi_scalar_functions.specs.declared.ending.Stop.{Stop}
+use Rattle.wi_scalar_functions.specs.declared.ending.Ending.{Ending}
+use Rattle.wi_scalar_functions.specs.declared.ending.Ending.TheVariants.{Error, Stopped}
 use Rattle.wi_criteria_functions.specs.Inner.Giving.{Agrees, Gives}
 use Rattle.wi_criteria_functions.specs.Inner.Products.{areas_of, product_there, sum_over, sum_through, with_factor, with_place, IsAreaError, IsMissingInAny}
 use Rattle.wi_criteria_functions.specs.Inner.Sums.{same_extent, same_place}
 use Rattle.wi_criteria_functions.proofs.Extents.{cells_moved}
-use Rattle.wi_criteria_functions.proofs.InOrder.{equal_is}
 use Rattle.wi_criteria_functions.proofs.Sums.{added}
 
 -- ---- the sum over all places is the sum of the products
@@ -92,14 +91,14 @@ module _ (cells : ℕ → Value) (r : Area) where
 -- ---- rectangles, of which one is the first
 
 -- the outcome is the sum over the rectangles
-abbrev pub Summed : (ℕ → Option Value) → List Area → Result numbers.Number (Ending Stop) → Type 0
+abbrev pub Summed : (ℕ → Option Value) → List Area → Result numbers.Number (Ending (Stop ℕ)) → Type 0
 Summed known rs o = Agrees known (IsMissingInAny known rs) (λ (x : numbers.Number). x) (λ cells. sum_over (map (region_of cells) rs)) o
 
 itself : (r : Area) → same_extent r r ≡ true
 itself r =
     let height = (row_of r.last + 1) - row_of r.first in
     let width = (column_of r.last + 1) - column_of r.first in
-    and_from (height == height) (width == width) (equal_is height height refl) (equal_is width width refl)
+    and_from (height == height) (width == width) (eq-eqb height height refl) (eq-eqb width width refl)
 
 by_size : (b : Bool) (cells : ℕ → Value) (r : Area) (ss : List Area) → list_all (same_extent r) (r ∷ ss) ≡ b → sum_over (map (region_of cells) (r ∷ ss)) ≡ and_then (λ rs. sum_of_items (products rs)) (if b then Ok (map (region_of cells) (r ∷ ss)) else Err BadValue)
 by_size b cells r ss h =
@@ -138,7 +137,7 @@ module _ (known : ℕ → Option Value) (rs : List Area) where
     pub sizes_differ : list_all (same_extent r) rs ≡ false → Summed known rs (Err (Error BadValue))
     sizes_differ h = λ cells l. sum_is false cells h
 
-    pub through_is : (o : Result numbers.Number (Ending Stop)) → list_all (same_extent r) rs ≡ true → Agrees known (IsMissingInAny known rs) (λ (x : numbers.Number). x) (λ cells. sum_through cells r rs) o → Summed known rs o
+    pub through_is : (o : Result numbers.Number (Ending (Stop ℕ))) → list_all (same_extent r) rs ≡ true → Agrees known (IsMissingInAny known rs) (λ (x : numbers.Number). x) (λ cells. sum_through cells r rs) o → Summed known rs o
     through_is (Ok x) h q = λ cells l. sum_is true cells h ∙ q cells l
     through_is (Err (Error e)) h q = λ cells l. sum_is true cells h ∙ q cells l
     through_is (Err (Stopped t)) h q = q
@@ -189,7 +188,7 @@ module _ (args : List given.Argument) where
       at (Ok rs) = ap Ok (append_assoc taken (r ∷ []) rs)
       at (Err e) = refl
 
-  pub not_taken : (taken : List Area) (i : ℕ) (a : given.Argument) (e : ErrorKind) (x : Ending Stop) → x ≡ Error e → i < length args → a ≡ get_or args i a → Err e ≡ area_referred a → Taken taken (drop i args) → IsAreaError args x
+  pub not_taken : (taken : List Area) (i : ℕ) (a : given.Argument) (e : ErrorKind) (x : Ending (Stop ℕ)) → x ≡ Error e → i < length args → a ≡ get_or args i a → Err e ≡ area_referred a → Taken taken (drop i args) → IsAreaError args x
   not_taken taken i a e x n l is m h = subst (IsAreaError args) (sym n) (sym (next taken i a (Err e) l is m h))
 
   pub all_taken : (taken : List Area) (i : ℕ) → length args ≤ i → Taken taken (drop i args) → areas_of args ≡ Ok taken
@@ -212,10 +211,10 @@ module _ (args : List given.Argument) where
   at_sum cells rs o e h = at_areas cells (Ok rs) e ∙ shown_sum (of_one_size (map (region_of cells) rs)) ∙ ap (λ (p : Result numbers.Number ErrorKind). p >>= (λ x. Number x)) h
 
   module _ (known : ℕ → Option Value) where
-    pub ends_at_areas : (y x : Ending Stop) → x ≡ y → IsAreaError args y → Gives known sum_product_value args (Err x)
-    ends_at_areas y x m h = subst (λ (z : Ending Stop). Gives known sum_product_value args (Err z)) (sym m) (at y h)
+    pub ends_at_areas : (y x : Ending (Stop ℕ)) → x ≡ y → IsAreaError args y → Gives known sum_product_value args (Err x)
+    ends_at_areas y x m h = subst (λ (z : Ending (Stop ℕ)). Gives known sum_product_value args (Err z)) (sym m) (at y h)
       where
-        at : (z : Ending Stop) → IsAreaError args z → Gives known sum_product_value args (Err z)
+        at : (z : Ending (Stop ℕ)) → IsAreaError args z → Gives known sum_product_value args (Err z)
         at (Error e) k = λ cells l. sym (at_areas cells (Err e) k)
         at (Stopped (Missing c)) k = cc
         at (Stopped Memory) k = tt
@@ -223,10 +222,10 @@ module _ (args : List given.Argument) where
     pub ends_summed : (rs : List Area) (x : numbers.Number) → areas_of args ≡ Ok rs → Summed known rs (Ok x) → Gives known sum_product_value args (Ok (Number x))
     ends_summed rs x e q = λ cells l. sym (at_sum cells rs (Ok x) e (q cells l))
 
-    pub ends_in_sum : (rs : List Area) (y x : Ending Stop) → x ≡ y → areas_of args ≡ Ok rs → Summed known rs (Err y) → Gives known sum_product_value args (Err x)
-    ends_in_sum rs y x m e q = subst (λ (z : Ending Stop). Gives known sum_product_value args (Err z)) (sym m) (at y q)
+    pub ends_in_sum : (rs : List Area) (y x : Ending (Stop ℕ)) → x ≡ y → areas_of args ≡ Ok rs → Summed known rs (Err y) → Gives known sum_product_value args (Err x)
+    ends_in_sum rs y x m e q = subst (λ (z : Ending (Stop ℕ)). Gives known sum_product_value args (Err z)) (sym m) (at y q)
       where
-        at : (z : Ending Stop) → Summed known rs (Err z) → Gives known sum_product_value args (Err z)
+        at : (z : Ending (Stop ℕ)) → Summed known rs (Err z) → Gives known sum_product_value args (Err z)
         at (Error n) p = λ cells l. sym (at_sum cells rs (Err n) e (p cells l))
         at (Stopped (Missing c)) p = (p.0, referred c args rs e ∙ p.1)
         at (Stopped Memory) p = tt

@@ -9,10 +9,10 @@ ghost use Rattle.wi_matching.specs.Inner.Meeting.{criterion_held};
 ghost use Rattle.wi_criteria_functions.specs.Inner.Giving.{criterion_argument, Agrees, IsCriterionOf};
 
 use std::alloc::Global;
-use wi_lookup::{Argument, Ending, Lookup, Stop};
+use wi_lookup::{Argument, Lookup};
 use wi_matching::Criterion;
-use wi_scalar_functions::no_error;
-use wi_values::{ErrorKind, Rect, Value};
+use wi_scalar_functions::{Ending, Stop, no_error};
+use wi_values::{Address, ErrorKind, Rect, Value};
 
 /// The rectangle that the argument at a place refers to, counted from 0, or the default where there is no such argument.
 pub(crate) fn area_or(
@@ -36,7 +36,7 @@ pub(crate) fn criterion_at<L: Lookup>(
     arguments: &[Argument],
     place: usize,
     lookup: &L,
-) -> Result<Criterion, Ending<Stop>>
+) -> Result<Criterion, Ending<Stop<Address>>>
     ensures { Agrees (L.known_cell lookup.now) (IsMissing (L.known_cell lookup.now) arguments.now) criterion_held (λ cells. criterion_argument (value_at (arguments_in cells arguments.now) place)) result }
 {
     match argument_at(arguments, place) {
@@ -50,7 +50,7 @@ fn criterion_in<L: Lookup>(
     alloc: Global,
     argument: &Argument,
     lookup: &L,
-) -> Result<Criterion, Ending<Stop>>
+) -> Result<Criterion, Ending<Stop<Address>>>
     ensures { Agrees (L.known_cell lookup.now) (IsMissing (L.known_cell lookup.now) (argument.now ∷ [])) criterion_held (λ cells. criterion_argument (argument_in cells argument.now).value) result }
 {
     let lent = argument.value(lookup)?;
@@ -59,7 +59,7 @@ fn criterion_in<L: Lookup>(
 }
 
 /// The criterion that a value is, unless that is an error.
-fn criterion_of(alloc: Global, value: &Value) -> Result<Criterion, Ending<Stop>>
+fn criterion_of(alloc: Global, value: &Value) -> Result<Criterion, Ending<Stop<Address>>>
     ensures { IsCriterionOf value.now result }
 {
     no_error(value)?;

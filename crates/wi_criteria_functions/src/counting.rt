@@ -5,7 +5,8 @@ ghost use Rattle.std.proofs.Common.{ap};
 ghost use Rattle.wi_values.specs.Address.{cells_of, is_within};
 ghost use Rattle.wi_values.specs.declared.value.Value.{Value as Values};
 ghost use Rattle.wi_standard_functions.specs.Information.{count_if_value};
-ghost use Rattle.wi_lookup.specs.Arguments.{IfMissing, IsMissing, IsOfArguments, KnownAgrees};
+ghost use Rattle.wi_scalar_functions.specs.Endings.{IfMissing};
+ghost use Rattle.wi_lookup.specs.Arguments.{IsMissing, IsOfArguments, KnownAgrees};
 ghost use Rattle.wi_matching.specs.Inner.Meeting.{is_met};
 ghost use Rattle.wi_scalar_functions.specs.Inner.Counts.{counted, IsCut};
 ghost use Rattle.wi_criteria_functions.specs.Inner.Laws.{empty_not_counted};
@@ -14,9 +15,9 @@ ghost use Rattle.wi_criteria_functions.specs.Inner.Giving.{Gives};
 use crate::arguments::criterion_at;
 use std::alloc::Global;
 use std::ops::ControlFlow;
-use wi_lookup::{Argument, Ending, Lookup, Stop, TakesCells, area_at, settled, take_cells};
+use wi_lookup::{Argument, Lookup, TakesCells, area_at, take_cells};
 use wi_matching::Criterion;
-use wi_scalar_functions::{counted, whole_value};
+use wi_scalar_functions::{Ending, Stop, counted, settled, whole_value};
 use wi_values::{Address, Rect, Value};
 
 /// COUNTIF: how many cells of the first argument meet the criterion that the second is. The work is that of a walk through the
@@ -25,7 +26,7 @@ pub fn count_if_value<L: Lookup>(
     alloc: Global,
     arguments: &[Argument],
     lookup: &L,
-) -> Result<Value, Stop>
+) -> Result<Value, Stop<Address>>
     ensures done { IfOk result (IsOfArguments (L.known_cell lookup.now) count_if_value arguments.now) }
     ensures missing { IfErr result (λ s. IfMissing s (IsMissing (L.known_cell lookup.now) arguments.now)) }
 {
@@ -36,7 +37,7 @@ fn count_if<L: Lookup>(
     alloc: Global,
     arguments: &[Argument],
     lookup: &L,
-) -> Result<Value, Ending<Stop>>
+) -> Result<Value, Ending<Stop<Address>>>
     ensures { Gives (L.known_cell lookup.now) count_if_value arguments.now result }
 {
     let area = area_at(arguments, 0)?;

@@ -1,9 +1,10 @@
 //! Rectangles of one size, and the cells at the same places.
 
-ghost use Rattle.std.specs.Prelude.{◌≡◌, ◌+◌, ◌-◌, true};
-ghost use Rattle.wi_values.specs.Address.{column_of, is_within, row_of};
+ghost use Rattle.std.specs.Prelude.{◌≡◌, true};
+ghost use Rattle.wi_values.specs.Address.{is_within};
 ghost use Rattle.wi_criteria_functions.specs.Inner.Sums.{same_extent, same_place};
 
+use wi_lookup::{height, width};
 use wi_values::{Address, Rect};
 
 /// Whether two rectangles have as many rows and columns.
@@ -11,18 +12,6 @@ pub(crate) fn same_extent(one: Rect, other: Rect) -> bool
     ensures { result ≡ same_extent one other }
 {
     height(one) == height(other) && width(one) == width(other)
-}
-
-fn height(area: Rect) -> u32
-    ensures { result ≡ (row_of area.last + 1) - row_of area.first }
-{
-    (area.last().row() + 1).saturating_sub(area.first().row())
-}
-
-fn width(area: Rect) -> u32
-    ensures { result ≡ (column_of area.last + 1) - column_of area.first }
-{
-    (area.last().column() + 1).saturating_sub(area.first().column())
 }
 
 /// The cell of another rectangle at the place that a cell has in one.

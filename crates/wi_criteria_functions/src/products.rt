@@ -5,7 +5,8 @@ ghost use Rattle.std.specs.List.{list_all};
 ghost use Rattle.wi_values.specs.Address.{is_within};
 ghost use Rattle.wi_standard_functions.specs.Arguments.{region_of};
 ghost use Rattle.wi_standard_functions.specs.Mathematical.{sum_product_value};
-ghost use Rattle.wi_lookup.specs.Arguments.{IfMissing, IsMissing, IsOfArguments};
+ghost use Rattle.wi_scalar_functions.specs.Endings.{IfMissing};
+ghost use Rattle.wi_lookup.specs.Arguments.{IsMissing, IsOfArguments};
 ghost use Rattle.wi_criteria_functions.specs.Inner.Giving.{Agrees, Gives};
 ghost use Rattle.wi_criteria_functions.specs.Inner.Products.{areas_of, product_there, sum_over, sum_through, with_factor, IsAreaError, IsMissingInAny};
 ghost use Rattle.wi_criteria_functions.specs.Inner.Sums.{same_extent};
@@ -15,8 +16,8 @@ use crate::extent::same_place;
 use crate::places::{have_one_size, next_place};
 use std::alloc::Global;
 use wi_fraction::Fraction;
-use wi_lookup::{Argument, Ending, Lookup, Stop, settled};
-use wi_scalar_functions::{add, multiply, one, zero};
+use wi_lookup::{Argument, Lookup};
+use wi_scalar_functions::{Ending, Stop, add, multiply, one, settled, zero};
 use wi_values::{Address, ErrorKind, Rect, Value};
 
 /// SUMPRODUCT: the sum, over the places of rectangles of one size, of the products of the cells that stand there; a cell that isn't
@@ -27,7 +28,7 @@ pub fn sum_product_value<L: Lookup>(
     alloc: Global,
     arguments: &[Argument],
     lookup: &L,
-) -> Result<Value, Stop>
+) -> Result<Value, Stop<Address>>
     ensures done { IfOk result (IsOfArguments (L.known_cell lookup.now) sum_product_value arguments.now) }
     ensures missing { IfErr result (λ s. IfMissing s (IsMissing (L.known_cell lookup.now) arguments.now)) }
 {
@@ -38,7 +39,7 @@ fn sum_product<L: Lookup>(
     alloc: Global,
     arguments: &[Argument],
     lookup: &L,
-) -> Result<Value, Ending<Stop>>
+) -> Result<Value, Ending<Stop<Address>>>
     ensures { Gives (L.known_cell lookup.now) sum_product_value arguments.now result }
 {
     let areas = areas_of(alloc, arguments)?;
@@ -47,7 +48,7 @@ fn sum_product<L: Lookup>(
 }
 
 /// The rectangles that all arguments refer to.
-fn areas_of(alloc: Global, arguments: &[Argument]) -> Result<Vec<Rect>, Ending<Stop>>
+fn areas_of(alloc: Global, arguments: &[Argument]) -> Result<Vec<Rect>, Ending<Stop<Address>>>
     ensures done { IfOk result (λ areas. areas_of arguments.now ≡ Ok areas.items) }
     ensures error { IfErr result (IsAreaError arguments.now) }
 {
@@ -59,7 +60,7 @@ fn areas_of(alloc: Global, arguments: &[Argument]) -> Result<Vec<Rect>, Ending<S
 }
 
 /// The sum of the products at all places of rectangles, where these have one size.
-fn sum_over<L: Lookup>(areas: &[Rect], lookup: &L) -> Result<Fraction, Ending<Stop>>
+fn sum_over<L: Lookup>(areas: &[Rect], lookup: &L) -> Result<Fraction, Ending<Stop<Address>>>
     ensures { Agrees (L.known_cell lookup.now) (IsMissingInAny (L.known_cell lookup.now) areas.now) (λ x. x) (λ cells. sum_over (map (region_of cells) areas.now)) result }
 {
     let Some(first) = first_of(areas) else {
@@ -82,7 +83,7 @@ fn sum_of_products<L: Lookup>(
     first: Rect,
     areas: &[Rect],
     lookup: &L,
-) -> Result<Fraction, Ending<Stop>>
+) -> Result<Fraction, Ending<Stop<Address>>>
     requires head { Some first ≡ slice_get areas.now 0 }
     requires size { list_all (same_extent first) areas.now ≡ true }
     ensures { Agrees (L.known_cell lookup.now) (IsMissingInAny (L.known_cell lookup.now) areas.now) (λ x. x) (λ cells. sum_through cells first areas.now) result }
@@ -105,7 +106,7 @@ fn product_at<L: Lookup>(
     areas: &[Rect],
     at: Address,
     lookup: &L,
-) -> Result<Fraction, Ending<Stop>>
+) -> Result<Fraction, Ending<Stop<Address>>>
     requires within { is_within first at ≡ true }
     requires size { list_all (same_extent first) areas.now ≡ true }
     ensures { Agrees (L.known_cell lookup.now) (IsMissingInAny (L.known_cell lookup.now) areas.now) (λ x. x) (λ cells. product_there cells first areas.now at) result }

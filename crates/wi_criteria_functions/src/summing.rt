@@ -5,7 +5,8 @@ ghost use Rattle.wi_values.specs.Address.{cells_of, is_within};
 ghost use Rattle.wi_values.specs.declared.value.Value.{Value as Values};
 ghost use Rattle.wi_standard_functions.specs.Arguments.{region_of};
 ghost use Rattle.wi_standard_functions.specs.Mathematical.{sum_if_value, sum_of_items};
-ghost use Rattle.wi_lookup.specs.Arguments.{IfMissing, IsMissing, IsOfArguments};
+ghost use Rattle.wi_scalar_functions.specs.Endings.{IfMissing};
+ghost use Rattle.wi_lookup.specs.Arguments.{IsMissing, IsOfArguments};
 ghost use Rattle.wi_matching.specs.Inner.Meeting.{is_met};
 ghost use Rattle.wi_criteria_functions.specs.Inner.Giving.{Agrees, Gives};
 ghost use Rattle.wi_criteria_functions.specs.Inner.Sums.{same_extent, same_place, values_where, with_cell, with_met, IsMissingIn};
@@ -15,9 +16,9 @@ use crate::cells::{next_after, value_of};
 use crate::extent::{same_extent, same_place};
 use std::alloc::Global;
 use wi_fraction::Fraction;
-use wi_lookup::{Argument, Ending, Lookup, Stop, area_at, settled};
+use wi_lookup::{Argument, Lookup, area_at};
 use wi_matching::Criterion;
-use wi_scalar_functions::{add, zero};
+use wi_scalar_functions::{Ending, Stop, add, settled, zero};
 use wi_values::{Address, ErrorKind, Rect, Value};
 
 /// SUMIF: the sum of the third argument's cells at the places where the first's meet the criterion that the second is; without a
@@ -27,7 +28,7 @@ pub fn sum_if_value<L: Lookup>(
     alloc: Global,
     arguments: &[Argument],
     lookup: &L,
-) -> Result<Value, Stop>
+) -> Result<Value, Stop<Address>>
     ensures done { IfOk result (IsOfArguments (L.known_cell lookup.now) sum_if_value arguments.now) }
     ensures missing { IfErr result (λ s. IfMissing s (IsMissing (L.known_cell lookup.now) arguments.now)) }
 {
@@ -38,7 +39,7 @@ fn sum_if<L: Lookup>(
     alloc: Global,
     arguments: &[Argument],
     lookup: &L,
-) -> Result<Value, Ending<Stop>>
+) -> Result<Value, Ending<Stop<Address>>>
     ensures { Gives (L.known_cell lookup.now) sum_if_value arguments.now result }
 {
     let area = area_at(arguments, 0)?;
@@ -57,7 +58,7 @@ fn sum_met<L: Lookup>(
     area: Rect,
     added: Rect,
     lookup: &L,
-) -> Result<Fraction, Ending<Stop>>
+) -> Result<Fraction, Ending<Stop<Address>>>
     requires { same_extent area added ≡ true }
     ensures { Agrees (L.known_cell lookup.now) (IsMissingIn (L.known_cell lookup.now) area added) (λ x. x) (λ cells. sum_of_items (values_where (is_met criterion.now) (region_of cells area).values (region_of cells added).values)) result }
 {
@@ -79,7 +80,7 @@ fn with_met<L: Lookup>(
     sum: Fraction,
     other: Address,
     lookup: &L,
-) -> Result<Fraction, Ending<Stop>>
+) -> Result<Fraction, Ending<Stop<Address>>>
     ensures { Agrees (L.known_cell lookup.now) (λ c. (c ≡ other) × (L.known_cell lookup.now c ≡ None)) (λ x. x) (λ cells. if is_met criterion.now value.now then with_cell (Ok sum) (cells other) else Ok sum) result }
 {
     if !criterion.meets(value) {

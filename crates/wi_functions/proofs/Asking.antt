@@ -10,17 +10,17 @@ use Rattle.wi_parser.specs.Leaves.{Leaf, rectangle_leaf, leaves, all_leaves}
 use Rattle.wi_values.specs.Address.{is_within}
 use Rattle.wi_values.proofs.Corners.{corners_may_turn}
 use Rattle.wi_parser.specs.Reads.{area_of}
-use Rattle.wi_lookup.specs.Arguments.{IsMissing, IfMissing}
+use Rattle.wi_lookup.specs.Arguments.{IsMissing}
 use Rattle.wi_lookup.specs.declared.argument.Argument as given
-use Rattle.wi_lookup.specs.declared.stop.Stop as lookup
+use Rattle.wi_scalar_functions.specs.Endings.{IfMissing}
+use Rattle.wi_scalar_functions.specs.declared.ending.Stop.{Stop}
+use Rattle.wi_scalar_functions.specs.declared.ending.Stop.TheVariants.{Missing, Memory}
 use Rattle.wi_functions.specs.declared.evaluation.Want.TheVariants.{Cell, WhatIf}
 use Rattle.wi_functions.specs.declared.evaluation.Want.{Want}
-use Rattle.wi_functions.specs.declared.evaluation.Stop.{Stop}
-use Rattle.wi_functions.specs.declared.evaluation.Stop.TheVariants.{Needs, Memory}
 use Rattle.wi_functions.specs.Wants.{WantsCell, WantsWithin, LeafAsks, AnyLeafAsks, Asks}
 use Rattle.wi_functions.specs.Evaluation.{ByAll, IsWanted}
 use Rattle.wi_functions.specs.Inner.Calls.{ReferInside}
-use Rattle.wi_functions.specs.Inner.Parts.{Part, IfNeeds, Evaluates, stopped}
+use Rattle.wi_functions.specs.Inner.Parts.{Part, Evaluates, stopped}
 
 any_in : {X : Type 0} (P : X → Type 0) (xs : List X) (x : X) → Contains xs x → P x → Any P xs
 any_in P xs x c h = (c.0, x, c.1, c.2, h)
@@ -57,24 +57,24 @@ right_asks op t u w a = any_right (λ l. LeafAsks l w) (leaves t) (leaves u) a
 -- ---- how an evaluation stops
 
 -- for want of memory it stops at no want
-pub memory_wants : (P : Want → Type 0) (s : Stop) → s ≡ Memory → IfNeeds s P
-memory_wants P s h = subst (λ (x : Stop). IfNeeds x P) (sym h) tt
+pub memory_wants : (P : Want → Type 0) (s : Stop Want) → s ≡ Memory → IfMissing s P
+memory_wants P s h = subst (λ (x : Stop Want). IfMissing x P) (sym h) tt
 
 module _ {K : Type 0} (known_cell : K → ℕ → Option Value) (known_what_if : K → ℕ → List (ℕ × ℕ) → Option Value) (known : K) where
   -- what is wanted where some leaves ask for it is wanted where others ask for it too
-  pub wanted_too : (ls ms : List Leaf) → ((w : Want) → AnyLeafAsks ls w → AnyLeafAsks ms w) → (s : Stop) →
-      IfNeeds s (IsWanted known_cell known_what_if known ls) → IfNeeds s (IsWanted known_cell known_what_if known ms)
-  wanted_too ls ms f (Needs w) h = record { asked = f w h.asked; unknown = h.unknown }
+  pub wanted_too : (ls ms : List Leaf) → ((w : Want) → AnyLeafAsks ls w → AnyLeafAsks ms w) → (s : Stop Want) →
+      IfMissing s (IsWanted known_cell known_what_if known ls) → IfMissing s (IsWanted known_cell known_what_if known ms)
+  wanted_too ls ms f (Missing w) h = record { asked = f w h.asked; unknown = h.unknown }
   wanted_too ls ms f Memory h = tt
 
   -- what is given for a part is given for another that means the same and asks for as much
-  pub evaluates_too : (p q : Part Value) (r : Result Value Stop) → ByAll known_cell known_what_if known (λ a. p.means a ≡ q.means a) →
+  pub evaluates_too : (p q : Part Value) (r : Result Value (Stop Want)) → ByAll known_cell known_what_if known (λ a. p.means a ≡ q.means a) →
       ((w : Want) → AnyLeafAsks p.asking w → AnyLeafAsks q.asking w) → Evaluates known_cell known_what_if known r p → Evaluates known_cell known_what_if known r q
   evaluates_too p q (Ok v) same asks h = λ a agrees. h a agrees ∙ same a agrees
   evaluates_too p q (Err s) same asks h = wanted_too p.asking q.asking asks s h
 
   -- a function wants a cell that isn't known, and to which one of its arguments refers
-  pub stop_wants : (s : lookup.Stop) (args : List given.Argument) (ts : Trees) → IfMissing s (IsMissing (known_cell known) args) → ReferInside args ts →
-      IfNeeds (stopped s) (IsWanted known_cell known_what_if known (all_leaves ts))
-  stop_wants (lookup.TheVariants.Missing c) args ts m r = record { asked = r c m.1; unknown = m.0 }
-  stop_wants lookup.TheVariants.Memory args ts m r = tt
+  pub stop_wants : (s : Stop ℕ) (args : List given.Argument) (ts : Trees) → IfMissing s (IsMissing (known_cell known) args) → ReferInside args ts →
+      IfMissing (stopped s) (IsWanted known_cell known_what_if known (all_leaves ts))
+  stop_wants (Missing c) args ts m r = record { asked = r c m.1; unknown = m.0 }
+  stop_wants Memory args ts m r = tt

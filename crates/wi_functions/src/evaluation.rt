@@ -20,11 +20,11 @@ use crate::choice::{Choice, choose};
 use crate::meter::Meter;
 use crate::operators::{hundredth, operate, with_sign};
 use crate::references::{referred, value_of_references};
-use std::alloc::{AllocError, AllocFailed, Global};
+use std::alloc::{AllocError, Global};
 use wi_calls::{Function, LazyFunction, function_for, value_of_values};
-use wi_lookup::{Argument, LookedUp, Lookup, Stop as Missing};
+use wi_lookup::{Argument, LookedUp, Lookup};
 use wi_parser::{Corners, Expr, Formula, Operator, Pair, Reference, Sign};
-use wi_scalar_functions::zero;
+use wi_scalar_functions::{Stop, zero};
 use wi_values::{Address, ErrorKind, Text, Value};
 
 /// What an evaluation can't go on without.
@@ -42,44 +42,13 @@ pub enum Outcome {
     Needs(Want),
 }
 
-/// Why an evaluation stops before its end.
-#[derive(Drop)]
-enum Stop {
-    Needs(Want),
-    Memory,
-}
-
-impl From<AllocError> for Stop {
-    ghost use Rattle.wi_functions.specs.declared.evaluation.Stop.{Stop};
-    ghost use Rattle.wi_functions.specs.declared.evaluation.Stop.TheVariants.{Memory};
-    ghost use Rattle.std.specs.Prelude.{◌≡◌};
-
-    ghost from_gives = { λ _ s. s ≡ Memory };
-
-    fn from(_: AllocError) -> Stop {
-        Stop::Memory
-    }
-}
-
-impl<T: Drop> From<AllocFailed<T>> for Stop {
-    ghost use Rattle.wi_functions.specs.declared.evaluation.Stop.{Stop};
-    ghost use Rattle.wi_functions.specs.declared.evaluation.Stop.TheVariants.{Memory};
-    ghost use Rattle.std.specs.Prelude.{◌≡◌};
-
-    ghost from_gives = { λ _ s. s ≡ Memory };
-
-    fn from(_error: AllocFailed<T>) -> Stop {
-        Stop::Memory
-    }
-}
-
 /// A function that stops at a cell whose value isn't known wants that cell.
-fn stopped(stop: Missing) -> Stop
+fn stopped(stop: Stop<Address>) -> Stop<Want>
     ensures { result ≡ stopped stop }
 {
     match stop {
-        Missing::Missing(at) => Stop::Needs(Want::Cell(at)),
-        Missing::Memory => Stop::Memory,
+        Stop::Missing(at) => Stop::Missing(Want::Cell(at)),
+        Stop::Memory => Stop::Memory,
     }
 }
 
@@ -103,7 +72,7 @@ pub fn evaluate<L: Lookup>(
             meter.count_evaluation();
             Ok(Outcome::Done(zero_for_empty(value)))
         }
-        Err(Stop::Needs(want)) => {
+        Err(Stop::Missing(want)) => {
             meter.count_restart();
             Ok(Outcome::Needs(want))
         }
@@ -128,7 +97,7 @@ pub fn zero_for_empty(value: Value) -> Value
 /// its own, so that a level of a long chain needs little.
 #[cycle(evaluating)]
 #[inline(never)]
-fn value_of<L: Lookup>(alloc: Global, expr: &Expr, lookup: &L) -> Result<Value, Stop>
+fn value_of<L: Lookup>(alloc: Global, expr: &Expr, lookup: &L) -> Result<Value, Stop<Want>>
     ensures { Evaluates L.known_cell L.known_what_if lookup.now result
         (of_tree (tree_of expr.now)) }
 {
@@ -154,7 +123,7 @@ fn signed_value<L: Lookup>(
     sign: Sign,
     inner: &Expr,
     lookup: &L,
-) -> Result<Value, Stop>
+) -> Result<Value, Stop<Want>>
     ensures { Evaluates L.known_cell L.known_what_if lookup.now result
         (of_tree (signed sign (tree_of inner.now))) }
 {
@@ -165,7 +134,7 @@ fn signed_value<L: Lookup>(
 /// The value of an expression before a percent sign.
 #[cycle(evaluating)]
 #[inline(never)]
-fn percent_value<L: Lookup>(alloc: Global, inner: &Expr, lookup: &L) -> Result<Value, Stop>
+fn percent_value<L: Lookup>(alloc: Global, inner: &Expr, lookup: &L) -> Result<Value, Stop<Want>>
     ensures { Evaluates L.known_cell L.known_what_if lookup.now result
         (of_tree (percent (tree_of inner.now))) }
 {
@@ -182,7 +151,7 @@ fn binary_value<L: Lookup>(
     left: &Expr,
     right: &Expr,
     lookup: &L,
-) -> Result<Value, Stop>
+) -> Result<Value, Stop<Want>>
     ensures { Evaluates L.known_cell L.known_what_if lookup.now result
         (of_tree (binary operator (tree_of left.now) (tree_of right.now))) }
 {
@@ -199,7 +168,7 @@ fn with_right_operand<L: Lookup>(
     left: &Value,
     right: &Expr,
     lookup: &L,
-) -> Result<Value, Stop>
+) -> Result<Value, Stop<Want>>
     ensures { Evaluates L.known_cell L.known_what_if lookup.now result
         (mapped (operators.operate operator left.now) (of_tree (tree_of right.now))) }
 {
@@ -216,7 +185,7 @@ fn call_value<L: Lookup>(
     name: &Text,
     parameters: &[Expr],
     lookup: &L,
-) -> Result<Value, Stop>
+) -> Result<Value, Stop<Want>>
     ensures { Evaluates L.known_cell L.known_what_if lookup.now result
         (of_tree (call name.now (all_of parameters.now))) }
 {
@@ -246,7 +215,7 @@ fn lazy_value<L: Lookup>(
     function: LazyFunction,
     parameters: &[Expr],
     lookup: &L,
-) -> Result<Value, Stop>
+) -> Result<Value, Stop<Want>>
     ensures { Evaluates L.known_cell L.known_what_if lookup.now result
         (mapped (applied (Lazy function)) (of_parameters (all_of parameters.now))) }
 {
@@ -268,7 +237,7 @@ fn parameter_or<L: Lookup>(
     place: usize,
     default: Value,
     lookup: &L,
-) -> Result<Value, Stop>
+) -> Result<Value, Stop<Want>>
     ensures { Evaluates L.known_cell L.known_what_if lookup.now result
         (mapped (λ args. value_or default args place) (of_parameters (all_of parameters.now))) }
 {
@@ -281,7 +250,11 @@ fn parameter_or<L: Lookup>(
 /// The values of all parameters.
 #[cycle(evaluating)]
 #[inline(never)]
-fn all_values<L: Lookup>(alloc: Global, parameters: &[Expr], lookup: &L) -> Result<Vec<Value>, Stop>
+fn all_values<L: Lookup>(
+    alloc: Global,
+    parameters: &[Expr],
+    lookup: &L,
+) -> Result<Vec<Value>, Stop<Want>>
     ensures { EvaluatesAs L.known_cell L.known_what_if lookup.now result (λ _ vs. vs.items)
         (mapped values_of (of_parameters (all_of parameters.now))) }
 {
@@ -300,7 +273,7 @@ fn all_arguments<L: Lookup>(
     alloc: Global,
     parameters: &[Expr],
     lookup: &L,
-) -> Result<Vec<Argument>, Stop>
+) -> Result<Vec<Argument>, Stop<Want>>
     ensures meant { EvaluatesAs L.known_cell L.known_what_if lookup.now result
         (λ a args. arguments_in a.cells args.items) (of_parameters (all_of parameters.now)) }
     ensures refers { IfOk result (λ args. ReferInside args.items (all_of parameters.now)) }
@@ -318,7 +291,7 @@ fn all_arguments<L: Lookup>(
 
 /// A text's value.
 #[inline(never)]
-fn text_value(alloc: Global, text: &Text) -> Result<Value, Stop>
+fn text_value(alloc: Global, text: &Text) -> Result<Value, Stop<Want>>
     ensures { MatchResult result (λ v. v ≡ Value.Text text.now) (λ s. s ≡ Stop.Memory) }
 {
     Ok(Value::Text(text.copy(alloc)?))
@@ -326,18 +299,26 @@ fn text_value(alloc: Global, text: &Text) -> Result<Value, Stop>
 
 /// A cell's value.
 #[inline(never)]
-fn cell_value<L: Lookup>(alloc: Global, reference: Reference, lookup: &L) -> Result<Value, Stop>
+fn cell_value<L: Lookup>(
+    alloc: Global,
+    reference: Reference,
+    lookup: &L,
+) -> Result<Value, Stop<Want>>
     ensures { Evaluates L.known_cell L.known_what_if lookup.now result (of_tree (cell reference)) }
 {
     match lookup.cell(reference.at) {
         LookedUp::Known(value) => Ok(value.copy(alloc)?),
-        LookedUp::Missing => Err(Stop::Needs(Want::Cell(reference.at))),
+        LookedUp::Missing => Err(Stop::Missing(Want::Cell(reference.at))),
     }
 }
 
 /// The value of a rectangle of one cell. A larger one has none, and none of its cells is asked for.
 #[inline(never)]
-fn rectangle_value<L: Lookup>(alloc: Global, corners: Corners, lookup: &L) -> Result<Value, Stop>
+fn rectangle_value<L: Lookup>(
+    alloc: Global,
+    corners: Corners,
+    lookup: &L,
+) -> Result<Value, Stop<Want>>
     ensures { Evaluates L.known_cell L.known_what_if lookup.now result
         (of_tree (rectangle corners)) }
 {
@@ -354,13 +335,13 @@ fn what_if_value<L: Lookup>(
     formula_cell: Reference,
     pairs: &[Pair],
     lookup: &L,
-) -> Result<Value, Stop>
+) -> Result<Value, Stop<Want>>
     ensures { Evaluates L.known_cell L.known_what_if lookup.now result
         (of_tree (what_if_tree formula_cell (map pair_of pairs.now))) }
 {
     match lookup.what_if(formula_cell.at, pairs) {
         LookedUp::Known(value) => Ok(value.copy(alloc)?),
-        LookedUp::Missing => Err(Stop::Needs(Want::WhatIf(
+        LookedUp::Missing => Err(Stop::Missing(Want::WhatIf(
             formula_cell.at,
             Vec::from_slice(alloc, pairs)?,
         ))),

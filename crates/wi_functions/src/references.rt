@@ -5,7 +5,8 @@ ghost use Rattle.wi_parser.specs.View.{tree_of};
 ghost use Rattle.wi_calls.specs.Applied.{applied};
 ghost use Rattle.wi_calls.specs.declared.function.Function.TheVariants.{References};
 ghost use Rattle.wi_calls.specs.declared.function.ReferenceFunction.TheVariants.{Fold};
-ghost use Rattle.wi_lookup.specs.Arguments.{IsOfArguments, IsMissing, IfMissing};
+ghost use Rattle.wi_lookup.specs.Arguments.{IsOfArguments, IsMissing};
+ghost use Rattle.wi_scalar_functions.specs.Endings.{IfMissing};
 ghost use Rattle.wi_functions.specs.Meaning as formulas;
 
 use std::alloc::Global;
@@ -15,8 +16,9 @@ use wi_fold_functions::{
     and_value, average_value, count_a_value, count_value, max_value, min_value, or_value,
     product_value, sum_value,
 };
-use wi_lookup::{Argument, Lookup, Stop};
+use wi_lookup::{Argument, Lookup};
 use wi_parser::Expr;
+use wi_scalar_functions::Stop;
 use wi_search_functions::{h_lookup_value, index_value, match_value, v_lookup_value};
 use wi_values::{Address, Rect, Value};
 
@@ -39,7 +41,7 @@ pub(crate) fn value_of_references<L: Lookup>(
     function: ReferenceFunction,
     arguments: &[Argument],
     lookup: &L,
-) -> Result<Value, Stop>
+) -> Result<Value, Stop<Address>>
     ensures done { IfOk result (IsOfArguments
         (L.known_cell lookup.now) (applied (References function)) arguments.now) }
     ensures missing { IfErr result

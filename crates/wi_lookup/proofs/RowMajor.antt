@@ -2,36 +2,11 @@
 use Rattle.std.proofs.Common.{◌≡◌, ℕ, zero, suc, ◌<◌, ◌≤◌, ◌-◌, ◌+◌, ◌*◌, Bool, true, false, cond, ◌&&◌, List, [], ◌∷◌, ◌++◌, map, filter, refl, sym, ap, ◌∙◌, subst, arith}
 use Rattle.std.specs.Prelude.{nat_le, nat_lt}
 use Rattle.std.specs.List.{AllByRecursion, range_with_len, flat_map}
-use Rattle.std.proofs.lemmas.Bool.{and_parts, and_from}
-use Rattle.std.proofs.lemmas.Bool.Decides.{nat_tests}
+use Rattle.std.proofs.lemmas.Bool.{and_parts, and_from, le-leb, leb-true, le-ltb, lt-leb, lt-ltb, ltb-false, ltb-true}
 use Rattle.std.proofs.Math.Nat.{mod-lt, div-add-mod'}
 use Rattle.wi_values.specs.declared.value.Value.{Value}
 use Rattle.wi_standard_functions.specs.Arguments.{region_of}
 use Rattle.wi_values.specs.Address.{Area, is_within, cells_of, place, row_of, column_of}
-
-pub is_below : (x y : ℕ) → nat_le x y ≡ false → y < x
-is_below x y h = grind (arith, nat_tests)
-
-pub is_at_most : (x y : ℕ) → nat_le x y ≡ true → x ≤ y
-is_at_most x y h = grind (arith, nat_tests)
-
-pub at_most_is : (x y : ℕ) → x ≤ y → nat_le x y ≡ true
-at_most_is x y h = grind (arith, nat_tests)
-
-pub not_at_most : (x y : ℕ) → y < x → nat_le x y ≡ false
-not_at_most x y h = grind (arith, nat_tests)
-
-below_is : (x y : ℕ) → x < y → nat_lt x y ≡ true
-below_is x y h = grind (arith, nat_tests)
-
-not_below : (x y : ℕ) → y ≤ x → nat_lt x y ≡ false
-not_below x y h = grind (arith, nat_tests)
-
-pub is_less : (x y : ℕ) → nat_lt x y ≡ true → x < y
-is_less x y h = grind (arith, nat_tests)
-
-is_not_less : (x y : ℕ) → nat_lt x y ≡ false → y ≤ x
-is_not_less x y h = grind (arith, nat_tests)
 
 all_append : (P : ℕ → Type 0) (xs ys : List ℕ) → AllByRecursion P xs → AllByRecursion P ys → AllByRecursion P (xs ++ ys)
 all_append P [] ys h k = k
@@ -59,16 +34,16 @@ Splits c xs = from_on c xs ≡ c ∷ past c xs
 below_then : (c : ℕ) (zs xs : List ℕ) → AllByRecursion (λ z. z < c) zs → Splits c xs → Splits c (zs ++ xs)
 below_then c [] xs h k = k
 below_then c (z ∷ zs) xs h k =
-    ap (λ (b : Bool). cond b (z ∷ from_on c (zs ++ xs)) (from_on c (zs ++ xs))) (not_at_most c z h.0)
+    ap (λ (b : Bool). cond b (z ∷ from_on c (zs ++ xs)) (from_on c (zs ++ xs))) (lt-leb c z h.0)
     ∙ below_then c zs xs h.1 k
-    ∙ ap (λ (b : Bool). c ∷ cond b (z ∷ past c (zs ++ xs)) (past c (zs ++ xs))) (sym (not_below c z (omega (arith, h.0))))
+    ∙ ap (λ (b : Bool). c ∷ cond b (z ∷ past c (zs ++ xs)) (past c (zs ++ xs))) (sym (le-ltb c z (omega (arith, h.0))))
 
 above_same : (c : ℕ) (zs : List ℕ) → AllByRecursion (λ z. c < z) zs → from_on c zs ≡ past c zs
 above_same c [] h = refl
 above_same c (z ∷ zs) h =
-    ap (λ (b : Bool). cond b (z ∷ from_on c zs) (from_on c zs)) (at_most_is c z (omega (arith, h.0)))
+    ap (λ (b : Bool). cond b (z ∷ from_on c zs) (from_on c zs)) (le-leb c z (omega (arith, h.0)))
     ∙ ap (λ (ys : List ℕ). z ∷ ys) (above_same c zs h.1)
-    ∙ ap (λ (b : Bool). cond b (z ∷ past c zs) (past c zs)) (sym (below_is c z h.0))
+    ∙ ap (λ (b : Bool). cond b (z ∷ past c zs) (past c zs)) (sym (lt-ltb c z h.0))
 
 then_above : (c : ℕ) (xs zs : List ℕ) → Splits c xs → AllByRecursion (λ z. c < z) zs → Splits c (xs ++ zs)
 then_above c xs zs k h =
@@ -78,7 +53,7 @@ then_above c xs zs k h =
     ∙ ap (λ (ys : List ℕ). c ∷ ys) (sym (filter_append (λ a. nat_lt c a) xs zs))
 
 itself : (c : ℕ) → Splits c (c ∷ [])
-itself c = ap (λ (b : Bool). cond b (c ∷ []) []) (at_most_is c c (omega arith)) ∙ ap (λ (b : Bool). c ∷ cond b (c ∷ []) []) (sym (not_below c c (omega arith)))
+itself c = ap (λ (b : Bool). cond b (c ∷ []) []) (le-leb c c (omega arith)) ∙ ap (λ (b : Bool). c ∷ cond b (c ∷ []) []) (sym (le-ltb c c (omega arith)))
 
 -- ---- one row
 
@@ -98,9 +73,9 @@ run_splits c row a zero h k = absurd (omega (arith, h, k))
 run_splits c row a (suc n) h k = at (nat_lt (place row a) c) refl (λ l. run_splits c row (a + 1) n (omega (arith, l)) (omega (arith, k)))
   where
     at : (b : Bool) → nat_lt (place row a) c ≡ b → (place row a < c → Splits c (run row (a + 1) n)) → Splits c (place row a ∷ run row (a + 1) n)
-    at true e ih = below_then c (place row a ∷ []) (run row (a + 1) n) (is_less (place row a) c e, tt) (ih (is_less (place row a) c e))
+    at true e ih = below_then c (place row a ∷ []) (run row (a + 1) n) (ltb-true (place row a) c e, tt) (ih (ltb-true (place row a) c e))
     at false e ih =
-        let same : c ≡ place row a = omega (arith, h, is_not_less (place row a) c e) in
+        let same : c ≡ place row a = omega (arith, h, ltb-false (place row a) c e) in
         subst (λ (z : ℕ). Splits c (z ∷ run row (a + 1) n)) same (then_above c (c ∷ []) (run row (a + 1) n) (itself c) (run_above c row (a + 1) n (omega (arith, same))))
 
 -- ---- rows
@@ -117,9 +92,9 @@ block_splits c at_row row zero a n l m w p q = absurd (omega (arith, l, m))
 block_splits c at_row row (suc h) a n l m w p q = at (nat_lt row at_row) refl (λ k. block_splits c at_row (row + 1) h a n (omega (arith, k)) (omega (arith, m)) w p q)
   where
     at : (b : Bool) → nat_lt row at_row ≡ b → (row < at_row → Splits c (block (row + 1) h a n)) → Splits c (run row a n ++ block (row + 1) h a n)
-    at true e ih = let k : row < at_row = is_less row at_row e in below_then c (run row a n) (block (row + 1) h a n) (run_below c row a n (omega (arith, k, w, p))) (ih k)
+    at true e ih = let k : row < at_row = ltb-true row at_row e in below_then c (run row a n) (block (row + 1) h a n) (run_below c row a n (omega (arith, k, w, p))) (ih k)
     at false e ih =
-        let same : at_row ≡ row = omega (arith, l, is_not_less row at_row e) in
+        let same : at_row ≡ row = omega (arith, l, ltb-false row at_row e) in
         then_above c (run row a n) (block (row + 1) h a n) (run_splits c row a n (subst (λ (i : ℕ). place i a ≤ c) same p) (subst (λ (i : ℕ). c < place i (a + n)) same q)) (block_above c (row + 1) h a n (omega (arith, same, q, w)))
 
 -- ---- a rectangle
@@ -129,7 +104,7 @@ within_parts r c h =
     let p = and_parts (nat_le (row_of r.first) (row_of c) && nat_le (row_of c) (row_of r.last)) _ h in
     let q = and_parts (nat_le (row_of r.first) (row_of c)) _ p.0 in
     let s = and_parts (nat_le (column_of r.first) (column_of c)) _ p.1 in
-    (is_at_most _ _ q.0, is_at_most _ _ q.1, is_at_most _ _ s.0, is_at_most _ _ s.1)
+    (leb-true _ _ q.0, leb-true _ _ q.1, leb-true _ _ s.0, leb-true _ _ s.1)
 
 pub from_cell_on : (r : Area) (c : ℕ) → is_within r c ≡ true → Splits c (cells_of r)
 from_cell_on r c h =
@@ -144,7 +119,7 @@ inside_place r row a h k l m =
     let narrow : column_of r.last < 16384 = mod-lt r.last (omega arith) in
     let row_is : row_of (place row a) ≡ row = omega (arith, narrow, m) in
     let column_is : column_of (place row a) ≡ a = omega (arith, narrow, m) in
-    rw (row_is, column_is) (and_from _ _ (and_from _ _ (at_most_is _ _ h) (at_most_is _ _ k)) (and_from _ _ (at_most_is _ _ l) (at_most_is _ _ m)))
+    rw (row_is, column_is) (and_from _ _ (and_from _ _ (le-leb _ _ h) (le-leb _ _ k)) (and_from _ _ (le-leb _ _ l) (le-leb _ _ m)))
 
 abbrev AllInside : Area → List ℕ → Type 0
 AllInside r xs = AllByRecursion (λ a. is_within r a ≡ true) xs

@@ -2,6 +2,7 @@
 use Rattle.std.proofs.Common.{◌≡◌, ℕ, ◌<◌, ◌≤◌, ◌-◌, ◌+◌, ◌⊎◌, inl, inr, Bool, true, false, cond, List, [], ◌∷◌, filter, Option, Some, None, IfSome, IfNone, refl, sym, ap, ◌∙◌, subst, arith}
 use Rattle.std.specs.Prelude.{nat_le, nat_lt, option_map}
 use Rattle.std.specs.List.{AllByRecursion}
+use Rattle.std.proofs.lemmas.Bool.{le-leb, leb-false, leb-true, lt-leb, ltb-true}
 use Rattle.std.proofs.lemmas.Bool.Decides.{nat_tests}
 use Rattle.std.proofs.lemmas.List.Elements.{filter_agree}
 use Rattle.wi_values.specs.Address.{Area, is_within, cells_of}
@@ -14,7 +15,7 @@ use Rattle.wi_lookup.specs.Filled.{IsNextFilled, ComesBefore, is_known_empty}
 use Rattle.wi_lookup.specs.Walk.{after_cells, to_come, HasTaken, IsNextAfter}
 use Rattle.wi_values.proofs.Within.{within_between}
 use Rattle.wi_lookup.proofs.Given.{known_is}
-use Rattle.wi_lookup.proofs.RowMajor.{cells_inside, from_cell_on, is_below, is_at_most, is_less, at_most_is, not_at_most}
+use Rattle.wi_lookup.proofs.RowMajor.{cells_inside, from_cell_on}
 
 -- ---- what is still to come
 
@@ -51,12 +52,12 @@ each P Q f (x ∷ xs) h = (f x h.0, each P Q f xs h.1)
 
 -- from the first cell on all are to come
 all_to_come : (r : Area) (from : ℕ) → from ≡ r.first → to_come r (Some from) ≡ cells_of r
-all_to_come r from e = each_pass (λ a. nat_le from a) (cells_of r) (each (λ a. is_within r a ≡ true) (λ a. nat_le from a ≡ true) (λ a w. let l = (within_between r a w).0 in at_most_is from a (omega (arith, e, l))) (cells_of r) (cells_inside r))
+all_to_come r from e = each_pass (λ a. nat_le from a) (cells_of r) (each (λ a. is_within r a ≡ true) (λ a. nat_le from a ≡ true) (λ a w. let l = (within_between r a w).0 in le-leb from a (omega (arith, e, l))) (cells_of r) (cells_inside r))
 
 -- and from the next cell on those after one
 pub successor_to_come : (r : Area) (c last : ℕ) (next : Option ℕ) → last ≡ r.last → IfSome next (λ d. (d ≡ c + 1) × (d ≤ last)) → IfNone next (last ≤ c) → to_come r next ≡ to_come r (Some (c + 1))
 successor_to_come r c last None e some none =
-    sym (none_pass (λ a. nat_le (c + 1) a) (cells_of r) (each (λ a. is_within r a ≡ true) (λ a. nat_le (c + 1) a ≡ false) (λ a w. let l = (within_between r a w).1 in not_at_most (c + 1) a (omega (arith, e, none, l))) (cells_of r) (cells_inside r)))
+    sym (none_pass (λ a. nat_le (c + 1) a) (cells_of r) (each (λ a. is_within r a ≡ true) (λ a. nat_le (c + 1) a ≡ false) (λ a w. let l = (within_between r a w).1 in lt-leb (c + 1) a (omega (arith, e, none, l))) (cells_of r) (cells_inside r)))
 successor_to_come r c last (Some d) e some none = ap (λ (n : ℕ). to_come r (Some n)) some.0
 
 pub first_of : (P Q : ℕ → Type 0) (o : Option ℕ) → IfSome o (λ c. P c × Q c) → IfSome o P
@@ -119,8 +120,8 @@ module _ {S : Type 0} (after : S → ℕ → Value → S) where
     where
       at : (a : ℕ) → is_within r a ≡ true → (b k : Bool) → p a ≡ b → nat_le d a ≡ k → (b ≡ k) ⊎ ((k ≡ false) × (cells a ≡ Empty))
       at a w true true e f = inl refl
-      at a w true false e f = inr (refl, empty_there (known a) (cells a) (h a w e (is_below d a f)) (agrees a))
-      at a w false true e f = let t : p a ≡ true = m a (is_at_most d a f) in cc
+      at a w true false e f = inr (refl, empty_there (known a) (cells a) (h a w e (leb-false d a f)) (agrees a))
+      at a w false true e f = let t : p a ≡ true = m a (leb-true d a f) in cc
       at a w false false e f = inl refl
 
   -- ---- for a walk in parts
@@ -129,7 +130,7 @@ module _ {S : Type 0} (after : S → ℕ → Value → S) where
   pub reaches : (passes_empty : PassesEmpty) (known : ℕ → Option Value) (r : Area) (s : S) (from : ℕ) (next : Option ℕ) → IfSome next (λ d. from ≤ d) → ((a : ℕ) → is_within r a ≡ true → from ≤ a → ComesBefore a next → is_known_empty (known a) ≡ true) →
       HasTaken after known r s (Some from) s next
   reaches passes_empty known r s from next l h =
-      λ cells agrees. sym (found_next passes_empty known cells r (λ a. nat_le from a) next s agrees (on_from next l) (λ a w p. h a w (is_at_most from a p)))
+      λ cells agrees. sym (found_next passes_empty known cells r (λ a. nat_le from a) next s agrees (on_from next l) (λ a w p. h a w (leb-true from a p)))
     where
       on_from : (o : Option ℕ) → IfSome o (λ d. from ≤ d) → IfSome o (λ d. (a : ℕ) → d ≤ a → nat_le from a ≡ true)
       on_from None m = tt
@@ -230,7 +231,7 @@ module _ {S : Type 0} (after : S → ℕ → Value → S) where
   goes_on passes_empty known r whole s t ahead c v found h a k e n = (
     first_of (λ d. is_within r d ≡ true) (λ d. c < d) found n.inside,
     λ cells agrees.
-        sym (found_next passes_empty known cells r (λ b. nat_lt c b) found t agrees (past_is_reached c (λ d. is_within r d ≡ true) found n.inside) (λ b w l m. n.empty_between b w (is_less c b l) m))
+        sym (found_next passes_empty known cells r (λ b. nat_lt c b) found t agrees (past_is_reached c (λ d. is_within r d ≡ true) found n.inside) (λ b w l m. n.empty_between b w (ltb-true c b l) m))
         ∙ taken known r whole s t c v (subst (Rest known r whole s) a h) k e cells agrees,
   )
 

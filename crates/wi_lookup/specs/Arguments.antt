@@ -12,7 +12,6 @@ use Rattle.wi_standard_functions.specs.Arguments.{Argument, Region, region_of}
 use Rattle.wi_standard_functions.specs.Steps.{and_then}
 use Rattle.wi_standard_functions.specs.Inner.Named.{argument_of}
 use Rattle.wi_lookup.specs.declared.argument.Argument as given
-use Rattle.wi_lookup.specs.declared.stop.Stop as stop
 
 -- the value of a reference, where one is asked for: of one cell what it holds, and of more an error
 abbrev pub value_of_area : (ℕ → Value) → Area → Value
@@ -63,8 +62,3 @@ IsReferred args r = (c : ℕ) → is_within r c ≡ true → list_any (refers_to
 -- the cell's value isn't known, and one of the arguments refers to it
 abbrev pub IsMissing : (ℕ → Option Value) → List given.Argument → ℕ → Type 0
 IsMissing known args c = (known c ≡ None) × (list_any (refers_to c) args ≡ true)
-
--- a fact of the cell for whose value a function stops
-abbrev pub IfMissing : stop.Stop → (ℕ → Type 0) → Type 0
-IfMissing (stop.TheVariants.Missing c) P = P c
-IfMissing stop.TheVariants.Memory P = Unit {0}

@@ -1,5 +1,5 @@
 pub mod Assignment
 pub mod Filled
 pub mod Arguments
-pub mod Endings
+pub mod Extent
 pub mod Walk

@@ -3,16 +3,14 @@
 
 mod argument;
 mod cells;
-mod ending;
+mod extent;
 mod lookup;
-mod stop;
 mod taker;
 mod walk;
 
 pub use argument::{Argument, area_at};
 pub use cells::successor;
-pub use ending::{Ending, settled};
+pub use extent::{height, width};
 pub use lookup::{LookedUp, Lookup};
-pub use stop::Stop;
 pub use taker::TakesCells;
 pub use walk::take_cells;

@@ -1,9 +1,10 @@
-//! The functions of OpenFormula that take values and no references, and what operators share with them.
+//! The functions of OpenFormula that take values and no references, and what operators and other functions share with them.
 #![tactic(auto)]
 
 mod arithmetic;
 mod convert;
 mod count;
+mod ending;
 mod first_error;
 mod information;
 mod logical;
@@ -13,6 +14,7 @@ mod rounding;
 pub use arithmetic::{add, divide, multiply, number_value, raise, subtract};
 pub use convert::{hundred, one, to_logical, to_number, to_whole, zero};
 pub use count::{counted, whole_number, whole_value};
+pub use ending::{Ending, Stop, settled};
 pub use first_error::{both, no_error};
 pub use information::{
     is_empty_value, is_error_value, is_logical_value, is_no_text, is_not_available,

@@ -18,10 +18,10 @@ use Rattle.wi_standard_functions.specs.FirstError.{no_error}
 use Rattle.wi_standard_functions.specs.Lookup.{cell_in, index_value, index_along, index_by_both, nth_cell, nth_cell_along, position_among}
 use Rattle.wi_standard_functions.specs.Matching.{sought_for}
 use Rattle.wi_standard_functions.specs.Steps.{◌>>=◌, and_then}
-use Rattle.wi_lookup.specs.declared.ending.Ending.{Ending}
-use Rattle.wi_lookup.specs.declared.ending.Ending.TheVariants.{Error, Stopped}
+use Rattle.wi_scalar_functions.specs.declared.ending.Ending.{Ending}
+use Rattle.wi_scalar_functions.specs.declared.ending.Ending.TheVariants.{Error, Stopped}
 use Rattle.wi_search_functions.specs.Inner.Giving.{WhateverHeld, Agrees, Finds, Places, IsPlacedIn}
-use Rattle.wi_search_functions.specs.Inner.Lines.{height, width}
+use Rattle.wi_lookup.specs.Extent.{height, width}
 use Rattle.wi_search_functions.proofs.Asked.{itself, fault, sought_or_zero}
 use Rattle.wi_search_functions.proofs.FirstLines.{within_from, narrow, row_of_place, column_of_place}
 use Rattle.wi_search_functions.proofs.Places.{cell_at}

@@ -12,7 +12,8 @@ use Rattle.wi_standard_functions.specs.Lookup.{cell_in}
 use Rattle.wi_search_functions.specs.declared.axis.Axis.{Axis}
 use Rattle.wi_search_functions.specs.declared.axis.Axis.TheVariants.{Rows, Columns}
 use Rattle.wi_search_functions.specs.Inner.Axis.{line_count, line_width, first_cells}
-use Rattle.wi_search_functions.specs.Inner.Lines.{height, width, is_line, first_column, first_row}
+use Rattle.wi_lookup.specs.Extent.{height, width}
+use Rattle.wi_search_functions.specs.Inner.Lines.{is_line, first_column, first_row}
 use Rattle.wi_search_functions.proofs.Places.{cell_at, column_cells, row_cells}
 use Rattle.wi_search_functions.proofs.Chains.{first_cells_in}
 use Rattle.wi_search_functions.proofs.Lines.{one_row, one_column}

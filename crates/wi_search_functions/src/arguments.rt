@@ -11,8 +11,8 @@ ghost use Rattle.wi_values.specs.declared.value.Value.TheVariants.{Number, Logic
 ghost use Rattle.wi_search_functions.specs.Inner.Giving.{Agrees};
 
 use wi_fraction::Fraction;
-use wi_lookup::{Argument, Ending, Lookup};
-use wi_scalar_functions::{to_logical, to_number, to_whole};
+use wi_lookup::{Argument, Lookup};
+use wi_scalar_functions::{Ending, to_logical, to_number, to_whole};
 use wi_values::{Address, Value};
 
 /// The value of an argument, or the default where it isn't given. An error that stands there ends the function.

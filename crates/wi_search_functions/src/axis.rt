@@ -3,7 +3,8 @@
 ghost use Rattle.std.specs.Prelude.{◌≡◌, ◌<◌};
 ghost use Rattle.wi_search_functions.specs.Inner.Axis.{cell_along, first_cells, line_count, line_width};
 
-use crate::region::{cell_at, first_column, first_row, height, width};
+use crate::region::{cell_at, first_column, first_row};
+use wi_lookup::{height, width};
 use wi_values::{Address, Rect};
 
 /// What the lines of a rectangle are.

@@ -1,7 +1,8 @@
 //! INDEX (OpenFormula, "Lookup Functions").
 
 ghost use Rattle.std.specs.Prelude.{◌≡◌, ℕ, IfOk, IfErr, MatchResult};
-ghost use Rattle.wi_lookup.specs.Arguments.{arguments_in, IfMissing, IsMissing, IsOfArguments};
+ghost use Rattle.wi_lookup.specs.Arguments.{arguments_in, IsMissing, IsOfArguments};
+ghost use Rattle.wi_scalar_functions.specs.Endings.{IfMissing};
 ghost use Rattle.wi_standard_functions.specs.Arguments.{region_of};
 ghost use Rattle.wi_standard_functions.specs.Lookup.{index_along, index_by_both, index_value, nth_cell, nth_cell_along};
 ghost use Rattle.wi_values.specs.declared.value.Value.{Value as Values};
@@ -9,9 +10,10 @@ ghost use Rattle.wi_search_functions.specs.Inner.Giving.{Finds, IsPlacedIn};
 
 use crate::arguments::whole_at;
 use crate::outcome::value_found;
-use crate::region::{cell_at, height, place_among, width};
+use crate::region::{cell_at, place_among};
 use std::alloc::Global;
-use wi_lookup::{Argument, Ending, Lookup, Stop, area_at};
+use wi_lookup::{Argument, Lookup, area_at, height, width};
+use wi_scalar_functions::{Ending, Stop};
 use wi_values::{Address, ErrorKind, Rect, Value};
 
 /// The value of a cell by its row and its column in a rectangle, or by its place along a row or a column. One cell is looked
@@ -20,7 +22,7 @@ pub fn index_value<L: Lookup>(
     alloc: Global,
     arguments: &[Argument],
     lookup: &L,
-) -> Result<Value, Stop>
+) -> Result<Value, Stop<Address>>
     ensures done { IfOk result (IsOfArguments (L.known_cell lookup.now) index_value arguments.now) }
     ensures missing { IfErr result (λ s. IfMissing s (IsMissing (L.known_cell lookup.now) arguments.now)) }
 {

@@ -10,8 +10,8 @@ use crate::outcome::value_placed;
 use crate::region::is_line;
 use crate::rule::Rule;
 use crate::search::place_along;
-use wi_lookup::{Argument, Ending, Lookup, area_at};
-use wi_scalar_functions::{one, zero};
+use wi_lookup::{Argument, Lookup, area_at};
+use wi_scalar_functions::{Ending, one, zero};
 use wi_values::{Address, ErrorKind, Value};
 
 /// The place, counted from 1, of a value in one row or one column. The filled cells of it are looked up one after another: for

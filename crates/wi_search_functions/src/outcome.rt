@@ -1,7 +1,8 @@
 //! From what was found to the value of a function.
 
 ghost use Rattle.std.specs.Prelude.{◌≡◌, ℕ, ◌+◌, List, Option, IfOk, IfErr};
-ghost use Rattle.wi_lookup.specs.Arguments.{IfMissing, IsMissing, IsOfArguments};
+ghost use Rattle.wi_lookup.specs.Arguments.{IsMissing, IsOfArguments};
+ghost use Rattle.wi_scalar_functions.specs.Endings.{IfMissing};
 ghost use Rattle.wi_lookup.specs.declared.argument.Argument as given;
 ghost use Rattle.wi_standard_functions.specs.Arguments.{Argument};
 ghost use Rattle.wi_standard_functions.specs.Arithmetic.{whole_value};
@@ -9,8 +10,8 @@ ghost use Rattle.wi_values.specs.declared.value.Value.{Value as Values};
 ghost use Rattle.wi_search_functions.specs.Inner.Giving.{Finds, Places};
 
 use std::alloc::Global;
-use wi_lookup::{Ending, LookedUp, Lookup, Stop};
-use wi_scalar_functions::whole_value;
+use wi_lookup::{LookedUp, Lookup};
+use wi_scalar_functions::{Ending, Stop, whole_value};
 use wi_values::{Address, Value};
 
 /// The value of the cell that was found, or the error. A text is copied.
@@ -18,7 +19,7 @@ pub(crate) fn value_found<L: Lookup>(
     alloc: Global,
     found: Result<Address, Ending<Address>>,
     lookup: &L,
-) -> Result<Value, Stop>
+) -> Result<Value, Stop<Address>>
     ensures done { (args : List given.Argument) → (f : List Argument → Values) → Finds (L.known_cell lookup.now) args f found → IfOk result (IsOfArguments (L.known_cell lookup.now) f args) }
     ensures missing { (args : List given.Argument) → (f : List Argument → Values) → Finds (L.known_cell lookup.now) args f found → IfErr result (λ s. IfMissing s (IsMissing (L.known_cell lookup.now) args)) }
 {

@@ -11,8 +11,9 @@ ghost use Rattle.wi_search_functions.specs.Inner.Search.{is_settled, passes, pos
 use crate::region::steps;
 use crate::rule::Rule;
 use std::ops::ControlFlow;
-use wi_lookup::{Ending, Lookup, TakesCells, take_cells};
+use wi_lookup::{Lookup, TakesCells, take_cells};
 use wi_matching::match_order;
+use wi_scalar_functions::Ending;
 use wi_values::{Address, ErrorKind, Rect, Value};
 
 /// A search, and what it has found so far.

@@ -1,7 +1,8 @@
 //! VLOOKUP and HLOOKUP (OpenFormula, "Lookup Functions").
 
 ghost use Rattle.std.specs.Prelude.{◌≡◌, IfOk, IfErr};
-ghost use Rattle.wi_lookup.specs.Arguments.{IfMissing, IsMissing, IsOfArguments};
+ghost use Rattle.wi_lookup.specs.Arguments.{IsMissing, IsOfArguments};
+ghost use Rattle.wi_scalar_functions.specs.Endings.{IfMissing};
 ghost use Rattle.wi_standard_functions.specs.Lookup.{h_lookup_value, v_lookup_value};
 ghost use Rattle.wi_search_functions.specs.Inner.Axis.{look_up_by};
 ghost use Rattle.wi_search_functions.specs.Inner.Giving.{Finds};
@@ -13,8 +14,8 @@ use crate::region::place_among;
 use crate::rule::Rule;
 use crate::search::place_along;
 use std::alloc::Global;
-use wi_lookup::{Argument, Ending, Lookup, Stop, area_at};
-use wi_scalar_functions::zero;
+use wi_lookup::{Argument, Lookup, area_at};
+use wi_scalar_functions::{Ending, Stop, zero};
 use wi_values::{Address, ErrorKind, Value};
 
 /// The value in a column of a rectangle, in the row whose first cell is found. The filled cells of the first column are looked
@@ -23,7 +24,7 @@ pub fn v_lookup_value<L: Lookup>(
     alloc: Global,
     arguments: &[Argument],
     lookup: &L,
-) -> Result<Value, Stop>
+) -> Result<Value, Stop<Address>>
     ensures done { IfOk result (IsOfArguments (L.known_cell lookup.now) v_lookup_value arguments.now) }
     ensures missing { IfErr result (λ s. IfMissing s (IsMissing (L.known_cell lookup.now) arguments.now)) }
 {
@@ -36,7 +37,7 @@ pub fn h_lookup_value<L: Lookup>(
     alloc: Global,
     arguments: &[Argument],
     lookup: &L,
-) -> Result<Value, Stop>
+) -> Result<Value, Stop<Address>>
     ensures done { IfOk result (IsOfArguments (L.known_cell lookup.now) h_lookup_value arguments.now) }
     ensures missing { IfErr result (λ s. IfMissing s (IsMissing (L.known_cell lookup.now) arguments.now)) }
 {

@@ -9,9 +9,10 @@ use Rattle.std.proofs.lemmas.List.{append_assoc, append-nil, length-append, drop
 use Rattle.wi_standard_functions.specs.Arithmetic.{limited_text}
 use Rattle.wi_standard_functions.specs.Convert.{to_text}
 use Rattle.wi_standard_functions.specs.Steps.{◌>>=◌, and_then, map_until_error}
-use Rattle.wi_text_functions.specs.Inner.Gives.{Agrees, Gives}
-use Rattle.wi_text_functions.specs.declared.stop.Stop.{Stop}
-use Rattle.wi_text_functions.specs.declared.stop.Stop.TheVariants.{Error, Memory}
+use Rattle.wi_scalar_functions.specs.Endings.{Gives}
+use Rattle.wi_scalar_functions.specs.declared.ending.Ending.{Ending}
+use Rattle.wi_scalar_functions.specs.declared.ending.Ending.TheVariants.{Error, Stopped}
+use Rattle.wi_text_functions.specs.Inner.Gives.{Agrees}
 use Rattle.wi_values.specs.Value.{shown_text}
 use Rattle.wi_values.specs.declared.value.ErrorKind.{ErrorKind}
 use Rattle.wi_values.specs.declared.value.Value.{Value}
@@ -49,11 +50,11 @@ joined_more front more vs i v all l e t m h =
 pub joined_all : (front : List ℕ) (vs : List Value) (i : ℕ) (all : Value) → length vs ≤ i → joined_to front (map_until_error to_text (drop i vs)) ≡ all → limited_text front ≡ all
 joined_all front vs i all l h = sym (join_none front) ∙ ap (λ (xs : List Value). joined_to front (map_until_error to_text xs)) (sym (drop_all i vs l)) ∙ h
 
-pub joined_stops : (front : List ℕ) (vs : List Value) (i : ℕ) (v all : Value) (stop end : Stop) → i < length vs → v ≡ get_or vs i v → Agrees (λ (_ : Unit {0}). shown_text v) (Err stop) (to_text v) → end ≡ stop
+pub joined_stops : {S : Type 0} (front : List ℕ) (vs : List Value) (i : ℕ) (v all : Value) (stop end : Ending S) → i < length vs → v ≡ get_or vs i v → Agrees (λ (_ : Unit {0}). shown_text v) (Err stop) (to_text v) → end ≡ stop
     → joined_to front (map_until_error to_text (drop i vs)) ≡ all → Gives (Err end) all
-joined_stops front vs i v all (Error k) end l e t s h =
-    subst (λ (x : Stop). Gives (Err x) all) (sym s) (sym (join_stops front v (drop (i + 1) vs) k t) ∙ sym (left_to_join front vs i v l e) ∙ h)
-joined_stops front vs i v all (Memory m) end l e t s h = subst (λ (x : Stop). Gives (Err x) all) (sym s) tt
+joined_stops {S} front vs i v all (Error k) end l e t s h =
+    subst (λ (x : Ending S). Gives (Err x) all) (sym s) (sym (join_stops front v (drop (i + 1) vs) k t) ∙ sym (left_to_join front vs i v l e) ∙ h)
+joined_stops {S} front vs i v all (Stopped m) end l e t s h = subst (λ (x : Ending S). Gives (Err x) all) (sym s) tt
 
 pub length-repeat : (n : ℕ) (t : List ℕ) → length (repeat n t) ≡ n * length t
 length-repeat zero t = omega arith

@@ -6,8 +6,8 @@ ghost use Rattle.wi_standard_functions.specs.Text.{at_least};
 ghost use Rattle.wi_text_functions.specs.Inner.Gives.{Agrees, shown_bytes};
 ghost use Rattle.wi_values.specs.Value.{shown_text};
 
-use crate::stop::Stop;
 use std::alloc::{AllocError, Global};
+use wi_scalar_functions::Ending;
 use wi_values::{ErrorKind, Value};
 
 /// The text that a value is taken for: that of a Text is lent, any other is written.
@@ -29,16 +29,13 @@ impl<'a> Shown<'a> {
 }
 
 /// A value taken for a text.
-pub(crate) fn to_text<'a>(alloc: Global, value: &'a Value) -> Result<Shown<'a>, Stop>
+pub(crate) fn to_text<'a>(alloc: Global, value: &'a Value) -> Result<Shown<'a>, Ending<AllocError>>
     ensures { Agrees shown_bytes result (to_text value.now) }
 {
     match value {
-        Value::Fault(e) => Err(Stop::Error(*e)),
+        Value::Fault(e) => Err(Ending::Error(*e)),
         Value::Text(text) => Ok(Shown::Lent(text.as_str())),
-        _ => match written(alloc, value) {
-            Ok(text) => Ok(Shown::Written(text)),
-            Err(e) => Err(Stop::Memory(e)),
-        },
+        _ => Ok(Shown::Written(written(alloc, value)?)),
     }
 }
 
@@ -52,21 +49,18 @@ fn written(alloc: Global, value: &Value) -> Result<String, AllocError>
 }
 
 /// A value taken for a whole number: its number cut toward zero.
-pub(crate) fn to_whole(value: &Value) -> Result<i128, Stop>
+pub(crate) fn to_whole(value: &Value) -> Result<i128, Ending<AllocError>>
     ensures { Agrees (λ k. k) result (to_whole value.now) }
 {
-    match wi_scalar_functions::to_whole(value) {
-        Ok(k) => Ok(k),
-        Err(e) => Err(Stop::Error(e)),
-    }
+    Ok(wi_scalar_functions::to_whole(value)?)
 }
 
 /// A whole number that is at least the bound.
-pub(crate) fn at_least(bound: u8, k: i128) -> Result<u128, Stop>
+pub(crate) fn at_least(bound: u8, k: i128) -> Result<u128, Ending<AllocError>>
     ensures { Agrees (λ n. n) result (at_least bound k) }
 {
     if k < i128::from(bound) {
-        return Err(Stop::Error(ErrorKind::BadValue));
+        return Err(Ending::Error(ErrorKind::BadValue));
     }
     Ok(k.unsigned_abs())
 }

@@ -5,12 +5,14 @@ ghost use Rattle.std.specs.List.{repeat};
 ghost use Rattle.wi_standard_functions.specs.Arithmetic.{limited_text};
 ghost use Rattle.wi_standard_functions.specs.Convert.{to_text};
 ghost use Rattle.wi_standard_functions.specs.Text.{concatenate_value, rept_value};
-ghost use Rattle.wi_text_functions.specs.Inner.Gives.{Agrees, Gives};
+ghost use Rattle.wi_scalar_functions.specs.Endings.{Gives};
+ghost use Rattle.wi_text_functions.specs.Inner.Gives.{Agrees};
 ghost use Rattle.wi_values.specs.Value.{shown_text};
 
 use crate::convert::{at_least, to_text, to_whole};
-use crate::stop::{Stop, settled};
+use crate::limited::limited;
 use std::alloc::{AllocError, Global};
+use wi_scalar_functions::{Ending, settled};
 use wi_values::{ErrorKind, MAX_TEXT, Text, Value};
 
 /// The values as texts, one after the other. Linear in all of them together.
@@ -27,7 +29,7 @@ pub fn rept_value(alloc: Global, text: &Value, number: &Value) -> Result<Value, 
     settled(rept(alloc, text, number))
 }
 
-fn concatenate(alloc: Global, values: &[Value]) -> Result<Value, Stop>
+fn concatenate(alloc: Global, values: &[Value]) -> Result<Value, Ending<AllocError>>
     ensures { Gives result (concatenate_value values.now) }
 {
     let mut joined = String::new(alloc);
@@ -38,20 +40,17 @@ fn concatenate(alloc: Global, values: &[Value]) -> Result<Value, Stop>
 }
 
 /// Appends what a value is as a text.
-fn push_text(value: &Value, text: &mut String) -> Result<(), Stop>
+fn push_text(value: &Value, text: &mut String) -> Result<(), Ending<AllocError>>
     ensures taken { Agrees (λ _. shown_text value.now) result (to_text value.now) }
     ensures done { OnOk result (string_bytes text.new ≡ string_bytes text.old ++ shown_text value.now) }
 {
     match value {
-        Value::Fault(e) => Err(Stop::Error(*e)),
-        _ => match value.push_shown(text) {
-            Ok(()) => Ok(()),
-            Err(e) => Err(Stop::Memory(e)),
-        },
+        Value::Fault(e) => Err(Ending::Error(*e)),
+        _ => Ok(value.push_shown(text)?),
     }
 }
 
-fn rept(alloc: Global, text: &Value, number: &Value) -> Result<Value, Stop>
+fn rept(alloc: Global, text: &Value, number: &Value) -> Result<Value, Ending<AllocError>>
     ensures { Gives result (rept_value text.now number.now) }
 {
     let shown = to_text(alloc, text)?;
@@ -61,25 +60,13 @@ fn rept(alloc: Global, text: &Value, number: &Value) -> Result<Value, Stop>
 
 /// A text so many times, where that is not too long. More times than the longest text has bytes are too many of any text
 /// but the empty one, and of that they change nothing.
-fn repeated(alloc: Global, text: &str, number: u128) -> Result<Value, Stop>
+fn repeated(alloc: Global, text: &str, number: u128) -> Result<Value, Ending<AllocError>>
     ensures { Gives result (limited_text (repeat number text.now)) }
 {
     let times = number.min(MAX_TEXT as u128 + 1) as usize;
     if times.saturating_mul(text.len()) > MAX_TEXT {
-        return Err(Stop::Error(ErrorKind::BadValue));
+        return Err(Ending::Error(ErrorKind::BadValue));
     }
-    match text.repeat(alloc, times) {
-        Ok(text) => Ok(Value::Text(Text::new(text))),
-        Err(e) => Err(Stop::Memory(e)),
-    }
-}
-
-/// A text as a value, where it is not too long.
-fn limited(text: String) -> Result<Value, Stop>
-    ensures { Gives result (limited_text (string_bytes text)) }
-{
-    if text.len() > MAX_TEXT {
-        return Err(Stop::Error(ErrorKind::BadValue));
-    }
-    Ok(Value::Text(Text::new(text)))
+    let all = text.repeat(alloc, times)?;
+    Ok(Value::Text(Text::new(all)))
 }

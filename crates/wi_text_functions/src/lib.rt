@@ -5,9 +5,9 @@
 mod characters;
 mod convert;
 mod joined;
+mod limited;
 mod parts;
 mod place;
-mod stop;
 
 pub use joined::{concatenate_value, rept_value};
 pub use parts::{left_value, len_value, mid_value, right_value};

@@ -2,13 +2,13 @@
 
 ghost use Rattle.std.specs.Prelude.{◌≡◌, IfOk};
 ghost use Rattle.wi_standard_functions.specs.Text.{len_value, left_value, right_value, mid_value};
-ghost use Rattle.wi_text_functions.specs.Inner.Gives.{Gives};
+ghost use Rattle.wi_scalar_functions.specs.Endings.{Gives};
 
 use crate::characters::{after, before, count};
 use crate::convert::{at_least, to_text, to_whole};
-use crate::stop::{Stop, limited_text, settled};
+use crate::limited::limited_copy;
 use std::alloc::{AllocError, Global};
-use wi_scalar_functions::whole_value;
+use wi_scalar_functions::{Ending, settled, whole_value};
 use wi_values::Value;
 
 /// How many characters a text has. Linear in the text.
@@ -44,31 +44,36 @@ pub fn mid_value(
     settled(mid(alloc, text, start, number))
 }
 
-fn len(alloc: Global, text: &Value) -> Result<Value, Stop>
+fn len(alloc: Global, text: &Value) -> Result<Value, Ending<AllocError>>
     ensures { Gives result (len_value text.now) }
 {
     let shown = to_text(alloc, text)?;
     Ok(whole_value(count(shown.as_str()) as u128))
 }
 
-fn left(alloc: Global, text: &Value, number: &Value) -> Result<Value, Stop>
+fn left(alloc: Global, text: &Value, number: &Value) -> Result<Value, Ending<AllocError>>
     ensures { Gives result (left_value text.now number.now) }
 {
     let shown = to_text(alloc, text)?;
     let number = at_least(0, to_whole(number)?)?;
-    limited_text(alloc, before(shown.as_str(), number))
+    limited_copy(alloc, before(shown.as_str(), number))
 }
 
-fn right(alloc: Global, text: &Value, number: &Value) -> Result<Value, Stop>
+fn right(alloc: Global, text: &Value, number: &Value) -> Result<Value, Ending<AllocError>>
     ensures { Gives result (right_value text.now number.now) }
 {
     let shown = to_text(alloc, text)?;
     let number = at_least(0, to_whole(number)?)?;
     let others = (count(shown.as_str()) as u128).saturating_sub(number);
-    limited_text(alloc, after(shown.as_str(), others))
+    limited_copy(alloc, after(shown.as_str(), others))
 }
 
-fn mid(alloc: Global, text: &Value, start: &Value, number: &Value) -> Result<Value, Stop>
+fn mid(
+    alloc: Global,
+    text: &Value,
+    start: &Value,
+    number: &Value,
+) -> Result<Value, Ending<AllocError>>
     ensures { Gives result (mid_value text.now start.now number.now) }
 {
     let shown = to_text(alloc, text)?;
@@ -76,5 +81,5 @@ fn mid(alloc: Global, text: &Value, start: &Value, number: &Value) -> Result<Val
     let number = to_whole(number)?;
     let start = at_least(1, start)?;
     let number = at_least(0, number)?;
-    limited_text(alloc, before(after(shown.as_str(), start - 1), number))
+    limited_copy(alloc, before(after(shown.as_str(), start - 1), number))
 }

@@ -2,13 +2,12 @@
 
 ghost use Rattle.std.specs.Prelude.{◌≡◌, ◌≤◌, IfOk, IfSome, length, chars};
 ghost use Rattle.wi_standard_functions.specs.Text.{exact_value, find_value, first_position, position_from};
-ghost use Rattle.wi_text_functions.specs.Inner.Gives.{Gives};
+ghost use Rattle.wi_scalar_functions.specs.Endings.{Gives};
 
 use crate::characters::{after, count};
 use crate::convert::{at_least, to_text, to_whole};
-use crate::stop::{Stop, settled};
 use std::alloc::{AllocError, Global};
-use wi_scalar_functions::whole_value;
+use wi_scalar_functions::{Ending, settled, whole_value};
 use wi_values::{ErrorKind, Value};
 
 /// Whether two texts are equal byte for byte. Linear in the shorter.
@@ -18,7 +17,7 @@ pub fn exact_value(alloc: Global, left: &Value, right: &Value) -> Result<Value, 
     settled(exact(alloc, left, right))
 }
 
-fn exact(alloc: Global, left: &Value, right: &Value) -> Result<Value, Stop>
+fn exact(alloc: Global, left: &Value, right: &Value) -> Result<Value, Ending<AllocError>>
     ensures { Gives result (exact_value left.now right.now) }
 {
     let left = to_text(alloc, left)?;
@@ -38,7 +37,12 @@ pub fn find_value(
     settled(find(alloc, sought, text, start))
 }
 
-fn find(alloc: Global, sought: &Value, text: &Value, start: &Value) -> Result<Value, Stop>
+fn find(
+    alloc: Global,
+    sought: &Value,
+    text: &Value,
+    start: &Value,
+) -> Result<Value, Ending<AllocError>>
     ensures { Gives result (find_value sought.now text.now start.now) }
 {
     let sought = to_text(alloc, sought)?;
@@ -46,7 +50,7 @@ fn find(alloc: Global, sought: &Value, text: &Value, start: &Value) -> Result<Va
     let start = at_least(1, to_whole(start)?)?;
     match place_from(start - 1, sought.as_str(), text.as_str()) {
         Some(place) => Ok(whole_value(place as u128 + 1)),
-        None => Err(Stop::Error(ErrorKind::BadValue)),
+        None => Err(Ending::Error(ErrorKind::BadValue)),
     }
 }
 

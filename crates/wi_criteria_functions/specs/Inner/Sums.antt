@@ -7,14 +7,13 @@ use Rattle.wi_values.specs.declared.value.Value.{Value}
 use Rattle.wi_standard_functions.specs.Arithmetic.{addition}
 use Rattle.wi_standard_functions.specs.Sequence.{Item, from_cell, number_of_item, with_number}
 use Rattle.wi_standard_functions.specs.Steps.{and_then}
+use Rattle.wi_lookup.specs.Extent.{height, width}
 use Rattle.wi_matching.specs.declared.criterion.Criterion.{Criterion}
 use Rattle.wi_matching.specs.Inner.Meeting.{is_met}
 
 -- the rectangles have as many rows and columns
 abbrev pub same_extent : Area → Area → Bool
-same_extent r s =
-    (((row_of r.last + 1) - row_of r.first) == ((row_of s.last + 1) - row_of s.first))
-    && (((column_of r.last + 1) - column_of r.first) == ((column_of s.last + 1) - column_of s.first))
+same_extent r s = (height r == height s) && (width r == width s)
 
 -- the cell of the second rectangle at the place that a cell has in the first
 abbrev pub same_place : Area → Area → ℕ → ℕ

@@ -5,13 +5,13 @@ use Rattle.wi_parser.specs.Tree.{Tree, Trees}
 use Rattle.wi_parser.specs.Leaves.{Leaf, leaves, all_leaves}
 use Rattle.wi_standard_functions.specs.Arguments.{Argument}
 use Rattle.wi_lookup.specs.Assignment.{Assignment}
-use Rattle.wi_lookup.specs.declared.stop.Stop as lookup
+use Rattle.wi_scalar_functions.specs.Endings.{IfMissing}
+use Rattle.wi_scalar_functions.specs.declared.ending.Stop.{Stop}
+use Rattle.wi_scalar_functions.specs.declared.ending.Stop.TheVariants.{Missing, Memory}
 use Rattle.wi_functions.specs.Meaning.{meaning, arguments}
 use Rattle.wi_functions.specs.Evaluation.{ByAll, IsWanted}
 use Rattle.wi_functions.specs.declared.evaluation.Want.{Want}
 use Rattle.wi_functions.specs.declared.evaluation.Want.TheVariants.{Cell}
-use Rattle.wi_functions.specs.declared.evaluation.Stop.{Stop}
-use Rattle.wi_functions.specs.declared.evaluation.Stop.TheVariants.{Needs, Memory}
 
 -- what a part means by an assignment, and its leaves, which alone may ask for a value
 pub record Part (M : Type 0) : Type 0 where
@@ -30,24 +30,19 @@ of_parameters ts = record { means = λ a. arguments ts a.cells a.what_ifs; askin
 abbrev pub mapped : {M N : Type 0} → (M → N) → Part M → Part N
 mapped f p = record { means = λ a. f (p.means a); asking = p.asking }
 
--- a fact of the want at which an evaluation stops
-abbrev pub IfNeeds : Stop → (Want → Type 0) → Type 0
-IfNeeds (Needs w) P = P w
-IfNeeds Memory P = Unit {0}
-
 -- a function that stops at a cell whose value isn't known wants that cell
-abbrev pub stopped : lookup.Stop → Stop
-stopped (lookup.TheVariants.Missing c) = Needs (Cell c)
-stopped lookup.TheVariants.Memory = Memory
+abbrev pub stopped : Stop ℕ → Stop Want
+stopped (Missing c) = Missing (Cell c)
+stopped Memory = Memory
 
 module _ {K : Type 0} (known_cell : K → ℕ → Option Value) (known_what_if : K → ℕ → List (ℕ × ℕ) → Option Value) (known : K) where
   -- An evaluation gives what the part means by each assignment that agrees with what is known, seen by that assignment; or else
   -- it stops at what the part asks for and isn't known, or for want of memory.
-  abbrev pub EvaluatesAs : {R M : Type 0} → Result R Stop → (Assignment → R → M) → Part M → Type 0
+  abbrev pub EvaluatesAs : {R M : Type 0} → Result R (Stop Want) → (Assignment → R → M) → Part M → Type 0
   EvaluatesAs result seen part = MatchResult result
       (λ r. ByAll known_cell known_what_if known (λ a. seen a r ≡ part.means a))
-      (λ s. IfNeeds s (IsWanted known_cell known_what_if known part.asking))
+      (λ s. IfMissing s (IsWanted known_cell known_what_if known part.asking))
 
   -- the same of a value, which is seen as it is
-  abbrev pub Evaluates : Result Value Stop → Part Value → Type 0
+  abbrev pub Evaluates : Result Value (Stop Want) → Part Value → Type 0
   Evaluates result part = EvaluatesAs result (λ a v. v) part

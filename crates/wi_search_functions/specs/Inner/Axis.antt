@@ -6,7 +6,8 @@ use Rattle.wi_standard_functions.specs.Arguments.{Argument, Region}
 use Rattle.wi_standard_functions.specs.Lookup.{cell_in, look_up_value}
 use Rattle.wi_search_functions.specs.declared.axis.Axis.{Axis}
 use Rattle.wi_search_functions.specs.declared.axis.Axis.TheVariants.{Rows, Columns}
-use Rattle.wi_search_functions.specs.Inner.Lines.{height, width, first_column, first_row}
+use Rattle.wi_lookup.specs.Extent.{height, width}
+use Rattle.wi_search_functions.specs.Inner.Lines.{first_column, first_row}
 
 abbrev pub line_count : Axis → Area → ℕ
 line_count Rows = height

@@ -9,8 +9,8 @@ use Rattle.wi_lookup.specs.declared.argument.Argument as given
 use Rattle.wi_lookup.specs.Arguments.{arguments_in, KnownAgrees, IsMissing, refers_to}
 use Rattle.wi_standard_functions.specs.Arguments.{Argument, Region, region_of}
 use Rattle.wi_standard_functions.specs.Arithmetic.{whole_value}
-use Rattle.wi_lookup.specs.declared.ending.Ending.{Ending}
-use Rattle.wi_lookup.specs.declared.ending.Ending.TheVariants.{Error, Stopped}
+use Rattle.wi_scalar_functions.specs.declared.ending.Ending.{Ending}
+use Rattle.wi_scalar_functions.specs.declared.ending.Ending.TheVariants.{Error, Stopped}
 
 -- it holds whatever the cells hold of which this is known
 abbrev pub WhateverHeld : (ℕ → Option Value) → ((ℕ → Value) → Type 0) → Type 0

@@ -2,23 +2,15 @@
 use Rattle.std.specs.Prelude.{◌≡◌, ℕ, ◌++◌, List, Result, Ok, Err, ⊤, string_bytes}
 use Rattle.wi_text_functions.specs.declared.convert.Shown.{Shown}
 use Rattle.wi_text_functions.specs.declared.convert.Shown.TheVariants.{Lent, Written}
-use Rattle.wi_text_functions.specs.declared.stop.Stop.{Stop}
-use Rattle.wi_text_functions.specs.declared.stop.Stop.TheVariants.{Error, Memory}
+use Rattle.wi_scalar_functions.specs.declared.ending.Ending.{Ending}
+use Rattle.wi_scalar_functions.specs.declared.ending.Ending.TheVariants.{Error, Stopped}
 use Rattle.wi_values.specs.declared.value.ErrorKind.{ErrorKind}
-use Rattle.wi_values.specs.declared.value.Value.{Value}
-use Rattle.wi_values.specs.declared.value.Value.TheVariants.{Fault}
-
--- the value, unless memory is wanting
-abbrev pub Gives : Result Value Stop → Value → Type 0
-Gives (Ok w) v = w ≡ v
-Gives (Err (Error e)) v = Fault e ≡ v
-Gives (Err (Memory m)) v = ⊤
 
 -- a step's result, as f sees it, or its error, unless memory is wanting
-abbrev pub Agrees : {A B : Type 0} → (A → B) → Result A Stop → Result B ErrorKind → Type 0
+abbrev pub Agrees : {A B S : Type 0} → (A → B) → Result A (Ending S) → Result B ErrorKind → Type 0
 Agrees f (Ok x) r = r ≡ Ok (f x)
 Agrees f (Err (Error e)) r = r ≡ Err e
-Agrees f (Err (Memory m)) r = ⊤
+Agrees f (Err (Stopped s)) r = ⊤
 
 -- the bytes of a text that is lent or written
 abbrev pub shown_bytes : Shown → List ℕ

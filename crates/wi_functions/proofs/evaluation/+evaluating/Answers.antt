@@ -16,8 +16,10 @@ use Rattle.wi_functions.specs.Operators.{operate}
 use Rattle.wi_functions.specs.Meaning.{meaning, arguments}
 use Rattle.wi_functions.specs.Evaluation.{IsWanted}
 use Rattle.wi_functions.specs.Inner.Calls.{values_of, ReferInside}
-use Rattle.wi_functions.specs.Inner.Parts.{of_tree, of_parameters, mapped, IfNeeds, Evaluates}
-use Rattle.wi_functions.specs.declared.evaluation.Stop.{Stop}
+use Rattle.wi_functions.specs.Inner.Parts.{of_tree, of_parameters, mapped, Evaluates}
+use Rattle.wi_scalar_functions.specs.Endings.{IfMissing}
+use Rattle.wi_scalar_functions.specs.declared.ending.Stop.{Stop}
+use Rattle.wi_functions.specs.declared.evaluation.Want.{Want}
 use Rattle.wi_functions.proofs.Asking.{left_asks, right_asks, memory_wants, wanted_too, evaluates_too, stop_wants}
 use Rattle.wi_functions.proofs.Parameters.{value_there, value_missing, asks_there, length_arguments, call_found, more_arguments, more_values, none_left, reference_is, value_is, reference_asks, value_asks, more_refer}
 use Rattle.wi_functions.proofs.evaluation.+evaluating.Goals as goal
@@ -126,7 +128,7 @@ pub call_value-returns : goal.call_value-returns
 call_value-returns g t c =
     let trees = all_of c.args.parameters.now in
     let inside = subst (λ (xs : List given.Argument). ReferInside xs trees) (sym c.deref-in-Ok-References.ensures.value) c.in_ok-arguments-in-Ok-References.ensures.refers in
-    subst (λ (s : Stop). IfNeeds s (IsWanted g.L.Lookup.known_cell g.L.Lookup.known_what_if c.args.lookup.now (all_leaves trees))) (sym c.stopped.ensures)
+    subst (λ (s : Stop Want). IfMissing s (IsWanted g.L.Lookup.known_cell g.L.Lookup.known_what_if c.args.lookup.now (all_leaves trees))) (sym c.stopped.ensures)
     (stop_wants _ _ _ c.in-Err-value_of_references.stop c.deref-in-Ok-References.result.now trees c.in-Err-value_of_references.ensures.missing inside)
 
 -- ---- a function that chooses

@@ -8,7 +8,7 @@ use Rattle.wi_standard_functions.specs.Arguments as given
 use Rattle.wi_standard_functions.specs.FirstError.{no_error}
 use Rattle.wi_values.specs.declared.value.Value.{Value}
 use Rattle.wi_values.specs.declared.value.Value.TheVariants.{Fault}
-use Rattle.wi_lookup.specs.declared.ending.Ending.TheVariants.{Error, Stopped}
+use Rattle.wi_scalar_functions.specs.declared.ending.Ending.TheVariants.{Error, Stopped}
 use Rattle.wi_lookup.proofs.Given.{refers_alone, value_absent, value_given}
 use Rattle.wi_search_functions.proofs.Asked.{no_fault}
 use Rattle.wi_search_functions.proofs.Endings.{gives_so}

@@ -5,7 +5,7 @@ use Rattle.wi_lookup.specs.Arguments.{arguments_in, IsMissing}
 use Rattle.wi_standard_functions.specs.Arguments.{region_of, value_at}
 use Rattle.wi_standard_functions.specs.Convert.{to_whole}
 use Rattle.wi_standard_functions.specs.Lookup.{index_along, nth_cell_along}
-use Rattle.wi_lookup.specs.declared.ending.Ending.TheVariants.{Error}
+use Rattle.wi_scalar_functions.specs.declared.ending.Ending.TheVariants.{Error}
 use Rattle.wi_lookup.proofs.Given.{is_referred, region_is}
 use Rattle.wi_search_functions.proofs.Chains.{along, along_area, along_number}
 use Rattle.wi_search_functions.proofs.Endings.{ended, finds_so}

@@ -6,7 +6,7 @@ use Rattle.wi_standard_functions.specs.Arguments.{region_of, value_at}
 use Rattle.wi_standard_functions.specs.Convert.{to_whole}
 use Rattle.wi_standard_functions.specs.Lookup.{index_by_both, nth_cell}
 use Rattle.wi_values.specs.declared.value.Value.{Value}
-use Rattle.wi_lookup.specs.declared.ending.Ending.TheVariants.{Error}
+use Rattle.wi_scalar_functions.specs.declared.ending.Ending.TheVariants.{Error}
 use Rattle.wi_lookup.proofs.Given.{is_referred, region_is}
 use Rattle.wi_search_functions.proofs.Chains.{both, both_area, both_column, both_row}
 use Rattle.wi_search_functions.proofs.Endings.{ended, finds_so}

@@ -10,7 +10,7 @@ use Rattle.wi_standard_functions.specs.Lookup.{match_value}
 use Rattle.wi_values.specs.Address.{cells_of}
 use Rattle.wi_values.specs.declared.value.ErrorKind.TheVariants.{NotAvailable}
 use Rattle.wi_values.specs.declared.value.Value.TheVariants.{Number}
-use Rattle.wi_lookup.specs.declared.ending.Ending.TheVariants.{Error}
+use Rattle.wi_scalar_functions.specs.declared.ending.Ending.TheVariants.{Error}
 use Rattle.wi_search_functions.specs.Inner.Giving.{IsMissingIn}
 use Rattle.wi_search_functions.specs.Inner.Lines.{is_line}
 use Rattle.wi_search_functions.specs.Inner.Search.{position_by}

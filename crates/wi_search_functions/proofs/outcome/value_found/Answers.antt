@@ -6,7 +6,7 @@ use Rattle.wi_lookup.specs.declared.argument.Argument as given
 use Rattle.wi_lookup.specs.Arguments.{IsMissing, IsOfArguments}
 use Rattle.wi_standard_functions.specs.Arguments.{Argument}
 use Rattle.wi_search_functions.specs.Inner.Giving.{Finds}
-use Rattle.wi_lookup.specs.declared.ending.Ending.{Ending}
+use Rattle.wi_scalar_functions.specs.declared.ending.Ending.{Ending}
 use Rattle.wi_search_functions.proofs.outcome.value_found.Goals as goal
 
 -- the value of the cell that was found

@@ -10,7 +10,7 @@ use Rattle.wi_standard_functions.specs.Convert.{to_whole}
 use Rattle.wi_standard_functions.specs.Lookup.{position_among}
 use Rattle.wi_values.specs.Address.{cells_of, is_within}
 use Rattle.wi_values.specs.declared.value.ErrorKind.TheVariants.{NotAvailable}
-use Rattle.wi_lookup.specs.declared.ending.Ending.TheVariants.{Error}
+use Rattle.wi_scalar_functions.specs.declared.ending.Ending.TheVariants.{Error}
 use Rattle.wi_search_functions.specs.Inner.Axis.{line_count, line_width, look_up_by}
 use Rattle.wi_search_functions.specs.Inner.Giving.{IsMissingIn}
 use Rattle.wi_search_functions.specs.Inner.Search.{position_by}

@@ -4,7 +4,7 @@ use Rattle.std.proofs.lemmas.Result.{err_from_is_err_and}
 use Rattle.wi_standard_functions.specs.Convert.{to_text}
 use Rattle.wi_standard_functions.specs.Steps.{map_until_error}
 use Rattle.wi_standard_functions.specs.Text.{concatenate_value}
-use Rattle.wi_text_functions.specs.Inner.Gives.{Gives}
+use Rattle.wi_scalar_functions.specs.Endings.{Gives}
 use Rattle.wi_text_functions.proofs.Joining.{joined_to, joined_more, joined_all, joined_stops}
 use Rattle.wi_text_functions.proofs.joined.concatenate.Goals as goal
 

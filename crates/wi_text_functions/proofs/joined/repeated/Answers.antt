@@ -6,7 +6,7 @@ pub returns-then-saturating_mul-gt-MAX_TEXT : goal.returns-then-saturating_mul-g
 returns-then-saturating_mul-gt-MAX_TEXT c =
     too_often c.args.number c.min-times.result c.saturating_mul.result c.args.text.now c.min-times.ensures c.saturating_mul.ensures c.if-saturating_mul-gt-MAX_TEXT.true
 
-pub returns-in-Ok : goal.returns-in-Ok
-returns-in-Ok c =
+pub returns : goal.returns
+returns c =
     not_too_often c.args.number c.min-times.result c.saturating_mul.result c.args.text.now c.new.result c.min-times.ensures c.saturating_mul.ensures
-    (omega (arith, c.if-saturating_mul-gt-MAX_TEXT.false)) (c.new.ensures ∙ c.in-Ok.ensures.bytes)
+    (omega (arith, c.if-saturating_mul-gt-MAX_TEXT.false)) (c.new.ensures ∙ c.in_ok-all.ensures.bytes)

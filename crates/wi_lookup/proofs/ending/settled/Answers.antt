@@ -1,5 +1,0 @@
-use Rattle.std.proofs.Common.{rules}
-use Rattle.wi_lookup.proofs.ending.settled.Goals as goal
-
-pub returns-in-Err-Error : goal.returns-in-Err-Error
-returns-in-Err-Error g c = search rules
