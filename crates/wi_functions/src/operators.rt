@@ -16,9 +16,10 @@ use wi_fraction::Fraction;
 use wi_matching::compare;
 use wi_parser::{Operator, Sign};
 use wi_scalar_functions::{
-    add, both, divide, hundred, multiply, no_error, number_value, power_value, subtract, to_number,
+    add, both, divide, hundred, limited_text, multiply, no_error, number_value, power_value,
+    subtract, to_number,
 };
-use wi_values::{ErrorKind, MAX_TEXT, Text, Value};
+use wi_values::{ErrorKind, Value};
 
 /// What an operator gives for two values. Only a join needs memory.
 #[inline(never)]
@@ -118,11 +119,7 @@ fn join_shown(alloc: Global, left: &Value, right: &Value) -> Result<Value, Alloc
     let mut text = String::new(alloc);
     left.push_shown(&mut text)?;
     right.push_shown(&mut text)?;
-    if text.len() <= MAX_TEXT {
-        Ok(Value::Text(Text::new(text)))
-    } else {
-        Ok(Value::Fault(ErrorKind::BadValue))
-    }
+    Ok(limited_text(text))
 }
 
 /// Whether the order of two values passes a test, unless one is an error.

@@ -10,6 +10,7 @@ mod information;
 mod logical;
 mod mathematical;
 mod rounding;
+mod text;
 
 pub use arithmetic::{add, divide, multiply, number_value, raise, subtract};
 pub use convert::{hundred, one, to_logical, to_number, to_whole, zero};
@@ -23,3 +24,4 @@ pub use information::{
 pub use logical::{false_value, not_value, true_value};
 pub use mathematical::{abs_value, mod_value, power_value, quotient_value, sign_value};
 pub use rounding::{int_value, round_value};
+pub use text::limited_text;

@@ -10,9 +10,8 @@ ghost use Rattle.wi_text_functions.specs.Inner.Gives.{Agrees};
 ghost use Rattle.wi_values.specs.Value.{shown_text};
 
 use crate::convert::{at_least, to_text, to_whole};
-use crate::limited::limited;
 use std::alloc::{AllocError, Global};
-use wi_scalar_functions::{Ending, settled};
+use wi_scalar_functions::{Ending, limited_text, settled};
 use wi_values::{ErrorKind, MAX_TEXT, Text, Value};
 
 /// The values as texts, one after the other. Linear in all of them together.
@@ -36,7 +35,7 @@ fn concatenate(alloc: Global, values: &[Value]) -> Result<Value, Ending<AllocErr
     for value in values {
         push_text(value, &mut joined)?;
     }
-    limited(joined)
+    Ok(limited_text(joined))
 }
 
 /// Appends what a value is as a text.

@@ -1,6 +1,5 @@
-//! Texts as values, where they are not too long.
+//! Copies of texts as values, where they are not too long.
 
-ghost use Rattle.std.specs.Prelude.{◌≡◌, string_bytes};
 ghost use Rattle.wi_scalar_functions.specs.Endings.{Gives};
 ghost use Rattle.wi_standard_functions.specs.Arithmetic.{limited_text};
 
@@ -8,17 +7,7 @@ use std::alloc::{AllocError, Global};
 use wi_scalar_functions::Ending;
 use wi_values::{ErrorKind, MAX_TEXT, Text, Value};
 
-/// A text as a value, where it is not too long.
-pub(crate) fn limited(text: String) -> Result<Value, Ending<AllocError>>
-    ensures { Gives result (limited_text (string_bytes text)) }
-{
-    if text.len() > MAX_TEXT {
-        return Err(Ending::Error(ErrorKind::BadValue));
-    }
-    Ok(Value::Text(Text::new(text)))
-}
-
-/// The same of a copy of a text.
+/// A copy of a text as a value, where it is not too long.
 pub(crate) fn limited_copy(alloc: Global, text: &str) -> Result<Value, Ending<AllocError>>
     ensures { Gives result (limited_text text.now) }
 {

@@ -1,10 +1,9 @@
-use Rattle.std.proofs.Common.{ap, subst, List, ℕ}
+use Rattle.std.proofs.Common.{ap, ◌∙◌, List, ℕ}
 use Rattle.std.specs.Prelude.{string_bytes}
 use Rattle.std.proofs.lemmas.Result.{err_from_is_err_and}
 use Rattle.wi_standard_functions.specs.Convert.{to_text}
 use Rattle.wi_standard_functions.specs.Steps.{map_until_error}
 use Rattle.wi_standard_functions.specs.Text.{concatenate_value}
-use Rattle.wi_scalar_functions.specs.Endings.{Gives}
 use Rattle.wi_text_functions.proofs.Joining.{joined_to, joined_more, joined_all, joined_stops}
 use Rattle.wi_text_functions.proofs.joined.concatenate.Goals as goal
 
@@ -24,5 +23,5 @@ loop-value-preserved c =
 
 pub returns : goal.returns
 returns c =
-    subst (Gives c.limited.result)
-    (joined_all (string_bytes c.loop-value.joined) c.args.values.now c.loop-value.value-index (concatenate_value c.args.values.now) c.loop-value-test.false c.loop-value.invariant) c.limited.ensures
+    c.limited_text.ensures
+    ∙ joined_all (string_bytes c.loop-value.joined) c.args.values.now c.loop-value.value-index (concatenate_value c.args.values.now) c.loop-value-test.false c.loop-value.invariant
