@@ -42,7 +42,7 @@ lower_next : (r k f : ℕ) → f + 2 ^ k ≤ r → blocks_with r (suc k) f ≡ b
 unfolding blocks_with
 lower_next r k f l = ap (λ (g : ℕ). block (suc k) f ∷ blocks_with r k g) (cond-false _ f (f + 2 ^ k) (le-ltb r (f + 2 ^ k) l))
 
-first_with : (r k f : ℕ) → (xs : List Block) × (blocks_with r k f ≡ block k f ∷ xs)
+pub first_with : (r k f : ℕ) → (xs : List Block) × (blocks_with r k f ≡ block k f ∷ xs)
 unfolding blocks_with
 first_with r zero f = ([], refl)
 first_with r (suc k) f = (blocks_with r k (cond (nat_lt r (f + 2 ^ k)) f (f + 2 ^ k)), refl)

@@ -1,5 +1,5 @@
 -- Laws of the pieces at a block, and of the readers among them.
-use Rattle.std.proofs.Common.{◌≡◌, ℕ, nat_eq, Bool, true, false, not, ◌&&◌, ◌||◌, cond, List, [], ◌∷◌, length, ◌<◌, ◌==◌, filter, refl, sym, ap, subst, ◌∙◌, arith}
+use Rattle.std.proofs.Common.{◌≡◌, ℕ, nat_eq, Bool, true, false, not, ◌&&◌, ◌||◌, cond, List, [], ◌∷◌, length, ◌<◌, ◌==◌, ◌↔◌, filter, refl, sym, ap, subst, ◌∙◌, arith}
 use Rattle.std.specs.Bool.{⊤}
 use Rattle.std.specs.Ordering.{nat_cmp, ordering_then, is_eq, is_le}
 use Rattle.std.specs.declared.cmp.Ordering.{Ordering}
@@ -132,6 +132,19 @@ pub found_all : (x : Block) (a r : ℕ) (rest all ks : List Piece) (old new : Bo
     → (new || list_any (reads_at (x ∷ []) a r) rest) ≡ (old || list_any (reads_at (x ∷ []) a r) all)
     → new ≡ (old || list_any (reads_at (x ∷ []) a r) ks)
 found_all x a r rest all ks old new f e h = found x a r rest all ks old new f (ap (λ (us : List Piece). list_any (reads_at (x ∷ []) a r) us) e) h
+
+-- a reader among those from the block on
+pub read_here : (x : Block) (a r : ℕ) (all ks : List Piece) → all ≡ filter (is_from x) ks → true ≡ list_any (reads_at (x ∷ []) a r) all → list_any (reads_at (x ∷ []) a r) ks ≡ true
+read_here x a r all ks f h =
+    sym (any_of_filter (is_from x) (reads_at (x ∷ []) a r) ks (from_first x a r)) ∙ ap (λ (us : List Piece). list_any (reads_at (x ∷ []) a r) us) (sym f) ∙ sym h
+
+-- where no number passes
+pub passes_not : (f : ℕ → Bool) (b : Bool) → (b ≡ true ↔ ((r : ℕ) × (f r ≡ true))) → b ≡ false → (r : ℕ) → f r ≡ false
+passes_not f b h e r = by (f r) refl
+  where
+    by : (d : Bool) → f r ≡ d → d ≡ false
+    by true g = absurd (true≢false (sym (h.1 (r, g)) ∙ e))
+    by false g = refl
 
 another : (x y : Block) → true ≡ not (nat_eq y.level x.level && nat_eq y.first x.first) → is_at (block_cmp x) y ≡ false
 another x y h = grind (arith, nat_tests)

@@ -49,6 +49,10 @@ HasOneLess p old new = (q : RangePair) → count_of new q ≡ (if is_same p q th
 abbrev pub IsReader : Bag → ℕ → ℕ → Type 0
 IsReader bag a r = (p : RangePair) × (p.reader ≡ r) × (0 < count_of bag p) × (is_within (pair_area p) a ≡ true)
 
+-- some cell does
+abbrev pub IsRead : Bag → ℕ → Type 0
+IsRead bag a = (r : ℕ) × IsReader bag a r
+
 -- how many blocks all pairs have
 abbrev pub pieces_of : Bag → ℕ
 pieces_of [] = 0

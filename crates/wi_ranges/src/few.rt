@@ -1,6 +1,6 @@
 //! The readers of one cell, of which there is mostly one.
 
-ghost use Rattle.std.specs.Prelude.{◌≡◌, ◌<◌, ◌==◌, ◌||◌, ◌∷◌, ◌++◌, ◌↔◌, ℕ, [], false, IsTrue, IfSome, IfOk, OnOk, OnErr, length};
+ghost use Rattle.std.specs.Prelude.{◌≡◌, ◌<◌, ◌==◌, ◌||◌, ◌∷◌, ◌++◌, ◌↔◌, ℕ, [], true, false, IsTrue, IfSome, IfOk, OnOk, OnErr, length};
 ghost use Rattle.std.specs.List.{position};
 ghost use Rattle.std.specs.List.Sorted.{IsPermutation};
 ghost use Rattle.std.specs.Ordering.{nat_cmp};
@@ -127,6 +127,13 @@ impl Many {
         let mut others = Vec::new(alloc);
         others.push(second)?;
         Ok(Many { first, others })
+    }
+
+    /// One of them is there. This is a law: the call does nothing.
+    pub(crate) fn has_one(&self)
+        ensures { (c : ℕ) × (has_cell self.now c ≡ true) }
+    {
+        let _ = &self.first;
     }
 
     /// Puts one more in if there is room for it, and answers whether there is. If memory runs out, all is as before.

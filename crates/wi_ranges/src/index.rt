@@ -1,14 +1,14 @@
 //! The index of readers.
 
-ghost use Rattle.std.specs.Prelude.{◌≡◌, [], ℕ, ◌↔◌, IfOk, OnOk, OnErr};
+ghost use Rattle.std.specs.Prelude.{◌≡◌, [], ℕ, ◌↔◌, IsTrue, IfOk, OnOk, OnErr};
 ghost use Rattle.std.specs.List.{Contains};
 ghost use Rattle.std.specs.List.Sorted.{IsStrictlyIncreasing};
-ghost use Rattle.wi_ranges.specs.Bag.{pair_for, pieces_of, HasOneMore, HasOneLess, IsReader};
+ghost use Rattle.wi_ranges.specs.Bag.{pair_for, pieces_of, HasOneMore, HasOneLess, IsReader, IsRead};
 
 use crate::bag::{add_pair, remove_pair};
 use crate::pair::RangePair;
 use crate::pieces::Pieces;
-use crate::readers::add_readers_of;
+use crate::readers::{add_readers_of, has_readers_in};
 use crate::rising_set::RisingSet;
 use crate::singles::Singles;
 use std::alloc::{AllocError, Global};
@@ -88,6 +88,16 @@ impl RangeIndex {
         self.singles.add_readers(at, &mut readers)?;
         add_readers_of(&self.pieces, at, &mut readers)?;
         readers.into_list()
+    }
+
+    /// Whether some cell reads the cell. The search is that of `readers_of`, and ends at the first that does. It takes no memory.
+    pub fn has_readers(&self, at: Address) -> bool
+        ensures { IsTrue result ↔ IsRead self.now at }
+    {
+        if self.singles.has_readers(at) {
+            return true;
+        }
+        has_readers_in(&self.pieces, at)
     }
 
     /// How many blocks all pairs have together.

@@ -1,12 +1,12 @@
 //! The dependents of a cell: the cells that read it.
 
-ghost use Rattle.std.specs.Prelude.{◌≡◌, ◌<◌, ◌+◌, ◌^◌, ◌≤◌, ◌||◌, ◌∷◌, ℕ, [], OnOk};
+ghost use Rattle.std.specs.Prelude.{◌≡◌, ◌<◌, ◌+◌, ◌^◌, ◌≤◌, ◌||◌, ◌∷◌, ◌↔◌, ℕ, [], IsTrue, OnOk};
 ghost use Rattle.std.specs.Ordering.{nat_cmp};
 ghost use Rattle.std.specs.List.{list_any};
 ghost use Rattle.std.specs.BTreeSet.{contains};
 ghost use Rattle.wi_values.specs.Address.{row_of, rows};
 ghost use Rattle.wi_ranges.specs.Blocks.{blocks_with};
-ghost use Rattle.wi_ranges.specs.Inner.Index.{reads_at, AreUpTo};
+ghost use Rattle.wi_ranges.specs.Inner.Index.{reads_at, AreUpTo, IsReadAt};
 
 use crate::block::Block;
 use crate::pair::Numbered;
@@ -97,4 +97,47 @@ pub(crate) fn add_readers_of(
     }
     let block = highest_block(pieces, row);
     add_all_readers(pieces, at, row, &block, readers)
+}
+
+/// Whether a cell has a reader that stands at a block.
+fn has_readers_at(pieces: &Pieces, at: Address, block: &Block) -> bool
+    ensures { IsTrue result ↔ IsReadAt (block.now ∷ []) at pieces.now.keys }
+{
+    let from = (*block, Numbered::lowest());
+    for (place, numbered) in pieces.range(from..) {
+        if place != block {
+            break;
+        }
+        if numbered.pair.has(at) {
+            return true;
+        }
+    }
+    false
+}
+
+/// Whether a cell has a reader that stands at a block that holds the row, or at one of the halves, quarters and so on that do.
+fn has_readers_within(pieces: &Pieces, at: Address, row: u32, block: &Block) -> bool
+    requires { block.now.first + 2 ^ block.now.level ≤ rows }
+    ensures { IsTrue result ↔ IsReadAt (blocks_with row block.now.level block.now.first) at pieces.now.keys }
+{
+    if has_readers_at(pieces, at, block) {
+        return true;
+    }
+    if block.level > 0 {
+        return has_readers_within(pieces, at, row, &block.half_with(row));
+    }
+    false
+}
+
+/// Whether a cell has a reader that stands at a block that holds its row.
+pub(crate) fn has_readers_in(pieces: &Pieces, at: Address) -> bool
+    ensures read { IsTrue result ↔ IsReadAt (blocks_with (row_of at) 20 0) at pieces.now.keys }
+    ensures row { row_of at < rows }
+{
+    let row = at.row();
+    if pieces.is_empty() {
+        return false;
+    }
+    let block = highest_block(pieces, row);
+    has_readers_within(pieces, at, row, &block)
 }

@@ -8,7 +8,7 @@ ghost use Rattle.std.specs.HashMap.{get, IsUnique};
 ghost use Rattle.wi_ranges.specs.Blocks.{blocks_of};
 ghost use Rattle.wi_ranges.specs.Bag.{is_same};
 ghost use Rattle.wi_ranges.specs.Inner.Index.{pair_reads};
-ghost use Rattle.wi_ranges.specs.Inner.Singles.{blocks_in_all, pairs_of, HasPairMore};
+ghost use Rattle.wi_ranges.specs.Inner.Singles.{blocks_in_all, pairs_of, HasPairMore, HasPairOf};
 
 use crate::few::Few;
 use crate::pair::RangePair;
@@ -93,6 +93,19 @@ impl Singles {
         match self.readers.get(&at) {
             Some(few) => few.add_to(set),
             None => Ok(()),
+        }
+    }
+
+    /// Whether some cell reads a cell.
+    pub(crate) fn has_readers(&self, at: Address) -> bool
+        ensures { IsTrue result ↔ HasPairOf at self.now }
+    {
+        match self.readers.get(&at) {
+            Some(few) => {
+                few.has_one();
+                true
+            }
+            None => false,
         }
     }
 

@@ -59,6 +59,10 @@ piece_reads a r q = pair_reads a r q.1.pair
 abbrev pub reads_at : List Block → ℕ → ℕ → Piece → Bool
 reads_at xs a r q = is_among q.0 xs && piece_reads a r q
 
+-- some cell of a piece at one of the blocks reads the cell a
+abbrev pub IsReadAt : List Block → ℕ → List Piece → Type 0
+IsReadAt xs a pieces = (r : ℕ) × (list_any (reads_at xs a r) pieces ≡ true)
+
 abbrev pub HasPieces : List Block → Numbered → List Piece → Type 0
 HasPieces xs m pieces = (q : Piece) → is_piece xs m q ≡ true → has_piece pieces q ≡ true
 

@@ -1,9 +1,10 @@
 -- The pairs of one cell, by their cells.
-use Rattle.std.specs.Prelude.{◌≡◌, ℕ, ◌+◌, ◌≤◌, ◌^◌, List, [], ◌∷◌, map, length, nat_eq}
-use Rattle.std.specs.List.{flat_map, sum_by, IsDistinct}
+use Rattle.std.specs.Prelude.{◌≡◌, ℕ, ◌+◌, ◌≤◌, ◌^◌, true, List, [], ◌∷◌, map, length, nat_eq}
+use Rattle.std.specs.List.{flat_map, list_any, sum_by, IsDistinct}
 use Rattle.std.specs.Map.{keys_of}
 use Rattle.wi_ranges.specs.Blocks.{blocks_of}
 use Rattle.wi_ranges.specs.Bag.{Bag, raise}
+use Rattle.wi_ranges.specs.Inner.Index.{pair_reads}
 use Rattle.wi_ranges.specs.declared.pair.RangePair.{RangePair}
 
 -- the cell r reads the cell a
@@ -16,6 +17,10 @@ pairs_at a rs = map (λ r. single_pair a r) rs
 -- the pairs that the readers by cell are
 abbrev pub pairs_of : List (ℕ × List ℕ) → List RangePair
 pairs_of es = flat_map (λ e. pairs_at e.0 e.1) es
+
+-- some cell of these pairs reads the cell a
+abbrev pub HasPairOf : ℕ → List RangePair → Type 0
+HasPairOf a ps = (r : ℕ) × (list_any (pair_reads a r) ps ≡ true)
 
 -- the pairs old, and p once more, in any order: whatever is added up over them
 abbrev pub HasPairMore : RangePair → List RangePair → List RangePair → Type 0

@@ -1,0 +1,30 @@
+use Rattle.std.proofs.Common.{◌∙◌, refl, sym, subst, ⊎_elim}
+use Rattle.std.specs.List.{list_any}
+use Rattle.std.proofs.lemmas.Bool.{true≢false, or_cases}
+use Rattle.wi_values.specs.Address.{row_of}
+use Rattle.wi_ranges.specs.Blocks.{blocks_with}
+use Rattle.wi_ranges.specs.Bag.{Bag, IsReader}
+use Rattle.wi_ranges.specs.Inner.Index.{bag_of, reads_at}
+use Rattle.wi_ranges.proofs.Found.{reader_found, found_reader}
+use Rattle.wi_ranges.proofs.Joined.{reader_by_cell, reader_in_bag, reader_in_either}
+use Rattle.wi_ranges.proofs.index.RangeIndex.has_readers.Goals as goal
+
+pub returns-then-has_readers : goal.returns-then-has_readers
+returns-then-has_readers c =
+    let a = c.args.at in
+    let one = c.has_readers.ensures.0 c.if-has_readers.true in
+    (λ t. (one.0, subst (λ (b : Bag). IsReader b a one.0) c.self.view_is (reader_by_cell c.self.inside.singles (bag_of c.self.inside.pieces.keys) a one.0 one.1)), λ h. refl)
+
+pub returns : goal.returns
+returns c =
+    let singles = c.self.inside.singles in
+    let ks = c.self.inside.pieces.keys in
+    let bag = bag_of ks in
+    let a = c.args.at in
+    let xs = blocks_with (row_of a) 20 0 in (
+      λ t. let one = c.has_readers_in.ensures.read.0 t in
+          (one.0, subst (λ (b : Bag). IsReader b a one.0) c.self.view_is (reader_in_bag singles bag a one.0 (reader_found bag ks xs a one.0 c.self.invariant.0 one.1))),
+      λ h. ⊎_elim (λ e. absurd (true≢false (sym (c.has_readers.ensures.1 (h.0, e)) ∙ c.if-has_readers.false))) (λ e. c.has_readers_in.ensures.read.1 (h.0, e))
+          (or_cases _ _ (reader_in_either singles bag a h.0 (list_any (reads_at xs a h.0) ks) (λ g. found_reader bag ks (row_of a) a h.0 refl c.has_readers_in.ensures.row c.self.invariant.0 g)
+          (subst (λ (b : Bag). IsReader b a h.0) (sym c.self.view_is) h.1))),
+    )
