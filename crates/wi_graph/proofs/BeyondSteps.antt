@@ -1,5 +1,5 @@
 -- Steps of a search over readers that stops at watched cells.
-use Rattle.std.proofs.Common.{◌≡◌, ◌==◌, ◌&&◌, ◌||◌, ◌⊎◌, inl, inr, not, ℕ, ◌+◌, ◌<◌, ◌↔◌, Bool, true, false, cond, List, [], ◌∷◌, ◌++◌, length, take, get_or, Result, Ok, Err, IfOk, refl, ap, sym, ◌∙◌, subst, arith}
+use Rattle.std.proofs.Common.{◌≡◌, ◌==◌, ◌&&◌, ◌||◌, ◌⊎◌, inl, inr, not, ℕ, ◌+◌, ◌<◌, ◌↔◌, Bool, true, false, cond, List, [], ◌∷◌, ◌++◌, length, take, get_or, Result, Ok, Err, IfOk, ap, sym, ◌∙◌, subst, arith}
 use Rattle.std.proofs.lemmas.Bool.{or_cases, or_left, or_right, and_parts, and_from, cases_Bool, not-true, not_from_false, false_from_ne_true}
 use Rattle.std.proofs.lemmas.List.{length-append}
 use Rattle.std.proofs.lemmas.Map.Views.{any-filter_same}
@@ -12,7 +12,7 @@ use Rattle.std.specs.BTreeSet.{BTreeSet, contains}
 use Rattle.std.specs.List.Sorted.{IsStrictlyIncreasing}
 use Rattle.wi_parser.specs.Sheet.{Sheet, content_of}
 use Rattle.wi_parser.specs.Reads.{content_reads}
-use Rattle.wi_ranges.specs.Bag.{Bag, IsReader}
+use Rattle.wi_ranges.specs.Bag.{Bag, IsReader, IsRead}
 use Rattle.wi_graph.specs.Reach.{is_one_of, in_cone}
 use Rattle.wi_graph.specs.Watched.{IsClosedUp}
 use Rattle.wi_graph.specs.Latest.{IsUnread}
@@ -238,7 +238,10 @@ edge_beyond rooms readers circles w cells list g k m s h = found_beyond s reader
 
 -- ---- cells that nothing reads
 
-pub unread_cells : (rooms : Rooms) (readers : Bag) (circles : BTreeSet ℕ) (cells : List ℕ) (none : Bool) → IsGraph rooms readers circles → (none ≡ true → (a r : ℕ) → is_one_of cells a ≡ true → IsReader readers a r → ⊥) → not none ≡ false →
+pub unread_cells : (rooms : Rooms) (readers : Bag) (circles : BTreeSet ℕ) (cells : List ℕ) → IsGraph rooms readers circles → ((a r : ℕ) → is_one_of cells a ≡ true → IsReader readers a r → ⊥) →
     (s : Sheet) → AreEdgesOf (edges_in rooms.entries) s → (x : ℕ) → is_one_of cells x ≡ true → IsUnread s x
-unread_cells rooms readers circles cells false g n e s h x m c = cc
-unread_cells rooms readers circles cells true g n e s h x m c = false_from_ne_true (content_reads (content_of s c) x) (λ r. n refl x c m ((graph_readers rooms readers g.ordered g.pairs s h x c).0 r))
+unread_cells rooms readers circles cells g n s h x m c = false_from_ne_true (content_reads (content_of s c) x) (λ r. n x c m ((graph_readers rooms readers g.ordered g.pairs s h x c).0 r))
+
+pub read_cell : (rooms : Rooms) (readers : Bag) (circles : BTreeSet ℕ) (cells : List ℕ) → IsGraph rooms readers circles → (a : ℕ) × (is_one_of cells a ≡ true) × IsRead readers a →
+    (s : Sheet) → AreEdgesOf (edges_in rooms.entries) s → (x : ℕ) × (is_one_of cells x ≡ true) × (c : ℕ) × (content_reads (content_of s c) x ≡ true)
+read_cell rooms readers circles cells g f s h = (f.0, f.1, f.2.0, (graph_readers rooms readers g.ordered g.pairs s h f.0 f.2.0).1 f.2.1)

@@ -43,6 +43,12 @@ cells_more (y ∷ ys) x = ap (λ (zs : List ℕ). y.0 ∷ zs) (cells_more ys x)
 pub cells_step : (xs : List (ℕ × Option Content)) (i : ℕ) (x : ℕ × Option Content) (old new : List ℕ) → i < length xs → x ≡ get_or xs i x → new ≡ old ++ x.0 ∷ [] → old ≡ keys_of (take i xs) → new ≡ keys_of (take (i + 1) xs)
 cells_step xs i x old new l e n h = n ∙ ap (λ (ys : List ℕ). ys ++ x.0 ∷ []) h ∙ sym (cells_more (take i xs) x) ∙ ap keys_of (sym (took xs i x l e))
 
+-- the cell of one change
+pub lone_key : (xs : List (ℕ × Option Content)) (x : ℕ × Option Content) → length xs ≡ 1 → x ≡ get_or xs 0 x → keys_of xs ≡ x.0 ∷ []
+lone_key [] x l e = absurd (omega (arith, l))
+lone_key (y ∷ []) x l e = ap (λ (z : ℕ × Option Content). z.0 ∷ []) (sym e)
+lone_key (y ∷ z ∷ zs) x l e = absurd (omega (arith, l))
+
 -- what is next for a cell is put in, or taken out
 abbrev pub Updates : ℕ → Option (Option (Vec Area)) → Coming → Coming → Type 0
 Updates k x old new = (q : ℕ) → brought_to new q ≡ cond (is_at (nat_cmp k) q) x (brought_to old q)

@@ -16,7 +16,7 @@ use Rattle.std.specs.List.Sorted.{IsStrictlyIncreasing}
 use Rattle.wi_parser.specs.Sheet.{Sheet, content_of}
 use Rattle.wi_parser.specs.Reads.{content_reads}
 use Rattle.wi_ranges.specs.declared.pair.RangePair.{RangePair}
-use Rattle.wi_ranges.specs.Bag.{Bag, IsReader, is_same, count_of}
+use Rattle.wi_ranges.specs.Bag.{Bag, IsReader, IsRead, is_same, count_of}
 use Rattle.wi_ranges.proofs.Exact.{same_is}
 use Rattle.wi_graph.specs.Reach.{is_one_of, in_cone}
 use Rattle.wi_graph.specs.Inner.Search.{HasAll, HasReaders, GoesToReaders, IsLeast, IsConeOf, as_set, missing, AreNoted}
@@ -279,8 +279,12 @@ own_cone readers cells list o n e = subst (IsConeOf readers cells) (sym e) (reco
   least = λ p h g c k. h c (sym (turned cells c) ∙ k);
 })
 
-pub alone_cone : (readers : Bag) (cells list looked : List ℕ) → list ≡ cells → looked ≡ list → IsStrictlyIncreasing looked → ((a r : ℕ) → is_one_of looked a ≡ true → IsReader readers a r → ⊥) → IsConeOf readers cells list
-alone_cone readers cells list looked e q o n = own_cone readers cells list (subst IsStrictlyIncreasing (q ∙ e) o) (λ a r h k. n a r (ap (λ (xs : List ℕ). is_one_of xs a) (q ∙ e) ∙ h) k) e
+-- one cell that no cell reads
+pub lone_cone : (readers : Bag) (cell : ℕ) → (IsRead readers cell → ⊥) → IsConeOf readers (cell ∷ []) (cell ∷ [])
+lone_cone readers cell n = own_cone readers (cell ∷ []) (cell ∷ []) (λ i l. absurd (omega (arith, l))) (λ a r h k. n (r, subst (λ (y : ℕ). IsReader readers y r) (sym (same_cell a cell (is_it (cell == a) h))) k)) refl
+  where
+    is_it : (b : Bool) → (b || false) ≡ true → b ≡ true
+    is_it b w = sym (or-false b) ∙ w
 
 -- a set that was found
 pub found_list : (readers : Bag) (cells list : List ℕ) (found : BTreeSet ℕ) → IsStrictlyIncreasing list → ((c : ℕ) → Contains list c ↔ (contains nat_cmp found c ≡ true)) → HasAll cells found → HasReaders readers found →
@@ -301,16 +305,13 @@ found_listed readers cells found (Ok list) a k l o e = found_list readers cells 
 found_listed readers cells found (Err error) a k l o e = tt
 
 -- nothing reads one more
-pub none_more : (readers : Bag) (cells : List ℕ) (i x : ℕ) (rs : List ℕ) → i < length cells → x ≡ get_or cells i x → ((r : ℕ) → Contains rs r ↔ IsReader readers x r) → length rs ≡ 0 → ((a r : ℕ) → is_one_of (take i cells) a ≡ true → IsReader readers a r → ⊥) →
+pub none_more : (readers : Bag) (cells : List ℕ) (i x : ℕ) (read : Bool) → i < length cells → x ≡ get_or cells i x → ((read ≡ true) ↔ IsRead readers x) → read ≡ false → ((a r : ℕ) → is_one_of (take i cells) a ≡ true → IsReader readers a r → ⊥) →
     (a r : ℕ) → is_one_of (take (i + 1) cells) a ≡ true → IsReader readers a r → ⊥
-none_more readers cells i x rs l e f z n a r h k = at (or_cases (is_one_of (take i cells) a) _ (sym (taken cells i x a l e) ∙ h))
+none_more readers cells i x read l e f z n a r h k = at (or_cases (is_one_of (take i cells) a) _ (sym (taken cells i x a l e) ∙ h))
   where
     is_it : (b : Bool) → (b || false) ≡ true → b ≡ true
     is_it b w = sym (or-false b) ∙ w
 
-    none : (ys : List ℕ) → length ys ≡ 0 → Contains ys r → ⊥
-    none ys g w = omega (arith, w.1, g)
-
     at : (is_one_of (take i cells) a ≡ true) ⊎ (((x == a) || false) ≡ true) → ⊥
     at (inl w) = n a r w k
-    at (inr w) = none rs z ((f r).1 (subst (λ (y : ℕ). IsReader readers y r) (sym (same_cell a x (is_it (x == a) w))) k))
+    at (inr w) = clash read (f.1 (r, subst (λ (y : ℕ). IsReader readers y r) (sym (same_cell a x (is_it (x == a) w))) k)) z

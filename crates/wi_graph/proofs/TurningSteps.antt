@@ -174,3 +174,7 @@ same_turns rooms next circles turns g e f h = record {
   fresh = none_came circles turns f;
   after = circles_over (room_over next rooms) (room_at rooms) (turned_by circles turns) (contains nat_cmp circles) e (none_turned circles turns f h) g;
 }
+
+-- where nothing is next
+pub nothing_turns : (rooms : Rooms) (next : Coming) (circles : BTreeSet ℕ) (turns : Turns) → AreCircles (room_at rooms) (contains nat_cmp circles) → next ≡ [] → turns.came.items ≡ [] → turns.went.items ≡ [] → AreTurns rooms next circles turns
+nothing_turns rooms next circles turns g e f h = same_turns rooms next circles turns g (λ c. ap (λ (es : Coming). room_over es rooms c) e) f h

@@ -22,7 +22,7 @@ pub(crate) fn listed_beyond<W: Watch>(
     ensures { IfOk result (λ list. IsListBeyond readers.now (W.watched watch.now) cells.now list.items) }
 {
     let own = unwatched(alloc, cells, watch)?;
-    if are_alone(readers, &own)? {
+    if are_alone(readers, &own) {
         return Ok(own);
     }
     let found = cone_beyond(alloc, readers, &own, watch)?;

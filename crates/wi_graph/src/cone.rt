@@ -1,28 +1,14 @@
 //! The cells that read one of a list, at any remove.
 
-ghost use Rattle.std.specs.Prelude.{◌≡◌, ◌∷◌, ℕ, [], true, IsTrue, IfOk, OnOk};
+ghost use Rattle.std.specs.Prelude.{◌≡◌, ◌∷◌, ℕ, [], true, false, IsTrue, IfOk, OnOk};
 ghost use Rattle.std.specs.List.Sorted.{IsStrictlyIncreasing};
-ghost use Rattle.std.specs.Map.{keys_of};
-ghost use Rattle.wi_ranges.specs.Bag.{IsReader};
+ghost use Rattle.wi_ranges.specs.Bag.{IsReader, IsRead};
 ghost use Rattle.wi_graph.specs.Reach.{is_one_of};
 ghost use Rattle.wi_graph.specs.Inner.Search.{HasAll, HasReaders, IsConeOf, IsLeast, AreNoted};
 
-use crate::changes::{Change, changed_cells};
 use std::alloc::{AllocError, Global};
 use wi_ranges::{RangeIndex, RisingSet};
 use wi_values::Address;
-
-/// The cells that read one of the cells of an edit, at any remove, with themselves: each once, in row-major order.
-pub(crate) fn edit_cone(
-    alloc: Global,
-    readers: &RangeIndex,
-    changes: &[Change],
-) -> Result<Vec<Address>, AllocError>
-    ensures { IfOk result (λ list. IsConeOf readers.now (keys_of changes.now) list.items) }
-{
-    let cells = changed_cells(alloc, changes)?;
-    listed_cone(alloc, readers, &cells)
-}
 
 /// The cells that read one of these, at any remove, with themselves: each once, in row-major order. Cells in that order which
 /// nothing reads are their own cone, and cost no more than the search for their readers.
@@ -33,7 +19,7 @@ pub(crate) fn listed_cone(
 ) -> Result<Vec<Address>, AllocError>
     ensures { IfOk result (λ list. IsConeOf readers.now cells.now list.items) }
 {
-    if are_alone(readers, cells)? {
+    if are_alone(readers, cells) {
         return Vec::from_slice(alloc, cells);
     }
     let found = cone_of(alloc, readers, cells)?;
@@ -41,14 +27,14 @@ pub(crate) fn listed_cone(
 }
 
 /// Whether cells stand in row-major order, each once, and nothing reads one of them: they are their own cone then.
-pub(crate) fn are_alone(readers: &RangeIndex, cells: &[Address]) -> Result<bool, AllocError>
-    ensures order { IfOk result (λ alone. IsTrue alone → IsStrictlyIncreasing cells.now) }
-    ensures unread { IfOk result (λ alone. IsTrue alone → (a r : ℕ) → is_one_of cells.now a ≡ true → IsReader readers.now a r → ⊥) }
+pub(crate) fn are_alone(readers: &RangeIndex, cells: &[Address]) -> bool
+    ensures order { IsTrue result → IsStrictlyIncreasing cells.now }
+    ensures unread { IsTrue result → (a r : ℕ) → is_one_of cells.now a ≡ true → IsReader readers.now a r → ⊥ }
 {
     if !rise(cells) {
-        return Ok(false);
+        return false;
     }
-    none_is_read(readers, cells)
+    !any_is_read(readers, cells)
 }
 
 /// Whether cells stand in row-major order, each once.
@@ -63,16 +49,17 @@ pub(crate) fn rise(cells: &[Address]) -> bool
     true
 }
 
-/// Whether nothing reads one of the cells.
-pub(crate) fn none_is_read(readers: &RangeIndex, cells: &[Address]) -> Result<bool, AllocError>
-    ensures { IfOk result (λ none. IsTrue none → (a r : ℕ) → is_one_of cells.now a ≡ true → IsReader readers.now a r → ⊥) }
+/// Whether some cell reads one of the cells.
+pub(crate) fn any_is_read(readers: &RangeIndex, cells: &[Address]) -> bool
+    ensures read { IsTrue result → (a : ℕ) × (is_one_of cells.now a ≡ true) × IsRead readers.now a }
+    ensures unread { result ≡ false → (a r : ℕ) → is_one_of cells.now a ≡ true → IsReader readers.now a r → ⊥ }
 {
     for cell in cells {
-        if !readers.readers_of(*cell)?.is_empty() {
-            return Ok(false);
+        if readers.has_readers(*cell) {
+            return true;
         }
     }
-    Ok(true)
+    false
 }
 
 /// The cells that read one of these, at any remove, with themselves.

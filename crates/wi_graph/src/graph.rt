@@ -2,16 +2,16 @@
 
 ghost use Rattle.std.specs.Prelude.{◌≡◌, ◌↔◌, ◌&&◌, [], ℕ, true, false, not, Some, None, IsTrue, IfOk, OnOk, OnErr};
 ghost use Rattle.std.specs.List.Sorted.{IsStrictlyIncreasing};
-ghost use Rattle.std.specs.Map.{keys_of};
 ghost use Rattle.std.specs.Option.{unwrap_or};
 ghost use Rattle.std.specs.Ordering.{nat_cmp};
 ghost use Rattle.wi_tiles.specs.Entries.{IsOrdered};
 ghost use Rattle.wi_parser.specs.Sheet.{Sheet, content_of};
+ghost use Rattle.wi_parser.specs.Reads.{content_reads};
 ghost use Rattle.wi_graph.specs.Circular.{circular};
 ghost use Rattle.wi_graph.specs.Reach.{is_one_of, in_cone};
 ghost use Rattle.wi_graph.specs.Watched.{IsClosedUp};
 ghost use Rattle.wi_graph.specs.Latest.{IsUnread};
-ghost use Rattle.wi_graph.specs.Edges.{AreEdgesOf, areas_in, edges_after, staging};
+ghost use Rattle.wi_graph.specs.Edges.{AreEdgesOf, edges_after, staging};
 ghost use Rattle.wi_graph.specs.Inner.Changes.{Brings};
 ghost use Rattle.wi_graph.specs.Inner.Rooms.{room_at, AreInOrder, IsGraph, IsStaged};
 ghost use Rattle.wi_graph.specs.Inner.Turning.{AreTurns};
@@ -19,11 +19,11 @@ ghost use Rattle.wi_graph.specs.Inner.Turning.{AreTurns};
 use crate::beyond::listed_beyond;
 use crate::cell_set::CellSet;
 use crate::changes::{Change, reads_stay, rooms_of};
-use crate::cone::{edit_cone, listed_cone, none_is_read, rise};
+use crate::cone::{any_is_read, listed_cone};
 use crate::rooms::{Coming, Rooms, take_back, take_over};
 use crate::sets::take_away;
 use crate::staging::bring_in;
-use crate::turning::{Turns, bring_circles, turns_alone, turns_of};
+use crate::turning::{Turns, bring_circles, turns_of};
 use crate::watch::Watch;
 use std::alloc::{AllocError, Global};
 use std::marker::Model;
@@ -79,90 +79,18 @@ impl Graph {
         }
     }
 
-    /// Makes ready an edit, which gives each named cell a content or none; of two for one cell the later counts. Answers its
-    /// cone: the cells that read one of the edited cells, at any remove, with themselves, each once, in row-major order. If
-    /// memory runs out, all is as before. The work grows with the cone, what its cells read and who reads them, times
-    /// logarithms; where each cell reads what it read, what the cone reads costs nothing.
-    pub fn stage(
-        &mut self,
-        changes: &[(Address, Option<Content>)],
-    ) -> Result<Vec<Address>, AllocError>
-        requires { self.old.staged ≡ None }
-        ensures ok { OnOk result (self.new
-            ≡ staging self.old.now (Some (edges_after self.old.now changes.now))) }
-        ensures err { OnErr result (self.new ≡ self.old) }
-        ensures order { IfOk result (λ cone. IsStrictlyIncreasing cone.items) }
-        ensures cells { IfOk result (λ cone. (s : Sheet) → AreEdgesOf self.old.now s
-            → (c : ℕ) → is_one_of cone.items c ≡ in_cone s (keys_of changes.now) c) }
-    {
-        let cone = edit_cone(self.alloc, &self.readers, changes)?;
-        self.stage_cone(changes, cone)
-    }
-
-    /// The same as `stage`, where the cells of the cone are at hand, in any order, some of them perhaps told twice. Where they
-    /// stand in row-major order, each once, they aren't searched for again.
-    pub fn stage_over(
-        &mut self,
-        changes: &[(Address, Option<Content>)],
-        cone: Vec<Address>,
-    ) -> Result<Vec<Address>, AllocError>
-        requires staged { self.old.staged ≡ None }
-        requires cone { (s : Sheet) → AreEdgesOf self.old.now s
-            → (c : ℕ) → is_one_of cone.items c ≡ in_cone s (keys_of changes.now) c }
-        ensures ok { OnOk result (self.new
-            ≡ staging self.old.now (Some (edges_after self.old.now changes.now))) }
-        ensures err { OnErr result (self.new ≡ self.old) }
-        ensures order { IfOk result (λ cone. IsStrictlyIncreasing cone.items) }
-        ensures cells { IfOk result (λ cone. (s : Sheet) → AreEdgesOf self.old.now s
-            → (c : ℕ) → is_one_of cone.items c ≡ in_cone s (keys_of changes.now) c) }
-    {
-        if rise(&cone) {
-            return self.stage_cone(changes, cone);
-        }
-        drop(cone);
-        self.stage(changes)
-    }
-
-    /// The same as `stage`, where the cone is given in row-major order.
-    fn stage_cone(
-        &mut self,
-        changes: &[Change],
-        cone: Vec<Address>,
-    ) -> Result<Vec<Address>, AllocError>
-        requires staged { self.old.staged ≡ None }
-        requires order { IsStrictlyIncreasing cone.items }
-        requires cone { (s : Sheet) → AreEdgesOf self.old.now s
-            → (c : ℕ) → is_one_of cone.items c ≡ in_cone s (keys_of changes.now) c }
-        ensures ok { OnOk result (self.new
-            ≡ staging self.old.now (Some (edges_after self.old.now changes.now))) }
-        ensures err { OnErr result (self.new ≡ self.old) }
-        ensures order { IfOk result (λ cone. IsStrictlyIncreasing cone.items) }
-        ensures cells { IfOk result (λ cone. (s : Sheet) → AreEdgesOf self.old.now s
-            → (c : ℕ) → is_one_of cone.items c ≡ in_cone s (keys_of changes.now) c) }
-    {
-        let staged = make_ready(
-            self.alloc,
-            &mut self.rooms,
-            &mut self.readers,
-            &mut self.circles,
-            changes,
-            &cone,
-        )?;
-        self.staged = Some(staged);
-        Ok(cone)
-    }
-
-    /// The same as `stage`, without an answer. The cone is searched for only where a cycle may be closed or opened: not where each
+    /// Makes ready an edit, which gives each named cell a content or none; of two for one cell the later counts. If memory runs out, all
+    /// is as before. The cone is searched for only where a cycle may be closed or opened: not where each
     /// cell reads what it read, nor where one cell that isn't circular gets something that reads neither it nor a formula. Where it reads
     /// formulas, but no circular cell, what it reads at any remove is searched for it at the same time, so that the work is that of the
     /// smaller search.
-    pub fn stage_alone(&mut self, changes: &[(Address, Option<Content>)]) -> Result<(), AllocError>
+    pub fn stage(&mut self, changes: &[(Address, Option<Content>)]) -> Result<(), AllocError>
         requires { self.old.staged ≡ None }
         ensures ok { OnOk result (self.new
             ≡ staging self.old.now (Some (edges_after self.old.now changes.now))) }
         ensures err { OnErr result (self.new ≡ self.old) }
     {
-        let staged = make_ready_alone(
+        let staged = make_ready(
             self.alloc,
             &mut self.rooms,
             &mut self.readers,
@@ -223,14 +151,15 @@ impl Graph {
         listed_cone(self.alloc, &self.readers, cells)
     }
 
-    /// Whether some formula reads one of these cells. The work is that of a search for their readers.
-    pub fn any_is_read(&self, cells: &[Address]) -> Result<bool, AllocError>
+    /// Whether some formula reads one of these cells. The work is that of `has_readers` of the index for each, up to the first that is read.
+    pub fn any_is_read(&self, cells: &[Address]) -> bool
         requires { self.now.staged ≡ None }
-        ensures { IfOk result (λ any. any ≡ false → (s : Sheet) → AreEdgesOf self.now.now s
-            → (x : ℕ) → is_one_of cells.now x ≡ true → IsUnread s x) }
+        ensures unread { result ≡ false → (s : Sheet) → AreEdgesOf self.now.now s
+            → (x : ℕ) → is_one_of cells.now x ≡ true → IsUnread s x }
+        ensures read { IsTrue result → (s : Sheet) → AreEdgesOf self.now.now s
+            → (x : ℕ) × (is_one_of cells.now x ≡ true) × (c : ℕ) × (content_reads (content_of s c) x ≡ true) }
     {
-        let none = none_is_read(&self.readers, cells)?;
-        Ok(!none)
+        any_is_read(&self.readers, cells)
     }
 
     /// What `cone` answers but for cells that are watched, where each that reads a watched cell is watched. The work grows with the count of
@@ -250,33 +179,8 @@ impl Graph {
     }
 }
 
-/// Makes ready an edit of which the cone is given, in row-major order. If memory runs out, all is as before.
+/// Makes ready an edit. If memory runs out, all is as before.
 fn make_ready(
-    alloc: Global,
-    rooms: &mut Rooms,
-    readers: &mut RangeIndex,
-    circles: &mut CellSet,
-    changes: &[Change],
-    cone: &[Address],
-) -> Result<Staged, AllocError>
-    requires graph { IsGraph rooms.old readers.old circles.old }
-    requires order { IsStrictlyIncreasing cone.now }
-    requires cone { (s : Sheet) → ((c : ℕ) → room_at rooms.old c ≡ areas_in (content_of s c))
-        → (c : ℕ) → is_one_of cone.now c ≡ in_cone s (keys_of changes.now) c }
-    ensures ordered { IsOrdered nat_cmp rooms.new }
-    ensures rooms { (c : ℕ) → room_at rooms.new c ≡ room_at rooms.old c }
-    ensures brings { IfOk result (λ staged. Brings rooms.old staged.next.items changes.now) }
-    ensures staged { IfOk result (λ staged.
-        IsStaged rooms.new staged.next.items readers.new circles.new staged.turns) }
-    ensures err { OnErr result (IsGraph rooms.new readers.new circles.new) }
-{
-    let next = rooms_of(alloc, rooms, changes)?;
-    let turns = turns_of(alloc, rooms, circles, &next, cone)?;
-    bring(rooms, readers, circles, next, turns)
-}
-
-/// The same of an edit whose cone isn't given.
-fn make_ready_alone(
     alloc: Global,
     rooms: &mut Rooms,
     readers: &mut RangeIndex,
@@ -292,7 +196,7 @@ fn make_ready_alone(
     ensures err { OnErr result (IsGraph rooms.new readers.new circles.new) }
 {
     let next = rooms_of(alloc, rooms, changes)?;
-    let turns = turns_alone(alloc, rooms, readers, circles, &next, changes)?;
+    let turns = turns_of(alloc, rooms, readers, circles, &next, changes)?;
     bring(rooms, readers, circles, next, turns)
 }
 

@@ -1,6 +1,6 @@
 //! Whether an edit closes a cycle, asked from both sides: among the dependents of the edited cell, and among what it is to read.
 
-ghost use Rattle.std.specs.Prelude.{◌≡◌, [], false, IsTrue, IfSome, IfNone, IfOk, length};
+ghost use Rattle.std.specs.Prelude.{◌≡◌, false, IsTrue, IfSome, IfNone, IfOk, length};
 ghost use Rattle.std.specs.Map.{keys_of};
 ghost use Rattle.std.specs.Ordering.{nat_cmp};
 ghost use Rattle.wi_tiles.specs.Entries.{IsOrdered};
@@ -13,7 +13,7 @@ use crate::below::{begin_below, go_below, is_clear};
 use crate::cell_set::CellSet;
 use crate::changes::{Change, changed_cells};
 use crate::closing::meets_circle;
-use crate::cone::{are_alone, listed_cone, note};
+use crate::cone::{listed_cone, note};
 use crate::rooms::{Brought, Coming, Rooms};
 use std::alloc::{AllocError, Global};
 use wi_ranges::{RangeIndex, RisingSet};
@@ -35,9 +35,6 @@ pub(crate) fn cone_unless_apart(
     ensures apart { IfOk result (λ o. IfNone o (ReadsApart rooms.now next.now.items circles.now)) }
 {
     let cells = changed_cells(alloc, changes)?;
-    if are_alone(readers, &cells)? {
-        return Ok(Some(cells));
-    }
     listed_unless_apart(alloc, rooms, readers, circles, next, &cells)
 }
 

@@ -1,14 +1,16 @@
 //! Which cells an edit makes circular, and which it makes circular no longer.
 
-ghost use Rattle.std.specs.Prelude.{◌≡◌, ◌||◌, ◌⊎◌, ℕ, [], true, false, IsTrue, IfOk, OnOk, OnErr};
+ghost use Rattle.std.specs.Prelude.{◌≡◌, ◌||◌, ◌∷◌, ℕ, [], true, false, IfSome, IfOk, OnOk, OnErr};
 ghost use Rattle.std.specs.List.Sorted.{IsStrictlyIncreasing};
 ghost use Rattle.std.specs.Ordering.{nat_cmp};
-ghost use Rattle.std.specs.BTreeSet.{btree_set_len, contains};
+ghost use Rattle.std.specs.BTreeSet.{contains};
+ghost use Rattle.std.specs.Map.{keys_of};
+ghost use Rattle.wi_ranges.specs.Bag.{IsRead};
 ghost use Rattle.wi_graph.specs.Reach.{is_one_of};
-ghost use Rattle.wi_graph.specs.Inner.Changes.{Brings, ReadsStay, IsEditCone, went_from};
+ghost use Rattle.wi_graph.specs.Inner.Changes.{Brings, IsEditCone, went_from};
 ghost use Rattle.wi_graph.specs.Inner.Rooms.{room_at, AreCircles, AreInOrder, IsGraph};
 ghost use Rattle.wi_graph.specs.Inner.Stripping.{IsWithin};
-ghost use Rattle.wi_graph.specs.Inner.Turning.{reads_one_of, AreTurns, SettlesCone, StandsApart};
+ghost use Rattle.wi_graph.specs.Inner.Turning.{AreTurns, SettlesCone};
 
 use crate::cell_set::CellSet;
 use crate::changes::{Change, reads_stay};
@@ -30,36 +32,50 @@ pub(crate) struct Turns {
     pub(crate) went: Vec<Address>,
 }
 
-/// The cells that turn, circular or no longer so, once what is next is put in; the cone of that is given in row-major order.
-/// Where each cell reads what it read before, the work grows with what is next, and with what that reads where the cone is one
-/// cell. Where what is next is for no circular cell and reads none, and no cycle is closed, it grows also with the count of the cone, and
-/// with the rows of what that reads where the rectangle around the cone or that around the circular cells meets it, times the
-/// logarithms of their counts, and it takes no memory. Else it grows also with the cone and what its cells read, times logarithms.
+/// The cells that turn, circular or no longer so, once what is next is put in. Where nothing is next there are none. Of one cell that no
+/// formula reads the work is that of a look at what it is to read. Else the cone is searched for only if it is needed: not where each
+/// cell reads what it read before, nor where one cell gets something else that reads neither it nor a formula, and isn't circular. Where it
+/// reads formulas, none of them circular, the work is that of the smaller of two searches, among what depends on the cell and among what
+/// it is to read.
 pub(crate) fn turns_of(
     alloc: Global,
     rooms: &Rooms,
+    readers: &RangeIndex,
     circles: &CellSet,
     next: &Coming,
-    cone: &[Address],
+    changes: &[Change],
 ) -> Result<Turns, AllocError>
-    requires circles { AreCircles (room_at rooms.now) (contains nat_cmp circles.now) }
-    requires order { IsStrictlyIncreasing cone.now }
-    requires cone { IsEditCone rooms.now next.now.items (is_one_of cone.now) }
+    requires graph { IsGraph rooms.now readers.now circles.now }
+    requires order { AreInOrder next.now.items }
+    requires brings { Brings rooms.now next.now.items changes.now }
     ensures { IfOk result (AreTurns rooms.now next.now.items circles.now) }
 {
-    if is_alone(circles, cone) {
-        return turns_in(alloc, rooms, circles, next, cone);
-    }
-    if reads_stay(rooms, next) {
+    if next.is_empty() {
         return Ok(no_turns(alloc));
     }
-    turns_in(alloc, rooms, circles, next, cone)
+    match lone_unread(readers, changes) {
+        Some(cell) => turns_in(alloc, rooms, circles, next, &[cell]),
+        None => turns_sought(alloc, rooms, readers, circles, next, changes),
+    }
 }
 
-/// The same, where the cone is searched for only if it is needed: not where each cell reads what it read before, nor where one cell
-/// gets something else that reads neither it nor a formula, and isn't circular. Where it reads formulas, none of them circular, the work is
-/// that of the smaller of two searches, among what depends on the cell and among what it is to read.
-pub(crate) fn turns_alone(
+/// The cell of an edit of one cell that no formula reads. It is its own cone.
+fn lone_unread(readers: &RangeIndex, changes: &[Change]) -> Option<Address>
+    ensures alone { IfSome result (λ cell. keys_of changes.now ≡ cell ∷ []) }
+    ensures unread { IfSome result (λ cell. IsRead readers.now cell → ⊥) }
+{
+    if changes.len() != 1 {
+        return None;
+    }
+    let change = &changes[0];
+    if readers.has_readers(change.0) {
+        return None;
+    }
+    Some(change.0)
+}
+
+/// The same as `turns_of`, of several cells, or of one that is read.
+fn turns_sought(
     alloc: Global,
     rooms: &Rooms,
     readers: &RangeIndex,
@@ -79,18 +95,15 @@ pub(crate) fn turns_alone(
         return Ok(no_turns(alloc));
     }
     match cone_unless_apart(alloc, rooms, readers, circles, next, changes)? {
-        Some(cone) => turns_of(alloc, rooms, circles, next, &cone),
+        Some(cone) => turns_in(alloc, rooms, circles, next, &cone),
         None => Ok(no_turns(alloc)),
     }
 }
 
-/// Whether no cell is circular and a cone is one cell, so that a cycle that is closed is found with no search for what the cell
-/// read before.
-fn is_alone(circles: &CellSet, cone: &[Address]) -> bool {
-    circles.is_empty() && cone.len() <= 1
-}
-
-/// The same, whatever the cells read before.
+/// The same, where the cone is given in row-major order. Where what is next is for no circular cell and reads none, and no cycle is closed,
+/// the work grows with the count of the cone, and with the rows of what is next reads where the rectangle around the cone or that around
+/// the circular cells meets it, times the logarithms of their counts, and it takes no memory. Else it grows also with the cone and what its
+/// cells read, times logarithms.
 fn turns_in(
     alloc: Global,
     rooms: &Rooms,

@@ -121,7 +121,7 @@ fn owe_read(generations: &mut Numbers, graph: &Graph, cells: &[Address]) -> Resu
     ensures owed { OnOk result ((s : Sheet) → AreEdgesOf graph.now.now s → (x : ℕ) → is_one_of cells.now x ≡ true
         → HasGeneration generations.new.entries x ⊎ IsUnread s x) }
 {
-    if !graph.any_is_read(cells)? {
+    if !graph.any_is_read(cells) {
         return Ok(());
     }
     make_room(generations, cells)

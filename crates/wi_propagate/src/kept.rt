@@ -139,7 +139,7 @@ impl KeptCalculator {
     {
         let cells = changed_cells(self.alloc, &changes)?;
         self.generations.owe(&self.graph, &cells)?;
-        self.graph.stage_alone(&changes)?;
+        self.graph.stage(&changes)?;
         match self.store.apply(changes) {
             Ok(()) => {
                 keep_over_edit(self.alloc, &self.graph, &mut self.cones);

@@ -1,15 +1,15 @@
-use Rattle.std.proofs.Common.{◌≡◌, ℕ, rules}
+use Rattle.std.proofs.Common.{◌≡◌, ℕ}
 use Rattle.std.specs.Global.{Vec}
 use Rattle.std.proofs.lemmas.Result.{IfOk-weaker}
 use Rattle.wi_graph.specs.Inner.Search.{IsConeOf}
 use Rattle.wi_graph.proofs.SearchSteps.{own_cone, found_listed}
 use Rattle.wi_graph.proofs.cone.listed_cone.Goals as goal
 
-pub returns-then-branch : goal.returns-then-branch
-returns-then-branch c =
+pub returns-then-are_alone : goal.returns-then-are_alone
+returns-then-are_alone c =
     let cells = c.args.cells.now in
     IfOk-weaker c.from_slice.result (λ (list : Vec ℕ). list.items ≡ cells) (λ list. IsConeOf c.args.readers.now cells list.items)
-    (λ list. own_cone c.args.readers.now cells list.items (c.in_ok-are_alone.ensures.order (search rules)) (c.in_ok-are_alone.ensures.unread (search rules))) c.from_slice.ensures.items
+    (λ list. own_cone c.args.readers.now cells list.items (c.are_alone.ensures.order c.if-are_alone.true) (c.are_alone.ensures.unread c.if-are_alone.true)) c.from_slice.ensures.items
 
 pub returns : goal.returns
 returns c =

@@ -1,6 +1,30 @@
-use Rattle.std.proofs.Common.{rules}
-use Rattle.wi_graph.proofs.TurningSteps.{same_turns}
+use Rattle.std.proofs.Common.{◌≡◌, ◌∷◌, [], ℕ, List, length, subst, sym, arith}
+use Rattle.std.proofs.lemmas.Grind.{common_steps}
+use Rattle.std.proofs.lemmas.List.{nil_from_length}
+use Rattle.std.specs.Map.{keys_of}
+use Rattle.wi_graph.specs.Inner.Search.{IsConeOf}
+use Rattle.wi_graph.proofs.SearchSteps.{lone_cone}
+use Rattle.wi_graph.proofs.TurningSteps.{nothing_turns, cone_is}
 use Rattle.wi_graph.proofs.turning.turns_of.Goals as goal
 
-pub returns-then-reads_stay : goal.returns-then-reads_stay
-returns-then-reads_stay c = same_turns c.args.rooms.now c.args.next.now.items c.args.circles.now c.no_turns.result c.requires.circles (search rules) c.no_turns.ensures.came c.no_turns.ensures.went
+pub returns-then-is_empty : goal.returns-then-is_empty
+returns-then-is_empty c =
+    let none : length c.args.next.now.items ≡ 0 = grind (arith, common_steps) in
+    nothing_turns c.args.rooms.now c.args.next.now.items c.args.circles.now c.no_turns.result c.requires.graph.circular (nil_from_length c.args.next.now.items none) c.no_turns.ensures.came c.no_turns.ensures.went
+
+pub turns_in-requires-clause-circles : goal.turns_in-requires-clause-circles
+turns_in-requires-clause-circles c = c.requires.graph.circular
+
+pub turns_in-requires-clause-order : goal.turns_in-requires-clause-order
+turns_in-requires-clause-order c = (lone_cone c.args.readers.now c.in-Some.cell c.in-Some.ensures.unread).order
+
+pub turns_in-requires-clause-cone : goal.turns_in-requires-clause-cone
+turns_in-requires-clause-cone c =
+    let cell = c.in-Some.cell in
+    let own = subst (λ (xs : List ℕ). IsConeOf c.args.readers.now xs (cell ∷ [])) (sym c.in-Some.ensures.alone) (lone_cone c.args.readers.now cell c.in-Some.ensures.unread) in
+    record {
+      order = c.requires.order;
+      changes = c.args.changes.now;
+      brings = c.requires.brings;
+      is_cone = cone_is c.args.rooms.now c.args.readers.now (keys_of c.args.changes.now) (cell ∷ []) c.requires.graph.ordered c.requires.graph.pairs own;
+    }

@@ -9,8 +9,8 @@ invariant_of-self-in-Ok c =
     let h = c.self.invariant in
     let ch = c.args.changes.items in
     let new = c.apply.new.self in
-    let staged_is : c.stage_alone.new.self ≡ staging i.graph.now (Some (edges_after i.graph.now ch)) =
-    c.in_ok-stage_alone.ensures.ok ∙ ap (λ (xs : List (ℕ × Option Content)). staging i.graph.now (Some (edges_after i.graph.now xs))) c.deref-3.ensures.value in
+    let staged_is : c.stage.new.self ≡ staging i.graph.now (Some (edges_after i.graph.now ch)) =
+    c.in_ok-stage.ensures.ok ∙ ap (λ (xs : List (ℕ × Option Content)). staging i.graph.now (Some (edges_after i.graph.now xs))) c.deref-3.ensures.value in
     let graph_is : c.commit.new.self ≡ staging (edges_after i.graph.now ch) None = c.commit.ensures ∙ ap (λ (x : Staging). staging (unwrap_or x.staged x.now) None) staged_is in
     let accepted : applied i.store ch ≡ Ok new = c.in-Ok.ensures in
     let edges = edges_applied i.graph.now i.store new ch h.1 accepted in
@@ -56,28 +56,28 @@ returns-in_err-owe-clause-same_generations c =
     let i = c.self.inside in
     on_err c.from_residual-in_err-owe.result (λ d. told_same i.store.sheet i.generations.named c.owe.new.self.named c.owe.ensures.named d ∙ ap (λ (k : KeptSheet). generation_in k.generations d) c.self.view_is)
 
-pub invariant_of-self-in_err-stage_alone : goal.invariant_of-self-in_err-stage_alone
-invariant_of-self-in_err-stage_alone c =
+pub invariant_of-self-in_err-stage : goal.invariant_of-self-in_err-stage
+invariant_of-self-in_err-stage c =
     let i = c.self.inside in
     let h = c.self.invariant in (
       h.0,
-      subst (λ (x : Staging). AreEdgesOf x.now i.store.sheet) (sym c.in_err-stage_alone.ensures.err) h.1,
-      ap (λ (x : Staging). x.staged) c.in_err-stage_alone.ensures.err ∙ h.2,
+      subst (λ (x : Staging). AreEdgesOf x.now i.store.sheet) (sym c.in_err-stage.ensures.err) h.1,
+      ap (λ (x : Staging). x.staged) c.in_err-stage.ensures.err ∙ h.2,
       right_unnamed i.store i.generations c.owe.new.self c.owe.ensures.named _ i.meter h.3,
       h.4,
       kept_up_more i.store.sheet i.generations c.owe.new.self i.store.edits c.owe.ensures.named c.owe.ensures.noted c.owe.ensures.stays h.5,
     )
 
-pub returns-in_err-stage_alone-clause-same_generations : goal.returns-in_err-stage_alone-clause-same_generations
-returns-in_err-stage_alone-clause-same_generations c =
+pub returns-in_err-stage-clause-same_generations : goal.returns-in_err-stage-clause-same_generations
+returns-in_err-stage-clause-same_generations c =
     let i = c.self.inside in
-    on_err c.from_residual-in_err-stage_alone.result (λ d. told_same i.store.sheet i.generations.named c.owe.new.self.named c.owe.ensures.named d ∙ ap (λ (k : KeptSheet). generation_in k.generations d) c.self.view_is)
+    on_err c.from_residual-in_err-stage.result (λ d. told_same i.store.sheet i.generations.named c.owe.new.self.named c.owe.ensures.named d ∙ ap (λ (k : KeptSheet). generation_in k.generations d) c.self.view_is)
 
 pub invariant_of-self-in-Err : goal.invariant_of-self-in-Err
 invariant_of-self-in-Err c =
     let i = c.self.inside in
     let h = c.self.invariant in
-    let staged_is : c.stage_alone.new.self ≡ staging i.graph.now (Some (edges_after i.graph.now c.deref-3.result.now)) = c.in_ok-stage_alone.ensures.ok in
+    let staged_is : c.stage.new.self ≡ staging i.graph.now (Some (edges_after i.graph.now c.deref-3.result.now)) = c.in_ok-stage.ensures.ok in
     let graph_is : c.rollback.new.self ≡ staging i.graph.now None = c.rollback.ensures ∙ ap (λ (x : Staging). staging x.now None) staged_is in
     let store_is : c.apply.new.self ≡ i.store = refused_same (applied i.store c.args.changes.items) c.in-Err.fault i.store c.apply.new.self c.in-Err.ensures in (
       h.0,

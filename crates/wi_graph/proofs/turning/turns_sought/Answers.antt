@@ -2,7 +2,7 @@ use Rattle.std.proofs.Common.{rules}
 use Rattle.wi_graph.proofs.TurningSteps.{same_turns, cone_is}
 use Rattle.wi_graph.proofs.ClosingSteps.{apart_turn, reach_turn}
 use Rattle.std.specs.Map.{keys_of}
-use Rattle.wi_graph.proofs.turning.turns_alone.Goals as goal
+use Rattle.wi_graph.proofs.turning.turns_sought.Goals as goal
 
 pub returns-then-reads_stay : goal.returns-then-reads_stay
 returns-then-reads_stay c = same_turns c.args.rooms.now c.args.next.now.items c.args.circles.now c.no_turns.result c.requires.graph.circular (search rules) c.no_turns.ensures.came c.no_turns.ensures.went
@@ -16,16 +16,16 @@ pub returns-in-None : goal.returns-in-None
 returns-in-None c =
     reach_turn c.args.rooms.now c.args.next.now.items c.args.circles.now c.args.changes.now c.no_turns-in-None.result c.requires.graph.circular c.requires.brings (rw c.in-None.is at c.in_ok-cone.ensures.apart) c.no_turns-in-None.ensures.came c.no_turns-in-None.ensures.went
 
-pub turns_of-requires-clause-circles : goal.turns_of-requires-clause-circles
-turns_of-requires-clause-circles c = c.requires.graph.circular
+pub turns_in-requires-clause-circles : goal.turns_in-requires-clause-circles
+turns_in-requires-clause-circles c = c.requires.graph.circular
 
-pub turns_of-requires-clause-order : goal.turns_of-requires-clause-order
-turns_of-requires-clause-order c =
+pub turns_in-requires-clause-order : goal.turns_in-requires-clause-order
+turns_in-requires-clause-order c =
     let k = rw c.in-Some.is at c.in_ok-cone.ensures.cone in
     rw c.deref.ensures.value k.order
 
-pub turns_of-requires-clause-cone : goal.turns_of-requires-clause-cone
-turns_of-requires-clause-cone c =
+pub turns_in-requires-clause-cone : goal.turns_in-requires-clause-cone
+turns_in-requires-clause-cone c =
     let k = rw c.in-Some.is at c.in_ok-cone.ensures.cone in
     record {
       order = c.requires.order;
