@@ -1,5 +1,5 @@
 -- Cones that are kept over an edit.
-use Rattle.wi_propagate.proofs.Words.{◌≡◌, ◌==◌, ◌&&◌, ◌||◌, ◌⊎◌, inl, inr, not, ℕ, Bool, true, false, List, [], ◌∷◌, Option, Some, None, IfSome, refl, ap, sym, ◌∙◌, subst, false≢true, or_left, Vec, keys_of, Content, Sheet, ReachTable, is_one_of, reaches, in_cone, Edges, AreEdgesOf, IsClosedUp, cone_has, cone_closed, same_reaches, is_itself, AreAllCones}
+use Rattle.wi_propagate.proofs.Words.{◌≡◌, ◌==◌, ◌&&◌, ◌||◌, ◌⊎◌, inl, inr, not, ℕ, Bool, true, false, List, [], ◌∷◌, refl, ap, sym, ◌∙◌, subst, false≢true, or_left, Sheet, ReachTable, reaches, in_cone, Edges, AreEdgesOf, IsClosedUp, cone_has, cone_closed, same_reaches, is_itself, AreAllCones}
 
 -- where nothing is told
 pub none_told : (s : Sheet) (t : ReachTable) → t ≡ record { known = []; reached = [] } → AreAllCones s t
@@ -15,19 +15,10 @@ cones_over es s t told a b h = record {
     same : (c x : ℕ) → reaches s c x ≡ reaches t c x
     same c x = same_reaches s t (λ d. sym (a d) ∙ b d) c x
 
--- ---- a cone that is given
-
 in_same_cone : (es : Edges) (s t : Sheet) → AreEdgesOf es s → AreEdgesOf es t → (xs : List ℕ) (c : ℕ) → in_cone s xs c ≡ in_cone t xs c
 in_same_cone es s t a b [] c = refl
 in_same_cone es s t a b (x ∷ xs) c =
     ap (λ (k : Bool). k || in_cone s xs c) (same_reaches s t (λ d. sym (a d) ∙ b d) c x) ∙ ap (λ (k : Bool). reaches t c x || k) (in_same_cone es s t a b xs c)
-
--- it is that of each sheet with these edges
-pub cone_given : (es : Edges) (sheet now : Sheet) (changes lent : List (ℕ × Option Content)) (o : Option (Vec ℕ)) → sheet ≡ now → lent ≡ changes → AreEdgesOf es sheet →
-    IfSome o (λ cone. (c : ℕ) → is_one_of cone.items c ≡ in_cone now (keys_of changes) c) → IfSome o (λ cone. (s : Sheet) → AreEdgesOf es s → (c : ℕ) → is_one_of cone.items c ≡ in_cone s (keys_of lent) c)
-cone_given es sheet now changes lent None e f a h = tt
-cone_given es sheet now changes lent (Some cone) e f a h = λ s b c. h c ∙ ap (λ (t : Sheet). in_cone t (keys_of changes) c) (sym e) ∙ in_same_cone es sheet s a b (keys_of changes) c
-    ∙ ap (λ (xs : List (ℕ × Option Content)). in_cone s (keys_of xs) c) (sym f)
 
 -- ---- watched cells
 

@@ -78,8 +78,8 @@ told_after s t xs old new k same l e c = at (in_cone s xs c) refl
 -- ---- what is noted late
 
 -- where none is owed, what is noted of a cell is its generation
-pub noted_is_told : (s : Sheet) (edits : ℕ) (g : Noted) → AreKeptUp s edits g → g.owed ≡ [] → (c : ℕ) → noted_in g c ≡ generation_in (told s g.named) c
-noted_is_told s edits g k e c = none_is_owed s (generation_in g.named) (noted_in g) g.owed c _ (λ x. ap (λ (xs : List ℕ). is_one_of xs x) e) k.owed (told_latest s g.named c)
+pub noted_is_told : (s : Sheet) (edits : ℕ) (g : Noted) → AreKeptUp s edits g → g.owed ≡ [] → (c : ℕ) → noted_in g.named g.noted c ≡ generation_in (told s g.named) c
+noted_is_told s edits g k e c = none_is_owed s (generation_in g.named) (noted_in g.named g.noted) g.owed c _ (λ x. ap (λ (xs : List ℕ). is_one_of xs x) e) k.owed (told_latest s g.named c)
 
 -- over an edit
 pub kept_up_after : (s t : Sheet) (xs : List ℕ) (old mid new : Noted) (edits n : ℕ) → SameOff s t xs → n ≡ edits + 1 →
@@ -87,7 +87,7 @@ pub kept_up_after : (s t : Sheet) (xs : List ℕ) (old mid new : Noted) (edits n
     ((c : ℕ) → generation_in new.named c ≡ numbered xs n (generation_in mid.named) c) → new.noted ≡ mid.noted → new.owed ≡ mid.owed → AreKeptUp s edits old → AreKeptUp t n new
 kept_up_after s t xs old mid new edits n same e named noted stays owed renamed again still k = record {
   past = λ c. past c (is_one_of xs c) (numbers c);
-  owed = λ c m l. after c m (edit_owes s t xs old.owed mid.owed (generation_in old.named) (noted_in old) n same below owed stays (λ d. (generation_in (told s old.named) d, told_latest s old.named d)) k.owed c m (same_numbers t (generation_in new.named) (numbered xs n (generation_in old.named)) c m numbers l));
+  owed = λ c m l. after c m (edit_owes s t xs old.owed mid.owed (generation_in old.named) (noted_in old.named old.noted) n same below owed stays (λ d. (generation_in (told s old.named) d, told_latest s old.named d)) k.owed c m (same_numbers t (generation_in new.named) (numbered xs n (generation_in old.named)) c m numbers l));
 }
   where
     numbers : (c : ℕ) → generation_in new.named c ≡ numbered xs n (generation_in old.named) c
@@ -106,23 +106,23 @@ kept_up_after s t xs old mid new edits n same e named noted stays owed renamed a
         let o = (k.owed c _ l).no_later in
         at (generation_in (told s old.named) c) o l.reached
       where
-        at : (m : ℕ) → noted_in old c ≤ m → (m ≡ 0) ⊎ ((d : ℕ) × Reaches s c d × (generation_in old.named d ≡ m)) → generation_in old.noted c ≤ n
+        at : (m : ℕ) → noted_in old.named old.noted c ≤ m → (m ≡ 0) ⊎ ((d : ℕ) × Reaches s c d × (generation_in old.named d ≡ m)) → generation_in old.noted c ≤ n
         at m o (inl z) = omega (arith, o, z)
         at m o (inr x) = let b = below x.0 in omega (arith, o, b, x.2)
 
     -- what is noted of a cell then
-    noted_then : (c : ℕ) → noted_in new c ≡ numbered xs n (noted_in old) c
+    noted_then : (c : ℕ) → noted_in new.named new.noted c ≡ numbered xs n (noted_in old.named old.noted) c
     noted_then c =
         ap (λ (m : ℕ). max m (generation_in new.noted c)) (numbers c) ∙ ap (λ (ns : Generations). max (numbered xs n (generation_in old.named) c) (generation_in ns c)) (again ∙ noted) ∙ at (is_one_of xs c)
       where
-        at : (b : Bool) → max (cond b n (generation_in old.named c)) (generation_in old.noted c) ≡ cond b n (noted_in old c)
+        at : (b : Bool) → max (cond b n (generation_in old.named c)) (generation_in old.noted c) ≡ cond b n (noted_in old.named old.noted c)
         at true = let b = noted_below c in omega (arith, b)
         at false = refl
 
-    after : (c m : ℕ) → IsOwed t (numbered xs n (generation_in old.named)) mid.owed (numbered xs n (noted_in old)) c m → IsOwed t (generation_in new.named) new.owed (noted_in new) c m
+    after : (c m : ℕ) → IsOwed t (numbered xs n (generation_in old.named)) mid.owed (numbered xs n (noted_in old.named old.noted)) c m → IsOwed t (generation_in new.named) new.owed (noted_in new.named new.noted) c m
     after c m o = record { no_later = subst (λ (x : ℕ). x ≤ m) (sym (noted_then c)) o.no_later; noted_or_owed = at o.noted_or_owed }
       where
-        at : (numbered xs n (noted_in old) c ≡ m) ⊎ ((x : ℕ) × (is_one_of mid.owed x ≡ true) × Reaches t c x × (numbered xs n (generation_in old.named) x ≡ m)) → (noted_in new c ≡ m) ⊎ ((x : ℕ) × (is_one_of new.owed x ≡ true) × Reaches t c x × (generation_in new.named x ≡ m))
+        at : (numbered xs n (noted_in old.named old.noted) c ≡ m) ⊎ ((x : ℕ) × (is_one_of mid.owed x ≡ true) × Reaches t c x × (numbered xs n (generation_in old.named) x ≡ m)) → (noted_in new.named new.noted c ≡ m) ⊎ ((x : ℕ) × (is_one_of new.owed x ≡ true) × Reaches t c x × (generation_in new.named x ≡ m))
         at (inl h) = inl (noted_then c ∙ h)
         at (inr x) = inr (x.0, ap (λ (ys : List ℕ). is_one_of ys x.0) still ∙ x.1, x.2, numbers x.0 ∙ x.3)
 
@@ -133,18 +133,18 @@ kept_up_more s old new edits named noted stays k = record {
   owed = λ c n l. owed c n (k.owed c n (same_numbers s (generation_in new.named) (generation_in old.named) c n named l));
 }
   where
-    noted_then : (c : ℕ) → noted_in new c ≡ noted_in old c
+    noted_then : (c : ℕ) → noted_in new.named new.noted c ≡ noted_in old.named old.noted c
     noted_then c = ap (λ (m : ℕ). max m (generation_in new.noted c)) (named c) ∙ ap (λ (ns : Generations). max (generation_in old.named c) (generation_in ns c)) noted
 
-    owed : (c n : ℕ) → IsOwed s (generation_in old.named) old.owed (noted_in old) c n → IsOwed s (generation_in new.named) new.owed (noted_in new) c n
+    owed : (c n : ℕ) → IsOwed s (generation_in old.named) old.owed (noted_in old.named old.noted) c n → IsOwed s (generation_in new.named) new.owed (noted_in new.named new.noted) c n
     owed c n o = record { no_later = subst (λ (x : ℕ). x ≤ n) (sym (noted_then c)) o.no_later; noted_or_owed = at o.noted_or_owed }
       where
-        at : (noted_in old c ≡ n) ⊎ ((x : ℕ) × (is_one_of old.owed x ≡ true) × Reaches s c x × (generation_in old.named x ≡ n)) → (noted_in new c ≡ n) ⊎ ((x : ℕ) × (is_one_of new.owed x ≡ true) × Reaches s c x × (generation_in new.named x ≡ n))
+        at : (noted_in old.named old.noted c ≡ n) ⊎ ((x : ℕ) × (is_one_of old.owed x ≡ true) × Reaches s c x × (generation_in old.named x ≡ n)) → (noted_in new.named new.noted c ≡ n) ⊎ ((x : ℕ) × (is_one_of new.owed x ≡ true) × Reaches s c x × (generation_in new.named x ≡ n))
         at (inl h) = inl (noted_then c ∙ h)
         at (inr x) = inr (x.0, stays x.0 x.1, x.2, named x.0 ∙ x.3)
 
 -- and where it was settled
-pub settled_up : (s : Sheet) (edits : ℕ) (old new : Noted) → new.named ≡ old.named → AreOwed s (generation_in new.named) new.owed (noted_in new) → AreKeptUp s edits old → AreKeptUp s edits new
+pub settled_up : (s : Sheet) (edits : ℕ) (old new : Noted) → new.named ≡ old.named → AreOwed s (generation_in new.named) new.owed (noted_in new.named new.noted) → AreKeptUp s edits old → AreKeptUp s edits new
 settled_up s edits old new e o k = record { past = λ c. subst (λ (ns : Generations). generation_in ns c ≤ edits) (sym e) (k.past c); owed = o }
 
 -- ---- a cell of a map of numbers is one of its keys, and the other way round
@@ -180,10 +180,10 @@ none_kept_up s n g e = subst (AreKeptUp s n) (sym e) (record {
   owed = λ c m l. at c m l.reached;
 })
   where
-    owes : (m : ℕ) → m ≡ 0 → (c : ℕ) → IsOwed s (generation_in []) [] (noted_in no_numbers) c m
+    owes : (m : ℕ) → m ≡ 0 → (c : ℕ) → IsOwed s (generation_in []) [] (noted_in no_numbers.named no_numbers.noted) c m
     owes m z c = record { no_later = omega arith; noted_or_owed = inl (sym z) }
 
-    at : (c m : ℕ) → (m ≡ 0) ⊎ ((d : ℕ) × Reaches s c d × (generation_in [] d ≡ m)) → IsOwed s (generation_in []) [] (noted_in no_numbers) c m
+    at : (c m : ℕ) → (m ≡ 0) ⊎ ((d : ℕ) × Reaches s c d × (generation_in [] d ≡ m)) → IsOwed s (generation_in []) [] (noted_in no_numbers.named no_numbers.noted) c m
     at c m (inl z) = owes m z c
     at c m (inr x) = owes m (sym x.2) c
 

@@ -36,7 +36,7 @@ pub use Rattle.wi_engine.specs.Inner.Spends.{IsSameBeside, Saved, Spends}
 pub use Rattle.wi_functions.specs.Counts.{Counts}
 pub use Rattle.wi_functions.specs.Meaning.{zero_for_empty}
 pub use Rattle.wi_graph.proofs.Agreement.{circular_same}
-pub use Rattle.wi_graph.proofs.ChangeSteps.{cells_step}
+pub use Rattle.wi_graph.proofs.ChangeSteps.{cells_step, lone_key}
 pub use Rattle.wi_graph.proofs.Cones.{cone_closed, cone_has, cone_stays, outside_circular, outside_content, outside_reaches}
 pub use Rattle.wi_graph.proofs.EdgeLemmas.{edges_follow}
 pub use Rattle.wi_graph.proofs.GraphSteps.{same_reaches}
@@ -49,6 +49,7 @@ pub use Rattle.wi_graph.proofs.Tests.{clash}
 pub use Rattle.wi_graph.proofs.Walks.{formula_cell, reader_formula, same_cell, same_tests}
 pub use Rattle.wi_graph.specs.Circular.{circular}
 pub use Rattle.wi_graph.specs.Edges.{AreEdgesOf, Edges, Staging, brought, edges_after, sheet_after, staging}
+pub use Rattle.wi_graph.specs.Inner.Below.{has_seen}
 pub use Rattle.wi_graph.specs.Latest.{AreOwed, IsLatest, IsOwed, IsSettling, IsUnread, latest_among, numbered}
 pub use Rattle.wi_graph.specs.Reach.{IsInCone, Reaches, SameOff, Walks, in_cone, is_one_of, reaches}
 pub use Rattle.wi_graph.specs.Watched.{IsClosedUp}
@@ -60,7 +61,7 @@ pub use Rattle.wi_propagate.specs.Inner.Keeping.{HasGeneration, IsKeepingRight, 
 pub use Rattle.wi_propagate.specs.Inner.Noted.{AreKeptUp, Noted, noted_in}
 unfoldable pub use Rattle.wi_propagate.specs.Inner.Noted.{told}
 pub use Rattle.wi_propagate.specs.Inner.Owes.{Owes}
-pub use Rattle.wi_propagate.specs.Inner.Settling.{has_seen, higher, second_cells}
+pub use Rattle.wi_propagate.specs.Inner.Settling.{second_cells}
 pub use Rattle.wi_propagate.specs.KeptSheet.{Generations, HasRoomFor, IsAtHand, KeepsAll, KeepsNoMore, KeepsOld, KeepsWhileRoom, KeptSheet, generation_in, gone, is_kept, key_in, stands, unkept}
 pub use Rattle.wi_propagate.specs.Right.{AreKeptRight, AreRight, IsKeptFor, IsRight}
 pub use Rattle.wi_sheet.proofs.Bounds.{bound_not_felt}

@@ -56,23 +56,6 @@ pub trait Calculator {
         ensures same_evaluations { evaluated self.new ≡ evaluated self.old }
         ensures same_restarts { restarted self.new ≡ restarted self.old };
 
-    /// The same, where the cells that it marks are at hand: those that `mark` finds for the cells of the changes.
-    fn apply_marked(
-        &mut self,
-        changes: Vec<(Address, Option<Content>)>,
-        cells: Vec<Address>,
-    ) -> Result<(), StoreFault>
-        requires { (c : ℕ) → is_one_of cells.items c
-            ≡ marked (stored self.old).sheet (keys_of changes.items) c }
-        ensures applied { Applies (applied (stored self.old) changes.items) result
-            (stored self.old) (stored self.new) }
-        ensures same_evaluations { evaluated self.new ≡ evaluated self.old }
-        ensures same_restarts { restarted self.new ≡ restarted self.old }
-    {
-        drop(cells);
-        self.apply(changes)
-    }
-
     /// What a cell shows under replacements, which stand in the order of their addresses, one for each. No sheet is
     /// copied.
     fn value(&mut self, put: &[Replacement], at: Address) -> Result<Value, AllocError>

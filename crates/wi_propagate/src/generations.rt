@@ -59,7 +59,7 @@ impl Generations {
 
     /// What is noted of a cell: its generation, where none is owed.
     pub fn generation_of(&self, at: Address) -> u64
-        ensures { result ≡ noted_in self.now at }
+        ensures { result ≡ noted_in self.now.named self.now.noted at }
     {
         greater(number_at(&self.named, at), number_at(&self.noted, at))
     }
@@ -95,10 +95,10 @@ impl Generations {
     pub fn settle(&mut self, graph: &Graph) -> Result<(), AllocError>
         requires staged { graph.now.staged ≡ None }
         requires owed { (s : Sheet) → AreEdgesOf graph.now.now s
-            → AreOwed s (generation_in self.old.named) self.old.owed (noted_in self.old) }
+            → AreOwed s (generation_in self.old.named) self.old.owed (noted_in self.old.named self.old.noted) }
         ensures named { self.new.named ≡ self.old.named }
         ensures owed { (s : Sheet) → AreEdgesOf graph.now.now s
-            → AreOwed s (generation_in self.new.named) self.new.owed (noted_in self.new) }
+            → AreOwed s (generation_in self.new.named) self.new.owed (noted_in self.new.named self.new.noted) }
         ensures settled { OnOk result (self.new.owed ≡ []) }
     {
         if self.owed.is_empty() {

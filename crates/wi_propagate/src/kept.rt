@@ -1,6 +1,6 @@
 //! A calculator that keeps what it has calculated.
 
-ghost use Rattle.std.specs.Prelude.{◌≡◌, ◌≤◌, ◌+◌, ◌||◌, [], ℕ, Some, None, true, false, if◌then◌else◌, length, sum_by, All, IfOk, OnOk, OnErr, is_ok};
+ghost use Rattle.std.specs.Prelude.{◌≡◌, ◌≤◌, ◌⊎◌, ◌+◌, ◌&&◌, ◌||◌, ◌∷◌, [], ℕ, not, Some, None, true, false, if◌then◌else◌, length, sum_by, All, IfSome, IfOk, OnOk, OnErr, is_ok};
 ghost use Rattle.std.specs.List.{list_any};
 ghost use Rattle.std.specs.List.Sorted.{IsStrictlyIncreasing};
 ghost use Rattle.std.specs.Map.{keys_of};
@@ -137,14 +137,40 @@ impl KeptCalculator {
         ensures same_generations { OnErr result ((c : ℕ)
             → generation_in self.new.generations c ≡ generation_in self.old.generations c) }
     {
-        let cells = changed_cells(self.alloc, &changes)?;
-        self.generations.owe(&self.graph, &cells)?;
+        match lone_cell(&changes) {
+            Some(at) => self.edit_cells(changes, &[at]),
+            None => {
+                let cells = changed_cells(self.alloc, &changes)?;
+                self.edit_cells(changes, &cells)
+            }
+        }
+    }
+
+    // The same, where the cells of the changes are at hand.
+    fn edit_cells(
+        &mut self,
+        changes: Vec<(Address, Option<Content>)>,
+        cells: &[Address],
+    ) -> Result<(), StoreFault>
+        requires { cells.now ≡ keys_of changes.items }
+        ensures applied { Applies
+            (applied self.old.stored changes.items) result self.old.stored self.new.stored }
+        ensures same_counts { self.new.counts ≡ self.old.counts }
+        ensures same_values { self.new.values ≡ self.old.values }
+        ensures generations { let cells = keys_of changes.items in
+            OnOk result ((c : ℕ) → generation_in self.new.generations c
+            ≡ (if in_cone self.old.stored.sheet cells c then self.new.stored.edits
+            else generation_in self.old.generations c)) }
+        ensures same_generations { OnErr result ((c : ℕ)
+            → generation_in self.new.generations c ≡ generation_in self.old.generations c) }
+    {
+        self.generations.owe(&self.graph, cells)?;
         self.graph.stage(&changes)?;
         match self.store.apply(changes) {
             Ok(()) => {
                 keep_over_edit(self.alloc, &self.graph, &mut self.cones);
                 self.graph.commit();
-                self.generations.name(&cells, self.store.edits());
+                self.generations.name(cells, self.store.edits());
                 Ok(())
             }
             Err(fault) => {
@@ -297,29 +323,6 @@ impl Calculator for KeptCalculator {
         self.edit(changes)
     }
 
-    /// The same; the cells that are marked aren't needed.
-    fn apply_marked(
-        &mut self,
-        changes: Vec<(Address, Option<Content>)>,
-        cells: Vec<Address>,
-    ) -> Result<(), StoreFault>
-        requires { (c : ℕ)
-            → is_one_of cells.items c ≡ in_cone self.old.stored.sheet (keys_of changes.items) c }
-        ensures applied { Applies
-            (applied self.old.stored changes.items) result self.old.stored self.new.stored }
-        ensures same_counts { self.new.counts ≡ self.old.counts }
-        ensures same_values { self.new.values ≡ self.old.values }
-        ensures generations { let cells = keys_of changes.items in
-            OnOk result ((c : ℕ) → generation_in self.new.generations c
-            ≡ (if in_cone self.old.stored.sheet cells c then self.new.stored.edits
-            else generation_in self.old.generations c)) }
-        ensures same_generations { OnErr result ((c : ℕ)
-            → generation_in self.new.generations c ≡ generation_in self.old.generations c) }
-    {
-        drop(cells);
-        self.edit(changes)
-    }
-
     /// What a cell shows under replacements. A formula is evaluated where its value is not kept, and its value is kept then.
     /// A cell that is circular takes no look at the replacements, and one without a formula that isn't replaced a search among
     /// them, with work that grows with the logarithm of their count. For any other all are compared with those of the last two
@@ -433,7 +436,18 @@ impl Calculator for KeptCalculator {
         &self,
         cells: &[Address],
         watch: &W,
-    ) -> Result<Vec<Address>, AllocError> {
+    ) -> Result<Vec<Address>, AllocError>
+        requires { let sheet = self.now.stored.sheet in
+            (a c : ℕ) → W.watched watch.now a ≡ true → in_cone sheet (a ∷ []) c ≡ true → W.watched watch.now c ≡ true }
+        ensures order { IfOk result (λ found. IsStrictlyIncreasing found.items) }
+        ensures exact { let sheet = self.now.stored.sheet in
+            IfOk result (λ found. (c : ℕ) → is_one_of found.items c ≡ (in_cone sheet cells.now c && not (W.watched watch.now c))) }
+        ensures marked { let sheet = self.now.stored.sheet in
+            IfOk result (λ found. (c : ℕ) → is_one_of found.items c ≡ true → in_cone sheet cells.now c ≡ true) }
+        ensures others { let sheet = self.now.stored.sheet in
+            IfOk result (λ found. (c : ℕ) → in_cone sheet cells.now c ≡ true
+            → (is_one_of found.items c ≡ true) ⊎ (W.watched watch.now c ≡ true)) }
+    {
         self.graph.cone_beyond(cells, watch)
     }
 
@@ -446,6 +460,17 @@ impl Calculator for KeptCalculator {
     }
 
     ghost marks = { cone_marks };
+}
+
+// The cell of an edit of one cell.
+fn lone_cell(changes: &[(Address, Option<Content>)]) -> Option<Address>
+    ensures { IfSome result (λ at. keys_of changes.now ≡ at ∷ []) }
+{
+    if changes.len() != 1 {
+        return None;
+    }
+    let change = &changes[0];
+    Some(change.0)
 }
 
 // The cells of an edit.

@@ -9,7 +9,9 @@ ghost use Rattle.wi_graph.specs.Watched.{IsClosedUp};
 ghost use Rattle.wi_graph.specs.Latest.{AreOwed};
 ghost use Rattle.wi_propagate.specs.KeptSheet.{generation_in};
 ghost use Rattle.wi_propagate.specs.Inner.Keeping.{HasGeneration};
-ghost use Rattle.wi_propagate.specs.Inner.Settling.{higher, second_cells, has_seen};
+ghost use Rattle.wi_graph.specs.Inner.Below.{has_seen};
+ghost use Rattle.wi_propagate.specs.Inner.Noted.{noted_in};
+ghost use Rattle.wi_propagate.specs.Inner.Settling.{second_cells};
 
 use crate::generations::{Numbers, greater, make_room, number_at};
 use std::alloc::{AllocError, Global};
@@ -24,7 +26,7 @@ struct Seen<'a> {
 }
 
 impl<'a> Watch for Seen<'a> {
-    ghost use Rattle.wi_propagate.specs.Inner.Settling.{has_seen};
+    ghost use Rattle.wi_graph.specs.Inner.Below.{has_seen};
 
     ghost watched = { λ w. has_seen w.cells.now };
 
@@ -44,9 +46,9 @@ pub fn settle_all(
 ) -> Result<(), AllocError>
     requires staged { graph.now.staged ≡ None }
     requires owed { (s : Sheet) → AreEdgesOf graph.now.now s
-        → AreOwed s (generation_in named.now.entries) (keys_of owed.old.entries) (higher named.now.entries noted.old.entries) }
+        → AreOwed s (generation_in named.now.entries) (keys_of owed.old.entries) (noted_in named.now.entries noted.old.entries) }
     ensures owed { (s : Sheet) → AreEdgesOf graph.now.now s
-        → AreOwed s (generation_in named.now.entries) (keys_of owed.new.entries) (higher named.now.entries noted.new.entries) }
+        → AreOwed s (generation_in named.now.entries) (keys_of owed.new.entries) (noted_in named.now.entries noted.new.entries) }
     ensures settled { OnOk result (keys_of owed.new.entries ≡ []) }
 {
     let mut order = by_number(alloc, named, owed)?;

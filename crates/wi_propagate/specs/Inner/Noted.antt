@@ -13,8 +13,8 @@ pub record Noted : Type 0 where
   pub owed : List ℕ
 
 -- what is noted of a cell, its own edits included
-abbrev pub noted_in : Noted → ℕ → ℕ
-noted_in g c = max (generation_in g.named c) (generation_in g.noted c)
+abbrev pub noted_in : Generations → Generations → ℕ → ℕ
+noted_in named noted c = max (generation_in named c) (generation_in noted c)
 
 -- the generations that these numbers tell of a sheet's cells
 unfoldable pub told : Sheet → Generations → Generations
@@ -23,4 +23,4 @@ told s ns = map (λ c. (c, latest_among s (generation_in ns) (keys_of ns) c)) (k
 -- the numbers are of edits that were accepted, and of each cell its generation is noted or owed
 pub record AreKeptUp (s : Sheet) (edits : ℕ) (g : Noted) : Type 0 where
   pub past : (c : ℕ) → generation_in g.named c ≤ edits
-  pub owed : AreOwed s (generation_in g.named) g.owed (noted_in g)
+  pub owed : AreOwed s (generation_in g.named) g.owed (noted_in g.named g.noted)

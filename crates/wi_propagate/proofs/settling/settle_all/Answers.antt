@@ -1,4 +1,4 @@
-use Rattle.wi_propagate.proofs.Words.{◌∙◌, ap, sym, subst, rules, arith, keys_of, Sheet, AreEdgesOf, AreOwed, Generations, generation_in, higher, second_cells, has_seen}
+use Rattle.wi_propagate.proofs.Words.{◌∙◌, ap, sym, subst, rules, arith, keys_of, Sheet, AreEdgesOf, AreOwed, Generations, generation_in, noted_in, second_cells, has_seen}
 use Rattle.wi_propagate.proofs.SettlingSteps.{settling_first, settling_again, settling_more, settling_stays, settling_ends, last_part, part_within}
 use Rattle.wi_propagate.proofs.settling.settle_all.Goals as goal
 
@@ -30,14 +30,14 @@ cells-preserved c =
 pub returns-in_err-settle_one-clause-owed : goal.returns-in_err-settle_one-clause-owed
 returns-in_err-settle_one-clause-owed c =
     let named = c.args.named.now.entries in
-    let whole : (s : Sheet) → AreEdgesOf c.args.graph.now.now s → AreOwed s (generation_in named) (keys_of c.args.owed.now.entries) (higher named c.settle_one.new.noted.entries) =
+    let whole : (s : Sheet) → AreEdgesOf c.args.graph.now.now s → AreOwed s (generation_in named) (keys_of c.args.owed.now.entries) (noted_in named c.settle_one.new.noted.entries) =
     settling_stays c.args.graph.now.now named c.cells.noted.entries c.settle_one.new.noted.entries (keys_of c.args.owed.now.entries) (second_cells c.cells.order.items) (has_seen c.cells.seen) c.cells.last c.in_err-settle_one.ensures.err c.cells.invariant.within
     c.cells.invariant.settling in
     search whole
 
 pub returns-clause-owed : goal.returns-clause-owed
 returns-clause-owed c = λ s a.
-    subst (λ (es : Generations). AreOwed s (generation_in c.args.named.now.entries) (keys_of es) (higher c.args.named.now.entries c.cells.noted.entries)) (sym c.clear.ensures)
+    subst (λ (es : Generations). AreOwed s (generation_in c.args.named.now.entries) (keys_of es) (noted_in c.args.named.now.entries c.cells.noted.entries)) (sym c.clear.ensures)
     (settling_ends c.args.graph.now.now c.args.named.now.entries c.cells.noted.entries c.cells.order.items (has_seen c.cells.seen) c.cells.last (search rules) c.cells.invariant.settling s a)
 
 pub returns-clause-settled : goal.returns-clause-settled

@@ -107,7 +107,7 @@ pub settle-requires-clause-owed : goal.settle-requires-clause-owed
 settle-requires-clause-owed c =
     let i = c.self.inside in
     let h = c.self.invariant in
-    λ s a. owed_over i.graph.now i.store.sheet s (generation_in i.generations.named) i.generations.owed (noted_in i.generations) h.1 a h.5.owed
+    λ s a. owed_over i.graph.now i.store.sheet s (generation_in i.generations.named) i.generations.owed (noted_in i.generations.named i.generations.noted) h.1 a h.5.owed
 
 pub new-memo-requires-clause-kept_up : goal.new-memo-requires-clause-kept_up
 new-memo-requires-clause-kept_up c =
