@@ -49,6 +49,16 @@ impl Few {
         }
     }
 
+    /// One of them is there. This is a law: the call changes nothing.
+    pub(crate) fn has_one(&self)
+        ensures { (c : ℕ) × (has_cell self.now c ≡ true) }
+    {
+        match &self.held {
+            Held::One(_) => {}
+            Held::More(many) => many.has_one(),
+        }
+    }
+
     /// Puts one more in if there is room for it, and answers whether there is. If memory runs out, all is as before.
     pub(crate) fn add(&mut self, alloc: Global, cell: Address) -> Result<bool, AllocError>
         ensures more { IfOk result (λ added. IsTrue added → self.new ≡ self.old ++ cell ∷ []) }
@@ -130,7 +140,7 @@ impl Many {
     }
 
     /// One of them is there. This is a law: the call does nothing.
-    pub(crate) fn has_one(&self)
+    fn has_one(&self)
         ensures { (c : ℕ) × (has_cell self.now c ≡ true) }
     {
         let _ = &self.first;
