@@ -86,8 +86,8 @@ invariant_of-self-in-Err c =
       subst (λ (x : Stored). AreKeptUp x.sheet x.edits c.owe.new.self) (sym store_is) (kept_up_more i.store.sheet i.generations c.owe.new.self i.store.edits c.owe.ensures.named c.owe.ensures.noted c.owe.ensures.stays h.5),
     )
 
-pub returns-clause-same_generations : goal.returns-clause-same_generations
-returns-clause-same_generations c =
+pub returns-in-Err-clause-same_generations : goal.returns-in-Err-clause-same_generations
+returns-in-Err-clause-same_generations c =
     let i = c.self.inside in
     let store_is : c.apply.new.self ≡ i.store = refused_same (applied i.store c.args.changes.items) c.in-Err.fault i.store c.apply.new.self c.in-Err.ensures in
     let whole : (d : ℕ) → generation_in (told c.apply.new.self.sheet c.owe.new.self.named) d ≡ generation_in c.args.self.now.generations d = λ d.
