@@ -1,5 +1,5 @@
 -- What an edit is answered, and what is pending after it.
-use Rattle.std.proofs.Common.{◌≡◌, ◌==◌, ◌<◌, ◌≤◌, ◌+◌, ◌-◌, ℕ, zero, suc, Bool, true, false, not, ◌&&◌, ◌||◌, ◌⊎◌, inl, inr, List, [], ◌∷◌, ◌++◌, length, get_or, map, take, ◌≢◌, ⊎_elim, Option, Some, None, Result, Ok, Err, refl, sym, ap, ◌∙◌, subst, arith}
+use Rattle.std.proofs.Common.{◌≡◌, ◌==◌, ◌<◌, ◌≤◌, ◌-◌, ℕ, zero, suc, Bool, true, false, not, ◌&&◌, ◌||◌, ◌⊎◌, inl, inr, List, [], ◌∷◌, ◌++◌, length, get_or, map, take, ⊎_elim, Option, Some, None, Result, Ok, Err, refl, sym, ap, ◌∙◌, subst, arith}
 use Rattle.std.specs.List.{slice_index_or}
 use Rattle.std.specs.Prelude.{MatchResult, IfOk}
 use Rattle.std.specs.Result.{IsErrAnd}
@@ -7,7 +7,7 @@ use Rattle.std.proofs.lemmas.Result.{err_from_is_err_and}
 use Rattle.std.specs.Map.{keys_of}
 use Rattle.std.proofs.Math.Seq.{take-append_seam}
 use Rattle.std.proofs.lemmas.List.{length-append}
-use Rattle.std.proofs.lemmas.Bool.{cases_eq, cases_lt, false_from_ne_true, false≢true, or_left, or_right, or_parts, or_cases}
+use Rattle.std.proofs.lemmas.Bool.{cases_lt, false_from_ne_true, false≢true, or_left, or_right, or_parts, or_cases}
 use Rattle.std.proofs.lemmas.Map.Entries.{length-keys_of}
 use Rattle.std.proofs.lemmas.Bool.Decides.{nat_tests}
 use Rattle.wi_values.specs.Address.{Area}
@@ -198,25 +198,13 @@ module _ (marked : Sheet → List ℕ → ℕ → Bool) (s : Stored) (d : Desk) 
 
 -- ---- rooms for them
 
--- the sessions before the i-th have rooms, and those from it on have none
-pub record HaveRooms (cells : List ℕ) (r : Roster) (i : ℕ) : Type 0 where
-  pub done : (j a : ℕ) → j < i → is_listed (vacant_of r j) a ≡ (is_listed cells a && not (is_listed (pending_of r j) a))
-  pub left : (j : ℕ) → i ≤ j → vacant_of r j ≡ []
-
-pub rooms_more : (cells : List ℕ) (r q : Roster) (i : ℕ) → q.pending ≡ r.pending
-    → ((a : ℕ) → is_listed (vacant_of q i) a ≡ (is_listed (vacant_of r i) a || (is_listed cells a && not (is_listed (pending_of r i) a))))
-    → ((j : ℕ) → j ≢ i → vacant_of q j ≡ vacant_of r j) → HaveRooms cells r i → HaveRooms cells q (i + 1)
-rooms_more cells r q i same room others h = record {
-  done = λ j a l. ⊎_elim
-      (λ (e : j ≡ i). ap (λ (k : ℕ). is_listed (vacant_of q k) a) e ∙ room a ∙ ap (λ (xs : List ℕ). is_listed xs a || (is_listed cells a && not (is_listed (pending_of r i) a))) (h.left i (omega arith))
-      ∙ ap (λ (k : ℕ). is_listed cells a && not (is_listed (pending_of r k) a)) (sym e) ∙ pending j a)
-      (λ (n : j ≢ i). ap (λ (xs : List ℕ). is_listed xs a) (others j n) ∙ h.done j a (omega (arith, l, n)) ∙ pending j a)
-      (cases_eq j i);
-  left = λ j l. others j (λ e. let n : ⊥ = omega (arith, l, e) in n) ∙ h.left j (omega (arith, l));
-}
-  where
-    pending : (j a : ℕ) → (is_listed cells a && not (is_listed (pending_of r j) a)) ≡ (is_listed cells a && not (is_listed (pending_of q j) a))
-    pending j a = ap (λ (xss : List (List ℕ)). is_listed cells a && not (is_listed (slice_index_or xss j []) a)) (sym same)
+-- each session has room for those that aren't pending for it, where none had any
+pub rooms_made : (cells : List ℕ) (r q : Roster) → ((i : ℕ) → vacant_of r i ≡ []) → q.sessions ≡ r.sessions → q.pending ≡ r.pending
+    → ((i a : ℕ) → i < length r.sessions → is_listed (vacant_of q i) a ≡ (is_listed (vacant_of r i) a || (is_listed cells a && not (is_listed (pending_of r i) a)))) → HasRooms cells q
+rooms_made cells r q none sessions pending room = λ i a l.
+    room i a (subst (λ (xs : List Session). i < length xs) sessions l)
+    ∙ ap (λ (xs : List ℕ). is_listed xs a || (is_listed cells a && not (is_listed (pending_of r i) a))) (none i)
+    ∙ ap (λ (xss : List (List ℕ)). is_listed cells a && not (is_listed (slice_index_or xss i []) a)) (sym pending)
 
 -- ---- what is pending after it
 

@@ -66,7 +66,7 @@ fn find<C: Calculator>(
         C.restarted calculator.new ≤ C.restarted calculator.old + pending_restarts state (pending_in desk.now) }
     ensures none { pending_for (pending_in desk.now) desk.now.current ≡ [] → IfOk result (λ found. found.items ≡ []) }
 {
-    let cells = desk.sessions.pending(desk.current).cells()?;
+    let cells = desk.sessions.pending_cells(desk.current)?;
     if cells.is_empty() {
         return Ok(Vec::new(alloc));
     }

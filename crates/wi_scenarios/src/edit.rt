@@ -223,10 +223,7 @@ fn make_rooms(sessions: &mut Sessions, cells: &[Address]) -> Result<(), AllocErr
     ensures pending { sessions.new.pending ≡ sessions.old.pending }
     ensures rooms { OnOk result (HasRooms cells.now sessions.new) }
 {
-    for i in 0..sessions.len() {
-        sessions.make_room(i, cells)?;
-    }
-    Ok(())
+    sessions.make_room_all(cells)
 }
 
 /// Edits the sheet and notes it in the log. On an error both are as before.

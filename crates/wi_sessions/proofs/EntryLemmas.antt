@@ -1,14 +1,12 @@
 -- What stands in a map by cell once something is put in, replaced or taken away.
-use Rattle.std.proofs.Common.{◌≡◌, ◌==◌, ◌||◌, ◌&&◌, ℕ, Bool, true, false, cond, not, List, [], ◌∷◌, filter, Option, Some, None, refl, sym, ap, subst, ◌∙◌, arith}
-use Rattle.std.proofs.Math.Bool.{and-false, and-true, or-false, or-true}
+use Rattle.std.proofs.Common.{◌≡◌, ◌==◌, ℕ, Bool, true, false, cond, not, List, [], ◌∷◌, filter, Option, Some, None, refl, sym, ap, subst, ◌∙◌, arith}
 use Rattle.std.specs.Prelude.{unwrap_or}
-use Rattle.std.specs.Borrow.{Bor}
-use Rattle.std.specs.Option.{is_some, option_copied, IsSome}
+use Rattle.std.specs.Option.{is_some, IsSome}
 use Rattle.std.specs.List.Sorted.{IsStrictlySortedBy}
 use Rattle.std.specs.Ordering.{nat_cmp}
 use Rattle.std.specs.Map.{keys_of, lookup, remove_entry, set_value}
 use Rattle.std.specs.BTreeMap.{is_at, insert_entry}
-use Rattle.std.proofs.lemmas.Bool.{eqb-true, ne_eqb}
+use Rattle.std.proofs.lemmas.Bool.{eqb-true, ne_eqb, true≢false}
 use Rattle.std.proofs.lemmas.Cmp.{eq_by_cmp_equiv, nat_cmp_total}
 use Rattle.std.proofs.lemmas.Map.{keys-set_value, lookup-set_value}
 use Rattle.std.proofs.lemmas.Map.Made.{is_some-lookup}
@@ -17,16 +15,7 @@ use Rattle.wi_values.proofs.Order.{Ascends, Ascends-filter, Ascends-from_order, 
 use Rattle.wi_sessions.specs.Pictures.Laws.{is_listed}
 use Rattle.wi_sessions.proofs.CellLemmas.{found_listed}
 
-there_already : (s t : Bool) → (t ≡ true → s ≡ true) → s ≡ (s || t)
-there_already true t h = refl
-there_already false true h = h refl
-there_already false false h = refl
-
 module _ {X : Type 0} where
-  pub is_some-lent : (o : Option (Bor X)) → is_some o ≡ is_some (option_copied o)
-  is_some-lent None = refl
-  is_some-lent (Some b) = refl
-
   -- whether a cell has something, as a look-up tells it
   pub has_listed : (es : List (ℕ × X)) (q : ℕ) → is_some (lookup (is_at (nat_cmp q)) es) ≡ is_listed (keys_of es) q
   has_listed es q = is_some-lookup (is_at (nat_cmp q)) es ∙ found_listed q (keys_of es)
@@ -59,21 +48,17 @@ module _ {X : Type 0} where
           ap (λ (ds : List (ℕ × X)). lookup (is_at (nat_cmp q)) ds) g ∙ found-insert es at x q
           ∙ ap (λ (b : Bool). cond b (Some x) (lookup (is_at (nat_cmp q)) es)) (turn_test q at ∙ sym (is_at-eq at q))
 
-  one_or : (t : Bool) (x : X) (o : Option X) → is_some (cond t (Some x) o) ≡ (is_some o || t)
-  one_or true x o = sym (or-true (is_some o))
-  one_or false x o = sym (or-false (is_some o))
+  -- whether something stood there
+  pub nothing_there : (o : Option X) (new : Bool) → new ≡ not (is_some o) → new ≡ true → o ≡ None
+  nothing_there None new e t = refl
+  nothing_there (Some x) new e t = absurd (true≢false (sym t ∙ e))
 
-  pub listed-with_new : (es new : List (ℕ × X)) (at : ℕ) (x : X) → new ≡ with_new es at x → (q : ℕ) → is_listed (keys_of new) q ≡ (is_listed (keys_of es) q || (at == q))
-  listed-with_new es new at x e q = by (is_some (lookup (is_at (nat_cmp at)) es)) (has_listed es at) e
-    where
-      by : (b : Bool) → b ≡ is_listed (keys_of es) at → new ≡ cond b es (insert_entry nat_cmp es at x) → is_listed (keys_of new) q ≡ (is_listed (keys_of es) q || (at == q))
-      by true t f =
-          ap (λ (ds : List (ℕ × X)). is_listed (keys_of ds) q) f
-          ∙ there_already (is_listed (keys_of es) q) (at == q) (λ s. ap (is_listed (keys_of es)) (sym (eqb-true at q s)) ∙ sym t)
-      by false t f =
-          ap (λ (ds : List (ℕ × X)). is_listed (keys_of ds) q) f ∙ sym (has_listed (insert_entry nat_cmp es at x) q)
-          ∙ ap is_some (found-insert es at x q) ∙ one_or (q == at) x (lookup (is_at (nat_cmp q)) es)
-          ∙ ap (λ (b : Bool). b || (q == at)) (has_listed es q) ∙ ap (λ (b : Bool). is_listed (keys_of es) q || b) (turn_test q at)
+  pub something_there : (o : Option X) (new : Bool) → new ≡ not (is_some o) → new ≡ false → is_some o ≡ true
+  something_there None new e t = absurd (true≢false (sym e ∙ t))
+  something_there (Some x) new e t = refl
+
+  pub nothing_put : (es new : List (ℕ × X)) (at : ℕ) (x : X) → new ≡ with_new es at x → is_some (lookup (is_at (nat_cmp at)) es) ≡ true → new ≡ es
+  nothing_put es new at x e t = e ∙ ap (λ (b : Bool). cond b es (insert_entry nat_cmp es at x)) t
 
   -- ---- something put in the place of what stands
 
@@ -118,13 +103,3 @@ module _ {X : Type 0} where
   order-removed es new at e h =
       let up = Ascends-from_order es h in
       subst (λ (ds : List (ℕ × X)). IsStrictlySortedBy nat_cmp (keys_of ds)) (sym (e ∙ without_one at es up)) (order-from_Ascends _ (Ascends-filter (λ e. not (e.0 == at)) es up))
-
-  one_less : (t : Bool) (o : Option X) → is_some (cond t None o) ≡ (is_some o && not t)
-  one_less true o = sym (and-false (is_some o))
-  one_less false o = sym (and-true (is_some o))
-
-  pub listed-removed : (es new : List (ℕ × X)) (at : ℕ) → new ≡ remove_entry (is_at (nat_cmp at)) es → IsStrictlySortedBy nat_cmp (keys_of es)
-      → (q : ℕ) → is_listed (keys_of new) q ≡ (is_listed (keys_of es) q && not (at == q))
-  listed-removed es new at e h q =
-      sym (has_listed new q) ∙ ap is_some (found-removed es new at e h q) ∙ one_less (is_at (nat_cmp at) q) (lookup (is_at (nat_cmp q)) es)
-      ∙ ap (λ (b : Bool). b && not (is_at (nat_cmp at) q)) (has_listed es q) ∙ ap (λ (b : Bool). is_listed (keys_of es) q && not b) (is_at-eq at q)

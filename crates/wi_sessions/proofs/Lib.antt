@@ -5,3 +5,8 @@ pub mod ChangeSteps
 pub mod CellLemmas
 pub mod EntryLemmas
 pub mod RosterLemmas
+pub mod BitLemmas
+pub mod WordLemmas
+pub mod ViewLemmas
+pub mod PlaceLemmas
+pub mod PendingLemmas

@@ -1,25 +1,23 @@
 -- Laws of sessions and their pending cells, as lists of parts of each.
-use Rattle.std.proofs.Common.{◌≡◌, ◌≢◌, ◌<◌, ◌≤◌, ◌+◌, zero, suc, ⊎_elim, ◌||◌, ◌&&◌, ◌∙◌, ℕ, Bool, true, false, cond, not, List, [], ◌∷◌, ◌++◌, map, length, get_or, set, take, slice_get, nat_eq, Option, Some, None, refl, sym, ap, subst, arith, true≢false}
+use Rattle.std.proofs.Common.{◌≡◌, ◌<◌, ◌+◌, zero, suc, ◌||◌, ◌&&◌, ◌∙◌, ℕ, Bool, true, false, cond, not, List, [], ◌∷◌, ◌++◌, map, length, get_or, set, slice_get, nat_eq, Option, Some, None, refl, sym, ap, subst, arith, true≢false}
 use Rattle.std.specs.Prelude.{IfSome, nat_lt}
-use Rattle.std.specs.Option.{is_some, option_map}
-use Rattle.std.specs.List.{AllZip, list_all, list_any, position, position_or_len, position_from}
+use Rattle.std.specs.Option.{is_some, option_map, option_to_list}
+use Rattle.std.specs.List.{list_all, list_any, position, position_or_len, position_from}
 use Rattle.std.specs.Cmp.Lexicographic.{pointwise}
 use Rattle.std.specs.Map.{keys_of, values_of, lookup}
 use Rattle.std.specs.Rc.{rc_str_bytes}
 use Rattle.std.specs.Str.{bytes_eq}
 use Rattle.std.specs.declared.rc.RcStr.{RcStr}
-use Rattle.std.proofs.lemmas.Bool.{cases_eq}
-use Rattle.std.proofs.lemmas.List.{length-map, map-append, map-set, get_or-set_same, get_or-set_other, take_all}
-use Rattle.std.proofs.lemmas.List.Folds.{list_all_at, list_all_more}
-use Rattle.std.proofs.lemmas.Option.{get_or_from_slice_get, slice_get-map, slice_get_within}
-use Rattle.std.proofs.Math.Seq.{map-set_same}
+use Rattle.std.proofs.lemmas.List.{length-map, map-append, map-set}
+use Rattle.std.proofs.lemmas.List.Folds.{list_all_at}
+use Rattle.std.proofs.lemmas.Option.{get_or_from_slice_get, slice_get-map}
 use Rattle.std.proofs.lemmas.Iterator.Adapters.{position_from-zero}
 use Rattle.indexmap.specs.IndexMap.{IndexMap, insert_entry, set_value_at}
 use Rattle.indexmap.proofs.CallerLemmas.{insert_entry-new}
-use Rattle.wi_sessions.specs.Pictures.Laws.{is_listed}
 use Rattle.wi_sessions.specs.Sessions.{has_session, index_of}
-use Rattle.wi_sessions.specs.Roster.{SameCells}
-use Rattle.wi_sessions.specs.Inner.Held.{session_in, pending_cells, rooms_of}
+use Rattle.wi_sessions.specs.Pending.{AllPending}
+use Rattle.wi_sessions.specs.Roster.{Roster}
+use Rattle.wi_sessions.specs.Inner.Held.{roster_in, session_in}
 use Rattle.wi_sessions.specs.declared.held.Held.{Held}
 
 -- a name, and what is held under it
@@ -59,20 +57,6 @@ module _ {Z : Type 0} (name : List ℕ) where
       by true = same_place es
       by false = tt
 
--- ---- the pending cells of a new session
-
-all_new : (b : Bool) → (false || (b && not false)) ≡ b
-all_new true = refl
-all_new false = refl
-
--- where none was pending or had room, room was made for these cells, and they were taken
-pub pending_are : (cells none vacant pending : List ℕ) → none ≡ []
-    → ((a : ℕ) → is_listed vacant a ≡ (is_listed [] a || (is_listed cells a && not (is_listed [] a))))
-    → ((a : ℕ) → is_listed pending a ≡ (is_listed none a || is_listed vacant a))
-    → SameCells pending cells
-pending_are cells none vacant pending e made taken =
-    λ a. taken a ∙ ap (λ (xs : List ℕ). is_listed xs a || is_listed vacant a) e ∙ made a ∙ all_new (is_listed cells a)
-
 -- ---- one session among all
 
 module _ {Z : Type 0} where
@@ -110,22 +94,9 @@ module _ {Z Y : Type 0} (f : Entry Z → Y) (es : List (Entry Z)) (i : ℕ) (k :
   pub part_set : (y : Held) (w : Y) → f (k, y) ≡ w → map f (set_value_at es i y) ≡ set ys i w
   part_set y w e = set_told y ∙ ap (λ (z : Y). set (map f es) i z) e ∙ ap (λ (zs : List Y). set zs i w) v
 
-  -- another in its place, of which the same is told
-  pub part_same : (y : Held) → f (k, y) ≡ f (k, x) → map f (set_value_at es i y) ≡ ys
-  part_same y e =
-      ap (λ (ds : List (Entry Z)). map f ds) (set_entry es i k x y at)
-      ∙ map-set_same f es i (k, y) (k, x) (e ∙ ap f (sym (get_or_from_slice_get es i (k, x) (k, x) at))) ∙ v
-
-  -- what is told of the other itself
-  pub part_new : (y : Held) (d : Y) → get_or (map f (set_value_at es i y)) i d ≡ f (k, y)
-  part_new y d =
-      ap (λ (zs : List Y). get_or zs i d) (set_told y)
-      ∙ get_or-set_same (map f es) i (f (k, y)) d (subst (λ (n : ℕ). i < n) (sym (length-map es f)) (slice_get_within es i (k, x) at))
-
-  -- and of all sessions but the i-th
-  pub part_other : (y : Held) (j : ℕ) (d : Y) → j ≢ i → get_or (map f (set_value_at es i y)) j d ≡ get_or ys j d
-  part_other y j d n =
-      ap (λ (zs : List Y). get_or zs j d) (set_told y) ∙ get_or-set_other (map f es) i j (f (k, y)) d n ∙ ap (λ (zs : List Y). get_or zs j d) v
+-- it has its list
+pub within_lists : {Z : Type 0} (es : List (Entry Z)) (p : AllPending) (r : Roster) (i : ℕ) → roster_in es p ≡ r → length p.pending ≡ length es → i < length r.sessions → i < length p.pending
+within_lists es p r i v e l = subst (λ (n : ℕ). i < n) (ap (λ (q : Roster). length q.sessions) (sym v) ∙ length-map es session_in ∙ sym e) l
 
 -- ---- a session added
 
@@ -146,6 +117,22 @@ pub told_more : {Z Y : Type 0} (f : Entry Z → Y) (es new : List (Entry Z)) (k 
 told_more {Z} {Y} f es new k x ys y h v g =
     ap (λ (ds : List (Entry Z)). map f ds) h ∙ map-append f es ((k, x) ∷ []) ∙ ap (λ (zs : List Y). zs ++ f (k, x) ∷ []) v ∙ ap (λ (z : Y). ys ++ z ∷ []) g
 
+same_front : {X : Type 0} (x y : X) (es less : List X) → less ++ y ∷ [] ≡ es ++ x ∷ [] → less ≡ es
+same_front x y [] [] h = refl
+same_front x y [] (l ∷ []) h = cc
+same_front x y [] (l ∷ m ∷ less) h = cc
+same_front x y (e ∷ []) [] h = cc
+same_front x y (e ∷ d ∷ es) [] h = cc
+same_front {X} x y (e ∷ es) (l ∷ less) h =
+    let first : l ≡ e = cc in
+    let rest : less ++ y ∷ [] ≡ es ++ x ∷ [] = cc in
+    ap (λ (z : X). z ∷ less) first ∙ ap (λ (zs : List X). e ∷ zs) (same_front x y es less rest)
+
+-- once the last is taken away
+pub popped_again : {X : Type 0} (es more less : List X) (x : X) (o : Option X) → more ≡ es ++ x ∷ [] → more ≡ less ++ option_to_list o → is_some o ≡ true → less ≡ es
+popped_again es more less x None e f s = absurd (true≢false (sym s))
+popped_again es more less x (Some y) e f s = same_front x y es less (sym f ∙ e)
+
 -- an empty list at the end is like none
 pub empty_after : (xs : List (List ℕ)) (i : ℕ) → get_or (xs ++ [] ∷ []) i [] ≡ get_or xs i []
 empty_after [] zero = refl
@@ -153,89 +140,9 @@ empty_after [] (suc i) = refl
 empty_after (x ∷ xs) zero = refl
 empty_after (x ∷ xs) (suc i) = empty_after xs i
 
--- ---- each session in turn
-
-module _ {Z : Type 0} (R : Entry Z → Entry Z → Type 0) where
-  -- those before the i-th are done
-  abbrev pub Done : List (Entry Z) → List (Entry Z) → ℕ → Type 0
-  Done old new i = (j : ℕ) (d : Entry Z) → j < i → R (get_or old j d) (get_or new j d)
-
-  -- those from the i-th on are as they were
-  abbrev pub Left : List (Entry Z) → List (Entry Z) → ℕ → Type 0
-  Left old new i = (j : ℕ) (d : Entry Z) → i ≤ j → get_or new j d ≡ get_or old j d
-
-  pub done_more : (old now : List (Entry Z)) (i : ℕ) (k : RcStr Z) (x y : Held) → slice_get now i ≡ Some (k, x) → R (k, x) (k, y)
-      → Done old now i → Left old now i → Done old (set_value_at now i y) (i + 1)
-  done_more old now i k x y at r done left =
-      subst (λ (es : List (Entry Z)). Done old es (i + 1)) (sym (set_entry now i k x y at))
-      (λ j d h. ⊎_elim
-      (λ (p : j ≡ i). subst (λ (n : ℕ). R (get_or old n d) (get_or (set now i (k, y)) n d)) (sym p)
-      (subst (λ (z : Entry Z). R (get_or old i d) z) (sym (get_or-set_same now i (k, y) d (slice_get_within now i (k, x) at)))
-      (subst (λ (z : Entry Z). R z (k, y)) (sym (get_or_from_slice_get now i (k, x) d at) ∙ left i d (let h : i ≤ i = omega arith in h)) r)))
-      (λ (n : j ≢ i). subst (λ (z : Entry Z). R (get_or old j d) z) (sym (get_or-set_other now i j (k, y) d n)) (done j d (omega (arith, h, n))))
-      (cases_eq j i))
-
-  pub left_more : (old now : List (Entry Z)) (i : ℕ) (k : RcStr Z) (x y : Held) → slice_get now i ≡ Some (k, x)
-      → Left old now i → Left old (set_value_at now i y) (i + 1)
-  left_more old now i k x y at left =
-      subst (λ (es : List (Entry Z)). Left old es (i + 1)) (sym (set_entry now i k x y at))
-      (λ j d h. get_or-set_other now i j (k, y) d (λ p. let n : ⊥ = omega (arith, h, p) in n) ∙ left j d (omega (arith, h)))
-
-  pub all_done : (old new : List (Entry Z)) → length new ≡ length old → Done old new (length old) → AllZip R old new
-  all_done [] [] e h = tt
-  all_done [] (y ∷ ys) e h = let n : ⊥ = omega (arith, e) in absurd n
-  all_done (x ∷ xs) [] e h = let n : ⊥ = omega (arith, e) in absurd n
-  all_done (x ∷ xs) (y ∷ ys) e h = (h 0 x (omega arith), all_done xs ys (omega (arith, e)) (λ k d l. h (suc k) d (omega (arith, l))))
-
-  pub each_same : {Y : Type 0} (f : Entry Z → Y) → ((x y : Entry Z) → R x y → f y ≡ f x) → (old new : List (Entry Z)) → AllZip R old new → map f new ≡ map f old
-  each_same {Y} f same [] [] h = refl
-  each_same {Y} f same [] (y ∷ ys) h = absurd h
-  each_same {Y} f same (x ∷ xs) [] h = absurd h
-  each_same {Y} f same (x ∷ xs) (y ∷ ys) h = ap (λ (z : Y). z ∷ map f ys) (same x y h.0) ∙ ap (λ (zs : List Y). f x ∷ zs) (each_same f same xs ys h.1)
-
-  pub each_empty : ((x y : Entry Z) → R x y → rooms_of y ≡ []) → (old new : List (Entry Z)) → AllZip R old new → (i : ℕ) → get_or (map rooms_of new) i [] ≡ []
-  each_empty gone [] [] h i = refl
-  each_empty gone [] (y ∷ ys) h i = absurd h
-  each_empty gone (x ∷ xs) [] h i = absurd h
-  each_empty gone (x ∷ xs) (y ∷ ys) h zero = gone x y h.0
-  each_empty gone (x ∷ xs) (y ∷ ys) h (suc i) = each_empty gone xs ys h.1 i
-
-module _ {Z : Type 0} where
-  -- a session whose cells with room became pending
-  abbrev pub Took : Entry Z → Entry Z → Type 0
-  Took x y = (session_in y ≡ session_in x)
-      × ((a : ℕ) → is_listed (pending_cells y) a ≡ (is_listed (pending_cells x) a || is_listed (rooms_of x) a))
-      × (rooms_of y ≡ [])
-
-  pub each_took : (old new : List (Entry Z)) → AllZip Took old new → (i a : ℕ)
-      → is_listed (get_or (map pending_cells new) i []) a ≡ (is_listed (get_or (map pending_cells old) i []) a || is_listed (get_or (map rooms_of old) i []) a)
-  each_took [] [] h i a = refl
-  each_took [] (y ∷ ys) h i a = absurd h
-  each_took (x ∷ xs) [] h i a = absurd h
-  each_took (x ∷ xs) (y ∷ ys) h zero a = (h.0).1 a
-  each_took (x ∷ xs) (y ∷ ys) h (suc i) a = each_took xs ys h.1 i a
-
-  -- a session whose vacant rooms went
-  abbrev pub Gave : Entry Z → Entry Z → Type 0
-  Gave x y = (session_in y ≡ session_in x) × (pending_cells y ≡ pending_cells x) × (rooms_of y ≡ [])
-
 -- ---- what each has
 
 module _ (p : List ℕ → Bool) (xss : List (List ℕ)) where
-  pub none_yet : list_all p (take 0 xss) ≡ true
-  none_yet = by xss
-    where
-      by : (yss : List (List ℕ)) → list_all p (take 0 yss) ≡ true
-      by [] = refl
-      by (ys ∷ yss) = refl
-
-  -- what each before the i-th has, and the i-th
-  pub one_more_has : (i : ℕ) → i < length xss → p (get_or xss i []) ≡ true → list_all p (take i xss) ≡ true → list_all p (take (i + 1) xss) ≡ true
-  one_more_has i l h k = list_all_more p xss i [] l ∙ ap (λ (b : Bool). b && p (get_or xss i [])) k ∙ h
-
-  pub all_were : (n : ℕ) → length xss ≤ n → list_all p (take n xss) ≡ true → list_all p xss ≡ true
-  all_were n l h = sym (ap (λ (yss : List (List ℕ)). list_all p yss) (take_all n xss l)) ∙ h
-
   -- each has what all have
   pub one_of_all_has : (i : ℕ) → list_all p xss ≡ true → i < length xss → p (get_or xss i []) ≡ true
   one_of_all_has i h l = by (p (get_or xss i [])) refl

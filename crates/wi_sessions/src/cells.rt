@@ -1,168 +1,313 @@
-//! Cells that are pending, and those for which there is room only. All stand in one set, and those with room only in a list
-//! beside it too: as that is emptied they are pending, with no search and no memory.
+//! Cells with a bit for each session for which they are pending or have room only. Bits of rooms stand in a list beside them
+//! too: as that is emptied the cells are pending, with no search and no memory.
 
-ghost use Rattle.std.specs.Prelude.{◌≡◌, ◌==◌, ◌<◌, ◌*◌, ℕ, All, IfOk, OnOk, OnErr, [], ◌∷◌, ◌++◌, ◌||◌, ◌&&◌, not};
+ghost use Rattle.std.specs.Prelude.{◌≡◌, true, false, ◌==◌, ◌<◌, ◌*◌, ℕ, All, Some, None, IfOk, OnOk, ◌++◌, ◌∷◌, ◌||◌, ◌&&◌, not, filter, length, option_copied, [], IsTrue, OnErr};
+ghost use Rattle.std.specs.Option.{is_some};
+ghost use Rattle.std.specs.List.Sorted.{IsStrictlyIncreasing};
 ghost use Rattle.std.specs.Ordering.{nat_cmp};
+ghost use Rattle.std.specs.Map.{lookup, keys_of};
+ghost use Rattle.std.specs.BTreeMap.{is_at};
 ghost use Rattle.wi_tiles.specs.Entries.{IsOrdered};
-ghost use Rattle.wi_values.specs.Address.{rows, columns};
 ghost use Rattle.wi_sessions.specs.Pictures.Laws.{is_listed};
-ghost use Rattle.wi_sessions.specs.Inner.Cells.{cells_of, cells_in, vacant_in};
+ghost use Rattle.wi_sessions.specs.Inner.Cells.{has_bit, is_in, is_staged, cells_with, at_cells, SamePending, HasMade, HasCleared};
 
+use crate::bits::{common, has, is_bare, joined, without};
 use std::alloc::{AllocError, Global};
 use wi_tiles::CellMap;
 use wi_values::Address;
 
-/// All cells that are pending or have room only.
-pub(crate) type Cells = CellMap<()>;
+/// All cells that are pending for a session or have room only, each with the bits of these sessions.
+pub(crate) type Words = CellMap<u64>;
 
-/// Makes room for a cell that isn't in the set.
-fn make_one(all: &mut Cells, vacant: &mut Vec<Address>, at: Address) -> Result<(), AllocError>
-    ensures order { IsOrdered nat_cmp all.old → IsOrdered nat_cmp all.new }
-    ensures pending { (c : ℕ) → (is_listed (cells_of all.new) c && not (is_listed vacant.new.items c))
-        ≡ (is_listed (cells_of all.old) c && not (is_listed vacant.old.items c)) }
-    ensures put { OnOk result ((c : ℕ) → is_listed (cells_of all.new) c ≡ (is_listed (cells_of all.old) c || at == c)) }
-    ensures made { OnOk result ((c : ℕ) → is_listed vacant.new.items c
-        ≡ (is_listed vacant.old.items c || (at == c && not (is_listed (cells_of all.old) c)))) }
+/// A cell, and the bits of sessions for which it has room only.
+pub(crate) type Room = (Address, u64);
+
+/// The bits of a cell, if it stands there.
+pub(crate) fn found(words: &Words, at: Address) -> Option<u64>
+    ensures { result ≡ lookup (is_at (nat_cmp at)) words.now.entries }
 {
-    vacant.reserve(1)?;
-    let is_new = all.put_new(at, ())?;
-    if !is_new {
+    words.get(at).copied()
+}
+
+/// The bits of a cell.
+fn word_of(words: &Words, at: Address) -> u64
+    ensures { (i : ℕ) → has_bit i result ≡ is_in words.now.entries i at }
+{
+    match found(words, at) {
+        Some(word) => word,
+        None => 0,
+    }
+}
+
+/// Makes room for a cell that has bits.
+fn stage_there(
+    words: &mut Words,
+    staged: &mut Vec<Room>,
+    at: Address,
+    bits: u64,
+) -> Result<(), AllocError>
+    requires order { IsOrdered nat_cmp words.old }
+    requires there { is_some (lookup (is_at (nat_cmp at)) words.old.entries) ≡ true }
+    ensures order { IsOrdered nat_cmp words.new }
+    ensures pending { SamePending words.old.entries staged.old.items words.new.entries staged.new.items }
+    ensures room { OnOk result (HasMade (λ i c. at == c && has_bit i bits) words.old.entries staged.old.items words.new.entries staged.new.items) }
+    ensures others { (i c : ℕ) → has_bit i bits ≡ false → (is_in words.new.entries i c ≡ is_in words.old.entries i c) × (is_staged staged.new.items i c ≡ is_staged staged.old.items i c) }
+{
+    let word = found(words, at).unwrap();
+    let more = without(bits, word);
+    if is_bare(more) {
         return Ok(());
     }
-    vacant.push(at).unwrap();
+    staged.reserve(1)?;
+    let _ = words.replace(at, joined(word, more));
+    staged.push((at, more)).unwrap();
     Ok(())
 }
 
-/// Makes room for each cell that isn't in the set. If memory runs out, there is room for a part of them.
-fn make_each(
-    all: &mut Cells,
-    vacant: &mut Vec<Address>,
-    cells: &[Address],
+/// Makes room for a cell in the lists of these sessions.
+fn stage_one(
+    words: &mut Words,
+    staged: &mut Vec<Room>,
+    at: Address,
+    bits: u64,
 ) -> Result<(), AllocError>
-    requires { IsOrdered nat_cmp all.old }
-    ensures order { IsOrdered nat_cmp all.new }
-    ensures pending { (c : ℕ) → (is_listed (cells_of all.new) c && not (is_listed vacant.new.items c))
-        ≡ (is_listed (cells_of all.old) c && not (is_listed vacant.old.items c)) }
-    ensures put { OnOk result ((c : ℕ) → is_listed (cells_of all.new) c
-        ≡ (is_listed (cells_of all.old) c || is_listed cells.now c)) }
-    ensures made { OnOk result ((c : ℕ) → is_listed vacant.new.items c
-        ≡ (is_listed vacant.old.items c || (is_listed cells.now c && not (is_listed (cells_of all.old) c)))) }
+    requires { IsOrdered nat_cmp words.old }
+    ensures order { IsOrdered nat_cmp words.new }
+    ensures pending { SamePending words.old.entries staged.old.items words.new.entries staged.new.items }
+    ensures room { OnOk result (HasMade (λ i c. at == c && has_bit i bits) words.old.entries staged.old.items words.new.entries staged.new.items) }
+    ensures others { (i c : ℕ) → has_bit i bits ≡ false → (is_in words.new.entries i c ≡ is_in words.old.entries i c) × (is_staged staged.new.items i c ≡ is_staged staged.old.items i c) }
+{
+    staged.reserve(1)?;
+    let is_new = words.put_new(at, bits)?;
+    if !is_new {
+        return stage_there(words, staged, at, bits);
+    }
+    staged.push((at, bits)).unwrap();
+    Ok(())
+}
+
+/// Makes room for cells in the lists of these sessions. If memory runs out, there is room for a part of them.
+pub(crate) fn stage_each(
+    words: &mut Words,
+    staged: &mut Vec<Room>,
+    cells: &[Address],
+    bits: u64,
+) -> Result<(), AllocError>
+    requires { IsOrdered nat_cmp words.old }
+    ensures order { IsOrdered nat_cmp words.new }
+    ensures pending { SamePending words.old.entries staged.old.items words.new.entries staged.new.items }
+    ensures room { OnOk result (HasMade (at_cells cells.now bits) words.old.entries staged.old.items words.new.entries staged.new.items) }
+    ensures others { (i c : ℕ) → has_bit i bits ≡ false → (is_in words.new.entries i c ≡ is_in words.old.entries i c) × (is_staged staged.new.items i c ≡ is_staged staged.old.items i c) }
 {
     for at in cells {
-        make_one(all, vacant, *at)?;
+        stage_one(words, staged, *at, bits)?;
     }
     Ok(())
 }
 
-/// Takes a cell out of the set.
-fn take_one(all: &mut Cells, at: Address)
-    requires { IsOrdered nat_cmp all.old }
-    ensures order { IsOrdered nat_cmp all.new }
-    ensures left { (c : ℕ) → is_listed (cells_of all.new) c ≡ (is_listed (cells_of all.old) c && not (at == c)) }
-{
-    let _ = all.remove(at);
-}
-
-/// Takes cells out of the set.
-fn take_out(all: &mut Cells, cells: &[Address])
-    requires { IsOrdered nat_cmp all.old }
-    ensures order { IsOrdered nat_cmp all.new }
-    ensures left { (c : ℕ) → is_listed (cells_of all.new) c ≡ (is_listed (cells_of all.old) c && not (is_listed cells.now c)) }
-{
-    for at in cells {
-        take_one(all, *at);
-    }
-}
-
-/// Makes room for each cell that isn't in the set. If memory runs out, the cells with room only go, those that were there too.
-pub(crate) fn make_room(
-    all: &mut Cells,
-    vacant: &mut Vec<Address>,
+/// Makes room for cells in the lists of these sessions. If memory runs out, all rooms go, those that were there too.
+pub(crate) fn stage(
+    words: &mut Words,
+    staged: &mut Vec<Room>,
     cells: &[Address],
+    bits: u64,
 ) -> Result<(), AllocError>
-    requires { IsOrdered nat_cmp all.old }
-    ensures cells { cells_in (cells_of all.new) vacant.new.items ≡ cells_in (cells_of all.old) vacant.old.items }
-    ensures room { OnOk result ((a : ℕ) → is_listed (vacant_in (cells_of all.new) vacant.new.items) a
-        ≡ (is_listed (vacant_in (cells_of all.old) vacant.old.items) a
-        || (is_listed cells.now a && not (is_listed (cells_in (cells_of all.old) vacant.old.items) a)))) }
-    ensures refused { OnErr result (vacant_in (cells_of all.new) vacant.new.items ≡ []) }
-    ensures order { IsOrdered nat_cmp all.new }
+    requires { IsOrdered nat_cmp words.old }
+    ensures order { IsOrdered nat_cmp words.new }
+    ensures pending { SamePending words.old.entries staged.old.items words.new.entries staged.new.items }
+    ensures room { OnOk result (HasMade (at_cells cells.now bits) words.old.entries staged.old.items words.new.entries staged.new.items) }
+    ensures refused { OnErr result (staged.new.items ≡ []) }
 {
-    match make_each(all, vacant, cells) {
+    match stage_each(words, staged, cells, bits) {
         Ok(()) => Ok(()),
         Err(error) => {
-            give_back(all, vacant);
+            give_back(words, staged);
             Err(error)
         }
     }
 }
 
-/// The cells with room only go.
-pub(crate) fn give_back(all: &mut Cells, vacant: &mut Vec<Address>)
-    requires { IsOrdered nat_cmp all.old }
-    ensures cells { cells_in (cells_of all.new) vacant.new.items ≡ cells_in (cells_of all.old) vacant.old.items }
-    ensures vacant { vacant_in (cells_of all.new) vacant.new.items ≡ [] }
-    ensures order { IsOrdered nat_cmp all.new }
+/// Takes bits of a cell away.
+fn clear_one(words: &mut Words, at: Address, bits: u64)
+    requires { IsOrdered nat_cmp words.old }
+    ensures order { IsOrdered nat_cmp words.new }
+    ensures less { HasCleared (λ i c. at == c && has_bit i bits) words.old.entries words.new.entries }
 {
-    take_out(all, vacant);
-    vacant.clear();
-}
-
-/// No cell is pending, and none has room.
-pub(crate) fn clear(all: &mut Cells, vacant: &mut Vec<Address>)
-    ensures all { cells_of all.new ≡ [] }
-    ensures vacant { vacant.new.items ≡ [] }
-{
-    all.clear();
-    vacant.clear();
-}
-
-/// Whether a cell is in the set.
-fn stands(all: &Cells, at: Address) -> bool
-    ensures { result ≡ is_listed (cells_of all.now) at }
-{
-    all.get(at).is_some()
-}
-
-/// Whether a cell is pending. The work grows with the cells with room only too, of which there are none but within an edit.
-pub(crate) fn has(all: &Cells, vacant: &[Address], at: Address) -> bool
-    ensures { result ≡ is_listed (cells_in (cells_of all.now) vacant.now) at }
-{
-    stands(all, at) && !vacant.contains(&at)
-}
-
-/// Appends a cell to those found, but for one with room only.
-fn push_pending(
-    found: &mut Vec<Address>,
-    vacant: &[Address],
-    cell: Address,
-) -> Result<(), AllocError>
-    ensures { OnOk result (found.new.items ≡ found.old.items ++ cells_in (cell ∷ []) vacant.now) }
-{
-    if vacant.contains(&cell) {
-        return Ok(());
+    match found(words, at) {
+        Some(word) => clear_there(words, at, word, bits),
+        None => {}
     }
-    found.push(cell)?;
+}
+
+/// Takes bits of a cell that has these bits away. A cell without bits goes.
+fn clear_there(words: &mut Words, at: Address, word: u64, bits: u64)
+    requires order { IsOrdered nat_cmp words.old }
+    requires there { lookup (is_at (nat_cmp at)) words.old.entries ≡ Some word }
+    ensures order { IsOrdered nat_cmp words.new }
+    ensures less { HasCleared (λ i c. at == c && has_bit i bits) words.old.entries words.new.entries }
+{
+    let left = without(word, bits);
+    if is_bare(left) {
+        let _ = words.remove(at);
+    } else {
+        let _ = words.replace(at, left);
+    }
+}
+
+/// Takes bits of cells away.
+pub(crate) fn clear_each(words: &mut Words, cells: &[Address], bits: u64)
+    requires { IsOrdered nat_cmp words.old }
+    ensures order { IsOrdered nat_cmp words.new }
+    ensures less { HasCleared (at_cells cells.now bits) words.old.entries words.new.entries }
+{
+    for at in cells {
+        clear_one(words, *at, bits);
+    }
+}
+
+/// The rooms of a session go. They stay listed, which tells nothing where its bit is gone.
+pub(crate) fn drop_rooms(words: &mut Words, staged: &[Room], bit: u64)
+    requires { IsOrdered nat_cmp words.old }
+    ensures order { IsOrdered nat_cmp words.new }
+    ensures less { HasCleared (λ i c. is_staged staged.now i c && has_bit i bit) words.old.entries words.new.entries }
+{
+    for (at, bits) in staged {
+        clear_one(words, *at, common(*bits, bit));
+    }
+}
+
+/// Takes the bits of rooms away.
+fn clear_staged(words: &mut Words, staged: &[Room])
+    requires { IsOrdered nat_cmp words.old }
+    ensures order { IsOrdered nat_cmp words.new }
+    ensures less { HasCleared (is_staged staged.now) words.old.entries words.new.entries }
+{
+    for (at, bits) in staged {
+        clear_one(words, *at, *bits);
+    }
+}
+
+/// All rooms go.
+pub(crate) fn give_back(words: &mut Words, staged: &mut Vec<Room>)
+    requires { IsOrdered nat_cmp words.old }
+    ensures order { IsOrdered nat_cmp words.new }
+    ensures pending { SamePending words.old.entries staged.old.items words.new.entries staged.new.items }
+    ensures none { staged.new.items ≡ [] }
+{
+    clear_staged(words, staged);
+    staged.clear();
+}
+
+/// The bits of rooms that a cell has. The work grows with the rooms, of which there are none but within an edit.
+pub(crate) fn staged_of(staged: &[Room], at: Address) -> u64
+    ensures { (i : ℕ) → has_bit i result ≡ is_staged staged.now i at }
+{
+    let mut bits = 0;
+    for (cell, more) in staged {
+        bits = with_room(bits, *cell, *more, at);
+    }
+    bits
+}
+
+/// The bits, with those of a room if it is a cell's.
+fn with_room(bits: u64, cell: Address, more: u64, at: Address) -> u64
+    ensures { (i : ℕ) → has_bit i result ≡ (has_bit i bits || (cell == at && has_bit i more)) }
+{
+    if cell == at {
+        return joined(bits, more);
+    }
+    bits
+}
+
+/// Whether a cell has room only, in the list of a session.
+pub(crate) fn is_staged(staged: &[Room], i: usize, at: Address) -> bool
+    requires { i < 64 }
+    ensures { result ≡ is_staged staged.now i at }
+{
+    has(staged_of(staged, at), i)
+}
+
+/// Whether a session's bit stands at a cell.
+fn is_in(words: &Words, i: usize, at: Address) -> bool
+    requires { i < 64 }
+    ensures { result ≡ is_in words.now.entries i at }
+{
+    has(word_of(words, at), i)
+}
+
+/// Appends a cell if a session's bit stands in its word.
+fn push_with(found: &mut Vec<Address>, at: Address, word: u64, i: usize) -> Result<(), AllocError>
+    requires { i < 64 }
+    ensures { OnOk result (found.new.items ≡ found.old.items ++ cells_with ((at, word) ∷ []) i) }
+{
+    if has(word, i) {
+        found.push(at)?;
+    }
     Ok(())
 }
 
-/// The pending cells. The work is a step for each, and grows with the cells with room only as that of `has`.
-pub(crate) fn listed(
-    alloc: Global,
-    all: &Cells,
-    vacant: &[Address],
-) -> Result<Vec<Address>, AllocError>
-    ensures cells { IfOk result (λ found. found.items ≡ cells_in (cells_of all.now) vacant.now) }
-    ensures within { IfOk result (λ found. All (λ a. a < rows * columns) found.items) }
+/// The cells with a session's bit, by a walk through all.
+pub(crate) fn walked(alloc: Global, words: &Words, i: usize) -> Result<Vec<Address>, AllocError>
+    requires { i < 64 }
+    ensures { IfOk result (λ found. found.items ≡ cells_with words.now.entries i) }
 {
     let mut found = Vec::new(alloc);
-    let mut rest = all.iter();
+    let mut rest = words.iter();
     // A step for each cell and none behind the last, which would go on to the end of the sheet.
-    for _ in 0..all.len() {
+    for _ in 0..words.len() {
         let Some(next) = rest.next() else {
             return Ok(found);
         };
-        push_pending(&mut found, vacant, next.0)?;
+        push_with(&mut found, next.0, *next.1, i)?;
     }
     Ok(found)
+}
+
+/// Appends those of some cells that have a session's bit.
+pub(crate) fn push_those(
+    found: &mut Vec<Address>,
+    words: &Words,
+    cells: &[Address],
+    i: usize,
+) -> Result<(), AllocError>
+    requires { i < 64 }
+    ensures { OnOk result (found.new.items ≡ found.old.items ++ filter (is_in words.now.entries i) cells.now) }
+{
+    for at in cells {
+        if is_in(words, i, *at) {
+            found.push(*at)?;
+        }
+    }
+    Ok(())
+}
+
+/// Puts cells into row-major order, each once.
+pub(crate) fn put_in_order(cells: &mut Vec<Address>)
+    ensures order { IsStrictlyIncreasing cells.new.items }
+    ensures same { (c : ℕ) → is_listed cells.new.items c ≡ is_listed cells.old.items c }
+{
+    if !rises(cells) {
+        sort(cells);
+    }
+}
+
+/// The same by a sort.
+fn sort(cells: &mut Vec<Address>)
+    ensures order { IsStrictlyIncreasing cells.new.items }
+    ensures same { (c : ℕ) → is_listed cells.new.items c ≡ is_listed cells.old.items c }
+{
+    cells.sort_unstable();
+    cells.dedup();
+}
+
+/// Whether each cell comes after that before it.
+fn rises(cells: &[Address]) -> bool
+    ensures { IsTrue result → IsStrictlyIncreasing cells.now }
+{
+    for i in 1..cells.len() {
+        if cells[i] <= cells[i - 1] {
+            return false;
+        }
+    }
+    true
 }

@@ -1,6 +1,7 @@
 //! Pictures of a sheet and what has changed since, for several sessions.
 #![tactic(auto)]
 
+mod bits;
 mod cells;
 mod held;
 pub mod laws;
@@ -8,7 +9,7 @@ mod pending;
 mod picture;
 mod rooms;
 mod sessions;
+mod unread;
 
-pub use pending::Pending;
 pub use picture::{Picture, same};
 pub use sessions::{MAX_SESSIONS, Sessions};

@@ -6,10 +6,11 @@ ghost use Rattle.std.specs.List.{slice_set};
 ghost use Rattle.std.specs.Map.{lookup};
 ghost use Rattle.std.specs.Rc.{rc_str_bytes};
 ghost use Rattle.std.specs.Str.{bytes_eq};
-ghost use Rattle.wi_sessions.specs.Pictures.Laws.{is_listed};
+ghost use Rattle.wi_sessions.specs.Pictures.{sheet_size};
+ghost use Rattle.wi_sessions.specs.Pictures.Laws.{is_listed, Rises};
 ghost use Rattle.wi_sessions.specs.Sessions.{new_session, told, using_scenario, has_session, index_of};
 ghost use Rattle.wi_sessions.specs.Roster.{session_at, pending_of, vacant_of, is_pending_for_all, SameCells};
-ghost use Rattle.wi_sessions.specs.Inner.Held.{roster_in, with_name};
+ghost use Rattle.wi_sessions.specs.Inner.Held.{with_name};
 
 use crate::held::Held;
 use crate::pending::Pending;
@@ -30,6 +31,7 @@ type SessionMap = IndexMap<RcStr, Held>;
 #[derive(Drop)]
 pub struct Sessions {
     held: SessionMap,
+    pending: Pending,
     alloc: Global,
 }
 
@@ -37,13 +39,16 @@ impl Model for Sessions {
     ghost use Rattle.wi_sessions.specs.Roster.{Roster};
     ghost use Rattle.std.specs.Coded.{codes};
     ghost use Rattle.wi_values.specs.contracts.value.Value as value;
+    ghost use Rattle.std.specs.Prelude.{◌≡◌, length};
     ghost use Rattle.wi_sessions.specs.Inner.Held.{roster_in};
 
     ghost Value = { Roster };
 
     ghost coded = { Prim.hlevel (codes, value.the_row.coded) };
 
-    ghost view = { λ s. roster_in s.held.entries };
+    ghost view = { λ s. roster_in s.held.entries s.pending };
+
+    ghost invariant = { λ s. length s.pending.pending ≡ length s.held.entries };
 }
 
 impl Sessions {
@@ -53,8 +58,11 @@ impl Sessions {
         ensures pending { IfOk result (λ s. SameCells (pending_of s 0) cells.now) }
         ensures vacant { IfOk result (λ s. (i : ℕ) → vacant_of s i ≡ []) }
     {
+        let held = IndexMap::new(alloc);
+        let pending = Pending::new(alloc);
         let mut sessions = Sessions {
-            held: IndexMap::new(alloc),
+            held,
+            pending,
             alloc,
         };
         sessions.push(name, cells)?;
@@ -62,7 +70,7 @@ impl Sessions {
     }
 
     /// Adds a session at the end, as `new` makes one. On an error all is as before. It is an error too where a session of this name is
-    /// there already, as `find` tells. The work is that of `Pending::make_room` for the cells.
+    /// there already, as `find` tells, and where there are 64. The work is that of `make_room` for the cells.
     pub fn push(&mut self, name: &str, cells: &[Address]) -> Result<(), AllocError>
         ensures sessions { OnOk result (self.new.sessions ≡ self.old.sessions ++ new_session name.now ∷ []) }
         ensures pending { OnOk result ((new : List ℕ) × (self.new.pending ≡ self.old.pending ++ new ∷ []) × SameCells new cells.now) }
@@ -73,8 +81,14 @@ impl Sessions {
             return Err(AllocError);
         }
         let name = RcStr::from_str(self.alloc, name)?;
-        let held = Held::new(self.alloc, cells)?;
-        add(&mut self.held, name, held)
+        add(&mut self.held, name, Held::new(self.alloc))?;
+        match self.pending.push(cells) {
+            Ok(()) => Ok(()),
+            Err(error) => {
+                let _ = self.held.pop();
+                Err(error)
+            }
+        }
     }
 
     /// How many sessions there are.
@@ -129,26 +143,22 @@ impl Sessions {
         self.at(i).seen
     }
 
-    /// The cells that are pending for a session.
-    pub fn pending(&self, i: usize) -> &Pending
+    /// The cells that are pending for a session, in row-major order. The work is that of a look-up for each cell that was marked since it
+    /// was last told, and of a sort where several edits marked them; or of a step for each cell that is pending for any session, where
+    /// these are no more.
+    pub fn pending_cells(&self, i: usize) -> Result<Vec<Address>, AllocError>
         requires { i < length self.now.sessions }
-        ensures cells { result.now.cells ≡ pending_of self.now i }
-        ensures vacant { result.now.vacant ≡ vacant_of self.now i }
+        ensures list { IfOk result (λ found. found.items ≡ pending_of self.now i) }
+        ensures order { OnOk result (Rises 0 sheet_size (pending_of self.now i)) }
     {
-        &self.at(i).pending
+        self.pending.cells(i)
     }
 
-    /// Whether a cell is pending for each session. The work is that of `Pending::contains` for each up to the first that lacks it.
+    /// Whether a cell is pending for each session. One look-up.
     pub fn all_have(&self, at: Address) -> bool
         ensures { result ≡ is_pending_for_all self.now at }
     {
-        self.each_has_pending_cells();
-        for i in 0..self.len() {
-            if !self.pending(i).contains(at) {
-                return false;
-            }
-        }
-        true
+        self.pending.all_have(at)
     }
 
     /// A session uses a scenario of this name, or the sheet as it stands. Takes no memory.
@@ -162,7 +172,7 @@ impl Sessions {
     }
 
     /// Puts a change list into a session's picture, when the log has this length; no cell is pending for it then. On an error
-    /// all is as before. The work is that of `Picture::apply`, and of dropping the pending cells.
+    /// all is as before. The work is that of `Picture::apply`, and of `pending_cells`, with a look-up for each.
     pub fn tell(
         &mut self,
         i: usize,
@@ -175,11 +185,14 @@ impl Sessions {
         ensures vacant { OnOk result (self.new.vacant ≡ slice_set self.old.vacant i []) }
         ensures refused { OnErr result (self.new ≡ self.old) }
     {
-        self.held[i].tell(changes, seen)
+        let all = self.pending.all(i)?;
+        self.held[i].tell(changes, seen)?;
+        self.pending.clear(i, &all);
+        Ok(())
     }
 
     /// Makes room for each of the cells that isn't pending for a session; none is pending yet. On an error its vacant rooms go.
-    /// The work is that of `Pending::make_room`.
+    /// The work for each cell is that of two look-ups in a map, and of putting it in where it is pending for no session.
     pub fn make_room(&mut self, i: usize, cells: &[Address]) -> Result<(), AllocError>
         requires { i < length self.old.sessions }
         ensures sessions { self.new.sessions ≡ self.old.sessions }
@@ -189,26 +202,37 @@ impl Sessions {
         ensures refused { OnErr result (vacant_of self.new i ≡ []) }
         ensures others { (j : ℕ) → j ≢ i → vacant_of self.new j ≡ vacant_of self.old j }
     {
-        self.held[i].pending.make_room(cells)
+        self.pending.make_room(i, cells)
     }
 
-    /// The cells for which there is room are pending now, for each session. Takes no memory. The work is that of `Pending::take`.
+    /// The same for each session, in one walk through the cells. The work is that of `make_room`.
+    pub fn make_room_all(&mut self, cells: &[Address]) -> Result<(), AllocError>
+        ensures sessions { self.new.sessions ≡ self.old.sessions }
+        ensures pending { self.new.pending ≡ self.old.pending }
+        ensures room { OnOk result ((i a : ℕ) → i < length self.old.sessions → is_listed (vacant_of self.new i) a
+            ≡ (is_listed (vacant_of self.old i) a || (is_listed cells.now a && not (is_listed (pending_of self.old i) a)))) }
+        ensures refused { OnErr result ((j : ℕ) → vacant_of self.new j ≡ []) }
+    {
+        self.pending.make_room_all(cells)
+    }
+
+    /// The cells for which there is room are pending now, for each session. Takes no memory, and no search.
     pub fn take_all(&mut self)
         ensures sessions { self.new.sessions ≡ self.old.sessions }
         ensures lists { length self.new.pending ≡ length self.old.pending }
         ensures pending { (i a : ℕ) → is_listed (pending_of self.new i) a ≡ (is_listed (pending_of self.old i) a || is_listed (vacant_of self.old i) a) }
         ensures vacant { (i : ℕ) → vacant_of self.new i ≡ [] }
     {
-        take_each(&mut self.held);
+        self.pending.take();
     }
 
-    /// The vacant rooms of all sessions go. Takes no memory. The work is that of `Pending::give_back`.
+    /// The vacant rooms of all sessions go. Takes no memory. The work for each is that of two look-ups.
     pub fn give_back_all(&mut self)
         ensures sessions { self.new.sessions ≡ self.old.sessions }
         ensures pending { self.new.pending ≡ self.old.pending }
         ensures vacant { (i : ℕ) → vacant_of self.new i ≡ [] }
     {
-        give_back_each(&mut self.held);
+        self.pending.give_back();
     }
 
     /// Each session has its pending cells. This is a law: the call does nothing.
@@ -221,9 +245,7 @@ impl Sessions {
     /// What a session holds beside its name.
     fn at(&self, i: usize) -> &Held
         requires { i < length self.now.sessions }
-        ensures session { with_name (session_at self.now i).name result.now ≡ session_at self.now i }
-        ensures cells { result.now.pending.cells ≡ pending_of self.now i }
-        ensures vacant { result.now.pending.vacant ≡ vacant_of self.now i }
+        ensures { with_name (session_at self.now i).name result.now ≡ session_at self.now i }
     {
         &self.held[i]
     }
@@ -237,28 +259,4 @@ fn add(sessions: &mut SessionMap, name: RcStr, held: Held) -> Result<(), AllocEr
 {
     sessions.insert(name, held)?;
     Ok(())
-}
-
-// The cells for which there is room are pending now.
-fn take_each(held: &mut SessionMap)
-    ensures sessions { (roster_in held.new.entries).sessions ≡ (roster_in held.old.entries).sessions }
-    ensures lists { length held.new.entries ≡ length held.old.entries }
-    ensures pending { (i a : ℕ) → is_listed (pending_of (roster_in held.new.entries) i) a
-        ≡ (is_listed (pending_of (roster_in held.old.entries) i) a || is_listed (vacant_of (roster_in held.old.entries) i) a) }
-    ensures vacant { (i : ℕ) → vacant_of (roster_in held.new.entries) i ≡ [] }
-{
-    for i in 0..held.len() {
-        held[i].pending.take();
-    }
-}
-
-// The vacant rooms go.
-fn give_back_each(held: &mut SessionMap)
-    ensures sessions { (roster_in held.new.entries).sessions ≡ (roster_in held.old.entries).sessions }
-    ensures pending { (roster_in held.new.entries).pending ≡ (roster_in held.old.entries).pending }
-    ensures vacant { (i : ℕ) → vacant_of (roster_in held.new.entries) i ≡ [] }
-{
-    for i in 0..held.len() {
-        held[i].pending.give_back();
-    }
 }

@@ -4,6 +4,7 @@ use Rattle.std.specs.Option.{option_map}
 use Rattle.std.specs.Rc.{rc_str_bytes}
 use Rattle.std.specs.declared.rc.RcStr.{RcStr}
 use Rattle.wi_sessions.specs.Sessions.{Session}
+use Rattle.wi_sessions.specs.Pending.{AllPending}
 use Rattle.wi_sessions.specs.Roster.{Roster}
 use Rattle.wi_sessions.specs.declared.held.Held.{Held}
 
@@ -14,12 +15,6 @@ with_name name x = record { name = name; scenario = option_map string_bytes x.sc
 abbrev pub session_in : {Z : Type 0} → RcStr Z × Held → Session
 session_in e = with_name (rc_str_bytes e.0) e.1
 
-abbrev pub pending_cells : {Z : Type 0} → RcStr Z × Held → List ℕ
-pending_cells e = e.1.pending.cells
-
-abbrev pub rooms_of : {Z : Type 0} → RcStr Z × Held → List ℕ
-rooms_of e = e.1.pending.vacant
-
--- the sessions that stand as entries of a map by their names
-abbrev pub roster_in : {Z : Type 0} → List (RcStr Z × Held) → Roster
-roster_in es = record { sessions = map session_in es; pending = map pending_cells es; vacant = map rooms_of es }
+-- the sessions that stand as entries of a map by their names, with their pending cells
+abbrev pub roster_in : {Z : Type 0} → List (RcStr Z × Held) → AllPending → Roster
+roster_in es p = record { sessions = map session_in es; pending = p.pending; vacant = p.vacant }

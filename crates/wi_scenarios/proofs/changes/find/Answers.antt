@@ -3,7 +3,7 @@ use Rattle.std.proofs.lemmas.Grind.{common_steps}
 use Rattle.std.proofs.lemmas.Result.{IfOk-from_err}
 use Rattle.std.proofs.Math.Nat.{le-add_right}
 use Rattle.wi_scenario_list.specs.Inner.Chains.{effective}
-use Rattle.wi_sessions.specs.Roster.{session_at}
+use Rattle.wi_sessions.specs.Roster.{pending_of, session_at}
 use Rattle.wi_scenarios.proofs.ChangesLemmas.{changes_found, nothing_found, looked, begun_again, if_ok}
 use Rattle.wi_scenarios.proofs.changes.find.Goals as goal
 
@@ -11,18 +11,18 @@ pub returns-clause-list : goal.returns-clause-list
 returns-clause-list g c =
     let stored = g.C.Calculator.stored c.args.calculator.now in
     let d = c.args.desk.now in
-    let cells : c.deref-2.result.now ≡ c.pending.result.now.cells = c.deref-2.ensures.value ∙ c.in_ok-cells.ensures.list in
+    let cells : c.deref-2.result.now ≡ (pending_of c.args.desk.now.sessions c.args.desk.now.current) = c.deref-2.ensures.value ∙ c.in_ok-cells.ensures.list in
     let put : c.deref.result.now ≡ effective d.scenarios (session_at d.sessions d.current).scenario = c.deref.ensures.value ∙ c.in_ok-put.ensures.value in
     if_ok _ _ c.find_changes.result
-    (λ found is. changes_found stored d c.pending.result.now.cells c.deref-2.result.now c.deref.result.now c.picture-picture.result.now found.items
-    c.requires c.in_ok-cells.ensures.order c.pending.ensures.cells cells put c.picture-picture.ensures is)
+    (λ found is. changes_found stored d (pending_of c.args.desk.now.sessions c.args.desk.now.current) c.deref-2.result.now c.deref.result.now c.picture-picture.result.now found.items
+    c.requires c.in_ok-cells.ensures.order refl cells put c.picture-picture.ensures is)
     c.find_changes.ensures.found
 
 pub returns-then-is_empty-clause-list : goal.returns-then-is_empty-clause-list
 returns-then-is_empty-clause-list g c =
     let none : length c.in_ok-cells.cells.items ≡ 0 = grind (arith, common_steps) in
-    nothing_found (g.C.Calculator.stored c.args.calculator.now) c.args.desk.now c.pending.result.now.cells c.in_ok-cells.cells.items c.new.result.items
-    c.requires c.in_ok-cells.ensures.order c.pending.ensures.cells c.in_ok-cells.ensures.list none c.new.ensures.items
+    nothing_found (g.C.Calculator.stored c.args.calculator.now) c.args.desk.now (pending_of c.args.desk.now.sessions c.args.desk.now.current) c.in_ok-cells.cells.items c.new.result.items
+    c.requires c.in_ok-cells.ensures.order refl c.in_ok-cells.ensures.list none c.new.ensures.items
 
 pub returns-then-is_empty-clause-evaluations : goal.returns-then-is_empty-clause-evaluations
 returns-then-is_empty-clause-evaluations g c = le-add_right _ _
@@ -44,15 +44,15 @@ returns-in_err-put-clause-restarts g c = le-add_right _ _
 
 pub returns-clause-evaluations : goal.returns-clause-evaluations
 returns-clause-evaluations g c =
-    let cells : c.deref-2.result.now ≡ c.pending.result.now.cells = c.deref-2.ensures.value ∙ c.in_ok-cells.ensures.list in
+    let cells : c.deref-2.result.now ≡ (pending_of c.args.desk.now.sessions c.args.desk.now.current) = c.deref-2.ensures.value ∙ c.in_ok-cells.ensures.list in
     let put : c.deref.result.now ≡ effective c.args.desk.now.scenarios (session_at c.args.desk.now.sessions c.args.desk.now.current).scenario = c.deref.ensures.value ∙ c.in_ok-put.ensures.value in
-    looked (g.C.Calculator.stored c.args.calculator.now) c.args.desk.now c.pending.result.now.cells c.deref-2.result.now c.deref.result.now _ _ c.pending.ensures.cells cells put c.find_changes.ensures.evaluations
+    looked (g.C.Calculator.stored c.args.calculator.now) c.args.desk.now (pending_of c.args.desk.now.sessions c.args.desk.now.current) c.deref-2.result.now c.deref.result.now _ _ refl cells put c.find_changes.ensures.evaluations
 
 pub returns-clause-restarts : goal.returns-clause-restarts
 returns-clause-restarts g c =
-    let cells : c.deref-2.result.now ≡ c.pending.result.now.cells = c.deref-2.ensures.value ∙ c.in_ok-cells.ensures.list in
+    let cells : c.deref-2.result.now ≡ (pending_of c.args.desk.now.sessions c.args.desk.now.current) = c.deref-2.ensures.value ∙ c.in_ok-cells.ensures.list in
     let put : c.deref.result.now ≡ effective c.args.desk.now.scenarios (session_at c.args.desk.now.sessions c.args.desk.now.current).scenario = c.deref.ensures.value ∙ c.in_ok-put.ensures.value in
-    begun_again (g.C.Calculator.stored c.args.calculator.now) c.args.desk.now c.pending.result.now.cells c.deref-2.result.now c.deref.result.now _ _ c.pending.ensures.cells cells put c.find_changes.ensures.restarts
+    begun_again (g.C.Calculator.stored c.args.calculator.now) c.args.desk.now (pending_of c.args.desk.now.sessions c.args.desk.now.current) c.deref-2.result.now c.deref.result.now _ _ refl cells put c.find_changes.ensures.restarts
 
 pub returns-then-is_empty-clause-same : goal.returns-then-is_empty-clause-same
 returns-then-is_empty-clause-same g c = refl

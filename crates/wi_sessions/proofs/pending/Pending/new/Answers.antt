@@ -1,10 +1,16 @@
-use Rattle.std.proofs.Common.{ap, rules}
-use Rattle.std.specs.Map.{keys_of}
-use Rattle.wi_sessions.proofs.CellLemmas.{none_in_order}
+use Rattle.std.proofs.Common.{List, map, length, ap}
+use Rattle.std.specs.List.{range_with_len}
+use Rattle.wi_sessions.specs.declared.unread.Unread.{Unread}
+use Rattle.wi_sessions.specs.Inner.Cells.{cells_in, vacant_in}
+use Rattle.wi_sessions.proofs.PlaceLemmas.{kept_none}
 use Rattle.wi_sessions.proofs.pending.Pending.new.Goals as goal
 
-pub returns-clause-cells : goal.returns-clause-cells
-returns-clause-cells c = search rules
+pub returns-clause-pending : goal.returns-clause-pending
+returns-clause-pending c = ap (λ (us : List Unread). map (cells_in c.new-words.result.entries c.new-staged.result.items) (range_with_len 0 (length us))) c.new-unread.ensures.items
+
+pub returns-clause-vacant : goal.returns-clause-vacant
+returns-clause-vacant c = ap (λ (us : List Unread). map (vacant_in c.new-words.result.entries c.new-staged.result.items) (range_with_len 0 (length us))) c.new-unread.ensures.items
 
 pub invariant_of-result : goal.invariant_of-result
-invariant_of-result c = none_in_order (keys_of c.new.result.entries) (ap (λ es. keys_of es) c.new.ensures)
+invariant_of-result c =
+    kept_none c.new-words.result.entries c.new-staged.result.items c.new-changed.result.items c.new-unread.result.items c.new-words.ensures c.new-staged.ensures.items c.new-unread.ensures.items

@@ -1,21 +1,26 @@
-use Rattle.std.proofs.Common.{rules, ◌≡◌, ◌∙◌, ◌||◌, ℕ, ap}
-use Rattle.std.specs.Map.{keys_of}
-use Rattle.wi_sessions.specs.Pending.{PendingCells}
+use Rattle.std.proofs.Common.{◌∙◌, ◌||◌, ap, length, sym}
+use Rattle.wi_sessions.specs.Pending.{AllPending, list_at}
 use Rattle.wi_sessions.specs.Pictures.Laws.{is_listed}
 use Rattle.wi_sessions.specs.Inner.Cells.{cells_in}
-use Rattle.wi_sessions.proofs.CellLemmas.{none_vacant, pending_taken}
-use Rattle.wi_sessions.proofs.EntryLemmas.{order-removed}
+use Rattle.wi_sessions.proofs.ViewLemmas.{so_many}
+use Rattle.wi_sessions.proofs.PlaceLemmas.{kept_taken}
+use Rattle.wi_sessions.proofs.PendingLemmas.{rooms_gone, taken_at}
 use Rattle.wi_sessions.proofs.pending.Pending.take.Goals as goal
 
-pub returns-clause-cells : goal.returns-clause-cells
-returns-clause-cells c =
-    let taken : (q : ℕ) → is_listed (cells_in (keys_of c.self.inside.all.entries) c.clear.new.self.items) q ≡ (is_listed c.args.self.now.cells q || is_listed c.args.self.now.vacant q) =
-    λ q. pending_taken (keys_of c.self.inside.all.entries) c.self.inside.vacant.items c.clear.new.self.items c.clear.ensures.items q
-    ∙ ap (λ (p : PendingCells). is_listed p.cells q || is_listed p.vacant q) c.self.view_is in
-    search taken
+pub returns-clause-lists : goal.returns-clause-lists
+returns-clause-lists c =
+    let words = c.self.inside.words.entries in
+    let n = length c.self.inside.unread.items in
+    so_many (cells_in words c.clear.new.self.items) n ∙ sym (so_many (cells_in words c.self.inside.staged.items) n) ∙ ap (λ (p : AllPending). length p.pending) c.self.view_is
+
+pub returns-clause-pending : goal.returns-clause-pending
+returns-clause-pending c =
+    λ i q. taken_at c.self.inside.words.entries c.self.inside.staged.items c.clear.new.self.items (length c.self.inside.unread.items) i q c.self.invariant.order c.clear.ensures.items
+    ∙ ap (λ (p : AllPending). is_listed (list_at p.pending i) q || is_listed (list_at p.vacant i) q) c.self.view_is
 
 pub returns-clause-vacant : goal.returns-clause-vacant
-returns-clause-vacant c = none_vacant _ c.clear.new.self.items c.clear.ensures.items
+returns-clause-vacant c = λ i. rooms_gone c.self.inside.words.entries c.clear.new.self.items (length c.self.inside.unread.items) i c.clear.ensures.items
 
 pub invariant_of-self : goal.invariant_of-self
-invariant_of-self c = search (rules, order-removed)
+invariant_of-self c =
+    kept_taken c.self.inside.words.entries c.self.inside.staged.items c.self.inside.changed.items c.self.inside.unread.items c.self.invariant c.clear.new.self.items c.clear.ensures.items

@@ -1,32 +1,18 @@
-use Rattle.std.proofs.Common.{◌<◌, ℕ, [], length, sym, ap, subst, ◌∙◌}
+use Rattle.std.proofs.Common.{◌<◌, ℕ, length, [], sym, ap, subst, ◌∙◌}
 use Rattle.std.proofs.lemmas.List.{length-map}
 use Rattle.wi_sessions.specs.Sessions.{Session, new_session}
 use Rattle.wi_sessions.specs.Roster.{Roster}
-use Rattle.wi_sessions.specs.Inner.Held.{session_in, pending_cells, rooms_of, with_name}
+use Rattle.wi_sessions.specs.Inner.Held.{session_in, with_name}
 use Rattle.wi_sessions.proofs.RosterLemmas.{entry_at, part_at}
 use Rattle.wi_sessions.proofs.sessions.Sessions.at.Goals as goal
 
-pub returns-clause-session : goal.returns-clause-session
-returns-clause-session c =
+pub returns : goal.returns
+returns c =
     let items = c.self.inside.held.entries in
     let x = c.index.result.now in
     let e = entry_at items c.args.i x c.index.ensures in
     let there = part_at session_in items c.args.i e.0 x c.args.self.now.sessions e.1 (ap (λ (r : Roster). r.sessions) c.self.view_is) (new_session []) in
     ap (λ (s : Session). with_name s.name x) there ∙ sym there
-
-pub returns-clause-cells : goal.returns-clause-cells
-returns-clause-cells c =
-    let items = c.self.inside.held.entries in
-    let x = c.index.result.now in
-    let e = entry_at items c.args.i x c.index.ensures in
-    sym (part_at pending_cells items c.args.i e.0 x c.args.self.now.pending e.1 (ap (λ (r : Roster). r.pending) c.self.view_is) [])
-
-pub returns-clause-vacant : goal.returns-clause-vacant
-returns-clause-vacant c =
-    let items = c.self.inside.held.entries in
-    let x = c.index.result.now in
-    let e = entry_at items c.args.i x c.index.ensures in
-    sym (part_at rooms_of items c.args.i e.0 x c.args.self.now.vacant e.1 (ap (λ (r : Roster). r.vacant) c.self.view_is) [])
 
 pub index-requires : goal.index-requires
 index-requires c =

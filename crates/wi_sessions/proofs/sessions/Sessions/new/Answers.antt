@@ -1,20 +1,23 @@
-use Rattle.std.proofs.Common.{◌≡◌, ℕ, List, [], ◌∷◌, ◌++◌, map, get_or, ap, ◌∙◌, Global}
+use Rattle.std.proofs.Common.{◌≡◌, ℕ, List, [], ◌∷◌, ◌++◌, map, get_or, length, ap, sym, ◌∙◌, Global}
 use Rattle.std.specs.declared.rc.RcStr.{RcStr}
 use Rattle.wi_sessions.specs.Pictures.Laws.{is_listed}
 use Rattle.wi_sessions.specs.Sessions.{new_session}
-use Rattle.wi_sessions.specs.Inner.Held.{session_in, pending_cells, rooms_of}
+use Rattle.wi_sessions.specs.Inner.Held.{session_in}
 use Rattle.wi_sessions.specs.declared.held.Held.{Held}
 use Rattle.wi_sessions.proofs.sessions.Sessions.new.Goals as goal
 
+pub invariant_of-sessions : goal.invariant_of-sessions
+invariant_of-sessions c = ap (λ (xss : List (List ℕ)). length xss) c.new-pending.ensures.pending ∙ sym (ap (λ (es : List (RcStr Global × Held)). length es) c.new-held.ensures.empty)
+
 pub returns-clause-sessions : goal.returns-clause-sessions
 returns-clause-sessions c =
-    c.in_ok-push.ensures.sessions ∙ ap (λ (es : List (RcStr Global × Held)). map session_in es ++ new_session c.args.name.now ∷ []) c.new.ensures.empty
+    c.in_ok-push.ensures.sessions ∙ ap (λ (es : List (RcStr Global × Held)). map session_in es ++ new_session c.args.name.now ∷ []) c.new-held.ensures.empty
 
 pub returns-clause-pending : goal.returns-clause-pending
 returns-clause-pending c =
     let p = c.in_ok-push.ensures.pending in
-    let e : c.push.new.self.pending ≡ p.0 ∷ [] = p.1 ∙ ap (λ (es : List (RcStr Global × Held)). map pending_cells es ++ p.0 ∷ []) c.new.ensures.empty in
+    let e : c.push.new.self.pending ≡ p.0 ∷ [] = p.1 ∙ ap (λ (xss : List (List ℕ)). xss ++ p.0 ∷ []) c.new-pending.ensures.pending in
     λ a. ap (λ (xs : List (List ℕ)). is_listed (get_or xs 0 []) a) e ∙ p.2 a
 
 pub returns-clause-vacant : goal.returns-clause-vacant
-returns-clause-vacant c = λ i. c.in_ok-push.ensures.vacant i ∙ ap (λ (es : List (RcStr Global × Held)). get_or (map rooms_of es) i []) c.new.ensures.empty
+returns-clause-vacant c = λ i. c.in_ok-push.ensures.vacant i ∙ ap (λ (xss : List (List ℕ)). get_or xss i []) c.new-pending.ensures.vacant

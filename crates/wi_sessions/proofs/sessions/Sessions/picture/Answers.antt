@@ -3,4 +3,4 @@ use Rattle.wi_sessions.specs.Sessions.{Session}
 use Rattle.wi_sessions.proofs.sessions.Sessions.picture.Goals as goal
 
 pub returns : goal.returns
-returns c = ap (λ (s : Session). s.picture) c.at.ensures.session
+returns c = ap (λ (s : Session). s.picture) c.at.ensures

@@ -1,35 +1,40 @@
-use Rattle.std.proofs.Common.{ℕ, List, [], get_or, refl, ap, ◌∙◌}
-use Rattle.std.proofs.lemmas.Result.{on_ok_weaker}
+use Rattle.std.proofs.Common.{◌≡◌, ◌+◌, ◌∙◌, ℕ, List, [], ◌∷◌, ◌++◌, get_or, length, ap, sym, arith}
+use Rattle.std.proofs.lemmas.List.{length-append}
 use Rattle.wi_sessions.specs.Sessions.{new_session}
+use Rattle.wi_sessions.specs.Pending.{AllPending}
 use Rattle.wi_sessions.specs.Roster.{Roster}
-use Rattle.wi_sessions.specs.Inner.Held.{session_in, pending_cells, rooms_of}
-use Rattle.wi_sessions.proofs.RosterLemmas.{told_more, empty_after}
+use Rattle.wi_sessions.specs.Inner.Held.{roster_in, session_in}
+use Rattle.wi_sessions.proofs.RosterLemmas.{told_more, empty_after, popped_again}
 use Rattle.wi_sessions.proofs.sessions.Sessions.push.Goals as goal
 
-pub returns-clause-sessions : goal.returns-clause-sessions
-returns-clause-sessions c =
-    let items = c.self.inside.held.entries in
-    let k = c.in_ok-name.name in
-    let x = c.in_ok-held.held in
-    on_ok_weaker c.add.result
-    (λ h. told_more session_in items _ k x c.args.self.now.sessions (new_session c.args.name.now) h (ap (λ (r : Roster). r.sessions) c.self.view_is)
-    (c.in_ok-held.ensures.session _ ∙ ap (λ (bs : List ℕ). new_session bs) c.in_ok-name.ensures.ok)) c.add.ensures.added
+pub returns-in-Ok-clause-sessions : goal.returns-in-Ok-clause-sessions
+returns-in-Ok-clause-sessions c =
+    told_more session_in c.self.inside.held.entries _ c.in_ok-name.name c.new.result c.args.self.now.sessions (new_session c.args.name.now) c.in_ok-add.ensures.added
+    (ap (λ (r : Roster). r.sessions) c.self.view_is) (c.new.ensures _ ∙ ap (λ (bs : List ℕ). new_session bs) c.in_ok-name.ensures.ok)
 
-pub returns-clause-pending : goal.returns-clause-pending
-returns-clause-pending c =
-    let items = c.self.inside.held.entries in
-    let k = c.in_ok-name.name in
-    let x = c.in_ok-held.held in
-    on_ok_weaker c.add.result
-    (λ h. (x.pending.cells, told_more pending_cells items _ k x c.args.self.now.pending x.pending.cells h (ap (λ (r : Roster). r.pending) c.self.view_is) refl, c.in_ok-held.ensures.pending))
-    c.add.ensures.added
+pub returns-in-Ok-clause-pending : goal.returns-in-Ok-clause-pending
+returns-in-Ok-clause-pending c =
+    let p = c.in-Ok.ensures.pending in
+    (p.0, p.1 ∙ ap (λ (r : Roster). r.pending ++ p.0 ∷ []) c.self.view_is, p.2)
 
-pub returns-clause-vacant : goal.returns-clause-vacant
-returns-clause-vacant c =
-    let items = c.self.inside.held.entries in
-    let k = c.in_ok-name.name in
-    let x = c.in_ok-held.held in
-    on_ok_weaker c.add.result
-    (λ h i. ap (λ (zs : List (List ℕ)). get_or zs i [])
-    (told_more rooms_of items _ k x c.args.self.now.vacant [] h (ap (λ (r : Roster). r.vacant) c.self.view_is) c.in_ok-held.ensures.vacant)
-    ∙ empty_after c.args.self.now.vacant i) c.add.ensures.added
+pub returns-in-Ok-clause-vacant : goal.returns-in-Ok-clause-vacant
+returns-in-Ok-clause-vacant c =
+    λ i. ap (λ (xss : List (List ℕ)). get_or xss i []) c.in-Ok.ensures.vacant ∙ empty_after c.self.inside.pending.vacant i ∙ ap (λ (r : Roster). get_or r.vacant i []) c.self.view_is
+
+pub invariant_of-self-in-Ok : goal.invariant_of-self-in-Ok
+invariant_of-self-in-Ok c =
+    let p = c.in-Ok.ensures.pending in
+    ap (λ (xss : List (List ℕ)). length xss) p.1 ∙ length-append c.self.inside.pending.pending (p.0 ∷ []) ∙ ap (λ (n : ℕ). n + 1) c.self.invariant
+    ∙ sym (ap (λ es. length es) c.in_ok-add.ensures.added ∙ length-append c.self.inside.held.entries ((c.in_ok-name.name, c.new.result) ∷ []))
+
+pub returns-in-Err-clause-refused : goal.returns-in-Err-clause-refused
+returns-in-Err-clause-refused c =
+    let long : length c.add.new.sessions.entries ≡ length c.self.inside.held.entries + 1 = ap (λ es. length es) c.in_ok-add.ensures.added ∙ length-append c.self.inside.held.entries ((c.in_ok-name.name, c.new.result) ∷ []) in
+    ap (λ es. roster_in es c.push.new.self) (popped_again c.self.inside.held.entries _ c.pop.new.self.entries _ c.pop.result c.in_ok-add.ensures.added c.pop.ensures.entries (c.pop.ensures.found.1 (omega (arith, long))))
+    ∙ ap (λ (p : AllPending). roster_in c.self.inside.held.entries p) c.in-Err.ensures.refused ∙ c.self.view_is
+
+pub invariant_of-self-in-Err : goal.invariant_of-self-in-Err
+invariant_of-self-in-Err c =
+    let long : length c.add.new.sessions.entries ≡ length c.self.inside.held.entries + 1 = ap (λ es. length es) c.in_ok-add.ensures.added ∙ length-append c.self.inside.held.entries ((c.in_ok-name.name, c.new.result) ∷ []) in
+    ap (λ (p : AllPending). length p.pending) c.in-Err.ensures.refused ∙ c.self.invariant
+    ∙ sym (ap (λ es. length es) (popped_again c.self.inside.held.entries _ c.pop.new.self.entries _ c.pop.result c.in_ok-add.ensures.added c.pop.ensures.entries (c.pop.ensures.found.1 (omega (arith, long)))))

@@ -1,0 +1,6 @@
+use Rattle.std.proofs.Common.{◌<◌, ◌+◌, ℕ}
+use Rattle.std.specs.Prelude.{slice_index}
+use Rattle.wi_sessions.proofs.cells.rises.Given as goal
+
+abbrev pub invariant-loop-i : goal.invariant-loop-i
+invariant-loop-i l = (k : ℕ) → k + 1 < l.i → slice_index l.cells k < slice_index l.cells (k + 1)

@@ -1,0 +1,83 @@
+use Rattle.std.proofs.Common.{◌||◌, ◌&&◌, ◌∙◌, ℕ, not, map, length, ap}
+use Rattle.std.specs.List.{range_with_len}
+use Rattle.wi_sessions.specs.Pictures.Laws.{is_listed}
+use Rattle.wi_sessions.specs.Pending.{AllPending, list_at}
+use Rattle.wi_sessions.specs.Inner.Cells.{cells_in, vacant_in}
+use Rattle.wi_sessions.proofs.PlaceLemmas.{kept_at, kept_given}
+use Rattle.wi_sessions.proofs.WordLemmas.{pending_then}
+use Rattle.wi_sessions.proofs.PendingLemmas.{kept_each, pending_same, room_each, rooms_gone, within_unread}
+use Rattle.wi_sessions.proofs.pending.Pending.make_room_all.Goals as goal
+
+pub stage_all-requires-clause-order : goal.stage_all-requires-clause-order
+stage_all-requires-clause-order c = c.self.invariant.order
+
+pub stage_all-requires-clause-few : goal.stage_all-requires-clause-few
+stage_all-requires-clause-few c = c.self.invariant.few
+
+pub returns-in-Ok-clause-pending : goal.returns-in-Ok-clause-pending
+returns-in-Ok-clause-pending c =
+    let words = c.self.inside.words.entries in
+    let staged = c.self.inside.staged.items in
+    let n = length c.self.inside.unread.items in
+    let more = c.stage_all.new.words.entries in
+    let rooms = c.stage_all.new.staged.items in
+    let k = c.self.invariant in
+    ap (λ (m : ℕ). map (cells_in more rooms) (range_with_len 0 m)) c.stage_all.ensures.lists
+    ∙ pending_same words staged more rooms n k.order c.stage_all.ensures.order c.stage_all.ensures.pending ∙ ap (λ (p : AllPending). p.pending) c.self.view_is
+
+pub returns-in-Ok-clause-room : goal.returns-in-Ok-clause-room
+returns-in-Ok-clause-room c =
+    let words = c.self.inside.words.entries in
+    let staged = c.self.inside.staged.items in
+    let n = length c.self.inside.unread.items in
+    let more = c.stage_all.new.words.entries in
+    let rooms = c.stage_all.new.staged.items in
+    let k = c.self.invariant in
+    λ i q l. ap (λ (m : ℕ). is_listed (list_at (map (vacant_in more rooms) (range_with_len 0 m)) i) q) c.stage_all.ensures.lists
+    ∙ room_each words staged more rooms n c.args.cells.now k.order c.stage_all.ensures.order c.in-Ok.ensures.room i q (within_unread words staged n i c.args.self.now c.self.view_is l)
+    ∙ ap (λ (p : AllPending). is_listed (list_at p.vacant i) q || (is_listed c.args.cells.now q && not (is_listed (list_at p.pending i) q))) c.self.view_is
+
+pub invariant_of-self : goal.invariant_of-self
+invariant_of-self c =
+    let words = c.self.inside.words.entries in
+    let staged = c.self.inside.staged.items in
+    let n = length c.self.inside.unread.items in
+    let more = c.stage_all.new.words.entries in
+    let rooms = c.stage_all.new.staged.items in
+    let k = c.self.invariant in
+    kept_each words staged more rooms n c.args.cells.now k.order c.stage_all.ensures.order c.in-Ok.ensures.room c.stage_all.new.changed.items c.stage_all.new.unread.items c.stage_all.ensures.lists
+    (kept_at words staged c.self.inside.changed.items c.self.inside.unread.items k c.stage_all.new.changed.items c.stage_all.new.unread.items c.stage_all.ensures.lists (c.stage_all.ensures.places words k.places))
+    (c.in-Ok.ensures.looked words k.places)
+
+pub give_back-requires : goal.give_back-requires
+give_back-requires c = c.stage_all.ensures.order
+
+pub returns-in-Err-clause-pending : goal.returns-in-Err-clause-pending
+returns-in-Err-clause-pending c =
+    let words = c.self.inside.words.entries in
+    let staged = c.self.inside.staged.items in
+    let n = length c.self.inside.unread.items in
+    let more = c.stage_all.new.words.entries in
+    let rooms = c.stage_all.new.staged.items in
+    let k = c.self.invariant in
+    let less = c.give_back.new.words.entries in
+    let none = c.give_back.new.staged.items in
+    ap (λ (m : ℕ). map (cells_in less none) (range_with_len 0 m)) c.stage_all.ensures.lists
+    ∙ pending_same words staged less none n k.order c.give_back.ensures.order (pending_then words staged more rooms less none c.stage_all.ensures.pending c.give_back.ensures.pending)
+    ∙ ap (λ (p : AllPending). p.pending) c.self.view_is
+
+pub returns-in-Err-clause-refused : goal.returns-in-Err-clause-refused
+returns-in-Err-clause-refused c = λ j. rooms_gone c.give_back.new.words.entries c.give_back.new.staged.items (length c.stage_all.new.unread.items) j c.give_back.ensures.none
+
+pub invariant_of-self-in-Err : goal.invariant_of-self-in-Err
+invariant_of-self-in-Err c =
+    let words = c.self.inside.words.entries in
+    let staged = c.self.inside.staged.items in
+    let n = length c.self.inside.unread.items in
+    let more = c.stage_all.new.words.entries in
+    let rooms = c.stage_all.new.staged.items in
+    let k = c.self.invariant in
+    kept_given words staged c.stage_all.new.changed.items c.stage_all.new.unread.items
+    (kept_at words staged c.self.inside.changed.items c.self.inside.unread.items k c.stage_all.new.changed.items c.stage_all.new.unread.items c.stage_all.ensures.lists (c.stage_all.ensures.places words k.places))
+    c.give_back.new.words.entries c.give_back.new.staged.items c.give_back.ensures.order
+    (pending_then words staged more rooms c.give_back.new.words.entries c.give_back.new.staged.items c.stage_all.ensures.pending c.give_back.ensures.pending) c.give_back.ensures.none

@@ -1,0 +1,7 @@
+use Rattle.std.proofs.Common.{◌≡◌, ◌++◌, drop, not}
+use Rattle.std.specs.Prelude.{filter}
+use Rattle.wi_sessions.specs.Inner.Cells.{is_staged}
+use Rattle.wi_sessions.proofs.pending.without_rooms.Given as goal
+
+abbrev pub invariant-loop-at : goal.invariant-loop-at
+invariant-loop-at l = l.found.items ++ filter (λ c. not (is_staged l.staged l.i c)) (drop l.at-index l.cells) ≡ filter (λ c. not (is_staged l.staged l.i c)) l.cells

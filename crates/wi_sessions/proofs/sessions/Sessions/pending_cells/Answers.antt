@@ -1,0 +1,16 @@
+use Rattle.std.proofs.Common.{◌≡◌, subst}
+use Rattle.std.specs.Prelude.{IfOk, OnOk}
+use Rattle.wi_sessions.specs.Pictures.{sheet_size}
+use Rattle.wi_sessions.specs.Pictures.Laws.{Rises}
+use Rattle.wi_sessions.specs.Roster.{Roster, pending_of}
+use Rattle.wi_sessions.proofs.RosterLemmas.{within_lists}
+use Rattle.wi_sessions.proofs.sessions.Sessions.pending_cells.Goals as goal
+
+pub cells-requires : goal.cells-requires
+cells-requires c = within_lists c.self.inside.held.entries c.self.inside.pending c.args.self.now c.args.i c.self.view_is c.self.invariant c.requires
+
+pub returns-clause-list : goal.returns-clause-list
+returns-clause-list c = subst (λ (r : Roster). IfOk c.cells.result (λ found. found.items ≡ pending_of r c.args.i)) c.self.view_is c.cells.ensures.list
+
+pub returns-clause-order : goal.returns-clause-order
+returns-clause-order c = subst (λ (r : Roster). OnOk c.cells.result (Rises 0 sheet_size (pending_of r c.args.i))) c.self.view_is c.cells.ensures.order

@@ -1,0 +1,19 @@
+use Rattle.std.proofs.Common.{◌∙◌, ◌||◌, ap, length}
+use Rattle.wi_sessions.specs.Pictures.Laws.{is_listed}
+use Rattle.wi_sessions.specs.Roster.{Roster, pending_of, vacant_of}
+use Rattle.wi_sessions.proofs.sessions.Sessions.take_all.Goals as goal
+
+pub returns-clause-sessions : goal.returns-clause-sessions
+returns-clause-sessions c = ap (λ (r : Roster). r.sessions) c.self.view_is
+
+pub returns-clause-lists : goal.returns-clause-lists
+returns-clause-lists c = c.take.ensures.lists ∙ ap (λ (r : Roster). length r.pending) c.self.view_is
+
+pub returns-clause-pending : goal.returns-clause-pending
+returns-clause-pending c = λ i q. c.take.ensures.pending i q ∙ ap (λ (r : Roster). is_listed (pending_of r i) q || is_listed (vacant_of r i) q) c.self.view_is
+
+pub returns-clause-vacant : goal.returns-clause-vacant
+returns-clause-vacant c = c.take.ensures.vacant
+
+pub invariant_of-self : goal.invariant_of-self
+invariant_of-self c = c.take.ensures.lists ∙ c.self.invariant
