@@ -42,8 +42,8 @@ fn push_change(alloc: Global, at: Address, text: &str, changes: &mut Changes) ->
 }
 
 fn push_changes(rt: &impl Abort, alloc: Global, texts: &str, changes: &mut Changes) -> Option<()> {
-    for change in texts.split(", ") {
-        if let Some((name, text)) = change.split_once(' ') {
+    for change in texts.split(',') {
+        if let Some((name, text)) = change.trim_start().split_once(' ') {
             push_change(alloc, cell(rt, name), text, changes)?;
         }
     }

@@ -37,6 +37,7 @@ fn hashes(rt: HostRuntime) {
     seen.insert(fraction(&rt, 1, 2)).expect(&rt, "a place");
     assert!(rt; seen.contains(&fraction(&rt, -4, -8)));
     assert!(rt; !seen.contains(&fraction(&rt, -1, 2)));
+    drop(seen);
 }
 
 #[test]

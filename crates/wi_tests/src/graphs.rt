@@ -3,7 +3,7 @@
 ghost use Rattle.std.specs.Prelude.{◌≡◌, None};
 
 use crate::cells::{Changes, cell, cells, changes};
-use crate::texts::{addresses, expect_text, expect_that};
+use crate::texts::{expect_addresses, expect_that};
 use std::alloc::Global;
 use std::process::Abort;
 use wi_graph::Graph;
@@ -18,6 +18,7 @@ fn stage(rt: &impl Abort, alloc: Global, graph: &mut Graph, texts: &str)
 {
     let changes = changes(rt, alloc, texts).expect(rt, texts);
     graph.stage(&changes).expect(rt, texts);
+    drop(changes);
 }
 
 /// Takes an edit.
@@ -44,20 +45,20 @@ fn edit_all(rt: &impl Abort, alloc: Global, graph: &mut Graph, edits: &[Edit<'_>
     }
 }
 
-/// The cone of some cells, a space behind each.
-fn cone(rt: &impl Abort, alloc: Global, graph: &Graph, names: &str) -> String
+/// These are the cone of some cells, a space behind each.
+fn expect_cone(rt: &impl Abort, alloc: Global, graph: &Graph, names: &str, wanted: &str)
     requires { graph.now.staged ≡ None }
 {
     let edited = cells(rt, alloc, names);
     let cone = graph.cone(&edited).expect(rt, names);
-    addresses(rt, alloc, &cone)
+    expect_addresses(rt, alloc, names, &cone, wanted);
 }
 
 fn expect_cones(rt: &impl Abort, alloc: Global, graph: &Graph, rows: &[(&str, &str)])
     requires { graph.now.staged ≡ None }
 {
     for (names, wanted) in rows {
-        expect_text(rt, names, &cone(rt, alloc, graph, names), wanted);
+        expect_cone(rt, alloc, graph, names, wanted);
     }
 }
 
@@ -202,6 +203,7 @@ fn take_chain(rt: &impl Abort, alloc: Global, graph: &mut Graph)
 {
     let chain = chain(rt, alloc);
     graph.stage(&chain).expect(rt, "the chain");
+    drop(chain);
     graph.commit();
 }
 

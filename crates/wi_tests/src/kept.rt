@@ -6,7 +6,7 @@ use crate::answers::{expect_marked, expect_next, expect_occupied, fill};
 use crate::cells::cells;
 use std::alloc::Global;
 use std::process::Abort;
-use wi_propagate::KeptCalculator;
+use wi_propagate::{Calculator, KeptCalculator};
 use wi_store::Limits;
 
 /// A sheet that keeps so many values, and whose cells have these contents, where there is memory.
@@ -35,10 +35,10 @@ fn cells_with_no_content(rt: HostRuntime) {
     drop(sheet);
 }
 
-fn expect_each_marked(
+fn expect_each_marked<C: Calculator>(
     rt: &impl Abort,
     alloc: Global,
-    sheet: &KeptCalculator,
+    sheet: &C,
     rows: &[(&str, &str)],
 ) {
     for (edited, wanted) in rows {

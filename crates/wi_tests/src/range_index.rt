@@ -1,7 +1,7 @@
 //! The range index.
 
 use crate::cells::{area, cell};
-use crate::texts::{addresses, expect_text, expect_that};
+use crate::texts::{expect_addresses, expect_that};
 use std::alloc::{AllocError, Global};
 use std::process::Abort;
 use wi_ranges::RangeIndex;
@@ -9,7 +9,7 @@ use wi_values::{Address, Rect};
 
 /// Adds the pair that a text names, as `A2:A3 C1`, or takes it away, as `-A2:A3 C1`.
 fn take(rt: &impl Abort, index: &mut RangeIndex, step: &str) {
-    let Some((pair, reader)) = step.split_once(' ') else {
+    let Some((pair, reader)) = step.trim_start().split_once(' ') else {
         return;
     };
     let reader = cell(rt, reader);
@@ -20,7 +20,7 @@ fn take(rt: &impl Abort, index: &mut RangeIndex, step: &str) {
 }
 
 fn take_all(rt: &impl Abort, index: &mut RangeIndex, steps: &str) {
-    for step in steps.split(", ") {
+    for step in steps.split(',') {
         take(rt, index, step);
     }
 }
@@ -40,15 +40,15 @@ fn expect_pieces(rt: &impl Abort, alloc: Global, rows: &[(&str, u64)]) {
     }
 }
 
-/// The readers of a cell, a space behind each.
-fn readers(rt: &impl Abort, alloc: Global, index: &RangeIndex, at: &str) -> String {
+/// These are the readers of a cell, a space behind each.
+fn expect_readers_of(rt: &impl Abort, alloc: Global, index: &RangeIndex, at: &str, wanted: &str) {
     let found = index.readers_of(cell(rt, at)).expect(rt, at);
-    addresses(rt, alloc, &found)
+    expect_addresses(rt, alloc, at, &found, wanted);
 }
 
 fn expect_readers(rt: &impl Abort, alloc: Global, index: &RangeIndex, rows: &[(&str, &str)]) {
     for (at, wanted) in rows {
-        expect_text(rt, at, &readers(rt, alloc, index, at), wanted);
+        expect_readers_of(rt, alloc, index, at, wanted);
     }
 }
 

@@ -13,7 +13,7 @@ use crate::cells::cell;
 use crate::kept::sheet;
 use std::alloc::Global;
 use std::process::Abort;
-use wi_propagate::KeptCalculator;
+use wi_propagate::Calculator;
 use wi_values::{Address, Replacement, Value};
 
 // B2 is whether B1 is above 5, and C4 whether it would be with A4 in B1.
@@ -63,7 +63,7 @@ fn of_entries(rt: HostRuntime) {
 const LATER: &str = "A4 9, D4 =[.C4], D5 =[.B1:.C4]+[.B2:.C2], D6 =[.D4]=[.D5], D7 7";
 
 // C4 shows FALSE, and TRUE after the edit. Tells whether each call succeeded at once.
-fn expect_turned(rt: &impl Abort, alloc: Global, sheet: &mut KeptCalculator) -> bool {
+fn expect_turned<C: Calculator>(rt: &impl Abort, alloc: Global, sheet: &mut C) -> bool {
     let at = cell(rt, "C4");
     let before = expect_kept(rt, sheet, at, &[], false);
     match expect_edit(rt, alloc, sheet, LATER) {
@@ -87,7 +87,12 @@ fn of_edits(rt: HostRuntime) {
 }
 
 // B1 and B2 no longer read each other after the edit. Tells whether each call succeeded at once.
-fn expect_opened(rt: &impl Abort, alloc: Global, sheet: &mut KeptCalculator, at: Address) -> bool {
+fn expect_opened<C: Calculator>(
+    rt: &impl Abort,
+    alloc: Global,
+    sheet: &mut C,
+    at: Address,
+) -> bool {
     let before = expect_no_truth(rt, sheet, at);
     match expect_edit_of_cycle(rt, alloc, sheet, at, "B1 10") {
         Some(at_once) => expect_kept(rt, sheet, at, &[], false) && before && at_once,
@@ -96,7 +101,7 @@ fn expect_opened(rt: &impl Abort, alloc: Global, sheet: &mut KeptCalculator, at:
 }
 
 // B1 and B2 read each other after the first edit, and not after the second. Tells whether each call succeeded at once.
-fn expect_closed_and_opened(rt: &impl Abort, alloc: Global, sheet: &mut KeptCalculator) -> bool {
+fn expect_closed_and_opened<C: Calculator>(rt: &impl Abort, alloc: Global, sheet: &mut C) -> bool {
     let at = cell(rt, "C4");
     let before = expect_kept(rt, sheet, at, &[], false);
     match expect_edit(rt, alloc, sheet, "B1 =[.B2]") {
@@ -120,7 +125,7 @@ fn of_edits_of_cycles(rt: HostRuntime) {
 }
 
 // Nothing stands in B1 then, so B2 is FALSE; else it is TRUE. Tells whether each call succeeded at once.
-fn expect_replaced(rt: &impl Abort, sheet: &mut KeptCalculator) -> bool {
+fn expect_replaced<C: Calculator>(rt: &impl Abort, sheet: &mut C) -> bool {
     let at = cell(rt, "B2");
     let put = [Replacement {
         at: cell(rt, "B1"),

@@ -3,6 +3,7 @@
 //! `rt try --test --fail-alloc N` refuses the Nth growth, and so one at most in a test. `rt test` and the gate refuse none: there
 //! these tests show that each call succeeds. So of two passes at least one must be without a refusal.
 
+use crate::cells::Changes;
 use crate::keys::{is_logical, keep, keep_in_table, look, look_in_table};
 use crate::stores::expect_counts;
 use std::alloc::{AllocError, Global};
@@ -63,8 +64,6 @@ fn of_records(rt: HostRuntime) {
     assert!(rt; are_read(&rt, rt.alloc()) || are_read(&rt, rt.alloc()));
 }
 
-type Changes = Vec<(Address, Option<Content>)>;
-
 fn has(store: &Store, at: Address, sign: bool) -> bool {
     match store.get(at) {
         Some(Content::Constant(value)) => is_logical(Some(value), sign),
@@ -92,11 +91,14 @@ fn one(alloc: Global) -> Result<Changes, AllocError> {
 }
 
 // A store with TRUE in A1.
-fn store_of_one(alloc: Global) -> Result<Store, StoreFault> {
-    let one = one(alloc)?;
+fn store_of_one(alloc: Global) -> Option<Store> {
+    let one = one(alloc).ok()?;
     let mut store = Store::new(alloc, Limits::standard());
-    store.apply(one)?;
-    Ok(store)
+    if store.apply(one).is_ok() {
+        return Some(store);
+    }
+    drop(store);
+    None
 }
 
 fn apply_forty(alloc: Global, store: &mut Store) -> Result<(), StoreFault> {
@@ -118,10 +120,10 @@ fn expect_one(rt: &impl Abort, store: &Store) {
 
 // Whether the edit was made.
 fn is_applied(rt: &impl Abort, alloc: Global) -> bool {
-    let Ok(mut store) = store_of_one(alloc) else {
+    let Some(mut store) = store_of_one(alloc) else {
         return false;
     };
-    match apply_forty(alloc, &mut store) {
+    let is_applied = match apply_forty(alloc, &mut store) {
         Ok(()) => {
             expect_forty(rt, &store);
             true
@@ -131,7 +133,9 @@ fn is_applied(rt: &impl Abort, alloc: Global) -> bool {
             expect_one(rt, &store);
             false
         }
-    }
+    };
+    drop(store);
+    is_applied
 }
 
 #[test]
@@ -140,12 +144,15 @@ fn of_stores(rt: HostRuntime) {
 }
 
 // An index with the pair of A1:A10 and C1.
-fn index_of_one(alloc: Global) -> Result<RangeIndex, AllocError> {
+fn index_of_one(alloc: Global) -> Option<RangeIndex> {
     let area = Rect::new(Address::at(0, 0), Address::at(9, 0));
     let reader = Address::at(0, 2);
     let mut index = RangeIndex::new(alloc);
-    index.add(area, reader)?;
-    Ok(index)
+    if index.add(area, reader).is_ok() {
+        return Some(index);
+    }
+    drop(index);
+    None
 }
 
 // So many readers are listed. Tells whether there was memory for the list.
@@ -173,7 +180,7 @@ fn expect_added(rt: &impl Abort, index: &mut RangeIndex) -> bool {
 }
 
 fn is_added(rt: &impl Abort, alloc: Global) -> bool {
-    let Ok(mut index) = index_of_one(alloc) else {
+    let Some(mut index) = index_of_one(alloc) else {
         return false;
     };
     let is_added = expect_added(rt, &mut index);
@@ -187,10 +194,13 @@ fn of_the_range_index(rt: HostRuntime) {
 }
 
 // A list of two that has one value.
-fn list_of_one(alloc: Global) -> Result<Kept, AllocError> {
-    let mut kept = Kept::new(alloc, 2)?;
-    keep(alloc, &mut kept, Address::at(0, 0), Value::Logical(true))?;
-    Ok(kept)
+fn list_of_one(alloc: Global) -> Option<Kept> {
+    let mut kept = Kept::new(alloc, 2).ok()?;
+    if keep(alloc, &mut kept, Address::at(0, 0), Value::Logical(true)).is_ok() {
+        return Some(kept);
+    }
+    drop(kept);
+    None
 }
 
 // One more value is kept in a list of one, or only that one is there. Tells whether it is kept.
@@ -205,7 +215,7 @@ fn expect_second(rt: &impl Abort, alloc: Global, kept: &mut Kept) -> bool {
 }
 
 fn is_kept(rt: &impl Abort, alloc: Global) -> bool {
-    let Ok(mut kept) = list_of_one(alloc) else {
+    let Some(mut kept) = list_of_one(alloc) else {
         return false;
     };
     let is_kept = expect_second(rt, alloc, &mut kept);
@@ -326,6 +336,7 @@ fn is_made_known(rt: &impl Abort, alloc: Global) -> bool {
     let mut reaches = Reaches::new(alloc);
     let was_added = reaches.add(Address::at(0, 0), &cone).is_ok();
     assert!(rt; reaches.len() == usize::from(was_added));
+    drop(reaches);
     was_added
 }
 

@@ -1,7 +1,7 @@
 //! Stores.
 
 use crate::cells::{Changes, area, cell, changes};
-use crate::texts::{addresses, expect_text, expect_that, word};
+use crate::texts::{expect_addresses, expect_text, expect_that, word};
 use std::alloc::{AllocError, Global};
 use std::process::Abort;
 use wi_parser::Content;
@@ -17,20 +17,20 @@ fn push_told(content: Option<&Content>, text: &mut String) -> Result<(), AllocEr
     }
 }
 
-/// What stands in a cell.
-fn told(rt: &impl Abort, alloc: Global, store: &Store, at: &str) -> String {
+/// This stands in a cell.
+fn expect_cell(rt: &impl Abort, alloc: Global, store: &Store, at: &str, wanted: &str) {
     let mut text = String::new(alloc);
     push_told(store.get(cell(rt, at)), &mut text).expect(rt, at);
-    text
+    expect_text(rt, at, &text, wanted);
 }
 
 /// An edit, what is answered, how many cells are occupied and edits made then, and what stands in some cells.
 type Edit<'a> = (&'a str, Result<(), StoreFault>, (u64, u64), &'a str);
 
 fn expect_cells(rt: &impl Abort, alloc: Global, store: &Store, cells: &str) {
-    for cell in cells.split(", ") {
-        if let Some((at, wanted)) = cell.split_once(' ') {
-            expect_text(rt, at, &told(rt, alloc, store, at), wanted);
+    for cell in cells.split(',') {
+        if let Some((at, wanted)) = cell.trim_start().split_once(' ') {
+            expect_cell(rt, alloc, store, at, wanted);
         }
     }
 }
@@ -156,15 +156,15 @@ fn found(rt: &impl Abort, alloc: Global, store: &Store, asked: &str) -> Vec<Addr
     }
 }
 
-/// The cells that are asked for, a space behind each.
-fn answer(rt: &impl Abort, alloc: Global, store: &Store, asked: &str) -> String {
+/// These cells are answered where they are asked for, a space behind each.
+fn expect_answer(rt: &impl Abort, alloc: Global, store: &Store, asked: &str, wanted: &str) {
     let found = found(rt, alloc, store, asked);
-    addresses(rt, alloc, &found)
+    expect_addresses(rt, alloc, asked, &found, wanted);
 }
 
 fn expect_each(rt: &impl Abort, alloc: Global, store: &Store, rows: &[(&str, &str)]) {
     for (asked, wanted) in rows {
-        expect_text(rt, asked, &answer(rt, alloc, store, asked), wanted);
+        expect_answer(rt, alloc, store, asked, wanted);
     }
 }
 
@@ -244,4 +244,5 @@ fn an_edit_of_many_cells(rt: HostRuntime) {
     let refused = fill(rt.alloc(), &mut store, 200_001);
     assert!(rt; refused == Err(StoreFault::Full));
     expect_counts(&rt, &store, 200_000, 1);
+    drop(store);
 }

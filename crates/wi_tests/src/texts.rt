@@ -33,7 +33,7 @@ fn push_address(rt: &impl Abort, at: Address, text: &mut String) {
 }
 
 /// Addresses, a space behind each.
-pub fn addresses(rt: &impl Abort, alloc: Global, addresses: &[Address]) -> String {
+fn addresses(rt: &impl Abort, alloc: Global, addresses: &[Address]) -> String {
     let mut text = String::new(alloc);
     for at in addresses {
         push_address(rt, *at, &mut text);
@@ -44,6 +44,11 @@ pub fn addresses(rt: &impl Abort, alloc: Global, addresses: &[Address]) -> Strin
 /// Of something a text is told, and this is wanted.
 pub fn expect_text(rt: &impl Abort, of: &str, told: &str, wanted: &str) {
     assert!(rt; told == wanted, "{of}: {told}");
+}
+
+/// Of something these addresses are found, and those are wanted, a space behind each.
+pub fn expect_addresses(rt: &impl Abort, alloc: Global, of: &str, found: &[Address], wanted: &str) {
+    expect_text(rt, of, &addresses(rt, alloc, found), wanted);
 }
 
 /// What has to be so, with a word that a failure tells.

@@ -14,6 +14,7 @@ fn expect_text_copied(rt: &impl Abort, alloc: Global, text: &Text, wanted: &str)
 fn expect_copied(rt: &impl Abort, alloc: Global, value: &Value) {
     let copy = value.copy(alloc).expect(rt, "a copy");
     assert!(rt; copy == *value);
+    drop(copy);
 }
 
 #[test]
@@ -25,6 +26,8 @@ fn copies_are_equal(rt: HostRuntime) {
     expect_copied(&rt, rt.alloc(), &word);
     expect_copied(&rt, rt.alloc(), &number);
     assert!(rt; word != number);
+    drop(word);
+    drop(number);
 }
 
 #[test]
@@ -39,4 +42,6 @@ fn replacements_are_compared(rt: HostRuntime) {
     };
     assert!(rt; emptied == emptied);
     assert!(rt; emptied != denied);
+    drop(emptied);
+    drop(denied);
 }

@@ -4,7 +4,7 @@ ghost use Rattle.std.specs.Prelude.{All, IsSome, IsTrue};
 ghost use Rattle.std.specs.BTreeMap.{get};
 ghost use Rattle.std.specs.Ordering.{nat_cmp};
 
-use crate::cells::cell;
+use crate::cells::{cell, cells};
 use crate::texts::{expect_text, expect_that, value, word};
 use std::alloc::{AllocError, Global};
 use std::collections::{BTreeMap, BTreeSet, HashMap};
@@ -20,12 +20,12 @@ fn replacement(rt: &impl Abort, alloc: Global, at: &str, word: &str) -> Replacem
     }
 }
 
-/// Appends replacements by the values of words, as `A2=TRUE, C3=`.
+/// Appends replacements by the values of words, as `A2=TRUE C3=`.
 fn push_all(rt: &impl Abort, alloc: Global, words: &str, replacements: &mut Vec<Replacement>) {
-    for text in words.split(", ") {
+    for text in words.split_whitespace() {
         if let Some((at, word)) = text.split_once('=') {
-            let pushed = replacements.push(replacement(rt, alloc, at, word));
-            expect_that(rt, pushed.is_ok(), text);
+            let replacement = replacement(rt, alloc, at, word);
+            replacements.push(replacement).expect(rt, text);
         }
     }
 }
@@ -49,10 +49,10 @@ pub fn after(rt: &impl Abort, alloc: Global, changes: &[&str]) -> World {
 }
 
 /// A2 is TRUE and C3 is emptied.
-const OLD: &str = "C3=, A2=TRUE";
+const OLD: &str = "C3= A2=TRUE";
 
 /// C3 gets a text, A1 is TRUE, then emptied.
-const NEWER: &str = "C3=three, A1=TRUE, A1=";
+const NEWER: &str = "C3=three A1=TRUE A1=";
 
 fn push_replacement(replacement: &Replacement, text: &mut String) -> Result<(), AllocError> {
     replacement.at.push_text(text)?;
@@ -70,11 +70,15 @@ fn told(rt: &impl Abort, alloc: Global, world: &World) -> String {
     text
 }
 
+/// These are the replacements of a world, in their order.
+fn expect_world(rt: &impl Abort, alloc: Global, of: &str, world: &World, wanted: &str) {
+    expect_text(rt, of, &told(rt, alloc, world), wanted);
+}
+
 fn expect(rt: &impl Abort, alloc: Global, changes: &[&str], wanted: &str) {
     let world = after(rt, alloc, changes);
-    let text = told(rt, alloc, &world);
+    expect_world(rt, alloc, "world", &world, wanted);
     drop(world);
-    expect_text(rt, "world", &text, wanted);
 }
 
 #[test]
@@ -94,7 +98,7 @@ fn expect_replaced(rt: &impl Abort, world: &World, rows: &[(&str, &str)]) {
 
 #[test]
 fn replacements_by_address(rt: HostRuntime) {
-    let world = after(&rt, rt.alloc(), &["A2=TRUE, C3=three, A1="]);
+    let world = after(&rt, rt.alloc(), &["A2=TRUE C3=three A1="]);
     expect_replaced(
         &rt,
         &world,
@@ -111,7 +115,9 @@ fn replacements_by_address(rt: HostRuntime) {
 
 #[test]
 fn a_new_world_replaces_nothing(rt: HostRuntime) {
-    expect_replaced(&rt, &after(&rt, rt.alloc(), &[""]), &[("A1", "-")]);
+    let world = after(&rt, rt.alloc(), &[""]);
+    expect_replaced(&rt, &world, &[("A1", "-")]);
+    drop(world);
 }
 
 type Cones = BTreeMap<Address, BTreeSet<Address>>;
@@ -137,20 +143,20 @@ fn all_have_cones(world: &World, cones: &BTreeMap<Address, BTreeSet<Address>>) -
     true
 }
 
-/// The replacements of a world whose cone has a cell.
-fn reaching(
+/// These are the replacements of a world whose cone has a cell.
+fn expect_reaching_cell(
     rt: &impl Abort,
     alloc: Global,
     world: &World,
     cones: &Cones,
     last: &mut World,
     at: &str,
-) -> String {
+    wanted: &str,
+) {
     assert!(rt; all_have_cones(world, cones));
     let found = world.reaching(cell(rt, at), cones, last).expect(rt, at);
-    let text = told(rt, alloc, &found);
+    expect_world(rt, alloc, at, &found, wanted);
     drop(found);
-    text
 }
 
 fn expect_reaching(
@@ -162,9 +168,9 @@ fn expect_reaching(
 ) {
     let mut last = World::new(alloc);
     for (at, wanted) in rows {
-        let found = reaching(rt, alloc, world, cones, &mut last, at);
-        expect_text(rt, at, &found, wanted);
+        expect_reaching_cell(rt, alloc, world, cones, &mut last, at, wanted);
     }
+    drop(last);
 }
 
 // A2 reaches itself and D4; C3 reaches itself, D4 and E5.
@@ -173,10 +179,11 @@ fn cones_that_have_a_cell(rt: HostRuntime) {
     let mut cones = BTreeMap::new(rt.alloc());
     put_cone(&rt, rt.alloc(), &mut cones, "A2", "A2 D4");
     put_cone(&rt, rt.alloc(), &mut cones, "C3", "D4 C3 E5");
+    let world = after(&rt, rt.alloc(), &[OLD]);
     expect_reaching(
         &rt,
         rt.alloc(),
-        &after(&rt, rt.alloc(), &[OLD]),
+        &world,
         &cones,
         &[
             ("A1", ""),
@@ -186,32 +193,31 @@ fn cones_that_have_a_cell(rt: HostRuntime) {
             ("E5", "C3= "),
         ],
     );
+    drop(world);
+    drop(cones);
 }
 
 /// Tells that these cells reach a cell.
 fn tell(rt: &impl Abort, alloc: Global, reaches: &mut Reaches, at: &str, names: &str) {
-    let mut cone = Vec::new(alloc);
-    for name in names.split_whitespace() {
-        expect_that(rt, cone.push(cell(rt, name)).is_ok(), name);
-    }
+    let cone = cells(rt, alloc, names);
     reaches.add(cell(rt, at), &cone).expect(rt, at);
 }
 
-/// The replacements of a world that a cell is told to reach.
-fn reaching_by(
+/// These are the replacements of a world that a cell is told to reach.
+fn expect_told_cell(
     rt: &impl Abort,
     alloc: Global,
     world: &World,
     reaches: &Reaches,
     last: &mut World,
     at: &str,
-) -> String {
+    wanted: &str,
+) {
     let found = world
         .reaching_by(cell(rt, at), reaches, last)
         .expect(rt, at);
-    let text = told(rt, alloc, &found);
+    expect_world(rt, alloc, at, &found, wanted);
     drop(found);
-    text
 }
 
 fn expect_told(
@@ -223,9 +229,9 @@ fn expect_told(
 ) {
     let mut last = World::new(alloc);
     for (at, wanted) in rows {
-        let found = reaching_by(rt, alloc, world, reaches, &mut last, at);
-        expect_text(rt, at, &found, wanted);
+        expect_told_cell(rt, alloc, world, reaches, &mut last, at, wanted);
     }
+    drop(last);
 }
 
 /// The cells of which it is known which cells reach them, of the two that the world replaces, C3 told first.
@@ -257,24 +263,29 @@ fn cells_that_are_told_to_reach(rt: HostRuntime) {
             ("E5", "C3= "),
         ],
     );
+    drop(world);
+    drop(reaches);
+}
+
+/// Tells of each of these cells that it reaches itself.
+fn tell_each(rt: &impl Abort, alloc: Global, reaches: &mut Reaches, names: &str) {
+    for at in names.split_whitespace() {
+        tell(rt, alloc, reaches, at, at);
+    }
 }
 
 /// A column of replaced cells, of which the middle one alone reaches D4.
 #[test]
 fn few_of_many_are_told(rt: HostRuntime) {
+    let all = "A1=TRUE A2= A3= A4=FALSE A5= A6= A7= A8=";
+    let world = after(&rt, rt.alloc(), &[all]);
     let mut reaches = Reaches::new(rt.alloc());
-    for at in ["A1", "A2", "A3", "A4", "A5", "A6", "A7", "A8"] {
-        tell(&rt, rt.alloc(), &mut reaches, at, at);
-    }
+    tell_each(&rt, rt.alloc(), &mut reaches, "A1 A2 A3 A4 A5 A6 A7 A8");
     tell(&rt, rt.alloc(), &mut reaches, "A4", "D4");
-    let all = "A1=TRUE, A2=, A3=, A4=FALSE, A5=, A6=, A7=, A8=";
-    expect_told(
-        &rt,
-        rt.alloc(),
-        &after(&rt, rt.alloc(), &[all]),
-        &reaches,
-        &[("D4", "A4=FALSE "), ("D5", ""), ("A8", "A8= ")],
-    );
+    let rows = [("D4", "A4=FALSE "), ("D5", ""), ("A8", "A8= ")];
+    expect_told(&rt, rt.alloc(), &world, &reaches, &rows);
+    drop(world);
+    drop(reaches);
 }
 
 type Numbers = HashMap<World, u32>;
@@ -293,7 +304,9 @@ fn expect_number(
     changes: &[&str],
     wanted: Option<u32>,
 ) {
-    let found = kept.get(&after(rt, alloc, changes)).copied();
+    let world = after(rt, alloc, changes);
+    let found = kept.get(&world).copied();
+    drop(world);
     expect_that(rt, found == wanted, "the number");
 }
 
@@ -313,7 +326,12 @@ fn equal_worlds_are_one_key(rt: HostRuntime) {
 
 /// Whether the worlds after these changes are equal.
 fn is_one(rt: &impl Abort, alloc: Global, changes: &[&str], others: &[&str]) -> bool {
-    after(rt, alloc, changes) == after(rt, alloc, others)
+    let one = after(rt, alloc, changes);
+    let other = after(rt, alloc, others);
+    let is_one = one == other;
+    drop(one);
+    drop(other);
+    is_one
 }
 
 #[test]
