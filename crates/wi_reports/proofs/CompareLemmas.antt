@@ -1,16 +1,12 @@
 -- The records of a comparison, as they grow.
-use Rattle.std.proofs.Common.{◌≡◌, ℕ, ◌+◌, ◌-◌, List, [], ◌∷◌, ◌++◌, map, sym, ap, ◌∙◌, append_assoc}
-use Rattle.std.specs.List.{flat_map, range_with_len}
+use Rattle.std.proofs.Common.{◌≡◌, ℕ, ◌+◌, ◌-◌, List, [], ◌∷◌, ◌++◌, sym, ap, ◌∙◌, append_assoc}
+use Rattle.std.specs.List.{flat_map}
 use Rattle.std.proofs.lemmas.Grind.{flat_map-append}
 use Rattle.std.proofs.lemmas.List.{flat_map_more}
 use Rattle.std.proofs.lemmas.List.FromFn.{map-range_with_len_more}
 use Rattle.wi_values.specs.Address.{Area, place, column_of, cells_of_row}
 use Rattle.wi_store.specs.Store.{Stored}
-use Rattle.wi_reports.proofs.RowLemmas.{rows_from, one_row}
-
--- the first cells of a row
-abbrev pub cells_in : ℕ → ℕ → ℕ → List ℕ
-cells_in row first n = map (place row) (range_with_len first n)
+use Rattle.wi_reports.proofs.RowLemmas.{rows_from, one_row, cells_in, row_is}
 
 -- one more cell of a row
 pub one_cell : (f : Stored → ℕ → List ℕ) (stored stored' : Stored) (row first n m c at : ℕ) (out before next : List ℕ) → first + n ≡ c → m ≡ n + 1 → stored' ≡ stored → at ≡ place row c
@@ -25,10 +21,7 @@ one_cell f stored stored' row first n m c at out before next e more same place_i
 pub all_cells : (f : ℕ → List ℕ) (area : Area) (row upper first lower last n : ℕ) (before out : List ℕ) → upper ≡ area.first → first ≡ column_of upper → lower ≡ area.last → last ≡ column_of lower
     → n ≡ (last + 1) - first → out ≡ before ++ flat_map f (cells_in row first n) → out ≡ before ++ flat_map f (cells_of_row row area)
 all_cells f area row upper first lower last n before out u_is first_is l_is last_is e h =
-    let a : first ≡ column_of area.first = first_is ∙ ap column_of u_is in
-    let b : last ≡ column_of area.last = last_is ∙ ap column_of l_is in
-    let all : n ≡ (column_of area.last + 1) - column_of area.first = e ∙ ap (λ x. (x + 1) - first) b ∙ ap (λ x. (column_of area.last + 1) - x) a in
-    h ∙ ap (λ x. before ++ flat_map f (cells_in row x n)) a ∙ ap (λ x. before ++ flat_map f (cells_in row (column_of area.first) x)) all
+    h ∙ ap (λ xs. before ++ flat_map f xs) (row_is area row upper first lower last n u_is first_is l_is last_is e)
 
 -- one more row
 pub one_more_row : (f : Stored → ℕ → List ℕ) (stored stored' : Stored) (area : Area) (first n m r : ℕ) (out before next : List ℕ) → first + n ≡ r → m ≡ n + 1 → stored' ≡ stored

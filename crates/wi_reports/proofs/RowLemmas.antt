@@ -3,11 +3,11 @@ use Rattle.std.proofs.Common.{◌≡◌, ℕ, zero, suc, add-one, ◌+◌, ◌-�
 use Rattle.std.specs.Io.{StartsWith}
 use Rattle.std.specs.List.{flat_map, range_with_len}
 use Rattle.std.proofs.lemmas.List.{flat_map_more}
-use Rattle.wi_values.specs.Address.{Area, row_of, rows_in, cells_of_row}
+use Rattle.wi_values.specs.Address.{Area, place, row_of, column_of, rows_in, cells_of, cells_of_row}
 use Rattle.wi_values.specs.declared.replacement.Replacement.{Replacement}
 use Rattle.wi_store.specs.Store.{Stored}
 use Rattle.wi_csv.specs.Row as csv
-use Rattle.wi_csv.proofs.Growth.{starts_itself, starts_more}
+use Rattle.wi_csv.proofs.Growth.{starts_itself, starts_more, starts_after, starts_same}
 use Rattle.wi_reports.specs.Inner.Parts.{row_shown}
 
 -- what is appended, or nothing
@@ -15,17 +15,10 @@ pub grown : {E : Type 0} (r : Result (Unit {0}) E) (before more next : List ℕ)
 grown (Ok u) before more next h k = subst (λ xs. StartsWith xs before) (sym h) (starts_more before more before (starts_itself before))
 grown (Err e) before more next h k = subst (λ xs. StartsWith xs before) (sym k) (starts_itself before)
 
--- what begins with something still does after more, after nothing, and after either
-pub starts_on : (next out more before : List ℕ) → next ≡ out ++ more → StartsWith out before → StartsWith next before
-starts_on next out more before h k = subst (λ xs. StartsWith xs before) (sym h) (starts_more out more before k)
-
-pub starts_kept : (next out before : List ℕ) → next ≡ out → StartsWith out before → StartsWith next before
-starts_kept next out before h k = subst (λ xs. StartsWith xs before) (sym h) k
-
 pub starts_either : {E : Type 0} (r : Result (Unit {0}) E) (next out more before : List ℕ) → next ≡ (if is_ok r then out ++ more else out)
     → StartsWith out before → StartsWith next before
-starts_either (Ok u) next out more before h k = starts_on next out more before h k
-starts_either (Err e) next out more before h k = starts_kept next out before h k
+starts_either (Ok u) next out more before h k = starts_after next out more before h k
+starts_either (Err e) next out more before h k = starts_same next out before h k
 
 -- one more number of a range
 range_more : (a n j : ℕ) → a + n ≡ j → range_with_len a (suc n) ≡ range_with_len a n ++ j ∷ []
@@ -49,15 +42,6 @@ rows_more put stored stored' area first n m r out before next e more_is same h k
     k ∙ ap (λ (x : Stored). out ++ row_shown x.sheet put area r) same ∙ ap (λ x. x ++ f r) h ∙ flat_map_more f before (range_with_len first n) r
     ∙ ap (λ xs. before ++ flat_map f xs) (sym more) ∙ ap (λ x. before ++ flat_map f (range_with_len first x)) (sym more_is)
 
--- all rows
-pub all_rows : (f : List ℕ → List ℕ) (area : Area) (upper first lower last n : ℕ) (before out : List ℕ) → upper ≡ area.first → first ≡ row_of upper → lower ≡ area.last → last ≡ row_of lower
-    → n ≡ (last + 1) - first → out ≡ before ++ f (range_with_len first n) → out ≡ before ++ f (rows_in area)
-all_rows f area upper first lower last n before out u_is first_is l_is last_is e h =
-    let a : first ≡ row_of area.first = first_is ∙ ap row_of u_is in
-    let b : last ≡ row_of area.last = last_is ∙ ap row_of l_is in
-    let all : n ≡ (row_of area.last + 1) - row_of area.first = e ∙ ap (λ x. (x + 1) - first) b ∙ ap (λ x. (row_of area.last + 1) - x) a in
-    h ∙ ap (λ x. before ++ f (range_with_len x n)) a ∙ ap (λ x. before ++ f (range_with_len (row_of area.first) x)) all
-
 -- ---- the cells of a rectangle, row after row
 
 -- the cells of the first rows
@@ -70,3 +54,30 @@ one_row area first n m row e more =
     let g : ℕ → List ℕ = λ r. cells_of_row r area in
     ap (λ (k : ℕ). flat_map g (range_with_len first k)) (more ∙ add-one n)
     ∙ ap (flat_map g) (range_more first n row e) ∙ sym (flat_map_more g [] (range_with_len first n) row)
+
+-- all of them
+range_is : (area : Area) (upper first lower last n : ℕ) → upper ≡ area.first → first ≡ row_of upper → lower ≡ area.last → last ≡ row_of lower → n ≡ (last + 1) - first → range_with_len first n ≡ rows_in area
+range_is area upper first lower last n u_is first_is l_is last_is e =
+    let a : first ≡ row_of area.first = first_is ∙ ap row_of u_is in
+    let b : last ≡ row_of area.last = last_is ∙ ap row_of l_is in
+    let all : n ≡ (row_of area.last + 1) - row_of area.first = e ∙ ap (λ x. (x + 1) - first) b ∙ ap (λ x. (row_of area.last + 1) - x) a in
+    ap (λ x. range_with_len x n) a ∙ ap (range_with_len (row_of area.first)) all
+
+pub rows_are : (area : Area) (upper first lower last n : ℕ) → upper ≡ area.first → first ≡ row_of upper → lower ≡ area.last → last ≡ row_of lower → n ≡ (last + 1) - first → rows_from area first n ≡ cells_of area
+rows_are area upper first lower last n u_is first_is l_is last_is e = ap (flat_map (λ r. cells_of_row r area)) (range_is area upper first lower last n u_is first_is l_is last_is e)
+
+pub all_rows : (f : List ℕ → List ℕ) (area : Area) (upper first lower last n : ℕ) (before out : List ℕ) → upper ≡ area.first → first ≡ row_of upper → lower ≡ area.last → last ≡ row_of lower
+    → n ≡ (last + 1) - first → out ≡ before ++ f (range_with_len first n) → out ≡ before ++ f (rows_in area)
+all_rows f area upper first lower last n before out u_is first_is l_is last_is e h = h ∙ ap (λ rs. before ++ f rs) (range_is area upper first lower last n u_is first_is l_is last_is e)
+
+-- the first cells of a row
+abbrev pub cells_in : ℕ → ℕ → ℕ → List ℕ
+cells_in row first n = map (place row) (range_with_len first n)
+
+-- all of them
+pub row_is : (area : Area) (row upper first lower last n : ℕ) → upper ≡ area.first → first ≡ column_of upper → lower ≡ area.last → last ≡ column_of lower → n ≡ (last + 1) - first → cells_in row first n ≡ cells_of_row row area
+row_is area row upper first lower last n u_is first_is l_is last_is e =
+    let a : first ≡ column_of area.first = first_is ∙ ap column_of u_is in
+    let b : last ≡ column_of area.last = last_is ∙ ap column_of l_is in
+    let all : n ≡ (column_of area.last + 1) - column_of area.first = e ∙ ap (λ x. (x + 1) - first) b ∙ ap (λ x. (column_of area.last + 1) - x) a in
+    ap (λ x. cells_in row x n) a ∙ ap (cells_in row (column_of area.first)) all

@@ -1,7 +1,7 @@
 -- What `changes` answers, and that pictures are right after it.
-use Rattle.std.proofs.Common.{◌≡◌, ◌≢◌, ◌<◌, ◌≤◌, ◌+◌, ℕ, zero, suc, Bool, true, false, List, [], ◌∷◌, length, get_or, set, Result, Ok, Err, IfOk, refl, sym, ap, subst, ◌∙◌, arith, ⊎_elim}
+use Rattle.std.proofs.Common.{◌≡◌, ◌≢◌, ◌<◌, ◌≤◌, ◌+◌, ℕ, zero, suc, Bool, true, false, List, [], ◌∷◌, length, get_or, set, Result, Ok, Err, IfOk, refl, sym, ap, subst, ◌∙◌, ⊎_elim}
 use Rattle.std.proofs.lemmas.Bool.{cases_eq, false≢true}
-use Rattle.std.proofs.lemmas.List.{get_or-set_same, get_or-set_other, length-set}
+use Rattle.std.proofs.lemmas.List.{get_or-set_same, get_or-set_other, length-set, nil_from_length}
 use Rattle.wi_values.specs.declared.value.Value.{Value}
 use Rattle.wi_values.specs.declared.replacement.Replacement.{Replacement}
 use Rattle.wi_parser.specs.Sheet.{Sheet}
@@ -39,21 +39,13 @@ changes_found stored d own cells put picture found sound rises own_is cells_is p
     ∙ ap (λ (rs : List Replacement). changes_among (pending_of d.sessions d.current) x.picture (shown stored.sheet rs)) put_is
     ∙ sym (any_cells (pending_of d.sessions d.current) x.picture (shown_to s x) (risen, sound.covered d.current sound.within))
 
-no_cell : (cells : List ℕ) → length cells ≡ 0 → cells ≡ []
-no_cell [] e = refl
-no_cell (a ∷ cells) e = absurd (omega (arith, e))
-
 -- where no cell is pending, nothing has changed
 pub nothing_found : {marked : Sheet → List ℕ → ℕ → Bool} (stored : Stored) (d : Desk) (own cells : List ℕ) (found : List (ℕ × Value)) → IsSound marked stored d → Rises 0 sheet_size own
     → own ≡ pending_of d.sessions d.current → cells ≡ own → length cells ≡ 0 → found ≡ [] → found ≡ change_list (state_of stored d)
 nothing_found stored d own cells found sound rises own_is cells_is none is =
     let x = session_at d.sessions d.current in
-    let no_own : [] ≡ own = sym (no_cell cells none) ∙ cells_is in
+    let no_own : [] ≡ own = sym (nil_from_length cells none) ∙ cells_is in
     changes_found stored d own [] (effective d.scenarios x.scenario) x.picture found sound rises own_is no_own refl refl is
-
--- no more is evaluated, or begun again, than what these cells demand
-pub no_more : (x n : ℕ) → x ≤ x + n
-no_more x n = omega arith
 
 pub looked : (stored : Stored) (d : Desk) (own cells : List ℕ) (put : List Replacement) (x y : ℕ) → own ≡ pending_of d.sessions d.current → cells ≡ own
     → put ≡ effective d.scenarios (session_at d.sessions d.current).scenario → x ≤ y + evaluations_for stored.sheet put cells → x ≤ y + pending_evaluations (state_of stored d) (pending_in d)

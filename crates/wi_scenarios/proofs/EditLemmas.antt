@@ -7,7 +7,7 @@ use Rattle.std.proofs.lemmas.Result.{err_from_is_err_and}
 use Rattle.std.specs.Map.{keys_of}
 use Rattle.std.proofs.Math.Seq.{take-append_seam}
 use Rattle.std.proofs.lemmas.List.{length-append}
-use Rattle.std.proofs.lemmas.Bool.{cases_eq, cases_lt, false_from_ne_true, false≢true, or_left, or_right}
+use Rattle.std.proofs.lemmas.Bool.{cases_eq, cases_lt, false_from_ne_true, false≢true, or_left, or_right, or_parts, or_cases}
 use Rattle.std.proofs.lemmas.Map.Entries.{length-keys_of}
 use Rattle.std.proofs.lemmas.Bool.Decides.{nat_tests}
 use Rattle.wi_values.specs.Address.{Area}
@@ -38,6 +38,7 @@ use Rattle.wi_scenarios.specs.Edits.{Edit, edit_refusal, limit_of, stale_in, aft
 use Rattle.wi_scenarios.specs.Pending.{is_pending, AddsOnly}
 use Rattle.wi_scenarios.specs.Inner.Held.{state_of, AreCovered, IsClosed, AreClosed, IsSound}
 use Rattle.wi_scenarios.specs.Inner.Editing.{AreMarked, HasRooms, SameBeside, MayFail, Commits}
+use Rattle.wi_values.proofs.Order.{is_itself}
 
 -- an edit of these
 pub same_edit : (named areas : List Area) (contents changes : List (ℕ × Option Content)) → named ≡ areas → contents ≡ changes →
@@ -231,14 +232,6 @@ pub record AreGivenBack (old new : Roster) : Type 0 where
   pub pending : new.pending ≡ old.pending
   pub vacant : (i : ℕ) → vacant_of new i ≡ []
 
-neither : (a b : Bool) → (a || b) ≡ false → (a ≡ false) × (b ≡ false)
-neither true b h = cc
-neither false b h = (refl, h)
-
-either : (a b : Bool) → (a || b) ≡ true → (a ≡ true) ⊎ (b ≡ true)
-either true b h = inl refl
-either false b h = inr h
-
 not_found : (v f p : Bool) → v ≡ (f && not p) → p ≡ false → v ≡ false → f ≡ false
 not_found v true true e k h = cc
 not_found v true false e k h = sym e ∙ h
@@ -247,9 +240,6 @@ not_found v false p e k h = refl
 is_found : (v f p : Bool) → v ≡ (f && not p) → v ≡ true → f ≡ true
 is_found v true p e h = refl
 is_found v false p e h = sym e ∙ h
-
-is_itself : (a : ℕ) → (a == a) ≡ true
-is_itself a = grind (arith, nat_tests)
 
 listed_at : (xs : List ℕ) (k d : ℕ) → k < length xs → is_listed xs (slice_index_or xs k d) ≡ true
 listed_at [] k d l = absurd (omega (arith, l))
@@ -300,7 +290,7 @@ module _ (marked : Sheet → List ℕ → ℕ → Bool) (law : IsMarking marked)
     -- a cell that isn't pending then was neither pending nor marked
     quiet : (i a : ℕ) → i < length d.sessions.sessions → is_listed (pending_of r i) a ≡ false → (is_listed (pending_of d.sessions i) a ≡ false) × (is_listed found a ≡ false)
     quiet i a l h =
-        let both = neither (is_listed (pending_of n.sessions i) a) (is_listed (vacant_of n.sessions i) a) (sym (taken.pending i a) ∙ h) in
+        let both = or_parts (is_listed (pending_of n.sessions i) a) (is_listed (vacant_of n.sessions i) a) (sym (taken.pending i a) ∙ h) in
         let before : is_listed (pending_of d.sessions i) a ≡ false = sym (pending_then i a) ∙ both.0 in
         (before, not_found _ _ _ (room_at i a l) before both.1)
 
@@ -339,7 +329,7 @@ module _ (marked : Sheet → List ℕ → ℕ → Bool) (law : IsMarking marked)
     was_or_found i a l h =
         ⊎_elim (λ (p : is_listed (pending_of n.sessions i) a ≡ true). inl (sym (pending_then i a) ∙ p))
         (λ (v : is_listed (vacant_of n.sessions i) a ≡ true). inr (is_found _ _ _ (room_at i a l) v))
-        (either _ _ (sym (taken.pending i a) ∙ h))
+        (or_cases _ _ (sym (taken.pending i a) ∙ h))
 
     -- what a cell marks in the new sheet it marked in the old one, or the edited cells did
     marked_before : applied s contents ≡ Ok t → (a c : ℕ) → marked t.sheet (a ∷ []) c ≡ true → (marked s.sheet (a ∷ []) c ≡ true) ⊎ ((0 < length contents) × (marked s.sheet (keys_of contents) c ≡ true))

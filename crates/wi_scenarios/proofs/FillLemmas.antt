@@ -1,12 +1,12 @@
 -- What `fill` answers, and the copies that it makes.
-use Rattle.std.proofs.Common.{◌≡◌, ℕ, zero, suc, add-one, ◌+◌, ◌-◌, Bool, true, false, not, ◌||◌, if◌then◌else◌, List, [], ◌∷◌, ◌++◌, map, Option, Some, None, Result, Err, refl, sym, ap, ◌∙◌, subst, arith, ◌≤◌, ◌<◌, ◌⊎◌, inl, inr, append_assoc}
+use Rattle.std.proofs.Common.{◌≡◌, ℕ, zero, suc, ◌+◌, Bool, true, false, not, ◌||◌, if◌then◌else◌, List, [], ◌∷◌, ◌++◌, map, Option, Some, None, Result, Err, refl, sym, ap, ◌∙◌, subst, arith, ◌≤◌, ◌<◌, ◌⊎◌, inl, inr, append_assoc}
 use Rattle.std.specs.Prelude.{nat_lt, is_some}
 use Rattle.std.specs.Map.{keys_of}
 use Rattle.std.specs.List.{list_any, flat_map, range_with_len}
-use Rattle.std.proofs.lemmas.List.{map-append, flat_map_more}
+use Rattle.std.proofs.lemmas.List.{map-append}
 use Rattle.std.proofs.lemmas.List.FromFn.{map-range_with_len_more}
 use Rattle.std.proofs.lemmas.List.Folds.{list_any-append}
-use Rattle.wi_values.specs.Address.{Area, place, row_of, column_of, size_of, cells_of, cells_of_row}
+use Rattle.wi_values.specs.Address.{Area, place, size_of, cells_of, cells_of_row}
 use Rattle.wi_parser.specs.declared.content.Content.{Content}
 use Rattle.wi_parser.specs.Sheet.{content_of}
 use Rattle.std.specs.Result.{IsErrAnd}
@@ -21,8 +21,10 @@ use Rattle.wi_scenarios.specs.Fill.{fill_edit, fill_step, shift_refusal, copy_to
 use Rattle.wi_parser.specs.declared.shift.ShiftFault.{ShiftFault}
 use Rattle.wi_parser.specs.declared.shift.ShiftFault.TheVariants as shift
 use Rattle.wi_scenarios.specs.Inner.Copies.{AreCopies, CopiesAs, HasNoCopies}
-use Rattle.std.proofs.lemmas.Bool.{false≢true, cases_lt}
+use Rattle.std.proofs.lemmas.Bool.{false≢true}
+use Rattle.std.proofs.Math.Nat.{eq-or-lt_of_le}
 use Rattle.wi_scenarios.proofs.EditLemmas.{edit_grows, same_edit}
+use Rattle.wi_reports.proofs.RowLemmas.{cells_in}
 
 -- the answer that is found, where the rectangle is too large or not, and a copy leaves the sheet or not
 abbrev pub filled_by : State → Bool → Bool → Bool → Edit → Answer
@@ -84,13 +86,6 @@ leaves_at content from to (c ∷ cells) more e = by (has_no_copy content from c)
 
 -- ---- the cells of a rectangle, row after row
 
-nat_eq_or_above : (a c : ℕ) → a ≤ c → (a ≡ c) ⊎ (a < c)
-nat_eq_or_above a c l = by (cases_lt a c)
-  where
-    by : (a < c) ⊎ (c ≤ a) → (a ≡ c) ⊎ (a < c)
-    by (inl less) = inr less
-    by (inr m) = inl (omega (arith, l, m))
-
 -- a test that a number of a range passes
 any_in_range : (p : ℕ → Bool) (f : ℕ → ℕ) (a n c : ℕ) → a ≤ c → c < a + n → p (f c) ≡ true → list_any p (map f (range_with_len a n)) ≡ true
 any_in_range p f a zero c l m h = absurd (omega arith)
@@ -102,7 +97,7 @@ any_in_range p f a (suc n) c l m h = by (p (f a)) refl (λ k. any_in_range p f (
 
     by : (b : Bool) → p (f a) ≡ b → (a + 1 ≤ c → list_any p (map f (range_with_len (a + 1) n)) ≡ true) → (b || list_any p (map f (range_with_len (a + 1) n))) ≡ true
     by true e ih = refl
-    by false e ih = ih (above (nat_eq_or_above a c l) e)
+    by false e ih = ih (above (eq-or-lt_of_le {n = a} {m = c} l) e)
 
 -- the same of lists, one for each number of a range
 any_in_lists : (p : ℕ → Bool) (g : ℕ → List ℕ) (a n c : ℕ) → a ≤ c → c < a + n → list_any p (g c) ≡ true → list_any p (flat_map g (range_with_len a n)) ≡ true
@@ -116,19 +111,7 @@ any_in_lists p g a (suc n) c l m h =
 
     by : (b : Bool) → list_any p (g a) ≡ b → (a + 1 ≤ c → list_any p (flat_map g (range_with_len (a + 1) n)) ≡ true) → (b || list_any p (flat_map g (range_with_len (a + 1) n))) ≡ true
     by true e ih = refl
-    by false e ih = ih (above (nat_eq_or_above a c l) e)
-
--- the first cells of a row
-abbrev pub cells_in : ℕ → ℕ → ℕ → List ℕ
-cells_in row first n = map (place row) (range_with_len first n)
-
--- all of them
-pub row_is : (area : Area) (row upper first lower last n : ℕ) → upper ≡ area.first → first ≡ column_of upper → lower ≡ area.last → last ≡ column_of lower → n ≡ (last + 1) - first → cells_in row first n ≡ cells_of_row row area
-row_is area row upper first lower last n u_is first_is l_is last_is e =
-    let a : first ≡ column_of area.first = first_is ∙ ap column_of u_is in
-    let b : last ≡ column_of area.last = last_is ∙ ap column_of l_is in
-    let all : n ≡ (column_of area.last + 1) - column_of area.first = e ∙ ap (λ x. (x + 1) - first) b ∙ ap (λ x. (column_of area.last + 1) - x) a in
-    ap (λ x. cells_in row x n) a ∙ ap (cells_in row (column_of area.first)) all
+    by false e ih = ih (above (eq-or-lt_of_le {n = a} {m = c} l) e)
 
 -- one more cell of a row gets its copy
 pub one_cell : (content : Option Content) (from row first n m column to : ℕ) (cells : List ℕ) (changes new : List (ℕ × Option Content)) (copy : Option Content) → first + n ≡ column → m ≡ n + 1 → to ≡ place row column
@@ -153,29 +136,6 @@ pub no_copy_in_rows : (content : Option Content) (from : ℕ) (area : Area) (fir
     → HasNoCopies content from (cells_of_row row area) fault → HasNoCopies content from (flat_map (λ r. cells_of_row r area) (range_with_len first n)) fault
 no_copy_in_rows content from area first n row shift.LeavesSheet l m h = any_in_lists (has_no_copy content from) (λ r. cells_of_row r area) first n row l m h
 no_copy_in_rows content from area first n row shift.Memory l m h = tt
-
--- the cells of the first rows
-abbrev pub rows_from : Area → ℕ → ℕ → List ℕ
-rows_from area first n = flat_map (λ r. cells_of_row r area) (range_with_len first n)
-
-range_more : (a n j : ℕ) → a + n ≡ j → range_with_len a (suc n) ≡ range_with_len a n ++ j ∷ []
-range_more a zero j e = let same : a ≡ j = omega arith in ap (λ x. x ∷ []) same
-range_more a (suc n) j e = ap (λ xs. a ∷ xs) (range_more (a + 1) n j (omega arith))
-
--- all of them
-pub rows_are : (area : Area) (upper first lower last n : ℕ) → upper ≡ area.first → first ≡ row_of upper → lower ≡ area.last → last ≡ row_of lower → n ≡ (last + 1) - first → rows_from area first n ≡ cells_of area
-rows_are area upper first lower last n u_is first_is l_is last_is e =
-    let a : first ≡ row_of area.first = first_is ∙ ap row_of u_is in
-    let b : last ≡ row_of area.last = last_is ∙ ap row_of l_is in
-    let all : n ≡ (row_of area.last + 1) - row_of area.first = e ∙ ap (λ x. (x + 1) - first) b ∙ ap (λ x. (row_of area.last + 1) - x) a in
-    ap (λ x. rows_from area x n) a ∙ ap (rows_from area (row_of area.first)) all
-
--- one more row
-pub one_row : (area : Area) (first n m row : ℕ) → first + n ≡ row → m ≡ n + 1 → rows_from area first m ≡ rows_from area first n ++ cells_of_row row area
-one_row area first n m row e more =
-    let g : ℕ → List ℕ = λ r. cells_of_row r area in
-    ap (λ (k : ℕ). flat_map g (range_with_len first k)) (more ∙ add-one n)
-    ∙ ap (flat_map g) (range_more first n row e) ∙ sym (flat_map_more g [] (range_with_len first n) row)
 
 -- ---- a fill that is refused
 

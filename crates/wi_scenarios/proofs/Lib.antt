@@ -7,7 +7,6 @@ pub mod LookLemmas
 pub mod ChangesLemmas
 pub mod CsvLemmas
 pub mod StepLemmas
-pub mod SearchLemmas
 pub mod DifferingLemmas
 pub mod SwitchLemmas
 pub mod SwitchedLemmas

@@ -102,7 +102,7 @@ module _ (s : State) (force : Bool) (at : ℕ) (text : List ℕ) (some : (length
 
 -- ---- the edit
 
-rect_cell : (at : ℕ) → rect_of at at ≡ cell_area at
+pub rect_cell : (at : ℕ) → rect_of at at ≡ cell_area at
 rect_cell at =
     let first : place (min (row_of at) (row_of at)) (min (column_of at) (column_of at)) ≡ at = omega arith in
     let last : place (max (row_of at) (row_of at)) (max (column_of at) (column_of at)) ≡ at = omega arith in

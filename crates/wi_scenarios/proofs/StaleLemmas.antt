@@ -165,7 +165,7 @@ not_before e a h k f = both_ways (counts_before e) (ap is_refused_before k ∙ f
 one_stale : (c a : ℕ) → ◌≡◌ {A = Answer} (Err (Stale c)) (Err (Stale a)) → c ≡ a
 one_stale c a h = cc
 
-refused_so : (e f : Refusal) → ◌≡◌ {A = Answer} (Err e) (Err f) → e ≡ f
+pub refused_so : (e f : Refusal) → ◌≡◌ {A = Answer} (Err e) (Err f) → e ≡ f
 refused_so e f h = cc
 
 accepted : (done : State × List ℕ) (e : Refusal) → ◌≡◌ {A = Answer} (Ok done) (Err e) → ⊥

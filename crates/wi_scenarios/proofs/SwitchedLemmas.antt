@@ -2,7 +2,7 @@
 use Rattle.std.proofs.Common.{◌≡◌, ◌≢◌, ◌==◌, arith, ◌⊎◌, inl, inr, ℕ, ◌<◌, ◌≤◌, Bool, true, false, ◌||◌, List, [], length, Option, refl, sym, ap, ◌∙◌, subst}
 use Rattle.std.specs.List.{slice_index_or, slice_set}
 use Rattle.std.proofs.Math.Bool.{or-false}
-use Rattle.std.proofs.lemmas.Bool.{false≢true, or_left}
+use Rattle.std.proofs.lemmas.Bool.{false≢true, or_left, or_parts, or_cases}
 use Rattle.std.proofs.lemmas.Bool.Decides.{nat_tests}
 use Rattle.std.proofs.lemmas.List.{get_or-set_same, get_or-set_other, length-set}
 use Rattle.wi_values.specs.declared.value.Value.{Value}
@@ -55,22 +55,10 @@ pub record IsSwitch (marked : Sheet → List ℕ → ℕ → Bool) (stored : Sto
   pub pending : (i a : ℕ) → is_listed (pending_of e.sessions i) a ≡ (is_listed (pending_of d.sessions i) a || is_listed (vacant i) a)
   pub empty : (i : ℕ) → vacant_of e.sessions i ≡ []
 
-first_false : (x y : Bool) → (x || y) ≡ false → x ≡ false
-first_false true y h = h
-first_false false y h = refl
-
-second_false : (x y : Bool) → (x || y) ≡ false → y ≡ false
-second_false true y h = cc
-second_false false y h = h
-
-either_true : (x y : Bool) → (x || y) ≡ true → (x ≡ true) ⊎ (y ≡ true)
-either_true true y h = inl refl
-either_true false y h = inr h
-
 module _ (marked : Sheet → List ℕ → ℕ → Bool) (stored : Stored) (d e : Desk) (vacant : ℕ → List ℕ) (w : IsSwitch marked stored d e vacant) where
   -- with what was pending or gets room what it marks is pending then
   switched_closed : IsSound marked stored d → AreClosed marked (state_of stored e) (pending_in e)
-  switched_closed h i l a c p m = w.pending i c ∙ at (either_true (is_listed (pending_of d.sessions i) a) (is_listed (vacant i) a) (sym (w.pending i a) ∙ p))
+  switched_closed h i l a c p m = w.pending i c ∙ at (or_cases (is_listed (pending_of d.sessions i) a) (is_listed (vacant i) a) (sym (w.pending i a) ∙ p))
     where
       old : i < length d.sessions.sessions
       old = subst (λ (k : ℕ). i < k) w.count l
@@ -89,9 +77,9 @@ module _ (marked : Sheet → List ℕ → ℕ → Bool) (stored : Stored) (d e :
     covered = λ i l a m n.
         let old : i < length d.sessions.sessions = subst (λ (k : ℕ). i < k) w.count l in
         let both : (is_listed (pending_of d.sessions i) a || is_listed (vacant i) a) ≡ false = sym (w.pending i a) ∙ n in
-        let before = first_false (is_listed (pending_of d.sessions i) a) (is_listed (vacant i) a) both in
+        let before = (or_parts (is_listed (pending_of d.sessions i) a) (is_listed (vacant i) a) both).0 in
         ap (λ (picture : List (ℕ × Value)). value_in picture a) (w.pictures i) ∙ h.covered i old a m before
-        ∙ (w.room i old).others a before (second_false (is_listed (pending_of d.sessions i) a) (is_listed (vacant i) a) both);
+        ∙ (w.room i old).others a before (or_parts (is_listed (pending_of d.sessions i) a) (is_listed (vacant i) a) both).1;
   }
 
   marked_there : (i a : ℕ) → IsMarked marked stored.sheet (Differs (effective d.scenarios (session_at d.sessions i).scenario) (effective e.scenarios (session_at e.sessions i).scenario)) a
@@ -100,7 +88,7 @@ module _ (marked : Sheet → List ℕ → ℕ → Bool) (stored : Stored) (d e :
 
   pub switched_adds : AddsOnly marked [] (state_of stored d) (state_of stored e) (pending_in d) (pending_in e)
   switched_adds = λ i a l t.
-      elim (either_true (is_listed (pending_of d.sessions i) a) (is_listed (vacant i) a) (sym (w.pending i a) ∙ t)) [
+      elim (or_cases (is_listed (pending_of d.sessions i) a) (is_listed (vacant i) a) (sym (w.pending i a) ∙ t)) [
         | inl there ↦ inl there
         | inr new ↦ inr (marked_there i a ((w.room i l).marks a new))
       ]

@@ -1,12 +1,12 @@
 //! Cells whose replacement is another.
 
 ghost use Rattle.std.specs.Prelude.{◌≡◌, ◌++◌, IfOk, OnOk};
-ghost use Rattle.std.specs.Option.{option_copied};
 ghost use Rattle.wi_values.specs.Replacements.{IsInOrder, replaced};
 ghost use Rattle.wi_scenarios.specs.Inner.Switch.{same_option, differing, AreDiffering};
 
 use std::alloc::{AllocError, Global};
-use wi_values::{Address, Replacement, Value};
+use wi_values::{Address, Replacement};
+use wi_worlds::value_at;
 
 /// The cells that two lists replace by different values, or that one of them replaces alone; some are told twice. The work for
 /// each replacement grows with the logarithm of the count of all.
@@ -51,20 +51,9 @@ fn has_same(before: &[Replacement], after: &[Replacement], at: Address) -> bool
     requires after { IsInOrder after.now }
     ensures { result ≡ same_option (replaced before.now at) (replaced after.now at) }
 {
-    match (replacement_for(before, at), replacement_for(after, at)) {
+    match (value_at(before, at), value_at(after, at)) {
         (Some(first), Some(second)) => *first == *second,
         (None, None) => true,
         _ => false,
-    }
-}
-
-/// The value by which a cell is replaced, if it is.
-fn replacement_for(replacements: &[Replacement], at: Address) -> Option<&Value>
-    requires { IsInOrder replacements.now }
-    ensures { option_copied result ≡ replaced replacements.now at }
-{
-    match replacements.binary_search_by_key(&at, |replacement| replacement.at) {
-        Ok(place) => Some(&replacements[place].value),
-        Err(_) => None,
     }
 }

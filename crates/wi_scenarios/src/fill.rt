@@ -9,7 +9,7 @@ ghost use Rattle.wi_scenarios.specs.Pending.{AddsOnly};
 ghost use Rattle.wi_scenarios.specs.Inner.Copies.{CopiesAs, AreCopies, HasNoCopies};
 ghost use Rattle.wi_scenarios.specs.Inner.Held.{state_of, pending_in, IsSound};
 
-use crate::areas::MAX_AREA;
+use crate::areas::is_too_large;
 use crate::desk::Desk;
 use crate::edit::edit_area;
 use crate::refusal::Refusal;
@@ -39,7 +39,7 @@ pub(crate) fn fill<C: Calculator>(
     ensures refused { OnErr result (pending_in desk.new ≡ pending_in desk.old) }
     ensures sound { IsSound C.marked (C.stored calculator.new) desk.new }
 {
-    if area.size() > MAX_AREA {
+    if is_too_large(area) {
         return Err(Refusal::TooLarge);
     }
     let contents = copies(alloc, calculator.content(from), from, area)?;

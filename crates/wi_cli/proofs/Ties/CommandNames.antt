@@ -30,7 +30,7 @@ name_in w =
     else (if bytes_eq w (codes "formula") then FORMULA
     else edit_name w)))))))))))
 
-is_word : (w name : Bytes) → bytes_eq w name ≡ true → w ≡ name
+pub is_word : (w name : Bytes) → bytes_eq w name ≡ true → w ≡ name
 is_word w name e = (bytes_eq-Decides w name).0 e
 
 -- an edit's name, or another word

@@ -2,6 +2,7 @@
 use Rattle.std.proofs.Common.{◌≡◌, ℕ, ◌<◌, ◌≤◌, Bool, true, false, nat_lt, [], ◌∷◌, length, ◌⊎◌, inl, inr, Option, Some, None, Err, if◌then◌else◌, refl, sym, ap, ◌∙◌, subst, arith, codes, bytes_eq}
 use Rattle.std.proofs.lemmas.Bool.Decides.{nat_tests}
 use Rattle.std.proofs.lemmas.Slice.Eq.{bytes_eq-Decides}
+use Rattle.std.proofs.lemmas.Bool.{ltb-false, le-ltb}
 use Rattle.wi_values.specs.AddressReading.{read_address}
 use Rattle.wi_values.specs.declared.address.AddressFault.TheVariants.{Shape}
 use Rattle.wi_cli.specs.Lines.{without_lf, max_line, first_word, after_word, Bytes}
@@ -15,6 +16,7 @@ use Rattle.wi_cli.specs.Laws.{read_any, asked, Takes}
 use Rattle.wi_cli.proofs.Ties.Addresses.{same_addr}
 use Rattle.wi_cli.proofs.Ties.OperandsRead.{no_addr, addr_or, lines_read, lines_or, none_behind}
 use Rattle.wi_cli.proofs.Ties.Tables.{clash}
+use Rattle.wi_cli.proofs.Ties.CommandNames.{is_word}
 
 -- ---- the second word
 
@@ -74,9 +76,6 @@ operands_or force text = by (is_all_spaces (after_word (after_word text))) refl 
 
 -- ---- the names
 
-is_word : (w name : Bytes) → bytes_eq w name ≡ true → w ≡ name
-is_word w name e = (bytes_eq-Decides w name).0 e
-
 word_is : (w name : Bytes) → w ≡ name → bytes_eq w name ≡ true
 word_is w name e = (bytes_eq-Decides w name).1 e
 
@@ -132,12 +131,6 @@ text_or text =
 too_long : (n : ℕ) → nat_lt max_line n ≡ true → n ≤ max_line → ⊥
 too_long n e h = grind (arith, nat_tests)
 
-short : (n : ℕ) → nat_lt max_line n ≡ false → n ≤ max_line
-short n e = grind (arith, nat_tests)
-
-pub not_long : (n : ℕ) → n ≤ max_line → nat_lt max_line n ≡ false
-not_long n h = grind (arith, nat_tests)
-
 pub short_line : (line : Bytes) → nat_lt max_line (length (without_lf line)) ≡ false → csv_line (without_lf line) ≡ csv_text (text_of line)
 unfolding csv_line
 short_line line e = ap (λ (b : Bool). if b then None else csv_text (text_of line)) e
@@ -159,12 +152,12 @@ asks_or_not line = by (nat_lt max_line (length (without_lf line))) refl (text_or
     by false e (inr bad) = it_asks_none (λ force o n within h. bad.0 force o n h) (short_line line e ∙ bad.1)
     by false e (inl f) =
         let r = text_read (text_of line) f.0 f.1 f.2 f.3 in
-        it_asks f.0 f.1 f.2 (short _ e) f.3 (r.0, short_line line e ∙ r.1, r.2)
+        it_asks f.0 f.1 f.2 (ltb-false _ _ e) f.3 (r.0, short_line line e ∙ r.1, r.2)
 
 pub asked_is : (line : Bytes) (n : ℕ) → Asks line n → asked line ≡ n
 asked_is line n h =
     let r = text_read (text_of line) h.1.0 h.1.1 n h.1.2 in
-    ap lines_of (short_line line (not_long _ h.0) ∙ r.1)
+    ap lines_of (short_line line (le-ltb _ _ h.0) ∙ r.1)
 
 pub takes : (line : Bytes) → Takes line (asked line)
 takes line = by (asks_or_not line)

@@ -1,6 +1,7 @@
 -- The end of the step of an edit: stale cells, the limits of the sheet, the edit.
 use Rattle.std.proofs.Common.{◌≡◌, ◌<◌, ◌≤◌, ℕ, Bool, true, false, nat_lt, nat_le, List, [], ◌∷◌, length, ◌⊎◌, inl, inr, Option, Some, None, Ok, Err, refl, sym, subst, arith}
 use Rattle.std.proofs.lemmas.Bool.Decides.{nat_tests}
+use Rattle.std.proofs.lemmas.Bool.{leb-true, ltb-true}
 use Rattle.wi_values.specs.Address.{Area}
 use Rattle.wi_store.specs.Store.{accepted}
 use Rattle.wi_scenarios.specs.declared.refusal.Refusal.TheVariants as refusal
@@ -18,14 +19,8 @@ use Rattle.wi_cli.specs.Step.{Answer, IsStep, causes, IsFirstOf}
 abbrev pub last : List Cause
 last = Stale ∷ Loop ∷ Full ∷ EditLimit ∷ []
 
-above : (n m : ℕ) → nat_lt n m ≡ true → n < m
-above n m e = grind (arith, nat_tests)
-
 not_above : (n m : ℕ) → nat_lt n m ≡ false → n < m → ⊥
 not_above n m e h = grind (arith, nat_tests)
-
-at_least : (n m : ℕ) → nat_le n m ≡ true → n ≤ m
-at_least n m e = grind (arith, nat_tests)
 
 not_least : (n m : ℕ) → nat_le n m ≡ false → n ≤ m → ⊥
 not_least n m e h = grind (arith, nat_tests)
@@ -58,13 +53,13 @@ module _ (s : State) (c : Command) (force : Bool) (areas : List Area) (puts : Li
       by false e h = k.1 (rw names h)
 
   full : nat_lt s.stored.limits.cells (length (sheet_with s puts)) ≡ true → Holds s Full c
-  full e = (puts, is, above _ _ e)
+  full e = (puts, is, ltb-true _ _ e)
 
   not_full : nat_lt s.stored.limits.cells (length (sheet_with s puts)) ≡ false → Holds s Full c → ⊥
   not_full e h = not_above _ _ e (subst (λ (q : List Put). s.stored.limits.cells < length (sheet_with s q)) (one h.0 h.1) h.2)
 
   limited : nat_le s.stored.limits.edits s.stored.edits ≡ true → Holds s EditLimit c
-  limited e = (puts, is, at_least _ _ e)
+  limited e = (puts, is, leb-true _ _ e)
 
   not_limited : nat_le s.stored.limits.edits s.stored.edits ≡ false → Holds s EditLimit c → ⊥
   not_limited e h = not_least _ _ e h.2

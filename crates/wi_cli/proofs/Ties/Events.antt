@@ -20,7 +20,7 @@ use Rattle.wi_scenarios.specs.Step as old
 use Rattle.wi_scenarios.specs.Laws as laws
 use Rattle.wi_scenarios.specs.Laws.{left_by, IsCoherent, with_lists, unseen, IsFirstNewer, counts_before, is_refused_before}
 use Rattle.wi_scenarios.proofs.RunLemmas as runs
-use Rattle.wi_scenarios.proofs.StaleLemmas.{stale_exactly}
+use Rattle.wi_scenarios.proofs.StaleLemmas.{stale_exactly, refused_so}
 use Rattle.wi_scenarios.proofs.RecordLemmas.{records_tell_list}
 use Rattle.wi_cli.specs.Inner.Operands.{of_operand, worse, column_fault, row_fault}
 use Rattle.wi_cli.specs.Inner.EditCommands.{fill_command_of}
@@ -237,9 +237,6 @@ log_grows s es i settled run =
 
 one_cell : (a b : ℕ) → ◌≡◌ {A = Refusal} (refusal.Stale a) (refusal.Stale b) → a ≡ b
 one_cell a b h = cc
-
-refused_so : (d e : Refusal) → ◌≡◌ {A = Answer} (Err d) (Err e) → d ≡ e
-refused_so d e h = cc
 
 module _ (s : State) (c : Command) where
   -- no other cause is told so

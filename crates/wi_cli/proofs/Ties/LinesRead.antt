@@ -1,9 +1,11 @@
 -- The commands of lines are those that they had.
-use Rattle.std.proofs.Common.{◌≡◌, ℕ, suc, zero, ◌-◌, ◌<◌, ◌≤◌, Bool, true, false, not, ◌==◌, ◌||◌, nat_lt, cond, List, [], ◌∷◌, ◌++◌, length, map, take, filter, filter_map, Option, Some, None, option_map, option_to_list, Result, ◌⊎◌, inl, inr, if◌then◌else◌, refl, sym, ap, ap₂, ◌∙◌, subst, arith}
+use Rattle.std.proofs.Common.{◌≡◌, ℕ, suc, zero, ◌-◌, ◌<◌, Bool, true, false, not, ◌==◌, ◌||◌, nat_lt, cond, List, [], ◌∷◌, ◌++◌, length, map, take, filter, filter_map, Option, Some, None, option_map, option_to_list, Result, ◌⊎◌, inl, inr, if◌then◌else◌, refl, sym, ap, ap₂, ◌∙◌, subst, arith}
 use Rattle.std.specs.List.{list_all, cons_option}
 use Rattle.std.specs.Str.{byte, is_utf8}
 use Rattle.std.proofs.lemmas.Bool.Decides.{nat_tests}
 use Rattle.std.proofs.lemmas.Str.{IsUtf8-from_is_utf8, is_utf8-from_IsUtf8}
+use Rattle.std.proofs.lemmas.Bool.{or_parts, not-false, ltb-false, le-ltb}
+use Rattle.std.proofs.Math.Bool.{or-true, or-false}
 use Rattle.wi_values.specs.AddressReading.{read_address}
 use Rattle.wi_values.specs.declared.address.AddressFault.{AddressFault}
 use Rattle.wi_scenarios.specs.declared.refusal.Refusal.TheVariants as refusal
@@ -17,25 +19,20 @@ use Rattle.wi_cli.specs.Operands.{Cell, IsWritten}
 use Rattle.wi_cli.specs.Command.{Command, Csv, Unknown, Unreadable, form}
 use Rattle.wi_cli.specs.Script.{text_of, IsWithin, IsGood, Asks, is_passed_over, IsCommand, none as no_commands, a_line as line_with, cut_short as line_cut}
 use Rattle.wi_cli.specs.Laws.{was, read_any, asked, block, Splits, none, a_line, cut_short, before, HasCommands, Takes}
-use Rattle.wi_cli.proofs.Ties.Tables.{clash, first_inside, second_inside}
-use Rattle.wi_cli.proofs.Ties.Looks.{or_false}
+use Rattle.wi_cli.proofs.Ties.Tables.{clash}
 use Rattle.wi_cli.proofs.Ties.CsvLines.{IsRead, AsksOrNot, it_asks, it_asks_none, asks_or_not, takes, asks}
 use Rattle.wi_cli.proofs.Ties.Texts.{is_plain, same_form, Reads, spells, spells_none, none_written, reads}
 use Rattle.wi_cli.proofs.Ties.Splitting.{blocks_split}
 
 -- ---- a text
 
-or_true : (b : Bool) → (b || true) ≡ true
-or_true true = refl
-or_true false = refl
-
 passed_is : (text : Bytes) → (is_all_spaces text || is_comment text) ≡ is_passed_over text
 passed_is [] = refl
 passed_is (b ∷ bs) = by (b == byte "#") (is_all_spaces (b ∷ bs))
   where
     by : (v x : Bool) → (x || v) ≡ (if v then true else x)
-    by true x = or_true x
-    by false x = or_false x
+    by true x = or-true x
+    by false x = or-false x
 
 -- a text of spaces alone is passed over
 spaces_pass : (text : Bytes) → list_all is_space text ≡ true → is_passed_over text ≡ true
@@ -51,22 +48,12 @@ pub line_is : (line : Bytes) (b : Bool) → (nat_lt max_line (length (without_lf
 unfolding line_command
 line_is line b e = ap (λ (v : Bool). if v then Some (old.Refused refusal.BadLine) else text_command (text_of line)) e
 
-not_long : (n : ℕ) → n ≤ max_line → nat_lt max_line n ≡ false
-not_long n h = grind (arith, nat_tests)
-
-short : (n : ℕ) → nat_lt max_line n ≡ false → n ≤ max_line
-short n e = grind (arith, nat_tests)
-
-not_true : (b : Bool) → not b ≡ false → b ≡ true
-not_true true e = refl
-not_true false e = absurd (clash true e refl)
-
 pub good : (line : Bytes) → (nat_lt max_line (length (without_lf line)) || not (is_utf8 (text_of line))) ≡ false → IsGood line
-good line e = (short _ (first_inside _ _ e), IsUtf8-from_is_utf8 (text_of line) (not_true _ (second_inside _ _ e)))
+good line e = (ltb-false _ _ (or_parts _ _ e).0, IsUtf8-from_is_utf8 (text_of line) (not-false _ (or_parts _ _ e).1))
 
 pub good_is : (line : Bytes) → IsGood line → (nat_lt max_line (length (without_lf line)) || not (is_utf8 (text_of line))) ≡ false
 good_is line h =
-    let long : nat_lt max_line (length (without_lf line)) ≡ false = not_long _ h.0 in
+    let long : nat_lt max_line (length (without_lf line)) ≡ false = le-ltb _ _ h.0 in
     let text : is_utf8 (text_of line) ≡ true = is_utf8-from_IsUtf8 (text_of line) h.1 in
     ap₂ ◌||◌ long (ap not text)
 
@@ -134,7 +121,7 @@ module _ (line : Bytes) (taken : List Bytes) where
 
 -- ---- lines
 
-onto_was : (o : Option Command) (cs : List Command) → cons_option (option_map was o) (map was cs) ≡ map was (option_to_list o ++ cs)
+pub onto_was : (o : Option Command) (cs : List Command) → cons_option (option_map was o) (map was cs) ≡ map was (option_to_list o ++ cs)
 onto_was None cs = refl
 onto_was (Some c) cs = refl
 
@@ -169,10 +156,10 @@ has_all lines bs (cut_short line taken short) =
     last None e = ap (λ (x : Option old.Command). cons_option x []) e
     last (Some c) e = ap (λ (x : Option old.Command). cons_option x []) e
 
-complete : (line : Bytes) (taken : List Bytes) → asked line ≡ length taken → is_complete (block line taken) ≡ true
+pub complete : (line : Bytes) (taken : List Bytes) → asked line ≡ length taken → is_complete (block line taken) ≡ true
 complete line taken e = grind (arith, nat_tests)
 
-not_complete : (line : Bytes) (taken : List Bytes) → length taken < asked line → is_complete (block line taken) ≡ false
+pub not_complete : (line : Bytes) (taken : List Bytes) → length taken < asked line → is_complete (block line taken) ≡ false
 not_complete line taken h = grind (arith, nat_tests)
 
 pub has_whole : (lines : List Bytes) (bs : List Block) → Splits lines bs → HasCommands false lines (filter_map block_command (filter is_complete bs))

@@ -1,6 +1,7 @@
 -- The steps of the commands that look at cells: `show`, `export`, `compare`, `formula` and `changes`.
 use Rattle.std.proofs.Common.{◌≡◌, ◌*◌, ℕ, Bool, true, false, ◌||◌, nat_lt, length, Option, Some, None, refl, sym, ap, ◌∙◌, arith}
 use Rattle.std.specs.List.{list_any}
+use Rattle.std.proofs.Math.Bool.{or-false}
 use Rattle.wi_values.specs.Address.{size_of}
 use Rattle.wi_scenario_list.specs.Inner.Chains.{effective}
 use Rattle.wi_scenario_list.specs.Bases.{lacks}
@@ -105,10 +106,6 @@ side_missing : (s : State) (p : Option Bytes) → is_missing s (SIDE p) ≡ lack
 side_missing s None = refl
 side_missing s (Some name) = refl
 
-pub or_false : (b : Bool) → (b || false) ≡ b
-or_false true = refl
-or_false false = refl
-
 module _ (s : State) (p q : Option Bytes) (r : Corners) where
   abbrev compare : Command
   compare = Compare p q r
@@ -140,7 +137,7 @@ module _ (s : State) (p q : Option Bytes) (r : Corners) where
   missing_is : list_any (is_missing s) (form (Compare p q r)) ≡ (lacks s.scenarios p || lacks s.scenarios q)
   missing_is =
       ap (λ (b : Bool). b || (is_missing s (SIDE q) || false)) (side_missing s p)
-      ∙ ap (λ (b : Bool). lacks s.scenarios p || b) (or_false (is_missing s (SIDE q)) ∙ side_missing s q)
+      ∙ ap (λ (b : Bool). lacks s.scenarios p || b) (or-false (is_missing s (SIDE q)) ∙ side_missing s q)
 
   compare_picked : (out large missing : Bool) → (is_outside r.0 || is_outside r.1) ≡ out → nat_lt max_area (size_of (area r) * 1) ≡ large
       → list_any (is_missing s) (form (Compare p q r)) ≡ missing → (lacks s.scenarios p || lacks s.scenarios q) ≡ missing

@@ -4,6 +4,7 @@ use Rattle.std.specs.List.{cons_option, prefix_len, before_first}
 use Rattle.std.specs.Str.{byte, is_utf8}
 use Rattle.std.proofs.lemmas.Bool.Decides.{nat_tests}
 use Rattle.std.proofs.lemmas.Str.{IsUtf8-from_is_utf8, is_utf8-from_IsUtf8}
+use Rattle.std.proofs.lemmas.Bool.{le-ltb}
 use Rattle.wi_scenarios.specs.declared.refusal.Refusal.TheVariants as refusal
 use Rattle.wi_scenarios.specs.Step as old
 use Rattle.wi_cli.specs.Lines.{without_lf, max_line, is_space, skip_spaces, first_word, after_word, Bytes}
@@ -17,8 +18,8 @@ use Rattle.wi_cli.specs.Script.{text_of, IsGood, Asks, is_passed_over, IsCommand
 use Rattle.wi_cli.specs.Laws.{was, read_any, asked, block, kept, SameCommands, Takes}
 use Rattle.wi_cli.proofs.Ties.Tables.{clash}
 use Rattle.wi_cli.proofs.Ties.OperandsRead.{no_word}
-use Rattle.wi_cli.proofs.Ties.CsvLines.{AsksOrNot, it_asks, it_asks_none, asks_or_not, asked_is, short_line, not_long, TextReads, text_or, text_read}
-use Rattle.wi_cli.proofs.Ties.LinesRead.{plain_line, csv_line_is, line_is, text_is, good, good_is}
+use Rattle.wi_cli.proofs.Ties.CsvLines.{AsksOrNot, it_asks, it_asks_none, asks_or_not, asked_is, short_line, TextReads, text_or, text_read}
+use Rattle.wi_cli.proofs.Ties.LinesRead.{plain_line, csv_line_is, line_is, text_is, good, good_is, onto_was, complete, not_complete}
 use Rattle.wi_cli.proofs.Ties.Texts.{is_plain, same_form, Reads, spells, spells_none, reads}
 
 -- ---- how many data lines
@@ -123,7 +124,7 @@ module _ (line : Bytes) (taken : List Bytes) where
   -- one that asks for none, by whether it is passed over
   plain_is : IsGood line → csv_text (text_of line) ≡ None → (p : Bool) → is_passed_over (text_of line) ≡ p
       → block_command (block line taken) ≡ (if p then None else Some (spelled_command (text_of line)))
-  plain_is g e p f = plain_line line taken (short_line line (not_long _ g.0) ∙ e) ∙ line_is line false (good_is line g) ∙ text_is (text_of line) p f
+  plain_is g e p f = plain_line line taken (short_line line (le-ltb _ _ g.0) ∙ e) ∙ line_is line false (good_is line g) ∙ text_is (text_of line) p f
 
   is_none : IsGood line → is_passed_over (text_of line) ≡ true → TextReads (text_of line) → block_command (block line taken) ≡ None
   is_none g p (inl f) = absurd (clash _ (csv_apart (text_of line) f.0 f.1 f.2 f.3) p)
@@ -151,7 +152,7 @@ module _ (line : Bytes) (taken : List Bytes) where
       → block_command (block line taken) ≡ Some (was (Csv force o n lines))
   is_csv force o n lines g h e =
       let r = text_read (text_of line) force o n h in
-      csv_line_is line taken force o n (r.0, short_line line (not_long _ g.0) ∙ r.1, r.2) true (is_utf8-from_IsUtf8 (text_of line) g.1)
+      csv_line_is line taken force o n (r.0, short_line line (le-ltb _ _ g.0) ∙ r.1, r.2) true (is_utf8-from_IsUtf8 (text_of line) g.1)
       ∙ ap (λ (ls : List Bytes). Some (csv_command force (read_any o) ls (n - length ls))) (sym e)
 
   is_plain_one : (c : Command) → is_plain c ≡ true → IsGood line → IsWritten (text_of line) (form c) → block_command (block line taken) ≡ Some (was c)
@@ -205,19 +206,9 @@ block_short line taken h = short_of line [] taken (asked line) h
 
 -- ---- lines
 
-onto_was : (o : Option Command) (cs : List Command) → cons_option (option_map was o) (map was cs) ≡ map was (option_to_list o ++ cs)
-onto_was None cs = refl
-onto_was (Some c) cs = refl
-
 onto_none : (o : Option Command) → cons_option (option_map was o) [] ≡ map was (option_to_list o)
 onto_none None = refl
 onto_none (Some c) = refl
-
-whole_block : (line : Bytes) (taken : List Bytes) → asked line ≡ length taken → is_complete (block line taken) ≡ true
-whole_block line taken e = grind (arith, nat_tests)
-
-cut_block : (line : Bytes) (taken : List Bytes) → length taken < asked line → is_complete (block line taken) ≡ false
-cut_block line taken h = grind (arith, nat_tests)
 
 kept_one : (ended : Bool) (b : Block) (bs : List Block) → is_complete b ≡ true → kept ended (b ∷ bs) ≡ b ∷ kept ended bs
 kept_one true b bs e = refl
@@ -229,7 +220,7 @@ same_commands false lines cs no_commands = refl
 same_commands ended lines cs (line_with line taken more o ds takes is rest) =
     let many : asked line ≡ length taken = is_asked line (length taken) (are_taken line taken takes) in
     ap (λ (bs : List Block). filter_map block_command (kept ended bs)) (block_filled line taken more many)
-    ∙ ap (filter_map block_command) (kept_one ended (block line taken) (blocks more) (whole_block line taken many))
+    ∙ ap (filter_map block_command) (kept_one ended (block line taken) (blocks more) (complete line taken many))
     ∙ ap₂ cons_option (one_command line taken o is) (same_commands ended more ds rest) ∙ onto_was o ds
 same_commands true lines cs (line_cut line taken n o asks short is) =
     let less : length taken < asked line = subst (λ (k : ℕ). length taken < k) (sym (asked_is line n asks)) short in
@@ -237,4 +228,4 @@ same_commands true lines cs (line_cut line taken n o asks short is) =
 same_commands false lines cs (line_cut line taken n o asks short is) =
     let less : length taken < asked line = subst (λ (k : ℕ). length taken < k) (sym (asked_is line n asks)) short in
     ap (λ (bs : List Block). filter_map block_command (filter is_complete bs)) (block_short line taken less)
-    ∙ ap (λ (v : Bool). filter_map block_command (cond v (block line taken ∷ []) [])) (cut_block line taken less)
+    ∙ ap (λ (v : Bool). filter_map block_command (cond v (block line taken ∷ []) [])) (not_complete line taken less)

@@ -5,6 +5,7 @@ use Rattle.std.specs.Str.{all_ascii_digits}
 use Rattle.std.specs.Str.Parse.{digits_value}
 use Rattle.std.proofs.lemmas.Bool.Decides.{nat_tests}
 use Rattle.std.proofs.lemmas.Slice.Eq.{bytes_eq-Decides}
+use Rattle.std.proofs.lemmas.Bool.{le-leb, leb-true, and_parts}
 use Rattle.wi_values.specs.AddressReading.{read_address, read_rect}
 use Rattle.wi_values.specs.Name.{is_name, read_name}
 use Rattle.wi_values.specs.declared.address.AddressFault.{AddressFault}
@@ -15,7 +16,7 @@ use Rattle.wi_cli.specs.Inner.CsvCommand.{read_lines}
 use Rattle.wi_cli.specs.Operands.{Cell, Corners, is_outside, address, area, IsAddr, IsRect, IsSpelled, SIDE, LINES}
 use Rattle.wi_cli.specs.Laws.{read_by}
 use Rattle.wi_cli.proofs.Ties.Addresses.{same_addr}
-use Rattle.wi_cli.proofs.Ties.Rects.{same_rect, both}
+use Rattle.wi_cli.proofs.Ties.Rects.{same_rect}
 use Rattle.wi_cli.proofs.Ties.Tables.{clash}
 
 -- ---- cells and rectangles
@@ -94,12 +95,6 @@ side_or word = by (bytes_eq word (codes "-")) refl (name_or word)
 
 -- ---- numbers of lines
 
-at_most : (n m : ℕ) → nat_le n m ≡ true → n ≤ m
-at_most n m e = grind (arith, nat_tests)
-
-within : (n m : ℕ) → n ≤ m → nat_le n m ≡ true
-within n m h = grind (arith, nat_tests)
-
 some_bytes : (word : Bytes) → nat_lt 0 (length word) ≡ true → word ≡ [] → ⊥
 some_bytes word e h = clash false refl (sym (ap (λ (w : Bytes). nat_lt 0 (length w)) h) ∙ e)
 
@@ -115,7 +110,7 @@ all_true a b c d e f g h = rw (e, f, g, h) refl
 
 is_number_of : (word : Bytes) (n : ℕ) → IsSpelled word (LINES n) → is_number word ≡ true
 is_number_of word n h =
-    all_true _ _ _ _ (is_some_bytes word h.0) (within _ _ h.1) h.2 (within _ _ (subst (λ (k : ℕ). k ≤ 1000000) (sym h.3) h.4))
+    all_true _ _ _ _ (is_some_bytes word h.0) (le-leb _ _ h.1) h.2 (le-leb _ _ (subst (λ (k : ℕ). k ≤ 1000000) (sym h.3) h.4))
 
 pub lines_read : (word : Bytes) (n : ℕ) → IsSpelled word (LINES n) → read_lines word ≡ Some n
 lines_read word n h =
@@ -126,10 +121,10 @@ lines_or word = by (is_number word) refl
   where
     by : (b : Bool) → is_number word ≡ b → ((n : ℕ) × IsSpelled word (LINES n)) ⊎ ((read_lines word ≡ None) × ((n : ℕ) → IsSpelled word (LINES n) → ⊥))
     by true e =
-        let p = both _ _ e in
-        let q = both _ _ p.0 in
-        let r = both _ _ q.0 in
-        inl (digits_value 10 word, (some_bytes word r.0, at_most _ _ r.1, q.1, refl, at_most _ _ p.1))
+        let p = and_parts _ _ e in
+        let q = and_parts _ _ p.0 in
+        let r = and_parts _ _ q.0 in
+        inl (digits_value 10 word, (some_bytes word r.0, leb-true _ _ r.1, q.1, refl, leb-true _ _ p.1))
     by false e = inr (ap (λ (b : Bool). if b then Some (digits_value 10 word) else None) e, λ n h. clash (is_number word) e (is_number_of word n h))
 
 -- ---- spaces
@@ -137,7 +132,7 @@ lines_or word = by (is_number word) refl
 no_skip : (t : Bytes) → is_all_spaces t ≡ true → skip_spaces t ≡ []
 no_skip [] e = refl
 no_skip (b ∷ bs) e =
-    let p = both (is_space b) (is_all_spaces bs) e in
+    let p = and_parts (is_space b) (is_all_spaces bs) e in
     ap (λ (v : Bool). if v then skip_spaces bs else b ∷ bs) p.0 ∙ no_skip bs p.1
 
 pub no_word : (t : Bytes) → is_all_spaces t ≡ true → first_word t ≡ []

@@ -7,6 +7,7 @@ use Rattle.std.proofs.lemmas.List.Sums.{split_at_first, passes_at_first}
 use Rattle.std.specs.Char.{is_ascii_alphabetic, is_ascii_digit}
 use Rattle.std.specs.List.{list_all, prefix_len, position_or_len}
 use Rattle.std.specs.Str.{byte, all_ascii_digits}
+use Rattle.std.proofs.lemmas.Bool.{and_parts}
 use Rattle.wi_values.specs.Address.{rect_of}
 use Rattle.wi_values.specs.AddressReading.{read_address, read_rect, corners, read_corners as read_at_colon}
 use Rattle.wi_values.specs.declared.address.AddressFault.{AddressFault}
@@ -15,7 +16,6 @@ use Rattle.wi_cli.specs.Operands.{Cell, Corners, is_outside, address, IsAddr, ad
 use Rattle.wi_cli.specs.Lines.{Bytes}
 use Rattle.wi_cli.specs.Laws.{read_by, read_corners, SameRect}
 use Rattle.wi_cli.proofs.Ties.Addresses.{all_digits, same_addr}
-use Rattle.wi_cli.proofs.Ties.Tables.{clash}
 
 abbrev is_colon : ℕ → Bool
 is_colon b = b == byte ":"
@@ -23,16 +23,12 @@ is_colon b = b == byte ":"
 abbrev no_colon : ℕ → Bool
 no_colon b = not (is_colon b)
 
-pub both : (a b : Bool) → (a && b) ≡ true → (a ≡ true) × (b ≡ true)
-both true b e = (refl, e)
-both false b e = absurd (clash false refl e)
-
 -- ---- no address has a colon
 
 letters_plain : (ls : Bytes) → list_all is_ascii_alphabetic ls ≡ true → list_all no_colon ls ≡ true
 letters_plain [] h = refl
 letters_plain (l ∷ ls) h =
-    let k = both (is_ascii_alphabetic l) (list_all is_ascii_alphabetic ls) h in
+    let k = and_parts (is_ascii_alphabetic l) (list_all is_ascii_alphabetic ls) h in
     let letter : is_ascii_alphabetic l ≡ true = k.0 in
     let first : no_colon l ≡ true = grind (arith, nat_tests) in
     rw (first, letters_plain ls k.1) refl
@@ -40,7 +36,7 @@ letters_plain (l ∷ ls) h =
 digits_plain : (ds : Bytes) → all_ascii_digits ds ≡ true → list_all no_colon ds ≡ true
 digits_plain [] h = refl
 digits_plain (d ∷ ds) h =
-    let k = both (is_ascii_digit d) (all_ascii_digits ds) h in
+    let k = and_parts (is_ascii_digit d) (all_ascii_digits ds) h in
     let digit : is_ascii_digit d ≡ true = k.0 in
     let first : no_colon d ≡ true = grind (arith, nat_tests) in
     rw (first, digits_plain ds k.1) refl
@@ -54,7 +50,7 @@ addr_plain word c (addr ls ds d some letters digits column row) =
 scan : (cs rest : Bytes) → list_all no_colon cs ≡ true → prefix_len no_colon rest ≡ 0 → prefix_len no_colon (cs ++ rest) ≡ length cs
 scan [] rest h e = e
 scan (c ∷ cs) rest h e =
-    let k = both (no_colon c) (list_all no_colon cs) h in
+    let k = and_parts (no_colon c) (list_all no_colon cs) h in
     let more : prefix_len no_colon (cs ++ rest) ≡ length cs = scan cs rest k.1 e in
     ap (λ (b : Bool). cond b (1 + prefix_len no_colon (cs ++ rest)) 0) k.0 ∙ omega (arith, more)
 

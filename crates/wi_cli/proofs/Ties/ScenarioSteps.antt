@@ -4,6 +4,8 @@ use Rattle.std.specs.List.{list_any, Any}
 use Rattle.std.proofs.lemmas.Bool.Decides.{nat_tests}
 use Rattle.std.proofs.lemmas.List.Folds.{Any-from_list_any, list_any-from_Any}
 use Rattle.std.proofs.lemmas.Slice.Eq.{bytes_eq-Decides}
+use Rattle.std.proofs.lemmas.Bool.{or_parts, or_cases}
+use Rattle.std.proofs.Math.Bool.{or-false}
 use Rattle.wi_values.specs.declared.value.Value.{Value}
 use Rattle.wi_values.specs.Imported.{IsImported}
 use Rattle.wi_values.specs.Inner.Import.{imported}
@@ -23,9 +25,8 @@ use Rattle.wi_cli.specs.Causes.{Cause, Outside, TooLarge, NoScenario, InUse, Too
 use Rattle.wi_cli.specs.Does.{Does, state_with}
 use Rattle.wi_cli.specs.Step.{causes}
 use Rattle.wi_cli.specs.Laws.{SameStep, was}
-use Rattle.wi_cli.proofs.Ties.Tables.{clash, first_inside, second_inside}
+use Rattle.wi_cli.proofs.Ties.Tables.{clash}
 use Rattle.wi_cli.proofs.Ties.CsvSteps.{any_as}
-use Rattle.wi_cli.proofs.Ties.Looks.{or_false}
 use Rattle.wi_cli.proofs.Ties.Tests.{first_test, found, some_none, by_tests}
 
 -- ---- names that are given
@@ -53,10 +54,6 @@ module _ (name : Bytes) (xs : List Kept) where
   not_in_chain : list_any (is_named name) xs ≡ false → Any (λ x. x.name ≡ name) xs → ⊥
   not_in_chain e h = clash _ e (list_any-from_Any (is_named name) xs (any_as (λ x. x.name ≡ name) (λ x. is_named name x ≡ true) xs (λ x k. (bytes_eq-Decides name x.name).1 (sym k)) h))
 
-either : (a b : Bool) → (a || b) ≡ true → (a ≡ true) ⊎ (b ≡ true)
-either true b e = inl refl
-either false b e = inr e
-
 -- ---- drop
 
 module _ (s : State) (name : Bytes) where
@@ -70,7 +67,7 @@ module _ (s : State) (name : Bytes) where
 
   pub drop_yes : (x : Cause) → drop_test x ≡ true → Holds s x (Drop name)
   drop_yes NoScenario e = e
-  drop_yes InUse e = by (either (list_any (λ x. is_name_of name x.scenario) s.sessions) (is_base s.scenarios name) e)
+  drop_yes InUse e = by (or_cases (list_any (λ x. is_name_of name x.scenario) s.sessions) (is_base s.scenarios name) e)
     where
       by : (list_any (λ x. is_name_of name x.scenario) s.sessions ≡ true) ⊎ (is_base s.scenarios name ≡ true) → Holds s InUse (Drop name)
       by (inl h) = inl (some_named (λ (x : Session). x.scenario) name s.sessions h)
@@ -82,9 +79,9 @@ module _ (s : State) (name : Bytes) where
   drop_no TooLarge e h = omega (arith, h)
   drop_no NoScenario e h = clash _ e h
   drop_no InUse e (inl h) =
-      none_named (λ (x : Session). x.scenario) name s.sessions (first_inside (list_any (λ x. is_name_of name x.scenario) s.sessions) (is_base s.scenarios name) e) h
+      none_named (λ (x : Session). x.scenario) name s.sessions (or_parts (list_any (λ x. is_name_of name x.scenario) s.sessions) (is_base s.scenarios name) e).0 h
   drop_no InUse e (inr h) =
-      none_named (λ (x : Kept). x.base) name s.scenarios (second_inside (list_any (λ x. is_name_of name x.scenario) s.sessions) (is_base s.scenarios name) e) h
+      none_named (λ (x : Kept). x.base) name s.scenarios (or_parts (list_any (λ x. is_name_of name x.scenario) s.sessions) (is_base s.scenarios name) e).1 h
   drop_no Stale e h = h.1 refl
   drop_no Full e h = h.1
   drop_no EditLimit e h = h.1
@@ -206,7 +203,7 @@ module _ (s : State) (name : Bytes) (other : Option Bytes) where
 
 missing_base : (s : State) (name : Bytes) (other : Option Bytes) → list_any (is_missing s) (form (Base name other)) ≡ (not (has_scenario s.scenarios name) || lacks s.scenarios other)
 missing_base s name None = refl
-missing_base s name (Some other) = ap (λ (b : Bool). not (has_scenario s.scenarios name) || b) (or_false (not (has_scenario s.scenarios other)))
+missing_base s name (Some other) = ap (λ (b : Bool). not (has_scenario s.scenarios name) || b) (or-false (not (has_scenario s.scenarios other)))
 
 pub base_yes : (s : State) (name : Bytes) (other : Option Bytes) (x : Cause) → base_test s name other x ≡ true → Holds s x (Base name other)
 base_yes s name other NoScenario e = missing_base s name other ∙ e

@@ -1,8 +1,8 @@
 -- The step of `set`.
-use Rattle.std.proofs.Common.{◌≡◌, ◌↔◌, ◌<◌, ℕ, min, max, Bool, true, false, ◌==◌, List, [], ◌∷◌, length, ◌⊎◌, inl, inr, Some, None, Result, Ok, Err, if◌then◌else◌, refl, sym, ap, ◌∙◌, subst, arith}
+use Rattle.std.proofs.Common.{◌≡◌, ◌↔◌, ◌<◌, ℕ, Bool, true, false, ◌==◌, List, [], ◌∷◌, length, ◌⊎◌, inl, inr, Some, None, Result, Ok, Err, if◌then◌else◌, refl, sym, ap, ◌∙◌, subst, arith}
 use Rattle.std.specs.List.{list_any}
 use Rattle.std.proofs.lemmas.Bool.Decides.{nat_tests}
-use Rattle.wi_values.specs.Address.{Area, place, row_of, column_of, rect_of}
+use Rattle.wi_values.specs.Address.{Area}
 use Rattle.wi_parser.specs.declared.content.Content.{Content}
 use Rattle.wi_parser.specs.declared.fault.ParseFault.{ParseFault}
 use Rattle.wi_parser.specs.declared.fault.ParseFault.TheVariants as parse
@@ -29,6 +29,7 @@ use Rattle.wi_cli.specs.Laws.{SameStep, read_by, read_cell}
 use Rattle.wi_cli.proofs.Ties.Uniqueness.{answers, same_answers, outside_step}
 use Rattle.wi_cli.proofs.Ties.EditSteps.{last, edit_step}
 use Rattle.wi_cli.proofs.Ties.Tables.{clash}
+use Rattle.wi_scenarios.proofs.SetLemmas.{rect_cell}
 
 -- ---- contents
 
@@ -63,12 +64,6 @@ no_memory whole r (a_constant text v h i) k = cc
 no_memory whole r (no_constant text h i) k = cc
 
 -- ---- the step
-
-rect_cell : (at : ℕ) → rect_of at at ≡ cell_area at
-rect_cell at =
-    let first : place (min (row_of at) (row_of at)) (min (column_of at) (column_of at)) ≡ at = omega arith in
-    let last : place (max (row_of at) (row_of at)) (max (column_of at) (column_of at)) ≡ at = omega arith in
-    cc
 
 module _ (s : State) (force : Bool) (c : Cell) (text : Bytes) where
   same_content : {x y : Content} → ◌≡◌ {A = Result Content ParseFault} (Ok x) (Ok y) → x ≡ y

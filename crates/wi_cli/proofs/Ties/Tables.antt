@@ -1,6 +1,7 @@
 -- The step of `table`.
 use Rattle.std.proofs.Common.{◌≡◌, ◌<◌, ℕ, min, max, Bool, true, false, not, ◌||◌, ◌&&◌, ◌==◌, nat_lt, inl, inr, None, Ok, Err, refl, sym, ap, ◌∙◌, subst, arith}
 use Rattle.std.proofs.lemmas.Bool.Decides.{nat_tests}
+use Rattle.std.proofs.lemmas.Bool.{or_parts}
 use Rattle.wi_values.specs.Address.{Area, columns, place, row_of, column_of}
 use Rattle.wi_scenarios.specs.declared.refusal.Refusal.TheVariants as refusal
 use Rattle.wi_scenarios.specs.State.{State, max_area}
@@ -61,14 +62,6 @@ not_large n e h = grind (arith, nat_tests)
 
 pub inside : (c : Cell) → is_outside c ≡ false → c.column < columns
 inside c e = grind (arith, nat_tests)
-
-pub first_inside : (a b : Bool) → (a || b) ≡ false → a ≡ false
-first_inside true b e = e
-first_inside false b e = refl
-
-pub second_inside : (a b : Bool) → (a || b) ≡ false → b ≡ false
-second_inside true b e = absurd (clash true e refl)
-second_inside false b e = e
 
 -- the row and the column of a cell, and whether two columns are one
 pub row_place : (r c : ℕ) → c < columns → row_of (place r c) ≡ r
@@ -134,8 +127,8 @@ module _ (s : State) (f r : Cell) (xs : Corners) where
   -- within the sheet two corners are in one column where the rectangle is
   pub column_is : (is_outside xs.0 || is_outside xs.1) ≡ false → is_column (area xs) ≡ (xs.0.column == xs.1.column)
   column_is ex =
-      let a : xs.0.column < columns = inside xs.0 (first_inside _ _ ex) in
-      let b : xs.1.column < columns = inside xs.1 (second_inside _ _ ex) in
+      let a : xs.0.column < columns = inside xs.0 (or_parts _ _ ex).0 in
+      let b : xs.1.column < columns = inside xs.1 (or_parts _ _ ex).1 in
       let c : column_of (address xs.0) ≡ xs.0.column = column_place xs.0.row xs.0.column a in
       let d : column_of (address xs.1) ≡ xs.1.column = column_place xs.1.row xs.1.column b in
       let low : column_of (area xs).first ≡ min xs.0.column xs.1.column =

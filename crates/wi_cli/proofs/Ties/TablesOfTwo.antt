@@ -2,6 +2,8 @@
 use Rattle.std.proofs.Common.{◌≡◌, ◌<◌, ◌*◌, ℕ, min, max, Bool, true, false, not, ◌||◌, ◌&&◌, ◌==◌, nat_lt, List, [], ◌∷◌, Option, Some, None, Result, if◌then◌else◌, refl, sym, ap, ◌∙◌, subst, arith}
 use Rattle.std.specs.List.{list_any}
 use Rattle.std.specs.Result.{result_err}
+use Rattle.std.proofs.lemmas.Bool.{or_parts}
+use Rattle.std.proofs.Math.Bool.{or-false}
 use Rattle.wi_values.specs.Address.{Area, columns, place, row_of, column_of, size_of}
 use Rattle.wi_values.specs.declared.address.AddressFault.{AddressFault}
 use Rattle.wi_values.specs.declared.address.AddressFault.TheVariants.{Shape, Outside as AtOutside}
@@ -19,8 +21,8 @@ use Rattle.wi_cli.specs.Command.{Command, Table}
 use Rattle.wi_cli.specs.Causes.{Cause, BadCommand, Outside, TooLarge, NoScenario, Stale, Full, EditLimit, Holds}
 use Rattle.wi_cli.specs.Step.{Answer, causes}
 use Rattle.wi_cli.specs.Laws.{SameStep, read_by, read_cell, read_corners, was}
-use Rattle.wi_cli.proofs.Ties.Tables.{clash, too_large, not_large, inside, first_inside, second_inside, row_place, column_place, min_max, column_is}
-use Rattle.wi_cli.proofs.Ties.Looks.{once, or_false}
+use Rattle.wi_cli.proofs.Ties.Tables.{clash, too_large, not_large, inside, row_place, column_place, min_max, column_is}
+use Rattle.wi_cli.proofs.Ties.Looks.{once}
 use Rattle.wi_cli.proofs.Ties.Tests.{first_test, found, by_tests}
 
 -- ---- faults of operands, one after another
@@ -101,8 +103,8 @@ row_out false a = shape_out (is_row a)
 -- within the sheet two corners are in one row where the rectangle is
 row_is : (ys : Corners) → (is_outside ys.0 || is_outside ys.1) ≡ false → is_row (area ys) ≡ (ys.0.row == ys.1.row)
 row_is ys ey =
-    let a : ys.0.column < columns = inside ys.0 (first_inside _ _ ey) in
-    let b : ys.1.column < columns = inside ys.1 (second_inside _ _ ey) in
+    let a : ys.0.column < columns = inside ys.0 (or_parts _ _ ey).0 in
+    let b : ys.1.column < columns = inside ys.1 (or_parts _ _ ey).1 in
     let c : column_of (address ys.0) ≡ ys.0.column = column_place ys.0.row ys.0.column a in
     let d : column_of (address ys.1) ≡ ys.1.column = column_place ys.1.row ys.1.column b in
     let e : row_of (address ys.0) ≡ ys.0.row = row_place ys.0.row ys.0.column a in
@@ -122,7 +124,7 @@ none_of true b c d e h = absurd (clash true h refl)
 none_of false true c d e h = absurd (clash true h refl)
 none_of false false true d e h = absurd (clash true h refl)
 none_of false false false true e h = absurd (clash true h refl)
-none_of false false false false e h = (refl, refl, refl, refl, first_inside e false h)
+none_of false false false false e h = (refl, refl, refl, refl, (or_parts e false h).0)
 
 -- ---- the step
 
@@ -164,7 +166,7 @@ module _ (s : State) (f r : Cell) (xs : Corners) (c : Cell) (ys : Corners) where
       by true q x y z u v a b d e g = absurd (clash true a refl)
       by false true x y z u v a b d e g = absurd (clash true b refl)
       by false false x true z u v a b d e g = absurd (clash true e refl)
-      by false false x false z u v a b d e g = ap (λ (k : Bool). x || k) (or_false z) ∙ ap (λ (k : Bool). k || z) d ∙ ap (λ (k : Bool). u || k) g
+      by false false x false z u v a b d e g = ap (λ (k : Bool). x || k) (or-false z) ∙ ap (λ (k : Bool). k || z) d ∙ ap (λ (k : Bool). u || k) g
 
   outs : list_any is_out faults ≡ out
   outs =
@@ -229,8 +231,8 @@ module _ (s : State) (f r : Cell) (xs : Corners) (c : Cell) (ys : Corners) where
       let k = none_of (is_outside f) (is_outside r) outside_xs (is_outside c) outside_ys eo in
       let bent_xs : Bool = not outside_xs && not (xs.0.column == xs.1.column) in
       let bent_ys : Bool = not outside_ys && not (ys.0.row == ys.1.row) in
-      by large el (column_is s f r xs k.2 ∙ straight outside_xs (xs.0.column == xs.1.column) (first_inside bent_xs bent_ys eb) k.2)
-      (row_is ys k.4 ∙ straight outside_ys (ys.0.row == ys.1.row) (second_inside bent_xs bent_ys eb) k.4)
+      by large el (column_is s f r xs k.2 ∙ straight outside_xs (xs.0.column == xs.1.column) (or_parts bent_xs bent_ys eb).0 k.2)
+      (row_is ys k.4 ∙ straight outside_ys (ys.0.row == ys.1.row) (or_parts bent_xs bent_ys eb).1 k.4)
     where
       by : (large : Bool) → nat_lt max_area (size_of (area xs) * size_of (area ys)) ≡ large → is_column (area xs) ≡ true → is_row (area ys) ≡ true
           → old.IsStep s proper (found done (if large then Some TooLarge else None))
@@ -287,7 +289,7 @@ module _ (s : State) (f r : Cell) (xs : Corners) where
       by : (p q x u : Bool) → p ≡ false → q ≡ false → x ≡ u → (p || (q || (x || false))) ≡ u
       by true q x u a b d = absurd (clash true a refl)
       by false true x u a b d = absurd (clash true b refl)
-      by false false x u a b d = or_false x ∙ d
+      by false false x u a b d = or-false x ∙ d
 
   one_outs : list_any is_out one_faults ≡ one_out
   one_outs = by _ _ _ _ _ _ (cell_out (is_outside f) (address f)) (cell_out (is_outside r) (address r)) (column_out (is_outside xs.0 || is_outside xs.1) (area xs))
@@ -313,7 +315,7 @@ module _ (s : State) (f r : Cell) (xs : Corners) where
   pub one_was_proper : one_bent ≡ false → one_out ≡ false → was one ≡ old.Table (address f) (address r) (area xs) None
   one_was_proper eb eo =
       one_was None (none_bad one_faults (one_shapes ∙ eb) (one_outs ∙ eo))
-      ∙ by (first_inside _ _ eo) (first_inside _ _ (second_inside _ _ eo)) (first_inside _ _ (second_inside _ _ (second_inside _ _ eo)))
+      ∙ by (or_parts _ _ eo).0 (or_parts _ _ (or_parts _ _ eo).1).0 (or_parts _ _ (or_parts _ _ (or_parts _ _ eo).1).1).0
     where
       by : is_outside f ≡ false → is_outside r ≡ false → (is_outside xs.0 || is_outside xs.1) ≡ false → one_command ≡ old.Table (address f) (address r) (area xs) None
       by ef er ex = rw (ef, er, ex) refl

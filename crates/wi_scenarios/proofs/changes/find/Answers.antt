@@ -1,9 +1,10 @@
 use Rattle.std.proofs.Common.{◌≡◌, ◌∙◌, length, refl, arith}
 use Rattle.std.proofs.lemmas.Grind.{common_steps}
 use Rattle.std.proofs.lemmas.Result.{IfOk-from_err}
+use Rattle.std.proofs.Math.Nat.{le-add_right}
 use Rattle.wi_scenario_list.specs.Inner.Chains.{effective}
 use Rattle.wi_sessions.specs.Roster.{session_at}
-use Rattle.wi_scenarios.proofs.ChangesLemmas.{changes_found, nothing_found, looked, begun_again, no_more, if_ok}
+use Rattle.wi_scenarios.proofs.ChangesLemmas.{changes_found, nothing_found, looked, begun_again, if_ok}
 use Rattle.wi_scenarios.proofs.changes.find.Goals as goal
 
 pub returns-clause-list : goal.returns-clause-list
@@ -24,22 +25,22 @@ returns-then-is_empty-clause-list g c =
     c.requires c.in_ok-cells.ensures.order c.pending.ensures.cells c.in_ok-cells.ensures.list none c.new.ensures.items
 
 pub returns-then-is_empty-clause-evaluations : goal.returns-then-is_empty-clause-evaluations
-returns-then-is_empty-clause-evaluations g c = no_more _ _
+returns-then-is_empty-clause-evaluations g c = le-add_right _ _
 
 pub returns-then-is_empty-clause-restarts : goal.returns-then-is_empty-clause-restarts
-returns-then-is_empty-clause-restarts g c = no_more _ _
+returns-then-is_empty-clause-restarts g c = le-add_right _ _
 
 pub returns-in_err-cells-clause-evaluations : goal.returns-in_err-cells-clause-evaluations
-returns-in_err-cells-clause-evaluations g c = no_more _ _
+returns-in_err-cells-clause-evaluations g c = le-add_right _ _
 
 pub returns-in_err-cells-clause-restarts : goal.returns-in_err-cells-clause-restarts
-returns-in_err-cells-clause-restarts g c = no_more _ _
+returns-in_err-cells-clause-restarts g c = le-add_right _ _
 
 pub returns-in_err-put-clause-evaluations : goal.returns-in_err-put-clause-evaluations
-returns-in_err-put-clause-evaluations g c = no_more _ _
+returns-in_err-put-clause-evaluations g c = le-add_right _ _
 
 pub returns-in_err-put-clause-restarts : goal.returns-in_err-put-clause-restarts
-returns-in_err-put-clause-restarts g c = no_more _ _
+returns-in_err-put-clause-restarts g c = le-add_right _ _
 
 pub returns-clause-evaluations : goal.returns-clause-evaluations
 returns-clause-evaluations g c =

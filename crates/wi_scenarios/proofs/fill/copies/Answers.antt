@@ -3,7 +3,8 @@ use Rattle.std.specs.Option.{option_copied}
 use Rattle.wi_values.specs.Address.{cells_of}
 use Rattle.wi_scenarios.specs.Inner.Copies.{AreCopies, HasNoCopies}
 use Rattle.wi_scenarios.proofs.AnswerLemmas.{at_error}
-use Rattle.wi_scenarios.proofs.FillLemmas.{rows_from, rows_are, one_row, no_copy_in_rows}
+use Rattle.wi_reports.proofs.RowLemmas.{rows_from, rows_are, one_row}
+use Rattle.wi_scenarios.proofs.FillLemmas.{no_copy_in_rows}
 use Rattle.wi_scenarios.proofs.fill.copies.Goals as goal
 
 pub returns-in_err-push_copies : goal.returns-in_err-push_copies

@@ -1,10 +1,14 @@
-use Rattle.std.proofs.Common.{ℕ, List, [], ◌∷◌, refl, subst, rules}
+use Rattle.std.proofs.Common.{ℕ, List, [], ◌∷◌, refl, sym, ◌∙◌, subst, rules}
 use Rattle.std.specs.Option.{option_copied}
 use Rattle.wi_values.specs.Address.{cells_of}
 use Rattle.wi_scenarios.specs.Pending.{AddsOnly}
 use Rattle.wi_scenarios.specs.Inner.Held.{state_of, pending_in}
-use Rattle.wi_scenarios.proofs.FillLemmas.{fill_leaves, fill_edited, copied_cells}
+use Rattle.wi_scenarios.proofs.FillLemmas.{fill_too_large, fill_leaves, fill_edited, copied_cells}
 use Rattle.wi_scenarios.proofs.fill.fill.Goals as goal
+
+pub returns-then-is_too_large-clause-step : goal.returns-then-is_too_large-clause-step
+returns-then-is_too_large-clause-step g c =
+    fill_too_large (state_of (g.C.Calculator.stored c.args.calculator.now) c.args.desk.now) c.args.force c.args.from c.args.area (sym c.is_too_large.ensures ∙ c.if-is_too_large.true)
 
 pub returns-in_err-contents-clause-step : goal.returns-in_err-contents-clause-step
 returns-in_err-contents-clause-step g c =
