@@ -224,9 +224,25 @@ fn push_entries<C: Calculator>(
             push_entry(alloc, calculator, put, table.formula_cell, &pairs, texts)
         }
         Some((second, cells)) => {
-            push_row_entries(alloc, calculator, put, table, x, second, cells, texts)
+            let given = TableRow {
+                formula_cell: table.formula_cell,
+                input: table.input,
+                x,
+                second,
+            };
+            push_row_entries(alloc, calculator, put, &given, cells, texts)
         }
     }
+}
+
+/// What the entries beside a cell of the column have in common, where there are two inputs.
+#[derive(Drop)]
+struct TableRow {
+    formula_cell: Address,
+    input: Address,
+    /// The cell of the column, whose value takes the input's place.
+    x: Address,
+    second: Address,
 }
 
 /// Appends the texts of the entries beside a cell of the column, for each cell of a row.
@@ -234,15 +250,13 @@ fn push_row_entries<C: Calculator>(
     alloc: Global,
     calculator: &mut C,
     put: &[Replacement],
-    table: &DataTable,
-    x: Address,
-    second: Address,
+    given: &TableRow,
     cells: Rect,
     texts: &mut Vec<String>,
 ) -> Result<(), AllocError>
     requires { IsInOrder put.now }
     ensures texts { let sheet = (C.stored calculator.old).sheet in
-        let text = λ (y : ℕ). spec.entry_text sheet put.now table.now.formula_cell (pairs_at table.now.input x second y) in
+        let text = λ (y : ℕ). spec.entry_text sheet put.now given.now.formula_cell (pairs_at given.now.input given.now.x given.now.second y) in
         OnOk result (map string_bytes texts.new.items
         ≡ map string_bytes texts.old.items ++ map text (cells_of_row (row_of cells.first) cells)) }
     ensures same { C.stored calculator.new ≡ C.stored calculator.old }
@@ -251,7 +265,7 @@ fn push_row_entries<C: Calculator>(
     let first = cells.first().column();
     for column in first..cells.last().column() + 1 {
         let y = Address::at(row, column);
-        push_entry_at(alloc, calculator, put, table, x, second, y, texts)?;
+        push_entry_at(alloc, calculator, put, given, y, texts)?;
     }
     Ok(())
 }
@@ -261,20 +275,18 @@ fn push_entry_at<C: Calculator>(
     alloc: Global,
     calculator: &mut C,
     put: &[Replacement],
-    table: &DataTable,
-    x: Address,
-    second: Address,
+    given: &TableRow,
     y: Address,
     texts: &mut Vec<String>,
 ) -> Result<(), AllocError>
     requires { IsInOrder put.now }
     ensures text { let sheet = (C.stored calculator.old).sheet in
-        let text = spec.entry_text sheet put.now table.now.formula_cell (pairs_at table.now.input x second y) in
+        let text = spec.entry_text sheet put.now given.now.formula_cell (pairs_at given.now.input given.now.x given.now.second y) in
         OnOk result (map string_bytes texts.new.items ≡ map string_bytes texts.old.items ++ text ∷ []) }
     ensures same { C.stored calculator.new ≡ C.stored calculator.old }
 {
-    let pairs = [(table.input, x), (second, y)];
-    push_entry(alloc, calculator, put, table.formula_cell, &pairs, texts)
+    let pairs = [(given.input, given.x), (given.second, y)];
+    push_entry(alloc, calculator, put, given.formula_cell, &pairs, texts)
 }
 
 /// Appends the text of an entry, for pairs of an input and the cell whose value takes its place.

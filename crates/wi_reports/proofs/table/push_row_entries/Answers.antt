@@ -15,16 +15,16 @@ loop-column-preserved g c =
     record {
       within = omega arith;
       same = c.in_ok-push_entry_at.ensures.same ∙ old.same;
-      texts = one_text string_bytes (λ s y. entry_text s.sheet c.args.put.now c.args.table.now.formula_cell (pairs_at c.args.table.now.input c.args.x c.args.second y)) _ _ _ c.row-row.result first (column - first) (column + 1 - first) column c.at-y.result _ _ (omega arith) (omega arith) old.same c.at-y.ensures
+      texts = one_text string_bytes (λ s y. entry_text s.sheet c.args.put.now c.args.given.now.formula_cell (pairs_at c.args.given.now.input c.args.given.now.x c.args.given.now.second y)) _ _ _ c.row-row.result first (column - first) (column + 1 - first) column c.at-y.result _ _ (omega arith) (omega arith) old.same c.at-y.ensures
           old.texts c.in_ok-push_entry_at.ensures.text;
     }
 
 pub returns-clause-texts : goal.returns-clause-texts
 returns-clause-texts g c =
     let cells = c.args.cells in
-    let table = c.args.table.now in
+    let given = c.args.given.now in
     let sheet = (g.C.Calculator.stored c.args.calculator.now).sheet in
-    let text : ℕ → List ℕ = λ y. entry_text sheet c.args.put.now table.formula_cell (pairs_at table.input c.args.x c.args.second y) in
+    let text : ℕ → List ℕ = λ y. entry_text sheet c.args.put.now given.formula_cell (pairs_at given.input given.x given.second y) in
     let first = c.column-first.result in
     let last = c.column-column-end.result in
     let column = c.loop-column.column in

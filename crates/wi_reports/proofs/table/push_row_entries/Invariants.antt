@@ -13,5 +13,5 @@ invariant-loop-column g l =
       within : l.column ≤ l.first + (l.column-end - l.first);
       same : stored l.calculator ≡ stored l.fn.calculator;
       texts : map string_bytes l.texts.items ≡ map string_bytes l.fn.texts.items
-          ++ texts (λ y. entry_text (stored l.fn.calculator).sheet l.fn.put l.fn.table.formula_cell (pairs_at l.fn.table.input l.fn.x l.fn.second y)) l.row l.first (l.column - l.first);
+          ++ texts (λ y. entry_text (stored l.fn.calculator).sheet l.fn.put l.fn.given.formula_cell (pairs_at l.fn.given.input l.fn.given.x l.fn.given.second y)) l.row l.first (l.column - l.first);
     }
