@@ -6,11 +6,10 @@ ghost use Rattle.wi_cli.specs.Lines.{max_lines};
 ghost use Rattle.wi_cli.specs.Inner.Turn.{TookBlock, BrokeBlock, IsRead};
 ghost use Rattle.wi_cli.specs.Inner.Told.{Told};
 
-use crate::chunk::Chunk;
 use crate::csv_line::{CsvLine, read_csv_line};
 use crate::data_lines::{DataLines, read_data};
 use crate::fault::RunFault;
-use crate::lines::{MAX_LINE, next_line};
+use crate::lines::{LineReader, MAX_LINE, next_line};
 use crate::reply::Reply;
 use crate::serve::serve;
 use crate::serve_csv::serve_csv;
@@ -29,28 +28,26 @@ pub struct Block {
 
 /// Takes the next line, and the data lines that it asks for.
 pub(crate) fn read_block<R: Source>(
-    chunk: &mut Chunk,
+    script: &mut LineReader,
     source: &mut R,
-    line: &mut Vec<u8>,
-    lines: &mut u32,
     data_lines: &mut DataLines,
 ) -> Result<Block, RunFault>
     requires works { R.has_failed source.old ≡ false }
-    requires room { MAX_LINE + 1 ≤ vec_capacity line.old }
-    requires few { lines.old ≤ max_lines }
+    requires room { MAX_LINE + 1 ≤ vec_capacity script.old.line }
+    requires few { script.old.lines ≤ max_lines }
     ensures took { MatchResult result
         (λ block. (command : Option Command)
-        × TookBlock command block.whole chunk.old (R.remaining source.old) chunk.new (R.remaining source.new) lines.old lines.new
-        × IsRead command block.csv line.new.items data_lines.new)
-        (λ e. BrokeBlock e chunk.old (R.remaining source.old) chunk.new (R.remaining source.new) lines.old) }
-    ensures room { MAX_LINE + 1 ≤ vec_capacity line.new }
+        × TookBlock command block.whole script.old.chunk (R.remaining source.old) script.new.chunk (R.remaining source.new) script.old.lines script.new.lines
+        × IsRead command block.csv script.new.line.items data_lines.new)
+        (λ e. BrokeBlock e script.old.chunk (R.remaining source.old) script.new.chunk (R.remaining source.new) script.old.lines) }
+    ensures room { MAX_LINE + 1 ≤ vec_capacity script.new.line }
     ensures works { OnOk result (R.has_failed source.new ≡ false) }
     ensures failed { result ≡ Err RunFault.Read → R.has_failed source.new ≡ true }
 {
-    let whole = next_line(chunk, source, line, lines)?;
-    match read_csv_line(line) {
+    let whole = next_line(script, source)?;
+    match read_csv_line(&script.line) {
         Some(csv) => {
-            let whole = read_data(chunk, source, line, lines, data_lines, &csv, whole)?;
+            let whole = read_data(script, source, data_lines, &csv, whole)?;
             Ok(Block {
                 csv: Some(csv),
                 whole,

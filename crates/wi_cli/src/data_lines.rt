@@ -7,10 +7,9 @@ ghost use Rattle.wi_cli.specs.Lines.{max_lines};
 ghost use Rattle.wi_cli.specs.Inner.Reading.{raw, line_front};
 ghost use Rattle.wi_cli.specs.Inner.Data.{wants, Holds, HoldsLines, AddedTo, TookData, BrokeData};
 
-use crate::chunk::Chunk;
 use crate::csv_line::CsvLine;
 use crate::fault::RunFault;
-use crate::lines::{MAX_LINE, next_line};
+use crate::lines::{LineReader, MAX_LINE, next_line};
 use std::alloc::{AllocError, Global};
 use wi_devices::Source;
 
@@ -126,31 +125,29 @@ impl DataLines {
 /// Takes the data lines that a line asks for, as far as there are any, and tells whether the last LF came. The line's own is
 /// told by `whole`.
 pub(crate) fn read_data<R: Source>(
-    chunk: &mut Chunk,
+    script: &mut LineReader,
     source: &mut R,
-    line: &mut Vec<u8>,
-    lines: &mut u32,
     data_lines: &mut DataLines,
     csv: &CsvLine,
     mut whole: bool,
 ) -> Result<bool, RunFault>
     requires works { R.has_failed source.old ≡ false }
-    requires room { MAX_LINE + 1 ≤ vec_capacity line.old }
-    requires few { lines.old ≤ max_lines }
-    requires at_end { whole ≡ false → IsAtEnd (prepend_known chunk.old (R.remaining source.old)) }
+    requires room { MAX_LINE + 1 ≤ vec_capacity script.old.line }
+    requires few { script.old.lines ≤ max_lines }
+    requires at_end { whole ≡ false → IsAtEnd (prepend_known script.old.chunk (R.remaining source.old)) }
     ensures took { MatchResult result
-        (λ end. TookData csv.now.lines data_lines.new whole end chunk.old (R.remaining source.old) chunk.new (R.remaining source.new) lines.old lines.new)
-        (λ e. BrokeData csv.now.lines whole e chunk.old (R.remaining source.old) chunk.new (R.remaining source.new) lines.old) }
+        (λ end. TookData csv.now.lines data_lines.new whole end script.old.chunk (R.remaining source.old) script.new.chunk (R.remaining source.new) script.old.lines script.new.lines)
+        (λ e. BrokeData csv.now.lines whole e script.old.chunk (R.remaining source.old) script.new.chunk (R.remaining source.new) script.old.lines) }
     ensures all { IfOk result (λ end. end ≡ true → data_lines.new.missing ≡ 0) }
     ensures wanted { OnOk result (data_lines.new.wanted ≡ wants csv.now) }
-    ensures room { MAX_LINE + 1 ≤ vec_capacity line.new }
+    ensures room { MAX_LINE + 1 ≤ vec_capacity script.new.line }
     ensures works { OnOk result (R.has_failed source.new ≡ false) }
     ensures failed { result ≡ Err RunFault.Read → R.has_failed source.new ≡ true }
 {
     data_lines.begin(csv);
-    while data_lines.goes_on(whole) {
-        whole = next_line(chunk, source, line, lines)?;
-        data_lines.add(line, whole);
+    'taking: while data_lines.goes_on(whole) {
+        whole = next_line(script, source)?;
+        data_lines.add(&script.line, whole);
     }
     Ok(whole)
 }

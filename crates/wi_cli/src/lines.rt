@@ -15,6 +15,17 @@ pub const MAX_LINE: usize = 65_536;
 /// How many lines a script may have.
 pub const MAX_LINES: u32 = 1_000_000;
 
+/// What reads the lines of a script.
+#[derive(Drop)]
+pub struct LineReader {
+    /// The bytes that were read and not yet taken.
+    pub chunk: Chunk,
+    /// The line that was taken last; of one over the limit its front.
+    pub line: Vec<u8>,
+    /// How many lines were taken whole.
+    pub lines: u32,
+}
+
 /// Takes the next line, without its LF, and tells whether its LF came. Of a line over the limit
 /// the front is kept, one byte more than the limit. With no LF and no byte the input has ended.
 pub(crate) fn read_line<R: Source>(
@@ -91,24 +102,23 @@ fn may_go_on(lines: u32) -> bool
 
 /// Takes the next line as `read_line` does, where the script may have one more, and counts it if its LF came.
 pub(crate) fn next_line<R: Source>(
-    chunk: &mut Chunk,
+    script: &mut LineReader,
     source: &mut R,
-    line: &mut Vec<u8>,
-    lines: &mut u32,
 ) -> Result<bool, RunFault>
     requires works { R.has_failed source.old ≡ false }
-    requires room { MAX_LINE + 1 ≤ vec_capacity line.old }
+    requires room { MAX_LINE + 1 ≤ vec_capacity script.old.line }
     ensures took { MatchResult result
-        (λ whole. TookLine (nat_lt lines.old max_lines) whole chunk.old (R.remaining source.old) chunk.new (R.remaining source.new) line.new.items
-        × (lines.new ≡ lines.old + (if whole then 1 else 0)))
-        (λ e. Broke e (nat_lt lines.old max_lines) chunk.old (R.remaining source.old) chunk.new (R.remaining source.new)) }
-    ensures room { MAX_LINE + 1 ≤ vec_capacity line.new }
+        (λ whole. TookLine (nat_lt script.old.lines max_lines) whole script.old.chunk (R.remaining source.old) script.new.chunk (R.remaining source.new) script.new.line.items
+        × (script.new.lines ≡ script.old.lines + (if whole then 1 else 0)))
+        (λ e. Broke e (nat_lt script.old.lines max_lines) script.old.chunk (R.remaining source.old) script.new.chunk (R.remaining source.new)) }
+    ensures room { MAX_LINE + 1 ≤ vec_capacity script.new.line }
     ensures works { OnOk result (R.has_failed source.new ≡ false) }
     ensures failed { result ≡ Err RunFault.Read → R.has_failed source.new ≡ true }
 {
-    let whole = read_line(chunk, source, line, may_go_on(*lines))?;
+    let allowed = may_go_on(script.lines);
+    let whole = read_line(&mut script.chunk, source, &mut script.line, allowed)?;
     if whole {
-        *lines += 1;
+        script.lines += 1;
     }
     Ok(whole)
 }

@@ -10,7 +10,7 @@ use crate::blocks::{read_block, serve_block};
 use crate::chunk::Chunk;
 use crate::data_lines::DataLines;
 use crate::fault::RunFault;
-use crate::lines::MAX_LINE;
+use crate::lines::{LineReader, MAX_LINE};
 use crate::reply::write_reply;
 use std::alloc::Global;
 use wi_devices::{Sink, Source};
@@ -19,38 +19,36 @@ use wi_scenarios::Workbook;
 
 /// Reads a line with its data lines, serves it and writes its reply. Tells whether the last LF came.
 fn turn<R: Source, W: Sink, C: Calculator>(
-    chunk: &mut Chunk,
+    script: &mut LineReader,
     reader: &mut R,
     writer: &mut W,
     book: &mut Workbook<C>,
-    line: &mut Vec<u8>,
-    lines: &mut u32,
     data_lines: &mut DataLines,
     out: &mut Vec<u8>,
 ) -> Result<bool, RunFault>
     requires reads { R.has_failed reader.old ≡ false }
     requires writes { W.has_failed writer.old ≡ false }
-    requires room { MAX_LINE + 1 ≤ vec_capacity line.old }
-    requires few { lines.old ≤ max_lines }
+    requires room { MAX_LINE + 1 ≤ vec_capacity script.old.line }
+    requires few { script.old.lines ≤ max_lines }
     ensures done { MatchResult result
-        (λ whole. Turned whole chunk.old (R.remaining reader.old) chunk.new (R.remaining reader.new) lines.old lines.new
+        (λ whole. Turned whole script.old.chunk (R.remaining reader.old) script.new.chunk (R.remaining reader.new) script.old.lines script.new.lines
         book.old.state book.new.state (W.contents writer.old) (W.contents writer.new))
-        (λ e. Stopped e chunk.old (R.remaining reader.old) chunk.new (R.remaining reader.new) lines.old
+        (λ e. Stopped e script.old.chunk (R.remaining reader.old) script.new.chunk (R.remaining reader.new) script.old.lines
         book.old.state book.new.state (W.contents writer.old) (W.contents writer.new)) }
     ensures reads { OnOk result (R.has_failed reader.new ≡ false) }
     ensures writes { OnOk result (W.has_failed writer.new ≡ false) }
     ensures read_fault { result ≡ Err RunFault.Read → R.has_failed reader.new ≡ true }
     ensures write_fault { result ≡ Err RunFault.Write → W.has_failed writer.new ≡ true }
     ensures no_memory { result ≡ Err RunFault.Memory → ⊥ }
-    ensures room { MAX_LINE + 1 ≤ vec_capacity line.new }
+    ensures room { MAX_LINE + 1 ≤ vec_capacity script.new.line }
 {
-    let block = match read_block(chunk, reader, line, lines, data_lines) {
+    let block = match read_block(script, reader, data_lines) {
         Ok(block) => block,
         // What a fault cuts is not answered.
         Err(fault) => return Err(fault),
     };
     out.clear();
-    let reply = serve_block(book, &block.csv, line, data_lines, out);
+    let reply = serve_block(book, &block.csv, &script.line, data_lines, out);
     match write_reply(writer, reply, out) {
         Ok(()) => Ok(block.whole),
         Err(_) => Err(RunFault::Write),
@@ -88,22 +86,17 @@ pub fn run<R: Source, W: Sink, C: Calculator>(
     ensures runs { IsRun R.remaining R.has_failed W.contents W.has_failed W.flushed result
         reader.old reader.new writer.old writer.new book.old.state book.new.state }
 {
-    let Ok(mut line) = Vec::with_capacity(alloc, MAX_LINE + 1) else {
+    let Ok(line) = Vec::with_capacity(alloc, MAX_LINE + 1) else {
         return Err(RunFault::Memory);
     };
     let mut data_lines = DataLines::new(alloc);
     let mut out = Vec::new(alloc);
-    let mut chunk = Chunk::new();
-    let mut lines = 0;
-    while turn(
-        &mut chunk,
-        reader,
-        writer,
-        book,
-        &mut line,
-        &mut lines,
-        &mut data_lines,
-        &mut out,
-    )? {}
+    let chunk = Chunk::new();
+    let mut script = LineReader {
+        chunk,
+        line,
+        lines: 0,
+    };
+    'turns: while turn(&mut script, reader, writer, book, &mut data_lines, &mut out)? {}
     send(writer)
 }

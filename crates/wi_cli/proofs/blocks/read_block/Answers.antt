@@ -10,7 +10,7 @@ use Rattle.wi_cli.proofs.blocks.read_block.Goals as goal
 pub returns-in_err-whole-clause-took : goal.returns-in_err-whole-clause-took
 returns-in_err-whole-clause-took g c =
     let p = err_from_is_err_and c.from_residual.result c.from_residual.ensures.1 in
-    rw (p.1, p.2) (first_broke _ _ _ _ _ c.args.lines.now c.requires.few c.in_err-whole.ensures.took)
+    rw (p.1, p.2) (first_broke _ _ _ _ _ c.args.script.now.lines c.requires.few c.in_err-whole.ensures.took)
 
 pub returns-in_err-whole-in-Some-clause-took : goal.returns-in_err-whole-in-Some-clause-took
 returns-in_err-whole-in-Some-clause-took g c =
@@ -18,7 +18,7 @@ returns-in_err-whole-in-Some-clause-took g c =
     let k = c.in_ok-whole.ensures.took.0 in
     let is = csv_read _ k.content (c.deref.ensures.value ∙ k.kept) c.in-Some.csv c.in-Some.ensures.read c.in-Some.ensures.text in
     rw (p.1, p.2)
-    (data_broke c.in_ok-whole.whole _ _ _ _ _ _ _ _ c.args.lines.now _ c.requires.few k c.in_ok-whole.ensures.took.1 c.in-Some.csv is c.in_err-whole-in-Some.ensures.took)
+    (data_broke c.in_ok-whole.whole _ _ _ _ _ _ _ _ c.args.script.now.lines _ c.requires.few k c.in_ok-whole.ensures.took.1 c.in-Some.csv is c.in_err-whole-in-Some.ensures.took)
 
 pub returns-in_ok-whole-in-Some-clause-took : goal.returns-in_ok-whole-in-Some-clause-took
 returns-in_ok-whole-in-Some-clause-took g c =
@@ -27,7 +27,7 @@ returns-in_ok-whole-in-Some-clause-took g c =
     let h = c.in_ok-whole-in-Some.ensures.took in
     let d = c.read_data.new.data_lines in (
       Some (command_of_csv c.in-Some.csv (data_of h.took) d.missing),
-      csv_block c.in_ok-whole.whole c.in_ok-whole-in-Some.whole _ _ _ _ _ _ _ c.args.lines.now _ _ c.requires.few k c.in_ok-whole.ensures.took.1 c.in-Some.csv is d h c.in_ok-whole-in-Some.ensures.all,
+      csv_block c.in_ok-whole.whole c.in_ok-whole-in-Some.whole _ _ _ _ _ _ _ c.args.script.now.lines _ _ c.requires.few k c.in_ok-whole.ensures.took.1 c.in-Some.csv is d h c.in_ok-whole-in-Some.ensures.all,
       (data_of h.took, refl, c.in_ok-whole-in-Some.ensures.wanted, h.held),
     )
 
@@ -35,6 +35,6 @@ pub returns-in-None-clause-took : goal.returns-in-None-clause-took
 returns-in-None-clause-took g c =
     let k = c.in_ok-whole.ensures.took.0 in (
       line_command k.content,
-      plain_block c.in_ok-whole.whole _ _ _ _ _ c.args.lines.now _ c.requires.few k c.in_ok-whole.ensures.took.1 (no_csv _ k.content (c.deref.ensures.value ∙ k.kept) c.in-None.ensures.read),
+      plain_block c.in_ok-whole.whole _ _ _ _ _ c.args.script.now.lines _ c.requires.few k c.in_ok-whole.ensures.took.1 (no_csv _ k.content (c.deref.ensures.value ∙ k.kept) c.in-None.ensures.read),
       sym (ap line_command k.kept ∙ line_command-front k.content),
     )

@@ -3,10 +3,10 @@ use Rattle.std.proofs.lemmas.Result.{err_from_is_err_and}
 use Rattle.wi_cli.proofs.DataLemmas.{data_begun, data_more, data_stopped, goes_on_whole, goes_on_some, still_few, fewer}
 use Rattle.wi_cli.proofs.data_lines.read_data.Goals as goal
 
-pub loop-chunk-init : goal.loop-chunk-init
-loop-chunk-init g c =
+pub taking-init : goal.taking-init
+taking-init g c =
     record {
-      taken = data_begun c.args.csv.now.lines c.begin.new.self c.args.whole _ _ c.args.lines.now c.requires.few c.requires.at_end c.begin.ensures.missing c.begin.ensures.held;
+      taken = data_begun c.args.csv.now.lines c.begin.new.self c.args.whole _ _ c.args.script.now.lines c.requires.few c.requires.at_end c.begin.ensures.missing c.begin.ensures.held;
       wanted = c.begin.ensures.wanted;
       few = c.requires.few;
       works = c.requires.works;
@@ -16,25 +16,25 @@ loop-chunk-init g c =
 pub returns-in_err-whole-clause-took : goal.returns-in_err-whole-clause-took
 returns-in_err-whole-clause-took g c =
     let p = err_from_is_err_and c.from_residual.result c.from_residual.ensures.1 in
-    let old = c.loop-chunk.invariant in
-    let on = sym c.goes_on.ensures ∙ c.loop-chunk-test.true in
-    rw (p.1, p.2) (data_stopped _ _ c.args.whole _ _ _ _ _ _ _ _ c.loop-chunk.lines old.few
-    (rw (goes_on_whole c.loop-chunk.whole _ on) at old.taken) (goes_on_some c.loop-chunk.whole _ on) c.in_err-whole.ensures.took)
+    let old = c.taking.invariant in
+    let on = sym c.goes_on.ensures ∙ c.taking-test.true in
+    rw (p.1, p.2) (data_stopped _ _ c.args.whole _ _ _ _ _ _ _ _ c.taking.script.lines old.few
+    (rw (goes_on_whole c.taking.whole _ on) at old.taken) (goes_on_some c.taking.whole _ on) c.in_err-whole.ensures.took)
 
-pub loop-chunk-smaller : goal.loop-chunk-smaller
-loop-chunk-smaller g c =
+pub taking-smaller : goal.taking-smaller
+taking-smaller g c =
     let k = c.in_ok-whole.ensures.took.0 in
     let more = c.add.ensures k.content k.no_lf (c.deref.ensures.value ∙ k.kept) in
-    fewer c.loop-chunk.whole c.in_ok-whole.whole _ _ k.content k.no_lf (sym c.goes_on.ensures ∙ c.loop-chunk-test.true) more.missing
+    fewer c.taking.whole c.in_ok-whole.whole _ _ k.content k.no_lf (sym c.goes_on.ensures ∙ c.taking-test.true) more.missing
 
-pub loop-chunk-preserved : goal.loop-chunk-preserved
-loop-chunk-preserved g c =
-    let old = c.loop-chunk.invariant in
-    let on = sym c.goes_on.ensures ∙ c.loop-chunk-test.true in
+pub taking-preserved : goal.taking-preserved
+taking-preserved g c =
+    let old = c.taking.invariant in
+    let on = sym c.goes_on.ensures ∙ c.taking-test.true in
     let k = c.in_ok-whole.ensures.took.0 in
     let more = c.add.ensures k.content k.no_lf (c.deref.ensures.value ∙ k.kept) in
-    let taken = data_more _ _ c.add.new.self c.args.whole c.in_ok-whole.whole _ _ _ _ _ _ c.next_line.new.line.items _ c.loop-chunk.lines _ old.few
-    (rw (goes_on_whole c.loop-chunk.whole _ on) at old.taken) k c.in_ok-whole.ensures.took.1 more in
+    let taken = data_more _ _ c.add.new.self c.args.whole c.in_ok-whole.whole _ _ _ _ _ _ c.next_line.new.script.line.items _ c.taking.script.lines _ old.few
+    (rw (goes_on_whole c.taking.whole _ on) at old.taken) k c.in_ok-whole.ensures.took.1 more in
     record {
       taken = taken;
       wanted = more.wanted ∙ old.wanted;

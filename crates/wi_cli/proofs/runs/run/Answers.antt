@@ -4,8 +4,8 @@ use Rattle.wi_cli.proofs.OutcomeLemmas.{going_none, going_on, ends_sent, ends_st
 use Rattle.wi_cli.proofs.EndingLemmas.{not_run}
 use Rattle.wi_cli.proofs.runs.run.Goals as goal
 
-pub loop-out-init : goal.loop-out-init
-loop-out-init g c =
+pub turns-init : goal.turns-init
+turns-init g c =
     record {
       going = rw c.new-chunk.ensures (going_none _ _ _);
       few = omega arith;
@@ -14,22 +14,22 @@ loop-out-init g c =
       room = search rules;
     }
 
-pub loop-out-preserved : goal.loop-out-preserved
-loop-out-preserved g c =
+pub turns-preserved : goal.turns-preserved
+turns-preserved g c =
     let turned = rw c.if-branch.true at c.in_ok-turn.ensures.done in
-    let old = c.loop-out.invariant in
+    let old = c.turns.invariant in
     record {
-      going = going_on _ _ _ _ _ _ _ _ _ _ _ c.loop-out.lines _ old.going turned;
+      going = going_on _ _ _ _ _ _ _ _ _ _ _ c.turns.script.lines _ old.going turned;
       few = still_few turned;
       reads = c.in_ok-turn.ensures.reads;
       writes = c.in_ok-turn.ensures.writes;
       room = c.turn.ensures.room;
     }
 
-pub loop-out-smaller : goal.loop-out-smaller
-loop-out-smaller g c =
+pub turns-smaller : goal.turns-smaller
+turns-smaller g c =
     let turned = rw c.if-branch.true at c.in_ok-turn.ensures.done in
-    let old = c.loop-out.invariant in
+    let old = c.turns.invariant in
     let more = one_more turned in
     let few = still_few turned in
     omega arith
@@ -40,19 +40,19 @@ returns-in_default g c = record { runs = not_run _ _ _ _ _ _ _ _ }
 pub returns-in_err-turn : goal.returns-in_err-turn
 returns-in_err-turn g c =
     let p = err_from_is_err_and c.from_residual.result c.from_residual.ensures.1 in
-    let old = c.loop-out.invariant in
+    let old = c.turns.invariant in
     record {
       runs =
-          run_is _ _ _ _ _ _ _ _ _ _ _ _ (rw (p.1, p.2) (ends_stopped _ _ _ _ _ _ _ _ _ _ _ _ c.loop-out.lines old.going c.in_err-turn.ensures.done))
+          run_is _ _ _ _ _ _ _ _ _ _ _ _ (rw (p.1, p.2) (ends_stopped _ _ _ _ _ _ _ _ _ _ _ _ c.turns.script.lines old.going c.in_err-turn.ensures.done))
           (search rules) (search rules) (search rules) (search rules) (search rules) (search rules) (search rules) (search rules);
     }
 
 pub returns : goal.returns
 returns g c =
     let turned = rw c.if-branch.false at c.in_ok-turn.ensures.done in
-    let old = c.loop-out.invariant in
+    let old = c.turns.invariant in
     record {
       runs =
-          run_is _ _ _ _ _ _ _ _ _ _ _ _ (ends_sent _ _ _ _ _ _ _ _ _ _ _ _ _ c.loop-out.lines _ old.going turned c.send.ensures.bytes c.send.ensures.fault)
+          run_is _ _ _ _ _ _ _ _ _ _ _ _ (ends_sent _ _ _ _ _ _ _ _ _ _ _ _ _ c.turns.script.lines _ old.going turned c.send.ensures.bytes c.send.ensures.fault)
           (all_read _ _ _ _ _ _ _ _ _ _ _ turned) (search rules) (search rules) (search rules) (search rules) (search rules) (search rules) (search rules);
     }
