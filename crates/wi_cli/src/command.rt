@@ -5,7 +5,7 @@ ghost use Rattle.wi_cli.specs.Lines.{without_cr};
 ghost use Rattle.wi_cli.specs.Inner.Script.{is_comment, spelled_command, text_command, line_command};
 ghost use Rattle.wi_cli.specs.Inner.Spelling.{IsCommandOf, IsLineOf};
 
-use crate::edit_commands::read_edit;
+use crate::edit_commands::{read_edit, read_forced};
 use crate::lines::MAX_LINE;
 use crate::look_commands::{read_changes, read_compare, read_export, read_formula, read_show};
 use crate::scenario_commands::{read_as, read_base, read_drop, read_scenario, read_use};
@@ -85,7 +85,7 @@ pub(crate) fn read_command(text: &str) -> Result<Command<'_>, Refusal>
 {
     let (name, operands) = split_word(text);
     match name {
-        "force" => read_edit(true, operands),
+        "force" => read_forced(operands),
         "scenario" => read_scenario(operands),
         "drop" => read_drop(operands),
         "base" => read_base(operands),
@@ -97,7 +97,7 @@ pub(crate) fn read_command(text: &str) -> Result<Command<'_>, Refusal>
         "compare" => read_compare(operands),
         "table" => read_table(operands),
         "formula" => read_formula(operands),
-        _ => read_edit(false, text),
+        _ => read_edit(false, name, operands),
     }
 }
 

@@ -1,5 +1,6 @@
 //! The commands that edit the sheet, as they are read. They may be forced.
 
+ghost use Rattle.std.specs.Prelude.{true};
 ghost use Rattle.wi_cli.specs.Lines.{first_word, after_word};
 ghost use Rattle.wi_cli.specs.Inner.EditCommands.{set_command, clear_command, fill_command, fill_command_of, edit_command};
 ghost use Rattle.wi_cli.specs.Inner.Spelling.{IsCommandOf};
@@ -9,11 +10,22 @@ use crate::words::{is_all_spaces, split_word};
 use wi_scenarios::Refusal;
 use wi_values::{Address, AddressFault, Rect};
 
-/// The edit that a text spells.
-pub(crate) fn read_edit(force: bool, text: &str) -> Result<Command<'_>, Refusal>
-    ensures { IsCommandOf (edit_command force (first_word text.now) (after_word text.now)) result }
+/// `force`, before an edit.
+pub(crate) fn read_forced(text: &str) -> Result<Command<'_>, Refusal>
+    ensures { IsCommandOf (edit_command true (first_word text.now) (after_word text.now)) result }
 {
     let (name, operands) = split_word(text);
+    read_edit(true, name, operands)
+}
+
+/// The edit of this name.
+pub(crate) fn read_edit<'a>(
+    force: bool,
+    name: &str,
+    operands: &'a str,
+) -> Result<Command<'a>, Refusal>
+    ensures { IsCommandOf (edit_command force name.now operands.now) result }
+{
     match name {
         "set" => read_set(force, operands),
         "clear" => read_clear(force, operands),

@@ -1,10 +1,10 @@
 use Rattle.wi_cli.specs.Inner.Script.{named_command, spelled_command}
-use Rattle.wi_cli.proofs.NamedLemmas.{named}
+use Rattle.wi_cli.proofs.NamedLemmas.{named, edit_named}
 use Rattle.wi_cli.proofs.command.read_command.Goals as goal
 
 pub returns-in-force : goal.returns-in-force
 unfolding spelled_command
-returns-in-force c = named named_command c.args.text.now _ _ _ _ c.split_word.ensures.word c.split_word.ensures.rest c.in-force.is c.read_edit.ensures
+returns-in-force c = named named_command c.args.text.now _ _ _ _ c.split_word.ensures.word c.split_word.ensures.rest c.in-force.is c.read_forced.ensures
 
 pub returns-in-scenario : goal.returns-in-scenario
 unfolding spelled_command
@@ -49,3 +49,9 @@ returns-in-table c = named named_command c.args.text.now _ _ _ _ c.split_word.en
 pub returns-in-formula : goal.returns-in-formula
 unfolding spelled_command
 returns-in-formula c = named named_command c.args.text.now _ _ _ _ c.split_word.ensures.word c.split_word.ensures.rest c.in-formula.is c.read_formula.ensures
+
+pub returns-in_default : goal.returns-in_default
+unfolding spelled_command
+returns-in_default c =
+    let f = c.in_default in
+    edit_named c.args.text.now _ _ _ c.split_word.ensures.word c.split_word.ensures.rest f.not-force f.not-scenario f.not-drop f.not-base f.not-use f.not-as f.not-show f.not-export f.not-changes f.not-compare f.not-table f.not-formula c.read_edit.ensures
