@@ -7,7 +7,7 @@ use Rattle.wi_scenarios.specs.Step as old
 use Rattle.wi_cli.specs.declared.fault.RunFault.{RunFault}
 use Rattle.wi_cli.specs.declared.fault.RunFault.TheVariants.{Memory, Read, Write, ScriptLimit}
 use Rattle.wi_cli.specs.Lines.{raw_lines, is_whole, max_lines, Bytes}
-use Rattle.wi_cli.specs.Inner.Script.{commands, all_commands, whole_lines, complete_commands}
+use Rattle.wi_cli.specs.Inner.Script.{all_commands, whole_lines, complete_commands}
 use Rattle.wi_cli.specs.Inner.Run as old_run
 use Rattle.wi_cli.specs.Inner.RunOutcome.{WritesFrontOfReplies, RunOutcome, limited}
 use Rattle.wi_cli.specs.Command.{Command}

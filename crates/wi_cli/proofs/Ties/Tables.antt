@@ -127,8 +127,8 @@ module _ (s : State) (f r : Cell) (xs : Corners) where
   -- within the sheet two corners are in one column where the rectangle is
   pub column_is : (is_outside xs.0 || is_outside xs.1) ≡ false → is_column (area xs) ≡ (xs.0.column == xs.1.column)
   column_is ex =
-      let a : xs.0.column < columns = inside xs.0 (or_parts _ _ ex).0 in
-      let b : xs.1.column < columns = inside xs.1 (or_parts _ _ ex).1 in
+      let a : xs.0.column < columns = inside xs.0 (or_parts (is_outside xs.0) (is_outside xs.1) ex).0 in
+      let b : xs.1.column < columns = inside xs.1 (or_parts (is_outside xs.0) (is_outside xs.1) ex).1 in
       let c : column_of (address xs.0) ≡ xs.0.column = column_place xs.0.row xs.0.column a in
       let d : column_of (address xs.1) ≡ xs.1.column = column_place xs.1.row xs.1.column b in
       let low : column_of (area xs).first ≡ min xs.0.column xs.1.column =

@@ -4,7 +4,7 @@ use Rattle.std.specs.List.{list_any}
 use Rattle.std.specs.Result.{result_err}
 use Rattle.std.proofs.lemmas.Bool.{or_parts}
 use Rattle.std.proofs.Math.Bool.{or-false}
-use Rattle.wi_values.specs.Address.{Area, columns, place, row_of, column_of, size_of}
+use Rattle.wi_values.specs.Address.{Area, columns, row_of, column_of, size_of}
 use Rattle.wi_values.specs.declared.address.AddressFault.{AddressFault}
 use Rattle.wi_values.specs.declared.address.AddressFault.TheVariants.{Shape, Outside as AtOutside}
 use Rattle.wi_scenarios.specs.declared.refusal.Refusal.TheVariants as refusal
@@ -103,8 +103,8 @@ row_out false a = shape_out (is_row a)
 -- within the sheet two corners are in one row where the rectangle is
 row_is : (ys : Corners) → (is_outside ys.0 || is_outside ys.1) ≡ false → is_row (area ys) ≡ (ys.0.row == ys.1.row)
 row_is ys ey =
-    let a : ys.0.column < columns = inside ys.0 (or_parts _ _ ey).0 in
-    let b : ys.1.column < columns = inside ys.1 (or_parts _ _ ey).1 in
+    let a : ys.0.column < columns = inside ys.0 (or_parts (is_outside ys.0) (is_outside ys.1) ey).0 in
+    let b : ys.1.column < columns = inside ys.1 (or_parts (is_outside ys.0) (is_outside ys.1) ey).1 in
     let c : column_of (address ys.0) ≡ ys.0.column = column_place ys.0.row ys.0.column a in
     let d : column_of (address ys.1) ≡ ys.1.column = column_place ys.1.row ys.1.column b in
     let e : row_of (address ys.0) ≡ ys.0.row = row_place ys.0.row ys.0.column a in

@@ -13,7 +13,7 @@ use Rattle.wi_cli.specs.Reply.{Replies}
 use Rattle.wi_cli.specs.Step.{Answer}
 use Rattle.wi_cli.specs.Laws.{was}
 use Rattle.wi_cli.specs.Outcome.{Writes}
-use Rattle.wi_cli.specs.Events.{Event, MayHappen, AreEvents}
+use Rattle.wi_cli.specs.Events.{MayHappen, AreEvents}
 use Rattle.wi_cli.proofs.Ties.Steps.{same_step}
 use Rattle.wi_cli.proofs.Ties.Replies.{same_reply}
 
