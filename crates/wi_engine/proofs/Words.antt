@@ -76,12 +76,12 @@ pub use Rattle.wi_graph.proofs.ReachTest.{finds_in, keeps_few, reaches_true, tru
 pub use Rattle.wi_graph.proofs.Walks.{formula_cell, found, same_cell, same_tests}
 pub use Rattle.wi_graph.specs.Circular.{circular}
 pub use Rattle.wi_graph.specs.Reach.{Reaches, is_one_of, reaches}
-pub use Rattle.wi_lookup.proofs.Passing.{Passed, passed_on}
-pub use Rattle.wi_lookup.proofs.Walking.{PassesEmpty, enough, joined, moves_on, successor_to_come}
-pub use Rattle.wi_lookup.specs.Assignment.{AgreesWith, Assignment, addresses, value_if_known}
-pub use Rattle.wi_lookup.specs.Filled.{ComesBefore, is_known_empty}
-pub use Rattle.wi_lookup.specs.Walk.{HasTaken, after_cells}
-pub use Rattle.wi_lookup.specs.declared.lookup.LookedUp.{LookedUp}
+pub use Rattle.wi_arguments.proofs.Passing.{Passed, passed_on}
+pub use Rattle.wi_arguments.proofs.Walking.{PassesEmpty, enough, joined, moves_on, successor_to_come}
+pub use Rattle.wi_arguments.specs.Assignment.{AgreesWith, Assignment, addresses, value_if_known}
+pub use Rattle.wi_arguments.specs.Filled.{ComesBefore, is_known_empty}
+pub use Rattle.wi_arguments.specs.Walk.{HasTaken, after_cells}
+pub use Rattle.wi_arguments.specs.declared.lookup.LookedUp.{LookedUp}
 pub use Rattle.wi_parser.proofs.Rectangles.{one_cell, reads_within}
 pub use Rattle.wi_parser.specs.Reads.{content_reads, reads, rectangles_of}
 pub use Rattle.wi_parser.specs.Sheet.{Sheet, cells_with_formula, constant, content_of, has_formula, put_all}

@@ -8,7 +8,7 @@ ghost use Rattle.wi_values.specs.Address.{is_within};
 ghost use Rattle.wi_values.specs.Replacements.{IsInOrder, as_map, replaced};
 ghost use Rattle.wi_parser.specs.Sheet.{content_of, put_all};
 ghost use Rattle.wi_store.specs.Store.{is_ahead};
-ghost use Rattle.wi_lookup.specs.Filled.{ComesBefore};
+ghost use Rattle.wi_arguments.specs.Filled.{ComesBefore};
 ghost use Rattle.wi_engine.specs.Inner.Seen.{content_seen};
 ghost use Rattle.wi_engine.specs.Inner.Touched.{earlier};
 

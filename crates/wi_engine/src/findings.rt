@@ -3,7 +3,7 @@
 ghost use Rattle.std.specs.Prelude.{◌≡◌, ℕ, [], map, true, None, OnOk, OnErr};
 ghost use Rattle.std.specs.Option.{option_copied};
 ghost use Rattle.wi_parser.specs.View.{pair_of};
-ghost use Rattle.wi_lookup.specs.Assignment.{addresses};
+ghost use Rattle.wi_arguments.specs.Assignment.{addresses};
 ghost use Rattle.wi_engine.specs.Inner.Findings.{same_pairs, found_value, what_if_found, IsWithCell, IsWithWhatIf, IsSame};
 
 use crate::rising::Rising;

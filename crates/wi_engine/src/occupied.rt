@@ -4,7 +4,7 @@ ghost use Rattle.std.specs.Prelude.{◌≡◌, ◌∷◌, [], ℕ, Some, true, f
 ghost use Rattle.wi_values.specs.Address.{is_within};
 ghost use Rattle.wi_sheet.specs.Inner.ReadCells.{cells_after, is_after};
 
-use wi_lookup::successor;
+use wi_arguments::successor;
 use wi_store::Store;
 use wi_values::{Address, Rect};
 

@@ -8,9 +8,9 @@ use Rattle.std.proofs.lemmas.List.Sums.{fold-append}
 use Rattle.wi_values.specs.Address.{Area, cells_of}
 use Rattle.wi_values.specs.declared.value.ErrorKind.{ErrorKind}
 use Rattle.wi_values.specs.declared.value.Value.{Value}
-use Rattle.wi_lookup.specs.declared.argument.Argument as given
-use Rattle.wi_lookup.specs.Arguments.{argument_in, arguments_in, refers_to, KnownAgrees, IsMissing, IsOfArguments}
-use Rattle.wi_lookup.specs.Walk.{after_cells}
+use Rattle.wi_arguments.specs.declared.argument.Argument as given
+use Rattle.wi_arguments.specs.Arguments.{argument_in, arguments_in, refers_to, KnownAgrees, IsMissing, IsOfArguments}
+use Rattle.wi_arguments.specs.Walk.{after_cells}
 use Rattle.wi_standard_functions.specs.Arguments.{Argument}
 use Rattle.wi_standard_functions.specs.Sequence.{Item, from_cell, sequence_of}
 use Rattle.wi_standard_functions.specs.Steps.{fold_until_error}

@@ -15,8 +15,8 @@ use Rattle.wi_standard_functions.specs.Information.{is_number_value, is_empty_va
 use Rattle.wi_standard_functions.specs.Sequence.{Item, sequence_of, value_of_item, number_of_item, numbers_of, number_fold, with_number}
 use Rattle.wi_standard_functions.specs.Statistical.{average_value}
 use Rattle.wi_standard_functions.specs.Steps.{◌>>=◌, and_then, map_until_error, fold_until_error}
-use Rattle.wi_scalar_functions.specs.Inner.Counts.{counted, IsCut}
-use Rattle.wi_scalar_functions.proofs.Counts.{cut_counted, cut_more, cut_number, cut_value, none_cut}
+use Rattle.wi_value_functions.specs.Inner.Counts.{counted, IsCut}
+use Rattle.wi_value_functions.proofs.Counts.{cut_counted, cut_more, cut_number, cut_value, none_cut}
 use Rattle.wi_fold_functions.specs.declared.information.FilledCount.{FilledCount}
 use Rattle.wi_fold_functions.specs.declared.information.NumberCount.{NumberCount}
 use Rattle.wi_fold_functions.specs.declared.statistical.Average.{Average}

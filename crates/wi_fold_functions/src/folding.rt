@@ -5,7 +5,7 @@ ghost use Rattle.std.specs.ControlFlow.{break_value};
 ghost use Rattle.std.proofs.Common.{ap};
 ghost use Rattle.wi_values.specs.declared.value.ErrorKind.{ErrorKind as ErrorKinds};
 ghost use Rattle.wi_values.specs.declared.value.Value.{Value as Values};
-ghost use Rattle.wi_lookup.specs.Arguments.{argument_in, arguments_in, refers_to, KnownAgrees, IsMissing};
+ghost use Rattle.wi_arguments.specs.Arguments.{argument_in, arguments_in, refers_to, KnownAgrees, IsMissing};
 ghost use Rattle.wi_standard_functions.specs.Sequence.{from_cell, sequence_of};
 ghost use Rattle.wi_standard_functions.specs.Steps.{fold_until_error};
 ghost use Rattle.wi_fold_functions.specs.Inner.Items.{item_of, items_of, go_on, go_on_through, shown};
@@ -14,7 +14,7 @@ ghost use Rattle.wi_fold_functions.specs.Inner.Items.Laws.{empty_passed};
 use crate::fold::Fold;
 use crate::item::Item;
 use std::ops::ControlFlow;
-use wi_lookup::{Argument, Lookup, TakesCells, take_cells};
+use wi_arguments::{Argument, Lookup, TakesCells, take_cells};
 use wi_values::{Address, ErrorKind, Value};
 
 /// The value of a function that folds the items of its arguments. It looks at filled cells alone, and at none after the first

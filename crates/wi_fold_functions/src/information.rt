@@ -1,7 +1,7 @@
 //! COUNT and COUNTA (OpenFormula, "Information Functions").
 
 ghost use Rattle.std.specs.Prelude.{◌≡◌, IfOk, IfErr, not, refl};
-ghost use Rattle.wi_lookup.specs.Arguments.{IsMissing, IsOfArguments};
+ghost use Rattle.wi_arguments.specs.Arguments.{IsMissing, IsOfArguments};
 ghost use Rattle.wi_standard_functions.specs.Arithmetic.{whole_value};
 ghost use Rattle.wi_standard_functions.specs.Information.{is_empty_value, is_number_value, count_value, count_a_value};
 ghost use Rattle.wi_fold_functions.specs.Inner.Made.{numbers_with, filled_with};
@@ -9,8 +9,8 @@ ghost use Rattle.wi_fold_functions.specs.Inner.Made.{numbers_with, filled_with};
 use crate::fold::Fold;
 use crate::folding::fold_arguments;
 use crate::item::Item;
-use wi_lookup::{Argument, Lookup};
-use wi_scalar_functions::{counted, is_empty_value, is_number_value, whole_value};
+use wi_arguments::{Argument, Lookup};
+use wi_value_functions::{counted, is_empty_value, is_number_value, whole_value};
 use wi_values::{Address, ErrorKind, Value};
 
 /// COUNT: how many items are Numbers. No error passes through. `Err` has a cell whose value isn't known.

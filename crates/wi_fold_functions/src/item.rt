@@ -5,7 +5,7 @@ ghost use Rattle.wi_standard_functions.specs.Sequence.{from_cell, number_of_item
 ghost use Rattle.wi_fold_functions.specs.Inner.Items.{item_of};
 
 use wi_fraction::Fraction;
-use wi_scalar_functions::{to_logical, to_number};
+use wi_value_functions::{to_logical, to_number};
 use wi_values::{ErrorKind, Value};
 
 /// An item of a sequence: the value of a cell of a reference, or a scalar.

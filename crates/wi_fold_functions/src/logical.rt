@@ -1,14 +1,14 @@
 //! AND and OR (OpenFormula, "Logical Functions").
 
 ghost use Rattle.std.specs.Prelude.{◌≡◌, IfOk, IfErr, refl};
-ghost use Rattle.wi_lookup.specs.Arguments.{IsMissing, IsOfArguments};
+ghost use Rattle.wi_arguments.specs.Arguments.{IsMissing, IsOfArguments};
 ghost use Rattle.wi_standard_functions.specs.Logical.{and_value, or_value};
 ghost use Rattle.wi_fold_functions.specs.Inner.Made.{all_with, any_with, logical_chosen};
 
 use crate::fold::Fold;
 use crate::folding::fold_arguments;
 use crate::item::Item;
-use wi_lookup::{Argument, Lookup};
+use wi_arguments::{Argument, Lookup};
 use wi_values::{Address, ErrorKind, Value};
 
 /// AND: whether all truth values that count are TRUE, or the first error met; `BadValue` where none counts. `Err` has a cell

@@ -2,16 +2,16 @@
 
 ghost use Rattle.std.specs.Prelude.{◌≡◌, IfOk, IfErr, refl};
 ghost use Rattle.wi_values.specs.declared.value.Value.TheVariants.{Number as number};
-ghost use Rattle.wi_lookup.specs.Arguments.{IsMissing, IsOfArguments};
+ghost use Rattle.wi_arguments.specs.Arguments.{IsMissing, IsOfArguments};
 ghost use Rattle.wi_standard_functions.specs.Mathematical.{sum_value, product_value};
 ghost use Rattle.wi_fold_functions.specs.Inner.Made.{sum_with, product_with};
 
 use crate::fold::Fold;
 use crate::folding::fold_arguments;
 use crate::item::Item;
+use wi_arguments::{Argument, Lookup};
 use wi_fraction::Fraction;
-use wi_lookup::{Argument, Lookup};
-use wi_scalar_functions::{add, multiply, one, zero};
+use wi_value_functions::{add, multiply, one, zero};
 use wi_values::{Address, ErrorKind, Value};
 
 /// SUM: the sum of the numbers that count, from the left, or the first error met; `BadNumber` where a sum doesn't fit. `Err`

@@ -1,7 +1,7 @@
 //! MIN, MAX and AVERAGE (OpenFormula, "Statistical Functions").
 
 ghost use Rattle.std.specs.Prelude.{◌≡◌, IfOk, IfErr, refl};
-ghost use Rattle.wi_lookup.specs.Arguments.{IsMissing, IsOfArguments};
+ghost use Rattle.wi_arguments.specs.Arguments.{IsMissing, IsOfArguments};
 ghost use Rattle.wi_standard_functions.specs.Statistical.{min_value, max_value, average_value};
 ghost use Rattle.wi_standard_functions.specs.Inner.Named.{smaller_number, greater_number};
 ghost use Rattle.wi_fold_functions.specs.Inner.Made.{least_with, greatest_with, mean_with, mean_of, mean_value, number_chosen};
@@ -10,9 +10,9 @@ use crate::fold::Fold;
 use crate::folding::fold_arguments;
 use crate::item::Item;
 use std::cmp::Ordering;
+use wi_arguments::{Argument, Lookup};
 use wi_fraction::Fraction;
-use wi_lookup::{Argument, Lookup};
-use wi_scalar_functions::{add, counted, divide, number_value, whole_number, zero};
+use wi_value_functions::{add, counted, divide, number_value, whole_number, zero};
 use wi_values::{Address, ErrorKind, Value};
 
 /// MIN: the smallest number, and of none 0, or the first error met. `Err` has a cell whose value isn't known.

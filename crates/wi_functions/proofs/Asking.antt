@@ -10,11 +10,11 @@ use Rattle.wi_parser.specs.Leaves.{Leaf, rectangle_leaf, leaves, all_leaves}
 use Rattle.wi_values.specs.Address.{is_within}
 use Rattle.wi_values.proofs.Corners.{corners_may_turn}
 use Rattle.wi_parser.specs.Reads.{area_of}
-use Rattle.wi_lookup.specs.Arguments.{IsMissing}
-use Rattle.wi_lookup.specs.declared.argument.Argument as given
-use Rattle.wi_scalar_functions.specs.Endings.{IfMissing}
-use Rattle.wi_scalar_functions.specs.declared.ending.Stop.{Stop}
-use Rattle.wi_scalar_functions.specs.declared.ending.Stop.TheVariants.{Missing, Memory}
+use Rattle.wi_arguments.specs.Arguments.{IsMissing}
+use Rattle.wi_arguments.specs.declared.argument.Argument as given
+use Rattle.wi_value_functions.specs.Endings.{IfMissing}
+use Rattle.wi_value_functions.specs.declared.ending.Stop.{Stop}
+use Rattle.wi_value_functions.specs.declared.ending.Stop.TheVariants.{Missing, Memory}
 use Rattle.wi_functions.specs.declared.evaluation.Want.TheVariants.{Cell, WhatIf}
 use Rattle.wi_functions.specs.declared.evaluation.Want.{Want}
 use Rattle.wi_functions.specs.Wants.{WantsCell, WantsWithin, LeafAsks, AnyLeafAsks, Asks}

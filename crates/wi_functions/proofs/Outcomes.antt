@@ -2,7 +2,7 @@
 use Rattle.std.proofs.Common.{◌≡◌, ℕ, List, Option, sym, ap, ◌∙◌}
 use Rattle.wi_values.specs.declared.value.Value.{Value}
 use Rattle.wi_parser.specs.Tree.{Tree}
-use Rattle.wi_lookup.specs.Assignment.{Assignment, AgreesWith}
+use Rattle.wi_arguments.specs.Assignment.{Assignment, AgreesWith}
 use Rattle.wi_functions.specs.Meaning.{meaning, zero_for_empty}
 use Rattle.wi_functions.specs.Evaluation.{ByAll, IsValueOf}
 

@@ -19,10 +19,10 @@ use Rattle.wi_parser.specs.View.{tree_of, all_of}
 use Rattle.wi_standard_functions.specs.Arguments.{Argument, value_or}
 use Rattle.wi_standard_functions.specs.Inner.Named.{argument_of}
 use Rattle.wi_standard_functions.specs.Functions.{call_value}
-use Rattle.wi_calls.specs.Applied.{applied}
-use Rattle.wi_calls.specs.declared.function.Function.{Function}
-use Rattle.wi_lookup.specs.Arguments.{value_of_area, argument_in, arguments_in, refers_to}
-use Rattle.wi_lookup.specs.declared.argument.Argument as given
+use Rattle.wi_value_functions.specs.Applied.{applied}
+use Rattle.wi_value_functions.specs.declared.function.Function.{Function}
+use Rattle.wi_arguments.specs.Arguments.{value_of_area, argument_in, arguments_in, refers_to}
+use Rattle.wi_arguments.specs.declared.argument.Argument as given
 use Rattle.wi_functions.specs.Meaning.{meaning, arguments, referred}
 use Rattle.wi_functions.specs.Inner.Named.{is_one_cell}
 use Rattle.wi_functions.specs.Wants.{Asks, AnyAsks}

@@ -3,7 +3,7 @@ use Rattle.std.specs.Prelude.{◌≡◌, ℕ, List, Option}
 use Rattle.wi_values.specs.declared.value.Value.{Value}
 use Rattle.wi_parser.specs.Tree.{Tree}
 use Rattle.wi_parser.specs.Leaves.{Leaf, leaves}
-use Rattle.wi_lookup.specs.Assignment.{Assignment, AgreesWith}
+use Rattle.wi_arguments.specs.Assignment.{Assignment, AgreesWith}
 use Rattle.wi_functions.specs.Meaning.{meaning, zero_for_empty}
 use Rattle.wi_functions.specs.Wants.{AnyLeafAsks, IsUnknown}
 use Rattle.wi_functions.specs.declared.evaluation.Want.{Want}

@@ -7,7 +7,7 @@ use Rattle.wi_parser.specs.Leaves.{Leaf, cell_leaf, rectangle_leaf, what_if_leaf
 use Rattle.wi_parser.specs.View.{pair_of}
 use Rattle.wi_parser.specs.Reads.{area_of}
 use Rattle.wi_values.specs.Address.{Area, is_within}
-use Rattle.wi_lookup.specs.Assignment.{addresses}
+use Rattle.wi_arguments.specs.Assignment.{addresses}
 use Rattle.wi_functions.specs.declared.evaluation.Want.{Want}
 use Rattle.wi_functions.specs.declared.evaluation.Want.TheVariants.{Cell, WhatIf}
 

@@ -2,11 +2,10 @@
 //! CHOOSE).
 
 ghost use Rattle.std.specs.Prelude.{ℕ};
-ghost use Rattle.wi_calls.specs.declared.function.LazyFunction.TheVariants as functions;
+ghost use Rattle.wi_value_functions.specs.declared.function.LazyFunction.TheVariants as functions;
 ghost use Rattle.wi_functions.specs.Inner.Calls.{Chooses};
 
-use wi_calls::LazyFunction;
-use wi_scalar_functions::{to_logical, to_whole};
+use wi_value_functions::{LazyFunction, to_logical, to_whole};
 use wi_values::{ErrorKind, Value};
 
 /// What a call gives, once the value of its first parameter is there.

@@ -5,9 +5,9 @@ ghost use Rattle.wi_parser.specs.View.{tree_of, all_of, pair_of};
 ghost use Rattle.wi_parser.specs.Tree.{cell, rectangle, signed, percent, binary, call};
 ghost use Rattle.wi_parser.specs.Tree.{what_if as what_if_tree};
 ghost use Rattle.wi_standard_functions.specs.Arguments.{value_or};
-ghost use Rattle.wi_calls.specs.Applied.{applied};
-ghost use Rattle.wi_calls.specs.declared.function.Function.TheVariants.{Lazy};
-ghost use Rattle.wi_lookup.specs.Arguments.{arguments_in};
+ghost use Rattle.wi_value_functions.specs.Applied.{applied};
+ghost use Rattle.wi_value_functions.specs.declared.function.Function.TheVariants.{Lazy};
+ghost use Rattle.wi_arguments.specs.Arguments.{arguments_in};
 ghost use Rattle.wi_functions.specs.Meaning as formulas;
 ghost use Rattle.wi_functions.specs.Operators as operators;
 ghost use Rattle.wi_functions.specs.Counts.{counted};
@@ -21,10 +21,9 @@ use crate::meter::Meter;
 use crate::operators::{hundredth, operate, with_sign};
 use crate::references::{referred, value_of_references};
 use std::alloc::{AllocError, Global};
-use wi_calls::{Function, LazyFunction, function_for, value_of_values};
-use wi_lookup::{Argument, LookedUp, Lookup};
+use wi_arguments::{Argument, LookedUp, Lookup};
 use wi_parser::{Corners, Expr, Formula, Operator, Pair, Reference, Sign};
-use wi_scalar_functions::{Stop, zero};
+use wi_value_functions::{Function, LazyFunction, Stop, function_for, value_of_values, zero};
 use wi_values::{Address, ErrorKind, Text, Value};
 
 /// What an evaluation can't go on without.

@@ -5,8 +5,8 @@ ghost use Rattle.wi_parser.specs.View.{tree_of, all_of};
 ghost use Rattle.wi_functions.specs.Wants.{Asks, AnyAsks};
 ghost use Rattle.wi_functions.specs.declared.evaluation.Want.TheVariants as wanted;
 
-use wi_calls::{Function, function_for};
 use wi_parser::{Expr, Formula};
+use wi_value_functions::{Function, function_for};
 use wi_values::{Address, Text};
 
 /// A cell whose value each evaluation of the formula asks for, where one is easily seen: the first

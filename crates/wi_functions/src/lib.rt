@@ -11,4 +11,4 @@ mod references;
 pub use evaluation::{Outcome, Want, evaluate, zero_for_empty};
 pub use first::first_cell;
 pub use meter::Meter;
-pub use wi_lookup::{LookedUp, Lookup};
+pub use wi_arguments::{LookedUp, Lookup};

@@ -7,15 +7,15 @@ ghost use Rattle.wi_standard_functions.specs.Arithmetic.{addition, subtraction, 
 ghost use Rattle.wi_standard_functions.specs.Arithmetic.{division, calculated, limited_text};
 ghost use Rattle.wi_standard_functions.specs.Comparison.{beside, order, compared};
 ghost use Rattle.wi_standard_functions.specs.Convert.{to_number};
-ghost use Rattle.wi_scalar_functions.specs.Inner.Outcome.{number_value};
+ghost use Rattle.wi_value_functions.specs.Inner.Outcome.{number_value};
 ghost use Rattle.wi_functions.specs.Operators.{operate, with_sign};
 ghost use Rattle.wi_functions.specs.Inner.Named.{hundredth};
 
 use std::alloc::{AllocError, Global};
+use wi_arguments::compare;
 use wi_fraction::Fraction;
-use wi_matching::compare;
 use wi_parser::{Operator, Sign};
-use wi_scalar_functions::{
+use wi_value_functions::{
     add, both, divide, hundred, limited_text, multiply, no_error, number_value, power_value,
     subtract, to_number,
 };

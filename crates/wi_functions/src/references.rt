@@ -2,24 +2,25 @@
 
 ghost use Rattle.std.specs.Prelude.{◌≡◌, IfOk, IfErr};
 ghost use Rattle.wi_parser.specs.View.{tree_of};
-ghost use Rattle.wi_calls.specs.Applied.{applied};
-ghost use Rattle.wi_calls.specs.declared.function.Function.TheVariants.{References};
-ghost use Rattle.wi_calls.specs.declared.function.ReferenceFunction.TheVariants.{Fold};
-ghost use Rattle.wi_lookup.specs.Arguments.{IsOfArguments, IsMissing};
-ghost use Rattle.wi_scalar_functions.specs.Endings.{IfMissing};
+ghost use Rattle.wi_value_functions.specs.Applied.{applied};
+ghost use Rattle.wi_value_functions.specs.declared.function.Function.TheVariants.{References};
+ghost use Rattle.wi_value_functions.specs.declared.function.ReferenceFunction.TheVariants.{Fold};
+ghost use Rattle.wi_arguments.specs.Arguments.{IsOfArguments, IsMissing};
+ghost use Rattle.wi_value_functions.specs.Endings.{IfMissing};
 ghost use Rattle.wi_functions.specs.Meaning as formulas;
 
 use std::alloc::Global;
-use wi_calls::{FoldFunction, ReferenceFunction};
-use wi_criteria_functions::{count_if_value, sum_if_value, sum_product_value};
+use wi_arguments::{Argument, Lookup};
 use wi_fold_functions::{
     and_value, average_value, count_a_value, count_value, max_value, min_value, or_value,
     product_value, sum_value,
 };
-use wi_lookup::{Argument, Lookup};
+use wi_lookup_functions::{
+    count_if_value, h_lookup_value, index_value, match_value, sum_if_value, sum_product_value,
+    v_lookup_value,
+};
 use wi_parser::Expr;
-use wi_scalar_functions::Stop;
-use wi_search_functions::{h_lookup_value, index_value, match_value, v_lookup_value};
+use wi_value_functions::{FoldFunction, ReferenceFunction, Stop};
 use wi_values::{Address, Rect, Value};
 
 /// The rectangle that a parameter refers to, where it is a reference, also in parentheses.

@@ -6,7 +6,7 @@ ghost use Rattle.wi_values.specs.Address.{is_within};
 
 use crate::calculator::Calculator;
 use std::alloc::{AllocError, Global};
-use wi_lookup::successor;
+use wi_arguments::successor;
 use wi_values::{Address, Rect};
 
 /// The occupied cells of a rectangle, in row-major order. The work is that of `next_occupied` for each of them, and once

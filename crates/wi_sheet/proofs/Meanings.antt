@@ -18,9 +18,9 @@ use Rattle.wi_functions.specs.Operators.{operate, with_sign}
 use Rattle.wi_functions.specs.Inner.Named.{hundredth, is_one_cell}
 use Rattle.wi_standard_functions.specs.Arguments.{Region, Argument, region_of}
 use Rattle.wi_standard_functions.specs.Functions.{call_value}
-use Rattle.wi_lookup.proofs.RowMajor.{region_same}
+use Rattle.wi_arguments.proofs.RowMajor.{region_same}
 use Rattle.wi_functions.specs.Meaning.{meaning, arguments, referred}
-use Rattle.wi_lookup.specs.Assignment.{addresses}
+use Rattle.wi_arguments.specs.Assignment.{addresses}
 use Rattle.wi_sheet.specs.CellValue.{replacements}
 
 -- a what-if that reads no more than a tree does

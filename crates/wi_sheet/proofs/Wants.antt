@@ -10,7 +10,7 @@ use Rattle.wi_parser.specs.Tree.{Tree}
 use Rattle.wi_parser.specs.Leaves.{Leaf, cell_leaf, rectangle_leaf, what_if_leaf, leaves}
 use Rattle.wi_parser.specs.View.{pair_of}
 use Rattle.wi_parser.specs.Sheet.{Sheet, content_of, put_all, has_formula, cells_with_formula}
-use Rattle.wi_lookup.specs.Assignment.{addresses}
+use Rattle.wi_arguments.specs.Assignment.{addresses}
 use Rattle.wi_functions.specs.Wants.{LeafAsks, Asks}
 use Rattle.wi_functions.specs.declared.evaluation.Want.TheVariants.{Cell, WhatIf}
 use Rattle.wi_graph.proofs.Layers.{is_one_of}

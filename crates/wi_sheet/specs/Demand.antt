@@ -10,7 +10,7 @@ use Rattle.wi_parser.specs.declared.content.Content.{Content}
 use Rattle.wi_parser.specs.declared.content.Content.TheVariants.{Constant, Formula}
 use Rattle.wi_parser.specs.Sheet.{Sheet, content_of, put_all, cells_with_formula}
 use Rattle.wi_parser.specs.Reads.{leaf_reads}
-use Rattle.wi_lookup.specs.Assignment.{addresses}
+use Rattle.wi_arguments.specs.Assignment.{addresses}
 use Rattle.wi_graph.specs.Circular.{circular}
 use Rattle.wi_graph.specs.Reach.{reaches}
 use Rattle.wi_sheet.specs.CellValue.{replacements, cell_value}

@@ -5,7 +5,7 @@ use Rattle.wi_parser.specs.Tree.{Tree}
 use Rattle.wi_parser.specs.declared.content.Content.TheVariants.{Formula}
 use Rattle.wi_parser.specs.Sheet.{Sheet, content_of, put_all, has_formula}
 use Rattle.wi_parser.specs.Reads.{reads}
-use Rattle.wi_lookup.specs.Assignment.{Assignment}
+use Rattle.wi_arguments.specs.Assignment.{Assignment}
 use Rattle.wi_functions.specs.Meaning.{meaning}
 use Rattle.wi_sheet.specs.CellValue.{cell_value, what_if_value}
 use Rattle.wi_sheet.specs.Demand.{Case, reaching, with_what_if, what_ifs_of}

@@ -2,7 +2,7 @@
 
 use super::values::{push_value, spelled_value};
 use std::alloc::{AllocError, Global};
-use wi_calls::{Function, function_for, value_of_values};
+use wi_value_functions::{Function, function_for, value_of_values};
 use wi_values::Value;
 
 /// Longer texts are told by their length.

@@ -3,8 +3,8 @@
 use super::text_spelling::spelled;
 use super::values::{push_value, spelled_value};
 use std::alloc::{AllocError, Global};
+use wi_arguments::{LookedUp, Lookup, successor};
 use wi_functions::{Meter, Outcome, Want, evaluate};
-use wi_lookup::{LookedUp, Lookup, successor};
 use wi_parser::{Formula, Pair, parse};
 use wi_values::{Address, Rect, Value};
 

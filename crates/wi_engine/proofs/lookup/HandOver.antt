@@ -1,6 +1,6 @@
 -- The occupied cells of a rectangle, handed over up to the first that is replaced.
 use Rattle.wi_engine.proofs.Words.{◌≡◌, ℕ, ◌<◌, ◌≤◌, ◌+◌, Bool, true, false, ◌&&◌, cond, List, [], ◌∷◌, filter, Option, Some, None, IfSome, IfNone, refl, sym, ap, ◌∙◌, subst, arith, find, IsStrictlyIncreasing, keys_of, le-leb, lt-leb, and_from, sorted_from_strictly_increasing, Area, is_within, Value, Empty, Number, Text, Logical, Fault, Replacement, IsInOrder, as_map, replaced, ComeAfter, Ascends, Ascends-from_order, at_itself, at_earlier, Content, Sheet, constant, content_of, put_all, is_ahead, LookedUp, value_if_known, ComesBefore, is_known_empty, HasTaken, after_cells, PassesEmpty, enough, joined, moves_on, successor_to_come, over, content_in_order, cell_known, known_in, found_value, Findings}
-use Rattle.wi_lookup.proofs.Walking.{reaches}
+use Rattle.wi_arguments.proofs.Walking.{reaches}
 use Rattle.wi_engine.proofs.filled.FirstTouched.{ahead_means, found_passes, none_before, stands_ahead}
 
 -- the occupied cells ahead in a rectangle, with what stands there

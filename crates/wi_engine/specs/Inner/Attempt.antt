@@ -10,7 +10,7 @@ use Rattle.wi_parser.specs.View.{pair_of}
 use Rattle.wi_parser.specs.declared.content.Content.{Content}
 use Rattle.wi_parser.specs.declared.content.Content.TheVariants.{Constant, Formula}
 use Rattle.wi_parser.specs.Sheet.{Sheet, content_of, put_all, has_formula}
-use Rattle.wi_lookup.specs.Assignment.{addresses}
+use Rattle.wi_arguments.specs.Assignment.{addresses}
 use Rattle.wi_functions.specs.Wants.{Asks}
 use Rattle.wi_functions.specs.declared.evaluation.Want.{Want}
 use Rattle.wi_functions.specs.declared.evaluation.Want.TheVariants.{Cell, WhatIf}

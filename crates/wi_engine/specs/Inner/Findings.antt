@@ -6,8 +6,8 @@ use Rattle.std.specs.Map.{lookup}
 use Rattle.std.specs.BTreeMap.{get, is_at}
 use Rattle.wi_values.specs.declared.value.Value.{Value}
 use Rattle.wi_parser.specs.View.{pair_of}
-use Rattle.wi_lookup.specs.Assignment.{addresses}
-use Rattle.wi_lookup.specs.Assignment.{AgreesWith}
+use Rattle.wi_arguments.specs.Assignment.{addresses}
+use Rattle.wi_arguments.specs.Assignment.{AgreesWith}
 use Rattle.wi_engine.specs.declared.findings.Findings.{Findings}
 use Rattle.wi_engine.specs.declared.findings.FoundWhatIf.{FoundWhatIf}
 

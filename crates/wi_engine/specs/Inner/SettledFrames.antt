@@ -4,7 +4,7 @@ use Rattle.wi_values.specs.declared.replacement.Replacement.{Replacement}
 use Rattle.wi_parser.specs.Tree.{Tree}
 use Rattle.wi_parser.specs.declared.content.Content.TheVariants.{Formula}
 use Rattle.wi_parser.specs.Sheet.{Sheet, content_of, put_all}
-use Rattle.wi_lookup.specs.Assignment.{Assignment, AgreesWith}
+use Rattle.wi_arguments.specs.Assignment.{Assignment, AgreesWith}
 use Rattle.wi_functions.specs.Meaning.{meaning}
 use Rattle.wi_sheet.specs.Demand.{what_ifs_of}
 use Rattle.wi_sheet.specs.Settled.{IsSettled, IsWhatIfSettled}

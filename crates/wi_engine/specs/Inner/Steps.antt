@@ -6,7 +6,7 @@ use Rattle.wi_values.specs.declared.replacement.Replacement.{Replacement}
 use Rattle.wi_parser.specs.declared.expr.Pair.{Pair}
 use Rattle.wi_parser.specs.View.{pair_of}
 use Rattle.wi_parser.specs.Sheet.{Sheet, put_all}
-use Rattle.wi_lookup.specs.Assignment.{addresses}
+use Rattle.wi_arguments.specs.Assignment.{addresses}
 use Rattle.wi_functions.specs.Counts.{Counts, one_more}
 use Rattle.wi_cache.specs.declared.key.Key.{Key}
 use Rattle.wi_sheet.specs.CellValue.{cell_value}

@@ -11,7 +11,7 @@ use Rattle.wi_standard_functions.specs.Information.{is_empty_value, is_number_va
 use Rattle.wi_standard_functions.specs.Sequence.{Item, number_of_item, logical_of_item, value_of_item, with_number}
 use Rattle.wi_standard_functions.specs.Inner.Named.{smaller_number, greater_number}
 use Rattle.wi_standard_functions.specs.Steps.{◌>>=◌, and_then}
-use Rattle.wi_scalar_functions.specs.Inner.Counts.{counted}
+use Rattle.wi_value_functions.specs.Inner.Counts.{counted}
 use Rattle.wi_fold_functions.specs.declared.information.FilledCount.{FilledCount}
 use Rattle.wi_fold_functions.specs.declared.information.NumberCount.{NumberCount}
 use Rattle.wi_fold_functions.specs.declared.logical.AllTrue.{AllTrue}

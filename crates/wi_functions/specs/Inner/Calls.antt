@@ -4,11 +4,11 @@ use Rattle.std.specs.List.{list_any}
 use Rattle.wi_values.specs.declared.value.Value.{Value}
 use Rattle.wi_parser.specs.Tree.{Trees}
 use Rattle.wi_standard_functions.specs.Arguments.{Argument, value_at, value_or}
-use Rattle.wi_calls.specs.Applied.{applied}
-use Rattle.wi_calls.specs.declared.function.Function.TheVariants.{Lazy}
-use Rattle.wi_calls.specs.declared.function.LazyFunction.{LazyFunction}
-use Rattle.wi_lookup.specs.Arguments.{refers_to}
-use Rattle.wi_lookup.specs.declared.argument.Argument as given
+use Rattle.wi_value_functions.specs.Applied.{applied}
+use Rattle.wi_value_functions.specs.declared.function.Function.TheVariants.{Lazy}
+use Rattle.wi_value_functions.specs.declared.function.LazyFunction.{LazyFunction}
+use Rattle.wi_arguments.specs.Arguments.{refers_to}
+use Rattle.wi_arguments.specs.declared.argument.Argument as given
 use Rattle.wi_functions.specs.Wants.{AnyAsks}
 use Rattle.wi_functions.specs.declared.choice.Choice as choice
 use Rattle.wi_functions.specs.declared.evaluation.Want.TheVariants.{Cell}

@@ -4,10 +4,10 @@ use Rattle.wi_values.specs.declared.value.Value.{Value}
 use Rattle.wi_parser.specs.Tree.{Tree, Trees}
 use Rattle.wi_parser.specs.Leaves.{Leaf, leaves, all_leaves}
 use Rattle.wi_standard_functions.specs.Arguments.{Argument}
-use Rattle.wi_lookup.specs.Assignment.{Assignment}
-use Rattle.wi_scalar_functions.specs.Endings.{IfMissing}
-use Rattle.wi_scalar_functions.specs.declared.ending.Stop.{Stop}
-use Rattle.wi_scalar_functions.specs.declared.ending.Stop.TheVariants.{Missing, Memory}
+use Rattle.wi_arguments.specs.Assignment.{Assignment}
+use Rattle.wi_value_functions.specs.Endings.{IfMissing}
+use Rattle.wi_value_functions.specs.declared.ending.Stop.{Stop}
+use Rattle.wi_value_functions.specs.declared.ending.Stop.TheVariants.{Missing, Memory}
 use Rattle.wi_functions.specs.Meaning.{meaning, arguments}
 use Rattle.wi_functions.specs.Evaluation.{ByAll, IsWanted}
 use Rattle.wi_functions.specs.declared.evaluation.Want.{Want}

@@ -1,7 +1,7 @@
 use Rattle.std.proofs.Common.{◌≡◌, ◌++◌, ◌+◌, ◌*◌, max, drop}
 use Rattle.wi_parser.specs.View.{all_of}
 use Rattle.wi_parser.proofs.expr.Expr.TheLaws.{the_size}
-use Rattle.wi_lookup.specs.Arguments.{arguments_in}
+use Rattle.wi_arguments.specs.Arguments.{arguments_in}
 use Rattle.wi_functions.specs.Meaning.{arguments}
 use Rattle.wi_functions.specs.Evaluation.{ByAll}
 use Rattle.wi_functions.specs.Inner.Calls.{values_of, ReferInside}

@@ -1,7 +1,7 @@
 use Rattle.std.proofs.Common.{rules, ◌≡◌, true}
 use Rattle.wi_values.specs.Address.{is_within}
-use Rattle.wi_lookup.specs.Filled.{is_known_empty}
-use Rattle.wi_lookup.proofs.Passing.{passed_one}
+use Rattle.wi_arguments.specs.Filled.{is_known_empty}
+use Rattle.wi_arguments.proofs.Passing.{passed_one}
 use Rattle.wi_cases.proofs.formula_cases.cells.CellsLookup.next_value.Goals.{else-contains-via-then-contains+else-not-is_known_empty, else-contains-via-else-contains}
 use Rattle.wi_cases.proofs.formula_cases.cells.CellsLookup.next_value.Invariants.{of_two}
 use Rattle.wi_cases.proofs.formula_cases.cells.CellsLookup.next_value.Goals as goal

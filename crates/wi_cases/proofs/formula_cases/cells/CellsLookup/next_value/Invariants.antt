@@ -1,7 +1,7 @@
 use Rattle.std.specs.Prelude.{◌==◌, ℕ, ◌+◌, ◌-◌, Option, Some, None, if◌then◌else◌}
 use Rattle.wi_values.specs.declared.value.Value.{Value}
 use Rattle.wi_values.specs.Address.{Area}
-use Rattle.wi_lookup.proofs.Passing.{Passed}
+use Rattle.wi_arguments.proofs.Passing.{Passed}
 use Rattle.wi_cases.proofs.formula_cases.cells.CellsLookup.next_value.Given as goal
 
 abbrev pub of_two : Value → Value → ℕ → Option Value

@@ -1,0 +1,59 @@
+-- Which values meet a criterion.
+use Rattle.std.proofs.Common.{◌≡◌, Bool, true, false, ◌&&◌, ◌==◌, Option, Some, None, refl, sym, ap, ◌∙◌}
+use Rattle.std.specs.Prelude.{not, if◌then◌else◌}
+use Rattle.std.specs.Ordering.{is_eq, is_ne}
+use Rattle.std.specs.declared.cmp.Ordering.{Ordering}
+use Rattle.std.specs.declared.cmp.Ordering.TheVariants.{Less as less, Equal as equal, Greater as greater}
+use Rattle.std.proofs.Math.Bool.{and-true}
+use Rattle.std.proofs.lemmas.Bool.{and_parts}
+use Rattle.wi_values.specs.declared.value.Value.{Value}
+use Rattle.wi_values.specs.declared.value.Value.TheVariants.{Empty}
+use Rattle.wi_standard_functions.specs.Comparison.{rank, order}
+use Rattle.wi_standard_functions.specs.Matching.{can_be_found, same_kind}
+use Rattle.wi_arguments.specs.declared.criterion.Relation.{Relation}
+use Rattle.wi_arguments.specs.declared.criterion.Relation.TheVariants.{Equal, Unequal, Less, AtMost, Greater, AtLeast}
+use Rattle.wi_arguments.specs.Inner.Meeting.{relation_of, holds, holds_between_kinds, EmptyMeetsNone}
+
+-- what is told by the order of a value to the operand, where they are of one kind
+abbrev pub told : Relation → Value → Option Ordering → Bool
+told r v (Some o) = holds r o
+told r v None = holds_between_kinds r && can_be_found v
+
+ne_is : (o : Ordering) → not (is_eq o) ≡ is_ne o
+ne_is less = refl
+ne_is equal = refl
+ne_is greater = refl
+
+-- of values of one kind, and of others
+same : (r : Relation) (w v : Value) (b : Bool) → same_kind v w ≡ b → relation_of r w v ≡ told r v (if b then Some (order v w) else None)
+same Equal w v true e = rw e refl
+same Equal w v false e = rw e refl
+same Less w v true e = rw e refl
+same Less w v false e = rw e refl
+same AtMost w v true e = rw e refl
+same AtMost w v false e = rw e refl
+same Greater w v true e = rw e refl
+same Greater w v false e = rw e refl
+same AtLeast w v true e = rw e refl
+same AtLeast w v false e = rw e refl
+same Unequal w v true e =
+    ap (λ (b : Bool). can_be_found v && not (b && is_eq (order v w))) e
+    ∙ ap (λ (b : Bool). b && not (is_eq (order v w))) (and_parts (can_be_found v) (can_be_found w) (and_parts (can_be_found v && can_be_found w) (rank v == rank w) e).0).0
+    ∙ ne_is (order v w)
+same Unequal w v false e =
+    ap (λ (b : Bool). can_be_found v && not (b && is_eq (order v w))) e
+    ∙ and-true (can_be_found v)
+
+pub met_by : (r : Relation) (w v : Value) (m : Option Ordering) → m ≡ (if same_kind v w then Some (order v w) else None) → relation_of r w v ≡ told r v m
+met_by r w v m e = same r w v (same_kind v w) refl ∙ ap (told r v) (sym e)
+
+pub empty_meets_none : EmptyMeetsNone
+empty_meets_none c = at c.relation
+  where
+    at : (r : Relation) → relation_of r c.operand Empty ≡ false
+    at Equal = refl
+    at Unequal = refl
+    at Less = refl
+    at AtMost = refl
+    at Greater = refl
+    at AtLeast = refl

@@ -1,9 +1,0 @@
-use Rattle.std.proofs.Common.{◌≡◌}
-use Rattle.std.specs.Cmp.Lexicographic.{slice_cmp}
-use Rattle.std.specs.Ordering.{nat_cmp}
-use Rattle.wi_calls.proofs.Comparing.{order_from}
-use Rattle.wi_calls.proofs.table.compare.Given as goal
-
--- what is left tells the order
-abbrev pub invariant-loop-i : goal.invariant-loop-i
-invariant-loop-i l = order_from l.i l.xs l.ys ≡ slice_cmp nat_cmp l.fn.name l.fn.other

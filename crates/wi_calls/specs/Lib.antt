@@ -1,2 +1,0 @@
-pub mod Applied
-pub mod Inner

@@ -1,9 +1,0 @@
-pub mod AllPlaces
-pub mod Counts
-pub mod Endings
-pub mod Extents
-pub mod InOrder
-pub mod ProductEnds
-pub mod Referring
-pub mod Sums
-pub mod Zeros

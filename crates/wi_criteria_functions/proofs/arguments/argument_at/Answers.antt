@@ -1,5 +1,0 @@
-use Rattle.wi_criteria_functions.proofs.Referring.{got}
-use Rattle.wi_criteria_functions.proofs.arguments.argument_at.Goals as goal
-
-pub returns : goal.returns
-returns c = got c.args.arguments.now c.args.place c.get.result c.get.ensures.lookup

@@ -1,9 +1,0 @@
-use Rattle.wi_standard_functions.specs.Information.{count_if_value}
-use Rattle.wi_criteria_functions.proofs.Endings.{settled_done, settled_missing}
-use Rattle.wi_criteria_functions.proofs.counting.count_if_value.Goals as goal
-
-pub returns-clause-done : goal.returns-clause-done
-returns-clause-done g c = settled_done (g.L.Lookup.known_cell c.args.lookup.now) count_if_value c.args.arguments.now c.count_if.result c.settled.result c.settled.ensures.ends c.count_if.ensures
-
-pub returns-clause-missing : goal.returns-clause-missing
-returns-clause-missing g c = settled_missing (g.L.Lookup.known_cell c.args.lookup.now) count_if_value c.args.arguments.now c.count_if.result c.settled.result c.settled.ensures.ends c.count_if.ensures

@@ -1,9 +1,0 @@
-use Rattle.wi_values.proofs.Within.{places_left}
-use Rattle.wi_criteria_functions.proofs.AllPlaces.{Rest}
-use Rattle.wi_criteria_functions.proofs.products.sum_of_products.Given as goal
-
-abbrev pub invariant-loop-ahead : goal.invariant-loop-ahead
-invariant-loop-ahead g l = Rest (g.L.Lookup.known_cell l.lookup) l.first l.areas l.sum l.ahead
-
-abbrev pub decreases-loop-ahead : goal.decreases-loop-ahead
-decreases-loop-ahead g l = places_left l.first l.ahead

@@ -1,4 +1,0 @@
-pub mod Given
-pub mod Passing
-pub mod RowMajor
-pub mod Walking

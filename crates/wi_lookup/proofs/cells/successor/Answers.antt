@@ -1,5 +1,0 @@
-use Rattle.std.proofs.Common.{arith}
-use Rattle.wi_lookup.proofs.cells.successor.Goals as goal
-
-pub at-requires-clause-column_within : goal.at-requires-clause-column_within
-at-requires-clause-column_within c = omega arith

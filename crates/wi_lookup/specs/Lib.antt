@@ -1,5 +1,0 @@
-pub mod Assignment
-pub mod Filled
-pub mod Arguments
-pub mod Extent
-pub mod Walk

@@ -1,0 +1,68 @@
+-- The cells of a rectangle by their places, and its first column and first row.
+use Rattle.std.proofs.Common.{◌≡◌, ℕ, zero, suc, ◌<◌, ◌+◌, ◌*◌, List, [], ◌∷◌, ◌++◌, map, length, Option, Some, refl, ap, ◌∙◌, arith}
+use Rattle.std.specs.Prelude.{slice_get, unwrap_or}
+use Rattle.std.specs.Option.{option_map}
+use Rattle.std.specs.List.{range_with_len}
+use Rattle.std.proofs.Math.Nat.{suc-mul}
+use Rattle.std.proofs.lemmas.Option.{slice_get-map}
+use Rattle.std.proofs.lemmas.List.FromFn.{length-map-range_with_len}
+use Rattle.wi_values.specs.Address.{Area, cells_of, place, row_of, column_of}
+use Rattle.wi_values.specs.declared.value.Value.{Value}
+use Rattle.wi_values.specs.declared.value.Value.TheVariants.{Fault}
+use Rattle.wi_values.specs.declared.value.ErrorKind.TheVariants.{BadReference}
+use Rattle.wi_arguments.proofs.RowMajor.{block, run}
+use Rattle.wi_standard_functions.specs.Arguments.{region_of}
+use Rattle.wi_standard_functions.specs.Lookup.{cell_in}
+use Rattle.wi_arguments.specs.Extent.{height, width}
+
+in_run : (row a n k : ℕ) → k < n → slice_get (run row a n) k ≡ Some (place row (a + k))
+in_run row a zero k h = absurd (omega (arith, h))
+in_run row a (suc n) zero h = let e : a ≡ a + 0 = omega arith in ap (λ (i : ℕ). Some (place row i)) e
+in_run row a (suc n) (suc k) h = let e : (a + 1) + k ≡ a + suc k = omega arith in in_run row (a + 1) n k (omega (arith, h)) ∙ ap (λ (i : ℕ). Some (place row i)) e
+
+past_front : (xs ys : List ℕ) (k : ℕ) → slice_get (xs ++ ys) (length xs + k) ≡ slice_get ys k
+past_front [] ys k = let e : 0 + k ≡ k = omega arith in ap (λ (i : ℕ). slice_get ys i) e
+past_front (x ∷ xs) ys k = let e : suc (length xs) + k ≡ suc (length xs + k) = omega arith in ap (λ (i : ℕ). slice_get (x ∷ (xs ++ ys)) i) e ∙ past_front xs ys k
+
+in_front : (xs ys : List ℕ) (k x : ℕ) → slice_get xs k ≡ Some x → slice_get (xs ++ ys) k ≡ Some x
+in_front [] ys k x h = cc
+in_front (z ∷ xs) ys zero x h = h
+in_front (z ∷ xs) ys (suc k) x h = in_front xs ys k x h
+
+in_block : (row h a n i k : ℕ) → i < h → k < n → slice_get (block row h a n) (i * n + k) ≡ Some (place (row + i) (a + k))
+in_block row zero a n i k l m = absurd (omega (arith, l))
+in_block row (suc h) a n zero k l m =
+    let first : 0 * n + k ≡ k = omega arith in
+    let same : row ≡ row + 0 = omega arith in
+    ap (λ (j : ℕ). slice_get (block row (suc h) a n) j) first
+    ∙ in_front (run row a n) (block (row + 1) h a n) k (place row (a + k)) (in_run row a n k m)
+    ∙ ap (λ (j : ℕ). Some (place j (a + k))) same
+in_block row (suc h) a n (suc i) k l m =
+    let count : length (run row a n) ≡ n = length-map-range_with_len (place row) a n in
+    let past : suc i * n + k ≡ length (run row a n) + (i * n + k) = omega (arith, suc-mul i n, count) in
+    let same : (row + 1) + i ≡ row + suc i = omega arith in
+    ap (λ (j : ℕ). slice_get (block row (suc h) a n) j) past
+    ∙ past_front (run row a n) (block (row + 1) h a n) (i * n + k)
+    ∙ in_block (row + 1) h a n i k (omega (arith, l)) m
+    ∙ ap (λ (j : ℕ). Some (place j (a + k))) same
+
+-- the cell at a row and a column of a rectangle
+pub cell_at : (cells : ℕ → Value) (r : Area) (i k : ℕ) → i < height r → k < width r → cell_in (region_of cells r) i k ≡ cells (place (row_of r.first + i) (column_of r.first + k))
+cell_at cells r i k l m =
+    ap (λ (o : Option Value). unwrap_or o (Fault BadReference)) (slice_get-map cells (cells_of r) (i * width r + k) ∙ ap (option_map cells) (in_block (row_of r.first) (height r) (column_of r.first) (width r) i k l m))
+
+-- ---- the values of one column, and of one row
+
+pub column_cells : (cells : ℕ → Value) (f : ℕ → Value) (row a s n : ℕ) → ((i : ℕ) → i < s + n → f i ≡ cells (place (row + i) a)) → map f (range_with_len s n) ≡ map cells (block (row + s) n a 1)
+column_cells cells f row a s zero e = refl
+column_cells cells f row a s (suc n) e =
+    let next : row + (s + 1) ≡ (row + s) + 1 = omega arith in
+    ap (λ (v : Value). v ∷ map f (range_with_len (s + 1) n)) (e s (omega arith))
+    ∙ ap (λ (vs : List Value). cells (place (row + s) a) ∷ vs) (column_cells cells f row a (s + 1) n (λ i l. e i (omega (arith, l))) ∙ ap (λ (j : ℕ). map cells (block j n a 1)) next)
+
+pub row_cells : (cells : ℕ → Value) (f : ℕ → Value) (row a s n : ℕ) → ((i : ℕ) → i < s + n → f i ≡ cells (place row (a + i))) → map f (range_with_len s n) ≡ map cells (run row (a + s) n)
+row_cells cells f row a s zero e = refl
+row_cells cells f row a s (suc n) e =
+    let next : a + (s + 1) ≡ (a + s) + 1 = omega arith in
+    ap (λ (v : Value). v ∷ map f (range_with_len (s + 1) n)) (e s (omega arith))
+    ∙ ap (λ (vs : List Value). cells (place row (a + s)) ∷ vs) (row_cells cells f row a (s + 1) n (λ i l. e i (omega (arith, l))) ∙ ap (λ (j : ℕ). map cells (run row j n)) next)

@@ -1,0 +1,145 @@
+-- The first column and the first row of a rectangle.
+use Rattle.std.proofs.Common.{◌≡◌, ℕ, zero, suc, ◌<◌, ◌≤◌, ◌+◌, ◌==◌, Bool, true, false, cond, List, length, map, min, max, Some, None, refl, sym, ap, ◌∙◌, subst, arith}
+use Rattle.std.specs.Prelude.{nat_lt}
+use Rattle.std.proofs.lemmas.Bool.{and_from, ltb-false, ltb-true, le-leb, or_left, or_right, eq-eqb}
+use Rattle.std.proofs.lemmas.List.FromFn.{length-map-range_with_len}
+use Rattle.std.proofs.Math.Nat.{mod-lt}
+use Rattle.wi_values.specs.Address.{Area, cells_of, place, row_of, column_of, is_within, rect_of}
+use Rattle.wi_values.specs.declared.value.Value.{Value}
+use Rattle.wi_arguments.proofs.RowMajor.{block, run, within_parts}
+use Rattle.wi_standard_functions.specs.Arguments.{region_of}
+use Rattle.wi_standard_functions.specs.Lookup.{cell_in}
+use Rattle.wi_lookup_functions.specs.declared.axis.Axis.{Axis}
+use Rattle.wi_lookup_functions.specs.declared.axis.Axis.TheVariants.{Rows, Columns}
+use Rattle.wi_lookup_functions.specs.Inner.Axis.{line_count, line_width, first_cells}
+use Rattle.wi_arguments.specs.Extent.{height, width}
+use Rattle.wi_lookup_functions.specs.Inner.Lines.{is_line, first_column, first_row}
+use Rattle.wi_lookup_functions.proofs.CellsByPlace.{cell_at, column_cells, row_cells}
+use Rattle.wi_lookup_functions.proofs.Chains.{first_cells_in}
+use Rattle.wi_lookup_functions.proofs.Lines.{one_row, one_column}
+
+pub row_of_place : (r c : ℕ) → c < 16384 → row_of (place r c) ≡ r
+row_of_place r c h = omega (arith, h)
+
+pub column_of_place : (r c : ℕ) → c < 16384 → column_of (place r c) ≡ c
+column_of_place r c h = omega (arith, h)
+
+pub narrow : (c : ℕ) → column_of c < 16384
+narrow c = mod-lt c (omega arith)
+
+-- the rows and the columns at which a rectangle begins and ends
+record Spans (r : Area) (top bottom left right : ℕ) : Type 0 where
+  pub top_is : row_of r.first ≡ top
+  pub bottom_is : row_of r.last ≡ bottom
+  pub left_is : column_of r.first ≡ left
+  pub right_is : column_of r.last ≡ right
+
+spans_rect : (a b top bottom left right : ℕ) → min (row_of a) (row_of b) ≡ top → max (row_of a) (row_of b) ≡ bottom → min (column_of a) (column_of b) ≡ left → max (column_of a) (column_of b) ≡ right → left < 16384 → right < 16384 → Spans (rect_of a b) top bottom left right
+spans_rect a b top bottom left right e f g h l m = record {
+  top_is = rw (e, g) (row_of_place top left l);
+  bottom_is = rw (f, h) (row_of_place bottom right m);
+  left_is = rw (e, g) (column_of_place top left l);
+  right_is = rw (f, h) (column_of_place bottom right m);
+}
+
+-- ---- what the first column and the first row are
+
+-- a rectangle from a cell to one below it and to its right
+spans_to : (a bottom right : ℕ) → row_of a ≤ bottom → column_of a ≤ right → right < 16384 → Spans (rect_of a (place bottom right)) (row_of a) bottom (column_of a) right
+spans_to a bottom right h k l =
+    let row_is = row_of_place bottom right l in
+    let column_is = column_of_place bottom right l in
+    let top : min (row_of a) bottom ≡ row_of a = omega (arith, h) in
+    let low : max (row_of a) bottom ≡ bottom = omega (arith, h) in
+    let left : min (column_of a) right ≡ column_of a = omega (arith, k) in
+    let far : max (column_of a) right ≡ right = omega (arith, k) in
+    spans_rect a (place bottom right) (row_of a) bottom (column_of a) right
+    (ap (min (row_of a)) row_is ∙ top) (ap (max (row_of a)) row_is ∙ low) (ap (min (column_of a)) column_is ∙ left) (ap (max (column_of a)) column_is ∙ far) (narrow a) l
+
+-- a line that there is unless a test holds
+there : (b : Bool) (m l : Area) → cond b None (Some m) ≡ Some l → (b ≡ false) × (m ≡ l)
+there true m l h = cc
+there false m l h = (refl, cc)
+
+absent : (b : Bool) (m : Area) → cond b None (Some m) ≡ None → b ≡ true
+absent true m h = refl
+absent false m h = cc
+
+column_spans : (r l : Area) → first_column r ≡ Some l → Spans l (row_of r.first) (row_of r.last) (column_of r.first) (column_of r.first)
+column_spans r l h =
+    let t = there (nat_lt (row_of r.last) (row_of r.first)) (rect_of r.first (place (row_of r.last) (column_of r.first))) l h in
+    subst (λ (m : Area). Spans m (row_of r.first) (row_of r.last) (column_of r.first) (column_of r.first)) t.1
+    (spans_to r.first (row_of r.last) (column_of r.first) (ltb-false (row_of r.last) (row_of r.first) t.0) (omega arith) (narrow r.first))
+
+row_spans : (r l : Area) → first_row r ≡ Some l → Spans l (row_of r.first) (row_of r.first) (column_of r.first) (column_of r.last)
+row_spans r l h =
+    let t = there (nat_lt (column_of r.last) (column_of r.first)) (rect_of r.first (place (row_of r.first) (column_of r.last))) l h in
+    subst (λ (m : Area). Spans m (row_of r.first) (row_of r.first) (column_of r.first) (column_of r.last)) t.1
+    (spans_to r.first (row_of r.first) (column_of r.last) (omega arith) (ltb-false (column_of r.last) (column_of r.first) t.0) (narrow r.last))
+
+-- ---- their cells
+
+-- one of the two first lines of a rectangle, with the values of its cells and their count
+pub record IsFirstLine (r l : Area) (values : (ℕ → Value) → List Value) (count : ℕ) : Type 0 where
+  pub line : is_line l ≡ true
+  pub values_are : (cells : ℕ → Value) → values cells ≡ map cells (cells_of l)
+  pub count_is : length (cells_of l) ≡ count
+  pub inside : (c : ℕ) → is_within l c ≡ true → is_within r c ≡ true
+
+length-block : (row n a : ℕ) → length (block row n a 1) ≡ n
+length-block row zero a = refl
+length-block row (suc n) a = ap suc (length-block (row + 1) n a)
+
+pub within_from : (r : Area) (c : ℕ) → row_of r.first ≤ row_of c → row_of c ≤ row_of r.last → column_of r.first ≤ column_of c → column_of c ≤ column_of r.last → is_within r c ≡ true
+within_from r c h k l m = and_from _ _ (and_from _ _ (le-leb _ _ h) (le-leb _ _ k)) (and_from _ _ (le-leb _ _ l) (le-leb _ _ m))
+
+column_line : (r l : Area) → first_column r ≡ Some l → 0 < width r → IsFirstLine r l (λ cells. first_cells_in Rows (region_of cells r)) (height r)
+column_line r l h w =
+    let s : Spans l (row_of r.first) (row_of r.last) (column_of r.first) (column_of r.first) = column_spans r l h in
+    let thin : width l ≡ 1 = omega (arith, s.left_is, s.right_is) in
+    let tall : height l ≡ height r = omega (arith, s.top_is, s.bottom_is) in
+    let cells_are : cells_of l ≡ block (row_of r.first) (height r) (column_of r.first) 1 = one_column l thin ∙ ap (λ (i : ℕ). block i (height l) (column_of l.first) 1) s.top_is ∙ ap (λ (n : ℕ). block (row_of r.first) n (column_of l.first) 1) tall ∙ ap (λ (a : ℕ). block (row_of r.first) (height r) a 1) s.left_is in
+    let top : row_of r.first + 0 ≡ row_of r.first = omega arith in
+    record {
+      line = or_right (height l == 1) (width l == 1) (eq-eqb (width l) 1 thin);
+      values_are = λ cells.
+          column_cells cells (λ i. cell_in (region_of cells r) i 0) (row_of r.first) (column_of r.first) 0 (height r) (λ i m. cell_at cells r i 0 (omega (arith, m)) w ∙ ap (λ (a : ℕ). cells (place (row_of r.first + i) a)) (omega arith))
+          ∙ ap (λ (i : ℕ). map cells (block i (height r) (column_of r.first) 1)) top
+          ∙ ap (map cells) (sym cells_are);
+      count_is = ap length cells_are ∙ length-block (row_of r.first) (height r) (column_of r.first);
+      inside = λ c k. let p = within_parts l c k in within_from r c (omega (arith, p.0, s.top_is)) (omega (arith, p.1, s.bottom_is)) (omega (arith, p.2, s.left_is)) (omega (arith, p.3, s.right_is, w));
+    }
+
+row_line : (r l : Area) → first_row r ≡ Some l → 0 < height r → IsFirstLine r l (λ cells. first_cells_in Columns (region_of cells r)) (width r)
+row_line r l h w =
+    let s : Spans l (row_of r.first) (row_of r.first) (column_of r.first) (column_of r.last) = row_spans r l h in
+    let flat : height l ≡ 1 = omega (arith, s.top_is, s.bottom_is) in
+    let wide : width l ≡ width r = omega (arith, s.left_is, s.right_is) in
+    let cells_are : cells_of l ≡ run (row_of r.first) (column_of r.first) (width r) = one_row l flat ∙ ap (λ (i : ℕ). run i (column_of l.first) (width l)) s.top_is ∙ ap (λ (a : ℕ). run (row_of r.first) a (width l)) s.left_is ∙ ap (λ (n : ℕ). run (row_of r.first) (column_of r.first) n) wide in
+    let left : column_of r.first + 0 ≡ column_of r.first = omega arith in
+    record {
+      line = or_left (height l == 1) (width l == 1) (eq-eqb (height l) 1 flat);
+      values_are = λ cells.
+          row_cells cells (λ i. cell_in (region_of cells r) 0 i) (row_of r.first) (column_of r.first) 0 (width r) (λ i m. cell_at cells r 0 i w (omega (arith, m)) ∙ ap (λ (j : ℕ). cells (place j (column_of r.first + i))) (omega arith))
+          ∙ ap (λ (a : ℕ). map cells (run (row_of r.first) a (width r))) left
+          ∙ ap (map cells) (sym cells_are);
+      count_is = ap length cells_are ∙ length-map-range_with_len (place (row_of r.first)) (column_of r.first) (width r);
+      inside = λ c k. let p = within_parts l c k in within_from r c (omega (arith, p.0, s.top_is)) (omega (arith, p.1, s.bottom_is, w)) (omega (arith, p.2, s.left_is)) (omega (arith, p.3, s.right_is));
+    }
+
+-- a rectangle without rows has no first column, and one without columns no first row
+no_rows : (r : Area) → first_column r ≡ None → height r ≡ 0
+no_rows r h = let up = ltb-true (row_of r.last) (row_of r.first) (absent _ (rect_of r.first (place (row_of r.last) (column_of r.first))) h) in omega (arith, up)
+
+no_columns : (r : Area) → first_row r ≡ None → width r ≡ 0
+no_columns r h = let back = ltb-true (column_of r.last) (column_of r.first) (absent _ (rect_of r.first (place (row_of r.first) (column_of r.last))) h) in omega (arith, back)
+
+-- ---- by the axis
+
+pub first_line : (axis : Axis) (r l : Area) → first_cells axis r ≡ Some l → 0 < line_width axis r → IsFirstLine r l (λ cells. first_cells_in axis (region_of cells r)) (line_count axis r)
+first_line Rows = column_line
+first_line Columns = row_line
+
+pub no_lines : (axis : Axis) (r : Area) → first_cells axis r ≡ None → line_count axis r ≡ 0
+no_lines Rows = no_rows
+no_lines Columns = no_columns

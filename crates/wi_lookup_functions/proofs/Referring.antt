@@ -1,0 +1,96 @@
+-- What a function takes of its arguments.
+use Rattle.std.proofs.Common.{◌≡◌, ℕ, List, [], ◌∷◌, length, Option, Some, None, Bor, refl, sym, ap, ◌∙◌, subst}
+use Rattle.std.specs.Prelude.{slice_get, Result, Ok, Err}
+use Rattle.std.specs.Option.{option_copied}
+use Rattle.std.specs.Slice.{IsItemAt}
+use Rattle.std.proofs.lemmas.Option.{slice_get_past, slice_get_read}
+use Rattle.wi_values.specs.declared.value.ErrorKind.{ErrorKind}
+use Rattle.wi_values.specs.declared.value.Value.{Value}
+use Rattle.wi_values.specs.declared.value.Value.TheVariants.{Empty}
+use Rattle.wi_standard_functions.specs.Arguments.{Argument, value_at}
+use Rattle.wi_standard_functions.specs.Criterion as defined
+use Rattle.wi_standard_functions.specs.Criterion.{criterion_of}
+use Rattle.wi_standard_functions.specs.FirstError.{no_error}
+use Rattle.wi_standard_functions.specs.Steps.{◌>>=◌, and_then}
+use Rattle.wi_arguments.specs.declared.argument.Argument as given
+use Rattle.wi_value_functions.specs.declared.ending.Stop.{Stop}
+use Rattle.wi_value_functions.specs.declared.ending.Stop.TheVariants.{Missing, Memory}
+use Rattle.wi_arguments.specs.Arguments.{argument_in, arguments_in, value_lent, KnownAgrees, IsMissing}
+use Rattle.wi_value_functions.specs.Endings.{IfMissing}
+use Rattle.wi_arguments.proofs.Given.{refers_alone, value_absent, value_given}
+use Rattle.wi_arguments.specs.declared.criterion.Criterion.{Criterion}
+use Rattle.wi_arguments.specs.Inner.Meeting.{criterion_held}
+use Rattle.wi_value_functions.specs.declared.ending.Ending.{Ending}
+use Rattle.wi_value_functions.specs.declared.ending.Ending.TheVariants.{Error, Stopped}
+use Rattle.wi_lookup_functions.specs.Inner.Giving.{criterion_argument, Agrees, IsCriterionOf}
+
+-- what `get` gives
+pub got : {X : Type 0} (xs : List X) (i : ℕ) (r : Option (Bor X)) → IsItemAt xs i r → option_copied r ≡ slice_get xs i
+got xs i None h = sym (slice_get_past xs i h.3)
+got xs i (Some x) h = sym (slice_get_read xs (length xs) i x.now refl h.3.0 h.1)
+
+-- ---- the criterion that a value is
+
+pub criterion_fails : (v : Value) (e : ErrorKind) (x : Ending (Stop ℕ)) → x ≡ Error e → no_error v ≡ Err e → IsCriterionOf v (Err x)
+criterion_fails v e x m h = subst (λ (y : Ending (Stop ℕ)). IsCriterionOf v (Err y)) (sym m) (ap (λ (o : Result Value ErrorKind). and_then (λ w. Ok (criterion_of w)) o) h)
+
+pub criterion_wants : (v : Value) (x : Ending (Stop ℕ)) → x ≡ Stopped Memory → IsCriterionOf v (Err x)
+criterion_wants v x m = subst (λ (y : Ending (Stop ℕ)). IsCriterionOf v (Err y)) (sym m) refl
+
+pub criterion_is : (v : Value) (c : Criterion) → no_error v ≡ Ok v → criterion_held c ≡ criterion_of v → IsCriterionOf v (Ok c)
+criterion_is v c h k = ap (λ (o : Result Value ErrorKind). and_then (λ w. Ok (criterion_of w)) o) h ∙ ap Ok (sym k)
+
+pub by_criterion : (p : Result Value ErrorKind) (k : defined.Criterion → Value) → (p >>= (λ w. k (criterion_of w))) ≡ (and_then (λ w. Ok (criterion_of w)) p >>= k)
+by_criterion (Ok w) k = refl
+by_criterion (Err e) k = refl
+
+-- ---- of an argument
+
+module _ (known : ℕ → Option Value) (a : given.Argument) where
+  -- the outcome is the criterion that the argument is
+  abbrev pub IsCriterionIn : Result Criterion (Ending (Stop ℕ)) → Type 0
+  IsCriterionIn r = Agrees known (IsMissing known (a ∷ [])) criterion_held (λ cells. criterion_argument (argument_in cells a).value) r
+
+  abbrev pub Told : Result (Bor Value) ErrorKind → Type 0
+  Told o = (cells : ℕ → Value) → KnownAgrees known cells → value_lent o ≡ (argument_in cells a).value
+
+  pub of_lent : (o : Result (Bor Value) ErrorKind) (v : Bor Value) (r : Result Criterion (Ending (Stop ℕ))) → o ≡ Ok v → Told o → IsCriterionOf v.now r → IsCriterionIn r
+  of_lent o v r e h g = at r g
+    where
+      told : Told (Ok v)
+      told = subst Told e h
+
+      at : (p : Result Criterion (Ending (Stop ℕ))) → IsCriterionOf v.now p → IsCriterionIn p
+      at (Ok c) k = λ cells l. ap criterion_argument (sym (told cells l)) ∙ k
+      at (Err (Error x)) k = λ cells l. ap criterion_argument (sym (told cells l)) ∙ k
+      at (Err (Stopped s)) k = subst (λ (t : Stop ℕ). IfMissing t (IsMissing known (a ∷ []))) (sym k) tt
+
+  pub of_lent_error : (o : Result (Bor Value) ErrorKind) (e : ErrorKind) (x : Ending (Stop ℕ)) → o ≡ Err e → x ≡ Error e → Told o → IsCriterionIn (Err x)
+  of_lent_error o e x k m h = subst (λ (y : Ending (Stop ℕ)). IsCriterionIn (Err y)) (sym m) (λ cells l. ap criterion_argument (sym (subst Told k h cells l)))
+
+  pub of_stop : (d : ℕ) (x : Ending (Stop ℕ)) → x ≡ Stopped (Missing d) → IsMissing known (a ∷ []) d → IsCriterionIn (Err x)
+  of_stop d x m h = subst (λ (y : Ending (Stop ℕ)). IsCriterionIn (Err y)) (sym m) h
+
+-- ---- of the argument at a place
+
+module _ (known : ℕ → Option Value) (args : List given.Argument) (i : ℕ) where
+  -- the outcome is the criterion at the place
+  abbrev pub IsCriterionAt : Result Criterion (Ending (Stop ℕ)) → Type 0
+  IsCriterionAt r = Agrees known (IsMissing known args) criterion_held (λ cells. criterion_argument (value_at (arguments_in cells args) i)) r
+
+  pub of_absent : (r : Result Criterion (Ending (Stop ℕ))) → None ≡ slice_get args i → IsCriterionOf Empty r → IsCriterionAt r
+  of_absent r e g = at r g
+    where
+      at : (p : Result Criterion (Ending (Stop ℕ))) → IsCriterionOf Empty p → IsCriterionAt p
+      at (Ok c) k = λ cells l. ap criterion_argument (value_absent cells args i Empty e) ∙ k
+      at (Err (Error x)) k = λ cells l. ap criterion_argument (value_absent cells args i Empty e) ∙ k
+      at (Err (Stopped s)) k = subst (λ (t : Stop ℕ). IfMissing t (IsMissing known args)) (sym k) tt
+
+  pub of_there : (a : given.Argument) (r : Result Criterion (Ending (Stop ℕ))) → Some a ≡ slice_get args i → IsCriterionIn known a r → IsCriterionAt r
+  of_there a r e g = at r g
+    where
+      at : (p : Result Criterion (Ending (Stop ℕ))) → IsCriterionIn known a p → IsCriterionAt p
+      at (Ok c) k = λ cells l. ap criterion_argument (value_given cells args i a Empty (argument_in cells a).value e refl) ∙ k cells l
+      at (Err (Error x)) k = λ cells l. ap criterion_argument (value_given cells args i a Empty (argument_in cells a).value e refl) ∙ k cells l
+      at (Err (Stopped (Missing c))) k = (k.0, refers_alone args i a c e k.1)
+      at (Err (Stopped Memory)) k = tt

@@ -1,0 +1,34 @@
+-- How COUNTIF, SUMIF and SUMPRODUCT end.
+use Rattle.std.proofs.Common.{◌≡◌, ℕ, true, List, Option, None, sym, subst}
+use Rattle.std.specs.Prelude.{Result, Ok, Err, IfOk, IfErr}
+use Rattle.wi_values.specs.Address.{Area, is_within}
+use Rattle.wi_values.specs.declared.value.Value.{Value}
+use Rattle.wi_standard_functions.specs.Arguments.{Argument}
+use Rattle.wi_arguments.specs.declared.argument.Argument as given
+use Rattle.wi_value_functions.specs.declared.ending.Stop.{Stop}
+use Rattle.wi_value_functions.specs.declared.ending.Stop.TheVariants.{Missing}
+use Rattle.wi_arguments.specs.Arguments.{IsOfArguments, IsMissing, IsReferred}
+use Rattle.wi_value_functions.specs.declared.ending.Ending.{Ending}
+use Rattle.wi_value_functions.specs.declared.ending.Ending.TheVariants.{Error, Stopped}
+use Rattle.wi_value_functions.specs.Endings.{settled, IfMissing}
+use Rattle.wi_lookup_functions.specs.Inner.Giving.{Gives}
+
+pub settled_done : (known : ℕ → Option Value) (f : List Argument → Value) (args : List given.Argument) (o : Result Value (Ending (Stop ℕ))) (r : Result Value (Stop ℕ)) → r ≡ settled o → Gives known f args o → IfOk r (IsOfArguments known f args)
+settled_done known f args o r e h = subst (λ (s : Result Value (Stop ℕ)). IfOk s (IsOfArguments known f args)) (sym e) (at o h)
+  where
+    at : (p : Result Value (Ending (Stop ℕ))) → Gives known f args p → IfOk (settled p) (IsOfArguments known f args)
+    at (Ok v) g = g
+    at (Err (Error x)) g = g
+    at (Err (Stopped s)) g = tt
+
+pub settled_missing : (known : ℕ → Option Value) (f : List Argument → Value) (args : List given.Argument) (o : Result Value (Ending (Stop ℕ))) (r : Result Value (Stop ℕ)) → r ≡ settled o → Gives known f args o → IfErr r (λ s. IfMissing s (IsMissing known args))
+settled_missing known f args o r e h = subst (λ (p : Result Value (Stop ℕ)). IfErr p (λ s. IfMissing s (IsMissing known args))) (sym e) (at o h)
+  where
+    at : (p : Result Value (Ending (Stop ℕ))) → Gives known f args p → IfErr (settled p) (λ s. IfMissing s (IsMissing known args))
+    at (Ok v) g = tt
+    at (Err (Error x)) g = tt
+    at (Err (Stopped s)) g = g
+
+-- a cell of a rectangle that an argument refers to is missing
+pub stopped_inside : (known : ℕ → Option Value) (f : List Argument → Value) (args : List given.Argument) (r : Area) (c : ℕ) (x : Ending (Stop ℕ)) → x ≡ Stopped (Missing c) → IsReferred args r → known c ≡ None → is_within r c ≡ true → Gives known f args (Err x)
+stopped_inside known f args r c x e h k w = subst (λ (y : Ending (Stop ℕ)). Gives known f args (Err y)) (sym e) (k, h c w)

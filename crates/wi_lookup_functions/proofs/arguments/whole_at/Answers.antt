@@ -1,0 +1,13 @@
+use Rattle.std.proofs.Common.{refl}
+use Rattle.wi_standard_functions.specs.Convert.{to_whole}
+use Rattle.wi_values.specs.declared.value.Value.TheVariants.{Empty}
+use Rattle.wi_lookup_functions.proofs.Endings.{taken_fails, taken_halts}
+use Rattle.wi_lookup_functions.proofs.arguments.whole_at.Goals as goal
+
+pub returns-in_err-value : goal.returns-in_err-value
+returns-in_err-value g c =
+    taken_halts (g.L.Lookup.known_cell c.args.lookup.now) c.args.arguments.now c.args.place Empty to_whole c.from_residual.result c.in_err-value.field-0.0 (λ e. refl) c.from_residual.ensures.1 c.in_err-value.ensures
+
+pub returns-in_err-to_whole : goal.returns-in_err-to_whole
+returns-in_err-to_whole g c =
+    taken_fails (g.L.Lookup.known_cell c.args.lookup.now) c.args.arguments.now c.args.place Empty to_whole c.from_residual-in_err-to_whole.result c.in_ok-value.value.now c.in_err-to_whole.field-0.0 c.from_residual-in_err-to_whole.ensures.1 c.in_ok-value.ensures c.in_err-to_whole.ensures

@@ -1,0 +1,19 @@
+-- Rows and columns of a rectangle.
+use Rattle.std.specs.Prelude.{ℕ, ◌+◌, ◌-◌, ◌==◌, ◌||◌, Bool, nat_lt, if◌then◌else◌, Option, Some, None}
+use Rattle.wi_values.specs.Address.{Area, place, row_of, column_of, rect_of}
+use Rattle.wi_arguments.specs.Extent.{height, width}
+
+-- one row or one column
+abbrev pub is_line : Area → Bool
+is_line r = (height r == 1) || (width r == 1)
+
+-- how many steps a cell is after the first of a row or a column
+abbrev pub steps : Area → ℕ → ℕ
+steps r c = (row_of c - row_of r.first) + (column_of c - column_of r.first)
+
+-- the first column of a rectangle that has rows, and the first row of one that has columns
+abbrev pub first_column : Area → Option Area
+first_column r = if nat_lt (row_of r.last) (row_of r.first) then None else Some (rect_of r.first (place (row_of r.last) (column_of r.first)))
+
+abbrev pub first_row : Area → Option Area
+first_row r = if nat_lt (column_of r.last) (column_of r.first) then None else Some (rect_of r.first (place (row_of r.first) (column_of r.last)))

@@ -1,0 +1,36 @@
+-- The cells that SUMIF adds.
+use Rattle.std.specs.Prelude.{◌≡◌, ℕ, ◌+◌, ◌-◌, ◌==◌, ◌&&◌, ◌||◌, Bool, true, List, map, filter, zip, Option, None, Result, if◌then◌else◌}
+use Rattle.wi_fraction.specs.Number as numbers
+use Rattle.wi_values.specs.Address.{Area, is_within, place, row_of, column_of}
+use Rattle.wi_values.specs.declared.value.ErrorKind.{ErrorKind}
+use Rattle.wi_values.specs.declared.value.Value.{Value}
+use Rattle.wi_standard_functions.specs.Arithmetic.{addition}
+use Rattle.wi_standard_functions.specs.Sequence.{Item, from_cell, number_of_item, with_number}
+use Rattle.wi_standard_functions.specs.Steps.{and_then}
+use Rattle.wi_arguments.specs.Extent.{height, width}
+use Rattle.wi_arguments.specs.declared.criterion.Criterion.{Criterion}
+use Rattle.wi_arguments.specs.Inner.Meeting.{is_met}
+
+-- the rectangles have as many rows and columns
+abbrev pub same_extent : Area → Area → Bool
+same_extent r s = (height r == height s) && (width r == width s)
+
+-- the cell of the second rectangle at the place that a cell has in the first
+abbrev pub same_place : Area → Area → ℕ → ℕ
+same_place r s c = place (row_of s.first + (row_of c - row_of r.first)) (column_of s.first + (column_of c - column_of r.first))
+
+-- of the second values, those at the places where the first pass a test
+abbrev pub values_where : (Value → Bool) → List Value → List Value → List Item
+values_where test vs ws = map (λ p. from_cell p.1) (filter (λ p. test p.0) (zip vs ws))
+
+-- a sum with one more cell, or the error met before
+abbrev pub with_cell : Result numbers.Number ErrorKind → Value → Result numbers.Number ErrorKind
+with_cell before v = and_then (λ x. and_then (with_number addition x) (number_of_item (from_cell v))) before
+
+-- a sum with the cell that stands beside one, where that one's value meets the criterion
+abbrev pub with_met : Criterion → (ℕ → ℕ) → (ℕ → Value) → Result numbers.Number ErrorKind → ℕ → Value → Result numbers.Number ErrorKind
+with_met criterion other cells before c v = if is_met criterion v then with_cell before (cells (other c)) else before
+
+-- the cell's value isn't known, and it is in one of the rectangles
+abbrev pub IsMissingInEither : (ℕ → Option Value) → Area → Area → ℕ → Type 0
+IsMissingInEither known r s c = (known c ≡ None) × ((is_within r c || is_within s c) ≡ true)

@@ -1,0 +1,28 @@
+//! Rectangles of one size, and the cells at the same places.
+
+ghost use Rattle.std.specs.Prelude.{◌≡◌, true};
+ghost use Rattle.wi_values.specs.Address.{is_within};
+ghost use Rattle.wi_lookup_functions.specs.Inner.Sums.{same_extent, same_place};
+
+use wi_arguments::{height, width};
+use wi_values::{Address, Rect};
+
+/// Whether two rectangles have as many rows and columns.
+pub(crate) fn same_extent(one: Rect, other: Rect) -> bool
+    ensures { result ≡ same_extent one other }
+{
+    height(one) == height(other) && width(one) == width(other)
+}
+
+/// The cell of another rectangle at the place that a cell has in one.
+#[tactic(auto, using(crate::proofs::Extents::within_other))]
+pub(crate) fn same_place(at: Address, one: Rect, other: Rect) -> Address
+    requires within { is_within one at ≡ true }
+    requires size { same_extent one other ≡ true }
+    ensures { result ≡ same_place one other at }
+{
+    Address::at(
+        other.first().row() + (at.row() - one.first().row()),
+        other.first().column() + (at.column() - one.first().column()),
+    )
+}

@@ -1,0 +1,93 @@
+//! A search along one row or one column.
+
+ghost use Rattle.std.specs.Prelude.{◌≡◌, ◌<◌, length, map, ok_or, true, IfOk};
+ghost use Rattle.wi_values.specs.Address.{cells_of};
+ghost use Rattle.wi_values.specs.declared.value.ErrorKind.TheVariants.{NotAvailable};
+ghost use Rattle.wi_lookup_functions.specs.Inner.Finding.{Agrees, IsMissingIn};
+ghost use Rattle.wi_lookup_functions.specs.Inner.Lines.{is_line};
+ghost use Rattle.wi_standard_functions.specs.Matching.{is_match};
+ghost use Rattle.wi_lookup_functions.specs.Inner.Search.{is_settled, passes, position_by};
+
+use crate::region::steps;
+use crate::rule::Rule;
+use std::ops::ControlFlow;
+use wi_arguments::{Lookup, TakesCells, match_order, take_cells};
+use wi_value_functions::Ending;
+use wi_values::{Address, ErrorKind, Rect, Value};
+
+/// A search, and what it has found so far.
+#[derive(Drop)]
+struct Search<'a> {
+    sought: &'a Value,
+    rule: Rule,
+    found: Option<Address>,
+}
+
+impl<'a> Search<'a> {
+    /// Whether nothing that follows is found instead.
+    fn is_settled(&self) -> bool
+        ensures { result ≡ is_settled self.now.rule self.now.found }
+    {
+        match self.rule {
+            Rule::FirstEqual => self.found.is_some(),
+            Rule::LastAtMost => false,
+            Rule::LastAtLeast => false,
+        }
+    }
+}
+
+impl<'a> TakesCells for Search<'a> {
+    ghost use Rattle.std.specs.Prelude.{refl};
+    ghost use Rattle.wi_lookup_functions.specs.Inner.Search.{found_after};
+
+    ghost after = { λ s c v. record s { found = found_after s.rule s.sought.now s.found c v } };
+
+    fn take(&mut self, at: Address, value: &Value) -> ControlFlow<()> {
+        if is_match(self.rule, value, self.sought) && !self.is_settled() {
+            self.found = Some(at);
+        }
+        if self.is_settled() {
+            ControlFlow::Break(())
+        } else {
+            ControlFlow::Continue(())
+        }
+    }
+
+    ghost passes_empty = { λ s c. refl };
+}
+
+/// Whether a value stands to the one sought in the order that is asked for.
+fn is_match(rule: Rule, value: &Value, sought: &Value) -> bool
+    ensures { result ≡ is_match (passes rule) sought.now value.now }
+{
+    match match_order(value, sought) {
+        Some(order) => rule.passes(order),
+        None => false,
+    }
+}
+
+/// The place, from 0, of the value sought along one row or one column. The work is that of `take_cells` up to the cell after
+/// which nothing is found instead.
+pub(crate) fn place_along<L: Lookup>(
+    rule: Rule,
+    sought: &Value,
+    line: Rect,
+    lookup: &L,
+) -> Result<u32, Ending<Address>>
+    requires { is_line line ≡ true }
+    ensures within { IfOk result (λ i. i < length (cells_of line)) }
+    ensures place { Agrees (L.known_cell lookup.now) (IsMissingIn (L.known_cell lookup.now) line) (λ i. i) (λ cells. ok_or (position_by rule sought.now (map cells (cells_of line))) NotAvailable) result }
+{
+    let mut search = Search {
+        sought,
+        rule,
+        found: None,
+    };
+    match take_cells(line, lookup, &mut search) {
+        Ok(()) => match search.found {
+            Some(cell) => Ok(steps(line, cell)),
+            None => Err(Ending::Error(ErrorKind::NotAvailable)),
+        },
+        Err(cell) => Err(Ending::Stopped(cell)),
+    }
+}

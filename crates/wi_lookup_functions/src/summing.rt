@@ -1,0 +1,103 @@
+//! SUMIF (OpenFormula, "Mathematical Functions").
+
+ghost use Rattle.std.specs.Prelude.{◌≡◌, true, None, Ok, IfOk, IfErr, if◌then◌else◌};
+ghost use Rattle.wi_values.specs.Address.{cells_of, is_within};
+ghost use Rattle.wi_values.specs.declared.value.Value.{Value as Values};
+ghost use Rattle.wi_standard_functions.specs.Arguments.{region_of};
+ghost use Rattle.wi_standard_functions.specs.Mathematical.{sum_if_value, sum_of_items};
+ghost use Rattle.wi_value_functions.specs.Endings.{IfMissing};
+ghost use Rattle.wi_arguments.specs.Arguments.{IsMissing, IsOfArguments};
+ghost use Rattle.wi_arguments.specs.Inner.Meeting.{is_met};
+ghost use Rattle.wi_lookup_functions.specs.Inner.Giving.{Agrees, Gives};
+ghost use Rattle.wi_lookup_functions.specs.Inner.Sums.{same_extent, same_place, values_where, with_cell, with_met, IsMissingInEither};
+
+use crate::cells::{next_after, value_of};
+use crate::criteria::{area_or, criterion_at};
+use crate::extent::{same_extent, same_place};
+use std::alloc::Global;
+use wi_arguments::{Argument, Criterion, Lookup, area_at};
+use wi_fraction::Fraction;
+use wi_value_functions::{Ending, Stop, add, settled, zero};
+use wi_values::{Address, ErrorKind, Rect, Value};
+
+/// SUMIF: the sum of the third argument's cells at the places where the first's meet the criterion that the second is; without a
+/// third it is the first. The first error met, from the left and the top, is the result, and `BadValue` where the two are not of
+/// one size. The work is that of a walk through the filled cells of the first, at each of which the criterion is tried.
+pub fn sum_if_value<L: Lookup>(
+    alloc: Global,
+    arguments: &[Argument],
+    lookup: &L,
+) -> Result<Value, Stop<Address>>
+    ensures done { IfOk result (IsOfArguments (L.known_cell lookup.now) sum_if_value arguments.now) }
+    ensures missing { IfErr result (λ s. IfMissing s (IsMissing (L.known_cell lookup.now) arguments.now)) }
+{
+    settled(sum_if(alloc, arguments, lookup))
+}
+
+fn sum_if<L: Lookup>(
+    alloc: Global,
+    arguments: &[Argument],
+    lookup: &L,
+) -> Result<Value, Ending<Stop<Address>>>
+    ensures { Gives (L.known_cell lookup.now) sum_if_value arguments.now result }
+{
+    let area = area_at(arguments, 0)?;
+    let criterion = criterion_at(alloc, arguments, 1, lookup)?;
+    let added = area_or(area, arguments, 2)?;
+    if !same_extent(area, added) {
+        return Err(Ending::Error(ErrorKind::BadValue));
+    }
+    let sum = sum_met(&criterion, area, added, lookup)?;
+    Ok(Value::Number(sum))
+}
+
+/// The sum of the cells at the places where those of another rectangle meet a criterion.
+fn sum_met<L: Lookup>(
+    criterion: &Criterion,
+    area: Rect,
+    added: Rect,
+    lookup: &L,
+) -> Result<Fraction, Ending<Stop<Address>>>
+    requires { same_extent area added ≡ true }
+    ensures { Agrees (L.known_cell lookup.now) (IsMissingInEither (L.known_cell lookup.now) area added) (λ x. x) (λ cells. sum_of_items (values_where (is_met criterion.now) (region_of cells area).values (region_of cells added).values)) result }
+{
+    let mut sum = zero();
+    let mut ahead = lookup.next_filled(area, area.first());
+    while let Some(at) = ahead {
+        let value = value_of(at, lookup)?;
+        let more = with_met(criterion, value, sum, same_place(at, area, added), lookup)?;
+        sum = more;
+        ahead = next_after(area, at, lookup);
+    }
+    Ok(sum)
+}
+
+/// A sum with one more cell, where the value at its place meets the criterion.
+fn with_met<L: Lookup>(
+    criterion: &Criterion,
+    value: &Value,
+    sum: Fraction,
+    other: Address,
+    lookup: &L,
+) -> Result<Fraction, Ending<Stop<Address>>>
+    ensures { Agrees (L.known_cell lookup.now) (λ c. (c ≡ other) × (L.known_cell lookup.now c ≡ None)) (λ x. x) (λ cells. if is_met criterion.now value.now then with_cell (Ok sum) (cells other) else Ok sum) result }
+{
+    if !criterion.meets(value) {
+        return Ok(sum);
+    }
+    let added = value_of(other, lookup)?;
+    Ok(with_cell(sum, added)?)
+}
+
+/// A sum with the number of one more cell, where it has one.
+fn with_cell(sum: Fraction, value: &Value) -> Result<Fraction, ErrorKind>
+    ensures { result ≡ with_cell (Ok sum) value.now }
+{
+    match value {
+        Value::Empty => Ok(sum),
+        Value::Number(x) => add(sum, *x),
+        Value::Text(_) => Ok(sum),
+        Value::Logical(_) => Ok(sum),
+        Value::Fault(e) => Err(*e),
+    }
+}

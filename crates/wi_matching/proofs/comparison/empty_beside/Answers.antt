@@ -1,4 +1,0 @@
-use Rattle.wi_matching.proofs.comparison.empty_beside.Goals as goal
-
-pub returns-in-Logical : goal.returns-in-Logical
-returns-in-Logical c = search c.in-Logical.is

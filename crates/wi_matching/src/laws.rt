@@ -1,9 +1,0 @@
-//! Laws of criteria. The contract of each function is the law.
-
-ghost use Rattle.wi_matching.specs.Inner.Meeting.{EmptyMeetsNone};
-
-/// Empty meets no criterion.
-#[tactic(auto, using(crate::proofs::Meeting::empty_meets_none))]
-pub fn empty_meets_none()
-    ensures { EmptyMeetsNone }
-{}

@@ -1,4 +1,0 @@
-pub mod Constants
-pub mod Counts
-pub mod Cutting
-pub mod Places

@@ -1,5 +1,0 @@
-use Rattle.std.proofs.Common.{rules}
-use Rattle.wi_scalar_functions.proofs.arithmetic.raise.Goals as goal
-
-pub returns-else-denominator-eq1 : goal.returns-else-denominator-eq1
-returns-else-denominator-eq1 c = search rules

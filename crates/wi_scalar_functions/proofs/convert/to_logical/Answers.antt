@@ -1,5 +1,0 @@
-use Rattle.std.proofs.Common.{rules}
-use Rattle.wi_scalar_functions.proofs.convert.to_logical.Goals as goal
-
-pub returns-in-Number : goal.returns-in-Number
-returns-in-Number c = search rules

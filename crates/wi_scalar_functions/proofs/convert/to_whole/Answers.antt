@@ -1,5 +1,0 @@
-use Rattle.std.proofs.Common.{rules}
-use Rattle.wi_scalar_functions.proofs.convert.to_whole.Goals as goal
-
-pub returns : goal.returns
-returns c = search rules

@@ -1,5 +1,0 @@
-use Rattle.std.proofs.Common.{rules}
-use Rattle.wi_scalar_functions.proofs.count.counted.Goals as goal
-
-pub returns-then-counts : goal.returns-then-counts
-returns-then-counts c = search rules

@@ -1,5 +1,0 @@
-use Rattle.std.proofs.Common.{rules}
-use Rattle.wi_scalar_functions.proofs.count.whole_number.Goals as goal
-
-pub returns-in-Ok-new : goal.returns-in-Ok-new
-returns-in-Ok-new c = search rules

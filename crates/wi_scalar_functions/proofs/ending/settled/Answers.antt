@@ -1,5 +1,0 @@
-use Rattle.std.proofs.Common.{rules}
-use Rattle.wi_scalar_functions.proofs.ending.settled.Goals as goal
-
-pub returns-in-Err-Error-clause-ends : goal.returns-in-Err-Error-clause-ends
-returns-in-Err-Error-clause-ends g c = search rules

@@ -1,5 +1,0 @@
-use Rattle.std.proofs.Common.{rules}
-use Rattle.wi_scalar_functions.proofs.first_error.both.Goals as goal
-
-pub returns-in_err-x : goal.returns-in_err-x
-returns-in_err-x c = search rules

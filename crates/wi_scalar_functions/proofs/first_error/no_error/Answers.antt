@@ -1,5 +1,0 @@
-use Rattle.std.proofs.Common.{rules}
-use Rattle.wi_scalar_functions.proofs.first_error.no_error.Goals as goal
-
-pub returns-in-Empty : goal.returns-in-Empty
-returns-in-Empty c = search rules

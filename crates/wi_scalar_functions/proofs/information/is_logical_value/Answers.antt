@@ -1,5 +1,0 @@
-use Rattle.std.proofs.Common.{rules}
-use Rattle.wi_scalar_functions.proofs.information.is_logical_value.Goals as goal
-
-pub returns-in-Logical : goal.returns-in-Logical
-returns-in-Logical c = search rules

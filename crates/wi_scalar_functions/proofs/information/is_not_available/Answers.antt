@@ -1,5 +1,0 @@
-use Rattle.std.proofs.Common.{rules}
-use Rattle.wi_scalar_functions.proofs.information.is_not_available.Goals as goal
-
-pub returns-in-Fault : goal.returns-in-Fault
-returns-in-Fault c = search rules

@@ -1,5 +1,0 @@
-use Rattle.std.proofs.Common.{rules}
-use Rattle.wi_scalar_functions.proofs.information.is_other_error.Goals as goal
-
-pub returns-then-is_error_value : goal.returns-then-is_error_value
-returns-then-is_error_value c = search rules

@@ -1,5 +1,0 @@
-use Rattle.std.proofs.Common.{rules}
-use Rattle.wi_scalar_functions.proofs.information.is_text_value.Goals as goal
-
-pub returns-in-Text : goal.returns-in-Text
-returns-in-Text c = search rules

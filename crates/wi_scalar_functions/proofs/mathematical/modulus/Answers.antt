@@ -1,8 +1,0 @@
-use Rattle.std.proofs.Common.{rules}
-use Rattle.wi_scalar_functions.proofs.mathematical.modulus.Goals as goal
-
-pub returns-in_err-p : goal.returns-in_err-p
-returns-in_err-p c = search rules
-
-pub returns : goal.returns
-returns c = search rules

@@ -1,5 +1,0 @@
-use Rattle.std.proofs.Common.{rules}
-use Rattle.wi_scalar_functions.proofs.mathematical.sign_value.Goals as goal
-
-pub returns-in-Ok-2 : goal.returns-in-Ok-2
-returns-in-Ok-2 c = search rules

@@ -1,6 +1,0 @@
-use Rattle.std.proofs.Common.{ap, ◌∙◌, arith}
-use Rattle.wi_standard_functions.specs.Arithmetic.{whole_value}
-use Rattle.wi_search_functions.proofs.outcome.counted_from_one.Goals as goal
-
-pub returns : goal.returns
-returns c = c.whole_value.ensures ∙ ap whole_value (omega arith)

@@ -1,5 +1,0 @@
-use Rattle.wi_standard_functions.specs.Lookup.{v_lookup_value}
-use Rattle.wi_search_functions.proofs.tables.v_lookup_value.Goals as goal
-
-pub returns-clause-missing : goal.returns-clause-missing
-returns-clause-missing g c = c.value_found.ensures.missing c.args.arguments.now v_lookup_value c.look_up.ensures

@@ -1,5 +1,0 @@
--- Words of the code's own contracts. Nothing here needs belief.
-pub mod Lines
-pub mod Axis
-pub mod Search
-pub mod Giving

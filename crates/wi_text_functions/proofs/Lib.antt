@@ -1,5 +1,0 @@
-mod Counting
-mod Texts
-mod Joining
-mod Taking
-mod Finding

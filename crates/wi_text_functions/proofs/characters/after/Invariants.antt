@@ -1,7 +1,0 @@
-use Rattle.std.proofs.Common.{◌≡◌, drop, chars}
-use Rattle.std.specs.Str.{IsUtf8}
-use Rattle.wi_text_functions.specs.Inner.Gives.{EndsWith}
-use Rattle.wi_text_functions.proofs.characters.after.Given as goal
-
-abbrev pub invariant-loop : goal.invariant-loop
-invariant-loop l = (chars l.rest.rest.now ≡ drop l.counter (chars l.text)) × IsUtf8 l.rest.rest.now × EndsWith l.text l.rest.rest.now

@@ -1,8 +1,0 @@
-use Rattle.std.proofs.Common.{rules}
-use Rattle.wi_text_functions.proofs.joined.push_text.Goals as goal
-
-pub returns-in-Fault-clause-taken : goal.returns-in-Fault-clause-taken
-returns-in-Fault-clause-taken c = search rules
-
-pub returns-in-Fault-clause-done : goal.returns-in-Fault-clause-done
-returns-in-Fault-clause-done c = search rules

@@ -1,0 +1,14 @@
+pub mod Constants
+pub mod Counts
+pub mod Cutting
+pub mod Places
+mod Counting
+mod Texts
+mod Joining
+mod Taking
+mod Finding
+pub mod Searching
+pub mod Names
+pub mod Given
+pub mod ValuesAlone
+pub mod Comparing

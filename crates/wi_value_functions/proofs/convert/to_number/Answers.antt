@@ -1,0 +1,5 @@
+use Rattle.std.proofs.Common.{rules}
+use Rattle.wi_value_functions.proofs.convert.to_number.Goals as goal
+
+pub returns-in-Text : goal.returns-in-Text
+returns-in-Text c = search rules

@@ -1,0 +1,5 @@
+use Rattle.std.proofs.Common.{rules}
+use Rattle.wi_value_functions.proofs.ending.settled.Goals as goal
+
+pub returns-in-Err-Error-clause-ends : goal.returns-in-Err-Error-clause-ends
+returns-in-Err-Error-clause-ends g c = search rules

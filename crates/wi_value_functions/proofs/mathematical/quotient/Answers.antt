@@ -1,0 +1,5 @@
+use Rattle.std.proofs.Common.{rules}
+use Rattle.wi_value_functions.proofs.mathematical.quotient.Goals as goal
+
+pub returns : goal.returns
+returns c = search rules

@@ -1,0 +1,18 @@
+use Rattle.std.proofs.Common.{sym, ap, ◌∙◌}
+use Rattle.wi_standard_functions.specs.Functions.{has_parameters}
+use Rattle.wi_value_functions.specs.Inner.Rows.{function_of}
+use Rattle.wi_value_functions.proofs.Names.{call_unknown, call_taken, call_refused}
+use Rattle.wi_value_functions.proofs.table.function_for.Goals as goal
+
+pub returns-in_default-clause-refused : goal.returns-in_default-clause-refused
+returns-in_default-clause-refused c = λ args many. call_unknown c.args.name.now args c.in_default.ensures.none
+
+pub returns-then-is_between-clause-found : goal.returns-then-is_between-clause-found
+returns-then-is_between-clause-found c =
+    let function = function_of c.in-Some.field-0.now in
+    λ args many. call_taken c.args.name.now args function c.in-Some.ensures.some (ap (has_parameters function) many ∙ sym c.is_between.ensures ∙ c.if-is_between.true)
+
+pub returns-else-is_between-clause-refused : goal.returns-else-is_between-clause-refused
+returns-else-is_between-clause-refused c =
+    let function = function_of c.in-Some.field-0.now in
+    λ args many. call_refused c.args.name.now args function c.in-Some.ensures.some (ap (has_parameters function) many ∙ sym c.is_between.ensures ∙ c.if-is_between.false)

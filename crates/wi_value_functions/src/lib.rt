@@ -1,0 +1,31 @@
+//! Functions whose arguments are values, all functions by their names, and what operators and other functions share with
+//! these.
+#![tactic(auto)]
+
+mod arithmetic;
+mod convert;
+mod count;
+mod ending;
+mod first_error;
+mod function;
+mod information;
+mod logical;
+mod mathematical;
+mod rounding;
+mod table;
+mod text;
+mod value;
+
+pub use arithmetic::{add, divide, multiply, number_value, subtract};
+pub use convert::{hundred, one, to_logical, to_number, to_whole, zero};
+pub use count::{counted, whole_number, whole_value};
+pub use ending::{Ending, Stop, settled};
+pub use first_error::{both, no_error};
+pub use function::{
+    FoldFunction, Function, LazyFunction, ReferenceFunction, Test, TextFunction, ValueFunction,
+};
+pub use information::{is_empty_value, is_number_value};
+pub use mathematical::power_value;
+pub use table::function_for;
+pub use text::limited_text;
+pub use value::value_of_values;
