@@ -1,5 +1,5 @@
 -- What one question after another spends.
-use Rattle.wi_engine.proofs.Words.{◌≡◌, ℕ, Bool, true, false, List, Result, Ok, Err, IsErr, is_ok, refl, sym, ◌∙◌, subst, arith, true≢false, Replacement, Sheet, Counts, Case, RestsOnKept, SpentOn, never_fall-same, never_fall-then, spent_none, spent_then, spent_weaken, MemoState, IsMemoOf, WhereRoom, IsSameBeside, Saved, Spends, rests_more}
+use Rattle.wi_engine.proofs.Words.{◌≡◌, ℕ, Bool, true, false, List, Result, Ok, Err, IsErr, is_ok, refl, sym, ◌∙◌, subst, arith, true≢false, Replacement, Sheet, Counts, Case, RestsOnKept, SpentOn, never_fall-same, never_fall-then, spent_none, spent_then, spent_weaken, MemoState, IsMemoOf, WhereRoom, IsSameBeside, Saved, Spends, rests_more, IsClosed}
 use Rattle.wi_engine.proofs.Places.{takes_none, takes_then, gives_up_none, gives_up_then}
 
 -- ---- of what is kept
@@ -81,6 +81,19 @@ spends_weaken {s} {Has} {Less} {m} {old} {new} {a} {b} {done} {less} e has d g =
       on_kept = λ ks closed top whole room. spent_weaken d (h.on_kept ks closed (has ks top) whole room);
       saved = λ i ks closed top whole room. h.saved (d i) ks closed (has ks top) whole room;
     }
+
+-- of lists that have more because they are closed
+pub spends_closed : {s : Sheet} {Has Less : List Case → Type 0} {old new : MemoState} {a b : Counts} {done : Bool} → ((ks : List Case) → IsClosed s ks → Less ks → Has ks) → Spends s Has old new a b done → Spends s Less old new a b done
+spends_closed has h = record {
+  right = h.right;
+  same = h.same;
+  counts = h.counts;
+  places = h.places;
+  gives_up = h.gives_up;
+  on_found = λ ks closed top. h.on_found ks closed (has ks closed top);
+  on_kept = λ ks closed top whole room. h.on_kept ks closed (has ks closed top) whole room;
+  saved = λ i ks closed top whole room. h.saved i ks closed (has ks closed top) whole room;
+}
 
 -- whatever was done, where memory runs out
 pub spends_err : {X E : Type 0} {s : Sheet} {Has : List Case → Type 0} {old new : MemoState} {a b : Counts} {done : Bool} (r : Result X E) → IsErr r → Spends s Has old new a b done → Spends s Has old new a b (is_ok r)

@@ -1,5 +1,5 @@
 -- What is kept for longer where one question follows another over the same memory.
-use Rattle.wi_engine.proofs.Words.{◌≡◌, ◌≤◌, ◌+◌, ◌||◌, inl, inr, ℕ, Bool, true, false, not, cond, List, [], ◌∷◌, length, Option, Some, None, IfSome, Result, Ok, Err, OnOk, ◌⊎◌, refl, ap, sym, subst, arith, true≢false, IsDistinct, IsDistinct-cons, Value, Replacement, Key, same_key, same_key_Decides, same_case, MemoState, HasKept, TakesPlaces, TakesNoMore, GivesUpWhenFull}
+use Rattle.wi_engine.proofs.Words.{◌≡◌, ◌≤◌, ◌+◌, ◌||◌, inl, inr, ℕ, Bool, true, false, not, cond, List, [], ◌∷◌, length, Option, Some, None, IfSome, Result, Ok, Err, OnOk, ◌⊎◌, refl, ap, sym, subst, arith, true≢false, IsDistinct, IsDistinct-cons, Value, Replacement, Key, same_key, same_key_Decides, same_case, MemoState, HasKept, TakesPlaces, TakesNoMore, GivesUpWhenFull, ◌∙◌, or_left, Keeps, Remembers}
 
 pub takes_then : (old mid new : MemoState) (a b c : ℕ) → TakesNoMore old mid a b → TakesNoMore mid new b c → b ≤ c → TakesNoMore old new a c
 takes_then old mid new a b c (inl h) (inl k) l = inl (λ ks d. let x = h ks d in let y = k ks d in omega (arith, x, y))
@@ -20,6 +20,27 @@ gives_up_then old mid new h k =
     record {
       room = omega (arith, x, y);
       stays = λ r j i. k.stays r j (h.stays (omega (arith, y, r)) j i);
+    }
+
+-- ---- what is remembered stays
+
+pub remembers_itself : (m : MemoState) → Remembers m m
+remembers_itself m = record { found = λ c w h. h; kept = λ r c w h. h }
+
+pub remembers_then : {old mid new : MemoState} → Remembers old mid → Remembers mid new → GivesUpWhenFull mid new → Remembers old new
+remembers_then {old} {mid} {new} h k g =
+    let less = g.room in
+    record {
+      found = λ c w i. k.found c w (h.found c w i);
+      kept = λ r c w i. k.kept r c w (h.kept (omega (arith, r, less)) c w i);
+    }
+
+pub keeps_remembers : {old new : MemoState} {k : Key} {v : Value} → Keeps old new k v → HasKept old new k → Remembers old new
+keeps_remembers {old} {new} {k} {v} keeps h =
+    let less = keeps.gives_up.room in
+    record {
+      found = λ c w i. h.found c w ∙ or_left (old.found c w) _ i;
+      kept = λ r c w i. h.kept (omega (arith, r, less)) c w ∙ or_left (old.kept c w) _ i;
     }
 
 none_differ : IsDistinct same_key []

@@ -8,7 +8,7 @@ pub use Rattle.std.proofs.lemmas.Bool.Decides.{nat_tests}
 pub use Rattle.std.proofs.lemmas.Cmp.{ranked}
 pub use Rattle.std.proofs.lemmas.Grind.{common_steps}
 pub use Rattle.std.proofs.lemmas.List.{drop_all, get_or-map, length-map, take-append-drop, take_rest}
-pub use Rattle.std.proofs.lemmas.List.Elements.{All-cons, All-head, All-map, All-more, All-nil, All-tail}
+pub use Rattle.std.proofs.lemmas.List.Elements.{All-cons, All-head, All-map, All-more, All-nil, All-push, All-set, All-tail}
 pub use Rattle.std.proofs.lemmas.List.Folds.{list_any-append}
 pub use Rattle.std.proofs.lemmas.List.Sorted.{IsPartitionPoint-from_clause, IsPartitionedBy-ltb, answers_always}
 pub use Rattle.std.proofs.lemmas.List.Sums.{sum_by-cons, sum_by-le-sum_by}
@@ -19,7 +19,7 @@ pub use Rattle.std.specs.BTreeMap.{BTreeMap, IsEmpty, Updates, get, is_at}
 pub use Rattle.std.specs.BTreeSet.{BTreeSet, contains}
 pub use Rattle.std.specs.Borrow.{Bor}
 pub use Rattle.std.specs.Global.{Vec}
-pub use Rattle.std.specs.List.{find, list_any}
+pub use Rattle.std.specs.List.{find, flat_map, list_any}
 unfoldable pub use Rattle.std.specs.List.{IsDistinct}
 pub use Rattle.std.specs.List.Sorted.{IsBinarySearchResult, IsNonDecreasingBy, IsPartitionPoint, IsSearchInRange, IsStrictlyIncreasing, IsStrictlySortedBy}
 pub use Rattle.std.specs.Map.{keys_of, lookup}
@@ -31,19 +31,23 @@ pub use Rattle.wi_cache.proofs.Keys.{same_key_Decides}
 pub use Rattle.wi_cache.specs.Entries.{Entries, Puts, same_key, value_for}
 pub use Rattle.wi_cache.specs.declared.key.Key.{Key}
 pub use Rattle.wi_engine.specs.Inner.Attempt.{AsksAt, IsLacking, cell_known, known_in, lacking, lacking_after, lacks_cell}
-pub use Rattle.wi_engine.specs.Inner.Attempts.{IsAttemptOf}
+pub use Rattle.wi_engine.specs.Inner.Attempts.{IsAttemptOf, IsValueAt}
+pub use Rattle.wi_engine.specs.Inner.Begins.{IsNew, MayBegin}
 pub use Rattle.wi_engine.specs.Inner.Courses.{AreTogether, IsCourseTo, IsSmallestWith, is_next, part}
 pub use Rattle.wi_engine.specs.Inner.Findings.{AreAllRight, IsWithCell, IsWithWhatIf, first_for, first_of, found_value, pairs_of, same_pairs, what_if_found}
 pub use Rattle.wi_engine.specs.Inner.Frames.{AreBelow, AreReadHere, Awaits, BottomIs, IsBegun, IsDemanded, IsFormulaKey, IsFrame, IsNext, IsNextFormula, IsStack, IsUnvalued, IsUnvaluedFormula, IsUnvaluedKey, MayBeRead, StandsAt, at_most, case_at, content_reads_here, frame_cost, frames_cost, lacks, spare, taken, waits, waits_at}
 pub use Rattle.wi_engine.specs.Inner.Keeps.{HasKept, Keeps}
 pub use Rattle.wi_engine.specs.Inner.MemoState.{AreKnownRight, IsClosedUnderReads, IsMemoOf, IsTold, MemoState}
+pub use Rattle.wi_engine.specs.Inner.Planned.{Adds, BeginsOver, GoesAbove, GoesAhead, GoesItself, HandsOver, IsPlannedFrame, IsReadyFrame, IsStoppedAt, IsValued, IsWaiting, SpendsOnKept, StopsAhead, StopsOver}
+pub use Rattle.wi_engine.specs.Inner.Plans.{ArePlacesOf, AreReadsNeeded, IsNeeded, IsPlaceOf, IsSpared, IsStanding, IsStateOf, ReadsForRoot, ReadsPlainly, StandsBelow}
 pub use Rattle.wi_engine.specs.Inner.Remembered.{AreCones, OneQuestion, key_of, question_state, remembered}
-pub use Rattle.wi_engine.specs.Inner.Saving.{GivesUpWhenFull, IsValuedAnew, KeepsFound, NeedsNoEvaluation, TakesNoMore, TakesPlaces, WhereRoom, not_kept}
+pub use Rattle.wi_engine.specs.Inner.Saving.{GivesUpWhenFull, IsValuedAnew, KeepsFound, NeedsNoEvaluation, Remembers, TakesNoMore, TakesPlaces, WhereRoom, not_kept}
 pub use Rattle.wi_engine.specs.Inner.Seen.{content_seen}
 pub use Rattle.wi_engine.specs.Inner.SettledFrames.{AreFoundSettled, HasOneMeaning, IsFrameSettled}
 pub use Rattle.wi_engine.specs.Inner.Spends.{IsSameBeside, Saved, Spends}
 pub use Rattle.wi_engine.specs.Inner.Steps.{FrameCounts, FrameSteps, FrameTakes, FrameWaits, IsFrameValue, IsShownNow, IsWorldWith}
 pub use Rattle.wi_engine.specs.Inner.Touched.{earlier}
+pub use Rattle.wi_engine.specs.Inner.Turns.{IsTurn}
 pub use Rattle.wi_engine.specs.Inner.Walk.{EachLeave, Enter, GoesOn, HasCycle, IsBelow, IsOpen, IsWalk, LeadsTo, Leave, Task, begun, cells_ahead, enters, has_leave, has_task, leaves, progress_of, task_cell, tasks_at, tasks_in, tasks_left, tasks_of, unread}
 pub use Rattle.wi_engine.specs.declared.course.Course.{Course}
 pub use Rattle.wi_engine.specs.declared.course.Way.{Way}
@@ -56,6 +60,9 @@ pub use Rattle.wi_engine.specs.declared.frame.Waiting.{Waiting}
 pub use Rattle.wi_engine.specs.declared.frame.Waiting.TheVariants.{Cells, Nothing}
 pub use Rattle.wi_engine.specs.declared.lookup.Known.{Known}
 pub use Rattle.wi_engine.specs.declared.seen.Seen.{Seen}
+pub use Rattle.wi_engine.specs.declared.standing.Place.{Place}
+pub use Rattle.wi_engine.specs.declared.standing.State.{State}
+pub use Rattle.wi_engine.specs.declared.standing.State.TheVariants.{Needed, Opened, Unneeded}
 pub use Rattle.wi_engine.specs.declared.walk.Progress.{Progress}
 pub use Rattle.wi_engine.specs.declared.walk.Progress.TheVariants.{Done, Open}
 pub use Rattle.wi_engine.specs.declared.walk.Visit.{Visit}
@@ -83,7 +90,8 @@ pub use Rattle.wi_lookup.specs.Filled.{ComesBefore, is_known_empty}
 pub use Rattle.wi_lookup.specs.Walk.{HasTaken, after_cells}
 pub use Rattle.wi_lookup.specs.declared.lookup.LookedUp.{LookedUp}
 pub use Rattle.wi_parser.proofs.Rectangles.{one_cell, reads_within}
-pub use Rattle.wi_parser.specs.Reads.{content_reads, reads, rectangles_of}
+pub use Rattle.wi_parser.specs.Leaves.{Leaf, cell_leaf, rectangle_leaf, what_if_leaf}
+pub use Rattle.wi_parser.specs.Reads.{content_reads, inputs_of, leaf_inputs, leaf_reads, reads, rectangles_of}
 pub use Rattle.wi_parser.specs.Sheet.{Sheet, cells_with_formula, constant, content_of, has_formula, put_all}
 pub use Rattle.wi_parser.specs.Tree.{Tree}
 pub use Rattle.wi_parser.specs.View.{pair_of}
@@ -94,26 +102,26 @@ pub use Rattle.wi_sheet.proofs.Bounds.{put_formula, put_reads, tree_reads}
 pub use Rattle.wi_sheet.proofs.CaseCosts.{left_at_keep, left_falls, never_fall-same, never_fall-then, one_less_left, spent_all, spent_none, spent_then, spent_weaken}
 pub use Rattle.wi_sheet.proofs.Cases.{one_case, pair_path, same_case-refl}
 pub use Rattle.wi_sheet.proofs.Demands.{demand_closed, demand_has_itself, here_reads, same_tree, what_if_reads}
-pub use Rattle.wi_sheet.proofs.Filters.{PassesToo, fewer, in_filter, in_first, no_more}
+pub use Rattle.wi_sheet.proofs.Filters.{PassesToo, all_pass, fewer, in_filter, in_first, no_more}
 pub use Rattle.wi_sheet.proofs.Inputs.{one_more_input}
 pub use Rattle.wi_sheet.proofs.Last.{over}
 pub use Rattle.wi_sheet.proofs.Meanings.{meaning_same}
 pub use Rattle.wi_sheet.proofs.Members.{IsIn, contains_in, found_in, in_contained}
 pub use Rattle.wi_sheet.proofs.NextCells.{all_after, any_within, first_passing, from_next, listed_all, listed_enough, listed_first, listed_on, next_if_none, next_if_some, next_is_first, none_after, none_left, passes_beyond, passes_here, passing_from}
-pub use Rattle.wi_sheet.proofs.Overrides.{content_in_order, reaching_suffices, replaced_world, with_what_if_value}
+pub use Rattle.wi_sheet.proofs.Overrides.{content_in_order, puts_as_map, reaching_suffices, replaced_world, with_what_if_value}
 pub use Rattle.wi_sheet.proofs.PlainCells.{plain_cell, put_cell}
 pub use Rattle.wi_sheet.proofs.PutOrders.{left_there, put_there}
 pub use Rattle.wi_sheet.proofs.Puts.{plain}
-pub use Rattle.wi_sheet.proofs.Ranks.{measure_falls_at_keep, measure_falls_at_push, rests_rank}
+pub use Rattle.wi_sheet.proofs.Ranks.{measure_falls_at_keep, measure_falls_at_push, rank_falls, rests_rank}
 pub use Rattle.wi_sheet.proofs.ReadLists.{occupied_read, read_occupied}
 pub use Rattle.wi_sheet.proofs.ReadOrders.{no_order, order-push, order_clear}
 pub use Rattle.wi_sheet.proofs.Rectangles.{IsWhole, in_corners, in_one_of, is_inside, lies, rectangle_whole}
 pub use Rattle.wi_sheet.proofs.SettledTables.{rests_more, settled_more, what_if_more}
-pub use Rattle.wi_sheet.proofs.SmallerWorlds.{content_below, reaching_below}
+pub use Rattle.wi_sheet.proofs.SmallerWorlds.{content_below, reaching_below, value_below}
 pub use Rattle.wi_sheet.proofs.Steps.{put_not_circular, reads_not_circular, value_plain, value_step}
 pub use Rattle.wi_sheet.proofs.Wants.{asked_cell, asked_replacing, asked_what_if, is_in, rests_on_read, rests_on_what_if}
 pub use Rattle.wi_sheet.specs.CellValue.{cell_value, replacements, value_of, what_if_value}
-pub use Rattle.wi_sheet.specs.Demand.{Case, case_of, demand, formulas_read_here, of_formula, reaching, reads_here, same_case, wants, what_ifs_of, with_what_if}
+pub use Rattle.wi_sheet.specs.Demand.{Case, case_of, demand, formulas_read_here, leaf_reads_here, leaf_what_ifs, of_formula, reaching, reads_here, same_case, wants, what_ifs_of, with_what_if}
 pub use Rattle.wi_sheet.specs.Inner.Rank.{reach_rank}
 pub use Rattle.wi_sheet.specs.Inner.ReadCells.{cells_after, is_after, occupied_within, rectangles_in}
 pub use Rattle.wi_sheet.specs.Inner.ReadOrder.{IsReadOrder, MayFollow}

@@ -1,11 +1,14 @@
 -- Words of the code's own contracts, and readers that laws tie to the definitions. Nothing here needs belief.
 pub mod Attempt
 pub mod Attempts
+pub mod Begins
 pub mod Courses
 pub mod Findings
 pub mod Frames
 pub mod Keeps
 pub mod MemoState
+pub mod Planned
+pub mod Plans
 pub mod Remembered
 pub mod Saving
 pub mod Seen
@@ -13,4 +16,5 @@ pub mod SettledFrames
 pub mod Spends
 pub mod Steps
 pub mod Touched
+pub mod Turns
 pub mod Walk

@@ -57,6 +57,15 @@ impl<'a> Frame<'a> {
         }
     }
 
+    /// Whether it waits for a what-if of a cell.
+    pub fn waits_for_what_if(&self, cell: Address) -> bool {
+        match &self.waiting {
+            Waiting::Nothing => false,
+            Waiting::Cells(_, _) => false,
+            Waiting::WhatIf(at, _) => *at == cell,
+        }
+    }
+
     /// The course through a rectangle. The work grows with the count of courses.
     pub fn course_through(&self, rectangle: Rect) -> Option<Course>
         ensures { IfSome result (λ c. Contains self.now.courses.items c

@@ -14,11 +14,15 @@ mod lacking;
 mod lookup;
 mod memo;
 mod occupied;
+mod plan;
+mod planned;
 mod pool;
 mod question;
 mod remembered;
 mod rising;
 mod seen;
+mod standing;
+mod sure;
 mod together;
 mod walk;
 

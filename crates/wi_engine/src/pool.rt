@@ -2,7 +2,10 @@
 
 use crate::course::Course;
 use crate::findings::Findings;
+use crate::plan::{Plan, Plans};
 use std::alloc::Global;
+use wi_cache::Key;
+use wi_store::Store;
 
 /// Of how many frames the arrays are kept. Formulas that are evaluated one after another seldom stand deeper in one another.
 const MAX_KEPT: usize = 64;
@@ -24,18 +27,20 @@ impl Arrays {
     }
 }
 
-/// Arrays whose memory is used again, by later formulas of a question and by later questions.
+/// What later formulas of a question and later questions may use again: the memory of arrays, and plans for what-ifs.
 #[derive(Drop)]
 pub struct Pool {
     kept: Vec<Arrays>,
+    plans: Plans,
     alloc: Global,
 }
 
 impl Pool {
-    /// No arrays. Takes no memory.
+    /// Nothing. Takes no memory.
     pub fn new(alloc: Global) -> Pool {
         Pool {
             kept: Vec::new(alloc),
+            plans: Plans::new(alloc),
             alloc,
         }
     }
@@ -65,5 +70,29 @@ impl Pool {
             arrays.courses.clear();
             let _ = self.kept.push(arrays);
         }
+    }
+
+    /// The plan for a key, which is taken out. The work is a look at each plan.
+    pub(crate) fn take_plan(&mut self, key: &Key) -> Option<Box<Plan>> {
+        if key.world.replacements().is_empty() {
+            return None;
+        }
+        self.plans.take(key)
+    }
+
+    /// Puts a plan back.
+    pub(crate) fn put_plan(&mut self, plan: Box<Plan>) {
+        self.plans.put(plan);
+    }
+
+    /// Notes that the value of a cell is found, for a plan to come.
+    #[inline(always)]
+    pub(crate) fn note(&mut self, store: &Store, key: &Key) {
+        self.plans.note(store, key);
+    }
+
+    /// Forgets all plans, which are of little use once a formula has changed.
+    pub fn forget_plans(&mut self) {
+        self.plans = Plans::new(self.alloc);
     }
 }

@@ -1,6 +1,6 @@
 //! A question in progress.
 
-ghost use Rattle.std.specs.Prelude.{◌≡◌, ◌≤◌, true, Contains, IfOk, OnOk, is_ok};
+ghost use Rattle.std.specs.Prelude.{◌≡◌, ◌≤◌, true, Contains, IfOk, OnErr, OnOk, is_ok};
 ghost use Rattle.wi_parser.specs.Sheet.{put_all};
 ghost use Rattle.wi_sheet.specs.CellValue as show;
 ghost use Rattle.wi_sheet.specs.Demand.{reaching};
@@ -8,6 +8,7 @@ ghost use Rattle.wi_sheet.specs.Settled.{IsSettled};
 ghost use Rattle.wi_sheet.specs.Inner.Spending.{HasCase};
 ghost use Rattle.wi_engine.specs.Inner.MemoState.{IsMemoOf};
 ghost use Rattle.wi_engine.specs.Inner.Frames.{MayBeRead, IsUnvaluedKey, StandsAt, case_at};
+ghost use Rattle.wi_engine.specs.Inner.Planned.{BeginsOver, StopsOver};
 ghost use Rattle.wi_engine.specs.Inner.Saving.{WhereRoom, NeedsNoEvaluation, IsValuedAnew};
 ghost use Rattle.wi_engine.specs.Inner.Spends.{Spends};
 
@@ -15,6 +16,7 @@ use crate::asked::value_now;
 use crate::engine::{advance, take_in};
 use crate::frame::{Advance, Asked, Frame};
 use crate::memo::Memo;
+use crate::planned::go_ahead;
 use crate::pool::Pool;
 use std::alloc::AllocError;
 use wi_cache::Key;
@@ -71,7 +73,12 @@ impl<M: Memo + Drop> Question<M> {
 
     /// The value of a formula under the replacements of its key, found by a stack of frames. The value of each frame goes to
     /// the one below, which may wait for it, and then to the memory, by `Memo::keep`.
-    fn run(&mut self, store: &Store, key: Key, formula: &Formula) -> Result<Value, AllocError>
+    fn run<'a>(
+        &mut self,
+        store: &'a Store,
+        key: Key,
+        formula: &'a Formula,
+    ) -> Result<Value, AllocError>
         requires memo { IsMemoOf store.now.sheet (M.state self.old.memo) }
         requires key { IsUnvaluedKey store.now.sheet (M.state self.old.memo) key }
         requires formula { StandsAt store.now.sheet key formula.now }
@@ -87,22 +94,25 @@ impl<M: Memo + Drop> Question<M> {
     {
         let alloc = self.pool.allocator();
         let mut stack = Vec::new(alloc);
-        let mut frame = Frame::new(key, formula, self.pool.take());
+        let mut frame = self.begin(store, &mut stack, key, formula, true)?;
         'frames: loop {
             match advance(alloc, store, &mut frame, &mut self.memo, &mut self.meter)? {
                 Advance::Unvalued(next) => {
+                    let asks = frame.waits_for_what_if(next.key.cell);
                     stack.push(frame)?;
-                    frame = Frame::new(next.key, next.formula, self.pool.take());
+                    frame = self.begin(store, &mut stack, next.key, next.formula, asks)?;
                 }
                 Advance::Done(value) => match stack.pop() {
                     None => {
                         let shown = value.copy(alloc)?;
                         let root = frame.retire(&mut self.pool);
+                        self.pool.note(store, &root);
                         self.memo.keep(root, value)?;
                         return Ok(shown);
                     }
                     Some(below) => {
                         let key = frame.retire(&mut self.pool);
+                        self.pool.note(store, &key);
                         frame = below;
                         take_in(alloc, store, &mut frame, &key, &value)?;
                         self.memo.keep(key, value)?;
@@ -110,5 +120,42 @@ impl<M: Memo + Drop> Question<M> {
                 },
             }
         }
+    }
+
+    /// The frame that goes on where a formula has to be valued: a new one for it. Where it may be one of many what-ifs, a plan is asked
+    /// for, and the values are found before on which it rests; if that lacks one, a frame for it goes on, and the new one waits on the
+    /// stack.
+    fn begin<'a>(
+        &mut self,
+        store: &'a Store,
+        stack: &mut Vec<Frame<'a>>,
+        key: Key,
+        formula: &'a Formula,
+        asks: bool,
+    ) -> Result<Frame<'a>, AllocError>
+        requires memo { IsMemoOf store.now.sheet (M.state self.old.memo) }
+        requires key { IsUnvaluedKey store.now.sheet (M.state self.old.memo) key }
+        requires formula { StandsAt store.now.sheet key formula.now }
+        ensures begins { IfOk result (BeginsOver store.now.sheet
+            (M.state self.old.memo) (M.state self.new.memo) self.old.meter self.new.meter
+            key stack.old.items stack.new.items) }
+        ensures stops { OnErr result (StopsOver store.now.sheet
+            (M.state self.old.memo) (M.state self.new.memo) self.old.meter self.new.meter
+            key) }
+    {
+        let mut frame = Frame::new(key, formula, self.pool.take());
+        if !asks {
+            return Ok(frame);
+        }
+        let Some(plan) = self.pool.take_plan(&frame.key) else {
+            return Ok(frame);
+        };
+        let waits = go_ahead(self, store, &plan, &mut frame);
+        self.pool.put_plan(plan);
+        let Some(first) = waits? else {
+            return Ok(frame);
+        };
+        stack.push(frame)?;
+        Ok(first)
     }
 }

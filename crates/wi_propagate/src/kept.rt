@@ -170,6 +170,7 @@ impl KeptCalculator {
             Ok(()) => {
                 keep_over_edit(self.alloc, &self.graph, &mut self.cones);
                 self.graph.commit();
+                self.pool.forget_plans();
                 self.generations.name(cells, self.store.edits());
                 Ok(())
             }

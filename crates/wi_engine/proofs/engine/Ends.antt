@@ -1,9 +1,9 @@
 -- A question in progress: what is so all the way, and what it has spent where it ends.
-use Rattle.wi_engine.proofs.Words.{◌≡◌, ◌<◌, ◌≤◌, ◌+◌, ◌-◌, ◌^◌, ◌⊎◌, inl, inr, ℕ, true, false, List, [], ◌∷◌, ◌++◌, Contains, Result, is_ok, IsErr, refl, sym, subst, arith, cases_lt, true≢false, Value, Sheet, Counts, one_more, Key, Case, NeverFall, never_fall-same, never_fall-then, MemoState, IsMemoOf, case_at, IsUnvaluedKey, WhereRoom, TakesPlaces, TakesNoMore, GivesUpWhenFull, Keeps, HasKept, IsSameBeside, Spends, FrameCounts, FrameTakes, IsFrameValue, Frame}
+use Rattle.wi_engine.proofs.Words.{◌≡◌, ◌<◌, ◌≤◌, ◌-◌, ◌^◌, ◌⊎◌, inl, inr, ℕ, true, false, List, [], ◌∷◌, ◌++◌, Contains, Result, is_ok, IsErr, refl, sym, subst, arith, cases_lt, true≢false, Value, Sheet, Counts, one_more, Key, Case, NeverFall, never_fall-same, never_fall-then, MemoState, IsMemoOf, case_at, WhereRoom, TakesPlaces, TakesNoMore, GivesUpWhenFull, Keeps, HasKept, IsSameBeside, Spends, FrameCounts, FrameTakes, IsFrameValue, Frame, MayBegin, IsTurn}
 use Rattle.wi_engine.proofs.Places.{takes_then, gives_up_none, gives_up_then}
 use Rattle.wi_engine.proofs.Ledger.{same_itself, same_then, spends_err}
 use Rattle.wi_engine.proofs.engine.Stacks.{run_keeps}
-use Rattle.wi_engine.proofs.engine.FrameRuns.{IsRunning, IsNew, GoesDeeper, ComesBack, run_start, run_deeper, run_back, run_take, run_stops, run_ends}
+use Rattle.wi_engine.proofs.engine.FrameRuns.{IsRunning, GoesDeeper, ComesBack, run_start, run_deeper, run_back, run_take, run_stops, run_ends}
 use Rattle.wi_engine.proofs.engine.RunsWithRoom.{IsSaving, by_kept, saving_start, saving_deeper, saving_back, saving_take, saving_kept, saving_saved, saving_ends}
 
 -- what is so all the way
@@ -23,13 +23,6 @@ takes_one m n now next l e = at (cases_lt now (2 ^ 64 - 1))
     at (inr f) = inr (omega (arith, f, e))
 
 -- ---- a turn, and what it leaves
-
-pub record IsTurn (s : Sheet) (m n : MemoState) (f : Frame) (now next : Counts) : Type 0 where
-  pub right : IsMemoOf s n
-  pub same : IsSameBeside m n
-  pub counts : FrameCounts s f now next true
-  pub places : TakesNoMore m n now.evaluations next.evaluations
-  pub gives_up : GivesUpWhenFull m n
 
 -- one that keeps nothing
 pub turn_same : {s : Sheet} {m n : MemoState} {f : Frame} {now next : Counts} → IsMemoOf s m → n ≡ m → FrameCounts s f now next true → IsTurn s m n f now next
@@ -56,14 +49,14 @@ comes_back e ek keeps kept gives counts = record { keeps = rw (e, ek) at keeps; 
 
 -- ---- all the way
 
-pub going_start : {s : Sheet} {m : MemoState} {k : Key} {f : Frame} (now : Counts) → IsMemoOf s m → IsUnvaluedKey s m k → IsNew s f k → IsGoing s m m (case_at k) now now [] f
-going_start {s} {m} {k} {f} now h key new = record {
-  running = run_start s m k f now h key.key key.unfound new;
+pub going_start : {s : Sheet} {m : MemoState} {f : Frame} (now : Counts) → IsMemoOf s m → MayBegin s m f → IsGoing s m m (case_at f.key) now now [] f
+going_start {s} {m} {f} now h b = record {
+  running = run_start s m f now h b.frame b.unvalued.unfound;
   same = same_itself m;
   counts = never_fall-same now;
   places = inl (λ ks d. omega arith);
   gives_up = gives_up_none m m refl;
-  saving = λ ks closed top whole room. saving_start s m k f now ks h key new whole room;
+  saving = λ ks closed top whole room. saving_start s m f now ks h b (b.settled ks closed top whole room) whole room;
 }
 
 pub going_deeper : {s : Sheet} {old m : MemoState} {root : Case} {start now next : Counts} {fs : List Frame} {f h g : Frame} {k : Key} → IsGoing s old m root start now fs f → GoesDeeper s m now next f h g k → IsGoing s old m root start next (fs ++ h ∷ []) g
@@ -94,19 +87,20 @@ going_back {s} {old} {m} {n} {root} {start} {now} {next} {fs} {f} {b} {g} {v} i 
 -- ---- the end
 
 -- where memory runs out
+pub going_stopped : {s : Sheet} {old m n : MemoState} {root : Case} {start now next : Counts} {fs : List Frame} {f : Frame} → IsGoing s old m root start now fs f → IsTurn s m n f now next → Spends s (λ ks. Contains ks root) old n start next false
+going_stopped {s} {old} {m} {n} {root} {start} {now} {next} {fs} {f} i t = record {
+  right = t.right;
+  same = same_then i.same t.same;
+  counts = never_fall-then start now next i.counts t.counts.rises;
+  places = takes_then old m n start.evaluations now.evaluations next.evaluations i.places t.places t.counts.rises.0;
+  gives_up = gives_up_then old m n i.gives_up t.gives_up;
+  on_found = run_stops i.running n t.counts;
+  on_kept = λ ks closed top whole room. run_stops (i.saving ks closed top whole room).running (by_kept n) t.counts ks closed top;
+  saved = λ d. absurd (true≢false (sym d));
+}
+
 pub going_stops : {X E : Type 0} {s : Sheet} {old m n : MemoState} {root : Case} {start now next : Counts} {fs : List Frame} {f : Frame} → IsGoing s old m root start now fs f → IsTurn s m n f now next → (r : Result X E) → IsErr r → Spends s (λ ks. Contains ks root) old n start next (is_ok r)
-going_stops {X} {E} {s} {old} {m} {n} {root} {start} {now} {next} {fs} {f} i t r e =
-    let stops : Spends s (λ ks. Contains ks root) old n start next false = record {
-      right = t.right;
-      same = same_then i.same t.same;
-      counts = never_fall-then start now next i.counts t.counts.rises;
-      places = takes_then old m n start.evaluations now.evaluations next.evaluations i.places t.places t.counts.rises.0;
-      gives_up = gives_up_then old m n i.gives_up t.gives_up;
-      on_found = run_stops i.running n t.counts;
-      on_kept = λ ks closed top whole room. run_stops (i.saving ks closed top whole room).running (by_kept n) t.counts ks closed top;
-      saved = λ d. absurd (true≢false (sym d));
-    } in
-    spends_err r e stops
+going_stops i t r e = spends_err r e (going_stopped i t)
 
 -- where the root's value is kept
 module _ {s : Sheet} {old m n : MemoState} {root : Case} {start now next : Counts} {f : Frame} {v : Value} (i : IsGoing s old m root start now [] f) (t : ComesBack s m n now next f v) where

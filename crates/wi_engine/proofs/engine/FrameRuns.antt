@@ -1,9 +1,9 @@
 -- A run of frames: what is so of it all the way, and what its turns do to that.
-use Rattle.wi_engine.proofs.Words.{◌≡◌, ◌<◌, ◌≤◌, ◌+◌, ◌-◌, ◌*◌, ◌||◌, ℕ, true, false, List, [], ◌∷◌, ◌++◌, length, Contains, None, refl, ap, sym, ◌∙◌, true≢false, Value, Replacement, Sheet, content_of, put_all, has_formula, cells_with_formula, Counts, one_more, Key, circular, cell_value, what_if_value, Case, same_case, demand, IsClosed, NeverFall, SpentOn, cost, left, plus, one_less_left, spent_all, demand_closed, demand_has_itself, reach_rank, MemoState, IsMemoOf, found_value, case_at, IsFormulaKey, StandsAt, IsFrame, IsNext, IsBegun, IsStack, BottomIs, at_most, spare, Keeps, HasKept, FrameSteps, FrameCounts, IsFrameValue, Frame, Nothing, rests_rank, measure_falls_at_keep, measure_falls_at_push}
+use Rattle.wi_engine.proofs.Words.{◌≡◌, ◌<◌, ◌≤◌, ◌+◌, ◌-◌, ◌*◌, ◌||◌, ℕ, true, false, List, [], ◌∷◌, ◌++◌, length, Contains, refl, ap, sym, ◌∙◌, true≢false, Value, Replacement, Sheet, content_of, put_all, has_formula, cells_with_formula, Counts, one_more, Key, circular, cell_value, what_if_value, Case, same_case, demand, IsClosed, NeverFall, SpentOn, cost, left, plus, one_less_left, spent_all, demand_closed, demand_has_itself, reach_rank, MemoState, IsMemoOf, case_at, IsFormulaKey, IsFrame, IsNext, IsBegun, IsStack, BottomIs, at_most, spare, Keeps, HasKept, FrameSteps, FrameCounts, IsFrameValue, Frame, rests_rank, measure_falls_at_keep, measure_falls_at_push, IsNew}
 use Rattle.wi_engine.proofs.findings.FoundValues.{right_none}
 use Rattle.wi_engine.proofs.engine.Stacks.{push_stack, pop_stack, push_bottom, pop_bottom, same_bottom, found_stack, run_keeps, begun_next, same_begun}
 use Rattle.wi_engine.proofs.engine.Steps.{restarts_after}
-use Rattle.wi_engine.proofs.engine.Budgets.{budget_start, budget_push, budget_pop, budget_same, budget_end, budget_kept, not_taken, spare_new}
+use Rattle.wi_engine.proofs.engine.Budgets.{budget_start, budget_push, budget_pop, budget_same, budget_end, budget_kept, not_taken, spare_any, spare_new}
 
 -- what is so of the frames, the one at the top apart
 pub record IsRunning (s : Sheet) (old m : MemoState) (root : Case) (start now : Counts) (fs : List Frame) (f : Frame) : Type 0 where
@@ -16,14 +16,6 @@ pub record IsRunning (s : Sheet) (old m : MemoState) (root : Case) (start now : 
 -- a key is found from then on
 abbrev pub Finds : MemoState → MemoState → Key → Type 0
 Finds m n k = (c : ℕ) (w : List Replacement) → n.found c w ≡ (m.found c w || same_case (case_at k) (c, w))
-
--- a frame with no values yet, and the formula of its key
-pub record IsNew (s : Sheet) (f : Frame) (k : Key) : Type 0 where
-  pub key : f.key ≡ k
-  pub formula : StandsAt s k f.formula.now
-  pub cells : (c : ℕ) → found_value f.found c ≡ None
-  pub what_ifs : f.found.what_ifs.items ≡ []
-  pub waiting : f.waiting ≡ Nothing
 
 -- a turn in which the frame on top comes to wait, as h, for a key whose frame is on top from then on
 pub record GoesDeeper (s : Sheet) (m : MemoState) (now next : Counts) (f h g : Frame) (k : Key) : Type 0 where
@@ -41,7 +33,7 @@ pub record ComesBack (s : Sheet) (m n : MemoState) (now next : Counts) (f : Fram
   pub counts : FrameCounts s f now next true
   pub evaluations : next.evaluations ≡ one_more now.evaluations
 
-new_frame : (s : Sheet) (m : MemoState) (f : Frame) (k : Key) → IsNew s f k → IsFormulaKey s m k → IsFrame s m f
+pub new_frame : (s : Sheet) (m : MemoState) (f : Frame) (k : Key) → IsNew s f k → IsFormulaKey s m k → IsFrame s m f
 new_frame s m f k n h = record {
   key = rw n.key h;
   formula = rw n.key n.formula;
@@ -49,13 +41,13 @@ new_frame s m f k n h = record {
   waiting = rw n.waiting tt;
 }
 
-pub run_start : (s : Sheet) (m : MemoState) (k : Key) (f : Frame) (now : Counts) → IsMemoOf s m → IsFormulaKey s m k → m.found k.cell k.world ≡ false → IsNew s f k → IsRunning s m m (case_at k) now now [] f
-run_start s m k f now h key u n = record {
+pub run_start : (s : Sheet) (m : MemoState) (f : Frame) (now : Counts) → IsMemoOf s m → IsFrame s m f → m.found f.key.cell f.key.world ≡ false → IsRunning s m m (case_at f.key) now now [] f
+run_start s m f now h frame u = record {
   memo = h;
-  begun = record { frame = new_frame s m f k n key; unfound = rw n.key u; demanded = λ ks closed top. rw n.key top };
+  begun = record { frame = frame; unfound = u; demanded = λ ks closed top. top };
   stack = tt;
-  bottom = ap case_at n.key;
-  within = λ ks closed top. budget_start s m.found ks f (case_at k) now (ap case_at n.key) (spare_new s k f n.key n.waiting) u top;
+  bottom = refl;
+  within = λ ks closed top. budget_start s m.found ks f (case_at f.key) now refl (spare_any s f) u top;
 }
 
 module _ {s : Sheet} {old m : MemoState} {root : Case} {start now : Counts} {fs : List Frame} {f : Frame} (i : IsRunning s old m root start now fs f) where
@@ -76,7 +68,7 @@ module _ {s : Sheet} {old m : MemoState} {root : Case} {start now : Counts} {fs 
         stack = push_stack s m root fs h (reach_rank s g.key.cell) at_h begun below;
         bottom = push_bottom root fs h g (same_bottom root fs f h e i.bottom);
         within = λ ks closed top.
-            budget_push s m.found ks fs f now _ (i.within ks closed top) h g (case_at k) next e (ap case_at t.new.key) t.evaluations (restarts_after now next t.steps t.rises) (spare_new s k g t.new.key t.new.waiting) apart
+            budget_push s m.found ks fs f now _ (i.within ks closed top) h g (case_at k) next e (ap case_at t.new.key) t.evaluations (restarts_after now next t.steps t.rises) (spare_new s k g t.new.key) apart
             (closed (case_at f.key) (case_at k) (i.begun.demanded ks closed top) n.rests);
       }
 

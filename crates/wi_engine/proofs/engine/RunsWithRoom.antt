@@ -1,12 +1,12 @@
 -- A run of frames while there is room for all that it finds.
-use Rattle.wi_engine.proofs.Words.{◌≡◌, ◌≤◌, ◌+◌, ◌⊎◌, inl, inr, ◌||◌, ℕ, Bool, true, false, List, [], ◌∷◌, ◌++◌, Contains, Option, Some, is_some, refl, ap, sym, ◌∙◌, subst, arith, or_cases, or_from, or_left, or_right, true≢false, Value, Replacement, Sheet, put_all, Counts, Key, cell_value, Case, case_of, reaching, same_case, Table, IsClosed, HasCase, SpentOn, IsSettled, RestsOnKept, same_case-refl, reaching_suffices, one_less_left, MemoState, IsTold, IsMemoOf, case_at, IsFormulaKey, IsUnvaluedKey, IsUnvalued, IsNext, not_kept, KeepsFound, WhereRoom, NeedsNoEvaluation, IsValuedAnew, Saved, FrameTakes, Keeps, Frame}
+use Rattle.wi_engine.proofs.Words.{◌≡◌, ◌≤◌, ◌+◌, ◌⊎◌, inl, inr, ◌||◌, ℕ, Bool, true, false, List, [], ◌∷◌, ◌++◌, Contains, Option, Some, is_some, refl, ap, sym, ◌∙◌, subst, arith, or_cases, or_from, or_left, or_right, true≢false, Value, Replacement, Sheet, put_all, Counts, Key, cell_value, Case, case_of, reaching, same_case, Table, IsClosed, HasCase, SpentOn, IsSettled, RestsOnKept, same_case-refl, reaching_suffices, one_less_left, MemoState, IsTold, IsMemoOf, case_at, IsFormulaKey, IsUnvaluedKey, IsUnvalued, IsNext, not_kept, KeepsFound, WhereRoom, NeedsNoEvaluation, IsValuedAnew, Saved, FrameTakes, Keeps, Frame, IsNew, MayBegin, IsFrameSettled}
 use Rattle.wi_engine.proofs.Places.{none_went}
 use Rattle.wi_engine.proofs.engine.NextCases.{unvalued_case}
 use Rattle.wi_engine.proofs.engine.NextValues.{one_more_at_most}
 use Rattle.wi_engine.proofs.engine.SettledFindings.{settled_now}
-use Rattle.wi_engine.proofs.engine.SettledStacks.{IsSettling, settling_start, settling_push, settling_pop, rests_after}
+use Rattle.wi_engine.proofs.engine.SettledStacks.{IsSettling, new_settled, settling_start, settling_push, settling_pop, rests_after}
 use Rattle.wi_engine.proofs.engine.Stacks.{same_frame}
-use Rattle.wi_engine.proofs.engine.FrameRuns.{IsRunning, IsNew, Finds, GoesDeeper, ComesBack, run_start, run_deeper, run_back, run_take, run_ends}
+use Rattle.wi_engine.proofs.engine.FrameRuns.{IsRunning, Finds, GoesDeeper, ComesBack, new_frame, run_start, run_deeper, run_back, run_take, run_ends}
 
 -- a memory, seen as if what is kept were what was found
 abbrev pub by_kept : MemoState → MemoState
@@ -21,7 +21,7 @@ once a false false e h = e
 kept_told : (m : MemoState) → IsTold m → KeepsFound m → IsTold (by_kept m)
 kept_told m t h c w = once (is_some (m.known c w)) (m.found c w) (m.kept c w) (t c w) (h c w)
 
-kept_memory_of : (s : Sheet) (m : MemoState) → IsMemoOf s m → KeepsFound m → IsMemoOf s (by_kept m)
+pub kept_memory_of : (s : Sheet) (m : MemoState) → IsMemoOf s m → KeepsFound m → IsMemoOf s (by_kept m)
 kept_memory_of s m h w = record {
   sheet = h.sheet;
   right = h.right;
@@ -71,15 +71,23 @@ pub record IsSaving (s : Sheet) (old m : MemoState) (root : Case) (start now : C
   pub stand : (k : Key) → old.stands k ≡ true → m.stands k ≡ true
   pub settling : IsSettling s old m fs f
 
-pub saving_start : (s : Sheet) (m : MemoState) (k : Key) (f : Frame) (now : Counts) (ks : List Case) → IsMemoOf s m → IsUnvaluedKey s m k → IsNew s f k → KeepsFound m → not_kept m ks ≤ m.room → IsSaving s m m (case_at k) now now [] f ks
-saving_start s m k f now ks h key n whole room = record {
-  running = run_start s (by_kept m) k f now (kept_memory_of s m h whole) (kept_to_value s m k key.key) key.unkept n;
+-- with a frame that has no values yet
+pub begins_new : {s : Sheet} {m : MemoState} {f : Frame} {k : Key} → IsNew s f k → IsUnvaluedKey s m k → MayBegin s m f
+begins_new {s} {m} {f} {k} n h = record {
+  unvalued = rw n.key h;
+  frame = new_frame s m f k n h.key;
+  settled = λ ks closed top whole room. new_settled s m.kept f k n;
+}
+
+pub saving_start : (s : Sheet) (m : MemoState) (f : Frame) (now : Counts) (ks : List Case) → IsMemoOf s m → MayBegin s m f → IsFrameSettled s m.kept f → KeepsFound m → not_kept m ks ≤ m.room → IsSaving s m m (case_at f.key) now now [] f ks
+saving_start s m f now ks h b settled whole room = record {
+  running = run_start s (by_kept m) f now (kept_memory_of s m h whole) (same_frame s m (by_kept m) f refl refl b.frame) b.unvalued.unkept;
   whole = whole;
   added = omega arith;
   room = room;
   stays = λ c v i. i;
   stand = λ j i. i;
-  settling = settling_start s m f k n;
+  settling = settling_start s m f settled;
 }
 
 pub saving_deeper : {s : Sheet} {old m : MemoState} {root : Case} {start now next : Counts} {fs : List Frame} {f h g : Frame} {k : Key} {ks : List Case} → GoesDeeper s m now next f h g k → IsSaving s old m root start now fs f ks → IsSaving s old m root start next (fs ++ h ∷ []) g ks
@@ -183,8 +191,13 @@ saving_back {s} {old} {m} {n} {root} {start} {now} {next} {fs} {f} {b} {v} {ks} 
   settling = settling_pop s m n (case_at f.key) (kept t closed top i) old fs f b i.settling (rests_then t closed top i);
 }
 
+-- for each list that has the root, with room or not
+pub saving_ends_all : {s : Sheet} {old m n : MemoState} {root : Case} {start now next : Counts} {f : Frame} {v : Value} {ks : List Case} → ComesBack s m n now next f v → IsClosed s ks → Contains ks root → IsSaving s old m root start now [] f ks →
+    (qs : List Case) → IsClosed s qs → Contains qs root → SpentOn s old.kept n.kept start next true qs
+saving_ends_all {s} {old} {m} {n} t closed top i = λ qs others there. run_ends (by_kept n) (kept t closed top i) t.counts i.running qs others there
+
 pub saving_ends : {s : Sheet} {old m n : MemoState} {root : Case} {start now next : Counts} {f : Frame} {v : Value} {ks : List Case} → ComesBack s m n now next f v → IsClosed s ks → Contains ks root → IsSaving s old m root start now [] f ks → SpentOn s old.kept n.kept start next true ks
-saving_ends {s} {old} {m} {n} t closed top i = run_ends (by_kept n) (kept t closed top i) t.counts i.running _ closed top
+saving_ends t closed top i = saving_ends_all t closed top i _ closed top
 
 -- ---- a cell under any replacements, where no formula has to be evaluated for it
 

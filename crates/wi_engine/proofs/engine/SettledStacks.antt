@@ -1,6 +1,5 @@
 -- What comes to be kept in a run of frames rests on kept values.
-use Rattle.wi_engine.proofs.Words.{◌≡◌, ◌⊎◌, inl, inr, ◌||◌, ℕ, Bool, true, false, List, [], ◌∷◌, ◌++◌, sym, ◌∙◌, subst, or_cases, or_left, true≢false, Replacement, Sheet, Key, Case, same_case, RestsOnKept, one_case, MemoState, IsFrameSettled, Frame, rests_more}
-use Rattle.wi_engine.proofs.engine.FrameRuns.{IsNew}
+use Rattle.wi_engine.proofs.Words.{◌≡◌, ◌⊎◌, inl, inr, ◌||◌, ℕ, Bool, true, false, List, [], ◌∷◌, ◌++◌, sym, ◌∙◌, subst, or_cases, or_left, true≢false, Replacement, Sheet, Key, Case, same_case, RestsOnKept, one_case, MemoState, IsFrameSettled, Frame, rests_more, IsNew}
 use Rattle.wi_engine.proofs.engine.SettledFindings.{settled_none, found_more}
 
 abbrev pub AreFramesSettled : Sheet → (ℕ → List Replacement → Bool) → List Frame → Type 0
@@ -13,13 +12,13 @@ pub record IsSettling (s : Sheet) (old m : MemoState) (fs : List Frame) (f : Fra
   pub below : AreFramesSettled s m.kept fs
   pub rests : (c : ℕ) (w : List Replacement) → m.kept c w ≡ true → old.kept c w ≡ false → RestsOnKept s m.kept (c, w)
 
-new_settled : (s : Sheet) (kept : ℕ → List Replacement → Bool) (f : Frame) (k : Key) → IsNew s f k → IsFrameSettled s kept f
+pub new_settled : (s : Sheet) (kept : ℕ → List Replacement → Bool) (f : Frame) (k : Key) → IsNew s f k → IsFrameSettled s kept f
 new_settled s kept f k n t e = settled_none s kept f.key.world t f.found n.cells n.what_ifs
 
-pub settling_start : (s : Sheet) (m : MemoState) (f : Frame) (k : Key) → IsNew s f k → IsSettling s m m [] f
-settling_start s m f k n = record { top = new_settled s m.kept f k n; below = tt; rests = λ c w h g. absurd (true≢false (sym h ∙ g)) }
+pub settling_start : (s : Sheet) (m : MemoState) (f : Frame) → IsFrameSettled s m.kept f → IsSettling s m m [] f
+settling_start s m f h = record { top = h; below = tt; rests = λ c w h g. absurd (true≢false (sym h ∙ g)) }
 
-one_more : (s : Sheet) (kept : ℕ → List Replacement → Bool) (fs : List Frame) (f : Frame) → AreFramesSettled s kept fs → IsFrameSettled s kept f → AreFramesSettled s kept (fs ++ f ∷ [])
+pub one_more : (s : Sheet) (kept : ℕ → List Replacement → Bool) (fs : List Frame) (f : Frame) → AreFramesSettled s kept fs → IsFrameSettled s kept f → AreFramesSettled s kept (fs ++ f ∷ [])
 one_more s kept [] f h k = (k, tt)
 one_more s kept (g ∷ fs) f h k = (h.0, one_more s kept fs f h.1 k)
 

@@ -42,6 +42,11 @@ pub record GivesUpWhenFull (old new : MemoState) : Type 0 where
   pub room : new.room ≤ old.room
   pub stays : 1 ≤ new.room → (k : Key) → old.stands k ≡ true → new.stands k ≡ true
 
+-- What was found is found still, and what was kept is kept still where some room is left.
+pub record Remembers (old new : MemoState) : Type 0 where
+  pub found : (c : ℕ) (w : List Replacement) → old.found c w ≡ true → new.found c w ≡ true
+  pub kept : 1 ≤ new.room → (c : ℕ) (w : List Replacement) → old.kept c w ≡ true → new.kept c w ≡ true
+
 -- a cell's value needs no evaluation: it has no formula under the replacements, or its value is remembered
 abbrev pub NeedsNoEvaluation : Sheet → MemoState → List Replacement → ℕ → Type 0
 NeedsNoEvaluation s m w a = (has_formula (content_of (put_all s w) a) ≡ false) ⊎ (is_some (m.known a (reaching s a w)) ≡ true)

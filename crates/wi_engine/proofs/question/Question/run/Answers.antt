@@ -1,7 +1,9 @@
-use Rattle.wi_engine.proofs.Words.{◌≡◌, ◌∙◌, ℕ, List, [], ◌∷◌, length, refl, arith, Frame}
-use Rattle.wi_engine.proofs.engine.FrameRuns.{IsNew, GoesDeeper, deeper_smaller, back_smaller, run_below, run_value}
+use Rattle.wi_engine.proofs.Words.{◌≡◌, ◌∙◌, ℕ, List, [], ◌∷◌, length, refl, arith, Frame, ap, subst, sym, Key, reach_rank, MemoState, IsMemoOf, IsUnvaluedKey}
+use Rattle.wi_engine.proofs.engine.FrameRuns.{GoesDeeper, deeper_smaller, back_smaller, run_below, run_value}
+use Rattle.wi_engine.proofs.engine.RunsWithRoom.{begins_new}
 use Rattle.wi_engine.proofs.engine.Ends.{turn_same, turn_kept, comes_back, going_start, going_deeper, going_back, going_stops, going_ends, root_kept, root_there}
 use Rattle.wi_engine.proofs.engine.Steps.{counts_less}
+use Rattle.wi_engine.proofs.planned.Over.{begun_less, begun_over, begun_stops, measure_less}
 use Rattle.wi_engine.proofs.question.Question.run.Goals as goal
 
 -- a stack of no frames
@@ -11,11 +13,17 @@ no_frames (f ∷ fs) n e z = absurd (omega (arith, e, z))
 
 -- ---- the turns
 
+pub begin-requires-clause-memo : goal.begin-requires-clause-memo
+begin-requires-clause-memo g c = c.requires.memo
+
+pub begin-requires-clause-key : goal.begin-requires-clause-key
+begin-requires-clause-key g c = c.requires.key
+
+pub begin-requires-clause-formula : goal.begin-requires-clause-formula
+begin-requires-clause-formula g c = c.requires.formula
+
 pub frames-init : goal.frames-init
-frames-init g c =
-    let n = c.new-frame.ensures in
-    let new : IsNew c.args.store.now.sheet c.new-frame.result c.args.key = record { key = n.key; formula = rw n.formula c.requires.formula; cells = n.cells; what_ifs = n.what_ifs; waiting = n.waiting } in
-    rw c.new-stack.ensures.items (going_start c.args.self.now.meter c.requires.memo c.requires.key new)
+frames-init g c = begun_over (λ f new. rw c.new-stack.ensures.items (rw (← new.key) (going_start c.args.self.now.meter c.requires.memo (begins_new new c.requires.key)))) c.in_ok-frame.ensures.begins
 
 pub advance-requires-clause-memo : goal.advance-requires-clause-memo
 advance-requires-clause-memo g c = c.frames.invariant.running.memo
@@ -23,25 +31,34 @@ advance-requires-clause-memo g c = c.frames.invariant.running.memo
 pub advance-requires-clause-frame : goal.advance-requires-clause-frame
 advance-requires-clause-frame g c = c.frames.invariant.running.begun.frame
 
+pub begin-requires-in-Unvalued-clause-memo : goal.begin-requires-in-Unvalued-clause-memo
+begin-requires-in-Unvalued-clause-memo g c = subst (λ (x : MemoState). IsMemoOf c.args.store.now.sheet x) (sym c.in_ok-next.ensures.steps.same) c.frames.invariant.running.memo
+
+pub begin-requires-in-Unvalued-clause-key : goal.begin-requires-in-Unvalued-clause-key
+begin-requires-in-Unvalued-clause-key g c =
+    let a = c.in_ok-next.ensures in
+    subst (λ (x : MemoState). IsUnvaluedKey c.args.store.now.sheet x c.in-Unvalued.next.key) (sym a.steps.same) (rw c.in-Unvalued.is at a.gives).0.next.to_find
+
+pub begin-requires-in-Unvalued-clause-formula : goal.begin-requires-in-Unvalued-clause-formula
+begin-requires-in-Unvalued-clause-formula g c = (rw c.in-Unvalued.is at c.in_ok-next.ensures.gives).0.stands
+
 pub frames-smaller-in-Unvalued : goal.frames-smaller-in-Unvalued
 frames-smaller-in-Unvalued g c =
     let a = c.in_ok-next.ensures in
-    deeper_smaller c.frames.invariant.running (g.M.Memo.state c.advance.new.memo) c.new-frame-in-Unvalued.result a.steps.same (rw c.in-Unvalued.is at a.gives).0.next c.new-frame-in-Unvalued.ensures.key
+    let begins = c.in_ok-frame-in-Unvalued.ensures.begins in
+    let deeper = deeper_smaller c.frames.invariant.running (g.M.Memo.state c.advance.new.memo) begins.first a.steps.same (rw c.in-Unvalued.is at a.gives).0.next begins.fresh.key in
+    let less = begun_less begins in
+    let same = ap (λ (k : Key). reach_rank c.args.store.now.sheet k.cell) begins.fresh.key in
+    measure_less _ _ _ _ _ _ less.0 (omega (arith, less.1, same)) deeper
 
 pub frames-preserved-in-Unvalued : goal.frames-preserved-in-Unvalued
 frames-preserved-in-Unvalued g c =
     let s = c.args.store.now.sheet in
-    let n = c.new-frame-in-Unvalued.ensures in
     let a = c.in_ok-next.ensures in
     let u = rw c.in-Unvalued.is at a.gives in
-    let turn : GoesDeeper s (g.M.Memo.state c.frames.self.memo) c.frames.self.meter c.advance.new.meter c.frames.frame c.advance.new.frame c.new-frame-in-Unvalued.result c.in-Unvalued.next.key = record {
-      steps = rw a.steps.same at a.steps;
-      rises = a.counts.rises;
-      evaluations = u.1;
-      key = u.0.next;
-      new = record { key = n.key; formula = rw n.formula u.0.stands; cells = n.cells; what_ifs = n.what_ifs; waiting = n.waiting };
-    } in
-    rw (c.in_ok-push-in-Unvalued.ensures.items, a.steps.same) (going_deeper c.frames.invariant turn)
+    begun_over (λ f new.
+    let turn : GoesDeeper s (g.M.Memo.state c.frames.self.memo) c.frames.self.meter c.advance.new.meter c.frames.frame c.advance.new.frame f c.in-Unvalued.next.key = record { steps = rw a.steps.same at a.steps; rises = a.counts.rises; evaluations = u.1; key = u.0.next; new = new } in
+    rw (c.in_ok-push-in-Unvalued.ensures.items, a.steps.same) (going_deeper c.frames.invariant turn)) c.in_ok-frame-in-Unvalued.ensures.begins
 
 pub take_in-requires-clause-awaits : goal.take_in-requires-clause-awaits
 take_in-requires-clause-awaits g c = (run_below _ (rw c.in-Some.ensures.items at c.frames.invariant).running).waiting
@@ -131,6 +148,20 @@ returns-in-None-clause-settled g c =
     root_kept (rw (no_frames c.frames.stack.items c.frames.stack.len c.frames.stack.ok.0 c.in-None.ensures.cases.0) at c.frames.invariant) turn
 
 -- ---- where memory runs out
+
+pub returns-in_err-frame-clause-spends : goal.returns-in_err-frame-clause-spends
+returns-in_err-frame-clause-spends g c =
+    begun_stops (λ f new. rw c.new-stack.ensures.items (rw (← new.key) (going_start c.args.self.now.meter c.requires.memo (begins_new new c.requires.key)))) c.requires.key c.in_err-frame.ensures.stops c.from_residual.result c.from_residual.ensures.0
+
+pub returns-in_err-frame-in-Unvalued-clause-spends : goal.returns-in_err-frame-in-Unvalued-clause-spends
+returns-in_err-frame-in-Unvalued-clause-spends g c =
+    let s = c.args.store.now.sheet in
+    let a = c.in_ok-next.ensures in
+    let u = rw c.in-Unvalued.is at a.gives in
+    begun_stops (λ f new.
+    let turn : GoesDeeper s (g.M.Memo.state c.frames.self.memo) c.frames.self.meter c.advance.new.meter c.frames.frame c.advance.new.frame f c.in-Unvalued.next.key = record { steps = rw a.steps.same at a.steps; rises = a.counts.rises; evaluations = u.1; key = u.0.next; new = new } in
+    rw (c.in_ok-push-in-Unvalued.ensures.items, a.steps.same) (going_deeper c.frames.invariant turn))
+    (subst (λ (x : MemoState). IsUnvaluedKey s x c.in-Unvalued.next.key) (sym a.steps.same) u.0.next.to_find) c.in_err-frame-in-Unvalued.ensures.stops c.from_residual-in_err-frame-in-Unvalued.result c.from_residual-in_err-frame-in-Unvalued.ensures.0
 
 pub returns-in_err-next-clause-spends : goal.returns-in_err-next-clause-spends
 returns-in_err-next-clause-spends g c =
