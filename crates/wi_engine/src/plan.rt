@@ -15,8 +15,15 @@ const MAX_PLANS: usize = 8;
 /// How many cells are remembered that were asked for without a plan.
 const MAX_ASKED: usize = 8;
 
+/// How often a cell is asked for before a plan is made for it. To make one takes about as long as it spares in so many questions.
+const OFTEN: usize = 10;
+
 /// How many cells a plan may have.
 const MAX_CELLS: usize = 10_000;
+
+/// How many plans are made before all are forgotten. Where more roots take turns than there are plans, each that is made takes
+/// the place of one that is still of use.
+const MAX_MADE: usize = 64;
 
 /// A cell of a plan.
 #[derive(Drop)]
@@ -73,14 +80,12 @@ fn place_for(plans: &[Box<Plan>], key: &Key) -> Option<usize> {
     None
 }
 
-/// Whether a cell is one of these.
-fn is_listed(cells: &[Address], cell: Address) -> bool {
-    for listed in cells {
-        if *listed == cell {
-            return true;
-        }
-    }
-    false
+/// A cell that was asked for without a plan, with the first input that was replaced for it.
+#[derive(Clone, Copy)]
+struct Unplanned {
+    root: Address,
+    input: Address,
+    times: usize,
 }
 
 /// Plans, and what is noted for one to come.
@@ -88,9 +93,10 @@ fn is_listed(cells: &[Address], cell: Address) -> bool {
 pub struct Plans {
     alloc: Global,
     plans: Vec<Box<Plan>>,
-    // Cells that were asked for without a plan.
-    asked: Vec<Address>,
-    // The one for which a plan is to be made, and which cells were done since it was begun.
+    asked: Vec<Unplanned>,
+    // How many plans were made.
+    made: usize,
+    // The cell for which a plan is to be made, and which were done since it was begun.
     root: Option<Address>,
     done: Vec<Address>,
 }
@@ -102,21 +108,24 @@ impl Plans {
             alloc,
             plans: Vec::new(alloc),
             asked: Vec::new(alloc),
+            made: 0,
             root: None,
             done: Vec::new(alloc),
         }
     }
 
     /// The plan for a key, which is taken out. Where there is none, one is made of what is noted until its cell is done, if the cell
-    /// was asked for before.
+    /// was often asked for with the same first input replaced.
     pub fn take(&mut self, key: &Key) -> Option<Box<Plan>> {
         if let Some(place) = place_for(&self.plans, key) {
             if place < self.plans.len() {
                 return Some(self.plans.swap_remove(place));
             }
         }
-        if self.was_asked(key.cell) {
-            self.begin(key.cell);
+        if let Some(first) = key.world.replacements().first() {
+            if self.is_asked_often(key.cell, first.at) {
+                self.begin(key.cell);
+            }
         }
         None
     }
@@ -126,20 +135,31 @@ impl Plans {
         let _ = self.plans.push(plan);
     }
 
-    // Whether a cell was asked for before. If not, it is noted that it was.
-    fn was_asked(&mut self, cell: Address) -> bool {
-        if is_listed(&self.asked, cell) {
-            return true;
+    // Whether a cell was often asked for with this input replaced. It is noted that it was once more.
+    fn is_asked_often(&mut self, root: Address, input: Address) -> bool {
+        for one in self.asked.iter_mut() {
+            if one.root == root && one.input == input {
+                if one.times >= OFTEN {
+                    return true;
+                }
+                one.times += 1;
+                return false;
+            }
         }
         if self.asked.len() >= MAX_ASKED {
             self.asked.clear();
         }
-        let _ = self.asked.push(cell);
+        let _ = self.asked.push(Unplanned {
+            root,
+            input,
+            times: 1,
+        });
         false
     }
 
     fn begin(&mut self, cell: Address) {
-        if self.root.is_none() {
+        if self.root.is_none() && self.made < MAX_MADE {
+            self.made += 1;
             self.root = Some(cell);
             self.done.clear();
         }
@@ -183,13 +203,14 @@ impl Plans {
             making.add(store, *cell)?;
         }
         let reads = making.reads_of(store, key.cell)?;
+        let needed = needed_of(self.alloc, &making.cells, &reads)?;
         let plan = Box::new(
             self.alloc,
             Plan {
                 root: key.cell,
                 inputs,
-                cells: making.cells,
-                reads,
+                cells: needed.cells,
+                reads: needed.reads,
             },
         )?;
         if self.plans.len() >= MAX_PLANS {
@@ -250,4 +271,75 @@ impl Making {
         }
         self.push(cell, Vec::new(self.alloc))
     }
+}
+
+/// Those cells of a list that are needed, and the places among them of those that the root reads.
+#[derive(Drop)]
+struct Order {
+    cells: Vec<Planned>,
+    reads: Vec<usize>,
+}
+
+/// The cells that are read from these places on, each directly or by way of others, in the order in which they stand.
+fn needed_of(alloc: Global, cells: &[Planned], reads: &[usize]) -> Result<Order, AllocError> {
+    let marks = marks_of(alloc, cells, reads)?;
+    let mut moved = Vec::new(alloc);
+    let mut needed = Vec::new(alloc);
+    for place in 0..cells.len() {
+        moved.push(needed.len())?;
+        if let Some(cell) = cells.get(place) {
+            if is_marked(&marks, place) {
+                let reads = moved_to(alloc, &cell.reads, &moved)?;
+                needed.push(Planned { at: cell.at, reads })?;
+            }
+        }
+    }
+    let reads = moved_to(alloc, reads, &moved)?;
+    Ok(Order {
+        cells: needed,
+        reads,
+    })
+}
+
+/// Which cells are read from these places on. Each stands behind those that it reads.
+fn marks_of(alloc: Global, cells: &[Planned], reads: &[usize]) -> Result<Vec<bool>, AllocError> {
+    let mut marks = Vec::new(alloc);
+    for _ in cells {
+        marks.push(false)?;
+    }
+    mark(reads, &mut marks);
+    for place in (0..cells.len()).rev() {
+        if let Some(cell) = cells.get(place) {
+            if is_marked(&marks, place) {
+                mark(&cell.reads, &mut marks);
+            }
+        }
+    }
+    Ok(marks)
+}
+
+fn mark(places: &[usize], marks: &mut [bool]) {
+    for place in places {
+        if *place < marks.len() {
+            marks[*place] = true;
+        }
+    }
+}
+
+fn is_marked(marks: &[bool], place: usize) -> bool {
+    match marks.get(place) {
+        Some(mark) => *mark,
+        None => false,
+    }
+}
+
+/// Where the cells at some places stand now.
+fn moved_to(alloc: Global, places: &[usize], moved: &[usize]) -> Result<Vec<usize>, AllocError> {
+    let mut now = Vec::new(alloc);
+    for place in places {
+        if let Some(to) = moved.get(*place) {
+            now.push(*to)?;
+        }
+    }
+    Ok(now)
 }

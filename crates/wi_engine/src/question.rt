@@ -14,7 +14,7 @@ ghost use Rattle.wi_engine.specs.Inner.Spends.{Spends};
 
 use crate::asked::value_now;
 use crate::engine::{advance, take_in};
-use crate::frame::{Advance, Asked, Frame};
+use crate::frame::{Advance, Asked, Frame, Unvalued};
 use crate::memo::Memo;
 use crate::planned::go_ahead;
 use crate::pool::Pool;
@@ -94,13 +94,14 @@ impl<M: Memo + Drop> Question<M> {
     {
         let alloc = self.pool.allocator();
         let mut stack = Vec::new(alloc);
-        let mut frame = self.begin(store, &mut stack, key, formula, true)?;
+        let root = Unvalued { key, formula };
+        let mut frame = self.begin(store, &mut stack, root, true)?;
         'frames: loop {
             match advance(alloc, store, &mut frame, &mut self.memo, &mut self.meter)? {
                 Advance::Unvalued(next) => {
                     let asks = frame.waits_for_what_if(next.key.cell);
                     stack.push(frame)?;
-                    frame = self.begin(store, &mut stack, next.key, next.formula, asks)?;
+                    frame = self.begin(store, &mut stack, next, asks)?;
                 }
                 Advance::Done(value) => match stack.pop() {
                     None => {
@@ -129,21 +130,20 @@ impl<M: Memo + Drop> Question<M> {
         &mut self,
         store: &'a Store,
         stack: &mut Vec<Frame<'a>>,
-        key: Key,
-        formula: &'a Formula,
+        next: Unvalued<'a>,
         asks: bool,
     ) -> Result<Frame<'a>, AllocError>
         requires memo { IsMemoOf store.now.sheet (M.state self.old.memo) }
-        requires key { IsUnvaluedKey store.now.sheet (M.state self.old.memo) key }
-        requires formula { StandsAt store.now.sheet key formula.now }
+        requires key { IsUnvaluedKey store.now.sheet (M.state self.old.memo) next.key }
+        requires formula { StandsAt store.now.sheet next.key next.formula.now }
         ensures begins { IfOk result (BeginsOver store.now.sheet
             (M.state self.old.memo) (M.state self.new.memo) self.old.meter self.new.meter
-            key stack.old.items stack.new.items) }
+            next.entry.key stack.old.items stack.new.items) }
         ensures stops { OnErr result (StopsOver store.now.sheet
             (M.state self.old.memo) (M.state self.new.memo) self.old.meter self.new.meter
-            key) }
+            next.entry.key) }
     {
-        let mut frame = Frame::new(key, formula, self.pool.take());
+        let mut frame = Frame::new(next.key, next.formula, self.pool.take());
         if !asks {
             return Ok(frame);
         }

@@ -27,13 +27,13 @@ go_ahead-requires-clause-waiting g c = c.new-frame.ensures.waiting
 pub returns-then-not-asks-clause-begins : goal.returns-then-not-asks-clause-begins
 returns-then-not-asks-clause-begins g c =
     let n = c.new-frame.ensures in
-    let new : IsNew c.args.store.now.sheet c.new-frame.result c.args.key = record { key = n.key; formula = rw n.formula c.requires.formula; cells = n.cells; what_ifs = n.what_ifs; waiting = n.waiting } in
+    let new : IsNew c.args.store.now.sheet c.new-frame.result c.args.next.key = record { key = n.key; formula = rw n.formula c.requires.formula; cells = n.cells; what_ifs = n.what_ifs; waiting = n.waiting } in
     begin_alone new c.requires.memo c.requires.key
 
 pub returns-in_default-clause-begins : goal.returns-in_default-clause-begins
 returns-in_default-clause-begins g c =
     let n = c.new-frame.ensures in
-    let new : IsNew c.args.store.now.sheet c.new-frame.result c.args.key = record { key = n.key; formula = rw n.formula c.requires.formula; cells = n.cells; what_ifs = n.what_ifs; waiting = n.waiting } in
+    let new : IsNew c.args.store.now.sheet c.new-frame.result c.args.next.key = record { key = n.key; formula = rw n.formula c.requires.formula; cells = n.cells; what_ifs = n.what_ifs; waiting = n.waiting } in
     begin_alone new c.requires.memo c.requires.key
 
 -- ---- over a plan
@@ -41,13 +41,13 @@ returns-in_default-clause-begins g c =
 pub returns-in_default-2-clause-begins : goal.returns-in_default-2-clause-begins
 returns-in_default-2-clause-begins g c =
     let n = c.new-frame.ensures in
-    let new : IsNew c.args.store.now.sheet c.new-frame.result c.args.key = record { key = n.key; formula = rw n.formula c.requires.formula; cells = n.cells; what_ifs = n.what_ifs; waiting = n.waiting } in
+    let new : IsNew c.args.store.now.sheet c.new-frame.result c.args.next.key = record { key = n.key; formula = rw n.formula c.requires.formula; cells = n.cells; what_ifs = n.what_ifs; waiting = n.waiting } in
     begin_ahead new (rw c.in_default-2.is at c.in_ok-first.ensures.ahead) c.in_ok-first.ensures.ready
 
 pub returns-clause-begins : goal.returns-clause-begins
 returns-clause-begins g c =
     let n = c.new-frame.ensures in
-    let new : IsNew c.args.store.now.sheet c.new-frame.result c.args.key = record { key = n.key; formula = rw n.formula c.requires.formula; cells = n.cells; what_ifs = n.what_ifs; waiting = n.waiting } in
+    let new : IsNew c.args.store.now.sheet c.new-frame.result c.args.next.key = record { key = n.key; formula = rw n.formula c.requires.formula; cells = n.cells; what_ifs = n.what_ifs; waiting = n.waiting } in
     begin_hands new (rw c.in-Some-2.is at c.in_ok-first.ensures.ahead) c.in_ok-first.ensures.ready c.in_ok-push.ensures.items
 
 -- ---- where memory runs out
@@ -55,11 +55,11 @@ returns-clause-begins g c =
 pub returns-in_err-first-clause-stops : goal.returns-in_err-first-clause-stops
 returns-in_err-first-clause-stops g c =
     let n = c.new-frame.ensures in
-    let new : IsNew c.args.store.now.sheet c.new-frame.result c.args.key = record { key = n.key; formula = rw n.formula c.requires.formula; cells = n.cells; what_ifs = n.what_ifs; waiting = n.waiting } in
+    let new : IsNew c.args.store.now.sheet c.new-frame.result c.args.next.key = record { key = n.key; formula = rw n.formula c.requires.formula; cells = n.cells; what_ifs = n.what_ifs; waiting = n.waiting } in
     on_err c.from_residual.result (begin_stops new c.in_err-first.ensures.stops)
 
 pub returns-in_err-push-clause-stops : goal.returns-in_err-push-clause-stops
 returns-in_err-push-clause-stops g c =
     let n = c.new-frame.ensures in
-    let new : IsNew c.args.store.now.sheet c.new-frame.result c.args.key = record { key = n.key; formula = rw n.formula c.requires.formula; cells = n.cells; what_ifs = n.what_ifs; waiting = n.waiting } in
+    let new : IsNew c.args.store.now.sheet c.new-frame.result c.args.next.key = record { key = n.key; formula = rw n.formula c.requires.formula; cells = n.cells; what_ifs = n.what_ifs; waiting = n.waiting } in
     on_err c.from_residual-in_err-push.result (begin_stops new (stops_hands (rw c.in-Some-2.is at c.in_ok-first.ensures.ahead)))
