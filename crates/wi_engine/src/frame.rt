@@ -7,7 +7,8 @@ ghost use Rattle.wi_engine.specs.declared.frame.Waiting.TheVariants.{Nothing};
 use crate::course::Course;
 use crate::findings::Findings;
 use crate::pool::{Arrays, Pool};
-use std::alloc::AllocError;
+use std::alloc::{AllocError, Global};
+use std::mem;
 use wi_cache::Key;
 use wi_parser::{Formula, Pair};
 use wi_values::{Address, Rect, Value};
@@ -55,6 +56,35 @@ impl<'a> Frame<'a> {
             waiting: Waiting::Nothing,
             courses,
         }
+    }
+
+    /// The same frame for another formula, with no values yet. Takes no memory. The work grows with the count of values that go.
+    #[inline(always)]
+    pub fn begin_again(&mut self, key: Key, formula: &'a Formula)
+        ensures key { self.new.key ≡ key }
+        ensures formula { self.new.formula.now ≡ formula.now }
+        ensures cells { (c : ℕ) → found_value self.new.found c ≡ None }
+        ensures what_ifs { self.new.found.what_ifs.items ≡ [] }
+        ensures waiting { self.new.waiting ≡ Nothing }
+    {
+        self.key = key;
+        self.formula = formula;
+        self.found.clear();
+        self.waiting = Waiting::Nothing;
+        self.courses.clear();
+    }
+
+    /// The key, which is taken out, so that another has to be put in its place.
+    #[inline(always)]
+    pub fn take_key(&mut self, alloc: Global) -> Key
+        ensures { result ≡ self.old.key }
+    {
+        let none = Key {
+            cell: self.key.cell,
+            generation: 0,
+            world: World::new(alloc),
+        };
+        mem::replace(&mut self.key, none)
     }
 
     /// Whether it waits for a what-if of a cell.

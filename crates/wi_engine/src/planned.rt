@@ -6,8 +6,8 @@ ghost use Rattle.wi_parser.specs.Sheet.{Sheet};
 ghost use Rattle.wi_engine.specs.Inner.MemoState.{MemoState, IsMemoOf};
 ghost use Rattle.wi_engine.specs.Inner.Begins.{MayBegin};
 ghost use Rattle.wi_engine.specs.Inner.Frames.{IsUnvaluedKey, StandsAt, case_at};
-ghost use Rattle.wi_engine.specs.Inner.Planned.{IsAheadOf, IsReadyFrame, IsTried, StopsAhead};
-ghost use Rattle.wi_engine.specs.Inner.Plans.{ArePlacesOf};
+ghost use Rattle.wi_engine.specs.Inner.Planned.{IsAheadOf, IsAsFarAs, IsReadyFrame, IsTried, StopsAhead};
+ghost use Rattle.wi_engine.specs.Inner.Plans.{ArePlacesOf, IsStanding};
 ghost use Rattle.wi_engine.specs.Inner.Findings.{found_value};
 ghost use Rattle.wi_engine.specs.Inner.Turns.{IsTurn};
 ghost use Rattle.wi_engine.specs.declared.frame.Waiting.TheVariants as waiting;
@@ -24,48 +24,42 @@ use std::alloc::{AllocError, Global};
 use wi_cache::Key;
 use wi_functions::Outcome;
 use wi_store::Store;
-use wi_values::Value;
+use wi_values::{Address, Value};
+use wi_worlds::World;
 
-/// How an evaluation ends.
-#[derive(Drop)]
-pub enum Tried<'a> {
-    Valued(Value),
-    /// The frame waits for what its formula lacks.
-    Waits(Frame<'a>),
-}
-
-/// Evaluates the formula of a frame once. Its value is remembered.
+/// Evaluates the formula of a frame once, and gives its value, which is remembered; if it lacks one, the frame waits for that.
+#[inline(always)]
 fn evaluate_once<'a, M: Memo + Drop>(
     question: &mut Question<M>,
     store: &'a Store,
-    frame: Frame<'a>,
-) -> Result<Tried<'a>, AllocError>
+    frame: &mut Frame<'a>,
+) -> Result<Option<Value>, AllocError>
     requires memo { IsMemoOf store.now.sheet (M.state question.old.memo) }
-    requires begins { MayBegin store.now.sheet (M.state question.old.memo) frame }
-    requires waiting { frame.waiting ≡ waiting.Nothing }
+    requires begins { MayBegin store.now.sheet (M.state question.old.memo) frame.old }
+    requires waiting { frame.old.waiting ≡ waiting.Nothing }
     ensures tried { IfOk result (IsTried store.now.sheet (M.state question.old.memo)
-        (M.state question.new.memo) frame.entry question.old.meter question.new.meter) }
+        (M.state question.new.memo) frame.old question.old.meter question.new.meter frame.new) }
     ensures turn { OnErr result (IsTurn store.now.sheet (M.state question.old.memo)
-        (M.state question.new.memo) frame.entry question.old.meter question.new.meter) }
+        (M.state question.new.memo) frame.old question.old.meter question.new.meter) }
 {
     let alloc = question.pool.allocator();
-    let mut frame = frame;
-    match attempt(alloc, store, &frame, &mut question.meter)? {
+    match attempt(alloc, store, frame, &mut question.meter)? {
         Outcome::Done(value) => {
             let shown = value.copy(alloc)?;
-            let key = frame.retire(&mut question.pool);
+            let key = frame.take_key(alloc);
             question.memo.keep(key, value)?;
-            Ok(Tried::Valued(shown))
+            Ok(Some(shown))
         }
         Outcome::Needs(want) => {
-            wait_for(alloc, store, &mut frame, want)?;
-            Ok(Tried::Waits(frame))
+            wait_for(alloc, store, frame, want)?;
+            Ok(None)
         }
     }
 }
 
-/// Finds the value of the cell at a place, if a formula stands there that may have to be evaluated, or gives a frame that waits for
-/// what the formula lacks.
+/// Finds the value of the cell at a place, if a formula stands there that may have to be evaluated. Tells whether the frame, which is
+/// begun again for it, waits for what the formula lacks.
+#[inline(always)]
 fn value_place<'a, M: Memo + Drop>(
     question: &mut Question<M>,
     store: &'a Store,
@@ -73,12 +67,13 @@ fn value_place<'a, M: Memo + Drop>(
     reads: &[usize],
     at: usize,
     places: &mut [Place<'a>],
-) -> Result<Option<Frame<'a>>, AllocError>
+    frame: &mut Frame<'a>,
+) -> Result<bool, AllocError>
     requires memo { IsMemoOf store.now.sheet (M.state question.old.memo) }
     requires places { ArePlacesOf store.now.sheet (M.state question.old.memo) (case_at root.now) places.old }
-    ensures ahead { IfOk result (IsAheadOf store.now.sheet (case_at root.now)
+    ensures ahead { IfOk result (IsAsFarAs store.now.sheet (case_at root.now)
         (M.state question.old.memo) (M.state question.new.memo)
-        question.old.meter question.new.meter) }
+        question.old.meter question.new.meter frame.new) }
     ensures places { OnOk result (ArePlacesOf store.now.sheet
         (M.state question.new.memo) (case_at root.now) places.new) }
     ensures stops { OnErr result (StopsAhead store.now.sheet (case_at root.now)
@@ -87,37 +82,41 @@ fn value_place<'a, M: Memo + Drop>(
 {
     let alloc = question.pool.allocator();
     let Some(place) = places.get(at) else {
-        return Ok(None);
+        return Ok(false);
     };
     let Some(formula) = place.opened() else {
-        return Ok(None);
+        return Ok(false);
     };
     let cell = place.at;
     match remembered_value(alloc, &root.world, cell, formula, &mut question.memo)? {
         Asked::Known(shown) => {
-            let known = Place {
-                at: cell,
-                state: State::Known(shown),
-            };
-            put(places, at, known);
-            Ok(None)
+            know(places, at, cell, shown);
+            Ok(false)
         }
         Asked::Unvalued(next) => {
-            let mut frame = Frame::new(next.key, next.formula, question.pool.take());
-            give_all(alloc, reads, places, &mut frame)?;
+            frame.begin_again(next.key, next.formula);
+            give_all(alloc, reads, places, frame)?;
             match evaluate_once(question, store, frame)? {
-                Tried::Valued(value) => {
-                    let known = Place {
-                        at: cell,
-                        state: State::Known(value),
-                    };
-                    put(places, at, known);
-                    Ok(None)
+                Some(value) => {
+                    know(places, at, cell, value);
+                    Ok(false)
                 }
-                Tried::Waits(waiting) => Ok(Some(waiting)),
+                None => Ok(true),
             }
         }
     }
+}
+
+/// Puts the value of the cell at a place there.
+fn know<'a>(places: &mut [Place<'a>], at: usize, cell: Address, value: Value)
+    ensures { (s : Sheet) (m : MemoState) (root : Case) → IsStanding s m root.1 cell value
+        → ArePlacesOf s m root places.old → ArePlacesOf s m root places.new }
+{
+    let known = Place {
+        at: cell,
+        state: State::Known(value),
+    };
+    put(places, at, known);
 }
 
 /// The same for all places, from the first to the last.
@@ -127,12 +126,13 @@ fn value_all<'a, M: Memo + Drop>(
     root: &Key,
     cells: &[Planned],
     places: &mut [Place<'a>],
-) -> Result<Option<Frame<'a>>, AllocError>
+    frame: &mut Frame<'a>,
+) -> Result<bool, AllocError>
     requires memo { IsMemoOf store.now.sheet (M.state question.old.memo) }
     requires places { ArePlacesOf store.now.sheet (M.state question.old.memo) (case_at root.now) places.old }
-    ensures ahead { IfOk result (IsAheadOf store.now.sheet (case_at root.now)
+    ensures ahead { IfOk result (IsAsFarAs store.now.sheet (case_at root.now)
         (M.state question.old.memo) (M.state question.new.memo)
-        question.old.meter question.new.meter) }
+        question.old.meter question.new.meter frame.new) }
     ensures places { OnOk result (ArePlacesOf store.now.sheet
         (M.state question.new.memo) (case_at root.now) places.new) }
     ensures stops { OnErr result (StopsAhead store.now.sheet (case_at root.now)
@@ -141,12 +141,12 @@ fn value_all<'a, M: Memo + Drop>(
 {
     for place in 0..cells.len() {
         if let Some(cell) = cells.get(place) {
-            if let Some(frame) = value_place(question, store, root, &cell.reads, place, places)? {
-                return Ok(Some(frame));
+            if value_place(question, store, root, &cell.reads, place, places, frame)? {
+                return Ok(true);
             }
         }
     }
-    Ok(None)
+    Ok(false)
 }
 
 /// Finds the values on which that of a frame rests that has none yet, in the order of a plan, and takes in those that its formula
@@ -205,13 +205,18 @@ fn go_over<'a, M: Memo + Drop>(
     let alloc = question.pool.allocator();
     need_all(frame.formula, &plan.reads, places);
     open_all(store, &frame.key.world, &plan.cells, places);
-    match value_all(question, store, &frame.key, &plan.cells, places)? {
-        Some(next) => Ok(Some(next)),
-        None => {
-            give_all(alloc, &plan.reads, places, frame)?;
-            Ok(None)
-        }
+    let none = Key {
+        cell: frame.key.cell,
+        generation: 0,
+        world: World::new(alloc),
+    };
+    let mut below = Frame::new(none, frame.formula, question.pool.take());
+    if value_all(question, store, &frame.key, &plan.cells, places, &mut below)? {
+        return Ok(Some(below));
     }
+    let _ = below.retire(&mut question.pool);
+    give_all(alloc, &plan.reads, places, frame)?;
+    Ok(None)
 }
 
 /// Places for cells, none of which is needed.

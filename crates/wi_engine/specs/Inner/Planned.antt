@@ -1,5 +1,5 @@
 -- What the cells of a plan leave that are valued for a root, the case of a frame that has no values yet.
-use Rattle.std.specs.Prelude.{◌≡◌, ◌<◌, ◌≤◌, ◌+◌, ◌⊎◌, ℕ, true, false, List, [], ◌∷◌, ◌++◌, Option, Some, None, Contains, is_some}
+use Rattle.std.specs.Prelude.{◌≡◌, ◌<◌, ◌≤◌, ◌+◌, ◌⊎◌, ℕ, Bool, true, false, List, [], ◌∷◌, ◌++◌, Option, Some, None, Contains, is_some}
 use Rattle.wi_values.specs.declared.value.Value.{Value}
 use Rattle.wi_values.specs.declared.replacement.Replacement.{Replacement}
 use Rattle.wi_parser.specs.Sheet.{Sheet, put_all}
@@ -18,8 +18,6 @@ use Rattle.wi_engine.specs.Inner.Plans.{StandsBelow}
 use Rattle.wi_engine.specs.Inner.Spends.{IsSameBeside, Spends}
 use Rattle.wi_engine.specs.declared.frame.Frame.{Frame}
 use Rattle.wi_engine.specs.declared.frame.Waiting.TheVariants.{Nothing}
-use Rattle.wi_engine.specs.declared.planned.Tried.{Tried}
-use Rattle.wi_engine.specs.declared.planned.Tried.TheVariants.{Valued, Waits}
 
 -- a frame with which a run may begin, that waits for nothing; its replacements are those of the root that its cell reaches
 pub record IsPlannedFrame (s : Sheet) (m : MemoState) (root : Case) (f : Frame) : Type 0 where
@@ -58,9 +56,10 @@ pub record IsWaiting (s : Sheet) (m n : MemoState) (f : Frame) (a b : Counts) (g
   pub evaluations : b.evaluations ≡ a.evaluations
   pub restarts : b.restarts + spare s g ≤ a.restarts + spare s f
 
-abbrev pub IsTried : Sheet → MemoState → MemoState → Frame → Counts → Counts → Tried → Type 0
-IsTried s m n f a b (Valued v) = IsValued s m n f.key a b v
-IsTried s m n f a b (Waits g) = IsWaiting s m n f a b g
+-- the frame as it is then, and its value, if it is there
+abbrev pub IsTried : Sheet → MemoState → MemoState → Frame → Counts → Counts → Frame → Option Value → Type 0
+IsTried s m n f a b g (Some v) = IsValued s m n f.key a b v
+IsTried s m n f a b g None = IsWaiting s m n f a b g
 
 -- ---- the cells of a plan
 
@@ -83,7 +82,12 @@ pub record HandsOver (s : Sheet) (root : Case) (m n : MemoState) (a b : Counts) 
   pub evaluations : b.evaluations ≡ mid.evaluations
   pub restarts : b.restarts + spare s g ≤ mid.restarts + wants s (case_at g.key)
 
--- all of them, or as far as such a frame
+-- all of them, or as far as such a frame, as a truth value tells
+abbrev pub IsAsFarAs : Sheet → Case → MemoState → MemoState → Counts → Counts → Frame → Bool → Type 0
+IsAsFarAs s root m n a b g false = GoesAhead s root m n a b
+IsAsFarAs s root m n a b g true = HandsOver s root m n a b g
+
+-- or as an option does
 abbrev pub IsAheadOf : Sheet → Case → MemoState → MemoState → Counts → Counts → Option Frame → Type 0
 IsAheadOf s root m n a b None = GoesAhead s root m n a b
 IsAheadOf s root m n a b (Some g) = HandsOver s root m n a b g

@@ -16,13 +16,13 @@ pub attempt-requires-clause-right : goal.attempt-requires-clause-right
 attempt-requires-clause-right g c = c.requires.begins.frame.found
 
 pub keep-requires-clause-generation : goal.keep-requires-clause-generation
-keep-requires-clause-generation g c = rw c.retire-key.ensures c.requires.begins.frame.key.generation
+keep-requires-clause-generation g c = rw c.take_key-key.ensures c.requires.begins.frame.key.generation
 
 pub keep-requires-clause-open_cell : goal.keep-requires-clause-open_cell
-keep-requires-clause-open_cell g c = rw (c.retire-key.ensures, c.requires.memo.sheet) c.requires.begins.frame.key.open_cell
+keep-requires-clause-open_cell g c = rw (c.take_key-key.ensures, c.requires.memo.sheet) c.requires.begins.frame.key.open_cell
 
 pub keep-requires-clause-right : goal.keep-requires-clause-right
-keep-requires-clause-right g c = rw (c.retire-key.ensures, c.requires.memo.sheet) (rw c.in-Done.is at c.in_ok-value.ensures.outcome).value
+keep-requires-clause-right g c = rw (c.take_key-key.ensures, c.requires.memo.sheet) (rw c.in-Done.is at c.in_ok-value.ensures.outcome).value
 
 pub wait_for-requires-clause-asks : goal.wait_for-requires-clause-asks
 wait_for-requires-clause-asks g c = (rw c.in-Needs.is at c.in_ok-value.ensures.outcome).asked
@@ -41,7 +41,7 @@ returns-in_ok-keep-in-Done-clause-tried g c =
     let counted = rw c.in-Done.is at c.in_ok-value.ensures.counted in
     let kept = c.in_ok-keep-in-Done.ensures in
     let counts = counts_done c.attempt.ensures.counts (ap (λ (n : Counts). n.evaluations) counted) (ap (λ (n : Counts). n.restarts) counted) in
-    let turn = comes_back refl c.retire-key.ensures kept.keeps kept.kept (first_value c.requires.begins found, ap (λ (n : Counts). n.evaluations) counted) counts in
+    let turn = comes_back refl c.take_key-key.ensures kept.keeps kept.kept (first_value c.requires.begins found, ap (λ (n : Counts). n.evaluations) counted) counts in
     valued_once c.requires.memo c.requires.begins turn c.in_ok-shown-in-Done.ensures
 
 pub returns-in_ok-wait_for-in-Needs-clause-tried : goal.returns-in_ok-wait_for-in-Needs-clause-tried
@@ -66,7 +66,7 @@ returns-in_err-keep-in-Done-clause-turn g c =
     let found = rw c.in-Done.is at c.in_ok-value.ensures.outcome in
     let counted = rw c.in-Done.is at c.in_ok-value.ensures.counted in
     let counts = counts_done c.attempt.ensures.counts (ap (λ (n : Counts). n.evaluations) counted) (ap (λ (n : Counts). n.restarts) counted) in
-    on_err c.from_residual-in_err-keep-in-Done.result (turn_kept c.requires.memo refl c.retire-key.ensures (first_value c.requires.begins found, ap (λ (n : Counts). n.evaluations) counted) c.in_err-keep-in-Done.ensures.keeps counts)
+    on_err c.from_residual-in_err-keep-in-Done.result (turn_kept c.requires.memo refl c.take_key-key.ensures (first_value c.requires.begins found, ap (λ (n : Counts). n.evaluations) counted) c.in_err-keep-in-Done.ensures.keeps counts)
 
 pub returns-in_err-wait_for-in-Needs-clause-turn : goal.returns-in_err-wait_for-in-Needs-clause-turn
 returns-in_err-wait_for-in-Needs-clause-turn g c =

@@ -29,9 +29,9 @@ pub evaluate_once-requires-clause-begins : goal.evaluate_once-requires-clause-be
 evaluate_once-requires-clause-begins g c =
     let s = c.args.store.now.sheet in
     let root = case_at c.args.root.now in
-    let n = c.new-frame.ensures in
+    let n = c.begin_again.ensures in
     let u = rw (c.in-Unvalued.is, c.requires.memo.sheet) at c.in_ok-shown.ensures.asked in
-    let new : IsNew s c.new-frame.result c.in-Unvalued.next.key = record { key = n.key; formula = rw n.formula u.stands; cells = n.cells; what_ifs = n.what_ifs; waiting = n.waiting } in
+    let new : IsNew s c.begin_again.new.self c.in-Unvalued.next.key = record { key = n.key; formula = rw n.formula u.stands; cells = n.cells; what_ifs = n.what_ifs; waiting = n.waiting } in
     let planned = c.in_ok-give_all-in-Unvalued.ensures.planned s (g.M.Memo.state c.args.question.now.memo) root c.requires.places (planned_new new u.unvalued) in
     subst (λ (x : MemoState). MayBegin s x c.give_all.new.frame) (sym c.in_ok-shown.ensures.same) planned.begins
 
@@ -39,9 +39,9 @@ pub evaluate_once-requires-clause-waiting : goal.evaluate_once-requires-clause-w
 evaluate_once-requires-clause-waiting g c =
     let s = c.args.store.now.sheet in
     let root = case_at c.args.root.now in
-    let n = c.new-frame.ensures in
+    let n = c.begin_again.ensures in
     let u = rw (c.in-Unvalued.is, c.requires.memo.sheet) at c.in_ok-shown.ensures.asked in
-    let new : IsNew s c.new-frame.result c.in-Unvalued.next.key = record { key = n.key; formula = rw n.formula u.stands; cells = n.cells; what_ifs = n.what_ifs; waiting = n.waiting } in
+    let new : IsNew s c.begin_again.new.self c.in-Unvalued.next.key = record { key = n.key; formula = rw n.formula u.stands; cells = n.cells; what_ifs = n.what_ifs; waiting = n.waiting } in
     (c.in_ok-give_all-in-Unvalued.ensures.planned s (g.M.Memo.state c.args.question.now.memo) root c.requires.places (planned_new new u.unvalued)).waiting
 
 -- ---- a value that is remembered
@@ -60,48 +60,48 @@ returns-in-Known-clause-places g c =
     let s = c.args.store.now.sheet in
     let root = case_at c.args.root.now in
     let shown = rw (c.in-Known.is, c.requires.memo.sheet) at c.in_ok-shown.ensures.asked in
-    subst (λ (x : MemoState). ArePlacesOf s x root c.put.new.places) (sym c.in_ok-shown.ensures.same) (c.put.ensures s (g.M.Memo.state c.args.question.now.memo) root (shown_stands c.requires.memo shown) c.requires.places)
+    subst (λ (x : MemoState). ArePlacesOf s x root c.know.new.places) (sym c.in_ok-shown.ensures.same) (c.know.ensures s (g.M.Memo.state c.args.question.now.memo) root (shown_stands c.requires.memo shown) c.requires.places)
 
 -- ---- a value that is found
 
-pub returns-in-Valued-clause-ahead : goal.returns-in-Valued-clause-ahead
-returns-in-Valued-clause-ahead g c =
+pub returns-in-Some-clause-ahead : goal.returns-in-Some-clause-ahead
+returns-in-Some-clause-ahead g c =
     let s = c.args.store.now.sheet in
     let m = g.M.Memo.state c.args.question.now.memo in
     let place = place_at c.args.store.now.sheet (g.M.Memo.state c.args.question.now.memo) (case_at c.args.root.now) c.args.places.now c.args.at c.in-Some.place.now c.requires.places c.in-Some.ensures.lookup.3.0 c.in-Some.ensures.lookup.1 in
     let opened = c.in-Some-opened.ensures s m (case_at c.args.root.now) place in
     let u = rw (c.in-Unvalued.is, c.requires.memo.sheet) at c.in_ok-shown.ensures.asked in
-    let tried = rw (c.in-Valued.is, c.in_ok-shown.ensures.same) at c.in_ok-value-in-Unvalued.ensures.tried in
-    ahead_valued (below_unvalued opened.0 u.unvalued (c.in_ok-give_all-in-Unvalued.ensures.key ∙ c.new-frame.ensures.key)) tried
+    let tried = rw (c.in-Some-evaluate_once.is, c.in_ok-shown.ensures.same) at c.in_ok-value-in-Unvalued.ensures.tried in
+    ahead_valued (below_unvalued opened.0 u.unvalued (c.in_ok-give_all-in-Unvalued.ensures.key ∙ c.begin_again.ensures.key)) tried
 
-pub returns-in-Valued-clause-places : goal.returns-in-Valued-clause-places
-returns-in-Valued-clause-places g c =
+pub returns-in-Some-clause-places : goal.returns-in-Some-clause-places
+returns-in-Some-clause-places g c =
     let s = c.args.store.now.sheet in
     let root = case_at c.args.root.now in
     let u = rw (c.in-Unvalued.is, c.requires.memo.sheet) at c.in_ok-shown.ensures.asked in
-    let tried = rw (c.in-Valued.is, c.in_ok-shown.ensures.same) at c.in_ok-value-in-Unvalued.ensures.tried in
-    let stands = valued_stands u.unvalued (c.in_ok-give_all-in-Unvalued.ensures.key ∙ c.new-frame.ensures.key) tried in
-    c.put-in-Valued.ensures s (g.M.Memo.state c.evaluate_once.new.question.memo) root stands (places_more s tried.remembers tried.spends.gives_up.room tried.spends.same.covers root c.args.places.now c.requires.places)
+    let tried = rw (c.in-Some-evaluate_once.is, c.in_ok-shown.ensures.same) at c.in_ok-value-in-Unvalued.ensures.tried in
+    let stands = valued_stands u.unvalued (c.in_ok-give_all-in-Unvalued.ensures.key ∙ c.begin_again.ensures.key) tried in
+    c.know-in-Some.ensures s (g.M.Memo.state c.evaluate_once.new.question.memo) root stands (places_more s tried.remembers tried.spends.gives_up.room tried.spends.same.covers root c.args.places.now c.requires.places)
 
 -- ---- a formula that lacks one
 
-pub returns-in-Waits-clause-ahead : goal.returns-in-Waits-clause-ahead
-returns-in-Waits-clause-ahead g c =
+pub returns-in-None-clause-ahead : goal.returns-in-None-clause-ahead
+returns-in-None-clause-ahead g c =
     let s = c.args.store.now.sheet in
     let m = g.M.Memo.state c.args.question.now.memo in
     let root = case_at c.args.root.now in
     let place = place_at c.args.store.now.sheet (g.M.Memo.state c.args.question.now.memo) (case_at c.args.root.now) c.args.places.now c.args.at c.in-Some.place.now c.requires.places c.in-Some.ensures.lookup.3.0 c.in-Some.ensures.lookup.1 in
     let opened = c.in-Some-opened.ensures s m root place in
-    let n = c.new-frame.ensures in
+    let n = c.begin_again.ensures in
     let u = rw (c.in-Unvalued.is, c.requires.memo.sheet) at c.in_ok-shown.ensures.asked in
-    let new : IsNew s c.new-frame.result c.in-Unvalued.next.key = record { key = n.key; formula = rw n.formula u.stands; cells = n.cells; what_ifs = n.what_ifs; waiting = n.waiting } in
+    let new : IsNew s c.begin_again.new.self c.in-Unvalued.next.key = record { key = n.key; formula = rw n.formula u.stands; cells = n.cells; what_ifs = n.what_ifs; waiting = n.waiting } in
     let planned = c.in_ok-give_all-in-Unvalued.ensures.planned s m root c.requires.places (planned_new new u.unvalued) in
-    let tried = rw (c.in-Waits.is, c.in_ok-shown.ensures.same) at c.in_ok-value-in-Unvalued.ensures.tried in
+    let tried = rw (c.in-None.is, c.in_ok-shown.ensures.same) at c.in_ok-value-in-Unvalued.ensures.tried in
     hands_waiting c.requires.memo planned.begins (below_unvalued opened.0 u.unvalued (c.in_ok-give_all-in-Unvalued.ensures.key ∙ n.key)) tried
 
-pub returns-in-Waits-clause-places : goal.returns-in-Waits-clause-places
-returns-in-Waits-clause-places g c =
-    let tried = rw (c.in-Waits.is, c.in_ok-shown.ensures.same) at c.in_ok-value-in-Unvalued.ensures.tried in
+pub returns-in-None-clause-places : goal.returns-in-None-clause-places
+returns-in-None-clause-places g c =
+    let tried = rw (c.in-None.is, c.in_ok-shown.ensures.same) at c.in_ok-value-in-Unvalued.ensures.tried in
     subst (λ (x : MemoState). ArePlacesOf c.args.store.now.sheet x (case_at c.args.root.now) c.args.places.now) (sym tried.same) c.requires.places
 
 -- ---- where memory runs out
@@ -119,8 +119,8 @@ returns-in_err-value-in-Unvalued-clause-stops g c =
     let root = case_at c.args.root.now in
     let place = place_at s m root c.args.places.now c.args.at c.in-Some.place.now c.requires.places c.in-Some.ensures.lookup.3.0 c.in-Some.ensures.lookup.1 in
     let opened = c.in-Some-opened.ensures s m root place in
-    let n = c.new-frame.ensures in
+    let n = c.begin_again.ensures in
     let u = rw (c.in-Unvalued.is, c.requires.memo.sheet) at c.in_ok-shown.ensures.asked in
-    let new : IsNew s c.new-frame.result c.in-Unvalued.next.key = record { key = n.key; formula = rw n.formula u.stands; cells = n.cells; what_ifs = n.what_ifs; waiting = n.waiting } in
+    let new : IsNew s c.begin_again.new.self c.in-Unvalued.next.key = record { key = n.key; formula = rw n.formula u.stands; cells = n.cells; what_ifs = n.what_ifs; waiting = n.waiting } in
     let planned = c.in_ok-give_all-in-Unvalued.ensures.planned s m root c.requires.places (planned_new new u.unvalued) in
     on_err c.from_residual-in_err-value-in-Unvalued.result (stops_frame c.requires.memo c.in_ok-shown.ensures.same (below_unvalued opened.0 u.unvalued (c.in_ok-give_all-in-Unvalued.ensures.key ∙ n.key)) planned.begins c.in_err-value-in-Unvalued.ensures.turn)
