@@ -87,12 +87,12 @@ impl<'a> Frame<'a> {
         mem::replace(&mut self.key, none)
     }
 
-    /// Whether it waits for a what-if of a cell.
-    pub fn waits_for_what_if(&self, cell: Address) -> bool {
+    /// Whether it waits for a what-if of a key's cell.
+    pub fn waits_for_what_if(&self, key: &Key) -> bool {
         match &self.waiting {
             Waiting::Nothing => false,
             Waiting::Cells(_, _) => false,
-            Waiting::WhatIf(at, _) => *at == cell,
+            Waiting::WhatIf(at, _) => *at == key.cell,
         }
     }
 

@@ -95,13 +95,12 @@ impl<M: Memo + Drop> Question<M> {
         let alloc = self.pool.allocator();
         let mut stack = Vec::new(alloc);
         let root = Unvalued { key, formula };
-        let mut frame = self.begin(store, &mut stack, root, true)?;
+        let mut frame = self.begin(store, &mut stack, root)?;
         'frames: loop {
             match advance(alloc, store, &mut frame, &mut self.memo, &mut self.meter)? {
                 Advance::Unvalued(next) => {
-                    let asks = frame.waits_for_what_if(next.key.cell);
                     stack.push(frame)?;
-                    frame = self.begin(store, &mut stack, next, asks)?;
+                    frame = self.begin(store, &mut stack, next)?;
                 }
                 Advance::Done(value) => match stack.pop() {
                     None => {
@@ -131,7 +130,6 @@ impl<M: Memo + Drop> Question<M> {
         store: &'a Store,
         stack: &mut Vec<Frame<'a>>,
         next: Unvalued<'a>,
-        asks: bool,
     ) -> Result<Frame<'a>, AllocError>
         requires memo { IsMemoOf store.now.sheet (M.state self.old.memo) }
         requires key { IsUnvaluedKey store.now.sheet (M.state self.old.memo) next.key }
@@ -143,6 +141,7 @@ impl<M: Memo + Drop> Question<M> {
             (M.state self.old.memo) (M.state self.new.memo) self.old.meter self.new.meter
             next.entry.key) }
     {
+        let asks = may_have_a_plan(stack, &next.key);
         let mut frame = Frame::new(next.key, next.formula, self.pool.take());
         if !asks {
             return Ok(frame);
@@ -157,5 +156,14 @@ impl<M: Memo + Drop> Question<M> {
         };
         stack.push(frame)?;
         Ok(first)
+    }
+}
+
+/// Whether a key may be one of many of its cell under other replacements: of the question itself, or of a what-if for which the last
+/// frame waits.
+fn may_have_a_plan(stack: &[Frame], key: &Key) -> bool {
+    match stack.last() {
+        None => true,
+        Some(below) => below.waits_for_what_if(key),
     }
 }
