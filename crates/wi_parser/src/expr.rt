@@ -86,7 +86,7 @@ pub enum Expr {
 impl Expr {
     /// The same tree once more.
     #[cycle(copying)]
-    pub fn copy(&self, alloc: Global) -> Result<Expr, AllocError>
+    pub(crate) fn copy(&self, alloc: Global) -> Result<Expr, AllocError>
         ensures { IfOk result (λ e. tree_of e ≡ tree_of self.now) }
     {
         match self {

@@ -29,7 +29,7 @@ pub enum ErrorKind {
 
 impl ErrorKind {
     /// The name, as it is shown.
-    pub fn name(self) -> &'static str
+    pub(crate) fn name(self) -> &'static str
         ensures { result.now ≡ error_name self }
     {
         match self {
