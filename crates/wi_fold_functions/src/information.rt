@@ -14,7 +14,7 @@ use wi_value_functions::{counted, is_empty_value, is_number_value, whole_value};
 use wi_values::{Address, ErrorKind, Value};
 
 /// COUNT: how many items are Numbers. No error passes through. `Err` has a cell whose value isn't known.
-pub fn count_value<L: Lookup>(arguments: &[Argument], lookup: &L) -> Result<Value, Address>
+pub(crate) fn count_value<L: Lookup>(arguments: &[Argument], lookup: &L) -> Result<Value, Address>
     ensures done { IfOk result (IsOfArguments (L.known_cell lookup.now) count_value arguments.now) }
     ensures missing { IfErr result (IsMissing (L.known_cell lookup.now) arguments.now) }
 {
@@ -22,7 +22,7 @@ pub fn count_value<L: Lookup>(arguments: &[Argument], lookup: &L) -> Result<Valu
 }
 
 /// COUNTA: how many items aren't Empty; errors and empty texts count. `Err` has a cell whose value isn't known.
-pub fn count_a_value<L: Lookup>(arguments: &[Argument], lookup: &L) -> Result<Value, Address>
+pub(crate) fn count_a_value<L: Lookup>(arguments: &[Argument], lookup: &L) -> Result<Value, Address>
     ensures done { IfOk result (IsOfArguments (L.known_cell lookup.now) count_a_value arguments.now) }
     ensures missing { IfErr result (IsMissing (L.known_cell lookup.now) arguments.now) }
 {

@@ -8,8 +8,6 @@ mod item;
 mod logical;
 mod mathematical;
 mod statistical;
+mod value;
 
-pub use information::{count_a_value, count_value};
-pub use logical::{and_value, or_value};
-pub use mathematical::{product_value, sum_value};
-pub use statistical::{average_value, max_value, min_value};
+pub use value::value_of_fold;

@@ -13,7 +13,7 @@ use wi_values::{Address, ErrorKind, Value};
 
 /// AND: whether all truth values that count are TRUE, or the first error met; `BadValue` where none counts. `Err` has a cell
 /// whose value isn't known.
-pub fn and_value<L: Lookup>(arguments: &[Argument], lookup: &L) -> Result<Value, Address>
+pub(crate) fn and_value<L: Lookup>(arguments: &[Argument], lookup: &L) -> Result<Value, Address>
     ensures done { IfOk result (IsOfArguments (L.known_cell lookup.now) and_value arguments.now) }
     ensures missing { IfErr result (IsMissing (L.known_cell lookup.now) arguments.now) }
 {
@@ -22,7 +22,7 @@ pub fn and_value<L: Lookup>(arguments: &[Argument], lookup: &L) -> Result<Value,
 
 /// OR: whether one of the truth values that count is TRUE, or the first error met; `BadValue` where none counts. `Err` has a cell
 /// whose value isn't known.
-pub fn or_value<L: Lookup>(arguments: &[Argument], lookup: &L) -> Result<Value, Address>
+pub(crate) fn or_value<L: Lookup>(arguments: &[Argument], lookup: &L) -> Result<Value, Address>
     ensures done { IfOk result (IsOfArguments (L.known_cell lookup.now) or_value arguments.now) }
     ensures missing { IfErr result (IsMissing (L.known_cell lookup.now) arguments.now) }
 {

@@ -16,7 +16,7 @@ use wi_values::{Address, ErrorKind, Value};
 
 /// SUM: the sum of the numbers that count, from the left, or the first error met; `BadNumber` where a sum doesn't fit. `Err`
 /// has a cell whose value isn't known.
-pub fn sum_value<L: Lookup>(arguments: &[Argument], lookup: &L) -> Result<Value, Address>
+pub(crate) fn sum_value<L: Lookup>(arguments: &[Argument], lookup: &L) -> Result<Value, Address>
     ensures done { IfOk result (IsOfArguments (L.known_cell lookup.now) sum_value arguments.now) }
     ensures missing { IfErr result (IsMissing (L.known_cell lookup.now) arguments.now) }
 {
@@ -25,7 +25,7 @@ pub fn sum_value<L: Lookup>(arguments: &[Argument], lookup: &L) -> Result<Value,
 
 /// PRODUCT: the product of the numbers that count, from the left, or the first error met; `BadNumber` where a product doesn't fit.
 /// `Err` has a cell whose value isn't known.
-pub fn product_value<L: Lookup>(arguments: &[Argument], lookup: &L) -> Result<Value, Address>
+pub(crate) fn product_value<L: Lookup>(arguments: &[Argument], lookup: &L) -> Result<Value, Address>
     ensures done { IfOk result (IsOfArguments (L.known_cell lookup.now) product_value arguments.now) }
     ensures missing { IfErr result (IsMissing (L.known_cell lookup.now) arguments.now) }
 {

@@ -16,7 +16,7 @@ use wi_value_functions::{add, counted, divide, number_value, whole_number, zero}
 use wi_values::{Address, ErrorKind, Value};
 
 /// MIN: the smallest number, and of none 0, or the first error met. `Err` has a cell whose value isn't known.
-pub fn min_value<L: Lookup>(arguments: &[Argument], lookup: &L) -> Result<Value, Address>
+pub(crate) fn min_value<L: Lookup>(arguments: &[Argument], lookup: &L) -> Result<Value, Address>
     ensures done { IfOk result (IsOfArguments (L.known_cell lookup.now) min_value arguments.now) }
     ensures missing { IfErr result (IsMissing (L.known_cell lookup.now) arguments.now) }
 {
@@ -24,7 +24,7 @@ pub fn min_value<L: Lookup>(arguments: &[Argument], lookup: &L) -> Result<Value,
 }
 
 /// MAX: the greatest number, and of none 0, or the first error met. `Err` has a cell whose value isn't known.
-pub fn max_value<L: Lookup>(arguments: &[Argument], lookup: &L) -> Result<Value, Address>
+pub(crate) fn max_value<L: Lookup>(arguments: &[Argument], lookup: &L) -> Result<Value, Address>
     ensures done { IfOk result (IsOfArguments (L.known_cell lookup.now) max_value arguments.now) }
     ensures missing { IfErr result (IsMissing (L.known_cell lookup.now) arguments.now) }
 {
@@ -33,7 +33,7 @@ pub fn max_value<L: Lookup>(arguments: &[Argument], lookup: &L) -> Result<Value,
 
 /// AVERAGE: the sum of the numbers divided by their count, or the first error met; `DivisionByZero` where there is none,
 /// `BadNumber` where a step doesn't fit. `Err` has a cell whose value isn't known.
-pub fn average_value<L: Lookup>(arguments: &[Argument], lookup: &L) -> Result<Value, Address>
+pub(crate) fn average_value<L: Lookup>(arguments: &[Argument], lookup: &L) -> Result<Value, Address>
     ensures done { IfOk result (IsOfArguments (L.known_cell lookup.now) average_value arguments.now) }
     ensures missing { IfErr result (IsMissing (L.known_cell lookup.now) arguments.now) }
 {

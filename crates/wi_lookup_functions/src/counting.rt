@@ -21,7 +21,7 @@ use wi_values::{Address, Rect, Value};
 
 /// COUNTIF: how many cells of the first argument meet the criterion that the second is. The work is that of a walk through the
 /// filled cells, at each of which the criterion is tried.
-pub fn count_if_value<L: Lookup>(
+pub(crate) fn count_if_value<L: Lookup>(
     alloc: Global,
     arguments: &[Argument],
     lookup: &L,

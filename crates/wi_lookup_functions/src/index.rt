@@ -18,7 +18,7 @@ use wi_values::{Address, ErrorKind, Rect, Value};
 
 /// The value of a cell by its row and its column in a rectangle, or by its place along a row or a column. One cell is looked
 /// up, and those that the other arguments refer to.
-pub fn index_value<L: Lookup>(
+pub(crate) fn index_value<L: Lookup>(
     alloc: Global,
     arguments: &[Argument],
     lookup: &L,

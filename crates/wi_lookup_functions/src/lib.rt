@@ -18,10 +18,6 @@ mod rule;
 mod search;
 mod summing;
 mod tables;
+mod value;
 
-pub use counting::count_if_value;
-pub use index::index_value;
-pub use match_place::match_value;
-pub use products::sum_product_value;
-pub use summing::sum_if_value;
-pub use tables::{h_lookup_value, v_lookup_value};
+pub use value::value_of_lookup;

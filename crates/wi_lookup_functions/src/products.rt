@@ -24,7 +24,7 @@ use wi_values::{Address, ErrorKind, Rect, Value};
 /// a number counts 0. The first error met, by place and then from the left, is the result; `BadValue` where an argument isn't a
 /// reference or the rectangles aren't of one size. The work is that of `next_filled` for each rectangle at each place where a cell
 /// of one of them is filled.
-pub fn sum_product_value<L: Lookup>(
+pub(crate) fn sum_product_value<L: Lookup>(
     alloc: Global,
     arguments: &[Argument],
     lookup: &L,

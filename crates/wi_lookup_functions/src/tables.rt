@@ -20,7 +20,7 @@ use wi_values::{Address, ErrorKind, Value};
 
 /// The value in a column of a rectangle, in the row whose first cell is found. The filled cells of the first column are looked
 /// up one after another: where they aren't told to be in order up to the first that is equal, else all; and then one cell.
-pub fn v_lookup_value<L: Lookup>(
+pub(crate) fn v_lookup_value<L: Lookup>(
     alloc: Global,
     arguments: &[Argument],
     lookup: &L,
@@ -33,7 +33,7 @@ pub fn v_lookup_value<L: Lookup>(
 
 /// The value in a row of a rectangle, in the column whose first cell is found. The work is that of `v_lookup_value`, along the
 /// first row.
-pub fn h_lookup_value<L: Lookup>(
+pub(crate) fn h_lookup_value<L: Lookup>(
     alloc: Global,
     arguments: &[Argument],
     lookup: &L,

@@ -15,7 +15,8 @@ use Rattle.wi_value_functions.specs.declared.function.Function.{Function}
 use Rattle.wi_value_functions.specs.declared.function.Function.TheVariants.{Lazy, Values, References}
 use Rattle.wi_value_functions.specs.declared.function.LazyFunction.TheVariants.{If, IfError, IfNa, Choose}
 use Rattle.wi_value_functions.specs.declared.function.FoldFunction.TheVariants.{And, Average, Count, CountA, Max, Min, Or, Product, Sum}
-use Rattle.wi_value_functions.specs.declared.function.ReferenceFunction.TheVariants.{CountIf, Fold, HLookup, Index, Match, SumIf, SumProduct, VLookup}
+use Rattle.wi_value_functions.specs.declared.function.LookupFunction.TheVariants.{CountIf, HLookup, Index, Match, SumIf, SumProduct, VLookup}
+use Rattle.wi_value_functions.specs.declared.function.ReferenceFunction.TheVariants.{Fold, Lookup}
 use Rattle.wi_value_functions.specs.declared.function.Test.{Test}
 use Rattle.wi_value_functions.specs.declared.function.Test.TheVariants as test
 use Rattle.wi_value_functions.specs.declared.function.TextFunction.TheVariants.{Concatenate, Exact, Find, Left, Len, Mid, Rept, Right}
@@ -64,18 +65,18 @@ applied (References (Fold And)) args = and_value args
 applied (References (Fold Average)) args = average_value args
 applied (References (Fold Count)) args = count_value args
 applied (References (Fold CountA)) args = count_a_value args
-applied (References CountIf) args = count_if_value args
-applied (References HLookup) args = h_lookup_value args
-applied (References Index) args = index_value args
-applied (References Match) args = match_value args
+applied (References (Lookup CountIf)) args = count_if_value args
+applied (References (Lookup HLookup)) args = h_lookup_value args
+applied (References (Lookup Index)) args = index_value args
+applied (References (Lookup Match)) args = match_value args
 applied (References (Fold Max)) args = max_value args
 applied (References (Fold Min)) args = min_value args
 applied (References (Fold Or)) args = or_value args
 applied (References (Fold Product)) args = product_value args
 applied (References (Fold Sum)) args = sum_value args
-applied (References SumIf) args = sum_if_value args
-applied (References SumProduct) args = sum_product_value args
-applied (References VLookup) args = v_lookup_value args
+applied (References (Lookup SumIf)) args = sum_if_value args
+applied (References (Lookup SumProduct)) args = sum_product_value args
+applied (References (Lookup VLookup)) args = v_lookup_value args
 
 -- arguments with these values, none of which is a reference
 abbrev pub arguments_of : List AnyValue → List Argument

@@ -72,14 +72,8 @@ pub enum TextFunction {
 /// A function that takes references.
 #[derive(Clone, Copy)]
 pub enum ReferenceFunction {
-    CountIf,
     Fold(FoldFunction),
-    HLookup,
-    Index,
-    Match,
-    SumIf,
-    SumProduct,
-    VLookup,
+    Lookup(LookupFunction),
 }
 
 /// A function that folds the items of its parameters, the cells of references among them.
@@ -94,4 +88,17 @@ pub enum FoldFunction {
     Or,
     Product,
     Sum,
+}
+
+/// A function that looks cells up: one that is sought or stands at a place, those that meet a criterion, or those of several
+/// references place by place.
+#[derive(Clone, Copy)]
+pub enum LookupFunction {
+    CountIf,
+    HLookup,
+    Index,
+    Match,
+    SumIf,
+    SumProduct,
+    VLookup,
 }

@@ -22,7 +22,8 @@ pub use count::{counted, whole_number, whole_value};
 pub use ending::{Ending, Stop, settled};
 pub use first_error::{both, no_error};
 pub use function::{
-    FoldFunction, Function, LazyFunction, ReferenceFunction, Test, TextFunction, ValueFunction,
+    FoldFunction, Function, LazyFunction, LookupFunction, ReferenceFunction, Test, TextFunction,
+    ValueFunction,
 };
 pub use information::{is_empty_value, is_number_value};
 pub use mathematical::power_value;

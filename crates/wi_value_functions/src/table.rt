@@ -12,9 +12,8 @@ ghost use Rattle.wi_value_functions.specs.Inner.Rows.{function_of};
 use crate::function::FoldFunction::{And, Average, Count, CountA, Max, Min, Or, Product, Sum};
 use crate::function::Function::{self, Lazy, References, Values};
 use crate::function::LazyFunction::{Choose, If, IfError, IfNa};
-use crate::function::ReferenceFunction::{
-    CountIf, Fold, HLookup, Index, Match, SumIf, SumProduct, VLookup,
-};
+use crate::function::LookupFunction::{CountIf, HLookup, Index, Match, SumIf, SumProduct, VLookup};
+use crate::function::ReferenceFunction::{Fold, Lookup};
 use crate::function::Test;
 use crate::function::TextFunction::{Concatenate, Exact, Find, Left, Len, Mid, Rept, Right};
 use crate::function::ValueFunction::{
@@ -36,15 +35,15 @@ static ROWS: [Row; 51] = [
     ("CONCATENATE", 1, None, Values(Text(Concatenate))),
     ("COUNT", 1, None, References(Fold(Count))),
     ("COUNTA", 1, None, References(Fold(CountA))),
-    ("COUNTIF", 2, Some(2), References(CountIf)),
+    ("COUNTIF", 2, Some(2), References(Lookup(CountIf))),
     ("EXACT", 2, Some(2), Values(Text(Exact))),
     ("FALSE", 0, Some(0), Values(False)),
     ("FIND", 2, Some(3), Values(Text(Find))),
-    ("HLOOKUP", 3, Some(4), References(HLookup)),
+    ("HLOOKUP", 3, Some(4), References(Lookup(HLookup))),
     ("IF", 1, Some(3), Lazy(If)),
     ("IFERROR", 2, Some(2), Lazy(IfError)),
     ("IFNA", 2, Some(2), Lazy(IfNa)),
-    ("INDEX", 2, Some(3), References(Index)),
+    ("INDEX", 2, Some(3), References(Lookup(Index))),
     ("INT", 1, Some(1), Values(Int)),
     ("ISBLANK", 1, Some(1), Values(Is(Test::Blank))),
     ("ISERR", 1, Some(1), Values(Is(Test::Err))),
@@ -56,7 +55,7 @@ static ROWS: [Row; 51] = [
     ("ISTEXT", 1, Some(1), Values(Is(Test::Text))),
     ("LEFT", 1, Some(2), Values(Text(Left))),
     ("LEN", 1, Some(1), Values(Text(Len))),
-    ("MATCH", 2, Some(3), References(Match)),
+    ("MATCH", 2, Some(3), References(Lookup(Match))),
     ("MAX", 1, None, References(Fold(Max))),
     ("MID", 3, Some(3), Values(Text(Mid))),
     ("MIN", 1, None, References(Fold(Min))),
@@ -74,12 +73,12 @@ static ROWS: [Row; 51] = [
     ("ROUNDUP", 1, Some(2), Values(Round(Mode::Away))),
     ("SIGN", 1, Some(1), Values(Sign)),
     ("SUM", 1, None, References(Fold(Sum))),
-    ("SUMIF", 2, Some(3), References(SumIf)),
-    ("SUMPRODUCT", 1, None, References(SumProduct)),
+    ("SUMIF", 2, Some(3), References(Lookup(SumIf))),
+    ("SUMPRODUCT", 1, None, References(Lookup(SumProduct))),
     ("TRUE", 0, Some(0), Values(True)),
     ("TRUNC", 1, Some(2), Values(Round(Mode::Toward))),
     ("VALUE", 1, Some(1), Values(Value)),
-    ("VLOOKUP", 3, Some(4), References(VLookup)),
+    ("VLOOKUP", 3, Some(4), References(Lookup(VLookup))),
 ];
 
 /// The function that a call with that name, in capitals, and so many parameters is a call of: `UnknownName` where none has

@@ -1,4 +1,4 @@
-use Rattle.wi_functions.proofs.references.folded.Goals as goal
+use Rattle.wi_fold_functions.proofs.value.value_of_fold.Goals as goal
 
 pub returns-in-And-clause-done : goal.returns-in-And-clause-done
 returns-in-And-clause-done g c = rw c.in-And.is c.and_value.ensures.done
