@@ -6,7 +6,7 @@ ghost use Rattle.std.specs.declared.cmp.Ordering.{Ordering};
 ghost use Rattle.wi_standard_functions.specs.Arithmetic.{addition, subtraction, multiplication};
 ghost use Rattle.wi_standard_functions.specs.Arithmetic.{division, calculated, limited_text};
 ghost use Rattle.wi_standard_functions.specs.Comparison.{beside, order, compared};
-ghost use Rattle.wi_standard_functions.specs.Convert.{to_number};
+ghost use Rattle.wi_standard_functions.specs.Convert.{hundred_number, to_number};
 ghost use Rattle.wi_value_functions.specs.Inner.Outcome.{number_value};
 ghost use Rattle.wi_functions.specs.Operators.{operate, with_sign};
 ghost use Rattle.wi_functions.specs.Inner.Named.{hundredth};
@@ -16,8 +16,8 @@ use wi_arguments::compare;
 use wi_fraction::Fraction;
 use wi_parser::{Operator, Sign};
 use wi_value_functions::{
-    add, both, divide, hundred, limited_text, multiply, no_error, number_value, power_value,
-    subtract, to_number,
+    add, both, divide, limited_text, multiply, no_error, number_value, power_value, subtract,
+    to_number,
 };
 use wi_values::{ErrorKind, Value};
 
@@ -62,6 +62,16 @@ pub(crate) fn hundredth(value: &Value) -> Value
     ensures { result ≡ hundredth value.now }
 {
     number_value(quotient(value, &Value::Number(hundred())))
+}
+
+/// The number 100.
+fn hundred() -> Fraction
+    ensures { result ≡ hundred_number }
+{
+    match Fraction::new(100, 1) {
+        Ok(x) => x,
+        Err(_) => unreachable!(),
+    }
 }
 
 fn sum(left: &Value, right: &Value) -> Result<Fraction, ErrorKind>

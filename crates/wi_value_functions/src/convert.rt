@@ -1,7 +1,7 @@
 //! Values taken for numbers and truth values (OpenFormula, "Implicit Conversion Operators").
 
 ghost use Rattle.std.specs.Prelude.{◌≡◌};
-ghost use Rattle.wi_standard_functions.specs.Convert.{to_number, to_whole, to_logical, zero_number, one_number, hundred_number};
+ghost use Rattle.wi_standard_functions.specs.Convert.{to_number, to_whole, to_logical, zero_number, one_number};
 ghost use Rattle.wi_fraction.specs.Rounding.{rounded};
 ghost use Rattle.wi_fraction.specs.declared.rounding.Mode.TheVariants.{Toward};
 
@@ -23,16 +23,6 @@ pub fn one() -> Fraction
     ensures { result ≡ one_number }
 {
     match Fraction::new(1, 1) {
-        Ok(x) => x,
-        Err(_) => unreachable!(),
-    }
-}
-
-/// The number 100.
-pub fn hundred() -> Fraction
-    ensures { result ≡ hundred_number }
-{
-    match Fraction::new(100, 1) {
         Ok(x) => x,
         Err(_) => unreachable!(),
     }

@@ -17,7 +17,7 @@ mod text;
 mod value;
 
 pub use arithmetic::{add, divide, multiply, number_value, subtract};
-pub use convert::{hundred, one, to_logical, to_number, to_whole, zero};
+pub use convert::{one, to_logical, to_number, to_whole, zero};
 pub use count::{counted, whole_number, whole_value};
 pub use ending::{Ending, Stop, settled};
 pub use first_error::{both, no_error};

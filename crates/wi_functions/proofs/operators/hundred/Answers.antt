@@ -1,5 +1,5 @@
 use Rattle.wi_value_functions.proofs.Constants.{number_of-hundred}
-use Rattle.wi_value_functions.proofs.convert.hundred.Goals as goal
+use Rattle.wi_functions.proofs.operators.hundred.Goals as goal
 
 pub unreachable-requires : goal.unreachable-requires
 unreachable-requires c = let made = rw number_of-hundred at c.new.ensures in cc
