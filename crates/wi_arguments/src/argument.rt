@@ -2,7 +2,7 @@
 
 ghost use Rattle.std.specs.Prelude.{◌≡◌, ℕ, IfOk, IfErr, [], ◌∷◌};
 ghost use Rattle.wi_values.specs.declared.value.Value.{Value as Values};
-ghost use Rattle.wi_arguments.specs.Arguments.{area_at, area_referred, argument_in, value_lent, KnownAgrees, IsMissing};
+ghost use Rattle.wi_arguments.specs.Arguments.{area_referred, argument_in, value_lent, KnownAgrees, IsMissing};
 
 use crate::lookup::{LookedUp, Lookup};
 use wi_values::{Address, ErrorKind, Rect, Value};
@@ -47,15 +47,5 @@ impl Argument {
                 }
             }
         }
-    }
-}
-
-/// The rectangle that the argument at a place refers to, counted from 0.
-pub fn area_at(arguments: &[Argument], place: usize) -> Result<Rect, ErrorKind>
-    ensures { result ≡ area_at arguments.now place }
-{
-    match arguments.get(place) {
-        Some(argument) => argument.area(),
-        None => Err(ErrorKind::BadValue),
     }
 }

@@ -12,8 +12,8 @@ ghost use Rattle.wi_functions.specs.Operators.{operate, with_sign};
 ghost use Rattle.wi_functions.specs.Inner.Named.{hundredth};
 
 use std::alloc::{AllocError, Global};
-use wi_arguments::compare;
 use wi_fraction::Fraction;
+use wi_lookup_functions::compare;
 use wi_parser::{Operator, Sign};
 use wi_value_functions::{
     add, both, divide, limited_text, multiply, no_error, number_value, power_value, subtract,

@@ -13,7 +13,7 @@ use Rattle.wi_values.specs.declared.value.ErrorKind.TheVariants.{BadReference}
 use Rattle.wi_arguments.proofs.RowMajor.{block, run}
 use Rattle.wi_standard_functions.specs.Arguments.{region_of}
 use Rattle.wi_standard_functions.specs.Lookup.{cell_in}
-use Rattle.wi_arguments.specs.Extent.{height, width}
+use Rattle.wi_lookup_functions.specs.Inner.Lines.{height, width}
 
 in_run : (row a n k : ℕ) → k < n → slice_get (run row a n) k ≡ Some (place row (a + k))
 in_run row a zero k h = absurd (omega (arith, h))

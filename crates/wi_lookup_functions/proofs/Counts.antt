@@ -17,8 +17,8 @@ use Rattle.wi_arguments.specs.Arguments.{arguments_in, KnownAgrees, region_in}
 use Rattle.wi_arguments.specs.Walk.{after_cells}
 use Rattle.wi_value_functions.specs.Inner.Counts.{counted, IsCut}
 use Rattle.wi_value_functions.proofs.Counts.{cut_counted, cut_value}
-use Rattle.wi_arguments.specs.declared.criterion.Criterion.{Criterion}
-use Rattle.wi_arguments.specs.Inner.Meeting.{criterion_held, is_met}
+use Rattle.wi_lookup_functions.specs.declared.criterion.Criterion.{Criterion}
+use Rattle.wi_lookup_functions.specs.Inner.Meeting.{criterion_held, is_met}
 use Rattle.wi_lookup_functions.specs.declared.counting.Counting.{Counting}
 use Rattle.wi_value_functions.specs.declared.ending.Stop.{Stop}
 use Rattle.wi_value_functions.specs.declared.ending.Ending.{Ending}

@@ -21,7 +21,7 @@ use Rattle.wi_standard_functions.specs.Steps.{◌>>=◌, and_then}
 use Rattle.wi_value_functions.specs.declared.ending.Ending.{Ending}
 use Rattle.wi_value_functions.specs.declared.ending.Ending.TheVariants.{Error, Stopped}
 use Rattle.wi_lookup_functions.specs.Inner.Finding.{WhateverHeld, Agrees, Finds, Places, IsPlacedIn}
-use Rattle.wi_arguments.specs.Extent.{height, width}
+use Rattle.wi_lookup_functions.specs.Inner.Lines.{height, width}
 use Rattle.wi_lookup_functions.proofs.Asked.{itself, fault, sought_or_zero}
 use Rattle.wi_lookup_functions.proofs.FirstLines.{within_from, narrow, row_of_place, column_of_place}
 use Rattle.wi_lookup_functions.proofs.CellsByPlace.{cell_at}

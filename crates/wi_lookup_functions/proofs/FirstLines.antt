@@ -12,8 +12,7 @@ use Rattle.wi_standard_functions.specs.Lookup.{cell_in}
 use Rattle.wi_lookup_functions.specs.declared.axis.Axis.{Axis}
 use Rattle.wi_lookup_functions.specs.declared.axis.Axis.TheVariants.{Rows, Columns}
 use Rattle.wi_lookup_functions.specs.Inner.Axis.{line_count, line_width, first_cells}
-use Rattle.wi_arguments.specs.Extent.{height, width}
-use Rattle.wi_lookup_functions.specs.Inner.Lines.{is_line, first_column, first_row}
+use Rattle.wi_lookup_functions.specs.Inner.Lines.{first_column, first_row, height, is_line, width}
 use Rattle.wi_lookup_functions.proofs.CellsByPlace.{cell_at, column_cells, row_cells}
 use Rattle.wi_lookup_functions.proofs.Chains.{first_cells_in}
 use Rattle.wi_lookup_functions.proofs.Lines.{one_row, one_column}

@@ -1,6 +1,8 @@
 pub mod CellsByPlace
 pub mod Searches
 pub mod Lines
+mod Meeting
+mod Signs
 pub mod FirstLines
 pub mod Finding
 pub mod Asked

@@ -4,8 +4,7 @@ use Rattle.std.proofs.lemmas.List.{append-nil}
 use Rattle.std.proofs.lemmas.Bool.{or_cases, eqb-true}
 use Rattle.std.proofs.Math.Nat.{mod-lt}
 use Rattle.wi_values.specs.Address.{Area, cells_of, place, row_of, column_of}
-use Rattle.wi_arguments.specs.Extent.{height, width}
-use Rattle.wi_lookup_functions.specs.Inner.Lines.{steps, is_line}
+use Rattle.wi_lookup_functions.specs.Inner.Lines.{height, is_line, steps, width}
 use Rattle.wi_arguments.proofs.RowMajor.{block, run}
 use Rattle.wi_lookup_functions.proofs.Searches.{IsNumbered}
 

@@ -18,8 +18,8 @@ use Rattle.wi_value_functions.specs.declared.ending.Stop.TheVariants.{Missing, M
 use Rattle.wi_arguments.specs.Arguments.{argument_in, arguments_in, value_lent, KnownAgrees, IsMissing}
 use Rattle.wi_value_functions.specs.Endings.{IfMissing}
 use Rattle.wi_arguments.proofs.Given.{refers_alone, value_absent, value_given}
-use Rattle.wi_arguments.specs.declared.criterion.Criterion.{Criterion}
-use Rattle.wi_arguments.specs.Inner.Meeting.{criterion_held}
+use Rattle.wi_lookup_functions.specs.declared.criterion.Criterion.{Criterion}
+use Rattle.wi_lookup_functions.specs.Inner.Meeting.{criterion_held}
 use Rattle.wi_value_functions.specs.declared.ending.Ending.{Ending}
 use Rattle.wi_value_functions.specs.declared.ending.Ending.TheVariants.{Error, Stopped}
 use Rattle.wi_lookup_functions.specs.Inner.Giving.{criterion_argument, Agrees, IsCriterionOf}

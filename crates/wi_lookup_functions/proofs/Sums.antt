@@ -23,9 +23,9 @@ use Rattle.wi_arguments.specs.Filled.{IsNextFilled}
 use Rattle.wi_arguments.specs.Walk.{after_cells, IsNextAfter}
 use Rattle.wi_arguments.proofs.Given.{known_agrees, known_is, taken_for_known}
 use Rattle.wi_arguments.proofs.Walking as walk
-use Rattle.wi_arguments.specs.declared.criterion.Criterion.{Criterion}
-use Rattle.wi_arguments.specs.Inner.Meeting.{criterion_held, is_met}
-use Rattle.wi_arguments.proofs.Meeting.{empty_meets_none}
+use Rattle.wi_lookup_functions.specs.declared.criterion.Criterion.{Criterion}
+use Rattle.wi_lookup_functions.specs.Inner.Meeting.{criterion_held, is_met}
+use Rattle.wi_lookup_functions.specs.Inner.Laws.{empty_meets_none}
 use Rattle.wi_value_functions.specs.declared.ending.Stop.{Stop}
 use Rattle.wi_value_functions.specs.declared.ending.Ending.{Ending}
 use Rattle.wi_value_functions.specs.declared.ending.Ending.TheVariants.{Error, Stopped}

@@ -1,5 +1,6 @@
 -- Words of the code's own contracts. Nothing here needs belief.
 pub mod Lines
+pub mod Meeting
 pub mod Axis
 pub mod Search
 pub mod Finding

@@ -1,7 +1,7 @@
 //! The arguments of a call, by their places.
 
 ghost use Rattle.std.specs.Prelude.{◌≡◌, Ok};
-ghost use Rattle.wi_arguments.specs.Arguments.{arguments_in, IsMissing};
+ghost use Rattle.wi_arguments.specs.Arguments.{area_at, arguments_in, IsMissing};
 ghost use Rattle.wi_standard_functions.specs.Arguments.{value_at, value_or};
 ghost use Rattle.wi_standard_functions.specs.Convert.{to_logical, to_number, to_whole, zero_number};
 ghost use Rattle.wi_standard_functions.specs.FirstError.{no_error};
@@ -13,7 +13,17 @@ ghost use Rattle.wi_lookup_functions.specs.Inner.Finding.{Agrees};
 use wi_arguments::{Argument, Lookup};
 use wi_fraction::Fraction;
 use wi_value_functions::{Ending, to_logical, to_number, to_whole};
-use wi_values::{Address, Value};
+use wi_values::{Address, ErrorKind, Rect, Value};
+
+/// The rectangle that the argument at a place refers to, counted from 0.
+pub(crate) fn area_at(arguments: &[Argument], place: usize) -> Result<Rect, ErrorKind>
+    ensures { result ≡ area_at arguments.now place }
+{
+    match arguments.get(place) {
+        Some(argument) => argument.area(),
+        None => Err(ErrorKind::BadValue),
+    }
+}
 
 /// The value of an argument, or the default where it isn't given. An error that stands there ends the function.
 fn value_or<'a, L: Lookup>(

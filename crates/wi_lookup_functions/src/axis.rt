@@ -3,8 +3,7 @@
 ghost use Rattle.std.specs.Prelude.{◌≡◌, ◌<◌};
 ghost use Rattle.wi_lookup_functions.specs.Inner.Axis.{cell_along, first_cells, line_count, line_width};
 
-use crate::region::{cell_at, first_column, first_row};
-use wi_arguments::{height, width};
+use crate::region::{cell_at, first_column, first_row, height, width};
 use wi_values::{Address, Rect};
 
 /// What the lines of a rectangle are.

@@ -7,15 +7,17 @@ ghost use Rattle.wi_values.specs.declared.value.Value.{Value as Values};
 ghost use Rattle.wi_standard_functions.specs.Information.{count_if_value};
 ghost use Rattle.wi_value_functions.specs.Endings.{IfMissing};
 ghost use Rattle.wi_arguments.specs.Arguments.{IsMissing, IsOfArguments, KnownAgrees};
-ghost use Rattle.wi_arguments.specs.Inner.Meeting.{is_met};
+ghost use Rattle.wi_lookup_functions.specs.Inner.Meeting.{is_met};
 ghost use Rattle.wi_value_functions.specs.Inner.Counts.{counted, IsCut};
 ghost use Rattle.wi_lookup_functions.specs.Inner.Laws.{empty_not_counted};
 ghost use Rattle.wi_lookup_functions.specs.Inner.Giving.{Gives};
 
+use crate::arguments::area_at;
 use crate::criteria::criterion_at;
+use crate::criterion::Criterion;
 use std::alloc::Global;
 use std::ops::ControlFlow;
-use wi_arguments::{Argument, Criterion, Lookup, TakesCells, area_at, take_cells};
+use wi_arguments::{Argument, Lookup, TakesCells, take_cells};
 use wi_value_functions::{Ending, Stop, counted, settled, whole_value};
 use wi_values::{Address, Rect, Value};
 

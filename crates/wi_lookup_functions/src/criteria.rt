@@ -5,11 +5,12 @@ ghost use Rattle.std.specs.Option.{option_copied};
 ghost use Rattle.wi_values.specs.declared.value.Value.{Value as Values};
 ghost use Rattle.wi_standard_functions.specs.Arguments.{region_or, value_at};
 ghost use Rattle.wi_arguments.specs.Arguments.{argument_in, arguments_in, region_in, IsMissing, IsReferred};
-ghost use Rattle.wi_arguments.specs.Inner.Meeting.{criterion_held};
+ghost use Rattle.wi_lookup_functions.specs.Inner.Meeting.{criterion_held};
 ghost use Rattle.wi_lookup_functions.specs.Inner.Giving.{criterion_argument, Agrees, IsCriterionOf};
 
+use crate::criterion::Criterion;
 use std::alloc::Global;
-use wi_arguments::{Argument, Criterion, Lookup};
+use wi_arguments::{Argument, Lookup};
 use wi_value_functions::{Ending, Stop, no_error};
 use wi_values::{Address, ErrorKind, Rect, Value};
 

@@ -4,7 +4,7 @@ ghost use Rattle.std.specs.Prelude.{◌≡◌, true};
 ghost use Rattle.wi_values.specs.Address.{is_within};
 ghost use Rattle.wi_lookup_functions.specs.Inner.Sums.{same_extent, same_place};
 
-use wi_arguments::{height, width};
+use crate::region::{height, width};
 use wi_values::{Address, Rect};
 
 /// Whether two rectangles have as many rows and columns.

@@ -8,11 +8,11 @@ ghost use Rattle.wi_standard_functions.specs.Lookup.{index_along, index_by_both,
 ghost use Rattle.wi_values.specs.declared.value.Value.{Value as Values};
 ghost use Rattle.wi_lookup_functions.specs.Inner.Finding.{Finds, IsPlacedIn};
 
-use crate::arguments::whole_at;
+use crate::arguments::{area_at, whole_at};
 use crate::outcome::value_found;
-use crate::region::{cell_at, place_among};
+use crate::region::{cell_at, height, place_among, width};
 use std::alloc::Global;
-use wi_arguments::{Argument, Lookup, area_at, height, width};
+use wi_arguments::{Argument, Lookup};
 use wi_value_functions::{Ending, Stop};
 use wi_values::{Address, ErrorKind, Rect, Value};
 

@@ -1,15 +1,19 @@
 //! MATCH, INDEX, VLOOKUP and HLOOKUP of OpenFormula, and the functions that go by criteria or by several rectangles side by
-//! side.
+//! side; and how values compare, and which of them match one that is sought or meet a criterion.
 #![tactic(auto)]
 
 mod arguments;
 mod axis;
 mod cells;
+mod comparison;
 mod counting;
 mod criteria;
+mod criterion;
 mod extent;
 mod index;
+pub mod laws;
 mod match_place;
+mod matching;
 mod outcome;
 mod places;
 mod products;
@@ -20,4 +24,5 @@ mod summing;
 mod tables;
 mod value;
 
+pub use comparison::compare;
 pub use value::value_of_lookup;

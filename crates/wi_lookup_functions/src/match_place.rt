@@ -5,12 +5,12 @@ ghost use Rattle.wi_arguments.specs.Arguments.{IsMissing, IsOfArguments};
 ghost use Rattle.wi_standard_functions.specs.Lookup.{match_value};
 ghost use Rattle.wi_lookup_functions.specs.Inner.Finding.{Places};
 
-use crate::arguments::{number_or, sought_at};
+use crate::arguments::{area_at, number_or, sought_at};
 use crate::outcome::value_placed;
 use crate::region::is_line;
 use crate::rule::Rule;
 use crate::search::place_along;
-use wi_arguments::{Argument, Lookup, area_at};
+use wi_arguments::{Argument, Lookup};
 use wi_value_functions::{Ending, one, zero};
 use wi_values::{Address, ErrorKind, Value};
 

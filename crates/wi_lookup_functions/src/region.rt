@@ -3,11 +3,23 @@
 ghost use Rattle.std.specs.Prelude.{◌≡◌, ◌+◌, ◌<◌, IfOk};
 ghost use Rattle.wi_standard_functions.specs.Lookup.{position_among};
 ghost use Rattle.wi_values.specs.Address.{column_of, place, row_of};
-ghost use Rattle.wi_arguments.specs.Extent.{height, width};
-ghost use Rattle.wi_lookup_functions.specs.Inner.Lines.{first_column, first_row, is_line, steps};
+ghost use Rattle.wi_lookup_functions.specs.Inner.Lines.{first_column, first_row, height, is_line, steps, width};
 
-use wi_arguments::{height, width};
 use wi_values::{Address, ErrorKind, Rect};
+
+/// How many rows it has.
+pub(crate) fn height(area: Rect) -> u32
+    ensures { result ≡ height area }
+{
+    (area.last().row() + 1).saturating_sub(area.first().row())
+}
+
+/// How many columns it has.
+pub(crate) fn width(area: Rect) -> u32
+    ensures { result ≡ width area }
+{
+    (area.last().column() + 1).saturating_sub(area.first().column())
+}
 
 /// The place, from 0, of the k-th of so many.
 pub(crate) fn place_among(count: u32, k: i128) -> Result<u32, ErrorKind>

@@ -8,10 +8,11 @@ ghost use Rattle.wi_lookup_functions.specs.Inner.Lines.{is_line};
 ghost use Rattle.wi_standard_functions.specs.Matching.{is_match};
 ghost use Rattle.wi_lookup_functions.specs.Inner.Search.{is_settled, passes, position_by};
 
+use crate::matching::match_order;
 use crate::region::steps;
 use crate::rule::Rule;
 use std::ops::ControlFlow;
-use wi_arguments::{Lookup, TakesCells, match_order, take_cells};
+use wi_arguments::{Lookup, TakesCells, take_cells};
 use wi_value_functions::Ending;
 use wi_values::{Address, ErrorKind, Rect, Value};
 

@@ -7,14 +7,14 @@ ghost use Rattle.wi_standard_functions.specs.Lookup.{h_lookup_value, v_lookup_va
 ghost use Rattle.wi_lookup_functions.specs.Inner.Axis.{look_up_by};
 ghost use Rattle.wi_lookup_functions.specs.Inner.Finding.{Finds};
 
-use crate::arguments::{logical_or, sought_at, whole_at};
+use crate::arguments::{area_at, logical_or, sought_at, whole_at};
 use crate::axis::Axis;
 use crate::outcome::value_found;
 use crate::region::place_among;
 use crate::rule::Rule;
 use crate::search::place_along;
 use std::alloc::Global;
-use wi_arguments::{Argument, Lookup, area_at};
+use wi_arguments::{Argument, Lookup};
 use wi_value_functions::{Ending, Stop, zero};
 use wi_values::{Address, ErrorKind, Value};
 

@@ -6,8 +6,7 @@ use Rattle.wi_standard_functions.specs.Arguments.{Argument, Region}
 use Rattle.wi_standard_functions.specs.Lookup.{cell_in, look_up_value}
 use Rattle.wi_lookup_functions.specs.declared.axis.Axis.{Axis}
 use Rattle.wi_lookup_functions.specs.declared.axis.Axis.TheVariants.{Rows, Columns}
-use Rattle.wi_arguments.specs.Extent.{height, width}
-use Rattle.wi_lookup_functions.specs.Inner.Lines.{first_column, first_row}
+use Rattle.wi_lookup_functions.specs.Inner.Lines.{first_column, first_row, height, width}
 
 abbrev pub line_count : Axis → Area → ℕ
 line_count Rows = height

@@ -13,8 +13,8 @@ use Rattle.wi_value_functions.specs.declared.ending.Stop.{Stop}
 use Rattle.wi_value_functions.specs.declared.ending.Stop.TheVariants.{Memory}
 use Rattle.wi_arguments.specs.Arguments.{KnownAgrees, IsOfArguments, IsMissing}
 use Rattle.wi_value_functions.specs.Endings.{IfMissing}
-use Rattle.wi_arguments.specs.declared.criterion.Criterion.{Criterion}
-use Rattle.wi_arguments.specs.Inner.Meeting.{criterion_held}
+use Rattle.wi_lookup_functions.specs.declared.criterion.Criterion.{Criterion}
+use Rattle.wi_lookup_functions.specs.Inner.Meeting.{criterion_held}
 use Rattle.wi_value_functions.specs.declared.ending.Ending.{Ending}
 use Rattle.wi_value_functions.specs.declared.ending.Ending.TheVariants.{Error, Stopped}
 

@@ -7,9 +7,9 @@ use Rattle.wi_values.specs.declared.value.Value.{Value}
 use Rattle.wi_standard_functions.specs.Arithmetic.{addition}
 use Rattle.wi_standard_functions.specs.Sequence.{Item, from_cell, number_of_item, with_number}
 use Rattle.wi_standard_functions.specs.Steps.{and_then}
-use Rattle.wi_arguments.specs.Extent.{height, width}
-use Rattle.wi_arguments.specs.declared.criterion.Criterion.{Criterion}
-use Rattle.wi_arguments.specs.Inner.Meeting.{is_met}
+use Rattle.wi_lookup_functions.specs.Inner.Lines.{height, width}
+use Rattle.wi_lookup_functions.specs.declared.criterion.Criterion.{Criterion}
+use Rattle.wi_lookup_functions.specs.Inner.Meeting.{is_met}
 
 -- the rectangles have as many rows and columns
 abbrev pub same_extent : Area → Area → Bool

@@ -6,7 +6,7 @@ use Rattle.std.specs.Int.{w128}
 use Rattle.std.proofs.lemmas.Grind.{common_steps}
 use Rattle.wi_values.specs.Address.{is_within}
 use Rattle.wi_standard_functions.specs.Lookup.{position_among}
-use Rattle.wi_arguments.specs.Extent.{height, width}
+use Rattle.wi_lookup_functions.specs.Inner.Lines.{height, width}
 use Rattle.wi_lookup_functions.proofs.Endings.{nth_is, nth_no_row, nth_within}
 use Rattle.wi_lookup_functions.proofs.index.nth_cell.Goals as goal
 

@@ -4,7 +4,7 @@ use Rattle.std.specs.Int.{w128}
 use Rattle.std.proofs.lemmas.Bool.Decides.{nat_tests}
 use Rattle.wi_standard_functions.specs.Lookup.{nth_cell, nth_cell_along}
 use Rattle.wi_lookup_functions.specs.Inner.Finding.{IsPlacedIn}
-use Rattle.wi_arguments.specs.Extent.{height, width}
+use Rattle.wi_lookup_functions.specs.Inner.Lines.{height, width}
 use Rattle.wi_lookup_functions.proofs.Endings.{in_one_column, in_one_row, placed_same}
 use Rattle.wi_lookup_functions.proofs.index.nth_cell_along.Goals as goal
 

@@ -2,7 +2,7 @@
 
 ghost use Rattle.std.specs.Prelude.{◌≡◌, IfOk};
 ghost use Rattle.wi_standard_functions.specs.Criterion.{constant_of, criterion_by, criterion_of, equal_to, operators};
-ghost use Rattle.wi_arguments.specs.Inner.Meeting.{criterion_held, holds, holds_between_kinds, is_met, to_constant, IsRestAfter};
+ghost use Rattle.wi_lookup_functions.specs.Inner.Meeting.{criterion_held, holds, holds_between_kinds, is_met, to_constant, IsRestAfter};
 
 use crate::matching::{can_be_found, match_order};
 use std::alloc::{AllocError, Global};
@@ -23,14 +23,14 @@ enum Relation {
 
 /// A criterion: a value meets it that stands in the relation to the operand.
 #[derive(Drop)]
-pub struct Criterion {
+pub(crate) struct Criterion {
     relation: Relation,
     operand: Value,
 }
 
 impl Criterion {
     /// The criterion that a value is. Linear in the length of a text.
-    pub fn of(alloc: Global, value: &Value) -> Result<Criterion, AllocError>
+    pub(crate) fn of(alloc: Global, value: &Value) -> Result<Criterion, AllocError>
         ensures { IfOk result (λ c. criterion_held c ≡ criterion_of value.now) }
     {
         match value {
@@ -42,7 +42,7 @@ impl Criterion {
 
     /// Whether a value meets it. Linear in the shorter of two texts.
     #[tactic(auto, using(crate::proofs::Meeting::met_by))]
-    pub fn meets(&self, value: &Value) -> bool
+    pub(crate) fn meets(&self, value: &Value) -> bool
         ensures { result ≡ is_met self.now value.now }
     {
         match match_order(value, &self.operand) {

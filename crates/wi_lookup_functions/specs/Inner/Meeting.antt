@@ -9,9 +9,9 @@ use Rattle.wi_values.specs.declared.value.Value.TheVariants.{Empty}
 use Rattle.wi_standard_functions.specs.Criterion as defined
 use Rattle.wi_standard_functions.specs.Criterion.{is_unequal, constant_of}
 use Rattle.wi_standard_functions.specs.Matching.{is_match}
-use Rattle.wi_arguments.specs.declared.criterion.Criterion.{Criterion}
-use Rattle.wi_arguments.specs.declared.criterion.Relation.{Relation}
-use Rattle.wi_arguments.specs.declared.criterion.Relation.TheVariants.{Equal, Unequal, Less, AtMost, Greater, AtLeast}
+use Rattle.wi_lookup_functions.specs.declared.criterion.Criterion.{Criterion}
+use Rattle.wi_lookup_functions.specs.declared.criterion.Relation.{Relation}
+use Rattle.wi_lookup_functions.specs.declared.criterion.Relation.TheVariants.{Equal, Unequal, Less, AtMost, Greater, AtLeast}
 
 abbrev pub relation_of : Relation → Value → Value → Bool
 relation_of Equal = is_match is_eq

@@ -7,12 +7,11 @@ use Rattle.std.specs.declared.cmp.Ordering.TheVariants.{Less as less, Equal as e
 use Rattle.std.proofs.Math.Bool.{and-true}
 use Rattle.std.proofs.lemmas.Bool.{and_parts}
 use Rattle.wi_values.specs.declared.value.Value.{Value}
-use Rattle.wi_values.specs.declared.value.Value.TheVariants.{Empty}
 use Rattle.wi_standard_functions.specs.Comparison.{rank, order}
 use Rattle.wi_standard_functions.specs.Matching.{can_be_found, same_kind}
-use Rattle.wi_arguments.specs.declared.criterion.Relation.{Relation}
-use Rattle.wi_arguments.specs.declared.criterion.Relation.TheVariants.{Equal, Unequal, Less, AtMost, Greater, AtLeast}
-use Rattle.wi_arguments.specs.Inner.Meeting.{relation_of, holds, holds_between_kinds, EmptyMeetsNone}
+use Rattle.wi_lookup_functions.specs.declared.criterion.Relation.{Relation}
+use Rattle.wi_lookup_functions.specs.declared.criterion.Relation.TheVariants.{Equal, Unequal, Less, AtMost, Greater, AtLeast}
+use Rattle.wi_lookup_functions.specs.Inner.Meeting.{relation_of, holds, holds_between_kinds}
 
 -- what is told by the order of a value to the operand, where they are of one kind
 abbrev pub told : Relation → Value → Option Ordering → Bool
@@ -46,14 +45,3 @@ same Unequal w v false e =
 
 pub met_by : (r : Relation) (w v : Value) (m : Option Ordering) → m ≡ (if same_kind v w then Some (order v w) else None) → relation_of r w v ≡ told r v m
 met_by r w v m e = same r w v (same_kind v w) refl ∙ ap (told r v) (sym e)
-
-pub empty_meets_none : EmptyMeetsNone
-empty_meets_none c = at c.relation
-  where
-    at : (r : Relation) → relation_of r c.operand Empty ≡ false
-    at Equal = refl
-    at Unequal = refl
-    at Less = refl
-    at AtMost = refl
-    at Greater = refl
-    at AtLeast = refl

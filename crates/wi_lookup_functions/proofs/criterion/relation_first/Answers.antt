@@ -1,7 +1,7 @@
 use Rattle.std.proofs.Common.{ℕ, Bool, List, ap}
 use Rattle.wi_values.specs.declared.value.Value.{Value}
 use Rattle.wi_standard_functions.specs.Criterion.{Criterion, constant_of}
-use Rattle.wi_arguments.proofs.criterion.relation_first.Goals as goal
+use Rattle.wi_lookup_functions.proofs.criterion.relation_first.Goals as goal
 
 abbrev by : (Value → Value → Bool) → List ℕ → Criterion
 by relation text = record { relation = relation; operand = constant_of text }

@@ -1,5 +1,0 @@
-use Rattle.wi_arguments.proofs.Signs.{rest_after}
-use Rattle.wi_arguments.proofs.criterion.after.Goals as goal
-
-pub returns : goal.returns
-returns c = rest_after _ _ _ c.strip_prefix.ensures.cases

@@ -1,2 +1,0 @@
--- Words of the code's own contracts. Nothing here needs belief.
-pub mod Meeting
