@@ -3,7 +3,7 @@ use Rattle.std.proofs.Common.{◌≡◌, ◌<◌, ◌≤◌, ◌+◌, cond, Resu
 use Rattle.std.specs.List.{flat_map, join_with_byte}
 use Rattle.std.proofs.lemmas.Grind.{flat_map-append}
 use Rattle.std.proofs.lemmas.List.{take_more, take_all, map-append, append-nil}
-use Rattle.wi_quoting.specs.Quoted.{doubled, quoted}
+use Rattle.wi_lexer.specs.Quoted.{doubled, quoted}
 use Rattle.wi_csv.specs.Row.{row}
 
 -- one more byte of a field is there

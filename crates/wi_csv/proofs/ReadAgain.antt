@@ -11,7 +11,7 @@ use Rattle.csv.specs.Writing.{default_writer}
 use Rattle.csv.specs.declared.parser.State.{State}
 use Rattle.csv.specs.declared.parser.State.TheVariants as st
 use Rattle.csv.proofs.RoundTrip.{quoted-run}
-use Rattle.wi_quoting.specs.Quoted.{doubled, quoted}
+use Rattle.wi_lexer.specs.Quoted.{doubled, quoted}
 use Rattle.wi_csv.specs.Laws.{ReadAgain}
 use Rattle.wi_csv.specs.Row.{row}
 use Rattle.wi_csv.proofs.Counted.{all_read}

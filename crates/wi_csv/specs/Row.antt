@@ -2,7 +2,7 @@
 use Rattle.std.specs.Prelude.{ℕ, List, ◌++◌, map, codes}
 use Rattle.std.specs.List.{join_with_byte}
 use Rattle.std.specs.Str.{byte}
-use Rattle.wi_quoting.specs.Quoted.{quoted}
+use Rattle.wi_lexer.specs.Quoted.{quoted}
 
 -- a record: its fields in quotes with commas between, and CR LF
 unfoldable pub row : List (List ℕ) → List ℕ

@@ -2,7 +2,7 @@
 
 ghost use Rattle.std.specs.Prelude.{◌≡◌, ◌++◌, map, OnOk, OnErr};
 ghost use Rattle.std.specs.Io.{StartsWith};
-ghost use Rattle.wi_quoting.specs.Quoted.{doubled, quoted};
+ghost use Rattle.wi_lexer.specs.Quoted.{doubled, quoted};
 ghost use Rattle.wi_csv.specs.Row.{row};
 
 use std::alloc::AllocError;

@@ -9,7 +9,7 @@ use Rattle.std.proofs.lemmas.Bool.Decides.{nat_tests}
 use Rattle.std.proofs.lemmas.List.{get_or-append-add, get_or-take, length-take-le}
 use Rattle.std.proofs.lemmas.List.Sums.{AllPass-from_list_all, prefix_len_passes}
 use Rattle.wi_fraction.specs.Written.{WritesDigits, plain, point, WritesExponent, none, unsigned, plus, minus, IsWritten}
-use Rattle.wi_quoting.specs.Quoted.{doubled}
+use Rattle.wi_lexer.specs.Quoted.{doubled}
 use Rattle.wi_lexer.specs.declared.token.Kind.{Kind}
 use Rattle.wi_lexer.specs.declared.token.Kind.TheVariants.{Number, Reference, Rectangle, Name, Text, Mark}
 use Rattle.wi_lexer.specs.declared.token.Mark as mark

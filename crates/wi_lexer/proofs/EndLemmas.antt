@@ -6,7 +6,7 @@ use Rattle.std.specs.List.{list_all, prefix_len}
 use Rattle.std.specs.Char.{is_ascii_digit}
 use Rattle.std.proofs.lemmas.Bool.{and_parts, not-true}
 use Rattle.wi_fraction.specs.Written.{WritesDigits, plain, point, is_exponent_letter, IsWritten}
-use Rattle.wi_quoting.specs.Quoted.{quoted}
+use Rattle.wi_lexer.specs.Quoted.{quoted}
 use Rattle.wi_lexer.specs.declared.token.Kind.{Kind}
 use Rattle.wi_lexer.specs.declared.token.Kind.TheVariants.{Number, Reference, Rectangle, Name, Text, Mark}
 use Rattle.wi_lexer.specs.declared.token.Mark as mark

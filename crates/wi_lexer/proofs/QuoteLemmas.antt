@@ -5,7 +5,7 @@ use Rattle.std.specs.List.{flat_map, position_or_len, before_first, after_first}
 use Rattle.std.proofs.lemmas.Bool.{eqb-true, ne_eqb, ltb-true, ltb-false, lt-ltb}
 use Rattle.std.proofs.lemmas.List.{at_drop_more, drop_all}
 use Rattle.std.proofs.lemmas.Str.Pattern.{IsSplitOnceResult, split_once_first}
-use Rattle.wi_quoting.specs.Quoted.{doubled, quoted}
+use Rattle.wi_lexer.specs.Quoted.{doubled, quoted}
 use Rattle.wi_lexer.specs.Inner.Runs.{one_longer}
 use Rattle.wi_lexer.specs.Text.{IsText, of_content}
 use Rattle.wi_lexer.specs.Inner.Text.{quoted_len, text_len, content_from, text_content}

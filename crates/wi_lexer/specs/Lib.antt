@@ -1,3 +1,4 @@
+pub mod Quoted
 pub mod Runs
 pub mod Cell
 pub mod Reference

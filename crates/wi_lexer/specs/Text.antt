@@ -1,5 +1,5 @@
 -- Texts as a formula writes them (OpenFormula, "Constant Strings").
-use Rattle.wi_quoting.specs.Quoted.{quoted}
+use Rattle.wi_lexer.specs.Quoted.{quoted}
 use Rattle.wi_fraction.specs.Text.{Bytes}
 
 -- The text is some content in double quotes.

@@ -1,7 +1,7 @@
 //! Laws of the tokens alone.
 
 ghost use Rattle.std.specs.Prelude.{◌≡◌, ◌↔◌, ℕ, true, List, [], ◌∷◌, ◌++◌, Some, None};
-ghost use Rattle.wi_quoting.specs.Quoted.{quoted};
+ghost use Rattle.wi_lexer.specs.Quoted.{quoted};
 ghost use Rattle.wi_lexer.specs.Cell.{Cell, IsCell, cell_text};
 ghost use Rattle.wi_lexer.specs.Inner.Cell.{cell_of};
 ghost use Rattle.wi_lexer.specs.Reference.{reference_text};

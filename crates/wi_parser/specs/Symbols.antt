@@ -2,7 +2,7 @@
 use Rattle.std.specs.Prelude.{◌≡◌, ◌≢◌, ℕ, ◌≤◌, ℤ, true, false, List, [], ◌∷◌, ◌++◌, length, ◌⊎◌, Some, None, codes, if◌then◌else◌, Option, option_map, map}
 use Rattle.wi_fraction.specs.Number.{Number}
 use Rattle.wi_fraction.specs.Written.{Writes, written_value}
-use Rattle.wi_quoting.specs.Quoted.{quoted}
+use Rattle.wi_lexer.specs.Quoted.{quoted}
 use Rattle.wi_lexer.specs.Cell.{Cell, IsCell}
 use Rattle.wi_lexer.specs.Name.{IsName}
 use Rattle.wi_lexer.specs.Rectangle.{rectangle_text}

@@ -3,7 +3,7 @@
 ghost use Rattle.std.specs.Prelude.{◌≡◌, ◌++◌, map, OnOk, OnErr, string_bytes};
 ghost use Rattle.std.specs.Io.{StartsWith};
 ghost use Rattle.wi_fraction.specs.Decimal.{decimal_text};
-ghost use Rattle.wi_quoting.specs.Quoted.{quoted};
+ghost use Rattle.wi_lexer.specs.Quoted.{quoted};
 ghost use Rattle.wi_lexer.specs.Cell.{dollar, cell_text};
 ghost use Rattle.wi_lexer.specs.Reference.{reference_text};
 ghost use Rattle.wi_lexer.specs.Rectangle.{rectangle_text};

@@ -1,7 +1,7 @@
 use Rattle.std.proofs.Common.{◌≡◌, ◌++◌, take, map}
 use Rattle.std.specs.List.{join_with_byte}
 use Rattle.std.specs.Io.{StartsWith}
-use Rattle.wi_quoting.specs.Quoted.{quoted}
+use Rattle.wi_lexer.specs.Quoted.{quoted}
 use Rattle.wi_csv.proofs.Joined.{comma}
 use Rattle.wi_csv.proofs.row.push_all.Given as goal
 

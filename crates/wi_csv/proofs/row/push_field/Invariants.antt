@@ -1,7 +1,7 @@
 use Rattle.std.proofs.Common.{◌≡◌, ◌++◌, ◌∷◌, [], take}
 use Rattle.std.specs.List.{flat_map}
 use Rattle.std.specs.Io.{StartsWith}
-use Rattle.wi_quoting.specs.Quoted.{doubled}
+use Rattle.wi_lexer.specs.Quoted.{doubled}
 use Rattle.wi_csv.proofs.row.push_field.Given as goal
 
 -- the separator, the first quote and the bytes so far are there

@@ -3,7 +3,7 @@ use Rattle.std.proofs.lemmas.Grind.{common_steps}
 use Rattle.std.proofs.lemmas.Result.{IfOk-from_err}
 use Rattle.std.specs.Io.{StartsWith}
 use Rattle.std.specs.List.{flat_map}
-use Rattle.wi_quoting.specs.Quoted.{doubled}
+use Rattle.wi_lexer.specs.Quoted.{doubled}
 use Rattle.wi_parser.proofs.PrintLemmas.{starts_kept, starts_same, starts_more, starts_still}
 use Rattle.wi_parser.proofs.Quotes.{piece_doubled, rest_doubled, piece_written, last_written}
 use Rattle.wi_parser.proofs.print.push_quoted.Goals as goal
