@@ -1,6 +1,6 @@
 //! COUNT and COUNTA (OpenFormula, "Information Functions").
 
-ghost use Rattle.std.specs.Prelude.{◌≡◌, IfOk, IfErr, not, refl};
+ghost use Rattle.std.specs.Prelude.{IfOk, IfErr, refl};
 ghost use Rattle.wi_arguments.specs.Arguments.{IsMissing, IsOfArguments};
 ghost use Rattle.wi_standard_functions.specs.Arithmetic.{whole_value};
 ghost use Rattle.wi_standard_functions.specs.Information.{is_empty_value, is_number_value, count_value, count_a_value};

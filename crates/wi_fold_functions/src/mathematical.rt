@@ -1,6 +1,6 @@
 //! SUM and PRODUCT (OpenFormula, "Mathematical Functions").
 
-ghost use Rattle.std.specs.Prelude.{◌≡◌, IfOk, IfErr, refl};
+ghost use Rattle.std.specs.Prelude.{IfOk, IfErr, refl};
 ghost use Rattle.wi_values.specs.declared.value.Value.TheVariants.{Number as number};
 ghost use Rattle.wi_arguments.specs.Arguments.{IsMissing, IsOfArguments};
 ghost use Rattle.wi_standard_functions.specs.Mathematical.{sum_value, product_value};

@@ -1,6 +1,6 @@
 //! The value of a function that folds the items of its arguments.
 
-ghost use Rattle.std.specs.Prelude.{◌≡◌, IfOk, IfErr};
+ghost use Rattle.std.specs.Prelude.{IfOk, IfErr};
 ghost use Rattle.wi_value_functions.specs.Applied.{applied};
 ghost use Rattle.wi_value_functions.specs.declared.function.Function.TheVariants.{References};
 ghost use Rattle.wi_value_functions.specs.declared.function.ReferenceFunction.TheVariants.{Fold};

@@ -1,8 +1,6 @@
 //! SUMIF (OpenFormula, "Mathematical Functions").
 
 ghost use Rattle.std.specs.Prelude.{◌≡◌, true, None, Ok, IfOk, IfErr, if◌then◌else◌};
-ghost use Rattle.wi_values.specs.Address.{cells_of, is_within};
-ghost use Rattle.wi_values.specs.declared.value.Value.{Value as Values};
 ghost use Rattle.wi_standard_functions.specs.Arguments.{region_of};
 ghost use Rattle.wi_standard_functions.specs.Mathematical.{sum_if_value, sum_of_items};
 ghost use Rattle.wi_value_functions.specs.Endings.{IfMissing};

@@ -1,6 +1,6 @@
 //! The value of a function that looks cells up.
 
-ghost use Rattle.std.specs.Prelude.{◌≡◌, IfOk, IfErr};
+ghost use Rattle.std.specs.Prelude.{IfOk, IfErr};
 ghost use Rattle.wi_value_functions.specs.Applied.{applied};
 ghost use Rattle.wi_value_functions.specs.Endings.{IfMissing};
 ghost use Rattle.wi_value_functions.specs.declared.function.Function.TheVariants.{References};

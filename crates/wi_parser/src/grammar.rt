@@ -4,7 +4,7 @@ ghost use Rattle.std.specs.Prelude.{◌≡◌, ◌<◌, ◌≤◌, length, None,
 ghost use Rattle.wi_parser.specs.Inner.Reader as reader;
 ghost use Rattle.wi_parser.specs.Inner.Outcome.{Finds, FindsMore, put_before};
 ghost use Rattle.wi_parser.specs.Inner.Nests.{Nests};
-ghost use Rattle.wi_parser.specs.View.{tree_of, all_of};
+ghost use Rattle.wi_parser.specs.View.{tree_of};
 ghost use Rattle.wi_parser.specs.Tree as tree;
 
 use crate::expr::{Corners, Expr, Operator, Reference, Sign, call, text};

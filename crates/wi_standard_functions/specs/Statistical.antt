@@ -3,7 +3,6 @@ use Rattle.std.specs.Prelude.{Bool, List, length, unwrap_or, if◌then◌else◌
 use Rattle.std.specs.List.{reduce}
 use Rattle.std.specs.Ordering.{is_lt, is_gt}
 use Rattle.std.specs.declared.cmp.Ordering.{Ordering}
-use Rattle.wi_fraction.specs.Number as numbers
 use Rattle.wi_fraction.specs.Order.{cross_cmp}
 use Rattle.wi_values.specs.declared.value.Value.{Value}
 use Rattle.wi_values.specs.declared.value.Value.TheVariants.{Number}
