@@ -32,7 +32,9 @@ impl Argument {
         &'a self,
         lookup: &'a L,
     ) -> Result<Result<&'a Value, ErrorKind>, Address>
-        ensures done { IfOk result (λ r. (cells : ℕ → Values) → KnownAgrees (L.known_cell lookup.now) cells → value_lent r ≡ (argument_in cells self.now).value) }
+        ensures done { IfOk result (λ r. (cells : ℕ → Values)
+            → KnownAgrees (L.known_cell lookup.now) cells
+            → value_lent r ≡ (argument_in cells self.now).value) }
         ensures missing { IfErr result (IsMissing (L.known_cell lookup.now) (self.now ∷ [])) }
     {
         match self {

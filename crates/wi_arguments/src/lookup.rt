@@ -47,7 +47,8 @@ pub trait Lookup {
 
     /// The value of a formula cell, if each input had the value of its replacement cell.
     fn what_if(&self, formula_cell: Address, pairs: &[Pair]) -> LookedUp<'_>
-        ensures { value_if_known result ≡ known_what_if self.now formula_cell (map addresses (map pair_of pairs.now)) };
+        ensures { value_if_known result
+            ≡ known_what_if self.now formula_cell (map addresses (map pair_of pairs.now)) };
 
     /// The first cell of a rectangle in row-major order, at a cell or after it, that isn't known to be Empty, with what is known
     /// of it. A replaced cell is what its replacement says. The work grows with the counts of replaced cells and of filled ones
@@ -74,7 +75,8 @@ pub trait Lookup {
         from: Address,
         taker: &mut T,
     ) -> Result<Option<Address>, Address>
-        ensures taken { IfOk result (λ next. HasTaken T.after (known_cell self.now) area taker.old (Some from) taker.new next) }
+        ensures taken { IfOk result (λ next. HasTaken T.after (known_cell self.now) area
+            taker.old (Some from) taker.new next) }
         ensures further { IfOk result (λ next. IfSome next (λ n. (from < n) × (n ≤ area.last))) }
         ensures missing { IfErr result (λ c. known_cell self.now c ≡ None) }
         ensures inside { IfErr result (λ c. is_within area c ≡ true) }

@@ -17,7 +17,8 @@ pub trait TakesCells {
     /// Takes the value of a cell, and tells whether another could make a difference.
     fn take(&mut self, at: Address, value: &Value) -> ControlFlow<()>
         ensures taken { self.new ≡ after self.old at value.now }
-        ensures broken { is_some (break_value result) ≡ true → (c : ℕ) → (v : Values) → after self.new c v ≡ self.new };
+        ensures broken { is_some (break_value result) ≡ true → (c : ℕ) → (v : Values)
+            → after self.new c v ≡ self.new };
 
     /// An Empty cell makes no difference.
     ghost passes_empty: { (s : Self) → (c : ℕ) → after s c Empty ≡ s };

@@ -17,7 +17,8 @@ pub fn take_cells<L: Lookup, T: TakesCells>(
     lookup: &L,
     taker: &mut T,
 ) -> Result<(), Address>
-    ensures taken { OnOk result ((cells : ℕ → Values) → KnownAgrees (L.known_cell lookup.now) cells → taker.new ≡ after_cells T.after cells taker.old (cells_of area)) }
+    ensures taken { OnOk result ((cells : ℕ → Values) → KnownAgrees (L.known_cell lookup.now) cells
+        → taker.new ≡ after_cells T.after cells taker.old (cells_of area)) }
     ensures missing { IfErr result (λ c. L.known_cell lookup.now c ≡ None) }
     ensures inside { IfErr result (λ c. is_within area c ≡ true) }
 {

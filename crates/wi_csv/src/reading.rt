@@ -13,7 +13,8 @@ use std::alloc::{AllocError, Global};
 /// text is refused for what it holds; `Read` comes only where `csv` refuses for another cause than memory. The contract speaks
 /// of the records alone, and promises nothing on an error. The work grows with the text.
 pub fn records(alloc: Global, bytes: &[u8]) -> Result<Vec<Vec<Vec<u8>>>, CsvFault>
-    ensures { IfOk result (λ rows. map (λ fields. map (λ f. f.items) fields.items) rows.items ≡ recs bytes.now) }
+    ensures { IfOk result
+        (λ rows. map (λ fields. map (λ f. f.items) fields.items) rows.items ≡ recs bytes.now) }
 {
     let reader = ReaderBuilder::new()
         .has_headers(false)

@@ -24,7 +24,9 @@ pub(crate) fn fold_arguments<L: Lookup, F: Fold>(
     lookup: &L,
     start: F,
 ) -> Result<Value, Address>
-    ensures done { IfOk result (λ v. (cells : ℕ → Values) → KnownAgrees (L.known_cell lookup.now) cells → v ≡ shown F.value (fold_until_error F.step start (sequence_of (arguments_in cells arguments.now)))) }
+    ensures done { IfOk result (λ v. (cells : ℕ → Values)
+        → KnownAgrees (L.known_cell lookup.now) cells → v ≡ shown F.value
+        (fold_until_error F.step start (sequence_of (arguments_in cells arguments.now)))) }
     ensures missing { IfErr result (IsMissing (L.known_cell lookup.now) arguments.now) }
 {
     let mut folding = Folding { so_far: Ok(start) };
@@ -46,7 +48,9 @@ struct Folding<F> {
 impl<F: Fold> Folding<F> {
     /// Takes the items of an argument.
     fn take_argument<L: Lookup>(&mut self, argument: &Argument, lookup: &L) -> Result<(), Address>
-        ensures taken { OnOk result ((cells : ℕ → Values) → KnownAgrees (L.known_cell lookup.now) cells → self.new.so_far ≡ go_on_through F.step self.old.so_far (items_of (argument_in cells argument.now))) }
+        ensures taken { OnOk result ((cells : ℕ → Values)
+            → KnownAgrees (L.known_cell lookup.now) cells → self.new.so_far
+            ≡ go_on_through F.step self.old.so_far (items_of (argument_in cells argument.now))) }
         ensures missing { IfErr result (λ c. L.known_cell lookup.now c ≡ None) }
         ensures referred { IfErr result (λ c. refers_to c argument.now ≡ true) }
     {
@@ -76,8 +80,10 @@ impl<F: Fold> Folding<F> {
     }
 
     fn step(&mut self, item: Item<'_>) -> Result<(), ErrorKind>
-        ensures ok { OnOk result (self.new.so_far ≡ go_on F.step self.old.so_far (item_of item.entry)) }
-        ensures err { IfErr result (λ e. go_on F.step self.old.so_far (item_of item.entry) ≡ Err e) }
+        ensures ok { OnOk result
+            (self.new.so_far ≡ go_on F.step self.old.so_far (item_of item.entry)) }
+        ensures err { IfErr result
+            (λ e. go_on F.step self.old.so_far (item_of item.entry) ≡ Err e) }
     {
         match &mut self.so_far {
             Ok(made) => made.step(item),

@@ -23,7 +23,8 @@ pub(crate) fn count_value<L: Lookup>(arguments: &[Argument], lookup: &L) -> Resu
 
 /// COUNTA: how many items aren't Empty; errors and empty texts count. `Err` has a cell whose value isn't known.
 pub(crate) fn count_a_value<L: Lookup>(arguments: &[Argument], lookup: &L) -> Result<Value, Address>
-    ensures done { IfOk result (IsOfArguments (L.known_cell lookup.now) count_a_value arguments.now) }
+    ensures done { IfOk result
+        (IsOfArguments (L.known_cell lookup.now) count_a_value arguments.now) }
     ensures missing { IfErr result (IsMissing (L.known_cell lookup.now) arguments.now) }
 {
     fold_arguments(arguments, lookup, FilledCount { filled: 0 })

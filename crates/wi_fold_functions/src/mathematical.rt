@@ -26,7 +26,8 @@ pub(crate) fn sum_value<L: Lookup>(arguments: &[Argument], lookup: &L) -> Result
 /// PRODUCT: the product of the numbers that count, from the left, or the first error met; `BadNumber` where a product doesn't fit.
 /// `Err` has a cell whose value isn't known.
 pub(crate) fn product_value<L: Lookup>(arguments: &[Argument], lookup: &L) -> Result<Value, Address>
-    ensures done { IfOk result (IsOfArguments (L.known_cell lookup.now) product_value arguments.now) }
+    ensures done { IfOk result
+        (IsOfArguments (L.known_cell lookup.now) product_value arguments.now) }
     ensures missing { IfErr result (IsMissing (L.known_cell lookup.now) arguments.now) }
 {
     fold_arguments(arguments, lookup, Product { product: one() })

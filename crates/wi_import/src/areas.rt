@@ -17,8 +17,10 @@ pub(crate) fn areas(
     at: Address,
     records: &[Vec<Vec<u8>>],
 ) -> Result<Vec<Rect>, AllocError>
-    requires { list_any is_outside (fields_from (row_of at) (column_of at) (all_bytes records.now)) ≡ false }
-    ensures { IfOk result (λ areas. areas.items ≡ areas_from (row_of at) (column_of at) (all_bytes records.now)) }
+    requires { list_any is_outside (fields_from (row_of at) (column_of at) (all_bytes records.now))
+        ≡ false }
+    ensures { IfOk result
+        (λ areas. areas.items ≡ areas_from (row_of at) (column_of at) (all_bytes records.now)) }
 {
     let mut areas = Vec::with_capacity(alloc, records.len())?;
     for (i, fields) in records.iter().enumerate() {

@@ -19,8 +19,10 @@ pub(crate) fn changes(
     at: Address,
     records: &[Vec<Vec<u8>>],
 ) -> Result<Vec<(Address, Option<Content>)>, AllocError>
-    requires { list_any is_faulty (fields_from (row_of at) (column_of at) (all_bytes records.now)) ≡ false }
-    ensures { IfOk result (λ changes. changes.items ≡ map change_of (fields_from (row_of at) (column_of at) (all_bytes records.now))) }
+    requires { list_any is_faulty (fields_from (row_of at) (column_of at) (all_bytes records.now))
+        ≡ false }
+    ensures { IfOk result (λ changes. changes.items
+        ≡ map change_of (fields_from (row_of at) (column_of at) (all_bytes records.now))) }
 {
     let mut changes = Vec::with_capacity(alloc, field_count(records))?;
     for (i, fields) in records.iter().enumerate() {
@@ -53,7 +55,8 @@ fn push_record(
     changes: &mut Vec<(Address, Option<Content>)>,
 ) -> Result<(), AllocError>
     requires { list_any is_faulty (fields_of row column (bytes_of fields.now)) ≡ false }
-    ensures { OnOk result (changes.new.items ≡ changes.old.items ++ map change_of (fields_of row column (bytes_of fields.now))) }
+    ensures { OnOk result (changes.new.items
+        ≡ changes.old.items ++ map change_of (fields_of row column (bytes_of fields.now))) }
 {
     for (j, field) in fields.iter().enumerate() {
         let cell = Address::at(row as u32, (column + j) as u32);

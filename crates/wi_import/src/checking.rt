@@ -14,7 +14,8 @@ use wi_values::{Address, COLUMNS, MAX_TEXT, ROWS};
 
 /// The first fault, in their order, that a field of these records has, the first field being for this cell.
 pub(crate) fn first_fault(at: Address, records: &[Vec<Vec<u8>>]) -> Option<ImportFault>
-    ensures { result ≡ fault_among (fields_from (row_of at) (column_of at) (all_bytes records.now)) }
+    ensures { result
+        ≡ fault_among (fields_from (row_of at) (column_of at) (all_bytes records.now)) }
 {
     if has_bad_field(records) {
         return Some(ImportFault::BadField);
@@ -30,7 +31,8 @@ pub(crate) fn first_fault(at: Address, records: &[Vec<Vec<u8>>]) -> Option<Impor
 
 // Whether a field isn't UTF-8.
 fn has_bad_field(records: &[Vec<Vec<u8>>]) -> bool
-    ensures { result ≡ list_any (λ fields. list_any (λ f. is_bad f.items) fields.items) records.now }
+    ensures { result
+        ≡ list_any (λ fields. list_any (λ f. is_bad f.items) fields.items) records.now }
 {
     records.iter().any(|fields| is_one_bad(fields))
 }
@@ -49,7 +51,8 @@ fn is_bad(field: &[u8]) -> bool
 
 // Whether a field is too long for a text, and no number.
 fn has_long_field(records: &[Vec<Vec<u8>>]) -> bool
-    ensures { result ≡ list_any (λ fields. list_any (λ f. is_too_long f.items) fields.items) records.now }
+    ensures { result
+        ≡ list_any (λ fields. list_any (λ f. is_too_long f.items) fields.items) records.now }
 {
     records.iter().any(|fields| is_one_too_long(fields))
 }
@@ -69,7 +72,8 @@ fn is_too_long(field: &[u8]) -> bool
 
 // Whether a field is for a cell outside the sheet.
 fn leaves_sheet(at: Address, records: &[Vec<Vec<u8>>]) -> bool
-    ensures { result ≡ list_any is_outside (fields_from (row_of at) (column_of at) (all_bytes records.now)) }
+    ensures { result
+        ≡ list_any is_outside (fields_from (row_of at) (column_of at) (all_bytes records.now)) }
 {
     for (i, fields) in records.iter().enumerate() {
         if is_outside(at.row() as usize + i, at.column() as usize, fields) {

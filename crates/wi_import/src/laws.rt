@@ -10,11 +10,14 @@ ghost use Rattle.wi_import.specs.declared.fault.ImportFault.{ImportFault};
 /// What an import of fields comes to: the changes that they bring, or the first fault.
 #[tactic(auto, using(crate::proofs::ImportLemmas::import_exactly))]
 pub fn what_an_import_is()
-    ensures { (fields : List Field) (r : Result (List (ℕ × Option Content)) ImportFault) → IsImport fields r ↔ (import_of fields ≡ r) }
+    ensures { (fields : List Field) (r : Result (List (ℕ × Option Content)) ImportFault)
+        → IsImport fields r ↔ (import_of fields ≡ r) }
 {}
 
 /// Fields are imported with some changes, or refused for some fault, and nothing else.
 pub fn one_import()
-    ensures some { (fields : List Field) → (r : Result (List (ℕ × Option Content)) ImportFault) × IsImport fields r }
-    ensures no_other { (fields : List Field) (r s : Result (List (ℕ × Option Content)) ImportFault) → IsImport fields r → IsImport fields s → r ≡ s }
+    ensures some { (fields : List Field)
+        → (r : Result (List (ℕ × Option Content)) ImportFault) × IsImport fields r }
+    ensures no_other { (fields : List Field) (r s : Result (List (ℕ × Option Content)) ImportFault)
+        → IsImport fields r → IsImport fields s → r ≡ s }
 {}

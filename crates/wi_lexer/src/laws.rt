@@ -38,7 +38,8 @@ pub fn what_tokens_are()
 
 /// A token stays one where what follows doesn't go on with it.
 pub fn token_and_rest()
-    ensures { (k : Kind) (text rest : List ℕ) → IsToken k text → ends k rest ≡ true → tokens (text ++ rest) ≡ then_tokens ((k, text) ∷ []) (tokens rest) }
+    ensures { (k : Kind) (text rest : List ℕ) → IsToken k text → ends k rest ≡ true
+        → tokens (text ++ rest) ≡ then_tokens ((k, text) ∷ []) (tokens rest) }
 {}
 
 /// A text in which a cell is found is the text of that cell.
@@ -53,7 +54,8 @@ pub fn cell_spelled()
 
 /// A text in which the cell of a reference is found is the reference to that cell.
 pub fn reference_found()
-    ensures { (bs : List ℕ) (c : Cell) → reference_of bs ≡ Some c → IsCell c × (reference_text c ≡ bs) }
+    ensures { (bs : List ℕ) (c : Cell) → reference_of bs ≡ Some c
+        → IsCell c × (reference_text c ≡ bs) }
 {}
 
 /// Each reference is found in its text.
@@ -63,7 +65,8 @@ pub fn reference_spelled()
 
 /// A text in which the cells of a rectangle are found is the reference to it.
 pub fn rectangle_found()
-    ensures { (bs : List ℕ) (c d : Cell) → rectangle_of bs ≡ Some (c, d) → IsCell c × IsCell d × (rectangle_text c d ≡ bs) }
+    ensures { (bs : List ℕ) (c d : Cell) → rectangle_of bs ≡ Some (c, d)
+        → IsCell c × IsCell d × (rectangle_text c d ≡ bs) }
 {}
 
 /// Each reference to a rectangle is found in its text.

@@ -32,7 +32,10 @@ fn value_or<'a, L: Lookup>(
     place: usize,
     lookup: &'a L,
 ) -> Result<&'a Value, Ending<Address>>
-    ensures { Agrees (L.known_cell lookup.now) (IsMissing (L.known_cell lookup.now) arguments.now) (λ v. v.now) (λ cells. no_error (value_or default.now (arguments_in cells arguments.now) place)) result }
+    ensures { Agrees (L.known_cell lookup.now) (IsMissing (L.known_cell lookup.now) arguments.now)
+        (λ v. v.now)
+        (λ cells. no_error (value_or default.now (arguments_in cells arguments.now) place))
+        result }
 {
     let given = match arguments.get(place) {
         Some(argument) => argument.value(lookup)??,
@@ -52,7 +55,11 @@ pub(crate) fn sought_at<'a, L: Lookup>(
     lookup: &'a L,
 ) -> Result<&'a Value, Ending<Address>>
     requires { zero.now ≡ Number zero_number }
-    ensures { Agrees (L.known_cell lookup.now) (IsMissing (L.known_cell lookup.now) arguments.now) (λ v. v.now) (λ cells. and_then (λ v. Ok (sought_for v)) (no_error (value_at (arguments_in cells arguments.now) place))) result }
+    ensures { Agrees (L.known_cell lookup.now) (IsMissing (L.known_cell lookup.now) arguments.now)
+        (λ v. v.now)
+        (λ cells. and_then (λ v. Ok (sought_for v))
+        (no_error (value_at (arguments_in cells arguments.now) place)))
+        result }
 {
     match value_or(zero, arguments, place, lookup)? {
         Value::Empty => Ok(zero),
@@ -66,7 +73,10 @@ pub(crate) fn whole_at<L: Lookup>(
     place: usize,
     lookup: &L,
 ) -> Result<i128, Ending<Address>>
-    ensures { Agrees (L.known_cell lookup.now) (IsMissing (L.known_cell lookup.now) arguments.now) (λ k. k) (λ cells. to_whole (value_at (arguments_in cells arguments.now) place)) result }
+    ensures { Agrees (L.known_cell lookup.now) (IsMissing (L.known_cell lookup.now) arguments.now)
+        (λ k. k)
+        (λ cells. to_whole (value_at (arguments_in cells arguments.now) place))
+        result }
 {
     let default = Value::Empty;
     let value = value_or(&default, arguments, place, lookup)?;
@@ -80,7 +90,10 @@ pub(crate) fn number_or<L: Lookup>(
     place: usize,
     lookup: &L,
 ) -> Result<Fraction, Ending<Address>>
-    ensures { Agrees (L.known_cell lookup.now) (IsMissing (L.known_cell lookup.now) arguments.now) (λ x. x) (λ cells. to_number (value_or (Number default) (arguments_in cells arguments.now) place)) result }
+    ensures { Agrees (L.known_cell lookup.now) (IsMissing (L.known_cell lookup.now) arguments.now)
+        (λ x. x)
+        (λ cells. to_number (value_or (Number default) (arguments_in cells arguments.now) place))
+        result }
 {
     let default = Value::Number(default);
     let value = value_or(&default, arguments, place, lookup)?;
@@ -94,7 +107,10 @@ pub(crate) fn logical_or<L: Lookup>(
     place: usize,
     lookup: &L,
 ) -> Result<bool, Ending<Address>>
-    ensures { Agrees (L.known_cell lookup.now) (IsMissing (L.known_cell lookup.now) arguments.now) (λ b. b) (λ cells. to_logical (value_or (Logical default) (arguments_in cells arguments.now) place)) result }
+    ensures { Agrees (L.known_cell lookup.now) (IsMissing (L.known_cell lookup.now) arguments.now)
+        (λ b. b)
+        (λ cells. to_logical (value_or (Logical default) (arguments_in cells arguments.now) place))
+        result }
 {
     let default = Value::Logical(default);
     let value = value_or(&default, arguments, place, lookup)?;

@@ -34,7 +34,8 @@ fn empty_beside(alloc: Global, other: &Value) -> Value
 
 /// A value, with another in place of Empty.
 fn or_empty<'a>(value: &'a Value, empty: &'a Value) -> &'a Value
-    ensures { (other : Values) → empty.now ≡ empty_beside other → result.now ≡ beside other value.now }
+    ensures { (other : Values) → empty.now ≡ empty_beside other
+        → result.now ≡ beside other value.now }
 {
     match value {
         Value::Empty => empty,

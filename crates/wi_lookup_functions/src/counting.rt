@@ -28,8 +28,10 @@ pub(crate) fn count_if_value<L: Lookup>(
     arguments: &[Argument],
     lookup: &L,
 ) -> Result<Value, Stop<Address>>
-    ensures done { IfOk result (IsOfArguments (L.known_cell lookup.now) count_if_value arguments.now) }
-    ensures missing { IfErr result (λ s. IfMissing s (IsMissing (L.known_cell lookup.now) arguments.now)) }
+    ensures done { IfOk result
+        (IsOfArguments (L.known_cell lookup.now) count_if_value arguments.now) }
+    ensures missing { IfErr result
+        (λ s. IfMissing s (IsMissing (L.known_cell lookup.now) arguments.now)) }
 {
     settled(count_if(alloc, arguments, lookup))
 }
@@ -49,7 +51,9 @@ fn count_if<L: Lookup>(
 
 /// How many cells of a rectangle meet a criterion. `Err` has a cell whose value isn't known.
 fn count_met<L: Lookup>(criterion: &Criterion, area: Rect, lookup: &L) -> Result<u128, Address>
-    ensures count { IfOk result (λ n. (cells : ℕ → Values) → KnownAgrees (L.known_cell lookup.now) cells → IsCut n (count_by (is_met criterion.now) (map cells (cells_of area)))) }
+    ensures count { IfOk result (λ n. (cells : ℕ → Values)
+        → KnownAgrees (L.known_cell lookup.now) cells
+        → IsCut n (count_by (is_met criterion.now) (map cells (cells_of area)))) }
     ensures missing { IfErr result (λ c. L.known_cell lookup.now c ≡ None) }
     ensures inside { IfErr result (λ c. is_within area c ≡ true) }
 {

@@ -21,7 +21,9 @@ pub(crate) fn area_or(
     place: usize,
 ) -> Result<Rect, ErrorKind>
     requires { IsReferred arguments.now default }
-    ensures region { (cells : ℕ → Values) → region_or (region_in cells (Ok default)) (arguments_in cells arguments.now) place ≡ region_in cells result }
+    ensures region { (cells : ℕ → Values)
+        → region_or (region_in cells (Ok default)) (arguments_in cells arguments.now) place
+        ≡ region_in cells result }
     ensures referred { IfOk result (IsReferred arguments.now) }
 {
     match argument_at(arguments, place) {
@@ -37,7 +39,10 @@ pub(crate) fn criterion_at<L: Lookup>(
     place: usize,
     lookup: &L,
 ) -> Result<Criterion, Ending<Stop<Address>>>
-    ensures { Agrees (L.known_cell lookup.now) (IsMissing (L.known_cell lookup.now) arguments.now) criterion_held (λ cells. criterion_argument (value_at (arguments_in cells arguments.now) place)) result }
+    ensures { Agrees (L.known_cell lookup.now) (IsMissing (L.known_cell lookup.now) arguments.now)
+        criterion_held
+        (λ cells. criterion_argument (value_at (arguments_in cells arguments.now) place))
+        result }
 {
     match argument_at(arguments, place) {
         Some(argument) => criterion_in(alloc, argument, lookup),
@@ -51,7 +56,11 @@ fn criterion_in<L: Lookup>(
     argument: &Argument,
     lookup: &L,
 ) -> Result<Criterion, Ending<Stop<Address>>>
-    ensures { Agrees (L.known_cell lookup.now) (IsMissing (L.known_cell lookup.now) (argument.now ∷ [])) criterion_held (λ cells. criterion_argument (argument_in cells argument.now).value) result }
+    ensures { Agrees (L.known_cell lookup.now)
+        (IsMissing (L.known_cell lookup.now) (argument.now ∷ []))
+        criterion_held
+        (λ cells. criterion_argument (argument_in cells argument.now).value)
+        result }
 {
     let lent = argument.value(lookup)?;
     let value = lent?;

@@ -22,7 +22,8 @@ pub(crate) fn index_value<L: Lookup>(
     lookup: &L,
 ) -> Result<Value, Stop<Address>>
     ensures done { IfOk result (IsOfArguments (L.known_cell lookup.now) index_value arguments.now) }
-    ensures missing { IfErr result (λ s. IfMissing s (IsMissing (L.known_cell lookup.now) arguments.now)) }
+    ensures missing { IfErr result
+        (λ s. IfMissing s (IsMissing (L.known_cell lookup.now) arguments.now)) }
 {
     value_found(alloc, index(arguments, lookup), lookup)
 }

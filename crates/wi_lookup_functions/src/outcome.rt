@@ -20,8 +20,12 @@ pub(crate) fn value_found<L: Lookup>(
     found: Result<Address, Ending<Address>>,
     lookup: &L,
 ) -> Result<Value, Stop<Address>>
-    ensures done { (args : List given.Argument) → (f : List Argument → Values) → Finds (L.known_cell lookup.now) args f found → IfOk result (IsOfArguments (L.known_cell lookup.now) f args) }
-    ensures missing { (args : List given.Argument) → (f : List Argument → Values) → Finds (L.known_cell lookup.now) args f found → IfErr result (λ s. IfMissing s (IsMissing (L.known_cell lookup.now) args)) }
+    ensures done { (args : List given.Argument) → (f : List Argument → Values)
+        → Finds (L.known_cell lookup.now) args f found
+        → IfOk result (IsOfArguments (L.known_cell lookup.now) f args) }
+    ensures missing { (args : List given.Argument) → (f : List Argument → Values)
+        → Finds (L.known_cell lookup.now) args f found
+        → IfErr result (λ s. IfMissing s (IsMissing (L.known_cell lookup.now) args)) }
 {
     match found {
         Ok(cell) => match lookup.cell(cell) {
@@ -37,8 +41,12 @@ pub(crate) fn value_found<L: Lookup>(
 
 /// The place that was found, counted from 1, or the error.
 pub(crate) fn value_placed(found: Result<u32, Ending<Address>>) -> Result<Value, Address>
-    ensures done { (known : ℕ → Option Values) → (args : List given.Argument) → (f : List Argument → Values) → Places known args f found → IfOk result (IsOfArguments known f args) }
-    ensures missing { (known : ℕ → Option Values) → (args : List given.Argument) → (f : List Argument → Values) → Places known args f found → IfErr result (IsMissing known args) }
+    ensures done { (known : ℕ → Option Values) → (args : List given.Argument)
+        → (f : List Argument → Values) → Places known args f found
+        → IfOk result (IsOfArguments known f args) }
+    ensures missing { (known : ℕ → Option Values) → (args : List given.Argument)
+        → (f : List Argument → Values) → Places known args f found
+        → IfErr result (IsMissing known args) }
 {
     match found {
         Ok(place) => Ok(counted_from_one(place)),

@@ -29,8 +29,10 @@ pub(crate) fn sum_product_value<L: Lookup>(
     arguments: &[Argument],
     lookup: &L,
 ) -> Result<Value, Stop<Address>>
-    ensures done { IfOk result (IsOfArguments (L.known_cell lookup.now) sum_product_value arguments.now) }
-    ensures missing { IfErr result (λ s. IfMissing s (IsMissing (L.known_cell lookup.now) arguments.now)) }
+    ensures done { IfOk result
+        (IsOfArguments (L.known_cell lookup.now) sum_product_value arguments.now) }
+    ensures missing { IfErr result
+        (λ s. IfMissing s (IsMissing (L.known_cell lookup.now) arguments.now)) }
 {
     settled(sum_product(alloc, arguments, lookup))
 }
@@ -61,7 +63,8 @@ fn areas_of(alloc: Global, arguments: &[Argument]) -> Result<Vec<Rect>, Ending<S
 
 /// The sum of the products at all places of rectangles, where these have one size.
 fn sum_over<L: Lookup>(areas: &[Rect], lookup: &L) -> Result<Fraction, Ending<Stop<Address>>>
-    ensures { Agrees (L.known_cell lookup.now) (IsMissingInAny (L.known_cell lookup.now) areas.now) (λ x. x) (λ cells. sum_over (map (region_of cells) areas.now)) result }
+    ensures { Agrees (L.known_cell lookup.now) (IsMissingInAny (L.known_cell lookup.now) areas.now)
+        (λ x. x) (λ cells. sum_over (map (region_of cells) areas.now)) result }
 {
     let Some(first) = first_of(areas) else {
         return Ok(zero());
@@ -86,7 +89,8 @@ fn sum_of_products<L: Lookup>(
 ) -> Result<Fraction, Ending<Stop<Address>>>
     requires head { Some first ≡ slice_get areas.now 0 }
     requires size { list_all (same_extent first) areas.now ≡ true }
-    ensures { Agrees (L.known_cell lookup.now) (IsMissingInAny (L.known_cell lookup.now) areas.now) (λ x. x) (λ cells. sum_through cells first areas.now) result }
+    ensures { Agrees (L.known_cell lookup.now) (IsMissingInAny (L.known_cell lookup.now) areas.now)
+        (λ x. x) (λ cells. sum_through cells first areas.now) result }
 {
     let mut sum = zero();
     let mut ahead = next_place(first, areas, &None, lookup);
@@ -109,7 +113,8 @@ fn product_at<L: Lookup>(
 ) -> Result<Fraction, Ending<Stop<Address>>>
     requires within { is_within first at ≡ true }
     requires size { list_all (same_extent first) areas.now ≡ true }
-    ensures { Agrees (L.known_cell lookup.now) (IsMissingInAny (L.known_cell lookup.now) areas.now) (λ x. x) (λ cells. product_there cells first areas.now at) result }
+    ensures { Agrees (L.known_cell lookup.now) (IsMissingInAny (L.known_cell lookup.now) areas.now)
+        (λ x. x) (λ cells. product_there cells first areas.now at) result }
 {
     let mut product = one();
     for area in areas {

@@ -77,7 +77,10 @@ pub(crate) fn place_along<L: Lookup>(
 ) -> Result<u32, Ending<Address>>
     requires { is_line line ≡ true }
     ensures within { IfOk result (λ i. i < length (cells_of line)) }
-    ensures place { Agrees (L.known_cell lookup.now) (IsMissingIn (L.known_cell lookup.now) line) (λ i. i) (λ cells. ok_or (position_by rule sought.now (map cells (cells_of line))) NotAvailable) result }
+    ensures place { Agrees (L.known_cell lookup.now) (IsMissingIn (L.known_cell lookup.now) line)
+        (λ i. i)
+        (λ cells. ok_or (position_by rule sought.now (map cells (cells_of line))) NotAvailable)
+        result }
 {
     let mut search = Search {
         sought,

@@ -28,8 +28,10 @@ pub(crate) fn sum_if_value<L: Lookup>(
     arguments: &[Argument],
     lookup: &L,
 ) -> Result<Value, Stop<Address>>
-    ensures done { IfOk result (IsOfArguments (L.known_cell lookup.now) sum_if_value arguments.now) }
-    ensures missing { IfErr result (λ s. IfMissing s (IsMissing (L.known_cell lookup.now) arguments.now)) }
+    ensures done { IfOk result
+        (IsOfArguments (L.known_cell lookup.now) sum_if_value arguments.now) }
+    ensures missing { IfErr result
+        (λ s. IfMissing s (IsMissing (L.known_cell lookup.now) arguments.now)) }
 {
     settled(sum_if(alloc, arguments, lookup))
 }
@@ -59,7 +61,12 @@ fn sum_met<L: Lookup>(
     lookup: &L,
 ) -> Result<Fraction, Ending<Stop<Address>>>
     requires { same_extent area added ≡ true }
-    ensures { Agrees (L.known_cell lookup.now) (IsMissingInEither (L.known_cell lookup.now) area added) (λ x. x) (λ cells. sum_of_items (values_where (is_met criterion.now) (region_of cells area).values (region_of cells added).values)) result }
+    ensures { Agrees (L.known_cell lookup.now)
+        (IsMissingInEither (L.known_cell lookup.now) area added)
+        (λ x. x)
+        (λ cells. sum_of_items (values_where (is_met criterion.now)
+        (region_of cells area).values (region_of cells added).values))
+        result }
 {
     let mut sum = zero();
     let mut ahead = lookup.next_filled(area, area.first());
@@ -80,7 +87,12 @@ fn with_met<L: Lookup>(
     other: Address,
     lookup: &L,
 ) -> Result<Fraction, Ending<Stop<Address>>>
-    ensures { Agrees (L.known_cell lookup.now) (λ c. (c ≡ other) × (L.known_cell lookup.now c ≡ None)) (λ x. x) (λ cells. if is_met criterion.now value.now then with_cell (Ok sum) (cells other) else Ok sum) result }
+    ensures { Agrees (L.known_cell lookup.now)
+        (λ c. (c ≡ other) × (L.known_cell lookup.now c ≡ None))
+        (λ x. x)
+        (λ cells. if is_met criterion.now value.now
+        then with_cell (Ok sum) (cells other) else Ok sum)
+        result }
 {
     if !criterion.meets(value) {
         return Ok(sum);

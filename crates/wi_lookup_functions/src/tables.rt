@@ -25,8 +25,10 @@ pub(crate) fn v_lookup_value<L: Lookup>(
     arguments: &[Argument],
     lookup: &L,
 ) -> Result<Value, Stop<Address>>
-    ensures done { IfOk result (IsOfArguments (L.known_cell lookup.now) v_lookup_value arguments.now) }
-    ensures missing { IfErr result (λ s. IfMissing s (IsMissing (L.known_cell lookup.now) arguments.now)) }
+    ensures done { IfOk result
+        (IsOfArguments (L.known_cell lookup.now) v_lookup_value arguments.now) }
+    ensures missing { IfErr result
+        (λ s. IfMissing s (IsMissing (L.known_cell lookup.now) arguments.now)) }
 {
     value_found(alloc, look_up(Axis::Rows, arguments, lookup), lookup)
 }
@@ -38,8 +40,10 @@ pub(crate) fn h_lookup_value<L: Lookup>(
     arguments: &[Argument],
     lookup: &L,
 ) -> Result<Value, Stop<Address>>
-    ensures done { IfOk result (IsOfArguments (L.known_cell lookup.now) h_lookup_value arguments.now) }
-    ensures missing { IfErr result (λ s. IfMissing s (IsMissing (L.known_cell lookup.now) arguments.now)) }
+    ensures done { IfOk result
+        (IsOfArguments (L.known_cell lookup.now) h_lookup_value arguments.now) }
+    ensures missing { IfErr result
+        (λ s. IfMissing s (IsMissing (L.known_cell lookup.now) arguments.now)) }
 {
     value_found(alloc, look_up(Axis::Columns, arguments, lookup), lookup)
 }

@@ -49,7 +49,8 @@ fn bare_command<'a>(alloc: Global) -> Command<'a>
 /// The program's command line.
 pub(crate) fn command<'a>(alloc: Global) -> Result<Command<'a>, AllocError>
     ensures app { IfOk result (λ command. app_of command ≡ whatif) }
-    ensures keep { IfOk result (λ command. (m : ArgMatches) → IsParsedFrom command m → ReadsKeep m) }
+    ensures keep { IfOk result
+        (λ command. (m : ArgMatches) → IsParsedFrom command m → ReadsKeep m) }
 {
     bare_command(alloc)
         .arg(load_arg(alloc))?
@@ -59,7 +60,8 @@ pub(crate) fn command<'a>(alloc: Global) -> Result<Command<'a>, AllocError>
 /// How many values are kept.
 pub(crate) fn kept(matches: &ArgMatches<'_>) -> usize
     requires { ReadsKeep matches.now }
-    ensures stated { result ≡ number_or usual_kept (first_value (found_of matches.now) (codes "keep")) }
+    ensures stated { result
+        ≡ number_or usual_kept (first_value (found_of matches.now) (codes "keep")) }
     ensures range { (1 ≤ result) × (result ≤ most_kept) }
 {
     matches.get_one::<u32>("keep").unwrap_or(KEEP) as usize

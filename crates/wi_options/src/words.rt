@@ -14,10 +14,12 @@ use std::alloc::Global;
 
 /// What `clap` reads in the words.
 fn parsed<'a>(alloc: Global, words: &'a [String]) -> Result<ArgMatches<'a>, OptionsFault>
-    ensures stated { IfOk result (λ m. (id : Text) → first_value (found_of m) id ≡ first_of id (stated words.now)) }
+    ensures stated { IfOk result
+        (λ m. (id : Text) → first_value (found_of m) id ≡ first_of id (stated words.now)) }
     ensures keep { IfOk result ReadsKeep }
     ensures whole { IfOk result (λ _. found_amiss words.now ≡ []) }
-    ensures taken { IfErr result (λ fault. is_taken words.now ≡ true → fault ≡ OptionsFault.Memory) }
+    ensures taken { IfErr result
+        (λ fault. is_taken words.now ≡ true → fault ≡ OptionsFault.Memory) }
     ensures amiss { IfErr result (IsFault words.now) }
 {
     Ok(command(alloc)?.try_get_matches_from(words)?)
@@ -32,7 +34,8 @@ pub fn options<'a>(alloc: Global, words: &'a [String]) -> Result<Options<'a>, Op
     // Words in which clap finds anything amiss are refused, a call for help too. Words that clap takes are refused for want of
     // memory alone, others also for what is amiss.
     ensures whole { IfOk result (λ _. found_amiss words.now ≡ []) }
-    ensures taken { IfErr result (λ fault. is_taken words.now ≡ true → fault ≡ OptionsFault.Memory) }
+    ensures taken { IfErr result
+        (λ fault. is_taken words.now ≡ true → fault ≡ OptionsFault.Memory) }
     ensures amiss { IfErr result (IsFault words.now) }
 {
     let matches = parsed(alloc, words)?;

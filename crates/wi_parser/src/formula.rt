@@ -145,7 +145,8 @@ impl Formula {
         // what is printed spells the formula
         ensures spells { Spells loosest self.now (formula_symbols (printed self.now)) }
         // and is read as it, where it isn't too long
-        ensures again { length (printed self.now) ≤ max_formula → parsed (printed self.now) ≡ Ok self.now }
+        ensures again { length (printed self.now) ≤ max_formula
+            → parsed (printed self.now) ≡ Ok self.now }
     {
         let before = out.as_str().len();
         let pushed = print::push_formula(&self.parts.expr, out);
@@ -163,8 +164,10 @@ fn push_leaves(
     inputs: &mut Vec<Address>,
     rectangles: &mut Vec<Rect>,
 ) -> Result<(), AllocError>
-    ensures inputs { IfOk result (λ _. inputs.new.items ≡ inputs.old.items ++ inputs_of (tree_of expr.now)) }
-    ensures rectangles { IfOk result (λ _. rectangles.new.items ≡ rectangles.old.items ++ rectangles_of (tree_of expr.now)) }
+    ensures inputs { IfOk result
+        (λ _. inputs.new.items ≡ inputs.old.items ++ inputs_of (tree_of expr.now)) }
+    ensures rectangles { IfOk result
+        (λ _. rectangles.new.items ≡ rectangles.old.items ++ rectangles_of (tree_of expr.now)) }
 {
     match expr {
         Expr::Number(_) => Ok(()),
@@ -199,8 +202,10 @@ fn push_all_leaves(
     inputs: &mut Vec<Address>,
     rectangles: &mut Vec<Rect>,
 ) -> Result<(), AllocError>
-    ensures inputs { IfOk result (λ _. inputs.new.items ≡ inputs.old.items ++ flat_map leaf_inputs (all_leaves (all_of trees.now))) }
-    ensures rectangles { IfOk result (λ _. rectangles.new.items ≡ rectangles.old.items ++ flat_map leaf_rectangles (all_leaves (all_of trees.now))) }
+    ensures inputs { IfOk result (λ _. inputs.new.items
+        ≡ inputs.old.items ++ flat_map leaf_inputs (all_leaves (all_of trees.now))) }
+    ensures rectangles { IfOk result (λ _. rectangles.new.items
+        ≡ rectangles.old.items ++ flat_map leaf_rectangles (all_leaves (all_of trees.now))) }
 {
     for tree in trees {
         push_leaves(tree, inputs, rectangles)?;
@@ -214,8 +219,10 @@ fn push_pairs(
     inputs: &mut Vec<Address>,
     rectangles: &mut Vec<Rect>,
 ) -> Result<(), AllocError>
-    ensures inputs { IfOk result (λ _. inputs.new.items ≡ inputs.old.items ++ map (λ p. p.0.at) (map pair_of pairs.now)) }
-    ensures rectangles { IfOk result (λ _. rectangles.new.items ≡ rectangles.old.items ++ map (λ p. cell_area p.1.at) (map pair_of pairs.now)) }
+    ensures inputs { IfOk result
+        (λ _. inputs.new.items ≡ inputs.old.items ++ map (λ p. p.0.at) (map pair_of pairs.now)) }
+    ensures rectangles { IfOk result (λ _. rectangles.new.items
+        ≡ rectangles.old.items ++ map (λ p. cell_area p.1.at) (map pair_of pairs.now)) }
 {
     for pair in pairs {
         inputs.push(pair.input.at)?;

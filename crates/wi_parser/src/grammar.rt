@@ -41,10 +41,9 @@ impl<F: Fn(Global, &mut Symbols<'_>, usize) -> Result<Expr, ParseFault>> Grammar
         found: &mut Vec<Expr>,
     ) -> Result<(), ParseFault>
         requires { Nests self.now.depth (F.pre self.now.expression) (F.post self.now.expression) }
-        ensures finds { FindsMore
-            (put_before found.old.items
-            (reader.more_parameters (reader.expression self.now.depth) (length symbols.old) symbols.old))
-            result found.new.items symbols.new }
+        ensures finds { FindsMore (put_before found.old.items
+            (reader.more_parameters (reader.expression self.now.depth)
+            (length symbols.old) symbols.old)) result found.new.items symbols.new }
         ensures shorter { OnOk result (length symbols.new < length symbols.old) }
     {
         while !symbols.take_close() {
@@ -59,8 +58,8 @@ impl<F: Fn(Global, &mut Symbols<'_>, usize) -> Result<Expr, ParseFault>> Grammar
     // The parameters of a call, behind those found, and the parenthesis that closes.
     fn parameters(&self, symbols: &mut Symbols<'_>, found: &mut Vec<Expr>) -> Result<(), ParseFault>
         requires { Nests self.now.depth (F.pre self.now.expression) (F.post self.now.expression) }
-        ensures finds { FindsMore
-            (put_before found.old.items (reader.parameters_at (reader.expression self.now.depth) symbols.old))
+        ensures finds { FindsMore (put_before found.old.items
+            (reader.parameters_at (reader.expression self.now.depth) symbols.old))
             result found.new.items symbols.new }
         ensures shorter { OnOk result (length symbols.new < length symbols.old) }
     {
@@ -74,9 +73,8 @@ impl<F: Fn(Global, &mut Symbols<'_>, usize) -> Result<Expr, ParseFault>> Grammar
     // An expression after the parenthesis that opens, and the one that closes.
     fn enclosed(&self, symbols: &mut Symbols<'_>) -> Result<Expr, ParseFault>
         requires { Nests self.now.depth (F.pre self.now.expression) (F.post self.now.expression) }
-        ensures finds { Finds
-            (reader.read_then (λ t. reader.then_close (tree.parenthesized t)) (reader.expression self.now.depth symbols.old))
-            result symbols.new }
+        ensures finds { Finds (reader.read_then (λ t. reader.then_close (tree.parenthesized t))
+            (reader.expression self.now.depth symbols.old)) result symbols.new }
         ensures shorter { OnOk result (length symbols.new < length symbols.old) }
     {
         let inner = self.inner(symbols)?;
@@ -89,8 +87,8 @@ impl<F: Fn(Global, &mut Symbols<'_>, usize) -> Result<Expr, ParseFault>> Grammar
     // The call of the function with this name, whose parameters follow.
     fn called(&self, name: &Text, symbols: &mut Symbols<'_>) -> Result<Expr, ParseFault>
         requires { Nests self.now.depth (F.pre self.now.expression) (F.post self.now.expression) }
-        ensures finds { Finds (reader.called (reader.expression self.now.depth) name.now (reader.after_open symbols.old))
-            result symbols.new }
+        ensures finds { Finds (reader.called (reader.expression self.now.depth) name.now
+            (reader.after_open symbols.old)) result symbols.new }
         ensures shorter { OnOk result (length symbols.new < length symbols.old) }
     {
         if !symbols.take_open() {
@@ -158,7 +156,8 @@ impl<F: Fn(Global, &mut Symbols<'_>, usize) -> Result<Expr, ParseFault>> Grammar
     // A line of the grammar from percents, which are line 2, to comparisons: an operand, and each operator of the line or a
     // tighter one, with a right operand of the line below the operator's.
     fn line(&self, symbols: &mut Symbols<'_>, line: u8) -> Result<Expr, ParseFault>
-        requires nests { Nests self.now.depth (F.pre self.now.expression) (F.post self.now.expression) }
+        requires nests { Nests self.now.depth (F.pre self.now.expression)
+            (F.post self.now.expression) }
         requires from_percents { 2 ≤ line }
         ensures finds { Finds (reader.line (reader.expression self.now.depth) line symbols.old)
             result symbols.new }

@@ -27,27 +27,32 @@ ghost use Rattle.wi_parser.specs.Shift.{in_sheet, all_references, shifted};
 
 /// A text means a symbol exactly where it is a token of some kind that stands for it.
 pub fn what_tokens_mean()
-    ensures { (text : List ℕ) (s : Symbol) → Means text s ↔ ((k : Kind) × IsToken k text × (symbol_of k text ≡ s)) }
+    ensures { (text : List ℕ) (s : Symbol) → Means text s
+        ↔ ((k : Kind) × IsToken k text × (symbol_of k text ≡ s)) }
 {}
 
 /// The symbols of a text are those of its tokens, and it has no others.
 pub fn what_symbols_are()
-    ensures { (text : List ℕ) (ts : List Symbol) → AreSymbols text ts ↔ (symbols_of (tokens text) ≡ ts) }
+    ensures { (text : List ℕ) (ts : List Symbol) → AreSymbols text ts
+        ↔ (symbols_of (tokens text) ≡ ts) }
 {}
 
 /// The symbols of a formula's text are those of what follows its `=`.
 pub fn what_formula_symbols_are()
-    ensures { (text body : List ℕ) (ts : List Symbol) → IsFormulaText text body → AreSymbols body ts ↔ (formula_symbols text ≡ ts) }
+    ensures { (text body : List ℕ) (ts : List Symbol) → IsFormulaText text body
+        → AreSymbols body ts ↔ (formula_symbols text ≡ ts) }
 {}
 
 /// A formula's text is parsed as one tree, or refused for one cause.
 pub fn what_is_parsed()
-    ensures { (text body : List ℕ) (r : Result Tree ParseFault) → IsFormulaText text body → IsParsed text r ↔ (parsed text ≡ r) }
+    ensures { (text body : List ℕ) (r : Result Tree ParseFault) → IsFormulaText text body
+        → IsParsed text r ↔ (parsed text ≡ r) }
 {}
 
 /// A text stands for one content, or is refused for one cause.
 pub fn what_a_content_is()
-    ensures { (text : List ℕ) (r : Result Content ParseFault) → IsContent text r ↔ (content_read text ≡ r) }
+    ensures { (text : List ℕ) (r : Result Content ParseFault) → IsContent text r
+        ↔ (content_read text ≡ r) }
 {}
 
 /// What is read from symbols is spelled by them.
@@ -57,7 +62,8 @@ pub fn what_is_read()
 
 /// What is spelled is read, where it does not nest too deep.
 pub fn what_is_spelled()
-    ensures { (d : ℕ) (ts : List Symbol) (t : Tree) → Spells loosest t ts → depth t ≤ d → whole (suc d) ts ≡ Some t }
+    ensures { (d : ℕ) (ts : List Symbol) (t : Tree) → Spells loosest t ts → depth t ≤ d
+        → whole (suc d) ts ≡ Some t }
 {}
 
 /// No symbols spell two trees.
@@ -92,7 +98,8 @@ pub fn what_the_lines_spell()
 
 /// A text is read as a tree exactly where it spells the tree within the limits.
 pub fn what_a_text_is()
-    ensures { (text : List ℕ) (t : Tree) → (parsed text ≡ Ok t) ↔ (IsWithinLimits text × Spells loosest t (formula_symbols text)) }
+    ensures { (text : List ℕ) (t : Tree) → (parsed text ≡ Ok t)
+        ↔ (IsWithinLimits text × Spells loosest t (formula_symbols text)) }
 {}
 
 /// The symbols of a formula as printed are those that spell its tree, however long its text is.
@@ -102,7 +109,8 @@ pub fn printed_symbols()
 
 /// A formula as printed is read as its tree, where its text is not too long.
 pub fn printed_reads_back()
-    ensures { (t : Tree) → IsFormulaTree t → length (printed t) ≤ max_formula → parsed (printed t) ≡ Ok t }
+    ensures { (t : Tree) → IsFormulaTree t → length (printed t) ≤ max_formula
+        → parsed (printed t) ≡ Ok t }
 {}
 
 /// A formula whose references are in the sheet stays as it is where it moves by nothing.

@@ -33,7 +33,8 @@ pub fn parse(alloc: Global, text: &str) -> Result<Formula, ParseFault>
     // what is answered is spelled by the text
     ensures found { IfOk result (λ t. Spells loosest t (formula_symbols text.now)) }
     // what the text spells within the limits is answered
-    ensures only { (t : Tree) → Spells loosest t (formula_symbols text.now) → IsWithinLimits text.now → ReadsAs (Ok t) result }
+    ensures only { (t : Tree) → Spells loosest t (formula_symbols text.now)
+        → IsWithinLimits text.now → ReadsAs (Ok t) result }
 {
     if text.len() > MAX_FORMULA {
         return Err(ParseFault::TooLong);

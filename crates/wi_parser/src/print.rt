@@ -24,7 +24,8 @@ use wi_values::Text;
 
 /// Appends the text of a formula with this tree. On an error a part of it may be there.
 pub(crate) fn push_formula(expr: &Expr, out: &mut String) -> Result<(), AllocError>
-    ensures ok { OnOk result (string_bytes out.new ≡ string_bytes out.old ++ printed (tree_of expr.now)) }
+    ensures ok { OnOk result
+        (string_bytes out.new ≡ string_bytes out.old ++ printed (tree_of expr.now)) }
     ensures kept { StartsWith (string_bytes out.new) (string_bytes out.old) }
 {
     out.push_str("=")?;
@@ -34,7 +35,8 @@ pub(crate) fn push_formula(expr: &Expr, out: &mut String) -> Result<(), AllocErr
 // Appends the text of a tree. On an error a part of it may be there.
 #[cycle(print)]
 fn push_tree(expr: &Expr, out: &mut String) -> Result<(), AllocError>
-    ensures ok { OnOk result (string_bytes out.new ≡ string_bytes out.old ++ tree_text (tree_of expr.now)) }
+    ensures ok { OnOk result
+        (string_bytes out.new ≡ string_bytes out.old ++ tree_text (tree_of expr.now)) }
     ensures kept { StartsWith (string_bytes out.new) (string_bytes out.old) }
 {
     match expr {
@@ -57,7 +59,8 @@ fn push_tree(expr: &Expr, out: &mut String) -> Result<(), AllocError>
 // Appends a tree in parentheses. On an error a part of it may be there.
 #[cycle(print)]
 fn push_parenthesized(inner: &Expr, out: &mut String) -> Result<(), AllocError>
-    ensures ok { OnOk result (string_bytes out.new ≡ string_bytes out.old ++ tree_text (tree.parenthesized (tree_of inner.now))) }
+    ensures ok { OnOk result (string_bytes out.new
+        ≡ string_bytes out.old ++ tree_text (tree.parenthesized (tree_of inner.now))) }
     ensures kept { StartsWith (string_bytes out.new) (string_bytes out.old) }
 {
     out.push_str("(")?;
@@ -68,7 +71,8 @@ fn push_parenthesized(inner: &Expr, out: &mut String) -> Result<(), AllocError>
 // Appends a sign and its operand. On an error a part of them may be there.
 #[cycle(print)]
 fn push_signed(sign: Sign, operand: &Expr, out: &mut String) -> Result<(), AllocError>
-    ensures ok { OnOk result (string_bytes out.new ≡ string_bytes out.old ++ tree_text (tree.signed sign (tree_of operand.now))) }
+    ensures ok { OnOk result (string_bytes out.new
+        ≡ string_bytes out.old ++ tree_text (tree.signed sign (tree_of operand.now))) }
     ensures kept { StartsWith (string_bytes out.new) (string_bytes out.old) }
 {
     out.push_str(sign_text(sign))?;
@@ -78,7 +82,8 @@ fn push_signed(sign: Sign, operand: &Expr, out: &mut String) -> Result<(), Alloc
 // Appends an operand and its percent mark. On an error a part of them may be there.
 #[cycle(print)]
 fn push_percent(operand: &Expr, out: &mut String) -> Result<(), AllocError>
-    ensures ok { OnOk result (string_bytes out.new ≡ string_bytes out.old ++ tree_text (tree.percent (tree_of operand.now))) }
+    ensures ok { OnOk result (string_bytes out.new
+        ≡ string_bytes out.old ++ tree_text (tree.percent (tree_of operand.now))) }
     ensures kept { StartsWith (string_bytes out.new) (string_bytes out.old) }
 {
     push_tree(operand, out)?;
@@ -88,7 +93,8 @@ fn push_percent(operand: &Expr, out: &mut String) -> Result<(), AllocError>
 // Appends an operator and the operand after it. On an error a part of them may be there.
 #[cycle(print)]
 fn push_operation(op: Operator, operand: &Expr, out: &mut String) -> Result<(), AllocError>
-    ensures ok { OnOk result (string_bytes out.new ≡ string_bytes out.old ++ (spec.operator_text op ++ tree_text (tree_of operand.now))) }
+    ensures ok { OnOk result (string_bytes out.new
+        ≡ string_bytes out.old ++ (spec.operator_text op ++ tree_text (tree_of operand.now))) }
     ensures kept { StartsWith (string_bytes out.new) (string_bytes out.old) }
 {
     out.push_str(operator_text(op))?;
@@ -98,7 +104,8 @@ fn push_operation(op: Operator, operand: &Expr, out: &mut String) -> Result<(), 
 // Appends a call. On an error a part of it may be there.
 #[cycle(print)]
 fn push_call(name: &Text, parameters: &[Expr], out: &mut String) -> Result<(), AllocError>
-    ensures ok { OnOk result (string_bytes out.new ≡ string_bytes out.old ++ tree_text (tree.call name.now (all_of parameters.now))) }
+    ensures ok { OnOk result (string_bytes out.new
+        ≡ string_bytes out.old ++ tree_text (tree.call name.now (all_of parameters.now))) }
     ensures kept { StartsWith (string_bytes out.new) (string_bytes out.old) }
 {
     out.push_str(name.as_str())?;
@@ -109,7 +116,8 @@ fn push_call(name: &Text, parameters: &[Expr], out: &mut String) -> Result<(), A
 // Appends parameters and the parenthesis that closes. On an error a part of them may be there.
 #[cycle(print)]
 fn push_parameters(parameters: &[Expr], out: &mut String) -> Result<(), AllocError>
-    ensures ok { OnOk result (string_bytes out.new ≡ string_bytes out.old ++ symbols_text (spelling_of_all (all_of parameters.now))) }
+    ensures ok { OnOk result (string_bytes out.new
+        ≡ string_bytes out.old ++ symbols_text (spelling_of_all (all_of parameters.now))) }
     ensures kept { StartsWith (string_bytes out.new) (string_bytes out.old) }
 {
     let mut separator = "";
@@ -153,7 +161,8 @@ fn dollar(is_absolute: bool) -> &'static str
 
 // Appends a reference. On an error a part of it may be there.
 fn push_reference(at: Reference, out: &mut String) -> Result<(), AllocError>
-    ensures ok { OnOk result (string_bytes out.new ≡ string_bytes out.old ++ reference_text (cell_named at)) }
+    ensures ok { OnOk result
+        (string_bytes out.new ≡ string_bytes out.old ++ reference_text (cell_named at)) }
     ensures kept { StartsWith (string_bytes out.new) (string_bytes out.old) }
 {
     out.push_str("[.")?;
@@ -163,7 +172,8 @@ fn push_reference(at: Reference, out: &mut String) -> Result<(), AllocError>
 
 // Appends a reference to a rectangle. On an error a part of it may be there.
 fn push_rectangle(corners: Corners, out: &mut String) -> Result<(), AllocError>
-    ensures ok { OnOk result (string_bytes out.new ≡ string_bytes out.old ++ rectangle_text (cell_named corners.one) (cell_named corners.other)) }
+    ensures ok { OnOk result (string_bytes out.new ≡ string_bytes out.old
+        ++ rectangle_text (cell_named corners.one) (cell_named corners.other)) }
     ensures kept { StartsWith (string_bytes out.new) (string_bytes out.old) }
 {
     out.push_str("[.")?;
@@ -175,7 +185,8 @@ fn push_rectangle(corners: Corners, out: &mut String) -> Result<(), AllocError>
 
 // Appends the cell of a reference. On an error a part of it may be there.
 fn push_cell(at: Reference, out: &mut String) -> Result<(), AllocError>
-    ensures ok { OnOk result (string_bytes out.new ≡ string_bytes out.old ++ cell_text (cell_named at)) }
+    ensures ok { OnOk result
+        (string_bytes out.new ≡ string_bytes out.old ++ cell_text (cell_named at)) }
     ensures kept { StartsWith (string_bytes out.new) (string_bytes out.old) }
 {
     out.push_str(dollar(at.column_is_absolute))?;
@@ -186,7 +197,8 @@ fn push_cell(at: Reference, out: &mut String) -> Result<(), AllocError>
 
 // Appends a what-if. On an error a part of it may be there.
 fn push_what_if(formula_cell: Reference, pairs: &[Pair], out: &mut String) -> Result<(), AllocError>
-    ensures ok { OnOk result (string_bytes out.new ≡ string_bytes out.old ++ tree_text (tree.what_if formula_cell (map pair_of pairs.now))) }
+    ensures ok { OnOk result (string_bytes out.new
+        ≡ string_bytes out.old ++ tree_text (tree.what_if formula_cell (map pair_of pairs.now))) }
     ensures kept { StartsWith (string_bytes out.new) (string_bytes out.old) }
 {
     out.push_str("MULTIPLE.OPERATIONS(")?;
@@ -209,7 +221,8 @@ fn push_pairs(pairs: &[Pair], out: &mut String) -> Result<(), AllocError>
 // Appends an input and its replacement cell, each after a separator. On an error a part of them may be there.
 #[tactic(auto, using(crate::proofs::PrintLemmas::starts_trans, crate::proofs::PrintLemmas::starts_more, crate::proofs::PrintLemmas::starts_itself))]
 fn push_pair(pair: Pair, out: &mut String) -> Result<(), AllocError>
-    ensures ok { OnOk result (string_bytes out.new ≡ string_bytes out.old ++ symbols_text (pair_symbols (pair_of pair))) }
+    ensures ok { OnOk result (string_bytes out.new
+        ≡ string_bytes out.old ++ symbols_text (pair_symbols (pair_of pair))) }
     ensures kept { StartsWith (string_bytes out.new) (string_bytes out.old) }
 {
     out.push_str(";")?;

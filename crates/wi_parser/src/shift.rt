@@ -65,7 +65,8 @@ pub(crate) fn all_stay(expr: &Expr, rows: i64, columns: i64) -> bool
 
 #[cycle(staying)]
 fn each_stays(exprs: &[Expr], rows: i64, columns: i64) -> bool
-    ensures { result ≡ list_all (shift.stays rows columns) (flat_map shift.leaf_references (all_leaves (all_of exprs.now))) }
+    ensures { result ≡ list_all (shift.stays rows columns)
+        (flat_map shift.leaf_references (all_leaves (all_of exprs.now))) }
 {
     for expr in exprs {
         if !all_stay(expr, rows, columns) {
@@ -76,7 +77,8 @@ fn each_stays(exprs: &[Expr], rows: i64, columns: i64) -> bool
 }
 
 fn pairs_stay(pairs: &[Pair], rows: i64, columns: i64) -> bool
-    ensures { result ≡ list_all (shift.stays rows columns) (flat_map (λ q. q.0 ∷ q.1 ∷ []) (map pair_of pairs.now)) }
+    ensures { result ≡ list_all (shift.stays rows columns)
+        (flat_map (λ q. q.0 ∷ q.1 ∷ []) (map pair_of pairs.now)) }
 {
     pairs.iter().all(|p| stays(&p.input, rows, columns) && stays(&p.replacement, rows, columns))
 }
@@ -89,7 +91,8 @@ pub(crate) fn shifted(
     rows: i64,
     columns: i64,
 ) -> Result<Expr, AllocError>
-    ensures { IfOk result (λ e. tree_of e ≡ shift.map_references (shift.moved rows columns) (tree_of expr.now)) }
+    ensures { IfOk result
+        (λ e. tree_of e ≡ shift.map_references (shift.moved rows columns) (tree_of expr.now)) }
 {
     match expr {
         Expr::Number(x) => Ok(Expr::Number(*x)),
@@ -117,7 +120,8 @@ pub(crate) fn shifted(
 // A part of a tree, in a box.
 #[cycle(shift)]
 fn boxed(alloc: Global, expr: &Expr, rows: i64, columns: i64) -> Result<Box<Expr>, AllocError>
-    ensures { IfOk result (λ b. tree_of b.value ≡ shift.map_references (shift.moved rows columns) (tree_of expr.now)) }
+    ensures { IfOk result (λ b. tree_of b.value
+        ≡ shift.map_references (shift.moved rows columns) (tree_of expr.now)) }
 {
     Ok(Box::new(alloc, shifted(alloc, expr, rows, columns)?)?)
 }
@@ -130,7 +134,8 @@ fn each_shifted(
     rows: i64,
     columns: i64,
 ) -> Result<Vec<Expr>, AllocError>
-    ensures { IfOk result (λ v. all_of v.items ≡ shift.map_references_in (shift.moved rows columns) (all_of exprs.now)) }
+    ensures { IfOk result (λ v. all_of v.items
+        ≡ shift.map_references_in (shift.moved rows columns) (all_of exprs.now)) }
 {
     let mut moved = Vec::new(alloc);
     for expr in exprs {
@@ -147,7 +152,9 @@ fn what_if(
     rows: i64,
     columns: i64,
 ) -> Result<Expr, AllocError>
-    ensures { IfOk result (λ e. tree_of e ≡ tree.what_if (shift.moved rows columns f.now) (map (λ q. (shift.moved rows columns q.0, shift.moved rows columns q.1)) (map pair_of pairs.now))) }
+    ensures { IfOk result (λ e. tree_of e ≡ tree.what_if (shift.moved rows columns f.now)
+        (map (λ q. (shift.moved rows columns q.0, shift.moved rows columns q.1))
+        (map pair_of pairs.now))) }
 {
     let formula_cell = moved(f, rows, columns);
     let pairs = moved_pairs(alloc, pairs, rows, columns)?;
@@ -160,7 +167,9 @@ fn moved_pairs(
     rows: i64,
     columns: i64,
 ) -> Result<Vec<Pair>, AllocError>
-    ensures { IfOk result (λ v. map pair_of v.items ≡ map (λ q. (shift.moved rows columns q.0, shift.moved rows columns q.1)) (map pair_of pairs.now)) }
+    ensures { IfOk result (λ v. map pair_of v.items
+        ≡ map (λ q. (shift.moved rows columns q.0, shift.moved rows columns q.1))
+        (map pair_of pairs.now)) }
 {
     let mut all = Vec::new(alloc);
     for pair in pairs {

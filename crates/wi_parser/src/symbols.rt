@@ -143,7 +143,8 @@ impl<'a> Symbols<'a> {
 
     /// Takes the next symbol, if it is an operator of this line of the grammar or a tighter one.
     pub(crate) fn take_operator(&mut self, line: u8) -> Option<Operator>
-        ensures { MatchOption result ((operator_within line self.old ≡ None) × (self.new ≡ self.old))
+        ensures { MatchOption result
+            ((operator_within line self.old ≡ None) × (self.new ≡ self.old))
             (λ op. operator_within line self.old ≡ Some (op, self.new)) }
     {
         match self.rest {

@@ -25,8 +25,8 @@ pub(crate) fn symbols_of(alloc: Global, text: &str) -> Result<Vec<Symbol>, Alloc
 // Appends the symbols of a formula's text without its prefix. Where it does not begin with `=`, a refused one is the first.
 #[tactic(auto, using(crate::proofs::Collected::pushed))]
 fn push_all(alloc: Global, text: &str, symbols: &mut Vec<Symbol>) -> Result<(), AllocError>
-    ensures { IfOk result
-        (λ _. all_meant symbols.new.items ≡ all_meant symbols.old.items ++ symbols_by text.now (spec.after (codes "=") text.now)) }
+    ensures { IfOk result (λ _. all_meant symbols.new.items
+        ≡ all_meant symbols.old.items ++ symbols_by text.now (spec.after (codes "=") text.now)) }
 {
     let Some(body) = after("=", text) else {
         symbols.push(Symbol::Refused(ParseFault::Syntax))?;
@@ -37,8 +37,8 @@ fn push_all(alloc: Global, text: &str, symbols: &mut Vec<Symbol>) -> Result<(), 
 
 // Appends the symbols of the tokens, up to the first bad one.
 fn push_symbols(alloc: Global, text: &str, symbols: &mut Vec<Symbol>) -> Result<(), AllocError>
-    ensures { IfOk result
-        (λ _. all_meant symbols.new.items ≡ all_meant symbols.old.items ++ symbols_of (tokens text.now)) }
+    ensures { IfOk result (λ _. all_meant symbols.new.items
+        ≡ all_meant symbols.old.items ++ symbols_of (tokens text.now)) }
 {
     let mut lexer = Lexer::new(text);
     while let Some(next) = lexer.next_token() {

@@ -53,9 +53,12 @@ fn add_numbered(
     requires blocks { blocks_in numbered.now.pair around.now ≡ blocks_of numbered.now.pair }
     requires on_sheet { around.now.first + 2 ^ around.now.level ≤ rows }
     requires row { first_row numbered.now.pair < rows }
-    ensures added { IfOk result (λ added. added ≡ not (nat_lt numbered.now.number (count_of (bag_of pieces.old.keys) numbered.now.pair))) }
-    ensures more { IfOk result (λ added. IsTrue added → HasOneMore numbered.now.pair (bag_of pieces.old.keys) (bag_of pieces.new.keys)) }
-    ensures same { IfOk result (λ added. added ≡ false → bag_of pieces.new.keys ≡ bag_of pieces.old.keys) }
+    ensures added { IfOk result (λ added. added
+        ≡ not (nat_lt numbered.now.number (count_of (bag_of pieces.old.keys) numbered.now.pair))) }
+    ensures more { IfOk result (λ added. IsTrue added
+        → HasOneMore numbered.now.pair (bag_of pieces.old.keys) (bag_of pieces.new.keys)) }
+    ensures same { IfOk result
+        (λ added. added ≡ false → bag_of pieces.new.keys ≡ bag_of pieces.old.keys) }
     ensures whole { AreWhole pieces.new.keys }
     ensures err { OnErr result (bag_of pieces.new.keys ≡ bag_of pieces.old.keys) }
 {
@@ -72,7 +75,8 @@ fn add_numbered(
 /// Adds a pair. On an error all is as before.
 pub(crate) fn add_pair(pieces: &mut Pieces, pair: &RangePair) -> Result<(), AllocError>
     requires { AreWhole pieces.old.keys }
-    ensures more { OnOk result (HasOneMore pair.now (bag_of pieces.old.keys) (bag_of pieces.new.keys)) }
+    ensures more { OnOk result
+        (HasOneMore pair.now (bag_of pieces.old.keys) (bag_of pieces.new.keys)) }
     ensures whole { AreWhole pieces.new.keys }
     ensures err { OnErr result (bag_of pieces.new.keys ≡ bag_of pieces.old.keys) }
 {

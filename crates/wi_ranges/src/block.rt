@@ -83,7 +83,8 @@ impl Block {
     pub(crate) fn lower(&self) -> Block
         requires level { 0 < self.now.level }
         requires on_sheet { self.now.first + 2 ^ self.now.level ≤ rows }
-        ensures value { result ≡ block (self.now.level - 1) (self.now.first + 2 ^ (self.now.level - 1)) }
+        ensures value { result
+            ≡ block (self.now.level - 1) (self.now.first + 2 ^ (self.now.level - 1)) }
         ensures within { result.first + 2 ^ result.level ≤ rows }
     {
         Block {

@@ -101,7 +101,8 @@ impl Few {
 
     /// Puts them into a set. If memory runs out, some of them may be in it.
     pub(crate) fn add_to(&self, set: &mut RisingSet) -> Result<(), AllocError>
-        ensures { OnOk result ((r : ℕ) → contains nat_cmp set.new r ≡ (contains nat_cmp set.old r || has_cell self.now r)) }
+        ensures { OnOk result ((r : ℕ) → contains nat_cmp set.new r
+            ≡ (contains nat_cmp set.old r || has_cell self.now r)) }
     {
         match &self.held {
             Held::One(first) => {
@@ -191,7 +192,8 @@ impl Many {
 
     /// Puts them into a set. If memory runs out, some of them may be in it.
     fn add_to(&self, set: &mut RisingSet) -> Result<(), AllocError>
-        ensures { OnOk result ((r : ℕ) → contains nat_cmp set.new r ≡ (contains nat_cmp set.old r || has_cell self.now r)) }
+        ensures { OnOk result ((r : ℕ) → contains nat_cmp set.new r
+            ≡ (contains nat_cmp set.old r || has_cell self.now r)) }
     {
         set.insert(self.first)?;
         insert_all(set, &self.others)
@@ -208,7 +210,8 @@ fn place_of(cells: &[Address], cell: Address) -> Option<usize>
 
 /// Puts cells into a set. If memory runs out, some of them may be in it.
 fn insert_all(set: &mut RisingSet, cells: &[Address]) -> Result<(), AllocError>
-    ensures { OnOk result ((r : ℕ) → contains nat_cmp set.new r ≡ (contains nat_cmp set.old r || has_cell cells.now r)) }
+    ensures { OnOk result ((r : ℕ) → contains nat_cmp set.new r
+        ≡ (contains nat_cmp set.old r || has_cell cells.now r)) }
 {
     for cell in cells {
         set.insert(*cell)?;

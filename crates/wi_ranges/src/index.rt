@@ -82,7 +82,8 @@ impl RangeIndex {
     /// up to the highest at which a piece stands, at most 21.
     pub fn readers_of(&self, at: Address) -> Result<Vec<Address>, AllocError>
         ensures order { IfOk result (λ readers. IsStrictlyIncreasing readers.items) }
-        ensures readers { IfOk result (λ readers. (r : ℕ) → Contains readers.items r ↔ IsReader self.now at r) }
+        ensures readers { IfOk result
+            (λ readers. (r : ℕ) → Contains readers.items r ↔ IsReader self.now at r) }
     {
         let mut readers = RisingSet::new(self.alloc);
         self.singles.add_readers(at, &mut readers)?;

@@ -28,7 +28,8 @@ fn highest_level(pieces: &Pieces) -> u32
 /// The block that holds a row, of the highest level at which a piece stands. At those above it nothing stands.
 fn highest_block(pieces: &Pieces, row: u32) -> Block
     ensures within { result.first + 2 ^ result.level ≤ rows }
-    ensures all { (a r : ℕ) → list_any (reads_at (blocks_with row result.level result.first) a r) pieces.now.keys
+    ensures all { (a r : ℕ)
+        → list_any (reads_at (blocks_with row result.level result.first) a r) pieces.now.keys
         ≡ list_any (reads_at (blocks_with row 20 0) a r) pieces.now.keys }
 {
     let level = highest_level(pieces);
@@ -47,7 +48,9 @@ fn add_readers(
     block: &Block,
     readers: &mut RisingSet,
 ) -> Result<(), AllocError>
-    ensures { OnOk result ((r : ℕ) → contains nat_cmp readers.new r ≡ (contains nat_cmp readers.old r || list_any (reads_at (block.now ∷ []) at r) pieces.now.keys)) }
+    ensures { OnOk result ((r : ℕ) → contains nat_cmp readers.new r
+        ≡ (contains nat_cmp readers.old r
+        || list_any (reads_at (block.now ∷ []) at r) pieces.now.keys)) }
 {
     let from = (*block, Numbered::lowest());
     for (place, numbered) in pieces.range(from..) {
@@ -72,7 +75,8 @@ fn add_all_readers(
 ) -> Result<(), AllocError>
     requires { block.now.first + 2 ^ block.now.level ≤ rows }
     ensures { OnOk result ((r : ℕ) → contains nat_cmp readers.new r
-        ≡ (contains nat_cmp readers.old r || list_any (reads_at (blocks_with row block.now.level block.now.first) at r) pieces.now.keys)) }
+        ≡ (contains nat_cmp readers.old r || list_any
+        (reads_at (blocks_with row block.now.level block.now.first) at r) pieces.now.keys)) }
 {
     add_readers(pieces, at, block, readers)?;
     if block.level > 0 {
@@ -88,7 +92,8 @@ pub(crate) fn add_readers_of(
     readers: &mut RisingSet,
 ) -> Result<(), AllocError>
     ensures found { OnOk result ((r : ℕ) → contains nat_cmp readers.new r
-        ≡ (contains nat_cmp readers.old r || list_any (reads_at (blocks_with (row_of at) 20 0) at r) pieces.now.keys)) }
+        ≡ (contains nat_cmp readers.old r
+        || list_any (reads_at (blocks_with (row_of at) 20 0) at r) pieces.now.keys)) }
     ensures row { row_of at < rows }
 {
     let row = at.row();
@@ -118,7 +123,8 @@ fn has_readers_at(pieces: &Pieces, at: Address, block: &Block) -> bool
 /// Whether a cell has a reader that stands at a block that holds the row, or at one of the halves, quarters and so on that do.
 fn has_readers_within(pieces: &Pieces, at: Address, row: u32, block: &Block) -> bool
     requires { block.now.first + 2 ^ block.now.level ≤ rows }
-    ensures { IsTrue result ↔ IsReadAt (blocks_with row block.now.level block.now.first) at pieces.now.keys }
+    ensures { IsTrue result
+        ↔ IsReadAt (blocks_with row block.now.level block.now.first) at pieces.now.keys }
 {
     if has_readers_at(pieces, at, block) {
         return true;

@@ -49,7 +49,8 @@ impl RisingSet {
     /// order costs the same however many there are; with any other the work grows with the logarithm of their count.
     pub fn insert(&mut self, cell: Address) -> Result<bool, AllocError>
         ensures added { IfOk result (λ added. added ≡ not (contains nat_cmp self.old cell)) }
-        ensures has { OnOk result ((c : ℕ) → contains nat_cmp self.new c ≡ (contains nat_cmp self.old c || c == cell)) }
+        ensures has { OnOk result
+            ((c : ℕ) → contains nat_cmp self.new c ≡ (contains nat_cmp self.old c || c == cell)) }
         ensures err { OnErr result (self.new ≡ self.old) }
     {
         if ends_before(&self.rising, cell) {
@@ -66,7 +67,8 @@ impl RisingSet {
     /// with their count.
     pub fn into_list(self) -> Result<Vec<Address>, AllocError>
         ensures order { IfOk result (λ list. IsStrictlyIncreasing list.items) }
-        ensures cells { IfOk result (λ list. (c : ℕ) → Contains list.items c ↔ IsTrue (contains nat_cmp self c)) }
+        ensures cells { IfOk result
+            (λ list. (c : ℕ) → Contains list.items c ↔ IsTrue (contains nat_cmp self c)) }
     {
         let RisingSet { rising, others } = self;
         if others.is_empty() {
@@ -98,7 +100,8 @@ fn is_among(cells: &[Address], cell: Address) -> bool
 /// merge.
 fn merged(mut cells: Vec<Address>, others: &BTreeSet<Address>) -> Result<Vec<Address>, AllocError>
     ensures order { IfOk result (λ list. IsStrictlyIncreasing list.items) }
-    ensures cells { IfOk result (λ list. (c : ℕ) → Contains list.items c ↔ Contains (cells.items ++ others.now.keys) c) }
+    ensures cells { IfOk result
+        (λ list. (c : ℕ) → Contains list.items c ↔ Contains (cells.items ++ others.now.keys) c) }
 {
     cells.extend(others.iter().copied())?;
     cells.sort()?;

@@ -59,7 +59,8 @@ impl Singles {
     /// Adds a pair if it is one of one cell and there is room for it, and answers whether it is. If memory runs out, all is as
     /// before.
     pub(crate) fn add(&mut self, pair: &RangePair) -> Result<bool, AllocError>
-        ensures more { IfOk result (λ added. IsTrue added → HasPairMore pair.now self.old self.new) }
+        ensures more { IfOk result
+            (λ added. IsTrue added → HasPairMore pair.now self.old self.new) }
         ensures same { IfOk result (λ added. added ≡ false → self.new ≡ self.old) }
         ensures err { OnErr result (self.new ≡ self.old) }
     {
@@ -88,7 +89,8 @@ impl Singles {
 
     /// Adds the readers of a cell to a set. If memory runs out, some of them may be in it.
     pub(crate) fn add_readers(&self, at: Address, set: &mut RisingSet) -> Result<(), AllocError>
-        ensures { OnOk result ((r : ℕ) → contains nat_cmp set.new r ≡ (contains nat_cmp set.old r || list_any (pair_reads at r) self.now)) }
+        ensures { OnOk result ((r : ℕ) → contains nat_cmp set.new r
+            ≡ (contains nat_cmp set.old r || list_any (pair_reads at r) self.now)) }
     {
         match self.readers.get(&at) {
             Some(few) => few.add_to(set),
@@ -122,9 +124,11 @@ impl Singles {
 /// all is as before.
 fn add_reader(alloc: Global, readers: &mut Readers, pair: &RangePair) -> Result<bool, AllocError>
     requires { IsUnique nat_eq readers.old }
-    ensures more { IfOk result (λ added. IsTrue added → HasPairMore pair.now (pairs_of readers.old.entries) (pairs_of readers.new.entries)) }
+    ensures more { IfOk result (λ added. IsTrue added
+        → HasPairMore pair.now (pairs_of readers.old.entries) (pairs_of readers.new.entries)) }
     ensures block { IfOk result (λ added. IsTrue added → length (blocks_of pair.now) ≡ 1) }
-    ensures same { IfOk result (λ added. added ≡ false → pairs_of readers.new.entries ≡ pairs_of readers.old.entries) }
+    ensures same { IfOk result
+        (λ added. added ≡ false → pairs_of readers.new.entries ≡ pairs_of readers.old.entries) }
     ensures err { OnErr result (pairs_of readers.new.entries ≡ pairs_of readers.old.entries) }
     ensures unique { IsUnique nat_eq readers.new }
 {
@@ -141,9 +145,11 @@ fn add_reader(alloc: Global, readers: &mut Readers, pair: &RangePair) -> Result<
 /// Takes one such pair away if there is one, and answers whether there was.
 fn remove_reader(readers: &mut Readers, pair: &RangePair) -> bool
     requires { IsUnique nat_eq readers.old }
-    ensures less { IsTrue result → HasPairMore pair.now (pairs_of readers.new.entries) (pairs_of readers.old.entries) }
+    ensures less { IsTrue result
+        → HasPairMore pair.now (pairs_of readers.new.entries) (pairs_of readers.old.entries) }
     ensures block { IsTrue result → length (blocks_of pair.now) ≡ 1 }
-    ensures none { result ≡ false → list_any (is_same pair.now) (pairs_of readers.old.entries) ≡ false }
+    ensures none { result ≡ false
+        → list_any (is_same pair.now) (pairs_of readers.old.entries) ≡ false }
     ensures same { result ≡ false → pairs_of readers.new.entries ≡ pairs_of readers.old.entries }
     ensures unique { IsUnique nat_eq readers.new }
 {

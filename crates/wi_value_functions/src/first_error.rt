@@ -8,7 +8,8 @@ use wi_values::{ErrorKind, Value};
 
 /// The error, where the value is one.
 pub fn no_error(value: &Value) -> Result<(), ErrorKind>
-    ensures { MatchResult result (λ _. no_error value.now ≡ Ok value.now) (λ e. no_error value.now ≡ Err e) }
+    ensures { MatchResult result (λ _. no_error value.now ≡ Ok value.now)
+        (λ e. no_error value.now ≡ Err e) }
 {
     match value {
         Value::Empty => Ok(()),

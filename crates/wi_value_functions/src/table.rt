@@ -84,8 +84,10 @@ static ROWS: [Row; 51] = [
 /// The function that a call with that name, in capitals, and so many parameters is a call of: `UnknownName` where none has
 /// the name, else `BadValue` where it doesn't take so many. Six comparisons of names at most.
 pub fn function_for(name: &str, count: usize) -> Result<Function, ErrorKind>
-    ensures found { IfOk result (λ f. (args : List Argument) → length args ≡ count → call_value name.now args ≡ applied f args) }
-    ensures refused { IfErr result (λ e. (args : List Argument) → length args ≡ count → call_value name.now args ≡ Fault e) }
+    ensures found { IfOk result (λ f. (args : List Argument) → length args ≡ count
+        → call_value name.now args ≡ applied f args) }
+    ensures refused { IfErr result
+        (λ e. (args : List Argument) → length args ≡ count → call_value name.now args ≡ Fault e) }
 {
     let Some((_, least, greatest, function)) = row_of(name) else {
         return Err(ErrorKind::UnknownName);

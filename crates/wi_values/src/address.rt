@@ -117,7 +117,8 @@ impl Address {
     /// Appends the text, as `B12`. On an error the text is as before.
     #[tactic(auto, unfolding(crate::specs::Address::address_text))]
     pub fn push_text(self, text: &mut String) -> Result<(), AllocError>
-        ensures ok { OnOk result (string_bytes text.new ≡ string_bytes text.old ++ address_text self) }
+        ensures ok { OnOk result
+            (string_bytes text.new ≡ string_bytes text.old ++ address_text self) }
         ensures err { OnErr result (string_bytes text.new ≡ string_bytes text.old) }
     {
         let mut buffer = Buffer::new();
@@ -129,7 +130,8 @@ impl Address {
 
     /// Appends the letters of the column, as `B`. On an error the text is as before.
     pub fn push_column(self, text: &mut String) -> Result<(), AllocError>
-        ensures ok { OnOk result (string_bytes text.new ≡ string_bytes text.old ++ column_letters (column_of self)) }
+        ensures ok { OnOk result
+            (string_bytes text.new ≡ string_bytes text.old ++ column_letters (column_of self)) }
         ensures err { OnErr result (string_bytes text.new ≡ string_bytes text.old) }
     {
         text.reserve(3)?;
@@ -139,7 +141,8 @@ impl Address {
 
     /// Appends the number of the row, counted from 1. On an error the text is as before.
     pub fn push_row(self, text: &mut String) -> Result<(), AllocError>
-        ensures ok { OnOk result (string_bytes text.new ≡ string_bytes text.old ++ decimal (row_of self + 1)) }
+        ensures ok { OnOk result
+            (string_bytes text.new ≡ string_bytes text.old ++ decimal (row_of self + 1)) }
         ensures err { OnErr result (string_bytes text.new ≡ string_bytes text.old) }
     {
         let mut buffer = Buffer::new();

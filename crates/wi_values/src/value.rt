@@ -71,7 +71,8 @@ impl Value {
     /// Appends the shown text. On an error the text is as before.
     #[tactic(auto, unfolding(crate::specs::Value::shown_text))]
     pub fn push_shown(&self, text: &mut String) -> Result<(), AllocError>
-        ensures ok { OnOk result (string_bytes text.new ≡ string_bytes text.old ++ shown_text self.now) }
+        ensures ok { OnOk result
+            (string_bytes text.new ≡ string_bytes text.old ++ shown_text self.now) }
         ensures err { OnErr result (string_bytes text.new ≡ string_bytes text.old) }
     {
         match self {

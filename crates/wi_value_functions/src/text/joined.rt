@@ -42,7 +42,8 @@ fn concatenate(alloc: Global, values: &[Value]) -> Result<Value, Ending<AllocErr
 /// Appends what a value is as a text.
 fn push_text(value: &Value, text: &mut String) -> Result<(), Ending<AllocError>>
     ensures taken { Agrees (λ _. shown_text value.now) result (to_text value.now) }
-    ensures done { OnOk result (string_bytes text.new ≡ string_bytes text.old ++ shown_text value.now) }
+    ensures done { OnOk result
+        (string_bytes text.new ≡ string_bytes text.old ++ shown_text value.now) }
 {
     match value {
         Value::Fault(e) => Err(Ending::Error(*e)),
