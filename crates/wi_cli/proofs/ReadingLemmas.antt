@@ -1,12 +1,13 @@
 -- A line that is being read.
-use Rattle.std.proofs.Common.{◌≡◌, ℕ, ◌<◌, Bool, true, false, ◌||◌, cond, List, [], ◌∷◌, ◌++◌, length, drop, refl, sym, ap, ◌∙◌, subst, arith, Option, append_assoc, append-nil}
+use Rattle.std.proofs.Common.{◌≡◌, ℕ, ◌<◌, ◌≤◌, Bool, true, false, ◌||◌, cond, List, [], ◌∷◌, ◌++◌, length, drop, refl, sym, ap, ◌∙◌, subst, arith, Option, Result, Err, append_assoc, append-nil}
 use Rattle.std.specs.Io.KnownBytes.{IsAtEnd, prepend_known}
 use Rattle.std.proofs.KnownBytes.{Consumes-trans}
 use Rattle.std.proofs.lemmas.Bool.{false≢true}
-use Rattle.wi_cli.specs.declared.fault.RunFault.TheVariants.{Read, ScriptLimit}
+use Rattle.wi_cli.specs.declared.fault.RunFault.{RunFault}
+use Rattle.wi_cli.specs.declared.fault.RunFault.TheVariants.{Read, Write, ScriptLimit}
 use Rattle.wi_cli.specs.Inner.Ahead.{Takes}
 use Rattle.wi_cli.specs.Lines.{is_whole}
-use Rattle.wi_cli.specs.Inner.Reading.{line_front, raw, TookPart, TookLine, Broke}
+use Rattle.wi_cli.specs.Inner.Reading.{line_front, raw, CanRead, HasStopped, TookPart, TookLine, Broke}
 use Rattle.wi_cli.proofs.AheadLemmas.{buffered}
 use Rattle.wi_cli.proofs.LineLemmas.{is_whole-append}
 
@@ -86,3 +87,21 @@ pub limited : (allowed : Bool) (a : List ℕ) (p : Option (List ℕ)) (b : List 
 limited allowed a p [] q c h l e no_more = absurd (omega arith)
 limited allowed a p (x ∷ xs) q c h l e no_more =
     (x, no_more, Takes-trans a p (x ∷ xs) q c q [] (x ∷ []) h (buffered q (x ∷ xs) c (x ∷ []) (ap (λ l. x ∷ l) (sym e))))
+
+-- ---- how a call leaves the reader of lines
+
+-- the source can't be read
+pub stops_unread : {fault : RunFault} {has_failed : Bool} {capacity : ℕ} → 65537 ≤ capacity → has_failed ≡ true → HasStopped fault has_failed capacity
+stops_unread room failed = record { room = room; failed = λ _. failed }
+
+-- there are too many lines
+pub stops_limited : {has_failed : Bool} {capacity : ℕ} → 65537 ≤ capacity → HasStopped ScriptLimit has_failed capacity
+stops_limited room = record { room = room; failed = λ (e : ScriptLimit ≡ Read). cc }
+
+-- a reply can't be written
+pub stops_unwritten : {has_failed : Bool} {capacity : ℕ} → CanRead has_failed capacity → HasStopped Write has_failed capacity
+stops_unwritten h = record { room = h.room; failed = λ (e : Write ≡ Read). cc }
+
+-- where a run can't be read, its source has failed
+pub failed_unread : {has_failed : Bool} {capacity : ℕ} (r : Result (Unit {0}) RunFault) (e fault : RunFault) → r ≡ Err e → e ≡ fault → HasStopped fault has_failed capacity → r ≡ Err Read → has_failed ≡ true
+failed_unread r e fault is same h k = h.failed (let one : fault ≡ Read = cc in one)

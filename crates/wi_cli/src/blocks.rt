@@ -1,15 +1,16 @@
 //! The blocks of a script: a line, and the data lines that it takes.
 
-ghost use Rattle.std.specs.Prelude.{◌≡◌, ◌+◌, ◌≤◌, [], List, ℕ, Option, false, true, MatchResult, OnOk, Err, vec_capacity};
+ghost use Rattle.std.specs.Prelude.{◌≡◌, ◌≤◌, [], List, ℕ, Option, MatchResult, vec_capacity};
 ghost use Rattle.wi_scenarios.specs.Step.{Command};
 ghost use Rattle.wi_cli.specs.Lines.{max_lines};
+ghost use Rattle.wi_cli.specs.Inner.Reading.{CanRead, ReadsOn};
 ghost use Rattle.wi_cli.specs.Inner.Turn.{TookBlock, BrokeBlock, IsRead};
 ghost use Rattle.wi_cli.specs.Inner.Told.{Told};
 
 use crate::csv_line::{CsvLine, read_csv_line};
 use crate::data_lines::{DataLines, read_data};
 use crate::fault::RunFault;
-use crate::lines::{LineReader, MAX_LINE, next_line};
+use crate::lines::{LineReader, next_line};
 use crate::reply::Reply;
 use crate::serve::serve;
 use crate::serve_csv::serve_csv;
@@ -32,17 +33,16 @@ pub(crate) fn read_block<R: Source>(
     source: &mut R,
     data_lines: &mut DataLines,
 ) -> Result<Block, RunFault>
-    requires works { R.has_failed source.old ≡ false }
-    requires room { MAX_LINE + 1 ≤ vec_capacity script.old.line }
+    requires reads { CanRead (R.has_failed source.old) (vec_capacity script.old.line) }
     requires few { script.old.lines ≤ max_lines }
     ensures took { MatchResult result
         (λ block. (command : Option Command)
-        × TookBlock command block.whole script.old.chunk (R.remaining source.old) script.new.chunk (R.remaining source.new) script.old.lines script.new.lines
+        × TookBlock command block.whole script.old.chunk (R.remaining source.old)
+        script.new.chunk (R.remaining source.new) script.old.lines script.new.lines
         × IsRead command block.csv script.new.line.items data_lines.new)
-        (λ e. BrokeBlock e script.old.chunk (R.remaining source.old) script.new.chunk (R.remaining source.new) script.old.lines) }
-    ensures room { MAX_LINE + 1 ≤ vec_capacity script.new.line }
-    ensures works { OnOk result (R.has_failed source.new ≡ false) }
-    ensures failed { result ≡ Err RunFault.Read → R.has_failed source.new ≡ true }
+        (λ e. BrokeBlock e script.old.chunk (R.remaining source.old)
+        script.new.chunk (R.remaining source.new) script.old.lines) }
+    ensures reads { ReadsOn result (R.has_failed source.new) (vec_capacity script.new.line) }
 {
     let whole = next_line(script, source)?;
     match read_csv_line(&script.line) {

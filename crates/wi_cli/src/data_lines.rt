@@ -1,10 +1,10 @@
 //! The data lines behind a line that asks for them.
 
-ghost use Rattle.std.specs.Prelude.{◌≡◌, ◌+◌, ◌<◌, ◌≤◌, ◌++◌, ◌∷◌, ◌&&◌, ◌||◌, nat_lt, [], List, ℕ, false, true, length, MatchResult, IfOk, OnOk, Err, vec_capacity};
+ghost use Rattle.std.specs.Prelude.{◌≡◌, ◌+◌, ◌<◌, ◌≤◌, ◌++◌, ◌∷◌, ◌&&◌, ◌||◌, nat_lt, [], List, ℕ, false, true, length, MatchResult, IfOk, OnOk, vec_capacity};
 ghost use Rattle.std.specs.Io.KnownBytes.{IsAtEnd, prepend_known};
 ghost use Rattle.wi_cli.specs.Lines.{raw_lines, is_whole};
 ghost use Rattle.wi_cli.specs.Lines.{max_lines};
-ghost use Rattle.wi_cli.specs.Inner.Reading.{raw, line_front};
+ghost use Rattle.wi_cli.specs.Inner.Reading.{raw, line_front, CanRead, ReadsOn};
 ghost use Rattle.wi_cli.specs.Inner.Data.{wants, Holds, HoldsLines, AddedTo, TookData, BrokeData};
 
 use crate::csv_line::CsvLine;
@@ -131,18 +131,20 @@ pub(crate) fn read_data<R: Source>(
     csv: &CsvLine,
     mut whole: bool,
 ) -> Result<bool, RunFault>
-    requires works { R.has_failed source.old ≡ false }
-    requires room { MAX_LINE + 1 ≤ vec_capacity script.old.line }
+    requires reads { CanRead (R.has_failed source.old) (vec_capacity script.old.line) }
     requires few { script.old.lines ≤ max_lines }
-    requires at_end { whole ≡ false → IsAtEnd (prepend_known script.old.chunk (R.remaining source.old)) }
+    requires at_end { whole ≡ false
+        → IsAtEnd (prepend_known script.old.chunk (R.remaining source.old)) }
     ensures took { MatchResult result
-        (λ end. TookData csv.now.lines data_lines.new whole end script.old.chunk (R.remaining source.old) script.new.chunk (R.remaining source.new) script.old.lines script.new.lines)
-        (λ e. BrokeData csv.now.lines whole e script.old.chunk (R.remaining source.old) script.new.chunk (R.remaining source.new) script.old.lines) }
+        (λ end. TookData csv.now.lines data_lines.new whole end
+        script.old.chunk (R.remaining source.old)
+        script.new.chunk (R.remaining source.new) script.old.lines script.new.lines)
+        (λ e. BrokeData csv.now.lines whole e
+        script.old.chunk (R.remaining source.old)
+        script.new.chunk (R.remaining source.new) script.old.lines) }
     ensures all { IfOk result (λ end. end ≡ true → data_lines.new.missing ≡ 0) }
     ensures wanted { OnOk result (data_lines.new.wanted ≡ wants csv.now) }
-    ensures room { MAX_LINE + 1 ≤ vec_capacity script.new.line }
-    ensures works { OnOk result (R.has_failed source.new ≡ false) }
-    ensures failed { result ≡ Err RunFault.Read → R.has_failed source.new ≡ true }
+    ensures reads { ReadsOn result (R.has_failed source.new) (vec_capacity script.new.line) }
 {
     data_lines.begin(csv);
     'taking: while data_lines.goes_on(whole) {

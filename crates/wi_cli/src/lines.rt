@@ -1,8 +1,8 @@
 //! The lines of a source.
 
-ghost use Rattle.std.specs.Prelude.{◌++◌, ◌∷◌, [], List, ℕ, ◌≡◌, ◌+◌, ◌<◌, ◌≤◌, false, true, MatchResult, nat_lt, vec_capacity, Err, OnOk, if◌then◌else◌};
+ghost use Rattle.std.specs.Prelude.{◌++◌, ◌∷◌, [], List, ℕ, ◌≡◌, ◌+◌, ◌<◌, ◌≤◌, false, true, MatchResult, nat_lt, vec_capacity, if◌then◌else◌};
 ghost use Rattle.wi_cli.specs.Lines.{max_lines};
-ghost use Rattle.wi_cli.specs.Inner.Reading.{TookLine, TookPart, Broke, line_front};
+ghost use Rattle.wi_cli.specs.Inner.Reading.{CanRead, ReadsOn, TookLine, TookPart, Broke, line_front};
 
 use crate::chunk::Chunk;
 use crate::fault::RunFault;
@@ -34,14 +34,13 @@ pub(crate) fn read_line<R: Source>(
     line: &mut Vec<u8>,
     allowed: bool,
 ) -> Result<bool, RunFault>
-    requires works { R.has_failed source.old ≡ false }
-    requires room { MAX_LINE + 1 ≤ vec_capacity line.old }
+    requires { CanRead (R.has_failed source.old) (vec_capacity line.old) }
     ensures took { MatchResult result
-        (λ whole. TookLine allowed whole chunk.old (R.remaining source.old) chunk.new (R.remaining source.new) line.new.items)
-        (λ e. Broke e allowed chunk.old (R.remaining source.old) chunk.new (R.remaining source.new)) }
-    ensures room { MAX_LINE + 1 ≤ vec_capacity line.new }
-    ensures works { OnOk result (R.has_failed source.new ≡ false) }
-    ensures failed { result ≡ Err RunFault.Read → R.has_failed source.new ≡ true }
+        (λ whole. TookLine allowed whole chunk.old (R.remaining source.old)
+        chunk.new (R.remaining source.new) line.new.items)
+        (λ e. Broke e allowed chunk.old (R.remaining source.old)
+        chunk.new (R.remaining source.new)) }
+    ensures reads { ReadsOn result (R.has_failed source.new) (vec_capacity line.new) }
 {
     line.clear();
     if !chunk.fill(source)? {
@@ -85,7 +84,8 @@ fn take_part(chunk: &mut Chunk, line: &mut Vec<u8>) -> bool
 /// Adds bytes to the front of a line, up to one byte more than the limit.
 fn keep(line: &mut Vec<u8>, bytes: &[u8])
     requires { MAX_LINE + 1 ≤ vec_capacity line.old }
-    ensures kept { (content : List ℕ) → line.old.items ≡ line_front content → line.new.items ≡ line_front (content ++ bytes.now) }
+    ensures kept { (content : List ℕ) → line.old.items ≡ line_front content
+        → line.new.items ≡ line_front (content ++ bytes.now) }
     ensures room { MAX_LINE + 1 ≤ vec_capacity line.new }
 {
     let room = (MAX_LINE + 1).saturating_sub(line.len());
@@ -105,15 +105,16 @@ pub(crate) fn next_line<R: Source>(
     script: &mut LineReader,
     source: &mut R,
 ) -> Result<bool, RunFault>
-    requires works { R.has_failed source.old ≡ false }
-    requires room { MAX_LINE + 1 ≤ vec_capacity script.old.line }
+    requires { CanRead (R.has_failed source.old) (vec_capacity script.old.line) }
     ensures took { MatchResult result
-        (λ whole. TookLine (nat_lt script.old.lines max_lines) whole script.old.chunk (R.remaining source.old) script.new.chunk (R.remaining source.new) script.new.line.items
+        (λ whole. TookLine (nat_lt script.old.lines max_lines) whole
+        script.old.chunk (R.remaining source.old)
+        script.new.chunk (R.remaining source.new) script.new.line.items
         × (script.new.lines ≡ script.old.lines + (if whole then 1 else 0)))
-        (λ e. Broke e (nat_lt script.old.lines max_lines) script.old.chunk (R.remaining source.old) script.new.chunk (R.remaining source.new)) }
-    ensures room { MAX_LINE + 1 ≤ vec_capacity script.new.line }
-    ensures works { OnOk result (R.has_failed source.new ≡ false) }
-    ensures failed { result ≡ Err RunFault.Read → R.has_failed source.new ≡ true }
+        (λ e. Broke e (nat_lt script.old.lines max_lines)
+        script.old.chunk (R.remaining source.old)
+        script.new.chunk (R.remaining source.new)) }
+    ensures reads { ReadsOn result (R.has_failed source.new) (vec_capacity script.new.line) }
 {
     let allowed = may_go_on(script.lines);
     let whole = read_line(&mut script.chunk, source, &mut script.line, allowed)?;

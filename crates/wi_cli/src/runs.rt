@@ -1,7 +1,8 @@
 //! Runs a script.
 
-ghost use Rattle.std.specs.Prelude.{◌≡◌, ◌+◌, ◌≤◌, OnOk, OnErr, IfErr, MatchResult, Ok, Err, false, true, vec_capacity};
+ghost use Rattle.std.specs.Prelude.{◌≡◌, ◌≤◌, OnOk, OnErr, IfErr, MatchResult, Err, false, true, vec_capacity};
 ghost use Rattle.std.specs.Io.KnownBytes.{Keeps};
+ghost use Rattle.wi_cli.specs.Inner.Reading.{CanRead, ReadsOn};
 ghost use Rattle.wi_cli.specs.Inner.Turn.{Turned, Stopped};
 ghost use Rattle.wi_cli.specs.Lines.{max_lines};
 ghost use Rattle.wi_cli.specs.Outcome.{IsRun};
@@ -26,21 +27,20 @@ fn turn<R: Source, W: Sink, C: Calculator>(
     data_lines: &mut DataLines,
     out: &mut Vec<u8>,
 ) -> Result<bool, RunFault>
-    requires reads { R.has_failed reader.old ≡ false }
+    requires reads { CanRead (R.has_failed reader.old) (vec_capacity script.old.line) }
     requires writes { W.has_failed writer.old ≡ false }
-    requires room { MAX_LINE + 1 ≤ vec_capacity script.old.line }
     requires few { script.old.lines ≤ max_lines }
     ensures done { MatchResult result
-        (λ whole. Turned whole script.old.chunk (R.remaining reader.old) script.new.chunk (R.remaining reader.new) script.old.lines script.new.lines
+        (λ whole. Turned whole script.old.chunk (R.remaining reader.old)
+        script.new.chunk (R.remaining reader.new) script.old.lines script.new.lines
         book.old.state book.new.state (W.contents writer.old) (W.contents writer.new))
-        (λ e. Stopped e script.old.chunk (R.remaining reader.old) script.new.chunk (R.remaining reader.new) script.old.lines
+        (λ e. Stopped e script.old.chunk (R.remaining reader.old)
+        script.new.chunk (R.remaining reader.new) script.old.lines
         book.old.state book.new.state (W.contents writer.old) (W.contents writer.new)) }
-    ensures reads { OnOk result (R.has_failed reader.new ≡ false) }
+    ensures reads { ReadsOn result (R.has_failed reader.new) (vec_capacity script.new.line) }
     ensures writes { OnOk result (W.has_failed writer.new ≡ false) }
-    ensures read_fault { result ≡ Err RunFault.Read → R.has_failed reader.new ≡ true }
     ensures write_fault { result ≡ Err RunFault.Write → W.has_failed writer.new ≡ true }
     ensures no_memory { result ≡ Err RunFault.Memory → ⊥ }
-    ensures room { MAX_LINE + 1 ≤ vec_capacity script.new.line }
 {
     let block = match read_block(script, reader, data_lines) {
         Ok(block) => block,

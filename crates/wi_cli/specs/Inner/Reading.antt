@@ -1,5 +1,5 @@
 -- What the reader of lines takes.
-use Rattle.std.specs.Prelude.{◌≡◌, ℕ, ◌+◌, ◌<◌, Bool, true, false, List, [], ◌∷◌, ◌++◌, length, take, Option, if◌then◌else◌, codes}
+use Rattle.std.specs.Prelude.{◌≡◌, ℕ, ◌+◌, ◌<◌, ◌≤◌, Bool, true, false, List, [], ◌∷◌, ◌++◌, length, take, Option, Result, MatchResult, if◌then◌else◌, codes}
 use Rattle.std.specs.Io.KnownBytes.{IsAtEnd, prepend_known}
 use Rattle.wi_cli.specs.declared.fault.RunFault.{RunFault}
 use Rattle.wi_cli.specs.declared.fault.RunFault.TheVariants.{Memory, Read, Write, ScriptLimit}
@@ -13,6 +13,20 @@ line_front line = take (max_line + 1) line
 -- the bytes of a line, with its LF if that came
 abbrev pub raw : Bool → List ℕ → List ℕ
 raw whole content = content ++ (if whole then codes "\n" else [])
+
+-- What the reader of lines needs: a source that hasn't failed, and room for a line and one byte more.
+pub record CanRead (has_failed : Bool) (capacity : ℕ) : Type 0 where
+  pub works : has_failed ≡ false
+  pub room : max_line + 1 ≤ capacity
+
+-- It stopped. The room is there still, and a source that can't be read has failed.
+pub record HasStopped (fault : RunFault) (has_failed : Bool) (capacity : ℕ) : Type 0 where
+  pub room : max_line + 1 ≤ capacity
+  pub failed : fault ≡ Read → has_failed ≡ true
+
+-- how a call leaves it: it can read on, or it has stopped
+abbrev pub ReadsOn : {X : Type 0} → Result X RunFault → Bool → ℕ → Type 0
+ReadsOn r has_failed capacity = MatchResult r (λ _. CanRead has_failed capacity) (λ e. HasStopped e has_failed capacity)
 
 -- The bytes in the buffer were taken up to the first LF, and with it, or all of them. The front that is kept goes on with them.
 pub record TookPart (whole : Bool) (buffer buffer' line line' : List ℕ) : Type 0 where

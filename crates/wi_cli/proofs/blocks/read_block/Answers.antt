@@ -12,6 +12,16 @@ returns-in_err-whole-clause-took g c =
     let p = err_from_is_err_and c.from_residual.result c.from_residual.ensures.1 in
     rw (p.1, p.2) (first_broke _ _ _ _ _ c.args.script.now.lines c.requires.few c.in_err-whole.ensures.took)
 
+pub returns-in_err-whole-clause-reads : goal.returns-in_err-whole-clause-reads
+returns-in_err-whole-clause-reads g c =
+    let p = err_from_is_err_and c.from_residual.result c.from_residual.ensures.1 in
+    rw (p.1, p.2) c.in_err-whole.ensures.reads
+
+pub returns-in_err-whole-in-Some-clause-reads : goal.returns-in_err-whole-in-Some-clause-reads
+returns-in_err-whole-in-Some-clause-reads g c =
+    let p = err_from_is_err_and c.from_residual-in_err-whole-in-Some.result c.from_residual-in_err-whole-in-Some.ensures.1 in
+    rw (p.1, p.2) c.in_err-whole-in-Some.ensures.reads
+
 pub returns-in_err-whole-in-Some-clause-took : goal.returns-in_err-whole-in-Some-clause-took
 returns-in_err-whole-in-Some-clause-took g c =
     let p = err_from_is_err_and c.from_residual-in_err-whole-in-Some.result c.from_residual-in_err-whole-in-Some.ensures.1 in

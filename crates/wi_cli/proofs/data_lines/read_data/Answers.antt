@@ -9,8 +9,7 @@ taking-init g c =
       taken = data_begun c.args.csv.now.lines c.begin.new.self c.args.whole _ _ c.args.script.now.lines c.requires.few c.requires.at_end c.begin.ensures.missing c.begin.ensures.held;
       wanted = c.begin.ensures.wanted;
       few = c.requires.few;
-      works = c.requires.works;
-      room = c.requires.room;
+      reads = c.requires.reads;
     }
 
 pub returns-in_err-whole-clause-took : goal.returns-in_err-whole-clause-took
@@ -20,6 +19,11 @@ returns-in_err-whole-clause-took g c =
     let on = sym c.goes_on.ensures ∙ c.taking-test.true in
     rw (p.1, p.2) (data_stopped _ _ c.args.whole _ _ _ _ _ _ _ _ c.taking.script.lines old.few
     (rw (goes_on_whole c.taking.whole _ on) at old.taken) (goes_on_some c.taking.whole _ on) c.in_err-whole.ensures.took)
+
+pub returns-in_err-whole-clause-reads : goal.returns-in_err-whole-clause-reads
+returns-in_err-whole-clause-reads g c =
+    let p = err_from_is_err_and c.from_residual.result c.from_residual.ensures.1 in
+    rw (p.1, p.2) c.in_err-whole.ensures.reads
 
 pub taking-smaller : goal.taking-smaller
 taking-smaller g c =
@@ -39,6 +43,5 @@ taking-preserved g c =
       taken = taken;
       wanted = more.wanted ∙ old.wanted;
       few = still_few taken;
-      works = c.in_ok-whole.ensures.works;
-      room = c.next_line.ensures.room;
+      reads = c.in_ok-whole.ensures.reads;
     }

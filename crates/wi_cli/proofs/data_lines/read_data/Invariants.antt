@@ -1,5 +1,6 @@
-use Rattle.std.proofs.Common.{◌≡◌, ◌+◌, ◌≤◌, cond, false, vec_capacity}
+use Rattle.std.proofs.Common.{◌≡◌, ◌+◌, ◌≤◌, cond, vec_capacity}
 use Rattle.wi_cli.specs.Inner.Data.{wants, TookData}
+use Rattle.wi_cli.specs.Inner.Reading.{CanRead}
 use Rattle.wi_cli.proofs.data_lines.read_data.Given as goal
 
 abbrev pub invariant-taking : goal.invariant-taking
@@ -9,8 +10,7 @@ invariant-taking g l =
       taken : TookData l.csv.lines l.data_lines l.fn.whole l.whole l.fn.script.chunk (left l.fn.source) l.script.chunk (left l.source) l.fn.script.lines l.script.lines;
       wanted : l.data_lines.wanted ≡ wants l.csv;
       few : l.script.lines ≤ 1000000;
-      works : g.R.Source.has_failed l.source ≡ false;
-      room : 65537 ≤ vec_capacity l.script.line;
+      reads : CanRead (g.R.Source.has_failed l.source) (vec_capacity l.script.line);
     }
 
 abbrev pub decreases-taking : goal.decreases-taking

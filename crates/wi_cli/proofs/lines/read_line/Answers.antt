@@ -1,7 +1,18 @@
 use Rattle.std.proofs.Common.{rules}
 use Rattle.std.proofs.lemmas.Result.{err_from_is_err_and}
-use Rattle.wi_cli.proofs.ReadingLemmas.{begun, went_on, ended, failed, came, limited}
+use Rattle.wi_cli.proofs.ReadingLemmas.{begun, went_on, ended, failed, came, limited, stops_unread, stops_limited}
 use Rattle.wi_cli.proofs.lines.read_line.Goals as goal
+
+pub returns-in_err-fill-clause-reads : goal.returns-in_err-fill-clause-reads
+returns-in_err-fill-clause-reads g c =
+    let p = err_from_is_err_and c.from_residual.result c.from_residual.ensures.1 in
+    rw (p.1, p.2) (stops_unread (search rules) c.in_err-fill.ensures.failed)
+
+pub returns-then-not-branch-clause-reads : goal.returns-then-not-branch-clause-reads
+returns-then-not-branch-clause-reads g c = record { works = c.in_ok-fill.ensures.failed; room = search rules }
+
+pub returns-then-not-allowed-clause-reads : goal.returns-then-not-allowed-clause-reads
+returns-then-not-allowed-clause-reads g c = search (rules, stops_limited)
 
 pub returns-then-not-branch-clause-took : goal.returns-then-not-branch-clause-took
 returns-then-not-branch-clause-took g c =
@@ -48,6 +59,17 @@ returns-in_err-fill-2-clause-took g c =
     rw (p.1, p.2, c.in_err-fill-2.ensures.fault)
     (failed c.args.allowed c.args.chunk.now (left c.args.source.now) c.fill-in-loop-chunk.new.self (left c.fill-in-loop-chunk.new.source) c.take_part.new.line.items
     (went_on _ _ _ _ _ _ _ _ _ _ old.within c.loop-chunk-test.ensures.took old.may c.fill-in-loop-chunk.ensures.kept) c.in_err-fill-2.ensures.empty)
+
+pub returns-then-not-branch-2-clause-reads : goal.returns-then-not-branch-2-clause-reads
+returns-then-not-branch-2-clause-reads g c = record { works = c.in_ok-fill-2.ensures.failed; room = c.take_part.ensures.room }
+
+pub returns-in_err-fill-2-clause-reads : goal.returns-in_err-fill-2-clause-reads
+returns-in_err-fill-2-clause-reads g c =
+    let p = err_from_is_err_and c.from_residual-in_err-fill-2.result c.from_residual-in_err-fill-2.ensures.1 in
+    rw (p.1, p.2) (stops_unread c.take_part.ensures.room c.in_err-fill-2.ensures.failed)
+
+pub returns-clause-reads : goal.returns-clause-reads
+returns-clause-reads g c = record { works = c.loop-chunk.invariant.works; room = search rules }
 
 pub returns-clause-took : goal.returns-clause-took
 returns-clause-took g c =

@@ -2,6 +2,7 @@ use Rattle.std.proofs.Common.{Err, rules, arith}
 use Rattle.std.proofs.lemmas.Result.{err_from_is_err_and}
 use Rattle.wi_cli.proofs.OutcomeLemmas.{going_none, going_on, ends_sent, ends_stopped, still_few, one_more, all_read, run_is}
 use Rattle.wi_cli.proofs.EndingLemmas.{not_run}
+use Rattle.wi_cli.proofs.ReadingLemmas.{failed_unread}
 use Rattle.wi_cli.proofs.runs.run.Goals as goal
 
 pub turns-init : goal.turns-init
@@ -9,9 +10,8 @@ turns-init g c =
     record {
       going = rw c.new-chunk.ensures (going_none _ _ _);
       few = omega arith;
-      reads = c.requires.reads;
+      reads = record { works = c.requires.reads; room = search rules };
       writes = c.requires.writes;
-      room = search rules;
     }
 
 pub turns-preserved : goal.turns-preserved
@@ -23,7 +23,6 @@ turns-preserved g c =
       few = still_few turned;
       reads = c.in_ok-turn.ensures.reads;
       writes = c.in_ok-turn.ensures.writes;
-      room = c.turn.ensures.room;
     }
 
 pub turns-smaller : goal.turns-smaller
@@ -44,7 +43,7 @@ returns-in_err-turn g c =
     record {
       runs =
           run_is _ _ _ _ _ _ _ _ _ _ _ _ (rw (p.1, p.2) (ends_stopped _ _ _ _ _ _ _ _ _ _ _ _ c.turns.script.lines old.going c.in_err-turn.ensures.done))
-          (search rules) (search rules) (search rules) (search rules) (search rules) (search rules) (search rules) (search rules);
+          (search rules) (search rules) (search rules) (search rules) (failed_unread _ _ _ p.1 p.2 c.in_err-turn.ensures.reads) (search rules) (search rules) (search rules);
     }
 
 pub returns : goal.returns

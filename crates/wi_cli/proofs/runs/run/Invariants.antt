@@ -1,4 +1,5 @@
 use Rattle.std.proofs.Common.{◌≡◌, ◌-◌, ◌≤◌, false, vec_capacity}
+use Rattle.wi_cli.specs.Inner.Reading.{CanRead}
 use Rattle.wi_cli.proofs.OutcomeLemmas.{IsGoing}
 use Rattle.wi_cli.proofs.runs.run.Given as goal
 
@@ -9,9 +10,8 @@ invariant-turns g l =
     record {
       going : IsGoing (left l.fn.reader) l.script.chunk (left l.reader) l.fn.book.state l.book.state (given l.fn.writer) (given l.writer) l.script.lines;
       few : l.script.lines ≤ 1000000;
-      reads : g.R.Source.has_failed l.reader ≡ false;
+      reads : CanRead (g.R.Source.has_failed l.reader) (vec_capacity l.script.line);
       writes : g.W.Sink.has_failed l.writer ≡ false;
-      room : 65537 ≤ vec_capacity l.script.line;
     }
 
 abbrev pub decreases-turns : goal.decreases-turns

@@ -1,4 +1,5 @@
 use Rattle.std.proofs.Common.{rules}
+use Rattle.wi_cli.proofs.ReadingLemmas.{stops_unwritten}
 use Rattle.wi_cli.proofs.TurnLemmas.{turned, cut_short, stopped}
 use Rattle.wi_cli.proofs.runs.turn.Goals as goal
 
@@ -16,3 +17,6 @@ returns-in-Err-write_reply-clause-done g c =
     let k = c.in-Ok.ensures.took in
     let told = rw c.deref.ensures.value at c.serve_block-reply.ensures in
     cut_short _ _ _ _ _ _ _ _ _ _ _ k.0 c.serve_block-reply.result c.serve_block-reply.new.out.items k.1 (told k.0 k.2) (rw c.deref-2.ensures.value at c.in-Err-write_reply.ensures.err)
+
+pub returns-in-Err-write_reply-clause-reads : goal.returns-in-Err-write_reply-clause-reads
+returns-in-Err-write_reply-clause-reads g c = stops_unwritten c.in-Ok.ensures.reads
