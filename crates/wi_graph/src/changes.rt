@@ -1,11 +1,11 @@
 //! What an edit brings, by its cells.
 
-ghost use Rattle.std.specs.Prelude.{◌≡◌, ◌↔◌, ◌==◌, ◌&&◌, ◌∷◌, ℕ, [], if◌then◌else◌, IsTrue, IfOk, OnOk};
+ghost use Rattle.std.specs.Prelude.{◌≡◌, ◌↔◌, ◌==◌, ◌&&◌, ◌∷◌, ℕ, [], if◌then◌else◌, IsTrue, IfSome, IfOk, OnOk};
 ghost use Rattle.std.specs.Map.{keys_of};
 ghost use Rattle.std.specs.Option.{is_none};
 ghost use Rattle.wi_graph.specs.Edges.{areas_in};
 ghost use Rattle.wi_graph.specs.Inner.Rooms.{items_of, room_at, room_over, AreInOrder};
-ghost use Rattle.wi_graph.specs.Inner.Changes.{Brings, HasNoIdle, ReadsStay};
+ghost use Rattle.wi_graph.specs.Inner.Changes.{cells_in, Brings, HasNoIdle, ReadsStay};
 
 use crate::rooms::{Brought, Coming, Rooms, is_vacant};
 use std::alloc::{AllocError, Global};
@@ -20,6 +20,50 @@ pub(crate) type Change = (Address, Option<Content>);
 type Sorted = BTreeMap<Address, Option<Vec<Rect>>>;
 
 /// The cells of an edit.
+#[derive(Drop)]
+pub enum EditedCells {
+    /// The one of an edit of one cell takes no memory.
+    One(Address),
+    More(Vec<Address>),
+}
+
+impl EditedCells {
+    /// One after another.
+    pub fn as_slice(&self) -> &[Address]
+        ensures { result.now ≡ cells_in self.now }
+    {
+        match self {
+            EditedCells::One(cell) => std::slice::from_ref(cell),
+            EditedCells::More(cells) => cells.as_slice(),
+        }
+    }
+}
+
+/// The cells of an edit, of which each gets a content or none, in its order.
+pub fn edited_cells(
+    alloc: Global,
+    changes: &[(Address, Option<Content>)],
+) -> Result<EditedCells, AllocError>
+    ensures { IfOk result (λ cells. cells_in cells ≡ keys_of changes.now) }
+{
+    match lone_cell(changes) {
+        Some(at) => Ok(EditedCells::One(at)),
+        None => Ok(EditedCells::More(changed_cells(alloc, changes)?)),
+    }
+}
+
+/// The cell of an edit of one cell.
+fn lone_cell(changes: &[Change]) -> Option<Address>
+    ensures { IfSome result (λ at. keys_of changes.now ≡ at ∷ []) }
+{
+    if changes.len() != 1 {
+        return None;
+    }
+    let change = &changes[0];
+    Some(change.0)
+}
+
+/// The same in a list.
 pub(crate) fn changed_cells(alloc: Global, changes: &[Change]) -> Result<Vec<Address>, AllocError>
     ensures { IfOk result (λ v. v.items ≡ keys_of changes.now) }
 {

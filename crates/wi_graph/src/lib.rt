@@ -21,5 +21,6 @@ mod turning;
 mod watch;
 mod within;
 
+pub use changes::{EditedCells, edited_cells};
 pub use graph::Graph;
 pub use watch::Watch;

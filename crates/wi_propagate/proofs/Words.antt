@@ -36,7 +36,6 @@ pub use Rattle.wi_engine.specs.Inner.Spends.{IsSameBeside, Saved, Spends}
 pub use Rattle.wi_functions.specs.Counts.{Counts}
 pub use Rattle.wi_functions.specs.Meaning.{zero_for_empty}
 pub use Rattle.wi_graph.proofs.Agreement.{circular_same}
-pub use Rattle.wi_graph.proofs.ChangeSteps.{cells_step, lone_key}
 pub use Rattle.wi_graph.proofs.Cones.{cone_closed, cone_has, cone_stays, outside_circular, outside_content, outside_reaches}
 pub use Rattle.wi_graph.proofs.EdgeLemmas.{edges_follow}
 pub use Rattle.wi_graph.proofs.GraphSteps.{same_reaches}

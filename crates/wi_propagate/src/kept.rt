@@ -1,6 +1,6 @@
 //! A calculator that keeps what it has calculated.
 
-ghost use Rattle.std.specs.Prelude.{◌≡◌, ◌≤◌, ◌⊎◌, ◌+◌, ◌&&◌, ◌||◌, ◌∷◌, [], ℕ, not, Some, None, true, false, if◌then◌else◌, length, sum_by, All, IfSome, IfOk, OnOk, OnErr, is_ok};
+ghost use Rattle.std.specs.Prelude.{◌≡◌, ◌≤◌, ◌⊎◌, ◌+◌, ◌&&◌, ◌||◌, ◌∷◌, [], ℕ, not, Some, None, true, false, if◌then◌else◌, length, sum_by, All, IfOk, OnOk, OnErr, is_ok};
 ghost use Rattle.std.specs.List.{list_any};
 ghost use Rattle.std.specs.List.Sorted.{IsStrictlyIncreasing};
 ghost use Rattle.std.specs.Map.{keys_of};
@@ -33,7 +33,7 @@ use std::mem;
 use wi_cache::Kept;
 use wi_engine::{Pool, Question};
 use wi_functions::Meter;
-use wi_graph::{Graph, Watch};
+use wi_graph::{Graph, Watch, edited_cells};
 use wi_parser::Content;
 use wi_store::{Limits, Store, StoreFault};
 use wi_values::{Address, ErrorKind, Rect, Replacement, Value};
@@ -137,13 +137,8 @@ impl KeptCalculator {
         ensures same_generations { OnErr result ((c : ℕ)
             → generation_in self.new.generations c ≡ generation_in self.old.generations c) }
     {
-        match lone_cell(&changes) {
-            Some(at) => self.edit_cells(changes, &[at]),
-            None => {
-                let cells = changed_cells(self.alloc, &changes)?;
-                self.edit_cells(changes, &cells)
-            }
-        }
+        let cells = edited_cells(self.alloc, &changes)?;
+        self.edit_cells(changes, cells.as_slice())
     }
 
     // The same, where the cells of the changes are at hand.
@@ -460,31 +455,6 @@ impl Calculator for KeptCalculator {
     }
 
     ghost marks = { cone_marks };
-}
-
-// The cell of an edit of one cell.
-fn lone_cell(changes: &[(Address, Option<Content>)]) -> Option<Address>
-    ensures { IfSome result (λ at. keys_of changes.now ≡ at ∷ []) }
-{
-    if changes.len() != 1 {
-        return None;
-    }
-    let change = &changes[0];
-    Some(change.0)
-}
-
-// The cells of an edit.
-fn changed_cells(
-    alloc: Global,
-    changes: &[(Address, Option<Content>)],
-) -> Result<Vec<Address>, AllocError>
-    ensures { IfOk result (λ v. v.items ≡ keys_of changes.now) }
-{
-    let mut cells = Vec::new(alloc);
-    for change in changes {
-        cells.push(change.0)?;
-    }
-    Ok(cells)
 }
 
 // Whether one of the cells is circular whose values an entry asks for: its formula cell and its replacement cells.

@@ -1,5 +1,5 @@
 -- What an edit is answered, and what is pending after it.
-use Rattle.std.proofs.Common.{◌≡◌, ◌==◌, ◌<◌, ◌≤◌, ◌-◌, ℕ, zero, suc, Bool, true, false, not, ◌&&◌, ◌||◌, ◌⊎◌, inl, inr, List, [], ◌∷◌, ◌++◌, length, get_or, map, take, ⊎_elim, Option, Some, None, Result, Ok, Err, refl, sym, ap, ◌∙◌, subst, arith}
+use Rattle.std.proofs.Common.{◌≡◌, ◌==◌, ◌<◌, ◌≤◌, ◌-◌, ℕ, zero, suc, Bool, true, false, not, ◌&&◌, ◌||◌, ◌⊎◌, inl, inr, List, [], ◌∷◌, ◌++◌, length, map, take, ⊎_elim, Option, Some, None, Result, Ok, Err, refl, sym, ap, ◌∙◌, subst, arith}
 use Rattle.std.specs.List.{slice_index_or}
 use Rattle.std.specs.Prelude.{MatchResult, IfOk}
 use Rattle.std.specs.Result.{IsErrAnd}
@@ -154,12 +154,6 @@ none_marked marked sheet test contents found none empty = record {
 pub if_ok_both : {X E : Type 0} (A B C : X → Type 0) (r : Result X E) → ((x : X) → A x → B x → C x) → IfOk r A → IfOk r B → IfOk r C
 if_ok_both A B C (Ok x) f a b = f x a b
 if_ok_both A B C (Err e) f a b = tt
-
--- the cell of one content
-pub lone_key : (xs : List (ℕ × Option Content)) (x : ℕ × Option Content) → length xs ≡ 1 → x ≡ get_or xs 0 x → keys_of xs ≡ x.0 ∷ []
-lone_key [] x l e = absurd (omega (arith, l))
-lone_key (y ∷ []) x l e = ap (λ (z : ℕ × Option Content). z.0 ∷ []) (sym e)
-lone_key (y ∷ z ∷ zs) x l e = absurd (omega (arith, l))
 
 pub some_marked : (marked : Sheet → List ℕ → ℕ → Bool) (sheet : Sheet) (test : ℕ → Bool) (contents : List (ℕ × Option Content)) (cells found : List ℕ) → 0 < length contents → cells ≡ keys_of contents →
     ((a : ℕ) → is_listed found a ≡ true → marked sheet cells a ≡ true) → ((a : ℕ) → marked sheet cells a ≡ true → (is_listed found a ≡ true) ⊎ (test a ≡ true)) → AreMarked marked sheet test contents found

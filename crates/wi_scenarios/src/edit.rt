@@ -1,6 +1,6 @@
 //! One edit of the sheet, by whichever command.
 
-ghost use Rattle.std.specs.Prelude.{◌≡◌, ◌<◌, ◌≤◌, ℕ, [], ◌∷◌, length, IfSome, IfOk, OnOk, OnErr};
+ghost use Rattle.std.specs.Prelude.{◌≡◌, ◌<◌, ◌≤◌, ℕ, [], ◌∷◌, length, IfOk, OnOk, OnErr};
 ghost use Rattle.std.specs.Map.{keys_of};
 ghost use Rattle.wi_store.specs.Store.{applied};
 ghost use Rattle.wi_sessions.specs.Roster.{vacant_of, is_pending_for_all};
@@ -17,7 +17,7 @@ use crate::refusal::Refusal;
 use std::alloc::{AllocError, Global};
 use wi_edit_log::EditLog;
 use wi_parser::Content;
-use wi_propagate::{Calculator, Watch};
+use wi_propagate::{Calculator, Watch, edited_cells};
 use wi_sessions::Sessions;
 use wi_values::{Address, Rect};
 
@@ -125,35 +125,17 @@ fn marked_by<C: Calculator>(
     sessions: &Sessions,
     contents: &[(Address, Option<Content>)],
 ) -> Result<Vec<Address>, AllocError>
-    requires { IsClosed C.marked (C.stored calculator.now).sheet (is_pending_for_all sessions.now) }
-    ensures { IfOk result (λ found. AreMarked C.marked (C.stored calculator.now).sheet (is_pending_for_all sessions.now) contents.now found.items) }
+    requires { IsClosed C.marked (C.stored calculator.now).sheet
+        (is_pending_for_all sessions.now) }
+    ensures { let sheet = (C.stored calculator.now).sheet in
+        IfOk result (λ found. AreMarked C.marked sheet (is_pending_for_all sessions.now)
+        contents.now found.items) }
 {
     if contents.is_empty() {
         return Ok(Vec::new(alloc));
     }
-    match lone_cell(contents) {
-        Some(at) => marked_among(calculator, sessions, contents, &[at]),
-        None => {
-            let cells = addresses(alloc, contents)?;
-            marked_among(calculator, sessions, contents, &cells)
-        }
-    }
-}
-
-/// The same, where there is one, and the cells that get contents are at hand.
-fn marked_among<C: Calculator>(
-    calculator: &C,
-    sessions: &Sessions,
-    contents: &[(Address, Option<Content>)],
-    cells: &[Address],
-) -> Result<Vec<Address>, AllocError>
-    requires closed { IsClosed C.marked (C.stored calculator.now).sheet (is_pending_for_all sessions.now) }
-    requires some { 0 < length contents.now }
-    requires cells { cells.now ≡ keys_of contents.now }
-    ensures { IfOk result (λ found. AreMarked C.marked (C.stored calculator.now).sheet (is_pending_for_all sessions.now) contents.now found.items) }
-{
-    let _ = contents;
-    calculator.mark_beyond(cells, &PendingForAll { sessions })
+    let cells = edited_cells(alloc, contents)?;
+    calculator.mark_beyond(cells.as_slice(), &PendingForAll { sessions })
 }
 
 /// The cells that are pending for each session.
@@ -170,31 +152,6 @@ impl<'a> Watch for PendingForAll<'a> {
     fn has(&self, at: Address) -> bool {
         self.sessions.all_have(at)
     }
-}
-
-/// The cell of an edit of one cell.
-fn lone_cell(contents: &[(Address, Option<Content>)]) -> Option<Address>
-    ensures { IfSome result (λ at. keys_of contents.now ≡ at ∷ []) }
-{
-    if contents.len() != 1 {
-        return None;
-    }
-    let first = &contents[0];
-    Some(first.0)
-}
-
-/// The cells that get contents.
-fn addresses(
-    alloc: Global,
-    contents: &[(Address, Option<Content>)],
-) -> Result<Vec<Address>, AllocError>
-    ensures { IfOk result (λ cells. cells.items ≡ keys_of contents.now) }
-{
-    let mut cells = Vec::new(alloc);
-    for (at, _) in contents {
-        cells.push(*at)?;
-    }
-    Ok(cells)
 }
 
 /// Makes room for marked cells and edits the sheet. On an error there may be rooms that are vacant still.

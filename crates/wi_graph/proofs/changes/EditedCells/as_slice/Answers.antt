@@ -1,0 +1,5 @@
+use Rattle.std.proofs.Common.{rules}
+use Rattle.wi_graph.proofs.changes.EditedCells.as_slice.Goals as goal
+
+pub returns-in-More : goal.returns-in-More
+returns-in-More c = search rules

@@ -1,5 +1,0 @@
-use Rattle.wi_propagate.proofs.Words.{◌≡◌, take, keys_of}
-use Rattle.wi_propagate.proofs.kept.changed_cells.Given as goal
-
-abbrev pub invariant-loop-change : goal.invariant-loop-change
-invariant-loop-change l = l.cells.items ≡ keys_of (take l.change-index l.changes)
