@@ -76,8 +76,11 @@ impl Kept {
     /// calls, beside the hash of the key.
     pub fn keep(&mut self, key: Key, value: Value) -> Result<(), AllocError>
         ensures found { OnOk result (value_for self.new.entries key ≡ Some value) }
-        ensures stays { OnOk result (HasRoom self.old key → Puts self.old.entries self.new.entries key value) }
-        ensures one_goes { OnOk result (value_for self.old.entries key ≡ None → self.old.capacity ≤ length self.old.entries → PutsForOne self.old.entries self.new.entries key value) }
+        ensures stays { OnOk result (HasRoom self.old key
+            → Puts self.old.entries self.new.entries key value) }
+        ensures one_goes { OnOk result (value_for self.old.entries key ≡ None
+            → self.old.capacity ≤ length self.old.entries
+            → PutsForOne self.old.entries self.new.entries key value) }
         ensures going { OnOk result (PutsForGoing self.old self.new key value) }
         ensures order { OnOk result (keys_of self.new.entries ≡ keys_after self.old key) }
         ensures len { OnOk result (length self.new.entries ≡ len_after self.old key) }

@@ -44,9 +44,11 @@ impl Chunk {
     /// Reads on if nothing is left, and answers whether there is a byte then. There is none only at the end of the input.
     pub(crate) fn fill<R: Source>(&mut self, source: &mut R) -> Result<bool, RunFault>
         requires { R.has_failed source.old ≡ false }
-        ensures kept { Takes self.old (R.remaining source.old) self.new (R.remaining source.new) [] }
+        ensures kept { Takes self.old (R.remaining source.old)
+            self.new (R.remaining source.new) [] }
         ensures some { IfOk result (λ some. some ≡ true → 0 < length self.new) }
-        ensures end { IfOk result (λ some. some ≡ false → IsAtEnd (prepend_known self.new (R.remaining source.new))) }
+        ensures end { IfOk result (λ some. some ≡ false
+            → IsAtEnd (prepend_known self.new (R.remaining source.new))) }
         ensures fault { IfErr result (λ e. e ≡ RunFault.Read) }
         ensures empty { OnErr result (self.new ≡ []) }
         ensures failed { R.has_failed source.new ≡ is_err result }

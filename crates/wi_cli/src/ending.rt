@@ -40,7 +40,8 @@ impl Ending {
 fn new_calculator(alloc: Global, keep: usize) -> Result<KeptCalculator, AllocError>
     requires { 1 ≤ keep }
     ensures stored { IfOk result (λ calculator. state_over calculator.stored ≡ new_state) }
-    ensures values { IfOk result (λ calculator. calculator.values ≡ record { entries = []; capacity = keep }) }
+    ensures values { IfOk result (λ calculator.
+        calculator.values ≡ record { entries = []; capacity = keep }) }
 {
     KeptCalculator::new(alloc, Limits::standard(), keep)
 }

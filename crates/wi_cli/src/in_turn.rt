@@ -28,8 +28,9 @@ pub fn run_in_turn<L: Source, R: Source, W: Sink, C: Calculator>(
     requires writes { W.has_failed writer.old ≡ false }
 
     // The bytes written are the replies to the commands of the one, and then to those of the other.
-    ensures runs { RunInTurn L.remaining L.has_failed R.remaining R.has_failed W.contents W.has_failed W.flushed result
-        load.old load.new reader.old reader.new writer.old writer.new book.old.state book.new.state }
+    ensures runs { RunInTurn L.remaining L.has_failed R.remaining R.has_failed
+        W.contents W.has_failed W.flushed result load.old load.new
+        reader.old reader.new writer.old writer.new book.old.state book.new.state }
 {
     run(alloc, load, writer, book)?;
     run(alloc, reader, writer, book)
@@ -51,8 +52,9 @@ pub fn run_new_in_turn<L: Source, R: Source, W: Sink>(
 
     // The bytes written are the replies to the commands of the one, from an empty sheet on, and then to those of the other.
     ensures runs { (last : State)
-        × RunInTurn L.remaining L.has_failed R.remaining R.has_failed W.contents W.has_failed W.flushed result.outcome
-        load.old load.new reader.old reader.new writer.old writer.new new_state last }
+        × RunInTurn L.remaining L.has_failed R.remaining R.has_failed
+        W.contents W.has_failed W.flushed result.outcome load.old load.new
+        reader.old reader.new writer.old writer.new new_state last }
     ensures status { result.status ≡ ending_status result.outcome }
 {
     let Ok(mut book) = new_workbook(alloc, keep) else {

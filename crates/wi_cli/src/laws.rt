@@ -71,20 +71,23 @@ pub fn lines_have_commands()
 /// Lines have no other commands.
 #[tactic(auto, using(crate::proofs::Ties::OneReading::same_commands))]
 pub fn lines_have_no_others()
-    ensures { (ended : Bool) (lines : List Bytes) (cs : List Command) → SameCommands ended lines cs }
+    ensures { (ended : Bool) (lines : List Bytes) (cs : List Command)
+        → SameCommands ended lines cs }
 {}
 
 /// The outcome of a run by the contract of `run` is its outcome by the definitions here, and the other way round.
 #[tactic(auto, using(crate::proofs::Ties::Outcomes::same_outcome))]
 pub fn outcomes_are_the_same()
-    ensures { (r : Result (Unit {0}) RunFault) (left : Option Bytes) (s t : State) (input out : Bytes) → SameOutcome r left s t input out }
+    ensures { (r : Result (Unit {0}) RunFault)
+        (left : Option Bytes) (s t : State) (input out : Bytes) → SameOutcome r left s t input out }
 {}
 
 /// What a run has written, where its sink doesn't fail, is the replies of events: of each command one of its answers. So what holds of events one after
 /// another holds of each run.
 #[tactic(auto, using(crate::proofs::Ties::Written::are_events))]
 pub fn runs_have_events()
-    ensures { (s t : State) (cs : List Command) (out : Bytes) → Writes false s cs out t → AreEvents s cs out t }
+    ensures { (s t : State) (cs : List Command) (out : Bytes) → Writes false s cs out t
+        → AreEvents s cs out t }
 {}
 
 /// In a workbook that was just made, and so after each run from there, the current session is one of the sessions, and none has seen more
@@ -105,12 +108,14 @@ pub fn scenarios_have_chains()
 /// In every interleaving, the change lists that a session is told, put into the picture that it had before, make the one that it has
 /// at the end, which has what it was shown at the last of them.
 pub fn change_lists_add_up()
-    ensures { (s : State) (es : List Event) (i : ℕ) → IsCoherent s → MayFollow s es → ListsAddUp s es i }
+    ensures { (s : State) (es : List Event) (i : ℕ) → IsCoherent s
+        → MayFollow s es → ListsAddUp s es i }
 {}
 
 /// The records of a change list tell its addresses, kinds and texts, and with them the list.
 pub fn records_tell_lists()
-    ensures { (s t : State) (records : Bytes) → IsStep s Changes (Ok (t, records)) → RecordsTellList s records }
+    ensures { (s t : State) (records : Bytes) → IsStep s Changes (Ok (t, records))
+        → RecordsTellList s records }
 {}
 
 /// No command changes a session that isn't current.
@@ -122,7 +127,9 @@ pub fn sessions_keep_apart()
 /// that isn't forced, and isn't refused for a cause that counts before or for want of memory, is refused for a stale cell exactly where
 /// others' edits since then name one of its cells, and for the first such. One that is forced never is.
 pub fn stale_is_newer()
-    ensures log { (s : State) (es : List Event) (i : ℕ) → IsCoherent s → MayFollow s es → LogGrows s es i }
-    ensures stale { (s : State) (es : List Event) (e : Event) → IsCoherent s → MayFollow s es → StaleIsNewer s es e }
+    ensures log { (s : State) (es : List Event) (i : ℕ) → IsCoherent s
+        → MayFollow s es → LogGrows s es i }
+    ensures stale { (s : State) (es : List Event) (e : Event) → IsCoherent s
+        → MayFollow s es → StaleIsNewer s es e }
     ensures forced { (s : State) (e : Event) → ForcedIsNotStale s e }
 {}

@@ -24,8 +24,10 @@ pub enum Reply {
 /// Writes a space and the address of the cell that a refusal tells, if it tells one.
 fn write_cell<W: Sink>(writer: &mut W, refusal: &Refusal) -> Result<(), DeviceFault>
     requires { W.has_failed writer.old ≡ false }
-    ensures ok { OnOk result (Appends (W.contents writer.old) (W.contents writer.new) (told_cell refusal.now)) }
-    ensures err { OnErr result (AppendsFront (W.contents writer.old) (W.contents writer.new) (told_cell refusal.now)) }
+    ensures ok { OnOk result
+        (Appends (W.contents writer.old) (W.contents writer.new) (told_cell refusal.now)) }
+    ensures err { OnErr result
+        (AppendsFront (W.contents writer.old) (W.contents writer.new) (told_cell refusal.now)) }
     ensures failed { W.has_failed writer.new ≡ is_err result }
 {
     match refusal {
@@ -41,8 +43,10 @@ fn write_cell<W: Sink>(writer: &mut W, refusal: &Refusal) -> Result<(), DeviceFa
 fn write_code<W: Sink>(writer: &mut W, code: u8) -> Result<(), DeviceFault>
     requires works { W.has_failed writer.old ≡ false }
     requires digits { code < 100 }
-    ensures ok { OnOk result (Appends (W.contents writer.old) (W.contents writer.new) (refused_code code)) }
-    ensures err { OnErr result (AppendsFront (W.contents writer.old) (W.contents writer.new) (refused_code code)) }
+    ensures ok { OnOk result
+        (Appends (W.contents writer.old) (W.contents writer.new) (refused_code code)) }
+    ensures err { OnErr result
+        (AppendsFront (W.contents writer.old) (W.contents writer.new) (refused_code code)) }
     ensures failed { W.has_failed writer.new ≡ is_err result }
 {
     let tens = b'0' + code / 10;
@@ -56,8 +60,10 @@ fn write_code<W: Sink>(writer: &mut W, code: u8) -> Result<(), DeviceFault>
 /// Writes the line of a refusal.
 fn write_refusal<W: Sink>(writer: &mut W, refusal: &Refusal) -> Result<(), DeviceFault>
     requires { W.has_failed writer.old ≡ false }
-    ensures ok { OnOk result (Appends (W.contents writer.old) (W.contents writer.new) (refused refusal.now)) }
-    ensures err { OnErr result (AppendsFront (W.contents writer.old) (W.contents writer.new) (refused refusal.now)) }
+    ensures ok { OnOk result
+        (Appends (W.contents writer.old) (W.contents writer.new) (refused refusal.now)) }
+    ensures err { OnErr result
+        (AppendsFront (W.contents writer.old) (W.contents writer.new) (refused refusal.now)) }
     ensures failed { W.has_failed writer.new ≡ is_err result }
 {
     write_code(writer, refusal.code())?;
@@ -72,8 +78,10 @@ pub(crate) fn write_reply<W: Sink>(
     records: &[u8],
 ) -> Result<(), DeviceFault>
     requires { W.has_failed writer.old ≡ false }
-    ensures ok { OnOk result (Appends (W.contents writer.old) (W.contents writer.new) (told_bytes reply records.now)) }
-    ensures err { OnErr result (AppendsFront (W.contents writer.old) (W.contents writer.new) (told_bytes reply records.now)) }
+    ensures ok { OnOk result
+        (Appends (W.contents writer.old) (W.contents writer.new) (told_bytes reply records.now)) }
+    ensures err { OnErr result (AppendsFront (W.contents writer.old)
+        (W.contents writer.new) (told_bytes reply records.now)) }
     ensures failed { W.has_failed writer.new ≡ is_err result }
 {
     match reply {

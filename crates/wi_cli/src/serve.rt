@@ -22,7 +22,8 @@ fn replace<C: Calculator>(
     at: Address,
     content: &str,
 ) -> Result<(), Refusal>
-    ensures { Serves (IsStep book.old.state (step.Scenario (bytes_of name.entry) at content.now)) result book.old.state book.new.state [] }
+    ensures { Serves (IsStep book.old.state (step.Scenario (bytes_of name.entry) at content.now))
+        result book.old.state book.new.state [] }
 {
     if content.is_empty() {
         book.scenario_clear(name, at)

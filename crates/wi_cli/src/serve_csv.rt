@@ -25,8 +25,10 @@ fn target_of(at: Result<Address, AddressFault>, missing: u32) -> Result<Address,
 
 /// Where the data lines of a line go, or why they are refused.
 fn target(csv: &CsvLine, data_lines: &DataLines) -> Result<Address, Refusal>
-    ensures { (lines : List (List ℕ)) → data_lines.now.wanted ≡ wants csv.now → HoldsLines data_lines.now lines
-        → IsTarget (command_of_csv csv.now lines data_lines.now.missing) csv.now.force data_lines.now.bytes.items result }
+    ensures { (lines : List (List ℕ)) → data_lines.now.wanted ≡ wants csv.now
+        → HoldsLines data_lines.now lines
+        → IsTarget (command_of_csv csv.now lines data_lines.now.missing)
+        csv.now.force data_lines.now.bytes.items result }
 {
     if !csv.is_text {
         return Err(Refusal::BadLine);
@@ -44,8 +46,10 @@ pub(crate) fn serve_csv<C: Calculator>(
     csv: &CsvLine,
     data_lines: &DataLines,
 ) -> Reply
-    ensures { (lines : List (List ℕ)) → data_lines.now.wanted ≡ wants csv.now → HoldsLines data_lines.now lines
-        → Told (Some (command_of_csv csv.now lines data_lines.now.missing)) result book.old.state book.new.state [] }
+    ensures { (lines : List (List ℕ)) → data_lines.now.wanted ≡ wants csv.now
+        → HoldsLines data_lines.now lines
+        → Told (Some (command_of_csv csv.now lines data_lines.now.missing))
+        result book.old.state book.new.state [] }
 {
     match target(csv, data_lines) {
         Ok(at) => match book.import(at, &data_lines.bytes, csv.force) {

@@ -14,8 +14,10 @@ use wi_values::Address;
 /// Writes the text of an address. Takes no memory.
 pub(crate) fn write_address<W: Sink>(writer: &mut W, at: Address) -> Result<(), DeviceFault>
     requires { W.has_failed writer.old ≡ false }
-    ensures ok { OnOk result (Appends (W.contents writer.old) (W.contents writer.new) (address_text at)) }
-    ensures err { OnErr result (AppendsFront (W.contents writer.old) (W.contents writer.new) (address_text at)) }
+    ensures ok { OnOk result
+        (Appends (W.contents writer.old) (W.contents writer.new) (address_text at)) }
+    ensures err { OnErr result
+        (AppendsFront (W.contents writer.old) (W.contents writer.new) (address_text at)) }
     ensures failed { W.has_failed writer.new ≡ is_err result }
 {
     write_letters(writer, 3, at.column() + 1)?;
@@ -33,8 +35,10 @@ fn is_written(most: u32, number: u32) -> bool
 /// Writes the letters of the column with this number, counted from 1, at most so many.
 fn write_letters<W: Sink>(writer: &mut W, most: u32, number: u32) -> Result<(), DeviceFault>
     requires { W.has_failed writer.old ≡ false }
-    ensures ok { OnOk result (Appends (W.contents writer.old) (W.contents writer.new) (letters_within most number)) }
-    ensures err { OnErr result (AppendsFront (W.contents writer.old) (W.contents writer.new) (letters_within most number)) }
+    ensures ok { OnOk result
+        (Appends (W.contents writer.old) (W.contents writer.new) (letters_within most number)) }
+    ensures err { OnErr result (AppendsFront (W.contents writer.old)
+        (W.contents writer.new) (letters_within most number)) }
     ensures failed { W.has_failed writer.new ≡ is_err result }
 {
     if is_written(most, number) {

@@ -27,7 +27,8 @@ impl Edit {
     /// The edit that comes after those.
     pub(crate) fn after(edits: &[Edit], session: u32, cells: Vec<Rect>) -> Result<Edit, AllocError>
         requires { AreInRuns edits.now }
-        ensures entry { IfOk result (λ e. entry_in e ≡ record { session = session; cells = cells.items }) }
+        ensures entry { IfOk result (λ e.
+            entry_in e ≡ record { session = session; cells = cells.items }) }
         ensures run { IfOk result (λ e. IsInRun edits.now (length edits.now) e) }
     {
         let run = run_after(edits, session);
@@ -67,7 +68,8 @@ impl Edit {
 pub(crate) fn run_after(edits: &[Edit], session: u32) -> usize
     requires { AreInRuns edits.now }
     ensures within { result ≤ length edits.now }
-    ensures one_session { (k : ℕ) (d : Edit) → result ≤ k → k < length edits.now → (slice_index_or edits.now k d).session ≡ session }
+    ensures one_session { (k : ℕ) (d : Edit) → result ≤ k
+        → k < length edits.now → (slice_index_or edits.now k d).session ≡ session }
 {
     match edits.last() {
         Some(last) if last.session == session => last.run,
@@ -80,7 +82,8 @@ pub(crate) fn run_after(edits: &[Edit], session: u32) -> usize
 fn narrow_after(edits: &[Edit], cells: &[Rect]) -> u32
     requires { AreInRuns edits.now }
     ensures last { are_narrow cells.now ≡ nat_lt 0 result }
-    ensures others { (k : ℕ) (d : Edit) → length edits.now + 1 ≤ k + result → k < length edits.now → are_narrow (slice_index_or edits.now k d).named ≡ true }
+    ensures others { (k : ℕ) (d : Edit) → length edits.now + 1 ≤ k + result
+        → k < length edits.now → are_narrow (slice_index_or edits.now k d).named ≡ true }
 {
     if !are_narrow(cells) {
         return 0;

@@ -50,7 +50,8 @@ impl EditLog {
 
     /// Puts an edit at the end. On an error all is as before. The work grows with the rectangles.
     pub fn add(&mut self, session: u32, cells: Vec<Rect>) -> Result<(), AllocError>
-        ensures ok { OnOk result (self.new ≡ self.old ++ record { session = session; cells = cells.items } ∷ []) }
+        ensures ok { OnOk result (self.new
+            ≡ self.old ++ record { session = session; cells = cells.items } ∷ []) }
         ensures err { OnErr result (self.new ≡ self.old) }
     {
         let edit = Edit::after(&self.edits, session, cells)?;

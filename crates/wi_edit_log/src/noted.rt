@@ -58,7 +58,8 @@ impl Noted {
 
     /// Forgets all if more edits are noted than are left.
     pub(crate) fn forget_beyond(&mut self, left: usize)
-        ensures { (es : List Edit) → AreNoted es self.old.known self.old.notes.entries → AreNoted (take left es) self.new.known self.new.notes.entries }
+        ensures { (es : List Edit) → AreNoted es self.old.known self.old.notes.entries
+            → AreNoted (take left es) self.new.known self.new.notes.entries }
     {
         if left < self.known as usize {
             self.forget();
@@ -181,7 +182,8 @@ fn last_after(old: Option<Last>, session: u32, count: u32) -> Last
 /// Notes that of so many edits the last, of that session, named the cell.
 fn note(notes: &mut Notes, at: Address, session: u32, count: u32) -> Result<(), AllocError>
     ensures { OnOk result ((a : ℕ) → last_of notes.new.entries a
-        ≡ (if at == a then Some (last_after (last_of notes.old.entries at) session count) else last_of notes.old.entries a)) }
+        ≡ (if at == a then Some (last_after (last_of notes.old.entries at) session count)
+        else last_of notes.old.entries a)) }
 {
     let last = last_after(notes.get(&at).copied(), session, count);
     notes.insert(at, last)?;
@@ -190,7 +192,8 @@ fn note(notes: &mut Notes, at: Address, session: u32, count: u32) -> Result<(), 
 
 /// The same of each cell of a rectangle. If memory runs out, a part is noted.
 fn note_area(notes: &mut Notes, area: Rect, session: u32, count: u32) -> Result<(), AllocError>
-    ensures { OnOk result (NotesMore (is_within area) session count notes.old.entries notes.new.entries) }
+    ensures { OnOk result
+        (NotesMore (is_within area) session count notes.old.entries notes.new.entries) }
 {
     let mut ahead = first_cell(area);
     while let Some(at) = ahead {
@@ -202,7 +205,8 @@ fn note_area(notes: &mut Notes, area: Rect, session: u32, count: u32) -> Result<
 
 /// The same of each cell of some rectangles.
 fn note_areas(notes: &mut Notes, areas: &[Rect], session: u32, count: u32) -> Result<(), AllocError>
-    ensures { OnOk result (NotesMore (have_cell areas.now) session count notes.old.entries notes.new.entries) }
+    ensures { OnOk result
+        (NotesMore (have_cell areas.now) session count notes.old.entries notes.new.entries) }
 {
     for area in areas {
         note_area(notes, *area, session, count)?;
@@ -212,7 +216,8 @@ fn note_areas(notes: &mut Notes, areas: &[Rect], session: u32, count: u32) -> Re
 
 /// The same of each cell that an edit of narrow rectangles named; of another it notes nothing.
 fn note_edit(notes: &mut Notes, edit: &Edit, count: u32) -> Result<(), AllocError>
-    ensures { OnOk result (NotesMore (λ a. are_narrow edit.now.named && have_cell edit.now.named a) edit.now.session count notes.old.entries notes.new.entries) }
+    ensures { OnOk result (NotesMore (λ a. are_narrow edit.now.named && have_cell edit.now.named a)
+        edit.now.session count notes.old.entries notes.new.entries) }
 {
     if edit.is_narrow() {
         note_areas(notes, edit.areas(), edit.session(), count)?;

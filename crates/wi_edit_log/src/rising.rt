@@ -34,7 +34,8 @@ pub(crate) fn are_rising(areas: &[Rect]) -> bool
 fn count_above(areas: &[Rect], row: u32) -> usize
     requires { are_rising areas.now ≡ true }
     ensures within { result ≤ length areas.now }
-    ensures rest { (a : ℕ) → row ≤ row_of a → have_cell areas.now a ≡ have_cell (drop result areas.now) a }
+    ensures rest { (a : ℕ) → row ≤ row_of a
+        → have_cell areas.now a ≡ have_cell (drop result areas.now) a }
 {
     areas.partition_point(|area| area.last().row() < row)
 }

@@ -39,14 +39,16 @@ impl<'a> Model for Remembered<'a> {
     ghost use Rattle.wi_cache.specs.contracts.key.Key as key;
     ghost use Rattle.wi_values.specs.contracts.value.Value as value;
 
-    ghost coded = { Prim.hlevel (codes, content.the_row.coded, key.the_row.coded, value.the_row.coded) };
+    ghost coded = { Prim.hlevel
+        (codes, content.the_row.coded, key.the_row.coded, value.the_row.coded) };
 
     ghost use Rattle.wi_sheet.specs.Inner.ReadOrder.{IsReadOrder};
     ghost use Rattle.wi_engine.specs.Inner.Remembered.{AreCones, remembered};
 
     ghost view = { λ m. remembered m.store.now.sheet m.order.items m.table };
 
-    ghost invariant = { λ m. IsReadOrder m.store.now.sheet m.order.items × AreCones m.store.now.sheet m.order.items m.cones };
+    ghost invariant = { λ m. IsReadOrder m.store.now.sheet m.order.items
+        × AreCones m.store.now.sheet m.order.items m.cones };
 }
 
 impl<'a> Remembered<'a> {

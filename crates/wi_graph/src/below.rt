@@ -33,7 +33,8 @@ pub(crate) fn begin_below(
     room: &Option<Vec<Rect>>,
 ) -> Result<Below, AllocError>
     ensures seen { IfOk result (λ below. below.seen.entries ≡ []) }
-    ensures ahead { IfOk result (λ below. IsTrue below.clear → HasAreas cell (areas_of (items_of room.now)) [] below.ahead.items) }
+    ensures ahead { IfOk result (λ below. IsTrue below.clear
+        → HasAreas cell (areas_of (items_of room.now)) [] below.ahead.items) }
 {
     let seen = CellMap::new(alloc);
     let mut ahead = Vec::new(alloc);
@@ -61,7 +62,8 @@ pub(crate) fn go_below(
     below: &mut Below,
 ) -> Result<(), AllocError>
     requires { IsOrdered nat_cmp rooms.now }
-    ensures { OnOk result ((areas : List Area) → IsBelow rooms.now cell areas below.old → IsBelow rooms.now cell areas below.new) }
+    ensures { OnOk result ((areas : List Area) → IsBelow rooms.now cell areas below.old
+        → IsBelow rooms.now cell areas below.new) }
 {
     for _ in 0..steps {
         step_below(rooms, cell, below)?;
@@ -72,7 +74,8 @@ pub(crate) fn go_below(
 /// Goes on by a step, if one is left.
 fn step_below(rooms: &Rooms, cell: Address, below: &mut Below) -> Result<(), AllocError>
     requires { IsOrdered nat_cmp rooms.now }
-    ensures { OnOk result ((areas : List Area) → IsBelow rooms.now cell areas below.old → IsBelow rooms.now cell areas below.new) }
+    ensures { OnOk result ((areas : List Area) → IsBelow rooms.now cell areas below.old
+        → IsBelow rooms.now cell areas below.new) }
 {
     if !below.clear {
         return Ok(());
@@ -92,7 +95,9 @@ fn look(
     below: &mut Below,
 ) -> Result<(), AllocError>
     requires { IsOrdered nat_cmp rooms.now }
-    ensures { OnOk result ((areas : List Area) → IsSearchingBelow rooms.now cell areas (has_seen below.old.seen) (below.old.ahead.items ++ (area, from) ∷ []) → IsBelow rooms.now cell areas below.new) }
+    ensures { OnOk result ((areas : List Area) → IsSearchingBelow rooms.now cell areas
+        (has_seen below.old.seen) (below.old.ahead.items ++ (area, from) ∷ [])
+        → IsBelow rooms.now cell areas below.new) }
 {
     let Some(read) = rooms.next_in(area, from) else {
         return Ok(());
@@ -122,7 +127,8 @@ fn push_read(
     cell: Address,
     ahead: &mut Ahead,
 ) -> Result<bool, AllocError>
-    ensures { IfOk result (λ clear. IsTrue clear → HasAreas cell (areas_of (room_at rooms.now read)) ahead.old.items ahead.new.items) }
+    ensures { IfOk result (λ clear. IsTrue clear
+        → HasAreas cell (areas_of (room_at rooms.now read)) ahead.old.items ahead.new.items) }
 {
     match rooms.get(read) {
         Some(room) => push_room(room, cell, ahead),
@@ -132,7 +138,8 @@ fn push_read(
 
 /// The same of the rectangles of a room.
 fn push_room(room: &Option<Vec<Rect>>, cell: Address, ahead: &mut Ahead) -> Result<bool, AllocError>
-    ensures { IfOk result (λ clear. IsTrue clear → HasAreas cell (areas_of (items_of room.now)) ahead.old.items ahead.new.items) }
+    ensures { IfOk result (λ clear. IsTrue clear
+        → HasAreas cell (areas_of (items_of room.now)) ahead.old.items ahead.new.items) }
 {
     match room {
         Some(areas) => push_areas(areas, cell, ahead),
@@ -142,7 +149,8 @@ fn push_room(room: &Option<Vec<Rect>>, cell: Address, ahead: &mut Ahead) -> Resu
 
 /// The same of some rectangles.
 fn push_areas(areas: &[Rect], cell: Address, ahead: &mut Ahead) -> Result<bool, AllocError>
-    ensures { IfOk result (λ clear. IsTrue clear → HasAreas cell areas.now ahead.old.items ahead.new.items) }
+    ensures { IfOk result (λ clear. IsTrue clear
+        → HasAreas cell areas.now ahead.old.items ahead.new.items) }
 {
     for area in areas {
         if area.contains(cell) {

@@ -19,7 +19,8 @@ pub(crate) fn listed_beyond<W: Watch>(
     cells: &[Address],
     watch: &W,
 ) -> Result<Vec<Address>, AllocError>
-    ensures { IfOk result (λ list. IsListBeyond readers.now (W.watched watch.now) cells.now list.items) }
+    ensures { IfOk result (λ list.
+        IsListBeyond readers.now (W.watched watch.now) cells.now list.items) }
 {
     let own = unwatched(alloc, cells, watch)?;
     if are_alone(readers, &own) {
@@ -37,7 +38,8 @@ fn cone_beyond<W: Watch>(
     watch: &W,
 ) -> Result<RisingSet, AllocError>
     requires { (c : ℕ) → is_one_of cells.now c ≡ true → W.watched watch.now c ≡ false }
-    ensures { IfOk result (λ found. IsConeBeyond readers.now (W.watched watch.now) cells.now found) }
+    ensures { IfOk result (λ found.
+        IsConeBeyond readers.now (W.watched watch.now) cells.now found) }
 {
     let mut found = RisingSet::new(alloc);
     let mut work = Vec::new(alloc);
@@ -56,7 +58,8 @@ fn note_beyond<W: Watch>(
     found: &mut RisingSet,
     work: &mut Vec<Address>,
 ) -> Result<(), AllocError>
-    ensures { OnOk result (AreNoted (beyond (W.watched watch.now) cells.now) found.old found.new work.old.items work.new.items) }
+    ensures { OnOk result (AreNoted (beyond (W.watched watch.now) cells.now)
+        found.old found.new work.old.items work.new.items) }
 {
     for cell in cells {
         note_unwatched(*cell, watch, found, work)?;
@@ -71,7 +74,8 @@ fn note_unwatched<W: Watch>(
     found: &mut RisingSet,
     work: &mut Vec<Address>,
 ) -> Result<(), AllocError>
-    ensures { OnOk result (AreNoted (beyond (W.watched watch.now) (cell ∷ [])) found.old found.new work.old.items work.new.items) }
+    ensures { OnOk result (AreNoted (beyond (W.watched watch.now) (cell ∷ []))
+        found.old found.new work.old.items work.new.items) }
 {
     if watch.has(cell) {
         return Ok(());

@@ -63,7 +63,8 @@ pub(crate) fn meets_circle(next: &Coming, circles: &CellSet) -> bool
 
 /// Whether a cell is circular, or its room reads a circular cell.
 fn is_met(cell: Address, room: &Option<Vec<Rect>>, circles: &CellSet) -> bool
-    ensures { result ≡ (contains nat_cmp circles.now cell || list_any (has_one circles.now) (areas_of (items_of room.now))) }
+    ensures { result ≡ (contains nat_cmp circles.now cell
+        || list_any (has_one circles.now) (areas_of (items_of room.now))) }
 {
     circles.contains(&cell) || reads_circle(room, circles)
 }
@@ -99,7 +100,8 @@ pub(crate) fn stands_apart(rooms: &Rooms, circles: &CellSet, next: &Coming) -> b
 /// The same of what one cell gets.
 fn is_apart(rooms: &Rooms, circles: &CellSet, entry: &Brought) -> bool
     ensures open_cell { IsTrue result → contains nat_cmp circles.now entry.now.0 ≡ false }
-    ensures reads { IsTrue result → list_any (has_room_in rooms.now entry.now.0) (areas_of (items_of entry.now.1)) ≡ false }
+    ensures reads { IsTrue result
+        → list_any (has_room_in rooms.now entry.now.0) (areas_of (items_of entry.now.1)) ≡ false }
 {
     if circles.contains(&entry.0) {
         return false;

@@ -29,7 +29,8 @@ pub(crate) fn listed_cone(
 /// Whether cells stand in row-major order, each once, and nothing reads one of them: they are their own cone then.
 pub(crate) fn are_alone(readers: &RangeIndex, cells: &[Address]) -> bool
     ensures order { IsTrue result → IsStrictlyIncreasing cells.now }
-    ensures unread { IsTrue result → (a r : ℕ) → is_one_of cells.now a ≡ true → IsReader readers.now a r → ⊥ }
+    ensures unread { IsTrue result
+        → (a r : ℕ) → is_one_of cells.now a ≡ true → IsReader readers.now a r → ⊥ }
 {
     if !rise(cells) {
         return false;
@@ -52,7 +53,8 @@ pub(crate) fn rise(cells: &[Address]) -> bool
 /// Whether some cell reads one of the cells.
 pub(crate) fn any_is_read(readers: &RangeIndex, cells: &[Address]) -> bool
     ensures read { IsTrue result → (a : ℕ) × (is_one_of cells.now a ≡ true) × IsRead readers.now a }
-    ensures unread { result ≡ false → (a r : ℕ) → is_one_of cells.now a ≡ true → IsReader readers.now a r → ⊥ }
+    ensures unread { result ≡ false
+        → (a r : ℕ) → is_one_of cells.now a ≡ true → IsReader readers.now a r → ⊥ }
 {
     for cell in cells {
         if readers.has_readers(*cell) {

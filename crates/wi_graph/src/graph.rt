@@ -157,7 +157,8 @@ impl Graph {
         ensures unread { result ≡ false → (s : Sheet) → AreEdgesOf self.now.now s
             → (x : ℕ) → is_one_of cells.now x ≡ true → IsUnread s x }
         ensures read { IsTrue result → (s : Sheet) → AreEdgesOf self.now.now s
-            → (x : ℕ) × (is_one_of cells.now x ≡ true) × (c : ℕ) × (content_reads (content_of s c) x ≡ true) }
+            → (x : ℕ) × (is_one_of cells.now x ≡ true)
+            × (c : ℕ) × (content_reads (content_of s c) x ≡ true) }
     {
         any_is_read(&self.readers, cells)
     }
@@ -170,10 +171,12 @@ impl Graph {
         watch: &W,
     ) -> Result<Vec<Address>, AllocError>
         requires staged { self.now.staged ≡ None }
-        requires closed { (s : Sheet) → AreEdgesOf self.now.now s → IsClosedUp s (W.watched watch.now) }
+        requires closed { (s : Sheet) → AreEdgesOf self.now.now s
+            → IsClosedUp s (W.watched watch.now) }
         ensures order { IfOk result (λ cone. IsStrictlyIncreasing cone.items) }
         ensures cells { IfOk result (λ cone. (s : Sheet) → AreEdgesOf self.now.now s
-            → (c : ℕ) → is_one_of cone.items c ≡ (in_cone s cells.now c && not (W.watched watch.now c))) }
+            → (c : ℕ) → is_one_of cone.items c
+            ≡ (in_cone s cells.now c && not (W.watched watch.now c))) }
     {
         listed_beyond(self.alloc, &self.readers, cells, watch)
     }

@@ -77,7 +77,8 @@ fn exchange(rooms: &mut Rooms, at: Address, room: Option<Vec<Rect>>) -> Option<V
 fn take_room(rooms: &mut Rooms, at: Address) -> Option<Vec<Rect>>
     requires { IsOrdered nat_cmp rooms.old }
     ensures ordered { IsOrdered nat_cmp rooms.new }
-    ensures rooms { (c : ℕ) → room_at rooms.new c ≡ (if at == c then None else room_at rooms.old c) }
+    ensures rooms { (c : ℕ) → room_at rooms.new c
+        ≡ (if at == c then None else room_at rooms.old c) }
     ensures others { (c : ℕ) → (at == c) ≡ false
         → get nat_cmp rooms.new c ≡ get nat_cmp rooms.old c }
     ensures stood { items_of result ≡ room_at rooms.old at }

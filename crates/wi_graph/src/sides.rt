@@ -31,7 +31,8 @@ pub(crate) fn cone_unless_apart(
     changes: &[Change],
 ) -> Result<Option<Vec<Address>>, AllocError>
     requires { IsOrdered nat_cmp rooms.now }
-    ensures cone { IfOk result (λ o. IfSome o (λ cone. IsConeOf readers.now (keys_of changes.now) cone.items)) }
+    ensures cone { IfOk result (λ o.
+        IfSome o (λ cone. IsConeOf readers.now (keys_of changes.now) cone.items)) }
     ensures apart { IfOk result (λ o. IfNone o (ReadsApart rooms.now next.now.items circles.now)) }
 {
     let cells = changed_cells(alloc, changes)?;
@@ -86,7 +87,8 @@ fn both_sides(
 ) -> Result<Option<RisingSet>, AllocError>
     requires { IsOrdered nat_cmp rooms.now }
     ensures cone { IfOk result (λ o. IfSome o (λ found. IsConeSet readers.now cells.now found)) }
-    ensures apart { IfOk result (λ o. IfNone o (ReachesNot rooms.now entry.now.0 (areas_of (items_of entry.now.1)))) }
+    ensures apart { IfOk result (λ o.
+        IfNone o (ReachesNot rooms.now entry.now.0 (areas_of (items_of entry.now.1)))) }
 {
     let mut found = RisingSet::new(alloc);
     let mut work = Vec::new(alloc);

@@ -53,10 +53,12 @@ fn bring_one(
     ensures ordered { IsOrdered nat_cmp rooms.new }
     ensures rooms { (c : ℕ) → room_at rooms.new c ≡ room_at rooms.old c }
     ensures there { OnOk result (get nat_cmp rooms.new cell ≡ None → ⊥) }
-    ensures stay { OnOk result ((c : ℕ) → get nat_cmp rooms.new c ≡ None → get nat_cmp rooms.old c ≡ None) }
+    ensures stay { OnOk result ((c : ℕ) → get nat_cmp rooms.new c ≡ None
+        → get nat_cmp rooms.old c ≡ None) }
     ensures readers { OnOk result ((p : RangePair) → count_of readers.new p
         ≡ count_of readers.old p + times cell (areas_of (items_of room.now)) p) }
-    ensures same { OnErr result ((p : RangePair) → count_of readers.new p ≡ count_of readers.old p) }
+    ensures same { OnErr result ((p : RangePair) → count_of readers.new p
+        ≡ count_of readers.old p) }
 {
     make_room(rooms, cell)?;
     match add_room(readers, cell, room) {

@@ -126,7 +126,8 @@ fn listed_between(cells: &[Address], from: Address, to: Address) -> Option<Addre
 fn count_before(cells: &[Address], from: Address) -> usize
     requires { IsStrictlyIncreasing cells.now }
     ensures within { result ≤ length cells.now }
-    ensures point { IsPartitionPoint (λ c. nat_lt c from ≡ true) (λ c. nat_lt c from ≡ false) cells.now result }
+    ensures point { IsPartitionPoint
+        (λ c. nat_lt c from ≡ true) (λ c. nat_lt c from ≡ false) cells.now result }
 {
     cells.partition_point(|cell| *cell < from)
 }

@@ -112,9 +112,11 @@ pub trait Calculator {
         watch: &W,
     ) -> Result<Vec<Address>, AllocError>
         requires { let sheet = (stored self.now).sheet in
-            (a c : ℕ) → W.watched watch.now a ≡ true → marked sheet (a ∷ []) c ≡ true → W.watched watch.now c ≡ true }
+            (a c : ℕ) → W.watched watch.now a ≡ true
+            → marked sheet (a ∷ []) c ≡ true → W.watched watch.now c ≡ true }
         ensures marked { let sheet = (stored self.now).sheet in
-            IfOk result (λ found. (c : ℕ) → is_one_of found.items c ≡ true → marked sheet cells.now c ≡ true) }
+            IfOk result (λ found. (c : ℕ) → is_one_of found.items c ≡ true
+            → marked sheet cells.now c ≡ true) }
         ensures others { let sheet = (stored self.now).sheet in
             IfOk result (λ found. (c : ℕ) → marked sheet cells.now c ≡ true
             → (is_one_of found.items c ≡ true) ⊎ (W.watched watch.now c ≡ true)) }

@@ -32,7 +32,8 @@ pub fn take_cones(alloc: Global, widest: usize, cones: &mut Reaches) -> Reaches
 
 /// Lets the cones go over the edit that is staged if after it some cell reads other cells than before. Takes no memory.
 pub fn keep_over_edit(alloc: Global, graph: &Graph, cones: &mut Reaches)
-    ensures { (s t : Sheet) → AreEdgesOf graph.now.now s → IfSome graph.now.staged (λ es. AreEdgesOf es t)
+    ensures { (s t : Sheet) → AreEdgesOf graph.now.now s
+        → IfSome graph.now.staged (λ es. AreEdgesOf es t)
         → AreAllCones s cones.old → AreAllCones t cones.new }
 {
     if cones.is_empty() {

@@ -41,7 +41,11 @@ impl Model for Generations {
 
     ghost coded = { Prim.hlevel codes };
 
-    ghost view = { λ g. record { named = g.named.entries; noted = g.noted.entries; owed = keys_of g.owed.entries } };
+    ghost view = { λ g. record {
+      named = g.named.entries;
+      noted = g.noted.entries;
+      owed = keys_of g.owed.entries;
+    } };
 }
 
 impl Generations {
@@ -70,9 +74,12 @@ impl Generations {
         requires { graph.now.staged ≡ None }
         ensures named { (c : ℕ) → generation_in self.new.named c ≡ generation_in self.old.named c }
         ensures noted { self.new.noted ≡ self.old.noted }
-        ensures stays { (c : ℕ) → is_one_of self.old.owed c ≡ true → is_one_of self.new.owed c ≡ true }
-        ensures there { OnOk result ((c : ℕ) → is_one_of cells.now c ≡ true → HasGeneration self.new.named c) }
-        ensures owed { OnOk result ((s : Sheet) → AreEdgesOf graph.now.now s → (x : ℕ) → is_one_of cells.now x ≡ true
+        ensures stays { (c : ℕ) → is_one_of self.old.owed c ≡ true
+            → is_one_of self.new.owed c ≡ true }
+        ensures there { OnOk result ((c : ℕ) → is_one_of cells.now c ≡ true
+            → HasGeneration self.new.named c) }
+        ensures owed { OnOk result ((s : Sheet) → AreEdgesOf graph.now.now s
+            → (x : ℕ) → is_one_of cells.now x ≡ true
             → (is_one_of self.new.owed x ≡ true) ⊎ IsUnread s x) }
     {
         owe_read(&mut self.owed, graph, cells)?;
@@ -95,10 +102,12 @@ impl Generations {
     pub fn settle(&mut self, graph: &Graph) -> Result<(), AllocError>
         requires staged { graph.now.staged ≡ None }
         requires owed { (s : Sheet) → AreEdgesOf graph.now.now s
-            → AreOwed s (generation_in self.old.named) self.old.owed (noted_in self.old.named self.old.noted) }
+            → AreOwed s (generation_in self.old.named)
+            self.old.owed (noted_in self.old.named self.old.noted) }
         ensures named { self.new.named ≡ self.old.named }
         ensures owed { (s : Sheet) → AreEdgesOf graph.now.now s
-            → AreOwed s (generation_in self.new.named) self.new.owed (noted_in self.new.named self.new.noted) }
+            → AreOwed s (generation_in self.new.named)
+            self.new.owed (noted_in self.new.named self.new.noted) }
         ensures settled { OnOk result (self.new.owed ≡ []) }
     {
         if self.owed.is_empty() {
@@ -117,8 +126,10 @@ impl Generations {
 /// Owes an edit of these cells where some formula reads one of them.
 fn owe_read(generations: &mut Numbers, graph: &Graph, cells: &[Address]) -> Result<(), AllocError>
     requires { graph.now.staged ≡ None }
-    ensures stay { (c : ℕ) → HasGeneration generations.old.entries c → HasGeneration generations.new.entries c }
-    ensures owed { OnOk result ((s : Sheet) → AreEdgesOf graph.now.now s → (x : ℕ) → is_one_of cells.now x ≡ true
+    ensures stay { (c : ℕ) → HasGeneration generations.old.entries c
+        → HasGeneration generations.new.entries c }
+    ensures owed { OnOk result ((s : Sheet) → AreEdgesOf graph.now.now s
+        → (x : ℕ) → is_one_of cells.now x ≡ true
         → HasGeneration generations.new.entries x ⊎ IsUnread s x) }
 {
     if !graph.any_is_read(cells) {
@@ -145,7 +156,8 @@ pub fn greater(a: u64, b: u64) -> u64
 pub fn make_room(generations: &mut Numbers, cells: &[Address]) -> Result<(), AllocError>
     ensures same { (c : ℕ)
         → generation_in generations.new.entries c ≡ generation_in generations.old.entries c }
-    ensures stay { (c : ℕ) → HasGeneration generations.old.entries c → HasGeneration generations.new.entries c }
+    ensures stay { (c : ℕ) → HasGeneration generations.old.entries c
+        → HasGeneration generations.new.entries c }
     ensures there { OnOk result ((c : ℕ) → is_one_of cells.now c ≡ true
         → HasGeneration generations.new.entries c) }
 {

@@ -46,7 +46,8 @@ impl<'a> Model for Keeping<'a> {
     ghost use Rattle.wi_cache.specs.contracts.key.Key as key;
     ghost use Rattle.wi_values.specs.contracts.value.Value as value;
 
-    ghost coded = { Prim.hlevel (codes, content.the_row.coded, key.the_row.coded, value.the_row.coded) };
+    ghost coded = { Prim.hlevel
+        (codes, content.the_row.coded, key.the_row.coded, value.the_row.coded) };
 
     ghost use Rattle.std.specs.Prelude.{◌≡◌, [], None};
     ghost use Rattle.wi_graph.specs.Edges.{AreEdgesOf};
@@ -54,12 +55,14 @@ impl<'a> Model for Keeping<'a> {
     ghost use Rattle.wi_propagate.specs.Inner.Keeping.{keeping, IsKeepingRight};
     ghost use Rattle.wi_propagate.specs.Inner.Noted.{told, AreKeptUp};
 
-    ghost view = { λ m. keeping m.store.now.sheet m.store.now.edits (told m.store.now.sheet m.generations.now.named) m.given_up m.kept };
+    ghost view = { λ m. keeping m.store.now.sheet m.store.now.edits
+        (told m.store.now.sheet m.generations.now.named) m.given_up m.kept };
 
     ghost invariant = { λ m. AreEdgesOf m.graph.now.now m.store.now.sheet
         × (m.graph.now.staged ≡ None)
         × AreAllCones m.store.now.sheet m.cones
-        × IsKeepingRight (keeping m.store.now.sheet m.store.now.edits (told m.store.now.sheet m.generations.now.named) m.given_up m.kept)
+        × IsKeepingRight (keeping m.store.now.sheet m.store.now.edits
+        (told m.store.now.sheet m.generations.now.named) m.given_up m.kept)
         × AreKeptUp m.store.now.sheet m.store.now.edits m.generations.now
         × (m.generations.now.owed ≡ []) };
 }
@@ -78,11 +81,13 @@ impl<'a> Keeping<'a> {
         requires staged { graph.now.staged ≡ None }
         requires cones { AreAllCones store.now.sheet cones }
         requires right { IsKeepingRight
-            (keeping store.now.sheet store.now.edits (told store.now.sheet generations.now.named) [] kept) }
+            (keeping store.now.sheet store.now.edits
+            (told store.now.sheet generations.now.named) [] kept) }
         requires kept_up { AreKeptUp store.now.sheet store.now.edits generations.now }
         requires settled { generations.now.owed ≡ [] }
         ensures value { result
-            ≡ keeping store.now.sheet store.now.edits (told store.now.sheet generations.now.named) [] kept }
+            ≡ keeping store.now.sheet store.now.edits
+            (told store.now.sheet generations.now.named) [] kept }
         ensures memo { IsMemoOf store.now.sheet (state_in result) }
         ensures within { length kept.entries ≤ kept.capacity }
         ensures one_each { HasOneEach kept.entries }

@@ -70,7 +70,8 @@ impl Model for KeptCalculator {
     ghost use Rattle.wi_cache.specs.contracts.key.Key as key;
     ghost use Rattle.wi_values.specs.contracts.value.Value as value;
 
-    ghost coded = { Prim.hlevel (codes, content.the_row.coded, key.the_row.coded, value.the_row.coded) };
+    ghost coded = { Prim.hlevel
+        (codes, content.the_row.coded, key.the_row.coded, value.the_row.coded) };
 
     ghost use Rattle.std.specs.Prelude.{◌≡◌, [], None, IsSome};
     ghost use Rattle.wi_graph.specs.Edges.{AreEdgesOf};
@@ -79,7 +80,8 @@ impl Model for KeptCalculator {
     ghost use Rattle.wi_propagate.specs.Inner.Keeping.{kept_sheet};
     ghost use Rattle.wi_propagate.specs.Inner.Noted.{told, AreKeptUp};
 
-    ghost view = { λ k. kept_sheet k.store (told k.store.sheet k.generations.named) k.kept k.meter };
+    ghost view = { λ k. kept_sheet k.store
+        (told k.store.sheet k.generations.named) k.kept k.meter };
 
     ghost invariant = { λ k. IsSome k.kept
         × AreEdgesOf k.graph.now k.store.sheet
@@ -433,12 +435,15 @@ impl Calculator for KeptCalculator {
         watch: &W,
     ) -> Result<Vec<Address>, AllocError>
         requires { let sheet = self.now.stored.sheet in
-            (a c : ℕ) → W.watched watch.now a ≡ true → in_cone sheet (a ∷ []) c ≡ true → W.watched watch.now c ≡ true }
+            (a c : ℕ) → W.watched watch.now a ≡ true
+            → in_cone sheet (a ∷ []) c ≡ true → W.watched watch.now c ≡ true }
         ensures order { IfOk result (λ found. IsStrictlyIncreasing found.items) }
         ensures exact { let sheet = self.now.stored.sheet in
-            IfOk result (λ found. (c : ℕ) → is_one_of found.items c ≡ (in_cone sheet cells.now c && not (W.watched watch.now c))) }
+            IfOk result (λ found. (c : ℕ) → is_one_of found.items c
+            ≡ (in_cone sheet cells.now c && not (W.watched watch.now c))) }
         ensures marked { let sheet = self.now.stored.sheet in
-            IfOk result (λ found. (c : ℕ) → is_one_of found.items c ≡ true → in_cone sheet cells.now c ≡ true) }
+            IfOk result (λ found. (c : ℕ) → is_one_of found.items c ≡ true
+            → in_cone sheet cells.now c ≡ true) }
         ensures others { let sheet = self.now.stored.sheet in
             IfOk result (λ found. (c : ℕ) → in_cone sheet cells.now c ≡ true
             → (is_one_of found.items c ≡ true) ⊎ (W.watched watch.now c ≡ true)) }

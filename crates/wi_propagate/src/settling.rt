@@ -46,9 +46,11 @@ pub fn settle_all(
 ) -> Result<(), AllocError>
     requires staged { graph.now.staged ≡ None }
     requires owed { (s : Sheet) → AreEdgesOf graph.now.now s
-        → AreOwed s (generation_in named.now.entries) (keys_of owed.old.entries) (noted_in named.now.entries noted.old.entries) }
+        → AreOwed s (generation_in named.now.entries)
+        (keys_of owed.old.entries) (noted_in named.now.entries noted.old.entries) }
     ensures owed { (s : Sheet) → AreEdgesOf graph.now.now s
-        → AreOwed s (generation_in named.now.entries) (keys_of owed.new.entries) (noted_in named.now.entries noted.new.entries) }
+        → AreOwed s (generation_in named.now.entries)
+        (keys_of owed.new.entries) (noted_in named.now.entries noted.new.entries) }
     ensures settled { OnOk result (keys_of owed.new.entries ≡ []) }
 {
     let mut order = by_number(alloc, named, owed)?;
@@ -66,7 +68,8 @@ pub fn settle_all(
 
 /// The cells that were seen are forgotten where a later edit comes behind an earlier one.
 fn forget(seen: &mut CellMap<()>, last: u64, number: u64)
-    ensures { (c : ℕ) → has_seen seen.new c ≡ (if nat_lt last number then false else has_seen seen.old c) }
+    ensures { (c : ℕ) → has_seen seen.new c
+        ≡ (if nat_lt last number then false else has_seen seen.old c) }
 {
     if last < number {
         seen.clear();
@@ -79,7 +82,8 @@ fn by_number(
     named: &Numbers,
     owed: &Numbers,
 ) -> Result<Vec<(u64, Address)>, AllocError>
-    ensures { IfOk result (λ list. (x : ℕ) → is_one_of (keys_of owed.now.entries) x ≡ is_one_of (second_cells list.items) x) }
+    ensures { IfOk result (λ list.
+        (x : ℕ) → is_one_of (keys_of owed.now.entries) x ≡ is_one_of (second_cells list.items) x) }
 {
     let mut order = Vec::new(alloc);
     let mut rest = owed.iter();
@@ -104,12 +108,16 @@ fn settle_one(
 ) -> Result<(), AllocError>
     requires staged { graph.now.staged ≡ None }
     requires closed { (s : Sheet) → AreEdgesOf graph.now.now s → IsClosedUp s (has_seen seen.old) }
-    ensures noted { OnOk result ((s : Sheet) → AreEdgesOf graph.now.now s → (c : ℕ) → generation_in noted.new.entries c
+    ensures noted { OnOk result ((s : Sheet) → AreEdgesOf graph.now.now s
+        → (c : ℕ) → generation_in noted.new.entries c
         ≡ (if in_cone s (at ∷ []) c && not (has_seen seen.old c)
-        then max (generation_in noted.old.entries c) number else generation_in noted.old.entries c)) }
+        then max (generation_in noted.old.entries c) number
+        else generation_in noted.old.entries c)) }
     ensures seen { OnOk result ((s : Sheet) → AreEdgesOf graph.now.now s
-        → (c : ℕ) → has_seen seen.new c ≡ (has_seen seen.old c || (in_cone s (at ∷ []) c && not (has_seen seen.old c)))) }
-    ensures err { OnErr result ((c : ℕ) → generation_in noted.new.entries c ≡ generation_in noted.old.entries c) }
+        → (c : ℕ) → has_seen seen.new c
+        ≡ (has_seen seen.old c || (in_cone s (at ∷ []) c && not (has_seen seen.old c)))) }
+    ensures err { OnErr result ((c : ℕ) → generation_in noted.new.entries c
+        ≡ generation_in noted.old.entries c) }
 {
     let cone = beyond_seen(graph, seen, at)?;
     see(seen, &cone)?;
@@ -130,7 +138,8 @@ fn beyond_seen(graph: &Graph, seen: &CellMap<()>, at: Address) -> Result<Vec<Add
 
 /// These cells are seen.
 fn see(seen: &mut CellMap<()>, cells: &[Address]) -> Result<(), AllocError>
-    ensures { OnOk result ((c : ℕ) → has_seen seen.new c ≡ (has_seen seen.old c || is_one_of cells.now c)) }
+    ensures { OnOk result ((c : ℕ) → has_seen seen.new c
+        ≡ (has_seen seen.old c || is_one_of cells.now c)) }
 {
     for cell in cells {
         seen.put_new(*cell, ())?;
@@ -142,7 +151,8 @@ fn see(seen: &mut CellMap<()>, cells: &[Address]) -> Result<(), AllocError>
 fn lift(noted: &mut Numbers, cells: &[Address], number: u64)
     requires { (c : ℕ) → is_one_of cells.now c ≡ true → HasGeneration noted.old.entries c }
     ensures { (c : ℕ) → generation_in noted.new.entries c
-        ≡ (if is_one_of cells.now c then max (generation_in noted.old.entries c) number else generation_in noted.old.entries c) }
+        ≡ (if is_one_of cells.now c then max (generation_in noted.old.entries c) number
+        else generation_in noted.old.entries c) }
 {
     for cell in cells {
         let lifted = greater(number_at(noted, *cell), number);

@@ -25,7 +25,8 @@ pub fn standing_value(
     requires open_cell { circular store.now.sheet at ≡ false }
     ensures value { IfOk result (λ o. IfSome o (λ v. v ≡ show.shown store.now.sheet put.now at)) }
     ensures no_formula { IfOk result
-        (λ o. IfSome o (λ _. has_formula (content_of (put_all store.now.sheet put.now) at) ≡ false)) }
+        (λ o. IfSome o (λ _.
+        has_formula (content_of (put_all store.now.sheet put.now) at) ≡ false)) }
 {
     if is_replaced(put, at) {
         return Ok(None);

@@ -31,13 +31,16 @@ pub fn find_changes<C: Calculator>(
         IfOk result (λ found. found.items ≡ changes_among cells.now picture.now shown) }
     ensures same { C.stored calculator.new ≡ C.stored calculator.old }
     ensures quiet { cells.now ≡ []
-        → (C.evaluated calculator.new ≡ C.evaluated calculator.old) × (C.restarted calculator.new ≡ C.restarted calculator.old) }
+        → (C.evaluated calculator.new ≡ C.evaluated calculator.old)
+        × (C.restarted calculator.new ≡ C.restarted calculator.old) }
 
     // No more is evaluated than what these cells demand, also where memory runs out.
     ensures evaluations { let sheet = (C.stored calculator.old).sheet in
-        C.evaluated calculator.new ≤ C.evaluated calculator.old + evaluations_for sheet put.now cells.now }
+        C.evaluated calculator.new
+        ≤ C.evaluated calculator.old + evaluations_for sheet put.now cells.now }
     ensures restarts { let sheet = (C.stored calculator.old).sheet in
-        C.restarted calculator.new ≤ C.restarted calculator.old + restarts_for sheet put.now cells.now }
+        C.restarted calculator.new
+        ≤ C.restarted calculator.old + restarts_for sheet put.now cells.now }
 {
     let mut found = Vec::new(alloc);
     for at in cells {

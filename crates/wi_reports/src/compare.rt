@@ -34,7 +34,8 @@ pub fn push_comparison<C: Calculator>(
 ) -> Result<(), AllocError>
     requires first { IsInOrder first.now }
     requires second { IsInOrder second.now }
-    ensures ok { let records = cells_compared (C.stored calculator.old).sheet first.now second.now area in
+    ensures ok { let records = cells_compared
+        (C.stored calculator.old).sheet first.now second.now area in
         OnOk result (out.new.items ≡ out.old.items ++ records) }
     ensures err { OnErr result (out.new.items ≡ out.old.items) }
     ensures same { C.stored calculator.new ≡ C.stored calculator.old }
@@ -58,7 +59,8 @@ fn push_all<C: Calculator>(
 ) -> Result<(), AllocError>
     requires first { IsInOrder first.now }
     requires second { IsInOrder second.now }
-    ensures ok { let records = cells_compared (C.stored calculator.old).sheet first.now second.now area in
+    ensures ok { let records = cells_compared
+        (C.stored calculator.old).sheet first.now second.now area in
         OnOk result (out.new.items ≡ out.old.items ++ records) }
     ensures kept { StartsWith out.new.items out.old.items }
     ensures same { C.stored calculator.new ≡ C.stored calculator.old }
@@ -83,7 +85,8 @@ fn push_row<C: Calculator>(
     requires first { IsInOrder first.now }
     requires second { IsInOrder second.now }
     requires within { row < rows }
-    ensures ok { let compared = cell_compared (C.stored calculator.old).sheet first.now second.now in
+    ensures ok { let compared = cell_compared
+        (C.stored calculator.old).sheet first.now second.now in
         OnOk result (out.new.items ≡ out.old.items ++ flat_map compared (cells_of_row row area)) }
     ensures kept { StartsWith out.new.items out.old.items }
     ensures same { C.stored calculator.new ≡ C.stored calculator.old }
@@ -107,7 +110,8 @@ fn push_cell<C: Calculator>(
 ) -> Result<(), AllocError>
     requires first { IsInOrder first.now }
     requires second { IsInOrder second.now }
-    ensures ok { let compared = cell_compared (C.stored calculator.old).sheet first.now second.now at in
+    ensures ok { let compared = cell_compared
+        (C.stored calculator.old).sheet first.now second.now at in
         OnOk result (out.new.items ≡ out.old.items ++ compared) }
     ensures kept { StartsWith out.new.items out.old.items }
     ensures same { C.stored calculator.new ≡ C.stored calculator.old }
@@ -144,7 +148,8 @@ fn push_difference(
     second: &Value,
     out: &mut Vec<u8>,
 ) -> Result<(), AllocError>
-    ensures ok { OnOk result (out.new.items ≡ out.old.items ++ difference_record at first.now second.now) }
+    ensures ok { OnOk result (out.new.items
+        ≡ out.old.items ++ difference_record at first.now second.now) }
     ensures err { OnErr result (out.new.items ≡ out.old.items) }
 {
     if same(first, second) {
@@ -164,7 +169,8 @@ fn push_values(
     difference: &str,
     out: &mut Vec<u8>,
 ) -> Result<(), AllocError>
-    ensures ok { let fields = address.now ∷ shown_text first.now ∷ shown_text second.now ∷ difference.now ∷ [] in
+    ensures ok { let fields = address.now
+        ∷ shown_text first.now ∷ shown_text second.now ∷ difference.now ∷ [] in
         OnOk result (out.new.items ≡ out.old.items ++ row fields) }
     ensures err { OnErr result (out.new.items ≡ out.old.items) }
 {

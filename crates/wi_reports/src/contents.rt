@@ -20,7 +20,8 @@ pub fn push_content<C: Calculator>(
     at: Address,
     out: &mut Vec<u8>,
 ) -> Result<(), AllocError>
-    ensures ok { OnOk result (out.new.items ≡ out.old.items ++ content_record (C.stored calculator.now).sheet at) }
+    ensures ok { OnOk result (out.new.items
+        ≡ out.old.items ++ content_record (C.stored calculator.now).sheet at) }
     ensures err { OnErr result (out.new.items ≡ out.old.items) }
 {
     let address = address_text(alloc, at)?;
@@ -34,7 +35,8 @@ fn content_text<C: Calculator>(
     calculator: &C,
     at: Address,
 ) -> Result<String, AllocError>
-    ensures { IfOk result (λ text. string_bytes text ≡ content_text (content_of (C.stored calculator.now).sheet at)) }
+    ensures { IfOk result (λ text.
+        string_bytes text ≡ content_text (content_of (C.stored calculator.now).sheet at)) }
 {
     let mut text = String::new(alloc);
     if let Some(content) = calculator.content(at) {
@@ -45,7 +47,8 @@ fn content_text<C: Calculator>(
 
 /// Appends a content.
 fn push_content_text(content: &Content, text: &mut String) -> Result<(), AllocError>
-    ensures { OnOk result (string_bytes text.new ≡ string_bytes text.old ++ content_text (Some content.now)) }
+    ensures { OnOk result (string_bytes text.new
+        ≡ string_bytes text.old ++ content_text (Some content.now)) }
 {
     match content {
         Content::Constant(value) => push_constant(value, text),
@@ -55,7 +58,8 @@ fn push_content_text(content: &Content, text: &mut String) -> Result<(), AllocEr
 
 /// Appends a constant.
 fn push_constant(value: &Value, text: &mut String) -> Result<(), AllocError>
-    ensures { OnOk result (string_bytes text.new ≡ string_bytes text.old ++ content_text (Some (Constant value.now))) }
+    ensures { OnOk result (string_bytes text.new
+        ≡ string_bytes text.old ++ content_text (Some (Constant value.now))) }
 {
     match value {
         Value::Text(bytes) => {

@@ -24,7 +24,8 @@ pub fn push_rows<C: Calculator>(
     out: &mut Vec<u8>,
 ) -> Result<(), AllocError>
     requires { IsInOrder put.now }
-    ensures ok { OnOk result (out.new.items ≡ out.old.items ++ rows_shown (C.stored calculator.old).sheet put.now area) }
+    ensures ok { OnOk result (out.new.items
+        ≡ out.old.items ++ rows_shown (C.stored calculator.old).sheet put.now area) }
     ensures err { OnErr result (out.new.items ≡ out.old.items) }
     ensures same { C.stored calculator.new ≡ C.stored calculator.old }
 {
@@ -45,7 +46,8 @@ fn push_all<C: Calculator>(
     out: &mut Vec<u8>,
 ) -> Result<(), AllocError>
     requires { IsInOrder put.now }
-    ensures ok { OnOk result (out.new.items ≡ out.old.items ++ rows_shown (C.stored calculator.old).sheet put.now area) }
+    ensures ok { OnOk result (out.new.items
+        ≡ out.old.items ++ rows_shown (C.stored calculator.old).sheet put.now area) }
     ensures kept { StartsWith out.new.items out.old.items }
     ensures same { C.stored calculator.new ≡ C.stored calculator.old }
 {
@@ -67,7 +69,8 @@ fn push_row<C: Calculator>(
 ) -> Result<(), AllocError>
     requires order { IsInOrder put.now }
     requires within { row < rows }
-    ensures ok { OnOk result (out.new.items ≡ out.old.items ++ row_shown (C.stored calculator.old).sheet put.now area row) }
+    ensures ok { OnOk result (out.new.items
+        ≡ out.old.items ++ row_shown (C.stored calculator.old).sheet put.now area row) }
     ensures kept { StartsWith out.new.items out.old.items }
     ensures same { C.stored calculator.new ≡ C.stored calculator.old }
 {

@@ -97,7 +97,8 @@ pub fn push_table<C: Calculator>(
     requires order { IsInOrder put.now }
     requires shaped { (shape.is_column table.now.column && shape.has_row table.now.second) ≡ true }
     ensures ok { let sheet = (C.stored calculator.old).sheet in
-        let records = spec.table_of sheet put.now table.now.formula_cell table.now.input table.now.column table.now.second in
+        let records = spec.table_of sheet put.now table.now.formula_cell
+        table.now.input table.now.column table.now.second in
         OnOk result (out.new.items ≡ out.old.items ++ records) }
     ensures err { OnErr result (out.new.items ≡ out.old.items) }
     ensures same { C.stored calculator.new ≡ C.stored calculator.old }
@@ -121,7 +122,8 @@ fn push_all<C: Calculator>(
     requires order { IsInOrder put.now }
     requires shaped { (shape.is_column table.now.column && shape.has_row table.now.second) ≡ true }
     ensures ok { let sheet = (C.stored calculator.old).sheet in
-        let records = spec.table_of sheet put.now table.now.formula_cell table.now.input table.now.column table.now.second in
+        let records = spec.table_of sheet put.now table.now.formula_cell
+        table.now.input table.now.column table.now.second in
         OnOk result (out.new.items ≡ out.old.items ++ records) }
     ensures kept { StartsWith out.new.items out.old.items }
     ensures same { C.stored calculator.new ≡ C.stored calculator.old }
@@ -143,7 +145,8 @@ fn push_head<C: Calculator>(
 ) -> Result<(), AllocError>
     requires { IsInOrder put.now }
     ensures ok { let text = text_under (C.stored calculator.old).sheet put.now in
-        OnOk result (out.new.items ≡ out.old.items ++ row ([] ∷ map text (cells_of_row (row_of cells.first) cells))) }
+        OnOk result (out.new.items
+        ≡ out.old.items ++ row ([] ∷ map text (cells_of_row (row_of cells.first) cells))) }
     ensures kept { StartsWith out.new.items out.old.items }
     ensures same { C.stored calculator.new ≡ C.stored calculator.old }
 {
@@ -214,8 +217,10 @@ fn push_entries<C: Calculator>(
     requires order { IsInOrder put.now }
     requires row { shape.has_row table.now.second ≡ true }
     ensures texts { let sheet = (C.stored calculator.old).sheet in
-        let entries = spec.entries_beside sheet put.now table.now.formula_cell table.now.input table.now.second x in
-        OnOk result (map string_bytes texts.new.items ≡ map string_bytes texts.old.items ++ entries) }
+        let entries = spec.entries_beside sheet put.now table.now.formula_cell
+        table.now.input table.now.second x in
+        OnOk result (map string_bytes texts.new.items
+        ≡ map string_bytes texts.old.items ++ entries) }
     ensures same { C.stored calculator.new ≡ C.stored calculator.old }
 {
     match table.second {
@@ -256,7 +261,8 @@ fn push_row_entries<C: Calculator>(
 ) -> Result<(), AllocError>
     requires { IsInOrder put.now }
     ensures texts { let sheet = (C.stored calculator.old).sheet in
-        let text = λ (y : ℕ). spec.entry_text sheet put.now given.now.formula_cell (pairs_at given.now.input given.now.x given.now.second y) in
+        let text = λ (y : ℕ). spec.entry_text sheet put.now given.now.formula_cell
+        (pairs_at given.now.input given.now.x given.now.second y) in
         OnOk result (map string_bytes texts.new.items
         ≡ map string_bytes texts.old.items ++ map text (cells_of_row (row_of cells.first) cells)) }
     ensures same { C.stored calculator.new ≡ C.stored calculator.old }
@@ -281,8 +287,10 @@ fn push_entry_at<C: Calculator>(
 ) -> Result<(), AllocError>
     requires { IsInOrder put.now }
     ensures text { let sheet = (C.stored calculator.old).sheet in
-        let text = spec.entry_text sheet put.now given.now.formula_cell (pairs_at given.now.input given.now.x given.now.second y) in
-        OnOk result (map string_bytes texts.new.items ≡ map string_bytes texts.old.items ++ text ∷ []) }
+        let text = spec.entry_text sheet put.now given.now.formula_cell
+        (pairs_at given.now.input given.now.x given.now.second y) in
+        OnOk result (map string_bytes texts.new.items
+        ≡ map string_bytes texts.old.items ++ text ∷ []) }
     ensures same { C.stored calculator.new ≡ C.stored calculator.old }
 {
     let pairs = [(given.input, given.x), (given.second, y)];
@@ -299,8 +307,10 @@ fn push_entry<C: Calculator>(
     texts: &mut Vec<String>,
 ) -> Result<(), AllocError>
     requires { IsInOrder put.now }
-    ensures text { let text = spec.entry_text (C.stored calculator.old).sheet put.now formula_cell pairs.now in
-        OnOk result (map string_bytes texts.new.items ≡ map string_bytes texts.old.items ++ text ∷ []) }
+    ensures text { let text = spec.entry_text
+        (C.stored calculator.old).sheet put.now formula_cell pairs.now in
+        OnOk result (map string_bytes texts.new.items
+        ≡ map string_bytes texts.old.items ++ text ∷ []) }
     ensures same { C.stored calculator.new ≡ C.stored calculator.old }
 {
     let value = calculator.what_if_value(put, formula_cell, pairs)?;

@@ -34,7 +34,8 @@ pub(crate) fn push_text_of(
     value: &Value,
     texts: &mut Vec<String>,
 ) -> Result<(), AllocError>
-    ensures { OnOk result (map string_bytes texts.new.items ≡ map string_bytes texts.old.items ++ shown_text value.now ∷ []) }
+    ensures { OnOk result (map string_bytes texts.new.items
+        ≡ map string_bytes texts.old.items ++ shown_text value.now ∷ []) }
 {
     texts.push(shown_text(alloc, value)?)?;
     Ok(())
@@ -50,7 +51,8 @@ pub(crate) fn push_text_under<C: Calculator>(
 ) -> Result<(), AllocError>
     requires { IsInOrder put.now }
     ensures text { let text = text_under (C.stored calculator.old).sheet put.now at in
-        OnOk result (map string_bytes texts.new.items ≡ map string_bytes texts.old.items ++ text ∷ []) }
+        OnOk result (map string_bytes texts.new.items
+        ≡ map string_bytes texts.old.items ++ text ∷ []) }
     ensures same { C.stored calculator.new ≡ C.stored calculator.old }
 {
     let value = calculator.value(put, at)?;

@@ -14,7 +14,8 @@ pub(crate) type ValueMap = BTreeMap<Address, Value>;
 /// Puts copies of a map's entries into another, in the place of what it had at their addresses. If memory runs out, those put
 /// in so far stay.
 pub(crate) fn put_in(alloc: Global, map: &mut ValueMap, others: &ValueMap) -> Result<(), AllocError>
-    ensures put { OnOk result (map.new.entries ≡ overridden map.old.entries (as_replacements others.now.entries)) }
+    ensures put { OnOk result (map.new.entries
+        ≡ overridden map.old.entries (as_replacements others.now.entries)) }
     ensures order { OnOk result (IsInOrder (as_replacements others.now.entries)) }
 {
     for (at, value) in others {
@@ -39,7 +40,8 @@ pub(crate) fn with_entries(
     map: ValueMap,
     others: &ValueMap,
 ) -> Result<ValueMap, AllocError>
-    ensures { IfOk result (λ m. m.entries ≡ overridden map.entries (as_replacements others.now.entries)) }
+    ensures { IfOk result (λ m.
+        m.entries ≡ overridden map.entries (as_replacements others.now.entries)) }
 {
     let mut all = map;
     put_in(alloc, &mut all, others)?;

@@ -69,14 +69,16 @@ impl Layer {
 
     /// Whether a replacement for an address would be one too many.
     pub(crate) fn is_full(&self, at: Address) -> bool
-        ensures { result ≡ (not (is_replaced (own_of self.now) at) && nat_le max_replacements (length (own_of self.now))) }
+        ensures { result ≡ (not (is_replaced (own_of self.now) at)
+            && nat_le max_replacements (length (own_of self.now))) }
     {
         !self.own.contains_key(&at) && self.own.len() >= MAX_REPLACEMENTS
     }
 
     /// The same with a replacement put in.
     pub(crate) fn with(&self, alloc: Global, at: Address, value: Value) -> Result<Layer, AllocError>
-        ensures own { IfOk result (λ l. own_of l ≡ with_replacements (own_of self.now) (record { at = at; value = value } ∷ [])) }
+        ensures own { IfOk result (λ l. own_of l
+            ≡ with_replacements (own_of self.now) (record { at = at; value = value } ∷ [])) }
         ensures base { IfOk result (λ l. base_of l ≡ base_of self.now) }
     {
         let mut own = copied(alloc, &self.own)?;

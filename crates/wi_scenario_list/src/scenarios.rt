@@ -98,7 +98,8 @@ impl Scenarios {
     /// replacements. Nothing where none is named, or where none has the name. The work for each replacement of the scenario and
     /// of those that it is based on grows with the logarithm of their count.
     pub fn effective(&self, name: Option<&str>) -> Result<Vec<Replacement>, AllocError>
-        ensures value { IfOk result (λ rs. rs.items ≡ effective self.now (option_copied name.entry)) }
+        ensures value { IfOk result (λ rs.
+            rs.items ≡ effective self.now (option_copied name.entry)) }
         ensures order { IfOk result (λ rs. IsInOrder rs.items) }
     {
         let all = self.layered(MAX_SCENARIOS, name)?;
@@ -120,7 +121,8 @@ impl Scenarios {
     /// `TooMany` where there would be more than `MAX_SCENARIOS`, or more than `MAX_REPLACEMENTS` of the scenario's own, as `is_full`
     /// tells, and there alone; `Memory` if memory runs out. After each all is as before. The work grows with the count of the scenario's own replacements.
     pub fn put(&mut self, name: &str, at: Address, value: Value) -> Result<(), ScenarioFault>
-        ensures ok { OnOk result (self.new ≡ with_scenario self.old (with_own (scenario_for self.old name.now) (record { at = at; value = value } ∷ []))) }
+        ensures ok { OnOk result (self.new ≡ with_scenario self.old
+            (with_own (scenario_for self.old name.now) (record { at = at; value = value } ∷ []))) }
         ensures too_many { (result ≡ Err TooMany) ↔ (is_full self.old name.now at ≡ true) }
         ensures err { OnErr result (self.new ≡ self.old) }
     {
@@ -134,7 +136,8 @@ impl Scenarios {
     /// Takes a scenario's own replacement for an address away, if there is one; the scenario stays. Nothing happens where there is no
     /// such scenario. On an error all is as before. The work grows with the count of the scenario's own replacements.
     pub fn take_away(&mut self, name: &str, at: Address) -> Result<(), AllocError>
-        ensures ok { has_scenario self.old name.now ≡ true → OnOk result (self.new ≡ with_scenario self.old (without_own (scenario_for self.old name.now) at)) }
+        ensures ok { has_scenario self.old name.now ≡ true → OnOk result (self.new
+            ≡ with_scenario self.old (without_own (scenario_for self.old name.now) at)) }
         ensures absent { has_scenario self.old name.now ≡ false → self.new ≡ self.old }
         ensures err { OnErr result (self.new ≡ self.old) }
     {
@@ -147,7 +150,9 @@ impl Scenarios {
 
     /// Bases a scenario on another, or on none. Nothing happens where there is no such scenario. On an error all is as before.
     pub fn set_base(&mut self, name: &str, other: Option<&str>) -> Result<(), AllocError>
-        ensures ok { has_scenario self.old name.now ≡ true → OnOk result (self.new ≡ with_scenario self.old (based_on (scenario_for self.old name.now) (option_copied other.entry))) }
+        ensures ok { has_scenario self.old name.now ≡ true
+            → OnOk result (self.new ≡ with_scenario self.old
+            (based_on (scenario_for self.old name.now) (option_copied other.entry))) }
         ensures absent { has_scenario self.old name.now ≡ false → self.new ≡ self.old }
         ensures err { OnErr result (self.new ≡ self.old) }
     {
@@ -167,7 +172,8 @@ impl Scenarios {
 
     /// What the scenario of a name holds, if it is there.
     fn find(&self, name: &str) -> Option<&Layer>
-        ensures { option_map (λ l. with_name name.now l.now) result ≡ scenario_of self.now (Some name.now) }
+        ensures { option_map (λ l. with_name name.now l.now) result
+            ≡ scenario_of self.now (Some name.now) }
     {
         self.layers.get(name)
     }
@@ -190,7 +196,8 @@ impl Scenarios {
 
     /// What the first so many, of the scenario of a name and those that it is based on, put in.
     fn layered(&self, bound: usize, name: Option<&str>) -> Result<ValueMap, AllocError>
-        ensures { IfOk result (λ m. m.entries ≡ as_map (layered (chain_within bound self.now (scenario_of self.now (option_copied name.entry))))) }
+        ensures { IfOk result (λ m. m.entries ≡ as_map (layered (chain_within bound self.now
+            (scenario_of self.now (option_copied name.entry))))) }
     {
         if bound == 0 {
             return Ok(BTreeMap::new(self.alloc));
@@ -209,7 +216,8 @@ impl Scenarios {
 
     /// Puts a replacement into a scenario, however many there are. If memory runs out, all is as before.
     fn put_in(&mut self, name: &str, at: Address, value: Value) -> Result<(), AllocError>
-        ensures ok { OnOk result (self.new ≡ with_scenario self.old (with_own (scenario_for self.old name.now) (record { at = at; value = value } ∷ []))) }
+        ensures ok { OnOk result (self.new ≡ with_scenario self.old
+            (with_own (scenario_for self.old name.now) (record { at = at; value = value } ∷ []))) }
         ensures err { OnErr result (self.new ≡ self.old) }
     {
         let layer = self.layer_with(name, at, value)?;
@@ -218,7 +226,8 @@ impl Scenarios {
 
     /// What the scenario of this name, or else a new one, holds once a replacement is put in.
     fn layer_with(&self, name: &str, at: Address, value: Value) -> Result<Layer, AllocError>
-        ensures { IfOk result (λ l. with_name name.now l ≡ with_own (scenario_for self.now name.now) (record { at = at; value = value } ∷ [])) }
+        ensures { IfOk result (λ l. with_name name.now l
+            ≡ with_own (scenario_for self.now name.now) (record { at = at; value = value } ∷ [])) }
     {
         self.layer_for(name)?.with(self.alloc, at, value)
     }
@@ -245,7 +254,8 @@ impl Scenarios {
 
 /// Puts a layer in the place of the one of its name, or at the end.
 fn insert(layers: &mut IndexMap<RcStr, Layer>, name: RcStr, layer: Layer) -> Result<(), AllocError>
-    ensures ok { OnOk result (held layers.new.entries ≡ with_scenario (held layers.old.entries) (with_name (rc_str_bytes name) layer)) }
+    ensures ok { OnOk result (held layers.new.entries
+        ≡ with_scenario (held layers.old.entries) (with_name (rc_str_bytes name) layer)) }
     ensures err { OnErr result (layers.new.entries ≡ layers.old.entries) }
 {
     layers.insert(name, layer)?;

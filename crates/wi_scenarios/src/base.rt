@@ -27,7 +27,8 @@ pub(crate) fn base<C: Calculator>(
 ) -> Result<(), Refusal>
     requires { IsSound C.marked (C.stored calculator.now) desk.old }
     ensures step { let old = state_of (C.stored calculator.now) desk.old in
-        Serves (λ a. base_step old name.now (option_copied other.entry) ≡ a) result old (state_of (C.stored calculator.now) desk.new) [] }
+        Serves (λ a. base_step old name.now (option_copied other.entry) ≡ a)
+        result old (state_of (C.stored calculator.now) desk.new) [] }
     ensures adds { AddsOnly C.marked ([]) (state_of (C.stored calculator.now) desk.old)
         (state_of (C.stored calculator.now) desk.new) (pending_in desk.old) (pending_in desk.new) }
     ensures refused { OnErr result (pending_in desk.new ≡ pending_in desk.old) }
@@ -51,7 +52,8 @@ fn with_base(
     other: Option<&str>,
 ) -> Result<Scenarios, AllocError>
     requires { has_scenario scenarios.now name.now ≡ true }
-    ensures { IfOk result (λ next. next ≡ with_scenario scenarios.now (based_on (scenario_for scenarios.now name.now) (option_copied other.entry))) }
+    ensures { IfOk result (λ next. next ≡ with_scenario scenarios.now
+        (based_on (scenario_for scenarios.now name.now) (option_copied other.entry))) }
 {
     let mut next = scenarios.copy()?;
     next.set_base(name, other)?;
@@ -60,7 +62,8 @@ fn with_base(
 
 /// Whether a scenario isn't there, or another is named that isn't.
 fn is_any_missing(scenarios: &Scenarios, name: &str, other: Option<&str>) -> bool
-    ensures { result ≡ (not (has_scenario scenarios.now name.now) || lacks scenarios.now (option_copied other.entry)) }
+    ensures { result ≡ (not (has_scenario scenarios.now name.now)
+        || lacks scenarios.now (option_copied other.entry)) }
 {
     is_missing(scenarios, Some(name)) || is_missing(scenarios, other)
 }

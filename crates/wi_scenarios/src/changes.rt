@@ -28,19 +28,24 @@ pub(crate) fn changes<C: Calculator>(
     requires { IsSound C.marked (C.stored calculator.old) desk.old }
     ensures step { let old = state_of (C.stored calculator.old) desk.old in
         (records : List ℕ) × (out.new.items ≡ out.old.items ++ records)
-        × Serves (λ a. changes_step old ≡ a) result old (state_of (C.stored calculator.new) desk.new) records }
+        × Serves (λ a. changes_step old ≡ a)
+        result old (state_of (C.stored calculator.new) desk.new) records }
     ensures same { C.stored calculator.new ≡ C.stored calculator.old }
-    ensures emptied { OnOk result (Emptied desk.old.current (pending_in desk.old) (pending_in desk.new)) }
+    ensures emptied { OnOk result
+        (Emptied desk.old.current (pending_in desk.old) (pending_in desk.new)) }
     ensures refused { OnErr result (pending_in desk.new ≡ pending_in desk.old) }
     ensures quiet { pending_for (pending_in desk.old) desk.old.current ≡ []
-        → (C.evaluated calculator.new ≡ C.evaluated calculator.old) × (C.restarted calculator.new ≡ C.restarted calculator.old)
+        → (C.evaluated calculator.new ≡ C.evaluated calculator.old)
+        × (C.restarted calculator.new ≡ C.restarted calculator.old)
         × (out.new.items ≡ out.old.items) }
 
     // No more is evaluated than what its pending cells demand, also where memory runs out.
     ensures evaluations { let old = state_of (C.stored calculator.old) desk.old in
-        C.evaluated calculator.new ≤ C.evaluated calculator.old + pending_evaluations old (pending_in desk.old) }
+        C.evaluated calculator.new
+        ≤ C.evaluated calculator.old + pending_evaluations old (pending_in desk.old) }
     ensures restarts { let old = state_of (C.stored calculator.old) desk.old in
-        C.restarted calculator.new ≤ C.restarted calculator.old + pending_restarts old (pending_in desk.old) }
+        C.restarted calculator.new
+        ≤ C.restarted calculator.old + pending_restarts old (pending_in desk.old) }
     ensures sound { IsSound C.marked (C.stored calculator.new) desk.new }
 {
     let found = find(alloc, calculator, desk)?;
@@ -56,15 +61,20 @@ fn find<C: Calculator>(
     desk: &Desk,
 ) -> Result<Vec<(Address, Value)>, AllocError>
     requires { IsSound C.marked (C.stored calculator.old) desk.now }
-    ensures list { let state = state_of (C.stored calculator.old) desk.now in IfOk result (λ found. found.items ≡ change_list state) }
+    ensures list { let state = state_of (C.stored calculator.old) desk.now in
+        IfOk result (λ found. found.items ≡ change_list state) }
     ensures same { C.stored calculator.new ≡ C.stored calculator.old }
     ensures quiet { pending_for (pending_in desk.now) desk.now.current ≡ []
-        → (C.evaluated calculator.new ≡ C.evaluated calculator.old) × (C.restarted calculator.new ≡ C.restarted calculator.old) }
+        → (C.evaluated calculator.new ≡ C.evaluated calculator.old)
+        × (C.restarted calculator.new ≡ C.restarted calculator.old) }
     ensures evaluations { let state = state_of (C.stored calculator.old) desk.now in
-        C.evaluated calculator.new ≤ C.evaluated calculator.old + pending_evaluations state (pending_in desk.now) }
+        C.evaluated calculator.new
+        ≤ C.evaluated calculator.old + pending_evaluations state (pending_in desk.now) }
     ensures restarts { let state = state_of (C.stored calculator.old) desk.now in
-        C.restarted calculator.new ≤ C.restarted calculator.old + pending_restarts state (pending_in desk.now) }
-    ensures none { pending_for (pending_in desk.now) desk.now.current ≡ [] → IfOk result (λ found. found.items ≡ []) }
+        C.restarted calculator.new
+        ≤ C.restarted calculator.old + pending_restarts state (pending_in desk.now) }
+    ensures none { pending_for (pending_in desk.now) desk.now.current ≡ []
+        → IfOk result (λ found. found.items ≡ []) }
 {
     let cells = desk.sessions.pending_cells(desk.current)?;
     if cells.is_empty() {

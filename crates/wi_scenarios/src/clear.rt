@@ -26,8 +26,11 @@ pub(crate) fn clear<C: Calculator>(
 ) -> Result<(), Refusal>
     requires { IsSound C.marked (C.stored calculator.old) desk.old }
     ensures step { let old = state_of (C.stored calculator.old) desk.old in
-        Serves (λ a. clear_step old force area ≡ a) result old (state_of (C.stored calculator.new) desk.new) [] }
-    ensures adds { AddsOnly C.marked (keys_of (clear_edit (C.stored calculator.old).sheet area).contents) (state_of (C.stored calculator.old) desk.old)
+        Serves (λ a. clear_step old force area ≡ a)
+        result old (state_of (C.stored calculator.new) desk.new) [] }
+    ensures adds { AddsOnly C.marked
+        (keys_of (clear_edit (C.stored calculator.old).sheet area).contents)
+        (state_of (C.stored calculator.old) desk.old)
         (state_of (C.stored calculator.new) desk.new) (pending_in desk.old) (pending_in desk.new) }
     ensures refused { OnErr result (pending_in desk.new ≡ pending_in desk.old) }
     ensures sound { IsSound C.marked (C.stored calculator.new) desk.new }

@@ -32,7 +32,8 @@ pub(crate) fn compare<C: Calculator>(
     requires { IsSound C.marked (C.stored calculator.old) desk.now }
     ensures step { let old = state_of (C.stored calculator.old) desk.now in
         (records : List ℕ) × (out.new.items ≡ out.old.items ++ records)
-        × Serves (λ a. compare_step old (option_copied first.entry) (option_copied second.entry) area ≡ a) result old (state_of (C.stored calculator.new) desk.now) records }
+        × Serves (λ a. compare_step old (option_copied first.entry) (option_copied second.entry)
+        area ≡ a) result old (state_of (C.stored calculator.new) desk.now) records }
     ensures same { C.stored calculator.new ≡ C.stored calculator.old }
 {
     if is_too_large(area) {
@@ -56,7 +57,8 @@ fn push_differences<C: Calculator>(
     out: &mut Vec<u8>,
 ) -> Result<(), AllocError>
     ensures ok { let under = effective desk.now.scenarios in
-        OnOk result (out.new.items ≡ out.old.items ++ cells_compared (C.stored calculator.old).sheet (under (option_copied first.entry)) (under (option_copied second.entry)) area) }
+        OnOk result (out.new.items ≡ out.old.items ++ cells_compared (C.stored calculator.old).sheet
+        (under (option_copied first.entry)) (under (option_copied second.entry)) area) }
     ensures err { OnErr result (out.new.items ≡ out.old.items) }
     ensures same { C.stored calculator.new ≡ C.stored calculator.old }
 {
@@ -67,7 +69,8 @@ fn push_differences<C: Calculator>(
 
 /// Whether one of two scenarios is named that isn't there.
 fn lacks_either(scenarios: &Scenarios, first: Option<&str>, second: Option<&str>) -> bool
-    ensures { result ≡ (lacks scenarios.now (option_copied first.entry) || lacks scenarios.now (option_copied second.entry)) }
+    ensures { result ≡ (lacks scenarios.now (option_copied first.entry)
+        || lacks scenarios.now (option_copied second.entry)) }
 {
     is_missing(scenarios, first) || is_missing(scenarios, second)
 }

@@ -25,8 +25,10 @@ pub(crate) fn import<C: Calculator>(
 ) -> Result<(), Refusal>
     requires { IsSound C.marked (C.stored calculator.old) desk.old }
     ensures step { let old = state_of (C.stored calculator.old) desk.old in
-        ServesData (IsCsvStep old force at text.now) result old (state_of (C.stored calculator.new) desk.new) }
-    ensures adds { AddsOnly C.marked (imported_cells at text.now) (state_of (C.stored calculator.old) desk.old)
+        ServesData (IsCsvStep old force at text.now)
+        result old (state_of (C.stored calculator.new) desk.new) }
+    ensures adds { AddsOnly C.marked
+        (imported_cells at text.now) (state_of (C.stored calculator.old) desk.old)
         (state_of (C.stored calculator.new) desk.new) (pending_in desk.old) (pending_in desk.new) }
     ensures refused { OnErr result (pending_in desk.new ≡ pending_in desk.old) }
     ensures sound { IsSound C.marked (C.stored calculator.new) desk.new }

@@ -35,7 +35,8 @@ fn push_differing(
 ) -> Result<(), AllocError>
     requires before { IsInOrder before.now }
     requires after { IsInOrder after.now }
-    ensures { OnOk result (cells.new.items ≡ cells.old.items ++ differing before.now after.now among.now) }
+    ensures { OnOk result (cells.new.items
+        ≡ cells.old.items ++ differing before.now after.now among.now) }
 {
     for replacement in among {
         if !has_same(before, after, replacement.at) {

@@ -23,7 +23,8 @@ pub(crate) fn drop<C: Calculator>(
 ) -> Result<(), Refusal>
     requires { IsSound C.marked (C.stored calculator.now) desk.old }
     ensures step { let old = state_of (C.stored calculator.now) desk.old in
-        Serves (λ a. drop_step old name.now ≡ a) result old (state_of (C.stored calculator.now) desk.new) [] }
+        Serves (λ a. drop_step old name.now ≡ a)
+        result old (state_of (C.stored calculator.now) desk.new) [] }
     ensures sound { IsSound C.marked (C.stored calculator.now) desk.new }
     ensures pending { pending_in desk.new ≡ pending_in desk.old }
     ensures no_memory { result ≢ Err Memory }

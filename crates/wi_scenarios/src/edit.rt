@@ -41,8 +41,10 @@ pub(crate) fn apply_edit<C: Calculator>(
 ) -> Result<(), Refusal>
     requires { IsSound C.marked (C.stored calculator.old) desk.old }
     ensures step { let old = state_of (C.stored calculator.old) desk.old in
-        Serves (λ a. edit_answer old force no_cause (edit_in edit) ≡ a) result old (state_of (C.stored calculator.new) desk.new) [] }
-    ensures adds { AddsOnly C.marked (keys_of edit.contents.items) (state_of (C.stored calculator.old) desk.old)
+        Serves (λ a. edit_answer old force no_cause (edit_in edit) ≡ a)
+        result old (state_of (C.stored calculator.new) desk.new) [] }
+    ensures adds { AddsOnly C.marked
+        (keys_of edit.contents.items) (state_of (C.stored calculator.old) desk.old)
         (state_of (C.stored calculator.new) desk.new) (pending_in desk.old) (pending_in desk.new) }
     ensures refused { OnErr result (pending_in desk.new ≡ pending_in desk.old) }
     ensures sound { IsSound C.marked (C.stored calculator.new) desk.new }
@@ -61,8 +63,10 @@ fn edit_caught_up<C: Calculator>(
 ) -> Result<(), Refusal>
     requires { IsSound C.marked (C.stored calculator.old) desk.old }
     ensures step { let old = state_of (C.stored calculator.old) desk.old in
-        Serves (λ a. edit_answer old force no_cause (edit_in edit) ≡ a) result old (state_of (C.stored calculator.new) desk.new) [] }
-    ensures adds { AddsOnly C.marked (keys_of edit.contents.items) (state_of (C.stored calculator.old) desk.old)
+        Serves (λ a. edit_answer old force no_cause (edit_in edit) ≡ a)
+        result old (state_of (C.stored calculator.new) desk.new) [] }
+    ensures adds { AddsOnly C.marked
+        (keys_of edit.contents.items) (state_of (C.stored calculator.old) desk.old)
         (state_of (C.stored calculator.new) desk.new) (pending_in desk.old) (pending_in desk.new) }
     ensures refused { OnErr result (pending_in desk.new ≡ pending_in desk.old) }
     ensures sound { IsSound C.marked (C.stored calculator.new) desk.new }
@@ -94,8 +98,11 @@ pub(crate) fn edit_area<C: Calculator>(
 ) -> Result<(), Refusal>
     requires { IsSound C.marked (C.stored calculator.old) desk.old }
     ensures step { let old = state_of (C.stored calculator.old) desk.old in
-        Serves (λ a. edit_answer old force no_cause (record { named = area ∷ []; contents = contents.items }) ≡ a) result old (state_of (C.stored calculator.new) desk.new) [] }
-    ensures adds { AddsOnly C.marked (keys_of contents.items) (state_of (C.stored calculator.old) desk.old)
+        Serves (λ a. edit_answer old force no_cause
+        (record { named = area ∷ []; contents = contents.items }) ≡ a)
+        result old (state_of (C.stored calculator.new) desk.new) [] }
+    ensures adds { AddsOnly C.marked
+        (keys_of contents.items) (state_of (C.stored calculator.old) desk.old)
         (state_of (C.stored calculator.new) desk.new) (pending_in desk.old) (pending_in desk.new) }
     ensures refused { OnErr result (pending_in desk.new ≡ pending_in desk.old) }
     ensures sound { IsSound C.marked (C.stored calculator.new) desk.new }
@@ -166,7 +173,8 @@ fn edit_with_rooms<C: Calculator>(
     requires full { (i : ℕ) → vacant_of desk.old.sessions i ≡ [] }
     ensures beside { SameBeside desk.old desk.new }
     ensures rooms { OnOk result (HasRooms marked.now desk.new.sessions) }
-    ensures edit { Commits (applied (C.stored calculator.old) edit.contents.items) (record { session = desk.old.current; cells = edit.named.items })
+    ensures edit { Commits (applied (C.stored calculator.old) edit.contents.items)
+        (record { session = desk.old.current; cells = edit.named.items })
         result (C.stored calculator.old) (C.stored calculator.new) desk.old.log desk.new.log }
 {
     make_rooms(&mut desk.sessions, marked)?;
@@ -190,7 +198,8 @@ fn commit<C: Calculator>(
     session: u32,
     edit: Edit,
 ) -> Result<(), Refusal>
-    ensures { Commits (applied (C.stored calculator.old) edit.contents.items) (record { session = session; cells = edit.named.items })
+    ensures { Commits (applied (C.stored calculator.old) edit.contents.items)
+        (record { session = session; cells = edit.named.items })
         result (C.stored calculator.old) (C.stored calculator.new) log.old log.new }
 {
     log.add(session, edit.named)?;

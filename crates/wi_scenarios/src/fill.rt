@@ -33,7 +33,8 @@ pub(crate) fn fill<C: Calculator>(
 ) -> Result<(), Refusal>
     requires { IsSound C.marked (C.stored calculator.old) desk.old }
     ensures step { let old = state_of (C.stored calculator.old) desk.old in
-        Serves (λ a. fill_step old force from area ≡ a) result old (state_of (C.stored calculator.new) desk.new) [] }
+        Serves (λ a. fill_step old force from area ≡ a)
+        result old (state_of (C.stored calculator.new) desk.new) [] }
     ensures adds { AddsOnly C.marked (cells_of area) (state_of (C.stored calculator.old) desk.old)
         (state_of (C.stored calculator.new) desk.new) (pending_in desk.old) (pending_in desk.new) }
     ensures refused { OnErr result (pending_in desk.new ≡ pending_in desk.old) }
@@ -76,8 +77,10 @@ fn push_copies(
 ) -> Result<(), ShiftFault>
     requires { row < rows }
     ensures { MatchResult result
-        (λ done. (cells : List ℕ) → AreCopies (option_copied content.entry) from cells changes.old.items
-        → AreCopies (option_copied content.entry) from (cells ++ cells_of_row row area) changes.new.items)
+        (λ done. (cells : List ℕ)
+        → AreCopies (option_copied content.entry) from cells changes.old.items
+        → AreCopies (option_copied content.entry)
+        from (cells ++ cells_of_row row area) changes.new.items)
         (λ fault. HasNoCopies (option_copied content.entry) from (cells_of_row row area) fault) }
 {
     let first = area.first().column();
@@ -96,7 +99,8 @@ fn copied(
     from: Address,
     to: Address,
 ) -> Result<Option<Content>, ShiftFault>
-    ensures { CopiesAs (copied (rows_between from to) (columns_between from to) (option_copied content.entry)) result }
+    ensures { CopiesAs (copied (rows_between from to)
+        (columns_between from to) (option_copied content.entry)) result }
 {
     match content {
         None => Ok(None),

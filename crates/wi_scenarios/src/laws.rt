@@ -12,7 +12,8 @@ ghost use Rattle.wi_scenarios.specs.Laws.{Event, ForcedIsNotStale, IsRun, IsCohe
 #[tactic(auto, using(crate::proofs::StepLemmas::an_answer, crate::proofs::StepLemmas::no_other))]
 pub fn one_answer()
     ensures some { (s : State) (c : Command) → (a : Answer) × IsStep s c a }
-    ensures no_other { (s : State) (c : Command) (a b : Answer) → IsStep s c a → IsStep s c b → a ≡ b }
+    ensures no_other { (s : State) (c : Command) (a b : Answer) → IsStep s c a
+        → IsStep s c b → a ≡ b }
 {}
 
 /// In a workbook that was just made, and so after each run from there, the current session is one of the sessions, and none
@@ -20,25 +21,30 @@ pub fn one_answer()
 #[tactic(auto, using(crate::proofs::RunLemmas::new_is_coherent, crate::proofs::RunLemmas::stays_coherent))]
 pub fn runs_stay_coherent()
     ensures new { (stored : Stored) → IsCoherent (state_over stored) }
-    ensures stays { (s : State) (es : List Event) → IsCoherent s → IsRun s es → IsCoherent (state_after s es) }
+    ensures stays { (s : State) (es : List Event) → IsCoherent s
+        → IsRun s es → IsCoherent (state_after s es) }
 {}
 
 /// In every interleaving, the change lists that a session is told, put into the picture that it had before, make the one that
 /// it has at the end, which has what it was shown at the last of them.
 pub fn change_lists_add_up()
-    ensures { (s : State) (es : List Event) (i : ℕ) → IsCoherent s → IsRun s es → ListsAddUp s es i }
+    ensures { (s : State) (es : List Event) (i : ℕ) → IsCoherent s
+        → IsRun s es → ListsAddUp s es i }
 {}
 
 /// The records of a change list tell its addresses, kinds and texts, and with them the list.
 pub fn records_tell_lists()
-    ensures { (s t : State) (records : List ℕ) → IsStep s Changes (Ok (t, records)) → RecordsTellList s records }
+    ensures { (s t : State) (records : List ℕ) → IsStep s Changes (Ok (t, records))
+        → RecordsTellList s records }
 {}
 
 /// What each accepted command leaves. No command changes a session that isn't current.
 #[tactic(auto, using(crate::proofs::OutcomeLemmas::leaves, crate::proofs::RunLemmas::keeps_apart))]
 pub fn sessions_keep_apart()
-    ensures leaves { (s t : State) (c : Command) (records : List ℕ) → IsStep s c (Ok (t, records)) → Leaves c s t }
-    ensures apart { (s : State) (e : Event) (i : ℕ) → IsCoherent s → MayHappen s e → KeepsApart s e i }
+    ensures leaves { (s t : State) (c : Command) (records : List ℕ)
+        → IsStep s c (Ok (t, records)) → Leaves c s t }
+    ensures apart { (s : State) (e : Event) (i : ℕ) → IsCoherent s
+        → MayHappen s e → KeepsApart s e i }
 {}
 
 /// The log grows by the accepted edits, and a session's place in it is that of the last change list that it was told. An edit
@@ -46,7 +52,9 @@ pub fn sessions_keep_apart()
 /// where others' edits since then name one of its cells, and for the first such. One that is forced never is.
 #[tactic(auto, using(crate::proofs::StaleLemmas::forced_is_not_stale))]
 pub fn stale_is_newer()
-    ensures log { (s : State) (es : List Event) (i : ℕ) → IsCoherent s → IsRun s es → LogGrows s es i }
-    ensures stale { (s : State) (es : List Event) (e : Event) (named : List Area) → IsCoherent s → IsRun s es → StaleIsNewer s es e named }
+    ensures log { (s : State) (es : List Event) (i : ℕ) → IsCoherent s
+        → IsRun s es → LogGrows s es i }
+    ensures stale { (s : State) (es : List Event) (e : Event) (named : List Area) → IsCoherent s
+        → IsRun s es → StaleIsNewer s es e named }
     ensures forced { (s : State) (e : Event) → ForcedIsNotStale s e }
 {}

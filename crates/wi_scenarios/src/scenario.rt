@@ -28,7 +28,8 @@ pub(crate) fn put<C: Calculator>(
 ) -> Result<(), Refusal>
     requires { IsSound C.marked (C.stored calculator.now) desk.old }
     ensures step { let old = state_of (C.stored calculator.now) desk.old in
-        Serves (IsScenarioStep old name.now at content.now) result old (state_of (C.stored calculator.now) desk.new) [] }
+        Serves (IsScenarioStep old name.now at content.now)
+        result old (state_of (C.stored calculator.now) desk.new) [] }
     ensures adds { AddsOnly C.marked ([]) (state_of (C.stored calculator.now) desk.old)
         (state_of (C.stored calculator.now) desk.new) (pending_in desk.old) (pending_in desk.new) }
     ensures refused { OnErr result (pending_in desk.new ≡ pending_in desk.old) }
@@ -51,7 +52,8 @@ fn put_text<C: Calculator>(
 ) -> Result<(), Refusal>
     requires { IsSound C.marked (C.stored calculator.now) desk.old }
     ensures step { let old = state_of (C.stored calculator.now) desk.old in
-        Serves (λ a. put_answer old name.now at (imported text.now) ≡ a) result old (state_of (C.stored calculator.now) desk.new) [] }
+        Serves (λ a. put_answer old name.now at (imported text.now) ≡ a)
+        result old (state_of (C.stored calculator.now) desk.new) [] }
     ensures adds { AddsOnly C.marked ([]) (state_of (C.stored calculator.now) desk.old)
         (state_of (C.stored calculator.now) desk.new) (pending_in desk.old) (pending_in desk.new) }
     ensures refused { OnErr result (pending_in desk.new ≡ pending_in desk.old) }
@@ -76,7 +78,8 @@ pub(crate) fn take_away<C: Calculator>(
 ) -> Result<(), Refusal>
     requires { IsSound C.marked (C.stored calculator.now) desk.old }
     ensures step { let old = state_of (C.stored calculator.now) desk.old in
-        Serves (λ a. take_away_step old name.now at ≡ a) result old (state_of (C.stored calculator.now) desk.new) [] }
+        Serves (λ a. take_away_step old name.now at ≡ a)
+        result old (state_of (C.stored calculator.now) desk.new) [] }
     ensures adds { AddsOnly C.marked ([]) (state_of (C.stored calculator.now) desk.old)
         (state_of (C.stored calculator.now) desk.new) (pending_in desk.old) (pending_in desk.new) }
     ensures refused { OnErr result (pending_in desk.new ≡ pending_in desk.old) }
@@ -98,7 +101,8 @@ fn with_replacement(
     value: Value,
 ) -> Result<Scenarios, AllocError>
     requires { is_full scenarios.now name.now at ≡ false }
-    ensures { IfOk result (λ next. next ≡ with_scenario scenarios.now (with_own (scenario_for scenarios.now name.now) (replacement_by at (Some value)))) }
+    ensures { IfOk result (λ next. next ≡ with_scenario scenarios.now
+        (with_own (scenario_for scenarios.now name.now) (replacement_by at (Some value)))) }
 {
     let mut next = scenarios.copy()?;
     match next.put(name, at, value) {
@@ -115,7 +119,8 @@ fn without_replacement(
     at: Address,
 ) -> Result<Scenarios, AllocError>
     requires { has_scenario scenarios.now name.now ≡ true }
-    ensures { IfOk result (λ next. next ≡ with_scenario scenarios.now (without_own (scenario_for scenarios.now name.now) at)) }
+    ensures { IfOk result (λ next.
+        next ≡ with_scenario scenarios.now (without_own (scenario_for scenarios.now name.now) at)) }
 {
     let mut next = scenarios.copy()?;
     next.take_away(name, at)?;

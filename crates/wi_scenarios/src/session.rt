@@ -30,13 +30,17 @@ pub(crate) fn session<C: Calculator>(
 ) -> Result<(), Refusal>
     requires { IsSound C.marked (C.stored calculator.now) desk.old }
     ensures step { let old = state_of (C.stored calculator.now) desk.old in
-        Serves (λ a. as_step old name.now ≡ a) result old (state_of (C.stored calculator.now) desk.new) [] }
+        Serves (λ a. as_step old name.now ≡ a)
+        result old (state_of (C.stored calculator.now) desk.new) [] }
     ensures sound { IsSound C.marked (C.stored calculator.now) desk.new }
-    ensures there { has_session desk.old.sessions.sessions name.now ≡ true → pending_in desk.new ≡ pending_in desk.old }
+    ensures there { has_session desk.old.sessions.sessions name.now ≡ true
+        → pending_in desk.new ≡ pending_in desk.old }
     ensures made { has_session desk.old.sessions.sessions name.now ≡ false
-        → OnOk result (HasNewSession (C.stored calculator.now).sheet (pending_in desk.old) (pending_in desk.new)) }
+        → OnOk result (HasNewSession (C.stored calculator.now).sheet
+        (pending_in desk.old) (pending_in desk.new)) }
     ensures refused { OnErr result (pending_in desk.new ≡ pending_in desk.old) }
-    ensures no_memory { has_session desk.old.sessions.sessions name.now ≡ true → result ≢ Err Memory }
+    ensures no_memory { has_session desk.old.sessions.sessions name.now ≡ true
+        → result ≢ Err Memory }
 {
     if let Some(place) = desk.sessions.find(name) {
         desk.current = place;
@@ -60,9 +64,13 @@ fn add<C: Calculator>(
     requires few { length desk.old.sessions.sessions < max_sessions }
     ensures state { let old = state_of (C.stored calculator.now) desk.old in
         OnOk result (state_of (C.stored calculator.now) desk.new
-        ≡ record old { sessions = old.sessions ++ new_session name.now ∷ []; current = length old.sessions }) }
+        ≡ record old {
+          sessions = old.sessions ++ new_session name.now ∷ [];
+          current = length old.sessions;
+        }) }
     ensures kept { OnErr result (desk.new ≡ desk.old) }
-    ensures made { OnOk result (HasNewSession (C.stored calculator.now).sheet (pending_in desk.old) (pending_in desk.new)) }
+    ensures made { OnOk result (HasNewSession (C.stored calculator.now).sheet
+        (pending_in desk.old) (pending_in desk.new)) }
     ensures sound { IsSound C.marked (C.stored calculator.now) desk.new }
 {
     let cells = occupied(alloc, calculator)?;
@@ -74,8 +82,10 @@ fn add<C: Calculator>(
 
 /// The occupied cells of the sheet, among which is each that one of them marks.
 fn occupied<C: Calculator>(alloc: Global, calculator: &C) -> Result<Vec<Address>, AllocError>
-    ensures cells { IfOk result (λ cells. cells.items ≡ occupied_cells (C.stored calculator.now).sheet) }
-    ensures closed { let sheet = (C.stored calculator.now).sheet in IsClosed C.marked sheet (is_listed (occupied_cells sheet)) }
+    ensures cells { IfOk result (λ cells.
+        cells.items ≡ occupied_cells (C.stored calculator.now).sheet) }
+    ensures closed { let sheet = (C.stored calculator.now).sheet in
+        IsClosed C.marked sheet (is_listed (occupied_cells sheet)) }
 {
     calculator.cells_lie_in_the_sheet();
     let first = Address::at(0, 0);
@@ -86,9 +96,11 @@ fn occupied<C: Calculator>(alloc: Global, calculator: &C) -> Result<Vec<Address>
 /// What stands beside a sheet in a new workbook: the one session `main`, for which the occupied cells are pending. The work grows
 /// with them.
 pub(crate) fn new_desk<C: Calculator>(alloc: Global, calculator: &C) -> Result<Desk, AllocError>
-    ensures state { let stored = C.stored calculator.now in IfOk result (λ desk. state_of stored desk ≡ state_over stored) }
+    ensures state { let stored = C.stored calculator.now in
+        IfOk result (λ desk. state_of stored desk ≡ state_over stored) }
     ensures pending { let sheet = (C.stored calculator.now).sheet in
-        IfOk result (λ desk. (cells : List ℕ) × (pending_in desk ≡ cells ∷ []) × SameCells cells (occupied_cells sheet)) }
+        IfOk result (λ desk. (cells : List ℕ)
+        × (pending_in desk ≡ cells ∷ []) × SameCells cells (occupied_cells sheet)) }
     ensures sound { IfOk result (λ desk. IsSound C.marked (C.stored calculator.now) desk) }
 {
     let cells = occupied(alloc, calculator)?;

@@ -25,7 +25,8 @@ pub(crate) fn set<C: Calculator>(
 ) -> Result<(), Refusal>
     requires { IsSound C.marked (C.stored calculator.old) desk.old }
     ensures step { let old = state_of (C.stored calculator.old) desk.old in
-        Serves (IsSetStep old force at content.now) result old (state_of (C.stored calculator.new) desk.new) [] }
+        Serves (IsSetStep old force at content.now)
+        result old (state_of (C.stored calculator.new) desk.new) [] }
     ensures adds { AddsOnly C.marked (at ∷ []) (state_of (C.stored calculator.old) desk.old)
         (state_of (C.stored calculator.new) desk.new) (pending_in desk.old) (pending_in desk.new) }
     ensures refused { OnErr result (pending_in desk.new ≡ pending_in desk.old) }

@@ -25,7 +25,8 @@ pub(crate) fn show<C: Calculator>(
     requires { IsSound C.marked (C.stored calculator.old) desk.now }
     ensures step { let old = state_of (C.stored calculator.old) desk.now in
         (records : List ℕ) × (out.new.items ≡ out.old.items ++ records)
-        × Serves (λ a. show_step old area ≡ a) result old (state_of (C.stored calculator.new) desk.now) records }
+        × Serves (λ a. show_step old area ≡ a)
+        result old (state_of (C.stored calculator.new) desk.now) records }
     ensures same { C.stored calculator.new ≡ C.stored calculator.old }
 {
     if is_too_large(area) {

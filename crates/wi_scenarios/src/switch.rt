@@ -34,7 +34,8 @@ pub(crate) fn make_room_between<C: Calculator>(
     ensures sessions { sessions.new.sessions ≡ sessions.old.sessions }
     ensures pending { sessions.new.pending ≡ sessions.old.pending }
     ensures others { (j : ℕ) → j ≢ i → vacant_of sessions.new j ≡ vacant_of sessions.old j }
-    ensures room { OnOk result (HasRoom C.marked (C.stored calculator.now).sheet before.now after.now (pending_of sessions.old i) (vacant_of sessions.new i)) }
+    ensures room { OnOk result (HasRoom C.marked (C.stored calculator.now).sheet
+        before.now after.now (pending_of sessions.old i) (vacant_of sessions.new i)) }
 {
     let cells = differing_cells(alloc, before, after)?;
     if cells.is_empty() {
@@ -59,7 +60,8 @@ fn make_room_for<C: Calculator>(
     ensures sessions { sessions.new.sessions ≡ sessions.old.sessions }
     ensures pending { sessions.new.pending ≡ sessions.old.pending }
     ensures others { (j : ℕ) → j ≢ i → vacant_of sessions.new j ≡ vacant_of sessions.old j }
-    ensures room { OnOk result (HasRoomFor C.marked (C.stored calculator.now).sheet before.now after.now sessions.new i) }
+    ensures room { OnOk result
+        (HasRoomFor C.marked (C.stored calculator.now).sheet before.now after.now sessions.new i) }
 {
     let scenario = sessions.scenario(i);
     let first = before.effective(scenario)?;
@@ -98,8 +100,10 @@ pub(crate) fn switch_to<C: Calculator>(
 ) -> Result<(), AllocError>
     requires { IsSound C.marked (C.stored calculator.now) desk.old }
     ensures state { let old = state_of (C.stored calculator.now) desk.old in
-        OnOk result (state_of (C.stored calculator.now) desk.new ≡ record old { scenarios = next }) }
-    ensures kept { OnErr result (state_of (C.stored calculator.now) desk.new ≡ state_of (C.stored calculator.now) desk.old) }
+        OnOk result (state_of (C.stored calculator.now) desk.new
+        ≡ record old { scenarios = next }) }
+    ensures kept { OnErr result (state_of (C.stored calculator.now) desk.new
+        ≡ state_of (C.stored calculator.now) desk.old) }
     ensures adds { AddsOnly C.marked ([]) (state_of (C.stored calculator.now) desk.old)
         (state_of (C.stored calculator.now) desk.new) (pending_in desk.old) (pending_in desk.new) }
     ensures refused { OnErr result (pending_in desk.new ≡ pending_in desk.old) }

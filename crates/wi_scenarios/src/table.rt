@@ -24,7 +24,8 @@ pub(crate) fn table<C: Calculator>(
     requires { IsSound C.marked (C.stored calculator.old) desk.now }
     ensures step { let old = state_of (C.stored calculator.old) desk.now in
         (records : List ℕ) × (out.new.items ≡ out.old.items ++ records)
-        × Serves (λ a. table_step old table.now.formula_cell table.now.input table.now.column table.now.second ≡ a) result old (state_of (C.stored calculator.new) desk.now) records }
+        × Serves (λ a. table_step old table.now.formula_cell table.now.input table.now.column
+        table.now.second ≡ a) result old (state_of (C.stored calculator.new) desk.now) records }
     ensures same { C.stored calculator.new ≡ C.stored calculator.old }
 {
     if !table.is_shaped() {

@@ -29,7 +29,8 @@ pub(crate) fn use_scenario<C: Calculator>(
 ) -> Result<(), Refusal>
     requires { IsSound C.marked (C.stored calculator.now) desk.old }
     ensures step { let old = state_of (C.stored calculator.now) desk.old in
-        Serves (λ a. use_step old (option_copied name.entry) ≡ a) result old (state_of (C.stored calculator.now) desk.new) [] }
+        Serves (λ a. use_step old (option_copied name.entry) ≡ a)
+        result old (state_of (C.stored calculator.now) desk.new) [] }
     ensures adds { AddsOnly C.marked ([]) (state_of (C.stored calculator.now) desk.old)
         (state_of (C.stored calculator.now) desk.new) (pending_in desk.old) (pending_in desk.new) }
     ensures others { SameForOthers desk.old.current (pending_in desk.old) (pending_in desk.new) }
@@ -55,8 +56,10 @@ fn use_in_current<C: Calculator>(
     requires sound { IsSound C.marked (C.stored calculator.now) desk.old }
     requires named { option_map string_bytes used ≡ option_copied name }
     ensures state { let old = state_of (C.stored calculator.now) desk.old in
-        OnOk result (state_of (C.stored calculator.now) desk.new ≡ with_current old (using_scenario (current_session old) (option_copied name.entry))) }
-    ensures kept { OnErr result (state_of (C.stored calculator.now) desk.new ≡ state_of (C.stored calculator.now) desk.old) }
+        OnOk result (state_of (C.stored calculator.now) desk.new
+        ≡ with_current old (using_scenario (current_session old) (option_copied name.entry))) }
+    ensures kept { OnErr result (state_of (C.stored calculator.now) desk.new
+        ≡ state_of (C.stored calculator.now) desk.old) }
     ensures adds { AddsOnly C.marked ([]) (state_of (C.stored calculator.now) desk.old)
         (state_of (C.stored calculator.now) desk.new) (pending_in desk.old) (pending_in desk.new) }
     ensures others { SameForOthers desk.old.current (pending_in desk.old) (pending_in desk.new) }
@@ -95,11 +98,14 @@ fn make_room_for_current<C: Calculator>(
 ) -> Result<(), AllocError>
     requires within { desk.old.current < length desk.old.sessions.sessions }
     requires none { vacant_of desk.old.sessions desk.old.current ≡ [] }
-    ensures state { state_of (C.stored calculator.now) desk.new ≡ state_of (C.stored calculator.now) desk.old }
+    ensures state { state_of (C.stored calculator.now) desk.new
+        ≡ state_of (C.stored calculator.now) desk.old }
     ensures pending { pending_in desk.new ≡ pending_in desk.old }
-    ensures others { (j : ℕ) → j ≢ desk.old.current → vacant_of desk.new.sessions j ≡ vacant_of desk.old.sessions j }
+    ensures others { (j : ℕ) → j ≢ desk.old.current
+        → vacant_of desk.new.sessions j ≡ vacant_of desk.old.sessions j }
     ensures room { let old = state_of (C.stored calculator.now) desk.old in
-        OnOk result (HasRoom C.marked old.stored.sheet (current_replacements old) (effective old.scenarios (option_copied name.entry))
+        OnOk result (HasRoom C.marked old.stored.sheet
+        (current_replacements old) (effective old.scenarios (option_copied name.entry))
         (pending_of desk.old.sessions old.current) (vacant_of desk.new.sessions old.current)) }
 {
     let before = desk

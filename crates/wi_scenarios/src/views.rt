@@ -15,7 +15,8 @@ use wi_values::Replacement;
 /// The replacements that the scenario of a session puts in. The work is that of `Scenarios::effective`.
 pub(crate) fn replacements_for(desk: &Desk, i: usize) -> Result<Vec<Replacement>, AllocError>
     requires { i < length desk.now.sessions.sessions }
-    ensures value { IfOk result (λ put. put.items ≡ effective desk.now.scenarios (session_at desk.now.sessions i).scenario) }
+    ensures value { IfOk result (λ put.
+        put.items ≡ effective desk.now.scenarios (session_at desk.now.sessions i).scenario) }
     ensures order { IfOk result (λ put. IsInOrder put.items) }
 {
     desk.scenarios.effective(desk.sessions.scenario(i))

@@ -60,9 +60,11 @@ impl<C: Calculator> Model for Workbook<C> {
     ghost use Rattle.wi_values.specs.contracts.replacement.Replacement as replacement;
     ghost use Rattle.std.specs.Coded.{codes};
 
-    ghost coded = { Prim.hlevel (codes, content.the_row.coded, value.the_row.coded, replacement.the_row.coded) };
+    ghost coded = { Prim.hlevel
+        (codes, content.the_row.coded, value.the_row.coded, replacement.the_row.coded) };
 
-    ghost view = { λ w. book_of (C.stored w.calculator) (C.evaluated w.calculator) (C.restarted w.calculator) w.desk };
+    ghost view = { λ w. book_of
+        (C.stored w.calculator) (C.evaluated w.calculator) (C.restarted w.calculator) w.desk };
 
     ghost invariant = { λ w. IsSound C.marked (C.stored w.calculator) w.desk };
 }
@@ -84,7 +86,8 @@ impl<C: Calculator> Workbook<C> {
     where
         C: Drop,
         ensures state { IfOk result (λ w. w.state ≡ state_over (C.stored calculator)) }
-        ensures pending { IfOk result (λ w. (cells : List ℕ) × (w.pending ≡ cells ∷ []) × SameCells cells (occupied_cells (C.stored calculator).sheet)) }
+        ensures pending { IfOk result (λ w. (cells : List ℕ) × (w.pending ≡ cells ∷ [])
+            × SameCells cells (occupied_cells (C.stored calculator).sheet)) }
     {
         let desk = new_desk(alloc, &calculator)?;
         Ok(Workbook {
@@ -109,8 +112,10 @@ impl<C: Calculator> Workbook<C> {
     /// with those that read the edited ones; where several cells read something new, or a cycle may be closed or opened, with all that
     /// depend on them; the memory for a session with those that aren't pending for it.
     pub fn set(&mut self, at: Address, content: &str, force: bool) -> Result<(), Refusal>
-        ensures step { Serves (IsStep self.old.state (command.Set force at content.now)) result self.old.state self.new.state [] }
-        ensures adds { AddsOnly C.marked (at ∷ []) self.old.state self.new.state self.old.pending self.new.pending }
+        ensures step { Serves (IsStep self.old.state (command.Set force at content.now))
+            result self.old.state self.new.state [] }
+        ensures adds { AddsOnly C.marked (at ∷ [])
+            self.old.state self.new.state self.old.pending self.new.pending }
         ensures refused { OnErr result (self.new.pending ≡ self.old.pending) }
     {
         set(
@@ -126,8 +131,11 @@ impl<C: Calculator> Workbook<C> {
     /// Empties the cells of a rectangle of any size. `force` is as of `set`. The work grows with its occupied cells; for each a search
     /// passes cells that stand beside it, in no more rows than the rectangle has columns.
     pub fn clear(&mut self, area: Rect, force: bool) -> Result<(), Refusal>
-        ensures step { Serves (IsStep self.old.state (command.Clear force area)) result self.old.state self.new.state [] }
-        ensures adds { AddsOnly C.marked (keys_of (clear_edit self.old.state.stored.sheet area).contents) self.old.state self.new.state self.old.pending self.new.pending }
+        ensures step { Serves (IsStep self.old.state (command.Clear force area))
+            result self.old.state self.new.state [] }
+        ensures adds { AddsOnly C.marked
+            (keys_of (clear_edit self.old.state.stored.sheet area).contents)
+            self.old.state self.new.state self.old.pending self.new.pending }
         ensures refused { OnErr result (self.new.pending ≡ self.old.pending) }
     {
         clear(
@@ -143,8 +151,10 @@ impl<C: Calculator> Workbook<C> {
     /// references move by the distance; where one would leave the sheet, the whole command is refused. From an empty cell
     /// the rectangle is emptied. `force` is as of `set`. The work grows with the cells of the rectangle.
     pub fn fill(&mut self, from: Address, area: Rect, force: bool) -> Result<(), Refusal>
-        ensures step { Serves (IsStep self.old.state (command.Fill force from area)) result self.old.state self.new.state [] }
-        ensures adds { AddsOnly C.marked (cells_of area) self.old.state self.new.state self.old.pending self.new.pending }
+        ensures step { Serves (IsStep self.old.state (command.Fill force from area))
+            result self.old.state self.new.state [] }
+        ensures adds { AddsOnly C.marked (cells_of area)
+            self.old.state self.new.state self.old.pending self.new.pending }
         ensures refused { OnErr result (self.new.pending ≡ self.old.pending) }
     {
         fill(
@@ -161,8 +171,10 @@ impl<C: Calculator> Workbook<C> {
     /// of the cell. An empty field empties its cell; cells without a field stay. It is one edit, done whole or not at all. `force` is as of
     /// `set`. The work grows with the text.
     pub fn import(&mut self, at: Address, text: &[u8], force: bool) -> Result<(), Refusal>
-        ensures step { ServesData (IsStep self.old.state (command.Csv force at text.now)) result self.old.state self.new.state }
-        ensures adds { AddsOnly C.marked (imported_cells at text.now) self.old.state self.new.state self.old.pending self.new.pending }
+        ensures step { ServesData (IsStep self.old.state (command.Csv force at text.now))
+            result self.old.state self.new.state }
+        ensures adds { AddsOnly C.marked (imported_cells at text.now)
+            self.old.state self.new.state self.old.pending self.new.pending }
         ensures refused { OnErr result (self.new.pending ≡ self.old.pending) }
     {
         import(
@@ -185,8 +197,11 @@ impl<C: Calculator> Workbook<C> {
         at: Address,
         content: &str,
     ) -> Result<(), Refusal>
-        ensures step { Serves (IsStep self.old.state (command.Scenario (bytes_of name.entry) at content.now)) result self.old.state self.new.state [] }
-        ensures adds { AddsOnly C.marked ([]) self.old.state self.new.state self.old.pending self.new.pending }
+        ensures step { Serves
+            (IsStep self.old.state (command.Scenario (bytes_of name.entry) at content.now))
+            result self.old.state self.new.state [] }
+        ensures adds { AddsOnly C.marked ([])
+            self.old.state self.new.state self.old.pending self.new.pending }
         ensures refused { OnErr result (self.new.pending ≡ self.old.pending) }
     {
         put(
@@ -201,8 +216,10 @@ impl<C: Calculator> Workbook<C> {
 
     /// Takes a scenario's own replacement away, if there is one; the scenario stays. The work is as of `scenario_set`.
     pub fn scenario_clear(&mut self, name: Name<'_>, at: Address) -> Result<(), Refusal>
-        ensures step { Serves (λ a. take_away_step self.old.state (bytes_of name.entry) at ≡ a) result self.old.state self.new.state [] }
-        ensures adds { AddsOnly C.marked ([]) self.old.state self.new.state self.old.pending self.new.pending }
+        ensures step { Serves (λ a. take_away_step self.old.state (bytes_of name.entry) at ≡ a)
+            result self.old.state self.new.state [] }
+        ensures adds { AddsOnly C.marked ([])
+            self.old.state self.new.state self.old.pending self.new.pending }
         ensures refused { OnErr result (self.new.pending ≡ self.old.pending) }
     {
         take_away(
@@ -217,8 +234,10 @@ impl<C: Calculator> Workbook<C> {
     /// Bases a scenario on another, whose replacements it then puts in too unless it has its own, or on none. The work is as of
     /// `scenario_set`, with what depends on all cells whose replacement changes.
     pub fn scenario_base(&mut self, name: Name<'_>, other: Option<Name<'_>>) -> Result<(), Refusal>
-        ensures step { Serves (IsStep self.old.state (command.Base (bytes_of name.entry) (option_map bytes_of other.entry))) result self.old.state self.new.state [] }
-        ensures adds { AddsOnly C.marked ([]) self.old.state self.new.state self.old.pending self.new.pending }
+        ensures step { Serves (IsStep self.old.state (command.Base (bytes_of name.entry)
+            (option_map bytes_of other.entry))) result self.old.state self.new.state [] }
+        ensures adds { AddsOnly C.marked ([])
+            self.old.state self.new.state self.old.pending self.new.pending }
         ensures refused { OnErr result (self.new.pending ≡ self.old.pending) }
     {
         base(
@@ -233,7 +252,8 @@ impl<C: Calculator> Workbook<C> {
     /// Removes a scenario that no session uses, and on which none is based. Takes no memory. The work grows with the counts of
     /// scenarios and sessions.
     pub fn scenario_drop(&mut self, name: Name<'_>) -> Result<(), Refusal>
-        ensures step { Serves (IsStep self.old.state (command.Drop (bytes_of name.entry))) result self.old.state self.new.state [] }
+        ensures step { Serves (IsStep self.old.state (command.Drop (bytes_of name.entry)))
+            result self.old.state self.new.state [] }
         ensures pending { self.new.pending ≡ self.old.pending }
         ensures no_memory { result ≢ Err Memory }
     {
@@ -243,8 +263,10 @@ impl<C: Calculator> Workbook<C> {
     /// The current session uses a scenario, or the sheet as it stands. The work grows with all that the old and the new scenario put
     /// in, and with what depends on the cells whose replacement changes.
     pub fn use_scenario(&mut self, name: Option<Name<'_>>) -> Result<(), Refusal>
-        ensures step { Serves (IsStep self.old.state (command.Use (option_map bytes_of name.entry))) result self.old.state self.new.state [] }
-        ensures adds { AddsOnly C.marked ([]) self.old.state self.new.state self.old.pending self.new.pending }
+        ensures step { Serves (IsStep self.old.state (command.Use (option_map bytes_of name.entry)))
+            result self.old.state self.new.state [] }
+        ensures adds { AddsOnly C.marked ([])
+            self.old.state self.new.state self.old.pending self.new.pending }
         ensures others { SameForOthers self.old.state.current self.old.pending self.new.pending }
         ensures refused { OnErr result (self.new.pending ≡ self.old.pending) }
     {
@@ -254,12 +276,16 @@ impl<C: Calculator> Workbook<C> {
     /// Makes a session current, a new one if need be, which uses the sheet as it stands and was shown nothing. Takes no memory
     /// where the session is there; for a new one the work grows with the occupied cells.
     pub fn session(&mut self, name: Name<'_>) -> Result<(), Refusal>
-        ensures step { Serves (IsStep self.old.state (command.As (bytes_of name.entry))) result self.old.state self.new.state [] }
-        ensures there { has_session self.old.state.sessions (bytes_of name.entry) ≡ true → self.new.pending ≡ self.old.pending }
+        ensures step { Serves (IsStep self.old.state (command.As (bytes_of name.entry)))
+            result self.old.state self.new.state [] }
+        ensures there { has_session self.old.state.sessions (bytes_of name.entry) ≡ true
+            → self.new.pending ≡ self.old.pending }
         ensures made { has_session self.old.state.sessions (bytes_of name.entry) ≡ false
-            → OnOk result (HasNewSession self.old.state.stored.sheet self.old.pending self.new.pending) }
+            → OnOk result
+            (HasNewSession self.old.state.stored.sheet self.old.pending self.new.pending) }
         ensures refused { OnErr result (self.new.pending ≡ self.old.pending) }
-        ensures no_memory { has_session self.old.state.sessions (bytes_of name.entry) ≡ true → result ≢ Err Memory }
+        ensures no_memory { has_session self.old.state.sessions (bytes_of name.entry) ≡ true
+            → result ≢ Err Memory }
     {
         session(self.alloc, &self.calculator, &mut self.desk, name.as_str())
     }
@@ -267,7 +293,8 @@ impl<C: Calculator> Workbook<C> {
     /// Appends the texts that a rectangle's cells show to the current session, a record for each row.
     pub fn show(&mut self, area: Rect, out: &mut Vec<u8>) -> Result<(), Refusal>
         ensures step { (records : List ℕ) × (out.new.items ≡ out.old.items ++ records)
-            × Serves (IsStep self.old.state (command.Show area)) result self.old.state self.new.state records }
+            × Serves (IsStep self.old.state (command.Show area))
+            result self.old.state self.new.state records }
         ensures pending { self.new.pending ≡ self.old.pending }
     {
         show(self.alloc, &mut self.calculator, &self.desk, area, out)
@@ -277,7 +304,8 @@ impl<C: Calculator> Workbook<C> {
     /// LF bytes.
     pub fn export(&mut self, area: Rect, out: &mut Vec<u8>) -> Result<(), Refusal>
         ensures step { (records : List ℕ) × (out.new.items ≡ out.old.items ++ records)
-            × Serves (IsStep self.old.state (command.Export area)) result self.old.state self.new.state records }
+            × Serves (IsStep self.old.state (command.Export area))
+            result self.old.state self.new.state records }
         ensures pending { self.new.pending ≡ self.old.pending }
     {
         export(self.alloc, &mut self.calculator, &self.desk, area, out)
@@ -287,13 +315,17 @@ impl<C: Calculator> Workbook<C> {
     /// The session has been shown them then. Only its pending cells are looked at; where there are none, no memory is taken.
     pub fn changes(&mut self, out: &mut Vec<u8>) -> Result<(), Refusal>
         ensures step { (records : List ℕ) × (out.new.items ≡ out.old.items ++ records)
-            × Serves (IsStep self.old.state command.Changes) result self.old.state self.new.state records }
-        ensures emptied { OnOk result (Emptied self.old.state.current self.old.pending self.new.pending) }
+            × Serves (IsStep self.old.state command.Changes)
+            result self.old.state self.new.state records }
+        ensures emptied { OnOk result
+            (Emptied self.old.state.current self.old.pending self.new.pending) }
         ensures refused { OnErr result (self.new.pending ≡ self.old.pending) }
         ensures quiet { pending_for self.old.pending self.old.state.current ≡ []
             → SameCounts self.old self.new × (out.new.items ≡ out.old.items) }
-        ensures evaluations { self.new.evaluated ≤ self.old.evaluated + pending_evaluations self.old.state self.old.pending }
-        ensures restarts { self.new.restarted ≤ self.old.restarted + pending_restarts self.old.state self.old.pending }
+        ensures evaluations { self.new.evaluated
+            ≤ self.old.evaluated + pending_evaluations self.old.state self.old.pending }
+        ensures restarts { self.new.restarted
+            ≤ self.old.restarted + pending_restarts self.old.state self.old.pending }
     {
         changes(self.alloc, &mut self.calculator, &mut self.desk, out)
     }
@@ -308,7 +340,8 @@ impl<C: Calculator> Workbook<C> {
         out: &mut Vec<u8>,
     ) -> Result<(), Refusal>
         ensures step { (records : List ℕ) × (out.new.items ≡ out.old.items ++ records)
-            × Serves (IsStep self.old.state (command.Compare (option_map bytes_of first.entry) (option_map bytes_of second.entry) area)) result self.old.state self.new.state records }
+            × Serves (IsStep self.old.state (command.Compare (option_map bytes_of first.entry)
+            (option_map bytes_of second.entry) area)) result self.old.state self.new.state records }
         ensures pending { self.new.pending ≡ self.old.pending }
     {
         compare(
@@ -336,7 +369,8 @@ impl<C: Calculator> Workbook<C> {
         out: &mut Vec<u8>,
     ) -> Result<(), Refusal>
         ensures step { (records : List ℕ) × (out.new.items ≡ out.old.items ++ records)
-            × Serves (IsStep self.old.state (command.Table formula_cell input column second)) result self.old.state self.new.state records }
+            × Serves (IsStep self.old.state (command.Table formula_cell input column second))
+            result self.old.state self.new.state records }
         ensures pending { self.new.pending ≡ self.old.pending }
     {
         let asked = DataTable {
@@ -352,7 +386,8 @@ impl<C: Calculator> Workbook<C> {
     /// another constant as shown, and empty where there is none.
     pub fn formula_text(&self, at: Address, out: &mut Vec<u8>) -> Result<(), Refusal>
         ensures { (records : List ℕ) × (out.new.items ≡ out.old.items ++ records)
-            × Serves (IsStep self.now.state (command.Formula at)) result self.now.state self.now.state records }
+            × Serves (IsStep self.now.state (command.Formula at))
+            result self.now.state self.now.state records }
     {
         formula(self.alloc, &self.calculator, &self.desk, at, out)
     }

@@ -49,9 +49,13 @@ fn stage_there(
     requires order { IsOrdered nat_cmp words.old }
     requires there { is_some (lookup (is_at (nat_cmp at)) words.old.entries) ≡ true }
     ensures order { IsOrdered nat_cmp words.new }
-    ensures pending { SamePending words.old.entries staged.old.items words.new.entries staged.new.items }
-    ensures room { OnOk result (HasMade (λ i c. at == c && has_bit i bits) words.old.entries staged.old.items words.new.entries staged.new.items) }
-    ensures others { (i c : ℕ) → has_bit i bits ≡ false → (is_in words.new.entries i c ≡ is_in words.old.entries i c) × (is_staged staged.new.items i c ≡ is_staged staged.old.items i c) }
+    ensures pending { SamePending words.old.entries staged.old.items
+        words.new.entries staged.new.items }
+    ensures room { OnOk result (HasMade (λ i c. at == c && has_bit i bits)
+        words.old.entries staged.old.items words.new.entries staged.new.items) }
+    ensures others { (i c : ℕ) → has_bit i bits ≡ false
+        → (is_in words.new.entries i c ≡ is_in words.old.entries i c)
+        × (is_staged staged.new.items i c ≡ is_staged staged.old.items i c) }
 {
     let word = found(words, at).unwrap();
     let more = without(bits, word);
@@ -73,9 +77,13 @@ fn stage_one(
 ) -> Result<(), AllocError>
     requires { IsOrdered nat_cmp words.old }
     ensures order { IsOrdered nat_cmp words.new }
-    ensures pending { SamePending words.old.entries staged.old.items words.new.entries staged.new.items }
-    ensures room { OnOk result (HasMade (λ i c. at == c && has_bit i bits) words.old.entries staged.old.items words.new.entries staged.new.items) }
-    ensures others { (i c : ℕ) → has_bit i bits ≡ false → (is_in words.new.entries i c ≡ is_in words.old.entries i c) × (is_staged staged.new.items i c ≡ is_staged staged.old.items i c) }
+    ensures pending { SamePending words.old.entries staged.old.items
+        words.new.entries staged.new.items }
+    ensures room { OnOk result (HasMade (λ i c. at == c && has_bit i bits)
+        words.old.entries staged.old.items words.new.entries staged.new.items) }
+    ensures others { (i c : ℕ) → has_bit i bits ≡ false
+        → (is_in words.new.entries i c ≡ is_in words.old.entries i c)
+        × (is_staged staged.new.items i c ≡ is_staged staged.old.items i c) }
 {
     staged.reserve(1)?;
     let is_new = words.put_new(at, bits)?;
@@ -95,9 +103,13 @@ pub(crate) fn stage_each(
 ) -> Result<(), AllocError>
     requires { IsOrdered nat_cmp words.old }
     ensures order { IsOrdered nat_cmp words.new }
-    ensures pending { SamePending words.old.entries staged.old.items words.new.entries staged.new.items }
-    ensures room { OnOk result (HasMade (at_cells cells.now bits) words.old.entries staged.old.items words.new.entries staged.new.items) }
-    ensures others { (i c : ℕ) → has_bit i bits ≡ false → (is_in words.new.entries i c ≡ is_in words.old.entries i c) × (is_staged staged.new.items i c ≡ is_staged staged.old.items i c) }
+    ensures pending { SamePending words.old.entries staged.old.items
+        words.new.entries staged.new.items }
+    ensures room { OnOk result (HasMade (at_cells cells.now bits)
+        words.old.entries staged.old.items words.new.entries staged.new.items) }
+    ensures others { (i c : ℕ) → has_bit i bits ≡ false
+        → (is_in words.new.entries i c ≡ is_in words.old.entries i c)
+        × (is_staged staged.new.items i c ≡ is_staged staged.old.items i c) }
 {
     for at in cells {
         stage_one(words, staged, *at, bits)?;
@@ -114,8 +126,10 @@ pub(crate) fn stage(
 ) -> Result<(), AllocError>
     requires { IsOrdered nat_cmp words.old }
     ensures order { IsOrdered nat_cmp words.new }
-    ensures pending { SamePending words.old.entries staged.old.items words.new.entries staged.new.items }
-    ensures room { OnOk result (HasMade (at_cells cells.now bits) words.old.entries staged.old.items words.new.entries staged.new.items) }
+    ensures pending { SamePending words.old.entries staged.old.items
+        words.new.entries staged.new.items }
+    ensures room { OnOk result (HasMade (at_cells cells.now bits)
+        words.old.entries staged.old.items words.new.entries staged.new.items) }
     ensures refused { OnErr result (staged.new.items ≡ []) }
 {
     match stage_each(words, staged, cells, bits) {
@@ -131,7 +145,8 @@ pub(crate) fn stage(
 fn clear_one(words: &mut Words, at: Address, bits: u64)
     requires { IsOrdered nat_cmp words.old }
     ensures order { IsOrdered nat_cmp words.new }
-    ensures less { HasCleared (λ i c. at == c && has_bit i bits) words.old.entries words.new.entries }
+    ensures less { HasCleared (λ i c. at == c && has_bit i bits)
+        words.old.entries words.new.entries }
 {
     match found(words, at) {
         Some(word) => clear_there(words, at, word, bits),
@@ -144,7 +159,8 @@ fn clear_there(words: &mut Words, at: Address, word: u64, bits: u64)
     requires order { IsOrdered nat_cmp words.old }
     requires there { lookup (is_at (nat_cmp at)) words.old.entries ≡ Some word }
     ensures order { IsOrdered nat_cmp words.new }
-    ensures less { HasCleared (λ i c. at == c && has_bit i bits) words.old.entries words.new.entries }
+    ensures less { HasCleared (λ i c. at == c && has_bit i bits)
+        words.old.entries words.new.entries }
 {
     let left = without(word, bits);
     if is_bare(left) {
@@ -169,7 +185,8 @@ pub(crate) fn clear_each(words: &mut Words, cells: &[Address], bits: u64)
 pub(crate) fn drop_rooms(words: &mut Words, staged: &[Room], bit: u64)
     requires { IsOrdered nat_cmp words.old }
     ensures order { IsOrdered nat_cmp words.new }
-    ensures less { HasCleared (λ i c. is_staged staged.now i c && has_bit i bit) words.old.entries words.new.entries }
+    ensures less { HasCleared (λ i c. is_staged staged.now i c && has_bit i bit)
+        words.old.entries words.new.entries }
 {
     for (at, bits) in staged {
         clear_one(words, *at, common(*bits, bit));
@@ -191,7 +208,8 @@ fn clear_staged(words: &mut Words, staged: &[Room])
 pub(crate) fn give_back(words: &mut Words, staged: &mut Vec<Room>)
     requires { IsOrdered nat_cmp words.old }
     ensures order { IsOrdered nat_cmp words.new }
-    ensures pending { SamePending words.old.entries staged.old.items words.new.entries staged.new.items }
+    ensures pending { SamePending words.old.entries staged.old.items
+        words.new.entries staged.new.items }
     ensures none { staged.new.items ≡ [] }
 {
     clear_staged(words, staged);
@@ -271,7 +289,8 @@ pub(crate) fn push_those(
     i: usize,
 ) -> Result<(), AllocError>
     requires { i < 64 }
-    ensures { OnOk result (found.new.items ≡ found.old.items ++ filter (is_in words.now.entries i) cells.now) }
+    ensures { OnOk result (found.new.items
+        ≡ found.old.items ++ filter (is_in words.now.entries i) cells.now) }
 {
     for at in cells {
         if is_in(words, i, *at) {

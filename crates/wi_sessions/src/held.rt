@@ -31,7 +31,8 @@ impl Held {
 
     /// Uses a scenario, or the sheet as it stands.
     pub(crate) fn use_scenario(&mut self, scenario: Option<String>)
-        ensures { (name : List ℕ) → with_name name self.new ≡ using_scenario (with_name name self.old) (option_map string_bytes scenario) }
+        ensures { (name : List ℕ) → with_name name self.new
+            ≡ using_scenario (with_name name self.old) (option_map string_bytes scenario) }
     {
         self.scenario = scenario;
     }
@@ -42,7 +43,8 @@ impl Held {
         changes: Vec<(Address, Value)>,
         seen: u64,
     ) -> Result<(), AllocError>
-        ensures told { OnOk result ((name : List ℕ) → with_name name self.new ≡ told (with_name name self.old) changes.items seen) }
+        ensures told { OnOk result ((name : List ℕ) → with_name name self.new
+            ≡ told (with_name name self.old) changes.items seen) }
         ensures refused { OnErr result (self.new ≡ self.old) }
     {
         self.picture.apply(changes)?;

@@ -50,7 +50,8 @@ impl Model for Pending {
 
     ghost view = { λ p. pending_in p.words.entries p.staged.items (length p.unread.items) };
 
-    ghost invariant = { λ p. AreKept p.words.entries p.staged.items p.changed.items p.unread.items };
+    ghost invariant = { λ p.
+        AreKept p.words.entries p.staged.items p.changed.items p.unread.items };
 }
 
 impl Pending {
@@ -75,7 +76,8 @@ impl Pending {
     /// One session more, for which these cells are pending. On an error all is as before. It is an error too where there are 64.
     /// The work is that of `make_room`.
     pub(crate) fn push(&mut self, cells: &[Address]) -> Result<(), AllocError>
-        ensures pending { OnOk result ((new : List ℕ) × (self.new.pending ≡ self.old.pending ++ new ∷ []) × SameCells new cells.now) }
+        ensures pending { OnOk result ((new : List ℕ)
+            × (self.new.pending ≡ self.old.pending ++ new ∷ []) × SameCells new cells.now) }
         ensures vacant { OnOk result (self.new.vacant ≡ self.old.vacant ++ [] ∷ []) }
         ensures refused { OnErr result (self.new ≡ self.old) }
     {
@@ -98,7 +100,8 @@ impl Pending {
         requires { i < length self.old.pending }
         ensures lists { self.new.pending ≡ self.old.pending }
         ensures room { OnOk result ((a : ℕ) → is_listed (list_at self.new.vacant i) a
-            ≡ (is_listed (list_at self.old.vacant i) a || (is_listed cells.now a && not (is_listed (list_at self.old.pending i) a)))) }
+            ≡ (is_listed (list_at self.old.vacant i) a
+            || (is_listed cells.now a && not (is_listed (list_at self.old.pending i) a)))) }
         ensures refused { OnErr result (list_at self.new.vacant i ≡ []) }
         ensures others { (j : ℕ) → j ≢ i → list_at self.new.vacant j ≡ list_at self.old.vacant j }
     {
@@ -123,8 +126,10 @@ impl Pending {
     /// The same for each session, in one walk through the cells.
     pub(crate) fn make_room_all(&mut self, cells: &[Address]) -> Result<(), AllocError>
         ensures pending { self.new.pending ≡ self.old.pending }
-        ensures room { OnOk result ((i a : ℕ) → i < length self.old.pending → is_listed (list_at self.new.vacant i) a
-            ≡ (is_listed (list_at self.old.vacant i) a || (is_listed cells.now a && not (is_listed (list_at self.old.pending i) a)))) }
+        ensures room { OnOk result ((i a : ℕ) → i < length self.old.pending
+            → is_listed (list_at self.new.vacant i) a
+            ≡ (is_listed (list_at self.old.vacant i) a
+            || (is_listed cells.now a && not (is_listed (list_at self.old.pending i) a)))) }
         ensures refused { OnErr result ((j : ℕ) → list_at self.new.vacant j ≡ []) }
     {
         let limit = self.words.len() / 2 + 64;
@@ -147,7 +152,9 @@ impl Pending {
     /// The cells for which there is room are pending now. Takes no memory, and no search.
     pub(crate) fn take(&mut self)
         ensures lists { length self.new.pending ≡ length self.old.pending }
-        ensures pending { (i a : ℕ) → is_listed (list_at self.new.pending i) a ≡ (is_listed (list_at self.old.pending i) a || is_listed (list_at self.old.vacant i) a) }
+        ensures pending { (i a : ℕ) → is_listed (list_at self.new.pending i) a
+            ≡ (is_listed (list_at self.old.pending i) a
+            || is_listed (list_at self.old.vacant i) a) }
         ensures vacant { (i : ℕ) → list_at self.new.vacant i ≡ [] }
     {
         self.staged.clear();
@@ -177,7 +184,9 @@ impl Pending {
     /// The cells that are pending for a session or have room only, in row-major order. The work is that of `cells`.
     pub(crate) fn all(&self, i: usize) -> Result<Vec<Address>, AllocError>
         requires { i < length self.now.pending }
-        ensures { IfOk result (λ found. (a : ℕ) → is_listed found.items a ≡ (is_listed (list_at self.now.pending i) a || is_listed (list_at self.now.vacant i) a)) }
+        ensures { IfOk result (λ found.
+            (a : ℕ) → is_listed found.items a ≡ (is_listed (list_at self.now.pending i) a
+            || is_listed (list_at self.now.vacant i) a)) }
     {
         all_of(self.alloc, &self.words, &self.changed, &self.unread[i], i)
     }
@@ -210,7 +219,8 @@ impl Pending {
     /// for each; where there is one session, that of dropping them.
     pub(crate) fn clear(&mut self, i: usize, all: &[Address])
         requires within { i < length self.old.pending }
-        requires all { (a : ℕ) → is_listed all.now a ≡ (is_listed (list_at self.old.pending i) a || is_listed (list_at self.old.vacant i) a) }
+        requires all { (a : ℕ) → is_listed all.now a ≡ (is_listed (list_at self.old.pending i) a
+            || is_listed (list_at self.old.vacant i) a) }
         ensures pending { self.new.pending ≡ slice_set self.old.pending i [] }
         ensures vacant { self.new.vacant ≡ slice_set self.old.vacant i [] }
     {
@@ -258,7 +268,8 @@ fn looked_up(
     requires { i < 64 }
     ensures order { IfOk result (λ found. IsStrictlyIncreasing found.items) }
     ensures same { IfOk result (λ found. (c : ℕ) → is_listed found.items c
-        ≡ is_listed (filter (is_in words.now.entries i) behind.now ++ filter (is_in words.now.entries i) own.now) c) }
+        ≡ is_listed (filter (is_in words.now.entries i) behind.now
+        ++ filter (is_in words.now.entries i) own.now) c) }
 {
     let mut found = Vec::new(alloc);
     push_those(&mut found, words, behind, i)?;
@@ -275,7 +286,8 @@ fn without_rooms(
     i: usize,
 ) -> Result<Vec<Address>, AllocError>
     requires { i < 64 }
-    ensures { IfOk result (λ found. found.items ≡ filter (λ c. not (is_staged staged.now i c)) cells.now) }
+    ensures { IfOk result (λ found.
+        found.items ≡ filter (λ c. not (is_staged staged.now i c)) cells.now) }
 {
     let mut found = Vec::new(alloc);
     for at in cells {
@@ -294,7 +306,8 @@ fn forget(words: &mut Words, all: &[Address], i: usize, count: usize)
     requires all { (c : ℕ) → is_listed all.now c ≡ is_in words.old.entries i c }
     requires none { (j c : ℕ) → count ≤ j → is_in words.old.entries j c ≡ false }
     ensures order { IsOrdered nat_cmp words.new }
-    ensures less { HasCleared (λ j c. is_listed all.now c && j == i) words.old.entries words.new.entries }
+    ensures less { HasCleared (λ j c. is_listed all.now c && j == i)
+        words.old.entries words.new.entries }
 {
     if count == 1 {
         words.clear();
@@ -306,7 +319,8 @@ fn forget(words: &mut Words, all: &[Address], i: usize, count: usize)
 /// Where the cells of a new session stand, which are noted as its own.
 fn begun(alloc: Global, from: usize, cells: &[Address], limit: usize) -> Result<Unread, AllocError>
     ensures from { IfOk result (λ u. u.from ≡ from) }
-    ensures own { IfOk result (λ u. (changed : List ℕ) (c : ℕ) → is_listed cells.now c ≡ true → is_unread changed u c ≡ true) }
+    ensures own { IfOk result (λ u. (changed : List ℕ) (c : ℕ) → is_listed cells.now c ≡ true
+        → is_unread changed u c ≡ true) }
 {
     let mut unread = Unread::new(alloc, from);
     unread.note(cells, limit)?;
@@ -317,8 +331,10 @@ fn begun(alloc: Global, from: usize, cells: &[Address], limit: usize) -> Result<
 fn put_in(alloc: Global, words: &mut Words, cells: &[Address], bits: u64) -> Result<(), AllocError>
     requires { IsOrdered nat_cmp words.old }
     ensures order { IsOrdered nat_cmp words.new }
-    ensures put { OnOk result ((i c : ℕ) → is_in words.new.entries i c ≡ (is_in words.old.entries i c || at_cells cells.now bits i c)) }
-    ensures refused { OnErr result ((i c : ℕ) → is_in words.new.entries i c ≡ is_in words.old.entries i c) }
+    ensures put { OnOk result ((i c : ℕ) → is_in words.new.entries i c
+        ≡ (is_in words.old.entries i c || at_cells cells.now bits i c)) }
+    ensures refused { OnErr result ((i c : ℕ) → is_in words.new.entries i c
+        ≡ is_in words.old.entries i c) }
 {
     let mut rooms = Vec::new(alloc);
     match stage(words, &mut rooms, cells, bits) {
@@ -338,12 +354,18 @@ fn stage_own(
 ) -> Result<(), AllocError>
     requires { IsOrdered nat_cmp words.old }
     ensures order { IsOrdered nat_cmp words.new }
-    ensures pending { SamePending words.old.entries staged.old.items words.new.entries staged.new.items }
-    ensures others { (i c : ℕ) → has_bit i bit ≡ false → (is_in words.new.entries i c ≡ is_in words.old.entries i c) × (is_staged staged.new.items i c ≡ is_staged staged.old.items i c) }
+    ensures pending { SamePending words.old.entries staged.old.items
+        words.new.entries staged.new.items }
+    ensures others { (i c : ℕ) → has_bit i bit ≡ false
+        → (is_in words.new.entries i c ≡ is_in words.old.entries i c)
+        × (is_staged staged.new.items i c ≡ is_staged staged.old.items i c) }
     ensures from { own.new.from ≡ own.old.from }
-    ensures stay { (changed : List ℕ) (c : ℕ) → is_unread changed own.old c ≡ true → is_unread changed own.new c ≡ true }
-    ensures room { OnOk result (HasMade (at_cells cells.now bit) words.old.entries staged.old.items words.new.entries staged.new.items) }
-    ensures own { OnOk result ((changed : List ℕ) (c : ℕ) → is_listed cells.now c ≡ true → is_unread changed own.new c ≡ true) }
+    ensures stay { (changed : List ℕ) (c : ℕ) → is_unread changed own.old c ≡ true
+        → is_unread changed own.new c ≡ true }
+    ensures room { OnOk result (HasMade (at_cells cells.now bit)
+        words.old.entries staged.old.items words.new.entries staged.new.items) }
+    ensures own { OnOk result ((changed : List ℕ) (c : ℕ) → is_listed cells.now c ≡ true
+        → is_unread changed own.new c ≡ true) }
 {
     own.note(cells, limit)?;
     stage_each(words, staged, cells, bit)?;
@@ -362,11 +384,17 @@ fn stage_all(
     requires order { IsOrdered nat_cmp words.old }
     requires few { length unread.old.items ≤ 64 }
     ensures order { IsOrdered nat_cmp words.new }
-    ensures pending { SamePending words.old.entries staged.old.items words.new.entries staged.new.items }
+    ensures pending { SamePending words.old.entries staged.old.items
+        words.new.entries staged.new.items }
     ensures lists { length unread.new.items ≡ length unread.old.items }
-    ensures places { (all : List (ℕ × ℕ)) → HavePlaces all changed.old.items unread.old.items → HavePlaces all changed.new.items unread.new.items }
-    ensures room { OnOk result (HasMade (λ i c. is_listed cells.now c && nat_lt i (length unread.old.items)) words.old.entries staged.old.items words.new.entries staged.new.items) }
-    ensures looked { OnOk result ((all : List (ℕ × ℕ)) → HavePlaces all changed.old.items unread.old.items → AreLookedAt cells.now changed.new.items unread.new.items) }
+    ensures places { (all : List (ℕ × ℕ)) → HavePlaces all changed.old.items unread.old.items
+        → HavePlaces all changed.new.items unread.new.items }
+    ensures room { OnOk result
+        (HasMade (λ i c. is_listed cells.now c && nat_lt i (length unread.old.items))
+        words.old.entries staged.old.items words.new.entries staged.new.items) }
+    ensures looked { OnOk result
+        ((all : List (ℕ × ℕ)) → HavePlaces all changed.old.items unread.old.items
+        → AreLookedAt cells.now changed.new.items unread.new.items) }
 {
     note(changed, unread, cells, limit)?;
     let bits = bits_of(unread.len());

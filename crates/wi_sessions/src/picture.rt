@@ -32,7 +32,8 @@ impl Model for Picture {
 
     ghost view = { λ p. p.values.entries };
 
-    ghost invariant = { λ p. RoomsAreInOrder p.values.entries × HasNoVacancy Empty p.values.entries };
+    ghost invariant = { λ p. RoomsAreInOrder p.values.entries
+        × HasNoVacancy Empty p.values.entries };
 }
 
 /// Whether two values are one: of the same kind, and with the same content.

@@ -24,7 +24,8 @@ fn make_one(rooms: &mut Rooms, at: Address) -> Result<(), AllocError>
     ensures order { RoomsAreInOrder rooms.old.entries → RoomsAreInOrder rooms.new.entries }
     ensures vacant { (c : ℕ) → room_of rooms.new.entries c ≡ Some Empty
         → (c ≡ at) ⊎ (room_of rooms.old.entries c ≡ Some Empty) }
-    ensures kept { (change : ℕ × Value) → HasRoomFor rooms.old.entries change → HasRoomFor rooms.new.entries change }
+    ensures kept { (change : ℕ × Value) → HasRoomFor rooms.old.entries change
+        → HasRoomFor rooms.new.entries change }
     ensures room { OnOk result ((v : Value) → HasRoomFor rooms.new.entries (at, v)) }
 {
     rooms.put_new(at, Value::Empty)?;
@@ -49,7 +50,8 @@ fn make_room(rooms: &mut Rooms, changes: &[Change]) -> Result<(), AllocError>
 /// Moves a value into a cell's room, in the place of the one that stands there.
 fn exchange(rooms: &mut Rooms, at: Address, value: &mut Value)
     requires { HasRoomFor rooms.old.entries (at, value.old) }
-    ensures values { (c : ℕ) → value_in rooms.new.entries c ≡ (if c == at then value.old else value_in rooms.old.entries c) }
+    ensures values { (c : ℕ) → value_in rooms.new.entries c
+        ≡ (if c == at then value.old else value_in rooms.old.entries c) }
     ensures order { RoomsAreInOrder rooms.old.entries → RoomsAreInOrder rooms.new.entries }
     ensures rooms { keys_of rooms.new.entries ≡ keys_of rooms.old.entries }
     ensures others { (c : ℕ) → c ≢ at → room_of rooms.new.entries c ≡ room_of rooms.old.entries c }
@@ -63,7 +65,8 @@ fn exchange_all(rooms: &mut Rooms, changes: &mut [Change])
     requires order { RoomsAreInOrder rooms.old.entries }
     requires room { All (HasRoomFor rooms.old.entries) changes.old }
     requires only { VacantOnlyAt Empty (keys_of changes.old) rooms.old.entries }
-    ensures values { HoldsTheSame Empty (with_changes rooms.old.entries changes.old) rooms.new.entries }
+    ensures values { HoldsTheSame Empty
+        (with_changes rooms.old.entries changes.old) rooms.new.entries }
     ensures order { RoomsAreInOrder rooms.new.entries }
     ensures cells { keys_of changes.new ≡ keys_of changes.old }
     ensures vacant { VacantOnlyAt Empty (keys_of changes.old) rooms.new.entries }
@@ -86,7 +89,8 @@ fn release_one(rooms: &mut Rooms, at: Address)
     ensures values { HoldsTheSame Empty rooms.old.entries rooms.new.entries }
     ensures order { RoomsAreInOrder rooms.new.entries }
     ensures released { room_of rooms.new.entries at ≢ Some Empty }
-    ensures vacant { (c : ℕ) → room_of rooms.new.entries c ≡ Some Empty → room_of rooms.old.entries c ≡ Some Empty }
+    ensures vacant { (c : ℕ) → room_of rooms.new.entries c ≡ Some Empty
+        → room_of rooms.old.entries c ≡ Some Empty }
 {
     if is_vacant(rooms, at) {
         let _ = rooms.remove(at);
@@ -110,7 +114,8 @@ fn release(rooms: &mut Rooms, changes: &[Change])
 fn put_in(rooms: &mut Rooms, changes: &mut [Change]) -> Result<(), AllocError>
     requires order { RoomsAreInOrder rooms.old.entries }
     requires full { HasNoVacancy Empty rooms.old.entries }
-    ensures done { OnOk result (HoldsTheSame Empty (with_changes rooms.old.entries changes.old) rooms.new.entries) }
+    ensures done { OnOk result
+        (HoldsTheSame Empty (with_changes rooms.old.entries changes.old) rooms.new.entries) }
     ensures refused { OnErr result (HoldsTheSame Empty rooms.old.entries rooms.new.entries) }
     ensures order { RoomsAreInOrder rooms.new.entries }
     ensures vacant { VacantOnlyAt Empty (keys_of changes.new) rooms.new.entries }

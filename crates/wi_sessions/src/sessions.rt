@@ -72,8 +72,10 @@ impl Sessions {
     /// Adds a session at the end, as `new` makes one. On an error all is as before. It is an error too where a session of this name is
     /// there already, as `find` tells, and where there are 64. The work is that of `make_room` for the cells.
     pub fn push(&mut self, name: &str, cells: &[Address]) -> Result<(), AllocError>
-        ensures sessions { OnOk result (self.new.sessions ≡ self.old.sessions ++ new_session name.now ∷ []) }
-        ensures pending { OnOk result ((new : List ℕ) × (self.new.pending ≡ self.old.pending ++ new ∷ []) × SameCells new cells.now) }
+        ensures sessions { OnOk result (self.new.sessions
+            ≡ self.old.sessions ++ new_session name.now ∷ []) }
+        ensures pending { OnOk result ((new : List ℕ)
+            × (self.new.pending ≡ self.old.pending ++ new ∷ []) × SameCells new cells.now) }
         ensures vacant { OnOk result ((i : ℕ) → vacant_of self.new i ≡ vacant_of self.old i) }
         ensures refused { OnErr result (self.new ≡ self.old) }
     {
@@ -164,7 +166,8 @@ impl Sessions {
     /// A session uses a scenario of this name, or the sheet as it stands. Takes no memory.
     pub fn use_scenario(&mut self, i: usize, scenario: Option<String>)
         requires { i < length self.old.sessions }
-        ensures sessions { self.new.sessions ≡ slice_set self.old.sessions i (using_scenario (session_at self.old i) (option_map string_bytes scenario)) }
+        ensures sessions { self.new.sessions ≡ slice_set self.old.sessions i
+            (using_scenario (session_at self.old i) (option_map string_bytes scenario)) }
         ensures pending { self.new.pending ≡ self.old.pending }
         ensures vacant { self.new.vacant ≡ self.old.vacant }
     {
@@ -180,7 +183,8 @@ impl Sessions {
         seen: u64,
     ) -> Result<(), AllocError>
         requires { i < length self.old.sessions }
-        ensures sessions { OnOk result (self.new.sessions ≡ slice_set self.old.sessions i (told (session_at self.old i) changes.items seen)) }
+        ensures sessions { OnOk result (self.new.sessions
+            ≡ slice_set self.old.sessions i (told (session_at self.old i) changes.items seen)) }
         ensures pending { OnOk result (self.new.pending ≡ slice_set self.old.pending i []) }
         ensures vacant { OnOk result (self.new.vacant ≡ slice_set self.old.vacant i []) }
         ensures refused { OnErr result (self.new ≡ self.old) }
@@ -198,7 +202,8 @@ impl Sessions {
         ensures sessions { self.new.sessions ≡ self.old.sessions }
         ensures pending { self.new.pending ≡ self.old.pending }
         ensures room { OnOk result ((a : ℕ) → is_listed (vacant_of self.new i) a
-            ≡ (is_listed (vacant_of self.old i) a || (is_listed cells.now a && not (is_listed (pending_of self.old i) a)))) }
+            ≡ (is_listed (vacant_of self.old i) a
+            || (is_listed cells.now a && not (is_listed (pending_of self.old i) a)))) }
         ensures refused { OnErr result (vacant_of self.new i ≡ []) }
         ensures others { (j : ℕ) → j ≢ i → vacant_of self.new j ≡ vacant_of self.old j }
     {
@@ -209,8 +214,10 @@ impl Sessions {
     pub fn make_room_all(&mut self, cells: &[Address]) -> Result<(), AllocError>
         ensures sessions { self.new.sessions ≡ self.old.sessions }
         ensures pending { self.new.pending ≡ self.old.pending }
-        ensures room { OnOk result ((i a : ℕ) → i < length self.old.sessions → is_listed (vacant_of self.new i) a
-            ≡ (is_listed (vacant_of self.old i) a || (is_listed cells.now a && not (is_listed (pending_of self.old i) a)))) }
+        ensures room { OnOk result ((i a : ℕ) → i < length self.old.sessions
+            → is_listed (vacant_of self.new i) a
+            ≡ (is_listed (vacant_of self.old i) a
+            || (is_listed cells.now a && not (is_listed (pending_of self.old i) a)))) }
         ensures refused { OnErr result ((j : ℕ) → vacant_of self.new j ≡ []) }
     {
         self.pending.make_room_all(cells)
@@ -220,7 +227,8 @@ impl Sessions {
     pub fn take_all(&mut self)
         ensures sessions { self.new.sessions ≡ self.old.sessions }
         ensures lists { length self.new.pending ≡ length self.old.pending }
-        ensures pending { (i a : ℕ) → is_listed (pending_of self.new i) a ≡ (is_listed (pending_of self.old i) a || is_listed (vacant_of self.old i) a) }
+        ensures pending { (i a : ℕ) → is_listed (pending_of self.new i) a
+            ≡ (is_listed (pending_of self.old i) a || is_listed (vacant_of self.old i) a) }
         ensures vacant { (i : ℕ) → vacant_of self.new i ≡ [] }
     {
         self.pending.take();
@@ -253,7 +261,8 @@ impl Sessions {
 
 // Adds a session at the end, under a name that none has. If memory runs out, all is as before.
 fn add(sessions: &mut SessionMap, name: RcStr, held: Held) -> Result<(), AllocError>
-    requires { is_some (lookup (λ k. bytes_eq (rc_str_bytes name) (rc_str_bytes k)) sessions.old.entries) ≡ false }
+    requires { is_some
+        (lookup (λ k. bytes_eq (rc_str_bytes name) (rc_str_bytes k)) sessions.old.entries) ≡ false }
     ensures added { OnOk result (sessions.new.entries ≡ sessions.old.entries ++ (name, held) ∷ []) }
     ensures refused { OnErr result (sessions.new.entries ≡ sessions.old.entries) }
 {

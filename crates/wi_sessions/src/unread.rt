@@ -31,8 +31,10 @@ impl Unread {
     /// Notes cells of its own; where there are more than so many, they may stand anywhere.
     pub(crate) fn note(&mut self, cells: &[Address], limit: usize) -> Result<(), AllocError>
         ensures from { self.new.from ≡ self.old.from }
-        ensures stay { (changed : List ℕ) (c : ℕ) → is_unread changed self.old c ≡ true → is_unread changed self.new c ≡ true }
-        ensures own { OnOk result ((changed : List ℕ) (c : ℕ) → is_listed cells.now c ≡ true → is_unread changed self.new c ≡ true) }
+        ensures stay { (changed : List ℕ) (c : ℕ) → is_unread changed self.old c ≡ true
+            → is_unread changed self.new c ≡ true }
+        ensures own { OnOk result ((changed : List ℕ) (c : ℕ) → is_listed cells.now c ≡ true
+            → is_unread changed self.new c ≡ true) }
     {
         if is_longer(self.own.len(), cells.len(), limit) {
             self.anywhere = true;
@@ -61,7 +63,8 @@ impl Unread {
     /// The list of changed cells, which had this length, is empty now. Takes no memory.
     fn begin_anew(&mut self, count: usize)
         ensures from { self.new.from ≡ 0 }
-        ensures stay { (changed : List ℕ) (c : ℕ) → length changed ≡ count → is_unread changed self.old c ≡ true → is_unread ([]) self.new c ≡ true }
+        ensures stay { (changed : List ℕ) (c : ℕ) → length changed ≡ count
+            → is_unread changed self.old c ≡ true → is_unread ([]) self.new c ≡ true }
     {
         if self.has_read(count) {
             self.from = 0;
@@ -90,7 +93,8 @@ fn is_longer(count: usize, more: usize, limit: usize) -> bool {
 /// The list of changed cells, which had this length, is empty now.
 fn begin_anew(unread: &mut Vec<Unread>, count: usize)
     ensures lists { length unread.new.items ≡ length unread.old.items }
-    ensures places { (words : List (ℕ × ℕ)) (changed : List ℕ) → length changed ≡ count → HavePlaces words changed unread.old.items → HavePlaces words ([]) unread.new.items }
+    ensures places { (words : List (ℕ × ℕ)) (changed : List ℕ) → length changed ≡ count
+        → HavePlaces words changed unread.old.items → HavePlaces words ([]) unread.new.items }
 {
     for i in 0..unread.len() {
         unread[i].begin_anew(count);
@@ -101,7 +105,8 @@ fn begin_anew(unread: &mut Vec<Unread>, count: usize)
 fn note_alone(unread: &mut Vec<Unread>)
     requires { length unread.old.items ≡ 1 }
     ensures lists { length unread.new.items ≡ length unread.old.items }
-    ensures places { (words : List (ℕ × ℕ)) (changed : List ℕ) → HavePlaces words changed unread.old.items → HavePlaces words changed unread.new.items }
+    ensures places { (words : List (ℕ × ℕ)) (changed : List ℕ)
+        → HavePlaces words changed unread.old.items → HavePlaces words changed unread.new.items }
     ensures looked { (cells changed : List ℕ) → AreLookedAt cells changed unread.new.items }
 {
     unread[0].look_anywhere();
@@ -115,8 +120,11 @@ pub(crate) fn note(
     limit: usize,
 ) -> Result<(), AllocError>
     ensures lists { length unread.new.items ≡ length unread.old.items }
-    ensures places { (words : List (ℕ × ℕ)) → HavePlaces words changed.old.items unread.old.items → HavePlaces words changed.new.items unread.new.items }
-    ensures looked { OnOk result ((words : List (ℕ × ℕ)) → HavePlaces words changed.old.items unread.old.items → AreLookedAt cells.now changed.new.items unread.new.items) }
+    ensures places { (words : List (ℕ × ℕ)) → HavePlaces words changed.old.items unread.old.items
+        → HavePlaces words changed.new.items unread.new.items }
+    ensures looked { OnOk result
+        ((words : List (ℕ × ℕ)) → HavePlaces words changed.old.items unread.old.items
+        → AreLookedAt cells.now changed.new.items unread.new.items) }
 {
     let count = unread.len();
     if count == 1 {
@@ -137,8 +145,11 @@ fn note_anew(
     cells: &[Address],
 ) -> Result<(), AllocError>
     ensures lists { length unread.new.items ≡ length unread.old.items }
-    ensures places { (words : List (ℕ × ℕ)) → HavePlaces words changed.old.items unread.old.items → HavePlaces words changed.new.items unread.new.items }
-    ensures looked { OnOk result ((words : List (ℕ × ℕ)) → HavePlaces words changed.old.items unread.old.items → AreLookedAt cells.now changed.new.items unread.new.items) }
+    ensures places { (words : List (ℕ × ℕ)) → HavePlaces words changed.old.items unread.old.items
+        → HavePlaces words changed.new.items unread.new.items }
+    ensures looked { OnOk result
+        ((words : List (ℕ × ℕ)) → HavePlaces words changed.old.items unread.old.items
+        → AreLookedAt cells.now changed.new.items unread.new.items) }
 {
     begin_anew(unread, changed.len());
     changed.clear();

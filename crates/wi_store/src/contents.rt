@@ -50,7 +50,8 @@ impl<'a> Contents<'a> {
     pub(crate) fn new(rooms: &'a Rooms, area: Rect, from: Address) -> Contents<'a>
         requires order { RoomsAreInOrder rooms.now.entries }
         requires full { HasNoVacancy rooms.now.entries }
-        ensures { result ≡ filter (λ e. is_ahead area (Some from) e.0) (sheet_in rooms.now.entries) }
+        ensures { result ≡ filter
+            (λ e. is_ahead area (Some from) e.0) (sheet_in rooms.now.entries) }
     {
         Contents {
             rooms: rooms.within(area, from),

@@ -41,7 +41,8 @@ fn make_one(rooms: &mut Rooms, at: Address, room: &Room) -> Result<(), AllocErro
     ensures order { RoomsAreInOrder rooms.old.entries → RoomsAreInOrder rooms.new.entries }
     ensures vacant { (c : ℕ) → room_of rooms.new.entries c ≡ Some None
         → (c ≡ at) ⊎ (room_of rooms.old.entries c ≡ Some None) }
-    ensures kept { (c : ℕ) → room_of rooms.new.entries c ≡ None → room_of rooms.old.entries c ≡ None }
+    ensures kept { (c : ℕ) → room_of rooms.new.entries c ≡ None
+        → room_of rooms.old.entries c ≡ None }
     ensures room { OnOk result (HasRoomFor rooms.new.entries (at, room.now)) }
 {
     if room.has_content() {
@@ -59,7 +60,8 @@ pub(crate) fn make_rooms(rooms: &mut Rooms, changes: &[Change]) -> Result<usize,
     ensures order { RoomsAreInOrder rooms.new.entries }
     ensures vacant { VacantOnlyAt (keys_of changes.now) rooms.new.entries }
     ensures room { OnOk result (All (HasRoomFor rooms.new.entries) changes.now) }
-    ensures made { IfOk result (λ made. length rooms.new.entries ≡ length (sheet_in rooms.new.entries) + made) }
+    ensures made { IfOk result (λ made.
+        length rooms.new.entries ≡ length (sheet_in rooms.new.entries) + made) }
 {
     let before = rooms.len();
     for (at, room) in changes {
@@ -72,11 +74,13 @@ pub(crate) fn make_rooms(rooms: &mut Rooms, changes: &[Change]) -> Result<usize,
 fn exchange(rooms: &mut Rooms, at: Address, room: &mut Room)
     requires order { RoomsAreInOrder rooms.old.entries }
     requires room { HasRoomFor rooms.old.entries (at, room.old) }
-    ensures sheet { sheet_in rooms.new.entries ≡ with_content (sheet_in rooms.old.entries) at room.old }
+    ensures sheet { sheet_in rooms.new.entries
+        ≡ with_content (sheet_in rooms.old.entries) at room.old }
     ensures stood { room.new ≡ content_of (sheet_in rooms.old.entries) at }
     ensures order { RoomsAreInOrder rooms.new.entries }
     ensures rooms { length rooms.new.entries ≡ length rooms.old.entries }
-    ensures kept { (c : ℕ) → room_of rooms.new.entries c ≡ None → room_of rooms.old.entries c ≡ None }
+    ensures kept { (c : ℕ) → room_of rooms.new.entries c ≡ None
+        → room_of rooms.old.entries c ≡ None }
     ensures others { (c : ℕ) → c ≢ at → room_of rooms.new.entries c ≡ room_of rooms.old.entries c }
 {
     let given = mem::replace(room, Room::vacant());
@@ -139,7 +143,8 @@ fn release_one(rooms: &mut Rooms, at: Address)
     ensures sheet { sheet_in rooms.new.entries ≡ sheet_in rooms.old.entries }
     ensures order { RoomsAreInOrder rooms.new.entries }
     ensures released { room_of rooms.new.entries at ≢ Some None }
-    ensures vacant { (c : ℕ) → room_of rooms.new.entries c ≡ Some None → room_of rooms.old.entries c ≡ Some None }
+    ensures vacant { (c : ℕ) → room_of rooms.new.entries c ≡ Some None
+        → room_of rooms.old.entries c ≡ Some None }
 {
     if is_vacant(rooms, at) {
         let _ = rooms.remove(at);

@@ -43,7 +43,11 @@ impl Model for Store {
 
     ghost use Rattle.wi_store.specs.Inner.Rooms.{sheet_in, RoomsAreInOrder, HasNoVacancy};
 
-    ghost view = { λ s. record { sheet = sheet_in s.rooms.entries; edits = s.edits; limits = s.limits } };
+    ghost view = { λ s. record {
+      sheet = sheet_in s.rooms.entries;
+      edits = s.edits;
+      limits = s.limits;
+    } };
 
     ghost invariant = { λ s. RoomsAreInOrder s.rooms.entries × HasNoVacancy s.rooms.entries };
 }
@@ -136,14 +140,16 @@ impl Store {
 
     /// The cells of a rectangle that have a formula, in row-major order. The work is that of all steps of `contents_from`.
     pub fn formulas_in(&self, area: Rect) -> Result<Vec<Address>, AllocError>
-        ensures { IfOk result (λ found. found.items ≡ filter (is_within area) (cells_with_formula self.now.sheet)) }
+        ensures { IfOk result (λ found.
+            found.items ≡ filter (is_within area) (cells_with_formula self.now.sheet)) }
     {
         formula_cells(self.alloc, self.contents_from(area, area.first()))
     }
 
     /// The first occupied cell of a rectangle, in row-major order, at a cell or after it. The work is that of `next_content`.
     pub fn next_occupied(&self, area: Rect, from: Address) -> Option<Address>
-        ensures { result ≡ find (λ a. nat_le from a) (filter (is_within area) (keys_of self.now.sheet)) }
+        ensures { result ≡ find
+            (λ a. nat_le from a) (filter (is_within area) (keys_of self.now.sheet)) }
     {
         self.rooms.next_in(area, from)
     }
@@ -151,7 +157,8 @@ impl Store {
     /// The same with what stands there. One search among the tiles of 16 rows for each row up to it, and where the rectangle lies
     /// in one column of tiles, of four columns, for 16 rows; rows where nothing stands are passed at once.
     pub fn next_content(&self, area: Rect, from: Address) -> Option<(Address, &Content)>
-        ensures cell { option_map (λ x. x.0) result ≡ find (λ a. nat_le from a) (filter (is_within area) (keys_of self.now.sheet)) }
+        ensures cell { option_map (λ x. x.0) result
+            ≡ find (λ a. nat_le from a) (filter (is_within area) (keys_of self.now.sheet)) }
         ensures content { IfSome result (λ x. content_of self.now.sheet x.0 ≡ Some x.1.now) }
     {
         match self.rooms.first_in(area, from) {
@@ -201,10 +208,12 @@ fn edit(
 ) -> Result<u64, StoreFault>
     requires order { RoomsAreInOrder rooms.old.entries }
     requires full { HasNoVacancy rooms.old.entries }
-    ensures done { OnOk result (sheet_in rooms.new.entries ≡ edited (sheet_in rooms.old.entries) changes.old) }
+    ensures done { OnOk result (sheet_in rooms.new.entries
+        ≡ edited (sheet_in rooms.old.entries) changes.old) }
     ensures refused { OnErr result (sheet_in rooms.new.entries ≡ sheet_in rooms.old.entries) }
     ensures cause { (result ≡ Err StoreFault.Memory)
-        ⊎ (result ≡ admitted limits.now (length (edited (sheet_in rooms.old.entries) changes.old)) edits) }
+        ⊎ (result ≡ admitted limits.now
+        (length (edited (sheet_in rooms.old.entries) changes.old)) edits) }
     ensures order { RoomsAreInOrder rooms.new.entries }
     ensures vacant { VacantOnlyAt (keys_of changes.new) rooms.new.entries }
 {

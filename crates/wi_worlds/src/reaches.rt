@@ -79,7 +79,8 @@ impl Reaches {
     /// Makes a cell known, with the cells that reach it. If memory runs out, the same are known as before, and of those that
     /// reach this one some may be told. The work for each is a look-up.
     pub fn add(&mut self, at: Address, cone: &[Address]) -> Result<(), AllocError>
-        ensures known { OnOk result ((a : ℕ) → is_known self.new a ≡ (at == a || is_known self.old a)) }
+        ensures known { OnOk result ((a : ℕ) → is_known self.new a
+            ≡ (at == a || is_known self.old a)) }
         ensures adds { AddsOf at cone.now self.old.reached self.new.reached }
         ensures all { OnOk result ((c : ℕ) → has_cell cone.now c ≡ true
             → reached_by self.new c at ≡ true) }

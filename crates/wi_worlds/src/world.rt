@@ -47,7 +47,8 @@ impl Model for World {
 
     ghost view = { λ w. shared_items w.shared };
 
-    ghost invariant = { λ w. IsInOrder (shared_items w.shared) × (w.digest ≡ digest_of (shared_items w.shared)) };
+    ghost invariant = { λ w. IsInOrder (shared_items w.shared)
+        × (w.digest ≡ digest_of (shared_items w.shared)) };
 }
 
 impl World {
@@ -114,7 +115,8 @@ impl World {
     /// the count of all.
     pub fn with(&self, others: &[Replacement]) -> Result<World, AllocError>
         ensures list { IfOk result (λ w. as_map w ≡ overridden (as_map self.now) others.now) }
-        ensures each { IfOk result (λ w. (a : ℕ) → replaced w a ≡ option_or (last_for others.now a) (replaced self.now a)) }
+        ensures each { IfOk result (λ w.
+            (a : ℕ) → replaced w a ≡ option_or (last_for others.now a) (replaced self.now a)) }
     {
         let alloc = self.alloc;
         let mut all = BTreeMap::new(alloc);
@@ -145,7 +147,8 @@ impl World {
     ) -> Result<World, AllocError>
         requires cones { All (λ r. IsSome (get nat_cmp cones.now r.at)) self.now }
         ensures list { IfOk result (λ w. w ≡ filter (is_reached cones.now at) self.now) }
-        ensures each { IfOk result (λ w. (a : ℕ) → replaced w a ≡ (if cone_has cones.now a at then replaced self.now a else None)) }
+        ensures each { IfOk result (λ w. (a : ℕ) → replaced w a
+            ≡ (if cone_has cones.now a at then replaced self.now a else None)) }
         ensures last { OnErr result (last.new ≡ last.old) }
     {
         let all = self.replacements();
@@ -220,7 +223,8 @@ fn part_reached(
 ) -> Part
     requires cones { All (λ r. IsSome (get nat_cmp cones.now r.at)) replacements.now }
     ensures count { result.count ≡ length (filter (is_reached cones.now at) replacements.now) }
-    ensures last { result.is_last ≡ same_replacements last.now (filter (is_reached cones.now at) replacements.now) }
+    ensures last { result.is_last
+        ≡ same_replacements last.now (filter (is_reached cones.now at) replacements.now) }
 {
     let mut count = 0;
     let mut is_last = true;
