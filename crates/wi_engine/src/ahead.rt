@@ -18,7 +18,7 @@ use wi_store::Store;
 /// Finds the value of a cell with a formula for which any evaluation of a frame's formula asks, so that this isn't evaluated in
 /// vain, where the frame waits for nothing and no value was found for it yet. A cell that has to be evaluated first is given, and
 /// the frame waits for it. The work is that of `first_cell`, of `formula_in` and of `remembered_value`.
-pub fn look_ahead<'a, M: Memo>(
+pub(crate) fn look_ahead<'a, M: Memo>(
     alloc: Global,
     store: &'a Store,
     frame: &mut Frame<'a>,

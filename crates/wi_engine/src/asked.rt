@@ -17,7 +17,7 @@ use wi_worlds::World;
 
 /// A cell's value under replacements, where nothing or a constant stands there, or its value is remembered; else its formula
 /// has to be evaluated. The work is that of `replaced`, of `stored` and, for a formula, of `remembered_value`.
-pub fn value_now<'a, M: Memo>(
+pub(crate) fn value_now<'a, M: Memo>(
     alloc: Global,
     store: &'a Store,
     world: &World,
@@ -41,7 +41,7 @@ pub fn value_now<'a, M: Memo>(
 
 /// The value of a cell that has this formula under replacements, where it is remembered; else the formula has to be evaluated. The
 /// work is that of `Memo::key`, of `Memo::look` and of a copy of the value.
-pub fn remembered_value<'a, M: Memo>(
+pub(crate) fn remembered_value<'a, M: Memo>(
     alloc: Global,
     world: &World,
     at: Address,

@@ -19,7 +19,7 @@ use wi_store::Store;
 /// The value of a frame's formula, where what is known suffices, or what is lacking. Either is counted; want of
 /// memory counts nothing. The work is one walk over the formula's tree, in which each cell costs the logarithms of the
 /// counts of replacements, of occupied cells and of cells found, and each what-if a look through those found.
-pub fn attempt(
+pub(crate) fn attempt(
     alloc: Global,
     store: &Store,
     frame: &Frame,

@@ -27,7 +27,7 @@ pub type Cones = BTreeMap<Address, BTreeSet<Address>>;
 
 /// Adds the cones of the replaced addresses that have none yet. The work for each is that of `cone`. If memory runs out,
 /// those added so far stay.
-pub fn add_cones(
+pub(crate) fn add_cones(
     alloc: Global,
     store: &Store,
     order: &[Address],

@@ -22,7 +22,7 @@ pub enum Way {
 
 impl Way {
     /// Whether a course of this way may go on in another: in the same, or in a wider one.
-    pub fn may_become(self, way: Way) -> bool {
+    pub(crate) fn may_become(self, way: Way) -> bool {
         match self {
             Way::Alone => !matches!(way, Way::Alone),
             Way::Row => matches!(way, Way::Row | Way::Whole),
@@ -52,7 +52,7 @@ pub struct Course {
 
 impl Course {
     /// The course that begins at a cell.
-    pub fn begun(rectangle: Rect, at: Address) -> Course
+    pub(crate) fn begun(rectangle: Rect, at: Address) -> Course
         ensures rectangle { result.rectangle ≡ rectangle }
         ensures count { result.count ≤ 1 }
     {
@@ -67,7 +67,7 @@ impl Course {
 
     /// The course where the cell that is wanted follows in this way: twice as many cells are found. Where it leaves a row or a column
     /// it may be that no more of the next one is wanted, so it begins with one cell again.
-    pub fn led_on(self, way: Way) -> Course
+    pub(crate) fn led_on(self, way: Way) -> Course
         ensures rectangle { result.rectangle ≡ self.rectangle }
         ensures way { result.way ≡ way }
         ensures count { (result.count ≤ 1) ⊎ (result.count ≤ 2 * self.count) }
@@ -81,7 +81,7 @@ impl Course {
     }
 
     /// The course where the cell that is wanted doesn't follow.
-    pub fn broken(self) -> Course
+    pub(crate) fn broken(self) -> Course
         ensures rectangle { result.rectangle ≡ self.rectangle }
         ensures count { (result.count ≤ 1)
             ⊎ ((max_breaks ≤ self.breaks) × (result.count ≤ 2 * self.count)) }
@@ -104,7 +104,7 @@ impl Course {
 }
 
 /// The part of a rectangle through which a way leads from a cell.
-pub fn part(rectangle: Rect, way: Way, at: Address) -> Rect
+pub(crate) fn part(rectangle: Rect, way: Way, at: Address) -> Rect
     ensures { result ≡ part rectangle way at }
 {
     let (first, last) = (rectangle.first(), rectangle.last());

@@ -205,7 +205,7 @@ fn wait_for(alloc: Global, store: &Store, frame: &mut Frame, want: Want) -> Resu
 }
 
 /// Goes on with a frame until its value is there or another has to be found first.
-pub fn advance<'a, M: Memo>(
+pub(crate) fn advance<'a, M: Memo>(
     alloc: Global,
     store: &'a Store,
     frame: &mut Frame<'a>,
@@ -260,7 +260,7 @@ fn wait_for_others(store: &Store, frame: &mut Frame, others: Vec<Address>)
 
 /// Takes in the value that was found for a key, where a frame waits for it, so that it isn't looked up. The frame then waits for
 /// the next cell that it lacks.
-pub fn take_in(
+pub(crate) fn take_in(
     alloc: Global,
     store: &Store,
     frame: &mut Frame,

@@ -20,7 +20,7 @@ use wi_worlds::World;
 
 /// The first cell of a rectangle, at a cell or after it, that is occupied or replaced, with what stands there. The work is that
 /// of `Store::next_content` and of `next_replaced`.
-pub fn next_touched<'a>(
+pub(crate) fn next_touched<'a>(
     store: &'a Store,
     world: &'a World,
     area: Rect,
@@ -40,7 +40,7 @@ pub fn next_touched<'a>(
 
 /// The first replacement of a cell of a rectangle, at a cell or after it. The work grows with the logarithm of the count of
 /// replacements, and with the count of replaced cells from there to the one found, or to the rectangle's last cell.
-pub fn next_replaced(
+pub(crate) fn next_replaced(
     replacements: &[Replacement],
     area: Rect,
     from: Address,

@@ -38,7 +38,7 @@ pub struct Findings {
 
 impl Findings {
     /// No values yet. Takes no memory.
-    pub fn new(alloc: Global) -> Findings
+    pub(crate) fn new(alloc: Global) -> Findings
         ensures first { result.first.items ≡ [] }
         ensures rising { result.rising ≡ [] }
         ensures others { result.others.entries ≡ [] }
@@ -54,7 +54,7 @@ impl Findings {
 
     /// Takes the values away. Arrays keep their memory. The work grows with the count of values.
     #[inline(always)]
-    pub fn clear(&mut self)
+    pub(crate) fn clear(&mut self)
         ensures cells { (c : ℕ) → found_value self.new c ≡ None }
         ensures what_ifs { self.new.what_ifs.items ≡ [] }
     {
@@ -65,12 +65,12 @@ impl Findings {
     }
 
     /// Whether no array that grows with the cells found has more than so many values.
-    pub fn is_within(&self, most: usize) -> bool {
+    pub(crate) fn is_within(&self, most: usize) -> bool {
         self.rising.count() <= most && self.what_ifs.len() <= most
     }
 
     /// Whether no value was found.
-    pub fn is_empty(&self) -> bool
+    pub(crate) fn is_empty(&self) -> bool
         ensures { result ≡ true → (c : ℕ) → found_value self.now c ≡ None }
     {
         self.first.is_empty()
@@ -81,7 +81,7 @@ impl Findings {
 
     /// The value found of a cell. The work grows with the logarithm of the count of cells found.
     #[inline(always)]
-    pub fn cell(&self, at: Address) -> Option<&Value>
+    pub(crate) fn cell(&self, at: Address) -> Option<&Value>
         ensures { option_copied result ≡ found_value self.now at }
     {
         for cell in &self.first {
@@ -96,7 +96,7 @@ impl Findings {
     }
 
     /// The value found of a what-if. The work grows with the count of what-ifs found.
-    pub fn what_if(&self, at: Address, pairs: &[Pair]) -> Option<&Value>
+    pub(crate) fn what_if(&self, at: Address, pairs: &[Pair]) -> Option<&Value>
         ensures { option_copied result
             ≡ what_if_found self.now at (map addresses (map pair_of pairs.now)) }
     {
@@ -110,7 +110,7 @@ impl Findings {
 
     /// Adds the value of a cell of which none was found. The work grows with the logarithm of the count of cells found.
     #[inline(always)]
-    pub fn add_cell(&mut self, at: Address, value: Value) -> Result<(), AllocError>
+    pub(crate) fn add_cell(&mut self, at: Address, value: Value) -> Result<(), AllocError>
         requires { found_value self.old at ≡ None }
         ensures ok { OnOk result (IsWithCell self.old self.new at value) }
         ensures err { OnErr result (IsSame self.old self.new) }
@@ -128,7 +128,7 @@ impl Findings {
     }
 
     /// Adds a what-if's value, behind the others.
-    pub fn add_what_if(&mut self, found: FoundWhatIf) -> Result<(), AllocError>
+    pub(crate) fn add_what_if(&mut self, found: FoundWhatIf) -> Result<(), AllocError>
         ensures ok { OnOk result (IsWithWhatIf self.old self.new found) }
         ensures err { OnErr result (IsSame self.old self.new) }
     {

@@ -37,7 +37,7 @@ pub struct Frame<'a> {
 impl<'a> Frame<'a> {
     /// A frame with no values yet, in arrays out of which goes what was in them. Takes no memory. The work grows with the count
     /// of what goes.
-    pub fn new(key: Key, formula: &'a Formula, arrays: Arrays) -> Frame<'a>
+    pub(crate) fn new(key: Key, formula: &'a Formula, arrays: Arrays) -> Frame<'a>
         ensures key { result.key ≡ key }
         ensures formula { result.formula.now ≡ formula.now }
         ensures cells { (c : ℕ) → found_value result.found c ≡ None }
@@ -58,7 +58,7 @@ impl<'a> Frame<'a> {
     }
 
     /// The course through a rectangle. The work grows with the count of courses.
-    pub fn course_through(&self, rectangle: Rect) -> Option<Course>
+    pub(crate) fn course_through(&self, rectangle: Rect) -> Option<Course>
         ensures { IfSome result (λ c. Contains self.now.courses.items c
             × (c.rectangle ≡ rectangle)) }
     {
@@ -71,7 +71,7 @@ impl<'a> Frame<'a> {
     }
 
     /// Keeps a course, in the place of an earlier one through its rectangle. The work grows with the count of courses.
-    pub fn keep_course(&mut self, course: Course) -> Result<(), AllocError>
+    pub(crate) fn keep_course(&mut self, course: Course) -> Result<(), AllocError>
         ensures key { self.new.key ≡ self.old.key }
         ensures formula { self.new.formula.now ≡ self.old.formula.now }
         ensures found { self.new.found ≡ self.old.found }
@@ -88,7 +88,7 @@ impl<'a> Frame<'a> {
 
     /// The key, where the frame is done. Its arrays are put into a pool, or go. The work is that of `Pool::put`.
     #[inline(always)]
-    pub fn retire(self, pool: &mut Pool) -> Key
+    pub(crate) fn retire(self, pool: &mut Pool) -> Key
         ensures { result ≡ self.entry.key }
     {
         pool.put(Arrays {

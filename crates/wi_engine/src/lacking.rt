@@ -11,7 +11,7 @@ use wi_store::Store;
 use wi_values::{Address, Rect};
 
 /// Whether a frame lacks the value of a cell: it has a formula under the frame's replacements, and was not found.
-pub fn is_lacking(store: &Store, frame: &Frame, at: Address) -> bool
+pub(crate) fn is_lacking(store: &Store, frame: &Frame, at: Address) -> bool
     ensures { result ≡ lacks_cell store.now.sheet frame.now.key.world frame.now.found at }
 {
     formula_in(store, &frame.key.world, at).is_some() && frame.found.cell(at).is_none()
@@ -19,7 +19,12 @@ pub fn is_lacking(store: &Store, frame: &Frame, at: Address) -> bool
 
 /// The first cell of a rectangle after another whose value a frame lacks. The work is that of `next_within` for each occupied
 /// cell passed.
-pub fn next_lacking_in(store: &Store, frame: &Frame, area: Rect, after: Address) -> Option<Address>
+pub(crate) fn next_lacking_in(
+    store: &Store,
+    frame: &Frame,
+    area: Rect,
+    after: Address,
+) -> Option<Address>
     ensures some { IfSome result (λ c.
         lacking_after store.now.sheet frame.now.key.world frame.now.found area after
         ≡ c ∷ lacking_after store.now.sheet frame.now.key.world frame.now.found area c) }
@@ -39,7 +44,7 @@ pub fn next_lacking_in(store: &Store, frame: &Frame, area: Rect, after: Address)
 /// A cell, and behind it the next cells of a rectangle whose values a frame lacks: so many in all, or as many as there are. The
 /// work is that of `next_within` for each occupied cell of the rectangle from this one to the last that is listed, and to the
 /// end where fewer are left.
-pub fn with_next_lacking(
+pub(crate) fn with_next_lacking(
     alloc: Global,
     store: &Store,
     frame: &Frame,

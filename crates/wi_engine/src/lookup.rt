@@ -42,7 +42,7 @@ pub struct Known<'a> {
 
 impl<'a> Known<'a> {
     /// What is known with these values found.
-    pub fn new(store: &'a Store, world: &'a World, found: &'a Findings) -> Known<'a>
+    pub(crate) fn new(store: &'a Store, world: &'a World, found: &'a Findings) -> Known<'a>
         requires right { AreAllRight (show.cell_value (put_all store.now.sheet world.now))
             (show.what_if_value (put_all store.now.sheet world.now)) found.now }
         ensures store { result.store.now ≡ store.now }

@@ -9,7 +9,7 @@ use wi_store::Store;
 use wi_values::{Address, Rect};
 
 /// The first occupied cell of a rectangle after the one looked at last. The work is that of `Store::next_occupied`.
-pub fn next_within(store: &Store, area: Rect, after: Option<Address>) -> Option<Address>
+pub(crate) fn next_within(store: &Store, area: Rect, after: Option<Address>) -> Option<Address>
     ensures some { IfSome result (λ c. cells_after store.now.sheet area after
         ≡ c ∷ cells_after store.now.sheet area (Some c)) }
     ensures none { IfNone result (cells_after store.now.sheet area after ≡ []) }

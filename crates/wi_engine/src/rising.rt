@@ -37,7 +37,7 @@ impl Model for Rising {
 
 impl Rising {
     /// No values. Takes no memory.
-    pub fn new(alloc: Global) -> Rising
+    pub(crate) fn new(alloc: Global) -> Rising
         ensures { result ≡ [] }
     {
         Rising {
@@ -54,7 +54,7 @@ impl Rising {
     }
 
     /// The value of a cell. The work grows with the logarithm of the count of values.
-    pub fn value(&self, at: Address) -> Option<&Value>
+    pub(crate) fn value(&self, at: Address) -> Option<&Value>
         ensures { option_copied result ≡ lookup (is_at (nat_cmp at)) self.now }
     {
         let all = self.cells();
@@ -65,7 +65,7 @@ impl Rising {
     }
 
     /// Whether a cell comes after all of these.
-    pub fn ends_before(&self, at: Address) -> bool
+    pub(crate) fn ends_before(&self, at: Address) -> bool
         ensures { result ≡ true → All (λ e. e.0 < at) self.now }
     {
         match self.cells.last() {
@@ -75,19 +75,19 @@ impl Rising {
     }
 
     /// Whether there are no values.
-    pub fn is_empty(&self) -> bool
+    pub(crate) fn is_empty(&self) -> bool
         ensures { result ≡ true → self.now ≡ [] }
     {
         self.cells.is_empty()
     }
 
     /// How many values there are.
-    pub fn count(&self) -> usize {
+    pub(crate) fn count(&self) -> usize {
         self.cells.len()
     }
 
     /// Adds the value of a cell that comes after all of these.
-    pub fn push(&mut self, at: Address, value: Value) -> Result<(), AllocError>
+    pub(crate) fn push(&mut self, at: Address, value: Value) -> Result<(), AllocError>
         requires { All (λ e. e.0 < at) self.old }
         ensures ok { OnOk result (self.new ≡ self.old ++ (at, value) ∷ []) }
         ensures err { OnErr result (self.new ≡ self.old) }
@@ -97,7 +97,7 @@ impl Rising {
     }
 
     /// Takes the values away, and keeps the memory. The work grows with the count of values.
-    pub fn clear(&mut self)
+    pub(crate) fn clear(&mut self)
         ensures { self.new ≡ [] }
     {
         self.cells.clear();

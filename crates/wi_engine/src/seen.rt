@@ -19,7 +19,7 @@ pub enum Seen<'a> {
 
 /// What stands in a cell under the replacements of a world. The work grows with the logarithms of the counts of
 /// replacements and of occupied cells.
-pub fn content_in<'a>(store: &'a Store, world: &'a World, at: Address) -> Seen<'a>
+pub(crate) fn content_in<'a>(store: &'a Store, world: &'a World, at: Address) -> Seen<'a>
     ensures { content_seen result ≡ content_of (put_all store.now.sheet world.now) at }
 {
     match replaced(world, at) {
@@ -29,7 +29,7 @@ pub fn content_in<'a>(store: &'a Store, world: &'a World, at: Address) -> Seen<'
 }
 
 /// The formula that a cell has under the replacements of a world, if it has one. The work is that of `content_in`.
-pub fn formula_in<'a>(store: &'a Store, world: &World, at: Address) -> Option<&'a Formula>
+pub(crate) fn formula_in<'a>(store: &'a Store, world: &World, at: Address) -> Option<&'a Formula>
     ensures found { IfSome result (λ f. content_of (put_all store.now.sheet world.now) at
         ≡ Some (Content.Formula f.now)) }
     ensures none { IfNone result
@@ -42,7 +42,7 @@ pub fn formula_in<'a>(store: &'a Store, world: &World, at: Address) -> Option<&'
 }
 
 /// The value that is put into a cell, if one is. The work grows with the logarithm of the count of replacements.
-pub fn replaced(world: &World, at: Address) -> Option<&Value>
+pub(crate) fn replaced(world: &World, at: Address) -> Option<&Value>
     ensures some { IfSome result (λ v. (s : Sheet)
         → content_of (put_all s world.now) at ≡ constant v.now) }
     ensures none { IfNone result ((s : Sheet)
@@ -54,7 +54,7 @@ pub fn replaced(world: &World, at: Address) -> Option<&Value>
 }
 
 /// What a cell has where a constant is put.
-pub fn constant(value: &Value) -> Seen<'_>
+pub(crate) fn constant(value: &Value) -> Seen<'_>
     ensures { content_seen result ≡ constant value.now }
 {
     match value {
@@ -67,7 +67,7 @@ pub fn constant(value: &Value) -> Seen<'_>
 }
 
 /// What stands in a cell.
-pub fn stored(store: &Store, at: Address) -> Seen<'_>
+pub(crate) fn stored(store: &Store, at: Address) -> Seen<'_>
     ensures { content_seen result ≡ content_of store.now.sheet at }
 {
     match store.get(at) {
@@ -77,7 +77,7 @@ pub fn stored(store: &Store, at: Address) -> Seen<'_>
 }
 
 /// A content, as it is seen.
-pub fn as_seen(content: &Content) -> Seen<'_>
+pub(crate) fn as_seen(content: &Content) -> Seen<'_>
     ensures { content_seen result ≡ Some content.now }
 {
     match content {
@@ -87,7 +87,7 @@ pub fn as_seen(content: &Content) -> Seen<'_>
 }
 
 /// The formula in a cell, if it has one.
-pub fn formula_at(store: &Store, at: Address) -> Option<&Formula>
+pub(crate) fn formula_at(store: &Store, at: Address) -> Option<&Formula>
     ensures found { IfSome result (λ f.
         content_of store.now.sheet at ≡ Some (Content.Formula f.now)) }
     ensures none { IfNone result (has_formula (content_of store.now.sheet at) ≡ false) }

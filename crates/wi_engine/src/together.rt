@@ -30,7 +30,7 @@ pub struct Batch {
 /// The cells that are to be found together with one that a frame's formula lacks, that one first. They lie in the smallest of
 /// the formula's rectangles that hold it. The work grows with the count of the formula's rectangles, and as that of
 /// `next_lacking_in` and of `with_next_lacking`.
-pub fn together(
+pub(crate) fn together(
     alloc: Global,
     store: &Store,
     frame: &Frame,
@@ -110,7 +110,7 @@ fn is_next(store: &Store, frame: &Frame, course: &Course, way: Way, at: Address)
 
 /// The one of rectangles that holds a cell and has the fewest cells, the first where more have as few. The work grows
 /// with their count.
-pub fn smallest_with(rectangles: &[Rect], at: Address) -> Rect
+pub(crate) fn smallest_with(rectangles: &[Rect], at: Address) -> Rect
     requires { list_any (λ r. is_within r at) rectangles.now ≡ true }
     ensures { IsSmallestWith rectangles.now at result }
 {

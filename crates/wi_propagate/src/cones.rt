@@ -20,7 +20,7 @@ const MOST_CONES: usize = 64;
 /// Takes the cones out for a question, where questions have had at most so many replaced cells: none where they are more than
 /// it takes over. Takes no memory.
 #[tactic(auto, using(crate::proofs::KeptCones::none_told))]
-pub fn take_cones(alloc: Global, widest: usize, cones: &mut Reaches) -> Reaches
+pub(crate) fn take_cones(alloc: Global, widest: usize, cones: &mut Reaches) -> Reaches
     ensures { (s : Sheet) → AreAllCones s cones.old → AreAllCones s result }
 {
     let taken = mem::replace(cones, Reaches::new(alloc));
@@ -31,7 +31,7 @@ pub fn take_cones(alloc: Global, widest: usize, cones: &mut Reaches) -> Reaches
 }
 
 /// Lets the cones go over the edit that is staged if after it some cell reads other cells than before. Takes no memory.
-pub fn keep_over_edit(alloc: Global, graph: &Graph, cones: &mut Reaches)
+pub(crate) fn keep_over_edit(alloc: Global, graph: &Graph, cones: &mut Reaches)
     ensures { (s t : Sheet) → AreEdgesOf graph.now.now s
         → IfSome graph.now.staged (λ es. AreEdgesOf es t)
         → AreAllCones s cones.old → AreAllCones t cones.new }
@@ -46,7 +46,7 @@ pub fn keep_over_edit(alloc: Global, graph: &Graph, cones: &mut Reaches)
 
 /// Adds the cones of the replaced cells that have none yet. The work for each is that of its cone; where all have one it is
 /// that of `knows_all`. If memory runs out, those added so far stay.
-pub fn add_cones(graph: &Graph, world: &World, cones: &mut Reaches) -> Result<(), AllocError>
+pub(crate) fn add_cones(graph: &Graph, world: &World, cones: &mut Reaches) -> Result<(), AllocError>
     requires { graph.now.staged ≡ None }
     ensures cones { (s : Sheet) → AreEdgesOf graph.now.now s → AreAllCones s cones.old
         → AreAllCones s cones.new }

@@ -50,7 +50,7 @@ impl Model for Generations {
 
 impl Generations {
     /// No edits yet. Takes no memory.
-    pub fn new(alloc: Global) -> Generations
+    pub(crate) fn new(alloc: Global) -> Generations
         ensures { result ≡ record { named = []; noted = []; owed = [] } }
     {
         Generations {
@@ -62,7 +62,7 @@ impl Generations {
     }
 
     /// What is noted of a cell: its generation, where none is owed.
-    pub fn generation_of(&self, at: Address) -> u64
+    pub(crate) fn generation_of(&self, at: Address) -> u64
         ensures { result ≡ noted_in self.now.named self.now.noted at }
     {
         greater(number_at(&self.named, at), number_at(&self.noted, at))
@@ -70,7 +70,7 @@ impl Generations {
 
     /// Makes room for the number of an edit of these cells, and owes it where some formula reads one of them. The work is
     /// that of `any_is_read`. If memory runs out, some may be owed; after an edit that is refused, its cells stay owed.
-    pub fn owe(&mut self, graph: &Graph, cells: &[Address]) -> Result<(), AllocError>
+    pub(crate) fn owe(&mut self, graph: &Graph, cells: &[Address]) -> Result<(), AllocError>
         requires { graph.now.staged ≡ None }
         ensures named { (c : ℕ) → generation_in self.new.named c ≡ generation_in self.old.named c }
         ensures noted { self.new.noted ≡ self.old.noted }
@@ -87,7 +87,7 @@ impl Generations {
     }
 
     /// An edit of this number named these cells. Takes no memory.
-    pub fn name(&mut self, cells: &[Address], edit: u64)
+    pub(crate) fn name(&mut self, cells: &[Address], edit: u64)
         requires { (c : ℕ) → is_one_of cells.now c ≡ true → HasGeneration self.old.named c }
         ensures named { (c : ℕ) → generation_in self.new.named c
             ≡ (if is_one_of cells.now c then edit else generation_in self.old.named c) }
@@ -99,7 +99,7 @@ impl Generations {
 
     /// Notes what is owed. The work is that of the cone of what is owed, of a sort, and of a search for readers for each owed cell. If memory
     /// runs out, all is owed still.
-    pub fn settle(&mut self, graph: &Graph) -> Result<(), AllocError>
+    pub(crate) fn settle(&mut self, graph: &Graph) -> Result<(), AllocError>
         requires staged { graph.now.staged ≡ None }
         requires owed { (s : Sheet) → AreEdgesOf graph.now.now s
             → AreOwed s (generation_in self.old.named)
@@ -139,21 +139,21 @@ fn owe_read(generations: &mut Numbers, graph: &Graph, cells: &[Address]) -> Resu
 }
 
 /// The number of a cell.
-pub fn number_at(numbers: &Numbers, at: Address) -> u64
+pub(crate) fn number_at(numbers: &Numbers, at: Address) -> u64
     ensures { result ≡ generation_in numbers.now.entries at }
 {
     numbers.get(at).copied().unwrap_or(0)
 }
 
 /// The greater of two numbers.
-pub fn greater(a: u64, b: u64) -> u64
+pub(crate) fn greater(a: u64, b: u64) -> u64
     ensures { result ≡ max a b }
 {
     if a < b { b } else { a }
 }
 
 /// Makes room for the numbers of these cells: each that has none gets 0. If memory runs out, the rooms made so far stay.
-pub fn make_room(generations: &mut Numbers, cells: &[Address]) -> Result<(), AllocError>
+pub(crate) fn make_room(generations: &mut Numbers, cells: &[Address]) -> Result<(), AllocError>
     ensures same { (c : ℕ)
         → generation_in generations.new.entries c ≡ generation_in generations.old.entries c }
     ensures stay { (c : ℕ) → HasGeneration generations.old.entries c

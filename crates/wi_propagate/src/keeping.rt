@@ -69,7 +69,7 @@ impl<'a> Model for Keeping<'a> {
 
 impl<'a> Keeping<'a> {
     /// What is kept, with nothing given up yet, and the cones that are known. Takes no memory.
-    pub fn new(
+    pub(crate) fn new(
         alloc: Global,
         store: &'a Store,
         graph: &'a Graph,
@@ -106,7 +106,7 @@ impl<'a> Keeping<'a> {
     }
 
     /// What is kept for longer, which is no more than there is room for, and the cones that are known.
-    pub fn into_parts(self) -> (Kept, Reaches)
+    pub(crate) fn into_parts(self) -> (Kept, Reaches)
         ensures kept { result.0 ≡ self.entry.values }
         ensures within { length result.0.entries ≤ result.0.capacity }
         ensures right { IsKeepingRight self.entry }

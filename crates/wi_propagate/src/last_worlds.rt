@@ -17,7 +17,7 @@ pub struct LastWorlds {
 
 impl LastWorlds {
     /// None yet. Takes no memory.
-    pub fn new(alloc: Global) -> LastWorlds
+    pub(crate) fn new(alloc: Global) -> LastWorlds
         ensures { result ≡ record { last = []; before = [] } }
     {
         LastWorlds {
@@ -29,7 +29,7 @@ impl LastWorlds {
     /// These replacements, which stand in order. They are compared with those of the last two questions, texts byte by byte, and
     /// shared with the question that had the same, which takes no memory. Else they are copied, texts too, and hashed, and the
     /// work for each grows with the logarithm of their count.
-    pub fn world_for(&self, alloc: Global, put: &[Replacement]) -> Result<World, AllocError>
+    pub(crate) fn world_for(&self, alloc: Global, put: &[Replacement]) -> Result<World, AllocError>
         requires { IsInOrder put.now }
         ensures { IfOk result (λ w. w ≡ put.now) }
     {
@@ -43,7 +43,7 @@ impl LastWorlds {
     }
 
     /// Keeps the replacements of one question more, in the place of those of the last but one. Takes no memory.
-    pub fn keep(&mut self, world: World)
+    pub(crate) fn keep(&mut self, world: World)
         ensures { self.new ≡ record { last = world; before = self.old.last } }
     {
         self.before = mem::replace(&mut self.last, world);

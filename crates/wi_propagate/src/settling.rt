@@ -37,7 +37,7 @@ impl<'a> Watch for Seen<'a> {
 
 /// Notes of each cell that reaches some of those that are owed the greatest of their numbers, and none is owed then. If memory runs out,
 /// they are owed still.
-pub fn settle_all(
+pub(crate) fn settle_all(
     alloc: Global,
     graph: &Graph,
     named: &Numbers,

@@ -15,7 +15,7 @@ use wi_worlds::value_at;
 
 /// What a cell shows that has no formula and is not replaced, and of any other none. The work grows with the logarithms of the
 /// count of replacements and of the count of occupied cells.
-pub fn standing_value(
+pub(crate) fn standing_value(
     alloc: Global,
     store: &Store,
     put: &[Replacement],

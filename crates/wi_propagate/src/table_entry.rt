@@ -27,7 +27,7 @@ use wi_worlds::World;
 /// these values are taken before any is put, and of two pairs for one input the later counts. A formula is evaluated once for
 /// each list of replacements of cells that its cell reaches under which its value is asked for, for whichever of these cells.
 /// What is found is forgotten at the end.
-pub fn table_entry(
+pub(crate) fn table_entry(
     alloc: Global,
     store: &Store,
     put: &[Replacement],
@@ -76,7 +76,7 @@ fn valued_cells(
 }
 
 /// What an entry of a data table shows where none of the cells is circular whose values are asked for.
-pub fn open_entry<M: Memo + Drop>(
+pub(crate) fn open_entry<M: Memo + Drop>(
     question: &mut Question<M>,
     store: &Store,
     world: &World,

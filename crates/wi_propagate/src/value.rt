@@ -16,7 +16,7 @@ use wi_worlds::World;
 /// What a cell shows under replacements, which stand in the order of their addresses, one for each. A formula is evaluated once
 /// for each list of replacements of cells that its cell reaches under which its value is asked for. What is found is
 /// forgotten at the end.
-pub fn shown(
+pub(crate) fn shown(
     alloc: Global,
     store: &Store,
     put: &[Replacement],
