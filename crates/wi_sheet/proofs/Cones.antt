@@ -37,7 +37,7 @@ filter_alike f g h (r ∷ rs) =
     ap (λ (b : Bool). cond b (r ∷ filter (λ x. f x.at) rs) (filter (λ x. f x.at) rs)) (h r.at)
     ∙ ap (λ (xs : List Replacement). cond (g r.at) (r ∷ xs) xs) (filter_alike f g h rs)
 
--- so the replacements that reach a cell are the same
+-- so the replacements of cells that a cell reaches are the same
 pub outside_reaching : (s t : Sheet) (xs : List ℕ) (c : ℕ) (w : List Replacement) → SameOff s t xs → (IsInCone s xs c → ⊥) → reaching s c w ≡ reaching t c w
 outside_reaching s t xs c w same out = filter_alike (reaches s c) (reaches t c) (λ a. outside_reaches s t xs c a same out) w
 

@@ -1,4 +1,4 @@
--- Nothing is lost where the replacements of a case are limited to those that reach its cell.
+-- Nothing is lost where the replacements of a case are limited to those of cells that its cell reaches.
 use Rattle.std.proofs.Common.{◌≡◌, ℕ, Bool, true, false, cond, List, [], ◌∷◌, Option, Some, None, refl, ap, ◌∙◌}
 use Rattle.std.specs.List.{flat_map}
 use Rattle.wi_values.specs.declared.replacement.Replacement.{Replacement}

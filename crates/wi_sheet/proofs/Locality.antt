@@ -49,7 +49,7 @@ shown_same s t p q c a b =
     ap (λ (x : Bool). cond x (Fault Circular) (cell_value (put_all s p) c)) (circular_same s t c a)
     ∙ ap (λ (v : Value). cond (circular t c) (Fault Circular) v) (value_same (put_all s p) (put_all t q) c (agree_put_both s t p q c b))
 
--- ---- replacements that do not reach a cell
+-- ---- replacements of cells that are no precedents of a cell
 
 pub keeps_those : (keep : ℕ → Bool) (p : List Replacement) (d : ℕ) (o : Option Content) → keep d ≡ true → overlaid (filter (λ r. keep r.at) p) d o ≡ overlaid p d o
 keeps_those keep [] d o h = refl

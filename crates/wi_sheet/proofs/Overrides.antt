@@ -91,7 +91,7 @@ with_what_if_value s w f pairs h =
     let rs = replacements (cell_value (put_all s w)) pairs in
     value_same (put_all s (puts_of (overridden (as_map w) rs))) (put_all (put_all s w) rs) f (λ d r. override_content s w rs h d)
 
--- a cell's value under replacements is the one under those alone that reach it
+-- a cell's value under replacements is the one under those alone of cells that it reaches
 pub reaching_suffices : (s : Sheet) (w : List Replacement) (c : ℕ) → cell_value (put_all s (reaching s c w)) c ≡ cell_value (put_all s w) c
 reaching_suffices s w c = others_do_not_count s w c (reaches s c) (true_reaches s c)
 

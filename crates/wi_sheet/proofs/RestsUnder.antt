@@ -1,4 +1,4 @@
--- What a formula's value rests on, under those replacements alone that reach its cell.
+-- What a formula's value rests on, under those replacements alone of cells that its cell reaches.
 use Rattle.std.proofs.Common.{◌≡◌, ◌==◌, ℕ, true, List, ◌++◌, map, Some, ap, ◌∙◌}
 use Rattle.std.specs.List.{list_any}
 use Rattle.wi_values.specs.declared.replacement.Replacement.{Replacement}
@@ -34,7 +34,7 @@ same_rests s c w t h k =
     (map_same (what_if_case s (reaching s c w)) (what_if_case s w) (what_ifs_of t) (λ x i.
     what_if_case_below s w c x h (k x.0 (what_if_reads t x (contains_in (what_ifs_of t) x i))) (λ a m. k a (here_reads t a (replacing_read t x a i m)))))
 
--- under those replacements alone that reach it, a cell has the same formula, which rests on the same cases
+-- under those replacements alone of cells that it reaches, a cell has the same formula, which rests on the same cases
 pub rests_stay : (s : Sheet) (w : List Replacement) (c : ℕ) (t : Tree) → IsInOrder w → content_of (put_all s w) c ≡ Some (Formula t) →
     (content_of (put_all s (reaching s c w)) c ≡ Some (Formula t)) × (rests_on s (reaching s c w) t ≡ rests_on s w t)
 rests_stay s w c t h e = (content_below s c w ∙ e, same_rests s c w t h (λ a r. reaches_read s c a (put_reads s w c a (tree_reads (put_all s w) c t a e r))))

@@ -72,7 +72,7 @@ nested_what_if : shown sheet [] d1 ≡ Text (codes "x!")
 unfolding on_literals
 nested_what_if = refl
 
--- D1 asks for C1 with A1's value in A2, and that for B1 with it in A1: what is put into A2 doesn't reach B1
+-- D1 asks for C1 with A1's value in A2, and that for B1 with it in A1: B1 doesn't reach A2
 demand_of_what_if : demand sheet (d1, []) ≡ (d1, []) ∷ (c1, by a2 (codes "x") ∷ []) ∷ (b1, by a1 (codes "x") ∷ []) ∷ []
 unfolding on_literals
 demand_of_what_if = refl

@@ -1,4 +1,4 @@
--- What is left of replacements where those that do not reach a cell are left out.
+-- What is left of replacements where those of cells that a cell does not reach are left out.
 use Rattle.std.proofs.Common.{◌≡◌, ◌==◌, ℕ, Bool, true, false, cond, List, [], ◌∷◌, filter, Option, None, refl, ap, sym, ◌∙◌}
 use Rattle.std.specs.List.{list_any}
 use Rattle.std.specs.Option.{option_or}
@@ -29,7 +29,7 @@ filter_through f g h (r ∷ rs) = by (f r.at) (g r.at) refl refl (filter_through
     by false true e k ih = rw e ih
     by false false e k ih = ih
 
--- those that reach a cell below are still there
+-- those of cells that a precedent reaches are still there
 pub reaching_below : (s : Sheet) (c d : ℕ) (w : List Replacement) → reaches s c d ≡ true → reaching s d (reaching s c w) ≡ reaching s d w
 reaching_below s c d w r = filter_through (reaches s d) (reaches s c) (λ a h. reaches_on s c d a r h) w
 
@@ -58,7 +58,7 @@ what_if_replaced s w pairs h a =
 reaching_replaced : (s : Sheet) (c a : ℕ) (w : List Replacement) → reaches s c a ≡ true → replaced (reaching s c w) a ≡ replaced w a
 reaching_replaced s c a w r = replaced-filter (reaches s c) a w ∙ ap (λ (b : Bool). cond b (replaced w a) None) r
 
--- a what-if that reads cells below has the same replacements that reach its formula cell
+-- a what-if that reads precedents has the same replacements of cells that its formula cell reaches
 pub what_if_below : (s : Sheet) (c f : ℕ) (w : List Replacement) (pairs : List (ℕ × ℕ)) → IsInOrder w → reaches s c f ≡ true →
     ((a : ℕ) → list_any (λ p. p.1 == a) pairs ≡ true → reaches s c a ≡ true) → reaching s f (with_what_if s (reaching s c w) pairs) ≡ reaching s f (with_what_if s w pairs)
 what_if_below s c f w pairs h r k =

@@ -16,8 +16,8 @@ DemandByStep = (s : Sheet) (k : Case) (t : Tree) → circular s k.0 ≡ false �
     demand s k ≡ k ∷ flat_map (demand s) (rests_on s k.1 t)
 
 -- With the replacements in order, one for each address, what a cell demands is told by them as they are, though each case has
--- only those that reach its cell: nothing where the cell is circular or has no formula under them, and else its case, what
--- the cells demand that the formula reads, and what the formula cells of its what-ifs demand, with those put in.
+-- only those of its cell and its precedents at any remove: nothing where the cell is circular or has no formula under them, and
+-- else its case, what the cells demand that the formula reads, and what the formula cells of its what-ifs demand, with those put in.
 abbrev pub DemandUnderReplacements : Type 0
 DemandUnderReplacements = (s : Sheet) (w : List Replacement) (c : ℕ) → IsInOrder w →
     demand s (case_of s w c) ≡ (if circular s c then [] else of_formula (content_of (put_all s w) c) [] (λ t. case_of s w c ∷ flat_map (demand s) (rests_on s w t)))

@@ -1,4 +1,4 @@
--- The replacements that reach a cell.
+-- The replacements of cells that a cell reaches, by cones: the dependents of each replaced cell at any remove.
 use Rattle.std.specs.Prelude.{ℕ, Bool, false, Option, Some, None}
 use Rattle.std.specs.Ordering.{nat_cmp}
 use Rattle.std.specs.BTreeMap.{BTreeMap, get}

@@ -31,7 +31,7 @@ unvalued s m n w a k h r f en ec ew eg u x =
       };
     }
 
--- the formula in a cell under replacements stands there under those that reach the cell
+-- the formula in a cell under replacements stands there under those of cells that the cell reaches
 pub stands_below : (s : Sheet) (m : MemoState) (w : List Replacement) (a : ℕ) (k : Key) (t : Tree) → IsMemoOf s m → k.cell ≡ a → k.world ≡ reaching m.sheet a w → content_of (put_all s w) a ≡ Some (Formula t) → StandsAt s k t
 stands_below s m w a k t h ec ew e =
     let there : k.world ≡ reaching s a w = ew ∙ ap (λ (x : Sheet). reaching x a w) h.sheet in
