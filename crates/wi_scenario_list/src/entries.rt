@@ -1,12 +1,12 @@
 //! Replacements as entries of a map.
 
 ghost use Rattle.std.specs.Prelude.{◌≡◌, IfOk, OnOk};
-ghost use Rattle.wi_values.specs.Replacements.{IsInOrder, as_map, overridden};
+ghost use Rattle.wi_values.specs.Replacements.{IsInOrder, overridden};
 ghost use Rattle.wi_scenario_list.specs.Inner.Parts.{as_replacements};
 
 use std::alloc::{AllocError, Global};
 use std::collections::BTreeMap;
-use wi_values::{Address, Replacement, Value};
+use wi_values::{Address, Value};
 
 /// Values by addresses.
 pub(crate) type ValueMap = BTreeMap<Address, Value>;
@@ -46,16 +46,4 @@ pub(crate) fn with_entries(
     let mut all = map;
     put_in(alloc, &mut all, others)?;
     Ok(all)
-}
-
-/// The entries of a map as replacements, in row-major order.
-pub(crate) fn listed(alloc: Global, map: ValueMap) -> Result<Vec<Replacement>, AllocError>
-    ensures value { IfOk result (λ rs. as_map rs.items ≡ map.entries) }
-    ensures order { IfOk result (λ rs. IsInOrder rs.items) }
-{
-    let mut replacements = Vec::with_capacity(alloc, map.len())?;
-    for (at, value) in map {
-        replacements.push(Replacement { at, value })?;
-    }
-    Ok(replacements)
 }

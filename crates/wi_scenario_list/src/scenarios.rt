@@ -12,7 +12,7 @@ ghost use Rattle.wi_scenario_list.specs.Bases.{rests_on, is_base, is_name_of, ba
 ghost use Rattle.wi_scenario_list.specs.Inner.Held.{base_of, held, with_name};
 ghost use Rattle.wi_scenario_list.specs.declared.fault.ScenarioFault.TheVariants.{TooMany};
 
-use crate::entries::{ValueMap, listed, with_entries};
+use crate::entries::{ValueMap, with_entries};
 use crate::fault::ScenarioFault;
 use crate::layer::Layer;
 use indexmap::IndexMap;
@@ -21,6 +21,7 @@ use std::collections::BTreeMap;
 use std::marker::Model;
 use std::rc::RcStr;
 use wi_values::{Address, Replacement, Value};
+use wi_worlds::listed;
 
 /// The greatest count of scenarios.
 pub const MAX_SCENARIOS: usize = 64;

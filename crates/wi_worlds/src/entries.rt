@@ -37,7 +37,7 @@ pub(crate) fn put_in(
 }
 
 /// The entries of a map as replacements, in row-major order.
-pub(crate) fn listed(alloc: Global, map: ValueMap) -> Result<Vec<Replacement>, AllocError>
+pub fn listed(alloc: Global, map: BTreeMap<Address, Value>) -> Result<Vec<Replacement>, AllocError>
     ensures value { IfOk result (λ rs. as_map rs.items ≡ map.entries) }
     ensures order { IfOk result (λ rs. IsInOrder rs.items) }
 {

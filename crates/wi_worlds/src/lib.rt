@@ -10,6 +10,7 @@ mod reaches;
 mod rising;
 mod world;
 
+pub use entries::listed;
 pub use lookup::value_at;
 pub use reaches::Reaches;
 pub use world::World;
