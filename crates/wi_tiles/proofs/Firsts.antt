@@ -1,15 +1,17 @@
 -- The bits of a tile that have something, and the first of some bits.
 use Rattle.std.proofs.Common.{◌≡◌, ℕ, Option, Some, ◌^◌, ◌<◌, List, [], ◌∷◌, length, None, sym, arith, ◌∙◌, ⊎_elim, get_or, zero, suc, subst, refl}
-use Rattle.std.specs.Prelude.{slice_get, count_ones, IsSome, bit_and}
+use Rattle.std.specs.Prelude.{◌↔◌, IsTrue, ◌==◌, slice_get, count_ones, IsSome, bit_and}
 use Rattle.std.specs.Int.{bit_at, w64, trailing_zeros}
 use Rattle.std.proofs.lemmas.Nat.Bits.{bit_at-trailing_zeros}
+use Rattle.std.proofs.lemmas.Bool.{cases_eq}
+use borrow.Author.Tests.{eq-eqb, eqb-true}
 use mathlib.Core.Logic.{◌≢◌}
 use Rattle.wi_tiles.specs.Inner.Lines.{slot}
 use Rattle.wi_tiles.specs.Inner.Tile.{rank, slots}
 use Rattle.wi_tiles.specs.Inner.Within.{filled, IsFirstLeft}
 use Rattle.wi_tiles.proofs.MaskLemmas.{both_parts, both_from}
 use Rattle.wi_tiles.proofs.Ranks.{rank_below, rank_at_most}
-use Rattle.wi_tiles.proofs.Tiles.{at_zero, at_one, get-slots, bit_or_not}
+use Rattle.wi_tiles.proofs.Tiles.{at_zero, at_one, get-slots, bit_or_not, all_clear}
 
 is_some_within : {V : Type 0} (vs : List V) (r : ℕ) → r < length vs → IsSome (slice_get vs r)
 is_some_within [] r h = absurd (omega arith)
@@ -43,3 +45,13 @@ first_bit n ne below = bit_at-trailing_zeros w64 n (omega (arith, ne)) below
 
 pub first_value : {V : Type 0} (t : List (Option V)) (left place : ℕ) (v : V) → left ≢ 0 → left < 2 ^ 64 → filled t (trailing_zeros w64 left) ≡ place → slot t (trailing_zeros w64 left) ≡ Some v → IsFirstLeft t left (trailing_zeros w64 left) place v
 first_value t left place v ne below count is = let first = first_bit left ne below in record { within = first.0; set = first.1; first = first.2; before = count; value = is }
+
+-- a tile has no bits exactly where nothing stands
+no_bits : {V : Type 0} (n : ℕ) (vs : List V) → n < 2 ^ 64 → length vs ≡ count_ones n → ((i : ℕ) → get_or (slots n vs) i None ≡ None) → n ≡ 0
+no_bits {V} n vs below full nothing = ⊎_elim (λ e. e) (λ ne. absurd (some_bit ne)) (cases_eq n 0)
+  where
+    some_bit : n ≢ 0 → ⊥
+    some_bit ne = let first = first_bit n ne below in never V (subst (λ o. IsSome o) (nothing (trailing_zeros w64 n)) (one_there n vs (trailing_zeros w64 n) first.0 full first.1))
+
+pub bits_none : {V : Type 0} (n : ℕ) (vs : List V) → n < 2 ^ 64 → length vs ≡ count_ones n → IsTrue (n == 0) ↔ ((i : ℕ) → get_or (slots n vs) i None ≡ None)
+bits_none n vs below full = (λ t. all_clear n vs (eqb-true n 0 t), λ nothing. eq-eqb n 0 (no_bits n vs below full nothing))

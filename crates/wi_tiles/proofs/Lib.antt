@@ -4,6 +4,7 @@ pub mod CellLemmas
 pub mod Counts
 pub mod Digits
 pub mod EntryLemmas
+pub mod Filled
 pub mod Firsts
 pub mod Keys
 pub mod LineLemmas

@@ -1,6 +1,6 @@
 -- A clause of a part, carried over to the whole.
-use Rattle.std.proofs.Common.{Result, Ok, Err}
-use Rattle.std.specs.Prelude.{OnOk, OnErr}
+use Rattle.std.proofs.Common.{◌≡◌, Result, Ok, Err, true, false, arith}
+use Rattle.std.specs.Prelude.{Bool, IsTrue, OnOk, OnErr}
 
 pub on_ok : {A E P Q : Type 0} (r : Result A E) → (P → Q) → OnOk r P → OnOk r Q
 on_ok (Ok a) f p = f p
@@ -9,3 +9,11 @@ on_ok (Err e) f p = p
 pub on_err : {A E P Q : Type 0} (r : Result A E) → (P → Q) → OnErr r P → OnErr r Q
 on_err (Ok a) f p = p
 on_err (Err e) f p = f p
+
+pub either_way : {A E P Q R : Type 0} (r : Result A E) → (P → R) → (Q → R) → OnOk r P → OnErr r Q → R
+either_way (Ok a) f g p q = f p
+either_way (Err e) f g p q = g q
+
+pub not_both : (b : Bool) → b ≡ false → IsTrue b → ⊥
+not_both false e t = grind arith
+not_both true e t = grind arith

@@ -1,5 +1,5 @@
 -- What a change of one part, or a part more or less at an end, makes of all paths.
-use Rattle.std.proofs.Common.{◌≡◌, ℕ, ◌+◌, ◌-◌, ◌/◌, ◌%◌, ◌<◌, ◌≤◌, List, [], ◌∷◌, ◌++◌, length, Option, Some, None, sym, ap, arith, ◌∙◌, ⊎_elim, zero, suc, refl, cond}
+use Rattle.std.proofs.Common.{◌≡◌, ℕ, ◌+◌, ◌-◌, ◌*◌, ◌/◌, ◌%◌, ◌<◌, ◌≤◌, List, [], ◌∷◌, ◌++◌, length, Option, Some, None, sym, ap, arith, ◌∙◌, ⊎_elim, zero, suc, refl, cond}
 use Rattle.std.specs.Prelude.{slice_get, slice_set, slice_index_or, ◌==◌, if◌then◌else◌}
 use Rattle.std.proofs.lemmas.Bool.{cases_lt}
 use Rattle.std.proofs.lemmas.Option.{slice_get_read}
@@ -21,7 +21,7 @@ part_before f ts i l = ap (λ b. cond b None (slice_get ts (i - f))) (lt-ltb i f
 pub part_read : {S : Type 0} (f : ℕ) (ts : List S) (i place : ℕ) (before : S) → f ≤ i → place ≡ i - f → place < length ts → before ≡ slice_index_or ts place before → part_from (f, ts) i ≡ Some before
 part_read f ts i place before l is h read = part_here f ts i l ∙ ap (λ j. slice_get ts j) (sym is) ∙ slice_get_read ts (length ts) place before (λ _. length ts) h read
 
-get_past : {S : Type 0} (ts : List S) (i : ℕ) → length ts ≤ i → slice_get ts i ≡ None
+pub get_past : {S : Type 0} (ts : List S) (i : ℕ) → length ts ≤ i → slice_get ts i ≡ None
 get_past [] i h = refl
 get_past (t ∷ ts) zero h = absurd (omega arith)
 get_past (t ∷ ts) (suc i) h = get_past ts i (omega arith)
@@ -130,3 +130,34 @@ last_read [] x d zero h = refl
 last_read [] x d (suc n) h = absurd (omega arith)
 last_read (y ∷ xs) x d zero h = absurd (omega arith)
 last_read (y ∷ xs) x d (suc n) h = last_read xs x d n (omega arith)
+
+-- parts from a place on that have nothing, and one before it
+pub part_is : {S V : Type 0} (at : S → ℕ → Option V) (ts : List S) (n : ℕ) (x : S) (p : ℕ) → n < length ts → x ≡ slice_index_or ts n x → at_part at (slice_get ts n) p ≡ at x p
+part_is at ts n x p l read = ap (λ y. at_part at y p) (slice_get_read ts (length ts) n x (λ _. length ts) l read)
+
+pub nothing_from : {S V : Type 0} (at : S → ℕ → Option V) (ts : List S) (n : ℕ) (x : S) → n < length ts → x ≡ slice_index_or ts n x → ((p : ℕ) → at x p ≡ None) → ((i p : ℕ) → n + 1 ≤ i → at_part at (slice_get ts i) p ≡ None) → (i p : ℕ) → n ≤ i → at_part at (slice_get ts i) p ≡ None
+nothing_from at ts n x l read nothing behind i p h = ⊎_elim
+    (λ m. behind i p (omega arith))
+    (λ m. ap (λ j. at_part at (slice_get ts j) p) (let e : i ≡ n = omega arith in e) ∙ part_is at ts n x p l read ∙ nothing p)
+    (cases_lt n i)
+
+-- where no part has anything, no path has, and the other way round
+pub none_stand : {S V : Type 0} (at : S → ℕ → Option V) (f : ℕ) (ts : List S) → ((i p : ℕ) → at_part at (slice_get ts i) p ≡ None) → (p : ℕ) → at_window at (f, ts) p ≡ None
+none_stand at f ts nothing p = ⊎_elim
+    (λ l. ap (λ x. at_part at x (p / span)) (part_before f ts (p % span) l))
+    (λ l. ap (λ x. at_part at x (p / span)) (part_here f ts (p % span) l) ∙ nothing (p % span - f) (p / span))
+    (cases_lt (p % span) f)
+
+pub none_have : {S V : Type 0} (at : S → ℕ → Option V) (f : ℕ) (ts : List S) → f + length ts ≤ span → ((p : ℕ) → at_window at (f, ts) p ≡ None) → (i p : ℕ) → at_part at (slice_get ts i) p ≡ None
+none_have at f ts bound nothing i p = ⊎_elim within (λ l. ap (λ x. at_part at x p) (get_past ts i l)) (cases_lt i (length ts))
+  where
+    within : i < length ts → at_part at (slice_get ts i) p ≡ None
+    within l =
+        let path : ℕ = f + i + 256 * p in
+        let low : path % 256 ≡ f + i = omega (arith, bound, l) in
+        let high : path / 256 ≡ p = omega (arith, bound, l) in
+        sym (ap (λ k. at_part at (part_from (f, ts) k) (path / 256)) low
+        ∙ ap (λ x. at_part at x (path / 256)) (part_here f ts (f + i) (omega arith))
+        ∙ ap (λ k. at_part at (slice_get ts k) (path / 256)) (let e : f + i - f ≡ i = omega arith in e)
+        ∙ ap (λ k. at_part at (slice_get ts i) k) high)
+        ∙ nothing path

@@ -8,8 +8,7 @@ ghost use Rattle.wi_tiles.specs.Inner.Parts.{part_from, at_window, span};
 ghost use Rattle.wi_tiles.specs.Inner.Sorted.{at_sorted};
 
 use crate::places::Places;
-use crate::sorted::Sorted;
-use crate::tile::Tile;
+use crate::sorted::Band;
 use crate::window::Window;
 use std::alloc::{AllocError, Global};
 use std::marker::Model;
@@ -18,7 +17,7 @@ use std::marker::Model;
 /// seen as its bands.
 #[derive(Drop)]
 pub struct Page<V> {
-    bands: Window<Sorted<Tile<V>>>,
+    bands: Window<Band<V>>,
     columns: u64,
 }
 
@@ -36,7 +35,7 @@ impl<V> Model for Page<V> {
 
 impl<V> Page<V> {
     /// The band at an index.
-    pub fn band(&self, index: usize) -> Option<&Sorted<Tile<V>>>
+    pub fn band(&self, index: usize) -> Option<&Band<V>>
         ensures { option_copied result ≡ part_from self.now index }
     {
         self.bands.part(index)

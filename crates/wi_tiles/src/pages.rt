@@ -6,8 +6,7 @@ ghost use Rattle.wi_tiles.specs.Inner.Cells.{path_of};
 ghost use Rattle.wi_tiles.specs.Inner.Next.{band_at, IsStart};
 
 use crate::page::Page;
-use crate::sorted::Sorted;
-use crate::tile::Tile;
+use crate::sorted::Band;
 use crate::window::Window;
 use wi_values::{Address, Rect};
 
@@ -29,7 +28,7 @@ pub fn path_of(cell: Address) -> u64
 }
 
 /// The band of a row.
-pub fn band_of<V>(pages: &Pages<V>, row: u32) -> Option<&Sorted<Tile<V>>>
+pub fn band_of<V>(pages: &Pages<V>, row: u32) -> Option<&Band<V>>
     ensures { option_copied result ≡ band_at pages.now row }
 {
     match pages.part((row / 4_096) as usize) {

@@ -1,6 +1,6 @@
 //! What has something at some of its places.
 
-ghost use Rattle.std.specs.Prelude.{◌≡◌, ◌<◌, ◌==◌, ℕ, Option, Some, None, is_some, not, IsTrue, IfOk, OnOk, OnErr, option_copied, option_map, if◌then◌else◌};
+ghost use Rattle.std.specs.Prelude.{◌≡◌, ◌↔◌, ◌<◌, ◌==◌, ℕ, Option, Some, None, is_some, not, IsTrue, IfOk, OnOk, OnErr, option_copied, option_map, if◌then◌else◌};
 ghost use Rattle.std.specs.Option.{option_or};
 
 use std::alloc::{AllocError, Global};
@@ -17,9 +17,9 @@ pub trait Places<V> {
     fn vacant(alloc: Global) -> Self
         ensures { (p : ℕ) → at result p ≡ None };
 
-    /// Whether nothing is kept for any place, so that it may go.
+    /// Whether no place has anything, so that it may go.
     fn is_vacant(&self) -> bool
-        ensures { IsTrue result → (p : ℕ) → at self.now p ≡ None };
+        ensures { IsTrue result ↔ ((p : ℕ) → at self.now p ≡ None) };
 
     /// What a place has.
     fn get(&self, place: u64) -> Option<&V>

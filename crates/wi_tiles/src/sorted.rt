@@ -1,35 +1,40 @@
-//! Parts in order of their keys.
+//! The tiles of a band, in order of their groups of columns.
 
 ghost use Rattle.std.specs.Prelude.{◌≡◌, ◌<◌, ◌≤◌, ◌+◌, ◌*◌, ◌/◌, ◌%◌, ◌==◌, ℕ, length, true, Some, None, IsSome, IsTrue, OnOk, OnErr, IfOk, IfErr, option_copied, option_map, slice_index_or, if◌then◌else◌};
-ghost use Rattle.wi_tiles.specs.Inner.Sorted.{find, key, Rises, at_sorted, groups};
+ghost use Rattle.std.specs.List.{All, remove};
+ghost use Rattle.wi_tiles.specs.Inner.Lines.{slot};
+ghost use Rattle.wi_tiles.specs.Inner.Sorted.{find, key, Rises, at_sorted, groups, IsFilled};
 
 use crate::places::{Places, room_for_first};
+use crate::tile::Tile;
 use std::alloc::{AllocError, Global};
 use std::marker::Model;
 
 /// How many keys there may be.
 const GROUPS: u64 = 4_096;
 
-/// Parts in order of their keys, found by the first digit of a path.
+/// Tiles in order of their keys, found by the first digit of a path. Each has something.
 #[derive(Drop)]
-pub struct Sorted<T> {
-    parts: Vec<(u32, T)>,
+pub struct Band<V> {
+    parts: Vec<(u32, Tile<V>)>,
 }
 
-impl<T> Model for Sorted<T> {
-    ghost use Rattle.std.specs.Prelude.{ℕ, List};
-    ghost use Rattle.wi_tiles.specs.Inner.Sorted.{Rises};
+impl<V> Model for Band<V> {
+    ghost use Rattle.std.specs.List.{All};
+    ghost use Rattle.wi_tiles.specs.Inner.Cells.{Band};
+    ghost use Rattle.wi_tiles.specs.Inner.Lines.{slot};
+    ghost use Rattle.wi_tiles.specs.Inner.Sorted.{Rises, IsFilled};
 
-    ghost Value = { List (ℕ × T) };
+    ghost Value = { Band V };
 
-    ghost view = { λ s. s.parts.items };
+    ghost view = { λ b. b.parts.items };
 
-    ghost invariant = { λ s. Rises s.parts.items };
+    ghost invariant = { λ b. Rises b.parts.items × All (IsFilled slot) b.parts.items };
 }
 
-impl<T> Sorted<T> {
-    /// The parts with their keys, in order.
-    pub fn parts(&self) -> &[(u32, T)]
+impl<V> Band<V> {
+    /// The tiles with their keys, in order.
+    pub fn parts(&self) -> &[(u32, Tile<V>)]
         ensures parts { result.now ≡ self.now }
         ensures rises { Rises result.now }
     {
@@ -37,16 +42,17 @@ impl<T> Sorted<T> {
     }
 }
 
-impl<V: Drop, T: Places<V> + Drop> Places<V> for Sorted<T> {
+impl<V: Drop> Places<V> for Band<V> {
     ghost use Rattle.std.specs.Prelude.{◌*◌};
+    ghost use Rattle.wi_tiles.specs.Inner.Lines.{slot};
     ghost use Rattle.wi_tiles.specs.Inner.Sorted.{at_sorted, groups};
 
-    ghost size = { groups * T.size };
+    ghost size = { groups * 64 };
 
-    ghost at = { λ s p. at_sorted T.at s p };
+    ghost at = { λ b p. at_sorted slot b p };
 
-    fn vacant(alloc: Global) -> Sorted<T> {
-        Sorted {
+    fn vacant(alloc: Global) -> Band<V> {
+        Band {
             parts: Vec::new(alloc),
         }
     }
@@ -89,38 +95,40 @@ impl<V: Drop, T: Places<V> + Drop> Places<V> for Sorted<T> {
     }
 }
 
-/// Puts in a part with one value, at the place of its key. If memory runs out, all is as before.
-fn put_part<V: Drop, T: Places<V> + Drop>(
-    parts: &mut Vec<(u32, T)>,
+/// Puts in a tile with one value, at the place of its key. If memory runs out, all is as before.
+fn put_part<V: Drop>(
+    parts: &mut Vec<(u32, Tile<V>)>,
     place: usize,
     path: u64,
     value: V,
     alloc: Global,
 ) -> Result<bool, AllocError>
     requires rises { Rises parts.old.items }
-    requires within { path < groups * T.size }
+    requires within { path < groups * 64 }
     requires bound { place ≤ length parts.old.items }
     requires below { (i : ℕ) → i < place → key parts.old.items i < path % groups }
     requires above { (i : ℕ) → place ≤ i → i < length parts.old.items → path % groups < key parts.old.items i }
     ensures rises { Rises parts.new.items }
+    ensures filled { All (IsFilled slot) parts.old.items → All (IsFilled slot) parts.new.items }
     ensures new { IfOk result (λ new. new ≡ true) }
-    ensures ok { OnOk result ((p : ℕ) → at_sorted T.at parts.new.items p
-        ≡ (if p == path then Some value else at_sorted T.at parts.old.items p)) }
-    ensures err { OnErr result ((p : ℕ) → at_sorted T.at parts.new.items p ≡ at_sorted T.at parts.old.items p) }
+    ensures ok { OnOk result ((p : ℕ) → at_sorted slot parts.new.items p
+        ≡ (if p == path then Some value else at_sorted slot parts.old.items p)) }
+    ensures err { OnErr result ((p : ℕ) → at_sorted slot parts.new.items p ≡ at_sorted slot parts.old.items p) }
 {
-    let mut part = T::vacant(alloc);
+    let mut part = Tile::vacant(alloc);
     part.put_new(path / GROUPS, value, alloc)?;
     room_for_first(parts)?;
     parts.insert(place, ((path % GROUPS) as u32, part))?;
     Ok(true)
 }
 
-/// Takes away a part that has nothing.
-fn drop_vacant<V, T: Places<V> + Drop>(parts: &mut Vec<(u32, T)>, place: usize)
+/// Takes away a tile that has nothing.
+fn drop_vacant<V: Drop>(parts: &mut Vec<(u32, Tile<V>)>, place: usize)
     requires rises { Rises parts.old.items }
     requires within { place < length parts.old.items }
     ensures rises { Rises parts.new.items }
-    ensures kept { (p : ℕ) → at_sorted T.at parts.new.items p ≡ at_sorted T.at parts.old.items p }
+    ensures filled { key parts.old.items place < groups → All (IsFilled slot) (remove parts.old.items place) → All (IsFilled slot) parts.new.items }
+    ensures kept { (p : ℕ) → at_sorted slot parts.new.items p ≡ at_sorted slot parts.old.items p }
 {
     if parts[place].1.is_vacant() {
         let _ = parts.remove(place);

@@ -1,6 +1,6 @@
 //! Something for each of some of 64 cells.
 
-ghost use Rattle.std.specs.Prelude.{◌≡◌, ◌<◌, ◌≤◌, ◌+◌, ◌*◌, ◌%◌, ◌==◌, if◌then◌else◌, ◌^◌, ℕ, Some, None, IsSome, IsTrue, OnOk, OnErr, option_copied, option_map, slice_index_or, slice_set};
+ghost use Rattle.std.specs.Prelude.{◌≡◌, ◌↔◌, ◌<◌, ◌≤◌, ◌+◌, ◌*◌, ◌%◌, ◌==◌, if◌then◌else◌, ◌^◌, ℕ, Some, None, IsSome, IsTrue, OnOk, OnErr, option_copied, option_map, slice_index_or, slice_set};
 ghost use Rattle.std.specs.Int.{bit_at};
 ghost use Rattle.wi_tiles.specs.Inner.Tile.{rank};
 ghost use Rattle.wi_tiles.specs.Inner.Within.{filled};
@@ -41,7 +41,7 @@ impl<V> Tile<V> {
 
     /// Whether no bit has anything.
     fn has_nothing(&self) -> bool
-        ensures { IsTrue result → (i : ℕ) → slice_index_or self.now i None ≡ None }
+        ensures { IsTrue result ↔ ((i : ℕ) → slice_index_or self.now i None ≡ None) }
     {
         self.bits == 0
     }

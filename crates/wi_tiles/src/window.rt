@@ -1,7 +1,7 @@
 //! Parts by their index, from a first one on.
 
-ghost use Rattle.std.specs.Prelude.{◌≡◌, ◌<◌, ◌≤◌, ◌+◌, ◌-◌, ◌*◌, ◌%◌, ◌==◌, ◌++◌, ◌∷◌, [], ℕ, List, length, Some, None, IfSome, IfNone, IsTrue, IfOk, OnOk, OnErr, option_copied, option_map, if◌then◌else◌};
-ghost use Rattle.wi_tiles.specs.Inner.Parts.{part_from, at_window, span};
+ghost use Rattle.std.specs.Prelude.{◌≡◌, ◌↔◌, ◌<◌, ◌≤◌, ◌+◌, ◌-◌, ◌*◌, ◌%◌, ◌==◌, ◌++◌, ◌∷◌, [], ℕ, List, length, Some, None, slice_get, IfSome, IfNone, IsTrue, IfOk, OnOk, OnErr, option_copied, option_map, if◌then◌else◌};
+ghost use Rattle.wi_tiles.specs.Inner.Parts.{at_part, part_from, at_window, span};
 
 use crate::places::{Places, room_for_first};
 use std::alloc::{AllocError, Global};
@@ -19,11 +19,14 @@ pub struct Window<T> {
 }
 
 impl<T> Model for Window<T> {
-    ghost use Rattle.std.specs.Prelude.{ℕ, List};
+    ghost use Rattle.std.specs.Prelude.{ℕ, List, ◌≤◌, ◌+◌, length};
+    ghost use Rattle.wi_tiles.specs.Inner.Parts.{span};
 
     ghost Value = { ℕ × List T };
 
     ghost view = { λ w. (w.first, w.parts.items) };
+
+    ghost invariant = { λ w. w.first + length w.parts.items ≤ span };
 }
 
 impl<T> Window<T> {
@@ -47,11 +50,7 @@ impl<T> Window<T> {
         ensures within { result ≤ span }
         ensures gap { (i : ℕ) → index ≤ i → i < result → part_from self.now i ≡ None }
     {
-        if index < self.first {
-            self.first.min(256)
-        } else {
-            256
-        }
+        if index < self.first { self.first } else { 256 }
     }
 }
 
@@ -80,7 +79,7 @@ impl<V: Drop, T: Places<V> + Drop> Places<V> for Window<T> {
     }
 
     fn is_vacant(&self) -> bool {
-        self.parts.is_empty()
+        are_vacant(&self.parts)
     }
 
     fn get(&self, path: u64) -> Option<&V> {
@@ -132,6 +131,21 @@ fn place_in<T>(first: usize, parts: &[T], index: usize) -> Option<usize>
     Some(place)
 }
 
+/// Whether no part has anything. The last one is asked first, since those at the end that have nothing go.
+fn are_vacant<V, T: Places<V>>(parts: &[T]) -> bool
+    ensures { IsTrue result ↔ ((i p : ℕ) → at_part T.at (slice_get parts.now i) p ≡ None) }
+{
+    let mut place = parts.len();
+    'parts: while 0 < place {
+        place -= 1;
+        let part = &parts[place];
+        if !part.is_vacant() {
+            return false;
+        }
+    }
+    true
+}
+
 /// Sees to it that the first part is not after an index. If memory runs out, each place has what it had.
 fn reach_down<V, T: Places<V> + Drop>(
     first: &mut usize,
@@ -140,6 +154,7 @@ fn reach_down<V, T: Places<V> + Drop>(
     alloc: Global,
 ) -> Result<(), AllocError>
     ensures reached { OnOk result (first.new ≤ index) }
+    ensures bound { index < span → first.old + length parts.old.items ≤ span → first.new + length parts.new.items ≤ span }
     ensures kept { (p : ℕ) → at_window T.at (first.new, parts.new.items) p ≡ at_window T.at (first.old, parts.old.items) p }
 {
     if parts.is_empty() {
@@ -162,6 +177,7 @@ fn put_before<V, T: Places<V> + Drop>(
     alloc: Global,
 ) -> Result<(), AllocError>
     requires { index < first }
+    ensures reach { OnOk result (index + length parts.new.items ≡ first + length parts.old.items) }
     ensures ok { OnOk result ((p : ℕ) → at_window T.at (index, parts.new.items) p ≡ at_window T.at (first, parts.old.items) p) }
     ensures err { OnErr result (parts.new.items ≡ parts.old.items) }
 {
@@ -197,6 +213,7 @@ fn reach_up<V, T: Places<V> + Drop>(
 ) -> Result<(), AllocError>
     requires { place < span }
     ensures within { OnOk result (place < length parts.new.items) }
+    ensures bound { first + place < span → first + length parts.old.items ≤ span → first + length parts.new.items ≤ span }
     ensures kept { (p : ℕ) → at_window T.at (first, parts.new.items) p ≡ at_window T.at (first, parts.old.items) p }
 {
     if parts.len() <= place {
@@ -215,6 +232,7 @@ fn lengthen<V, T: Places<V> + Drop>(
 ) -> Result<(), AllocError>
     requires { place < span }
     ensures within { OnOk result (place < length parts.new.items) }
+    ensures bound { first + place < span → first + length parts.old.items ≤ span → first + length parts.new.items ≤ span }
     ensures kept { (p : ℕ) → at_window T.at (first, parts.new.items) p ≡ at_window T.at (first, parts.old.items) p }
 {
     room_for_first(parts)?;
@@ -232,6 +250,7 @@ fn push_vacant<V, T: Places<V> + Drop>(
     alloc: Global,
 ) -> Result<(), AllocError>
     ensures longer { OnOk result (length parts.new.items ≡ length parts.old.items + 1) }
+    ensures most { length parts.new.items ≤ length parts.old.items + 1 }
     ensures kept { (p : ℕ) → at_window T.at (first, parts.new.items) p ≡ at_window T.at (first, parts.old.items) p }
 {
     parts.push(T::vacant(alloc))?;
@@ -246,7 +265,8 @@ fn drop_vacant<V, T: Places<V> + Drop>(
     alloc: Global,
 )
     requires { place < length parts.old.items }
-    ensures { (p : ℕ) → at_window T.at (first, parts.new.items) p ≡ at_window T.at (first, parts.old.items) p }
+    ensures most { length parts.new.items ≤ length parts.old.items }
+    ensures kept { (p : ℕ) → at_window T.at (first, parts.new.items) p ≡ at_window T.at (first, parts.old.items) p }
 {
     if parts[place].is_vacant() {
         parts[place] = T::vacant(alloc);
@@ -256,7 +276,8 @@ fn drop_vacant<V, T: Places<V> + Drop>(
 
 /// Takes away the parts at the end that have nothing.
 fn trim<V, T: Places<V> + Drop>(first: usize, parts: &mut Vec<T>)
-    ensures { (p : ℕ) → at_window T.at (first, parts.new.items) p ≡ at_window T.at (first, parts.old.items) p }
+    ensures most { length parts.new.items ≤ length parts.old.items }
+    ensures kept { (p : ℕ) → at_window T.at (first, parts.new.items) p ≡ at_window T.at (first, parts.old.items) p }
 {
     'end: while ends_vacant(parts) {
         let _ = parts.pop();

@@ -1,5 +1,5 @@
 -- Parts in order of their keys.
-use Rattle.std.specs.Prelude.{ℕ, zero, suc, ◌<◌, ◌/◌, ◌%◌, ◌==◌, if◌then◌else◌, List, [], ◌∷◌, length, Option, Some, None}
+use Rattle.std.specs.Prelude.{◌≡◌, ℕ, zero, suc, ◌<◌, ◌/◌, ◌%◌, ◌==◌, if◌then◌else◌, List, [], ◌∷◌, length, Option, Some, None}
 use Rattle.wi_tiles.specs.Inner.Parts.{at_part}
 
 -- the part with a key
@@ -24,3 +24,7 @@ groups = 4096
 -- what the parts have at a path, whose first digit is the key
 abbrev pub at_sorted : {S V : Type 0} → (S → ℕ → Option V) → List (ℕ × S) → ℕ → Option V
 at_sorted at ts p = at_part at (find (p % groups) ts) (p / groups)
+
+-- a part that has something, under a key
+abbrev pub IsFilled : {S V : Type 0} → (S → ℕ → Option V) → ℕ × S → Type 0
+IsFilled at t = (t.0 < groups) × (((p : ℕ) → at t.1 p ≡ None) → ⊥)

@@ -1,8 +1,11 @@
-use Rattle.std.proofs.Common.{rules, ap, ◌∙◌, sym, None, ◌≡◌, ℕ, subst}
+use Rattle.std.proofs.Common.{rules, arith, ◌<◌, ap, ◌∙◌, sym, None, ◌≡◌, ℕ, subst}
 use Rattle.std.specs.Prelude.{slice_index_or}
-use Rattle.std.specs.List.{remove}
-use Rattle.wi_tiles.specs.Inner.Sorted.{at_sorted, Rises}
-use Rattle.wi_tiles.proofs.Keys.{Rises-remove}
+use Rattle.std.specs.List.{All, remove}
+use Rattle.wi_tiles.specs.Inner.Lines.{slot}
+use Rattle.wi_tiles.specs.Inner.Sorted.{at_sorted, groups, Rises, IsFilled}
+use Rattle.wi_tiles.proofs.Filled.{all_back}
+use Rattle.wi_tiles.proofs.Keys.{key_read, Rises-remove}
+use Rattle.wi_tiles.proofs.Outcomes.{not_both}
 use Rattle.wi_tiles.proofs.Sorts.{sorted_less}
 use Rattle.wi_tiles.proofs.sorted.drop_vacant.Goals as goal
 
@@ -11,9 +14,21 @@ returns-then-is_vacant-clause-rises g c =
     let items : c.remove.new.self.items ≡ remove c.args.parts.now.items c.args.place = search rules in
     subst (λ xs. Rises xs) (sym items) (Rises-remove c.args.parts.now.items c.args.place c.requires.rises c.requires.within)
 
+pub returns-then-is_vacant-clause-filled : goal.returns-then-is_vacant-clause-filled
+returns-then-is_vacant-clause-filled g c =
+    let items : c.remove.new.self.items ≡ remove c.args.parts.now.items c.args.place = search rules in
+    λ small others. subst (λ ts. All (IsFilled slot) ts) (sym items) others
+
+pub returns-else-is_vacant-clause-filled : goal.returns-else-is_vacant-clause-filled
+returns-else-is_vacant-clause-filled g c =
+    let read : c.index.result.now ≡ slice_index_or c.args.parts.now.items c.args.place c.index.result.now = search rules in
+    λ small others.
+    let low : c.index.result.now.0 < groups = omega (arith, key_read c.args.parts.now.items c.args.place c.index.result.now c.requires.within read, small) in
+    all_back (IsFilled slot) c.args.parts.now.items c.args.place c.index.result.now c.requires.within read (low, λ none. not_both c.is_vacant.result c.if-is_vacant.false (c.is_vacant.ensures.1 none)) others
+
 pub returns-then-is_vacant-clause-kept : goal.returns-then-is_vacant-clause-kept
 returns-then-is_vacant-clause-kept g c =
     let items : c.remove.new.self.items ≡ remove c.args.parts.now.items c.args.place = search rules in
     let read : c.index.result.now ≡ slice_index_or c.args.parts.now.items c.args.place c.index.result.now = search rules in
-    let nothing : (p : ℕ) → g.T.Places.at c.index.result.now.1 p ≡ None = search rules in
-    λ p. ap (λ xs. at_sorted g.T.Places.at xs p) items ∙ sorted_less g.T.Places.at c.args.parts.now.items c.args.place c.index.result.now c.requires.rises c.requires.within read nothing p
+    let nothing : (p : ℕ) → slot c.index.result.now.1 p ≡ None = search rules in
+    λ p. ap (λ xs. at_sorted slot xs p) items ∙ sorted_less slot c.args.parts.now.items c.args.place c.index.result.now c.requires.rises c.requires.within read nothing p

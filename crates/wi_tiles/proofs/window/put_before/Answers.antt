@@ -1,7 +1,13 @@
 use Rattle.std.proofs.Common.{rules, arith, ap, ◌∙◌, ◌≡◌, ◌+◌, ◌++◌, length}
+use Rattle.std.proofs.lemmas.List.{length-append}
 use Rattle.wi_tiles.specs.Inner.Parts.{at_window}
 use Rattle.wi_tiles.proofs.Windows.{window_before}
 use Rattle.wi_tiles.proofs.window.put_before.Goals as goal
+
+pub returns-clause-reach : goal.returns-clause-reach
+returns-clause-reach g c =
+    let items : c.append.new.self.items ≡ c.in_ok-all.all.items ++ c.args.parts.now.items = search rules in
+    omega (arith, ap length items, length-append c.in_ok-all.all.items c.args.parts.now.items, c.in_ok-all.ensures.count, c.requires)
 
 pub returns-clause-ok : goal.returns-clause-ok
 returns-clause-ok g c =

@@ -1,9 +1,12 @@
-use Rattle.std.proofs.Common.{◌≡◌, ℕ, length}
+use Rattle.std.proofs.Common.{◌≡◌, ◌≤◌, ℕ, length}
 use Rattle.wi_tiles.specs.Inner.Parts.{at_window}
 use Rattle.wi_tiles.proofs.window.trim.Given as goal
 
 abbrev pub invariant-end : goal.invariant-end
-invariant-end g l = (p : ℕ) → at_window g.T.Places.at (l.first, l.parts.items) p ≡ at_window g.T.Places.at (l.first, l.fn.parts.items) p
+invariant-end g l = record {
+  most : length l.parts.items ≤ length l.fn.parts.items;
+  kept : (p : ℕ) → at_window g.T.Places.at (l.first, l.parts.items) p ≡ at_window g.T.Places.at (l.first, l.fn.parts.items) p;
+}
 
 abbrev pub decreases-end : goal.decreases-end
 decreases-end g l = length l.parts.items

@@ -1,9 +1,10 @@
-use Rattle.std.proofs.Common.{rules, ap, ◌∙◌, sym, None, ◌≡◌}
-use Rattle.std.specs.Prelude.{slice_index_or}
-use Rattle.wi_tiles.proofs.Tiles.{all_clear}
+use Rattle.std.proofs.Common.{rules, None, ◌≡◌, ◌<◌, ◌^◌, ℕ, subst}
+use Rattle.std.specs.Prelude.{◌↔◌, IsTrue, ◌==◌, slice_index_or}
+use Rattle.wi_tiles.proofs.Firsts.{bits_none}
 use Rattle.wi_tiles.proofs.tile.Tile.has_nothing.Goals as goal
 
 pub returns : goal.returns
-returns g c = λ t i.
-    let zero_bits : c.self.inside.bits ≡ 0 = search (rules, t) in
-    ap (λ s. slice_index_or s i None) (sym c.self.view_is) ∙ all_clear c.self.inside.bits c.self.inside.values.items zero_bits i
+returns g c =
+    let below : c.self.inside.bits < 2 ^ 64 = search rules in
+    let none : IsTrue (c.self.inside.bits == 0) ↔ ((i : ℕ) → slice_index_or c.args.self.now i None ≡ None) = subst (λ s. IsTrue (c.self.inside.bits == 0) ↔ ((i : ℕ) → slice_index_or s i None ≡ None)) c.self.view_is (bits_none c.self.inside.bits c.self.inside.values.items below c.self.invariant) in
+    search none
