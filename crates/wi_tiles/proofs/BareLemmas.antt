@@ -52,6 +52,9 @@ columns_removed {V} old new columns path has changed = columns_changed old new c
 pub columns_replaced : {V : Type 0} (old new : Page V) (columns path : ℕ) (v : V) → HasColumns old columns → ((p : ℕ) → in_bands new p ≡ (if p == path then option_map (λ _. v) (in_bands old path) else in_bands old p)) → HasColumns new columns
 columns_replaced old new columns path v has changed = columns_changed old new columns path has (option_map (λ _. v) (in_bands old path)) (replaced_some v (in_bands old path)) changed
 
+pub columns_none : {V : Type 0} (w : Page V) (columns : ℕ) → ((p : ℕ) → in_bands w p ≡ None) → HasColumns w columns
+columns_none {V} w columns nothing p some = absurd (nothing_some V (subst (λ o. IsSome o) (nothing p) some))
+
 -- columns that have no bit have nothing
 pub columns_lack : {V : Type 0} (w : Page V) (columns others : ℕ) → HasColumns w columns → IsTrue (bit_and columns others == 0) → (p : ℕ) → bit_at others (column_bit p) ≡ 1 → in_bands w p ≡ None
 columns_lack w columns others has none p one = nothing_but (in_bands w p) (λ some. omega (

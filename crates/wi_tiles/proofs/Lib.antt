@@ -3,6 +3,7 @@ pub mod BareLemmas
 pub mod CellLemmas
 pub mod Counts
 pub mod Digits
+pub mod Ends
 pub mod EntryLemmas
 pub mod Filled
 pub mod Firsts

@@ -21,6 +21,7 @@ use Rattle.wi_tiles.specs.Inner.Sorted.{at_sorted}
 use Rattle.wi_tiles.proofs.CellLemmas.{one_cell}
 use Rattle.wi_tiles.proofs.EntryLemmas.{entries_same, entries_none, lookup_entries, entries_put, length_put, entries_cut, length_cut, entries_set, length_set, length_entries, entries_rise, entries_below}
 use Rattle.wi_tiles.proofs.NextLemmas.{sought_none, sought_some}
+use Rattle.wi_tiles.proofs.Windows.{window_none}
 
 -- what the pages have at a path
 abbrev pub at_path : {V : Type 0} → Pages V → ℕ → Option V
@@ -41,6 +42,9 @@ get_is w cell h = lookup_entries (λ c. at_cell w c) cell cells (below cell h)
 
 pub none_is : {V : Type 0} (w : Pages V) → ((p : ℕ) → at_path w p ≡ None) → entries_of w ≡ []
 none_is w nothing = entries_none (λ c. at_cell w c) 0 cells (λ c. nothing (path_of c))
+
+pub no_pages : {V : Type 0} (w : Pages V) → w.1 ≡ [] → entries_of w ≡ []
+no_pages w e = none_is w (λ p. window_none (at_window (at_sorted slot)) w.0 w.1 (ap (λ ts. length ts) e) p)
 
 pub same_is : {V : Type 0} (old new : Pages V) → ((p : ℕ) → at_path new p ≡ at_path old p) → entries_of new ≡ entries_of old
 same_is old new same = entries_same (λ c. at_cell old c) (λ c. at_cell new c) 0 cells (λ c l u. same (path_of c))

@@ -46,12 +46,12 @@ gap_behind w index i f none l =
     let past : length w.1 ≤ index - w.0 = get_none w.1 (index - w.0) (sym (part_here w.0 w.1 index f) ∙ none) in
     part_past w.0 w.1 i (omega (arith, f, l)) (omega (arith, past, f, l))
 
-get_set : {S : Type 0} (ts : List S) (i : ℕ) (w : S) → i < length ts → slice_get (slice_set ts i w) i ≡ Some w
+pub get_set : {S : Type 0} (ts : List S) (i : ℕ) (w : S) → i < length ts → slice_get (slice_set ts i w) i ≡ Some w
 get_set [] i w l = absurd (omega arith)
 get_set (x ∷ xs) zero w l = refl
 get_set (x ∷ xs) (suc r) w l = get_set xs r w (omega arith)
 
-get_other : {S : Type 0} (ts : List S) (i j : ℕ) (w : S) → j ≢ i → slice_get (slice_set ts i w) j ≡ slice_get ts j
+pub get_other : {S : Type 0} (ts : List S) (i j : ℕ) (w : S) → j ≢ i → slice_get (slice_set ts i w) j ≡ slice_get ts j
 get_other [] r j w ne = refl
 get_other (x ∷ xs) zero zero w ne = absurd (ne refl)
 get_other (x ∷ xs) zero (suc j) w ne = refl
@@ -131,23 +131,11 @@ last_read [] x d (suc n) h = absurd (omega arith)
 last_read (y ∷ xs) x d zero h = absurd (omega arith)
 last_read (y ∷ xs) x d (suc n) h = last_read xs x d n (omega arith)
 
--- parts from a place on that have nothing, and one before it
+-- what stands at a place
 pub part_is : {S V : Type 0} (at : S → ℕ → Option V) (ts : List S) (n : ℕ) (x : S) (p : ℕ) → n < length ts → x ≡ slice_index_or ts n x → at_part at (slice_get ts n) p ≡ at x p
 part_is at ts n x p l read = ap (λ y. at_part at y p) (slice_get_read ts (length ts) n x (λ _. length ts) l read)
 
-pub nothing_from : {S V : Type 0} (at : S → ℕ → Option V) (ts : List S) (n : ℕ) (x : S) → n < length ts → x ≡ slice_index_or ts n x → ((p : ℕ) → at x p ≡ None) → ((i p : ℕ) → n + 1 ≤ i → at_part at (slice_get ts i) p ≡ None) → (i p : ℕ) → n ≤ i → at_part at (slice_get ts i) p ≡ None
-nothing_from at ts n x l read nothing behind i p h = ⊎_elim
-    (λ m. behind i p (omega arith))
-    (λ m. ap (λ j. at_part at (slice_get ts j) p) (let e : i ≡ n = omega arith in e) ∙ part_is at ts n x p l read ∙ nothing p)
-    (cases_lt n i)
-
--- where no part has anything, no path has, and the other way round
-pub none_stand : {S V : Type 0} (at : S → ℕ → Option V) (f : ℕ) (ts : List S) → ((i p : ℕ) → at_part at (slice_get ts i) p ≡ None) → (p : ℕ) → at_window at (f, ts) p ≡ None
-none_stand at f ts nothing p = ⊎_elim
-    (λ l. ap (λ x. at_part at x (p / span)) (part_before f ts (p % span) l))
-    (λ l. ap (λ x. at_part at x (p / span)) (part_here f ts (p % span) l) ∙ nothing (p % span - f) (p / span))
-    (cases_lt (p % span) f)
-
+-- where no path has anything, no part has
 pub none_have : {S V : Type 0} (at : S → ℕ → Option V) (f : ℕ) (ts : List S) → f + length ts ≤ span → ((p : ℕ) → at_window at (f, ts) p ≡ None) → (i p : ℕ) → at_part at (slice_get ts i) p ≡ None
 none_have at f ts bound nothing i p = ⊎_elim within (λ l. ap (λ x. at_part at x p) (get_past ts i l)) (cases_lt i (length ts))
   where

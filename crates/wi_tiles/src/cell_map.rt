@@ -10,7 +10,6 @@ ghost use Rattle.wi_values.specs.Address.{rows, columns, is_within};
 
 use crate::found::found_from;
 use crate::pages::{Pages, path_of};
-use crate::places::Places;
 use crate::window::Window;
 use crate::within::Within;
 use std::alloc::{AllocError, Global};
@@ -29,12 +28,15 @@ impl<V> Model for CellMap<V> {
     ghost use Rattle.std.specs.Prelude.{ℕ, ◌≡◌, length};
     ghost use Rattle.wi_tiles.specs.Entries.{CellEntries};
     ghost use Rattle.wi_tiles.specs.Inner.Entries.{map_of, entries_of};
+    ghost use Rattle.wi_tiles.specs.Inner.Lines.{slot};
+    ghost use Rattle.wi_tiles.specs.Inner.Parts.{at_window, IsTrimmed};
+    ghost use Rattle.wi_tiles.specs.Inner.Sorted.{at_sorted};
 
     ghost Value = { CellEntries V };
 
     ghost view = { λ m. map_of (entries_of m.pages) };
 
-    ghost invariant = { λ m. m.occupied ≡ length (entries_of m.pages) };
+    ghost invariant = { λ m. (m.occupied ≡ length (entries_of m.pages)) × IsTrimmed (at_window (at_sorted slot)) m.pages.1 };
 }
 
 impl<V: Drop> CellMap<V> {
@@ -43,7 +45,7 @@ impl<V: Drop> CellMap<V> {
         ensures { result.entries ≡ [] }
     {
         CellMap {
-            pages: Window::vacant(alloc),
+            pages: Window::new(alloc),
             occupied: 0,
             alloc,
         }
@@ -95,8 +97,9 @@ impl<V: Drop> CellMap<V> {
         self.pages.replace(path_of(cell), value)
     }
 
-    /// Takes away what a cell has, and gives that. Takes no memory, and a tile that has nothing then goes. The work is that of
-    /// `get`, and of moving up to 63 values.
+    /// Takes away what a cell has, and gives that. Takes no memory. A tile that has nothing then goes, and 16 or 4,096 rows that have
+    /// nothing go where none before them, or none behind them, have anything. The work is that of `get`, and of moving up to 63
+    /// values, and where the first rows go up to 255 others.
     pub fn remove(&mut self, cell: Address) -> Option<V>
         ensures stood { result ≡ get nat_cmp self.old cell }
         ensures entries { self.new.entries ≡ remove_entry (is_at (nat_cmp cell)) self.old.entries }

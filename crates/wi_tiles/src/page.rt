@@ -13,8 +13,8 @@ use crate::window::Window;
 use std::alloc::{AllocError, Global};
 use std::marker::Model;
 
-/// Bands of 16 rows, 256 of which are a page, and a bit for each column, by its remainder, in which a tile may have something. It is
-/// seen as its bands.
+/// Bands of 16 rows, 256 of which are a page, from the first that has something to the last, and a bit for each column, by its
+/// remainder, in which a tile may have something. It is seen as its bands.
 #[derive(Drop)]
 pub struct Page<V> {
     bands: Window<Band<V>>,
@@ -29,8 +29,11 @@ impl<V> Model for Page<V> {
     ghost view = { λ p. p.bands };
 
     ghost use Rattle.wi_tiles.specs.Inner.Columns.{HasColumns};
+    ghost use Rattle.wi_tiles.specs.Inner.Lines.{slot};
+    ghost use Rattle.wi_tiles.specs.Inner.Parts.{IsTrimmed};
+    ghost use Rattle.wi_tiles.specs.Inner.Sorted.{at_sorted};
 
-    ghost invariant = { λ p. HasColumns p.bands p.columns };
+    ghost invariant = { λ p. HasColumns p.bands p.columns × IsTrimmed (at_sorted slot) p.bands.1 };
 }
 
 impl<V> Page<V> {
@@ -72,13 +75,13 @@ impl<V: Drop> Places<V> for Page<V> {
 
     fn vacant(alloc: Global) -> Page<V> {
         Page {
-            bands: Window::vacant(alloc),
+            bands: Window::new(alloc),
             columns: 0,
         }
     }
 
     fn is_vacant(&self) -> bool {
-        self.bands.is_vacant()
+        self.bands.is_empty()
     }
 
     fn get(&self, path: u64) -> Option<&V> {

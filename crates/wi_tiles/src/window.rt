@@ -1,7 +1,8 @@
 //! Parts by their index, from a first one on.
 
-ghost use Rattle.std.specs.Prelude.{◌≡◌, ◌↔◌, ◌<◌, ◌≤◌, ◌+◌, ◌-◌, ◌*◌, ◌%◌, ◌==◌, ◌++◌, ◌∷◌, [], ℕ, List, length, Some, None, slice_get, IfSome, IfNone, IsTrue, IfOk, OnOk, OnErr, option_copied, option_map, if◌then◌else◌};
-ghost use Rattle.wi_tiles.specs.Inner.Parts.{at_part, part_from, at_window, span};
+ghost use Rattle.std.specs.Prelude.{◌≡◌, ◌↔◌, ◌<◌, ◌≤◌, ◌+◌, ◌-◌, ◌*◌, ◌==◌, ◌++◌, ◌∷◌, [], ℕ, List, length, drop, false, Some, None, is_some, not, slice_get, IfSome, IfNone, IsTrue, IfOk, OnOk, OnErr, option_copied, option_map, if◌then◌else◌};
+ghost use Rattle.std.specs.Option.{option_or};
+ghost use Rattle.wi_tiles.specs.Inner.Parts.{at_part, part_from, at_window, span, HasSome, IsTrimmed};
 
 use crate::places::{Places, room_for_first};
 use std::alloc::{AllocError, Global};
@@ -11,7 +12,7 @@ use std::marker::Model;
 const SPAN: u64 = 256;
 
 /// Parts found by the first digit of a path. There are none before the first, and none behind the last, so that a lone part
-/// costs the same wherever it stands.
+/// costs the same wherever it stands. What has a window keeps it trimmed: its first part and its last have something.
 #[derive(Drop)]
 pub struct Window<T> {
     first: usize,
@@ -30,6 +31,24 @@ impl<T> Model for Window<T> {
 }
 
 impl<T> Window<T> {
+    /// No parts. Takes no memory.
+    pub fn new(alloc: Global) -> Window<T>
+        ensures { result.1 ≡ [] }
+    {
+        Window {
+            first: 0,
+            parts: Vec::new(alloc),
+        }
+    }
+
+    /// Whether there are no parts.
+    pub fn is_empty(&self) -> bool
+        ensures none { IsTrue result ↔ (self.now.1 ≡ []) }
+        ensures bound { self.now.0 + length self.now.1 ≤ span }
+    {
+        self.parts.is_empty()
+    }
+
     /// The part at an index.
     pub fn part(&self, index: usize) -> Option<&T>
         ensures { option_copied result ≡ part_from self.now index }
@@ -39,9 +58,20 @@ impl<T> Window<T> {
             None => None,
         }
     }
-}
 
-impl<T> Window<T> {
+    /// What a path has.
+    pub fn get<V>(&self, path: u64) -> Option<&V>
+    where
+        T: Places<V>,
+        requires { path < span * T.size }
+        ensures { option_copied result ≡ at_window T.at self.now path }
+    {
+        match self.part((path % SPAN) as usize) {
+            Some(part) => part.get(path / SPAN),
+            None => None,
+        }
+    }
+
     /// An index up to which none has a part, where this one has none; it is found without a search.
     pub fn past_gap(&self, index: usize) -> usize
         requires within { index < span }
@@ -61,54 +91,62 @@ impl<T: Drop> Window<T> {
     {
         self.parts.clear();
     }
-}
 
-impl<V: Drop, T: Places<V> + Drop> Places<V> for Window<T> {
-    ghost use Rattle.std.specs.Prelude.{◌*◌};
-    ghost use Rattle.wi_tiles.specs.Inner.Parts.{at_window, span};
-
-    ghost size = { span * T.size };
-
-    ghost at = { λ w p. at_window T.at w p };
-
-    fn vacant(alloc: Global) -> Window<T> {
-        Window {
-            first: 0,
-            parts: Vec::new(alloc),
+    /// Puts a value where nothing stands, and answers whether nothing stood. If memory runs out, each path has what it had.
+    pub fn put_new<V: Drop>(
+        &mut self,
+        path: u64,
+        value: V,
+        alloc: Global,
+    ) -> Result<bool, AllocError>
+    where
+        T: Places<V>,
+        requires { path < span * T.size }
+        ensures new { IfOk result (λ new. new ≡ not (is_some (at_window T.at self.old path))) }
+        ensures ok { OnOk result ((p : ℕ) → at_window T.at self.new p
+            ≡ (if p == path then option_or (at_window T.at self.old path) (Some value) else at_window T.at self.old p)) }
+        ensures err { OnErr result ((p : ℕ) → at_window T.at self.new p ≡ at_window T.at self.old p) }
+        ensures trimmed { IsTrimmed T.at self.old.1 → IsTrimmed T.at self.new.1 }
+    {
+        match place_in(self.first, &self.parts, (path % SPAN) as usize) {
+            Some(place) => self.parts[place].put_new(path / SPAN, value, alloc),
+            None => {
+                let outcome = put_part(&mut self.first, &mut self.parts, path, value, alloc);
+                trim(&mut self.first, &mut self.parts);
+                outcome
+            }
         }
     }
 
-    fn is_vacant(&self) -> bool {
-        are_vacant(&self.parts)
-    }
-
-    fn get(&self, path: u64) -> Option<&V> {
-        match self.part((path % SPAN) as usize) {
-            Some(part) => part.get(path / SPAN),
-            None => None,
-        }
-    }
-
-    fn put_new(&mut self, path: u64, value: V, alloc: Global) -> Result<bool, AllocError> {
-        let index = (path % SPAN) as usize;
-        reach_down(&mut self.first, &mut self.parts, index, alloc)?;
-        let place = index - self.first;
-        reach_up(self.first, &mut self.parts, place, alloc)?;
-        self.parts[place].put_new(path / SPAN, value, alloc)
-    }
-
-    fn replace(&mut self, path: u64, value: V) -> Option<V> {
+    /// Puts a value in the place of what stands, and gives that; where nothing stands it does nothing. Takes no memory.
+    pub fn replace<V: Drop>(&mut self, path: u64, value: V) -> Option<V>
+    where
+        T: Places<V>,
+        requires { path < span * T.size }
+        ensures value { result ≡ at_window T.at self.old path }
+        ensures put { (p : ℕ) → at_window T.at self.new p
+            ≡ (if p == path then option_map (λ _. value) (at_window T.at self.old path) else at_window T.at self.old p) }
+        ensures trimmed { IsTrimmed T.at self.old.1 → IsTrimmed T.at self.new.1 }
+    {
         match place_in(self.first, &self.parts, (path % SPAN) as usize) {
             Some(place) => self.parts[place].replace(path / SPAN, value),
             None => None,
         }
     }
 
-    fn remove(&mut self, path: u64, alloc: Global) -> Option<V> {
+    /// Takes away what a path has. Takes no memory.
+    pub fn remove<V>(&mut self, path: u64, alloc: Global) -> Option<V>
+    where
+        T: Places<V>,
+        requires { path < span * T.size }
+        ensures value { result ≡ at_window T.at self.old path }
+        ensures left { (p : ℕ) → at_window T.at self.new p ≡ (if p == path then None else at_window T.at self.old p) }
+        ensures trimmed { IsTrimmed T.at self.old.1 → IsTrimmed T.at self.new.1 }
+    {
         match place_in(self.first, &self.parts, (path % SPAN) as usize) {
             Some(place) => {
                 let value = self.parts[place].remove(path / SPAN, alloc);
-                drop_vacant(self.first, &mut self.parts, place, alloc);
+                drop_vacant(&mut self.first, &mut self.parts, place, alloc);
                 value
             }
             None => None,
@@ -131,19 +169,28 @@ fn place_in<T>(first: usize, parts: &[T], index: usize) -> Option<usize>
     Some(place)
 }
 
-/// Whether no part has anything. The last one is asked first, since those at the end that have nothing go.
-fn are_vacant<V, T: Places<V>>(parts: &[T]) -> bool
-    ensures { IsTrue result ↔ ((i p : ℕ) → at_part T.at (slice_get parts.now i) p ≡ None) }
+/// Puts a value where its part may not stand yet. If memory runs out, each path has what it had.
+#[inline(never)]
+fn put_part<V: Drop, T: Places<V> + Drop>(
+    first: &mut usize,
+    parts: &mut Vec<T>,
+    path: u64,
+    value: V,
+    alloc: Global,
+) -> Result<bool, AllocError>
+    requires path { path < span * T.size }
+    requires bound { first.old + length parts.old.items ≤ span }
+    ensures bound { first.new + length parts.new.items ≤ span }
+    ensures new { IfOk result (λ new. new ≡ not (is_some (at_window T.at (first.old, parts.old.items) path))) }
+    ensures ok { OnOk result ((p : ℕ) → at_window T.at (first.new, parts.new.items) p
+        ≡ (if p == path then option_or (at_window T.at (first.old, parts.old.items) path) (Some value) else at_window T.at (first.old, parts.old.items) p)) }
+    ensures err { OnErr result ((p : ℕ) → at_window T.at (first.new, parts.new.items) p ≡ at_window T.at (first.old, parts.old.items) p) }
 {
-    let mut place = parts.len();
-    'parts: while 0 < place {
-        place -= 1;
-        let part = &parts[place];
-        if !part.is_vacant() {
-            return false;
-        }
-    }
-    true
+    let index = (path % SPAN) as usize;
+    reach_down(first, parts, index, alloc)?;
+    let place = index - *first;
+    reach_up(*first, parts, place, alloc)?;
+    parts[place].put_new(path / SPAN, value, alloc)
 }
 
 /// Sees to it that the first part is not after an index. If memory runs out, each place has what it had.
@@ -257,16 +304,18 @@ fn push_vacant<V, T: Places<V> + Drop>(
     Ok(())
 }
 
-/// Gives back the memory of a part that has nothing, and of those at the end that have nothing.
+/// Gives back the memory of a part that has nothing, and of those at the ends that have nothing.
 fn drop_vacant<V, T: Places<V> + Drop>(
-    first: usize,
+    first: &mut usize,
     parts: &mut Vec<T>,
     place: usize,
     alloc: Global,
 )
-    requires { place < length parts.old.items }
-    ensures most { length parts.new.items ≤ length parts.old.items }
-    ensures kept { (p : ℕ) → at_window T.at (first, parts.new.items) p ≡ at_window T.at (first, parts.old.items) p }
+    requires within { place < length parts.old.items }
+    requires bound { first.old + length parts.old.items ≤ span }
+    ensures bound { first.new + length parts.new.items ≤ span }
+    ensures trimmed { (HasSome T.at (slice_get parts.old.items place) → IsTrimmed T.at parts.old.items) → IsTrimmed T.at parts.new.items }
+    ensures kept { (p : ℕ) → at_window T.at (first.new, parts.new.items) p ≡ at_window T.at (first.old, parts.old.items) p }
 {
     if parts[place].is_vacant() {
         parts[place] = T::vacant(alloc);
@@ -274,9 +323,23 @@ fn drop_vacant<V, T: Places<V> + Drop>(
     }
 }
 
-/// Takes away the parts at the end that have nothing.
-fn trim<V, T: Places<V> + Drop>(first: usize, parts: &mut Vec<T>)
+/// Takes away the parts at both ends that have nothing.
+fn trim<V, T: Places<V> + Drop>(first: &mut usize, parts: &mut Vec<T>)
+    requires { first.old + length parts.old.items ≤ span }
+    ensures bound { first.new + length parts.new.items ≤ span }
+    ensures trimmed { IsTrimmed T.at parts.new.items }
+    ensures kept { (p : ℕ) → at_window T.at (first.new, parts.new.items) p ≡ at_window T.at (first.old, parts.old.items) p }
+{
+    trim_end(*first, parts);
+    let count = vacant_before(parts);
+    drop_before(parts, count);
+    *first += count;
+}
+
+/// Takes away the parts behind the last that has something.
+fn trim_end<V, T: Places<V> + Drop>(first: usize, parts: &mut Vec<T>)
     ensures most { length parts.new.items ≤ length parts.old.items }
+    ensures filled { 0 < length parts.new.items → HasSome T.at (slice_get parts.new.items (length parts.new.items - 1)) }
     ensures kept { (p : ℕ) → at_window T.at (first, parts.new.items) p ≡ at_window T.at (first, parts.old.items) p }
 {
     'end: while ends_vacant(parts) {
@@ -288,10 +351,38 @@ fn trim<V, T: Places<V> + Drop>(first: usize, parts: &mut Vec<T>)
 fn ends_vacant<V, T: Places<V>>(parts: &[T]) -> bool
     ensures some { IsTrue result → 0 < length parts.now }
     ensures vacant { IsTrue result → (xs : List T) (x : T) → parts.now ≡ xs ++ x ∷ [] → (p : ℕ) → T.at x p ≡ None }
+    ensures filled { result ≡ false → 0 < length parts.now → HasSome T.at (slice_get parts.now (length parts.now - 1)) }
 {
     let len = parts.len();
     if len == 0 {
         return false;
     }
-    parts[len - 1].is_vacant()
+    let last = len - 1;
+    let part = &parts[last];
+    part.is_vacant()
+}
+
+/// How many parts stand before the first that has something.
+fn vacant_before<V, T: Places<V>>(parts: &[T]) -> usize
+    ensures within { result ≤ length parts.now }
+    ensures vacant { (i p : ℕ) → i < result → at_part T.at (slice_get parts.now i) p ≡ None }
+    ensures filled { result < length parts.now → HasSome T.at (slice_get parts.now result) }
+{
+    let mut place = 0;
+    'parts: while place < parts.len() {
+        let part = &parts[place];
+        if !part.is_vacant() {
+            return place;
+        }
+        place += 1;
+    }
+    place
+}
+
+/// Takes away the parts before a place. The others move once.
+fn drop_before<T: Drop>(parts: &mut Vec<T>, place: usize)
+    requires { place ≤ length parts.old.items }
+    ensures { parts.new.items ≡ drop place parts.old.items }
+{
+    parts.drain(..place);
 }

@@ -1,5 +1,5 @@
 -- Parts by their index, from a first one on.
-use Rattle.std.specs.Prelude.{ℕ, ◌-◌, ◌/◌, ◌%◌, nat_lt, List, Option, Some, None, slice_get, if◌then◌else◌}
+use Rattle.std.specs.Prelude.{◌≡◌, ℕ, ◌-◌, ◌/◌, ◌%◌, ◌<◌, nat_lt, List, length, Option, Some, None, slice_get, if◌then◌else◌}
 
 -- what a part has at a place, where there is such a part
 abbrev pub at_part : {P V : Type 0} → (P → ℕ → Option V) → Option P → ℕ → Option V
@@ -17,3 +17,12 @@ part_from w i = if nat_lt i w.0 then None else slice_get w.1 (i - w.0)
 -- what the parts have at a path, whose first digit is the index
 abbrev pub at_window : {S V : Type 0} → (S → ℕ → Option V) → ℕ × List S → ℕ → Option V
 at_window at w p = at_part at (part_from w (p % span)) (p / span)
+
+-- there is a part, and it has something
+abbrev pub HasSome : {P V : Type 0} → (P → ℕ → Option V) → Option P → Type 0
+HasSome at s = ((p : ℕ) → at_part at s p ≡ None) → ⊥
+
+-- where there are parts, the first of them has something, and the last has
+pub record IsTrimmed {P V : Type 0} (at : P → ℕ → Option V) (parts : List P) : Type 0 where
+  pub first : 0 < length parts → HasSome at (slice_get parts 0)
+  pub last : 0 < length parts → HasSome at (slice_get parts (length parts - 1))

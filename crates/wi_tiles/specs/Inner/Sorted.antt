@@ -1,6 +1,6 @@
 -- Parts in order of their keys.
-use Rattle.std.specs.Prelude.{◌≡◌, ℕ, zero, suc, ◌<◌, ◌/◌, ◌%◌, ◌==◌, if◌then◌else◌, List, [], ◌∷◌, length, Option, Some, None}
-use Rattle.wi_tiles.specs.Inner.Parts.{at_part}
+use Rattle.std.specs.Prelude.{ℕ, zero, suc, ◌<◌, ◌/◌, ◌%◌, ◌==◌, if◌then◌else◌, List, [], ◌∷◌, length, Option, Some, None}
+use Rattle.wi_tiles.specs.Inner.Parts.{at_part, HasSome}
 
 -- the part with a key
 abbrev pub find : {S : Type 0} → ℕ → List (ℕ × S) → Option S
@@ -27,4 +27,4 @@ at_sorted at ts p = at_part at (find (p % groups) ts) (p / groups)
 
 -- a part that has something, under a key
 abbrev pub IsFilled : {S V : Type 0} → (S → ℕ → Option V) → ℕ × S → Type 0
-IsFilled at t = (t.0 < groups) × (((p : ℕ) → at t.1 p ≡ None) → ⊥)
+IsFilled at t = (t.0 < groups) × HasSome at (Some t.1)

@@ -1,9 +1,13 @@
 use Rattle.std.proofs.Common.{sym, ap, length}
-use Rattle.wi_tiles.proofs.MapLemmas.{none_is}
+use Rattle.wi_tiles.specs.Inner.Lines.{slot}
+use Rattle.wi_tiles.specs.Inner.Parts.{at_window}
+use Rattle.wi_tiles.specs.Inner.Sorted.{at_sorted}
+use Rattle.wi_tiles.proofs.Ends.{trimmed_none}
+use Rattle.wi_tiles.proofs.MapLemmas.{no_pages}
 use Rattle.wi_tiles.proofs.cell_map.CellMap.new.Goals as goal
 
 pub invariant_of-result : goal.invariant_of-result
-invariant_of-result g c = sym (ap length (none_is c.vacant.result c.vacant.ensures))
+invariant_of-result g c = (sym (ap length (no_pages c.new.result c.new.ensures)), trimmed_none (at_window (at_sorted slot)) c.new.result.1 c.new.ensures)
 
 pub returns : goal.returns
-returns g c = none_is c.vacant.result c.vacant.ensures
+returns g c = no_pages c.new.result c.new.ensures

@@ -12,7 +12,7 @@ use Rattle.wi_tiles.proofs.cell_map.CellMap.put_new.Goals as goal
 pub overflow_add-self : goal.overflow_add-self
 overflow_add-self g c =
     let one : c.from.result ≡ from_bool c.in_ok-new.new = search rules in
-    omega (arith, c.self.invariant, length_within c.self.inside.pages, one, one_at_most c.in_ok-new.new)
+    omega (arith, c.self.invariant.0, length_within c.self.inside.pages, one, one_at_most c.in_ok-new.new)
 
 pub invariant_of-self-2 : goal.invariant_of-self-2
 invariant_of-self-2 g c =
@@ -20,7 +20,7 @@ invariant_of-self-2 g c =
     let path : c.path_of.result ≡ path_of c.args.cell = search rules in
     let made = put_made c.self.inside.pages c.put_new.new.self c.args.cell c.path_of.result here path c.args.value c.in_ok-new.new c.in_ok-new.ensures.new c.in_ok-new.ensures.ok in
     let one : c.from.result ≡ from_bool c.in_ok-new.new = search rules in
-    omega (arith, c.self.invariant, made.1, one)
+    (omega (arith, c.self.invariant.0, made.1, one), c.put_new.ensures.trimmed c.self.invariant.1)
 
 pub returns-clause-new : goal.returns-clause-new
 returns-clause-new g c =

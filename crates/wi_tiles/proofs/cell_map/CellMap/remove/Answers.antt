@@ -11,13 +11,13 @@ pub overflow_sub-self : goal.overflow_sub-self
 overflow_sub-self g c =
     let here : c.args.cell < 17179869184 = search rules in
     let path : c.path_of.result ≡ path_of c.args.cell = search rules in
-    omega (arith, c.self.invariant, cut_len c.self.inside.pages c.remove.new.self c.args.cell c.path_of.result here path c.in-Some.value (sym c.remove.ensures.value ∙ c.in-Some.is) c.remove.ensures.left)
+    omega (arith, c.self.invariant.0, cut_len c.self.inside.pages c.remove.new.self c.args.cell c.path_of.result here path c.in-Some.value (sym c.remove.ensures.value ∙ c.in-Some.is) c.remove.ensures.left)
 
 pub invariant_of-self : goal.invariant_of-self
 invariant_of-self g c =
     let here : c.args.cell < 17179869184 = search rules in
     let path : c.path_of.result ≡ path_of c.args.cell = search rules in
-    omega (arith, c.self.invariant, cut_len c.self.inside.pages c.remove.new.self c.args.cell c.path_of.result here path c.in-Some.value (sym c.remove.ensures.value ∙ c.in-Some.is) c.remove.ensures.left)
+    (omega (arith, c.self.invariant.0, cut_len c.self.inside.pages c.remove.new.self c.args.cell c.path_of.result here path c.in-Some.value (sym c.remove.ensures.value ∙ c.in-Some.is) c.remove.ensures.left), c.remove.ensures.trimmed c.self.invariant.1)
 
 pub returns-in-Some-clause-stood : goal.returns-in-Some-clause-stood
 returns-in-Some-clause-stood g c =
@@ -35,7 +35,7 @@ pub invariant_of-self-in-None : goal.invariant_of-self-in-None
 invariant_of-self-in-None g c =
     let here : c.args.cell < 17179869184 = search rules in
     let path : c.path_of.result ≡ path_of c.args.cell = search rules in
-    c.self.invariant ∙ sym (cut_none c.self.inside.pages c.remove.new.self c.args.cell c.path_of.result here path (sym c.remove.ensures.value ∙ c.in-None.is) c.remove.ensures.left)
+    (c.self.invariant.0 ∙ sym (cut_none c.self.inside.pages c.remove.new.self c.args.cell c.path_of.result here path (sym c.remove.ensures.value ∙ c.in-None.is) c.remove.ensures.left), c.remove.ensures.trimmed c.self.invariant.1)
 
 pub returns-in-None-clause-stood : goal.returns-in-None-clause-stood
 returns-in-None-clause-stood g c =

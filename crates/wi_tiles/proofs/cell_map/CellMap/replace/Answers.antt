@@ -11,7 +11,7 @@ pub invariant_of-self : goal.invariant_of-self
 invariant_of-self g c =
     let here : c.args.cell < 17179869184 = search rules in
     let path : c.path_of.result ≡ path_of c.args.cell = search rules in
-    c.self.invariant ∙ sym (set_len c.self.inside.pages c.replace.new.self c.args.cell c.path_of.result here path c.args.value c.replace.ensures.put)
+    (c.self.invariant.0 ∙ sym (set_len c.self.inside.pages c.replace.new.self c.args.cell c.path_of.result here path c.args.value c.replace.ensures.put), c.replace.ensures.trimmed c.self.invariant.1)
 
 pub returns-clause-stood : goal.returns-clause-stood
 returns-clause-stood g c =

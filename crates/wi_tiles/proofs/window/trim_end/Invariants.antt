@@ -1,6 +1,6 @@
 use Rattle.std.proofs.Common.{◌≡◌, ◌≤◌, ℕ, length}
 use Rattle.wi_tiles.specs.Inner.Parts.{at_window}
-use Rattle.wi_tiles.proofs.window.trim.Given as goal
+use Rattle.wi_tiles.proofs.window.trim_end.Given as goal
 
 abbrev pub invariant-end : goal.invariant-end
 invariant-end g l = record {
