@@ -50,8 +50,8 @@ pub trait Calculator {
         ensures { All (λ a. a < rows * columns) (keys_of (stored self.now).sheet) };
 
     /// One edit: puts contents in or takes them away, one after another, or refuses and leaves all as it was.
-    fn apply(&mut self, changes: Vec<(Address, Option<Content>)>) -> Result<(), StoreFault>
-        ensures applied { Applies (applied (stored self.old) changes.items) result
+    fn apply(&mut self, changes: &mut [(Address, Option<Content>)]) -> Result<(), StoreFault>
+        ensures applied { Applies (applied (stored self.old) changes.old) result
             (stored self.old) (stored self.new) }
         ensures same_evaluations { evaluated self.new ≡ evaluated self.old }
         ensures same_restarts { restarted self.new ≡ restarted self.old };
