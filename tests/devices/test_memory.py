@@ -9,7 +9,8 @@ LOADED = b"set A1 5\nshow A1\n"
 LOADED_REPLIES = b'ok\n"5"\r\nok\n'
 GIVEN = b"show A1\n"
 GIVEN_REPLIES = b'"5"\r\nok\n'
-THOUSAND_FORMULAS = b"set A1 1\nset B1 =[.A$1]+1\nfill B1 B2:B1000\nshow B1:B1000\n"
+THOUSAND_TEXTS = b'set A1 1\nset B1 ="a text, longer than a word: "&[.A$1]\nfill B1 B2:B1000\nshow B1:B1000\n'
+THE_LAST_FIRST = b"".join(b"show B%d\n" % row for row in range(1000, 0, -1))
 
 
 @unittest.skipUnless(compiler(), "no C compiler")
@@ -52,10 +53,11 @@ class RefusedMemory(DeviceTest):
         ]
 
     def test_as_many_values_are_kept_as_are_asked_for(self) -> None:
-        """A value that goes for want of room takes requests of its own. So there are fewer, the more values may be kept, until all
-        thousand are."""
-        requests = {keep: self.program.run(THOUSAND_FORMULAS, ("--keep", str(keep))).requests for keep in (1, 2, 100, 999, 1000, 65_536)}
+        """A text that is evaluated takes more requests than one that is kept. So where the values are asked for once more, from the last one
+        that was kept on, there are fewer requests, the more values may be kept, until all thousand are."""
+        script = THOUSAND_TEXTS + THE_LAST_FIRST
+        requests = {keep: self.program.run(script, ("--keep", str(keep))).requests for keep in (1, 2, 100, 999, 1000, 65_536)}
         counts = list(requests.values())
         self.assertEqual(counts[:5], sorted(set(counts[:5]), reverse=True), requests)
         self.assertEqual(requests[65_536], requests[1000])
-        self.assertLess(self.program.run(THOUSAND_FORMULAS, ()).requests, requests[1000])
+        self.assertLess(self.program.run(script, ()).requests, requests[1000])

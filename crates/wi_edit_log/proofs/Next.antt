@@ -1,13 +1,7 @@
 -- The cells of a rectangle one after another, in row-major order.
-use Rattle.std.proofs.Common.{◌≡◌, ◌∙◌, ℕ, ◌+◌, ◌==◌, ◌≤◌, ◌<◌, ◌⊎◌, inl, inr, Bool, true, false, ◌||◌, ◌&&◌, Option, Some, None, IfSome, refl, ap, sym, subst, arith}
-use Rattle.std.specs.Prelude.{nat_lt}
-use Rattle.std.specs.Bool.{then_some}
-use Rattle.std.proofs.lemmas.Bool.{and_from, and_parts, both_ways, cases_eq, cases_lt, eq-eqb, eqb-true, le-ltb, lt-ltb, ltb-true, or_cases, or_left, or_right}
-use Rattle.wi_values.specs.Address.{Area, columns, place, row_of, column_of, is_within}
-use Rattle.wi_values.proofs.Within.{fewer_places, places_left, within_between}
-use Rattle.wi_edit_log.specs.Inner.First.{IsAtOrBefore, IsFirst, is_after}
-use Rattle.wi_edit_log.proofs.Least.{column_of_place, column_within, row_of_place, same_test}
-use Rattle.wi_edit_log.proofs.Shared.{no_sooner, within_from, within_parts}
+use Rattle.wi_edit_log.proofs.Words.{◌≡◌, ◌∙◌, ℕ, ◌+◌, ◌==◌, ◌≤◌, ◌<◌, ◌⊎◌, inl, inr, Bool, true, false, ◌||◌, ◌&&◌, Option, Some, None, IfSome, refl, ap, sym, subst, arith, nat_lt, then_some, and_from, and_parts, both_ways, cases_eq, cases_lt, eq-eqb, eqb-true, le-ltb, lt-ltb, or_cases, or_left, or_right, one_truth, Area, columns, place, row_of, column_of, is_within, fewer_places, places_left, within_between, row_of_place, column_of_place, column_within, within_parts, IsAtOrBefore, IsFirst, is_after}
+use Rattle.std.proofs.lemmas.Bool.{ltb-true}
+use Rattle.wi_edit_log.proofs.Shared.{no_sooner, within_from}
 
 -- ---- the first
 
@@ -157,7 +151,7 @@ module _ (r : Area) (at : ℕ) (next : Option ℕ) (w : is_within r at ≡ true)
   ]
 
   pub one_more_before : (a : ℕ) → (is_within r a && is_before next a) ≡ ((is_within r a && nat_lt a at) || (at == a))
-  one_more_before a = same_test (is_within r a && is_before next a) ((is_within r a && nat_lt a at) || (at == a)) (at_or_before a) (before a)
+  one_more_before a = one_truth (is_within r a && is_before next a) ((is_within r a && nat_lt a at) || (at == a)) (at_or_before a) (before a)
 
   next_within : (o : Option ℕ) → IfSome o (λ a. is_after r at a ≡ true) → IfSome o (λ a. is_within r a ≡ true)
   next_within None k = tt

@@ -4,7 +4,7 @@ ghost use Rattle.std.specs.Prelude.{◌≡◌, ◌-◌, ◌<◌, ◌↔◌, ◌+
 ghost use Rattle.wi_edit_log.specs.EditLog.{first_stale};
 
 use crate::edit::{Edit, first_of_others, run_after};
-use crate::named::are_narrow;
+use crate::named::{Named, are_narrow};
 use crate::noted::Noted;
 use std::alloc::{AllocError, Global};
 use std::marker::Model;
@@ -54,7 +54,17 @@ impl EditLog {
             ≡ self.old ++ record { session = session; cells = cells.items } ∷ []) }
         ensures err { OnErr result (self.new ≡ self.old) }
     {
-        let edit = Edit::after(&self.edits, session, cells)?;
+        let named = Named::new(cells)?;
+        self.add_named(session, named)
+    }
+
+    /// The same of rectangles that are named already.
+    pub fn add_named(&mut self, session: u32, named: Named) -> Result<(), AllocError>
+        ensures ok { OnOk result (self.new
+            ≡ self.old ++ record { session = session; cells = named } ∷ []) }
+        ensures err { OnErr result (self.new ≡ self.old) }
+    {
+        let edit = Edit::after(&self.edits, session, named);
         push_edit(&mut self.edits, edit)?;
         Ok(())
     }

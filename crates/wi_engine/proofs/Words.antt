@@ -2,7 +2,6 @@
 pub use Rattle.std.proofs.Common.{All, Bool, Contains, Err, IfNone, IfSome, IsErr, IsSome, List, MatchResult, None, Ok, OnErr, OnOk, Option, Result, Some, [], ap, append-nil, append_assoc, arith, cond, drop, drop-cons, eq-eqb, eqb-true, false, filter, get_or, if◌then◌else◌, inl, inr, is_ok, is_some, length, length-append, map, not, refl, rules, slice_get, subst, suc, sum_by, sym, take, take_all, true, true≢false, zero, ℕ, ◌&&◌, ◌*◌, ◌++◌, ◌+◌, ◌-◌, ◌<◌, ◌==◌, ◌^◌, ◌||◌, ◌∙◌, ◌∷◌, ◌≡◌, ◌≤◌, ◌⊎◌}
 pub use Rattle.std.proofs.Math.Bool.{or-false}
 pub use Rattle.std.proofs.Math.ListN.{drop_of_length-le}
-pub use Rattle.std.proofs.Math.Nat.{mod-lt}
 pub use Rattle.std.proofs.lemmas.Bool.{and_from, and_parts, cases_lt, false_from_ne_true, le-leb, leb-true, lt-leb, ltb-false, ltb-true, or_cases, or_from, or_left, or_parts, or_right}
 pub use Rattle.std.proofs.lemmas.Bool.Decides.{nat_tests}
 pub use Rattle.std.proofs.lemmas.Cmp.{ranked}
@@ -18,24 +17,31 @@ pub use Rattle.std.proofs.lemmas.Result.{IfOk-weaker}
 pub use Rattle.std.specs.BTreeMap.{BTreeMap, IsEmpty, Updates, get, is_at}
 pub use Rattle.std.specs.BTreeSet.{BTreeSet, contains}
 pub use Rattle.std.specs.Borrow.{Bor}
+pub use Rattle.std.specs.Cmp.Derive.{one_truth}
 pub use Rattle.std.specs.Global.{Vec}
 pub use Rattle.std.specs.List.{find, list_any}
-unfoldable pub use Rattle.std.specs.List.{IsDistinct}
 pub use Rattle.std.specs.List.Sorted.{IsBinarySearchResult, IsNonDecreasingBy, IsPartitionPoint, IsSearchInRange, IsStrictlyIncreasing, IsStrictlySortedBy}
 pub use Rattle.std.specs.Map.{keys_of, lookup}
 pub use Rattle.std.specs.Option.{is_none, option_copied, option_or}
 pub use Rattle.std.specs.Ordering.{nat_cmp, ordering_index}
 pub use Rattle.std.specs.Prelude.{nat_le, nat_lt, option_map}
 pub use Rattle.std.specs.declared.alloc.AllocError.{AllocError}
+pub use Rattle.wi_arguments.proofs.Passing.{Passed, passed_on}
+pub use Rattle.wi_arguments.proofs.Walking.{PassesEmpty, enough, joined, moves_on, successor_to_come}
+pub use Rattle.wi_arguments.specs.Assignment.{AgreesWith, Assignment, addresses, value_if_known}
+pub use Rattle.wi_arguments.specs.Filled.{ComesBefore, is_known_empty}
+pub use Rattle.wi_arguments.specs.Walk.{HasTaken, after_cells}
+pub use Rattle.wi_arguments.specs.declared.lookup.LookedUp.{LookedUp}
 pub use Rattle.wi_cache.proofs.Keys.{same_key_Decides}
 pub use Rattle.wi_cache.specs.Entries.{Entries, Puts, same_key, value_for}
 pub use Rattle.wi_cache.specs.declared.key.Key.{Key}
 pub use Rattle.wi_engine.specs.Inner.Attempt.{AsksAt, IsLacking, cell_known, known_in, lacking, lacking_after, lacks_cell}
 pub use Rattle.wi_engine.specs.Inner.Attempts.{IsAttemptOf}
 pub use Rattle.wi_engine.specs.Inner.Courses.{AreTogether, IsCourseTo, IsSmallestWith, is_next, part}
-pub use Rattle.wi_engine.specs.Inner.Findings.{AreAllRight, IsWithCell, IsWithWhatIf, first_for, first_of, found_value, pairs_of, same_pairs, what_if_found}
-pub use Rattle.wi_engine.specs.Inner.Frames.{AreBelow, AreReadHere, Awaits, BottomIs, IsBegun, IsDemanded, IsFormulaKey, IsFrame, IsNext, IsNextFormula, IsStack, IsUnvalued, IsUnvaluedFormula, IsUnvaluedKey, MayBeRead, StandsAt, at_most, case_at, content_reads_here, frame_cost, frames_cost, lacks, spare, taken, waits, waits_at}
+pub use Rattle.wi_engine.specs.Inner.Findings.{AreAllRight, IsWithCell, IsWithWhatIf, found_value, found_what_ifs, what_if_found}
+pub use Rattle.wi_engine.specs.Inner.Frames.{AreBelow, AreLinked, AreReadHere, Awaits, BottomIs, IsAwaited, IsBegun, IsDemanded, IsFormulaKey, IsFrame, IsNext, IsNextFormula, IsStack, IsUnvalued, IsUnvaluedFormula, IsUnvaluedKey, MayBeRead, StandsAt, at_most, case_at, content_reads_here, frame_cost, frames_cost, key_above, lacks, spare, taken, waits}
 pub use Rattle.wi_engine.specs.Inner.Keeps.{HasKept, Keeps}
+pub use Rattle.wi_engine.specs.Inner.Lists.{first_for, first_of, pairs_of, same_pairs}
 pub use Rattle.wi_engine.specs.Inner.MemoState.{AreKnownRight, IsClosedUnderReads, IsMemoOf, IsTold, MemoState}
 pub use Rattle.wi_engine.specs.Inner.Remembered.{AreCones, OneQuestion, key_of, question_state, remembered}
 pub use Rattle.wi_engine.specs.Inner.Saving.{GivesUpWhenFull, IsValuedAnew, KeepsFound, NeedsNoEvaluation, TakesNoMore, TakesPlaces, WhereRoom, not_kept}
@@ -49,11 +55,11 @@ pub use Rattle.wi_engine.specs.declared.course.Course.{Course}
 pub use Rattle.wi_engine.specs.declared.course.Way.{Way}
 pub use Rattle.wi_engine.specs.declared.course.Way.TheVariants.{Alone, Column, Row, Whole}
 pub use Rattle.wi_engine.specs.declared.findings.Findings.{Findings}
-pub use Rattle.wi_engine.specs.declared.findings.FoundWhatIf.{FoundWhatIf}
 pub use Rattle.wi_engine.specs.declared.frame.Frame.{Frame}
 pub use Rattle.wi_engine.specs.declared.frame.Unvalued.{Unvalued}
 pub use Rattle.wi_engine.specs.declared.frame.Waiting.{Waiting}
 pub use Rattle.wi_engine.specs.declared.frame.Waiting.TheVariants.{Cells, Nothing}
+pub use Rattle.wi_engine.specs.declared.lists.FoundWhatIf.{FoundWhatIf}
 pub use Rattle.wi_engine.specs.declared.lookup.Known.{Known}
 pub use Rattle.wi_engine.specs.declared.seen.Seen.{Seen}
 pub use Rattle.wi_engine.specs.declared.walk.Progress.{Progress}
@@ -72,16 +78,11 @@ pub use Rattle.wi_graph.proofs.Ends.{ends_open}
 pub use Rattle.wi_graph.proofs.Graphs.{left_circular}
 pub use Rattle.wi_graph.proofs.Layers.{list_any-both}
 pub use Rattle.wi_graph.proofs.ReachSteps.{reaches_by_step, reaches_here, reaches_on, reaches_read, reaches_step}
-pub use Rattle.wi_graph.proofs.ReachTest.{finds_in, keeps_few, reaches_true, true_reaches}
-pub use Rattle.wi_graph.proofs.Walks.{formula_cell, found, same_cell, same_tests}
+pub use Rattle.wi_graph.proofs.ReachTest.{finds_in, reaches_true, true_reaches}
+pub use Rattle.wi_graph.proofs.SetSteps.{taken_one}
+pub use Rattle.wi_graph.proofs.Walks.{formula_cell, found, same_cell}
 pub use Rattle.wi_graph.specs.Circular.{circular}
 pub use Rattle.wi_graph.specs.Reach.{Reaches, is_one_of, reaches}
-pub use Rattle.wi_arguments.proofs.Passing.{Passed, passed_on}
-pub use Rattle.wi_arguments.proofs.Walking.{PassesEmpty, enough, joined, moves_on, successor_to_come}
-pub use Rattle.wi_arguments.specs.Assignment.{AgreesWith, Assignment, addresses, value_if_known}
-pub use Rattle.wi_arguments.specs.Filled.{ComesBefore, is_known_empty}
-pub use Rattle.wi_arguments.specs.Walk.{HasTaken, after_cells}
-pub use Rattle.wi_arguments.specs.declared.lookup.LookedUp.{LookedUp}
 pub use Rattle.wi_parser.proofs.Rectangles.{one_cell, reads_within}
 pub use Rattle.wi_parser.specs.Reads.{content_reads, reads, rectangles_of}
 pub use Rattle.wi_parser.specs.Sheet.{Sheet, cells_with_formula, constant, content_of, has_formula, put_all}
@@ -94,7 +95,7 @@ pub use Rattle.wi_sheet.proofs.Bounds.{put_formula, put_reads, tree_reads}
 pub use Rattle.wi_sheet.proofs.CaseCosts.{left_at_keep, left_falls, never_fall-same, never_fall-then, one_less_left, spent_all, spent_none, spent_then, spent_weaken}
 pub use Rattle.wi_sheet.proofs.Cases.{one_case, pair_path, same_case-refl}
 pub use Rattle.wi_sheet.proofs.Demands.{demand_closed, demand_has_itself, here_reads, same_tree, what_if_reads}
-pub use Rattle.wi_sheet.proofs.Filters.{PassesToo, fewer, in_filter, in_first, no_more}
+pub use Rattle.wi_sheet.proofs.Filters.{PassesToo, fewer, in_filter, no_more}
 pub use Rattle.wi_sheet.proofs.Inputs.{one_more_input}
 pub use Rattle.wi_sheet.proofs.Last.{over}
 pub use Rattle.wi_sheet.proofs.Meanings.{meaning_same}
@@ -121,10 +122,10 @@ pub use Rattle.wi_sheet.specs.Inner.Spending.{HasCase, IsClosed, NeverFall, Rest
 pub use Rattle.wi_sheet.specs.Settled.{AgreesWhereSettled, IsSettled, IsWhatIfSettled, RestsOnKept}
 pub use Rattle.wi_store.proofs.NextRoom.{find_ahead}
 pub use Rattle.wi_store.specs.Store.{Stored, is_ahead}
+pub use Rattle.wi_values.proofs.Lists.{keeps_few}
 pub use Rattle.wi_values.proofs.Order.{Ascends, Ascends-from_order, ComeAfter, at_earlier, at_itself, at_same, come_after_earlier, is_at-eq, lookup_after, order-from_Ascends, turn_test}
 pub use Rattle.wi_values.proofs.Replacements.InOrder.{order_from_sorted, sorted_from_order}
-pub use Rattle.wi_values.proofs.Replacements.Same.{same_replacements_Decides}
-pub use Rattle.wi_values.proofs.Within.{places_left, within_between}
+pub use Rattle.wi_values.proofs.Within.{column_within, places_left, within_between}
 pub use Rattle.wi_values.specs.Address.{Area, column_of, is_within, row_of, size_of}
 pub use Rattle.wi_values.specs.Replacements.{IsInOrder, as_map, replaced, same_replacements}
 pub use Rattle.wi_values.specs.declared.replacement.Replacement.{Replacement}

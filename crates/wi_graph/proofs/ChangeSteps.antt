@@ -1,63 +1,31 @@
 -- What an edit brings, step by step, and a sheet that has it.
-use Rattle.std.proofs.Common.{◌≡◌, ◌==◌, ◌+◌, ◌<◌, ◌≤◌, ℕ, Bool, true, false, cond, List, [], ◌∷◌, ◌++◌, take, take_all, get_or, length, Option, Some, None, IfSome, refl, ap, sym, ◌∙◌, subst, arith, add-one}
-use Rattle.std.proofs.Math.Seq.{take-suc}
-use Rattle.std.proofs.lemmas.Grind.{common_steps}
-use Rattle.std.proofs.lemmas.Bool.{or_parts}
-use Rattle.std.proofs.lemmas.Slice.Eq.{slice_eq-Decides}
-use Rattle.std.specs.Bool.{Decides}
-use Rattle.std.specs.Prelude.{◌&&◌, if◌then◌else◌}
-use Rattle.std.specs.Option.{option_eq, is_none}
-use Rattle.std.specs.Cmp.Lexicographic.{pointwise}
+use Rattle.wi_graph.proofs.Words.{◌≡◌, ◌==◌, ◌+◌, ◌<◌, ◌≤◌, ℕ, Bool, true, false, cond, List, [], ◌∷◌, ◌++◌, take, take_all, get_or, length, Option, Some, None, IfSome, refl, ap, sym, ◌∙◌, subst, arith, common_steps, or_parts, slice_eq-Decides, Decides, if◌then◌else◌, option_eq, is_none, pointwise, nat_cmp, keys_of, is_at, Area, get, IsOrdered, Empty, Content, Constant, Sheet, content_of, SameOff, Edges, areas_in, areas_at, with_areas, edges_after, Rooms, Coming, AreInOrder, brought_to, coming_at, items_of, in_room, room_at, put_over, room_over, edges_in, edges_over, areas_then, Brings, HasNoIdle, ReadsStay, Ascends-from_order, order-from_Ascends, taken_more, SmallVec}
+use Rattle.std.specs.Prelude.{◌&&◌}
 use Rattle.wi_values.specs.contracts.rect.RectPartialEq.TheImpl as rect
-use Rattle.std.specs.Ordering.{nat_cmp}
-use Rattle.std.specs.Map.{keys_of}
-use Rattle.std.specs.Global.{Vec}
-use Rattle.std.specs.BTreeMap.{is_at}
-use Rattle.wi_values.specs.Address.{Area}
-use Rattle.wi_tiles.specs.Entries.{get, IsOrdered}
-use Rattle.wi_values.specs.declared.value.Value.TheVariants.{Empty}
-use Rattle.wi_parser.specs.declared.content.Content.{Content}
-use Rattle.wi_parser.specs.declared.content.Content.TheVariants.{Constant}
-use Rattle.wi_parser.specs.Sheet.{Sheet, content_of}
-use Rattle.wi_graph.specs.Reach.{SameOff}
-use Rattle.wi_graph.specs.Edges.{Edges, areas_in, areas_at, with_areas, edges_after}
-use Rattle.wi_graph.specs.Inner.Rooms.{Rooms, Coming, AreInOrder, brought_to, coming_at, items_of, in_room, room_at, put_over, room_over, edges_in, edges_over}
-use Rattle.wi_graph.specs.Inner.Changes.{areas_then, Brings, HasNoIdle, ReadsStay}
 use Rattle.wi_graph.proofs.Tests.{at_same, turn_test, is_at-eq}
 use Rattle.wi_graph.proofs.Walks.{same_cell}
-use Rattle.wi_values.proofs.Order.{Ascends-from_order, order-from_Ascends}
-use Rattle.wi_graph.proofs.ComingSteps.{one_longer}
 use Rattle.wi_graph.proofs.EdgeLemmas.{same_edges, areas_with, areas_over, areas_rooms, ascends_over, ascends_after, ascends_rooms}
 
 then_more : (xs : List (ℕ × Option Content)) (x : ℕ × Option Content) (c : ℕ) (o : Option (List Area)) → areas_then (xs ++ x ∷ []) c o ≡ cond (c == x.0) (areas_in x.1) (areas_then xs c o)
 then_more [] x c o = refl
 then_more (y ∷ ys) x c o = then_more ys x c (cond (c == y.0) (areas_in y.1) o)
 
-took : (xs : List (ℕ × Option Content)) (i : ℕ) (x : ℕ × Option Content) → i < length xs → x ≡ get_or xs i x → take (i + 1) xs ≡ take i xs ++ x ∷ []
-took xs i x l e = ap (λ (n : ℕ). take n xs) (add-one i) ∙ take-suc xs i x l ∙ ap (λ (y : ℕ × Option Content). take i xs ++ y ∷ []) (sym e)
-
 cells_more : (xs : List (ℕ × Option Content)) (x : ℕ × Option Content) → keys_of (xs ++ x ∷ []) ≡ keys_of xs ++ x.0 ∷ []
 cells_more [] x = refl
 cells_more (y ∷ ys) x = ap (λ (zs : List ℕ). y.0 ∷ zs) (cells_more ys x)
 
 pub cells_step : (xs : List (ℕ × Option Content)) (i : ℕ) (x : ℕ × Option Content) (old new : List ℕ) → i < length xs → x ≡ get_or xs i x → new ≡ old ++ x.0 ∷ [] → old ≡ keys_of (take i xs) → new ≡ keys_of (take (i + 1) xs)
-cells_step xs i x old new l e n h = n ∙ ap (λ (ys : List ℕ). ys ++ x.0 ∷ []) h ∙ sym (cells_more (take i xs) x) ∙ ap keys_of (sym (took xs i x l e))
-
--- the cell of one change
-pub lone_key : (xs : List (ℕ × Option Content)) (x : ℕ × Option Content) → length xs ≡ 1 → x ≡ get_or xs 0 x → keys_of xs ≡ x.0 ∷ []
-lone_key [] x l e = absurd (omega (arith, l))
-lone_key (y ∷ []) x l e = ap (λ (z : ℕ × Option Content). z.0 ∷ []) (sym e)
-lone_key (y ∷ z ∷ zs) x l e = absurd (omega (arith, l))
+cells_step xs i x old new l e n h = n ∙ ap (λ (ys : List ℕ). ys ++ x.0 ∷ []) h ∙ sym (cells_more (take i xs) x) ∙ ap keys_of (sym (taken_more xs i x l e))
 
 -- what is next for a cell is put in, or taken out
-abbrev pub Updates : ℕ → Option (Option (Vec Area)) → Coming → Coming → Type 0
+abbrev pub Updates : ℕ → Option (Option (SmallVec Area)) → Coming → Coming → Type 0
 Updates k x old new = (q : ℕ) → brought_to new q ≡ cond (is_at (nat_cmp k) q) x (brought_to old q)
 
 abbrev pub Puts : Rooms → ℕ → Option (List Area) → Coming → Coming → Type 0
 Puts rooms k o old new = (c : ℕ) → room_over new rooms c ≡ (if k == c then o else room_over old rooms c)
 
-next_step : (rooms : Rooms) (old new : Coming) (k : ℕ) (x : Option (Option (Vec Area))) (o : Option (List Area)) → put_over x (room_at rooms k) ≡ o → Updates k x old new → Puts rooms k o old new
-next_step rooms old new k x o e u c = ap (λ (z : Option (Option (Vec Area))). put_over z (room_at rooms c)) (u c) ∙ at (is_at (nat_cmp k) c) (k == c) (is_at-eq k c) refl
+next_step : (rooms : Rooms) (old new : Coming) (k : ℕ) (x : Option (Option (SmallVec Area))) (o : Option (List Area)) → put_over x (room_at rooms k) ≡ o → Updates k x old new → Puts rooms k o old new
+next_step rooms old new k x o e u c = ap (λ (z : Option (Option (SmallVec Area))). put_over z (room_at rooms c)) (u c) ∙ at (is_at (nat_cmp k) c) (k == c) (is_at-eq k c) refl
   where
     at : (b d : Bool) → b ≡ d → (k == c) ≡ d → put_over (cond b x (brought_to old c)) (room_at rooms c) ≡ cond d o (room_over old rooms c)
     at true true s f = ap (λ (y : ℕ). put_over x (room_at rooms y)) (sym (same_cell c k f)) ∙ e
@@ -65,7 +33,7 @@ next_step rooms old new k x o e u c = ap (λ (z : Option (Option (Vec Area))). p
     at true false s f = cc
     at false true s f = cc
 
-pub next_put : (rooms : Rooms) (old new : Coming) (k : ℕ) (r : Option (Vec Area)) → Updates k (Some r) old new → Puts rooms k (items_of r) old new
+pub next_put : (rooms : Rooms) (old new : Coming) (k : ℕ) (r : Option (SmallVec Area)) → Updates k (Some r) old new → Puts rooms k (items_of r) old new
 next_put rooms old new k r u = next_step rooms old new k (Some r) (items_of r) refl u
 
 none_both : (o p : Option (List Area)) → (is_none o && is_none p) ≡ true → o ≡ p
@@ -73,11 +41,11 @@ none_both None None h = refl
 none_both None (Some x) h = cc
 none_both (Some x) p h = cc
 
-pub next_out : (rooms : Rooms) (old new : Coming) (k : ℕ) (r : Option (Vec Area)) → (is_none (items_of r) && is_none (room_at rooms k)) ≡ true → Updates k None old new → Puts rooms k (items_of r) old new
+pub next_out : (rooms : Rooms) (old new : Coming) (k : ℕ) (r : Option (SmallVec Area)) → (is_none (items_of r) && is_none (room_at rooms k)) ≡ true → Updates k None old new → Puts rooms k (items_of r) old new
 next_out rooms old new k r h u = next_step rooms old new k None (items_of r) (sym (none_both (items_of r) (room_at rooms k) h)) u
 
 -- nothing idle is next after it either
-no_idle_step : (rooms : Rooms) (old new : Coming) (k : ℕ) (x : Option (Option (Vec Area))) → (room_at rooms k ≡ None → in_room x ≡ None → x ≡ None) → Updates k x old new → HasNoIdle rooms old → HasNoIdle rooms new
+no_idle_step : (rooms : Rooms) (old new : Coming) (k : ℕ) (x : Option (Option (SmallVec Area))) → (room_at rooms k ≡ None → in_room x ≡ None → x ≡ None) → Updates k x old new → HasNoIdle rooms old → HasNoIdle rooms new
 no_idle_step rooms old new k x e u h c n m = u c ∙ at (is_at (nat_cmp k) c) (k == c) (is_at-eq k c) refl (ap in_room (sym (u c)) ∙ m)
   where
     at : (b d : Bool) → b ≡ d → (k == c) ≡ d → in_room (cond b x (brought_to old c)) ≡ None → cond b x (brought_to old c) ≡ None
@@ -94,20 +62,20 @@ not_both None None e f = refl
 not_both None (Some x) e f = cc
 not_both (Some x) p e f = cc
 
-pub put_idle : (rooms : Rooms) (old new : Coming) (k : ℕ) (r : Option (Vec Area)) → (is_none (items_of r) && is_none (room_at rooms k)) ≡ false → Updates k (Some r) old new → HasNoIdle rooms old → HasNoIdle rooms new
+pub put_idle : (rooms : Rooms) (old new : Coming) (k : ℕ) (r : Option (SmallVec Area)) → (is_none (items_of r) && is_none (room_at rooms k)) ≡ false → Updates k (Some r) old new → HasNoIdle rooms old → HasNoIdle rooms new
 put_idle rooms old new k r h u = no_idle_step rooms old new k (Some r) (λ n i. let z : true ≡ false = sym (not_both (items_of r) (room_at rooms k) i n) ∙ h in cc) u
 
 pub brings_step : (xs : List (ℕ × Option Content)) (i : ℕ) (x : ℕ × Option Content) (rooms : Rooms) (old new : Coming) (o : Option (List Area)) → i < length xs → x ≡ get_or xs i x → o ≡ areas_in x.1 → Puts rooms x.0 o old new → Brings rooms old (take i xs) → Brings rooms new (take (i + 1) xs)
 brings_step xs i x rooms old new o l e g u h c =
     u c ∙ ap (λ (b : Bool). cond b o (room_over old rooms c)) (turn_test x.0 c) ∙ at (c == x.0) ∙ sym (then_more (take i xs) x c (room_at rooms c))
-    ∙ ap (λ (ys : List (ℕ × Option Content)). areas_then ys c (room_at rooms c)) (sym (took xs i x l e))
+    ∙ ap (λ (ys : List (ℕ × Option Content)). areas_then ys c (room_at rooms c)) (sym (taken_more xs i x l e))
   where
     at : (b : Bool) → cond b o (room_over old rooms c) ≡ cond b (areas_in x.1) (areas_then (take i xs) c (room_at rooms c))
     at true = g
     at false = h c
 
 pub brings_start : (rooms : Rooms) (next : Coming) → next ≡ [] → Brings rooms next [] × HasNoIdle rooms next
-brings_start rooms next e = (λ c. ap (λ (o : Option (Option (Vec Area))). put_over o (room_at rooms c)) (none c), λ c h k. none c)
+brings_start rooms next e = (λ c. ap (λ (o : Option (Option (SmallVec Area))). put_over o (room_at rooms c)) (none c), λ c h k. none c)
   where
     none : (c : ℕ) → brought_to next c ≡ None
     none c = ap (λ (es : Coming). brought_to es c) e
@@ -122,7 +90,7 @@ only_one [] x l e = absurd (omega (arith, l))
 only_one (y ∷ []) x l e = ap (λ (z : ℕ × Option Content). z ∷ []) e
 only_one (y ∷ z ∷ zs) x l e = absurd (omega (arith, l))
 
-pub brings_one : (rooms : Rooms) (k : ℕ) (o : Option Content) (r : Option (Vec Area)) (next : Coming) → next ≡ (k, r) ∷ [] → items_of r ≡ areas_in o → Brings rooms next ((k, o) ∷ [])
+pub brings_one : (rooms : Rooms) (k : ℕ) (o : Option Content) (r : Option (SmallVec Area)) (next : Coming) → next ≡ (k, r) ∷ [] → items_of r ≡ areas_in o → Brings rooms next ((k, o) ∷ [])
 brings_one rooms k o r next e i c = ap (λ (es : Coming). room_over es rooms c) e ∙ at (is_at (nat_cmp c) k) (c == k) (is_at-eq c k)
   where
     at : (b d : Bool) → b ≡ d → put_over (cond b (Some r) None) (room_at rooms c) ≡ cond d (areas_in o) (room_at rooms c)
@@ -131,25 +99,25 @@ brings_one rooms k o r next e i c = ap (λ (es : Coming). room_over es rooms c) 
     at true false s = cc
     at false true s = cc
 
-pub brings_none : (rooms : Rooms) (k : ℕ) (o : Option Content) (r : Option (Vec Area)) (next : Coming) → next ≡ [] → items_of r ≡ areas_in o → (is_none (items_of r) && is_none (room_at rooms k)) ≡ true → Brings rooms next ((k, o) ∷ [])
+pub brings_none : (rooms : Rooms) (k : ℕ) (o : Option Content) (r : Option (SmallVec Area)) (next : Coming) → next ≡ [] → items_of r ≡ areas_in o → (is_none (items_of r) && is_none (room_at rooms k)) ≡ true → Brings rooms next ((k, o) ∷ [])
 brings_none rooms k o r next e i n c = ap (λ (es : Coming). room_over es rooms c) e ∙ at (c == k) refl
   where
     at : (d : Bool) → (c == k) ≡ d → room_at rooms c ≡ cond d (areas_in o) (room_at rooms c)
     at true s = ap (room_at rooms) (same_cell k c s) ∙ sym (none_both (items_of r) (room_at rooms k) n) ∙ i
     at false s = refl
 
-pub one_idle : (rooms : Rooms) (k : ℕ) (r : Option (Vec Area)) (next : Coming) → next ≡ (k, r) ∷ [] → (is_none (items_of r) && is_none (room_at rooms k)) ≡ false → HasNoIdle rooms next
+pub one_idle : (rooms : Rooms) (k : ℕ) (r : Option (SmallVec Area)) (next : Coming) → next ≡ (k, r) ∷ [] → (is_none (items_of r) && is_none (room_at rooms k)) ≡ false → HasNoIdle rooms next
 one_idle rooms k r next e n c h i = ap (λ (es : Coming). brought_to es c) e ∙ at (is_at (nat_cmp c) k) refl (ap (λ (es : Coming). coming_at es c) (sym e) ∙ i)
   where
     at : (b : Bool) → is_at (nat_cmp c) k ≡ b → in_room (cond b (Some r) None) ≡ None → cond b (Some r) None ≡ None
     at true s j = let z : true ≡ false = sym (not_both (items_of r) (room_at rooms k) j (ap (room_at rooms) (at_same c k s) ∙ h)) ∙ n in cc
     at false s j = refl
 
-pub one_order : (k : ℕ) (r : Option (Vec Area)) (next : Coming) → next ≡ (k, r) ∷ [] → AreInOrder next
+pub one_order : (k : ℕ) (r : Option (SmallVec Area)) (next : Coming) → next ≡ (k, r) ∷ [] → AreInOrder next
 one_order k r next e = subst AreInOrder (sym e) (order-from_Ascends ((k, r) ∷ []) (tt, tt))
 
 pub none_order : (next : Coming) → next ≡ [] → AreInOrder next
-none_order next e = subst AreInOrder (sym e) (order-from_Ascends {X = Option (Vec Area)} [] tt)
+none_order next e = subst AreInOrder (sym e) (order-from_Ascends {X = Option (SmallVec Area)} [] tt)
 
 -- ---- the edges after it
 
@@ -163,7 +131,7 @@ staged_edges rooms new next later xs o p b e f =
     let s = Ascends-from_order rooms.entries o in
     let t = Ascends-from_order new.entries p in
     same_edges (edges_over (edges_in new.entries) later) (edges_after (edges_in rooms.entries) xs) (ascends_over (edges_in new.entries) later (ascends_rooms new.entries t)) (ascends_after (edges_in rooms.entries) xs (ascends_rooms rooms.entries s))
-    (λ q. areas_over (edges_in new.entries) later q ∙ ap (λ (z : Option (Option (Vec Area))). put_over z (areas_at (edges_in new.entries) q)) (f q)
+    (λ q. areas_over (edges_in new.entries) later q ∙ ap (λ (z : Option (Option (SmallVec Area))). put_over z (areas_at (edges_in new.entries) q)) (f q)
     ∙ ap (put_over (brought_to next q)) (areas_rooms new.entries t q ∙ e q) ∙ b q ∙ ap (areas_then xs q) (sym (areas_rooms rooms.entries s q)) ∙ sym (then_edges (edges_in rooms.entries) xs q))
 
 -- ---- what stays
@@ -171,13 +139,13 @@ staged_edges rooms new next later xs o p b e f =
 same_area : (x y : Area) → Decides (rect.ghosts.eq x y) (x ≡ y)
 same_area x y = grind (arith, common_steps)
 
-pub same_room : (r : Bool) (o p : Option (Vec Area)) → r ≡ option_eq (λ x y. pointwise rect.ghosts.eq x.items y.items) o p → Decides r (items_of o ≡ items_of p)
+pub same_room : (r : Bool) (o p : Option (SmallVec Area)) → r ≡ option_eq (λ x y. pointwise rect.ghosts.eq x.items y.items) o p → Decides r (items_of o ≡ items_of p)
 same_room r None None e = (λ h. refl, λ h. e)
 same_room r None (Some w) e = (λ h. cc, λ h. cc)
 same_room r (Some v) None e = (λ h. cc, λ h. cc)
 same_room r (Some v) (Some w) e = let d = slice_eq-Decides same_area v.items w.items r e in (λ h. ap (λ (xs : List Area). Some xs) (d.0 h), λ h. let k : v.items ≡ w.items = cc in d.1 k)
 
-pub no_room : (rooms : Rooms) (c : ℕ) (r : Bool) (o : Option (Vec Area)) → get nat_cmp rooms c ≡ None → r ≡ is_none o → Decides r (items_of o ≡ room_at rooms c)
+pub no_room : (rooms : Rooms) (c : ℕ) (r : Bool) (o : Option (SmallVec Area)) → get nat_cmp rooms c ≡ None → r ≡ is_none o → Decides r (items_of o ≡ room_at rooms c)
 no_room rooms c r None e f = (λ h. sym (ap in_room e), λ h. f)
 no_room rooms c r (Some v) e f = (λ h. cc, λ h. let z : Some v.items ≡ None = h ∙ ap in_room e in cc)
 
@@ -185,10 +153,10 @@ no_room rooms c r (Some v) e f = (λ h. cc, λ h. let z : Some v.items ≡ None 
 abbrev pub AreAsBefore : Rooms → Coming → Type 0
 AreAsBefore rooms es = (c : ℕ) → IfSome (brought_to es c) (λ r. items_of r ≡ room_at rooms c)
 
-one_more : (rooms : Rooms) (c : ℕ) (x : ℕ × Option (Vec Area)) (front : Coming) → items_of x.1 ≡ room_at rooms x.0 → IfSome (brought_to front c) (λ r. items_of r ≡ room_at rooms c) → IfSome (brought_to (front ++ x ∷ []) c) (λ r. items_of r ≡ room_at rooms c)
+one_more : (rooms : Rooms) (c : ℕ) (x : ℕ × Option (SmallVec Area)) (front : Coming) → items_of x.1 ≡ room_at rooms x.0 → IfSome (brought_to front c) (λ r. items_of r ≡ room_at rooms c) → IfSome (brought_to (front ++ x ∷ []) c) (λ r. items_of r ≡ room_at rooms c)
 one_more rooms c x [] k h = at (is_at (nat_cmp c) x.0) refl
   where
-    at : (b : Bool) → is_at (nat_cmp c) x.0 ≡ b → IfSome (cond {A = Option (Option (Vec Area))} b (Some x.1) None) (λ r. items_of r ≡ room_at rooms c)
+    at : (b : Bool) → is_at (nat_cmp c) x.0 ≡ b → IfSome (cond {A = Option (Option (SmallVec Area))} b (Some x.1) None) (λ r. items_of r ≡ room_at rooms c)
     at true f = k ∙ ap (room_at rooms) (at_same c x.0 f)
     at false f = tt
 one_more rooms c x (y ∷ ys) k h = at (is_at (nat_cmp c) y.0) h (one_more rooms c x ys k)
@@ -198,18 +166,18 @@ one_more rooms c x (y ∷ ys) k h = at (is_at (nat_cmp c) y.0) h (one_more rooms
     at true g ih = g
     at false g ih = ih g
 
-pub more_as_before : (rooms : Rooms) (xs : Coming) (i : ℕ) (x : ℕ × Option (Vec Area)) → i < length xs → x ≡ get_or xs i x → items_of x.1 ≡ room_at rooms x.0 → AreAsBefore rooms (take i xs) → AreAsBefore rooms (take (i + 1) xs)
-more_as_before rooms xs i x l e k h = subst (AreAsBefore rooms) (sym (one_longer xs i x l e)) (λ c. one_more rooms c x (take i xs) k (h c))
+pub more_as_before : (rooms : Rooms) (xs : Coming) (i : ℕ) (x : ℕ × Option (SmallVec Area)) → i < length xs → x ≡ get_or xs i x → items_of x.1 ≡ room_at rooms x.0 → AreAsBefore rooms (take i xs) → AreAsBefore rooms (take (i + 1) xs)
+more_as_before rooms xs i x l e k h = subst (AreAsBefore rooms) (sym (taken_more xs i x l e)) (λ c. one_more rooms c x (take i xs) k (h c))
 
 pub all_as_before : (rooms : Rooms) (next : Coming) → AreAsBefore rooms next → ReadsStay rooms next
 all_as_before rooms next h c = at (brought_to next c) (h c)
   where
-    at : (o : Option (Option (Vec Area))) → IfSome o (λ r. items_of r ≡ room_at rooms c) → put_over o (room_at rooms c) ≡ room_at rooms c
+    at : (o : Option (Option (SmallVec Area))) → IfSome o (λ r. items_of r ≡ room_at rooms c) → put_over o (room_at rooms c) ≡ room_at rooms c
     at None k = refl
     at (Some r) k = k
 
-pub one_stays : (rooms : Rooms) (next : Coming) (c : ℕ) (r : Option (Vec Area)) → brought_to next c ≡ Some r → ReadsStay rooms next → items_of r ≡ room_at rooms c
-one_stays rooms next c r e h = ap (λ (o : Option (Option (Vec Area))). put_over o (room_at rooms c)) (sym e) ∙ h c
+pub one_stays : (rooms : Rooms) (next : Coming) (c : ℕ) (r : Option (SmallVec Area)) → brought_to next c ≡ Some r → ReadsStay rooms next → items_of r ≡ room_at rooms c
+one_stays rooms next c r e h = ap (λ (o : Option (Option (SmallVec Area))). put_over o (room_at rooms c)) (sym e) ∙ h c
 
 -- so are the edges
 pub stay_edges : (rooms : Rooms) (next : Coming) → IsOrdered nat_cmp rooms → ReadsStay rooms next → edges_over (edges_in rooms.entries) next ≡ edges_in rooms.entries

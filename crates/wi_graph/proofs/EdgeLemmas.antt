@@ -1,21 +1,5 @@
 -- Edges in order, and what is found in them.
-use Rattle.std.proofs.Common.{◌≡◌, ◌==◌, ◌<◌, ℕ, Bool, true, false, cond, not, List, [], ◌∷◌, Option, Some, None, refl, ap, sym, ◌∙◌, subst, inl, inr, ◌⊎◌}
-use Rattle.std.proofs.lemmas.Bool.{cases_order}
-use Rattle.std.specs.Ordering.{nat_cmp}
-use Rattle.std.specs.Map.{lookup}
-use Rattle.std.specs.Global.{Vec}
-use Rattle.std.specs.BTreeMap.{is_at}
-use Rattle.wi_values.specs.Address.{Area}
-use Rattle.wi_tiles.specs.Entries.{IsOrdered}
-use Rattle.wi_values.proofs.Order.{ComeAfter, Ascends, Ascends-from_order, Ascends-filter, Ascends-insert, come_after_earlier, lookup_after, is_at-eq, at_same, at_itself}
-use Rattle.wi_values.proofs.Lookups.{found-insert, found-without}
-use Rattle.wi_values.specs.declared.value.Value.{Value}
-use Rattle.wi_values.specs.declared.value.Value.TheVariants.{Empty, Number, Text, Logical, Fault}
-use Rattle.wi_parser.specs.declared.content.Content.{Content}
-use Rattle.wi_parser.specs.declared.content.Content.TheVariants.{Constant, Formula}
-use Rattle.wi_parser.specs.Sheet.{Sheet, constant, content_of, with_content}
-use Rattle.wi_graph.specs.Edges.{Edges, areas_in, areas_at, AreEdgesOf, with_areas, edges_after, brought, sheet_after}
-use Rattle.wi_graph.specs.Inner.Rooms.{Rooms, Coming, brought_to, items_of, in_room, room_at, put_over, room_over, with_room, edges_in, edges_over}
+use Rattle.wi_graph.proofs.Words.{◌≡◌, ◌==◌, ◌<◌, ℕ, Bool, true, false, cond, not, List, [], ◌∷◌, Option, Some, None, refl, ap, sym, ◌∙◌, subst, inl, inr, ◌⊎◌, cases_order, nat_cmp, lookup, is_at, Area, IsOrdered, ComeAfter, Ascends, Ascends-from_order, Ascends-filter, Ascends-insert, come_after_earlier, lookup_after, is_at-eq, at_same, at_itself, found-insert, found-without, Value, Empty, Number, Text, Logical, Fault, Content, Constant, Formula, Sheet, constant, content_of, with_content, Edges, areas_in, areas_at, AreEdgesOf, with_areas, edges_after, brought, sheet_after, Rooms, Coming, brought_to, items_of, in_room, room_at, put_over, room_over, with_room, edges_in, edges_over, SmallVec}
 
 -- ---- what is found
 
@@ -88,27 +72,27 @@ ascends_after es (x ∷ xs) h = ascends_after (with_areas es x.0 (areas_in x.1))
 
 -- ---- rooms
 
-after_room : (a c : ℕ) (o : Option (Vec Area)) (es : Edges) → a < c → ComeAfter a es → ComeAfter a (with_room c o es)
+after_room : (a c : ℕ) (o : Option (SmallVec Area)) (es : Edges) → a < c → ComeAfter a es → ComeAfter a (with_room c o es)
 after_room a c None es l h = h
 after_room a c (Some v) es l h = (l, h)
 
-after_rooms : (a : ℕ) (xs : List (ℕ × Option (Vec Area))) → ComeAfter a xs → ComeAfter a (edges_in xs)
+after_rooms : (a : ℕ) (xs : List (ℕ × Option (SmallVec Area))) → ComeAfter a xs → ComeAfter a (edges_in xs)
 after_rooms a [] h = tt
 after_rooms a (x ∷ xs) h = after_room a x.0 x.1 (edges_in xs) h.0 (after_rooms a xs h.1)
 
-ascends_room : (c : ℕ) (o : Option (Vec Area)) (es : Edges) → ComeAfter c es → Ascends es → Ascends (with_room c o es)
+ascends_room : (c : ℕ) (o : Option (SmallVec Area)) (es : Edges) → ComeAfter c es → Ascends es → Ascends (with_room c o es)
 ascends_room c None es l h = h
 ascends_room c (Some v) es l h = (l, h)
 
-pub ascends_rooms : (xs : List (ℕ × Option (Vec Area))) → Ascends xs → Ascends (edges_in xs)
+pub ascends_rooms : (xs : List (ℕ × Option (SmallVec Area))) → Ascends xs → Ascends (edges_in xs)
 ascends_rooms [] h = tt
 ascends_rooms (x ∷ xs) h = ascends_room x.0 x.1 (edges_in xs) (after_rooms x.0 xs h.0) (ascends_rooms xs h.1)
 
-pub areas_rooms : (xs : List (ℕ × Option (Vec Area))) → Ascends xs → (q : ℕ) → areas_at (edges_in xs) q ≡ in_room (lookup (is_at (nat_cmp q)) xs)
+pub areas_rooms : (xs : List (ℕ × Option (SmallVec Area))) → Ascends xs → (q : ℕ) → areas_at (edges_in xs) q ≡ in_room (lookup (is_at (nat_cmp q)) xs)
 areas_rooms [] h q = refl
 areas_rooms (x ∷ xs) h q = at x.1 (is_at (nat_cmp q) x.0) refl (areas_rooms xs h.1 q)
   where
-    at : (o : Option (Vec Area)) (b : Bool) → is_at (nat_cmp q) x.0 ≡ b → areas_at (edges_in xs) q ≡ in_room (lookup (is_at (nat_cmp q)) xs) →
+    at : (o : Option (SmallVec Area)) (b : Bool) → is_at (nat_cmp q) x.0 ≡ b → areas_at (edges_in xs) q ≡ in_room (lookup (is_at (nat_cmp q)) xs) →
         areas_at (with_room x.0 o (edges_in xs)) q ≡ in_room (cond b (Some o) (lookup (is_at (nat_cmp q)) xs))
     at None true e ih = lookup_after q (edges_in xs) (after_rooms q xs (subst (λ (z : ℕ). ComeAfter z xs) (at_same q x.0 e) h.0))
     at None false e ih = ih
@@ -130,7 +114,7 @@ rooms_same old new h k e =
 
 -- ---- the edges are those of the edited sheet
 
-content_of-with : (s : Sheet) (c : ℕ) (o : Option Content) (q : ℕ) → content_of (with_content s c o) q ≡ cond (q == c) o (content_of s q)
+pub content_of-with : (s : Sheet) (c : ℕ) (o : Option Content) (q : ℕ) → content_of (with_content s c o) q ≡ cond (q == c) o (content_of s q)
 content_of-with s c None q = found-without s c q
 content_of-with s c (Some x) q = found-insert s c x q
 

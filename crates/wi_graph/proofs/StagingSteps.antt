@@ -1,21 +1,8 @@
 -- Steps of bringing an edit in.
-use Rattle.std.proofs.Common.{◌≡◌, ◌==◌, ◌+◌, ◌<◌, ◌≤◌, ℕ, Bool, true, false, cond, List, [], ◌∷◌, ◌++◌, take, take_all, drop, drop-cons, get_or, length, Option, Some, None, refl, ap, sym, ◌∙◌, subst, arith, suc, add-one}
-use Rattle.std.proofs.lemmas.List.{drop_all}
-use Rattle.std.specs.Prelude.{if◌then◌else◌}
-use Rattle.std.specs.Map.{lookup}
-use Rattle.std.specs.Ordering.{nat_cmp}
-use Rattle.std.specs.Global.{Vec}
-use Rattle.std.specs.BTreeMap.{is_at}
-use Rattle.wi_values.specs.Address.{Area}
-use Rattle.wi_tiles.specs.Entries.{get, IsOrdered}
-use Rattle.wi_ranges.specs.declared.pair.RangePair.{RangePair}
-use Rattle.wi_ranges.specs.Bag.{Bag, pair_for, is_same, count_of, HasOneMore}
-use Rattle.wi_values.proofs.Order.{ComeAfter, Ascends, Ascends-from_order, lookup_after}
-use Rattle.wi_graph.specs.Inner.Rooms.{Rooms, Coming, brought_to, coming_at, items_of, in_room, room_at, areas_of, times, times_in, times_coming, AreInOrder, HasRooms, HasPairs, HasBoth}
-use Rattle.wi_graph.specs.Inner.Staging.{times_among, HasThese}
+use Rattle.wi_graph.proofs.Words.{◌≡◌, ◌==◌, ◌+◌, ◌<◌, ◌≤◌, ℕ, Bool, true, false, cond, List, [], ◌∷◌, ◌++◌, take, take_all, drop, drop-cons, get_or, length, Option, Some, None, refl, ap, sym, ◌∙◌, subst, arith, suc, add-one, drop_all, if◌then◌else◌, lookup, nat_cmp, is_at, Area, get, IsOrdered, RangePair, Bag, pair_for, is_same, count_of, HasOneMore, ComeAfter, Ascends, Ascends-from_order, lookup_after, taken_more, Rooms, Coming, brought_to, coming_at, items_of, in_room, room_at, areas_of, times, times_in, times_coming, AreInOrder, HasRooms, HasPairs, HasBoth, times_among, HasThese, SmallVec}
 use Rattle.wi_graph.proofs.Tests.{is_at-eq, is_itself, at_same, turn_test}
 use Rattle.wi_graph.proofs.Walks.{same_cell}
-use Rattle.wi_graph.proofs.ComingSteps.{one_longer, found_longer}
+use Rattle.wi_graph.proofs.ComingSteps.{found_longer}
 use Rattle.wi_graph.proofs.MapSteps.{PutsNew, or_new, put}
 use Rattle.wi_graph.proofs.RoomSteps.{times_more, times_other, times_room, Loses}
 
@@ -28,13 +15,13 @@ one_more k rs i r first old new h e l u p = at (is_same (pair_for r k) p) (l p) 
     at false f g = omega (arith, f, g, u p)
 
 -- a room more
-abbrev pub Puts : Rooms → Rooms → ℕ → Option (Vec Area) → Type 0
+abbrev pub Puts : Rooms → Rooms → ℕ → Option (SmallVec Area) → Type 0
 Puts old new k o = (q : ℕ) → get nat_cmp new q ≡ cond (is_at (nat_cmp k) q) (Some o) (get nat_cmp old q)
 
-put_here : (old new : Rooms) (k : ℕ) (o : Option (Vec Area)) → Puts old new k o → (c : ℕ) → (k == c) ≡ true → get nat_cmp new c ≡ Some o
+put_here : (old new : Rooms) (k : ℕ) (o : Option (SmallVec Area)) → Puts old new k o → (c : ℕ) → (k == c) ≡ true → get nat_cmp new c ≡ Some o
 put_here old new k o u c e = u c ∙ ap (λ (b : Bool). cond b (Some o) (get nat_cmp old c)) (is_at-eq k c ∙ e)
 
-put_other : (old new : Rooms) (k : ℕ) (o : Option (Vec Area)) → Puts old new k o → (c : ℕ) → (k == c) ≡ false → get nat_cmp new c ≡ get nat_cmp old c
+put_other : (old new : Rooms) (k : ℕ) (o : Option (SmallVec Area)) → Puts old new k o → (c : ℕ) → (k == c) ≡ false → get nat_cmp new c ≡ get nat_cmp old c
 put_other old new k o u c e = u c ∙ ap (λ (b : Bool). cond b (Some o) (get nat_cmp old c)) (is_at-eq k c ∙ e)
 
 -- a vacant room, where there was none
@@ -44,7 +31,7 @@ room_same old new k p c = at (k == c) refl
     u : Puts old new k (or_new (get nat_cmp old k) None)
     u = put old new k None p
 
-    there : (x : Option (Option (Vec Area))) → items_of (or_new x None) ≡ in_room x
+    there : (x : Option (Option (SmallVec Area))) → items_of (or_new x None) ≡ in_room x
     there None = refl
     there (Some y) = refl
 
@@ -67,7 +54,7 @@ room_there old new k p h = let z = put_here old new k (or_new (get nat_cmp old k
 
 -- ---- the rooms of some cells
 
-among_more : (front : Coming) (k : ℕ) (o : Option (Vec Area)) (p : RangePair) → times_among (front ++ (k, o) ∷ []) p ≡ times_among front p + times k (areas_of (items_of o)) p
+among_more : (front : Coming) (k : ℕ) (o : Option (SmallVec Area)) (p : RangePair) → times_among (front ++ (k, o) ∷ []) p ≡ times_among front p + times k (areas_of (items_of o)) p
 among_more [] k o p = let a : times k (areas_of (items_of o)) p + 0 ≡ 0 + times k (areas_of (items_of o)) p = omega arith in a
 among_more (e ∷ front) k o p =
     let ih = among_more front k o p in
@@ -84,7 +71,7 @@ among_all (e ∷ es) a p = at (is_at (nat_cmp p.reader) e.0) refl (among_all es 
         let r : e.0 ≡ p.reader = at_same p.reader e.0 h in
         let x : times e.0 (areas_of (items_of e.1)) p ≡ times p.reader (areas_of (items_of e.1)) p = ap (λ (k : ℕ). times k (areas_of (items_of e.1)) p) r in
         let n : lookup (is_at (nat_cmp p.reader)) es ≡ None = lookup_after p.reader es (subst (λ (z : ℕ). ComeAfter z es) r a.0) in
-        let z : times p.reader (areas_of (in_room (lookup (is_at (nat_cmp p.reader)) es))) p ≡ 0 = ap (λ (y : Option (Option (Vec Area))). times p.reader (areas_of (in_room y)) p) n in
+        let z : times p.reader (areas_of (in_room (lookup (is_at (nat_cmp p.reader)) es))) p ≡ 0 = ap (λ (y : Option (Option (SmallVec Area))). times p.reader (areas_of (in_room y)) p) n in
         omega (arith, x, ih, z)
     at false h ih =
         let n = times_other e.0 (areas_of (items_of e.1)) p (turn_test e.0 p.reader ∙ sym (is_at-eq p.reader e.0) ∙ h) in
@@ -106,7 +93,7 @@ bringing_start rooms readers o h = record {
   pairs = λ p. let a = h p in let b : count_of readers p ≡ times_in rooms p + 0 = omega (arith, a) in b;
 }
 
-pub bringing_step : (first rooms mid : Rooms) (readers more : Bag) (coming : Coming) (i : ℕ) (x : ℕ × Option (Vec Area)) → AreInOrder coming → i < length coming → x ≡ get_or coming i x → IsOrdered nat_cmp mid → ((c : ℕ) → room_at mid c ≡ room_at rooms c) →
+pub bringing_step : (first rooms mid : Rooms) (readers more : Bag) (coming : Coming) (i : ℕ) (x : ℕ × Option (SmallVec Area)) → AreInOrder coming → i < length coming → x ≡ get_or coming i x → IsOrdered nat_cmp mid → ((c : ℕ) → room_at mid c ≡ room_at rooms c) →
     (get nat_cmp mid x.0 ≡ None → ⊥) → ((c : ℕ) → get nat_cmp mid c ≡ None → get nat_cmp rooms c ≡ None) → ((p : RangePair) → count_of more p ≡ count_of readers p + times x.0 (areas_of (items_of x.1)) p) →
     IsBringing first rooms readers (take i coming) → IsBringing first mid more (take (i + 1) coming)
 bringing_step first rooms mid readers more coming i x order l e ord n there stay g t = subst (IsBringing first mid more) (sym longer) (record {
@@ -121,7 +108,7 @@ bringing_step first rooms mid readers more coming i x order l e ord n there stay
 })
   where
     longer : take (i + 1) coming ≡ take i coming ++ (x.0, x.1) ∷ []
-    longer = one_longer coming i x l e
+    longer = taken_more coming i x l e
 
     room : (c : ℕ) → get nat_cmp mid c ≡ None → (b : Bool) → is_at (nat_cmp x.0) c ≡ b → coming_at (take i coming ++ (x.0, x.1) ∷ []) c ≡ None
     room c h true s = absurd (there (ap (get nat_cmp mid) (sym (at_same x.0 c s)) ∙ h))
@@ -157,7 +144,7 @@ pub record IsTakingOut (first rooms : Rooms) (readers : Bag) (left : Coming) : T
 pub taking_out_start : (rooms : Rooms) (readers : Bag) (brought : Coming) → IsOrdered nat_cmp rooms → HasThese readers rooms brought → IsTakingOut rooms rooms readers brought
 taking_out_start rooms readers brought o h = record { ordered = o; same = λ c. refl; pairs = h }
 
-pub taking_out_step : (first rooms mid : Rooms) (readers fewer : Bag) (brought : Coming) (i : ℕ) (x : ℕ × Option (Vec Area)) → i < length brought → x ≡ get_or brought i x → Loses x.0 (items_of x.1) readers fewer → IsOrdered nat_cmp mid →
+pub taking_out_step : (first rooms mid : Rooms) (readers fewer : Bag) (brought : Coming) (i : ℕ) (x : ℕ × Option (SmallVec Area)) → i < length brought → x ≡ get_or brought i x → Loses x.0 (items_of x.1) readers fewer → IsOrdered nat_cmp mid →
     ((c : ℕ) → room_at mid c ≡ room_at rooms c) → IsTakingOut first rooms readers (drop i brought) → IsTakingOut first mid fewer (drop (i + 1) brought)
 taking_out_step first rooms mid readers fewer brought i x l e loses ord n t = record {
   ordered = ord;
@@ -170,7 +157,7 @@ taking_out_step first rooms mid readers fewer brought i x l e loses ord n t = re
 }
   where
     opened : drop i brought ≡ x ∷ drop (i + 1) brought
-    opened = drop-cons brought i x l ∙ ap (λ (y : ℕ × Option (Vec Area)). y ∷ drop (suc i) brought) (sym e) ∙ ap (λ (n : ℕ). x ∷ drop n brought) (sym (add-one i))
+    opened = drop-cons brought i x l ∙ ap (λ (y : ℕ × Option (SmallVec Area)). y ∷ drop (suc i) brought) (sym e) ∙ ap (λ (n : ℕ). x ∷ drop n brought) (sym (add-one i))
 
 pub taking_out_end : (first rooms : Rooms) (readers : Bag) (brought : Coming) (i : ℕ) → length brought ≤ i → IsTakingOut first rooms readers (drop i brought) → HasPairs readers rooms
 taking_out_end first rooms readers brought i l t p =

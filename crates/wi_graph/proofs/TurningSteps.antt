@@ -1,33 +1,11 @@
 -- Steps to the cells of a cone that are circular after an edit.
-use Rattle.std.proofs.Common.{◌≡◌, ◌==◌, ◌+◌, ◌<◌, ℕ, Bool, true, false, ◌&&◌, ◌||◌, cond, not, List, [], filter, take, get_or, length, Option, Some, refl, ap, sym, ◌∙◌}
-use Rattle.std.proofs.lemmas.Bool.{and_parts, and_from, not-true}
-use Rattle.std.proofs.lemmas.Map.Views.{any-filter_same}
-use Rattle.std.specs.List.{list_any}
-use Rattle.std.specs.Map.{keys_of}
-use Rattle.std.specs.Ordering.{nat_cmp}
-use Rattle.std.specs.Global.{Vec}
-use Rattle.std.specs.BTreeMap.{BTreeMap, get, is_at}
-use Rattle.std.specs.BTreeSet.{BTreeSet, contains, difference}
-use Rattle.wi_values.specs.Address.{Area, is_within}
-use Rattle.wi_tiles.specs.Entries.{IsOrdered}
-use Rattle.wi_parser.specs.Sheet.{Sheet, content_of}
-use Rattle.wi_parser.specs.Reads.{content_reads}
-use Rattle.wi_ranges.specs.Bag.{Bag}
-use Rattle.wi_graph.specs.Circular.{circular}
-use Rattle.wi_graph.specs.Reach.{is_one_of, in_cone}
-use Rattle.wi_graph.specs.Edges.{AreEdgesOf, areas_in}
-use Rattle.wi_graph.specs.declared.turning.Turns.{Turns}
-use Rattle.wi_graph.specs.Inner.Changes.{areas_then, ReadsStay, IsEditCone, went_from}
-use Rattle.wi_graph.specs.Inner.Rooms.{Rooms, Coming, AreInOrder, brought_to, put_over, items_of, room_at, room_over, edges_in, areas_of, HasPairs, AreCircles, IsGraph}
-use Rattle.wi_graph.specs.Inner.Search.{as_set, IsConeOf}
-use Rattle.wi_graph.specs.Inner.Stripping.{items_there, reads_in, EachReadsOne, AreStripped, IsWithin}
-use Rattle.wi_graph.specs.Inner.Turning.{reads_outside, turned_by, AreTurns, SettlesCone}
+use Rattle.wi_graph.proofs.Words.{◌≡◌, ◌==◌, ◌+◌, ◌<◌, ℕ, Bool, true, false, ◌&&◌, ◌||◌, cond, not, List, [], filter, take, get_or, length, Option, Some, refl, ap, sym, ◌∙◌, and_parts, and_from, not-true, any-filter_same, list_any, keys_of, nat_cmp, Vec, SmallVec, BTreeMap, is_at, BTreeSet, contains, difference, Area, is_within, IsOrdered, Sheet, content_of, content_reads, Bag, circular, is_one_of, in_cone, AreEdgesOf, areas_in, Turns, areas_then, ReadsStay, IsEditCone, went_from, Rooms, Coming, AreInOrder, brought_to, put_over, items_of, room_at, room_over, edges_in, areas_of, HasPairs, AreCircles, IsGraph, as_set, IsConeOf, items_there, reads_in, EachReadsOne, AreStripped, IsWithin, reads_outside, turned_by, AreTurns, SettlesCone, Ascends-from_order}
+use Rattle.std.specs.BTreeMap.{get}
 use Rattle.wi_graph.proofs.Tests.{is_at-eq, clash, turned}
 use Rattle.wi_graph.proofs.Walks.{same_cell}
 use Rattle.wi_graph.proofs.SetSteps.{in_difference, taken}
 use Rattle.wi_graph.proofs.SearchSteps.{found_cone}
 use Rattle.wi_graph.proofs.HeldSteps.{held_finds, finds_held, held_test}
-use Rattle.wi_values.proofs.Order.{Ascends-from_order}
 use Rattle.wi_graph.proofs.EdgeLemmas.{areas_rooms}
 use Rattle.wi_graph.proofs.ComingSteps.{found_longer}
 use Rattle.wi_graph.proofs.ChangeSteps.{then_sheet, then_contents, then_same}
@@ -51,10 +29,10 @@ reads_step cells i x f old new v l e g u h c k = ap items_there (u c ∙ ap (λ 
 
 -- ---- what stripping leaves
 
-pub brought_step : (rooms : Rooms) (next : Coming) (i : ℕ) (x : ℕ × Option (Vec Area)) (old new : BTreeMap ℕ (Vec Area)) (v : Vec Area) → AreInOrder next → i < length next → x ≡ get_or next i x → v.items ≡ areas_of (items_of x.1) → ((q : ℕ) → get nat_cmp new q ≡ cond (is_at (nat_cmp x.0) q) (Some v) (get nat_cmp old q)) →
+pub brought_step : (rooms : Rooms) (next : Coming) (i : ℕ) (x : ℕ × Option (SmallVec Area)) (old new : BTreeMap ℕ (Vec Area)) (v : Vec Area) → AreInOrder next → i < length next → x ≡ get_or next i x → v.items ≡ areas_of (items_of x.1) → ((q : ℕ) → get nat_cmp new q ≡ cond (is_at (nat_cmp x.0) q) (Some v) (get nat_cmp old q)) →
     (c : ℕ) → items_there (get nat_cmp old c) ≡ areas_of (room_over (take i next) rooms c) → items_there (get nat_cmp new c) ≡ areas_of (room_over (take (i + 1) next) rooms c)
 brought_step rooms next i x old new v o l e g u c h =
-    ap items_there (u c) ∙ at (is_at (nat_cmp x.0) c) ∙ sym (ap (λ (b : Option (Option (Vec Area))). areas_of (put_over b (room_at rooms c))) (found_longer next i x o l e c))
+    ap items_there (u c) ∙ at (is_at (nat_cmp x.0) c) ∙ sym (ap (λ (b : Option (Option (SmallVec Area))). areas_of (put_over b (room_at rooms c))) (found_longer next i x o l e c))
   where
     at : (b : Bool) → items_there (cond b (Some v) (get nat_cmp old c)) ≡ areas_of (put_over (cond b (Some x.1) (brought_to (take i next) c)) (room_at rooms c))
     at true = g

@@ -16,7 +16,7 @@ ghost use Rattle.wi_graph.specs.Inner.Changes.{Brings};
 ghost use Rattle.wi_graph.specs.Inner.Rooms.{room_at, AreInOrder, IsGraph, IsStaged};
 ghost use Rattle.wi_graph.specs.Inner.Turning.{AreTurns};
 
-use crate::beyond::listed_beyond;
+use crate::beyond::{Cells, listed_beyond};
 use crate::cell_set::CellSet;
 use crate::changes::{Change, reads_stay, rooms_of};
 use crate::cone::{any_is_read, listed_cone};
@@ -165,11 +165,7 @@ impl Graph {
 
     /// What `cone` answers but for cells that are watched, where each that reads a watched cell is watched. The work grows with the count of
     /// the cells that it tells and that of their readers, times logarithms.
-    pub fn cone_beyond<W: Watch>(
-        &self,
-        cells: &[Address],
-        watch: &W,
-    ) -> Result<Vec<Address>, AllocError>
+    pub fn cone_beyond<W: Watch>(&self, cells: &[Address], watch: &W) -> Result<Cells, AllocError>
         requires staged { self.now.staged ≡ None }
         requires closed { (s : Sheet) → AreEdgesOf self.now.now s
             → IsClosedUp s (W.watched watch.now) }

@@ -1,36 +1,10 @@
 -- What SUMIF adds.
-use Rattle.std.proofs.Common.{◌≡◌, ℕ, Bool, true, false, cond, ◌||◌, List, [], ◌∷◌, map, filter, fold, Option, Some, None, IfSome, refl, sym, ap, ◌∙◌, subst}
-use Rattle.std.specs.Prelude.{Result, Ok, Err, zip, if◌then◌else◌}
-use Rattle.std.specs.List.{list_any}
+use Rattle.wi_lookup_functions.proofs.Words.{◌≡◌, ℕ, Bool, true, false, cond, ◌||◌, List, [], ◌∷◌, map, filter, fold, Option, Some, None, IfSome, refl, sym, ap, ◌∙◌, subst, Result, zip, if◌then◌else◌, list_any, or_left, or_right, Area, cells_of, is_within, ErrorKind, BadValue, Value, Empty, Number, Argument, Region, region_of, region_at, region_or, value_at, addition, zero_number, no_error, same_size, chosen_cells, sum_of_items, sum_if_value, Item, from_cell, number_of_item, with_number, ◌>>=◌, and_then, Missing, Memory, arguments_in, refers_to, KnownAgrees, region_in, IsReferred, IsNextFilled, after_cells, IsNextAfter, known_agrees, known_is, taken_for_known, Criterion, criterion_held, is_met, empty_meets_none, Stop, Ending, Error, Stopped, criterion_argument, Agrees, Gives, same_extent, same_place, values_where, with_cell, with_met, IsMissingInEither}
+use Rattle.std.specs.Prelude.{Ok, Err}
 use Rattle.wi_fraction.specs.Number as numbers
-use Rattle.wi_values.specs.Address.{Area, cells_of, is_within}
-use Rattle.wi_values.specs.declared.value.ErrorKind.{ErrorKind}
-use Rattle.wi_values.specs.declared.value.ErrorKind.TheVariants.{BadValue}
-use Rattle.wi_values.specs.declared.value.Value.{Value}
-use Rattle.wi_values.specs.declared.value.Value.TheVariants.{Empty, Number}
-use Rattle.wi_standard_functions.specs.Arguments.{Argument, Region, region_of, region_at, region_or, value_at}
-use Rattle.wi_standard_functions.specs.Arithmetic.{addition}
-use Rattle.wi_standard_functions.specs.Convert.{zero_number}
 use Rattle.wi_standard_functions.specs.Criterion as defined
-use Rattle.wi_standard_functions.specs.FirstError.{no_error}
-use Rattle.wi_standard_functions.specs.Mathematical.{same_size, chosen_cells, sum_of_items, sum_if_value}
-use Rattle.wi_standard_functions.specs.Sequence.{Item, from_cell, number_of_item, with_number}
-use Rattle.wi_standard_functions.specs.Steps.{◌>>=◌, and_then}
 use Rattle.wi_arguments.specs.declared.argument.Argument as given
-use Rattle.wi_value_functions.specs.declared.ending.Stop.TheVariants.{Missing, Memory}
-use Rattle.wi_arguments.specs.Arguments.{arguments_in, refers_to, KnownAgrees, region_in, IsReferred}
-use Rattle.wi_arguments.specs.Filled.{IsNextFilled}
-use Rattle.wi_arguments.specs.Walk.{after_cells, IsNextAfter}
-use Rattle.wi_arguments.proofs.Given.{known_agrees, known_is, taken_for_known}
 use Rattle.wi_arguments.proofs.Walking as walk
-use Rattle.wi_lookup_functions.specs.declared.criterion.Criterion.{Criterion}
-use Rattle.wi_lookup_functions.specs.Inner.Meeting.{criterion_held, is_met}
-use Rattle.wi_lookup_functions.specs.Inner.Laws.{empty_meets_none}
-use Rattle.wi_value_functions.specs.declared.ending.Stop.{Stop}
-use Rattle.wi_value_functions.specs.declared.ending.Ending.{Ending}
-use Rattle.wi_value_functions.specs.declared.ending.Ending.TheVariants.{Error, Stopped}
-use Rattle.wi_lookup_functions.specs.Inner.Giving.{criterion_argument, Agrees, Gives}
-use Rattle.wi_lookup_functions.specs.Inner.Sums.{same_extent, same_place, values_where, with_cell, with_met, IsMissingInEither}
 use Rattle.wi_lookup_functions.proofs.Extents.{cells_moved, same_place_inside}
 use Rattle.wi_lookup_functions.proofs.Referring.{IsCriterionAt, by_criterion}
 
@@ -113,10 +87,6 @@ module _ (known : ℕ → Option Value) (criterion : Criterion) (r s : Area) whe
   error_stays true cells e w = refl
   error_stays false cells e w = refl
 
-  either : (b d : Bool) → d ≡ true → (b || d) ≡ true
-  either true d h = refl
-  either false d h = h
-
   -- a cell to be added is an error or missing
   pub stops : (sum : numbers.Number) (ahead : Option ℕ) (c other : ℕ) (v : Value) (y x : Ending (Stop ℕ)) → x ≡ y → same_extent r s ≡ true → Rest sum ahead → ahead ≡ Some c → Some v ≡ known c → other ≡ same_place r s c →
       Agrees known (λ d. (d ≡ other) × (known d ≡ None)) (λ (z : numbers.Number). z) (λ cells. if is_met criterion v then with_cell (Ok sum) (cells other) else Ok sum) (Err y) →
@@ -133,19 +103,15 @@ module _ (known : ℕ → Option Value) (criterion : Criterion) (r s : Area) whe
           ∙ sym (walk.stops (after cells) known r (Ok zero_number) (Ok sum) (Err e) ahead c v (h.whole cells l) a f
           (sym (q cells l) ∙ ap (λ (d : ℕ). if is_met criterion v then with_cell (Ok sum) (cells d) else Ok sum) o)
           (λ d w. error_stays (is_met criterion w) cells e (cells (same_place r s d))) cells l)
-      at (Stopped (Missing d)) q = (q.1, either (is_within r d) (is_within s d) (subst (λ (b : ℕ). is_within s b ≡ true) (sym (q.0 ∙ o)) (same_place_inside r s c inside k)))
+      at (Stopped (Missing d)) q = (q.1, or_right (is_within r d) (is_within s d) (subst (λ (b : ℕ). is_within s b ≡ true) (sym (q.0 ∙ o)) (same_place_inside r s c inside k)))
       at (Stopped Memory) q = tt
 
   -- a cell is missing
   pub misses : (sum : numbers.Number) (ahead : Option ℕ) (c d : ℕ) (x : Ending (Stop ℕ)) → x ≡ Stopped (Missing d) → Rest sum ahead → ahead ≡ Some c → d ≡ c → known d ≡ None → Agrees known (IsMissingInEither known r s) (λ (z : numbers.Number). z) sum_where (Err x)
-  misses sum ahead c d x m h a e k = subst (λ (z : Ending (Stop ℕ)). Agrees known (IsMissingInEither known r s) (λ (n : numbers.Number). n) sum_where (Err z)) (sym m) (k, left (is_within r d) (is_within s d) (subst (λ (b : ℕ). is_within r b ≡ true) (sym e) inside))
+  misses sum ahead c d x m h a e k = subst (λ (z : Ending (Stop ℕ)). Agrees known (IsMissingInEither known r s) (λ (n : numbers.Number). n) sum_where (Err z)) (sym m) (k, or_left (is_within r d) (is_within s d) (subst (λ (b : ℕ). is_within r b ≡ true) (sym e) inside))
     where
       inside : is_within r c ≡ true
       inside = subst (λ (p : Option ℕ). IfSome p (λ b. is_within r b ≡ true)) a h.inside
-
-      left : (b w : Bool) → b ≡ true → (b || w) ≡ true
-      left true w i = refl
-      left false w i = cc
 
 -- ---- the ends of SUMIF
 

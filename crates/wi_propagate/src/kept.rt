@@ -30,10 +30,10 @@ use crate::table_entry::open_entry;
 use std::alloc::{AllocError, Global};
 use std::marker::Model;
 use std::mem;
-use wi_cache::Kept;
+use wi_cache::{GivenUp, Kept};
 use wi_engine::{Pool, Question};
 use wi_functions::Meter;
-use wi_graph::{Graph, Watch, edited_cells};
+use wi_graph::{Cells, Graph, Watch, edited_cells};
 use wi_parser::Content;
 use wi_store::{Limits, Store, StoreFault};
 use wi_values::{Address, ErrorKind, Rect, Replacement, Value};
@@ -57,6 +57,8 @@ pub struct KeptCalculator {
     meter: Meter,
     // Arrays for the formulas of the next questions.
     pool: Pool,
+    // Memory for the values that the next questions give up.
+    given_up: GivenUp,
     alloc: Global,
 }
 
@@ -114,6 +116,7 @@ impl KeptCalculator {
             kept: Some(kept),
             meter: Meter::new(),
             pool: Pool::new(alloc),
+            given_up: GivenUp::new(alloc),
             alloc,
         })
     }
@@ -127,34 +130,34 @@ impl KeptCalculator {
     }
 
     // Does an edit.
-    fn edit(&mut self, changes: Vec<(Address, Option<Content>)>) -> Result<(), StoreFault>
+    fn edit(&mut self, changes: &mut [(Address, Option<Content>)]) -> Result<(), StoreFault>
         ensures applied { Applies
-            (applied self.old.stored changes.items) result self.old.stored self.new.stored }
+            (applied self.old.stored changes.old) result self.old.stored self.new.stored }
         ensures same_counts { self.new.counts ≡ self.old.counts }
         ensures same_values { self.new.values ≡ self.old.values }
-        ensures generations { let cells = keys_of changes.items in
+        ensures generations { let cells = keys_of changes.old in
             OnOk result ((c : ℕ) → generation_in self.new.generations c
             ≡ (if in_cone self.old.stored.sheet cells c then self.new.stored.edits
             else generation_in self.old.generations c)) }
         ensures same_generations { OnErr result ((c : ℕ)
             → generation_in self.new.generations c ≡ generation_in self.old.generations c) }
     {
-        let cells = edited_cells(self.alloc, &changes)?;
+        let cells = edited_cells(self.alloc, changes)?;
         self.edit_cells(changes, cells.as_slice())
     }
 
     // The same, where the cells of the changes are at hand.
     fn edit_cells(
         &mut self,
-        changes: Vec<(Address, Option<Content>)>,
+        changes: &mut [(Address, Option<Content>)],
         cells: &[Address],
     ) -> Result<(), StoreFault>
-        requires { cells.now ≡ keys_of changes.items }
+        requires { cells.now ≡ keys_of changes.old }
         ensures applied { Applies
-            (applied self.old.stored changes.items) result self.old.stored self.new.stored }
+            (applied self.old.stored changes.old) result self.old.stored self.new.stored }
         ensures same_counts { self.new.counts ≡ self.old.counts }
         ensures same_values { self.new.values ≡ self.old.values }
-        ensures generations { let cells = keys_of changes.items in
+        ensures generations { let cells = keys_of changes.old in
             OnOk result ((c : ℕ) → generation_in self.new.generations c
             ≡ (if in_cone self.old.stored.sheet cells c then self.new.stored.edits
             else generation_in self.old.generations c)) }
@@ -162,8 +165,8 @@ impl KeptCalculator {
             → generation_in self.new.generations c ≡ generation_in self.old.generations c) }
     {
         self.generations.owe(&self.graph, cells)?;
-        self.graph.stage(&changes)?;
-        match self.store.apply(changes) {
+        self.graph.stage(changes)?;
+        match self.store.apply_slice(changes) {
             Ok(()) => {
                 keep_over_edit(self.alloc, &self.graph, &mut self.cones);
                 self.graph.commit();
@@ -207,6 +210,7 @@ impl KeptCalculator {
             &self.graph,
             &self.generations,
             cones,
+            mem::replace(&mut self.given_up, GivenUp::new(self.alloc)),
             kept,
         );
         let mut question = Question {
@@ -217,9 +221,10 @@ impl KeptCalculator {
         let result = question.value(&self.store, &world, at);
         self.meter = question.meter;
         self.pool = question.pool;
-        let (kept, cones) = question.memo.into_parts();
+        let (kept, cones, given_up) = question.memo.into_parts();
         self.kept = Some(kept);
         self.cones = cones;
+        self.given_up = given_up;
         self.worlds.keep(world);
         result
     }
@@ -259,6 +264,7 @@ impl KeptCalculator {
             &self.graph,
             &self.generations,
             cones,
+            mem::replace(&mut self.given_up, GivenUp::new(self.alloc)),
             kept,
         );
         let mut question = Question {
@@ -269,9 +275,10 @@ impl KeptCalculator {
         let result = open_entry(&mut question, &self.store, &world, formula_cell, pairs);
         self.meter = question.meter;
         self.pool = question.pool;
-        let (kept, cones) = question.memo.into_parts();
+        let (kept, cones, given_up) = question.memo.into_parts();
         self.kept = Some(kept);
         self.cones = cones;
+        self.given_up = given_up;
         self.worlds.keep(world);
         result
     }
@@ -305,7 +312,7 @@ impl Calculator for KeptCalculator {
     /// One edit. The work grows with what the edited cells read and who reads them; with their cone, what its cells read and who reads
     /// them, times logarithms, only where several cells read something new, or a cycle may be closed or opened. An accepted edit is the new generation of each cell of the cone;
     /// it is noted when a question asks. What is kept stays; so do the cones that are known, if each cell reads what it read before.
-    fn apply(&mut self, changes: Vec<(Address, Option<Content>)>) -> Result<(), StoreFault>
+    fn apply(&mut self, mut changes: Vec<(Address, Option<Content>)>) -> Result<(), StoreFault>
         ensures applied { Applies
             (applied self.old.stored changes.items) result self.old.stored self.new.stored }
         ensures same_counts { self.new.counts ≡ self.old.counts }
@@ -317,6 +324,14 @@ impl Calculator for KeptCalculator {
         ensures same_generations { OnErr result ((c : ℕ)
             → generation_in self.new.generations c ≡ generation_in self.old.generations c) }
     {
+        self.edit(&mut changes)
+    }
+
+    /// The same. The contents are taken out of the list.
+    fn apply_slice(
+        &mut self,
+        changes: &mut [(Address, Option<Content>)],
+    ) -> Result<(), StoreFault> {
         self.edit(changes)
     }
 
@@ -429,11 +444,7 @@ impl Calculator for KeptCalculator {
 
     /// Exactly those of them that aren't watched, each once, in row-major order. The work grows with their count and that of their
     /// readers, times logarithms, and not with the watched cells behind them.
-    fn mark_beyond<W: Watch>(
-        &self,
-        cells: &[Address],
-        watch: &W,
-    ) -> Result<Vec<Address>, AllocError>
+    fn mark_beyond<W: Watch>(&self, cells: &[Address], watch: &W) -> Result<Cells, AllocError>
         requires { let sheet = self.now.stored.sheet in
             (a c : ℕ) → W.watched watch.now a ≡ true
             → in_cone sheet (a ∷ []) c ≡ true → W.watched watch.now c ≡ true }

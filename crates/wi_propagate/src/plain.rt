@@ -64,6 +64,13 @@ impl Calculator for PlainCalculator {
         self.store.apply(changes)
     }
 
+    fn apply_slice(
+        &mut self,
+        changes: &mut [(Address, Option<Content>)],
+    ) -> Result<(), StoreFault> {
+        self.store.apply_slice(changes)
+    }
+
     /// What a cell shows under replacements. A formula is evaluated once for each list of replacements of cells that it
     /// reaches under which its value is asked for, and begun again where it lacks a value. No sheet is copied: the
     /// replacements are carried along. What was found is forgotten at the end.

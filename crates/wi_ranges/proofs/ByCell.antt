@@ -1,29 +1,5 @@
 -- The pairs that readers by cell are: what is added up over them, and whether one of them passes a test.
-use Rattle.std.proofs.Common.{◌≡◌, ◌==◌, ℕ, ◌+◌, Bool, true, false, ◌&&◌, ◌||◌, cond, List, [], ◌∷◌, ◌++◌, Option, Some, None, HashMap, refl, sym, ap, subst, ◌∙◌, arith, nat_eq, nat_le}
-use Rattle.std.specs.Ordering.{nat_cmp}
-use Rattle.std.specs.Option.{unwrap_or}
-use Rattle.std.specs.List.{list_any, sum_by, IsDistinct, AllByRecursion}
-use Rattle.std.specs.List.Sorted.{IsPermutation}
-use Rattle.std.specs.Map.{keys_of, lookup, set_value, remove_entry}
-use Rattle.std.specs.HashMap.{get, PutsEntry}
-use Rattle.std.specs.BTreeMap.{is_at}
-use Rattle.std.proofs.lemmas.Bool.{true≢false, or_from, le-leb, eqb-true, eq-eqb}
-use Rattle.std.proofs.lemmas.Bool.Decides.{nat_tests}
-use Rattle.std.proofs.lemmas.List.{map-append}
-use Rattle.std.proofs.lemmas.List.Folds.{list_any-append}
-use Rattle.std.proofs.lemmas.List.Sums.{sum_by-cons, sum_by-append, sum_by_push}
-use Rattle.std.proofs.lemmas.List.Sorted.{IsPermutation-map, sum_by-IsPermutation, sum_by_pushed}
-use Rattle.std.proofs.lemmas.Map.Keys.{IsDistinct-head, IsDistinct-tail}
-use Rattle.std.proofs.lemmas.Map.Steps.{set_value_same}
-use Rattle.std.proofs.Math.Bool.{or-false}
-use Rattle.wi_values.specs.Address.{Area, row_of, column_of, is_within}
-use Rattle.wi_values.proofs.Order.{turn_test, is_at-eq}
-use Rattle.wi_values.proofs.Within.{within_between}
-use Rattle.wi_ranges.specs.declared.pair.RangePair.{RangePair}
-use Rattle.wi_ranges.specs.Bag.{is_same}
-use Rattle.wi_ranges.specs.Inner.Index.{pair_reads}
-use Rattle.wi_ranges.specs.Inner.Rising.{has_cell}
-use Rattle.wi_ranges.specs.Inner.Singles.{single_pair, pairs_at, pairs_of, HasPairMore}
+use Rattle.wi_ranges.proofs.Words.{◌≡◌, ◌==◌, ℕ, ◌+◌, Bool, true, false, ◌&&◌, ◌||◌, cond, List, [], ◌∷◌, ◌++◌, Option, Some, None, HashMap, refl, sym, ap, subst, ◌∙◌, arith, nat_eq, nat_le, nat_cmp, unwrap_or, list_any, sum_by, IsDistinct, AllByRecursion, IsPermutation, keys_of, lookup, set_value, remove_entry, get, PutsEntry, is_at, true≢false, or_from, le-leb, eqb-true, eq-eqb, nat_tests, map-append, same_Some, list_any-append, sum_by-cons, sum_by-append, sum_by_push, IsPermutation-map, sum_by-IsPermutation, sum_by_pushed, IsDistinct-head, IsDistinct-tail, set_value_same, or-false, Area, row_of, column_of, is_within, turn_test, is_at-eq, within_between, RangePair, is_same, pair_reads, has_cell, single_pair, pairs_at, pairs_of, HasPairMore}
 
 abbrev pub Entries : Type 0
 Entries = List (ℕ × List ℕ)
@@ -38,9 +14,6 @@ sum_pairs : (f : RangePair → ℕ) (es : Entries) → sum_by f (pairs_of es) �
 sum_pairs f [] = refl
 sum_pairs f (e ∷ es) = sum_by-append f (pairs_at e.0 e.1) (pairs_of es) ∙ ap (λ n. weight f e + n) (sum_pairs f es) ∙ sym (sum_by-cons (weight f) e es)
 
-value_is : {v w : List ℕ} → Some v ≡ Some w → v ≡ w
-value_is e = ap (λ (o : Option (List ℕ)). unwrap_or o []) e
-
 no_value : {X : Type 0} {v : List ℕ} → None ≡ Some v → X
 no_value h = absurd (let k = h in cc)
 
@@ -54,7 +27,7 @@ module _ (g : ℕ × List ℕ → ℕ) (a : ℕ) (v : List ℕ) where
           → sum_by g (cond b ((e.0, w) ∷ es) (e ∷ set_value (nat_eq a) es w)) + g (a, v) ≡ sum_by g (e ∷ es) + g (a, w)
       by true s k r =
           let here : e.0 ≡ a = sym (eqb-true a e.0 s) in
-          let old : g e ≡ g (a, v) = ap (λ (n : ℕ). g (n, e.1)) here ∙ ap (λ (us : List ℕ). g (a, us)) (value_is k) in
+          let old : g e ≡ g (a, v) = ap (λ (n : ℕ). g (n, e.1)) here ∙ ap (λ (us : List ℕ). g (a, us)) (same_Some _ _ k) in
           let new : g (e.0, w) ≡ g (a, w) = ap (λ (n : ℕ). g (n, w)) here in
           let x = sum_by-cons g (e.0, w) es in
           let y = sum_by-cons g e es in
@@ -72,7 +45,7 @@ module _ (g : ℕ × List ℕ → ℕ) (a : ℕ) (v : List ℕ) where
           → (lookup (nat_eq a) es ≡ Some v → sum_by g es ≡ sum_by g (remove_entry (nat_eq a) es) + g (a, v))
           → g e + sum_by g es ≡ sum_by g (cond b es (e ∷ remove_entry (nat_eq a) es)) + g (a, v)
       by true s k r =
-          let old : g e ≡ g (a, v) = ap (λ (n : ℕ). g (n, e.1)) (sym (eqb-true a e.0 s)) ∙ ap (λ (us : List ℕ). g (a, us)) (value_is k) in
+          let old : g e ≡ g (a, v) = ap (λ (n : ℕ). g (n, e.1)) (sym (eqb-true a e.0 s)) ∙ ap (λ (us : List ℕ). g (a, us)) (same_Some _ _ k) in
           omega (arith, old)
       by false s k r = let x = sum_by-cons g e (remove_entry (nat_eq a) es) in omega (arith, r k, x)
 

@@ -1,33 +1,6 @@
 -- The records of a change list tell it.
-use Rattle.std.proofs.Common.{◌≡◌, ◌≢◌, ◌∙◌, ℕ, zero, suc, ◌+◌, ◌<◌, ◌≤◌, Bool, true, false, not, cond, List, [], ◌∷◌, map, filter, get_or, Some, Result, Ok, Err, refl, sym, ap, arith}
-use Rattle.std.specs.Str.{bytes_eq}
-use Rattle.std.proofs.lemmas.Bool.{both_ways}
-use Rattle.std.proofs.lemmas.Slice.Eq.{bytes_eq-Decides}
-use Rattle.std.specs.List.{AllByRecursion, range_with_len}
-use Rattle.std.proofs.lemmas.List.Elements.{All-map}
-use Rattle.std.proofs.lemmas.List.Folds.{flat_map-map}
-use Rattle.wi_values.specs.Address.{address_text}
-use Rattle.wi_values.specs.AddressReading.{read_address}
-use Rattle.wi_values.specs.Inner.Import.{imported}
-use Rattle.wi_values.specs.Value.{error_name, logical_name, shown_text}
-use Rattle.wi_values.specs.declared.address.AddressFault.{AddressFault}
-use Rattle.wi_values.specs.declared.value.ErrorKind.{ErrorKind}
-use Rattle.wi_values.specs.declared.value.ErrorKind.TheVariants.{NotAvailable, DivisionByZero, UnknownName, BadNumber, BadReference, BadValue, Circular}
-use Rattle.wi_values.specs.declared.value.Value.{Value}
-use Rattle.wi_values.specs.declared.value.Value.TheVariants.{Empty, Number, Text, Logical, Fault}
-use Rattle.wi_values.proofs.Fields.{numbers_read_back}
-use Rattle.wi_values.proofs.ReadsBack.{addresses_read_back}
-use Rattle.wi_csv.specs.Records.{recs}
-use Rattle.wi_csv.specs.Row.{row}
-use Rattle.wi_csv.proofs.ReadAgain.{read_again}
-use Rattle.wi_sessions.specs.Pictures.{sheet_size, value_in, same_value}
-use Rattle.wi_reports.specs.Changes.{kind_text, change_records}
-use Rattle.wi_scenarios.specs.State.{State}
-use Rattle.wi_scenarios.specs.Views.{current_session, shown_to}
-use Rattle.wi_scenarios.specs.Answer.{Answer}
-use Rattle.wi_scenarios.specs.Changes.{change_list}
-use Rattle.wi_scenarios.specs.Step.{Changes, IsStep}
-use Rattle.wi_scenarios.specs.Laws.{change_fields, RecordsTellList}
+use Rattle.wi_scenarios.proofs.Words.{◌≡◌, ◌≢◌, ◌∙◌, ℕ, zero, suc, ◌+◌, ◌<◌, ◌≤◌, Bool, true, false, not, cond, List, [], ◌∷◌, map, get_or, Result, Ok, Err, refl, sym, ap, arith, bytes_eq, both_ways, same_Some, bytes_eq-Decides, AllByRecursion, range_with_len, All-map, flat_map-map, address_text, read_address, imported, error_name, logical_name, shown_text, AddressFault, ErrorKind, NotAvailable, DivisionByZero, UnknownName, BadNumber, BadReference, BadValue, Circular, Value, Empty, Number, Text, Logical, Fault, numbers_read_back, addresses_read_back, recs, row, read_again, sheet_size, value_in, same_value, kind_text, change_records, State, current_session, shown_to, Answer, change_list, Changes, IsStep, change_fields, RecordsTellList}
+use Rattle.std.proofs.Common.{filter}
 
 -- ---- one change
 
@@ -37,9 +10,6 @@ one_ok a b h = cc
 one_address : (a b : ℕ) → a < sheet_size → b < sheet_size → address_text a ≡ address_text b → a ≡ b
 unfolding sheet_size
 one_address a b l m e = one_ok a b (sym (addresses_read_back a l) ∙ ap read_address e ∙ addresses_read_back b m)
-
-one_some : (v w : Value) → Some v ≡ Some w → v ≡ w
-one_some v w h = cc
 
 unequal : (xs ys : List ℕ) → bytes_eq xs ys ≡ false → xs ≡ ys → ⊥
 unequal xs ys e h = both_ways (bytes_eq xs ys) e ((bytes_eq-Decides xs ys).1 h)
@@ -62,7 +32,7 @@ one_error d e h = absurd (unequal (error_name d) (error_name e) refl h)
 one_value : (v w : Value) → kind_text v ≡ kind_text w → shown_text v ≡ shown_text w → v ≡ w
 unfolding shown_text
 one_value Empty Empty h k = refl
-one_value (Number x) (Number y) h k = one_some (Number x) (Number y) (sym (numbers_read_back x) ∙ ap imported k ∙ numbers_read_back y)
+one_value (Number x) (Number y) h k = same_Some (Number x) (Number y) (sym (numbers_read_back x) ∙ ap imported k ∙ numbers_read_back y)
 one_value (Text t) (Text u) h k = ap Text k
 one_value (Logical b) (Logical c) h k = ap Logical (one_logical b c k)
 one_value (Fault d) (Fault e) h k = ap Fault (one_error d e k)

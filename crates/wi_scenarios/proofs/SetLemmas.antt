@@ -1,20 +1,6 @@
 -- What `set` answers.
-use Rattle.std.proofs.Common.{◌≡◌, ℕ, Bool, true, false, ◌==◌, min, max, List, [], ◌∷◌, length, Option, Some, Result, Ok, Err, if◌then◌else◌, refl, sym, ap, ◌∙◌, subst, arith}
-use Rattle.std.specs.Result.{IsErrAnd}
-use Rattle.std.proofs.lemmas.Result.{err_from_is_err_and}
-use Rattle.wi_values.specs.Address.{Area, place, row_of, column_of, rect_of}
-use Rattle.wi_parser.specs.declared.content.Content.{Content}
-use Rattle.wi_parser.specs.declared.fault.ParseFault.{ParseFault}
+use Rattle.wi_scenarios.proofs.Words.{◌≡◌, ℕ, Bool, true, false, ◌==◌, min, max, List, [], ◌∷◌, length, Option, Some, Result, Ok, Err, if◌then◌else◌, refl, sym, ap, ◌∙◌, subst, arith, IsErrAnd, err_from_is_err_and, Area, place, row_of, column_of, rect_of, Content, ParseFault, content_read, is_too_long, ReadsAs, content_is_one, Refusal, BadCommand, State, Answer, may_grow, Serves, parse_refusal, no_cause, Edit, edit_answer, IsSetStep, set_edit, cell_area, fault_in}
 use Rattle.wi_parser.specs.declared.fault.ParseFault.TheVariants as parse
-use Rattle.wi_parser.specs.Inner.Reading.{content_read, is_too_long, ReadsAs}
-use Rattle.wi_parser.proofs.ContentsOfTexts.{content_is_one}
-use Rattle.wi_scenarios.specs.declared.refusal.Refusal.{Refusal}
-use Rattle.wi_scenarios.specs.declared.refusal.Refusal.TheVariants.{Memory, BadCommand}
-use Rattle.wi_scenarios.specs.State.{State}
-use Rattle.wi_scenarios.specs.Answer.{Answer, may_grow, Serves, parse_refusal}
-use Rattle.wi_scenarios.specs.Causes.{no_cause}
-use Rattle.wi_scenarios.specs.Edits.{Edit, edit_answer}
-use Rattle.wi_scenarios.specs.Set.{IsSetStep, set_edit, cell_area, fault_in}
 use Rattle.wi_scenarios.proofs.AnswerLemmas.{MayRefuseFound, ServesFound, serves, serves_as}
 use Rattle.wi_scenarios.proofs.EditLemmas.{edit_grows, same_edit}
 
@@ -84,14 +70,6 @@ module _ (s : State) (force : Bool) (at : ℕ) (text : List ℕ) (some : (length
       let p = err_from_is_err_and r k in
       subst (λ (x : Result (Unit {0}) Refusal). Serves (IsSetStep s force at text) x s s []) (sym p.1)
       (set_served (Err p.0) s s force at text [] (at_fault p.0 fault p.2 h, refl, refl))
-
-  -- it is read, and memory runs out then
-  pub set_lacks : (r : Result (Unit {0}) Refusal) (content : Content) → IsErrAnd r (λ e. e ≡ Memory) → content_read text ≡ Ok content → Serves (IsSetStep s force at text) r s s []
-  set_lacks r content k h =
-      let p = err_from_is_err_and r k in
-      let e : r ≡ Err Memory = p.1 ∙ ap (λ (x : Refusal). let y : Result (Unit {0}) Refusal = Err x in y) p.2 in
-      subst (λ (x : Result (Unit {0}) Refusal). Serves (IsSetStep s force at text) x s s []) (sym e)
-      (set_served (Err Memory) s s force at text [] (ap may_grow (found_is (Ok content) h) ∙ edit_grows s force (set_edit at (Ok content)), refl, refl))
 
   -- it is read, and put into the cell
   pub set_edited : (r : Result (Unit {0}) Refusal) (t : State) (content : Content) (e : Edit) → content_read text ≡ Ok content → e ≡ set_edit at (Ok content)

@@ -1,22 +1,6 @@
 -- Laws of lists of cells.
-use Rattle.std.proofs.Common.{◌≡◌, ◌==◌, ◌<◌, ◌≤◌, ◌+◌, ◌||◌, ◌&&◌, ◌⊎◌, inl, inr, ℕ, eqb, Bool, true, false, cond, List, [], ◌∷◌, filter, refl, sym, ap, ◌∙◌, arith, ◌*◌, subst}
-use Rattle.std.proofs.Math.Bool.{and_comm}
-use Rattle.std.specs.List.{All, AllByRecursion, Contains, dedup, list_any}
-use Rattle.std.specs.List.Sorted.{IsPermutation, IsStrictlyIncreasing, IsStrictlySortedBy}
-use Rattle.std.specs.Ordering.{nat_cmp}
-use Rattle.std.specs.declared.cmp.Ordering.TheVariants.{Less}
-use Rattle.std.specs.BTreeMap.{is_at}
-use Rattle.std.proofs.lemmas.Bool.{both_ways, cases_order, eq-eqb, eqb-true, ne_eqb}
-use Rattle.std.proofs.lemmas.List.Elements.{All-head, All-tail}
-use Rattle.std.proofs.lemmas.List.Folds.{list_any_at, Any-from_list_any}
-use Rattle.std.proofs.lemmas.List.Kept.{Contains-dedup_nat, Contains-from_dedup}
-use Rattle.std.proofs.lemmas.List.Sorted.{Contains-permutation, IsPermutation-sym}
-use Rattle.std.proofs.lemmas.Map.Keys.{sorted_from_strictly_increasing, sorted_head, sorted_tail}
-use Rattle.std.proofs.lemmas.Map.Views.{any-filter_same}
-use Rattle.wi_values.proofs.Order.{below_from_Less, is_at-eq, turn_test}
-use Rattle.wi_values.specs.Address.{rows, columns}
-use Rattle.wi_sessions.specs.Pictures.{sheet_size}
-use Rattle.wi_sessions.specs.Pictures.Laws.{is_listed, Rises}
+use Rattle.wi_sessions.proofs.Words.{◌≡◌, ◌==◌, ◌<◌, ◌≤◌, ◌+◌, ◌||◌, ◌&&◌, ◌⊎◌, inl, inr, ℕ, eqb, Bool, true, false, cond, List, [], ◌∷◌, filter, refl, sym, ap, ◌∙◌, arith, ◌*◌, subst, and_comm, All, AllByRecursion, Contains, dedup, list_any, IsPermutation, IsStrictlyIncreasing, nat_cmp, Less, is_at, both_ways, cases_order, eq-eqb, eqb-true, ne_eqb, All-head, All-tail, list_any_at, Any-from_list_any, Contains-dedup_nat, Contains-from_dedup, Contains-permutation, IsPermutation-sym, sorted_from_strictly_increasing, sorted_head, sorted_tail, any-filter_same, one_truth, below_from_Less, is_at-eq, turn_test, rows, columns, sheet_size, is_listed, Rises}
+use Rattle.std.specs.List.Sorted.{IsStrictlySortedBy}
 
 -- ---- lists of cells in order
 
@@ -132,11 +116,6 @@ rises xs a h = rising 0 (rows * columns) xs a (from_zero xs) h
 
 -- ---- lists that are sorted
 
-pub same_answers : (b d : Bool) → (b ≡ true → d ≡ true) → (d ≡ true → b ≡ true) → b ≡ d
-same_answers true d h k = sym (h refl)
-same_answers false true h k = k refl
-same_answers false false h k = refl
-
 listed_from : (xs : List ℕ) (c : ℕ) → Contains xs c → is_listed xs c ≡ true
 listed_from xs c h = list_any_at (λ d. d == c) xs h.0 c h.1 (eq-eqb _ c h.2)
 
@@ -148,7 +127,7 @@ contains_from xs c h =
 -- what a sort, and each cell once, leave has the same cells
 pub sorted_once : (cells sorted list : List ℕ) → IsPermutation cells sorted → list ≡ dedup eqb sorted → (c : ℕ) → is_listed list c ≡ is_listed cells c
 sorted_once cells sorted list p d c =
-    same_answers (is_listed list c) (is_listed cells c)
+    one_truth (is_listed list c) (is_listed cells c)
     (λ t. listed_from cells c (Contains-permutation sorted cells c (IsPermutation-sym cells sorted p) (Contains-from_dedup eqb sorted c (subst (λ (xs : List ℕ). Contains xs c) d (contains_from list c t)))))
     (λ t. listed_from list c (subst (λ (xs : List ℕ). Contains xs c) (sym d) (Contains-dedup_nat sorted c (Contains-permutation cells sorted c p (contains_from cells c t)))))
 

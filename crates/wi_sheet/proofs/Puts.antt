@@ -1,28 +1,10 @@
 -- What replacements do to a sheet.
-use Rattle.std.proofs.Common.{◌≡◌, ◌==◌, ℕ, Bool, true, false, not, cond, List, [], ◌∷◌, ◌++◌, filter, Option, Some, None, refl, ap, sym, ◌∙◌, arith}
-use Rattle.std.proofs.lemmas.Bool.Decides.{nat_tests}
-use Rattle.std.proofs.lemmas.Bool.{eqb-true}
-use Rattle.std.proofs.lemmas.List.Elements.{filter_agree}
-use Rattle.std.specs.Ordering.{nat_cmp, match_ordering}
-use Rattle.std.specs.declared.cmp.Ordering.{Ordering}
-use Rattle.std.specs.declared.cmp.Ordering.TheVariants.{Less, Equal, Greater}
-use Rattle.std.specs.Map.{keys_of}
-use Rattle.std.specs.BTreeMap.{insert_entry}
-use Rattle.wi_values.specs.declared.value.Value.{Value}
-use Rattle.wi_values.specs.declared.value.Value.TheVariants.{Empty, Number, Text, Logical, Fault}
-use Rattle.wi_values.specs.declared.replacement.Replacement.{Replacement}
-use Rattle.wi_parser.specs.declared.content.Content.{Content}
-use Rattle.wi_parser.specs.Sheet.{Sheet, constant, content_of, without, with_content, put, put_all, has_formula, cells_with_formula}
-use Rattle.wi_values.proofs.Lookups.{found-insert, found-without}
+use Rattle.wi_sheet.proofs.Words.{◌≡◌, ◌==◌, ℕ, Bool, true, false, not, cond, List, [], ◌∷◌, ◌++◌, filter, Option, Some, None, refl, ap, sym, ◌∙◌, arith, nat_tests, eqb-true, filter_agree, nat_cmp, match_ordering, Ordering, Less, Equal, Greater, keys_of, insert_entry, Value, Empty, Number, Text, Logical, Fault, Replacement, Content, Sheet, constant, content_of, without, with_content, put, put_all, has_formula, cells_with_formula, content_of-with}
 
 -- a content under replacements, of which the last for a cell stands
 abbrev pub overlaid : List Replacement → ℕ → Option Content → Option Content
 overlaid [] q o = o
 overlaid (r ∷ rs) q o = overlaid rs q (cond (q == r.at) (constant r.value) o)
-
-pub content_of-with : (s : Sheet) (c : ℕ) (o : Option Content) (q : ℕ) → content_of (with_content s c o) q ≡ cond (q == c) o (content_of s q)
-content_of-with s c None q = found-without s c q
-content_of-with s c (Some x) q = found-insert s c x q
 
 pub content_of-put : (s : Sheet) (c : ℕ) (v : Value) (q : ℕ) → content_of (put s c v) q ≡ cond (q == c) (constant v) (content_of s q)
 content_of-put s c v q = content_of-with s c (constant v) q

@@ -1,7 +1,10 @@
 //! Something for each of some of 64 cells.
 
-ghost use Rattle.std.specs.Prelude.{◌≡◌, ◌↔◌, ◌<◌, ◌≤◌, ◌+◌, ◌*◌, ◌%◌, ◌==◌, if◌then◌else◌, ◌^◌, ℕ, Some, None, IsSome, IsTrue, OnOk, OnErr, option_copied, option_map, slice_index_or, slice_set};
+ghost use Rattle.std.specs.Prelude.{◌≡◌, ◌↔◌, ◌<◌, ◌≤◌, ◌+◌, ◌*◌, ◌%◌, ◌==◌, if◌then◌else◌, ◌^◌, ℕ, Some, None, IsSome, IsTrue, OnOk, OnErr, is_ok, length, option_copied, option_map, slice_index_or, slice_set};
 ghost use Rattle.std.specs.Int.{bit_at};
+ghost use Rattle.std.specs.List.{insert};
+ghost use Rattle.wi_tiles.specs.Inner.Changes.{IsChanged};
+ghost use Rattle.wi_tiles.specs.Inner.Lines.{slot};
 ghost use Rattle.wi_tiles.specs.Inner.Tile.{rank};
 ghost use Rattle.wi_tiles.specs.Inner.Within.{filled};
 
@@ -60,8 +63,10 @@ impl<V> Tile<V> {
 
     /// The bits of a mask that have something.
     pub fn bits_of(&self, mask: u64) -> u64
-        ensures sound { (i : ℕ) → i < 64 → bit_at result i ≡ 1 → (bit_at mask i ≡ 1) × IsSome (slice_index_or self.now i None) }
-        ensures whole { (i : ℕ) → i < 64 → bit_at mask i ≡ 1 → IsSome (slice_index_or self.now i None) → bit_at result i ≡ 1 }
+        ensures sound { (i : ℕ) → i < 64 → bit_at result i ≡ 1
+            → (bit_at mask i ≡ 1) × IsSome (slice_index_or self.now i None) }
+        ensures whole { (i : ℕ) → i < 64 → bit_at mask i ≡ 1
+            → IsSome (slice_index_or self.now i None) → bit_at result i ≡ 1 }
     {
         self.bits & mask
     }
@@ -77,7 +82,8 @@ impl<V> Tile<V> {
     /// What the bit has before which so many have something.
     pub fn value_at(&self, place: usize) -> &V
         requires { place < filled self.now 64 }
-        ensures { (i : ℕ) → i < 64 → IsSome (slice_index_or self.now i None) → filled self.now i ≡ place → slice_index_or self.now i None ≡ Some result.now }
+        ensures { (i : ℕ) → i < 64 → IsSome (slice_index_or self.now i None)
+            → filled self.now i ≡ place → slice_index_or self.now i None ≡ Some result.now }
     {
         &self.values[place]
     }
@@ -91,7 +97,7 @@ impl<V> Tile<V> {
         ensures err { OnErr result (self.new ≡ self.old) }
     {
         let place = rank(self.bits, bit);
-        self.values.insert(place, value)?;
+        put_in(&mut self.values, place, value)?;
         self.bits |= 1 << bit;
         Ok(())
     }
@@ -117,8 +123,8 @@ impl<V: Drop> Tile<V> {
     fn replace_value(&mut self, bit: u32, value: V) -> Option<V>
         requires { bit < 64 }
         ensures value { result ≡ slice_index_or self.old bit None }
-        ensures put { (i : ℕ) → slice_index_or self.new i None
-            ≡ (if i == bit then option_map (λ _. value) (slice_index_or self.old bit None) else slice_index_or self.old i None) }
+        ensures put { IsChanged slot self.old self.new bit
+            (option_map (λ _. value) (slice_index_or self.old bit None)) }
     {
         if (self.bits >> bit) & 1 == 0 {
             return None;
@@ -161,6 +167,19 @@ impl<V: Drop> Places<V> for Tile<V> {
 
     fn remove(&mut self, place: u64, _alloc: Global) -> Option<V> {
         self.remove_value(place as u32)
+    }
+}
+
+/// Puts a value in at a place, and moves those behind it. If memory runs out, all is as before.
+fn put_in<V>(values: &mut Vec<V>, place: usize, value: V) -> Result<(), AllocFailed<V>>
+    requires { place ≤ length values.old.items }
+    ensures { values.new.items
+        ≡ (if is_ok result then insert values.old.items place value else values.old.items) }
+{
+    if place == values.len() {
+        values.push(value)
+    } else {
+        values.insert(place, value)
     }
 }
 

@@ -58,6 +58,7 @@ kept_deeper {s} {m} {now} {next} {f} {h} {g} {k} whole t = record {
   rises = t.rises;
   evaluations = t.evaluations;
   key = kept_next s m f.key k t.key;
+  awaited = t.awaited;
   new = t.new;
 }
 

@@ -1,4 +1,4 @@
-use Rattle.std.proofs.Common.{rules}
+use Rattle.wi_graph.proofs.Words.{rules}
 use Rattle.wi_graph.proofs.SearchSteps.{found_list}
 use Rattle.wi_graph.proofs.ClosingSteps.{reads_apart}
 use Rattle.wi_graph.proofs.sides.listed_unless_apart.Goals as goal
@@ -10,4 +10,4 @@ returns-in_ok-cone-in-Some-clause-cone c =
 
 pub returns-in-None-clause-apart : goal.returns-in-None-clause-apart
 returns-in-None-clause-apart c =
-    reads_apart c.args.rooms.now c.args.next.now.items c.args.circles.now c.index.result.now (c.is_for_open_cell.ensures.one (search rules)) (search rules) (c.is_for_open_cell.ensures.unmet (search rules)) (rw c.in-None.is at c.in_ok-found.ensures.apart)
+    reads_apart c.args.rooms.now c.args.next.now c.args.circles.now c.index-next-0.result (c.is_for_open_cell.ensures.one (search rules)) (search rules) (c.is_for_open_cell.ensures.unmet (search rules)) (rw c.in-None.is at c.in_ok-found.ensures.apart)

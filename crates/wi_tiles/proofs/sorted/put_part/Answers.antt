@@ -1,9 +1,4 @@
-use Rattle.std.proofs.Common.{rules, arith, ◌<◌, ap, ◌∙◌, sym, Some, ◌≡◌, ◌%◌, ◌/◌, cond, subst}
-use Rattle.std.specs.Prelude.{◌==◌}
-use Rattle.std.specs.Option.{option_or}
-use Rattle.std.specs.List.{All, insert}
-use Rattle.wi_tiles.specs.Inner.Lines.{slot}
-use Rattle.wi_tiles.specs.Inner.Sorted.{at_sorted, groups, Rises, IsFilled}
+use Rattle.wi_tiles.proofs.Words.{rules, arith, ◌<◌, ap, ◌∙◌, sym, Some, ◌≡◌, ◌%◌, ◌/◌, cond, subst, ◌==◌, option_or, All, insert, slot, at_sorted, groups, Rises, IsFilled}
 use Rattle.wi_tiles.proofs.Filled.{all_more, filled_put}
 use Rattle.wi_tiles.proofs.Keys.{find_beyond, Rises-insert}
 use Rattle.wi_tiles.proofs.Sorts.{sorted_put}
@@ -12,7 +7,7 @@ use Rattle.wi_tiles.proofs.sorted.put_part.Goals as goal
 pub returns-clause-rises : goal.returns-clause-rises
 returns-clause-rises g c =
     let items : c.insert.new.self.items ≡ insert c.args.parts.now.items c.args.place (c.args.path % groups, c.put_new.new.self) = search rules in
-    subst (λ xs. Rises xs) (sym items) (Rises-insert c.args.parts.now.items c.args.place (c.args.path % groups) c.put_new.new.self c.requires.rises c.requires.bound c.requires.below c.requires.above)
+    subst (λ xs. Rises xs) (sym items) (Rises-insert c.args.parts.now.items c.args.place (c.args.path % groups) c.put_new.new.self c.requires.rises c.requires.place.bound c.requires.place.below c.requires.place.above)
 
 pub returns-in_err-insert-clause-filled : goal.returns-in_err-insert-clause-filled
 returns-in_err-insert-clause-filled g c = λ all.
@@ -29,4 +24,4 @@ returns-clause-filled g c = λ all.
 pub returns-clause-ok : goal.returns-clause-ok
 returns-clause-ok g c =
     let items : c.insert.new.self.items ≡ insert c.args.parts.now.items c.args.place (c.args.path % groups, c.put_new.new.self) = search rules in
-    λ p. ap (λ xs. at_sorted slot xs p) items ∙ sorted_put slot c.args.parts.now.items c.args.path c.args.place c.vacant-part.result c.put_new.new.self (Some c.args.value) c.requires.bound c.requires.below (find_beyond c.args.parts.now.items c.args.place (c.args.path % groups) c.requires.bound c.requires.below c.requires.above) c.vacant-part.ensures (λ q. c.in_ok-put_new.ensures.ok q ∙ ap (λ o. cond (q == c.args.path / groups) (option_or o (Some c.args.value)) (slot c.vacant-part.result q)) (c.vacant-part.ensures (c.args.path / groups))) p
+    λ p. ap (λ xs. at_sorted slot xs p) items ∙ sorted_put slot c.args.parts.now.items c.args.path c.args.place c.vacant-part.result c.put_new.new.self (Some c.args.value) c.requires.place.bound c.requires.place.below (find_beyond c.args.parts.now.items c.args.place (c.args.path % groups) c.requires.place.bound c.requires.place.below c.requires.place.above) c.vacant-part.ensures (λ q. c.in_ok-put_new.ensures.ok q ∙ ap (λ o. cond (q == c.args.path / groups) (option_or o (Some c.args.value)) (slot c.vacant-part.result q)) (c.vacant-part.ensures (c.args.path / groups))) p

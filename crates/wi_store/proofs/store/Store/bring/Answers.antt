@@ -1,0 +1,25 @@
+use Rattle.wi_store.proofs.Words.{◌∙◌, refl, sym, ap, length, err_from_is_err_and, sheet_in, Stored}
+use Rattle.wi_store.proofs.EditLemmas.{occupied_after, applies_after_refusal, applies_after_acceptance}
+use Rattle.wi_store.proofs.store.Store.bring.Goals as goal
+
+pub release-requires-clause-occupied : goal.release-requires-clause-occupied
+release-requires-clause-occupied c =
+    occupied_after c.edit-answer.result c.self.inside.limits c.self.inside.edits c.occupied-before.result c.unwrap_or-occupied.result
+    (sheet_in c.self.inside.rooms.entries) (sheet_in c.edit-answer.new.rooms.entries) _
+    (c.occupied-before.ensures ∙ ap (λ (s : Stored). length s.sheet) (sym c.self.view_is)) c.unwrap_or-occupied.ensures
+    c.edit-answer.ensures.cause c.edit-answer.ensures.done c.edit-answer.ensures.refused
+
+pub returns-in_err-answer : goal.returns-in_err-answer
+returns-in_err-answer c =
+    let p = err_from_is_err_and c.from_residual.result c.from_residual.ensures.1 in
+    applies_after_refusal c.args.self.now (sheet_in c.self.inside.rooms.entries) (sheet_in c.release.new.rooms.entries)
+    c.self.inside.edits c.self.inside.limits c.args.brought.now c.args.brought.now c.from_residual.result p.0 c.in_err-answer.field-0.0
+    c.self.view_is refl p.1 p.2 c.in_err-answer.ensures.cause
+    (c.release.ensures.sheet ∙ c.in_err-answer.ensures.refused)
+
+pub returns : goal.returns
+returns c =
+    applies_after_acceptance c.args.self.now (sheet_in c.self.inside.rooms.entries) (sheet_in c.release.new.rooms.entries)
+    c.self.inside.edits _ c.self.inside.limits c.args.brought.now c.args.brought.now
+    c.self.view_is refl c.in_ok-answer.ensures.cause
+    (c.release.ensures.sheet ∙ c.in_ok-answer.ensures.done)
