@@ -5,7 +5,7 @@ ghost use Rattle.wi_cli.specs.Lines.{without_cr};
 ghost use Rattle.wi_cli.specs.Inner.Script.{is_comment, spelled_command, text_command, line_command};
 ghost use Rattle.wi_cli.specs.Inner.Spelling.{IsCommandOf, IsLineOf};
 
-use crate::edit_commands::{read_edit, read_forced};
+use crate::edit_commands::{read_edit, read_forced, read_set};
 use crate::lines::MAX_LINE;
 use crate::look_commands::{read_changes, read_compare, read_export, read_formula, read_show};
 use crate::scenario_commands::{read_as, read_base, read_drop, read_scenario, read_use};
@@ -84,7 +84,9 @@ pub(crate) fn read_command(text: &str) -> Result<Command<'_>, Refusal>
     ensures { IsCommandOf (spelled_command text.now) result }
 {
     let (name, operands) = split_word(text);
+    // Most commands set a cell, so that name is compared first.
     match name {
+        "set" => read_set(false, operands),
         "force" => read_forced(operands),
         "scenario" => read_scenario(operands),
         "drop" => read_drop(operands),

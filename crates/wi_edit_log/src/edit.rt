@@ -1,6 +1,6 @@
 //! One edit of the log.
 
-ghost use Rattle.std.specs.Prelude.{◌≡◌, ◌≤◌, ◌<◌, ◌+◌, ℕ, drop, length, nat_lt, slice_index_or, true, IfOk};
+ghost use Rattle.std.specs.Prelude.{◌≡◌, ◌≤◌, ◌<◌, ◌+◌, ℕ, drop, length, nat_lt, slice_index_or, true};
 ghost use Rattle.wi_edit_log.specs.Inner.Edits.{AreInRuns, IsInRun, entry_in, is_wanted_of_others};
 ghost use Rattle.wi_edit_log.specs.Inner.First.{IsFirst};
 ghost use Rattle.wi_edit_log.specs.Inner.Narrow.{are_narrow};
@@ -10,7 +10,6 @@ ghost use Rattle.wi_edit_log.specs.declared.edit.Edit.{Edit};
 use crate::named::{Named, are_narrow};
 use crate::rising::are_rising;
 use crate::search::sooner;
-use std::alloc::AllocError;
 use wi_values::{Address, Rect};
 
 /// An edit: its session, what it named, and the place in the log where its run begins, from which on all edits up to it
@@ -25,21 +24,19 @@ pub(crate) struct Edit {
 
 impl Edit {
     /// The edit that comes after those.
-    pub(crate) fn after(edits: &[Edit], session: u32, cells: Vec<Rect>) -> Result<Edit, AllocError>
+    pub(crate) fn after(edits: &[Edit], session: u32, named: Named) -> Edit
         requires { AreInRuns edits.now }
-        ensures entry { IfOk result (λ e.
-            entry_in e ≡ record { session = session; cells = cells.items }) }
-        ensures run { IfOk result (λ e. IsInRun edits.now (length edits.now) e) }
+        ensures entry { entry_in result ≡ record { session = session; cells = named } }
+        ensures run { IsInRun edits.now (length edits.now) result }
     {
         let run = run_after(edits, session);
-        let narrow = narrow_after(edits, &cells);
-        let named = Named::new(cells)?;
-        Ok(Edit {
+        let narrow = narrow_after(edits, named.areas());
+        Edit {
             named,
             run,
             session,
             narrow,
-        })
+        }
     }
 
     /// Its session.

@@ -4,7 +4,7 @@ ghost use Rattle.std.specs.Prelude.{◌≡◌, ◌-◌, ◌<◌, ◌↔◌, ◌+
 ghost use Rattle.wi_edit_log.specs.EditLog.{first_stale};
 
 use crate::edit::{Edit, first_of_others, run_after};
-use crate::named::are_narrow;
+use crate::named::{Named, are_narrow};
 use crate::noted::Noted;
 use std::alloc::{AllocError, Global};
 use std::marker::Model;
@@ -49,12 +49,12 @@ impl EditLog {
     }
 
     /// Puts an edit at the end. On an error all is as before. The work grows with the rectangles.
-    pub fn add(&mut self, session: u32, cells: Vec<Rect>) -> Result<(), AllocError>
+    pub fn add(&mut self, session: u32, cells: Named) -> Result<(), AllocError>
         ensures ok { OnOk result (self.new
-            ≡ self.old ++ record { session = session; cells = cells.items } ∷ []) }
+            ≡ self.old ++ record { session = session; cells = cells } ∷ []) }
         ensures err { OnErr result (self.new ≡ self.old) }
     {
-        let edit = Edit::after(&self.edits, session, cells)?;
+        let edit = Edit::after(&self.edits, session, cells);
         push_edit(&mut self.edits, edit)?;
         Ok(())
     }

@@ -10,3 +10,4 @@ mod rising;
 mod search;
 
 pub use edit_log::EditLog;
+pub use named::Named;

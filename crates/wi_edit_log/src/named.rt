@@ -1,6 +1,6 @@
 //! The rectangles that one edit named.
 
-ghost use Rattle.std.specs.Prelude.{◌≡◌, true, IfOk};
+ghost use Rattle.std.specs.Prelude.{◌≡◌, ◌∷◌, [], true, IfOk};
 ghost use Rattle.wi_edit_log.specs.Inner.First.{IsFirst, in_each};
 ghost use Rattle.wi_edit_log.specs.Inner.Narrow.{are_narrow};
 ghost use Rattle.wi_edit_log.specs.Inner.Rising.{are_rising};
@@ -14,9 +14,9 @@ use wi_values::{Address, Rect};
 /// A narrow rectangle has at most so many cells. Edits of such are noted cell by cell.
 const FEW: u64 = 32;
 
-/// Rectangles, seen as their list.
+/// The rectangles that an edit names, seen as their list as it was given.
 #[derive(Drop)]
-pub(crate) struct Named {
+pub struct Named {
     areas: Areas,
 }
 
@@ -51,14 +51,22 @@ impl Model for Named {
 }
 
 impl Named {
-    /// The rectangles as they are given. One takes no memory.
-    pub(crate) fn new(cells: Vec<Rect>) -> Result<Named, AllocError>
+    /// One rectangle. Takes no memory.
+    pub fn one(area: Rect) -> Named
+        ensures { result ≡ area ∷ [] }
+    {
+        Named {
+            areas: Areas::One([area]),
+        }
+    }
+
+    /// The rectangles as they are given. The work grows with their count. Of more than one, or none, it takes a block of memory
+    /// beside their list.
+    pub fn new(cells: Vec<Rect>) -> Result<Named, AllocError>
         ensures { IfOk result (λ n. n ≡ cells.items) }
     {
         if cells.len() == 1 {
-            return Ok(Named {
-                areas: Areas::One([cells[0]]),
-            });
+            return Ok(Named::one(cells[0]));
         }
         let rise = are_rising(&cells);
         let alloc = *cells.allocator();
@@ -74,7 +82,7 @@ impl Named {
     }
 
     /// The rectangles.
-    pub(crate) fn areas(&self) -> &[Rect]
+    pub fn areas(&self) -> &[Rect]
         ensures { result.now ≡ self.now }
     {
         match &self.areas {

@@ -105,7 +105,7 @@ fn push_rows(alloc: Global, rows: &str, edit: &mut Edit) -> Option<()> {
 fn put<C: Calculator>(alloc: Global, calculator: &mut C, rows: &str) -> Option<()> {
     let mut edit = Vec::new(alloc);
     push_rows(alloc, rows, &mut edit)?;
-    calculator.apply(edit).ok()
+    calculator.apply(&mut edit).ok()
 }
 
 /// What a formula shows.
@@ -113,7 +113,7 @@ fn asked<C: Calculator>(alloc: Global, calculator: &mut C, text: &str) -> Option
     let at = Address::at(ASKED.0, ASKED.1);
     let mut edit = Vec::new(alloc);
     push_content(alloc, at, text, &mut edit)?;
-    calculator.apply(edit).ok()?;
+    calculator.apply(&mut edit).ok()?;
     calculator.value(&[], at).ok()
 }
 

@@ -1,10 +1,9 @@
 -- Steps of a search over readers that stops at watched cells.
-use Rattle.std.proofs.Common.{◌≡◌, ◌==◌, ◌&&◌, ◌||◌, ◌⊎◌, inl, inr, not, ℕ, ◌+◌, ◌<◌, ◌↔◌, Bool, true, false, cond, List, [], ◌∷◌, ◌++◌, length, take, get_or, Result, Ok, Err, IfOk, ap, sym, ◌∙◌, subst, arith}
+use Rattle.std.proofs.Common.{◌≡◌, ◌==◌, ◌&&◌, ◌||◌, ◌⊎◌, inl, inr, not, ℕ, ◌+◌, ◌<◌, ◌↔◌, Bool, true, false, cond, List, [], ◌∷◌, ◌++◌, length, take, get_or, ap, sym, ◌∙◌, subst, arith}
 use Rattle.std.proofs.lemmas.Bool.{or_cases, or_left, or_right, and_parts, and_from, cases_Bool, not-true, not_from_false, false_from_ne_true}
 use Rattle.std.proofs.lemmas.List.{length-append}
 use Rattle.std.proofs.lemmas.Map.Views.{any-filter_same}
 use Rattle.std.proofs.lemmas.List.Elements.{filter-append}
-use Rattle.std.specs.Global.{Vec}
 use Rattle.std.specs.List.{list_any, Contains}
 use Rattle.std.specs.Ordering.{nat_cmp}
 use Rattle.std.specs.BTreeMap.{is_at}
@@ -184,7 +183,7 @@ found_beyond s readers w cells found i g k c = sym (turned found.keys c) ∙ sam
 
 -- ---- as a list
 
-beyond_list : (readers : Bag) (w : ℕ → Bool) (cells list : List ℕ) (found : BTreeSet ℕ) → IsStrictlyIncreasing list → ((c : ℕ) → Contains list c ↔ (contains nat_cmp found c ≡ true)) → IsConeBeyond readers w cells found → IsListBeyond readers w cells list
+pub beyond_list : (readers : Bag) (w : ℕ → Bool) (cells list : List ℕ) (found : BTreeSet ℕ) → IsStrictlyIncreasing list → ((c : ℕ) → Contains list c ↔ (contains nat_cmp found c ≡ true)) → IsConeBeyond readers w cells found → IsListBeyond readers w cells list
 beyond_list readers w cells list found o e k = record {
   order = o;
   cone = record {
@@ -197,11 +196,6 @@ beyond_list readers w cells list found o e k = record {
   where
     same : (c : ℕ) → contains nat_cmp (as_set list) c ≡ contains nat_cmp found c
     same c = turned list c ∙ same_tests (is_one_of list c) (contains nat_cmp found c) (λ h. (e c).0 (one_listed list c h)) (λ h. listed_one list c ((e c).1 h))
-
-pub beyond_listed : {E : Type 0} (readers : Bag) (w : ℕ → Bool) (cells : List ℕ) (found : BTreeSet ℕ) (r : Result (Vec ℕ) E) → IsConeBeyond readers w cells found → IfOk r (λ list. IsStrictlyIncreasing list.items) →
-    IfOk r (λ list. (c : ℕ) → Contains list.items c ↔ (contains nat_cmp found c ≡ true)) → IfOk r (λ list. IsListBeyond readers w cells list.items)
-beyond_listed readers w cells found (Ok list) k o e = beyond_list readers w cells list.items found o e k
-beyond_listed readers w cells found (Err error) k o e = tt
 
 -- those that aren't watched, where they stand in order and nothing reads them
 pub own_beyond : (readers : Bag) (w : ℕ → Bool) (cells list looked : List ℕ) → list ≡ beyond w cells → looked ≡ list → IsStrictlyIncreasing looked → ((a r : ℕ) → is_one_of looked a ≡ true → IsReader readers a r → ⊥) → IsListBeyond readers w cells list

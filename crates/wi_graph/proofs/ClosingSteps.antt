@@ -5,9 +5,9 @@ use Rattle.std.proofs.lemmas.List.{nil_from_length}
 use Rattle.std.specs.List.{list_any, find}
 use Rattle.std.specs.Map.{keys_of, lookup}
 use Rattle.std.specs.Ordering.{nat_cmp}
-use Rattle.std.specs.Global.{Vec}
 use Rattle.std.specs.BTreeMap.{is_at}
 use Rattle.std.specs.BTreeSet.{BTreeSet, btree_set_len, contains}
+use Rattle.smallvec.specs.SmallVec.{SmallVec}
 use Rattle.wi_values.specs.Address.{Area, is_within}
 use Rattle.wi_values.proofs.Within.{within_between}
 use Rattle.wi_parser.specs.declared.content.Content.{Content}
@@ -51,13 +51,13 @@ has_one_is cells r (Some d) f n = sym (found (is_within r) cells.keys d (sym (tu
 
 -- ---- what reads none of them
 
-none_read : (cells : BTreeSet ℕ) (es : Coming) (c : ℕ) (r : Option (Vec Area)) → brought_to es c ≡ Some r → reads_one_of es cells ≡ false → list_any (has_one cells) (areas_of (items_of r)) ≡ false
+none_read : (cells : BTreeSet ℕ) (es : Coming) (c : ℕ) (r : Option (SmallVec Area)) → brought_to es c ≡ Some r → reads_one_of es cells ≡ false → list_any (has_one cells) (areas_of (items_of r)) ≡ false
 none_read cells [] c r e h = cc
 none_read cells (x ∷ xs) c r e h = at (is_at (nat_cmp c) x.0) e (or_parts (list_any (has_one cells) (areas_of (items_of x.1))) _ h) (none_read cells xs c r)
   where
     at : (b : Bool) → cond b (Some x.1) (lookup (is_at (nat_cmp c)) xs) ≡ Some r → (list_any (has_one cells) (areas_of (items_of x.1)) ≡ false) × (reads_one_of xs cells ≡ false) →
         (lookup (is_at (nat_cmp c)) xs ≡ Some r → reads_one_of xs cells ≡ false → list_any (has_one cells) (areas_of (items_of r)) ≡ false) → list_any (has_one cells) (areas_of (items_of r)) ≡ false
-    at true k p ih = let z : x.1 ≡ r = cc in subst (λ (o : Option (Vec Area)). list_any (has_one cells) (areas_of (items_of o)) ≡ false) z p.0
+    at true k p ih = let z : x.1 ≡ r = cc in subst (λ (o : Option (SmallVec Area)). list_any (has_one cells) (areas_of (items_of o)) ≡ false) z p.0
     at false k p ih = ih k p.1
 
 apart_from : (cells : BTreeSet ℕ) (rs : List Area) (d : ℕ) → list_any (has_one cells) rs ≡ false → is_in rs d ≡ true → contains nat_cmp cells d ≡ false
@@ -70,7 +70,7 @@ apart_from cells (r ∷ rs) d n h = at (or_cases (is_within r d) _ h) (or_parts 
     at (inr w) p ih = ih p.1 w
 
 -- what is for none of them, and reads none
-none_met : (cells : BTreeSet ℕ) (es : Coming) (c : ℕ) (r : Option (Vec Area)) → brought_to es c ≡ Some r → meets_one_of es cells ≡ false → (contains nat_cmp cells c ≡ false) × (list_any (has_one cells) (areas_of (items_of r)) ≡ false)
+none_met : (cells : BTreeSet ℕ) (es : Coming) (c : ℕ) (r : Option (SmallVec Area)) → brought_to es c ≡ Some r → meets_one_of es cells ≡ false → (contains nat_cmp cells c ≡ false) × (list_any (has_one cells) (areas_of (items_of r)) ≡ false)
 none_met cells [] c r e h = cc
 none_met cells (x ∷ xs) c r e h = at (is_at (nat_cmp c) x.0) (is_at-eq c x.0) e (or_parts (contains nat_cmp cells x.0 || list_any (has_one cells) (areas_of (items_of x.1))) _ h) (none_met cells xs c r)
   where
@@ -79,7 +79,7 @@ none_met cells (x ∷ xs) c r e h = at (is_at (nat_cmp c) x.0) (is_at-eq c x.0) 
     at true t k p ih =
         let z : x.1 ≡ r = cc in
         let q = or_parts (contains nat_cmp cells x.0) _ p.0 in
-        (ap (contains nat_cmp cells) (same_cell x.0 c (sym t)) ∙ q.0, subst (λ (o : Option (Vec Area)). list_any (has_one cells) (areas_of (items_of o)) ≡ false) z q.1)
+        (ap (contains nat_cmp cells) (same_cell x.0 c (sym t)) ∙ q.0, subst (λ (o : Option (SmallVec Area)). list_any (has_one cells) (areas_of (items_of o)) ≡ false) z q.1)
     at false t k p ih = ih k p.1
 
 -- ---- so no cycle is closed, and none is opened
@@ -88,14 +88,14 @@ none_met cells (x ∷ xs) c r e h = at (is_at (nat_cmp c) x.0) (is_at-eq c x.0) 
 record IsApart (rooms : Rooms) (next : Coming) (circles : BTreeSet ℕ) (then : Sheet) : Type 0 where
   before : AreCircles (room_at rooms) (contains nat_cmp circles)
   after : (c : ℕ) → room_over next rooms c ≡ areas_in (content_of then c)
-  named : (c : ℕ) (v : Option (Vec Area)) → brought_to next c ≡ Some v → contains nat_cmp circles c ≡ false
-  reads : (c : ℕ) (v : Option (Vec Area)) → brought_to next c ≡ Some v → (d : ℕ) → is_in (areas_of (items_of v)) d ≡ true → circular then d ≡ false
+  named : (c : ℕ) (v : Option (SmallVec Area)) → brought_to next c ≡ Some v → contains nat_cmp circles c ≡ false
+  reads : (c : ℕ) (v : Option (SmallVec Area)) → brought_to next c ≡ Some v → (d : ℕ) → is_in (areas_of (items_of v)) d ≡ true → circular then d ≡ false
 
 module _ {rooms : Rooms} {next : Coming} {circles : BTreeSet ℕ} {then : Sheet} (k : IsApart rooms next circles then) where
-  reads_then : (c : ℕ) (o : Option (Option (Vec Area))) → brought_to next c ≡ o → (d : ℕ) → content_reads (content_of then c) d ≡ is_in (areas_of (put_over o (room_at rooms c))) d
+  reads_then : (c : ℕ) (o : Option (Option (SmallVec Area))) → brought_to next c ≡ o → (d : ℕ) → content_reads (content_of then c) d ≡ is_in (areas_of (put_over o (room_at rooms c))) d
   reads_then c o e d =
       reads_areas (content_of then c) d
-      ∙ ap (λ (x : Option (List Area)). is_in (areas_of x) d) (sym (k.after c) ∙ ap (λ (x : Option (Option (Vec Area))). put_over x (room_at rooms c)) e)
+      ∙ ap (λ (x : Option (List Area)). is_in (areas_of x) d) (sym (k.after c) ∙ ap (λ (x : Option (Option (SmallVec Area))). put_over x (room_at rooms c)) e)
 
   reads_before : (c d : ℕ) → content_reads (content_of k.before.sheet c) d ≡ is_in (areas_of (room_at rooms c)) d
   reads_before c d = reads_areas (content_of k.before.sheet c) d ∙ ap (λ (x : Option (List Area)). is_in (areas_of x) d) (sym (k.before.are c))
@@ -104,7 +104,7 @@ module _ {rooms : Rooms} {next : Coming} {circles : BTreeSet ℕ} {then : Sheet}
   still_reads : (c : ℕ) → circular then c ≡ true → (d : ℕ) × (content_reads (content_of k.before.sheet c) d ≡ true) × (circular then d ≡ true)
   still_reads c h = let f = reads_circular then c h in at f.0 f.1 f.2 (brought_to next c) refl
     where
-      at : (d : ℕ) → content_reads (content_of then c) d ≡ true → circular then d ≡ true → (o : Option (Option (Vec Area))) → brought_to next c ≡ o → (d : ℕ) × (content_reads (content_of k.before.sheet c) d ≡ true) × (circular then d ≡ true)
+      at : (d : ℕ) → content_reads (content_of then c) d ≡ true → circular then d ≡ true → (o : Option (Option (SmallVec Area))) → brought_to next c ≡ o → (d : ℕ) × (content_reads (content_of k.before.sheet c) d ≡ true) × (circular then d ≡ true)
       at d r u None e = (d, reads_before c d ∙ sym (reads_then c None e d) ∙ r, u)
       at d r u (Some v) e = clash (circular then d) u (k.reads c v e d (sym (reads_then c (Some v) e d) ∙ r))
 
@@ -112,7 +112,7 @@ module _ {rooms : Rooms} {next : Coming} {circles : BTreeSet ℕ} {then : Sheet}
   reads_still : (c : ℕ) → circular k.before.sheet c ≡ true → (d : ℕ) × (content_reads (content_of then c) d ≡ true) × (circular k.before.sheet d ≡ true)
   reads_still c h = let f = reads_circular k.before.sheet c h in at f.0 f.1 f.2 (brought_to next c) refl
     where
-      at : (d : ℕ) → content_reads (content_of k.before.sheet c) d ≡ true → circular k.before.sheet d ≡ true → (o : Option (Option (Vec Area))) → brought_to next c ≡ o → (d : ℕ) × (content_reads (content_of then c) d ≡ true) × (circular k.before.sheet d ≡ true)
+      at : (d : ℕ) → content_reads (content_of k.before.sheet c) d ≡ true → circular k.before.sheet d ≡ true → (o : Option (Option (SmallVec Area))) → brought_to next c ≡ o → (d : ℕ) × (content_reads (content_of then c) d ≡ true) × (circular k.before.sheet d ≡ true)
       at d r u None e = (d, reads_then c None e d ∙ sym (reads_before c d) ∙ r, u)
       at d r u (Some v) e = clash (circular k.before.sheet c) h (sym (k.before.circles c) ∙ k.named c v e)
 
@@ -173,7 +173,7 @@ has_rooms_is r (k ∷ ks) = at (is_within r k) refl (has_rooms_is r ks)
         first true h = refl
         first false h = cc
 
-pub no_key : (es : List (ℕ × Option (Vec Area))) (d : ℕ) → is_one_of (keys_of es) d ≡ false → lookup (is_at (nat_cmp d)) es ≡ None
+pub no_key : (es : List (ℕ × Option (SmallVec Area))) (d : ℕ) → is_one_of (keys_of es) d ≡ false → lookup (is_at (nat_cmp d)) es ≡ None
 no_key [] d h = refl
 no_key (e ∷ es) d h = at (is_at (nat_cmp d) e.0) (is_at-eq d e.0) (or_parts (e.0 == d) _ h) (no_key es d)
   where
@@ -194,7 +194,7 @@ no_room_there rooms cell (r ∷ rs) d n h = at (or_cases (is_within r d) _ h) (o
         )
     at (inr w) p ih = ih p.1 w
 
-pub one_stands_apart : (rooms : Rooms) (next : Coming) (circles : BTreeSet ℕ) (x : ℕ × Option (Vec Area)) → length next ≡ 1 → x ≡ get_or next 0 x → contains nat_cmp circles x.0 ≡ false → list_any (has_room_in rooms x.0) (areas_of (items_of x.1)) ≡ false → StandsApart rooms next circles
+pub one_stands_apart : (rooms : Rooms) (next : Coming) (circles : BTreeSet ℕ) (x : ℕ × Option (SmallVec Area)) → length next ≡ 1 → x ≡ get_or next 0 x → contains nat_cmp circles x.0 ≡ false → list_any (has_room_in rooms x.0) (areas_of (items_of x.1)) ≡ false → StandsApart rooms next circles
 one_stands_apart rooms [] circles x l e n m c v h = cc
 one_stands_apart rooms (y ∷ []) circles x l e n m c v h = at (is_at (nat_cmp c) y.0) (is_at-eq c y.0) h
   where
@@ -206,11 +206,11 @@ one_stands_apart rooms (y ∷ []) circles x l e n m c v h = at (is_at (nat_cmp c
     at true t k =
         let z : y.1 ≡ v = cc in
         let s : y.0 ≡ c = sym (same_cell y.0 c (sym t)) in
-        (ap (contains nat_cmp circles) (sym s ∙ sym (ap (λ (w : ℕ × Option (Vec Area)). w.0) is_y)) ∙ n, λ d i. none d (no_room_there rooms x.0 (areas_of (items_of x.1)) d m (ap (λ (w : Option (Vec Area)). is_in (areas_of (items_of w)) d) (ap (λ (w : ℕ × Option (Vec Area)). w.1) is_y ∙ z) ∙ i)))
+        (ap (contains nat_cmp circles) (sym s ∙ sym (ap (λ (w : ℕ × Option (SmallVec Area)). w.0) is_y)) ∙ n, λ d i. none d (no_room_there rooms x.0 (areas_of (items_of x.1)) d m (ap (λ (w : Option (SmallVec Area)). is_in (areas_of (items_of w)) d) (ap (λ (w : ℕ × Option (SmallVec Area)). w.1) is_y ∙ z) ∙ i)))
       where
         none : (d : ℕ) → ((x.0 == d) ≡ false) × (is_one_of (keys_of rooms.entries) d ≡ false) → room_over (y ∷ []) rooms d ≡ None
         none d p =
-            ap (λ (b : Bool). put_over (cond b (Some y.1) None) (room_at rooms d)) (is_at-eq d y.0 ∙ turn_test d y.0 ∙ ap (λ (w : ℕ). w == d) (sym (ap (λ (w : ℕ × Option (Vec Area)). w.0) is_y)) ∙ p.0)
+            ap (λ (b : Bool). put_over (cond b (Some y.1) None) (room_at rooms d)) (is_at-eq d y.0 ∙ turn_test d y.0 ∙ ap (λ (w : ℕ). w == d) (sym (ap (λ (w : ℕ × Option (SmallVec Area)). w.0) is_y)) ∙ p.0)
             ∙ ap in_room (no_key rooms.entries d p.1)
 one_stands_apart rooms (y ∷ z ∷ zs) circles x l e n m c v h = absurd (omega arith)
 
@@ -240,25 +240,25 @@ reach_turn rooms next circles changes turns g b k f h = none_turns {then = then_
     after : (c : ℕ) → room_over next rooms c ≡ areas_in (content_of (then_sheet g.sheet changes) c)
     after c = b c ∙ ap (areas_then changes c) (g.are c) ∙ sym (then_contents g.sheet changes c)
 
-    is_open : (c : ℕ) (v : Option (Vec Area)) → brought_to next c ≡ Some v → (d : ℕ) → is_in (areas_of (items_of v)) d ≡ true → circular g.sheet d ≡ false
+    is_open : (c : ℕ) (v : Option (SmallVec Area)) → brought_to next c ≡ Some v → (d : ℕ) → is_in (areas_of (items_of v)) d ≡ true → circular g.sheet d ≡ false
     is_open c v e d i = sym (g.circles d) ∙ apart_from circles (areas_of (items_of v)) d (none_met circles next c v e k.unmet).1 i
 
     -- nothing is next for another cell
     others : (d : ℕ) → (k.cell == d) ≡ false → brought_to next d ≡ None
     others d n = ap (λ (es : Coming). brought_to es d) k.alone ∙ ap (λ (x : Bool). cond x (Some k.room) None) (is_at-eq d k.cell ∙ turn_test d k.cell ∙ n)
 
-    its_room : (x : Bool) (v : Option (Vec Area)) → cond x (Some k.room) None ≡ Some v → k.room ≡ v
+    its_room : (x : Bool) (v : Option (SmallVec Area)) → cond x (Some k.room) None ≡ Some v → k.room ≡ v
     its_room true v e = cc
     its_room false v e = cc
 
-    first : (c : ℕ) (v : Option (Vec Area)) → brought_to next c ≡ Some v → (d : ℕ) → is_in (areas_of (items_of v)) d ≡ true → IsLookedAt rooms k.cell k.not_met.0 [] d
+    first : (c : ℕ) (v : Option (SmallVec Area)) → brought_to next c ≡ Some v → (d : ℕ) → is_in (areas_of (items_of v)) d ≡ true → IsLookedAt rooms k.cell k.not_met.0 [] d
     first c v e d i =
-        k.not_met.1.first d (ap (λ (w : Option (Vec Area)). is_in (areas_of (items_of w)) d) (its_room (is_at (nat_cmp c) k.cell) v (ap (λ (es : Coming). brought_to es c) (sym k.alone) ∙ e)) ∙ i)
+        k.not_met.1.first d (ap (λ (w : Option (SmallVec Area)). is_in (areas_of (items_of w)) d) (its_room (is_at (nat_cmp c) k.cell) v (ap (λ (es : Coming). brought_to es c) (sym k.alone) ∙ e)) ∙ i)
 
     reads_then : (x y : ℕ) → brought_to next x ≡ None → content_reads (content_of (then_sheet g.sheet changes) x) y ≡ is_in (areas_of (room_at rooms x)) y
     reads_then x y n =
         reads_areas (content_of (then_sheet g.sheet changes) x) y
-        ∙ ap (λ (o : Option (List Area)). is_in (areas_of o) y) (sym (after x) ∙ ap (λ (o : Option (Option (Vec Area))). put_over o (room_at rooms x)) n)
+        ∙ ap (λ (o : Option (List Area)). is_in (areas_of o) y) (sym (after x) ∙ ap (λ (o : Option (Option (SmallVec Area))). put_over o (room_at rooms x)) n)
 
     reads_before : (x y : ℕ) → content_reads (content_of g.sheet x) y ≡ is_in (areas_of (room_at rooms x)) y
     reads_before x y = reads_areas (content_of g.sheet x) y ∙ ap (λ (o : Option (List Area)). is_in (areas_of o) y) (sym (g.are x))
@@ -286,12 +286,12 @@ reach_turn rooms next circles changes turns g b k f h = none_turns {then = then_
     was_circular d l u = left_circular g.sheet both down d (and_from (circular (then_sheet g.sheet changes) d) (k.not_met.0 d) u (found_at d l.0 u l.1))
 
 -- one cell gets something
-pub reads_apart : (rooms : Rooms) (next : Coming) (circles : BTreeSet ℕ) (x : ℕ × Option (Vec Area)) → length next ≡ 1 → x ≡ get_or next 0 x → meets_one_of next circles ≡ false → ReachesNot rooms x.0 (areas_of (items_of x.1)) → ReadsApart rooms next circles
+pub reads_apart : (rooms : Rooms) (next : Coming) (circles : BTreeSet ℕ) (x : ℕ × Option (SmallVec Area)) → length next ≡ 1 → x ≡ get_or next 0 x → meets_one_of next circles ≡ false → ReachesNot rooms x.0 (areas_of (items_of x.1)) → ReadsApart rooms next circles
 reads_apart rooms [] circles x l e m n = absurd (omega arith)
 reads_apart rooms (y ∷ []) circles x l e m n = record {
   cell = x.0;
   room = x.1;
-  alone = ap (λ (w : ℕ × Option (Vec Area)). w ∷ []) (sym e);
+  alone = ap (λ (w : ℕ × Option (SmallVec Area)). w ∷ []) (sym e);
   unmet = m;
   not_met = n;
 }

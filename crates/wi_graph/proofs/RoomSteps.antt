@@ -3,8 +3,8 @@ use Rattle.std.proofs.Common.{◌≡◌, ◌==◌, ◌+◌, ◌-◌, ◌<◌, �
 use Rattle.std.specs.Prelude.{if◌then◌else◌}
 use Rattle.std.specs.Option.{is_some, is_none, option_flatten}
 use Rattle.std.specs.Ordering.{nat_cmp}
-use Rattle.std.specs.Global.{Vec}
 use Rattle.std.specs.BTreeMap.{is_at}
+use Rattle.smallvec.specs.SmallVec.{SmallVec}
 use Rattle.wi_values.specs.Address.{Area}
 use Rattle.wi_tiles.specs.Entries.{get, IsOrdered}
 use Rattle.wi_ranges.specs.declared.pair.RangePair.{RangePair}
@@ -42,7 +42,7 @@ less_more k rs i r first old new h e l u p = at (is_same (pair_for r k) p) (l p)
 
 -- ---- a room
 
-pub put_room : (old new : Rooms) (k : ℕ) (x : Option (Option (Vec Area))) (o : Option (List Area)) → in_room x ≡ o → ((q : ℕ) → get nat_cmp new q ≡ cond (is_at (nat_cmp k) q) x (get nat_cmp old q)) →
+pub put_room : (old new : Rooms) (k : ℕ) (x : Option (Option (SmallVec Area))) (o : Option (List Area)) → in_room x ≡ o → ((q : ℕ) → get nat_cmp new q ≡ cond (is_at (nat_cmp k) q) x (get nat_cmp old q)) →
     (c : ℕ) → room_at new c ≡ (if k == c then o else room_at old c)
 put_room old new k x o e u c = ap in_room (u c) ∙ at (is_at (nat_cmp k) c) (k == c) (is_at-eq k c)
   where
@@ -52,7 +52,7 @@ put_room old new k x o e u c = ap in_room (u c) ∙ at (is_at (nat_cmp k) c) (k 
     at true false s = cc
     at false true s = cc
 
-pub put_others : (old new : Rooms) (k : ℕ) (x : Option (Option (Vec Area))) → ((q : ℕ) → get nat_cmp new q ≡ cond (is_at (nat_cmp k) q) x (get nat_cmp old q)) → (c : ℕ) → (k == c) ≡ false → get nat_cmp new c ≡ get nat_cmp old c
+pub put_others : (old new : Rooms) (k : ℕ) (x : Option (Option (SmallVec Area))) → ((q : ℕ) → get nat_cmp new q ≡ cond (is_at (nat_cmp k) q) x (get nat_cmp old q)) → (c : ℕ) → (k == c) ≡ false → get nat_cmp new c ≡ get nat_cmp old c
 put_others old new k x u c n = u c ∙ ap (λ (b : Bool). cond b x (get nat_cmp old c)) (is_at-eq k c ∙ n)
 
 -- nothing stands there, and nothing is put in
@@ -64,24 +64,24 @@ put_nothing rooms k o e n c = at (k == c) refl
     at false s = refl
 
 -- none come
-pub none_come : (old new : Rooms) (k : ℕ) (r : Option (Vec Area)) (b : Bool) → is_some r ≡ not b → b ≡ true → ((c : ℕ) → room_at new c ≡ (if k == c then None else room_at old c)) → (c : ℕ) → room_at new c ≡ (if k == c then items_of r else room_at old c)
+pub none_come : (old new : Rooms) (k : ℕ) (r : Option (SmallVec Area)) (b : Bool) → is_some r ≡ not b → b ≡ true → ((c : ℕ) → room_at new c ≡ (if k == c then None else room_at old c)) → (c : ℕ) → room_at new c ≡ (if k == c then items_of r else room_at old c)
 none_come old new k None b e t h = h
 none_come old new k (Some v) b e t h = let z : true ≡ false = e ∙ ap not t in cc
 
 -- some come, and have a room
-pub has_room : (old : Rooms) (k : ℕ) (r : Option (Vec Area)) (b : Bool) → is_some r ≡ not b → b ≡ false → (get nat_cmp old k ≡ None → items_of r ≡ None) → IsSome (get nat_cmp old k)
+pub has_room : (old : Rooms) (k : ℕ) (r : Option (SmallVec Area)) (b : Bool) → is_some r ≡ not b → b ≡ false → (get nat_cmp old k ≡ None → items_of r ≡ None) → IsSome (get nat_cmp old k)
 has_room old k r b e t h = at (get nat_cmp old k) r (e ∙ ap not t) h
   where
-    at : (o : Option (Option (Vec Area))) (x : Option (Vec Area)) → is_some x ≡ true → (o ≡ None → items_of x ≡ None) → IsSome o
+    at : (o : Option (Option (SmallVec Area))) (x : Option (SmallVec Area)) → is_some x ≡ true → (o ≡ None → items_of x ≡ None) → IsSome o
     at (Some y) x s n = refl
     at None None s n = cc
     at None (Some v) s n = let z = n refl in cc
 
 -- what a cell had
-pub had_room : (o : Option (Option (Vec Area))) (r : Option (Vec Area)) (s : Option (Option (Vec Area))) → s ≡ o → r ≡ option_flatten s → items_of r ≡ in_room o
-had_room o r s e f = ap items_of f ∙ ap (λ (x : Option (Option (Vec Area))). items_of (option_flatten x)) e ∙ at o
+pub had_room : (o : Option (Option (SmallVec Area))) (r : Option (SmallVec Area)) (s : Option (Option (SmallVec Area))) → s ≡ o → r ≡ option_flatten s → items_of r ≡ in_room o
+had_room o r s e f = ap items_of f ∙ ap (λ (x : Option (Option (SmallVec Area))). items_of (option_flatten x)) e ∙ at o
   where
-    at : (x : Option (Option (Vec Area))) → items_of (option_flatten x) ≡ in_room x
+    at : (x : Option (Option (SmallVec Area))) → items_of (option_flatten x) ≡ in_room x
     at None = refl
     at (Some y) = refl
 
@@ -126,7 +126,7 @@ times_room rooms p o e = ap (λ (x : Option (List Area)). times p.reader (areas_
 pub times_brought : (next : Coming) (p : RangePair) (o : Option (List Area)) → coming_at next p.reader ≡ o → times_coming next p ≡ times p.reader (areas_of o) p
 times_brought next p o e = ap (λ (x : Option (List Area)). times p.reader (areas_of x) p) e
 
-pub taking_step : (first_next : Coming) (first : Rooms) (next later : Coming) (rooms new : Rooms) (readers fewer : Bag) (k : ℕ) (o stood : Option (Vec Area)) → brought_to next k ≡ Some o → Popped next later k → AreInOrder later → IsOrdered nat_cmp new →
+pub taking_step : (first_next : Coming) (first : Rooms) (next later : Coming) (rooms new : Rooms) (readers fewer : Bag) (k : ℕ) (o stood : Option (SmallVec Area)) → brought_to next k ≡ Some o → Popped next later k → AreInOrder later → IsOrdered nat_cmp new →
     ((c : ℕ) → room_at new c ≡ (if k == c then items_of o else room_at rooms c)) → ((c : ℕ) → (k == c) ≡ false → get nat_cmp new c ≡ get nat_cmp rooms c) → items_of stood ≡ room_at rooms k → Loses k (items_of stood) readers fewer →
     IsTaking first_next first next rooms readers → IsTaking first_next first later new fewer
 taking_step first_next first next later rooms new readers fewer k o stood g u r ord n nx s l t = record {
@@ -154,8 +154,8 @@ taking_step first_next first next later rooms new readers fewer k o stood g u r 
     room c h false e = ap in_room (popped_other next later k u c e) ∙ t.has_rooms c (sym (nx c e) ∙ h)
 
     over : (c : ℕ) (b : Bool) → (k == c) ≡ b → room_over later new c ≡ room_over next rooms c
-    over c true e = ap (λ (x : Option (Option (Vec Area))). put_over x (room_at new c)) (no_more c e) ∙ here c e ∙ ap (λ (x : Option (Option (Vec Area))). put_over x (room_at rooms c)) (sym (was c e))
-    over c false e = ap (λ (x : Option (Option (Vec Area))). put_over x (room_at new c)) (popped_other next later k u c e) ∙ ap (λ (x : Option (List Area)). put_over (brought_to next c) x) (there c e)
+    over c true e = ap (λ (x : Option (Option (SmallVec Area))). put_over x (room_at new c)) (no_more c e) ∙ here c e ∙ ap (λ (x : Option (Option (SmallVec Area))). put_over x (room_at rooms c)) (sym (was c e))
+    over c false e = ap (λ (x : Option (Option (SmallVec Area))). put_over x (room_at new c)) (popped_other next later k u c e) ∙ ap (λ (x : Option (List Area)). put_over (brought_to next c) x) (there c e)
 
     counted : (p : RangePair) (b : Bool) → (k == p.reader) ≡ b → count_of fewer p ≡ times_in new p + times_coming later p
     counted p true e =
@@ -173,7 +173,7 @@ taking_step first_next first next later rooms new readers fewer k o stood g u r 
         let h : times_in new p ≡ times_in rooms p = times_room new p (room_at rooms p.reader) (there p.reader e) in
         omega (arith, a, d, f, h, l p)
 
-pub taking_back_step : (first : Rooms) (next later : Coming) (rooms new : Rooms) (readers fewer : Bag) (k : ℕ) (o : Option (Vec Area)) → brought_to next k ≡ Some o → Popped next later k → AreInOrder later → Loses k (items_of o) readers fewer → IsOrdered nat_cmp new →
+pub taking_back_step : (first : Rooms) (next later : Coming) (rooms new : Rooms) (readers fewer : Bag) (k : ℕ) (o : Option (SmallVec Area)) → brought_to next k ≡ Some o → Popped next later k → AreInOrder later → Loses k (items_of o) readers fewer → IsOrdered nat_cmp new →
     ((c : ℕ) → room_at new c ≡ room_at rooms c) → IsTakingBack first next rooms readers → IsTakingBack first later new fewer
 taking_back_step first next later rooms new readers fewer k o g u r l ord n t = record {
   ordered = ord;
@@ -206,7 +206,7 @@ none_left next h p = times_brought next p None (ap in_room (no_entries next h p.
 
 pub taking_end : (first_next : Coming) (first : Rooms) (next : Coming) (rooms : Rooms) (readers : Bag) → next ≡ [] → IsTaking first_next first next rooms readers → ((c : ℕ) → room_at rooms c ≡ room_over first_next first c) × HasPairs readers rooms
 taking_end first_next first next rooms readers h t = (
-  λ c. ap (λ (x : Option (Option (Vec Area))). put_over x (room_at rooms c)) (sym (no_entries next h c)) ∙ t.over c,
+  λ c. ap (λ (x : Option (Option (SmallVec Area))). put_over x (room_at rooms c)) (sym (no_entries next h c)) ∙ t.over c,
   λ p. let a = t.pairs p in let b = none_left next h p in omega (arith, a, b),
 )
 

@@ -7,7 +7,7 @@ ghost use Rattle.wi_tiles.specs.Entries.{IsOrdered};
 ghost use Rattle.wi_graph.specs.Inner.Rooms.{items_of, areas_of, room_at};
 ghost use Rattle.wi_graph.specs.Inner.Below.{HasAreas, HasRest, has_seen, IsSearchingBelow, IsBelow};
 
-use crate::rooms::Rooms;
+use crate::rooms::{Rectangles, Rooms};
 use crate::within::place_after;
 use std::alloc::{AllocError, Global};
 use wi_tiles::CellMap;
@@ -30,7 +30,7 @@ pub(crate) struct Below {
 pub(crate) fn begin_below(
     alloc: Global,
     cell: Address,
-    room: &Option<Vec<Rect>>,
+    room: &Option<Rectangles>,
 ) -> Result<Below, AllocError>
     ensures seen { IfOk result (λ below. below.seen.entries ≡ []) }
     ensures ahead { IfOk result (λ below. IsTrue below.clear
@@ -137,7 +137,7 @@ fn push_read(
 }
 
 /// The same of the rectangles of a room.
-fn push_room(room: &Option<Vec<Rect>>, cell: Address, ahead: &mut Ahead) -> Result<bool, AllocError>
+fn push_room(room: &Option<Rectangles>, cell: Address, ahead: &mut Ahead) -> Result<bool, AllocError>
     ensures { IfOk result (λ clear. IsTrue clear
         → HasAreas cell (areas_of (items_of room.now)) ahead.old.items ahead.new.items) }
 {

@@ -6,9 +6,13 @@ ghost use Rattle.wi_graph.specs.Inner.Search.{IsConeBeyond, IsListBeyond, AreNot
 
 use crate::cone::{are_alone, note, note_one};
 use crate::watch::Watch;
+use smallvec::SmallVec;
 use std::alloc::{AllocError, Global};
 use wi_ranges::{RangeIndex, RisingSet};
 use wi_values::Address;
+
+/// Cells, of which one takes no memory of its own.
+pub type Cells = SmallVec<Address, 1>;
 
 /// The cells that read one of these, at any remove, with themselves, but for those that are watched and what is found by them
 /// alone: each once, in row-major order. Of the cells given those that are watched cost a look, and where the others stand in that order and
@@ -18,7 +22,7 @@ pub(crate) fn listed_beyond<W: Watch>(
     readers: &RangeIndex,
     cells: &[Address],
     watch: &W,
-) -> Result<Vec<Address>, AllocError>
+) -> Result<Cells, AllocError>
     ensures { IfOk result (λ list.
         IsListBeyond readers.now (W.watched watch.now) cells.now list.items) }
 {
@@ -27,7 +31,8 @@ pub(crate) fn listed_beyond<W: Watch>(
         return Ok(own);
     }
     let found = cone_beyond(alloc, readers, &own, watch)?;
-    found.into_list()
+    let list = found.into_list()?;
+    Ok(Cells::from_vec(list))
 }
 
 /// The same as a set, of cells that aren't watched.
@@ -88,7 +93,7 @@ fn unwatched<W: Watch>(
     alloc: Global,
     cells: &[Address],
     watch: &W,
-) -> Result<Vec<Address>, AllocError>
+) -> Result<Cells, AllocError>
     ensures { IfOk result (λ list. list.items ≡ beyond (W.watched watch.now) cells.now) }
 {
     cells

@@ -7,7 +7,7 @@ ghost use Rattle.wi_graph.specs.Edges.{areas_in};
 ghost use Rattle.wi_graph.specs.Inner.Rooms.{items_of, room_at, room_over, AreInOrder};
 ghost use Rattle.wi_graph.specs.Inner.Changes.{cells_in, Brings, HasNoIdle, ReadsStay};
 
-use crate::rooms::{Brought, Coming, Rooms, is_vacant};
+use crate::rooms::{Brought, Coming, Rectangles, Rooms, is_vacant};
 use std::alloc::{AllocError, Global};
 use std::collections::BTreeMap;
 use wi_parser::Content;
@@ -17,7 +17,7 @@ use wi_values::{Address, Rect};
 pub(crate) type Change = (Address, Option<Content>);
 
 /// What an edit brings, by its cells.
-type Sorted = BTreeMap<Address, Option<Vec<Rect>>>;
+type Sorted = BTreeMap<Address, Option<Rectangles>>;
 
 /// The cells of an edit.
 #[derive(Drop)]
@@ -106,10 +106,9 @@ fn room_of(
 {
     let room = room_for(alloc, content)?;
     if stays_vacant(rooms, cell, &room) {
-        return Ok(Vec::new(alloc));
+        return Ok(Coming::new(alloc));
     }
-    let next = vec![in alloc; (cell, room)]?;
-    Ok(next)
+    Ok(Coming::from_buf(alloc, [(cell, room)]))
 }
 
 /// The same of more cells, in any order.
@@ -130,7 +129,7 @@ fn put_next(
     rooms: &Rooms,
     next: &mut Sorted,
     cell: Address,
-    room: Option<Vec<Rect>>,
+    room: Option<Rectangles>,
 ) -> Result<(), AllocError>
     ensures puts { OnOk result ((c : ℕ) → room_over next.new.entries rooms.now c
         ≡ (if cell == c then items_of room else room_over next.old.entries rooms.now c)) }
@@ -146,19 +145,19 @@ fn put_next(
 }
 
 /// Whether a cell has no formula and gets none.
-fn stays_vacant(rooms: &Rooms, cell: Address, room: &Option<Vec<Rect>>) -> bool
+fn stays_vacant(rooms: &Rooms, cell: Address, room: &Option<Rectangles>) -> bool
     ensures { result ≡ (is_none (items_of room.now) && is_none (room_at rooms.now cell)) }
 {
     room.is_none() && is_vacant(rooms, cell)
 }
 
 /// What a content reads.
-fn room_for(alloc: Global, content: &Option<Content>) -> Result<Option<Vec<Rect>>, AllocError>
+fn room_for(alloc: Global, content: &Option<Content>) -> Result<Option<Rectangles>, AllocError>
     ensures { IfOk result (λ room. items_of room ≡ areas_in content.now) }
 {
     match content {
         Some(Content::Formula(formula)) => {
-            let areas = Vec::from_slice(alloc, formula.rectangles())?;
+            let areas = Rectangles::from_slice(alloc, formula.rectangles())?;
             Ok(Some(areas))
         }
         _ => Ok(None),
@@ -166,9 +165,9 @@ fn room_for(alloc: Global, content: &Option<Content>) -> Result<Option<Vec<Rect>
 }
 
 /// Whether each cell reads what it read before once what is next is put in. The work grows with what that reads.
-pub(crate) fn reads_stay(rooms: &Rooms, next: &Coming) -> bool
-    requires { AreInOrder next.now.items }
-    ensures { IsTrue result ↔ ReadsStay rooms.now next.now.items }
+pub(crate) fn reads_stay(rooms: &Rooms, next: &[Brought]) -> bool
+    requires { AreInOrder next.now }
+    ensures { IsTrue result ↔ ReadsStay rooms.now next.now }
 {
     for entry in next {
         if !reads_this(rooms, entry.0, &entry.1) {
@@ -179,7 +178,7 @@ pub(crate) fn reads_stay(rooms: &Rooms, next: &Coming) -> bool
 }
 
 /// Whether these are the rectangles that a cell reads, if it has a formula.
-fn reads_this(rooms: &Rooms, cell: Address, room: &Option<Vec<Rect>>) -> bool
+fn reads_this(rooms: &Rooms, cell: Address, room: &Option<Rectangles>) -> bool
     ensures { IsTrue result ↔ (items_of room.now ≡ room_at rooms.now cell) }
 {
     match rooms.get(cell) {

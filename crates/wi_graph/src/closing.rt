@@ -15,22 +15,22 @@ ghost use Rattle.wi_graph.specs.Inner.Turning.{has_one, reads_one_of, meets_one_
 
 use crate::bounds::around;
 use crate::cell_set::CellSet;
-use crate::rooms::{Brought, Coming, Rooms};
+use crate::rooms::{Brought, Rectangles, Rooms};
 use crate::within::{first_listed, next_within};
 use wi_values::{Address, Rect};
 
 /// Whether what is next reads a cell of a cone, which is in row-major order. The work grows with the count of the cone, and is
 /// that of `first_listed` for each rectangle that is read.
-pub(crate) fn closes_cycle(next: &Coming, cone: &[Address]) -> bool
+pub(crate) fn closes_cycle(next: &[Brought], cone: &[Address]) -> bool
     requires { IsStrictlyIncreasing cone.now }
-    ensures { result ≡ reads_one_of next.now.items (as_set cone.now) }
+    ensures { result ≡ reads_one_of next.now (as_set cone.now) }
 {
     let bounds = around(cone);
     next.iter().any(|entry| reads_one(&entry.1, cone, bounds))
 }
 
 /// Whether the rectangles of a room have one of the cells.
-fn reads_one(room: &Option<Vec<Rect>>, cells: &[Address], bounds: Rect) -> bool
+fn reads_one(room: &Option<Rectangles>, cells: &[Address], bounds: Rect) -> bool
     requires order { IsStrictlyIncreasing cells.now }
     requires within { AreWithin bounds (as_set cells.now) }
     ensures { result ≡ list_any (has_one (as_set cells.now)) (areas_of (items_of room.now)) }
@@ -52,8 +52,8 @@ fn has_one(area: Rect, cells: &[Address], bounds: Rect) -> bool
 
 /// Whether what is next is for a circular cell, or reads one. The work is that of `next_within` for each rectangle that is read;
 /// where no cell is circular, it is constant.
-pub(crate) fn meets_circle(next: &Coming, circles: &CellSet) -> bool
-    ensures { result ≡ meets_one_of next.now.items circles.now }
+pub(crate) fn meets_circle(next: &[Brought], circles: &CellSet) -> bool
+    ensures { result ≡ meets_one_of next.now circles.now }
 {
     if circles.is_empty() {
         return false;
@@ -62,7 +62,7 @@ pub(crate) fn meets_circle(next: &Coming, circles: &CellSet) -> bool
 }
 
 /// Whether a cell is circular, or its room reads a circular cell.
-fn is_met(cell: Address, room: &Option<Vec<Rect>>, circles: &CellSet) -> bool
+fn is_met(cell: Address, room: &Option<Rectangles>, circles: &CellSet) -> bool
     ensures { result ≡ (contains nat_cmp circles.now cell
         || list_any (has_one circles.now) (areas_of (items_of room.now))) }
 {
@@ -70,7 +70,7 @@ fn is_met(cell: Address, room: &Option<Vec<Rect>>, circles: &CellSet) -> bool
 }
 
 /// Whether the rectangles of a room have a circular cell.
-fn reads_circle(room: &Option<Vec<Rect>>, circles: &CellSet) -> bool
+fn reads_circle(room: &Option<Rectangles>, circles: &CellSet) -> bool
     ensures { result ≡ list_any (has_one circles.now) (areas_of (items_of room.now)) }
 {
     match room {
@@ -88,8 +88,8 @@ fn has_circle(area: Rect, circles: &CellSet) -> bool
 
 /// Whether what is next is for one cell that isn't circular, and reads neither that cell nor a formula. The work is that of a search
 /// among the rooms for each rectangle that is read.
-pub(crate) fn stands_apart(rooms: &Rooms, circles: &CellSet, next: &Coming) -> bool
-    ensures { IsTrue result → StandsApart rooms.now next.now.items circles.now }
+pub(crate) fn stands_apart(rooms: &Rooms, circles: &CellSet, next: &[Brought]) -> bool
+    ensures { IsTrue result → StandsApart rooms.now next.now circles.now }
 {
     if next.len() != 1 {
         return false;
@@ -110,7 +110,7 @@ fn is_apart(rooms: &Rooms, circles: &CellSet, entry: &Brought) -> bool
 }
 
 /// Whether what a cell gets reads the cell, or one that has a room.
-fn reads_room(rooms: &Rooms, cell: Address, room: &Option<Vec<Rect>>) -> bool
+fn reads_room(rooms: &Rooms, cell: Address, room: &Option<Rectangles>) -> bool
     ensures { result ≡ list_any (has_room_in rooms.now cell) (areas_of (items_of room.now)) }
 {
     match room {

@@ -16,7 +16,7 @@ ghost use Rattle.wi_graph.specs.Inner.Changes.{Brings};
 ghost use Rattle.wi_graph.specs.Inner.Rooms.{room_at, AreInOrder, IsGraph, IsStaged};
 ghost use Rattle.wi_graph.specs.Inner.Turning.{AreTurns};
 
-use crate::beyond::listed_beyond;
+use crate::beyond::{Cells, listed_beyond};
 use crate::cell_set::CellSet;
 use crate::changes::{Change, reads_stay, rooms_of};
 use crate::cone::{any_is_read, listed_cone};
@@ -169,7 +169,7 @@ impl Graph {
         &self,
         cells: &[Address],
         watch: &W,
-    ) -> Result<Vec<Address>, AllocError>
+    ) -> Result<Cells, AllocError>
         requires staged { self.now.staged ≡ None }
         requires closed { (s : Sheet) → AreEdgesOf self.now.now s
             → IsClosedUp s (W.watched watch.now) }

@@ -21,6 +21,7 @@ mod turning;
 mod watch;
 mod within;
 
+pub use beyond::Cells;
 pub use changes::{EditedCells, edited_cells};
 pub use graph::Graph;
 pub use watch::Watch;

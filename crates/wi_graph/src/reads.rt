@@ -7,7 +7,7 @@ ghost use Rattle.wi_graph.specs.Reach.{is_one_of};
 ghost use Rattle.wi_graph.specs.Inner.Rooms.{room_at, room_over, areas_of, items_of, AreInOrder};
 ghost use Rattle.wi_graph.specs.Inner.Stripping.{items_there};
 
-use crate::rooms::{Coming, Rooms};
+use crate::rooms::{Brought, Rectangles, Rooms};
 use crate::stripping::Areas;
 use std::alloc::{AllocError, Global};
 use std::collections::BTreeMap;
@@ -17,12 +17,12 @@ use wi_values::{Address, Rect};
 pub(crate) fn reads_of(
     alloc: Global,
     rooms: &Rooms,
-    next: &Coming,
+    next: &[Brought],
     cells: &[Address],
 ) -> Result<Areas, AllocError>
-    requires { AreInOrder next.now.items }
+    requires { AreInOrder next.now }
     ensures { IfOk result (λ reads. (c : ℕ) → is_one_of cells.now c ≡ true
-        → items_there (get nat_cmp reads c) ≡ areas_of (room_over next.now.items rooms.now c)) }
+        → items_there (get nat_cmp reads c) ≡ areas_of (room_over next.now rooms.now c)) }
 {
     let mut reads = reads_before(alloc, rooms, cells)?;
     for entry in next {
@@ -56,7 +56,7 @@ fn areas_before(alloc: Global, rooms: &Rooms, cell: Address) -> Result<Vec<Rect>
 }
 
 /// The rectangles of a room once more.
-fn copy_of(alloc: Global, room: &Option<Vec<Rect>>) -> Result<Vec<Rect>, AllocError>
+fn copy_of(alloc: Global, room: &Option<Rectangles>) -> Result<Vec<Rect>, AllocError>
     ensures { IfOk result (λ v. v.items ≡ areas_of (items_of room.now)) }
 {
     match room {

@@ -9,18 +9,22 @@ ghost use Rattle.wi_ranges.specs.declared.pair.RangePair.{RangePair};
 ghost use Rattle.wi_ranges.specs.Bag.{count_of};
 ghost use Rattle.wi_graph.specs.Inner.Rooms.{items_of, room_at, room_over, areas_of, times, AreInOrder, HasRooms, HasPairs, HasBoth};
 
+use smallvec::SmallVec;
 use wi_ranges::RangeIndex;
 use wi_tiles::CellMap;
 use wi_values::{Address, Rect};
 
+/// Rectangles that a formula reads, mostly one.
+pub(crate) type Rectangles = SmallVec<Rect, 1>;
+
 /// The rectangles that formulas read, by their cells; a vacant room has no formula.
-pub(crate) type Rooms = CellMap<Option<Vec<Rect>>>;
+pub(crate) type Rooms = CellMap<Option<Rectangles>>;
 
 /// A cell, and what an edit brings for it.
-pub(crate) type Brought = (Address, Option<Vec<Rect>>);
+pub(crate) type Brought = (Address, Option<Rectangles>);
 
 /// What an edit brings, in row-major order of its cells.
-pub(crate) type Coming = Vec<Brought>;
+pub(crate) type Coming = SmallVec<Brought, 1>;
 
 /// Takes what is next: it goes into the rooms, and the pairs of what stood there leave the index.
 pub(crate) fn take_over(rooms: &mut Rooms, readers: &mut RangeIndex, next: &mut Coming)
@@ -57,7 +61,7 @@ pub(crate) fn take_back(rooms: &mut Rooms, readers: &mut RangeIndex, next: &mut 
 
 /// Puts rectangles, or none, in the place of what stands in a cell, and gives that. Where none come, the cell is left without a
 /// room.
-fn exchange(rooms: &mut Rooms, at: Address, room: Option<Vec<Rect>>) -> Option<Vec<Rect>>
+fn exchange(rooms: &mut Rooms, at: Address, room: Option<Rectangles>) -> Option<Rectangles>
     requires ordered { IsOrdered nat_cmp rooms.old }
     requires room { get nat_cmp rooms.old at ≡ None → items_of room ≡ None }
     ensures ordered { IsOrdered nat_cmp rooms.new }
@@ -74,7 +78,7 @@ fn exchange(rooms: &mut Rooms, at: Address, room: Option<Vec<Rect>>) -> Option<V
 }
 
 /// Takes away the room of a cell, and gives what stood in it.
-fn take_room(rooms: &mut Rooms, at: Address) -> Option<Vec<Rect>>
+fn take_room(rooms: &mut Rooms, at: Address) -> Option<Rectangles>
     requires { IsOrdered nat_cmp rooms.old }
     ensures ordered { IsOrdered nat_cmp rooms.new }
     ensures rooms { (c : ℕ) → room_at rooms.new c
@@ -110,7 +114,7 @@ pub(crate) fn is_vacant(rooms: &Rooms, at: Address) -> bool
 }
 
 /// Takes the pairs of what stood in a cell out of the index.
-pub(crate) fn remove_room(readers: &mut RangeIndex, cell: Address, room: &Option<Vec<Rect>>)
+pub(crate) fn remove_room(readers: &mut RangeIndex, cell: Address, room: &Option<Rectangles>)
     ensures { (p : RangePair) → count_of readers.new p
         ≡ count_of readers.old p - times cell (areas_of (items_of room.now)) p }
 {

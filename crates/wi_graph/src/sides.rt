@@ -14,7 +14,7 @@ use crate::cell_set::CellSet;
 use crate::changes::{Change, changed_cells};
 use crate::closing::meets_circle;
 use crate::cone::{listed_cone, note};
-use crate::rooms::{Brought, Coming, Rooms};
+use crate::rooms::{Brought, Rooms};
 use std::alloc::{AllocError, Global};
 use wi_ranges::{RangeIndex, RisingSet};
 use wi_values::Address;
@@ -27,13 +27,13 @@ pub(crate) fn cone_unless_apart(
     rooms: &Rooms,
     readers: &RangeIndex,
     circles: &CellSet,
-    next: &Coming,
+    next: &[Brought],
     changes: &[Change],
 ) -> Result<Option<Vec<Address>>, AllocError>
     requires { IsOrdered nat_cmp rooms.now }
     ensures cone { IfOk result (λ o.
         IfSome o (λ cone. IsConeOf readers.now (keys_of changes.now) cone.items)) }
-    ensures apart { IfOk result (λ o. IfNone o (ReadsApart rooms.now next.now.items circles.now)) }
+    ensures apart { IfOk result (λ o. IfNone o (ReadsApart rooms.now next.now circles.now)) }
 {
     let cells = changed_cells(alloc, changes)?;
     listed_unless_apart(alloc, rooms, readers, circles, next, &cells)
@@ -45,12 +45,12 @@ fn listed_unless_apart(
     rooms: &Rooms,
     readers: &RangeIndex,
     circles: &CellSet,
-    next: &Coming,
+    next: &[Brought],
     cells: &[Address],
 ) -> Result<Option<Vec<Address>>, AllocError>
     requires { IsOrdered nat_cmp rooms.now }
     ensures cone { IfOk result (λ o. IfSome o (λ cone. IsConeOf readers.now cells.now cone.items)) }
-    ensures apart { IfOk result (λ o. IfNone o (ReadsApart rooms.now next.now.items circles.now)) }
+    ensures apart { IfOk result (λ o. IfNone o (ReadsApart rooms.now next.now circles.now)) }
 {
     if !is_for_open_cell(circles, next) {
         let own = listed_cone(alloc, readers, cells)?;
@@ -66,9 +66,9 @@ fn listed_unless_apart(
 }
 
 /// Whether what is next is for one cell, and meets no circular cell.
-fn is_for_open_cell(circles: &CellSet, next: &Coming) -> bool
-    ensures one { IsTrue result → length next.now.items ≡ 1 }
-    ensures unmet { IsTrue result → meets_one_of next.now.items circles.now ≡ false }
+fn is_for_open_cell(circles: &CellSet, next: &[Brought]) -> bool
+    ensures one { IsTrue result → length next.now ≡ 1 }
+    ensures unmet { IsTrue result → meets_one_of next.now circles.now ≡ false }
 {
     if next.len() != 1 {
         return false;

@@ -8,7 +8,7 @@ ghost use Rattle.wi_ranges.specs.Bag.{count_of};
 ghost use Rattle.wi_graph.specs.Inner.Rooms.{items_of, room_at, areas_of, times, AreInOrder, HasRooms, HasPairs, HasBoth};
 ghost use Rattle.wi_graph.specs.Inner.Staging.{HasThese};
 
-use crate::rooms::{Brought, Coming, Rooms, release, remove_pairs, remove_room};
+use crate::rooms::{Brought, Rectangles, Rooms, release, remove_pairs, remove_room};
 use std::alloc::AllocError;
 use wi_ranges::RangeIndex;
 use wi_values::{Address, Rect};
@@ -18,15 +18,15 @@ use wi_values::{Address, Rect};
 pub(crate) fn bring_in(
     rooms: &mut Rooms,
     readers: &mut RangeIndex,
-    coming: &Coming,
+    coming: &[Brought],
 ) -> Result<(), AllocError>
     requires ordered { IsOrdered nat_cmp rooms.old }
-    requires order { AreInOrder coming.now.items }
+    requires order { AreInOrder coming.now }
     requires pairs { HasPairs readers.old rooms.old }
     ensures ordered { IsOrdered nat_cmp rooms.new }
     ensures rooms { (c : ℕ) → room_at rooms.new c ≡ room_at rooms.old c }
-    ensures has_rooms { OnOk result (HasRooms rooms.new coming.now.items) }
-    ensures pairs { OnOk result (HasBoth readers.new rooms.new coming.now.items) }
+    ensures has_rooms { OnOk result (HasRooms rooms.new coming.now) }
+    ensures pairs { OnOk result (HasBoth readers.new rooms.new coming.now) }
     ensures err { OnErr result (HasPairs readers.new rooms.new) }
 {
     let mut done = 0;
@@ -47,7 +47,7 @@ fn bring_one(
     rooms: &mut Rooms,
     readers: &mut RangeIndex,
     cell: Address,
-    room: &Option<Vec<Rect>>,
+    room: &Option<Rectangles>,
 ) -> Result<(), AllocError>
     requires ordered { IsOrdered nat_cmp rooms.old }
     ensures ordered { IsOrdered nat_cmp rooms.new }
@@ -100,7 +100,7 @@ fn make_room(rooms: &mut Rooms, at: Address) -> Result<(), AllocError>
 fn add_room(
     readers: &mut RangeIndex,
     cell: Address,
-    room: &Option<Vec<Rect>>,
+    room: &Option<Rectangles>,
 ) -> Result<(), AllocError>
     ensures ok { OnOk result ((p : RangePair) → count_of readers.new p
         ≡ count_of readers.old p + times cell (areas_of (items_of room.now)) p) }

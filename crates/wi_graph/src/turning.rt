@@ -17,7 +17,7 @@ use crate::changes::{Change, reads_stay};
 use crate::closing::{closes_cycle, meets_circle, stands_apart};
 use crate::held::held_set;
 use crate::reads::reads_of;
-use crate::rooms::{Coming, Rooms};
+use crate::rooms::{Brought, Rooms};
 use crate::sets::{insert_all, listed, set_of, take_away, without};
 use crate::sides::cone_unless_apart;
 use crate::stripping::strip;
@@ -42,13 +42,13 @@ pub(crate) fn turns_of(
     rooms: &Rooms,
     readers: &RangeIndex,
     circles: &CellSet,
-    next: &Coming,
+    next: &[Brought],
     changes: &[Change],
 ) -> Result<Turns, AllocError>
     requires graph { IsGraph rooms.now readers.now circles.now }
-    requires order { AreInOrder next.now.items }
-    requires brings { Brings rooms.now next.now.items changes.now }
-    ensures { IfOk result (AreTurns rooms.now next.now.items circles.now) }
+    requires order { AreInOrder next.now }
+    requires brings { Brings rooms.now next.now changes.now }
+    ensures { IfOk result (AreTurns rooms.now next.now circles.now) }
 {
     if next.is_empty() {
         return Ok(no_turns(alloc));
@@ -80,13 +80,13 @@ fn turns_sought(
     rooms: &Rooms,
     readers: &RangeIndex,
     circles: &CellSet,
-    next: &Coming,
+    next: &[Brought],
     changes: &[Change],
 ) -> Result<Turns, AllocError>
     requires graph { IsGraph rooms.now readers.now circles.now }
-    requires order { AreInOrder next.now.items }
-    requires brings { Brings rooms.now next.now.items changes.now }
-    ensures { IfOk result (AreTurns rooms.now next.now.items circles.now) }
+    requires order { AreInOrder next.now }
+    requires brings { Brings rooms.now next.now changes.now }
+    ensures { IfOk result (AreTurns rooms.now next.now circles.now) }
 {
     if reads_stay(rooms, next) {
         return Ok(no_turns(alloc));
@@ -108,13 +108,13 @@ fn turns_in(
     alloc: Global,
     rooms: &Rooms,
     circles: &CellSet,
-    next: &Coming,
+    next: &[Brought],
     cone: &[Address],
 ) -> Result<Turns, AllocError>
     requires circles { AreCircles (room_at rooms.now) (contains nat_cmp circles.now) }
     requires order { IsStrictlyIncreasing cone.now }
-    requires cone { IsEditCone rooms.now next.now.items (is_one_of cone.now) }
-    ensures { IfOk result (AreTurns rooms.now next.now.items circles.now) }
+    requires cone { IsEditCone rooms.now next.now (is_one_of cone.now) }
+    ensures { IfOk result (AreTurns rooms.now next.now circles.now) }
 {
     if !meets_circle(next, circles) && !closes_cycle(next, cone) {
         return Ok(no_turns(alloc));
@@ -128,12 +128,12 @@ fn turns_among(
     alloc: Global,
     rooms: &Rooms,
     circles: &CellSet,
-    next: &Coming,
+    next: &[Brought],
     cone: &CellSet,
 ) -> Result<Turns, AllocError>
     requires circles { AreCircles (room_at rooms.now) (contains nat_cmp circles.now) }
-    requires cone { IsEditCone rooms.now next.now.items (contains nat_cmp cone.now) }
-    ensures { IfOk result (AreTurns rooms.now next.now.items circles.now) }
+    requires cone { IsEditCone rooms.now next.now (contains nat_cmp cone.now) }
+    ensures { IfOk result (AreTurns rooms.now next.now circles.now) }
 {
     let rest = circular_in_cone(alloc, rooms, next, circles, cone)?;
     let came = without(alloc, &rest, circles)?;
@@ -173,13 +173,13 @@ fn went_of(
 fn circular_in_cone(
     alloc: Global,
     rooms: &Rooms,
-    next: &Coming,
+    next: &[Brought],
     circles: &CellSet,
     cells: &CellSet,
 ) -> Result<CellSet, AllocError>
-    requires { AreInOrder next.now.items }
+    requires { AreInOrder next.now }
     ensures within { IfOk result (λ rest. IsWithin rest cells.now) }
-    ensures settles { IfOk result (SettlesCone rooms.now next.now.items circles.now cells.now) }
+    ensures settles { IfOk result (SettlesCone rooms.now next.now circles.now cells.now) }
 {
     let list = listed(alloc, cells.set())?;
     let reads = reads_of(alloc, rooms, next, &list)?;

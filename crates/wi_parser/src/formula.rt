@@ -16,6 +16,7 @@ ghost use Rattle.wi_parser.specs.Inner.Reading.{parsed};
 use crate::expr::{Expr, Pair};
 use crate::print;
 use crate::shift::{self, ShiftFault};
+use smallvec::SmallVec;
 use std::alloc::{AllocError, Global};
 use std::marker::Model;
 use wi_values::{Address, Rect};
@@ -27,13 +28,16 @@ pub struct Formula {
     parts: Box<Parts>,
 }
 
+/// Rectangles, of which one takes no memory of its own, as most formulas read one.
+type Rectangles = SmallVec<Rect, 1>;
+
 #[derive(Drop)]
 struct Parts {
     expr: Expr,
     /// The inputs of its what-ifs.
     inputs: Vec<Address>,
     /// The rectangles of its precedents.
-    rectangles: Vec<Rect>,
+    rectangles: Rectangles,
 }
 
 impl Parts {
@@ -45,7 +49,7 @@ impl Parts {
     {
         let expr = self.expr.copy(alloc)?;
         let inputs = Vec::from_slice(alloc, &self.inputs)?;
-        let rectangles = Vec::from_slice(alloc, &self.rectangles)?;
+        let rectangles = Rectangles::from_slice(alloc, &self.rectangles)?;
         Ok(Parts {
             expr,
             inputs,
@@ -78,7 +82,7 @@ impl Formula {
         ensures { IfOk result (λ f. f ≡ tree_of expr) }
     {
         let mut inputs = Vec::new(alloc);
-        let mut rectangles = Vec::new(alloc);
+        let mut rectangles = Rectangles::new(alloc);
         push_leaves(&expr, &mut inputs, &mut rectangles)?;
         let parts = Parts {
             expr,
@@ -162,7 +166,7 @@ impl Formula {
 fn push_leaves(
     expr: &Expr,
     inputs: &mut Vec<Address>,
-    rectangles: &mut Vec<Rect>,
+    rectangles: &mut Rectangles,
 ) -> Result<(), AllocError>
     ensures inputs { IfOk result
         (λ _. inputs.new.items ≡ inputs.old.items ++ inputs_of (tree_of expr.now)) }
@@ -200,7 +204,7 @@ fn push_leaves(
 fn push_all_leaves(
     trees: &[Expr],
     inputs: &mut Vec<Address>,
-    rectangles: &mut Vec<Rect>,
+    rectangles: &mut Rectangles,
 ) -> Result<(), AllocError>
     ensures inputs { IfOk result (λ _. inputs.new.items
         ≡ inputs.old.items ++ flat_map leaf_inputs (all_leaves (all_of trees.now))) }
@@ -217,7 +221,7 @@ fn push_all_leaves(
 fn push_pairs(
     pairs: &[Pair],
     inputs: &mut Vec<Address>,
-    rectangles: &mut Vec<Rect>,
+    rectangles: &mut Rectangles,
 ) -> Result<(), AllocError>
     ensures inputs { IfOk result
         (λ _. inputs.new.items ≡ inputs.old.items ++ map (λ p. p.0.at) (map pair_of pairs.now)) }
@@ -231,13 +235,10 @@ fn push_pairs(
     Ok(())
 }
 
-// Appends a rectangle. The first takes room for itself alone, as most formulas read one.
-fn push_area(rectangles: &mut Vec<Rect>, area: Rect) -> Result<(), AllocError>
+// Appends a rectangle.
+fn push_area(rectangles: &mut Rectangles, area: Rect) -> Result<(), AllocError>
     ensures { IfOk result (λ _. rectangles.new.items ≡ rectangles.old.items ++ area ∷ []) }
 {
-    if rectangles.is_empty() {
-        rectangles.reserve_exact(1)?;
-    }
     rectangles.push(area)?;
     Ok(())
 }

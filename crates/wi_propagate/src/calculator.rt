@@ -16,7 +16,7 @@ ghost use Rattle.wi_sheet.specs.TableEntry.{table_entry, entry_demanded};
 ghost use Rattle.wi_sheet.specs.Unmoved.{IsUnmoved, IsMarking};
 
 use std::alloc::AllocError;
-use wi_graph::Watch;
+use wi_graph::{Cells, Watch};
 use wi_parser::Content;
 use wi_store::StoreFault;
 use wi_values::{Address, Rect, Replacement, Value};
@@ -50,8 +50,8 @@ pub trait Calculator {
         ensures { All (λ a. a < rows * columns) (keys_of (stored self.now).sheet) };
 
     /// One edit: puts contents in or takes them away, one after another, or refuses and leaves all as it was.
-    fn apply(&mut self, changes: Vec<(Address, Option<Content>)>) -> Result<(), StoreFault>
-        ensures applied { Applies (applied (stored self.old) changes.items) result
+    fn apply(&mut self, changes: &mut [(Address, Option<Content>)]) -> Result<(), StoreFault>
+        ensures applied { Applies (applied (stored self.old) changes.old) result
             (stored self.old) (stored self.new) }
         ensures same_evaluations { evaluated self.new ≡ evaluated self.old }
         ensures same_restarts { restarted self.new ≡ restarted self.old };
@@ -110,7 +110,7 @@ pub trait Calculator {
         &self,
         cells: &[Address],
         watch: &W,
-    ) -> Result<Vec<Address>, AllocError>
+    ) -> Result<Cells, AllocError>
         requires { let sheet = (stored self.now).sheet in
             (a c : ℕ) → W.watched watch.now a ≡ true
             → marked sheet (a ∷ []) c ≡ true → W.watched watch.now c ≡ true }
@@ -122,7 +122,8 @@ pub trait Calculator {
             → (is_one_of found.items c ≡ true) ⊎ (W.watched watch.now c ≡ true)) }
     {
         let _ = watch;
-        self.mark(cells)
+        let found = self.mark(cells)?;
+        Ok(Cells::from_vec(found))
     }
 
     fn evaluations(&self) -> u64

@@ -33,7 +33,7 @@ use std::mem;
 use wi_cache::Kept;
 use wi_engine::{Pool, Question};
 use wi_functions::Meter;
-use wi_graph::{Graph, Watch, edited_cells};
+use wi_graph::{Cells, Graph, Watch, edited_cells};
 use wi_parser::Content;
 use wi_store::{Limits, Store, StoreFault};
 use wi_values::{Address, ErrorKind, Rect, Replacement, Value};
@@ -127,34 +127,34 @@ impl KeptCalculator {
     }
 
     // Does an edit.
-    fn edit(&mut self, changes: Vec<(Address, Option<Content>)>) -> Result<(), StoreFault>
+    fn edit(&mut self, changes: &mut [(Address, Option<Content>)]) -> Result<(), StoreFault>
         ensures applied { Applies
-            (applied self.old.stored changes.items) result self.old.stored self.new.stored }
+            (applied self.old.stored changes.old) result self.old.stored self.new.stored }
         ensures same_counts { self.new.counts ≡ self.old.counts }
         ensures same_values { self.new.values ≡ self.old.values }
-        ensures generations { let cells = keys_of changes.items in
+        ensures generations { let cells = keys_of changes.old in
             OnOk result ((c : ℕ) → generation_in self.new.generations c
             ≡ (if in_cone self.old.stored.sheet cells c then self.new.stored.edits
             else generation_in self.old.generations c)) }
         ensures same_generations { OnErr result ((c : ℕ)
             → generation_in self.new.generations c ≡ generation_in self.old.generations c) }
     {
-        let cells = edited_cells(self.alloc, &changes)?;
+        let cells = edited_cells(self.alloc, changes)?;
         self.edit_cells(changes, cells.as_slice())
     }
 
     // The same, where the cells of the changes are at hand.
     fn edit_cells(
         &mut self,
-        changes: Vec<(Address, Option<Content>)>,
+        changes: &mut [(Address, Option<Content>)],
         cells: &[Address],
     ) -> Result<(), StoreFault>
-        requires { cells.now ≡ keys_of changes.items }
+        requires { cells.now ≡ keys_of changes.old }
         ensures applied { Applies
-            (applied self.old.stored changes.items) result self.old.stored self.new.stored }
+            (applied self.old.stored changes.old) result self.old.stored self.new.stored }
         ensures same_counts { self.new.counts ≡ self.old.counts }
         ensures same_values { self.new.values ≡ self.old.values }
-        ensures generations { let cells = keys_of changes.items in
+        ensures generations { let cells = keys_of changes.old in
             OnOk result ((c : ℕ) → generation_in self.new.generations c
             ≡ (if in_cone self.old.stored.sheet cells c then self.new.stored.edits
             else generation_in self.old.generations c)) }
@@ -162,7 +162,7 @@ impl KeptCalculator {
             → generation_in self.new.generations c ≡ generation_in self.old.generations c) }
     {
         self.generations.owe(&self.graph, cells)?;
-        self.graph.stage(&changes)?;
+        self.graph.stage(changes)?;
         match self.store.apply(changes) {
             Ok(()) => {
                 keep_over_edit(self.alloc, &self.graph, &mut self.cones);
@@ -305,12 +305,12 @@ impl Calculator for KeptCalculator {
     /// One edit. The work grows with what the edited cells read and who reads them; with their cone, what its cells read and who reads
     /// them, times logarithms, only where several cells read something new, or a cycle may be closed or opened. An accepted edit is the new generation of each cell of the cone;
     /// it is noted when a question asks. What is kept stays; so do the cones that are known, if each cell reads what it read before.
-    fn apply(&mut self, changes: Vec<(Address, Option<Content>)>) -> Result<(), StoreFault>
+    fn apply(&mut self, changes: &mut [(Address, Option<Content>)]) -> Result<(), StoreFault>
         ensures applied { Applies
-            (applied self.old.stored changes.items) result self.old.stored self.new.stored }
+            (applied self.old.stored changes.old) result self.old.stored self.new.stored }
         ensures same_counts { self.new.counts ≡ self.old.counts }
         ensures same_values { self.new.values ≡ self.old.values }
-        ensures generations { let cells = keys_of changes.items in
+        ensures generations { let cells = keys_of changes.old in
             OnOk result ((c : ℕ) → generation_in self.new.generations c
             ≡ (if in_cone self.old.stored.sheet cells c then self.new.stored.edits
             else generation_in self.old.generations c)) }
@@ -433,7 +433,7 @@ impl Calculator for KeptCalculator {
         &self,
         cells: &[Address],
         watch: &W,
-    ) -> Result<Vec<Address>, AllocError>
+    ) -> Result<Cells, AllocError>
         requires { let sheet = self.now.stored.sheet in
             (a c : ℕ) → W.watched watch.now a ≡ true
             → in_cone sheet (a ∷ []) c ≡ true → W.watched watch.now c ≡ true }

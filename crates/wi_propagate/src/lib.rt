@@ -19,4 +19,4 @@ pub use calculator::Calculator;
 pub use kept::KeptCalculator;
 pub use occupied::occupied_in;
 pub use plain::PlainCalculator;
-pub use wi_graph::{Watch, edited_cells};
+pub use wi_graph::{Cells, Watch, edited_cells};

@@ -60,7 +60,7 @@ impl Calculator for PlainCalculator {
         self.store.cells_lie_in_the_sheet();
     }
 
-    fn apply(&mut self, changes: Vec<(Address, Option<Content>)>) -> Result<(), StoreFault> {
+    fn apply(&mut self, changes: &mut [(Address, Option<Content>)]) -> Result<(), StoreFault> {
         self.store.apply(changes)
     }
 

@@ -15,7 +15,7 @@ ghost use Rattle.wi_propagate.specs.Inner.Settling.{second_cells};
 
 use crate::generations::{Numbers, greater, make_room, number_at};
 use std::alloc::{AllocError, Global};
-use wi_graph::{Graph, Watch};
+use wi_graph::{Cells, Graph, Watch};
 use wi_tiles::CellMap;
 use wi_values::Address;
 
@@ -127,7 +127,7 @@ fn settle_one(
 }
 
 /// The cells of a cell's cone that weren't seen.
-fn beyond_seen(graph: &Graph, seen: &CellMap<()>, at: Address) -> Result<Vec<Address>, AllocError>
+fn beyond_seen(graph: &Graph, seen: &CellMap<()>, at: Address) -> Result<Cells, AllocError>
     requires staged { graph.now.staged ≡ None }
     requires closed { (s : Sheet) → AreEdgesOf graph.now.now s → IsClosedUp s (has_seen seen.now) }
     ensures { IfOk result (λ cone. (s : Sheet) → AreEdgesOf graph.now.now s

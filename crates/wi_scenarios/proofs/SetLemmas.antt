@@ -9,7 +9,7 @@ use Rattle.wi_parser.specs.declared.fault.ParseFault.TheVariants as parse
 use Rattle.wi_parser.specs.Inner.Reading.{content_read, is_too_long, ReadsAs}
 use Rattle.wi_parser.proofs.ContentsOfTexts.{content_is_one}
 use Rattle.wi_scenarios.specs.declared.refusal.Refusal.{Refusal}
-use Rattle.wi_scenarios.specs.declared.refusal.Refusal.TheVariants.{Memory, BadCommand}
+use Rattle.wi_scenarios.specs.declared.refusal.Refusal.TheVariants.{BadCommand}
 use Rattle.wi_scenarios.specs.State.{State}
 use Rattle.wi_scenarios.specs.Answer.{Answer, may_grow, Serves, parse_refusal}
 use Rattle.wi_scenarios.specs.Causes.{no_cause}
@@ -84,14 +84,6 @@ module _ (s : State) (force : Bool) (at : ℕ) (text : List ℕ) (some : (length
       let p = err_from_is_err_and r k in
       subst (λ (x : Result (Unit {0}) Refusal). Serves (IsSetStep s force at text) x s s []) (sym p.1)
       (set_served (Err p.0) s s force at text [] (at_fault p.0 fault p.2 h, refl, refl))
-
-  -- it is read, and memory runs out then
-  pub set_lacks : (r : Result (Unit {0}) Refusal) (content : Content) → IsErrAnd r (λ e. e ≡ Memory) → content_read text ≡ Ok content → Serves (IsSetStep s force at text) r s s []
-  set_lacks r content k h =
-      let p = err_from_is_err_and r k in
-      let e : r ≡ Err Memory = p.1 ∙ ap (λ (x : Refusal). let y : Result (Unit {0}) Refusal = Err x in y) p.2 in
-      subst (λ (x : Result (Unit {0}) Refusal). Serves (IsSetStep s force at text) x s s []) (sym e)
-      (set_served (Err Memory) s s force at text [] (ap may_grow (found_is (Ok content) h) ∙ edit_grows s force (set_edit at (Ok content)), refl, refl))
 
   -- it is read, and put into the cell
   pub set_edited : (r : Result (Unit {0}) Refusal) (t : State) (content : Content) (e : Edit) → content_read text ≡ Ok content → e ≡ set_edit at (Ok content)

@@ -36,8 +36,8 @@ pub(crate) fn clear<C: Calculator>(
     ensures sound { IsSound C.marked (C.stored calculator.new) desk.new }
 {
     let cells = occupied_in(alloc, calculator, area)?;
-    let contents = emptied(alloc, &cells)?;
-    edit_area(alloc, calculator, desk, area, contents, force)
+    let mut contents = emptied(alloc, &cells)?;
+    edit_area(alloc, calculator, desk, area, &mut contents, force)
 }
 
 /// No content for each of some cells.

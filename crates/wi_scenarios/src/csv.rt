@@ -7,9 +7,10 @@ ghost use Rattle.wi_scenarios.specs.Pending.{AddsOnly};
 ghost use Rattle.wi_scenarios.specs.Inner.Held.{state_of, pending_in, IsSound};
 
 use crate::desk::Desk;
-use crate::edit::{Edit, apply_edit};
+use crate::edit::apply_edit;
 use crate::refusal::Refusal;
 use std::alloc::Global;
+use wi_edit_log::Named;
 use wi_import::import as read_import;
 use wi_propagate::Calculator;
 use wi_values::Address;
@@ -34,9 +35,7 @@ pub(crate) fn import<C: Calculator>(
     ensures sound { IsSound C.marked (C.stored calculator.new) desk.new }
 {
     let found = read_import(alloc, at, text)?;
-    let changes = Edit {
-        named: found.named,
-        contents: found.changes,
-    };
-    apply_edit(alloc, calculator, desk, changes, force)
+    let named = Named::new(found.named)?;
+    let mut contents = found.changes;
+    apply_edit(alloc, calculator, desk, named, &mut contents, force)
 }

@@ -9,48 +9,44 @@ ghost use Rattle.wi_scenarios.specs.Answer.{Serves};
 ghost use Rattle.wi_scenarios.specs.Causes.{no_cause};
 ghost use Rattle.wi_scenarios.specs.Edits.{edit_answer};
 ghost use Rattle.wi_scenarios.specs.Pending.{AddsOnly};
-ghost use Rattle.wi_scenarios.specs.Inner.Held.{state_of, pending_in, edit_in, IsClosed, IsSound};
+ghost use Rattle.wi_scenarios.specs.Inner.Held.{state_of, pending_in, IsClosed, IsSound};
 ghost use Rattle.wi_scenarios.specs.Inner.Editing.{stale_on, AreMarked, HasRooms, SameBeside, Commits};
 
 use crate::desk::Desk;
 use crate::refusal::Refusal;
 use std::alloc::{AllocError, Global};
-use wi_edit_log::EditLog;
+use wi_edit_log::{EditLog, Named};
 use wi_parser::Content;
-use wi_propagate::{Calculator, Watch, edited_cells};
+use wi_propagate::{Calculator, Cells, Watch, edited_cells};
 use wi_sessions::Sessions;
 use wi_values::{Address, Rect};
 
-/// The rectangles that an edit names, and what each of some cells gets: a content, or none.
-#[derive(Drop)]
-pub struct Edit {
-    pub named: Vec<Rect>,
-    pub contents: Vec<(Address, Option<Content>)>,
-}
-
-/// Edits the sheet and notes it in the log; the cells that may show something else then are pending for each session. An edit
-/// that isn't forced is refused as `Stale` where it names a cell that another session has edited since the current one was last
-/// shown what has changed. The work is that of `catch_up`, of `first_stale`, of `mark_beyond` the cells that are pending for each session,
-/// of `apply`, and for each session of the rooms for marked cells.
+/// Edits the sheet, where each of some cells gets a content or none, and notes in the log which rectangles the edit names; the cells
+/// that may show something else then are pending for each session. The contents are taken out of their list. An edit that isn't forced
+/// is refused as `Stale` where it names a cell that another session has edited since the current one was last shown what has changed.
+/// The work is that of `catch_up`, of `first_stale`, of `mark_beyond` the cells that are pending for each session, of `apply`, and for
+/// each session of the rooms for marked cells.
 pub(crate) fn apply_edit<C: Calculator>(
     alloc: Global,
     calculator: &mut C,
     desk: &mut Desk,
-    edit: Edit,
+    named: Named,
+    contents: &mut [(Address, Option<Content>)],
     force: bool,
 ) -> Result<(), Refusal>
     requires { IsSound C.marked (C.stored calculator.old) desk.old }
     ensures step { let old = state_of (C.stored calculator.old) desk.old in
-        Serves (λ a. edit_answer old force no_cause (edit_in edit) ≡ a)
+        Serves (λ a. edit_answer old force no_cause
+        (record { named = named; contents = contents.old }) ≡ a)
         result old (state_of (C.stored calculator.new) desk.new) [] }
     ensures adds { AddsOnly C.marked
-        (keys_of edit.contents.items) (state_of (C.stored calculator.old) desk.old)
+        (keys_of contents.old) (state_of (C.stored calculator.old) desk.old)
         (state_of (C.stored calculator.new) desk.new) (pending_in desk.old) (pending_in desk.new) }
     ensures refused { OnErr result (pending_in desk.new ≡ pending_in desk.old) }
     ensures sound { IsSound C.marked (C.stored calculator.new) desk.new }
 {
     desk.log.catch_up(desk.current as u32)?;
-    edit_caught_up(alloc, calculator, desk, edit, force)
+    edit_caught_up(alloc, calculator, desk, named, contents, force)
 }
 
 /// The same, once the log has noted for the current session who edited which cell, so that it takes one look whether a cell is stale.
@@ -58,24 +54,26 @@ fn edit_caught_up<C: Calculator>(
     alloc: Global,
     calculator: &mut C,
     desk: &mut Desk,
-    edit: Edit,
+    named: Named,
+    contents: &mut [(Address, Option<Content>)],
     force: bool,
 ) -> Result<(), Refusal>
     requires { IsSound C.marked (C.stored calculator.old) desk.old }
     ensures step { let old = state_of (C.stored calculator.old) desk.old in
-        Serves (λ a. edit_answer old force no_cause (edit_in edit) ≡ a)
+        Serves (λ a. edit_answer old force no_cause
+        (record { named = named; contents = contents.old }) ≡ a)
         result old (state_of (C.stored calculator.new) desk.new) [] }
     ensures adds { AddsOnly C.marked
-        (keys_of edit.contents.items) (state_of (C.stored calculator.old) desk.old)
+        (keys_of contents.old) (state_of (C.stored calculator.old) desk.old)
         (state_of (C.stored calculator.new) desk.new) (pending_in desk.old) (pending_in desk.new) }
     ensures refused { OnErr result (pending_in desk.new ≡ pending_in desk.old) }
     ensures sound { IsSound C.marked (C.stored calculator.new) desk.new }
 {
-    if let Some(at) = first_stale(desk, &edit.named, force) {
+    if let Some(at) = first_stale(desk, named.areas(), force) {
         return Err(Refusal::Stale(at));
     }
-    let marked = marked_by(alloc, calculator, &desk.sessions, &edit.contents)?;
-    match edit_with_rooms(calculator, desk, edit, &marked) {
+    let marked = marked_by(alloc, calculator, &desk.sessions, contents)?;
+    match edit_with_rooms(calculator, desk, named, contents, &marked) {
         Ok(()) => {
             desk.sessions.take_all();
             Ok(())
@@ -93,22 +91,21 @@ pub(crate) fn edit_area<C: Calculator>(
     calculator: &mut C,
     desk: &mut Desk,
     area: Rect,
-    contents: Vec<(Address, Option<Content>)>,
+    contents: &mut [(Address, Option<Content>)],
     force: bool,
 ) -> Result<(), Refusal>
     requires { IsSound C.marked (C.stored calculator.old) desk.old }
     ensures step { let old = state_of (C.stored calculator.old) desk.old in
         Serves (λ a. edit_answer old force no_cause
-        (record { named = area ∷ []; contents = contents.items }) ≡ a)
+        (record { named = area ∷ []; contents = contents.old }) ≡ a)
         result old (state_of (C.stored calculator.new) desk.new) [] }
     ensures adds { AddsOnly C.marked
-        (keys_of contents.items) (state_of (C.stored calculator.old) desk.old)
+        (keys_of contents.old) (state_of (C.stored calculator.old) desk.old)
         (state_of (C.stored calculator.new) desk.new) (pending_in desk.old) (pending_in desk.new) }
     ensures refused { OnErr result (pending_in desk.new ≡ pending_in desk.old) }
     ensures sound { IsSound C.marked (C.stored calculator.new) desk.new }
 {
-    let named = vec![in alloc; area]?;
-    apply_edit(alloc, calculator, desk, Edit { named, contents }, force)
+    apply_edit(alloc, calculator, desk, Named::one(area), contents, force)
 }
 
 /// The first cell named that is stale for the current session; none for an edit that is forced.
@@ -131,7 +128,7 @@ fn marked_by<C: Calculator>(
     calculator: &C,
     sessions: &Sessions,
     contents: &[(Address, Option<Content>)],
-) -> Result<Vec<Address>, AllocError>
+) -> Result<Cells, AllocError>
     requires { IsClosed C.marked (C.stored calculator.now).sheet
         (is_pending_for_all sessions.now) }
     ensures { let sheet = (C.stored calculator.now).sheet in
@@ -139,7 +136,7 @@ fn marked_by<C: Calculator>(
         contents.now found.items) }
 {
     if contents.is_empty() {
-        return Ok(Vec::new(alloc));
+        return Ok(Cells::new(alloc));
     }
     let cells = edited_cells(alloc, contents)?;
     calculator.mark_beyond(cells.as_slice(), &PendingForAll { sessions })
@@ -165,7 +162,8 @@ impl<'a> Watch for PendingForAll<'a> {
 fn edit_with_rooms<C: Calculator>(
     calculator: &mut C,
     desk: &mut Desk,
-    edit: Edit,
+    named: Named,
+    contents: &mut [(Address, Option<Content>)],
     marked: &[Address],
 ) -> Result<(), Refusal>
     requires within { desk.old.current < length desk.old.sessions.sessions }
@@ -173,12 +171,18 @@ fn edit_with_rooms<C: Calculator>(
     requires full { (i : ℕ) → vacant_of desk.old.sessions i ≡ [] }
     ensures beside { SameBeside desk.old desk.new }
     ensures rooms { OnOk result (HasRooms marked.now desk.new.sessions) }
-    ensures edit { Commits (applied (C.stored calculator.old) edit.contents.items)
-        (record { session = desk.old.current; cells = edit.named.items })
+    ensures edit { Commits (applied (C.stored calculator.old) contents.old)
+        (record { session = desk.old.current; cells = named })
         result (C.stored calculator.old) (C.stored calculator.new) desk.old.log desk.new.log }
 {
     make_rooms(&mut desk.sessions, marked)?;
-    commit(calculator, &mut desk.log, desk.current as u32, edit)
+    commit(
+        calculator,
+        &mut desk.log,
+        desk.current as u32,
+        named,
+        contents,
+    )
 }
 
 /// Makes room for cells in the list of each session for which they aren't pending. On an error a part of the rooms may be there.
@@ -196,14 +200,15 @@ fn commit<C: Calculator>(
     calculator: &mut C,
     log: &mut EditLog,
     session: u32,
-    edit: Edit,
+    named: Named,
+    contents: &mut [(Address, Option<Content>)],
 ) -> Result<(), Refusal>
-    ensures { Commits (applied (C.stored calculator.old) edit.contents.items)
-        (record { session = session; cells = edit.named.items })
+    ensures { Commits (applied (C.stored calculator.old) contents.old)
+        (record { session = session; cells = named })
         result (C.stored calculator.old) (C.stored calculator.new) log.old log.new }
 {
-    log.add(session, edit.named)?;
-    let done = calculator.apply(edit.contents);
+    log.add(session, named)?;
+    let done = calculator.apply(contents);
     if done.is_err() {
         log.take_back();
     }

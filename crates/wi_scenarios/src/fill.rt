@@ -43,8 +43,8 @@ pub(crate) fn fill<C: Calculator>(
     if is_too_large(area) {
         return Err(Refusal::TooLarge);
     }
-    let contents = copies(alloc, calculator.content(from), from, area)?;
-    edit_area(alloc, calculator, desk, area, contents, force)
+    let mut contents = copies(alloc, calculator.content(from), from, area)?;
+    edit_area(alloc, calculator, desk, area, &mut contents, force)
 }
 
 /// The copies of a cell's content for the cells of a rectangle.

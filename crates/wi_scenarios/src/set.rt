@@ -36,7 +36,7 @@ pub(crate) fn set<C: Calculator>(
         return Err(Refusal::BadCommand);
     }
     let content = Content::read(alloc, content)?;
-    let contents = vec![in alloc; (at, Some(content))]?;
+    let mut contents = [(at, Some(content))];
     let area = Rect::new(at, at);
-    edit_area(alloc, calculator, desk, area, contents, force)
+    edit_area(alloc, calculator, desk, area, &mut contents, force)
 }

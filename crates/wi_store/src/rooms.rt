@@ -21,7 +21,17 @@ pub(crate) type Rooms = CellMap<Room>;
 /// A cell, and the room that it gets, vacant where it gets no content.
 pub(crate) type Change = (Address, Room);
 
-/// The rooms that changes bring, by their contents, which it takes; the constant Empty is no content.
+/// The room that a change brings, by its content, which it takes; the constant Empty is no content.
+pub(crate) fn room_for(
+    alloc: Global,
+    change: &mut (Address, Option<Content>),
+) -> Result<Change, AllocError>
+    ensures { IfOk result (λ made. made ≡ change_without_empty change.old) }
+{
+    Ok((change.0, Room::new(alloc, change.1.take())?))
+}
+
+/// The same of each of some changes.
 pub(crate) fn prepare(
     alloc: Global,
     changes: &mut [(Address, Option<Content>)],
@@ -30,7 +40,7 @@ pub(crate) fn prepare(
 {
     let mut made = Vec::with_capacity(alloc, changes.len())?;
     for change in changes.iter_mut() {
-        made.push((change.0, Room::new(alloc, change.1.take())?))?;
+        made.push(room_for(alloc, change)?)?;
     }
     Ok(made)
 }

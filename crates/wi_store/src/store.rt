@@ -7,14 +7,16 @@ ghost use Rattle.std.specs.List.Sorted.{IsStrictlyIncreasing};
 ghost use Rattle.std.specs.Map.{keys_of};
 ghost use Rattle.wi_values.specs.Address.{is_within, rows, columns};
 ghost use Rattle.wi_parser.specs.Sheet.{content_of, cells_with_formula, has_formula};
-ghost use Rattle.wi_store.specs.Store.{edited, applied, Applies, is_ahead};
+ghost use Rattle.wi_store.specs.Store.{edited, accepted, applied, Applies, is_ahead};
 ghost use Rattle.wi_store.specs.Inner.Rooms.{sheet_in, formula_cells, RoomsAreInOrder, HasNoVacancy, VacantOnlyAt};
 ghost use Rattle.wi_store.specs.Inner.Exchange.{admitted};
 
 use crate::contents::Contents;
 use crate::fault::StoreFault;
 use crate::limits::Limits;
-use crate::rooms::{Change, Rooms, exchange_all, exchange_back, make_rooms, prepare, release};
+use crate::rooms::{
+    Change, Rooms, exchange_all, exchange_back, make_rooms, prepare, release, room_for,
+};
 use std::alloc::{AllocError, Global};
 use std::marker::Model;
 use wi_parser::Content;
@@ -118,14 +120,26 @@ impl Store {
     /// edits are accepted; `Memory` if memory runs out. After each of them all is as before. The work for each
     /// pair is the same whatever the count of occupied cells, but for the searches among the tiles of 16 rows: two for a content,
     /// and one for none; up to two more for each pair where a cell loses its content, and up to three where the edit is refused.
-    pub fn apply(&mut self, mut changes: Vec<(Address, Option<Content>)>) -> Result<(), StoreFault>
-        ensures { Applies (applied self.old changes.items) result self.old self.new }
+    /// It takes the contents out of the pairs, which are not to be used again.
+    pub fn apply(&mut self, changes: &mut [(Address, Option<Content>)]) -> Result<(), StoreFault>
+        ensures { Applies (applied self.old changes.old) result self.old self.new }
     {
-        let mut brought = prepare(self.alloc, &mut changes)?;
+        if changes.len() == 1 {
+            let mut brought = [room_for(self.alloc, &mut changes[0])?];
+            return self.bring(&mut brought);
+        }
+        let mut brought = prepare(self.alloc, changes)?;
+        self.bring(&mut brought)
+    }
+
+    /// The same of the rooms that the changes bring.
+    fn bring(&mut self, brought: &mut [Change]) -> Result<(), StoreFault>
+        ensures { Applies (accepted self.old brought.old) result self.old self.new }
+    {
         let before = self.occupied();
-        let answer = edit(&mut self.rooms, &self.limits, self.edits, &mut brought);
+        let answer = edit(&mut self.rooms, &self.limits, self.edits, brought);
         let occupied = answer.unwrap_or(before);
-        release(&mut self.rooms, &brought, occupied);
+        release(&mut self.rooms, brought, occupied);
         answer?;
         self.edits += 1;
         Ok(())

@@ -18,7 +18,8 @@ fn edit<C: Calculator>(
     calculator: &mut C,
     texts: &str,
 ) -> Option<Result<(), StoreFault>> {
-    Some(calculator.apply(changes(rt, alloc, texts)?))
+    let mut changes = changes(rt, alloc, texts)?;
+    Some(calculator.apply(&mut changes))
 }
 
 /// Fills cells by one edit, which is accepted where there is memory.

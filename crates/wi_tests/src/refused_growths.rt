@@ -92,9 +92,9 @@ fn one(alloc: Global) -> Result<Changes, AllocError> {
 
 // A store with TRUE in A1.
 fn store_of_one(alloc: Global) -> Option<Store> {
-    let one = one(alloc).ok()?;
+    let mut one = one(alloc).ok()?;
     let mut store = Store::new(alloc, Limits::standard());
-    if store.apply(one).is_ok() {
+    if store.apply(&mut one).is_ok() {
         return Some(store);
     }
     drop(store);
@@ -102,7 +102,8 @@ fn store_of_one(alloc: Global) -> Option<Store> {
 }
 
 fn apply_forty(alloc: Global, store: &mut Store) -> Result<(), StoreFault> {
-    store.apply(forty(alloc)?)
+    let mut forty = forty(alloc)?;
+    store.apply(&mut forty)
 }
 
 fn expect_forty(rt: &impl Abort, store: &Store) {

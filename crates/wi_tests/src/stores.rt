@@ -43,7 +43,8 @@ pub fn expect_counts(rt: &impl Abort, store: &Store, occupied: u64, edits: u64) 
 
 /// Makes an edit, and gives what is answered.
 fn apply(rt: &impl Abort, alloc: Global, store: &mut Store, edit: &str) -> Result<(), StoreFault> {
-    store.apply(changes(rt, alloc, edit).expect(rt, edit))
+    let mut changes = changes(rt, alloc, edit).expect(rt, edit);
+    store.apply(&mut changes)
 }
 
 fn expect_edit(rt: &impl Abort, alloc: Global, store: &mut Store, edit: &Edit<'_>) {
@@ -232,7 +233,8 @@ fn many(alloc: Global, count: u32) -> Result<Changes, AllocError> {
 
 /// Fills so many rows of a store, and gives what is answered.
 fn fill(alloc: Global, store: &mut Store, count: u32) -> Result<(), StoreFault> {
-    store.apply(many(alloc, count)?)
+    let mut changes = many(alloc, count)?;
+    store.apply(&mut changes)
 }
 
 #[test]

@@ -1,7 +1,8 @@
 //! Something for each of some of 64 cells.
 
-ghost use Rattle.std.specs.Prelude.{◌≡◌, ◌↔◌, ◌<◌, ◌≤◌, ◌+◌, ◌*◌, ◌%◌, ◌==◌, if◌then◌else◌, ◌^◌, ℕ, Some, None, IsSome, IsTrue, OnOk, OnErr, option_copied, option_map, slice_index_or, slice_set};
+ghost use Rattle.std.specs.Prelude.{◌≡◌, ◌↔◌, ◌<◌, ◌≤◌, ◌+◌, ◌*◌, ◌%◌, ◌==◌, if◌then◌else◌, ◌^◌, ℕ, Some, None, IsSome, IsTrue, OnOk, OnErr, is_ok, length, option_copied, option_map, slice_index_or, slice_set};
 ghost use Rattle.std.specs.Int.{bit_at};
+ghost use Rattle.std.specs.List.{insert};
 ghost use Rattle.wi_tiles.specs.Inner.Tile.{rank};
 ghost use Rattle.wi_tiles.specs.Inner.Within.{filled};
 
@@ -91,7 +92,7 @@ impl<V> Tile<V> {
         ensures err { OnErr result (self.new ≡ self.old) }
     {
         let place = rank(self.bits, bit);
-        self.values.insert(place, value)?;
+        put_in(&mut self.values, place, value)?;
         self.bits |= 1 << bit;
         Ok(())
     }
@@ -161,6 +162,19 @@ impl<V: Drop> Places<V> for Tile<V> {
 
     fn remove(&mut self, place: u64, _alloc: Global) -> Option<V> {
         self.remove_value(place as u32)
+    }
+}
+
+/// Puts a value in at a place, and moves those behind it. If memory runs out, all is as before.
+fn put_in<V>(values: &mut Vec<V>, place: usize, value: V) -> Result<(), AllocFailed<V>>
+    requires { place ≤ length values.old.items }
+    ensures { values.new.items
+        ≡ (if is_ok result then insert values.old.items place value else values.old.items) }
+{
+    if place == values.len() {
+        values.push(value)
+    } else {
+        values.insert(place, value)
     }
 }
 

@@ -29,8 +29,8 @@ pub enum AddressFault {
     Outside,
 }
 
-/// A cell's address, seen as its place in row-major order.
-#[derive(Clone, Copy, PartialEq, Eq, PartialOrd, Ord, Hash, Debug)]
+/// A cell's address, seen as its place in row-major order. The default is the first, A1.
+#[derive(Clone, Copy, PartialEq, Eq, PartialOrd, Ord, Hash, Debug, Default)]
 pub struct Address {
     place: u64,
 }

@@ -9,8 +9,8 @@ ghost use Rattle.wi_values.specs.AddressReading.{corners, read_rect};
 use crate::address::{Address, AddressFault};
 use std::marker::Model;
 
-/// A rectangle of cells, seen as its upper left and its lower right.
-#[derive(Clone, Copy, PartialEq, Eq)]
+/// A rectangle of cells, seen as its upper left and its lower right. The default is that of A1 alone.
+#[derive(Clone, Copy, PartialEq, Eq, Default)]
 pub struct Rect {
     first: Address,
     last: Address,

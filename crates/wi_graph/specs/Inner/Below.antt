@@ -2,8 +2,8 @@
 use Rattle.std.specs.Prelude.{◌≡◌, ◌==◌, ◌⊎◌, ◌<◌, ◌&&◌, ◌||◌, ℕ, Bool, true, false, List, [], ◌∷◌, Option, None, is_some, nat_le}
 use Rattle.std.specs.List.{list_any}
 use Rattle.std.specs.Ordering.{nat_cmp}
-use Rattle.std.specs.Global.{Vec}
 use Rattle.std.specs.BTreeSet.{BTreeSet}
+use Rattle.smallvec.specs.SmallVec.{SmallVec}
 use Rattle.wi_values.specs.Address.{Area, is_within}
 use Rattle.wi_tiles.specs.Entries.{CellEntries, get}
 use Rattle.wi_graph.specs.Inner.Rooms.{Rooms, Coming, room_at, items_of, areas_of}
@@ -52,7 +52,7 @@ ReachesNot rooms cell areas = (seen : ℕ → Bool) × IsSearchingBelow rooms ce
 -- something is next for one cell, which isn't circular; what it reads then, at any remove, isn't circular and isn't the cell
 pub record ReadsApart (rooms : Rooms) (next : Coming) (circles : BTreeSet ℕ) : Type 0 where
   pub cell : ℕ
-  pub room : Option (Vec Area)
+  pub room : Option (SmallVec Area)
   pub alone : next ≡ (cell, room) ∷ []
   pub unmet : meets_one_of next circles ≡ false
   pub not_met : ReachesNot rooms cell (areas_of (items_of room))

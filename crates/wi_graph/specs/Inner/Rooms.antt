@@ -1,11 +1,11 @@
 -- Rooms for the rectangles that formulas read. A room is vacant only while an edit is staged.
 use Rattle.std.specs.Prelude.{◌≡◌, ◌+◌, ℕ, Bool, ◌&&◌, not, List, [], ◌∷◌, Option, Some, None, if◌then◌else◌}
 use Rattle.std.specs.Ordering.{nat_cmp}
-use Rattle.std.specs.Global.{Vec}
 use Rattle.std.specs.List.Sorted.{IsStrictlySortedBy}
 use Rattle.std.specs.Map.{keys_of, lookup}
 use Rattle.std.specs.BTreeMap.{is_at}
 use Rattle.std.specs.BTreeSet.{BTreeSet, contains}
+use Rattle.smallvec.specs.SmallVec.{SmallVec}
 use Rattle.wi_values.specs.Address.{Area}
 use Rattle.wi_tiles.specs.Entries.{CellEntries, get, IsOrdered}
 use Rattle.wi_parser.specs.Sheet.{Sheet, content_of}
@@ -18,18 +18,18 @@ use Rattle.wi_graph.specs.declared.turning.Turns.{Turns}
 
 -- the rectangles that formulas read, by their cells; a vacant room has no formula
 abbrev pub Rooms : Type 0
-Rooms = CellEntries (Option (Vec Area))
+Rooms = CellEntries (Option (SmallVec Area))
 
 -- what an edit brings, by its cells
 abbrev pub Coming : Type 0
-Coming = List (ℕ × Option (Vec Area))
+Coming = List (ℕ × Option (SmallVec Area))
 
 -- the rectangles in a room, as a list
-abbrev pub items_of : Option (Vec Area) → Option (List Area)
+abbrev pub items_of : Option (SmallVec Area) → Option (List Area)
 items_of None = None
 items_of (Some v) = Some v.items
 
-abbrev pub in_room : Option (Option (Vec Area)) → Option (List Area)
+abbrev pub in_room : Option (Option (SmallVec Area)) → Option (List Area)
 in_room None = None
 in_room (Some o) = items_of o
 
@@ -42,7 +42,7 @@ abbrev pub AreInOrder : Coming → Type 0
 AreInOrder next = IsStrictlySortedBy nat_cmp (keys_of next)
 
 -- what an edit brings for a cell, if it names it
-abbrev pub brought_to : Coming → ℕ → Option (Option (Vec Area))
+abbrev pub brought_to : Coming → ℕ → Option (Option (SmallVec Area))
 brought_to next c = lookup (is_at (nat_cmp c)) next
 
 -- what the formula reads that it brings, if it brings one
@@ -50,7 +50,7 @@ abbrev pub coming_at : Coming → ℕ → Option (List Area)
 coming_at next c = in_room (brought_to next c)
 
 -- what is put in counts, where something is
-abbrev pub put_over : Option (Option (Vec Area)) → Option (List Area) → Option (List Area)
+abbrev pub put_over : Option (Option (SmallVec Area)) → Option (List Area) → Option (List Area)
 put_over None o = o
 put_over (Some x) o = items_of x
 
@@ -58,12 +58,12 @@ put_over (Some x) o = items_of x
 abbrev pub room_over : Coming → Rooms → ℕ → Option (List Area)
 room_over next rooms c = put_over (brought_to next c) (room_at rooms c)
 
-abbrev pub with_room : ℕ → Option (Vec Area) → Edges → Edges
+abbrev pub with_room : ℕ → Option (SmallVec Area) → Edges → Edges
 with_room c None es = es
 with_room c (Some v) es = (c, v.items) ∷ es
 
 -- what the rooms are seen as
-abbrev pub edges_in : List (ℕ × Option (Vec Area)) → Edges
+abbrev pub edges_in : List (ℕ × Option (SmallVec Area)) → Edges
 edges_in [] = []
 edges_in (e ∷ es) = with_room e.0 e.1 (edges_in es)
 

@@ -6,6 +6,7 @@ use Rattle.std.specs.Ordering.{nat_cmp}
 use Rattle.std.specs.Global.{Vec}
 use Rattle.std.specs.BTreeMap.{BTreeMap, get}
 use Rattle.std.specs.BTreeSet.{BTreeSet, contains}
+use Rattle.smallvec.specs.SmallVec.{SmallVec}
 use Rattle.wi_values.specs.Address.{Area, is_within}
 use Rattle.wi_parser.specs.Sheet.{Sheet, content_of}
 use Rattle.wi_graph.specs.Circular.{circular}
@@ -41,7 +42,7 @@ has_room_in rooms cell r = is_within r cell || list_any (is_within r) (keys_of r
 
 -- each cell that gets something else isn't circular, and reads no formula then
 abbrev pub StandsApart : Rooms → Coming → BTreeSet ℕ → Type 0
-StandsApart rooms next circles = (c : ℕ) (v : Option (Vec Area)) → brought_to next c ≡ Some v → (contains nat_cmp circles c ≡ false) × ((d : ℕ) → is_in (areas_of (items_of v)) d ≡ true → room_over next rooms d ≡ None)
+StandsApart rooms next circles = (c : ℕ) (v : Option (SmallVec Area)) → brought_to next c ≡ Some v → (contains nat_cmp circles c ≡ false) × ((d : ℕ) → is_in (areas_of (items_of v)) d ≡ true → room_over next rooms d ≡ None)
 
 -- the cell was circular or came, and did not go
 abbrev pub turned_by : BTreeSet ℕ → Turns → ℕ → Bool

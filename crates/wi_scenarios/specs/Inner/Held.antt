@@ -8,9 +8,7 @@ use Rattle.wi_sessions.specs.Sessions.{max_sessions}
 use Rattle.wi_scenarios.specs.State.{State}
 use Rattle.wi_scenarios.specs.Views.{session_at, shown_to}
 use Rattle.wi_scenarios.specs.Pending.{Book, is_pending}
-use Rattle.wi_scenarios.specs.Edits.{Edit}
 use Rattle.wi_scenarios.specs.declared.desk.Desk.{Desk}
-use Rattle.wi_scenarios.specs.declared.edit.Edit.{Edit as HeldEdit}
 
 -- the state of a sheet and of what is kept beside it
 abbrev pub state_of : Stored → Desk → State
@@ -48,7 +46,3 @@ pub record IsSound (marked : Sheet → List ℕ → ℕ → Bool) (stored : Stor
   pub full : (i : ℕ) → vacant_of d.sessions i ≡ []
   pub closed : AreClosed marked (state_of stored d) (pending_in d)
   pub covered : AreCovered (state_of stored d) (pending_in d)
-
--- an edit, as the definitions see it
-abbrev pub edit_in : HeldEdit → Edit
-edit_in e = record { named = e.named.items; contents = e.contents.items }

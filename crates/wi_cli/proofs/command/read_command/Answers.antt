@@ -2,6 +2,10 @@ use Rattle.wi_cli.specs.Inner.Script.{named_command, spelled_command}
 use Rattle.wi_cli.proofs.NamedLemmas.{named, edit_named}
 use Rattle.wi_cli.proofs.command.read_command.Goals as goal
 
+pub returns-in-set : goal.returns-in-set
+unfolding spelled_command
+returns-in-set c = named named_command c.args.text.now _ _ _ _ c.split_word.ensures.word c.split_word.ensures.rest c.in-set.is c.read_set.ensures
+
 pub returns-in-force : goal.returns-in-force
 unfolding spelled_command
 returns-in-force c = named named_command c.args.text.now _ _ _ _ c.split_word.ensures.word c.split_word.ensures.rest c.in-force.is c.read_forced.ensures

@@ -13,10 +13,10 @@ pub returns-then-stays_vacant-clause-order : goal.returns-then-stays_vacant-clau
 returns-then-stays_vacant-clause-order c = none_order c.new.result.items c.new.ensures.items
 
 pub returns-clause-brings : goal.returns-clause-brings
-returns-clause-brings c = brings_one c.args.rooms.now c.args.cell c.args.content.now c.in_ok-room.room c.in_ok-next.next.items (search rules) c.in_ok-room.ensures
+returns-clause-brings c = brings_one c.args.rooms.now c.args.cell c.args.content.now c.in_ok-room.room c.from_buf.result.items (search rules) c.in_ok-room.ensures
 
 pub returns-clause-no_idle : goal.returns-clause-no_idle
-returns-clause-no_idle c = one_idle c.args.rooms.now c.args.cell c.in_ok-room.room c.in_ok-next.next.items (search rules) (sym c.stays_vacant.ensures ∙ c.if-stays_vacant.false)
+returns-clause-no_idle c = one_idle c.args.rooms.now c.args.cell c.in_ok-room.room c.from_buf.result.items (search rules) (sym c.stays_vacant.ensures ∙ c.if-stays_vacant.false)
 
 pub returns-clause-order : goal.returns-clause-order
-returns-clause-order c = one_order c.args.cell c.in_ok-room.room c.in_ok-next.next.items (search rules)
+returns-clause-order c = one_order c.args.cell c.in_ok-room.room c.from_buf.result.items (search rules)

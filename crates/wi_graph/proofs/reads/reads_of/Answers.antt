@@ -11,9 +11,9 @@ loop-entry-init c = c.in_ok-reads.ensures
 
 pub loop-entry-preserved : goal.loop-entry-preserved
 loop-entry-preserved c d h =
-    brought_step c.args.rooms.now c.args.next.now.items c.loop-entry.entry-index c.entry-item.result c.loop-entry.reads c.insert.new.self c.in_ok-areas.areas c.requires (rw c.deref-entry-items.ensures.value at c.loop-entry-test.true) (rw c.deref-entry-items.ensures.value at c.entry-item.is)
+    brought_step c.args.rooms.now c.args.next.now c.loop-entry.entry-index c.entry-item.result c.loop-entry.reads c.insert.new.self c.in_ok-areas.areas c.requires c.loop-entry-test.true c.entry-item.is
     c.in_ok-areas.ensures c.in_ok-insert.ensures.updates.0 d (c.loop-entry.invariant d h)
 
 pub returns : goal.returns
 returns c d h =
-    subst (λ (xs : Coming). items_there (get nat_cmp c.loop-entry.reads d) ≡ areas_of (room_over xs c.args.rooms.now d)) (take_all c.loop-entry.entry-index c.args.next.now.items (rw c.deref-entry-items.ensures.value at c.loop-entry-test.false)) (c.loop-entry.invariant d h)
+    subst (λ (xs : Coming). items_there (get nat_cmp c.loop-entry.reads d) ≡ areas_of (room_over xs c.args.rooms.now d)) (take_all c.loop-entry.entry-index c.args.next.now c.loop-entry-test.false) (c.loop-entry.invariant d h)

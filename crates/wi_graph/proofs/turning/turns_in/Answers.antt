@@ -6,7 +6,7 @@ use Rattle.wi_graph.proofs.turning.turns_in.Goals as goal
 
 pub returns-then-not-closes_cycle : goal.returns-then-not-closes_cycle
 returns-then-not-closes_cycle c =
-    none_turn c.args.rooms.now c.args.next.now.items c.args.circles.now (as_set c.args.cone.now) c.no_turns.result c.requires.circles (record {
+    none_turn c.args.rooms.now c.args.next.now c.args.circles.now (as_set c.args.cone.now) c.no_turns.result c.requires.circles (record {
       order = c.requires.cone.order;
       changes = c.requires.cone.changes;
       brings = c.requires.cone.brings;

@@ -9,8 +9,8 @@ use Rattle.wi_graph.proofs.turning.turns_of.Goals as goal
 
 pub returns-then-is_empty : goal.returns-then-is_empty
 returns-then-is_empty c =
-    let none : length c.args.next.now.items ≡ 0 = grind (arith, common_steps) in
-    nothing_turns c.args.rooms.now c.args.next.now.items c.args.circles.now c.no_turns.result c.requires.graph.circular (nil_from_length c.args.next.now.items none) c.no_turns.ensures.came c.no_turns.ensures.went
+    let none : length c.args.next.now ≡ 0 = grind (arith, common_steps) in
+    nothing_turns c.args.rooms.now c.args.next.now c.args.circles.now c.no_turns.result c.requires.graph.circular (nil_from_length c.args.next.now none) c.no_turns.ensures.came c.no_turns.ensures.went
 
 pub turns_in-requires-clause-circles : goal.turns_in-requires-clause-circles
 turns_in-requires-clause-circles c = c.requires.graph.circular

@@ -2,15 +2,15 @@ use Rattle.wi_propagate.proofs.Words.{◌∙◌, ◌&&◌, ◌||◌, not, [], �
 use Rattle.wi_propagate.proofs.settling.settle_one.Goals as goal
 
 pub lift-requires : goal.lift-requires
-lift-requires c = λ d m. c.in_ok-make_room.ensures.there d (ap (λ (xs : List ℕ). is_one_of xs d) (c.deref-2.ensures.value ∙ sym c.deref-3.ensures.value) ∙ m)
+lift-requires c = λ d m. c.in_ok-make_room.ensures.there d (ap (λ (xs : List ℕ). is_one_of xs d) (c.deref-2.ensures ∙ sym c.deref-3.ensures) ∙ m)
 
 pub returns-clause-noted : goal.returns-clause-noted
 returns-clause-noted c = λ s a d.
     let made = c.make_room.new.generations.entries in
-    c.lift.ensures d ∙ ap (λ (xs : List ℕ). if is_one_of xs d then max (generation_in made d) c.args.number else generation_in made d) c.deref-3.ensures.value
+    c.lift.ensures d ∙ ap (λ (xs : List ℕ). if is_one_of xs d then max (generation_in made d) c.args.number else generation_in made d) c.deref-3.ensures
     ∙ ap (λ (b : Bool). if b then max (generation_in made d) c.args.number else generation_in made d) (c.in_ok-cone.ensures s a d)
     ∙ ap (λ (m : ℕ). if in_cone s (c.args.at ∷ []) d && not (has_seen c.args.seen.now d) then max m c.args.number else m) (c.in_ok-make_room.ensures.same d)
 
 pub returns-clause-seen : goal.returns-clause-seen
 returns-clause-seen c = λ s a d.
-    c.in_ok-see.ensures d ∙ ap (λ (xs : List ℕ). has_seen c.args.seen.now d || is_one_of xs d) c.deref.ensures.value ∙ ap (λ (b : Bool). has_seen c.args.seen.now d || b) (c.in_ok-cone.ensures s a d)
+    c.in_ok-see.ensures d ∙ ap (λ (xs : List ℕ). has_seen c.args.seen.now d || is_one_of xs d) c.deref.ensures ∙ ap (λ (b : Bool). has_seen c.args.seen.now d || b) (c.in_ok-cone.ensures s a d)

@@ -1,4 +1,7 @@
-use Rattle.std.proofs.Common.{rules, ℕ, List, subst}
+use Rattle.std.proofs.Common.{rules, ℕ, List, refl, subst, sym}
+use Rattle.wi_import.specs.declared.fault.ImportFault.TheVariants as import
+use Rattle.wi_import.specs.Fields.{fields_at}
+use Rattle.wi_import.specs.Imports.{AreChanges}
 use Rattle.wi_scenarios.specs.Pending.{AddsOnly}
 use Rattle.wi_scenarios.specs.Inner.Held.{state_of, pending_in}
 use Rattle.wi_scenarios.proofs.CsvLemmas.{csv_refused, csv_edited, imported_are}
@@ -9,13 +12,18 @@ returns-in_err-found-clause-step g c =
     csv_refused c.from_residual.result (state_of (g.C.Calculator.stored c.args.calculator.now) c.args.desk.now) c.args.force c.args.at c.args.text.now c.in_err-found.field-0.0
     c.from_residual.ensures.1 (search rules)
 
+pub returns-in_err-named-clause-step : goal.returns-in_err-named-clause-step
+returns-in_err-named-clause-step g c =
+    csv_refused c.from_residual-in_err-named.result (state_of (g.C.Calculator.stored c.args.calculator.now) c.args.desk.now) c.args.force c.args.at c.args.text.now import.Memory
+    c.from_residual-in_err-named.ensures.1 (λ apart. absurd (apart refl))
+
 pub returns-clause-step : goal.returns-clause-step
 returns-clause-step g c =
     csv_edited c.apply_edit.result (state_of (g.C.Calculator.stored c.args.calculator.now) c.args.desk.now) (state_of (g.C.Calculator.stored c.apply_edit.new.calculator) c.apply_edit.new.desk)
-    c.args.force c.args.at c.args.text.now c.in_ok-found.found.named.items c.in_ok-found.found.changes.items (search rules) (search rules) c.apply_edit.ensures.step
+    c.args.force c.args.at c.args.text.now c.in_ok-named.named c.deref_mut.result.now (search rules) (subst (AreChanges (fields_at c.args.at c.args.text.now)) (sym c.deref_mut.ensures.value) (search rules)) c.apply_edit.ensures.step
 
 pub returns-clause-adds : goal.returns-clause-adds
 returns-clause-adds g c =
     subst (λ (cells : List ℕ). AddsOnly g.C.Calculator.marked cells (state_of (g.C.Calculator.stored c.args.calculator.now) c.args.desk.now)
     (state_of (g.C.Calculator.stored c.apply_edit.new.calculator) c.apply_edit.new.desk) (pending_in c.args.desk.now) (pending_in c.apply_edit.new.desk))
-    (imported_are c.args.at c.args.text.now c.in_ok-found.found.changes.items (search rules)) c.apply_edit.ensures.adds
+    (imported_are c.args.at c.args.text.now c.deref_mut.result.now (subst (AreChanges (fields_at c.args.at c.args.text.now)) (sym c.deref_mut.ensures.value) (search rules))) c.apply_edit.ensures.adds

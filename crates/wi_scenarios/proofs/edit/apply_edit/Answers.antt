@@ -4,7 +4,7 @@ use Rattle.wi_scenarios.specs.Answer.{Serves}
 use Rattle.wi_scenarios.specs.Causes.{no_cause}
 use Rattle.wi_scenarios.specs.Edits.{edit_answer}
 use Rattle.wi_scenarios.specs.Pending.{AddsOnly}
-use Rattle.wi_scenarios.specs.Inner.Held.{state_of, pending_in, edit_in, IsSound}
+use Rattle.wi_scenarios.specs.Inner.Held.{state_of, pending_in, IsSound}
 use Rattle.wi_scenarios.specs.declared.desk.Desk.{Desk}
 use Rattle.wi_scenarios.proofs.EditLemmas.{edit_lacks, same_log}
 use Rattle.wi_scenarios.proofs.edit.apply_edit.Goals as goal
@@ -16,14 +16,14 @@ edit_caught_up-requires g c =
 pub returns-in_err-catch_up-clause-step : goal.returns-in_err-catch_up-clause-step
 returns-in_err-catch_up-clause-step g c =
     let old = g.C.Calculator.stored c.args.calculator.now in
-    subst (λ (d : Desk). Serves (λ a. edit_answer (state_of old c.args.desk.now) c.args.force no_cause (edit_in c.args.edit) ≡ a) c.from_residual.result (state_of old c.args.desk.now) (state_of old d) [])
+    subst (λ (d : Desk). Serves (λ a. edit_answer (state_of old c.args.desk.now) c.args.force no_cause (record { named = c.args.named; contents = c.args.contents.now }) ≡ a) c.from_residual.result (state_of old c.args.desk.now) (state_of old d) [])
     (sym (same_log c.args.desk.now c.catch_up.new.self c.catch_up.ensures))
-    (edit_lacks c.from_residual.result (state_of old c.args.desk.now) c.args.force (edit_in c.args.edit) c.from_residual.ensures.1)
+    (edit_lacks c.from_residual.result (state_of old c.args.desk.now) c.args.force (record { named = c.args.named; contents = c.args.contents.now }) c.from_residual.ensures.1)
 
 pub returns-in_err-catch_up-clause-adds : goal.returns-in_err-catch_up-clause-adds
 returns-in_err-catch_up-clause-adds g c =
     let old = g.C.Calculator.stored c.args.calculator.now in
-    subst (λ (d : Desk). AddsOnly g.C.Calculator.marked (keys_of c.args.edit.contents.items) (state_of old c.args.desk.now) (state_of old d) (pending_in c.args.desk.now) (pending_in d))
+    subst (λ (d : Desk). AddsOnly g.C.Calculator.marked (keys_of c.args.contents.now) (state_of old c.args.desk.now) (state_of old d) (pending_in c.args.desk.now) (pending_in d))
     (sym (same_log c.args.desk.now c.catch_up.new.self c.catch_up.ensures)) (search rules)
 
 pub returns-in_err-catch_up-clause-sound : goal.returns-in_err-catch_up-clause-sound
@@ -34,12 +34,12 @@ pub returns-clause-step : goal.returns-clause-step
 returns-clause-step g c =
     let old = g.C.Calculator.stored c.args.calculator.now in
     let new = state_of (g.C.Calculator.stored c.edit_caught_up.new.calculator) c.edit_caught_up.new.desk in
-    subst (λ (d : Desk). Serves (λ a. edit_answer (state_of old d) c.args.force no_cause (edit_in c.args.edit) ≡ a) c.edit_caught_up.result (state_of old d) new [])
+    subst (λ (d : Desk). Serves (λ a. edit_answer (state_of old d) c.args.force no_cause (record { named = c.args.named; contents = c.args.contents.now }) ≡ a) c.edit_caught_up.result (state_of old d) new [])
     (same_log c.args.desk.now c.catch_up.new.self c.catch_up.ensures) c.edit_caught_up.ensures.step
 
 pub returns-clause-adds : goal.returns-clause-adds
 returns-clause-adds g c =
     let old = g.C.Calculator.stored c.args.calculator.now in
     let new = state_of (g.C.Calculator.stored c.edit_caught_up.new.calculator) c.edit_caught_up.new.desk in
-    subst (λ (d : Desk). AddsOnly g.C.Calculator.marked (keys_of c.args.edit.contents.items) (state_of old d) new (pending_in d) (pending_in c.edit_caught_up.new.desk))
+    subst (λ (d : Desk). AddsOnly g.C.Calculator.marked (keys_of c.args.contents.now) (state_of old d) new (pending_in d) (pending_in c.edit_caught_up.new.desk))
     (same_log c.args.desk.now c.catch_up.new.self c.catch_up.ensures) c.edit_caught_up.ensures.adds

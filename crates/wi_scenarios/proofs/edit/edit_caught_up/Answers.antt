@@ -1,6 +1,6 @@
-use Rattle.std.proofs.Common.{◌∙◌, Ok, rules}
+use Rattle.std.proofs.Common.{◌∙◌, Ok, refl, rules}
 use Rattle.wi_sessions.specs.Roster.{is_pending_for_all}
-use Rattle.wi_scenarios.specs.Inner.Held.{state_of, edit_in}
+use Rattle.wi_scenarios.specs.Inner.Held.{state_of}
 use Rattle.wi_scenarios.proofs.EditLemmas.{closed_for_all, marked_as, AreTaken, edit_served, sound_taken, adds_taken}
 use Rattle.wi_scenarios.proofs.edit.edit_caught_up.Goals as goal
 
@@ -11,7 +11,7 @@ pub returns-in-Ok-clause-step : goal.returns-in-Ok-clause-step
 returns-in-Ok-clause-step g c =
     let old = state_of (g.C.Calculator.stored c.args.calculator.now) c.args.desk.now in
     let new = state_of (g.C.Calculator.stored c.edit_with_rooms.new.calculator) (record c.edit_with_rooms.new.desk { sessions = c.take_all.new.self }) in
-    let served = edit_served (Ok tt) old new c.args.force (edit_in c.args.edit) (search rules) c.in-Ok.ensures.beside.scenarios
+    let served = edit_served (Ok tt) old new c.args.force (record { named = c.args.named; contents = c.args.contents.now }) (search rules) c.in-Ok.ensures.beside.scenarios
     (c.take_all.ensures.sessions ∙ c.in-Ok.ensures.beside.sessions) c.in-Ok.ensures.beside.current c.in-Ok.ensures.edit in
     search (served)
 
@@ -25,10 +25,10 @@ returns-in-Ok-clause-adds g c =
       pending = c.take_all.ensures.pending;
       vacant = c.take_all.ensures.vacant;
     } in
-    adds_taken g.C.Calculator.marked g.met.C.Calculator.marks old new c.args.desk.now c.edit_with_rooms.new.desk c.take_all.new.self c.args.edit.contents.items _
+    adds_taken g.C.Calculator.marked g.met.C.Calculator.marks old new c.args.desk.now c.edit_with_rooms.new.desk c.take_all.new.self c.args.contents.now _
     c.requires c.in-Ok.ensures.beside
-    (marked_as g.C.Calculator.marked old.sheet (is_pending_for_all c.args.desk.now.sessions) c.args.edit.contents.items c.deref-2.result.now c.in_ok-marked.marked.items c.deref-3.result.now
-    c.deref-2.ensures.value c.deref-3.ensures.value c.in_ok-marked.ensures)
+    (marked_as g.C.Calculator.marked old.sheet (is_pending_for_all c.args.desk.now.sessions) c.args.contents.now c.args.contents.now c.in_ok-marked.marked.items c.deref.result.now
+    refl c.deref.ensures c.in_ok-marked.ensures)
     c.in-Ok.ensures.rooms taken
 
 pub returns-in-Ok-clause-sound : goal.returns-in-Ok-clause-sound
@@ -41,8 +41,8 @@ returns-in-Ok-clause-sound g c =
       pending = c.take_all.ensures.pending;
       vacant = c.take_all.ensures.vacant;
     } in
-    sound_taken g.C.Calculator.marked g.met.C.Calculator.marks old new c.args.desk.now c.edit_with_rooms.new.desk c.take_all.new.self c.args.edit.contents.items _
+    sound_taken g.C.Calculator.marked g.met.C.Calculator.marks old new c.args.desk.now c.edit_with_rooms.new.desk c.take_all.new.self c.args.contents.now _
     c.requires c.in-Ok.ensures.beside
-    (marked_as g.C.Calculator.marked old.sheet (is_pending_for_all c.args.desk.now.sessions) c.args.edit.contents.items c.deref-2.result.now c.in_ok-marked.marked.items c.deref-3.result.now
-    c.deref-2.ensures.value c.deref-3.ensures.value c.in_ok-marked.ensures)
+    (marked_as g.C.Calculator.marked old.sheet (is_pending_for_all c.args.desk.now.sessions) c.args.contents.now c.args.contents.now c.in_ok-marked.marked.items c.deref.result.now
+    refl c.deref.ensures c.in_ok-marked.ensures)
     c.in-Ok.ensures.rooms taken c.in-Ok.ensures.edit.0

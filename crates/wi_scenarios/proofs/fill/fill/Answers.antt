@@ -1,6 +1,7 @@
 use Rattle.std.proofs.Common.{ℕ, List, [], ◌∷◌, refl, sym, ◌∙◌, subst, rules}
 use Rattle.std.specs.Option.{option_copied}
 use Rattle.wi_values.specs.Address.{cells_of}
+use Rattle.wi_scenarios.specs.Inner.Copies.{AreCopies}
 use Rattle.wi_scenarios.specs.Pending.{AddsOnly}
 use Rattle.wi_scenarios.specs.Inner.Held.{state_of, pending_in}
 use Rattle.wi_scenarios.proofs.FillLemmas.{fill_too_large, fill_leaves, fill_edited, copied_cells}
@@ -17,11 +18,13 @@ returns-in_err-contents-clause-step g c =
 
 pub returns-clause-step : goal.returns-clause-step
 returns-clause-step g c =
+    let are = subst (AreCopies (option_copied c.content.result) c.args.from (cells_of c.args.area)) (sym c.deref_mut.ensures.value) c.in_ok-contents.ensures in
     fill_edited (state_of (g.C.Calculator.stored c.args.calculator.now) c.args.desk.now) (state_of (g.C.Calculator.stored c.edit_area.new.calculator) c.edit_area.new.desk) c.args.force (option_copied c.content.result) c.args.from c.args.area
-    (c.args.area ∷ []) c.in_ok-contents.contents.items c.content.ensures c.in_ok-contents.ensures c.edit_area.result (search rules) refl c.edit_area.ensures.step
+    (c.args.area ∷ []) c.deref_mut.result.now c.content.ensures are c.edit_area.result (search rules) refl c.edit_area.ensures.step
 
 pub returns-clause-adds : goal.returns-clause-adds
 returns-clause-adds g c =
+    let are = subst (AreCopies (option_copied c.content.result) c.args.from (cells_of c.args.area)) (sym c.deref_mut.ensures.value) c.in_ok-contents.ensures in
     subst (λ (cells : List ℕ). AddsOnly g.C.Calculator.marked cells (state_of (g.C.Calculator.stored c.args.calculator.now) c.args.desk.now)
     (state_of (g.C.Calculator.stored c.edit_area.new.calculator) c.edit_area.new.desk) (pending_in c.args.desk.now) (pending_in c.edit_area.new.desk))
-    (copied_cells (option_copied c.content.result) c.args.from (cells_of c.args.area) c.in_ok-contents.contents.items c.in_ok-contents.ensures) c.edit_area.ensures.adds
+    (copied_cells (option_copied c.content.result) c.args.from (cells_of c.args.area) c.deref_mut.result.now are) c.edit_area.ensures.adds

@@ -15,7 +15,7 @@ invariant_of-self c =
 pub invariant_of-self-2 : goal.invariant_of-self-2
 invariant_of-self-2 c =
     let old = c.self.inside.edits.items in
-    let edit = c.in_ok-edit.edit in
+    let edit = c.after-edit.result in
     subst (λ (es : List Edit). IsKept es c.self.inside.noted.known c.self.inside.noted.notes.entries) (search rules) (record {
       runs = runs_of_more old edit c.self.invariant.runs (search rules);
       noted = noted_before_more old c.self.inside.noted.known c.self.inside.noted.notes.entries edit c.self.invariant.noted;
@@ -23,12 +23,12 @@ invariant_of-self-2 c =
 
 pub returns-in_err-push_edit-clause-ok : goal.returns-in_err-push_edit-clause-ok
 returns-in_err-push_edit-clause-ok c =
-    let p = err_from_is_err_and c.from_residual-in_err-push_edit.result c.from_residual-in_err-push_edit.ensures.1 in
+    let p = err_from_is_err_and c.from_residual.result c.from_residual.ensures.1 in
     rw p.1 tt
 
 pub returns-in_err-push_edit-clause-err : goal.returns-in_err-push_edit-clause-err
 returns-in_err-push_edit-clause-err c =
-    let p = err_from_is_err_and c.from_residual-in_err-push_edit.result c.from_residual-in_err-push_edit.ensures.1 in
+    let p = err_from_is_err_and c.from_residual.result c.from_residual.ensures.1 in
     rw p.1 (ap entries_in c.in_err-push_edit.ensures.err ∙ c.self.view_is)
 
 pub returns-clause-ok : goal.returns-clause-ok

@@ -1,5 +1,5 @@
-use Rattle.wi_propagate.proofs.Words.{◌∙◌, ap, keys_of}
+use Rattle.wi_propagate.proofs.Words.{◌∙◌}
 use Rattle.wi_propagate.proofs.kept.KeptCalculator.edit.Goals as goal
 
 pub edit_cells-requires : goal.edit_cells-requires
-edit_cells-requires c = c.as_slice.ensures ∙ c.in_ok-cells.ensures ∙ ap keys_of c.deref.ensures.value
+edit_cells-requires c = c.as_slice.ensures ∙ c.in_ok-cells.ensures

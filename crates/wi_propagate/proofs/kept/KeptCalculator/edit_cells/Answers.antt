@@ -1,4 +1,4 @@
-use Rattle.wi_propagate.proofs.Words.{◌≡◌, ◌∙◌, ℕ, List, Option, Some, None, Ok, IfSome, ap, sym, subst, if◌then◌else◌, keys_of, unwrap_or, Content, Stored, applied, in_cone, AreEdgesOf, Staging, staging, edges_after, KeptSheet, generation_in, AreKeptRight, AreAllCones, kept_sheet, told, AreKeptUp, on_err}
+use Rattle.wi_propagate.proofs.Words.{◌≡◌, ◌∙◌, ℕ, Some, None, Ok, IfSome, ap, sym, subst, if◌then◌else◌, keys_of, unwrap_or, Stored, applied, in_cone, AreEdgesOf, Staging, staging, edges_after, KeptSheet, generation_in, AreKeptRight, AreAllCones, kept_sheet, told, AreKeptUp, on_err}
 use Rattle.wi_propagate.proofs.Editing.{edges_applied, refused_same, right_after_edit, right_unnamed, edit_told, edit_keeps_up}
 use Rattle.wi_propagate.proofs.NotedSteps.{told_same, kept_up_more}
 use Rattle.wi_propagate.proofs.kept.KeptCalculator.edit_cells.Goals as goal
@@ -7,10 +7,9 @@ pub invariant_of-self-in-Ok : goal.invariant_of-self-in-Ok
 invariant_of-self-in-Ok c =
     let i = c.self.inside in
     let h = c.self.invariant in
-    let ch = c.args.changes.items in
+    let ch = c.args.changes.now in
     let new = c.apply.new.self in
-    let staged_is : c.stage.new.self ≡ staging i.graph.now (Some (edges_after i.graph.now ch)) =
-    c.in_ok-stage.ensures.ok ∙ ap (λ (xs : List (ℕ × Option Content)). staging i.graph.now (Some (edges_after i.graph.now xs))) c.deref.ensures.value in
+    let staged_is : c.stage.new.self ≡ staging i.graph.now (Some (edges_after i.graph.now ch)) = c.in_ok-stage.ensures.ok in
     let graph_is : c.commit.new.self ≡ staging (edges_after i.graph.now ch) None = c.commit.ensures ∙ ap (λ (x : Staging). staging (unwrap_or x.staged x.now) None) staged_is in
     let accepted : applied i.store ch ≡ Ok new = c.in-Ok.ensures in
     let edges = edges_applied i.graph.now i.store new ch h.1 accepted in
@@ -28,7 +27,7 @@ invariant_of-self-in-Ok c =
 pub returns-in-Ok-clause-generations : goal.returns-in-Ok-clause-generations
 returns-in-Ok-clause-generations c =
     let i = c.self.inside in
-    let ch = c.args.changes.items in
+    let ch = c.args.changes.now in
     let new = c.apply.new.self in
     subst (λ (k : KeptSheet). (d : ℕ) → generation_in (told new.sheet c.name.new.self.named) d ≡ (if in_cone k.stored.sheet (keys_of ch) d then new.edits else generation_in k.generations d)) c.self.view_is
     (λ d. edit_told i.store new ch i.generations c.owe.new.self c.name.new.self c.args.cells.now c.edits.result c.in-Ok.ensures c.requires c.edits.ensures c.in_ok-owe.ensures.named c.name.ensures.named c.self.invariant.5 d
@@ -75,9 +74,9 @@ pub invariant_of-self-in-Err : goal.invariant_of-self-in-Err
 invariant_of-self-in-Err c =
     let i = c.self.inside in
     let h = c.self.invariant in
-    let staged_is : c.stage.new.self ≡ staging i.graph.now (Some (edges_after i.graph.now c.deref.result.now)) = c.in_ok-stage.ensures.ok in
+    let staged_is : c.stage.new.self ≡ staging i.graph.now (Some (edges_after i.graph.now c.args.changes.now)) = c.in_ok-stage.ensures.ok in
     let graph_is : c.rollback.new.self ≡ staging i.graph.now None = c.rollback.ensures ∙ ap (λ (x : Staging). staging x.now None) staged_is in
-    let store_is : c.apply.new.self ≡ i.store = refused_same (applied i.store c.args.changes.items) c.in-Err.fault i.store c.apply.new.self c.in-Err.ensures in (
+    let store_is : c.apply.new.self ≡ i.store = refused_same (applied i.store c.args.changes.now) c.in-Err.fault i.store c.apply.new.self c.in-Err.ensures in (
       h.0,
       subst (λ (x : Staging). AreEdgesOf x.now c.apply.new.self.sheet) (sym graph_is) (subst (λ (x : Stored). AreEdgesOf i.graph.now x.sheet) (sym store_is) h.1),
       ap (λ (x : Staging). x.staged) graph_is,
@@ -89,7 +88,7 @@ invariant_of-self-in-Err c =
 pub returns-in-Err-clause-same_generations : goal.returns-in-Err-clause-same_generations
 returns-in-Err-clause-same_generations c =
     let i = c.self.inside in
-    let store_is : c.apply.new.self ≡ i.store = refused_same (applied i.store c.args.changes.items) c.in-Err.fault i.store c.apply.new.self c.in-Err.ensures in
+    let store_is : c.apply.new.self ≡ i.store = refused_same (applied i.store c.args.changes.now) c.in-Err.fault i.store c.apply.new.self c.in-Err.ensures in
     let whole : (d : ℕ) → generation_in (told c.apply.new.self.sheet c.owe.new.self.named) d ≡ generation_in c.args.self.now.generations d = λ d.
     ap (λ (x : Stored). generation_in (told x.sheet c.owe.new.self.named) d) store_is
     ∙ told_same i.store.sheet i.generations.named c.owe.new.self.named c.owe.ensures.named d

@@ -1,10 +1,9 @@
-use Rattle.std.proofs.Common.{◌∙◌, ℕ, List, Option, sym, ap, map, length}
+use Rattle.std.proofs.Common.{◌∙◌, refl, sym, ap, length}
 use Rattle.std.proofs.lemmas.Result.{err_from_is_err_and}
-use Rattle.wi_parser.specs.declared.content.Content.{Content}
 use Rattle.wi_store.specs.Inner.Rooms.{sheet_in}
-use Rattle.wi_store.specs.Store.{Stored, change_without_empty}
+use Rattle.wi_store.specs.Store.{Stored}
 use Rattle.wi_store.proofs.EditLemmas.{occupied_after, applies_after_refusal, applies_after_acceptance}
-use Rattle.wi_store.proofs.store.Store.apply.Goals as goal
+use Rattle.wi_store.proofs.store.Store.bring.Goals as goal
 
 pub release-requires-clause-occupied : goal.release-requires-clause-occupied
 release-requires-clause-occupied c =
@@ -15,15 +14,15 @@ release-requires-clause-occupied c =
 
 pub returns-in_err-answer : goal.returns-in_err-answer
 returns-in_err-answer c =
-    let p = err_from_is_err_and c.from_residual-in_err-answer.result c.from_residual-in_err-answer.ensures.1 in
+    let p = err_from_is_err_and c.from_residual.result c.from_residual.ensures.1 in
     applies_after_refusal c.args.self.now (sheet_in c.self.inside.rooms.entries) (sheet_in c.release.new.rooms.entries)
-    c.self.inside.edits c.self.inside.limits (map change_without_empty c.args.changes.items) c.deref_mut-2.result.now c.from_residual-in_err-answer.result p.0 c.in_err-answer.field-0.0
-    c.self.view_is (c.deref_mut-2.ensures.value ∙ c.in_ok-brought.ensures ∙ ap (λ (xs : List (ℕ × Option Content)). map change_without_empty xs) c.deref_mut.ensures.value) p.1 p.2 c.in_err-answer.ensures.cause
+    c.self.inside.edits c.self.inside.limits c.args.brought.now c.args.brought.now c.from_residual.result p.0 c.in_err-answer.field-0.0
+    c.self.view_is refl p.1 p.2 c.in_err-answer.ensures.cause
     (c.release.ensures.sheet ∙ c.in_err-answer.ensures.refused)
 
 pub returns : goal.returns
 returns c =
     applies_after_acceptance c.args.self.now (sheet_in c.self.inside.rooms.entries) (sheet_in c.release.new.rooms.entries)
-    c.self.inside.edits _ c.self.inside.limits (map change_without_empty c.args.changes.items) c.deref_mut-2.result.now
-    c.self.view_is (c.deref_mut-2.ensures.value ∙ c.in_ok-brought.ensures ∙ ap (λ (xs : List (ℕ × Option Content)). map change_without_empty xs) c.deref_mut.ensures.value) c.in_ok-answer.ensures.cause
+    c.self.inside.edits _ c.self.inside.limits c.args.brought.now c.args.brought.now
+    c.self.view_is refl c.in_ok-answer.ensures.cause
     (c.release.ensures.sheet ∙ c.in_ok-answer.ensures.done)
