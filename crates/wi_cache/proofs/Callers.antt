@@ -1,10 +1,11 @@
 -- What a caller's proof cites of kept values.
-use Rattle.std.proofs.Common.{◌≡◌, ◌≤◌, inl, inr, true, false, cond, length, Option, Some, None, IsSome, IfSome, refl, sym, subst}
+use Rattle.std.proofs.Common.{◌≡◌, ◌≤◌, inl, inr, Bool, true, false, cond, if◌then◌else◌, nat_le, nat_lt, length, Option, Some, None, IsSome, IfSome, is_some, refl, ap, sym, subst, arith}
 use Rattle.std.specs.Map.{update}
 use Rattle.std.proofs.lemmas.Bool.{cases_lt}
+use Rattle.std.proofs.lemmas.Bool.Decides.{nat_tests}
 use Rattle.wi_values.specs.declared.value.Value.{Value}
 use Rattle.wi_cache.specs.declared.key.Key.{Key}
-use Rattle.wi_cache.specs.Entries.{Entries, KeptValues, HasRoom, Puts, PutsForOne, same_key, value_for}
+use Rattle.wi_cache.specs.Entries.{Entries, KeptValues, HasRoom, Puts, PutsForOne, going, last_entry, same_key, value_for}
 use Rattle.wi_cache.proofs.Keys.{same_key_Decides}
 
 module _ (P : Key → Value → Type 0) where
@@ -43,3 +44,11 @@ module _ (P : Key → Value → Type 0) where
             | inl few ↦ holds_after_puts m.entries n.entries old (stays (inr few))
             | inr full ↦ holds_after_one_goes m.entries n.entries old (one_goes h full)
           ]
+
+-- none goes where the list isn't full
+pub none_goes_before : (m : KeptValues) (k : Key) → nat_le m.capacity (length m.entries) ≡ false → going m k ≡ None
+none_goes_before m k few = by (value_for m.entries k) (nat_lt (length m.entries) m.capacity) (grind (arith, nat_tests))
+  where
+    by : (o : Option Value) (b : Bool) → b ≡ true → (if is_some o then None else (if b then None else last_entry m.entries)) ≡ None
+    by (Some v) b h = refl
+    by None b h = ap (λ c. if c then None else last_entry m.entries) h

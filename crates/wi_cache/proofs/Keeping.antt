@@ -125,22 +125,8 @@ going_is None true last e h = absurd (none-some e h)
 going_is None false last e h = (refl, refl, h)
 
 module _ (es : Entries) (n cap : ℕ) (k : Key) where
-  -- none where there is room
-  pub none_with_room : length es < cap → None ≡ going (kept (latest n es) cap) k
-  none_with_room few =
-      let less : nat_lt (length (latest n es)) cap ≡ true = ap (λ (y : ℕ). nat_lt y cap) (latest_len n es) ∙ lt-ltb (length es) cap few in
-      by (value_for (latest n es) k) (nat_lt (length (latest n es)) cap) less
-    where
-      by : (o : Option Value) (b : Bool) → b ≡ true → None ≡ (if is_some o then None else (if b then None else last_entry (latest n es)))
-      by (Some v) b h = refl
-      by None b h = ap (λ c. if c then None else last_entry (latest n es)) (sym h)
-
   module _ (line : IsLine es n cap) where
-    -- none where the key is known
-    pub none_if_known : is_some (value_for es k) ≡ true → None ≡ going (kept (latest n es) cap) k
-    none_if_known known = ap (λ b. if b then None else (if nat_lt (length (latest n es)) cap then None else last_entry (latest n es))) (sym (ap (λ (o : Option Value). is_some o) (latest_finds n es line.0 k) ∙ known))
-
-    -- and else the one at the place
+    -- the one at the place, where the key is new and there are as many as there may be
     pub oldest_goes : is_some (value_for es k) ≡ false → cap ≤ length es → slice_get es n ≡ going (kept (latest n es) cap) k
     oldest_goes new full =
         let more : nat_lt (length (latest n es)) cap ≡ false = ap (λ (y : ℕ). nat_lt y cap) (latest_len n es) ∙ le-ltb (length es) cap full in
@@ -177,6 +163,15 @@ module _ {S : Type 0} (em fm : IndexMap Key Value S) (k : Key) (v : Value) (put 
       none_goes e goes =
           let known = going_is (value_for (latest n es) k) (nat_lt (length (latest n es)) cap) (last_entry (latest n es)) e goes in
           none_went known.0 (ltb-false (length (latest n es)) cap known.1)
+
+      pub none_is_gone : ◌≡◌ {A = Option (Key × Value)} None (going (kept (latest n es) cap) k)
+      none_is_gone = by (going (kept (latest n es) cap) k) refl
+        where
+          by : (g : Option (Key × Value)) → going (kept (latest n es) cap) k ≡ g → None ≡ g
+          by None h = refl
+          by (Some e) h =
+              let known = going_is (value_for (latest n es) k) (nat_lt (length (latest n es)) cap) (last_entry (latest n es)) e h in
+              none_went known.0 (ltb-false (length (latest n es)) cap known.1)
 
       pub len_put : length (latest n fs) ≡ len_after (kept (latest n es) cap) k
       len_put = by (value_for es k) (value_for (latest n es) k) (latest_finds n es line.0 k) refl
@@ -276,6 +271,9 @@ module _ {S : Type 0} (em fm : IndexMap Key Value S) (k : Key) (v : Value) (put 
       pub no_room : {A : Type 0} → HasRoom (kept (latest n es) cap) k → A
       no_room (inl known) = absurd (none_is_some (value_for (latest n es) k) (latest_finds n es line.0 k ∙ new) known)
       no_room (inr few) = absurd (omega (arith, few, latest_len n es, full))
+
+      pub gone_is : r ≡ going (kept (latest n es) cap) k
+      gone_is = entry ∙ there.1 ∙ sym at_place ∙ oldest_goes es n cap k line (ap (λ (o : Option Value). is_some o) new) (omega (arith, full))
 
       pub oldest_went : (m : ℕ) → PutsForGoing (kept (latest n es) cap) (kept (latest m gs) cap) k v
       oldest_went m g goes =

@@ -83,3 +83,11 @@ going m k = if is_some (value_for m.entries k) then None else (if nat_lt (length
 -- the entry that goes is the one that gives its place to v for k
 abbrev pub PutsForGoing : KeptValues → KeptValues → Key → Value → Type 0
 PutsForGoing m n k v = (e : Key × Value) → going m k ≡ Some e → PutsFor m.entries n.entries k v e.0
+
+-- values, and how many more there is room for
+pub record WithRoom : Type 0 where
+  pub entries : Entries
+  pub room : ℕ
+
+abbrev pub with_room_code : Coded Key → Coded Value → Coded WithRoom
+with_room_code k v = code_by (Entries × ℕ) (coded× (coded_list (coded× k v)) coded_ℕ) (λ m. (m.entries, m.room)) (λ p. record { entries = p.0; room = p.1 }) (λ _. refl)

@@ -1,8 +1,7 @@
 //! Values that outlive a call.
 
-ghost use Rattle.std.specs.Prelude.{◌≡◌, ◌<◌, ◌≤◌, [], length, Some, None, IfOk, OnOk, OnErr, option_map};
+ghost use Rattle.std.specs.Prelude.{◌≡◌, ◌<◌, ◌≤◌, [], nat_le, length, Some, None, IfOk, OnOk, OnErr};
 ghost use Rattle.std.specs.Map.{keys_of};
-ghost use Rattle.std.specs.Map.Iter.{deref_pair};
 ghost use Rattle.std.specs.Option.{option_copied};
 ghost use Rattle.wi_cache.specs.Entries.{HasOneEach, HasRoom, Puts, PutsForGoing, PutsForOne, going, kept, keys_after, len_after, place_after, value_for};
 
@@ -57,24 +56,17 @@ impl Kept {
         self.entries.get(key)
     }
 
-    /// The entry that goes where a value is kept for a key: none where there is room, and else the one that was kept
-    /// longest ago. Constant time while there is room, and else beside the hash of the key.
-    pub fn going(&self, key: &Key) -> Option<(&Key, &Value)>
-        ensures { option_map deref_pair result ≡ going self.now key.now }
+    /// Whether a value for a new key takes the place of another.
+    pub fn is_full(&self) -> bool
+        ensures { result ≡ nat_le self.now.capacity (length self.now.entries) }
     {
-        if self.entries.len() < self.capacity {
-            return None;
-        }
-        if self.entries.contains_key(key) {
-            return None;
-        }
-        self.entries.get_index(self.oldest)
+        self.capacity <= self.entries.len()
     }
 
-    /// Keeps a value for a key, in the place of an earlier one. A new key that comes to a full list takes the place of
-    /// the one that was kept longest ago. If memory runs out, all stays as it was. Expected constant time over many
-    /// calls, beside the hash of the key.
-    pub fn keep(&mut self, key: Key, value: Value) -> Result<(), AllocError>
+    /// Keeps a value for a key, in the place of an earlier one, and gives the entry that goes for it. A new key that comes to a full
+    /// list takes the place of the one that was kept longest ago. If memory runs out, all stays as it was. Expected constant time
+    /// over many calls, beside the hash of the key.
+    pub fn keep(&mut self, key: Key, value: Value) -> Result<Option<(Key, Value)>, AllocError>
         ensures found { OnOk result (value_for self.new.entries key ≡ Some value) }
         ensures stays { OnOk result (HasRoom self.old key
             → Puts self.old.entries self.new.entries key value) }
@@ -82,6 +74,7 @@ impl Kept {
             → self.old.capacity ≤ length self.old.entries
             → PutsForOne self.old.entries self.new.entries key value) }
         ensures going { OnOk result (PutsForGoing self.old self.new key value) }
+        ensures gone { IfOk result (λ entry. entry ≡ going self.old key) }
         ensures order { OnOk result (keys_of self.new.entries ≡ keys_after self.old key) }
         ensures len { OnOk result (length self.new.entries ≡ len_after self.old key) }
         ensures capacity { self.new.capacity ≡ self.old.capacity }
@@ -89,10 +82,11 @@ impl Kept {
     {
         self.entries.insert(key, value)?;
         if self.entries.len() > self.capacity {
-            drop(self.entries.swap_remove_index(self.oldest));
+            let gone = self.entries.swap_remove_index(self.oldest);
             self.oldest = place_after(self.oldest, self.capacity);
+            return Ok(gone);
         }
-        Ok(())
+        Ok(None)
     }
 
     /// How many values are kept.

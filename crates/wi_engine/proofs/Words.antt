@@ -33,9 +33,10 @@ pub use Rattle.wi_cache.specs.declared.key.Key.{Key}
 pub use Rattle.wi_engine.specs.Inner.Attempt.{AsksAt, IsLacking, cell_known, known_in, lacking, lacking_after, lacks_cell}
 pub use Rattle.wi_engine.specs.Inner.Attempts.{IsAttemptOf}
 pub use Rattle.wi_engine.specs.Inner.Courses.{AreTogether, IsCourseTo, IsSmallestWith, is_next, part}
-pub use Rattle.wi_engine.specs.Inner.Findings.{AreAllRight, IsWithCell, IsWithWhatIf, first_for, first_of, found_value, pairs_of, same_pairs, what_if_found}
-pub use Rattle.wi_engine.specs.Inner.Frames.{AreBelow, AreReadHere, Awaits, BottomIs, IsBegun, IsDemanded, IsFormulaKey, IsFrame, IsNext, IsNextFormula, IsStack, IsUnvalued, IsUnvaluedFormula, IsUnvaluedKey, MayBeRead, StandsAt, at_most, case_at, content_reads_here, frame_cost, frames_cost, lacks, spare, taken, waits, waits_at}
+pub use Rattle.wi_engine.specs.Inner.Findings.{AreAllRight, IsWithCell, IsWithWhatIf, found_value, found_what_ifs, what_if_found}
+pub use Rattle.wi_engine.specs.Inner.Frames.{AreBelow, AreLinked, AreReadHere, Awaits, BottomIs, IsAwaited, IsBegun, IsDemanded, IsFormulaKey, IsFrame, IsNext, IsNextFormula, IsStack, IsUnvalued, IsUnvaluedFormula, IsUnvaluedKey, MayBeRead, StandsAt, at_most, case_at, content_reads_here, frame_cost, frames_cost, is_of_cell, key_above, lacks, spare, taken, waits}
 pub use Rattle.wi_engine.specs.Inner.Keeps.{HasKept, Keeps}
+pub use Rattle.wi_engine.specs.Inner.Lists.{first_for, first_of, pairs_of, same_pairs}
 pub use Rattle.wi_engine.specs.Inner.MemoState.{AreKnownRight, IsClosedUnderReads, IsMemoOf, IsTold, MemoState}
 pub use Rattle.wi_engine.specs.Inner.Remembered.{AreCones, OneQuestion, key_of, question_state, remembered}
 pub use Rattle.wi_engine.specs.Inner.Saving.{GivesUpWhenFull, IsValuedAnew, KeepsFound, NeedsNoEvaluation, TakesNoMore, TakesPlaces, WhereRoom, not_kept}
@@ -49,11 +50,11 @@ pub use Rattle.wi_engine.specs.declared.course.Course.{Course}
 pub use Rattle.wi_engine.specs.declared.course.Way.{Way}
 pub use Rattle.wi_engine.specs.declared.course.Way.TheVariants.{Alone, Column, Row, Whole}
 pub use Rattle.wi_engine.specs.declared.findings.Findings.{Findings}
-pub use Rattle.wi_engine.specs.declared.findings.FoundWhatIf.{FoundWhatIf}
 pub use Rattle.wi_engine.specs.declared.frame.Frame.{Frame}
 pub use Rattle.wi_engine.specs.declared.frame.Unvalued.{Unvalued}
 pub use Rattle.wi_engine.specs.declared.frame.Waiting.{Waiting}
 pub use Rattle.wi_engine.specs.declared.frame.Waiting.TheVariants.{Cells, Nothing}
+pub use Rattle.wi_engine.specs.declared.lists.FoundWhatIf.{FoundWhatIf}
 pub use Rattle.wi_engine.specs.declared.lookup.Known.{Known}
 pub use Rattle.wi_engine.specs.declared.seen.Seen.{Seen}
 pub use Rattle.wi_engine.specs.declared.walk.Progress.{Progress}

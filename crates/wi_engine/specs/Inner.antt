@@ -5,6 +5,7 @@ pub mod Courses
 pub mod Findings
 pub mod Frames
 pub mod Keeps
+pub mod Lists
 pub mod MemoState
 pub mod Remembered
 pub mod Saving

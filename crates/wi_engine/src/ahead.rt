@@ -3,15 +3,16 @@
 ghost use Rattle.std.specs.Prelude.{◌≡◌, ℕ, true, None, IfOk, IfSome, is_ok};
 ghost use Rattle.wi_engine.specs.Inner.MemoState.{IsMemoOf};
 ghost use Rattle.wi_engine.specs.Inner.Findings.{found_value};
-ghost use Rattle.wi_engine.specs.Inner.Frames.{IsFrame, IsNextFormula};
+ghost use Rattle.wi_engine.specs.Inner.Frames.{IsAwaited, IsFrame, IsNextFormula};
 ghost use Rattle.wi_engine.specs.Inner.Steps.{FrameSteps};
 ghost use Rattle.wi_engine.specs.declared.frame.Waiting.TheVariants as waiting;
 
 use crate::asked::remembered_value;
 use crate::frame::{Asked, Frame, Unvalued, Waiting};
 use crate::memo::Memo;
+use crate::pool::Pool;
 use crate::seen::formula_in;
-use std::alloc::{AllocError, Global};
+use std::alloc::AllocError;
 use wi_functions::first_cell;
 use wi_store::Store;
 
@@ -19,7 +20,7 @@ use wi_store::Store;
 /// vain, where the frame waits for nothing and no value was found for it yet. A cell that has to be evaluated first is given, and
 /// the frame waits for it. The work is that of `first_cell`, of `formula_in` and of `remembered_value`.
 pub(crate) fn look_ahead<'a, M: Memo>(
-    alloc: Global,
+    pool: &mut Pool,
     store: &'a Store,
     frame: &mut Frame<'a>,
     memo: &mut M,
@@ -30,6 +31,8 @@ pub(crate) fn look_ahead<'a, M: Memo>(
         frame.old frame.new 0 (is_ok result) }
     ensures next { IfOk result (λ o. IfSome o
         (IsNextFormula store.now.sheet (M.state memo.old) frame.old.key)) }
+    ensures awaited { IfOk result (λ o. IfSome o (λ u.
+        IsAwaited store.now.sheet frame.new.key.world frame.new.waiting u.key)) }
 {
     if !is_new(frame) {
         return Ok(None);
@@ -40,9 +43,10 @@ pub(crate) fn look_ahead<'a, M: Memo>(
     let Some(formula) = formula_in(store, &frame.key.world, at) else {
         return Ok(None);
     };
+    let alloc = pool.allocator();
     match remembered_value(alloc, &frame.key.world, at, formula, memo)? {
         Asked::Known(value) => {
-            frame.found.add_cell(at, value)?;
+            frame.found.add_cell(at, value, pool)?;
             Ok(None)
         }
         Asked::Unvalued(first) => {

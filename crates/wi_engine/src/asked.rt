@@ -41,6 +41,7 @@ pub(crate) fn value_now<'a, M: Memo>(
 
 /// The value of a cell that has this formula under replacements, where it is remembered; else the formula has to be evaluated. The
 /// work is that of `Memo::key`, of `Memo::look` and of a copy of the value.
+#[inline(always)]
 pub(crate) fn remembered_value<'a, M: Memo>(
     alloc: Global,
     world: &World,

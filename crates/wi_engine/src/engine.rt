@@ -1,25 +1,25 @@
 //! What a frame does, from one value to the next.
 
-ghost use Rattle.std.specs.Prelude.{◌≡◌, ◌==◌, ◌&&◌, ◌-◌, ◌∷◌, [], ◌⊎◌, ℕ, true, false, None, Ok, All, IfOk, IfSome, IfNone, OnOk, is_ok};
-ghost use Rattle.wi_values.specs.Replacements.{IsInOrder, same_replacements};
+ghost use Rattle.std.specs.Prelude.{◌≡◌, ◌-◌, ◌∷◌, [], ◌⊎◌, ℕ, true, false, None, Ok, All, IfOk, IfSome, IfNone, OnOk, is_ok};
+ghost use Rattle.wi_values.specs.Replacements.{IsInOrder};
 ghost use Rattle.wi_parser.specs.Sheet.{put_all};
 ghost use Rattle.wi_functions.specs.declared.evaluation.Want.TheVariants as wanted;
 ghost use Rattle.wi_graph.specs.Reach.{is_one_of};
 ghost use Rattle.wi_sheet.specs.CellValue as show;
-ghost use Rattle.wi_sheet.specs.Demand.{reaching};
 ghost use Rattle.wi_engine.specs.Inner.MemoState.{IsMemoOf};
 ghost use Rattle.wi_engine.specs.Inner.Attempt.{AsksAt, IsLacking, lacks_cell};
-ghost use Rattle.wi_engine.specs.Inner.Frames.{MayBeRead, StandsAt, AreReadHere, Awaits, IsFrame, IsNextFormula, case_at, waits, waits_at};
-ghost use Rattle.wi_engine.specs.Inner.Steps.{AreInputsOf, FrameSteps, FrameCounts, FrameTakes, FrameWaits, IsAdvanceOf};
+ghost use Rattle.wi_engine.specs.Inner.Frames.{MayBeRead, StandsAt, AreReadHere, Awaits, IsAwaited, IsFrame, IsNextFormula, case_at, is_of_cell, waits};
+ghost use Rattle.wi_engine.specs.Inner.Steps.{AreInputsOf, FrameSteps, FrameCounts, FrameTakes, FrameWaits, IsAdvanceOf, IsAwaitedBy};
 ghost use Rattle.wi_engine.specs.declared.frame.Waiting.TheVariants as waiting;
 
 use crate::ahead::look_ahead;
 use crate::asked::value_now;
 use crate::attempt::attempt;
-use crate::findings::FoundWhatIf;
 use crate::frame::{Advance, Asked, Frame, Inputs, Unvalued, Waiting};
 use crate::lacking::is_lacking;
+use crate::lists::FoundWhatIf;
 use crate::memo::Memo;
+use crate::pool::Pool;
 use crate::together::together;
 use std::alloc::{AllocError, Global};
 use std::mem;
@@ -84,7 +84,7 @@ fn next_lacking(store: &Store, frame: &Frame, cells: &mut Vec<Address>) -> Optio
 /// Finds the values of cells for a frame that waits for nothing else, so that it lacks none of them, or gives one that has
 /// to be evaluated first.
 fn settle_cells<'a, M: Memo>(
-    alloc: Global,
+    pool: &mut Pool,
     store: &'a Store,
     frame: &mut Frame<'a>,
     at: Address,
@@ -100,15 +100,18 @@ fn settle_cells<'a, M: Memo>(
         frame.old frame.new 1 (is_ok result) }
     ensures next { IfOk result (λ o. IfSome o
         (IsNextFormula store.now.sheet (M.state memo.old) frame.old.key)) }
+    ensures awaited { IfOk result (λ o. IfSome o (λ u.
+        IsAwaited store.now.sheet frame.new.key.world frame.new.waiting u.key)) }
     ensures settled { result ≡ Ok None → frame.new.waiting ≡ waiting.Nothing }
     ensures all { result ≡ Ok None → (d : ℕ) → is_one_of others.items d ≡ true
         → lacks_cell store.now.sheet frame.new.key.world frame.new.found d ≡ false }
 {
+    let alloc = pool.allocator();
     let mut others = others;
     let mut at = at;
     'cells: loop {
         match value_now(alloc, store, &frame.key.world, at, memo)? {
-            Asked::Known(value) => frame.found.add_cell(at, value)?,
+            Asked::Known(value) => frame.found.add_cell(at, value, pool)?,
             Asked::Unvalued(first) => {
                 frame.waiting = Waiting::Cells(at, others);
                 return Ok(Some(first));
@@ -124,7 +127,7 @@ fn settle_cells<'a, M: Memo>(
 /// Finds the value of a what-if for a frame that waits for nothing else, or gives a cell that has to be evaluated first: that of
 /// an input's value, and else its formula cell.
 fn settle_what_if<'a, M: Memo>(
-    alloc: Global,
+    pool: &mut Pool,
     store: &'a Store,
     frame: &mut Frame<'a>,
     at: Address,
@@ -140,8 +143,11 @@ fn settle_what_if<'a, M: Memo>(
         frame.old frame.new 1 (is_ok result) }
     ensures next { IfOk result (λ o. IfSome o
         (IsNextFormula store.now.sheet (M.state memo.old) frame.old.key)) }
+    ensures awaited { IfOk result (λ o. IfSome o (λ u.
+        IsAwaited store.now.sheet frame.new.key.world frame.new.waiting u.key)) }
     ensures settled { result ≡ Ok None → frame.new.waiting ≡ waiting.Nothing }
 {
+    let alloc = pool.allocator();
     match world_of_what_if(alloc, store, &frame.key.world, &pairs, memo)? {
         Inputs::Unvalued(first) => {
             frame.waiting = Waiting::WhatIf(at, pairs);
@@ -153,7 +159,9 @@ fn settle_what_if<'a, M: Memo>(
                 Ok(Some(first))
             }
             Asked::Known(value) => {
-                frame.found.add_what_if(FoundWhatIf { at, pairs, value })?;
+                frame
+                    .found
+                    .add_what_if(FoundWhatIf { at, pairs, value }, pool)?;
                 Ok(None)
             }
         },
@@ -162,7 +170,7 @@ fn settle_what_if<'a, M: Memo>(
 
 /// Finds what a frame waits for, or gives a cell that has to be evaluated first.
 fn settle<'a, M: Memo>(
-    alloc: Global,
+    pool: &mut Pool,
     store: &'a Store,
     frame: &mut Frame<'a>,
     memo: &mut M,
@@ -173,17 +181,24 @@ fn settle<'a, M: Memo>(
         frame.old frame.new 0 (is_ok result) }
     ensures next { IfOk result (λ o. IfSome o
         (IsNextFormula store.now.sheet (M.state memo.old) frame.old.key)) }
+    ensures awaited { IfOk result (λ o. IfSome o (λ u.
+        IsAwaited store.now.sheet frame.new.key.world frame.new.waiting u.key)) }
     ensures settled { result ≡ Ok None → frame.new.waiting ≡ waiting.Nothing }
 {
     match mem::replace(&mut frame.waiting, Waiting::Nothing) {
         Waiting::Nothing => Ok(None),
-        Waiting::Cells(at, others) => settle_cells(alloc, store, frame, at, others, memo),
-        Waiting::WhatIf(at, pairs) => settle_what_if(alloc, store, frame, at, pairs, memo),
+        Waiting::Cells(at, others) => settle_cells(pool, store, frame, at, others, memo),
+        Waiting::WhatIf(at, pairs) => settle_what_if(pool, store, frame, at, pairs, memo),
     }
 }
 
 /// Lets a frame wait for what its formula lacks: for a cell, with those that are found together with it.
-fn wait_for(alloc: Global, store: &Store, frame: &mut Frame, want: Want) -> Result<(), AllocError>
+fn wait_for(
+    pool: &mut Pool,
+    store: &Store,
+    frame: &mut Frame,
+    want: Want,
+) -> Result<(), AllocError>
     requires asks { AsksAt store.now.sheet frame.old.key.world frame.old.key.cell want }
     requires lacking { IsLacking store.now.sheet frame.old.key.world frame.old.found want }
     requires formula { StandsAt store.now.sheet frame.old.key frame.old.formula.now }
@@ -192,8 +207,8 @@ fn wait_for(alloc: Global, store: &Store, frame: &mut Frame, want: Want) -> Resu
 {
     match want {
         Want::Cell(at) => {
-            let batch = together(alloc, store, frame, at)?;
-            frame.keep_course(batch.course)?;
+            let batch = together(pool.allocator(), store, frame, at)?;
+            frame.keep_course(batch.course, pool)?;
             frame.waiting = Waiting::Cells(at, batch.cells);
             Ok(())
         }
@@ -206,7 +221,7 @@ fn wait_for(alloc: Global, store: &Store, frame: &mut Frame, want: Want) -> Resu
 
 /// Goes on with a frame until its value is there or another has to be found first.
 pub(crate) fn advance<'a, M: Memo>(
-    alloc: Global,
+    pool: &mut Pool,
     store: &'a Store,
     frame: &mut Frame<'a>,
     memo: &mut M,
@@ -219,29 +234,29 @@ pub(crate) fn advance<'a, M: Memo>(
     ensures gives { IfOk result
         (IsAdvanceOf store.now.sheet (M.state memo.old) frame.old meter.old meter.new) }
     ensures counts { FrameCounts store.now.sheet frame.old meter.old meter.new (is_ok result) }
+    ensures awaited { IfOk result (IsAwaitedBy store.now.sheet frame.new) }
 {
-    if let Some(ahead) = look_ahead(alloc, store, frame, memo)? {
+    if let Some(ahead) = look_ahead(pool, store, frame, memo)? {
         return Ok(Advance::Unvalued(ahead));
     }
     'rounds: loop {
-        if let Some(first) = settle(alloc, store, frame, memo)? {
+        if let Some(first) = settle(pool, store, frame, memo)? {
             return Ok(Advance::Unvalued(first));
         }
-        match attempt(alloc, store, frame, meter)? {
+        match attempt(pool.allocator(), store, frame, meter)? {
             Outcome::Done(value) => return Ok(Advance::Done(value)),
-            Outcome::Needs(want) => wait_for(alloc, store, frame, want)?,
+            Outcome::Needs(want) => wait_for(pool, store, frame, want)?,
         }
     }
 }
 
-/// Whether a frame waits for the value of a key's cell, under the replacements of the key.
-fn waits_for(frame: &Frame, key: &Key) -> bool
-    ensures { result ≡ (waits_at frame.now.waiting key.now.cell
-        && same_replacements frame.now.key.world key.now.world) }
+/// Whether a frame waits for the value of a cell.
+fn waits_for_cell(frame: &Frame) -> bool
+    ensures { result ≡ is_of_cell frame.now.waiting }
 {
     match &frame.waiting {
         Waiting::Nothing => false,
-        Waiting::Cells(at, _) => *at == key.cell && frame.key.world == key.world,
+        Waiting::Cells(_, _) => true,
         Waiting::WhatIf(_, _) => false,
     }
 }
@@ -258,10 +273,10 @@ fn wait_for_others(store: &Store, frame: &mut Frame, others: Vec<Address>)
     }
 }
 
-/// Takes in the value that was found for a key, where a frame waits for it, so that it isn't looked up. The frame then waits for
+/// Takes in the value that was found for a key, where a frame waits for its cell, so that it isn't looked up. The frame then waits for
 /// the next cell that it lacks.
 pub(crate) fn take_in(
-    alloc: Global,
+    pool: &mut Pool,
     store: &Store,
     frame: &mut Frame,
     key: &Key,
@@ -269,19 +284,19 @@ pub(crate) fn take_in(
 ) -> Result<(), AllocError>
     requires awaits { Awaits store.now.sheet
         (case_at frame.old.key) frame.old.found frame.old.waiting }
-    requires own { reaching store.now.sheet key.now.cell key.now.world ≡ key.now.world }
+    requires awaited { IsAwaited store.now.sheet frame.old.key.world frame.old.waiting key.now }
     requires right { value.now
         ≡ show.cell_value (put_all store.now.sheet key.now.world) key.now.cell }
     ensures { FrameTakes store.now.sheet key.now frame.old frame.new (is_ok result) }
 {
-    if !waits_for(frame, key) {
+    if !waits_for_cell(frame) {
         return Ok(());
     }
     let Waiting::Cells(at, others) = mem::replace(&mut frame.waiting, Waiting::Nothing) else {
         unreachable!()
     };
-    let shown = value.copy(alloc)?;
-    frame.found.add_cell(at, shown)?;
+    let shown = value.copy(pool.allocator())?;
+    frame.found.add_cell(at, shown, pool)?;
     wait_for_others(store, frame, others);
     Ok(())
 }

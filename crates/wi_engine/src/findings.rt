@@ -1,82 +1,41 @@
 //! The values that were found for one formula.
 
-ghost use Rattle.std.specs.Prelude.{◌≡◌, ℕ, [], map, true, None, OnOk, OnErr};
+ghost use Rattle.std.specs.Prelude.{◌≡◌, ℕ, [], map, true, None, OnOk};
 ghost use Rattle.std.specs.Option.{option_copied};
 ghost use Rattle.wi_parser.specs.View.{pair_of};
 ghost use Rattle.wi_arguments.specs.Assignment.{addresses};
-ghost use Rattle.wi_engine.specs.Inner.Findings.{same_pairs, found_value, what_if_found, IsWithCell, IsWithWhatIf, IsSame};
+ghost use Rattle.wi_engine.specs.Inner.Findings.{found_value, found_what_ifs, what_if_found, IsWithCell, IsWithWhatIf};
 
-use crate::rising::Rising;
-use std::alloc::{AllocError, Global};
-use std::collections::BTreeMap;
+use crate::lists::{FoundWhatIf, Lists};
+use crate::pool::Pool;
+use std::alloc::AllocError;
 use wi_parser::Pair;
 use wi_values::{Address, Value};
 
-/// How many values of cells stand in a list that is gone through.
-const MAX_LISTED: usize = 8;
-
-/// A what-if's value.
-#[derive(Drop)]
-pub struct FoundWhatIf {
-    pub at: Address,
-    pub pairs: Vec<Pair>,
-    pub value: Value,
-}
-
-/// The values that were found for one formula: of cells, and of what-ifs, which are few. Most formulas rest on few cells too, so
-/// that the list of the first suffices; a fold over many finds them in row-major order. Arrays are used again for other formulas.
+/// The values that were found for one formula: of cells, and of what-ifs. Until the first is found there are no lists of them, so that
+/// of the formulas that wait for one another only those have lists for which something was found.
 #[derive(Drop)]
 pub struct Findings {
-    /// Those of the first cells, as they were found.
-    pub first: Vec<(Address, Value)>,
-    /// Those of later cells, of which each came after all that stood here.
-    pub rising: Rising,
-    /// Those of the cells that are left, such as the second of two columns.
-    pub others: BTreeMap<Address, Value>,
-    pub what_ifs: Vec<FoundWhatIf>,
+    pub lists: Option<Box<Lists>>,
 }
 
 impl Findings {
     /// No values yet. Takes no memory.
-    pub(crate) fn new(alloc: Global) -> Findings
-        ensures first { result.first.items ≡ [] }
-        ensures rising { result.rising ≡ [] }
-        ensures others { result.others.entries ≡ [] }
-        ensures what_ifs { result.what_ifs.items ≡ [] }
+    pub(crate) fn new() -> Findings
+        ensures cells { (c : ℕ) → found_value result c ≡ None }
+        ensures what_ifs { found_what_ifs result ≡ [] }
     {
-        Findings {
-            first: Vec::new(alloc),
-            rising: Rising::new(alloc),
-            others: BTreeMap::new(alloc),
-            what_ifs: Vec::new(alloc),
-        }
-    }
-
-    /// Takes the values away. Arrays keep their memory. The work grows with the count of values.
-    #[inline(always)]
-    pub(crate) fn clear(&mut self)
-        ensures cells { (c : ℕ) → found_value self.new c ≡ None }
-        ensures what_ifs { self.new.what_ifs.items ≡ [] }
-    {
-        self.first.clear();
-        self.rising.clear();
-        self.others.clear();
-        self.what_ifs.clear();
-    }
-
-    /// Whether no array that grows with the cells found has more than so many values.
-    pub(crate) fn is_within(&self, most: usize) -> bool {
-        self.rising.count() <= most && self.what_ifs.len() <= most
+        Findings { lists: None }
     }
 
     /// Whether no value was found.
     pub(crate) fn is_empty(&self) -> bool
         ensures { result ≡ true → (c : ℕ) → found_value self.now c ≡ None }
     {
-        self.first.is_empty()
-            && self.what_ifs.is_empty()
-            && self.rising.is_empty()
-            && self.others.is_empty()
+        match self.lists {
+            Some(_) => false,
+            None => true,
+        }
     }
 
     /// The value found of a cell. The work grows with the logarithm of the count of cells found.
@@ -84,14 +43,9 @@ impl Findings {
     pub(crate) fn cell(&self, at: Address) -> Option<&Value>
         ensures { option_copied result ≡ found_value self.now at }
     {
-        for cell in &self.first {
-            if cell.0 == at {
-                return Some(&cell.1);
-            }
-        }
-        match self.rising.value(at) {
-            Some(value) => Some(value),
-            None => self.others.get(&at),
+        match &self.lists {
+            Some(lists) => lists.cell(at),
+            None => None,
         }
     }
 
@@ -100,57 +54,56 @@ impl Findings {
         ensures { option_copied result
             ≡ what_if_found self.now at (map addresses (map pair_of pairs.now)) }
     {
-        for found in &self.what_ifs {
-            if found.at == at && are_same(&found.pairs, pairs) {
-                return Some(&found.value);
-            }
+        match &self.lists {
+            Some(lists) => lists.what_if(at, pairs),
+            None => None,
         }
-        None
     }
 
-    /// Adds the value of a cell of which none was found. The work grows with the logarithm of the count of cells found.
+    /// Adds the value of a cell of which none was found. For the first value lists are taken from a pool. The work grows with the
+    /// logarithm of the count of cells found.
     #[inline(always)]
-    pub(crate) fn add_cell(&mut self, at: Address, value: Value) -> Result<(), AllocError>
+    pub(crate) fn add_cell(
+        &mut self,
+        at: Address,
+        value: Value,
+        pool: &mut Pool,
+    ) -> Result<(), AllocError>
         requires { found_value self.old at ≡ None }
-        ensures ok { OnOk result (IsWithCell self.old self.new at value) }
-        ensures err { OnErr result (IsSame self.old self.new) }
+        ensures { OnOk result (IsWithCell self.old self.new at value) }
     {
-        if self.first.len() < MAX_LISTED {
-            self.first.push((at, value))?;
-            return Ok(());
-        }
-        if self.rising.ends_before(at) {
-            self.rising.push(at, value)?;
-            return Ok(());
-        }
-        self.others.insert(at, value)?;
-        Ok(())
-    }
-
-    /// Adds a what-if's value, behind the others.
-    pub(crate) fn add_what_if(&mut self, found: FoundWhatIf) -> Result<(), AllocError>
-        ensures ok { OnOk result (IsWithWhatIf self.old self.new found) }
-        ensures err { OnErr result (IsSame self.old self.new) }
-    {
-        self.what_ifs.push(found)?;
-        Ok(())
-    }
-}
-
-/// Whether two lists name the same inputs and replacement cells.
-fn are_same(a: &[Pair], b: &[Pair]) -> bool
-    ensures { result ≡ same_pairs (map addresses (map pair_of a.now))
-        (map addresses (map pair_of b.now)) }
-{
-    match a {
-        [] => b.is_empty(),
-        [x, a_rest @ ..] => match b {
-            [] => false,
-            [y, b_rest @ ..] => {
-                x.input.at == y.input.at
-                    && x.replacement.at == y.replacement.at
-                    && are_same(a_rest, b_rest)
+        match &mut self.lists {
+            Some(lists) => lists.add_cell(at, value),
+            None => {
+                let mut lists = pool.take()?;
+                lists.add_cell(at, value)?;
+                self.lists = Some(lists);
+                Ok(())
             }
-        },
+        }
+    }
+
+    /// Adds a what-if's value, behind the others. For the first value lists are taken from a pool.
+    pub(crate) fn add_what_if(&mut self, found: FoundWhatIf, pool: &mut Pool) -> Result<(), AllocError>
+        ensures { OnOk result (IsWithWhatIf self.old self.new found) }
+    {
+        match &mut self.lists {
+            Some(lists) => lists.add_what_if(found),
+            None => {
+                let mut lists = pool.take()?;
+                lists.add_what_if(found)?;
+                self.lists = Some(lists);
+                Ok(())
+            }
+        }
+    }
+
+    /// Puts the lists into a pool, if there are any. The work is that of `Pool::put`.
+    #[inline(always)]
+    pub(crate) fn give_back(self, pool: &mut Pool) {
+        match self.lists {
+            Some(lists) => pool.put(lists),
+            None => {}
+        }
     }
 }

@@ -1,13 +1,13 @@
 //! A cell whose value is being found.
 
 ghost use Rattle.std.specs.Prelude.{◌≡◌, ℕ, [], None, Contains, IfSome};
-ghost use Rattle.wi_engine.specs.Inner.Findings.{found_value};
+ghost use Rattle.wi_engine.specs.Inner.Findings.{found_value, found_what_ifs};
 ghost use Rattle.wi_engine.specs.declared.frame.Waiting.TheVariants.{Nothing};
 
 use crate::course::Course;
 use crate::findings::Findings;
-use crate::pool::{Arrays, Pool};
-use std::alloc::AllocError;
+use crate::pool::Pool;
+use std::alloc::{AllocError, Global};
 use wi_cache::Key;
 use wi_parser::{Formula, Pair};
 use wi_values::{Address, Rect, Value};
@@ -35,25 +35,21 @@ pub struct Frame<'a> {
 }
 
 impl<'a> Frame<'a> {
-    /// A frame with no values yet, in arrays out of which goes what was in them. Takes no memory. The work grows with the count
-    /// of what goes.
-    pub(crate) fn new(key: Key, formula: &'a Formula, arrays: Arrays) -> Frame<'a>
+    /// A frame with no values yet. Takes no memory.
+    #[inline(always)]
+    pub(crate) fn new(alloc: Global, key: Key, formula: &'a Formula) -> Frame<'a>
         ensures key { result.key ≡ key }
         ensures formula { result.formula.now ≡ formula.now }
         ensures cells { (c : ℕ) → found_value result.found c ≡ None }
-        ensures what_ifs { result.found.what_ifs.items ≡ [] }
+        ensures what_ifs { found_what_ifs result.found ≡ [] }
         ensures waiting { result.waiting ≡ Nothing }
     {
-        let mut found = arrays.found;
-        let mut courses = arrays.courses;
-        found.clear();
-        courses.clear();
         Frame {
             key,
             formula,
-            found,
+            found: Findings::new(),
             waiting: Waiting::Nothing,
-            courses,
+            courses: Vec::new(alloc),
         }
     }
 
@@ -70,12 +66,16 @@ impl<'a> Frame<'a> {
         None
     }
 
-    /// Keeps a course, in the place of an earlier one through its rectangle. The work grows with the count of courses.
-    pub(crate) fn keep_course(&mut self, course: Course) -> Result<(), AllocError>
+    /// Keeps a course, in the place of an earlier one through its rectangle. For the first one a list is taken from a pool. The work
+    /// grows with the count of courses.
+    pub(crate) fn keep_course(&mut self, course: Course, pool: &mut Pool) -> Result<(), AllocError>
         ensures key { self.new.key ≡ self.old.key }
         ensures formula { self.new.formula.now ≡ self.old.formula.now }
         ensures found { self.new.found ≡ self.old.found }
     {
+        if self.courses.is_empty() {
+            self.courses = pool.take_courses();
+        }
         for kept in self.courses.iter_mut() {
             if kept.rectangle == course.rectangle {
                 *kept = course;
@@ -91,10 +91,8 @@ impl<'a> Frame<'a> {
     pub(crate) fn retire(self, pool: &mut Pool) -> Key
         ensures { result ≡ self.entry.key }
     {
-        pool.put(Arrays {
-            found: self.found,
-            courses: self.courses,
-        });
+        self.found.give_back(pool);
+        pool.put_courses(self.courses);
         self.key
     }
 }

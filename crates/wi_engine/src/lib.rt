@@ -11,6 +11,7 @@ mod filled;
 mod findings;
 mod frame;
 mod lacking;
+mod lists;
 mod lookup;
 mod memo;
 mod occupied;

@@ -1,33 +1,23 @@
 //! Arrays of frames that are done, for those to come.
 
-use crate::course::Course;
-use crate::findings::Findings;
-use std::alloc::Global;
+ghost use Rattle.std.specs.Prelude.{◌≡◌, ℕ, [], None, IfOk};
+ghost use Rattle.wi_engine.specs.Inner.Lists.{listed_value};
 
-/// Of how many frames the arrays are kept. Formulas that are evaluated one after another seldom stand deeper in one another.
+use crate::course::Course;
+use crate::lists::Lists;
+use std::alloc::{AllocError, Global};
+
+/// How many lists of values are kept, and of courses. Formulas that are evaluated one after another seldom stand deeper in one another.
 const MAX_KEPT: usize = 64;
 
 /// How many values or courses an array may have that is kept. A pool takes less than a megabyte then.
 const MAX_FILLED: usize = 64;
 
-/// What a frame fills.
-#[derive(Drop)]
-pub struct Arrays {
-    pub found: Findings,
-    pub courses: Vec<Course>,
-}
-
-impl Arrays {
-    /// Whether none of them takes much memory.
-    fn are_small(&self) -> bool {
-        self.found.is_within(MAX_FILLED) && self.courses.len() <= MAX_FILLED
-    }
-}
-
 /// Arrays whose memory is used again, by later formulas of a question and by later questions.
 #[derive(Drop)]
 pub struct Pool {
-    kept: Vec<Arrays>,
+    lists: Vec<Box<Lists>>,
+    courses: Vec<Vec<Course>>,
     alloc: Global,
 }
 
@@ -35,7 +25,8 @@ impl Pool {
     /// No arrays. Takes no memory.
     pub fn new(alloc: Global) -> Pool {
         Pool {
-            kept: Vec::new(alloc),
+            lists: Vec::new(alloc),
+            courses: Vec::new(alloc),
             alloc,
         }
     }
@@ -45,25 +36,48 @@ impl Pool {
         self.alloc
     }
 
-    /// The arrays that were put in last, or new ones, without values. Takes no memory.
-    pub(crate) fn take(&mut self) -> Arrays {
-        match self.kept.pop() {
-            Some(arrays) => arrays,
-            None => Arrays {
-                found: Findings::new(self.alloc),
-                courses: Vec::new(self.alloc),
-            },
+    /// The lists that were put in last, or new ones, without values.
+    #[inline(always)]
+    pub(crate) fn take(&mut self) -> Result<Box<Lists>, AllocError>
+        ensures cells { IfOk result (λ lists. (c : ℕ) → listed_value lists.value c ≡ None) }
+        ensures what_ifs { IfOk result (λ lists. lists.value.what_ifs.items ≡ []) }
+    {
+        match self.lists.pop() {
+            Some(mut lists) => {
+                lists.clear();
+                Ok(lists)
+            }
+            None => Ok(Box::new(self.alloc, Lists::new(self.alloc))?),
         }
     }
 
-    /// Puts arrays in, without what is in them. They go where there are many already or they are large, and where memory
-    /// runs out. The work grows with the count of what is in them; the list may take memory for more.
+    /// Puts lists in, without their values. They go where there are many already or they are large, and where memory
+    /// runs out. The work grows with the count of their values; the pool may take memory for more.
     #[inline(always)]
-    pub(crate) fn put(&mut self, mut arrays: Arrays) {
-        if self.kept.len() < MAX_KEPT && arrays.are_small() {
-            arrays.found.clear();
-            arrays.courses.clear();
-            let _ = self.kept.push(arrays);
+    pub(crate) fn put(&mut self, mut lists: Box<Lists>) {
+        if self.lists.len() < MAX_KEPT && lists.is_within(MAX_FILLED) {
+            lists.clear();
+            let _ = self.lists.push(lists);
+        }
+    }
+
+    /// The courses that were put in last, or a new list, without courses. Takes no memory.
+    pub(crate) fn take_courses(&mut self) -> Vec<Course> {
+        match self.courses.pop() {
+            Some(courses) => courses,
+            None => Vec::new(self.alloc),
+        }
+    }
+
+    /// Puts a list of courses in, as `put`, if it has any.
+    #[inline(always)]
+    pub(crate) fn put_courses(&mut self, mut courses: Vec<Course>) {
+        if courses.is_empty() {
+            return;
+        }
+        if self.courses.len() < MAX_KEPT && courses.len() <= MAX_FILLED {
+            courses.clear();
+            let _ = self.courses.push(courses);
         }
     }
 }

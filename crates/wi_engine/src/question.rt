@@ -36,7 +36,7 @@ impl<M: Memo + Drop> Question<M> {
     /// The value of a cell under replacements, with what is remembered of others, and of it. A formula is evaluated where no
     /// value is remembered for its key, and each only once, however many rest on it. No formula calls for another on the
     /// machine's stack: those that wait stand in a list, which grows as the references lead on. Each takes its arrays
-    /// from a pool, into which they go when its value is there.
+    /// from a pool when something is found for it, and they go back there when its value is there.
     pub fn value(&mut self, store: &Store, world: &World, at: Address) -> Result<Value, AllocError>
         requires memo { IsMemoOf store.now.sheet (M.state self.old.memo) }
         requires read { MayBeRead store.now.sheet (M.state self.old.memo) at }
@@ -87,12 +87,18 @@ impl<M: Memo + Drop> Question<M> {
     {
         let alloc = self.pool.allocator();
         let mut stack = Vec::new(alloc);
-        let mut frame = Frame::new(key, formula, self.pool.take());
+        let mut frame = Frame::new(alloc, key, formula);
         'frames: loop {
-            match advance(alloc, store, &mut frame, &mut self.memo, &mut self.meter)? {
+            match advance(
+                &mut self.pool,
+                store,
+                &mut frame,
+                &mut self.memo,
+                &mut self.meter,
+            )? {
                 Advance::Unvalued(next) => {
                     stack.push(frame)?;
-                    frame = Frame::new(next.key, next.formula, self.pool.take());
+                    frame = Frame::new(alloc, next.key, next.formula);
                 }
                 Advance::Done(value) => match stack.pop() {
                     None => {
@@ -104,7 +110,7 @@ impl<M: Memo + Drop> Question<M> {
                     Some(below) => {
                         let key = frame.retire(&mut self.pool);
                         frame = below;
-                        take_in(alloc, store, &mut frame, &key, &value)?;
+                        take_in(&mut self.pool, store, &mut frame, &key, &value)?;
                         self.memo.keep(key, value)?;
                     }
                 },

@@ -1,6 +1,6 @@
 //! One formula's value.
 
-ghost use Rattle.std.specs.Prelude.{◌≡◌, map, IfOk, OnErr, MatchResult};
+ghost use Rattle.std.specs.Prelude.{◌≡◌, map, IfOk, IfSome, OnErr, MatchResult};
 ghost use Rattle.wi_parser.specs.View.{tree_of, all_of, pair_of};
 ghost use Rattle.wi_parser.specs.Tree.{cell, rectangle, signed, percent, binary, call};
 ghost use Rattle.wi_parser.specs.Tree.{what_if as what_if_tree};
@@ -11,7 +11,7 @@ ghost use Rattle.wi_arguments.specs.Arguments.{arguments_in};
 ghost use Rattle.wi_functions.specs.Meaning as formulas;
 ghost use Rattle.wi_functions.specs.Operators as operators;
 ghost use Rattle.wi_functions.specs.Counts.{counted};
-ghost use Rattle.wi_functions.specs.Evaluation.{IsOutcomeOf};
+ghost use Rattle.wi_functions.specs.Evaluation.{ByAll, IsOutcomeOf};
 ghost use Rattle.wi_functions.specs.Inner.Calls.{values_of, ReferInside};
 ghost use Rattle.wi_functions.specs.Inner.Parts.{of_tree, of_parameters, mapped, stopped};
 ghost use Rattle.wi_functions.specs.Inner.Parts.{EvaluatesAs, Evaluates};
@@ -108,7 +108,10 @@ fn value_of<L: Lookup>(alloc: Global, expr: &Expr, lookup: &L) -> Result<Value, 
         Expr::Parenthesized(inner) => value_of(alloc, inner, lookup),
         Expr::Signed(sign, inner) => signed_value(alloc, *sign, inner, lookup),
         Expr::Percent(inner) => percent_value(alloc, inner, lookup),
-        Expr::Binary(operator, left, right) => binary_value(alloc, *operator, left, right, lookup),
+        Expr::Binary(operator, left, right) => match lent(left, lookup) {
+            Some(x) => with_right_operand(alloc, *operator, x, right, lookup),
+            None => binary_value(alloc, *operator, left, right, lookup),
+        },
         Expr::WhatIf(formula_cell, pairs) => what_if_value(alloc, *formula_cell, pairs, lookup),
         Expr::Call(name, parameters) => call_value(alloc, name, parameters, lookup),
     }
@@ -171,6 +174,12 @@ fn with_right_operand<L: Lookup>(
     ensures { Evaluates L.known_cell L.known_what_if lookup.now result
         (mapped (operators.operate operator left.now) (of_tree (tree_of right.now))) }
 {
+    if let Some(y) = lent(right, lookup) {
+        return Ok(operate(alloc, operator, left, y)?);
+    }
+    if let Expr::Number(y) = right {
+        return Ok(operate(alloc, operator, left, &Value::Number(*y))?);
+    }
     let y = value_of(alloc, right, lookup)?;
     Ok(operate(alloc, operator, left, &y)?)
 }
@@ -208,7 +217,6 @@ fn call_value<L: Lookup>(
 /// What a function gives that evaluates its first parameter, and then the one that this chooses and
 /// no other.
 #[cycle(evaluating)]
-#[inline(never)]
 fn lazy_value<L: Lookup>(
     alloc: Global,
     function: LazyFunction,
@@ -229,7 +237,7 @@ fn lazy_value<L: Lookup>(
 
 /// The value of the parameter at a place, counted from 0, or else the default.
 #[cycle(evaluating)]
-#[inline(never)]
+#[inline(always)]
 fn parameter_or<L: Lookup>(
     alloc: Global,
     parameters: &[Expr],
@@ -308,6 +316,20 @@ fn cell_value<L: Lookup>(
     match lookup.cell(reference.at) {
         LookedUp::Known(value) => Ok(value.copy(alloc)?),
         LookedUp::Missing => Err(Stop::Missing(Want::Cell(reference.at))),
+    }
+}
+
+/// The value of an expression that is a cell, where that is known, so that an operator takes it as it is lent.
+fn lent<'a, L: Lookup>(expr: &Expr, lookup: &'a L) -> Option<&'a Value>
+    ensures { IfSome result (λ v. ByAll L.known_cell L.known_what_if lookup.now
+        (λ a. v.now ≡ formulas.meaning (tree_of expr.now) a.cells a.what_ifs)) }
+{
+    let Expr::Cell(reference) = expr else {
+        return None;
+    };
+    match lookup.cell(reference.at) {
+        LookedUp::Known(value) => Some(value),
+        LookedUp::Missing => None,
     }
 }
 

@@ -43,6 +43,7 @@ fn first_of(expr: &Expr) -> Option<Address>
 /// A cell that each evaluation of a call asks for: that of its first parameter, where the function
 /// evaluates this in any case.
 #[cycle(looking)]
+#[inline(never)]
 fn first_of_call(name: &Text, parameters: &[Expr]) -> Option<Address>
     ensures { IfSome result (λ a. AnyAsks (all_of parameters.now) (wanted.Cell a)) }
 {

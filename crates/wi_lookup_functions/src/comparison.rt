@@ -14,6 +14,17 @@ use wi_values::{Text, Value};
 pub fn compare(alloc: Global, left: &Value, right: &Value) -> Ordering
     ensures { result ≡ order (beside right.now left.now) (beside left.now right.now) }
 {
+    match (left, right) {
+        (Value::Number(x), Value::Number(y)) => x.cmp(y),
+        _ => compare_any(alloc, left, right),
+    }
+}
+
+/// The same for values of any kinds.
+#[inline(never)]
+fn compare_any(alloc: Global, left: &Value, right: &Value) -> Ordering
+    ensures { result ≡ order (beside right.now left.now) (beside left.now right.now) }
+{
     let left_empty = empty_beside(alloc, right);
     let right_empty = empty_beside(alloc, left);
     order(or_empty(left, &left_empty), or_empty(right, &right_empty))

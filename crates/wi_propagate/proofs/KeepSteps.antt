@@ -87,7 +87,3 @@ gives_up_after (Ok x) s edits g es fs m n k v h = by_old (value_for m.entries k)
           room = omega (arith, len, cap);
           stays = λ l q i. let few : length m.entries < m.capacity = omega (arith, len, cap, l) in stays_put m.entries n.entries k q v (h.stays (inr few)) i;
         }
-
--- copies are put in
-pub put_found : (es fs : Entries) (j k : Key) (u v : Value) → j ≡ k → u ≡ v → Puts es fs j u → Puts es fs k v
-put_found es fs j k u v e h p = subst (λ (x : Key). Puts es fs x v) e (subst (λ (y : Value). Puts es fs j y) h p)

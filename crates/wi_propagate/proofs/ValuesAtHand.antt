@@ -1,6 +1,7 @@
 -- What is kept or was given up in a question: a value comes, and none goes.
-use Rattle.wi_propagate.proofs.Words.{◌≡◌, ◌≤◌, ◌-◌, ◌⊎◌, inl, inr, ◌||◌, ℕ, Bool, true, false, cond, nat_lt, List, [], ◌∷◌, length, slice_get, Option, Some, None, IfSome, IsSome, is_some, Result, Ok, Err, OnOk, refl, ap, sym, ◌∙◌, subst, arith, if◌then◌else◌, nat_tests, lookup_from_place, slice_get_cases, update, option_or, AllocError, Value, Replacement, Key, Entries, KeptValues, HasOneEach, Puts, going, same_key, value_for, key_means, same_key_equiv, same_case, known_still, known_then, Generations, generation_in, key_in, TakesOver}
+use Rattle.wi_propagate.proofs.Words.{◌≡◌, ◌≤◌, ◌-◌, ◌⊎◌, inl, inr, ◌||◌, ℕ, Bool, true, false, cond, nat_lt, List, [], ◌∷◌, length, slice_get, Option, Some, None, IfSome, IsSome, is_some, Result, Ok, Err, OnOk, refl, ap, sym, ◌∙◌, subst, arith, if◌then◌else◌, nat_tests, lookup_from_place, slice_get_cases, update, option_or, AllocError, Value, Replacement, Key, Entries, KeptValues, HasOneEach, Puts, going, same_key, value_for, key_means, same_key_equiv, same_case, known_still, known_then, Keeps, Generations, generation_in, key_in, Keeping, TakesOver, state_in, value_in}
 use Rattle.wi_propagate.proofs.KeepSteps.{KeepsIn, put_is_some}
+use Rattle.wi_propagate.proofs.RightValues.{told_in}
 
 -- ---- the entry that goes for a new value
 
@@ -121,3 +122,29 @@ module _ (es fs : Entries) (m n : KeptValues) (k : Key) (v : Value) (one_each : 
         OnOk r ((c : ℕ) (w : List Replacement) → is_some (after (key_in g c w)) ≡ (is_some (before (key_in g c w)) || same_case (k.cell, k.world) (c, w)))
     found_after (Ok x) h e = put_is_some g before after k v e (accepted h)
     found_after (Err x) h e = tt
+
+-- ---- what went is given up, and where memory runs out nothing is kept
+
+abbrev pub done : Result (Unit {0}) AllocError
+done = Ok tt
+
+-- there is room for what goes
+pub room_for : (o : Option (Key × Value)) (n : ℕ) → 1 ≤ n → IfSome o (λ _. 1 ≤ n)
+room_for None n h = tt
+room_for (Some e) n h = h
+
+pub given_over : {o p : Option (Key × Value)} {es fs gs : Entries} → p ≡ o → fs ≡ es → TakesOver p fs gs → TakesOver o es gs
+given_over {o} {p} {es} {fs} {gs} e f h = subst (λ (x : Option (Key × Value)). TakesOver x es gs) e (subst (λ (x : Entries). TakesOver p x gs) f h)
+
+pub keeps_nothing : (q r : Keeping) (k : Key) (v : Value) → r ≡ q → Keeps (state_in q) (state_in r) k v
+keeps_nothing q r k v e = subst (λ (x : Keeping). Keeps (state_in q) (state_in x) k v) (sym e) (record {
+  sheet = refl;
+  same = record { covers = refl; generation = refl; capacity = refl; latest = refl };
+  known = λ c w. known_still (value_in q (key_in q.generations c w)) (value_in q (key_in q.generations c w)) k (key_in q.generations c w) v refl;
+  told = told_in q;
+  places = λ ks d. omega arith;
+  gives_up = record { room = omega arith; stays = λ r j i. i };
+})
+
+pub stays_found : (q r : Keeping) → r ≡ q → (c : ℕ) (w : List Replacement) → is_some (value_in q (key_in q.generations c w)) ≡ true → is_some (value_in r (key_in r.generations c w)) ≡ true
+stays_found q r e c w h = subst (λ (x : Keeping). is_some (value_in x (key_in x.generations c w)) ≡ true) (sym e) h

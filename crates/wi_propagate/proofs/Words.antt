@@ -22,13 +22,14 @@ pub use Rattle.std.specs.Map.{keys_of, lookup, set_value, update}
 pub use Rattle.std.specs.Option.{option_or, unwrap_or}
 pub use Rattle.std.specs.Ordering.{eq_by_cmp, nat_cmp}
 pub use Rattle.std.specs.declared.alloc.AllocError.{AllocError}
-pub use Rattle.wi_cache.proofs.Callers.{holds_after_keep}
+pub use Rattle.wi_cache.proofs.Callers.{holds_after_keep, none_goes_before}
 pub use Rattle.wi_cache.proofs.Keys.{key_itself, key_means, same_key_equiv}
 pub use Rattle.wi_cache.specs.Entries.{Entries, HasOneEach, HasRoom, KeptValues, Puts, PutsForGoing, PutsForOne, going, kept, len_after, same_key, value_for}
 pub use Rattle.wi_cache.specs.declared.key.Key.{Key}
 pub use Rattle.wi_engine.proofs.Ledger.{spends_err, spends_then, spends_weaken, where_then}
 pub use Rattle.wi_engine.proofs.Places.{has_kept, known_still, known_then, none_went}
 pub use Rattle.wi_engine.specs.Inner.Frames.{MayBeRead}
+pub use Rattle.wi_engine.specs.Inner.Keeps.{Keeps}
 pub use Rattle.wi_engine.specs.Inner.MemoState.{IsMemoOf, IsTold, MemoState}
 pub use Rattle.wi_engine.specs.Inner.Remembered.{OneQuestion, question_state, remembered}
 pub use Rattle.wi_engine.specs.Inner.Saving.{GivesUpWhenFull, IsValuedAnew, KeepsFound, NeedsNoEvaluation, TakesNoMore, TakesPlaces, WhereRoom}

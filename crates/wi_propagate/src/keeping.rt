@@ -1,8 +1,9 @@
 //! What is remembered in one question, and what is kept for longer.
 
-ghost use Rattle.std.specs.Prelude.{◌≡◌, ◌≤◌, [], None, length, IfOk, OnOk, OnErr};
+ghost use Rattle.std.specs.Prelude.{◌≡◌, ◌≤◌, [], None, length, IfSome, OnOk};
 ghost use Rattle.wi_graph.specs.Edges.{AreEdgesOf};
-ghost use Rattle.wi_cache.specs.Entries.{HasOneEach, Puts, going};
+ghost use Rattle.wi_cache.specs.Entries.{HasOneEach, going};
+ghost use Rattle.wi_cache.specs.declared.key.Key.{Key as Keys};
 ghost use Rattle.wi_engine.specs.Inner.MemoState.{IsMemoOf};
 ghost use Rattle.wi_propagate.specs.Inner.Cones.{AreAllCones};
 ghost use Rattle.wi_propagate.specs.Inner.Keeping.{keeping, state_in, IsKeepingRight, TakesOver};
@@ -12,15 +13,15 @@ use crate::cones::add_cones;
 use crate::generations::Generations;
 use std::alloc::{AllocError, Global};
 use std::marker::Model;
-use wi_cache::{Kept, Key, RunTable};
+use wi_cache::{GivenUp, Kept, Key};
 use wi_engine::Memo;
 use wi_graph::Graph;
 use wi_store::Store;
 use wi_values::{Address, Value};
 use wi_worlds::{Reaches, World};
 
-/// What is remembered in one question: the values that are kept for longer, and a copy of each that was given up in it, so that
-/// none is lost before it ends.
+/// What is remembered in one question: the values that are kept for longer, and those that were given up in it, so that none is lost
+/// before it ends.
 #[derive(Drop)]
 pub struct Keeping<'a> {
     alloc: Global,
@@ -31,8 +32,8 @@ pub struct Keeping<'a> {
     cones: Reaches,
     // The replacements of the last key that had some of them, and not all.
     last: World,
-    // Copies of the values that were given up in this question.
-    given_up: RunTable,
+    // The values that were given up in this question.
+    given_up: GivenUp,
     kept: Kept,
 }
 
@@ -56,25 +57,27 @@ impl<'a> Model for Keeping<'a> {
     ghost use Rattle.wi_propagate.specs.Inner.Noted.{told, AreKeptUp};
 
     ghost view = { λ m. keeping m.store.now.sheet m.store.now.edits
-        (told m.store.now.sheet m.generations.now.named) m.given_up m.kept };
+        (told m.store.now.sheet m.generations.now.named) m.given_up.entries m.kept };
 
     ghost invariant = { λ m. AreEdgesOf m.graph.now.now m.store.now.sheet
         × (m.graph.now.staged ≡ None)
         × AreAllCones m.store.now.sheet m.cones
         × IsKeepingRight (keeping m.store.now.sheet m.store.now.edits
-        (told m.store.now.sheet m.generations.now.named) m.given_up m.kept)
+        (told m.store.now.sheet m.generations.now.named) m.given_up.entries m.kept)
         × AreKeptUp m.store.now.sheet m.store.now.edits m.generations.now
         × (m.generations.now.owed ≡ []) };
 }
 
 impl<'a> Keeping<'a> {
-    /// What is kept, with nothing given up yet, and the cones that are known. Takes no memory.
+    /// What is kept, with nothing given up yet, and the cones that are known. Takes no memory. Values go that are in the table for
+    /// those that are given up.
     pub(crate) fn new(
         alloc: Global,
         store: &'a Store,
         graph: &'a Graph,
         generations: &'a Generations,
         cones: Reaches,
+        given_up: GivenUp,
         kept: Kept,
     ) -> Keeping<'a>
         requires edges { AreEdgesOf graph.now.now store.now.sheet }
@@ -93,6 +96,8 @@ impl<'a> Keeping<'a> {
         ensures one_each { HasOneEach kept.entries }
     {
         let _ = kept.len();
+        let mut given_up = given_up;
+        given_up.clear(alloc);
         Keeping {
             alloc,
             store,
@@ -100,13 +105,14 @@ impl<'a> Keeping<'a> {
             generations,
             cones,
             last: World::new(alloc),
-            given_up: RunTable::new(alloc),
+            given_up,
             kept,
         }
     }
 
-    /// What is kept for longer, which is no more than there is room for, and the cones that are known.
-    pub(crate) fn into_parts(self) -> (Kept, Reaches)
+    /// What is kept for longer, which is no more than there is room for, the cones that are known, and the table for values that are
+    /// given up, without them.
+    pub(crate) fn into_parts(self) -> (Kept, Reaches, GivenUp)
         ensures kept { result.0 ≡ self.entry.values }
         ensures within { length result.0.entries ≤ result.0.capacity }
         ensures right { IsKeepingRight self.entry }
@@ -114,7 +120,9 @@ impl<'a> Keeping<'a> {
     {
         let _ = &self.store;
         let _ = self.kept.len();
-        (self.kept, self.cones)
+        let mut given_up = self.given_up;
+        given_up.clear(self.alloc);
+        (self.kept, self.cones, given_up)
     }
 }
 
@@ -141,55 +149,35 @@ impl<'a> Memo for Keeping<'a> {
         }
     }
 
-    /// Keeps a value for longer. Where another goes for it, a copy of that one is made first, so that none is lost if memory runs
-    /// out.
+    /// Keeps a value for longer. Where another goes for it, there is room for that one among those given up first, so that none is lost
+    /// if memory runs out.
+    #[inline(always)]
     fn keep(&mut self, key: Key, value: Value) -> Result<(), AllocError> {
         let _ = self.kept.len();
-        save_going(self.alloc, &self.kept, &key, &mut self.given_up)?;
-        self.kept.keep(key, value)
+        make_room(&self.kept, &mut self.given_up)?;
+        let gone = self.kept.keep(key, value)?;
+        give_up(gone, &mut self.given_up);
+        Ok(())
     }
 }
 
-// Puts a copy of the value that goes for a new one of a key, if one does, among those given up. If memory runs out, these stay as
-// they were.
-fn save_going(
-    alloc: Global,
-    kept: &Kept,
-    key: &Key,
-    given_up: &mut RunTable,
-) -> Result<(), AllocError>
-    ensures ok { OnOk result (TakesOver (going kept.now key.now) given_up.old given_up.new) }
-    ensures err { OnErr result (given_up.new ≡ given_up.old) }
+// Makes room for the value that goes for a new one, if one does. If memory runs out, all is as before.
+fn make_room(kept: &Kept, given_up: &mut GivenUp) -> Result<(), AllocError>
+    ensures entries { given_up.new.entries ≡ given_up.old.entries }
+    ensures room { OnOk result ((k : Keys) → IfSome (going kept.now k) (λ _. 1 ≤ given_up.new.room)) }
 {
-    match kept.going(key) {
-        Some((gone, value)) => keep_copy(alloc, given_up, gone, value),
-        None => Ok(()),
+    if kept.is_full() {
+        return given_up.make_room();
     }
+    Ok(())
 }
 
-// Keeps a copy of a value in a table, for a copy of its key. If memory runs out, the table stays as it was.
-fn keep_copy(
-    alloc: Global,
-    table: &mut RunTable,
-    key: &Key,
-    value: &Value,
-) -> Result<(), AllocError>
-    ensures ok { OnOk result (Puts table.old table.new key.now value.now) }
-    ensures err { OnErr result (table.new ≡ table.old) }
+// Puts the value that went, if one did, among those given up. Takes no memory.
+fn give_up(gone: Option<(Key, Value)>, given_up: &mut GivenUp)
+    requires { IfSome gone (λ _. 1 ≤ given_up.old.room) }
+    ensures { TakesOver gone given_up.old.entries given_up.new.entries }
 {
-    let key = copied(key)?;
-    let value = value.copy(alloc)?;
-    table.keep(key, value)
-}
-
-// The same key once more.
-fn copied(key: &Key) -> Result<Key, AllocError>
-    ensures { IfOk result (λ k. k ≡ key.now) }
-{
-    let world = key.world.copy()?;
-    Ok(Key {
-        cell: key.cell,
-        generation: key.generation,
-        world,
-    })
+    if let Some(entry) = gone {
+        given_up.put(entry.0, entry.1);
+    }
 }

@@ -30,7 +30,7 @@ use crate::table_entry::open_entry;
 use std::alloc::{AllocError, Global};
 use std::marker::Model;
 use std::mem;
-use wi_cache::Kept;
+use wi_cache::{GivenUp, Kept};
 use wi_engine::{Pool, Question};
 use wi_functions::Meter;
 use wi_graph::{Cells, Graph, Watch, edited_cells};
@@ -57,6 +57,8 @@ pub struct KeptCalculator {
     meter: Meter,
     // Arrays for the formulas of the next questions.
     pool: Pool,
+    // Memory for the values that the next questions give up.
+    given_up: GivenUp,
     alloc: Global,
 }
 
@@ -114,6 +116,7 @@ impl KeptCalculator {
             kept: Some(kept),
             meter: Meter::new(),
             pool: Pool::new(alloc),
+            given_up: GivenUp::new(alloc),
             alloc,
         })
     }
@@ -207,6 +210,7 @@ impl KeptCalculator {
             &self.graph,
             &self.generations,
             cones,
+            mem::replace(&mut self.given_up, GivenUp::new(self.alloc)),
             kept,
         );
         let mut question = Question {
@@ -217,9 +221,10 @@ impl KeptCalculator {
         let result = question.value(&self.store, &world, at);
         self.meter = question.meter;
         self.pool = question.pool;
-        let (kept, cones) = question.memo.into_parts();
+        let (kept, cones, given_up) = question.memo.into_parts();
         self.kept = Some(kept);
         self.cones = cones;
+        self.given_up = given_up;
         self.worlds.keep(world);
         result
     }
@@ -259,6 +264,7 @@ impl KeptCalculator {
             &self.graph,
             &self.generations,
             cones,
+            mem::replace(&mut self.given_up, GivenUp::new(self.alloc)),
             kept,
         );
         let mut question = Question {
@@ -269,9 +275,10 @@ impl KeptCalculator {
         let result = open_entry(&mut question, &self.store, &world, formula_cell, pairs);
         self.meter = question.meter;
         self.pool = question.pool;
-        let (kept, cones) = question.memo.into_parts();
+        let (kept, cones, given_up) = question.memo.into_parts();
         self.kept = Some(kept);
         self.cones = cones;
+        self.given_up = given_up;
         self.worlds.keep(world);
         result
     }

@@ -14,7 +14,8 @@ fn key(alloc: Global, cell: Address) -> Key {
 }
 
 pub fn keep(alloc: Global, kept: &mut Kept, cell: Address, value: Value) -> Result<(), AllocError> {
-    kept.keep(key(alloc, cell), value)
+    drop(kept.keep(key(alloc, cell), value)?);
+    Ok(())
 }
 
 pub fn look(alloc: Global, kept: &Kept, cell: Address) -> Option<&Value> {

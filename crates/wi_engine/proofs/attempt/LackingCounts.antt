@@ -1,6 +1,6 @@
 -- One value more is found, and fewer are lacking.
-use Rattle.wi_engine.proofs.Words.{◌≡◌, ◌==◌, ℕ, ◌+◌, ◌<◌, ◌≤◌, Bool, true, false, ◌&&◌, cond, List, [], filter, length, Option, Some, None, refl, ap, sym, ◌∙◌, arith, eq-eqb, and_from, and_parts, list_any, is_none, option_or, Value, Tree, Sheet, content_of, has_formula, cells_with_formula, Asks, WhatIf, list_any-both, same_cell, found, formula_cell, keeps_few, reads_here, formulas_read_here, what_ifs_of, asked_what_if, in_contained, found_in, Findings, FoundWhatIf, same_pairs, pairs_of, first_for, found_value, what_if_found, IsWithCell, IsWithWhatIf, lacking, PassesToo, no_more, fewer}
-use Rattle.wi_engine.proofs.findings.FoundPairs.{same_lists, same_pairs-refl, first_for-push}
+use Rattle.wi_engine.proofs.Words.{◌≡◌, ◌==◌, ℕ, ◌+◌, ◌<◌, ◌≤◌, Bool, true, false, ◌&&◌, cond, List, [], filter, length, Option, Some, None, refl, ap, sym, ◌∙◌, arith, eq-eqb, and_from, and_parts, list_any, is_none, option_or, Value, Tree, Sheet, content_of, has_formula, cells_with_formula, Asks, WhatIf, list_any-both, same_cell, found, formula_cell, keeps_few, reads_here, formulas_read_here, what_ifs_of, asked_what_if, in_contained, found_in, Findings, FoundWhatIf, same_pairs, pairs_of, first_for, found_value, found_what_ifs, what_if_found, IsWithCell, IsWithWhatIf, lacking, PassesToo, no_more, fewer}
+use Rattle.wi_engine.proofs.lists.FoundPairs.{same_lists, same_pairs-refl, first_for-push}
 
 -- a cell of which no value was found
 abbrev unfound_cell : Findings → ℕ → Bool
@@ -61,7 +61,7 @@ asked_found t x h =
 
 module _ (f g : Findings) (x : FoundWhatIf) (more : IsWithWhatIf f g x) where
   what_if_unfound : PassesToo (unfound_what_if f) (unfound_what_if g)
-  what_if_unfound y h = by (first_for f.what_ifs.items y.0 y.1) (sym (ap (λ (fs : List FoundWhatIf). is_none (first_for fs y.0 y.1)) more.what_ifs ∙ ap (λ (o : Option Value). is_none o) (first_for-push f.what_ifs.items x y.0 y.1)) ∙ h)
+  what_if_unfound y h = by (first_for (found_what_ifs f) y.0 y.1) (sym (ap (λ (fs : List FoundWhatIf). is_none (first_for fs y.0 y.1)) more.what_ifs ∙ ap (λ (o : Option Value). is_none o) (first_for-push (found_what_ifs f) x y.0 y.1)) ∙ h)
     where
       by : (o : Option Value) → is_none (option_or o (cond (is_what_if x y) (Some x.value) None)) ≡ true → is_none o ≡ true
       by None k = refl
@@ -76,7 +76,7 @@ module _ (f g : Findings) (x : FoundWhatIf) (more : IsWithWhatIf f g x) where
       let there : what_if_found f y.0 y.1 ≡ None =
       ap (λ (n : ℕ). what_if_found f n y.1) (sym (same_cell y.0 x.at parts.0)) ∙ ap (what_if_found f x.at) (sym (same_lists (pairs_of x) y.1 parts.1)) ∙ e in
       let now : what_if_found g y.0 y.1 ≡ Some x.value =
-      ap (λ (fs : List FoundWhatIf). first_for fs y.0 y.1) more.what_ifs ∙ first_for-push f.what_ifs.items x y.0 y.1
+      ap (λ (fs : List FoundWhatIf). first_for fs y.0 y.1) more.what_ifs ∙ first_for-push (found_what_ifs f) x y.0 y.1
       ∙ ap (λ (o : Option Value). option_or o (cond (is_what_if x y) (Some x.value) None)) there ∙ ap (λ (b : Bool). cond b (Some x.value) None) h in
       (ap (λ (o : Option Value). is_none o) there, ap (λ (o : Option Value). is_none o) now)
 

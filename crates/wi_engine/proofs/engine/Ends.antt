@@ -1,14 +1,15 @@
 -- A question in progress: what is so all the way, and what it has spent where it ends.
-use Rattle.wi_engine.proofs.Words.{◌≡◌, ◌<◌, ◌≤◌, ◌+◌, ◌-◌, ◌^◌, ◌⊎◌, inl, inr, ℕ, true, false, List, [], ◌∷◌, ◌++◌, Contains, Result, is_ok, IsErr, refl, sym, subst, arith, cases_lt, true≢false, Value, Sheet, Counts, one_more, Key, Case, NeverFall, never_fall-same, never_fall-then, MemoState, IsMemoOf, case_at, IsUnvaluedKey, WhereRoom, TakesPlaces, TakesNoMore, GivesUpWhenFull, Keeps, HasKept, IsSameBeside, Spends, FrameCounts, FrameTakes, IsFrameValue, Frame}
+use Rattle.wi_engine.proofs.Words.{◌≡◌, ◌<◌, ◌≤◌, ◌+◌, ◌-◌, ◌^◌, ◌⊎◌, inl, inr, ℕ, true, false, List, [], ◌∷◌, ◌++◌, Contains, Result, is_ok, IsErr, refl, sym, subst, arith, cases_lt, true≢false, Value, Sheet, Counts, one_more, Key, Case, NeverFall, never_fall-same, never_fall-then, MemoState, IsMemoOf, case_at, AreLinked, IsAwaited, IsUnvaluedKey, WhereRoom, TakesPlaces, TakesNoMore, GivesUpWhenFull, Keeps, HasKept, IsSameBeside, Spends, FrameCounts, FrameTakes, IsFrameValue, Frame}
 use Rattle.wi_engine.proofs.Places.{takes_then, gives_up_none, gives_up_then}
 use Rattle.wi_engine.proofs.Ledger.{same_itself, same_then, spends_err}
-use Rattle.wi_engine.proofs.engine.Stacks.{run_keeps}
+use Rattle.wi_engine.proofs.engine.Stacks.{pop_linked, push_linked, run_keeps}
 use Rattle.wi_engine.proofs.engine.FrameRuns.{IsRunning, IsNew, GoesDeeper, ComesBack, run_start, run_deeper, run_back, run_take, run_stops, run_ends}
 use Rattle.wi_engine.proofs.engine.RunsWithRoom.{IsSaving, by_kept, saving_start, saving_deeper, saving_back, saving_take, saving_kept, saving_saved, saving_ends}
 
 -- what is so all the way
 pub record IsGoing (s : Sheet) (old m : MemoState) (root : Case) (start now : Counts) (fs : List Frame) (f : Frame) : Type 0 where
   pub running : IsRunning s old m root start now fs f
+  pub linked : AreLinked s fs f.key
   pub same : IsSameBeside old m
   pub counts : NeverFall start now
   pub places : TakesNoMore old m start.evaluations now.evaluations
@@ -59,6 +60,7 @@ comes_back e ek keeps kept gives counts = record { keeps = rw (e, ek) at keeps; 
 pub going_start : {s : Sheet} {m : MemoState} {k : Key} {f : Frame} (now : Counts) → IsMemoOf s m → IsUnvaluedKey s m k → IsNew s f k → IsGoing s m m (case_at k) now now [] f
 going_start {s} {m} {k} {f} now h key new = record {
   running = run_start s m k f now h key.key key.unfound new;
+  linked = tt;
   same = same_itself m;
   counts = never_fall-same now;
   places = inl (λ ks d. omega arith);
@@ -67,8 +69,9 @@ going_start {s} {m} {k} {f} now h key new = record {
 }
 
 pub going_deeper : {s : Sheet} {old m : MemoState} {root : Case} {start now next : Counts} {fs : List Frame} {f h g : Frame} {k : Key} → IsGoing s old m root start now fs f → GoesDeeper s m now next f h g k → IsGoing s old m root start next (fs ++ h ∷ []) g
-going_deeper {s} {old} {m} {root} {start} {now} {next} i t = record {
+going_deeper {s} {old} {m} {root} {start} {now} {next} {fs} {f} {h} {g} {k} i t = record {
   running = run_deeper i.running t;
+  linked = subst (AreLinked s (fs ++ h ∷ [])) (sym t.new.key) (push_linked s fs h k (subst (AreLinked s fs) (sym t.steps.key) i.linked) t.awaited);
   same = i.same;
   counts = never_fall-then start now next i.counts t.rises;
   places = rw t.evaluations i.places;
@@ -82,6 +85,7 @@ going_back {s} {old} {m} {n} {root} {start} {now} {next} {fs} {f} {b} {g} {v} i 
     let running = run_back t.kept.found t.counts i.running t.keeps t.value.value in
     record {
       running = run_take running takes.key (takes.frame refl n running.begun.frame) (takes.fewer refl);
+      linked = subst (AreLinked s fs) (sym takes.key) (pop_linked s fs b f.key i.linked).0;
       same = same_then i.same t.keeps.same;
       counts = never_fall-then start now next i.counts t.counts.rises;
       places = takes_then old m n start.evaluations now.evaluations next.evaluations i.places (takes_one m n now.evaluations next.evaluations t.keeps.places t.evaluations) t.counts.rises.0;
@@ -90,6 +94,10 @@ going_back {s} {old} {m} {n} {root} {start} {now} {next} {fs} {f} {b} {g} {v} i 
           let saving = i.saving ks closed top whole room in
           saving_take takes (saving_kept t closed top saving) (saving_back t closed top saving);
     }
+
+-- the frame below waits for the one on top
+pub going_awaited : {s : Sheet} {old m : MemoState} {root : Case} {start now : Counts} {fs : List Frame} {f b : Frame} → IsGoing s old m root start now (fs ++ b ∷ []) f → IsAwaited s b.key.world b.waiting f.key
+going_awaited {s} {old} {m} {root} {start} {now} {fs} {f} {b} i = (pop_linked s fs b f.key i.linked).1
 
 -- ---- the end
 

@@ -1,5 +1,5 @@
 -- What is found for a formula is settled, and so its value rests on kept ones.
-use Rattle.wi_engine.proofs.Words.{◌≡◌, ◌⊎◌, inl, inr, ℕ, Bool, true, false, cond, List, [], Option, Some, None, IfSome, All, Contains, map, is_some, refl, ap, sym, ◌∙◌, subst, or_cases, All-map, Value, Replacement, Tree, reads, Sheet, content_of, put_all, has_formula, pair_of, Content, Constant, Formula, Pair, Assignment, AgreesWith, meaning, addresses, Key, cell_value, what_if_value, reaching, with_what_if, what_ifs_of, IsSettled, IsWhatIfSettled, AgreesWhereSettled, RestsOnKept, contains_in, same_tree, meaning_same, pairs_of, found_value, what_if_found, AreAllRight, IsWithCell, IsWithWhatIf, AsksAt, known_in, cell_known, AreFoundSettled, IsFrameSettled, HasOneMeaning, MemoState, IsMemoOf, KeepsFound, NeedsNoEvaluation, case_at, Frame, Findings, FoundWhatIf, settled_more, what_if_more}
+use Rattle.wi_engine.proofs.Words.{◌≡◌, ◌⊎◌, inl, inr, ℕ, Bool, true, false, cond, List, [], Option, Some, None, IfSome, All, Contains, map, is_some, refl, ap, sym, ◌∙◌, subst, or_cases, All-map, Value, Replacement, Tree, reads, Sheet, content_of, put_all, has_formula, pair_of, Content, Constant, Formula, Pair, Assignment, AgreesWith, meaning, addresses, Key, cell_value, what_if_value, reaching, with_what_if, what_ifs_of, IsSettled, IsWhatIfSettled, AgreesWhereSettled, RestsOnKept, contains_in, same_tree, meaning_same, pairs_of, found_value, found_what_ifs, what_if_found, AreAllRight, IsWithCell, IsWithWhatIf, AsksAt, known_in, cell_known, AreFoundSettled, IsFrameSettled, HasOneMeaning, MemoState, IsMemoOf, KeepsFound, NeedsNoEvaluation, case_at, Frame, Findings, FoundWhatIf, settled_more, what_if_more}
 use Rattle.wi_functions.specs.declared.evaluation.Want.TheVariants as wanted
 use Rattle.wi_engine.proofs.engine.NextCases.{asked_in}
 use Rattle.wi_engine.proofs.attempt.KnownValues.{known_agrees, values_in}
@@ -77,7 +77,7 @@ module _ (s : Sheet) (kept : ℕ → List Replacement → Bool) (w : List Replac
   abbrev IsWhatIf : ℕ → List (ℕ × ℕ) → Value → Type 0
   IsWhatIf c ps v = Contains (what_ifs_of t) (c, ps) × IsWhatIfSettled s kept w (c, ps)
 
-  pub settled_none : (f : Findings) → ((c : ℕ) → found_value f c ≡ None) → f.what_ifs.items ≡ [] → AreFoundSettled s kept w t f
+  pub settled_none : (f : Findings) → ((c : ℕ) → found_value f c ≡ None) → found_what_ifs f ≡ [] → AreFoundSettled s kept w t f
   settled_none f e h = record { cells = cells_none IsCell f e; what_ifs = what_ifs_none IsWhatIf f h }
 
   pub settled_cell : (f g : Findings) (a : ℕ) (v : Value) → IsWithCell f g a v → IsSettled s kept w a → AreFoundSettled s kept w t f → AreFoundSettled s kept w t g

@@ -1,5 +1,5 @@
 -- The stack of frames, a push and a pop.
-use Rattle.wi_engine.proofs.Words.{◌≡◌, ◌==◌, ◌<◌, ◌⊎◌, inl, inr, ◌||◌, ◌&&◌, ℕ, Bool, true, false, List, [], ◌∷◌, ◌++◌, Contains, Option, Some, None, IfSome, ap, sym, ◌∙◌, subst, arith, nat_tests, or_from, Value, Replacement, same_replacements, Sheet, put_all, Key, cell_value, Case, same_case, reach_rank, MemoState, IsMemoOf, AreKnownRight, IsClosedUnderReads, case_at, IsFrame, IsBegun, IsNext, IsDemanded, AreBelow, IsStack, BottomIs, Keeps, Frame}
+use Rattle.wi_engine.proofs.Words.{◌≡◌, ◌==◌, ◌<◌, ◌⊎◌, inl, inr, ◌||◌, ◌&&◌, ℕ, Bool, true, false, List, [], ◌∷◌, ◌++◌, Contains, Option, Some, None, IfSome, refl, ap, sym, ◌∙◌, subst, arith, nat_tests, or_from, Value, Replacement, same_replacements, Sheet, put_all, Key, cell_value, Case, same_case, reach_rank, MemoState, IsMemoOf, AreKnownRight, IsClosedUnderReads, case_at, IsFrame, IsAwaited, IsBegun, IsNext, IsDemanded, AreBelow, AreLinked, IsStack, BottomIs, Keeps, Frame, key_above}
 
 -- ---- ranks fall from the bottom to the top
 
@@ -37,6 +37,22 @@ pop_bottom root (e ∷ fs) f g h = h
 pub same_bottom : (root : Case) (fs : List Frame) (f g : Frame) → g.key ≡ f.key → BottomIs root fs f → BottomIs root fs g
 same_bottom root [] f g e h = ap case_at e ∙ h
 same_bottom root (k ∷ fs) f g e h = h
+
+-- ---- each waits for the one above it
+
+above_push : (fs : List Frame) (f : Frame) (k : Key) → key_above (fs ++ f ∷ []) k ≡ key_above fs f.key
+above_push [] f k = refl
+above_push (e ∷ fs) f k = refl
+
+pub push_linked : (s : Sheet) (fs : List Frame) (f : Frame) (k : Key) → AreLinked s fs f.key → IsAwaited s f.key.world f.waiting k → AreLinked s (fs ++ f ∷ []) k
+push_linked s [] f k h w = (w, tt)
+push_linked s (e ∷ fs) f k h w = (subst (IsAwaited s e.key.world e.waiting) (sym (above_push fs f k)) h.0, push_linked s fs f k h.1 w)
+
+pub pop_linked : (s : Sheet) (fs : List Frame) (f : Frame) (k : Key) → AreLinked s (fs ++ f ∷ []) k → AreLinked s fs f.key × IsAwaited s f.key.world f.waiting k
+pop_linked s [] f k h = (tt, h.0)
+pop_linked s (e ∷ fs) f k h =
+    let rest = pop_linked s fs f k h.1 in
+    ((subst (IsAwaited s e.key.world e.waiting) (above_push fs f k) h.0, rest.0), rest.1)
 
 -- ---- one more case is found
 

@@ -1,6 +1,6 @@
 -- What is so of each value that was found, also with one value more.
-use Rattle.wi_engine.proofs.Words.{◌≡◌, ◌==◌, ℕ, ◌&&◌, ◌++◌, Bool, true, false, cond, List, [], ◌∷◌, Option, Some, None, IfSome, refl, ap, sym, ◌∙◌, subst, and_parts, option_or, Value, same_cell, Findings, FoundWhatIf, same_pairs, pairs_of, first_for, found_value, what_if_found, AreAllRight, IsWithCell, IsWithWhatIf}
-use Rattle.wi_engine.proofs.findings.FoundPairs.{same_lists, first_for-push}
+use Rattle.wi_engine.proofs.Words.{◌≡◌, ◌==◌, ℕ, ◌&&◌, ◌++◌, Bool, true, false, cond, List, [], ◌∷◌, Option, Some, None, IfSome, refl, ap, sym, ◌∙◌, subst, and_parts, option_or, Value, same_cell, Findings, FoundWhatIf, same_pairs, pairs_of, first_for, found_value, found_what_ifs, what_if_found, AreAllRight, IsWithCell, IsWithWhatIf}
+use Rattle.wi_engine.proofs.lists.FoundPairs.{same_lists, first_for-push}
 
 -- of cells
 module _ (P : ℕ → Value → Type 0) where
@@ -19,17 +19,17 @@ module _ (P : ℕ → Value → Type 0) where
 
 -- of what-ifs
 module _ (P : ℕ → List (ℕ × ℕ) → Value → Type 0) where
-  pub what_ifs_none : (f : Findings) → f.what_ifs.items ≡ [] → (c : ℕ) (ps : List (ℕ × ℕ)) → IfSome (what_if_found f c ps) (P c ps)
+  pub what_ifs_none : (f : Findings) → found_what_ifs f ≡ [] → (c : ℕ) (ps : List (ℕ × ℕ)) → IfSome (what_if_found f c ps) (P c ps)
   what_ifs_none f e c ps = subst (λ (fs : List FoundWhatIf). IfSome (first_for fs c ps) (P c ps)) (sym e) tt
 
-  pub what_ifs_same : (f g : Findings) → g.what_ifs.items ≡ f.what_ifs.items → ((c : ℕ) (ps : List (ℕ × ℕ)) → IfSome (what_if_found f c ps) (P c ps)) → (c : ℕ) (ps : List (ℕ × ℕ)) → IfSome (what_if_found g c ps) (P c ps)
+  pub what_ifs_same : (f g : Findings) → found_what_ifs g ≡ found_what_ifs f → ((c : ℕ) (ps : List (ℕ × ℕ)) → IfSome (what_if_found f c ps) (P c ps)) → (c : ℕ) (ps : List (ℕ × ℕ)) → IfSome (what_if_found g c ps) (P c ps)
   what_ifs_same f g e h c ps = subst (λ (fs : List FoundWhatIf). IfSome (first_for fs c ps) (P c ps)) (sym e) (h c ps)
 
-  pub what_ifs_more : (f g : Findings) (x : FoundWhatIf) → g.what_ifs.items ≡ f.what_ifs.items ++ x ∷ [] → P x.at (pairs_of x) x.value → ((c : ℕ) (ps : List (ℕ × ℕ)) → IfSome (what_if_found f c ps) (P c ps)) →
+  pub what_ifs_more : (f g : Findings) (x : FoundWhatIf) → found_what_ifs g ≡ found_what_ifs f ++ x ∷ [] → P x.at (pairs_of x) x.value → ((c : ℕ) (ps : List (ℕ × ℕ)) → IfSome (what_if_found f c ps) (P c ps)) →
       (c : ℕ) (ps : List (ℕ × ℕ)) → IfSome (what_if_found g c ps) (P c ps)
   what_ifs_more f g x e p h c ps =
-      subst (λ (o : Option Value). IfSome o (P c ps)) (sym (ap (λ (fs : List FoundWhatIf). first_for fs c ps) e ∙ first_for-push f.what_ifs.items x c ps))
-      (at (first_for f.what_ifs.items c ps) (x.at == c && same_pairs (pairs_of x) ps) (h c ps) refl)
+      subst (λ (o : Option Value). IfSome o (P c ps)) (sym (ap (λ (fs : List FoundWhatIf). first_for fs c ps) e ∙ first_for-push (found_what_ifs f) x c ps))
+      (at (first_for (found_what_ifs f) c ps) (x.at == c && same_pairs (pairs_of x) ps) (h c ps) refl)
     where
       at : (o : Option Value) (b : Bool) → IfSome o (P c ps) → (x.at == c && same_pairs (pairs_of x) ps) ≡ b → IfSome (option_or o (cond b (Some x.value) None)) (P c ps)
       at (Some v) b k i = k
@@ -42,7 +42,7 @@ module _ (P : ℕ → List (ℕ × ℕ) → Value → Type 0) where
 
 module _ (cells : ℕ → Value) (what_ifs : ℕ → List (ℕ × ℕ) → Value) where
   -- where nothing was found
-  pub right_none : (f : Findings) → ((c : ℕ) → found_value f c ≡ None) → f.what_ifs.items ≡ [] → AreAllRight cells what_ifs f
+  pub right_none : (f : Findings) → ((c : ℕ) → found_value f c ≡ None) → found_what_ifs f ≡ [] → AreAllRight cells what_ifs f
   right_none f e h = record { cells = cells_none (λ c v. v ≡ cells c) f e; what_ifs = what_ifs_none (λ c ps v. v ≡ what_ifs c ps) f h }
 
   -- with a cell's value

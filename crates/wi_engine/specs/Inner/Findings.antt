@@ -1,44 +1,34 @@
 -- The values that were found for one formula.
-use Rattle.std.specs.Prelude.{◌≡◌, ◌==◌, ℕ, Bool, true, false, ◌&&◌, List, [], ◌∷◌, ◌++◌, map, Option, Some, None, if◌then◌else◌}
-use Rattle.std.specs.Option.{option_or}
-use Rattle.std.specs.Ordering.{nat_cmp}
-use Rattle.std.specs.Map.{lookup}
-use Rattle.std.specs.BTreeMap.{get, is_at}
+use Rattle.std.specs.Prelude.{◌≡◌, ◌==◌, ℕ, List, [], ◌∷◌, ◌++◌, Option, Some, None, if◌then◌else◌}
+use Rattle.std.specs.Global.{Box}
 use Rattle.wi_values.specs.declared.value.Value.{Value}
-use Rattle.wi_parser.specs.View.{pair_of}
-use Rattle.wi_arguments.specs.Assignment.{addresses}
 use Rattle.wi_arguments.specs.Assignment.{AgreesWith}
+use Rattle.wi_engine.specs.Inner.Lists.{first_for, listed_value}
 use Rattle.wi_engine.specs.declared.findings.Findings.{Findings}
-use Rattle.wi_engine.specs.declared.findings.FoundWhatIf.{FoundWhatIf}
+use Rattle.wi_engine.specs.declared.lists.Lists.{Lists}
+use Rattle.wi_engine.specs.declared.lists.FoundWhatIf.{FoundWhatIf}
 
--- the same inputs, each with the same replacement cell
-abbrev pub same_pairs : List (ℕ × ℕ) → List (ℕ × ℕ) → Bool
-same_pairs [] [] = true
-same_pairs [] (q ∷ qs) = false
-same_pairs (p ∷ ps) [] = false
-same_pairs (p ∷ ps) (q ∷ qs) = p.0 == q.0 && (p.1 == q.1 && same_pairs ps qs)
+-- the value of a cell in lists, if there are any
+abbrev pub value_in : Option (Box Lists) → ℕ → Option Value
+value_in None c = None
+value_in (Some lists) c = listed_value lists.value c
 
--- the inputs of what was found, each with its replacement cell
-abbrev pub pairs_of : FoundWhatIf → List (ℕ × ℕ)
-pairs_of f = map addresses (map pair_of f.pairs.items)
-
--- the first value for a what-if
-abbrev pub first_for : List FoundWhatIf → ℕ → List (ℕ × ℕ) → Option Value
-first_for [] c pairs = None
-first_for (f ∷ fs) c pairs = if f.at == c && same_pairs (pairs_of f) pairs then Some f.value else first_for fs c pairs
-
--- the first value for a cell
-abbrev pub first_of : List (ℕ × Value) → ℕ → Option Value
-first_of [] c = None
-first_of (e ∷ es) c = if e.0 == c then Some e.1 else first_of es c
+-- the what-ifs in lists, if there are any
+abbrev pub what_ifs_in : Option (Box Lists) → List FoundWhatIf
+what_ifs_in None = []
+what_ifs_in (Some lists) = lists.value.what_ifs.items
 
 -- the value found of a cell
 abbrev pub found_value : Findings → ℕ → Option Value
-found_value f c = option_or (first_of f.first.items c) (option_or (lookup (is_at (nat_cmp c)) f.rising) (get nat_cmp f.others c))
+found_value f = value_in f.lists
+
+-- the what-ifs of which values were found
+abbrev pub found_what_ifs : Findings → List FoundWhatIf
+found_what_ifs f = what_ifs_in f.lists
 
 -- the value found of a what-if
 abbrev pub what_if_found : Findings → ℕ → List (ℕ × ℕ) → Option Value
-what_if_found f = first_for f.what_ifs.items
+what_if_found f = first_for (found_what_ifs f)
 
 -- each value found of a cell, and each of a what-if, is so
 abbrev pub AreAllRight : (ℕ → Value) → (ℕ → List (ℕ × ℕ) → Value) → Findings → Type 0
@@ -47,16 +37,9 @@ AreAllRight cells what_ifs f = AgreesWith (found_value f) (what_if_found f) (rec
 -- the second is the first with a cell's value
 pub record IsWithCell (f g : Findings) (a : ℕ) (v : Value) : Type 0 where
   pub cells : (c : ℕ) → found_value g c ≡ (if a == c then Some v else found_value f c)
-  pub what_ifs : g.what_ifs.items ≡ f.what_ifs.items
+  pub what_ifs : found_what_ifs g ≡ found_what_ifs f
 
 -- the second is the first with a what-if's value behind the others
 pub record IsWithWhatIf (f g : Findings) (x : FoundWhatIf) : Type 0 where
   pub cells : (c : ℕ) → found_value g c ≡ found_value f c
-  pub what_ifs : g.what_ifs.items ≡ f.what_ifs.items ++ x ∷ []
-
--- both have the same values
-pub record IsSame (f g : Findings) : Type 0 where
-  pub first : g.first.items ≡ f.first.items
-  pub rising : g.rising ≡ f.rising
-  pub others : g.others.entries ≡ f.others.entries
-  pub what_ifs : g.what_ifs.items ≡ f.what_ifs.items
+  pub what_ifs : found_what_ifs g ≡ found_what_ifs f ++ x ∷ []

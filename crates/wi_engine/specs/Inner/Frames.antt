@@ -1,5 +1,5 @@
 -- What is so of the frames: cases whose formulas are being valued, each resting on the next.
-use Rattle.std.specs.Prelude.{◌≡◌, ◌==◌, ℕ, ◌-◌, ◌<◌, ◌||◌, Bool, true, false, if◌then◌else◌, List, [], ◌∷◌, Option, Some, Contains}
+use Rattle.std.specs.Prelude.{◌≡◌, ℕ, ◌-◌, ◌<◌, ◌||◌, Bool, true, false, if◌then◌else◌, List, [], ◌∷◌, Option, Some, Contains}
 use Rattle.wi_values.specs.declared.replacement.Replacement.{Replacement}
 use Rattle.wi_parser.specs.Tree.{Tree}
 use Rattle.wi_parser.specs.declared.content.Content.{Content}
@@ -85,11 +85,17 @@ pub record IsFrame (s : Sheet) (m : MemoState) (f : Frame) : Type 0 where
   pub found : AreAllRight (cell_value (put_all s f.key.world)) (what_if_value (put_all s f.key.world)) f.found
   pub waiting : Awaits s (case_at f.key) f.found f.waiting
 
--- this is the cell whose value is waited for
-abbrev pub waits_at : Waiting → ℕ → Bool
-waits_at Nothing c = false
-waits_at (Cells a others) c = a == c
-waits_at (WhatIf a pairs) c = false
+-- the value of a cell is waited for
+abbrev pub is_of_cell : Waiting → Bool
+is_of_cell Nothing = false
+is_of_cell (Cells a others) = true
+is_of_cell (WhatIf a pairs) = false
+
+-- the key is that of the cell whose value is waited for, under these replacements; of what a what-if rests on it says nothing
+abbrev pub IsAwaited : Sheet → List Replacement → Waiting → Key → Type 0
+IsAwaited s w Nothing k = Unit {0}
+IsAwaited s w (Cells a others) k = (k.cell ≡ a) × (k.world ≡ reaching s a w)
+IsAwaited s w (WhatIf a pairs) k = Unit {0}
 
 -- a key whose value has to be found before a frame's
 pub record IsNext (s : Sheet) (m : MemoState) (below k : Key) : Type 0 where
@@ -143,6 +149,16 @@ IsStack s m root (f ∷ fs) r = IsBegun s m root f × (r < reach_rank s f.key.ce
 abbrev pub BottomIs : Case → List Frame → Frame → Type 0
 BottomIs root [] f = case_at f.key ≡ root
 BottomIs root (g ∷ fs) f = case_at g.key ≡ root
+
+-- the key of the frame above these
+abbrev pub key_above : List Frame → Key → Key
+key_above [] k = k
+key_above (f ∷ fs) k = f.key
+
+-- each of these frames waits for the one above it, the last for this key
+abbrev pub AreLinked : Sheet → List Frame → Key → Type 0
+AreLinked s [] k = Unit {0}
+AreLinked s (f ∷ fs) k = IsAwaited s f.key.world f.waiting (key_above fs k) × AreLinked s fs k
 
 -- found, or being found in one of these frames
 abbrev pub taken : Table → List Frame → Table

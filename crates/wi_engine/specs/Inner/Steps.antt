@@ -14,7 +14,7 @@ use Rattle.wi_sheet.specs.Demand.{with_what_if}
 use Rattle.wi_sheet.specs.Settled.{IsSettled, RestsOnKept}
 use Rattle.wi_sheet.specs.Inner.Spending.{NeverFall, Table, plus}
 use Rattle.wi_engine.specs.Inner.MemoState.{MemoState}
-use Rattle.wi_engine.specs.Inner.Frames.{Awaits, IsFrame, IsUnvaluedFormula, IsNextFormula, case_at, frame_cost, spare}
+use Rattle.wi_engine.specs.Inner.Frames.{Awaits, IsAwaited, IsFrame, IsUnvaluedFormula, IsNextFormula, case_at, frame_cost, spare}
 use Rattle.wi_engine.specs.Inner.Saving.{KeepsFound, NeedsNoEvaluation}
 use Rattle.wi_engine.specs.Inner.SettledFrames.{IsFrameSettled}
 use Rattle.wi_engine.specs.declared.frame.Frame.{Frame}
@@ -79,6 +79,11 @@ IsAskedOf s m w a (asked.TheVariants.Unvalued u) = IsUnvaluedFormula s m w a u
 abbrev pub AreInputsOf : Sheet → MemoState → List Replacement → List Pair → inputs.Inputs → Type 0
 AreInputsOf s m w pairs (inputs.TheVariants.Known v) = IsWorldWith s m w pairs v
 AreInputsOf s m w pairs (inputs.TheVariants.Unvalued u) = (list_any (λ p. p.1.at == u.key.cell) (map pair_of pairs) ≡ true) × IsUnvaluedFormula s m w u.key.cell u
+
+-- the frame waits for the formula that has to be valued first, if one has
+abbrev pub IsAwaitedBy : Sheet → Frame → advance.Advance → Type 0
+IsAwaitedBy s f (advance.TheVariants.Done v) = Unit {0}
+IsAwaitedBy s f (advance.TheVariants.Unvalued u) = IsAwaited s f.key.world f.waiting u.key
 
 -- a frame's value, for which an evaluation was counted, or a formula that has to be valued first
 abbrev pub IsAdvanceOf : Sheet → MemoState → Frame → Counts → Counts → advance.Advance → Type 0

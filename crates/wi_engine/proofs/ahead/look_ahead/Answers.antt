@@ -35,7 +35,7 @@ returns-in_ok-add_cell-in-Known-clause-steps g c =
     let waiting = c.is_new.ensures.waiting c.if-not-is_new.false in
     let read = read_at s f.key f.formula.now c.in-Some.at c.requires.frame.formula c.in-Some.ensures in
     let shown = rw (c.in-Known.is, memo.sheet) at c.in_ok-value.ensures.asked in
-    steps_less (omega arith) (steps_cell (steps_none c.requires.frame refl) c.in_ok-value.ensures.same waiting memo refl refl waiting c.in_ok-add_cell-in-Known.ensures.ok none read formula shown)
+    steps_less (omega arith) (steps_cell (steps_none c.requires.frame refl) c.in_ok-value.ensures.same waiting memo refl refl waiting c.in_ok-add_cell-in-Known.ensures none read formula shown)
 
 -- ---- one that has to be found first
 
@@ -53,6 +53,11 @@ returns-in-Unvalued-clause-next g c =
     let f = c.args.frame.now in
     let there = rw (c.in-Unvalued.is, c.requires.memo.sheet) at c.in_ok-value.ensures.asked in
     next_here f.key f.key refl refl there (read_at c.args.store.now.sheet f.key f.formula.now c.in-Some.at c.requires.frame.formula c.in-Some.ensures)
+
+pub returns-in-Unvalued-clause-awaited : goal.returns-in-Unvalued-clause-awaited
+returns-in-Unvalued-clause-awaited g c =
+    let there = rw (c.in-Unvalued.is, c.requires.memo.sheet) at c.in_ok-value.ensures.asked in
+    (there.unvalued.cell, there.unvalued.world)
 
 pub returns-in_err-value-clause-steps : goal.returns-in_err-value-clause-steps
 returns-in_err-value-clause-steps g c = steps_err c.from_residual.result c.from_residual.ensures.0 c.remembered_value.ensures.same refl

@@ -63,6 +63,12 @@ returns-in-Some-2-clause-gives g c =
     let next = subst (λ (x : MemoState). IsNextFormula s x c.rounds.frame.key c.in-Some-2.first) i.steps.same (rw c.in-Some-2.is at c.in_ok-first.ensures.next) in
     (subst (λ (k : Key). IsNextFormula s (g.M.Memo.state c.args.memo.now) k c.in-Some-2.first) i.steps.key next, i.evaluations)
 
+pub returns-in-Some-clause-awaited : goal.returns-in-Some-clause-awaited
+returns-in-Some-clause-awaited g c = rw c.in-Some.is at c.in_ok-ahead.ensures.awaited
+
+pub returns-in-Some-2-clause-awaited : goal.returns-in-Some-2-clause-awaited
+returns-in-Some-2-clause-awaited g c = rw c.in-Some-2.is at c.in_ok-first.ensures.awaited
+
 pub returns-in-Done-clause-gives : goal.returns-in-Done-clause-gives
 returns-in-Done-clause-gives g c =
     let s = c.args.store.now.sheet in

@@ -19,14 +19,14 @@ cells-init g c = record { steps = steps_none c.requires.frame refl; nothing = c.
 
 pub cells-smaller : goal.cells-smaller
 cells-smaller g c =
-    lacks_less c.args.store.now.sheet c.cells.frame.key c.cells.frame.found c.add_cell.new.self c.cells.at c.in-Known.value c.cells.others c.in_ok-add_cell-in-Known.ensures.ok c.cells.invariant.awaits
+    lacks_less c.args.store.now.sheet c.cells.frame.key c.cells.frame.found c.add_cell.new.self c.cells.at c.in-Known.value c.cells.others c.in_ok-add_cell-in-Known.ensures c.cells.invariant.awaits
 
 pub cells-preserved : goal.cells-preserved
 cells-preserved g c =
     let s = c.args.store.now.sheet in
     let i = c.cells.invariant in
     let shown = rw c.in-Known.is at c.in_ok-value.ensures.asked in
-    let more = c.in_ok-add_cell-in-Known.ensures.ok in
+    let more = c.in_ok-add_cell-in-Known.ensures in
     record {
       steps = steps_less (omega arith) (steps_cell i.steps c.in_ok-value.ensures.same i.nothing c.requires.memo refl refl i.nothing more i.awaits.0.1 i.awaits.1 i.awaits.2 shown);
       nothing = i.nothing;
@@ -39,6 +39,11 @@ returns-in-Unvalued-clause-next g c =
     let i = c.cells.invariant in
     next_here c.cells.frame.key c.args.frame.now.key i.steps.same i.steps.key (rw c.in-Unvalued.is at c.in_ok-value.ensures.asked) i.awaits.1
 
+pub returns-in-Unvalued-clause-awaited : goal.returns-in-Unvalued-clause-awaited
+returns-in-Unvalued-clause-awaited g c =
+    let there = rw c.in-Unvalued.is at c.in_ok-value.ensures.asked in
+    (there.unvalued.cell, there.unvalued.world)
+
 pub returns-in-Unvalued-clause-steps : goal.returns-in-Unvalued-clause-steps
 returns-in-Unvalued-clause-steps g c =
     let i = c.cells.invariant in
@@ -48,7 +53,7 @@ pub returns-in-None-clause-steps : goal.returns-in-None-clause-steps
 returns-in-None-clause-steps g c =
     let i = c.cells.invariant in
     let shown = rw c.in-Known.is at c.in_ok-value.ensures.asked in
-    steps_cell i.steps c.in_ok-value.ensures.same i.nothing c.requires.memo refl refl i.nothing c.in_ok-add_cell-in-Known.ensures.ok i.awaits.0.1 i.awaits.1 i.awaits.2 shown
+    steps_cell i.steps c.in_ok-value.ensures.same i.nothing c.requires.memo refl refl i.nothing c.in_ok-add_cell-in-Known.ensures i.awaits.0.1 i.awaits.1 i.awaits.2 shown
 
 pub returns-in_err-value-clause-steps : goal.returns-in_err-value-clause-steps
 returns-in_err-value-clause-steps g c =

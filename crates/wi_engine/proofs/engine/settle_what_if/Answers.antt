@@ -41,7 +41,7 @@ returns-clause-steps g c =
     let world = rw c.in-Known.is at c.in_ok-first.ensures.inputs in
     let shown = rw c.in-Known-2.is at c.in_ok-first-in-Known.ensures.asked in
     let x : FoundWhatIf = record { at = c.args.at; pairs = c.args.pairs; value = c.in-Known-2.value } in
-    steps_what_if {x = x} c.requires.memo c.in_ok-first.ensures.same c.in_ok-first-in-Known.ensures.same c.requires.frame c.requires.waiting refl refl c.requires.waiting c.in_ok-add_what_if-in-Known-2.ensures.ok c.requires.awaits.0 c.requires.awaits.1
+    steps_what_if {x = x} c.requires.memo c.in_ok-first.ensures.same c.in_ok-first-in-Known.ensures.same c.requires.frame c.requires.waiting refl refl c.requires.waiting c.in_ok-add_what_if-in-Known-2.ensures c.requires.awaits.0 c.requires.awaits.1
     c.deref.ensures.value world c.in_ok-first.ensures.order shown
 
 pub returns-in_err-first-clause-steps : goal.returns-in_err-first-clause-steps

@@ -40,6 +40,14 @@ binary_value-returns-in_err-x g t c =
     let p = err_from_is_err_and c.from_residual.result c.from_residual.ensures.1 in
     rw (p.1, p.2) (wanted_too _ _ _ (leaves (tree_of c.args.left.now)) _ (left_asks c.args.operator (tree_of c.args.left.now) (tree_of c.args.right.now)) c.in_err-x.field-0.0 c.in_err-x.ensures)
 
+pub binary_value-returns-in-Some : goal.binary_value-returns-in-Some
+binary_value-returns-in-Some g t c =
+    let op = c.args.operator in
+    let left = tree_of c.args.left.now in
+    let right = tree_of c.args.right.now in
+    evaluates_too g.L.Lookup.known_cell g.L.Lookup.known_what_if c.args.lookup.now (mapped (operate op c.in-Some.x.now) (of_tree right)) (of_tree (binary op left right)) c.with_right_operand.result
+    (λ a agrees. ap (λ (x : Value). operate op x (meaning right a.cells a.what_ifs)) (c.in-Some.ensures a agrees)) (right_asks op left right) c.with_right_operand.ensures
+
 pub binary_value-returns : goal.binary_value-returns
 binary_value-returns g t c =
     let op = c.args.operator in

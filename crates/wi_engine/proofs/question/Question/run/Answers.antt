@@ -1,6 +1,6 @@
 use Rattle.wi_engine.proofs.Words.{◌≡◌, ◌∙◌, ℕ, List, [], ◌∷◌, length, refl, arith, Frame}
 use Rattle.wi_engine.proofs.engine.FrameRuns.{IsNew, GoesDeeper, deeper_smaller, back_smaller, run_below, run_value}
-use Rattle.wi_engine.proofs.engine.Ends.{turn_same, turn_kept, comes_back, going_start, going_deeper, going_back, going_stops, going_ends, root_kept, root_there}
+use Rattle.wi_engine.proofs.engine.Ends.{turn_same, turn_kept, comes_back, going_start, going_deeper, going_awaited, going_back, going_stops, going_ends, root_kept, root_there}
 use Rattle.wi_engine.proofs.engine.Steps.{counts_less}
 use Rattle.wi_engine.proofs.question.Question.run.Goals as goal
 
@@ -39,6 +39,7 @@ frames-preserved-in-Unvalued g c =
       rises = a.counts.rises;
       evaluations = u.1;
       key = u.0.next;
+      awaited = rw c.in-Unvalued.is at a.awaited;
       new = record { key = n.key; formula = rw n.formula u.0.stands; cells = n.cells; what_ifs = n.what_ifs; waiting = n.waiting };
     } in
     rw (c.in_ok-push-in-Unvalued.ensures.items, a.steps.same) (going_deeper c.frames.invariant turn)
@@ -46,8 +47,8 @@ frames-preserved-in-Unvalued g c =
 pub take_in-requires-clause-awaits : goal.take_in-requires-clause-awaits
 take_in-requires-clause-awaits g c = (run_below _ (rw c.in-Some.ensures.items at c.frames.invariant).running).waiting
 
-pub take_in-requires-clause-own : goal.take_in-requires-clause-own
-take_in-requires-clause-own g c = rw c.retire-key.ensures (c.in_ok-next.ensures.steps.frame refl).key.own
+pub take_in-requires-clause-awaited : goal.take_in-requires-clause-awaited
+take_in-requires-clause-awaited g c = rw (c.retire-key.ensures, c.in_ok-next.ensures.steps.key) (going_awaited (rw c.in-Some.ensures.items at c.frames.invariant))
 
 pub take_in-requires-clause-right : goal.take_in-requires-clause-right
 take_in-requires-clause-right g c =

@@ -3,4 +3,4 @@ use Rattle.wi_propagate.proofs.Words.{told}
 use Rattle.wi_propagate.proofs.keeping.Keeping.new.Goals as goal
 
 pub returns-clause-memo : goal.returns-clause-memo
-returns-clause-memo c = begun_is_memo c.args.store.now.sheet c.args.store.now.edits (told c.args.store.now.sheet c.args.generations.now.named) c.new-2.result c.args.kept c.new-2.ensures c.requires.right
+returns-clause-memo c = begun_is_memo c.args.store.now.sheet c.args.store.now.edits (told c.args.store.now.sheet c.args.generations.now.named) c.clear.new.self.entries c.args.kept c.clear.ensures c.requires.right

@@ -1,7 +1,7 @@
-use Rattle.wi_propagate.proofs.Words.{◌≡◌, ◌≤◌, ◌-◌, ◌+◌, ◌⊎◌, ◌||◌, ◌∙◌, ℕ, false, true, List, length, Option, Some, IfSome, OnOk, is_some, refl, ap, sym, subst, rules, IfOk-weaker, option_or, Replacement, put_all, Value, going, value_for, circular, cell_value, same_case, IsKeptFor, TakesPlaces, GivesUpWhenFull, Keeping, TakesOver, keeping, state_in, value_in, generation_in, key_in, has_kept, told}
+use Rattle.wi_propagate.proofs.Words.{◌≡◌, ◌≤◌, ◌-◌, ◌+◌, ◌⊎◌, ◌||◌, ◌∙◌, ℕ, false, true, List, length, Option, Some, IfSome, OnOk, is_some, refl, ap, sym, subst, rules, IfOk-weaker, option_or, Replacement, put_all, Value, Key, Entries, KeptValues, going, value_for, circular, cell_value, same_case, IsKeptFor, TakesPlaces, GivesUpWhenFull, Keeping, TakesOver, keeping, state_in, value_in, generation_in, key_in, has_kept, told}
 use Rattle.wi_propagate.proofs.RightValues.{found_is_kept}
 use Rattle.wi_propagate.proofs.KeepSteps.{KeepsIn, right_after, kept_after, there_after, room_after, gives_up_after}
-use Rattle.wi_propagate.proofs.ValuesAtHand.{known_after, stays_after, found_after}
+use Rattle.wi_propagate.proofs.ValuesAtHand.{done, given_over, keeps_nothing, known_after, stays_after, stays_found, found_after}
 use Rattle.wi_propagate.proofs.PlaceCounts.{one_place_after}
 use Rattle.wi_propagate.proofs.keeping.KeepingMemo.keep.Goals as goal
 
@@ -9,74 +9,97 @@ pub returns-clause-keeps : goal.returns-clause-keeps
 returns-clause-keeps c =
     let i = c.self.inside in
     let gs = (told i.store.now.sheet i.generations.now.named) in
-    let e = c.keep.ensures in
-    let keeps : KeepsIn c.keep.result i.kept c.keep.new.self c.args.key c.args.value = record { found = e.found; stays = e.stays; goes = e.one_goes; going = e.going; len = e.len; capacity = e.capacity; err = e.err } in
-    let takes : TakesOver (going i.kept c.args.key) i.given_up c.save_going.new.given_up = c.in_ok-save_going.ensures.ok in
-    let new : ℕ → List Replacement → Option Value = λ d w. option_or (value_for c.keep.new.self.entries (key_in gs d w)) (value_for c.save_going.new.given_up (key_in gs d w)) in
+    let e = c.in_ok-gone.ensures in
+    let keeps : KeepsIn done i.kept c.keep-gone.new.self c.args.key c.args.value = record { found = e.found; stays = e.stays; goes = e.one_goes; going = e.going; len = e.len; capacity = e.capacity; err = tt } in
+    let es = i.given_up.entries in
+    let fs = c.give_up.new.given_up.entries in
+    let takes : TakesOver (going i.kept c.args.key) es fs = given_over e.gone c.make_room.ensures.entries c.give_up.ensures in
+    let new : ℕ → List Replacement → Option Value = λ d w. option_or (value_for c.keep-gone.new.self.entries (key_in gs d w)) (value_for fs (key_in gs d w)) in
     let s = i.store.now in
     record {
       sheet = ap (λ (q : Keeping). q.sheet) c.self.view_is;
       same = record {
         covers = refl;
         generation = ap (λ (q : Keeping). generation_in q.generations) c.self.view_is;
-        capacity = c.keep.ensures.capacity ∙ ap (λ (q : Keeping). q.values.capacity) c.self.view_is;
+        capacity = e.capacity ∙ ap (λ (q : Keeping). q.values.capacity) c.self.view_is;
         latest = ap (λ (q : Keeping). q.edits) c.self.view_is;
       };
-      known = subst (λ (q : Keeping). (d : ℕ) (w : List Replacement) → IfSome (new d w) (λ x. (value_in q (key_in q.generations d w) ≡ Some x) ⊎ ((d ≡ c.args.key.cell) × (w ≡ c.args.key.world) × (x ≡ c.args.value)))) c.self.view_is (known_after i.given_up c.save_going.new.given_up i.kept c.keep.new.self c.args.key c.args.value c.len.ensures.one_each takes gs c.keep.result keeps);
+      known = subst (λ (q : Keeping). (d : ℕ) (w : List Replacement) → IfSome (new d w) (λ x. (value_in q (key_in q.generations d w) ≡ Some x) ⊎ ((d ≡ c.args.key.cell) × (w ≡ c.args.key.world) × (x ≡ c.args.value)))) c.self.view_is (known_after es fs i.kept c.keep-gone.new.self c.args.key c.args.value c.len.ensures.one_each takes gs done keeps);
       told = search rules;
-      places = subst (λ (q : Keeping). TakesPlaces (state_in q) (state_in (keeping s.sheet s.edits gs c.save_going.new.given_up c.keep.new.self)) 0 1) c.self.view_is (one_place_after c.keep.result s.sheet s.edits gs i.given_up c.save_going.new.given_up i.kept c.keep.new.self c.args.key c.args.value keeps);
-      gives_up = subst (λ (q : Keeping). GivesUpWhenFull (state_in q) (state_in (keeping s.sheet s.edits gs c.save_going.new.given_up c.keep.new.self))) c.self.view_is (gives_up_after c.keep.result s.sheet s.edits gs i.given_up c.save_going.new.given_up i.kept c.keep.new.self c.args.key c.args.value keeps);
+      places = subst (λ (q : Keeping). TakesPlaces (state_in q) (state_in (keeping s.sheet s.edits gs fs c.keep-gone.new.self)) 0 1) c.self.view_is (one_place_after done s.sheet s.edits gs es fs i.kept c.keep-gone.new.self c.args.key c.args.value keeps);
+      gives_up = subst (λ (q : Keeping). GivesUpWhenFull (state_in q) (state_in (keeping s.sheet s.edits gs fs c.keep-gone.new.self))) c.self.view_is (gives_up_after done s.sheet s.edits gs es fs i.kept c.keep-gone.new.self c.args.key c.args.value keeps);
     }
 
 pub returns-clause-kept : goal.returns-clause-kept
 returns-clause-kept c =
     let i = c.self.inside in
     let gs = (told i.store.now.sheet i.generations.now.named) in
-    let e = c.keep.ensures in
-    let keeps : KeepsIn c.keep.result i.kept c.keep.new.self c.args.key c.args.value = record { found = e.found; stays = e.stays; goes = e.one_goes; going = e.going; len = e.len; capacity = e.capacity; err = e.err } in
+    let e = c.in_ok-gone.ensures in
+    let keeps : KeepsIn done i.kept c.keep-gone.new.self c.args.key c.args.value = record { found = e.found; stays = e.stays; goes = e.one_goes; going = e.going; len = e.len; capacity = e.capacity; err = tt } in
     let generation : c.args.key.generation ≡ generation_in gs c.args.key.cell = c.requires.generation ∙ ap (λ (q : Keeping). generation_in q.generations c.args.key.cell) (sym c.self.view_is) in
-    let takes : TakesOver (going i.kept c.args.key) i.given_up c.save_going.new.given_up = c.in_ok-save_going.ensures.ok in
-    let new : ℕ → List Replacement → Option Value = λ d w. option_or (value_for c.keep.new.self.entries (key_in gs d w)) (value_for c.save_going.new.given_up (key_in gs d w)) in
+    let es = i.given_up.entries in
+    let fs = c.give_up.new.given_up.entries in
+    let takes : TakesOver (going i.kept c.args.key) es fs = given_over e.gone c.make_room.ensures.entries c.give_up.ensures in
+    let new : ℕ → List Replacement → Option Value = λ d w. option_or (value_for c.keep-gone.new.self.entries (key_in gs d w)) (value_for fs (key_in gs d w)) in
     let generation : c.args.key.generation ≡ generation_in (told i.store.now.sheet i.generations.now.named) c.args.key.cell = c.requires.generation ∙ ap (λ (q : Keeping). generation_in q.generations c.args.key.cell) (sym c.self.view_is) in
-    let room = c.keep.new.self.capacity - length c.keep.new.self.entries in
-    let found = c.keep.ensures.found in
-    let there = there_after c.keep.result (told i.store.now.sheet i.generations.now.named) c.keep.new.self c.args.key c.args.value generation (search found) in
+    let room = c.keep-gone.new.self.capacity - length c.keep-gone.new.self.entries in
+    let found = e.found in
+    let there = there_after done (told i.store.now.sheet i.generations.now.named) c.keep-gone.new.self c.args.key c.args.value generation (search found) in
     let s = i.store.now in
-    has_kept c.keep.result (state_in c.args.self.now) (state_in (keeping s.sheet s.edits gs c.save_going.new.given_up c.keep.new.self)) c.args.key (subst (λ (q : Keeping). OnOk c.keep.result ((d : ℕ) (w : List Replacement) → is_some (new d w) ≡ (is_some (value_in q (key_in q.generations d w)) || same_case (c.args.key.cell, c.args.key.world) (d, w)))) c.self.view_is (found_after i.given_up c.save_going.new.given_up i.kept c.keep.new.self c.args.key c.args.value c.len.ensures.one_each takes gs c.keep.result keeps generation)) (IfOk-weaker c.keep.result _ _ (λ v h l. h) there) (subst (λ (q : Keeping). OnOk c.keep.result (1 ≤ q.values.capacity - length q.values.entries → (d : ℕ) (w : List Replacement) → is_some (value_for c.keep.new.self.entries (key_in (told i.store.now.sheet i.generations.now.named) d w)) ≡ (is_some (value_for q.values.entries (key_in q.generations d w)) || same_case (c.args.key.cell, c.args.key.world) (d, w)))) c.self.view_is (kept_after c.keep.result (told i.store.now.sheet i.generations.now.named) i.kept c.keep.new.self c.args.key c.args.value keeps generation)) (subst (λ (q : Keeping). OnOk c.keep.result (is_some (value_for q.values.entries (key_in q.generations c.args.key.cell c.args.key.world)) ≡ false → 1 ≤ q.values.capacity - length q.values.entries → room + 1 ≡ q.values.capacity - length q.values.entries)) c.self.view_is (room_after c.keep.result (told i.store.now.sheet i.generations.now.named) i.kept c.keep.new.self c.args.key c.args.value keeps generation))
+    has_kept done (state_in c.args.self.now) (state_in (keeping s.sheet s.edits gs fs c.keep-gone.new.self)) c.args.key (subst (λ (q : Keeping). OnOk done ((d : ℕ) (w : List Replacement) → is_some (new d w) ≡ (is_some (value_in q (key_in q.generations d w)) || same_case (c.args.key.cell, c.args.key.world) (d, w)))) c.self.view_is (found_after es fs i.kept c.keep-gone.new.self c.args.key c.args.value c.len.ensures.one_each takes gs done keeps generation)) (IfOk-weaker done _ _ (λ v h l. h) there) (subst (λ (q : Keeping). OnOk done (1 ≤ q.values.capacity - length q.values.entries → (d : ℕ) (w : List Replacement) → is_some (value_for c.keep-gone.new.self.entries (key_in (told i.store.now.sheet i.generations.now.named) d w)) ≡ (is_some (value_for q.values.entries (key_in q.generations d w)) || same_case (c.args.key.cell, c.args.key.world) (d, w)))) c.self.view_is (kept_after done (told i.store.now.sheet i.generations.now.named) i.kept c.keep-gone.new.self c.args.key c.args.value keeps generation)) (subst (λ (q : Keeping). OnOk done (is_some (value_for q.values.entries (key_in q.generations c.args.key.cell c.args.key.world)) ≡ false → 1 ≤ q.values.capacity - length q.values.entries → room + 1 ≡ q.values.capacity - length q.values.entries)) c.self.view_is (room_after done (told i.store.now.sheet i.generations.now.named) i.kept c.keep-gone.new.self c.args.key c.args.value keeps generation))
 
 pub returns-clause-stays : goal.returns-clause-stays
 returns-clause-stays c =
     let i = c.self.inside in
     let gs = (told i.store.now.sheet i.generations.now.named) in
-    let e = c.keep.ensures in
-    let keeps : KeepsIn c.keep.result i.kept c.keep.new.self c.args.key c.args.value = record { found = e.found; stays = e.stays; goes = e.one_goes; going = e.going; len = e.len; capacity = e.capacity; err = e.err } in
-    let takes : TakesOver (going i.kept c.args.key) i.given_up c.save_going.new.given_up = c.in_ok-save_going.ensures.ok in
-    let new : ℕ → List Replacement → Option Value = λ d w. option_or (value_for c.keep.new.self.entries (key_in gs d w)) (value_for c.save_going.new.given_up (key_in gs d w)) in
+    let e = c.in_ok-gone.ensures in
+    let keeps : KeepsIn done i.kept c.keep-gone.new.self c.args.key c.args.value = record { found = e.found; stays = e.stays; goes = e.one_goes; going = e.going; len = e.len; capacity = e.capacity; err = tt } in
+    let es = i.given_up.entries in
+    let fs = c.give_up.new.given_up.entries in
+    let takes : TakesOver (going i.kept c.args.key) es fs = given_over e.gone c.make_room.ensures.entries c.give_up.ensures in
+    let new : ℕ → List Replacement → Option Value = λ d w. option_or (value_for c.keep-gone.new.self.entries (key_in gs d w)) (value_for fs (key_in gs d w)) in
     subst (λ (q : Keeping). (d : ℕ) (w : List Replacement) → is_some (value_in q (key_in q.generations d w)) ≡ true → is_some (new d w) ≡ true) c.self.view_is
-    (stays_after i.given_up c.save_going.new.given_up i.kept c.keep.new.self c.args.key c.args.value c.len.ensures.one_each takes gs c.keep.result keeps)
+    (stays_after es fs i.kept c.keep-gone.new.self c.args.key c.args.value c.len.ensures.one_each takes gs done keeps)
 
-pub returns-in_err-save_going-clause-keeps : goal.returns-in_err-save_going-clause-keeps
-returns-in_err-save_going-clause-keeps c =
-    record {
-      sheet = ap (λ (q : Keeping). q.sheet) c.self.view_is;
-      same = record {
-        covers = refl;
-        generation = ap (λ (q : Keeping). generation_in q.generations) c.self.view_is;
-        capacity = ap (λ (q : Keeping). q.values.capacity) c.self.view_is;
-        latest = ap (λ (q : Keeping). q.edits) c.self.view_is;
-      };
-      known = search rules;
-      told = search rules;
-      places = search rules;
-      gives_up = search rules;
-    }
+pub returns-in_err-make_room-clause-keeps : goal.returns-in_err-make_room-clause-keeps
+returns-in_err-make_room-clause-keeps c =
+    let i = c.self.inside in
+    let gs = told i.store.now.sheet i.generations.now.named in
+    keeps_nothing c.args.self.now _ c.args.key c.args.value (ap (λ (es : Entries). keeping i.store.now.sheet i.store.now.edits gs es i.kept) c.make_room.ensures.entries ∙ c.self.view_is)
+
+pub returns-in_err-make_room-clause-stays : goal.returns-in_err-make_room-clause-stays
+returns-in_err-make_room-clause-stays c =
+    let i = c.self.inside in
+    let gs = told i.store.now.sheet i.generations.now.named in
+    stays_found c.args.self.now _ (ap (λ (es : Entries). keeping i.store.now.sheet i.store.now.edits gs es i.kept) c.make_room.ensures.entries ∙ c.self.view_is)
+
+pub returns-in_err-gone-clause-keeps : goal.returns-in_err-gone-clause-keeps
+returns-in_err-gone-clause-keeps c =
+    let i = c.self.inside in
+    let gs = told i.store.now.sheet i.generations.now.named in
+    keeps_nothing c.args.self.now _ c.args.key c.args.value
+    (ap (λ (ks : KeptValues). keeping i.store.now.sheet i.store.now.edits gs c.make_room.new.given_up.entries ks) c.in_err-gone.ensures.err
+    ∙ ap (λ (es : Entries). keeping i.store.now.sheet i.store.now.edits gs es i.kept) c.make_room.ensures.entries ∙ c.self.view_is)
+
+pub returns-in_err-gone-clause-stays : goal.returns-in_err-gone-clause-stays
+returns-in_err-gone-clause-stays c =
+    let i = c.self.inside in
+    let gs = told i.store.now.sheet i.generations.now.named in
+    stays_found c.args.self.now _
+    (ap (λ (ks : KeptValues). keeping i.store.now.sheet i.store.now.edits gs c.make_room.new.given_up.entries ks) c.in_err-gone.ensures.err
+    ∙ ap (λ (es : Entries). keeping i.store.now.sheet i.store.now.edits gs es i.kept) c.make_room.ensures.entries ∙ c.self.view_is)
+
+pub give_up-requires : goal.give_up-requires
+give_up-requires c =
+    let room = c.in_ok-make_room.ensures.room c.args.key in
+    subst (λ (o : Option (Key × Value)). IfSome o (λ _. 1 ≤ c.make_room.new.given_up.room)) (sym c.in_ok-gone.ensures.gone) room
 
 pub invariant_of-self-2 : goal.invariant_of-self-2
 invariant_of-self-2 c =
     let i = c.self.inside in
     let h = c.self.invariant in
-    let e = c.keep.ensures in
-    let keeps : KeepsIn c.keep.result i.kept c.keep.new.self c.args.key c.args.value = record { found = e.found; stays = e.stays; goes = e.one_goes; going = e.going; len = e.len; capacity = e.capacity; err = e.err } in
+    let e = c.in_ok-gone.ensures in
+    let keeps : KeepsIn done i.kept c.keep-gone.new.self c.args.key c.args.value = record { found = e.found; stays = e.stays; goes = e.one_goes; going = e.going; len = e.len; capacity = e.capacity; err = tt } in
     let generation : c.args.key.generation ≡ generation_in (told i.store.now.sheet i.generations.now.named) c.args.key.cell = c.requires.generation ∙ ap (λ (q : Keeping). generation_in q.generations c.args.key.cell) (sym c.self.view_is) in
     let leaf : circular i.store.now.sheet c.args.key.cell ≡ false = ap (λ (q : Keeping). circular q.sheet c.args.key.cell) c.self.view_is ∙ c.requires.open_cell in
     let right : c.args.value ≡ cell_value (put_all i.store.now.sheet c.args.key.world) c.args.key.cell = c.requires.right ∙ ap (λ (q : Keeping). cell_value (put_all q.sheet c.args.key.world) c.args.key.cell) (sym c.self.view_is) in
@@ -86,7 +109,7 @@ invariant_of-self-2 c =
       h.2,
       record {
         past = h.3.past;
-        right = right_after c.keep.result i.store.now.sheet i.store.now.edits (generation_in (told i.store.now.sheet i.generations.now.named)) i.kept c.keep.new.self c.args.key c.args.value keeps new h.3.right;
+        right = right_after done i.store.now.sheet i.store.now.edits (generation_in (told i.store.now.sheet i.generations.now.named)) i.kept c.keep-gone.new.self c.args.key c.args.value keeps new h.3.right;
       },
       h.4,
       h.5,

@@ -1,5 +1,5 @@
 use Rattle.wi_engine.proofs.Words.{◌≡◌, drop, map, pair_of, addresses, first_for}
-use Rattle.wi_engine.proofs.findings.Findings.what_if.Given as goal
+use Rattle.wi_engine.proofs.lists.Lists.what_if.Given as goal
 
 abbrev pub invariant-loop-found : goal.invariant-loop-found
 invariant-loop-found l =

@@ -1,6 +1,6 @@
 use Rattle.wi_engine.proofs.Words.{refl, nat_cmp, get}
-use Rattle.wi_engine.proofs.findings.FoundCells.{listed_more, risen_more, put_more}
-use Rattle.wi_engine.proofs.findings.Findings.add_cell.Goals as goal
+use Rattle.wi_engine.proofs.lists.FoundCells.{listed_more, risen_more, put_more}
+use Rattle.wi_engine.proofs.lists.Lists.add_cell.Goals as goal
 
 pub returns-then-len-lt-MAX_LISTED-clause-ok : goal.returns-then-len-lt-MAX_LISTED-clause-ok
 returns-then-len-lt-MAX_LISTED-clause-ok c =
