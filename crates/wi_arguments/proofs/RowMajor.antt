@@ -1,12 +1,13 @@
 -- The cells of a rectangle stand in order, and each is inside.
-use Rattle.std.proofs.Common.{◌≡◌, ℕ, zero, suc, ◌<◌, ◌≤◌, ◌-◌, ◌+◌, ◌*◌, Bool, true, false, cond, ◌&&◌, List, [], ◌∷◌, ◌++◌, map, filter, refl, sym, ap, ◌∙◌, subst, arith}
+use Rattle.std.proofs.Common.{◌≡◌, ℕ, zero, suc, ◌<◌, ◌≤◌, ◌-◌, ◌+◌, ◌*◌, Bool, true, false, cond, List, [], ◌∷◌, ◌++◌, map, filter, refl, sym, ap, ◌∙◌, subst, arith}
 use Rattle.std.specs.Prelude.{nat_le, nat_lt}
 use Rattle.std.specs.List.{AllByRecursion, range_with_len, flat_map}
-use Rattle.std.proofs.lemmas.Bool.{and_parts, and_from, le-leb, leb-true, le-ltb, lt-leb, lt-ltb, ltb-false, ltb-true}
+use Rattle.std.proofs.lemmas.Bool.{and_from, le-leb, le-ltb, lt-leb, lt-ltb, ltb-false, ltb-true}
 use Rattle.std.proofs.Math.Nat.{mod-lt, div-add-mod'}
 use Rattle.wi_values.specs.declared.value.Value.{Value}
 use Rattle.wi_standard_functions.specs.Arguments.{region_of}
 use Rattle.wi_values.specs.Address.{Area, is_within, cells_of, place, row_of, column_of}
+use Rattle.wi_values.proofs.Within.{within_parts}
 
 all_append : (P : ℕ → Type 0) (xs ys : List ℕ) → AllByRecursion P xs → AllByRecursion P ys → AllByRecursion P (xs ++ ys)
 all_append P [] ys h k = k
@@ -98,13 +99,6 @@ block_splits c at_row row (suc h) a n l m w p q = at (nat_lt row at_row) refl (�
         then_above c (run row a n) (block (row + 1) h a n) (run_splits c row a n (subst (λ (i : ℕ). place i a ≤ c) same p) (subst (λ (i : ℕ). c < place i (a + n)) same q)) (block_above c (row + 1) h a n (omega (arith, same, q, w)))
 
 -- ---- a rectangle
-
-pub within_parts : (r : Area) (c : ℕ) → is_within r c ≡ true → (row_of r.first ≤ row_of c) × (row_of c ≤ row_of r.last) × (column_of r.first ≤ column_of c) × (column_of c ≤ column_of r.last)
-within_parts r c h =
-    let p = and_parts (nat_le (row_of r.first) (row_of c) && nat_le (row_of c) (row_of r.last)) _ h in
-    let q = and_parts (nat_le (row_of r.first) (row_of c)) _ p.0 in
-    let s = and_parts (nat_le (column_of r.first) (column_of c)) _ p.1 in
-    (leb-true _ _ q.0, leb-true _ _ q.1, leb-true _ _ s.0, leb-true _ _ s.1)
 
 pub from_cell_on : (r : Area) (c : ℕ) → is_within r c ≡ true → Splits c (cells_of r)
 from_cell_on r c h =

@@ -14,6 +14,7 @@ use Rattle.wi_arguments.specs.Assignment.{value_if_known}
 use Rattle.wi_arguments.specs.Filled.{IsNextFilled, ComesBefore, is_known_empty}
 use Rattle.wi_arguments.specs.Walk.{after_cells, to_come, HasTaken, IsNextAfter}
 use Rattle.wi_values.proofs.Within.{within_between}
+use Rattle.wi_values.proofs.Lists.{filter_all}
 use Rattle.wi_arguments.proofs.Given.{known_is}
 use Rattle.wi_arguments.proofs.RowMajor.{cells_inside, from_cell_on}
 
@@ -197,10 +198,6 @@ module _ {S : Type 0} (after : S → ℕ → Value → S) where
   abbrev pub Rest : (ℕ → Option Value) → Area → S → S → Option ℕ → Type 0
   Rest known r whole s ahead = IfSome ahead (λ c. is_within r c ≡ true) × ((cells : ℕ → Value) → KnownAgrees known cells → after_cells after cells s (to_come r ahead) ≡ after_cells after cells whole (cells_of r))
 
-  all_pass : (xs : List ℕ) → filter (λ a. true) xs ≡ xs
-  all_pass [] = refl
-  all_pass (x ∷ xs) = ap (λ (ys : List ℕ). x ∷ ys) (all_pass xs)
-
   any_is_reached : (o : Option ℕ) → IfSome o (λ d. (a : ℕ) → d ≤ a → true ≡ true)
   any_is_reached None = tt
   any_is_reached (Some d) = λ a l. refl
@@ -211,7 +208,7 @@ module _ {S : Type 0} (after : S → ℕ → Value → S) where
     first_of (λ c. is_within r c ≡ true) (λ c. from ≤ c) found h.inside,
     λ cells agrees.
         sym (found_next passes_empty known cells r (λ a. true) found s agrees (any_is_reached found) (λ a w t b. h.empty_before a w (omega (arith, e, (within_between r a w).0)) b))
-        ∙ ap (λ (xs : List ℕ). after_cells after cells s xs) (all_pass (cells_of r)),
+        ∙ ap (λ (xs : List ℕ). after_cells after cells s xs) (filter_all (cells_of r)),
   )
 
   -- a cell is taken

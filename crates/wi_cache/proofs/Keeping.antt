@@ -17,7 +17,8 @@ use Rattle.indexmap.proofs.MapLemmas.{absent_from_lookup, insert_entry-absent, l
 use Rattle.wi_values.specs.declared.value.Value.{Value}
 use Rattle.wi_cache.specs.declared.key.Key.{Key}
 use Rattle.wi_cache.specs.Entries.{Entries, HasOneEach, HasRoom, IsLine, Puts, PutsFor, PutsForGoing, PutsForOne, going, kept, keys_after, last_entry, latest, len_after, place_after, same_key, value_for}
-use Rattle.wi_cache.proofs.Keys.{key_means, same_key_equiv}
+use Rattle.wi_cache.specs.Hashed.{same_key_means}
+use Rattle.wi_cache.proofs.Keys.{same_key_equiv}
 
 none_is_some : (o : Option Value) → o ≡ None → IsSome o → ⊥
 none_is_some None e h = true≢false (sym h)
@@ -248,7 +249,7 @@ module _ {S : Type 0} (em fm : IndexMap Key Value S) (k : Key) (v : Value) (put 
         where
           by : (b : Bool) → same_key k e.0 ≡ b → b ≡ false
           by false h = refl
-          by true h = absurd (none-some e.1 (sym new ∙ ap (value_for es) (key_means k e.0 h) ∙ stood))
+          by true h = absurd (none-some e.1 (sym new ∙ ap (value_for es) (same_key_means k e.0 h) ∙ stood))
 
       swapped : (a b : Bool) (y : Option Value) → (a ≡ true → b ≡ false) → cond b (Some v) (cond a None y) ≡ cond a None (cond b (Some v) y)
       swapped true true y h = absurd (true≢false (h refl))
@@ -259,7 +260,7 @@ module _ {S : Type 0} (em fm : IndexMap Key Value S) (k : Key) (v : Value) (put 
       others : (m : ℕ) → PutsFor (latest n es) (latest m gs) k v e.0
       others m q =
           latest_finds m gs left q ∙ goes_out.0 q ∙ ap (cond (same_key e.0 q) None) (put.0 q)
-          ∙ sym (swapped (same_key e.0 q) (same_key k q) (value_for es q) (λ t. subst (λ y. same_key k y ≡ false) (key_means e.0 q t) apart))
+          ∙ sym (swapped (same_key e.0 q) (same_key k q) (value_for es q) (λ t. subst (λ y. same_key k y ≡ false) (same_key_means e.0 q t) apart))
           ∙ ap (λ (y : Option Value). cond (same_key k q) (Some v) (cond (same_key e.0 q) None y)) (sym (latest_finds n es line.0 q))
 
       pub found_gone : (m : ℕ) → value_for (latest m gs) k ≡ Some v

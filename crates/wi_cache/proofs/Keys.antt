@@ -21,11 +21,8 @@ same_key_Decides a b = (same_key_means a b, λ e. ap (same_key a) (sym e) ∙ it
 pub same_key_equiv : IsEquivalence same_key
 same_key_equiv = decided same_key same_key_Decides
 
-pub key_means : (a b : Key) → same_key a b ≡ true → a ≡ b
-key_means a b = (same_key_Decides a b).0
-
 pub key_itself : (a b : Key) → a ≡ b → same_key a b ≡ true
 key_itself a b = (same_key_Decides a b).1
 
 -- for `search`
-pub ruleset alike = (key_means, key_itself)
+pub ruleset alike = (same_key_means, key_itself)

@@ -3,7 +3,7 @@ use Rattle.std.proofs.Common.{◌≡◌, ℕ, ◌+◌, ◌-◌, ◌<◌, ◌≤�
 use Rattle.std.specs.List.{concat, filter, filter_map}
 use Rattle.std.specs.Option.{option_to_list}
 use Rattle.std.specs.Io.KnownBytes.{Appends, Keeps, Consumes, IsAtEnd, prepend_known}
-use Rattle.std.proofs.KnownBytes.{Appends-trans, Appends-nil}
+use Rattle.std.proofs.KnownBytes.{Appends-trans, Appends-nil, Appends-kept}
 use Rattle.std.proofs.lemmas.List.{take_at}
 use Rattle.std.proofs.lemmas.List.Elements.{filter_map-append, filter-append}
 use Rattle.std.proofs.lemmas.List.Folds.{concat-append}
@@ -116,12 +116,6 @@ unfolding limited
 limited_more ls more k h = ap (λ n. take n (ls ++ more)) (sym h) ∙ take-append-add ls more k
 
 -- ---- the ends of a run
-
-Appends-kept : (a b c : Option (List ℕ)) (xs : List ℕ) → Appends a b xs → Keeps b c → Appends a c xs
-Appends-kept None b c xs h k = tt
-Appends-kept (Some p) None c xs h k = absurd h
-Appends-kept (Some p) (Some q) None xs h k = absurd k
-Appends-kept (Some p) (Some q) (Some r) xs h k = k ∙ h
 
 -- the whole input was taken and served
 record IsOver (left q : Option (List ℕ)) (s t : State) (given given' : Option (List ℕ)) : Type 0 where

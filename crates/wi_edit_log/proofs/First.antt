@@ -1,7 +1,6 @@
 -- The first cell that passes a test: there is one at most, and the sooner of two is the first that passes either test.
 use Rattle.std.proofs.Common.{◌≡◌, ◌∙◌, ℕ, ◌≤◌, ◌⊎◌, inl, inr, Bool, true, false, ◌||◌, Option, Some, None, IfSome, min, refl, ap, sym, arith}
-use Rattle.std.proofs.Math.Bool.{or-true}
-use Rattle.std.proofs.lemmas.Bool.{both_ways, cases_lt, or_cases}
+use Rattle.std.proofs.lemmas.Bool.{both_ways, cases_lt, or_cases, or_left, or_right}
 use Rattle.wi_edit_log.specs.Inner.First.{IsAtOrBefore, IsFirst, sooner}
 
 -- ---- there is one at most
@@ -42,12 +41,6 @@ at_sooner (Some b) None a (inr k) = absurd k
 at_sooner (Some b) (Some d) a (inl h) = omega (arith, h)
 at_sooner (Some b) (Some d) a (inr k) = omega (arith, k)
 
-on_left : (b c : Bool) → b ≡ true → (b || c) ≡ true
-on_left b c h = rw h
-
-on_right : (b c : Bool) → c ≡ true → (b || c) ≡ true
-on_right b c h = rw h (or-true b)
-
 -- what holds of both numbers holds of the smaller
 of_smaller : (P : ℕ → Type 0) (a b : ℕ) → P a → P b → P (min a b)
 of_smaller P a b h k = elim (cases_lt a b) [
@@ -57,10 +50,10 @@ of_smaller P a b h k = elim (cases_lt a b) [
 
 sooner_passes : (test other : ℕ → Bool) (o p : Option ℕ) → IfSome o (λ a. test a ≡ true) → IfSome p (λ a. other a ≡ true) → IfSome (sooner o p) (λ a. (test a || other a) ≡ true)
 sooner_passes test other None None h k = tt
-sooner_passes test other None (Some b) h k = on_right (test b) (other b) k
-sooner_passes test other (Some a) None h k = on_left (test a) (other a) h
+sooner_passes test other None (Some b) h k = or_right (test b) (other b) k
+sooner_passes test other (Some a) None h k = or_left (test a) (other a) h
 sooner_passes test other (Some a) (Some b) h k =
-    of_smaller (λ c. (test c || other c) ≡ true) a b (on_left (test a) (other a) h) (on_right (test b) (other b) k)
+    of_smaller (λ c. (test c || other c) ≡ true) a b (or_left (test a) (other a) h) (or_right (test b) (other b) k)
 
 at_either : (test other : ℕ → Bool) (o p : Option ℕ) → IsFirst test o → IsFirst other p → (a : ℕ) → (test a ≡ true) ⊎ (other a ≡ true) → IsAtOrBefore (sooner o p) a
 at_either test other o p h k a (inl t) = at_sooner o p a (inl (h.least a t))

@@ -4,9 +4,10 @@ use Rattle.std.specs.Prelude.{nat_le}
 use Rattle.std.specs.List.{list_any, flat_map, reduce, fold, range_with_len}
 use Rattle.std.proofs.lemmas.List.{drop_min, drop-map}
 use Rattle.std.proofs.lemmas.List.Folds.{list_any-append}
-use Rattle.std.proofs.lemmas.Bool.{and_parts, and_from, both_ways, cases_eq, eq-eqb, eqb-true, leb-true, le-leb, or_cases}
-use Rattle.std.proofs.Math.Bool.{or-true}
+use Rattle.std.proofs.lemmas.Bool.{and_parts, and_from, both_ways, cases_eq, eq-eqb, eqb-true, leb-true, le-leb, or_cases, or_left, or_right}
+use Rattle.std.specs.Cmp.Derive.{one_truth}
 use Rattle.wi_values.specs.Address.{Area, columns, place, row_of, column_of, is_within, cells_of, cells_of_row}
+use Rattle.wi_values.proofs.Within.{row_of_place, column_of_place, column_within}
 use Rattle.wi_edit_log.specs.EditLog.{Entry, have_cell, is_stale, first_stale}
 use Rattle.wi_edit_log.specs.Inner.First.{IsFirst}
 use Rattle.wi_edit_log.specs.Inner.Edits.{entries_in, entry_in, is_wanted_of_others}
@@ -17,36 +18,16 @@ use Rattle.wi_edit_log.proofs.First.{only_first, same_first}
 abbrev has : List ℕ → ℕ → Bool
 has xs a = list_any (λ x. a == x) xs
 
-pub same_test : (b c : Bool) → (b ≡ true → c ≡ true) → (c ≡ true → b ≡ true) → b ≡ c
-same_test true c h k = sym (h refl)
-same_test false true h k = k refl
-same_test false false h k = refl
-
-on_left : (b c : Bool) → b ≡ true → (b || c) ≡ true
-on_left b c h = rw h
-
-on_right : (b c : Bool) → c ≡ true → (b || c) ≡ true
-on_right b c h = rw h (or-true b)
-
 -- ---- the cells of a rectangle are those within it
-
-pub row_of_place : (r c : ℕ) → c < columns → row_of (place r c) ≡ r
-row_of_place r c h = omega arith
-
-pub column_of_place : (r c : ℕ) → c < columns → column_of (place r c) ≡ c
-column_of_place r c h = omega arith
 
 pub place_of : (a : ℕ) → a ≡ place (row_of a) (column_of a)
 place_of a = omega arith
 
-pub column_within : (a : ℕ) → column_of a < columns
-column_within a = omega arith
-
 in_row : (row first n c : ℕ) → first ≤ c → c < first + n → has (map (place row) (range_with_len first n)) (place row c) ≡ true
 in_row row first zero c l m = absurd (omega (arith, l, m))
 in_row row first (suc n) c l m = elim (cases_eq c first) [
-  | inl e ↦ on_left (place row c == place row first) _ (eq-eqb (place row c) (place row first) (ap (place row) e))
-  | inr f ↦ on_right (place row c == place row first) _ (in_row row (first + 1) n c (omega (arith, l, f)) (omega (arith, m)))
+  | inl e ↦ or_left (place row c == place row first) _ (eq-eqb (place row c) (place row first) (ap (place row) e))
+  | inr f ↦ or_right (place row c == place row first) _ (in_row row (first + 1) n c (omega (arith, l, f)) (omega (arith, m)))
 ]
 
 of_row : (row first n a : ℕ) → has (map (place row) (range_with_len first n)) a ≡ true → (c : ℕ) × (first ≤ c) × (c < first + n) × (a ≡ place row c)
@@ -61,8 +42,8 @@ in_rows r first zero row a l m h = absurd (omega (arith, l, m))
 in_rows r first (suc n) row a l m h =
     list_any-append (λ x. a == x) (cells_of_row first r) (flat_map (λ k. cells_of_row k r) (range_with_len (first + 1) n))
     ∙ elim (cases_eq row first) [
-      | inl e ↦ on_left (has (cells_of_row first r) a) _ (subst (λ k. has (cells_of_row k r) a ≡ true) e h)
-      | inr f ↦ on_right (has (cells_of_row first r) a) _ (in_rows r (first + 1) n row a (omega (arith, l, f)) (omega (arith, m)) h)
+      | inl e ↦ or_left (has (cells_of_row first r) a) _ (subst (λ k. has (cells_of_row k r) a ≡ true) e h)
+      | inr f ↦ or_right (has (cells_of_row first r) a) _ (in_rows r (first + 1) n row a (omega (arith, l, f)) (omega (arith, m)) h)
     ]
 
 of_rows : (r : Area) (first n a : ℕ) → has (flat_map (λ k. cells_of_row k r) (range_with_len first n)) a ≡ true → (row : ℕ) × (first ≤ row) × (row < first + n) × (has (cells_of_row row r) a ≡ true)
@@ -113,7 +94,7 @@ cells_are : (areas : List Area) (a : ℕ) → has (flat_map cells_of areas) a �
 cells_are [] a = refl
 cells_are (r ∷ rs) a =
     list_any-append (λ x. a == x) (cells_of r) (flat_map cells_of rs)
-    ∙ ap (λ b. b || has (flat_map cells_of rs) a) (same_test (has (cells_of r) a) (is_within r a) (within r a) (inside r a))
+    ∙ ap (λ b. b || has (flat_map cells_of rs) a) (one_truth (has (cells_of r) a) (is_within r a) (within r a) (inside r a))
     ∙ ap (λ b. is_within r a || b) (cells_are rs a)
 
 -- ---- those that pass
@@ -153,17 +134,17 @@ module _ (x y : ℕ) (ys : List ℕ) (m : ℕ) (rest : IsFirst (has (min x y ∷
 
   among : (k : ℕ) → ((k == min x y) ≡ true) ⊎ (has ys k ≡ true) → ((k == x) || ((k == y) || has ys k)) ≡ true
   among k (inl t) = elim (one_of k (eqb-true k (min x y) t) (cases_eq k x)) [
-    | inl e ↦ on_left (k == x) _ (eq-eqb k x e)
-    | inr e ↦ on_right (k == x) _ (on_left (k == y) _ (eq-eqb k y e))
+    | inl e ↦ or_left (k == x) _ (eq-eqb k x e)
+    | inr e ↦ or_right (k == x) _ (or_left (k == y) _ (eq-eqb k y e))
   ]
-  among k (inr t) = on_right (k == x) _ (on_right (k == y) _ t)
+  among k (inr t) = or_right (k == x) _ (or_right (k == y) _ t)
 
   low : m ≤ min x y
-  low = rest.least (min x y) (on_left (min x y == min x y) _ (eq-eqb (min x y) (min x y) refl))
+  low = rest.least (min x y) (or_left (min x y == min x y) _ (eq-eqb (min x y) (min x y) refl))
 
   at_second : (a : ℕ) → ((a == y) ≡ true) ⊎ (has ys a ≡ true) → m ≤ a
   at_second a (inl t) = let e = eqb-true a y t in omega (arith, e, low)
-  at_second a (inr t) = rest.least a (on_right (a == min x y) _ t)
+  at_second a (inr t) = rest.least a (or_right (a == min x y) _ t)
 
   later : (a : ℕ) → ((a == x) ≡ true) ⊎ (((a == y) || has ys a) ≡ true) → m ≤ a
   later a (inl t) = let e = eqb-true a x t in omega (arith, e, low)
@@ -177,7 +158,7 @@ module _ (x y : ℕ) (ys : List ℕ) (m : ℕ) (rest : IsFirst (has (min x y ∷
 
 least_of : (x : ℕ) (xs : List ℕ) → IsFirst (has (x ∷ xs)) (Some (fold min x xs))
 least_of x [] = record {
-  passes = on_left (x == x) false (eq-eqb x x refl);
+  passes = or_left (x == x) false (eq-eqb x x refl);
   least = λ a t. only_one x a (or_cases (a == x) false t);
 }
 least_of x (y ∷ ys) = least_of_more x y ys (fold min (min x y) ys) (least_of (min x y) ys)

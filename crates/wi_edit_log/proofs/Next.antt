@@ -3,11 +3,11 @@ use Rattle.std.proofs.Common.{◌≡◌, ◌∙◌, ℕ, ◌+◌, ◌==◌, ◌�
 use Rattle.std.specs.Prelude.{nat_lt}
 use Rattle.std.specs.Bool.{then_some}
 use Rattle.std.proofs.lemmas.Bool.{and_from, and_parts, both_ways, cases_eq, cases_lt, eq-eqb, eqb-true, le-ltb, lt-ltb, ltb-true, or_cases, or_left, or_right}
+use Rattle.std.specs.Cmp.Derive.{one_truth}
 use Rattle.wi_values.specs.Address.{Area, columns, place, row_of, column_of, is_within}
-use Rattle.wi_values.proofs.Within.{fewer_places, places_left, within_between}
+use Rattle.wi_values.proofs.Within.{fewer_places, places_left, within_between, row_of_place, column_of_place, column_within, within_parts}
 use Rattle.wi_edit_log.specs.Inner.First.{IsAtOrBefore, IsFirst, is_after}
-use Rattle.wi_edit_log.proofs.Least.{column_of_place, column_within, row_of_place, same_test}
-use Rattle.wi_edit_log.proofs.Shared.{no_sooner, within_from, within_parts}
+use Rattle.wi_edit_log.proofs.Shared.{no_sooner, within_from}
 
 -- ---- the first
 
@@ -157,7 +157,7 @@ module _ (r : Area) (at : ℕ) (next : Option ℕ) (w : is_within r at ≡ true)
   ]
 
   pub one_more_before : (a : ℕ) → (is_within r a && is_before next a) ≡ ((is_within r a && nat_lt a at) || (at == a))
-  one_more_before a = same_test (is_within r a && is_before next a) ((is_within r a && nat_lt a at) || (at == a)) (at_or_before a) (before a)
+  one_more_before a = one_truth (is_within r a && is_before next a) ((is_within r a && nat_lt a at) || (at == a)) (at_or_before a) (before a)
 
   next_within : (o : Option ℕ) → IfSome o (λ a. is_after r at a ≡ true) → IfSome o (λ a. is_within r a ≡ true)
   next_within None k = tt

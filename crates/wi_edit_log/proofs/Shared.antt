@@ -2,14 +2,14 @@
 use Rattle.std.proofs.Common.{◌≡◌, ◌∙◌, ℕ, ◌+◌, ◌≤◌, ◌<◌, ◌||◌, ◌&&◌, List, [], length, take, get_or, Option, None, Bool, true, false, max, nat_le, subst, refl, ap, sym, arith}
 use Rattle.std.proofs.Math.Bool.{and-false, and_comm, and-or_distrib_left, and-or_distrib_right}
 use Rattle.std.specs.Bool.{then_some}
-use Rattle.std.proofs.lemmas.Bool.{and_parts, and_from, both_ways, leb-true, le-leb}
+use Rattle.std.proofs.lemmas.Bool.{and_parts, and_from, both_ways, le-leb}
 use Rattle.std.proofs.lemmas.List.{take_all}
 use Rattle.std.proofs.lemmas.List.Folds.{list_any_more}
 use Rattle.wi_values.specs.Address.{Area, columns, place, row_of, column_of, is_within}
+use Rattle.wi_values.proofs.Within.{row_of_place, column_of_place, column_within, within_parts}
 use Rattle.wi_edit_log.specs.EditLog.{have_cell}
 use Rattle.wi_edit_log.specs.Inner.First.{IsFirst, in_both, in_each, in_one, sooner}
 use Rattle.wi_edit_log.proofs.First.{no_first, same_first, sooner_first}
-use Rattle.wi_edit_log.proofs.Least.{row_of_place, column_of_place, column_within}
 
 -- ---- one and some of the others
 
@@ -55,13 +55,6 @@ pub turned : (areas others : List Area) (o : Option ℕ) → IsFirst (in_each ar
 turned areas others o = same_first (in_each areas others) (in_each others areas) o (λ a. and_comm (have_cell areas a) (have_cell others a))
 
 -- ---- two rectangles: their first cell is at the later of their first rows and of their first columns
-
-pub within_parts : (r : Area) (a : ℕ) → is_within r a ≡ true → (row_of r.first ≤ row_of a) × (row_of a ≤ row_of r.last) × (column_of r.first ≤ column_of a) × (column_of a ≤ column_of r.last)
-within_parts r a h =
-    let p = and_parts (nat_le (row_of r.first) (row_of a) && nat_le (row_of a) (row_of r.last)) (nat_le (column_of r.first) (column_of a) && nat_le (column_of a) (column_of r.last)) h in
-    let rows = and_parts (nat_le (row_of r.first) (row_of a)) (nat_le (row_of a) (row_of r.last)) p.0 in
-    let columns = and_parts (nat_le (column_of r.first) (column_of a)) (nat_le (column_of a) (column_of r.last)) p.1 in
-    (leb-true (row_of r.first) (row_of a) rows.0, leb-true (row_of a) (row_of r.last) rows.1, leb-true (column_of r.first) (column_of a) columns.0, leb-true (column_of a) (column_of r.last) columns.1)
 
 pub within_from : (r : Area) (a row column : ℕ) → row_of a ≡ row → column_of a ≡ column → row_of r.first ≤ row → row ≤ row_of r.last → column_of r.first ≤ column → column ≤ column_of r.last → is_within r a ≡ true
 within_from r a row column e f l m n o =

@@ -18,6 +18,7 @@ pub use Rattle.std.proofs.lemmas.Result.{IfOk-weaker}
 pub use Rattle.std.specs.BTreeMap.{BTreeMap, IsEmpty, Updates, get, is_at}
 pub use Rattle.std.specs.BTreeSet.{BTreeSet, contains}
 pub use Rattle.std.specs.Borrow.{Bor}
+pub use Rattle.std.specs.Cmp.Derive.{one_truth}
 pub use Rattle.std.specs.Global.{Vec}
 pub use Rattle.std.specs.List.{find, list_any}
 unfoldable pub use Rattle.std.specs.List.{IsDistinct}
@@ -73,8 +74,9 @@ pub use Rattle.wi_graph.proofs.Ends.{ends_open}
 pub use Rattle.wi_graph.proofs.Graphs.{left_circular}
 pub use Rattle.wi_graph.proofs.Layers.{list_any-both}
 pub use Rattle.wi_graph.proofs.ReachSteps.{reaches_by_step, reaches_here, reaches_on, reaches_read, reaches_step}
-pub use Rattle.wi_graph.proofs.ReachTest.{finds_in, keeps_few, reaches_true, true_reaches}
-pub use Rattle.wi_graph.proofs.Walks.{formula_cell, found, same_cell, same_tests}
+pub use Rattle.wi_graph.proofs.ReachTest.{finds_in, reaches_true, true_reaches}
+pub use Rattle.wi_graph.proofs.SetSteps.{taken_one}
+pub use Rattle.wi_graph.proofs.Walks.{formula_cell, found, same_cell}
 pub use Rattle.wi_graph.specs.Circular.{circular}
 pub use Rattle.wi_graph.specs.Reach.{Reaches, is_one_of, reaches}
 pub use Rattle.wi_arguments.proofs.Passing.{Passed, passed_on}
@@ -95,7 +97,7 @@ pub use Rattle.wi_sheet.proofs.Bounds.{put_formula, put_reads, tree_reads}
 pub use Rattle.wi_sheet.proofs.CaseCosts.{left_at_keep, left_falls, never_fall-same, never_fall-then, one_less_left, spent_all, spent_none, spent_then, spent_weaken}
 pub use Rattle.wi_sheet.proofs.Cases.{one_case, pair_path, same_case-refl}
 pub use Rattle.wi_sheet.proofs.Demands.{demand_closed, demand_has_itself, here_reads, same_tree, what_if_reads}
-pub use Rattle.wi_sheet.proofs.Filters.{PassesToo, fewer, in_filter, in_first, no_more}
+pub use Rattle.wi_sheet.proofs.Filters.{PassesToo, fewer, in_filter, no_more}
 pub use Rattle.wi_sheet.proofs.Inputs.{one_more_input}
 pub use Rattle.wi_sheet.proofs.Last.{over}
 pub use Rattle.wi_sheet.proofs.Meanings.{meaning_same}
@@ -122,10 +124,11 @@ pub use Rattle.wi_sheet.specs.Inner.Spending.{HasCase, IsClosed, NeverFall, Rest
 pub use Rattle.wi_sheet.specs.Settled.{AgreesWhereSettled, IsSettled, IsWhatIfSettled, RestsOnKept}
 pub use Rattle.wi_store.proofs.NextRoom.{find_ahead}
 pub use Rattle.wi_store.specs.Store.{Stored, is_ahead}
+pub use Rattle.wi_values.proofs.Lists.{keeps_few}
 pub use Rattle.wi_values.proofs.Order.{Ascends, Ascends-from_order, ComeAfter, at_earlier, at_itself, at_same, come_after_earlier, is_at-eq, lookup_after, order-from_Ascends, turn_test}
 pub use Rattle.wi_values.proofs.Replacements.InOrder.{order_from_sorted, sorted_from_order}
 pub use Rattle.wi_values.proofs.Replacements.Same.{same_replacements_Decides}
-pub use Rattle.wi_values.proofs.Within.{places_left, within_between}
+pub use Rattle.wi_values.proofs.Within.{column_within, places_left, within_between}
 pub use Rattle.wi_values.specs.Address.{Area, column_of, is_within, row_of, size_of}
 pub use Rattle.wi_values.specs.Replacements.{IsInOrder, as_map, replaced, same_replacements}
 pub use Rattle.wi_values.specs.declared.replacement.Replacement.{Replacement}

@@ -1,12 +1,13 @@
 -- The exact decimal: its places, its digits, and what stands before it.
 use Rattle.std.proofs.Common.{String, string_bytes, subst, sym, ap, ◌∙◌, arith, Result, Ok, Err, OnOk, OnErr, is_ok, if◌then◌else◌}
-use Rattle.std.specs.Prelude.{◌≡◌, ℕ, zero, suc, ◌+◌, ◌-◌, ◌*◌, ◌/◌, ◌%◌, ◌^◌, ◌<◌, ◌≤◌, ◌≢◌, List, [], ◌∷◌, ◌++◌, length, take, Some, None, refl}
+use Rattle.std.proofs.Transfers.{starts_with_length, starts_with_of_append}
+use Rattle.std.specs.Prelude.{◌≡◌, ℕ, zero, suc, ◌+◌, ◌-◌, ◌*◌, ◌/◌, ◌%◌, ◌^◌, ◌<◌, ◌≤◌, ◌≢◌, List, [], ◌∷◌, ◌++◌, length, Some, None, refl}
 use Rattle.std.specs.declared.alloc.Global.{Global}
 use Rattle.std.specs.Fmt.{decimal}
 use Rattle.std.specs.Io.{StartsWith}
 use Rattle.std.specs.Str.{IsUtf8, IsCharBoundary}
 use Rattle.std.proofs.lemmas.Fmt.{decimal_digit}
-use Rattle.std.proofs.lemmas.List.{take-append-le, take_all, length-take, take-take, append_assoc, append-nil}
+use Rattle.std.proofs.lemmas.List.{take-append-le, take_all, append_assoc, append-nil}
 use Rattle.std.proofs.lemmas.Nat.{div-mul-add}
 use Rattle.std.proofs.lemmas.Str.{IsCharBoundary-from_take, IsUtf8-string_bytes}
 use Rattle.std.proofs.Math.Nat.{div-add-mod', mul-div_cancel, mul_assoc, mul_comm, mul_right_comm, pow-suc, pow-zero, mul-one, mod-eq_of_lt, mul-add-mod_self_right, add-mul-div_right, div-lt_iff_lt-mul}
@@ -18,25 +19,15 @@ use Rattle.wi_fraction.proofs.Digits.{padded_suc}
 
 -- ---- bytes that stay at the front
 
-fits : (xs front : List ℕ) → StartsWith xs front → length front ≤ length xs
-fits xs front h = omega (arith, ap length h, length-take (length front) xs)
-
 pub starts_itself : (xs : List ℕ) → StartsWith xs xs
 starts_itself xs = take_all (length xs) xs (omega arith)
 
 pub starts_more : (xs more front : List ℕ) → StartsWith xs front → StartsWith (xs ++ more) front
-starts_more xs more front h = take-append-le (length front) xs more (fits xs front h) ∙ h
-
-pub starts_trans : (xs ys front : List ℕ) → StartsWith ys xs → StartsWith xs front → StartsWith ys front
-starts_trans xs ys front h k =
-    sym (take-take (length front) (length xs) ys (fits xs front k)) ∙ ap (take (length front)) h ∙ k
-
-pub starts_with : (xs front more : List ℕ) → xs ≡ front ++ more → StartsWith xs front
-starts_with xs front more e = subst (λ ys. StartsWith ys front) (sym e) (starts_more front more front (starts_itself front))
+starts_more xs more front h = take-append-le (length front) xs more (starts_with_length xs front h) ∙ h
 
 -- where all is appended, or on an error nothing
-pub starts_joined : {E : Type 0} (r : Result (Unit {0}) E) (xs front more : List ℕ) → OnOk r (xs ≡ front ++ more) → OnErr r (xs ≡ front) → StartsWith xs front
-starts_joined (Ok u) xs front more h k = starts_with xs front more h
+pub starts_joined : {T E : Type 0} (r : Result T E) (xs front more : List ℕ) → OnOk r (xs ≡ front ++ more) → OnErr r (xs ≡ front) → StartsWith xs front
+starts_joined (Ok u) xs front more h k = starts_with_of_append xs front more h
 starts_joined (Err e) xs front more h k = subst (λ ys. StartsWith ys front) (sym k) (starts_itself front)
 
 -- where more is appended, or on an error nothing, to what begins so
@@ -46,7 +37,7 @@ starts_pushed (Err d) xs mid more front e h = subst (λ ys. StartsWith ys front)
 
 -- a text may be cut back to the one that it begins with
 pub cut_place : (s : String Global) (old : List ℕ) → IsUtf8 old → StartsWith (string_bytes s) old → IsCharBoundary (string_bytes s) (length old)
-cut_place s old u h = IsCharBoundary-from_take (string_bytes s) (length old) (IsUtf8-string_bytes s) (fits (string_bytes s) old h) (subst IsUtf8 (sym h) u)
+cut_place s old u h = IsCharBoundary-from_take (string_bytes s) (length old) (IsUtf8-string_bytes s) (starts_with_length (string_bytes s) old h) (subst IsUtf8 (sym h) u)
 
 -- ---- division step by step
 

@@ -80,7 +80,7 @@ bounded-itself x =
     let fits = x.is_number.den_fits in
     rw e (grind (arith, nat_tests, fits))
 
-mul-one-int : (z : ℤ) → z *ℤ pos 1 ≡ z
+pub mul-one-int : (z : ℤ) → z *ℤ pos 1 ≡ z
 mul-one-int (pos n) = omega (arith, ints)
 mul-one-int (negsuc n) = omega (arith, ints)
 

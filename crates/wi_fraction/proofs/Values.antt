@@ -25,7 +25,7 @@ mul-suc : (z : ℤ) (k : ℕ) → z *ℤ pos (suc k) ≡ z *ℤ pos k +ℤ z
 mul-suc (pos a) k = omega (arith, ints)
 mul-suc (negsuc a) k = omega (arith, ints)
 
-mul-none : (z : ℤ) → z *ℤ pos 0 ≡ pos 0
+pub mul-none : (z : ℤ) → z *ℤ pos 0 ≡ pos 0
 mul-none (pos a) = omega (arith, ints)
 mul-none (negsuc a) = omega (arith, ints)
 
@@ -62,7 +62,7 @@ same_from_mul p q k some e =
     (λ s. s)
     (λ l. absurd (int_irrefl (q *ℤ pos k) (subst (λ v. (q *ℤ pos k) <ℤ v) e (mul_below q p k some l))))
 
-then_some : {A B : Type 0} (o : Option A) (f : A → Option B) (z : B) → option_and_then f o ≡ Some z → (a : A) × (o ≡ Some a) × (f a ≡ Some z)
+pub then_some : {A B : Type 0} (o : Option A) (f : A → Option B) (z : B) → option_and_then f o ≡ Some z → (a : A) × (o ≡ Some a) × (f a ≡ Some z)
 then_some None f z e = cc
 then_some (Some a) f z e = (a, refl, e)
 

@@ -1,12 +1,13 @@
 -- Sheets that agree on all that a cell reaches.
 use Rattle.std.proofs.Common.{◌≡◌, ℕ, zero, suc, true, Option, refl, ap, sym, ◌∙◌}
+use Rattle.std.specs.Cmp.Derive.{one_truth}
 use Rattle.wi_parser.specs.declared.content.Content.{Content}
 use Rattle.wi_parser.specs.Sheet.{Sheet, content_of, has_formula}
 use Rattle.wi_parser.specs.Reads.{content_reads}
 use Rattle.wi_graph.specs.Circular.{circular}
 use Rattle.wi_graph.specs.Inner.Walks.{has_walk}
 use Rattle.wi_graph.specs.Reach.{Walks, Reaches, AgreeFrom}
-use Rattle.wi_graph.proofs.Walks.{same_tests, step, first_step, circular_walks, walks_circular}
+use Rattle.wi_graph.proofs.Walks.{step, first_step, circular_walks, walks_circular}
 
 pub agree_next : (s t : Sheet) (c d : ℕ) → AgreeFrom s t c → content_reads (content_of s c) d ≡ true → AgreeFrom s t d
 agree_next s t c d a r e w = a e (suc w.0, (d, r, w.1))
@@ -37,6 +38,6 @@ same_walk (suc n) s t c a h =
 
 -- they give the cell one circular state
 pub circular_same : (s t : Sheet) (c : ℕ) → AgreeFrom s t c → circular s c ≡ circular t c
-circular_same s t c a = same_tests (circular s c) (circular t c)
+circular_same s t c a = one_truth (circular s c) (circular t c)
     (λ h. walks_circular t c (λ n. same_walk n s t c a (circular_walks s c h n)))
     (λ h. walks_circular s c (λ n. same_walk n t s c (agree_sym s t c a) (circular_walks t c h n)))

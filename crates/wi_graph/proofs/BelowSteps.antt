@@ -1,7 +1,6 @@
 -- Steps of a search among what a cell reads.
-use Rattle.std.proofs.Common.{◌≡◌, ◌==◌, ◌&&◌, ◌||◌, ◌⊎◌, inl, inr, ℕ, ◌+◌, ◌<◌, ◌≤◌, Bool, true, false, cond, filter, nat_le, List, [], ◌∷◌, ◌++◌, take, get_or, length, Option, Some, None, is_some, IfSome, refl, ap, sym, ◌∙◌, subst, arith, add-one}
+use Rattle.std.proofs.Common.{◌≡◌, ◌==◌, ◌&&◌, ◌||◌, ◌⊎◌, inl, inr, ℕ, ◌+◌, ◌<◌, ◌≤◌, Bool, true, false, cond, filter, nat_le, List, [], ◌∷◌, ◌++◌, take, get_or, length, Option, Some, None, is_some, IfSome, refl, ap, sym, ◌∙◌, subst, arith}
 use Rattle.std.proofs.Math.Bool.{or-false, or_assoc}
-use Rattle.std.proofs.Math.Seq.{take-suc}
 use Rattle.std.proofs.lemmas.Bool.{or_cases, or_left, or_right, and_parts, and_from, cases_lt, false_from_ne_true, le-leb, leb-true}
 use Rattle.std.proofs.lemmas.List.{take_all}
 use Rattle.std.proofs.lemmas.List.Folds.{list_any-append}
@@ -16,6 +15,7 @@ use Rattle.wi_values.specs.Address.{Area, is_within}
 use Rattle.wi_values.proofs.Lookups.{found-insert}
 use Rattle.wi_values.proofs.Order.{below_from_Less}
 use Rattle.wi_values.proofs.Within.{within_between}
+use Rattle.wi_values.proofs.Lists.{taken_more}
 use Rattle.wi_tiles.specs.Entries.{CellEntries, get, IsOrdered}
 use Rattle.wi_graph.specs.Reach.{is_one_of}
 use Rattle.wi_graph.specs.Inner.Rooms.{Rooms, in_room, room_at, areas_of}
@@ -129,9 +129,6 @@ no_areas cell ahead = record {
   apart = refl;
 }
 
-area_taken : (areas : List Area) (i : ℕ) (r : Area) → i < length areas → r ≡ get_or areas i r → take (i + 1) areas ≡ take i areas ++ r ∷ []
-area_taken areas i r l e = ap (λ (n : ℕ). take n areas) (add-one i) ∙ take-suc areas i r l ∙ ap (λ (y : Area). take i areas ++ y ∷ []) (sym e)
-
 own_first : (r : Area) (d : ℕ) (b : Bool) → is_within r d ≡ b → (b && nat_le r.first d) ≡ b
 own_first r d true e = le-leb r.first d (within_between r d e).0
 own_first r d false e = refl
@@ -148,7 +145,7 @@ areas_more cell areas i r b old mid new l e w n k a = record {
 }
   where
     in_taken : (d : ℕ) → is_in (take (i + 1) areas) d ≡ (is_in (take i areas) d || (is_within r d || false))
-    in_taken d = ap (λ (xs : List Area). is_in xs d) (area_taken areas i r l e) ∙ list_any-append (λ (q : Area). is_within q d) (take i areas) (r ∷ [])
+    in_taken d = ap (λ (xs : List Area). is_in xs d) (taken_more areas i r l e) ∙ list_any-append (λ (q : Area). is_within q d) (take i areas) (r ∷ [])
 
 pub all_areas : (cell : ℕ) (areas : List Area) (i : ℕ) (old new : List (Area × ℕ)) → length areas ≤ i → HasAreas cell (take i areas) old new → HasAreas cell areas old new
 all_areas cell areas i old new l a = subst (λ (xs : List Area). HasAreas cell xs old new) (take_all i areas l) a

@@ -9,9 +9,11 @@ use Rattle.std.specs.Ordering.{nat_cmp}
 use Rattle.std.specs.BTreeMap.{is_at}
 use Rattle.std.specs.BTreeSet.{BTreeSet, contains}
 use Rattle.std.specs.List.Sorted.{IsStrictlyIncreasing}
+use Rattle.std.specs.Cmp.Derive.{one_truth}
 use Rattle.wi_parser.specs.Sheet.{Sheet, content_of}
 use Rattle.wi_parser.specs.Reads.{content_reads}
 use Rattle.wi_ranges.specs.Bag.{Bag, IsReader, IsRead}
+use Rattle.wi_values.proofs.Lists.{taken_more}
 use Rattle.wi_graph.specs.Reach.{is_one_of, in_cone}
 use Rattle.wi_graph.specs.Watched.{IsClosedUp}
 use Rattle.wi_graph.specs.Latest.{IsUnread}
@@ -19,9 +21,9 @@ use Rattle.wi_graph.specs.Edges.{AreEdgesOf}
 use Rattle.wi_graph.specs.Inner.Rooms.{Rooms, edges_in, IsGraph}
 use Rattle.wi_graph.specs.Inner.Search.{HasAll, GoesToReaders, IsLeast, IsConeBeyond, IsListBeyond, beyond, as_set, missing, AreNoted}
 use Rattle.wi_graph.proofs.Tests.{is_itself, clash, turned}
-use Rattle.wi_graph.proofs.Walks.{same_cell, same_tests}
+use Rattle.wi_graph.proofs.Walks.{same_cell}
 use Rattle.wi_graph.proofs.SetSteps.{in_last, in_front, in_back}
-use Rattle.wi_graph.proofs.SearchSteps.{AreReaders, listed_one, one_listed, all_readers, readers_there, noted_none, noted_both, one_taken}
+use Rattle.wi_graph.proofs.SearchSteps.{AreReaders, listed_one, one_listed, all_readers, readers_there, noted_none, noted_both}
 use Rattle.wi_graph.proofs.Cones.{cone_has, cone_closed, cone_least}
 use Rattle.wi_graph.proofs.GraphSteps.{graph_readers}
 
@@ -42,7 +44,7 @@ beyond_in w xs c h n = among w xs c ∙ and_from (not (w c)) (is_one_of xs c) (n
 pub beyond_more : (w : ℕ → Bool) (cells : List ℕ) (i x : ℕ) (old mid new : BTreeSet ℕ) (before work more : List ℕ) → i < length cells → x ≡ get_or cells i x → AreNoted (beyond w (take i cells)) old mid before work → AreNoted (beyond w (x ∷ [])) mid new work more →
     AreNoted (beyond w (take (i + 1) cells)) old new before more
 beyond_more w cells i x old mid new before work more l e m n =
-    subst (λ (xs : List ℕ). AreNoted xs old new before more) (sym (ap (beyond w) (one_taken cells i x l e) ∙ filter-append (λ c. not (w c)) (take i cells) (x ∷ []))) (noted_both (beyond w (take i cells)) (beyond w (x ∷ [])) old mid new before work more m n)
+    subst (λ (xs : List ℕ). AreNoted xs old new before more) (sym (ap (beyond w) (taken_more cells i x l e) ∙ filter-append (λ c. not (w c)) (take i cells) (x ∷ []))) (noted_both (beyond w (take i cells)) (beyond w (x ∷ [])) old mid new before work more m n)
 
 -- one that is watched
 pub beyond_watched : (w : ℕ → Bool) (x : ℕ) (b : Bool) (old : BTreeSet ℕ) (work : List ℕ) → b ≡ w x → b ≡ true → AreNoted (beyond w (x ∷ [])) old old work work
@@ -154,7 +156,7 @@ beyond_ends readers w found more work less after next noted cell e r q m =
 -- the cone but for the watched cells, where with each of them each that reads it is watched
 pub found_beyond : (s : Sheet) (readers : Bag) (w : ℕ → Bool) (cells : List ℕ) (found : BTreeSet ℕ) → ((a r : ℕ) → (content_reads (content_of s r) a ≡ true) ↔ IsReader readers a r) → IsClosedUp s w → IsConeBeyond readers w cells found →
     (c : ℕ) → is_one_of found.keys c ≡ (in_cone s cells c && not (w c))
-found_beyond s readers w cells found i g k c = sym (turned found.keys c) ∙ same_tests (contains nat_cmp found c) (in_cone s cells c && not (w c)) to from
+found_beyond s readers w cells found i g k c = sym (turned found.keys c) ∙ one_truth (contains nat_cmp found c) (in_cone s cells c && not (w c)) to from
   where
     to : contains nat_cmp found c ≡ true → (in_cone s cells c && not (w c)) ≡ true
     to h = and_from (in_cone s cells c) (not (w c)) (k.least (in_cone s cells) (cone_has s cells) (λ a r m u. cone_closed s cells r a ((i a r).1 u) m) c h) (not_from_false (w c) (k.unwatched c h))
@@ -195,7 +197,7 @@ beyond_list readers w cells list found o e k = record {
 }
   where
     same : (c : ℕ) → contains nat_cmp (as_set list) c ≡ contains nat_cmp found c
-    same c = turned list c ∙ same_tests (is_one_of list c) (contains nat_cmp found c) (λ h. (e c).0 (one_listed list c h)) (λ h. listed_one list c ((e c).1 h))
+    same c = turned list c ∙ one_truth (is_one_of list c) (contains nat_cmp found c) (λ h. (e c).0 (one_listed list c h)) (λ h. listed_one list c ((e c).1 h))
 
 -- those that aren't watched, where they stand in order and nothing reads them
 pub own_beyond : (readers : Bag) (w : ℕ → Bool) (cells list looked : List ℕ) → list ≡ beyond w cells → looked ≡ list → IsStrictlyIncreasing looked → ((a r : ℕ) → is_one_of looked a ≡ true → IsReader readers a r → ⊥) → IsListBeyond readers w cells list

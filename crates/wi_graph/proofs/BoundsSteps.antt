@@ -1,12 +1,13 @@
 -- Cells that come and go, and the rectangle around them.
-use Rattle.std.proofs.Common.{◌≡◌, ◌==◌, ◌&&◌, ◌||◌, ◌⊎◌, inl, inr, nat_le, ℕ, ◌+◌, ◌<◌, ◌≤◌, min, max, Bool, true, false, List, [], ◌∷◌, take, get_or, length, refl, ap, sym, ◌∙◌, arith}
+use Rattle.std.proofs.Common.{◌≡◌, ◌==◌, ◌&&◌, ◌||◌, ◌⊎◌, inl, inr, ℕ, ◌+◌, ◌<◌, ◌≤◌, min, max, Bool, true, false, List, [], ◌∷◌, take, get_or, length, refl, ap, sym, ◌∙◌, arith}
 use Rattle.std.specs.Ordering.{nat_cmp}
 use Rattle.std.specs.List.{list_any}
 use Rattle.std.specs.BTreeMap.{is_at}
 use Rattle.std.specs.BTreeSet.{BTreeSet, contains, btree_set_len, IsUnchanged}
-use Rattle.std.proofs.lemmas.Nat.{div-mul-add, mod-mul-add}
-use Rattle.std.proofs.lemmas.Bool.{or_cases, and_parts, and_from, leb-true, le-leb, false_from_ne_true}
+use Rattle.std.proofs.lemmas.Bool.{or_cases, and_parts, and_from, false_from_ne_true}
+use Rattle.std.specs.Cmp.Derive.{one_truth}
 use Rattle.wi_values.specs.Address.{Area, columns, place, row_of, column_of, rect_of, is_within}
+use Rattle.wi_values.proofs.Within.{row_of_place, column_of_place, within_parts, within_from}
 use Rattle.wi_graph.specs.Reach.{is_one_of}
 use Rattle.wi_graph.specs.Inner.Bounds.{AreWithin}
 use Rattle.wi_graph.specs.Inner.Search.{as_set}
@@ -42,24 +43,6 @@ loses_within old new r x l w c h = w c (loses_others old new x l c h).0
 
 -- ---- a rectangle by its sides
 
-within_parts : (r : Area) (c : ℕ) → is_within r c ≡ true → (row_of r.first ≤ row_of c) × (row_of c ≤ row_of r.last) × (column_of r.first ≤ column_of c) × (column_of c ≤ column_of r.last)
-within_parts r c h =
-    let p = and_parts (nat_le (row_of r.first) (row_of c) && nat_le (row_of c) (row_of r.last)) _ h in
-    let rows = and_parts (nat_le (row_of r.first) (row_of c)) _ p.0 in
-    let cols = and_parts (nat_le (column_of r.first) (column_of c)) _ p.1 in
-    (leb-true _ _ rows.0, leb-true _ _ rows.1, leb-true _ _ cols.0, leb-true _ _ cols.1)
-
-within_from : (r : Area) (c : ℕ) → row_of r.first ≤ row_of c → row_of c ≤ row_of r.last → column_of r.first ≤ column_of c → column_of c ≤ column_of r.last → is_within r c ≡ true
-within_from r c t b l n =
-    and_from (nat_le (row_of r.first) (row_of c) && nat_le (row_of c) (row_of r.last)) _ (and_from (nat_le (row_of r.first) (row_of c)) _ (le-leb _ _ t) (le-leb _ _ b))
-    (and_from (nat_le (column_of r.first) (column_of c)) _ (le-leb _ _ l) (le-leb _ _ n))
-
-row_place : (row column : ℕ) → column < columns → row_of (place row column) ≡ row
-row_place row column h = div-mul-add row columns column h
-
-column_place : (row column : ℕ) → column < columns → column_of (place row column) ≡ column
-column_place row column h = mod-mul-add row columns column h
-
 least : (a b : ℕ) → a ≤ b → min a b ≡ a
 least a b h = omega (arith, h)
 
@@ -74,19 +57,19 @@ pub record HasSides (r : Area) (first_row first_column last_row last_column : �
 
 pub sides_of : (r : Area) (a b top left bottom right : ℕ) → r ≡ rect_of a b → a ≡ place top left → b ≡ place bottom right → top ≤ bottom → left ≤ right → left < columns → right < columns → HasSides r top left bottom right
 sides_of r a b t l m n e f g rows cols lc nc =
-    let ra : row_of a ≡ t = ap (λ (x : ℕ). row_of x) f ∙ row_place t l lc in
-    let ca : column_of a ≡ l = ap (λ (x : ℕ). column_of x) f ∙ column_place t l lc in
-    let rb : row_of b ≡ m = ap (λ (x : ℕ). row_of x) g ∙ row_place m n nc in
-    let cb : column_of b ≡ n = ap (λ (x : ℕ). column_of x) g ∙ column_place m n nc in
+    let ra : row_of a ≡ t = ap (λ (x : ℕ). row_of x) f ∙ row_of_place t l lc in
+    let ca : column_of a ≡ l = ap (λ (x : ℕ). column_of x) f ∙ column_of_place t l lc in
+    let rb : row_of b ≡ m = ap (λ (x : ℕ). row_of x) g ∙ row_of_place m n nc in
+    let cb : column_of b ≡ n = ap (λ (x : ℕ). column_of x) g ∙ column_of_place m n nc in
     let first : r.first ≡ place t l =
     ap (λ (x : Area). x.first) e ∙ ap (λ (x : ℕ). place x (min (column_of a) (column_of b))) (two min ra rb ∙ least t m rows) ∙ ap (λ (x : ℕ). place t x) (two min ca cb ∙ least l n cols) in
     let last : r.last ≡ place m n =
     ap (λ (x : Area). x.last) e ∙ ap (λ (x : ℕ). place x (max (column_of a) (column_of b))) (two max ra rb ∙ most t m rows) ∙ ap (λ (x : ℕ). place m x) (two max ca cb ∙ most l n cols) in
     record {
-      top = ap (λ (x : ℕ). row_of x) first ∙ row_place t l lc;
-      left = ap (λ (x : ℕ). column_of x) first ∙ column_place t l lc;
-      bottom = ap (λ (x : ℕ). row_of x) last ∙ row_place m n nc;
-      right = ap (λ (x : ℕ). column_of x) last ∙ column_place m n nc;
+      top = ap (λ (x : ℕ). row_of x) first ∙ row_of_place t l lc;
+      left = ap (λ (x : ℕ). column_of x) first ∙ column_of_place t l lc;
+      bottom = ap (λ (x : ℕ). row_of x) last ∙ row_of_place m n nc;
+      right = ap (λ (x : ℕ). column_of x) last ∙ column_of_place m n nc;
     }
   where
     two : (f : ℕ → ℕ → ℕ) {x y z w : ℕ} → x ≡ y → z ≡ w → f x z ≡ f y w
@@ -150,13 +133,8 @@ above_each m n a b c d e h = (omega (arith, d, e, h), omega (arith, d, e, h))
 below_each : (m n a b c : ℕ) → n ≡ m → m ≡ min a b → c ≤ n → (c ≤ a) × (c ≤ b)
 below_each m n a b c d e h = (omega (arith, d, e, h), omega (arith, d, e, h))
 
-same_test : (p q : Bool) → (p ≡ true → q ≡ true) → (q ≡ true → p ≡ true) → p ≡ q
-same_test true q f g = sym (f refl)
-same_test false true f g = g refl
-same_test false false f g = refl
-
 pub common_part : (a b part : Area) (top left bottom right : ℕ) → IsCommon a b top left bottom right → HasSides part top left bottom right → (c : ℕ) → is_within part c ≡ (is_within a c && is_within b c)
-common_part a b part t l m n i s c = same_test (is_within part c) (is_within a c && is_within b c) into back
+common_part a b part t l m n i s c = one_truth (is_within part c) (is_within a c && is_within b c) into back
   where
     into : is_within part c ≡ true → (is_within a c && is_within b c) ≡ true
     into h =

@@ -1,6 +1,5 @@
 -- What an edit brings, step by step, and a sheet that has it.
-use Rattle.std.proofs.Common.{◌≡◌, ◌==◌, ◌+◌, ◌<◌, ◌≤◌, ℕ, Bool, true, false, cond, List, [], ◌∷◌, ◌++◌, take, take_all, get_or, length, Option, Some, None, IfSome, refl, ap, sym, ◌∙◌, subst, arith, add-one}
-use Rattle.std.proofs.Math.Seq.{take-suc}
+use Rattle.std.proofs.Common.{◌≡◌, ◌==◌, ◌+◌, ◌<◌, ◌≤◌, ℕ, Bool, true, false, cond, List, [], ◌∷◌, ◌++◌, take, take_all, get_or, length, Option, Some, None, IfSome, refl, ap, sym, ◌∙◌, subst, arith}
 use Rattle.std.proofs.lemmas.Grind.{common_steps}
 use Rattle.std.proofs.lemmas.Bool.{or_parts}
 use Rattle.std.proofs.lemmas.Slice.Eq.{slice_eq-Decides}
@@ -26,28 +25,19 @@ use Rattle.wi_graph.specs.Inner.Changes.{areas_then, Brings, HasNoIdle, ReadsSta
 use Rattle.wi_graph.proofs.Tests.{at_same, turn_test, is_at-eq}
 use Rattle.wi_graph.proofs.Walks.{same_cell}
 use Rattle.wi_values.proofs.Order.{Ascends-from_order, order-from_Ascends}
-use Rattle.wi_graph.proofs.ComingSteps.{one_longer}
+use Rattle.wi_values.proofs.Lists.{taken_more}
 use Rattle.wi_graph.proofs.EdgeLemmas.{same_edges, areas_with, areas_over, areas_rooms, ascends_over, ascends_after, ascends_rooms}
 
 then_more : (xs : List (ℕ × Option Content)) (x : ℕ × Option Content) (c : ℕ) (o : Option (List Area)) → areas_then (xs ++ x ∷ []) c o ≡ cond (c == x.0) (areas_in x.1) (areas_then xs c o)
 then_more [] x c o = refl
 then_more (y ∷ ys) x c o = then_more ys x c (cond (c == y.0) (areas_in y.1) o)
 
-took : (xs : List (ℕ × Option Content)) (i : ℕ) (x : ℕ × Option Content) → i < length xs → x ≡ get_or xs i x → take (i + 1) xs ≡ take i xs ++ x ∷ []
-took xs i x l e = ap (λ (n : ℕ). take n xs) (add-one i) ∙ take-suc xs i x l ∙ ap (λ (y : ℕ × Option Content). take i xs ++ y ∷ []) (sym e)
-
 cells_more : (xs : List (ℕ × Option Content)) (x : ℕ × Option Content) → keys_of (xs ++ x ∷ []) ≡ keys_of xs ++ x.0 ∷ []
 cells_more [] x = refl
 cells_more (y ∷ ys) x = ap (λ (zs : List ℕ). y.0 ∷ zs) (cells_more ys x)
 
 pub cells_step : (xs : List (ℕ × Option Content)) (i : ℕ) (x : ℕ × Option Content) (old new : List ℕ) → i < length xs → x ≡ get_or xs i x → new ≡ old ++ x.0 ∷ [] → old ≡ keys_of (take i xs) → new ≡ keys_of (take (i + 1) xs)
-cells_step xs i x old new l e n h = n ∙ ap (λ (ys : List ℕ). ys ++ x.0 ∷ []) h ∙ sym (cells_more (take i xs) x) ∙ ap keys_of (sym (took xs i x l e))
-
--- the cell of one change
-pub lone_key : (xs : List (ℕ × Option Content)) (x : ℕ × Option Content) → length xs ≡ 1 → x ≡ get_or xs 0 x → keys_of xs ≡ x.0 ∷ []
-lone_key [] x l e = absurd (omega (arith, l))
-lone_key (y ∷ []) x l e = ap (λ (z : ℕ × Option Content). z.0 ∷ []) (sym e)
-lone_key (y ∷ z ∷ zs) x l e = absurd (omega (arith, l))
+cells_step xs i x old new l e n h = n ∙ ap (λ (ys : List ℕ). ys ++ x.0 ∷ []) h ∙ sym (cells_more (take i xs) x) ∙ ap keys_of (sym (taken_more xs i x l e))
 
 -- what is next for a cell is put in, or taken out
 abbrev pub Updates : ℕ → Option (Option (Vec Area)) → Coming → Coming → Type 0
@@ -100,7 +90,7 @@ put_idle rooms old new k r h u = no_idle_step rooms old new k (Some r) (λ n i. 
 pub brings_step : (xs : List (ℕ × Option Content)) (i : ℕ) (x : ℕ × Option Content) (rooms : Rooms) (old new : Coming) (o : Option (List Area)) → i < length xs → x ≡ get_or xs i x → o ≡ areas_in x.1 → Puts rooms x.0 o old new → Brings rooms old (take i xs) → Brings rooms new (take (i + 1) xs)
 brings_step xs i x rooms old new o l e g u h c =
     u c ∙ ap (λ (b : Bool). cond b o (room_over old rooms c)) (turn_test x.0 c) ∙ at (c == x.0) ∙ sym (then_more (take i xs) x c (room_at rooms c))
-    ∙ ap (λ (ys : List (ℕ × Option Content)). areas_then ys c (room_at rooms c)) (sym (took xs i x l e))
+    ∙ ap (λ (ys : List (ℕ × Option Content)). areas_then ys c (room_at rooms c)) (sym (taken_more xs i x l e))
   where
     at : (b : Bool) → cond b o (room_over old rooms c) ≡ cond b (areas_in x.1) (areas_then (take i xs) c (room_at rooms c))
     at true = g
@@ -199,7 +189,7 @@ one_more rooms c x (y ∷ ys) k h = at (is_at (nat_cmp c) y.0) h (one_more rooms
     at false g ih = ih g
 
 pub more_as_before : (rooms : Rooms) (xs : Coming) (i : ℕ) (x : ℕ × Option (Vec Area)) → i < length xs → x ≡ get_or xs i x → items_of x.1 ≡ room_at rooms x.0 → AreAsBefore rooms (take i xs) → AreAsBefore rooms (take (i + 1) xs)
-more_as_before rooms xs i x l e k h = subst (AreAsBefore rooms) (sym (one_longer xs i x l e)) (λ c. one_more rooms c x (take i xs) k (h c))
+more_as_before rooms xs i x l e k h = subst (AreAsBefore rooms) (sym (taken_more xs i x l e)) (λ c. one_more rooms c x (take i xs) k (h c))
 
 pub all_as_before : (rooms : Rooms) (next : Coming) → AreAsBefore rooms next → ReadsStay rooms next
 all_as_before rooms next h c = at (brought_to next c) (h c)

@@ -8,6 +8,7 @@ use Rattle.std.specs.Ordering.{nat_cmp}
 use Rattle.std.specs.BTreeMap.{is_at}
 use Rattle.std.specs.BTreeSet.{BTreeSet, btree_set_len, contains}
 use Rattle.smallvec.specs.SmallVec.{SmallVec}
+use Rattle.std.specs.Cmp.Derive.{one_truth}
 use Rattle.wi_values.specs.Address.{Area, is_within}
 use Rattle.wi_values.proofs.Within.{within_between}
 use Rattle.wi_parser.specs.declared.content.Content.{Content}
@@ -24,7 +25,7 @@ use Rattle.wi_graph.specs.Inner.Turning.{has_one, reads_one_of, meets_one_of, ha
 use Rattle.wi_graph.specs.Inner.Below.{is_ahead, IsLookedAt, ReachesNot, ReadsApart}
 use Rattle.wi_graph.specs.Inner.Within.{IsAhead, IsFoundBy}
 use Rattle.wi_graph.proofs.Tests.{is_at-eq, turn_test, is_itself, clash, turned}
-use Rattle.wi_graph.proofs.Walks.{found, same_cell, same_tests}
+use Rattle.wi_graph.proofs.Walks.{found, same_cell}
 use Rattle.wi_graph.proofs.Graphs.{left_circular}
 use Rattle.wi_graph.proofs.Cones.{outside_circular}
 use Rattle.wi_graph.proofs.ReachTest.{not_in_cone}
@@ -119,7 +120,7 @@ module _ {rooms : Rooms} {next : Coming} {circles : BTreeSet ℕ} {then : Sheet}
   same_circles : (c : ℕ) → contains nat_cmp circles c ≡ circular then c
   same_circles c =
       k.before.circles c
-      ∙ same_tests (circular k.before.sheet c) (circular then c) (left_circular then (circular k.before.sheet) reads_still c) (left_circular k.before.sheet (circular then) still_reads c)
+      ∙ one_truth (circular k.before.sheet c) (circular then c) (left_circular then (circular k.before.sheet) reads_still c) (left_circular k.before.sheet (circular then) still_reads c)
 
   none_turns : (turns : Turns) → turns.came.items ≡ [] → turns.went.items ≡ [] → AreTurns rooms next circles turns
   none_turns turns f h = record {

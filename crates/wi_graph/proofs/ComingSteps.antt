@@ -1,11 +1,12 @@
 -- What an edit brings, as a list in order: what is found at its end, and what is left without that.
-use Rattle.std.proofs.Common.{◌≡◌, ◌<◌, ℕ, zero, suc, Bool, true, false, cond, [], ◌∷◌, ◌++◌, take, get_or, length, Option, Some, None, refl, ap, sym, ◌∙◌, subst, arith, add-one, ◌+◌}
-use Rattle.std.proofs.Math.Seq.{take-suc}
+use Rattle.std.proofs.Common.{◌≡◌, ◌<◌, ℕ, zero, suc, Bool, true, false, cond, [], ◌∷◌, ◌++◌, take, get_or, length, Option, Some, None, refl, ap, sym, ◌∙◌, subst, arith, ◌+◌}
 use Rattle.std.specs.Ordering.{nat_cmp}
 use Rattle.std.specs.Global.{Vec}
 use Rattle.std.specs.BTreeMap.{is_at}
 use Rattle.wi_values.specs.Address.{Area}
 use Rattle.wi_values.proofs.Order.{ComeAfter, Ascends, Ascends-from_order, order-from_Ascends, is_at-eq, at_same, at_itself, at_earlier, turn_test}
+use Rattle.wi_values.proofs.Lookups.{cond_apart}
+use Rattle.wi_values.proofs.Lists.{taken_more}
 use Rattle.wi_graph.specs.Inner.Rooms.{Coming, brought_to, AreInOrder}
 
 -- the entries before the last come before it
@@ -25,16 +26,10 @@ not_in_front : (k : ℕ) (o : Option (Vec Area)) (front : Coming) → Ascends (f
 not_in_front k o [] h = refl
 not_in_front k o (e ∷ front) h = ap (λ (b : Bool). cond b (Some e.1) (brought_to front k)) (at_earlier k e.0 (comes_before e.0 k o front h.0)) ∙ not_in_front k o front h.1
 
-apart : (b d : Bool) (x y z r : Option (Option (Vec Area))) → (b ≡ true → d ≡ true → ⊥) → r ≡ cond b x z → cond d y r ≡ cond b x (cond d y z)
-apart true true x y z r h e = absurd (h refl refl)
-apart true false x y z r h e = e
-apart false true x y z r h e = refl
-apart false false x y z r h e = e
-
 pub found_last : (q k : ℕ) (o : Option (Vec Area)) (front : Coming) → Ascends (front ++ (k, o) ∷ []) → brought_to (front ++ (k, o) ∷ []) q ≡ cond (is_at (nat_cmp k) q) (Some o) (brought_to front q)
 found_last q k o [] h = ap (λ (b : Bool). cond {A = Option (Option (Vec Area))} b (Some o) None) (is_at-eq q k ∙ turn_test q k ∙ sym (is_at-eq k q))
 found_last q k o (e ∷ front) h =
-    apart (is_at (nat_cmp k) q) (is_at (nat_cmp q) e.0) (Some o) (Some e.1) (brought_to front q) (brought_to (front ++ (k, o) ∷ []) q) differ (found_last q k o front h.1)
+    cond_apart (is_at (nat_cmp k) q) (is_at (nat_cmp q) e.0) (Some o) (Some e.1) (brought_to front q) (brought_to (front ++ (k, o) ∷ []) q) differ (found_last q k o front h.1)
   where
     differ : is_at (nat_cmp k) q ≡ true → is_at (nat_cmp q) e.0 ≡ true → ⊥
     differ s t = let l = comes_before e.0 k o front h.0 in let a = at_same k q s in let b = at_same q e.0 t in omega (arith, l, a, b)
@@ -60,9 +55,6 @@ order_left next later k o h e = order-from_Ascends later (front_ascends k o late
 
 -- ---- one more of it
 
-pub one_longer : (xs : Coming) (i : ℕ) (x : ℕ × Option (Vec Area)) → i < length xs → x ≡ get_or xs i x → take (i + 1) xs ≡ take i xs ++ x ∷ []
-one_longer xs i x l e = ap (λ (n : ℕ). take n xs) (add-one i) ∙ take-suc xs i x l ∙ ap (λ (y : ℕ × Option (Vec Area)). take i xs ++ y ∷ []) (sym e)
-
 ascends_take : (xs : Coming) (i : ℕ) → Ascends xs → Ascends (take i xs)
 ascends_take xs zero h = tt
 ascends_take [] (suc i) h = tt
@@ -75,8 +67,8 @@ ascends_take (x ∷ xs) (suc i) h = (after x.0 xs i h.0, ascends_take xs i h.1)
 
 pub found_longer : (es : Coming) (i : ℕ) (x : ℕ × Option (Vec Area)) → AreInOrder es → i < length es → x ≡ get_or es i x → (q : ℕ) → brought_to (take (i + 1) es) q ≡ cond (is_at (nat_cmp x.0) q) (Some x.1) (brought_to (take i es) q)
 found_longer es i x h l e q =
-    ap (λ (xs : Coming). brought_to xs q) (one_longer es i x l e)
-    ∙ found_last q x.0 x.1 (take i es) (subst (λ (xs : Coming). Ascends xs) (one_longer es i x l e) (ascends_take es (i + 1) (Ascends-from_order es h)))
+    ap (λ (xs : Coming). brought_to xs q) (taken_more es i x l e)
+    ∙ found_last q x.0 x.1 (take i es) (subst (λ (xs : Coming). Ascends xs) (taken_more es i x l e) (ascends_take es (i + 1) (Ascends-from_order es h)))
 
 -- ---- an entry is found
 

@@ -1,12 +1,12 @@
 -- The cone of edited cells, and what stays outside it.
 use Rattle.std.proofs.Common.{◌≡◌, ℕ, zero, suc, Bool, true, false, List, Option, refl, ap, sym, ◌∙◌}
 use Rattle.std.proofs.lemmas.Bool.{false_from_ne_true}
+use Rattle.std.specs.Cmp.Derive.{one_truth}
 use Rattle.wi_parser.specs.declared.content.Content.{Content}
 use Rattle.wi_parser.specs.Sheet.{Sheet, content_of}
 use Rattle.wi_parser.specs.Reads.{content_reads}
 use Rattle.wi_graph.specs.Circular.{circular}
 use Rattle.wi_graph.specs.Reach.{Walks, AgreeFrom, is_one_of, IsInCone, SameOff, reaches, in_cone}
-use Rattle.wi_graph.proofs.Walks.{same_tests}
 use Rattle.wi_graph.proofs.Agreement.{agree_here, agree_sym, reached_back, circular_same}
 use Rattle.wi_graph.proofs.ReachTest.{reaches_true, true_reaches, in_cone_true, true_in_cone}
 
@@ -63,7 +63,7 @@ outside_circular s t xs c same out = circular_same s t c (agree_outside s t xs c
 -- ---- what a cell reaches is the same outside
 
 reaches_same : (s t : Sheet) (c a : ℕ) → AgreeFrom s t c → reaches s c a ≡ reaches t c a
-reaches_same s t c a g = same_tests (reaches s c a) (reaches t c a)
+reaches_same s t c a g = one_truth (reaches s c a) (reaches t c a)
     (λ h. true_reaches t c a (reached_back t s c a (agree_sym s t c g) (reaches_true s c a h)))
     (λ h. true_reaches s c a (reached_back s t c a g (reaches_true t c a h)))
 

@@ -130,7 +130,7 @@ rooms_same old new h k e =
 
 -- ---- the edges are those of the edited sheet
 
-content_of-with : (s : Sheet) (c : ℕ) (o : Option Content) (q : ℕ) → content_of (with_content s c o) q ≡ cond (q == c) o (content_of s q)
+pub content_of-with : (s : Sheet) (c : ℕ) (o : Option Content) (q : ℕ) → content_of (with_content s c o) q ≡ cond (q == c) o (content_of s q)
 content_of-with s c None q = found-without s c q
 content_of-with s c (Some x) q = found-insert s c x q
 

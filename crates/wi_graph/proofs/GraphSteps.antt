@@ -4,6 +4,7 @@ use Rattle.std.proofs.lemmas.Bool.{or_cases, or_left, or_right}
 use Rattle.std.specs.List.{list_any}
 use Rattle.std.specs.Ordering.{nat_cmp}
 use Rattle.std.specs.BTreeSet.{BTreeSet, contains}
+use Rattle.std.specs.Cmp.Derive.{one_truth}
 use Rattle.wi_values.specs.Address.{Area, is_within}
 use Rattle.wi_tiles.specs.Entries.{IsOrdered}
 use Rattle.wi_parser.specs.declared.content.Content.{Content}
@@ -20,7 +21,7 @@ use Rattle.wi_graph.specs.Reach.{Walks, reaches}
 use Rattle.wi_graph.specs.Edges.{areas_in, AreEdgesOf}
 use Rattle.wi_graph.specs.Inner.Rooms.{Rooms, room_at, edges_in, areas_of, times, HasPairs, IsGraph}
 use Rattle.wi_graph.proofs.ReachTest.{reaches_true, true_reaches}
-use Rattle.wi_graph.proofs.Walks.{same_tests, step, first_step, circular_walks, walks_circular}
+use Rattle.wi_graph.proofs.Walks.{step, first_step, circular_walks, walks_circular}
 use Rattle.wi_values.proofs.Order.{Ascends-from_order}
 use Rattle.wi_graph.proofs.EdgeLemmas.{areas_rooms}
 
@@ -51,14 +52,14 @@ walks_there (suc n) s t e c h =
     step n t c f.0 (sym (same_reads s t e c f.0) ∙ f.1) (walks_there n s t e f.0 f.2)
 
 pub same_circular : (s t : Sheet) → HaveSameEdges s t → (c : ℕ) → circular s c ≡ circular t c
-same_circular s t e c = same_tests (circular s c) (circular t c) (λ h. walks_circular t c (λ n. walks_there n s t e c (circular_walks s c h n))) (λ h. walks_circular s c (λ n. walks_there n t s (λ d. sym (e d)) c (circular_walks t c h n)))
+same_circular s t e c = one_truth (circular s c) (circular t c) (λ h. walks_circular t c (λ n. walks_there n s t e c (circular_walks s c h n))) (λ h. walks_circular s c (λ n. walks_there n t s (λ d. sym (e d)) c (circular_walks t c h n)))
 
 walks_same : (n : ℕ) (s t : Sheet) → HaveSameEdges s t → (c a : ℕ) → Walks n s c a → Walks n t c a
 walks_same zero s t e c a w = w
 walks_same (suc n) s t e c a w = (w.0, sym (same_reads s t e c w.0) ∙ w.1, walks_same n s t e w.0 a w.2)
 
 pub same_reaches : (s t : Sheet) → HaveSameEdges s t → (c a : ℕ) → reaches s c a ≡ reaches t c a
-same_reaches s t e c a = same_tests (reaches s c a) (reaches t c a)
+same_reaches s t e c a = one_truth (reaches s c a) (reaches t c a)
     (λ h. let w = reaches_true s c a h in true_reaches t c a (w.0, walks_same w.0 s t e c a w.1))
     (λ h. let w = reaches_true t c a h in true_reaches s c a (w.0, walks_same w.0 t s (λ d. sym (e d)) c a w.1))
 

@@ -7,8 +7,8 @@ use Rattle.std.specs.Ordering.{nat_cmp}
 use Rattle.std.specs.Map.{keys_of, lookup, remove_entry, set_value}
 use Rattle.std.specs.BTreeMap.{is_at, insert_entry}
 use Rattle.wi_tiles.specs.Entries.{CellEntries, get, IsOrdered}
-use Rattle.wi_values.proofs.Lookups.{found-insert}
-use Rattle.wi_values.proofs.Order.{ComeAfter, Ascends, Ascends-from_order, order-from_Ascends, Ascends-insert, lookup_after, is_at-eq, at_same, turn_test}
+use Rattle.wi_values.proofs.Lookups.{found-insert, cond_again, cond_apart}
+use Rattle.wi_values.proofs.Order.{ComeAfter, Ascends, Ascends-from_order, order-from_Ascends, Ascends-insert, lookup_after, is_at-eq, at_same, turn_test, Ascends-remove}
 
 -- the tests of two keys for one another
 same_test : (k q c : ℕ) → c ≡ k → is_at (nat_cmp q) c ≡ is_at (nat_cmp k) q
@@ -19,35 +19,6 @@ not_both k q c n h g = let z : true ≡ false = sym h ∙ ap (is_at (nat_cmp k))
 
 module _ {X : Type 0} where
   -- ---- a cell's entry goes
-
-  after_removed : (a k : ℕ) (es : List (ℕ × X)) → ComeAfter a es → ComeAfter a (remove_entry (is_at (nat_cmp k)) es)
-  after_removed a k [] h = tt
-  after_removed a k (e ∷ es) h = at (is_at (nat_cmp k) e.0) (after_removed a k es h.1)
-    where
-      at : (b : Bool) → ComeAfter a (remove_entry (is_at (nat_cmp k)) es) → ComeAfter a (cond b es (e ∷ remove_entry (is_at (nat_cmp k)) es))
-      at true ih = h.1
-      at false ih = (h.0, ih)
-
-  ascends_removed : (k : ℕ) (es : List (ℕ × X)) → Ascends es → Ascends (remove_entry (is_at (nat_cmp k)) es)
-  ascends_removed k [] h = tt
-  ascends_removed k (e ∷ es) h = at (is_at (nat_cmp k) e.0) (ascends_removed k es h.1)
-    where
-      at : (b : Bool) → Ascends (remove_entry (is_at (nat_cmp k)) es) → Ascends (cond b es (e ∷ remove_entry (is_at (nat_cmp k)) es))
-      at true ih = h.1
-      at false ih = (after_removed e.0 k es h.0, ih)
-
-  -- two tests of one key, and of two
-  hidden : (b d : Bool) (x y z : Option X) → d ≡ b → cond d x z ≡ cond b x (cond d y z)
-  hidden true true x y z h = refl
-  hidden false false x y z h = refl
-  hidden true false x y z h = cc
-  hidden false true x y z h = cc
-
-  apart : (b d : Bool) (x y z r : Option X) → (b ≡ true → d ≡ true → ⊥) → r ≡ cond b x z → cond d y r ≡ cond b x (cond d y z)
-  apart true true x y z r h e = absurd (h refl refl)
-  apart true false x y z r h e = e
-  apart false true x y z r h e = refl
-  apart false false x y z r h e = e
 
   found_removed : (k q : ℕ) (es : List (ℕ × X)) → Ascends es → lookup (is_at (nat_cmp q)) (remove_entry (is_at (nat_cmp k)) es) ≡ cond (is_at (nat_cmp k) q) None (lookup (is_at (nat_cmp q)) es)
   found_removed k q [] h = none (is_at (nat_cmp k) q)
@@ -66,7 +37,7 @@ module _ {X : Type 0} where
       at true t ih =
           gone (is_at (nat_cmp k) q) refl (at_same k e.0 t)
           ∙ ap (λ (b : Bool). cond (is_at (nat_cmp k) q) None (cond b (Some e.1) (lookup (is_at (nat_cmp q)) es))) (sym (same_test k q e.0 (at_same k e.0 t)))
-      at false t ih = apart (is_at (nat_cmp k) q) (is_at (nat_cmp q) e.0) None (Some e.1) (lookup (is_at (nat_cmp q)) es) (lookup (is_at (nat_cmp q)) (remove_entry (is_at (nat_cmp k)) es)) (not_both k q e.0 t) ih
+      at false t ih = cond_apart (is_at (nat_cmp k) q) (is_at (nat_cmp q) e.0) None (Some e.1) (lookup (is_at (nat_cmp q)) es) (lookup (is_at (nat_cmp q)) (remove_entry (is_at (nat_cmp k)) es)) (not_both k q e.0 t) ih
 
   -- ---- another value in its place
 
@@ -76,8 +47,8 @@ module _ {X : Type 0} where
     where
       at : (b : Bool) → is_at (nat_cmp k) e.0 ≡ b → (IsSome (lookup (is_at (nat_cmp k)) es) → lookup (is_at (nat_cmp q)) (set_value (is_at (nat_cmp k)) es w) ≡ cond (is_at (nat_cmp k) q) (Some w) (lookup (is_at (nat_cmp q)) es)) → IsSome (cond b (Some e.1) (lookup (is_at (nat_cmp k)) es)) →
           lookup (is_at (nat_cmp q)) (cond b ((e.0, w) ∷ es) (e ∷ set_value (is_at (nat_cmp k)) es w)) ≡ cond (is_at (nat_cmp k) q) (Some w) (cond (is_at (nat_cmp q) e.0) (Some e.1) (lookup (is_at (nat_cmp q)) es))
-      at true t ih r = hidden (is_at (nat_cmp k) q) (is_at (nat_cmp q) e.0) (Some w) (Some e.1) (lookup (is_at (nat_cmp q)) es) (same_test k q e.0 (at_same k e.0 t))
-      at false t ih r = apart (is_at (nat_cmp k) q) (is_at (nat_cmp q) e.0) (Some w) (Some e.1) (lookup (is_at (nat_cmp q)) es) (lookup (is_at (nat_cmp q)) (set_value (is_at (nat_cmp k)) es w)) (not_both k q e.0 t) (ih r)
+      at true t ih r = cond_again (is_at (nat_cmp k) q) (is_at (nat_cmp q) e.0) (Some w) (Some e.1) (lookup (is_at (nat_cmp q)) es) (same_test k q e.0 (at_same k e.0 t))
+      at false t ih r = cond_apart (is_at (nat_cmp k) q) (is_at (nat_cmp q) e.0) (Some w) (Some e.1) (lookup (is_at (nat_cmp q)) es) (lookup (is_at (nat_cmp q)) (set_value (is_at (nat_cmp k)) es w)) (not_both k q e.0 t) (ih r)
 
   -- ---- of a map
 
@@ -85,7 +56,7 @@ module _ {X : Type 0} where
   removed old new k o e q = ap (lookup (is_at (nat_cmp q))) e ∙ found_removed k q old.entries (Ascends-from_order old.entries o)
 
   pub removed_order : (old new : CellEntries X) (k : ℕ) → IsOrdered nat_cmp old → new.entries ≡ remove_entry (is_at (nat_cmp k)) old.entries → IsOrdered nat_cmp new
-  removed_order old new k o e = subst (λ (es : List (ℕ × X)). IsStrictlySortedBy nat_cmp (keys_of es)) (sym e) (order-from_Ascends (remove_entry (is_at (nat_cmp k)) old.entries) (ascends_removed k old.entries (Ascends-from_order old.entries o)))
+  removed_order old new k o e = subst (λ (es : List (ℕ × X)). IsStrictlySortedBy nat_cmp (keys_of es)) (sym e) (order-from_Ascends (remove_entry (is_at (nat_cmp k)) old.entries) (Ascends-remove k old.entries (Ascends-from_order old.entries o)))
 
   pub set : (old new : CellEntries X) (k : ℕ) (w : X) → IsSome (get nat_cmp old k) → new.entries ≡ set_value (is_at (nat_cmp k)) old.entries w → (q : ℕ) → get nat_cmp new q ≡ cond (is_at (nat_cmp k) q) (Some w) (get nat_cmp old q)
   set old new k w s e q = ap (lookup (is_at (nat_cmp q))) e ∙ found_set k q w old.entries s

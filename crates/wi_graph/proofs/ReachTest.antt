@@ -1,9 +1,10 @@
 -- To reach is decided by a test.
-use Rattle.std.proofs.Common.{◌≡◌, ◌==◌, ℕ, zero, suc, ◌<◌, ◌≤◌, Bool, true, false, ◌&&◌, ◌||◌, cond, List, [], ◌∷◌, filter, length, refl, sym, subst, arith, inl, inr, ◌⊎◌, eq-eqb}
+use Rattle.std.proofs.Common.{◌≡◌, ◌==◌, ℕ, zero, suc, ◌<◌, ◌≤◌, Bool, true, false, ◌&&◌, ◌||◌, List, [], ◌∷◌, filter, length, refl, sym, subst, arith, inl, inr, ◌⊎◌, eq-eqb}
 use Rattle.std.proofs.lemmas.Bool.{and_parts, and_from, or_cases, or_left, or_right, cases_lt, cases_Bool}
 use Rattle.std.specs.List.{list_any}
 use Rattle.wi_parser.specs.Sheet.{Sheet, content_of, has_formula, cells_with_formula}
 use Rattle.wi_parser.specs.Reads.{content_reads}
+use Rattle.wi_values.proofs.Lists.{keeps_few}
 use Rattle.wi_graph.specs.Reach.{Walks, Reaches, is_one_of, IsInCone, reaches_by, reaches, in_cone}
 use Rattle.wi_graph.proofs.Walks.{same_cell, found, formula_cell, reader_formula, shrinks, Same}
 
@@ -86,14 +87,6 @@ grows (suc n) s a = at (grows n s a) (shrinks (λ c. reaches_by (suc n) s c a) (
     at (inl k) x = inl (stands_on n s a k)
     at (inr l) (inl x) = inr (omega arith)
     at (inr l) (inr x) = inl (stands_on n s a (from_formulas n s a (λ c m h. x.1 c m h)))
-
-pub keeps_few : {A : Type 0} (p : A → Bool) (xs : List A) → length (filter p xs) ≤ length xs
-keeps_few p [] = omega arith
-keeps_few {A} p (x ∷ xs) = at (p x) (keeps_few p xs)
-  where
-    at : (b : Bool) → length (filter p xs) ≤ length xs → length (cond b (x ∷ filter p xs) (filter p xs)) ≤ length (x ∷ xs)
-    at true l = omega arith
-    at false l = omega arith
 
 -- a filter that keeps as many as there are keeps each
 all_kept : (p : ℕ → Bool) (xs : List ℕ) → length xs ≤ length (filter p xs) → (a : ℕ) → is_one_of xs a ≡ true → p a ≡ true

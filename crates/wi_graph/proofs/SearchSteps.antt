@@ -1,7 +1,6 @@
 -- Steps of a search over readers.
-use Rattle.std.proofs.Common.{◌≡◌, ◌==◌, ◌||◌, ◌⊎◌, inl, inr, not, ℕ, zero, suc, ◌+◌, ◌<◌, ◌↔◌, Bool, true, false, cond, List, [], ◌∷◌, ◌++◌, map, length, take, get_or, Some, Result, Ok, Err, IfOk, refl, ap, sym, ◌∙◌, subst, arith, add-one}
+use Rattle.std.proofs.Common.{◌≡◌, ◌==◌, ◌||◌, ◌⊎◌, inl, inr, not, ℕ, zero, suc, ◌+◌, ◌<◌, ◌↔◌, Bool, true, false, cond, List, [], ◌∷◌, ◌++◌, map, length, take, get_or, Some, Result, Ok, Err, IfOk, refl, ap, sym, ◌∙◌, subst, arith}
 use Rattle.std.proofs.Math.Bool.{or-false, or_assoc}
-use Rattle.std.proofs.Math.Seq.{take-suc}
 use Rattle.std.proofs.lemmas.List.Folds.{list_any-append}
 use Rattle.std.proofs.lemmas.Bool.{or_cases, or_left, or_right, cases_Bool, not-true, not_from_false}
 use Rattle.std.proofs.lemmas.List.{length-append}
@@ -22,7 +21,9 @@ use Rattle.wi_graph.specs.Reach.{is_one_of, in_cone}
 use Rattle.wi_graph.specs.Inner.Search.{HasAll, HasReaders, GoesToReaders, IsLeast, IsConeOf, as_set, missing, AreNoted}
 use Rattle.wi_graph.proofs.Tests.{is_itself, clash, turned}
 use Rattle.std.proofs.lemmas.List.Elements.{filter_agree}
-use Rattle.wi_graph.proofs.Walks.{same_cell, same_tests, shrinks, Same}
+use Rattle.std.specs.Cmp.Derive.{one_truth}
+use Rattle.wi_values.proofs.Lists.{taken_more}
+use Rattle.wi_graph.proofs.Walks.{same_cell, shrinks, Same}
 use Rattle.wi_graph.proofs.SetSteps.{in_last, in_front, in_back, Gains, gains, gains_stays, gains_one, gains_cases, taken}
 use Rattle.wi_graph.proofs.Cones.{cone_has, cone_closed, cone_least}
 
@@ -135,13 +136,10 @@ noted_both xs ys old mid new before between after m n = record {
     last c (inl h) = first c (m.within c h)
     last c (inr h) = inr h
 
-pub one_taken : (cells : List ℕ) (i x : ℕ) → i < length cells → x ≡ get_or cells i x → take (i + 1) cells ≡ take i cells ++ x ∷ []
-one_taken cells i x l e = ap (λ (n : ℕ). take n cells) (add-one i) ∙ take-suc cells i x l ∙ ap (λ (y : ℕ). take i cells ++ y ∷ []) (sym e)
-
 -- one more of some cells
 pub noted_more : (cells : List ℕ) (i x : ℕ) (old mid new : BTreeSet ℕ) (before work more : List ℕ) → i < length cells → x ≡ get_or cells i x → AreNoted (take i cells) old mid before work → AreNoted (x ∷ []) mid new work more →
     AreNoted (take (i + 1) cells) old new before more
-noted_more cells i x old mid new before work more l e m n = subst (λ (xs : List ℕ). AreNoted xs old new before more) (sym (one_taken cells i x l e)) (noted_both (take i cells) (x ∷ []) old mid new before work more m n)
+noted_more cells i x old mid new before work more l e m n = subst (λ (xs : List ℕ). AreNoted xs old new before more) (sym (taken_more cells i x l e)) (noted_both (take i cells) (x ∷ []) old mid new before work more m n)
 
 -- ---- the search
 
@@ -264,7 +262,7 @@ search_ends readers found more work less after next noted cell e r k m =
 pub found_cone : (s : Sheet) (readers : Bag) (cells : List ℕ) (found : BTreeSet ℕ) → ((a r : ℕ) → (content_reads (content_of s r) a ≡ true) ↔ IsReader readers a r) → HasAll cells found → HasReaders readers found →
     IsLeast readers cells found →
     (c : ℕ) → is_one_of found.keys c ≡ in_cone s cells c
-found_cone s readers cells found i h k l c = sym (turned found.keys c) ∙ same_tests (contains nat_cmp found c) (in_cone s cells c)
+found_cone s readers cells found i h k l c = sym (turned found.keys c) ∙ one_truth (contains nat_cmp found c) (in_cone s cells c)
     (l (in_cone s cells) (cone_has s cells) (λ a r m u. cone_closed s cells r a ((i a r).1 u) m) c)
     (cone_least s cells (contains nat_cmp found) h (λ d a r m. k a d m ((i a d).0 r)) c)
 
@@ -297,7 +295,7 @@ found_list readers cells list found o e a k l = record {
 }
   where
     same : (c : ℕ) → contains nat_cmp (as_set list) c ≡ contains nat_cmp found c
-    same c = turned list c ∙ same_tests (is_one_of list c) (contains nat_cmp found c) (λ h. (e c).0 (one_listed list c h)) (λ h. listed_one list c ((e c).1 h))
+    same c = turned list c ∙ one_truth (is_one_of list c) (contains nat_cmp found c) (λ h. (e c).0 (one_listed list c h)) (λ h. listed_one list c ((e c).1 h))
 
 pub found_listed : {E : Type 0} (readers : Bag) (cells : List ℕ) (found : BTreeSet ℕ) (r : Result (Vec ℕ) E) → HasAll cells found → HasReaders readers found → IsLeast readers cells found →
     IfOk r (λ list. IsStrictlyIncreasing list.items) → IfOk r (λ list. (c : ℕ) → Contains list.items c ↔ (contains nat_cmp found c ≡ true)) → IfOk r (λ list. IsConeOf readers cells list.items)

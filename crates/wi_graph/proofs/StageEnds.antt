@@ -1,5 +1,5 @@
 -- An edit is staged, or refused.
-use Rattle.std.proofs.Common.{◌≡◌, ℕ, Bool, ◌&&◌, ◌||◌, List, not, Option, Some, None, option_map, IfSome, IfNone, Result, Ok, Err, OnErr, refl, ap, sym, ◌∙◌}
+use Rattle.std.proofs.Common.{◌≡◌, ℕ, Bool, ◌&&◌, ◌||◌, List, not, Option, Some, None, option_map, IfSome, IfNone, refl, ap, sym, ◌∙◌}
 use Rattle.std.specs.Ordering.{nat_cmp}
 use Rattle.std.specs.BTreeSet.{BTreeSet, contains}
 use Rattle.wi_tiles.specs.Entries.{IsOrdered}
@@ -38,10 +38,6 @@ same_graph rooms readers circles has g h = record {
   pairs = g.pairs;
   circular = circles_over (room_at rooms) (room_at rooms) (contains nat_cmp has) (contains nat_cmp circles) (λ c. refl) h g.circular;
 }
-
-pub on_err : {T E P : Type 0} (r : Result T E) → P → OnErr r P
-on_err (Ok x) h = tt
-on_err (Err e) h = h
 
 pub refused_graph : (old new : Rooms) (before after : Bag) (circles mid has : BTreeSet ℕ) (came taken : List ℕ) → IsGraph old before circles → IsOrdered nat_cmp new → ((c : ℕ) → room_at new c ≡ room_at old c) → HasPairs after new →
     AreNew came circles → ((c : ℕ) → contains nat_cmp mid c ≡ (contains nat_cmp circles c || is_one_of came c)) → taken ≡ came → ((c : ℕ) → contains nat_cmp has c ≡ less_these mid taken c) → IsGraph new after has

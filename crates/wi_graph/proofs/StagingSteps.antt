@@ -11,11 +11,12 @@ use Rattle.wi_tiles.specs.Entries.{get, IsOrdered}
 use Rattle.wi_ranges.specs.declared.pair.RangePair.{RangePair}
 use Rattle.wi_ranges.specs.Bag.{Bag, pair_for, is_same, count_of, HasOneMore}
 use Rattle.wi_values.proofs.Order.{ComeAfter, Ascends, Ascends-from_order, lookup_after}
+use Rattle.wi_values.proofs.Lists.{taken_more}
 use Rattle.wi_graph.specs.Inner.Rooms.{Rooms, Coming, brought_to, coming_at, items_of, in_room, room_at, areas_of, times, times_in, times_coming, AreInOrder, HasRooms, HasPairs, HasBoth}
 use Rattle.wi_graph.specs.Inner.Staging.{times_among, HasThese}
 use Rattle.wi_graph.proofs.Tests.{is_at-eq, is_itself, at_same, turn_test}
 use Rattle.wi_graph.proofs.Walks.{same_cell}
-use Rattle.wi_graph.proofs.ComingSteps.{one_longer, found_longer}
+use Rattle.wi_graph.proofs.ComingSteps.{found_longer}
 use Rattle.wi_graph.proofs.MapSteps.{PutsNew, or_new, put}
 use Rattle.wi_graph.proofs.RoomSteps.{times_more, times_other, times_room, Loses}
 
@@ -121,7 +122,7 @@ bringing_step first rooms mid readers more coming i x order l e ord n there stay
 })
   where
     longer : take (i + 1) coming ≡ take i coming ++ (x.0, x.1) ∷ []
-    longer = one_longer coming i x l e
+    longer = taken_more coming i x l e
 
     room : (c : ℕ) → get nat_cmp mid c ≡ None → (b : Bool) → is_at (nat_cmp x.0) c ≡ b → coming_at (take i coming ++ (x.0, x.1) ∷ []) c ≡ None
     room c h true s = absurd (there (ap (get nat_cmp mid) (sym (at_same x.0 c s)) ∙ h))

@@ -5,6 +5,7 @@ use Rattle.std.proofs.lemmas.List.{nil_from_length}
 use Rattle.std.proofs.lemmas.List.Folds.{Any-from_list_any, list_any_at, list_any-append}
 use Rattle.std.proofs.lemmas.List.Sums.{AllPass-from_list_all, list_all-from_AllPass}
 use Rattle.std.specs.List.{list_any, list_all}
+use Rattle.std.specs.Cmp.Derive.{one_truth}
 use Rattle.wi_parser.specs.declared.content.Content.{Content}
 use Rattle.wi_parser.specs.declared.content.Content.TheVariants.{Constant, Formula}
 use Rattle.wi_parser.specs.Sheet.{Sheet, content_of, has_formula, cells_with_formula}
@@ -15,11 +16,6 @@ use Rattle.wi_graph.proofs.Layers.{is_one_of, layer, layer_zero, in_layer, has_w
 
 pub same_cell : (a k : ℕ) → (k == a) ≡ true → k ≡ a
 same_cell a k h = eqb-true k a h
-
-pub same_tests : (a b : Bool) → (a ≡ true → b ≡ true) → (b ≡ true → a ≡ true) → a ≡ b
-same_tests true b h k = sym (h refl)
-same_tests false true h k = k refl
-same_tests false false h k = refl
 
 -- a test that one element of a list passes
 pub found : (p : ℕ → Bool) (xs : List ℕ) (a : ℕ) → is_one_of xs a ≡ true → p a ≡ true → list_any p xs ≡ true
@@ -225,7 +221,7 @@ long_walk s c h =
 
 -- a cell is circular exactly where as many steps lead from it as there are formulas
 pub circular_is : (s : Sheet) (c : ℕ) → circular s c ≡ has_walk (length (cells_with_formula s)) s c
-circular_is s c = same_tests (circular s c) (has_walk (length (cells_with_formula s)) s c) (λ h. circular_walks s c h (length (cells_with_formula s))) (long_walk s c)
+circular_is s c = one_truth (circular s c) (has_walk (length (cells_with_formula s)) s c) (λ h. circular_walks s c h (length (cells_with_formula s))) (long_walk s c)
 
 -- and so exactly where walks of every length do
 pub walks_circular : (s : Sheet) (c : ℕ) → ((n : ℕ) → has_walk n s c ≡ true) → circular s c ≡ true

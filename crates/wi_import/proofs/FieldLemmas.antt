@@ -9,6 +9,7 @@ use Rattle.std.proofs.lemmas.List.{at_drop_more, length-map, map-append, append_
 use Rattle.std.proofs.lemmas.List.Folds.{list_any-append}
 use Rattle.std.proofs.lemmas.Slice.Eq.{bytes_eq-Decides}
 use Rattle.std.proofs.lemmas.Str.{IsUtf8-from_is_utf8, is_utf8-from_IsUtf8}
+use Rattle.std.proofs.lemmas.Bool.{or_parts, not-false}
 use Rattle.wi_fraction.specs.Number.{Number as Numbers}
 use Rattle.wi_fraction.specs.Inner.Reading.{read}
 use Rattle.wi_values.specs.Address.{rows, columns, place}
@@ -64,10 +65,6 @@ record_outside row column field (x ∷ xs) =
     (λ e. grind (arith, nat_tests, e))
 
 -- ---- no fault
-
-or_parts : (a b : Bool) → (a || b) ≡ false → (a ≡ false) × (b ≡ false)
-or_parts true b e = cc e
-or_parts false b e = (refl, e)
 
 or_both : (a b c d : Bool) → (a || b) ≡ false → (c || d) ≡ false → ((a || c) || (b || d)) ≡ false
 or_both true b c d e f = cc e
@@ -233,17 +230,13 @@ any_left p row column i records fields l e =
     ap (list_any p) (next_record row column i records fields l e)
     ∙ list_any-append p (fields_of (row + i) column (bytes_of fields.items)) (fields_left row column (i + 1) records)
 
-not_false : (b : Bool) → not b ≡ false → b ≡ true
-not_false true e = refl
-not_false false e = cc e
-
 err_not_ok : {S E : Type 0} (r : Result S E) → is_err r ≡ not (is_ok r)
 err_not_ok (Ok s) = refl
 err_not_ok (Err e) = refl
 
 -- a field that isn't bad is read as UTF-8
 pub read_ok : {S E : Type 0} (bytes : List ℕ) (r : Result S E) → is_bad bytes ≡ not (is_ok r) → is_bad bytes ≡ false → IsOk r
-read_ok bytes r found text = not_false (is_ok r) (sym found ∙ text)
+read_ok bytes r found text = not-false (is_ok r) (sym found ∙ text)
 
 pub read_err : {S E : Type 0} (bytes : List ℕ) (r : Result S E) (b : Bool) → is_bad bytes ≡ not (is_ok r) → b ≡ is_err r → b ≡ is_bad bytes
 read_err bytes r b found is = is ∙ err_not_ok r ∙ sym found

@@ -1,16 +1,18 @@
 -- What imports of fields come to: what the function finds, and nothing else.
-use Rattle.std.proofs.Common.{◌≡◌, ◌↔◌, ℕ, ◌<◌, nat_le, Bool, true, false, not, ◌||◌, List, [], ◌∷◌, map, length, get_or, Option, Some, None, is_some, option_map, Result, Ok, Err, refl, sym, ap, ◌∙◌, subst, arith, IsUtf8, All}
-use Rattle.std.specs.List.{Any, AllZip, list_any}
+use Rattle.std.proofs.Common.{◌≡◌, ◌↔◌, ℕ, nat_le, Bool, true, false, not, ◌||◌, List, [], ◌∷◌, map, get_or, Option, Some, None, is_some, option_map, Result, Ok, Err, refl, sym, ap, ◌∙◌, subst, arith, IsUtf8, All}
+use Rattle.std.specs.List.{AllZip, list_any}
 use Rattle.std.specs.Str.{is_utf8}
 use Rattle.std.proofs.lemmas.Bool.Decides.{nat_tests}
-use Rattle.std.proofs.lemmas.List.Folds.{list_any_none, list_any_at, Any-from_list_any, list_any-from_Any}
+use Rattle.std.proofs.lemmas.List.Folds.{list_any_none, Any-from_list_any, list_any-from_Any}
 use Rattle.std.proofs.lemmas.Str.{IsUtf8-from_is_utf8, is_utf8-from_IsUtf8}
+use Rattle.std.proofs.lemmas.Bool.{or_parts, not-false}
 use Rattle.wi_fraction.specs.Number.{Number as Numbers}
 use Rattle.wi_fraction.specs.Inner.Reading.{read}
 use Rattle.wi_values.specs.Address.{rows, columns}
 use Rattle.wi_values.specs.Imported.{IsImported, a_number, a_truth_value, a_text, too_long as too_long_text}
 use Rattle.wi_values.specs.Inner.Import.{imported, field_value, number_or}
 use Rattle.wi_values.proofs.Imports.{imported_exactly}
+use Rattle.wi_values.proofs.Lists.{each_fails, Any-weaker}
 use Rattle.wi_values.specs.declared.value.Value.{Value}
 use Rattle.wi_parser.specs.declared.content.Content.{Content}
 use Rattle.wi_parser.specs.declared.content.Content.TheVariants.{Constant}
@@ -24,28 +26,9 @@ Outcome = Result (List (ℕ × Option Content)) ImportFault
 
 -- ---- tests
 
-turned : (b : Bool) → not b ≡ false → b ≡ true
-turned true e = refl
-turned false e = cc e
-
-neither : (a b : Bool) → (a || b) ≡ false → (a ≡ false) × (b ≡ false)
-neither true b e = cc e
-neither false b e = (refl, e)
-
-fails : {X : Type 0} (p : X → Bool) (xs : List X) (k : ℕ) (d : X) → list_any p xs ≡ false → k < length xs → (b : Bool) → p (get_or xs k d) ≡ b → p (get_or xs k d) ≡ false
-fails p xs k d e l true f = let g = list_any_at p xs k d l f in cc
-fails p xs k d e l false f = f
-
--- where no element passes a test, each fails it
-none_pass : {X : Type 0} (p : X → Bool) (xs : List X) → list_any p xs ≡ false → All (λ x. p x ≡ false) xs
-none_pass p xs e = λ k d l. fails p xs k d e l (p (get_or xs k d)) refl
-
--- what follows of each follows of all, and of some
+-- what follows of each follows of all
 all_so : {X : Type 0} {P Q : X → Type 0} (xs : List X) → ((x : X) → P x → Q x) → All P xs → All Q xs
 all_so xs f h = λ k d l. f (get_or xs k d) (h k d l)
-
-any_so : {X : Type 0} {P Q : X → Type 0} (xs : List X) → ((x : X) → P x → Q x) → Any P xs → Any Q xs
-any_so xs f h = (h.0, h.1, h.2, h.3, f h.1 h.4)
 
 -- ---- a field that isn't UTF-8
 
@@ -53,7 +36,7 @@ text_not_bad : (bytes : List ℕ) → IsUtf8 bytes → is_bad bytes ≡ false
 text_not_bad bytes h = ap not (is_utf8-from_IsUtf8 bytes h)
 
 pub not_bad_text : (bytes : List ℕ) → is_bad bytes ≡ false → IsUtf8 bytes
-not_bad_text bytes e = IsUtf8-from_is_utf8 bytes (turned (is_utf8 bytes) e)
+not_bad_text bytes e = IsUtf8-from_is_utf8 bytes (not-false (is_utf8 bytes) e)
 
 bad_no_text : (bytes : List ℕ) → is_bad bytes ≡ true → IsUtf8 bytes → ⊥
 bad_no_text bytes e h = let f = text_not_bad bytes h in cc
@@ -104,7 +87,7 @@ inside_false f (r, c) =
 
 pub false_inside : (f : Field) → is_outside f ≡ false → IsInside f
 false_inside f e =
-    let p = neither (nat_le rows f.row) (nat_le columns f.column) e in
+    let p = or_parts (nat_le rows f.row) (nat_le columns f.column) e in
     let row = p.0 in
     let column = p.1 in
     (grind (arith, nat_tests, row), grind (arith, nat_tests, column))
@@ -161,7 +144,7 @@ none_too_long (f ∷ fs) ((a, o) ∷ cs) ((same, content), more) =
 each_change : (fields : List Field) → list_any (λ f. is_too_long f.bytes) fields ≡ false → AllZip IsChange fields (map change_of fields)
 each_change [] e = tt
 each_change (f ∷ fs) e =
-    let p = neither (is_too_long f.bytes) (list_any (λ g. is_too_long g.bytes) fs) e in
+    let p = or_parts (is_too_long f.bytes) (list_any (λ g. is_too_long g.bytes) fs) e in
     ((refl, is_content f.bytes (field_value f.bytes) refl p.0), each_change fs p.1)
 
 -- ---- all of it
@@ -179,19 +162,19 @@ texts_none : (fields : List Field) → All IsText fields → bad_in fields ≡ f
 texts_none fields h = list_any_none (λ f. is_bad f.bytes) fields (all_so fields (λ f. text_not_bad f.bytes) h)
 
 none_texts : (fields : List Field) → bad_in fields ≡ false → All IsText fields
-none_texts fields e = all_so fields (λ f. not_bad_text f.bytes) (none_pass (λ f. is_bad f.bytes) fields e)
+none_texts fields e = all_so fields (λ f. not_bad_text f.bytes) (each_fails (λ f. is_bad f.bytes) fields e)
 
 found : (fields : List Field) (a b c : Bool) → bad_in fields ≡ a → long_in fields ≡ b → outside_in fields ≡ c
     → IsImport fields (unless_fault (first_fault a b c) (map change_of fields))
-found fields true b c e f g = bad_field fields (any_so fields (λ x. bad_no_text x.bytes) (Any-from_list_any (λ x. is_bad x.bytes) fields e))
+found fields true b c e f g = bad_field fields (Any-weaker _ _ fields (λ x. bad_no_text x.bytes) (Any-from_list_any (λ x. is_bad x.bytes) fields e))
 found fields false true c e f g =
-    too_long fields (none_texts fields e) (any_so fields (λ x. true_long x.bytes) (Any-from_list_any (λ x. is_too_long x.bytes) fields f))
+    too_long fields (none_texts fields e) (Any-weaker _ _ fields (λ x. true_long x.bytes) (Any-from_list_any (λ x. is_too_long x.bytes) fields f))
 found fields false false true e f g =
-    out_of_sheet fields (none_texts fields e) (all_so fields (λ x. false_short x.bytes) (none_pass (λ x. is_too_long x.bytes) fields f))
-    (any_so fields true_outside (Any-from_list_any is_outside fields g))
+    out_of_sheet fields (none_texts fields e) (all_so fields (λ x. false_short x.bytes) (each_fails (λ x. is_too_long x.bytes) fields f))
+    (Any-weaker _ _ fields true_outside (Any-from_list_any is_outside fields g))
 found fields false false false e f g = record {
   texts = none_texts fields e;
-  inside = all_so fields false_inside (none_pass is_outside fields g);
+  inside = all_so fields false_inside (each_fails is_outside fields g);
   each = each_change fields f;
 }
 
@@ -200,14 +183,14 @@ by_tests fields a b c = unless_fault (first_fault a b c) (map change_of fields)
 
 fault_is : (fields : List Field) (fault : ImportFault) → IsFault fields fault → import_of fields ≡ Err fault
 fault_is fields fault (bad_field fs some) =
-    let e = list_any-from_Any (λ f. is_bad f.bytes) fs (any_so fs (λ f h. no_text_bad f.bytes h (is_utf8 f.bytes) refl) some) in
+    let e = list_any-from_Any (λ f. is_bad f.bytes) fs (Any-weaker _ _ fs (λ f h. no_text_bad f.bytes h (is_utf8 f.bytes) refl) some) in
     ap (λ a. by_tests fs a (long_in fs) (outside_in fs)) e
 fault_is fields fault (too_long fs texts some) =
-    let e = list_any-from_Any (λ f. is_too_long f.bytes) fs (any_so fs (λ f. long_true f.bytes) some) in
+    let e = list_any-from_Any (λ f. is_too_long f.bytes) fs (Any-weaker _ _ fs (λ f. long_true f.bytes) some) in
     ap (λ a. by_tests fs a (long_in fs) (outside_in fs)) (texts_none fs texts) ∙ ap (λ b. by_tests fs false b (outside_in fs)) e
 fault_is fields fault (out_of_sheet fs texts short some) =
     let f = list_any_none (λ f. is_too_long f.bytes) fs (all_so fs (λ f h. short_false f.bytes h (is_too_long f.bytes) refl) short) in
-    let e = list_any-from_Any is_outside fs (any_so fs (λ f h. outside_true f h (is_outside f) refl) some) in
+    let e = list_any-from_Any is_outside fs (Any-weaker _ _ fs (λ f h. outside_true f h (is_outside f) refl) some) in
     ap (λ a. by_tests fs a (long_in fs) (outside_in fs)) (texts_none fs texts) ∙ ap (λ b. by_tests fs false b (outside_in fs)) f
     ∙ ap (by_tests fs false false) e
 

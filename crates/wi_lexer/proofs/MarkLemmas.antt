@@ -2,17 +2,15 @@
 use Rattle.std.proofs.Common.{◌≡◌, ℕ, Bool, true, false, cond, ◌&&◌, ◌==◌, List, [], ◌∷◌, ◌++◌, Option, Some, None, refl, sym, ap, ◌∙◌}
 use Rattle.std.specs.Option.{option_or}
 use Rattle.std.proofs.lemmas.Bool.{eqb-true, and_parts}
+use Rattle.std.proofs.lemmas.Option.{same_Some}
 use Rattle.wi_lexer.specs.declared.token.Mark.{Mark}
 use Rattle.wi_lexer.specs.declared.token.Mark.TheVariants.{OpenParenthesis, CloseParenthesis, Plus, Minus, Asterisk, Slash, Caret, Percent, Ampersand, Equal, NotEqual, Less, LessOrEqual, Greater, GreaterOrEqual, Semicolon}
 use Rattle.wi_lexer.specs.Mark.{mark_text}
 use Rattle.wi_lexer.specs.Inner.Mark.{two_byte_mark, one_byte_mark, mark_at}
 
-same_mark : (m n : Mark) → Some m ≡ Some n → m ≡ n
-same_mark m n h = cc
-
 -- A test chooses a mark whose text the bytes are, or leaves the choice to later ones.
 choose : (text : List ℕ) (t : Bool) (k m : Mark) (o : Option Mark) → (t ≡ true → text ≡ mark_text k) → (o ≡ Some m → text ≡ mark_text m) → cond t (Some k) o ≡ Some m → text ≡ mark_text m
-choose text true k m o here later h = here refl ∙ ap mark_text (same_mark k m h)
+choose text true k m o here later h = here refl ∙ ap mark_text (same_Some k m h)
 choose text false k m o here later h = later h
 
 choose_byte : (b n : ℕ) (k m : Mark) (o : Option Mark) → n ∷ [] ≡ mark_text k → (o ≡ Some m → b ∷ [] ≡ mark_text m) → cond (b == n) (Some k) o ≡ Some m → b ∷ [] ≡ mark_text m

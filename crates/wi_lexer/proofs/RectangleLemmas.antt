@@ -4,6 +4,7 @@ use Rattle.std.specs.Prelude.{slice_index}
 use Rattle.std.proofs.lemmas.Bool.{eqb-true, and_parts}
 use Rattle.std.proofs.lemmas.Bool.Decides.{nat_tests}
 use Rattle.std.proofs.lemmas.List.{take-append-drop}
+use Rattle.std.proofs.lemmas.Option.{same_Some}
 use Rattle.std.proofs.lemmas.List.Folds.{list_all-append}
 use Rattle.std.proofs.Math.Seq.{drop-append_seam, take-append_seam}
 use Rattle.std.specs.List.{list_all}
@@ -36,13 +37,10 @@ beside c d = cell_text c ++ 58 ∷ 46 ∷ cell_text d
 pub rectangle_is : (c d : Cell) → bracketed (beside c d) ≡ rectangle_text c d
 rectangle_is c d = ap bracketed (sym (append_assoc (cell_text c) (58 ∷ 46 ∷ []) (cell_text d)))
 
-same_cells : (p q : Cell × Cell) → Some p ≡ Some q → p ≡ q
-same_cells p q h = cc
-
 both_found : (o p : Option Cell) (c d : Cell) → both_cells o p ≡ Some (c, d) → (o ≡ Some c) × (p ≡ Some d)
 both_found None p c d h = cc
 both_found (Some a) None c d h = cc
-both_found (Some a) (Some b) c d h = let e = same_cells (a, b) (c, d) h in (ap (λ x. Some x.0) e, ap (λ x. Some x.1) e)
+both_found (Some a) (Some b) c d h = let e = same_Some (a, b) (c, d) h in (ap (λ x. Some x.0) e, ap (λ x. Some x.1) e)
 
 second_back : (bs : List ℕ) → begins_second bs ≡ true → 58 ∷ 46 ∷ drop 2 bs ≡ bs
 second_back [] h = cc

@@ -4,6 +4,7 @@ use Rattle.std.specs.Prelude.{nat_lt, slice_index}
 use Rattle.std.specs.Option.{option_or}
 use Rattle.std.proofs.lemmas.Bool.{ltb-true, lt-ltb}
 use Rattle.std.proofs.lemmas.List.{take-append-drop, length-take-le}
+use Rattle.std.proofs.lemmas.Option.{same_Some}
 use Rattle.std.proofs.Math.Seq.{take-append_seam}
 use Rattle.wi_fraction.specs.Written.{IsWritten}
 use Rattle.wi_lexer.specs.Quoted.{quoted}
@@ -255,11 +256,8 @@ record Stands (k : Kind) (n : ℕ) (bs : List ℕ) : Type 0 where
 abbrev pub found_token : Kind → ℕ → Option (Kind × ℕ)
 found_token k n = Some (k, n)
 
-inside : (p q : Kind × ℕ) → Some p ≡ Some q → p ≡ q
-inside p q h = cc
-
 same_token : (j k : Kind) (m n : ℕ) → found_token j m ≡ found_token k n → (j ≡ k) × (m ≡ n)
-same_token j k m n h = let e = inside (j, m) (k, n) h in (ap (λ p. p.0) e, ap (λ p. p.1) e)
+same_token j k m n h = let e = same_Some (j, m) (k, n) h in (ap (λ p. p.0) e, ap (λ p. p.1) e)
 
 same_stands : (j k : Kind) (m n : ℕ) (bs : List ℕ) → found_token j m ≡ found_token k n → Stands j m bs → Stands k n bs
 same_stands j k m n bs h s =

@@ -9,6 +9,7 @@ use Rattle.wi_values.specs.declared.value.ErrorKind.{ErrorKind}
 use Rattle.wi_values.specs.declared.value.ErrorKind.TheVariants.{BadValue, BadReference}
 use Rattle.wi_values.specs.declared.value.Value.{Value}
 use Rattle.wi_values.specs.declared.value.Value.TheVariants.{Number, Fault}
+use Rattle.wi_values.proofs.Within.{row_of_place, column_of_place, column_within, within_from}
 use Rattle.wi_arguments.specs.declared.argument.Argument as given
 use Rattle.wi_arguments.specs.Arguments.{argument_in, arguments_in, KnownAgrees, IsMissing}
 use Rattle.wi_standard_functions.specs.Arguments.{Argument, Region, region_of, value_or, value_at}
@@ -23,7 +24,6 @@ use Rattle.wi_value_functions.specs.declared.ending.Ending.TheVariants.{Error, S
 use Rattle.wi_lookup_functions.specs.Inner.Finding.{WhateverHeld, Agrees, Finds, Places, IsPlacedIn}
 use Rattle.wi_lookup_functions.specs.Inner.Lines.{height, width}
 use Rattle.wi_lookup_functions.proofs.Asked.{itself, fault, sought_or_zero}
-use Rattle.wi_lookup_functions.proofs.FirstLines.{within_from, narrow, row_of_place, column_of_place}
 use Rattle.wi_lookup_functions.proofs.CellsByPlace.{cell_at}
 
 -- ---- at the exit of a `?`
@@ -131,7 +131,7 @@ nth_no_row r j k (Err x) e h b p = λ cells.
 
 pub nth_within : (r : Area) (row column : ℕ) → row < height r → column < width r → is_within r (place (row_of r.first + row) (column_of r.first + column)) ≡ true
 nth_within r row column l m =
-    let small : column_of r.first + column < 16384 = omega (arith, m, narrow r.last) in
+    let small : column_of r.first + column < 16384 = omega (arith, m, column_within r.last) in
     let row_is = row_of_place (row_of r.first + row) (column_of r.first + column) small in
     let column_is = column_of_place (row_of r.first + row) (column_of r.first + column) small in
     within_from r (place (row_of r.first + row) (column_of r.first + column)) (omega (arith, row_is)) (omega (arith, row_is, l)) (omega (arith, column_is)) (omega (arith, column_is, m))

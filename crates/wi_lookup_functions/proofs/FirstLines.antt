@@ -1,12 +1,12 @@
 -- The first column and the first row of a rectangle.
 use Rattle.std.proofs.Common.{◌≡◌, ℕ, zero, suc, ◌<◌, ◌≤◌, ◌+◌, ◌==◌, Bool, true, false, cond, List, length, map, min, max, Some, None, refl, sym, ap, ◌∙◌, subst, arith}
 use Rattle.std.specs.Prelude.{nat_lt}
-use Rattle.std.proofs.lemmas.Bool.{and_from, ltb-false, ltb-true, le-leb, or_left, or_right, eq-eqb}
+use Rattle.std.proofs.lemmas.Bool.{ltb-false, ltb-true, or_left, or_right, eq-eqb}
 use Rattle.std.proofs.lemmas.List.FromFn.{length-map-range_with_len}
-use Rattle.std.proofs.Math.Nat.{mod-lt}
 use Rattle.wi_values.specs.Address.{Area, cells_of, place, row_of, column_of, is_within, rect_of}
 use Rattle.wi_values.specs.declared.value.Value.{Value}
-use Rattle.wi_arguments.proofs.RowMajor.{block, run, within_parts}
+use Rattle.wi_values.proofs.Within.{within_parts, row_of_place, column_of_place, column_within, within_from}
+use Rattle.wi_arguments.proofs.RowMajor.{block, run}
 use Rattle.wi_standard_functions.specs.Arguments.{region_of}
 use Rattle.wi_standard_functions.specs.Lookup.{cell_in}
 use Rattle.wi_lookup_functions.specs.declared.axis.Axis.{Axis}
@@ -16,15 +16,6 @@ use Rattle.wi_lookup_functions.specs.Inner.Lines.{first_column, first_row, heigh
 use Rattle.wi_lookup_functions.proofs.CellsByPlace.{cell_at, column_cells, row_cells}
 use Rattle.wi_lookup_functions.proofs.Chains.{first_cells_in}
 use Rattle.wi_lookup_functions.proofs.Lines.{one_row, one_column}
-
-pub row_of_place : (r c : ℕ) → c < 16384 → row_of (place r c) ≡ r
-row_of_place r c h = omega (arith, h)
-
-pub column_of_place : (r c : ℕ) → c < 16384 → column_of (place r c) ≡ c
-column_of_place r c h = omega (arith, h)
-
-pub narrow : (c : ℕ) → column_of c < 16384
-narrow c = mod-lt c (omega arith)
 
 -- the rows and the columns at which a rectangle begins and ends
 record Spans (r : Area) (top bottom left right : ℕ) : Type 0 where
@@ -53,7 +44,7 @@ spans_to a bottom right h k l =
     let left : min (column_of a) right ≡ column_of a = omega (arith, k) in
     let far : max (column_of a) right ≡ right = omega (arith, k) in
     spans_rect a (place bottom right) (row_of a) bottom (column_of a) right
-    (ap (min (row_of a)) row_is ∙ top) (ap (max (row_of a)) row_is ∙ low) (ap (min (column_of a)) column_is ∙ left) (ap (max (column_of a)) column_is ∙ far) (narrow a) l
+    (ap (min (row_of a)) row_is ∙ top) (ap (max (row_of a)) row_is ∙ low) (ap (min (column_of a)) column_is ∙ left) (ap (max (column_of a)) column_is ∙ far) (column_within a) l
 
 -- a line that there is unless a test holds
 there : (b : Bool) (m l : Area) → cond b None (Some m) ≡ Some l → (b ≡ false) × (m ≡ l)
@@ -68,13 +59,13 @@ column_spans : (r l : Area) → first_column r ≡ Some l → Spans l (row_of r.
 column_spans r l h =
     let t = there (nat_lt (row_of r.last) (row_of r.first)) (rect_of r.first (place (row_of r.last) (column_of r.first))) l h in
     subst (λ (m : Area). Spans m (row_of r.first) (row_of r.last) (column_of r.first) (column_of r.first)) t.1
-    (spans_to r.first (row_of r.last) (column_of r.first) (ltb-false (row_of r.last) (row_of r.first) t.0) (omega arith) (narrow r.first))
+    (spans_to r.first (row_of r.last) (column_of r.first) (ltb-false (row_of r.last) (row_of r.first) t.0) (omega arith) (column_within r.first))
 
 row_spans : (r l : Area) → first_row r ≡ Some l → Spans l (row_of r.first) (row_of r.first) (column_of r.first) (column_of r.last)
 row_spans r l h =
     let t = there (nat_lt (column_of r.last) (column_of r.first)) (rect_of r.first (place (row_of r.first) (column_of r.last))) l h in
     subst (λ (m : Area). Spans m (row_of r.first) (row_of r.first) (column_of r.first) (column_of r.last)) t.1
-    (spans_to r.first (row_of r.first) (column_of r.last) (omega arith) (ltb-false (column_of r.last) (column_of r.first) t.0) (narrow r.last))
+    (spans_to r.first (row_of r.first) (column_of r.last) (omega arith) (ltb-false (column_of r.last) (column_of r.first) t.0) (column_within r.last))
 
 -- ---- their cells
 
@@ -88,9 +79,6 @@ pub record IsFirstLine (r l : Area) (values : (ℕ → Value) → List Value) (c
 length-block : (row n a : ℕ) → length (block row n a 1) ≡ n
 length-block row zero a = refl
 length-block row (suc n) a = ap suc (length-block (row + 1) n a)
-
-pub within_from : (r : Area) (c : ℕ) → row_of r.first ≤ row_of c → row_of c ≤ row_of r.last → column_of r.first ≤ column_of c → column_of c ≤ column_of r.last → is_within r c ≡ true
-within_from r c h k l m = and_from _ _ (and_from _ _ (le-leb _ _ h) (le-leb _ _ k)) (and_from _ _ (le-leb _ _ l) (le-leb _ _ m))
 
 column_line : (r l : Area) → first_column r ≡ Some l → 0 < width r → IsFirstLine r l (λ cells. first_cells_in Rows (region_of cells r)) (height r)
 column_line r l h w =

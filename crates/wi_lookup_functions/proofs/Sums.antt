@@ -2,6 +2,7 @@
 use Rattle.std.proofs.Common.{◌≡◌, ℕ, Bool, true, false, cond, ◌||◌, List, [], ◌∷◌, map, filter, fold, Option, Some, None, IfSome, refl, sym, ap, ◌∙◌, subst}
 use Rattle.std.specs.Prelude.{Result, Ok, Err, zip, if◌then◌else◌}
 use Rattle.std.specs.List.{list_any}
+use Rattle.std.proofs.lemmas.Bool.{or_left, or_right}
 use Rattle.wi_fraction.specs.Number as numbers
 use Rattle.wi_values.specs.Address.{Area, cells_of, is_within}
 use Rattle.wi_values.specs.declared.value.ErrorKind.{ErrorKind}
@@ -113,10 +114,6 @@ module _ (known : ℕ → Option Value) (criterion : Criterion) (r s : Area) whe
   error_stays true cells e w = refl
   error_stays false cells e w = refl
 
-  either : (b d : Bool) → d ≡ true → (b || d) ≡ true
-  either true d h = refl
-  either false d h = h
-
   -- a cell to be added is an error or missing
   pub stops : (sum : numbers.Number) (ahead : Option ℕ) (c other : ℕ) (v : Value) (y x : Ending (Stop ℕ)) → x ≡ y → same_extent r s ≡ true → Rest sum ahead → ahead ≡ Some c → Some v ≡ known c → other ≡ same_place r s c →
       Agrees known (λ d. (d ≡ other) × (known d ≡ None)) (λ (z : numbers.Number). z) (λ cells. if is_met criterion v then with_cell (Ok sum) (cells other) else Ok sum) (Err y) →
@@ -133,19 +130,15 @@ module _ (known : ℕ → Option Value) (criterion : Criterion) (r s : Area) whe
           ∙ sym (walk.stops (after cells) known r (Ok zero_number) (Ok sum) (Err e) ahead c v (h.whole cells l) a f
           (sym (q cells l) ∙ ap (λ (d : ℕ). if is_met criterion v then with_cell (Ok sum) (cells d) else Ok sum) o)
           (λ d w. error_stays (is_met criterion w) cells e (cells (same_place r s d))) cells l)
-      at (Stopped (Missing d)) q = (q.1, either (is_within r d) (is_within s d) (subst (λ (b : ℕ). is_within s b ≡ true) (sym (q.0 ∙ o)) (same_place_inside r s c inside k)))
+      at (Stopped (Missing d)) q = (q.1, or_right (is_within r d) (is_within s d) (subst (λ (b : ℕ). is_within s b ≡ true) (sym (q.0 ∙ o)) (same_place_inside r s c inside k)))
       at (Stopped Memory) q = tt
 
   -- a cell is missing
   pub misses : (sum : numbers.Number) (ahead : Option ℕ) (c d : ℕ) (x : Ending (Stop ℕ)) → x ≡ Stopped (Missing d) → Rest sum ahead → ahead ≡ Some c → d ≡ c → known d ≡ None → Agrees known (IsMissingInEither known r s) (λ (z : numbers.Number). z) sum_where (Err x)
-  misses sum ahead c d x m h a e k = subst (λ (z : Ending (Stop ℕ)). Agrees known (IsMissingInEither known r s) (λ (n : numbers.Number). n) sum_where (Err z)) (sym m) (k, left (is_within r d) (is_within s d) (subst (λ (b : ℕ). is_within r b ≡ true) (sym e) inside))
+  misses sum ahead c d x m h a e k = subst (λ (z : Ending (Stop ℕ)). Agrees known (IsMissingInEither known r s) (λ (n : numbers.Number). n) sum_where (Err z)) (sym m) (k, or_left (is_within r d) (is_within s d) (subst (λ (b : ℕ). is_within r b ≡ true) (sym e) inside))
     where
       inside : is_within r c ≡ true
       inside = subst (λ (p : Option ℕ). IfSome p (λ b. is_within r b ≡ true)) a h.inside
-
-      left : (b w : Bool) → b ≡ true → (b || w) ≡ true
-      left true w i = refl
-      left false w i = cc
 
 -- ---- the ends of SUMIF
 

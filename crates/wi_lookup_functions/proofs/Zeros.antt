@@ -13,17 +13,13 @@ use Rattle.wi_fraction.proofs.Exponents.{zero_of}
 use Rattle.wi_fraction.proofs.NearWholes.{of_parts}
 use Rattle.wi_fraction.proofs.Reading.{bounded-small}
 use Rattle.wi_fraction.proofs.Numbers.{zero_number as zero_is}
-use Rattle.wi_fraction.proofs.Steps.{sum_from_steps}
-use Rattle.wi_value_functions.proofs.Cutting.{times_one}
+use Rattle.wi_fraction.proofs.Steps.{sum_from_steps, mul-one-int}
+use Rattle.wi_fraction.proofs.Values.{mul-none}
 use Rattle.wi_standard_functions.specs.Arithmetic.{fitting, addition, multiplication}
 use Rattle.wi_standard_functions.specs.Convert.{zero_number}
 
 int_bounded_is : (z : ℤ) → unsigned_abs z ≤ max_size → Some z ≡ int_bounded z
 int_bounded_is z h = grind (arith, nat_tests, h)
-
-times_zero : (z : ℤ) → z *ℤ pos 0 ≡ pos 0
-times_zero (pos n) = omega (arith, ints)
-times_zero (negsuc n) = omega (arith, ints)
 
 zero_times : (n : ℕ) → pos 0 *ℤ pos n ≡ pos 0
 zero_times n = omega (arith, ints)
@@ -36,7 +32,7 @@ plus_zero (negsuc n) = omega (arith, ints)
 pub added_zero : (x : numbers.Number) → addition x zero_number ≡ Ok x
 added_zero x =
     let multiple : x.den / gcd x.den 1 * 1 ≡ x.den = ap (λ (g : ℕ). x.den / g * 1) (gcd-one x.den) ∙ mul-one (x.den / 1) ∙ div-one x.den in
-    let first : x.num *ℤ pos (x.den / x.den) ≡ x.num = ap (λ (k : ℕ). x.num *ℤ pos k) (div_self x.is_number.above_zero) ∙ times_one x.num in
+    let first : x.num *ℤ pos (x.den / x.den) ≡ x.num = ap (λ (k : ℕ). x.num *ℤ pos k) (div_self x.is_number.above_zero) ∙ mul-one-int x.num in
     let second : pos 0 *ℤ pos (x.den / 1) ≡ pos 0 = zero_times (x.den / 1) in
     sym (ap fitting (sum_from_steps x zero_number x.den x.num (pos 0) x.num (Some x)
     (bounded-small x.den x.is_number.den_fits ∙ ap bounded (sym multiple))
@@ -48,7 +44,7 @@ added_zero x =
 -- and a product with zero is zero
 pub multiplied_zero : (x : numbers.Number) → multiplication x zero_number ≡ Ok zero_number
 multiplied_zero x =
-    ap fitting (ap (λ (n : ℤ). number_of n (x.den * 1)) (times_zero x.num)
+    ap fitting (ap (λ (n : ℤ). number_of n (x.den * 1)) (mul-none x.num)
     ∙ ap (λ (d : ℕ). number_of (pos 0) d) (mul-one x.den)
     ∙ zero_of x.den x.is_number.above_zero
     ∙ sym (zero_is zero_number refl refl))

@@ -1,7 +1,8 @@
 -- What stands first, where one symbol is looked for.
-use Rattle.std.proofs.Common.{◌≡◌, ℕ, ◌+◌, ◌≤◌, ◌==◌, nat_le, List, [], ◌∷◌, ◌++◌, length, Option, Some, None, option_map, option_and_then, refl, sym, ap, ◌∙◌, subst, arith}
+use Rattle.std.proofs.Common.{◌≡◌, ℕ, ◌+◌, ◌≤◌, ◌==◌, nat_le, List, [], ◌∷◌, ◌++◌, length, Option, Some, None, option_map, refl, sym, ap, ◌∙◌, subst, arith}
 use Rattle.std.proofs.lemmas.Bool.{eqb-true, leb-true}
 use Rattle.std.proofs.lemmas.Option.{cond_some}
+use Rattle.wi_fraction.proofs.Values.{then_some}
 use Rattle.wi_parser.specs.declared.expr.Operator.{Operator}
 use Rattle.wi_parser.specs.declared.expr.Operator.TheVariants.{Add, Subtract, Power}
 use Rattle.wi_parser.specs.declared.expr.Reference.{Reference}
@@ -81,23 +82,19 @@ separator-length ts us h = let is = ap length (separator_is ts us h) in omega (a
 
 -- ---- pairs
 
-pub and_then_ok : {A B : Type 0} (f : A → Option B) (o : Option A) (b : B) → option_and_then f o ≡ Some b → (a : A) × (o ≡ Some a) × (f a ≡ Some b)
-and_then_ok f None b h = cc
-and_then_ok f (Some a) b h = (a, refl, h)
-
 pub map_ok : {A B : Type 0} (f : A → B) (o : Option A) (b : B) → option_map f o ≡ Some b → (a : A) × (o ≡ Some a) × (f a ≡ b)
 map_ok f None b h = cc
 map_ok f (Some a) b h = (a, refl, cc)
 
 pub parameter_is : (ts : List Symbol) (p : Reference × List Symbol) → parameter_at ts ≡ Some p → ts ≡ separator ∷ reference p.0 ∷ p.1
 parameter_is ts p h =
-    let a = and_then_ok reference_at (after_separator ts) p h in
+    let a = then_some (after_separator ts) reference_at p h in
     separator_is ts a.0 a.1 ∙ ap (λ us. separator ∷ us) (reference_is a.0 p a.2)
 
 pub pair_is : (ts : List Symbol) (p : (Reference × Reference) × List Symbol) → pair_at ts ≡ Some p → ts ≡ pair_symbols p.0 ++ p.1
 unfolding pair_at
 pair_is ts p h =
-    let a = and_then_ok (λ r. option_map (λ x. ((r.0, x.0), x.1)) (parameter_at r.1)) (parameter_at ts) p h in
+    let a = then_some (parameter_at ts) (λ r. option_map (λ x. ((r.0, x.0), x.1)) (parameter_at r.1)) p h in
     let b = map_ok (λ x. ((a.0.0, x.0), x.1)) (parameter_at a.0.1) p a.2 in
     parameter_is ts a.0 a.1 ∙ ap (λ us. separator ∷ reference a.0.0 ∷ us) (parameter_is a.0.1 b.0 b.1)
     ∙ ap (λ q. pair_symbols q.0 ++ q.1) b.2

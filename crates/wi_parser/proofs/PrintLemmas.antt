@@ -1,9 +1,11 @@
 -- What is appended to a text that must stay at the front.
-use Rattle.std.proofs.Common.{◌≡◌, refl, ℕ, List, ◌++◌, sym, ap, ◌∙◌, [], ◌∷◌, append_assoc, map, codes, cond, Result, Ok, Err, is_ok, OnOk, OnErr, append-nil, subst}
+use Rattle.std.proofs.Common.{◌≡◌, refl, ℕ, List, ◌++◌, sym, ap, ◌∙◌, [], ◌∷◌, append_assoc, map, codes, cond, Result, Ok, Err, is_ok, OnOk, append-nil, subst}
+use Rattle.std.proofs.Transfers.{starts_with_of_append}
+pub use Rattle.std.proofs.Transfers.{starts_with_trans}
 use Rattle.std.proofs.lemmas.List.Concat.{flat_map-append}
 use Rattle.std.specs.List.{flat_map}
 use Rattle.std.specs.Io.{StartsWith}
-pub use Rattle.wi_fraction.proofs.Decimals.{starts_itself, starts_more, starts_trans, starts_with, cut_place}
+pub use Rattle.wi_fraction.proofs.Decimals.{starts_itself, starts_more, cut_place}
 use Rattle.wi_lexer.specs.Reference.{reference_text}
 use Rattle.wi_parser.specs.declared.expr.Expr.{Expr}
 use Rattle.wi_parser.specs.declared.expr.Operator.{Operator}
@@ -22,13 +24,9 @@ use Rattle.wi_parser.specs.Inner.PrintedParts.{pairs_text}
 pub starts_same : (o d front : List ℕ) → d ≡ o → StartsWith o front → StartsWith d front
 starts_same o d front h k = subst (λ x. StartsWith x front) (sym h) k
 
--- where nothing was appended
-pub starts_kept : (o d : List ℕ) → d ≡ o → StartsWith d o
-starts_kept o d h = starts_same o d o h (starts_itself o)
-
 -- what begins with a longer text begins with that one's front
 pub starts_on : (o a d more : List ℕ) → a ≡ o ++ more → StartsWith d a → StartsWith d o
-starts_on o a d more h k = starts_trans a d o k (starts_with a o more h)
+starts_on o a d more h k = starts_with_trans d a o k (starts_with_of_append a o more h)
 
 -- where more was appended or memory ended
 pub starts_still : {E : Type 0} (r : Result (Unit {0}) E) (o d front more : List ℕ) → d ≡ cond (is_ok r) (o ++ more) o → StartsWith o front → StartsWith d front
@@ -85,11 +83,6 @@ parameters_closed (Ok u) o w d sep all es none h k = k ∙ sym (ap (λ xs. w ++ 
 parameters_closed (Err e) o w d sep all es none h k = tt
 
 -- ---- one expression
-
--- what is appended whole or not at all
-pub starts_either : {A E : Type 0} (r : Result A E) (o d more : List ℕ) → OnOk r (d ≡ o ++ more) → OnErr r (d ≡ o) → StartsWith d o
-starts_either (Ok a) o d more h k = starts_with d o more h
-starts_either (Err e) o d more h k = starts_kept o d k
 
 -- the text of the tree that an expression stands for is the expression's
 pub tree_written : {E : Type 0} (r : Result (Unit {0}) E) (o d : List ℕ) (e : Expr) (t : Tree) → tree_of e ≡ t → OnOk r (d ≡ o ++ tree_text t) → OnOk r (d ≡ o ++ tree_text (tree_of e))

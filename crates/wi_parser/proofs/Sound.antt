@@ -1,6 +1,7 @@
 -- What the reader finds is spelled so.
 use Rattle.std.proofs.Common.{◌≡◌, ℕ, zero, suc, List, [], ◌∷◌, ◌++◌, length, Option, Some, None, option_and_then, refl, sym, ap, ◌∙◌, subst, append_assoc, append-nil}
 use Rattle.std.proofs.lemmas.Option.{same_Some}
+use Rattle.wi_fraction.proofs.Values.{then_some}
 use Rattle.wi_parser.specs.declared.expr.Operator.{Operator}
 use Rattle.wi_parser.specs.declared.expr.Reference.{Reference}
 use Rattle.wi_parser.specs.declared.expr.Sign.{Sign}
@@ -9,7 +10,7 @@ use Rattle.wi_parser.specs.Symbol.{Symbol, numeral, reference, corners, open_par
 use Rattle.wi_parser.specs.Inner.WhatIf.{pair_symbols, what_if_symbols}
 use Rattle.wi_parser.specs.Inner.Lines.{loosest, Spells, a_number, a_cell, a_rectangle, in_parentheses, one_input, two_inputs, with_sign, with_percent, tighter, joined, SpellsAll, SpellsMore, a_text, a_call, no_parameter, parameters, last_parameter, another_parameter}
 use Rattle.wi_parser.specs.Inner.Reader.{Parse, Read, read_then, then_close, after_open, after_close, reference_at, sign_of, operator_at, pair_at, one_or_two, inputs_at, what_if_at, atom, prefix_step, prefixed, percents, chain, chain_step, line, expression, if_last, whole, ParseAll, after_separator, put_first, and_then_all, after_parameter, unless_closed, more_parameters, first_parameter, parameters_at, called}
-use Rattle.wi_parser.proofs.Marks.{open_is, close_is, reference_is, sign_is, operator_is, pair_is, and_then_ok, map_ok, separator_is}
+use Rattle.wi_parser.proofs.Marks.{open_is, close_is, reference_is, sign_is, operator_is, pair_is, map_ok, separator_is}
 
 -- ---- what an outcome came from
 
@@ -46,7 +47,7 @@ inputs_sound f p ts t rest (Some us) is h =
     let both = parts (what_if f (p ∷ [])) t us rest h in
     ([], subst (λ u. Spells 0 u (what_if_symbols f (pair_symbols p))) both.0 (one_input f p), close_is ts us is ∙ ap (λ l. close_parenthesis ∷ l) both.1)
 inputs_sound f p ts t rest None is h =
-    let a = and_then_ok (λ q. then_close (what_if f (p ∷ q.0 ∷ [])) q.1) (pair_at ts) (t, rest) h in
+    let a = then_some (pair_at ts) (λ q. then_close (what_if f (p ∷ q.0 ∷ [])) q.1) (t, rest) h in
     let q = a.0 in
     let shut = closed_sound (what_if f (p ∷ q.0 ∷ [])) t q.1 rest a.2 in (
       pair_symbols q.0,
@@ -57,10 +58,10 @@ inputs_sound f p ts t rest None is h =
 what_if_sound : (ts : List Symbol) (t : Tree) (rest : List Symbol) → what_if_at ts ≡ Some (t, rest) → (us : List Symbol) × Spells 0 t us × (what_if_name ∷ ts ≡ us ++ rest)
 unfolding what_if_at
 what_if_sound ts t rest h =
-    let a = and_then_ok (λ f. inputs_at f.0 f.1) (option_and_then reference_at (after_open ts)) (t, rest) h in
+    let a = then_some (option_and_then reference_at (after_open ts)) (λ f. inputs_at f.0 f.1) (t, rest) h in
     let f = a.0 in
-    let b = and_then_ok reference_at (after_open ts) f a.1 in
-    let c = and_then_ok (λ p. one_or_two f.0 p.0 p.1 (after_close p.1)) (pair_at f.1) (t, rest) a.2 in
+    let b = then_some (after_open ts) reference_at f a.1 in
+    let c = then_some (pair_at f.1) (λ p. one_or_two f.0 p.0 p.1 (after_close p.1)) (t, rest) a.2 in
     let p = c.0 in
     let d = inputs_sound f.0 p.0 p.1 t rest (after_close p.1) refl c.2 in
     let parameters = pair_symbols p.0 ++ d.0 in (
@@ -104,7 +105,7 @@ percents_sound left ls (x ∷ ts) t rest s h =
 found_first : (others : ParseAll) (r : Read) (all : Trees) (rest : List Symbol) → and_then_all others r ≡ Some (all, rest)
     → (p : Tree × List Symbol) × (more : Trees) × (r ≡ Some p) × (others p.1 ≡ Some (more, rest)) × (more_trees p.0 more ≡ all)
 found_first others r all rest h =
-    let a = and_then_ok (λ p. put_first p.0 (others p.1)) r (all, rest) h in
+    let a = then_some r (λ p. put_first p.0 (others p.1)) (all, rest) h in
     let b = map_ok (λ q. (more_trees a.0.0 q.0, q.1)) (others a.0.1) (all, rest) a.2 in
     (a.0, b.0.0, a.1, b.1 ∙ ap (λ q. Some (b.0.0, q.1)) b.2, ap (λ q. q.0) b.2)
 

@@ -219,7 +219,7 @@ fn push_pairs(pairs: &[Pair], out: &mut String) -> Result<(), AllocError>
 }
 
 // Appends an input and its replacement cell, each after a separator. On an error a part of them may be there.
-#[tactic(auto, using(crate::proofs::PrintLemmas::starts_trans, crate::proofs::PrintLemmas::starts_more, crate::proofs::PrintLemmas::starts_itself))]
+#[tactic(auto, using(crate::proofs::PrintLemmas::starts_with_trans, crate::proofs::PrintLemmas::starts_more, crate::proofs::PrintLemmas::starts_itself))]
 fn push_pair(pair: Pair, out: &mut String) -> Result<(), AllocError>
     ensures ok { OnOk result (string_bytes out.new
         ≡ string_bytes out.old ++ symbols_text (pair_symbols (pair_of pair))) }

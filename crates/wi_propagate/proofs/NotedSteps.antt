@@ -1,5 +1,5 @@
 -- Generations that the numbers of edits tell, and that are noted late.
-use Rattle.wi_propagate.proofs.Words.{◌≡◌, ◌==◌, ◌||◌, ◌⊎◌, inl, inr, ◌≤◌, ◌+◌, ◌++◌, max, ℕ, zero, suc, Bool, true, false, cond, List, [], ◌∷◌, map, Option, Some, None, IsSome, Result, Ok, Err, OnOk, refl, ap, sym, ◌∙◌, subst, arith, or_cases, or_left, or_right, or_parts, false_from_ne_true, unwrap_or, nat_cmp, keys_of, lookup, is_at, is_at-eq, turn_test, Sheet, content_of, cells_with_formula, Walks, Reaches, is_one_of, SameOff, in_cone, numbered, IsLatest, IsOwed, AreOwed, IsUnread, latest_among, clash, same_cell, formula_cell, reader_formula, in_front, in_back, latest_of_cone, one_is_latest, latest_is_among, edit_owes, none_is_owed, Generations, generation_in, HasGeneration, Noted, noted_in, told, AreKeptUp}
+use Rattle.wi_propagate.proofs.Words.{◌≡◌, ◌==◌, ◌||◌, ◌⊎◌, inl, inr, ◌≤◌, ◌+◌, ◌++◌, max, ℕ, zero, suc, Bool, true, false, cond, List, [], ◌∷◌, map, Option, Some, None, IsSome, refl, ap, sym, ◌∙◌, subst, arith, or_cases, or_left, or_right, or_parts, false_from_ne_true, unwrap_or, nat_cmp, keys_of, lookup, is_at, is_at-eq, turn_test, Sheet, content_of, cells_with_formula, Walks, Reaches, is_one_of, SameOff, in_cone, numbered, IsLatest, IsOwed, AreOwed, IsUnread, latest_among, clash, same_cell, formula_cell, reader_formula, in_front, in_back, latest_of_cone, one_is_latest, latest_is_among, edit_owes, none_is_owed, Generations, generation_in, HasGeneration, Noted, noted_in, told, AreKeptUp}
 
 -- ---- what is told
 
@@ -188,10 +188,6 @@ none_kept_up s n g e = subst (AreKeptUp s n) (sym e) (record {
     at c m (inr x) = owes m (sym x.2) c
 
 -- ---- what is owed by a call
-
-pub on_ok : {T E P : Type 0} (r : Result T E) → P → OnOk r P
-on_ok (Ok x) h = h
-on_ok (Err e) h = tt
 
 pub owed_key : {U : Type 0} (gs : Generations) (x : ℕ) → HasGeneration gs x ⊎ U → (is_one_of (keys_of gs) x ≡ true) ⊎ U
 owed_key gs x (inl h) = inl (key_there gs x h)

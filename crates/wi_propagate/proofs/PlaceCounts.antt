@@ -1,5 +1,5 @@
 -- Each value that is kept takes one place: of the entries one goes at most.
-use Rattle.wi_propagate.proofs.Words.{◌≡◌, ◌≤◌, ◌+◌, inl, inr, ℕ, Bool, true, false, not, cond, min, List, [], ◌∷◌, filter, length, Option, Some, None, IsSome, is_some, Result, Ok, Err, refl, ap, sym, ◌∙◌, subst, arith, if◌then◌else◌, AllByRecursion, IsDistinct, keys_of, AllocError, cases_lt, true≢false, IsDistinct-head, IsDistinct-tail, Value, Key, Entries, KeptValues, PutsForOne, same_key, value_for, key_itself, key_means, Sheet, IsIn, TakesPlaces, Generations, keeping, state_in}
+use Rattle.wi_propagate.proofs.Words.{◌≡◌, ◌≤◌, ◌+◌, inl, inr, ℕ, Bool, true, false, not, cond, min, List, [], ◌∷◌, filter, length, Option, Some, None, IsSome, is_some, Result, Ok, Err, refl, ap, sym, ◌∙◌, subst, arith, if◌then◌else◌, AllByRecursion, IsDistinct, keys_of, AllocError, cases_lt, true≢false, IsDistinct-head, IsDistinct-tail, Value, Key, Entries, KeptValues, PutsForOne, same_key, value_for, key_itself, same_key_means, Sheet, IsIn, TakesPlaces, Generations, keeping, state_in}
 use Rattle.wi_propagate.proofs.KeepSteps.{KeepsIn, stays_put}
 
 -- ---- where one key alone may go
@@ -47,7 +47,7 @@ module _ (old new : Key → Bool) where
       where
         at : (b : Bool) → same_key j k ≡ b → length (is ks) ≤ length (was ks) + 1 → length (is (k ∷ ks)) ≤ length (was (k ∷ ks)) + 1
         at true e rest =
-            let apart = subst (λ (x : Key). AllByRecursion (λ y. same_key x y ≡ false) ks) (sym (key_means j k e)) (IsDistinct-head same_key k ks d) in
+            let apart = subst (λ (x : Key). AllByRecursion (λ y. same_key x y ≡ false) ks) (sym (same_key_means j k e)) (IsDistinct-head same_key k ks d) in
             one_may (old k) (new k) k (is ks) (was ks) (spared ks apart)
         at false e rest = one_more 1 (old k) (new k) k (is ks) (was ks) (others k e) rest
 

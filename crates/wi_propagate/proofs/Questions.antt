@@ -1,7 +1,6 @@
 -- A question asked of a calculator that keeps values.
-use Rattle.wi_propagate.proofs.Words.{◌≡◌, ◌≤◌, ◌<◌, ◌+◌, ◌-◌, ◌^◌, inl, inr, length, All, filter, not, is_some, ℕ, Bool, true, false, List, [], Option, Some, refl, ap, sym, ◌∙◌, subst, arith, keys_of, cases_lt, true≢false, Value, Fault, Circular, Replacement, Sheet, content_of, put_all, has_formula, Counts, Stored, Key, KeptValues, HasOneEach, value_for, circular, clash, Case, reaching, asks_circular, table_entry, IsWhatIfSettled, IsClosed, SpentOn, left_is_unkept, sum_of_ones, never_fall-same, spent_price, spent_unkept, cells_open, entry_circular, none_circular, MayBeRead, KeepsFound, WhereRoom, TakesNoMore, GivesUpWhenFull, NeedsNoEvaluation, IsValuedAnew, IsSameBeside, Saved, Spends, what_if_more, rests_more, none_went, Generations, generation_in, KeptSheet, key_in, stands, is_kept, unkept, gone, IsAtHand, HasRoomFor, KeepsAll, KeepsNoMore, KeepsOld, KeepsWhileRoom, AreRight, AreKeptRight, kept_sheet, values_in, Keeping, keeping, begun, state_in, IsKeepingRight, Owes, told}
+use Rattle.wi_propagate.proofs.Words.{◌≡◌, ◌≤◌, ◌<◌, ◌+◌, ◌-◌, ◌^◌, inl, inr, length, All, filter, not, is_some, ℕ, Bool, true, false, List, [], Option, Some, refl, ap, sym, ◌∙◌, subst, arith, keys_of, cases_lt, true≢false, Value, Fault, Circular, Replacement, Sheet, content_of, put_all, has_formula, Counts, Stored, Key, KeptValues, HasOneEach, value_for, circular, clash, Case, reaching, asks_circular, table_entry, IsWhatIfSettled, IsClosed, SpentOn, left_is_unkept, sum_ones, never_fall-same, spent_price, spent_unkept, cells_open, entry_circular, none_circular, MayBeRead, KeepsFound, WhereRoom, TakesNoMore, GivesUpWhenFull, NeedsNoEvaluation, IsValuedAnew, IsSameBeside, Saved, Spends, what_if_more, rests_more, none_went, Generations, generation_in, KeptSheet, key_in, stands, is_kept, unkept, gone, IsAtHand, HasRoomFor, KeepsAll, KeepsNoMore, KeepsOld, KeepsWhileRoom, AreRight, AreKeptRight, kept_sheet, values_in, Keeping, keeping, begun, state_in, IsKeepingRight, Owes, told, or_none}
 use Rattle.wi_engine.specs.Inner.Saving as saving
-use Rattle.wi_propagate.proofs.RightValues.{or_none}
 use Rattle.wi_propagate.proofs.PlaceCounts.{all_stand}
 
 -- ---- what is owed is settled first
@@ -46,7 +45,7 @@ module _ {k : KeptSheet} {q : Keeping} (e : Begins k q) where
 
   room_left : (ks : List Case) → HasRoomFor k ks → saving.not_kept (state_in q) ks ≤ (state_in q).room
   room_left ks h =
-      let same = ap (λ (x : Keeping). saving.not_kept (state_in x) ks) e.is ∙ left_is_unkept (λ c. 1) (is_kept k) ks ∙ sum_of_ones (unkept k ks) in
+      let same = ap (λ (x : Keeping). saving.not_kept (state_in x) ks) e.is ∙ left_is_unkept (λ c. 1) (is_kept k) ks ∙ sum_ones (unkept k ks) in
       omega (arith, h, same, ap (λ (x : Keeping). (state_in x).room) e.is)
 
   -- its cell may be valued

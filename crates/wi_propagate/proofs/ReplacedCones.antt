@@ -1,5 +1,5 @@
 -- What is told of replaced cells, and the replacements that reach a cell.
-use Rattle.wi_propagate.proofs.Words.{◌≡◌, ◌==◌, ◌||◌, ◌&&◌, ◌⊎◌, inl, inr, ◌<◌, ◌+◌, ℕ, Bool, true, false, cond, List, [], ◌∷◌, length, take, get_or, Result, Ok, Err, OnOk, OnErr, filter, refl, ap, sym, ◌∙◌, subst, list_all, or_cases, and_parts, or-false, list_all_more, Replacement, Sheet, ReachTable, AddsOf, is_known, is_reached_by, reached_by, is_one_of, reaches, in_cone, same_cell, same_tests, reaching, AreAllCones}
+use Rattle.wi_propagate.proofs.Words.{◌≡◌, ◌==◌, ◌||◌, ◌&&◌, ◌⊎◌, inl, inr, ◌<◌, ◌+◌, ℕ, Bool, true, false, cond, List, [], ◌∷◌, length, take, get_or, Result, Ok, Err, OnOk, OnErr, filter, refl, ap, sym, ◌∙◌, subst, list_all, or_cases, and_parts, or-false, list_all_more, Replacement, Sheet, ReachTable, AddsOf, is_known, is_reached_by, reached_by, is_one_of, reaches, in_cone, same_cell, one_truth, reaching, AreAllCones}
 
 -- ---- one cell more
 
@@ -74,6 +74,6 @@ pub worlds_all : (s : Sheet) (t : ReachTable) (c : ℕ) → AreAllCones s t → 
 worlds_all s t c h [] k = refl
 worlds_all s t c h (r ∷ rs) k =
     let p = and_parts (is_known t r.at) _ k in
-    let here : is_reached_by t c r ≡ reaches s c r.at = same_tests (reached_by t c r.at) (reaches s c r.at) (h.so c r.at) (h.all c r.at p.0) in
+    let here : is_reached_by t c r ≡ reaches s c r.at = one_truth (reached_by t c r.at) (reaches s c r.at) (h.so c r.at) (h.all c r.at p.0) in
     ap (λ (b : Bool). cond b (r ∷ filter (is_reached_by t c) rs) (filter (is_reached_by t c) rs)) here
     ∙ ap (λ (v : List Replacement). cond (reaches s c r.at) (r ∷ v) v) (worlds_all s t c h rs p.1)

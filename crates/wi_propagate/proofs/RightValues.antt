@@ -1,5 +1,5 @@
 -- Values that are kept are right: over an edit, where one is found, and where a question begins.
-use Rattle.wi_propagate.proofs.Words.{◌≡◌, ◌≤◌, ◌<◌, ◌+◌, ◌||◌, ℕ, Bool, true, false, List, [], Option, Some, None, IfSome, is_some, refl, sym, ◌∙◌, subst, arith, true≢false, option_or, Value, Replacement, Sheet, put_all, Key, Entries, KeptValues, value_for, circular, cell_value, IsInCone, SameOff, in_cone, IsRight, IsKeptFor, AreRight, IsMemoOf, IsTold, Generations, generation_in, key_in, Keeping, keeping, state_in, IsKeepingRight, same_for_reached, outside_circular, outside_reaches, outside_value, reaches_true, true_reaches, true_in_cone}
+use Rattle.wi_propagate.proofs.Words.{◌≡◌, ◌≤◌, ◌<◌, ◌+◌, ◌||◌, ℕ, Bool, true, false, List, [], Option, Some, None, IfSome, is_some, refl, sym, ◌∙◌, subst, arith, true≢false, option_or, Value, Replacement, Sheet, put_all, Key, Entries, KeptValues, value_for, circular, cell_value, IsInCone, SameOff, in_cone, IsRight, IsKeptFor, AreRight, IsMemoOf, IsTold, Generations, generation_in, key_in, Keeping, keeping, state_in, IsKeepingRight, same_for_reached, outside_circular, outside_reaches, outside_value, reaches_true, true_reaches, true_in_cone, or_none}
 
 -- a value found under the replacements that reach its cell
 pub made_right : (s : Sheet) (c : ℕ) (w : List Replacement) (v : Value) → circular s c ≡ false → v ≡ cell_value (put_all s w) c → IsRight s c w v
@@ -45,11 +45,6 @@ found_is_kept s edits generation k v past o g e = record {
 }
 
 -- ---- a question begins
-
--- where nothing is given up yet, what is at hand is what is kept
-pub or_none : (o : Option Value) → option_or o None ≡ o
-or_none None = refl
-or_none (Some v) = refl
 
 pub told_in : (q : Keeping) → IsTold (state_in q)
 told_in q c w = at (value_for q.values.entries (key_in q.generations c w)) (value_for q.given_up (key_in q.generations c w))

@@ -1,27 +1,8 @@
 -- What is owed is noted, one edit after another.
-use Rattle.wi_propagate.proofs.Words.{◌≡◌, ◌==◌, ◌||◌, ◌&&◌, ◌⊎◌, inl, inr, not, ◌≤◌, ◌<◌, ◌+◌, max, ℕ, Bool, true, false, cond, List, [], ◌∷◌, length, take, get_or, map, ◌++◌, nat_lt, Option, Some, None, is_some, refl, ap, sym, ◌∙◌, subst, arith, eqb-true, or_left, or_right, cases_lt, lt-ltb, or-false, map-append, list_any-append, list_any-IsPermutation, IsPermutation-map, IsPermutation, unwrap_or, nat_cmp, keys_of, lookup, is_at, insert_entry, found-insert, turn_test, CellEntries, get, Sheet, Reaches, is_one_of, reaches, in_cone, Edges, AreEdgesOf, IsLatest, IsOwed, AreOwed, IsSettling, reaches_true, true_reaches, same_reaches, in_last, in_front, settles_one, settling_begins, owed_stays, one_more, Generations, generation_in, noted_in, second_cells, has_seen}
+use Rattle.wi_propagate.proofs.Words.{◌≡◌, ◌==◌, ◌||◌, ◌&&◌, ◌⊎◌, inl, inr, not, ◌≤◌, ◌<◌, ◌+◌, max, ℕ, Bool, true, false, cond, List, [], ◌∷◌, length, take, get_or, map, ◌++◌, nat_lt, Option, Some, is_some, refl, ap, sym, ◌∙◌, subst, arith, eqb-true, or-false, map-append, list_any-append, list_any-IsPermutation, IsPermutation-map, IsPermutation, unwrap_or, nat_cmp, keys_of, lookup, is_at, insert_entry, CellEntries, get, Sheet, Reaches, is_one_of, reaches, in_cone, Edges, AreEdgesOf, IsLatest, IsOwed, AreOwed, IsSettling, reaches_true, true_reaches, same_reaches, in_last, in_front, settles_one, settling_begins, owed_stays, one_more, Generations, generation_in, noted_in, second_cells, has_seen, ltb-false, seen_one}
 use Rattle.wi_propagate.proofs.GenerationSteps.{IsGiven}
 
 -- ---- one cell more is seen
-
-seen_one : {X : Type 0} (old new : CellEntries X) (a : ℕ) (v : X) → new.entries ≡ cond (is_some (get nat_cmp old a)) old.entries (insert_entry nat_cmp old.entries a v) → (c : ℕ) → has_seen new c ≡ (has_seen old c || (a == c))
-seen_one {X} old new a v e c = at (get nat_cmp old a) refl e
-  where
-    or_false : (b : Bool) → b ≡ (b || false)
-    or_false true = refl
-    or_false false = refl
-
-    there : (b : Bool) → (a == c) ≡ b → is_some (get nat_cmp old a) ≡ true → has_seen old c ≡ (has_seen old c || b)
-    there true t h = let z : has_seen old c ≡ true = ap (λ (x : ℕ). is_some (get nat_cmp old x)) (sym (eqb-true a c t)) ∙ h in z ∙ sym (or_left (has_seen old c) true z)
-    there false t h = or_false (has_seen old c)
-
-    put : (b : Bool) → is_some (cond b (Some v) (lookup (is_at (nat_cmp c)) old.entries)) ≡ (has_seen old c || b)
-    put true = sym (or_right (has_seen old c) true refl)
-    put false = or_false (has_seen old c)
-
-    at : (o : Option X) → get nat_cmp old a ≡ o → new.entries ≡ cond (is_some o) old.entries (insert_entry nat_cmp old.entries a v) → has_seen new c ≡ (has_seen old c || (a == c))
-    at (Some w) h k = ap (λ (es : List (ℕ × X)). is_some (lookup (is_at (nat_cmp c)) es)) k ∙ there (a == c) refl (ap (λ (o : Option X). is_some o) h)
-    at None h k = ap (λ (es : List (ℕ × X)). is_some (lookup (is_at (nat_cmp c)) es)) k ∙ ap (λ (o : Option X). is_some o) (found-insert old.entries a v c ∙ ap (λ (b : Bool). cond b (Some v) (lookup (is_at (nat_cmp c)) old.entries)) (turn_test c a)) ∙ put (a == c)
 
 pub seen_more : {X : Type 0} (first old new : CellEntries X) (xs : List ℕ) (i a : ℕ) (v : X) → i < length xs → a ≡ get_or xs i a → new.entries ≡ cond (is_some (get nat_cmp old a)) old.entries (insert_entry nat_cmp old.entries a v) →
     ((c : ℕ) → has_seen old c ≡ (has_seen first c || is_one_of (take i xs) c)) → (c : ℕ) → has_seen new c ≡ (has_seen first c || is_one_of (take (i + 1) xs) c)
@@ -73,13 +54,6 @@ settling_more es named old new rest less x number last seen now part e falls rai
     over c true = omega (arith, e)
     over c false = refl
 
-not_less : (a b : ℕ) → nat_lt a b ≡ false → b ≤ a
-not_less a b h = at (cases_lt a b)
-  where
-    at : (a < b) ⊎ (b ≤ a) → b ≤ a
-    at (inl l) = let z = lt-ltb a b l in cc
-    at (inr l) = l
-
 -- cells that come back into view where a later edit comes behind an earlier one
 pub settling_again : (es : Edges) (named noted : Generations) (rest : List ℕ) (last number : ℕ) (seen now : ℕ → Bool) → ((c : ℕ) → now c ≡ cond (nat_lt last number) false (seen c)) → IsSettlingOver es named noted rest seen last → IsSettlingOver es named noted rest now (max last number)
 settling_again es named noted rest last number seen now e k s a = at (nat_lt last number) refl
@@ -87,7 +61,7 @@ settling_again es named noted rest last number seen now e k s a = at (nat_lt las
     at : (b : Bool) → nat_lt last number ≡ b → IsSettling s (generation_in named) (noted_in named noted) rest now (max last number)
     at true t = settling_begins s (generation_in named) (noted_in named noted) rest now (max last number) (λ c. e c ∙ ap (λ (b : Bool). cond b false (seen c)) t) (k s a).owed
     at false t =
-        let l : number ≤ last = not_less last number t in
+        let l : number ≤ last = ltb-false last number t in
         let m : max last number ≡ last = omega (arith, l) in
         record {
           owed = (k s a).owed;

@@ -1,12 +1,9 @@
 -- What is kept or was given up in a question: a value comes, and none goes.
-use Rattle.wi_propagate.proofs.Words.{◌≡◌, ◌≤◌, ◌-◌, ◌⊎◌, inl, inr, ◌||◌, ℕ, Bool, true, false, cond, nat_lt, List, [], ◌∷◌, length, slice_get, Option, Some, None, IfSome, IsSome, is_some, Result, Ok, Err, OnOk, refl, ap, sym, ◌∙◌, subst, arith, if◌then◌else◌, nat_tests, lookup_from_place, slice_get_cases, update, option_or, AllocError, Value, Replacement, Key, Entries, KeptValues, HasOneEach, Puts, going, same_key, value_for, key_means, same_key_equiv, same_case, known_still, known_then, Keeps, Generations, generation_in, key_in, Keeping, TakesOver, state_in, value_in}
+use Rattle.wi_propagate.proofs.Words.{◌≡◌, ◌≤◌, ◌-◌, ◌⊎◌, inl, inr, ◌||◌, ℕ, Bool, true, false, cond, nat_lt, List, [], ◌∷◌, length, slice_get, Option, Some, None, IfSome, IsSome, is_some, Result, Ok, Err, OnOk, refl, ap, sym, ◌∙◌, subst, arith, if◌then◌else◌, nat_tests, lookup_from_place, slice_get_cases, update, option_or, AllocError, Value, Replacement, Key, Entries, KeptValues, HasOneEach, Puts, going, same_key, value_for, last_entry, same_key_means, same_key_equiv, same_case, known_still, known_then, Keeps, Generations, generation_in, key_in, Keeping, TakesOver, state_in, value_in}
 use Rattle.wi_propagate.proofs.KeepSteps.{KeepsIn, put_is_some}
 use Rattle.wi_propagate.proofs.RightValues.{told_in}
 
 -- ---- the entry that goes for a new value
-
-abbrev last : Entries → Option (Key × Value)
-last es = slice_get es (length es - 1)
 
 none_goes : (e : Key × Value) → ◌≡◌ {A = Option (Key × Value)} None (Some e) → ⊥
 none_goes e h = cc
@@ -20,9 +17,9 @@ goes_last false false o e h = h
 going_stands : (m : KeptValues) (k : Key) (e : Key × Value) → HasOneEach m.entries → going m k ≡ Some e → value_for m.entries e.0 ≡ Some e.1
 going_stands m k e one_each h =
     lookup_from_place same_key_equiv m.entries (length m.entries - 1) e.0 e.1 one_each
-    (goes_last (is_some (value_for m.entries k)) (nat_lt (length m.entries) m.capacity) (last m.entries) e h)
+    (goes_last (is_some (value_for m.entries k)) (nat_lt (length m.entries) m.capacity) (last_entry m.entries) e h)
 
-no_last : (es : Entries) → last es ≡ None → length es ≡ 0
+no_last : (es : Entries) → last_entry es ≡ None → length es ≡ 0
 no_last es h = elim (slice_get_cases es (length es - 1)).1 [
   | inl p ↦ absurd (none_goes p.0 (sym h ∙ p.2))
   | inr p ↦ (let less = p.0 in omega (arith, less))
@@ -37,7 +34,7 @@ none_gone : (m n : KeptValues) (k : Key) (v : Value) → KeepsIn (Ok tt) m n k v
 none_gone m n k v h none = at (value_for m.entries k) (nat_lt (length m.entries) m.capacity) refl refl
   where
     goes : Option Value → Bool → Option (Key × Value)
-    goes o b = if is_some o then None else (if b then None else last m.entries)
+    goes o b = if is_some o then None else (if b then None else last_entry m.entries)
 
     at : (o : Option Value) (b : Bool) → value_for m.entries k ≡ o → nat_lt (length m.entries) m.capacity ≡ b → Puts m.entries n.entries k v
     at (Some u) b e f = h.stays (inl (subst (λ (o : Option Value). IsSome o) (sym e) refl))
@@ -45,7 +42,7 @@ none_gone m n k v h none = at (value_for m.entries k) (nat_lt (length m.entries)
     at None false e f =
         let full : m.capacity ≤ length m.entries = grind (arith, nat_tests) in
         let puts = h.goes e full in
-        let empty : last m.entries ≡ None = sym (ap (λ (o : Option Value). goes o (nat_lt (length m.entries) m.capacity)) e ∙ ap (goes None) f) ∙ none in
+        let empty : last_entry m.entries ≡ None = sym (ap (λ (o : Option Value). goes o (nat_lt (length m.entries) m.capacity)) e ∙ ap (goes None) f) ∙ none in
         absurd (none_stands m.entries puts.gone (no_last m.entries empty) puts.stood)
 
 -- ---- what is at hand under a key: the value that is kept, or one that was given up
@@ -71,7 +68,7 @@ module _ (es fs : Entries) (m n : KeptValues) (k : Key) (v : Value) (one_each : 
   after q = option_or (value_for n.entries q) (value_for fs q)
 
   stood : (e : Key × Value) → going m k ≡ Some e → (q : Key) → same_key e.0 q ≡ true → value_for m.entries q ≡ Some e.1
-  stood e h q t = ap (λ (x : Key). value_for m.entries x) (sym (key_means e.0 q t)) ∙ going_stands m k e one_each h
+  stood e h q t = ap (λ (x : Key). value_for m.entries x) (sym (same_key_means e.0 q t)) ∙ going_stands m k e one_each h
 
   -- after a refusal nothing is lost, and nothing is new
   refused : n ≡ m → (q : Key) → after q ≡ before q

@@ -1,7 +1,7 @@
 -- The words of the library, of the crates below and of this crate's definitions that its proofs are written in.
 pub use Rattle.std.proofs.Common.{All, Bool, Err, IfOk, IfSome, IsSome, List, None, Ok, OnErr, OnOk, Option, Result, Some, [], ap, arith, cond, eq-eqb, false, filter, get_or, if◌then◌else◌, inl, inr, is_ok, is_some, length, map, max, min, nat_le, nat_lt, not, refl, rules, slice_get, subst, suc, sym, take, true, zero, ℕ, ◌&&◌, ◌*◌, ◌++◌, ◌+◌, ◌-◌, ◌<◌, ◌==◌, ◌^◌, ◌||◌, ◌∙◌, ◌∷◌, ◌≡◌, ◌≤◌, ◌⊎◌}
 pub use Rattle.std.proofs.Math.Bool.{or-false}
-pub use Rattle.std.proofs.lemmas.Bool.{and_parts, cases_lt, eqb-true, false_from_ne_true, false≢true, lt-ltb, or_cases, or_left, or_parts, or_right, true≢false}
+pub use Rattle.std.proofs.lemmas.Bool.{and_parts, cases_lt, eqb-true, false_from_ne_true, false≢true, lt-ltb, ltb-false, or_cases, or_left, or_parts, or_right, true≢false}
 pub use Rattle.std.proofs.lemmas.Bool.Decides.{nat_tests}
 pub use Rattle.std.proofs.lemmas.Cmp.{eq_by_cmp_equiv, nat_cmp_total}
 pub use Rattle.std.proofs.lemmas.Grind.{common_steps}
@@ -15,6 +15,7 @@ pub use Rattle.std.proofs.lemmas.Map.Keys.{IsDistinct-head, IsDistinct-tail}
 pub use Rattle.std.proofs.lemmas.Option.{slice_get_cases}
 pub use Rattle.std.proofs.lemmas.Result.{IfOk-weaker}
 pub use Rattle.std.specs.BTreeMap.{insert_entry, is_at}
+pub use Rattle.std.specs.Cmp.Derive.{one_truth}
 pub use Rattle.std.specs.Global.{Vec}
 pub use Rattle.std.specs.List.{AllByRecursion, IsDistinct, list_all, list_any}
 pub use Rattle.std.specs.List.Sorted.{IsPermutation}
@@ -23,8 +24,9 @@ pub use Rattle.std.specs.Option.{option_or, unwrap_or}
 pub use Rattle.std.specs.Ordering.{eq_by_cmp, nat_cmp}
 pub use Rattle.std.specs.declared.alloc.AllocError.{AllocError}
 pub use Rattle.wi_cache.proofs.Callers.{holds_after_keep, none_goes_before}
-pub use Rattle.wi_cache.proofs.Keys.{key_itself, key_means, same_key_equiv}
-pub use Rattle.wi_cache.specs.Entries.{Entries, HasOneEach, HasRoom, KeptValues, Puts, PutsForGoing, PutsForOne, going, kept, len_after, same_key, value_for}
+pub use Rattle.wi_cache.proofs.Keys.{key_itself, same_key_equiv}
+pub use Rattle.wi_cache.specs.Entries.{Entries, HasOneEach, HasRoom, KeptValues, Puts, PutsForGoing, PutsForOne, going, kept, last_entry, len_after, same_key, value_for}
+pub use Rattle.wi_cache.specs.Hashed.{same_key_means}
 pub use Rattle.wi_cache.specs.declared.key.Key.{Key}
 pub use Rattle.wi_engine.proofs.Ledger.{spends_err, spends_then, spends_weaken, where_then}
 pub use Rattle.wi_engine.proofs.Places.{has_kept, known_still, known_then, none_went}
@@ -37,16 +39,16 @@ pub use Rattle.wi_engine.specs.Inner.Spends.{IsSameBeside, Saved, Spends}
 pub use Rattle.wi_functions.specs.Counts.{Counts}
 pub use Rattle.wi_functions.specs.Meaning.{zero_for_empty}
 pub use Rattle.wi_graph.proofs.Agreement.{circular_same}
+pub use Rattle.wi_graph.proofs.BelowSteps.{seen_one}
 pub use Rattle.wi_graph.proofs.Cones.{cone_closed, cone_has, cone_stays, outside_circular, outside_content, outside_reaches}
-pub use Rattle.wi_graph.proofs.EdgeLemmas.{edges_follow}
+pub use Rattle.wi_graph.proofs.EdgeLemmas.{content_of-with, edges_follow}
 pub use Rattle.wi_graph.proofs.GraphSteps.{same_reaches}
 pub use Rattle.wi_graph.proofs.Graphs.{stripped}
 pub use Rattle.wi_graph.proofs.LatestLaws.{edit_owes, latest_is_among, latest_of_cone, none_is_owed, one_is_latest, owed_stays, settles_one, settling_begins}
 pub use Rattle.wi_graph.proofs.ReachTest.{in_cone_true, reaches_true, true_in_cone, true_reaches}
 pub use Rattle.wi_graph.proofs.SetSteps.{in_back, in_front, in_last}
-pub use Rattle.wi_graph.proofs.StageEnds.{on_err}
 pub use Rattle.wi_graph.proofs.Tests.{clash}
-pub use Rattle.wi_graph.proofs.Walks.{formula_cell, reader_formula, same_cell, same_tests}
+pub use Rattle.wi_graph.proofs.Walks.{formula_cell, reader_formula, same_cell}
 pub use Rattle.wi_graph.specs.Circular.{circular}
 pub use Rattle.wi_graph.specs.Edges.{AreEdgesOf, Edges, Staging, brought, edges_after, sheet_after, staging}
 pub use Rattle.wi_graph.specs.Inner.Below.{has_seen}
@@ -65,7 +67,7 @@ pub use Rattle.wi_propagate.specs.Inner.Settling.{second_cells}
 pub use Rattle.wi_propagate.specs.KeptSheet.{Generations, HasRoomFor, IsAtHand, KeepsAll, KeepsNoMore, KeepsOld, KeepsWhileRoom, KeptSheet, generation_in, gone, is_kept, key_in, stands, unkept}
 pub use Rattle.wi_propagate.specs.Right.{AreKeptRight, AreRight, IsKeptFor, IsRight}
 pub use Rattle.wi_sheet.proofs.Bounds.{bound_not_felt}
-pub use Rattle.wi_sheet.proofs.CaseCosts.{left_is_unkept, never_fall-same, spent_nothing, spent_price, spent_unkept, sum_of_ones}
+pub use Rattle.wi_sheet.proofs.CaseCosts.{left_is_unkept, never_fall-same, spent_nothing, spent_price, spent_unkept}
 pub use Rattle.wi_sheet.proofs.Cases.{demands_itself, different_closed}
 pub use Rattle.wi_sheet.proofs.CellsAhead.{all_ahead, cells_ahead, fewer, none_ahead, occupied, one_ahead}
 pub use Rattle.wi_sheet.proofs.Cones.{outside_shown, outside_shown_same, outside_unmoved, outside_value}
@@ -74,8 +76,7 @@ pub use Rattle.wi_sheet.proofs.Limits.{demand_by_replacements}
 pub use Rattle.wi_sheet.proofs.Locality.{others_do_not_count, value_same}
 pub use Rattle.wi_sheet.proofs.Marks.{formulas_and_cells, others_unmoved}
 pub use Rattle.wi_sheet.proofs.Members.{IsIn}
-pub use Rattle.wi_sheet.proofs.Overrides.{put_alone, reaching_in_order, reaching_suffices, replaced_world, same_for_reached, what_if_in_order, with_what_if_value}
-pub use Rattle.wi_sheet.proofs.Puts.{content_of-with}
+pub use Rattle.wi_sheet.proofs.Overrides.{or_none, put_alone, reaching_in_order, reaching_suffices, replaced_world, same_for_reached, what_if_in_order, with_what_if_value}
 pub use Rattle.wi_sheet.proofs.RestsUnder.{rests_stay}
 pub use Rattle.wi_sheet.proofs.SettledTables.{all_more, rests_more, what_if_more}
 pub use Rattle.wi_sheet.proofs.StandingCells.{found_where_replaced, no_formula_put, shows_content}
@@ -93,8 +94,11 @@ unfoldable pub use Rattle.wi_store.specs.Store.{accepted}
 pub use Rattle.wi_store.specs.declared.fault.StoreFault.{StoreFault}
 pub use Rattle.wi_store.specs.declared.fault.StoreFault.TheVariants.{EditLimit, Full, Memory}
 pub use Rattle.wi_tiles.specs.Entries.{CellEntries, get}
+pub use Rattle.wi_values.proofs.Keys.{lone_key}
+pub use Rattle.wi_values.proofs.Lists.{sum_ones}
 pub use Rattle.wi_values.proofs.Lookups.{found-insert}
 pub use Rattle.wi_values.proofs.Order.{is_at-eq, is_itself, turn_test}
+pub use Rattle.wi_values.proofs.Outcomes.{on_err, on_ok}
 pub use Rattle.wi_values.proofs.Replacements.Same.{same_replacements_Decides}
 pub use Rattle.wi_values.proofs.Within.{places_left}
 pub use Rattle.wi_values.specs.Address.{columns, rows}

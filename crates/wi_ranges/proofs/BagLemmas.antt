@@ -1,5 +1,5 @@
 -- Laws of the bag that the pieces tell, and of the pieces of a pair put in or taken out.
-use Rattle.std.proofs.Common.{◌≡◌, ℕ, ◌+◌, ◌-◌, ◌<◌, ◌≤◌, Bool, true, false, ◌&&◌, cond, not, length, List, Result, Ok, Err, OnOk, OnErr, refl, sym, ap, subst, ◌∙◌, arith, nat_lt}
+use Rattle.std.proofs.Common.{◌≡◌, ℕ, ◌+◌, ◌-◌, ◌<◌, ◌≤◌, Bool, true, false, ◌&&◌, cond, not, length, List, Result, Ok, Err, OnOk, refl, sym, ap, subst, ◌∙◌, arith, nat_lt}
 use Rattle.std.specs.Prelude.{if◌then◌else◌}
 use Rattle.std.specs.Result.{is_err}
 use Rattle.std.specs.Ordering.{nat_cmp, ordering_then, is_eq}
@@ -259,11 +259,3 @@ put m x ks ls e r w l has kept grown order more = by (nat_lt m.number (count_of 
 pub at_success : {T E P : Type 0} (r : Result T E) → is_err r ≡ false → OnOk r P → P
 at_success (Ok v) e h = h
 at_success (Err v) e h = absurd (true≢false e)
-
-pub on_error : {T E P : Type 0} (r : Result T E) → P → OnErr r P
-on_error (Ok v) h = tt
-on_error (Err v) h = h
-
-pub on_success : {T E P : Type 0} (r : Result T E) → P → OnOk r P
-on_success (Ok v) h = h
-on_success (Err v) h = tt

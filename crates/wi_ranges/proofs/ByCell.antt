@@ -10,6 +10,7 @@ use Rattle.std.specs.BTreeMap.{is_at}
 use Rattle.std.proofs.lemmas.Bool.{true≢false, or_from, le-leb, eqb-true, eq-eqb}
 use Rattle.std.proofs.lemmas.Bool.Decides.{nat_tests}
 use Rattle.std.proofs.lemmas.List.{map-append}
+use Rattle.std.proofs.lemmas.Option.{same_Some}
 use Rattle.std.proofs.lemmas.List.Folds.{list_any-append}
 use Rattle.std.proofs.lemmas.List.Sums.{sum_by-cons, sum_by-append, sum_by_push}
 use Rattle.std.proofs.lemmas.List.Sorted.{IsPermutation-map, sum_by-IsPermutation, sum_by_pushed}
@@ -38,9 +39,6 @@ sum_pairs : (f : RangePair → ℕ) (es : Entries) → sum_by f (pairs_of es) �
 sum_pairs f [] = refl
 sum_pairs f (e ∷ es) = sum_by-append f (pairs_at e.0 e.1) (pairs_of es) ∙ ap (λ n. weight f e + n) (sum_pairs f es) ∙ sym (sum_by-cons (weight f) e es)
 
-value_is : {v w : List ℕ} → Some v ≡ Some w → v ≡ w
-value_is e = ap (λ (o : Option (List ℕ)). unwrap_or o []) e
-
 no_value : {X : Type 0} {v : List ℕ} → None ≡ Some v → X
 no_value h = absurd (let k = h in cc)
 
@@ -54,7 +52,7 @@ module _ (g : ℕ × List ℕ → ℕ) (a : ℕ) (v : List ℕ) where
           → sum_by g (cond b ((e.0, w) ∷ es) (e ∷ set_value (nat_eq a) es w)) + g (a, v) ≡ sum_by g (e ∷ es) + g (a, w)
       by true s k r =
           let here : e.0 ≡ a = sym (eqb-true a e.0 s) in
-          let old : g e ≡ g (a, v) = ap (λ (n : ℕ). g (n, e.1)) here ∙ ap (λ (us : List ℕ). g (a, us)) (value_is k) in
+          let old : g e ≡ g (a, v) = ap (λ (n : ℕ). g (n, e.1)) here ∙ ap (λ (us : List ℕ). g (a, us)) (same_Some _ _ k) in
           let new : g (e.0, w) ≡ g (a, w) = ap (λ (n : ℕ). g (n, w)) here in
           let x = sum_by-cons g (e.0, w) es in
           let y = sum_by-cons g e es in
@@ -72,7 +70,7 @@ module _ (g : ℕ × List ℕ → ℕ) (a : ℕ) (v : List ℕ) where
           → (lookup (nat_eq a) es ≡ Some v → sum_by g es ≡ sum_by g (remove_entry (nat_eq a) es) + g (a, v))
           → g e + sum_by g es ≡ sum_by g (cond b es (e ∷ remove_entry (nat_eq a) es)) + g (a, v)
       by true s k r =
-          let old : g e ≡ g (a, v) = ap (λ (n : ℕ). g (n, e.1)) (sym (eqb-true a e.0 s)) ∙ ap (λ (us : List ℕ). g (a, us)) (value_is k) in
+          let old : g e ≡ g (a, v) = ap (λ (n : ℕ). g (n, e.1)) (sym (eqb-true a e.0 s)) ∙ ap (λ (us : List ℕ). g (a, us)) (same_Some _ _ k) in
           omega (arith, old)
       by false s k r = let x = sum_by-cons g e (remove_entry (nat_eq a) es) in omega (arith, r k, x)
 

@@ -1,6 +1,5 @@
 -- Levels of blocks at which no piece stands.
 use Rattle.std.proofs.Common.{◌≡◌, ◌<◌, ◌≤◌, ◌||◌, ℕ, Bool, false, List, [], ◌∷◌, All, get_or, refl, sym, ap, ◌∙◌, arith}
-use Rattle.std.specs.Cmp.{nat_cmp_is}
 use Rattle.std.specs.Ordering.{nat_cmp, ordering_then, is_lt}
 use Rattle.std.specs.declared.cmp.Ordering.{Ordering}
 use Rattle.std.specs.declared.cmp.Ordering.TheVariants.{Less, Equal, Greater}
@@ -8,6 +7,7 @@ use Rattle.std.specs.List.{list_any}
 use Rattle.std.proofs.lemmas.Bool.Decides.{nat_tests}
 use Rattle.std.proofs.lemmas.List.Folds.{list_any_none}
 use Rattle.std.proofs.Math.Bool.{or-false}
+use Rattle.wi_values.proofs.Order.{cmp_after}
 use Rattle.wi_ranges.specs.declared.block.Block.{Block}
 use Rattle.wi_ranges.specs.Inner.Index.{Piece, piece_cmp, reads_at, AreUpTo}
 use Rattle.wi_ranges.proofs.ReaderLemmas.{readers_more}
@@ -24,11 +24,8 @@ not_less a b o p h = at (nat_cmp a b) refl h
 pub up_to_last : (pieces : List Piece) (k : Piece) → All (λ (q : Piece). is_lt (piece_cmp k q) ≡ false) pieces → AreUpTo k.0.level pieces
 up_to_last pieces k h i x less = not_less k.0.level _ _ _ (h i x less)
 
-greater : (a b : ℕ) → b < a → nat_cmp a b ≡ Greater
-greater a b h = sym (nat_cmp_is a b Greater h)
-
 apart : (x : Block) (a r : ℕ) (q : Piece) → q.0.level < x.level → reads_at (x ∷ []) a r q ≡ false
-apart x a r q h = rw (greater x.level q.0.level h) refl
+apart x a r q h = rw (cmp_after x.level q.0.level h) refl
 
 -- so at a block above the level no cell reads one
 pub none_above : (pieces : List Piece) (x : Block) (level a r : ℕ) (b : Bool) → AreUpTo level pieces → level < x.level

@@ -1,5 +1,5 @@
 -- Laws of the pieces at a block, and of the readers among them.
-use Rattle.std.proofs.Common.{◌≡◌, ℕ, nat_eq, Bool, true, false, not, ◌&&◌, ◌||◌, cond, List, [], ◌∷◌, length, ◌<◌, ◌==◌, ◌↔◌, filter, refl, sym, ap, subst, ◌∙◌, arith}
+use Rattle.std.proofs.Common.{◌≡◌, ℕ, nat_eq, Bool, true, false, not, ◌&&◌, ◌||◌, cond, List, [], ◌∷◌, ◌==◌, ◌↔◌, filter, refl, sym, ap, subst, ◌∙◌, arith}
 use Rattle.std.specs.Bool.{⊤}
 use Rattle.std.specs.Ordering.{nat_cmp, ordering_then, is_eq, is_le}
 use Rattle.std.specs.declared.cmp.Ordering.{Ordering}
@@ -160,9 +160,6 @@ found_to_block x a r q qs rest all ks old new f e n w h =
     ∙ (subst (AreFirst x) e w).0 apart a r) h
 
 -- ---- one piece passed
-
-pub fewer_left : (q : Piece) (qs rest : List Piece) → rest ≡ q ∷ qs → length qs < length rest
-fewer_left q qs rest e = omega (arith, ap length e)
 
 pub first_left : (x : Block) (q : Piece) (qs rest : List Piece) → rest ≡ q ∷ qs → AreFirst x rest → AreFirst x qs
 first_left x q qs rest e w = (subst (AreFirst x) e w).1

@@ -18,7 +18,7 @@ use Rattle.std.proofs.lemmas.List.Folds.{list_any-append}
 use Rattle.std.proofs.Math.Bool.{or-false}
 use Rattle.std.proofs.lemmas.List.Sorted.{searched, Contains-permutation, IsPermutation-sym}
 use Rattle.std.proofs.lemmas.Map.Keys.{sorted_head, sorted_tail, sorted_from_strictly_increasing, IsStrictlyIncreasing-from_sorted, non_decreasing_from_sorted}
-use Rattle.wi_values.proofs.Order.{cmp_before, below_from_Less, less_from_both, at_earlier, at_same, is_at-eq, turn_test}
+use Rattle.wi_values.proofs.Order.{cmp_before, below_from_Less, less_from_both, at_earlier, at_same, is_at-eq, turn_test, at_itself, at_other}
 use Rattle.wi_ranges.specs.Inner.Rising.{has_cell, ends_before, StandApart}
 
 -- ---- the last of a list
@@ -35,21 +35,15 @@ last_tells (y ∷ ys) x c h =
 
 -- ---- a search in a list
 
-itself : (c : ℕ) → is_at (nat_cmp c) c ≡ true
-itself c = grind (arith, nat_tests)
-
-other : (c x : ℕ) → (x ≡ c → ⊥) → is_at (nat_cmp c) x ≡ false
-other c x h = grind (arith, nat_tests, h)
-
 has_from_place : (xs : List ℕ) (i c : ℕ) → i < length xs → get_or xs i 0 ≡ c → has_cell xs c ≡ true
 has_from_place [] i c l e = absurd (omega (arith, l))
-has_from_place (x ∷ xs) zero c l e = ap (λ b. b || has_cell xs c) (ap (λ (y : ℕ). is_at (nat_cmp c) y) e ∙ itself c)
+has_from_place (x ∷ xs) zero c l e = ap (λ b. b || has_cell xs c) (ap (λ (y : ℕ). is_at (nat_cmp c) y) e ∙ at_itself c)
 has_from_place (x ∷ xs) (suc i) c l e = or_right _ _ (has_from_place xs i c (omega (arith, l)) e)
 
 pub has_nowhere : (xs : List ℕ) (c : ℕ) → ((k : ℕ) → k < length xs → get_or xs k 0 ≡ c → ⊥) → has_cell xs c ≡ false
 has_nowhere [] c h = refl
 has_nowhere (x ∷ xs) c h =
-    ap (λ b. b || has_cell xs c) (other c x (h 0 (omega arith))) ∙ has_nowhere xs c (λ k l e. h (suc k) (omega (arith, l)) e)
+    ap (λ b. b || has_cell xs c) (at_other c x (h 0 (omega arith))) ∙ has_nowhere xs c (λ k l e. h (suc k) (omega (arith, l)) e)
 
 pub search_tells : (xs : List ℕ) (c : ℕ) (r : Result ℕ ℕ) → IsStrictlyIncreasing xs → IsBinarySearchResult (λ y. nat_cmp y c) xs r → is_ok r ≡ has_cell xs c
 search_tells xs c r order h = by r (searched xs c r h (λ i j l m. non_decreasing_from_sorted xs (sorted_from_strictly_increasing xs order) i j 0 l m))

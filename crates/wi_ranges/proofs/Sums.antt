@@ -12,6 +12,7 @@ use Rattle.std.specs.BTreeSet.{insert_key}
 use Rattle.std.proofs.Math.Nat.{add-mul}
 use Rattle.std.proofs.lemmas.Bool.{true≢false}
 use Rattle.std.proofs.lemmas.List.Sums.{sum_by-cons}
+use Rattle.wi_values.proofs.Lists.{sum_ones}
 use Rattle.wi_ranges.specs.declared.block.Block.{Block}
 use Rattle.wi_ranges.specs.declared.pair.RangePair.{RangePair}
 use Rattle.wi_ranges.specs.declared.pair.Numbered.{Numbered}
@@ -43,10 +44,6 @@ sum_remove f k (x ∷ xs) h = sum_by-cons f x xs ∙ by (is_at (piece_cmp k) x) 
         → f x + sum_by f xs ≡ sum_by f (cond b xs (x ∷ remove_key (is_at (piece_cmp k)) xs)) + f k
     by true s e r = let one : f k ≡ f x = ap f (same_piece k x s) in omega (arith, one)
     by false s e r = let t = sum_by-cons f x (remove_key (is_at (piece_cmp k)) xs) in omega (arith, t, r e)
-
-pub sum_ones : {X : Type 0} (xs : List X) → sum_by (λ _. 1) xs ≡ length xs
-sum_ones [] = refl
-sum_ones (x ∷ xs) = let s = sum_by-cons (λ _. 1) x xs in omega (arith, s, sum_ones xs)
 
 -- ---- a bag with one more
 

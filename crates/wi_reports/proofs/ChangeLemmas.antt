@@ -1,15 +1,12 @@
 -- What has changed, as a walk through cells collects it.
-use Rattle.std.proofs.Common.{◌≡◌, ℕ, ◌+◌, ◌<◌, ◌≤◌, Bool, true, false, not, cond, List, [], ◌∷◌, ◌++◌, map, filter, length, drop, get_or, refl, sym, ap, ◌∙◌, subst, add-one, drop-cons, append_assoc, arith}
+use Rattle.std.proofs.Common.{◌≡◌, ℕ, ◌+◌, ◌<◌, ◌≤◌, Bool, true, false, not, cond, List, [], ◌∷◌, ◌++◌, map, filter, length, drop, get_or, refl, sym, ap, ◌∙◌, subst, append_assoc, arith}
 use Rattle.std.specs.List.{sum_by}
 use Rattle.std.proofs.lemmas.List.Sums.{sum_by-cons}
 use Rattle.wi_values.specs.declared.value.Value.{Value}
+use Rattle.wi_values.proofs.Lists.{left_more}
 use Rattle.wi_store.specs.Store.{Stored}
 use Rattle.wi_sessions.specs.Pictures.{same_value, value_in}
 use Rattle.wi_sessions.specs.Pictures.Laws.{changes_among}
-
--- the cells from one on
-from_here : (cells : List ℕ) (i a : ℕ) → i < length cells → a ≡ get_or cells i a → drop i cells ≡ a ∷ drop (i + 1) cells
-from_here cells i a l e = (rw add-one (drop-cons cells i a l)) ∙ ap (λ (x : ℕ). x ∷ drop (i + 1) cells) (sym e)
 
 -- where there is a cell there is no end
 pub not_none : {X : Type 0} (cells : List ℕ) (i : ℕ) → i < length cells → cells ≡ [] → X
@@ -35,7 +32,7 @@ one_looked cells picture shown i a v found next whole l e is k h =
     let after = filter (λ x. not (same_value (value_in picture x) (shown x))) (drop (i + 1) cells) in
     ap (λ (xs : List (ℕ × Value)). xs ++ rest) (k ∙ ap (λ (w : Value). cond (same_value (value_in picture a) w) found (found ++ (a, w) ∷ [])) is)
     ∙ joined same found (a, shown a) rest
-    ∙ ap (λ (xs : List (ℕ × Value)). found ++ xs) (sym (ap (λ (xs : List ℕ). changes_among xs picture shown) (from_here cells i a l e) ∙ chosen (λ x. (x, shown x)) same a after)) ∙ h
+    ∙ ap (λ (xs : List (ℕ × Value)). found ++ xs) (sym (ap (λ (xs : List ℕ). changes_among xs picture shown) (left_more cells i a l e) ∙ chosen (λ x. (x, shown x)) same a after)) ∙ h
 
 -- ---- what it costs
 
@@ -45,7 +42,7 @@ pub one_counted : (cost : Stored → ℕ → ℕ) (stored stored' : Stored) (cel
 one_counted cost stored stored' cells i a was now bound l e same k h =
     let here : cost stored' a ≡ cost stored a = ap (λ (s : Stored). cost s a) same in
     let all : sum_by (cost stored) (drop i cells) ≡ cost stored a + sum_by (cost stored) (drop (i + 1) cells) =
-    ap (sum_by (cost stored)) (from_here cells i a l e) ∙ sum_by-cons (cost stored) a (drop (i + 1) cells) in
+    ap (sum_by (cost stored)) (left_more cells i a l e) ∙ sum_by-cons (cost stored) a (drop (i + 1) cells) in
     omega (arith, all, k, here, h)
 
 -- and so does what is counted

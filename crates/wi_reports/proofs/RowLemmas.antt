@@ -1,5 +1,5 @@
 -- The record of a row, and the records of rows, as they grow.
-use Rattle.std.proofs.Common.{◌≡◌, ℕ, zero, suc, add-one, ◌+◌, ◌-◌, List, [], ◌∷◌, ◌++◌, map, sym, ap, ◌∙◌, arith, Result, Ok, Err, OnOk, OnErr, is_ok, subst, if◌then◌else◌}
+use Rattle.std.proofs.Common.{◌≡◌, ℕ, zero, suc, add-one, ◌+◌, ◌-◌, List, [], ◌∷◌, ◌++◌, map, sym, ap, ◌∙◌, arith, Result, Ok, Err, OnOk, is_ok, if◌then◌else◌}
 use Rattle.std.specs.Io.{StartsWith}
 use Rattle.std.specs.List.{flat_map, range_with_len}
 use Rattle.std.proofs.lemmas.List.{flat_map_more}
@@ -7,13 +7,8 @@ use Rattle.wi_values.specs.Address.{Area, place, row_of, column_of, rows_in, cel
 use Rattle.wi_values.specs.declared.replacement.Replacement.{Replacement}
 use Rattle.wi_store.specs.Store.{Stored}
 use Rattle.wi_csv.specs.Row as csv
-use Rattle.wi_csv.proofs.Growth.{starts_itself, starts_more, starts_after, starts_same}
+use Rattle.wi_csv.proofs.Growth.{starts_after, starts_same}
 use Rattle.wi_reports.specs.Inner.Parts.{row_shown}
-
--- what is appended, or nothing
-pub grown : {E : Type 0} (r : Result (Unit {0}) E) (before more next : List ℕ) → OnOk r (next ≡ before ++ more) → OnErr r (next ≡ before) → StartsWith next before
-grown (Ok u) before more next h k = subst (λ xs. StartsWith xs before) (sym h) (starts_more before more before (starts_itself before))
-grown (Err e) before more next h k = subst (λ xs. StartsWith xs before) (sym k) (starts_itself before)
 
 pub starts_either : {E : Type 0} (r : Result (Unit {0}) E) (next out more before : List ℕ) → next ≡ (if is_ok r then out ++ more else out)
     → StartsWith out before → StartsWith next before

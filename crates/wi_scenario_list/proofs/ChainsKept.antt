@@ -3,8 +3,7 @@ use Rattle.std.proofs.Common.{◌≡◌, ◌≢◌, ◌∙◌, ℕ, ◌+◌, suc
 use Rattle.std.specs.List.{AllByRecursion, IsDistinct, list_any}
 use Rattle.std.specs.Set.{is_member}
 use Rattle.std.specs.Str.{bytes_eq}
-use Rattle.std.proofs.lemmas.Bool.{both_ways, false≢true, not-false, not_from_true, or_from, or_parts}
-use Rattle.std.proofs.lemmas.Bool.Decides.{nat_tests}
+use Rattle.std.proofs.lemmas.Bool.{both_ways, false≢true, not-false, not_from_true, or_from, or_parts, leb-false}
 use Rattle.std.proofs.lemmas.Cmp.{nat_list_eq_equiv}
 use Rattle.std.proofs.lemmas.List.{length-map}
 use Rattle.std.proofs.lemmas.List.Sums.{length-filter, count_by-le-length}
@@ -173,16 +172,13 @@ one_more x (y ∷ ys) = by (bytes_eq x.name y.name) (one_more x ys)
     by true l = omega arith
     by false l = omega (arith, l)
 
-not_fewer : (n m : ℕ) → nat_le n m ≡ false → m < n
-not_fewer n m e = grind (arith, nat_tests)
-
 -- there is room for one that isn't there, where it wouldn't be one too many
 pub has_room : (xs : List Scenario) (name : List ℕ) (at : ℕ) → is_full xs name at ≡ false → has_scenario xs name ≡ false → length xs < max_scenarios
 has_room xs name at e missing =
     let new : (not (has_scenario xs name) && nat_le max_scenarios (length xs)) ≡ false =
     (or_parts (not (has_scenario xs name) && nat_le max_scenarios (length xs))
     (not (list_any (λ r. r.at == at) (scenario_for xs name).own) && nat_le max_replacements (length (scenario_for xs name).own)) e).0 in
-    not_fewer max_scenarios (length xs) (sym (ap (λ (b : Bool). not b && nat_le max_scenarios (length xs)) missing) ∙ new)
+    leb-false max_scenarios (length xs) (sym (ap (λ (b : Bool). not b && nat_le max_scenarios (length xs)) missing) ∙ new)
 
 -- ---- bases that are there
 

@@ -5,6 +5,7 @@ use Rattle.std.specs.Str.{bytes_eq}
 use Rattle.std.proofs.lemmas.Bool.{both_ways, false_from_ne_true, or_parts}
 use Rattle.std.proofs.lemmas.Option.{none-some, same_Some}
 use Rattle.std.proofs.lemmas.Slice.Eq.{bytes_eq-Decides}
+use Rattle.wi_values.specs.Inner.Same.{same_text_itself}
 use Rattle.wi_scenario_list.specs.Scenarios.{Scenario, is_named, scenario_of, with_scenario, without_scenario}
 use Rattle.wi_scenario_list.specs.Bases.{is_name_of, is_base}
 
@@ -15,9 +16,6 @@ other_name other name n = false_from_ne_true (bytes_eq other name) (λ h. n ((by
 
 pub name_differs : (name other : List ℕ) → bytes_eq name other ≡ false → other ≢ name
 name_differs name other f e = both_ways (bytes_eq name other) f ((bytes_eq-Decides name other).1 (sym e))
-
-pub itself : (name : List ℕ) → bytes_eq name name ≡ true
-itself name = (bytes_eq-Decides name name).1 refl
 
 -- what is found has the name
 pub found_named : (name : List ℕ) (xs : List Scenario) (x : Scenario) → find (is_named name) xs ≡ Some x → name ≡ x.name
@@ -36,12 +34,12 @@ found_itself xs (Some name) x e = ap (λ (n : List ℕ). scenario_of xs (Some n)
 -- ---- where one is put in or taken away
 
 pub found_put : (x : Scenario) (ys : List Scenario) → find (is_named x.name) (with_scenario ys x) ≡ Some x
-found_put x [] = ap (λ (b : Bool). cond b (Some x) None) (itself x.name)
+found_put x [] = ap (λ (b : Bool). cond b (Some x) None) (same_text_itself x.name)
 found_put x (y ∷ ys) = by (bytes_eq x.name y.name) refl (found_put x ys)
   where
     by : (b : Bool) → bytes_eq x.name y.name ≡ b → find (is_named x.name) (with_scenario ys x) ≡ Some x
         → find (is_named x.name) (cond b (x ∷ ys) (y ∷ with_scenario ys x)) ≡ Some x
-    by true h rest = ap (λ (b : Bool). cond b (Some x) (find (is_named x.name) ys)) (itself x.name)
+    by true h rest = ap (λ (b : Bool). cond b (Some x) (find (is_named x.name) ys)) (same_text_itself x.name)
     by false h rest = ap (λ (b : Bool). cond b (Some y) (find (is_named x.name) (with_scenario ys x))) h ∙ rest
 
 pub none_found : (name : List ℕ) (ys : List Scenario) → find (is_named name) (without_scenario ys name) ≡ None

@@ -1,5 +1,5 @@
 -- A scenario's own replacements, held as entries of a map.
-use Rattle.std.proofs.Common.{◌≡◌, ◌==◌, ◌&&◌, ℕ, Bool, false, not, nat_le, List, [], ◌∷◌, length, None, Result, Ok, Err, IfOk, is_some, refl, sym, ap, ◌∙◌}
+use Rattle.std.proofs.Common.{◌≡◌, ◌==◌, ◌&&◌, ℕ, Bool, false, not, nat_le, List, [], ◌∷◌, length, None, is_some, refl, sym, ap, ◌∙◌}
 use Rattle.std.specs.List.Sorted.{IsStrictlySortedBy}
 use Rattle.std.specs.Ordering.{nat_cmp}
 use Rattle.std.specs.Map.{lookup, keys_of, remove_entry}
@@ -48,10 +48,6 @@ found-replaced es a = found-any (λ (e : ℕ × Value). record { at = e.0; value
 
 pub length-as_replacements : (es : List (ℕ × Value)) → length (as_replacements es) ≡ length es
 length-as_replacements es = length-map es (λ (e : ℕ × Value). record { at = e.0; value = e.1 })
-
-pub if_ok : {X E : Type 0} {P Q : X → Type 0} (r : Result X E) → ((x : X) → P x → Q x) → IfOk r P → IfOk r Q
-if_ok (Ok x) f h = f x h
-if_ok (Err e) f h = h
 
 -- ---- whether one more would be too many
 

@@ -1,5 +1,5 @@
 -- What `changes` answers, and that pictures are right after it.
-use Rattle.std.proofs.Common.{◌≡◌, ◌≢◌, ◌<◌, ◌≤◌, ◌+◌, ℕ, zero, suc, Bool, true, false, List, [], ◌∷◌, length, get_or, set, Result, Ok, Err, IfOk, refl, sym, ap, subst, ◌∙◌, ⊎_elim}
+use Rattle.std.proofs.Common.{◌≡◌, ◌≢◌, ◌<◌, ◌≤◌, ◌+◌, ℕ, zero, suc, Bool, true, false, List, [], ◌∷◌, length, get_or, set, Ok, refl, sym, ap, subst, ◌∙◌, ⊎_elim}
 use Rattle.std.proofs.lemmas.Bool.{cases_eq, false≢true}
 use Rattle.std.proofs.lemmas.List.{get_or-set_same, get_or-set_other, length-set, nil_from_length}
 use Rattle.wi_values.specs.declared.value.Value.{Value}
@@ -58,10 +58,6 @@ pub begun_again : (stored : Stored) (d : Desk) (own cells : List ℕ) (put : Lis
 begun_again stored d own cells put x y own_is cells_is put_is h =
     subst (λ (rs : List Replacement). x ≤ y + restarts_for stored.sheet rs (pending_of d.sessions d.current)) put_is
     (subst (λ (cs : List ℕ). x ≤ y + restarts_for stored.sheet put cs) (cells_is ∙ own_is) h)
-
-pub if_ok : {X E : Type 0} (P Q : X → Type 0) (r : Result X E) → ((x : X) → P x → Q x) → IfOk r P → IfOk r Q
-if_ok P Q (Ok x) f h = f x h
-if_ok P Q (Err e) f h = tt
 
 -- ---- lists with another element
 

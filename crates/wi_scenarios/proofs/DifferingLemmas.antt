@@ -1,5 +1,5 @@
 -- The cells whose replacement is another, as two walks collect them.
-use Rattle.std.proofs.Common.{◌≡◌, ◌==◌, ℕ, ◌+◌, ◌<◌, ◌≤◌, Bool, true, false, not, cond, ◌||◌, ◌&&◌, List, [], ◌∷◌, ◌++◌, map, filter, length, drop, get_or, Option, Some, None, refl, sym, ap, ◌∙◌, subst, add-one, drop-cons, arith}
+use Rattle.std.proofs.Common.{◌≡◌, ◌==◌, ℕ, ◌+◌, ◌<◌, ◌≤◌, Bool, true, false, not, cond, ◌||◌, ◌&&◌, List, [], ◌∷◌, ◌++◌, map, length, drop, get_or, Option, Some, None, refl, sym, ap, ◌∙◌, subst, arith}
 use Rattle.std.proofs.lemmas.Bool.{false≢true}
 use Rattle.std.proofs.lemmas.Bool.Decides.{nat_tests}
 use Rattle.std.proofs.lemmas.List.{append_assoc, append-nil, drop_all}
@@ -8,7 +8,9 @@ use Rattle.wi_values.specs.declared.value.Value.{Value}
 use Rattle.wi_values.specs.declared.replacement.Replacement.{Replacement}
 use Rattle.wi_values.specs.Replacements.{replaced}
 use Rattle.wi_values.proofs.Equal.{same_replacement_Decides}
+use Rattle.wi_values.proofs.Lists.{left_more}
 use Rattle.wi_sessions.specs.Pictures.Laws.{is_listed}
+use Rattle.wi_sessions.proofs.CellLemmas.{listed_filter}
 use Rattle.wi_scenarios.specs.Inner.Switch.{same_option, differing, AreDiffering}
 
 -- ---- a walk
@@ -17,14 +19,11 @@ module _ (before after : List Replacement) where
   abbrev same_at : ℕ → Bool
   same_at a = same_option (replaced before a) (replaced after a)
 
-  drop_at : (rs : List Replacement) (i : ℕ) (r : Replacement) → i < length rs → r ≡ get_or rs i r → drop i rs ≡ r ∷ drop (i + 1) rs
-  drop_at rs i r l e = (rw add-one (drop-cons rs i r l)) ∙ ap (λ (x : Replacement). x ∷ drop (i + 1) rs) (sym e)
-
   walk_on : (rs : List Replacement) (i : ℕ) (r : Replacement) (b : Bool) → i < length rs → r ≡ get_or rs i r → b ≡ same_at r.at
       → differing before after (drop i rs) ≡ cond (not b) (r.at ∷ differing before after (drop (i + 1) rs)) (differing before after (drop (i + 1) rs))
   walk_on rs i r b l e t =
       let rest = differing before after (drop (i + 1) rs) in
-      ap (differing before after) (drop_at rs i r l e) ∙ ap (λ (c : Bool). cond (not c) (r.at ∷ rest) rest) (sym t)
+      ap (differing before after) (left_more rs i r l e) ∙ ap (λ (c : Bool). cond (not c) (r.at ∷ rest) rest) (sym t)
 
   pub pushed : (cells cells' whole : List ℕ) (rs : List Replacement) (i : ℕ) (r : Replacement) (b : Bool) → i < length rs → r ≡ get_or rs i r → b ≡ same_at r.at
       → b ≡ false → cells' ≡ cells ++ r.at ∷ [] → cells ++ differing before after (drop i rs) ≡ whole
@@ -66,23 +65,6 @@ module _ (before after : List Replacement) where
   other_means (Some v) (Some w) e same =
       let one : v ≡ w = cc in absurd (false≢true (sym e ∙ (same_replacement_Decides (at_first v) (at_first w)).1 (ap at_first one)))
 
-  listed-filter : (p : ℕ → Bool) (xs : List ℕ) (a : ℕ) → is_listed (filter p xs) a ≡ (is_listed xs a && p a)
-  listed-filter p [] a = refl
-  listed-filter p (x ∷ xs) a = by (p x) refl (x == a) refl (listed-filter p xs a)
-    where
-      by : (b : Bool) → p x ≡ b → (t : Bool) → (x == a) ≡ t → is_listed (filter p xs) a ≡ (is_listed xs a && p a)
-          → is_listed (cond b (x ∷ filter p xs) (filter p xs)) a ≡ ((t || is_listed xs a) && p a)
-      by true e true u h = let one : x ≡ a = grind (arith, nat_tests, u) in ap (λ (c : Bool). c || is_listed (filter p xs) a) u ∙ sym e ∙ ap p one
-      by true e false u h = ap (λ (c : Bool). c || is_listed (filter p xs) a) u ∙ h
-      by false e true u h =
-          let one : x ≡ a = grind (arith, nat_tests, u) in
-          h ∙ none (is_listed xs a) (p a) (sym (ap p one) ∙ e) ∙ sym e ∙ ap p one
-        where
-          none : (c d : Bool) → d ≡ false → (c && d) ≡ false
-          none true d e = e
-          none false d e = refl
-      by false e false u h = h
-
   -- a cell for which no replacement stands is replaced by none
   not_among : (rs : List Replacement) (a : ℕ) → is_listed (map (λ (r : Replacement). r.at) rs) a ≡ false → replaced rs a ≡ None
   not_among [] a h = refl
@@ -95,8 +77,8 @@ module _ (before after : List Replacement) where
       ≡ ((is_listed (map (λ (r : Replacement). r.at) before) a && not (same_at a)) || (is_listed (map (λ (r : Replacement). r.at) after) a && not (same_at a)))
   in_both a =
       list_any-append (λ x. x == a) (differing before after before) (differing before after after)
-      ∙ ap (λ (b : Bool). b || is_listed (differing before after after) a) (listed-filter (λ x. not (same_at x)) (map (λ (r : Replacement). r.at) before) a)
-      ∙ ap (λ (b : Bool). (is_listed (map (λ (r : Replacement). r.at) before) a && not (same_at a)) || b) (listed-filter (λ x. not (same_at x)) (map (λ (r : Replacement). r.at) after) a)
+      ∙ ap (λ (b : Bool). b || is_listed (differing before after after) a) (listed_filter (λ x. not (same_at x)) (map (λ (r : Replacement). r.at) before) a)
+      ∙ ap (λ (b : Bool). (is_listed (map (λ (r : Replacement). r.at) before) a && not (same_at a)) || b) (listed_filter (λ x. not (same_at x)) (map (λ (r : Replacement). r.at) after) a)
 
   found_in_both : AreDiffering before after both
   found_in_both = record {

@@ -1,7 +1,8 @@
 -- The records of a change list tell it.
-use Rattle.std.proofs.Common.{◌≡◌, ◌≢◌, ◌∙◌, ℕ, zero, suc, ◌+◌, ◌<◌, ◌≤◌, Bool, true, false, not, cond, List, [], ◌∷◌, map, filter, get_or, Some, Result, Ok, Err, refl, sym, ap, arith}
+use Rattle.std.proofs.Common.{◌≡◌, ◌≢◌, ◌∙◌, ℕ, zero, suc, ◌+◌, ◌<◌, ◌≤◌, Bool, true, false, not, cond, List, [], ◌∷◌, map, filter, get_or, Result, Ok, Err, refl, sym, ap, arith}
 use Rattle.std.specs.Str.{bytes_eq}
 use Rattle.std.proofs.lemmas.Bool.{both_ways}
+use Rattle.std.proofs.lemmas.Option.{same_Some}
 use Rattle.std.proofs.lemmas.Slice.Eq.{bytes_eq-Decides}
 use Rattle.std.specs.List.{AllByRecursion, range_with_len}
 use Rattle.std.proofs.lemmas.List.Elements.{All-map}
@@ -38,9 +39,6 @@ one_address : (a b : ℕ) → a < sheet_size → b < sheet_size → address_text
 unfolding sheet_size
 one_address a b l m e = one_ok a b (sym (addresses_read_back a l) ∙ ap read_address e ∙ addresses_read_back b m)
 
-one_some : (v w : Value) → Some v ≡ Some w → v ≡ w
-one_some v w h = cc
-
 unequal : (xs ys : List ℕ) → bytes_eq xs ys ≡ false → xs ≡ ys → ⊥
 unequal xs ys e h = both_ways (bytes_eq xs ys) e ((bytes_eq-Decides xs ys).1 h)
 
@@ -62,7 +60,7 @@ one_error d e h = absurd (unequal (error_name d) (error_name e) refl h)
 one_value : (v w : Value) → kind_text v ≡ kind_text w → shown_text v ≡ shown_text w → v ≡ w
 unfolding shown_text
 one_value Empty Empty h k = refl
-one_value (Number x) (Number y) h k = one_some (Number x) (Number y) (sym (numbers_read_back x) ∙ ap imported k ∙ numbers_read_back y)
+one_value (Number x) (Number y) h k = same_Some (Number x) (Number y) (sym (numbers_read_back x) ∙ ap imported k ∙ numbers_read_back y)
 one_value (Text t) (Text u) h k = ap Text k
 one_value (Logical b) (Logical c) h k = ap Logical (one_logical b c k)
 one_value (Fault d) (Fault e) h k = ap Fault (one_error d e k)

@@ -1,6 +1,6 @@
 -- What commands about scenarios answer.
 use Rattle.std.proofs.Common.{◌≡◌, ◌↔◌, ℕ, Bool, true, false, not, ◌||◌, List, [], ◌∷◌, length, Option, Some, None, Result, Ok, Err, refl, sym, ap, ◌∙◌, subst, arith}
-use Rattle.std.specs.Prelude.{IsErrOf, OnErr, is_some}
+use Rattle.std.specs.Prelude.{IsErrOf, is_some}
 use Rattle.std.specs.Result.{IsErrAnd}
 use Rattle.std.proofs.lemmas.Result.{err_from_is_err_and}
 use Rattle.wi_values.specs.declared.value.Value.{Value}
@@ -15,11 +15,12 @@ use Rattle.wi_scenarios.specs.declared.refusal.Refusal.TheVariants.{Memory, NoSc
 use Rattle.wi_sessions.specs.Sessions.{using_scenario}
 use Rattle.wi_scenarios.specs.State.{State}
 use Rattle.wi_scenarios.specs.Views.{current_session, with_current}
-use Rattle.wi_scenarios.specs.Answer.{Answer, MayRefuse, Serves, field_refusal}
+use Rattle.wi_scenarios.specs.Answer.{Answer, Serves, field_refusal}
 use Rattle.wi_scenarios.specs.Causes.{no_cause, when, answer}
 use Rattle.wi_scenarios.specs.Scenario.{replacement_by, put_answer, take_away_step, IsScenarioStep}
 use Rattle.wi_scenarios.specs.Base.{base_step}
 use Rattle.wi_scenarios.specs.Use.{use_step}
+use Rattle.wi_scenarios.proofs.AnswerLemmas.{serves_as}
 
 -- ---- calls that end at a want of memory
 
@@ -94,23 +95,15 @@ empty_step : (s : State) (name : List ℕ) (at : ℕ) (text : List ℕ) (a : Ans
 empty_step s name at [] a h e = e
 empty_step s name at (b ∷ bs) a h e = absurd (omega (arith, h))
 
-refuses_more : (e : Refusal) (A B : Answer → Type 0) → ((a : Answer) → A a → B a) → MayRefuse e A → MayRefuse e B
-refuses_more Memory A B f h = record { answer = h.answer; is_answer = f h.answer h.is_answer; grows = h.grows }
-refuses_more e A B f h = f (Err e) h
-
-pub serves_more : (A B : Answer → Type 0) (r : Result (Unit {0}) Refusal) (s t : State) (records : List ℕ) → ((a : Answer) → A a → B a) → Serves A r s t records → Serves B r s t records
-serves_more A B (Ok u) s t records f h = f (Ok (t, records)) h
-serves_more A B (Err e) s t records f h = (refuses_more e A B f h.0, h.1, h.2)
-
 pub put_served : (s t : State) (name : List ℕ) (at : ℕ) (text : List ℕ) (r : Result (Unit {0}) Refusal) → (length text ≡ 0 → ⊥)
     → Serves (λ a. put_answer s name at (imported text) ≡ a) r s t [] → Serves (IsScenarioStep s name at text) r s t []
 put_served s t name at text r h k =
-    serves_more (λ a. put_answer s name at (imported text) ≡ a) (IsScenarioStep s name at text) r s t [] (λ a e. put_step s name at text a h e) k
+    serves_as (λ a. put_answer s name at (imported text) ≡ a) (IsScenarioStep s name at text) (λ a e. put_step s name at text a h e) r s t [] k
 
 pub taken_served : (s t : State) (name : List ℕ) (at : ℕ) (text : List ℕ) (r : Result (Unit {0}) Refusal) → length text ≡ 0
     → Serves (λ a. take_away_step s name at ≡ a) r s t [] → Serves (IsScenarioStep s name at text) r s t []
 taken_served s t name at text r h k =
-    serves_more (λ a. take_away_step s name at ≡ a) (IsScenarioStep s name at text) r s t [] (λ a e. empty_step s name at text a h e) k
+    serves_as (λ a. take_away_step s name at ≡ a) (IsScenarioStep s name at text) (λ a e. empty_step s name at text a h e) r s t [] k
 
 -- ---- bases, and which scenario is used
 
@@ -156,8 +149,3 @@ use_done s name e = ap (λ (b : Bool). answer (record no_cause { no_scenario = b
 
 pub use_missing : (s : State) (name : Option (List ℕ)) → lacks s.scenarios name ≡ true → use_step s name ≡ Err NoScenario
 use_missing s name e = ap (λ (b : Bool). answer (record no_cause { no_scenario = b }) (used s name, [])) e
-
--- what holds in any case holds at an error
-pub on_error : {X E A : Type 0} (r : Result X E) → A → OnErr r A
-on_error (Ok x) h = tt
-on_error (Err e) h = h

@@ -13,6 +13,7 @@ use Rattle.std.proofs.lemmas.List.Kept.{Contains-dedup_nat, Contains-from_dedup}
 use Rattle.std.proofs.lemmas.List.Sorted.{Contains-permutation, IsPermutation-sym}
 use Rattle.std.proofs.lemmas.Map.Keys.{sorted_from_strictly_increasing, sorted_head, sorted_tail}
 use Rattle.std.proofs.lemmas.Map.Views.{any-filter_same}
+use Rattle.std.specs.Cmp.Derive.{one_truth}
 use Rattle.wi_values.proofs.Order.{below_from_Less, is_at-eq, turn_test}
 use Rattle.wi_values.specs.Address.{rows, columns}
 use Rattle.wi_sessions.specs.Pictures.{sheet_size}
@@ -132,11 +133,6 @@ rises xs a h = rising 0 (rows * columns) xs a (from_zero xs) h
 
 -- ---- lists that are sorted
 
-pub same_answers : (b d : Bool) → (b ≡ true → d ≡ true) → (d ≡ true → b ≡ true) → b ≡ d
-same_answers true d h k = sym (h refl)
-same_answers false true h k = k refl
-same_answers false false h k = refl
-
 listed_from : (xs : List ℕ) (c : ℕ) → Contains xs c → is_listed xs c ≡ true
 listed_from xs c h = list_any_at (λ d. d == c) xs h.0 c h.1 (eq-eqb _ c h.2)
 
@@ -148,7 +144,7 @@ contains_from xs c h =
 -- what a sort, and each cell once, leave has the same cells
 pub sorted_once : (cells sorted list : List ℕ) → IsPermutation cells sorted → list ≡ dedup eqb sorted → (c : ℕ) → is_listed list c ≡ is_listed cells c
 sorted_once cells sorted list p d c =
-    same_answers (is_listed list c) (is_listed cells c)
+    one_truth (is_listed list c) (is_listed cells c)
     (λ t. listed_from cells c (Contains-permutation sorted cells c (IsPermutation-sym cells sorted p) (Contains-from_dedup eqb sorted c (subst (λ (xs : List ℕ). Contains xs c) d (contains_from list c t)))))
     (λ t. listed_from list c (subst (λ (xs : List ℕ). Contains xs c) (sym d) (Contains-dedup_nat sorted c (Contains-permutation cells sorted c p (contains_from cells c t)))))
 

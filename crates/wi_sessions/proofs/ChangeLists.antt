@@ -2,7 +2,7 @@
 use Rattle.std.proofs.Common.{◌≡◌, ℕ, zero, suc, ◌+◌, ◌<◌, ◌≤◌, Bool, true, false, not, cond, List, [], ◌∷◌, map, refl, sym, ap, subst, ◌∙◌, arith, ◌||◌, Option, Some, None}
 use Rattle.std.specs.Prelude.{filter, unwrap_or, nat_eq, ◌==◌}
 use Rattle.std.specs.List.{range_with_len}
-use Rattle.std.proofs.lemmas.Bool.{false≢true}
+use Rattle.std.proofs.lemmas.Bool.{false≢true, eqb-true}
 use Rattle.std.proofs.lemmas.Bool.Decides.{nat_tests}
 use Rattle.wi_values.specs.declared.value.Value.{Value}
 use Rattle.wi_values.specs.declared.value.Value.TheVariants.{Empty, Number, Text, Logical, Fault}
@@ -10,6 +10,7 @@ use Rattle.std.specs.Ordering.{nat_cmp}
 use Rattle.std.specs.Map.{lookup}
 use Rattle.std.specs.BTreeMap.{is_at}
 use Rattle.wi_values.proofs.Lookups.{found-insert, found-without}
+use Rattle.wi_values.proofs.Order.{turn_test}
 use Rattle.wi_sessions.specs.Pictures.{equality, same_value, value_in, with_value, with_changes, sheet_size}
 use Rattle.wi_sessions.specs.Pictures.Laws.{is_listed, Rises, AnyCells, PictureIsShown, every_cell}
 
@@ -29,9 +30,6 @@ not_below a low high (c ∷ cs) r h =
 fails : (p : ℕ → Bool) (a : ℕ) (cs : List ℕ) → (p a ≡ true → is_listed cs a ≡ true) → is_listed cs a ≡ false → p a ≡ false
 fails p a cs all none =
     elim (p a) as (λ b. p a ≡ b → b ≡ false) [ true ↦ λ t. absurd (false≢true (sym none ∙ all t)) | false ↦ λ t. refl ] refl
-
-equal : (a c : ℕ) → nat_eq a c ≡ true → a ≡ c
-equal a c e = grind (arith, nat_tests)
 
 above : (a c : ℕ) → a ≤ c → nat_eq a c ≡ false → a + 1 ≤ c
 above a c h e = grind (arith, nat_tests)
@@ -54,7 +52,7 @@ in_range p (suc n) a high (c ∷ cs) e r all =
     let e' : (a + 1) + n ≡ high = omega (arith, e) in
     elim (nat_eq a c) as (λ b. nat_eq a c ≡ b → filter p (a ∷ range_with_len (a + 1) n) ≡ filter p (c ∷ cs)) [
       | true ↦ λ t.
-          let same : a ≡ c = equal a c t in
+          let same : a ≡ c = eqb-true a c t in
           let rest : filter p (range_with_len (a + 1) n) ≡ filter p cs = in_range p n (a + 1) high cs e'
           (subst (λ x. Rises (x + 1) high cs) (sym same) r.2)
           (λ q h l u. another c q cs (omega (arith, h, same)) (all q (omega (arith, h)) l u)) in
@@ -94,18 +92,15 @@ value_in-with picture c v q = by_value v
     by_value (Logical b) = or_empty (Some (Logical b)) _ (found-insert picture c (Logical b) q)
     by_value (Fault k) = or_empty (Some (Fault k)) _ (found-insert picture c (Fault k) q)
 
-turned : (a c : ℕ) → (a == c) ≡ (c == a)
-turned a c = grind (arith, nat_tests)
-
 -- with values put in at cells, each of the cells has its value
 value_in-changes : (picture : List (ℕ × Value)) (f : ℕ → Value) (cs : List ℕ) (q : ℕ)
     → value_in (with_changes picture (map (λ a. (a, f a)) cs)) q ≡ cond (is_listed cs q) (f q) (value_in picture q)
 value_in-changes picture f [] q = refl
 value_in-changes picture f (c ∷ cs) q =
     value_in-changes (with_value picture c (f c)) f cs q
-    ∙ ap (cond (is_listed cs q) (f q)) (value_in-with picture c (f c) q ∙ ap (λ b. cond b (f c) (value_in picture q)) (turned q c))
+    ∙ ap (cond (is_listed cs q) (f q)) (value_in-with picture c (f c) q ∙ ap (λ b. cond b (f c) (value_in picture q)) (turn_test q c))
     ∙ elim (c == q) as (λ b. (c == q) ≡ b → cond (is_listed cs q) (f q) (cond b (f c) (value_in picture q)) ≡ cond (b || is_listed cs q) (f q) (value_in picture q)) [
-      | true ↦ λ t. ap (λ x. cond (is_listed cs q) (f q) (f x)) (equal c q t) ∙ elim (is_listed cs q) as (λ b. cond b (f q) (f q) ≡ f q) [ true ↦ refl | false ↦ refl ]
+      | true ↦ λ t. ap (λ x. cond (is_listed cs q) (f q) (f x)) (eqb-true c q t) ∙ elim (is_listed cs q) as (λ b. cond b (f q) (f q) ≡ f q) [ true ↦ refl | false ↦ refl ]
       | false ↦ λ t. refl
     ] refl
 
@@ -119,7 +114,7 @@ never p (x ∷ xs) q e =
     ] refl
   where
     other : (b : Bool) → (x == q) ≡ b → p x ≡ true → (x == q) ≡ false
-    other true t h = absurd (false≢true (sym e ∙ ap p (sym (equal x q t)) ∙ h))
+    other true t h = absurd (false≢true (sym e ∙ ap p (sym (eqb-true x q t)) ∙ h))
     other false t h = t
 
 -- a number of the range that passes is found among those that pass
@@ -135,9 +130,9 @@ among p q (suc n) a high e low top =
     here : (b : Bool) → p a ≡ b → nat_eq a q ≡ true → is_listed (filter p (a ∷ range_with_len (a + 1) n)) q ≡ p q
     here true h t =
         ap (λ x. is_listed (cond x (a ∷ filter p (range_with_len (a + 1) n)) (filter p (range_with_len (a + 1) n))) q) h
-        ∙ ap (λ x. x || is_listed (filter p (range_with_len (a + 1) n)) q) t ∙ sym (ap p (sym (equal a q t)) ∙ h)
+        ∙ ap (λ x. x || is_listed (filter p (range_with_len (a + 1) n)) q) t ∙ sym (ap p (sym (eqb-true a q t)) ∙ h)
     here false h t =
-        let fails_here : p q ≡ false = ap p (sym (equal a q t)) ∙ h in
+        let fails_here : p q ≡ false = ap p (sym (eqb-true a q t)) ∙ h in
         ap (λ x. is_listed (cond x (a ∷ filter p (range_with_len (a + 1) n)) (filter p (range_with_len (a + 1) n))) q) h
         ∙ never p (range_with_len (a + 1) n) q fails_here ∙ sym fails_here
 

@@ -1,14 +1,13 @@
 -- Laws of lists of changes, for one step of a loop over them.
-use Rattle.std.proofs.Common.{◌≡◌, ◌==◌, ◌<◌, ◌+◌, ◌||◌, ◌⊎◌, ℕ, zero, suc, Bool, true, false, cond, List, [], ◌∷◌, length, get_or, set, drop, Some, refl, sym, ap, subst, ◌∙◌, arith, ⊎_elim}
+use Rattle.std.proofs.Common.{◌≡◌, ◌==◌, ◌<◌, ◌+◌, ◌⊎◌, ℕ, cond, List, length, get_or, set, drop, Some, sym, ap, subst, ◌∙◌, arith, ⊎_elim}
 use Rattle.std.specs.List.{All}
 use Rattle.std.specs.Map.{keys_of}
-use Rattle.std.proofs.lemmas.Bool.{cases_eq, or_left, or_right, eqb-true}
-use Rattle.std.proofs.lemmas.Bool.Decides.{nat_tests}
+use Rattle.std.proofs.lemmas.Bool.{cases_eq, eqb-true, or_cases}
 use Rattle.std.proofs.lemmas.List.{drop-set-lt, drop_more, get_or_default}
 use Rattle.std.proofs.lemmas.List.Elements.{All-set}
-use Rattle.std.proofs.Math.Seq.{map-set_same}
 use Rattle.wi_values.specs.declared.value.Value.{Value}
 use Rattle.wi_values.specs.declared.value.Value.TheVariants.{Empty}
+use Rattle.wi_values.proofs.Keys.{is_named}
 use Rattle.wi_sessions.specs.Pictures.{value_in, with_value, with_changes}
 use Rattle.wi_sessions.specs.Pictures.Laws.{is_listed}
 use Rattle.wi_sessions.specs.Inner.Rooms.{room_of, HasRoomFor, HasNoVacancy, VacantOnlyAt, HoldsTheSame}
@@ -18,19 +17,6 @@ use Rattle.wi_sessions.proofs.PictureLemmas.{same_after}
 
 abbrev pub Entries : Type 0
 Entries = List (ℕ × Value)
-
-right_of_or : (b c : Bool) → (b || c) ≡ true → (b ≡ true → ⊥) → c ≡ true
-right_of_or true c h n = absurd (n refl)
-right_of_or false c h n = h
-
-test_from_same : (a b : ℕ) → a ≡ b → (b == a) ≡ true
-test_from_same a b h = grind (arith, nat_tests)
-
--- the cell of the i-th change is one of the cells
-is_named : (q : ℕ) (cs : Entries) (i : ℕ) (d : ℕ × Value) → i < length cs → q ≡ (get_or cs i d).0 → is_listed (keys_of cs) q ≡ true
-is_named q [] i d l e = absurd (omega arith)
-is_named q (x ∷ xs) zero d l e = or_left (x.0 == q) _ (test_from_same q x.0 e)
-is_named q (x ∷ xs) (suc i) d l e = or_right (x.0 == q) _ (is_named q xs i d (omega arith) e)
 
 -- ---- rooms that are vacant
 
@@ -43,9 +29,6 @@ pub vacant_more_made : (cs : Entries) (i : ℕ) (x : ℕ × Value) (old new : En
     → VacantOnlyAt Empty (keys_of cs) old → VacantOnlyAt Empty (keys_of cs) new
 vacant_more_made cs i x old new l is made h =
     λ q v. ⊎_elim (λ p. is_named q cs i x l (p ∙ ap (λ (e : ℕ × Value). e.0) is)) (λ w. h q w) (made q v)
-
-pub keys_of-set : (cs : Entries) (i : ℕ) (d : ℕ × Value) (v : Value) → keys_of (set cs i ((get_or cs i d).0, v)) ≡ keys_of cs
-keys_of-set cs i d v = map-set_same (λ (e : ℕ × Value). e.0) cs i ((get_or cs i d).0, v) d refl
 
 -- after the i-th change was exchanged
 pub vacant_more : (cs : Entries) (cells : List ℕ) (i : ℕ) (d : ℕ × Value) (old new : Entries) → i < length cs → keys_of cs ≡ cells
@@ -60,9 +43,8 @@ pub vacant_less : (cs : Entries) (i : ℕ) (d : ℕ × Value) (old new : Entries
     → ((q : ℕ) → room_of new q ≡ Some Empty → room_of old q ≡ Some Empty)
     → VacantOnlyAt Empty (keys_of (drop i cs)) old → VacantOnlyAt Empty (keys_of (drop (i + 1) cs)) new
 vacant_less cs i d old new l released kept h =
-    λ q v. right_of_or ((get_or cs i d).0 == q) _
-    (ap (λ (xs : Entries). is_listed (keys_of xs) q) (sym (drop_more cs i d l)) ∙ h q (kept q v))
-    (λ t. released (ap (λ (a : ℕ). room_of new a) (eqb-true _ q t) ∙ v))
+    λ q v. ⊎_elim (λ t. absurd (released (ap (λ (a : ℕ). room_of new a) (eqb-true _ q t) ∙ v))) (λ t. t)
+    (or_cases ((get_or cs i d).0 == q) _ (ap (λ (xs : Entries). is_listed (keys_of xs) q) (sym (drop_more cs i d l)) ∙ h q (kept q v)))
 
 -- ---- rooms for changes
 

@@ -1,7 +1,7 @@
 -- Laws of what is pending for all sessions, for each call.
 use Rattle.std.proofs.Common.{◌⊎◌, ◌≡◌, ◌≢◌, ◌==◌, ◌<◌, ◌≤◌, ◌+◌, ◌||◌, ◌&&◌, ◌∙◌, ℕ, Bool, true, false, not, List, [], ◌∷◌, ◌++◌, map, length, get_or, set, drop, filter, Result, Ok, Err, ◌*◌, refl, sym, ap, subst, arith, ⊎_elim, zero, suc, inl, inr, Option, None}
 use Rattle.std.proofs.Math.Bool.{and-false, and-true, or-false}
-use Rattle.std.specs.Prelude.{nat_lt, unwrap_or, IfOk, OnErr, OnOk}
+use Rattle.std.specs.Prelude.{nat_lt, unwrap_or, IfOk}
 use Rattle.std.specs.List.{All, list_all, range_with_len}
 use Rattle.std.specs.List.Sorted.{IsStrictlySortedBy}
 use Rattle.std.specs.Ordering.{nat_cmp}
@@ -11,7 +11,9 @@ use Rattle.std.proofs.lemmas.Bool.{and_parts, both_ways, cases_eq, cases_lt, eq-
 use Rattle.std.proofs.lemmas.List.{get_or-set_same, length-append, length-set}
 use Rattle.std.proofs.lemmas.List.Elements.{All-filter, All-map}
 use Rattle.std.proofs.lemmas.List.Folds.{list_any-append}
+use Rattle.std.specs.Cmp.Derive.{one_truth}
 use Rattle.wi_values.specs.Address.{rows, columns}
+use Rattle.wi_values.proofs.Lists.{filter_all}
 use Rattle.wi_sessions.specs.Pictures.{sheet_size}
 use Rattle.wi_sessions.specs.Pictures.Laws.{is_listed, Rises}
 use Rattle.wi_sessions.specs.Pending.{AllPending, list_at}
@@ -20,9 +22,9 @@ use Rattle.wi_sessions.specs.declared.unread.Unread.{Unread}
 use Rattle.wi_sessions.specs.Inner.Cells.{has_bit, is_in, is_staged, cells_with, cells_in, vacant_in, pending_in, at_cells, SamePending, HasMade, HasCleared}
 use Rattle.wi_sessions.specs.Inner.Unread.{is_unread, HasPlace, AreKept, AreLookedAt}
 use Rattle.wi_sessions.proofs.BitLemmas.{none_in_zero}
-use Rattle.wi_sessions.proofs.CellLemmas.{listed_filter, rises, same_answers, same_listed}
+use Rattle.wi_sessions.proofs.CellLemmas.{listed_filter, rises, same_listed}
 use Rattle.wi_sessions.proofs.WordLemmas.{Words, OthersStay}
-use Rattle.wi_sessions.proofs.ViewLemmas.{all_pass, ascend_in, ascend_vacant, list_beyond, list_there, listed_either, listed_in, listed_vacant, none_vacant, one_list_more, pending_cleared, pending_taken, same_as, same_in, same_vacant, so_many, vacant_cleared, vacant_made, vacant_stays}
+use Rattle.wi_sessions.proofs.ViewLemmas.{all_pass, ascend_in, ascend_vacant, list_beyond, list_there, listed_either, listed_in, listed_vacant, none_vacant, one_list_more, pending_cleared, pending_taken, same_as, same_in, same_vacant, so_many, vacant_cleared, vacant_made, vacant_stays, cleared}
 use Rattle.wi_sessions.proofs.PlaceLemmas.{kept_at, kept_cleared, kept_fewer, kept_made, places_pushed, places_set}
 use Rattle.wi_sessions.proofs.RosterLemmas.{one_of_all_has}
 
@@ -262,7 +264,7 @@ pub each_has : (words staged : Words) (changed : List ℕ) (unread : List Unread
     → (answer ≡ true → (j : ℕ) → has_bit j word ≡ has_bit j bits) → (((j : ℕ) → has_bit j word ≡ has_bit j bits) → answer ≡ true)
     → answer ≡ list_all (λ cells. is_listed cells at) (map (cells_in words staged) (range_with_len 0 n))
 each_has words staged changed unread at word bits n answer e k is all alike unlike =
-    same_answers answer (list_all (λ cells. is_listed cells at) lists)
+    one_truth answer (list_all (λ cells. is_listed cells at) lists)
     (λ t. all_pass (λ cells. is_listed cells at) (cells_in words staged) n (λ i l. listed i ∙ sym (is i) ∙ alike t i ∙ all i ∙ lt-ltb i n l))
     (λ t. unlike (λ j. ⊎_elim
     (λ l. is j ∙ sym (listed j) ∙ ap (λ (xs : List ℕ). is_listed xs at) (sym (list_there (cells_in words staged) n j l))
@@ -284,7 +286,7 @@ zero_or_more (suc n) = inr (omega arith)
 pub none_has : (words staged : Words) (at n : ℕ) (answer : Bool) → Ordered words → lookup (is_at (nat_cmp at)) words ≡ None → (answer ≡ true → n ≡ 0) → (n ≡ 0 → answer ≡ true)
     → answer ≡ list_all (λ cells. is_listed cells at) (map (cells_in words staged) (range_with_len 0 n))
 none_has words staged at n answer order none few all =
-    same_answers answer (list_all (λ cells. is_listed cells at) (lists n))
+    one_truth answer (list_all (λ cells. is_listed cells at) (lists n))
     (λ t. ap (λ (m : ℕ). list_all (λ cells. is_listed cells at) (lists m)) (few t))
     (λ t. ⊎_elim all (λ some. absurd (both_ways (is_listed (cells_in words staged 0) at) unlisted (listed some t))) (zero_or_more n))
   where
@@ -327,20 +329,13 @@ if_ok_both (Err e) items p q f = tt
 
 -- ---- a session's bit taken from all its cells
 
-none_left : (s t : Bool) → t ≡ s → (s && not t) ≡ false
-none_left s t e = ap (λ x. s && not x) e ∙ by s
-  where
-    by : (s : Bool) → (s && not s) ≡ false
-    by true = refl
-    by false = refl
-
 pub all_forgotten : (words less : Words) (all : List ℕ) (i count : ℕ) → less ≡ [] → count ≡ 1 → i < count → ((c : ℕ) → is_listed all c ≡ is_in words i c)
     → ((j c : ℕ) → count ≤ j → is_in words j c ≡ false) → HasCleared (λ j c. is_listed all c && (j == i)) words less
 all_forgotten words less all i count e one l is none = λ j c.
     ap (λ (es : Words). is_in es j c) e ∙ none_in_zero j
     ∙ sym (⊎_elim
     (λ (s : j ≡ i). subst (λ (k : ℕ). (is_in words k c && not (is_listed all c && (k == i))) ≡ false) (sym s)
-    (none_left (is_in words i c) (is_listed all c && (i == i)) (ap (λ t. is_listed all c && t) (eq-eqb i i refl) ∙ and-true (is_listed all c) ∙ is c)))
+    (cleared (is_in words i c) (is_listed all c && (i == i)) (ap (λ t. is_listed all c && t) (eq-eqb i i refl) ∙ and-true (is_listed all c) ∙ is c)))
     (λ (apart : j ≡ i → Prim.⊥). ap (λ t. t && not (is_listed all c && (j == i))) (none j c (beyond j apart)))
     (cases_eq j i))
   where
@@ -360,7 +355,7 @@ module _ (words less staged : Words) (changed : List ℕ) (unread : List Unread)
   test_elsewhere j c apart = ap (λ t. is_listed all c && t) (ne_eqb j i apart) ∙ and-false (is_listed all c)
 
   bit_gone : (c : ℕ) → is_in less i c ≡ false
-  bit_gone c = h i c ∙ none_left (is_in words i c) (is_listed all c && (i == i)) (test_here c)
+  bit_gone c = h i c ∙ cleared (is_in words i c) (is_listed all c && (i == i)) (test_here c)
 
   pub forgotten_pending : map (cells_in less staged) (range_with_len 0 (length unread)) ≡ set (map (cells_in words staged) (range_with_len 0 (length unread))) i []
   forgotten_pending = pending_cleared words less staged i (length unread) (λ j c. is_listed all c && (j == i)) k.order b h l test_here test_elsewhere
@@ -390,13 +385,9 @@ cells_rise words staged n i p order sheet v l =
     (All-filter (λ c. not (is_staged staged i c)) (λ a. a < rows * columns) (cells_with words i)
     (All-map (λ a. a < rows * columns) (λ e. e.0) (filter (λ e. has_bit i e.1) words) (All-filter (λ e. has_bit i e.1) (λ e. e.0 < rows * columns) words sheet))))
 
-all_kept : (xs : List ℕ) → filter (λ c. true) xs ≡ xs
-all_kept [] = refl
-all_kept (x ∷ xs) = ap (λ (ys : List ℕ). x ∷ ys) (all_kept xs)
-
 -- where no room is listed, all are pending
 none_staged : (words staged : Words) (i : ℕ) → length staged ≡ 0 → cells_with words i ≡ cells_in words staged i
-none_staged words [] i e = sym (all_kept (cells_with words i))
+none_staged words [] i e = sym (filter_all (cells_with words i))
 none_staged words (r ∷ staged) i e = absurd (omega (arith, e))
 
 -- the pending cells of a session, told by those with its bit
@@ -409,14 +400,6 @@ pub cells_told : (words staged rooms : Words) (n i : ℕ) (p : AllPending) (all 
 cells_told words staged rooms n i p all lent found v l e f g h =
     h ∙ ap (λ (xs : List ℕ). filter (λ c. not (is_staged rooms i c)) xs) (f ∙ e) ∙ ap (λ (rs : Words). filter (λ c. not (is_staged rs i c)) (cells_with words i)) g
     ∙ sym (list_there (cells_in words staged) n i l) ∙ ap (λ (r : AllPending). list_at r.pending i) v
-
-pub on_ok_always : {T E P : Type 0} (r : Result T E) → P → OnOk r P
-on_ok_always (Ok v) p = p
-on_ok_always (Err e) p = tt
-
-pub on_err_always : {T E P : Type 0} (r : Result T E) → P → OnErr r P
-on_err_always (Ok v) p = tt
-on_err_always (Err e) p = p
 
 -- bits put in, as rooms that are taken at once
 pub same_bits : (words more none : Words) → SamePending words [] more none → none ≡ [] → (i c : ℕ) → is_in more i c ≡ is_in words i c

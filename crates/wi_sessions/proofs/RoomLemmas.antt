@@ -1,5 +1,5 @@
 -- Laws of rooms, whatever stands in them.
-use Rattle.std.proofs.Common.{◌≡◌, ◌==◌, ◌<◌, ◌⊎◌, ℕ, Bool, true, false, cond, List, [], ◌∷◌, filter, Option, Some, None, refl, sym, ap, subst, ◌∙◌, arith, ⊎_elim, inl, inr}
+use Rattle.std.proofs.Common.{◌≡◌, ◌==◌, ◌<◌, ◌⊎◌, ℕ, Bool, true, false, cond, List, [], ◌∷◌, filter, Option, Some, None, refl, sym, ap, subst, ◌∙◌, ⊎_elim, inl, inr}
 use Rattle.std.specs.Prelude.{unwrap_or}
 use Rattle.std.specs.Option.{is_some}
 use Rattle.std.specs.List.{list_any}
@@ -7,14 +7,10 @@ use Rattle.std.specs.Ordering.{nat_cmp}
 use Rattle.std.specs.Map.{keys_of}
 use Rattle.std.specs.BTreeMap.{is_at}
 use Rattle.std.proofs.lemmas.Bool.{cases_eq, cases_order}
-use Rattle.std.proofs.lemmas.Bool.Decides.{nat_tests}
 use Rattle.std.proofs.lemmas.Map.Made.{is_some-lookup}
 pub use Rattle.wi_values.proofs.Order.{Ascends, Ascends-from_order}
-use Rattle.wi_values.proofs.Order.{ComeAfter, ComeAfter-filter, come_after_earlier, at_itself, at_same, is_at-eq, turn_test, lookup_after}
+use Rattle.wi_values.proofs.Order.{ComeAfter, ComeAfter-filter, come_after_earlier, at_itself, at_same, is_at-eq, turn_test, lookup_after, at_other}
 use Rattle.wi_sessions.specs.Inner.Rooms.{room_of, HasNoVacancy, HasRoomFor, held_at}
-
-pub is_at_apart : (a q : ℕ) → (q ≡ a → ⊥) → is_at (nat_cmp a) q ≡ false
-is_at_apart a q h = grind (arith, nat_tests)
 
 module _ {X : Type 0} (nothing : X) where
   abbrev or_nothing : Option X → X
@@ -37,7 +33,7 @@ module _ {X : Type 0} (nothing : X) where
 
   -- a room that is vacant after one was made is that one, or was so before
   pub vacancy_made : (a q : ℕ) (w : X) (x y : Option X) → x ≡ cond (is_at (nat_cmp a) q) (Some w) y → x ≡ Some nothing → (q ≡ a) ⊎ (y ≡ Some nothing)
-  vacancy_made a q w x y e h = ⊎_elim (λ p. inl p) (λ apart. inr (sym (rw (is_at_apart a q apart) at e) ∙ h)) (cases_eq q a)
+  vacancy_made a q w x y e h = ⊎_elim (λ p. inl p) (λ apart. inr (sym (rw (at_other a q apart) at e) ∙ h)) (cases_eq q a)
 
   -- what is put into a room is what its cell has
   pub held_put : (a q : ℕ) (v w : X) (old new : List (ℕ × X)) → room_of new q ≡ cond (is_at (nat_cmp a) q) (Some w) (room_of old q)

@@ -138,7 +138,7 @@ pending_taken words staged none i order e q =
 
 -- ---- a session's bits taken away
 
-cleared : (s t : Bool) → t ≡ s → (s && not t) ≡ false
+pub cleared : (s t : Bool) → t ≡ s → (s && not t) ≡ false
 cleared s t e = ap (λ x. s && not x) e ∙ by s
   where
     by : (s : Bool) → (s && not s) ≡ false

@@ -1,8 +1,9 @@
 -- What is left to find falls with each case that is found.
-use Rattle.std.proofs.Common.{◌≡◌, ◌≤◌, ◌+◌, ◌||◌, inl, inr, ℕ, Bool, true, false, cond, not, filter, List, [], ◌∷◌, length, Contains, refl, ap, sym, ◌∙◌, arith, sum_by, if◌then◌else◌}
+use Rattle.std.proofs.Common.{◌≡◌, ◌≤◌, ◌+◌, ◌||◌, inl, inr, ℕ, Bool, true, false, cond, not, filter, List, [], ◌∷◌, Contains, refl, ap, sym, ◌∙◌, arith, sum_by, if◌then◌else◌}
 use Rattle.std.proofs.lemmas.Bool.{or_left, or_right, true≢false}
 use Rattle.std.proofs.lemmas.List.Sums.{sum_by-cons}
 use Rattle.wi_values.specs.declared.replacement.Replacement.{Replacement}
+use Rattle.wi_values.proofs.Lists.{sum_ones}
 use Rattle.wi_parser.specs.Sheet.{Sheet}
 use Rattle.wi_sheet.specs.Demand.{Case, same_case, wants}
 use Rattle.wi_functions.specs.Counts.{Counts}
@@ -55,11 +56,6 @@ pub left_of_nothing : (weight : Case → ℕ) (ks : List Case) → left weight (
 left_of_nothing weight [] = refl
 left_of_nothing weight (k ∷ ks) = ap (λ (n : ℕ). weight k + n) (left_of_nothing weight ks) ∙ sym (sum_by-cons weight k ks)
 
--- counted each as one, there are as many as the list is long
-pub sum_of_ones : (ks : List Case) → sum_by (λ k. 1) ks ≡ length ks
-sum_of_ones [] = refl
-sum_of_ones (k ∷ ks) = let e = sum_of_ones ks in let more = sum_by-cons (λ (j : Case). 1) k ks in omega (arith, e, more)
-
 -- the cases that are not found weigh no more than all
 left_at_most : (weight : Case → ℕ) (found : Table) (ks : List Case) → left weight found ks ≤ sum_by weight ks
 left_at_most weight found ks = omega (arith, left_falls weight (λ c w. false) found ks (λ c w h. absurd (true≢false (sym h))), left_of_nothing weight ks)
@@ -108,7 +104,7 @@ spent_all s old new a b done ks h = record { within = (omega (arith, h.0), omega
 
 -- no more than all cost
 pub spent_price : {s : Sheet} {old new : Table} {a b : Counts} {done : Bool} {ks : List Case} → SpentOn s old new a b done ks → NeverFall b (plus a (price s ks))
-spent_price {s} {old} {new} {a} {b} {done} {ks} h = (omega (arith, h.within.0, left_at_most (λ k. 1) old ks, sum_of_ones ks), omega (arith, h.within.1, left_at_most (wants s) old ks))
+spent_price {s} {old} {new} {a} {b} {done} {ks} h = (omega (arith, h.within.0, left_at_most (λ k. 1) old ks, sum_ones ks), omega (arith, h.within.1, left_at_most (wants s) old ks))
 
 pub spent_nothing : (a b : Counts) → NeverFall a (plus a b)
 spent_nothing a b = (omega arith, omega arith)
@@ -116,4 +112,4 @@ spent_nothing a b = (omega arith, omega arith)
 -- and no more than those that were not found
 pub spent_unkept : {s : Sheet} {old new : Table} {a b : Counts} {done : Bool} {ks : List Case} → SpentOn s old new a b done ks → NeverFall b (plus a (price s (filter (λ x. not (old x.0 x.1)) ks)))
 spent_unkept {s} {old} {new} {a} {b} {done} {ks} h =
-    (omega (arith, h.within.0, left_is_unkept (λ k. 1) old ks, sum_of_ones (filter (λ x. not (old x.0 x.1)) ks)), omega (arith, h.within.1, left_is_unkept (wants s) old ks))
+    (omega (arith, h.within.0, left_is_unkept (λ k. 1) old ks, sum_ones (filter (λ x. not (old x.0 x.1)) ks)), omega (arith, h.within.1, left_is_unkept (wants s) old ks))

@@ -1,5 +1,5 @@
 -- Which elements of a list pass a test.
-use Rattle.std.proofs.Common.{◌≡◌, ◌==◌, ℕ, zero, suc, ◌+◌, ◌<◌, ◌≤◌, Bool, true, false, ◌||◌, ◌&&◌, cond, List, [], ◌∷◌, filter, length, take, get_or, refl, ap, sym, ◌∙◌, arith}
+use Rattle.std.proofs.Common.{◌≡◌, ◌==◌, ℕ, ◌+◌, ◌<◌, ◌≤◌, Bool, true, false, ◌||◌, ◌&&◌, cond, List, [], ◌∷◌, filter, length, take, get_or, refl, ap, sym, ◌∙◌, arith}
 use Rattle.std.proofs.Math.Bool.{and-false, and-true}
 use Rattle.std.proofs.lemmas.List.Folds.{list_any_more}
 use Rattle.std.specs.List.{list_any}
@@ -73,16 +73,6 @@ in_filter p (x ∷ xs) a = by (p x) (x == a) refl refl (in_filter p xs a)
         let no = sym (ap p (same_cell a x f)) ∙ e in
         ih ∙ ap (λ (c : Bool). c && is_one_of xs a) no ∙ sym (ap (λ (c : Bool). c && true) no)
     by false false e f ih = ih
-
--- one of the first is one of all
-pub in_first : (n : ℕ) (xs : List ℕ) (a : ℕ) → is_one_of (take n xs) a ≡ true → is_one_of xs a ≡ true
-in_first zero xs a h = absurd (let z = h in cc)
-in_first (suc n) [] a h = h
-in_first (suc n) (x ∷ xs) a h = at (x == a) h (in_first n xs a)
-  where
-    at : (b : Bool) → (b || is_one_of (take n xs) a) ≡ true → (is_one_of (take n xs) a ≡ true → is_one_of xs a ≡ true) → (b || is_one_of xs a) ≡ true
-    at true k ih = refl
-    at false k ih = ih k
 
 -- and one more, as at a step of a loop
 pub one_more : (xs : List ℕ) (i x q : ℕ) → i < length xs → x ≡ get_or xs i x → is_one_of (take (i + 1) xs) q ≡ (is_one_of (take i xs) q || (x == q))

@@ -22,7 +22,7 @@ use Rattle.wi_sheet.proofs.Locality.{value_same, others_do_not_count}
 
 -- ---- in order, the first replacement for a cell is the last
 
-or_none : (o : Option Value) → option_or o None ≡ o
+pub or_none : (o : Option Value) → option_or o None ≡ o
 or_none None = refl
 or_none (Some v) = refl
 

@@ -13,16 +13,12 @@ use Rattle.wi_values.specs.declared.value.Value.TheVariants.{Empty, Number, Text
 use Rattle.wi_values.specs.declared.replacement.Replacement.{Replacement}
 use Rattle.wi_parser.specs.declared.content.Content.{Content}
 use Rattle.wi_parser.specs.Sheet.{Sheet, constant, content_of, without, with_content, put, put_all, has_formula, cells_with_formula}
-use Rattle.wi_values.proofs.Lookups.{found-insert, found-without}
+use Rattle.wi_graph.proofs.EdgeLemmas.{content_of-with}
 
 -- a content under replacements, of which the last for a cell stands
 abbrev pub overlaid : List Replacement → ℕ → Option Content → Option Content
 overlaid [] q o = o
 overlaid (r ∷ rs) q o = overlaid rs q (cond (q == r.at) (constant r.value) o)
-
-pub content_of-with : (s : Sheet) (c : ℕ) (o : Option Content) (q : ℕ) → content_of (with_content s c o) q ≡ cond (q == c) o (content_of s q)
-content_of-with s c None q = found-without s c q
-content_of-with s c (Some x) q = found-insert s c x q
 
 pub content_of-put : (s : Sheet) (c : ℕ) (v : Value) (q : ℕ) → content_of (put s c v) q ≡ cond (q == c) (constant v) (content_of s q)
 content_of-put s c v q = content_of-with s c (constant v) q

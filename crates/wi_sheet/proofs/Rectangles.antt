@@ -4,6 +4,7 @@ use Rattle.std.specs.Prelude.{nat_le}
 use Rattle.std.specs.List.{list_any}
 use Rattle.std.proofs.lemmas.Bool.{and_parts, and_from, leb-true, le-leb}
 use Rattle.wi_values.specs.Address.{Area, place, row_of, column_of, is_within, rect_of}
+use Rattle.wi_values.proofs.Within.{row_of_place, column_of_place}
 use Rattle.wi_parser.specs.declared.expr.Reference.{Reference}
 use Rattle.wi_parser.specs.Tree.{Tree}
 use Rattle.wi_parser.specs.Leaves.{Leaf, cell_leaf, rectangle_leaf, what_if_leaf, leaves}
@@ -15,12 +16,6 @@ use Rattle.wi_sheet.proofs.Demands.{here_reads}
 use Rattle.wi_sheet.proofs.Members.{IsIn, in_contained, of_map, of_flat, found_in}
 
 -- ---- corners
-
-row_of_place : (r c : ℕ) → c < 16384 → row_of (place r c) ≡ r
-row_of_place r c h = omega (arith, h)
-
-column_of_place : (r c : ℕ) → c < 16384 → column_of (place r c) ≡ c
-column_of_place r c h = omega (arith, h)
 
 least : (m n i j : ℕ) → m ≡ i → n ≡ j → i ≤ j → min m n ≡ i
 least m n i j e f h = omega (arith, e, f, h)

@@ -8,6 +8,7 @@ use Rattle.wi_values.specs.Replacements.{IsInOrder}
 use Rattle.wi_values.specs.declared.value.Value.TheVariants.{Fault}
 use Rattle.wi_values.specs.declared.value.ErrorKind.TheVariants.{Circular}
 use Rattle.wi_values.specs.declared.replacement.Replacement.{Replacement}
+use Rattle.wi_values.proofs.Lists.{each_fails}
 use Rattle.wi_parser.specs.Sheet.{Sheet, content_of, put_all, has_formula}
 use Rattle.wi_functions.specs.Meaning.{zero_for_empty}
 use Rattle.wi_graph.specs.Circular.{circular}
@@ -88,12 +89,6 @@ test_of_cells s f pairs cells e = ap (λ (b : Bool). circular s f || b) (of_pair
     of_pairs : (xs : List (ℕ × ℕ)) → list_any (λ x. circular s x.1) xs ≡ list_any (circular s) (map (λ x. x.1) xs)
     of_pairs [] = refl
     of_pairs (x ∷ xs) = ap (λ (b : Bool). circular s x.1 || b) (of_pairs xs)
-
--- where no element passes a test, each fails it
-each_fails : {X : Type 0} (p : X → Bool) (xs : List X) → list_any p xs ≡ false → All (λ x. p x ≡ false) xs
-each_fails p [] h k d l = absurd (omega arith)
-each_fails p (x ∷ xs) h zero d l = (or_parts (p x) (list_any p xs) h).0
-each_fails p (x ∷ xs) h (suc k) d l = each_fails p xs (or_parts (p x) (list_any p xs) h).1 k d (omega arith)
 
 -- so none of these cells is circular where the test says that none is
 pub cells_open : (s : Sheet) (f : ℕ) (pairs : List (ℕ × ℕ)) → (circular s f || list_any (λ x. circular s x.1) pairs) ≡ false → (circular s f ≡ false) × All (λ x. circular s x.1 ≡ false) pairs

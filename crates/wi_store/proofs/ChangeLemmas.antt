@@ -1,16 +1,15 @@
 -- Laws of lists of changes, for one step of a loop over them.
-use Rattle.std.proofs.Common.{◌≡◌, ℕ, zero, suc, ◌+◌, ◌^◌, ◌<◌, ◌≤◌, ◌==◌, ◌||◌, Bool, true, false, List, [], ◌∷◌, ◌++◌, length, get_or, set, take, drop, map, Option, Some, None, refl, sym, ap, ◌∙◌, subst, arith, ◌⊎◌, ⊎_elim, add-one, drop-cons}
+use Rattle.std.proofs.Common.{◌≡◌, ℕ, ◌+◌, ◌^◌, ◌<◌, ◌≤◌, ◌==◌, Bool, true, false, List, [], ◌∷◌, ◌++◌, length, get_or, set, take, drop, map, Option, Some, None, refl, sym, ap, ◌∙◌, subst, arith, ◌⊎◌, ⊎_elim}
 use Rattle.std.specs.List.{All, list_any}
 use Rattle.std.specs.Option.{is_some}
 use Rattle.std.specs.Int.{from_bool}
 use Rattle.std.specs.Map.{keys_of}
-use Rattle.std.proofs.lemmas.Bool.{cases_eq, or_left, eqb-true, or_right}
-use Rattle.std.proofs.lemmas.Bool.Decides.{nat_tests}
-use Rattle.std.proofs.lemmas.List.{append_assoc, drop-set-lt, take-set, take_more, take_more_set}
+use Rattle.std.proofs.lemmas.Bool.{cases_eq, eqb-true, or_cases}
+use Rattle.std.proofs.lemmas.List.{append_assoc, drop-set-lt, take-set, take_more, take_more_set, drop_more, get_or_default}
 use Rattle.std.proofs.lemmas.List.Elements.{All-set}
-use Rattle.std.proofs.Math.Seq.{map-set_same}
 use Rattle.wi_parser.specs.Sheet.{Sheet, content_of, with_content}
 use Rattle.wi_parser.specs.declared.content.Content.{Content}
+use Rattle.wi_values.proofs.Keys.{is_named}
 use Rattle.wi_store.specs.Store.{edited, change_without_empty}
 use Rattle.wi_store.specs.Inner.Rooms.{Rooms, sheet_in, room_of, HasNoVacancy, VacantOnlyAt, HasRoomFor}
 use Rattle.wi_store.specs.Inner.Exchange.{stood, restored}
@@ -19,22 +18,6 @@ use Rattle.wi_store.proofs.ExchangeLemmas.{nothing_stands, count, length-with_co
 
 abbrev pub Changes : Type 0
 Changes = List (ℕ × Option Content)
-
-drop_at : (cs : Changes) (i : ℕ) (d : ℕ × Option Content) → i < length cs → drop i cs ≡ get_or cs i d ∷ drop (i + 1) cs
-drop_at cs i d l = rw add-one (drop-cons cs i d l)
-
-right_of_or : (b c : Bool) → (b || c) ≡ true → (b ≡ true → ⊥) → c ≡ true
-right_of_or true c h n = absurd (n refl)
-right_of_or false c h n = h
-
-test_from_same : (a b : ℕ) → a ≡ b → (b == a) ≡ true
-test_from_same a b h = grind (arith, nat_tests)
-
--- the cell of the i-th change is one of the cells
-is_named : (q : ℕ) (cs : Changes) (i : ℕ) (d : ℕ × Option Content) → i < length cs → q ≡ (get_or cs i d).0 → list_any (λ a. a == q) (keys_of cs) ≡ true
-is_named q [] i d l e = absurd (omega arith)
-is_named q (x ∷ xs) zero d l e = or_left (x.0 == q) _ (test_from_same q x.0 e)
-is_named q (x ∷ xs) (suc i) d l e = or_right (x.0 == q) _ (is_named q xs i d (omega arith) e)
 
 -- ---- rooms that are vacant
 
@@ -55,25 +38,16 @@ pub vacant_more : (cs : Changes) (i : ℕ) (d : ℕ × Option Content) (old new 
 vacant_more cs i d old new l others h =
     λ q v. ⊎_elim (λ p. is_named q cs i d l p) (λ apart. h q (sym (others q apart) ∙ v)) (cases_eq q (get_or cs i d).0)
 
-pub keys_of-set : (cs : Changes) (i : ℕ) (d : ℕ × Option Content) (o : Option Content) → keys_of (set cs i ((get_or cs i d).0, o)) ≡ keys_of cs
-keys_of-set cs i d o = map-set_same (λ (e : ℕ × Option Content). e.0) cs i ((get_or cs i d).0, o) d refl
-
 -- after the room of the i-th change was released
 pub vacant_less : (cs : Changes) (i : ℕ) (d : ℕ × Option Content) (old new : Rooms) → i < length cs
     → (room_of new (get_or cs i d).0 ≡ Some None → ⊥)
     → ((q : ℕ) → room_of new q ≡ Some None → room_of old q ≡ Some None)
     → VacantOnlyAt (keys_of (drop i cs)) old → VacantOnlyAt (keys_of (drop (i + 1) cs)) new
 vacant_less cs i d old new l released kept h =
-    λ q v. right_of_or ((get_or cs i d).0 == q) _
-    (ap (λ (xs : Changes). list_any (λ a. a == q) (keys_of xs)) (sym (drop_at cs i d l)) ∙ h q (kept q v))
-    (λ t. released (ap (λ (a : ℕ). room_of new a) (eqb-true _ q t) ∙ v))
+    λ q v. ⊎_elim (λ t. absurd (released (ap (λ (a : ℕ). room_of new a) (eqb-true _ q t) ∙ v))) (λ t. t)
+    (or_cases ((get_or cs i d).0 == q) _ (ap (λ (xs : Changes). list_any (λ a. a == q) (keys_of xs)) (sym (drop_more cs i d l)) ∙ h q (kept q v)))
 
 -- ---- rooms for changes
-
-same_element : (cs : Changes) (i : ℕ) (d e : ℕ × Option Content) → i < length cs → get_or cs i d ≡ get_or cs i e
-same_element [] i d e l = absurd (omega arith)
-same_element (x ∷ xs) zero d e l = refl
-same_element (x ∷ xs) (suc i) d e l = same_element xs i d e (omega arith)
 
 -- after a room was made for the i-th change, x
 pub room_more_made : (cs : Changes) (i : ℕ) (x : ℕ × Option Content) (old new : Rooms) → i < length cs → x ≡ get_or cs i x
@@ -82,7 +56,7 @@ pub room_more_made : (cs : Changes) (i : ℕ) (x : ℕ × Option Content) (old n
     → ((k : ℕ) (d : ℕ × Option Content) → k < i → HasRoomFor old (get_or cs k d))
     → (k : ℕ) (d : ℕ × Option Content) → k < i + 1 → HasRoomFor new (get_or cs k d)
 room_more_made cs i x old new m is kept here h =
-    λ k d l. ⊎_elim (λ p. subst (λ (j : ℕ). HasRoomFor new (get_or cs j d)) (sym p) (subst (λ (y : ℕ × Option Content). HasRoomFor new y) (is ∙ same_element cs i x d m) here))
+    λ k d l. ⊎_elim (λ p. subst (λ (j : ℕ). HasRoomFor new (get_or cs j d)) (sym p) (subst (λ (y : ℕ × Option Content). HasRoomFor new y) (is ∙ get_or_default cs i x d m) here))
     (λ apart n. h k d (omega arith) (kept (get_or cs k d).0 n)) (cases_eq k i)
 
 -- after the i-th change was exchanged
@@ -104,7 +78,7 @@ brought_more made made' all cs i d v l e h =
     ap (λ (xs : Changes). xs ++ map change_without_empty (drop (i + 1) (set cs i v))) e
     ∙ append_assoc made (x ∷ []) (map change_without_empty (drop (i + 1) (set cs i v)))
     ∙ ap (λ (xs : Changes). made ++ x ∷ map change_without_empty xs) (drop-set-lt (i + 1) cs i v (omega arith))
-    ∙ ap (λ (xs : Changes). made ++ map change_without_empty xs) (sym (drop_at cs i d l)) ∙ h
+    ∙ ap (λ (xs : Changes). made ++ map change_without_empty xs) (sym (drop_more cs i d l)) ∙ h
 
 -- ---- the sheet
 
@@ -115,7 +89,7 @@ pub edited_more : (s s' t : Sheet) (cs : Changes) (i : ℕ) (d v : ℕ × Option
 edited_more s s' t cs i d v l e h =
     ap (λ (z : Sheet). edited z (drop (i + 1) (set cs i v))) e
     ∙ ap (λ (xs : Changes). edited (with_content s (get_or cs i d).0 (get_or cs i d).1) xs) (drop-set-lt (i + 1) cs i v (omega arith))
-    ∙ ap (λ (xs : Changes). edited s xs) (sym (drop_at cs i d l)) ∙ h
+    ∙ ap (λ (xs : Changes). edited s xs) (sym (drop_more cs i d l)) ∙ h
 
 pub stood_more : (s s' : Sheet) (t cs : Changes) (i : ℕ) (d : ℕ × Option Content) (o : Option Content) → i < length cs
     → s' ≡ with_content s (get_or cs i d).0 (get_or cs i d).1
@@ -129,7 +103,7 @@ stood_more s s' t cs i d o l e f h =
     ∙ ap (λ (xs : Changes). take i cs ++ v ∷ stood s' xs) (drop-set-lt (i + 1) cs i v (omega arith))
     ∙ ap (λ (z : Sheet). take i cs ++ v ∷ stood z (drop (i + 1) cs)) e
     ∙ ap (λ (p : Option Content). take i cs ++ ((get_or cs i d).0, p) ∷ stood (with_content s (get_or cs i d).0 (get_or cs i d).1) (drop (i + 1) cs)) f
-    ∙ ap (λ (xs : Changes). take i cs ++ stood s xs) (sym (drop_at cs i d l)) ∙ h
+    ∙ ap (λ (xs : Changes). take i cs ++ stood s xs) (sym (drop_more cs i d l)) ∙ h
 
 restored-push : (s : Sheet) (xs : Changes) (x : ℕ × Option Content) → restored s (xs ++ x ∷ []) ≡ restored (with_content s x.0 x.1) xs
 restored-push s [] x = refl

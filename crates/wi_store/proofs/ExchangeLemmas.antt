@@ -8,7 +8,7 @@ use Rattle.std.proofs.lemmas.Bool.{cases_order, cases_eq, eq-eqb}
 use Rattle.std.proofs.lemmas.Map.{keys-set_value, length-set_value}
 use Rattle.std.specs.List.Sorted.{IsStrictlySortedBy}
 use Rattle.std.proofs.lemmas.Bool.Decides.{nat_tests}
-use Rattle.wi_values.proofs.Order.{ComeAfter, Ascends, Ascends-from_order, order-from_Ascends, Ascends-filter, Ascends-insert, cmp_before, cmp_equal, cmp_after, come_after_earlier, at_same, at_itself, at_earlier, lookup_after}
+use Rattle.wi_values.proofs.Order.{ComeAfter, Ascends, Ascends-from_order, order-from_Ascends, Ascends-filter, Ascends-insert, cmp_before, cmp_equal, cmp_after, come_after_earlier, at_same, at_itself, at_earlier, lookup_after, at_other, Ascends-remove}
 use Rattle.wi_parser.specs.Sheet.{Sheet, content_of, without, with_content}
 use Rattle.wi_parser.specs.declared.content.Content.{Content}
 use Rattle.wi_store.specs.Store.{edited}
@@ -196,9 +196,6 @@ length-with_content a o (e ∷ es) h =
 
 -- ---- rooms before and after
 
-is_at_apart : (a q : ℕ) → (q ≡ a → ⊥) → is_at (nat_cmp a) q ≡ false
-is_at_apart a q h = grind (arith, nat_tests)
-
 -- two tests that don't both hold, in either order
 either_first : {X : Type 0} (b c : Bool) (x y z : X) → (b ≡ true → c ≡ true → ⊥) → cond c y (cond b x z) ≡ cond b x (cond c y z)
 either_first true true x y z n = absurd (n refl refl)
@@ -249,7 +246,7 @@ room_of-put a q o (e ∷ es) n = at (is_at (nat_cmp a) e.0) refl (room_of-put a 
     at : (b : Bool) → is_at (nat_cmp a) e.0 ≡ b → room_of (set_value (is_at (nat_cmp a)) es o) q ≡ room_of es q
         → room_of (cond b ((e.0, o) ∷ es) (e ∷ set_value (is_at (nat_cmp a)) es o)) q ≡ room_of (e ∷ es) q
     at true k ih =
-        let other : is_at (nat_cmp q) e.0 ≡ false = is_at_apart q e.0 (λ p. n (sym p ∙ at_same a e.0 k)) in
+        let other : is_at (nat_cmp q) e.0 ≡ false = at_other q e.0 (λ p. n (sym p ∙ at_same a e.0 k)) in
         ap (λ (b : Bool). cond b (Some o) (room_of es q)) other ∙ sym (ap (λ (b : Bool). cond b (Some e.1) (room_of es q)) other)
     at false k ih = ap (λ (x : Option (Option Content)). cond (is_at (nat_cmp q) e.0) (Some e.1) x) ih
 
@@ -278,27 +275,11 @@ put_nowhere a o (e ∷ es) h = at (is_at (nat_cmp a) e.0) h (put_nowhere a o es)
     at false h ih = ap (λ (r : Rooms). e ∷ r) (ih h)
 
 -- rooms stay in order
-ComeAfter-release : (b a : ℕ) (rooms : Rooms) → ComeAfter b rooms → ComeAfter b (remove_entry (is_at (nat_cmp a)) rooms)
-ComeAfter-release b a [] h = tt
-ComeAfter-release b a (e ∷ es) h = at (is_at (nat_cmp a) e.0) (ComeAfter-release b a es h.1)
-  where
-    at : (t : Bool) → ComeAfter b (remove_entry (is_at (nat_cmp a)) es) → ComeAfter b (cond t es (e ∷ remove_entry (is_at (nat_cmp a)) es))
-    at true ih = h.1
-    at false ih = (h.0, ih)
-
-Ascends-release : (a : ℕ) (rooms : Rooms) → Ascends rooms → Ascends (remove_entry (is_at (nat_cmp a)) rooms)
-Ascends-release a [] h = tt
-Ascends-release a (e ∷ es) h = at (is_at (nat_cmp a) e.0) (Ascends-release a es h.1)
-  where
-    at : (t : Bool) → Ascends (remove_entry (is_at (nat_cmp a)) es) → Ascends (cond t es (e ∷ remove_entry (is_at (nat_cmp a)) es))
-    at true ih = h.1
-    at false ih = (ComeAfter-release e.0 a es h.0, ih)
-
 order_made : (a : ℕ) (o : Option Content) (rooms : Rooms) → RoomsAreInOrder rooms → RoomsAreInOrder (insert_entry nat_cmp rooms a o)
 order_made a o rooms h = order-from_Ascends _ (Ascends-insert a o rooms (Ascends-from_order rooms h))
 
 order_released : (a : ℕ) (rooms : Rooms) → RoomsAreInOrder rooms → RoomsAreInOrder (remove_entry (is_at (nat_cmp a)) rooms)
-order_released a rooms h = order-from_Ascends _ (Ascends-release a rooms (Ascends-from_order rooms h))
+order_released a rooms h = order-from_Ascends _ (Ascends-remove a rooms (Ascends-from_order rooms h))
 
 order_put : (a : ℕ) (o : Option Content) (rooms : Rooms) → RoomsAreInOrder rooms → RoomsAreInOrder (set_value (is_at (nat_cmp a)) rooms o)
 order_put a o rooms h = subst (λ (cs : List ℕ). IsStrictlySortedBy nat_cmp cs) (sym (keys-set_value (is_at (nat_cmp a)) rooms o)) h
@@ -321,7 +302,7 @@ nothing_put a o rooms h n e = rw e (sym (without-nothing a (sheet_in rooms) (Asc
 
 -- a room that is vacant after one was made is that one, or was so before
 vacancy_made : (a q : ℕ) (w : Option Content) (x y : Option (Option Content)) → x ≡ cond (is_at (nat_cmp a) q) (Some w) y → x ≡ Some None → (q ≡ a) ⊎ (y ≡ Some None)
-vacancy_made a q w x y e h = ⊎_elim (λ p. inl p) (λ apart. inr (sym (rw (is_at_apart a q apart) at e) ∙ h)) (cases_eq q a)
+vacancy_made a q w x y e h = ⊎_elim (λ p. inl p) (λ apart. inr (sym (rw (at_other a q apart) at e) ∙ h)) (cases_eq q a)
 
 -- a content put in the place of what stands in a cell's room, or none put where there is no room
 pub sheet_in-put : (a : ℕ) (o : Option Content) (old new : Rooms) → RoomsAreInOrder old → HasRoomFor old (a, o) → new ≡ set_value (is_at (nat_cmp a)) old o → sheet_in new ≡ with_content (sheet_in old) a o

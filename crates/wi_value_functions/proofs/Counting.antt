@@ -1,7 +1,7 @@
 -- One character after another comes off the front of a text.
-use Rattle.std.proofs.Common.{◌≡◌, refl, sym, ap, subst, ◌∙◌, ℕ, zero, suc, ◌+◌, ◌-◌, ◌≤◌, List, [], ◌∷◌, ◌++◌, take, drop, length, length-append, chars, arith, ⊎_elim}
+use Rattle.std.proofs.Common.{◌≡◌, sym, ap, subst, ◌∙◌, ℕ, ◌+◌, ◌-◌, ◌≤◌, List, [], ◌∷◌, ◌++◌, take, drop, length, length-append, chars, arith, ⊎_elim}
 use Rattle.std.proofs.lemmas.Bool.{cases_lt}
-use Rattle.std.proofs.lemmas.List.{append_assoc, append_cancel_right, take-append-drop}
+use Rattle.std.proofs.lemmas.List.{append_assoc, append_cancel_right, take-append-drop, drop_all}
 use Rattle.std.proofs.lemmas.Str.{IsUtf8-past_char, IsUtf8-take, chars_past_char, chars-nil, chars-append, length-le-encodes, encodes-chars, IsCharBoundary-at_seam}
 use Rattle.std.proofs.Math.Nat.{sub-add-min_cancel}
 use Rattle.std.proofs.Math.Seq.{drop-drop, take-append_seam}
@@ -58,12 +58,6 @@ advance {S} rest text i s t None inv m =
 advance {S} rest text i s t (Some c) inv m =
     (past_one (rest s) (rest t) (chars text) c i inv.1 inv.0 m, IsUtf8-past_char (rest s) (rest t) c inv.1 m, further text (rest s) (rest t) c inv.2 m)
 
-past_all : (cs : List ℕ) (n : ℕ) → length cs ≤ n → drop n cs ≡ []
-past_all [] zero h = refl
-past_all [] (suc n) h = refl
-past_all (c ∷ cs) zero h = absurd (omega arith)
-past_all (c ∷ cs) (suc n) h = past_all cs n (omega arith)
-
 -- no text has more characters than bytes
 pub few_chars : (bs : List ℕ) → IsUtf8 bs → length (chars bs) ≤ length bs
 few_chars bs u = omega (arith, length-le-encodes (chars bs), ap length (encodes-chars bs u))
@@ -73,6 +67,6 @@ at_end bs count i u e =
     let m = sub-add-min_cancel count (length bs) in
     let few = few_chars bs u in
     ⊎_elim
-    (λ l. past_all (chars bs) i (omega arith) ∙ sym (past_all (chars bs) count (omega arith)))
+    (λ l. drop_all i (chars bs) (omega arith) ∙ sym (drop_all count (chars bs) (omega arith)))
     (λ l. let k : i ≡ count = omega arith in ap (λ n. drop n (chars bs)) k)
     (cases_lt (length bs) count)

@@ -1,14 +1,9 @@
 -- A rectangle's corners may stand in any order.
-use Rattle.std.proofs.Common.{◌≡◌, ℕ, ◌<◌, min, max, true, nat_le, ◌&&◌, arith}
+use Rattle.std.proofs.Common.{◌≡◌, ℕ, min, max, true, nat_le, ◌&&◌, arith}
 use Rattle.std.proofs.lemmas.Bool.Decides.{nat_tests}
-use Rattle.wi_values.specs.Address.{columns, place, row_of, column_of, rect_of, is_within}
+use Rattle.wi_values.specs.Address.{row_of, column_of, rect_of, is_within}
 use Rattle.wi_values.specs.Laws.{CornersMayTurn}
-
-row_of_place : (r c : ℕ) → c < columns → row_of (place r c) ≡ r
-row_of_place r c h = omega arith
-
-column_of_place : (r c : ℕ) → c < columns → column_of (place r c) ≡ c
-column_of_place r c h = omega arith
+use Rattle.wi_values.proofs.Within.{row_of_place, column_of_place}
 
 turned : (a b : ℕ) → rect_of a b ≡ rect_of b a
 turned a b =

@@ -2,9 +2,12 @@ pub mod Corners
 pub mod Equal
 pub mod Fields
 pub mod Imports
+pub mod Keys
 pub mod Letters
+pub mod Lists
 pub mod Lookups
 pub mod Order
+pub mod Outcomes
 pub mod ReadsBack
 pub mod Replacements
 pub mod Spelling

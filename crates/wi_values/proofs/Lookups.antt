@@ -13,17 +13,18 @@ apart : (q c k : ℕ) → nat_cmp c k ≡ Greater → (q == c) ≡ true → is_a
 apart q c k h a b = grind (arith, nat_tests)
 
 module _ {X : Type 0} where
-  shadow : (b d : Bool) (x y z : Option X) → d ≡ b → cond d x z ≡ cond b x (cond d y z)
-  shadow true true x y z h = refl
-  shadow false false x y z h = refl
-  shadow true false x y z h = cc
-  shadow false true x y z h = cc
+  -- two tests that say the same, and two that don't both hold
+  pub cond_again : (b d : Bool) (x y z : Option X) → d ≡ b → cond d x z ≡ cond b x (cond d y z)
+  cond_again true true x y z h = refl
+  cond_again false false x y z h = refl
+  cond_again true false x y z h = cc
+  cond_again false true x y z h = cc
 
-  swap : (b d : Bool) (x y z r : Option X) → (b ≡ true → d ≡ true → ⊥) → r ≡ cond b x z → cond d y r ≡ cond b x (cond d y z)
-  swap true true x y z r h e = absurd (h refl refl)
-  swap true false x y z r h e = e
-  swap false true x y z r h e = refl
-  swap false false x y z r h e = e
+  pub cond_apart : (b d : Bool) (x y z r : Option X) → (b ≡ true → d ≡ true → ⊥) → r ≡ cond b x z → cond d y r ≡ cond b x (cond d y z)
+  cond_apart true true x y z r h e = absurd (h refl refl)
+  cond_apart true false x y z r h e = e
+  cond_apart false true x y z r h e = refl
+  cond_apart false false x y z r h e = e
 
   -- an insertion at one place of the order
   insert_at : (q c : ℕ) (x : X) (e : ℕ × X) (es : List (ℕ × X)) (o : Ordering) → nat_cmp c e.0 ≡ o →
@@ -31,9 +32,9 @@ module _ {X : Type 0} where
       lookup (is_at (nat_cmp q)) (match_ordering o ((c, x) ∷ e ∷ es) ((e.0, x) ∷ es) (e ∷ insert_entry nat_cmp es c x)) ≡ cond (q == c) (Some x) (lookup (is_at (nat_cmp q)) (e ∷ es))
   insert_at q c x e es Less h ih = ap (λ (b : Bool). cond b (Some x) (lookup (is_at (nat_cmp q)) (e ∷ es))) (is_at-eq q c)
   insert_at q c x e es Equal h ih =
-      shadow (q == c) (is_at (nat_cmp q) e.0) (Some x) (Some e.1) (lookup (is_at (nat_cmp q)) es) (is_at-eq q e.0 ∙ ap (λ (k : ℕ). q == k) (sym (same_from_Equal c e.0 h)))
+      cond_again (q == c) (is_at (nat_cmp q) e.0) (Some x) (Some e.1) (lookup (is_at (nat_cmp q)) es) (is_at-eq q e.0 ∙ ap (λ (k : ℕ). q == k) (sym (same_from_Equal c e.0 h)))
   insert_at q c x e es Greater h ih =
-      swap (q == c) (is_at (nat_cmp q) e.0) (Some x) (Some e.1) (lookup (is_at (nat_cmp q)) es) _ (apart q c e.0 h) ih
+      cond_apart (q == c) (is_at (nat_cmp q) e.0) (Some x) (Some e.1) (lookup (is_at (nat_cmp q)) es) _ (apart q c e.0 h) ih
 
   pub found-insert : (es : List (ℕ × X)) (c : ℕ) (x : X) (q : ℕ) → lookup (is_at (nat_cmp q)) (insert_entry nat_cmp es c x) ≡ cond (q == c) (Some x) (lookup (is_at (nat_cmp q)) es)
   found-insert [] c x q = ap (λ (b : Bool). cond b (Some x) None) (is_at-eq q c)

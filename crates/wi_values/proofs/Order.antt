@@ -7,7 +7,7 @@ use Rattle.std.specs.List.Sorted.{IsStrictlySortedBy}
 use Rattle.std.specs.Ordering.{nat_cmp, match_ordering}
 use Rattle.std.specs.declared.cmp.Ordering.{Ordering}
 use Rattle.std.specs.declared.cmp.Ordering.TheVariants.{Less, Equal, Greater}
-use Rattle.std.specs.Map.{lookup, keys_of}
+use Rattle.std.specs.Map.{lookup, keys_of, remove_entry}
 use Rattle.std.specs.BTreeMap.{is_at, insert_entry}
 
 -- ---- how two numbers compare
@@ -49,6 +49,9 @@ at_same a x h = grind (arith, nat_tests)
 
 pub at_itself : (a : ℕ) → is_at (nat_cmp a) a ≡ true
 at_itself a = grind (arith, nat_tests)
+
+pub at_other : (a x : ℕ) → (x ≡ a → ⊥) → is_at (nat_cmp a) x ≡ false
+at_other a x h = grind (arith, nat_tests)
 
 pub at_later : (a b : ℕ) → a < b → is_at (nat_cmp a) b ≡ false
 at_later a b h = grind (arith, nat_tests)
@@ -112,6 +115,22 @@ module _ {X : Type 0} where
       at : (b : Bool) → Ascends (filter p es) → Ascends (cond b (e ∷ filter p es) (filter p es))
       at true ih = (ComeAfter-filter p e.0 es h.0, ih)
       at false ih = ih
+
+  pub ComeAfter-remove : (a k : ℕ) (es : List (ℕ × X)) → ComeAfter a es → ComeAfter a (remove_entry (is_at (nat_cmp k)) es)
+  ComeAfter-remove a k [] h = tt
+  ComeAfter-remove a k (e ∷ es) h = at (is_at (nat_cmp k) e.0) (ComeAfter-remove a k es h.1)
+    where
+      at : (b : Bool) → ComeAfter a (remove_entry (is_at (nat_cmp k)) es) → ComeAfter a (cond b es (e ∷ remove_entry (is_at (nat_cmp k)) es))
+      at true ih = h.1
+      at false ih = (h.0, ih)
+
+  pub Ascends-remove : (k : ℕ) (es : List (ℕ × X)) → Ascends es → Ascends (remove_entry (is_at (nat_cmp k)) es)
+  Ascends-remove k [] h = tt
+  Ascends-remove k (e ∷ es) h = at (is_at (nat_cmp k) e.0) (Ascends-remove k es h.1)
+    where
+      at : (b : Bool) → Ascends (remove_entry (is_at (nat_cmp k)) es) → Ascends (cond b es (e ∷ remove_entry (is_at (nat_cmp k)) es))
+      at true ih = h.1
+      at false ih = (ComeAfter-remove e.0 k es h.0, ih)
 
   pub ComeAfter-insert : (a c : ℕ) (x : X) (es : List (ℕ × X)) → a < c → ComeAfter a es → ComeAfter a (insert_entry nat_cmp es c x)
   ComeAfter-insert a c x [] l h = (l, tt)

@@ -63,14 +63,14 @@ column_some n = subst (λ ls. 0 < length ls) (letters_of_column n) (letters_some
 column_value : (n : ℕ) → n < columns → letters_value (column_letters n) ≡ n + 1
 column_value n h = sym (letters_from_none (column_letters n)) ∙ ap (letters_value_after 0) (sym (letters_of_column n)) ∙ value_within 3 (n + 1) (omega arith)
 
-scan : (cs rest : List ℕ) → list_all is_ascii_alphabetic cs ≡ true → prefix_len is_ascii_alphabetic rest ≡ 0 → prefix_len is_ascii_alphabetic (cs ++ rest) ≡ length cs
+pub scan : (cs rest : List ℕ) → list_all is_ascii_alphabetic cs ≡ true → prefix_len is_ascii_alphabetic rest ≡ 0 → prefix_len is_ascii_alphabetic (cs ++ rest) ≡ length cs
 scan [] rest h e = e
 scan (c ∷ cs) rest h e =
     let first : is_ascii_alphabetic c ≡ true = search (rules, tests) in
     let others : list_all is_ascii_alphabetic cs ≡ true = search (rules, tests) in
     rw (first, scan cs rest others e) (omega arith)
 
-no_letters : (ds : List ℕ) → all_ascii_digits ds ≡ true → prefix_len is_ascii_alphabetic ds ≡ 0
+pub no_letters : (ds : List ℕ) → all_ascii_digits ds ≡ true → prefix_len is_ascii_alphabetic ds ≡ 0
 no_letters [] h = refl
 no_letters (d ∷ ds) h =
     let first : is_ascii_digit d ≡ true = search (rules, tests) in

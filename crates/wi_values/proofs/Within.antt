@@ -1,22 +1,46 @@
 -- Where the cells of a rectangle stand in row-major order, and how many are left to search.
 use Rattle.std.proofs.Common.{◌≡◌, ◌&&◌, ℕ, ◌+◌, ◌-◌, ◌<◌, ◌≤◌, true, Option, Some, None, IfSome, arith}
 use Rattle.std.specs.Prelude.{nat_le}
-use Rattle.std.proofs.lemmas.Bool.{and_parts, leb-true}
-use Rattle.wi_values.specs.Address.{Area, row_of, column_of, is_within}
+use Rattle.std.proofs.lemmas.Bool.{and_from, and_parts, leb-true, le-leb}
+use Rattle.wi_values.specs.Address.{Area, columns, place, row_of, column_of, is_within}
 
--- the cells of a rectangle come at or after its first, and at or before its last
-pub within_between : (r : Area) (a : ℕ) → is_within r a ≡ true → (r.first ≤ a) × (a ≤ r.last)
-within_between r a h =
+-- ---- a cell's row and column
+
+pub row_of_place : (r c : ℕ) → c < columns → row_of (place r c) ≡ r
+row_of_place r c h = omega arith
+
+pub column_of_place : (r c : ℕ) → c < columns → column_of (place r c) ≡ c
+column_of_place r c h = omega arith
+
+pub column_within : (a : ℕ) → column_of a < columns
+column_within a = omega arith
+
+-- ---- the cells of a rectangle
+
+pub within_parts : (r : Area) (a : ℕ) → is_within r a ≡ true → (row_of r.first ≤ row_of a) × (row_of a ≤ row_of r.last) × (column_of r.first ≤ column_of a) × (column_of a ≤ column_of r.last)
+within_parts r a h =
     let p = and_parts (nat_le (row_of r.first) (row_of a) && nat_le (row_of a) (row_of r.last)) _ h in
     let rows = and_parts (nat_le (row_of r.first) (row_of a)) _ p.0 in
     let cols = and_parts (nat_le (column_of r.first) (column_of a)) _ p.1 in
-    let above = leb-true _ _ rows.0 in
-    let below = leb-true _ _ rows.1 in
-    let left = leb-true _ _ cols.0 in
-    let right = leb-true _ _ cols.1 in
+    (leb-true _ _ rows.0, leb-true _ _ rows.1, leb-true _ _ cols.0, leb-true _ _ cols.1)
+
+pub within_from : (r : Area) (a : ℕ) → row_of r.first ≤ row_of a → row_of a ≤ row_of r.last → column_of r.first ≤ column_of a → column_of a ≤ column_of r.last → is_within r a ≡ true
+within_from r a above below left right =
+    and_from (nat_le (row_of r.first) (row_of a) && nat_le (row_of a) (row_of r.last)) _ (and_from (nat_le (row_of r.first) (row_of a)) _ (le-leb _ _ above) (le-leb _ _ below))
+    (and_from (nat_le (column_of r.first) (column_of a)) _ (le-leb _ _ left) (le-leb _ _ right))
+
+-- they come at or after its first, and at or before its last
+pub within_between : (r : Area) (a : ℕ) → is_within r a ≡ true → (r.first ≤ a) × (a ≤ r.last)
+within_between r a h =
+    let p = within_parts r a h in
+    let above = p.0 in
+    let below = p.1 in
+    let left = p.2 in
+    let right = p.3 in
     (omega arith, omega arith)
 
--- how many places there are from this one to the last
+-- ---- how many places there are from this one to the last
+
 abbrev pub places_left : Area → Option ℕ → ℕ
 places_left r None = 0
 places_left r (Some a) = (r.last + 1) - a

@@ -1,16 +1,10 @@
 -- Some of the replacements, by their count.
-use Rattle.std.proofs.Common.{◌≡◌, ◌∙◌, suc, refl, subst, arith, ◌≤◌, Bool, true, false, cond, List, [], ◌∷◌, Result, Ok, Err, IfOk, filter, length, ap}
+use Rattle.std.proofs.Common.{◌≡◌, ◌∙◌, suc, refl, subst, arith, Bool, true, false, cond, List, [], ◌∷◌, Result, Ok, Err, IfOk, filter, length, ap}
+use Rattle.std.proofs.lemmas.List.{nil_from_length}
 use Rattle.wi_values.specs.declared.replacement.Replacement.{Replacement}
+use Rattle.wi_values.proofs.Lists.{keeps_few}
 
 -- where as many are kept as there are, all are, and where none are counted, none is
-kept_at_most : (p : Replacement → Bool) (rs : List Replacement) → length (filter p rs) ≤ length rs
-kept_at_most p [] = omega arith
-kept_at_most p (r ∷ rs) = by (p r) (kept_at_most p rs)
-  where
-    by : (b : Bool) → length (filter p rs) ≤ length rs → length (cond b (r ∷ filter p rs) (filter p rs)) ≤ suc (length rs)
-    by true h = omega (arith, h)
-    by false h = omega (arith, h)
-
 whole : (p : Replacement → Bool) (rs : List Replacement) → length (filter p rs) ≡ length rs → filter p rs ≡ rs
 whole p [] h = refl
 whole p (r ∷ rs) h = by (p r) (whole p rs) h
@@ -18,17 +12,13 @@ whole p (r ∷ rs) h = by (p r) (whole p rs) h
     by : (b : Bool) → (length (filter p rs) ≡ length rs → filter p rs ≡ rs)
         → length (cond b (r ∷ filter p rs) (filter p rs)) ≡ suc (length rs) → cond b (r ∷ filter p rs) (filter p rs) ≡ r ∷ rs
     by true more e = ap (λ (xs : List Replacement). r ∷ xs) (more (omega (arith, e)))
-    by false more e = absurd (omega (arith, e, kept_at_most p rs))
-
-nothing : (xs : List Replacement) → length xs ≡ 0 → xs ≡ []
-nothing [] h = refl
-nothing (x ∷ xs) h = absurd (omega (arith, h))
+    by false more e = absurd (omega (arith, e, keeps_few p rs))
 
 pub filter_whole : (p : Replacement → Bool) (seen rs : List Replacement) → seen ≡ rs → length (filter p seen) ≡ length seen → filter p rs ≡ rs
 filter_whole p seen rs same h = whole p rs (subst (λ (xs : List Replacement). length (filter p xs) ≡ length xs) same h)
 
 pub filter_nothing : (p : Replacement → Bool) (seen rs : List Replacement) → seen ≡ rs → length (filter p seen) ≡ 0 → filter p rs ≡ []
-filter_nothing p seen rs same h = nothing (filter p rs) (subst (λ (xs : List Replacement). length (filter p xs) ≡ 0) same h)
+filter_nothing p seen rs same h = nil_from_length (filter p rs) (subst (λ (xs : List Replacement). length (filter p xs) ≡ 0) same h)
 
 -- what is made of them
 pub made_of : {E : Type 0} (p : Replacement → Bool) (rs kept : List Replacement) (r : Result (List Replacement) E)

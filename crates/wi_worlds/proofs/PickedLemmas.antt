@@ -3,6 +3,7 @@ use Rattle.std.proofs.Common.{◌≡◌, ◌==◌, ◌||◌, ℕ, Bool, true, fa
 use Rattle.std.specs.Option.{option_map}
 use Rattle.std.specs.List.Sorted.{IsStrictlyIncreasing}
 use Rattle.std.proofs.lemmas.List.Kept.{IsStrictlyIncreasing-filter}
+use Rattle.std.proofs.lemmas.Bool.{eqb-true}
 use Rattle.wi_values.specs.declared.value.Value.{Value}
 use Rattle.wi_values.specs.declared.replacement.Replacement.{Replacement}
 use Rattle.wi_values.specs.Replacements.{IsInOrder, replaced}
@@ -11,7 +12,6 @@ use Rattle.wi_values.proofs.Replacements.InOrder.{same_from_replaced}
 use Rattle.wi_values.proofs.Replacements.Filtering.{order_of_filter, replaced-filter}
 use Rattle.wi_worlds.specs.Reached.{has_cell, is_of}
 use Rattle.wi_worlds.specs.Inner.Picked.{and_then, picked}
-use Rattle.wi_worlds.proofs.TellSteps.{same_cell}
 
 abbrev of_value : ℕ → Option Value → Option Replacement
 of_value c o = option_map (λ v. record { at = c; value = v }) o
@@ -37,7 +37,7 @@ replaced_picked rs [] a = refl
 replaced_picked rs (c ∷ cs) a = by (replaced rs c) refl (c == a) refl (replaced_picked rs cs a)
   where
     there : (c == a) ≡ true → replaced rs a ≡ replaced rs c
-    there t = ap (replaced rs) (sym (same_cell c a t))
+    there t = ap (replaced rs) (sym (eqb-true c a t))
 
     at_front : (v : Value) (b : Bool) → (c == a) ≡ b → replaced (and_then (of_value c (Some v)) (picked rs cs)) a ≡ cond b (Some v) (replaced (picked rs cs) a)
     at_front v b t = ap (λ (s : Bool). cond s (Some v) (replaced (picked rs cs) a)) (is_at-eq a c ∙ turn_test a c ∙ t)

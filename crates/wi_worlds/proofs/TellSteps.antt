@@ -1,18 +1,14 @@
 -- What is told of cells: one pair more, and a list of them.
-use Rattle.std.proofs.Common.{◌≡◌, ◌==◌, ◌<◌, ◌+◌, ◌&&◌, ◌||◌, ◌⊎◌, inl, inr, ℕ, Bool, true, false, cond, List, [], ◌∷◌, length, take, drop, get_or, Option, Some, None, nat_eq, refl, sym, ap, ◌∙◌, subst, arith, add-one}
+use Rattle.std.proofs.Common.{◌≡◌, ◌==◌, ◌<◌, ◌+◌, ◌&&◌, ◌||◌, ◌⊎◌, inl, inr, ℕ, Bool, true, false, cond, List, [], ◌∷◌, length, take, drop, get_or, Option, Some, None, nat_eq, refl, sym, ap, ◌∙◌, subst, add-one}
 use Rattle.std.specs.Map.{lookup}
 use Rattle.std.specs.Option.{unwrap_or}
 use Rattle.std.proofs.Math.Bool.{or-false}
 use Rattle.std.proofs.Math.Seq.{take-suc}
-use Rattle.std.proofs.lemmas.Bool.{or_cases, or_left, or_right, and_parts, false≢true}
-use Rattle.std.proofs.lemmas.Bool.Decides.{nat_tests}
+use Rattle.std.proofs.lemmas.Bool.{or_cases, or_left, or_right, and_parts, false≢true, eqb-true}
 use Rattle.std.proofs.lemmas.List.{take-append-drop}
 use Rattle.std.proofs.lemmas.List.Folds.{list_any-append}
 use Rattle.wi_values.proofs.Order.{is_itself}
 use Rattle.wi_worlds.specs.Reached.{has_cell, Told, told, told_cells, AddsOf}
-
-pub same_cell : (x y : ℕ) → (x == y) ≡ true → x ≡ y
-same_cell x y t = grind (arith, nat_tests, t)
 
 -- ---- at one cell
 
@@ -27,7 +23,7 @@ module _ (cell : ℕ) (v w : List ℕ) (es fs : Told) (old : told_cells es cell 
       by false = refl
 
   old_there : (c b : ℕ) → nat_eq cell c ≡ true → told es c b ≡ has_cell v b
-  old_there c b t = ap (λ (q : ℕ). told es q b) (sym (same_cell cell c t)) ∙ ap (λ (xs : List ℕ). has_cell xs b) old
+  old_there c b t = ap (λ (q : ℕ). told es q b) (sym (eqb-true cell c t)) ∙ ap (λ (xs : List ℕ). has_cell xs b) old
 
   -- with a cell more
   pub told_more : (a : ℕ) → ((b : ℕ) → has_cell w b ≡ ((a == b) || has_cell v b)) → (c b : ℕ) → told fs c b ≡ (((cell == c) && (a == b)) || told es c b)
@@ -103,7 +99,7 @@ told_next a i x cells old mid new l e h put = record {
     last c k = has_next_more cells i x c l e ∙ or_right _ _ k
 
     came : (c b : ℕ) → (((x == c) && (a == b)) ≡ true) ⊎ (told mid c b ≡ true) → (told old c b ≡ true) ⊎ ((has_cell (take (i + 1) cells) c ≡ true) × (b ≡ a))
-    came c b (inl k) = let p = and_parts (x == c) (a == b) k in inr (last c p.0, sym (same_cell a b p.1))
+    came c b (inl k) = let p = and_parts (x == c) (a == b) k in inr (last c p.0, sym (eqb-true a b p.1))
     came c b (inr k) = earlier (h.adds.within c b k)
       where
         earlier : (told old c b ≡ true) ⊎ ((has_cell (take i cells) c ≡ true) × (b ≡ a)) → (told old c b ≡ true) ⊎ ((has_cell (take (i + 1) cells) c ≡ true) × (b ≡ a))

@@ -3,6 +3,7 @@ use Rattle.std.proofs.Common.{◌≡◌, ℕ, suc, ◌+◌, ◌-◌, ◌*◌, �
 use Rattle.std.proofs.Math.Seq.{take-append_seam, drop-append_seam}
 use Rattle.std.proofs.lemmas.Bool.Decides.{nat_tests}
 use Rattle.std.proofs.lemmas.List.{take-append-drop}
+use Rattle.std.proofs.lemmas.Bool.{both_ways}
 use Rattle.std.proofs.lemmas.List.Folds.{length-prefix_len}
 use Rattle.std.specs.Char.{is_ascii_alphabetic, is_ascii_digit, digit_value}
 use Rattle.std.specs.List.{list_all, prefix_len}
@@ -12,24 +13,10 @@ use Rattle.wi_values.specs.Address.{columns, rows, place, letters_value, is_row_
 use Rattle.wi_values.specs.AddressReading.{cell_at, address_at, read_address}
 use Rattle.wi_values.specs.declared.address.AddressFault.TheVariants.{Shape, Outside}
 use Rattle.wi_values.proofs.Spelling.{letters_above_zero}
+use Rattle.wi_values.proofs.ReadsBack.{scan, no_letters}
 use Rattle.wi_cli.specs.Operands.{Cell, is_outside, address, IsAddr, addr}
 use Rattle.wi_cli.specs.Lines.{Bytes}
 use Rattle.wi_cli.specs.Laws.{read_by, read_cell, SameAddr}
-use Rattle.wi_cli.proofs.Ties.Tables.{clash}
-
-scan : (cs rest : Bytes) → list_all is_ascii_alphabetic cs ≡ true → prefix_len is_ascii_alphabetic rest ≡ 0 → prefix_len is_ascii_alphabetic (cs ++ rest) ≡ length cs
-scan [] rest h e = e
-scan (c ∷ cs) rest h e =
-    let first : is_ascii_alphabetic c ≡ true = search (rules, tests) in
-    let others : list_all is_ascii_alphabetic cs ≡ true = search (rules, tests) in
-    rw (first, scan cs rest others e) (omega arith)
-
-no_letters : (ds : Bytes) → all_ascii_digits ds ≡ true → prefix_len is_ascii_alphabetic ds ≡ 0
-no_letters [] h = refl
-no_letters (d ∷ ds) h =
-    let first : is_ascii_digit d ≡ true = search (rules, tests) in
-    let other : is_ascii_alphabetic d ≡ false = grind (arith, nat_tests) in
-    rw other
 
 pub all_digits : (ds : Bytes) → is_row_number ds ≡ true → all_ascii_digits ds ≡ true
 all_digits ds h = search (rules, tests)
@@ -77,7 +64,7 @@ more_digits n [] h = h
 more_digits n (d ∷ ds) h = more_digits (n * 10 + digit_value d) ds (omega (arith, h))
 
 some_digits : (ds : Bytes) → is_row_number ds ≡ true → 0 < digits_value 10 ds
-some_digits [] e = absurd (clash _ refl e)
+some_digits [] e = absurd (both_ways _ refl e)
 some_digits (d ∷ ds) e =
     let all : is_ascii_digit d && all_ascii_digits ds ≡ true = search (rules, tests) in
     let first : is_ascii_digit d ≡ true = search (rules, tests) in

@@ -2,6 +2,7 @@
 use Rattle.std.proofs.Common.{◌≡◌, ◌↔◌, Bool, true, false, ◌||◌, List, [], ◌∷◌, map, filter, ◌⊎◌, inl, inr, None, refl, sym, ap, ◌∙◌}
 use Rattle.std.specs.List.{list_any}
 use Rattle.std.specs.Map.{keys_of}
+use Rattle.std.proofs.lemmas.Bool.{both_ways}
 use Rattle.wi_values.specs.Address.{is_within}
 use Rattle.wi_scenarios.specs.State.{State}
 use Rattle.wi_scenarios.specs.Edits.{edit_answer}
@@ -18,7 +19,13 @@ use Rattle.wi_cli.specs.Step.{Answer, IsStep, causes, IsFirstOf}
 use Rattle.wi_cli.specs.Laws.{SameStep, read_by}
 use Rattle.wi_cli.proofs.Ties.Uniqueness.{answers, outside_step}
 use Rattle.wi_cli.proofs.Ties.EditSteps.{last, edit_step}
-use Rattle.wi_cli.proofs.Ties.Tables.{clash}
+
+-- an edit may be forced: its form has a word more
+pub clear_outside : (force out : Bool) (r : Corners) → (is_outside r.0 || is_outside r.1) ≡ out → list_any lies_outside (form (Clear force r)) ≡ out
+clear_outside true true r o = rw o refl
+clear_outside true false r o = rw o refl
+clear_outside false true r o = rw o refl
+clear_outside false false r o = rw o refl
 
 module _ (s : State) (force : Bool) (r : Corners) where
   abbrev clear : Command
@@ -26,12 +33,6 @@ module _ (s : State) (force : Bool) (r : Corners) where
 
   abbrev puts : List Put
   puts = map (λ a. (a, None)) (filter (is_within (area r)) (keys_of s.stored.sheet))
-
-  outside_is : (f out : Bool) → (is_outside r.0 || is_outside r.1) ≡ out → list_any lies_outside (form (Clear f r)) ≡ out
-  outside_is true true o = rw o refl
-  outside_is true false o = rw o refl
-  outside_is false true o = rw o refl
-  outside_is false false o = rw o refl
 
   none_missing : (f : Bool) → list_any (is_missing s) (form (Clear f r)) ≡ false
   none_missing true = refl
@@ -45,12 +46,12 @@ module _ (s : State) (force : Bool) (r : Corners) where
   module _ (inside : (is_outside r.0 || is_outside r.1) ≡ false) where
     front : (x : Cause) → IsFirstOf s clear last x → IsFirstOf s clear causes x
     front x h =
-        inr (λ k. k, inr (λ k. k, inr (λ k. k, inr (λ k. clash _ (outside_is force false inside) k, inr (λ k. k, inr (λ k. clash _ (none_missing force) k, inr (λ k. k, inr (λ k. k, inr (λ k. k, inr (λ k. k, inr (λ k. k, inr (λ k. k, inr (λ k. k, inr (λ k. k, inr (λ k. k, h)))))))))))))))
+        inr (λ k. k, inr (λ k. k, inr (λ k. k, inr (λ k. both_ways _ (clear_outside force false r inside) k, inr (λ k. k, inr (λ k. both_ways _ (none_missing force) k, inr (λ k. k, inr (λ k. k, inr (λ k. k, inr (λ k. k, inr (λ k. k, inr (λ k. k, inr (λ k. k, inr (λ k. k, inr (λ k. k, h)))))))))))))))
 
     only : (x : Cause) → Holds s x clear → Holds s Stale clear ⊎ (Holds s Full clear ⊎ Holds s EditLimit clear)
-    only Outside h = absurd (clash _ (outside_is force false inside) h)
+    only Outside h = absurd (both_ways _ (clear_outside force false r inside) h)
     only TooLarge h = absurd h
-    only NoScenario h = absurd (clash _ (none_missing force) h)
+    only NoScenario h = absurd (both_ways _ (none_missing force) h)
     only Stale h = inl h
     only Full h = inr (inl h)
     only EditLimit h = inr (inr h)
@@ -63,7 +64,7 @@ module _ (s : State) (force : Bool) (r : Corners) where
   by_place out = (a : Answer) → old.IsStep s (of_operand (read_by out (area r)) (λ at. old.Clear force at)) a ↔ IsStep s clear a
 
   placed : (out : Bool) → (is_outside r.0 || is_outside r.1) ≡ out → by_place out
-  placed true o a = outside_step s clear one_done (λ h. h) (λ h. h) (λ h. h) (outside_is force true o) a
+  placed true o a = outside_step s clear one_done (λ h. h) (λ h. h) (λ h. h) (clear_outside force true r o) a
   placed false o a = answers s clear one_done (edit_answer s force no_cause (record { named = area r ∷ []; contents = puts })) (step o) a
 
   pub same_clear : SameStep s clear

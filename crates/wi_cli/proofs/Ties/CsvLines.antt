@@ -2,7 +2,7 @@
 use Rattle.std.proofs.Common.{◌≡◌, ℕ, ◌<◌, ◌≤◌, Bool, true, false, nat_lt, [], ◌∷◌, length, ◌⊎◌, inl, inr, Option, Some, None, Err, if◌then◌else◌, refl, sym, ap, ◌∙◌, subst, arith, codes, bytes_eq}
 use Rattle.std.proofs.lemmas.Bool.Decides.{nat_tests}
 use Rattle.std.proofs.lemmas.Slice.Eq.{bytes_eq-Decides}
-use Rattle.std.proofs.lemmas.Bool.{ltb-false, le-ltb}
+use Rattle.std.proofs.lemmas.Bool.{ltb-false, le-ltb, both_ways}
 use Rattle.wi_values.specs.AddressReading.{read_address}
 use Rattle.wi_values.specs.declared.address.AddressFault.TheVariants.{Shape}
 use Rattle.wi_cli.specs.Lines.{without_lf, max_line, first_word, after_word, Bytes}
@@ -15,7 +15,6 @@ use Rattle.wi_cli.specs.Script.{text_of, IsWithin, Asks}
 use Rattle.wi_cli.specs.Laws.{read_any, asked, Takes}
 use Rattle.wi_cli.proofs.Ties.Addresses.{same_addr}
 use Rattle.wi_cli.proofs.Ties.OperandsRead.{no_addr, addr_or, lines_read, lines_or, none_behind}
-use Rattle.wi_cli.proofs.Ties.Tables.{clash}
 use Rattle.wi_cli.proofs.Ties.CommandNames.{is_word}
 
 -- ---- the second word
@@ -64,7 +63,7 @@ operands_or force text = by (is_all_spaces (after_word (after_word text))) refl 
     by : (b : Bool) → is_all_spaces (after_word (after_word text)) ≡ b
         → ((n : ℕ) × IsSpelled (first_word (after_word text)) (LINES n)) ⊎ ((read_lines (first_word (after_word text)) ≡ None) × ((n : ℕ) → IsSpelled (first_word (after_word text)) (LINES n) → ⊥))
         → Operands force text
-    by false e k = inr (λ o n h. clash _ e h.1.1, ap (λ (b : Bool). if b then csv_of force (first_word text) (read_lines (first_word (after_word text))) else None) e)
+    by false e k = inr (λ o n h. both_ways _ e h.1.1, ap (λ (b : Bool). if b then csv_of force (first_word text) (read_lines (first_word (after_word text))) else None) e)
     by true e (inr bad) =
         inr (
           λ o n h. bad.1 n h.1.0,
@@ -106,23 +105,23 @@ text_or text =
     by true ea b eb false ec p q = inr (none, rw (ea, ec) refl)
       where
         none : (force : Bool) (o : Option Cell) (n : ℕ) → IsWritten text (form (Csv force o n [])) → ⊥
-        none true o n h = clash _ ec (word_is _ _ h.1.0)
-        none false o n h = clash (bytes_eq (codes "csv") (codes "force")) refl (ap (λ (w : Bytes). bytes_eq w (codes "force")) (sym h.0) ∙ ea)
+        none true o n h = both_ways _ ec (word_is _ _ h.1.0)
+        none false o n h = both_ways (bytes_eq (codes "csv") (codes "force")) refl (ap (λ (w : Bytes). bytes_eq w (codes "force")) (sym h.0) ∙ ea)
     by true ea b eb true ec (inr bad) q = inr (none, rw (ea, ec) bad.1)
       where
         none : (force : Bool) (o : Option Cell) (n : ℕ) → IsWritten text (form (Csv force o n [])) → ⊥
         none true o n h = bad.0 o n h.1.1
-        none false o n h = clash (bytes_eq (codes "csv") (codes "force")) refl (ap (λ (w : Bytes). bytes_eq w (codes "force")) (sym h.0) ∙ ea)
+        none false o n h = both_ways (bytes_eq (codes "csv") (codes "force")) refl (ap (λ (w : Bytes). bytes_eq w (codes "force")) (sym h.0) ∙ ea)
     by true ea b eb true ec (inl found) q = inl (true, found.0, found.1, (is_word _ _ ea, (is_word _ _ ec, found.2)))
     by false ea false eb c ec p q = inr (none, rw (ea, eb) refl)
       where
         none : (force : Bool) (o : Option Cell) (n : ℕ) → IsWritten text (form (Csv force o n [])) → ⊥
-        none true o n h = clash _ ea (word_is _ _ h.0)
-        none false o n h = clash _ eb (word_is _ _ h.0)
+        none true o n h = both_ways _ ea (word_is _ _ h.0)
+        none false o n h = both_ways _ eb (word_is _ _ h.0)
     by false ea true eb c ec p (inr bad) = inr (none, rw (ea, eb) bad.1)
       where
         none : (force : Bool) (o : Option Cell) (n : ℕ) → IsWritten text (form (Csv force o n [])) → ⊥
-        none true o n h = clash _ ea (word_is _ _ h.0)
+        none true o n h = both_ways _ ea (word_is _ _ h.0)
         none false o n h = bad.0 o n h.1
     by false ea true eb c ec p (inl found) = inl (false, found.0, found.1, (is_word _ _ eb, found.2))
 

@@ -4,6 +4,7 @@ use Rattle.std.specs.List.{list_any, concat, slice_index_or, Any}
 use Rattle.std.specs.Prelude.{All}
 use Rattle.std.proofs.lemmas.Bool.Decides.{nat_tests}
 use Rattle.std.proofs.lemmas.List.{get_or_default}
+use Rattle.std.proofs.lemmas.Bool.{both_ways}
 use Rattle.std.proofs.lemmas.List.Folds.{Any-from_list_any, list_any-from_Any}
 use Rattle.wi_import.specs.declared.fault.ImportFault.{ImportFault}
 use Rattle.wi_import.specs.declared.fault.ImportFault.TheVariants as import
@@ -17,6 +18,8 @@ use Rattle.wi_scenarios.specs.State.{State, max_area}
 use Rattle.wi_scenarios.specs.Causes.{no_cause}
 use Rattle.wi_scenarios.specs.Edits.{edit_answer}
 use Rattle.wi_scenarios.specs.Csv.{csv_answer, ImportOutcome}
+use Rattle.wi_values.proofs.Within.{row_of_place, column_of_place}
+use Rattle.wi_values.proofs.Lists.{Any-weaker}
 use Rattle.wi_scenarios.specs.Step as old
 use Rattle.wi_cli.specs.Lines.{max_line, without_lf, Bytes}
 use Rattle.wi_cli.specs.Inner.CsvCommand.{is_long, csv_command}
@@ -29,12 +32,9 @@ use Rattle.wi_cli.specs.Step.{Answer, IsStep, causes, IsFirstOf}
 use Rattle.wi_cli.specs.Laws.{SameStep, read_any}
 use Rattle.wi_cli.proofs.Ties.Uniqueness.{same_answers}
 use Rattle.wi_cli.proofs.Ties.EditSteps.{last, edit_step}
-use Rattle.wi_cli.proofs.Ties.Tables.{clash, inside, row_place, column_place}
+use Rattle.wi_cli.proofs.Ties.Tables.{inside}
 
 -- ---- some and all
-
-pub any_as : {X : Type 0} (P Q : X → Type 0) (xs : List X) → ((x : X) → P x → Q x) → Any P xs → Any Q xs
-any_as P Q xs f h = (h.0, h.1, h.2, h.3, f h.1 h.4)
 
 -- what holds of all isn't missing of some
 all_any : {X : Type 0} (P : X → Type 0) (xs : List X) → All P xs → Any (λ x. P x → ⊥) xs → ⊥
@@ -44,13 +44,13 @@ none_all : {X : Type 0} (P : X → Type 0) (xs : List X) → (Any P xs → ⊥) 
 none_all {X} P xs none k d h p = none (k, slice_index_or xs k d, h, get_or_default xs k _ d h, p)
 
 pub long_lines : (lines : List Bytes) → list_any is_long lines ≡ true → Any (λ line. max_line < length (without_lf line)) lines
-long_lines lines e = any_as (λ x. is_long x ≡ true) (λ line. max_line < length (without_lf line)) lines (λ x h. above _ h) (Any-from_list_any is_long lines e)
+long_lines lines e = Any-weaker (λ x. is_long x ≡ true) (λ line. max_line < length (without_lf line)) lines (λ x h. above _ h) (Any-from_list_any is_long lines e)
   where
     above : (n : ℕ) → nat_lt max_line n ≡ true → max_line < n
     above n h = grind (arith, nat_tests)
 
 no_long_line : (lines : List Bytes) → list_any is_long lines ≡ false → Any (λ line. max_line < length (without_lf line)) lines → ⊥
-no_long_line lines e h = clash _ e (list_any-from_Any is_long lines (any_as (λ line. max_line < length (without_lf line)) (λ x. is_long x ≡ true) lines (λ x h. below _ h) h))
+no_long_line lines e h = both_ways _ e (list_any-from_Any is_long lines (Any-weaker (λ line. max_line < length (without_lf line)) (λ x. is_long x ≡ true) lines (λ x h. below _ h) h))
   where
     below : (n : ℕ) → max_line < n → nat_lt max_line n ≡ true
     below n h = grind (arith, nat_tests)
@@ -130,17 +130,17 @@ module _ (s : State) (force : Bool) (c : Cell) (n : ℕ) (lines : List Bytes) wh
       module _ (o : is_outside c ≡ false) where
         -- the fields from the cell's row and column on are those from its address on
         same_fields : fields_at (address c) text ≡ fields c lines
-        same_fields = ap₂ (λ (i j : ℕ). fields_from i j (recs text)) (row_place c.row c.column (inside c o)) (column_place c.row c.column (inside c o))
+        same_fields = ap₂ (λ (i j : ℕ). fields_from i j (recs text)) (row_of_place c.row c.column (inside c o)) (column_of_place c.row c.column (inside c o))
 
         same_areas : areas_from c.row c.column (recs text) ≡ areas_at (address c) text
-        same_areas = ap₂ (λ (i j : ℕ). areas_from i j (recs text)) (sym (row_place c.row c.column (inside c o))) (sym (column_place c.row c.column (inside c o)))
+        same_areas = ap₂ (λ (i j : ℕ). areas_from i j (recs text)) (sym (row_of_place c.row c.column (inside c o))) (sym (column_of_place c.row c.column (inside c o)))
 
         abbrev behind : List Cause
         behind = BadField ∷ TooLong ∷ OutOfSheet ∷ NumberRange ∷ TooDeep ∷ Syntax ∷ LeavesSheet ∷ last
 
         front : (x : Cause) → IsFirstOf s csv behind x → IsFirstOf s csv causes x
         front x h =
-            inr (no_long_line lines short, inr (λ k. k, inr (not_cut _ _ come, inr (λ k. clash _ (outside_is force ∙ o) k, inr (small force, inr (λ k. clash _ (none_missing force) k, inr (λ k. k, inr (λ k. k, h))))))))
+            inr (no_long_line lines short, inr (λ k. k, inr (not_cut _ _ come, inr (λ k. both_ways _ (outside_is force ∙ o) k, inr (small force, inr (λ k. both_ways _ (none_missing force) k, inr (λ k. k, inr (λ k. k, h))))))))
 
         module _ (puts : List Put) (are : AreChanges (fields c lines) puts) where
           other : (e : ImportFault) → IsFault (fields c lines) e → ⊥
@@ -168,9 +168,9 @@ module _ (s : State) (force : Bool) (c : Cell) (n : ℕ) (lines : List Bytes) wh
           only : (x : Cause) → Holds s x csv → Holds s Stale csv ⊎ (Holds s Full csv ⊎ Holds s EditLimit csv)
           only BadLine h = absurd (no_long_line lines short h)
           only CutShort h = absurd (not_cut _ _ come h)
-          only Outside h = absurd (clash _ (outside_is force ∙ o) h)
+          only Outside h = absurd (both_ways _ (outside_is force ∙ o) h)
           only TooLarge h = absurd (small force h)
-          only NoScenario h = absurd (clash _ (none_missing force) h)
+          only NoScenario h = absurd (both_ways _ (none_missing force) h)
           only BadField h = absurd (no_bad h)
           only TooLong h = absurd (no_long h)
           only OutOfSheet h = absurd (no_outside h)

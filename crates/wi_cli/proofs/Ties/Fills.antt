@@ -2,7 +2,9 @@
 use Rattle.std.proofs.Common.{◌≡◌, ◌↔◌, ◌<◌, ◌*◌, ℕ, Bool, true, false, not, ◌||◌, nat_lt, List, [], ◌∷◌, map, ◌⊎◌, inl, inr, Option, Some, None, is_some, Err, refl, sym, ap, ap₂, ◌∙◌, subst}
 use Rattle.std.specs.List.{list_any, AllZip}
 use Rattle.std.proofs.lemmas.List.Folds.{Any-from_list_any, list_any-from_Any}
+use Rattle.std.proofs.lemmas.Bool.{both_ways}
 use Rattle.wi_values.specs.Address.{size_of, cells_of}
+use Rattle.wi_values.proofs.Lists.{Any-weaker}
 use Rattle.wi_parser.specs.declared.content.Content.{Content}
 use Rattle.wi_parser.specs.Sheet.{content_of}
 use Rattle.wi_scenarios.specs.declared.refusal.Refusal.TheVariants as refusal
@@ -22,9 +24,8 @@ use Rattle.wi_cli.specs.Step.{Answer, IsStep, causes, IsFirstOf}
 use Rattle.wi_cli.specs.Laws.{SameStep, read_by}
 use Rattle.wi_cli.proofs.Ties.Uniqueness.{same_answers, outside_step}
 use Rattle.wi_cli.proofs.Ties.EditSteps.{last, edit_step}
-use Rattle.wi_cli.proofs.Ties.Tables.{clash, too_large, not_large}
+use Rattle.wi_cli.proofs.Ties.Tables.{too_large, not_large}
 use Rattle.wi_cli.proofs.Ties.Looks.{large_once}
-use Rattle.wi_cli.proofs.Ties.CsvSteps.{any_as}
 
 -- ---- copies
 
@@ -42,7 +43,7 @@ module _ (copy : ℕ → Option (Option Content)) where
     where
       by : (o : Option (Option Content)) → copy c ≡ o → (not (is_some o) || list_any (λ to. not (is_some (copy to))) cs) ≡ false
           → (list_any (λ to. not (is_some (copy to))) cs ≡ false → AllZip IsCopy cs (map copied cs)) → AllZip IsCopy (c ∷ cs) (map copied (c ∷ cs))
-      by None h e more = absurd (clash true e refl)
+      by None h e more = absurd (both_ways true e refl)
       by (Some o) h e more = ((refl, h ∙ ap (λ (x : Option (Option Content)). Some (or_nothing x)) (sym h)), more e)
 
   same_copy : {x y : Option Content} → ◌≡◌ {A = Option (Option Content)} (Some x) (Some y) → x ≡ y
@@ -63,13 +64,21 @@ module _ (copy : ℕ → Option (Option Content)) where
 
 no_copy : (o : Option (Option Content)) → not (is_some o) ≡ true → o ≡ None
 no_copy None e = refl
-no_copy (Some x) e = absurd (clash false refl e)
+no_copy (Some x) e = absurd (both_ways false refl e)
 
 none_is : (o : Option (Option Content)) → o ≡ None → not (is_some o) ≡ true
 none_is None e = refl
 none_is (Some x) e = cc
 
 -- ---- the step
+
+pub fill_outside : (force one two : Bool) (c : Cell) (r : Corners) → is_outside c ≡ one → (is_outside r.0 || is_outside r.1) ≡ two → list_any lies_outside (form (Fill force c r)) ≡ (one || two)
+fill_outside true true two c r o p = rw o refl
+fill_outside true false true c r o p = rw (o, p) refl
+fill_outside true false false c r o p = rw (o, p) refl
+fill_outside false true two c r o p = rw o refl
+fill_outside false false true c r o p = rw (o, p) refl
+fill_outside false false false c r o p = rw (o, p) refl
 
 module _ (s : State) (force : Bool) (c : Cell) (r : Corners) where
   abbrev fill : Command
@@ -84,14 +93,6 @@ module _ (s : State) (force : Bool) (c : Cell) (r : Corners) where
   abbrev leaves : Bool
   leaves = list_any (has_no_copy (content_of s.stored.sheet (address c)) (address c)) (cells_of (area r))
 
-  outside_is : (f one two : Bool) → is_outside c ≡ one → (is_outside r.0 || is_outside r.1) ≡ two → list_any lies_outside (form (Fill f c r)) ≡ (one || two)
-  outside_is true true two o p = rw o refl
-  outside_is true false true o p = rw (o, p) refl
-  outside_is true false false o p = rw (o, p) refl
-  outside_is false true two o p = rw o refl
-  outside_is false false true o p = rw (o, p) refl
-  outside_is false false false o p = rw (o, p) refl
-
   none_missing : (f : Bool) → list_any (is_missing s) (form (Fill f c r)) ≡ false
   none_missing true = refl
   none_missing false = refl
@@ -105,15 +106,15 @@ module _ (s : State) (force : Bool) (c : Cell) (r : Corners) where
       h.2 ∙ ap (λ (q : List Put). let d : State × Bytes = (after_edit s fill q, []) in d) (one_puts copy (cells_of (area r)) h.0 k.0 h.1 k.1) ∙ sym k.2
 
   leaving : leaves ≡ true → Holds s LeavesSheet fill
-  leaving e = any_as (λ to. not (is_some (copy to)) ≡ true) (λ to. copy to ≡ None) (cells_of (area r)) (λ to h. no_copy (copy to) h) (Any-from_list_any _ (cells_of (area r)) e)
+  leaving e = Any-weaker (λ to. not (is_some (copy to)) ≡ true) (λ to. copy to ≡ None) (cells_of (area r)) (λ to h. no_copy (copy to) h) (Any-from_list_any _ (cells_of (area r)) e)
 
   not_leaving : leaves ≡ false → Holds s LeavesSheet fill → ⊥
   not_leaving e h =
-      clash _ e (list_any-from_Any _ (cells_of (area r)) (any_as (λ to. copy to ≡ None) (λ to. not (is_some (copy to)) ≡ true) (cells_of (area r)) (λ to k. none_is (copy to) k) h))
+      both_ways _ e (list_any-from_Any _ (cells_of (area r)) (Any-weaker (λ to. copy to ≡ None) (λ to. not (is_some (copy to)) ≡ true) (cells_of (area r)) (λ to k. none_is (copy to) k) h))
 
   module _ (one : is_outside c ≡ false) (two : (is_outside r.0 || is_outside r.1) ≡ false) where
     inside : Holds s Outside fill → ⊥
-    inside h = clash _ (outside_is force false false one two) h
+    inside h = both_ways _ (fill_outside force false false c r one two) h
 
     large : nat_lt max_area (size_of (area r) * 1) ≡ true → Holds s TooLarge fill
     large e = subst (λ (n : ℕ). max_area < n) (sym (size_is force)) (too_large _ e)
@@ -127,12 +128,12 @@ module _ (s : State) (force : Bool) (c : Cell) (r : Corners) where
     module _ (few : nat_lt max_area (size_of (area r) * 1) ≡ false) where
       front : (x : Cause) → IsFirstOf s fill (LeavesSheet ∷ last) x → IsFirstOf s fill causes x
       front x h =
-          inr (λ k. k, inr (λ k. k, inr (λ k. k, inr (inside, inr (small few, inr (λ k. clash _ (none_missing force) k, inr (λ k. k, inr (λ k. k, inr (λ k. k, inr (λ k. k, inr (λ k. k, inr (λ k. k, inr (λ k. k, inr (λ k. k, h))))))))))))))
+          inr (λ k. k, inr (λ k. k, inr (λ k. k, inr (inside, inr (small few, inr (λ k. both_ways _ (none_missing force) k, inr (λ k. k, inr (λ k. k, inr (λ k. k, inr (λ k. k, inr (λ k. k, inr (λ k. k, inr (λ k. k, inr (λ k. k, h))))))))))))))
 
       only : leaves ≡ false → (x : Cause) → Holds s x fill → Holds s Stale fill ⊎ (Holds s Full fill ⊎ Holds s EditLimit fill)
       only e Outside h = absurd (inside h)
       only e TooLarge h = absurd (small few h)
-      only e NoScenario h = absurd (clash _ (none_missing force) h)
+      only e NoScenario h = absurd (both_ways _ (none_missing force) h)
       only e LeavesSheet h = absurd (not_leaving e h)
       only e Stale h = inl h
       only e Full h = inr (inl h)
@@ -156,9 +157,9 @@ module _ (s : State) (force : Bool) (c : Cell) (r : Corners) where
   by_place one two = (a : Answer) → old.IsStep s (fill_command_of force (read_by one (address c)) (read_by two (area r))) a ↔ IsStep s fill a
 
   placed : (one two : Bool) → is_outside c ≡ one → (is_outside r.0 || is_outside r.1) ≡ two → by_place one two
-  placed true false o p a = outside_step s fill one_done (λ h. h) (λ h. h) (λ h. h) (outside_is force true false o p) a
-  placed true true o p a = outside_step s fill one_done (λ h. h) (λ h. h) (λ h. h) (outside_is force true true o p) a
-  placed false true o p a = outside_step s fill one_done (λ h. h) (λ h. h) (λ h. h) (outside_is force false true o p) a
+  placed true false o p a = outside_step s fill one_done (λ h. h) (λ h. h) (λ h. h) (fill_outside force true false c r o p) a
+  placed true true o p a = outside_step s fill one_done (λ h. h) (λ h. h) (λ h. h) (fill_outside force true true c r o p) a
+  placed false true o p a = outside_step s fill one_done (λ h. h) (λ h. h) (λ h. h) (fill_outside force false true c r o p) a
   placed false false o p a =
       let k = made o p (nat_lt max_area (size_of (area r) * 1)) leaves refl refl in
       same_answers s fill one_done (old.Fill force (address c) (area r)) k.0 k.1 k.2 a

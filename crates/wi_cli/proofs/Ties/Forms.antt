@@ -1,6 +1,7 @@
 -- For each name the operands that are spelled behind it, and the command that was read there.
 use Rattle.std.proofs.Common.{◌≡◌, ℕ, Bool, true, false, ◌==◌, ◌||◌, List, [], ◌∷◌, length, ◌⊎◌, inl, inr, Option, Some, None, Result, Ok, Err, option_map, if◌then◌else◌, refl, sym, ap, ap₂, ◌∙◌}
 use Rattle.std.specs.Result.{result_err}
+use Rattle.std.proofs.lemmas.Bool.{both_ways}
 use Rattle.wi_values.specs.Address.{Area}
 use Rattle.wi_values.specs.AddressReading.{read_address, read_rect}
 use Rattle.wi_values.specs.Name.{is_name, read_name}
@@ -20,7 +21,6 @@ use Rattle.wi_cli.specs.Laws.{was, read_cell, read_corners}
 use Rattle.wi_cli.proofs.Ties.Addresses.{same_addr}
 use Rattle.wi_cli.proofs.Ties.Rects.{same_rect}
 use Rattle.wi_cli.proofs.Ties.OperandsRead.{no_addr, no_rect, addr_or, rect_or, name_read, name_or, no_name, side_read, side_or, no_word}
-use Rattle.wi_cli.proofs.Ties.Tables.{clash}
 use Rattle.wi_cli.proofs.Ties.TablesOfTwo.{is_shape, one_is_bad, two_is_bad}
 
 -- operands of this form are spelled, or none are and the command was refused
@@ -51,7 +51,7 @@ module _ (command : Area → old.Command) where
   rect_end text = by (is_all_spaces (after_word text)) refl (rect_or (first_word text))
     where
       by : (b : Bool) → is_all_spaces (after_word text) ≡ b → ((r : Corners) × IsRect (first_word text) r) ⊎ (read_rect (first_word text) ≡ Err Shape) → Chosen text rect_form (rect_was text)
-      by false e k = inr (λ r h. clash _ e h.1, end_false (after_word text) (of_operand (read_rect (first_word text)) command) e)
+      by false e k = inr (λ r h. both_ways _ e h.1, end_false (after_word text) (of_operand (read_rect (first_word text)) command) e)
       by true e (inl r) = inl (r.0, (r.1, e))
       by true e (inr bad) =
           inr (
@@ -75,7 +75,7 @@ module _ (command : Bytes → old.Command) where
     where
       by : (b : Bool) → is_all_spaces (after_word text) ≡ b → (is_name (first_word text) ≡ true) ⊎ ((read_name (first_word text) ≡ None) × (is_name (first_word text) ≡ false))
           → Chosen text name_form (of_name (only_name text) command)
-      by false e k = inr (λ name h. clash _ e h.1, ap (λ (b : Bool). of_name (if b then read_name (first_word text) else None) command) e)
+      by false e k = inr (λ name h. both_ways _ e h.1, ap (λ (b : Bool). of_name (if b then read_name (first_word text) else None) command) e)
       by true e (inl h) = inl (first_word text, ((refl, h), e))
       by true e (inr h) =
           inr (
@@ -90,7 +90,7 @@ maybe_form None = []
 maybe_form (Some name) = NAME name ∷ []
 
 no_spaces : (text name : Bytes) → IsWritten text (NAME name ∷ []) → is_all_spaces text ≡ true → ⊥
-no_spaces text name h e = clash (is_name []) refl (ap is_name (sym (no_word text e) ∙ h.0.0) ∙ h.0.1)
+no_spaces text name h e = both_ways (is_name []) refl (ap is_name (sym (no_word text e) ∙ h.0.0) ∙ h.0.1)
 
 pub maybe_is : (text : Bytes) (o : Option Bytes) → IsWritten text (maybe_form o) → name_or_none text ≡ Some o
 maybe_is text None h = ap (λ (b : Bool). if b then Some None else option_map (λ (n : Bytes). Some n) (only_name text)) h
@@ -113,13 +113,13 @@ maybe_or text = by (is_all_spaces text) refl (is_all_spaces (after_word text)) r
     by false e true f (inr h) = inr (none, rw (e, f, h.0) refl)
       where
         none : (o : Option Bytes) → IsWritten text (maybe_form o) → ⊥
-        none None k = clash _ e k
+        none None k = both_ways _ e k
         none (Some name) k = no_name (first_word text) name h.1 k.0.0 k.0.1
     by false e false f k = inr (none, rw (e, f) refl)
       where
         none : (o : Option Bytes) → IsWritten text (maybe_form o) → ⊥
-        none None k = clash _ e k
-        none (Some name) k = clash _ f k.1
+        none None k = both_ways _ e k
+        none (Some name) k = both_ways _ f k.1
 
 -- ---- set, fill, formula, scenario
 
@@ -157,7 +157,7 @@ fill_or force text = by (addr_or (first_word text)) (rect_or (first_word (after_
     by : ((c : Cell) × IsAddr (first_word text) c) ⊎ (read_address (first_word text) ≡ Err Shape)
         → ((r : Corners) × IsRect (first_word (after_word text)) r) ⊎ (read_rect (first_word (after_word text)) ≡ Err Shape) → (b : Bool) → is_all_spaces (after_word (after_word text)) ≡ b
         → Chosen text fill_form (fill_command force text)
-    by c r false e = inr (λ x h. clash _ e h.1.1, rw e refl)
+    by c r false e = inr (λ x h. both_ways _ e h.1.1, rw e refl)
     by (inr bad) r true e = inr (λ x h. no_addr (first_word text) x.0 bad h.0, rw (e, bad) refl)
     by (inl c) (inr bad) true e =
         inr (
@@ -179,7 +179,7 @@ pub formula_or : (text : Bytes) → Chosen text cell_form (formula_command text)
 formula_or text = by (addr_or (first_word text)) (is_all_spaces (after_word text)) refl
   where
     by : ((c : Cell) × IsAddr (first_word text) c) ⊎ (read_address (first_word text) ≡ Err Shape) → (b : Bool) → is_all_spaces (after_word text) ≡ b → Chosen text cell_form (formula_command text)
-    by c false e = inr (λ x h. clash _ e h.1, rw e refl)
+    by c false e = inr (λ x h. both_ways _ e h.1, rw e refl)
     by (inr bad) true e = inr (λ x h. no_addr (first_word text) x bad h.0, rw (e, bad) refl)
     by (inl c) true e = inl (c.0, (c.1, e))
 
@@ -244,7 +244,7 @@ changes_or text = by (is_all_spaces text) refl
   where
     by : (b : Bool) → is_all_spaces text ≡ b → Chosen text no_form (changes_command text)
     by true e = inl (tt, e)
-    by false e = inr (λ x h. clash _ e h, rw e refl)
+    by false e = inr (λ x h. both_ways _ e h, rw e refl)
 
 -- ---- compare
 
@@ -277,7 +277,7 @@ module _ (text : Bytes) where
           → ((p : Option Bytes) × IsSpelled (first_word text) (SIDE p)) ⊎ ((read_side (first_word text) ≡ None) × ((p : Option Bytes) → IsSpelled (first_word text) (SIDE p) → ⊥))
           → ((p : Option Bytes) × IsSpelled (first_word second) (SIDE p)) ⊎ ((read_side (first_word second) ≡ None) × ((p : Option Bytes) → IsSpelled (first_word second) (SIDE p) → ⊥))
           → ((r : Corners) × IsRect (first_word third) r) ⊎ (read_rect (first_word third) ≡ Err Shape) → Chosen text compare_form (compare_command text)
-      by false e p q r = inr (λ x h. clash _ e h.1.1.1, end_false (after_word third) (compared (read_side (first_word text)) (read_side (first_word second)) (read_rect (first_word third))) e)
+      by false e p q r = inr (λ x h. both_ways _ e h.1.1.1, end_false (after_word third) (compared (read_side (first_word text)) (read_side (first_word second)) (read_rect (first_word third))) e)
       by true e (inr p) q r =
           inr (λ x h. p.1 x.0 h.0, compare_is e ∙ ap (λ (o : Option (Option Bytes)). compared o (read_side (first_word second)) (read_rect (first_word third))) p.0)
       by true e (inl p) (inr q) r =
@@ -316,9 +316,9 @@ third_is : (a b c : Bool) → (a ≡ true) ⊎ ((b ≡ true) ⊎ (c ≡ true)) �
 third_is true b c h = refl
 third_is false true c h = refl
 third_is false false true h = refl
-third_is false false false (inl h) = absurd (clash false refl h)
-third_is false false false (inr (inl h)) = absurd (clash false refl h)
-third_is false false false (inr (inr h)) = absurd (clash false refl h)
+third_is false false false (inl h) = absurd (both_ways false refl h)
+third_is false false false (inr (inl h)) = absurd (both_ways false refl h)
+third_is false false false (inr (inr h)) = absurd (both_ways false refl h)
 
 fifth_is : (a b c d e : Bool) → (a ≡ true) ⊎ ((b ≡ true) ⊎ ((c ≡ true) ⊎ ((d ≡ true) ⊎ (e ≡ true)))) → (a || (b || (c || (d || (e || false))))) ≡ true
 fifth_is true b c d e h = refl
@@ -326,11 +326,11 @@ fifth_is false true c d e h = refl
 fifth_is false false true d e h = refl
 fifth_is false false false true e h = refl
 fifth_is false false false false true h = refl
-fifth_is false false false false false (inl h) = absurd (clash false refl h)
-fifth_is false false false false false (inr (inl h)) = absurd (clash false refl h)
-fifth_is false false false false false (inr (inr (inl h))) = absurd (clash false refl h)
-fifth_is false false false false false (inr (inr (inr (inl h)))) = absurd (clash false refl h)
-fifth_is false false false false false (inr (inr (inr (inr h)))) = absurd (clash false refl h)
+fifth_is false false false false false (inl h) = absurd (both_ways false refl h)
+fifth_is false false false false false (inr (inl h)) = absurd (both_ways false refl h)
+fifth_is false false false false false (inr (inr (inl h))) = absurd (both_ways false refl h)
+fifth_is false false false false false (inr (inr (inr (inl h)))) = absurd (both_ways false refl h)
+fifth_is false false false false false (inr (inr (inr (inr h)))) = absurd (both_ways false refl h)
 
 shape_of : {X : Type 0} (r : Result X AddressFault) → r ≡ Err Shape → is_shape (result_err r) ≡ true
 shape_of r e = ap (λ x. is_shape (result_err x)) e
@@ -416,7 +416,7 @@ module _ (text : Bytes) where
 
   -- nothing is spelled behind the column, if there are words
   none_more : is_all_spaces more ≡ false → ((y : Cell × Corners) → IsWritten more (behind_form (Some y)) → ⊥) → (o : Option (Cell × Corners)) → IsWritten more (behind_form o) → ⊥
-  none_more e none None h = clash _ e h
+  none_more e none None h = both_ways _ e h
   none_more e none (Some y) h = none y h
 
   two_or : is_all_spaces more ≡ false → is_all_spaces (after_word (after_word more)) ≡ true → Addr (first_word text) → Addr second_word → Rect third_word → Addr (first_word more) → Rect (first_word (after_word more)) → Cells
@@ -437,7 +437,7 @@ module _ (text : Bytes) where
   by_words true c e g = one_or e (addr_or (first_word text)) (addr_or second_word) (rect_or third_word)
   by_words false true e g = two_or e g (addr_or (first_word text)) (addr_or second_word) (rect_or third_word) (addr_or (first_word more)) (rect_or (first_word (after_word more)))
   by_words false false e g =
-      inr (λ x h. none_more e (λ y k. clash _ g k.1.1) x.3 h.1.1.1, by_more false e ∙ end_false (after_word (after_word more)) read_two g)
+      inr (λ x h. none_more e (λ y k. both_ways _ g k.1.1) x.3 h.1.1.1, by_more false e ∙ end_false (after_word (after_word more)) read_two g)
 
   pub table_or : Cells
   table_or = by_words (is_all_spaces more) (is_all_spaces (after_word (after_word more))) refl refl

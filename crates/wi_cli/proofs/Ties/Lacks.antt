@@ -1,6 +1,7 @@
 -- Where memory may be lacking.
 use Rattle.std.proofs.Common.{◌≡◌, ◌↔◌, ◌<◌, ℕ, zero, suc, true, false, List, [], ◌∷◌, length, ◌⊎◌, inl, inr, Ok, Err, refl, sym, ap, ◌∙◌, subst, arith}
 use Rattle.std.specs.List.{Contains, slice_index_or}
+use Rattle.std.proofs.lemmas.Bool.{both_ways}
 use Rattle.wi_scenarios.specs.declared.refusal.Refusal.{Refusal}
 use Rattle.wi_scenarios.specs.State.{State}
 use Rattle.wi_scenarios.specs.Answer.{may_grow, MayGrow}
@@ -11,7 +12,6 @@ use Rattle.wi_cli.specs.Causes.{Cause, BadLine, BadCommand, CutShort, Outside, T
 use Rattle.wi_cli.specs.Reply.{late}
 use Rattle.wi_cli.specs.Step.{Answer, Tells, IsStep, causes, IsFirstOf}
 use Rattle.wi_cli.proofs.Ties.Uniqueness.{first_holds, one_first}
-use Rattle.wi_cli.proofs.Ties.Tables.{clash}
 
 -- what is in a list is its first, or in the others
 split : {X : Type 0} (y : X) (ys : List X) (x : X) → Contains (y ∷ ys) x → (y ≡ x) ⊎ Contains ys x
@@ -66,7 +66,7 @@ module _ (s : State) (c : Command) (inside : Holds s Outside c → ⊥) (come : 
   is_late Stale h e t g = (5, omega arith, refl)
   is_late Full h e t g = (6, omega arith, refl)
   is_late EditLimit h e t g = (7, omega arith, refl)
-  is_late x h e t g = absurd (clash false refl (sym (ap (λ (r : Refusal). may_grow (Err r)) t) ∙ g))
+  is_late x h e t g = absurd (both_ways false refl (sym (ap (λ (r : Refusal). may_grow (Err r)) t) ∙ g))
 
   pub same_lack : (was : old.Command) → ((a : Answer) → old.IsStep s was a ↔ IsStep s c a) → MayGrow (old.IsStep s was) ↔ ((x : Cause) → IsFirstOf s c causes x → Contains late x)
   same_lack was same = (there, λ h. back h (an_answer s was).0 (an_answer s was).1 ((same (an_answer s was).0).0 (an_answer s was).1))

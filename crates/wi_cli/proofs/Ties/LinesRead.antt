@@ -4,7 +4,8 @@ use Rattle.std.specs.List.{list_all, cons_option}
 use Rattle.std.specs.Str.{byte, is_utf8}
 use Rattle.std.proofs.lemmas.Bool.Decides.{nat_tests}
 use Rattle.std.proofs.lemmas.Str.{IsUtf8-from_is_utf8, is_utf8-from_IsUtf8}
-use Rattle.std.proofs.lemmas.Bool.{or_parts, not-false, ltb-false, le-ltb}
+use Rattle.std.proofs.lemmas.Bool.{or_parts, not-false, ltb-false, le-ltb, both_ways}
+use Rattle.std.proofs.lemmas.List.{nil_from_length}
 use Rattle.std.proofs.Math.Bool.{or-true, or-false}
 use Rattle.wi_values.specs.AddressReading.{read_address}
 use Rattle.wi_values.specs.declared.address.AddressFault.{AddressFault}
@@ -19,7 +20,6 @@ use Rattle.wi_cli.specs.Operands.{Cell, IsWritten}
 use Rattle.wi_cli.specs.Command.{Command, Csv, Unknown, Unreadable, form}
 use Rattle.wi_cli.specs.Script.{text_of, IsWithin, IsGood, Asks, is_passed_over, IsCommand, none as no_commands, a_line as line_with, cut_short as line_cut}
 use Rattle.wi_cli.specs.Laws.{was, read_any, asked, block, Splits, none, a_line, cut_short, before, HasCommands, Takes}
-use Rattle.wi_cli.proofs.Ties.Tables.{clash}
 use Rattle.wi_cli.proofs.Ties.CsvLines.{IsRead, AsksOrNot, it_asks, it_asks_none, asks_or_not, takes, asks}
 use Rattle.wi_cli.proofs.Ties.Texts.{is_plain, same_form, Reads, spells, spells_none, none_written, reads}
 use Rattle.wi_cli.proofs.Ties.Splitting.{blocks_split}
@@ -58,12 +58,12 @@ good_is line h =
     ap₂ ◌||◌ long (ap not text)
 
 not_good : (line : Bytes) → (nat_lt max_line (length (without_lf line)) || not (is_utf8 (text_of line))) ≡ true → IsGood line → ⊥
-not_good line e h = clash _ (good_is line h) e
+not_good line e h = both_ways _ (good_is line h) e
 
 as_command : (line : Bytes) (taken : List Bytes) (c : Command) → is_plain c ≡ true → IsGood line → IsWritten (text_of line) (form c) → taken ≡ [] → IsCommand line taken (Some c)
-as_command line taken (Csv force at n lines) p g h e = absurd (clash false refl p)
-as_command line taken Unknown p g h e = absurd (clash false refl p)
-as_command line taken Unreadable p g h e = absurd (clash false refl p)
+as_command line taken (Csv force at n lines) p g h e = absurd (both_ways false refl p)
+as_command line taken Unknown p g h e = absurd (both_ways false refl p)
+as_command line taken Unreadable p g h e = absurd (both_ways false refl p)
 as_command line taken c p g h e = (g, h, sym e)
 
 -- a line that asks for no data lines
@@ -90,14 +90,14 @@ module _ (line : Bytes) (taken : List Bytes) where
     where
       by : (b : Bool) → is_utf8 (text_of line) ≡ b → HasCommand line taken
       by true e = (Some (Csv force o n taken), ((within, IsUtf8-from_is_utf8 (text_of line) e), h, refl), csv_line_is line taken force o n r true e)
-      by false e = (Some Unreadable, (λ g. clash _ e (is_utf8-from_IsUtf8 (text_of line) g.1)), csv_line_is line taken force o n r false e)
+      by false e = (Some Unreadable, (λ g. both_ways _ e (is_utf8-from_IsUtf8 (text_of line) g.1)), csv_line_is line taken force o n r false e)
 
   module _ (no_csv : (force : Bool) (o : Option Cell) (n : ℕ) → IsWithin line → IsWritten (text_of line) (form (Csv force o n [])) → ⊥)
       (plain : csv_line (without_lf line) ≡ None) (fits : taken ≡ []) where
     no_form : (g : IsGood line) → is_passed_over (text_of line) ≡ false → ((c : Command) → is_plain c ≡ true → IsWritten (text_of line) (form c) → ⊥) → (c : Command) → IsWritten (text_of line) (form c) → ⊥
     no_form g p plain_none (Csv force o n lines) h = no_csv force o n g.0 h
-    no_form g p plain_none Unknown h = clash _ p (spaces_pass (text_of line) h)
-    no_form g p plain_none Unreadable h = clash _ p (spaces_pass (text_of line) h)
+    no_form g p plain_none Unknown h = both_ways _ p (spaces_pass (text_of line) h)
+    no_form g p plain_none Unreadable h = both_ways _ p (spaces_pass (text_of line) h)
     no_form g p plain_none c h = plain_none c refl h
 
     text_has : IsGood line → is_passed_over (text_of line) ≡ false → block_command (block line taken) ≡ Some (spelled_command (text_of line)) → Reads (text_of line) → HasCommand line taken
@@ -125,16 +125,12 @@ pub onto_was : (o : Option Command) (cs : List Command) → cons_option (option_
 onto_was None cs = refl
 onto_was (Some c) cs = refl
 
-empty : (taken : List Bytes) → length taken ≡ 0 → taken ≡ []
-empty [] e = refl
-empty (l ∷ ls) e = absurd (omega (arith, e))
-
 taken_is : (line : Bytes) (taken : List Bytes) → Takes line (length taken) → Asks line (length taken) ⊎ ((taken ≡ []) × ((n : ℕ) → Asks line n → ⊥))
 taken_is line taken (inl h) = inl h
-taken_is line taken (inr h) = inr (empty taken h.0, h.1)
+taken_is line taken (inr h) = inr (nil_from_length taken h.0, h.1)
 
 none_taken : (line : Bytes) (taken : List Bytes) → asked line ≡ length taken → csv_line (without_lf line) ≡ None → taken ≡ []
-none_taken line taken e plain = empty taken (sym e ∙ ap (λ (x : Option CsvLine). lines_of x) plain)
+none_taken line taken e plain = nil_from_length taken (sym e ∙ ap (λ (x : Option CsvLine). lines_of x) plain)
 
 none_short : (line : Bytes) (taken : List Bytes) → length taken < asked line → csv_line (without_lf line) ≡ None → taken ≡ []
 none_short line taken h plain =

@@ -2,6 +2,7 @@
 use Rattle.std.proofs.Common.{◌≡◌, ◌*◌, ℕ, Bool, true, false, ◌||◌, nat_lt, length, Option, Some, None, refl, sym, ap, ◌∙◌, arith}
 use Rattle.std.specs.List.{list_any}
 use Rattle.std.proofs.Math.Bool.{or-false}
+use Rattle.std.proofs.lemmas.Bool.{both_ways}
 use Rattle.wi_values.specs.Address.{size_of}
 use Rattle.wi_scenario_list.specs.Inner.Chains.{effective}
 use Rattle.wi_scenario_list.specs.Bases.{lacks}
@@ -20,7 +21,7 @@ use Rattle.wi_cli.specs.Command.{Command, Show, Export, Compare, Formula, Change
 use Rattle.wi_cli.specs.Causes.{Cause, Outside, TooLarge, NoScenario, Stale, Full, EditLimit, Holds, lies_outside, is_missing, size}
 use Rattle.wi_cli.specs.Step.{causes}
 use Rattle.wi_cli.specs.Laws.{SameStep, was}
-use Rattle.wi_cli.proofs.Ties.Tables.{clash, too_large, not_large}
+use Rattle.wi_cli.proofs.Ties.Tables.{too_large, not_large}
 use Rattle.wi_cli.proofs.Ties.Tests.{first_test, found, by_tests}
 
 -- a number of cells, as a product
@@ -44,12 +45,12 @@ module _ (s : State) (r : Corners) where
   show_yes : (x : Cause) → show_test x ≡ true → Holds s x (Show r)
   show_yes Outside e = e
   show_yes TooLarge e = too_large _ e
-  show_yes x e = absurd (clash false refl e)
+  show_yes x e = absurd (both_ways false refl e)
 
   show_no : (x : Cause) → show_test x ≡ false → Holds s x (Show r) → ⊥
-  show_no Outside e h = clash _ e h
+  show_no Outside e h = both_ways _ e h
   show_no TooLarge e h = not_large _ e h
-  show_no NoScenario e h = clash false refl h
+  show_no NoScenario e h = both_ways false refl h
   show_no Stale e h = h.1 refl
   show_no Full e h = h.1
   show_no EditLimit e h = h.1
@@ -78,12 +79,12 @@ module _ (s : State) (r : Corners) where
   export_yes : (x : Cause) → export_test x ≡ true → Holds s x (Export r)
   export_yes Outside e = e
   export_yes TooLarge e = too_large _ e
-  export_yes x e = absurd (clash false refl e)
+  export_yes x e = absurd (both_ways false refl e)
 
   export_no : (x : Cause) → export_test x ≡ false → Holds s x (Export r) → ⊥
-  export_no Outside e h = clash _ e h
+  export_no Outside e h = both_ways _ e h
   export_no TooLarge e h = not_large _ e h
-  export_no NoScenario e h = clash false refl h
+  export_no NoScenario e h = both_ways false refl h
   export_no Stale e h = h.1 refl
   export_no Full e h = h.1
   export_no EditLimit e h = h.1
@@ -123,12 +124,12 @@ module _ (s : State) (p q : Option Bytes) (r : Corners) where
   compare_yes Outside e = e
   compare_yes TooLarge e = too_large _ e
   compare_yes NoScenario e = e
-  compare_yes x e = absurd (clash false refl e)
+  compare_yes x e = absurd (both_ways false refl e)
 
   compare_no : (x : Cause) → compare_test x ≡ false → Holds s x compare → ⊥
-  compare_no Outside e h = clash _ e h
+  compare_no Outside e h = both_ways _ e h
   compare_no TooLarge e h = not_large _ e h
-  compare_no NoScenario e h = clash _ e h
+  compare_no NoScenario e h = both_ways _ e h
   compare_no Stale e h = h.1 refl
   compare_no Full e h = h.1
   compare_no EditLimit e h = h.1
@@ -164,12 +165,12 @@ module _ (s : State) (c : Cell) where
 
   formula_yes : (x : Cause) → formula_test x ≡ true → Holds s x (Formula c)
   formula_yes Outside e = e
-  formula_yes x e = absurd (clash false refl e)
+  formula_yes x e = absurd (both_ways false refl e)
 
   formula_no : (x : Cause) → formula_test x ≡ false → Holds s x (Formula c) → ⊥
-  formula_no Outside e h = clash _ e h
+  formula_no Outside e h = both_ways _ e h
   formula_no TooLarge e h = omega (arith, h)
-  formula_no NoScenario e h = clash false refl h
+  formula_no NoScenario e h = both_ways false refl h
   formula_no Stale e h = h.1 refl
   formula_no Full e h = h.1
   formula_no EditLimit e h = h.1
@@ -194,13 +195,13 @@ module _ (s : State) where
   changes_test x = false
 
   changes_no : (x : Cause) → changes_test x ≡ false → Holds s x Changes → ⊥
-  changes_no Outside e h = clash false refl h
+  changes_no Outside e h = both_ways false refl h
   changes_no TooLarge e h = omega (arith, h)
-  changes_no NoScenario e h = clash false refl h
+  changes_no NoScenario e h = both_ways false refl h
   changes_no Stale e h = h.1 refl
   changes_no Full e h = h.1
   changes_no EditLimit e h = h.1
   changes_no x e h = h
 
   pub same_changes : SameStep s Changes
-  same_changes a = by_tests s Changes changes_test (λ x e. absurd (clash false refl e)) changes_no refl after_changes (λ e. refl) (λ x y h k. h ∙ sym k) (was Changes) None refl refl a
+  same_changes a = by_tests s Changes changes_test (λ x e. absurd (both_ways false refl e)) changes_no refl after_changes (λ e. refl) (λ x y h k. h ∙ sym k) (was Changes) None refl refl a

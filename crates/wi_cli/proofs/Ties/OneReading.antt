@@ -4,7 +4,7 @@ use Rattle.std.specs.List.{cons_option, prefix_len, before_first}
 use Rattle.std.specs.Str.{byte, is_utf8}
 use Rattle.std.proofs.lemmas.Bool.Decides.{nat_tests}
 use Rattle.std.proofs.lemmas.Str.{IsUtf8-from_is_utf8, is_utf8-from_IsUtf8}
-use Rattle.std.proofs.lemmas.Bool.{le-ltb}
+use Rattle.std.proofs.lemmas.Bool.{le-ltb, both_ways}
 use Rattle.wi_scenarios.specs.declared.refusal.Refusal.TheVariants as refusal
 use Rattle.wi_scenarios.specs.Step as old
 use Rattle.wi_cli.specs.Lines.{without_lf, max_line, is_space, skip_spaces, first_word, after_word, Bytes}
@@ -16,7 +16,6 @@ use Rattle.wi_cli.specs.Operands.{Cell, IsWritten}
 use Rattle.wi_cli.specs.Command.{Command, Set, Clear, Fill, Csv, Scenario, Drop, Base, Use, As, Show, Export, Compare, Table, Formula, Changes, Unknown, Unreadable, form}
 use Rattle.wi_cli.specs.Script.{text_of, IsGood, Asks, is_passed_over, IsCommand, none as no_commands, a_line as line_with, cut_short as line_cut}
 use Rattle.wi_cli.specs.Laws.{was, read_any, asked, block, kept, SameCommands, Takes}
-use Rattle.wi_cli.proofs.Ties.Tables.{clash}
 use Rattle.wi_cli.proofs.Ties.OperandsRead.{no_word}
 use Rattle.wi_cli.proofs.Ties.CsvLines.{AsksOrNot, it_asks, it_asks_none, asks_or_not, asked_is, short_line, TextReads, text_or, text_read}
 use Rattle.wi_cli.proofs.Ties.LinesRead.{plain_line, csv_line_is, line_is, text_is, good, good_is, onto_was, complete, not_complete}
@@ -55,14 +54,14 @@ no_hash : (b : ℕ) → (b == byte "#") ≡ true → is_space b ≡ false
 no_hash b e = grind (arith, nat_tests)
 
 pub not_passed : (text name : Bytes) → first_word text ≡ name → may_begin name ≡ true → is_passed_over text ≡ false
-not_passed [] name e h = absurd (clash (may_begin []) refl (ap may_begin e ∙ h))
+not_passed [] name e h = absurd (both_ways (may_begin []) refl (ap may_begin e ∙ h))
 not_passed (b ∷ bs) name e h = by (b == byte "#") refl (is_all_spaces (b ∷ bs)) refl
   where
     by : (v : Bool) → (b == byte "#") ≡ v → (x : Bool) → is_all_spaces (b ∷ bs) ≡ x → is_passed_over (b ∷ bs) ≡ false
     by true f x g =
         let hash : not (b == byte "#") ≡ false = ap not f in
-        absurd (clash _ hash (sym (same_begin b bs (no_hash b f)) ∙ ap may_begin e ∙ h))
-    by false f true g = absurd (clash (may_begin []) refl (ap may_begin (sym (no_word (b ∷ bs) g) ∙ e) ∙ h))
+        absurd (both_ways _ hash (sym (same_begin b bs (no_hash b f)) ∙ ap may_begin e ∙ h))
+    by false f true g = absurd (both_ways (may_begin []) refl (ap may_begin (sym (no_word (b ∷ bs) g) ∙ e) ∙ h))
     by false f false g = rw (f, g) refl
 
 -- ---- a text with a plain form asks for no data lines, and isn't passed over
@@ -75,8 +74,8 @@ named_apart : (text name : Bytes) → first_word text ≡ name → (if bytes_eq 
 named_apart text name e f g = record { no_csv = by (bytes_eq name (codes "force")) refl (bytes_eq name (codes "csv")) refl; read = not_passed text name e g }
   where
     by : (a : Bool) → bytes_eq name (codes "force") ≡ a → (c : Bool) → bytes_eq name (codes "csv") ≡ c → csv_text text ≡ None
-    by true h c k = absurd (clash true (sym (ap (λ (v : Bool). if v then true else bytes_eq name (codes "csv")) h) ∙ f) refl)
-    by false h true k = absurd (clash true (sym (ap (λ (v : Bool). if v then true else bytes_eq name (codes "csv")) h ∙ k) ∙ f) refl)
+    by true h c k = absurd (both_ways true (sym (ap (λ (v : Bool). if v then true else bytes_eq name (codes "csv")) h) ∙ f) refl)
+    by false h true k = absurd (both_ways true (sym (ap (λ (v : Bool). if v then true else bytes_eq name (codes "csv")) h ∙ k) ∙ f) refl)
     by false h false k =
         ap (λ (w : Bytes). if bytes_eq w (codes "force") then csv_named true (first_word (after_word text)) (after_word (after_word text)) else csv_named false w (after_word text)) e
         ∙ rw (h, k) refl
@@ -96,7 +95,7 @@ apart text (Clear false r) p h = named_apart text (codes "clear") h.0 refl refl
 apart text (Clear true r) p h = forced_apart text (codes "clear") h.0 h.1.0 refl
 apart text (Fill false at r) p h = named_apart text (codes "fill") h.0 refl refl
 apart text (Fill true at r) p h = forced_apart text (codes "fill") h.0 h.1.0 refl
-apart text (Csv force at n lines) p h = absurd (clash false refl p)
+apart text (Csv force at n lines) p h = absurd (both_ways false refl p)
 apart text (Scenario name at t) p h = named_apart text (codes "scenario") h.0 refl refl
 apart text (Drop name) p h = named_apart text (codes "drop") h.0 refl refl
 apart text (Base name None) p h = named_apart text (codes "base") h.0 refl refl
@@ -111,8 +110,8 @@ apart text (Table f r xs None) p h = named_apart text (codes "table") h.0 refl r
 apart text (Table f r xs (Some y)) p h = named_apart text (codes "table") h.0 refl refl
 apart text (Formula at) p h = named_apart text (codes "formula") h.0 refl refl
 apart text Changes p h = named_apart text (codes "changes") h.0 refl refl
-apart text Unknown p h = absurd (clash false refl p)
-apart text Unreadable p h = absurd (clash false refl p)
+apart text Unknown p h = absurd (both_ways false refl p)
+apart text Unreadable p h = absurd (both_ways false refl p)
 
 -- ---- a line with its data lines
 
@@ -127,7 +126,7 @@ module _ (line : Bytes) (taken : List Bytes) where
   plain_is g e p f = plain_line line taken (short_line line (le-ltb _ _ g.0) ∙ e) ∙ line_is line false (good_is line g) ∙ text_is (text_of line) p f
 
   is_none : IsGood line → is_passed_over (text_of line) ≡ true → TextReads (text_of line) → block_command (block line taken) ≡ None
-  is_none g p (inl f) = absurd (clash _ (csv_apart (text_of line) f.0 f.1 f.2 f.3) p)
+  is_none g p (inl f) = absurd (both_ways _ (csv_apart (text_of line) f.0 f.1 f.2 f.3) p)
   is_none g p (inr bad) = plain_is g bad.1 true p
 
   is_unknown : IsGood line → is_passed_over (text_of line) ≡ false → ((c : Command) → IsWritten (text_of line) (form c) → ⊥) → TextReads (text_of line) → Reads (text_of line)

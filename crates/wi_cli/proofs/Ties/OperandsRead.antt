@@ -5,7 +5,7 @@ use Rattle.std.specs.Str.{all_ascii_digits}
 use Rattle.std.specs.Str.Parse.{digits_value}
 use Rattle.std.proofs.lemmas.Bool.Decides.{nat_tests}
 use Rattle.std.proofs.lemmas.Slice.Eq.{bytes_eq-Decides}
-use Rattle.std.proofs.lemmas.Bool.{le-leb, leb-true, and_parts}
+use Rattle.std.proofs.lemmas.Bool.{le-leb, leb-true, and_parts, both_ways}
 use Rattle.wi_values.specs.AddressReading.{read_address, read_rect}
 use Rattle.wi_values.specs.Name.{is_name, read_name}
 use Rattle.wi_values.specs.declared.address.AddressFault.{AddressFault}
@@ -17,7 +17,6 @@ use Rattle.wi_cli.specs.Operands.{Cell, Corners, is_outside, address, area, IsAd
 use Rattle.wi_cli.specs.Laws.{read_by}
 use Rattle.wi_cli.proofs.Ties.Addresses.{same_addr}
 use Rattle.wi_cli.proofs.Ties.Rects.{same_rect}
-use Rattle.wi_cli.proofs.Ties.Tables.{clash}
 
 -- ---- cells and rectangles
 
@@ -63,7 +62,7 @@ name_or word = by (is_name word) refl
     by false e = inr (ap (λ (b : Bool). if b then Some word else None) e, e)
 
 pub no_name : (word name : Bytes) → is_name word ≡ false → word ≡ name → is_name name ≡ true → ⊥
-no_name word name e w h = clash (is_name word) e (ap is_name w ∙ h)
+no_name word name e w h = both_ways (is_name word) e (ap is_name w ∙ h)
 
 -- a scenario's name, or `-`
 dash_is : (word : Bytes) → bytes_eq word (codes "-") ≡ true → word ≡ codes "-"
@@ -74,7 +73,7 @@ side_read word None h = ap read_side h
 side_read word (Some name) h = by (bytes_eq word (codes "-")) refl
   where
     by : (b : Bool) → bytes_eq word (codes "-") ≡ b → read_side word ≡ Some (Some name)
-    by true e = absurd (clash (is_name (codes "-")) refl (ap is_name (sym (dash_is word e) ∙ h.0) ∙ h.1))
+    by true e = absurd (both_ways (is_name (codes "-")) refl (ap is_name (sym (dash_is word e) ∙ h.0) ∙ h.1))
     by false e =
         ap (λ (b : Bool). if b then Some None else option_map (λ (n : Bytes). Some n) (read_name word)) e
         ∙ ap (option_map (λ (n : Bytes). Some n)) (name_read word name h.0 h.1)
@@ -90,13 +89,13 @@ side_or word = by (bytes_eq word (codes "-")) refl (name_or word)
         inr (ap (λ (b : Bool). if b then Some None else option_map (λ (n : Bytes). Some n) (read_name word)) e ∙ ap (option_map (λ (n : Bytes). Some n)) h.0, none)
       where
         none : (p : Option Bytes) → IsSpelled word (SIDE p) → ⊥
-        none None k = clash (bytes_eq word (codes "-")) e ((bytes_eq-Decides word (codes "-")).1 k)
+        none None k = both_ways (bytes_eq word (codes "-")) e ((bytes_eq-Decides word (codes "-")).1 k)
         none (Some name) k = no_name word name h.1 k.0 k.1
 
 -- ---- numbers of lines
 
 some_bytes : (word : Bytes) → nat_lt 0 (length word) ≡ true → word ≡ [] → ⊥
-some_bytes word e h = clash false refl (sym (ap (λ (w : Bytes). nat_lt 0 (length w)) h) ∙ e)
+some_bytes word e h = both_ways false refl (sym (ap (λ (w : Bytes). nat_lt 0 (length w)) h) ∙ e)
 
 is_some_bytes : (word : Bytes) → (word ≡ [] → ⊥) → nat_lt 0 (length word) ≡ true
 is_some_bytes [] h = absurd (h refl)
@@ -125,7 +124,7 @@ lines_or word = by (is_number word) refl
         let q = and_parts _ _ p.0 in
         let r = and_parts _ _ q.0 in
         inl (digits_value 10 word, (some_bytes word r.0, leb-true _ _ r.1, q.1, refl, leb-true _ _ p.1))
-    by false e = inr (ap (λ (b : Bool). if b then Some (digits_value 10 word) else None) e, λ n h. clash (is_number word) e (is_number_of word n h))
+    by false e = inr (ap (λ (b : Bool). if b then Some (digits_value 10 word) else None) e, λ n h. both_ways (is_number word) e (is_number_of word n h))
 
 -- ---- spaces
 

@@ -1,15 +1,15 @@
 -- The steps of the commands of scenarios and sessions.
-use Rattle.std.proofs.Common.{◌≡◌, ◌≤◌, ℕ, Bool, true, false, not, ◌||◌, ◌&&◌, nat_le, List, [], ◌∷◌, length, ◌⊎◌, inl, inr, Option, Some, None, is_some, refl, sym, ap, ◌∙◌, subst, arith}
+use Rattle.std.proofs.Common.{◌≡◌, ℕ, Bool, true, false, not, ◌||◌, ◌&&◌, nat_le, List, [], ◌∷◌, length, ◌⊎◌, inl, inr, Option, Some, None, is_some, refl, sym, ap, ◌∙◌, subst, arith}
 use Rattle.std.specs.List.{list_any, Any}
-use Rattle.std.proofs.lemmas.Bool.Decides.{nat_tests}
 use Rattle.std.proofs.lemmas.List.Folds.{Any-from_list_any, list_any-from_Any}
 use Rattle.std.proofs.lemmas.Slice.Eq.{bytes_eq-Decides}
-use Rattle.std.proofs.lemmas.Bool.{or_parts, or_cases}
+use Rattle.std.proofs.lemmas.Bool.{or_parts, or_cases, both_ways, leb-true, le-leb}
 use Rattle.std.proofs.Math.Bool.{or-false}
 use Rattle.wi_values.specs.declared.value.Value.{Value}
 use Rattle.wi_values.specs.Imported.{IsImported}
 use Rattle.wi_values.specs.Inner.Import.{imported}
 use Rattle.wi_values.proofs.Imports.{imported_exactly}
+use Rattle.wi_values.proofs.Lists.{Any-weaker}
 use Rattle.wi_scenario_list.specs.Scenarios.{Scenario as Kept, is_named, has_scenario, scenario_for, without_scenario, with_own, without_own, is_full}
 use Rattle.wi_scenario_list.specs.Inner.Chains.{chain}
 use Rattle.wi_scenario_list.specs.Bases.{is_name_of, is_base, based_on, lacks, would_loop}
@@ -25,14 +25,12 @@ use Rattle.wi_cli.specs.Causes.{Cause, Outside, TooLarge, NoScenario, InUse, Too
 use Rattle.wi_cli.specs.Does.{Does, state_with}
 use Rattle.wi_cli.specs.Step.{causes}
 use Rattle.wi_cli.specs.Laws.{SameStep, was}
-use Rattle.wi_cli.proofs.Ties.Tables.{clash}
-use Rattle.wi_cli.proofs.Ties.CsvSteps.{any_as}
 use Rattle.wi_cli.proofs.Ties.Tests.{first_test, found, some_none, by_tests}
 
 -- ---- names that are given
 
 named_is : (name : Bytes) (o : Option Bytes) → is_name_of name o ≡ true → o ≡ Some name
-named_is name None e = absurd (clash false refl e)
+named_is name None e = absurd (both_ways false refl e)
 named_is name (Some other) e = ap (λ (x : Bytes). Some x) (sym ((bytes_eq-Decides name other).0 e))
 
 is_named_so : (name : Bytes) (o : Option Bytes) → o ≡ Some name → is_name_of name o ≡ true
@@ -41,18 +39,18 @@ is_named_so name o e = ap (is_name_of name) e ∙ (bytes_eq-Decides name name).1
 module _ {X : Type 0} (given : X → Option Bytes) (name : Bytes) (xs : List X) where
   some_named : list_any (λ x. is_name_of name (given x)) xs ≡ true → Any (λ x. given x ≡ Some name) xs
   some_named e =
-      any_as (λ x. is_name_of name (given x) ≡ true) (λ x. given x ≡ Some name) xs (λ x h. named_is name (given x) h) (Any-from_list_any (λ x. is_name_of name (given x)) xs e)
+      Any-weaker (λ x. is_name_of name (given x) ≡ true) (λ x. given x ≡ Some name) xs (λ x h. named_is name (given x) h) (Any-from_list_any (λ x. is_name_of name (given x)) xs e)
 
   none_named : list_any (λ x. is_name_of name (given x)) xs ≡ false → Any (λ x. given x ≡ Some name) xs → ⊥
   none_named e h =
-      clash _ e (list_any-from_Any (λ x. is_name_of name (given x)) xs (any_as (λ x. given x ≡ Some name) (λ x. is_name_of name (given x) ≡ true) xs (λ x k. is_named_so name (given x) k) h))
+      both_ways _ e (list_any-from_Any (λ x. is_name_of name (given x)) xs (Any-weaker (λ x. given x ≡ Some name) (λ x. is_name_of name (given x) ≡ true) xs (λ x k. is_named_so name (given x) k) h))
 
 module _ (name : Bytes) (xs : List Kept) where
   in_chain : list_any (is_named name) xs ≡ true → Any (λ x. x.name ≡ name) xs
-  in_chain e = any_as (λ x. is_named name x ≡ true) (λ x. x.name ≡ name) xs (λ x h. sym ((bytes_eq-Decides name x.name).0 h)) (Any-from_list_any (is_named name) xs e)
+  in_chain e = Any-weaker (λ x. is_named name x ≡ true) (λ x. x.name ≡ name) xs (λ x h. sym ((bytes_eq-Decides name x.name).0 h)) (Any-from_list_any (is_named name) xs e)
 
   not_in_chain : list_any (is_named name) xs ≡ false → Any (λ x. x.name ≡ name) xs → ⊥
-  not_in_chain e h = clash _ e (list_any-from_Any (is_named name) xs (any_as (λ x. x.name ≡ name) (λ x. is_named name x ≡ true) xs (λ x k. (bytes_eq-Decides name x.name).1 (sym k)) h))
+  not_in_chain e h = both_ways _ e (list_any-from_Any (is_named name) xs (Any-weaker (λ x. x.name ≡ name) (λ x. is_named name x ≡ true) xs (λ x k. (bytes_eq-Decides name x.name).1 (sym k)) h))
 
 -- ---- drop
 
@@ -72,12 +70,12 @@ module _ (s : State) (name : Bytes) where
       by : (list_any (λ x. is_name_of name x.scenario) s.sessions ≡ true) ⊎ (is_base s.scenarios name ≡ true) → Holds s InUse (Drop name)
       by (inl h) = inl (some_named (λ (x : Session). x.scenario) name s.sessions h)
       by (inr h) = inr (some_named (λ (x : Kept). x.base) name s.scenarios h)
-  drop_yes x e = absurd (clash false refl e)
+  drop_yes x e = absurd (both_ways false refl e)
 
   drop_no : (x : Cause) → drop_test x ≡ false → Holds s x (Drop name) → ⊥
-  drop_no Outside e h = clash false refl h
+  drop_no Outside e h = both_ways false refl h
   drop_no TooLarge e h = omega (arith, h)
-  drop_no NoScenario e h = clash _ e h
+  drop_no NoScenario e h = both_ways _ e h
   drop_no InUse e (inl h) =
       none_named (λ (x : Session). x.scenario) name s.sessions (or_parts (list_any (λ x. is_name_of name x.scenario) s.sessions) (is_base s.scenarios name) e).0 h
   drop_no InUse e (inr h) =
@@ -109,17 +107,17 @@ module _ (s : State) (name : Option Bytes) where
   use_test x = false
 
 use_yes : (s : State) (name : Option Bytes) (x : Cause) → use_test s name x ≡ true → Holds s x (Use name)
-use_yes s None NoScenario e = absurd (clash false refl e)
+use_yes s None NoScenario e = absurd (both_ways false refl e)
 use_yes s (Some name) NoScenario e = ap (λ (b : Bool). b || false) e
-use_yes s name x e = absurd (clash false refl e)
+use_yes s name x e = absurd (both_ways false refl e)
 
 use_no : (s : State) (name : Option Bytes) (x : Cause) → use_test s name x ≡ false → Holds s x (Use name) → ⊥
-use_no s None Outside e h = clash false refl h
-use_no s (Some name) Outside e h = clash false refl h
+use_no s None Outside e h = both_ways false refl h
+use_no s (Some name) Outside e h = both_ways false refl h
 use_no s None TooLarge e h = omega (arith, h)
 use_no s (Some name) TooLarge e h = omega (arith, h)
-use_no s None NoScenario e h = clash false refl h
-use_no s (Some name) NoScenario e h = clash _ (ap (λ (b : Bool). b || false) e) h
+use_no s None NoScenario e h = both_ways false refl h
+use_no s (Some name) NoScenario e h = both_ways _ (ap (λ (b : Bool). b || false) e) h
 use_no s name Stale e h = h.1 refl
 use_no s name Full e h = h.1
 use_no s name EditLimit e h = h.1
@@ -152,30 +150,24 @@ module _ (s : State) (name : Bytes) where
   as_test x = false
 
   new_of_many : (t m : Bool) → (not t && m) ≡ true → (t ≡ false) × (m ≡ true)
-  new_of_many true m e = absurd (clash false refl e)
+  new_of_many true m e = absurd (both_ways false refl e)
   new_of_many false m e = (refl, e)
 
   not_both : (t m : Bool) → (not t && m) ≡ false → t ≡ false → m ≡ true → ⊥
-  not_both true m e h k = clash true h refl
-  not_both false m e h k = clash m e k
-
-  at_most : (n m : ℕ) → nat_le n m ≡ true → n ≤ m
-  at_most n m e = grind (arith, nat_tests)
-
-  within : (n m : ℕ) → n ≤ m → nat_le n m ≡ true
-  within n m h = grind (arith, nat_tests)
+  not_both true m e h k = both_ways true h refl
+  not_both false m e h k = both_ways m e k
 
   as_yes : (x : Cause) → as_test x ≡ true → Holds s x (As name)
   as_yes TooMany e =
       let p = new_of_many there many e in
-      (p.0, at_most _ _ p.1)
-  as_yes x e = absurd (clash false refl e)
+      (p.0, leb-true _ _ p.1)
+  as_yes x e = absurd (both_ways false refl e)
 
   as_no : (x : Cause) → as_test x ≡ false → Holds s x (As name) → ⊥
-  as_no Outside e h = clash false refl h
+  as_no Outside e h = both_ways false refl h
   as_no TooLarge e h = omega (arith, h)
-  as_no NoScenario e h = clash false refl h
-  as_no TooMany e h = not_both there many e h.0 (within _ _ h.1)
+  as_no NoScenario e h = both_ways false refl h
+  as_no TooMany e h = not_both there many e h.0 (le-leb _ _ h.1)
   as_no Stale e h = h.1 refl
   as_no Full e h = h.1
   as_no EditLimit e h = h.1
@@ -207,16 +199,16 @@ missing_base s name (Some other) = ap (λ (b : Bool). not (has_scenario s.scenar
 
 pub base_yes : (s : State) (name : Bytes) (other : Option Bytes) (x : Cause) → base_test s name other x ≡ true → Holds s x (Base name other)
 base_yes s name other NoScenario e = missing_base s name other ∙ e
-base_yes s name None Loop e = absurd (clash false refl e)
+base_yes s name None Loop e = absurd (both_ways false refl e)
 base_yes s name (Some other) Loop e = in_chain name (chain s.scenarios (Some other)) e
-base_yes s name other x e = absurd (clash false refl e)
+base_yes s name other x e = absurd (both_ways false refl e)
 
 base_no : (s : State) (name : Bytes) (other : Option Bytes) (x : Cause) → base_test s name other x ≡ false → Holds s x (Base name other) → ⊥
-base_no s name None Outside e h = clash false refl h
-base_no s name (Some other) Outside e h = clash false refl h
+base_no s name None Outside e h = both_ways false refl h
+base_no s name (Some other) Outside e h = both_ways false refl h
 base_no s name None TooLarge e h = omega (arith, h)
 base_no s name (Some other) TooLarge e h = omega (arith, h)
-base_no s name other NoScenario e h = clash _ e (sym (missing_base s name other) ∙ h)
+base_no s name other NoScenario e h = both_ways _ e (sym (missing_base s name other) ∙ h)
 base_no s name None Loop e h = h
 base_no s name (Some other) Loop e h = not_in_chain name (chain s.scenarios (Some other)) e h
 base_no s name other Stale e h = h.1 refl
@@ -250,12 +242,12 @@ module _ (s : State) (name : Bytes) (at : Cell) where
   away_yes : (x : Cause) → away_test x ≡ true → Holds s x (Scenario name at [])
   away_yes Outside e = e
   away_yes NoScenario e = e
-  away_yes x e = absurd (clash false refl e)
+  away_yes x e = absurd (both_ways false refl e)
 
   away_no : (x : Cause) → away_test x ≡ false → Holds s x (Scenario name at []) → ⊥
-  away_no Outside e h = clash _ e h
+  away_no Outside e h = both_ways _ e h
   away_no TooLarge e h = omega (arith, h)
-  away_no NoScenario e h = clash _ e h
+  away_no NoScenario e h = both_ways _ e h
   away_no Stale e h = h.1 refl
   away_no Full e h = h.1
   away_no EditLimit e h = h.1
@@ -291,22 +283,22 @@ module _ (s : State) (name : Bytes) (at : Cell) (b : ℕ) (bs : Bytes) (value : 
 
   no_value : (o : Option Value) → not (is_some o) ≡ true → o ≡ None
   no_value None e = refl
-  no_value (Some v) e = absurd (clash false refl e)
+  no_value (Some v) e = absurd (both_ways false refl e)
 
   some_value : (o : Option Value) → o ≡ None → not (is_some o) ≡ false → ⊥
-  some_value None h e = clash true e refl
+  some_value None h e = both_ways true e refl
   some_value (Some v) h e = cc
 
   put_yes : (x : Cause) → put_test x ≡ true → Holds s x put
   put_yes Outside e = e
   put_yes TooMany e = e
   put_yes TooLong e = subst (IsImported (b ∷ bs)) (no_value value e) is
-  put_yes x e = absurd (clash false refl e)
+  put_yes x e = absurd (both_ways false refl e)
 
   put_no : (x : Cause) → put_test x ≡ false → Holds s x put → ⊥
-  put_no Outside e h = clash _ e h
+  put_no Outside e h = both_ways _ e h
   put_no TooLarge e h = omega (arith, h)
-  put_no TooMany e h = clash _ e h
+  put_no TooMany e h = both_ways _ e h
   put_no TooLong e h = some_value value (one_value value None is h) e
   put_no Stale e h = h.1 refl
   put_no Full e h = h.1

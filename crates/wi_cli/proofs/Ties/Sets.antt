@@ -2,6 +2,7 @@
 use Rattle.std.proofs.Common.{◌≡◌, ◌↔◌, ◌<◌, ℕ, Bool, true, false, ◌==◌, List, [], ◌∷◌, length, ◌⊎◌, inl, inr, Some, None, Result, Ok, Err, if◌then◌else◌, refl, sym, ap, ◌∙◌, subst, arith}
 use Rattle.std.specs.List.{list_any}
 use Rattle.std.proofs.lemmas.Bool.Decides.{nat_tests}
+use Rattle.std.proofs.lemmas.Bool.{both_ways}
 use Rattle.wi_values.specs.Address.{Area}
 use Rattle.wi_parser.specs.declared.content.Content.{Content}
 use Rattle.wi_parser.specs.declared.fault.ParseFault.{ParseFault}
@@ -28,7 +29,6 @@ use Rattle.wi_cli.specs.Does.{Does}
 use Rattle.wi_cli.specs.Laws.{SameStep, read_by, read_cell}
 use Rattle.wi_cli.proofs.Ties.Uniqueness.{answers, same_answers, outside_step}
 use Rattle.wi_cli.proofs.Ties.EditSteps.{last, edit_step}
-use Rattle.wi_cli.proofs.Ties.Tables.{clash}
 use Rattle.wi_scenarios.proofs.SetLemmas.{rect_cell}
 
 -- ---- contents
@@ -100,7 +100,7 @@ module _ (s : State) (force : Bool) (c : Cell) (text : Bytes) (inside : is_outsi
   module _ (some : Holds s BadCommand set → ⊥) where
     front : (x : Cause) → IsFirstOf s set behind x → IsFirstOf s set causes x
     front x h =
-        inr (λ k. k, inr (some, inr (λ k. k, inr (λ k. clash _ (not_outside force) k, inr (small force, inr (λ k. clash _ (none_missing force) k, inr (λ k. k, inr (λ k. k, inr (λ k. k, h)))))))))
+        inr (λ k. k, inr (some, inr (λ k. k, inr (λ k. both_ways _ (not_outside force) k, inr (small force, inr (λ k. both_ways _ (none_missing force) k, inr (λ k. k, inr (λ k. k, inr (λ k. k, h)))))))))
 
     -- the content isn't refused so, where it is read as this
     differs : (r : Result Content ParseFault) → IsContent text r → (e : ParseFault) → (r ≡ Err e → ⊥) → IsContent text (Err e) → ⊥
@@ -121,9 +121,9 @@ module _ (s : State) (force : Bool) (c : Cell) (text : Bytes) (inside : is_outsi
 
       only : (x : Cause) → Holds s x set → Holds s Stale set ⊎ (Holds s Full set ⊎ Holds s EditLimit set)
       only BadCommand h = absurd (some h)
-      only Outside h = absurd (clash _ (not_outside force) h)
+      only Outside h = absurd (both_ways _ (not_outside force) h)
       only TooLarge h = absurd (small force h)
-      only NoScenario h = absurd (clash _ (none_missing force) h)
+      only NoScenario h = absurd (both_ways _ (none_missing force) h)
       only TooLong h = absurd (no_fault _ h)
       only OutOfSheet h = absurd (no_fault _ h)
       only NumberRange h = absurd (no_fault _ h)

@@ -1,8 +1,9 @@
 -- The step of `table`.
 use Rattle.std.proofs.Common.{◌≡◌, ◌<◌, ℕ, min, max, Bool, true, false, not, ◌||◌, ◌&&◌, ◌==◌, nat_lt, inl, inr, None, Ok, Err, refl, sym, ap, ◌∙◌, subst, arith}
 use Rattle.std.proofs.lemmas.Bool.Decides.{nat_tests}
-use Rattle.std.proofs.lemmas.Bool.{or_parts}
-use Rattle.wi_values.specs.Address.{Area, columns, place, row_of, column_of}
+use Rattle.std.proofs.lemmas.Bool.{or_parts, both_ways}
+use Rattle.wi_values.specs.Address.{Area, columns, column_of}
+use Rattle.wi_values.proofs.Within.{column_of_place}
 use Rattle.wi_scenarios.specs.declared.refusal.Refusal.TheVariants as refusal
 use Rattle.wi_scenarios.specs.State.{State, max_area}
 use Rattle.wi_scenarios.specs.Views.{current_replacements}
@@ -51,9 +52,6 @@ module _ (s : State) (f r : ℕ) (xs : Area) where
 
 -- ---- as it is
 
-pub clash : (b : Bool) → b ≡ false → b ≡ true → ⊥
-clash b e h = cc
-
 pub too_large : (n : ℕ) → nat_lt max_area n ≡ true → max_area < n
 too_large n e = grind (arith, nat_tests)
 
@@ -64,12 +62,6 @@ pub inside : (c : Cell) → is_outside c ≡ false → c.column < columns
 inside c e = grind (arith, nat_tests)
 
 -- the row and the column of a cell, and whether two columns are one
-pub row_place : (r c : ℕ) → c < columns → row_of (place r c) ≡ r
-row_place r c h = omega arith
-
-pub column_place : (r c : ℕ) → c < columns → column_of (place r c) ≡ c
-column_place r c h = omega arith
-
 pub min_max : (a b : ℕ) → (min a b == max a b) ≡ (a == b)
 min_max a b = grind (arith, nat_tests)
 
@@ -82,10 +74,10 @@ module _ (s : State) (f r : Cell) (xs : Corners) where
 
   no_cause : is_outside f ≡ false → is_outside r ≡ false → (is_outside xs.0 || is_outside xs.1) ≡ false → (xs.0.column == xs.1.column) ≡ true
       → nat_lt max_area (entries (area xs) None) ≡ false → (x : Cause) → Holds s x table → ⊥
-  no_cause ef er ex ec eb BadCommand h = clash _ (rw (ex, ec) refl) h
-  no_cause ef er ex ec eb Outside h = clash _ (rw (ef, er, ex) refl) h
+  no_cause ef er ex ec eb BadCommand h = both_ways _ (rw (ex, ec) refl) h
+  no_cause ef er ex ec eb Outside h = both_ways _ (rw (ef, er, ex) refl) h
   no_cause ef er ex ec eb TooLarge h = not_large _ eb h
-  no_cause ef er ex ec eb NoScenario h = clash false refl h
+  no_cause ef er ex ec eb NoScenario h = both_ways false refl h
   no_cause ef er ex ec eb Stale h = h.1 refl
   no_cause ef er ex ec eb Full h = h.1
   no_cause ef er ex ec eb EditLimit h = h.1
@@ -100,17 +92,17 @@ module _ (s : State) (f r : Cell) (xs : Corners) where
   outside ec e = (Outside, inr (λ h. h, inr (λ h. bent (is_outside xs.0 || is_outside xs.1) refl h, inr (λ h. h, inl (e, refl)))), refl)
     where
       bent : (b : Bool) → (is_outside xs.0 || is_outside xs.1) ≡ b → (not b && not (xs.0.column == xs.1.column)) ≡ true → ⊥
-      bent true e h = clash false refl h
-      bent false e h = clash _ (rw (ec e) refl) h
+      bent true e h = both_ways false refl h
+      bent false e h = both_ways _ (rw (ec e) refl) h
 
   large : is_outside f ≡ false → is_outside r ≡ false → (is_outside xs.0 || is_outside xs.1) ≡ false → (xs.0.column == xs.1.column) ≡ true
       → nat_lt max_area (entries (area xs) None) ≡ true → IsStep s table (Err refusal.TooLarge)
-  large ef er ex ec eb = (TooLarge, inr (λ h. h, inr (λ h. clash _ (rw (ex, ec) refl) h, inr (λ h. h, inr (λ h. clash _ (rw (ef, er, ex) refl) h, inl (too_large _ eb, refl))))), refl)
+  large ef er ex ec eb = (TooLarge, inr (λ h. h, inr (λ h. both_ways _ (rw (ex, ec) refl) h, inr (λ h. h, inr (λ h. both_ways _ (rw (ef, er, ex) refl) h, inl (too_large _ eb, refl))))), refl)
 
   now : (ox column of or big : Bool) → (is_outside xs.0 || is_outside xs.1) ≡ ox → (xs.0.column == xs.1.column) ≡ column → is_outside f ≡ of → is_outside r ≡ or
       → nat_lt max_area (entries (area xs) None) ≡ big → IsStep s table (found ox column of or big after)
   now false false of or big ex ec ef er eb = bad ex ec
-  now true column of or big ex ec ef er eb = outside (λ e. absurd (clash _ e ex)) (any of or ef er)
+  now true column of or big ex ec ef er eb = outside (λ e. absurd (both_ways _ e ex)) (any of or ef er)
     where
       any : (of or : Bool) → is_outside f ≡ of → is_outside r ≡ or → (is_outside f || (is_outside r || ((is_outside xs.0 || is_outside xs.1) || false))) ≡ true
       any true or ef er = rw ef refl
@@ -129,12 +121,12 @@ module _ (s : State) (f r : Cell) (xs : Corners) where
   column_is ex =
       let a : xs.0.column < columns = inside xs.0 (or_parts _ _ ex).0 in
       let b : xs.1.column < columns = inside xs.1 (or_parts _ _ ex).1 in
-      let c : column_of (address xs.0) ≡ xs.0.column = column_place xs.0.row xs.0.column a in
-      let d : column_of (address xs.1) ≡ xs.1.column = column_place xs.1.row xs.1.column b in
+      let c : column_of (address xs.0) ≡ xs.0.column = column_of_place xs.0.row xs.0.column a in
+      let d : column_of (address xs.1) ≡ xs.1.column = column_of_place xs.1.row xs.1.column b in
       let low : column_of (area xs).first ≡ min xs.0.column xs.1.column =
-      column_place _ _ (rw (c, d) (omega arith)) ∙ rw (c, d) refl in
+      column_of_place _ _ (rw (c, d) (omega arith)) ∙ rw (c, d) refl in
       let high : column_of (area xs).last ≡ max xs.0.column xs.1.column =
-      column_place _ _ (rw (c, d) (omega arith)) ∙ rw (c, d) refl in
+      column_of_place _ _ (rw (c, d) (omega arith)) ∙ rw (c, d) refl in
       ap (λ (n : ℕ). n == column_of (area xs).last) low ∙ ap (λ (n : ℕ). min xs.0.column xs.1.column == n) high ∙ min_max xs.0.column xs.1.column
 
   pub same_table : SameStep s (Table f r xs None)

@@ -2,11 +2,12 @@
 use Rattle.std.proofs.Common.{◌≡◌, ◌<◌, ◌*◌, ℕ, min, max, Bool, true, false, not, ◌||◌, ◌&&◌, ◌==◌, nat_lt, List, [], ◌∷◌, Option, Some, None, Result, if◌then◌else◌, refl, sym, ap, ◌∙◌, subst, arith}
 use Rattle.std.specs.List.{list_any}
 use Rattle.std.specs.Result.{result_err}
-use Rattle.std.proofs.lemmas.Bool.{or_parts}
+use Rattle.std.proofs.lemmas.Bool.{or_parts, both_ways}
 use Rattle.std.proofs.Math.Bool.{or-false}
 use Rattle.wi_values.specs.Address.{Area, columns, place, row_of, column_of, size_of}
 use Rattle.wi_values.specs.declared.address.AddressFault.{AddressFault}
 use Rattle.wi_values.specs.declared.address.AddressFault.TheVariants.{Shape, Outside as AtOutside}
+use Rattle.wi_values.proofs.Within.{row_of_place, column_of_place}
 use Rattle.wi_scenarios.specs.declared.refusal.Refusal.TheVariants as refusal
 use Rattle.wi_scenarios.specs.State.{State, max_area}
 use Rattle.wi_scenarios.specs.Views.{current_replacements}
@@ -21,7 +22,7 @@ use Rattle.wi_cli.specs.Command.{Command, Table}
 use Rattle.wi_cli.specs.Causes.{Cause, BadCommand, Outside, TooLarge, NoScenario, Stale, Full, EditLimit, Holds}
 use Rattle.wi_cli.specs.Step.{Answer, causes}
 use Rattle.wi_cli.specs.Laws.{SameStep, read_by, read_cell, read_corners, was}
-use Rattle.wi_cli.proofs.Ties.Tables.{clash, too_large, not_large, inside, row_place, column_place, min_max, column_is}
+use Rattle.wi_cli.proofs.Ties.Tables.{too_large, not_large, inside, min_max, column_is}
 use Rattle.wi_cli.proofs.Ties.Looks.{once}
 use Rattle.wi_cli.proofs.Ties.Tests.{first_test, found, by_tests}
 
@@ -44,19 +45,19 @@ worst (o ∷ os) = worse o (worst os)
 none_bad : (os : List (Option AddressFault)) → list_any is_shape os ≡ false → list_any is_out os ≡ false → worst os ≡ None
 none_bad [] h k = refl
 none_bad (None ∷ os) h k = none_bad os h k
-none_bad (Some Shape ∷ os) h k = absurd (clash true h refl)
-none_bad (Some AtOutside ∷ os) h k = absurd (clash true k refl)
+none_bad (Some Shape ∷ os) h k = absurd (both_ways true h refl)
+none_bad (Some AtOutside ∷ os) h k = absurd (both_ways true k refl)
 
 shape_first : (os : List (Option AddressFault)) → list_any is_shape os ≡ true → worst os ≡ Some Shape
-shape_first [] h = absurd (clash false refl h)
+shape_first [] h = absurd (both_ways false refl h)
 shape_first (None ∷ os) h = shape_first os h
 shape_first (Some Shape ∷ os) h = refl
 shape_first (Some AtOutside ∷ os) h = ap (worse (Some AtOutside)) (shape_first os h)
 
 outside_next : (os : List (Option AddressFault)) → list_any is_shape os ≡ false → list_any is_out os ≡ true → worst os ≡ Some AtOutside
-outside_next [] h k = absurd (clash false refl k)
+outside_next [] h k = absurd (both_ways false refl k)
 outside_next (None ∷ os) h k = outside_next os h k
-outside_next (Some Shape ∷ os) h k = absurd (clash true h refl)
+outside_next (Some Shape ∷ os) h k = absurd (both_ways true h refl)
 outside_next (Some AtOutside ∷ os) h k = by (list_any is_out os) refl (λ j. outside_next os h j)
   where
     by : (b : Bool) → list_any is_out os ≡ b → (list_any is_out os ≡ true → worst os ≡ Some AtOutside) → worse (Some AtOutside) (worst os) ≡ Some AtOutside
@@ -105,25 +106,25 @@ row_is : (ys : Corners) → (is_outside ys.0 || is_outside ys.1) ≡ false → i
 row_is ys ey =
     let a : ys.0.column < columns = inside ys.0 (or_parts _ _ ey).0 in
     let b : ys.1.column < columns = inside ys.1 (or_parts _ _ ey).1 in
-    let c : column_of (address ys.0) ≡ ys.0.column = column_place ys.0.row ys.0.column a in
-    let d : column_of (address ys.1) ≡ ys.1.column = column_place ys.1.row ys.1.column b in
-    let e : row_of (address ys.0) ≡ ys.0.row = row_place ys.0.row ys.0.column a in
-    let f : row_of (address ys.1) ≡ ys.1.row = row_place ys.1.row ys.1.column b in
-    let low : row_of (area ys).first ≡ min ys.0.row ys.1.row = row_place _ _ (rw (c, d) (omega arith)) ∙ rw (e, f) refl in
-    let high : row_of (area ys).last ≡ max ys.0.row ys.1.row = row_place _ _ (rw (c, d) (omega arith)) ∙ rw (e, f) refl in
+    let c : column_of (address ys.0) ≡ ys.0.column = column_of_place ys.0.row ys.0.column a in
+    let d : column_of (address ys.1) ≡ ys.1.column = column_of_place ys.1.row ys.1.column b in
+    let e : row_of (address ys.0) ≡ ys.0.row = row_of_place ys.0.row ys.0.column a in
+    let f : row_of (address ys.1) ≡ ys.1.row = row_of_place ys.1.row ys.1.column b in
+    let low : row_of (area ys).first ≡ min ys.0.row ys.1.row = row_of_place _ _ (rw (c, d) (omega arith)) ∙ rw (e, f) refl in
+    let high : row_of (area ys).last ≡ max ys.0.row ys.1.row = row_of_place _ _ (rw (c, d) (omega arith)) ∙ rw (e, f) refl in
     ap (λ (n : ℕ). n == row_of (area ys).last) low ∙ ap (λ (n : ℕ). min ys.0.row ys.1.row == n) high ∙ min_max ys.0.row ys.1.row
 
 straight : (o e : Bool) → (not o && not e) ≡ false → o ≡ false → e ≡ true
-straight true e h k = absurd (clash true k refl)
+straight true e h k = absurd (both_ways true k refl)
 straight false true h k = refl
-straight false false h k = absurd (clash true h refl)
+straight false false h k = absurd (both_ways true h refl)
 
 -- none of five holds
 none_of : (a b c d e : Bool) → (a || (b || (c || (d || (e || false))))) ≡ false → (a ≡ false) × (b ≡ false) × (c ≡ false) × (d ≡ false) × (e ≡ false)
-none_of true b c d e h = absurd (clash true h refl)
-none_of false true c d e h = absurd (clash true h refl)
-none_of false false true d e h = absurd (clash true h refl)
-none_of false false false true e h = absurd (clash true h refl)
+none_of true b c d e h = absurd (both_ways true h refl)
+none_of false true c d e h = absurd (both_ways true h refl)
+none_of false false true d e h = absurd (both_ways true h refl)
+none_of false false false true e h = absurd (both_ways true h refl)
 none_of false false false false e h = (refl, refl, refl, refl, (or_parts e false h).0)
 
 -- ---- the step
@@ -163,9 +164,9 @@ module _ (s : State) (f r : Cell) (xs : Corners) (c : Cell) (ys : Corners) where
       by _ _ _ _ _ _ _ a b d e g
     where
       by : (p q x y z u v : Bool) → p ≡ false → q ≡ false → x ≡ u → y ≡ false → z ≡ v → (p || (q || (x || (y || (z || false))))) ≡ (u || v)
-      by true q x y z u v a b d e g = absurd (clash true a refl)
-      by false true x y z u v a b d e g = absurd (clash true b refl)
-      by false false x true z u v a b d e g = absurd (clash true e refl)
+      by true q x y z u v a b d e g = absurd (both_ways true a refl)
+      by false true x y z u v a b d e g = absurd (both_ways true b refl)
+      by false false x true z u v a b d e g = absurd (both_ways true e refl)
       by false false x false z u v a b d e g = ap (λ (k : Bool). x || k) (or-false z) ∙ ap (λ (k : Bool). k || z) d ∙ ap (λ (k : Bool). u || k) g
 
   outs : list_any is_out faults ≡ out
@@ -199,13 +200,13 @@ module _ (s : State) (f r : Cell) (xs : Corners) (c : Cell) (ys : Corners) where
   table_yes BadCommand e = e
   table_yes Outside e = e
   table_yes TooLarge e = too_large _ e
-  table_yes x e = absurd (clash false refl e)
+  table_yes x e = absurd (both_ways false refl e)
 
   table_no : (x : Cause) → table_test x ≡ false → Holds s x table → ⊥
-  table_no BadCommand e h = clash _ e h
-  table_no Outside e h = clash _ e h
+  table_no BadCommand e h = both_ways _ e h
+  table_no Outside e h = both_ways _ e h
   table_no TooLarge e h = not_large _ e h
-  table_no NoScenario e h = clash false refl h
+  table_no NoScenario e h = both_ways false refl h
   table_no Stale e h = h.1 refl
   table_no Full e h = h.1
   table_no EditLimit e h = h.1
@@ -287,8 +288,8 @@ module _ (s : State) (f r : Cell) (xs : Corners) where
       (column_shape (is_outside xs.0 || is_outside xs.1) (xs.0.column == xs.1.column) (area xs) (column_is s f r xs))
     where
       by : (p q x u : Bool) → p ≡ false → q ≡ false → x ≡ u → (p || (q || (x || false))) ≡ u
-      by true q x u a b d = absurd (clash true a refl)
-      by false true x u a b d = absurd (clash true b refl)
+      by true q x u a b d = absurd (both_ways true a refl)
+      by false true x u a b d = absurd (both_ways true b refl)
       by false false x u a b d = or-false x ∙ d
 
   one_outs : list_any is_out one_faults ≡ one_out

@@ -1,5 +1,6 @@
 -- The answer of a command that is refused for causes which tests decide.
 use Rattle.std.proofs.Common.{◌≡◌, ◌↔◌, Bool, true, false, List, [], ◌∷◌, ◌⊎◌, inl, inr, Option, Some, None, Ok, Err, if◌then◌else◌, refl, sym, subst}
+use Rattle.std.proofs.lemmas.Bool.{both_ways}
 use Rattle.wi_scenarios.specs.declared.refusal.Refusal.{Refusal}
 use Rattle.wi_scenarios.specs.declared.refusal.Refusal.TheVariants as refusal
 use Rattle.wi_scenarios.specs.State.{State}
@@ -10,7 +11,6 @@ use Rattle.wi_cli.specs.Causes.{Cause, BadLine, BadCommand, CutShort, Outside, T
 use Rattle.wi_cli.specs.Does.{Does}
 use Rattle.wi_cli.specs.Step.{Answer, Tells, IsStep, causes, IsFirstOf}
 use Rattle.wi_cli.proofs.Ties.Uniqueness.{DoesOne, same_answers}
-use Rattle.wi_cli.proofs.Ties.Tables.{clash}
 
 -- the refusal for a cause; that for a stale cell, which names it, is no matter of tests
 abbrev pub refusal_for : Cause → Refusal
@@ -82,7 +82,7 @@ same_some x y e = cc
 module _ (s : State) (c : Command) (test : Cause → Bool) (yes : (x : Cause) → test x ≡ true → Holds s x c) (no : (x : Cause) → test x ≡ false → Holds s x c → ⊥)
     (fresh : test Stale ≡ false) (done : State × Bytes) (does : first_test test causes ≡ None → Does s c done) (one : DoesOne s c) where
   tells : (x : Cause) → test x ≡ true → Tells s c x (refusal_for x)
-  tells Stale t = absurd (clash _ fresh t)
+  tells Stale t = absurd (both_ways _ fresh t)
   tells x t = refl
 
   first_is : (xs : List Cause) (x : Cause) → first_test test xs ≡ Some x → IsFirstOf s c xs x × (test x ≡ true)

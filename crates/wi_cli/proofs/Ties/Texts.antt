@@ -1,5 +1,6 @@
 -- The command that a text spells, and the form that it has.
 use Rattle.std.proofs.Common.{◌≡◌, Bool, true, false, List, [], ◌∷◌, inl, inr, Option, Some, None, refl, sym, ap, ◌∙◌, subst, codes}
+use Rattle.std.proofs.lemmas.Bool.{both_ways}
 use Rattle.wi_scenarios.specs.declared.refusal.Refusal.TheVariants as refusal
 use Rattle.wi_scenarios.specs.Step as old
 use Rattle.wi_cli.specs.Lines.{first_word, after_word, Bytes}
@@ -13,7 +14,6 @@ use Rattle.wi_cli.specs.Command.{Command, Set, Clear, Fill, Csv, Scenario, Drop,
 use Rattle.wi_cli.specs.Laws.{was}
 use Rattle.wi_cli.proofs.Ties.CommandNames.{Name, FORCE, SCENARIO, DROP, BASE, USE, AS, SHOW, EXPORT, CHANGES, COMPARE, TABLE, FORMULA, SET, CLEAR, FILL, edit_name, name_in, Edit, set_edit, clear_edit, fill_edit, no_edit, edit_of, Word, a_force, a_scenario, a_drop, a_base, a_use, a_as, a_show, a_export, a_changes, a_compare, a_table, a_formula, an_edit, word_of}
 use Rattle.wi_cli.proofs.Ties.Forms.{Chosen, same_rect_end, rect_end, same_name_end, name_end, maybe_form, set_form, same_set, set_or, fill_form, same_fill, fill_or, cell_form, same_formula, formula_or, scenario_form, same_scenario, scenario_or, base_form, same_base, base_or, same_use, use_or, no_form, same_changes, changes_or, compare_form, same_compare, compare_or, table_form, same_table, table_or}
-use Rattle.wi_cli.proofs.Ties.Tables.{clash}
 
 -- a command that a text may spell without data lines
 abbrev pub is_plain : Command → Bool
@@ -38,7 +38,7 @@ same_form text (Fill false at r) p h = ap (λ (w : Bytes). named_command w (afte
 same_form text (Fill true at r) p h =
     ap (λ (w : Bytes). named_command w (after_word text)) h.0 ∙ ap (λ (w : Bytes). edit_command true w (after_word (after_word text))) h.1.0
     ∙ same_fill true (after_word (after_word text)) (at, r) h.1.1
-same_form text (Csv force at n lines) p h = absurd (clash false refl p)
+same_form text (Csv force at n lines) p h = absurd (both_ways false refl p)
 same_form text (Scenario name at t) p h = ap (λ (w : Bytes). named_command w (after_word text)) h.0 ∙ same_scenario (after_word text) (name, at, t) h.1
 same_form text (Drop name) p h = ap (λ (w : Bytes). named_command w (after_word text)) h.0 ∙ same_name_end (λ n. old.Drop n) (after_word text) name h.1
 same_form text (Base name None) p h = ap (λ (w : Bytes). named_command w (after_word text)) h.0 ∙ same_base (after_word text) (name, None) h.1
@@ -53,8 +53,8 @@ same_form text (Table f r xs None) p h = ap (λ (w : Bytes). named_command w (af
 same_form text (Table f r xs (Some y)) p h = ap (λ (w : Bytes). named_command w (after_word text)) h.0 ∙ same_table (after_word text) f r xs (Some y) h.1
 same_form text (Formula at) p h = ap (λ (w : Bytes). named_command w (after_word text)) h.0 ∙ same_formula (after_word text) at h.1
 same_form text Changes p h = ap (λ (w : Bytes). named_command w (after_word text)) h.0 ∙ same_changes (after_word text) h.1
-same_form text Unknown p h = absurd (clash false refl p)
-same_form text Unreadable p h = absurd (clash false refl p)
+same_form text Unknown p h = absurd (both_ways false refl p)
+same_form text Unreadable p h = absurd (both_ways false refl p)
 
 -- ---- no form
 
@@ -94,7 +94,7 @@ module _ (text : Bytes) (none : NoForm (name_in (first_word text)) (after_word t
   none_written (Clear true r) p h = forced h.0 (codes "clear") h.1.0 r h.1.1
   none_written (Fill false at r) p h = behind (codes "fill") h.0 (at, r) h.1
   none_written (Fill true at r) p h = forced h.0 (codes "fill") h.1.0 (at, r) h.1.1
-  none_written (Csv force at n lines) p h = clash false refl p
+  none_written (Csv force at n lines) p h = both_ways false refl p
   none_written (Scenario name at t) p h = behind (codes "scenario") h.0 (name, at, t) h.1
   none_written (Drop name) p h = behind (codes "drop") h.0 name h.1
   none_written (Base name None) p h = behind (codes "base") h.0 (name, None) h.1
@@ -109,8 +109,8 @@ module _ (text : Bytes) (none : NoForm (name_in (first_word text)) (after_word t
   none_written (Table f r xs (Some y)) p h = behind (codes "table") h.0 (f, r, xs, Some y) h.1
   none_written (Formula at) p h = behind (codes "formula") h.0 at h.1
   none_written Changes p h = behind (codes "changes") h.0 tt h.1
-  none_written Unknown p h = clash false refl p
-  none_written Unreadable p h = clash false refl p
+  none_written Unknown p h = both_ways false refl p
+  none_written Unreadable p h = both_ways false refl p
 
 -- ---- either is so
 

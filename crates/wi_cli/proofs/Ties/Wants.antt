@@ -2,6 +2,7 @@
 use Rattle.std.proofs.Common.{◌≡◌, ◌↔◌, ◌-◌, ℕ, Bool, true, false, ◌==◌, ◌||◌, List, [], ◌∷◌, ◌++◌, length, inl, inr, Option, Some, None, Err, refl, sym, ap, subst, arith}
 use Rattle.std.specs.List.{list_any, concat, Contains}
 use Rattle.std.proofs.lemmas.Bool.Decides.{nat_tests}
+use Rattle.std.proofs.lemmas.Bool.{both_ways}
 use Rattle.wi_scenarios.specs.declared.refusal.Refusal.{Refusal}
 use Rattle.wi_scenarios.specs.declared.refusal.Refusal.TheVariants as refusal
 use Rattle.wi_scenarios.specs.State.{State}
@@ -19,9 +20,10 @@ use Rattle.wi_cli.specs.Laws.{was, read_by, SameLack}
 use Rattle.wi_cli.proofs.Ties.Codes.{LateCoded, same_late}
 use Rattle.wi_cli.proofs.Ties.Lacks.{not_late, same_lack}
 use Rattle.wi_cli.proofs.Ties.Steps.{same_step}
-use Rattle.wi_cli.proofs.Ties.Tables.{clash}
 use Rattle.wi_cli.proofs.Ties.CsvSteps.{long_lines}
 use Rattle.wi_cli.proofs.Ties.TablesOfTwo.{bent, out, proper, was_bent, was_outside, was_proper, one_bent, one_out, one_was_bent, one_was_outside, one_was_proper}
+use Rattle.wi_cli.proofs.Ties.Clears.{clear_outside}
+use Rattle.wi_cli.proofs.Ties.Fills.{fill_outside}
 
 late_line : Contains late BadLine → ⊥
 late_line h = not_late BadLine (λ e. cc) (λ e. cc) (λ e. cc) (λ e. cc) (λ e. cc) (λ e. cc) (λ e. cc) (λ e. cc) h
@@ -88,34 +90,27 @@ any_false b e = ap (λ (x : Bool). x || false) e
 lack_show : (s : State) (r : Corners) (b : Bool) → (is_outside r.0 || is_outside r.1) ≡ b → SameLack s (Show r)
 lack_show s r true e = refused s (Show r) refusal.OutOfSheet (ap (λ (x : Bool). of_operand (read_by x (area r)) (λ at. old.Show at)) e) (early_outside s (Show r) (any_true _ e))
 lack_show s r false e =
-    proper_lack s (Show r) (old.Show (area r)) (ap (λ (x : Bool). of_operand (read_by x (area r)) (λ at. old.Show at)) e) (λ h. h, λ h. h) (λ h. clash _ (any_false _ e) h) (λ h. h) (λ h. h)
+    proper_lack s (Show r) (old.Show (area r)) (ap (λ (x : Bool). of_operand (read_by x (area r)) (λ at. old.Show at)) e) (λ h. h, λ h. h) (λ h. both_ways _ (any_false _ e) h) (λ h. h) (λ h. h)
 
 lack_export : (s : State) (r : Corners) (b : Bool) → (is_outside r.0 || is_outside r.1) ≡ b → SameLack s (Export r)
 lack_export s r true e = refused s (Export r) refusal.OutOfSheet (ap (λ (x : Bool). of_operand (read_by x (area r)) (λ at. old.Export at)) e) (early_outside s (Export r) (any_true _ e))
 lack_export s r false e =
-    proper_lack s (Export r) (old.Export (area r)) (ap (λ (x : Bool). of_operand (read_by x (area r)) (λ at. old.Export at)) e) (λ h. h, λ h. h) (λ h. clash _ (any_false _ e) h) (λ h. h) (λ h. h)
+    proper_lack s (Export r) (old.Export (area r)) (ap (λ (x : Bool). of_operand (read_by x (area r)) (λ at. old.Export at)) e) (λ h. h, λ h. h) (λ h. both_ways _ (any_false _ e) h) (λ h. h) (λ h. h)
 
 lack_compare : (s : State) (p q : Option Bytes) (r : Corners) (b : Bool) → (is_outside r.0 || is_outside r.1) ≡ b → SameLack s (Compare p q r)
 lack_compare s p q r true e = refused s (Compare p q r) refusal.OutOfSheet (ap (λ (x : Bool). of_operand (read_by x (area r)) (λ at. old.Compare p q at)) e) (early_outside s (Compare p q r) (any_true _ e))
 lack_compare s p q r false e =
-    proper_lack s (Compare p q r) (old.Compare p q (area r)) (ap (λ (x : Bool). of_operand (read_by x (area r)) (λ at. old.Compare p q at)) e) (λ h. h, λ h. h) (λ h. clash _ (any_false _ e) h) (λ h. h) (λ h. h)
+    proper_lack s (Compare p q r) (old.Compare p q (area r)) (ap (λ (x : Bool). of_operand (read_by x (area r)) (λ at. old.Compare p q at)) e) (λ h. h, λ h. h) (λ h. both_ways _ (any_false _ e) h) (λ h. h) (λ h. h)
 
 lack_formula : (s : State) (c : Cell) (b : Bool) → is_outside c ≡ b → SameLack s (Formula c)
 lack_formula s c true e = refused s (Formula c) refusal.OutOfSheet (ap (λ (x : Bool). of_operand (read_by x (address c)) (λ at. old.Formula at)) e) (early_outside s (Formula c) (any_true _ e))
 lack_formula s c false e =
-    proper_lack s (Formula c) (old.Formula (address c)) (ap (λ (x : Bool). of_operand (read_by x (address c)) (λ at. old.Formula at)) e) (λ h. h, λ h. h) (λ h. clash _ (any_false _ e) h) (λ h. h) (λ h. h)
+    proper_lack s (Formula c) (old.Formula (address c)) (ap (λ (x : Bool). of_operand (read_by x (address c)) (λ at. old.Formula at)) e) (λ h. h, λ h. h) (λ h. both_ways _ (any_false _ e) h) (λ h. h) (λ h. h)
 
 lack_scenario : (s : State) (name : Bytes) (c : Cell) (text : Bytes) (b : Bool) → is_outside c ≡ b → SameLack s (Scenario name c text)
 lack_scenario s name c text true e = refused s (Scenario name c text) refusal.OutOfSheet (ap (λ (x : Bool). of_operand (read_by x (address c)) (λ at. old.Scenario name at text)) e) (early_outside s (Scenario name c text) (any_true _ e))
 lack_scenario s name c text false e =
-    proper_lack s (Scenario name c text) (old.Scenario name (address c) text) (ap (λ (x : Bool). of_operand (read_by x (address c)) (λ at. old.Scenario name at text)) e) (λ h. h, λ h. h) (λ h. clash _ (any_false _ e) h) (λ h. h) (λ h. h)
-
--- an edit may be forced: its form has a word more
-clear_outside : (force b : Bool) (r : Corners) → (is_outside r.0 || is_outside r.1) ≡ b → list_any lies_outside (form (Clear force r)) ≡ b
-clear_outside true true r e = any_true _ e
-clear_outside true false r e = any_false _ e
-clear_outside false true r e = any_true _ e
-clear_outside false false r e = any_false _ e
+    proper_lack s (Scenario name c text) (old.Scenario name (address c) text) (ap (λ (x : Bool). of_operand (read_by x (address c)) (λ at. old.Scenario name at text)) e) (λ h. h, λ h. h) (λ h. both_ways _ (any_false _ e) h) (λ h. h) (λ h. h)
 
 set_outside : (force b : Bool) (c : Cell) (text : Bytes) → is_outside c ≡ b → list_any lies_outside (form (Set force c text)) ≡ b
 set_outside true true c text e = any_true _ e
@@ -123,25 +118,17 @@ set_outside true false c text e = any_false _ e
 set_outside false true c text e = any_true _ e
 set_outside false false c text e = any_false _ e
 
-fill_outside : (force one two : Bool) (c : Cell) (r : Corners) → is_outside c ≡ one → (is_outside r.0 || is_outside r.1) ≡ two → list_any lies_outside (form (Fill force c r)) ≡ (one || two)
-fill_outside true true two c r o p = rw o refl
-fill_outside true false true c r o p = rw (o, p) refl
-fill_outside true false false c r o p = rw (o, p) refl
-fill_outside false true two c r o p = rw o refl
-fill_outside false false true c r o p = rw (o, p) refl
-fill_outside false false false c r o p = rw (o, p) refl
-
 lack_clear : (s : State) (force : Bool) (r : Corners) (b : Bool) → (is_outside r.0 || is_outside r.1) ≡ b → SameLack s (Clear force r)
 lack_clear s force r true e = refused s (Clear force r) refusal.OutOfSheet (ap (λ (x : Bool). of_operand (read_by x (area r)) (λ at. old.Clear force at)) e) (early_outside s (Clear force r) (clear_outside force true r e))
 lack_clear s force r false e =
-    proper_lack s (Clear force r) (old.Clear force (area r)) (ap (λ (x : Bool). of_operand (read_by x (area r)) (λ at. old.Clear force at)) e) (λ h. h, λ h. h) (λ h. clash _ (clear_outside force false r e) h) (λ h. h) (λ h. h)
+    proper_lack s (Clear force r) (old.Clear force (area r)) (ap (λ (x : Bool). of_operand (read_by x (area r)) (λ at. old.Clear force at)) e) (λ h. h, λ h. h) (λ h. both_ways _ (clear_outside force false r e) h) (λ h. h) (λ h. h)
 
 lack_fill : (s : State) (force : Bool) (c : Cell) (r : Corners) (a b : Bool) → is_outside c ≡ a → (is_outside r.0 || is_outside r.1) ≡ b → SameLack s (Fill force c r)
 lack_fill s force c r true true e f = refused s (Fill force c r) refusal.OutOfSheet (rw (e, f) refl) (early_outside s (Fill force c r) (fill_outside force true true c r e f))
 lack_fill s force c r true false e f = refused s (Fill force c r) refusal.OutOfSheet (rw (e, f) refl) (early_outside s (Fill force c r) (fill_outside force true false c r e f))
 lack_fill s force c r false true e f = refused s (Fill force c r) refusal.OutOfSheet (rw (e, f) refl) (early_outside s (Fill force c r) (fill_outside force false true c r e f))
 lack_fill s force c r false false e f =
-    proper_lack s (Fill force c r) (old.Fill force (address c) (area r)) (rw (e, f) refl) (λ h. h, λ h. h) (λ h. clash _ (fill_outside force false false c r e f) h) (λ h. h) (λ h. h)
+    proper_lack s (Fill force c r) (old.Fill force (address c) (area r)) (rw (e, f) refl) (λ h. h, λ h. h) (λ h. both_ways _ (fill_outside force false false c r e f) h) (λ h. h) (λ h. h)
 
 lack_set : (s : State) (force : Bool) (c : Cell) (text : Bytes) (b : Bool) → is_outside c ≡ b → SameLack s (Set force c text)
 lack_set s force c [] b e = refused s (Set force c []) refusal.BadCommand refl (early_command s (Set force c []) tt)
@@ -150,44 +137,44 @@ lack_set s force c (x ∷ xs) true e =
     refused s (Set force c (x ∷ xs)) refusal.OutOfSheet (rw (some, e) refl) (early_outside s (Set force c (x ∷ xs)) (set_outside force true c (x ∷ xs) e))
 lack_set s force c (x ∷ xs) false e =
     let some : (length (x ∷ xs) == 0) ≡ false = grind (arith, nat_tests) in
-    proper_lack s (Set force c (x ∷ xs)) (old.Set force (address c) (x ∷ xs)) (rw (some, e) refl) (λ h. h, λ h. h) (λ h. clash _ (set_outside force false c (x ∷ xs) e) h) (λ h. h) (λ h. h)
+    proper_lack s (Set force c (x ∷ xs)) (old.Set force (address c) (x ∷ xs)) (rw (some, e) refl) (λ h. h, λ h. h) (λ h. both_ways _ (set_outside force false c (x ∷ xs) e) h) (λ h. h) (λ h. h)
 
 lack_base : (s : State) (name : Bytes) (other : Option Bytes) → SameLack s (Base name other)
-lack_base s name None = proper_lack s (Base name None) (old.Base name None) refl (λ h. h, λ h. h) (λ h. clash false refl h) (λ h. h) (λ h. h)
-lack_base s name (Some other) = proper_lack s (Base name (Some other)) (old.Base name (Some other)) refl (λ h. h, λ h. h) (λ h. clash false refl h) (λ h. h) (λ h. h)
+lack_base s name None = proper_lack s (Base name None) (old.Base name None) refl (λ h. h, λ h. h) (λ h. both_ways false refl h) (λ h. h) (λ h. h)
+lack_base s name (Some other) = proper_lack s (Base name (Some other)) (old.Base name (Some other)) refl (λ h. h, λ h. h) (λ h. both_ways false refl h) (λ h. h) (λ h. h)
 
 lack_use : (s : State) (name : Option Bytes) → SameLack s (Use name)
-lack_use s None = proper_lack s (Use None) (old.Use None) refl (λ h. h, λ h. h) (λ h. clash false refl h) (λ h. h) (λ h. h)
-lack_use s (Some name) = proper_lack s (Use (Some name)) (old.Use (Some name)) refl (λ h. h, λ h. h) (λ h. clash false refl h) (λ h. h) (λ h. h)
+lack_use s None = proper_lack s (Use None) (old.Use None) refl (λ h. h, λ h. h) (λ h. both_ways false refl h) (λ h. h) (λ h. h)
+lack_use s (Some name) = proper_lack s (Use (Some name)) (old.Use (Some name)) refl (λ h. h, λ h. h) (λ h. both_ways false refl h) (λ h. h) (λ h. h)
 
 lack_as : (s : State) (name : Bytes) → SameLack s (As name)
 lack_as s name =
-    let lack = same_lack s (As name) (λ h. clash false refl h) (λ h. h) (λ h. h) (old.As name) (same_step s (As name)) in
+    let lack = same_lack s (As name) (λ h. both_ways false refl h) (λ h. h) (λ h. h) (old.As name) (same_step s (As name)) in
     (λ h. (h.0, (same_late s (As name)).0 (lack.0 h.1)), λ k. (k.0, lack.1 ((same_late s (As name)).1 k.1)))
 
 lack_one : (s : State) (f r : Cell) (xs : Corners) (b o : Bool) → one_bent s f r xs ≡ b → one_out s f r xs ≡ o → SameLack s (Table f r xs None)
 lack_one s f r xs true o eb eo = refused s (Table f r xs None) refusal.BadCommand (one_was_bent s f r xs eb) (early_command s (Table f r xs None) eb)
 lack_one s f r xs false true eb eo = refused s (Table f r xs None) refusal.OutOfSheet (one_was_outside s f r xs eb eo) (early_outside s (Table f r xs None) eo)
 lack_one s f r xs false false eb eo =
-    proper_lack s (Table f r xs None) (old.Table (address f) (address r) (area xs) None) (one_was_proper s f r xs eb eo) (λ h. h, λ h. h) (λ h. clash _ eo h) (λ h. h) (λ h. h)
+    proper_lack s (Table f r xs None) (old.Table (address f) (address r) (area xs) None) (one_was_proper s f r xs eb eo) (λ h. h, λ h. h) (λ h. both_ways _ eo h) (λ h. h) (λ h. h)
 
 lack_two : (s : State) (f r : Cell) (xs : Corners) (c : Cell) (ys : Corners) (b o : Bool) → bent s f r xs c ys ≡ b → out s f r xs c ys ≡ o → SameLack s (Table f r xs (Some (c, ys)))
 lack_two s f r xs c ys true o eb eo = refused s (Table f r xs (Some (c, ys))) refusal.BadCommand (was_bent s f r xs c ys eb) (early_command s (Table f r xs (Some (c, ys))) eb)
 lack_two s f r xs c ys false true eb eo = refused s (Table f r xs (Some (c, ys))) refusal.OutOfSheet (was_outside s f r xs c ys eb eo) (early_outside s (Table f r xs (Some (c, ys))) eo)
 lack_two s f r xs c ys false false eb eo =
-    proper_lack s (Table f r xs (Some (c, ys))) (proper s f r xs c ys) (was_proper s f r xs c ys eb eo) (λ h. h, λ h. h) (λ h. clash _ eo h) (λ h. h) (λ h. h)
+    proper_lack s (Table f r xs (Some (c, ys))) (proper s f r xs c ys) (was_proper s f r xs c ys eb eo) (λ h. h, λ h. h) (λ h. both_ways _ eo h) (λ h. h) (λ h. h)
 
 -- data lines
 data_lack : (s : State) (force : Bool) (c : Cell) (n : ℕ) (lines : List Bytes) (b l m : Bool) → is_outside c ≡ b → list_any is_long lines ≡ l → (n - length lines == 0) ≡ m → SameLack s (Csv force (Some c) n lines)
-data_lack s force c n lines true true m e f g = (λ h. absurd (subst (old.MayLackMemory s) same h), λ k. absurd (clash _ k e))
+data_lack s force c n lines true true m e f g = (λ h. absurd (subst (old.MayLackMemory s) same h), λ k. absurd (both_ways _ k e))
   where
     same : was (Csv force (Some c) n lines) ≡ old.Refused refusal.BadLine
     same = rw (e, f) refl
-data_lack s force c n lines true false true e f g = (λ h. absurd (subst (old.MayLackMemory s) same h), λ k. absurd (clash _ k e))
+data_lack s force c n lines true false true e f g = (λ h. absurd (subst (old.MayLackMemory s) same h), λ k. absurd (both_ways _ k e))
   where
     same : was (Csv force (Some c) n lines) ≡ old.Refused refusal.OutOfSheet
     same = rw (e, f, g) refl
-data_lack s force c n lines true false false e f g = (λ h. absurd (subst (old.MayLackMemory s) same h), λ k. absurd (clash _ k e))
+data_lack s force c n lines true false false e f g = (λ h. absurd (subst (old.MayLackMemory s) same h), λ k. absurd (both_ways _ k e))
   where
     same : was (Csv force (Some c) n lines) ≡ old.Refused refusal.CutShort
     same = rw (e, f, g) refl
@@ -225,6 +212,6 @@ same_want s (Compare p q r) = lack_compare s p q r (is_outside r.0 || is_outside
 same_want s (Table f r xs None) = lack_one s f r xs (one_bent s f r xs) (one_out s f r xs) refl refl
 same_want s (Table f r xs (Some y)) = lack_two s f r xs y.0 y.1 (bent s f r xs y.0 y.1) (out s f r xs y.0 y.1) refl refl
 same_want s (Formula at) = lack_formula s at (is_outside at) refl
-same_want s Changes = proper_lack s Changes old.Changes refl (λ h. h, λ h. h) (λ h. clash false refl h) (λ h. h) (λ h. h)
+same_want s Changes = proper_lack s Changes old.Changes refl (λ h. h, λ h. h) (λ h. both_ways false refl h) (λ h. h) (λ h. h)
 same_want s Unknown = refused s Unknown refusal.BadCommand refl (early_command s Unknown tt)
 same_want s Unreadable = refused s Unreadable refusal.BadLine refl (early_line s Unreadable tt)

@@ -1,5 +1,5 @@
 -- One pass over an order of reading finds the cells that reach a cell.
-use Rattle.wi_engine.proofs.Words.{◌≡◌, ◌==◌, ℕ, suc, ◌+◌, ◌<◌, Bool, true, false, ◌&&◌, ◌||◌, cond, List, [], ◌∷◌, ◌++◌, filter, take, drop, length, get_or, Option, Some, None, IsSome, IfSome, All, refl, ap, sym, ◌∙◌, subst, inl, inr, ◌⊎◌, eq-eqb, drop-cons, and_parts, and_from, or_cases, or_left, or_right, take-append-drop, All-head, All-more, All-tail, list_any, nat_cmp, BTreeMap, get, is_at, BTreeSet, contains, Area, is_within, Replacement, Formula, Tree, Sheet, content_of, has_formula, content_reads, rectangles_of, reads_within, is_one_of, reaches, same_cell, same_tests, found, finds_in, reaches_here, reaches_read, reaches_step, reaches_by_step, is_at-eq, at_same, reaching, rectangles_in, occupied_within, IsReadOrder, AreCones, occupied_read, read_occupied}
+use Rattle.wi_engine.proofs.Words.{◌≡◌, ◌==◌, ℕ, suc, ◌+◌, ◌<◌, Bool, true, false, ◌&&◌, ◌||◌, cond, List, [], ◌∷◌, ◌++◌, filter, take, drop, length, get_or, Option, Some, None, IsSome, IfSome, All, refl, ap, sym, ◌∙◌, subst, inl, inr, ◌⊎◌, eq-eqb, drop-cons, and_parts, and_from, or_cases, or_left, or_right, take-append-drop, All-head, All-more, All-tail, list_any, nat_cmp, BTreeMap, get, is_at, BTreeSet, contains, Area, is_within, Replacement, Formula, Tree, Sheet, content_of, has_formula, content_reads, rectangles_of, reads_within, is_one_of, reaches, same_cell, one_truth, found, finds_in, reaches_here, reaches_read, reaches_step, reaches_by_step, is_at-eq, at_same, reaching, rectangles_in, occupied_within, IsReadOrder, AreCones, occupied_read, read_occupied}
 use Rattle.wi_worlds.specs.Reaching as cones
 use Rattle.wi_sheet.proofs.Filters.{one_more}
 
@@ -22,7 +22,7 @@ cut order i x l e =
 -- a cell reaches another exactly where it is that, reads it, or reads one of the earlier cells that reach it
 pub step_reaches : (s : Sheet) (order : List ℕ) (i x a : ℕ) (among : ℕ → Bool) → IsReadOrder s order → i < length order → x ≡ get_or order i x →
     ((c : ℕ) → among c ≡ (is_one_of (take i order) c && reaches s c a)) → steps_in s among x a ≡ reaches s x a
-step_reaches s order i x a among o l e h = same_tests (steps_in s among x a) (reaches s x a) (λ k. forward (or_cases (x == a || content_reads (content_of s x) a) _ k)) (λ k. backward (reaches_by_step s x a k))
+step_reaches s order i x a among o l e h = one_truth (steps_in s among x a) (reaches s x a) (λ k. forward (or_cases (x == a || content_reads (content_of s x) a) _ k)) (λ k. backward (reaches_by_step s x a k))
   where
     at_once : ((x == a) ≡ true) ⊎ (content_reads (content_of s x) a ≡ true) → reaches s x a ≡ true
     at_once (inl k) = subst (λ (b : ℕ). reaches s x b ≡ true) (same_cell a x k) (reaches_here s x)

@@ -1,21 +1,18 @@
 -- The cells that are found together with one, and the course that they make.
-use Rattle.wi_engine.proofs.Words.{◌≡◌, ◌==◌, ◌-◌, ◌≤◌, ◌<◌, ◌*◌, ℕ, ◌||◌, Bool, true, false, List, [], ◌∷◌, filter, take, Some, Contains, refl, ap, sym, ◌∙◌, subst, inl, inr, ◌⊎◌, eq-eqb, arith, and_parts, or_left, mod-lt, keys_of, Area, row_of, column_of, is_within, Replacement, Tree, Sheet, content_of, has_formula, put_all, rectangles_of, one_cell, is_one_of, same_cell, reads_here, cells_after, is_after, put_formula, in_filter, in_first, IsWhole, rectangle_whole, lies, is_inside, in_corners, lacks_cell, lacking_after, IsSmallestWith, AreTogether, IsCourseTo, is_next, part, Course, Way, Alone, Row, Column, Whole, Findings, Frame}
+use Rattle.wi_engine.proofs.Words.{◌≡◌, ◌==◌, ◌-◌, ◌≤◌, ◌*◌, ℕ, ◌||◌, Bool, true, false, List, [], ◌∷◌, filter, take, Some, Contains, refl, ap, sym, ◌∙◌, subst, inl, inr, ◌⊎◌, eq-eqb, arith, and_parts, or_left, keys_of, Area, row_of, column_of, is_within, Replacement, Tree, Sheet, content_of, has_formula, put_all, rectangles_of, one_cell, is_one_of, same_cell, reads_here, cells_after, is_after, put_formula, in_filter, IsWhole, rectangle_whole, lies, is_inside, in_corners, lacks_cell, lacking_after, IsSmallestWith, AreTogether, IsCourseTo, is_next, part, Course, Way, Alone, Row, Column, Whole, Findings, Frame, column_within, taken_one}
 
 -- ---- the parts of a rectangle through which ways lead lie in it
-
-narrow : (c : ℕ) → column_of c < 16384
-narrow c = mod-lt c (omega arith)
 
 -- each part that holds a cell of the rectangle lies in it
 pub part_within : (r : Area) (way : Way) (a d : ℕ) → is_within r a ≡ true → is_within (part r way a) d ≡ true → is_within r d ≡ true
 part_within r Alone a d h m = ap (is_within r) (sym (same_cell d a (sym (one_cell a d) ∙ m))) ∙ h
 part_within r Row a d h m =
     let at = lies r a h in
-    let b = in_corners (row_of a) (row_of a) (column_of r.first) (column_of r.last) d (narrow r.first) (narrow r.last) (omega arith) (omega (arith, at.after, at.before)) m in
+    let b = in_corners (row_of a) (row_of a) (column_of r.first) (column_of r.last) d (column_within r.first) (column_within r.last) (omega arith) (omega (arith, at.after, at.before)) m in
     is_inside r d (record { below = omega (arith, at.below, b.below); above = omega (arith, at.above, b.above); after = b.after; before = b.before })
 part_within r Column a d h m =
     let at = lies r a h in
-    let b = in_corners (row_of r.first) (row_of r.last) (column_of a) (column_of a) d (narrow a) (narrow a) (omega (arith, at.below, at.above)) (omega arith) m in
+    let b = in_corners (row_of r.first) (row_of r.last) (column_of a) (column_of a) d (column_within a) (column_within a) (omega (arith, at.below, at.above)) (omega arith) m in
     is_inside r d (record { below = b.below; above = b.above; after = omega (arith, at.after, b.after); before = omega (arith, at.before, b.before) })
 part_within r Whole a d h m = m
 
@@ -55,7 +52,7 @@ they_are_read s w f t rs r area way cells a more e k p i h g d m = by (a == d) r
         let is : a ≡ d = same_cell d a same in
         (ap (reads_here t) (sym is) ∙ h, ap (λ (c : ℕ). has_formula (content_of s c)) (sym is) ∙ g)
     by false same l =
-        let there = comes_after s w f area a d (in_first more (lacking_after s w f area a) d l) in
+        let there = comes_after s w f area a d (taken_one (lacking_after s w f area a) more d l) in
         (beside (rectangle_whole t r (subst (λ (xs : List Area). Contains xs r) e k.one_of)) (part_within r way a d k.holds (sym (ap (λ (x : Area). is_within x d) p) ∙ there.0)), there.1)
 
 -- they are of one rectangle

@@ -1,8 +1,9 @@
 use Rattle.std.proofs.Common.{◌≡◌, ◌<◌, ◌++◌, arith, string_bytes}
+use Rattle.std.proofs.Transfers.{starts_with_of_append}
 use Rattle.std.specs.Fmt.{decimal}
 use Rattle.std.proofs.lemmas.Result.{IfOk-from_err}
 use Rattle.std.proofs.Math.Nat.{mod-lt}
-use Rattle.wi_fraction.proofs.Decimals.{starts_with, starts_pushed, digits_none, digits_next, rest_none, rest_next}
+use Rattle.wi_fraction.proofs.Decimals.{starts_pushed, digits_none, digits_next, rest_none, rest_next}
 use Rattle.wi_fraction.proofs.decimal.push_digits.Goals as goal
 
 pub loop-i-init : goal.loop-i-init
@@ -24,10 +25,10 @@ returns-in_err-push_str-clause-ok c = IfOk-from_err c.from_residual.result _ c.f
 pub returns-in_err-push_str-clause-kept : goal.returns-in_err-push_str-clause-kept
 returns-in_err-push_str-clause-kept c =
     starts_pushed c.push_str.result (string_bytes c.push_str.new.self) (string_bytes c.loop-i.text) c.format.result.now (string_bytes c.args.text.now) c.push_str.ensures.bytes
-    (starts_with (string_bytes c.loop-i.text) (string_bytes c.args.text.now) _ c.loop-i.invariant.written)
+    (starts_with_of_append (string_bytes c.loop-i.text) (string_bytes c.args.text.now) _ c.loop-i.invariant.written)
 
 pub returns-clause-ok : goal.returns-clause-ok
 returns-clause-ok c = let all : c.loop-i.i ≡ c.args.places = omega (arith, c.loop-i.auto.i-end, c.loop-i-test.false) in rw all at c.loop-i.invariant.written
 
 pub returns-clause-kept : goal.returns-clause-kept
-returns-clause-kept c = starts_with (string_bytes c.loop-i.text) (string_bytes c.args.text.now) _ c.loop-i.invariant.written
+returns-clause-kept c = starts_with_of_append (string_bytes c.loop-i.text) (string_bytes c.args.text.now) _ c.loop-i.invariant.written

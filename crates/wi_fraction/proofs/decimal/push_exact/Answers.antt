@@ -1,4 +1,5 @@
 use Rattle.std.proofs.Common.{◌≡◌, ◌∙◌, sym, ap, subst, arith, rules, string_bytes, ◌++◌, ◌∷◌, [], ◌*◌, ◌/◌, ◌%◌, Some, OnOk}
+use Rattle.std.proofs.Transfers.{starts_with_trans}
 use Rattle.std.specs.Prelude.{◌^◌}
 use Rattle.std.specs.Fmt.{decimal}
 use Rattle.std.proofs.lemmas.Result.{IfOk-from_err}
@@ -6,7 +7,7 @@ use Rattle.std.proofs.Math.Nat.{mod-lt}
 use Rattle.std.proofs.lemmas.List.{append-nil}
 use Rattle.wi_fraction.specs.Text.{sign_text, size_text, padded}
 use Rattle.wi_fraction.specs.Decimal.{all_places}
-use Rattle.wi_fraction.proofs.Decimals.{starts_joined, starts_trans, exact_none, exact_whole, exact_point, exact_written}
+use Rattle.wi_fraction.proofs.Decimals.{starts_joined, exact_none, exact_whole, exact_point, exact_written}
 use Rattle.wi_fraction.proofs.decimal.push_exact.Goals as goal
 
 pub returns-in-None-clause-ok : goal.returns-in-None-clause-ok
@@ -56,5 +57,5 @@ returns-in-Some-eq0-clause-kept c = starts_joined c.push_joined-in-Some-eq0.resu
 
 pub returns-in_ok-push_joined-in-Some-clause-kept : goal.returns-in_ok-push_joined-in-Some-clause-kept
 returns-in_ok-push_joined-in-Some-clause-kept c =
-    starts_trans (string_bytes c.push_joined-in-Some.new.text) (string_bytes c.push_digits.new.text) (string_bytes c.args.text.now) c.push_digits.ensures.kept
+    starts_with_trans (string_bytes c.push_digits.new.text) (string_bytes c.push_joined-in-Some.new.text) (string_bytes c.args.text.now) c.push_digits.ensures.kept
     (starts_joined c.push_joined-in-Some.result _ _ _ c.push_joined-in-Some.ensures.ok c.push_joined-in-Some.ensures.err)

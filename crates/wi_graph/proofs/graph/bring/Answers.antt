@@ -1,4 +1,5 @@
-use Rattle.wi_graph.proofs.StageEnds.{on_err, same_graph, staged_graph, refused_graph}
+use Rattle.wi_values.proofs.Outcomes.{on_err}
+use Rattle.wi_graph.proofs.StageEnds.{same_graph, staged_graph, refused_graph}
 use Rattle.wi_graph.proofs.graph.bring.Goals as goal
 
 pub returns-in-Ok-clause-staged : goal.returns-in-Ok-clause-staged

@@ -1,8 +1,10 @@
 use Rattle.std.proofs.Common.{rules, arith, ◌≡◌, ◌≤◌, suc, ◌+◌, List, [], ◌∷◌, length, map, ◌++◌, drop, drop-cons, codes, string_bytes, ap, sym, ◌∙◌}
+use Rattle.std.proofs.Transfers.{starts_with_of_eq, starts_with_trans, starts_with_of_append}
 use Rattle.std.proofs.Math.ListN.{drop_of_length-le}
 use Rattle.std.proofs.lemmas.Grind.{common_steps}
 use Rattle.std.proofs.lemmas.Result.{IfOk-from_err}
 use Rattle.wi_lexer.specs.Quoted.{quoted}
+use Rattle.wi_fraction.proofs.Decimals.{starts_joined}
 use Rattle.wi_parser.specs.declared.expr.Expr.{Expr}
 use Rattle.wi_parser.specs.declared.expr.Pair.{Pair}
 use Rattle.wi_parser.specs.Tree.{parenthesized, signed, percent, binary, what_if, call}
@@ -12,7 +14,7 @@ use Rattle.wi_parser.specs.Inner.SymbolLists.{symbols_text, tree_text}
 use Rattle.wi_parser.specs.Symbol.{written_as}
 use Rattle.wi_parser.specs.Spelling.{spelling_of_all}
 use Rattle.wi_parser.proofs.ExprTrees.{number_tree, text_tree, cell_tree, rectangle_tree, parenthesized_tree, signed_tree, percent_tree, binary_tree, what_if_tree, call_tree}
-use Rattle.wi_parser.proofs.PrintLemmas.{after_written, parenthesized_written, parameter_written, parameters_from, parameters_closed, tree_written, symbol_written, binary_written, percent_written, starts_either, starts_kept, starts_same, starts_with, starts_on, starts_trans, starts_still}
+use Rattle.wi_parser.proofs.PrintLemmas.{after_written, parenthesized_written, parameter_written, parameters_from, parameters_closed, tree_written, symbol_written, binary_written, percent_written, starts_same, starts_on, starts_still}
 use Rattle.wi_parser.proofs.print.+print.Goals as goal
 
 pub push_operation-returns-clause-kept : goal.push_operation-returns-clause-kept
@@ -22,7 +24,7 @@ pub push_signed-returns-clause-kept : goal.push_signed-returns-clause-kept
 push_signed-returns-clause-kept t c = starts_on _ _ _ _ c.in_ok-push_str.ensures.bytes c.push_tree.ensures.kept
 
 pub push_call-returns-in_err-push_str-2-clause-kept : goal.push_call-returns-in_err-push_str-2-clause-kept
-push_call-returns-in_err-push_str-2-clause-kept t c = starts_same _ _ _ c.in_err-push_str-2.ensures.bytes (starts_with _ _ _ c.in_ok-push_str.ensures.bytes)
+push_call-returns-in_err-push_str-2-clause-kept t c = starts_same _ _ _ c.in_err-push_str-2.ensures.bytes (starts_with_of_append _ _ _ c.in_ok-push_str.ensures.bytes)
 
 pub push_call-returns-clause-kept : goal.push_call-returns-clause-kept
 push_call-returns-clause-kept t c = starts_on _ _ _ _ c.in_ok-push_str.ensures.bytes (starts_on _ _ _ _ c.in_ok-push_str-2.ensures.bytes c.push_parameters.ensures.kept)
@@ -35,19 +37,19 @@ push_parenthesized-returns-clause-kept t c =
     starts_still c.push_str-2.result _ _ _ _ c.push_str-2.ensures.bytes (starts_on _ _ _ _ c.in_ok-push_str.ensures.bytes c.in_ok-push_tree.ensures.kept)
 
 pub push_tree-returns-in_ok-push_tree-in-Binary-clause-kept : goal.push_tree-returns-in_ok-push_tree-in-Binary-clause-kept
-push_tree-returns-in_ok-push_tree-in-Binary-clause-kept t c = starts_trans _ _ _ c.push_operation.ensures.kept c.in_ok-push_tree-in-Binary.ensures.kept
+push_tree-returns-in_ok-push_tree-in-Binary-clause-kept t c = starts_with_trans _ _ _ c.push_operation.ensures.kept c.in_ok-push_tree-in-Binary.ensures.kept
 
 pub push_operation-returns-in_err-push_str-clause-kept : goal.push_operation-returns-in_err-push_str-clause-kept
-push_operation-returns-in_err-push_str-clause-kept t c = starts_kept _ _ c.in_err-push_str.ensures.bytes
+push_operation-returns-in_err-push_str-clause-kept t c = starts_with_of_eq _ _ c.in_err-push_str.ensures.bytes
 
 pub push_signed-returns-in_err-push_str-clause-kept : goal.push_signed-returns-in_err-push_str-clause-kept
-push_signed-returns-in_err-push_str-clause-kept t c = starts_kept _ _ c.in_err-push_str.ensures.bytes
+push_signed-returns-in_err-push_str-clause-kept t c = starts_with_of_eq _ _ c.in_err-push_str.ensures.bytes
 
 pub push_call-returns-in_err-push_str-clause-kept : goal.push_call-returns-in_err-push_str-clause-kept
-push_call-returns-in_err-push_str-clause-kept t c = starts_kept _ _ c.in_err-push_str.ensures.bytes
+push_call-returns-in_err-push_str-clause-kept t c = starts_with_of_eq _ _ c.in_err-push_str.ensures.bytes
 
 pub push_parenthesized-returns-in_err-push_str-clause-kept : goal.push_parenthesized-returns-in_err-push_str-clause-kept
-push_parenthesized-returns-in_err-push_str-clause-kept t c = starts_kept _ _ c.in_err-push_str.ensures.bytes
+push_parenthesized-returns-in_err-push_str-clause-kept t c = starts_with_of_eq _ _ c.in_err-push_str.ensures.bytes
 
 pub push_percent-returns-clause-kept : goal.push_percent-returns-clause-kept
 push_percent-returns-clause-kept t c = starts_still c.push_str.result _ _ _ _ c.push_str.ensures.bytes c.in_ok-push_tree.ensures.kept
@@ -57,7 +59,7 @@ push_parameters-returns-in_err-push_str-clause-kept t c = starts_same _ _ _ c.in
 
 pub push_parameters-returns-in_err-push_tree-clause-kept : goal.push_parameters-returns-in_err-push_tree-clause-kept
 push_parameters-returns-in_err-push_tree-clause-kept t c =
-    starts_trans _ _ _ (starts_on _ _ _ _ c.in_ok-push_str.ensures.bytes c.in_err-push_tree.ensures.kept) c.loop-parameter.invariant.kept
+    starts_with_trans _ _ _ (starts_on _ _ _ _ c.in_ok-push_str.ensures.bytes c.in_err-push_tree.ensures.kept) c.loop-parameter.invariant.kept
 
 pub push_parameters-loop-parameter-preserved : goal.push_parameters-loop-parameter-preserved
 push_parameters-loop-parameter-preserved t c =
@@ -76,7 +78,7 @@ push_parameters-loop-parameter-preserved t c =
           ∙ parameter_written out l.separator.now tree (all_of rest)
           ∙ ap (λ es. out ++ parameters_from l.separator.now (all_of es)) (sym next)
           ∙ l.invariant.written;
-      kept = starts_trans _ _ _ (starts_on _ _ _ _ c.in_ok-push_str.ensures.bytes c.in_ok-push_tree.ensures.kept) l.invariant.kept;
+      kept = starts_with_trans _ _ _ (starts_on _ _ _ _ c.in_ok-push_str.ensures.bytes c.in_ok-push_tree.ensures.kept) l.invariant.kept;
     }
 
 pub push_call-returns-clause-ok : goal.push_call-returns-clause-ok
@@ -104,7 +106,7 @@ pub push_parameters-loop-parameter-init : goal.push_parameters-loop-parameter-in
 push_parameters-loop-parameter-init t c = grind (arith, common_steps)
 
 pub push_tree-returns-in-Number-clause-kept : goal.push_tree-returns-in-Number-clause-kept
-push_tree-returns-in-Number-clause-kept t c = starts_either c.push_number.result _ _ _ c.push_number.ensures.ok c.push_number.ensures.err
+push_tree-returns-in-Number-clause-kept t c = starts_joined c.push_number.result _ _ _ c.push_number.ensures.ok c.push_number.ensures.err
 
 pub push_tree-returns-in-Number-clause-ok : goal.push_tree-returns-in-Number-clause-ok
 push_tree-returns-in-Number-clause-ok t c = symbol_written _ _ _ _ _ c.push_number.ensures.ok (ap tree_text (ap tree_of c.in-Number.is ∙ number_tree c.in-Number.x))

@@ -1,10 +1,11 @@
 use Rattle.std.proofs.Common.{rules, ap, sym, subst, ◌∙◌, ◌++◌, ◌∷◌, [], string_bytes, arith}
+use Rattle.std.proofs.Transfers.{starts_with_of_eq}
 use Rattle.std.proofs.lemmas.Grind.{common_steps}
 use Rattle.std.proofs.lemmas.Result.{IfOk-from_err}
 use Rattle.std.specs.Io.{StartsWith}
 use Rattle.std.specs.List.{flat_map}
 use Rattle.wi_lexer.specs.Quoted.{doubled}
-use Rattle.wi_parser.proofs.PrintLemmas.{starts_kept, starts_same, starts_more, starts_still}
+use Rattle.wi_parser.proofs.PrintLemmas.{starts_same, starts_more, starts_still}
 use Rattle.wi_parser.proofs.Quotes.{piece_doubled, rest_doubled, piece_written, last_written}
 use Rattle.wi_parser.proofs.print.push_quoted.Goals as goal
 
@@ -30,7 +31,7 @@ returns-clause-ok c =
     last_written c.push_str-3.result (string_bytes c.args.out.now) c.args.content.now l.rest.now _ _ _ l.invariant.written plain c.in_ok-push_str-4.ensures.bytes c.push_str-3.ensures.bytes
 
 pub returns-in_err-push_str-clause-kept : goal.returns-in_err-push_str-clause-kept
-returns-in_err-push_str-clause-kept c = starts_kept _ _ c.in_err-push_str.ensures.bytes
+returns-in_err-push_str-clause-kept c = starts_with_of_eq _ _ c.in_err-push_str.ensures.bytes
 
 pub returns-in_err-push_str-3-clause-kept : goal.returns-in_err-push_str-3-clause-kept
 returns-in_err-push_str-3-clause-kept c =

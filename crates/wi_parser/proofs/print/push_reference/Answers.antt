@@ -1,6 +1,7 @@
 use Rattle.std.proofs.Common.{arith}
+use Rattle.std.proofs.Transfers.{starts_with_of_eq}
 use Rattle.std.proofs.lemmas.Grind.{common_steps}
-use Rattle.wi_parser.proofs.PrintLemmas.{starts_kept, starts_on, starts_still}
+use Rattle.wi_parser.proofs.PrintLemmas.{starts_on, starts_still}
 use Rattle.wi_parser.proofs.print.push_reference.Goals as goal
 
 pub returns-in_err-push_cell-clause-kept : goal.returns-in_err-push_cell-clause-kept
@@ -10,7 +11,7 @@ pub returns-clause-kept : goal.returns-clause-kept
 returns-clause-kept c = starts_still c.push_str-2.result _ _ _ _ c.push_str-2.ensures.bytes (starts_on _ _ _ _ c.in_ok-push_str.ensures.bytes c.in_ok-push_cell.ensures.kept)
 
 pub returns-in_err-push_str-clause-kept : goal.returns-in_err-push_str-clause-kept
-returns-in_err-push_str-clause-kept c = starts_kept _ _ c.in_err-push_str.ensures.bytes
+returns-in_err-push_str-clause-kept c = starts_with_of_eq _ _ c.in_err-push_str.ensures.bytes
 
 pub returns-clause-ok : goal.returns-clause-ok
 returns-clause-ok c = grind (arith, common_steps)

@@ -1,10 +1,10 @@
 use Rattle.std.proofs.Common.{◌≡◌, ◌≤◌, ℕ, ◌∙◌, nat_lt, not, true, List, subst, arith}
 use Rattle.std.proofs.lemmas.Bool.Decides.{nat_tests}
 use Rattle.std.proofs.lemmas.Result.{err_from_is_err_and}
+use Rattle.wi_values.proofs.Outcomes.{on_err}
 use Rattle.wi_ranges.specs.Bag.{Bag, HasOneMore}
 use Rattle.wi_ranges.specs.Inner.Index.{bag_of, is_among}
 use Rattle.wi_ranges.specs.declared.block.Block.{Block}
-use Rattle.wi_ranges.proofs.BagLemmas.{on_error}
 use Rattle.wi_ranges.proofs.First.{row_there}
 use Rattle.wi_ranges.proofs.bag.add_pair.Goals as goal
 
@@ -41,7 +41,7 @@ pub returns-in_err-add_numbered-clause-whole : goal.returns-in_err-add_numbered-
 returns-in_err-add_numbered-clause-whole c = c.add_numbered.ensures.whole
 
 pub returns-in_err-add_numbered-clause-err : goal.returns-in_err-add_numbered-clause-err
-returns-in_err-add_numbered-clause-err c = on_error c.from_residual.result c.in_err-add_numbered.ensures.err
+returns-in_err-add_numbered-clause-err c = on_err c.from_residual.result c.in_err-add_numbered.ensures.err
 
 pub returns-then-branch-clause-more : goal.returns-then-branch-clause-more
 returns-then-branch-clause-more c = c.in_ok-add_numbered.ensures.more c.if-branch.true
@@ -80,7 +80,7 @@ returns-in_err-add_numbered-2-clause-whole c = c.add_numbered-2.ensures.whole
 
 pub returns-in_err-add_numbered-2-clause-err : goal.returns-in_err-add_numbered-2-clause-err
 returns-in_err-add_numbered-2-clause-err c =
-    on_error c.from_residual-in_err-add_numbered-2.result (c.in_err-add_numbered-2.ensures.err ∙ c.in_ok-add_numbered.ensures.same c.if-branch.false)
+    on_err c.from_residual-in_err-add_numbered-2.result (c.in_err-add_numbered-2.ensures.err ∙ c.in_ok-add_numbered.ensures.same c.if-branch.false)
 
 pub returns-clause-more : goal.returns-clause-more
 returns-clause-more c =

@@ -2,10 +2,10 @@ use Rattle.std.proofs.lemmas.Result.{err_from_is_err_and}
 use Rattle.std.specs.List.Sorted.{IsStrictlySortedBy}
 use Rattle.wi_ranges.specs.Inner.Index.{Piece, piece_cmp, has_piece}
 use Rattle.std.proofs.Common.{List, ap, subst, ◌≡◌, [], ◌+◌, ◌-◌, ◌^◌, sym, ◌∙◌, arith, refl, true}
+use Rattle.wi_values.proofs.Outcomes.{on_err}
 use Rattle.wi_ranges.specs.Blocks.{block, blocks_in, first_row, last_row}
 use Rattle.wi_ranges.proofs.BlockLemmas.{blocks_within-apart, blocks_within-row, halves_of}
 use Rattle.wi_ranges.proofs.Apart.{halves_apart}
-use Rattle.wi_ranges.proofs.BagLemmas.{on_error}
 use Rattle.wi_ranges.proofs.PieceLemmas.{absent_here, absent_lower, absent_upper, gains_here, gains_both, gains_none, told_here, stays_told, kept_here, told_both, kept_both, kept_first, piece_of_none}
 use Rattle.wi_ranges.proofs.pieces.+put_in.Goals as goal
 use Rattle.wi_ranges.proofs.pieces.+put_in.Goals.{else-block-gt0-via-then-block-gt0+else-meets, else-block-gt0-via-else-block-gt0}
@@ -96,21 +96,21 @@ returns-in_ok-put_in-2-clause-order t c = λ h. c.put_in-then-meets.ensures.orde
 
 pub returns-in_err-insert-clause-absent : goal.returns-in_err-insert-clause-absent
 returns-in_err-insert-clause-absent t c =
-    on_error c.from_residual.result (absent_here c.args.numbered.now c.args.block.now c.args.pieces.now.keys (sym c.lies_within.ensures ∙ c.if-lies_within.true) c.in_err-insert.ensures.absent)
+    on_err c.from_residual.result (absent_here c.args.numbered.now c.args.block.now c.args.pieces.now.keys (sym c.lies_within.ensures ∙ c.if-lies_within.true) c.in_err-insert.ensures.absent)
 
 pub returns-in_err-put_in-clause-absent : goal.returns-in_err-put_in-clause-absent
 returns-in_err-put_in-clause-absent t c =
     let m = c.args.numbered.now in
     let x = c.args.block.now in
     let lower = block (x.level - 1) (x.first + 2 ^ (x.level - 1)) in
-    on_error c.from_residual-in_err-put_in.result
+    on_err c.from_residual-in_err-put_in.result
     (absent_upper m x c.upper.result lower c.args.pieces.now.keys
     (halves_of m.pair x c.upper.result lower c.upper.ensures.value refl (sym c.lies_within.ensures ∙ c.if-lies_within.false) c.if-block-gt0.true (sym c.meets.ensures ∙ c.if-meets.true))
     c.in_err-put_in.ensures.absent)
 
 pub returns-in_err-put_in-2-clause-absent : goal.returns-in_err-put_in-2-clause-absent
 returns-in_err-put_in-2-clause-absent t c =
-    on_error c.from_residual-in_err-put_in-2.result
+    on_err c.from_residual-in_err-put_in-2.result
     (absent_lower c.args.numbered.now c.args.block.now c.upper.result c.lower.result c.args.pieces.now.keys c.put_in.new.pieces.keys
     (halves_of c.args.numbered.now.pair c.args.block.now c.upper.result c.lower.result c.upper.ensures.value c.lower.ensures.value (sym c.lies_within.ensures ∙ c.if-lies_within.false) c.if-block-gt0.true (sym c.meets.ensures ∙ c.if-meets.true))
     c.put_in.ensures.kept (halves_apart c.args.block.now c.upper.result c.lower.result c.args.numbered.now c.upper.ensures.value c.lower.ensures.value) c.in_err-put_in-2.ensures.absent)

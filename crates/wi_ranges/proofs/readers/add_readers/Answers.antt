@@ -5,9 +5,10 @@ use Rattle.std.specs.BTreeSet.{contains}
 use Rattle.std.specs.List.{list_any}
 use Rattle.std.specs.BTreeMap.Range.{range_contains}
 use Rattle.std.specs.declared.ops.Bound.TheVariants.{Included, Unbounded}
+use Rattle.wi_values.proofs.Lists.{one_less}
 use Rattle.wi_ranges.specs.declared.pair.Numbered.{Numbered}
 use Rattle.wi_ranges.specs.Inner.Index.{piece_cmp, reads_at}
-use Rattle.wi_ranges.proofs.ReaderLemmas.{AreFirst, come_first, found_all, found_to_block, found_no_more, found_one_more, fewer_left, first_left}
+use Rattle.wi_ranges.proofs.ReaderLemmas.{AreFirst, come_first, found_all, found_to_block, found_no_more, found_one_more, first_left}
 use Rattle.wi_ranges.proofs.readers.add_readers.Goals as goal
 
 pub loop-place-init : goal.loop-place-init
@@ -37,7 +38,7 @@ returns-then-ne c =
     between c.in-Some.ensures.steps c.if-ne.ensures c.loop-place.invariant.0 (c.loop-place.invariant.1 r)
 
 pub loop-place-smaller-in_ok-insert : goal.loop-place-smaller-in_ok-insert
-loop-place-smaller-in_ok-insert c = fewer_left c.in-Some.field-0.now c.next.new.self c.loop-place.place-iterator c.in-Some.ensures.steps
+loop-place-smaller-in_ok-insert c = one_less c.loop-place.place-iterator c.next.new.self c.in-Some.field-0.now c.in-Some.ensures.steps
 
 pub loop-place-preserved-in_ok-insert : goal.loop-place-preserved-in_ok-insert
 loop-place-preserved-in_ok-insert c =
@@ -54,7 +55,7 @@ returns-in_err-insert c =
     rw p.1 tt
 
 pub loop-place-smaller : goal.loop-place-smaller
-loop-place-smaller c = fewer_left c.in-Some.field-0.now c.next.new.self c.loop-place.place-iterator c.in-Some.ensures.steps
+loop-place-smaller c = one_less c.loop-place.place-iterator c.next.new.self c.in-Some.field-0.now c.in-Some.ensures.steps
 
 pub loop-place-preserved : goal.loop-place-preserved
 loop-place-preserved c =

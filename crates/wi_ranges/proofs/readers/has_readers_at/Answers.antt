@@ -3,9 +3,10 @@ use Rattle.std.proofs.lemmas.Bool.{true≢false, eq-eqb}
 use Rattle.std.specs.List.{list_any}
 use Rattle.std.specs.BTreeMap.Range.{range_contains}
 use Rattle.std.specs.declared.ops.Bound.TheVariants.{Included, Unbounded}
+use Rattle.wi_values.proofs.Lists.{one_less}
 use Rattle.wi_ranges.specs.declared.pair.Numbered.{Numbered}
 use Rattle.wi_ranges.specs.Inner.Index.{piece_cmp, reads_at}
-use Rattle.wi_ranges.proofs.ReaderLemmas.{AreFirst, come_first, found_all, found_to_block, found_no_more, found_one_more, read_here, fewer_left, first_left}
+use Rattle.wi_ranges.proofs.ReaderLemmas.{AreFirst, come_first, found_all, found_to_block, found_no_more, found_one_more, read_here, first_left}
 use Rattle.wi_ranges.proofs.readers.has_readers_at.Goals as goal
 
 pub loop-place-init : goal.loop-place-init
@@ -52,7 +53,7 @@ returns-then-has c =
     (λ t. (r, read_here x c.args.at r all ks between there), λ h. refl)
 
 pub loop-place-smaller : goal.loop-place-smaller
-loop-place-smaller c = fewer_left c.in-Some.field-0.now c.next.new.self c.loop-place.place-iterator c.in-Some.ensures.steps
+loop-place-smaller c = one_less c.loop-place.place-iterator c.next.new.self c.in-Some.field-0.now c.in-Some.ensures.steps
 
 pub loop-place-preserved : goal.loop-place-preserved
 loop-place-preserved c =

@@ -1,9 +1,9 @@
 use Rattle.wi_csv.proofs.Growth.{starts_itself}
-use Rattle.wi_reports.proofs.RowLemmas.{grown}
+use Rattle.wi_fraction.proofs.Decimals.{starts_joined}
 use Rattle.wi_reports.proofs.changes.push_change.Goals as goal
 
 pub returns-clause-kept : goal.returns-clause-kept
-returns-clause-kept c = grown c.push_record.result _ _ _ c.push_record.ensures.ok c.push_record.ensures.err
+returns-clause-kept c = starts_joined c.push_record.result _ _ _ c.push_record.ensures.ok c.push_record.ensures.err
 
 pub returns-in_err-address-clause-kept : goal.returns-in_err-address-clause-kept
 returns-in_err-address-clause-kept c = starts_itself _

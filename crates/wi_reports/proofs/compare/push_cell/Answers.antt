@@ -1,13 +1,13 @@
 use Rattle.std.proofs.Common.{◌∙◌}
 use Rattle.wi_csv.proofs.Growth.{starts_itself}
-use Rattle.wi_reports.proofs.RowLemmas.{grown}
+use Rattle.wi_fraction.proofs.Decimals.{starts_joined}
 use Rattle.wi_reports.proofs.compare.push_cell.Goals as goal
 
 pub push_compared-requires : goal.push_compared-requires
 push_compared-requires g c = c.requires.second
 
 pub returns-clause-kept : goal.returns-clause-kept
-returns-clause-kept g c = grown c.push_compared.result _ _ _ c.push_compared.ensures.ok c.push_compared.ensures.err
+returns-clause-kept g c = starts_joined c.push_compared.result _ _ _ c.push_compared.ensures.ok c.push_compared.ensures.err
 
 pub returns-in_err-before-clause-kept : goal.returns-in_err-before-clause-kept
 returns-in_err-before-clause-kept g c = starts_itself _

@@ -1,8 +1,9 @@
 use Rattle.std.specs.Prelude.{string_bytes}
 use Rattle.wi_values.specs.Address.{cells_of_row}
 use Rattle.wi_csv.proofs.Growth.{starts_itself}
+use Rattle.wi_fraction.proofs.Decimals.{starts_joined}
 use Rattle.wi_reports.specs.Rows.{text_under}
-use Rattle.wi_reports.proofs.RowLemmas.{grown, row_done}
+use Rattle.wi_reports.proofs.RowLemmas.{row_done}
 use Rattle.wi_reports.proofs.rows.push_row.Goals as goal
 
 pub returns-clause-ok : goal.returns-clause-ok
@@ -15,7 +16,7 @@ pub push_texts-requires-clause-order : goal.push_texts-requires-clause-order
 push_texts-requires-clause-order g c = c.requires.order
 
 pub returns-clause-kept : goal.returns-clause-kept
-returns-clause-kept g c = grown c.push_record.result _ _ _ c.push_record.ensures.ok c.push_record.ensures.err
+returns-clause-kept g c = starts_joined c.push_record.result _ _ _ c.push_record.ensures.ok c.push_record.ensures.err
 
 pub returns-in_err-push_texts-clause-kept : goal.returns-in_err-push_texts-clause-kept
 returns-in_err-push_texts-clause-kept g c = starts_itself _

@@ -2,8 +2,8 @@ use Rattle.std.proofs.Common.{[], ◌∷◌, ◌++◌, map, ap, ◌∙◌}
 use Rattle.std.specs.Prelude.{string_bytes}
 use Rattle.wi_values.specs.Address.{row_of, cells_of_row}
 use Rattle.wi_csv.proofs.Growth.{starts_itself}
+use Rattle.wi_fraction.proofs.Decimals.{starts_joined}
 use Rattle.wi_reports.specs.Rows.{text_under}
-use Rattle.wi_reports.proofs.RowLemmas.{grown}
 use Rattle.wi_reports.proofs.TableLemmas.{after_first, written_as}
 use Rattle.wi_reports.proofs.table.push_head.Goals as goal
 
@@ -20,7 +20,7 @@ returns-clause-ok g c =
     (after_first string_bytes _ c.push.new.self.items _ _ [] texts c.new-texts.ensures.items c.in_ok-push.ensures.items c.new.ensures.bytes all) c.push_record.ensures.ok
 
 pub returns-clause-kept : goal.returns-clause-kept
-returns-clause-kept g c = grown c.push_record.result _ _ _ c.push_record.ensures.ok c.push_record.ensures.err
+returns-clause-kept g c = starts_joined c.push_record.result _ _ _ c.push_record.ensures.ok c.push_record.ensures.err
 
 pub returns-in_err-push-clause-kept : goal.returns-in_err-push-clause-kept
 returns-in_err-push-clause-kept g c = starts_itself _

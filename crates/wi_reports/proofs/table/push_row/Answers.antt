@@ -1,8 +1,8 @@
 use Rattle.std.proofs.Common.{◌∙◌}
 use Rattle.std.specs.Prelude.{string_bytes}
 use Rattle.wi_csv.proofs.Growth.{starts_itself}
+use Rattle.wi_fraction.proofs.Decimals.{starts_joined}
 use Rattle.wi_reports.specs.Table.{entries_beside}
-use Rattle.wi_reports.proofs.RowLemmas.{grown}
 use Rattle.wi_reports.proofs.TableLemmas.{row_written}
 use Rattle.wi_reports.proofs.table.push_row.Goals as goal
 
@@ -23,7 +23,7 @@ pub push_entries-requires-clause-row : goal.push_entries-requires-clause-row
 push_entries-requires-clause-row g c = c.requires.row
 
 pub returns-clause-kept : goal.returns-clause-kept
-returns-clause-kept g c = grown c.push_record.result _ _ _ c.push_record.ensures.ok c.push_record.ensures.err
+returns-clause-kept g c = starts_joined c.push_record.result _ _ _ c.push_record.ensures.ok c.push_record.ensures.err
 
 pub returns-clause-same : goal.returns-clause-same
 returns-clause-same g c = c.in_ok-push_entries.ensures.same ∙ c.in_ok-push_text_under.ensures.same

@@ -1,10 +1,10 @@
 use Rattle.std.proofs.Common.{◌≡◌, ◌∙◌, length, refl, arith}
 use Rattle.std.proofs.lemmas.Grind.{common_steps}
-use Rattle.std.proofs.lemmas.Result.{IfOk-from_err}
+use Rattle.std.proofs.lemmas.Result.{IfOk-from_err, IfOk-weaker}
 use Rattle.std.proofs.Math.Nat.{le-add_right}
 use Rattle.wi_scenario_list.specs.Inner.Chains.{effective}
 use Rattle.wi_sessions.specs.Roster.{pending_of, session_at}
-use Rattle.wi_scenarios.proofs.ChangesLemmas.{changes_found, nothing_found, looked, begun_again, if_ok}
+use Rattle.wi_scenarios.proofs.ChangesLemmas.{changes_found, nothing_found, looked, begun_again}
 use Rattle.wi_scenarios.proofs.changes.find.Goals as goal
 
 pub returns-clause-list : goal.returns-clause-list
@@ -13,7 +13,7 @@ returns-clause-list g c =
     let d = c.args.desk.now in
     let cells : c.deref-2.result.now ≡ (pending_of c.args.desk.now.sessions c.args.desk.now.current) = c.deref-2.ensures.value ∙ c.in_ok-cells.ensures.list in
     let put : c.deref.result.now ≡ effective d.scenarios (session_at d.sessions d.current).scenario = c.deref.ensures.value ∙ c.in_ok-put.ensures.value in
-    if_ok _ _ c.find_changes.result
+    IfOk-weaker c.find_changes.result _ _
     (λ found is. changes_found stored d (pending_of c.args.desk.now.sessions c.args.desk.now.current) c.deref-2.result.now c.deref.result.now c.picture-picture.result.now found.items
     c.requires c.in_ok-cells.ensures.order refl cells put c.picture-picture.ensures is)
     c.find_changes.ensures.found

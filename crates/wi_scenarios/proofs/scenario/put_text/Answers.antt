@@ -1,9 +1,10 @@
 use Rattle.std.proofs.Common.{◌∙◌, inl, List, [], Ok, refl, sym, ap}
 use Rattle.wi_scenario_list.specs.Scenarios.{Scenario}
 use Rattle.wi_values.specs.Inner.Import.{imported}
+use Rattle.wi_values.proofs.Outcomes.{on_err}
 use Rattle.wi_scenarios.specs.State.{State}
 use Rattle.wi_scenarios.specs.Inner.Held.{state_of}
-use Rattle.wi_scenarios.proofs.ScenarioLemmas.{on_error, lacked, put_there, put_full, unread}
+use Rattle.wi_scenarios.proofs.ScenarioLemmas.{lacked, put_there, put_full, unread}
 use Rattle.wi_scenarios.proofs.scenario.put_text.Goals as goal
 
 pub returns-then-is_full-clause-step : goal.returns-then-is_full-clause-step
@@ -46,7 +47,7 @@ pub returns-in_err-value-clause-adds : goal.returns-in_err-value-clause-adds
 returns-in_err-value-clause-adds g c = λ i a l h. inl h
 
 pub returns-in_err-value-clause-refused : goal.returns-in_err-value-clause-refused
-returns-in_err-value-clause-refused g c = on_error c.from_residual.result refl
+returns-in_err-value-clause-refused g c = on_err c.from_residual.result refl
 
 pub returns-in_err-value-clause-sound : goal.returns-in_err-value-clause-sound
 returns-in_err-value-clause-sound g c = c.requires
@@ -55,7 +56,7 @@ pub returns-in_err-next-clause-adds : goal.returns-in_err-next-clause-adds
 returns-in_err-next-clause-adds g c = λ i a l h. inl h
 
 pub returns-in_err-next-clause-refused : goal.returns-in_err-next-clause-refused
-returns-in_err-next-clause-refused g c = on_error c.from_residual-in_err-next.result refl
+returns-in_err-next-clause-refused g c = on_err c.from_residual-in_err-next.result refl
 
 pub returns-in_err-next-clause-sound : goal.returns-in_err-next-clause-sound
 returns-in_err-next-clause-sound g c = c.requires
@@ -64,7 +65,7 @@ pub returns-in_err-switch_to-clause-adds : goal.returns-in_err-switch_to-clause-
 returns-in_err-switch_to-clause-adds g c = c.switch_to.ensures.adds
 
 pub returns-in_err-switch_to-clause-refused : goal.returns-in_err-switch_to-clause-refused
-returns-in_err-switch_to-clause-refused g c = on_error c.from_residual-in_err-switch_to.result c.in_err-switch_to.ensures.refused
+returns-in_err-switch_to-clause-refused g c = on_err c.from_residual-in_err-switch_to.result c.in_err-switch_to.ensures.refused
 
 pub returns-in_err-switch_to-clause-sound : goal.returns-in_err-switch_to-clause-sound
 returns-in_err-switch_to-clause-sound g c = c.switch_to.ensures.sound

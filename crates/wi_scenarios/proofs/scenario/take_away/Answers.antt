@@ -1,8 +1,9 @@
 use Rattle.std.proofs.Common.{◌∙◌, inl, List, [], Ok, refl, sym, ap}
 use Rattle.wi_scenario_list.specs.Scenarios.{Scenario}
+use Rattle.wi_values.proofs.Outcomes.{on_err}
 use Rattle.wi_scenarios.specs.State.{State}
 use Rattle.wi_scenarios.specs.Inner.Held.{state_of}
-use Rattle.wi_scenarios.proofs.ScenarioLemmas.{on_error, lacked, taken, not_taken}
+use Rattle.wi_scenarios.proofs.ScenarioLemmas.{lacked, taken, not_taken}
 use Rattle.wi_scenarios.proofs.scenario.take_away.Goals as goal
 
 pub returns-then-not-contains-clause-step : goal.returns-then-not-contains-clause-step
@@ -38,7 +39,7 @@ pub returns-in_err-next-clause-adds : goal.returns-in_err-next-clause-adds
 returns-in_err-next-clause-adds g c = λ i a l h. inl h
 
 pub returns-in_err-next-clause-refused : goal.returns-in_err-next-clause-refused
-returns-in_err-next-clause-refused g c = on_error c.from_residual.result refl
+returns-in_err-next-clause-refused g c = on_err c.from_residual.result refl
 
 pub returns-in_err-next-clause-sound : goal.returns-in_err-next-clause-sound
 returns-in_err-next-clause-sound g c = c.requires
@@ -47,7 +48,7 @@ pub returns-in_err-switch_to-clause-adds : goal.returns-in_err-switch_to-clause-
 returns-in_err-switch_to-clause-adds g c = c.switch_to.ensures.adds
 
 pub returns-in_err-switch_to-clause-refused : goal.returns-in_err-switch_to-clause-refused
-returns-in_err-switch_to-clause-refused g c = on_error c.from_residual-in_err-switch_to.result c.in_err-switch_to.ensures.refused
+returns-in_err-switch_to-clause-refused g c = on_err c.from_residual-in_err-switch_to.result c.in_err-switch_to.ensures.refused
 
 pub returns-in_err-switch_to-clause-sound : goal.returns-in_err-switch_to-clause-sound
 returns-in_err-switch_to-clause-sound g c = c.switch_to.ensures.sound

@@ -2,9 +2,10 @@ use Rattle.std.proofs.Common.{ap, cond, subst, sym, ◌∙◌, List, ℕ, Some}
 use Rattle.std.specs.List.Sorted.{IsStrictlySortedBy}
 use Rattle.std.specs.Ordering.{nat_cmp}
 use Rattle.wi_values.specs.declared.value.Value.TheVariants.{Empty}
+use Rattle.wi_values.proofs.Order.{at_other}
 use Rattle.wi_sessions.specs.Inner.Rooms.{room_of}
 use Rattle.wi_sessions.proofs.EntryLemmas.{found-replaced, keys-replaced}
-use Rattle.wi_sessions.proofs.RoomLemmas.{held_put, is_at_apart}
+use Rattle.wi_sessions.proofs.RoomLemmas.{held_put}
 use Rattle.wi_sessions.proofs.rooms.exchange.Goals as goal
 
 pub returns-clause-values : goal.returns-clause-values
@@ -22,4 +23,4 @@ returns-clause-rooms c = keys-replaced c.args.rooms.now.entries c.replace.new.se
 pub returns-clause-others : goal.returns-clause-others
 returns-clause-others c =
     λ q apart. found-replaced c.args.rooms.now.entries c.replace.new.self.entries c.args.at c.replace-new.result c.replace.ensures.entries c.requires q
-    ∙ ap (λ b. cond b (Some c.replace-new.result) (room_of c.args.rooms.now.entries q)) (is_at_apart c.args.at q apart)
+    ∙ ap (λ b. cond b (Some c.replace-new.result) (room_of c.args.rooms.now.entries q)) (at_other c.args.at q apart)

@@ -1,8 +1,9 @@
 use Rattle.std.proofs.Common.{◌≡◌, ◌+◌, ◌-◌, ◌<◌, length, arith}
+use Rattle.wi_values.proofs.Keys.{keys_of-set}
 use Rattle.wi_store.specs.Inner.Rooms.{sheet_in}
 use Rattle.wi_store.specs.Inner.Exchange.{restored}
 use Rattle.wi_store.proofs.RoomLemmas.{Ascends-from_order}
-use Rattle.wi_store.proofs.ChangeLemmas.{restored_more, room_more, vacant_more, keys_of-set}
+use Rattle.wi_store.proofs.ChangeLemmas.{restored_more, room_more, vacant_more}
 use Rattle.wi_store.proofs.rooms.exchange_back.Goals as goal
 
 pub exchange-requires-clause-room : goal.exchange-requires-clause-room

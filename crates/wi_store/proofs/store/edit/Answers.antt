@@ -1,6 +1,7 @@
-use Rattle.std.proofs.Common.{ℕ, List, Option, Ok, Err, Result, OnErr, ap, ◌∙◌, rules}
+use Rattle.std.proofs.Common.{ℕ, List, Option, ap, ◌∙◌, rules}
 use Rattle.wi_parser.specs.Sheet.{Sheet}
 use Rattle.wi_parser.specs.declared.content.Content.{Content}
+use Rattle.wi_values.proofs.Outcomes.{on_err}
 use Rattle.wi_store.specs.Store.{edited}
 use Rattle.wi_store.specs.Inner.Rooms.{sheet_in}
 use Rattle.wi_store.specs.Inner.Exchange.{restored}
@@ -8,13 +9,9 @@ use Rattle.wi_store.proofs.RoomLemmas.{Ascends-from_order, Ascends-sheet_in}
 use Rattle.wi_store.proofs.ExchangeLemmas.{restored-stood}
 use Rattle.wi_store.proofs.store.edit.Goals as goal
 
-on_err_from : {T E P : Type 0} (r : Result T E) → P → OnErr r P
-on_err_from (Ok x) p = tt
-on_err_from (Err e) p = p
-
 pub returns-then-is_err-clause-refused : goal.returns-then-is_err-clause-refused
 returns-then-is_err-clause-refused c =
-    on_err_from c.admit-answer.result
+    on_err c.admit-answer.result
     (c.exchange_back.ensures.sheet
     ∙ ap (λ (s : Sheet). restored s c.exchange_all-occupied.new.changes) c.exchange_all-occupied.ensures.sheet
     ∙ ap (λ (es : List (ℕ × Option Content)). restored (edited (sheet_in c.make_rooms.new.rooms.entries) c.args.changes.now) es) c.exchange_all-occupied.ensures.stood

@@ -1,13 +1,10 @@
-use Rattle.std.proofs.Common.{◌≡◌, ◌++◌, ◌∙◌, ◌∷◌, ◌<◌, List, ℕ, length, ap, arith}
+use Rattle.std.proofs.Common.{◌++◌, ◌∙◌, List, ap}
 use Rattle.std.proofs.lemmas.Result.{err_from_is_err_and}
 use Rattle.wi_values.specs.declared.replacement.Replacement.{Replacement}
-use Rattle.wi_values.specs.declared.value.Value.{Value}
 use Rattle.wi_values.specs.Replacements.{as_map}
 use Rattle.wi_values.proofs.Replacements.InOrder.{order_from_entries, one_more_taken, all_taken}
+use Rattle.wi_values.proofs.Lists.{one_less}
 use Rattle.wi_worlds.proofs.entries.listed.Goals as goal
-
-fewer : (q : ℕ × Value) (left rest : List (ℕ × Value)) → rest ≡ q ∷ left → length left < length rest
-fewer q left rest e = omega (arith, ap length e)
 
 pub loop-at-init : goal.loop-at-init
 loop-at-init c = ap (λ (rs : List Replacement). as_map rs ++ c.into_iter-at-iterator.result) c.in_ok-replacements.ensures.items
@@ -18,7 +15,7 @@ loop-at-preserved c =
     c.in_ok-push.ensures.items c.in-Some.ensures.steps c.loop-at.invariant
 
 pub loop-at-smaller : goal.loop-at-smaller
-loop-at-smaller c = fewer (c.in-Some.at, c.in-Some.value) c.next.new.self c.loop-at.at-iterator c.in-Some.ensures.steps
+loop-at-smaller c = one_less c.loop-at.at-iterator c.next.new.self (c.in-Some.at, c.in-Some.value) c.in-Some.ensures.steps
 
 pub returns-in_err-replacements-clause-value : goal.returns-in_err-replacements-clause-value
 returns-in_err-replacements-clause-value c =

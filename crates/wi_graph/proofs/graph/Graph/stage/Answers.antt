@@ -1,9 +1,10 @@
 use Rattle.std.proofs.Common.{◌∙◌, refl, ap}
+use Rattle.wi_values.proofs.Outcomes.{on_err}
 use Rattle.wi_graph.specs.Edges.{Staging}
 use Rattle.wi_graph.proofs.EdgeLemmas.{rooms_same}
 use Rattle.wi_graph.proofs.GraphEnds.{unstaged}
 use Rattle.wi_graph.proofs.ChangeSteps.{staged_edges}
-use Rattle.wi_graph.proofs.StageEnds.{on_err, refused_invariant, refused_view, staged_view}
+use Rattle.wi_graph.proofs.StageEnds.{refused_invariant, refused_view, staged_view}
 use Rattle.wi_graph.proofs.graph.Graph.stage.Goals as goal
 
 pub make_ready-requires : goal.make_ready-requires

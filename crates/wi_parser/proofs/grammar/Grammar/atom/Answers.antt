@@ -1,7 +1,8 @@
 use Rattle.std.proofs.Common.{Some, ap, ◌∙◌, sym, subst}
+use Rattle.wi_values.proofs.Lists.{one_less}
 use Rattle.wi_parser.specs.Inner.Reader.{atom, expression}
 use Rattle.wi_parser.specs.Inner.Outcome.{Finds}
-use Rattle.wi_parser.proofs.Shorter.{one_less, still_less}
+use Rattle.wi_parser.proofs.Shorter.{still_less}
 use Rattle.wi_parser.proofs.grammar.Grammar.atom.Goals as goal
 
 pub returns-in-Open-clause-finds : goal.returns-in-Open-clause-finds

@@ -1,5 +1,5 @@
-use Rattle.wi_propagate.proofs.Words.{◌∙◌, ap, is_one_of, Noted}
-use Rattle.wi_propagate.proofs.NotedSteps.{key_there, there_key, owed_key, on_ok}
+use Rattle.wi_propagate.proofs.Words.{◌∙◌, ap, is_one_of, Noted, on_ok}
+use Rattle.wi_propagate.proofs.NotedSteps.{key_there, there_key, owed_key}
 use Rattle.wi_propagate.proofs.generations.Generations.owe.Goals as goal
 
 pub returns-in_err-owe_read-clause-stays : goal.returns-in_err-owe_read-clause-stays

@@ -2,8 +2,8 @@ use Rattle.std.proofs.Common.{◌∙◌, ℕ, List, ap, sym, subst, not}
 use Rattle.std.proofs.lemmas.Result.{err_from_is_err_and}
 use Rattle.std.specs.BTreeSet.{BTreeSet}
 use Rattle.std.specs.List.Sorted.{IsStrictlyIncreasing}
+use Rattle.wi_values.proofs.Outcomes.{on_err}
 use Rattle.wi_ranges.specs.Inner.Rising.{has_cell, ends_before, StandApart}
-use Rattle.wi_ranges.proofs.BagLemmas.{on_error}
 use Rattle.wi_ranges.proofs.RisingLemmas.{apart_more, new_behind, apart_still, has_more, same_rising, same_others, has_behind, has_already, has_no_more, new_among_others}
 use Rattle.wi_ranges.proofs.rising_set.RisingSet.insert.Goals as goal
 
@@ -22,7 +22,7 @@ returns-in_err-push-clause-has c =
 
 pub returns-in_err-push-clause-err : goal.returns-in_err-push-clause-err
 returns-in_err-push-clause-err c =
-    on_error c.from_residual.result (same_rising c.self.inside.rising.items c.push.new.self.items c.self.inside.others.keys c.args.self.now c.in_err-push.ensures.items c.self.view_is)
+    on_err c.from_residual.result (same_rising c.self.inside.rising.items c.push.new.self.items c.self.inside.others.keys c.args.self.now c.in_err-push.ensures.items c.self.view_is)
 
 pub invariant_of-self-then-ends_before : goal.invariant_of-self-then-ends_before
 invariant_of-self-then-ends_before c =
@@ -66,7 +66,7 @@ returns-in_err-insert-clause-has c =
 
 pub returns-in_err-insert-clause-err : goal.returns-in_err-insert-clause-err
 returns-in_err-insert-clause-err c =
-    on_error c.from_residual-in_err-insert.result (same_others c.self.inside.rising.items c.self.inside.others.keys c.insert.new.self.keys c.args.self.now c.in_err-insert.ensures.err c.self.view_is)
+    on_err c.from_residual-in_err-insert.result (same_others c.self.inside.rising.items c.self.inside.others.keys c.insert.new.self.keys c.args.self.now c.in_err-insert.ensures.err c.self.view_is)
 
 pub invariant_of-self-2 : goal.invariant_of-self-2
 invariant_of-self-2 c =

@@ -2,14 +2,15 @@ use Rattle.std.proofs.Common.{◌∙◌, ℕ, List, BTreeMap, ap}
 use Rattle.wi_values.specs.declared.value.Value.{Value}
 use Rattle.std.specs.Ordering.{nat_cmp}
 use Rattle.std.specs.BTreeMap.{insert_entry}
+use Rattle.std.proofs.lemmas.Result.{IfOk-weaker}
 use Rattle.wi_scenario_list.specs.Inner.Parts.{as_replacements}
-use Rattle.wi_scenario_list.proofs.Own.{if_ok, with_one}
+use Rattle.wi_scenario_list.proofs.Own.{with_one}
 use Rattle.wi_scenario_list.proofs.layer.Layer.with.Goals as goal
 
 pub returns-clause-own : goal.returns-clause-own
 returns-clause-own c =
     let copied = c.in_ok-own.ensures ∙ ap (λ (m : BTreeMap ℕ Value). m.entries) c.deref.ensures in
-    if_ok c.with_own.result
+    IfOk-weaker c.with_own.result _ _
     (λ l e.
     ap (λ (m : BTreeMap ℕ Value). as_replacements m.entries) e
     ∙ ap (λ (es : List (ℕ × Value)). as_replacements es)

@@ -3,15 +3,16 @@ use Rattle.wi_values.specs.declared.value.Value.{Value}
 use Rattle.std.specs.Ordering.{nat_cmp}
 use Rattle.std.specs.Map.{lookup}
 use Rattle.std.specs.BTreeMap.{is_at}
+use Rattle.std.proofs.lemmas.Result.{IfOk-weaker}
 use Rattle.wi_scenario_list.specs.Inner.Parts.{as_replacements, without_replacement}
-use Rattle.wi_scenario_list.proofs.Own.{if_ok, without_one}
+use Rattle.wi_scenario_list.proofs.Own.{without_one}
 use Rattle.wi_scenario_list.proofs.layer.Layer.without.Goals as goal
 
 pub returns-clause-own : goal.returns-clause-own
 returns-clause-own c =
     let copied = c.in_ok-own.ensures ∙ ap (λ (m : BTreeMap ℕ Value). m.entries) c.deref.ensures in
     let gone = sym (ap (λ (es : List (ℕ × Value)). lookup (is_at (nat_cmp c.args.at)) es) c.remove.ensures.entries) ∙ c.remove.ensures.updates.1 in
-    if_ok c.with_own.result
+    IfOk-weaker c.with_own.result _ _
     (λ l e.
     ap (λ (m : BTreeMap ℕ Value). as_replacements m.entries) e
     ∙ ap (λ (es : List (ℕ × Value)). as_replacements es) c.remove.ensures.entries

@@ -1,12 +1,12 @@
 use Rattle.std.proofs.Common.{◌∙◌, ◌-◌, ℕ, List, Option, BTreeMap, ap, rules}
 use Rattle.wi_values.specs.declared.value.Value.{Value}
 use Rattle.std.specs.Option.{option_copied}
+use Rattle.std.proofs.lemmas.Result.{IfOk-weaker}
 use Rattle.wi_values.specs.Replacements.{as_map, overridden}
 use Rattle.wi_scenario_list.specs.Scenarios.{layered, scenario_of}
 use Rattle.wi_scenario_list.specs.Inner.Chains.{chain_within}
 use Rattle.wi_scenario_list.specs.Inner.Parts.{as_replacements}
 use Rattle.wi_scenario_list.specs.Inner.Held.{with_name}
-use Rattle.wi_scenario_list.proofs.Own.{if_ok}
 use Rattle.wi_scenario_list.proofs.Chains.{layered_more}
 use Rattle.wi_scenario_list.proofs.scenarios.Scenarios.+layered.Goals as goal
 
@@ -16,7 +16,7 @@ returns-in_ok-below-in-Some-find t c =
     let below =
     c.in_ok-below-in-Some-find.ensures
     ∙ ap (λ (o : Option (List ℕ)). as_map (layered (chain_within (c.args.bound - 1) c.args.self.now (scenario_of c.args.self.now o)))) c.base_name.ensures in
-    if_ok c.with_entries.result
+    IfOk-weaker c.with_entries.result _ _
     (λ m e.
     layered_more c.args.bound c.args.self.now (scenario_of c.args.self.now (option_copied c.args.name))
     (with_name c.in-Some.name.now c.in-Some-find.layer.now) es m.entries (search rules) (search rules) below

@@ -2,10 +2,11 @@ use Rattle.std.proofs.Common.{◌≡◌, ℕ, List, length, not, sym, subst, ari
 use Rattle.std.specs.Prelude.{filter}
 use Rattle.std.proofs.lemmas.Grind.{common_steps}
 use Rattle.std.proofs.lemmas.Result.{IfOk-weaker}
+use Rattle.wi_values.proofs.Outcomes.{on_ok}
 use Rattle.wi_sessions.specs.Inner.Cells.{is_staged}
 use Rattle.wi_sessions.specs.Inner.Unread.{HasPlace}
 use Rattle.wi_sessions.proofs.PlaceLemmas.{place_read}
-use Rattle.wi_sessions.proofs.PendingLemmas.{all_told, cells_told, on_ok_always, within_unread}
+use Rattle.wi_sessions.proofs.PendingLemmas.{all_told, cells_told, within_unread}
 use Rattle.wi_sessions.proofs.pending.Pending.cells.Goals as goal
 
 pub index-requires : goal.index-requires
@@ -46,4 +47,4 @@ returns-clause-list c =
     c.self.view_is l c.in_ok-all.ensures c.deref-3.ensures.value c.deref-2.ensures.value is) c.without_rooms.ensures
 
 pub returns-clause-order : goal.returns-clause-order
-returns-clause-order c = on_ok_always c.without_rooms.result c.cells_rise.ensures
+returns-clause-order c = on_ok c.without_rooms.result c.cells_rise.ensures

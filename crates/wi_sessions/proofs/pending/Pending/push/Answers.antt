@@ -2,11 +2,12 @@ use Rattle.std.proofs.Common.{◌≡◌, ◌+◌, ◌++◌, ◌∷◌, ◌∙◌
 use Rattle.std.proofs.lemmas.Grind.{common_steps}
 use Rattle.std.proofs.lemmas.List.{length-append}
 use Rattle.std.specs.List.{range_with_len}
+use Rattle.wi_values.proofs.Outcomes.{on_err}
 use Rattle.wi_sessions.specs.Pending.{AllPending}
 use Rattle.wi_sessions.specs.declared.unread.Unread.{Unread}
 use Rattle.wi_sessions.specs.Inner.Cells.{cells_in, vacant_in, pending_in}
 use Rattle.wi_sessions.specs.Inner.Unread.{AreKept}
-use Rattle.wi_sessions.proofs.PendingLemmas.{on_err_always, pushed_cells, pushed_kept, pushed_pending, pushed_vacant, refused_kept, refused_same}
+use Rattle.wi_sessions.proofs.PendingLemmas.{pushed_cells, pushed_kept, pushed_pending, pushed_vacant, refused_kept, refused_same}
 use Rattle.wi_sessions.proofs.pending.Pending.push.Goals as goal
 
 pub bit_of-requires : goal.bit_of-requires
@@ -20,17 +21,17 @@ unwrap-requires c = c.push.ensures.succeeds (grind (arith, common_steps))
 
 pub returns-in_err-reserve-clause-refused : goal.returns-in_err-reserve-clause-refused
 returns-in_err-reserve-clause-refused c =
-    on_err_always c.from_residual.result
+    on_err c.from_residual.result
     (ap (λ (us : List Unread). pending_in c.self.inside.words.entries c.self.inside.staged.items (length us)) c.reserve.ensures.items ∙ c.self.view_is)
 
 pub returns-in_err-unread-clause-refused : goal.returns-in_err-unread-clause-refused
 returns-in_err-unread-clause-refused c =
-    on_err_always c.from_residual-in_err-unread.result
+    on_err c.from_residual-in_err-unread.result
     (ap (λ (us : List Unread). pending_in c.self.inside.words.entries c.self.inside.staged.items (length us)) c.reserve.ensures.items ∙ c.self.view_is)
 
 pub returns-in_err-put_in-clause-refused : goal.returns-in_err-put_in-clause-refused
 returns-in_err-put_in-clause-refused c =
-    on_err_always c.from_residual-in_err-put_in.result
+    on_err c.from_residual-in_err-put_in.result
     (ap (λ (us : List Unread). pending_in c.put_in.new.words.entries c.self.inside.staged.items (length us)) c.reserve.ensures.items
     ∙ refused_same c.self.inside.words.entries c.self.inside.staged.items c.put_in.new.words.entries c.self.invariant.order c.put_in.ensures.order c.in_err-put_in.ensures.refused (length c.self.inside.unread.items)
     ∙ c.self.view_is)

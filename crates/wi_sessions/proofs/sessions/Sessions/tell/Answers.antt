@@ -4,11 +4,11 @@ use Rattle.std.specs.List.{slice_set}
 use Rattle.std.proofs.lemmas.List.{length-set}
 use Rattle.indexmap.specs.IndexMap.{set_value_at}
 use Rattle.indexmap.proofs.CallerLemmas.{index_map_len-with_value_at}
+use Rattle.wi_values.proofs.Outcomes.{on_err}
 use Rattle.wi_sessions.specs.Sessions.{Session, new_session, told}
 use Rattle.wi_sessions.specs.Roster.{Roster}
 use Rattle.wi_sessions.specs.Inner.Held.{roster_in, session_in}
 use Rattle.wi_sessions.specs.declared.held.Held.{Held}
-use Rattle.wi_sessions.proofs.PendingLemmas.{on_err_always}
 use Rattle.wi_sessions.proofs.RosterLemmas.{entry_at, part_at, part_set, put_back, within_lists}
 use Rattle.wi_sessions.proofs.sessions.Sessions.tell.Goals as goal
 
@@ -37,7 +37,7 @@ pub returns-in_err-tell-clause-refused : goal.returns-in_err-tell-clause-refused
 returns-in_err-tell-clause-refused c =
     let items = c.self.inside.held.entries in
     let p = c.self.inside.pending in
-    on_err_always c.from_residual-in_err-tell.result
+    on_err c.from_residual-in_err-tell.result
     (ap (λ (y : Held). roster_in (set_value_at items c.args.i y) p) c.in_err-tell.ensures.refused
     ∙ ap (λ es. roster_in es p) (put_back items c.args.i c.index_mut.result.now c.index_mut.ensures.value) ∙ c.self.view_is)
 
