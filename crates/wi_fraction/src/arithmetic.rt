@@ -17,7 +17,9 @@ impl Fraction {
     #[tactic(auto, using(crate::proofs::Values::sum_value))]
     pub fn checked_add(self, other: Fraction) -> Result<Fraction, FractionError>
         ensures value { result ≡ ok_or (sum_of self other) FractionError.Overflow }
-        ensures exact { IfOk result (IsValue (self.num *ℤ pos other.den +ℤ other.num *ℤ pos self.den) (self.den * other.den)) }
+        ensures exact { IfOk result
+            (IsValue (self.num *ℤ pos other.den +ℤ other.num *ℤ pos self.den)
+            (self.den * other.den)) }
     {
         self.sum(other).ok_or(FractionError::Overflow)
     }
@@ -26,7 +28,9 @@ impl Fraction {
     #[tactic(auto, using(crate::proofs::Values::difference_value))]
     pub fn checked_sub(self, other: Fraction) -> Result<Fraction, FractionError>
         ensures value { result ≡ ok_or (sum_of self (negated other)) FractionError.Overflow }
-        ensures exact { IfOk result (IsValue (self.num *ℤ pos other.den -ℤ other.num *ℤ pos self.den) (self.den * other.den)) }
+        ensures exact { IfOk result
+            (IsValue (self.num *ℤ pos other.den -ℤ other.num *ℤ pos self.den)
+            (self.den * other.den)) }
     {
         self.checked_add(other.neg())
     }
@@ -53,7 +57,8 @@ impl Fraction {
     /// The quotient, which overflows where it does not fit in lowest terms.
     #[tactic(auto, using(crate::proofs::Values::quotient_value))]
     pub fn checked_div(self, other: Fraction) -> Result<Fraction, FractionError>
-        ensures value { result ≡ (if int_eq other.num (pos 0) then Err FractionError.ZeroDenominator else ok_or (quotient_of self other) FractionError.Overflow) }
+        ensures value { result ≡ (if int_eq other.num (pos 0) then Err FractionError.ZeroDenominator
+            else ok_or (quotient_of self other) FractionError.Overflow) }
         ensures exact { IfOk result
             (λ z. (self.num *ℤ pos other.den) *ℤ pos z.den ≡ z.num *ℤ (pos self.den *ℤ other.num)) }
     {

@@ -25,7 +25,8 @@ impl Fraction {
     /// exact. On an error the text is as before.
     #[tactic(auto, unfolding(crate::specs::Decimal::decimal_text))]
     pub fn push_decimal(&self, text: &mut String) -> Result<(), AllocError>
-        ensures ok { OnOk result (string_bytes text.new ≡ string_bytes text.old ++ decimal_text self.now) }
+        ensures ok { OnOk result
+            (string_bytes text.new ≡ string_bytes text.old ++ decimal_text self.now) }
         ensures err { OnErr result (string_bytes text.new ≡ string_bytes text.old) }
     {
         let Parts {
@@ -45,7 +46,8 @@ impl Fraction {
 fn push_exact(negative: bool, n: u128, d: u128, text: &mut String) -> Result<(), AllocError>
     requires above_zero { 0 < d }
     requires fits { d ≤ max_size }
-    ensures ok { OnOk result (string_bytes text.new ≡ string_bytes text.old ++ (sign_text negative ++ size_text (all_places d) n d)) }
+    ensures ok { OnOk result (string_bytes text.new
+        ≡ string_bytes text.old ++ (sign_text negative ++ size_text (all_places d) n d)) }
     ensures kept { StartsWith (string_bytes text.new) (string_bytes text.old) }
 {
     let mut first = Buffer::new();
@@ -64,7 +66,8 @@ fn push_exact(negative: bool, n: u128, d: u128, text: &mut String) -> Result<(),
 fn push_digits(n: u128, d: u128, places: u32, text: &mut String) -> Result<(), AllocError>
     requires below_one { n < d }
     requires fits { d ≤ max_size }
-    ensures ok { OnOk result (string_bytes text.new ≡ string_bytes text.old ++ padded places (n * 10 ^ places / d)) }
+    ensures ok { OnOk result
+        (string_bytes text.new ≡ string_bytes text.old ++ padded places (n * 10 ^ places / d)) }
     ensures kept { StartsWith (string_bytes text.new) (string_bytes text.old) }
 {
     let mut rest = n;

@@ -13,7 +13,9 @@ use crate::{Fraction, FractionError, MAX};
 impl Fraction {
     /// The power, which overflows where it does not fit in lowest terms. Zero to the power zero is one.
     pub fn checked_pow(self, exponent: i128) -> Result<Fraction, FractionError>
-        ensures { result ≡ (if int_eq self.num (pos 0) && int_lt exponent (pos 0) then Err FractionError.ZeroDenominator else ok_or (power_of self exponent) FractionError.Overflow) }
+        ensures { result ≡ (if int_eq self.num (pos 0) && int_lt exponent (pos 0)
+            then Err FractionError.ZeroDenominator
+            else ok_or (power_of self exponent) FractionError.Overflow) }
     {
         let Parts {
             numerator: a,

@@ -235,7 +235,8 @@ fn lowered_part(n: u128, d: u128, places: u128) -> Option<Fraction>
 fn quotient(negative: bool, above: &[u8], below: &[u8]) -> Option<Fraction>
     requires above { AllDigits 10 above.now }
     requires below { AllDigits 10 below.now }
-    ensures { result ≡ read_quotient negative (digits_value 10 above.now) (digits_value 10 below.now) }
+    ensures { result
+        ≡ read_quotient negative (digits_value 10 above.now) (digits_value 10 below.now) }
 {
     let size = whole_number(&[], above)?;
     let denominator = whole_number(&[], below)?;

@@ -15,7 +15,8 @@ impl Fraction {
     /// that do; else n/d.
     #[tactic(auto, unfolding(crate::specs::Text::text_of))]
     pub fn push_text(&self, text: &mut String) -> Result<(), AllocError>
-        ensures ok { OnOk result (string_bytes text.new ≡ string_bytes text.old ++ text_of self.now) }
+        ensures ok { OnOk result
+            (string_bytes text.new ≡ string_bytes text.old ++ text_of self.now) }
         ensures err { OnErr result (string_bytes text.new ≡ string_bytes text.old) }
     {
         let Parts {
@@ -55,7 +56,8 @@ fn places_from(tries: u32, k: u32, power: u128, d: u128) -> Option<u32>
 /// Appends the text of n/d with that sign. On an error the text is as before.
 fn push_parts(negative: bool, n: u128, d: u128, text: &mut String) -> Result<(), AllocError>
     requires { 0 < d }
-    ensures ok { OnOk result (string_bytes text.new ≡ string_bytes text.old ++ (sign_text negative ++ size_text (places d) n d)) }
+    ensures ok { OnOk result (string_bytes text.new
+        ≡ string_bytes text.old ++ (sign_text negative ++ size_text (places d) n d)) }
     ensures err { OnErr result (string_bytes text.new ≡ string_bytes text.old) }
 {
     let mut first = Buffer::new();
@@ -81,7 +83,8 @@ pub(crate) fn push_joined(
     text: &mut String,
 ) -> Result<(), AllocError>
     requires { length above.now + length mark.now + length below.now < 200 }
-    ensures ok { OnOk result (string_bytes text.new ≡ string_bytes text.old ++ (sign_text negative ++ (above.now ++ (mark.now ++ below.now)))) }
+    ensures ok { OnOk result (string_bytes text.new
+        ≡ string_bytes text.old ++ (sign_text negative ++ (above.now ++ (mark.now ++ below.now)))) }
     ensures err { OnErr result (string_bytes text.new ≡ string_bytes text.old) }
 {
     let sign = if negative { "-" } else { "" };
