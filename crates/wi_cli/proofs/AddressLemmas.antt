@@ -1,10 +1,5 @@
 -- The text of an address, written part by part.
-use Rattle.std.proofs.Common.{◌≡◌, ℕ, zero, suc, ◌+◌, ◌-◌, ◌/◌, ◌%◌, ◌==◌, ◌||◌, Bool, true, false, cond, List, [], ◌∷◌, ◌++◌, refl, sym, ap, ◌∙◌, subst, arith, Option}
-use Rattle.std.specs.Io.KnownBytes.{Appends}
-use Rattle.std.proofs.KnownBytes.{Appends-nil, Appends-trans}
-use Rattle.std.proofs.lemmas.Bool.{false≢true, ne_eqb}
-use Rattle.wi_values.specs.Inner.Letters.{letters_within}
-use Rattle.wi_cli.specs.Inner.Front.{AppendsFront}
+use Rattle.wi_cli.proofs.Vocabulary.{◌≡◌, ℕ, zero, suc, ◌+◌, ◌-◌, ◌/◌, ◌%◌, ◌==◌, ◌||◌, Bool, true, false, cond, List, [], ◌∷◌, ◌++◌, refl, sym, ap, ◌∙◌, subst, arith, Option, Appends, Appends-nil, Appends-trans, false≢true, ne_eqb, letters_within, AppendsFront}
 use Rattle.wi_cli.proofs.TurnLemmas.{AppendsFront-append, AppendsFront-of}
 
 -- where a letter may be written, only the number tells

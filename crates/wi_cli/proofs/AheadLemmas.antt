@@ -1,8 +1,5 @@
 -- Bytes that are still to come, some taken, or more of them in the buffer.
-use Rattle.std.proofs.Common.{◌≡◌, ℕ, ◌+◌, ◌-◌, ◌≤◌, List, [], ◌++◌, take, drop, sym, ap, ◌∙◌, arith, append_assoc, Option, None, Some}
-use Rattle.std.specs.Io.KnownBytes.{Consumes, Keeps, IsAtEnd, prepend_known}
-use Rattle.std.proofs.lemmas.List.{drop-take}
-use Rattle.wi_cli.specs.Inner.Ahead.{Takes}
+use Rattle.wi_cli.proofs.Vocabulary.{◌≡◌, ℕ, ◌+◌, ◌-◌, ◌≤◌, List, [], ◌++◌, take, drop, sym, ap, ◌∙◌, arith, append_assoc, Option, None, Some, Consumes, Keeps, IsAtEnd, prepend_known, drop-take, Takes}
 
 pub held : (bytes : List ℕ) (at filled : ℕ) → at ≤ filled → take (filled - at) (drop at bytes) ≡ drop at (take filled bytes)
 held bytes at filled l =

@@ -1,12 +1,6 @@
 -- The blocks of lines.
-use Rattle.std.proofs.Common.{◌≡◌, ℕ, ◌+◌, ◌-◌, ◌<◌, Bool, true, false, cond, nat_eq, List, [], ◌∷◌, ◌++◌, length, refl, sym, ap, ◌∙◌, subst, append_assoc, append-nil, arith}
+use Rattle.wi_cli.proofs.Vocabulary.{◌≡◌, ℕ, ◌+◌, ◌-◌, ◌<◌, Bool, true, false, cond, nat_eq, List, [], ◌∷◌, ◌++◌, length, refl, sym, ap, ◌∙◌, subst, append_assoc, append-nil, arith, ne_eqb, filter-append, without_lf, csv_line, Block, lines_of, begun, with_data, is_complete, blocks_from, blocks, AreBlocks, AreBlocksOf}
 use Rattle.std.specs.List.{filter}
-use Rattle.std.proofs.lemmas.Bool.{ne_eqb}
-use Rattle.std.proofs.lemmas.List.Elements.{filter-append}
-use Rattle.wi_cli.specs.Lines.{without_lf}
-use Rattle.wi_cli.specs.Inner.CsvCommand.{csv_line}
-use Rattle.wi_cli.specs.Inner.Blocks.{Block, lines_of, begun, with_data, is_complete, blocks_from, blocks}
-use Rattle.wi_cli.specs.Inner.Taken.{AreBlocks, AreBlocksOf}
 
 abbrev pub block_of : List ℕ → List (List ℕ) → ℕ → Block
 block_of line data_lines missing = record { line = line; data_lines = data_lines; missing = missing }

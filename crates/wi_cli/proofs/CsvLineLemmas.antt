@@ -1,8 +1,5 @@
 -- The words of bytes.
-use Rattle.std.proofs.Common.{◌≡◌, ℕ, suc, ◌+◌, ◌-◌, Bool, true, false, cond, eqb, List, [], ◌∷◌, length, take, drop, refl, sym, ap, ◌∙◌, arith, Result, Ok, Err, MatchResult, is_ok}
-use Rattle.std.specs.List.{prefix_len}
-use Rattle.std.proofs.lemmas.List.{take_rest}
-use Rattle.wi_cli.specs.Lines.{is_space, skip_spaces}
+use Rattle.wi_cli.proofs.Vocabulary.{◌≡◌, ℕ, suc, ◌+◌, ◌-◌, Bool, true, false, cond, eqb, List, [], ◌∷◌, length, take, drop, refl, sym, ap, ◌∙◌, arith, Result, Ok, Err, MatchResult, is_ok, prefix_len, take_rest, is_space, skip_spaces}
 
 dropped : (bs : List ℕ) → drop (prefix_len is_space bs) bs ≡ skip_spaces bs
 dropped [] = refl

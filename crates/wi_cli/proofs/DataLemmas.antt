@@ -1,22 +1,8 @@
 -- Data lines, as they are taken and held.
-use Rattle.std.proofs.Common.{◌≡◌, ℕ, ◌+◌, ◌-◌, ◌<◌, ◌≤◌, Bool, true, false, ◌||◌, ◌&&◌, cond, ltb, List, [], ◌∷◌, ◌++◌, length, take, refl, sym, ap, ◌∙◌, subst, ⊎_elim, Option, None, Some, append_assoc, append-nil, length-append, arith}
-use Rattle.std.specs.List.{concat, list_any}
-use Rattle.std.specs.Str.{is_utf8}
-use Rattle.std.specs.Io.KnownBytes.{IsAtEnd, prepend_known}
-use Rattle.std.proofs.Math.Bool.{or-true}
-use Rattle.std.proofs.lemmas.List.{take_all, length-take}
-use Rattle.std.proofs.lemmas.List.Folds.{list_any-append}
-use Rattle.std.proofs.lemmas.Bool.{false≢true, lt-ltb, le-ltb, ltb-true, cases_lt}
-use Rattle.wi_cli.specs.declared.fault.RunFault.{RunFault}
+use Rattle.wi_cli.proofs.Vocabulary.{◌≡◌, ℕ, ◌+◌, ◌-◌, ◌<◌, ◌≤◌, Bool, true, false, ◌||◌, ◌&&◌, cond, ltb, List, [], ◌∷◌, ◌++◌, length, take, refl, sym, ap, ◌∙◌, subst, ⊎_elim, Option, None, Some, append_assoc, append-nil, length-append, arith, concat, list_any, is_utf8, IsAtEnd, prepend_known, or-true, take_all, length-take, list_any-append, false≢true, lt-ltb, le-ltb, ltb-true, cases_lt, RunFault, Held, Lacking, DataLines, raw_lines, without_cr, is_whole, CsvLine, csv_text, csv_line, is_long, raw, line_front, TookLine, Broke, TookLines, IsCsv, HoldsLines, AddedTo, TookData, BrokeData}
 use Rattle.wi_cli.specs.declared.csv_line.CsvLine.{CsvLine as ReadCsv}
-use Rattle.wi_cli.specs.declared.data_lines.Held.{Held}
-use Rattle.wi_cli.specs.declared.data_lines.Held.TheVariants.{All, Lacking, TooLong}
-use Rattle.wi_cli.specs.declared.data_lines.DataLines.{DataLines}
-use Rattle.wi_cli.specs.Lines.{raw_lines, without_cr, is_whole}
-use Rattle.wi_cli.specs.Inner.CsvCommand.{CsvLine, csv_text, csv_line, is_long}
-use Rattle.wi_cli.specs.Inner.Reading.{raw, line_front, TookLine, Broke}
-use Rattle.wi_cli.specs.Inner.Taken.{TookLines}
-use Rattle.wi_cli.specs.Inner.Data.{IsCsv, Holds, HoldsLines, AddedTo, TookData, BrokeData}
+use Rattle.wi_cli.specs.declared.data_lines.Held.TheVariants.{All, TooLong}
+use Rattle.wi_cli.specs.Inner.Data.{Holds}
 use Rattle.wi_cli.proofs.LineLemmas.{raw_lines-last, raw_lines-raw, without_lf-raw, concat_push}
 use Rattle.wi_cli.proofs.TakenLemmas.{IsCsvOf, IsCounted, none_taken, one_taken, taken_lines, TookLines-trans, one_broke}
 

@@ -1,15 +1,5 @@
 -- A run on a new workbook.
-use Rattle.std.proofs.Common.{◌≡◌, ℕ, Bool, true, false, List, [], ap, ◌∙◌, refl, subst, Option, Result, Ok, Err, IfOk}
-use Rattle.std.proofs.lemmas.Bool.{false≢true}
-use Rattle.std.proofs.KnownBytes.{Consumes-nil, Appends-nil}
-use Rattle.wi_store.specs.declared.limits.Limits.{Limits}
-use Rattle.wi_store.specs.Store.{Stored}
-use Rattle.wi_propagate.specs.KeptSheet.{KeptSheet}
-use Rattle.wi_scenarios.specs.State.{State, state_over, new_state}
-use Rattle.wi_scenarios.specs.Pending.{Book}
-use Rattle.wi_cli.specs.declared.fault.RunFault.{RunFault}
-use Rattle.wi_cli.specs.declared.fault.RunFault.TheVariants.{Memory, Read, Write, ScriptLimit}
-use Rattle.wi_cli.specs.Outcome.{IsRun}
+use Rattle.wi_cli.proofs.Vocabulary.{◌≡◌, ℕ, Bool, true, false, List, [], ap, ◌∙◌, refl, subst, Option, Result, Ok, Err, IfOk, false≢true, Consumes-nil, Appends-nil, Limits, Stored, KeptSheet, State, state_over, new_state, Book, RunFault, Memory, Read, Write, ScriptLimit, IsRun}
 
 -- a new workbook with these limits
 empty_within : ℕ → ℕ → State

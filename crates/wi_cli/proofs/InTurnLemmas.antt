@@ -1,10 +1,5 @@
 -- Two runs in turn.
-use Rattle.std.proofs.Common.{◌≡◌, ℕ, Bool, List, refl, subst, Option, Result, Ok, Err}
-use Rattle.wi_scenarios.specs.State.{State, new_state}
-use Rattle.wi_cli.specs.declared.fault.RunFault.{RunFault}
-use Rattle.wi_cli.specs.declared.fault.RunFault.TheVariants.{Memory}
-use Rattle.wi_cli.specs.Outcome.{IsRun}
-use Rattle.wi_cli.specs.InTurn.{RunInTurn}
+use Rattle.wi_cli.proofs.Vocabulary.{◌≡◌, ℕ, Bool, List, refl, subst, Option, Result, Ok, Err, State, new_state, RunFault, Memory, IsRun, RunInTurn}
 use Rattle.wi_cli.proofs.EndingLemmas.{not_run}
 
 -- a run that ended by a fault

@@ -1,12 +1,5 @@
 -- The lines of bytes that are taken a line at a time.
-use Rattle.std.proofs.Common.{◌≡◌, ℕ, ◌+◌, ◌<◌, ◌≤◌, Bool, true, false, ◌||◌, cond, eqb, List, [], ◌∷◌, ◌++◌, length, refl, sym, ap, ◌∙◌, append_assoc, append-nil, arith}
-use Rattle.std.specs.List.{concat}
-use Rattle.std.proofs.lemmas.Bool.{false≢true}
-use Rattle.std.proofs.lemmas.List.Folds.{concat-append}
-use Rattle.wi_cli.specs.Lines.{raw_lines, onto_first, without_lf, is_whole}
-use Rattle.wi_cli.specs.Inner.Script.{whole_lines}
-use Rattle.wi_cli.specs.Inner.Reading.{raw}
-use Rattle.wi_cli.specs.Inner.Taken.{AreWhole}
+use Rattle.wi_cli.proofs.Vocabulary.{◌≡◌, ℕ, ◌+◌, ◌<◌, ◌≤◌, Bool, true, false, ◌||◌, cond, eqb, List, [], ◌∷◌, ◌++◌, length, refl, sym, ap, ◌∙◌, append_assoc, append-nil, arith, concat, false≢true, concat-append, raw_lines, onto_first, without_lf, is_whole, whole_lines, raw, AreWhole}
 
 -- a byte that is no LF, by the test of a line that begins with it
 not_lf : (b : ℕ) (bs : List ℕ) → is_whole (b ∷ bs) ≡ false → (eqb b 10 ≡ false) × (is_whole bs ≡ false)

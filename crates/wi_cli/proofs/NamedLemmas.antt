@@ -1,17 +1,8 @@
 -- A command by its name and its words.
-use Rattle.std.proofs.Common.{◌≡◌, ℕ, Bool, true, false, cond, List, refl, sym, ap, ◌∙◌, subst, Result, codes, bytes_eq}
-use Rattle.std.proofs.lemmas.Slice.Eq.{bytes_eq-Decides}
-use Rattle.wi_values.specs.AddressReading.{read_rect}
-use Rattle.wi_scenarios.specs.declared.refusal.Refusal.{Refusal}
+use Rattle.wi_cli.proofs.Vocabulary.{◌≡◌, ℕ, Bool, true, false, cond, List, refl, sym, ap, ◌∙◌, subst, Result, codes, bytes_eq, bytes_eq-Decides, read_rect, Refusal, Refused, first_word, after_word, of_name, of_operand, read_side, is_all_spaces, compare_command, edit_command, named_command, IsCommandOf}
 use Rattle.wi_scenarios.specs.declared.refusal.Refusal.TheVariants.{BadCommand}
-use Rattle.wi_scenarios.specs.Step.{Command, Compare, Refused}
+use Rattle.wi_scenarios.specs.Step.{Command, Compare}
 use Rattle.wi_cli.specs.declared.command.Command.{Command as ReadCommand}
-use Rattle.wi_cli.specs.Lines.{first_word, after_word}
-use Rattle.wi_cli.specs.Inner.Operands.{of_name, of_operand, read_side, is_all_spaces}
-use Rattle.wi_cli.specs.Inner.LookCommands.{compare_command}
-use Rattle.wi_cli.specs.Inner.EditCommands.{edit_command}
-use Rattle.wi_cli.specs.Inner.Script.{named_command}
-use Rattle.wi_cli.specs.Inner.Spelling.{IsCommandOf}
 
 -- the first word of a text is this name, and what is behind it is what the command is read from
 pub named : (by_name : List ℕ → List ℕ → Command) (text word operands name : List ℕ) (r : Result ReadCommand Refusal) → word ≡ first_word text → operands ≡ after_word text

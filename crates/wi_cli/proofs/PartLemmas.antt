@@ -1,11 +1,5 @@
 -- A part of a line, as it stands in a buffer.
-use Rattle.std.proofs.Common.{◌≡◌, ℕ, suc, ◌+◌, ◌-◌, ◌<◌, ◌≤◌, true, false, cond, eqb, List, [], ◌∷◌, ◌++◌, length, take, drop, min, get_or, refl, sym, ap, ◌∙◌, arith, append_assoc, append-nil, ⊎_elim}
-use Rattle.std.proofs.lemmas.List.{take_all, take_min, take-append-drop, take-append-le, length-take, get_or-take, drop_more, drop_all}
-use Rattle.std.proofs.lemmas.Bool.{false≢true, false_from_ne_true, eqb-true, cases_lt}
-use Rattle.std.proofs.Math.Seq.{take-append-add}
-use Rattle.memchr.specs.Find.{Nowhere, NoneBefore, Passes, is_byte}
-use Rattle.wi_cli.specs.Lines.{is_whole}
-use Rattle.wi_cli.specs.Inner.Reading.{line_front, raw, TookPart}
+use Rattle.wi_cli.proofs.Vocabulary.{◌≡◌, ℕ, suc, ◌+◌, ◌-◌, ◌<◌, ◌≤◌, true, false, cond, eqb, List, [], ◌∷◌, ◌++◌, length, take, drop, min, get_or, refl, sym, ap, ◌∙◌, arith, append_assoc, append-nil, ⊎_elim, take_all, take_min, take-append-drop, take-append-le, length-take, get_or-take, drop_more, drop_all, false≢true, false_from_ne_true, eqb-true, cases_lt, take-append-add, Nowhere, NoneBefore, Passes, is_byte, is_whole, line_front, raw, TookPart}
 
 -- ---- the front of a line
 

@@ -1,13 +1,5 @@
 -- A line that is being read.
-use Rattle.std.proofs.Common.{◌≡◌, ℕ, ◌<◌, ◌≤◌, Bool, true, false, ◌||◌, cond, List, [], ◌∷◌, ◌++◌, length, drop, refl, sym, ap, ◌∙◌, subst, arith, Option, Result, Err, append_assoc, append-nil}
-use Rattle.std.specs.Io.KnownBytes.{IsAtEnd, prepend_known}
-use Rattle.std.proofs.KnownBytes.{Consumes-trans}
-use Rattle.std.proofs.lemmas.Bool.{false≢true}
-use Rattle.wi_cli.specs.declared.fault.RunFault.{RunFault}
-use Rattle.wi_cli.specs.declared.fault.RunFault.TheVariants.{Read, Write, ScriptLimit}
-use Rattle.wi_cli.specs.Inner.Ahead.{Takes}
-use Rattle.wi_cli.specs.Lines.{is_whole}
-use Rattle.wi_cli.specs.Inner.Reading.{line_front, raw, CanRead, HasStopped, TookPart, TookLine, Broke}
+use Rattle.wi_cli.proofs.Vocabulary.{◌≡◌, ℕ, ◌<◌, ◌≤◌, Bool, true, false, ◌||◌, cond, List, [], ◌∷◌, ◌++◌, length, drop, refl, sym, ap, ◌∙◌, subst, arith, Option, Result, Err, append_assoc, append-nil, IsAtEnd, prepend_known, Consumes-trans, false≢true, RunFault, Read, Write, ScriptLimit, Takes, is_whole, line_front, raw, CanRead, HasStopped, TookPart, TookLine, Broke}
 use Rattle.wi_cli.proofs.AheadLemmas.{buffered}
 use Rattle.wi_cli.proofs.LineLemmas.{is_whole-append}
 

@@ -1,17 +1,9 @@
 -- Runs, one after another.
-use Rattle.std.proofs.Common.{◌≡◌, ℕ, List, [], ◌∷◌, ◌++◌, refl, sym, ap, ◌∙◌, subst, Option, None, Some, Ok, Err, append-nil, inl, inr}
-use Rattle.std.specs.List.{concat}
-use Rattle.std.specs.Option.{option_to_list}
-use Rattle.std.proofs.lemmas.List.Folds.{concat-append}
-use Rattle.wi_scenarios.specs.declared.refusal.Refusal.{Refusal}
+use Rattle.wi_cli.proofs.Vocabulary.{◌≡◌, ℕ, List, [], ◌∷◌, ◌++◌, refl, sym, ap, ◌∙◌, subst, Option, None, Some, Ok, Err, append-nil, inl, inr, concat, option_to_list, concat-append, Refusal, refused, State, Reply, Passed, Done, MayAnswer, WritesReplies, Told, told_bytes, RefusedAs}
 use Rattle.wi_scenarios.specs.declared.refusal.Refusal.TheVariants.{Memory}
-use Rattle.wi_cli.specs.Inner.Reply.{refused}
-use Rattle.wi_scenarios.specs.State.{State}
 use Rattle.wi_scenarios.specs.Step.{Command, IsStep}
-use Rattle.wi_cli.specs.declared.reply.Reply.{Reply}
-use Rattle.wi_cli.specs.declared.reply.Reply.TheVariants.{Passed, Done, Refused}
-use Rattle.wi_cli.specs.Inner.Run.{MayAnswer, Runs, WritesReplies}
-use Rattle.wi_cli.specs.Inner.Told.{Told, told_bytes, RefusedAs}
+use Rattle.wi_cli.specs.declared.reply.Reply.TheVariants.{Refused}
+use Rattle.wi_cli.specs.Inner.Run.{Runs}
 
 Runs-append : (s : State) (cs : List Command) (rs : List (List ℕ)) (m : State) (ds : List Command) (qs : List (List ℕ)) (t : State)
     → Runs s cs rs m → Runs m ds qs t → Runs s (cs ++ ds) (rs ++ qs) t

@@ -1,18 +1,12 @@
 -- What is told of a line that was served.
-use Rattle.std.proofs.Common.{◌≡◌, ℕ, Bool, true, false, List, [], ◌++◌, refl, sym, ap, ◌∙◌, subst, Option, None, Some, Result, Ok, Err, append-nil}
-use Rattle.wi_sessions.specs.Sessions.{has_session}
-use Rattle.wi_values.specs.Name.{bytes_of}
-use Rattle.wi_scenarios.specs.declared.refusal.Refusal.{Refusal}
+use Rattle.wi_cli.proofs.Vocabulary.{◌≡◌, ℕ, Bool, true, false, List, [], ◌++◌, refl, sym, ap, ◌∙◌, subst, Option, None, Some, Result, Ok, Err, append-nil, has_session, bytes_of, Refusal, State, MayLackMemory, Passed, Done, command_of, Told, IsServed, RefusedAs}
 use Rattle.wi_scenarios.specs.declared.refusal.Refusal.TheVariants.{Memory}
-use Rattle.wi_scenarios.specs.State.{State}
 use Rattle.wi_scenarios.specs.Answer as answer
-use Rattle.wi_scenarios.specs.Step.{Command, IsStep, MayLackMemory}
+use Rattle.wi_scenarios.specs.Step.{Command, IsStep}
 use Rattle.wi_scenarios.specs.Step as spell
-use Rattle.wi_cli.specs.declared.reply.Reply.TheVariants.{Passed, Done, Refused}
+use Rattle.wi_cli.specs.declared.reply.Reply.TheVariants.{Refused}
 use Rattle.wi_cli.specs.declared.command.Command.{Command as ReadCommand}
 use Rattle.wi_cli.specs.declared.command.Command.TheVariants as read
-use Rattle.wi_cli.specs.Inner.Spelling.{command_of}
-use Rattle.wi_cli.specs.Inner.Told.{Told, IsServed, RefusedAs}
 
 -- how a call ended
 abbrev pub Ended : Type 0

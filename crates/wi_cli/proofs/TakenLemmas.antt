@@ -1,28 +1,10 @@
 -- Lines that were taken from the source, and the block that they are.
-use Rattle.std.proofs.Common.{◌≡◌, ℕ, ◌+◌, ◌<◌, ◌≤◌, Bool, true, false, cond, ltb, List, [], ◌∷◌, ◌++◌, length, refl, sym, ap, ◌∙◌, subst, Option, None, Some, append_assoc, append-nil, length-append, arith}
-use Rattle.std.specs.List.{concat, filter, filter_map, cons_option}
-use Rattle.std.specs.Option.{option_to_list}
+use Rattle.wi_cli.proofs.Vocabulary.{◌≡◌, ℕ, ◌+◌, ◌<◌, ◌≤◌, Bool, true, false, cond, ltb, List, [], ◌∷◌, ◌++◌, length, refl, sym, ap, ◌∙◌, subst, Option, None, Some, append_assoc, append-nil, length-append, arith, concat, cons_option, option_to_list, IsAtEnd, prepend_known, Consumes-nil, concat-append, false≢true, ltb-true, ltb-false, read_address, Refused, RunFault, Memory, Read, Write, ScriptLimit, DataLines, raw_lines, without_lf, without_cr, is_whole, csv_line, csv_command, Block, lines_of, begun, is_complete, blocks, line_command, command_with, block_command, Takes, raw, TookLine, Broke, TookLines, BrokeLines, command_of_csv, TookData, BrokeData, TookBlock, BrokeBlock}
+use Rattle.std.specs.List.{filter, filter_map}
 use Rattle.std.specs.Str.{is_utf8, chars}
-use Rattle.std.specs.Io.KnownBytes.{IsAtEnd, prepend_known}
-use Rattle.std.proofs.KnownBytes.{Consumes-nil}
-use Rattle.std.proofs.lemmas.List.Folds.{concat-append}
-use Rattle.std.proofs.lemmas.Bool.{false≢true, ltb-true, ltb-false}
-use Rattle.wi_values.specs.AddressReading.{read_address}
 use Rattle.wi_scenarios.specs.declared.refusal.Refusal.TheVariants.{BadLine}
-use Rattle.wi_scenarios.specs.Step.{Command, Refused}
-use Rattle.wi_cli.specs.declared.fault.RunFault.{RunFault}
-use Rattle.wi_cli.specs.declared.fault.RunFault.TheVariants.{Memory, Read, Write, ScriptLimit}
+use Rattle.wi_scenarios.specs.Step.{Command}
 use Rattle.wi_cli.specs.declared.csv_line.CsvLine.{CsvLine as ReadCsv}
-use Rattle.wi_cli.specs.declared.data_lines.DataLines.{DataLines}
-use Rattle.wi_cli.specs.Lines.{raw_lines, without_lf, without_cr, is_whole}
-use Rattle.wi_cli.specs.Inner.CsvCommand.{csv_line, csv_command}
-use Rattle.wi_cli.specs.Inner.Blocks.{Block, lines_of, begun, is_complete, blocks}
-use Rattle.wi_cli.specs.Inner.Script.{line_command, command_with, block_command}
-use Rattle.wi_cli.specs.Inner.Ahead.{Takes}
-use Rattle.wi_cli.specs.Inner.Reading.{raw, TookLine, Broke}
-use Rattle.wi_cli.specs.Inner.Taken.{TookLines, BrokeLines}
-use Rattle.wi_cli.specs.Inner.Data.{command_of_csv, TookData, BrokeData}
-use Rattle.wi_cli.specs.Inner.Turn.{TookBlock, BrokeBlock}
 use Rattle.wi_cli.proofs.ReadingLemmas.{Takes-trans}
 use Rattle.wi_cli.proofs.LineLemmas.{AreWhole-none, AreWhole-one, AreWhole-append, raw_lines-last, raw_lines-raw, without_lf-raw, few_last}
 use Rattle.wi_cli.proofs.BlockLemmas.{block_of, block_at, block_lacks}

@@ -1,25 +1,8 @@
 -- A line served, and its reply written.
-use Rattle.std.proofs.Common.{◌≡◌, ℕ, ◌+◌, ◌<◌, ◌≤◌, Bool, ◌||◌, not, cond, ltb, ap, refl, ◌∙◌, ⊎_elim, Some, List, ◌++◌, length, take, drop, sym, subst, Option, length-append, arith}
-use Rattle.std.specs.Option.{option_to_list}
-use Rattle.std.specs.Io.KnownBytes.{Appends}
-use Rattle.std.proofs.KnownBytes.{Appends-trans}
-use Rattle.std.proofs.lemmas.List.{take-append-drop, take-append-le, length-take, take_all}
-use Rattle.std.proofs.lemmas.Bool.{lt-ltb, cases_lt}
-use Rattle.std.specs.Str.{is_utf8}
-use Rattle.wi_scenarios.specs.Step.{Command, Refused}
+use Rattle.wi_cli.proofs.Vocabulary.{◌≡◌, ℕ, ◌+◌, ◌<◌, ◌≤◌, Bool, ◌||◌, not, cond, ltb, ap, refl, ◌∙◌, ⊎_elim, Some, List, ◌++◌, length, take, drop, sym, subst, Option, length-append, arith, option_to_list, Appends, Appends-trans, take-append-drop, take-append-le, length-take, take_all, lt-ltb, cases_lt, is_utf8, Refused, without_cr, take-append-add, AppendsFront, State, Reply, Told, told_bytes, line_command, text_command, line_front, RunFault, Memory, Read, Write, ScriptLimit, TookBlock, BrokeBlock, Turned, Stopped, WritesReplies}
+use Rattle.wi_scenarios.specs.Step.{Command}
 use Rattle.wi_scenarios.specs.declared.refusal.Refusal.TheVariants.{BadLine}
-use Rattle.wi_cli.specs.Lines.{without_cr}
-use Rattle.std.proofs.Math.Seq.{take-append-add}
-use Rattle.wi_cli.specs.Inner.Front.{AppendsFront}
-use Rattle.wi_scenarios.specs.State.{State}
-use Rattle.wi_cli.specs.declared.reply.Reply.{Reply}
-use Rattle.wi_cli.specs.Inner.Told.{Told, told_bytes}
-use Rattle.wi_cli.specs.Inner.Script.{line_command, text_command}
-use Rattle.wi_cli.specs.Inner.Reading.{line_front}
-use Rattle.wi_cli.specs.declared.fault.RunFault.{RunFault}
-use Rattle.wi_cli.specs.declared.fault.RunFault.TheVariants.{Memory, Read, Write, ScriptLimit}
-use Rattle.wi_cli.specs.Inner.Turn.{TookBlock, BrokeBlock, Turned, CutShort, Stopped}
-use Rattle.wi_cli.specs.Inner.Run.{WritesReplies}
+use Rattle.wi_cli.specs.Inner.Turn.{CutShort}
 use Rattle.wi_cli.proofs.RunLemmas.{WritesReplies-told}
 
 pub AppendsFront-append : (a b c : Option (List ℕ)) (xs ys : List ℕ) → Appends a b xs → AppendsFront b c ys → AppendsFront a c (xs ++ ys)

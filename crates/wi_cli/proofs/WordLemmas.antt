@@ -1,19 +1,7 @@
 -- Spaces before a word, and the CR at the end of a line.
-use Rattle.std.proofs.Common.{◌≡◌, ℕ, zero, suc, ◌-◌, Bool, true, false, cond, eqb, nat_eq, List, [], ◌∷◌, ◌++◌, length, take, drop, refl, sym, ap, ◌∙◌, subst, Option, None, Some, Result, arith, ◌&&◌, ◌||◌, not, ltb, ◌≤◌}
-use Rattle.std.specs.Cmp.Lexicographic.{pointwise}
-use Rattle.std.specs.Option.{IfSome}
-use Rattle.std.specs.Str.Pattern.{FindsCharPrefix, CutsPrefixes, IsTrimStartMatches}
-use Rattle.std.proofs.lemmas.Str.Pattern.{drop_at_char}
-use Rattle.std.proofs.lemmas.Bool.{false≢true, eqb-true, le-ltb, false_from_ne_true}
-use Rattle.std.specs.Str.{IsUtf8, is_utf8}
-use Rattle.std.proofs.lemmas.Str.{encode_ascii, IsUtf8-from_is_utf8, is_utf8-from_IsUtf8}
-use Rattle.wi_scenarios.specs.declared.refusal.Refusal.{Refusal}
+use Rattle.wi_cli.proofs.Vocabulary.{◌≡◌, ℕ, zero, suc, ◌-◌, Bool, true, false, cond, eqb, nat_eq, List, [], ◌∷◌, ◌++◌, length, take, drop, refl, sym, ap, ◌∙◌, subst, Option, None, Some, Result, arith, ◌&&◌, ◌||◌, not, ltb, ◌≤◌, pointwise, IfSome, FindsCharPrefix, CutsPrefixes, IsTrimStartMatches, drop_at_char, false≢true, eqb-true, le-ltb, false_from_ne_true, IsUtf8, is_utf8, encode_ascii, IsUtf8-from_is_utf8, is_utf8-from_IsUtf8, Refusal, Refused, line_command, text_command, IsLineOf, without_cr, skip_spaces}
 use Rattle.wi_scenarios.specs.declared.refusal.Refusal.TheVariants.{Memory, BadLine}
-use Rattle.wi_scenarios.specs.Step.{Refused}
 use Rattle.wi_cli.specs.declared.command.Command.{Command as ReadCommand}
-use Rattle.wi_cli.specs.Inner.Script.{line_command, text_command}
-use Rattle.wi_cli.specs.Inner.Spelling.{IsLineOf}
-use Rattle.wi_cli.specs.Lines.{without_cr, skip_spaces}
 
 -- what is cut off are spaces
 cut : (s : List ℕ) (ns : List ℕ) (r : List ℕ) → CutsPrefixes (FindsCharPrefix 32) s ns r → skip_spaces s ≡ skip_spaces r

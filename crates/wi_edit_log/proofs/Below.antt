@@ -1,13 +1,5 @@
 -- Rectangles of which each lies below the one before: where their cells are, and what a search through them may leave out.
-use Rattle.std.proofs.Common.{◌≡◌, ◌∙◌, ℕ, zero, suc, ◌+◌, ◌≤◌, ◌<◌, inl, inr, Bool, true, false, ◌||◌, ◌&&◌, List, [], ◌∷◌, length, drop, get_or, Option, Some, None, refl, ap, sym, subst, arith}
-use Rattle.std.specs.Prelude.{nat_le}
-use Rattle.std.specs.List.Sorted.{IsNonDecreasingBy}
-use Rattle.std.proofs.lemmas.List.{drop_more, drop_all}
-use Rattle.std.proofs.lemmas.Bool.{and_parts, and_from, and_left, both_ways, leb-true, le-leb, or_cases}
-use Rattle.wi_values.specs.Address.{Area, row_of, is_within}
-use Rattle.wi_edit_log.specs.EditLog.{have_cell}
-use Rattle.wi_edit_log.specs.Inner.First.{IsFirst, in_both, in_one}
-use Rattle.wi_edit_log.specs.Inner.Rising.{are_rising, begins_from, rise_from}
+use Rattle.wi_edit_log.proofs.Words.{◌≡◌, ◌∙◌, ℕ, zero, suc, ◌+◌, ◌≤◌, ◌<◌, inl, inr, Bool, true, false, ◌||◌, ◌&&◌, List, [], ◌∷◌, length, drop, get_or, Option, Some, None, refl, ap, sym, subst, arith, nat_le, IsNonDecreasingBy, drop_more, drop_all, and_parts, and_from, and_left, both_ways, leb-true, le-leb, or_cases, Area, row_of, is_within, have_cell, IsFirst, in_both, in_one, are_rising, begins_from, rise_from}
 use Rattle.wi_edit_log.proofs.First.{no_first, same_first}
 
 -- ---- where rows of rectangles are

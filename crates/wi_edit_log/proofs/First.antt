@@ -1,7 +1,5 @@
 -- The first cell that passes a test: there is one at most, and the sooner of two is the first that passes either test.
-use Rattle.std.proofs.Common.{◌≡◌, ◌∙◌, ℕ, ◌≤◌, ◌⊎◌, inl, inr, Bool, true, false, ◌||◌, Option, Some, None, IfSome, min, refl, ap, sym, arith}
-use Rattle.std.proofs.lemmas.Bool.{both_ways, cases_lt, or_cases, or_left, or_right}
-use Rattle.wi_edit_log.specs.Inner.First.{IsAtOrBefore, IsFirst, sooner}
+use Rattle.wi_edit_log.proofs.Words.{◌≡◌, ◌∙◌, ℕ, ◌≤◌, ◌⊎◌, inl, inr, Bool, true, false, ◌||◌, Option, Some, None, IfSome, min, refl, ap, sym, arith, both_ways, cases_lt, or_cases, or_left, or_right, IsAtOrBefore, IsFirst, sooner}
 
 -- ---- there is one at most
 

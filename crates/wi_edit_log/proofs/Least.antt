@@ -1,17 +1,5 @@
 -- The first cell that passes is the least of those that pass, as the definition has it.
-use Rattle.std.proofs.Common.{◌≡◌, ◌∙◌, ℕ, zero, suc, ◌+◌, ◌-◌, ◌==◌, ◌≤◌, ◌<◌, ◌⊎◌, inl, inr, Bool, true, false, cond, ◌||◌, ◌&&◌, not, List, [], ◌∷◌, length, drop, map, filter, min, Option, Some, refl, ap, sym, subst, arith}
-use Rattle.std.specs.Prelude.{nat_le}
-use Rattle.std.specs.List.{list_any, flat_map, reduce, fold, range_with_len}
-use Rattle.std.proofs.lemmas.List.{drop_min, drop-map}
-use Rattle.std.proofs.lemmas.List.Folds.{list_any-append}
-use Rattle.std.proofs.lemmas.Bool.{and_parts, and_from, both_ways, cases_eq, eq-eqb, eqb-true, leb-true, le-leb, or_cases, or_left, or_right}
-use Rattle.std.specs.Cmp.Derive.{one_truth}
-use Rattle.wi_values.specs.Address.{Area, columns, place, row_of, column_of, is_within, cells_of, cells_of_row}
-use Rattle.wi_values.proofs.Within.{row_of_place, column_of_place, column_within}
-use Rattle.wi_edit_log.specs.EditLog.{Entry, have_cell, is_stale, first_stale}
-use Rattle.wi_edit_log.specs.Inner.First.{IsFirst}
-use Rattle.wi_edit_log.specs.Inner.Edits.{entries_in, entry_in, is_wanted_of_others}
-use Rattle.wi_edit_log.specs.declared.edit.Edit.{Edit}
+use Rattle.wi_edit_log.proofs.Words.{◌≡◌, ◌∙◌, ℕ, zero, suc, ◌+◌, ◌-◌, ◌==◌, ◌≤◌, ◌<◌, ◌⊎◌, inl, inr, Bool, true, false, cond, ◌||◌, ◌&&◌, not, List, [], ◌∷◌, length, drop, map, filter, min, Option, Some, refl, ap, sym, subst, arith, nat_le, list_any, flat_map, reduce, fold, range_with_len, drop_min, drop-map, list_any-append, and_parts, and_from, both_ways, cases_eq, eq-eqb, eqb-true, leb-true, le-leb, or_cases, or_left, or_right, one_truth, Area, columns, place, row_of, column_of, is_within, cells_of, cells_of_row, row_of_place, column_of_place, column_within, Entry, have_cell, is_stale, first_stale, IsFirst, entries_in, entry_in, is_wanted_of_others, Edit}
 use Rattle.wi_edit_log.proofs.First.{only_first, same_first}
 
 -- a is one of the numbers

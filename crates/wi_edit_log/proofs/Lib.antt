@@ -7,3 +7,4 @@ pub mod Noting
 pub mod Runs
 pub mod Shared
 pub mod Wide
+pub mod Words

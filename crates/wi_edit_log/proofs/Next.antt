@@ -1,12 +1,6 @@
 -- The cells of a rectangle one after another, in row-major order.
-use Rattle.std.proofs.Common.{◌≡◌, ◌∙◌, ℕ, ◌+◌, ◌==◌, ◌≤◌, ◌<◌, ◌⊎◌, inl, inr, Bool, true, false, ◌||◌, ◌&&◌, Option, Some, None, IfSome, refl, ap, sym, subst, arith}
-use Rattle.std.specs.Prelude.{nat_lt}
-use Rattle.std.specs.Bool.{then_some}
-use Rattle.std.proofs.lemmas.Bool.{and_from, and_parts, both_ways, cases_eq, cases_lt, eq-eqb, eqb-true, le-ltb, lt-ltb, ltb-true, or_cases, or_left, or_right}
-use Rattle.std.specs.Cmp.Derive.{one_truth}
-use Rattle.wi_values.specs.Address.{Area, columns, place, row_of, column_of, is_within}
-use Rattle.wi_values.proofs.Within.{fewer_places, places_left, within_between, row_of_place, column_of_place, column_within, within_parts}
-use Rattle.wi_edit_log.specs.Inner.First.{IsAtOrBefore, IsFirst, is_after}
+use Rattle.wi_edit_log.proofs.Words.{◌≡◌, ◌∙◌, ℕ, ◌+◌, ◌==◌, ◌≤◌, ◌<◌, ◌⊎◌, inl, inr, Bool, true, false, ◌||◌, ◌&&◌, Option, Some, None, IfSome, refl, ap, sym, subst, arith, nat_lt, then_some, and_from, and_parts, both_ways, cases_eq, cases_lt, eq-eqb, eqb-true, le-ltb, lt-ltb, or_cases, or_left, or_right, one_truth, Area, columns, place, row_of, column_of, is_within, fewer_places, places_left, within_between, row_of_place, column_of_place, column_within, within_parts, IsAtOrBefore, IsFirst, is_after}
+use Rattle.std.proofs.lemmas.Bool.{ltb-true}
 use Rattle.wi_edit_log.proofs.Shared.{no_sooner, within_from}
 
 -- ---- the first

@@ -1,18 +1,5 @@
 -- What is noted of cells that edits of narrow rectangles named: it tells of the first edits of a log, of one more after each, and finds what a search would.
-use Rattle.std.proofs.Common.{◌≡◌, ◌∙◌, ℕ, ◌+◌, ◌-◌, ◌==◌, ◌≤◌, ◌<◌, ◌⊎◌, inl, inr, Bool, true, false, not, ◌||◌, ◌&&◌, List, [], ◌∷◌, ◌++◌, length, take, drop, get_or, max, Option, Some, refl, ap, sym, subst, arith}
-use Rattle.std.specs.Prelude.{nat_lt, if◌then◌else◌}
-use Rattle.std.proofs.Math.Bool.{and-false, and-true, or-false, or-true, and-or_distrib_left}
-use Rattle.std.proofs.lemmas.List.{drop_all, drop-append-le, length-append, length-take, length-take-le, take-append-le, take-take, take_more}
-use Rattle.std.proofs.lemmas.List.Folds.{list_any-append}
-use Rattle.std.proofs.lemmas.Bool.{cases_lt, eqb-true, le-ltb, lt-ltb, ltb-false}
-use Rattle.wi_values.specs.Address.{Area}
-use Rattle.wi_edit_log.specs.EditLog.{have_cell}
-use Rattle.wi_edit_log.specs.Inner.First.{IsFirst, sooner}
-use Rattle.wi_edit_log.specs.Inner.Edits.{AreInRuns, is_named_by_others, is_wanted_of_others}
-use Rattle.wi_edit_log.specs.Inner.Narrow.{are_narrow}
-use Rattle.wi_edit_log.specs.Inner.Noted.{AreNoted, IsKept, NotesMore, before_of, is_told, is_wanted_told, last_after, last_of, tells, names_narrowly, is_named_narrowly, is_named_widely, is_wanted_narrowly, is_wanted_widely}
-use Rattle.wi_edit_log.specs.declared.edit.Edit.{Edit}
-use Rattle.wi_edit_log.specs.declared.noted.Last.{Last}
+use Rattle.wi_edit_log.proofs.Words.{◌≡◌, ◌∙◌, ℕ, ◌+◌, ◌-◌, ◌==◌, ◌≤◌, ◌<◌, ◌⊎◌, inl, inr, Bool, true, false, not, ◌||◌, ◌&&◌, List, [], ◌∷◌, ◌++◌, length, take, drop, get_or, max, Option, Some, refl, ap, sym, subst, arith, nat_lt, if◌then◌else◌, and-false, and-true, or-false, or-true, and-or_distrib_left, drop_all, drop-append-le, length-append, length-take, length-take-le, take-append-le, take-take, take_more, list_any-append, cases_lt, eqb-true, le-ltb, lt-ltb, ltb-false, Area, have_cell, IsFirst, sooner, AreInRuns, is_named_by_others, is_wanted_of_others, are_narrow, AreNoted, IsKept, NotesMore, before_of, is_told, is_wanted_told, last_after, last_of, tells, names_narrowly, is_named_narrowly, is_named_widely, is_wanted_narrowly, is_wanted_widely, Edit, Last}
 use Rattle.wi_edit_log.proofs.First.{same_first, sooner_first}
 use Rattle.wi_edit_log.proofs.Runs.{runs_of_fewer}
 use Rattle.wi_edit_log.proofs.Wide.{named_in_parts}

@@ -1,12 +1,5 @@
 -- What is noted of cells, one and many.
-use Rattle.std.proofs.Common.{◌≡◌, ◌∙◌, ℕ, ◌+◌, ◌==◌, ◌<◌, Bool, true, false, ◌||◌, ◌&&◌, List, length, take, get_or, Option, Some, None, IfSome, refl, ap, sym}
-use Rattle.std.specs.Prelude.{if◌then◌else◌}
-use Rattle.std.proofs.lemmas.Bool.{eq-eqb, eqb-true}
-use Rattle.wi_values.specs.Address.{Area, is_within}
-use Rattle.wi_edit_log.specs.EditLog.{have_cell}
-use Rattle.wi_edit_log.specs.Inner.First.{IsFirst, is_after}
-use Rattle.wi_edit_log.specs.Inner.Noted.{NotesMore, before_of, last_after, last_of}
-use Rattle.wi_edit_log.specs.declared.noted.Last.{Last}
+use Rattle.wi_edit_log.proofs.Words.{◌≡◌, ◌∙◌, ℕ, ◌+◌, ◌==◌, ◌<◌, Bool, true, false, ◌||◌, ◌&&◌, List, length, take, get_or, Option, Some, None, IfSome, refl, ap, sym, if◌then◌else◌, eq-eqb, eqb-true, Area, is_within, have_cell, IsFirst, is_after, NotesMore, before_of, last_after, last_of, Last}
 use Rattle.wi_edit_log.proofs.Next.{all_within, is_before, none_before, one_more_before}
 use Rattle.wi_edit_log.proofs.Shared.{one_more_of}
 

@@ -1,14 +1,5 @@
 -- Runs of edits of one session, and what a step of the search from the last edit to earlier ones does.
-use Rattle.std.proofs.Common.{◌≡◌, ◌∙◌, ℕ, zero, suc, ◌+◌, ◌-◌, ◌==◌, ◌≤◌, ◌<◌, ◌⊎◌, inl, inr, Bool, true, false, not, ◌||◌, ◌&&◌, List, [], ◌∷◌, ◌++◌, length, take, drop, get_or, max, Option, None, refl, ap, sym, subst, arith}
-use Rattle.std.proofs.Math.Bool.{and-false}
-use Rattle.std.proofs.lemmas.List.{drop_more, drop_all, get_or_append_left, get_or_default, get_or_push, get_or-take, length-take, length_push}
-use Rattle.std.proofs.lemmas.Bool.{cases_eq, cases_lt, eq-eqb, ne_eqb}
-use Rattle.wi_values.specs.Address.{Area}
-use Rattle.wi_edit_log.specs.EditLog.{have_cell}
-use Rattle.wi_edit_log.specs.Inner.First.{IsFirst, in_each, sooner}
-use Rattle.wi_edit_log.specs.Inner.Edits.{AreInRuns, IsInRun, is_named_by_others, is_wanted_of_others}
-use Rattle.wi_edit_log.specs.Inner.Narrow.{are_narrow}
-use Rattle.wi_edit_log.specs.declared.edit.Edit.{Edit}
+use Rattle.wi_edit_log.proofs.Words.{◌≡◌, ◌∙◌, ℕ, zero, suc, ◌+◌, ◌-◌, ◌==◌, ◌≤◌, ◌<◌, ◌⊎◌, inl, inr, Bool, true, false, not, ◌||◌, ◌&&◌, List, [], ◌∷◌, ◌++◌, length, take, drop, get_or, max, Option, None, refl, ap, sym, subst, arith, and-false, drop_more, drop_all, get_or_append_left, get_or_default, get_or_push, get_or-take, length-take, length_push, cases_eq, cases_lt, eq-eqb, ne_eqb, Area, have_cell, IsFirst, in_each, sooner, AreInRuns, IsInRun, is_named_by_others, is_wanted_of_others, are_narrow, Edit}
 use Rattle.wi_edit_log.proofs.First.{no_first, same_first, sooner_first}
 
 -- ---- a log with one edit more, or with fewer

@@ -1,14 +1,6 @@
 -- Which cells are in rectangles, one and many.
-use Rattle.std.proofs.Common.{◌≡◌, ◌∙◌, ℕ, ◌+◌, ◌≤◌, ◌<◌, ◌||◌, ◌&&◌, List, [], length, take, get_or, Option, None, Bool, true, false, max, nat_le, subst, refl, ap, sym, arith}
-use Rattle.std.proofs.Math.Bool.{and-false, and_comm, and-or_distrib_left, and-or_distrib_right}
-use Rattle.std.specs.Bool.{then_some}
-use Rattle.std.proofs.lemmas.Bool.{and_parts, and_from, both_ways, le-leb}
-use Rattle.std.proofs.lemmas.List.{take_all}
-use Rattle.std.proofs.lemmas.List.Folds.{list_any_more}
-use Rattle.wi_values.specs.Address.{Area, columns, place, row_of, column_of, is_within}
-use Rattle.wi_values.proofs.Within.{row_of_place, column_of_place, column_within, within_parts}
-use Rattle.wi_edit_log.specs.EditLog.{have_cell}
-use Rattle.wi_edit_log.specs.Inner.First.{IsFirst, in_both, in_each, in_one, sooner}
+use Rattle.wi_edit_log.proofs.Words.{◌≡◌, ◌∙◌, ℕ, ◌+◌, ◌≤◌, ◌<◌, ◌||◌, ◌&&◌, List, [], length, take, get_or, Option, None, Bool, true, false, max, subst, refl, ap, sym, arith, and-false, and_comm, and-or_distrib_left, and-or_distrib_right, then_some, and_parts, and_from, both_ways, le-leb, take_all, list_any_more, Area, columns, place, row_of, column_of, is_within, row_of_place, column_of_place, column_within, within_parts, have_cell, IsFirst, in_both, in_each, in_one, sooner}
+use Rattle.std.proofs.Common.{nat_le}
 use Rattle.wi_edit_log.proofs.First.{no_first, same_first, sooner_first}
 
 -- ---- one and some of the others

@@ -1,18 +1,5 @@
 -- Edits of narrow rectangles, and those that name a wider one: a search from the last edit to earlier ones passes over the first.
-use Rattle.std.proofs.Common.{◌≡◌, ◌∙◌, ℕ, zero, suc, ◌+◌, ◌-◌, ◌==◌, ◌≤◌, ◌<◌, ◌⊎◌, inl, inr, Bool, true, false, not, ◌||◌, ◌&&◌, List, [], ◌∷◌, ◌++◌, length, take, drop, get_or, max, Option, None, refl, ap, sym, subst, arith}
-use Rattle.std.specs.Prelude.{nat_lt}
-use Rattle.std.specs.List.{list_any}
-use Rattle.std.proofs.Math.Bool.{and-false, or-true}
-use Rattle.std.proofs.lemmas.List.{drop_more, drop_all, drop-append-le, get_or_default, length-take-le, take-append-drop}
-use Rattle.std.proofs.lemmas.List.Folds.{list_any-append}
-use Rattle.std.proofs.lemmas.Bool.{cases_eq, cases_lt, eq-eqb, lt-ltb, ne_eqb}
-use Rattle.wi_values.specs.Address.{Area}
-use Rattle.wi_edit_log.specs.EditLog.{have_cell}
-use Rattle.wi_edit_log.specs.Inner.First.{IsFirst, in_each, sooner}
-use Rattle.wi_edit_log.specs.Inner.Edits.{AreInRuns, IsInRun, is_named_by_others}
-use Rattle.wi_edit_log.specs.Inner.Narrow.{are_narrow}
-use Rattle.wi_edit_log.specs.Inner.Noted.{names_narrowly, names_for, names_widely, is_named_narrowly, is_named_widely, is_wanted_widely}
-use Rattle.wi_edit_log.specs.declared.edit.Edit.{Edit}
+use Rattle.wi_edit_log.proofs.Words.{◌≡◌, ◌∙◌, ℕ, zero, suc, ◌+◌, ◌-◌, ◌==◌, ◌≤◌, ◌<◌, ◌⊎◌, inl, inr, Bool, true, false, not, ◌||◌, ◌&&◌, List, [], ◌∷◌, ◌++◌, length, take, drop, get_or, max, Option, None, refl, ap, sym, subst, arith, nat_lt, list_any, and-false, or-true, drop_more, drop_all, drop-append-le, get_or_default, length-take-le, take-append-drop, list_any-append, cases_eq, cases_lt, eq-eqb, lt-ltb, ne_eqb, Area, have_cell, IsFirst, in_each, sooner, AreInRuns, IsInRun, is_named_by_others, are_narrow, names_narrowly, names_for, names_widely, is_named_narrowly, is_named_widely, is_wanted_widely, Edit}
 use Rattle.wi_edit_log.proofs.First.{no_first, same_first, sooner_first}
 use Rattle.wi_edit_log.proofs.Runs.{reordered, run_before}
 

@@ -1,5 +1,6 @@
 -- What is kept for longer where one question follows another over the same memory.
-use Rattle.wi_engine.proofs.Words.{◌≡◌, ◌≤◌, ◌+◌, ◌||◌, inl, inr, ℕ, Bool, true, false, not, cond, List, [], ◌∷◌, length, Option, Some, None, IfSome, Result, Ok, Err, OnOk, ◌⊎◌, refl, ap, sym, subst, arith, true≢false, IsDistinct, IsDistinct-cons, Value, Replacement, Key, same_key, same_key_Decides, same_case, MemoState, HasKept, TakesPlaces, TakesNoMore, GivesUpWhenFull}
+use Rattle.wi_engine.proofs.Words.{◌≡◌, ◌≤◌, ◌+◌, ◌||◌, inl, inr, ℕ, Bool, true, false, not, cond, List, [], ◌∷◌, length, Option, Some, None, IfSome, Result, Ok, Err, OnOk, ◌⊎◌, refl, ap, sym, subst, arith, true≢false, IsDistinct-cons, Value, Replacement, Key, same_key, same_key_Decides, same_case, MemoState, HasKept, TakesPlaces, TakesNoMore, GivesUpWhenFull}
+use Rattle.std.specs.List.{IsDistinct}
 
 pub takes_then : (old mid new : MemoState) (a b c : ℕ) → TakesNoMore old mid a b → TakesNoMore mid new b c → b ≤ c → TakesNoMore old new a c
 takes_then old mid new a b c (inl h) (inl k) l = inl (λ ks d. let x = h ks d in let y = k ks d in omega (arith, x, y))

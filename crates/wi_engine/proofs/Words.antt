@@ -2,7 +2,6 @@
 pub use Rattle.std.proofs.Common.{All, Bool, Contains, Err, IfNone, IfSome, IsErr, IsSome, List, MatchResult, None, Ok, OnErr, OnOk, Option, Result, Some, [], ap, append-nil, append_assoc, arith, cond, drop, drop-cons, eq-eqb, eqb-true, false, filter, get_or, if◌then◌else◌, inl, inr, is_ok, is_some, length, length-append, map, not, refl, rules, slice_get, subst, suc, sum_by, sym, take, take_all, true, true≢false, zero, ℕ, ◌&&◌, ◌*◌, ◌++◌, ◌+◌, ◌-◌, ◌<◌, ◌==◌, ◌^◌, ◌||◌, ◌∙◌, ◌∷◌, ◌≡◌, ◌≤◌, ◌⊎◌}
 pub use Rattle.std.proofs.Math.Bool.{or-false}
 pub use Rattle.std.proofs.Math.ListN.{drop_of_length-le}
-pub use Rattle.std.proofs.Math.Nat.{mod-lt}
 pub use Rattle.std.proofs.lemmas.Bool.{and_from, and_parts, cases_lt, false_from_ne_true, le-leb, leb-true, lt-leb, ltb-false, ltb-true, or_cases, or_from, or_left, or_parts, or_right}
 pub use Rattle.std.proofs.lemmas.Bool.Decides.{nat_tests}
 pub use Rattle.std.proofs.lemmas.Cmp.{ranked}
@@ -21,13 +20,18 @@ pub use Rattle.std.specs.Borrow.{Bor}
 pub use Rattle.std.specs.Cmp.Derive.{one_truth}
 pub use Rattle.std.specs.Global.{Vec}
 pub use Rattle.std.specs.List.{find, list_any}
-unfoldable pub use Rattle.std.specs.List.{IsDistinct}
 pub use Rattle.std.specs.List.Sorted.{IsBinarySearchResult, IsNonDecreasingBy, IsPartitionPoint, IsSearchInRange, IsStrictlyIncreasing, IsStrictlySortedBy}
 pub use Rattle.std.specs.Map.{keys_of, lookup}
 pub use Rattle.std.specs.Option.{is_none, option_copied, option_or}
 pub use Rattle.std.specs.Ordering.{nat_cmp, ordering_index}
 pub use Rattle.std.specs.Prelude.{nat_le, nat_lt, option_map}
 pub use Rattle.std.specs.declared.alloc.AllocError.{AllocError}
+pub use Rattle.wi_arguments.proofs.Passing.{Passed, passed_on}
+pub use Rattle.wi_arguments.proofs.Walking.{PassesEmpty, enough, joined, moves_on, successor_to_come}
+pub use Rattle.wi_arguments.specs.Assignment.{AgreesWith, Assignment, addresses, value_if_known}
+pub use Rattle.wi_arguments.specs.Filled.{ComesBefore, is_known_empty}
+pub use Rattle.wi_arguments.specs.Walk.{HasTaken, after_cells}
+pub use Rattle.wi_arguments.specs.declared.lookup.LookedUp.{LookedUp}
 pub use Rattle.wi_cache.proofs.Keys.{same_key_Decides}
 pub use Rattle.wi_cache.specs.Entries.{Entries, Puts, same_key, value_for}
 pub use Rattle.wi_cache.specs.declared.key.Key.{Key}
@@ -35,7 +39,7 @@ pub use Rattle.wi_engine.specs.Inner.Attempt.{AsksAt, IsLacking, cell_known, kno
 pub use Rattle.wi_engine.specs.Inner.Attempts.{IsAttemptOf}
 pub use Rattle.wi_engine.specs.Inner.Courses.{AreTogether, IsCourseTo, IsSmallestWith, is_next, part}
 pub use Rattle.wi_engine.specs.Inner.Findings.{AreAllRight, IsWithCell, IsWithWhatIf, found_value, found_what_ifs, what_if_found}
-pub use Rattle.wi_engine.specs.Inner.Frames.{AreBelow, AreLinked, AreReadHere, Awaits, BottomIs, IsAwaited, IsBegun, IsDemanded, IsFormulaKey, IsFrame, IsNext, IsNextFormula, IsStack, IsUnvalued, IsUnvaluedFormula, IsUnvaluedKey, MayBeRead, StandsAt, at_most, case_at, content_reads_here, frame_cost, frames_cost, is_of_cell, key_above, lacks, spare, taken, waits}
+pub use Rattle.wi_engine.specs.Inner.Frames.{AreBelow, AreLinked, AreReadHere, Awaits, BottomIs, IsAwaited, IsBegun, IsDemanded, IsFormulaKey, IsFrame, IsNext, IsNextFormula, IsStack, IsUnvalued, IsUnvaluedFormula, IsUnvaluedKey, MayBeRead, StandsAt, at_most, case_at, content_reads_here, frame_cost, frames_cost, key_above, lacks, spare, taken, waits}
 pub use Rattle.wi_engine.specs.Inner.Keeps.{HasKept, Keeps}
 pub use Rattle.wi_engine.specs.Inner.Lists.{first_for, first_of, pairs_of, same_pairs}
 pub use Rattle.wi_engine.specs.Inner.MemoState.{AreKnownRight, IsClosedUnderReads, IsMemoOf, IsTold, MemoState}
@@ -79,12 +83,6 @@ pub use Rattle.wi_graph.proofs.SetSteps.{taken_one}
 pub use Rattle.wi_graph.proofs.Walks.{formula_cell, found, same_cell}
 pub use Rattle.wi_graph.specs.Circular.{circular}
 pub use Rattle.wi_graph.specs.Reach.{Reaches, is_one_of, reaches}
-pub use Rattle.wi_arguments.proofs.Passing.{Passed, passed_on}
-pub use Rattle.wi_arguments.proofs.Walking.{PassesEmpty, enough, joined, moves_on, successor_to_come}
-pub use Rattle.wi_arguments.specs.Assignment.{AgreesWith, Assignment, addresses, value_if_known}
-pub use Rattle.wi_arguments.specs.Filled.{ComesBefore, is_known_empty}
-pub use Rattle.wi_arguments.specs.Walk.{HasTaken, after_cells}
-pub use Rattle.wi_arguments.specs.declared.lookup.LookedUp.{LookedUp}
 pub use Rattle.wi_parser.proofs.Rectangles.{one_cell, reads_within}
 pub use Rattle.wi_parser.specs.Reads.{content_reads, reads, rectangles_of}
 pub use Rattle.wi_parser.specs.Sheet.{Sheet, cells_with_formula, constant, content_of, has_formula, put_all}
@@ -127,7 +125,6 @@ pub use Rattle.wi_store.specs.Store.{Stored, is_ahead}
 pub use Rattle.wi_values.proofs.Lists.{keeps_few}
 pub use Rattle.wi_values.proofs.Order.{Ascends, Ascends-from_order, ComeAfter, at_earlier, at_itself, at_same, come_after_earlier, is_at-eq, lookup_after, order-from_Ascends, turn_test}
 pub use Rattle.wi_values.proofs.Replacements.InOrder.{order_from_sorted, sorted_from_order}
-pub use Rattle.wi_values.proofs.Replacements.Same.{same_replacements_Decides}
 pub use Rattle.wi_values.proofs.Within.{column_within, places_left, within_between}
 pub use Rattle.wi_values.specs.Address.{Area, column_of, is_within, row_of, size_of}
 pub use Rattle.wi_values.specs.Replacements.{IsInOrder, as_map, replaced, same_replacements}

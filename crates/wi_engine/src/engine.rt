@@ -193,12 +193,7 @@ fn settle<'a, M: Memo>(
 }
 
 /// Lets a frame wait for what its formula lacks: for a cell, with those that are found together with it.
-fn wait_for(
-    pool: &mut Pool,
-    store: &Store,
-    frame: &mut Frame,
-    want: Want,
-) -> Result<(), AllocError>
+fn wait_for(pool: &mut Pool, store: &Store, frame: &mut Frame, want: Want) -> Result<(), AllocError>
     requires asks { AsksAt store.now.sheet frame.old.key.world frame.old.key.cell want }
     requires lacking { IsLacking store.now.sheet frame.old.key.world frame.old.found want }
     requires formula { StandsAt store.now.sheet frame.old.key frame.old.formula.now }

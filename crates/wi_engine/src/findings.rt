@@ -84,7 +84,11 @@ impl Findings {
     }
 
     /// Adds a what-if's value, behind the others. For the first value lists are taken from a pool.
-    pub(crate) fn add_what_if(&mut self, found: FoundWhatIf, pool: &mut Pool) -> Result<(), AllocError>
+    pub(crate) fn add_what_if(
+        &mut self,
+        found: FoundWhatIf,
+        pool: &mut Pool,
+    ) -> Result<(), AllocError>
         ensures { OnOk result (IsWithWhatIf self.old self.new found) }
     {
         match &mut self.lists {

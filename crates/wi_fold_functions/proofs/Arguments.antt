@@ -1,20 +1,6 @@
 -- A fold over the items of arguments, one argument after another.
-use Rattle.std.proofs.Common.{◌≡◌, ℕ, ◌+◌, ◌<◌, true, List, [], ◌∷◌, map, drop, get_or, length, Option, None, refl, sym, ap, ◌∙◌, subst}
-use Rattle.std.specs.Prelude.{Result, Ok, Err, IfOk, IfErr, is_err}
-use Rattle.std.specs.Result.{IsErrAnd}
-use Rattle.std.proofs.lemmas.List.{drop_more}
-use Rattle.std.proofs.lemmas.List.Folds.{list_any_at}
-use Rattle.std.proofs.lemmas.List.Sums.{fold-append}
-use Rattle.wi_values.specs.Address.{Area, cells_of}
-use Rattle.wi_values.specs.declared.value.ErrorKind.{ErrorKind}
-use Rattle.wi_values.specs.declared.value.Value.{Value}
+use Rattle.wi_fold_functions.proofs.Words.{◌≡◌, ℕ, ◌+◌, ◌<◌, true, List, [], ◌∷◌, map, drop, get_or, length, Option, None, refl, sym, ap, ◌∙◌, subst, Result, Ok, Err, IfOk, IfErr, is_err, IsErrAnd, drop_more, list_any_at, fold-append, Area, cells_of, ErrorKind, Value, argument_in, arguments_in, refers_to, KnownAgrees, IsMissing, IsOfArguments, after_cells, Argument, Item, from_cell, sequence_of, fold_until_error, items_of, go_on, go_on_through, shown}
 use Rattle.wi_arguments.specs.declared.argument.Argument as given
-use Rattle.wi_arguments.specs.Arguments.{argument_in, arguments_in, refers_to, KnownAgrees, IsMissing, IsOfArguments}
-use Rattle.wi_arguments.specs.Walk.{after_cells}
-use Rattle.wi_standard_functions.specs.Arguments.{Argument}
-use Rattle.wi_standard_functions.specs.Sequence.{Item, from_cell, sequence_of}
-use Rattle.wi_standard_functions.specs.Steps.{fold_until_error}
-use Rattle.wi_fold_functions.specs.Inner.Items.{items_of, go_on, go_on_through, shown}
 use Rattle.wi_fold_functions.proofs.Steps.{stays}
 
 -- what takes cells one after another goes on as with the items that they are

@@ -1,25 +1,6 @@
 -- What MIN, MAX, AND and OR make of the items: of those that count, one is chosen.
-use Rattle.std.proofs.Common.{◌≡◌, Bool, true, false, ◌&&◌, List, [], ◌∷◌, fold, Option, Some, None, refl, ap, ◌∙◌}
-use Rattle.std.specs.Prelude.{◌||◌, unwrap_or, Result, Ok, Err}
-use Rattle.std.specs.List.{flat_map, reduce, list_all, list_any}
-use Rattle.std.specs.Option.{option_to_list}
+use Rattle.wi_fold_functions.proofs.Words.{◌≡◌, Bool, true, false, ◌&&◌, List, [], ◌∷◌, fold, Option, Some, None, refl, ap, ◌∙◌, ◌||◌, unwrap_or, Result, Ok, Err, flat_map, reduce, list_all, list_any, option_to_list, ErrorKind, Value, Number, Logical, Argument, zero_number, tested, and_value, or_value, Item, sequence_of, number_of_item, logical_of_item, all_that_count, min_value, max_value, smaller_number, greater_number, ◌>>=◌, and_then, map_until_error, fold_until_error, AllTrue, AnyTrue, Greatest, Least, go_on_through, chosen, chosen_with, least_with, greatest_with, all_with, any_with, number_chosen, logical_chosen}
 use Rattle.wi_fraction.specs.Number as numbers
-use Rattle.wi_values.specs.declared.value.ErrorKind.{ErrorKind}
-use Rattle.wi_values.specs.declared.value.Value.{Value}
-use Rattle.wi_values.specs.declared.value.Value.TheVariants.{Number, Logical}
-use Rattle.wi_standard_functions.specs.Arguments.{Argument}
-use Rattle.wi_standard_functions.specs.Convert.{zero_number}
-use Rattle.wi_standard_functions.specs.Logical.{tested, and_value, or_value}
-use Rattle.wi_standard_functions.specs.Sequence.{Item, sequence_of, number_of_item, logical_of_item, all_that_count}
-use Rattle.wi_standard_functions.specs.Statistical.{min_value, max_value}
-use Rattle.wi_standard_functions.specs.Inner.Named.{smaller_number, greater_number}
-use Rattle.wi_standard_functions.specs.Steps.{◌>>=◌, and_then, map_until_error, fold_until_error}
-use Rattle.wi_fold_functions.specs.declared.logical.AllTrue.{AllTrue}
-use Rattle.wi_fold_functions.specs.declared.logical.AnyTrue.{AnyTrue}
-use Rattle.wi_fold_functions.specs.declared.statistical.Greatest.{Greatest}
-use Rattle.wi_fold_functions.specs.declared.statistical.Least.{Least}
-use Rattle.wi_fold_functions.specs.Inner.Items.{go_on_through}
-use Rattle.wi_fold_functions.specs.Inner.Made.{chosen, chosen_with, least_with, greatest_with, all_with, any_with, number_chosen, logical_chosen}
 use Rattle.wi_fold_functions.proofs.Steps.{stays, fold_held}
 
 -- ---- of any kind

@@ -1,27 +1,6 @@
 -- What COUNT, COUNTA and AVERAGE make of the items.
-use Rattle.std.proofs.Common.{◌≡◌, ℕ, ◌+◌, Bool, true, cond, not, List, [], ◌∷◌, length, fold, Option, Some, None, refl, sym, ap, ◌∙◌, subst, arith}
-use Rattle.std.specs.Prelude.{is_some, Result, Ok, Err, IfErr}
-use Rattle.std.specs.Result.{IsErrAnd}
-use Rattle.std.specs.List.{flat_map}
-use Rattle.std.specs.Option.{option_to_list}
+use Rattle.wi_fold_functions.proofs.Words.{◌≡◌, ℕ, ◌+◌, Bool, true, cond, not, List, [], ◌∷◌, length, fold, Option, Some, None, refl, sym, ap, ◌∙◌, subst, arith, is_some, Result, Ok, Err, IfErr, IsErrAnd, flat_map, option_to_list, ErrorKind, Value, Number, Argument, addition, division, whole_number, whole_value, zero_number, is_number_value, is_empty_value, count_value, count_a_value, Item, sequence_of, value_of_item, number_of_item, numbers_of, number_fold, with_number, average_value, ◌>>=◌, and_then, map_until_error, fold_until_error, counted, IsCut, cut_counted, cut_more, cut_number, cut_value, none_cut, FilledCount, NumberCount, Average, go_on_through, calculated_with, numbers_with, filled_with, mean_with, mean_value}
 use Rattle.wi_fraction.specs.Number as numbers
-use Rattle.wi_values.specs.declared.value.ErrorKind.{ErrorKind}
-use Rattle.wi_values.specs.declared.value.Value.{Value}
-use Rattle.wi_values.specs.declared.value.Value.TheVariants.{Number}
-use Rattle.wi_standard_functions.specs.Arguments.{Argument}
-use Rattle.wi_standard_functions.specs.Arithmetic.{addition, division, whole_number, whole_value}
-use Rattle.wi_standard_functions.specs.Convert.{zero_number}
-use Rattle.wi_standard_functions.specs.Information.{is_number_value, is_empty_value, count_value, count_a_value}
-use Rattle.wi_standard_functions.specs.Sequence.{Item, sequence_of, value_of_item, number_of_item, numbers_of, number_fold, with_number}
-use Rattle.wi_standard_functions.specs.Statistical.{average_value}
-use Rattle.wi_standard_functions.specs.Steps.{◌>>=◌, and_then, map_until_error, fold_until_error}
-use Rattle.wi_value_functions.specs.Inner.Counts.{counted, IsCut}
-use Rattle.wi_value_functions.proofs.Counts.{cut_counted, cut_more, cut_number, cut_value, none_cut}
-use Rattle.wi_fold_functions.specs.declared.information.FilledCount.{FilledCount}
-use Rattle.wi_fold_functions.specs.declared.information.NumberCount.{NumberCount}
-use Rattle.wi_fold_functions.specs.declared.statistical.Average.{Average}
-use Rattle.wi_fold_functions.specs.Inner.Items.{go_on_through}
-use Rattle.wi_fold_functions.specs.Inner.Made.{calculated_with, numbers_with, filled_with, mean_with, mean_value}
 use Rattle.wi_fold_functions.proofs.Steps.{stays}
 
 -- ---- COUNT and COUNTA

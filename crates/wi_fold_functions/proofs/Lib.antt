@@ -3,3 +3,4 @@ pub mod Choices
 pub mod Counting
 pub mod Steps
 pub mod Sums
+pub mod Words

@@ -1,11 +1,5 @@
 -- Folds until an error: over the cells of a reference, over the arguments, and of what a struct holds.
-use Rattle.std.proofs.Common.{◌≡◌, List, [], ◌∷◌, refl, sym, ap, ◌∙◌}
-use Rattle.std.specs.Prelude.{Result, Ok, Err}
-use Rattle.wi_values.specs.declared.value.ErrorKind.{ErrorKind}
-use Rattle.wi_values.specs.declared.value.Value.{Value}
-use Rattle.wi_standard_functions.specs.Sequence.{Item}
-use Rattle.wi_standard_functions.specs.Steps.{◌>>=◌, and_then, fold_until_error}
-use Rattle.wi_fold_functions.specs.Inner.Items.{go_on_through}
+use Rattle.wi_fold_functions.proofs.Words.{◌≡◌, List, [], ◌∷◌, refl, sym, ap, ◌∙◌, Result, Ok, Err, ErrorKind, Value, Item, ◌>>=◌, and_then, fold_until_error, go_on_through}
 
 -- after an error no item makes a difference
 pub stays : {A : Type 0} (step : A → Item → Result A ErrorKind) (e : ErrorKind) (items : List Item) → go_on_through step (Err e) items ≡ Err e

@@ -1,16 +1,6 @@
 -- What SUM and PRODUCT make of the items.
-use Rattle.std.proofs.Common.{◌≡◌, List, refl, ap, ◌∙◌}
+use Rattle.wi_fold_functions.proofs.Words.{◌≡◌, List, refl, ap, ◌∙◌, Number, Argument, addition, multiplication, zero_number, one_number, sum_value, product_value, sequence_of, number_fold, ◌>>=◌, fold_until_error, Product, Sum, calculated_with, sum_with, product_with}
 use Rattle.wi_fraction.specs.Number as numbers
-use Rattle.wi_values.specs.declared.value.Value.TheVariants.{Number}
-use Rattle.wi_standard_functions.specs.Arguments.{Argument}
-use Rattle.wi_standard_functions.specs.Arithmetic.{addition, multiplication}
-use Rattle.wi_standard_functions.specs.Convert.{zero_number, one_number}
-use Rattle.wi_standard_functions.specs.Mathematical.{sum_value, product_value}
-use Rattle.wi_standard_functions.specs.Sequence.{sequence_of, number_fold}
-use Rattle.wi_standard_functions.specs.Steps.{◌>>=◌, fold_until_error}
-use Rattle.wi_fold_functions.specs.declared.mathematical.Product.{Product}
-use Rattle.wi_fold_functions.specs.declared.mathematical.Sum.{Sum}
-use Rattle.wi_fold_functions.specs.Inner.Made.{calculated_with, sum_with, product_with}
 use Rattle.wi_fold_functions.proofs.Steps.{fold_held}
 
 pub sum_is : (args : List Argument) (s : Sum) → s.total ≡ zero_number → (fold_until_error sum_with s (sequence_of args) >>= (λ t. Number t.total)) ≡ sum_value args

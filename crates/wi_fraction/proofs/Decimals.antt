@@ -1,19 +1,5 @@
 -- The exact decimal: its places, its digits, and what stands before it.
-use Rattle.std.proofs.Common.{String, string_bytes, subst, sym, ap, ◌∙◌, arith, Result, Ok, Err, OnOk, OnErr, is_ok, if◌then◌else◌}
-use Rattle.std.proofs.Transfers.{starts_with_length, starts_with_of_append}
-use Rattle.std.specs.Prelude.{◌≡◌, ℕ, zero, suc, ◌+◌, ◌-◌, ◌*◌, ◌/◌, ◌%◌, ◌^◌, ◌<◌, ◌≤◌, ◌≢◌, List, [], ◌∷◌, ◌++◌, length, Some, None, refl}
-use Rattle.std.specs.declared.alloc.Global.{Global}
-use Rattle.std.specs.Fmt.{decimal}
-use Rattle.std.specs.Io.{StartsWith}
-use Rattle.std.specs.Str.{IsUtf8, IsCharBoundary}
-use Rattle.std.proofs.lemmas.Fmt.{decimal_digit}
-use Rattle.std.proofs.lemmas.List.{take-append-le, take_all, append_assoc, append-nil}
-use Rattle.std.proofs.lemmas.Nat.{div-mul-add}
-use Rattle.std.proofs.lemmas.Str.{IsCharBoundary-from_take, IsUtf8-string_bytes}
-use Rattle.std.proofs.Math.Nat.{div-add-mod', mul-div_cancel, mul_assoc, mul_comm, mul_right_comm, pow-suc, pow-zero, mul-one, mod-eq_of_lt, mul-add-mod_self_right, add-mul-div_right, div-lt_iff_lt-mul}
-use Rattle.wi_fraction.specs.Text.{padded, size_text}
-use Rattle.wi_fraction.specs.Decimal.{all_places}
-use Rattle.wi_fraction.specs.Inner.Places.{places_from}
+use Rattle.wi_fraction.proofs.Vocabulary.{String, string_bytes, subst, sym, ap, ◌∙◌, arith, Result, Ok, Err, OnOk, OnErr, is_ok, if◌then◌else◌, starts_with_length, starts_with_of_append, ◌≡◌, ℕ, zero, suc, ◌+◌, ◌-◌, ◌*◌, ◌/◌, ◌%◌, ◌^◌, ◌<◌, ◌≤◌, ◌≢◌, List, [], ◌∷◌, ◌++◌, length, Some, None, refl, Global, decimal, StartsWith, IsUtf8, IsCharBoundary, decimal_digit, take-append-le, take_all, append_assoc, append-nil, div-mul-add, IsCharBoundary-from_take, IsUtf8-string_bytes, div-add-mod', mul-div_cancel, mul_assoc, mul_comm, mul_right_comm, pow-suc, pow-zero, mul-one, mod-eq_of_lt, mul-add-mod_self_right, add-mul-div_right, div-lt_iff_lt-mul, padded, size_text, all_places, places_from}
 use Rattle.wi_fraction.proofs.Places.{places_from_end, places_from_found, places_from_more, all_divide, multiple_of}
 use Rattle.wi_fraction.proofs.Digits.{padded_suc}
 

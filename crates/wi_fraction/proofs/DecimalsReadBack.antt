@@ -1,25 +1,5 @@
 -- The exact decimal of a number that is not negative reads back to it.
-use Rattle.std.specs.Prelude.{◌≡◌, ◌≢◌, ℕ, zero, suc, ◌*◌, ◌/◌, ◌%◌, ◌^◌, ◌<◌, ◌≤◌, ◌⊎◌, pos, false, List, [], ◌∷◌, ◌++◌, length, ◌==◌, Option, Some, None, unsigned_abs, refl}
-use Rattle.std.specs.Char.{is_ascii_digit}
-use Rattle.std.specs.Fmt.{decimal}
-use Rattle.std.specs.Int.{◌∣◌}
-use Rattle.std.specs.List.{prefix_len}
-use Rattle.std.specs.Str.Parse.{AllDigits, IsNumeral}
-use Rattle.std.proofs.Common.{ap, ◌∙◌, sym, subst, inl, inr, arith}
-use Rattle.std.proofs.lemmas.Bool.{cases_lt}
-use Rattle.std.proofs.lemmas.Bool.Decides.{nat_tests}
-use Rattle.std.proofs.lemmas.List.{append-nil, take_all}
-use Rattle.std.proofs.lemmas.Nat.Gcd.{dvd_of_mod-eq-zero, mod-eq-zero_of_dvd}
-use Rattle.std.proofs.Math.Seq.{take-append_seam, drop-append_seam, drop-length}
-use Rattle.std.proofs.Math.Nat.{pow-suc, pow-zero, one-dvd, mul_comm, mul_right_comm, mul-one, mul-le-mul_left, div-mul_cancel, eq-one_of_dvd-one, dvd_of_mul-dvd-mul_right, mul-dvd-mul, pos_of_dvd_of_pos}
-use Rattle.wi_fraction.specs.Gcd.{gcd}
-use Rattle.wi_fraction.specs.Gcd.Laws.{is_gcd, dvd_of_dvd-mul}
-use Rattle.wi_fraction.specs.Laws.{DecimalsReadBack}
-use Rattle.wi_fraction.specs.Number.{number_at, signed, max_size}
-use Rattle.wi_fraction.specs.Number.Laws.{number_at-some}
-use Rattle.wi_fraction.specs.Text.{padded, size_text}
-use Rattle.wi_fraction.specs.Inner.Reading.{read_after, read_decimal, decimal_after, point_after, scaled_after}
-use Rattle.wi_fraction.specs.Decimal.{all_places, decimal_text}
+use Rattle.wi_fraction.proofs.Vocabulary.{◌≡◌, ◌≢◌, ℕ, zero, suc, ◌*◌, ◌/◌, ◌%◌, ◌^◌, ◌<◌, ◌≤◌, ◌⊎◌, pos, false, List, [], ◌∷◌, ◌++◌, length, ◌==◌, Option, Some, None, unsigned_abs, refl, is_ascii_digit, decimal, ◌∣◌, prefix_len, AllDigits, IsNumeral, ap, ◌∙◌, sym, subst, inl, inr, arith, cases_lt, nat_tests, append-nil, take_all, dvd_of_mod-eq-zero, mod-eq-zero_of_dvd, take-append_seam, drop-append_seam, drop-length, pow-suc, pow-zero, one-dvd, mul_comm, mul_right_comm, mul-one, mul-le-mul_left, div-mul_cancel, eq-one_of_dvd-one, dvd_of_mul-dvd-mul_right, mul-dvd-mul, pos_of_dvd_of_pos, gcd, is_gcd, dvd_of_dvd-mul, DecimalsReadBack, number_at, signed, max_size, number_at-some, padded, size_text, read_after, read_decimal, decimal_after, point_after, scaled_after, all_places, decimal_text}
 use Rattle.wi_fraction.proofs.Divisors.{gcd_pos, coprime_divided, divided_dvd}
 use Rattle.wi_fraction.proofs.Numbers.{number_of-lowest}
 use Rattle.wi_fraction.proofs.Places.{all_divide, all_none, divides_one}

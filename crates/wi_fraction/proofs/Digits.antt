@@ -1,18 +1,6 @@
 -- Digits with zeros in front.
-use Rattle.std.specs.Prelude.{◌≡◌, ℕ, zero, suc, ◌+◌, ◌*◌, ◌/◌, ◌%◌, ◌^◌, ◌<◌, ◌≤◌, List, [], ◌∷◌, ◌++◌, map, reverse, length, refl}
-use Rattle.std.specs.List.{range_with_len}
-use Rattle.std.specs.Fmt.{decimal}
-use Rattle.std.specs.Char.{digit_value}
-use Rattle.std.specs.Str.Parse.{digits_value, AllDigits}
-use Rattle.std.proofs.Common.{◌∙◌, sym, ap, arith}
-use Rattle.std.proofs.lemmas.Bool.Decides.{nat_tests}
-use Rattle.std.proofs.lemmas.Fmt.{decimal_digit, decimal_step_wide}
-use Rattle.std.proofs.lemmas.Int.Digits.{digits_value_push, digits_push}
+use Rattle.wi_fraction.proofs.Vocabulary.{◌≡◌, ℕ, zero, suc, ◌+◌, ◌*◌, ◌/◌, ◌%◌, ◌^◌, ◌<◌, ◌≤◌, List, [], ◌∷◌, ◌++◌, map, reverse, length, refl, range_with_len, decimal, digit_value, digits_value, AllDigits, ◌∙◌, sym, ap, arith, nat_tests, decimal_digit, decimal_step_wide, digits_value_push, digits_push, pow-suc, pow-succ', pow-zero, mul_assoc, one-le-pow, div-one, div-div-eq-div-mul, reverse_onto, append-nil, length-append, map-append, padded}
 use mathlib.Core.List.{append_assoc}
-use Rattle.std.proofs.Math.Nat.{pow-suc, pow-succ', pow-zero, mul_assoc, one-le-pow, div-one, div-div-eq-div-mul}
-use Rattle.std.proofs.lemmas.Grind.{reverse_onto}
-use Rattle.std.proofs.lemmas.List.{append-nil, length-append, map-append}
-use Rattle.wi_fraction.specs.Text.{padded}
 
 digit_of : (d : ℕ) → d < 10 → digit_value (48 + d) ≡ d
 digit_of d h = grind (arith, nat_tests)

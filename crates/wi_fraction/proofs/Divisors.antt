@@ -1,11 +1,5 @@
 -- What follows from the greatest common divisor: coprime numbers and lowest terms.
-use Rattle.std.specs.Prelude.{◌≡◌, ℕ, ◌*◌, ◌/◌, ◌%◌, ◌<◌, refl}
-use Rattle.std.specs.Int.{◌∣◌}
-use Rattle.std.proofs.Common.{sym, ◌∙◌, ap, subst}
-use Rattle.std.proofs.Math.Nat.{mul_comm, one-mul, dvd-mul_right, dvd_trans, div-mul_cancel, pos_of_dvd_of_pos, eq-one_of_dvd-one, dvd_of_mul-dvd-mul_right, mul-dvd-mul_right, mul-mul-mul_comm, mul-pos}
-use Rattle.std.proofs.lemmas.Nat.Gcd.{IsGcd-from_zero, IsGcd-from_mod}
-use Rattle.wi_fraction.specs.Gcd.{gcd}
-use Rattle.wi_fraction.specs.Gcd.Laws.{is_gcd, dvd_gcd_mul, gcd_from_IsGcd, gcd_comm, dvd_of_dvd-mul}
+use Rattle.wi_fraction.proofs.Vocabulary.{◌≡◌, ℕ, ◌*◌, ◌/◌, ◌%◌, ◌<◌, refl, ◌∣◌, sym, ◌∙◌, ap, subst, mul_comm, one-mul, dvd-mul_right, dvd_trans, div-mul_cancel, pos_of_dvd_of_pos, eq-one_of_dvd-one, dvd_of_mul-dvd-mul_right, mul-dvd-mul_right, mul-mul-mul_comm, mul-pos, IsGcd-from_zero, IsGcd-from_mod, gcd, is_gcd, dvd_gcd_mul, gcd_from_IsGcd, gcd_comm, dvd_of_dvd-mul}
 
 pub gcd_pos : (a b : ℕ) → 0 < b → 0 < gcd a b
 gcd_pos a b h = pos_of_dvd_of_pos (is_gcd a b).1 h

@@ -1,19 +1,5 @@
 -- Decimals times powers of ten, and divided by them.
-use Rattle.std.specs.Prelude.{◌≡◌, ℕ, zero, suc, ◌+◌, ◌-◌, ◌*◌, ◌/◌, ◌^◌, ◌<◌, ◌≤◌, pos, unsigned_abs, false, List, [], ◌++◌, length, take, drop, Option, Some, None, refl}
-use Rattle.std.specs.Str.Parse.{digits_value, AllDigits}
-use Rattle.std.proofs.Common.{sym, ap, ◌∙◌, inl, inr, arith}
-use Rattle.std.proofs.lemmas.Bool.{cases_lt}
-use Rattle.std.proofs.lemmas.Int.Digits.{digits_value-lt}
-use Rattle.std.proofs.lemmas.List.{length-append, length-drop}
-use Rattle.std.proofs.lemmas.Nat.{le-div, pow-add}
-use Rattle.std.proofs.lemmas.Nat.Gcd.{le_of_dvd}
-use Rattle.std.proofs.Math.Nat.{pow-suc, pow-zero, zero-mul, one-mul, mul-one, mul_assoc, mul-pos, mul-le-mul_left, mul-le-mul_right, pow-le-pow_right, le_trans}
-use Rattle.wi_fraction.specs.Gcd.Laws.{gcd-one}
-use Rattle.wi_fraction.specs.Gcd.{gcd}
-use Rattle.wi_fraction.specs.Gcd.Laws.{is_gcd, gcd_comm}
-use Rattle.wi_fraction.specs.Number.{Number, number_at, number_of, max_size}
-use Rattle.wi_fraction.specs.Arithmetic.{bounded}
-use Rattle.wi_fraction.specs.Inner.Reading.{decimal_value, raised, lowered}
+use Rattle.wi_fraction.proofs.Vocabulary.{◌≡◌, ℕ, zero, suc, ◌+◌, ◌-◌, ◌*◌, ◌/◌, ◌^◌, ◌<◌, ◌≤◌, pos, unsigned_abs, false, List, [], ◌++◌, length, take, drop, Option, Some, None, refl, digits_value, AllDigits, sym, ap, ◌∙◌, inl, inr, arith, cases_lt, digits_value-lt, length-append, length-drop, le-div, pow-add, le_of_dvd, pow-suc, pow-zero, zero-mul, one-mul, mul-one, mul_assoc, mul-pos, mul-le-mul_left, mul-le-mul_right, pow-le-pow_right, le_trans, gcd-one, gcd, is_gcd, gcd_comm, Number, number_at, number_of, max_size, bounded, decimal_value, raised, lowered}
 use Rattle.wi_fraction.proofs.Divisors.{gcd_pos}
 use Rattle.wi_fraction.proofs.Fineness.{IsTooFine, none_from_fine, fine_tenth, ten_pow_pos, step_value, number_of-multiplied, tail_from_none}
 use Rattle.wi_fraction.proofs.Numbers.{number_of-lowest, number_at-too_large}

@@ -1,19 +1,5 @@
 -- Fractions whose denominator is too large, and the tails of a decimal.
-use Rattle.std.specs.Prelude.{◌≡◌, ◌≢◌, ℕ, zero, suc, ◌+◌, ◌*◌, ◌/◌, ◌^◌, ◌<◌, ◌≤◌, pos, unsigned_abs, Bool, false, List, [], ◌∷◌, ◌++◌, length, drop, Some, None, refl}
-use Rattle.std.specs.Char.{digit_value}
-use Rattle.std.specs.Int.{◌∣◌}
-use Rattle.std.specs.Str.Parse.{digits_value, digits_value_after, AllDigits}
-use Rattle.std.proofs.Common.{ap, ◌∙◌, sym, inl, inr, arith}
-use Rattle.std.proofs.lemmas.Bool.{cases_lt}
-use Rattle.std.proofs.lemmas.Int.Digits.{digits_value-lt}
-use Rattle.std.proofs.lemmas.Nat.{le-div}
-use Rattle.std.proofs.lemmas.Nat.Gcd.{le_of_dvd}
-use Rattle.std.proofs.Math.Nat.{pow-suc, pow-zero, one-le-pow, div-mul_cancel, mul-le-mul_left, lt_of_mul-lt-mul_right, mul-add-mod_self_right, mul-div-mul_right, mul_right_comm, mul-one, dvd-mul_right_of_dvd}
-use Rattle.wi_fraction.specs.Gcd.{gcd}
-use Rattle.wi_fraction.specs.Gcd.Laws.{is_gcd, dvd_gcd_mul}
-use Rattle.wi_fraction.specs.Number.{Number, number_at, number_of, signed, max_size}
-use Rattle.wi_fraction.specs.Number.Laws.{number_at-some, number_at-is}
-use Rattle.wi_fraction.specs.Inner.Reading.{decimal_value}
+use Rattle.wi_fraction.proofs.Vocabulary.{◌≡◌, ◌≢◌, ℕ, zero, suc, ◌+◌, ◌*◌, ◌/◌, ◌^◌, ◌<◌, ◌≤◌, pos, unsigned_abs, Bool, false, List, [], ◌∷◌, ◌++◌, length, drop, Some, None, refl, digit_value, ◌∣◌, digits_value, digits_value_after, AllDigits, ap, ◌∙◌, sym, inl, inr, arith, cases_lt, digits_value-lt, le-div, le_of_dvd, pow-suc, pow-zero, one-le-pow, div-mul_cancel, mul-le-mul_left, lt_of_mul-lt-mul_right, mul-add-mod_self_right, mul-div-mul_right, mul_right_comm, mul-one, dvd-mul_right_of_dvd, gcd, is_gcd, dvd_gcd_mul, Number, number_at, number_of, signed, max_size, number_at-some, number_at-is, decimal_value}
 use Rattle.wi_fraction.proofs.Divisors.{gcd_pos, gcd_step, gcd_scaled, coprime_divided, div_gcd_pos}
 use Rattle.wi_fraction.proofs.Numbers.{abs-signed, number_of-signed, number_at-too_large}
 

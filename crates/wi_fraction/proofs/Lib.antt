@@ -22,3 +22,4 @@ pub mod Texts
 pub mod Values
 pub mod Wholes
 pub mod Written
+pub mod Vocabulary

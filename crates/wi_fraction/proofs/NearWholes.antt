@@ -1,14 +1,5 @@
 -- Whole numbers near a number are numbers, and so is the number with the other sign.
-use Rattle.std.specs.Prelude.{◌≡◌, ℕ, ◌+◌, ◌-◌, ◌*◌, ◌<◌, ◌≤◌, ℤ, pos, negsuc, neg_ℤ, unsigned_abs, int_lt, Bool, true, false, Option, Some, unwrap_or, refl}
-use Rattle.std.proofs.Common.{sym, ap, ◌∙◌, arith}
-use Rattle.std.proofs.Math.Nat.{mul-le-mul_left, div-lt_iff_lt-mul, div-le_self}
-use Rattle.wi_fraction.specs.declared.rounding.Mode.{Mode}
-use Rattle.wi_fraction.specs.declared.rounding.Mode.TheVariants.{HalfAway, Away, Toward}
-use Rattle.wi_fraction.specs.Arithmetic.{negated}
-use Rattle.wi_fraction.specs.Gcd.Laws.{gcd-one}
-use Rattle.wi_fraction.specs.Number.{Number, IsNumber, number_at, number_of, signed, max_size}
-use Rattle.wi_fraction.specs.Number.Laws.{abs-neg, number_at-some}
-use Rattle.wi_fraction.specs.Rounding.{floored, floor_of, rounded, rounded_size}
+use Rattle.wi_fraction.proofs.Vocabulary.{◌≡◌, ℕ, ◌+◌, ◌-◌, ◌*◌, ◌<◌, ◌≤◌, ℤ, pos, negsuc, neg_ℤ, unsigned_abs, int_lt, Bool, true, false, Option, Some, unwrap_or, refl, sym, ap, ◌∙◌, arith, mul-le-mul_left, div-lt_iff_lt-mul, div-le_self, Mode, HalfAway, Away, Toward, negated, gcd-one, Number, IsNumber, number_at, number_of, signed, max_size, abs-neg, number_at-some, floored, floor_of, rounded, rounded_size}
 use Rattle.wi_fraction.proofs.Numbers.{number_of-lowest}
 use Rattle.wi_fraction.proofs.Steps.{signed-abs}
 

@@ -1,16 +1,5 @@
 -- The floor is the greatest whole number that is not above, and what each mode rounds to.
-use Rattle.std.specs.Prelude.{◌≡◌, ℕ, suc, ◌+◌, ◌-◌, ◌*◌, ◌/◌, ◌<◌, ◌≤◌, ℤ, pos, negsuc, neg_ℤ, ◌*ℤ◌, ◌≤ℤ◌, unsigned_abs, int_lt, nat_lt, false, refl}
-use Rattle.std.proofs.Common.{sym, ap, ◌∙◌, subst, inl, inr, arith}
-use Rattle.std.proofs.lemmas.Bool.{cases_lt}
-use Rattle.std.proofs.lemmas.Bool.Decides.{nat_tests}
-use Rattle.std.proofs.lemmas.Int.{ints}
-use Rattle.std.proofs.Math.Nat.{div-mul-le_self, lt-div-mul-add, div-lt_iff_lt-mul, le-div_iff_mul-le, mul-le-mul_right, mul-pos}
-use Rattle.wi_fraction.specs.declared.rounding.Mode.{Mode}
-use Rattle.wi_fraction.specs.declared.rounding.Mode.TheVariants.{HalfAway, Away, Toward}
-use Rattle.wi_fraction.specs.Laws.{NotAbove, NotBelow, distance, IsGreatestNotAbove, IsLeastNotBelow, IsNearest, HasFloor, IsRounded}
-use Rattle.wi_fraction.specs.Number.{Number, signed}
-use Rattle.wi_fraction.specs.Number.Laws.{abs-neg}
-use Rattle.wi_fraction.specs.Rounding.{floor_of, rounded, rounded_size}
+use Rattle.wi_fraction.proofs.Vocabulary.{◌≡◌, ℕ, suc, ◌+◌, ◌-◌, ◌*◌, ◌/◌, ◌<◌, ◌≤◌, ℤ, pos, negsuc, neg_ℤ, ◌*ℤ◌, ◌≤ℤ◌, unsigned_abs, int_lt, nat_lt, false, refl, sym, ap, ◌∙◌, subst, inl, inr, arith, cases_lt, nat_tests, ints, div-mul-le_self, lt-div-mul-add, div-lt_iff_lt-mul, le-div_iff_mul-le, mul-le-mul_right, mul-pos, Mode, HalfAway, Away, Toward, NotAbove, NotBelow, distance, IsGreatestNotAbove, IsLeastNotBelow, IsNearest, HasFloor, IsRounded, Number, signed, abs-neg, floor_of, rounded, rounded_size}
 use Rattle.wi_fraction.proofs.NearWholes.{rounded_below, floored_is, rounded_is}
 use Rattle.wi_fraction.proofs.Values.{neg-neg, neg-mul}
 

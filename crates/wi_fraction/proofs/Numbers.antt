@@ -1,11 +1,5 @@
 -- Numbers made from a sign, a size and a denominator.
-use Rattle.std.specs.Prelude.{◌≡◌, ◌⊎◌, ℕ, zero, suc, ◌*◌, ◌/◌, ◌<◌, pos, unsigned_abs, int_div, Bool, true, false, Some, None, refl}
-use Rattle.std.proofs.Common.{ap, ◌∙◌, sym, inl, inr, arith}
-use Rattle.std.proofs.Math.Nat.{zero-div, div-one, one-mul, mul-div_cancel}
-use Rattle.wi_fraction.specs.Gcd.Laws.{gcd-one}
-use Rattle.wi_fraction.specs.Gcd.{gcd}
-use Rattle.wi_fraction.specs.Number.{Number, IsNumber, number_at, number_of, signed, max_size}
-use Rattle.wi_fraction.specs.Number.Laws.{number_at-some, number_at-none}
+use Rattle.wi_fraction.proofs.Vocabulary.{◌≡◌, ◌⊎◌, ℕ, zero, suc, ◌*◌, ◌/◌, ◌<◌, pos, unsigned_abs, int_div, Bool, true, false, Some, None, refl, ap, ◌∙◌, sym, inl, inr, arith, zero-div, div-one, one-mul, mul-div_cancel, gcd-one, gcd, Number, IsNumber, number_at, number_of, signed, max_size, number_at-some, number_at-none}
 use Rattle.wi_fraction.proofs.Divisors.{gcd_scaled}
 
 pub abs-signed : (b : Bool) (n : ℕ) → unsigned_abs (signed b n) ≡ n

@@ -1,19 +1,6 @@
 -- What a number token is read as can be written as a decimal without a sign.
-use Rattle.std.proofs.Common.{◌≡◌, ℕ, ◌/◌, ◌^◌, pos, Bool, true, false, ◌==◌, ◌||◌, not, List, [], ◌∷◌, length, take, drop, Option, Some, None, sym, ap, ◌∙◌, subst, if◌then◌else◌, int_div, int_lt, nat_lt, slice_index, arith}
-use Rattle.std.proofs.lemmas.Bool.Decides.{nat_tests}
-use Rattle.std.specs.Int.{◌∣◌}
-use Rattle.std.specs.Char.{is_ascii_digit}
-use Rattle.std.specs.List.{prefix_len}
-use Rattle.std.specs.Str.{byte}
-use Rattle.std.specs.Str.Parse.{digits_value, without_leading_plus}
-use Rattle.std.proofs.Math.Nat.{div-mul_cancel, dvd-mul_right}
-use Rattle.std.proofs.lemmas.Nat.Gcd.{mod-eq-zero_of_dvd}
-use Rattle.wi_fraction.specs.Gcd.{gcd}
-use Rattle.wi_fraction.specs.Gcd.Laws.{is_gcd}
-use Rattle.wi_fraction.specs.Number.{Number, number_of}
-use Rattle.wi_fraction.specs.Number.Laws.{number_at-is}
-use Rattle.wi_fraction.specs.Inner.Reading.{is_numeral, decimal_value, raised, lowered, with_exponent, exponent_after, scaled_after, point_after, decimal_after, read_decimal}
-use Rattle.wi_fraction.specs.Decimal.{IsUnsignedDecimal}
+use Rattle.wi_fraction.proofs.Vocabulary.{◌||◌, sym, ap, ◌∙◌, subst, if◌then◌else◌, arith, nat_tests, ◌∣◌, is_ascii_digit, prefix_len, byte, digits_value, without_leading_plus, div-mul_cancel, dvd-mul_right, mod-eq-zero_of_dvd, gcd, is_gcd, Number, number_of, number_at-is, is_numeral, decimal_value, raised, lowered, with_exponent, exponent_after, scaled_after, point_after, decimal_after, read_decimal, IsUnsignedDecimal}
+use Rattle.std.proofs.Common.{◌≡◌, ℕ, ◌/◌, ◌^◌, pos, Bool, true, false, ◌==◌, not, List, [], ◌∷◌, length, take, drop, Option, Some, None, int_div, int_lt, nat_lt, slice_index}
 
 -- the number, if there is one, is a decimal without a sign
 abbrev Good : Option Number → Type 0

@@ -1,12 +1,5 @@
 -- The places of a decimal: how many, and that no fewer will do.
-use Rattle.std.specs.Prelude.{◌≡◌, ℕ, zero, suc, ◌+◌, ◌-◌, ◌*◌, ◌/◌, ◌%◌, ◌^◌, ◌<◌, ◌≤◌, Option, Some, None, refl, ◌≢◌}
-use Rattle.std.proofs.Common.{◌∙◌, sym, ap, arith}
-use Rattle.std.proofs.lemmas.Bool.Decides.{nat_tests}
-use Rattle.std.proofs.Math.Nat.{mod-lt, div-add-mod, mul-lt-mul_of_pos_right, mod-eq_of_lt, pow-le-pow_right}
-use Rattle.wi_fraction.specs.Laws.{ShowsFewestPlaces}
-use Rattle.wi_fraction.specs.Text.{places}
-use Rattle.wi_fraction.specs.Inner.Places.{places_from}
-use Rattle.wi_fraction.specs.Decimal.{all_places}
+use Rattle.wi_fraction.proofs.Vocabulary.{◌≡◌, ℕ, zero, suc, ◌+◌, ◌-◌, ◌*◌, ◌/◌, ◌%◌, ◌^◌, ◌<◌, ◌≤◌, Option, Some, None, refl, ◌≢◌, ◌∙◌, sym, ap, arith, nat_tests, mod-lt, div-add-mod, mul-lt-mul_of_pos_right, mod-eq_of_lt, pow-le-pow_right, ShowsFewestPlaces, places, places_from, all_places}
 
 pub places_from_divide : (t k d j : ℕ) → places_from t k d ≡ Some j → 10 ^ j % d ≡ 0
 unfolding places_from

@@ -1,16 +1,6 @@
 -- Powers of lowest terms, and powers that are too large.
-use Rattle.std.specs.Prelude.{◌≡◌, ℕ, zero, suc, ◌%◌, ◌^◌, ◌<◌, ◌≤◌, ℤ, pos, negsuc, unsigned_abs, Bool, true, false, ◌&&◌, nat_le, nat_lt, int_lt, ◌≢◌, ◌==◌, Option, Some, None, refl}
-use Rattle.std.specs.Int.{int_pow}
-use Rattle.std.proofs.Common.{arith, ap, sym, ◌∙◌}
-use Rattle.std.proofs.lemmas.Bool.Decides.{nat_tests}
-use Rattle.std.proofs.Math.Nat.{pow-suc, pow-zero, one-le-pow, pow-le-pow_left, pow-le-pow_right, le_trans}
-use Rattle.std.specs.Ordering.{int_eq}
-use Rattle.wi_fraction.specs.Gcd.Laws.{gcd-one}
-use Rattle.wi_fraction.specs.Gcd.{gcd}
-use Rattle.wi_fraction.specs.Number.{Number, number_of, number_at, max_size, signed}
-use Rattle.wi_fraction.specs.Arithmetic.{fraction_of, bounded, power_of}
+use Rattle.wi_fraction.proofs.Vocabulary.{◌≡◌, ℕ, zero, suc, ◌%◌, ◌^◌, ◌<◌, ◌≤◌, ℤ, pos, negsuc, unsigned_abs, Bool, true, false, ◌&&◌, nat_le, nat_lt, int_lt, ◌≢◌, ◌==◌, Option, Some, None, refl, int_pow, arith, ap, sym, ◌∙◌, nat_tests, pow-suc, pow-zero, one-le-pow, pow-le-pow_left, pow-le-pow_right, le_trans, int_eq, gcd-one, gcd, Number, number_of, number_at, max_size, signed, fraction_of, bounded, power_of, gcd_comm}
 use Rattle.wi_fraction.proofs.Divisors.{coprime_mul}
-use Rattle.wi_fraction.specs.Gcd.Laws.{gcd_comm}
 use Rattle.wi_fraction.proofs.Numbers.{number_of-lowest}
 
 coprime_pow_right : (a b k : ℕ) → gcd a b ≡ 1 → gcd a (b ^ k) ≡ 1

@@ -1,19 +1,8 @@
 -- Reading digit by digit: a whole number from the first, a decimal from the last.
-use Rattle.std.specs.Prelude.{◌≡◌, ℕ, zero, suc, ◌+◌, ◌-◌, ◌*◌, ◌<◌, ◌≤◌, pos, unsigned_abs, Bool, false, ◌⊎◌, List, [], ◌∷◌, length, drop, take, Option, Some, None, refl}
-use Rattle.std.specs.Char.{digit_value}
-use Rattle.std.specs.Str.Parse.{AllDigits, digits_value}
-use Rattle.std.proofs.Common.{◌∙◌, sym, inl, inr, arith, get_or, drop-cons}
-use Rattle.std.proofs.lemmas.Bool.Decides.{nat_tests}
-use Rattle.std.proofs.Math.Nat.{mul-le-mul_left}
-use Rattle.std.proofs.lemmas.Int.Digits.{digits_value_more}
-use Rattle.std.proofs.lemmas.Str.Parse.{digits_value-take-le}
-use Rattle.wi_fraction.specs.Number.{Number, number_at, number_of, signed, max_size}
-use Rattle.wi_fraction.specs.Arithmetic.{bounded}
-use Rattle.wi_fraction.specs.Inner.Reading.{decimal_value, read_quotient}
+use Rattle.wi_fraction.proofs.Vocabulary.{◌≡◌, ℕ, zero, suc, ◌+◌, ◌-◌, ◌*◌, ◌<◌, ◌≤◌, pos, unsigned_abs, Bool, false, ◌⊎◌, List, [], ◌∷◌, length, drop, take, Option, Some, None, refl, digit_value, AllDigits, digits_value, ◌∙◌, sym, inl, inr, arith, get_or, drop-cons, nat_tests, mul-le-mul_left, digits_value_more, digits_value-take-le, Number, number_at, number_of, signed, max_size, bounded, decimal_value, read_quotient, gcd}
 use Rattle.wi_fraction.proofs.Steps.{bounded-some, bounded-none}
 use Rattle.wi_fraction.proofs.Fineness.{tail_more, tail_below_one, tail_from_none, tail_whole, fine_drop, none_from_tail, gcd_shifted}
 use Rattle.wi_fraction.proofs.Numbers.{number_of-lowest, number_at-too_large}
-use Rattle.wi_fraction.specs.Gcd.{gcd}
 
 pub digits_drop : (i : ℕ) (ds : List ℕ) → AllDigits 10 ds → AllDigits 10 (drop i ds)
 digits_drop zero ds h = h

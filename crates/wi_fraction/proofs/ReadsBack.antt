@@ -1,24 +1,7 @@
 -- Each shown text reads back to its number.
-use Rattle.std.specs.Prelude.{◌≡◌, ℕ, zero, suc, ◌+◌, ◌*◌, ◌/◌, ◌%◌, ◌^◌, ◌<◌, ◌≤◌, pos, Bool, true, false, ◌&&◌, nat_lt, nat_le, List, [], ◌∷◌, ◌++◌, length, slice_index, ◌==◌, Option, Some, None, unsigned_abs, int_lt, refl}
-use Rattle.std.specs.Fmt.{decimal}
-use Rattle.std.specs.Char.{is_ascii_digit}
-use Rattle.std.specs.Str.{all_ascii_digits}
-use Rattle.std.specs.Str.Parse.{digits_value, IsNumeral}
-use Rattle.std.specs.List.{prefix_len}
-use Rattle.std.proofs.Common.{ap, ◌∙◌, sym, subst, arith, rules, tests}
-use Rattle.std.proofs.lemmas.Bool.Decides.{nat_tests}
-use Rattle.std.proofs.lemmas.Fmt.{decimal_is_IsNumeral_wide}
-use Rattle.std.proofs.Math.Seq.{take-append_seam, drop-append_seam}
-use Rattle.std.proofs.Math.Nat.{pow-zero, mul_assoc, add-mul, one-le-pow, div-le_self}
-use Rattle.std.proofs.lemmas.List.{append-nil}
+use Rattle.wi_fraction.proofs.Vocabulary.{◌≡◌, ℕ, zero, suc, ◌+◌, ◌*◌, ◌/◌, ◌%◌, ◌^◌, ◌<◌, ◌≤◌, pos, Bool, true, false, ◌&&◌, nat_lt, nat_le, List, [], ◌∷◌, ◌++◌, length, slice_index, ◌==◌, Option, Some, None, unsigned_abs, int_lt, refl, decimal, is_ascii_digit, all_ascii_digits, digits_value, IsNumeral, prefix_len, ap, ◌∙◌, sym, subst, arith, rules, tests, nat_tests, decimal_is_IsNumeral_wide, take-append_seam, drop-append_seam, pow-zero, mul_assoc, add-mul, one-le-pow, div-le_self, append-nil, places, padded, size_text, sign_text, text_of, is_numeral, read_after, read_size, read, number_of, number_at, signed, max_size, number_at-some, gcd, ReadsBack}
 use Rattle.std.proofs.lemmas.Nat.{div-add-mod'}
-use Rattle.wi_fraction.specs.Text.{places, padded, size_text, sign_text, text_of}
-use Rattle.wi_fraction.specs.Inner.Reading.{is_numeral, read_after, read_size, read}
-use Rattle.wi_fraction.specs.Number.{number_of, number_at, signed, max_size}
-use Rattle.wi_fraction.specs.Number.Laws.{number_at-some}
-use Rattle.wi_fraction.specs.Gcd.{gcd}
 use Rattle.wi_fraction.proofs.Scanning.{own}
-use Rattle.wi_fraction.specs.Laws.{ReadsBack}
 use Rattle.wi_fraction.proofs.Numbers.{number_of-scaled, number_of-lowest}
 use Rattle.wi_fraction.proofs.Steps.{signed-abs}
 use Rattle.wi_fraction.proofs.Digits.{length-padded, digits_padded, value_padded}

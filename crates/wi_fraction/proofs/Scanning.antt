@@ -1,12 +1,5 @@
 -- The digits that a text begins with.
-use Rattle.std.specs.Prelude.{◌≡◌, ℕ, suc, ◌+◌, Bool, true, false, ◌&&◌, cond, nat_eq, List, [], ◌∷◌, length, take, refl}
-use Rattle.std.specs.Char.{is_ascii_digit}
-use Rattle.std.specs.List.{prefix_len, list_all}
-use Rattle.std.specs.Str.{all_ascii_digits}
-use Rattle.std.specs.Str.Parse.{AllDigits, digits_value}
-use Rattle.std.proofs.Common.{◌∙◌, sym, ap, arith}
-use Rattle.std.proofs.lemmas.Bool.Decides.{nat_tests}
-use Rattle.std.proofs.lemmas.Str.Parse.{IsNumeralModel, numerals_by_value, tells_all_ascii_digits}
+use Rattle.wi_fraction.proofs.Vocabulary.{◌≡◌, ℕ, suc, ◌+◌, Bool, true, false, ◌&&◌, cond, nat_eq, List, [], ◌∷◌, length, take, refl, is_ascii_digit, prefix_len, list_all, all_ascii_digits, AllDigits, digits_value, ◌∙◌, sym, ap, arith, nat_tests, IsNumeralModel, numerals_by_value, tells_all_ascii_digits}
 
 pub own : IsNumeralModel (λ ds. all_ascii_digits ds ≡ true) (digits_value 10)
 own = numerals_by_value _ tells_all_ascii_digits

@@ -1,14 +1,5 @@
 -- The order of two fractions by whole parts and rests.
-use Rattle.std.specs.Prelude.{◌≡◌, ◌≢◌, ◌⊎◌, ℕ, ◌+◌, ◌*◌, ◌/◌, ◌%◌, ◌<◌, ◌≤◌, ℤ, pos, ◌*ℤ◌, ◌<ℤ◌, refl}
-use Rattle.std.specs.declared.cmp.Ordering.{Ordering}
-use Rattle.std.specs.declared.cmp.Ordering.TheVariants.{Less, Equal, Greater}
-use Rattle.std.specs.Ordering.{nat_cmp, int_cmp, MatchOrdering}
-use Rattle.std.specs.Cmp.{ranks, nat_cmp_is, int_ranks, int_cmp_is}
-use Rattle.std.proofs.Common.{sym, ap, ◌∙◌, subst, arith, inl, inr}
-use Rattle.std.proofs.Math.Nat.{add-mul, mul_assoc, mul_comm, mul_right_comm, div-add-mod', lt-div-mul-add, div-mul-le_self, mul-lt-mul_of_pos_right, mul-le-mul_right, mul-pos, zero-mul, one-mul}
-use Rattle.wi_fraction.specs.Number.{Number}
-use Rattle.wi_fraction.specs.Order.{cross_cmp}
-use Rattle.wi_fraction.specs.Order.Integers.{mul_below}
+use Rattle.wi_fraction.proofs.Vocabulary.{◌≡◌, ◌≢◌, ◌⊎◌, ℕ, ◌+◌, ◌*◌, ◌/◌, ◌%◌, ◌<◌, ◌≤◌, ℤ, pos, ◌*ℤ◌, ◌<ℤ◌, refl, Ordering, Less, Equal, Greater, nat_cmp, int_cmp, MatchOrdering, ranks, nat_cmp_is, int_ranks, int_cmp_is, sym, ap, ◌∙◌, subst, arith, inl, inr, add-mul, mul_assoc, mul_comm, mul_right_comm, div-add-mod', lt-div-mul-add, div-mul-le_self, mul-lt-mul_of_pos_right, mul-le-mul_right, mul-pos, zero-mul, one-mul, Number, cross_cmp, mul_below}
 
 module _ (x y u v : ℕ) where
   carried : (x < y → u < v) → (x ≡ y → u ≡ v) → (y < x → v < u) → (r : Ordering) → MatchOrdering r (x < y) (x ≡ y) (y < x) → MatchOrdering r (u < v) (u ≡ v) (v < u)

@@ -1,18 +1,6 @@
 -- A text is read as the fraction that it spells, and what is read spells one.
-use Rattle.std.specs.Prelude.{◌≡◌, ℕ, ◌<◌, ◌≤◌, ℤ, Bool, true, false, cond, not, ◌==◌, ◌&&◌, if◌then◌else◌, nat_lt, nat_le, List, [], ◌∷◌, ◌++◌, length, take, drop, slice_index, Some, None, refl}
-use Rattle.std.specs.Char.{is_ascii_digit}
-use Rattle.std.specs.List.{prefix_len}
-use Rattle.std.specs.Str.Parse.{IsNumeral, digits_value}
-use Rattle.std.proofs.Common.{sym, ap, ◌∙◌, subst, arith}
-use Rattle.std.proofs.lemmas.Bool.{eqb-true}
-use Rattle.std.proofs.lemmas.Bool.Decides.{nat_tests}
-use Rattle.std.proofs.lemmas.List.{append-nil, take-append-drop}
-use Rattle.std.proofs.lemmas.List.Folds.{length-prefix_len}
-use Rattle.std.proofs.Math.Nat.{pow-zero}
-use Rattle.wi_fraction.specs.Laws.{ReadsWhatIsSpelled}
-use Rattle.wi_fraction.specs.Number.{Number, number_of, signed, max_size}
-use Rattle.wi_fraction.specs.Spelled.{SpellsSize, whole, point, slash, SpellsFraction, plain, plus, minus, IsSpelled}
-use Rattle.wi_fraction.specs.Inner.Reading.{is_numeral, decimal_value, read_quotient, read_after, read_size, read}
+use Rattle.wi_fraction.proofs.Vocabulary.{◌≡◌, ℕ, ◌<◌, ◌≤◌, ℤ, Bool, true, false, cond, not, ◌==◌, ◌&&◌, nat_lt, nat_le, List, [], ◌∷◌, ◌++◌, length, take, drop, slice_index, Some, None, refl, is_ascii_digit, prefix_len, IsNumeral, digits_value, sym, ap, ◌∙◌, subst, arith, eqb-true, nat_tests, append-nil, take-append-drop, length-prefix_len, pow-zero, ReadsWhatIsSpelled, Number, number_of, signed, max_size, SpellsSize, whole, point, slash, SpellsFraction, plain, plus, minus, IsSpelled, is_numeral, decimal_value, read_quotient, read_after, read_size, read}
+use Rattle.std.specs.Prelude.{if◌then◌else◌}
 use Rattle.wi_fraction.proofs.ReadsBack.{first_digit, is_numeral-true, read_size_scanned, read_signed}
 use Rattle.wi_fraction.proofs.Scanning.{digits_before}
 use Rattle.wi_fraction.proofs.Written.{some_if, some_then, numeral_from_test}

@@ -1,18 +1,6 @@
 -- The steps of the operations: what each helper gives, and how they join.
-use Rattle.std.specs.Prelude.{◌≡◌, ℕ, suc, ◌*◌, ◌/◌, ◌<◌, ◌≤◌, ℤ, pos, negsuc, ◌+ℤ◌, ◌*ℤ◌, neg_ℤ, unsigned_abs, Bool, false, Option, Some, None, refl}
-use Rattle.std.specs.Prelude.{zero, ◌-ℤ◌, int_lt, nat_lt}
-use Rattle.std.specs.Int.{w128, cast_signed as to_z, cast_unsigned as of_z}
-use Rattle.std.proofs.Common.{arith, ap, sym, ◌∙◌}
-use Rattle.std.proofs.lemmas.Int.{ints}
-use Rattle.std.proofs.lemmas.Bool.Decides.{nat_tests}
-use Rattle.std.proofs.Math.Nat.{mul-pos, one-mul, div_self, div-le_self}
-use Rattle.std.proofs.lemmas.Nat.Gcd.{dvd_refl}
-use Rattle.wi_fraction.specs.Gcd.{gcd}
-use Rattle.wi_fraction.specs.Number.{Number, number_of, max_size, signed, number_at}
-use Rattle.wi_fraction.specs.Arithmetic.{bounded, int_bounded, sum_of}
+use Rattle.wi_fraction.proofs.Vocabulary.{◌≡◌, ℕ, suc, ◌*◌, ◌/◌, ◌<◌, ◌≤◌, ℤ, pos, negsuc, ◌+ℤ◌, ◌*ℤ◌, neg_ℤ, unsigned_abs, Bool, false, Option, Some, None, refl, zero, ◌-ℤ◌, int_lt, nat_lt, w128, cast_signed as to_z, cast_unsigned as of_z, arith, ap, sym, ◌∙◌, ints, nat_tests, mul-pos, one-mul, div_self, div-le_self, dvd_refl, gcd, Number, number_of, max_size, signed, number_at, bounded, int_bounded, sum_of, gcd_comm, gcd_from_IsGcd, number_at-some}
 use Rattle.wi_fraction.proofs.Divisors.{gcd_pos, div_gcd_pos, coprime_cross, cross_numerator, cross_denominator}
-use Rattle.wi_fraction.specs.Gcd.Laws.{gcd_comm, gcd_from_IsGcd}
-use Rattle.wi_fraction.specs.Number.Laws.{number_at-some}
 use Rattle.wi_fraction.proofs.Numbers.{number_of-scaled, number_of-whole}
 
 pub bounded-some : (n m : ℕ) → Some m ≡ bounded n → (m ≡ n) × (n ≤ max_size)

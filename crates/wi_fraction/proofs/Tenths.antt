@@ -1,13 +1,6 @@
 -- A tenth of a digit and a fraction, within the limits.
-use Rattle.std.specs.Prelude.{◌≡◌, ◌≢◌, ◌⊎◌, ℕ, zero, suc, ◌+◌, ◌*◌, ◌/◌, ◌%◌, ◌<◌, ◌≤◌, pos, false, None, refl}
-use Rattle.std.specs.Int.{◌∣◌}
-use Rattle.std.proofs.Common.{ap, ◌∙◌, sym, subst, inl, inr, arith}
-use Rattle.std.proofs.lemmas.Nat.{le-div}
-use Rattle.std.proofs.lemmas.Nat.Gcd.{le_of_dvd}
-use Rattle.std.proofs.Math.Nat.{mod-eq-zero_of_dvd, div-add-mod', mul-le-mul_left, mul-le-mul_right}
-use Rattle.wi_fraction.specs.Gcd.{gcd}
-use Rattle.wi_fraction.specs.Gcd.Laws.{is_gcd, dvd_of_dvd-mul}
-use Rattle.wi_fraction.specs.Number.{number_of, max_size}
+use Rattle.wi_fraction.proofs.Vocabulary.{◌≡◌, ◌≢◌, ◌⊎◌, ℕ, zero, suc, ◌+◌, ◌*◌, ◌/◌, ◌%◌, ◌<◌, ◌≤◌, pos, false, None, refl, ◌∣◌, ap, ◌∙◌, sym, subst, inl, inr, arith, le-div, le_of_dvd, div-add-mod', mul-le-mul_left, mul-le-mul_right, gcd, is_gcd, dvd_of_dvd-mul, number_of, max_size}
+use Rattle.std.proofs.Math.Nat.{mod-eq-zero_of_dvd}
 use Rattle.wi_fraction.proofs.Divisors.{coprime_mul, coprime_dvd, gcd_pos}
 use Rattle.wi_fraction.proofs.Fineness.{IsTooFine, none_from_fine, gcd_shifted, number_of-multiplied}
 

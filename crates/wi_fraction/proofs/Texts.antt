@@ -1,9 +1,5 @@
 -- The shown text by its parts.
-use Rattle.std.specs.Prelude.{◌≡◌, ℕ, zero, suc, ◌+◌, ◌*◌, ◌/◌, ◌%◌, ◌^◌, ◌<◌, ◌≤◌, Bool, ◌∷◌, ◌++◌, length, drop, Option, Some, None, refl}
-use Rattle.std.specs.Fmt.{decimal}
-use Rattle.std.proofs.Common.{sym, subst, arith}
-use Rattle.std.proofs.Math.Nat.{div-one, one-le-pow}
-use Rattle.wi_fraction.specs.Text.{places, size_text}
+use Rattle.wi_fraction.proofs.Vocabulary.{◌≡◌, ℕ, zero, suc, ◌+◌, ◌*◌, ◌/◌, ◌%◌, ◌^◌, ◌<◌, ◌≤◌, Bool, ◌∷◌, ◌++◌, length, drop, Option, Some, None, refl, decimal, sym, subst, arith, div-one, one-le-pow, places, size_text}
 use Rattle.wi_fraction.proofs.Digits.{decimal_after_one}
 use Rattle.wi_fraction.proofs.Places.{places_divide, places_few, power_few, multiple_of, factor_pos, rest_less, divides_one}
 

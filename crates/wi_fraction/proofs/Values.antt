@@ -1,25 +1,9 @@
 -- What the results are worth: they have the value of the exact operation.
-use Rattle.std.specs.Prelude.{◌≡◌, ℕ, zero, suc, ◌*◌, ◌/◌, ◌<◌, ℤ, pos, negsuc, ◌+ℤ◌, ◌-ℤ◌, ◌*ℤ◌, neg_ℤ, unsigned_abs, int_div, Option, Some, None, refl}
-use Rattle.std.specs.Int.{◌∣◌}
-use Rattle.std.proofs.Common.{sym, ap, ◌∙◌, subst, arith}
-use Rattle.std.proofs.lemmas.Int.{ints}
-use Rattle.std.proofs.Math.Nat.{mul_comm, mul_assoc, div-mul_cancel, dvd-mul_left, dvd-mul_right}
-use Rattle.std.specs.Prelude.{Bool, true, false, cond, nat_le, option_and_then, ◌<ℤ◌}
-use Rattle.std.specs.Ordering.{int_cmp}
-use Rattle.std.specs.Cmp.{int_ranks}
-use Rattle.wi_fraction.specs.Gcd.{gcd}
-use Rattle.wi_fraction.specs.Gcd.Laws.{is_gcd}
-use Rattle.std.proofs.lemmas.Int.{unsigned_abs-mul}
-use Rattle.wi_fraction.specs.Gcd.Laws.{same_lowest}
-use Rattle.wi_fraction.specs.Laws.{IsExact}
+use Rattle.wi_fraction.proofs.Vocabulary.{◌≡◌, ℕ, zero, suc, ◌*◌, ◌/◌, ◌<◌, ℤ, pos, negsuc, ◌+ℤ◌, ◌-ℤ◌, ◌*ℤ◌, neg_ℤ, unsigned_abs, int_div, Option, Some, None, refl, ◌∣◌, sym, ap, ◌∙◌, subst, arith, ints, mul_comm, mul_assoc, div-mul_cancel, dvd-mul_left, dvd-mul_right, Bool, true, false, cond, nat_le, option_and_then, ◌<ℤ◌, int_cmp, int_ranks, gcd, is_gcd, unsigned_abs-mul, same_lowest, IsExact, Number, number_of, max_size, number_at-some, number_at-is, negated, bounded, int_bounded, sum_of, product_of, quotient_of, fraction_of, mul-mul, neg-pos-mul, mul_below, int_irrefl, by_rank, turn}
 use Rattle.wi_fraction.proofs.Divisors.{gcd_pos, div_gcd_pos, coprime_divided}
 use Rattle.wi_fraction.proofs.NearWholes.{opposite, negated_is}
 use Rattle.wi_fraction.proofs.Numbers.{abs-signed}
-use Rattle.wi_fraction.specs.Number.{Number, number_of, max_size}
-use Rattle.wi_fraction.specs.Number.Laws.{number_at-some, number_at-is}
-use Rattle.wi_fraction.specs.Arithmetic.{negated, bounded, int_bounded, sum_of, product_of, quotient_of, fraction_of}
 use Rattle.wi_fraction.proofs.Steps.{bounded-some, multiple_pos}
-use Rattle.wi_fraction.specs.Order.Integers.{mul-mul, neg-pos-mul, mul_below, int_irrefl, by_rank, turn}
 
 mul-suc : (z : ℤ) (k : ℕ) → z *ℤ pos (suc k) ≡ z *ℤ pos k +ℤ z
 mul-suc (pos a) k = omega (arith, ints)

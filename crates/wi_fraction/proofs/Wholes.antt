@@ -1,11 +1,5 @@
 -- Whole numbers near a number.
-use Rattle.std.specs.Prelude.{◌≡◌, ℕ, suc, ◌+◌, ◌-◌, ◌/◌, ℤ, pos, negsuc, neg_ℤ, unsigned_abs, int_lt, true, false, refl}
-use Rattle.std.proofs.Common.{sym, ◌∙◌, arith}
-use Rattle.std.proofs.lemmas.Bool.Decides.{nat_tests}
-use Rattle.wi_fraction.specs.declared.rounding.Mode.{Mode}
-use Rattle.wi_fraction.specs.Number.{Number, signed}
-use Rattle.wi_fraction.specs.Number.Laws.{same_number}
-use Rattle.wi_fraction.specs.Rounding.{floored, floor_of, rounded, rounded_size}
+use Rattle.wi_fraction.proofs.Vocabulary.{◌≡◌, ℕ, suc, ◌+◌, ◌-◌, ◌/◌, ℤ, pos, negsuc, neg_ℤ, unsigned_abs, int_lt, true, false, refl, sym, ◌∙◌, arith, nat_tests, Mode, Number, signed, same_number, floored, floor_of, rounded, rounded_size}
 use Rattle.wi_fraction.proofs.NearWholes.{floor_number, floored_is, rounded_number, rounded_is}
 
 -- ---- the floor

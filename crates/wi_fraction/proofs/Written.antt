@@ -1,21 +1,8 @@
 -- A number token is read as the value of what it writes, and what is read writes a decimal.
-use Rattle.std.specs.Prelude.{◌≡◌, ℕ, suc, ◌+◌, ◌-◌, ◌*◌, ◌^◌, ◌<◌, ℤ, pos, negsuc, neg_ℤ, ◌-ℤ◌, Bool, true, false, cond, not, ◌==◌, if◌then◌else◌, List, [], ◌∷◌, ◌++◌, length, take, drop, slice_index, Option, Some, None, refl}
-use Rattle.std.specs.Char.{is_ascii_digit}
-use Rattle.std.specs.List.{prefix_len}
-use Rattle.std.specs.Str.{all_ascii_digits}
-use Rattle.std.specs.Str.Parse.{AllDigits, IsNumeral, digits_value}
-use Rattle.std.proofs.Common.{sym, ap, ◌∙◌, subst, inl, inr, arith, append_assoc}
-use Rattle.std.proofs.lemmas.Bool.{cases_lt, eqb-true}
-use Rattle.std.proofs.lemmas.Bool.Decides.{nat_tests}
-use Rattle.std.proofs.lemmas.Int.{ints}
-use Rattle.std.proofs.lemmas.List.{append-nil, take-append-drop}
-use Rattle.std.proofs.lemmas.List.Folds.{length-prefix_len}
-use Rattle.std.proofs.Math.Nat.{mul_assoc, mul-one, one-mul, pow-zero}
-use Rattle.std.proofs.Math.Seq.{take-append_seam, drop-append_seam}
-use Rattle.wi_fraction.specs.Laws.{ReadsWhatIsWritten}
-use Rattle.wi_fraction.specs.Number.{Number, number_of}
-use Rattle.wi_fraction.specs.Inner.Reading.{is_numeral, decimal_value, raised, lowered, with_exponent, exponent_after, scaled_after, point_after, decimal_after, read_decimal}
-use Rattle.wi_fraction.specs.Written.{WritesDigits, plain, point, is_exponent_letter, WritesExponent, none, unsigned, plus, minus, Writes, writes, IsWritten, times_power, written_value}
+use Rattle.wi_fraction.proofs.Vocabulary.{◌≡◌, ℕ, suc, ◌+◌, ◌-◌, ◌*◌, ◌^◌, ◌<◌, ℤ, pos, negsuc, neg_ℤ, ◌-ℤ◌, Bool, true, false, cond, not, ◌==◌, List, [], ◌∷◌, ◌++◌, length, take, drop, slice_index, Option, Some, None, refl, is_ascii_digit, prefix_len, all_ascii_digits, AllDigits, IsNumeral, digits_value, sym, ap, ◌∙◌, subst, inl, inr, arith, cases_lt, eqb-true, nat_tests, ints, append-nil, take-append-drop, length-prefix_len, mul_assoc, mul-one, one-mul, pow-zero, take-append_seam, drop-append_seam, ReadsWhatIsWritten, Number, number_of, is_numeral, decimal_value, raised, lowered, with_exponent, exponent_after, scaled_after, point_after, decimal_after, read_decimal, WritesDigits, is_exponent_letter, WritesExponent, none, unsigned, Writes, writes, IsWritten, times_power, written_value}
+use Rattle.std.specs.Prelude.{if◌then◌else◌}
+use Rattle.std.proofs.Common.{append_assoc}
+use Rattle.wi_fraction.specs.Written.{plain, point, plus, minus}
 use Rattle.wi_fraction.proofs.DecimalsReadBack.{read_scanned, some_digits}
 use Rattle.wi_fraction.proofs.Exponents.{in_parts}
 use Rattle.wi_fraction.proofs.Fineness.{number_of-multiplied, ten_pow_pos}

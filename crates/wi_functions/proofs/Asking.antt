@@ -1,26 +1,6 @@
 -- What asks, and what has it as a part.
-use Rattle.std.proofs.Common.{◌≡◌, ◌++◌, ℕ, zero, suc, true, List, [], ◌∷◌, Option, Any, Contains, Result, Ok, Err, sym, ◌∙◌, subst, arith}
-use Rattle.std.proofs.lemmas.List.Elements.{Contains-append_left, Contains-append_right}
-use Rattle.std.proofs.lemmas.List.Quantifiers.{Any-push}
-use Rattle.wi_values.specs.declared.value.Value.{Value}
-use Rattle.wi_parser.specs.declared.expr.Corners.{Corners}
-use Rattle.wi_parser.specs.declared.expr.Operator.{Operator}
-use Rattle.wi_parser.specs.Tree.{Tree, Trees, cell, rectangle, binary}
-use Rattle.wi_parser.specs.Leaves.{Leaf, rectangle_leaf, leaves, all_leaves}
-use Rattle.wi_values.specs.Address.{is_within}
-use Rattle.wi_values.proofs.Corners.{corners_may_turn}
-use Rattle.wi_parser.specs.Reads.{area_of}
-use Rattle.wi_arguments.specs.Arguments.{IsMissing}
+use Rattle.wi_functions.proofs.Words.{◌≡◌, ◌++◌, ℕ, zero, suc, true, List, [], ◌∷◌, Option, Any, Contains, Result, Ok, Err, sym, ◌∙◌, subst, arith, Contains-append_left, Contains-append_right, Any-push, Value, Corners, Operator, Tree, Trees, cell, rectangle, binary, Leaf, rectangle_leaf, leaves, all_leaves, is_within, corners_may_turn, area_of, IsMissing, IfMissing, Stop, Missing, Memory, Cell, WhatIf, Want, WantsCell, WantsWithin, LeafAsks, AnyLeafAsks, Asks, ByAll, IsWanted, ReferInside, Part, Evaluates, stopped}
 use Rattle.wi_arguments.specs.declared.argument.Argument as given
-use Rattle.wi_value_functions.specs.Endings.{IfMissing}
-use Rattle.wi_value_functions.specs.declared.ending.Stop.{Stop}
-use Rattle.wi_value_functions.specs.declared.ending.Stop.TheVariants.{Missing, Memory}
-use Rattle.wi_functions.specs.declared.evaluation.Want.TheVariants.{Cell, WhatIf}
-use Rattle.wi_functions.specs.declared.evaluation.Want.{Want}
-use Rattle.wi_functions.specs.Wants.{WantsCell, WantsWithin, LeafAsks, AnyLeafAsks, Asks}
-use Rattle.wi_functions.specs.Evaluation.{ByAll, IsWanted}
-use Rattle.wi_functions.specs.Inner.Calls.{ReferInside}
-use Rattle.wi_functions.specs.Inner.Parts.{Part, Evaluates, stopped}
 
 any_in : {X : Type 0} (P : X → Type 0) (xs : List X) (x : X) → Contains xs x → P x → Any P xs
 any_in P xs x c h = (c.0, x, c.1, c.2, h)

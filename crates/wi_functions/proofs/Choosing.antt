@@ -1,16 +1,6 @@
 -- The parameter that CHOOSE counts out.
-use Rattle.std.proofs.Common.{◌≡◌, ℕ, zero, suc, ℤ, ◌<◌, ◌≤◌, Bool, false, cond, List, [], ◌∷◌, length, None, Ok, refl, sym, ap, ◌∙◌, arith}
-use Rattle.std.specs.Prelude.{pos, negsuc, ◌≤ℤ◌, int_lt, unsigned_abs, slice_get, ok_or, Result}
-use Rattle.std.proofs.lemmas.Bool.Decides.{nat_tests}
-use Rattle.std.proofs.lemmas.Int.{ints}
-use Rattle.wi_values.specs.declared.value.ErrorKind.{ErrorKind}
-use Rattle.wi_values.specs.declared.value.ErrorKind.TheVariants.{BadValue}
-use Rattle.wi_values.specs.declared.value.Value.{Value}
-use Rattle.wi_values.specs.declared.value.Value.TheVariants.{Empty}
-use Rattle.wi_standard_functions.specs.Arguments.{Argument, value_at, value_or}
-use Rattle.wi_standard_functions.specs.Convert.{to_whole}
-use Rattle.wi_standard_functions.specs.Lookup.{chosen, choose_value}
-use Rattle.wi_standard_functions.specs.Steps.{◌>>=◌}
+use Rattle.wi_functions.proofs.Words.{◌≡◌, ℕ, zero, suc, ℤ, ◌<◌, ◌≤◌, Bool, false, cond, List, [], ◌∷◌, length, None, Ok, refl, sym, ap, ◌∙◌, arith, pos, negsuc, ◌≤ℤ◌, int_lt, unsigned_abs, slice_get, ok_or, nat_tests, ints, ErrorKind, BadValue, Value, Empty, Argument, value_at, value_or, to_whole, chosen, choose_value, ◌>>=◌}
+use Rattle.std.specs.Prelude.{Result}
 
 there : (args : List Argument) (i : ℕ) → i < length args → value_or Empty args i ≡ (ok_or (slice_get args i) BadValue >>= (λ (a : Argument). a.value))
 there [] i l = absurd (omega (arith, l))

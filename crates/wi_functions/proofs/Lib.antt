@@ -3,3 +3,4 @@ pub mod Choosing
 pub mod Outcomes
 pub mod Parameters
 mod Rows
+pub mod Words

@@ -1,10 +1,5 @@
 -- What follows where an evaluation is done.
-use Rattle.std.proofs.Common.{◌≡◌, ℕ, List, Option, sym, ap, ◌∙◌}
-use Rattle.wi_values.specs.declared.value.Value.{Value}
-use Rattle.wi_parser.specs.Tree.{Tree}
-use Rattle.wi_arguments.specs.Assignment.{Assignment, AgreesWith}
-use Rattle.wi_functions.specs.Meaning.{meaning, zero_for_empty}
-use Rattle.wi_functions.specs.Evaluation.{ByAll, IsValueOf}
+use Rattle.wi_functions.proofs.Words.{◌≡◌, ℕ, List, Option, sym, ap, ◌∙◌, Value, Tree, Assignment, AgreesWith, meaning, zero_for_empty, ByAll, IsValueOf}
 
 module _ {K : Type 0} (known_cell : K → ℕ → Option Value) (known_what_if : K → ℕ → List (ℕ × ℕ) → Option Value) (known : K) (t : Tree) (v : Value)
     (is : IsValueOf known_cell known_what_if known t v) where

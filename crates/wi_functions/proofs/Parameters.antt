@@ -1,34 +1,6 @@
 -- Parameters and the arguments that they are.
-use Rattle.std.proofs.Common.{◌≡◌, ◌==◌, ℕ, zero, suc, ◌<◌, ◌≤◌, ◌+◌, ◌*◌, Bool, true, false, cond, List, [], ◌∷◌, ◌++◌, length, slice_index_or, ◌||◌, drop, drop-cons, append_assoc, Some, None, refl, sym, ap, ap₂, ◌∙◌, subst, eq-eqb, arith}
-use Rattle.std.specs.List.{list_any}
-use Rattle.std.proofs.lemmas.List.{map-append, append-nil, drop_all}
-use Rattle.std.proofs.lemmas.List.Folds.{list_any-append}
-use Rattle.std.proofs.Math.Nat.{mod-lt, div-add-mod'}
-use Rattle.std.proofs.lemmas.Bool.{eqb-true}
-use Rattle.wi_values.specs.Address.{Area, row_of, column_of, rect_of, is_within}
-use Rattle.wi_values.specs.declared.value.ErrorKind.TheVariants.{BadValue}
-use Rattle.wi_values.specs.declared.value.Value.{Value}
-use Rattle.wi_values.specs.declared.value.Value.TheVariants.{Fault}
-use Rattle.wi_parser.specs.declared.expr.Corners.{Corners}
-use Rattle.wi_parser.specs.declared.expr.Expr.{Expr}
-use Rattle.wi_parser.specs.Tree.{Tree, cell, rectangle, parenthesized}
-use Rattle.wi_parser.specs.Leaves.{cell_leaf, rectangle_leaf, leaves, all_leaves}
-use Rattle.wi_parser.proofs.Rectangles.{one_cell}
-use Rattle.wi_parser.specs.Reads.{area_of, cell_area}
-use Rattle.wi_parser.specs.View.{tree_of, all_of}
-use Rattle.wi_standard_functions.specs.Arguments.{Argument, value_or}
-use Rattle.wi_standard_functions.specs.Inner.Named.{argument_of}
-use Rattle.wi_standard_functions.specs.Functions.{call_value}
-use Rattle.wi_value_functions.specs.Applied.{applied}
-use Rattle.wi_value_functions.specs.declared.function.Function.{Function}
-use Rattle.wi_arguments.specs.Arguments.{value_of_area, argument_in, arguments_in, refers_to}
+use Rattle.wi_functions.proofs.Words.{◌≡◌, ◌==◌, ℕ, zero, suc, ◌<◌, ◌≤◌, ◌+◌, ◌*◌, Bool, true, false, cond, List, [], ◌∷◌, ◌++◌, length, slice_index_or, ◌||◌, drop, drop-cons, append_assoc, Some, None, refl, sym, ap, ap₂, ◌∙◌, subst, eq-eqb, arith, list_any, map-append, append-nil, drop_all, list_any-append, mod-lt, div-add-mod', eqb-true, Area, row_of, column_of, rect_of, is_within, BadValue, Value, Fault, Corners, Expr, Tree, cell, rectangle, parenthesized, cell_leaf, rectangle_leaf, leaves, all_leaves, one_cell, area_of, cell_area, tree_of, all_of, Argument, value_or, argument_of, call_value, applied, Function, value_of_area, argument_in, arguments_in, refers_to, meaning, arguments, referred, is_one_cell, Asks, AnyAsks, values_of, ReferInside, Want, Cell}
 use Rattle.wi_arguments.specs.declared.argument.Argument as given
-use Rattle.wi_functions.specs.Meaning.{meaning, arguments, referred}
-use Rattle.wi_functions.specs.Inner.Named.{is_one_cell}
-use Rattle.wi_functions.specs.Wants.{Asks, AnyAsks}
-use Rattle.wi_functions.specs.Inner.Calls.{values_of, ReferInside}
-use Rattle.wi_functions.specs.declared.evaluation.Want.{Want}
-use Rattle.wi_functions.specs.declared.evaluation.Want.TheVariants.{Cell}
 use Rattle.wi_functions.proofs.Asking.{any_left, any_right, leaf_asks}
 
 -- ---- the parameter at a place

@@ -1,12 +1,5 @@
 -- Sheets that agree on all that a cell reaches.
-use Rattle.std.proofs.Common.{◌≡◌, ℕ, zero, suc, true, Option, refl, ap, sym, ◌∙◌}
-use Rattle.std.specs.Cmp.Derive.{one_truth}
-use Rattle.wi_parser.specs.declared.content.Content.{Content}
-use Rattle.wi_parser.specs.Sheet.{Sheet, content_of, has_formula}
-use Rattle.wi_parser.specs.Reads.{content_reads}
-use Rattle.wi_graph.specs.Circular.{circular}
-use Rattle.wi_graph.specs.Inner.Walks.{has_walk}
-use Rattle.wi_graph.specs.Reach.{Walks, Reaches, AgreeFrom}
+use Rattle.wi_graph.proofs.Words.{◌≡◌, ℕ, zero, suc, true, Option, refl, ap, sym, ◌∙◌, one_truth, Content, Sheet, content_of, has_formula, content_reads, circular, has_walk, Walks, Reaches, AgreeFrom}
 use Rattle.wi_graph.proofs.Walks.{step, first_step, circular_walks, walks_circular}
 
 pub agree_next : (s t : Sheet) (c d : ℕ) → AgreeFrom s t c → content_reads (content_of s c) d ≡ true → AgreeFrom s t d

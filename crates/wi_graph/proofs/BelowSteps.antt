@@ -1,27 +1,6 @@
 -- Steps of a search among what a cell reads.
-use Rattle.std.proofs.Common.{◌≡◌, ◌==◌, ◌&&◌, ◌||◌, ◌⊎◌, inl, inr, ℕ, ◌+◌, ◌<◌, ◌≤◌, Bool, true, false, cond, filter, nat_le, List, [], ◌∷◌, ◌++◌, take, get_or, length, Option, Some, None, is_some, IfSome, refl, ap, sym, ◌∙◌, subst, arith}
-use Rattle.std.proofs.Math.Bool.{or-false, or_assoc}
-use Rattle.std.proofs.lemmas.Bool.{or_cases, or_left, or_right, and_parts, and_from, cases_lt, false_from_ne_true, le-leb, leb-true}
+use Rattle.wi_graph.proofs.Words.{◌≡◌, ◌==◌, ◌&&◌, ◌||◌, ◌⊎◌, inl, inr, ℕ, ◌+◌, ◌<◌, ◌≤◌, Bool, true, false, cond, filter, nat_le, List, [], ◌∷◌, ◌++◌, take, get_or, length, Option, Some, None, is_some, IfSome, refl, ap, sym, ◌∙◌, subst, arith, or-false, or_assoc, or_cases, or_left, or_right, and_parts, and_from, cases_lt, false_from_ne_true, le-leb, leb-true, list_any-append, sorted_head, sorted_tail, find, AllByRecursion, IsStrictlySortedBy, keys_of, lookup, nat_cmp, Less, is_at, insert_entry, Area, is_within, found-insert, below_from_Less, within_between, taken_more, CellEntries, get, IsOrdered, is_one_of, Rooms, in_room, room_at, areas_of, is_in, IsFoundBy, is_ahead, has_seen, HasAreas, HasRest, IsLookedAt, IsSearchingBelow, ReachesNot}
 use Rattle.std.proofs.lemmas.List.{take_all}
-use Rattle.std.proofs.lemmas.List.Folds.{list_any-append}
-use Rattle.std.proofs.lemmas.Map.Keys.{sorted_head, sorted_tail}
-use Rattle.std.specs.List.{find, AllByRecursion}
-use Rattle.std.specs.List.Sorted.{IsStrictlySortedBy}
-use Rattle.std.specs.Map.{keys_of, lookup}
-use Rattle.std.specs.Ordering.{nat_cmp}
-use Rattle.std.specs.declared.cmp.Ordering.TheVariants.{Less}
-use Rattle.std.specs.BTreeMap.{is_at, insert_entry}
-use Rattle.wi_values.specs.Address.{Area, is_within}
-use Rattle.wi_values.proofs.Lookups.{found-insert}
-use Rattle.wi_values.proofs.Order.{below_from_Less}
-use Rattle.wi_values.proofs.Within.{within_between}
-use Rattle.wi_values.proofs.Lists.{taken_more}
-use Rattle.wi_tiles.specs.Entries.{CellEntries, get, IsOrdered}
-use Rattle.wi_graph.specs.Reach.{is_one_of}
-use Rattle.wi_graph.specs.Inner.Rooms.{Rooms, in_room, room_at, areas_of}
-use Rattle.wi_graph.specs.Inner.Stripping.{is_in}
-use Rattle.wi_graph.specs.Inner.Within.{IsFoundBy}
-use Rattle.wi_graph.specs.Inner.Below.{is_ahead, has_seen, HasAreas, HasRest, IsLookedAt, IsSearchingBelow, ReachesNot}
 use Rattle.wi_graph.proofs.Tests.{is_itself, turn_test, clash}
 use Rattle.wi_graph.proofs.Walks.{same_cell}
 use Rattle.wi_graph.proofs.ClosingSteps.{no_key}

@@ -1,25 +1,5 @@
 -- Steps of a search over readers that stops at watched cells.
-use Rattle.std.proofs.Common.{◌≡◌, ◌==◌, ◌&&◌, ◌||◌, ◌⊎◌, inl, inr, not, ℕ, ◌+◌, ◌<◌, ◌↔◌, Bool, true, false, cond, List, [], ◌∷◌, ◌++◌, length, take, get_or, ap, sym, ◌∙◌, subst, arith}
-use Rattle.std.proofs.lemmas.Bool.{or_cases, or_left, or_right, and_parts, and_from, cases_Bool, not-true, not_from_false, false_from_ne_true}
-use Rattle.std.proofs.lemmas.List.{length-append}
-use Rattle.std.proofs.lemmas.Map.Views.{any-filter_same}
-use Rattle.std.proofs.lemmas.List.Elements.{filter-append}
-use Rattle.std.specs.List.{list_any, Contains}
-use Rattle.std.specs.Ordering.{nat_cmp}
-use Rattle.std.specs.BTreeMap.{is_at}
-use Rattle.std.specs.BTreeSet.{BTreeSet, contains}
-use Rattle.std.specs.List.Sorted.{IsStrictlyIncreasing}
-use Rattle.std.specs.Cmp.Derive.{one_truth}
-use Rattle.wi_parser.specs.Sheet.{Sheet, content_of}
-use Rattle.wi_parser.specs.Reads.{content_reads}
-use Rattle.wi_ranges.specs.Bag.{Bag, IsReader, IsRead}
-use Rattle.wi_values.proofs.Lists.{taken_more}
-use Rattle.wi_graph.specs.Reach.{is_one_of, in_cone}
-use Rattle.wi_graph.specs.Watched.{IsClosedUp}
-use Rattle.wi_graph.specs.Latest.{IsUnread}
-use Rattle.wi_graph.specs.Edges.{AreEdgesOf}
-use Rattle.wi_graph.specs.Inner.Rooms.{Rooms, edges_in, IsGraph}
-use Rattle.wi_graph.specs.Inner.Search.{HasAll, GoesToReaders, IsLeast, IsConeBeyond, IsListBeyond, beyond, as_set, missing, AreNoted}
+use Rattle.wi_graph.proofs.Words.{◌≡◌, ◌==◌, ◌&&◌, ◌||◌, ◌⊎◌, inl, inr, not, ℕ, ◌+◌, ◌<◌, ◌↔◌, Bool, true, false, cond, List, [], ◌∷◌, ◌++◌, length, take, get_or, ap, sym, ◌∙◌, subst, arith, or_cases, or_left, or_right, and_parts, and_from, cases_Bool, not-true, not_from_false, false_from_ne_true, length-append, any-filter_same, filter-append, list_any, Contains, nat_cmp, is_at, BTreeSet, contains, IsStrictlyIncreasing, one_truth, Sheet, content_of, content_reads, Bag, IsReader, IsRead, taken_more, is_one_of, in_cone, IsClosedUp, IsUnread, AreEdgesOf, Rooms, edges_in, IsGraph, HasAll, GoesToReaders, IsLeast, IsConeBeyond, IsListBeyond, beyond, as_set, missing, AreNoted}
 use Rattle.wi_graph.proofs.Tests.{is_itself, clash, turned}
 use Rattle.wi_graph.proofs.Walks.{same_cell}
 use Rattle.wi_graph.proofs.SetSteps.{in_last, in_front, in_back}

@@ -1,16 +1,5 @@
 -- Cells that come and go, and the rectangle around them.
-use Rattle.std.proofs.Common.{◌≡◌, ◌==◌, ◌&&◌, ◌||◌, ◌⊎◌, inl, inr, ℕ, ◌+◌, ◌<◌, ◌≤◌, min, max, Bool, true, false, List, [], ◌∷◌, take, get_or, length, refl, ap, sym, ◌∙◌, arith}
-use Rattle.std.specs.Ordering.{nat_cmp}
-use Rattle.std.specs.List.{list_any}
-use Rattle.std.specs.BTreeMap.{is_at}
-use Rattle.std.specs.BTreeSet.{BTreeSet, contains, btree_set_len, IsUnchanged}
-use Rattle.std.proofs.lemmas.Bool.{or_cases, and_parts, and_from, false_from_ne_true}
-use Rattle.std.specs.Cmp.Derive.{one_truth}
-use Rattle.wi_values.specs.Address.{Area, columns, place, row_of, column_of, rect_of, is_within}
-use Rattle.wi_values.proofs.Within.{row_of_place, column_of_place, within_parts, within_from}
-use Rattle.wi_graph.specs.Reach.{is_one_of}
-use Rattle.wi_graph.specs.Inner.Bounds.{AreWithin}
-use Rattle.wi_graph.specs.Inner.Search.{as_set}
+use Rattle.wi_graph.proofs.Words.{◌≡◌, ◌==◌, ◌&&◌, ◌||◌, ◌⊎◌, inl, inr, ℕ, ◌+◌, ◌<◌, ◌≤◌, min, max, Bool, true, false, List, [], ◌∷◌, take, get_or, length, refl, ap, sym, ◌∙◌, arith, nat_cmp, list_any, is_at, BTreeSet, contains, btree_set_len, IsUnchanged, or_cases, and_parts, and_from, false_from_ne_true, one_truth, Area, columns, place, row_of, column_of, rect_of, is_within, row_of_place, column_of_place, within_parts, within_from, is_one_of, AreWithin, as_set}
 use Rattle.wi_graph.proofs.Tests.{turned}
 use Rattle.wi_graph.proofs.Walks.{same_cell}
 use Rattle.wi_graph.proofs.SetSteps.{Gains, Loses, gains_cases, loses_others, taken}

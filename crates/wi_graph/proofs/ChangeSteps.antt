@@ -1,31 +1,9 @@
 -- What an edit brings, step by step, and a sheet that has it.
-use Rattle.std.proofs.Common.{◌≡◌, ◌==◌, ◌+◌, ◌<◌, ◌≤◌, ℕ, Bool, true, false, cond, List, [], ◌∷◌, ◌++◌, take, take_all, get_or, length, Option, Some, None, IfSome, refl, ap, sym, ◌∙◌, subst, arith}
-use Rattle.std.proofs.lemmas.Grind.{common_steps}
-use Rattle.std.proofs.lemmas.Bool.{or_parts}
-use Rattle.std.proofs.lemmas.Slice.Eq.{slice_eq-Decides}
-use Rattle.std.specs.Bool.{Decides}
-use Rattle.std.specs.Prelude.{◌&&◌, if◌then◌else◌}
-use Rattle.std.specs.Option.{option_eq, is_none}
-use Rattle.std.specs.Cmp.Lexicographic.{pointwise}
+use Rattle.wi_graph.proofs.Words.{◌≡◌, ◌==◌, ◌+◌, ◌<◌, ◌≤◌, ℕ, Bool, true, false, cond, List, [], ◌∷◌, ◌++◌, take, take_all, get_or, length, Option, Some, None, IfSome, refl, ap, sym, ◌∙◌, subst, arith, common_steps, or_parts, slice_eq-Decides, Decides, if◌then◌else◌, option_eq, is_none, pointwise, nat_cmp, keys_of, Vec, is_at, Area, get, IsOrdered, Empty, Content, Constant, Sheet, content_of, SameOff, Edges, areas_in, areas_at, with_areas, edges_after, Rooms, Coming, AreInOrder, brought_to, coming_at, items_of, in_room, room_at, put_over, room_over, edges_in, edges_over, areas_then, Brings, HasNoIdle, ReadsStay, Ascends-from_order, order-from_Ascends, taken_more}
+use Rattle.std.specs.Prelude.{◌&&◌}
 use Rattle.wi_values.specs.contracts.rect.RectPartialEq.TheImpl as rect
-use Rattle.std.specs.Ordering.{nat_cmp}
-use Rattle.std.specs.Map.{keys_of}
-use Rattle.std.specs.Global.{Vec}
-use Rattle.std.specs.BTreeMap.{is_at}
-use Rattle.wi_values.specs.Address.{Area}
-use Rattle.wi_tiles.specs.Entries.{get, IsOrdered}
-use Rattle.wi_values.specs.declared.value.Value.TheVariants.{Empty}
-use Rattle.wi_parser.specs.declared.content.Content.{Content}
-use Rattle.wi_parser.specs.declared.content.Content.TheVariants.{Constant}
-use Rattle.wi_parser.specs.Sheet.{Sheet, content_of}
-use Rattle.wi_graph.specs.Reach.{SameOff}
-use Rattle.wi_graph.specs.Edges.{Edges, areas_in, areas_at, with_areas, edges_after}
-use Rattle.wi_graph.specs.Inner.Rooms.{Rooms, Coming, AreInOrder, brought_to, coming_at, items_of, in_room, room_at, put_over, room_over, edges_in, edges_over}
-use Rattle.wi_graph.specs.Inner.Changes.{areas_then, Brings, HasNoIdle, ReadsStay}
 use Rattle.wi_graph.proofs.Tests.{at_same, turn_test, is_at-eq}
 use Rattle.wi_graph.proofs.Walks.{same_cell}
-use Rattle.wi_values.proofs.Order.{Ascends-from_order, order-from_Ascends}
-use Rattle.wi_values.proofs.Lists.{taken_more}
 use Rattle.wi_graph.proofs.EdgeLemmas.{same_edges, areas_with, areas_over, areas_rooms, ascends_over, ascends_after, ascends_rooms}
 
 then_more : (xs : List (ℕ × Option Content)) (x : ℕ × Option Content) (c : ℕ) (o : Option (List Area)) → areas_then (xs ++ x ∷ []) c o ≡ cond (c == x.0) (areas_in x.1) (areas_then xs c o)

@@ -1,12 +1,6 @@
 -- Which cells are circular after an edit: those in the cone of the edited cells that stripping leaves, and of the others those
 -- that were.
-use Rattle.std.proofs.Common.{◌≡◌, ◌⊎◌, inl, inr, ℕ, suc, Bool, true, false, not, ◌&&◌, ◌||◌, cond, List, length, Option, refl, ap, sym, ◌∙◌}
-use Rattle.std.proofs.lemmas.Bool.{or_cases, or_left, or_right, and_parts, and_from, not-true, not_from_false}
-use Rattle.wi_parser.specs.declared.content.Content.{Content}
-use Rattle.wi_parser.specs.Sheet.{Sheet, content_of, cells_with_formula}
-use Rattle.wi_parser.specs.Reads.{content_reads}
-use Rattle.wi_graph.specs.Circular.{circular}
-use Rattle.wi_graph.specs.Reach.{SameOff, in_cone}
+use Rattle.wi_graph.proofs.Words.{◌≡◌, ◌⊎◌, inl, inr, ℕ, suc, Bool, true, false, not, ◌&&◌, ◌||◌, cond, List, length, Option, refl, ap, sym, ◌∙◌, or_cases, or_left, or_right, and_parts, and_from, not-true, not_from_false, Content, Sheet, content_of, cells_with_formula, content_reads, circular, SameOff, in_cone}
 use Rattle.wi_graph.proofs.Walks.{first_step, circular_walks, circular_is}
 use Rattle.wi_graph.proofs.Graphs.{left_circular, stripped}
 use Rattle.wi_graph.proofs.Cones.{cone_closed, outside_circular, outside_content}

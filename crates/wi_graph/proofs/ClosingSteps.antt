@@ -1,29 +1,5 @@
 -- Edits that close no cycle.
-use Rattle.std.proofs.Common.{◌≡◌, ◌==◌, ◌&&◌, ◌||◌, ◌⊎◌, inl, inr, ℕ, Bool, true, false, cond, filter, nat_le, get_or, length, arith, List, [], ◌∷◌, Option, Some, None, IfSome, is_some, refl, ap, sym, ◌∙◌, subst}
-use Rattle.std.proofs.lemmas.Bool.{or_cases, or_left, or_right, or_parts, and_parts, and_from, false_from_ne_true, le-leb}
-use Rattle.std.proofs.lemmas.List.{nil_from_length}
-use Rattle.std.specs.List.{list_any, find}
-use Rattle.std.specs.Map.{keys_of, lookup}
-use Rattle.std.specs.Ordering.{nat_cmp}
-use Rattle.std.specs.BTreeMap.{is_at}
-use Rattle.std.specs.BTreeSet.{BTreeSet, btree_set_len, contains}
-use Rattle.smallvec.specs.SmallVec.{SmallVec}
-use Rattle.std.specs.Cmp.Derive.{one_truth}
-use Rattle.wi_values.specs.Address.{Area, is_within}
-use Rattle.wi_values.proofs.Within.{within_between}
-use Rattle.wi_parser.specs.declared.content.Content.{Content}
-use Rattle.wi_parser.specs.Sheet.{Sheet, content_of}
-use Rattle.wi_parser.specs.Reads.{content_reads}
-use Rattle.wi_graph.specs.Circular.{circular}
-use Rattle.wi_graph.specs.Reach.{is_one_of}
-use Rattle.wi_graph.specs.Edges.{areas_in}
-use Rattle.wi_graph.specs.declared.turning.Turns.{Turns}
-use Rattle.wi_graph.specs.Inner.Changes.{areas_then, Brings, IsEditCone}
-use Rattle.wi_graph.specs.Inner.Rooms.{Rooms, Coming, brought_to, in_room, items_of, room_at, put_over, room_over, areas_of, AreCircles}
-use Rattle.wi_graph.specs.Inner.Stripping.{is_in}
-use Rattle.wi_graph.specs.Inner.Turning.{has_one, reads_one_of, meets_one_of, has_room_in, StandsApart, AreTurns}
-use Rattle.wi_graph.specs.Inner.Below.{is_ahead, IsLookedAt, ReachesNot, ReadsApart}
-use Rattle.wi_graph.specs.Inner.Within.{IsAhead, IsFoundBy}
+use Rattle.wi_graph.proofs.Words.{◌≡◌, ◌==◌, ◌&&◌, ◌||◌, ◌⊎◌, inl, inr, ℕ, Bool, true, false, cond, filter, nat_le, get_or, length, arith, List, [], ◌∷◌, Option, Some, None, IfSome, is_some, refl, ap, sym, ◌∙◌, subst, or_cases, or_left, or_right, or_parts, and_parts, and_from, false_from_ne_true, le-leb, nil_from_length, list_any, find, keys_of, lookup, nat_cmp, is_at, BTreeSet, btree_set_len, contains, SmallVec, one_truth, Area, is_within, within_between, Content, Sheet, content_of, content_reads, circular, is_one_of, areas_in, Turns, areas_then, Brings, IsEditCone, Rooms, Coming, brought_to, in_room, items_of, room_at, put_over, room_over, areas_of, AreCircles, is_in, has_one, reads_one_of, meets_one_of, has_room_in, StandsApart, AreTurns, is_ahead, IsLookedAt, ReachesNot, ReadsApart, IsAhead, IsFoundBy}
 use Rattle.wi_graph.proofs.Tests.{is_at-eq, turn_test, is_itself, clash, turned}
 use Rattle.wi_graph.proofs.Walks.{found, same_cell}
 use Rattle.wi_graph.proofs.Graphs.{left_circular}

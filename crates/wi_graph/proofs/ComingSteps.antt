@@ -1,13 +1,5 @@
 -- What an edit brings, as a list in order: what is found at its end, and what is left without that.
-use Rattle.std.proofs.Common.{◌≡◌, ◌<◌, ℕ, zero, suc, Bool, true, false, cond, [], ◌∷◌, ◌++◌, take, get_or, length, Option, Some, None, refl, ap, sym, ◌∙◌, subst, arith, ◌+◌}
-use Rattle.std.specs.Ordering.{nat_cmp}
-use Rattle.std.specs.Global.{Vec}
-use Rattle.std.specs.BTreeMap.{is_at}
-use Rattle.wi_values.specs.Address.{Area}
-use Rattle.wi_values.proofs.Order.{ComeAfter, Ascends, Ascends-from_order, order-from_Ascends, is_at-eq, at_same, at_itself, at_earlier, turn_test}
-use Rattle.wi_values.proofs.Lookups.{cond_apart}
-use Rattle.wi_values.proofs.Lists.{taken_more}
-use Rattle.wi_graph.specs.Inner.Rooms.{Coming, brought_to, AreInOrder}
+use Rattle.wi_graph.proofs.Words.{◌≡◌, ◌<◌, ℕ, zero, suc, Bool, true, false, cond, [], ◌∷◌, ◌++◌, take, get_or, length, Option, Some, None, refl, ap, sym, ◌∙◌, subst, arith, ◌+◌, nat_cmp, Vec, is_at, Area, ComeAfter, Ascends, Ascends-from_order, order-from_Ascends, is_at-eq, at_same, at_itself, at_earlier, turn_test, cond_apart, taken_more, Coming, brought_to, AreInOrder}
 
 -- the entries before the last come before it
 comes_before : (a k : ℕ) (o : Option (Vec Area)) (front : Coming) → ComeAfter a (front ++ (k, o) ∷ []) → a < k

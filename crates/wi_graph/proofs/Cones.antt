@@ -1,12 +1,5 @@
 -- The cone of edited cells, and what stays outside it.
-use Rattle.std.proofs.Common.{◌≡◌, ℕ, zero, suc, Bool, true, false, List, Option, refl, ap, sym, ◌∙◌}
-use Rattle.std.proofs.lemmas.Bool.{false_from_ne_true}
-use Rattle.std.specs.Cmp.Derive.{one_truth}
-use Rattle.wi_parser.specs.declared.content.Content.{Content}
-use Rattle.wi_parser.specs.Sheet.{Sheet, content_of}
-use Rattle.wi_parser.specs.Reads.{content_reads}
-use Rattle.wi_graph.specs.Circular.{circular}
-use Rattle.wi_graph.specs.Reach.{Walks, AgreeFrom, is_one_of, IsInCone, SameOff, reaches, in_cone}
+use Rattle.wi_graph.proofs.Words.{◌≡◌, ℕ, zero, suc, Bool, true, false, List, Option, refl, ap, sym, ◌∙◌, false_from_ne_true, one_truth, Content, Sheet, content_of, content_reads, circular, Walks, AgreeFrom, is_one_of, IsInCone, SameOff, reaches, in_cone}
 use Rattle.wi_graph.proofs.Agreement.{agree_here, agree_sym, reached_back, circular_same}
 use Rattle.wi_graph.proofs.ReachTest.{reaches_true, true_reaches, in_cone_true, true_in_cone}
 

@@ -1,21 +1,5 @@
 -- Edges in order, and what is found in them.
-use Rattle.std.proofs.Common.{◌≡◌, ◌==◌, ◌<◌, ℕ, Bool, true, false, cond, not, List, [], ◌∷◌, Option, Some, None, refl, ap, sym, ◌∙◌, subst, inl, inr, ◌⊎◌}
-use Rattle.std.proofs.lemmas.Bool.{cases_order}
-use Rattle.std.specs.Ordering.{nat_cmp}
-use Rattle.std.specs.Map.{lookup}
-use Rattle.std.specs.Global.{Vec}
-use Rattle.std.specs.BTreeMap.{is_at}
-use Rattle.wi_values.specs.Address.{Area}
-use Rattle.wi_tiles.specs.Entries.{IsOrdered}
-use Rattle.wi_values.proofs.Order.{ComeAfter, Ascends, Ascends-from_order, Ascends-filter, Ascends-insert, come_after_earlier, lookup_after, is_at-eq, at_same, at_itself}
-use Rattle.wi_values.proofs.Lookups.{found-insert, found-without}
-use Rattle.wi_values.specs.declared.value.Value.{Value}
-use Rattle.wi_values.specs.declared.value.Value.TheVariants.{Empty, Number, Text, Logical, Fault}
-use Rattle.wi_parser.specs.declared.content.Content.{Content}
-use Rattle.wi_parser.specs.declared.content.Content.TheVariants.{Constant, Formula}
-use Rattle.wi_parser.specs.Sheet.{Sheet, constant, content_of, with_content}
-use Rattle.wi_graph.specs.Edges.{Edges, areas_in, areas_at, AreEdgesOf, with_areas, edges_after, brought, sheet_after}
-use Rattle.wi_graph.specs.Inner.Rooms.{Rooms, Coming, brought_to, items_of, in_room, room_at, put_over, room_over, with_room, edges_in, edges_over}
+use Rattle.wi_graph.proofs.Words.{◌≡◌, ◌==◌, ◌<◌, ℕ, Bool, true, false, cond, not, List, [], ◌∷◌, Option, Some, None, refl, ap, sym, ◌∙◌, subst, inl, inr, ◌⊎◌, cases_order, nat_cmp, lookup, Vec, is_at, Area, IsOrdered, ComeAfter, Ascends, Ascends-from_order, Ascends-filter, Ascends-insert, come_after_earlier, lookup_after, is_at-eq, at_same, at_itself, found-insert, found-without, Value, Empty, Number, Text, Logical, Fault, Content, Constant, Formula, Sheet, constant, content_of, with_content, Edges, areas_in, areas_at, AreEdgesOf, with_areas, edges_after, brought, sheet_after, Rooms, Coming, brought_to, items_of, in_room, room_at, put_over, room_over, with_room, edges_in, edges_over}
 
 -- ---- what is found
 

@@ -1,23 +1,6 @@
 -- A graph of no formulas, and one after an edit.
-use Rattle.std.proofs.Common.{◌≡◌, ℕ, Bool, false, List, [], Option, Some, None, option_map, IfSome, IfNone, ap, sym, ◌∙◌, subst}
-use Rattle.std.proofs.lemmas.Bool.{false_from_ne_true}
-use Rattle.std.specs.List.{list_any}
-use Rattle.std.specs.Ordering.{nat_cmp}
-use Rattle.std.specs.Map.{lookup, keys_of}
-use Rattle.std.specs.Global.{Vec}
+use Rattle.wi_graph.proofs.Words.{◌≡◌, ℕ, Bool, false, List, [], Option, Some, None, option_map, IfSome, IfNone, ap, sym, ◌∙◌, subst, false_from_ne_true, list_any, nat_cmp, lookup, keys_of, Vec, is_at, BTreeSet, contains, Area, IsOrdered, Bag, count_of, circular, unwrap_or, Sheet, Edges, AreEdgesOf, Staging, staging, Staged, Turns, Rooms, Coming, in_room, room_at, room_over, edges_in, edges_over, areas_of, times, HasPairs, less_these, AreCircles, IsGraph, IsStaged}
 use Rattle.std.specs.List.Sorted.{IsStrictlySortedBy}
-use Rattle.std.specs.BTreeMap.{is_at}
-use Rattle.std.specs.BTreeSet.{BTreeSet, contains}
-use Rattle.wi_values.specs.Address.{Area}
-use Rattle.wi_tiles.specs.Entries.{IsOrdered}
-use Rattle.wi_ranges.specs.Bag.{Bag, count_of}
-use Rattle.wi_graph.specs.Circular.{circular}
-use Rattle.std.specs.Option.{unwrap_or}
-use Rattle.wi_parser.specs.Sheet.{Sheet}
-use Rattle.wi_graph.specs.Edges.{Edges, AreEdgesOf, Staging, staging}
-use Rattle.wi_graph.specs.declared.graph.Staged.{Staged}
-use Rattle.wi_graph.specs.declared.turning.Turns.{Turns}
-use Rattle.wi_graph.specs.Inner.Rooms.{Rooms, Coming, in_room, room_at, room_over, edges_in, edges_over, areas_of, times, HasPairs, less_these, AreCircles, IsGraph, IsStaged}
 use Rattle.wi_graph.proofs.Walks.{circular_walks}
 use Rattle.wi_graph.proofs.GraphSteps.{graph_circular}
 

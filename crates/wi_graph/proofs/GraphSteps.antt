@@ -1,28 +1,7 @@
 -- What a graph says of each sheet that has its edges.
-use Rattle.std.proofs.Common.{◌≡◌, ◌+◌, ◌<◌, ◌↔◌, ℕ, zero, suc, ◌⊎◌, inl, inr, Bool, true, false, ◌||◌, cond, List, [], ◌∷◌, Option, Some, None, refl, ap, sym, ◌∙◌, subst, arith}
-use Rattle.std.proofs.lemmas.Bool.{or_cases, or_left, or_right}
-use Rattle.std.specs.List.{list_any}
-use Rattle.std.specs.Ordering.{nat_cmp}
-use Rattle.std.specs.BTreeSet.{BTreeSet, contains}
-use Rattle.std.specs.Cmp.Derive.{one_truth}
-use Rattle.wi_values.specs.Address.{Area, is_within}
-use Rattle.wi_tiles.specs.Entries.{IsOrdered}
-use Rattle.wi_parser.specs.declared.content.Content.{Content}
-use Rattle.wi_parser.specs.declared.content.Content.TheVariants.{Constant, Formula}
-use Rattle.wi_parser.specs.Sheet.{Sheet, content_of, has_formula}
-use Rattle.wi_parser.specs.Reads.{content_reads}
-use Rattle.wi_parser.proofs.Rectangles.{reads_within}
-use Rattle.wi_ranges.specs.declared.pair.RangePair.{RangePair}
-use Rattle.wi_ranges.specs.Bag.{Bag, IsReader, pair_for, pair_area, is_same}
-use Rattle.wi_ranges.proofs.Exact.{same_is, same_self}
-use Rattle.wi_graph.specs.Circular.{circular}
-use Rattle.wi_graph.specs.Inner.Walks.{has_walk}
-use Rattle.wi_graph.specs.Reach.{Walks, reaches}
-use Rattle.wi_graph.specs.Edges.{areas_in, AreEdgesOf}
-use Rattle.wi_graph.specs.Inner.Rooms.{Rooms, room_at, edges_in, areas_of, times, HasPairs, IsGraph}
+use Rattle.wi_graph.proofs.Words.{◌≡◌, ◌+◌, ◌<◌, ◌↔◌, ℕ, zero, suc, ◌⊎◌, inl, inr, Bool, true, false, ◌||◌, cond, List, [], ◌∷◌, Option, Some, None, refl, ap, sym, ◌∙◌, subst, arith, or_cases, or_left, or_right, list_any, nat_cmp, BTreeSet, contains, one_truth, Area, is_within, IsOrdered, Content, Constant, Formula, Sheet, content_of, has_formula, content_reads, reads_within, RangePair, Bag, IsReader, pair_for, pair_area, is_same, same_is, same_self, circular, has_walk, Walks, reaches, areas_in, AreEdgesOf, Rooms, room_at, edges_in, areas_of, times, HasPairs, IsGraph, Ascends-from_order}
 use Rattle.wi_graph.proofs.ReachTest.{reaches_true, true_reaches}
 use Rattle.wi_graph.proofs.Walks.{step, first_step, circular_walks, walks_circular}
-use Rattle.wi_values.proofs.Order.{Ascends-from_order}
 use Rattle.wi_graph.proofs.EdgeLemmas.{areas_rooms}
 
 -- ---- sheets that have the same edges

@@ -1,10 +1,5 @@
 -- What a search for cycles rests on.
-use Rattle.std.proofs.Common.{◌≡◌, ℕ, zero, suc, Bool, true, false, length, sym, ◌∙◌}
-use Rattle.std.proofs.lemmas.Bool.{false_from_ne_true}
-use Rattle.wi_parser.specs.Sheet.{Sheet, content_of, cells_with_formula}
-use Rattle.wi_parser.specs.Reads.{content_reads}
-use Rattle.wi_graph.specs.Circular.{circular}
-use Rattle.wi_graph.specs.Inner.Walks.{has_walk}
+use Rattle.wi_graph.proofs.Words.{◌≡◌, ℕ, zero, suc, Bool, true, false, length, sym, ◌∙◌, false_from_ne_true, Sheet, content_of, cells_with_formula, content_reads, circular, has_walk}
 use Rattle.wi_graph.proofs.Walks.{step, first_step, circular_walks, walks_circular, circular_is, reader_formula}
 
 -- ---- cells that can't be stripped are circular, and cells that can are not

@@ -1,20 +1,7 @@
 -- Which cells read a circular cell outside a cone.
-use Rattle.std.proofs.Common.{◌≡◌, ◌==◌, ◌&&◌, ◌||◌, ◌⊎◌, inl, inr, not, ℕ, ◌+◌, ◌<◌, ◌≤◌, Bool, true, false, List, [], ◌∷◌, filter, Option, Some, None, IfSome, ap, sym, ◌∙◌, arith}
-use Rattle.std.proofs.Math.Arith.{lt_of_le-ne}
-use Rattle.std.proofs.lemmas.Bool.{or_cases, or_left, or_right, and_parts, and_from, false_from_ne_true, not-true, not_from_false}
-use Rattle.std.proofs.lemmas.Map.Views.{any-filter_same}
-use Rattle.std.specs.List.{list_any}
-use Rattle.std.specs.Ordering.{nat_cmp}
-use Rattle.std.specs.Global.{Vec}
-use Rattle.std.specs.BTreeMap.{BTreeMap}
-use Rattle.std.specs.BTreeSet.{BTreeSet, contains}
-use Rattle.wi_values.specs.Address.{Area, is_within}
-use Rattle.wi_graph.specs.Reach.{is_one_of}
-use Rattle.wi_graph.specs.Inner.Within.{IsAhead, IsFoundBy}
-use Rattle.wi_graph.specs.Inner.Turning.{has_circle_outside, reads_outside}
+use Rattle.wi_graph.proofs.Words.{◌≡◌, ◌==◌, ◌&&◌, ◌||◌, ◌⊎◌, inl, inr, not, ℕ, ◌+◌, ◌<◌, ◌≤◌, Bool, true, false, List, [], ◌∷◌, filter, Option, Some, None, IfSome, ap, sym, ◌∙◌, arith, lt_of_le-ne, or_cases, or_left, or_right, and_parts, and_from, false_from_ne_true, not-true, not_from_false, any-filter_same, list_any, nat_cmp, Vec, BTreeMap, BTreeSet, contains, Area, is_within, is_one_of, IsAhead, IsFoundBy, has_circle_outside, reads_outside, within_between, places_left}
 use Rattle.wi_graph.proofs.Tests.{is_itself, clash, turned}
 use Rattle.wi_graph.proofs.Walks.{same_cell, found}
-use Rattle.wi_values.proofs.Within.{within_between, places_left}
 
 pub outside_finds : (cells : BTreeSet ℕ) (ks : List ℕ) (r : Area) → list_any (λ d. is_within r d && not (contains nat_cmp cells d)) ks ≡ true → (d : ℕ) × (is_one_of ks d ≡ true) × (is_within r d ≡ true) × (contains nat_cmp cells d ≡ false)
 outside_finds cells [] r h = cc

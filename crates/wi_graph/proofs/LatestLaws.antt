@@ -1,15 +1,9 @@
 -- Laws of the latest edit that a cell's value may rest on.
-use Rattle.std.proofs.Common.{◌≡◌, ◌⊎◌, inl, inr, ◌<◌, ◌≤◌, ◌==◌, ◌&&◌, ◌||◌, not, max, ℕ, zero, suc, Bool, true, false, cond, List, [], ◌∷◌, Option, ap, sym, ◌∙◌, refl, subst, arith}
-use Rattle.wi_parser.specs.declared.content.Content.{Content}
-use Rattle.wi_parser.specs.Sheet.{Sheet, content_of}
-use Rattle.wi_parser.specs.Reads.{content_reads}
-use Rattle.wi_graph.specs.Reach.{Walks, Reaches, is_one_of, SameOff, reaches, in_cone}
-use Rattle.wi_graph.specs.Latest.{numbered, IsLatest, LatestOfCone, OneIsLatest, LatestRises, LatestByStep, IsOwed, IsUnread, EditOwes, NoneIsOwed, SettlesOne, SettlingBegins, OwedStays, latest_among, LatestIsAmong}
+use Rattle.wi_graph.proofs.Words.{◌≡◌, ◌⊎◌, inl, inr, ◌<◌, ◌≤◌, ◌==◌, ◌&&◌, ◌||◌, not, max, ℕ, zero, suc, Bool, true, false, cond, List, [], ◌∷◌, Option, ap, sym, ◌∙◌, refl, subst, arith, Content, Sheet, content_of, content_reads, Walks, Reaches, is_one_of, SameOff, reaches, in_cone, numbered, IsLatest, LatestOfCone, OneIsLatest, LatestRises, LatestByStep, IsOwed, IsUnread, EditOwes, NoneIsOwed, SettlesOne, SettlingBegins, OwedStays, latest_among, LatestIsAmong, false_from_ne_true, cases_Bool, cases_lt, or_cases, or_left, or_right}
 use Rattle.wi_graph.proofs.Tests.{clash, is_itself}
 use Rattle.wi_graph.proofs.Walks.{same_cell}
 use Rattle.wi_graph.proofs.ReachTest.{reaches_true, true_reaches, in_cone_true, true_in_cone, not_in_cone}
 use Rattle.wi_graph.proofs.Cones.{cone_stays, cone_closed, outside_reaches}
-use Rattle.std.proofs.lemmas.Bool.{false_from_ne_true, cases_Bool, cases_lt, or_cases, or_left, or_right}
 
 -- ---- numbers
 

@@ -28,3 +28,4 @@ pub mod StageEnds
 pub mod BeyondSteps
 pub mod BelowSteps
 pub mod LatestLaws
+pub mod Words

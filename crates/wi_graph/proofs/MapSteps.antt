@@ -1,14 +1,6 @@
 -- What is found in a map by cell after a change of one cell, and that its cells still ascend.
-use Rattle.std.proofs.Common.{◌≡◌, ℕ, Bool, true, false, cond, List, [], ◌∷◌, Option, Some, None, IsSome, refl, ap, sym, ◌∙◌, subst}
-use Rattle.std.proofs.lemmas.Map.{keys-set_value}
-use Rattle.std.specs.Prelude.{is_some, if◌then◌else◌}
-use Rattle.std.specs.List.Sorted.{IsStrictlySortedBy}
-use Rattle.std.specs.Ordering.{nat_cmp}
-use Rattle.std.specs.Map.{keys_of, lookup, remove_entry, set_value}
-use Rattle.std.specs.BTreeMap.{is_at, insert_entry}
-use Rattle.wi_tiles.specs.Entries.{CellEntries, get, IsOrdered}
-use Rattle.wi_values.proofs.Lookups.{found-insert, cond_again, cond_apart}
-use Rattle.wi_values.proofs.Order.{ComeAfter, Ascends, Ascends-from_order, order-from_Ascends, Ascends-insert, lookup_after, is_at-eq, at_same, turn_test, Ascends-remove}
+use Rattle.wi_graph.proofs.Words.{◌≡◌, ℕ, Bool, true, false, cond, List, [], ◌∷◌, Option, Some, None, IsSome, refl, ap, sym, ◌∙◌, subst, keys-set_value, if◌then◌else◌, IsStrictlySortedBy, nat_cmp, keys_of, lookup, remove_entry, set_value, is_at, insert_entry, CellEntries, get, IsOrdered, found-insert, cond_again, cond_apart, ComeAfter, Ascends, Ascends-from_order, order-from_Ascends, Ascends-insert, lookup_after, is_at-eq, at_same, turn_test, Ascends-remove}
+use Rattle.std.specs.Prelude.{is_some}
 
 -- the tests of two keys for one another
 same_test : (k q c : ℕ) → c ≡ k → is_at (nat_cmp q) c ≡ is_at (nat_cmp k) q

@@ -1,8 +1,5 @@
 -- What a cell reaches, step by step.
-use Rattle.std.proofs.Common.{◌≡◌, ℕ, zero, suc, true, false, refl, ap, sym, ◌∙◌, inl, inr, ◌⊎◌}
-use Rattle.wi_parser.specs.Sheet.{Sheet, content_of, has_formula}
-use Rattle.wi_parser.specs.Reads.{content_reads}
-use Rattle.wi_graph.specs.Reach.{Walks, Reaches, reaches}
+use Rattle.wi_graph.proofs.Words.{◌≡◌, ℕ, zero, suc, true, false, refl, ap, sym, ◌∙◌, inl, inr, ◌⊎◌, Sheet, content_of, has_formula, content_reads, Walks, Reaches, reaches}
 use Rattle.wi_graph.proofs.Walks.{reader_formula}
 use Rattle.wi_graph.proofs.ReachTest.{reaches_true, true_reaches}
 

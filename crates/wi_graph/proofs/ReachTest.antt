@@ -1,11 +1,5 @@
 -- To reach is decided by a test.
-use Rattle.std.proofs.Common.{◌≡◌, ◌==◌, ℕ, zero, suc, ◌<◌, ◌≤◌, Bool, true, false, ◌&&◌, ◌||◌, List, [], ◌∷◌, filter, length, refl, sym, subst, arith, inl, inr, ◌⊎◌, eq-eqb}
-use Rattle.std.proofs.lemmas.Bool.{and_parts, and_from, or_cases, or_left, or_right, cases_lt, cases_Bool}
-use Rattle.std.specs.List.{list_any}
-use Rattle.wi_parser.specs.Sheet.{Sheet, content_of, has_formula, cells_with_formula}
-use Rattle.wi_parser.specs.Reads.{content_reads}
-use Rattle.wi_values.proofs.Lists.{keeps_few}
-use Rattle.wi_graph.specs.Reach.{Walks, Reaches, is_one_of, IsInCone, reaches_by, reaches, in_cone}
+use Rattle.wi_graph.proofs.Words.{◌≡◌, ◌==◌, ℕ, zero, suc, ◌<◌, ◌≤◌, Bool, true, false, ◌&&◌, ◌||◌, List, [], ◌∷◌, filter, length, refl, sym, subst, arith, inl, inr, ◌⊎◌, eq-eqb, and_parts, and_from, or_cases, or_left, or_right, cases_lt, cases_Bool, list_any, Sheet, content_of, has_formula, cells_with_formula, content_reads, keeps_few, Walks, Reaches, is_one_of, IsInCone, reaches_by, reaches, in_cone}
 use Rattle.wi_graph.proofs.Walks.{same_cell, found, formula_cell, reader_formula, shrinks, Same}
 
 -- the element that passes is one of the list

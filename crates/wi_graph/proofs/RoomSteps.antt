@@ -1,16 +1,6 @@
 -- Steps of taking an edit, and of taking it back.
-use Rattle.std.proofs.Common.{◌≡◌, ◌==◌, ◌+◌, ◌-◌, ◌<◌, ℕ, zero, suc, Bool, true, false, cond, not, List, [], ◌∷◌, take, get_or, length, Option, Some, None, IsSome, refl, ap, sym, ◌∙◌, arith, add-one}
-use Rattle.std.specs.Prelude.{if◌then◌else◌}
-use Rattle.std.specs.Option.{is_some, is_none, option_flatten}
-use Rattle.std.specs.Ordering.{nat_cmp}
-use Rattle.std.specs.BTreeMap.{is_at}
-use Rattle.smallvec.specs.SmallVec.{SmallVec}
-use Rattle.wi_values.specs.Address.{Area}
-use Rattle.wi_tiles.specs.Entries.{get, IsOrdered}
-use Rattle.wi_ranges.specs.declared.pair.RangePair.{RangePair}
-use Rattle.wi_ranges.specs.Bag.{Bag, pair_for, is_same, count_of, HasOneLess}
-use Rattle.wi_ranges.proofs.Exact.{same_is}
-use Rattle.wi_graph.specs.Inner.Rooms.{Rooms, Coming, items_of, in_room, room_at, brought_to, coming_at, put_over, room_over, areas_of, times, times_in, times_coming, AreInOrder, HasRooms, HasPairs, HasBoth}
+use Rattle.wi_graph.proofs.Words.{◌≡◌, ◌==◌, ◌+◌, ◌-◌, ◌<◌, ℕ, zero, suc, Bool, true, false, cond, not, List, [], ◌∷◌, take, get_or, length, Option, Some, None, IsSome, refl, ap, sym, ◌∙◌, arith, add-one, if◌then◌else◌, is_none, option_flatten, nat_cmp, is_at, SmallVec, Area, get, IsOrdered, RangePair, Bag, pair_for, is_same, count_of, HasOneLess, same_is, Rooms, Coming, items_of, in_room, room_at, brought_to, coming_at, put_over, room_over, areas_of, times, times_in, times_coming, AreInOrder, HasRooms, HasPairs, HasBoth}
+use Rattle.std.specs.Option.{is_some}
 use Rattle.wi_graph.proofs.Tests.{is_at-eq, is_itself}
 use Rattle.wi_graph.proofs.Walks.{same_cell}
 

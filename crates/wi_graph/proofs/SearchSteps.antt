@@ -1,28 +1,6 @@
 -- Steps of a search over readers.
-use Rattle.std.proofs.Common.{◌≡◌, ◌==◌, ◌||◌, ◌⊎◌, inl, inr, not, ℕ, zero, suc, ◌+◌, ◌<◌, ◌↔◌, Bool, true, false, cond, List, [], ◌∷◌, ◌++◌, map, length, take, get_or, Some, Result, Ok, Err, IfOk, refl, ap, sym, ◌∙◌, subst, arith}
-use Rattle.std.proofs.Math.Bool.{or-false, or_assoc}
-use Rattle.std.proofs.lemmas.List.Folds.{list_any-append}
-use Rattle.std.proofs.lemmas.Bool.{or_cases, or_left, or_right, cases_Bool, not-true, not_from_false}
-use Rattle.std.proofs.lemmas.List.{length-append}
-use Rattle.std.specs.Global.{Vec}
-use Rattle.std.specs.List.{list_any, Contains}
-use Rattle.std.specs.Map.{lookup}
-use Rattle.std.specs.Option.{unwrap_or}
-use Rattle.std.specs.Ordering.{nat_cmp}
-use Rattle.std.specs.BTreeMap.{is_at}
-use Rattle.std.specs.BTreeSet.{BTreeSet, contains}
-use Rattle.std.specs.List.Sorted.{IsStrictlyIncreasing}
-use Rattle.wi_parser.specs.Sheet.{Sheet, content_of}
-use Rattle.wi_parser.specs.Reads.{content_reads}
-use Rattle.wi_ranges.specs.declared.pair.RangePair.{RangePair}
-use Rattle.wi_ranges.specs.Bag.{Bag, IsReader, IsRead, is_same, count_of}
-use Rattle.wi_ranges.proofs.Exact.{same_is}
-use Rattle.wi_graph.specs.Reach.{is_one_of, in_cone}
-use Rattle.wi_graph.specs.Inner.Search.{HasAll, HasReaders, GoesToReaders, IsLeast, IsConeOf, as_set, missing, AreNoted}
+use Rattle.wi_graph.proofs.Words.{◌≡◌, ◌==◌, ◌||◌, ◌⊎◌, inl, inr, not, ℕ, zero, suc, ◌+◌, ◌<◌, ◌↔◌, Bool, true, false, cond, List, [], ◌∷◌, ◌++◌, map, length, take, get_or, Some, Result, Ok, Err, IfOk, refl, ap, sym, ◌∙◌, subst, arith, or-false, or_assoc, list_any-append, or_cases, or_left, or_right, cases_Bool, not-true, not_from_false, length-append, Vec, list_any, Contains, lookup, unwrap_or, nat_cmp, is_at, BTreeSet, contains, IsStrictlyIncreasing, Sheet, content_of, content_reads, RangePair, Bag, IsReader, IsRead, is_same, count_of, same_is, is_one_of, in_cone, HasAll, HasReaders, GoesToReaders, IsLeast, IsConeOf, as_set, missing, AreNoted, filter_agree, one_truth, taken_more}
 use Rattle.wi_graph.proofs.Tests.{is_itself, clash, turned}
-use Rattle.std.proofs.lemmas.List.Elements.{filter_agree}
-use Rattle.std.specs.Cmp.Derive.{one_truth}
-use Rattle.wi_values.proofs.Lists.{taken_more}
 use Rattle.wi_graph.proofs.Walks.{same_cell, shrinks, Same}
 use Rattle.wi_graph.proofs.SetSteps.{in_last, in_front, in_back, Gains, gains, gains_stays, gains_one, gains_cases, taken}
 use Rattle.wi_graph.proofs.Cones.{cone_has, cone_closed, cone_least}

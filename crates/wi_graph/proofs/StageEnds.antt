@@ -1,17 +1,5 @@
 -- An edit is staged, or refused.
-use Rattle.std.proofs.Common.{◌≡◌, ℕ, Bool, ◌&&◌, ◌||◌, List, not, Option, Some, None, option_map, IfSome, IfNone, refl, ap, sym, ◌∙◌}
-use Rattle.std.specs.Ordering.{nat_cmp}
-use Rattle.std.specs.BTreeSet.{BTreeSet, contains}
-use Rattle.wi_tiles.specs.Entries.{IsOrdered}
-use Rattle.wi_parser.specs.declared.content.Content.{Content}
-use Rattle.wi_ranges.specs.Bag.{Bag}
-use Rattle.wi_graph.specs.Reach.{is_one_of}
-use Rattle.wi_graph.specs.Edges.{Edges, Staging, staging, edges_after}
-use Rattle.wi_graph.specs.declared.graph.Staged.{Staged}
-use Rattle.wi_graph.specs.declared.turning.Turns.{Turns}
-use Rattle.wi_graph.specs.Inner.Rooms.{Rooms, Coming, brought_to, room_at, put_over, room_over, edges_in, edges_over, AreInOrder, HasRooms, HasPairs, HasBoth, less_these, IsGraph, IsStaged}
-use Rattle.wi_graph.specs.Inner.Changes.{ReadsStay}
-use Rattle.wi_graph.specs.Inner.Turning.{turned_by, AreTurns}
+use Rattle.wi_graph.proofs.Words.{◌≡◌, ℕ, Bool, ◌&&◌, ◌||◌, List, not, Option, Some, None, option_map, IfSome, IfNone, refl, ap, sym, ◌∙◌, nat_cmp, BTreeSet, contains, IsOrdered, Content, Bag, is_one_of, Edges, Staging, staging, edges_after, Staged, Turns, Rooms, Coming, brought_to, room_at, put_over, room_over, edges_in, edges_over, AreInOrder, HasRooms, HasPairs, HasBoth, less_these, IsGraph, IsStaged, ReadsStay, turned_by, AreTurns}
 use Rattle.wi_graph.proofs.ChangeSteps.{stay_edges, edges_stay}
 use Rattle.wi_graph.proofs.SetSteps.{AreNew, came_before}
 use Rattle.wi_graph.proofs.GraphEnds.{view_of, circles_over}

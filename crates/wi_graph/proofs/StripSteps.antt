@@ -1,21 +1,9 @@
 -- Steps of stripping.
-use Rattle.std.proofs.Common.{◌≡◌, ◌==◌, ◌&&◌, ◌||◌, ◌⊎◌, inl, inr, not, nat_le, ℕ, ◌≤◌, Bool, true, false, cond, List, [], ◌∷◌, ◌++◌, Option, Some, None, refl, ap, sym, ◌∙◌, arith}
-use Rattle.std.proofs.Math.Bool.{or-false}
-use Rattle.std.proofs.lemmas.Bool.{or_cases, or_left, or_right, and_parts, and_from, false_from_ne_true, not-true, not_from_false, le-leb}
-use Rattle.std.proofs.lemmas.List.Folds.{list_any-append}
-use Rattle.std.specs.Map.{lookup}
-use Rattle.std.specs.Ordering.{nat_cmp}
-use Rattle.std.specs.Global.{Vec}
-use Rattle.std.specs.BTreeMap.{BTreeMap, get, is_at}
-use Rattle.std.specs.BTreeSet.{BTreeSet, contains, difference}
-use Rattle.wi_values.specs.Address.{Area, row_of, is_within}
-use Rattle.wi_graph.specs.Reach.{is_one_of}
-use Rattle.wi_graph.specs.Inner.Within.{IsAhead, IsFoundBy}
-use Rattle.wi_graph.specs.Inner.Stripping.{items_there, is_in, reads_in, waiting_for, waits_for, KeepsReads, ReadsOne, EachReadsOne, AreStripped, IsWithin, Waits, IsTracking, IsFree}
+use Rattle.wi_graph.proofs.Words.{◌≡◌, ◌==◌, ◌&&◌, ◌||◌, ◌⊎◌, inl, inr, not, nat_le, ℕ, ◌≤◌, Bool, true, false, cond, List, [], ◌∷◌, ◌++◌, Option, Some, None, refl, ap, sym, ◌∙◌, arith, or-false, or_cases, or_left, or_right, and_parts, and_from, false_from_ne_true, not-true, not_from_false, le-leb, list_any-append, lookup, nat_cmp, Vec, BTreeMap, is_at, BTreeSet, contains, difference, Area, row_of, is_within, is_one_of, IsAhead, IsFoundBy, items_there, is_in, reads_in, waiting_for, waits_for, KeepsReads, ReadsOne, EachReadsOne, AreStripped, IsWithin, Waits, IsTracking, IsFree, within_between}
+use Rattle.std.specs.BTreeMap.{get}
 use Rattle.wi_graph.proofs.Tests.{turn_test, is_at-eq, is_itself, clash}
 use Rattle.wi_graph.proofs.Walks.{same_cell}
 use Rattle.wi_graph.proofs.SetSteps.{in_last, in_front, in_back, in_difference, Loses, loses_others, loses_one, keeps_others}
-use Rattle.wi_values.proofs.Within.{within_between}
 
 -- ---- the start
 

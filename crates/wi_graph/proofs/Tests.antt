@@ -1,10 +1,6 @@
 -- The test for a cell in the words of std's maps.
-use Rattle.std.proofs.Common.{◌≡◌, ◌==◌, ◌||◌, ℕ, Bool, true, false, List, [], ◌∷◌, refl, ap, ◌∙◌}
-use Rattle.std.specs.List.{list_any}
-use Rattle.std.specs.Ordering.{nat_cmp}
-use Rattle.std.specs.BTreeMap.{is_at}
+use Rattle.wi_graph.proofs.Words.{◌≡◌, ◌==◌, ◌||◌, ℕ, Bool, true, false, List, [], ◌∷◌, refl, ap, ◌∙◌, list_any, nat_cmp, is_at, is_one_of}
 pub use Rattle.wi_values.proofs.Order.{is_itself, turn_test, is_at-eq, at_same, at_itself}
-use Rattle.wi_graph.specs.Reach.{is_one_of}
 
 -- a test has one answer
 pub clash : {A : Type 0} (b : Bool) → b ≡ true → b ≡ false → A

@@ -1,33 +1,11 @@
 -- Steps to the cells of a cone that are circular after an edit.
-use Rattle.std.proofs.Common.{◌≡◌, ◌==◌, ◌+◌, ◌<◌, ℕ, Bool, true, false, ◌&&◌, ◌||◌, cond, not, List, [], filter, take, get_or, length, Option, Some, refl, ap, sym, ◌∙◌}
-use Rattle.std.proofs.lemmas.Bool.{and_parts, and_from, not-true}
-use Rattle.std.proofs.lemmas.Map.Views.{any-filter_same}
-use Rattle.std.specs.List.{list_any}
-use Rattle.std.specs.Map.{keys_of}
-use Rattle.std.specs.Ordering.{nat_cmp}
-use Rattle.std.specs.Global.{Vec}
-use Rattle.std.specs.BTreeMap.{BTreeMap, get, is_at}
-use Rattle.std.specs.BTreeSet.{BTreeSet, contains, difference}
-use Rattle.wi_values.specs.Address.{Area, is_within}
-use Rattle.wi_tiles.specs.Entries.{IsOrdered}
-use Rattle.wi_parser.specs.Sheet.{Sheet, content_of}
-use Rattle.wi_parser.specs.Reads.{content_reads}
-use Rattle.wi_ranges.specs.Bag.{Bag}
-use Rattle.wi_graph.specs.Circular.{circular}
-use Rattle.wi_graph.specs.Reach.{is_one_of, in_cone}
-use Rattle.wi_graph.specs.Edges.{AreEdgesOf, areas_in}
-use Rattle.wi_graph.specs.declared.turning.Turns.{Turns}
-use Rattle.wi_graph.specs.Inner.Changes.{areas_then, ReadsStay, IsEditCone, went_from}
-use Rattle.wi_graph.specs.Inner.Rooms.{Rooms, Coming, AreInOrder, brought_to, put_over, items_of, room_at, room_over, edges_in, areas_of, HasPairs, AreCircles, IsGraph}
-use Rattle.wi_graph.specs.Inner.Search.{as_set, IsConeOf}
-use Rattle.wi_graph.specs.Inner.Stripping.{items_there, reads_in, EachReadsOne, AreStripped, IsWithin}
-use Rattle.wi_graph.specs.Inner.Turning.{reads_outside, turned_by, AreTurns, SettlesCone}
+use Rattle.wi_graph.proofs.Words.{◌≡◌, ◌==◌, ◌+◌, ◌<◌, ℕ, Bool, true, false, ◌&&◌, ◌||◌, cond, not, List, [], filter, take, get_or, length, Option, Some, refl, ap, sym, ◌∙◌, and_parts, and_from, not-true, any-filter_same, list_any, keys_of, nat_cmp, Vec, BTreeMap, is_at, BTreeSet, contains, difference, Area, is_within, IsOrdered, Sheet, content_of, content_reads, Bag, circular, is_one_of, in_cone, AreEdgesOf, areas_in, Turns, areas_then, ReadsStay, IsEditCone, went_from, Rooms, Coming, AreInOrder, brought_to, put_over, items_of, room_at, room_over, edges_in, areas_of, HasPairs, AreCircles, IsGraph, as_set, IsConeOf, items_there, reads_in, EachReadsOne, AreStripped, IsWithin, reads_outside, turned_by, AreTurns, SettlesCone, Ascends-from_order}
+use Rattle.std.specs.BTreeMap.{get}
 use Rattle.wi_graph.proofs.Tests.{is_at-eq, clash, turned}
 use Rattle.wi_graph.proofs.Walks.{same_cell}
 use Rattle.wi_graph.proofs.SetSteps.{in_difference, taken}
 use Rattle.wi_graph.proofs.SearchSteps.{found_cone}
 use Rattle.wi_graph.proofs.HeldSteps.{held_finds, finds_held, held_test}
-use Rattle.wi_values.proofs.Order.{Ascends-from_order}
 use Rattle.wi_graph.proofs.EdgeLemmas.{areas_rooms}
 use Rattle.wi_graph.proofs.ComingSteps.{found_longer}
 use Rattle.wi_graph.proofs.ChangeSteps.{then_sheet, then_contents, then_same}

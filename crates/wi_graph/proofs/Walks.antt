@@ -1,17 +1,5 @@
 -- Walks between formulas: one that is as long as there are formulas has no end.
-use Rattle.std.proofs.Common.{◌≡◌, ◌==◌, ℕ, zero, suc, ◌+◌, ◌<◌, ◌≤◌, Bool, true, false, ◌&&◌, ◌||◌, cond, List, [], ◌∷◌, filter, map, get_or, Option, Some, None, length, refl, ap, sym, ◌∙◌, subst, arith, inl, inr, ◌⊎◌, eq-eqb}
-use Rattle.std.proofs.lemmas.Bool.{and_parts, and_from, or_cases, or_left, or_right, cases_lt, eqb-true}
-use Rattle.std.proofs.lemmas.List.{nil_from_length}
-use Rattle.std.proofs.lemmas.List.Folds.{Any-from_list_any, list_any_at, list_any-append}
-use Rattle.std.proofs.lemmas.List.Sums.{AllPass-from_list_all, list_all-from_AllPass}
-use Rattle.std.specs.List.{list_any, list_all}
-use Rattle.std.specs.Cmp.Derive.{one_truth}
-use Rattle.wi_parser.specs.declared.content.Content.{Content}
-use Rattle.wi_parser.specs.declared.content.Content.TheVariants.{Constant, Formula}
-use Rattle.wi_parser.specs.Sheet.{Sheet, content_of, has_formula, cells_with_formula}
-use Rattle.wi_parser.specs.Reads.{content_reads}
-use Rattle.wi_graph.specs.Circular.{sublists, circular}
-use Rattle.wi_graph.specs.Inner.Walks.{has_walk}
+use Rattle.wi_graph.proofs.Words.{◌≡◌, ◌==◌, ℕ, zero, suc, ◌+◌, ◌<◌, ◌≤◌, Bool, true, false, ◌&&◌, ◌||◌, cond, List, [], ◌∷◌, filter, map, get_or, Option, Some, None, length, refl, ap, sym, ◌∙◌, subst, arith, inl, inr, ◌⊎◌, eq-eqb, and_parts, and_from, or_cases, or_left, or_right, cases_lt, eqb-true, nil_from_length, Any-from_list_any, list_any_at, list_any-append, AllPass-from_list_all, list_all-from_AllPass, list_any, list_all, one_truth, Content, Constant, Formula, Sheet, content_of, has_formula, cells_with_formula, content_reads, sublists, circular, has_walk}
 use Rattle.wi_graph.proofs.Layers.{is_one_of, layer, layer_zero, in_layer, has_walk_more, walker_has_formula}
 
 pub same_cell : (a k : ℕ) → (k == a) ≡ true → k ≡ a

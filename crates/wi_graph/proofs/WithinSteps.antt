@@ -1,23 +1,5 @@
 -- A search for the cells of a set, or of a list, in a rectangle.
-use Rattle.std.proofs.Common.{◌≡◌, ◌⊎◌, inl, inr, ◌&&◌, ℕ, zero, suc, ◌+◌, ◌-◌, ◌<◌, ◌≤◌, true, false, List, [], ◌∷◌, length, get_or, Option, Some, None, IfSome, ap, sym, ◌∙◌, subst, arith, ltb-true, ltb-false}
-use Rattle.std.proofs.Math.Arith.{lt_of_le-ne}
-use Rattle.std.proofs.lemmas.Bool.{or_cases, or_left, or_right, and_parts, and_from, cases_lt}
-use Rattle.std.proofs.lemmas.Bool.Decides.{nat_tests}
-use Rattle.std.proofs.lemmas.List.{get_or_default}
-use Rattle.std.proofs.lemmas.List.Sorted.{IsNonDecreasingBy-from_default}
-use Rattle.std.specs.List.{list_any}
-use Rattle.std.specs.List.Sorted.{IsStrictlyIncreasing, IsNonDecreasing, IsPartitionPoint}
-use Rattle.std.specs.Prelude.{nat_lt}
-use Rattle.std.specs.Ordering.{nat_cmp}
-use Rattle.std.specs.BTreeMap.{is_at}
-use Rattle.std.specs.BTreeMap.Range.{IsLeBy}
-use Rattle.std.specs.BTreeSet.{BTreeSet, contains, IsKeyRangeOf}
-use Rattle.std.specs.declared.ops.Bound.TheVariants.{Included}
-use Rattle.wi_values.specs.Address.{Area, is_within}
-use Rattle.wi_values.proofs.Within.{within_between}
-use Rattle.wi_graph.specs.Inner.Bounds.{AreWithin}
-use Rattle.wi_graph.specs.Inner.Search.{as_set}
-use Rattle.wi_graph.specs.Inner.Within.{IsAhead, IsBetween, IsFoundBy}
+use Rattle.wi_graph.proofs.Words.{◌≡◌, ◌⊎◌, inl, inr, ◌&&◌, ℕ, zero, suc, ◌+◌, ◌-◌, ◌<◌, ◌≤◌, true, false, List, [], ◌∷◌, length, get_or, Option, Some, None, IfSome, ap, sym, ◌∙◌, subst, arith, ltb-true, ltb-false, lt_of_le-ne, or_cases, or_left, or_right, and_parts, and_from, cases_lt, nat_tests, get_or_default, IsNonDecreasingBy-from_default, list_any, IsStrictlyIncreasing, IsNonDecreasing, IsPartitionPoint, nat_lt, nat_cmp, is_at, IsLeBy, BTreeSet, contains, IsKeyRangeOf, Included, Area, is_within, within_between, AreWithin, as_set, IsAhead, IsBetween, IsFoundBy}
 use Rattle.wi_graph.proofs.Tests.{clash, at_same, at_itself}
 
 -- ---- the first of a range

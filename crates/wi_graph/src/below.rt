@@ -137,7 +137,11 @@ fn push_read(
 }
 
 /// The same of the rectangles of a room.
-fn push_room(room: &Option<Rectangles>, cell: Address, ahead: &mut Ahead) -> Result<bool, AllocError>
+fn push_room(
+    room: &Option<Rectangles>,
+    cell: Address,
+    ahead: &mut Ahead,
+) -> Result<bool, AllocError>
     ensures { IfOk result (λ clear. IsTrue clear
         → HasAreas cell (areas_of (items_of room.now)) ahead.old.items ahead.new.items) }
 {

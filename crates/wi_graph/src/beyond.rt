@@ -89,11 +89,7 @@ fn note_unwatched<W: Watch>(
 }
 
 /// Those of the cells that aren't watched.
-fn unwatched<W: Watch>(
-    alloc: Global,
-    cells: &[Address],
-    watch: &W,
-) -> Result<Cells, AllocError>
+fn unwatched<W: Watch>(alloc: Global, cells: &[Address], watch: &W) -> Result<Cells, AllocError>
     ensures { IfOk result (λ list. list.items ≡ beyond (W.watched watch.now) cells.now) }
 {
     cells

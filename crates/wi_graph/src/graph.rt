@@ -165,11 +165,7 @@ impl Graph {
 
     /// What `cone` answers but for cells that are watched, where each that reads a watched cell is watched. The work grows with the count of
     /// the cells that it tells and that of their readers, times logarithms.
-    pub fn cone_beyond<W: Watch>(
-        &self,
-        cells: &[Address],
-        watch: &W,
-    ) -> Result<Cells, AllocError>
+    pub fn cone_beyond<W: Watch>(&self, cells: &[Address], watch: &W) -> Result<Cells, AllocError>
         requires staged { self.now.staged ≡ None }
         requires closed { (s : Sheet) → AreEdgesOf self.now.now s
             → IsClosedUp s (W.watched watch.now) }

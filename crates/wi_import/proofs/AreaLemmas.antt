@@ -1,11 +1,5 @@
 -- The rectangles of records, as the code goes through them.
-use Rattle.std.proofs.Common.{◌≡◌, ◌==◌, ℕ, suc, ◌+◌, ◌-◌, ◌<◌, ◌≤◌, min, max, List, [], ◌∷◌, ◌++◌, length, drop, get_or, Option, Some, None, false, refl, sym, ap, ◌∙◌, arith, Vec}
-use Rattle.std.specs.declared.alloc.Global.{Global}
-use Rattle.std.proofs.lemmas.List.{at_drop_more, length-map, append_assoc, append-nil, drop_all}
-use Rattle.std.proofs.lemmas.Nat.{div-mul-add, mod-mul-add}
-use Rattle.wi_values.specs.Address.{Area, columns, place, row_of, column_of, rect_of}
-use Rattle.wi_import.specs.Fields.{area_of_record, areas_from}
-use Rattle.wi_import.specs.Inner.Records.{bytes_of, all_bytes}
+use Rattle.wi_import.proofs.Words.{◌≡◌, ◌==◌, ℕ, suc, ◌+◌, ◌-◌, ◌<◌, ◌≤◌, min, max, List, [], ◌∷◌, ◌++◌, length, drop, get_or, Option, Some, None, false, refl, sym, ap, ◌∙◌, arith, Vec, Global, at_drop_more, length-map, append_assoc, append-nil, drop_all, div-mul-add, mod-mul-add, Area, columns, place, row_of, column_of, rect_of, area_of_record, areas_from, bytes_of, all_bytes}
 
 abbrev pub area_before : Option Area → List Area → List Area
 area_before None areas = areas

@@ -1,28 +1,5 @@
 -- The fields of records, as the code goes through them.
-use Rattle.std.proofs.Common.{◌≡◌, ◌==◌, ℕ, suc, ◌+◌, ◌<◌, ◌≤◌, nat_le, nat_lt, Bool, true, false, not, ◌||◌, if◌then◌else◌, List, [], ◌∷◌, ◌++◌, map, length, drop, get_or, Option, Some, None, is_some, Result, Ok, Err, MatchResult, is_ok, is_err, IsOk, refl, sym, ap, ◌∙◌, arith, Vec, IsUtf8, codes}
-use Rattle.std.specs.declared.alloc.Global.{Global}
-use Rattle.std.specs.List.{list_any}
-use Rattle.std.specs.Str.{bytes_eq, is_utf8}
-use Rattle.std.proofs.Math.Bool.{or-false}
-use Rattle.std.proofs.lemmas.Bool.Decides.{nat_tests}
-use Rattle.std.proofs.lemmas.List.{at_drop_more, length-map, map-append, append_assoc, append-nil, drop_all}
-use Rattle.std.proofs.lemmas.List.Folds.{list_any-append}
-use Rattle.std.proofs.lemmas.Slice.Eq.{bytes_eq-Decides}
-use Rattle.std.proofs.lemmas.Str.{IsUtf8-from_is_utf8, is_utf8-from_IsUtf8}
-use Rattle.std.proofs.lemmas.Bool.{or_parts, not-false}
-use Rattle.wi_fraction.specs.Number.{Number as Numbers}
-use Rattle.wi_fraction.specs.Inner.Reading.{read}
-use Rattle.wi_values.specs.Address.{rows, columns, place}
-use Rattle.wi_values.specs.Import.{max_text}
-use Rattle.wi_values.specs.Inner.Import.{imported, number_or, words_value, field_value}
-use Rattle.wi_values.specs.declared.value.Value.{Value}
-use Rattle.wi_values.specs.declared.value.Value.TheVariants.{Empty, Text, Logical}
-use Rattle.wi_parser.specs.Sheet.{constant}
-use Rattle.wi_parser.specs.declared.content.Content.{Content}
-use Rattle.wi_parser.specs.declared.content.Content.TheVariants.{Constant}
-use Rattle.wi_import.specs.Fields.{Field, fields_of, fields_from}
-use Rattle.wi_import.specs.Inner.Reading.{is_bad, is_too_long, is_outside, first_fault, fault_among, change_of, content_for, content_of}
-use Rattle.wi_import.specs.Inner.Records.{bytes_of, all_bytes, is_faulty}
+use Rattle.wi_import.proofs.Words.{◌≡◌, ◌==◌, ℕ, suc, ◌+◌, ◌<◌, ◌≤◌, nat_le, nat_lt, Bool, true, false, not, ◌||◌, if◌then◌else◌, List, [], ◌∷◌, ◌++◌, map, length, drop, get_or, Option, Some, None, is_some, Result, Ok, Err, MatchResult, is_ok, is_err, IsOk, refl, sym, ap, ◌∙◌, arith, Vec, IsUtf8, codes, Global, list_any, bytes_eq, is_utf8, or-false, nat_tests, at_drop_more, length-map, map-append, append_assoc, append-nil, drop_all, list_any-append, bytes_eq-Decides, IsUtf8-from_is_utf8, is_utf8-from_IsUtf8, or_parts, not-false, Number as Numbers, read, rows, columns, place, max_text, imported, number_or, words_value, field_value, Value, Empty, Text, Logical, constant, Content, Constant, Field, fields_of, fields_from, is_bad, is_too_long, is_outside, first_fault, fault_among, change_of, content_for, content_of, bytes_of, all_bytes, is_faulty}
 
 -- ---- tests of bytes alone
 

@@ -1,25 +1,6 @@
 -- What imports of fields come to: what the function finds, and nothing else.
-use Rattle.std.proofs.Common.{◌≡◌, ◌↔◌, ℕ, nat_le, Bool, true, false, not, ◌||◌, List, [], ◌∷◌, map, get_or, Option, Some, None, is_some, option_map, Result, Ok, Err, refl, sym, ap, ◌∙◌, subst, arith, IsUtf8, All}
-use Rattle.std.specs.List.{AllZip, list_any}
-use Rattle.std.specs.Str.{is_utf8}
-use Rattle.std.proofs.lemmas.Bool.Decides.{nat_tests}
-use Rattle.std.proofs.lemmas.List.Folds.{list_any_none, Any-from_list_any, list_any-from_Any}
-use Rattle.std.proofs.lemmas.Str.{IsUtf8-from_is_utf8, is_utf8-from_IsUtf8}
-use Rattle.std.proofs.lemmas.Bool.{or_parts, not-false}
-use Rattle.wi_fraction.specs.Number.{Number as Numbers}
-use Rattle.wi_fraction.specs.Inner.Reading.{read}
-use Rattle.wi_values.specs.Address.{rows, columns}
-use Rattle.wi_values.specs.Imported.{IsImported, a_number, a_truth_value, a_text, too_long as too_long_text}
-use Rattle.wi_values.specs.Inner.Import.{imported, field_value, number_or}
-use Rattle.wi_values.proofs.Imports.{imported_exactly}
-use Rattle.wi_values.proofs.Lists.{each_fails, Any-weaker}
-use Rattle.wi_values.specs.declared.value.Value.{Value}
-use Rattle.wi_parser.specs.declared.content.Content.{Content}
-use Rattle.wi_parser.specs.declared.content.Content.TheVariants.{Constant}
-use Rattle.wi_import.specs.declared.fault.ImportFault.{ImportFault}
-use Rattle.wi_import.specs.Fields.{Field, IsInside}
-use Rattle.wi_import.specs.Imports.{IsFieldContent, no_content, a_constant, IsChange, AreChanges, IsFault, bad_field, too_long, out_of_sheet, IsImport}
-use Rattle.wi_import.specs.Inner.Reading.{is_bad, is_too_long, is_outside, content_for, content_of, change_of, first_fault, fault_among, unless_fault, import_of, field_cell, IsText}
+use Rattle.wi_import.proofs.Words.{◌≡◌, ◌↔◌, ℕ, nat_le, Bool, true, false, not, ◌||◌, List, [], ◌∷◌, map, get_or, Option, Some, None, is_some, option_map, Result, Ok, Err, refl, sym, ap, ◌∙◌, subst, arith, IsUtf8, All, AllZip, list_any, is_utf8, nat_tests, list_any_none, Any-from_list_any, list_any-from_Any, IsUtf8-from_is_utf8, is_utf8-from_IsUtf8, or_parts, not-false, Number as Numbers, read, rows, columns, IsImported, a_number, a_truth_value, a_text, imported, field_value, number_or, imported_exactly, each_fails, Any-weaker, Value, Content, Constant, ImportFault, Field, IsInside, IsFieldContent, no_content, a_constant, IsChange, AreChanges, IsFault, bad_field, too_long, out_of_sheet, IsImport, is_bad, is_too_long, is_outside, content_for, content_of, change_of, first_fault, fault_among, unless_fault, import_of, field_cell, IsText}
+use Rattle.wi_values.specs.Imported.{too_long as too_long_text}
 
 abbrev Outcome : Type 0
 Outcome = Result (List (ℕ × Option Content)) ImportFault

@@ -1,6 +1,6 @@
 -- Where the fields of two records go, the first for the cell C5.
 use Rattle.std.specs.Prelude.{◌≡◌, ℕ, List, [], ◌∷◌, codes, refl}
-use Rattle.wi_import.specs.Fields.{Field, fields_from}
+use Rattle.wi_import.proofs.Words.{Field, fields_from}
 
 -- `a` and an empty field, and below them `=1+1` alone
 abbrev two_records : List (List (List ℕ))

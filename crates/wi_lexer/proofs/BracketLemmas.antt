@@ -1,15 +1,5 @@
 -- What stands between `[.` and the first `]`.
-use Rattle.std.proofs.Common.{◌≡◌, ℕ, suc, ◌+◌, ◌-◌, ◌<◌, ◌≤◌, Bool, true, false, cond, ◌&&◌, ◌==◌, List, [], ◌∷◌, ◌++◌, length, take, drop, get_or, Option, Some, None, is_some, refl, sym, ap, ◌∙◌, arith, append_assoc, length-append}
-use Rattle.std.specs.Prelude.{nat_lt, slice_index}
-use Rattle.std.proofs.lemmas.Bool.{eqb-true, ltb-true, ltb-false, lt-ltb, and_parts}
-use Rattle.std.proofs.lemmas.Bool.Decides.{nat_tests}
-use Rattle.std.proofs.lemmas.List.{take_more, get_or_push, get_or-take}
-use Rattle.std.proofs.Math.Seq.{take-length, take-append_seam}
-use Rattle.std.specs.List.{list_all}
-use Rattle.std.specs.Char.{is_ascii_digit, is_ascii_alphabetic}
-use Rattle.wi_lexer.specs.Inner.Runs.{is_inside, inside_len}
-use Rattle.wi_lexer.specs.Cell.{Cell, IsCell, cell_text}
-use Rattle.wi_lexer.specs.Inner.Reference.{inside, is_bracketed}
+use Rattle.wi_lexer.proofs.Words.{◌≡◌, ℕ, suc, ◌+◌, ◌-◌, ◌<◌, ◌≤◌, Bool, true, false, cond, ◌&&◌, ◌==◌, List, [], ◌∷◌, ◌++◌, length, take, drop, get_or, Option, Some, None, is_some, refl, sym, ap, ◌∙◌, arith, append_assoc, length-append, nat_lt, slice_index, eqb-true, ltb-true, ltb-false, lt-ltb, and_parts, nat_tests, take_more, get_or_push, get_or-take, take-length, take-append_seam, list_all, is_ascii_digit, is_ascii_alphabetic, is_inside, inside_len, Cell, IsCell, cell_text, inside, is_bracketed}
 use Rattle.wi_lexer.proofs.RunLemmas.{run_more}
 use Rattle.wi_lexer.proofs.CellLemmas.{cell_all}
 

@@ -1,17 +1,5 @@
 -- What a loop over `next_token` collects: the tokens of the text.
-use Rattle.std.proofs.Common.{◌≡◌, ℕ, zero, suc, ◌<◌, ◌≤◌, true, false, List, [], ◌∷◌, ◌++◌, length, take, drop, Option, Some, None, Result, Ok, Err, refl, sym, ap, ◌∙◌, subst, arith, append_assoc, length-append, length-drop, append-nil}
-use Rattle.std.proofs.lemmas.List.{length-take-le}
-use Rattle.std.proofs.Math.Seq.{drop-append_seam, take-append_seam}
-use Rattle.wi_lexer.specs.declared.token.Kind.{Kind}
-use Rattle.wi_lexer.specs.declared.lexer.Token.{Token}
-use Rattle.wi_lexer.specs.declared.lexer.BadToken.{BadToken}
-use Rattle.wi_lexer.specs.Runs.{blanks_len}
-use Rattle.wi_lexer.specs.Token.{IsToken, NoToken, after_blanks}
-use Rattle.wi_lexer.specs.Inner.Token.{token_at}
-use Rattle.wi_lexer.specs.Scan.{Scan}
-use Rattle.wi_lexer.specs.Lexing.{start_of, ahead, IsNextToken, IsDone, Lexes}
-use Rattle.wi_lexer.specs.Tokens.{Tokens, no_tokens, bad_token, then_tokens}
-use Rattle.wi_lexer.specs.Inner.Tokens.{tokens_from, tokens_ahead, tokens_within, tokens}
+use Rattle.wi_lexer.proofs.Words.{◌≡◌, ℕ, zero, suc, ◌<◌, ◌≤◌, true, false, List, [], ◌∷◌, ◌++◌, length, take, drop, Option, Some, None, Result, Ok, Err, refl, sym, ap, ◌∙◌, subst, arith, append_assoc, length-append, length-drop, append-nil, length-take-le, drop-append_seam, take-append_seam, Kind, Token, BadToken, blanks_len, IsToken, NoToken, after_blanks, token_at, Scan, start_of, ahead, IsNextToken, IsDone, Lexes, Tokens, no_tokens, bad_token, then_tokens, tokens_from, tokens_ahead, tokens_within, tokens}
 use Rattle.wi_lexer.proofs.TokenLemmas.{token_some, token_sound, token_complete, none_found}
 
 -- ---- the bound on the number of tokens is never felt

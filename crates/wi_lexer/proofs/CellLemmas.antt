@@ -1,16 +1,5 @@
 -- The parts of a cell are found exactly where the bytes are the text of one.
-use Rattle.std.proofs.Common.{◌≡◌, ℕ, ◌<◌, Bool, true, false, cond, ◌&&◌, ◌==◌, List, [], ◌∷◌, ◌++◌, length, take, drop, Some, None, refl, sym, ap, ◌∙◌, subst, arith}
-use Rattle.std.specs.Prelude.{nat_lt, slice_index}
-use Rattle.std.proofs.lemmas.Bool.{eqb-true, ltb-true, lt-ltb, and_parts}
-use Rattle.std.proofs.lemmas.Bool.Decides.{nat_tests}
-use Rattle.std.proofs.lemmas.List.{take-append-drop}
-use Rattle.std.proofs.Math.Seq.{drop-append_seam, take-append_seam}
-use Rattle.std.specs.List.{list_all}
-use Rattle.std.specs.Char.{is_ascii_digit, is_ascii_alphabetic}
-use Rattle.wi_lexer.specs.Runs.{IsRun}
-use Rattle.wi_lexer.specs.Inner.Runs.{letters_len}
-use Rattle.wi_lexer.specs.Cell.{Cell, IsCell, dollar, cell_text}
-use Rattle.wi_lexer.specs.Inner.Cell.{begins_with_dollar, after_dollar, cut_row, cut_column, is_row, is_cell, if_cell, cut, cell_of}
+use Rattle.wi_lexer.proofs.Words.{◌≡◌, ℕ, ◌<◌, Bool, true, false, cond, ◌&&◌, ◌==◌, List, [], ◌∷◌, ◌++◌, length, take, drop, Some, None, refl, sym, ap, ◌∙◌, subst, arith, nat_lt, slice_index, eqb-true, ltb-true, lt-ltb, and_parts, nat_tests, take-append-drop, drop-append_seam, take-append_seam, list_all, is_ascii_digit, is_ascii_alphabetic, IsRun, letters_len, Cell, IsCell, dollar, cell_text, begins_with_dollar, after_dollar, cut_row, cut_column, is_row, is_cell, if_cell, cut, cell_of}
 use Rattle.wi_lexer.proofs.RunLemmas.{run_stops, run_more, run_all, all_append, all_wider}
 
 -- the text before and after a `$` that may stand first

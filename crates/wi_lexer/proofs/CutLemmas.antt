@@ -1,27 +1,6 @@
 -- A text may be cut after white space and after a token.
-use Rattle.std.proofs.Common.{◌≡◌, ℕ, zero, suc, ◌+◌, ◌-◌, ◌<◌, ◌≤◌, ℤ, true, List, [], ◌∷◌, ◌++◌, length, take, get_or, IsUtf8, sym, ap, ◌∙◌, subst, arith, length-append}
-use Rattle.std.specs.Str.{IsCharBoundary}
-use Rattle.std.specs.Char.{is_ascii_digit}
-use Rattle.std.specs.List.{flat_map}
-use Rattle.std.specs.Str.Parse.{IsNumeral}
-use Rattle.std.proofs.lemmas.Str.{IsCharBoundary-start, IsCharBoundary-after_ascii}
-use Rattle.std.proofs.lemmas.Bool.Decides.{nat_tests}
-use Rattle.std.proofs.lemmas.List.{get_or-append-add, get_or-take, length-take-le}
-use Rattle.std.proofs.lemmas.List.Sums.{AllPass-from_list_all, prefix_len_passes}
-use Rattle.wi_fraction.specs.Written.{WritesDigits, plain, point, WritesExponent, none, unsigned, plus, minus, IsWritten}
-use Rattle.wi_lexer.specs.Quoted.{doubled}
-use Rattle.wi_lexer.specs.declared.token.Kind.{Kind}
-use Rattle.wi_lexer.specs.declared.token.Kind.TheVariants.{Number, Reference, Rectangle, Name, Text, Mark}
+use Rattle.wi_lexer.proofs.Words.{◌≡◌, ℕ, zero, suc, ◌+◌, ◌-◌, ◌<◌, ◌≤◌, ℤ, true, List, [], ◌∷◌, ◌++◌, length, take, get_or, IsUtf8, sym, ap, ◌∙◌, subst, arith, length-append, IsCharBoundary, is_ascii_digit, flat_map, IsNumeral, IsCharBoundary-start, IsCharBoundary-after_ascii, nat_tests, get_or-append-add, get_or-take, length-take-le, AllPass-from_list_all, prefix_len_passes, WritesDigits, plain, point, WritesExponent, none, unsigned, plus, minus, IsWritten, doubled, Kind, Number, Reference, Rectangle, Name, Text, Mark, NotEqual, is_blank, blanks_len, cell_text, IsReference, one_cell, IsRectangle, two_cells, IsName, is_name_part, IsText, of_content, mark_text, IsToken, IsLongest}
 use Rattle.wi_lexer.specs.declared.token.Mark as mark
-use Rattle.wi_lexer.specs.declared.token.Mark.TheVariants.{NotEqual}
-use Rattle.wi_lexer.specs.Runs.{is_blank, blanks_len}
-use Rattle.wi_lexer.specs.Cell.{cell_text}
-use Rattle.wi_lexer.specs.Reference.{IsReference, one_cell}
-use Rattle.wi_lexer.specs.Rectangle.{IsRectangle, two_cells}
-use Rattle.wi_lexer.specs.Name.{IsName, is_name_part}
-use Rattle.wi_lexer.specs.Text.{IsText, of_content}
-use Rattle.wi_lexer.specs.Mark.{mark_text}
-use Rattle.wi_lexer.specs.Token.{IsToken, IsLongest}
 use Rattle.wi_lexer.proofs.RunLemmas.{run_within, digits_all}
 use Rattle.wi_lexer.proofs.NumberLemmas.{number_cases}
 use Rattle.wi_lexer.proofs.BracketLemmas.{bracketed}

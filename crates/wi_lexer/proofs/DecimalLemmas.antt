@@ -1,15 +1,5 @@
 -- The decimal found at the front is one, and no decimal there is longer.
-use Rattle.std.proofs.Common.{◌≡◌, ℕ, suc, ◌+◌, ◌<◌, ◌≤◌, Bool, true, false, cond, ◌&&◌, ◌==◌, ◌⊎◌, inl, inr, List, [], ◌∷◌, ◌++◌, length, take, drop, refl, sym, ap, ◌∙◌, subst, arith, append_assoc, length-append, length-drop}
-use Rattle.std.specs.Prelude.{nat_lt}
-use Rattle.std.proofs.lemmas.Bool.{eqb-true, ltb-true, lt-ltb}
-use Rattle.std.proofs.lemmas.List.{take-append-drop, length-take-le}
-use Rattle.std.proofs.Math.Seq.{drop-append_seam, take-append-add}
-use Rattle.std.specs.Char.{is_ascii_digit}
-use Rattle.std.specs.Str.Parse.{AllDigits, IsNumeral}
-use Rattle.wi_fraction.specs.Written.{WritesDigits, plain, point}
-use Rattle.wi_fraction.proofs.Scanning.{digits_before}
-use Rattle.wi_lexer.specs.Inner.Runs.{digits_len}
-use Rattle.wi_lexer.specs.Inner.Number.{decimals_len, decimal_len}
+use Rattle.wi_lexer.proofs.Words.{◌≡◌, ℕ, suc, ◌+◌, ◌<◌, ◌≤◌, Bool, true, false, cond, ◌&&◌, ◌==◌, ◌⊎◌, inl, inr, List, [], ◌∷◌, ◌++◌, length, take, drop, refl, sym, ap, ◌∙◌, subst, arith, append_assoc, length-append, length-drop, nat_lt, eqb-true, ltb-true, lt-ltb, take-append-drop, length-take-le, drop-append_seam, take-append-add, is_ascii_digit, AllDigits, IsNumeral, WritesDigits, plain, point, digits_before, digits_len, decimals_len, decimal_len}
 use Rattle.wi_lexer.proofs.RunLemmas.{run_within, run_more, digits_all}
 
 -- a point and digits stand at the front

@@ -1,32 +1,6 @@
 -- A token stays one where what follows doesn't go on with it.
-use Rattle.std.proofs.Common.{◌≡◌, ℕ, ◌<◌, Bool, true, false, cond, ◌||◌, ◌==◌, List, [], ◌∷◌, ◌++◌, length, drop, refl, sym, ap, ◌∙◌, subst, arith}
-use Rattle.std.specs.Prelude.{slice_index}
-use Rattle.std.proofs.lemmas.Bool.Decides.{nat_tests}
-use Rattle.std.specs.List.{list_all, prefix_len}
-use Rattle.std.specs.Char.{is_ascii_digit}
-use Rattle.std.proofs.lemmas.Bool.{and_parts, not-true}
-use Rattle.wi_fraction.specs.Written.{WritesDigits, plain, point, is_exponent_letter, IsWritten}
-use Rattle.wi_lexer.specs.Quoted.{quoted}
-use Rattle.wi_lexer.specs.declared.token.Kind.{Kind}
-use Rattle.wi_lexer.specs.declared.token.Kind.TheVariants.{Number, Reference, Rectangle, Name, Text, Mark}
+use Rattle.wi_lexer.proofs.Words.{◌≡◌, ℕ, ◌<◌, Bool, true, false, cond, ◌||◌, ◌==◌, List, [], ◌∷◌, ◌++◌, length, drop, refl, sym, ap, ◌∙◌, subst, arith, slice_index, nat_tests, list_all, prefix_len, is_ascii_digit, and_parts, not-true, WritesDigits, plain, point, is_exponent_letter, IsWritten, quoted, Kind, Number, Reference, Rectangle, Name, Text, Mark, NotEqual, Less, Greater, is_blank, IsRun, one_longer, decimals_len, decimal_len, signed_len, exponent_len, number_len, Cell, IsCell, cell_text, IsReference, one_cell, IsRectangle, two_cells, IsName, is_name_start, is_name_part, IsText, of_content, quoted_len, text_len, mark_text, two_byte_mark, one_byte_mark, mark_at, IsToken, after_blanks, token_at, then_tokens, tokens_ahead, tokens, ends}
 use Rattle.wi_lexer.specs.declared.token.Mark as mark
-use Rattle.wi_lexer.specs.declared.token.Mark.TheVariants.{NotEqual, Less, Greater}
-use Rattle.wi_lexer.specs.Runs.{is_blank, IsRun}
-use Rattle.wi_lexer.specs.Inner.Runs.{one_longer}
-use Rattle.wi_lexer.specs.Inner.Number.{decimals_len, decimal_len, signed_len, exponent_len, number_len}
-use Rattle.wi_lexer.specs.Cell.{Cell, IsCell, cell_text}
-use Rattle.wi_lexer.specs.Reference.{IsReference, one_cell}
-use Rattle.wi_lexer.specs.Rectangle.{IsRectangle, two_cells}
-use Rattle.wi_lexer.specs.Name.{IsName, is_name_start, is_name_part}
-use Rattle.wi_lexer.specs.Text.{IsText, of_content}
-use Rattle.wi_lexer.specs.Inner.Text.{quoted_len, text_len}
-use Rattle.wi_lexer.specs.Mark.{mark_text}
-use Rattle.wi_lexer.specs.Inner.Mark.{two_byte_mark, one_byte_mark, mark_at}
-use Rattle.wi_lexer.specs.Token.{IsToken, after_blanks}
-use Rattle.wi_lexer.specs.Inner.Token.{token_at}
-use Rattle.wi_lexer.specs.Tokens.{then_tokens}
-use Rattle.wi_lexer.specs.Inner.Tokens.{tokens_ahead, tokens}
-use Rattle.wi_lexer.specs.Inner.Ends.{ends}
 use Rattle.wi_lexer.proofs.RunLemmas.{run_stops, digits_all, digits_run}
 use Rattle.wi_lexer.proofs.DecimalLemmas.{decimal_some, no_point}
 use Rattle.wi_lexer.proofs.NumberLemmas.{number_cases, number_some, EndsNumber, number_exact}

@@ -14,3 +14,4 @@ pub mod ScanLemmas
 pub mod CallerLemmas
 pub mod TextLemmas
 pub mod EndLemmas
+pub mod Words

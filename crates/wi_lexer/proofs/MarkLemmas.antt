@@ -1,12 +1,6 @@
 -- The mark found at the front stands there.
-use Rattle.std.proofs.Common.{◌≡◌, ℕ, Bool, true, false, cond, ◌&&◌, ◌==◌, List, [], ◌∷◌, ◌++◌, Option, Some, None, refl, sym, ap, ◌∙◌}
-use Rattle.std.specs.Option.{option_or}
-use Rattle.std.proofs.lemmas.Bool.{eqb-true, and_parts}
-use Rattle.std.proofs.lemmas.Option.{same_Some}
+use Rattle.wi_lexer.proofs.Words.{◌≡◌, ℕ, Bool, true, false, cond, ◌&&◌, ◌==◌, List, [], ◌∷◌, ◌++◌, Option, Some, None, refl, sym, ap, ◌∙◌, option_or, eqb-true, and_parts, same_Some, OpenParenthesis, CloseParenthesis, Plus, Minus, Asterisk, Slash, Caret, Percent, Ampersand, Equal, NotEqual, Less, LessOrEqual, Greater, GreaterOrEqual, Semicolon, mark_text, two_byte_mark, one_byte_mark, mark_at}
 use Rattle.wi_lexer.specs.declared.token.Mark.{Mark}
-use Rattle.wi_lexer.specs.declared.token.Mark.TheVariants.{OpenParenthesis, CloseParenthesis, Plus, Minus, Asterisk, Slash, Caret, Percent, Ampersand, Equal, NotEqual, Less, LessOrEqual, Greater, GreaterOrEqual, Semicolon}
-use Rattle.wi_lexer.specs.Mark.{mark_text}
-use Rattle.wi_lexer.specs.Inner.Mark.{two_byte_mark, one_byte_mark, mark_at}
 
 -- A test chooses a mark whose text the bytes are, or leaves the choice to later ones.
 choose : (text : List ℕ) (t : Bool) (k m : Mark) (o : Option Mark) → (t ≡ true → text ≡ mark_text k) → (o ≡ Some m → text ≡ mark_text m) → cond t (Some k) o ≡ Some m → text ≡ mark_text m

@@ -1,19 +1,6 @@
 -- The name found at the front is one, and no name there is longer; what begins as a name is no other token.
-use Rattle.std.proofs.Common.{◌≡◌, ℕ, ◌+◌, ◌<◌, ◌≤◌, Bool, true, false, cond, ◌&&◌, ◌==◌, List, [], ◌∷◌, ◌++◌, length, take, drop, Option, Some, None, refl, sym, ap, ◌∙◌, arith}
-use Rattle.std.specs.Prelude.{nat_lt, slice_index}
-use Rattle.std.proofs.lemmas.Bool.{true≢false}
-use Rattle.std.proofs.lemmas.Bool.Decides.{nat_tests}
-use Rattle.std.proofs.lemmas.List.{get_or-take}
-use Rattle.std.specs.List.{prefix_len}
-use Rattle.std.specs.Char.{is_ascii_digit}
+use Rattle.wi_lexer.proofs.Words.{◌≡◌, ℕ, ◌+◌, ◌<◌, ◌≤◌, Bool, true, false, cond, ◌&&◌, ◌==◌, List, [], ◌∷◌, ◌++◌, length, take, drop, Option, Some, None, refl, sym, ap, ◌∙◌, arith, nat_lt, slice_index, true≢false, nat_tests, get_or-take, prefix_len, is_ascii_digit, NotEqual, digits_len, decimals_len, decimal_len, number_len, mark_text, mark_at, IsName, is_name_start, is_name_part, name_len}
 use Rattle.wi_lexer.specs.declared.token.Mark.{Mark}
-use Rattle.wi_lexer.specs.declared.token.Mark.TheVariants.{NotEqual}
-use Rattle.wi_lexer.specs.Inner.Runs.{digits_len}
-use Rattle.wi_lexer.specs.Inner.Number.{decimals_len, decimal_len, number_len}
-use Rattle.wi_lexer.specs.Mark.{mark_text}
-use Rattle.wi_lexer.specs.Inner.Mark.{mark_at}
-use Rattle.wi_lexer.specs.Name.{IsName, is_name_start, is_name_part}
-use Rattle.wi_lexer.specs.Inner.Name.{name_len}
 use Rattle.wi_lexer.proofs.RunLemmas.{run_within, run_stops, run_more, run_all}
 use Rattle.wi_lexer.proofs.NumberLemmas.{decimal_none}
 use Rattle.wi_lexer.proofs.MarkLemmas.{mark_sound}

@@ -1,15 +1,5 @@
 -- The number found at the front is one, and no number there is longer.
-use Rattle.std.proofs.Common.{◌≡◌, ℕ, suc, ◌+◌, ◌<◌, ◌≤◌, ℤ, pos, Bool, true, false, cond, ◌||◌, ◌==◌, ◌⊎◌, inl, inr, List, [], ◌∷◌, ◌++◌, length, take, drop, refl, sym, ap, ◌∙◌, subst, arith, append_assoc, append-nil, length-append, length-drop}
-use Rattle.std.specs.Prelude.{nat_lt}
-use Rattle.std.proofs.lemmas.Bool.{eqb-true, ltb-true, ltb-false, lt-ltb}
-use Rattle.std.proofs.lemmas.Bool.Decides.{nat_tests}
-use Rattle.std.proofs.Math.Seq.{take-add, drop-append_seam}
-use Rattle.std.specs.Char.{is_ascii_digit}
-use Rattle.std.specs.Str.Parse.{IsNumeral}
-use Rattle.wi_fraction.specs.Written.{WritesDigits, is_exponent_letter, WritesExponent, none as no_exponent, unsigned, plus, minus, Writes, writes, IsWritten}
-use Rattle.wi_fraction.proofs.Written.{letter_no_digit, letter_no_point}
-use Rattle.wi_lexer.specs.Inner.Runs.{digits_len, one_longer}
-use Rattle.wi_lexer.specs.Inner.Number.{is_sign_byte, decimals_len, decimal_len, signed_len, exponent_len, number_len}
+use Rattle.wi_lexer.proofs.Words.{◌≡◌, ℕ, suc, ◌+◌, ◌<◌, ◌≤◌, ℤ, pos, Bool, true, false, cond, ◌||◌, ◌==◌, ◌⊎◌, inl, inr, List, [], ◌∷◌, ◌++◌, length, take, drop, refl, sym, ap, ◌∙◌, subst, arith, append_assoc, append-nil, length-append, length-drop, nat_lt, eqb-true, ltb-true, ltb-false, lt-ltb, nat_tests, take-add, drop-append_seam, is_ascii_digit, IsNumeral, WritesDigits, is_exponent_letter, WritesExponent, none as no_exponent, unsigned, plus, minus, Writes, writes, IsWritten, letter_no_digit, letter_no_point, digits_len, one_longer, is_sign_byte, decimals_len, decimal_len, signed_len, exponent_len, number_len}
 use Rattle.wi_lexer.proofs.RunLemmas.{run_within, run_stops, run_more, digits_all, one_longer_some, one_longer_back, one_longer_within}
 use Rattle.wi_lexer.proofs.DecimalLemmas.{digits_front, SomeDigits, decimal_some, decimal_more, decimal_within, decimal_sound, no_point, decimal_exact}
 

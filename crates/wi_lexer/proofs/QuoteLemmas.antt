@@ -1,14 +1,5 @@
 -- The text in quotes found at the front is one, and no such text there is longer; its content.
-use Rattle.std.proofs.Common.{◌≡◌, ℕ, zero, suc, ◌+◌, ◌<◌, ◌≤◌, Bool, true, false, cond, not, ◌==◌, List, [], ◌∷◌, ◌++◌, length, take, drop, get_or, refl, sym, ap, ◌∙◌, subst, arith, append_assoc, append-nil, length-append, Option, Some, None, Bor, MatchOption, unwrap_or}
-use Rattle.std.specs.Prelude.{nat_lt}
-use Rattle.std.specs.List.{flat_map, position_or_len, before_first, after_first}
-use Rattle.std.proofs.lemmas.Bool.{eqb-true, ne_eqb, ltb-true, ltb-false, lt-ltb}
-use Rattle.std.proofs.lemmas.List.{at_drop_more, drop_all}
-use Rattle.std.proofs.lemmas.Str.Pattern.{IsSplitOnceResult, split_once_first}
-use Rattle.wi_lexer.specs.Quoted.{doubled, quoted}
-use Rattle.wi_lexer.specs.Inner.Runs.{one_longer}
-use Rattle.wi_lexer.specs.Text.{IsText, of_content}
-use Rattle.wi_lexer.specs.Inner.Text.{quoted_len, text_len, content_from, text_content}
+use Rattle.wi_lexer.proofs.Words.{◌≡◌, ℕ, zero, suc, ◌+◌, ◌<◌, ◌≤◌, Bool, true, false, cond, not, ◌==◌, List, [], ◌∷◌, ◌++◌, length, take, drop, get_or, refl, sym, ap, ◌∙◌, subst, arith, append_assoc, append-nil, length-append, Option, Some, None, Bor, MatchOption, unwrap_or, nat_lt, flat_map, position_or_len, before_first, after_first, eqb-true, ne_eqb, ltb-true, ltb-false, lt-ltb, at_drop_more, drop_all, IsSplitOnceResult, split_once_first, doubled, quoted, one_longer, IsText, of_content, quoted_len, text_len, content_from, text_content}
 use Rattle.wi_lexer.proofs.RunLemmas.{one_longer_some, one_longer_back, one_longer_within}
 
 -- ---- a loop that looks for the last quote

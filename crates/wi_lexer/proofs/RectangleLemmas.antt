@@ -1,20 +1,5 @@
 -- The reference to a rectangle found at the front is one, and each one there is found.
-use Rattle.std.proofs.Common.{◌≡◌, ℕ, ◌<◌, ◌≤◌, Bool, true, false, cond, ◌==◌, List, [], ◌∷◌, ◌++◌, length, take, drop, Option, Some, None, is_some, refl, sym, ap, ap₂, ◌∙◌, subst, arith, append_assoc, length-append}
-use Rattle.std.specs.Prelude.{slice_index}
-use Rattle.std.proofs.lemmas.Bool.{eqb-true, and_parts}
-use Rattle.std.proofs.lemmas.Bool.Decides.{nat_tests}
-use Rattle.std.proofs.lemmas.List.{take-append-drop}
-use Rattle.std.proofs.lemmas.Option.{same_Some}
-use Rattle.std.proofs.lemmas.List.Folds.{list_all-append}
-use Rattle.std.proofs.Math.Seq.{drop-append_seam, take-append_seam}
-use Rattle.std.specs.List.{list_all}
-use Rattle.std.specs.Char.{is_ascii_digit, is_ascii_alphabetic}
-use Rattle.wi_lexer.specs.Inner.Runs.{is_inside, is_before_colon, before_colon_len}
-use Rattle.wi_lexer.specs.Cell.{Cell, IsCell, cell_text}
-use Rattle.wi_lexer.specs.Inner.Cell.{cell_of, cut}
-use Rattle.wi_lexer.specs.Inner.Reference.{inside, reference_of, reference_len}
-use Rattle.wi_lexer.specs.Rectangle.{rectangle_text, IsRectangle, two_cells}
-use Rattle.wi_lexer.specs.Inner.Rectangle.{begins_second, both_cells, cells_beside, corner_cells, rectangle_of, rectangle_len}
+use Rattle.wi_lexer.proofs.Words.{◌≡◌, ℕ, ◌<◌, ◌≤◌, Bool, true, false, cond, ◌==◌, List, [], ◌∷◌, ◌++◌, length, take, drop, Option, Some, None, is_some, refl, sym, ap, ap₂, ◌∙◌, subst, arith, append_assoc, length-append, slice_index, eqb-true, and_parts, nat_tests, take-append-drop, same_Some, list_all-append, drop-append_seam, take-append_seam, list_all, is_ascii_digit, is_ascii_alphabetic, is_inside, is_before_colon, before_colon_len, Cell, IsCell, cell_text, cell_of, cut, inside, reference_of, reference_len, rectangle_text, IsRectangle, two_cells, begins_second, both_cells, cells_beside, corner_cells, rectangle_of, rectangle_len}
 use Rattle.wi_lexer.proofs.RunLemmas.{run_more, all_append}
 use Rattle.wi_lexer.proofs.CellLemmas.{cell_sound, cell_complete, cell_all, cut_is}
 use Rattle.wi_lexer.proofs.BracketLemmas.{bracketed, inside_read, read_back, some_item, closed_len, closed_front, closed_none, closed_bracket, cell_inside}

@@ -1,10 +1,5 @@
 -- The reference found at the front is one, and each reference there is found.
-use Rattle.std.proofs.Common.{◌≡◌, ℕ, ◌<◌, ◌≤◌, Bool, true, cond, List, [], ◌∷◌, ◌++◌, length, take, Some, is_some, refl, sym, ap, ◌∙◌, subst, arith, length-append}
-use Rattle.std.specs.Prelude.{slice_index}
-use Rattle.wi_lexer.specs.Cell.{Cell, IsCell, cell_text}
-use Rattle.wi_lexer.specs.Inner.Cell.{cell_of, cut}
-use Rattle.wi_lexer.specs.Reference.{IsReference, one_cell}
-use Rattle.wi_lexer.specs.Inner.Reference.{inside, reference_of, reference_len}
+use Rattle.wi_lexer.proofs.Words.{◌≡◌, ℕ, ◌<◌, ◌≤◌, Bool, true, cond, List, [], ◌∷◌, ◌++◌, length, take, Some, is_some, refl, sym, ap, ◌∙◌, subst, arith, length-append, slice_index, Cell, IsCell, cell_text, cell_of, cut, IsReference, one_cell, inside, reference_of, reference_len}
 use Rattle.wi_lexer.proofs.CellLemmas.{cell_sound, cell_complete, cut_is}
 use Rattle.wi_lexer.proofs.BracketLemmas.{bracketed, inside_read, read_back, some_item, closed_len, closed_front, closed_none, closed_bracket, cell_inside}
 

@@ -1,14 +1,5 @@
 -- Runs of bytes of one class.
-use Rattle.std.proofs.Common.{◌≡◌, ℕ, suc, ◌+◌, ◌<◌, ◌≤◌, Bool, true, false, cond, ◌⊎◌, inl, inr, List, [], ◌∷◌, ◌++◌, length, take, refl, sym, ap, ◌∙◌, subst, arith}
-use Rattle.std.specs.Prelude.{nat_lt}
-use Rattle.std.proofs.lemmas.Bool.{cases_Bool, ltb-true, lt-ltb, and_parts}
-use Rattle.std.specs.List.{prefix_len, list_all}
-use Rattle.std.proofs.lemmas.List.Sums.{prefix_len-le-length}
-use Rattle.std.specs.Char.{is_ascii_digit}
-use Rattle.std.specs.Str.Parse.{AllDigits, IsNumeral}
-use Rattle.wi_fraction.proofs.Scanning.{own, digits_same}
-use Rattle.wi_lexer.specs.Runs.{IsRun}
-use Rattle.wi_lexer.specs.Inner.Runs.{one_longer}
+use Rattle.wi_lexer.proofs.Words.{◌≡◌, ℕ, suc, ◌+◌, ◌<◌, ◌≤◌, Bool, true, false, cond, ◌⊎◌, inl, inr, List, [], ◌∷◌, ◌++◌, length, take, refl, sym, ap, ◌∙◌, subst, arith, nat_lt, cases_Bool, ltb-true, lt-ltb, and_parts, prefix_len, list_all, prefix_len-le-length, is_ascii_digit, AllDigits, IsNumeral, own, digits_same, IsRun, one_longer}
 
 pub run_within : (class : ℕ → Bool) (bs : List ℕ) → prefix_len class bs ≤ length bs
 run_within class bs = prefix_len-le-length class bs

@@ -1,14 +1,5 @@
 -- What a lexer cuts off is the next token, and the slice of the source at its span.
-use Rattle.std.proofs.Common.{Bool, false, true, ◌==◌, eq-eqb, ◌≡◌, ◌≢◌, ℕ, ◌+◌, ◌-◌, ◌≤◌, List, [], ◌++◌, length, take, drop, Some, None, sym, ap, ◌∙◌, subst, arith, length-drop}
-use Rattle.std.proofs.lemmas.List.{take-append-drop, drop-drop, nil_from_length, length-take}
-use Rattle.std.proofs.lemmas.Bool.{true≢false}
-use Rattle.std.proofs.lemmas.Bool.Decides.{nat_tests}
-use Rattle.wi_lexer.specs.declared.token.Kind.{Kind}
-use Rattle.wi_lexer.specs.Runs.{blanks_len}
-use Rattle.wi_lexer.specs.Token.{IsLongest, NoToken}
-use Rattle.wi_lexer.specs.Inner.Token.{token_at}
-use Rattle.wi_lexer.specs.Scan.{Scan}
-use Rattle.wi_lexer.specs.Lexing.{ahead}
+use Rattle.wi_lexer.proofs.Words.{Bool, false, true, ◌==◌, eq-eqb, ◌≡◌, ◌≢◌, ℕ, ◌+◌, ◌-◌, ◌≤◌, List, [], ◌++◌, length, take, drop, Some, None, sym, ap, ◌∙◌, subst, arith, length-drop, take-append-drop, drop-drop, nil_from_length, length-take, true≢false, nat_tests, Kind, blanks_len, IsLongest, NoToken, token_at, Scan, ahead}
 use Rattle.wi_lexer.proofs.TokenLemmas.{token_sound, none_begins}
 
 abbrev scan : List ℕ → List ℕ → Scan

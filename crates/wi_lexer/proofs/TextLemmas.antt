@@ -1,11 +1,5 @@
 -- What a reader finds in a whole text are its tokens.
-use Rattle.std.proofs.Common.{◌≡◌, ◌≢◌, ◌↔◌, ℕ, zero, suc, ◌<◌, List, [], ◌∷◌, length, take, drop, Option, Some, None, refl, sym, ap, ◌∙◌, subst, arith}
-use Rattle.std.proofs.lemmas.List.{length-take-le}
-use Rattle.wi_lexer.specs.declared.token.Kind.{Kind}
-use Rattle.wi_lexer.specs.Token.{IsLongest, after_blanks}
-use Rattle.wi_lexer.specs.Inner.Token.{token_at}
-use Rattle.wi_lexer.specs.Tokens.{Tokens, then_tokens, AreTokens, ended, bad, more}
-use Rattle.wi_lexer.specs.Inner.Tokens.{tokens_from, tokens_ahead, tokens}
+use Rattle.wi_lexer.proofs.Words.{◌≡◌, ◌≢◌, ◌↔◌, ℕ, zero, suc, ◌<◌, List, [], ◌∷◌, length, take, drop, Option, Some, None, refl, sym, ap, ◌∙◌, subst, arith, length-take-le, Kind, IsLongest, after_blanks, token_at, Tokens, then_tokens, AreTokens, ended, bad, more, tokens_from, tokens_ahead, tokens}
 use Rattle.wi_lexer.proofs.TokenLemmas.{token_some, token_sound, token_complete, none_begins, none_found}
 use Rattle.wi_lexer.proofs.CallerLemmas.{tokens_are, token_shortens, after_blanks_within, none_ahead}
 

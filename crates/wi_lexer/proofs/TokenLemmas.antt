@@ -1,31 +1,6 @@
 -- What `token_at` finds is the longest token, and it finds one wherever one begins.
-use Rattle.std.proofs.Common.{◌≡◌, ℕ, ◌<◌, ◌≤◌, Bool, true, false, cond, ◌==◌, List, [], ◌∷◌, ◌++◌, length, take, drop, Option, Some, None, refl, sym, ap, ◌∙◌, subst, arith, length-append}
-use Rattle.std.specs.Prelude.{nat_lt, slice_index}
-use Rattle.std.specs.Option.{option_or}
-use Rattle.std.proofs.lemmas.Bool.{ltb-true, lt-ltb}
-use Rattle.std.proofs.lemmas.List.{take-append-drop, length-take-le}
-use Rattle.std.proofs.lemmas.Option.{same_Some}
-use Rattle.std.proofs.Math.Seq.{take-append_seam}
-use Rattle.wi_fraction.specs.Written.{IsWritten}
-use Rattle.wi_lexer.specs.Quoted.{quoted}
-use Rattle.wi_lexer.specs.declared.token.Kind.{Kind}
-use Rattle.wi_lexer.specs.declared.token.Kind.TheVariants.{Number, Reference, Rectangle, Name, Text, Mark}
+use Rattle.wi_lexer.proofs.Words.{◌≡◌, ℕ, ◌<◌, ◌≤◌, Bool, true, false, cond, ◌==◌, List, [], ◌∷◌, ◌++◌, length, take, drop, Option, Some, None, refl, sym, ap, ◌∙◌, subst, arith, length-append, nat_lt, slice_index, option_or, ltb-true, lt-ltb, take-append-drop, length-take-le, same_Some, take-append_seam, IsWritten, quoted, Kind, Number, Reference, Rectangle, Name, Text, Mark, NotEqual, Less, LessOrEqual, Greater, GreaterOrEqual, decimals_len, decimal_len, number_len, IsReference, one_cell, reference_len, IsRectangle, two_cells, rectangle_len, Cell, IsCell, cell_text, IsName, is_name_start, name_len, IsText, of_content, text_len, mark_text, two_byte_mark, one_byte_mark, mark_at, IsToken, IsLongest, NoToken, of_length, mark_token, token_at}
 use Rattle.wi_lexer.specs.declared.token.Mark as mark
-use Rattle.wi_lexer.specs.declared.token.Mark.TheVariants.{NotEqual, Less, LessOrEqual, Greater, GreaterOrEqual}
-use Rattle.wi_lexer.specs.Inner.Number.{decimals_len, decimal_len, number_len}
-use Rattle.wi_lexer.specs.Reference.{IsReference, one_cell}
-use Rattle.wi_lexer.specs.Inner.Reference.{reference_len}
-use Rattle.wi_lexer.specs.Rectangle.{IsRectangle, two_cells}
-use Rattle.wi_lexer.specs.Inner.Rectangle.{rectangle_len}
-use Rattle.wi_lexer.specs.Cell.{Cell, IsCell, cell_text}
-use Rattle.wi_lexer.specs.Name.{IsName, is_name_start}
-use Rattle.wi_lexer.specs.Inner.Name.{name_len}
-use Rattle.wi_lexer.specs.Text.{IsText, of_content}
-use Rattle.wi_lexer.specs.Inner.Text.{text_len}
-use Rattle.wi_lexer.specs.Mark.{mark_text}
-use Rattle.wi_lexer.specs.Inner.Mark.{two_byte_mark, one_byte_mark, mark_at}
-use Rattle.wi_lexer.specs.Token.{IsToken, IsLongest, NoToken}
-use Rattle.wi_lexer.specs.Inner.Token.{of_length, mark_token, token_at}
 use Rattle.wi_lexer.proofs.NumberLemmas.{number_some, number_more, number_within, number_sound}
 use Rattle.wi_lexer.proofs.BracketLemmas.{bracketed}
 use Rattle.wi_lexer.proofs.ReferenceLemmas.{reference_sound, reference_complete, no_reference}

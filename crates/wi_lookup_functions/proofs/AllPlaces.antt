@@ -1,34 +1,8 @@
 -- What SUMPRODUCT makes of the cells at each place, and of all places.
-use Rattle.std.proofs.Common.{◌≡◌, ℕ, zero, suc, ◌<◌, ◌≤◌, ◌+◌, ◌-◌, Bool, true, false, ◌&&◌, ◌||◌, List, [], ◌∷◌, fold, drop, get_or, length, Option, Some, None, IfSome, refl, sym, ap, ◌∙◌, subst, arith}
-use Rattle.std.specs.Prelude.{Result, Ok, Err, slice_get, nat_lt, if◌then◌else◌}
-use Rattle.std.specs.List.{list_all, list_any}
-use Rattle.std.proofs.lemmas.Bool.{and_parts, and_from, ltb-true}
-use Rattle.std.proofs.lemmas.Bool.Decides.{nat_tests}
-use Rattle.std.proofs.lemmas.List.{drop_more, drop_all}
+use Rattle.wi_lookup_functions.proofs.Words.{◌≡◌, ℕ, zero, suc, ◌<◌, ◌≤◌, ◌+◌, ◌-◌, Bool, true, false, ◌&&◌, ◌||◌, List, [], ◌∷◌, fold, drop, get_or, length, Option, Some, None, IfSome, refl, sym, ap, ◌∙◌, subst, arith, Result, slice_get, nat_lt, if◌then◌else◌, list_all, list_any, and_parts, and_from, ltb-true, nat_tests, drop_more, drop_all, Area, cells_of, is_within, ErrorKind, Value, Empty, Logical, addition, zero_number, one_number, is_empty_value, and_then, places_left, within_between, Missing, KnownAgrees, ComesBefore, IsNextFilled, is_known_empty, after_cells, known_is, first_of, Stop, Ending, Error, Stopped, Agrees, ComesAfter, IsNextPlace, product_there, sum_through, with_factor, with_place, IsMissingInAny, same_extent, same_place}
+use Rattle.std.specs.Prelude.{Ok, Err}
 use Rattle.wi_fraction.specs.Number as numbers
-use Rattle.wi_values.specs.Address.{Area, cells_of, is_within}
-use Rattle.wi_values.specs.declared.value.ErrorKind.{ErrorKind}
-use Rattle.wi_values.specs.declared.value.Value.{Value}
-use Rattle.wi_values.specs.declared.value.Value.TheVariants.{Empty, Logical}
-use Rattle.wi_standard_functions.specs.Arithmetic.{addition}
-use Rattle.wi_standard_functions.specs.Convert.{zero_number, one_number}
-use Rattle.wi_standard_functions.specs.Information.{is_empty_value}
-use Rattle.wi_standard_functions.specs.Steps.{and_then}
-use Rattle.wi_values.proofs.Within.{places_left, within_between}
-use Rattle.wi_value_functions.specs.declared.ending.Stop.TheVariants.{Missing}
-use Rattle.wi_arguments.specs.Arguments.{KnownAgrees}
-use Rattle.wi_arguments.specs.Filled.{ComesBefore, IsNextFilled, is_known_empty}
-use Rattle.wi_arguments.specs.Walk.{after_cells}
-use Rattle.wi_arguments.proofs.Given.{known_is}
 use Rattle.wi_arguments.proofs.Walking as walk
-use Rattle.wi_arguments.proofs.Walking.{first_of}
-use Rattle.wi_value_functions.specs.declared.ending.Stop.{Stop}
-use Rattle.wi_value_functions.specs.declared.ending.Ending.{Ending}
-use Rattle.wi_value_functions.specs.declared.ending.Ending.TheVariants.{Error, Stopped}
-use Rattle.wi_lookup_functions.specs.Inner.Giving.{Agrees}
-use Rattle.wi_lookup_functions.specs.Inner.Places.{ComesAfter, IsNextPlace}
-use Rattle.wi_lookup_functions.specs.Inner.Products.{product_there, sum_through, with_factor, with_place, IsMissingInAny}
-use Rattle.wi_lookup_functions.specs.Inner.Sums.{same_extent, same_place}
 use Rattle.wi_lookup_functions.proofs.Extents.{same_place_inside}
 use Rattle.wi_lookup_functions.proofs.InOrder.{all_at}
 use Rattle.wi_lookup_functions.proofs.Zeros.{added_zero, multiplied_zero}

@@ -1,15 +1,5 @@
 -- Values that are taken for others.
-use Rattle.std.proofs.Common.{◌≡◌, ℕ, List, Option, Some, None, Ok, Err, refl}
-use Rattle.std.specs.Prelude.{slice_get}
-use Rattle.std.specs.Option.{option_map_or}
-use Rattle.wi_values.specs.declared.value.ErrorKind.{ErrorKind}
-use Rattle.wi_values.specs.declared.value.Value.{Value}
-use Rattle.wi_values.specs.declared.value.Value.TheVariants.{Empty, Number, Text, Logical, Fault}
-use Rattle.wi_standard_functions.specs.Arguments.{Argument, value_or, value_at}
-use Rattle.wi_standard_functions.specs.Convert.{zero_number}
-use Rattle.wi_standard_functions.specs.FirstError.{no_error}
-use Rattle.wi_standard_functions.specs.Matching.{sought_for}
-use Rattle.wi_standard_functions.specs.Steps.{and_then}
+use Rattle.wi_lookup_functions.proofs.Words.{◌≡◌, ℕ, List, Option, Some, None, Ok, Err, refl, slice_get, option_map_or, ErrorKind, Value, Empty, Number, Text, Logical, Fault, Argument, value_or, value_at, zero_number, no_error, sought_for, and_then}
 
 pub itself : (w v : Value) → no_error w ≡ Ok v → w ≡ v
 itself Empty v h = cc

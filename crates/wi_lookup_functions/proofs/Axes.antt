@@ -1,16 +1,7 @@
 -- What stands along the lines of a rectangle, by its rows or by its columns.
-use Rattle.std.proofs.Common.{◌≡◌, ℕ, ℤ, ◌<◌, Bool, true, List, Result, Ok, refl, sym, ap, ◌∙◌}
-use Rattle.wi_values.specs.Address.{Area, is_within}
-use Rattle.wi_values.specs.declared.value.ErrorKind.{ErrorKind}
-use Rattle.wi_values.specs.declared.value.Value.{Value}
+use Rattle.wi_lookup_functions.proofs.Words.{◌≡◌, ℕ, ℤ, ◌<◌, Bool, true, List, Ok, refl, sym, ap, ◌∙◌, Area, is_within, ErrorKind, Value, arguments_in, area_at, region_of, value_at, to_whole, position_among, Axis, Rows, Columns, cell_along, cell_in_line, line_count, line_width, width_in}
+use Rattle.std.proofs.Common.{Result}
 use Rattle.wi_arguments.specs.declared.argument.Argument as given
-use Rattle.wi_arguments.specs.Arguments.{arguments_in, area_at}
-use Rattle.wi_standard_functions.specs.Arguments.{region_of, value_at}
-use Rattle.wi_standard_functions.specs.Convert.{to_whole}
-use Rattle.wi_standard_functions.specs.Lookup.{position_among}
-use Rattle.wi_lookup_functions.specs.declared.axis.Axis.{Axis}
-use Rattle.wi_lookup_functions.specs.declared.axis.Axis.TheVariants.{Rows, Columns}
-use Rattle.wi_lookup_functions.specs.Inner.Axis.{cell_along, cell_in_line, line_count, line_width, width_in}
 use Rattle.wi_arguments.proofs.Given as arguments
 use Rattle.wi_lookup_functions.proofs.Chains.{IsAsked, order_in, sought_in}
 use Rattle.wi_lookup_functions.proofs.Endings.{nth_within}

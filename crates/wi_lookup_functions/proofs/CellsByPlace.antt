@@ -1,19 +1,5 @@
 -- The cells of a rectangle by their places, and its first column and first row.
-use Rattle.std.proofs.Common.{◌≡◌, ℕ, zero, suc, ◌<◌, ◌+◌, ◌*◌, List, [], ◌∷◌, ◌++◌, map, length, Option, Some, refl, ap, ◌∙◌, arith}
-use Rattle.std.specs.Prelude.{slice_get, unwrap_or}
-use Rattle.std.specs.Option.{option_map}
-use Rattle.std.specs.List.{range_with_len}
-use Rattle.std.proofs.Math.Nat.{suc-mul}
-use Rattle.std.proofs.lemmas.Option.{slice_get-map}
-use Rattle.std.proofs.lemmas.List.FromFn.{length-map-range_with_len}
-use Rattle.wi_values.specs.Address.{Area, cells_of, place, row_of, column_of}
-use Rattle.wi_values.specs.declared.value.Value.{Value}
-use Rattle.wi_values.specs.declared.value.Value.TheVariants.{Fault}
-use Rattle.wi_values.specs.declared.value.ErrorKind.TheVariants.{BadReference}
-use Rattle.wi_arguments.proofs.RowMajor.{block, run}
-use Rattle.wi_standard_functions.specs.Arguments.{region_of}
-use Rattle.wi_standard_functions.specs.Lookup.{cell_in}
-use Rattle.wi_lookup_functions.specs.Inner.Lines.{height, width}
+use Rattle.wi_lookup_functions.proofs.Words.{◌≡◌, ℕ, zero, suc, ◌<◌, ◌+◌, ◌*◌, List, [], ◌∷◌, ◌++◌, map, length, Option, Some, refl, ap, ◌∙◌, arith, slice_get, unwrap_or, option_map, range_with_len, suc-mul, slice_get-map, length-map-range_with_len, Area, cells_of, place, row_of, column_of, Value, Fault, BadReference, block, run, region_of, cell_in, height, width}
 
 in_run : (row a n k : ℕ) → k < n → slice_get (run row a n) k ≡ Some (place row (a + k))
 in_run row a zero k h = absurd (omega (arith, h))

@@ -1,26 +1,7 @@
 -- The functions by their steps.
-use Rattle.std.proofs.Common.{◌≡◌, ℕ, ℤ, ◌+◌, Bool, true, false, cond, List, map, Option, Result, Ok, Err, sym, ap, ◌∙◌}
-use Rattle.std.specs.Prelude.{ok_or}
-use Rattle.std.specs.List.{range_with_len}
+use Rattle.wi_lookup_functions.proofs.Words.{◌≡◌, ℕ, ℤ, ◌+◌, Bool, true, false, cond, List, map, Option, Ok, Err, sym, ap, ◌∙◌, ok_or, range_with_len, Area, cells_of, ErrorKind, BadValue, NotAvailable, Value, Number, Logical, Fault, Argument, Region, region_of, region_at, value_or, value_at, whole_value, one_number, to_number, to_whole, to_logical, no_error, index_along, index_by_both, match_value, nth_cell, nth_cell_along, position_among, values_along, type_for, match_position, sought_for, ◌>>=◌, and_then, Rule, Axis, cell_in_line, lines_in, look_up_by, width_in, is_line, position_by, rule_in_order, rule_of_match_type}
+use Rattle.std.proofs.Common.{Result}
 use Rattle.wi_fraction.specs.Number as numbers
-use Rattle.wi_values.specs.Address.{Area, cells_of}
-use Rattle.wi_values.specs.declared.value.ErrorKind.{ErrorKind}
-use Rattle.wi_values.specs.declared.value.ErrorKind.TheVariants.{BadValue, NotAvailable}
-use Rattle.wi_values.specs.declared.value.Value.{Value}
-use Rattle.wi_values.specs.declared.value.Value.TheVariants.{Number, Logical, Fault}
-use Rattle.wi_standard_functions.specs.Arguments.{Argument, Region, region_of, region_at, value_or, value_at}
-use Rattle.wi_standard_functions.specs.Arithmetic.{whole_value}
-use Rattle.wi_standard_functions.specs.Convert.{one_number, to_number, to_whole, to_logical}
-use Rattle.wi_standard_functions.specs.FirstError.{no_error}
-use Rattle.wi_standard_functions.specs.Lookup.{index_along, index_by_both, match_value, nth_cell, nth_cell_along, position_among}
-use Rattle.wi_standard_functions.specs.Inner.Named.{values_along, type_for}
-use Rattle.wi_standard_functions.specs.Matching.{match_position, sought_for}
-use Rattle.wi_standard_functions.specs.Steps.{◌>>=◌, and_then}
-use Rattle.wi_lookup_functions.specs.declared.rule.Rule.{Rule}
-use Rattle.wi_lookup_functions.specs.declared.axis.Axis.{Axis}
-use Rattle.wi_lookup_functions.specs.Inner.Axis.{cell_in_line, lines_in, look_up_by, width_in}
-use Rattle.wi_lookup_functions.specs.Inner.Lines.{is_line}
-use Rattle.wi_lookup_functions.specs.Inner.Search.{position_by, rule_in_order, rule_of_match_type}
 use Rattle.wi_lookup_functions.proofs.Searches.{by_match_type, by_order}
 
 step : {A : Type 0} (o : Result A ErrorKind) (x : A) (f : A → Value) → o ≡ Ok x → (o >>= f) ≡ f x

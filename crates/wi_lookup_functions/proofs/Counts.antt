@@ -1,29 +1,8 @@
 -- What COUNTIF counts.
-use Rattle.std.proofs.Common.{◌≡◌, ℕ, ◌+◌, cond, List, [], ◌∷◌, map, Option, refl, sym, ap, ◌∙◌, subst, add_assoc, add-zero, zero-add}
-use Rattle.std.specs.Prelude.{◌^◌, ◌-◌, min, Result, Ok, Err, count_by}
-use Rattle.std.proofs.lemmas.List.Sums.{sum_by-cons}
-use Rattle.wi_values.specs.Address.{Area, cells_of}
-use Rattle.wi_values.specs.declared.value.ErrorKind.{ErrorKind}
-use Rattle.wi_values.specs.declared.value.Value.{Value}
-use Rattle.wi_standard_functions.specs.Arguments.{Argument, Region, region_at, value_at}
-use Rattle.wi_standard_functions.specs.Arithmetic.{whole_value}
+use Rattle.wi_lookup_functions.proofs.Words.{◌≡◌, ℕ, ◌+◌, cond, List, [], ◌∷◌, map, Option, refl, sym, ap, ◌∙◌, subst, add_assoc, add-zero, zero-add, ◌^◌, Result, count_by, sum_by-cons, Area, cells_of, ErrorKind, Value, Argument, Region, region_at, value_at, whole_value, meets_criterion, no_error, count_if_value, ◌>>=◌, arguments_in, KnownAgrees, region_in, after_cells, counted, IsCut, cut_counted, cut_value, Criterion, criterion_held, is_met, Counting, Stop, Ending, Error, Stopped, criterion_argument, Gives}
+use Rattle.std.specs.Prelude.{◌-◌, min, Ok, Err}
 use Rattle.wi_standard_functions.specs.Criterion as defined
-use Rattle.wi_standard_functions.specs.Criterion.{meets_criterion}
-use Rattle.wi_standard_functions.specs.FirstError.{no_error}
-use Rattle.wi_standard_functions.specs.Information.{count_if_value}
-use Rattle.wi_standard_functions.specs.Steps.{◌>>=◌}
 use Rattle.wi_arguments.specs.declared.argument.Argument as given
-use Rattle.wi_arguments.specs.Arguments.{arguments_in, KnownAgrees, region_in}
-use Rattle.wi_arguments.specs.Walk.{after_cells}
-use Rattle.wi_value_functions.specs.Inner.Counts.{counted, IsCut}
-use Rattle.wi_value_functions.proofs.Counts.{cut_counted, cut_value}
-use Rattle.wi_lookup_functions.specs.declared.criterion.Criterion.{Criterion}
-use Rattle.wi_lookup_functions.specs.Inner.Meeting.{criterion_held, is_met}
-use Rattle.wi_lookup_functions.specs.declared.counting.Counting.{Counting}
-use Rattle.wi_value_functions.specs.declared.ending.Stop.{Stop}
-use Rattle.wi_value_functions.specs.declared.ending.Ending.{Ending}
-use Rattle.wi_value_functions.specs.declared.ending.Ending.TheVariants.{Error, Stopped}
-use Rattle.wi_lookup_functions.specs.Inner.Giving.{criterion_argument, Gives}
 use Rattle.wi_lookup_functions.proofs.Referring.{IsCriterionAt, by_criterion}
 
 -- ---- the count of a walk

@@ -1,28 +1,8 @@
 -- How a function ends at a step that fails, and from the parts of a function to the whole.
-use Rattle.std.proofs.Common.{◌≡◌, ℕ, ℤ, ◌+◌, ◌-◌, ◌<◌, ◌≤◌, ◌==◌, ◌||◌, Bool, true, false, cond, List, length, Option, Result, Ok, Err, refl, sym, ap, ◌∙◌, subst, arith}
-use Rattle.std.specs.Prelude.{pos, int_lt, nat_lt, IsErrAnd, unsigned_abs}
-use Rattle.std.specs.Borrow.{Bor}
-use Rattle.std.proofs.lemmas.Bool.{or_from, eq-eqb, le-leb, lt-leb}
-use Rattle.std.proofs.lemmas.List.{length-map}
-use Rattle.wi_values.specs.Address.{Area, place, row_of, column_of, is_within}
-use Rattle.wi_values.specs.declared.value.ErrorKind.{ErrorKind}
-use Rattle.wi_values.specs.declared.value.ErrorKind.TheVariants.{BadValue, BadReference}
-use Rattle.wi_values.specs.declared.value.Value.{Value}
-use Rattle.wi_values.specs.declared.value.Value.TheVariants.{Number, Fault}
-use Rattle.wi_values.proofs.Within.{row_of_place, column_of_place, column_within, within_from}
+use Rattle.wi_lookup_functions.proofs.Words.{◌≡◌, ℕ, ℤ, ◌+◌, ◌-◌, ◌<◌, ◌≤◌, ◌==◌, ◌||◌, Bool, true, false, cond, List, length, Option, Ok, Err, refl, sym, ap, ◌∙◌, subst, arith, pos, int_lt, nat_lt, IsErrAnd, unsigned_abs, Bor, or_from, eq-eqb, le-leb, lt-leb, length-map, Area, place, row_of, column_of, is_within, ErrorKind, BadValue, BadReference, Value, Number, Fault, row_of_place, column_of_place, column_within, within_from, argument_in, arguments_in, KnownAgrees, IsMissing, Argument, Region, region_of, value_or, value_at, whole_value, zero_number, no_error, cell_in, index_value, index_along, index_by_both, nth_cell, nth_cell_along, position_among, sought_for, ◌>>=◌, and_then, Ending, Error, Stopped, WhateverHeld, Finds, Places, IsPlacedIn, height, width}
+use Rattle.std.proofs.Common.{Result}
 use Rattle.wi_arguments.specs.declared.argument.Argument as given
-use Rattle.wi_arguments.specs.Arguments.{argument_in, arguments_in, KnownAgrees, IsMissing}
-use Rattle.wi_standard_functions.specs.Arguments.{Argument, Region, region_of, value_or, value_at}
-use Rattle.wi_standard_functions.specs.Arithmetic.{whole_value}
-use Rattle.wi_standard_functions.specs.Convert.{zero_number}
-use Rattle.wi_standard_functions.specs.FirstError.{no_error}
-use Rattle.wi_standard_functions.specs.Lookup.{cell_in, index_value, index_along, index_by_both, nth_cell, nth_cell_along, position_among}
-use Rattle.wi_standard_functions.specs.Matching.{sought_for}
-use Rattle.wi_standard_functions.specs.Steps.{◌>>=◌, and_then}
-use Rattle.wi_value_functions.specs.declared.ending.Ending.{Ending}
-use Rattle.wi_value_functions.specs.declared.ending.Ending.TheVariants.{Error, Stopped}
-use Rattle.wi_lookup_functions.specs.Inner.Finding.{WhateverHeld, Agrees, Finds, Places, IsPlacedIn}
-use Rattle.wi_lookup_functions.specs.Inner.Lines.{height, width}
+use Rattle.wi_lookup_functions.specs.Inner.Finding.{Agrees}
 use Rattle.wi_lookup_functions.proofs.Asked.{itself, fault, sought_or_zero}
 use Rattle.wi_lookup_functions.proofs.CellsByPlace.{cell_at}
 

@@ -1,12 +1,5 @@
 -- Rectangles of one size, cell by cell.
-use Rattle.std.proofs.Common.{◌≡◌, ℕ, zero, suc, ◌<◌, ◌≤◌, ◌-◌, ◌+◌, ◌==◌, true, List, ◌∷◌, ◌++◌, map, refl, sym, ap, ◌∙◌, arith}
-use Rattle.std.proofs.lemmas.Bool.{and_parts, and_from, eqb-true, le-leb}
-use Rattle.std.proofs.lemmas.List.{map-append}
-use Rattle.std.proofs.Math.Nat.{mod-lt}
-use Rattle.wi_values.specs.Address.{Area, is_within, cells_of, place, row_of, column_of}
-use Rattle.wi_values.proofs.Within.{within_parts}
-use Rattle.wi_arguments.proofs.RowMajor.{block, run}
-use Rattle.wi_lookup_functions.specs.Inner.Sums.{same_extent, same_place}
+use Rattle.wi_lookup_functions.proofs.Words.{◌≡◌, ℕ, zero, suc, ◌<◌, ◌≤◌, ◌-◌, ◌+◌, ◌==◌, true, List, ◌∷◌, ◌++◌, map, refl, sym, ap, ◌∙◌, arith, and_parts, and_from, eqb-true, le-leb, map-append, mod-lt, Area, is_within, cells_of, place, row_of, column_of, within_parts, block, run, same_extent, same_place}
 
 -- where a cell of a rectangle stands
 pub record StandsIn (r : Area) (c : ℕ) : Type 0 where

@@ -1,21 +1,5 @@
 -- What a walk along one row or one column has found is the place that is asked for.
-use Rattle.std.proofs.Common.{◌≡◌, ℕ, suc, ◌<◌, ◌+◌, Bool, true, false, cond, List, [], ◌∷◌, map, filter, length, Option, Some, None, IfSome, Ok, Err, refl, sym, ap, ◌∙◌, subst, arith}
-use Rattle.std.specs.Prelude.{nat_lt, ok_or}
-use Rattle.std.specs.Option.{option_map}
-use Rattle.std.specs.List.{position, position_or_len, enumerate_from, last_or}
-use Rattle.std.specs.Ordering.{is_eq, is_le, is_ge}
-use Rattle.std.proofs.lemmas.Bool.{ltb-true}
-use Rattle.std.proofs.lemmas.List.{length-map}
-use Rattle.wi_values.specs.Address.{Area, cells_of}
-use Rattle.wi_values.specs.declared.value.ErrorKind.TheVariants.{NotAvailable}
-use Rattle.wi_values.specs.declared.value.Value.{Value}
-use Rattle.wi_arguments.proofs.Given.{known_agrees, taken_for_known}
-use Rattle.wi_standard_functions.specs.Matching.{is_match}
-use Rattle.wi_lookup_functions.specs.declared.rule.Rule.{Rule}
-use Rattle.wi_lookup_functions.specs.declared.rule.Rule.TheVariants.{FirstEqual, LastAtMost, LastAtLeast}
-use Rattle.wi_lookup_functions.specs.Inner.Finding.{WhateverHeld}
-use Rattle.wi_lookup_functions.specs.Inner.Lines.{is_line, steps}
-use Rattle.wi_lookup_functions.specs.Inner.Search.{position_by}
+use Rattle.wi_lookup_functions.proofs.Words.{◌≡◌, ℕ, suc, ◌<◌, ◌+◌, Bool, true, false, cond, List, [], ◌∷◌, map, filter, length, Option, Some, None, IfSome, Ok, Err, refl, sym, ap, ◌∙◌, subst, arith, nat_lt, ok_or, option_map, position, position_or_len, enumerate_from, last_or, is_eq, is_le, is_ge, ltb-true, length-map, Area, cells_of, NotAvailable, Value, known_agrees, taken_for_known, is_match, Rule, FirstEqual, LastAtMost, LastAtLeast, WhateverHeld, is_line, steps, position_by}
 use Rattle.wi_lookup_functions.proofs.Lines.{line_numbered}
 use Rattle.wi_lookup_functions.proofs.Searches.{found_in, search_finds}
 

@@ -1,18 +1,5 @@
 -- The first column and the first row of a rectangle.
-use Rattle.std.proofs.Common.{◌≡◌, ℕ, zero, suc, ◌<◌, ◌≤◌, ◌+◌, ◌==◌, Bool, true, false, cond, List, length, map, min, max, Some, None, refl, sym, ap, ◌∙◌, subst, arith}
-use Rattle.std.specs.Prelude.{nat_lt}
-use Rattle.std.proofs.lemmas.Bool.{ltb-false, ltb-true, or_left, or_right, eq-eqb}
-use Rattle.std.proofs.lemmas.List.FromFn.{length-map-range_with_len}
-use Rattle.wi_values.specs.Address.{Area, cells_of, place, row_of, column_of, is_within, rect_of}
-use Rattle.wi_values.specs.declared.value.Value.{Value}
-use Rattle.wi_values.proofs.Within.{within_parts, row_of_place, column_of_place, column_within, within_from}
-use Rattle.wi_arguments.proofs.RowMajor.{block, run}
-use Rattle.wi_standard_functions.specs.Arguments.{region_of}
-use Rattle.wi_standard_functions.specs.Lookup.{cell_in}
-use Rattle.wi_lookup_functions.specs.declared.axis.Axis.{Axis}
-use Rattle.wi_lookup_functions.specs.declared.axis.Axis.TheVariants.{Rows, Columns}
-use Rattle.wi_lookup_functions.specs.Inner.Axis.{line_count, line_width, first_cells}
-use Rattle.wi_lookup_functions.specs.Inner.Lines.{first_column, first_row, height, is_line, width}
+use Rattle.wi_lookup_functions.proofs.Words.{◌≡◌, ℕ, zero, suc, ◌<◌, ◌≤◌, ◌+◌, ◌==◌, Bool, true, false, cond, List, length, map, min, max, Some, None, refl, sym, ap, ◌∙◌, subst, arith, nat_lt, ltb-false, ltb-true, or_left, or_right, eq-eqb, length-map-range_with_len, Area, cells_of, place, row_of, column_of, is_within, rect_of, Value, within_parts, row_of_place, column_of_place, column_within, within_from, block, run, region_of, cell_in, Axis, Rows, Columns, line_count, line_width, first_cells, first_column, first_row, height, is_line, width}
 use Rattle.wi_lookup_functions.proofs.CellsByPlace.{cell_at, column_cells, row_cells}
 use Rattle.wi_lookup_functions.proofs.Chains.{first_cells_in}
 use Rattle.wi_lookup_functions.proofs.Lines.{one_row, one_column}

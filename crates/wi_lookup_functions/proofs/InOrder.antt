@@ -1,17 +1,6 @@
 -- Places of rectangles of one size, in row-major order.
-use Rattle.std.proofs.Common.{◌≡◌, ℕ, ◌<◌, ◌≤◌, ◌-◌, ◌+◌, Bool, true, false, ◌&&◌, inl, inr, List, [], ◌∷◌, length, take, get_or, Option, Some, None, IfSome, option_map, refl, sym, ap, ◌∙◌, subst, arith}
-use Rattle.std.specs.List.{list_all}
-use Rattle.std.proofs.lemmas.Bool.{and_parts, and_from, cases_lt, eq-eqb}
-use Rattle.std.proofs.lemmas.List.{take_all}
-use Rattle.std.proofs.Math.Nat.{min-eq_left, min-eq_right}
-use Rattle.std.proofs.lemmas.List.Folds.{list_all_more, list_all_at}
-use Rattle.wi_values.specs.Address.{Area, is_within, row_of, column_of}
-use Rattle.wi_values.specs.declared.value.Value.{Value}
-use Rattle.wi_values.proofs.Within.{within_between}
-use Rattle.wi_arguments.specs.Filled.{ComesBefore, IsNextFilled, is_known_empty}
-use Rattle.wi_arguments.specs.Walk.{IsNextAfter}
-use Rattle.wi_lookup_functions.specs.Inner.Places.{earlier, ComesAfter, IsNextPlace}
-use Rattle.wi_lookup_functions.specs.Inner.Sums.{same_extent, same_place}
+use Rattle.wi_lookup_functions.proofs.Words.{◌≡◌, ℕ, ◌<◌, ◌≤◌, ◌-◌, ◌+◌, Bool, true, false, ◌&&◌, inl, inr, List, [], ◌∷◌, length, take, get_or, Option, Some, None, IfSome, refl, sym, ap, ◌∙◌, subst, arith, list_all, and_parts, and_from, cases_lt, eq-eqb, take_all, min-eq_left, min-eq_right, list_all_more, list_all_at, Area, is_within, row_of, column_of, Value, within_between, ComesBefore, IsNextFilled, is_known_empty, IsNextAfter, earlier, ComesAfter, IsNextPlace, same_extent, same_place}
+use Rattle.std.proofs.Common.{option_map}
 use Rattle.wi_lookup_functions.proofs.Extents.{within_other, same_place_inside, sizes}
 
 pub turned : (r s : Area) → same_extent r s ≡ true → same_extent s r ≡ true

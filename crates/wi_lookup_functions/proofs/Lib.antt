@@ -18,3 +18,4 @@ pub mod ProductEnds
 pub mod Referring
 pub mod Sums
 pub mod Zeros
+pub mod Words

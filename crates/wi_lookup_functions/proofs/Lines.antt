@@ -1,11 +1,5 @@
 -- The cells of one row or of one column, counted from the first.
-use Rattle.std.proofs.Common.{◌≡◌, ℕ, zero, suc, ◌<◌, ◌≤◌, ◌+◌, ◌==◌, true, ◌⊎◌, inl, inr, sym, ap, ◌∙◌, subst, arith}
-use Rattle.std.proofs.lemmas.List.{append-nil}
-use Rattle.std.proofs.lemmas.Bool.{or_cases, eqb-true}
-use Rattle.std.proofs.Math.Nat.{mod-lt}
-use Rattle.wi_values.specs.Address.{Area, cells_of, place, row_of, column_of}
-use Rattle.wi_lookup_functions.specs.Inner.Lines.{height, is_line, steps, width}
-use Rattle.wi_arguments.proofs.RowMajor.{block, run}
+use Rattle.wi_lookup_functions.proofs.Words.{◌≡◌, ℕ, zero, suc, ◌<◌, ◌≤◌, ◌+◌, ◌==◌, true, ◌⊎◌, inl, inr, sym, ap, ◌∙◌, subst, arith, append-nil, or_cases, eqb-true, mod-lt, Area, cells_of, place, row_of, column_of, height, is_line, steps, width, block, run}
 use Rattle.wi_lookup_functions.proofs.Searches.{IsNumbered}
 
 run_numbered : (r : Area) (a k n : ℕ) → a ≡ column_of r.first + k → a + n ≤ 16384 → IsNumbered (steps r) k (run (row_of r.first) a n)

@@ -1,17 +1,6 @@
 -- Which values meet a criterion.
-use Rattle.std.proofs.Common.{◌≡◌, Bool, true, false, ◌&&◌, ◌==◌, Option, Some, None, refl, sym, ap, ◌∙◌}
-use Rattle.std.specs.Prelude.{not, if◌then◌else◌}
-use Rattle.std.specs.Ordering.{is_eq, is_ne}
-use Rattle.std.specs.declared.cmp.Ordering.{Ordering}
-use Rattle.std.specs.declared.cmp.Ordering.TheVariants.{Less as less, Equal as equal, Greater as greater}
-use Rattle.std.proofs.Math.Bool.{and-true}
-use Rattle.std.proofs.lemmas.Bool.{and_parts}
-use Rattle.wi_values.specs.declared.value.Value.{Value}
-use Rattle.wi_standard_functions.specs.Comparison.{rank, order}
-use Rattle.wi_standard_functions.specs.Matching.{can_be_found, same_kind}
-use Rattle.wi_lookup_functions.specs.declared.criterion.Relation.{Relation}
-use Rattle.wi_lookup_functions.specs.declared.criterion.Relation.TheVariants.{Equal, Unequal, Less, AtMost, Greater, AtLeast}
-use Rattle.wi_lookup_functions.specs.Inner.Meeting.{relation_of, holds, holds_between_kinds}
+use Rattle.wi_lookup_functions.proofs.Words.{◌≡◌, Bool, true, false, ◌&&◌, ◌==◌, Option, Some, None, refl, sym, ap, ◌∙◌, not, if◌then◌else◌, is_eq, is_ne, Ordering, Less as less, Equal as equal, Greater as greater, and-true, and_parts, Value, rank, order, can_be_found, same_kind, Relation, Unequal, AtMost, AtLeast, relation_of, holds, holds_between_kinds}
+use Rattle.wi_lookup_functions.specs.declared.criterion.Relation.TheVariants.{Equal, Less, Greater}
 
 -- what is told by the order of a value to the operand, where they are of one kind
 abbrev pub told : Relation → Value → Option Ordering → Bool

@@ -1,32 +1,9 @@
 -- The sum over all places is SUMPRODUCT, and how SUMPRODUCT ends.
-use Rattle.std.proofs.Common.{◌≡◌, ℕ, suc, ◌<◌, ◌≤◌, ◌+◌, ◌-◌, ◌==◌, Bool, true, false, ◌&&◌, ◌||◌, List, [], ◌∷◌, ◌++◌, map, fold, drop, get_or, length, Option, Some, None, option_map, refl, sym, ap, ◌∙◌, subst, arith}
-use Rattle.std.specs.Prelude.{Result, Ok, Err, slice_get, unwrap_or, if◌then◌else◌}
-use Rattle.std.specs.List.{list_all, list_any, range_with_len}
-use Rattle.std.proofs.lemmas.Bool.{and_parts, and_from, eq-eqb}
-use Rattle.std.proofs.lemmas.List.{drop_more, drop_all, length-map, append_assoc, append-nil}
-use Rattle.std.proofs.lemmas.List.Folds.{list_all-map}
-use Rattle.std.proofs.lemmas.Option.{slice_get-map}
+use Rattle.wi_lookup_functions.proofs.Words.{◌≡◌, ℕ, suc, ◌<◌, ◌≤◌, ◌+◌, ◌-◌, ◌==◌, Bool, true, false, ◌&&◌, ◌||◌, List, [], ◌∷◌, ◌++◌, map, fold, drop, get_or, length, Option, Some, None, refl, sym, ap, ◌∙◌, subst, arith, Result, slice_get, unwrap_or, if◌then◌else◌, list_all, list_any, range_with_len, and_parts, and_from, eq-eqb, drop_more, drop_all, length-map, append_assoc, append-nil, list_all-map, slice_get-map, Area, cells_of, is_within, row_of, column_of, ErrorKind, BadValue, Value, Empty, Number, Argument, Region, region_of, region_referred, addition, multiplication, zero_number, one_number, same_size, of_one_size, factor, product_at, products, sum_of_items, sum_product_value, Item, scalar, number_of_item, with_number, ◌>>=◌, and_then, map_until_error, Missing, Memory, arguments_in, refers_to, area_referred, Stop, Ending, Error, Stopped, Agrees, Gives, areas_of, product_there, sum_over, sum_through, with_factor, with_place, IsAreaError, IsMissingInAny, same_extent, same_place}
+use Rattle.std.proofs.Common.{option_map}
+use Rattle.std.specs.Prelude.{Ok, Err}
 use Rattle.wi_fraction.specs.Number as numbers
-use Rattle.wi_values.specs.Address.{Area, cells_of, is_within, row_of, column_of}
-use Rattle.wi_values.specs.declared.value.ErrorKind.{ErrorKind}
-use Rattle.wi_values.specs.declared.value.ErrorKind.TheVariants.{BadValue}
-use Rattle.wi_values.specs.declared.value.Value.{Value}
-use Rattle.wi_values.specs.declared.value.Value.TheVariants.{Empty, Number}
-use Rattle.wi_standard_functions.specs.Arguments.{Argument, Region, region_of, region_referred}
-use Rattle.wi_standard_functions.specs.Arithmetic.{addition, multiplication}
-use Rattle.wi_standard_functions.specs.Convert.{zero_number, one_number}
-use Rattle.wi_standard_functions.specs.Mathematical.{same_size, of_one_size, factor, product_at, products, sum_of_items, sum_product_value}
-use Rattle.wi_standard_functions.specs.Sequence.{Item, scalar, number_of_item, with_number}
-use Rattle.wi_standard_functions.specs.Steps.{◌>>=◌, and_then, map_until_error}
 use Rattle.wi_arguments.specs.declared.argument.Argument as given
-use Rattle.wi_value_functions.specs.declared.ending.Stop.TheVariants.{Missing, Memory}
-use Rattle.wi_arguments.specs.Arguments.{arguments_in, refers_to, area_referred}
-use Rattle.wi_value_functions.specs.declared.ending.Stop.{Stop}
-use Rattle.wi_value_functions.specs.declared.ending.Ending.{Ending}
-use Rattle.wi_value_functions.specs.declared.ending.Ending.TheVariants.{Error, Stopped}
-use Rattle.wi_lookup_functions.specs.Inner.Giving.{Agrees, Gives}
-use Rattle.wi_lookup_functions.specs.Inner.Products.{areas_of, product_there, sum_over, sum_through, with_factor, with_place, IsAreaError, IsMissingInAny}
-use Rattle.wi_lookup_functions.specs.Inner.Sums.{same_extent, same_place}
 use Rattle.wi_lookup_functions.proofs.Extents.{cells_moved}
 use Rattle.wi_lookup_functions.proofs.Sums.{added}
 

@@ -1,28 +1,9 @@
 -- What a function takes of its arguments.
-use Rattle.std.proofs.Common.{◌≡◌, ℕ, List, [], ◌∷◌, length, Option, Some, None, Bor, refl, sym, ap, ◌∙◌, subst}
-use Rattle.std.specs.Prelude.{slice_get, Result, Ok, Err}
-use Rattle.std.specs.Option.{option_copied}
-use Rattle.std.specs.Slice.{IsItemAt}
-use Rattle.std.proofs.lemmas.Option.{slice_get_past, slice_get_read}
-use Rattle.wi_values.specs.declared.value.ErrorKind.{ErrorKind}
-use Rattle.wi_values.specs.declared.value.Value.{Value}
-use Rattle.wi_values.specs.declared.value.Value.TheVariants.{Empty}
-use Rattle.wi_standard_functions.specs.Arguments.{Argument, value_at}
+use Rattle.wi_lookup_functions.proofs.Words.{◌≡◌, ℕ, List, [], ◌∷◌, length, Option, Some, None, refl, sym, ap, ◌∙◌, subst, slice_get, Result, option_copied, IsItemAt, slice_get_past, slice_get_read, ErrorKind, Value, Empty, Argument, value_at, criterion_of, no_error, ◌>>=◌, and_then, Stop, Missing, Memory, argument_in, arguments_in, value_lent, KnownAgrees, IsMissing, IfMissing, refers_alone, value_absent, value_given, Criterion, criterion_held, Ending, Error, Stopped, criterion_argument, Agrees, IsCriterionOf}
+use Rattle.std.proofs.Common.{Bor}
+use Rattle.std.specs.Prelude.{Ok, Err}
 use Rattle.wi_standard_functions.specs.Criterion as defined
-use Rattle.wi_standard_functions.specs.Criterion.{criterion_of}
-use Rattle.wi_standard_functions.specs.FirstError.{no_error}
-use Rattle.wi_standard_functions.specs.Steps.{◌>>=◌, and_then}
 use Rattle.wi_arguments.specs.declared.argument.Argument as given
-use Rattle.wi_value_functions.specs.declared.ending.Stop.{Stop}
-use Rattle.wi_value_functions.specs.declared.ending.Stop.TheVariants.{Missing, Memory}
-use Rattle.wi_arguments.specs.Arguments.{argument_in, arguments_in, value_lent, KnownAgrees, IsMissing}
-use Rattle.wi_value_functions.specs.Endings.{IfMissing}
-use Rattle.wi_arguments.proofs.Given.{refers_alone, value_absent, value_given}
-use Rattle.wi_lookup_functions.specs.declared.criterion.Criterion.{Criterion}
-use Rattle.wi_lookup_functions.specs.Inner.Meeting.{criterion_held}
-use Rattle.wi_value_functions.specs.declared.ending.Ending.{Ending}
-use Rattle.wi_value_functions.specs.declared.ending.Ending.TheVariants.{Error, Stopped}
-use Rattle.wi_lookup_functions.specs.Inner.Giving.{criterion_argument, Agrees, IsCriterionOf}
 
 -- what `get` gives
 pub got : {X : Type 0} (xs : List X) (i : ℕ) (r : Option (Bor X)) → IsItemAt xs i r → option_copied r ≡ slice_get xs i

@@ -1,17 +1,6 @@
 -- What a search through cells finds is the place that the definitions find in the list of their values.
-use Rattle.std.proofs.Common.{◌≡◌, ℕ, suc, ◌+◌, Bool, true, false, cond, ◌&&◌, List, [], ◌∷◌, map, filter, fold, length, Option, Some, None, refl, sym, ap, ◌∙◌, arith}
-use Rattle.std.specs.Prelude.{nat_lt, pos, int_lt}
-use Rattle.std.specs.Option.{option_map}
-use Rattle.std.specs.List.{position, position_or_len, enumerate_from, last_or}
-use Rattle.std.specs.Ordering.{int_eq, is_eq, is_le, is_ge}
-use Rattle.std.proofs.lemmas.Bool.Decides.{nat_tests}
+use Rattle.wi_lookup_functions.proofs.Words.{◌≡◌, ℕ, suc, ◌+◌, Bool, true, false, cond, ◌&&◌, List, [], ◌∷◌, map, filter, fold, length, Option, Some, None, refl, sym, ap, ◌∙◌, arith, nat_lt, pos, int_lt, option_map, position, position_or_len, enumerate_from, last_or, int_eq, is_eq, is_le, is_ge, nat_tests, Value, is_match, last_position, match_position, type_for, Rule, FirstEqual, LastAtMost, LastAtLeast, found_after, position_by, rule_of_match_type, rule_in_order}
 use Rattle.wi_fraction.specs.Number as numbers
-use Rattle.wi_values.specs.declared.value.Value.{Value}
-use Rattle.wi_standard_functions.specs.Matching.{is_match, last_position, match_position}
-use Rattle.wi_standard_functions.specs.Inner.Named.{type_for}
-use Rattle.wi_lookup_functions.specs.declared.rule.Rule.{Rule}
-use Rattle.wi_lookup_functions.specs.declared.rule.Rule.TheVariants.{FirstEqual, LastAtMost, LastAtLeast}
-use Rattle.wi_lookup_functions.specs.Inner.Search.{found_after, position_by, rule_of_match_type, rule_in_order}
 
 -- the items have these numbers, one after another
 abbrev pub IsNumbered : (ℕ → ℕ) → ℕ → List ℕ → Type 0

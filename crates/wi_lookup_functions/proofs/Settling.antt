@@ -1,17 +1,7 @@
 -- How COUNTIF, SUMIF and SUMPRODUCT end.
-use Rattle.std.proofs.Common.{◌≡◌, ℕ, true, List, Option, None, sym, subst}
-use Rattle.std.specs.Prelude.{Result, Ok, Err, IfOk, IfErr}
-use Rattle.wi_values.specs.Address.{Area, is_within}
-use Rattle.wi_values.specs.declared.value.Value.{Value}
-use Rattle.wi_standard_functions.specs.Arguments.{Argument}
+use Rattle.wi_lookup_functions.proofs.Words.{◌≡◌, ℕ, true, List, Option, None, sym, subst, Result, IfOk, IfErr, Area, is_within, Value, Argument, Stop, Missing, IsOfArguments, IsMissing, IsReferred, Ending, Error, Stopped, settled, IfMissing, Gives}
+use Rattle.std.specs.Prelude.{Ok, Err}
 use Rattle.wi_arguments.specs.declared.argument.Argument as given
-use Rattle.wi_value_functions.specs.declared.ending.Stop.{Stop}
-use Rattle.wi_value_functions.specs.declared.ending.Stop.TheVariants.{Missing}
-use Rattle.wi_arguments.specs.Arguments.{IsOfArguments, IsMissing, IsReferred}
-use Rattle.wi_value_functions.specs.declared.ending.Ending.{Ending}
-use Rattle.wi_value_functions.specs.declared.ending.Ending.TheVariants.{Error, Stopped}
-use Rattle.wi_value_functions.specs.Endings.{settled, IfMissing}
-use Rattle.wi_lookup_functions.specs.Inner.Giving.{Gives}
 
 pub settled_done : (known : ℕ → Option Value) (f : List Argument → Value) (args : List given.Argument) (o : Result Value (Ending (Stop ℕ))) (r : Result Value (Stop ℕ)) → r ≡ settled o → Gives known f args o → IfOk r (IsOfArguments known f args)
 settled_done known f args o r e h = subst (λ (s : Result Value (Stop ℕ)). IfOk s (IsOfArguments known f args)) (sym e) (at o h)

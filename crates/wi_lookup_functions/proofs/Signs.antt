@@ -1,10 +1,6 @@
 -- How a text begins.
-use Rattle.std.proofs.Common.{◌≡◌, ◌≢◌, ℕ, Bool, true, false, List, ◌++◌, length, drop, nat_eq, Option, Some, None, MatchOption, Bor, refl, sym, ap, ◌∙◌}
-use Rattle.std.specs.List.{starts_with}
-use Rattle.std.specs.Str.Pattern.{FindsTextPrefix, StripsPrefix}
-use Rattle.std.proofs.lemmas.Slice.Eq.{starts_is}
-use Rattle.std.proofs.lemmas.Bool.Decides.{Decides-eqb}
-use Rattle.wi_lookup_functions.specs.Inner.Meeting.{IsRestAfter}
+use Rattle.wi_lookup_functions.proofs.Words.{◌≡◌, ◌≢◌, ℕ, Bool, true, false, List, ◌++◌, length, drop, nat_eq, Option, Some, None, MatchOption, refl, sym, ap, ◌∙◌, starts_with, FindsTextPrefix, StripsPrefix, starts_is, Decides-eqb, IsRestAfter}
+use Rattle.std.proofs.Common.{Bor}
 
 lacks : (sign text : List ℕ) (b : Bool) → starts_with nat_eq text sign ≡ b → ((rest : List ℕ) → text ≢ sign ++ rest) → b ≡ false
 lacks sign text true e h = absurd (h (drop (length sign) text) ((starts_is Decides-eqb text sign true (sym e)).0 refl))

@@ -1,37 +1,10 @@
 -- What SUMIF adds.
-use Rattle.std.proofs.Common.{◌≡◌, ℕ, Bool, true, false, cond, ◌||◌, List, [], ◌∷◌, map, filter, fold, Option, Some, None, IfSome, refl, sym, ap, ◌∙◌, subst}
-use Rattle.std.specs.Prelude.{Result, Ok, Err, zip, if◌then◌else◌}
-use Rattle.std.specs.List.{list_any}
-use Rattle.std.proofs.lemmas.Bool.{or_left, or_right}
+use Rattle.wi_lookup_functions.proofs.Words.{◌≡◌, ℕ, Bool, true, false, cond, ◌||◌, List, [], ◌∷◌, map, filter, fold, Option, Some, None, IfSome, refl, sym, ap, ◌∙◌, subst, Result, zip, if◌then◌else◌, list_any, or_left, or_right, Area, cells_of, is_within, ErrorKind, BadValue, Value, Empty, Number, Argument, Region, region_of, region_at, region_or, value_at, addition, zero_number, no_error, same_size, chosen_cells, sum_of_items, sum_if_value, Item, from_cell, number_of_item, with_number, ◌>>=◌, and_then, Missing, Memory, arguments_in, refers_to, KnownAgrees, region_in, IsReferred, IsNextFilled, after_cells, IsNextAfter, known_agrees, known_is, taken_for_known, Criterion, criterion_held, is_met, empty_meets_none, Stop, Ending, Error, Stopped, criterion_argument, Agrees, Gives, same_extent, same_place, values_where, with_cell, with_met, IsMissingInEither}
+use Rattle.std.specs.Prelude.{Ok, Err}
 use Rattle.wi_fraction.specs.Number as numbers
-use Rattle.wi_values.specs.Address.{Area, cells_of, is_within}
-use Rattle.wi_values.specs.declared.value.ErrorKind.{ErrorKind}
-use Rattle.wi_values.specs.declared.value.ErrorKind.TheVariants.{BadValue}
-use Rattle.wi_values.specs.declared.value.Value.{Value}
-use Rattle.wi_values.specs.declared.value.Value.TheVariants.{Empty, Number}
-use Rattle.wi_standard_functions.specs.Arguments.{Argument, Region, region_of, region_at, region_or, value_at}
-use Rattle.wi_standard_functions.specs.Arithmetic.{addition}
-use Rattle.wi_standard_functions.specs.Convert.{zero_number}
 use Rattle.wi_standard_functions.specs.Criterion as defined
-use Rattle.wi_standard_functions.specs.FirstError.{no_error}
-use Rattle.wi_standard_functions.specs.Mathematical.{same_size, chosen_cells, sum_of_items, sum_if_value}
-use Rattle.wi_standard_functions.specs.Sequence.{Item, from_cell, number_of_item, with_number}
-use Rattle.wi_standard_functions.specs.Steps.{◌>>=◌, and_then}
 use Rattle.wi_arguments.specs.declared.argument.Argument as given
-use Rattle.wi_value_functions.specs.declared.ending.Stop.TheVariants.{Missing, Memory}
-use Rattle.wi_arguments.specs.Arguments.{arguments_in, refers_to, KnownAgrees, region_in, IsReferred}
-use Rattle.wi_arguments.specs.Filled.{IsNextFilled}
-use Rattle.wi_arguments.specs.Walk.{after_cells, IsNextAfter}
-use Rattle.wi_arguments.proofs.Given.{known_agrees, known_is, taken_for_known}
 use Rattle.wi_arguments.proofs.Walking as walk
-use Rattle.wi_lookup_functions.specs.declared.criterion.Criterion.{Criterion}
-use Rattle.wi_lookup_functions.specs.Inner.Meeting.{criterion_held, is_met}
-use Rattle.wi_lookup_functions.specs.Inner.Laws.{empty_meets_none}
-use Rattle.wi_value_functions.specs.declared.ending.Stop.{Stop}
-use Rattle.wi_value_functions.specs.declared.ending.Ending.{Ending}
-use Rattle.wi_value_functions.specs.declared.ending.Ending.TheVariants.{Error, Stopped}
-use Rattle.wi_lookup_functions.specs.Inner.Giving.{criterion_argument, Agrees, Gives}
-use Rattle.wi_lookup_functions.specs.Inner.Sums.{same_extent, same_place, values_where, with_cell, with_met, IsMissingInEither}
 use Rattle.wi_lookup_functions.proofs.Extents.{cells_moved, same_place_inside}
 use Rattle.wi_lookup_functions.proofs.Referring.{IsCriterionAt, by_criterion}
 

@@ -1,22 +1,8 @@
 -- What zero does to a sum and to a product.
-use Rattle.std.proofs.Common.{◌≡◌, ℕ, ◌≤◌, Some, refl, sym, ap, ◌∙◌, arith}
-use Rattle.std.specs.Prelude.{ℤ, pos, negsuc, ◌*◌, ◌/◌, ◌*ℤ◌, ◌+ℤ◌, unsigned_abs, Ok}
-use Rattle.std.proofs.lemmas.Bool.Decides.{nat_tests}
-use Rattle.std.proofs.lemmas.Int.{ints}
-use Rattle.std.proofs.Math.Nat.{div-one, div_self, mul-one}
-use Rattle.wi_fraction.specs.Arithmetic.{bounded, int_bounded}
-use Rattle.wi_fraction.specs.Gcd.{gcd}
+use Rattle.wi_lookup_functions.proofs.Words.{◌≡◌, ℕ, ◌≤◌, Some, refl, sym, ap, ◌∙◌, arith, pos, negsuc, ◌/◌, ◌*ℤ◌, ◌+ℤ◌, unsigned_abs, nat_tests, ints, div-one, div_self, mul-one, bounded, int_bounded, gcd, number_of, max_size, gcd-one, zero_of, of_parts, bounded-small, sum_from_steps, mul-one-int, mul-none, fitting, addition, multiplication, zero_number}
+use Rattle.std.specs.Prelude.{ℤ, ◌*◌, Ok}
 use Rattle.wi_fraction.specs.Number as numbers
-use Rattle.wi_fraction.specs.Number.{number_of, max_size}
-use Rattle.wi_fraction.specs.Gcd.Laws.{gcd-one}
-use Rattle.wi_fraction.proofs.Exponents.{zero_of}
-use Rattle.wi_fraction.proofs.NearWholes.{of_parts}
-use Rattle.wi_fraction.proofs.Reading.{bounded-small}
 use Rattle.wi_fraction.proofs.Numbers.{zero_number as zero_is}
-use Rattle.wi_fraction.proofs.Steps.{sum_from_steps, mul-one-int}
-use Rattle.wi_fraction.proofs.Values.{mul-none}
-use Rattle.wi_standard_functions.specs.Arithmetic.{fitting, addition, multiplication}
-use Rattle.wi_standard_functions.specs.Convert.{zero_number}
 
 int_bounded_is : (z : ℤ) → unsigned_abs z ≤ max_size → Some z ≡ int_bounded z
 int_bounded_is z h = grind (arith, nat_tests, h)

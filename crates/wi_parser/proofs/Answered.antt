@@ -1,16 +1,6 @@
 -- What the calls on formulas and contents answer.
-use Rattle.std.proofs.Common.{◌≡◌, ◌≤◌, true, false, List, length, ℕ, Some, None, option_map, is_some, ok_or, Ok, Err, if◌then◌else◌, ℤ, codes, ap, sym, ◌∙◌}
-use Rattle.std.proofs.lemmas.Bool.{le-ltb}
-use Rattle.wi_values.specs.declared.value.Value.{Value}
+use Rattle.wi_parser.proofs.Words.{◌≡◌, ◌≤◌, true, false, List, length, ℕ, Some, None, option_map, is_some, ok_or, Ok, Err, if◌then◌else◌, ℤ, codes, ap, sym, ◌∙◌, le-ltb, Value, max_text, imported, Constant, Formula, TooLong, Tree, stays, moved, all_references, map_references, shifted, after, after_equals, parsed, as_content, taken_as_text, constant_read, content_read}
 use Rattle.wi_values.specs.declared.value.Value.TheVariants.{Text}
-use Rattle.wi_values.specs.Import.{max_text}
-use Rattle.wi_values.specs.Inner.Import.{imported}
-use Rattle.wi_parser.specs.declared.content.Content.TheVariants.{Constant, Formula}
-use Rattle.wi_parser.specs.declared.fault.ParseFault.TheVariants.{TooLong}
-use Rattle.wi_parser.specs.Tree.{Tree}
-use Rattle.wi_parser.specs.Shift.{stays, moved, all_references, map_references, shifted}
-use Rattle.wi_parser.specs.Inner.FormulaText.{after, after_equals}
-use Rattle.wi_parser.specs.Inner.Reading.{parsed, as_content, taken_as_text, constant_read, content_read}
 
 -- ---- shifts
 

@@ -1,13 +1,5 @@
 -- Which symbols stand side by side where a tree is spelled.
-use Rattle.std.proofs.Common.{◌≡◌, ℕ, Bool, true, false, List, [], ◌∷◌, ◌++◌, refl, sym, subst, append_assoc, append-nil}
-use Rattle.wi_parser.specs.declared.expr.Reference.{Reference}
-use Rattle.wi_parser.specs.declared.expr.Sign.{Sign}
-use Rattle.wi_parser.specs.declared.expr.Sign.TheVariants.{Plus, Minus}
-use Rattle.wi_parser.specs.Tree.{Tree, Trees}
-use Rattle.wi_parser.specs.Symbol.{Symbol, numeral, text_literal, open_parenthesis, close_parenthesis, separator, infix_mark, sign_mark, percent_mark, what_if_name, name, bad_token}
-use Rattle.wi_parser.specs.Nesting.{is_sign}
-use Rattle.wi_parser.specs.Inner.WhatIf.{pair_symbols}
-use Rattle.wi_parser.specs.Inner.Lines.{loosest, Spells, a_number, a_text, a_cell, a_rectangle, in_parentheses, one_input, two_inputs, a_call, with_sign, with_percent, tighter, joined, SpellsAll, SpellsMore, no_parameter, parameters, last_parameter, another_parameter}
+use Rattle.wi_parser.proofs.Words.{◌≡◌, ℕ, Bool, true, false, List, [], ◌∷◌, ◌++◌, refl, sym, subst, append_assoc, append-nil, Reference, Sign, Plus, Minus, Tree, Trees, Symbol, numeral, text_literal, open_parenthesis, close_parenthesis, separator, infix_mark, sign_mark, percent_mark, what_if_name, name, bad_token, is_sign, pair_symbols, loosest, Spells, a_number, a_text, a_cell, a_rectangle, in_parentheses, one_input, two_inputs, a_call, with_sign, with_percent, tighter, joined, SpellsAll, SpellsMore, no_parameter, parameters, last_parameter, another_parameter}
 
 -- an operand may begin with the symbol
 abbrev pub begins : Symbol → Bool

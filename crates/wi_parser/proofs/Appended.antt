@@ -1,12 +1,6 @@
 -- What the leaves of a tree append to a list.
-use Rattle.std.proofs.Common.{◌≡◌, ℕ, ◌++◌, [], ◌∷◌, List, map, Result, Ok, Err, IfOk, ap, sym, subst, ◌∙◌}
-use Rattle.std.specs.List.{flat_map}
-use Rattle.std.proofs.lemmas.Grind.{flat_map-append}
+use Rattle.wi_parser.proofs.Words.{◌≡◌, ℕ, ◌++◌, [], ◌∷◌, List, map, Result, Ok, Err, IfOk, ap, sym, subst, ◌∙◌, flat_map, flat_map-append, Area, Reference, Leaf, what_if_leaf, cell_area, leaf_inputs, leaf_rectangles}
 use Rattle.std.proofs.lemmas.List.{append-nil, append_assoc}
-use Rattle.wi_values.specs.Address.{Area}
-use Rattle.wi_parser.specs.declared.expr.Reference.{Reference}
-use Rattle.wi_parser.specs.Leaves.{Leaf, what_if_leaf}
-use Rattle.wi_parser.specs.Reads.{cell_area, leaf_inputs, leaf_rectangles}
 
 -- what some leaves appended, and where that went well, others to the list so made
 pub both_appended : {L X E : Type 0} (f : L → List X) (r : Result (Unit {0}) E) (front once twice : List X) (ls ks : List L)

@@ -1,23 +1,5 @@
 -- The cell of a reference in the sheet is written with its column and row, which stand for its address.
-use Rattle.std.proofs.Common.{◌≡◌, ℕ, ◌+◌, ◌*◌, ◌<◌, ◌^◌, Bool, true, false, ◌&&◌, nat_lt, List, [], ◌∷◌, ◌++◌, length, Option, Some, None, Ok, Err, ok_or, option_map, if◌then◌else◌, refl, ap, arith}
-use Rattle.std.proofs.lemmas.Bool.Decides.{nat_tests}
-use Rattle.std.proofs.lemmas.Fmt.{decimal_is_IsNumeral, first_decimal}
-use Rattle.std.proofs.Math.Seq.{take-append_seam, drop-append_seam}
-use Rattle.std.specs.Char.{is_ascii_alphabetic, is_ascii_digit}
-use Rattle.std.specs.Fmt.{decimal}
-use Rattle.std.specs.List.{list_all, prefix_len}
-use Rattle.std.proofs.lemmas.Bool.{and_parts}
-use Rattle.wi_values.specs.Address.{columns, rows, row_of, column_of, column_letters, address_text, is_row_number}
-use Rattle.wi_values.specs.AddressReading.{address_at, read_address}
-use Rattle.wi_values.specs.declared.address.AddressFault.TheVariants.{Shape, Outside}
-use Rattle.wi_values.proofs.ReadsBack.{addresses_read_back, column_are_letters, column_some}
-use Rattle.wi_lexer.specs.Runs.{IsRun}
-use Rattle.wi_lexer.specs.Cell.{IsCell}
-use Rattle.wi_lexer.proofs.RunLemmas.{run_stops, run_more, digits_run}
-use Rattle.wi_parser.specs.declared.expr.Reference.{Reference}
-use Rattle.wi_parser.specs.Printing.{cell_named}
-use Rattle.wi_parser.specs.Shift.{in_sheet}
-use Rattle.wi_parser.specs.Symbols.{reference_to}
+use Rattle.wi_parser.proofs.Words.{◌≡◌, ℕ, ◌+◌, ◌*◌, ◌<◌, ◌^◌, Bool, true, false, ◌&&◌, nat_lt, List, [], ◌∷◌, ◌++◌, length, Option, Some, None, Ok, Err, ok_or, option_map, if◌then◌else◌, refl, ap, arith, nat_tests, decimal_is_IsNumeral, first_decimal, take-append_seam, drop-append_seam, is_ascii_alphabetic, is_ascii_digit, decimal, list_all, prefix_len, and_parts, columns, rows, row_of, column_of, column_letters, address_text, is_row_number, address_at, read_address, Shape, Outside, addresses_read_back, column_are_letters, column_some, IsRun, IsCell, run_stops, run_more, digits_run, Reference, cell_named, in_sheet, reference_to}
 
 -- ---- the column, and the row
 

@@ -1,11 +1,5 @@
 -- A line reads an operand, and then operators with their right operands: those of its tightest line first, or all as they come.
-use Rattle.std.proofs.Common.{◌≡◌, ℕ, zero, suc, ◌-◌, ◌<◌, ◌≤◌, nat_le, Bool, true, false, cond, List, [], ◌∷◌, length, Option, Some, None, refl, sym, ap, ◌∙◌, ⊎_elim, arith, length-append}
-use Rattle.std.proofs.lemmas.Bool.{cases_lt, ne_eqb, lt-leb, leb-false}
-use Rattle.wi_parser.specs.declared.expr.Operator.{Operator}
-use Rattle.wi_parser.specs.Tree.{Tree, binary}
-use Rattle.wi_parser.specs.Symbol.{Symbol, infix_mark}
-use Rattle.wi_parser.specs.Grammar.{line_of}
-use Rattle.wi_parser.specs.Inner.Reader.{Read, Parse, read_then, operator_at, operator_within, chain, chain_step, line, expression}
+use Rattle.wi_parser.proofs.Words.{◌≡◌, ℕ, zero, suc, ◌-◌, ◌<◌, ◌≤◌, nat_le, Bool, true, false, cond, List, [], ◌∷◌, length, Option, Some, None, refl, sym, ap, ◌∙◌, ⊎_elim, arith, length-append, cases_lt, ne_eqb, lt-leb, leb-false, Operator, Tree, binary, Symbol, infix_mark, line_of, Read, Parse, read_then, operator_at, operator_within, chain, chain_step, line, expression}
 use Rattle.wi_parser.proofs.Marks.{operator-length, from_powers}
 use Rattle.wi_parser.proofs.Turns.{chain_stop, chain_fail, chain_more}
 use Rattle.wi_parser.proofs.Sound.{line_sound, expression_sound}

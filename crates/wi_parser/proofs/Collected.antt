@@ -1,16 +1,6 @@
 -- What a loop over the tokens of a text collects.
-use Rattle.std.proofs.Common.{◌≡◌, ℕ, List, [], ◌∷◌, ◌++◌, length, ◌<◌, refl, sym, ap, ◌∙◌, arith}
-use Rattle.wi_lexer.specs.declared.lexer.Token.{Token}
-use Rattle.wi_lexer.specs.Token.{NoToken, after_blanks}
-use Rattle.wi_lexer.specs.Scan.{Scan}
-use Rattle.wi_lexer.specs.Lexing.{ahead, IsNextToken, IsDone}
-use Rattle.wi_lexer.specs.Inner.Tokens.{tokens}
-use Rattle.wi_lexer.proofs.CallerLemmas.{tokens_next, tokens_bad, tokens_end}
-use Rattle.wi_parser.specs.declared.fault.ParseFault.TheVariants.{Syntax}
+use Rattle.wi_parser.proofs.Words.{◌≡◌, ℕ, List, [], ◌∷◌, ◌++◌, length, ◌<◌, refl, sym, ap, ◌∙◌, arith, Token, NoToken, after_blanks, Scan, ahead, IsNextToken, IsDone, tokens, tokens_next, tokens_bad, tokens_end, Syntax, Symbol, bad_token, symbol_of, symbols_of, meant_by, all_meant}
 use Rattle.wi_parser.specs.declared.symbol.Symbol as code
-use Rattle.wi_parser.specs.Symbol.{Symbol, bad_token}
-use Rattle.wi_parser.specs.Inner.FormulaText.{symbol_of, symbols_of}
-use Rattle.wi_parser.specs.Inner.SymbolCode.{meant_by, all_meant}
 
 -- what is left of the text's symbols
 abbrev pub left : Scan → List Symbol

@@ -1,19 +1,5 @@
 -- What is spelled is found, whatever follows that cannot go on with it.
-use Rattle.std.proofs.Common.{◌≡◌, ℕ, zero, suc, ◌+◌, ◌-◌, ◌<◌, ◌≤◌, max, cond, List, [], ◌∷◌, ◌++◌, length, Some, None, option_and_then, refl, sym, ap, ◌∙◌, arith, append_assoc, append-nil, length-append}
-use Rattle.std.proofs.lemmas.Bool.{ne_eqb, eq-eqb}
-use Rattle.wi_fraction.specs.Number.{Number}
-use Rattle.wi_parser.specs.declared.expr.Corners.{Corners}
-use Rattle.wi_parser.specs.declared.expr.Operator.{Operator}
-use Rattle.wi_parser.specs.declared.expr.Reference.{Reference}
-use Rattle.wi_parser.specs.declared.expr.Sign.{Sign}
-use Rattle.wi_parser.specs.declared.expr.Sign.TheVariants.{Plus, Minus}
-use Rattle.wi_parser.specs.Tree.{Tree, number, cell, rectangle, parenthesized, signed, percent, binary, what_if, Trees, text, call, no_trees, more_trees}
-use Rattle.wi_parser.specs.Symbol.{Symbol, numeral, reference, corners, open_parenthesis, close_parenthesis, infix_mark, sign_mark, percent_mark, text_literal, separator, name}
-use Rattle.wi_parser.specs.Grammar.{line_of}
-use Rattle.wi_parser.specs.Inner.WhatIf.{pair_symbols, what_if_symbols}
-use Rattle.wi_parser.specs.Inner.Lines.{loosest, Spells, a_number, a_cell, a_rectangle, in_parentheses, one_input, two_inputs, with_sign, with_percent, tighter, joined, SpellsAll, SpellsMore, a_text, a_call, no_parameter, parameters, last_parameter, another_parameter}
-use Rattle.wi_parser.specs.Inner.Reader.{Parse, read_then, then_close, after_percent, operator_at, pair_at, what_if_at, atom, signed_read, prefixed, percents, chain, line, expression, if_last, whole, after_close, put_first, more_parameters, parameters_at, as_call}
-use Rattle.wi_parser.specs.Nesting.{depth, greatest_depth}
+use Rattle.wi_parser.proofs.Words.{◌≡◌, ℕ, zero, suc, ◌+◌, ◌-◌, ◌<◌, ◌≤◌, max, cond, List, [], ◌∷◌, ◌++◌, length, Some, None, option_and_then, refl, sym, ap, ◌∙◌, arith, append_assoc, append-nil, length-append, ne_eqb, eq-eqb, Number, Corners, Operator, Reference, Sign, Plus, Minus, Tree, number, cell, rectangle, parenthesized, signed, percent, binary, what_if, Trees, text, call, no_trees, more_trees, Symbol, numeral, reference, corners, open_parenthesis, close_parenthesis, infix_mark, sign_mark, percent_mark, text_literal, separator, name, line_of, pair_symbols, what_if_symbols, loosest, Spells, a_number, a_cell, a_rectangle, in_parentheses, one_input, two_inputs, with_sign, with_percent, tighter, joined, SpellsAll, SpellsMore, a_text, a_call, no_parameter, parameters, last_parameter, another_parameter, Parse, read_then, then_close, after_percent, operator_at, pair_at, what_if_at, atom, signed_read, prefixed, percents, chain, line, expression, if_last, whole, after_close, put_first, more_parameters, parameters_at, as_call, depth, greatest_depth}
 use Rattle.wi_parser.proofs.Marks.{from_powers}
 use Rattle.wi_parser.proofs.Turns.{percents_stop, chain_stop, chain_more}
 use Rattle.wi_parser.proofs.Parameters.{parameters_first, more_last, more_again}

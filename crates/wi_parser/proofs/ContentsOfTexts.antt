@@ -1,28 +1,8 @@
 -- What a text is taken for, and nothing else: the tree that is parsed, the content that is read.
-use Rattle.std.proofs.Common.{◌≡◌, ◌↔◌, ℕ, ◌+◌, Bool, true, false, nat_lt, List, ◌++◌, length, Option, Some, None, is_some, option_map, unwrap_or, Result, Ok, Err, ok_or, if◌then◌else◌, refl, sym, ap, ◌∙◌, subst, arith}
+use Rattle.wi_parser.proofs.Words.{◌≡◌, ◌↔◌, ℕ, ◌+◌, Bool, true, false, nat_lt, List, ◌++◌, length, Option, Some, None, is_some, option_map, unwrap_or, Result, Ok, Err, ok_or, if◌then◌else◌, refl, sym, ap, ◌∙◌, subst, arith, nat_tests, Value, max_text, imported, IsImported, imported_exactly, tokens, Content, Constant, ParseFault, TooLong, Syntax, IsFormulaText, IsNoFormulaText, IsTextOf, AreJudged, at_fault, a_tree, no_tree, IsParsed, too_long, as_judged, IsConstantText, IsContent, a_formula, no_formula, a_long_text, a_constant, no_constant, symbols_of, symbols_by, after, after_prefix, after_equals, formula_symbols, Spells, loosest, max_depth, whole, max_formula, refusal_of, unless_refused, judged, parsed, as_content, taken_as_text, constant_read, content_read, Symbol, AreSymbols, Tree}
 use Rattle.std.specs.Prelude.{codes}
-use Rattle.std.proofs.lemmas.Bool.Decides.{nat_tests}
-use Rattle.wi_values.specs.declared.value.Value.{Value}
 use Rattle.wi_values.specs.declared.value.Value.TheVariants.{Text}
-use Rattle.wi_values.specs.Import.{max_text}
-use Rattle.wi_values.specs.Inner.Import.{imported}
-use Rattle.wi_values.specs.Imported.{IsImported}
-use Rattle.wi_values.proofs.Imports.{imported_exactly}
-use Rattle.wi_lexer.specs.Inner.Tokens.{tokens}
-use Rattle.wi_parser.specs.declared.content.Content.{Content}
-use Rattle.wi_parser.specs.declared.content.Content.TheVariants.{Constant}
-use Rattle.wi_parser.specs.declared.fault.ParseFault.{ParseFault}
-use Rattle.wi_parser.specs.declared.fault.ParseFault.TheVariants.{TooLong, Syntax}
-use Rattle.wi_parser.specs.Contents.{IsFormulaText, plain, prefixed, IsNoFormulaText, IsTextOf, AreJudged, at_fault, a_tree, no_tree, IsParsed, too_long, as_judged, IsConstantText, IsContent, a_formula, no_formula, a_text, a_long_text, a_constant, no_constant}
-use Rattle.wi_parser.specs.Inner.FormulaText.{symbols_of, symbols_by, after, after_prefix, after_equals, formula_symbols}
-use Rattle.wi_parser.specs.Inner.Lines.{Spells, loosest}
-use Rattle.wi_parser.specs.Nesting.{max_depth}
-use Rattle.wi_parser.specs.Inner.Reader.{whole}
-use Rattle.wi_parser.specs.Limits.{max_formula, refusal_of}
-use Rattle.wi_parser.specs.Inner.Reading.{unless_refused, judged, parsed, as_content, taken_as_text, constant_read, content_read}
-use Rattle.wi_parser.specs.Symbol.{Symbol}
-use Rattle.wi_parser.specs.Symbols.{AreSymbols}
-use Rattle.wi_parser.specs.Tree.{Tree}
+use Rattle.wi_parser.specs.Contents.{plain, prefixed, a_text}
 use Rattle.wi_parser.proofs.Complete.{whole_complete, one_tree}
 use Rattle.wi_parser.proofs.Depth.{depth-deepest}
 use Rattle.wi_parser.proofs.TooDeep.{few_open}

@@ -1,18 +1,7 @@
 -- The tree of each kind of expression.
-use Rattle.std.proofs.Common.{◌≡◌, ℕ, ◌+◌, ◌<◌, length, take, get_or, List, [], ◌∷◌, ◌++◌, map, Box, Vec, Global, Result, IfOk, ap, sym, subst, ◌∙◌}
-use Rattle.std.proofs.lemmas.List.{map-append, take_more}
-use Rattle.wi_fraction.specs.declared.Fraction.{Fraction}
+use Rattle.wi_parser.proofs.Words.{◌≡◌, ℕ, ◌+◌, ◌<◌, length, take, get_or, List, [], ◌∷◌, ◌++◌, map, Box, Vec, Global, Result, IfOk, ap, sym, subst, ◌∙◌, map-append, take_more, Fraction, Corners, Expr, Expr-F, fold-roll-Expr, Operator, Pair, Reference, Sign, Tree, number, text, cell, rectangle, parenthesized, signed, percent, binary, what_if, call, leaves, all_leaves, cell_leaf, rectangle_leaf, what_if_leaf, layer_tree, tree_of, all_of, pair_of}
 use Rattle.wi_values.specs.declared.text.Text.{Text}
-use Rattle.wi_parser.specs.declared.expr.Corners.{Corners}
-use Rattle.wi_parser.specs.declared.expr.Expr.{Expr, Expr-F, fold-roll-Expr}
 use Rattle.wi_parser.specs.declared.expr.Expr.TheVariants as code
-use Rattle.wi_parser.specs.declared.expr.Operator.{Operator}
-use Rattle.wi_parser.specs.declared.expr.Pair.{Pair}
-use Rattle.wi_parser.specs.declared.expr.Reference.{Reference}
-use Rattle.wi_parser.specs.declared.expr.Sign.{Sign}
-use Rattle.wi_parser.specs.Tree.{Tree, number, text, cell, rectangle, parenthesized, signed, percent, binary, what_if, call}
-use Rattle.wi_parser.specs.Leaves.{leaves, all_leaves, cell_leaf, rectangle_leaf, what_if_leaf}
-use Rattle.wi_parser.specs.View.{layer_tree, tree_of, all_of, pair_of}
 
 pub number_tree : (x : Fraction) → tree_of (code.Number x) ≡ number x
 number_tree x = ap tree_of (sym (code.rolls-Number x)) ∙ fold-roll-Expr Tree layer_tree (Expr-F.Number x)

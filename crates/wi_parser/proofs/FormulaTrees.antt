@@ -1,24 +1,5 @@
 -- Which trees are a formula's.
-use Rattle.std.proofs.Common.{◌≡◌, ℕ, suc, ◌+◌, ◌-◌, ◌*◌, ◌<◌, ◌≤◌, pos, negsuc, ℤ, ◌+ℤ◌, Bool, true, false, ◌||◌, nat_lt, List, [], ◌∷◌, ◌++◌, length, map, All, Some, None, unwrap_or, Ok, refl, sym, ap, ap₂, ◌∙◌, subst, arith, if◌then◌else◌}
-use Rattle.std.specs.List.{flat_map, prefix_len}
-use Rattle.std.proofs.lemmas.Bool.Decides.{nat_tests}
-use Rattle.std.proofs.lemmas.List.Elements.{All-map, All-weaker}
-use Rattle.wi_values.specs.Address.{columns, rows, place, row_of, column_of}
-use Rattle.wi_parser.specs.declared.expr.Expr.{Expr}
-use Rattle.wi_parser.specs.declared.expr.Reference.{Reference}
-use Rattle.wi_parser.specs.Inner.FormulaText.{formula_symbols}
-use Rattle.wi_parser.specs.Inner.WhatIf.{pair_symbols}
-use Rattle.wi_parser.specs.Inner.Lines.{loosest, Spells}
-use Rattle.wi_parser.specs.Nesting.{opened, max_depth, is_sign, is_too_deep}
-use Rattle.wi_parser.specs.Printing.{printed}
-use Rattle.wi_parser.specs.Limits.{max_formula}
-use Rattle.wi_parser.specs.Inner.Reading.{parsed}
-use Rattle.wi_parser.specs.Shift.{within, part, row_moved, column_moved, moved, in_sheet, map_references, map_references_in}
-use Rattle.wi_parser.specs.Spelling.{spelling, spelling_of_all, spelling_of_more}
-use Rattle.wi_parser.specs.Symbol.{Symbol, reference, corners, open_parenthesis, close_parenthesis, separator, infix_mark, sign_mark, percent_mark, what_if_name, name}
-use Rattle.wi_parser.specs.Tree.{Tree, Trees, number, text, cell, rectangle, parenthesized, signed, percent, binary, what_if, call, no_trees, more_trees}
-use Rattle.wi_parser.specs.View.{tree_of}
-use Rattle.wi_parser.specs.Writable.{IsWritable, IsFormulaTree}
+use Rattle.wi_parser.proofs.Words.{◌≡◌, ℕ, suc, ◌+◌, ◌-◌, ◌*◌, ◌<◌, ◌≤◌, pos, negsuc, ℤ, ◌+ℤ◌, Bool, true, false, ◌||◌, nat_lt, List, [], ◌∷◌, ◌++◌, length, map, All, Some, None, unwrap_or, Ok, refl, sym, ap, ap₂, ◌∙◌, subst, arith, if◌then◌else◌, flat_map, prefix_len, nat_tests, All-map, All-weaker, columns, rows, place, row_of, column_of, Expr, Reference, formula_symbols, pair_symbols, loosest, Spells, opened, max_depth, is_sign, is_too_deep, printed, max_formula, parsed, within, part, row_moved, column_moved, moved, in_sheet, map_references, map_references_in, spelling, spelling_of_all, spelling_of_more, Symbol, reference, corners, open_parenthesis, close_parenthesis, separator, infix_mark, sign_mark, percent_mark, what_if_name, name, Tree, Trees, number, text, cell, rectangle, parenthesized, signed, percent, binary, what_if, call, no_trees, more_trees, tree_of, IsWritable, IsFormulaTree}
 use Rattle.wi_parser.proofs.OneSpelling.{spelled, has_spelling}
 use Rattle.wi_parser.proofs.Parses.{parsed_exactly}
 use Rattle.wi_parser.proofs.ReadsBack.{printed_symbols, printed_reads_back}

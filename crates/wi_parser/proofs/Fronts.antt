@@ -1,8 +1,5 @@
 -- How a text begins.
-use Rattle.std.proofs.Common.{◌≡◌, ◌≢◌, ℕ, Bool, true, false, ◌==◌, List, [], ◌∷◌, ◌++◌, Option, Some, None, option_map, MatchOption, Bor, refl, sym, ap, ◌∙◌, if◌then◌else◌}
-use Rattle.std.proofs.lemmas.Bool.{eqb-true, eq-eqb}
-use Rattle.std.specs.Str.Pattern.{FindsTextPrefix, StripsPrefix}
-use Rattle.wi_parser.specs.Inner.FormulaText.{after}
+use Rattle.wi_parser.proofs.Words.{◌≡◌, ◌≢◌, ℕ, Bool, true, false, ◌==◌, List, [], ◌∷◌, ◌++◌, Option, Some, None, option_map, MatchOption, Bor, refl, sym, ap, ◌∙◌, if◌then◌else◌, eqb-true, eq-eqb, FindsTextPrefix, StripsPrefix, after}
 
 pub after-append : (p rest : List ℕ) → after p (p ++ rest) ≡ Some rest
 after-append [] rest = refl

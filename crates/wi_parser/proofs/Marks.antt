@@ -1,17 +1,5 @@
 -- What stands first, where one symbol is looked for.
-use Rattle.std.proofs.Common.{◌≡◌, ℕ, ◌+◌, ◌≤◌, ◌==◌, nat_le, List, [], ◌∷◌, ◌++◌, length, Option, Some, None, option_map, refl, sym, ap, ◌∙◌, subst, arith}
-use Rattle.std.proofs.lemmas.Bool.{eqb-true, leb-true}
-use Rattle.std.proofs.lemmas.Option.{cond_some}
-use Rattle.wi_fraction.proofs.Values.{then_some}
-use Rattle.wi_parser.specs.declared.expr.Operator.{Operator}
-use Rattle.wi_parser.specs.declared.expr.Operator.TheVariants.{Add, Subtract, Power}
-use Rattle.wi_parser.specs.declared.expr.Reference.{Reference}
-use Rattle.wi_parser.specs.declared.expr.Sign.{Sign}
-use Rattle.wi_parser.specs.declared.expr.Sign.TheVariants.{Plus, Minus}
-use Rattle.wi_parser.specs.Symbol.{Symbol, reference, open_parenthesis, close_parenthesis, separator, infix_mark, sign_mark, percent_mark}
-use Rattle.wi_parser.specs.Grammar.{line_of}
-use Rattle.wi_parser.specs.Inner.WhatIf.{pair_symbols}
-use Rattle.wi_parser.specs.Inner.Reader.{after_open, after_close, after_separator, after_percent, reference_at, sign_of, sign_at, operator_at, operator_within, parameter_at, pair_at}
+use Rattle.wi_parser.proofs.Words.{◌≡◌, ℕ, ◌+◌, ◌≤◌, ◌==◌, nat_le, List, [], ◌∷◌, ◌++◌, length, Option, Some, None, option_map, refl, sym, ap, ◌∙◌, subst, arith, eqb-true, leb-true, cond_some, then_some, Operator, Add, Subtract, Power, Reference, Sign, Plus, Minus, Symbol, reference, open_parenthesis, close_parenthesis, separator, infix_mark, sign_mark, percent_mark, line_of, pair_symbols, after_open, after_close, after_separator, after_percent, reference_at, sign_of, sign_at, operator_at, operator_within, parameter_at, pair_at}
 
 pub open_is : (ts us : List Symbol) → after_open ts ≡ Some us → ts ≡ open_parenthesis ∷ us
 open_is [] us h = cc

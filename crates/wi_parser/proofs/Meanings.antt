@@ -1,32 +1,11 @@
 -- A text means a symbol where it is a token that stands for it.
-use Rattle.std.proofs.Common.{◌≡◌, ◌↔◌, ℕ, ℤ, ◌⊎◌, inl, inr, List, Option, Some, None, refl, sym, ap, ap₂, ◌∙◌, subst}
-use Rattle.wi_fraction.specs.Number.{Number as Numbers}
-use Rattle.wi_fraction.specs.Inner.Reading.{read_decimal}
-use Rattle.wi_fraction.specs.Written.{Writes, IsWritten, written_value}
-use Rattle.wi_fraction.proofs.Written.{reads_what_is_written}
-use Rattle.wi_lexer.specs.Quoted.{quoted}
-use Rattle.wi_lexer.specs.declared.token.Kind.{Kind}
-use Rattle.wi_lexer.specs.declared.token.Kind.TheVariants.{Number, Text, Reference, Rectangle, Mark, Name}
+use Rattle.wi_parser.proofs.Words.{◌≡◌, ◌↔◌, ℕ, ℤ, ◌⊎◌, inl, inr, List, Option, Some, None, refl, sym, ap, ap₂, ◌∙◌, subst, Number as Numbers, read_decimal, Writes, IsWritten, written_value, reads_what_is_written, quoted, Kind, Text, Rectangle, Mark, Name, OpenParenthesis, CloseParenthesis, Semicolon, Asterisk, Slash, Caret, Percent, Ampersand, Equal, NotEqual, Less, LessOrEqual, Greater, GreaterOrEqual, Cell, IsCell, mark_text, IsRectangle, two_cells, rectangle_text, IsReference, one_cell, reference_text, IsText, of_content, IsToken, reference_of_complete, rectangle_of_complete, text_reads_back, Operator, OutOfSheet, number_symbol, cell_symbol, reference_symbol, corners_symbol, rectangle_symbol, mark_symbol, symbol_of, reference_to, operator_text, Symbol, text_literal, bad_token, infix_mark, Means, an_unfit_number, a_reference, an_outside_reference, an_outside_rectangle, a_name, an_opening_parenthesis, a_closing_parenthesis, a_separator, a_percent_mark, an_operator}
+use Rattle.wi_lexer.specs.declared.token.Kind.TheVariants.{Number, Reference}
 use Rattle.wi_lexer.specs.declared.token.Mark as mark
-use Rattle.wi_lexer.specs.declared.token.Mark.TheVariants.{OpenParenthesis, CloseParenthesis, Semicolon, Plus, Minus, Asterisk, Slash, Caret, Percent, Ampersand, Equal, NotEqual, Less, LessOrEqual, Greater, GreaterOrEqual}
-use Rattle.wi_lexer.specs.Cell.{Cell, IsCell}
-use Rattle.wi_lexer.specs.Mark.{mark_text}
-use Rattle.wi_lexer.specs.Rectangle.{IsRectangle, two_cells, rectangle_text}
-use Rattle.wi_lexer.specs.Reference.{IsReference, one_cell, reference_text}
-use Rattle.wi_lexer.specs.Text.{IsText, of_content}
-use Rattle.wi_lexer.specs.Token.{IsToken}
-use Rattle.wi_lexer.proofs.ReferenceLemmas.{reference_of_complete}
-use Rattle.wi_lexer.proofs.RectangleLemmas.{rectangle_of_complete}
-use Rattle.wi_lexer.proofs.QuoteLemmas.{text_reads_back}
-use Rattle.wi_parser.specs.declared.expr.Operator.{Operator}
+use Rattle.wi_lexer.specs.declared.token.Mark.TheVariants.{Plus, Minus}
 use Rattle.wi_parser.specs.declared.expr.Operator.TheVariants as operator
 use Rattle.wi_parser.specs.declared.expr.Reference as references
-use Rattle.wi_parser.specs.declared.fault.ParseFault.TheVariants.{OutOfSheet}
-use Rattle.wi_parser.specs.Inner.FormulaText.{number_symbol, cell_symbol, reference_symbol, corners_symbol, rectangle_symbol, mark_symbol, symbol_of}
-use Rattle.wi_parser.specs.Symbols.{reference_to}
-use Rattle.wi_parser.specs.Printing.{operator_text}
-use Rattle.wi_parser.specs.Symbol.{Symbol, text_literal, bad_token, infix_mark}
-use Rattle.wi_parser.specs.Symbols.{Means, a_number, an_unfit_number, a_text, a_reference, an_outside_reference, a_rectangle, an_outside_rectangle, a_name, an_opening_parenthesis, a_closing_parenthesis, a_separator, a_percent_mark, an_operator}
+use Rattle.wi_parser.specs.Symbols.{a_number, a_text, a_rectangle}
 
 -- ---- a token means what it stands for
 

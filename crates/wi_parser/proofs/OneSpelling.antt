@@ -1,9 +1,5 @@
 -- A tree has one spelling.
-use Rattle.std.proofs.Common.{◌≡◌, ℕ, List, [], ◌∷◌, ◌++◌, refl, ap, ap₂, subst}
-use Rattle.wi_parser.specs.Tree.{Tree, Trees}
-use Rattle.wi_parser.specs.Symbol.{Symbol, open_parenthesis, close_parenthesis, separator, infix_mark, sign_mark, percent_mark, name}
-use Rattle.wi_parser.specs.Inner.Lines.{loosest, Spells, SpellsAll, SpellsMore, a_number, a_text, a_cell, a_rectangle, in_parentheses, one_input, two_inputs, a_call, with_sign, with_percent, tighter, joined, no_parameter, parameters, last_parameter, another_parameter}
-use Rattle.wi_parser.specs.Spelling.{spelling, spelling_of_all, spelling_of_more, HasSpelling}
+use Rattle.wi_parser.proofs.Words.{◌≡◌, ℕ, List, [], ◌∷◌, ◌++◌, refl, ap, ap₂, subst, Tree, Trees, Symbol, open_parenthesis, close_parenthesis, separator, infix_mark, sign_mark, percent_mark, name, loosest, Spells, SpellsAll, SpellsMore, a_number, a_text, a_cell, a_rectangle, in_parentheses, one_input, two_inputs, a_call, with_sign, with_percent, tighter, joined, no_parameter, parameters, last_parameter, another_parameter, spelling, spelling_of_all, spelling_of_more, HasSpelling}
 
 mutual
   pub spelled : {k : ℕ} {t : Tree} {ts : List Symbol} → Spells k t ts → ts ≡ spelling t

@@ -1,11 +1,5 @@
 -- One turn of the reader's loop over the parameters of a call.
-use Rattle.std.proofs.Common.{◌≡◌, ℕ, zero, suc, ◌-◌, ◌<◌, List, [], ◌∷◌, ◌++◌, length, Some, None, refl, sym, ap, ◌∙◌, arith}
-use Rattle.wi_parser.specs.declared.expr.Expr.{Expr}
-use Rattle.wi_parser.specs.Tree.{Tree, Trees, no_trees, more_trees}
-use Rattle.wi_parser.specs.Symbol.{Symbol}
-use Rattle.wi_parser.specs.View.{tree_of, all_of}
-use Rattle.wi_parser.specs.Inner.Outcome.{before, put_before}
-use Rattle.wi_parser.specs.Inner.Reader.{Parse, ReadAll, after_close, after_separator, put_first, and_then_all, after_parameter, unless_closed, more_parameters, first_parameter, parameters_at}
+use Rattle.wi_parser.proofs.Words.{◌≡◌, ℕ, zero, suc, ◌-◌, ◌<◌, List, [], ◌∷◌, ◌++◌, length, Some, None, refl, sym, ap, ◌∙◌, arith, Expr, Tree, Trees, no_trees, more_trees, Symbol, tree_of, all_of, before, put_before, Parse, ReadAll, after_close, after_separator, put_first, and_then_all, after_parameter, unless_closed, more_parameters, first_parameter, parameters_at}
 
 pub more_last : (inner : Parse) (n : ℕ) (ts us : List Symbol) → 0 < n → after_close ts ≡ Some us → more_parameters inner n ts ≡ Some (no_trees, us)
 unfolding more_parameters

@@ -1,19 +1,5 @@
 -- What the tree of a text is, and why there is none.
-use Rattle.std.proofs.Common.{◌≡◌, ℕ, ◌+◌, ◌<◌, ◌≤◌, Bool, true, false, ◌||◌, nat_lt, List, [], ◌∷◌, ◌++◌, length, Option, Some, None, Result, Ok, Err, ok_or, if◌then◌else◌, IfOk, ◌↔◌, refl, sym, ap, ap₂, ◌∙◌, subst, arith}
-use Rattle.std.proofs.lemmas.Bool.{or_parts, lt-ltb, le-ltb, ltb-false}
-use Rattle.std.proofs.lemmas.List.Folds.{list_any-append}
-use Rattle.std.specs.List.{list_any}
-use Rattle.wi_parser.specs.declared.fault.ParseFault.{ParseFault}
-use Rattle.wi_parser.specs.declared.fault.ParseFault.TheVariants.{TooLong, OutOfSheet, NumberRange, TooDeep, Syntax, Memory}
-use Rattle.wi_parser.specs.Tree.{Tree, Trees}
-use Rattle.wi_parser.specs.Symbol.{Symbol, close_parenthesis, infix_mark, percent_mark, bad_token, is_outside, is_unfit}
-use Rattle.wi_parser.specs.Inner.Lines.{loosest, Spells, a_number, a_cell, a_rectangle, in_parentheses, one_input, two_inputs, with_sign, with_percent, tighter, joined, SpellsAll, SpellsMore, a_text, a_call, no_parameter, parameters, last_parameter, another_parameter}
-use Rattle.wi_parser.specs.Nesting.{max_depth, is_too_deep}
-use Rattle.wi_parser.specs.Inner.Reader.{whole}
-use Rattle.wi_parser.specs.Inner.Outcome.{Fails}
-use Rattle.wi_parser.specs.Inner.FormulaText.{formula_symbols}
-use Rattle.wi_parser.specs.Limits.{max_formula, refusal_of}
-use Rattle.wi_parser.specs.Inner.Reading.{unless_refused, judged, parsed, IsWithinLimits, is_too_long, ReadsAs}
+use Rattle.wi_parser.proofs.Words.{◌≡◌, ℕ, ◌+◌, ◌<◌, ◌≤◌, Bool, true, false, ◌||◌, nat_lt, List, [], ◌∷◌, ◌++◌, length, Option, Some, None, Result, Ok, Err, ok_or, if◌then◌else◌, IfOk, ◌↔◌, refl, sym, ap, ap₂, ◌∙◌, subst, arith, or_parts, lt-ltb, le-ltb, ltb-false, list_any-append, list_any, ParseFault, TooLong, OutOfSheet, NumberRange, TooDeep, Syntax, Memory, Tree, Trees, Symbol, close_parenthesis, infix_mark, percent_mark, bad_token, is_outside, is_unfit, loosest, Spells, a_number, a_cell, a_rectangle, in_parentheses, one_input, two_inputs, with_sign, with_percent, tighter, joined, SpellsAll, SpellsMore, a_text, a_call, no_parameter, parameters, last_parameter, another_parameter, max_depth, is_too_deep, whole, Fails, formula_symbols, max_formula, refusal_of, unless_refused, judged, parsed, IsWithinLimits, is_too_long, ReadsAs}
 use Rattle.wi_parser.proofs.Sound.{whole_sound}
 use Rattle.wi_parser.proofs.Complete.{whole_complete}
 use Rattle.wi_parser.proofs.Depth.{depth-deepest}

@@ -1,24 +1,8 @@
 -- What is appended to a text that must stay at the front.
-use Rattle.std.proofs.Common.{◌≡◌, refl, ℕ, List, ◌++◌, sym, ap, ◌∙◌, [], ◌∷◌, append_assoc, map, codes, cond, Result, Ok, Err, is_ok, OnOk, append-nil, subst}
-use Rattle.std.proofs.Transfers.{starts_with_of_append}
+use Rattle.wi_parser.proofs.Words.{◌≡◌, refl, ℕ, List, ◌++◌, sym, ap, ◌∙◌, [], ◌∷◌, append_assoc, map, codes, cond, Result, Ok, Err, is_ok, OnOk, append-nil, subst, starts_with_of_append, flat_map, StartsWith, reference_text, Expr, Operator, Pair, Reference, pair_symbols, spelling, spelling_of_all, spelling_of_more, Tree, Trees, parenthesized, percent, binary, what_if, no_trees, more_trees, Symbol, close_parenthesis, infix_mark, percent_mark, tree_of, all_of, pair_of, cell_named, operator_text, symbol_text, symbols_text, tree_text, pairs_text}
 pub use Rattle.std.proofs.Transfers.{starts_with_trans}
 use Rattle.std.proofs.lemmas.List.Concat.{flat_map-append}
-use Rattle.std.specs.List.{flat_map}
-use Rattle.std.specs.Io.{StartsWith}
 pub use Rattle.wi_fraction.proofs.Decimals.{starts_itself, starts_more, cut_place}
-use Rattle.wi_lexer.specs.Reference.{reference_text}
-use Rattle.wi_parser.specs.declared.expr.Expr.{Expr}
-use Rattle.wi_parser.specs.declared.expr.Operator.{Operator}
-use Rattle.wi_parser.specs.declared.expr.Pair.{Pair}
-use Rattle.wi_parser.specs.declared.expr.Reference.{Reference}
-use Rattle.wi_parser.specs.Inner.WhatIf.{pair_symbols}
-use Rattle.wi_parser.specs.Spelling.{spelling, spelling_of_all, spelling_of_more}
-use Rattle.wi_parser.specs.Tree.{Tree, Trees, parenthesized, percent, binary, what_if, no_trees, more_trees}
-use Rattle.wi_parser.specs.Symbol.{Symbol, close_parenthesis, infix_mark, percent_mark}
-use Rattle.wi_parser.specs.View.{tree_of, all_of, pair_of}
-use Rattle.wi_parser.specs.Printing.{cell_named, operator_text, symbol_text}
-use Rattle.wi_parser.specs.Inner.SymbolLists.{symbols_text, tree_text}
-use Rattle.wi_parser.specs.Inner.PrintedParts.{pairs_text}
 
 -- what a text begins with, a text that is the same begins with
 pub starts_same : (o d front : List ℕ) → d ≡ o → StartsWith o front → StartsWith d front

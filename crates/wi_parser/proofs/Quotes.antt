@@ -1,9 +1,5 @@
 -- A content written piece by piece, its quotes doubled.
-use Rattle.std.proofs.Common.{◌≡◌, ℕ, Bool, true, false, cond, ◌==◌, List, [], ◌∷◌, ◌++◌, refl, sym, ap, ◌∙◌, append_assoc, Option, Some, None, Bor, Result, Ok, Err, is_ok, OnOk}
-use Rattle.std.specs.List.{flat_map}
-use Rattle.std.proofs.lemmas.Str.Pattern.{IsSplitOnceResult}
-use Rattle.wi_lexer.specs.Quoted.{doubled, quoted}
-use Rattle.wi_lexer.proofs.QuoteLemmas.{piece_before, no_quote_left}
+use Rattle.wi_parser.proofs.Words.{◌≡◌, ℕ, Bool, true, false, cond, ◌==◌, List, [], ◌∷◌, ◌++◌, refl, sym, ap, ◌∙◌, append_assoc, Option, Some, None, Bor, Result, Ok, Err, is_ok, OnOk, flat_map, IsSplitOnceResult, doubled, quoted, piece_before, no_quote_left}
 
 -- a quote twice, and the rest of the content
 abbrev quote_twice : List ℕ → List ℕ

@@ -1,20 +1,6 @@
 -- A printed formula reads back.
-use Rattle.std.proofs.Common.{◌≡◌, ◌≤◌, false, List, [], ◌∷◌, length, Ok, refl, sym, ap, ap₂, ◌∙◌, subst}
+use Rattle.wi_parser.proofs.Words.{◌≡◌, ◌≤◌, false, List, [], ◌∷◌, length, Ok, refl, sym, ap, ap₂, ◌∙◌, subst, All-head, All-tail, tokens, tokens_within, token_and_rest, Tree, Symbol, loosest, Spells, is_too_deep, spelling, symbol_text, printed, symbols_text, symbols_of, formula_symbols, max_formula, IsWithinLimits, parsed, IsWritable, IsFormulaTree}
 use Rattle.std.specs.List.{All}
-use Rattle.std.proofs.lemmas.List.Elements.{All-head, All-tail}
-use Rattle.wi_lexer.specs.Inner.Tokens.{tokens, tokens_within}
-use Rattle.wi_lexer.proofs.EndLemmas.{token_and_rest}
-use Rattle.wi_parser.specs.Tree.{Tree}
-use Rattle.wi_parser.specs.Symbol.{Symbol}
-use Rattle.wi_parser.specs.Inner.Lines.{loosest, Spells}
-use Rattle.wi_parser.specs.Nesting.{is_too_deep}
-use Rattle.wi_parser.specs.Spelling.{spelling}
-use Rattle.wi_parser.specs.Printing.{symbol_text, printed}
-use Rattle.wi_parser.specs.Inner.SymbolLists.{symbols_text}
-use Rattle.wi_parser.specs.Inner.FormulaText.{symbols_of, formula_symbols}
-use Rattle.wi_parser.specs.Limits.{max_formula}
-use Rattle.wi_parser.specs.Inner.Reading.{IsWithinLimits, parsed}
-use Rattle.wi_parser.specs.Writable.{IsWritable, IsFormulaTree}
 use Rattle.wi_parser.proofs.Apart.{IsApart, spelled_apart}
 use Rattle.wi_parser.proofs.Parses.{spelled_parsed}
 use Rattle.wi_parser.proofs.WrittenSymbols.{kind_of, written}

@@ -1,18 +1,6 @@
 -- A tree reads exactly the cells of its rectangles.
-use Rattle.std.proofs.Common.{◌≡◌, ◌==◌, ℕ, ◌||◌, Bool, true, false, List, [], ◌∷◌, map, min, max, refl, ap, ap₂, sym, ◌∙◌, arith}
+use Rattle.wi_parser.proofs.Words.{◌≡◌, ◌==◌, ℕ, ◌||◌, Bool, true, false, List, [], ◌∷◌, map, min, max, refl, ap, ap₂, sym, ◌∙◌, arith, list_any, flat_map, or-false, false_from_ne_true, eqb-true, nat_tests, list_any-append, Area, place, row_of, column_of, is_within, is_itself, within_between, Reference, Tree, Leaf, cell_leaf, rectangle_leaf, what_if_leaf, leaves, cell_area, area_of, leaf_reads, reads, leaf_rectangles, rectangles_of}
 use Rattle.std.specs.Prelude.{nat_le}
-use Rattle.std.specs.List.{list_any, flat_map}
-use Rattle.std.proofs.Math.Bool.{or-false}
-use Rattle.std.proofs.lemmas.Bool.{false_from_ne_true, eqb-true}
-use Rattle.std.proofs.lemmas.Bool.Decides.{nat_tests}
-use Rattle.std.proofs.lemmas.List.Folds.{list_any-append}
-use Rattle.wi_values.specs.Address.{Area, place, row_of, column_of, is_within}
-use Rattle.wi_values.proofs.Order.{is_itself}
-use Rattle.wi_values.proofs.Within.{within_between}
-use Rattle.wi_parser.specs.declared.expr.Reference.{Reference}
-use Rattle.wi_parser.specs.Tree.{Tree}
-use Rattle.wi_parser.specs.Leaves.{Leaf, cell_leaf, rectangle_leaf, what_if_leaf, leaves}
-use Rattle.wi_parser.specs.Reads.{cell_area, area_of, leaf_reads, reads, leaf_rectangles, rectangles_of}
 
 -- the area of two equal corners
 abbrev at_once : ℕ → Area

@@ -1,11 +1,6 @@
 -- What is refused before it is read.
-use Rattle.std.proofs.Common.{◌≡◌, ℕ, suc, ◌≤◌, Bool, true, false, ◌||◌, List, [], ◌∷◌, refl, ap, arith, if◌then◌else◌}
-use Rattle.std.specs.List.{list_any}
+use Rattle.wi_parser.proofs.Words.{◌≡◌, ℕ, suc, ◌≤◌, Bool, true, false, ◌||◌, List, [], ◌∷◌, refl, ap, arith, if◌then◌else◌, list_any, Symbol, is_sign, most_signs, meant_by, all_meant}
 use Rattle.wi_parser.specs.declared.symbol.Symbol as code
-use Rattle.wi_parser.specs.Symbol.{Symbol}
-use Rattle.wi_parser.specs.Nesting.{is_sign}
-use Rattle.wi_parser.specs.Inner.Deepest.{most_signs}
-use Rattle.wi_parser.specs.Inner.SymbolCode.{meant_by, all_meant}
 
 pub any_meant : (p : Symbol → Bool) (ws : List code.Symbol) → list_any p (all_meant ws) ≡ list_any (λ w. p (meant_by w)) ws
 any_meant p [] = refl

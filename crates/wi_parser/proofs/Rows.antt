@@ -1,21 +1,6 @@
 -- A what-if of two inputs, read.
 use Rattle.std.specs.Prelude.{◌≡◌, ℕ, false, [], ◌∷◌, Ok, codes, refl}
-use Rattle.wi_values.specs.Address.{place}
-use Rattle.wi_values.specs.AddressReading.{address_at}
-use Rattle.wi_lexer.specs.Inner.Number.{number_len, decimal_len, decimals_len, signed_len, exponent_len}
-use Rattle.wi_lexer.specs.Inner.Text.{quoted_len}
-use Rattle.wi_lexer.specs.Inner.Cell.{cell_of}
-use Rattle.wi_lexer.specs.Inner.Reference.{reference_of, reference_len}
-use Rattle.wi_lexer.specs.Inner.Rectangle.{rectangle_len, rectangle_of, corner_cells}
-use Rattle.wi_lexer.specs.Inner.Mark.{mark_at, two_byte_mark, one_byte_mark}
-use Rattle.wi_lexer.specs.Inner.Name.{name_len}
-use Rattle.wi_lexer.specs.Inner.Token.{token_at}
-use Rattle.wi_lexer.specs.Inner.Tokens.{tokens, tokens_within}
-use Rattle.wi_parser.specs.declared.expr.Reference.{Reference}
-use Rattle.wi_parser.specs.Tree.{what_if}
-use Rattle.wi_parser.specs.Inner.Reader.{pair_at, what_if_at, atom, chain, line, expression}
-use Rattle.wi_parser.specs.Inner.FormulaText.{formula_symbols}
-use Rattle.wi_parser.specs.Inner.Reading.{parsed}
+use Rattle.wi_parser.proofs.Words.{place, address_at, number_len, decimal_len, decimals_len, signed_len, exponent_len, quoted_len, cell_of, reference_of, reference_len, rectangle_len, rectangle_of, corner_cells, mark_at, two_byte_mark, one_byte_mark, name_len, token_at, tokens, tokens_within, Reference, what_if, pair_at, what_if_at, atom, chain, line, expression, formula_symbols, parsed}
 
 -- a reference to the cell at a row and a column, both counted from 0
 abbrev relative : ℕ → ℕ → Reference

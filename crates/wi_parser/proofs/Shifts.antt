@@ -1,31 +1,9 @@
 -- Trees whose references move.
-use Rattle.std.proofs.Common.{◌≡◌, ℕ, ◌*◌, ◌<◌, pos, ◌+ℤ◌, Bool, true, false, ◌&&◌, nat_lt, if◌then◌else◌, List, [], ◌∷◌, ◌++◌, map, Some, None, is_some, unwrap_or, Result, IfOk, Box, Vec, Global, refl, ap, ap₂, sym, subst, ◌∙◌, arith}
-use Rattle.std.specs.List.{list_all, flat_map}
-use Rattle.std.proofs.lemmas.Bool.{and_parts, and_from}
-use Rattle.std.proofs.Math.Bool.{and-true, and_assoc}
-use Rattle.std.proofs.lemmas.List.{append-nil, map-append}
-use Rattle.std.proofs.lemmas.List.Folds.{list_all-append}
-use Rattle.std.proofs.lemmas.Grind.{flat_map-append}
-use Rattle.std.proofs.lemmas.Bool.Decides.{nat_tests}
-use Rattle.std.proofs.lemmas.Int.{ints}
-use Rattle.wi_values.specs.Address.{columns, rows, place, row_of, column_of}
-use Rattle.wi_fraction.specs.declared.Fraction.{Fraction}
+use Rattle.wi_parser.proofs.Words.{◌≡◌, ℕ, ◌*◌, ◌<◌, pos, ◌+ℤ◌, Bool, true, false, ◌&&◌, nat_lt, if◌then◌else◌, List, [], ◌∷◌, ◌++◌, map, Some, None, is_some, unwrap_or, Result, IfOk, Box, Vec, Global, refl, ap, ap₂, sym, subst, ◌∙◌, arith, list_all, flat_map, and_parts, and_from, and-true, and_assoc, map-append, list_all-append, flat_map-append, nat_tests, ints, columns, rows, place, row_of, column_of, Fraction, Corners, Expr, Operator, Pair, Reference, Sign, tree_of, all_of, pair_of, Tree, Trees, number, text, cell, rectangle, parenthesized, signed, percent, binary, what_if, call, no_trees, more_trees, trees_of, Leaf, what_if_leaf, leaves, all_leaves, Symbol, Spells, SpellsAll, SpellsMore, a_number, a_text, a_cell, a_rectangle, in_parentheses, one_input, two_inputs, a_call, with_sign, with_percent, tighter, joined, no_parameter, parameters, last_parameter, another_parameter, spelling, spelling_of_all, spelling_of_more, within, part, stays, moved, in_sheet, leaf_references, all_references, map_references, map_references_in, shifted}
+use Rattle.std.proofs.lemmas.List.{append-nil}
 use Rattle.wi_values.specs.declared.text.Text.{Text}
-use Rattle.wi_parser.specs.declared.expr.Corners.{Corners}
-use Rattle.wi_parser.specs.declared.expr.Expr.{Expr}
 use Rattle.wi_parser.specs.declared.expr.Expr.TheVariants as code
-use Rattle.wi_parser.specs.declared.expr.Operator.{Operator}
-use Rattle.wi_parser.specs.declared.expr.Pair.{Pair}
-use Rattle.wi_parser.specs.declared.expr.Reference.{Reference}
-use Rattle.wi_parser.specs.declared.expr.Sign.{Sign}
-use Rattle.wi_parser.specs.View.{tree_of, all_of, pair_of}
 use Rattle.wi_parser.proofs.ExprTrees.{number_tree, text_tree, cell_tree, rectangle_tree, parenthesized_tree, signed_tree, percent_tree, binary_tree, what_if_tree, call_tree, number_leaves, text_leaves, cell_leaves, rectangle_leaves}
-use Rattle.wi_parser.specs.Tree.{Tree, Trees, number, text, cell, rectangle, parenthesized, signed, percent, binary, what_if, call, no_trees, more_trees, trees_of}
-use Rattle.wi_parser.specs.Leaves.{Leaf, what_if_leaf, leaves, all_leaves}
-use Rattle.wi_parser.specs.Symbol.{Symbol}
-use Rattle.wi_parser.specs.Inner.Lines.{Spells, SpellsAll, SpellsMore, a_number, a_text, a_cell, a_rectangle, in_parentheses, one_input, two_inputs, a_call, with_sign, with_percent, tighter, joined, no_parameter, parameters, last_parameter, another_parameter}
-use Rattle.wi_parser.specs.Spelling.{spelling, spelling_of_all, spelling_of_more}
-use Rattle.wi_parser.specs.Shift.{within, part, stays, moved, in_sheet, leaf_references, all_references, map_references, map_references_in, shifted}
 
 mutual
   -- a tree with other references is spelled where the tree is

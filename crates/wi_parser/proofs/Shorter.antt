@@ -1,13 +1,6 @@
 -- What is left after a step of the reader is shorter.
-use Rattle.std.proofs.Common.{◌≡◌, ℕ, ◌<◌, List, length, Some, Result, arith}
-use Rattle.std.proofs.Math.Nat.{lt_trans}
-use Rattle.std.proofs.lemmas.Result.{on_ok_weaker}
+use Rattle.wi_parser.proofs.Words.{◌≡◌, ℕ, ◌<◌, List, length, Some, Result, arith, lt_trans, on_ok_weaker, one_less, Operator, Sign, Symbol, after_open, after_close, after_separator, after_percent, sign_at, operator_within}
 use Rattle.std.specs.Result.{OnOk}
-use Rattle.wi_values.proofs.Lists.{one_less}
-use Rattle.wi_parser.specs.declared.expr.Operator.{Operator}
-use Rattle.wi_parser.specs.declared.expr.Sign.{Sign}
-use Rattle.wi_parser.specs.Symbol.{Symbol}
-use Rattle.wi_parser.specs.Inner.Reader.{after_open, after_close, after_separator, after_percent, sign_at, operator_within}
 use Rattle.wi_parser.proofs.Marks.{open_is, close_is, separator_is, percent_is, sign-length, within_is}
 
 pub past_open : (ts us : List Symbol) → after_open ts ≡ Some us → length us < length ts

@@ -1,20 +1,5 @@
 -- The symbols of a text are those of its tokens.
-use Rattle.std.proofs.Common.{◌≡◌, ◌↔◌, ℕ, suc, ◌+◌, ◌<◌, ◌≤◌, Bool, true, false, cond, List, [], ◌∷◌, ◌++◌, length, take, drop, Option, Some, None, refl, sym, ap, ap₂, ◌∙◌, subst, arith, length-append}
-use Rattle.std.proofs.lemmas.List.{length-take-le, take-append-drop}
-use Rattle.std.proofs.Math.Seq.{take-append_seam}
-use Rattle.wi_lexer.specs.declared.token.Kind.{Kind}
-use Rattle.wi_lexer.specs.Runs.{is_blank, blanks_len}
-use Rattle.wi_lexer.specs.Token.{IsToken, IsLongest, NoToken, after_blanks}
-use Rattle.wi_lexer.specs.Inner.Token.{token_at}
-use Rattle.wi_lexer.specs.Inner.Tokens.{tokens_from, tokens_ahead, tokens}
-use Rattle.wi_lexer.proofs.CallerLemmas.{tokens_are, token_shortens, found_ahead}
-use Rattle.wi_lexer.proofs.EndLemmas.{token_no_blank, no_blanks}
-use Rattle.wi_lexer.proofs.RunLemmas.{run_stops}
-use Rattle.wi_lexer.proofs.TokenLemmas.{token_some, token_sound, token_complete, none_begins, none_found}
-use Rattle.wi_lexer.proofs.TextLemmas.{by_length}
-use Rattle.wi_parser.specs.Inner.FormulaText.{symbol_of, symbols_of}
-use Rattle.wi_parser.specs.Symbol.{Symbol}
-use Rattle.wi_parser.specs.Symbols.{NoneLonger, NoneBegins, AreSymbols, at_the_end, white_space, a_token, no_token}
+use Rattle.wi_parser.proofs.Words.{◌≡◌, ◌↔◌, ℕ, suc, ◌+◌, ◌<◌, ◌≤◌, Bool, true, false, cond, List, [], ◌∷◌, ◌++◌, length, take, drop, Option, Some, None, refl, sym, ap, ap₂, ◌∙◌, subst, arith, length-append, length-take-le, take-append-drop, take-append_seam, Kind, is_blank, blanks_len, IsToken, IsLongest, NoToken, after_blanks, token_at, tokens_from, tokens_ahead, tokens, tokens_are, token_shortens, found_ahead, token_no_blank, no_blanks, run_stops, token_some, token_sound, token_complete, none_begins, none_found, by_length, symbol_of, symbols_of, Symbol, NoneLonger, NoneBegins, AreSymbols, at_the_end, white_space, a_token, no_token}
 use Rattle.wi_parser.proofs.Meanings.{token_means, means_token}
 
 -- ---- the token at the front

@@ -1,26 +1,9 @@
 -- The text of a symbol ends where that of the next begins.
-use Rattle.std.proofs.Common.{◌≡◌, ℕ, true, false, not, List, [], ◌∷◌, ◌++◌, refl, ap, arith}
-use Rattle.std.proofs.lemmas.Bool.Decides.{nat_tests}
-use Rattle.std.specs.Char.{is_ascii_digit}
-use Rattle.std.specs.List.{All, list_all}
-use Rattle.std.specs.Str.Parse.{AllDigits}
-use Rattle.std.proofs.lemmas.List.Elements.{All-head}
-use Rattle.std.proofs.lemmas.Bool.{and_parts}
-use Rattle.wi_fraction.specs.Decimal.{decimal_text}
-use Rattle.wi_fraction.specs.Written.{WritesDigits, plain, point}
-use Rattle.wi_lexer.specs.declared.token.Kind.{Kind}
-use Rattle.wi_lexer.specs.declared.token.Kind.TheVariants.{Number, Name, Text, Mark}
-use Rattle.wi_lexer.specs.declared.token.Mark.TheVariants.{Less, Greater}
-use Rattle.wi_lexer.specs.Name.{IsName, is_name_start}
-use Rattle.wi_lexer.specs.Inner.Ends.{goes_on, ends}
-use Rattle.wi_lexer.proofs.RunLemmas.{digits_all}
-use Rattle.wi_parser.specs.declared.expr.Operator.{Operator}
+use Rattle.wi_parser.proofs.Words.{◌≡◌, ℕ, true, false, not, List, [], ◌∷◌, ◌++◌, refl, ap, arith, nat_tests, is_ascii_digit, list_all, AllDigits, All-head, and_parts, decimal_text, WritesDigits, plain, point, Kind, Name, Text, Mark, Less, Greater, IsName, is_name_start, goes_on, ends, digits_all, Operator, Symbol, numeral, text_literal, reference, corners, open_parenthesis, close_parenthesis, separator, infix_mark, percent_mark, what_if_name, name, bad_token, symbol_text, symbols_text, IsWritable}
+use Rattle.std.specs.List.{All}
+use Rattle.wi_lexer.specs.declared.token.Kind.TheVariants.{Number}
 use Rattle.wi_parser.specs.declared.expr.Operator.TheVariants as operator
-use Rattle.wi_parser.specs.Symbol.{Symbol, numeral, text_literal, reference, corners, open_parenthesis, close_parenthesis, separator, infix_mark, percent_mark, what_if_name, name, bad_token}
-use Rattle.wi_parser.specs.Printing.{symbol_text}
-use Rattle.wi_parser.specs.Inner.SymbolLists.{symbols_text}
 use Rattle.wi_parser.proofs.Meanings.{mark_of}
-use Rattle.wi_parser.specs.Writable.{IsWritable}
 use Rattle.wi_parser.proofs.Apart.{begins, at_operand, after_operand, at_parenthesis, stands_before}
 use Rattle.wi_parser.proofs.WrittenSymbols.{kind_of, number_is}
 

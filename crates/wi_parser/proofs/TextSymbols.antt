@@ -1,39 +1,8 @@
 -- Each symbol of a formula's text is one that a text can have.
-use Rattle.std.proofs.Common.{◌≡◌, ℕ, ◌-◌, ◌*◌, ◌<◌, ◌≤◌, Bool, true, false, ◌&&◌, nat_lt, nat_le, List, [], ◌∷◌, All, codes, Option, Some, None, option_map, refl, ap, ap₂, ◌∙◌, subst, arith, if◌then◌else◌}
-use Rattle.std.proofs.lemmas.Bool.{and_parts, ltb-true, leb-true, lt-ltb}
-use Rattle.std.proofs.lemmas.Bool.Decides.{nat_tests}
-use Rattle.std.proofs.lemmas.List.Elements.{All-nil, All-cons, All-append, All-map, All-weaker}
-use Rattle.std.proofs.lemmas.Str.Ascii.{lowercase-uppercase, uppercase-uppercase}
-use Rattle.std.specs.Char.{to_ascii_uppercase}
-use Rattle.std.specs.List.{list_all}
-use Rattle.std.specs.Str.Parse.{digits_value}
-use Rattle.std.specs.Str.{bytes_eq, str_to_ascii_lowercase, str_eq_ignore_ascii_case}
-use Rattle.wi_fraction.specs.Number.{Number as Numbers}
-use Rattle.wi_fraction.specs.Inner.Reading.{read_decimal}
-use Rattle.wi_fraction.specs.Decimal.{IsUnsignedDecimal}
-use Rattle.wi_fraction.proofs.Numerals.{read_decimal-numeral}
-use Rattle.wi_values.specs.Address.{columns, rows, place, letters_value}
-use Rattle.wi_values.specs.AddressReading.{cell_at, address_at}
-use Rattle.wi_lexer.specs.declared.token.Kind.{Kind}
-use Rattle.wi_lexer.specs.declared.token.Kind.TheVariants.{Number, Text, Reference, Rectangle, Mark, Name}
+use Rattle.wi_parser.proofs.Words.{◌≡◌, ℕ, ◌-◌, ◌*◌, ◌<◌, ◌≤◌, Bool, true, false, ◌&&◌, nat_lt, nat_le, List, [], ◌∷◌, All, codes, Option, Some, None, option_map, refl, ap, ap₂, ◌∙◌, subst, arith, if◌then◌else◌, and_parts, ltb-true, leb-true, lt-ltb, nat_tests, All-nil, All-cons, All-append, All-map, All-weaker, lowercase-uppercase, uppercase-uppercase, to_ascii_uppercase, list_all, digits_value, bytes_eq, str_to_ascii_lowercase, str_eq_ignore_ascii_case, Number as Numbers, read_decimal, IsUnsignedDecimal, read_decimal-numeral, columns, rows, place, letters_value, cell_at, address_at, Kind, Text, Rectangle, Mark, Name, OpenParenthesis, Cell, IsName, is_name_start, is_name_part, reference_of, rectangle_of, IsToken, Tokens, AreTokens, ended, bad, more, tokens, tokens_hold, Syntax, in_capitals, number_symbol, cell_symbol, reference_symbol, corners_symbol, rectangle_symbol, mark_symbol, symbol_of, symbols_of, after_prefix, after_equals, symbols_by, formula_symbols, reference_to, name_symbol, in_sheet, bad_token, what_if_name, name, IsWritable}
+use Rattle.wi_lexer.specs.declared.token.Kind.TheVariants.{Number, Reference}
 use Rattle.wi_lexer.specs.declared.token.Mark as mark
-use Rattle.wi_lexer.specs.declared.token.Mark.TheVariants.{OpenParenthesis}
-use Rattle.wi_lexer.specs.Cell.{Cell}
-use Rattle.wi_lexer.specs.Name.{IsName, is_name_start, is_name_part}
-use Rattle.wi_lexer.specs.Inner.Reference.{reference_of}
-use Rattle.wi_lexer.specs.Inner.Rectangle.{rectangle_of}
-use Rattle.wi_lexer.specs.Token.{IsToken}
-use Rattle.wi_lexer.specs.Tokens.{Tokens, AreTokens, ended, bad, more}
-use Rattle.wi_lexer.specs.Inner.Tokens.{tokens}
-use Rattle.wi_lexer.proofs.TextLemmas.{tokens_hold}
 use Rattle.wi_parser.specs.declared.expr.Reference as references
-use Rattle.wi_parser.specs.declared.fault.ParseFault.TheVariants.{Syntax}
-use Rattle.wi_parser.specs.Capitals.{in_capitals}
-use Rattle.wi_parser.specs.Inner.FormulaText.{number_symbol, cell_symbol, reference_symbol, corners_symbol, rectangle_symbol, mark_symbol, symbol_of, symbols_of, after_prefix, after_equals, symbols_by, formula_symbols}
-use Rattle.wi_parser.specs.Symbols.{reference_to, name_symbol}
-use Rattle.wi_parser.specs.Shift.{in_sheet}
-use Rattle.wi_parser.specs.Symbol.{bad_token, what_if_name, name}
-use Rattle.wi_parser.specs.Writable.{IsWritable}
 
 -- ---- numbers
 

@@ -1,12 +1,5 @@
 -- What nests too deep is what the code finds by two counts.
-use Rattle.std.proofs.Common.{◌≡◌, ℕ, suc, ◌+◌, ◌-◌, ◌<◌, ◌≤◌, max, Bool, true, false, cond, ◌||◌, ◌↔◌, nat_lt, List, [], ◌∷◌, refl, sym, ap, ap₂, ◌∙◌, arith}
-use Rattle.std.proofs.lemmas.Bool.{lt-ltb, ltb-true, ltb-false, or_parts}
-use Rattle.std.proofs.lemmas.Bool.Decides.{nat_tests}
-use Rattle.std.specs.List.{prefix_len}
-use Rattle.std.specs.Prelude.{IsTrue}
-use Rattle.wi_parser.specs.Symbol.{Symbol, open_parenthesis, close_parenthesis}
-use Rattle.wi_parser.specs.Nesting.{opened, is_sign, max_depth, is_too_deep}
-use Rattle.wi_parser.specs.Inner.Deepest.{deepest, most_signs}
+use Rattle.wi_parser.proofs.Words.{◌≡◌, ℕ, suc, ◌+◌, ◌-◌, ◌<◌, ◌≤◌, max, Bool, true, false, cond, ◌||◌, ◌↔◌, nat_lt, List, [], ◌∷◌, refl, sym, ap, ap₂, ◌∙◌, arith, lt-ltb, ltb-true, ltb-false, or_parts, nat_tests, prefix_len, IsTrue, Symbol, open_parenthesis, close_parenthesis, opened, is_sign, max_depth, is_too_deep, deepest, most_signs}
 
 -- ---- parentheses
 

@@ -1,13 +1,5 @@
 -- One turn of the reader's loop, and how many symbols it takes.
-use Rattle.std.proofs.Common.{◌≡◌, ℕ, zero, suc, ◌-◌, ◌<◌, List, [], ◌∷◌, Option, Some, None, option_map, refl, sym, ap, ◌∙◌, arith}
-use Rattle.wi_parser.specs.declared.expr.Operator.{Operator}
-use Rattle.wi_parser.specs.declared.expr.Sign.{Sign}
-use Rattle.wi_parser.specs.Tree.{Tree, percent, binary}
-use Rattle.wi_parser.specs.Symbol.{Symbol, percent_mark}
-use Rattle.wi_parser.specs.declared.fault.ParseFault.{ParseFault}
-use Rattle.wi_parser.specs.declared.fault.ParseFault.TheVariants.{TooLong, OutOfSheet, NumberRange, TooDeep, Syntax, Memory}
-use Rattle.wi_parser.specs.Inner.Outcome.{Fails}
-use Rattle.wi_parser.specs.Inner.Reader.{Parse, read_then, after_percent, sign_of, sign_at, operator_at, signed_read, prefix_step, prefixed, percents, chain, chain_step}
+use Rattle.wi_parser.proofs.Words.{◌≡◌, ℕ, zero, suc, ◌-◌, ◌<◌, List, [], ◌∷◌, Option, Some, None, option_map, refl, sym, ap, ◌∙◌, arith, Operator, Sign, Tree, percent, binary, Symbol, percent_mark, ParseFault, TooLong, OutOfSheet, NumberRange, TooDeep, Syntax, Memory, Fails, Parse, read_then, after_percent, sign_of, sign_at, operator_at, signed_read, prefix_step, prefixed, percents, chain, chain_step}
 use Rattle.wi_parser.proofs.Marks.{map_ok}
 
 -- ---- signs

@@ -1,9 +1,5 @@
 -- What a reader finds after the name of a what-if, step by step.
-use Rattle.std.proofs.Common.{◌≡◌, List, ◌∷◌, [], Some, None, option_and_then, ap, sym, ◌∙◌}
-use Rattle.wi_parser.specs.declared.expr.Reference.{Reference}
-use Rattle.wi_parser.specs.Tree.{what_if}
-use Rattle.wi_parser.specs.Symbol.{Symbol}
-use Rattle.wi_parser.specs.Inner.Reader.{after_open, after_close, reference_at, pair_at, one_or_two, inputs_at, then_close, what_if_at}
+use Rattle.wi_parser.proofs.Words.{◌≡◌, List, ◌∷◌, [], Some, None, option_and_then, ap, sym, ◌∙◌, Reference, what_if, Symbol, after_open, after_close, reference_at, pair_at, one_or_two, inputs_at, then_close, what_if_at}
 
 pub no_cell : (ts : List Symbol) → option_and_then reference_at (after_open ts) ≡ None → what_if_at ts ≡ None
 unfolding what_if_at

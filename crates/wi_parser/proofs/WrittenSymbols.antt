@@ -1,34 +1,8 @@
 -- The text of a symbol is a token that means the symbol.
-use Rattle.std.proofs.Common.{◌≡◌, ◌≢◌, ℕ, zero, suc, ◌*◌, ◌/◌, ◌%◌, ◌^◌, ◌<◌, ◌≤◌, true, List, [], ◌++◌, length, Option, Some, None, unsigned_abs, if◌then◌else◌, refl, sym, ap, ap₂, ◌∙◌, subst, arith}
-use Rattle.std.specs.Fmt.{decimal}
-use Rattle.wi_fraction.specs.Number.{Number as Numbers, max_size}
-use Rattle.wi_fraction.specs.Text.{padded, size_text, sign_text}
-use Rattle.wi_fraction.specs.Decimal.{all_places, decimal_text, IsUnsignedDecimal}
-use Rattle.wi_fraction.specs.Written.{plain, point}
-use Rattle.wi_fraction.proofs.Digits.{length-padded, digits_padded}
-use Rattle.wi_fraction.proofs.Places.{all_none}
-use Rattle.wi_fraction.proofs.ReadsBack.{numeral as decimal_digits, div_small}
-use Rattle.wi_fraction.proofs.DecimalsReadBack.{decimal_few, decimals_read_back}
-use Rattle.wi_lexer.specs.declared.token.Kind.{Kind}
-use Rattle.wi_lexer.specs.declared.token.Kind.TheVariants.{Number, Text, Reference, Rectangle, Mark, Name}
-use Rattle.wi_lexer.specs.declared.token.Mark.TheVariants.{OpenParenthesis, CloseParenthesis, Semicolon, Percent}
-use Rattle.wi_lexer.specs.Reference.{one_cell}
-use Rattle.wi_lexer.specs.Rectangle.{two_cells}
-use Rattle.wi_lexer.specs.Text.{of_content}
-use Rattle.wi_lexer.specs.Token.{IsToken}
-use Rattle.wi_lexer.proofs.DecimalLemmas.{SomeDigits}
-use Rattle.wi_lexer.proofs.NumberLemmas.{digits_alone}
-use Rattle.wi_lexer.proofs.ReferenceLemmas.{reference_of_complete}
-use Rattle.wi_lexer.proofs.RectangleLemmas.{rectangle_of_complete}
-use Rattle.wi_lexer.proofs.QuoteLemmas.{text_reads_back}
-use Rattle.wi_parser.specs.declared.expr.Corners.{Corners}
+use Rattle.wi_parser.proofs.Words.{◌≡◌, ◌≢◌, ℕ, zero, suc, ◌*◌, ◌/◌, ◌%◌, ◌^◌, ◌<◌, ◌≤◌, true, List, [], ◌++◌, length, Option, Some, None, unsigned_abs, if◌then◌else◌, refl, sym, ap, ap₂, ◌∙◌, subst, arith, decimal, Number as Numbers, max_size, padded, size_text, sign_text, all_places, decimal_text, IsUnsignedDecimal, plain, point, length-padded, digits_padded, all_none, div_small, decimal_few, decimals_read_back, Kind, Text, Rectangle, Mark, Name, OpenParenthesis, CloseParenthesis, Semicolon, Percent, one_cell, two_cells, of_content, IsToken, SomeDigits, digits_alone, reference_of_complete, rectangle_of_complete, text_reads_back, Corners, Symbol, numeral, text_literal, reference, corners, open_parenthesis, close_parenthesis, separator, infix_mark, percent_mark, what_if_name, name, bad_token, in_capitals, in_sheet, cell_named, symbol_text, number_symbol, cell_symbol, reference_symbol, corners_symbol, rectangle_symbol, symbol_of, IsFunctionName, IsWritable}
+use Rattle.wi_fraction.proofs.ReadsBack.{numeral as decimal_digits}
+use Rattle.wi_lexer.specs.declared.token.Kind.TheVariants.{Number, Reference}
 use Rattle.wi_parser.specs.declared.expr.Reference as references
-use Rattle.wi_parser.specs.Symbol.{Symbol, numeral, text_literal, reference, corners, open_parenthesis, close_parenthesis, separator, infix_mark, percent_mark, what_if_name, name, bad_token}
-use Rattle.wi_parser.specs.Capitals.{in_capitals}
-use Rattle.wi_parser.specs.Shift.{in_sheet}
-use Rattle.wi_parser.specs.Printing.{cell_named, symbol_text}
-use Rattle.wi_parser.specs.Inner.FormulaText.{number_symbol, cell_symbol, reference_symbol, corners_symbol, rectangle_symbol, symbol_of}
-use Rattle.wi_parser.specs.Writable.{IsFunctionName, IsWritable}
 use Rattle.wi_parser.proofs.CellsOfSheet.{cell_is, cell_means}
 use Rattle.wi_parser.proofs.Apart.{stands_before}
 use Rattle.wi_parser.proofs.Meanings.{mark_of, operator_is, operator_means}

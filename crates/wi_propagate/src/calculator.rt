@@ -106,11 +106,7 @@ pub trait Calculator {
             → IsUnmoved sheet cells.now c) };
 
     /// Of the cells that `mark` finds at least those that aren't watched, where each cell is watched that a watched one marks.
-    fn mark_beyond<W: Watch>(
-        &self,
-        cells: &[Address],
-        watch: &W,
-    ) -> Result<Cells, AllocError>
+    fn mark_beyond<W: Watch>(&self, cells: &[Address], watch: &W) -> Result<Cells, AllocError>
         requires { let sheet = (stored self.now).sheet in
             (a c : ℕ) → W.watched watch.now a ≡ true
             → marked sheet (a ∷ []) c ≡ true → W.watched watch.now c ≡ true }

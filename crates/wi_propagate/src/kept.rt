@@ -436,11 +436,7 @@ impl Calculator for KeptCalculator {
 
     /// Exactly those of them that aren't watched, each once, in row-major order. The work grows with their count and that of their
     /// readers, times logarithms, and not with the watched cells behind them.
-    fn mark_beyond<W: Watch>(
-        &self,
-        cells: &[Address],
-        watch: &W,
-    ) -> Result<Cells, AllocError>
+    fn mark_beyond<W: Watch>(&self, cells: &[Address], watch: &W) -> Result<Cells, AllocError>
         requires { let sheet = self.now.stored.sheet in
             (a c : ℕ) → W.watched watch.now a ≡ true
             → in_cone sheet (a ∷ []) c ≡ true → W.watched watch.now c ≡ true }

@@ -1,12 +1,5 @@
 -- The halves of a block share no block.
-use Rattle.std.proofs.Common.{◌≡◌, ℕ, zero, suc, ◌+◌, ◌-◌, ◌^◌, ◌<◌, ◌≤◌, true, false, sym, ap, ◌∙◌, arith, ⊎_elim}
-use Rattle.std.proofs.Math.Nat.{pow-succ'}
-use Rattle.std.proofs.lemmas.Nat.{pow_pos}
-use Rattle.std.proofs.lemmas.Bool.{and_parts, and_right, cases_Bool}
-use Rattle.wi_ranges.specs.declared.block.Block.{Block}
-use Rattle.wi_ranges.specs.declared.pair.Numbered.{Numbered}
-use Rattle.wi_ranges.specs.Blocks.{block, blocks_within, blocks_in, first_row, last_row}
-use Rattle.wi_ranges.specs.Inner.Index.{Piece, is_among, is_one, is_piece}
+use Rattle.wi_ranges.proofs.Words.{◌≡◌, ℕ, zero, suc, ◌+◌, ◌-◌, ◌^◌, ◌<◌, ◌≤◌, true, false, sym, ap, ◌∙◌, arith, ⊎_elim, pow-succ', pow_pos, and_parts, and_right, cases_Bool, Block, Numbered, block, blocks_within, blocks_in, first_row, last_row, Piece, is_among, is_one, is_piece}
 use Rattle.wi_ranges.proofs.LargestLemmas.{Whole, of_row, which}
 
 -- a block of a cut begins in the block that is cut

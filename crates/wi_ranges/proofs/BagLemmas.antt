@@ -1,22 +1,5 @@
 -- Laws of the bag that the pieces tell, and of the pieces of a pair put in or taken out.
-use Rattle.std.proofs.Common.{◌≡◌, ℕ, ◌+◌, ◌-◌, ◌<◌, ◌≤◌, Bool, true, false, ◌&&◌, cond, not, length, List, Result, Ok, Err, OnOk, refl, sym, ap, subst, ◌∙◌, arith, nat_lt}
-use Rattle.std.specs.Prelude.{if◌then◌else◌}
-use Rattle.std.specs.Result.{is_err}
-use Rattle.std.specs.Ordering.{nat_cmp, ordering_then, is_eq}
-use Rattle.std.specs.declared.cmp.Ordering.TheVariants.{Less, Equal, Greater}
-use Rattle.std.specs.declared.cmp.Ordering.{Ordering}
-use Rattle.std.specs.BTreeMap.{is_at}
-use Rattle.std.proofs.Math.Bool.{and-true}
-use Rattle.std.specs.List.Sorted.{IsStrictlySortedBy}
-use Rattle.std.proofs.lemmas.Bool.{true≢false, and_right, and_parts, cond-true, cond-false, ltb-false, lt-ltb}
-use Rattle.std.proofs.lemmas.Bool.Decides.{nat_tests}
-use Rattle.std.proofs.lemmas.Map.Lookups.{btree_set_from_contains}
-use Rattle.wi_ranges.specs.declared.block.Block.{Block}
-use Rattle.wi_ranges.specs.declared.pair.RangePair.{RangePair}
-use Rattle.wi_ranges.specs.declared.pair.Numbered.{Numbered}
-use Rattle.wi_ranges.specs.Blocks.{blocks_in, blocks_of, first_row}
-use Rattle.wi_ranges.specs.Bag.{Bag, pair_cmp, is_same, count_of, HasOneMore, HasOneLess}
-use Rattle.wi_ranges.specs.Inner.Index.{AreWhole, Gains, HasPieces, IsIndexed, KeepsOtherPieces, LacksPieces, Piece, bag_of, has_piece, is_among, is_one, is_piece, piece_cmp}
+use Rattle.wi_ranges.proofs.Words.{◌≡◌, ℕ, ◌+◌, ◌-◌, ◌<◌, ◌≤◌, Bool, true, false, ◌&&◌, cond, not, length, List, Result, Ok, Err, OnOk, refl, sym, ap, subst, ◌∙◌, arith, nat_lt, if◌then◌else◌, is_err, nat_cmp, ordering_then, is_eq, Less, Equal, Greater, Ordering, is_at, and-true, IsStrictlySortedBy, true≢false, and_right, and_parts, cond-true, cond-false, ltb-false, lt-ltb, nat_tests, btree_set_from_contains, Block, RangePair, Numbered, blocks_in, blocks_of, first_row, Bag, pair_cmp, is_same, count_of, HasOneMore, HasOneLess, AreWhole, Gains, HasPieces, IsIndexed, KeepsOtherPieces, LacksPieces, Piece, bag_of, has_piece, is_among, is_one, is_piece, piece_cmp}
 use Rattle.wi_ranges.proofs.Exact.{same_is, same_self, one_is, exact_piece, piece_total}
 use Rattle.wi_ranges.proofs.Sums.{gains_count, gains_length, gains_pieces, has_block}
 

@@ -1,10 +1,5 @@
 -- Laws of blocks of rows.
-use Rattle.std.proofs.Common.{◌≡◌, ℕ, zero, suc, ◌+◌, ◌-◌, ◌^◌, ◌<◌, ◌≤◌, true, false, cond, [], ◌∷◌, ◌++◌, refl, arith, nat_lt, ⊎_elim}
-use Rattle.std.proofs.lemmas.Bool.{cases_lt}
-use Rattle.std.proofs.lemmas.Nat.{pow_below}
-use Rattle.wi_ranges.specs.declared.block.Block.{Block}
-use Rattle.wi_ranges.specs.declared.pair.RangePair.{RangePair}
-use Rattle.wi_ranges.specs.Blocks.{block, lies_within, meets, blocks_within, blocks_with, blocks_in, first_row, last_row, half_with}
+use Rattle.wi_ranges.proofs.Words.{◌≡◌, ℕ, zero, suc, ◌+◌, ◌-◌, ◌^◌, ◌<◌, ◌≤◌, true, false, cond, [], ◌∷◌, ◌++◌, refl, arith, nat_lt, ⊎_elim, cases_lt, pow_below, Block, RangePair, block, lies_within, meets, blocks_within, blocks_with, blocks_in, first_row, last_row, half_with}
 
 -- a level of the sheet
 pub small_level : (f k : ℕ) → f + 2 ^ k ≤ 1048576 → k < 32

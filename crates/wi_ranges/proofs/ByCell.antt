@@ -1,30 +1,5 @@
 -- The pairs that readers by cell are: what is added up over them, and whether one of them passes a test.
-use Rattle.std.proofs.Common.{◌≡◌, ◌==◌, ℕ, ◌+◌, Bool, true, false, ◌&&◌, ◌||◌, cond, List, [], ◌∷◌, ◌++◌, Option, Some, None, HashMap, refl, sym, ap, subst, ◌∙◌, arith, nat_eq, nat_le}
-use Rattle.std.specs.Ordering.{nat_cmp}
-use Rattle.std.specs.Option.{unwrap_or}
-use Rattle.std.specs.List.{list_any, sum_by, IsDistinct, AllByRecursion}
-use Rattle.std.specs.List.Sorted.{IsPermutation}
-use Rattle.std.specs.Map.{keys_of, lookup, set_value, remove_entry}
-use Rattle.std.specs.HashMap.{get, PutsEntry}
-use Rattle.std.specs.BTreeMap.{is_at}
-use Rattle.std.proofs.lemmas.Bool.{true≢false, or_from, le-leb, eqb-true, eq-eqb}
-use Rattle.std.proofs.lemmas.Bool.Decides.{nat_tests}
-use Rattle.std.proofs.lemmas.List.{map-append}
-use Rattle.std.proofs.lemmas.Option.{same_Some}
-use Rattle.std.proofs.lemmas.List.Folds.{list_any-append}
-use Rattle.std.proofs.lemmas.List.Sums.{sum_by-cons, sum_by-append, sum_by_push}
-use Rattle.std.proofs.lemmas.List.Sorted.{IsPermutation-map, sum_by-IsPermutation, sum_by_pushed}
-use Rattle.std.proofs.lemmas.Map.Keys.{IsDistinct-head, IsDistinct-tail}
-use Rattle.std.proofs.lemmas.Map.Steps.{set_value_same}
-use Rattle.std.proofs.Math.Bool.{or-false}
-use Rattle.wi_values.specs.Address.{Area, row_of, column_of, is_within}
-use Rattle.wi_values.proofs.Order.{turn_test, is_at-eq}
-use Rattle.wi_values.proofs.Within.{within_between}
-use Rattle.wi_ranges.specs.declared.pair.RangePair.{RangePair}
-use Rattle.wi_ranges.specs.Bag.{is_same}
-use Rattle.wi_ranges.specs.Inner.Index.{pair_reads}
-use Rattle.wi_ranges.specs.Inner.Rising.{has_cell}
-use Rattle.wi_ranges.specs.Inner.Singles.{single_pair, pairs_at, pairs_of, HasPairMore}
+use Rattle.wi_ranges.proofs.Words.{◌≡◌, ◌==◌, ℕ, ◌+◌, Bool, true, false, ◌&&◌, ◌||◌, cond, List, [], ◌∷◌, ◌++◌, Option, Some, None, HashMap, refl, sym, ap, subst, ◌∙◌, arith, nat_eq, nat_le, nat_cmp, unwrap_or, list_any, sum_by, IsDistinct, AllByRecursion, IsPermutation, keys_of, lookup, set_value, remove_entry, get, PutsEntry, is_at, true≢false, or_from, le-leb, eqb-true, eq-eqb, nat_tests, map-append, same_Some, list_any-append, sum_by-cons, sum_by-append, sum_by_push, IsPermutation-map, sum_by-IsPermutation, sum_by_pushed, IsDistinct-head, IsDistinct-tail, set_value_same, or-false, Area, row_of, column_of, is_within, turn_test, is_at-eq, within_between, RangePair, is_same, pair_reads, has_cell, single_pair, pairs_at, pairs_of, HasPairMore}
 
 abbrev pub Entries : Type 0
 Entries = List (ℕ × List ℕ)

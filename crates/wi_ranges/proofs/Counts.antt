@@ -1,22 +1,5 @@
 -- How many there are of a pair, by its last piece at one of its blocks.
-use Rattle.std.proofs.Common.{◌≡◌, ℕ, ◌+◌, ◌*◌, ◌<◌, ◌≤◌, Bool, true, false, ◌&&◌, cond, List, [], ◌∷◌, ◌++◌, length, refl, sym, ap, subst, ◌∙◌, arith, ⊎_elim, nat_lt, Some}
-use Rattle.std.specs.Option.{unwrap_or}
-use Rattle.std.specs.Map.{lookup}
-use Rattle.std.specs.Ordering.{is_eq, is_gt, is_lt, nat_cmp, ordering_then}
-use Rattle.std.specs.declared.cmp.Ordering.{Ordering}
-use Rattle.std.specs.declared.cmp.Ordering.TheVariants.{Less, Equal, Greater}
-use Rattle.std.specs.declared.ops.Bound.TheVariants.{Included, Unbounded}
-use Rattle.std.specs.BTreeMap.{is_at}
-use Rattle.std.specs.BTreeSet.{BTreeSet, IsKeyRangeOf}
-use Rattle.std.proofs.lemmas.Bool.{true≢false, and_parts, and_from, cases_lt, lt-ltb, ltb-true}
-use Rattle.std.proofs.lemmas.Bool.Decides.{nat_tests}
-use Rattle.std.proofs.lemmas.Cmp.{tied_itself}
-use Rattle.std.proofs.lemmas.Nat.{mul-le}
-use Rattle.wi_ranges.specs.declared.block.Block.{Block}
-use Rattle.wi_ranges.specs.declared.pair.RangePair.{RangePair}
-use Rattle.wi_ranges.specs.Blocks.{blocks_of}
-use Rattle.wi_ranges.specs.Bag.{Bag, count_of, is_same, pair_cmp, pieces_of}
-use Rattle.wi_ranges.specs.Inner.Index.{AreWhole, IsIndexed, Piece, bag_of, block_cmp, has_piece, is_among, is_at_block, piece_cmp}
+use Rattle.wi_ranges.proofs.Words.{◌≡◌, ℕ, ◌+◌, ◌*◌, ◌<◌, ◌≤◌, Bool, true, false, ◌&&◌, cond, List, [], ◌∷◌, ◌++◌, length, refl, sym, ap, subst, ◌∙◌, arith, ⊎_elim, nat_lt, Some, unwrap_or, lookup, is_eq, is_gt, is_lt, nat_cmp, ordering_then, Ordering, Less, Equal, Greater, Included, Unbounded, is_at, BTreeSet, IsKeyRangeOf, true≢false, and_parts, and_from, cases_lt, lt-ltb, ltb-true, nat_tests, tied_itself, mul-le, Block, RangePair, blocks_of, Bag, count_of, is_same, pair_cmp, pieces_of, AreWhole, IsIndexed, Piece, bag_of, block_cmp, has_piece, is_among, is_at_block, piece_cmp}
 use Rattle.wi_ranges.proofs.Exact.{block_total, pair_total, same_is}
 
 -- ---- the order of the pieces of a pair at a block

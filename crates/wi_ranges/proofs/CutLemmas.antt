@@ -1,15 +1,5 @@
 -- Laws of the cut of some rows into blocks.
-use Rattle.std.proofs.Common.{◌≡◌, ◌==◌, ℕ, zero, suc, ◌+◌, ◌-◌, ◌*◌, ◌^◌, ◌<◌, ◌≤◌, Bool, true, false, cond, List, [], ◌∷◌, ◌++◌, length, refl, ap, sym, ◌∙◌, arith, ⊎_elim, ◌⊎◌, inl, inr, nat_lt, nat_le, length-append}
-use Rattle.std.specs.Prelude.{if◌then◌else◌}
-use Rattle.std.proofs.Math.Nat.{pow-succ'}
-use Rattle.std.proofs.lemmas.List.{nil_from_length}
-use Rattle.std.proofs.lemmas.Nat.{pow_pos}
-use Rattle.std.proofs.lemmas.Bool.{and_parts, and_from, and_left, and_right, cases_Bool, cases_lt, lt-ltb, le-leb, le-ltb, lt-leb, leb-true, eqb-true}
-use Rattle.wi_values.specs.Address.{rows, row_of}
-use Rattle.wi_ranges.specs.declared.pair.RangePair.{RangePair}
-use Rattle.wi_ranges.specs.declared.block.Block.{Block}
-use Rattle.wi_ranges.specs.Blocks.{block, lies_within, meets, blocks_within, blocks_in, blocks_of, first_row, last_row}
-use Rattle.wi_ranges.specs.Laws.{times_held, RowsAreHeldOnce, BlocksAreFew}
+use Rattle.wi_ranges.proofs.Words.{◌≡◌, ◌==◌, ℕ, zero, suc, ◌+◌, ◌-◌, ◌*◌, ◌^◌, ◌<◌, ◌≤◌, Bool, true, false, cond, List, [], ◌∷◌, ◌++◌, length, refl, ap, sym, ◌∙◌, arith, ⊎_elim, ◌⊎◌, inl, inr, nat_lt, nat_le, length-append, if◌then◌else◌, pow-succ', nil_from_length, pow_pos, and_parts, and_from, and_left, and_right, cases_Bool, cases_lt, lt-ltb, le-leb, le-ltb, lt-leb, leb-true, eqb-true, rows, row_of, RangePair, Block, block, lies_within, meets, blocks_within, blocks_in, blocks_of, first_row, last_row, times_held, RowsAreHeldOnce, BlocksAreFew}
 use Rattle.wi_ranges.proofs.BlockLemmas.{blocks_within-here, blocks_within-apart}
 use Rattle.wi_ranges.proofs.Found.{halves}
 

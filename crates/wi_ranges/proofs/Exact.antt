@@ -1,16 +1,5 @@
 -- What compares as equal is one.
-use Rattle.std.proofs.Common.{◌≡◌, ℕ, true, ap}
-use Rattle.std.specs.Ordering.{nat_cmp, ordering_then, is_eq}
-use Rattle.std.specs.Cmp.{IsTotalOrder, nat_cmp_total}
-use Rattle.std.proofs.lemmas.Cmp.{on_total, then_total, tied_itself}
-use Rattle.std.specs.BTreeMap.{is_at}
-use Rattle.std.proofs.lemmas.Map.Lookups.{CmpEqualImpliesEq, exact_unsigned, exact_pairs}
-use Rattle.std.proofs.lemmas.Map.Views.{tells_apart}
-use Rattle.wi_ranges.specs.declared.block.Block.{Block}
-use Rattle.wi_ranges.specs.declared.pair.RangePair.{RangePair}
-use Rattle.wi_ranges.specs.declared.pair.Numbered.{Numbered}
-use Rattle.wi_ranges.specs.Bag.{pair_cmp, is_same}
-use Rattle.wi_ranges.specs.Inner.Index.{Piece, block_cmp, numbered_cmp, piece_cmp, is_one}
+use Rattle.wi_ranges.proofs.Words.{◌≡◌, ℕ, true, ap, nat_cmp, ordering_then, is_eq, IsTotalOrder, nat_cmp_total, on_total, then_total, tied_itself, is_at, CmpEqualImpliesEq, exact_unsigned, exact_pairs, tells_apart, Block, RangePair, Numbered, pair_cmp, is_same, Piece, block_cmp, numbered_cmp, piece_cmp, is_one}
 
 pub exact_pair : CmpEqualImpliesEq pair_cmp
 exact_pair p q h =

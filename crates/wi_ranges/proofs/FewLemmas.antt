@@ -1,17 +1,5 @@
 -- The readers of one cell: one more, one less, and whether a cell is among them.
-use Rattle.std.proofs.Common.{◌≡◌, ◌↔◌, ◌==◌, ℕ, ◌<◌, ◌≤◌, ◌+◌, Bool, true, false, ◌||◌, cond, List, [], ◌∷◌, ◌++◌, length, take, get_or, Option, Some, None, refl, sym, ap, subst, ◌∙◌, arith, nat_lt}
-use Rattle.std.specs.Ordering.{nat_cmp}
-use Rattle.std.specs.Option.{unwrap_or}
-use Rattle.std.specs.List.{position, position_or_len, swap_remove}
-use Rattle.std.specs.List.Sorted.{IsPermutation}
-use Rattle.std.specs.BTreeMap.{is_at}
-use Rattle.std.proofs.lemmas.Bool.{true≢false, or_from, ltb-false, ltb-true, eqb-true, eq-eqb, ne_eqb}
-use Rattle.std.proofs.lemmas.List.Folds.{list_any_more}
-use Rattle.std.proofs.lemmas.List.Sums.{passes_at_first, fails_before_first}
-use Rattle.std.proofs.lemmas.List.Sorted.{IsPermutation-cons, IsPermutation-trans, IsPermutation-to_front, IsPermutation-middle, IsPermutation-swap_remove}
-use Rattle.std.proofs.Math.Bool.{or-false, or_assoc}
-use Rattle.wi_values.proofs.Order.{turn_test, is_at-eq}
-use Rattle.wi_ranges.specs.Inner.Rising.{has_cell}
+use Rattle.wi_ranges.proofs.Words.{◌≡◌, ◌↔◌, ◌==◌, ℕ, ◌<◌, ◌≤◌, ◌+◌, Bool, true, false, ◌||◌, cond, List, [], ◌∷◌, ◌++◌, length, take, get_or, Option, Some, None, refl, sym, ap, subst, ◌∙◌, arith, nat_lt, nat_cmp, unwrap_or, position, position_or_len, swap_remove, IsPermutation, is_at, true≢false, or_from, ltb-false, ltb-true, eqb-true, eq-eqb, ne_eqb, list_any_more, passes_at_first, fails_before_first, IsPermutation-cons, IsPermutation-trans, IsPermutation-to_front, IsPermutation-middle, IsPermutation-swap_remove, or-false, or_assoc, turn_test, is_at-eq, has_cell}
 use Rattle.wi_ranges.proofs.RisingLemmas.{has_nowhere}
 
 -- ---- where a cell stands

@@ -1,13 +1,6 @@
 -- The block of a pair that holds its first row.
-use Rattle.std.proofs.Common.{◌≡◌, ℕ, zero, suc, ◌+◌, ◌-◌, ◌^◌, ◌<◌, ◌≤◌, Bool, true, false, cond, [], refl, sym, ap, ◌∙◌, arith, ⊎_elim, nat_lt, nat_le}
-use Rattle.std.proofs.Math.Nat.{pow-succ'}
-use Rattle.std.proofs.lemmas.Bool.{true≢false, and_parts, and_from, cases_lt, lt-ltb, le-leb, le-ltb, leb-true, ltb-true}
-use Rattle.wi_ranges.specs.declared.block.Block.{Block}
-use Rattle.wi_ranges.specs.declared.pair.RangePair.{RangePair}
-use Rattle.wi_ranges.specs.Blocks.{block, lies_within, meets, blocks_in, half_with, first_row, last_row}
-use Rattle.wi_ranges.specs.Inner.Index.{holds, is_among}
+use Rattle.wi_ranges.proofs.Words.{◌≡◌, ℕ, zero, suc, ◌+◌, ◌-◌, ◌^◌, ◌<◌, ◌≤◌, Bool, true, false, cond, [], refl, sym, ap, ◌∙◌, arith, ⊎_elim, nat_lt, nat_le, pow-succ', true≢false, and_parts, and_from, cases_lt, lt-ltb, le-leb, le-ltb, leb-true, ltb-true, Block, RangePair, block, lies_within, meets, blocks_in, half_with, first_row, last_row, holds, is_among, if◌then◌else◌}
 use Rattle.wi_ranges.proofs.BlockLemmas.{blocks_within-here, halves_of}
-use Rattle.std.specs.Prelude.{if◌then◌else◌}
 use Rattle.wi_ranges.proofs.Found.{among_first, among_upper, among_lower, first_at_most}
 
 -- the rows that a block has

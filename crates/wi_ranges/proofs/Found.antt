@@ -1,17 +1,5 @@
 -- Who is found at the blocks that hold a cell's row is who reads the cell.
-use Rattle.std.proofs.Common.{◌≡◌, ℕ, zero, suc, ◌+◌, ◌^◌, ◌<◌, ◌≤◌, ◌==◌, Bool, true, false, ◌&&◌, ◌||◌, cond, List, [], ◌∷◌, ◌++◌, refl, sym, ap, ◌∙◌, arith, ⊎_elim, nat_lt, nat_le}
-use Rattle.std.specs.Prelude.{if◌then◌else◌}
-use Rattle.std.specs.List.{list_any}
-use Rattle.std.specs.BTreeMap.{is_at}
-use Rattle.std.proofs.Math.Nat.{pow-succ'}
-use Rattle.std.proofs.lemmas.Bool.{true≢false, and_parts, and_from, or_left, or_right, cond-true, cond-false, cases_Bool, cases_lt, lt-ltb, ltb-true, ltb-false, le-leb, le-ltb, leb-true, eqb-true, eq-eqb}
-use Rattle.std.proofs.lemmas.List.Folds.{list_any-append}
-use Rattle.wi_values.specs.Address.{row_of, is_within}
-use Rattle.wi_ranges.specs.declared.block.Block.{Block}
-use Rattle.wi_ranges.specs.declared.pair.RangePair.{RangePair}
-use Rattle.wi_ranges.specs.Blocks.{block, lies_within, meets, blocks_within, blocks_with, blocks_of, first_row, last_row}
-use Rattle.wi_ranges.specs.Bag.{Bag, pair_area, count_of, IsReader}
-use Rattle.wi_ranges.specs.Inner.Index.{Piece, block_cmp, piece_cmp, has_piece, is_among, piece_reads, reads_at, IsIndexed}
+use Rattle.wi_ranges.proofs.Words.{◌≡◌, ℕ, zero, suc, ◌+◌, ◌^◌, ◌<◌, ◌≤◌, ◌==◌, Bool, true, false, ◌&&◌, ◌||◌, cond, List, [], ◌∷◌, ◌++◌, refl, sym, ap, ◌∙◌, arith, ⊎_elim, nat_lt, nat_le, if◌then◌else◌, list_any, is_at, pow-succ', true≢false, and_parts, and_from, or_left, or_right, cond-true, cond-false, cases_Bool, cases_lt, lt-ltb, ltb-true, ltb-false, le-leb, le-ltb, leb-true, eqb-true, eq-eqb, list_any-append, row_of, is_within, Block, RangePair, block, lies_within, meets, blocks_within, blocks_with, blocks_of, first_row, last_row, Bag, pair_area, count_of, IsReader, Piece, block_cmp, piece_cmp, has_piece, is_among, piece_reads, reads_at, IsIndexed}
 use Rattle.wi_ranges.proofs.BlockLemmas.{blocks_within-here}
 use Rattle.wi_ranges.proofs.Exact.{block_self, piece_self, same_piece}
 

@@ -1,16 +1,5 @@
 -- The bag of some pairs and of those of a bag.
-use Rattle.std.proofs.Common.{◌≡◌, ◌==◌, ℕ, ◌+◌, ◌-◌, Bool, true, false, ◌||◌, cond, List, [], ◌∷◌, length, refl, sym, ap, ◌∙◌, arith}
-use Rattle.std.specs.Prelude.{if◌then◌else◌}
-use Rattle.std.specs.List.{list_any, sum_by}
-use Rattle.std.proofs.lemmas.Bool.{true≢false, and_parts, and_from, or_left, or_right, eqb-true, eq-eqb}
-use Rattle.std.proofs.lemmas.List.Sums.{sum_by-cons}
-use Rattle.std.proofs.Math.Bool.{or_assoc}
-use Rattle.wi_values.specs.Address.{is_within}
-use Rattle.wi_ranges.specs.declared.pair.RangePair.{RangePair}
-use Rattle.wi_ranges.specs.Blocks.{blocks_of}
-use Rattle.wi_ranges.specs.Bag.{Bag, count_of, is_same, pair_area, pieces_of, raise, HasOneMore, HasOneLess, IsReader}
-use Rattle.wi_ranges.specs.Inner.Index.{pair_reads}
-use Rattle.wi_ranges.specs.Inner.Singles.{blocks_in_all, with_pairs, HasPairMore}
+use Rattle.wi_ranges.proofs.Words.{◌≡◌, ◌==◌, ℕ, ◌+◌, ◌-◌, Bool, true, false, ◌||◌, cond, List, [], ◌∷◌, length, refl, sym, ap, ◌∙◌, arith, if◌then◌else◌, list_any, sum_by, true≢false, and_parts, and_from, or_left, or_right, eqb-true, eq-eqb, sum_by-cons, or_assoc, is_within, RangePair, blocks_of, Bag, count_of, is_same, pair_area, pieces_of, raise, HasOneMore, HasOneLess, IsReader, pair_reads, blocks_in_all, with_pairs, HasPairMore}
 use Rattle.wi_ranges.proofs.Exact.{same_is, same_self}
 use Rattle.wi_ranges.proofs.BagLemmas.{one_more, one_less}
 use Rattle.wi_ranges.proofs.Sums.{raise_count, raise_pieces}

@@ -1,16 +1,5 @@
 -- The blocks of a cut are the largest.
-use Rattle.std.proofs.Common.{◌≡◌, ℕ, zero, suc, ◌+◌, ◌-◌, ◌*◌, ◌^◌, ◌<◌, ◌≤◌, true, false, ◌&&◌, List, [], ◌∷◌, refl, sym, ap, subst, ◌∙◌, arith, ⊎_elim, ◌⊎◌, inl, inr, nat_le}
-use Rattle.std.specs.BTreeMap.{is_at}
-use Rattle.std.proofs.Math.Bool.{or-false}
-use Rattle.std.proofs.Math.Nat.{pow-succ', mul_assoc, add-mul}
-use Rattle.std.proofs.lemmas.Nat.{pow_pos}
-use Rattle.std.proofs.lemmas.Bool.{true≢false, or_cases, cases_Bool, cases_lt, cases_order}
-use Rattle.std.proofs.lemmas.List.Folds.{list_any-append}
-use Rattle.std.proofs.lemmas.Map.Views.{tells_apart}
-use Rattle.wi_ranges.specs.declared.block.Block.{Block}
-use Rattle.wi_ranges.specs.Blocks.{block, lies_within, meets, blocks_within, first_row, last_row}
-use Rattle.wi_ranges.specs.Inner.Index.{block_cmp, is_among}
-use Rattle.wi_ranges.specs.Laws.{IsAligned, IsPartOf, BlocksAreLargest}
+use Rattle.wi_ranges.proofs.Words.{◌≡◌, ℕ, zero, suc, ◌+◌, ◌-◌, ◌*◌, ◌^◌, ◌<◌, ◌≤◌, true, false, ◌&&◌, List, [], ◌∷◌, refl, sym, ap, subst, ◌∙◌, arith, ⊎_elim, ◌⊎◌, inl, inr, nat_le, is_at, or-false, pow-succ', mul_assoc, add-mul, pow_pos, true≢false, or_cases, cases_Bool, cases_lt, cases_order, list_any-append, tells_apart, Block, block, lies_within, meets, blocks_within, first_row, last_row, block_cmp, is_among, IsAligned, IsPartOf, BlocksAreLargest}
 use Rattle.wi_ranges.proofs.BlockLemmas.{blocks_within-here, blocks_within-apart, blocks_within-row}
 use Rattle.wi_ranges.proofs.Exact.{exact_block}
 use Rattle.wi_ranges.proofs.Found.{halves}

@@ -1,15 +1,5 @@
 -- Levels of blocks at which no piece stands.
-use Rattle.std.proofs.Common.{◌≡◌, ◌<◌, ◌≤◌, ◌||◌, ℕ, Bool, false, List, [], ◌∷◌, All, get_or, refl, sym, ap, ◌∙◌, arith}
-use Rattle.std.specs.Ordering.{nat_cmp, ordering_then, is_lt}
-use Rattle.std.specs.declared.cmp.Ordering.{Ordering}
-use Rattle.std.specs.declared.cmp.Ordering.TheVariants.{Less, Equal, Greater}
-use Rattle.std.specs.List.{list_any}
-use Rattle.std.proofs.lemmas.Bool.Decides.{nat_tests}
-use Rattle.std.proofs.lemmas.List.Folds.{list_any_none}
-use Rattle.std.proofs.Math.Bool.{or-false}
-use Rattle.wi_values.proofs.Order.{cmp_after}
-use Rattle.wi_ranges.specs.declared.block.Block.{Block}
-use Rattle.wi_ranges.specs.Inner.Index.{Piece, piece_cmp, reads_at, AreUpTo}
+use Rattle.wi_ranges.proofs.Words.{◌≡◌, ◌<◌, ◌≤◌, ◌||◌, ℕ, Bool, false, List, [], ◌∷◌, All, get_or, refl, sym, ap, ◌∙◌, arith, nat_cmp, ordering_then, is_lt, Ordering, Less, Equal, Greater, list_any, nat_tests, list_any_none, or-false, cmp_after, Block, Piece, piece_cmp, reads_at, AreUpTo}
 use Rattle.wi_ranges.proofs.ReaderLemmas.{readers_more}
 
 not_less : (a b : ℕ) (o p : Ordering) → is_lt (ordering_then (ordering_then (nat_cmp a b) o) p) ≡ false → b ≤ a

@@ -16,3 +16,4 @@ mod Counts
 mod FewLemmas
 mod ByCell
 mod Joined
+pub mod Words

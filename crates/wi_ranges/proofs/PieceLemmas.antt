@@ -1,20 +1,5 @@
 -- Laws of pieces.
-use Rattle.std.proofs.Common.{◌≡◌, Bool, true, false, ◌&&◌, ◌||◌, cond, List, [], ◌∷◌, ◌++◌, refl, sym, ap, ◌∙◌, ◌⊎◌, ⊎_elim, ◌+◌, ℕ, arith}
-use Rattle.std.specs.Ordering.{ordering_then, is_eq}
-use Rattle.std.specs.declared.cmp.Ordering.{Ordering}
-use Rattle.std.specs.declared.cmp.Ordering.TheVariants.{Less, Equal, Greater}
-use Rattle.std.specs.List.{sum_by}
-use Rattle.std.specs.Set.{remove_key}
-use Rattle.std.specs.BTreeMap.{is_at}
-use Rattle.std.specs.BTreeSet.{insert_key}
-use Rattle.std.proofs.Math.Bool.{and-or_distrib_left}
-use Rattle.std.proofs.lemmas.Bool.{or_left, or_right, or_cases, or_parts, and_right, true≢false, cond-true, cond-false}
-use Rattle.std.proofs.lemmas.List.Folds.{list_any-append}
-use Rattle.std.proofs.lemmas.List.Sums.{sum_by-append}
-use Rattle.wi_ranges.specs.declared.block.Block.{Block}
-use Rattle.wi_ranges.specs.declared.pair.Numbered.{Numbered}
-use Rattle.wi_ranges.specs.Blocks.{blocks_in, first_row, last_row, lies_within}
-use Rattle.wi_ranges.specs.Inner.Index.{block_cmp, numbered_cmp, Gains, HasPieces, LacksPieces, is_one, Piece, piece_cmp, has_piece, is_piece}
+use Rattle.wi_ranges.proofs.Words.{◌≡◌, Bool, true, false, ◌&&◌, ◌||◌, cond, List, [], ◌∷◌, ◌++◌, refl, sym, ap, ◌∙◌, ◌⊎◌, ⊎_elim, ◌+◌, ℕ, arith, ordering_then, is_eq, Ordering, Less, Equal, Greater, sum_by, remove_key, is_at, insert_key, and-or_distrib_left, or_left, or_right, or_cases, or_parts, and_right, true≢false, cond-true, cond-false, list_any-append, sum_by-append, Block, Numbered, blocks_in, first_row, last_row, lies_within, block_cmp, numbered_cmp, Gains, HasPieces, LacksPieces, is_one, Piece, piece_cmp, has_piece, is_piece}
 use Rattle.wi_ranges.proofs.BlockLemmas.{blocks_within-here}
 use Rattle.wi_ranges.proofs.Exact.{piece_self}
 use Rattle.wi_ranges.proofs.Sums.{sum_insert, sum_remove}

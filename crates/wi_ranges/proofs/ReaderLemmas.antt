@@ -1,25 +1,5 @@
 -- Laws of the pieces at a block, and of the readers among them.
-use Rattle.std.proofs.Common.{◌≡◌, ℕ, nat_eq, Bool, true, false, not, ◌&&◌, ◌||◌, cond, List, [], ◌∷◌, ◌==◌, ◌↔◌, filter, refl, sym, ap, subst, ◌∙◌, arith}
-use Rattle.std.specs.Bool.{⊤}
-use Rattle.std.specs.Ordering.{nat_cmp, ordering_then, is_eq, is_le}
-use Rattle.std.specs.declared.cmp.Ordering.{Ordering}
-use Rattle.std.specs.declared.cmp.Ordering.TheVariants.{Less, Equal, Greater}
-use Rattle.std.specs.declared.ops.Bound.TheVariants.{Included, Unbounded}
-use Rattle.std.specs.List.{list_any, AllByRecursion}
-use Rattle.std.specs.List.Sorted.{IsStrictlySortedBy}
-use Rattle.std.specs.BTreeMap.{is_at}
-use Rattle.std.specs.BTreeMap.Range.{range_contains}
-use Rattle.std.proofs.lemmas.Bool.{true≢false, and_parts, and_from}
-use Rattle.std.proofs.lemmas.Bool.Decides.{nat_tests}
-use Rattle.std.proofs.lemmas.Map.Keys.{sorted_head, sorted_tail}
-use Rattle.std.proofs.Math.Bool.{or-false, or_assoc}
-use Rattle.wi_values.proofs.Order.{turn_test}
-use Rattle.wi_values.specs.Address.{is_within}
-use Rattle.wi_ranges.specs.declared.block.Block.{Block}
-use Rattle.wi_ranges.specs.declared.pair.RangePair.{RangePair}
-use Rattle.wi_ranges.specs.declared.pair.Numbered.{Numbered}
-use Rattle.wi_ranges.specs.Bag.{pair_area, pair_cmp, lowest_pair}
-use Rattle.wi_ranges.specs.Inner.Index.{block_cmp, numbered_cmp, lowest, Piece, piece_cmp, is_among, piece_reads, reads_at}
+use Rattle.wi_ranges.proofs.Words.{◌≡◌, ℕ, nat_eq, Bool, true, false, not, ◌&&◌, ◌||◌, cond, List, [], ◌∷◌, ◌==◌, ◌↔◌, filter, refl, sym, ap, subst, ◌∙◌, arith, ⊤, nat_cmp, ordering_then, is_eq, is_le, Ordering, Less, Equal, Greater, Included, Unbounded, list_any, AllByRecursion, IsStrictlySortedBy, is_at, range_contains, true≢false, and_parts, and_from, nat_tests, sorted_head, sorted_tail, or-false, or_assoc, turn_test, is_within, Block, RangePair, Numbered, pair_area, pair_cmp, lowest_pair, block_cmp, numbered_cmp, lowest, Piece, piece_cmp, is_among, piece_reads, reads_at}
 
 -- ---- which pieces come from a block on, and before the next
 

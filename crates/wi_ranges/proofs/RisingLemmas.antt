@@ -1,25 +1,6 @@
 -- Laws of cells in row-major order in a list, and others beside it.
-use Rattle.std.proofs.Common.{◌≡◌, ◌==◌, ◌<◌, ◌≤◌, ◌-◌, ◌||◌, ◌++◌, ◌↔◌, ℕ, zero, suc, nat_lt, eqb, Bool, true, false, not, cond, List, [], ◌∷◌, Some, Result, Ok, Err, MatchResult, ⊎_elim, length, get_or, slice_get, refl, sym, ap, ◌∙◌, subst, arith}
-use Rattle.std.specs.Ordering.{nat_cmp}
-use Rattle.std.specs.declared.cmp.Ordering.TheVariants.{Less}
-use Rattle.std.specs.Cmp.{nat_cmp_total}
-use Rattle.std.specs.Result.{is_ok}
-use Rattle.std.specs.List.{AllByRecursion, Contains, dedup}
-use Rattle.std.specs.List.Sorted.{IsStrictlyIncreasing, IsStrictlySortedBy, IsBinarySearchResult, IsPermutation}
-use Rattle.std.specs.BTreeMap.{is_at}
-use Rattle.std.specs.BTreeSet.{BTreeSet, contains}
-use Rattle.std.proofs.lemmas.List.{append-nil}
-use Rattle.std.proofs.lemmas.List.Kept.{Contains-dedup_nat, Contains-from_dedup}
-use Rattle.std.proofs.lemmas.Map.Lookups.{exact_unsigned}
-use Rattle.std.proofs.lemmas.Map.Views.{btree_set_contains_iff}
-use Rattle.std.proofs.lemmas.Bool.{true≢false, or_right, cases_lt, ltb-true, false_from_ne_true}
-use Rattle.std.proofs.lemmas.Bool.Decides.{nat_tests}
-use Rattle.std.proofs.lemmas.List.Folds.{list_any-append}
-use Rattle.std.proofs.Math.Bool.{or-false}
-use Rattle.std.proofs.lemmas.List.Sorted.{searched, Contains-permutation, IsPermutation-sym}
-use Rattle.std.proofs.lemmas.Map.Keys.{sorted_head, sorted_tail, sorted_from_strictly_increasing, IsStrictlyIncreasing-from_sorted, non_decreasing_from_sorted}
-use Rattle.wi_values.proofs.Order.{cmp_before, below_from_Less, less_from_both, at_earlier, at_same, is_at-eq, turn_test, at_itself, at_other}
-use Rattle.wi_ranges.specs.Inner.Rising.{has_cell, ends_before, StandApart}
+use Rattle.wi_ranges.proofs.Words.{◌≡◌, ◌==◌, ◌<◌, ◌≤◌, ◌-◌, ◌||◌, ◌++◌, ◌↔◌, ℕ, zero, suc, nat_lt, eqb, Bool, true, false, not, cond, List, [], ◌∷◌, Some, Result, Ok, Err, MatchResult, ⊎_elim, length, get_or, slice_get, refl, sym, ap, ◌∙◌, subst, arith, nat_cmp, Less, nat_cmp_total, is_ok, AllByRecursion, Contains, dedup, IsStrictlyIncreasing, IsBinarySearchResult, IsPermutation, is_at, BTreeSet, contains, append-nil, Contains-dedup_nat, Contains-from_dedup, exact_unsigned, btree_set_contains_iff, true≢false, or_right, cases_lt, ltb-true, false_from_ne_true, nat_tests, list_any-append, or-false, searched, Contains-permutation, IsPermutation-sym, sorted_head, sorted_tail, sorted_from_strictly_increasing, IsStrictlyIncreasing-from_sorted, non_decreasing_from_sorted, cmp_before, below_from_Less, less_from_both, at_earlier, at_same, is_at-eq, turn_test, at_itself, at_other, has_cell, ends_before, StandApart}
+use Rattle.std.specs.List.Sorted.{IsStrictlySortedBy}
 
 -- ---- the last of a list
 

@@ -1,6 +1,5 @@
 -- Some of the first eight rows, counted from 0, and their blocks.
-use Rattle.std.proofs.Common.{◌≡◌, [], ◌∷◌, length, refl}
-use Rattle.wi_ranges.specs.Blocks.{block, blocks_within, blocks_with}
+use Rattle.wi_ranges.proofs.Words.{◌≡◌, [], ◌∷◌, length, refl, block, blocks_within, blocks_with}
 
 all_eight : blocks_within 0 7 3 0 ≡ block 3 0 ∷ []
 unfolding blocks_within

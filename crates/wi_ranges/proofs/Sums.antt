@@ -1,25 +1,5 @@
 -- What is added up over pieces, and over the blocks of a pair.
-use Rattle.std.proofs.Common.{◌≡◌, ℕ, ◌+◌, ◌*◌, ◌<◌, Bool, true, false, ◌||◌, cond, List, [], ◌∷◌, length, Option, Some, None, refl, sym, ap, ◌∙◌, arith}
-use Rattle.std.specs.Option.{unwrap_or}
-use Rattle.std.specs.Ordering.{is_eq, match_ordering}
-use Rattle.std.specs.declared.cmp.Ordering.{Ordering}
-use Rattle.std.specs.declared.cmp.Ordering.TheVariants.{Less, Equal, Greater}
-use Rattle.std.specs.Map.{lookup}
-use Rattle.std.specs.Set.{remove_key}
-use Rattle.std.specs.List.{sum_by}
-use Rattle.std.specs.BTreeMap.{is_at}
-use Rattle.std.specs.BTreeSet.{insert_key}
-use Rattle.std.proofs.Math.Nat.{add-mul}
-use Rattle.std.proofs.lemmas.Bool.{true≢false}
-use Rattle.std.proofs.lemmas.List.Sums.{sum_by-cons}
-use Rattle.wi_values.proofs.Lists.{sum_ones}
-use Rattle.wi_ranges.specs.declared.block.Block.{Block}
-use Rattle.wi_ranges.specs.declared.pair.RangePair.{RangePair}
-use Rattle.wi_ranges.specs.declared.pair.Numbered.{Numbered}
-use Rattle.wi_ranges.specs.Blocks.{blocks_of, first_row}
-use Rattle.wi_ranges.specs.Bag.{Bag, count_of, is_same, pieces_of, raise}
-use Rattle.wi_ranges.specs.Laws.{times_held}
-use Rattle.wi_ranges.specs.Inner.Index.{Gains, Piece, bag_of, has_piece, holds, piece_cmp, stands_first}
+use Rattle.wi_ranges.proofs.Words.{◌≡◌, ℕ, ◌+◌, ◌*◌, ◌<◌, Bool, true, false, ◌||◌, cond, List, [], ◌∷◌, length, Option, Some, None, refl, sym, ap, ◌∙◌, arith, unwrap_or, is_eq, match_ordering, Ordering, Less, Equal, Greater, lookup, remove_key, sum_by, is_at, insert_key, add-mul, true≢false, sum_by-cons, sum_ones, Block, RangePair, Numbered, blocks_of, first_row, Bag, count_of, is_same, pieces_of, raise, times_held, Gains, Piece, bag_of, has_piece, holds, piece_cmp, stands_first}
 use Rattle.wi_ranges.proofs.CutLemmas.{rows_are_held_once}
 use Rattle.wi_ranges.proofs.Exact.{same_is, same_piece}
 use Rattle.wi_ranges.proofs.Found.{first_at_most}

@@ -1,12 +1,5 @@
 -- What has changed, as a walk through cells collects it.
-use Rattle.std.proofs.Common.{◌≡◌, ℕ, ◌+◌, ◌<◌, ◌≤◌, Bool, true, false, not, cond, List, [], ◌∷◌, ◌++◌, map, filter, length, drop, get_or, refl, sym, ap, ◌∙◌, subst, append_assoc, arith}
-use Rattle.std.specs.List.{sum_by}
-use Rattle.std.proofs.lemmas.List.Sums.{sum_by-cons}
-use Rattle.wi_values.specs.declared.value.Value.{Value}
-use Rattle.wi_values.proofs.Lists.{left_more}
-use Rattle.wi_store.specs.Store.{Stored}
-use Rattle.wi_sessions.specs.Pictures.{same_value, value_in}
-use Rattle.wi_sessions.specs.Pictures.Laws.{changes_among}
+use Rattle.wi_reports.proofs.Words.{◌≡◌, ℕ, ◌+◌, ◌<◌, ◌≤◌, Bool, true, false, not, cond, List, [], ◌∷◌, ◌++◌, map, filter, length, drop, get_or, refl, sym, ap, ◌∙◌, subst, append_assoc, arith, sum_by, sum_by-cons, Value, left_more, Stored, same_value, value_in, changes_among}
 
 -- where there is a cell there is no end
 pub not_none : {X : Type 0} (cells : List ℕ) (i : ℕ) → i < length cells → cells ≡ [] → X

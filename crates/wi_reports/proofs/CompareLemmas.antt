@@ -1,11 +1,5 @@
 -- The records of a comparison, as they grow.
-use Rattle.std.proofs.Common.{◌≡◌, ℕ, ◌+◌, ◌-◌, List, [], ◌∷◌, ◌++◌, sym, ap, ◌∙◌, append_assoc}
-use Rattle.std.specs.List.{flat_map}
-use Rattle.std.proofs.lemmas.Grind.{flat_map-append}
-use Rattle.std.proofs.lemmas.List.{flat_map_more}
-use Rattle.std.proofs.lemmas.List.FromFn.{map-range_with_len_more}
-use Rattle.wi_values.specs.Address.{Area, place, column_of, cells_of_row}
-use Rattle.wi_store.specs.Store.{Stored}
+use Rattle.wi_reports.proofs.Words.{◌≡◌, ℕ, ◌+◌, ◌-◌, List, [], ◌∷◌, ◌++◌, sym, ap, ◌∙◌, append_assoc, flat_map, flat_map-append, flat_map_more, map-range_with_len_more, Area, place, column_of, cells_of_row, Stored}
 use Rattle.wi_reports.proofs.RowLemmas.{rows_from, one_row, cells_in, row_is}
 
 -- one more cell of a row

@@ -1,14 +1,6 @@
 -- The text of a difference.
-use Rattle.std.proofs.Common.{◌≡◌, Option, Some, None, Ok, Err, refl, ap}
-use Rattle.std.specs.Prelude.{ok_or}
-use Rattle.wi_fraction.specs.Number.{Number as Numbers}
-use Rattle.wi_fraction.specs.Text.{text_of}
-use Rattle.wi_fraction.specs.declared.FractionError.{FractionError}
-use Rattle.wi_fraction.specs.declared.FractionError.TheVariants.{Overflow}
-use Rattle.wi_values.specs.Value.{shown_text}
-use Rattle.wi_values.specs.declared.value.Value.TheVariants.{Number, Fault}
-use Rattle.wi_values.specs.declared.value.ErrorKind.TheVariants.{BadNumber}
-use Rattle.wi_reports.specs.Compare.{number_text}
+use Rattle.wi_reports.proofs.Words.{◌≡◌, Option, Some, None, Ok, Err, refl, ap, ok_or, Number as Numbers, text_of, FractionError, Overflow, shown_text, Fault, BadNumber, number_text}
+use Rattle.wi_values.specs.declared.value.Value.TheVariants.{Number}
 
 -- where there is a difference
 pub that_fits : (o : Option Numbers) (z : Numbers) → ok_or o Overflow ≡ Ok z → shown_text (Number z) ≡ number_text o

@@ -4,3 +4,4 @@ pub mod TableLemmas
 pub mod CompareLemmas
 pub mod ChangeLemmas
 pub mod Differences
+pub mod Words

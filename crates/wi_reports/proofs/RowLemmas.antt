@@ -1,14 +1,6 @@
 -- The record of a row, and the records of rows, as they grow.
-use Rattle.std.proofs.Common.{◌≡◌, ℕ, zero, suc, add-one, ◌+◌, ◌-◌, List, [], ◌∷◌, ◌++◌, map, sym, ap, ◌∙◌, arith, Result, Ok, Err, OnOk, is_ok, if◌then◌else◌}
-use Rattle.std.specs.Io.{StartsWith}
-use Rattle.std.specs.List.{flat_map, range_with_len}
-use Rattle.std.proofs.lemmas.List.{flat_map_more}
-use Rattle.wi_values.specs.Address.{Area, place, row_of, column_of, rows_in, cells_of, cells_of_row}
-use Rattle.wi_values.specs.declared.replacement.Replacement.{Replacement}
-use Rattle.wi_store.specs.Store.{Stored}
+use Rattle.wi_reports.proofs.Words.{◌≡◌, ℕ, zero, suc, add-one, ◌+◌, ◌-◌, List, [], ◌∷◌, ◌++◌, map, sym, ap, ◌∙◌, arith, Result, Ok, Err, OnOk, is_ok, if◌then◌else◌, StartsWith, flat_map, range_with_len, flat_map_more, Area, place, row_of, column_of, rows_in, cells_of, cells_of_row, Replacement, Stored, starts_after, starts_same, row_shown}
 use Rattle.wi_csv.specs.Row as csv
-use Rattle.wi_csv.proofs.Growth.{starts_after, starts_same}
-use Rattle.wi_reports.specs.Inner.Parts.{row_shown}
 
 pub starts_either : {E : Type 0} (r : Result (Unit {0}) E) (next out more before : List ℕ) → next ≡ (if is_ok r then out ++ more else out)
     → StartsWith out before → StartsWith next before

@@ -1,14 +1,5 @@
 -- The records of a table, as they grow.
-use Rattle.std.proofs.Common.{◌≡◌, ℕ, ◌+◌, ◌-◌, true, List, [], ◌∷◌, ◌++◌, map, Option, Result, Ok, Err, OnOk, refl, sym, ap, ◌∙◌, arith}
-use Rattle.std.specs.List.{flat_map, range_with_len}
-use Rattle.std.proofs.lemmas.List.{append-nil, flat_map_more}
-use Rattle.std.proofs.lemmas.Bool.{eqb-true}
-use Rattle.wi_values.specs.Address.{Area, place, row_of, column_of, cells_of, cells_of_row}
-use Rattle.wi_values.specs.declared.replacement.Replacement.{Replacement}
-use Rattle.wi_store.specs.Store.{Stored}
-use Rattle.wi_csv.specs.Row.{row}
-use Rattle.wi_reports.specs.Inner.Shape.{is_column, is_row}
-use Rattle.wi_reports.specs.Inner.Parts.{table_row}
+use Rattle.wi_reports.proofs.Words.{◌≡◌, ℕ, ◌+◌, ◌-◌, true, List, [], ◌∷◌, ◌++◌, map, Option, Result, Ok, Err, OnOk, refl, sym, ap, ◌∙◌, arith, flat_map, range_with_len, append-nil, flat_map_more, eqb-true, Area, place, row_of, column_of, cells_of, cells_of_row, Replacement, Stored, row, is_column, is_row, table_row}
 use Rattle.wi_reports.proofs.RowLemmas.{rows_from, one_row}
 
 -- ---- rectangles of one row

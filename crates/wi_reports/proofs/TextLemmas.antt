@@ -1,12 +1,5 @@
 -- A text for each cell of a row, one after another.
-use Rattle.std.proofs.Common.{◌≡◌, ℕ, ◌+◌, ◌-◌, List, [], ◌∷◌, ◌++◌, map, sym, ap, ◌∙◌, append_assoc, subst, Result, OnOk}
-use Rattle.std.specs.List.{range_with_len}
-use Rattle.std.proofs.lemmas.List.{map-append}
-use Rattle.std.proofs.lemmas.List.FromFn.{map-range_with_len_more}
-use Rattle.wi_values.specs.Address.{place, column_of, cells_of_row, Area}
-use Rattle.wi_values.specs.Value.{shown_text}
-use Rattle.wi_values.specs.declared.value.Value.{Value}
-use Rattle.wi_store.specs.Store.{Stored}
+use Rattle.wi_reports.proofs.Words.{◌≡◌, ℕ, ◌+◌, ◌-◌, List, [], ◌∷◌, ◌++◌, map, sym, ap, ◌∙◌, append_assoc, subst, Result, OnOk, range_with_len, map-append, map-range_with_len_more, place, column_of, cells_of_row, Area, shown_text, Value, Stored}
 
 -- the texts of the first cells of a row
 abbrev pub texts : (ℕ → List ℕ) → ℕ → ℕ → ℕ → List (List ℕ)

@@ -1,11 +1,5 @@
 -- Steps along a chain of scenarios.
-use Rattle.std.proofs.Common.{◌≡◌, ℕ, ◌-◌, ◌<◌, ◌≤◌, suc, zero, length, List, ◌∷◌, Option, Some, refl, sym, ap, ◌∙◌, arith}
-use Rattle.wi_values.specs.declared.value.Value.{Value}
-use Rattle.wi_values.specs.declared.replacement.Replacement.{Replacement}
-use Rattle.wi_values.specs.Replacements.{as_map, overridden}
-use Rattle.wi_scenario_list.specs.Scenarios.{Scenario, scenario_of, IsChain, ended, based, IsChainOf, layered}
-use Rattle.wi_scenario_list.specs.Inner.Chains.{chain, chain_within, effective}
-use Rattle.wi_scenario_list.specs.Inner.Parts.{as_replacements}
+use Rattle.wi_scenario_list.proofs.Words.{◌≡◌, ℕ, ◌-◌, ◌<◌, ◌≤◌, suc, zero, length, List, ◌∷◌, Option, Some, refl, sym, ap, ◌∙◌, arith, Value, Replacement, as_map, overridden, Scenario, scenario_of, IsChain, ended, based, IsChainOf, layered, chain, chain_within, effective, as_replacements}
 use Rattle.wi_scenario_list.proofs.Own.{as_map-as_replacements, as_replacements-as_map}
 
 pub chain_some : (k : ℕ) (xs : List Scenario) (o : Option Scenario) (x : Scenario) → 0 < k → o ≡ Some x

@@ -1,19 +1,6 @@
 -- That each scenario has a chain, whatever is made, changed or removed.
-use Rattle.std.proofs.Common.{◌≡◌, ◌≢◌, ◌∙◌, ℕ, ◌+◌, suc, ◌<◌, ◌≤◌, nat_le, Bool, true, false, not, ◌||◌, ◌&&◌, cond, List, [], ◌∷◌, map, length, ◌==◌, Option, Some, None, is_some, refl, sym, ap, subst, arith}
-use Rattle.std.specs.List.{AllByRecursion, IsDistinct, list_any}
-use Rattle.std.specs.Set.{is_member}
-use Rattle.std.specs.Str.{bytes_eq}
-use Rattle.std.proofs.lemmas.Bool.{both_ways, false≢true, not-false, not_from_true, or_from, or_parts, leb-false}
-use Rattle.std.proofs.lemmas.Cmp.{nat_list_eq_equiv}
-use Rattle.std.proofs.lemmas.List.{length-map}
-use Rattle.std.proofs.lemmas.List.Sums.{length-filter, count_by-le-length}
-use Rattle.std.proofs.lemmas.Map.Made.{length-le_from_is_member}
-use Rattle.std.proofs.lemmas.Option.{none-some, same_Some}
-use Rattle.std.proofs.lemmas.Slice.Eq.{bytes_eq-Decides}
-use Rattle.wi_scenario_list.specs.Scenarios.{Scenario, is_named, scenario_of, has_scenario, scenario_for, with_scenario, without_scenario, is_full, max_scenarios, max_replacements, IsChain, ended, based}
-use Rattle.wi_scenario_list.specs.Bases.{HasChains, based_on, is_name_of, is_base, lacks, would_loop}
-use Rattle.wi_scenario_list.specs.Inner.Chains.{chain}
-use Rattle.wi_scenario_list.specs.Inner.Parts.{scenario_or_new}
+use Rattle.wi_scenario_list.proofs.Words.{◌≡◌, ◌≢◌, ◌∙◌, ℕ, ◌+◌, suc, ◌<◌, ◌≤◌, nat_le, Bool, true, false, not, ◌||◌, ◌&&◌, cond, List, [], ◌∷◌, map, length, ◌==◌, Option, Some, None, is_some, refl, sym, ap, subst, arith, AllByRecursion, list_any, is_member, bytes_eq, both_ways, false≢true, not-false, not_from_true, or_from, or_parts, leb-false, nat_list_eq_equiv, length-map, length-filter, count_by-le-length, length-le_from_is_member, none-some, same_Some, bytes_eq-Decides, Scenario, is_named, scenario_of, has_scenario, scenario_for, with_scenario, without_scenario, is_full, max_scenarios, max_replacements, IsChain, ended, based, HasChains, based_on, is_name_of, is_base, lacks, would_loop, chain, scenario_or_new}
+use Rattle.std.specs.List.{IsDistinct}
 use Rattle.wi_scenario_list.proofs.Chains.{ends_within, one_chain}
 use Rattle.wi_scenario_list.proofs.Held.{has-found, not_found}
 use Rattle.wi_scenario_list.proofs.Named.{name_differs, found_named, found_itself, found_fails, found_put, none_found, found_with, found_without}

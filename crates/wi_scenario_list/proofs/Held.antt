@@ -1,20 +1,6 @@
 -- Scenarios that stand as entries of a map by their names.
-use Rattle.std.proofs.Common.{◌≡◌, ℕ, nat_eq, Bool, true, false, cond, ◌||◌, if◌then◌else◌, List, [], ◌∷◌, not, Option, Some, None, is_some, refl, sym, ap, ◌∙◌, true≢false, Bor, length, nat_le, ◌&&◌}
-use Rattle.std.specs.List.{AllZip, find, list_any}
-use Rattle.std.specs.Map.{lookup, remove_entry, values_of}
-use Rattle.std.specs.Option.{option_copied, option_map}
-use Rattle.std.specs.Cmp.Lexicographic.{pointwise}
-use Rattle.std.specs.Rc.{rc_str_bytes}
-use Rattle.std.specs.Str.{bytes_eq}
-use Rattle.std.specs.declared.rc.RcStr.{RcStr}
-use Rattle.std.proofs.Math.Bool.{or-false}
-use Rattle.std.proofs.lemmas.Slice.Eq.{bytes_eq-Decides}
+use Rattle.wi_scenario_list.proofs.Words.{◌≡◌, ℕ, nat_eq, Bool, true, false, cond, ◌||◌, if◌then◌else◌, List, [], ◌∷◌, not, Option, Some, None, is_some, refl, sym, ap, ◌∙◌, true≢false, Bor, length, nat_le, ◌&&◌, AllZip, find, list_any, lookup, remove_entry, values_of, option_copied, option_map, pointwise, rc_str_bytes, bytes_eq, RcStr, or-false, bytes_eq-Decides, Scenario, is_named, has_scenario, is_full, max_replacements, scenario_of, scenario_for, with_scenario, without_scenario, is_replaced, scenario_or_new, is_name_of, is_base, IsSame, base_of, held, scenario_in, with_name, Layer}
 use Rattle.indexmap.specs.IndexMap.{insert_entry}
-use Rattle.wi_scenario_list.specs.Scenarios.{Scenario, is_named, has_scenario, is_full, max_replacements, scenario_of, scenario_for, with_scenario, without_scenario}
-use Rattle.wi_scenario_list.specs.Inner.Parts.{is_replaced, scenario_or_new}
-use Rattle.wi_scenario_list.specs.Bases.{is_name_of, is_base}
-use Rattle.wi_scenario_list.specs.Inner.Held.{IsSame, base_of, held, scenario_in, with_name}
-use Rattle.wi_scenario_list.specs.declared.layer.Layer.{Layer}
 use Rattle.wi_scenario_list.proofs.Listed.{found-any, removed-filter}
 
 same_bytes : (xs ys : List ℕ) → bytes_eq xs ys ≡ true → ys ≡ xs

@@ -5,3 +5,4 @@ pub mod Chains
 pub mod Named
 pub mod ChainsKept
 mod Rows
+pub mod Words

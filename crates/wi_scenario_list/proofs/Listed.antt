@@ -1,7 +1,5 @@
 -- Entries of a map, seen as a list of things of which a test tells which key they have.
-use Rattle.std.proofs.Common.{◌≡◌, Bool, true, false, cond, not, ◌||◌, List, [], ◌∷◌, map, filter, Some, None, is_some, refl, sym, ap, ◌∙◌}
-use Rattle.std.specs.List.{list_any}
-use Rattle.std.specs.Map.{lookup, remove_entry}
+use Rattle.wi_scenario_list.proofs.Words.{◌≡◌, Bool, true, false, cond, not, ◌||◌, List, [], ◌∷◌, map, filter, Some, None, is_some, refl, sym, ap, ◌∙◌, list_any, lookup, remove_entry}
 
 module _ {K X Y : Type 0} (f : K × X → Y) (t : K → Bool) (p : Y → Bool) (same : (e : K × X) → p (f e) ≡ t e.0) where
   pub found-any : (es : List (K × X)) → is_some (lookup t es) ≡ list_any p (map f es)

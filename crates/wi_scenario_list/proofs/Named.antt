@@ -1,13 +1,5 @@
 -- Scenarios that are found by their names.
-use Rattle.std.proofs.Common.{◌≡◌, ◌≢◌, ◌∙◌, ℕ, Bool, true, false, not, cond, List, [], ◌∷◌, Option, Some, None, refl, sym, ap}
-use Rattle.std.specs.List.{find, list_any}
-use Rattle.std.specs.Str.{bytes_eq}
-use Rattle.std.proofs.lemmas.Bool.{both_ways, false_from_ne_true, or_parts}
-use Rattle.std.proofs.lemmas.Option.{none-some, same_Some}
-use Rattle.std.proofs.lemmas.Slice.Eq.{bytes_eq-Decides}
-use Rattle.wi_values.specs.Inner.Same.{same_text_itself}
-use Rattle.wi_scenario_list.specs.Scenarios.{Scenario, is_named, scenario_of, with_scenario, without_scenario}
-use Rattle.wi_scenario_list.specs.Bases.{is_name_of, is_base}
+use Rattle.wi_scenario_list.proofs.Words.{◌≡◌, ◌≢◌, ◌∙◌, ℕ, Bool, true, false, not, cond, List, [], ◌∷◌, Option, Some, None, refl, sym, ap, find, list_any, bytes_eq, both_ways, false_from_ne_true, or_parts, none-some, same_Some, bytes_eq-Decides, same_text_itself, Scenario, is_named, scenario_of, with_scenario, without_scenario, is_name_of, is_base}
 
 -- ---- names
 

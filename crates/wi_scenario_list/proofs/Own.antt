@@ -1,18 +1,5 @@
 -- A scenario's own replacements, held as entries of a map.
-use Rattle.std.proofs.Common.{◌≡◌, ◌==◌, ◌&&◌, ℕ, Bool, false, not, nat_le, List, [], ◌∷◌, length, None, is_some, refl, sym, ap, ◌∙◌}
-use Rattle.std.specs.List.Sorted.{IsStrictlySortedBy}
-use Rattle.std.specs.Ordering.{nat_cmp}
-use Rattle.std.specs.Map.{lookup, keys_of, remove_entry}
-use Rattle.std.specs.BTreeMap.{is_at, insert_entry}
-use Rattle.std.proofs.lemmas.List.{length-map}
-use Rattle.wi_values.specs.declared.value.Value.{Value}
-use Rattle.wi_values.specs.declared.replacement.Replacement.{Replacement}
-use Rattle.wi_values.specs.Replacements.{IsInOrder, as_map, overridden}
-use Rattle.wi_values.proofs.Order.{is_at-eq, turn_test}
-use Rattle.wi_values.proofs.Replacements.InOrder.{order_from_entries}
-use Rattle.wi_values.proofs.Replacements.Overriding.{overridden-nothing}
-use Rattle.wi_scenario_list.specs.Scenarios.{with_replacements, max_replacements}
-use Rattle.wi_scenario_list.specs.Inner.Parts.{is_replaced, as_replacements, without_replacement}
+use Rattle.wi_scenario_list.proofs.Words.{◌≡◌, ◌==◌, ◌&&◌, ℕ, Bool, false, not, nat_le, List, [], ◌∷◌, length, None, is_some, refl, sym, ap, ◌∙◌, IsStrictlySortedBy, nat_cmp, lookup, keys_of, remove_entry, is_at, insert_entry, length-map, Value, Replacement, IsInOrder, as_map, overridden, is_at-eq, turn_test, order_from_entries, overridden-nothing, with_replacements, max_replacements, is_replaced, as_replacements, without_replacement}
 use Rattle.wi_scenario_list.proofs.Listed.{found-any, removed-filter}
 
 pub as_map-as_replacements : (es : List (ℕ × Value)) → as_map (as_replacements es) ≡ es

@@ -1,12 +1,5 @@
 -- Scenarios worked by hand.
-use Rattle.std.proofs.Common.{◌≡◌, ℕ, true, false, [], ◌∷◌, Some, None, refl}
-use Rattle.std.specs.Prelude.{codes}
-use Rattle.wi_values.specs.Address.{place}
-use Rattle.wi_values.specs.declared.value.Value.{Value}
-use Rattle.wi_values.specs.declared.value.Value.TheVariants.{Logical}
-use Rattle.wi_values.specs.declared.replacement.Replacement.{Replacement}
-use Rattle.wi_scenario_list.specs.Scenarios.{Scenario, with_scenario, with_own}
-use Rattle.wi_scenario_list.specs.Inner.Chains.{chain, effective}
+use Rattle.wi_scenario_list.proofs.Words.{◌≡◌, ℕ, true, false, [], ◌∷◌, Some, None, refl, codes, place, Value, Logical, Replacement, Scenario, with_scenario, with_own, chain, effective}
 
 abbrev by : ℕ → Value → Replacement
 by a v = record { at = a; value = v }

@@ -1,12 +1,6 @@
 -- The answer to a command, as a call finds it.
-use Rattle.std.proofs.Common.{◌≡◌, true, List, [], Result, Ok, Err, sym, subst}
-use Rattle.std.specs.Prelude.{ℕ, MatchResult}
-use Rattle.std.specs.Result.{IsErrAnd}
-use Rattle.std.proofs.lemmas.Result.{err_from_is_err_and}
-use Rattle.wi_scenarios.specs.declared.refusal.Refusal.{Refusal}
-use Rattle.wi_scenarios.specs.declared.refusal.Refusal.TheVariants.{Memory}
-use Rattle.wi_scenarios.specs.State.{State}
-use Rattle.wi_scenarios.specs.Answer.{Answer, may_grow, MayRefuse, Serves}
+use Rattle.wi_scenarios.proofs.Words.{◌≡◌, true, List, [], Result, Ok, Err, sym, subst, MatchResult, IsErrAnd, err_from_is_err_and, Refusal, Memory, State, Answer, may_grow, MayRefuse, Serves}
+use Rattle.std.specs.Prelude.{ℕ}
 
 -- ---- a call that did as the answer that is found says, or refused
 

@@ -1,29 +1,5 @@
 -- What `changes` answers, and that pictures are right after it.
-use Rattle.std.proofs.Common.{◌≡◌, ◌≢◌, ◌<◌, ◌≤◌, ◌+◌, ℕ, zero, suc, Bool, true, false, List, [], ◌∷◌, length, get_or, set, Ok, refl, sym, ap, subst, ◌∙◌, ⊎_elim}
-use Rattle.std.proofs.lemmas.Bool.{cases_eq, false≢true}
-use Rattle.std.proofs.lemmas.List.{get_or-set_same, get_or-set_other, length-set, nil_from_length}
-use Rattle.wi_values.specs.declared.value.Value.{Value}
-use Rattle.wi_values.specs.declared.replacement.Replacement.{Replacement}
-use Rattle.wi_parser.specs.Sheet.{Sheet}
-use Rattle.wi_store.specs.Store.{Stored}
-use Rattle.wi_sheet.specs.Shown.{shown}
-use Rattle.wi_scenario_list.specs.Inner.Chains.{effective}
-use Rattle.wi_edit_log.specs.EditLog.{Entry}
-use Rattle.wi_sessions.specs.Pictures.{value_in, sheet_size}
-use Rattle.wi_sessions.specs.Pictures.Laws.{is_listed, Rises, changes_among}
-use Rattle.wi_sessions.specs.Sessions.{Session, new_session, told}
-use Rattle.wi_sessions.specs.Roster.{session_at, pending_of}
-use Rattle.wi_sessions.proofs.ChangeLists.{any_cells, picture_is_shown}
-use Rattle.wi_scenario_list.specs.Scenarios.{Scenario}
-use Rattle.wi_reports.specs.Looks.{evaluations_for, restarts_for}
-use Rattle.wi_reports.specs.Changes.{change_records}
-use Rattle.wi_scenarios.specs.State.{State}
-use Rattle.wi_scenarios.specs.Views.{current_session, with_current, shown_to}
-use Rattle.wi_scenarios.specs.Changes.{change_list, changes_step}
-use Rattle.wi_scenarios.specs.Pending.{pending_evaluations, pending_restarts}
-use Rattle.wi_scenarios.specs.declared.desk.Desk.{Desk}
-use Rattle.wi_scenarios.specs.Inner.Held.{state_of, pending_in, IsUpToDate, AreCovered, AreClosed, IsSound}
-use Rattle.wi_scenarios.specs.Inner.Told.{IsTold}
+use Rattle.wi_scenarios.proofs.Words.{◌≡◌, ◌≢◌, ◌<◌, ◌≤◌, ◌+◌, ℕ, zero, suc, Bool, true, false, List, [], ◌∷◌, length, get_or, set, Ok, refl, sym, ap, subst, ◌∙◌, ⊎_elim, cases_eq, false≢true, get_or-set_same, get_or-set_other, length-set, nil_from_length, Value, Replacement, Sheet, Stored, shown, effective, Entry, value_in, sheet_size, is_listed, Rises, changes_among, Session, new_session, told, session_at, pending_of, any_cells, picture_is_shown, Scenario, evaluations_for, restarts_for, change_records, State, current_session, with_current, shown_to, change_list, changes_step, pending_evaluations, pending_restarts, Desk, state_of, pending_in, IsUpToDate, AreCovered, AreClosed, IsSound, IsTold}
 
 -- what has changed is found among the pending cells
 pub changes_found : {marked : Sheet → List ℕ → ℕ → Bool} (stored : Stored) (d : Desk) (own cells : List ℕ) (put : List Replacement) (picture found : List (ℕ × Value)) → IsSound marked stored d → Rises 0 sheet_size own

@@ -1,16 +1,5 @@
 -- What `clear` answers.
-use Rattle.std.proofs.Common.{◌≡◌, ℕ, Bool, List, [], ◌∷◌, map, Option, None, Result, ap, ◌∙◌, subst}
-use Rattle.std.specs.Prelude.{filter}
-use Rattle.std.specs.Map.{keys_of}
-use Rattle.wi_values.specs.Address.{Area, is_within}
-use Rattle.wi_parser.specs.declared.content.Content.{Content}
-use Rattle.wi_parser.specs.Sheet.{Sheet}
-use Rattle.wi_scenarios.specs.declared.refusal.Refusal.{Refusal}
-use Rattle.wi_scenarios.specs.State.{State}
-use Rattle.wi_scenarios.specs.Answer.{Serves}
-use Rattle.wi_scenarios.specs.Causes.{no_cause}
-use Rattle.wi_scenarios.specs.Edits.{Edit, edit_answer}
-use Rattle.wi_scenarios.specs.Clear.{clear_edit, clear_step}
+use Rattle.wi_scenarios.proofs.Words.{◌≡◌, ℕ, Bool, List, [], ◌∷◌, map, Option, None, Result, ap, ◌∙◌, subst, filter, keys_of, Area, is_within, Content, Sheet, Refusal, State, Serves, no_cause, Edit, edit_answer, clear_edit, clear_step}
 use Rattle.wi_scenarios.proofs.EditLemmas.{same_edit}
 
 -- the edit that is made is that of the definition

@@ -1,23 +1,6 @@
 -- What `csv` answers.
-use Rattle.std.proofs.Common.{◌≡◌, ◌≢◌, ℕ, Bool, List, [], ◌∷◌, map, Option, Result, Ok, Err, refl, sym, ap, ◌∙◌, subst}
-use Rattle.std.specs.List.{AllZip}
-use Rattle.std.specs.Map.{keys_of}
-use Rattle.std.specs.Result.{IsErrAnd}
-use Rattle.std.proofs.lemmas.Result.{err_from_is_err_and}
-use Rattle.wi_values.specs.Address.{Area}
-use Rattle.wi_parser.specs.declared.content.Content.{Content}
-use Rattle.wi_import.specs.declared.fault.ImportFault.{ImportFault}
+use Rattle.wi_scenarios.proofs.Words.{◌≡◌, ◌≢◌, ℕ, Bool, List, [], ◌∷◌, map, Option, Result, Ok, Err, refl, sym, ap, ◌∙◌, subst, AllZip, keys_of, IsErrAnd, err_from_is_err_and, Area, Content, ImportFault, Field, fields_at, areas_at, field_cell, IsChange, AreChanges, IsFault, Refusal, Memory, State, Answer, import_refusal, MayRefuse, Serves, MayRefuseData, ServesData, no_cause, edit_answer, IsCsvStep, imported_cells}
 use Rattle.wi_import.specs.declared.fault.ImportFault.TheVariants as import
-use Rattle.wi_import.specs.Fields.{Field, fields_at, areas_at}
-use Rattle.wi_import.specs.Inner.Reading.{field_cell}
-use Rattle.wi_import.specs.Imports.{IsChange, AreChanges, IsFault}
-use Rattle.wi_scenarios.specs.declared.refusal.Refusal.{Refusal}
-use Rattle.wi_scenarios.specs.declared.refusal.Refusal.TheVariants.{Memory}
-use Rattle.wi_scenarios.specs.State.{State}
-use Rattle.wi_scenarios.specs.Answer.{Answer, import_refusal, MayRefuse, Serves, MayRefuseData, ServesData}
-use Rattle.wi_scenarios.specs.Causes.{no_cause}
-use Rattle.wi_scenarios.specs.Edits.{edit_answer}
-use Rattle.wi_scenarios.specs.Csv.{IsCsvStep, imported_cells}
 
 -- ---- an import that is refused
 

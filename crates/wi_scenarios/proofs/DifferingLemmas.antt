@@ -1,17 +1,6 @@
 -- The cells whose replacement is another, as two walks collect them.
-use Rattle.std.proofs.Common.{◌≡◌, ◌==◌, ℕ, ◌+◌, ◌<◌, ◌≤◌, Bool, true, false, not, cond, ◌||◌, ◌&&◌, List, [], ◌∷◌, ◌++◌, map, length, drop, get_or, Option, Some, None, refl, sym, ap, ◌∙◌, subst, arith}
-use Rattle.std.proofs.lemmas.Bool.{false≢true}
-use Rattle.std.proofs.lemmas.Bool.Decides.{nat_tests}
-use Rattle.std.proofs.lemmas.List.{append_assoc, append-nil, drop_all}
-use Rattle.std.proofs.lemmas.List.Folds.{list_any-append}
-use Rattle.wi_values.specs.declared.value.Value.{Value}
-use Rattle.wi_values.specs.declared.replacement.Replacement.{Replacement}
-use Rattle.wi_values.specs.Replacements.{replaced}
-use Rattle.wi_values.proofs.Equal.{same_replacement_Decides}
-use Rattle.wi_values.proofs.Lists.{left_more}
-use Rattle.wi_sessions.specs.Pictures.Laws.{is_listed}
-use Rattle.wi_sessions.proofs.CellLemmas.{listed_filter}
-use Rattle.wi_scenarios.specs.Inner.Switch.{same_option, differing, AreDiffering}
+use Rattle.wi_scenarios.proofs.Words.{◌≡◌, ◌==◌, ℕ, ◌+◌, ◌<◌, ◌≤◌, Bool, true, false, not, cond, ◌||◌, ◌&&◌, List, [], ◌∷◌, ◌++◌, map, length, drop, get_or, Option, Some, None, refl, sym, ap, ◌∙◌, subst, arith, false≢true, nat_tests, append-nil, drop_all, list_any-append, Value, Replacement, replaced, same_replacement_Decides, left_more, is_listed, listed_filter, same_option, differing, AreDiffering}
+use Rattle.std.proofs.lemmas.List.{append_assoc}
 
 -- ---- a walk
 

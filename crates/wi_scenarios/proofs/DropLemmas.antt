@@ -1,23 +1,5 @@
 -- What `drop` answers, and that no session is shown anything else after it.
-use Rattle.std.proofs.Common.{◌≡◌, ℕ, zero, suc, ◌<◌, Bool, true, false, not, List, [], ◌∷◌, length, Option, Some, None, Ok, Err, if◌then◌else◌, refl, sym, ap, ◌∙◌}
-use Rattle.std.specs.List.{list_any, slice_index_or}
-use Rattle.std.proofs.lemmas.List.Folds.{list_any_at}
-use Rattle.wi_values.specs.declared.replacement.Replacement.{Replacement}
-use Rattle.wi_parser.specs.Sheet.{Sheet}
-use Rattle.wi_sheet.specs.Shown.{shown}
-use Rattle.wi_store.specs.Store.{Stored}
-use Rattle.wi_scenario_list.specs.Scenarios.{Scenario, scenario_of, has_scenario, layered, max_scenarios, without_scenario}
-use Rattle.wi_scenario_list.specs.Inner.Chains.{effective, chain, chain_within}
-use Rattle.wi_scenario_list.specs.Bases.{is_name_of, is_base}
-use Rattle.wi_scenario_list.proofs.Named.{scenario_without, not_based}
-use Rattle.wi_sessions.specs.Sessions.{Session, new_session}
-use Rattle.wi_scenarios.specs.declared.refusal.Refusal.TheVariants.{NoScenario, InUse}
-use Rattle.wi_scenarios.specs.declared.desk.Desk.{Desk}
-use Rattle.wi_scenarios.specs.State.{State}
-use Rattle.wi_scenarios.specs.Answer.{Answer}
-use Rattle.wi_scenarios.specs.Causes.{no_cause, answer}
-use Rattle.wi_scenarios.specs.Drop.{is_in_use}
-use Rattle.wi_scenarios.specs.Inner.Held.{IsSound}
+use Rattle.wi_scenarios.proofs.Words.{◌≡◌, ℕ, zero, suc, ◌<◌, Bool, true, false, not, List, [], ◌∷◌, length, Option, Some, None, Ok, Err, if◌then◌else◌, refl, sym, ap, ◌∙◌, list_any, slice_index_or, list_any_at, Replacement, Sheet, shown, Stored, Scenario, scenario_of, has_scenario, layered, max_scenarios, without_scenario, effective, chain, chain_within, is_name_of, is_base, scenario_without, not_based, Session, new_session, NoScenario, InUse, Desk, State, Answer, no_cause, answer, is_in_use, IsSound}
 
 -- ---- the answer that is found
 

@@ -1,44 +1,6 @@
 -- What an edit is answered, and what is pending after it.
-use Rattle.std.proofs.Common.{◌≡◌, ◌==◌, ◌<◌, ◌≤◌, ◌-◌, ℕ, zero, suc, Bool, true, false, not, ◌&&◌, ◌||◌, ◌⊎◌, inl, inr, List, [], ◌∷◌, ◌++◌, length, map, take, ⊎_elim, Option, Some, None, Result, Ok, Err, refl, sym, ap, ◌∙◌, subst, arith}
-use Rattle.std.specs.List.{slice_index_or}
-use Rattle.std.specs.Prelude.{MatchResult, IfOk}
-use Rattle.std.specs.Result.{IsErrAnd}
-use Rattle.std.proofs.lemmas.Result.{err_from_is_err_and}
-use Rattle.std.specs.Map.{keys_of}
-use Rattle.std.proofs.Math.Seq.{take-append_seam}
-use Rattle.std.proofs.lemmas.List.{length-append}
-use Rattle.std.proofs.lemmas.Bool.{cases_lt, false_from_ne_true, false≢true, or_left, or_right, or_parts, or_cases}
-use Rattle.std.proofs.lemmas.Map.Entries.{length-keys_of}
-use Rattle.std.proofs.lemmas.Bool.Decides.{nat_tests}
-use Rattle.wi_values.specs.Address.{Area}
-use Rattle.wi_values.specs.declared.replacement.Replacement.{Replacement}
-use Rattle.wi_parser.specs.declared.content.Content.{Content}
-use Rattle.wi_parser.specs.Sheet.{Sheet}
-use Rattle.wi_store.specs.declared.fault.StoreFault.{StoreFault}
+use Rattle.wi_scenarios.proofs.Words.{◌≡◌, ◌==◌, ◌<◌, ◌≤◌, ◌-◌, ℕ, zero, suc, Bool, true, false, not, ◌&&◌, ◌||◌, ◌⊎◌, inl, inr, List, [], ◌∷◌, ◌++◌, length, map, take, ⊎_elim, Option, Some, None, Result, Ok, Err, refl, sym, ap, ◌∙◌, subst, arith, slice_index_or, MatchResult, IfOk, IsErrAnd, err_from_is_err_and, keys_of, take-append_seam, length-append, cases_lt, false_from_ne_true, false≢true, or_left, or_right, or_parts, or_cases, length-keys_of, nat_tests, Area, Replacement, Content, Sheet, StoreFault, Stored, edited, change_without_empty, applied, Applies, shown, IsMarking, same_off_edited, accepted_is, Entry, Scenario, effective, value_in, sheet_size, is_listed, Session, new_session, Roster, pending_of, vacant_of, is_pending_for_all, all_have_so, one_of_all_has, Refusal, Memory, Stale, Desk, State, Answer, may_grow, MayRefuse, Serves, no_cause, answer, Edit, edit_refusal, limit_of, stale_in, after_edit, edit_answer, is_pending, AddsOnly, state_of, AreCovered, IsClosed, AreClosed, IsSound, AreMarked, HasRooms, SameBeside, MayFail, Commits, is_itself}
 use Rattle.wi_store.specs.declared.fault.StoreFault.TheVariants as store
-use Rattle.wi_store.specs.Store.{Stored, edited, change_without_empty, applied, Applies}
-use Rattle.wi_sheet.specs.Shown.{shown}
-use Rattle.wi_sheet.specs.Unmoved.{IsMarking}
-use Rattle.wi_propagate.proofs.Editing.{same_off_edited, accepted_is}
-use Rattle.wi_edit_log.specs.EditLog.{Entry}
-use Rattle.wi_scenario_list.specs.Scenarios.{Scenario}
-use Rattle.wi_scenario_list.specs.Inner.Chains.{effective}
-use Rattle.wi_sessions.specs.Pictures.{value_in, sheet_size}
-use Rattle.wi_sessions.specs.Pictures.Laws.{is_listed}
-use Rattle.wi_sessions.specs.Sessions.{Session, new_session}
-use Rattle.wi_sessions.specs.Roster.{Roster, pending_of, vacant_of, is_pending_for_all}
-use Rattle.wi_sessions.proofs.RosterLemmas.{all_have_so, one_of_all_has}
-use Rattle.wi_scenarios.specs.declared.refusal.Refusal.{Refusal}
-use Rattle.wi_scenarios.specs.declared.refusal.Refusal.TheVariants.{Memory, Stale}
-use Rattle.wi_scenarios.specs.declared.desk.Desk.{Desk}
-use Rattle.wi_scenarios.specs.State.{State}
-use Rattle.wi_scenarios.specs.Answer.{Answer, may_grow, MayRefuse, Serves}
-use Rattle.wi_scenarios.specs.Causes.{no_cause, answer}
-use Rattle.wi_scenarios.specs.Edits.{Edit, edit_refusal, limit_of, stale_in, after_edit, edit_answer}
-use Rattle.wi_scenarios.specs.Pending.{is_pending, AddsOnly}
-use Rattle.wi_scenarios.specs.Inner.Held.{state_of, AreCovered, IsClosed, AreClosed, IsSound}
-use Rattle.wi_scenarios.specs.Inner.Editing.{AreMarked, HasRooms, SameBeside, MayFail, Commits}
-use Rattle.wi_values.proofs.Order.{is_itself}
 
 -- an edit of these
 pub same_edit : (named areas : List Area) (contents changes : List (ℕ × Option Content)) → named ≡ areas → contents ≡ changes →

@@ -1,30 +1,7 @@
 -- What `fill` answers, and the copies that it makes.
-use Rattle.std.proofs.Common.{◌≡◌, ℕ, zero, suc, ◌+◌, Bool, true, false, not, ◌||◌, if◌then◌else◌, List, [], ◌∷◌, ◌++◌, map, Option, Some, None, Result, Err, refl, sym, ap, ◌∙◌, subst, arith, ◌≤◌, ◌<◌, ◌⊎◌, inl, inr, append_assoc}
-use Rattle.std.specs.Prelude.{nat_lt, is_some}
-use Rattle.std.specs.Map.{keys_of}
-use Rattle.std.specs.List.{list_any, flat_map, range_with_len}
-use Rattle.std.proofs.lemmas.List.{map-append}
-use Rattle.std.proofs.lemmas.List.FromFn.{map-range_with_len_more}
-use Rattle.std.proofs.lemmas.List.Folds.{list_any-append}
-use Rattle.wi_values.specs.Address.{Area, place, size_of, cells_of, cells_of_row}
-use Rattle.wi_parser.specs.declared.content.Content.{Content}
-use Rattle.wi_parser.specs.Sheet.{content_of}
-use Rattle.std.specs.Result.{IsErrAnd}
-use Rattle.std.proofs.lemmas.Result.{err_from_is_err_and}
-use Rattle.wi_scenarios.specs.declared.refusal.Refusal.{Refusal}
-use Rattle.wi_scenarios.specs.declared.refusal.Refusal.TheVariants.{Memory, TooLarge, LeavesSheet}
-use Rattle.wi_scenarios.specs.State.{State, max_area}
-use Rattle.wi_scenarios.specs.Answer.{Answer, may_grow, MayRefuse, Serves}
-use Rattle.wi_scenarios.specs.Causes.{no_cause}
-use Rattle.wi_scenarios.specs.Edits.{Edit, edit_answer}
-use Rattle.wi_scenarios.specs.Fill.{fill_edit, fill_step, shift_refusal, copy_to, has_no_copy, or_nothing}
-use Rattle.wi_parser.specs.declared.shift.ShiftFault.{ShiftFault}
+use Rattle.wi_scenarios.proofs.Words.{◌≡◌, ℕ, zero, suc, ◌+◌, Bool, true, false, not, ◌||◌, if◌then◌else◌, List, [], ◌∷◌, ◌++◌, map, Option, Some, None, Result, Err, refl, sym, ap, ◌∙◌, subst, arith, ◌≤◌, ◌<◌, ◌⊎◌, inl, inr, append_assoc, nat_lt, is_some, keys_of, list_any, flat_map, range_with_len, map-append, map-range_with_len_more, list_any-append, Area, place, size_of, cells_of, cells_of_row, Content, content_of, IsErrAnd, err_from_is_err_and, Refusal, Memory, TooLarge, LeavesSheet, State, max_area, Answer, may_grow, MayRefuse, Serves, no_cause, Edit, edit_answer, fill_edit, fill_step, shift_refusal, copy_to, has_no_copy, or_nothing, ShiftFault, AreCopies, CopiesAs, HasNoCopies, false≢true, eq-or-lt_of_le, cells_in}
 use Rattle.wi_parser.specs.declared.shift.ShiftFault.TheVariants as shift
-use Rattle.wi_scenarios.specs.Inner.Copies.{AreCopies, CopiesAs, HasNoCopies}
-use Rattle.std.proofs.lemmas.Bool.{false≢true}
-use Rattle.std.proofs.Math.Nat.{eq-or-lt_of_le}
 use Rattle.wi_scenarios.proofs.EditLemmas.{edit_grows, same_edit}
-use Rattle.wi_reports.proofs.RowLemmas.{cells_in}
 
 -- the answer that is found, where the rectangle is too large or not, and a copy leaves the sheet or not
 abbrev pub filled_by : State → Bool → Bool → Bool → Edit → Answer

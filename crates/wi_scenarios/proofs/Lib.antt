@@ -17,3 +17,4 @@ pub mod OutcomeLemmas
 pub mod RunLemmas
 pub mod RecordLemmas
 pub mod StaleLemmas
+pub mod Words

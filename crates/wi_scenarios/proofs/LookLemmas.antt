@@ -1,28 +1,5 @@
 -- What commands that only look answer, and what they write.
-use Rattle.std.proofs.Common.{◌≡◌, ℕ, Bool, true, false, not, ◌||◌, ◌&&◌, List, [], ◌++◌, Option, Result, Ok, Err, refl, sym, ap, ◌∙◌, subst, arith}
-use Rattle.std.specs.Prelude.{nat_le, nat_lt}
-use Rattle.std.specs.Result.{IsErrAnd}
-use Rattle.std.proofs.lemmas.Result.{err_from_is_err_and}
-use Rattle.std.proofs.lemmas.List.{append-nil}
-use Rattle.std.proofs.lemmas.Bool.Decides.{nat_tests}
-use Rattle.wi_values.specs.Address.{Area, size_of}
-use Rattle.wi_values.specs.declared.replacement.Replacement.{Replacement}
-use Rattle.wi_scenario_list.specs.Inner.Chains.{effective}
-use Rattle.wi_scenario_list.specs.Bases.{lacks}
-use Rattle.wi_reports.specs.Rows.{rows_shown, export_of}
-use Rattle.wi_reports.specs.Compare.{cells_compared}
-use Rattle.wi_reports.specs.Table.{table_of}
-use Rattle.wi_reports.specs.Inner.Shape.{is_column, has_row, entries}
-use Rattle.wi_scenarios.specs.declared.refusal.Refusal.{Refusal}
-use Rattle.wi_scenarios.specs.declared.refusal.Refusal.TheVariants.{Memory}
-use Rattle.wi_scenarios.specs.State.{State, max_area}
-use Rattle.wi_scenarios.specs.Views.{current_replacements}
-use Rattle.wi_scenarios.specs.Answer.{Answer, may_grow, Serves}
-use Rattle.wi_scenarios.specs.Causes.{no_cause, answer}
-use Rattle.wi_scenarios.specs.Show.{show_step}
-use Rattle.wi_scenarios.specs.Export.{export_step}
-use Rattle.wi_scenarios.specs.Compare.{compare_step}
-use Rattle.wi_scenarios.specs.Table.{table_step}
+use Rattle.wi_scenarios.proofs.Words.{◌≡◌, ℕ, Bool, true, false, not, ◌||◌, ◌&&◌, List, [], ◌++◌, Option, Result, Ok, Err, refl, sym, ap, ◌∙◌, subst, arith, nat_le, nat_lt, IsErrAnd, err_from_is_err_and, append-nil, nat_tests, Area, size_of, Replacement, effective, lacks, rows_shown, export_of, cells_compared, table_of, is_column, has_row, entries, Refusal, Memory, State, max_area, current_replacements, Answer, may_grow, Serves, no_cause, answer, show_step, export_step, compare_step, table_step}
 
 -- the call wrote some records, and did as the answer says
 abbrev pub Looked : Answer → Result (Unit {0}) Refusal → State → State → List ℕ → List ℕ → Type 0

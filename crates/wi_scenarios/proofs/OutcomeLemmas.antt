@@ -1,45 +1,9 @@
 -- What each command leaves.
-use Rattle.std.specs.Prelude.{nat_le, nat_lt, option_map}
-use Rattle.std.proofs.Common.{◌≡◌, ◌∙◌, ℕ, ◌==◌, inl, inr, Bool, true, false, not, ◌&&◌, ◌||◌, cond, List, [], ◌∷◌, length, Option, Some, None, is_some, Result, Ok, Err, refl, sym, subst}
-use Rattle.std.specs.List.{list_any, find}
-use Rattle.std.specs.Option.{option_or}
-use Rattle.std.specs.Str.{bytes_eq}
-use Rattle.std.proofs.lemmas.Slice.Eq.{bytes_eq-Decides}
-use Rattle.wi_values.specs.Address.{Area, size_of, cells_of}
-use Rattle.wi_parser.specs.Sheet.{content_of}
-use Rattle.wi_store.specs.Store.{Stored, applied}
-use Rattle.wi_store.specs.declared.fault.StoreFault.{StoreFault}
-use Rattle.wi_import.specs.Fields.{areas_at}
+use Rattle.wi_scenarios.proofs.Words.{nat_le, nat_lt, option_map, ◌≡◌, ◌∙◌, ℕ, ◌==◌, inl, inr, Bool, true, false, not, ◌&&◌, ◌||◌, cond, List, [], ◌∷◌, length, Option, Some, None, Result, Ok, Err, refl, sym, subst, list_any, find, option_or, bytes_eq, bytes_eq-Decides, Area, size_of, cells_of, content_of, Stored, applied, StoreFault, areas_at, is_named, has_scenario, scenario_for, with_scenario, without_scenario, with_own, without_own, is_full, scenario_or_new, lacks, would_loop, based_on, found_with, found_without, max_sessions, has_session, with_session, index_of, using_scenario, told, table_of, is_column, has_row, entries, rows_shown, export_of, cells_compared, change_records, content_record, effective, Refusal, BadCommand, TooLarge, NoScenario, InUse, TooMany, BadField, LeavesSheet, Stale, TooLong, State, max_area, current_session, with_current, current_replacements, Answer, when, unless, no_cause, first_cause, limit_of, edit_refusal, stale_in, after_edit, change_list, cell_area, fault_in, content_in, clear_edit, fill_edit, has_no_copy, has_bad_field, field_fault, contents_in, replacement_by, is_in_use, Command, Set, Clear, Fill, Csv, Drop, Base, Use, As, Show, Export, Changes, Compare, Table, Formula, Refused, RefusedData, IsStep, Event, MayHappen, IsEdited, HasScenarioChanged, Leaves}
+use Rattle.std.proofs.Common.{is_some}
 use Rattle.wi_scenario_list.specs.Scenarios as list
-use Rattle.wi_scenario_list.specs.Scenarios.{is_named, has_scenario, scenario_for, with_scenario, without_scenario, with_own, without_own, is_full}
-use Rattle.wi_scenario_list.specs.Inner.Parts.{scenario_or_new}
-use Rattle.wi_scenario_list.specs.Bases.{lacks, would_loop, based_on}
-use Rattle.wi_scenario_list.proofs.Named.{found_with, found_without}
-use Rattle.wi_sessions.specs.Sessions.{max_sessions, has_session, with_session, index_of, using_scenario, told}
-use Rattle.wi_reports.specs.Table.{table_of}
-use Rattle.wi_reports.specs.Inner.Shape.{is_column, has_row, entries}
-use Rattle.wi_reports.specs.Rows.{rows_shown, export_of}
-use Rattle.wi_reports.specs.Compare.{cells_compared}
-use Rattle.wi_reports.specs.Changes.{change_records}
-use Rattle.wi_reports.specs.Contents.{content_record}
-use Rattle.wi_scenario_list.specs.Inner.Chains.{effective}
-use Rattle.wi_scenarios.specs.declared.refusal.Refusal.{Refusal}
-use Rattle.wi_scenarios.specs.declared.refusal.Refusal.TheVariants.{BadCommand, TooLarge, NoScenario, InUse, TooMany, BadField, LeavesSheet, Stale, TooLong}
 use Rattle.wi_scenarios.specs.declared.refusal.Refusal.TheVariants as refusal
-use Rattle.wi_scenarios.specs.State.{State, max_area}
-use Rattle.wi_scenarios.specs.Views.{current_session, with_current, current_replacements}
-use Rattle.wi_scenarios.specs.Answer.{Answer}
-use Rattle.wi_scenarios.specs.Causes.{when, unless, no_cause, first_cause}
-use Rattle.wi_scenarios.specs.Edits.{limit_of, edit_refusal, stale_in, after_edit}
-use Rattle.wi_scenarios.specs.Changes.{change_list}
-use Rattle.wi_scenarios.specs.Set.{cell_area, fault_in, content_in}
-use Rattle.wi_scenarios.specs.Clear.{clear_edit}
-use Rattle.wi_scenarios.specs.Fill.{fill_edit, has_no_copy}
-use Rattle.wi_scenarios.specs.Csv.{has_bad_field, field_fault, contents_in}
-use Rattle.wi_scenarios.specs.Scenario.{replacement_by}
-use Rattle.wi_scenarios.specs.Drop.{is_in_use}
-use Rattle.wi_scenarios.specs.Step.{Command, Set, Clear, Fill, Csv, Scenario, Drop, Base, Use, As, Show, Export, Changes, Compare, Table, Formula, Refused, RefusedData, IsStep}
-use Rattle.wi_scenarios.specs.Laws.{Event, MayHappen, IsEdited, HasScenarioChanged, Leaves}
+use Rattle.wi_scenarios.specs.Step.{Scenario}
 
 -- what an answer says of the state that it leaves
 abbrev pub Outcome : State → Command → Answer → Type 0

@@ -1,34 +1,6 @@
 -- The records of a change list tell it.
-use Rattle.std.proofs.Common.{◌≡◌, ◌≢◌, ◌∙◌, ℕ, zero, suc, ◌+◌, ◌<◌, ◌≤◌, Bool, true, false, not, cond, List, [], ◌∷◌, map, filter, get_or, Result, Ok, Err, refl, sym, ap, arith}
-use Rattle.std.specs.Str.{bytes_eq}
-use Rattle.std.proofs.lemmas.Bool.{both_ways}
-use Rattle.std.proofs.lemmas.Option.{same_Some}
-use Rattle.std.proofs.lemmas.Slice.Eq.{bytes_eq-Decides}
-use Rattle.std.specs.List.{AllByRecursion, range_with_len}
-use Rattle.std.proofs.lemmas.List.Elements.{All-map}
-use Rattle.std.proofs.lemmas.List.Folds.{flat_map-map}
-use Rattle.wi_values.specs.Address.{address_text}
-use Rattle.wi_values.specs.AddressReading.{read_address}
-use Rattle.wi_values.specs.Inner.Import.{imported}
-use Rattle.wi_values.specs.Value.{error_name, logical_name, shown_text}
-use Rattle.wi_values.specs.declared.address.AddressFault.{AddressFault}
-use Rattle.wi_values.specs.declared.value.ErrorKind.{ErrorKind}
-use Rattle.wi_values.specs.declared.value.ErrorKind.TheVariants.{NotAvailable, DivisionByZero, UnknownName, BadNumber, BadReference, BadValue, Circular}
-use Rattle.wi_values.specs.declared.value.Value.{Value}
-use Rattle.wi_values.specs.declared.value.Value.TheVariants.{Empty, Number, Text, Logical, Fault}
-use Rattle.wi_values.proofs.Fields.{numbers_read_back}
-use Rattle.wi_values.proofs.ReadsBack.{addresses_read_back}
-use Rattle.wi_csv.specs.Records.{recs}
-use Rattle.wi_csv.specs.Row.{row}
-use Rattle.wi_csv.proofs.ReadAgain.{read_again}
-use Rattle.wi_sessions.specs.Pictures.{sheet_size, value_in, same_value}
-use Rattle.wi_reports.specs.Changes.{kind_text, change_records}
-use Rattle.wi_scenarios.specs.State.{State}
-use Rattle.wi_scenarios.specs.Views.{current_session, shown_to}
-use Rattle.wi_scenarios.specs.Answer.{Answer}
-use Rattle.wi_scenarios.specs.Changes.{change_list}
-use Rattle.wi_scenarios.specs.Step.{Changes, IsStep}
-use Rattle.wi_scenarios.specs.Laws.{change_fields, RecordsTellList}
+use Rattle.wi_scenarios.proofs.Words.{◌≡◌, ◌≢◌, ◌∙◌, ℕ, zero, suc, ◌+◌, ◌<◌, ◌≤◌, Bool, true, false, not, cond, List, [], ◌∷◌, map, get_or, Result, Ok, Err, refl, sym, ap, arith, bytes_eq, both_ways, same_Some, bytes_eq-Decides, AllByRecursion, range_with_len, All-map, flat_map-map, address_text, read_address, imported, error_name, logical_name, shown_text, AddressFault, ErrorKind, NotAvailable, DivisionByZero, UnknownName, BadNumber, BadReference, BadValue, Circular, Value, Empty, Number, Text, Logical, Fault, numbers_read_back, addresses_read_back, recs, row, read_again, sheet_size, value_in, same_value, kind_text, change_records, State, current_session, shown_to, Answer, change_list, Changes, IsStep, change_fields, RecordsTellList}
+use Rattle.std.proofs.Common.{filter}
 
 -- ---- one change
 

@@ -1,21 +1,8 @@
 -- What a run does to the sessions and to the log.
-use Rattle.std.proofs.Common.{◌≡◌, ◌≢◌, ◌∙◌, ℕ, zero, suc, ◌+◌, ◌<◌, ◌≤◌, ◌==◌, ◌⊎◌, inl, inr, Bool, true, false, not, ◌&&◌, ◌||◌, cond, List, [], ◌∷◌, ◌++◌, length, get_or, drop, Ok, Err, refl, sym, ap, subst, append-nil, append_assoc, arith}
-use Rattle.std.specs.List.{list_any, position_or_len}
-use Rattle.std.specs.Str.{bytes_eq}
-use Rattle.std.proofs.lemmas.Bool.{eqb-true, eqb-false, ne_eqb, false≢true}
-use Rattle.std.proofs.lemmas.List.{length-set, length-append, get_or-set_same, get_or-set_other, drop-append-le, drop_all}
-use Rattle.wi_values.specs.declared.value.Value.{Value}
-use Rattle.wi_store.specs.Store.{Stored}
-use Rattle.wi_edit_log.specs.EditLog.{Entry}
-use Rattle.wi_sessions.specs.Pictures.{value_in, with_changes, sheet_size}
-use Rattle.wi_sessions.specs.Sessions.{Session, new_session, has_session, with_session, index_of, using_scenario, told}
-use Rattle.wi_sessions.proofs.ChangeLists.{picture_is_shown}
-use Rattle.wi_scenarios.specs.State.{State, state_over}
-use Rattle.wi_scenarios.specs.Views.{session_at, current_session, with_current, shown_to}
-use Rattle.wi_scenarios.specs.Answer.{Answer}
-use Rattle.wi_scenarios.specs.Changes.{change_list}
-use Rattle.wi_scenarios.specs.Step.{Command, Set, Clear, Fill, Csv, Scenario, Drop, Base, Use, As, Changes}
-use Rattle.wi_scenarios.specs.Laws.{Event, MayHappen, left_by, IsRun, state_after, IsCoherent, KeepsApart, is_accepted_changes, is_told, lists_told, with_lists, last_shown, ListsAddUp, named_by, logged, logged_by, edits_in, edits_since, unseen, LogGrows}
+use Rattle.wi_scenarios.proofs.Words.{◌≡◌, ◌≢◌, ◌∙◌, ℕ, zero, suc, ◌+◌, ◌<◌, ◌≤◌, ◌==◌, ◌⊎◌, inl, inr, Bool, true, false, not, ◌&&◌, ◌||◌, cond, List, [], ◌∷◌, ◌++◌, length, get_or, drop, Ok, Err, refl, sym, ap, subst, append_assoc, arith, list_any, position_or_len, bytes_eq, eqb-true, eqb-false, ne_eqb, false≢true, length-set, length-append, get_or-set_same, get_or-set_other, drop-append-le, drop_all, Value, Stored, Entry, value_in, with_changes, sheet_size, Session, new_session, has_session, with_session, index_of, using_scenario, told, picture_is_shown, State, state_over, current_session, with_current, shown_to, Answer, change_list, Command, Set, Clear, Fill, Csv, Drop, Base, Use, As, Changes, Event, MayHappen, left_by, IsRun, state_after, IsCoherent, KeepsApart, is_accepted_changes, is_told, lists_told, with_lists, last_shown, ListsAddUp, named_by, logged, logged_by, edits_in, edits_since, unseen, LogGrows}
+use Rattle.std.proofs.Common.{append-nil}
+use Rattle.wi_scenarios.specs.Views.{session_at}
+use Rattle.wi_scenarios.specs.Step.{Scenario}
 use Rattle.wi_scenarios.proofs.OutcomeLemmas.{Outcome, what_happens}
 
 -- ---- the log after a command

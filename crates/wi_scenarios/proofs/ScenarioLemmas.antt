@@ -1,25 +1,6 @@
 -- What commands about scenarios answer.
-use Rattle.std.proofs.Common.{◌≡◌, ◌↔◌, ℕ, Bool, true, false, not, ◌||◌, List, [], ◌∷◌, length, Option, Some, None, Result, Ok, Err, refl, sym, ap, ◌∙◌, subst, arith}
-use Rattle.std.specs.Prelude.{IsErrOf, is_some}
-use Rattle.std.specs.Result.{IsErrAnd}
-use Rattle.std.proofs.lemmas.Result.{err_from_is_err_and}
-use Rattle.wi_values.specs.declared.value.Value.{Value}
-use Rattle.wi_values.specs.declared.import.FieldFault.{FieldFault}
+use Rattle.wi_scenarios.proofs.Words.{◌≡◌, ◌↔◌, ℕ, Bool, true, false, not, ◌||◌, List, [], ◌∷◌, length, Option, Some, None, Result, Ok, Err, refl, sym, ap, ◌∙◌, subst, arith, IsErrOf, is_some, IsErrAnd, err_from_is_err_and, Value, FieldFault, imported, imported_exactly, has_scenario, scenario_for, with_scenario, with_own, without_own, is_full, lacks, would_loop, based_on, Refusal, Memory, NoScenario, TooMany, TooLong, Loop, using_scenario, State, current_session, with_current, Answer, Serves, field_refusal, no_cause, when, answer, replacement_by, put_answer, take_away_step, IsScenarioStep, base_step, use_step}
 use Rattle.wi_values.specs.declared.import.FieldFault.TheVariants as field
-use Rattle.wi_values.specs.Inner.Import.{imported}
-use Rattle.wi_values.proofs.Imports.{imported_exactly}
-use Rattle.wi_scenario_list.specs.Scenarios.{has_scenario, scenario_for, with_scenario, with_own, without_own, is_full}
-use Rattle.wi_scenario_list.specs.Bases.{lacks, would_loop, based_on}
-use Rattle.wi_scenarios.specs.declared.refusal.Refusal.{Refusal}
-use Rattle.wi_scenarios.specs.declared.refusal.Refusal.TheVariants.{Memory, NoScenario, TooMany, TooLong, Loop}
-use Rattle.wi_sessions.specs.Sessions.{using_scenario}
-use Rattle.wi_scenarios.specs.State.{State}
-use Rattle.wi_scenarios.specs.Views.{current_session, with_current}
-use Rattle.wi_scenarios.specs.Answer.{Answer, Serves, field_refusal}
-use Rattle.wi_scenarios.specs.Causes.{no_cause, when, answer}
-use Rattle.wi_scenarios.specs.Scenario.{replacement_by, put_answer, take_away_step, IsScenarioStep}
-use Rattle.wi_scenarios.specs.Base.{base_step}
-use Rattle.wi_scenarios.specs.Use.{use_step}
 use Rattle.wi_scenarios.proofs.AnswerLemmas.{serves_as}
 
 -- ---- calls that end at a want of memory

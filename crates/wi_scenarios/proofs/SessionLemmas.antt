@@ -1,37 +1,5 @@
 -- What `session` answers.
-use Rattle.std.proofs.Common.{◌≡◌, ℕ, suc, ◌+◌, ◌-◌, ◌*◌, ◌/◌, ◌%◌, ◌<◌, ◌≤◌, Bool, true, false, not, ◌&&◌, ◌||◌, ◌==◌, List, [], ◌∷◌, ◌++◌, length, None, Ok, Err, if◌then◌else◌, refl, sym, ap, ◌∙◌, subst, arith, ◌⊎◌, inl, inr}
-use Rattle.std.specs.Prelude.{nat_le, codes}
-use Rattle.std.specs.List.{All, list_any, slice_index_or, position_or_len}
-use Rattle.std.specs.Str.{bytes_eq}
-use Rattle.std.specs.Map.{keys_of}
-use Rattle.std.proofs.Math.Nat.{div-lt_iff_lt-mul, mod-lt}
-use Rattle.std.proofs.lemmas.Bool.{eqb-true, leb-true, le-leb, cases_lt, false≢true, or_cases}
-use Rattle.std.proofs.lemmas.List.{get_or_append_left, length-append}
-use Rattle.std.proofs.lemmas.List.Elements.{All-head, All-tail}
-use Rattle.std.proofs.Math.Seq.{get_or-append_seam}
-use Rattle.std.proofs.lemmas.Map.Views.{any-filter_same}
-use Rattle.wi_values.specs.Address.{Area, is_within, row_of, column_of, rect_of, rows, columns}
-use Rattle.wi_parser.specs.Sheet.{Sheet, content_of, has_formula}
-use Rattle.wi_sheet.specs.Shown.{shown}
-use Rattle.wi_sheet.specs.Unmoved.{IsMarking}
-use Rattle.wi_propagate.proofs.EmptyCells.{shows_nothing, has_none}
-use Rattle.wi_store.specs.Store.{Stored}
-use Rattle.wi_sessions.specs.Pictures.{sheet_size, value_in}
-use Rattle.wi_sessions.specs.Pictures.Laws.{is_listed}
-use Rattle.wi_values.specs.declared.replacement.Replacement.{Replacement}
-use Rattle.wi_scenario_list.specs.Scenarios.{Scenario}
-use Rattle.wi_scenario_list.specs.Inner.Chains.{effective, chain}
-use Rattle.wi_sessions.specs.Sessions.{Session, new_session, max_sessions, has_session, index_of}
-use Rattle.wi_sessions.specs.Roster.{Roster, vacant_of, SameCells}
-use Rattle.wi_edit_log.specs.EditLog.{Entry}
-use Rattle.wi_scenarios.specs.declared.refusal.Refusal.TheVariants.{TooMany}
-use Rattle.wi_scenarios.specs.declared.desk.Desk.{Desk}
-use Rattle.wi_scenarios.specs.State.{State, state_over}
-use Rattle.wi_scenarios.specs.Answer.{Answer}
-use Rattle.wi_scenarios.specs.Causes.{no_cause, answer}
-use Rattle.wi_scenarios.specs.As.{as_step}
-use Rattle.wi_scenarios.specs.Pending.{occupied_cells}
-use Rattle.wi_scenarios.specs.Inner.Held.{IsClosed, IsSound, state_of}
+use Rattle.wi_scenarios.proofs.Words.{◌≡◌, ℕ, suc, ◌+◌, ◌-◌, ◌*◌, ◌/◌, ◌%◌, ◌<◌, ◌≤◌, Bool, true, false, not, ◌&&◌, ◌||◌, ◌==◌, List, [], ◌∷◌, ◌++◌, length, None, Ok, Err, if◌then◌else◌, refl, sym, ap, ◌∙◌, subst, arith, ◌⊎◌, inl, inr, nat_le, codes, All, list_any, slice_index_or, position_or_len, bytes_eq, keys_of, div-lt_iff_lt-mul, mod-lt, eqb-true, leb-true, le-leb, cases_lt, false≢true, or_cases, get_or_append_left, length-append, All-head, All-tail, get_or-append_seam, any-filter_same, Area, is_within, row_of, column_of, rect_of, rows, columns, Sheet, content_of, has_formula, shown, IsMarking, shows_nothing, has_none, Stored, sheet_size, value_in, is_listed, Replacement, Scenario, effective, chain, Session, new_session, max_sessions, has_session, index_of, Roster, vacant_of, SameCells, Entry, TooMany, Desk, State, state_over, Answer, no_cause, answer, as_step, occupied_cells, IsClosed, IsSound, state_of}
 
 -- ---- cells of the sheet
 

@@ -1,20 +1,6 @@
 -- What `set` answers.
-use Rattle.std.proofs.Common.{◌≡◌, ℕ, Bool, true, false, ◌==◌, min, max, List, [], ◌∷◌, length, Option, Some, Result, Ok, Err, if◌then◌else◌, refl, sym, ap, ◌∙◌, subst, arith}
-use Rattle.std.specs.Result.{IsErrAnd}
-use Rattle.std.proofs.lemmas.Result.{err_from_is_err_and}
-use Rattle.wi_values.specs.Address.{Area, place, row_of, column_of, rect_of}
-use Rattle.wi_parser.specs.declared.content.Content.{Content}
-use Rattle.wi_parser.specs.declared.fault.ParseFault.{ParseFault}
+use Rattle.wi_scenarios.proofs.Words.{◌≡◌, ℕ, Bool, true, false, ◌==◌, min, max, List, [], ◌∷◌, length, Option, Some, Result, Ok, Err, if◌then◌else◌, refl, sym, ap, ◌∙◌, subst, arith, IsErrAnd, err_from_is_err_and, Area, place, row_of, column_of, rect_of, Content, ParseFault, content_read, is_too_long, ReadsAs, content_is_one, Refusal, BadCommand, State, Answer, may_grow, Serves, parse_refusal, no_cause, Edit, edit_answer, IsSetStep, set_edit, cell_area, fault_in}
 use Rattle.wi_parser.specs.declared.fault.ParseFault.TheVariants as parse
-use Rattle.wi_parser.specs.Inner.Reading.{content_read, is_too_long, ReadsAs}
-use Rattle.wi_parser.proofs.ContentsOfTexts.{content_is_one}
-use Rattle.wi_scenarios.specs.declared.refusal.Refusal.{Refusal}
-use Rattle.wi_scenarios.specs.declared.refusal.Refusal.TheVariants.{BadCommand}
-use Rattle.wi_scenarios.specs.State.{State}
-use Rattle.wi_scenarios.specs.Answer.{Answer, may_grow, Serves, parse_refusal}
-use Rattle.wi_scenarios.specs.Causes.{no_cause}
-use Rattle.wi_scenarios.specs.Edits.{Edit, edit_answer}
-use Rattle.wi_scenarios.specs.Set.{IsSetStep, set_edit, cell_area, fault_in}
 use Rattle.wi_scenarios.proofs.AnswerLemmas.{MayRefuseFound, ServesFound, serves, serves_as}
 use Rattle.wi_scenarios.proofs.EditLemmas.{edit_grows, same_edit}
 

@@ -1,38 +1,10 @@
 -- When an edit is refused for a stale cell.
-use Rattle.std.specs.Prelude.{◌↔◌, IfSome, nat_lt}
-use Rattle.std.proofs.Common.{◌≡◌, ◌∙◌, ℕ, zero, suc, ◌+◌, ◌<◌, ◌≤◌, ◌==◌, ◌⊎◌, inl, inr, Bool, true, false, ◌&&◌, List, [], ◌∷◌, length, map, max, Option, Some, None, Result, Ok, Err, refl, sym, ap, subst, arith}
-use Rattle.std.specs.List.{list_any}
-use Rattle.std.proofs.lemmas.Bool.{and_parts, and_from, both_ways, cases_eq, cases_lt, or_cases, false≢true}
-use Rattle.std.proofs.lemmas.Option.{none-some, same_Some}
-use Rattle.wi_values.specs.Address.{Area, is_within, size_of, cells_of}
-use Rattle.wi_values.proofs.Within.{within_between}
-use Rattle.wi_parser.specs.declared.content.Content.{Content}
-use Rattle.wi_parser.specs.declared.fault.ParseFault.{ParseFault}
+use Rattle.wi_scenarios.proofs.Words.{IfSome, nat_lt, ◌≡◌, ◌∙◌, ℕ, zero, suc, ◌+◌, ◌<◌, ◌≤◌, ◌==◌, ◌⊎◌, inl, inr, Bool, true, false, ◌&&◌, List, [], ◌∷◌, length, map, max, Option, Some, None, Result, Ok, Err, refl, sym, ap, subst, arith, list_any, and_parts, and_from, both_ways, cases_eq, cases_lt, or_cases, false≢true, none-some, same_Some, Area, is_within, size_of, cells_of, within_between, Content, ParseFault, content_of, areas_at, Stored, applied, StoreFault, Entry, have_cell, first_stale, IsFirst, entries_in, is_wanted_of_others, only_first, stale_is_first, Refusal, Memory, BadCommand, TooLarge, BadField, LeavesSheet, Stale, State, max_area, Answer, when, unless, limit_of, edit_refusal, stale_in, after_edit, cell_area, fault_in, content_in, clear_edit, fill_edit, has_no_copy, ImportOutcome, has_bad_field, field_fault, contents_in, Command, Set, Clear, Fill, Csv, IsStep, Event, MayHappen, IsRun, state_after, IsCoherent, named_by, is_forced, edits_since, unseen, is_newer, IsFirstNewer, counts_before, is_refused_before, StaleIsNewer, ForcedIsNotStale}
+use Rattle.std.specs.Prelude.{◌↔◌}
 use Rattle.wi_parser.specs.declared.fault.ParseFault.TheVariants as parse
-use Rattle.wi_parser.specs.Sheet.{content_of}
 use Rattle.wi_import.specs.declared.fault.ImportFault.TheVariants as import
-use Rattle.wi_import.specs.Fields.{areas_at}
-use Rattle.wi_store.specs.Store.{Stored, applied}
-use Rattle.wi_store.specs.declared.fault.StoreFault.{StoreFault}
 use Rattle.wi_store.specs.declared.fault.StoreFault.TheVariants as store
-use Rattle.wi_edit_log.specs.EditLog.{Entry, have_cell, first_stale}
-use Rattle.wi_edit_log.specs.Inner.First.{IsFirst}
-use Rattle.wi_edit_log.specs.Inner.Edits.{entries_in, is_wanted_of_others}
 use Rattle.wi_edit_log.specs.declared.edit.Edit.{Edit}
-use Rattle.wi_edit_log.proofs.First.{only_first}
-use Rattle.wi_edit_log.proofs.Least.{stale_is_first}
-use Rattle.wi_scenarios.specs.declared.refusal.Refusal.{Refusal}
-use Rattle.wi_scenarios.specs.declared.refusal.Refusal.TheVariants.{Memory, BadCommand, TooLarge, BadField, LeavesSheet, Stale}
-use Rattle.wi_scenarios.specs.State.{State, max_area}
-use Rattle.wi_scenarios.specs.Answer.{Answer}
-use Rattle.wi_scenarios.specs.Causes.{when, unless}
-use Rattle.wi_scenarios.specs.Edits.{limit_of, edit_refusal, stale_in, after_edit}
-use Rattle.wi_scenarios.specs.Set.{cell_area, fault_in, content_in}
-use Rattle.wi_scenarios.specs.Clear.{clear_edit}
-use Rattle.wi_scenarios.specs.Fill.{fill_edit, has_no_copy}
-use Rattle.wi_scenarios.specs.Csv.{ImportOutcome, has_bad_field, field_fault, contents_in}
-use Rattle.wi_scenarios.specs.Step.{Command, Set, Clear, Fill, Csv, IsStep}
-use Rattle.wi_scenarios.specs.Laws.{Event, MayHappen, IsRun, state_after, IsCoherent, named_by, is_forced, edits_since, unseen, is_newer, IsFirstNewer, counts_before, is_refused_before, StaleIsNewer, ForcedIsNotStale}
 use Rattle.wi_scenarios.proofs.OutcomeLemmas.{edit_cause}
 use Rattle.wi_scenarios.proofs.RunLemmas.{log_grows}
 

@@ -1,29 +1,6 @@
 -- A command has one answer.
-use Rattle.std.proofs.Common.{◌≡◌, [], ◌∷◌, Err, refl, sym, ap, ◌∙◌}
-use Rattle.wi_values.specs.Inner.Import.{imported}
-use Rattle.wi_values.proofs.Imports.{imported_exactly}
-use Rattle.wi_parser.specs.Inner.Reading.{content_read}
-use Rattle.wi_parser.proofs.ContentsOfTexts.{content_is_one}
-use Rattle.wi_import.specs.Fields.{fields_at}
-use Rattle.wi_import.proofs.ImportLemmas.{some_import, no_other as no_other_import}
-use Rattle.wi_scenarios.specs.State.{State}
-use Rattle.wi_scenarios.specs.Answer.{Answer}
-use Rattle.wi_scenarios.specs.Set.{set_answer}
-use Rattle.wi_scenarios.specs.Clear.{clear_step}
-use Rattle.wi_scenarios.specs.Fill.{fill_step}
-use Rattle.wi_scenarios.specs.Csv.{csv_answer}
-use Rattle.wi_scenarios.specs.Scenario.{put_answer, take_away_step}
-use Rattle.wi_scenarios.specs.Drop.{drop_step}
-use Rattle.wi_scenarios.specs.Base.{base_step}
-use Rattle.wi_scenarios.specs.Use.{use_step}
-use Rattle.wi_scenarios.specs.As.{as_step}
-use Rattle.wi_scenarios.specs.Show.{show_step}
-use Rattle.wi_scenarios.specs.Export.{export_step}
-use Rattle.wi_scenarios.specs.Changes.{changes_step}
-use Rattle.wi_scenarios.specs.Compare.{compare_step}
-use Rattle.wi_scenarios.specs.Table.{table_step}
-use Rattle.wi_scenarios.specs.Formula.{formula_step}
-use Rattle.wi_scenarios.specs.Step.{Command, Set, Clear, Fill, Csv, Scenario, Drop, Base, Use, As, Show, Export, Changes, Compare, Table, Formula, Refused, RefusedData, IsStep}
+use Rattle.wi_scenarios.proofs.Words.{◌≡◌, [], ◌∷◌, Err, refl, sym, ap, ◌∙◌, imported, imported_exactly, content_read, content_is_one, fields_at, some_import, no_other as no_other_import, State, Answer, set_answer, clear_step, fill_step, csv_answer, put_answer, take_away_step, drop_step, base_step, use_step, as_step, show_step, export_step, changes_step, compare_step, table_step, formula_step, Command, Set, Clear, Fill, Csv, Drop, Base, Use, As, Show, Export, Changes, Compare, Table, Formula, Refused, RefusedData, IsStep}
+use Rattle.wi_scenarios.specs.Step.{Scenario}
 
 pub an_answer : (s : State) (c : Command) → (a : Answer) × IsStep s c a
 an_answer s (Set force at text) =

@@ -1,22 +1,5 @@
 -- Room for the cells that may show something else, and what is then shown.
-use Rattle.std.proofs.Common.{◌≡◌, ◌==◌, ℕ, ◌<◌, Bool, true, false, not, ◌||◌, ◌&&◌, List, [], ◌∷◌, length, get_or, Option, refl, sym, ap, ◌∙◌, subst, arith}
-use Rattle.std.proofs.lemmas.Bool.{false≢true}
-use Rattle.std.proofs.lemmas.Bool.Decides.{nat_tests}
-use Rattle.std.proofs.lemmas.List.Folds.{list_any_at}
-use Rattle.wi_values.specs.declared.replacement.Replacement.{Replacement}
-use Rattle.wi_values.specs.Replacements.{IsInOrder, replaced}
-use Rattle.wi_parser.specs.Sheet.{Sheet}
-use Rattle.wi_sheet.specs.Shown.{shown}
-use Rattle.wi_sheet.specs.Unmoved.{IsMarking}
-use Rattle.wi_sheet.proofs.Cones.{outside_unmoved}
-use Rattle.wi_sheet.proofs.Overrides.{last_in_order, override_in_order}
-use Rattle.wi_scenario_list.specs.Scenarios.{Scenario, layered}
-use Rattle.wi_scenario_list.specs.Inner.Chains.{chain, effective}
-use Rattle.wi_sessions.specs.Pictures.Laws.{is_listed}
-use Rattle.std.specs.List.{slice_index_or}
-use Rattle.wi_sessions.specs.Sessions.{Session, new_session}
-use Rattle.wi_sessions.specs.Roster.{Roster, session_at, pending_of, vacant_of}
-use Rattle.wi_scenarios.specs.Inner.Switch.{Differs, AreDiffering, HasRoom, HasRoomFor}
+use Rattle.wi_scenarios.proofs.Words.{◌≡◌, ◌==◌, ℕ, ◌<◌, Bool, true, false, not, ◌||◌, ◌&&◌, List, [], ◌∷◌, length, get_or, Option, refl, sym, ap, ◌∙◌, subst, arith, false≢true, nat_tests, list_any_at, Replacement, IsInOrder, replaced, Sheet, shown, IsMarking, outside_unmoved, last_in_order, override_in_order, Scenario, layered, chain, effective, is_listed, slice_index_or, Session, new_session, Roster, session_at, pending_of, vacant_of, Differs, AreDiffering, HasRoom, HasRoomFor}
 
 -- what scenarios put in is in order
 layered_in_order : (xs : List Scenario) → IsInOrder (layered xs)

@@ -1,25 +1,5 @@
 -- What holds after a session was switched: the pending cells that were added are marked, and of all others the picture is right.
-use Rattle.std.proofs.Common.{◌≡◌, ◌≢◌, ◌==◌, arith, ◌⊎◌, inl, inr, ℕ, ◌<◌, ◌≤◌, Bool, true, false, ◌||◌, List, [], length, Option, refl, sym, ap, ◌∙◌, subst}
-use Rattle.std.specs.List.{slice_index_or, slice_set}
-use Rattle.std.proofs.Math.Bool.{or-false}
-use Rattle.std.proofs.lemmas.Bool.{false≢true, or_left, or_parts, or_cases}
-use Rattle.std.proofs.lemmas.Bool.Decides.{nat_tests}
-use Rattle.std.proofs.lemmas.List.{get_or-set_same, get_or-set_other, length-set}
-use Rattle.wi_values.specs.declared.value.Value.{Value}
-use Rattle.wi_values.specs.declared.replacement.Replacement.{Replacement}
-use Rattle.wi_parser.specs.Sheet.{Sheet}
-use Rattle.wi_store.specs.Store.{Stored}
-use Rattle.wi_scenario_list.specs.Scenarios.{Scenario}
-use Rattle.wi_scenario_list.specs.Inner.Chains.{effective}
-use Rattle.wi_sessions.specs.Pictures.{value_in}
-use Rattle.wi_sessions.specs.Pictures.Laws.{is_listed}
-use Rattle.wi_sessions.specs.Sessions.{Session, new_session, max_sessions, using_scenario}
-use Rattle.wi_sessions.specs.Roster.{Roster, session_at, pending_of, vacant_of}
-use Rattle.wi_scenarios.specs.State.{State}
-use Rattle.wi_scenarios.specs.Pending.{IsMarked, IsTouched, AddsOnly, SameForOthers}
-use Rattle.wi_scenarios.specs.declared.desk.Desk.{Desk}
-use Rattle.wi_scenarios.specs.Inner.Held.{state_of, pending_in, AreCovered, AreClosed, IsSound}
-use Rattle.wi_scenarios.specs.Inner.Switch.{Differs, HasRoom, HasRoomFor}
+use Rattle.wi_scenarios.proofs.Words.{◌≡◌, ◌≢◌, ◌==◌, arith, ◌⊎◌, inl, inr, ℕ, ◌<◌, ◌≤◌, Bool, true, false, ◌||◌, List, [], length, Option, refl, sym, ap, ◌∙◌, subst, slice_index_or, slice_set, or-false, false≢true, or_left, or_parts, or_cases, nat_tests, get_or-set_same, get_or-set_other, length-set, Value, Replacement, Sheet, Stored, Scenario, effective, value_in, is_listed, Session, new_session, max_sessions, using_scenario, Roster, session_at, pending_of, vacant_of, State, IsMarked, IsTouched, AddsOnly, SameForOthers, Desk, state_of, pending_in, AreCovered, AreClosed, IsSound, Differs, HasRoom, HasRoomFor}
 
 -- ---- nothing is switched
 

@@ -1,11 +1,5 @@
 -- Laws of words with a bit for each session.
-use Rattle.std.proofs.Common.{◌≡◌, ◌==◌, ◌<◌, ◌≤◌, ◌-◌, ◌*◌, ◌^◌, ◌/◌, ◌%◌, ◌||◌, ◌&&◌, ◌∙◌, ℕ, zero, suc, false, not, min, max, refl, sym, ap, arith, ⊎_elim}
-use Rattle.std.specs.Prelude.{nat_lt, bit_and}
-use Rattle.std.specs.Int.{bit_at, bit_not, w64}
-use Rattle.std.specs.Int.RustNames.{bit_or}
-use Rattle.std.proofs.lemmas.Bool.{cases_eq, cases_lt, eq-eqb, ne_eqb, lt-ltb, le-ltb}
-use Rattle.std.proofs.lemmas.Nat.Bits.{bit_at_and, bit_at_or, bit_at_not, bit_at-lt, bit_at-zero, bit_at_above, bit_at_ones, bit_at_ones_above, bit_at_set_same, bit_at_set_other, ones_shr, same_from_bits}
-use Rattle.wi_sessions.specs.Inner.Cells.{has_bit}
+use Rattle.wi_sessions.proofs.Words.{◌≡◌, ◌==◌, ◌<◌, ◌≤◌, ◌-◌, ◌*◌, ◌^◌, ◌/◌, ◌%◌, ◌||◌, ◌&&◌, ◌∙◌, ℕ, zero, suc, false, not, min, max, refl, sym, ap, arith, ⊎_elim, nat_lt, bit_and, bit_at, bit_not, w64, bit_or, cases_eq, cases_lt, eq-eqb, ne_eqb, lt-ltb, le-ltb, bit_at_and, bit_at_or, bit_at_not, bit_at-lt, bit_at-zero, bit_at_above, bit_at_ones, bit_at_ones_above, bit_at_set_same, bit_at_set_other, ones_shr, same_from_bits, has_bit}
 
 -- ---- numbers below two
 

@@ -1,23 +1,6 @@
 -- Laws of lists of cells.
-use Rattle.std.proofs.Common.{◌≡◌, ◌==◌, ◌<◌, ◌≤◌, ◌+◌, ◌||◌, ◌&&◌, ◌⊎◌, inl, inr, ℕ, eqb, Bool, true, false, cond, List, [], ◌∷◌, filter, refl, sym, ap, ◌∙◌, arith, ◌*◌, subst}
-use Rattle.std.proofs.Math.Bool.{and_comm}
-use Rattle.std.specs.List.{All, AllByRecursion, Contains, dedup, list_any}
-use Rattle.std.specs.List.Sorted.{IsPermutation, IsStrictlyIncreasing, IsStrictlySortedBy}
-use Rattle.std.specs.Ordering.{nat_cmp}
-use Rattle.std.specs.declared.cmp.Ordering.TheVariants.{Less}
-use Rattle.std.specs.BTreeMap.{is_at}
-use Rattle.std.proofs.lemmas.Bool.{both_ways, cases_order, eq-eqb, eqb-true, ne_eqb}
-use Rattle.std.proofs.lemmas.List.Elements.{All-head, All-tail}
-use Rattle.std.proofs.lemmas.List.Folds.{list_any_at, Any-from_list_any}
-use Rattle.std.proofs.lemmas.List.Kept.{Contains-dedup_nat, Contains-from_dedup}
-use Rattle.std.proofs.lemmas.List.Sorted.{Contains-permutation, IsPermutation-sym}
-use Rattle.std.proofs.lemmas.Map.Keys.{sorted_from_strictly_increasing, sorted_head, sorted_tail}
-use Rattle.std.proofs.lemmas.Map.Views.{any-filter_same}
-use Rattle.std.specs.Cmp.Derive.{one_truth}
-use Rattle.wi_values.proofs.Order.{below_from_Less, is_at-eq, turn_test}
-use Rattle.wi_values.specs.Address.{rows, columns}
-use Rattle.wi_sessions.specs.Pictures.{sheet_size}
-use Rattle.wi_sessions.specs.Pictures.Laws.{is_listed, Rises}
+use Rattle.wi_sessions.proofs.Words.{◌≡◌, ◌==◌, ◌<◌, ◌≤◌, ◌+◌, ◌||◌, ◌&&◌, ◌⊎◌, inl, inr, ℕ, eqb, Bool, true, false, cond, List, [], ◌∷◌, filter, refl, sym, ap, ◌∙◌, arith, ◌*◌, subst, and_comm, All, AllByRecursion, Contains, dedup, list_any, IsPermutation, IsStrictlyIncreasing, nat_cmp, Less, is_at, both_ways, cases_order, eq-eqb, eqb-true, ne_eqb, All-head, All-tail, list_any_at, Any-from_list_any, Contains-dedup_nat, Contains-from_dedup, Contains-permutation, IsPermutation-sym, sorted_from_strictly_increasing, sorted_head, sorted_tail, any-filter_same, one_truth, below_from_Less, is_at-eq, turn_test, rows, columns, sheet_size, is_listed, Rises}
+use Rattle.std.specs.List.Sorted.{IsStrictlySortedBy}
 
 -- ---- lists of cells in order
 

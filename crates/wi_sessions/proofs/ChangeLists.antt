@@ -1,18 +1,6 @@
 -- Whichever cells are looked at, what has changed is the same.
-use Rattle.std.proofs.Common.{◌≡◌, ℕ, zero, suc, ◌+◌, ◌<◌, ◌≤◌, Bool, true, false, not, cond, List, [], ◌∷◌, map, refl, sym, ap, subst, ◌∙◌, arith, ◌||◌, Option, Some, None}
-use Rattle.std.specs.Prelude.{filter, unwrap_or, nat_eq, ◌==◌}
-use Rattle.std.specs.List.{range_with_len}
-use Rattle.std.proofs.lemmas.Bool.{false≢true, eqb-true}
-use Rattle.std.proofs.lemmas.Bool.Decides.{nat_tests}
-use Rattle.wi_values.specs.declared.value.Value.{Value}
-use Rattle.wi_values.specs.declared.value.Value.TheVariants.{Empty, Number, Text, Logical, Fault}
-use Rattle.std.specs.Ordering.{nat_cmp}
-use Rattle.std.specs.Map.{lookup}
-use Rattle.std.specs.BTreeMap.{is_at}
-use Rattle.wi_values.proofs.Lookups.{found-insert, found-without}
-use Rattle.wi_values.proofs.Order.{turn_test}
-use Rattle.wi_sessions.specs.Pictures.{equality, same_value, value_in, with_value, with_changes, sheet_size}
-use Rattle.wi_sessions.specs.Pictures.Laws.{is_listed, Rises, AnyCells, PictureIsShown, every_cell}
+use Rattle.wi_sessions.proofs.Words.{◌≡◌, ℕ, zero, suc, ◌+◌, ◌<◌, ◌≤◌, Bool, true, false, not, cond, List, [], ◌∷◌, map, refl, sym, ap, subst, ◌∙◌, arith, ◌||◌, Option, Some, None, unwrap_or, range_with_len, false≢true, eqb-true, nat_tests, Value, Empty, Number, Text, Logical, Fault, nat_cmp, lookup, is_at, found-insert, found-without, turn_test, equality, same_value, value_in, with_value, with_changes, sheet_size, is_listed, Rises, AnyCells, PictureIsShown, every_cell}
+use Rattle.std.specs.Prelude.{filter, nat_eq, ◌==◌}
 
 -- an element at which the test fails is left out
 skipped : (p : ℕ → Bool) (a : ℕ) (xs : List ℕ) → p a ≡ false → filter p (a ∷ xs) ≡ filter p xs

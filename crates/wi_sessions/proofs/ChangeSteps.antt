@@ -1,16 +1,5 @@
 -- Laws of lists of changes, for one step of a loop over them.
-use Rattle.std.proofs.Common.{◌≡◌, ◌==◌, ◌<◌, ◌+◌, ◌⊎◌, ℕ, cond, List, length, get_or, set, drop, Some, sym, ap, subst, ◌∙◌, arith, ⊎_elim}
-use Rattle.std.specs.List.{All}
-use Rattle.std.specs.Map.{keys_of}
-use Rattle.std.proofs.lemmas.Bool.{cases_eq, eqb-true, or_cases}
-use Rattle.std.proofs.lemmas.List.{drop-set-lt, drop_more, get_or_default}
-use Rattle.std.proofs.lemmas.List.Elements.{All-set}
-use Rattle.wi_values.specs.declared.value.Value.{Value}
-use Rattle.wi_values.specs.declared.value.Value.TheVariants.{Empty}
-use Rattle.wi_values.proofs.Keys.{is_named}
-use Rattle.wi_sessions.specs.Pictures.{value_in, with_value, with_changes}
-use Rattle.wi_sessions.specs.Pictures.Laws.{is_listed}
-use Rattle.wi_sessions.specs.Inner.Rooms.{room_of, HasRoomFor, HasNoVacancy, VacantOnlyAt, HoldsTheSame}
+use Rattle.wi_sessions.proofs.Words.{◌≡◌, ◌==◌, ◌<◌, ◌+◌, ◌⊎◌, ℕ, cond, List, length, get_or, set, drop, Some, sym, ap, subst, ◌∙◌, arith, ⊎_elim, All, keys_of, cases_eq, eqb-true, or_cases, drop-set-lt, drop_more, get_or_default, All-set, Value, Empty, is_named, value_in, with_value, with_changes, is_listed, room_of, HasRoomFor, HasNoVacancy, VacantOnlyAt, HoldsTheSame}
 use Rattle.wi_sessions.proofs.ChangeLists.{value_in-with}
 use Rattle.wi_sessions.proofs.RoomLemmas.{room_by_keys}
 use Rattle.wi_sessions.proofs.PictureLemmas.{same_after}

@@ -1,18 +1,7 @@
 -- What stands in a map by cell once something is put in, replaced or taken away.
-use Rattle.std.proofs.Common.{◌≡◌, ◌==◌, ℕ, Bool, true, false, cond, not, List, [], ◌∷◌, filter, Option, Some, None, refl, sym, ap, subst, ◌∙◌, arith}
-use Rattle.std.specs.Prelude.{unwrap_or}
-use Rattle.std.specs.Option.{is_some, IsSome}
-use Rattle.std.specs.List.Sorted.{IsStrictlySortedBy}
-use Rattle.std.specs.Ordering.{nat_cmp}
-use Rattle.std.specs.Map.{keys_of, lookup, remove_entry, set_value}
-use Rattle.std.specs.BTreeMap.{is_at, insert_entry}
-use Rattle.std.proofs.lemmas.Bool.{eqb-true, ne_eqb, true≢false}
-use Rattle.std.proofs.lemmas.Cmp.{eq_by_cmp_equiv, nat_cmp_total}
-use Rattle.std.proofs.lemmas.Map.{keys-set_value, lookup-set_value}
-use Rattle.std.proofs.lemmas.Map.Made.{is_some-lookup}
-use Rattle.wi_values.proofs.Lookups.{found-insert, found-without}
-use Rattle.wi_values.proofs.Order.{Ascends, Ascends-filter, Ascends-from_order, Ascends-insert, ComeAfter, at_same, is_at-eq, order-from_Ascends, turn_test}
-use Rattle.wi_sessions.specs.Pictures.Laws.{is_listed}
+use Rattle.wi_sessions.proofs.Words.{◌≡◌, ◌==◌, ℕ, Bool, true, false, cond, not, List, [], ◌∷◌, filter, Option, Some, None, refl, sym, ap, subst, ◌∙◌, arith, unwrap_or, is_some, IsStrictlySortedBy, nat_cmp, keys_of, lookup, remove_entry, set_value, is_at, eqb-true, ne_eqb, true≢false, eq_by_cmp_equiv, nat_cmp_total, keys-set_value, lookup-set_value, is_some-lookup, found-insert, found-without, Ascends, Ascends-filter, Ascends-from_order, Ascends-insert, ComeAfter, at_same, is_at-eq, order-from_Ascends, turn_test, is_listed}
+use Rattle.std.specs.Option.{IsSome}
+use Rattle.std.specs.BTreeMap.{insert_entry}
 use Rattle.wi_sessions.proofs.CellLemmas.{found_listed}
 
 module _ {X : Type 0} where

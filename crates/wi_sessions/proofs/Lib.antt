@@ -10,3 +10,4 @@ pub mod WordLemmas
 pub mod ViewLemmas
 pub mod PlaceLemmas
 pub mod PendingLemmas
+pub mod Words

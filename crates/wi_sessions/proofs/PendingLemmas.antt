@@ -1,26 +1,5 @@
 -- Laws of what is pending for all sessions, for each call.
-use Rattle.std.proofs.Common.{◌⊎◌, ◌≡◌, ◌≢◌, ◌==◌, ◌<◌, ◌≤◌, ◌+◌, ◌||◌, ◌&&◌, ◌∙◌, ℕ, Bool, true, false, not, List, [], ◌∷◌, ◌++◌, map, length, get_or, set, drop, filter, Result, Ok, Err, ◌*◌, refl, sym, ap, subst, arith, ⊎_elim, zero, suc, inl, inr, Option, None}
-use Rattle.std.proofs.Math.Bool.{and-false, and-true, or-false}
-use Rattle.std.specs.Prelude.{nat_lt, unwrap_or, IfOk}
-use Rattle.std.specs.List.{All, list_all, range_with_len}
-use Rattle.std.specs.List.Sorted.{IsStrictlySortedBy}
-use Rattle.std.specs.Ordering.{nat_cmp}
-use Rattle.std.specs.Map.{keys_of, lookup}
-use Rattle.std.specs.BTreeMap.{is_at}
-use Rattle.std.proofs.lemmas.Bool.{and_parts, both_ways, cases_eq, cases_lt, eq-eqb, ne_eqb, le-ltb, lt-ltb}
-use Rattle.std.proofs.lemmas.List.{get_or-set_same, length-append, length-set}
-use Rattle.std.proofs.lemmas.List.Elements.{All-filter, All-map}
-use Rattle.std.proofs.lemmas.List.Folds.{list_any-append}
-use Rattle.std.specs.Cmp.Derive.{one_truth}
-use Rattle.wi_values.specs.Address.{rows, columns}
-use Rattle.wi_values.proofs.Lists.{filter_all}
-use Rattle.wi_sessions.specs.Pictures.{sheet_size}
-use Rattle.wi_sessions.specs.Pictures.Laws.{is_listed, Rises}
-use Rattle.wi_sessions.specs.Pending.{AllPending, list_at}
-use Rattle.wi_sessions.specs.Roster.{SameCells}
-use Rattle.wi_sessions.specs.declared.unread.Unread.{Unread}
-use Rattle.wi_sessions.specs.Inner.Cells.{has_bit, is_in, is_staged, cells_with, cells_in, vacant_in, pending_in, at_cells, SamePending, HasMade, HasCleared}
-use Rattle.wi_sessions.specs.Inner.Unread.{is_unread, HasPlace, AreKept, AreLookedAt}
+use Rattle.wi_sessions.proofs.Words.{◌⊎◌, ◌≡◌, ◌≢◌, ◌==◌, ◌<◌, ◌≤◌, ◌+◌, ◌||◌, ◌&&◌, ◌∙◌, ℕ, Bool, true, false, not, List, [], ◌∷◌, ◌++◌, map, length, get_or, set, drop, filter, Result, Ok, Err, ◌*◌, refl, sym, ap, subst, arith, ⊎_elim, zero, suc, inl, inr, Option, None, and-false, and-true, or-false, nat_lt, unwrap_or, IfOk, All, list_all, range_with_len, IsStrictlySortedBy, nat_cmp, keys_of, lookup, is_at, and_parts, both_ways, cases_eq, cases_lt, eq-eqb, ne_eqb, le-ltb, lt-ltb, get_or-set_same, length-append, length-set, All-filter, All-map, list_any-append, one_truth, rows, columns, filter_all, sheet_size, is_listed, Rises, AllPending, list_at, SameCells, Unread, has_bit, is_in, is_staged, cells_with, cells_in, vacant_in, pending_in, at_cells, SamePending, HasMade, HasCleared, is_unread, HasPlace, AreKept, AreLookedAt}
 use Rattle.wi_sessions.proofs.BitLemmas.{none_in_zero}
 use Rattle.wi_sessions.proofs.CellLemmas.{listed_filter, rises, same_listed}
 use Rattle.wi_sessions.proofs.WordLemmas.{Words, OthersStay}

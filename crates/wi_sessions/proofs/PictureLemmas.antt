@@ -1,11 +1,5 @@
 -- Laws of the rooms of a picture.
-use Rattle.std.proofs.Common.{◌≡◌, ◌==◌, ℕ, Bool, true, false, cond, not, List, [], ◌∷◌, Option, Some, None, sym, ap, ◌∙◌}
-use Rattle.wi_values.proofs.Lookups.{found-insert, found-without}
-use Rattle.wi_values.proofs.Order.{Ascends, Ascends-filter, Ascends-insert}
-use Rattle.wi_values.specs.declared.value.Value.{Value}
-use Rattle.wi_values.specs.declared.value.Value.TheVariants.{Empty, Number, Text, Logical, Fault}
-use Rattle.wi_sessions.specs.Pictures.{with_value, with_changes}
-use Rattle.wi_sessions.specs.Inner.Rooms.{room_of, HasNoVacancy, HoldsTheSame}
+use Rattle.wi_sessions.proofs.Words.{◌≡◌, ◌==◌, ℕ, Bool, true, false, cond, not, List, [], ◌∷◌, Option, Some, None, sym, ap, ◌∙◌, found-insert, found-without, Ascends, Ascends-filter, Ascends-insert, Value, Empty, Number, Text, Logical, Fault, with_value, with_changes, room_of, HasNoVacancy, HoldsTheSame}
 use Rattle.wi_sessions.proofs.ChangeLists.{value_in-with}
 use Rattle.wi_sessions.proofs.RoomLemmas.{same_rooms, filled}
 

@@ -1,16 +1,6 @@
 -- Laws of the places where each session's cells stand.
-use Rattle.std.proofs.Common.{◌≡◌, ◌==◌, ◌<◌, ◌≤◌, ◌+◌, ◌||◌, ◌&&◌, ◌∙◌, ℕ, Bool, true, false, not, List, [], ◌∷◌, ◌++◌, length, get_or, set, drop, refl, sym, ap, subst, arith, ⊎_elim}
-use Rattle.std.proofs.Math.Bool.{and-true}
+use Rattle.wi_sessions.proofs.Words.{◌≡◌, ◌==◌, ◌<◌, ◌≤◌, ◌+◌, ◌||◌, ◌&&◌, ◌∙◌, ℕ, Bool, true, false, not, List, [], ◌∷◌, ◌++◌, length, get_or, set, drop, refl, sym, ap, subst, arith, ⊎_elim, and-true, nat_cmp, keys_of, cases_eq, cases_lt, both_ways, or_cases, or_left, or_right, and_parts, true≢false, false_from_ne_true, get_or-set_same, get_or-set_other, get_or_append_left, get_or_push, length-append, length-set, drop_all, drop-append-le, list_any-append, is_listed, Unread, is_in, is_staged, SamePending, HasMade, HasCleared, is_unread, HasPlace, HavePlaces, AreKept, AreLookedAt}
 use Rattle.std.specs.List.Sorted.{IsStrictlySortedBy}
-use Rattle.std.specs.Ordering.{nat_cmp}
-use Rattle.std.specs.Map.{keys_of}
-use Rattle.std.proofs.lemmas.Bool.{cases_eq, cases_lt, both_ways, or_cases, or_left, or_right, and_parts, true≢false, false_from_ne_true}
-use Rattle.std.proofs.lemmas.List.{get_or-set_same, get_or-set_other, get_or_append_left, get_or_push, length-append, length-set, drop_all, drop-append-le}
-use Rattle.std.proofs.lemmas.List.Folds.{list_any-append}
-use Rattle.wi_sessions.specs.Pictures.Laws.{is_listed}
-use Rattle.wi_sessions.specs.declared.unread.Unread.{Unread}
-use Rattle.wi_sessions.specs.Inner.Cells.{is_in, is_staged, SamePending, HasMade, HasCleared}
-use Rattle.wi_sessions.specs.Inner.Unread.{is_unread, HasPlace, HavePlaces, AreKept, AreLookedAt}
 use Rattle.wi_sessions.proofs.BitLemmas.{none_in_zero}
 use Rattle.wi_sessions.proofs.WordLemmas.{Words}
 

@@ -1,16 +1,6 @@
 -- Laws of rooms, whatever stands in them.
-use Rattle.std.proofs.Common.{◌≡◌, ◌==◌, ◌<◌, ◌⊎◌, ℕ, Bool, true, false, cond, List, [], ◌∷◌, filter, Option, Some, None, refl, sym, ap, subst, ◌∙◌, ⊎_elim, inl, inr}
-use Rattle.std.specs.Prelude.{unwrap_or}
-use Rattle.std.specs.Option.{is_some}
-use Rattle.std.specs.List.{list_any}
-use Rattle.std.specs.Ordering.{nat_cmp}
-use Rattle.std.specs.Map.{keys_of}
-use Rattle.std.specs.BTreeMap.{is_at}
-use Rattle.std.proofs.lemmas.Bool.{cases_eq, cases_order}
-use Rattle.std.proofs.lemmas.Map.Made.{is_some-lookup}
+use Rattle.wi_sessions.proofs.Words.{◌≡◌, ◌==◌, ◌<◌, ◌⊎◌, ℕ, Bool, true, false, cond, List, [], ◌∷◌, filter, Option, Some, None, refl, sym, ap, subst, ◌∙◌, ⊎_elim, inl, inr, unwrap_or, is_some, list_any, nat_cmp, keys_of, is_at, cases_eq, cases_order, is_some-lookup, ComeAfter, ComeAfter-filter, come_after_earlier, at_itself, at_same, is_at-eq, turn_test, lookup_after, at_other, room_of, HasNoVacancy, HasRoomFor, held_at}
 pub use Rattle.wi_values.proofs.Order.{Ascends, Ascends-from_order}
-use Rattle.wi_values.proofs.Order.{ComeAfter, ComeAfter-filter, come_after_earlier, at_itself, at_same, is_at-eq, turn_test, lookup_after, at_other}
-use Rattle.wi_sessions.specs.Inner.Rooms.{room_of, HasNoVacancy, HasRoomFor, held_at}
 
 module _ {X : Type 0} (nothing : X) where
   abbrev or_nothing : Option X → X

@@ -1,24 +1,6 @@
 -- Laws of sessions and their pending cells, as lists of parts of each.
-use Rattle.std.proofs.Common.{◌≡◌, ◌<◌, ◌+◌, zero, suc, ◌||◌, ◌&&◌, ◌∙◌, ℕ, Bool, true, false, cond, not, List, [], ◌∷◌, ◌++◌, map, length, get_or, set, slice_get, nat_eq, Option, Some, None, refl, sym, ap, subst, arith, true≢false}
-use Rattle.std.specs.Prelude.{IfSome, nat_lt}
-use Rattle.std.specs.Option.{is_some, option_map, option_to_list}
-use Rattle.std.specs.List.{list_all, list_any, position, position_or_len, position_from}
-use Rattle.std.specs.Cmp.Lexicographic.{pointwise}
-use Rattle.std.specs.Map.{keys_of, values_of, lookup}
-use Rattle.std.specs.Rc.{rc_str_bytes}
-use Rattle.std.specs.Str.{bytes_eq}
-use Rattle.std.specs.declared.rc.RcStr.{RcStr}
-use Rattle.std.proofs.lemmas.List.{length-map, map-append, map-set}
-use Rattle.std.proofs.lemmas.List.Folds.{list_all_at}
-use Rattle.std.proofs.lemmas.Option.{get_or_from_slice_get, slice_get-map}
-use Rattle.std.proofs.lemmas.Iterator.Adapters.{position_from-zero}
-use Rattle.indexmap.specs.IndexMap.{IndexMap, insert_entry, set_value_at}
-use Rattle.indexmap.proofs.CallerLemmas.{insert_entry-new}
-use Rattle.wi_sessions.specs.Sessions.{has_session, index_of}
-use Rattle.wi_sessions.specs.Pending.{AllPending}
-use Rattle.wi_sessions.specs.Roster.{Roster}
-use Rattle.wi_sessions.specs.Inner.Held.{roster_in, session_in}
-use Rattle.wi_sessions.specs.declared.held.Held.{Held}
+use Rattle.wi_sessions.proofs.Words.{◌≡◌, ◌<◌, ◌+◌, zero, suc, ◌||◌, ◌&&◌, ◌∙◌, ℕ, Bool, true, false, cond, not, List, [], ◌∷◌, ◌++◌, map, length, get_or, set, slice_get, nat_eq, Option, Some, None, refl, sym, ap, subst, arith, IfSome, nat_lt, is_some, option_map, option_to_list, list_all, list_any, position, position_or_len, position_from, pointwise, keys_of, values_of, lookup, rc_str_bytes, bytes_eq, RcStr, length-map, map-append, map-set, list_all_at, get_or_from_slice_get, slice_get-map, position_from-zero, IndexMap, insert_entry, set_value_at, insert_entry-new, has_session, index_of, AllPending, Roster, roster_in, session_in, Held}
+use Rattle.std.proofs.Common.{true≢false}
 
 -- a name, and what is held under it
 abbrev pub Entry : Type 0 → Type 0

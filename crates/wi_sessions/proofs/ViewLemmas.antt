@@ -1,16 +1,5 @@
 -- Laws of the lists of pending cells, and of those with room only, of all sessions.
-use Rattle.std.proofs.Common.{◌≡◌, ◌≢◌, ◌<◌, ◌≤◌, ◌+◌, ◌||◌, ◌&&◌, ◌∙◌, ℕ, zero, suc, Bool, true, false, not, List, [], ◌∷◌, ◌++◌, map, length, get_or, set, filter, refl, sym, ap, subst, arith, ⊎_elim}
-use Rattle.std.proofs.Math.Bool.{and-true, or-false, or-true}
-use Rattle.std.specs.List.{list_all, range_with_len}
-use Rattle.std.specs.List.Sorted.{IsStrictlySortedBy}
-use Rattle.std.specs.Ordering.{nat_cmp}
-use Rattle.std.specs.Map.{keys_of}
-use Rattle.std.proofs.lemmas.Bool.{cases_eq}
-use Rattle.std.proofs.lemmas.List.{get_or_past, get_or-set_same, get_or-set_other, length-set}
-use Rattle.std.proofs.lemmas.List.FromFn.{fill_by_all, get_or-map-range_with_len, length-map-range_with_len, map-range_with_len_more}
-use Rattle.wi_sessions.specs.Pictures.Laws.{is_listed}
-use Rattle.wi_sessions.specs.Pending.{list_at}
-use Rattle.wi_sessions.specs.Inner.Cells.{is_in, is_staged, cells_with, cells_in, vacant_in, SamePending, HasMade, HasCleared}
+use Rattle.wi_sessions.proofs.Words.{◌≡◌, ◌≢◌, ◌<◌, ◌≤◌, ◌+◌, ◌||◌, ◌&&◌, ◌∙◌, ℕ, zero, suc, Bool, true, false, not, List, [], ◌∷◌, ◌++◌, map, length, get_or, set, filter, refl, sym, ap, subst, arith, ⊎_elim, and-true, or-false, or-true, list_all, range_with_len, IsStrictlySortedBy, nat_cmp, keys_of, cases_eq, get_or_past, get_or-set_same, get_or-set_other, length-set, fill_by_all, get_or-map-range_with_len, length-map-range_with_len, map-range_with_len_more, is_listed, list_at, is_in, is_staged, cells_with, cells_in, vacant_in, SamePending, HasMade, HasCleared}
 use Rattle.wi_sessions.proofs.CellLemmas.{Ascend, ascend_filter, listed_filter, same_listed}
 use Rattle.wi_sessions.proofs.WordLemmas.{Words, listed_with, ascend_with}
 

@@ -1,18 +1,5 @@
 -- Laws of cells with a bit for each session, and of rooms.
-use Rattle.std.proofs.Common.{◌≡◌, ◌==◌, ◌<◌, ◌≤◌, ◌+◌, ◌||◌, ◌&&◌, ◌∙◌, ℕ, Bool, true, false, cond, not, List, [], ◌∷◌, ◌++◌, length, take, get_or, filter, Option, Some, None, refl, sym, ap, subst, arith}
-use Rattle.std.proofs.Math.Bool.{and-false, and-true, or-false, or-true}
-use Rattle.std.specs.Prelude.{unwrap_or}
-use Rattle.std.specs.Option.{is_some}
-use Rattle.std.specs.List.Sorted.{IsStrictlySortedBy}
-use Rattle.std.specs.Ordering.{nat_cmp}
-use Rattle.std.specs.Map.{keys_of, lookup}
-use Rattle.std.specs.BTreeMap.{is_at}
-use Rattle.std.proofs.lemmas.Bool.{eqb-true, both_ways}
-use Rattle.std.proofs.lemmas.List.{take_all, append_assoc, append-nil}
-use Rattle.std.proofs.lemmas.List.Folds.{list_any-append, list_any_more}
-use Rattle.wi_values.proofs.Order.{Ascends-filter, Ascends-from_order, is_at-eq, order-from_Ascends}
-use Rattle.wi_sessions.specs.Pictures.Laws.{is_listed}
-use Rattle.wi_sessions.specs.Inner.Cells.{has_bit, is_in, is_staged, cells_with, at_cells, SamePending, HasMade, HasCleared}
+use Rattle.wi_sessions.proofs.Words.{◌≡◌, ◌==◌, ◌<◌, ◌≤◌, ◌+◌, ◌||◌, ◌&&◌, ◌∙◌, ℕ, Bool, true, false, cond, not, List, [], ◌∷◌, ◌++◌, length, take, get_or, filter, Option, Some, None, refl, sym, ap, subst, arith, and-false, and-true, or-false, or-true, unwrap_or, is_some, IsStrictlySortedBy, nat_cmp, keys_of, lookup, is_at, eqb-true, both_ways, take_all, append_assoc, append-nil, list_any-append, list_any_more, Ascends-filter, Ascends-from_order, is_at-eq, order-from_Ascends, is_listed, has_bit, is_in, is_staged, cells_with, at_cells, SamePending, HasMade, HasCleared}
 use Rattle.wi_sessions.proofs.BitLemmas.{none_in_zero}
 use Rattle.wi_sessions.proofs.CellLemmas.{Ascend, ascend, same_listed}
 use Rattle.wi_sessions.proofs.EntryLemmas.{has_listed}

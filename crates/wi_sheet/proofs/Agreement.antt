@@ -1,8 +1,5 @@
 -- Sheets that agree on all that a cell reaches, under replacements.
-use Rattle.std.proofs.Common.{◌≡◌, ℕ, zero, suc, List, ap, sym, ◌∙◌}
-use Rattle.wi_values.specs.declared.replacement.Replacement.{Replacement}
-use Rattle.wi_parser.specs.Sheet.{Sheet, content_of, put_all}
-use Rattle.wi_graph.specs.Reach.{Walks, Reaches, AgreeFrom}
+use Rattle.wi_sheet.proofs.Words.{◌≡◌, ℕ, zero, suc, List, ap, sym, ◌∙◌, Replacement, Sheet, content_of, put_all, Walks, Reaches, AgreeFrom}
 use Rattle.wi_sheet.proofs.Puts.{overlaid, content_of-put_all}
 use Rattle.wi_sheet.proofs.Bounds.{put_reads}
 

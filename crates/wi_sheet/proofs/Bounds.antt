@@ -1,21 +1,5 @@
 -- The bound on a value is never felt.
-use Rattle.std.proofs.Common.{◌≡◌, ◌==◌, ℕ, zero, suc, ◌≤◌, Bool, true, false, cond, List, [], ◌∷◌, Option, Some, None, length, refl, ap, sym, ◌∙◌, arith}
-use Rattle.std.proofs.lemmas.Bool.{false_from_ne_true}
-use Rattle.std.specs.Map.{keys_of}
-use Rattle.wi_values.specs.declared.value.Value.{Value}
-use Rattle.wi_values.specs.declared.value.Value.TheVariants.{Empty, Number, Text, Logical, Fault}
-use Rattle.wi_values.specs.declared.value.ErrorKind.TheVariants.{Circular}
-use Rattle.wi_values.specs.declared.replacement.Replacement.{Replacement}
-use Rattle.wi_parser.specs.Tree.{Tree}
-use Rattle.wi_parser.specs.declared.content.Content.{Content}
-use Rattle.wi_parser.specs.declared.content.Content.TheVariants.{Constant, Formula}
-use Rattle.wi_parser.specs.Sheet.{Sheet, constant, content_of, put_all, has_formula, cells_with_formula}
-use Rattle.wi_parser.specs.Reads.{reads, content_reads}
-use Rattle.wi_functions.specs.Meaning.{zero_for_empty}
-use Rattle.wi_graph.specs.Circular.{circular}
-use Rattle.wi_graph.specs.Inner.Walks.{has_walk}
-use Rattle.wi_graph.proofs.Walks.{step, first_step, circular_is}
-use Rattle.wi_sheet.specs.CellValue.{value_of, replacements, what_if_in, value_within, cell_value}
+use Rattle.wi_sheet.proofs.Words.{◌≡◌, ◌==◌, ℕ, zero, suc, ◌≤◌, Bool, true, false, cond, List, [], ◌∷◌, Option, Some, None, length, refl, ap, sym, ◌∙◌, arith, false_from_ne_true, keys_of, Value, Empty, Number, Text, Logical, Fault, Circular, Replacement, Tree, Content, Constant, Formula, Sheet, constant, content_of, put_all, has_formula, cells_with_formula, reads, content_reads, zero_for_empty, circular, has_walk, step, first_step, circular_is, value_of, replacements, what_if_in, value_within, cell_value}
 use Rattle.wi_sheet.proofs.Puts.{overlaid, plain, content_of-put_all, formula_cells_put_all}
 use Rattle.wi_sheet.proofs.Meanings.{meaning_same, replacements_same}
 use Rattle.wi_sheet.proofs.Filters.{no_more}

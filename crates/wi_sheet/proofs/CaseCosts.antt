@@ -1,13 +1,5 @@
 -- What is left to find falls with each case that is found.
-use Rattle.std.proofs.Common.{◌≡◌, ◌≤◌, ◌+◌, ◌||◌, inl, inr, ℕ, Bool, true, false, cond, not, filter, List, [], ◌∷◌, Contains, refl, ap, sym, ◌∙◌, arith, sum_by, if◌then◌else◌}
-use Rattle.std.proofs.lemmas.Bool.{or_left, or_right, true≢false}
-use Rattle.std.proofs.lemmas.List.Sums.{sum_by-cons}
-use Rattle.wi_values.specs.declared.replacement.Replacement.{Replacement}
-use Rattle.wi_values.proofs.Lists.{sum_ones}
-use Rattle.wi_parser.specs.Sheet.{Sheet}
-use Rattle.wi_sheet.specs.Demand.{Case, same_case, wants}
-use Rattle.wi_functions.specs.Counts.{Counts}
-use Rattle.wi_sheet.specs.Inner.Spending.{NeverFall, SpentOn, Table, cost, left, plus, price}
+use Rattle.wi_sheet.proofs.Words.{◌≡◌, ◌≤◌, ◌+◌, ◌||◌, inl, inr, ℕ, Bool, true, false, cond, not, filter, List, [], ◌∷◌, Contains, refl, ap, sym, ◌∙◌, arith, sum_by, if◌then◌else◌, or_left, or_right, true≢false, sum_by-cons, Replacement, sum_ones, Sheet, Case, same_case, wants, Counts, NeverFall, SpentOn, Table, cost, left, plus, price}
 use Rattle.wi_sheet.proofs.Members.{IsIn, in_contained}
 use Rattle.wi_sheet.proofs.Cases.{same_case-refl}
 

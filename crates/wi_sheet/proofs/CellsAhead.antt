@@ -1,14 +1,5 @@
 -- The occupied cells of a rectangle that are still to be found.
-use Rattle.std.proofs.Common.{◌≡◌, ℕ, add-one, ◌+◌, ◌<◌, ◌≤◌, Bool, true, false, cond, List, [], ◌∷◌, ◌++◌, filter, Option, Some, None, IfSome, IfNone, refl, sym, ap, ◌∙◌, subst, arith, append_assoc, append-nil}
-use Rattle.std.specs.Prelude.{nat_le, nat_lt}
-use Rattle.std.specs.List.{find}
-use Rattle.std.specs.List.Sorted.{IsStrictlyIncreasing}
-use Rattle.std.specs.Map.{keys_of}
-use Rattle.std.proofs.lemmas.List.Kept.{AllPairs-from_increasing, IsStrictlyIncreasing-filter}
-use Rattle.std.proofs.lemmas.Bool.{leb-true, le-leb, le-ltb}
-use Rattle.wi_values.specs.Address.{Area, is_within}
-use Rattle.wi_values.proofs.Within.{within_between, places_left, fewer_places}
-use Rattle.wi_parser.specs.Sheet.{Sheet}
+use Rattle.wi_sheet.proofs.Words.{◌≡◌, ℕ, add-one, ◌+◌, ◌<◌, ◌≤◌, Bool, true, false, cond, List, [], ◌∷◌, ◌++◌, filter, Option, Some, None, IfSome, IfNone, refl, sym, ap, ◌∙◌, subst, arith, append_assoc, append-nil, nat_le, nat_lt, find, IsStrictlyIncreasing, keys_of, AllPairs-from_increasing, IsStrictlyIncreasing-filter, leb-true, le-leb, le-ltb, Area, is_within, within_between, places_left, fewer_places, Sheet}
 use Rattle.wi_sheet.proofs.Filters.{alike_within, all_pass, all_fail}
 use Rattle.wi_sheet.proofs.InOrder.{from_first, none_pass}
 

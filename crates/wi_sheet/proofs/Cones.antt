@@ -1,17 +1,5 @@
 -- What stays outside the cone of edited cells, under replacements.
-use Rattle.std.proofs.Common.{◌≡◌, ℕ, Bool, false, cond, List, [], ◌∷◌, filter, Option, refl, ap, sym, ◌∙◌}
-use Rattle.std.proofs.lemmas.Bool.{false_from_ne_true}
-use Rattle.wi_values.specs.declared.value.Value.{Value}
-use Rattle.wi_values.specs.declared.replacement.Replacement.{Replacement}
-use Rattle.wi_values.specs.Replacements.{last_for}
-use Rattle.wi_parser.specs.Sheet.{Sheet, content_of, put_all}
-use Rattle.wi_graph.specs.Reach.{is_one_of, IsInCone, SameOff, reaches, in_cone}
-use Rattle.wi_graph.proofs.ReachTest.{not_in_cone}
-use Rattle.wi_graph.proofs.Cones.{cone_stays, agree_outside, outside_reaches}
-use Rattle.wi_sheet.specs.CellValue.{cell_value}
-use Rattle.wi_sheet.specs.Shown.{shown}
-use Rattle.wi_sheet.specs.Unmoved.{SayTheSameOff, IsUnmoved}
-use Rattle.wi_sheet.specs.Demand.{reaching}
+use Rattle.wi_sheet.proofs.Words.{◌≡◌, ℕ, Bool, false, cond, List, [], ◌∷◌, filter, Option, refl, ap, sym, ◌∙◌, false_from_ne_true, Value, Replacement, last_for, Sheet, content_of, put_all, is_one_of, IsInCone, SameOff, reaches, in_cone, not_in_cone, cone_stays, agree_outside, outside_reaches, cell_value, shown, SayTheSameOff, IsUnmoved, reaching}
 use Rattle.wi_sheet.proofs.Puts.{overlaid, content_of-put_all}
 use Rattle.wi_sheet.proofs.Last.{over, content_by_last}
 use Rattle.wi_sheet.proofs.Agreement.{agree_put}

@@ -1,19 +1,5 @@
 -- What a value demands, with no bound in sight.
-use Rattle.std.proofs.Common.{◌≡◌, ◌==◌, ◌≤◌, ◌<◌, ◌⊎◌, inl, inr, ℕ, zero, suc, Bool, true, false, cond, List, [], ◌∷◌, map, length, Option, Some, None, Contains, refl, ap, sym, ◌∙◌, subst, arith, eq-eqb}
-use Rattle.std.proofs.lemmas.Bool.{or_left, or_right, cases_Bool, false_from_ne_true}
-use Rattle.std.specs.List.{flat_map}
-use Rattle.wi_values.specs.declared.replacement.Replacement.{Replacement}
-use Rattle.wi_parser.specs.Tree.{Tree}
-use Rattle.wi_parser.specs.Leaves.{Leaf, what_if_leaf, leaves}
-use Rattle.wi_parser.specs.declared.content.Content.{Content}
-use Rattle.wi_parser.specs.declared.content.Content.TheVariants.{Constant, Formula}
-use Rattle.wi_parser.specs.Sheet.{Sheet, content_of, put_all, has_formula, cells_with_formula}
-use Rattle.wi_parser.specs.Reads.{leaf_reads, reads, content_reads}
-use Rattle.wi_graph.specs.Circular.{circular}
-use Rattle.wi_graph.specs.Inner.Walks.{has_walk}
-use Rattle.wi_graph.proofs.Ends.{ends_open}
-use Rattle.wi_sheet.specs.Demand.{Case, case_of, with_what_if, leaf_what_ifs, what_ifs_of, leaf_reads_here, reads_here, formulas_read_here, rests_on, of_formula, demand_within, demand}
-use Rattle.wi_sheet.specs.Inner.Spending.{RestsOn, IsClosed}
+use Rattle.wi_sheet.proofs.Words.{◌≡◌, ◌==◌, ◌≤◌, ◌<◌, ◌⊎◌, inl, inr, ℕ, zero, suc, Bool, true, false, cond, List, [], ◌∷◌, map, length, Option, Some, None, Contains, refl, ap, sym, ◌∙◌, subst, arith, eq-eqb, or_left, or_right, cases_Bool, false_from_ne_true, flat_map, Replacement, Tree, Leaf, what_if_leaf, leaves, Content, Constant, Formula, Sheet, content_of, put_all, has_formula, cells_with_formula, leaf_reads, reads, content_reads, circular, has_walk, ends_open, Case, case_of, with_what_if, leaf_what_ifs, what_ifs_of, leaf_reads_here, reads_here, formulas_read_here, rests_on, of_formula, demand_within, demand, RestsOn, IsClosed}
 use Rattle.wi_sheet.proofs.Bounds.{read_walk, tree_reads, put_formula, put_reads}
 use Rattle.wi_sheet.proofs.Steps.{some_formula, no_walk}
 use Rattle.wi_sheet.proofs.Members.{IsIn, in_contained, contains_in, in_either, of_map, in_flat, of_flat, of_filter, flat_same, found_in, more_pass}

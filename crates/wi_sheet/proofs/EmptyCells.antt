@@ -1,21 +1,6 @@
 -- Cells without a content.
-use Rattle.std.proofs.Common.{◌≡◌, ℕ, Bool, true, false, ◌==◌, Option, Some, None, [], length, refl, sym, ap, ◌∙◌}
+use Rattle.wi_sheet.proofs.Words.{◌≡◌, ℕ, Bool, true, false, ◌==◌, Option, Some, None, [], length, refl, sym, ap, ◌∙◌, list_any, keys_of, is_at, nat_cmp, is_some-lookup, Empty, Content, Sheet, content_of, has_formula, cells_with_formula, circular, has_walk, walker_has_formula, turned, circular_is, value_of, shown}
 use Rattle.std.specs.Prelude.{is_some}
-use Rattle.std.specs.List.{list_any}
-use Rattle.std.specs.Map.{keys_of}
-use Rattle.std.specs.BTreeMap.{is_at}
-use Rattle.std.specs.Ordering.{nat_cmp}
-use Rattle.std.proofs.lemmas.Map.Made.{is_some-lookup}
-use Rattle.wi_values.specs.declared.value.Value.TheVariants.{Empty}
-use Rattle.wi_parser.specs.declared.content.Content.{Content}
-use Rattle.wi_parser.specs.Sheet.{Sheet, content_of, has_formula, cells_with_formula}
-use Rattle.wi_graph.specs.Circular.{circular}
-use Rattle.wi_graph.specs.Inner.Walks.{has_walk}
-use Rattle.wi_graph.proofs.Layers.{walker_has_formula}
-use Rattle.wi_graph.proofs.Tests.{turned}
-use Rattle.wi_graph.proofs.Walks.{circular_is}
-use Rattle.wi_sheet.specs.CellValue.{value_of}
-use Rattle.wi_sheet.specs.Shown.{shown}
 use Rattle.wi_sheet.proofs.Steps.{value_plain, shown_open}
 
 -- such a cell is on no cycle and above none

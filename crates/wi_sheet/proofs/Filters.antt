@@ -1,10 +1,5 @@
 -- Which elements of a list pass a test.
-use Rattle.std.proofs.Common.{◌≡◌, ◌==◌, ℕ, ◌+◌, ◌<◌, ◌≤◌, Bool, true, false, ◌||◌, ◌&&◌, cond, List, [], ◌∷◌, filter, length, take, get_or, refl, ap, sym, ◌∙◌, arith}
-use Rattle.std.proofs.Math.Bool.{and-false, and-true}
-use Rattle.std.proofs.lemmas.List.Folds.{list_any_more}
-use Rattle.std.specs.List.{list_any}
-use Rattle.wi_graph.specs.Reach.{is_one_of}
-use Rattle.wi_graph.proofs.Walks.{same_cell}
+use Rattle.wi_sheet.proofs.Words.{◌≡◌, ◌==◌, ℕ, ◌+◌, ◌<◌, ◌≤◌, Bool, true, false, ◌||◌, ◌&&◌, cond, List, [], ◌∷◌, filter, length, take, get_or, refl, ap, sym, ◌∙◌, arith, and-false, and-true, list_any_more, list_any, is_one_of, same_cell}
 
 -- ---- how many
 

@@ -1,8 +1,5 @@
 -- A list of cells in order, from one of them on.
-use Rattle.std.proofs.Common.{◌≡◌, ℕ, suc, ◌<◌, ◌≤◌, Bool, true, false, cond, List, [], ◌∷◌, length, get_or, filter, Some, None, refl, ap, subst, arith}
-use Rattle.std.specs.Prelude.{nat_le, nat_lt}
-use Rattle.std.specs.List.{find, AllPairs}
-use Rattle.std.proofs.lemmas.Bool.{leb-true, le-leb, lt-ltb, le-ltb}
+use Rattle.wi_sheet.proofs.Words.{◌≡◌, ℕ, suc, ◌<◌, ◌≤◌, Bool, true, false, cond, List, [], ◌∷◌, length, get_or, filter, Some, None, refl, ap, subst, arith, nat_le, nat_lt, find, AllPairs, leb-true, le-leb, lt-ltb, le-ltb}
 
 abbrev Above : ℕ → List ℕ → Type 0
 Above x [] = Unit {0}

@@ -1,12 +1,5 @@
 -- The last replacement for a cell, and what the sheet then has there.
-use Rattle.std.proofs.Common.{◌≡◌, ◌==◌, ℕ, Bool, true, false, cond, List, [], ◌∷◌, Option, Some, None, refl, ap, sym, ◌∙◌}
-use Rattle.std.specs.Option.{option_or}
-use Rattle.wi_values.specs.declared.value.Value.{Value}
-use Rattle.wi_values.specs.declared.replacement.Replacement.{Replacement}
-use Rattle.wi_values.specs.Replacements.{last_for}
-use Rattle.wi_values.proofs.Order.{turn_test}
-use Rattle.wi_parser.specs.declared.content.Content.{Content}
-use Rattle.wi_parser.specs.Sheet.{Sheet, constant, content_of, put_all}
+use Rattle.wi_sheet.proofs.Words.{◌≡◌, ◌==◌, ℕ, Bool, true, false, cond, List, [], ◌∷◌, Option, Some, None, refl, ap, sym, ◌∙◌, option_or, Value, Replacement, last_for, turn_test, Content, Sheet, constant, content_of, put_all}
 use Rattle.wi_sheet.proofs.Puts.{overlaid, content_of-put_all}
 
 -- a content, over which a constant may be put

@@ -32,3 +32,4 @@ pub mod Rectangles
 pub mod PutOrders
 pub mod Inputs
 mod Rows
+pub mod Words

@@ -1,14 +1,5 @@
 -- Nothing is lost where the replacements of a case are limited to those of cells that its cell reaches.
-use Rattle.std.proofs.Common.{◌≡◌, ℕ, Bool, true, false, cond, List, [], ◌∷◌, Option, Some, None, refl, ap, ◌∙◌}
-use Rattle.std.specs.List.{flat_map}
-use Rattle.wi_values.specs.declared.replacement.Replacement.{Replacement}
-use Rattle.wi_values.specs.Replacements.{IsInOrder}
-use Rattle.wi_parser.specs.Tree.{Tree}
-use Rattle.wi_parser.specs.declared.content.Content.{Content}
-use Rattle.wi_parser.specs.declared.content.Content.TheVariants.{Constant, Formula}
-use Rattle.wi_parser.specs.Sheet.{Sheet, content_of, put_all, has_formula}
-use Rattle.wi_graph.specs.Circular.{circular}
-use Rattle.wi_sheet.specs.Demand.{Case, case_of, of_formula, rests_on, demand}
+use Rattle.wi_sheet.proofs.Words.{◌≡◌, ℕ, Bool, true, false, cond, List, [], ◌∷◌, Option, Some, None, refl, ap, ◌∙◌, flat_map, Replacement, IsInOrder, Tree, Content, Constant, Formula, Sheet, content_of, put_all, has_formula, circular, Case, case_of, of_formula, rests_on, demand}
 use Rattle.wi_sheet.proofs.SmallerWorlds.{content_below}
 use Rattle.wi_sheet.proofs.RestsUnder.{rests_stay}
 use Rattle.wi_sheet.proofs.Demands.{demand_by_step, demand_circular, demand_plain}

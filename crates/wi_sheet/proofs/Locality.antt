@@ -1,18 +1,5 @@
 -- What a cell shows rests on what it reaches alone.
-use Rattle.std.proofs.Common.{◌≡◌, ◌==◌, ℕ, zero, suc, ◌+◌, Bool, true, false, cond, List, [], ◌∷◌, filter, Option, length, refl, ap, sym, ◌∙◌, arith}
-use Rattle.wi_values.specs.declared.value.Value.{Value}
-use Rattle.wi_values.specs.declared.value.Value.TheVariants.{Fault}
-use Rattle.wi_values.specs.declared.value.ErrorKind.TheVariants.{Circular}
-use Rattle.wi_values.specs.declared.replacement.Replacement.{Replacement}
-use Rattle.wi_parser.specs.declared.content.Content.{Content}
-use Rattle.wi_parser.specs.Sheet.{Sheet, constant, content_of, put_all, cells_with_formula}
-use Rattle.wi_functions.specs.Meaning.{zero_for_empty}
-use Rattle.wi_graph.specs.Circular.{circular}
-use Rattle.wi_graph.specs.Reach.{Reaches, AgreeFrom}
-use Rattle.wi_graph.proofs.Walks.{same_cell}
-use Rattle.wi_graph.proofs.Agreement.{agree_next, agree_here, circular_same}
-use Rattle.wi_sheet.specs.CellValue.{value_of, replacements, what_if_in, formula_in, value_within, cell_value}
-use Rattle.wi_sheet.specs.Shown.{shown}
+use Rattle.wi_sheet.proofs.Words.{◌≡◌, ◌==◌, ℕ, zero, suc, ◌+◌, Bool, true, false, cond, List, [], ◌∷◌, filter, Option, length, refl, ap, sym, ◌∙◌, arith, Value, Fault, Circular, Replacement, Content, Sheet, constant, content_of, put_all, cells_with_formula, zero_for_empty, circular, Reaches, AgreeFrom, same_cell, agree_next, agree_here, circular_same, value_of, replacements, what_if_in, formula_in, value_within, cell_value, shown}
 use Rattle.wi_sheet.proofs.Puts.{overlaid, content_of-put_all}
 use Rattle.wi_sheet.proofs.Meanings.{meaning_same, replacements_same}
 use Rattle.wi_sheet.proofs.Bounds.{same_formula, bound_not_felt, tree_reads}

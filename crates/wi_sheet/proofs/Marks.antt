@@ -1,16 +1,5 @@
 -- Cells without a formula that are not edited reach no edited one. What calculators mark: a cone, or all cells with a formula.
-use Rattle.std.proofs.Common.{◌≡◌, ◌⊎◌, inl, inr, ◌==◌, ◌||◌, ◌++◌, ℕ, Bool, true, false, List, [], ◌∷◌, Option, refl, ap, subst, sym, ◌∙◌}
-use Rattle.std.proofs.lemmas.Bool.{cases_Bool, or_cases, or_left, or_right, false_from_ne_true}
-use Rattle.std.proofs.lemmas.List.Folds.{list_any-append}
-use Rattle.wi_parser.specs.declared.content.Content.{Content}
-use Rattle.wi_parser.specs.Sheet.{Sheet, content_of, has_formula, cells_with_formula}
-use Rattle.wi_graph.specs.Reach.{is_one_of, SameOff, in_cone}
-use Rattle.wi_graph.proofs.Tests.{clash}
-use Rattle.wi_graph.proofs.Layers.{in_layer, layer_zero}
-use Rattle.wi_graph.proofs.Walks.{reader_formula, same_cell}
-use Rattle.wi_graph.proofs.ReachTest.{not_in_cone}
-use Rattle.wi_graph.proofs.Cones.{cone_closed, cone_least, outside_reaches}
-use Rattle.wi_sheet.specs.Unmoved.{IsUnmoved, IsMarking}
+use Rattle.wi_sheet.proofs.Words.{◌≡◌, ◌⊎◌, inl, inr, ◌==◌, ◌||◌, ◌++◌, ℕ, Bool, true, false, List, [], ◌∷◌, Option, refl, ap, subst, sym, ◌∙◌, cases_Bool, or_cases, or_left, or_right, false_from_ne_true, list_any-append, Content, Sheet, content_of, has_formula, cells_with_formula, is_one_of, SameOff, in_cone, clash, in_layer, layer_zero, reader_formula, same_cell, not_in_cone, cone_closed, cone_least, outside_reaches, IsUnmoved, IsMarking}
 use Rattle.wi_sheet.proofs.Cones.{outside_unmoved}
 
 -- a cell is among those with a formula exactly where it has one

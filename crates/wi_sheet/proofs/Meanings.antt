@@ -1,27 +1,5 @@
 -- A formula's meaning rests on the cells that it reads alone.
-use Rattle.std.proofs.Common.{◌≡◌, ◌==◌, ℕ, Bool, true, false, ◌||◌, cond, List, [], ◌∷◌, map, Option, Some, option_map, refl, ap, ap₂, sym, ◌∙◌, eq-eqb}
-use Rattle.std.proofs.lemmas.Bool.{or_left, or_right}
-use Rattle.std.proofs.lemmas.List.Folds.{list_any-append}
-use Rattle.std.specs.List.{list_any}
-use Rattle.wi_values.proofs.Corners.{corners_may_turn}
-use Rattle.wi_values.specs.declared.value.ErrorKind.TheVariants.{BadValue}
-use Rattle.wi_values.specs.declared.value.Value.{Value}
-use Rattle.wi_values.specs.declared.value.Value.TheVariants.{Fault}
-use Rattle.wi_values.specs.declared.replacement.Replacement.{Replacement}
-use Rattle.wi_parser.specs.declared.expr.Operator.{Operator}
-use Rattle.wi_parser.specs.declared.expr.Reference.{Reference}
-use Rattle.wi_parser.specs.Tree.{Tree, number, text, cell, rectangle, parenthesized, signed, percent, binary, what_if, call, Trees, no_trees, more_trees}
-use Rattle.wi_parser.specs.Leaves.{Leaf, cell_leaf, rectangle_leaf, what_if_leaf, leaves, all_leaves}
-use Rattle.wi_parser.specs.Reads.{cell_area, area_of, leaf_reads, reads}
-use Rattle.wi_parser.proofs.Rectangles.{one_cell}
-use Rattle.wi_functions.specs.Operators.{operate, with_sign}
-use Rattle.wi_functions.specs.Inner.Named.{hundredth, is_one_cell}
-use Rattle.wi_standard_functions.specs.Arguments.{Region, Argument, region_of}
-use Rattle.wi_standard_functions.specs.Functions.{call_value}
-use Rattle.wi_arguments.proofs.RowMajor.{region_same}
-use Rattle.wi_functions.specs.Meaning.{meaning, arguments, referred}
-use Rattle.wi_arguments.specs.Assignment.{addresses}
-use Rattle.wi_sheet.specs.CellValue.{replacements}
+use Rattle.wi_sheet.proofs.Words.{◌≡◌, ◌==◌, ℕ, Bool, true, false, ◌||◌, cond, List, [], ◌∷◌, map, Option, Some, option_map, refl, ap, ap₂, sym, ◌∙◌, eq-eqb, or_left, or_right, list_any-append, list_any, corners_may_turn, BadValue, Value, Fault, Replacement, Operator, Reference, Tree, number, text, cell, rectangle, parenthesized, signed, percent, binary, what_if, call, Trees, no_trees, more_trees, Leaf, cell_leaf, rectangle_leaf, what_if_leaf, leaves, all_leaves, cell_area, area_of, leaf_reads, reads, one_cell, operate, with_sign, hundredth, is_one_cell, Region, Argument, region_of, call_value, region_same, meaning, arguments, referred, addresses, replacements}
 
 -- a what-if that reads no more than a tree does
 abbrev pub ReadsNoMore : ℕ → List (ℕ × ℕ) → Tree → Type 0

@@ -1,7 +1,5 @@
 -- What is in a list, and in lists made of it.
-use Rattle.std.proofs.Common.{◌≡◌, ◌<◌, ◌⊎◌, inl, inr, ℕ, zero, suc, Bool, true, false, cond, List, [], ◌∷◌, ◌++◌, filter, map, length, get_or, Any, Contains, refl, ap, sym, ◌∙◌, subst, arith}
-use Rattle.std.specs.List.{list_any, flat_map}
-use Rattle.std.proofs.lemmas.List.Folds.{Any-from_list_any, list_any_at}
+use Rattle.wi_sheet.proofs.Words.{◌≡◌, ◌<◌, ◌⊎◌, inl, inr, ℕ, zero, suc, Bool, true, false, cond, List, [], ◌∷◌, ◌++◌, filter, map, length, get_or, Any, Contains, refl, ap, sym, ◌∙◌, subst, arith, list_any, flat_map, Any-from_list_any, list_any_at}
 
 -- by recursion on the list
 abbrev pub IsIn : {X : Type 0} → List X → X → Type 0

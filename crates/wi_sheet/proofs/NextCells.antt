@@ -1,15 +1,5 @@
 -- A search through the occupied cells of a rectangle, from one to the next.
-use Rattle.std.proofs.Common.{◌≡◌, ℕ, suc, ◌+◌, ◌-◌, ◌<◌, ◌≤◌, Bool, true, false, ◌||◌, cond, List, [], ◌∷◌, ◌++◌, filter, take, Option, Some, None, IfSome, IfNone, refl, sym, ap, ◌∙◌, arith, append_assoc, append-nil}
-use Rattle.std.specs.Prelude.{nat_le}
-use Rattle.std.specs.List.{find, list_any}
-use Rattle.std.specs.List.Sorted.{IsStrictlyIncreasing}
-use Rattle.std.specs.Map.{keys_of}
-use Rattle.std.proofs.Math.Seq.{take-nil}
-use Rattle.std.proofs.lemmas.List.Folds.{list_any-append}
-use Rattle.std.proofs.lemmas.List.Kept.{AllPairs-from_increasing, IsStrictlyIncreasing-filter}
-use Rattle.wi_values.specs.Address.{Area, is_within}
-use Rattle.wi_parser.specs.Sheet.{Sheet}
-use Rattle.wi_sheet.specs.Inner.ReadCells.{is_after, cells_after, occupied_within}
+use Rattle.wi_sheet.proofs.Words.{◌≡◌, ℕ, suc, ◌+◌, ◌-◌, ◌<◌, ◌≤◌, Bool, true, false, ◌||◌, cond, List, [], ◌∷◌, ◌++◌, filter, take, Option, Some, None, IfSome, IfNone, refl, sym, ap, ◌∙◌, arith, append_assoc, append-nil, nat_le, find, list_any, IsStrictlyIncreasing, keys_of, take-nil, list_any-append, AllPairs-from_increasing, IsStrictlyIncreasing-filter, Area, is_within, Sheet, is_after, cells_after, occupied_within}
 use Rattle.wi_sheet.proofs.Filters.{alike_within, all_pass, all_fail}
 use Rattle.wi_sheet.proofs.InOrder.{from_first, none_pass}
 

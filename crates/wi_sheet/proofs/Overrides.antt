@@ -1,21 +1,5 @@
 -- Replacements that others override.
-use Rattle.std.proofs.Common.{◌≡◌, ℕ, List, [], ◌∷◌, Option, Some, None, refl, ap, sym, ◌∙◌}
-use Rattle.std.specs.Option.{option_or}
-use Rattle.std.specs.Ordering.{nat_cmp}
-use Rattle.std.specs.Map.{lookup}
-use Rattle.std.specs.BTreeMap.{is_at, insert_entry}
-use Rattle.wi_values.specs.declared.value.Value.{Value}
-use Rattle.wi_values.specs.declared.replacement.Replacement.{Replacement}
-use Rattle.wi_values.specs.Replacements.{IsInOrder, as_map, replaced, overridden, last_for}
-use Rattle.wi_values.proofs.Order.{Ascends, Ascends-insert, Ascends-from_order, order-from_Ascends}
-use Rattle.wi_values.proofs.Replacements.InOrder.{sorted_from_order, order_from_entries}
-use Rattle.wi_values.proofs.Replacements.Filtering.{order_of_filter}
-use Rattle.wi_values.proofs.Replacements.Overriding.{overridden-nothing, lookup-overridden}
-use Rattle.wi_parser.specs.Sheet.{Sheet, content_of, put_all}
-use Rattle.wi_graph.specs.Reach.{Reaches, reaches}
-use Rattle.wi_graph.proofs.ReachTest.{true_reaches}
-use Rattle.wi_sheet.specs.CellValue.{replacements, cell_value, what_if_value}
-use Rattle.wi_sheet.specs.Demand.{reaching, puts_of, with_what_if}
+use Rattle.wi_sheet.proofs.Words.{◌≡◌, ℕ, List, [], ◌∷◌, Option, Some, None, refl, ap, sym, ◌∙◌, option_or, nat_cmp, lookup, is_at, insert_entry, Value, Replacement, IsInOrder, as_map, replaced, overridden, last_for, Ascends, Ascends-insert, Ascends-from_order, order-from_Ascends, sorted_from_order, order_from_entries, order_of_filter, overridden-nothing, lookup-overridden, Sheet, content_of, put_all, Reaches, reaches, true_reaches, replacements, cell_value, what_if_value, reaching, puts_of, with_what_if}
 use Rattle.wi_sheet.proofs.Last.{over, over_both, content_by_last}
 use Rattle.wi_sheet.proofs.Agreement.{agree_put_both}
 use Rattle.wi_sheet.proofs.Locality.{value_same, others_do_not_count}

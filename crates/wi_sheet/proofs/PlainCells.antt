@@ -1,13 +1,5 @@
 -- Cells without a formula, and cells that are replaced.
-use Rattle.std.proofs.Common.{◌≡◌, ℕ, false, Option, refl, ap, ◌∙◌}
-use Rattle.std.proofs.lemmas.Bool.{false_from_ne_true}
-use Rattle.wi_values.specs.declared.value.Value.{Value}
-use Rattle.wi_values.specs.declared.value.Value.TheVariants.{Empty, Number, Text, Logical, Fault}
-use Rattle.wi_parser.specs.declared.content.Content.{Content}
-use Rattle.wi_parser.specs.Sheet.{Sheet, constant, content_of, has_formula}
-use Rattle.wi_graph.specs.Circular.{circular}
-use Rattle.wi_graph.proofs.Walks.{circular_walks}
-use Rattle.wi_sheet.specs.CellValue.{value_of, cell_value}
+use Rattle.wi_sheet.proofs.Words.{◌≡◌, ℕ, false, Option, refl, ap, ◌∙◌, false_from_ne_true, Value, Empty, Number, Text, Logical, Fault, Content, Sheet, constant, content_of, has_formula, circular, circular_walks, value_of, cell_value}
 use Rattle.wi_sheet.proofs.Puts.{plain}
 use Rattle.wi_sheet.proofs.Steps.{value_plain}
 

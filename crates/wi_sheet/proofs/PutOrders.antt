@@ -1,10 +1,5 @@
 -- What replacements put into a cell.
-use Rattle.std.proofs.Common.{◌≡◌, ℕ, List, Option, Some, None, IfSome, IfNone, Bor, ap, sym, ◌∙◌}
-use Rattle.std.specs.Option.{option_copied}
-use Rattle.wi_values.specs.declared.value.Value.{Value}
-use Rattle.wi_values.specs.declared.replacement.Replacement.{Replacement}
-use Rattle.wi_values.specs.Replacements.{IsInOrder, replaced}
-use Rattle.wi_parser.specs.Sheet.{Sheet, constant, content_of, put_all}
+use Rattle.wi_sheet.proofs.Words.{◌≡◌, ℕ, List, Option, Some, None, IfSome, IfNone, Bor, ap, sym, ◌∙◌, option_copied, Value, Replacement, IsInOrder, replaced, Sheet, constant, content_of, put_all}
 use Rattle.wi_sheet.proofs.Last.{over}
 use Rattle.wi_sheet.proofs.Overrides.{content_in_order}
 

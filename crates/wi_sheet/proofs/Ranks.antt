@@ -1,16 +1,8 @@
 -- Ranks fall along reads.
-use Rattle.std.proofs.Common.{◌≡◌, ◌<◌, ◌≤◌, ◌+◌, ◌*◌, ℕ, zero, suc, Bool, true, false, length, refl, sym, ◌∙◌, arith, if◌then◌else◌}
-use Rattle.wi_parser.specs.Sheet.{Sheet, content_of, has_formula, cells_with_formula}
-use Rattle.wi_parser.specs.Reads.{content_reads}
-use Rattle.wi_graph.specs.Circular.{circular}
-use Rattle.wi_graph.specs.Inner.Walks.{has_walk}
-use Rattle.wi_graph.proofs.Walks.{step, reader_formula, circular_is}
-use Rattle.wi_sheet.specs.Demand.{Case, rests_on}
-use Rattle.wi_sheet.specs.Inner.Spending.{RestsOn}
+use Rattle.wi_sheet.proofs.Words.{◌≡◌, ◌<◌, ◌≤◌, ◌+◌, ◌*◌, ℕ, zero, suc, Bool, true, false, length, refl, sym, ◌∙◌, arith, if◌then◌else◌, Sheet, content_of, has_formula, cells_with_formula, content_reads, circular, has_walk, step, reader_formula, circular_is, Case, rests_on, RestsOn, lengths_below, reach_rank}
 use Rattle.wi_sheet.proofs.Bounds.{put_formula}
 use Rattle.wi_sheet.proofs.Members.{in_contained}
 use Rattle.wi_sheet.proofs.Demands.{rests_reads}
-use Rattle.wi_sheet.specs.Inner.Rank.{lengths_below, reach_rank}
 
 one_if : (b c : Bool) → (b ≡ true → c ≡ true) → (if b then 1 else 0) ≤ (if c then 1 else 0)
 one_if true true f = omega arith

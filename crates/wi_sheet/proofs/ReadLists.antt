@@ -1,19 +1,5 @@
 -- The occupied cells that a formula reads, as a list.
-use Rattle.std.proofs.Common.{◌≡◌, ◌==◌, ℕ, ◌||◌, ◌&&◌, Bool, true, false, List, [], ◌∷◌, filter, Option, Some, None, refl, ap, sym, ◌∙◌}
-use Rattle.std.proofs.lemmas.Bool.{and_parts}
-use Rattle.std.proofs.lemmas.List.Folds.{list_any-append}
-use Rattle.std.proofs.Math.Bool.{and-true}
-use Rattle.std.specs.List.{list_any, flat_map}
-use Rattle.std.specs.Map.{keys_of}
-use Rattle.wi_values.specs.Address.{Area, is_within}
-use Rattle.wi_parser.specs.declared.content.Content.TheVariants.{Constant, Formula}
-use Rattle.wi_parser.specs.declared.content.Content.{Content}
-use Rattle.wi_parser.specs.Sheet.{Sheet, content_of, has_formula}
-use Rattle.wi_parser.specs.Reads.{content_reads, rectangles_of}
-use Rattle.wi_parser.proofs.Rectangles.{reads_within}
-use Rattle.wi_graph.proofs.Layers.{is_one_of}
-use Rattle.wi_graph.proofs.Walks.{formula_cell}
-use Rattle.wi_sheet.specs.Inner.ReadCells.{rectangles_in, occupied_within}
+use Rattle.wi_sheet.proofs.Words.{◌≡◌, ◌==◌, ℕ, ◌||◌, ◌&&◌, Bool, true, false, List, [], ◌∷◌, filter, Option, Some, None, refl, ap, sym, ◌∙◌, and_parts, list_any-append, and-true, list_any, flat_map, keys_of, Area, is_within, Constant, Formula, Content, Sheet, content_of, has_formula, content_reads, rectangles_of, reads_within, is_one_of, formula_cell, rectangles_in, occupied_within}
 use Rattle.wi_sheet.proofs.Filters.{in_filter}
 
 shared : (x y m : Bool) → ((x && m) || (y && m)) ≡ ((x || y) && m)

@@ -1,15 +1,5 @@
 -- Orders in which cells with a formula are read.
-use Rattle.std.proofs.Common.{◌≡◌, ◌==◌, ℕ, Bool, true, false, List, [], ◌∷◌, ◌++◌, refl, ap, sym, ◌∙◌, subst, append_assoc, inl, inr, ◌⊎◌}
-use Rattle.std.proofs.lemmas.Bool.{or_cases}
-use Rattle.std.proofs.lemmas.List.Folds.{list_any-append}
-use Rattle.wi_parser.specs.Sheet.{Sheet, content_of, has_formula}
-use Rattle.wi_parser.specs.Reads.{content_reads}
-use Rattle.wi_graph.specs.Circular.{circular}
-use Rattle.wi_graph.specs.Reach.{is_one_of}
-use Rattle.wi_graph.proofs.Walks.{same_cell}
-use Rattle.wi_graph.proofs.Graphs.{stripped}
-use Rattle.wi_graph.proofs.Ends.{ends_open}
-use Rattle.wi_sheet.specs.Inner.ReadOrder.{IsReadOrder, MayFollow}
+use Rattle.wi_sheet.proofs.Words.{◌≡◌, ◌==◌, ℕ, Bool, true, false, List, [], ◌∷◌, ◌++◌, refl, ap, sym, ◌∙◌, subst, append_assoc, inl, inr, ◌⊎◌, or_cases, list_any-append, Sheet, content_of, has_formula, content_reads, circular, is_one_of, same_cell, stripped, ends_open, IsReadOrder, MayFollow}
 
 -- a list with one cell more, cut before a cell: before the last, or before another
 last_cut : (xs : List ℕ) (x : ℕ) (front back : List ℕ) (c : ℕ) → xs ++ x ∷ [] ≡ front ++ c ∷ back → ((xs ≡ front) × (x ≡ c)) ⊎ ((rest : List ℕ) × (xs ≡ front ++ c ∷ rest))

@@ -1,17 +1,5 @@
 -- The rectangles that a formula reads, their corners, and what of them is read as the sheet stands.
-use Rattle.std.proofs.Common.{◌≡◌, ℕ, ◌<◌, ◌≤◌, ◌&&◌, Bool, true, min, max, List, Contains, sym, ap, ◌∙◌, subst, inl, inr, ◌⊎◌, arith}
-use Rattle.std.specs.Prelude.{nat_le}
-use Rattle.std.specs.List.{list_any}
-use Rattle.std.proofs.lemmas.Bool.{and_parts, and_from, leb-true, le-leb}
-use Rattle.wi_values.specs.Address.{Area, place, row_of, column_of, is_within, rect_of}
-use Rattle.wi_values.proofs.Within.{row_of_place, column_of_place}
-use Rattle.wi_parser.specs.declared.expr.Reference.{Reference}
-use Rattle.wi_parser.specs.Tree.{Tree}
-use Rattle.wi_parser.specs.Leaves.{Leaf, cell_leaf, rectangle_leaf, what_if_leaf, leaves}
-use Rattle.wi_parser.specs.Reads.{cell_area, leaf_rectangles, rectangles_of}
-use Rattle.wi_parser.proofs.Rectangles.{one_cell, reads_within}
-use Rattle.wi_graph.proofs.Walks.{same_cell}
-use Rattle.wi_sheet.specs.Demand.{leaf_reads_here, reads_here}
+use Rattle.wi_sheet.proofs.Words.{◌≡◌, ℕ, ◌<◌, ◌≤◌, ◌&&◌, Bool, true, min, max, List, Contains, sym, ap, ◌∙◌, subst, inl, inr, ◌⊎◌, arith, nat_le, list_any, and_parts, and_from, leb-true, le-leb, Area, place, row_of, column_of, is_within, rect_of, row_of_place, column_of_place, Reference, Tree, Leaf, cell_leaf, rectangle_leaf, what_if_leaf, leaves, cell_area, leaf_rectangles, rectangles_of, one_cell, reads_within, same_cell, leaf_reads_here, reads_here}
 use Rattle.wi_sheet.proofs.Demands.{here_reads}
 use Rattle.wi_sheet.proofs.Members.{IsIn, in_contained, of_map, of_flat, found_in}
 

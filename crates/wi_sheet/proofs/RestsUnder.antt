@@ -1,15 +1,5 @@
 -- What a formula's value rests on, under those replacements alone of cells that its cell reaches.
-use Rattle.std.proofs.Common.{◌≡◌, ◌==◌, ℕ, true, List, ◌++◌, map, Some, ap, ◌∙◌}
-use Rattle.std.specs.List.{list_any}
-use Rattle.wi_values.specs.declared.replacement.Replacement.{Replacement}
-use Rattle.wi_values.specs.Replacements.{IsInOrder}
-use Rattle.wi_parser.specs.declared.content.Content.TheVariants.{Formula}
-use Rattle.wi_parser.specs.Tree.{Tree}
-use Rattle.wi_parser.specs.Sheet.{Sheet, content_of, put_all, cells_with_formula}
-use Rattle.wi_parser.specs.Reads.{reads}
-use Rattle.wi_graph.specs.Reach.{reaches}
-use Rattle.wi_graph.proofs.ReachSteps.{reaches_read}
-use Rattle.wi_sheet.specs.Demand.{Case, case_of, reaching, what_if_case, what_ifs_of, reads_here, formulas_read_here, rests_on}
+use Rattle.wi_sheet.proofs.Words.{◌≡◌, ◌==◌, ℕ, true, List, ◌++◌, map, Some, ap, ◌∙◌, list_any, Replacement, IsInOrder, Formula, Tree, Sheet, content_of, put_all, cells_with_formula, reads, reaches, reaches_read, Case, case_of, reaching, what_if_case, what_ifs_of, reads_here, formulas_read_here, rests_on}
 use Rattle.wi_sheet.proofs.Bounds.{put_reads, tree_reads}
 use Rattle.wi_sheet.proofs.SmallerWorlds.{reaching_below, content_below, what_if_below}
 use Rattle.wi_sheet.proofs.Members.{contains_in, of_filter, map_same}

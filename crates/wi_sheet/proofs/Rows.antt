@@ -1,21 +1,5 @@
 -- Sheets worked by hand.
-use Rattle.std.proofs.Common.{◌≡◌, ℕ, true, false, [], ◌∷◌, List, refl, codes}
-use Rattle.std.specs.Prelude.{⊤}
-use Rattle.wi_values.specs.Address.{place}
-use Rattle.wi_values.specs.Value.{shown_text}
-use Rattle.wi_values.specs.declared.value.Value.TheVariants.{Text, Fault}
-use Rattle.wi_values.specs.declared.value.ErrorKind.TheVariants.{Circular}
-use Rattle.wi_values.specs.declared.replacement.Replacement.{Replacement}
-use Rattle.wi_parser.specs.declared.expr.Reference.{Reference}
-use Rattle.wi_parser.specs.declared.expr.Operator.TheVariants.{Join}
-use Rattle.wi_parser.specs.declared.content.Content.TheVariants.{Constant, Formula}
-use Rattle.wi_parser.specs.Tree.{Tree, text, cell, binary, what_if}
-use Rattle.wi_parser.specs.Sheet.{Sheet}
-use Rattle.wi_graph.specs.Circular.{circular}
-use Rattle.wi_graph.specs.Reach.{reaches, in_cone}
-use Rattle.wi_sheet.specs.CellValue.{value_within, cell_value}
-use Rattle.wi_sheet.specs.Shown.{shown}
-use Rattle.wi_sheet.specs.Demand.{reaching, demand_within, demand}
+use Rattle.wi_sheet.proofs.Words.{◌≡◌, ℕ, true, false, [], ◌∷◌, List, refl, codes, ⊤, place, shown_text, Text, Fault, Circular, Replacement, Reference, Join, Constant, Formula, Tree, text, cell, binary, what_if, Sheet, circular, reaches, in_cone, value_within, cell_value, shown, reaching, demand_within, demand}
 
 -- what is unfolded to compute on a sheet that is written out
 unfoldable on_literals : ⊤

@@ -1,11 +1,5 @@
 -- With more that is kept, what was settled is, and what rested on kept values does.
-use Rattle.std.proofs.Common.{◌≡◌, inl, inr, ℕ, true, List, All}
-use Rattle.std.proofs.lemmas.List.Elements.{All-weaker}
-use Rattle.wi_values.specs.declared.replacement.Replacement.{Replacement}
-use Rattle.wi_parser.specs.Sheet.{Sheet}
-use Rattle.wi_sheet.specs.Demand.{Case, reaching, with_what_if}
-use Rattle.wi_sheet.specs.Settled.{IsSettled, IsWhatIfSettled, RestsOnKept}
-use Rattle.wi_sheet.specs.Inner.Spending.{Table}
+use Rattle.wi_sheet.proofs.Words.{◌≡◌, inl, inr, ℕ, true, List, All, All-weaker, Replacement, Sheet, Case, reaching, with_what_if, IsSettled, IsWhatIfSettled, RestsOnKept, Table}
 
 module _ (s : Sheet) (kept more : Table) (grows : (c : ℕ) (w : List Replacement) → kept c w ≡ true → more c w ≡ true) where
   pub settled_more : (w : List Replacement) (c : ℕ) → IsSettled s kept w c → IsSettled s more w c

@@ -1,18 +1,5 @@
 -- What is left of replacements where those of cells that a cell does not reach are left out.
-use Rattle.std.proofs.Common.{◌≡◌, ◌==◌, ℕ, Bool, true, false, cond, List, [], ◌∷◌, filter, Option, None, refl, ap, sym, ◌∙◌}
-use Rattle.std.specs.List.{list_any}
-use Rattle.std.specs.Option.{option_or}
-use Rattle.wi_values.specs.declared.value.Value.{Value}
-use Rattle.wi_values.specs.declared.replacement.Replacement.{Replacement}
-use Rattle.wi_values.specs.Replacements.{IsInOrder, replaced, last_for}
-use Rattle.wi_values.proofs.Replacements.InOrder.{same_from_replaced}
-use Rattle.wi_values.proofs.Replacements.Filtering.{replaced-filter}
-use Rattle.wi_parser.specs.Sheet.{Sheet, content_of, put_all}
-use Rattle.wi_graph.specs.Reach.{reaches}
-use Rattle.wi_graph.proofs.ReachTest.{true_reaches}
-use Rattle.wi_graph.proofs.ReachSteps.{reaches_here, reaches_on}
-use Rattle.wi_sheet.specs.CellValue.{replacements, cell_value}
-use Rattle.wi_sheet.specs.Demand.{reaching, with_what_if}
+use Rattle.wi_sheet.proofs.Words.{◌≡◌, ◌==◌, ℕ, Bool, true, false, cond, List, [], ◌∷◌, filter, Option, None, refl, ap, sym, ◌∙◌, list_any, option_or, Value, Replacement, IsInOrder, replaced, last_for, same_from_replaced, replaced-filter, Sheet, content_of, put_all, reaches, true_reaches, reaches_here, reaches_on, replacements, cell_value, reaching, with_what_if}
 use Rattle.wi_sheet.proofs.Puts.{content_of-put_all}
 use Rattle.wi_sheet.proofs.Meanings.{replacements_same}
 use Rattle.wi_sheet.proofs.Locality.{keeps_those, others_do_not_count}

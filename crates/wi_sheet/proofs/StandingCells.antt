@@ -1,17 +1,5 @@
 -- Cells that are not replaced.
-use Rattle.std.proofs.Common.{◌≡◌, ◌==◌, ◌||◌, ℕ, Bool, true, false, cond, List, [], ◌∷◌, Option, Some, None, is_some, Bor, refl, ap, sym, ◌∙◌, arith}
-use Rattle.std.proofs.lemmas.Bool.Decides.{nat_tests}
-use Rattle.std.specs.List.{list_any}
-use Rattle.std.specs.Option.{option_or, option_copied}
-use Rattle.wi_values.specs.declared.value.Value.{Value}
-use Rattle.wi_values.specs.declared.value.Value.TheVariants.{Empty}
-use Rattle.wi_values.specs.declared.replacement.Replacement.{Replacement}
-use Rattle.wi_values.specs.Replacements.{last_for, replaced}
-use Rattle.wi_parser.specs.declared.content.Content.{Content}
-use Rattle.wi_parser.specs.Sheet.{Sheet, content_of, put_all, has_formula}
-use Rattle.wi_graph.specs.Circular.{circular}
-use Rattle.wi_sheet.specs.CellValue.{value_of}
-use Rattle.wi_sheet.specs.Shown.{shown}
+use Rattle.wi_sheet.proofs.Words.{◌≡◌, ◌==◌, ◌||◌, ℕ, Bool, true, false, cond, List, [], ◌∷◌, Option, Some, None, is_some, Bor, refl, ap, sym, ◌∙◌, arith, nat_tests, list_any, option_or, option_copied, Value, Empty, Replacement, last_for, replaced, Content, Sheet, content_of, put_all, has_formula, circular, value_of, shown}
 use Rattle.wi_sheet.proofs.Last.{over, content_by_last}
 use Rattle.wi_sheet.proofs.Steps.{put_not_circular, value_plain, shown_open}
 

@@ -1,21 +1,5 @@
 -- A cell's value by one step, with no bound in sight.
-use Rattle.std.proofs.Common.{◌≡◌, ◌==◌, ℕ, zero, suc, ◌<◌, Bool, true, false, cond, List, [], ◌∷◌, Some, length, refl, ap, sym, ◌∙◌, subst, arith}
-use Rattle.std.proofs.lemmas.Bool.{false_from_ne_true}
-use Rattle.std.specs.List.{list_any}
-use Rattle.wi_values.specs.declared.value.Value.{Value}
-use Rattle.wi_values.specs.declared.value.Value.TheVariants.{Empty, Fault}
-use Rattle.wi_values.specs.declared.value.ErrorKind.TheVariants.{Circular}
-use Rattle.wi_values.specs.declared.replacement.Replacement.{Replacement}
-use Rattle.wi_parser.specs.Tree.{Tree}
-use Rattle.wi_parser.specs.declared.content.Content.TheVariants.{Formula}
-use Rattle.wi_parser.specs.Sheet.{Sheet, content_of, put_all, has_formula, cells_with_formula}
-use Rattle.wi_parser.specs.Reads.{content_reads}
-use Rattle.wi_functions.specs.Meaning.{meaning, zero_for_empty}
-use Rattle.wi_graph.specs.Circular.{circular}
-use Rattle.wi_graph.specs.Inner.Walks.{has_walk}
-use Rattle.wi_graph.proofs.Walks.{step, circular_walks, walks_circular, circular_is, formula_cell, reader_formula}
-use Rattle.wi_sheet.specs.CellValue.{value_of, replacements, what_if_in, formula_in, value_within, cell_value, what_if_value}
-use Rattle.wi_sheet.specs.Shown.{shown}
+use Rattle.wi_sheet.proofs.Words.{◌≡◌, ◌==◌, ℕ, zero, suc, ◌<◌, Bool, true, false, cond, List, [], ◌∷◌, Some, length, refl, ap, sym, ◌∙◌, subst, arith, false_from_ne_true, list_any, Value, Empty, Fault, Circular, Replacement, Tree, Formula, Sheet, content_of, put_all, has_formula, cells_with_formula, content_reads, meaning, zero_for_empty, circular, has_walk, step, circular_walks, walks_circular, circular_is, formula_cell, reader_formula, value_of, replacements, what_if_in, formula_in, value_within, cell_value, what_if_value, shown}
 use Rattle.wi_sheet.proofs.Meanings.{meaning_same, replacements_same}
 use Rattle.wi_sheet.proofs.Bounds.{put_walk, put_formulas, bound_not_felt, bound_same, tree_reads, read_walk, put_no_walk, circular_value, plain_value}
 

@@ -1,21 +1,5 @@
 -- What an entry of a data table demands.
-use Rattle.std.proofs.Common.{◌≡◌, inl, inr, ℕ, zero, suc, arith, All, Bool, true, false, ◌<◌, ◌||◌, cond, List, [], ◌∷◌, ◌++◌, get_or, length, map, Contains, refl, ap, sym, subst, ◌∙◌}
-use Rattle.std.proofs.lemmas.Bool.{or_parts}
-use Rattle.std.specs.List.{list_any, flat_map}
-use Rattle.std.proofs.lemmas.List.Folds.{list_any_none}
-use Rattle.wi_values.specs.declared.value.Value.{Value}
-use Rattle.wi_values.specs.Replacements.{IsInOrder}
-use Rattle.wi_values.specs.declared.value.Value.TheVariants.{Fault}
-use Rattle.wi_values.specs.declared.value.ErrorKind.TheVariants.{Circular}
-use Rattle.wi_values.specs.declared.replacement.Replacement.{Replacement}
-use Rattle.wi_values.proofs.Lists.{each_fails}
-use Rattle.wi_parser.specs.Sheet.{Sheet, content_of, put_all, has_formula}
-use Rattle.wi_functions.specs.Meaning.{zero_for_empty}
-use Rattle.wi_graph.specs.Circular.{circular}
-use Rattle.wi_sheet.specs.CellValue.{cell_value, what_if_value}
-use Rattle.wi_sheet.specs.Demand.{Case, case_of, with_what_if, demand, different}
-use Rattle.wi_sheet.specs.Inner.Spending.{HasEntry, IsClosed}
-use Rattle.wi_sheet.specs.TableEntry.{asks_circular, table_entry, open_demand, table_demand, entry_demanded}
+use Rattle.wi_sheet.proofs.Words.{◌≡◌, inl, inr, ℕ, zero, suc, arith, All, Bool, true, false, ◌<◌, ◌||◌, cond, List, [], ◌∷◌, ◌++◌, get_or, length, map, Contains, refl, ap, sym, subst, ◌∙◌, or_parts, list_any, flat_map, list_any_none, Value, IsInOrder, Fault, Circular, Replacement, each_fails, Sheet, content_of, put_all, has_formula, zero_for_empty, circular, cell_value, what_if_value, Case, case_of, with_what_if, demand, different, HasEntry, IsClosed, asks_circular, table_entry, open_demand, table_demand, entry_demanded}
 use Rattle.wi_sheet.proofs.Members.{IsIn, in_contained, contains_in, in_left, in_right, in_either, in_flat, of_flat}
 use Rattle.wi_sheet.proofs.SmallerWorlds.{content_below}
 use Rattle.wi_sheet.proofs.Demands.{demand_closed, demand_has_itself}

@@ -1,22 +1,5 @@
 -- What an evaluation asks for is demanded.
-use Rattle.std.proofs.Common.{◌≡◌, ◌==◌, ◌||◌, inl, inr, ℕ, Bool, true, false, List, [], ◌∷◌, map, Some, Contains, refl, ap, sym, ◌∙◌, eq-eqb}
-use Rattle.std.specs.List.{list_any}
-use Rattle.std.specs.Global.{Vec}
-use Rattle.wi_values.specs.declared.replacement.Replacement.{Replacement}
-use Rattle.wi_parser.specs.declared.expr.Pair.{Pair}
-use Rattle.wi_parser.specs.declared.expr.Reference.{Reference}
-use Rattle.wi_parser.specs.declared.content.Content.TheVariants.{Formula}
-use Rattle.wi_parser.specs.Tree.{Tree}
-use Rattle.wi_parser.specs.Leaves.{Leaf, cell_leaf, rectangle_leaf, what_if_leaf, leaves}
-use Rattle.wi_parser.specs.View.{pair_of}
-use Rattle.wi_parser.specs.Sheet.{Sheet, content_of, put_all, has_formula, cells_with_formula}
-use Rattle.wi_arguments.specs.Assignment.{addresses}
-use Rattle.wi_functions.specs.Wants.{LeafAsks, Asks}
-use Rattle.wi_functions.specs.declared.evaluation.Want.TheVariants.{Cell, WhatIf}
-use Rattle.wi_graph.proofs.Layers.{is_one_of}
-use Rattle.wi_graph.proofs.Walks.{same_cell, formula_cell}
-use Rattle.wi_sheet.specs.Demand.{Case, reaching, case_of, with_what_if, leaf_what_ifs, what_ifs_of, leaf_reads_here, reads_here, formulas_read_here, rests_on}
-use Rattle.wi_sheet.specs.Inner.Spending.{RestsOn}
+use Rattle.wi_sheet.proofs.Words.{◌≡◌, ◌==◌, ◌||◌, inl, inr, ℕ, Bool, true, false, List, [], ◌∷◌, map, Some, Contains, refl, ap, sym, ◌∙◌, eq-eqb, list_any, Vec, Replacement, Pair, Reference, Formula, Tree, Leaf, cell_leaf, rectangle_leaf, what_if_leaf, leaves, pair_of, Sheet, content_of, put_all, has_formula, cells_with_formula, addresses, LeafAsks, Asks, Cell, WhatIf, is_one_of, same_cell, formula_cell, Case, reaching, case_of, with_what_if, leaf_what_ifs, what_ifs_of, leaf_reads_here, reads_here, formulas_read_here, rests_on, RestsOn}
 use Rattle.wi_sheet.proofs.Bounds.{put_formula}
 use Rattle.wi_sheet.proofs.Members.{IsIn, in_contained, contains_in, in_left, in_right, in_map, in_flat, of_flat, in_filter, of_any, found_in}
 use Rattle.wi_sheet.proofs.Meanings.{replacement_cells}

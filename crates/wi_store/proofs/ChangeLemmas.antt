@@ -1,18 +1,5 @@
 -- Laws of lists of changes, for one step of a loop over them.
-use Rattle.std.proofs.Common.{◌≡◌, ℕ, ◌+◌, ◌^◌, ◌<◌, ◌≤◌, ◌==◌, Bool, true, false, List, [], ◌∷◌, ◌++◌, length, get_or, set, take, drop, map, Option, Some, None, refl, sym, ap, ◌∙◌, subst, arith, ◌⊎◌, ⊎_elim}
-use Rattle.std.specs.List.{All, list_any}
-use Rattle.std.specs.Option.{is_some}
-use Rattle.std.specs.Int.{from_bool}
-use Rattle.std.specs.Map.{keys_of}
-use Rattle.std.proofs.lemmas.Bool.{cases_eq, eqb-true, or_cases}
-use Rattle.std.proofs.lemmas.List.{append_assoc, drop-set-lt, take-set, take_more, take_more_set, drop_more, get_or_default}
-use Rattle.std.proofs.lemmas.List.Elements.{All-set}
-use Rattle.wi_parser.specs.Sheet.{Sheet, content_of, with_content}
-use Rattle.wi_parser.specs.declared.content.Content.{Content}
-use Rattle.wi_values.proofs.Keys.{is_named}
-use Rattle.wi_store.specs.Store.{edited, change_without_empty}
-use Rattle.wi_store.specs.Inner.Rooms.{Rooms, sheet_in, room_of, HasNoVacancy, VacantOnlyAt, HasRoomFor}
-use Rattle.wi_store.specs.Inner.Exchange.{stood, restored}
+use Rattle.wi_store.proofs.Words.{◌≡◌, ℕ, ◌+◌, ◌^◌, ◌<◌, ◌≤◌, ◌==◌, Bool, true, false, List, [], ◌∷◌, ◌++◌, length, get_or, set, take, drop, map, Option, Some, None, refl, sym, ap, ◌∙◌, subst, arith, ◌⊎◌, ⊎_elim, All, list_any, is_some, from_bool, keys_of, cases_eq, eqb-true, or_cases, append_assoc, drop-set-lt, take-set, take_more, take_more_set, drop_more, get_or_default, All-set, Sheet, content_of, with_content, Content, is_named, edited, change_without_empty, Rooms, sheet_in, room_of, HasNoVacancy, VacantOnlyAt, HasRoomFor, stood, restored}
 use Rattle.wi_store.proofs.RoomLemmas.{Ascends, length-sheet_in-le}
 use Rattle.wi_store.proofs.ExchangeLemmas.{nothing_stands, count, length-with_content}
 

@@ -1,16 +1,5 @@
 -- The contents of rooms one after another, and of a rectangle's.
-use Rattle.std.proofs.Common.{◌≡◌, ℕ, Bool, true, false, ◌&&◌, cond, List, [], ◌∷◌, filter, Option, Some, None, refl, sym, ap, ◌∙◌, subst}
-use Rattle.std.specs.Prelude.{nat_le}
-use Rattle.std.specs.Map.{keys_of}
-use Rattle.std.proofs.Math.Bool.{and-false}
-use Rattle.std.proofs.lemmas.Bool.{le-leb}
-use Rattle.std.proofs.lemmas.List.Elements.{filter_agree}
-use Rattle.wi_values.specs.Address.{Area, is_within}
-use Rattle.wi_values.proofs.Within.{within_between}
-use Rattle.wi_parser.specs.Sheet.{Sheet, cells_with_formula, has_formula}
-use Rattle.wi_parser.specs.declared.content.Content.{Content}
-use Rattle.wi_store.specs.Store.{is_ahead}
-use Rattle.wi_store.specs.Inner.Rooms.{Rooms, sheet_in, formula_cells, RoomsAreInOrder, HasNoVacancy, IsOccupied, HaveContents}
+use Rattle.wi_store.proofs.Words.{◌≡◌, ℕ, Bool, true, false, ◌&&◌, cond, List, [], ◌∷◌, filter, Option, Some, None, refl, sym, ap, ◌∙◌, subst, nat_le, keys_of, and-false, le-leb, filter_agree, Area, is_within, within_between, Sheet, cells_with_formula, has_formula, Content, is_ahead, Rooms, sheet_in, formula_cells, RoomsAreInOrder, HasNoVacancy, IsOccupied, HaveContents}
 use Rattle.wi_store.proofs.RoomLemmas.{Ascends, Ascends-from_order, Ascends-sheet_in, all_occupied, formula_cells-all}
 
 -- ---- some of the rooms

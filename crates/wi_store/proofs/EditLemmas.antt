@@ -1,15 +1,5 @@
 -- Laws of an edit's answer.
-use Rattle.std.proofs.Common.{◌≡◌, ℕ, ◌+◌, ◌<◌, Bool, true, false, List, Option, Result, Ok, Err, OnOk, OnErr, length, refl, sym, ap, ◌∙◌, subst, arith, ◌⊎◌, ⊎_elim, if◌then◌else◌}
-use Rattle.std.specs.Prelude.{nat_lt, nat_le}
-use Rattle.std.specs.Result.{result_unwrap_or}
-use Rattle.std.proofs.lemmas.Bool.Decides.{nat_tests}
-use Rattle.wi_parser.specs.Sheet.{Sheet}
-use Rattle.wi_parser.specs.declared.content.Content.{Content}
-use Rattle.wi_store.specs.declared.fault.StoreFault.{StoreFault}
-use Rattle.wi_store.specs.declared.fault.StoreFault.TheVariants.{Full, EditLimit, Memory}
-use Rattle.wi_store.specs.declared.limits.Limits.{Limits}
-use Rattle.wi_store.specs.Store.{Stored, edited, accepted, Applies}
-use Rattle.wi_store.specs.Inner.Exchange.{admitted}
+use Rattle.wi_store.proofs.Words.{◌≡◌, ℕ, ◌+◌, ◌<◌, Bool, true, false, List, Option, Result, Ok, Err, OnOk, OnErr, length, refl, sym, ap, ◌∙◌, subst, arith, ◌⊎◌, ⊎_elim, if◌then◌else◌, nat_lt, nat_le, result_unwrap_or, nat_tests, Sheet, Content, StoreFault, Full, EditLimit, Memory, Limits, Stored, edited, accepted, Applies, admitted}
 
 -- the sheet, the edits and the limits tell a store
 abbrev pub stored : Sheet → ℕ → Limits → Stored

@@ -1,19 +1,5 @@
 -- Laws of exchanging contents: in rooms, in the sheet, and back.
-use Rattle.std.proofs.Common.{◌≡◌, ℕ, ◌+◌, ◌<◌, ◌==◌, Bool, true, false, cond, List, [], ◌∷◌, length, not, Option, Some, None, refl, sym, ap, ◌∙◌, subst, arith, ⊎_elim, inl, inr, ◌⊎◌, if◌then◌else◌}
-use Rattle.std.specs.Option.{option_flatten, is_some}
-use Rattle.std.specs.Ordering.{nat_cmp}
-use Rattle.std.specs.Map.{set_value, remove_entry}
-use Rattle.std.specs.BTreeMap.{is_at, insert_entry}
-use Rattle.std.proofs.lemmas.Bool.{cases_order, cases_eq, eq-eqb}
-use Rattle.std.proofs.lemmas.Map.{keys-set_value, length-set_value}
-use Rattle.std.specs.List.Sorted.{IsStrictlySortedBy}
-use Rattle.std.proofs.lemmas.Bool.Decides.{nat_tests}
-use Rattle.wi_values.proofs.Order.{ComeAfter, Ascends, Ascends-from_order, order-from_Ascends, Ascends-filter, Ascends-insert, cmp_before, cmp_equal, cmp_after, come_after_earlier, at_same, at_itself, at_earlier, lookup_after, at_other, Ascends-remove}
-use Rattle.wi_parser.specs.Sheet.{Sheet, content_of, without, with_content}
-use Rattle.wi_parser.specs.declared.content.Content.{Content}
-use Rattle.wi_store.specs.Store.{edited}
-use Rattle.wi_store.specs.Inner.Rooms.{Rooms, sheet_in, room_of, RoomsAreInOrder, HasRoomFor}
-use Rattle.wi_store.specs.Inner.Exchange.{stood, restored}
+use Rattle.wi_store.proofs.Words.{◌≡◌, ℕ, ◌+◌, ◌<◌, ◌==◌, Bool, true, false, cond, List, [], ◌∷◌, length, not, Option, Some, None, refl, sym, ap, ◌∙◌, subst, arith, ⊎_elim, inl, inr, ◌⊎◌, if◌then◌else◌, option_flatten, is_some, nat_cmp, set_value, remove_entry, is_at, insert_entry, cases_order, cases_eq, eq-eqb, keys-set_value, length-set_value, IsStrictlySortedBy, nat_tests, ComeAfter, Ascends, Ascends-from_order, order-from_Ascends, Ascends-filter, Ascends-insert, cmp_before, cmp_equal, cmp_after, come_after_earlier, at_same, at_itself, at_earlier, lookup_after, at_other, Ascends-remove, Sheet, content_of, without, with_content, Content, edited, Rooms, sheet_in, room_of, RoomsAreInOrder, HasRoomFor, stood, restored}
 use Rattle.wi_store.proofs.RoomLemmas.{ComeAfter-sheet_in, Ascends-sheet_in, content_of-sheet_in}
 
 -- ---- one content put into a sheet, by where its cell stands

@@ -4,3 +4,4 @@ pub mod ChangeLemmas
 pub mod EditLemmas
 pub mod NextRoom
 pub mod ContentsLemmas
+pub mod Words

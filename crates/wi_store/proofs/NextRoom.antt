@@ -1,15 +1,5 @@
 -- The first content of a rectangle.
-use Rattle.std.proofs.Common.{◌≡◌, ℕ, Bool, true, false, ◌&&◌, cond, List, [], ◌∷◌, filter, Option, Some, refl, sym, ap, ◌∙◌}
-use Rattle.std.specs.Prelude.{nat_le}
-use Rattle.std.specs.Option.{option_flatten}
-use Rattle.std.specs.List.{find}
-use Rattle.std.specs.Map.{keys_of}
-use Rattle.std.proofs.Math.Bool.{and-false, and-true}
-use Rattle.wi_values.specs.Address.{Area, is_within}
-use Rattle.wi_parser.specs.Sheet.{Sheet, content_of}
-use Rattle.wi_parser.specs.declared.content.Content.{Content}
-use Rattle.wi_store.specs.Store.{is_ahead}
-use Rattle.wi_store.specs.Inner.Rooms.{Rooms, sheet_in, room_of, RoomsAreInOrder, HasNoVacancy}
+use Rattle.wi_store.proofs.Words.{◌≡◌, ℕ, Bool, true, false, ◌&&◌, cond, List, [], ◌∷◌, filter, Option, Some, refl, sym, ap, ◌∙◌, nat_le, option_flatten, find, keys_of, and-false, and-true, Area, is_within, Sheet, content_of, Content, is_ahead, Rooms, sheet_in, room_of, RoomsAreInOrder, HasNoVacancy}
 use Rattle.wi_store.proofs.RoomLemmas.{Ascends-from_order, keys-sheet_in, content_of-sheet_in}
 
 -- one test after another

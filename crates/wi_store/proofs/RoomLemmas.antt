@@ -1,17 +1,6 @@
 -- Laws of rooms and of the sheet in them.
-use Rattle.std.proofs.Common.{◌≡◌, ℕ, ◌+◌, ◌<◌, ◌≤◌, Bool, true, false, cond, List, [], ◌∷◌, filter, length, Option, Some, None, refl, sym, ap, ◌∙◌, subst, arith, ⊎_elim}
-use Rattle.std.specs.Option.{option_flatten}
-use Rattle.std.specs.List.{All, AllByRecursion}
-use Rattle.std.specs.Ordering.{nat_cmp}
-use Rattle.std.specs.Map.{lookup, keys_of}
-use Rattle.std.specs.BTreeMap.{is_at}
-use Rattle.std.proofs.lemmas.Bool.{cases_order}
-use Rattle.std.proofs.lemmas.List.Elements.{All-cons, All-head, All-tail}
+use Rattle.wi_store.proofs.Words.{◌≡◌, ℕ, ◌+◌, ◌<◌, ◌≤◌, Bool, true, false, cond, List, [], ◌∷◌, filter, length, Option, Some, None, refl, sym, ap, ◌∙◌, subst, arith, ⊎_elim, option_flatten, All, AllByRecursion, nat_cmp, lookup, keys_of, is_at, cases_order, All-cons, All-head, All-tail, at_itself, at_later, at_earlier, lookup_after, Sheet, content_of, cells_with_formula, has_formula, Content, Rooms, sheet_in, room_of, formula_cells, IsOccupied, HaveContents, RoomsAreInOrder, HasNoVacancy}
 pub use Rattle.wi_values.proofs.Order.{ComeAfter, Ascends, Ascends-from_order, order-from_Ascends}
-use Rattle.wi_values.proofs.Order.{at_itself, at_later, at_earlier, lookup_after}
-use Rattle.wi_parser.specs.Sheet.{Sheet, content_of, cells_with_formula, has_formula}
-use Rattle.wi_parser.specs.declared.content.Content.{Content}
-use Rattle.wi_store.specs.Inner.Rooms.{Rooms, sheet_in, room_of, formula_cells, IsOccupied, HaveContents, RoomsAreInOrder, HasNoVacancy}
 
 -- ---- the sheet in rooms
 

@@ -1,13 +1,6 @@
 -- A part of a band's list of tiles.
-use Rattle.std.proofs.Common.{◌≡◌, ℕ, ◌+◌, ◌-◌, ◌*◌, ◌/◌, ◌%◌, ◌<◌, ◌≤◌, List, [], ◌∷◌, length, Some, None, sym, ap, arith, ◌∙◌, ⊎_elim, zero, suc, refl, cond, eqb, subst, true, false}
-use Rattle.std.specs.Prelude.{Bool, IsSome, ◌==◌}
-use Rattle.std.proofs.lemmas.Bool.{cases_lt}
-use borrow.Author.Tests.{ne_eqb, eqb-true}
+use Rattle.wi_tiles.proofs.Words.{◌≡◌, ℕ, ◌+◌, ◌-◌, ◌*◌, ◌/◌, ◌%◌, ◌<◌, ◌≤◌, List, [], ◌∷◌, length, Some, None, sym, ap, arith, ◌∙◌, ⊎_elim, zero, suc, refl, cond, eqb, subst, true, false, Bool, IsSome, ◌==◌, cases_lt, ne_eqb, eqb-true, Band, cell, slot, at_part, key, Rises, find as find_part}
 use lib.ListN.{take, drop}
-use Rattle.wi_tiles.specs.Inner.Cells.{Band}
-use Rattle.wi_tiles.specs.Inner.Lines.{cell, slot}
-use Rattle.wi_tiles.specs.Inner.Parts.{at_part}
-use Rattle.wi_tiles.specs.Inner.Sorted.{key, Rises, find as find_part}
 use Rattle.wi_tiles.proofs.Keys.{find_none}
 
 find_dropped : {S : Type 0} (ts : List (ℕ × S)) (n g : ℕ) → ((i : ℕ) → i < n → key ts i < g) → find_part g (drop n ts) ≡ find_part g ts

@@ -1,18 +1,5 @@
 -- Which columns a page has bits for, and bands in which a rectangle has nothing.
-use Rattle.std.proofs.Common.{◌≡◌, ℕ, ◌+◌, ◌*◌, ◌/◌, ◌%◌, ◌^◌, ◌<◌, ◌≤◌, List, length, Option, Some, None, sym, ap, arith, ◌∙◌, ⊎_elim, refl, cond, subst, true}
-use Rattle.std.specs.Prelude.{◌==◌, if◌then◌else◌, IsTrue, IsSome, is_some, slice_index_or, option_map, bit_and, bit_or}
-use Rattle.std.specs.Int.{bit_at, w64}
-use Rattle.std.proofs.lemmas.Bool.{cases_eq, cases_lt}
-use Rattle.std.proofs.lemmas.Nat.Bits.{bit_at-zero, bit_at_set_same, bit_at_set_other}
-use borrow.Author.Tests.{eq-eqb, eqb-true, ne_eqb}
-use Rattle.wi_values.specs.Address.{Area, place, row_of, column_of, is_within}
-use Rattle.wi_tiles.specs.Inner.Cells.{Pages, Page, Band, at_cell, is_ahead}
-use Rattle.wi_tiles.specs.Inner.Columns.{column_bit, HasColumns, HasEach, IsBare}
-use Rattle.wi_tiles.specs.Inner.Lines.{cell, slot}
-use Rattle.wi_tiles.specs.Inner.Next.{in_page, in_band}
-use Rattle.wi_tiles.specs.Inner.Parts.{at_part, part_from, at_window}
-use Rattle.wi_tiles.specs.Inner.Sorted.{at_sorted, key, Rises, find as find_part}
-use Rattle.wi_tiles.specs.Inner.Within.{IsInside}
+use Rattle.wi_tiles.proofs.Words.{◌≡◌, ℕ, ◌+◌, ◌*◌, ◌/◌, ◌%◌, ◌^◌, ◌<◌, ◌≤◌, List, length, Option, Some, None, sym, ap, arith, ◌∙◌, ⊎_elim, refl, cond, subst, true, ◌==◌, if◌then◌else◌, IsTrue, IsSome, is_some, slice_index_or, option_map, bit_and, bit_or, bit_at, w64, cases_eq, cases_lt, bit_at-zero, bit_at_set_same, bit_at_set_other, eq-eqb, eqb-true, ne_eqb, Area, place, row_of, column_of, is_within, Pages, Page, Band, at_cell, is_ahead, column_bit, HasColumns, HasEach, IsBare, cell, slot, in_page, in_band, at_part, part_from, at_window, at_sorted, key, Rises, find as find_part, IsInside}
 use Rattle.wi_tiles.proofs.Keys.{find_at, find_beyond, above_more}
 use Rattle.wi_tiles.proofs.MaskLemmas.{both_from}
 use Rattle.wi_tiles.proofs.NextLemmas.{row_cell}

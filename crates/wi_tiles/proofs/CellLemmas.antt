@@ -1,9 +1,5 @@
 -- Each cell has a path of its own.
-use Rattle.std.proofs.Common.{◌≡◌, ℕ, ◌+◌, ◌*◌, ◌/◌, ◌%◌, ◌<◌, sym, ap, arith, ◌∙◌, Option, cond, ⊎_elim}
-use Rattle.std.specs.Prelude.{◌==◌, if◌then◌else◌}
-use Rattle.std.proofs.lemmas.Bool.{cases_eq}
-use borrow.Author.Tests.{eq-eqb, ne_eqb}
-use Rattle.wi_tiles.specs.Inner.Cells.{path_of}
+use Rattle.wi_tiles.proofs.Words.{◌≡◌, ℕ, ◌+◌, ◌*◌, ◌/◌, ◌%◌, ◌<◌, sym, ap, arith, ◌∙◌, Option, cond, ⊎_elim, ◌==◌, if◌then◌else◌, cases_eq, eq-eqb, ne_eqb, path_of}
 
 abbrev pub Digits : ℕ → ℕ → ℕ → Type 0
 Digits p r k = (p % 256 ≡ r / 4096) × (p / 256 % 256 ≡ r / 16 % 256) × (p / 256 / 256 % 4096 ≡ k / 4) × (p / 256 / 256 / 4096 ≡ r % 16 * 4 + k % 4)

@@ -1,15 +1,5 @@
 -- How many of a tile's first bits have something.
-use Rattle.std.proofs.Common.{◌≡◌, ℕ, ◌+◌, ◌-◌, ◌/◌, ◌^◌, ◌<◌, ◌≤◌, List, length, Option, Some, None, sym, ap, arith, ◌∙◌, ⊎_elim, zero, suc, true, false, get_or, subst, refl}
-use Rattle.std.specs.Prelude.{Bool, ◌&&◌, ◌==◌, nat_le, IsSome, is_some, if◌then◌else◌, count_ones, slice_get, slice_index_or}
-use Rattle.std.specs.Int.{bit_at, w64, trailing_zeros}
-use Rattle.std.proofs.lemmas.Bool.{cases_lt, and_from, le-leb}
-use Rattle.std.proofs.lemmas.Option.{slice_get_read}
-use borrow.Author.Tests.{eqb-true}
-use mathlib.Core.Logic.{◌≢◌}
-use Rattle.wi_values.specs.Address.{Area}
-use Rattle.wi_tiles.specs.Inner.Lines.{slot}
-use Rattle.wi_tiles.specs.Inner.Tile.{rank, slots}
-use Rattle.wi_tiles.specs.Inner.Within.{filled, CountsFirst, IsWhole, IsFirstLeft, HasBits}
+use Rattle.wi_tiles.proofs.Words.{◌≡◌, ℕ, ◌+◌, ◌-◌, ◌/◌, ◌^◌, ◌<◌, ◌≤◌, List, length, Option, Some, None, sym, ap, arith, ◌∙◌, ⊎_elim, zero, suc, true, false, get_or, subst, refl, Bool, ◌&&◌, ◌==◌, nat_le, IsSome, is_some, if◌then◌else◌, count_ones, slice_get, slice_index_or, bit_at, w64, trailing_zeros, cases_lt, and_from, le-leb, slice_get_read, eqb-true, ◌≢◌, Area, slot, rank, slots, filled, CountsFirst, IsWhole, IsFirstLeft, HasBits}
 use Rattle.wi_tiles.proofs.Firsts.{there_one, one_there, one_within, first_bit}
 use Rattle.wi_tiles.proofs.Ranks.{rank-suc, rank-zero, rank_at_most}
 use Rattle.wi_tiles.proofs.Tiles.{at_zero, at_one, get-slots, bit_or_not}

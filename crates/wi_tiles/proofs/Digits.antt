@@ -1,10 +1,5 @@
 -- What a change of one part makes of all paths, where a path's lowest digit says which part.
-use Rattle.std.proofs.Common.{◌≡◌, ℕ, ◌/◌, ◌%◌, Option, sym, ap, ◌∙◌, ⊎_elim, cond}
-use Rattle.std.specs.Prelude.{◌==◌, if◌then◌else◌}
-use Rattle.std.proofs.lemmas.Bool.{cases_eq}
-use borrow.Author.Tests.{eq-eqb, ne_eqb}
-use mathlib.Core.Logic.{◌≢◌}
-use Rattle.wi_tiles.specs.Inner.Parts.{at_part}
+use Rattle.wi_tiles.proofs.Words.{◌≡◌, ℕ, ◌/◌, ◌%◌, Option, sym, ap, ◌∙◌, ⊎_elim, cond, ◌==◌, if◌then◌else◌, cases_eq, eq-eqb, ne_eqb, ◌≢◌, at_part}
 
 -- a path is its lowest digit and the rest
 abbrev pub IsDigit : ℕ → Type 0

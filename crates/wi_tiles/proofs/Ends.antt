@@ -1,10 +1,5 @@
 -- That the first part and the last have something, after a change of one part, and where those at the ends that have nothing go.
-use Rattle.std.proofs.Common.{◌≡◌, ℕ, ◌+◌, ◌-◌, ◌/◌, ◌%◌, ◌<◌, ◌≤◌, List, [], ◌∷◌, length, Option, Some, None, sym, ap, arith, ◌∙◌, ⊎_elim, zero, suc, refl, subst, drop}
-use Rattle.std.specs.Prelude.{◌↔◌, slice_get, slice_set, slice_index_or}
-use Rattle.std.proofs.lemmas.Bool.{cases_eq, cases_lt}
-use Rattle.std.proofs.lemmas.List.{length-set, length-drop}
-use Rattle.std.proofs.lemmas.Option.{slice_get_read}
-use Rattle.wi_tiles.specs.Inner.Parts.{at_part, at_window, span, HasSome, IsTrimmed}
+use Rattle.wi_tiles.proofs.Words.{◌≡◌, ℕ, ◌+◌, ◌-◌, ◌/◌, ◌%◌, ◌<◌, ◌≤◌, List, [], ◌∷◌, length, Option, Some, None, sym, ap, arith, ◌∙◌, ⊎_elim, zero, suc, refl, subst, drop, ◌↔◌, slice_get, slice_set, slice_index_or, cases_eq, cases_lt, length-set, length-drop, slice_get_read, at_part, at_window, span, HasSome, IsTrimmed}
 use Rattle.wi_tiles.proofs.Windows.{part_here, part_before, get_set, get_other, part_is, none_have, window_none}
 
 get_drop : {S : Type 0} (ts : List S) (n j k : ℕ) → k ≡ n + j → slice_get (drop n ts) j ≡ slice_get ts k

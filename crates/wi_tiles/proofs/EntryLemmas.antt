@@ -1,17 +1,6 @@
 -- The entries of cells: what a look-up finds in them, and what one cell's change makes of them.
-use Rattle.std.proofs.Common.{◌≡◌, ℕ, ◌+◌, ◌-◌, ◌<◌, ◌≤◌, List, [], ◌∷◌, ◌++◌, length, Option, Some, None, sym, ap, arith, ◌∙◌, zero, suc, refl, cond}
-use Rattle.std.specs.Prelude.{◌==◌, if◌then◌else◌, option_map}
-use Rattle.std.specs.declared.cmp.Ordering.TheVariants.{Less, Equal, Greater}
-use Rattle.std.specs.Ordering.{nat_cmp, is_eq, match_ordering}
-use Rattle.std.specs.Cmp.{nat_cmp_is}
-use Rattle.std.specs.BTreeMap.{is_at, insert_entry}
-use Rattle.std.specs.List.{All, AllByRecursion}
-use Rattle.std.proofs.lemmas.List.Elements.{All-nil, All-cons}
+use Rattle.wi_tiles.proofs.Words.{◌≡◌, ℕ, ◌+◌, ◌-◌, ◌<◌, ◌≤◌, List, [], ◌∷◌, ◌++◌, length, Option, Some, None, sym, ap, arith, ◌∙◌, zero, suc, refl, cond, ◌==◌, if◌then◌else◌, option_map, Less, Equal, Greater, nat_cmp, is_eq, match_ordering, nat_cmp_is, is_at, insert_entry, All, AllByRecursion, All-nil, All-cons, keys_of, lookup, remove_entry, set_value, eq-eqb, ne_eqb, ◌≢◌, with_entry, entries_from}
 use Rattle.std.specs.List.Sorted.{IsStrictlySortedBy}
-use Rattle.std.specs.Map.{keys_of, lookup, remove_entry, set_value}
-use borrow.Author.Tests.{eq-eqb, ne_eqb}
-use mathlib.Core.Logic.{◌≢◌}
-use Rattle.wi_tiles.specs.Inner.Entries.{with_entry, entries_from}
 
 -- how two cells compare
 less : (a b : ℕ) → a < b → nat_cmp a b ≡ Less

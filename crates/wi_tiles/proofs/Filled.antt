@@ -1,13 +1,5 @@
 -- That each part has something, after a change of one part.
-use Rattle.std.proofs.Common.{◌≡◌, ℕ, ◌<◌, List, [], ◌∷◌, length, ◌+◌, ◌*◌, ◌/◌, ◌%◌, Option, Some, None, sym, ap, arith, ◌∙◌, ⊎_elim, zero, suc, refl, cond, subst, take, drop, get_or}
-use Rattle.std.specs.Prelude.{◌↔◌, IsTrue, ◌==◌, if◌then◌else◌, option_map, slice_set}
-use Rattle.std.specs.Option.{option_or}
-use Rattle.std.specs.List.{All, insert, remove}
-use Rattle.std.proofs.lemmas.Bool.{cases_eq}
-use Rattle.std.proofs.lemmas.List.Elements.{All-nil, All-cons, All-head, All-tail, All-append, All-take, All-drop}
-use borrow.Author.Tests.{eq-eqb, ne_eqb, eqb-true}
-use Rattle.wi_tiles.specs.Inner.Parts.{at_part}
-use Rattle.wi_tiles.specs.Inner.Sorted.{find, at_sorted, IsFilled}
+use Rattle.wi_tiles.proofs.Words.{◌≡◌, ℕ, ◌<◌, List, [], ◌∷◌, length, ◌+◌, ◌*◌, ◌/◌, ◌%◌, Option, Some, None, sym, ap, arith, ◌∙◌, ⊎_elim, zero, suc, refl, cond, subst, take, drop, get_or, ◌↔◌, IsTrue, ◌==◌, if◌then◌else◌, option_map, slice_set, option_or, All, insert, remove, cases_eq, All-nil, All-cons, All-head, All-tail, All-append, All-take, All-drop, eq-eqb, ne_eqb, eqb-true, at_part, find, at_sorted, IsFilled}
 
 -- all of some, with one more, one less, or one back
 pub all_more : {X : Type 0} (P : X → Type 0) (xs : List X) (i : ℕ) (x : X) → All P xs → P x → All P (insert xs i x)

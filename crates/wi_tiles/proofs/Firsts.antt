@@ -1,14 +1,5 @@
 -- The bits of a tile that have something, and the first of some bits.
-use Rattle.std.proofs.Common.{◌≡◌, ℕ, Option, Some, ◌^◌, ◌<◌, List, [], ◌∷◌, length, None, sym, arith, ◌∙◌, ⊎_elim, get_or, zero, suc, subst, refl}
-use Rattle.std.specs.Prelude.{◌↔◌, IsTrue, ◌==◌, slice_get, count_ones, IsSome, bit_and}
-use Rattle.std.specs.Int.{bit_at, w64, trailing_zeros}
-use Rattle.std.proofs.lemmas.Nat.Bits.{bit_at-trailing_zeros}
-use Rattle.std.proofs.lemmas.Bool.{cases_eq}
-use borrow.Author.Tests.{eq-eqb, eqb-true}
-use mathlib.Core.Logic.{◌≢◌}
-use Rattle.wi_tiles.specs.Inner.Lines.{slot}
-use Rattle.wi_tiles.specs.Inner.Tile.{rank, slots}
-use Rattle.wi_tiles.specs.Inner.Within.{filled, IsFirstLeft}
+use Rattle.wi_tiles.proofs.Words.{◌≡◌, ℕ, Option, Some, ◌^◌, ◌<◌, List, [], ◌∷◌, length, None, sym, arith, ◌∙◌, ⊎_elim, get_or, zero, suc, subst, refl, ◌↔◌, IsTrue, ◌==◌, slice_get, count_ones, IsSome, bit_and, bit_at, w64, trailing_zeros, bit_at-trailing_zeros, cases_eq, eq-eqb, eqb-true, ◌≢◌, slot, rank, slots, filled, IsFirstLeft}
 use Rattle.wi_tiles.proofs.MaskLemmas.{both_parts, both_from}
 use Rattle.wi_tiles.proofs.Ranks.{rank_below, rank_at_most}
 use Rattle.wi_tiles.proofs.Tiles.{at_zero, at_one, get-slots, bit_or_not, all_clear}

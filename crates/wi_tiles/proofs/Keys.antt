@@ -1,13 +1,5 @@
 -- Parts in order of their keys.
-use Rattle.std.proofs.Common.{◌≡◌, ℕ, ◌+◌, ◌<◌, ◌≤◌, List, [], ◌∷◌, length, Some, None, sym, ap, arith, ◌∙◌, ⊎_elim, zero, suc, refl, cond, eqb}
-use Rattle.std.specs.Prelude.{slice_set, slice_index_or}
-use Rattle.std.specs.List.{insert, remove}
-use Rattle.std.proofs.lemmas.List.Edits.{length-insert, length-remove}
-use Rattle.std.proofs.lemmas.List.{length-set}
-use Rattle.std.proofs.lemmas.Bool.{cases_lt}
-use borrow.Author.Tests.{eq-eqb, ne_eqb}
-use mathlib.Core.Logic.{◌≢◌}
-use Rattle.wi_tiles.specs.Inner.Sorted.{find, key, Rises}
+use Rattle.wi_tiles.proofs.Words.{◌≡◌, ℕ, ◌+◌, ◌<◌, ◌≤◌, List, [], ◌∷◌, length, Some, None, sym, ap, arith, ◌∙◌, ⊎_elim, zero, suc, refl, cond, eqb, slice_set, slice_index_or, insert, remove, length-insert, length-remove, length-set, cases_lt, eq-eqb, ne_eqb, ◌≢◌, find, key, Rises}
 
 pub key_read : {S : Type 0} (ts : List (ℕ × S)) (i : ℕ) (x : ℕ × S) → i < length ts → x ≡ slice_index_or ts i x → key ts i ≡ x.0
 key_read [] i x l e = absurd (omega arith)

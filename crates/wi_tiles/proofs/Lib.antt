@@ -21,3 +21,4 @@ pub mod Tiles
 pub mod TurnLemmas
 pub mod WalkLemmas
 pub mod Windows
+pub mod Words

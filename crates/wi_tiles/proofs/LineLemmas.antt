@@ -1,16 +1,5 @@
 -- A search along a line of a band, tile by tile.
-use Rattle.std.proofs.Common.{◌≡◌, ℕ, ◌+◌, ◌*◌, ◌/◌, ◌%◌, ◌<◌, ◌≤◌, List, length, Option, Some, None, sym, ap, arith, ◌∙◌, ⊎_elim, subst, refl}
-use Rattle.std.specs.Prelude.{slice_index_or, IsSome}
-use Rattle.std.specs.Int.{bit_at}
-use Rattle.std.proofs.lemmas.Bool.{cases_lt, cases_eq}
-use Rattle.std.proofs.lemmas.Nat.Bits.{bit_at-zero}
-use mathlib.Core.Logic.{◌≢◌}
-use Rattle.wi_values.specs.Address.{Area, column_of}
-use Rattle.wi_tiles.specs.Inner.Cells.{Band}
-use Rattle.wi_tiles.specs.Inner.Parts.{at_part}
-use Rattle.wi_tiles.specs.Inner.Lines.{cell, slot}
-use Rattle.wi_tiles.specs.Inner.Sorted.{key, Rises}
-use Rattle.wi_tiles.specs.Inner.Within.{AreTiles, IsPlace, IsInside, HasBits, IsNextTile}
+use Rattle.wi_tiles.proofs.Words.{◌≡◌, ℕ, ◌+◌, ◌*◌, ◌/◌, ◌%◌, ◌<◌, ◌≤◌, List, length, Option, Some, None, sym, ap, arith, ◌∙◌, ⊎_elim, subst, refl, slice_index_or, IsSome, bit_at, cases_lt, cases_eq, bit_at-zero, ◌≢◌, Area, column_of, Band, at_part, cell, slot, key, Rises, AreTiles, IsPlace, IsInside, HasBits, IsNextTile}
 use Rattle.wi_tiles.proofs.Keys.{key_read, find_none}
 use Rattle.wi_tiles.proofs.Sorts.{part_at}
 use Rattle.wi_tiles.proofs.WalkLemmas.{nothing_but}

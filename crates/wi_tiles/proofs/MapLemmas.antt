@@ -1,23 +1,6 @@
 -- The entries of all pages, after a change of one path.
-use Rattle.std.proofs.Common.{◌≡◌, ℕ, ◌+◌, ◌<◌, ◌≤◌, List, [], ◌∷◌, length, Option, Some, None, sym, ap, arith, ◌∙◌, ⊎_elim, cond, refl, true, false}
-use Rattle.std.specs.Prelude.{Bool, ◌↔◌, IsTrue, ◌==◌, if◌then◌else◌, option_map, nat_le, filter, IfSome, IfNone, is_some, not}
-use Rattle.std.specs.Borrow.{Bor}
-use Rattle.std.specs.Int.{from_bool}
-use Rattle.std.specs.Ordering.{nat_cmp}
-use Rattle.std.specs.Option.{option_or}
-use Rattle.std.specs.List.{find, All}
-use Rattle.std.specs.Map.{keys_of, remove_entry, set_value}
-use Rattle.std.specs.BTreeMap.{is_at, insert_entry}
-use Rattle.wi_tiles.specs.Entries.{get, IsOrdered}
-use Rattle.std.proofs.lemmas.Bool.{cases_eq, and_parts}
-use borrow.Author.Tests.{eq-eqb, eq-true, eqb-true, ne_eqb}
-use Rattle.wi_values.specs.Address.{Area, is_within}
-use Rattle.wi_tiles.specs.Inner.Cells.{Pages, path_of, at_cell, is_ahead}
-use Rattle.wi_tiles.specs.Inner.Entries.{cells, entries_of, map_of}
-use Rattle.wi_tiles.specs.Inner.Lines.{slot}
-use Rattle.wi_tiles.specs.Inner.Next.{IsNext}
-use Rattle.wi_tiles.specs.Inner.Parts.{at_window}
-use Rattle.wi_tiles.specs.Inner.Sorted.{at_sorted}
+use Rattle.wi_tiles.proofs.Words.{◌≡◌, ℕ, ◌+◌, ◌<◌, ◌≤◌, List, [], ◌∷◌, length, Option, Some, None, sym, ap, arith, ◌∙◌, ⊎_elim, cond, refl, true, false, Bool, ◌↔◌, IsTrue, ◌==◌, if◌then◌else◌, option_map, nat_le, filter, IfSome, IfNone, is_some, not, Bor, from_bool, nat_cmp, option_or, All, keys_of, remove_entry, set_value, is_at, insert_entry, get, IsOrdered, cases_eq, and_parts, eq-eqb, eq-true, eqb-true, ne_eqb, Area, is_within, Pages, path_of, at_cell, is_ahead, cells, entries_of, map_of, slot, IsNext, at_window, at_sorted}
+use Rattle.std.specs.List.{find}
 use Rattle.wi_tiles.proofs.CellLemmas.{one_cell}
 use Rattle.wi_tiles.proofs.EntryLemmas.{entries_same, entries_none, lookup_entries, entries_put, length_put, entries_cut, length_cut, entries_set, length_set, length_entries, entries_rise, entries_below}
 use Rattle.wi_tiles.proofs.NextLemmas.{sought_none, sought_some}

@@ -1,14 +1,6 @@
 -- The bits of a rectangle's columns, and of some of a band's lines.
-use Rattle.std.proofs.Common.{◌≡◌, ℕ, ◌+◌, ◌-◌, ◌*◌, ◌/◌, ◌%◌, ◌^◌, ◌<◌, ◌≤◌, sym, ap, arith, ◌∙◌, ⊎_elim, zero, suc, refl, Bool, true, false}
-use Rattle.std.specs.Prelude.{◌&&◌, ◌==◌, nat_le, nat_lt, min, max, not, bit_and}
-use Rattle.std.specs.Int.{bit_at}
-use Rattle.std.proofs.lemmas.Bool.{cases_eq, and_parts, and_from, leb-true, le-leb, lt-ltb}
-use Rattle.std.proofs.lemmas.Nat.{and_le_l, shr_le}
-use Rattle.std.proofs.lemmas.Nat.Bits.{bit_at-lt, bit_at_and}
-use borrow.Author.Tests.{ltb-true, eqb-true, eq-eqb}
-use Rattle.wi_values.specs.Address.{Area, column_of}
-use Rattle.wi_tiles.specs.Inner.Columns.{HasEach}
-use Rattle.wi_tiles.specs.Inner.Within.{line_of, lines_of, lines_from, lines_to, IsInside}
+use Rattle.wi_tiles.proofs.Words.{◌≡◌, ℕ, ◌+◌, ◌-◌, ◌*◌, ◌/◌, ◌%◌, ◌^◌, ◌<◌, ◌≤◌, sym, ap, arith, ◌∙◌, ⊎_elim, zero, suc, refl, true, false, ◌&&◌, ◌==◌, nat_le, nat_lt, min, max, not, bit_and, bit_at, cases_eq, and_parts, and_from, leb-true, le-leb, lt-ltb, and_le_l, shr_le, bit_at-lt, bit_at_and, ltb-true, eqb-true, eq-eqb, Area, column_of, HasEach, line_of, lines_of, lines_from, lines_to, IsInside}
+use Rattle.std.proofs.Common.{Bool}
 use Rattle.wi_tiles.proofs.WalkLemmas.{same_test}
 
 pub line_within : (low high : ℕ) → line_of low high ≤ 15

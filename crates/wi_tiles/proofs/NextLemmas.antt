@@ -1,17 +1,7 @@
 -- Where a walk through a rectangle begins, and what rows without a band have.
-use Rattle.std.proofs.Common.{◌≡◌, ℕ, ◌+◌, ◌*◌, ◌/◌, ◌%◌, ◌<◌, ◌≤◌, List, ◌∷◌, Option, Some, None, sym, ap, arith, ◌∙◌, ⊎_elim, zero, suc, refl, cond, subst, Bool, true, false}
-use Rattle.std.specs.Prelude.{◌&&◌, nat_le, filter, IsSome, max}
-use mathlib.Core.Logic.{◌≢◌}
+use Rattle.wi_tiles.proofs.Words.{◌≡◌, ℕ, ◌+◌, ◌*◌, ◌/◌, ◌%◌, ◌<◌, ◌≤◌, List, ◌∷◌, Option, Some, None, sym, ap, arith, ◌∙◌, ⊎_elim, zero, suc, refl, cond, subst, true, false, ◌&&◌, nat_le, filter, IsSome, max, ◌≢◌, keys_of, true≢false, cases_eq, and_parts, and_from, leb-true, le-leb, Area, row_of, column_of, Pages, Page, Band, at_cell, is_ahead, with_entry, entries_from, slot, in_page, band_at, in_band, IsStart, at_part, part_from, at_window, at_sorted, find as find_part}
+use Rattle.std.proofs.Common.{Bool}
 use Rattle.std.specs.List.{find}
-use Rattle.std.specs.Map.{keys_of}
-use Rattle.std.proofs.lemmas.Bool.{true≢false, cases_eq, and_parts, and_from, leb-true, le-leb}
-use Rattle.wi_values.specs.Address.{Area, row_of, column_of}
-use Rattle.wi_tiles.specs.Inner.Cells.{Pages, Page, Band, at_cell, is_ahead}
-use Rattle.wi_tiles.specs.Inner.Entries.{with_entry, entries_from}
-use Rattle.wi_tiles.specs.Inner.Lines.{slot}
-use Rattle.wi_tiles.specs.Inner.Next.{in_page, band_at, in_band, IsStart}
-use Rattle.wi_tiles.specs.Inner.Parts.{at_part, part_from, at_window}
-use Rattle.wi_tiles.specs.Inner.Sorted.{at_sorted, find as find_part}
 use Rattle.wi_tiles.proofs.CellLemmas.{digits}
 
 -- what a cell has is what its band has in its line and its column

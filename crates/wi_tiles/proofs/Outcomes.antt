@@ -1,6 +1,5 @@
 -- A clause of a part, carried over to the whole.
-use Rattle.std.proofs.Common.{◌≡◌, Result, Ok, Err, true, false, arith}
-use Rattle.std.specs.Prelude.{Bool, IsTrue, OnOk, OnErr}
+use Rattle.wi_tiles.proofs.Words.{◌≡◌, Result, Ok, Err, true, false, arith, Bool, IsTrue, OnOk, OnErr}
 
 pub on_ok : {A E P Q : Type 0} (r : Result A E) → (P → Q) → OnOk r P → OnOk r Q
 on_ok (Ok a) f p = f p

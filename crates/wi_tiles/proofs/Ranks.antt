@@ -1,15 +1,6 @@
 -- The count of ones below a bit, and what a change of one bit makes of it.
-use Rattle.std.proofs.Common.{◌≡◌, ℕ, ◌+◌, ◌*◌, ◌/◌, ◌%◌, ◌^◌, ◌<◌, ◌≤◌, sym, refl, ap, arith, suc, zero, ◌∙◌}
-use Rattle.std.specs.Prelude.{count_ones}
-use Rattle.std.specs.Int.{bit_at}
+use Rattle.wi_tiles.proofs.Words.{◌≡◌, ℕ, ◌+◌, ◌*◌, ◌/◌, ◌%◌, ◌^◌, ◌<◌, ◌≤◌, sym, refl, ap, arith, suc, zero, ◌∙◌, count_ones, bit_at, mod-pow-add, ones_cat, mod_below, pow_pos, bit_at-lt, ◌≢◌, ◌⊎◌, inl, inr, ⊎_elim, cases_lt, mod-eq_of_lt, rank}
 use Rattle.std.specs.Int.Count.{ones}
-use Rattle.std.proofs.lemmas.Nat.{mod-pow-add, ones_cat, mod_below, pow_pos}
-use Rattle.std.proofs.lemmas.Nat.Bits.{bit_at-lt}
-use mathlib.Core.Logic.{◌≢◌, ◌⊎◌, inl, inr}
-use Rattle.std.proofs.Common.{⊎_elim}
-use Rattle.std.proofs.lemmas.Bool.{cases_lt}
-use native.Mathlib.Nat.{mod-eq_of_lt}
-use Rattle.wi_tiles.specs.Inner.Tile.{rank}
 
 ones_of_bit : (b : ℕ) → b < 2 → ones b ≡ b
 unfolding ones lib.Count.ones_in

@@ -1,14 +1,5 @@
 -- Another value at a bit that has one.
-use Rattle.std.proofs.Common.{◌≡◌, ℕ, ◌/◌, ◌^◌, ◌<◌, List, [], ◌∷◌, length, Some, None, sym, ap, arith, ◌∙◌, ⊎_elim, get_or, zero, suc, refl, cond}
-use Rattle.std.specs.Prelude.{slice_get, slice_set, slice_index_or, count_ones, option_map, bit_and, ◌==◌, if◌then◌else◌}
-use Rattle.std.specs.Int.{bit_at}
-use Rattle.std.proofs.lemmas.List.{get_or-set_same, get_or-set_other, length-set}
-use Rattle.std.proofs.lemmas.List.FromFn.{fill_by_all}
-use Rattle.std.proofs.lemmas.Option.{slice_get_read}
-use Rattle.std.proofs.lemmas.Bool.{cases_eq}
-use borrow.Author.Tests.{eq-eqb, ne_eqb}
-use mathlib.Core.Logic.{◌≢◌, ◌⊎◌, inl, inr}
-use Rattle.wi_tiles.specs.Inner.Tile.{rank, at_bit, slots}
+use Rattle.wi_tiles.proofs.Words.{◌≡◌, ℕ, ◌/◌, ◌^◌, ◌<◌, List, [], ◌∷◌, length, Some, None, sym, ap, arith, ◌∙◌, ⊎_elim, get_or, zero, suc, refl, cond, slice_get, slice_set, slice_index_or, count_ones, option_map, bit_and, ◌==◌, if◌then◌else◌, bit_at, get_or-set_same, get_or-set_other, length-set, fill_by_all, slice_get_read, cases_eq, eq-eqb, ne_eqb, ◌≢◌, ◌⊎◌, inl, inr, rank, at_bit, slots}
 use Rattle.wi_tiles.proofs.Ranks.{rank_below}
 use Rattle.wi_tiles.proofs.Tiles.{at_zero, at_one, get-slots, length-slots, remove_within, bit_or_not, three, tested, one_found, none_found, found_within}
 

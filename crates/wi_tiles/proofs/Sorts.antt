@@ -1,9 +1,5 @@
 -- What a change of one part makes of all paths.
-use Rattle.std.proofs.Common.{◌≡◌, ℕ, ◌/◌, ◌%◌, ◌<◌, ◌≤◌, List, length, Option, Some, None, sym, ap, arith, ◌∙◌, cond, refl}
-use Rattle.std.specs.Prelude.{slice_set, slice_index_or, ◌==◌, if◌then◌else◌}
-use Rattle.std.specs.List.{insert, remove}
-use Rattle.wi_tiles.specs.Inner.Parts.{at_part}
-use Rattle.wi_tiles.specs.Inner.Sorted.{find, key, Rises, at_sorted, groups}
+use Rattle.wi_tiles.proofs.Words.{◌≡◌, ℕ, ◌/◌, ◌%◌, ◌<◌, ◌≤◌, List, length, Option, Some, None, sym, ap, arith, ◌∙◌, cond, refl, slice_set, slice_index_or, ◌==◌, if◌then◌else◌, insert, remove, at_part, find, key, Rises, at_sorted, groups}
 use Rattle.wi_tiles.proofs.Digits.{IsDigit, digit_changed, digit_kept}
 use Rattle.wi_tiles.proofs.Keys.{key_read, find_at, find-set_same, find-set_other, find-insert_same, find-insert_other, find-remove_same, find-remove_other}
 

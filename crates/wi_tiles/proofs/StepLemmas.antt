@@ -1,14 +1,5 @@
 -- A step of a walk.
-use Rattle.std.proofs.Common.{◌≡◌, ℕ, ◌+◌, ◌<◌, List, ◌∷◌, Option, Some, None, ◌∙◌, true, arith}
-use Rattle.std.specs.Prelude.{Bool, IsSome, IfSome, MatchOption}
-use Rattle.std.specs.Borrow.{Bor}
-use Rattle.std.specs.Int.{bit_at, w64, trailing_zeros}
-use mathlib.Core.Logic.{◌≢◌}
-use Rattle.wi_values.specs.Address.{Area, place}
-use Rattle.wi_tiles.specs.Inner.Cells.{Pages, Band, is_ahead}
-use Rattle.wi_tiles.specs.Inner.Entries.{entries_of}
-use Rattle.wi_tiles.specs.Inner.Lines.{slot}
-use Rattle.wi_tiles.specs.Inner.Within.{cell_in, is_pending, filled, CountsFirst, IsFirstLeft, IsTurn, IsWalk}
+use Rattle.wi_tiles.proofs.Words.{◌≡◌, ℕ, ◌+◌, ◌<◌, List, ◌∷◌, Option, Some, None, ◌∙◌, true, arith, Bool, IsSome, IfSome, MatchOption, Bor, bit_at, w64, trailing_zeros, ◌≢◌, Area, place, Pages, Band, is_ahead, entries_of, slot, cell_in, is_pending, filled, CountsFirst, IsFirstLeft, IsTurn, IsWalk}
 use Rattle.wi_tiles.proofs.Counts.{counts_next, whole_next, filled_small, filled_below}
 use Rattle.wi_tiles.proofs.Firsts.{first_bit, first_value}
 use Rattle.wi_tiles.proofs.WalkLemmas.{passing, takes_left, rest_left, turned}

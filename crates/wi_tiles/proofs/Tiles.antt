@@ -1,24 +1,5 @@
 -- What a change of one bit, and of the list of values with it, makes of a tile.
-use Rattle.std.proofs.Common.{◌≡◌, ℕ, ◌+◌, ◌-◌, ◌*◌, ◌/◌, ◌%◌, ◌^◌, ◌<◌, ◌≤◌, List, [], ◌∷◌, length, Option, Some, None, sym, refl, ap, arith, suc, zero, ◌∙◌}
-use Rattle.std.specs.Prelude.{slice_get, count_ones, ◌==◌, if◌then◌else◌, bit_and}
-use Rattle.std.specs.Int.{bit_at}
-use Rattle.std.specs.List.{insert, remove}
-use Rattle.std.proofs.lemmas.Nat.{and_mask, one_shl}
-use Rattle.std.proofs.lemmas.Nat.Bits.{bit_at-lt}
-use mathlib.Core.Logic.{◌≢◌, ◌⊎◌, inl, inr}
-use Rattle.std.proofs.Common.{⊎_elim, get_or}
-use Rattle.std.specs.Prelude.{slice_set}
-use Rattle.std.proofs.lemmas.Bool.{cases_lt, cases_eq}
-use Rattle.std.proofs.lemmas.List.{get_or-set_same, get_or-set_other, length-set}
-use Rattle.std.proofs.lemmas.List.FromFn.{length-map-range_with_len, get_or-map-range_with_len, fill_by_all}
-use Rattle.std.proofs.lemmas.Option.{slice_get-get_or}
-use Rattle.std.specs.Int.{bit_not, w64}
-use Rattle.std.specs.Prelude.{bit_or}
-use Rattle.std.proofs.lemmas.Nat.{or_lt, and_le_l, mod_below, pow_pos}
-use Rattle.std.proofs.lemmas.Nat.Bits.{bit_at_set_same, bit_at_set_other, bit_at_clear_same, bit_at_clear_other, shr_and_one, bit_at-zero}
-use Rattle.std.proofs.lemmas.List.{get_or_past}
-use Rattle.std.proofs.lemmas.List.Edits.{length-insert, length-remove}
-use Rattle.wi_tiles.specs.Inner.Tile.{rank, at_bit, slots}
+use Rattle.wi_tiles.proofs.Words.{◌≡◌, ℕ, ◌+◌, ◌-◌, ◌*◌, ◌/◌, ◌%◌, ◌^◌, ◌<◌, ◌≤◌, List, [], ◌∷◌, length, Option, Some, None, sym, refl, ap, arith, suc, zero, ◌∙◌, slice_get, count_ones, ◌==◌, if◌then◌else◌, bit_and, bit_at, insert, remove, and_mask, one_shl, bit_at-lt, ◌≢◌, ◌⊎◌, inl, inr, ⊎_elim, get_or, slice_set, cases_lt, cases_eq, get_or-set_same, get_or-set_other, length-set, length-map-range_with_len, get_or-map-range_with_len, fill_by_all, slice_get-get_or, bit_not, w64, bit_or, or_lt, and_le_l, mod_below, pow_pos, bit_at_set_same, bit_at_set_other, bit_at_clear_same, bit_at_clear_other, shr_and_one, bit_at-zero, get_or_past, length-insert, length-remove, rank, at_bit, slots}
 use Rattle.wi_tiles.proofs.Ranks.{rank_grows, rank_below, rank-whole, rank_same, rank_set}
 
 -- the count as the code makes it

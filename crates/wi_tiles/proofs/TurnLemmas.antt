@@ -1,18 +1,5 @@
 -- The next tile of which a rectangle has something.
-use Rattle.std.proofs.Common.{◌≡◌, ℕ, ◌+◌, ◌*◌, ◌/◌, ◌%◌, ◌<◌, ◌≤◌, List, [], ◌∷◌, length, Option, Some, None, sym, ap, arith, ◌∙◌, ⊎_elim, refl, subst, true}
-use Rattle.std.specs.Prelude.{Bool, ◌&&◌, ◌==◌, nat_le, IsSome, IfSome, slice_index_or, min}
-use Rattle.std.specs.Borrow.{Bor}
-use Rattle.std.specs.Int.{bit_at, w64, trailing_zeros}
-use Rattle.std.proofs.lemmas.Bool.{cases_lt, and_from, le-leb}
-use Rattle.std.proofs.lemmas.Nat.Bits.{bit_at-zero}
-use mathlib.Core.Logic.{◌≢◌}
-use Rattle.wi_values.specs.Address.{Area, place, row_of, column_of, is_within}
-use Rattle.wi_tiles.specs.Inner.Cells.{Pages, Band, at_cell, is_ahead}
-use Rattle.wi_tiles.specs.Inner.Lines.{cell, slot}
-use Rattle.wi_tiles.specs.Inner.Next.{band_at, in_band}
-use Rattle.wi_tiles.specs.Inner.Parts.{at_part}
-use Rattle.wi_tiles.specs.Inner.Sorted.{key, find as find_part}
-use Rattle.wi_tiles.specs.Inner.Within.{bit_of, cell_in, in_band_tile, tile_at, is_left, AreTiles, AreOfBand, IsPlace, IsInside, HasBits, IsNextTile, IsRest, GoesOn, AreBeside, IsTurn, filled}
+use Rattle.wi_tiles.proofs.Words.{◌≡◌, ℕ, ◌+◌, ◌*◌, ◌/◌, ◌%◌, ◌<◌, ◌≤◌, List, [], ◌∷◌, length, Option, Some, None, sym, ap, arith, ◌∙◌, ⊎_elim, refl, subst, true, Bool, ◌&&◌, ◌==◌, nat_le, IsSome, IfSome, slice_index_or, min, Bor, bit_at, w64, trailing_zeros, cases_lt, and_from, le-leb, bit_at-zero, ◌≢◌, Area, place, row_of, column_of, is_within, Pages, Band, at_cell, is_ahead, cell, slot, band_at, in_band, at_part, key, find as find_part, bit_of, cell_in, in_band_tile, tile_at, is_left, AreTiles, AreOfBand, IsPlace, IsInside, HasBits, IsNextTile, IsRest, GoesOn, AreBeside, IsTurn, filled}
 use Rattle.wi_tiles.proofs.BandLemmas.{one_key}
 use Rattle.wi_tiles.proofs.Counts.{first_counts, line_whole, lines_whole}
 use Rattle.wi_tiles.proofs.Keys.{key_read}

@@ -1,20 +1,6 @@
 -- A walk through a rectangle, tile by tile.
-use Rattle.std.proofs.Common.{◌≡◌, ℕ, ◌+◌, ◌*◌, ◌/◌, ◌%◌, ◌<◌, ◌≤◌, List, [], ◌∷◌, Option, Some, None, sym, ap, arith, ◌∙◌, ⊎_elim, inl, inr, zero, suc, refl, cond, subst, true, false}
-use Rattle.std.specs.Prelude.{Bool, ◌||◌, ◌==◌, nat_le, filter, IsSome, IfSome, IfNone}
-use Rattle.std.specs.Borrow.{Bor}
-use Rattle.std.specs.Int.{bit_at}
-use Rattle.std.proofs.lemmas.Bool.{cases_eq, cases_lt, and_parts, and_from, leb-true, le-leb}
-use Rattle.std.proofs.lemmas.Nat.Bits.{bit_at-zero}
-use borrow.Author.Tests.{eqb-true, eq-eqb}
-use mathlib.Core.Logic.{◌≢◌, ◌⊎◌}
-use Rattle.wi_values.specs.Address.{Area, place, row_of, column_of, is_within}
-use Rattle.wi_tiles.specs.Inner.Cells.{Pages, Band, at_cell, is_ahead}
-use Rattle.wi_tiles.specs.Inner.Entries.{with_entry, entries_from, entries_of, cells}
-use Rattle.wi_tiles.specs.Inner.Lines.{slot}
-use Rattle.wi_tiles.specs.Inner.Next.{in_page, band_at, in_band, IsNext, IsStart}
-use Rattle.wi_tiles.specs.Inner.Parts.{at_part, part_from}
-use Rattle.wi_tiles.specs.Inner.Sorted.{find as find_part}
-use Rattle.wi_tiles.specs.Inner.Within.{bit_of, cell_in, in_band_tile, tile_at, in_tile, is_left, is_pending, IsRest, IsFirstLeft, IsTurn}
+use Rattle.wi_tiles.proofs.Words.{◌≡◌, ℕ, ◌+◌, ◌*◌, ◌/◌, ◌%◌, ◌<◌, ◌≤◌, List, [], ◌∷◌, Option, Some, None, sym, ap, arith, ◌∙◌, ⊎_elim, zero, suc, refl, cond, subst, true, false, Bool, ◌||◌, ◌==◌, nat_le, filter, IsSome, IfSome, IfNone, Bor, bit_at, cases_eq, cases_lt, and_parts, and_from, leb-true, le-leb, bit_at-zero, eqb-true, eq-eqb, ◌≢◌, ◌⊎◌, Area, place, row_of, column_of, is_within, Pages, Band, at_cell, is_ahead, with_entry, entries_from, entries_of, cells, slot, in_page, band_at, in_band, IsNext, IsStart, at_part, part_from, find as find_part, bit_of, cell_in, in_band_tile, tile_at, in_tile, is_left, is_pending, IsRest, IsFirstLeft, IsTurn}
+use Rattle.std.proofs.Common.{inl, inr}
 use Rattle.wi_tiles.proofs.MapLemmas.{below, above}
 use Rattle.wi_tiles.proofs.NextLemmas.{row_cell, sides, is_inside}
 

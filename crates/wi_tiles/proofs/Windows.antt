@@ -1,11 +1,6 @@
 -- What a change of one part, or a part more or less at an end, makes of all paths.
-use Rattle.std.proofs.Common.{◌≡◌, ℕ, ◌+◌, ◌-◌, ◌*◌, ◌/◌, ◌%◌, ◌<◌, ◌≤◌, List, [], ◌∷◌, ◌++◌, length, Option, Some, None, sym, ap, arith, ◌∙◌, ⊎_elim, zero, suc, refl, cond}
-use Rattle.std.specs.Prelude.{slice_get, slice_set, slice_index_or, ◌==◌, if◌then◌else◌}
-use Rattle.std.proofs.lemmas.Bool.{cases_lt}
-use Rattle.std.proofs.lemmas.Option.{slice_get_read}
-use borrow.Author.Tests.{lt-ltb, le-ltb}
-use mathlib.Core.Logic.{◌≢◌}
-use Rattle.wi_tiles.specs.Inner.Parts.{at_part, part_from, at_window, span}
+use Rattle.wi_tiles.proofs.Words.{◌≡◌, ℕ, ◌+◌, ◌-◌, ◌*◌, ◌/◌, ◌%◌, ◌<◌, ◌≤◌, List, [], ◌∷◌, ◌++◌, length, Option, Some, None, sym, ap, arith, ◌∙◌, ⊎_elim, zero, suc, refl, cond, slice_get, slice_set, slice_index_or, ◌==◌, if◌then◌else◌, cases_lt, slice_get_read, le-ltb, ◌≢◌, at_part, part_from, at_window, span}
+use borrow.Author.Tests.{lt-ltb}
 use Rattle.wi_tiles.proofs.Digits.{IsDigit, digit_changed, digit_kept}
 
 digit : IsDigit 256

@@ -1,11 +1,6 @@
 -- The order of two texts, read byte by byte.
-use Rattle.std.proofs.Common.{◌≡◌, ℕ, zero, suc, ◌+◌, ◌<◌, min, true, false, List, [], ◌∷◌, length, get_or, drop, refl, sym, ap, ◌∙◌, arith}
-use Rattle.std.specs.Cmp.{nat_cmp_is}
-use Rattle.std.specs.Cmp.Lexicographic.{slice_cmp}
-use Rattle.std.specs.Ordering.{nat_cmp, is_ne, ordering_then}
-use Rattle.std.specs.declared.cmp.Ordering.{Ordering}
-use Rattle.std.specs.declared.cmp.Ordering.TheVariants.{Less, Equal, Greater}
-use Rattle.wi_fraction.proofs.Sizes.{same_nat_cmp}
+use Rattle.wi_value_functions.proofs.Words.{◌≡◌, ℕ, zero, suc, ◌+◌, ◌<◌, true, false, List, [], ◌∷◌, length, get_or, drop, refl, sym, ap, ◌∙◌, arith, nat_cmp_is, slice_cmp, nat_cmp, is_ne, ordering_then, Ordering, Less, Equal, Greater, same_nat_cmp}
+use Rattle.std.proofs.Common.{min}
 
 -- the order of what two texts have from a place on
 abbrev pub order_from : ℕ → List ℕ → List ℕ → Ordering

@@ -1,10 +1,5 @@
 -- The constants 0, 1 and 100, as they are made.
-use Rattle.std.proofs.Common.{◌≡◌, refl}
-use Rattle.std.specs.Prelude.{pos, Some}
-use Rattle.wi_fraction.specs.Number.{number_of}
-use Rattle.wi_fraction.specs.Number.Laws.{number_at-some}
-use Rattle.wi_fraction.specs.Gcd.{gcd}
-use Rattle.wi_standard_functions.specs.Convert.{zero_number, one_number, hundred_number}
+use Rattle.wi_value_functions.proofs.Words.{◌≡◌, refl, pos, Some, number_of, number_at-some, gcd, zero_number, one_number, hundred_number}
 
 pub number_of-zero : number_of (pos 0) 1 ≡ Some zero_number
 unfolding number_of gcd

@@ -1,16 +1,6 @@
 -- One character after another comes off the front of a text.
-use Rattle.std.proofs.Common.{◌≡◌, sym, ap, subst, ◌∙◌, ℕ, ◌+◌, ◌-◌, ◌≤◌, List, [], ◌∷◌, ◌++◌, take, drop, length, length-append, chars, arith, ⊎_elim}
-use Rattle.std.proofs.lemmas.Bool.{cases_lt}
-use Rattle.std.proofs.lemmas.List.{append_assoc, append_cancel_right, take-append-drop, drop_all}
-use Rattle.std.proofs.lemmas.Str.{IsUtf8-past_char, IsUtf8-take, chars_past_char, chars-nil, chars-append, length-le-encodes, encodes-chars, IsCharBoundary-at_seam}
-use Rattle.std.proofs.Math.Nat.{sub-add-min_cancel}
-use Rattle.std.proofs.Math.Seq.{drop-drop, take-append_seam}
-use Rattle.std.specs.Char.{encode_utf8}
-use Rattle.std.specs.Prelude.{min, encode_utf8_all, Option, Some, None, MatchOption}
-use Rattle.std.specs.Str.{IsUtf8, IsCharBoundary}
-use Rattle.wi_standard_functions.specs.Arithmetic.{limited_text}
-use Rattle.wi_standard_functions.specs.Text.{of_chars}
-use Rattle.wi_value_functions.specs.Inner.Gives.{EndsWith}
+use Rattle.wi_value_functions.proofs.Words.{◌≡◌, sym, ap, subst, ◌∙◌, ℕ, ◌+◌, ◌-◌, ◌≤◌, List, [], ◌∷◌, ◌++◌, take, drop, length, length-append, chars, arith, ⊎_elim, cases_lt, append_assoc, append_cancel_right, take-append-drop, drop_all, IsUtf8-past_char, IsUtf8-take, chars_past_char, chars-nil, chars-append, length-le-encodes, encodes-chars, IsCharBoundary-at_seam, sub-add-min_cancel, drop-drop, take-append_seam, encode_utf8, min, encode_utf8_all, Some, None, MatchOption, IsUtf8, IsCharBoundary, limited_text, of_chars, EndsWith}
+use Rattle.std.specs.Prelude.{Option}
 
 -- ---- one step
 

@@ -1,16 +1,8 @@
 -- A count goes no higher than it fits, and no number is so great.
-use Rattle.std.proofs.Common.{◌≡◌, ℕ, ◌+◌, ◌<◌, Bool, true, false, cond, refl, sym, ap, ◌∙◌, inl, arith}
-use Rattle.std.specs.Prelude.{◌^◌, ◌-◌, min, nat_le, Result, Err}
-use Rattle.std.proofs.Math.Nat.{sub-add-min_cancel}
-use Rattle.std.proofs.lemmas.Bool.Decides.{nat_tests}
+use Rattle.wi_value_functions.proofs.Words.{◌≡◌, ℕ, ◌+◌, ◌<◌, Bool, true, false, cond, refl, sym, ap, ◌∙◌, inl, arith, ◌^◌, min, nat_le, Result, Err, sub-add-min_cancel, nat_tests, number_at-too_large, number_of-whole, ErrorKind, BadNumber, fitting, whole_number, whole_value, ◌>>=◌, counted, IsCut}
+use Rattle.std.specs.Prelude.{◌-◌}
 use Rattle.wi_fraction.specs.Number as numbers
-use Rattle.wi_fraction.proofs.Numbers.{number_at-too_large, number_of-whole}
-use Rattle.wi_values.specs.declared.value.ErrorKind.{ErrorKind}
-use Rattle.wi_values.specs.declared.value.ErrorKind.TheVariants.{BadNumber}
 use Rattle.wi_values.specs.declared.value.Value.TheVariants.{Number}
-use Rattle.wi_standard_functions.specs.Arithmetic.{fitting, whole_number, whole_value}
-use Rattle.wi_standard_functions.specs.Steps.{◌>>=◌}
-use Rattle.wi_value_functions.specs.Inner.Counts.{counted, IsCut}
 
 pub too_many : (n : ℕ) → 2 ^ 127 - 1 < n → whole_number n ≡ Err BadNumber
 too_many n h = ap fitting (sym (number_at-too_large false n 1 (inl h) ∙ number_of-whole false n))

@@ -1,15 +1,5 @@
 -- The first place of a text by its bytes is the first by its characters.
-use Rattle.std.proofs.Common.{◌≡◌, refl, sym, ap, subst, ◌∙◌, ℕ, zero, suc, ◌+◌, ◌≤◌, ◌<◌, Bool, true, false, List, ◌++◌, take, drop, length, length-append, chars, arith}
-use Rattle.std.proofs.lemmas.Bool.{false_from_ne_true}
-use Rattle.std.proofs.lemmas.List.{take-append-drop, take-append-le, length-take, length-drop}
-use Rattle.std.proofs.lemmas.Slice.Eq.{bytes_eq-Decides}
-use Rattle.std.proofs.lemmas.Str.{IsUtf8-take, chars-append, length-le-encodes, encodes-chars, encodes-append}
-use Rattle.std.proofs.Math.Seq.{take-append_seam, drop-append_seam}
-use Rattle.std.specs.List.{starts_with, range_with_len}
-use Rattle.std.specs.Prelude.{nat_eq, find, encode_utf8_all, Some, None}
-use Rattle.std.specs.Str.{IsUtf8, IsCharBoundary}
-use Rattle.std.specs.Str.Pattern.{LacksTextAt}
-use Rattle.wi_standard_functions.specs.Text.{first_position}
+use Rattle.wi_value_functions.proofs.Words.{◌≡◌, refl, sym, ap, subst, ◌∙◌, ℕ, zero, suc, ◌+◌, ◌≤◌, ◌<◌, Bool, true, false, List, ◌++◌, take, drop, length, length-append, chars, arith, false_from_ne_true, take-append-drop, take-append-le, length-take, length-drop, bytes_eq-Decides, IsUtf8-take, chars-append, length-le-encodes, encodes-chars, encodes-append, take-append_seam, drop-append_seam, starts_with, range_with_len, nat_eq, find, encode_utf8_all, Some, None, IsUtf8, IsCharBoundary, LacksTextAt, first_position}
 
 -- ---- the first of some numbers that passes a test
 

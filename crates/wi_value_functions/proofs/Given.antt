@@ -1,9 +1,5 @@
 -- The arguments that have some values.
-use Rattle.std.proofs.Common.{◌≡◌, ℕ, zero, suc, List, [], ◌∷◌, slice_get, refl, ap}
-use Rattle.std.specs.Prelude.{map, unwrap_or}
-use Rattle.wi_values.specs.declared.value.Value.{Value}
-use Rattle.wi_standard_functions.specs.Arguments.{Argument, value_or}
-use Rattle.wi_value_functions.specs.Applied.{arguments_of}
+use Rattle.wi_value_functions.proofs.Words.{◌≡◌, ℕ, zero, suc, List, [], ◌∷◌, slice_get, refl, ap, map, unwrap_or, Value, Argument, value_or, arguments_of}
 
 -- at a place
 pub given_or : (default : Value) (vs : List Value) (i : ℕ) → value_or default (arguments_of vs) i ≡ unwrap_or (slice_get vs i) default

@@ -1,22 +1,7 @@
 -- Texts one after another, and one text many times.
-use Rattle.std.proofs.Common.{◌≡◌, refl, sym, ap, subst, ◌∙◌, ℕ, suc, zero, ◌+◌, ◌*◌, ◌≤◌, ◌<◌, List, [], ◌∷◌, ◌++◌, drop, get_or, length, arith}
-use Rattle.std.proofs.lemmas.Bool.{le-leb, lt-leb}
-use Rattle.std.proofs.Math.Nat.{sub-add-min_cancel, mul-le-mul_right}
-use Rattle.wi_values.specs.declared.value.ErrorKind.TheVariants.{BadValue}
-use Rattle.std.specs.Prelude.{min, ◌^◌, ◌-◌, Result, Ok, Err}
-use Rattle.std.specs.List.{concat, repeat}
-use Rattle.std.proofs.lemmas.List.{append_assoc, append-nil, length-append, drop_more, drop_all}
-use Rattle.wi_standard_functions.specs.Arithmetic.{limited_text}
-use Rattle.wi_standard_functions.specs.Convert.{to_text}
-use Rattle.wi_standard_functions.specs.Steps.{◌>>=◌, and_then, map_until_error}
-use Rattle.wi_value_functions.specs.Endings.{Gives}
-use Rattle.wi_value_functions.specs.declared.ending.Ending.{Ending}
-use Rattle.wi_value_functions.specs.declared.ending.Ending.TheVariants.{Error, Stopped}
-use Rattle.wi_value_functions.specs.Inner.Gives.{Agrees}
-use Rattle.wi_values.specs.Value.{shown_text}
-use Rattle.wi_values.specs.declared.value.ErrorKind.{ErrorKind}
-use Rattle.wi_values.specs.declared.value.Value.{Value}
-use Rattle.wi_values.specs.declared.value.Value.TheVariants.{Text, Fault}
+use Rattle.wi_value_functions.proofs.Words.{◌≡◌, refl, sym, ap, subst, ◌∙◌, ℕ, suc, zero, ◌+◌, ◌*◌, ◌≤◌, ◌<◌, List, [], ◌∷◌, ◌++◌, drop, get_or, length, arith, le-leb, lt-leb, sub-add-min_cancel, mul-le-mul_right, BadValue, min, ◌^◌, Result, Ok, Err, concat, repeat, append_assoc, append-nil, drop_more, drop_all, limited_text, to_text, ◌>>=◌, and_then, map_until_error, Gives, Ending, Error, Stopped, Agrees, shown_text, ErrorKind, Value, Text, Fault}
+use Rattle.std.specs.Prelude.{◌-◌}
+use Rattle.std.proofs.lemmas.List.{length-append}
 
 -- what comes of a text and the values that are still to be joined to it
 abbrev pub joined_to : List ℕ → Result (List (List ℕ)) ErrorKind → Value

@@ -12,3 +12,4 @@ pub mod Names
 pub mod Given
 pub mod ValuesAlone
 pub mod Comparing
+pub mod Words

@@ -1,21 +1,8 @@
 -- A function is found by its name among rows in the order of `functions`.
-use Rattle.std.proofs.Common.{◌≡◌, ℕ, Bool, true, false, ◌&&◌, List, [], ◌∷◌, length, get_or, ◌<◌, ◌≤◌, Option, Some, None, if◌then◌else◌, refl, sym, ap, ◌∙◌, subst}
-use mathlib.Core.List.{map-map}
-use Rattle.std.specs.Prelude.{map, find, option_map}
-use Rattle.std.specs.Cmp.Lexicographic.{slice_cmp}
-use Rattle.std.specs.List.{AllByRecursion}
+use Rattle.wi_value_functions.proofs.Words.{◌≡◌, ℕ, Bool, true, false, ◌&&◌, List, [], ◌∷◌, length, get_or, ◌<◌, ◌≤◌, Option, if◌then◌else◌, refl, sym, ap, ◌∙◌, subst, map-map, map, find, option_map, slice_cmp, AllByRecursion, is_lt, nat_cmp, bytes_eq, and_parts, exact_bytes, Ordering, Less, Equal, Greater, BadValue, UnknownName, Fault, Argument, functions as all_functions, function_named, has_parameters, call_value, value_of_call}
+use Rattle.std.proofs.Common.{Some, None}
 use Rattle.std.specs.List.Sorted.{IsStrictlySortedBy}
-use Rattle.std.specs.Ordering.{is_lt, nat_cmp}
-use Rattle.std.specs.Str.{bytes_eq}
-use Rattle.std.proofs.lemmas.Bool.{and_parts}
-use Rattle.std.proofs.lemmas.Map.Lookups.{exact_bytes}
-use Rattle.std.specs.declared.cmp.Ordering.{Ordering}
-use Rattle.std.specs.declared.cmp.Ordering.TheVariants.{Less, Equal, Greater}
-use Rattle.wi_values.specs.declared.value.ErrorKind.TheVariants.{BadValue, UnknownName}
-use Rattle.wi_values.specs.declared.value.Value.TheVariants.{Fault}
-use Rattle.wi_standard_functions.specs.Arguments.{Argument}
 use Rattle.wi_standard_functions.specs.Functions as functions
-use Rattle.wi_standard_functions.specs.Functions.{functions as all_functions, function_named, has_parameters, call_value, value_of_call}
 use Rattle.wi_value_functions.proofs.Searching.{KeysAscend, IsWithin, named, one_named, nowhere, find-map}
 
 -- ---- the names ascend

@@ -1,19 +1,6 @@
 -- What a binary search learns of a list whose keys, which are texts, ascend.
-use Rattle.std.proofs.Common.{◌≡◌, ℕ, zero, suc, ◌+◌, ◌<◌, ◌≤◌, Bool, true, false, List, [], ◌∷◌, length, get_or, Option, Some, None, refl, sym, ap, ◌∙◌, inl, inr, cond, arith}
-use Rattle.std.specs.Prelude.{map, find, option_map}
-use Rattle.std.specs.Cmp.{nat_cmp_is}
-use Rattle.std.specs.Cmp.Lexicographic.{slice_cmp}
-use Rattle.std.specs.List.Sorted.{IsStrictlySortedBy}
-use Rattle.std.specs.Ordering.{is_eq, nat_cmp, ordering_reverse}
-use Rattle.std.specs.Str.{bytes_eq}
-use Rattle.std.specs.declared.cmp.Ordering.{Ordering}
-use Rattle.std.specs.declared.cmp.Ordering.TheVariants.{Less, Equal, Greater}
-use Rattle.std.proofs.lemmas.Bool.{cases_order, false_from_ne_true}
-use Rattle.std.proofs.lemmas.Cmp.{nat_list_cmp_total, ranked, tied_itself}
-use Rattle.std.proofs.lemmas.List.{get_or-map, length-map}
-use Rattle.std.proofs.lemmas.Map.Keys.{Less-from_sorted, sorted_tail}
-use Rattle.std.proofs.lemmas.Map.Text.{is_eq-slice_cmp}
-use Rattle.std.proofs.lemmas.Slice.Eq.{bytes_eq-Decides}
+use Rattle.wi_value_functions.proofs.Words.{◌≡◌, ℕ, zero, suc, ◌+◌, ◌<◌, ◌≤◌, Bool, true, false, List, [], ◌∷◌, length, get_or, Option, refl, sym, ap, ◌∙◌, inl, inr, cond, arith, map, find, option_map, nat_cmp_is, slice_cmp, IsStrictlySortedBy, is_eq, nat_cmp, ordering_reverse, bytes_eq, Ordering, Less, Equal, Greater, cases_order, false_from_ne_true, nat_list_cmp_total, ranked, tied_itself, get_or-map, length-map, Less-from_sorted, sorted_tail, is_eq-slice_cmp, bytes_eq-Decides}
+use Rattle.std.proofs.Common.{Some, None}
 
 -- texts that ascend, each below all that follow, compare as their places do
 as_places : (ks : List (List ℕ)) (i j : ℕ) (d : List ℕ) → IsStrictlySortedBy (slice_cmp nat_cmp) ks → i < length ks → j < length ks → slice_cmp nat_cmp (get_or ks i d) (get_or ks j d) ≡ nat_cmp i j

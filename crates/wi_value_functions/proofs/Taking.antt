@@ -1,13 +1,6 @@
 -- The parts of a text, once its characters and the numbers are found.
-use Rattle.std.proofs.Common.{◌≡◌, sym, ap, ◌∙◌, ℕ, ◌-◌, List, take, drop, length, chars}
-use Rattle.std.specs.Prelude.{ℤ, Ok}
-use Rattle.std.specs.Str.{IsUtf8}
-use Rattle.wi_standard_functions.specs.Arithmetic.{limited_text}
-use Rattle.wi_standard_functions.specs.Convert.{to_text, to_whole}
-use Rattle.wi_standard_functions.specs.Steps.{◌>>=◌}
-use Rattle.wi_standard_functions.specs.Text.{at_least, of_chars, left_value, right_value, mid_value}
+use Rattle.wi_value_functions.proofs.Words.{◌≡◌, sym, ap, ◌∙◌, ℕ, ◌-◌, List, take, drop, length, chars, ℤ, Ok, IsUtf8, limited_text, to_text, to_whole, ◌>>=◌, at_least, of_chars, left_value, right_value, mid_value, Value}
 use Rattle.wi_value_functions.proofs.Counting.{spelled}
-use Rattle.wi_values.specs.declared.value.Value.{Value}
 
 part_is : (t count : Value) (f : ℕ → List ℕ → List ℕ) (s part : List ℕ) (k : ℤ) (n : ℕ) → to_text t ≡ Ok s → to_whole count ≡ Ok k → at_least 0 k ≡ Ok n
     → IsUtf8 part → chars part ≡ f n (chars s)

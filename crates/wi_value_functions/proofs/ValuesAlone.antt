@@ -1,21 +1,6 @@
 -- A function of values gives what it gives for the arguments' values, whether they are those of references or not.
-use Rattle.std.proofs.Common.{◌≡◌, ℕ, zero, suc, List, [], ◌∷◌, refl, ap}
-use Rattle.std.specs.Prelude.{map}
-use Rattle.wi_standard_functions.specs.Arguments.{Argument, value_or}
-use Rattle.wi_standard_functions.specs.Functions.{of_one, of_two_or, of_three_or}
-use Rattle.wi_standard_functions.specs.Inner.Named.{zero_value, one_value, power_value}
-use Rattle.wi_standard_functions.specs.Logical.{not_value}
-use Rattle.wi_standard_functions.specs.Information.{value_value}
-use Rattle.wi_standard_functions.specs.Mathematical.{abs_value, sign_value, quotient_value, mod_value}
-use Rattle.wi_standard_functions.specs.Rounding.{int_value, round_value}
-use Rattle.wi_standard_functions.specs.Text.{len_value, left_value, right_value, mid_value, concatenate_value, exact_value, find_value, rept_value}
-use Rattle.wi_values.specs.declared.value.Value.{Value as AnyValue}
-use Rattle.wi_values.specs.declared.value.Value.TheVariants.{Empty, Logical}
-use Rattle.wi_value_functions.specs.Applied.{applied, applied_to_values, arguments_of, passes}
-use Rattle.wi_value_functions.specs.declared.function.Function.TheVariants.{Values}
-use Rattle.wi_value_functions.specs.declared.function.TextFunction.TheVariants.{Concatenate, Exact, Find, Left, Len, Mid, Rept, Right}
-use Rattle.wi_value_functions.specs.declared.function.ValueFunction.{ValueFunction}
-use Rattle.wi_value_functions.specs.declared.function.ValueFunction.TheVariants.{Abs, False, Int, Is, Mod, Na, Not, Power, Quotient, Round, Sign, Text, True, Value}
+use Rattle.wi_value_functions.proofs.Words.{◌≡◌, ℕ, zero, suc, List, [], ◌∷◌, refl, ap, map, Argument, value_or, of_one, of_two_or, of_three_or, zero_value, one_value, power_value, not_value, value_value, abs_value, sign_value, quotient_value, mod_value, int_value, round_value, len_value, left_value, right_value, mid_value, concatenate_value, exact_value, find_value, rept_value, Value as AnyValue, Empty, Logical, applied, applied_to_values, arguments_of, passes, Values, Concatenate, Exact, Find, Left, Len, Mid, Rept, Right, ValueFunction, Abs, False, Int, Is, Mod, Na, Not, Power, Quotient, Round, Sign, True}
+use Rattle.wi_value_functions.specs.declared.function.ValueFunction.TheVariants.{Text, Value}
 
 -- the arguments' values
 abbrev pub values_of : List Argument → List AnyValue

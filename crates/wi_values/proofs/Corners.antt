@@ -1,8 +1,5 @@
 -- A rectangle's corners may stand in any order.
-use Rattle.std.proofs.Common.{◌≡◌, ℕ, min, max, true, nat_le, ◌&&◌, arith}
-use Rattle.std.proofs.lemmas.Bool.Decides.{nat_tests}
-use Rattle.wi_values.specs.Address.{row_of, column_of, rect_of, is_within}
-use Rattle.wi_values.specs.Laws.{CornersMayTurn}
+use Rattle.wi_values.proofs.Words.{◌≡◌, ℕ, min, max, true, nat_le, ◌&&◌, arith, nat_tests, row_of, column_of, rect_of, is_within, CornersMayTurn}
 use Rattle.wi_values.proofs.Within.{row_of_place, column_of_place}
 
 turned : (a b : ℕ) → rect_of a b ≡ rect_of b a

@@ -1,11 +1,6 @@
 -- Equality of values, and that of replacements, decides whether they are one.
-use Rattle.std.proofs.Common.{◌≡◌, arith}
-use Rattle.std.specs.Prelude.{Bool, Decides}
-use Rattle.std.proofs.lemmas.Grind.{common_steps}
-use Rattle.wi_fraction.specs.Order.Laws.{numbers}
-use Rattle.wi_values.specs.Inner.Same.{texts}
-use Rattle.wi_values.specs.declared.value.Value.{Value}
-use Rattle.wi_values.specs.declared.replacement.Replacement.{Replacement}
+use Rattle.wi_values.proofs.Words.{◌≡◌, arith, Decides, common_steps, numbers, texts, Value, Replacement}
+use Rattle.std.specs.Prelude.{Bool}
 use Rattle.wi_values.specs.contracts.value.ValuePartialEq.TheImpl as values
 use Rattle.wi_values.specs.contracts.replacement.ReplacementPartialEq.TheImpl as block
 

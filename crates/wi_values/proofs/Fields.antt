@@ -1,8 +1,5 @@
 -- Fields, and texts of numbers.
-use Rattle.std.proofs.Common.{◌≡◌, ℕ, List, [], ◌∷◌, length, refl}
-use Rattle.wi_fraction.proofs.ReadsBack.{reads_back}
-use Rattle.wi_values.specs.Inner.Import.{imported, field_value}
-use Rattle.wi_values.specs.Laws.{NumbersReadBack}
+use Rattle.wi_values.proofs.Words.{◌≡◌, ℕ, List, [], ◌∷◌, length, refl, reads_back, imported, field_value, NumbersReadBack}
 
 -- a field that is not empty is taken for the value of its text
 pub field_of_text : (bs : List ℕ) → (length bs ≡ 0 → ⊥) → field_value bs ≡ imported bs

@@ -1,18 +1,5 @@
 -- Each text is taken for one thing: for what is imported.
-use Rattle.std.proofs.Common.{◌≡◌, ◌≢◌, ◌↔◌, ℕ, Bool, true, false, nat_lt, List, length, Option, Some, None, if◌then◌else◌, refl, sym, ap, ◌∙◌, subst, arith}
-use Rattle.std.specs.Prelude.{codes}
-use Rattle.std.proofs.lemmas.Bool.Decides.{nat_tests}
-use Rattle.std.proofs.lemmas.Slice.Eq.{bytes_eq-Decides}
-use Rattle.std.specs.Str.{bytes_eq}
-use Rattle.wi_fraction.specs.Number.{Number as Numbers}
-use Rattle.wi_fraction.specs.Inner.Reading.{read, read_size}
-use Rattle.wi_fraction.proofs.Spelled.{reads_what_is_spelled}
-use Rattle.wi_values.specs.declared.value.Value.{Value}
-use Rattle.wi_values.specs.declared.value.Value.TheVariants.{Text, Logical}
-use Rattle.wi_values.specs.Import.{max_text}
-use Rattle.wi_values.specs.Inner.Import.{words_value, number_or, imported}
-use Rattle.wi_values.specs.Imported.{SpellsNumber, IsWords, IsImported, a_number, a_truth_value, a_text, too_long}
-use Rattle.wi_values.specs.Value.{logical_name}
+use Rattle.wi_values.proofs.Words.{◌≡◌, ◌≢◌, ◌↔◌, ℕ, Bool, true, false, nat_lt, List, length, Option, Some, None, if◌then◌else◌, refl, sym, ap, ◌∙◌, subst, arith, codes, nat_tests, bytes_eq-Decides, bytes_eq, Number as Numbers, read, read_size, reads_what_is_spelled, Value, Text, Logical, max_text, words_value, number_or, imported, SpellsNumber, IsWords, IsImported, a_number, a_truth_value, a_text, too_long, logical_name}
 
 -- ---- numbers
 

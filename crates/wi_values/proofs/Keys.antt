@@ -1,9 +1,5 @@
 -- The keys of a list of entries by number.
-use Rattle.std.proofs.Common.{◌≡◌, ◌==◌, ◌<◌, ℕ, zero, suc, true, List, [], ◌∷◌, length, get_or, set, refl, sym, ap, arith, eq-eqb}
-use Rattle.std.proofs.Math.Seq.{map-set_same}
-use Rattle.std.proofs.lemmas.Bool.{or_left, or_right}
-use Rattle.std.specs.List.{list_any}
-use Rattle.std.specs.Map.{keys_of}
+use Rattle.wi_values.proofs.Words.{◌≡◌, ◌==◌, ◌<◌, ℕ, zero, suc, true, List, [], ◌∷◌, length, get_or, set, refl, sym, ap, arith, eq-eqb, map-set_same, or_left, or_right, list_any, keys_of}
 
 module _ {X : Type 0} where
   -- that of a list of one

@@ -1,9 +1,5 @@
 -- The letters of a column, one by one.
-use Rattle.std.proofs.Common.{◌≡◌, ℕ, zero, suc, ◌+◌, ◌-◌, ◌/◌, ◌%◌, ◌<◌, List, [], ◌∷◌, ◌++◌, refl, sym, ap, ◌∙◌, ◌≤◌, ◌⊎◌, inl, inr, true, false, ◌==◌, nat_lt, append_assoc, append-nil, arith}
-use Rattle.std.proofs.lemmas.Bool.{cases_lt}
-use Rattle.std.proofs.lemmas.Bool.Decides.{nat_tests}
-use Rattle.wi_values.specs.Address.{column_letters}
-use Rattle.wi_values.specs.Inner.Letters.{letters_within}
+use Rattle.wi_values.proofs.Words.{◌≡◌, ℕ, zero, suc, ◌+◌, ◌-◌, ◌/◌, ◌%◌, ◌<◌, List, [], ◌∷◌, ◌++◌, refl, sym, ap, ◌∙◌, ◌≤◌, ◌⊎◌, inl, inr, true, false, ◌==◌, nat_lt, append_assoc, append-nil, arith, cases_lt, nat_tests, column_letters, letters_within}
 
 pub letters_at_most_none : (n : ℕ) → letters_within 0 n ≡ []
 unfolding letters_within

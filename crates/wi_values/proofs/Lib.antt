@@ -12,3 +12,4 @@ pub mod ReadsBack
 pub mod Replacements
 pub mod Spelling
 pub mod Within
+pub mod Words

@@ -1,9 +1,5 @@
 -- What each element of a list has, what some has, how many there are, and what one more is.
-use Rattle.std.proofs.Common.{◌≡◌, ◌∙◌, ℕ, zero, suc, ◌+◌, ◌<◌, ◌≤◌, Bool, true, false, cond, List, [], ◌∷◌, ◌++◌, length, get_or, take, drop, filter, sum_by, All, refl, sym, ap, arith}
-use Rattle.std.proofs.lemmas.Bool.{or_parts}
-use Rattle.std.proofs.lemmas.List.{drop_more, take_more}
-use Rattle.std.proofs.lemmas.List.Sums.{sum_by-cons}
-use Rattle.std.specs.List.{Any, list_any}
+use Rattle.wi_values.proofs.Words.{◌≡◌, ◌∙◌, ℕ, zero, suc, ◌+◌, ◌<◌, ◌≤◌, Bool, true, false, cond, List, [], ◌∷◌, ◌++◌, length, get_or, take, drop, filter, sum_by, All, refl, sym, ap, arith, or_parts, drop_more, take_more, sum_by-cons, Any, list_any}
 
 module _ {X : Type 0} where
   -- ---- each and some

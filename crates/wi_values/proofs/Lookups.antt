@@ -1,12 +1,5 @@
 -- What is found under a number after an entry is put in or taken away.
-use Rattle.std.proofs.Common.{◌≡◌, ◌==◌, ℕ, Bool, true, false, cond, not, List, [], ◌∷◌, filter, Option, Some, None, refl, ap, sym, ◌∙◌, arith}
-use Rattle.std.proofs.lemmas.Bool.Decides.{nat_tests}
-use Rattle.std.proofs.lemmas.Map.Entries.{lookup-filter-keys}
-use Rattle.std.specs.Ordering.{nat_cmp, match_ordering}
-use Rattle.std.specs.declared.cmp.Ordering.{Ordering}
-use Rattle.std.specs.declared.cmp.Ordering.TheVariants.{Less, Equal, Greater}
-use Rattle.std.specs.Map.{lookup}
-use Rattle.std.specs.BTreeMap.{is_at, insert_entry}
+use Rattle.wi_values.proofs.Words.{◌≡◌, ◌==◌, ℕ, Bool, true, false, cond, not, List, [], ◌∷◌, filter, Option, Some, None, refl, ap, sym, ◌∙◌, arith, nat_tests, lookup-filter-keys, nat_cmp, match_ordering, Ordering, Less, Equal, Greater, lookup, is_at, insert_entry}
 use Rattle.wi_values.proofs.Order.{same_from_Equal, is_at-eq, at_same}
 
 apart : (q c k : ℕ) → nat_cmp c k ≡ Greater → (q == c) ≡ true → is_at (nat_cmp q) k ≡ true → ⊥

@@ -1,5 +1,5 @@
 -- What holds in any case holds after success, and after an error.
-use Rattle.std.proofs.Common.{Result, Ok, Err, OnOk, OnErr}
+use Rattle.wi_values.proofs.Words.{Result, Ok, Err, OnOk, OnErr}
 
 pub on_ok : {T E P : Type 0} (r : Result T E) → P → OnOk r P
 on_ok (Ok x) h = h

@@ -1,22 +1,7 @@
 -- The text of a cell's address reads back to that address.
-use Rattle.std.proofs.Common.{◌≡◌, ℕ, zero, suc, ◌+◌, ◌-◌, ◌*◌, ◌/◌, ◌%◌, ◌^◌, ◌<◌, ◌≤◌, true, false, nat_lt, ◌==◌, List, [], ◌∷◌, ◌++◌, length, get_or, Some, ok_or, refl, length-append, ap, sym, subst, ◌∙◌, arith, rules, tests}
-use Rattle.std.proofs.Math.Seq.{take-append_seam, drop-append_seam}
-use Rattle.std.proofs.lemmas.Bool.Decides.{nat_tests}
-use Rattle.std.proofs.lemmas.Fmt.{decimal_is_IsNumeral, decimal_nonempty, first_decimal}
-use Rattle.std.proofs.lemmas.List.Recursion.{and_push}
-use Rattle.std.specs.Char.{is_ascii_alphabetic, is_ascii_digit, to_ascii_uppercase}
-use Rattle.std.specs.Fmt.{decimal}
-use Rattle.std.specs.List.{list_all, prefix_len}
-use Rattle.std.specs.Str.{all_ascii_digits}
-use Rattle.std.specs.Str.Parse.{digits_value}
-use Rattle.wi_fraction.proofs.Scanning.{own}
+use Rattle.wi_values.proofs.Words.{◌≡◌, ℕ, zero, suc, ◌+◌, ◌-◌, ◌*◌, ◌/◌, ◌%◌, ◌^◌, ◌<◌, ◌≤◌, true, false, nat_lt, ◌==◌, List, [], ◌∷◌, ◌++◌, length, get_or, Some, ok_or, refl, length-append, ap, sym, subst, ◌∙◌, arith, rules, tests, take-append_seam, drop-append_seam, nat_tests, decimal_is_IsNumeral, decimal_nonempty, first_decimal, and_push, is_ascii_alphabetic, is_ascii_digit, to_ascii_uppercase, decimal, list_all, prefix_len, all_ascii_digits, digits_value, own, columns, rows, place, row_of, column_of, letters_value, column_letters, address_text, is_row_number, letters_within, cell_at, address_at, read_address, Outside, AddressesReadBack}
 use Rattle.wi_values.proofs.Letters.{letters_at_most_none, letters_of_none, letters_more, letters_of_column}
 use Rattle.wi_values.proofs.Spelling.{letters_value_after, letters_from_none}
-use Rattle.wi_values.specs.Address.{columns, rows, place, row_of, column_of, letters_value, column_letters, address_text, is_row_number}
-use Rattle.wi_values.specs.Inner.Letters.{letters_within}
-use Rattle.wi_values.specs.AddressReading.{cell_at, address_at, read_address}
-use Rattle.wi_values.specs.declared.address.AddressFault.TheVariants.{Outside}
-use Rattle.wi_values.specs.Laws.{AddressesReadBack}
 
 -- a letter of a column
 capital : (n : ℕ) → n < 26 → (to_ascii_uppercase (65 + n) - 64 ≡ n + 1) × (is_ascii_alphabetic (65 + n) ≡ true)

@@ -1,14 +1,5 @@
 -- Numbers read from the left, held at a bound once they pass it.
-use Rattle.std.proofs.Common.{◌≡◌, ℕ, suc, ◌+◌, ◌-◌, ◌*◌, ◌^◌, ◌<◌, ◌≤◌, min, List, [], ◌∷◌, length, drop, get_or, sym, ◌∙◌, ap, arith, rules, tests, inl, inr, true, Option, Some, None, unwrap_or}
-use Rattle.std.proofs.lemmas.Bool.Decides.{nat_tests}
-use Rattle.std.specs.Option.{SomeIff}
-use Rattle.std.proofs.Math.Nat.{add_assoc, add-mul, mul_assoc, mul_right_comm, mul-pos, pow-le-pow_right, pow-suc}
-use Rattle.std.proofs.lemmas.Bool.{cases_lt}
-use Rattle.std.proofs.lemmas.List.{at_drop_more}
-use Rattle.std.specs.Char.{digit_value, is_ascii_alphabetic, to_ascii_uppercase}
-use Rattle.std.specs.List.{list_all}
-use Rattle.std.specs.Str.Parse.{digits_value_after}
-use Rattle.wi_values.specs.Address.{letters_value}
+use Rattle.wi_values.proofs.Words.{◌≡◌, ℕ, suc, ◌+◌, ◌-◌, ◌*◌, ◌^◌, ◌<◌, ◌≤◌, min, List, [], ◌∷◌, length, drop, get_or, sym, ◌∙◌, ap, arith, rules, tests, inl, inr, true, Option, Some, None, unwrap_or, nat_tests, SomeIff, add_assoc, add-mul, mul_assoc, mul_right_comm, mul-pos, pow-le-pow_right, pow-suc, cases_lt, at_drop_more, digit_value, is_ascii_alphabetic, to_ascii_uppercase, list_all, digits_value_after, letters_value}
 
 -- the number of letters that follow on those of n
 abbrev pub letters_value_after : ℕ → List ℕ → ℕ

@@ -1,8 +1,6 @@
 -- Where the cells of a rectangle stand in row-major order, and how many are left to search.
-use Rattle.std.proofs.Common.{◌≡◌, ◌&&◌, ℕ, ◌+◌, ◌-◌, ◌<◌, ◌≤◌, true, Option, Some, None, IfSome, arith}
+use Rattle.wi_values.proofs.Words.{◌≡◌, ◌&&◌, ℕ, ◌+◌, ◌-◌, ◌<◌, ◌≤◌, true, Option, Some, None, IfSome, arith, and_from, and_parts, leb-true, le-leb, Area, columns, place, row_of, column_of, is_within}
 use Rattle.std.specs.Prelude.{nat_le}
-use Rattle.std.proofs.lemmas.Bool.{and_from, and_parts, leb-true, le-leb}
-use Rattle.wi_values.specs.Address.{Area, columns, place, row_of, column_of, is_within}
 
 -- ---- a cell's row and column
 

@@ -1,10 +1,5 @@
 -- What digests tell of lists of replacements.
-use Rattle.std.proofs.Common.{◌≡◌, ℕ, Bool, true, false, nat_eq, List, refl, sym, ap, ◌∙◌}
-use Rattle.std.proofs.lemmas.Bool.{ne_eqb}
-use Rattle.wi_values.specs.declared.replacement.Replacement.{Replacement}
-use Rattle.wi_values.specs.Replacements.{same_replacements}
-use Rattle.wi_values.proofs.Replacements.Same.{same_replacements_Decides}
-use Rattle.wi_worlds.specs.Inner.Compared.{digest_of}
+use Rattle.wi_worlds.proofs.Words.{◌≡◌, ℕ, Bool, true, false, nat_eq, List, refl, sym, ap, ◌∙◌, ne_eqb, Replacement, same_replacements, same_replacements_Decides, digest_of}
 
 -- lists of different digests are different
 pub told_apart : (v w : List Replacement) (n m : ℕ) → n ≡ digest_of v → m ≡ digest_of w → (n ≡ m → ⊥) → nat_eq n m ≡ same_replacements v w

@@ -1,8 +1,5 @@
 -- Some of the replacements, by their count.
-use Rattle.std.proofs.Common.{◌≡◌, ◌∙◌, suc, refl, subst, arith, Bool, true, false, cond, List, [], ◌∷◌, Result, Ok, Err, IfOk, filter, length, ap}
-use Rattle.std.proofs.lemmas.List.{nil_from_length}
-use Rattle.wi_values.specs.declared.replacement.Replacement.{Replacement}
-use Rattle.wi_values.proofs.Lists.{keeps_few}
+use Rattle.wi_worlds.proofs.Words.{◌≡◌, ◌∙◌, suc, refl, subst, arith, Bool, true, false, cond, List, [], ◌∷◌, Result, Ok, Err, IfOk, filter, length, ap, nil_from_length, Replacement, keeps_few}
 
 -- where as many are kept as there are, all are, and where none are counted, none is
 whole : (p : Replacement → Bool) (rs : List Replacement) → length (filter p rs) ≡ length rs → filter p rs ≡ rs

@@ -4,3 +4,4 @@ mod Digest
 mod RisingSteps
 mod TellSteps
 mod PickedLemmas
+pub mod Words

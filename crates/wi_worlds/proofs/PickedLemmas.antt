@@ -1,17 +1,5 @@
 -- Replacements that are picked by their cells are those that are of one of the cells.
-use Rattle.std.proofs.Common.{◌≡◌, ◌==◌, ◌||◌, ℕ, Bool, true, false, cond, List, [], ◌∷◌, map, filter, Option, Some, None, is_some, refl, sym, ap, ◌∙◌, subst}
-use Rattle.std.specs.Option.{option_map}
-use Rattle.std.specs.List.Sorted.{IsStrictlyIncreasing}
-use Rattle.std.proofs.lemmas.List.Kept.{IsStrictlyIncreasing-filter}
-use Rattle.std.proofs.lemmas.Bool.{eqb-true}
-use Rattle.wi_values.specs.declared.value.Value.{Value}
-use Rattle.wi_values.specs.declared.replacement.Replacement.{Replacement}
-use Rattle.wi_values.specs.Replacements.{IsInOrder, replaced}
-use Rattle.wi_values.proofs.Order.{is_at-eq, turn_test}
-use Rattle.wi_values.proofs.Replacements.InOrder.{same_from_replaced}
-use Rattle.wi_values.proofs.Replacements.Filtering.{order_of_filter, replaced-filter}
-use Rattle.wi_worlds.specs.Reached.{has_cell, is_of}
-use Rattle.wi_worlds.specs.Inner.Picked.{and_then, picked}
+use Rattle.wi_worlds.proofs.Words.{◌≡◌, ◌==◌, ◌||◌, ℕ, Bool, true, false, cond, List, [], ◌∷◌, map, filter, Option, Some, None, is_some, refl, sym, ap, ◌∙◌, subst, option_map, IsStrictlyIncreasing, IsStrictlyIncreasing-filter, eqb-true, Value, Replacement, IsInOrder, replaced, is_at-eq, turn_test, same_from_replaced, order_of_filter, replaced-filter, has_cell, is_of, and_then, picked}
 
 abbrev of_value : ℕ → Option Value → Option Replacement
 of_value c o = option_map (λ v. record { at = c; value = v }) o

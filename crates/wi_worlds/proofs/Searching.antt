@@ -1,16 +1,5 @@
 -- What a binary search among replacements in order finds.
-use Rattle.std.proofs.Common.{◌≡◌, ◌∙◌, ℕ, zero, suc, ◌<◌, ◌≤◌, List, [], ◌∷◌, Some, None, Result, Ok, Err, MatchResult, length, get_or, map, refl, sym, ap, subst, arith}
-use Rattle.std.specs.Option.{option_map}
-use Rattle.std.specs.Ordering.{nat_cmp, ordering_index}
-use Rattle.std.specs.List.Sorted.{IsSearchInRange, IsBinarySearchResult, IsNonDecreasingBy}
-use Rattle.std.proofs.lemmas.Bool.Decides.{nat_tests}
-use Rattle.std.proofs.lemmas.Cmp.{ranked}
-use Rattle.std.proofs.lemmas.Map.Keys.{sorted_from_strictly_increasing, below_from_sorted}
-use Rattle.std.proofs.lemmas.List.{length-map, get_or-map}
-use Rattle.wi_values.specs.declared.replacement.Replacement.{Replacement}
-use Rattle.wi_values.specs.declared.value.Value.{Value}
-use Rattle.wi_values.specs.Replacements.{IsInOrder, replaced}
-use Rattle.wi_worlds.specs.Inner.Picked.{replacement_at}
+use Rattle.wi_worlds.proofs.Words.{◌≡◌, ◌∙◌, ℕ, zero, suc, ◌<◌, ◌≤◌, List, [], ◌∷◌, Some, None, Result, Ok, Err, MatchResult, length, get_or, map, refl, sym, ap, subst, arith, option_map, nat_cmp, ordering_index, IsSearchInRange, IsBinarySearchResult, IsNonDecreasingBy, nat_tests, ranked, sorted_from_strictly_increasing, below_from_sorted, length-map, get_or-map, Replacement, Value, IsInOrder, replaced, replacement_at}
 
 -- none of them is at the address
 abbrev NoneAt : ℕ → List Replacement → Type 0

@@ -1,14 +1,5 @@
 -- What is told of cells: one pair more, and a list of them.
-use Rattle.std.proofs.Common.{◌≡◌, ◌==◌, ◌<◌, ◌+◌, ◌&&◌, ◌||◌, ◌⊎◌, inl, inr, ℕ, Bool, true, false, cond, List, [], ◌∷◌, length, take, drop, get_or, Option, Some, None, nat_eq, refl, sym, ap, ◌∙◌, subst, add-one}
-use Rattle.std.specs.Map.{lookup}
-use Rattle.std.specs.Option.{unwrap_or}
-use Rattle.std.proofs.Math.Bool.{or-false}
-use Rattle.std.proofs.Math.Seq.{take-suc}
-use Rattle.std.proofs.lemmas.Bool.{or_cases, or_left, or_right, and_parts, false≢true, eqb-true}
-use Rattle.std.proofs.lemmas.List.{take-append-drop}
-use Rattle.std.proofs.lemmas.List.Folds.{list_any-append}
-use Rattle.wi_values.proofs.Order.{is_itself}
-use Rattle.wi_worlds.specs.Reached.{has_cell, Told, told, told_cells, AddsOf}
+use Rattle.wi_worlds.proofs.Words.{◌≡◌, ◌==◌, ◌<◌, ◌+◌, ◌&&◌, ◌||◌, ◌⊎◌, inl, inr, ℕ, Bool, true, false, cond, List, [], ◌∷◌, length, take, drop, get_or, Option, Some, None, nat_eq, refl, sym, ap, ◌∙◌, subst, add-one, lookup, unwrap_or, or-false, take-suc, or_cases, or_left, or_right, and_parts, false≢true, eqb-true, take-append-drop, list_any-append, is_itself, has_cell, Told, told, told_cells, AddsOf}
 
 -- ---- at one cell
 

@@ -1,22 +1,6 @@
 -- The words that spell a cell, and what they were read as.
-use Rattle.std.proofs.Common.{◌≡◌, ℕ, suc, ◌+◌, ◌-◌, ◌*◌, ◌<◌, Bool, true, false, ◌&&◌, ◌||◌, not, nat_lt, nat_le, ◌==◌, [], ◌∷◌, ◌++◌, take, drop, length, Some, None, Err, ok_or, refl, ap, ◌∙◌, subst, arith, rules, tests}
-use Rattle.std.proofs.Math.Seq.{take-append_seam, drop-append_seam}
-use Rattle.std.proofs.lemmas.Bool.Decides.{nat_tests}
-use Rattle.std.proofs.lemmas.List.{take-append-drop}
-use Rattle.std.proofs.lemmas.Bool.{both_ways}
-use Rattle.std.proofs.lemmas.List.Folds.{length-prefix_len}
-use Rattle.std.specs.Char.{is_ascii_alphabetic, is_ascii_digit, digit_value}
-use Rattle.std.specs.List.{list_all, prefix_len}
-use Rattle.std.specs.Str.{all_ascii_digits}
-use Rattle.std.specs.Str.Parse.{digits_value, digits_value_after}
-use Rattle.wi_values.specs.Address.{columns, rows, place, letters_value, is_row_number}
-use Rattle.wi_values.specs.AddressReading.{cell_at, address_at, read_address}
-use Rattle.wi_values.specs.declared.address.AddressFault.TheVariants.{Shape, Outside}
-use Rattle.wi_values.proofs.Spelling.{letters_above_zero}
-use Rattle.wi_values.proofs.ReadsBack.{scan, no_letters}
-use Rattle.wi_cli.specs.Operands.{Cell, is_outside, address, IsAddr, addr}
-use Rattle.wi_cli.specs.Lines.{Bytes}
-use Rattle.wi_cli.specs.Laws.{read_by, read_cell, SameAddr}
+use Rattle.wi_cli.proofs.Vocabulary.{◌≡◌, ℕ, suc, ◌+◌, ◌-◌, ◌*◌, ◌<◌, Bool, true, false, ◌&&◌, ◌||◌, not, nat_lt, nat_le, ◌==◌, [], ◌∷◌, ◌++◌, take, drop, length, Some, None, Err, ok_or, refl, ap, ◌∙◌, subst, arith, rules, tests, take-append_seam, drop-append_seam, nat_tests, take-append-drop, both_ways, length-prefix_len, is_ascii_alphabetic, is_ascii_digit, digit_value, list_all, prefix_len, all_ascii_digits, digits_value, digits_value_after, columns, rows, place, letters_value, is_row_number, cell_at, address_at, read_address, Shape, letters_above_zero, scan, no_letters, Cell, is_outside, address, IsAddr, addr, Bytes, read_by, read_cell, SameAddr}
+use Rattle.wi_values.specs.declared.address.AddressFault.TheVariants.{Outside}
 
 pub all_digits : (ds : Bytes) → is_row_number ds ≡ true → all_ascii_digits ds ≡ true
 all_digits ds h = search (rules, tests)

@@ -1,23 +1,7 @@
 -- That each scenario has a chain after every run.
-use Rattle.std.proofs.Common.{◌||◌, Bool, false, not, inl, inr, List, [], ◌∷◌, Option, Ok, Err, refl, sym, ap, subst}
-use Rattle.std.specs.List.{list_any}
-use Rattle.std.proofs.lemmas.Bool.{false_from_ne_true, not-false, or_parts}
-use Rattle.wi_store.specs.Store.{Stored}
+use Rattle.wi_cli.proofs.Vocabulary.{◌||◌, Bool, false, not, inl, inr, List, [], ◌∷◌, Option, Ok, Err, refl, sym, ap, subst, list_any, false_from_ne_true, not-false, or_parts, Stored, has_scenario, scenario_for, with_own, without_own, is_full, HasChains, is_name_of, is_base, lacks, would_loop, no_scenarios, is_chain, has_room, own_kept, based_kept, dropped_kept, State, state_over, is_in_use, left_by, Cell, address, Bytes, Command, Set, Clear, Fill, Csv, Scenario, Drop, Base, Use, As, Show, Export, Compare, Table, Formula, Changes, Unknown, Unreadable, Cause, NoScenario, InUse, TooMany, Loop, Holds, Does, Answer, Event, MayHappen, KeepsChains, GivesChain}
 use Rattle.wi_scenario_list.specs.Scenarios as list
-use Rattle.wi_scenario_list.specs.Scenarios.{has_scenario, scenario_for, with_own, without_own, is_full}
-use Rattle.wi_scenario_list.specs.Bases.{HasChains, is_name_of, is_base, lacks, would_loop}
-use Rattle.wi_scenario_list.proofs.ChainsKept.{no_scenarios, is_chain, has_room, own_kept, based_kept, dropped_kept}
 use Rattle.wi_scenarios.specs.declared.refusal.Refusal.TheVariants as refusal
-use Rattle.wi_scenarios.specs.State.{State, state_over}
-use Rattle.wi_scenarios.specs.Drop.{is_in_use}
-use Rattle.wi_scenarios.specs.Laws.{left_by}
-use Rattle.wi_cli.specs.Operands.{Cell, address}
-use Rattle.wi_cli.specs.Lines.{Bytes}
-use Rattle.wi_cli.specs.Command.{Command, Set, Clear, Fill, Csv, Scenario, Drop, Base, Use, As, Show, Export, Compare, Table, Formula, Changes, Unknown, Unreadable}
-use Rattle.wi_cli.specs.Causes.{Cause, NoScenario, InUse, TooMany, Loop, Holds}
-use Rattle.wi_cli.specs.Does.{Does}
-use Rattle.wi_cli.specs.Step.{Answer}
-use Rattle.wi_cli.specs.Events.{Event, MayHappen, KeepsChains, GivesChain}
 use Rattle.wi_cli.proofs.Ties.ScenarioSteps.{drop_yes, base_yes}
 use Rattle.wi_cli.proofs.Ties.Events.{unlike}
 

@@ -1,22 +1,6 @@
 -- The step of `clear`.
-use Rattle.std.proofs.Common.{◌≡◌, ◌↔◌, Bool, true, false, ◌||◌, List, [], ◌∷◌, map, filter, ◌⊎◌, inl, inr, None, refl, sym, ap, ◌∙◌}
-use Rattle.std.specs.List.{list_any}
-use Rattle.std.specs.Map.{keys_of}
-use Rattle.std.proofs.lemmas.Bool.{both_ways}
-use Rattle.wi_values.specs.Address.{is_within}
-use Rattle.wi_scenarios.specs.State.{State}
-use Rattle.wi_scenarios.specs.Edits.{edit_answer}
-use Rattle.wi_scenarios.specs.Causes.{no_cause}
+use Rattle.wi_cli.proofs.Vocabulary.{◌≡◌, ◌↔◌, Bool, true, false, ◌||◌, List, [], ◌∷◌, map, filter, ◌⊎◌, inl, inr, None, refl, sym, ap, ◌∙◌, list_any, keys_of, both_ways, is_within, State, edit_answer, no_cause, of_operand, Corners, is_outside, area, Bytes, Command, Clear, form, Put, after_edit, Cause, Outside, TooLarge, NoScenario, Stale, Full, EditLimit, Holds, lies_outside, is_missing, Does, Answer, IsStep, causes, IsFirstOf, SameStep, read_by}
 use Rattle.wi_scenarios.specs.Step as old
-use Rattle.wi_cli.specs.Inner.Operands.{of_operand}
-use Rattle.wi_cli.specs.Operands.{Corners, is_outside, area}
-use Rattle.wi_cli.specs.Lines.{Bytes}
-use Rattle.wi_cli.specs.Command.{Command, Clear, form}
-use Rattle.wi_cli.specs.Edits.{Put, after_edit}
-use Rattle.wi_cli.specs.Causes.{Cause, Outside, TooLarge, NoScenario, Stale, Full, EditLimit, Holds, lies_outside, is_missing}
-use Rattle.wi_cli.specs.Does.{Does}
-use Rattle.wi_cli.specs.Step.{Answer, IsStep, causes, IsFirstOf}
-use Rattle.wi_cli.specs.Laws.{SameStep, read_by}
 use Rattle.wi_cli.proofs.Ties.Uniqueness.{answers, outside_step}
 use Rattle.wi_cli.proofs.Ties.EditSteps.{last, edit_step}
 

@@ -1,12 +1,5 @@
 -- The causes of the order with their codes, and the first of them.
-use Rattle.std.proofs.Common.{◌≡◌, ◌↔◌, List, [], ◌∷◌, inl, inr, codes, refl, sym, ap, ap₂, ◌∙◌}
-use Rattle.std.specs.List.{Contains}
-use Rattle.wi_scenarios.specs.State.{State}
-use Rattle.wi_cli.specs.Lines.{Bytes}
-use Rattle.wi_cli.specs.Command.{Command}
-use Rattle.wi_cli.specs.Causes.{Cause, BadLine, BadCommand, CutShort, Outside, TooLarge, NoScenario, InUse, TooMany, BadField, TooLong, OutOfSheet, NumberRange, TooDeep, Syntax, LeavesSheet, Stale, Loop, Full, EditLimit, order, IsFirst}
-use Rattle.wi_cli.specs.Reply.{late}
-use Rattle.wi_cli.specs.Step.{causes, IsFirstOf}
+use Rattle.wi_cli.proofs.Vocabulary.{◌≡◌, ◌↔◌, List, [], ◌∷◌, inl, inr, codes, refl, sym, ap, ap₂, ◌∙◌, Contains, State, Bytes, Command, Cause, BadLine, BadCommand, CutShort, Outside, TooLarge, NoScenario, InUse, TooMany, BadField, TooLong, OutOfSheet, NumberRange, TooDeep, Syntax, LeavesSheet, Stale, Loop, Full, EditLimit, order, IsFirst, late, causes, IsFirstOf}
 
 abbrev pub code : Cause → Bytes
 code BadCommand = codes "02"

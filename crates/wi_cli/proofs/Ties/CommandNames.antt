@@ -1,11 +1,7 @@
 -- The names of commands.
-use Rattle.std.proofs.Common.{◌≡◌, Bool, true, false, if◌then◌else◌, refl, sym, subst, codes, bytes_eq}
-use Rattle.std.proofs.lemmas.Slice.Eq.{bytes_eq-Decides}
+use Rattle.wi_cli.proofs.Vocabulary.{◌≡◌, Bool, true, false, if◌then◌else◌, refl, sym, subst, codes, bytes_eq, bytes_eq-Decides, edit_command, named_command, Bytes}
 use Rattle.wi_scenarios.specs.declared.refusal.Refusal.TheVariants as refusal
 use Rattle.wi_scenarios.specs.Step as old
-use Rattle.wi_cli.specs.Inner.EditCommands.{edit_command}
-use Rattle.wi_cli.specs.Inner.Script.{named_command}
-use Rattle.wi_cli.specs.Lines.{Bytes}
 
 -- a name, or another word
 pub data Name : Type 0 where

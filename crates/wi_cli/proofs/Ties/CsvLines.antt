@@ -1,18 +1,6 @@
 -- Lines that ask for data lines.
-use Rattle.std.proofs.Common.{◌≡◌, ℕ, ◌<◌, ◌≤◌, Bool, true, false, nat_lt, [], ◌∷◌, length, ◌⊎◌, inl, inr, Option, Some, None, Err, if◌then◌else◌, refl, sym, ap, ◌∙◌, subst, arith, codes, bytes_eq}
-use Rattle.std.proofs.lemmas.Bool.Decides.{nat_tests}
-use Rattle.std.proofs.lemmas.Slice.Eq.{bytes_eq-Decides}
-use Rattle.std.proofs.lemmas.Bool.{ltb-false, le-ltb, both_ways}
-use Rattle.wi_values.specs.AddressReading.{read_address}
-use Rattle.wi_values.specs.declared.address.AddressFault.TheVariants.{Shape}
-use Rattle.wi_cli.specs.Lines.{without_lf, max_line, first_word, after_word, Bytes}
-use Rattle.wi_cli.specs.Inner.Operands.{is_all_spaces}
-use Rattle.wi_cli.specs.Inner.CsvCommand.{CsvLine, csv_of, read_lines, csv_operands, csv_named, csv_text, csv_line}
-use Rattle.wi_cli.specs.Inner.Blocks.{lines_of}
-use Rattle.wi_cli.specs.Operands.{Cell, IsAddr, IsSpelled, ANY, LINES, IsWritten}
-use Rattle.wi_cli.specs.Command.{Csv, form}
-use Rattle.wi_cli.specs.Script.{text_of, IsWithin, Asks}
-use Rattle.wi_cli.specs.Laws.{read_any, asked, Takes}
+use Rattle.wi_cli.proofs.Vocabulary.{◌≡◌, ℕ, ◌<◌, ◌≤◌, Bool, true, false, nat_lt, [], ◌∷◌, length, ◌⊎◌, inl, inr, Option, Some, None, Err, if◌then◌else◌, refl, sym, ap, ◌∙◌, subst, arith, codes, bytes_eq, nat_tests, bytes_eq-Decides, ltb-false, le-ltb, both_ways, read_address, Shape, without_lf, max_line, first_word, after_word, Bytes, is_all_spaces, CsvLine, csv_of, read_lines, csv_operands, csv_named, csv_text, csv_line, lines_of, Cell, IsAddr, IsSpelled, ANY, LINES, IsWritten, Csv, form, text_of, IsWithin, Asks, read_any, asked}
+use Rattle.wi_cli.specs.Laws.{Takes}
 use Rattle.wi_cli.proofs.Ties.Addresses.{same_addr}
 use Rattle.wi_cli.proofs.Ties.OperandsRead.{no_addr, addr_or, lines_read, lines_or, none_behind}
 use Rattle.wi_cli.proofs.Ties.CommandNames.{is_word}

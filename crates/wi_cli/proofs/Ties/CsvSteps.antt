@@ -1,35 +1,9 @@
 -- The step of `csv`.
-use Rattle.std.proofs.Common.{◌≡◌, ◌<◌, ◌-◌, ℕ, Bool, true, false, ◌==◌, ◌||◌, nat_lt, List, [], ◌∷◌, length, ◌⊎◌, inl, inr, Option, Some, None, Ok, Err, refl, sym, ap, ap₂, ◌∙◌, subst, arith}
-use Rattle.std.specs.List.{list_any, concat, slice_index_or, Any}
-use Rattle.std.specs.Prelude.{All}
-use Rattle.std.proofs.lemmas.Bool.Decides.{nat_tests}
-use Rattle.std.proofs.lemmas.List.{get_or_default}
-use Rattle.std.proofs.lemmas.Bool.{both_ways}
-use Rattle.std.proofs.lemmas.List.Folds.{Any-from_list_any, list_any-from_Any}
-use Rattle.wi_import.specs.declared.fault.ImportFault.{ImportFault}
+use Rattle.wi_cli.proofs.Vocabulary.{◌≡◌, ◌<◌, ◌-◌, ℕ, Bool, true, false, ◌==◌, ◌||◌, nat_lt, List, [], ◌∷◌, length, ◌⊎◌, inl, inr, Option, Some, None, Ok, Err, refl, sym, ap, ap₂, ◌∙◌, subst, arith, list_any, concat, slice_index_or, Any, All, nat_tests, get_or_default, both_ways, Any-from_list_any, list_any-from_Any, ImportFault, recs, Field, IsInside, fields_from, fields_at, areas_from, areas_at, IsText, IsTooLong, AreChanges, IsFault, bad_field, too_long, out_of_sheet, IsImport, some_import, State, max_area, no_cause, edit_answer, csv_answer, ImportOutcome, row_of_place, column_of_place, Any-weaker, max_line, without_lf, Bytes, is_long, csv_command, Cell, is_outside, address, Command, Csv, form, Put, Puts, after_edit, fields, Cause, BadLine, BadCommand, CutShort, Outside, TooLarge, NoScenario, BadField, TooLong, OutOfSheet, NumberRange, TooDeep, Syntax, LeavesSheet, Stale, Full, EditLimit, Holds, lies_outside, is_missing, size, Does, Answer, IsStep, causes, IsFirstOf, SameStep, read_any}
 use Rattle.wi_import.specs.declared.fault.ImportFault.TheVariants as import
-use Rattle.wi_csv.specs.Records.{recs}
-use Rattle.wi_import.specs.Fields.{Field, IsInside, fields_from, fields_at, areas_from, areas_at}
-use Rattle.wi_import.specs.Inner.Reading.{IsText, IsTooLong}
-use Rattle.wi_import.specs.Imports.{AreChanges, IsFault, bad_field, too_long, out_of_sheet, IsImport}
-use Rattle.wi_import.proofs.ImportLemmas.{some_import, no_other}
+use Rattle.wi_import.proofs.ImportLemmas.{no_other}
 use Rattle.wi_scenarios.specs.declared.refusal.Refusal.TheVariants as refusal
-use Rattle.wi_scenarios.specs.State.{State, max_area}
-use Rattle.wi_scenarios.specs.Causes.{no_cause}
-use Rattle.wi_scenarios.specs.Edits.{edit_answer}
-use Rattle.wi_scenarios.specs.Csv.{csv_answer, ImportOutcome}
-use Rattle.wi_values.proofs.Within.{row_of_place, column_of_place}
-use Rattle.wi_values.proofs.Lists.{Any-weaker}
 use Rattle.wi_scenarios.specs.Step as old
-use Rattle.wi_cli.specs.Lines.{max_line, without_lf, Bytes}
-use Rattle.wi_cli.specs.Inner.CsvCommand.{is_long, csv_command}
-use Rattle.wi_cli.specs.Operands.{Cell, is_outside, address}
-use Rattle.wi_cli.specs.Command.{Command, Csv, form}
-use Rattle.wi_cli.specs.Edits.{Put, Puts, after_edit, fields}
-use Rattle.wi_cli.specs.Causes.{Cause, BadLine, BadCommand, CutShort, Outside, TooLarge, NoScenario, BadField, TooLong, OutOfSheet, NumberRange, TooDeep, Syntax, LeavesSheet, Stale, Full, EditLimit, Holds, lies_outside, is_missing, size}
-use Rattle.wi_cli.specs.Does.{Does}
-use Rattle.wi_cli.specs.Step.{Answer, IsStep, causes, IsFirstOf}
-use Rattle.wi_cli.specs.Laws.{SameStep, read_any}
 use Rattle.wi_cli.proofs.Ties.Uniqueness.{same_answers}
 use Rattle.wi_cli.proofs.Ties.EditSteps.{last, edit_step}
 use Rattle.wi_cli.proofs.Ties.Tables.{inside}

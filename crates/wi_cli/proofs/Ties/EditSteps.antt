@@ -1,19 +1,7 @@
 -- The end of the step of an edit: stale cells, the limits of the sheet, the edit.
-use Rattle.std.proofs.Common.{◌≡◌, ◌<◌, ◌≤◌, ℕ, Bool, true, false, nat_lt, nat_le, List, [], ◌∷◌, length, ◌⊎◌, inl, inr, Option, Some, None, Ok, Err, refl, sym, subst, arith}
-use Rattle.std.proofs.lemmas.Bool.Decides.{nat_tests}
-use Rattle.std.proofs.lemmas.Bool.{leb-true, ltb-true}
-use Rattle.wi_values.specs.Address.{Area}
+use Rattle.wi_cli.proofs.Vocabulary.{◌≡◌, ◌<◌, ◌≤◌, ℕ, Bool, true, false, nat_lt, nat_le, List, [], ◌∷◌, length, ◌⊎◌, inl, inr, Option, Some, None, Ok, Err, refl, sym, subst, arith, nat_tests, leb-true, ltb-true, Area, State, no_cause, edit_answer, stale_in, Bytes, Command, Put, Puts, is_forced, named, sheet_with, after_edit, Cause, Stale, Loop, Full, EditLimit, Holds, stale_cell, Does, Answer, IsStep, causes, IsFirstOf}
 use Rattle.wi_store.specs.Store.{accepted}
 use Rattle.wi_scenarios.specs.declared.refusal.Refusal.TheVariants as refusal
-use Rattle.wi_scenarios.specs.State.{State}
-use Rattle.wi_scenarios.specs.Causes.{no_cause}
-use Rattle.wi_scenarios.specs.Edits.{edit_answer, stale_in}
-use Rattle.wi_cli.specs.Lines.{Bytes}
-use Rattle.wi_cli.specs.Command.{Command}
-use Rattle.wi_cli.specs.Edits.{Put, Puts, is_forced, named, sheet_with, after_edit}
-use Rattle.wi_cli.specs.Causes.{Cause, Stale, Loop, Full, EditLimit, Holds, stale_cell}
-use Rattle.wi_cli.specs.Does.{Does}
-use Rattle.wi_cli.specs.Step.{Answer, IsStep, causes, IsFirstOf}
 
 -- the last causes of the order
 abbrev pub last : List Cause

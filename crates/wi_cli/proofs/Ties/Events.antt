@@ -1,39 +1,10 @@
 -- What holds of commands one after another, by the laws over the calls of a workbook.
-use Rattle.std.proofs.Common.{◌≡◌, ◌≢◌, ◌↔◌, ◌==◌, ◌-◌, ◌&&◌, ◌++◌, ◌⊎◌, inl, inr, ℕ, Bool, true, false, cond, List, [], ◌∷◌, length, map, Option, Some, None, Result, Ok, Err, refl, sym, ap, ap₂, ◌∙◌, subst, append-nil}
-use Rattle.std.specs.List.{list_any, list_all, concat}
-use Rattle.std.specs.Result.{result_err}
-use Rattle.std.proofs.lemmas.Bool.{and_parts, both_ways, false≢true}
-use Rattle.std.proofs.lemmas.List.{append_cancel_left}
-use Rattle.std.proofs.lemmas.Option.{none-some}
-use Rattle.wi_values.specs.Address.{Area}
-use Rattle.wi_values.specs.declared.address.AddressFault.{AddressFault}
-use Rattle.wi_values.specs.declared.address.AddressFault.TheVariants.{Shape, Outside as AtOutside}
-use Rattle.wi_values.specs.declared.value.Value.{Value}
-use Rattle.wi_edit_log.specs.EditLog.{Entry}
-use Rattle.wi_sessions.specs.Pictures.{value_in}
-use Rattle.wi_scenarios.specs.declared.refusal.Refusal.{Refusal}
+use Rattle.wi_cli.proofs.Vocabulary.{◌≡◌, ◌≢◌, ◌↔◌, ◌==◌, ◌-◌, ◌&&◌, ◌++◌, ◌⊎◌, inl, inr, ℕ, Bool, true, false, cond, List, [], ◌∷◌, length, map, Option, Some, None, Result, Ok, Err, refl, sym, ap, ap₂, ◌∙◌, subst, append-nil, list_any, list_all, concat, result_err, and_parts, both_ways, false≢true, append_cancel_left, none-some, Area, AddressFault, Shape, Value, Entry, value_in, Refusal, State, session_at, shown_to, change_list, left_by, IsCoherent, with_lists, unseen, IsFirstNewer, counts_before, is_refused_before, stale_exactly, refused_so, records_tell_list, of_operand, worse, column_fault, row_fault, fill_command_of, unless_refused, table_of_one, table_of_two, is_long, csv_command, Bytes, Command, Set, Clear, Fill, Csv, Scenario, Drop, Base, Use, As, Show, Export, Compare, Table, Formula, Changes, Unknown, Unreadable, named, is_forced, Cause, BadLine, BadCommand, CutShort, Outside, TooLarge, NoScenario, InUse, TooMany, BadField, TooLong, OutOfSheet, NumberRange, TooDeep, Syntax, LeavesSheet, Stale, Loop, Full, EditLimit, Holds, stale_cell, Does, Answer, Tells, IsStep, causes, IsFirstOf, was, read_cell, read_corners, read_any, Event, MayHappen, MayFollow, state_after, StaysCoherent, KeepsApart, is_accepted_changes, is_told, lists_told, last_shown, ListsAddUp, RecordsTellList, logged_by, edits_in, edits_since, LogGrows, StaleIsNewer, ForcedIsNotStale}
+use Rattle.wi_values.specs.declared.address.AddressFault.TheVariants.{Outside as AtOutside}
 use Rattle.wi_scenarios.specs.declared.refusal.Refusal.TheVariants as refusal
-use Rattle.wi_scenarios.specs.State.{State}
-use Rattle.wi_scenarios.specs.Views.{session_at, shown_to}
-use Rattle.wi_scenarios.specs.Changes.{change_list}
 use Rattle.wi_scenarios.specs.Step as old
 use Rattle.wi_scenarios.specs.Laws as laws
-use Rattle.wi_scenarios.specs.Laws.{left_by, IsCoherent, with_lists, unseen, IsFirstNewer, counts_before, is_refused_before}
 use Rattle.wi_scenarios.proofs.RunLemmas as runs
-use Rattle.wi_scenarios.proofs.StaleLemmas.{stale_exactly, refused_so}
-use Rattle.wi_scenarios.proofs.RecordLemmas.{records_tell_list}
-use Rattle.wi_cli.specs.Inner.Operands.{of_operand, worse, column_fault, row_fault}
-use Rattle.wi_cli.specs.Inner.EditCommands.{fill_command_of}
-use Rattle.wi_cli.specs.Inner.TableCommand.{unless_refused, table_of_one, table_of_two}
-use Rattle.wi_cli.specs.Inner.CsvCommand.{is_long, csv_command}
-use Rattle.wi_cli.specs.Lines.{Bytes}
-use Rattle.wi_cli.specs.Command.{Command, Set, Clear, Fill, Csv, Scenario, Drop, Base, Use, As, Show, Export, Compare, Table, Formula, Changes, Unknown, Unreadable}
-use Rattle.wi_cli.specs.Edits.{named, is_forced}
-use Rattle.wi_cli.specs.Causes.{Cause, BadLine, BadCommand, CutShort, Outside, TooLarge, NoScenario, InUse, TooMany, BadField, TooLong, OutOfSheet, NumberRange, TooDeep, Syntax, LeavesSheet, Stale, Loop, Full, EditLimit, Holds, stale_cell}
-use Rattle.wi_cli.specs.Does.{Does}
-use Rattle.wi_cli.specs.Step.{Answer, Tells, IsStep, causes, IsFirstOf}
-use Rattle.wi_cli.specs.Laws.{was, read_cell, read_corners, read_any}
-use Rattle.wi_cli.specs.Events.{Event, MayHappen, MayFollow, state_after, StaysCoherent, KeepsApart, is_accepted_changes, is_told, lists_told, last_shown, ListsAddUp, RecordsTellList, logged_by, edits_in, edits_since, LogGrows, StaleIsNewer, ForcedIsNotStale}
 use Rattle.wi_cli.proofs.Ties.Uniqueness.{first_holds}
 use Rattle.wi_cli.proofs.Ties.Steps.{same_step}
 

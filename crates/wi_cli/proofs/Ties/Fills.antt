@@ -1,27 +1,7 @@
 -- The step of `fill`.
-use Rattle.std.proofs.Common.{◌≡◌, ◌↔◌, ◌<◌, ◌*◌, ℕ, Bool, true, false, not, ◌||◌, nat_lt, List, [], ◌∷◌, map, ◌⊎◌, inl, inr, Option, Some, None, is_some, Err, refl, sym, ap, ap₂, ◌∙◌, subst}
-use Rattle.std.specs.List.{list_any, AllZip}
-use Rattle.std.proofs.lemmas.List.Folds.{Any-from_list_any, list_any-from_Any}
-use Rattle.std.proofs.lemmas.Bool.{both_ways}
-use Rattle.wi_values.specs.Address.{size_of, cells_of}
-use Rattle.wi_values.proofs.Lists.{Any-weaker}
-use Rattle.wi_parser.specs.declared.content.Content.{Content}
-use Rattle.wi_parser.specs.Sheet.{content_of}
+use Rattle.wi_cli.proofs.Vocabulary.{◌≡◌, ◌↔◌, ◌<◌, ◌*◌, ℕ, Bool, true, false, not, ◌||◌, nat_lt, List, [], ◌∷◌, map, ◌⊎◌, inl, inr, Option, Some, None, is_some, Err, refl, sym, ap, ap₂, ◌∙◌, subst, list_any, AllZip, Any-from_list_any, list_any-from_Any, both_ways, size_of, cells_of, Any-weaker, Content, content_of, State, max_area, edit_answer, no_cause, copy_to, has_no_copy, or_nothing, fill_command_of, Cell, Corners, is_outside, address, area, Bytes, Command, Fill, form, Put, Puts, copy_in, after_edit, Cause, Outside, TooLarge, NoScenario, LeavesSheet, Stale, Full, EditLimit, Holds, lies_outside, is_missing, size, Does, Answer, IsStep, causes, IsFirstOf, SameStep, read_by}
 use Rattle.wi_scenarios.specs.declared.refusal.Refusal.TheVariants as refusal
-use Rattle.wi_scenarios.specs.State.{State, max_area}
-use Rattle.wi_scenarios.specs.Edits.{edit_answer}
-use Rattle.wi_scenarios.specs.Causes.{no_cause}
-use Rattle.wi_scenarios.specs.Fill.{copy_to, has_no_copy, or_nothing}
 use Rattle.wi_scenarios.specs.Step as old
-use Rattle.wi_cli.specs.Inner.EditCommands.{fill_command_of}
-use Rattle.wi_cli.specs.Operands.{Cell, Corners, is_outside, address, area}
-use Rattle.wi_cli.specs.Lines.{Bytes}
-use Rattle.wi_cli.specs.Command.{Command, Fill, form}
-use Rattle.wi_cli.specs.Edits.{Put, Puts, copy_in, after_edit}
-use Rattle.wi_cli.specs.Causes.{Cause, Outside, TooLarge, NoScenario, LeavesSheet, Stale, Full, EditLimit, Holds, lies_outside, is_missing, size}
-use Rattle.wi_cli.specs.Does.{Does}
-use Rattle.wi_cli.specs.Step.{Answer, IsStep, causes, IsFirstOf}
-use Rattle.wi_cli.specs.Laws.{SameStep, read_by}
 use Rattle.wi_cli.proofs.Ties.Uniqueness.{same_answers, outside_step}
 use Rattle.wi_cli.proofs.Ties.EditSteps.{last, edit_step}
 use Rattle.wi_cli.proofs.Ties.Tables.{too_large, not_large}

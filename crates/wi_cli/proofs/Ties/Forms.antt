@@ -1,23 +1,8 @@
 -- For each name the operands that are spelled behind it, and the command that was read there.
-use Rattle.std.proofs.Common.{◌≡◌, ℕ, Bool, true, false, ◌==◌, ◌||◌, List, [], ◌∷◌, length, ◌⊎◌, inl, inr, Option, Some, None, Result, Ok, Err, option_map, if◌then◌else◌, refl, sym, ap, ap₂, ◌∙◌}
-use Rattle.std.specs.Result.{result_err}
-use Rattle.std.proofs.lemmas.Bool.{both_ways}
-use Rattle.wi_values.specs.Address.{Area}
-use Rattle.wi_values.specs.AddressReading.{read_address, read_rect}
-use Rattle.wi_values.specs.Name.{is_name, read_name}
-use Rattle.wi_values.specs.declared.address.AddressFault.{AddressFault}
-use Rattle.wi_values.specs.declared.address.AddressFault.TheVariants.{Shape, Outside}
+use Rattle.wi_cli.proofs.Vocabulary.{◌≡◌, ℕ, Bool, true, false, ◌==◌, ◌||◌, List, [], ◌∷◌, length, ◌⊎◌, inl, inr, Option, Some, None, Result, Ok, Err, option_map, if◌then◌else◌, refl, sym, ap, ap₂, ◌∙◌, result_err, both_ways, Area, read_address, read_rect, is_name, read_name, AddressFault, Shape, first_word, after_word, Bytes, at_end, of_operand, of_name, only_name, name_or_none, read_side, column_fault, row_fault, is_all_spaces, set_command, fill_command, fill_command_of, scenario_command, base_command, use_command, changes_command, compare_command, formula_command, table_command, table_of_one, table_of_two, Cell, Corners, Operand, ADDR, RECT, NAME, SIDE, CONTENT, IsAddr, IsRect, IsSpelled, IsWritten, Set, Fill, Scenario, Base, Use, Compare, Table, Formula, Changes, was, read_cell, read_corners}
+use Rattle.wi_values.specs.declared.address.AddressFault.TheVariants.{Outside}
 use Rattle.wi_scenarios.specs.declared.refusal.Refusal.TheVariants as refusal
 use Rattle.wi_scenarios.specs.Step as old
-use Rattle.wi_cli.specs.Lines.{first_word, after_word, Bytes}
-use Rattle.wi_cli.specs.Inner.Operands.{at_end, of_operand, of_name, only_name, name_or_none, read_side, column_fault, row_fault, is_all_spaces}
-use Rattle.wi_cli.specs.Inner.EditCommands.{set_command, fill_command, fill_command_of}
-use Rattle.wi_cli.specs.Inner.ScenarioCommands.{scenario_command, base_command, use_command}
-use Rattle.wi_cli.specs.Inner.LookCommands.{changes_command, compare_command, formula_command}
-use Rattle.wi_cli.specs.Inner.TableCommand.{table_command, table_of_one, table_of_two}
-use Rattle.wi_cli.specs.Operands.{Cell, Corners, Operand, ADDR, RECT, NAME, SIDE, CONTENT, IsAddr, IsRect, IsSpelled, IsWritten}
-use Rattle.wi_cli.specs.Command.{Set, Fill, Scenario, Base, Use, Compare, Table, Formula, Changes}
-use Rattle.wi_cli.specs.Laws.{was, read_cell, read_corners}
 use Rattle.wi_cli.proofs.Ties.Addresses.{same_addr}
 use Rattle.wi_cli.proofs.Ties.Rects.{same_rect}
 use Rattle.wi_cli.proofs.Ties.OperandsRead.{no_addr, no_rect, addr_or, rect_or, name_read, name_or, no_name, side_read, side_or, no_word}

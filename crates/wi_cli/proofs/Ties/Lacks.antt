@@ -1,16 +1,6 @@
 -- Where memory may be lacking.
-use Rattle.std.proofs.Common.{◌≡◌, ◌↔◌, ◌<◌, ℕ, zero, suc, true, false, List, [], ◌∷◌, length, ◌⊎◌, inl, inr, Ok, Err, refl, sym, ap, ◌∙◌, subst, arith}
-use Rattle.std.specs.List.{Contains, slice_index_or}
-use Rattle.std.proofs.lemmas.Bool.{both_ways}
-use Rattle.wi_scenarios.specs.declared.refusal.Refusal.{Refusal}
-use Rattle.wi_scenarios.specs.State.{State}
-use Rattle.wi_scenarios.specs.Answer.{may_grow, MayGrow}
+use Rattle.wi_cli.proofs.Vocabulary.{◌≡◌, ◌↔◌, ◌<◌, ℕ, zero, suc, true, false, List, [], ◌∷◌, length, ◌⊎◌, inl, inr, Ok, Err, refl, sym, ap, ◌∙◌, subst, arith, Contains, slice_index_or, both_ways, Refusal, State, may_grow, MayGrow, an_answer, Command, Cause, BadLine, BadCommand, CutShort, Outside, TooLarge, NoScenario, InUse, TooMany, BadField, TooLong, OutOfSheet, NumberRange, TooDeep, Syntax, LeavesSheet, Stale, Loop, Full, EditLimit, Holds, late, Answer, Tells, IsStep, causes, IsFirstOf}
 use Rattle.wi_scenarios.specs.Step as old
-use Rattle.wi_scenarios.proofs.StepLemmas.{an_answer}
-use Rattle.wi_cli.specs.Command.{Command}
-use Rattle.wi_cli.specs.Causes.{Cause, BadLine, BadCommand, CutShort, Outside, TooLarge, NoScenario, InUse, TooMany, BadField, TooLong, OutOfSheet, NumberRange, TooDeep, Syntax, LeavesSheet, Stale, Loop, Full, EditLimit, Holds}
-use Rattle.wi_cli.specs.Reply.{late}
-use Rattle.wi_cli.specs.Step.{Answer, Tells, IsStep, causes, IsFirstOf}
 use Rattle.wi_cli.proofs.Ties.Uniqueness.{first_holds, one_first}
 
 -- what is in a list is its first, or in the others

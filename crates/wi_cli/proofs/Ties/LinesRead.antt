@@ -1,25 +1,10 @@
 -- The commands of lines are those that they had.
-use Rattle.std.proofs.Common.{◌≡◌, ℕ, suc, zero, ◌-◌, ◌<◌, Bool, true, false, not, ◌==◌, ◌||◌, nat_lt, cond, List, [], ◌∷◌, ◌++◌, length, map, take, filter, filter_map, Option, Some, None, option_map, option_to_list, Result, ◌⊎◌, inl, inr, if◌then◌else◌, refl, sym, ap, ap₂, ◌∙◌, subst, arith}
-use Rattle.std.specs.List.{list_all, cons_option}
-use Rattle.std.specs.Str.{byte, is_utf8}
-use Rattle.std.proofs.lemmas.Bool.Decides.{nat_tests}
-use Rattle.std.proofs.lemmas.Str.{IsUtf8-from_is_utf8, is_utf8-from_IsUtf8}
-use Rattle.std.proofs.lemmas.Bool.{or_parts, not-false, ltb-false, le-ltb, both_ways}
-use Rattle.std.proofs.lemmas.List.{nil_from_length}
-use Rattle.std.proofs.Math.Bool.{or-true, or-false}
-use Rattle.wi_values.specs.AddressReading.{read_address}
-use Rattle.wi_values.specs.declared.address.AddressFault.{AddressFault}
+use Rattle.wi_cli.proofs.Vocabulary.{◌≡◌, ℕ, suc, zero, ◌-◌, ◌<◌, Bool, true, false, not, ◌==◌, ◌||◌, nat_lt, cond, List, [], ◌∷◌, ◌++◌, length, map, take, filter, filter_map, Option, Some, None, option_map, Result, ◌⊎◌, inl, inr, if◌then◌else◌, refl, sym, ap, ap₂, ◌∙◌, subst, arith, list_all, cons_option, byte, is_utf8, nat_tests, IsUtf8-from_is_utf8, is_utf8-from_IsUtf8, or_parts, not-false, ltb-false, le-ltb, both_ways, nil_from_length, or-true, or-false, read_address, AddressFault, raw_lines, onto_first, without_lf, is_whole, max_line, is_space, Bytes, is_all_spaces, CsvLine, csv_line, csv_command, Block, lines_of, blocks, is_complete, is_comment, text_command, line_command, command_with, block_command, spelled_command, whole_lines, Cell, IsWritten, Command, Csv, Unknown, Unreadable, form, text_of, IsWithin, IsGood, Asks, is_passed_over, IsCommand, was, read_any, asked, block, Splits, none, a_line, cut_short, before, HasCommands}
+use Rattle.std.proofs.Common.{option_to_list}
 use Rattle.wi_scenarios.specs.declared.refusal.Refusal.TheVariants as refusal
 use Rattle.wi_scenarios.specs.Step as old
-use Rattle.wi_cli.specs.Lines.{raw_lines, onto_first, without_lf, is_whole, max_line, is_space, Bytes}
-use Rattle.wi_cli.specs.Inner.Operands.{is_all_spaces}
-use Rattle.wi_cli.specs.Inner.CsvCommand.{CsvLine, csv_line, csv_command}
-use Rattle.wi_cli.specs.Inner.Blocks.{Block, lines_of, blocks, is_complete}
-use Rattle.wi_cli.specs.Inner.Script.{is_comment, text_command, line_command, command_with, block_command, spelled_command, whole_lines}
-use Rattle.wi_cli.specs.Operands.{Cell, IsWritten}
-use Rattle.wi_cli.specs.Command.{Command, Csv, Unknown, Unreadable, form}
-use Rattle.wi_cli.specs.Script.{text_of, IsWithin, IsGood, Asks, is_passed_over, IsCommand, none as no_commands, a_line as line_with, cut_short as line_cut}
-use Rattle.wi_cli.specs.Laws.{was, read_any, asked, block, Splits, none, a_line, cut_short, before, HasCommands, Takes}
+use Rattle.wi_cli.specs.Script.{none as no_commands, a_line as line_with, cut_short as line_cut}
+use Rattle.wi_cli.specs.Laws.{Takes}
 use Rattle.wi_cli.proofs.Ties.CsvLines.{IsRead, AsksOrNot, it_asks, it_asks_none, asks_or_not, takes, asks}
 use Rattle.wi_cli.proofs.Ties.Texts.{is_plain, same_form, Reads, spells, spells_none, none_written, reads}
 use Rattle.wi_cli.proofs.Ties.Splitting.{blocks_split}

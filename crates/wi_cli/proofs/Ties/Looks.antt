@@ -1,26 +1,6 @@
 -- The steps of the commands that look at cells: `show`, `export`, `compare`, `formula` and `changes`.
-use Rattle.std.proofs.Common.{◌≡◌, ◌*◌, ℕ, Bool, true, false, ◌||◌, nat_lt, length, Option, Some, None, refl, sym, ap, ◌∙◌, arith}
-use Rattle.std.specs.List.{list_any}
-use Rattle.std.proofs.Math.Bool.{or-false}
-use Rattle.std.proofs.lemmas.Bool.{both_ways}
-use Rattle.wi_values.specs.Address.{size_of}
-use Rattle.wi_scenario_list.specs.Inner.Chains.{effective}
-use Rattle.wi_scenario_list.specs.Bases.{lacks}
-use Rattle.wi_reports.specs.Rows.{rows_shown, export_of}
-use Rattle.wi_reports.specs.Compare.{cells_compared}
-use Rattle.wi_reports.specs.Contents.{content_record}
-use Rattle.wi_reports.specs.Changes.{change_records}
-use Rattle.wi_sessions.specs.Sessions.{told}
-use Rattle.wi_scenarios.specs.State.{State, max_area}
-use Rattle.wi_scenarios.specs.Views.{current_session, with_current, current_replacements}
-use Rattle.wi_scenarios.specs.Changes.{change_list}
+use Rattle.wi_cli.proofs.Vocabulary.{◌≡◌, ◌*◌, ℕ, Bool, true, false, ◌||◌, nat_lt, length, Option, Some, None, refl, sym, ap, ◌∙◌, arith, list_any, or-false, both_ways, size_of, effective, lacks, rows_shown, export_of, cells_compared, content_record, change_records, told, State, max_area, current_session, with_current, current_replacements, change_list, Cell, Corners, is_outside, address, area, SIDE, Bytes, Command, Show, Export, Compare, Formula, Changes, form, Cause, Outside, TooLarge, NoScenario, Stale, Full, EditLimit, Holds, lies_outside, is_missing, size, causes, SameStep, was}
 use Rattle.wi_scenarios.specs.Step as old
-use Rattle.wi_cli.specs.Operands.{Cell, Corners, is_outside, address, area, SIDE}
-use Rattle.wi_cli.specs.Lines.{Bytes}
-use Rattle.wi_cli.specs.Command.{Command, Show, Export, Compare, Formula, Changes, form}
-use Rattle.wi_cli.specs.Causes.{Cause, Outside, TooLarge, NoScenario, Stale, Full, EditLimit, Holds, lies_outside, is_missing, size}
-use Rattle.wi_cli.specs.Step.{causes}
-use Rattle.wi_cli.specs.Laws.{SameStep, was}
 use Rattle.wi_cli.proofs.Ties.Tables.{too_large, not_large}
 use Rattle.wi_cli.proofs.Ties.Tests.{first_test, found, by_tests}
 

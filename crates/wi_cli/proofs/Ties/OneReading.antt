@@ -1,21 +1,10 @@
 -- Lines have no other commands than those that they had.
-use Rattle.std.proofs.Common.{◌≡◌, ℕ, suc, ◌+◌, ◌-◌, ◌<◌, Bool, true, false, not, ◌==◌, ◌||◌, nat_lt, cond, List, [], ◌∷◌, ◌++◌, length, map, take, filter, filter_map, ◌⊎◌, inl, inr, Option, Some, None, option_map, option_to_list, if◌then◌else◌, refl, sym, ap, ap₂, ◌∙◌, subst, arith, codes, bytes_eq, append_assoc, append-nil}
-use Rattle.std.specs.List.{cons_option, prefix_len, before_first}
-use Rattle.std.specs.Str.{byte, is_utf8}
-use Rattle.std.proofs.lemmas.Bool.Decides.{nat_tests}
-use Rattle.std.proofs.lemmas.Str.{IsUtf8-from_is_utf8, is_utf8-from_IsUtf8}
-use Rattle.std.proofs.lemmas.Bool.{le-ltb, both_ways}
+use Rattle.wi_cli.proofs.Vocabulary.{◌≡◌, ℕ, suc, ◌+◌, ◌-◌, ◌<◌, Bool, true, false, not, ◌==◌, ◌||◌, nat_lt, cond, List, [], ◌∷◌, ◌++◌, length, map, take, filter, filter_map, ◌⊎◌, inl, inr, Option, Some, None, option_map, if◌then◌else◌, refl, sym, ap, ap₂, ◌∙◌, subst, arith, codes, bytes_eq, append_assoc, append-nil, cons_option, prefix_len, before_first, byte, is_utf8, nat_tests, IsUtf8-from_is_utf8, is_utf8-from_IsUtf8, le-ltb, both_ways, without_lf, max_line, is_space, skip_spaces, first_word, after_word, Bytes, is_all_spaces, csv_text, csv_named, csv_command, Block, lines_of, blocks, blocks_from, is_complete, block_command, spelled_command, Cell, IsWritten, Command, Set, Clear, Fill, Csv, Scenario, Drop, Base, Use, As, Show, Export, Compare, Table, Formula, Changes, Unknown, Unreadable, form, text_of, IsGood, Asks, is_passed_over, IsCommand, was, read_any, asked, block, kept, SameCommands}
+use Rattle.std.proofs.Common.{option_to_list}
 use Rattle.wi_scenarios.specs.declared.refusal.Refusal.TheVariants as refusal
 use Rattle.wi_scenarios.specs.Step as old
-use Rattle.wi_cli.specs.Lines.{without_lf, max_line, is_space, skip_spaces, first_word, after_word, Bytes}
-use Rattle.wi_cli.specs.Inner.Operands.{is_all_spaces}
-use Rattle.wi_cli.specs.Inner.CsvCommand.{csv_text, csv_named, csv_command}
-use Rattle.wi_cli.specs.Inner.Blocks.{Block, lines_of, blocks, blocks_from, is_complete}
-use Rattle.wi_cli.specs.Inner.Script.{block_command, spelled_command}
-use Rattle.wi_cli.specs.Operands.{Cell, IsWritten}
-use Rattle.wi_cli.specs.Command.{Command, Set, Clear, Fill, Csv, Scenario, Drop, Base, Use, As, Show, Export, Compare, Table, Formula, Changes, Unknown, Unreadable, form}
-use Rattle.wi_cli.specs.Script.{text_of, IsGood, Asks, is_passed_over, IsCommand, none as no_commands, a_line as line_with, cut_short as line_cut}
-use Rattle.wi_cli.specs.Laws.{was, read_any, asked, block, kept, SameCommands, Takes}
+use Rattle.wi_cli.specs.Script.{none as no_commands, a_line as line_with, cut_short as line_cut}
+use Rattle.wi_cli.specs.Laws.{Takes}
 use Rattle.wi_cli.proofs.Ties.OperandsRead.{no_word}
 use Rattle.wi_cli.proofs.Ties.CsvLines.{AsksOrNot, it_asks, it_asks_none, asks_or_not, asked_is, short_line, TextReads, text_or, text_read}
 use Rattle.wi_cli.proofs.Ties.LinesRead.{plain_line, csv_line_is, line_is, text_is, good, good_is, onto_was, complete, not_complete}

@@ -1,20 +1,6 @@
 -- What words are read as, and the operands that they spell.
-use Rattle.std.proofs.Common.{◌≡◌, ℕ, suc, ◌≤◌, ◌+◌, Bool, true, false, ◌&&◌, ◌||◌, not, nat_lt, nat_le, cond, [], ◌∷◌, length, take, ◌⊎◌, inl, inr, Option, Some, None, Result, Ok, Err, option_map, if◌then◌else◌, refl, sym, ap, ◌∙◌, subst, arith, codes, bytes_eq}
-use Rattle.std.specs.List.{prefix_len, before_first, after_first}
-use Rattle.std.specs.Str.{all_ascii_digits}
-use Rattle.std.specs.Str.Parse.{digits_value}
-use Rattle.std.proofs.lemmas.Bool.Decides.{nat_tests}
-use Rattle.std.proofs.lemmas.Slice.Eq.{bytes_eq-Decides}
-use Rattle.std.proofs.lemmas.Bool.{le-leb, leb-true, and_parts, both_ways}
-use Rattle.wi_values.specs.AddressReading.{read_address, read_rect}
-use Rattle.wi_values.specs.Name.{is_name, read_name}
-use Rattle.wi_values.specs.declared.address.AddressFault.{AddressFault}
-use Rattle.wi_values.specs.declared.address.AddressFault.TheVariants.{Shape, Outside}
-use Rattle.wi_cli.specs.Lines.{is_space, skip_spaces, first_word, after_word, Bytes}
-use Rattle.wi_cli.specs.Inner.Operands.{read_side, is_all_spaces}
-use Rattle.wi_cli.specs.Inner.CsvCommand.{read_lines}
-use Rattle.wi_cli.specs.Operands.{Cell, Corners, is_outside, address, area, IsAddr, IsRect, IsSpelled, SIDE, LINES}
-use Rattle.wi_cli.specs.Laws.{read_by}
+use Rattle.wi_cli.proofs.Vocabulary.{◌≡◌, ℕ, suc, ◌≤◌, ◌+◌, Bool, true, false, ◌&&◌, ◌||◌, not, nat_lt, nat_le, cond, [], ◌∷◌, length, take, ◌⊎◌, inl, inr, Option, Some, None, Result, Ok, Err, option_map, if◌then◌else◌, refl, sym, ap, ◌∙◌, subst, arith, codes, bytes_eq, prefix_len, before_first, after_first, all_ascii_digits, digits_value, nat_tests, bytes_eq-Decides, le-leb, leb-true, and_parts, both_ways, read_address, read_rect, is_name, read_name, AddressFault, Shape, is_space, skip_spaces, first_word, after_word, Bytes, read_side, is_all_spaces, read_lines, Cell, Corners, is_outside, address, area, IsAddr, IsRect, IsSpelled, SIDE, LINES, read_by}
+use Rattle.wi_values.specs.declared.address.AddressFault.TheVariants.{Outside}
 use Rattle.wi_cli.proofs.Ties.Addresses.{same_addr}
 use Rattle.wi_cli.proofs.Ties.Rects.{same_rect}
 

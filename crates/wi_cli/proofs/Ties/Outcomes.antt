@@ -1,21 +1,8 @@
 -- The outcome of a run is what it was.
-use Rattle.std.proofs.Common.{◌≡◌, ◌↔◌, ◌<◌, ℕ, length, true, false, Bool, List, [], ◌∷◌, ◌++◌, map, take, filter, inl, inr, Option, Some, None, option_to_list, Result, Ok, Err, ◌⊎◌, refl, sym, ap, ap₂, ◌∙◌, subst, subst₂, append_assoc, append-nil}
-use Rattle.std.proofs.lemmas.Bool.{false≢true}
-use Rattle.std.specs.List.{concat}
-use Rattle.wi_scenarios.specs.State.{State}
+use Rattle.wi_cli.proofs.Vocabulary.{◌≡◌, ◌↔◌, ◌<◌, ℕ, length, true, false, Bool, List, [], ◌∷◌, ◌++◌, map, take, filter, inl, inr, Option, Some, None, Result, Ok, Err, ◌⊎◌, refl, sym, ap, ap₂, ◌∙◌, subst, subst₂, append_assoc, append-nil, false≢true, concat, State, RunFault, Memory, Read, Write, ScriptLimit, raw_lines, is_whole, max_lines, Bytes, commands, all_commands, whole_lines, complete_commands, WritesFrontOfReplies, RunOutcome, limited, Command, AreCommands, Replies, Runs, Writes, Outcome, was, before, HasCommands, SameOutcome}
+use Rattle.std.proofs.Common.{option_to_list}
 use Rattle.wi_scenarios.specs.Step as old
-use Rattle.wi_cli.specs.declared.fault.RunFault.{RunFault}
-use Rattle.wi_cli.specs.declared.fault.RunFault.TheVariants.{Memory, Read, Write, ScriptLimit}
-use Rattle.wi_cli.specs.Lines.{raw_lines, is_whole, max_lines, Bytes}
-use Rattle.wi_cli.specs.Inner.Script.{commands, all_commands, whole_lines, complete_commands}
 use Rattle.wi_cli.specs.Inner.Run as old_run
-use Rattle.wi_cli.specs.Inner.RunOutcome.{WritesFrontOfReplies, RunOutcome, limited}
-use Rattle.wi_cli.specs.Command.{Command}
-use Rattle.wi_cli.specs.Script.{AreCommands}
-use Rattle.wi_cli.specs.Reply.{Replies}
-use Rattle.wi_cli.specs.Step.{Runs}
-use Rattle.wi_cli.specs.Outcome.{Writes, Outcome}
-use Rattle.wi_cli.specs.Laws.{was, before, HasCommands, SameOutcome}
 use Rattle.wi_cli.proofs.Ties.Replies.{same_reply, same_runs}
 use Rattle.wi_cli.proofs.Ties.LinesRead.{raw_lines_whole, taken_whole, first_whole, has_commands}
 use Rattle.wi_cli.proofs.Ties.OneReading.{same_commands}

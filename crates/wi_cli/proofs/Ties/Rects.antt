@@ -1,20 +1,8 @@
 -- The words that spell a rectangle, and what they were read as.
-use Rattle.std.proofs.Common.{◌≡◌, ℕ, suc, ◌+◌, ◌<◌, Bool, true, false, ◌&&◌, ◌||◌, not, nat_lt, ◌==◌, cond, [], ◌∷◌, ◌++◌, take, drop, length, get_or, Some, None, Result, Ok, Err, refl, sym, ap, ap₂, ◌∙◌, subst, arith, append_assoc, append-nil, length-append, eqb-true, codes}
-use Rattle.std.proofs.Math.Seq.{take-append_seam}
-use Rattle.std.proofs.lemmas.Bool.Decides.{nat_tests}
-use Rattle.std.proofs.lemmas.List.Folds.{list_all-append}
-use Rattle.std.proofs.lemmas.List.Sums.{split_at_first, passes_at_first}
-use Rattle.std.specs.Char.{is_ascii_alphabetic, is_ascii_digit}
-use Rattle.std.specs.List.{list_all, prefix_len, position_or_len}
-use Rattle.std.specs.Str.{byte, all_ascii_digits}
-use Rattle.std.proofs.lemmas.Bool.{and_parts}
-use Rattle.wi_values.specs.Address.{rect_of}
-use Rattle.wi_values.specs.AddressReading.{read_address, read_rect, corners, read_corners as read_at_colon}
-use Rattle.wi_values.specs.declared.address.AddressFault.{AddressFault}
-use Rattle.wi_values.specs.declared.address.AddressFault.TheVariants.{Shape, Outside}
-use Rattle.wi_cli.specs.Operands.{Cell, Corners, is_outside, address, IsAddr, addr, IsRect, a_cell, two_cells}
-use Rattle.wi_cli.specs.Lines.{Bytes}
-use Rattle.wi_cli.specs.Laws.{read_by, read_corners, SameRect}
+use Rattle.wi_cli.proofs.Vocabulary.{◌≡◌, ℕ, suc, ◌+◌, ◌<◌, Bool, true, false, ◌&&◌, ◌||◌, not, nat_lt, ◌==◌, cond, [], ◌∷◌, ◌++◌, take, drop, length, get_or, Some, None, Result, Ok, Err, refl, sym, ap, ap₂, ◌∙◌, subst, arith, append_assoc, append-nil, length-append, codes, take-append_seam, nat_tests, list_all-append, split_at_first, passes_at_first, is_ascii_alphabetic, is_ascii_digit, list_all, prefix_len, position_or_len, byte, all_ascii_digits, and_parts, rect_of, read_address, read_rect, corners, AddressFault, Shape, Cell, Corners, is_outside, address, IsAddr, addr, IsRect, a_cell, two_cells, Bytes, read_by, read_corners, SameRect}
+use Rattle.std.proofs.Common.{eqb-true}
+use Rattle.wi_values.specs.AddressReading.{read_corners as read_at_colon}
+use Rattle.wi_values.specs.declared.address.AddressFault.TheVariants.{Outside}
 use Rattle.wi_cli.proofs.Ties.Addresses.{all_digits, same_addr}
 
 abbrev is_colon : ℕ → Bool

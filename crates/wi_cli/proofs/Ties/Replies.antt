@@ -1,16 +1,9 @@
 -- The replies to commands are what they were.
-use Rattle.std.proofs.Common.{◌≡◌, List, [], ◌∷◌, ◌++◌, map, ℕ, inl, inr, Option, Some, None, Ok, Err, codes, refl, sym, ap, ◌∙◌, subst₂}
-use Rattle.wi_scenarios.specs.declared.refusal.Refusal.{Refusal}
+use Rattle.wi_cli.proofs.Vocabulary.{◌≡◌, List, [], ◌∷◌, ◌++◌, map, ℕ, inl, inr, Option, Some, None, Ok, Err, codes, refl, sym, ap, ◌∙◌, subst₂, Refusal, State, refused as refused_line, reply, Bytes, Command, Cause, Stale, Holds, stale_cell, cell_told, Replies, accepted, unserved, Answer, Tells, IsStep, Runs, causes, was, SameReply, SameRuns}
 use Rattle.wi_scenarios.specs.declared.refusal.Refusal.TheVariants as refusal
-use Rattle.wi_scenarios.specs.State.{State}
-use Rattle.wi_cli.specs.Inner.Reply.{refused as refused_line, reply, state_after}
+use Rattle.wi_cli.specs.Inner.Reply.{state_after}
 use Rattle.wi_cli.specs.Inner.Run as old_run
-use Rattle.wi_cli.specs.Lines.{Bytes}
-use Rattle.wi_cli.specs.Command.{Command}
-use Rattle.wi_cli.specs.Causes.{Cause, Stale, Holds, stale_cell}
-use Rattle.wi_cli.specs.Reply.{cell_told, Replies, accepted, refused, unserved}
-use Rattle.wi_cli.specs.Step.{Answer, Tells, IsStep, Runs, causes}
-use Rattle.wi_cli.specs.Laws.{was, SameReply, SameRuns}
+use Rattle.wi_cli.specs.Reply.{refused}
 use Rattle.wi_cli.proofs.Ties.Uniqueness.{first_holds}
 use Rattle.wi_cli.proofs.Ties.Codes.{code, first_coded, first_of}
 use Rattle.wi_cli.proofs.Ties.Tests.{refusal_for}

@@ -1,30 +1,7 @@
 -- The steps of the commands of scenarios and sessions.
-use Rattle.std.proofs.Common.{◌≡◌, ℕ, Bool, true, false, not, ◌||◌, ◌&&◌, nat_le, List, [], ◌∷◌, length, ◌⊎◌, inl, inr, Option, Some, None, is_some, refl, sym, ap, ◌∙◌, subst, arith}
-use Rattle.std.specs.List.{list_any, Any}
-use Rattle.std.proofs.lemmas.List.Folds.{Any-from_list_any, list_any-from_Any}
-use Rattle.std.proofs.lemmas.Slice.Eq.{bytes_eq-Decides}
-use Rattle.std.proofs.lemmas.Bool.{or_parts, or_cases, both_ways, leb-true, le-leb}
-use Rattle.std.proofs.Math.Bool.{or-false}
-use Rattle.wi_values.specs.declared.value.Value.{Value}
-use Rattle.wi_values.specs.Imported.{IsImported}
-use Rattle.wi_values.specs.Inner.Import.{imported}
-use Rattle.wi_values.proofs.Imports.{imported_exactly}
-use Rattle.wi_values.proofs.Lists.{Any-weaker}
-use Rattle.wi_scenario_list.specs.Scenarios.{Scenario as Kept, is_named, has_scenario, scenario_for, without_scenario, with_own, without_own, is_full}
-use Rattle.wi_scenario_list.specs.Inner.Chains.{chain}
-use Rattle.wi_scenario_list.specs.Bases.{is_name_of, is_base, based_on, lacks, would_loop}
-use Rattle.wi_sessions.specs.Sessions.{Session, has_session, max_sessions, with_session, index_of, using_scenario}
-use Rattle.wi_scenarios.specs.State.{State}
-use Rattle.wi_scenarios.specs.Drop.{is_in_use}
-use Rattle.wi_scenarios.specs.Views.{current_session, with_current}
+use Rattle.wi_cli.proofs.Vocabulary.{◌≡◌, ℕ, Bool, true, false, not, ◌||◌, ◌&&◌, nat_le, List, [], ◌∷◌, length, ◌⊎◌, inl, inr, Option, Some, None, is_some, refl, sym, ap, ◌∙◌, subst, arith, list_any, Any, Any-from_list_any, list_any-from_Any, bytes_eq-Decides, or_parts, or_cases, both_ways, leb-true, le-leb, or-false, Value, IsImported, imported, imported_exactly, Any-weaker, is_named, has_scenario, scenario_for, without_scenario, with_own, without_own, is_full, chain, is_name_of, is_base, based_on, lacks, would_loop, Session, has_session, max_sessions, with_session, index_of, using_scenario, State, is_in_use, current_session, with_current, Cell, is_outside, address, Bytes, Command, Scenario, Drop, Base, Use, As, form, Cause, Outside, TooLarge, NoScenario, InUse, TooMany, TooLong, Stale, Loop, Full, EditLimit, Holds, lies_outside, is_missing, Does, state_with, causes, SameStep, was}
+use Rattle.wi_scenario_list.specs.Scenarios.{Scenario as Kept}
 use Rattle.wi_scenarios.specs.Step as old
-use Rattle.wi_cli.specs.Operands.{Cell, is_outside, address}
-use Rattle.wi_cli.specs.Lines.{Bytes}
-use Rattle.wi_cli.specs.Command.{Command, Scenario, Drop, Base, Use, As, form}
-use Rattle.wi_cli.specs.Causes.{Cause, Outside, TooLarge, NoScenario, InUse, TooMany, TooLong, Stale, Loop, Full, EditLimit, Holds, lies_outside, is_missing}
-use Rattle.wi_cli.specs.Does.{Does, state_with}
-use Rattle.wi_cli.specs.Step.{causes}
-use Rattle.wi_cli.specs.Laws.{SameStep, was}
 use Rattle.wi_cli.proofs.Ties.Tests.{first_test, found, some_none, by_tests}
 
 -- ---- names that are given

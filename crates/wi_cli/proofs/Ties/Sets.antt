@@ -1,35 +1,11 @@
 -- The step of `set`.
-use Rattle.std.proofs.Common.{◌≡◌, ◌↔◌, ◌<◌, ℕ, Bool, true, false, ◌==◌, List, [], ◌∷◌, length, ◌⊎◌, inl, inr, Some, None, Result, Ok, Err, if◌then◌else◌, refl, sym, ap, ◌∙◌, subst, arith}
-use Rattle.std.specs.List.{list_any}
-use Rattle.std.proofs.lemmas.Bool.Decides.{nat_tests}
-use Rattle.std.proofs.lemmas.Bool.{both_ways}
-use Rattle.wi_values.specs.Address.{Area}
-use Rattle.wi_parser.specs.declared.content.Content.{Content}
-use Rattle.wi_parser.specs.declared.fault.ParseFault.{ParseFault}
+use Rattle.wi_cli.proofs.Vocabulary.{◌≡◌, ◌↔◌, ◌<◌, ℕ, Bool, true, false, ◌==◌, List, [], ◌∷◌, length, ◌⊎◌, inl, inr, Some, None, Result, Ok, Err, if◌then◌else◌, refl, sym, ap, ◌∙◌, subst, arith, list_any, nat_tests, both_ways, Area, Content, ParseFault, IsContent, a_formula, no_formula, a_text, a_long_text, a_constant, no_constant, IsParsed, as_judged, AreJudged, at_fault, a_tree, no_tree, Symbol, Tree, content_read, content_is_one, State, max_area, no_cause, edit_answer, set_answer, set_edit, cell_area, fault_in, of_operand, Cell, is_outside, address, Bytes, Command, Set, form, Put, Puts, after_edit, Cause, BadCommand, Outside, TooLarge, NoScenario, TooLong, OutOfSheet, NumberRange, TooDeep, Syntax, LeavesSheet, Stale, Full, EditLimit, Holds, lies_outside, is_missing, size, Answer, IsStep, causes, IsFirstOf, Does, SameStep, read_by, read_cell, rect_cell}
 use Rattle.wi_parser.specs.declared.fault.ParseFault.TheVariants as parse
-use Rattle.wi_parser.specs.Contents.{IsContent, a_formula, no_formula, a_text, a_long_text, a_constant, no_constant, IsParsed, too_long, as_judged, AreJudged, at_fault, a_tree, no_tree}
-use Rattle.wi_parser.specs.Symbol.{Symbol}
-use Rattle.wi_parser.specs.Tree.{Tree}
-use Rattle.wi_parser.specs.Inner.Reading.{content_read}
-use Rattle.wi_parser.proofs.ContentsOfTexts.{content_is_one}
+use Rattle.wi_parser.specs.Contents.{too_long}
 use Rattle.wi_scenarios.specs.declared.refusal.Refusal.TheVariants as refusal
-use Rattle.wi_scenarios.specs.State.{State, max_area}
 use Rattle.wi_scenarios.specs.Step as old
-use Rattle.wi_scenarios.specs.Causes.{no_cause}
-use Rattle.wi_scenarios.specs.Edits.{edit_answer}
-use Rattle.wi_scenarios.specs.Set.{set_answer, set_edit, cell_area, fault_in}
-use Rattle.wi_cli.specs.Inner.Operands.{of_operand}
-use Rattle.wi_cli.specs.Operands.{Cell, is_outside, address}
-use Rattle.wi_cli.specs.Lines.{Bytes}
-use Rattle.wi_cli.specs.Command.{Command, Set, form}
-use Rattle.wi_cli.specs.Edits.{Put, Puts, after_edit}
-use Rattle.wi_cli.specs.Causes.{Cause, BadCommand, Outside, TooLarge, NoScenario, TooLong, OutOfSheet, NumberRange, TooDeep, Syntax, LeavesSheet, Stale, Full, EditLimit, Holds, lies_outside, is_missing, size}
-use Rattle.wi_cli.specs.Step.{Answer, IsStep, causes, IsFirstOf}
-use Rattle.wi_cli.specs.Does.{Does}
-use Rattle.wi_cli.specs.Laws.{SameStep, read_by, read_cell}
 use Rattle.wi_cli.proofs.Ties.Uniqueness.{answers, same_answers, outside_step}
 use Rattle.wi_cli.proofs.Ties.EditSteps.{last, edit_step}
-use Rattle.wi_scenarios.proofs.SetLemmas.{rect_cell}
 
 -- ---- contents
 

@@ -1,10 +1,6 @@
 -- The blocks of a script, by a relation.
-use Rattle.std.proofs.Common.{◌≡◌, ℕ, ◌+◌, ◌-◌, Bool, true, false, ◌==◌, List, [], ◌∷◌, ◌++◌, length, refl, sym, subst, arith}
-use Rattle.std.proofs.lemmas.Bool.Decides.{nat_tests}
+use Rattle.wi_cli.proofs.Vocabulary.{◌≡◌, ℕ, ◌+◌, ◌-◌, Bool, true, false, ◌==◌, List, [], ◌∷◌, ◌++◌, length, refl, sym, subst, arith, nat_tests, Block, blocks_from, blocks, begun, Bytes, Splits, none, a_line, cut_short, asked, block}
 use Rattle.std.proofs.lemmas.List.{length-append, append-nil, append_assoc}
-use Rattle.wi_cli.specs.Inner.Blocks.{Block, blocks_from, blocks, begun}
-use Rattle.wi_cli.specs.Lines.{Bytes}
-use Rattle.wi_cli.specs.Laws.{Splits, none, a_line, cut_short, asked, block}
 
 same_block : (line : Bytes) (taken : List Bytes) (m : ℕ) → m ≡ asked line - length taken → ◌≡◌ {A = Block} (record { line = line; data_lines = taken; missing = m }) (block line taken)
 same_block line taken m e = cc

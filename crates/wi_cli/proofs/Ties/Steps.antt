@@ -1,11 +1,6 @@
 -- The step of each command is what it was, and it has one answer.
-use Rattle.std.proofs.Common.{inl, inr, Some, None, Err, refl}
+use Rattle.wi_cli.proofs.Vocabulary.{inl, inr, Some, None, Err, refl, State, an_answer, no_other, Command, Set, Clear, Fill, Csv, Scenario, Drop, Base, Use, As, Show, Export, Compare, Table, Formula, Changes, Unknown, Unreadable, BadLine, BadCommand, was, SameStep, HasOneAnswer}
 use Rattle.wi_scenarios.specs.declared.refusal.Refusal.TheVariants as refusal
-use Rattle.wi_scenarios.specs.State.{State}
-use Rattle.wi_scenarios.proofs.StepLemmas.{an_answer, no_other}
-use Rattle.wi_cli.specs.Command.{Command, Set, Clear, Fill, Csv, Scenario, Drop, Base, Use, As, Show, Export, Compare, Table, Formula, Changes, Unknown, Unreadable}
-use Rattle.wi_cli.specs.Causes.{BadLine, BadCommand}
-use Rattle.wi_cli.specs.Laws.{was, SameStep, HasOneAnswer}
 use Rattle.wi_cli.proofs.Ties.Uniqueness.{answers}
 use Rattle.wi_cli.proofs.Ties.Sets.{same_set}
 use Rattle.wi_cli.proofs.Ties.Clears.{same_clear}

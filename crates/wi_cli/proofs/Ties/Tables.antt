@@ -1,22 +1,7 @@
 -- The step of `table`.
-use Rattle.std.proofs.Common.{◌≡◌, ◌<◌, ℕ, min, max, Bool, true, false, not, ◌||◌, ◌&&◌, ◌==◌, nat_lt, inl, inr, None, Ok, Err, refl, sym, ap, ◌∙◌, subst, arith}
-use Rattle.std.proofs.lemmas.Bool.Decides.{nat_tests}
-use Rattle.std.proofs.lemmas.Bool.{or_parts, both_ways}
-use Rattle.wi_values.specs.Address.{Area, columns, column_of}
-use Rattle.wi_values.proofs.Within.{column_of_place}
+use Rattle.wi_cli.proofs.Vocabulary.{◌≡◌, ◌<◌, ℕ, min, max, Bool, true, false, not, ◌||◌, ◌&&◌, ◌==◌, nat_lt, inl, inr, None, Ok, Err, refl, sym, ap, ◌∙◌, subst, arith, nat_tests, or_parts, both_ways, Area, columns, column_of, column_of_place, State, max_area, current_replacements, table_of, is_column, entries, table_of_one, Cell, Corners, is_outside, address, area, Bytes, Command, Table, Cause, BadCommand, Outside, TooLarge, NoScenario, Stale, Full, EditLimit, Holds, Answer, IsStep, read_by, SameStep}
 use Rattle.wi_scenarios.specs.declared.refusal.Refusal.TheVariants as refusal
-use Rattle.wi_scenarios.specs.State.{State, max_area}
-use Rattle.wi_scenarios.specs.Views.{current_replacements}
 use Rattle.wi_scenarios.specs.Step as old
-use Rattle.wi_reports.specs.Table.{table_of}
-use Rattle.wi_reports.specs.Inner.Shape.{is_column, entries}
-use Rattle.wi_cli.specs.Inner.TableCommand.{table_of_one}
-use Rattle.wi_cli.specs.Operands.{Cell, Corners, is_outside, address, area}
-use Rattle.wi_cli.specs.Lines.{Bytes}
-use Rattle.wi_cli.specs.Command.{Command, Table}
-use Rattle.wi_cli.specs.Causes.{Cause, BadCommand, Outside, TooLarge, NoScenario, Stale, Full, EditLimit, Holds}
-use Rattle.wi_cli.specs.Step.{Answer, IsStep}
-use Rattle.wi_cli.specs.Laws.{read_by, SameStep}
 use Rattle.wi_cli.proofs.Ties.Uniqueness.{answers}
 
 -- the answer, by what is outside, what is a column and what is too large

@@ -1,27 +1,8 @@
 -- The step of `table` with two inputs.
-use Rattle.std.proofs.Common.{◌≡◌, ◌<◌, ◌*◌, ℕ, min, max, Bool, true, false, not, ◌||◌, ◌&&◌, ◌==◌, nat_lt, List, [], ◌∷◌, Option, Some, None, Result, if◌then◌else◌, refl, sym, ap, ◌∙◌, subst, arith}
-use Rattle.std.specs.List.{list_any}
-use Rattle.std.specs.Result.{result_err}
-use Rattle.std.proofs.lemmas.Bool.{or_parts, both_ways}
-use Rattle.std.proofs.Math.Bool.{or-false}
-use Rattle.wi_values.specs.Address.{Area, columns, place, row_of, column_of, size_of}
-use Rattle.wi_values.specs.declared.address.AddressFault.{AddressFault}
-use Rattle.wi_values.specs.declared.address.AddressFault.TheVariants.{Shape, Outside as AtOutside}
-use Rattle.wi_values.proofs.Within.{row_of_place, column_of_place}
+use Rattle.wi_cli.proofs.Vocabulary.{◌≡◌, ◌<◌, ◌*◌, ℕ, min, max, Bool, true, false, not, ◌||◌, ◌&&◌, ◌==◌, nat_lt, List, [], ◌∷◌, Option, Some, None, Result, if◌then◌else◌, refl, sym, ap, ◌∙◌, subst, arith, list_any, result_err, or_parts, both_ways, or-false, Area, columns, place, row_of, column_of, size_of, AddressFault, Shape, row_of_place, column_of_place, State, max_area, current_replacements, table_of, is_column, is_row, of_operand, worse, column_fault, row_fault, unless_refused, table_of_one, table_of_two, Cell, Corners, is_outside, address, area, Bytes, Command, Table, Cause, BadCommand, Outside, TooLarge, NoScenario, Stale, Full, EditLimit, Holds, Answer, causes, SameStep, read_by, read_cell, read_corners, was}
+use Rattle.wi_values.specs.declared.address.AddressFault.TheVariants.{Outside as AtOutside}
 use Rattle.wi_scenarios.specs.declared.refusal.Refusal.TheVariants as refusal
-use Rattle.wi_scenarios.specs.State.{State, max_area}
-use Rattle.wi_scenarios.specs.Views.{current_replacements}
 use Rattle.wi_scenarios.specs.Step as old
-use Rattle.wi_reports.specs.Table.{table_of}
-use Rattle.wi_reports.specs.Inner.Shape.{is_column, is_row}
-use Rattle.wi_cli.specs.Inner.Operands.{of_operand, worse, column_fault, row_fault}
-use Rattle.wi_cli.specs.Inner.TableCommand.{unless_refused, table_of_one, table_of_two}
-use Rattle.wi_cli.specs.Operands.{Cell, Corners, is_outside, address, area}
-use Rattle.wi_cli.specs.Lines.{Bytes}
-use Rattle.wi_cli.specs.Command.{Command, Table}
-use Rattle.wi_cli.specs.Causes.{Cause, BadCommand, Outside, TooLarge, NoScenario, Stale, Full, EditLimit, Holds}
-use Rattle.wi_cli.specs.Step.{Answer, causes}
-use Rattle.wi_cli.specs.Laws.{SameStep, read_by, read_cell, read_corners, was}
 use Rattle.wi_cli.proofs.Ties.Tables.{too_large, not_large, inside, min_max, column_is}
 use Rattle.wi_cli.proofs.Ties.Looks.{once}
 use Rattle.wi_cli.proofs.Ties.Tests.{first_test, found, by_tests}

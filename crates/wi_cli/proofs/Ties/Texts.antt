@@ -1,17 +1,7 @@
 -- The command that a text spells, and the form that it has.
-use Rattle.std.proofs.Common.{◌≡◌, Bool, true, false, List, [], ◌∷◌, inl, inr, Option, Some, None, refl, sym, ap, ◌∙◌, subst, codes}
-use Rattle.std.proofs.lemmas.Bool.{both_ways}
+use Rattle.wi_cli.proofs.Vocabulary.{◌≡◌, Bool, true, false, List, [], ◌∷◌, inl, inr, Option, Some, None, refl, sym, ap, ◌∙◌, subst, codes, both_ways, first_word, after_word, Bytes, set_command, clear_command, fill_command, edit_command, scenario_command, drop_command, base_command, use_command, as_command, show_command, export_command, changes_command, compare_command, formula_command, table_command, named_command, spelled_command, Cell, Corners, Operand, WORD, RECT, NAME, SESSION, IsWritten, Command, Set, Clear, Fill, Csv, Scenario, Drop, Base, Use, As, Show, Export, Compare, Table, Formula, Changes, Unknown, Unreadable, form, was}
 use Rattle.wi_scenarios.specs.declared.refusal.Refusal.TheVariants as refusal
 use Rattle.wi_scenarios.specs.Step as old
-use Rattle.wi_cli.specs.Lines.{first_word, after_word, Bytes}
-use Rattle.wi_cli.specs.Inner.EditCommands.{set_command, clear_command, fill_command, edit_command}
-use Rattle.wi_cli.specs.Inner.ScenarioCommands.{scenario_command, drop_command, base_command, use_command, as_command}
-use Rattle.wi_cli.specs.Inner.LookCommands.{show_command, export_command, changes_command, compare_command, formula_command}
-use Rattle.wi_cli.specs.Inner.TableCommand.{table_command}
-use Rattle.wi_cli.specs.Inner.Script.{named_command, spelled_command}
-use Rattle.wi_cli.specs.Operands.{Cell, Corners, Operand, WORD, RECT, NAME, SESSION, IsWritten}
-use Rattle.wi_cli.specs.Command.{Command, Set, Clear, Fill, Csv, Scenario, Drop, Base, Use, As, Show, Export, Compare, Table, Formula, Changes, Unknown, Unreadable, form}
-use Rattle.wi_cli.specs.Laws.{was}
 use Rattle.wi_cli.proofs.Ties.CommandNames.{Name, FORCE, SCENARIO, DROP, BASE, USE, AS, SHOW, EXPORT, CHANGES, COMPARE, TABLE, FORMULA, SET, CLEAR, FILL, edit_name, name_in, Edit, set_edit, clear_edit, fill_edit, no_edit, edit_of, Word, a_force, a_scenario, a_drop, a_base, a_use, a_as, a_show, a_export, a_changes, a_compare, a_table, a_formula, an_edit, word_of}
 use Rattle.wi_cli.proofs.Ties.Forms.{Chosen, same_rect_end, rect_end, same_name_end, name_end, maybe_form, set_form, same_set, set_or, fill_form, same_fill, fill_or, cell_form, same_formula, formula_or, scenario_form, same_scenario, scenario_or, base_form, same_base, base_or, same_use, use_or, no_form, same_changes, changes_or, compare_form, same_compare, compare_or, table_form, same_table, table_or}
 

@@ -1,15 +1,7 @@
 -- A step has one answer.
-use Rattle.std.proofs.Common.{◌≡◌, ◌↔◌, List, [], ◌∷◌, inl, inr, Some, Ok, Err, refl, sym, ap, ◌∙◌, subst}
-use Rattle.wi_scenarios.specs.declared.refusal.Refusal.{Refusal}
+use Rattle.wi_cli.proofs.Vocabulary.{◌≡◌, ◌↔◌, List, [], ◌∷◌, inl, inr, Some, Ok, Err, refl, sym, ap, ◌∙◌, subst, Refusal, State, no_other, Bytes, Command, Cause, BadLine, BadCommand, CutShort, Outside, Stale, Holds, Does, Answer, Tells, IsStep, causes, IsFirstOf}
 use Rattle.wi_scenarios.specs.declared.refusal.Refusal.TheVariants as refusal
-use Rattle.wi_scenarios.specs.State.{State}
 use Rattle.wi_scenarios.specs.Step as old
-use Rattle.wi_scenarios.proofs.StepLemmas.{no_other}
-use Rattle.wi_cli.specs.Lines.{Bytes}
-use Rattle.wi_cli.specs.Command.{Command}
-use Rattle.wi_cli.specs.Causes.{Cause, BadLine, BadCommand, CutShort, Outside, Stale, Holds}
-use Rattle.wi_cli.specs.Does.{Does}
-use Rattle.wi_cli.specs.Step.{Answer, Tells, IsStep, causes, IsFirstOf}
 
 module _ (s : State) (c : Command) where
   pub first_holds : (xs : List Cause) (x : Cause) → IsFirstOf s c xs x → Holds s x c

@@ -1,22 +1,7 @@
 -- Where memory may be lacking, for each command.
-use Rattle.std.proofs.Common.{◌≡◌, ◌↔◌, ◌-◌, ℕ, Bool, true, false, ◌==◌, ◌||◌, List, [], ◌∷◌, ◌++◌, length, inl, inr, Option, Some, None, Err, refl, sym, ap, subst, arith}
-use Rattle.std.specs.List.{list_any, concat, Contains}
-use Rattle.std.proofs.lemmas.Bool.Decides.{nat_tests}
-use Rattle.std.proofs.lemmas.Bool.{both_ways}
-use Rattle.wi_scenarios.specs.declared.refusal.Refusal.{Refusal}
+use Rattle.wi_cli.proofs.Vocabulary.{◌≡◌, ◌↔◌, ◌-◌, ℕ, Bool, true, false, ◌==◌, ◌||◌, List, [], ◌∷◌, ◌++◌, length, inl, inr, Option, Some, None, Err, refl, sym, ap, subst, arith, list_any, concat, Contains, nat_tests, both_ways, Refusal, State, MayGrow, of_operand, is_long, Cell, Corners, is_outside, address, area, Bytes, Command, Set, Clear, Fill, Csv, Scenario, Drop, Base, Use, As, Show, Export, Compare, Table, Formula, Changes, Unknown, Unreadable, form, Cause, BadLine, BadCommand, CutShort, Outside, TooLarge, NoScenario, InUse, TooMany, BadField, TooLong, OutOfSheet, NumberRange, TooDeep, Syntax, LeavesSheet, Stale, Loop, Full, EditLimit, Holds, lies_outside, late, Answer, IsStep, causes, IsFirstOf, was, read_by, SameLack}
 use Rattle.wi_scenarios.specs.declared.refusal.Refusal.TheVariants as refusal
-use Rattle.wi_scenarios.specs.State.{State}
-use Rattle.wi_scenarios.specs.Answer.{MayGrow}
 use Rattle.wi_scenarios.specs.Step as old
-use Rattle.wi_cli.specs.Inner.Operands.{of_operand}
-use Rattle.wi_cli.specs.Inner.CsvCommand.{is_long}
-use Rattle.wi_cli.specs.Operands.{Cell, Corners, is_outside, address, area}
-use Rattle.wi_cli.specs.Lines.{Bytes}
-use Rattle.wi_cli.specs.Command.{Command, Set, Clear, Fill, Csv, Scenario, Drop, Base, Use, As, Show, Export, Compare, Table, Formula, Changes, Unknown, Unreadable, form}
-use Rattle.wi_cli.specs.Causes.{Cause, BadLine, BadCommand, CutShort, Outside, TooLarge, NoScenario, InUse, TooMany, BadField, TooLong, OutOfSheet, NumberRange, TooDeep, Syntax, LeavesSheet, Stale, Loop, Full, EditLimit, Holds, lies_outside}
-use Rattle.wi_cli.specs.Reply.{late}
-use Rattle.wi_cli.specs.Step.{Answer, IsStep, causes, IsFirstOf}
-use Rattle.wi_cli.specs.Laws.{was, read_by, SameLack}
 use Rattle.wi_cli.proofs.Ties.Codes.{LateCoded, same_late}
 use Rattle.wi_cli.proofs.Ties.Lacks.{not_late, same_lack}
 use Rattle.wi_cli.proofs.Ties.Steps.{same_step}

@@ -1,19 +1,7 @@
 -- What a run has written comes of events.
-use Rattle.std.proofs.Common.{◌≡◌, List, [], ◌∷◌, ◌++◌, inl, inr, false, Ok, Err, refl, ap, ap₂, ◌∙◌, subst}
-use Rattle.std.proofs.lemmas.Bool.{false≢true}
+use Rattle.wi_cli.proofs.Vocabulary.{◌≡◌, List, [], ◌∷◌, ◌++◌, inl, inr, false, Ok, Err, refl, ap, ap₂, ◌∙◌, subst, false≢true, State, left_by, reply, MayAnswer, Bytes, Command, Replies, Answer, was, Writes, Event, MayHappen, AreEvents}
 use Rattle.wi_scenarios.specs.declared.refusal.Refusal.TheVariants as refusal
-use Rattle.wi_scenarios.specs.State.{State}
-use Rattle.wi_scenarios.specs.Laws.{left_by}
 use Rattle.wi_cli.specs.Inner.Reply as inner
-use Rattle.wi_cli.specs.Inner.Reply.{reply}
-use Rattle.wi_cli.specs.Inner.Run.{MayAnswer}
-use Rattle.wi_cli.specs.Lines.{Bytes}
-use Rattle.wi_cli.specs.Command.{Command}
-use Rattle.wi_cli.specs.Reply.{Replies}
-use Rattle.wi_cli.specs.Step.{Answer}
-use Rattle.wi_cli.specs.Laws.{was}
-use Rattle.wi_cli.specs.Outcome.{Writes}
-use Rattle.wi_cli.specs.Events.{Event, MayHappen, AreEvents}
 use Rattle.wi_cli.proofs.Ties.Steps.{same_step}
 use Rattle.wi_cli.proofs.Ties.Replies.{same_reply}
 

@@ -1,13 +1,6 @@
 -- Some of the replacements.
-use Rattle.std.proofs.Common.{◌≡◌, ℕ, Bool, true, false, cond, List, [], ◌∷◌, None, filter, refl, ap, ◌∙◌}
-use Rattle.std.specs.Ordering.{nat_cmp}
+use Rattle.wi_values.proofs.Words.{◌≡◌, ℕ, Bool, true, false, cond, List, [], ◌∷◌, None, filter, refl, ap, ◌∙◌, nat_cmp, lookup, is_at, lookup-filter-keys, Value, Replacement, IsInOrder, as_map, replaced}
 use Rattle.std.specs.List.Sorted.{IsStrictlySortedBy}
-use Rattle.std.specs.Map.{lookup}
-use Rattle.std.specs.BTreeMap.{is_at}
-use Rattle.std.proofs.lemmas.Map.Entries.{lookup-filter-keys}
-use Rattle.wi_values.specs.declared.value.Value.{Value}
-use Rattle.wi_values.specs.declared.replacement.Replacement.{Replacement}
-use Rattle.wi_values.specs.Replacements.{IsInOrder, as_map, replaced}
 use Rattle.wi_values.proofs.Order.{at_same}
 use Rattle.wi_values.proofs.Replacements.InOrder.{ComeAfter, Rises, sorted_from_order, order_from_sorted}
 

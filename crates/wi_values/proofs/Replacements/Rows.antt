@@ -1,10 +1,5 @@
 -- Replacements worked by hand.
-use Rattle.std.proofs.Common.{◌≡◌, ℕ, true, false, List, [], ◌∷◌, refl}
-use Rattle.wi_values.specs.Address.{place}
-use Rattle.wi_values.specs.declared.value.Value.TheVariants.{Empty, Logical}
-use Rattle.wi_values.specs.declared.value.Value.{Value}
-use Rattle.wi_values.specs.declared.replacement.Replacement.{Replacement}
-use Rattle.wi_values.specs.Replacements.{as_map, overridden}
+use Rattle.wi_values.proofs.Words.{◌≡◌, ℕ, true, false, List, [], ◌∷◌, refl, place, Empty, Logical, Value, Replacement, as_map, overridden}
 
 abbrev by : ℕ → Value → Replacement
 by a v = record { at = a; value = v }

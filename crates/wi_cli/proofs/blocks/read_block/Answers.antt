@@ -1,7 +1,4 @@
-use Rattle.std.proofs.Common.{◌∙◌, sym, ap, refl, Some}
-use Rattle.std.proofs.lemmas.Result.{err_from_is_err_and}
-use Rattle.wi_cli.specs.Inner.Data.{command_of_csv}
-use Rattle.wi_cli.specs.Inner.Script.{line_command}
+use Rattle.wi_cli.proofs.Vocabulary.{◌∙◌, sym, ap, refl, Some, err_from_is_err_and, command_of_csv, line_command}
 use Rattle.wi_cli.proofs.TakenLemmas.{first_broke, data_broke, plain_block, csv_block, data_of}
 use Rattle.wi_cli.proofs.DataLemmas.{csv_read, no_csv}
 use Rattle.wi_cli.proofs.TurnLemmas.{line_command-front}

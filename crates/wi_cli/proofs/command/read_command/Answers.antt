@@ -1,4 +1,4 @@
-use Rattle.wi_cli.specs.Inner.Script.{named_command, spelled_command}
+use Rattle.wi_cli.proofs.Vocabulary.{named_command, spelled_command}
 use Rattle.wi_cli.proofs.NamedLemmas.{named, edit_named}
 use Rattle.wi_cli.proofs.command.read_command.Goals as goal
 

@@ -1,4 +1,4 @@
-use Rattle.std.proofs.Common.{arith}
+use Rattle.wi_cli.proofs.Vocabulary.{arith}
 use Rattle.wi_cli.proofs.WordLemmas.{text_read, no_text}
 use Rattle.wi_cli.proofs.command.read_line_command.Goals as goal
 

@@ -1,4 +1,4 @@
-use Rattle.std.proofs.Common.{◌∙◌}
+use Rattle.wi_cli.proofs.Vocabulary.{◌∙◌}
 use Rattle.wi_cli.proofs.WordLemmas.{cr_off, no_cr}
 use Rattle.wi_cli.proofs.command.without_cr.Goals as goal
 

@@ -1,8 +1,4 @@
-use Rattle.std.proofs.Common.{◌∙◌, sym, rules, tests}
-use Rattle.std.proofs.lemmas.Iterator.{YieldsList-from_slice}
-use Rattle.std.proofs.lemmas.Iterator.Search.{all_from_yields_List}
-use Rattle.std.specs.Char.{is_ascii_digit}
-use Rattle.wi_fraction.proofs.Scanning.{digits_same}
+use Rattle.wi_cli.proofs.Vocabulary.{◌∙◌, sym, rules, tests, YieldsList-from_slice, all_from_yields_List, is_ascii_digit, digits_same}
 use Rattle.wi_cli.proofs.csv_line.are_digits.Goals as goal
 
 pub returns : goal.returns

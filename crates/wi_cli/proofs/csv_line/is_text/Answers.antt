@@ -1,6 +1,4 @@
-use Rattle.std.proofs.Common.{◌∙◌}
-use Rattle.std.proofs.lemmas.Str.{IsUtf8-from_is_utf8, is_utf8-from_IsUtf8}
-use Rattle.std.proofs.lemmas.Bool.{false_from_ne_true}
+use Rattle.wi_cli.proofs.Vocabulary.{◌∙◌, IsUtf8-from_is_utf8, is_utf8-from_IsUtf8, false_from_ne_true}
 use Rattle.wi_cli.proofs.CsvLineLemmas.{told_by}
 use Rattle.wi_cli.proofs.csv_line.is_text.Goals as goal
 

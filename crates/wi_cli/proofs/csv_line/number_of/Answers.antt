@@ -1,6 +1,4 @@
-use Rattle.std.proofs.Common.{◌≡◌, ◌∙◌, get_or, ap, arith}
-use Rattle.std.specs.Char.{digit_value}
-use Rattle.wi_values.proofs.Spelling.{digits_step, digit_or_none}
+use Rattle.wi_cli.proofs.Vocabulary.{◌≡◌, ◌∙◌, get_or, ap, arith, digit_value, digits_step, digit_or_none}
 use Rattle.wi_cli.proofs.csv_line.number_of.Goals as goal
 
 pub loop-c-preserved : goal.loop-c-preserved

@@ -1,5 +1,4 @@
-use Rattle.std.proofs.Common.{◌≡◌, ◌≤◌, min, drop}
-use Rattle.std.specs.Str.Parse.{digits_value, digits_value_after}
+use Rattle.wi_cli.proofs.Vocabulary.{◌≡◌, ◌≤◌, min, drop, digits_value, digits_value_after}
 use Rattle.wi_cli.proofs.csv_line.number_of.Given as goal
 
 abbrev pub invariant-loop-c : goal.invariant-loop-c

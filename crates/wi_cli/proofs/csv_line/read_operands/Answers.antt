@@ -1,4 +1,4 @@
-use Rattle.std.proofs.Common.{rules}
+use Rattle.wi_cli.proofs.Vocabulary.{rules}
 use Rattle.wi_cli.proofs.csv_line.read_operands.Goals as goal
 
 pub returns : goal.returns

@@ -1,4 +1,4 @@
-use Rattle.std.proofs.Common.{arith}
+use Rattle.wi_cli.proofs.Vocabulary.{arith}
 use Rattle.wi_cli.proofs.DataLemmas.{added_long, added_short, added_bytes}
 use Rattle.wi_cli.proofs.data_lines.hold.Goals as goal
 

@@ -1,5 +1,4 @@
-use Rattle.std.proofs.Common.{◌∙◌, sym}
-use Rattle.std.proofs.lemmas.Result.{err_from_is_err_and}
+use Rattle.wi_cli.proofs.Vocabulary.{◌∙◌, sym, err_from_is_err_and}
 use Rattle.wi_cli.proofs.DataLemmas.{data_begun, data_more, data_stopped, goes_on_whole, goes_on_some, still_few, fewer}
 use Rattle.wi_cli.proofs.data_lines.read_data.Goals as goal
 

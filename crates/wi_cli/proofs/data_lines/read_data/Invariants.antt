@@ -1,6 +1,4 @@
-use Rattle.std.proofs.Common.{◌≡◌, ◌+◌, ◌≤◌, cond, vec_capacity}
-use Rattle.wi_cli.specs.Inner.Data.{wants, TookData}
-use Rattle.wi_cli.specs.Inner.Reading.{CanRead}
+use Rattle.wi_cli.proofs.Vocabulary.{◌≡◌, ◌+◌, ◌≤◌, cond, vec_capacity, wants, TookData, CanRead}
 use Rattle.wi_cli.proofs.data_lines.read_data.Given as goal
 
 abbrev pub invariant-taking : goal.invariant-taking

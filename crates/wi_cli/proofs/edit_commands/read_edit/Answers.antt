@@ -1,6 +1,4 @@
-use Rattle.std.proofs.Common.{ℕ, List, sym, subst}
-use Rattle.wi_cli.specs.Inner.EditCommands.{edit_command}
-use Rattle.wi_cli.specs.Inner.Spelling.{IsCommandOf}
+use Rattle.wi_cli.proofs.Vocabulary.{ℕ, List, sym, subst, edit_command, IsCommandOf}
 use Rattle.wi_cli.proofs.edit_commands.read_edit.Goals as goal
 
 pub returns-in-set : goal.returns-in-set

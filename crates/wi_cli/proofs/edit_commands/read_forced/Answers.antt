@@ -1,5 +1,4 @@
-use Rattle.std.proofs.Common.{true, refl}
-use Rattle.wi_cli.specs.Inner.EditCommands.{edit_command}
+use Rattle.wi_cli.proofs.Vocabulary.{true, refl, edit_command}
 use Rattle.wi_cli.proofs.NamedLemmas.{named}
 use Rattle.wi_cli.proofs.edit_commands.read_forced.Goals as goal
 

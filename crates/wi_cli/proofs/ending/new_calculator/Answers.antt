@@ -1,4 +1,4 @@
-use Rattle.std.proofs.Common.{rules}
+use Rattle.wi_cli.proofs.Vocabulary.{rules}
 use Rattle.wi_cli.proofs.EndingLemmas.{is_standard}
 use Rattle.wi_cli.proofs.ending.new_calculator.Goals as goal
 

@@ -1,4 +1,4 @@
-use Rattle.std.proofs.Common.{rules}
+use Rattle.wi_cli.proofs.Vocabulary.{rules}
 use Rattle.wi_cli.proofs.fault.fault_status.Goals as goal
 
 pub returns-in-ScriptLimit : goal.returns-in-ScriptLimit

@@ -1,5 +1,4 @@
-use Rattle.std.proofs.Common.{rules}
-use Rattle.std.proofs.lemmas.Result.{err_from_is_err_and}
+use Rattle.wi_cli.proofs.Vocabulary.{rules, err_from_is_err_and}
 use Rattle.wi_cli.proofs.InTurnLemmas.{in_turn_stopped, in_turn_both}
 use Rattle.wi_cli.proofs.in_turn.run_in_turn.Goals as goal
 

@@ -1,4 +1,4 @@
-use Rattle.std.proofs.Common.{rules}
+use Rattle.wi_cli.proofs.Vocabulary.{rules}
 use Rattle.wi_cli.proofs.InTurnLemmas.{in_turn_not_begun, in_turn_new}
 use Rattle.wi_cli.proofs.in_turn.run_new_in_turn.Goals as goal
 

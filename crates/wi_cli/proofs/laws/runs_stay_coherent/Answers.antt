@@ -1,4 +1,4 @@
-use Rattle.wi_scenarios.proofs.RunLemmas.{new_is_coherent}
+use Rattle.wi_cli.proofs.Vocabulary.{new_is_coherent}
 use Rattle.wi_cli.proofs.Ties.Events.{stays_coherent}
 use Rattle.wi_cli.proofs.laws.runs_stay_coherent.Goals as goal
 

@@ -1,5 +1,4 @@
-use Rattle.std.proofs.Common.{◌≡◌, ◌-◌, ◌++◌, length, take, min, ap, ◌∙◌, arith}
-use Rattle.std.proofs.lemmas.List.{length-take}
+use Rattle.wi_cli.proofs.Vocabulary.{◌≡◌, ◌-◌, ◌++◌, length, take, min, ap, ◌∙◌, arith, length-take}
 use Rattle.wi_cli.proofs.PartLemmas.{front_grown}
 use Rattle.wi_cli.proofs.lines.keep.Goals as goal
 

@@ -1,5 +1,4 @@
-use Rattle.std.proofs.Common.{rules}
-use Rattle.std.proofs.lemmas.Result.{err_from_is_err_and}
+use Rattle.wi_cli.proofs.Vocabulary.{rules, err_from_is_err_and}
 use Rattle.wi_cli.proofs.ReadingLemmas.{begun, went_on, ended, failed, came, limited, stops_unread, stops_limited}
 use Rattle.wi_cli.proofs.lines.read_line.Goals as goal
 

@@ -1,5 +1,4 @@
-use Rattle.std.proofs.Common.{◌≡◌, ◌<◌, ◌≤◌, true, false, length, vec_capacity}
-use Rattle.wi_cli.specs.Inner.Ahead.{budget}
+use Rattle.wi_cli.proofs.Vocabulary.{◌≡◌, ◌<◌, ◌≤◌, true, false, length, vec_capacity, budget}
 use Rattle.wi_cli.proofs.ReadingLemmas.{IsWithin}
 use Rattle.wi_cli.proofs.lines.read_line.Given as goal
 

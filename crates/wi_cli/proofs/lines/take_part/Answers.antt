@@ -1,5 +1,4 @@
-use Rattle.std.proofs.Common.{◌++◌, take, ap, ◌∙◌}
-use Rattle.wi_cli.specs.Inner.Reading.{line_front}
+use Rattle.wi_cli.proofs.Vocabulary.{◌++◌, take, ap, ◌∙◌, line_front}
 use Rattle.wi_cli.proofs.PartLemmas.{up_to_lf, all_of_it}
 use Rattle.wi_cli.proofs.lines.take_part.Goals as goal
 

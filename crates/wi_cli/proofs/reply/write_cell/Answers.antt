@@ -1,4 +1,4 @@
-use Rattle.std.proofs.lemmas.Result.{on_err_weaker}
+use Rattle.wi_cli.proofs.Vocabulary.{on_err_weaker}
 use Rattle.wi_cli.proofs.TurnLemmas.{AppendsFront-append}
 use Rattle.wi_cli.proofs.reply.write_cell.Goals as goal
 

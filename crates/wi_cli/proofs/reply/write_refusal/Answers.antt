@@ -1,7 +1,4 @@
-use Rattle.std.proofs.Common.{codes}
-use Rattle.std.proofs.lemmas.Result.{on_ok_weaker, on_err_weaker, err_from_is_err_and}
-use Rattle.std.proofs.KnownBytes.{Appends-trans}
-use Rattle.wi_cli.specs.Inner.Reply.{refused, told_cell}
+use Rattle.wi_cli.proofs.Vocabulary.{codes, on_ok_weaker, on_err_weaker, err_from_is_err_and, Appends-trans, refused, told_cell}
 use Rattle.wi_cli.proofs.TurnLemmas.{AppendsFront-append, AppendsFront-of}
 use Rattle.wi_cli.proofs.reply.write_refusal.Goals as goal
 

@@ -1,5 +1,4 @@
-use Rattle.std.proofs.Common.{◌≡◌, ◌-◌, ◌≤◌, false, vec_capacity}
-use Rattle.wi_cli.specs.Inner.Reading.{CanRead}
+use Rattle.wi_cli.proofs.Vocabulary.{◌≡◌, ◌-◌, ◌≤◌, false, vec_capacity, CanRead}
 use Rattle.wi_cli.proofs.OutcomeLemmas.{IsGoing}
 use Rattle.wi_cli.proofs.runs.run.Given as goal
 

@@ -1,7 +1,4 @@
-use Rattle.std.proofs.Common.{◌≡◌, length, arith}
-use Rattle.std.proofs.lemmas.Grind.{common_steps}
-use Rattle.wi_values.specs.Name.{bytes_of}
-use Rattle.wi_scenarios.proofs.ScenarioLemmas.{taken_served}
+use Rattle.wi_cli.proofs.Vocabulary.{◌≡◌, length, arith, common_steps, bytes_of, taken_served}
 use Rattle.wi_cli.proofs.serve.replace.Goals as goal
 
 pub returns-then-is_empty : goal.returns-then-is_empty

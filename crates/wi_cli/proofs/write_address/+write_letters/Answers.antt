@@ -1,5 +1,4 @@
-use Rattle.std.proofs.Common.{sym}
-use Rattle.std.proofs.lemmas.Result.{on_ok_weaker, on_err_weaker, err_from_is_err_and}
+use Rattle.wi_cli.proofs.Vocabulary.{sym, on_ok_weaker, on_err_weaker, err_from_is_err_and}
 use Rattle.wi_cli.proofs.AddressLemmas.{letters_none, letters_front, letters_last, letters_cut}
 use Rattle.wi_cli.proofs.write_address.+write_letters.Goals as goal
 

@@ -1,7 +1,4 @@
-use Rattle.std.proofs.lemmas.Result.{on_ok_weaker, on_err_weaker, err_from_is_err_and}
-use Rattle.std.proofs.KnownBytes.{Appends-trans}
-use Rattle.wi_values.specs.Address.{address_text}
-use Rattle.wi_values.proofs.Letters.{letters_of_column}
+use Rattle.wi_cli.proofs.Vocabulary.{on_ok_weaker, on_err_weaker, err_from_is_err_and, Appends-trans, address_text, letters_of_column}
 use Rattle.wi_cli.proofs.TurnLemmas.{AppendsFront-append, AppendsFront-of}
 use Rattle.wi_cli.proofs.write_address.write_address.Goals as goal
 

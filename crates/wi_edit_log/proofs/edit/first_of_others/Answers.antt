@@ -1,4 +1,4 @@
-use Rattle.std.proofs.Common.{◌<◌, ◌-◌, arith, rules}
+use Rattle.wi_edit_log.proofs.Words.{◌<◌, ◌-◌, arith, rules}
 use Rattle.wi_edit_log.proofs.Runs.{none_after_all, other_looked_at, own_stepped_over}
 use Rattle.wi_edit_log.proofs.edit.first_of_others.Goals as goal
 

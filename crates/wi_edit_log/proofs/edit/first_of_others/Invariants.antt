@@ -1,6 +1,4 @@
-use Rattle.std.proofs.Common.{◌-◌, ◌≤◌, length, drop}
-use Rattle.wi_edit_log.specs.Inner.Edits.{is_wanted_of_others}
-use Rattle.wi_edit_log.specs.Inner.First.{IsFirst}
+use Rattle.wi_edit_log.proofs.Words.{◌-◌, ◌≤◌, length, drop, is_wanted_of_others, IsFirst}
 use Rattle.wi_edit_log.proofs.edit.first_of_others.Given as goal
 
 abbrev pub invariant-loop-place : goal.invariant-loop-place

@@ -1,4 +1,4 @@
-use Rattle.std.proofs.Common.{◌<◌, ◌-◌, arith, rules}
+use Rattle.wi_edit_log.proofs.Words.{◌<◌, ◌-◌, arith, rules}
 use Rattle.wi_edit_log.proofs.Wide.{narrow_stepped_over, none_wide_after_all, run_stepped_over, wide_looked_at}
 use Rattle.wi_edit_log.proofs.edit.first_of_wide.Goals as goal
 

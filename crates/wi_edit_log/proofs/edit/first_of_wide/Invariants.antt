@@ -1,6 +1,4 @@
-use Rattle.std.proofs.Common.{◌-◌, ◌≤◌, length, drop}
-use Rattle.wi_edit_log.specs.Inner.Noted.{is_wanted_widely}
-use Rattle.wi_edit_log.specs.Inner.First.{IsFirst}
+use Rattle.wi_edit_log.proofs.Words.{◌-◌, ◌≤◌, length, drop, is_wanted_widely, IsFirst}
 use Rattle.wi_edit_log.proofs.edit.first_of_wide.Given as goal
 
 abbrev pub invariant-loop-place : goal.invariant-loop-place

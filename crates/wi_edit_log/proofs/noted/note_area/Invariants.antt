@@ -1,4 +1,4 @@
-use Rattle.wi_values.proofs.Within.{places_left}
+use Rattle.wi_edit_log.proofs.Words.{places_left}
 use Rattle.wi_edit_log.proofs.Noting.{IsNoting}
 use Rattle.wi_edit_log.proofs.noted.note_area.Given as goal
 

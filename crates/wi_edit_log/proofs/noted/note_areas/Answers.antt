@@ -1,7 +1,4 @@
-use Rattle.std.proofs.Common.{arith, refl, subst}
-use Rattle.std.proofs.lemmas.List.{take_all}
-use Rattle.wi_edit_log.specs.EditLog.{have_cell}
-use Rattle.wi_edit_log.specs.Inner.Noted.{NotesMore}
+use Rattle.wi_edit_log.proofs.Words.{arith, refl, subst, take_all, have_cell, NotesMore}
 use Rattle.wi_edit_log.proofs.Noting.{area_noted}
 use Rattle.wi_edit_log.proofs.noted.note_areas.Goals as goal
 

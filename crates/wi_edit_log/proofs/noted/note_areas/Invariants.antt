@@ -1,6 +1,4 @@
-use Rattle.std.proofs.Common.{take}
-use Rattle.wi_edit_log.specs.EditLog.{have_cell}
-use Rattle.wi_edit_log.specs.Inner.Noted.{NotesMore}
+use Rattle.wi_edit_log.proofs.Words.{take, have_cell, NotesMore}
 use Rattle.wi_edit_log.proofs.noted.note_areas.Given as goal
 
 abbrev pub invariant-loop-area : goal.invariant-loop-area

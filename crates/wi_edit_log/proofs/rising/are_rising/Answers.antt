@@ -1,7 +1,5 @@
-use Rattle.std.proofs.Common.{◌≡◌, ◌+◌, ℕ, drop, ap, arith, refl, subst, sym, ◌∙◌}
-use Rattle.wi_values.specs.Address.{row_of}
+use Rattle.wi_edit_log.proofs.Words.{◌≡◌, ◌+◌, ℕ, drop, ap, arith, refl, subst, sym, ◌∙◌, row_of, are_rising, rise_from}
 use Rattle.wi_edit_log.proofs.Below.{rises_all, rises_no_more, rises_on}
-use Rattle.wi_edit_log.specs.Inner.Rising.{are_rising, rise_from}
 use Rattle.wi_edit_log.proofs.rising.are_rising.Goals as goal
 
 pub loop-area-init : goal.loop-area-init

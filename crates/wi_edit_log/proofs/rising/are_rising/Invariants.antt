@@ -1,5 +1,4 @@
-use Rattle.std.proofs.Common.{◌≡◌, drop}
-use Rattle.wi_edit_log.specs.Inner.Rising.{are_rising, rise_from}
+use Rattle.wi_edit_log.proofs.Words.{◌≡◌, drop, are_rising, rise_from}
 use Rattle.wi_edit_log.proofs.rising.are_rising.Given as goal
 
 abbrev pub invariant-loop-area : goal.invariant-loop-area

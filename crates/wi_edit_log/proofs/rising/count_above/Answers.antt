@@ -1,7 +1,4 @@
-use Rattle.std.proofs.Common.{rules, arith, ltb-true}
-use Rattle.std.specs.Prelude.{nat_lt}
-use Rattle.std.proofs.lemmas.List.Sorted.{IsPartitionPoint-from_clause, IsPartitionedBy-ltb}
-use Rattle.wi_values.specs.Address.{Area, row_of}
+use Rattle.wi_edit_log.proofs.Words.{rules, arith, ltb-true, nat_lt, IsPartitionPoint-from_clause, IsPartitionedBy-ltb, Area, row_of}
 use Rattle.wi_edit_log.proofs.Below.{lasts_rise, passed}
 use Rattle.wi_edit_log.proofs.rising.count_above.Goals as goal
 

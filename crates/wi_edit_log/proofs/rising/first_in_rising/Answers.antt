@@ -1,7 +1,4 @@
-use Rattle.std.proofs.Common.{◌≡◌, ◌≤◌, ◌-◌, ◌∙◌, ℕ, length, take, drop, ap, subst, sym}
-use Rattle.wi_values.specs.Address.{row_of}
-use Rattle.std.proofs.lemmas.List.{take_rest}
-use Rattle.wi_edit_log.specs.Inner.Rising.{are_rising}
+use Rattle.wi_edit_log.proofs.Words.{◌≡◌, ◌≤◌, ◌-◌, ◌∙◌, ℕ, length, take, drop, ap, subst, sym, row_of, take_rest, are_rising}
 use Rattle.wi_edit_log.proofs.Below.{first_of_rest, rise_after}
 use Rattle.wi_edit_log.proofs.rising.first_in_rising.Goals as goal
 

@@ -1,5 +1,4 @@
-use Rattle.std.proofs.Common.{◌≡◌, ◌<◌, ◌∙◌, ap, arith, refl}
-use Rattle.wi_values.specs.Address.{row_of}
+use Rattle.wi_edit_log.proofs.Words.{◌≡◌, ◌<◌, ◌∙◌, ap, arith, refl, row_of}
 use Rattle.wi_edit_log.proofs.Below.{ends_above, meets, meets_none, passes_by}
 use Rattle.wi_edit_log.proofs.rising.first_met.Goals as goal
 

@@ -1,4 +1,4 @@
-use Rattle.std.proofs.Common.{arith}
+use Rattle.wi_edit_log.proofs.Words.{arith}
 use Rattle.wi_edit_log.proofs.Shared.{in_none, in_one_more, in_one_all}
 use Rattle.wi_edit_log.proofs.search.first_in_any.Goals as goal
 

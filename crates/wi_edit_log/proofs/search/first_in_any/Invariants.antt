@@ -1,5 +1,4 @@
-use Rattle.std.proofs.Common.{take}
-use Rattle.wi_edit_log.specs.Inner.First.{IsFirst, in_one}
+use Rattle.wi_edit_log.proofs.Words.{take, IsFirst, in_one}
 use Rattle.wi_edit_log.proofs.search.first_in_any.Given as goal
 
 abbrev pub invariant-loop-other : goal.invariant-loop-other

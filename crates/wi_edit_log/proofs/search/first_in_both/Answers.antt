@@ -1,6 +1,4 @@
-use Rattle.std.proofs.Common.{◌≡◌, ◌∙◌, ◌&&◌, ap, sym, max}
-use Rattle.wi_values.specs.Address.{rows, columns, row_of, column_of, is_within}
-use Rattle.wi_edit_log.specs.Inner.First.{in_both}
+use Rattle.wi_edit_log.proofs.Words.{◌≡◌, ◌∙◌, ◌&&◌, ap, sym, max, rows, columns, row_of, column_of, is_within, in_both}
 use Rattle.wi_edit_log.proofs.Shared.{both_below, first_shared}
 use Rattle.wi_edit_log.proofs.search.first_in_both.Goals as goal
 use Rattle.wi_edit_log.proofs.search.first_in_both.Goals.{then-contains, else-contains}

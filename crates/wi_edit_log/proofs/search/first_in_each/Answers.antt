@@ -1,5 +1,4 @@
-use Rattle.std.proofs.Common.{arith}
-use Rattle.wi_edit_log.specs.EditLog.{have_cell}
+use Rattle.wi_edit_log.proofs.Words.{arith, have_cell}
 use Rattle.wi_edit_log.proofs.Shared.{of_all, of_none, of_one_more}
 use Rattle.wi_edit_log.proofs.search.first_in_each.Goals as goal
 

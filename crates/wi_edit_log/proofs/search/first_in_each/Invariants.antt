@@ -1,5 +1,4 @@
-use Rattle.std.proofs.Common.{take}
-use Rattle.wi_edit_log.specs.Inner.First.{IsFirst, in_each}
+use Rattle.wi_edit_log.proofs.Words.{take, IsFirst, in_each}
 use Rattle.wi_edit_log.proofs.search.first_in_each.Given as goal
 
 abbrev pub invariant-loop-one : goal.invariant-loop-one

@@ -1,6 +1,4 @@
-use Rattle.std.proofs.Common.{◌+◌, drop, refl, sym, ◌∙◌}
-use Rattle.std.proofs.lemmas.List.{drop_all}
-use Rattle.std.proofs.lemmas.Result.{IfOk-from_err}
+use Rattle.wi_fold_functions.proofs.Words.{◌+◌, drop, refl, sym, ◌∙◌, drop_all, IfOk-from_err}
 use Rattle.wi_fold_functions.proofs.Arguments.{next, stops, ends, one_missing}
 use Rattle.wi_fold_functions.proofs.folding.fold_arguments.Goals as goal
 

@@ -1,4 +1,4 @@
-use Rattle.std.proofs.Common.{drop}
+use Rattle.wi_fold_functions.proofs.Words.{drop}
 use Rattle.wi_fold_functions.proofs.Arguments.{Rest}
 use Rattle.wi_fold_functions.proofs.folding.fold_arguments.Given as goal
 

@@ -1,9 +1,4 @@
-use Rattle.std.proofs.Common.{refl}
-use Rattle.wi_standard_functions.specs.Arithmetic.{whole_value}
-use Rattle.wi_standard_functions.specs.Information.{count_a_value}
-use Rattle.wi_standard_functions.specs.Sequence.{sequence_of}
-use Rattle.wi_standard_functions.specs.Steps.{◌>>=◌, fold_until_error}
-use Rattle.wi_fold_functions.specs.Inner.Made.{filled_with}
+use Rattle.wi_fold_functions.proofs.Words.{refl, whole_value, count_a_value, sequence_of, ◌>>=◌, fold_until_error, filled_with}
 use Rattle.wi_fold_functions.proofs.Arguments.{of_arguments}
 use Rattle.wi_fold_functions.proofs.Counting.{count_a_is}
 use Rattle.wi_fold_functions.proofs.information.count_a_value.Goals as goal

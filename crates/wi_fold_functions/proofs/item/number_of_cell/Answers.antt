@@ -1,4 +1,4 @@
-use Rattle.std.proofs.Common.{rules}
+use Rattle.wi_fold_functions.proofs.Words.{rules}
 use Rattle.wi_fold_functions.proofs.item.number_of_cell.Goals as goal
 
 pub returns-in-Text : goal.returns-in-Text

@@ -1,8 +1,4 @@
-use Rattle.std.proofs.Common.{refl, None}
-use Rattle.wi_standard_functions.specs.Logical.{and_value}
-use Rattle.wi_standard_functions.specs.Sequence.{sequence_of}
-use Rattle.wi_standard_functions.specs.Steps.{◌>>=◌, fold_until_error}
-use Rattle.wi_fold_functions.specs.Inner.Made.{all_with, logical_chosen}
+use Rattle.wi_fold_functions.proofs.Words.{refl, None, and_value, sequence_of, ◌>>=◌, fold_until_error, all_with, logical_chosen}
 use Rattle.wi_fold_functions.proofs.Arguments.{of_arguments}
 use Rattle.wi_fold_functions.proofs.Choices.{and_is}
 use Rattle.wi_fold_functions.proofs.logical.and_value.Goals as goal

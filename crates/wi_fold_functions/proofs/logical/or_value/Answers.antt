@@ -1,8 +1,4 @@
-use Rattle.std.proofs.Common.{refl, None}
-use Rattle.wi_standard_functions.specs.Logical.{or_value}
-use Rattle.wi_standard_functions.specs.Sequence.{sequence_of}
-use Rattle.wi_standard_functions.specs.Steps.{◌>>=◌, fold_until_error}
-use Rattle.wi_fold_functions.specs.Inner.Made.{any_with, logical_chosen}
+use Rattle.wi_fold_functions.proofs.Words.{refl, None, or_value, sequence_of, ◌>>=◌, fold_until_error, any_with, logical_chosen}
 use Rattle.wi_fold_functions.proofs.Arguments.{of_arguments}
 use Rattle.wi_fold_functions.proofs.Choices.{or_is}
 use Rattle.wi_fold_functions.proofs.logical.or_value.Goals as goal

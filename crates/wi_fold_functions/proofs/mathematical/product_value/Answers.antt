@@ -1,8 +1,4 @@
-use Rattle.wi_values.specs.declared.value.Value.TheVariants.{Number}
-use Rattle.wi_standard_functions.specs.Mathematical.{product_value}
-use Rattle.wi_standard_functions.specs.Sequence.{sequence_of}
-use Rattle.wi_standard_functions.specs.Steps.{◌>>=◌, fold_until_error}
-use Rattle.wi_fold_functions.specs.Inner.Made.{product_with}
+use Rattle.wi_fold_functions.proofs.Words.{Number, product_value, sequence_of, ◌>>=◌, fold_until_error, product_with}
 use Rattle.wi_fold_functions.proofs.Arguments.{of_arguments}
 use Rattle.wi_fold_functions.proofs.Sums.{product_is}
 use Rattle.wi_fold_functions.proofs.mathematical.product_value.Goals as goal

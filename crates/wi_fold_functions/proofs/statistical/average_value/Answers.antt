@@ -1,8 +1,4 @@
-use Rattle.std.proofs.Common.{refl}
-use Rattle.wi_standard_functions.specs.Statistical.{average_value}
-use Rattle.wi_standard_functions.specs.Sequence.{sequence_of}
-use Rattle.wi_standard_functions.specs.Steps.{◌>>=◌, fold_until_error}
-use Rattle.wi_fold_functions.specs.Inner.Made.{mean_with, mean_value}
+use Rattle.wi_fold_functions.proofs.Words.{refl, average_value, sequence_of, ◌>>=◌, fold_until_error, mean_with, mean_value}
 use Rattle.wi_fold_functions.proofs.Arguments.{of_arguments}
 use Rattle.wi_fold_functions.proofs.Counting.{average_is}
 use Rattle.wi_fold_functions.proofs.statistical.average_value.Goals as goal

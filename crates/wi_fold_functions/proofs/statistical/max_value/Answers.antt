@@ -1,8 +1,4 @@
-use Rattle.std.proofs.Common.{refl, None}
-use Rattle.wi_standard_functions.specs.Statistical.{max_value}
-use Rattle.wi_standard_functions.specs.Sequence.{sequence_of}
-use Rattle.wi_standard_functions.specs.Steps.{◌>>=◌, fold_until_error}
-use Rattle.wi_fold_functions.specs.Inner.Made.{greatest_with, number_chosen}
+use Rattle.wi_fold_functions.proofs.Words.{refl, None, max_value, sequence_of, ◌>>=◌, fold_until_error, greatest_with, number_chosen}
 use Rattle.wi_fold_functions.proofs.Arguments.{of_arguments}
 use Rattle.wi_fold_functions.proofs.Choices.{max_is}
 use Rattle.wi_fold_functions.proofs.statistical.max_value.Goals as goal

@@ -1,8 +1,4 @@
-use Rattle.std.proofs.Common.{refl, None}
-use Rattle.wi_standard_functions.specs.Statistical.{min_value}
-use Rattle.wi_standard_functions.specs.Sequence.{sequence_of}
-use Rattle.wi_standard_functions.specs.Steps.{◌>>=◌, fold_until_error}
-use Rattle.wi_fold_functions.specs.Inner.Made.{least_with, number_chosen}
+use Rattle.wi_fold_functions.proofs.Words.{refl, None, min_value, sequence_of, ◌>>=◌, fold_until_error, least_with, number_chosen}
 use Rattle.wi_fold_functions.proofs.Arguments.{of_arguments}
 use Rattle.wi_fold_functions.proofs.Choices.{min_is}
 use Rattle.wi_fold_functions.proofs.statistical.min_value.Goals as goal

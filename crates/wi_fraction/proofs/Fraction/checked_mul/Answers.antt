@@ -1,4 +1,4 @@
-use Rattle.std.proofs.Common.{rules}
+use Rattle.wi_fraction.proofs.Vocabulary.{rules}
 use Rattle.wi_fraction.proofs.Values.{product_value}
 use Rattle.wi_fraction.proofs.Fraction.checked_mul.Goals as goal
 

@@ -1,4 +1,4 @@
-use Rattle.std.proofs.Common.{rules}
+use Rattle.wi_fraction.proofs.Vocabulary.{rules}
 use Rattle.wi_fraction.proofs.Values.{difference_value}
 use Rattle.wi_fraction.proofs.Fraction.checked_sub.Goals as goal
 

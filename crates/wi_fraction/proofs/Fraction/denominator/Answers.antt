@@ -1,4 +1,4 @@
-use Rattle.std.proofs.Common.{rules}
+use Rattle.wi_fraction.proofs.Vocabulary.{rules}
 use Rattle.wi_fraction.proofs.Fraction.denominator.Goals as goal
 
 pub returns : goal.returns

@@ -1,9 +1,5 @@
-use Rattle.std.proofs.Common.{◌∙◌, refl, rules, tests, arith, FitsSigned, ◌≡◌, pos, unsigned_abs, true, false}
-use Rattle.std.specs.Prelude.{int_lt}
-use Rattle.std.proofs.lemmas.Bool.Decides.{nat_tests}
-use Rattle.std.specs.Int.{w128}
-use Rattle.std.proofs.lemmas.Int.{to_z-of_z}
-use Rattle.wi_fraction.specs.Number.{Number}
+use Rattle.wi_fraction.proofs.Vocabulary.{◌∙◌, rules, tests, arith, FitsSigned, int_lt, nat_tests, w128, to_z-of_z, Number}
+use Rattle.std.proofs.Common.{refl, ◌≡◌, pos, unsigned_abs, true, false}
 use Rattle.wi_fraction.proofs.Wholes.{floor_up, floor_down, floored_from}
 use Rattle.wi_fraction.proofs.Fraction.floor.Goals as goal
 

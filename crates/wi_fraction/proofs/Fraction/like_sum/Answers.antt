@@ -1,6 +1,4 @@
-use Rattle.std.proofs.Common.{rules, ◌∙◌, sym, FitsSigned}
-use Rattle.std.specs.Int.{w128}
-use Rattle.std.proofs.lemmas.Int.{to_z-of_z}
+use Rattle.wi_fraction.proofs.Vocabulary.{rules, ◌∙◌, sym, FitsSigned, w128, to_z-of_z}
 use Rattle.wi_fraction.proofs.Steps.{like_sum_some, like_sum_none, whole_number_of, signed-abs}
 use Rattle.wi_fraction.proofs.Fraction.like_sum.Goals as goal
 

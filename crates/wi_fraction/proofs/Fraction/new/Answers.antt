@@ -1,5 +1,4 @@
-use Rattle.std.proofs.Common.{arith}
-use Rattle.std.proofs.lemmas.Grind.{common_steps}
+use Rattle.wi_fraction.proofs.Vocabulary.{arith, common_steps}
 use Rattle.wi_fraction.proofs.Fraction.new.Goals as goal
 
 pub returns : goal.returns

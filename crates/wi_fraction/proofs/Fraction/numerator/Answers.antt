@@ -1,4 +1,4 @@
-use Rattle.std.proofs.Common.{rules}
+use Rattle.wi_fraction.proofs.Vocabulary.{rules}
 use Rattle.wi_fraction.proofs.Fraction.numerator.Goals as goal
 
 pub returns : goal.returns

@@ -1,8 +1,4 @@
-use Rattle.std.proofs.Common.{FitsSigned, rules}
-use Rattle.std.specs.Int.{w128}
-use Rattle.std.proofs.lemmas.Int.{to_z-of_z}
-use Rattle.wi_fraction.specs.Number.Laws.{same_number}
-use Rattle.wi_fraction.specs.Inner.Words.{number_in}
+use Rattle.wi_fraction.proofs.Vocabulary.{FitsSigned, rules, w128, to_z-of_z, same_number, number_in}
 use Rattle.wi_fraction.proofs.Fraction.of.Goals as goal
 
 pub invariant_of-result : goal.invariant_of-result

@@ -1,8 +1,4 @@
-use Rattle.std.proofs.Common.{◌∙◌, FitsSigned, ap, rules}
-use Rattle.std.specs.Int.{w128}
-use Rattle.std.proofs.lemmas.Int.{to_z-of_z}
-use Rattle.wi_fraction.specs.Number.{Number}
-use Rattle.wi_fraction.specs.Number.Laws.{same_number}
+use Rattle.wi_fraction.proofs.Vocabulary.{◌∙◌, FitsSigned, ap, rules, w128, to_z-of_z, Number, same_number}
 use Rattle.wi_fraction.proofs.Fraction.parts.Goals as goal
 
 pub invariant_of-result : goal.invariant_of-result

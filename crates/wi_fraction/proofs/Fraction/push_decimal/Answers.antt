@@ -1,8 +1,6 @@
-use Rattle.std.proofs.Common.{rules, ap, sym, subst, length, string_bytes}
-use Rattle.std.proofs.lemmas.Str.{IsUtf8-string_bytes}
-use Rattle.std.specs.Str.{IsCharBoundary}
+use Rattle.wi_fraction.proofs.Vocabulary.{rules, ap, sym, subst, string_bytes, IsUtf8-string_bytes, IsCharBoundary, decimal_text}
+use Rattle.std.proofs.Common.{length}
 use Rattle.wi_fraction.proofs.Decimals.{cut_place}
-use Rattle.wi_fraction.specs.Decimal.{decimal_text}
 use Rattle.wi_fraction.proofs.Fraction.push_decimal.Goals as goal
 
 pub truncate-requires : goal.truncate-requires

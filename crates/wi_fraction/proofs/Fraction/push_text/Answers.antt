@@ -1,5 +1,4 @@
-use Rattle.std.proofs.Common.{rules}
-use Rattle.wi_fraction.specs.Text.{text_of}
+use Rattle.wi_fraction.proofs.Vocabulary.{rules, text_of}
 use Rattle.wi_fraction.proofs.Fraction.push_text.Goals as goal
 
 pub returns-clause-ok : goal.returns-clause-ok

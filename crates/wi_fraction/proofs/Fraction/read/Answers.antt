@@ -1,6 +1,4 @@
-use Rattle.std.proofs.Common.{arith}
-use Rattle.std.proofs.lemmas.Grind.{common_steps}
-use Rattle.wi_fraction.specs.Inner.Reading.{read}
+use Rattle.wi_fraction.proofs.Vocabulary.{arith, common_steps, read}
 use Rattle.wi_fraction.proofs.Fraction.read.Goals as goal
 
 pub returns-in-43 : goal.returns-in-43

@@ -1,7 +1,5 @@
-use Rattle.std.proofs.Common.{◌∙◌, refl, rules, FitsSigned, ◌≡◌, unsigned_abs}
-use Rattle.std.specs.Int.{w128}
-use Rattle.std.proofs.lemmas.Int.{to_z-of_z}
-use Rattle.wi_fraction.specs.Number.{Number}
+use Rattle.wi_fraction.proofs.Vocabulary.{◌∙◌, rules, FitsSigned, w128, to_z-of_z, Number}
+use Rattle.std.proofs.Common.{refl, ◌≡◌, unsigned_abs}
 use Rattle.wi_fraction.proofs.Wholes.{rounded_from}
 use Rattle.wi_fraction.proofs.Fraction.rounded.Goals as goal
 

@@ -1,5 +1,4 @@
-use Rattle.std.proofs.Common.{arith}
-use Rattle.wi_fraction.specs.Gcd.Laws.{gcd-one}
+use Rattle.wi_fraction.proofs.Vocabulary.{arith, gcd-one}
 use Rattle.wi_fraction.proofs.Exponents.{ten_pow_few, one_lowest}
 use Rattle.wi_fraction.proofs.Fineness.{ten_pow_pos}
 use Rattle.wi_fraction.proofs.Fraction.shifted.Goals as goal

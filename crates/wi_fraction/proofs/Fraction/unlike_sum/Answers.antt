@@ -1,6 +1,4 @@
-use Rattle.std.proofs.Common.{rules, ◌∙◌, FitsSigned}
-use Rattle.std.specs.Int.{w128}
-use Rattle.std.proofs.lemmas.Int.{to_z-of_z}
+use Rattle.wi_fraction.proofs.Vocabulary.{rules, ◌∙◌, FitsSigned, w128, to_z-of_z}
 use Rattle.wi_fraction.proofs.Steps.{multiple_pos, part_fits, sum_no_multiple, sum_no_first, sum_no_second, sum_no_total, sum_from_steps, signed-abs}
 use Rattle.wi_fraction.proofs.Fraction.unlike_sum.Goals as goal
 

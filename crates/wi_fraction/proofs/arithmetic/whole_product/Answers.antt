@@ -1,5 +1,4 @@
-use Rattle.std.proofs.Common.{◌∙◌, sym, inl}
-use Rattle.wi_fraction.specs.Gcd.Laws.{gcd-one}
+use Rattle.wi_fraction.proofs.Vocabulary.{◌∙◌, sym, inl, gcd-one}
 use Rattle.wi_fraction.proofs.Numbers.{number_at-too_large, number_of-whole}
 use Rattle.wi_fraction.proofs.Steps.{bounded-some, bounded-none}
 use Rattle.wi_fraction.proofs.arithmetic.whole_product.Goals as goal

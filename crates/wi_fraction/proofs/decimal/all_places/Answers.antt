@@ -1,5 +1,4 @@
-use Rattle.std.proofs.Common.{arith}
-use Rattle.std.proofs.Math.Nat.{mod-lt}
+use Rattle.wi_fraction.proofs.Vocabulary.{arith, mod-lt}
 use Rattle.wi_fraction.proofs.Decimals.{all_places_begin, all_found, all_next, all_end, next_power}
 use Rattle.wi_fraction.proofs.decimal.all_places.Goals as goal
 

@@ -1,7 +1,5 @@
 use Rattle.std.proofs.Common.{◌≡◌, ◌<◌, ◌-◌, ◌%◌}
-use Rattle.std.specs.Prelude.{◌^◌}
-use Rattle.wi_fraction.specs.Inner.Places.{places_from}
-use Rattle.wi_fraction.specs.Decimal.{all_places}
+use Rattle.wi_fraction.proofs.Vocabulary.{◌^◌, places_from, all_places}
 use Rattle.wi_fraction.proofs.decimal.all_places.Given as goal
 
 -- ten to the power k without multiples of d, and the places that are left to try

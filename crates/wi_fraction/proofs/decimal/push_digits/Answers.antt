@@ -1,8 +1,5 @@
-use Rattle.std.proofs.Common.{◌≡◌, ◌<◌, ◌++◌, arith, string_bytes}
-use Rattle.std.proofs.Transfers.{starts_with_of_append}
-use Rattle.std.specs.Fmt.{decimal}
-use Rattle.std.proofs.lemmas.Result.{IfOk-from_err}
-use Rattle.std.proofs.Math.Nat.{mod-lt}
+use Rattle.wi_fraction.proofs.Vocabulary.{arith, string_bytes, starts_with_of_append, decimal, IfOk-from_err, mod-lt}
+use Rattle.std.proofs.Common.{◌≡◌, ◌<◌, ◌++◌}
 use Rattle.wi_fraction.proofs.Decimals.{starts_pushed, digits_none, digits_next, rest_none, rest_next}
 use Rattle.wi_fraction.proofs.decimal.push_digits.Goals as goal
 

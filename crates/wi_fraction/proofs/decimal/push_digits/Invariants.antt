@@ -1,6 +1,5 @@
-use Rattle.std.proofs.Common.{◌≡◌, ◌<◌, ◌*◌, ◌/◌, ◌%◌, ◌++◌, string_bytes}
-use Rattle.std.specs.Prelude.{◌^◌}
-use Rattle.wi_fraction.specs.Text.{padded}
+use Rattle.wi_fraction.proofs.Vocabulary.{string_bytes, ◌^◌, padded}
+use Rattle.std.proofs.Common.{◌≡◌, ◌<◌, ◌*◌, ◌/◌, ◌%◌, ◌++◌}
 use Rattle.wi_fraction.proofs.decimal.push_digits.Given as goal
 
 -- the digits so far, and what is left of n

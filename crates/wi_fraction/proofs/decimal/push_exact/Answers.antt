@@ -1,12 +1,5 @@
-use Rattle.std.proofs.Common.{◌≡◌, ◌∙◌, sym, ap, subst, arith, rules, string_bytes, ◌++◌, ◌∷◌, [], ◌*◌, ◌/◌, ◌%◌, Some, OnOk}
-use Rattle.std.proofs.Transfers.{starts_with_trans}
-use Rattle.std.specs.Prelude.{◌^◌}
-use Rattle.std.specs.Fmt.{decimal}
-use Rattle.std.proofs.lemmas.Result.{IfOk-from_err}
-use Rattle.std.proofs.Math.Nat.{mod-lt}
-use Rattle.std.proofs.lemmas.List.{append-nil}
-use Rattle.wi_fraction.specs.Text.{sign_text, size_text, padded}
-use Rattle.wi_fraction.specs.Decimal.{all_places}
+use Rattle.wi_fraction.proofs.Vocabulary.{◌∙◌, sym, ap, subst, arith, rules, string_bytes, OnOk, starts_with_trans, ◌^◌, decimal, IfOk-from_err, mod-lt, append-nil, sign_text, size_text, padded, all_places}
+use Rattle.std.proofs.Common.{◌≡◌, ◌++◌, ◌∷◌, [], ◌*◌, ◌/◌, ◌%◌, Some}
 use Rattle.wi_fraction.proofs.Decimals.{starts_joined, exact_none, exact_whole, exact_point, exact_written}
 use Rattle.wi_fraction.proofs.decimal.push_exact.Goals as goal
 

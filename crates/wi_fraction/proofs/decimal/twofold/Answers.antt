@@ -1,5 +1,5 @@
-use Rattle.std.proofs.Common.{arith, ◌*◌}
-use Rattle.std.proofs.Math.Nat.{mod-lt}
+use Rattle.wi_fraction.proofs.Vocabulary.{arith, mod-lt}
+use Rattle.std.proofs.Common.{◌*◌}
 use Rattle.wi_fraction.proofs.Decimals.{double_small, double_parts}
 use Rattle.wi_fraction.proofs.decimal.twofold.Goals as goal
 

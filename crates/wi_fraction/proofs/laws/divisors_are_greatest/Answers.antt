@@ -1,4 +1,4 @@
-use Rattle.wi_fraction.specs.Gcd.Laws.{is_gcd}
+use Rattle.wi_fraction.proofs.Vocabulary.{is_gcd}
 use Rattle.wi_fraction.proofs.laws.divisors_are_greatest.Goals as goal
 
 pub returns : goal.returns

@@ -1,6 +1,4 @@
-use Rattle.std.proofs.Common.{rules, FitsSigned}
-use Rattle.std.specs.Int.{w128}
-use Rattle.std.proofs.lemmas.Int.{to_z-of_z}
+use Rattle.wi_fraction.proofs.Vocabulary.{rules, FitsSigned, w128, to_z-of_z}
 use Rattle.wi_fraction.proofs.NearWholes.{whole_is}
 use Rattle.wi_fraction.proofs.lowest_terms.integer.Goals as goal
 

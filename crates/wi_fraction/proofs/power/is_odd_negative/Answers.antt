@@ -1,4 +1,4 @@
-use Rattle.std.proofs.Common.{rules}
+use Rattle.wi_fraction.proofs.Vocabulary.{rules}
 use Rattle.wi_fraction.proofs.power.is_odd_negative.Goals as goal
 
 pub returns-then-n-lt0 : goal.returns-then-n-lt0

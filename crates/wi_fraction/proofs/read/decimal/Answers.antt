@@ -1,5 +1,5 @@
-use Rattle.std.proofs.Common.{◌∙◌, sym, ◌++◌}
-use Rattle.std.specs.Str.Parse.{digits_value}
+use Rattle.wi_fraction.proofs.Vocabulary.{◌∙◌, sym, digits_value}
+use Rattle.std.proofs.Common.{◌++◌}
 use Rattle.wi_fraction.proofs.Reading.{part_none_whole, whole_part_none, size_none, size_lowest, decimal_some}
 use Rattle.wi_fraction.proofs.Steps.{bounded-some}
 use Rattle.wi_fraction.proofs.read.decimal.Goals as goal

@@ -1,6 +1,5 @@
-use Rattle.std.proofs.Common.{◌≡◌, ◌∙◌, sym, arith, None, [], false, drop, length, ◌-◌, ◌++◌, ◌≤◌}
-use Rattle.std.proofs.lemmas.List.{length-append}
-use Rattle.wi_fraction.specs.Inner.Reading.{decimal_value}
+use Rattle.wi_fraction.proofs.Vocabulary.{◌∙◌, sym, arith, length-append, decimal_value}
+use Rattle.std.proofs.Common.{◌≡◌, None, [], false, drop, length, ◌-◌, ◌++◌, ◌≤◌}
 use Rattle.wi_fraction.proofs.Reading.{part_next, part_below_one, part_none}
 use Rattle.wi_fraction.proofs.read.decimal_part.Goals as goal
 

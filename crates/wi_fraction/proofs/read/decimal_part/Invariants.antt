@@ -1,5 +1,5 @@
 use Rattle.std.proofs.Common.{◌≡◌, false, [], Some, drop, ◌++◌}
-use Rattle.wi_fraction.specs.Inner.Reading.{decimal_value}
+use Rattle.wi_fraction.proofs.Vocabulary.{decimal_value}
 use Rattle.wi_fraction.proofs.read.decimal_part.Given as goal
 
 abbrev pub invariant-loop-i : goal.invariant-loop-i

@@ -1,4 +1,4 @@
-use Rattle.std.proofs.Common.{arith}
+use Rattle.wi_fraction.proofs.Vocabulary.{arith}
 use Rattle.wi_fraction.proofs.Pieces.{digit_left, digit_right}
 use Rattle.wi_fraction.proofs.read.digit_at.Goals as goal
 

@@ -1,5 +1,5 @@
-use Rattle.std.proofs.Common.{arith, sym, ◌∙◌, ◌++◌}
-use Rattle.std.proofs.lemmas.List.{take_rest}
+use Rattle.wi_fraction.proofs.Vocabulary.{arith, sym, ◌∙◌, take_rest}
+use Rattle.std.proofs.Common.{◌++◌}
 use Rattle.wi_fraction.proofs.Pieces.{digits_append, digits_take}
 use Rattle.wi_fraction.proofs.Reading.{digits_drop, part_below_one}
 use Rattle.wi_fraction.proofs.Exponents.{lowered_by_cut, lowered_none, lowered_some}

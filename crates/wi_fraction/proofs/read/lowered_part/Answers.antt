@@ -1,6 +1,5 @@
-use Rattle.std.proofs.Common.{arith, sym, ◌∙◌, ◌*◌}
-use Rattle.std.specs.Prelude.{◌^◌}
-use Rattle.std.proofs.Math.Nat.{mul-pos}
+use Rattle.wi_fraction.proofs.Vocabulary.{arith, sym, ◌∙◌, ◌^◌, mul-pos}
+use Rattle.std.proofs.Common.{◌*◌}
 use Rattle.wi_fraction.proofs.Exponents.{ten_pow_few, none_lowered, one_lowest, zero_of}
 use Rattle.wi_fraction.proofs.Fineness.{ten_pow_pos}
 use Rattle.wi_fraction.proofs.read.lowered_part.Goals as goal

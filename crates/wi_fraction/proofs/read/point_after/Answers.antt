@@ -1,7 +1,5 @@
-use Rattle.std.proofs.Common.{arith}
-use Rattle.std.proofs.lemmas.Grind.{common_steps}
+use Rattle.wi_fraction.proofs.Vocabulary.{arith, common_steps, point_after}
 use Rattle.wi_fraction.proofs.Scanning.{digits_before}
-use Rattle.wi_fraction.specs.Inner.Reading.{point_after}
 use Rattle.wi_fraction.proofs.read.point_after.Goals as goal
 
 pub scaled_after-requires-clause-parts : goal.scaled_after-requires-clause-parts

@@ -1,6 +1,4 @@
-use Rattle.std.proofs.Common.{arith, sym, ◌∙◌}
-use Rattle.std.proofs.lemmas.List.{take_rest}
-use Rattle.wi_fraction.specs.Gcd.Laws.{gcd-one}
+use Rattle.wi_fraction.proofs.Vocabulary.{arith, sym, ◌∙◌, take_rest, gcd-one}
 use Rattle.wi_fraction.proofs.Pieces.{digits_append, digits_take}
 use Rattle.wi_fraction.proofs.Reading.{digits_drop}
 use Rattle.wi_fraction.proofs.Exponents.{raised_by_cut, raised_none_whole, raised_none, raised_some}

@@ -1,4 +1,4 @@
-use Rattle.std.proofs.Common.{arith}
+use Rattle.wi_fraction.proofs.Vocabulary.{arith}
 use Rattle.wi_fraction.proofs.Exponents.{ten_pow_few, bounded-raised}
 use Rattle.wi_fraction.proofs.read.raised_size.Goals as goal
 

@@ -1,5 +1,5 @@
-use Rattle.std.proofs.Common.{◌∙◌, ◌<◌, ◌/◌, arith}
-use Rattle.wi_fraction.specs.Number.{max_size}
+use Rattle.wi_fraction.proofs.Vocabulary.{◌∙◌, arith, max_size}
+use Rattle.std.proofs.Common.{◌<◌, ◌/◌}
 use Rattle.wi_fraction.proofs.Tenths.{digit_times, tenth_divided, tenth_none}
 use Rattle.wi_fraction.proofs.read.tenth.Goals as goal
 

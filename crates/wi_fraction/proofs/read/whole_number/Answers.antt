@@ -1,5 +1,5 @@
-use Rattle.std.proofs.Common.{◌∙◌, sym, arith, ◌++◌, ◌<◌, length}
-use Rattle.std.proofs.lemmas.List.{length-append}
+use Rattle.wi_fraction.proofs.Vocabulary.{◌∙◌, sym, arith, length-append}
+use Rattle.std.proofs.Common.{◌++◌, ◌<◌, length}
 use Rattle.wi_fraction.proofs.Reading.{whole_next, whole_none}
 use Rattle.wi_fraction.proofs.read.whole_number.Goals as goal
 

@@ -1,6 +1,5 @@
 use Rattle.std.proofs.Common.{◌≡◌, ◌≤◌, take, ◌++◌}
-use Rattle.std.specs.Str.Parse.{digits_value}
-use Rattle.wi_fraction.specs.Number.{max_size}
+use Rattle.wi_fraction.proofs.Vocabulary.{digits_value, max_size}
 use Rattle.wi_fraction.proofs.read.whole_number.Given as goal
 
 abbrev pub invariant-loop-i : goal.invariant-loop-i

@@ -1,8 +1,5 @@
-use Rattle.std.proofs.Common.{arith, rules, ◌∙◌, ◌≡◌, ◌<◌, length}
-use Rattle.std.proofs.lemmas.Bool.Decides.{nat_tests}
-use Rattle.std.specs.Prelude.{◌^◌}
-use Rattle.std.specs.Str.Parse.{digits_value}
-use Rattle.wi_fraction.specs.Inner.Reading.{with_exponent, lowered, raised}
+use Rattle.wi_fraction.proofs.Vocabulary.{arith, rules, ◌∙◌, nat_tests, ◌^◌, digits_value, with_exponent, lowered, raised}
+use Rattle.std.proofs.Common.{◌≡◌, ◌<◌, length}
 use Rattle.wi_fraction.proofs.Pieces.{digits_append}
 use Rattle.wi_fraction.proofs.Exponents.{raised_capped, lowered_capped}
 use Rattle.wi_fraction.proofs.read.with_exponent.Goals as goal

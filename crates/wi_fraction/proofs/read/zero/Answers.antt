@@ -1,5 +1,4 @@
-use Rattle.std.proofs.Common.{ap}
-use Rattle.wi_fraction.specs.Number.{Number}
+use Rattle.wi_fraction.proofs.Vocabulary.{ap, Number}
 use Rattle.wi_fraction.proofs.Numbers.{zero_is, zero_number}
 use Rattle.wi_fraction.proofs.read.zero.Goals as goal
 

@@ -1,5 +1,5 @@
-use Rattle.std.proofs.Common.{◌≡◌, ℕ, ◌+◌, ◌-◌, ◌*◌, ◌/◌, ◌%◌, ◌<◌, ◌≤◌, ◌∙◌, ap, arith}
-use Rattle.std.proofs.Math.Nat.{div-add-mod', mod-lt}
+use Rattle.wi_fraction.proofs.Vocabulary.{◌∙◌, ap, arith, div-add-mod', mod-lt}
+use Rattle.std.proofs.Common.{◌≡◌, ℕ, ◌+◌, ◌-◌, ◌*◌, ◌/◌, ◌%◌, ◌<◌, ◌≤◌}
 use Rattle.wi_fraction.proofs.Decimals.{quotient_is}
 use Rattle.wi_fraction.proofs.rounding.nearest.Goals as goal
 

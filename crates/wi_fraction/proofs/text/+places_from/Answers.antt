@@ -1,4 +1,4 @@
-use Rattle.std.proofs.Common.{◌∙◌, sym}
+use Rattle.wi_fraction.proofs.Vocabulary.{◌∙◌, sym}
 use Rattle.wi_fraction.proofs.Places.{places_from_end, places_from_found, places_from_more}
 use Rattle.wi_fraction.proofs.text.+places_from.Goals as goal
 

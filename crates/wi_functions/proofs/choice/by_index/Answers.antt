@@ -1,7 +1,4 @@
-use Rattle.std.proofs.Common.{◌≡◌, ℤ, ◌<◌, length, ap, ◌∙◌, subst, arith, rules, FitsSigned}
-use Rattle.std.specs.Prelude.{pos, ◌≤ℤ◌, unsigned_abs}
-use Rattle.std.specs.Int.{w128}
-use Rattle.std.proofs.lemmas.Int.{to_z-of_z}
+use Rattle.wi_functions.proofs.Words.{◌≡◌, ℤ, ◌<◌, length, ap, ◌∙◌, subst, arith, rules, FitsSigned, pos, ◌≤ℤ◌, unsigned_abs, w128, to_z-of_z}
 use Rattle.wi_functions.proofs.Choosing.{chosen_there, of_place}
 use Rattle.wi_functions.proofs.choice.by_index.Goals as goal
 

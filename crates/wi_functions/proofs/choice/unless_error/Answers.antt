@@ -1,6 +1,4 @@
-use Rattle.std.proofs.Common.{◌≡◌, sym, ◌∙◌}
-use Rattle.wi_standard_functions.specs.Arguments.{value_at}
-use Rattle.wi_values.specs.declared.value.Value.TheVariants.{Fault}
+use Rattle.wi_functions.proofs.Words.{◌≡◌, sym, ◌∙◌, value_at, Fault}
 use Rattle.wi_functions.proofs.choice.unless_error.Goals as goal
 
 pub returns-in-Fault : goal.returns-in-Fault

@@ -1,4 +1,4 @@
-use Rattle.std.proofs.Common.{rules}
+use Rattle.wi_functions.proofs.Words.{rules}
 use Rattle.wi_functions.proofs.choice.unless_not_available.Goals as goal
 
 pub returns-in_default : goal.returns-in_default

@@ -1,25 +1,5 @@
-use Rattle.std.proofs.Common.{◌≡◌, ℕ, List, refl, sym, ap, ◌∙◌, subst, arith, rules}
-use Rattle.std.proofs.lemmas.Result.{err_from_is_err_and, MatchResult-weaker}
-use Rattle.wi_values.specs.declared.value.Value.{Value}
-use Rattle.wi_parser.specs.declared.expr.Expr.{Expr, the_lemmas}
-use Rattle.wi_parser.specs.Tree.{Tree, text, binary, call}
-use Rattle.wi_parser.specs.Leaves.{leaves, all_leaves}
-use Rattle.wi_parser.specs.View.{tree_of, all_of}
-use Rattle.wi_standard_functions.specs.Arguments.{value_or}
-use Rattle.wi_standard_functions.specs.Functions.{call_value}
-use Rattle.wi_value_functions.specs.Applied.{applied, applied_to_values}
-use Rattle.wi_value_functions.specs.declared.function.Function.TheVariants.{Lazy, References}
-use Rattle.wi_value_functions.proofs.ValuesAlone.{values_alone}
-use Rattle.wi_arguments.specs.Arguments.{arguments_in}
+use Rattle.wi_functions.proofs.Words.{◌≡◌, ℕ, List, refl, sym, ap, ◌∙◌, subst, arith, rules, err_from_is_err_and, MatchResult-weaker, Value, Expr, the_lemmas, Tree, text, binary, call, leaves, all_leaves, tree_of, all_of, value_or, call_value, applied, applied_to_values, Lazy, References, values_alone, arguments_in, operate, meaning, arguments, IsWanted, values_of, ReferInside, of_tree, of_parameters, mapped, Evaluates, IfMissing, Stop, Want}
 use Rattle.wi_arguments.specs.declared.argument.Argument as given
-use Rattle.wi_functions.specs.Operators.{operate}
-use Rattle.wi_functions.specs.Meaning.{meaning, arguments}
-use Rattle.wi_functions.specs.Evaluation.{IsWanted}
-use Rattle.wi_functions.specs.Inner.Calls.{values_of, ReferInside}
-use Rattle.wi_functions.specs.Inner.Parts.{of_tree, of_parameters, mapped, Evaluates}
-use Rattle.wi_value_functions.specs.Endings.{IfMissing}
-use Rattle.wi_value_functions.specs.declared.ending.Stop.{Stop}
-use Rattle.wi_functions.specs.declared.evaluation.Want.{Want}
 use Rattle.wi_functions.proofs.Asking.{left_asks, right_asks, memory_wants, wanted_too, evaluates_too, stop_wants}
 use Rattle.wi_functions.proofs.Parameters.{value_there, value_missing, asks_there, length_arguments, call_found, more_arguments, more_values, none_left, reference_is, value_is, reference_asks, value_asks, more_refer}
 use Rattle.wi_functions.proofs.evaluation.+evaluating.Goals as goal

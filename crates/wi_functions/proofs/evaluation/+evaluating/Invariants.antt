@@ -1,10 +1,4 @@
-use Rattle.std.proofs.Common.{◌≡◌, ◌++◌, ◌+◌, ◌*◌, max, drop}
-use Rattle.wi_parser.specs.View.{all_of}
-use Rattle.wi_parser.proofs.expr.Expr.TheLaws.{the_size}
-use Rattle.wi_arguments.specs.Arguments.{arguments_in}
-use Rattle.wi_functions.specs.Meaning.{arguments}
-use Rattle.wi_functions.specs.Evaluation.{ByAll}
-use Rattle.wi_functions.specs.Inner.Calls.{values_of, ReferInside}
+use Rattle.wi_functions.proofs.Words.{◌≡◌, ◌++◌, ◌+◌, ◌*◌, max, drop, all_of, the_size, arguments_in, arguments, ByAll, values_of, ReferInside}
 use Rattle.wi_functions.proofs.evaluation.+evaluating.Given as goal
 
 abbrev pub decreases-all_arguments : goal.decreases-all_arguments

@@ -1,6 +1,4 @@
-use Rattle.std.proofs.Common.{refl, rules}
-use Rattle.wi_parser.specs.Leaves.{cell_leaf}
-use Rattle.wi_functions.specs.declared.evaluation.Want.TheVariants.{Cell}
+use Rattle.wi_functions.proofs.Words.{refl, rules, cell_leaf, Cell}
 use Rattle.wi_functions.proofs.Asking.{leaf_asks}
 use Rattle.wi_functions.proofs.evaluation.cell_value.Goals as goal
 

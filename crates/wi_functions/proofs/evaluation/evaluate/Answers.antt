@@ -1,7 +1,4 @@
-use Rattle.std.proofs.Common.{◌≡◌, subst, rules}
-use Rattle.wi_parser.specs.Tree.{Tree}
-use Rattle.wi_functions.specs.Meaning.{meaning}
-use Rattle.wi_functions.specs.Evaluation.{ByAll}
+use Rattle.wi_functions.proofs.Words.{◌≡◌, subst, rules, Tree, meaning, ByAll}
 use Rattle.wi_functions.proofs.evaluation.evaluate.Goals as goal
 
 pub returns-in-Ok-clause-outcome : goal.returns-in-Ok-clause-outcome

@@ -1,7 +1,4 @@
-use Rattle.std.proofs.Common.{◌≡◌, true, rules}
-use Rattle.wi_parser.specs.Tree.{cell, rectangle}
-use Rattle.wi_functions.specs.Inner.Named.{is_one_cell}
-use Rattle.wi_functions.specs.Inner.Parts.{of_tree}
+use Rattle.wi_functions.proofs.Words.{◌≡◌, true, rules, cell, rectangle, is_one_cell, of_tree}
 use Rattle.wi_functions.proofs.Asking.{corner_asks, evaluates_too}
 use Rattle.wi_functions.proofs.Parameters.{value_of_corner}
 use Rattle.wi_functions.proofs.evaluation.rectangle_value.Goals as goal

@@ -1,7 +1,4 @@
-use Rattle.std.proofs.Common.{map, refl, rules}
-use Rattle.wi_parser.specs.Leaves.{what_if_leaf}
-use Rattle.wi_parser.specs.View.{pair_of}
-use Rattle.wi_functions.specs.declared.evaluation.Want.TheVariants.{WhatIf}
+use Rattle.wi_functions.proofs.Words.{map, refl, rules, what_if_leaf, pair_of, WhatIf}
 use Rattle.wi_functions.proofs.Asking.{leaf_asks}
 use Rattle.wi_functions.proofs.evaluation.what_if_value.Goals as goal
 

@@ -1,11 +1,4 @@
-use Rattle.std.proofs.Common.{◌≡◌, List, IfSome, refl, sym, subst, rules}
-use Rattle.std.proofs.lemmas.Option.{IfSome_then}
-use Rattle.wi_parser.specs.View.{tree_of, all_of}
-use Rattle.wi_parser.specs.Leaves.{cell_leaf}
-use Rattle.wi_parser.specs.Tree.{Tree, cell, binary, call}
-use Rattle.wi_parser.specs.declared.expr.Expr.{Expr, the_lemmas}
-use Rattle.wi_functions.specs.Wants.{Asks, AnyAsks}
-use Rattle.wi_functions.specs.declared.evaluation.Want.TheVariants.{Cell}
+use Rattle.wi_functions.proofs.Words.{◌≡◌, List, IfSome, refl, sym, subst, rules, IfSome_then, tree_of, all_of, cell_leaf, Tree, cell, binary, call, Expr, the_lemmas, Asks, AnyAsks, Cell}
 use Rattle.wi_functions.proofs.Asking.{leaf_asks, left_asks, right_asks}
 use Rattle.wi_functions.proofs.first.+looking.Goals as goal
 

@@ -1,4 +1,4 @@
-use Rattle.wi_value_functions.proofs.Constants.{number_of-hundred}
+use Rattle.wi_functions.proofs.Words.{number_of-hundred}
 use Rattle.wi_functions.proofs.operators.hundred.Goals as goal
 
 pub unreachable-requires : goal.unreachable-requires

@@ -1,7 +1,4 @@
-use Rattle.std.proofs.Common.{ℕ, List, subst}
-use Rattle.wi_values.specs.Address.{Area}
-use Rattle.wi_graph.specs.Inner.Rooms.{items_of, areas_of}
-use Rattle.wi_graph.specs.Inner.Below.{HasAreas}
+use Rattle.wi_graph.proofs.Words.{ℕ, List, subst, Area, items_of, areas_of, HasAreas}
 use Rattle.wi_graph.proofs.below.begin_below.Goals as goal
 
 pub returns-clause-ahead : goal.returns-clause-ahead

@@ -1,6 +1,4 @@
-use Rattle.std.proofs.Common.{List}
-use Rattle.wi_values.specs.Address.{Area}
-use Rattle.wi_graph.specs.Inner.Below.{IsBelow}
+use Rattle.wi_graph.proofs.Words.{List, Area, IsBelow}
 use Rattle.wi_graph.proofs.below.go_below.Given as goal
 
 abbrev pub invariant-loop : goal.invariant-loop

@@ -1,7 +1,4 @@
-use Rattle.std.proofs.Common.{sym, ◌∙◌, nat_le}
-use Rattle.std.specs.Map.{keys_of}
-use Rattle.wi_values.specs.Address.{is_within}
-use Rattle.wi_graph.specs.Inner.Below.{has_seen}
+use Rattle.wi_graph.proofs.Words.{sym, ◌∙◌, nat_le, keys_of, is_within, has_seen}
 use Rattle.wi_graph.proofs.SearchSteps.{was_old}
 use Rattle.wi_graph.proofs.BelowSteps.{find_first, below_none, below_old, below_new, seen_one}
 use Rattle.wi_graph.proofs.below.look.Goals as goal

@@ -1,4 +1,4 @@
-use Rattle.std.proofs.Common.{arith, rules}
+use Rattle.wi_graph.proofs.Words.{arith, rules}
 use Rattle.wi_graph.proofs.BelowSteps.{no_areas, areas_more, all_areas}
 use Rattle.wi_graph.proofs.below.push_areas.Goals as goal
 

@@ -1,5 +1,4 @@
-use Rattle.std.proofs.Common.{take}
-use Rattle.wi_graph.specs.Inner.Below.{HasAreas}
+use Rattle.wi_graph.proofs.Words.{take, HasAreas}
 use Rattle.wi_graph.proofs.below.push_areas.Given as goal
 
 abbrev pub invariant-loop-area : goal.invariant-loop-area

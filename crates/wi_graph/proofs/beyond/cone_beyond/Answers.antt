@@ -1,4 +1,4 @@
-use Rattle.std.proofs.Common.{rules}
+use Rattle.wi_graph.proofs.Words.{rules}
 use Rattle.wi_graph.proofs.BeyondSteps.{beyond_start, beyond_step, beyond_ends, beyond_end}
 use Rattle.wi_graph.proofs.beyond.cone_beyond.Goals as goal
 

@@ -1,5 +1,4 @@
-use Rattle.std.proofs.Common.{◌+◌, length}
-use Rattle.wi_graph.specs.Inner.Search.{missing}
+use Rattle.wi_graph.proofs.Words.{◌+◌, length, missing}
 use Rattle.wi_graph.proofs.SearchSteps.{all_readers}
 use Rattle.wi_graph.proofs.BeyondSteps.{IsSearchingBeyond}
 use Rattle.wi_graph.proofs.beyond.cone_beyond.Given as goal

@@ -1,5 +1,4 @@
-use Rattle.std.proofs.Common.{sym, subst}
-use Rattle.wi_graph.specs.Inner.Search.{IsListBeyond}
+use Rattle.wi_graph.proofs.Words.{sym, subst, IsListBeyond}
 use Rattle.wi_graph.proofs.BeyondSteps.{own_beyond, none_watched, beyond_all, beyond_list}
 use Rattle.wi_graph.proofs.beyond.listed_beyond.Goals as goal
 

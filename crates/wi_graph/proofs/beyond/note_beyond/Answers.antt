@@ -1,6 +1,5 @@
-use Rattle.std.proofs.Common.{ℕ, List, subst, arith}
+use Rattle.wi_graph.proofs.Words.{ℕ, List, subst, arith, AreNoted, beyond}
 use Rattle.std.proofs.lemmas.List.{take_all}
-use Rattle.wi_graph.specs.Inner.Search.{AreNoted, beyond}
 use Rattle.wi_graph.proofs.SearchSteps.{noted_none}
 use Rattle.wi_graph.proofs.BeyondSteps.{beyond_more}
 use Rattle.wi_graph.proofs.beyond.note_beyond.Goals as goal

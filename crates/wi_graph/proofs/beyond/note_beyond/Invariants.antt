@@ -1,5 +1,4 @@
-use Rattle.std.proofs.Common.{take}
-use Rattle.wi_graph.specs.Inner.Search.{AreNoted, beyond}
+use Rattle.wi_graph.proofs.Words.{take, AreNoted, beyond}
 use Rattle.wi_graph.proofs.beyond.note_beyond.Given as goal
 
 abbrev pub invariant-loop-cell : goal.invariant-loop-cell

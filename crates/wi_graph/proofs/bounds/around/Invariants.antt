@@ -1,6 +1,4 @@
-use Rattle.std.proofs.Common.{take}
-use Rattle.wi_graph.specs.Inner.Bounds.{AreWithin}
-use Rattle.wi_graph.specs.Inner.Search.{as_set}
+use Rattle.wi_graph.proofs.Words.{take, AreWithin, as_set}
 use Rattle.wi_graph.proofs.bounds.around.Given as goal
 
 abbrev pub invariant-loop-cell : goal.invariant-loop-cell

@@ -1,5 +1,4 @@
-use Rattle.std.proofs.Common.{ap, ◌∙◌, arith}
-use Rattle.wi_values.specs.Address.{row_of, column_of}
+use Rattle.wi_graph.proofs.Words.{ap, ◌∙◌, arith, row_of, column_of}
 use Rattle.wi_graph.proofs.BoundsSteps.{sides_of, max_of, min_of, max_below, min_below, common_part, no_part}
 use Rattle.wi_graph.proofs.bounds.common.Goals as goal
 

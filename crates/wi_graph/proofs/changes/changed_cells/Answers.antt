@@ -1,5 +1,4 @@
-use Rattle.std.proofs.Common.{arith}
-use Rattle.std.proofs.lemmas.Grind.{common_steps}
+use Rattle.wi_graph.proofs.Words.{arith, common_steps}
 use Rattle.wi_graph.proofs.ChangeSteps.{cells_step}
 use Rattle.wi_graph.proofs.changes.changed_cells.Goals as goal
 

@@ -1,5 +1,4 @@
-use Rattle.std.proofs.Common.{◌≡◌, take}
-use Rattle.std.specs.Map.{keys_of}
+use Rattle.wi_graph.proofs.Words.{◌≡◌, take, keys_of}
 use Rattle.wi_graph.proofs.changes.changed_cells.Given as goal
 
 abbrev pub invariant-loop-change : goal.invariant-loop-change

@@ -1,4 +1,4 @@
-use Rattle.std.proofs.Common.{rules}
+use Rattle.wi_graph.proofs.Words.{rules}
 use Rattle.wi_graph.proofs.ChangeSteps.{lone_key}
 use Rattle.wi_graph.proofs.changes.lone_cell.Goals as goal
 

@@ -1,4 +1,4 @@
-use Rattle.std.proofs.Common.{◌∙◌, sym}
+use Rattle.wi_graph.proofs.Words.{◌∙◌, sym}
 use Rattle.wi_graph.proofs.ChangeSteps.{next_out, next_put, out_idle, put_idle}
 use Rattle.wi_graph.proofs.changes.put_next.Goals as goal
 

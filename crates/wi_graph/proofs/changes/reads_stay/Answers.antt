@@ -1,4 +1,4 @@
-use Rattle.std.proofs.Common.{refl, subst, take_all}
+use Rattle.wi_graph.proofs.Words.{refl, subst, take_all}
 use Rattle.wi_graph.proofs.Tests.{clash}
 use Rattle.wi_graph.proofs.ComingSteps.{entry_there}
 use Rattle.wi_graph.proofs.ChangeSteps.{AreAsBefore, more_as_before, all_as_before, one_stays}

@@ -1,4 +1,4 @@
-use Rattle.std.proofs.Common.{take}
+use Rattle.wi_graph.proofs.Words.{take}
 use Rattle.wi_graph.proofs.ChangeSteps.{AreAsBefore}
 use Rattle.wi_graph.proofs.changes.reads_stay.Given as goal
 

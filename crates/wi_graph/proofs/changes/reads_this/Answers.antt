@@ -1,7 +1,4 @@
-use Rattle.std.proofs.Common.{◌≡◌, List, Option, rules, ap, sym, subst}
-use Rattle.std.specs.Bool.{Decides}
-use Rattle.wi_values.specs.Address.{Area}
-use Rattle.wi_graph.specs.Inner.Rooms.{items_of, in_room}
+use Rattle.wi_graph.proofs.Words.{◌≡◌, List, Option, rules, ap, sym, subst, Decides, Area, items_of, in_room}
 use Rattle.wi_graph.proofs.ChangeSteps.{no_room, same_room}
 use Rattle.wi_graph.proofs.changes.reads_this.Goals as goal
 

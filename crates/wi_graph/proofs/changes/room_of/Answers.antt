@@ -1,4 +1,4 @@
-use Rattle.std.proofs.Common.{◌∙◌, rules, sym}
+use Rattle.wi_graph.proofs.Words.{◌∙◌, rules, sym}
 use Rattle.wi_graph.proofs.ChangeSteps.{brings_start, brings_one, brings_none, one_idle, one_order, none_order}
 use Rattle.wi_graph.proofs.changes.room_of.Goals as goal
 

@@ -1,4 +1,4 @@
-use Rattle.std.proofs.lemmas.Result.{IfOk-from_err}
+use Rattle.wi_graph.proofs.Words.{IfOk-from_err}
 use Rattle.wi_graph.proofs.ChangeSteps.{brings_start, brings_step, brings_end}
 use Rattle.wi_graph.proofs.changes.sorted_rooms.Goals as goal
 

@@ -1,5 +1,4 @@
-use Rattle.std.proofs.Common.{take}
-use Rattle.wi_graph.specs.Inner.Changes.{Brings, HasNoIdle}
+use Rattle.wi_graph.proofs.Words.{take, Brings, HasNoIdle}
 use Rattle.wi_graph.proofs.changes.sorted_rooms.Given as goal
 
 abbrev pub invariant-loop-change : goal.invariant-loop-change

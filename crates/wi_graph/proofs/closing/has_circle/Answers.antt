@@ -1,4 +1,4 @@
-use Rattle.std.proofs.Common.{◌∙◌}
+use Rattle.wi_graph.proofs.Words.{◌∙◌}
 use Rattle.wi_graph.proofs.ClosingSteps.{has_one_is}
 use Rattle.wi_graph.proofs.closing.has_circle.Goals as goal
 

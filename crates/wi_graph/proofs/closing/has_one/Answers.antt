@@ -1,5 +1,4 @@
-use Rattle.std.proofs.Common.{◌∙◌}
-use Rattle.wi_graph.specs.Inner.Search.{as_set}
+use Rattle.wi_graph.proofs.Words.{◌∙◌, as_set}
 use Rattle.wi_graph.proofs.ClosingSteps.{has_one_is}
 use Rattle.wi_graph.proofs.closing.has_one.Goals as goal
 

@@ -1,5 +1,4 @@
-use Rattle.std.proofs.Common.{◌∙◌, is_some, ap}
-use Rattle.std.specs.Map.{keys_of}
+use Rattle.wi_graph.proofs.Words.{◌∙◌, is_some, ap, keys_of}
 use Rattle.wi_graph.proofs.ClosingSteps.{has_rooms_is}
 use Rattle.wi_graph.proofs.closing.has_rooms.Goals as goal
 

@@ -1,4 +1,4 @@
-use Rattle.std.proofs.Common.{rules}
+use Rattle.wi_graph.proofs.Words.{rules}
 use Rattle.wi_graph.proofs.ClosingSteps.{no_circle_met}
 use Rattle.wi_graph.proofs.closing.meets_circle.Goals as goal
 

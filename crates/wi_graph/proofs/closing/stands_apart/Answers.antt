@@ -1,4 +1,4 @@
-use Rattle.std.proofs.Common.{rules}
+use Rattle.wi_graph.proofs.Words.{rules}
 use Rattle.wi_graph.proofs.ClosingSteps.{one_stands_apart}
 use Rattle.wi_graph.proofs.closing.stands_apart.Goals as goal
 

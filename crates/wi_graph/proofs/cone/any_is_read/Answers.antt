@@ -1,6 +1,5 @@
-use Rattle.std.proofs.Common.{◌∙◌, ℕ, List, ap, sym, arith}
+use Rattle.wi_graph.proofs.Words.{◌∙◌, ℕ, List, ap, sym, arith, is_one_of}
 use Rattle.std.proofs.lemmas.List.{take_all}
-use Rattle.wi_graph.specs.Reach.{is_one_of}
 use Rattle.wi_graph.proofs.SearchSteps.{none_more, listed_one}
 use Rattle.wi_graph.proofs.cone.any_is_read.Goals as goal
 

@@ -1,6 +1,4 @@
-use Rattle.std.proofs.Common.{◌≡◌, ℕ, true, take}
-use Rattle.wi_ranges.specs.Bag.{IsReader}
-use Rattle.wi_graph.specs.Reach.{is_one_of}
+use Rattle.wi_graph.proofs.Words.{◌≡◌, ℕ, true, take, IsReader, is_one_of}
 use Rattle.wi_graph.proofs.cone.any_is_read.Given as goal
 
 abbrev pub invariant-loop-cell : goal.invariant-loop-cell

@@ -1,4 +1,4 @@
-use Rattle.std.proofs.lemmas.Bool.{not-true}
+use Rattle.wi_graph.proofs.Words.{not-true}
 use Rattle.wi_graph.proofs.cone.are_alone.Goals as goal
 
 pub returns-clause-unread : goal.returns-clause-unread

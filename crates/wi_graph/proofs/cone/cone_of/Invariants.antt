@@ -1,5 +1,4 @@
-use Rattle.std.proofs.Common.{◌+◌, length}
-use Rattle.wi_graph.specs.Inner.Search.{missing}
+use Rattle.wi_graph.proofs.Words.{◌+◌, length, missing}
 use Rattle.wi_graph.proofs.SearchSteps.{IsSearching, all_readers}
 use Rattle.wi_graph.proofs.cone.cone_of.Given as goal
 

@@ -1,7 +1,4 @@
-use Rattle.std.proofs.Common.{◌≡◌, ℕ}
-use Rattle.std.specs.Global.{Vec}
-use Rattle.std.proofs.lemmas.Result.{IfOk-weaker}
-use Rattle.wi_graph.specs.Inner.Search.{IsConeOf}
+use Rattle.wi_graph.proofs.Words.{◌≡◌, ℕ, Vec, IfOk-weaker, IsConeOf}
 use Rattle.wi_graph.proofs.SearchSteps.{own_cone, found_listed}
 use Rattle.wi_graph.proofs.cone.listed_cone.Goals as goal
 

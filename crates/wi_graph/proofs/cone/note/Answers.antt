@@ -1,6 +1,5 @@
 use Rattle.wi_graph.proofs.SearchSteps.{noted_more}
-use Rattle.std.proofs.Common.{arith}
-use Rattle.std.proofs.lemmas.Grind.{common_steps}
+use Rattle.wi_graph.proofs.Words.{arith, common_steps}
 use Rattle.wi_graph.proofs.cone.note.Goals as goal
 
 pub loop-cell-preserved : goal.loop-cell-preserved

@@ -1,5 +1,4 @@
-use Rattle.std.proofs.Common.{take}
-use Rattle.wi_graph.specs.Inner.Search.{AreNoted}
+use Rattle.wi_graph.proofs.Words.{take, AreNoted}
 use Rattle.wi_graph.proofs.cone.note.Given as goal
 
 abbrev pub invariant-loop-cell : goal.invariant-loop-cell

@@ -1,6 +1,5 @@
 use Rattle.wi_graph.proofs.SetSteps.{gained}
-use Rattle.std.specs.Ordering.{nat_cmp}
-use Rattle.std.specs.BTreeSet.{contains}
+use Rattle.wi_graph.proofs.Words.{nat_cmp, contains}
 use Rattle.wi_graph.proofs.SearchSteps.{noted_new, was_new}
 use Rattle.wi_graph.proofs.cone.note_one.Goals as goal
 

@@ -1,4 +1,4 @@
-use Rattle.std.proofs.Common.{sym, true≢false}
+use Rattle.wi_graph.proofs.Words.{sym, true≢false}
 use Rattle.wi_graph.proofs.cone.rise.Goals as goal
 
 pub returns-then-le : goal.returns-then-le

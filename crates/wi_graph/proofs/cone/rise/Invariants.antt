@@ -1,4 +1,4 @@
-use Rattle.std.proofs.Common.{ℕ, ◌+◌, ◌<◌, get_or}
+use Rattle.wi_graph.proofs.Words.{ℕ, ◌+◌, ◌<◌, get_or}
 use Rattle.wi_graph.proofs.cone.rise.Given as goal
 
 abbrev pub invariant-loop-i : goal.invariant-loop-i

@@ -1,4 +1,4 @@
-use Rattle.wi_values.proofs.Outcomes.{on_err}
+use Rattle.wi_graph.proofs.Words.{on_err}
 use Rattle.wi_graph.proofs.StageEnds.{same_graph, staged_graph, refused_graph}
 use Rattle.wi_graph.proofs.graph.bring.Goals as goal
 

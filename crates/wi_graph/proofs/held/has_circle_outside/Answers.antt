@@ -1,5 +1,4 @@
-use Rattle.std.proofs.Common.{◌∙◌, sym}
-use Rattle.wi_values.proofs.Within.{within_between}
+use Rattle.wi_graph.proofs.Words.{◌∙◌, sym, within_between}
 use Rattle.wi_graph.proofs.HeldSteps.{searched_start, searched_on, searched_found, searched_none, fewer_circles}
 use Rattle.wi_graph.proofs.held.has_circle_outside.Goals as goal
 

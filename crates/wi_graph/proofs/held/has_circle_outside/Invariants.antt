@@ -1,5 +1,5 @@
 use Rattle.wi_graph.proofs.HeldSteps.{IsSearched}
-use Rattle.wi_values.proofs.Within.{places_left}
+use Rattle.wi_graph.proofs.Words.{places_left}
 use Rattle.wi_graph.proofs.held.has_circle_outside.Given as goal
 
 abbrev pub invariant-loop-ahead : goal.invariant-loop-ahead

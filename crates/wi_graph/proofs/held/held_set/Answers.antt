@@ -1,9 +1,4 @@
-use Rattle.std.proofs.Common.{◌≡◌, ◌∙◌, ℕ, List, filter, ap}
-use Rattle.std.proofs.lemmas.Result.{IfOk-weaker}
-use Rattle.std.specs.Ordering.{nat_cmp}
-use Rattle.std.specs.BTreeSet.{contains}
-use Rattle.wi_graph.specs.Reach.{is_one_of}
-use Rattle.wi_graph.specs.Inner.Turning.{reads_outside}
+use Rattle.wi_graph.proofs.Words.{◌≡◌, ◌∙◌, ℕ, List, filter, ap, IfOk-weaker, nat_cmp, contains, is_one_of, reads_outside}
 use Rattle.wi_graph.proofs.held.held_set.Goals as goal
 
 pub returns : goal.returns

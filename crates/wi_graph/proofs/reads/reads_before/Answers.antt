@@ -1,4 +1,4 @@
-use Rattle.wi_graph.specs.Inner.Rooms.{room_at, areas_of}
+use Rattle.wi_graph.proofs.Words.{room_at, areas_of}
 use Rattle.wi_graph.proofs.TurningSteps.{reads_step}
 use Rattle.wi_graph.proofs.reads.reads_before.Goals as goal
 

@@ -1,8 +1,5 @@
-use Rattle.std.proofs.Common.{subst, ◌≡◌, take_all}
-use Rattle.std.specs.Ordering.{nat_cmp}
+use Rattle.wi_graph.proofs.Words.{subst, ◌≡◌, take_all, nat_cmp, Coming, areas_of, room_over, items_there}
 use Rattle.std.specs.BTreeMap.{get}
-use Rattle.wi_graph.specs.Inner.Rooms.{Coming, areas_of, room_over}
-use Rattle.wi_graph.specs.Inner.Stripping.{items_there}
 use Rattle.wi_graph.proofs.TurningSteps.{brought_step}
 use Rattle.wi_graph.proofs.reads.reads_of.Goals as goal
 

@@ -1,9 +1,5 @@
-use Rattle.std.proofs.Common.{◌≡◌, ℕ, true, take}
-use Rattle.std.specs.Ordering.{nat_cmp}
+use Rattle.wi_graph.proofs.Words.{◌≡◌, ℕ, true, take, nat_cmp, is_one_of, items_there, room_over, areas_of}
 use Rattle.std.specs.BTreeMap.{get}
-use Rattle.wi_graph.specs.Reach.{is_one_of}
-use Rattle.wi_graph.specs.Inner.Stripping.{items_there}
-use Rattle.wi_graph.specs.Inner.Rooms.{room_over, areas_of}
 use Rattle.wi_graph.proofs.reads.reads_of.Given as goal
 
 abbrev pub invariant-loop-entry : goal.invariant-loop-entry

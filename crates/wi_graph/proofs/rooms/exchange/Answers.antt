@@ -1,7 +1,4 @@
-use Rattle.std.proofs.Common.{Some, refl, rules}
-use Rattle.std.specs.Ordering.{nat_cmp}
-use Rattle.wi_tiles.specs.Entries.{get}
-use Rattle.wi_graph.specs.Inner.Rooms.{items_of}
+use Rattle.wi_graph.proofs.Words.{Some, refl, rules, nat_cmp, get, items_of}
 use Rattle.wi_graph.proofs.MapSteps.{set, set_order}
 use Rattle.wi_graph.proofs.RoomSteps.{had_room, has_room, none_come, put_others, put_room}
 use Rattle.wi_graph.proofs.rooms.exchange.Goals as goal

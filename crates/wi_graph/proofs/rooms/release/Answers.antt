@@ -1,4 +1,4 @@
-use Rattle.std.proofs.Common.{◌∙◌, None, sym}
+use Rattle.wi_graph.proofs.Words.{◌∙◌, None, sym}
 use Rattle.wi_graph.proofs.MapSteps.{removed, removed_order}
 use Rattle.wi_graph.proofs.RoomSteps.{put_others, release_same}
 use Rattle.wi_graph.proofs.rooms.release.Goals as goal

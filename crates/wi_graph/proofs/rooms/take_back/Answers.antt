@@ -1,5 +1,4 @@
-use Rattle.std.proofs.Common.{◌≡◌, [], rules, arith}
-use Rattle.std.proofs.lemmas.Grind.{common_steps}
+use Rattle.wi_graph.proofs.Words.{◌≡◌, [], rules, arith, common_steps}
 use Rattle.wi_graph.proofs.ComingSteps.{last_there, last_gone, order_left}
 use Rattle.wi_graph.proofs.RoomSteps.{taking_back_step, taking_back_end}
 use Rattle.wi_graph.proofs.rooms.take_back.Goals as goal

@@ -1,6 +1,4 @@
-use Rattle.std.proofs.Common.{◌≡◌, [], rules, ap, sym, ◌∙◌, arith}
-use Rattle.std.proofs.lemmas.Grind.{common_steps}
-use Rattle.wi_graph.specs.Inner.Rooms.{in_room}
+use Rattle.wi_graph.proofs.Words.{◌≡◌, [], rules, ap, sym, ◌∙◌, arith, common_steps, in_room}
 use Rattle.wi_graph.proofs.ComingSteps.{last_there, last_gone, order_left}
 use Rattle.wi_graph.proofs.RoomSteps.{taking_step, taking_end}
 use Rattle.wi_graph.proofs.rooms.take_over.Goals as goal

@@ -1,4 +1,4 @@
-use Rattle.std.proofs.Common.{length}
+use Rattle.wi_graph.proofs.Words.{length}
 use Rattle.wi_graph.proofs.RoomSteps.{IsTaking}
 use Rattle.wi_graph.proofs.rooms.take_over.Given as goal
 

@@ -1,6 +1,4 @@
-use Rattle.std.proofs.Common.{None, refl}
-use Rattle.std.specs.Ordering.{nat_cmp}
-use Rattle.wi_tiles.specs.Entries.{get}
+use Rattle.wi_graph.proofs.Words.{None, refl, nat_cmp, get}
 use Rattle.wi_graph.proofs.MapSteps.{removed, removed_order}
 use Rattle.wi_graph.proofs.RoomSteps.{had_room, put_others, put_room}
 use Rattle.wi_graph.proofs.rooms.take_room.Goals as goal

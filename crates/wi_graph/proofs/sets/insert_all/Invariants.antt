@@ -1,7 +1,4 @@
-use Rattle.std.proofs.Common.{◌≡◌, ◌||◌, ℕ, take}
-use Rattle.std.specs.Ordering.{nat_cmp}
-use Rattle.std.specs.BTreeSet.{contains}
-use Rattle.wi_graph.specs.Reach.{is_one_of}
+use Rattle.wi_graph.proofs.Words.{◌≡◌, ◌||◌, ℕ, take, nat_cmp, contains, is_one_of}
 use Rattle.wi_graph.proofs.sets.insert_all.Given as goal
 
 abbrev pub invariant-loop-cell : goal.invariant-loop-cell

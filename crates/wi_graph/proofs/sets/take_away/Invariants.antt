@@ -1,7 +1,4 @@
-use Rattle.std.proofs.Common.{◌≡◌, ℕ, take}
-use Rattle.std.specs.Ordering.{nat_cmp}
-use Rattle.std.specs.BTreeSet.{contains}
-use Rattle.wi_graph.specs.Inner.Rooms.{less_these}
+use Rattle.wi_graph.proofs.Words.{◌≡◌, ℕ, take, nat_cmp, contains, less_these}
 use Rattle.wi_graph.proofs.sets.take_away.Given as goal
 
 abbrev pub invariant-loop-cell : goal.invariant-loop-cell

@@ -1,4 +1,4 @@
-use Rattle.std.proofs.Common.{sym, rules}
+use Rattle.wi_graph.proofs.Words.{sym, rules}
 use Rattle.wi_graph.proofs.sets.without.Goals as goal
 
 pub returns : goal.returns

@@ -1,6 +1,4 @@
-use Rattle.std.proofs.Common.{rules}
-use Rattle.wi_graph.specs.Inner.Rooms.{items_of, areas_of}
-use Rattle.wi_graph.specs.Inner.Below.{has_seen}
+use Rattle.wi_graph.proofs.Words.{rules, items_of, areas_of, has_seen}
 use Rattle.wi_graph.proofs.SearchSteps.{search_start, search_step, search_end, search_ends}
 use Rattle.wi_graph.proofs.BelowSteps.{none_seen, below_start, below_end}
 use Rattle.wi_graph.proofs.sides.both_sides.Goals as goal

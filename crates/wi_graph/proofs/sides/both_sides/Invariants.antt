@@ -1,7 +1,4 @@
-use Rattle.std.proofs.Common.{◌+◌, length}
-use Rattle.wi_graph.specs.Inner.Rooms.{items_of, areas_of}
-use Rattle.wi_graph.specs.Inner.Search.{missing}
-use Rattle.wi_graph.specs.Inner.Below.{IsBelow}
+use Rattle.wi_graph.proofs.Words.{◌+◌, length, items_of, areas_of, missing, IsBelow}
 use Rattle.wi_graph.proofs.SearchSteps.{IsSearching, all_readers}
 use Rattle.wi_graph.proofs.sides.both_sides.Given as goal
 

@@ -1,6 +1,4 @@
-use Rattle.std.proofs.Common.{◌∙◌, ℕ, List, Option, IfSome, IfOk, subst}
-use Rattle.std.specs.Global.{Vec}
-use Rattle.wi_graph.specs.Inner.Search.{IsConeOf}
+use Rattle.wi_graph.proofs.Words.{◌∙◌, ℕ, List, Option, IfSome, IfOk, subst, Vec, IsConeOf}
 use Rattle.wi_graph.proofs.sides.cone_unless_apart.Goals as goal
 
 pub returns-clause-cone : goal.returns-clause-cone

@@ -1,4 +1,4 @@
-use Rattle.std.proofs.Common.{rules}
+use Rattle.wi_graph.proofs.Words.{rules}
 use Rattle.wi_graph.proofs.SearchSteps.{found_list}
 use Rattle.wi_graph.proofs.ClosingSteps.{reads_apart}
 use Rattle.wi_graph.proofs.sides.listed_unless_apart.Goals as goal

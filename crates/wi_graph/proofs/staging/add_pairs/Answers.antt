@@ -1,4 +1,4 @@
-use Rattle.std.proofs.Common.{ap, ◌+◌}
+use Rattle.wi_graph.proofs.Words.{ap, ◌+◌}
 use Rattle.wi_graph.proofs.StagingSteps.{one_more}
 use Rattle.wi_graph.proofs.staging.add_pairs.Goals as goal
 

@@ -1,7 +1,4 @@
-use Rattle.std.proofs.Common.{◌≡◌, ◌+◌, take}
-use Rattle.wi_ranges.specs.declared.pair.RangePair.{RangePair}
-use Rattle.wi_ranges.specs.Bag.{count_of}
-use Rattle.wi_graph.specs.Inner.Rooms.{times}
+use Rattle.wi_graph.proofs.Words.{◌≡◌, ◌+◌, take, RangePair, count_of, times}
 use Rattle.wi_graph.proofs.staging.add_pairs.Given as goal
 
 abbrev pub invariant-loop-area : goal.invariant-loop-area

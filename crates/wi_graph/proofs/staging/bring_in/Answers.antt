@@ -1,4 +1,4 @@
-use Rattle.std.proofs.Common.{ap, refl, ◌+◌}
+use Rattle.wi_graph.proofs.Words.{ap, refl, ◌+◌}
 use Rattle.wi_graph.proofs.StagingSteps.{bringing_start, bringing_step, bringing_end}
 use Rattle.wi_graph.proofs.staging.bring_in.Goals as goal
 

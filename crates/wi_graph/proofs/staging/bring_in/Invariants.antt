@@ -1,4 +1,4 @@
-use Rattle.std.proofs.Common.{◌≡◌, take}
+use Rattle.wi_graph.proofs.Words.{◌≡◌, take}
 use Rattle.wi_graph.proofs.StagingSteps.{IsBringing}
 use Rattle.wi_graph.proofs.staging.bring_in.Given as goal
 

@@ -1,4 +1,4 @@
-use Rattle.std.proofs.Common.{None}
+use Rattle.wi_graph.proofs.Words.{None}
 use Rattle.wi_graph.proofs.MapSteps.{put_order}
 use Rattle.wi_graph.proofs.StagingSteps.{room_same, room_stays, room_there}
 use Rattle.wi_graph.proofs.staging.make_room.Goals as goal

@@ -1,4 +1,4 @@
-use Rattle.std.proofs.Common.{drop}
+use Rattle.wi_graph.proofs.Words.{drop}
 use Rattle.wi_graph.proofs.StagingSteps.{IsTakingOut}
 use Rattle.wi_graph.proofs.staging.take_out.Given as goal
 

@@ -1,4 +1,4 @@
-use Rattle.std.proofs.Common.{length}
+use Rattle.wi_graph.proofs.Words.{length}
 use Rattle.wi_graph.proofs.StripSteps.{KeepsCells}
 use Rattle.wi_graph.proofs.stripping.first_read.Given as goal
 

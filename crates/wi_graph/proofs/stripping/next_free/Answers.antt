@@ -1,5 +1,4 @@
-use Rattle.std.proofs.Common.{◌∙◌, sym, Some, arith}
-use Rattle.std.proofs.lemmas.Grind.{common_steps}
+use Rattle.wi_graph.proofs.Words.{◌∙◌, sym, Some, arith, common_steps}
 use Rattle.wi_graph.proofs.StripSteps.{track_gone, track_kept, track_pop, track_park}
 use Rattle.wi_graph.proofs.stripping.next_free.Goals as goal
 

@@ -1,5 +1,4 @@
-use Rattle.std.proofs.Common.{None, length}
-use Rattle.wi_graph.specs.Inner.Stripping.{KeepsReads, IsTracking}
+use Rattle.wi_graph.proofs.Words.{None, length, KeepsReads, IsTracking}
 use Rattle.wi_graph.proofs.stripping.next_free.Given as goal
 
 abbrev pub invariant-cells : goal.invariant-cells

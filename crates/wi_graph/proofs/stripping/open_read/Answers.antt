@@ -1,6 +1,5 @@
-use Rattle.std.proofs.Common.{ap, sym}
+use Rattle.wi_graph.proofs.Words.{ap, sym, on_ok_weaker}
 use Rattle.std.specs.Option.{is_some}
-use Rattle.std.proofs.lemmas.Result.{on_ok_weaker}
 use Rattle.wi_graph.proofs.StripSteps.{kept_at}
 use Rattle.wi_graph.proofs.stripping.open_read.Goals as goal
 

@@ -1,5 +1,4 @@
-use Rattle.std.proofs.Common.{◌≡◌, sym, None}
-use Rattle.std.specs.Ordering.{nat_cmp}
+use Rattle.wi_graph.proofs.Words.{◌≡◌, sym, None, nat_cmp}
 use Rattle.std.specs.BTreeMap.{get}
 use Rattle.wi_graph.proofs.StripSteps.{park_new}
 use Rattle.wi_graph.proofs.stripping.park.Goals as goal

@@ -1,4 +1,4 @@
-use Rattle.std.proofs.Common.{rules}
+use Rattle.wi_graph.proofs.Words.{rules}
 use Rattle.wi_graph.proofs.StripSteps.{first_free, strip_start, strip_step, strip_end, strip_gone, loses_within}
 use Rattle.wi_graph.proofs.stripping.strip.Goals as goal
 

@@ -1,4 +1,4 @@
-use Rattle.std.proofs.Common.{length}
+use Rattle.wi_graph.proofs.Words.{length}
 use Rattle.wi_graph.proofs.StripSteps.{IsStripping}
 use Rattle.wi_graph.proofs.stripping.strip.Given as goal
 

@@ -1,4 +1,4 @@
-use Rattle.std.proofs.Common.{refl}
+use Rattle.wi_graph.proofs.Words.{refl}
 use Rattle.wi_graph.proofs.TurningSteps.{settles, rest_within}
 use Rattle.wi_graph.proofs.turning.circular_in_cone.Goals as goal
 

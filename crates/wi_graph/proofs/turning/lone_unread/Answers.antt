@@ -1,5 +1,4 @@
-use Rattle.std.proofs.Common.{◌∙◌, sym, true≢false, rules}
-use Rattle.wi_values.proofs.Keys.{lone_key}
+use Rattle.wi_graph.proofs.Words.{◌∙◌, sym, true≢false, rules, lone_key}
 use Rattle.wi_graph.proofs.turning.lone_unread.Goals as goal
 
 pub returns-clause-alone : goal.returns-clause-alone

@@ -1,5 +1,4 @@
-use Rattle.std.proofs.Common.{◌∙◌, sym}
-use Rattle.wi_graph.specs.Inner.Search.{as_set}
+use Rattle.wi_graph.proofs.Words.{◌∙◌, sym, as_set}
 use Rattle.wi_graph.proofs.ClosingSteps.{none_turn}
 use Rattle.wi_graph.proofs.Tests.{turned}
 use Rattle.wi_graph.proofs.turning.turns_in.Goals as goal

@@ -1,8 +1,4 @@
-use Rattle.std.proofs.Common.{◌≡◌, ◌∷◌, [], ℕ, List, length, subst, sym, arith}
-use Rattle.std.proofs.lemmas.Grind.{common_steps}
-use Rattle.std.proofs.lemmas.List.{nil_from_length}
-use Rattle.std.specs.Map.{keys_of}
-use Rattle.wi_graph.specs.Inner.Search.{IsConeOf}
+use Rattle.wi_graph.proofs.Words.{◌≡◌, ◌∷◌, [], ℕ, List, length, subst, sym, arith, common_steps, nil_from_length, keys_of, IsConeOf}
 use Rattle.wi_graph.proofs.SearchSteps.{lone_cone}
 use Rattle.wi_graph.proofs.TurningSteps.{nothing_turns, cone_is}
 use Rattle.wi_graph.proofs.turning.turns_of.Goals as goal

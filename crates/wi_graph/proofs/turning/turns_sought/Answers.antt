@@ -1,7 +1,6 @@
-use Rattle.std.proofs.Common.{rules}
+use Rattle.wi_graph.proofs.Words.{rules, keys_of}
 use Rattle.wi_graph.proofs.TurningSteps.{same_turns, cone_is}
 use Rattle.wi_graph.proofs.ClosingSteps.{apart_turn, reach_turn}
-use Rattle.std.specs.Map.{keys_of}
 use Rattle.wi_graph.proofs.turning.turns_sought.Goals as goal
 
 pub returns-then-reads_stay : goal.returns-then-reads_stay

@@ -1,6 +1,4 @@
-use Rattle.std.proofs.Common.{ℕ, rules}
-use Rattle.std.specs.Prelude.{nat_lt}
-use Rattle.std.proofs.lemmas.List.Sorted.{IsPartitionPoint-from_clause, IsPartitionedBy-ltb}
+use Rattle.wi_graph.proofs.Words.{ℕ, rules, nat_lt, IsPartitionPoint-from_clause, IsPartitionedBy-ltb}
 use Rattle.wi_graph.proofs.WithinSteps.{never_falls}
 use Rattle.wi_graph.proofs.within.count_before.Goals as goal
 

@@ -1,5 +1,4 @@
-use Rattle.std.proofs.Common.{refl}
-use Rattle.wi_graph.specs.Inner.Search.{as_set}
+use Rattle.wi_graph.proofs.Words.{refl, as_set}
 use Rattle.wi_graph.proofs.WithinSteps.{none_ahead, apart_first, part_found, part_first}
 use Rattle.wi_graph.proofs.within.first_listed.Goals as goal
 

@@ -1,5 +1,4 @@
-use Rattle.std.proofs.Common.{◌<◌, ◌≤◌, length, arith}
-use Rattle.std.proofs.lemmas.Bool.Decides.{nat_tests}
+use Rattle.wi_graph.proofs.Words.{◌<◌, ◌≤◌, length, arith, nat_tests}
 use Rattle.wi_graph.proofs.WithinSteps.{listed_later, listed_found, listed_first}
 use Rattle.wi_graph.proofs.within.listed_between.Goals as goal
 

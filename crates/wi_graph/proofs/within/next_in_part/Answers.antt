@@ -1,5 +1,4 @@
-use Rattle.std.proofs.Common.{Some, ◌∙◌, sym}
-use Rattle.wi_values.proofs.Within.{fewer_places}
+use Rattle.wi_graph.proofs.Words.{Some, ◌∙◌, sym, fewer_places}
 use Rattle.wi_graph.proofs.WithinSteps.{none_ahead, seek_start, seek_first, seek_none, seek_found, seek_on}
 use Rattle.wi_graph.proofs.within.next_in_part.Goals as goal
 

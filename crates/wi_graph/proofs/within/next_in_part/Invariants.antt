@@ -1,4 +1,4 @@
-use Rattle.wi_values.proofs.Within.{places_left}
+use Rattle.wi_graph.proofs.Words.{places_left}
 use Rattle.wi_graph.proofs.WithinSteps.{IsSeeking}
 use Rattle.wi_graph.proofs.within.next_in_part.Given as goal
 

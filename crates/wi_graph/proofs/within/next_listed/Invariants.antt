@@ -1,5 +1,4 @@
-use Rattle.wi_values.proofs.Within.{places_left}
-use Rattle.wi_graph.specs.Inner.Search.{as_set}
+use Rattle.wi_graph.proofs.Words.{places_left, as_set}
 use Rattle.wi_graph.proofs.WithinSteps.{IsSeeking}
 use Rattle.wi_graph.proofs.within.next_listed.Given as goal
 

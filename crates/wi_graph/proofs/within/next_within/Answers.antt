@@ -1,4 +1,4 @@
-use Rattle.std.proofs.Common.{refl}
+use Rattle.wi_graph.proofs.Words.{refl}
 use Rattle.wi_graph.proofs.WithinSteps.{none_ahead, apart_first, part_found, part_first}
 use Rattle.wi_graph.proofs.within.next_within.Goals as goal
 

@@ -1,4 +1,4 @@
-use Rattle.std.proofs.Common.{◌≡◌, ◌==◌, ℕ, zero, suc, ◌<◌, false, length, ◌∙◌, sym, arith}
+use Rattle.wi_import.proofs.Words.{◌≡◌, ◌==◌, ℕ, zero, suc, ◌<◌, false, length, ◌∙◌, sym, arith}
 use Rattle.wi_import.proofs.FieldLemmas.{fields_inside}
 use Rattle.wi_import.proofs.AreaLemmas.{record_area}
 use Rattle.wi_import.proofs.areas.area.Goals as goal

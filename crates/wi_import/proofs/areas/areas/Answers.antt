@@ -1,8 +1,4 @@
-use Rattle.std.proofs.Common.{◌≡◌, ◌+◌, ◌++◌, refl, ◌∙◌, ap}
-use Rattle.std.specs.List.{list_any}
-use Rattle.std.proofs.lemmas.Result.{IfOk-from_err}
-use Rattle.wi_values.specs.Address.{row_of, column_of}
-use Rattle.wi_import.specs.Inner.Reading.{is_outside}
+use Rattle.wi_import.proofs.Words.{◌≡◌, ◌+◌, ◌++◌, refl, ◌∙◌, ap, list_any, IfOk-from_err, row_of, column_of, is_outside}
 use Rattle.wi_import.proofs.AreaLemmas.{area_before, areas_left, none_told, area_told, told_some, told_none, all_told}
 use Rattle.wi_import.proofs.FieldLemmas.{all_fields_left, this_record, later_records}
 use Rattle.wi_import.proofs.areas.areas.Goals.{in-Some+in_ok-push, in_default}

@@ -1,9 +1,4 @@
-use Rattle.std.proofs.Common.{◌≡◌, ◌++◌, false}
-use Rattle.std.specs.List.{list_any}
-use Rattle.wi_values.specs.Address.{row_of, column_of}
-use Rattle.wi_import.specs.Fields.{areas_from}
-use Rattle.wi_import.specs.Inner.Reading.{is_outside}
-use Rattle.wi_import.specs.Inner.Records.{all_bytes}
+use Rattle.wi_import.proofs.Words.{◌≡◌, ◌++◌, false, list_any, row_of, column_of, areas_from, is_outside, all_bytes}
 use Rattle.wi_import.proofs.AreaLemmas.{areas_left}
 use Rattle.wi_import.proofs.FieldLemmas.{fields_left}
 use Rattle.wi_import.proofs.areas.areas.Given as goal

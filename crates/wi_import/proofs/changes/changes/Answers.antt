@@ -1,8 +1,4 @@
-use Rattle.std.proofs.Common.{◌∙◌, ap}
-use Rattle.std.specs.List.{list_any}
-use Rattle.std.proofs.lemmas.Result.{IfOk-from_err}
-use Rattle.wi_values.specs.Address.{row_of, column_of}
-use Rattle.wi_import.specs.Inner.Records.{is_faulty}
+use Rattle.wi_import.proofs.Words.{◌∙◌, ap, list_any, IfOk-from_err, row_of, column_of, is_faulty}
 use Rattle.wi_import.proofs.FieldLemmas.{all_fields_left, none_changed, all_records_changed, this_record, later_records, record_changed}
 use Rattle.wi_import.proofs.changes.changes.Goals as goal
 

@@ -1,9 +1,4 @@
-use Rattle.std.proofs.Common.{◌≡◌, ◌++◌, map, false}
-use Rattle.std.specs.List.{list_any}
-use Rattle.wi_values.specs.Address.{row_of, column_of}
-use Rattle.wi_import.specs.Fields.{fields_from}
-use Rattle.wi_import.specs.Inner.Reading.{change_of}
-use Rattle.wi_import.specs.Inner.Records.{all_bytes, is_faulty}
+use Rattle.wi_import.proofs.Words.{◌≡◌, ◌++◌, map, false, list_any, row_of, column_of, fields_from, change_of, all_bytes, is_faulty}
 use Rattle.wi_import.proofs.FieldLemmas.{fields_left}
 use Rattle.wi_import.proofs.changes.changes.Given as goal
 

@@ -1,4 +1,4 @@
-use Rattle.std.proofs.Common.{rules}
+use Rattle.wi_import.proofs.Words.{rules}
 use Rattle.wi_import.proofs.FieldLemmas.{utf8_found, read_ok, constant_is, empty_is}
 use Rattle.wi_import.proofs.changes.content.Goals as goal
 

@@ -1,8 +1,4 @@
-use Rattle.std.proofs.Common.{◌∙◌, ap, arith}
-use Rattle.std.specs.List.{list_any}
-use Rattle.std.proofs.lemmas.Result.{IfOk-from_err}
-use Rattle.wi_import.specs.Inner.Reading.{is_bad, is_too_long, content_of}
-use Rattle.wi_import.specs.Inner.Records.{is_faulty}
+use Rattle.wi_import.proofs.Words.{◌∙◌, ap, arith, list_any, IfOk-from_err, is_bad, is_too_long, content_of, is_faulty}
 use Rattle.wi_import.proofs.FieldLemmas.{this_field, all_cells_left, none_changed_yet, all_fields_changed, field_changed, later_fields}
 use Rattle.wi_import.proofs.changes.push_record.Goals as goal
 

@@ -1,8 +1,4 @@
-use Rattle.std.proofs.Common.{◌≡◌, ◌++◌, map, false}
-use Rattle.std.specs.List.{list_any}
-use Rattle.wi_import.specs.Fields.{fields_of}
-use Rattle.wi_import.specs.Inner.Reading.{change_of}
-use Rattle.wi_import.specs.Inner.Records.{bytes_of, is_faulty}
+use Rattle.wi_import.proofs.Words.{◌≡◌, ◌++◌, map, false, list_any, fields_of, change_of, bytes_of, is_faulty}
 use Rattle.wi_import.proofs.FieldLemmas.{cells_left}
 use Rattle.wi_import.proofs.changes.push_record.Given as goal
 

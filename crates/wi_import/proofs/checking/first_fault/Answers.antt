@@ -1,8 +1,4 @@
-use Rattle.std.proofs.Common.{◌∙◌, sym, refl, true, false}
-use Rattle.wi_values.specs.Address.{row_of, column_of}
-use Rattle.wi_import.specs.Fields.{fields_from}
-use Rattle.wi_import.specs.Inner.Reading.{is_bad, is_too_long}
-use Rattle.wi_import.specs.Inner.Records.{all_bytes}
+use Rattle.wi_import.proofs.Words.{◌∙◌, sym, refl, true, false, row_of, column_of, fields_from, is_bad, is_too_long, all_bytes}
 use Rattle.wi_import.proofs.FieldLemmas.{any_in_records, first_found}
 use Rattle.wi_import.proofs.checking.first_fault.Goals as goal
 

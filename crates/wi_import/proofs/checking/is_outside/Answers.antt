@@ -1,6 +1,4 @@
-use Rattle.std.proofs.Common.{◌≡◌, ℕ, ◌<◌, ◌∙◌, sym, ap, ◌||◌, ◌+◌, ◌-◌, nat_lt, nat_le, length, true, false, arith}
-use Rattle.std.proofs.lemmas.Bool.Decides.{nat_tests}
-use Rattle.wi_values.specs.Address.{rows, columns}
+use Rattle.wi_import.proofs.Words.{◌≡◌, ℕ, ◌<◌, ◌∙◌, sym, ap, ◌||◌, ◌+◌, ◌-◌, nat_lt, nat_le, length, true, false, arith, nat_tests, rows, columns}
 use Rattle.wi_import.proofs.FieldLemmas.{fields_outside}
 use Rattle.wi_import.proofs.checking.is_outside.Goals as goal
 

@@ -1,5 +1,4 @@
-use Rattle.std.proofs.Common.{◌≡◌, ◌∙◌, sym, ap, not, is_some, false, nat_lt, length, arith}
-use Rattle.std.proofs.lemmas.Bool.Decides.{nat_tests}
+use Rattle.wi_import.proofs.Words.{◌≡◌, ◌∙◌, sym, ap, not, is_some, false, nat_lt, length, arith, nat_tests}
 use Rattle.wi_import.proofs.FieldLemmas.{long_unread, short_fits, none_found}
 use Rattle.wi_import.proofs.checking.is_too_long.Goals as goal
 

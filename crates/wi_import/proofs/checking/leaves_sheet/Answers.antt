@@ -1,5 +1,4 @@
-use Rattle.std.proofs.Common.{arith}
-use Rattle.std.proofs.lemmas.Grind.{common_steps}
+use Rattle.wi_import.proofs.Words.{arith, common_steps}
 use Rattle.wi_import.proofs.checking.leaves_sheet.Goals as goal
 
 pub returns-then-is_outside : goal.returns-then-is_outside

@@ -1,9 +1,4 @@
-use Rattle.std.proofs.Common.{◌≡◌}
-use Rattle.std.specs.List.{list_any}
-use Rattle.wi_values.specs.Address.{row_of, column_of}
-use Rattle.wi_import.specs.Fields.{fields_from}
-use Rattle.wi_import.specs.Inner.Reading.{is_outside}
-use Rattle.wi_import.specs.Inner.Records.{all_bytes}
+use Rattle.wi_import.proofs.Words.{◌≡◌, list_any, row_of, column_of, fields_from, is_outside, all_bytes}
 use Rattle.wi_import.proofs.FieldLemmas.{fields_left}
 use Rattle.wi_import.proofs.checking.leaves_sheet.Given as goal
 

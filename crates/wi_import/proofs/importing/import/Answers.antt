@@ -1,14 +1,4 @@
-use Rattle.std.proofs.Common.{◌≡◌, ◌≢◌, ◌∙◌, sym, ap, map, Result, Ok, Err}
-use Rattle.std.specs.Prelude.{IfErr}
-use Rattle.std.specs.Result.{IsErrAnd}
-use Rattle.std.proofs.lemmas.Result.{IfOk-from_err}
-use Rattle.wi_values.specs.Address.{row_of, column_of}
-use Rattle.wi_import.specs.Fields.{fields_from, fields_at, areas_from}
-use Rattle.wi_import.specs.Imports.{IsFault}
-use Rattle.wi_import.specs.declared.fault.ImportFault.{ImportFault}
-use Rattle.wi_import.specs.declared.fault.ImportFault.TheVariants.{Memory}
-use Rattle.wi_import.specs.Inner.Reading.{change_of, fault_among}
-use Rattle.wi_import.specs.Inner.Records.{all_bytes}
+use Rattle.wi_import.proofs.Words.{◌≡◌, ◌≢◌, ◌∙◌, sym, ap, map, Result, Ok, Err, IfErr, IsErrAnd, IfOk-from_err, row_of, column_of, fields_from, fields_at, areas_from, IsFault, ImportFault, Memory, change_of, fault_among, all_bytes}
 use Rattle.wi_import.proofs.FieldLemmas.{none_faulty, none_outside}
 use Rattle.wi_import.proofs.ImportLemmas.{refused, all_changed}
 use Rattle.wi_import.proofs.importing.import.Goals as goal

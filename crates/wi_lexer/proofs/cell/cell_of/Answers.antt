@@ -1,5 +1,4 @@
-use Rattle.std.proofs.Common.{rules}
-use Rattle.wi_lexer.specs.Inner.Cell.{cell_of}
+use Rattle.wi_lexer.proofs.Words.{rules, cell_of}
 use Rattle.wi_lexer.proofs.cell.cell_of.Goals as goal
 
 pub returns : goal.returns

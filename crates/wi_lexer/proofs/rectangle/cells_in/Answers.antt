@@ -1,7 +1,4 @@
-use Rattle.std.proofs.Common.{Some, length, ◌-◌, ◌≤◌, take, drop, ap, ap₂, sym, subst, ◌∙◌}
-use Rattle.wi_lexer.specs.Inner.Cell.{cut}
-use Rattle.wi_lexer.specs.Inner.Runs.{before_colon_len}
-use Rattle.wi_lexer.specs.Inner.Rectangle.{both_cells}
+use Rattle.wi_lexer.proofs.Words.{Some, length, ◌-◌, ◌≤◌, take, drop, ap, ap₂, sym, subst, ◌∙◌, cut, before_colon_len, both_cells}
 use Rattle.wi_lexer.proofs.BracketLemmas.{inside_slice}
 use Rattle.wi_lexer.proofs.RectangleLemmas.{rectangle_cut, second_long}
 use Rattle.wi_lexer.proofs.rectangle.cells_in.Goals as goal

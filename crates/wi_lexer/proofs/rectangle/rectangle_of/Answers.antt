@@ -1,5 +1,4 @@
-use Rattle.std.proofs.Common.{rules}
-use Rattle.wi_lexer.specs.Inner.Rectangle.{rectangle_of}
+use Rattle.wi_lexer.proofs.Words.{rules, rectangle_of}
 use Rattle.wi_lexer.proofs.rectangle.rectangle_of.Goals as goal
 
 pub returns : goal.returns

@@ -1,5 +1,4 @@
-use Rattle.std.proofs.Common.{Some, ap, sym, ◌∙◌}
-use Rattle.wi_lexer.specs.Inner.Cell.{cut}
+use Rattle.wi_lexer.proofs.Words.{Some, ap, sym, ◌∙◌, cut}
 use Rattle.wi_lexer.proofs.BracketLemmas.{inside_slice}
 use Rattle.wi_lexer.proofs.ReferenceLemmas.{reference_cut}
 use Rattle.wi_lexer.proofs.reference.cell_in.Goals as goal

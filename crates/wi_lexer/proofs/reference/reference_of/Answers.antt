@@ -1,5 +1,4 @@
-use Rattle.std.proofs.Common.{rules}
-use Rattle.wi_lexer.specs.Inner.Reference.{reference_of}
+use Rattle.wi_lexer.proofs.Words.{rules, reference_of}
 use Rattle.wi_lexer.proofs.reference.reference_of.Goals as goal
 
 pub returns : goal.returns

@@ -1,5 +1,4 @@
-use Rattle.std.proofs.Common.{string_bytes, rules, refl, arith, ap, sym, ◌∙◌, ◌++◌, ◌∷◌, []}
-use Rattle.std.proofs.lemmas.Str.Pattern.{strip_prefix_char}
+use Rattle.wi_lexer.proofs.Words.{string_bytes, rules, refl, arith, ap, sym, ◌∙◌, ◌++◌, ◌∷◌, [], strip_prefix_char}
 use Rattle.wi_lexer.proofs.QuoteLemmas.{piece_is, rest_is, read_first, read_more, read_last}
 use Rattle.wi_lexer.proofs.text.text_content.Goals as goal
 

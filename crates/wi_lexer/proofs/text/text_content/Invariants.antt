@@ -1,6 +1,4 @@
-use Rattle.std.proofs.Common.{length, string_bytes}
-use denote.Text.{Utf8}
-use denote.Shadow.{shadow}
+use Rattle.wi_lexer.proofs.Words.{length, string_bytes, Utf8, shadow}
 use Rattle.wi_lexer.proofs.QuoteLemmas.{IsRead}
 use Rattle.wi_lexer.proofs.text.text_content.Given as goal
 

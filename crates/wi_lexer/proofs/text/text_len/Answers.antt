@@ -1,4 +1,4 @@
-use Rattle.std.proofs.Common.{subst, arith}
+use Rattle.wi_lexer.proofs.Words.{subst, arith}
 use Rattle.wi_lexer.proofs.QuoteLemmas.{IsReached, reached_close, reached_open, reached_more, reached_end, reached_all}
 use Rattle.wi_lexer.proofs.text.text_len.Goals as goal
 use Rattle.wi_lexer.proofs.text.text_len.Goals.{then-b-eq34+then-not-inside, then-b-eq34+else-not-inside, else-b-eq34+else-not-inside-2}

@@ -1,8 +1,4 @@
-use Rattle.std.proofs.Common.{refl, sym, ap, ◌∙◌}
-use Rattle.wi_arguments.specs.Arguments.{arguments_in}
-use Rattle.wi_standard_functions.specs.Arguments.{value_or}
-use Rattle.wi_standard_functions.specs.Convert.{to_logical}
-use Rattle.wi_values.specs.declared.value.Value.TheVariants.{Logical}
+use Rattle.wi_lookup_functions.proofs.Words.{refl, sym, ap, ◌∙◌, arguments_in, value_or, to_logical, Logical}
 use Rattle.wi_lookup_functions.proofs.Asked.{itself}
 use Rattle.wi_lookup_functions.proofs.Endings.{taken_fails, taken_halts}
 use Rattle.wi_lookup_functions.proofs.arguments.logical_or.Goals as goal

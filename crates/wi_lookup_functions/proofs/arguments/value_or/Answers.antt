@@ -1,15 +1,5 @@
-use Rattle.std.proofs.Common.{◌≡◌, ◌∙◌, ℕ, Some, None, length, refl, sym, ap, rules}
-use Rattle.std.specs.Prelude.{slice_get}
-use Rattle.std.specs.Borrow.{Bor}
-use Rattle.std.proofs.lemmas.Bool.{ltb-false}
-use Rattle.std.proofs.lemmas.Option.{slice_get_read, slice_get_past}
-use Rattle.wi_arguments.specs.Arguments.{argument_in, arguments_in, value_lent, KnownAgrees, IsMissing}
+use Rattle.wi_lookup_functions.proofs.Words.{◌≡◌, ◌∙◌, ℕ, Some, None, length, refl, sym, ap, rules, slice_get, Bor, ltb-false, slice_get_read, slice_get_past, argument_in, arguments_in, value_lent, KnownAgrees, IsMissing, no_error, Value, Fault, Error, Stopped, refers_alone, value_absent, value_given}
 use Rattle.wi_standard_functions.specs.Arguments as given
-use Rattle.wi_standard_functions.specs.FirstError.{no_error}
-use Rattle.wi_values.specs.declared.value.Value.{Value}
-use Rattle.wi_values.specs.declared.value.Value.TheVariants.{Fault}
-use Rattle.wi_value_functions.specs.declared.ending.Ending.TheVariants.{Error, Stopped}
-use Rattle.wi_arguments.proofs.Given.{refers_alone, value_absent, value_given}
 use Rattle.wi_lookup_functions.proofs.Asked.{no_fault}
 use Rattle.wi_lookup_functions.proofs.Endings.{gives_so}
 use Rattle.wi_lookup_functions.proofs.arguments.value_or.Goals.{in-Some+in_ok-value-in-Some+in_ok-given-in-Some, in-None}

@@ -1,6 +1,4 @@
-use Rattle.std.proofs.Common.{refl}
-use Rattle.wi_standard_functions.specs.Convert.{to_whole}
-use Rattle.wi_values.specs.declared.value.Value.TheVariants.{Empty}
+use Rattle.wi_lookup_functions.proofs.Words.{refl, to_whole, Empty}
 use Rattle.wi_lookup_functions.proofs.Endings.{taken_fails, taken_halts}
 use Rattle.wi_lookup_functions.proofs.arguments.whole_at.Goals as goal
 

@@ -1,7 +1,5 @@
-use Rattle.std.proofs.lemmas.Result.{err_from_is_err_and}
+use Rattle.wi_lookup_functions.proofs.Words.{err_from_is_err_and, is_referred, region_is, count_if_value}
 use Rattle.std.specs.Prelude.{Ok, Err}
-use Rattle.wi_arguments.proofs.Given.{is_referred, region_is}
-use Rattle.wi_standard_functions.specs.Information.{count_if_value}
 use Rattle.wi_lookup_functions.proofs.Counts.{ends_at_area, ends_at_criterion, ends_counted}
 use Rattle.wi_lookup_functions.proofs.Settling.{stopped_inside}
 use Rattle.wi_lookup_functions.proofs.counting.count_if.Goals as goal

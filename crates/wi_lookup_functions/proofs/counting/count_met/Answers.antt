@@ -1,5 +1,4 @@
-use Rattle.std.proofs.Common.{refl}
-use Rattle.wi_values.specs.Address.{cells_of}
+use Rattle.wi_lookup_functions.proofs.Words.{refl, cells_of}
 use Rattle.wi_lookup_functions.proofs.Counts.{all_counted}
 use Rattle.wi_lookup_functions.proofs.counting.count_met.Goals as goal
 

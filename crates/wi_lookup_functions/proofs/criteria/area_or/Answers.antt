@@ -1,6 +1,5 @@
 use Rattle.std.specs.Prelude.{Ok}
-use Rattle.wi_standard_functions.specs.Arguments.{region_of}
-use Rattle.wi_arguments.proofs.Given.{region_there, region_absent, referred_there}
+use Rattle.wi_lookup_functions.proofs.Words.{region_of, region_there, region_absent, referred_there}
 use Rattle.wi_lookup_functions.proofs.criteria.area_or.Goals as goal
 
 pub returns-in-Some-clause-region : goal.returns-in-Some-clause-region

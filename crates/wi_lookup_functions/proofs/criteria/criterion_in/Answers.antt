@@ -1,4 +1,4 @@
-use Rattle.std.proofs.lemmas.Result.{err_from_is_err_and}
+use Rattle.wi_lookup_functions.proofs.Words.{err_from_is_err_and}
 use Rattle.wi_lookup_functions.proofs.Referring.{of_lent, of_lent_error, of_stop}
 use Rattle.wi_lookup_functions.proofs.criteria.criterion_in.Goals as goal
 

@@ -1,4 +1,4 @@
-use Rattle.std.proofs.lemmas.Result.{err_from_is_err_and}
+use Rattle.wi_lookup_functions.proofs.Words.{err_from_is_err_and}
 use Rattle.wi_lookup_functions.proofs.Referring.{criterion_fails, criterion_wants, criterion_is}
 use Rattle.wi_lookup_functions.proofs.criteria.criterion_of.Goals as goal
 

@@ -1,6 +1,5 @@
-use Rattle.std.proofs.Common.{ℕ, Bool, List, ap}
-use Rattle.wi_values.specs.declared.value.Value.{Value}
-use Rattle.wi_standard_functions.specs.Criterion.{Criterion, constant_of}
+use Rattle.wi_lookup_functions.proofs.Words.{ℕ, Bool, List, ap, Value, constant_of}
+use Rattle.wi_standard_functions.specs.Criterion.{Criterion}
 use Rattle.wi_lookup_functions.proofs.criterion.relation_first.Goals as goal
 
 abbrev by : (Value → Value → Bool) → List ℕ → Criterion

@@ -1,5 +1,4 @@
-use Rattle.std.proofs.Common.{◌<◌, ◌≤◌, length, arith}
-use Rattle.wi_standard_functions.specs.Lookup.{index_along, index_by_both, index_value}
+use Rattle.wi_lookup_functions.proofs.Words.{◌<◌, ◌≤◌, length, arith, index_along, index_by_both, index_value}
 use Rattle.wi_lookup_functions.proofs.Endings.{finds_same, with_three, with_two}
 use Rattle.wi_lookup_functions.proofs.index.index.Goals as goal
 

@@ -1,13 +1,4 @@
-use Rattle.std.proofs.Common.{sym, ◌∙◌, ℤ, ◌≡◌, ap, FitsSigned, rules, Ok, Err}
-use Rattle.std.proofs.lemmas.Int.{to_z-of_z}
-use Rattle.std.specs.Int.{w128}
-use Rattle.wi_arguments.specs.Arguments.{arguments_in, IsMissing}
-use Rattle.wi_standard_functions.specs.Arguments.{region_of, value_at}
-use Rattle.wi_standard_functions.specs.Convert.{to_whole}
-use Rattle.wi_standard_functions.specs.Lookup.{index_by_both, nth_cell}
-use Rattle.wi_values.specs.declared.value.Value.{Value}
-use Rattle.wi_value_functions.specs.declared.ending.Ending.TheVariants.{Error}
-use Rattle.wi_arguments.proofs.Given.{is_referred, region_is}
+use Rattle.wi_lookup_functions.proofs.Words.{sym, ◌∙◌, ℤ, ◌≡◌, ap, FitsSigned, rules, Ok, Err, to_z-of_z, w128, arguments_in, IsMissing, region_of, value_at, to_whole, index_by_both, nth_cell, Value, Error, is_referred, region_is}
 use Rattle.wi_lookup_functions.proofs.Chains.{both, both_area, both_column, both_row}
 use Rattle.wi_lookup_functions.proofs.Endings.{ended, finds_so}
 use Rattle.wi_lookup_functions.proofs.index.index_by_both.Goals as goal

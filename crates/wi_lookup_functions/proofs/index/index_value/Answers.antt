@@ -1,4 +1,4 @@
-use Rattle.wi_standard_functions.specs.Lookup.{index_value}
+use Rattle.wi_lookup_functions.proofs.Words.{index_value}
 use Rattle.wi_lookup_functions.proofs.index.index_value.Goals as goal
 
 pub returns-clause-missing : goal.returns-clause-missing

@@ -1,12 +1,4 @@
-use Rattle.std.proofs.Common.{arith, ◌≡◌, ℕ, ◌<◌, ◌||◌, true, false, Ok, sym, ap, ◌∙◌, subst, ℤ, FitsSigned, rules}
-use Rattle.std.specs.Prelude.{pos, int_lt}
-use Rattle.std.proofs.lemmas.Bool.{or_from}
-use Rattle.std.proofs.lemmas.Int.{to_z-of_z}
-use Rattle.std.specs.Int.{w128}
-use Rattle.std.proofs.lemmas.Grind.{common_steps}
-use Rattle.wi_values.specs.Address.{is_within}
-use Rattle.wi_standard_functions.specs.Lookup.{position_among}
-use Rattle.wi_lookup_functions.specs.Inner.Lines.{height, width}
+use Rattle.wi_lookup_functions.proofs.Words.{arith, ◌≡◌, ℕ, ◌<◌, ◌||◌, true, false, Ok, sym, ap, ◌∙◌, subst, ℤ, FitsSigned, rules, pos, int_lt, or_from, to_z-of_z, w128, common_steps, is_within, position_among, height, width}
 use Rattle.wi_lookup_functions.proofs.Endings.{nth_is, nth_no_row, nth_within}
 use Rattle.wi_lookup_functions.proofs.index.nth_cell.Goals as goal
 

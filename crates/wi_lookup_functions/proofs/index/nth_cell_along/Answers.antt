@@ -1,10 +1,5 @@
-use Rattle.std.proofs.Common.{◌≡◌, ◌==◌, false, pos, arith, ℤ, FitsSigned, rules, subst}
-use Rattle.std.proofs.lemmas.Int.{to_z-of_z}
-use Rattle.std.specs.Int.{w128}
-use Rattle.std.proofs.lemmas.Bool.Decides.{nat_tests}
-use Rattle.wi_standard_functions.specs.Lookup.{nth_cell, nth_cell_along}
-use Rattle.wi_lookup_functions.specs.Inner.Finding.{IsPlacedIn}
-use Rattle.wi_lookup_functions.specs.Inner.Lines.{height, width}
+use Rattle.wi_lookup_functions.proofs.Words.{◌≡◌, ◌==◌, false, arith, ℤ, FitsSigned, rules, subst, to_z-of_z, w128, nat_tests, nth_cell, nth_cell_along, IsPlacedIn, height, width}
+use Rattle.std.proofs.Common.{pos}
 use Rattle.wi_lookup_functions.proofs.Endings.{in_one_column, in_one_row, placed_same}
 use Rattle.wi_lookup_functions.proofs.index.nth_cell_along.Goals as goal
 

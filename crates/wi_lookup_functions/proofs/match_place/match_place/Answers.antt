@@ -1,20 +1,5 @@
-use Rattle.std.specs.Borrow.{Bor}
-use Rattle.wi_values.specs.declared.value.Value.{Value}
-use Rattle.std.proofs.Common.{◌≡◌, true, false, Ok, Err, map, subst}
-use Rattle.std.specs.Prelude.{ok_or}
+use Rattle.wi_lookup_functions.proofs.Words.{Bor, Value, ◌≡◌, true, false, Ok, Err, map, subst, ok_or, arguments_in, IsMissing, region_of, value_or, to_number, match_value, cells_of, NotAvailable, Number, Error, IsMissingIn, is_line, position_by, is_referred, region_is}
 use Rattle.wi_fraction.specs.Number as numbers
-use Rattle.wi_arguments.specs.Arguments.{arguments_in, IsMissing}
-use Rattle.wi_standard_functions.specs.Arguments.{region_of, value_or}
-use Rattle.wi_standard_functions.specs.Convert.{to_number}
-use Rattle.wi_standard_functions.specs.Lookup.{match_value}
-use Rattle.wi_values.specs.Address.{cells_of}
-use Rattle.wi_values.specs.declared.value.ErrorKind.TheVariants.{NotAvailable}
-use Rattle.wi_values.specs.declared.value.Value.TheVariants.{Number}
-use Rattle.wi_value_functions.specs.declared.ending.Ending.TheVariants.{Error}
-use Rattle.wi_lookup_functions.specs.Inner.Finding.{IsMissingIn}
-use Rattle.wi_lookup_functions.specs.Inner.Lines.{is_line}
-use Rattle.wi_lookup_functions.specs.Inner.Search.{position_by}
-use Rattle.wi_arguments.proofs.Given.{is_referred, region_is}
 use Rattle.wi_lookup_functions.proofs.Chains.{match_no_area, match_no_sought, match_no_type, match_off_line, match_on_line, sought_in}
 use Rattle.wi_lookup_functions.proofs.Endings.{placed, places_so, placing_ended}
 use Rattle.wi_lookup_functions.proofs.match_place.match_place.Goals as goal

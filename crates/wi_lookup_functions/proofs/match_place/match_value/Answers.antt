@@ -1,4 +1,4 @@
-use Rattle.wi_standard_functions.specs.Lookup.{match_value}
+use Rattle.wi_lookup_functions.proofs.Words.{match_value}
 use Rattle.wi_lookup_functions.proofs.match_place.match_value.Goals as goal
 
 pub returns-clause-done : goal.returns-clause-done

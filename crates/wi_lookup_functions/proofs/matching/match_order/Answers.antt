@@ -1,4 +1,4 @@
-use Rattle.std.proofs.Common.{Some, sym, ap, ◌∙◌}
+use Rattle.wi_lookup_functions.proofs.Words.{Some, sym, ap, ◌∙◌}
 use Rattle.wi_lookup_functions.proofs.matching.match_order.Goals as goal
 
 pub returns-then-same_kind : goal.returns-then-same_kind

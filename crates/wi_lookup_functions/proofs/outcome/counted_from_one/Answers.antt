@@ -1,5 +1,4 @@
-use Rattle.std.proofs.Common.{ap, ◌∙◌, arith}
-use Rattle.wi_standard_functions.specs.Arithmetic.{whole_value}
+use Rattle.wi_lookup_functions.proofs.Words.{ap, ◌∙◌, arith, whole_value}
 use Rattle.wi_lookup_functions.proofs.outcome.counted_from_one.Goals as goal
 
 pub returns : goal.returns

@@ -1,12 +1,6 @@
-use Rattle.std.proofs.Common.{◌≡◌, ℕ, List, Option, Some, None, Ok, Err, sym, ap, ◌∙◌, subst}
-use Rattle.std.specs.Prelude.{Result, IfSome}
-use Rattle.std.proofs.lemmas.Result.{IfOk-from_err}
-use Rattle.wi_values.specs.declared.value.Value.{Value}
+use Rattle.wi_lookup_functions.proofs.Words.{◌≡◌, ℕ, List, Option, Some, None, Ok, Err, sym, ap, ◌∙◌, subst, Result, IfOk-from_err, Value, IsMissing, IsOfArguments, Argument, Finds, Ending}
+use Rattle.std.specs.Prelude.{IfSome}
 use Rattle.wi_arguments.specs.declared.argument.Argument as given
-use Rattle.wi_arguments.specs.Arguments.{IsMissing, IsOfArguments}
-use Rattle.wi_standard_functions.specs.Arguments.{Argument}
-use Rattle.wi_lookup_functions.specs.Inner.Finding.{Finds}
-use Rattle.wi_value_functions.specs.declared.ending.Ending.{Ending}
 use Rattle.wi_lookup_functions.proofs.outcome.value_found.Goals as goal
 
 -- the value of the cell that was found

@@ -1,4 +1,4 @@
-use Rattle.std.proofs.Common.{◌≤◌, None, length, refl, arith}
+use Rattle.wi_lookup_functions.proofs.Words.{◌≤◌, None, length, refl, arith}
 use Rattle.wi_lookup_functions.proofs.InOrder.{none_yet, one_more, all_taken}
 use Rattle.wi_lookup_functions.proofs.places.next_place.Goals as goal
 

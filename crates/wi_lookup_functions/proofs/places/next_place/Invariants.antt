@@ -1,5 +1,4 @@
-use Rattle.std.proofs.Common.{take}
-use Rattle.wi_lookup_functions.specs.Inner.Places.{IsNextPlace}
+use Rattle.wi_lookup_functions.proofs.Words.{take, IsNextPlace}
 use Rattle.wi_lookup_functions.proofs.places.next_place.Given as goal
 
 abbrev pub invariant-loop-area : goal.invariant-loop-area

@@ -1,4 +1,4 @@
-use Rattle.std.proofs.Common.{drop}
+use Rattle.wi_lookup_functions.proofs.Words.{drop}
 use Rattle.wi_lookup_functions.proofs.ProductEnds.{Taken}
 use Rattle.wi_lookup_functions.proofs.products.areas_of.Given as goal
 

@@ -1,5 +1,4 @@
-use Rattle.std.proofs.Common.{◌≤◌, length, arith}
-use Rattle.std.proofs.lemmas.Result.{err_from_is_err_and}
+use Rattle.wi_lookup_functions.proofs.Words.{◌≤◌, length, arith, err_from_is_err_and}
 use Rattle.wi_lookup_functions.proofs.AllPlaces.{starts, goes_on, fails, misses, ends}
 use Rattle.wi_lookup_functions.proofs.products.product_at.Goals as goal
 

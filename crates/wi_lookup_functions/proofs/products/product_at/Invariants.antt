@@ -1,4 +1,4 @@
-use Rattle.std.proofs.Common.{drop}
+use Rattle.wi_lookup_functions.proofs.Words.{drop}
 use Rattle.wi_lookup_functions.proofs.AllPlaces.{Left}
 use Rattle.wi_lookup_functions.proofs.products.product_at.Given as goal
 

@@ -1,4 +1,4 @@
-use Rattle.std.proofs.lemmas.Result.{err_from_is_err_and}
+use Rattle.wi_lookup_functions.proofs.Words.{err_from_is_err_and}
 use Rattle.wi_lookup_functions.proofs.AllPlaces.{begins, goes_on_place, product_fails, sum_fails, sum_ends, fewer_left}
 use Rattle.wi_lookup_functions.proofs.products.sum_of_products.Goals as goal
 

@@ -1,4 +1,4 @@
-use Rattle.wi_values.proofs.Within.{places_left}
+use Rattle.wi_lookup_functions.proofs.Words.{places_left}
 use Rattle.wi_lookup_functions.proofs.AllPlaces.{Rest}
 use Rattle.wi_lookup_functions.proofs.products.sum_of_products.Given as goal
 

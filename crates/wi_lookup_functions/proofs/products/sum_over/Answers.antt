@@ -1,4 +1,4 @@
-use Rattle.std.proofs.Common.{sym, ◌∙◌}
+use Rattle.wi_lookup_functions.proofs.Words.{sym, ◌∙◌}
 use Rattle.wi_lookup_functions.proofs.ProductEnds.{none_summed, sizes_differ, through_is}
 use Rattle.wi_lookup_functions.proofs.products.sum_over.Goals as goal
 

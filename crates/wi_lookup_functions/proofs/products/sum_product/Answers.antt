@@ -1,6 +1,5 @@
-use Rattle.std.proofs.Common.{ap, sym, ◌∙◌}
+use Rattle.wi_lookup_functions.proofs.Words.{ap, sym, ◌∙◌, err_from_is_err_and}
 use Rattle.std.specs.Prelude.{Ok}
-use Rattle.std.proofs.lemmas.Result.{err_from_is_err_and}
 use Rattle.wi_lookup_functions.proofs.ProductEnds.{ends_at_areas, ends_summed, ends_in_sum}
 use Rattle.wi_lookup_functions.proofs.products.sum_product.Goals as goal
 

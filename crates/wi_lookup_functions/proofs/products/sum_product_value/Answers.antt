@@ -1,4 +1,4 @@
-use Rattle.wi_standard_functions.specs.Mathematical.{sum_product_value}
+use Rattle.wi_lookup_functions.proofs.Words.{sum_product_value}
 use Rattle.wi_lookup_functions.proofs.Settling.{settled_done, settled_missing}
 use Rattle.wi_lookup_functions.proofs.products.sum_product_value.Goals as goal
 

@@ -1,9 +1,4 @@
-use Rattle.std.proofs.Common.{◌≡◌, ℕ, List, [], ◌∷◌, fold, Ok, refl, sym, ap, ◌∙◌, subst, ◌<◌, length}
-use Rattle.wi_values.specs.Address.{cells_of}
-use Rattle.wi_values.specs.declared.value.Value.{Value}
-use Rattle.wi_lookup_functions.specs.declared.search.Search.{Search}
-use Rattle.wi_lookup_functions.specs.Inner.Lines.{steps}
-use Rattle.wi_lookup_functions.specs.Inner.Search.{found_after}
+use Rattle.wi_lookup_functions.proofs.Words.{◌≡◌, ℕ, List, [], ◌∷◌, fold, Ok, refl, sym, ap, ◌∙◌, subst, ◌<◌, length, cells_of, Value, Search, steps, found_after}
 use Rattle.wi_lookup_functions.proofs.Finding.{place_found, place_none, place_within}
 use Rattle.wi_lookup_functions.proofs.Searches.{found_in}
 use Rattle.wi_lookup_functions.proofs.search.place_along.Goals as goal

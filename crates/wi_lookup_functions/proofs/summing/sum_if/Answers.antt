@@ -1,7 +1,5 @@
-use Rattle.std.proofs.lemmas.Result.{err_from_is_err_and}
+use Rattle.wi_lookup_functions.proofs.Words.{err_from_is_err_and, is_referred, region_is, sym, ◌∙◌}
 use Rattle.std.specs.Prelude.{Ok, Err}
-use Rattle.wi_arguments.proofs.Given.{is_referred, region_is}
-use Rattle.std.proofs.Common.{sym, ◌∙◌}
 use Rattle.wi_lookup_functions.proofs.Sums.{ends_at_area, ends_at_criterion, ends_at_added, ends_at_size, ends_summed, ends_in_sum}
 use Rattle.wi_lookup_functions.proofs.summing.sum_if.Goals as goal
 

@@ -1,4 +1,4 @@
-use Rattle.wi_standard_functions.specs.Mathematical.{sum_if_value}
+use Rattle.wi_lookup_functions.proofs.Words.{sum_if_value}
 use Rattle.wi_lookup_functions.proofs.Settling.{settled_done, settled_missing}
 use Rattle.wi_lookup_functions.proofs.summing.sum_if_value.Goals as goal
 

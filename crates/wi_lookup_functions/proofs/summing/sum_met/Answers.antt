@@ -1,4 +1,4 @@
-use Rattle.std.proofs.lemmas.Result.{err_from_is_err_and}
+use Rattle.wi_lookup_functions.proofs.Words.{err_from_is_err_and}
 use Rattle.wi_lookup_functions.proofs.Sums.{begins, goes_on, ends, stops, misses}
 use Rattle.wi_lookup_functions.proofs.summing.sum_met.Goals as goal
 

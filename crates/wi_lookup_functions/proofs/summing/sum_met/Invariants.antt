@@ -1,4 +1,4 @@
-use Rattle.wi_values.proofs.Within.{places_left}
+use Rattle.wi_lookup_functions.proofs.Words.{places_left}
 use Rattle.wi_lookup_functions.proofs.Sums.{Rest}
 use Rattle.wi_lookup_functions.proofs.summing.sum_met.Given as goal
 

@@ -1,5 +1,4 @@
-use Rattle.std.proofs.Common.{◌≡◌, Ok, Err, rules}
-use Rattle.wi_lookup_functions.specs.Inner.Sums.{with_cell}
+use Rattle.wi_lookup_functions.proofs.Words.{◌≡◌, Ok, Err, rules, with_cell}
 use Rattle.wi_lookup_functions.proofs.summing.with_met.Goals as goal
 
 pub returns-in_err-with_cell : goal.returns-in_err-with_cell

@@ -1,4 +1,4 @@
-use Rattle.wi_standard_functions.specs.Lookup.{h_lookup_value}
+use Rattle.wi_lookup_functions.proofs.Words.{h_lookup_value}
 use Rattle.wi_lookup_functions.proofs.tables.h_lookup_value.Goals as goal
 
 pub returns-clause-missing : goal.returns-clause-missing

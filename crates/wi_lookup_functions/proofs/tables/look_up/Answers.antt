@@ -1,20 +1,4 @@
-use Rattle.std.specs.Borrow.{Bor}
-use Rattle.wi_values.specs.declared.value.Value.{Value}
-use Rattle.std.proofs.Common.{◌≡◌, ◌<◌, true, Ok, Err, map, sym, ap, ◌∙◌, subst, arith, rules, ℕ, ℤ, Bool, FitsSigned}
-use Rattle.std.proofs.lemmas.Int.{to_z-of_z}
-use Rattle.std.specs.Int.{w128}
-use Rattle.std.specs.Prelude.{ok_or}
-use Rattle.wi_arguments.specs.Arguments.{arguments_in, IsMissing}
-use Rattle.wi_standard_functions.specs.Arguments.{region_of, value_at}
-use Rattle.wi_standard_functions.specs.Convert.{to_whole}
-use Rattle.wi_standard_functions.specs.Lookup.{position_among}
-use Rattle.wi_values.specs.Address.{cells_of, is_within}
-use Rattle.wi_values.specs.declared.value.ErrorKind.TheVariants.{NotAvailable}
-use Rattle.wi_value_functions.specs.declared.ending.Ending.TheVariants.{Error}
-use Rattle.wi_lookup_functions.specs.Inner.Axis.{line_count, line_width, look_up_by}
-use Rattle.wi_lookup_functions.specs.Inner.Finding.{IsMissingIn}
-use Rattle.wi_lookup_functions.specs.Inner.Search.{position_by}
-use Rattle.wi_arguments.proofs.Given.{is_referred, region_is}
+use Rattle.wi_lookup_functions.proofs.Words.{Bor, Value, ◌≡◌, ◌<◌, true, Ok, Err, map, sym, ap, ◌∙◌, subst, arith, rules, ℕ, ℤ, Bool, FitsSigned, to_z-of_z, w128, ok_or, arguments_in, IsMissing, region_of, value_at, to_whole, position_among, cells_of, is_within, NotAvailable, Error, line_count, line_width, look_up_by, IsMissingIn, position_by, is_referred, region_is}
 use Rattle.wi_lookup_functions.proofs.Axes.{along_is, along_within, asked, placed_along}
 use Rattle.wi_lookup_functions.proofs.Chains.{first_cells_in, no_area, no_number, no_order, no_place, no_sought, not_seen, order_in, seen, seen_along, sought_in}
 use Rattle.wi_lookup_functions.proofs.Endings.{ended, finds_so}

@@ -1,4 +1,4 @@
-use Rattle.wi_standard_functions.specs.Lookup.{v_lookup_value}
+use Rattle.wi_lookup_functions.proofs.Words.{v_lookup_value}
 use Rattle.wi_lookup_functions.proofs.tables.v_lookup_value.Goals as goal
 
 pub returns-clause-missing : goal.returns-clause-missing

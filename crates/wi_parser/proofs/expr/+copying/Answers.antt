@@ -1,5 +1,4 @@
-use Rattle.std.proofs.Common.{ap, sym, ◌∙◌}
-use Rattle.wi_parser.specs.View.{tree_of}
+use Rattle.wi_parser.proofs.Words.{ap, sym, ◌∙◌, tree_of}
 use Rattle.wi_parser.proofs.ExprTrees.{copied_more, call_copied, parenthesized_copied, signed_copied, percent_copied, binary_copied}
 use Rattle.wi_parser.proofs.expr.+copying.Goals as goal
 

@@ -1,5 +1,4 @@
-use Rattle.std.proofs.Common.{◌≡◌, take, map}
-use Rattle.wi_parser.specs.View.{tree_of}
+use Rattle.wi_parser.proofs.Words.{◌≡◌, take, map, tree_of}
 use Rattle.wi_parser.proofs.expr.+copying.Given as goal
 
 abbrev pub invariant-all_copied-loop-expr : goal.invariant-all_copied-loop-expr

@@ -1,9 +1,4 @@
-use Rattle.std.proofs.Common.{arith, ap, sym, ◌∙◌, [], ◌∷◌, ◌++◌}
-use Rattle.std.proofs.lemmas.Grind.{common_steps}
-use Rattle.std.specs.List.{flat_map}
-use Rattle.wi_parser.specs.Leaves.{leaves}
-use Rattle.wi_parser.specs.View.{tree_of}
-use Rattle.wi_parser.specs.Reads.{leaf_inputs, leaf_rectangles}
+use Rattle.wi_parser.proofs.Words.{arith, ap, sym, ◌∙◌, [], ◌∷◌, ◌++◌, common_steps, flat_map, leaves, tree_of, leaf_inputs, leaf_rectangles}
 use Rattle.wi_parser.proofs.Appended.{both_appended, same_appended, none_appended, one_appended, what_if_rectangles, what_if_inputs}
 use Rattle.wi_parser.proofs.ExprTrees.{number_leaves, text_leaves, cell_leaves, rectangle_leaves, parenthesized_leaves, signed_leaves, percent_leaves, binary_leaves, what_if_leaves, call_leaves}
 use Rattle.wi_parser.proofs.formula.+leaves.Goals as goal

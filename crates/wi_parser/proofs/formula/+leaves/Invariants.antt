@@ -1,8 +1,4 @@
-use Rattle.std.proofs.Common.{◌≡◌, ◌++◌, drop}
-use Rattle.std.specs.List.{flat_map}
-use Rattle.wi_parser.specs.Leaves.{all_leaves}
-use Rattle.wi_parser.specs.View.{all_of}
-use Rattle.wi_parser.specs.Reads.{leaf_inputs, leaf_rectangles}
+use Rattle.wi_parser.proofs.Words.{◌≡◌, ◌++◌, drop, flat_map, all_leaves, all_of, leaf_inputs, leaf_rectangles}
 use Rattle.wi_parser.proofs.formula.+leaves.Given as goal
 
 abbrev pub invariant-push_all_leaves-loop-tree : goal.invariant-push_all_leaves-loop-tree

@@ -1,5 +1,4 @@
-use Rattle.std.proofs.Common.{arith}
-use Rattle.std.proofs.lemmas.Grind.{common_steps}
+use Rattle.wi_parser.proofs.Words.{arith, common_steps}
 use Rattle.wi_parser.proofs.formula.push_pairs.Goals as goal
 
 pub loop-pair-preserved : goal.loop-pair-preserved

@@ -1,6 +1,4 @@
-use Rattle.std.proofs.Common.{◌≡◌, ◌++◌, map, drop}
-use Rattle.wi_parser.specs.View.{pair_of}
-use Rattle.wi_parser.specs.Reads.{cell_area}
+use Rattle.wi_parser.proofs.Words.{◌≡◌, ◌++◌, map, drop, pair_of, cell_area}
 use Rattle.wi_parser.proofs.formula.push_pairs.Given as goal
 
 abbrev pub invariant-loop-pair : goal.invariant-loop-pair

@@ -1,6 +1,4 @@
-use Rattle.std.proofs.Common.{arith, ◌≡◌, ◌-◌, suc, ap, sym, subst}
-use Rattle.wi_parser.specs.Inner.Reader.{expression}
-use Rattle.wi_parser.specs.Inner.Outcome.{Finds}
+use Rattle.wi_parser.proofs.Words.{arith, ◌≡◌, ◌-◌, suc, ap, sym, subst, expression, Finds}
 use Rattle.wi_parser.proofs.grammar.+expression.Goals as goal
 
 pub returns-then-depth-eq0-clause-finds : goal.returns-then-depth-eq0-clause-finds

@@ -1,8 +1,4 @@
-use Rattle.std.proofs.Common.{rules, tests, sym, ◌∙◌}
-use Rattle.std.proofs.lemmas.Iterator.{YieldsList-from_slice}
-use Rattle.std.proofs.lemmas.Iterator.Search.{any_from_yields_List}
-use Rattle.wi_parser.specs.Symbol.{is_outside}
-use Rattle.wi_parser.specs.Inner.SymbolCode.{meant_by}
+use Rattle.wi_parser.proofs.Words.{rules, tests, sym, ◌∙◌, YieldsList-from_slice, any_from_yields_List, is_outside, meant_by}
 use Rattle.wi_parser.proofs.Refusals.{any_meant}
 use Rattle.wi_parser.proofs.limits.has_outside.Goals as goal
 

@@ -1,4 +1,4 @@
-use Rattle.wi_parser.specs.Inner.SymbolCode.{all_meant}
+use Rattle.wi_parser.proofs.Words.{all_meant}
 use Rattle.wi_parser.proofs.TooDeep.{found_open, found_signs}
 use Rattle.wi_parser.proofs.limits.is_too_deep.Goals as goal
 

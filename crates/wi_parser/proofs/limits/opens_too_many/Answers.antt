@@ -1,7 +1,4 @@
-use Rattle.std.proofs.Common.{rules, arith, ◌≡◌, suc, ◌∷◌, drop, drop-cons, refl, ap, sym, ◌∙◌}
-use Rattle.std.proofs.lemmas.Grind.{common_steps}
-use Rattle.wi_parser.specs.Inner.SymbolCode.{all_meant}
-use Rattle.wi_parser.specs.Inner.Deepest.{deepest}
+use Rattle.wi_parser.proofs.Words.{rules, arith, ◌≡◌, suc, ◌∷◌, drop, drop-cons, refl, ap, sym, ◌∙◌, common_steps, all_meant, deepest}
 use Rattle.wi_parser.proofs.Depth.{least}
 use Rattle.wi_parser.proofs.limits.opens_too_many.Goals as goal
 

@@ -1,7 +1,4 @@
-use Rattle.std.proofs.Common.{◌<◌, ◌≤◌, ◌↔◌, drop}
-use Rattle.wi_parser.specs.Nesting.{max_depth}
-use Rattle.wi_parser.specs.Inner.Deepest.{deepest}
-use Rattle.wi_parser.specs.Inner.SymbolCode.{all_meant}
+use Rattle.wi_parser.proofs.Words.{◌<◌, ◌≤◌, ◌↔◌, drop, max_depth, deepest, all_meant}
 use Rattle.wi_parser.proofs.limits.opens_too_many.Given as goal
 
 abbrev pub invariant-loop-symbol : goal.invariant-loop-symbol

@@ -1,7 +1,4 @@
-use Rattle.std.proofs.Common.{arith, ◌≡◌, suc, ◌∷◌, max, drop, drop-cons, refl, ap, sym, ◌∙◌, if◌then◌else◌}
-use Rattle.std.proofs.lemmas.Grind.{common_steps}
-use Rattle.wi_parser.specs.Inner.SymbolCode.{all_meant}
-use Rattle.wi_parser.specs.Inner.Deepest.{most_signs}
+use Rattle.wi_parser.proofs.Words.{arith, ◌≡◌, suc, ◌∷◌, max, drop, drop-cons, refl, ap, sym, ◌∙◌, if◌then◌else◌, common_steps, all_meant, most_signs}
 use Rattle.wi_parser.proofs.Refusals.{least_signs}
 use Rattle.wi_parser.proofs.limits.repeats_signs.Goals as goal
 

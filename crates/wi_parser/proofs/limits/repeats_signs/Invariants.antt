@@ -1,7 +1,4 @@
-use Rattle.std.proofs.Common.{◌<◌, ◌≤◌, ◌↔◌, drop}
-use Rattle.wi_parser.specs.Nesting.{max_depth}
-use Rattle.wi_parser.specs.Inner.Deepest.{most_signs}
-use Rattle.wi_parser.specs.Inner.SymbolCode.{all_meant}
+use Rattle.wi_parser.proofs.Words.{◌<◌, ◌≤◌, ◌↔◌, drop, max_depth, most_signs, all_meant}
 use Rattle.wi_parser.proofs.limits.repeats_signs.Given as goal
 
 abbrev pub invariant-loop-symbol : goal.invariant-loop-symbol

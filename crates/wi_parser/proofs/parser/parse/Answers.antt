@@ -1,8 +1,4 @@
-use Rattle.std.proofs.Common.{rules, Ok, Err, ap, sym, ◌∙◌, ok_or}
-use Rattle.std.proofs.lemmas.Result.{err_from_is_err_and}
-use Rattle.wi_parser.specs.declared.fault.ParseFault.TheVariants.{Syntax}
-use Rattle.wi_parser.specs.Inner.SymbolCode.{all_meant}
-use Rattle.wi_parser.specs.Limits.{refusal_of}
+use Rattle.wi_parser.proofs.Words.{rules, Ok, Err, ap, sym, ◌∙◌, ok_or, err_from_is_err_and, Syntax, all_meant, refusal_of}
 use Rattle.wi_parser.proofs.FormulaTrees.{read_tree}
 use Rattle.wi_parser.proofs.Parses.{parsed_long, parsed_refused, parsed_whole, reads_as, reads_fault, reads_spelled, reads_only, short_lacks}
 use Rattle.wi_parser.proofs.parser.parse.Goals as goal

@@ -1,18 +1,4 @@
-use Rattle.std.proofs.Common.{rules, arith, ◌≡◌, ◌≤◌, suc, ◌+◌, List, [], ◌∷◌, length, map, ◌++◌, drop, drop-cons, codes, string_bytes, ap, sym, ◌∙◌}
-use Rattle.std.proofs.Transfers.{starts_with_of_eq, starts_with_trans, starts_with_of_append}
-use Rattle.std.proofs.Math.ListN.{drop_of_length-le}
-use Rattle.std.proofs.lemmas.Grind.{common_steps}
-use Rattle.std.proofs.lemmas.Result.{IfOk-from_err}
-use Rattle.wi_lexer.specs.Quoted.{quoted}
-use Rattle.wi_fraction.proofs.Decimals.{starts_joined}
-use Rattle.wi_parser.specs.declared.expr.Expr.{Expr}
-use Rattle.wi_parser.specs.declared.expr.Pair.{Pair}
-use Rattle.wi_parser.specs.Tree.{parenthesized, signed, percent, binary, what_if, call}
-use Rattle.wi_parser.specs.View.{tree_of, all_of, pair_of}
-use Rattle.wi_parser.specs.Printing.{operator_text}
-use Rattle.wi_parser.specs.Inner.SymbolLists.{symbols_text, tree_text}
-use Rattle.wi_parser.specs.Symbol.{written_as}
-use Rattle.wi_parser.specs.Spelling.{spelling_of_all}
+use Rattle.wi_parser.proofs.Words.{rules, arith, ◌≡◌, ◌≤◌, suc, ◌+◌, List, [], ◌∷◌, length, map, ◌++◌, drop, drop-cons, codes, string_bytes, ap, sym, ◌∙◌, starts_with_of_eq, starts_with_trans, starts_with_of_append, drop_of_length-le, common_steps, IfOk-from_err, quoted, starts_joined, Expr, Pair, parenthesized, signed, percent, binary, what_if, call, tree_of, all_of, pair_of, operator_text, symbols_text, tree_text, written_as, spelling_of_all}
 use Rattle.wi_parser.proofs.ExprTrees.{number_tree, text_tree, cell_tree, rectangle_tree, parenthesized_tree, signed_tree, percent_tree, binary_tree, what_if_tree, call_tree}
 use Rattle.wi_parser.proofs.PrintLemmas.{after_written, parenthesized_written, parameter_written, parameters_from, parameters_closed, tree_written, symbol_written, binary_written, percent_written, starts_same, starts_on, starts_still}
 use Rattle.wi_parser.proofs.print.+print.Goals as goal

@@ -1,10 +1,4 @@
-use Rattle.std.proofs.Common.{◌≡◌, ◌++◌, drop, string_bytes}
-use denote.Text.{Utf8}
-use denote.Shadow.{shadow}
-use Rattle.std.specs.Io.{StartsWith}
-use Rattle.wi_parser.specs.View.{all_of}
-use Rattle.wi_parser.specs.Spelling.{spelling_of_all}
-use Rattle.wi_parser.specs.Inner.SymbolLists.{symbols_text}
+use Rattle.wi_parser.proofs.Words.{◌≡◌, ◌++◌, drop, string_bytes, Utf8, shadow, StartsWith, all_of, spelling_of_all, symbols_text}
 use Rattle.wi_parser.proofs.PrintLemmas.{parameters_from}
 use Rattle.wi_parser.proofs.print.+print.Given as goal
 

@@ -1,4 +1,4 @@
-use Rattle.std.proofs.Transfers.{starts_with_of_eq}
+use Rattle.wi_parser.proofs.Words.{starts_with_of_eq}
 use Rattle.wi_parser.proofs.PrintLemmas.{starts_on}
 use Rattle.wi_parser.proofs.print.push_formula.Goals as goal
 

@@ -1,6 +1,4 @@
-use Rattle.std.proofs.Common.{◌≡◌, ◌++◌, drop, string_bytes}
-use Rattle.std.specs.Io.{StartsWith}
-use Rattle.wi_parser.specs.Inner.PrintedParts.{pairs_text}
+use Rattle.wi_parser.proofs.Words.{◌≡◌, ◌++◌, drop, string_bytes, StartsWith, pairs_text}
 use Rattle.wi_parser.proofs.print.push_pairs.Given as goal
 
 -- what is written and the text of the pairs that are left

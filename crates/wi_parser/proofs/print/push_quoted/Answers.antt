@@ -1,10 +1,4 @@
-use Rattle.std.proofs.Common.{rules, ap, sym, subst, ◌∙◌, ◌++◌, ◌∷◌, [], string_bytes, arith}
-use Rattle.std.proofs.Transfers.{starts_with_of_eq}
-use Rattle.std.proofs.lemmas.Grind.{common_steps}
-use Rattle.std.proofs.lemmas.Result.{IfOk-from_err}
-use Rattle.std.specs.Io.{StartsWith}
-use Rattle.std.specs.List.{flat_map}
-use Rattle.wi_lexer.specs.Quoted.{doubled}
+use Rattle.wi_parser.proofs.Words.{rules, ap, sym, subst, ◌∙◌, ◌++◌, ◌∷◌, [], string_bytes, arith, starts_with_of_eq, common_steps, IfOk-from_err, StartsWith, flat_map, doubled}
 use Rattle.wi_parser.proofs.PrintLemmas.{starts_same, starts_more, starts_still}
 use Rattle.wi_parser.proofs.Quotes.{piece_doubled, rest_doubled, piece_written, last_written}
 use Rattle.wi_parser.proofs.print.push_quoted.Goals as goal

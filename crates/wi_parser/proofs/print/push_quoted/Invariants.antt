@@ -1,9 +1,4 @@
-use Rattle.std.proofs.Common.{◌≡◌, ◌++◌, ◌∷◌, [], length, string_bytes}
-use denote.Text.{Utf8}
-use denote.Shadow.{shadow}
-use Rattle.std.specs.Io.{StartsWith}
-use Rattle.std.specs.List.{flat_map}
-use Rattle.wi_lexer.specs.Quoted.{doubled}
+use Rattle.wi_parser.proofs.Words.{◌≡◌, ◌++◌, ◌∷◌, [], length, string_bytes, Utf8, shadow, StartsWith, flat_map, doubled}
 use Rattle.wi_parser.proofs.print.push_quoted.Given as goal
 
 -- what is written and the rest of the content are the whole

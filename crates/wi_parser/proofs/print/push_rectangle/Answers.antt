@@ -1,6 +1,4 @@
-use Rattle.std.proofs.Common.{arith}
-use Rattle.std.proofs.Transfers.{starts_with_of_eq, starts_with_trans}
-use Rattle.std.proofs.lemmas.Grind.{common_steps}
+use Rattle.wi_parser.proofs.Words.{arith, starts_with_of_eq, starts_with_trans, common_steps}
 use Rattle.wi_parser.proofs.PrintLemmas.{starts_same, starts_on, starts_still}
 use Rattle.wi_parser.proofs.print.push_rectangle.Goals as goal
 

@@ -1,6 +1,4 @@
-use Rattle.std.proofs.Common.{arith}
-use Rattle.std.proofs.Transfers.{starts_with_of_eq}
-use Rattle.std.proofs.lemmas.Grind.{common_steps}
+use Rattle.wi_parser.proofs.Words.{arith, starts_with_of_eq, common_steps}
 use Rattle.wi_parser.proofs.PrintLemmas.{starts_on, starts_still}
 use Rattle.wi_parser.proofs.print.push_reference.Goals as goal
 

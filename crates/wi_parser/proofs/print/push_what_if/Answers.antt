@@ -1,4 +1,4 @@
-use Rattle.std.proofs.Transfers.{starts_with_of_eq, starts_with_trans}
+use Rattle.wi_parser.proofs.Words.{starts_with_of_eq, starts_with_trans}
 use Rattle.wi_parser.proofs.PrintLemmas.{starts_on, starts_still, what_if_written}
 use Rattle.wi_parser.proofs.print.push_what_if.Goals as goal
 

@@ -1,14 +1,4 @@
-use Rattle.std.proofs.Common.{List, map, refl, ap, ap₂, sym, ◌∙◌, arith, rules, w64}
-use Rattle.std.proofs.lemmas.Grind.{common_steps}
-use mir.Val.{SFits}
-use Rattle.std.proofs.lemmas.Int.{to_z-of_z}
-use Rattle.std.proofs.lemmas.List.{take_all}
-use Rattle.std.proofs.lemmas.Result.{IfOk-from_err}
-use Rattle.wi_parser.specs.declared.expr.Expr.{Expr}
-use Rattle.wi_parser.specs.declared.expr.Reference.{Reference}
-use Rattle.wi_parser.specs.Tree.{trees_of}
-use Rattle.wi_parser.specs.View.{tree_of}
-use Rattle.wi_parser.specs.Shift.{moved, map_references}
+use Rattle.wi_parser.proofs.Words.{List, map, refl, ap, ap₂, sym, ◌∙◌, arith, rules, w64, common_steps, SFits, to_z-of_z, take_all, IfOk-from_err, Expr, Reference, trees_of, tree_of, moved, map_references}
 use Rattle.wi_parser.proofs.Shifts.{mapped, number_moved, text_moved, cell_moved, rectangle_moved, part_moved, parenthesized_moved, signed_moved, percent_moved, binary_moved, what_if_moved, call_moved}
 use Rattle.wi_parser.proofs.shift.+shift.Goals as goal
 

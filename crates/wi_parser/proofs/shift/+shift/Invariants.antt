@@ -1,6 +1,4 @@
-use Rattle.std.proofs.Common.{◌≡◌, take, map}
-use Rattle.wi_parser.specs.View.{tree_of}
-use Rattle.wi_parser.specs.Shift.{moved, map_references}
+use Rattle.wi_parser.proofs.Words.{◌≡◌, take, map, tree_of, moved, map_references}
 use Rattle.wi_parser.proofs.shift.+shift.Given as goal
 
 abbrev pub invariant-each_shifted-loop-expr : goal.invariant-each_shifted-loop-expr

@@ -1,11 +1,4 @@
-use Rattle.std.proofs.Common.{arith, Bool, map, [], ◌∷◌, refl, ap, ap₂, ◌∙◌, w64}
-use Rattle.std.proofs.lemmas.Grind.{common_steps}
-use Rattle.std.specs.List.{list_all, flat_map}
-use Rattle.std.proofs.lemmas.Int.{to_z-of_z}
-use Rattle.wi_parser.specs.declared.expr.Reference.{Reference}
-use Rattle.wi_parser.specs.Leaves.{leaves, all_leaves}
-use Rattle.wi_parser.specs.Shift.{stays, leaf_references, all_references}
-use Rattle.wi_parser.specs.View.{tree_of, all_of, pair_of}
+use Rattle.wi_parser.proofs.Words.{arith, Bool, map, [], ◌∷◌, refl, ap, ap₂, ◌∙◌, w64, common_steps, list_all, flat_map, to_z-of_z, Reference, leaves, all_leaves, stays, leaf_references, all_references, tree_of, all_of, pair_of}
 use Rattle.wi_parser.proofs.ExprTrees.{parenthesized_leaves, signed_leaves, percent_leaves, binary_leaves, what_if_leaves, call_leaves}
 use Rattle.wi_parser.proofs.Shifts.{both_pass, first_holds, first_fails, number_passes, text_passes, cell_passes, rectangle_passes, same_pass, what_if_passes}
 use Rattle.wi_parser.proofs.shift.+staying.Goals as goal

@@ -1,8 +1,4 @@
-use Rattle.std.proofs.Common.{◌≡◌, drop}
-use Rattle.std.specs.List.{list_all, flat_map}
-use Rattle.wi_parser.specs.Leaves.{all_leaves}
-use Rattle.wi_parser.specs.View.{all_of}
-use Rattle.wi_parser.specs.Shift.{stays, leaf_references}
+use Rattle.wi_parser.proofs.Words.{◌≡◌, drop, list_all, flat_map, all_leaves, all_of, stays, leaf_references}
 use Rattle.wi_parser.proofs.shift.+staying.Given as goal
 
 abbrev pub invariant-each_stays-loop-expr : goal.invariant-each_stays-loop-expr

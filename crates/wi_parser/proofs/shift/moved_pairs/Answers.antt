@@ -1,10 +1,4 @@
-use Rattle.std.proofs.Common.{List, [], ◌∷◌, ◌++◌, map, take, sym, ap, ap₂, ◌∙◌, arith, w64, to_z, of_z}
-use Rattle.std.proofs.lemmas.Int.{to_z-of_z}
-use Rattle.std.proofs.lemmas.List.{take_all, take_more}
-use Rattle.wi_parser.specs.declared.expr.Pair.{Pair}
-use Rattle.wi_parser.specs.declared.expr.Reference.{Reference}
-use Rattle.wi_parser.specs.Shift.{moved}
-use Rattle.wi_parser.specs.View.{pair_of}
+use Rattle.wi_parser.proofs.Words.{List, [], ◌∷◌, ◌++◌, map, take, sym, ap, ap₂, ◌∙◌, arith, w64, to_z, of_z, to_z-of_z, take_all, take_more, Pair, Reference, moved, pair_of}
 use Rattle.wi_parser.proofs.Shifts.{pairs_more}
 use Rattle.wi_parser.proofs.shift.moved_pairs.Goals as goal
 

@@ -1,5 +1,4 @@
-use Rattle.std.proofs.Common.{◌≡◌, map, take}
-use Rattle.wi_parser.specs.View.{pair_of}
+use Rattle.wi_parser.proofs.Words.{◌≡◌, map, take, pair_of}
 use Rattle.wi_parser.specs.Shift as shift
 use Rattle.wi_parser.proofs.shift.moved_pairs.Given as goal
 

@@ -1,11 +1,4 @@
-use Rattle.std.proofs.Common.{rules, tests, ◌&&◌, map, sym, ◌∙◌}
-use Rattle.std.proofs.lemmas.Iterator.{YieldsList-from_slice}
-use Rattle.std.proofs.lemmas.Iterator.Search.{all_from_yields_List}
-use Rattle.std.proofs.lemmas.List.Folds.{list_all-map}
-use Rattle.wi_parser.specs.declared.expr.Pair.{Pair}
-use Rattle.wi_parser.specs.declared.expr.Reference.{Reference}
-use Rattle.wi_parser.specs.View.{pair_of}
-use Rattle.wi_parser.specs.Shift.{stays}
+use Rattle.wi_parser.proofs.Words.{rules, tests, ◌&&◌, map, sym, ◌∙◌, YieldsList-from_slice, all_from_yields_List, list_all-map, Pair, Reference, pair_of, stays}
 use Rattle.wi_parser.proofs.Shifts.{pairs_pass}
 use Rattle.wi_parser.proofs.shift.pairs_stay.Goals as goal
 

@@ -1,4 +1,4 @@
-use Rattle.std.proofs.Common.{rules}
+use Rattle.wi_parser.proofs.Words.{rules}
 use Rattle.wi_parser.proofs.shift.part.Goals as goal
 
 pub returns-clause-value : goal.returns-clause-value

@@ -1,8 +1,5 @@
-use Rattle.std.proofs.Common.{◌∷◌, ◌++◌, append-nil, ap, sym, ◌∙◌, arith}
-use Rattle.std.proofs.lemmas.Grind.{common_steps}
-use Rattle.wi_parser.specs.Inner.SymbolCode.{all_meant}
+use Rattle.wi_parser.proofs.Words.{◌∷◌, ◌++◌, append-nil, ap, sym, ◌∙◌, arith, common_steps, all_meant, next_shortens, token_is}
 use Rattle.wi_parser.proofs.Collected.{left, left_next, left_bad, left_end, pushed}
-use Rattle.wi_lexer.proofs.CallerLemmas.{next_shortens, token_is}
 use Rattle.wi_parser.proofs.tokens.push_symbols.Goals as goal
 
 pub loop-next-smaller-in_ok-push-in-Ok : goal.loop-next-smaller-in_ok-push-in-Ok

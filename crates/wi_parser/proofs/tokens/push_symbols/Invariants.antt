@@ -1,7 +1,4 @@
-use Rattle.std.proofs.Common.{◌≡◌, ◌++◌, length}
-use Rattle.wi_lexer.specs.Inner.Tokens.{tokens}
-use Rattle.wi_parser.specs.Inner.FormulaText.{symbols_of}
-use Rattle.wi_parser.specs.Inner.SymbolCode.{all_meant}
+use Rattle.wi_parser.proofs.Words.{◌≡◌, ◌++◌, length, tokens, symbols_of, all_meant}
 use Rattle.wi_parser.proofs.tokens.push_symbols.Given as goal
 
 abbrev pub invariant-loop-next : goal.invariant-loop-next

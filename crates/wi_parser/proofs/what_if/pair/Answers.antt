@@ -1,6 +1,4 @@
-use Rattle.std.proofs.Common.{rules, arith}
-use Rattle.std.proofs.lemmas.Grind.{common_steps}
-use Rattle.wi_parser.specs.Inner.Reader.{pair_at}
+use Rattle.wi_parser.proofs.Words.{rules, arith, common_steps, pair_at}
 use Rattle.wi_parser.proofs.what_if.pair.Goals as goal
 
 pub returns-clause-finds : goal.returns-clause-finds

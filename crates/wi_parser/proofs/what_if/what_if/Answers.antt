@@ -1,7 +1,4 @@
-use Rattle.std.proofs.Common.{arith, length, Some, ap, sym, ◌∙◌, ◌∷◌, [], option_and_then, option_map}
-use Rattle.wi_parser.specs.Tree.{what_if}
-use Rattle.wi_parser.specs.Inner.Reader.{then_close}
-use Rattle.wi_parser.specs.View.{pair_of}
+use Rattle.wi_parser.proofs.Words.{arith, length, Some, ap, sym, ◌∙◌, ◌∷◌, [], option_and_then, option_map, what_if, then_close, pair_of}
 use Rattle.wi_parser.proofs.Marks.{close-length}
 use Rattle.wi_parser.proofs.WhatIfs.{no_cell, no_pair, one_pair, second_pair}
 use Rattle.wi_parser.proofs.what_if.what_if.Goals as goal

@@ -1,5 +1,4 @@
-use Rattle.std.proofs.Common.{rules, ◌∙◌, ap, length, nat_lt, subst, sym}
-use Rattle.wi_ranges.specs.Inner.Index.{AreWhole, bag_of}
+use Rattle.wi_ranges.proofs.Words.{rules, ◌∙◌, ap, length, nat_lt, subst, sym, AreWhole, bag_of}
 use Rattle.wi_ranges.proofs.BagLemmas.{put, refused}
 use Rattle.wi_ranges.proofs.bag.add_numbered.Goals as goal
 

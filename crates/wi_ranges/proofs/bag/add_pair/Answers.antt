@@ -1,10 +1,4 @@
-use Rattle.std.proofs.Common.{◌≡◌, ◌≤◌, ℕ, ◌∙◌, nat_lt, not, true, List, subst, arith}
-use Rattle.std.proofs.lemmas.Bool.Decides.{nat_tests}
-use Rattle.std.proofs.lemmas.Result.{err_from_is_err_and}
-use Rattle.wi_values.proofs.Outcomes.{on_err}
-use Rattle.wi_ranges.specs.Bag.{Bag, HasOneMore}
-use Rattle.wi_ranges.specs.Inner.Index.{bag_of, is_among}
-use Rattle.wi_ranges.specs.declared.block.Block.{Block}
+use Rattle.wi_ranges.proofs.Words.{◌≡◌, ◌≤◌, ℕ, ◌∙◌, nat_lt, not, true, List, subst, arith, nat_tests, err_from_is_err_and, on_err, Bag, HasOneMore, bag_of, is_among, Block}
 use Rattle.wi_ranges.proofs.First.{row_there}
 use Rattle.wi_ranges.proofs.bag.add_pair.Goals as goal
 

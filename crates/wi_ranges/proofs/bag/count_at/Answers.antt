@@ -1,4 +1,4 @@
-use Rattle.std.proofs.Common.{◌<◌, ◌≤◌, ◌∙◌, length, sym, arith}
+use Rattle.wi_ranges.proofs.Words.{◌<◌, ◌≤◌, ◌∙◌, length, sym, arith}
 use Rattle.wi_ranges.proofs.Counts.{last_counts, last_number, none_last, other_last}
 use Rattle.wi_ranges.proofs.bag.count_at.Goals as goal
 

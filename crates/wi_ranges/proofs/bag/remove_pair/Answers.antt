@@ -1,7 +1,4 @@
-use Rattle.std.proofs.Common.{◌≡◌, ◌+◌, ◌-◌, arith}
-use Rattle.wi_ranges.specs.Bag.{count_of}
-use Rattle.wi_ranges.specs.Inner.Index.{bag_of}
-use Rattle.wi_ranges.specs.declared.pair.Numbered.{Numbered}
+use Rattle.wi_ranges.proofs.Words.{◌≡◌, ◌+◌, ◌-◌, arith, count_of, bag_of, Numbered}
 use Rattle.wi_ranges.proofs.BagLemmas.{has_one_less, lost, whole_less}
 use Rattle.wi_ranges.proofs.First.{row_there}
 use Rattle.wi_ranges.proofs.bag.remove_pair.Goals as goal

@@ -1,5 +1,4 @@
-use Rattle.std.specs.Ordering.{nat_cmp}
-use Rattle.std.specs.BTreeSet.{contains}
+use Rattle.wi_ranges.proofs.Words.{nat_cmp, contains}
 use Rattle.wi_ranges.proofs.FewLemmas.{one_more_in}
 use Rattle.wi_ranges.proofs.few.insert_all.Goals as goal
 

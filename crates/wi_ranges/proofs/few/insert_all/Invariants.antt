@@ -1,7 +1,4 @@
-use Rattle.std.proofs.Common.{◌≡◌, ◌||◌, ℕ, take}
-use Rattle.std.specs.Ordering.{nat_cmp}
-use Rattle.std.specs.BTreeSet.{contains}
-use Rattle.wi_ranges.specs.Inner.Rising.{has_cell}
+use Rattle.wi_ranges.proofs.Words.{◌≡◌, ◌||◌, ℕ, take, nat_cmp, contains, has_cell}
 use Rattle.wi_ranges.proofs.few.insert_all.Given as goal
 
 abbrev pub invariant-loop-cell : goal.invariant-loop-cell

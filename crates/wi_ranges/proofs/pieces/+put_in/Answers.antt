@@ -1,9 +1,4 @@
-use Rattle.std.proofs.lemmas.Result.{err_from_is_err_and}
-use Rattle.std.specs.List.Sorted.{IsStrictlySortedBy}
-use Rattle.wi_ranges.specs.Inner.Index.{Piece, piece_cmp, has_piece}
-use Rattle.std.proofs.Common.{List, ap, subst, ◌≡◌, [], ◌+◌, ◌-◌, ◌^◌, sym, ◌∙◌, arith, refl, true}
-use Rattle.wi_values.proofs.Outcomes.{on_err}
-use Rattle.wi_ranges.specs.Blocks.{block, blocks_in, first_row, last_row}
+use Rattle.wi_ranges.proofs.Words.{err_from_is_err_and, IsStrictlySortedBy, Piece, piece_cmp, has_piece, List, ap, subst, ◌≡◌, [], ◌+◌, ◌-◌, ◌^◌, sym, ◌∙◌, arith, refl, true, on_err, block, blocks_in, first_row, last_row}
 use Rattle.wi_ranges.proofs.BlockLemmas.{blocks_within-apart, blocks_within-row, halves_of}
 use Rattle.wi_ranges.proofs.Apart.{halves_apart}
 use Rattle.wi_ranges.proofs.PieceLemmas.{absent_here, absent_lower, absent_upper, gains_here, gains_both, gains_none, told_here, stays_told, kept_here, told_both, kept_both, kept_first, piece_of_none}

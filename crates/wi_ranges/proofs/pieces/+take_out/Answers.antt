@@ -1,5 +1,4 @@
-use Rattle.std.proofs.Common.{◌≡◌, [], sym, ◌∙◌, arith, false}
-use Rattle.wi_ranges.specs.Blocks.{blocks_in, first_row, last_row}
+use Rattle.wi_ranges.proofs.Words.{◌≡◌, [], sym, ◌∙◌, arith, false, blocks_in, first_row, last_row}
 use Rattle.wi_ranges.proofs.BlockLemmas.{blocks_within-apart, blocks_within-row, halves_of}
 use Rattle.wi_ranges.proofs.Apart.{halves_apart}
 use Rattle.wi_ranges.proofs.PieceLemmas.{loses_here, loses_both, gains_none, told_here, stays_told, kept_here, told_both, kept_both, piece_of_none}

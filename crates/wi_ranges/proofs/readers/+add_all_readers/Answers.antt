@@ -1,10 +1,4 @@
-use Rattle.std.proofs.Common.{◌∙◌, ◌||◌, List, ap, sym, arith}
-use Rattle.std.specs.Ordering.{nat_cmp}
-use Rattle.std.specs.List.{list_any}
-use Rattle.std.specs.BTreeSet.{contains}
-use Rattle.wi_ranges.specs.declared.block.Block.{Block}
-use Rattle.wi_ranges.specs.Blocks.{blocks_with}
-use Rattle.wi_ranges.specs.Inner.Index.{reads_at}
+use Rattle.wi_ranges.proofs.Words.{◌∙◌, ◌||◌, List, ap, sym, arith, nat_cmp, list_any, contains, Block, blocks_with, reads_at}
 use Rattle.wi_ranges.proofs.BlockLemmas.{half_of, blocks_with-row}
 use Rattle.wi_ranges.proofs.ReaderLemmas.{readers_more}
 use Rattle.wi_ranges.proofs.readers.+add_all_readers.Goals as goal

@@ -1,9 +1,4 @@
-use Rattle.std.proofs.Common.{◌∙◌, ◌∷◌, [], List, true, false, ap, sym, refl, arith}
-use Rattle.std.specs.List.{list_any}
-use Rattle.std.proofs.lemmas.Bool.{true≢false, or_right}
-use Rattle.wi_ranges.specs.declared.block.Block.{Block}
-use Rattle.wi_ranges.specs.Blocks.{blocks_with}
-use Rattle.wi_ranges.specs.Inner.Index.{reads_at}
+use Rattle.wi_ranges.proofs.Words.{◌∙◌, ◌∷◌, [], List, true, false, ap, sym, refl, arith, list_any, true≢false, or_right, Block, blocks_with, reads_at}
 use Rattle.wi_ranges.proofs.BlockLemmas.{half_of, blocks_with-row}
 use Rattle.wi_ranges.proofs.Found.{first_with}
 use Rattle.wi_ranges.proofs.ReaderLemmas.{readers_more, passes_not}

@@ -1,13 +1,4 @@
-use Rattle.std.proofs.Common.{◌||◌, ◌∷◌, [], ◌∙◌, ap, sym, subst, refl, filter}
-use Rattle.std.proofs.lemmas.Result.{err_from_is_err_and}
-use Rattle.std.specs.Ordering.{nat_cmp}
-use Rattle.std.specs.BTreeSet.{contains}
-use Rattle.std.specs.List.{list_any}
-use Rattle.std.specs.BTreeMap.Range.{range_contains}
-use Rattle.std.specs.declared.ops.Bound.TheVariants.{Included, Unbounded}
-use Rattle.wi_values.proofs.Lists.{one_less}
-use Rattle.wi_ranges.specs.declared.pair.Numbered.{Numbered}
-use Rattle.wi_ranges.specs.Inner.Index.{piece_cmp, reads_at}
+use Rattle.wi_ranges.proofs.Words.{◌||◌, ◌∷◌, [], ◌∙◌, ap, sym, subst, refl, filter, err_from_is_err_and, nat_cmp, contains, list_any, range_contains, Included, Unbounded, one_less, Numbered, piece_cmp, reads_at}
 use Rattle.wi_ranges.proofs.ReaderLemmas.{AreFirst, come_first, found_all, found_to_block, found_no_more, found_one_more, first_left}
 use Rattle.wi_ranges.proofs.readers.add_readers.Goals as goal
 

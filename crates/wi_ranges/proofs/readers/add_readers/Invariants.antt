@@ -1,8 +1,4 @@
-use Rattle.std.proofs.Common.{◌≡◌, ◌||◌, ◌∷◌, [], ℕ}
-use Rattle.std.specs.Ordering.{nat_cmp}
-use Rattle.std.specs.List.{list_any}
-use Rattle.std.specs.BTreeSet.{contains}
-use Rattle.wi_ranges.specs.Inner.Index.{reads_at}
+use Rattle.wi_ranges.proofs.Words.{◌≡◌, ◌||◌, ◌∷◌, [], ℕ, nat_cmp, list_any, contains, reads_at}
 use Rattle.wi_ranges.proofs.ReaderLemmas.{AreFirst}
 use Rattle.wi_ranges.proofs.readers.add_readers.Given as goal
 

@@ -1,11 +1,4 @@
-use Rattle.std.proofs.Common.{◌∷◌, [], ◌∙◌, true, false, ap, sym, subst, refl, filter}
-use Rattle.std.proofs.lemmas.Bool.{true≢false, eq-eqb}
-use Rattle.std.specs.List.{list_any}
-use Rattle.std.specs.BTreeMap.Range.{range_contains}
-use Rattle.std.specs.declared.ops.Bound.TheVariants.{Included, Unbounded}
-use Rattle.wi_values.proofs.Lists.{one_less}
-use Rattle.wi_ranges.specs.declared.pair.Numbered.{Numbered}
-use Rattle.wi_ranges.specs.Inner.Index.{piece_cmp, reads_at}
+use Rattle.wi_ranges.proofs.Words.{◌∷◌, [], ◌∙◌, true, false, ap, sym, subst, refl, filter, true≢false, eq-eqb, list_any, range_contains, Included, Unbounded, one_less, Numbered, piece_cmp, reads_at}
 use Rattle.wi_ranges.proofs.ReaderLemmas.{AreFirst, come_first, found_all, found_to_block, found_no_more, found_one_more, read_here, first_left}
 use Rattle.wi_ranges.proofs.readers.has_readers_at.Goals as goal
 

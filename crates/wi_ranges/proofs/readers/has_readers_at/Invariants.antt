@@ -1,6 +1,4 @@
-use Rattle.std.proofs.Common.{◌≡◌, ◌∷◌, [], ℕ}
-use Rattle.std.specs.List.{list_any}
-use Rattle.wi_ranges.specs.Inner.Index.{reads_at}
+use Rattle.wi_ranges.proofs.Words.{◌≡◌, ◌∷◌, [], ℕ, list_any, reads_at}
 use Rattle.wi_ranges.proofs.ReaderLemmas.{AreFirst}
 use Rattle.wi_ranges.proofs.readers.has_readers_at.Given as goal
 

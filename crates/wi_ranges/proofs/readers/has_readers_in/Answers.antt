@@ -1,10 +1,4 @@
-use Rattle.std.proofs.Common.{◌≡◌, ◌∙◌, ℕ, List, ap, sym}
-use Rattle.std.specs.List.{list_any}
-use Rattle.std.proofs.lemmas.Bool.{true≢false}
-use Rattle.std.proofs.lemmas.List.{nil_from_length}
-use Rattle.wi_values.specs.Address.{row_of}
-use Rattle.wi_ranges.specs.Blocks.{blocks_with}
-use Rattle.wi_ranges.specs.Inner.Index.{Piece, reads_at}
+use Rattle.wi_ranges.proofs.Words.{◌≡◌, ◌∙◌, ℕ, List, ap, sym, list_any, true≢false, nil_from_length, row_of, blocks_with, Piece, reads_at}
 use Rattle.wi_ranges.proofs.readers.has_readers_in.Goals as goal
 
 pub returns-then-is_empty-clause-read : goal.returns-then-is_empty-clause-read

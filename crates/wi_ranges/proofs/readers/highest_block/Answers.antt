@@ -1,5 +1,4 @@
-use Rattle.std.proofs.Common.{◌∙◌, arith}
-use Rattle.wi_ranges.specs.Blocks.{blocks_with}
+use Rattle.wi_ranges.proofs.Words.{◌∙◌, arith, blocks_with}
 use Rattle.wi_ranges.proofs.BlockLemmas.{half_of}
 use Rattle.wi_ranges.proofs.Levels.{below_level}
 use Rattle.wi_ranges.proofs.readers.highest_block.Goals as goal

@@ -1,8 +1,4 @@
-use Rattle.std.proofs.Common.{◌-◌, ◌≡◌, ◌+◌, ◌^◌, ◌≤◌, ℕ}
-use Rattle.std.specs.List.{list_any}
-use Rattle.wi_values.specs.Address.{rows}
-use Rattle.wi_ranges.specs.Blocks.{blocks_with}
-use Rattle.wi_ranges.specs.Inner.Index.{reads_at}
+use Rattle.wi_ranges.proofs.Words.{◌-◌, ◌≡◌, ◌+◌, ◌^◌, ◌≤◌, ℕ, list_any, rows, blocks_with, reads_at}
 use Rattle.wi_ranges.proofs.readers.highest_block.Given as goal
 
 -- below the block stands all that stands at the blocks that hold the row

@@ -1,4 +1,4 @@
-use Rattle.std.proofs.Common.{rules}
+use Rattle.wi_ranges.proofs.Words.{rules}
 use Rattle.wi_ranges.proofs.Levels.{up_to_last}
 use Rattle.wi_ranges.proofs.readers.highest_level.Goals as goal
 

@@ -1,4 +1,4 @@
-use Rattle.std.proofs.Common.{◌∙◌}
+use Rattle.wi_ranges.proofs.Words.{◌∙◌}
 use Rattle.wi_ranges.proofs.RisingLemmas.{search_tells}
 use Rattle.wi_ranges.proofs.rising_set.is_among.Goals as goal
 

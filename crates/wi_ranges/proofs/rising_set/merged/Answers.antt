@@ -1,8 +1,4 @@
-use Rattle.std.proofs.Common.{◌≡◌, ◌++◌, rules}
-use Rattle.std.proofs.lemmas.List.Filters.{dedup_is}
-use Rattle.std.proofs.lemmas.Iterator.Adapters.{items_from_extend}
-use Rattle.std.proofs.lemmas.Iterator.Consumers.{YieldsList-from_copied, YieldsList-from_rest}
-use Rattle.std.proofs.lemmas.Map.Keys.{IsStrictlyIncreasing-dedup}
+use Rattle.wi_ranges.proofs.Words.{◌≡◌, ◌++◌, rules, dedup_is, items_from_extend, YieldsList-from_copied, YieldsList-from_rest, IsStrictlyIncreasing-dedup}
 use Rattle.wi_ranges.proofs.RisingLemmas.{sorted_once}
 use Rattle.wi_ranges.proofs.rising_set.merged.Goals as goal
 

@@ -1,6 +1,4 @@
-use Rattle.std.proofs.Common.{◌≡◌, IsTrue, false, sym}
-use Rattle.std.proofs.lemmas.Result.{IfOk-weaker, on_err_weaker}
-use Rattle.wi_ranges.specs.Inner.Singles.{pairs_of, HasPairMore}
+use Rattle.wi_ranges.proofs.Words.{◌≡◌, IsTrue, false, sym, IfOk-weaker, on_err_weaker, pairs_of, HasPairMore}
 use Rattle.wi_ranges.proofs.ByCell.{more_of_few, more_of_new, same_few, single_is}
 use Rattle.wi_ranges.proofs.singles.add_reader.Goals as goal
 

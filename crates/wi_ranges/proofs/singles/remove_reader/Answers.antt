@@ -1,6 +1,4 @@
-use Rattle.std.proofs.Common.{rules, nat_eq, refl, sym}
-use Rattle.std.specs.List.Sorted.{IsPermutation}
-use Rattle.std.specs.Map.{remove_entry}
+use Rattle.wi_ranges.proofs.Words.{rules, nat_eq, refl, sym, IsPermutation, remove_entry}
 use Rattle.wi_ranges.proofs.ByCell.{less_of_few, less_of_one, no_single, none_in_few, none_without, same_few, single_is}
 use Rattle.wi_ranges.proofs.singles.remove_reader.Goals as goal
 

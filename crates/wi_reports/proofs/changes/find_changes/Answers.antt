@@ -1,12 +1,4 @@
-use Rattle.std.proofs.Common.{ℕ, ◌+◌, List, ◌∙◌, length, ap, rules, arith}
-use Rattle.std.proofs.lemmas.Grind.{common_steps}
-use Rattle.std.specs.List.{sum_by}
-use Rattle.wi_values.specs.declared.replacement.Replacement.{Replacement}
-use Rattle.wi_store.specs.Store.{Stored}
-use Rattle.wi_sheet.specs.Shown.{shown}
-use Rattle.wi_sheet.specs.Demand.{demanded, wants}
-use Rattle.wi_sessions.specs.Pictures.Laws.{changes_among}
-use Rattle.wi_reports.specs.Looks.{evaluations_for, restarts_for}
+use Rattle.wi_reports.proofs.Words.{ℕ, ◌+◌, List, ◌∙◌, length, ap, rules, arith, common_steps, sum_by, Replacement, Stored, shown, demanded, wants, changes_among, evaluations_for, restarts_for}
 use Rattle.wi_reports.proofs.ChangeLemmas.{not_none, one_looked, one_counted, all_counted}
 use Rattle.wi_reports.proofs.changes.find_changes.Goals as goal
 

@@ -1,7 +1,4 @@
-use Rattle.std.proofs.Common.{◌≡◌, ◌≤◌, ◌+◌, ◌++◌, [], drop}
-use Rattle.wi_sheet.specs.Shown.{shown}
-use Rattle.wi_sessions.specs.Pictures.Laws.{changes_among}
-use Rattle.wi_reports.specs.Looks.{evaluations_for, restarts_for}
+use Rattle.wi_reports.proofs.Words.{◌≡◌, ◌≤◌, ◌+◌, ◌++◌, [], drop, shown, changes_among, evaluations_for, restarts_for}
 use Rattle.wi_reports.proofs.changes.find_changes.Given as goal
 
 -- what was found, with what is still to come, is all

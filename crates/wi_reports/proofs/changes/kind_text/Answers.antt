@@ -1,4 +1,4 @@
-use Rattle.std.proofs.Common.{rules}
+use Rattle.wi_reports.proofs.Words.{rules}
 use Rattle.wi_reports.proofs.changes.kind_text.Goals as goal
 
 pub returns-in-Text : goal.returns-in-Text

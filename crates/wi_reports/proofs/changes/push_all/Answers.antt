@@ -1,6 +1,4 @@
-use Rattle.std.proofs.Common.{arith}
-use Rattle.std.proofs.lemmas.Grind.{common_steps}
-use Rattle.std.proofs.Transfers.{starts_with_trans}
+use Rattle.wi_reports.proofs.Words.{arith, common_steps, starts_with_trans}
 use Rattle.wi_reports.proofs.changes.push_all.Goals as goal
 
 pub loop-change-preserved : goal.loop-change-preserved

@@ -1,6 +1,4 @@
-use Rattle.std.proofs.Common.{◌≡◌, ◌++◌, drop}
-use Rattle.std.specs.Io.{StartsWith}
-use Rattle.wi_reports.specs.Changes.{change_records}
+use Rattle.wi_reports.proofs.Words.{◌≡◌, ◌++◌, drop, StartsWith, change_records}
 use Rattle.wi_reports.proofs.changes.push_all.Given as goal
 
 -- the records before this change are written

@@ -1,5 +1,4 @@
-use Rattle.wi_csv.proofs.Growth.{starts_itself}
-use Rattle.wi_fraction.proofs.Decimals.{starts_joined}
+use Rattle.wi_reports.proofs.Words.{starts_itself, starts_joined}
 use Rattle.wi_reports.proofs.changes.push_change.Goals as goal
 
 pub returns-clause-kept : goal.returns-clause-kept

@@ -1,5 +1,4 @@
-use Rattle.std.proofs.Common.{sym, ◌∙◌}
-use Rattle.wi_fraction.specs.Arithmetic.{sum_of, negated}
+use Rattle.wi_reports.proofs.Words.{sym, ◌∙◌, sum_of, negated}
 use Rattle.wi_reports.proofs.Differences.{that_fits, too_large}
 use Rattle.wi_reports.proofs.compare.difference.Goals as goal
 

@@ -1,9 +1,4 @@
-use Rattle.std.proofs.Common.{◌+◌, ◌-◌, ◌∙◌, arith}
-use Rattle.std.proofs.lemmas.Grind.{common_steps}
-use Rattle.std.specs.List.{flat_map}
-use Rattle.std.proofs.Transfers.{starts_with_trans}
-use Rattle.wi_values.specs.Address.{cells_of_row}
-use Rattle.wi_reports.specs.Inner.Parts.{cell_compared}
+use Rattle.wi_reports.proofs.Words.{◌+◌, ◌-◌, ◌∙◌, arith, common_steps, flat_map, starts_with_trans, cells_of_row, cell_compared}
 use Rattle.wi_reports.proofs.RowLemmas.{all_rows}
 use Rattle.wi_reports.proofs.CompareLemmas.{one_more_row}
 use Rattle.wi_reports.proofs.compare.push_all.Goals as goal

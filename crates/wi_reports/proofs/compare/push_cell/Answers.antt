@@ -1,6 +1,4 @@
-use Rattle.std.proofs.Common.{◌∙◌}
-use Rattle.wi_csv.proofs.Growth.{starts_itself}
-use Rattle.wi_fraction.proofs.Decimals.{starts_joined}
+use Rattle.wi_reports.proofs.Words.{◌∙◌, starts_itself, starts_joined}
 use Rattle.wi_reports.proofs.compare.push_cell.Goals as goal
 
 pub push_compared-requires : goal.push_compared-requires

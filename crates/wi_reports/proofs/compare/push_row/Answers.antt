@@ -1,7 +1,4 @@
-use Rattle.std.proofs.Common.{◌+◌, ◌-◌, ◌∙◌, arith}
-use Rattle.std.proofs.lemmas.Grind.{common_steps}
-use Rattle.std.proofs.Transfers.{starts_with_trans}
-use Rattle.wi_reports.specs.Inner.Parts.{cell_compared}
+use Rattle.wi_reports.proofs.Words.{◌+◌, ◌-◌, ◌∙◌, arith, common_steps, starts_with_trans, cell_compared}
 use Rattle.wi_reports.proofs.CompareLemmas.{one_cell, all_cells}
 use Rattle.wi_reports.proofs.compare.push_row.Goals as goal
 

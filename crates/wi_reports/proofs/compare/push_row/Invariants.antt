@@ -1,7 +1,4 @@
-use Rattle.std.proofs.Common.{◌≡◌, ◌≤◌, ◌+◌, ◌-◌, ◌++◌}
-use Rattle.std.specs.Io.{StartsWith}
-use Rattle.std.specs.List.{flat_map}
-use Rattle.wi_reports.specs.Inner.Parts.{cell_compared}
+use Rattle.wi_reports.proofs.Words.{◌≡◌, ◌≤◌, ◌+◌, ◌-◌, ◌++◌, StartsWith, flat_map, cell_compared}
 use Rattle.wi_reports.proofs.RowLemmas.{cells_in}
 use Rattle.wi_reports.proofs.compare.push_row.Given as goal
 

@@ -1,9 +1,4 @@
-use Rattle.std.proofs.Common.{◌≡◌, ℕ, List, ◌++◌, Some, Result, Ok, Err, OnOk, is_ok, if◌then◌else◌, sym, ap, ◌∙◌, append_assoc}
-use Rattle.std.specs.Prelude.{codes}
-use Rattle.wi_values.specs.declared.value.Value.{Value}
-use Rattle.wi_values.specs.declared.value.Value.TheVariants.{Text}
-use Rattle.wi_parser.specs.declared.content.Content.TheVariants.{Constant}
-use Rattle.wi_reports.specs.Contents.{content_text}
+use Rattle.wi_reports.proofs.Words.{◌≡◌, ℕ, List, ◌++◌, Some, Result, Ok, Err, OnOk, is_ok, if◌then◌else◌, sym, ap, ◌∙◌, append_assoc, codes, Value, Text, Constant, content_text}
 use Rattle.wi_reports.proofs.contents.push_constant.Goals as goal
 
 -- a text behind its apostrophe

@@ -1,5 +1,4 @@
-use Rattle.std.proofs.Common.{arith}
-use Rattle.std.proofs.lemmas.Grind.{common_steps}
+use Rattle.wi_reports.proofs.Words.{arith, common_steps}
 use Rattle.wi_reports.proofs.export.lines_in.Goals as goal
 
 pub returns : goal.returns

@@ -1,6 +1,4 @@
-use Rattle.std.proofs.Common.{arith}
-use Rattle.std.proofs.lemmas.Grind.{common_steps}
-use Rattle.wi_csv.proofs.Growth.{starts_itself, starts_after, starts_same}
+use Rattle.wi_reports.proofs.Words.{arith, common_steps, starts_itself, starts_after, starts_same}
 use Rattle.wi_reports.proofs.RowLemmas.{starts_either}
 use Rattle.wi_reports.proofs.export.push_all.Goals as goal
 

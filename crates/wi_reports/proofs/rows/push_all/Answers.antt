@@ -1,8 +1,4 @@
-use Rattle.std.proofs.Common.{◌+◌, ◌-◌, ◌∙◌, arith}
-use Rattle.std.proofs.lemmas.Grind.{common_steps}
-use Rattle.std.specs.List.{flat_map}
-use Rattle.std.proofs.Transfers.{starts_with_trans}
-use Rattle.wi_reports.specs.Inner.Parts.{row_shown}
+use Rattle.wi_reports.proofs.Words.{◌+◌, ◌-◌, ◌∙◌, arith, common_steps, flat_map, starts_with_trans, row_shown}
 use Rattle.wi_reports.proofs.RowLemmas.{rows_more, all_rows}
 use Rattle.wi_reports.proofs.rows.push_all.Goals as goal
 

@@ -1,7 +1,4 @@
-use Rattle.std.proofs.Common.{◌≡◌, ◌≤◌, ◌+◌, ◌-◌, ◌++◌}
-use Rattle.std.specs.Io.{StartsWith}
-use Rattle.std.specs.List.{flat_map, range_with_len}
-use Rattle.wi_reports.specs.Inner.Parts.{row_shown}
+use Rattle.wi_reports.proofs.Words.{◌≡◌, ◌≤◌, ◌+◌, ◌-◌, ◌++◌, StartsWith, flat_map, range_with_len, row_shown}
 use Rattle.wi_reports.proofs.rows.push_all.Given as goal
 
 -- the records before this row are written

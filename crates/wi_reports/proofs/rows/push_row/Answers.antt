@@ -1,8 +1,4 @@
-use Rattle.std.specs.Prelude.{string_bytes}
-use Rattle.wi_values.specs.Address.{cells_of_row}
-use Rattle.wi_csv.proofs.Growth.{starts_itself}
-use Rattle.wi_fraction.proofs.Decimals.{starts_joined}
-use Rattle.wi_reports.specs.Rows.{text_under}
+use Rattle.wi_reports.proofs.Words.{string_bytes, cells_of_row, starts_itself, starts_joined, text_under}
 use Rattle.wi_reports.proofs.RowLemmas.{row_done}
 use Rattle.wi_reports.proofs.rows.push_row.Goals as goal
 

@@ -1,5 +1,4 @@
-use Rattle.std.proofs.Common.{◌==◌, ap, ◌∙◌}
-use Rattle.wi_values.specs.Address.{column_of}
+use Rattle.wi_reports.proofs.Words.{◌==◌, ap, ◌∙◌, column_of}
 use Rattle.wi_reports.proofs.table.is_column.Goals as goal
 
 pub returns : goal.returns

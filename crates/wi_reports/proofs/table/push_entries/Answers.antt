@@ -1,5 +1,4 @@
-use Rattle.std.proofs.Common.{arith}
-use Rattle.std.proofs.lemmas.Grind.{common_steps}
+use Rattle.wi_reports.proofs.Words.{arith, common_steps}
 use Rattle.wi_reports.proofs.table.push_entries.Goals as goal
 
 pub push_entry-requires : goal.push_entry-requires

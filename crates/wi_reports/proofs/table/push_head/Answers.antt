@@ -1,9 +1,4 @@
-use Rattle.std.proofs.Common.{[], ◌∷◌, ◌++◌, map, ap, ◌∙◌}
-use Rattle.std.specs.Prelude.{string_bytes}
-use Rattle.wi_values.specs.Address.{row_of, cells_of_row}
-use Rattle.wi_csv.proofs.Growth.{starts_itself}
-use Rattle.wi_fraction.proofs.Decimals.{starts_joined}
-use Rattle.wi_reports.specs.Rows.{text_under}
+use Rattle.wi_reports.proofs.Words.{[], ◌∷◌, ◌++◌, map, ap, ◌∙◌, string_bytes, row_of, cells_of_row, starts_itself, starts_joined, text_under}
 use Rattle.wi_reports.proofs.TableLemmas.{after_first, written_as}
 use Rattle.wi_reports.proofs.table.push_head.Goals as goal
 

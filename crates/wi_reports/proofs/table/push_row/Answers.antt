@@ -1,8 +1,4 @@
-use Rattle.std.proofs.Common.{◌∙◌}
-use Rattle.std.specs.Prelude.{string_bytes}
-use Rattle.wi_csv.proofs.Growth.{starts_itself}
-use Rattle.wi_fraction.proofs.Decimals.{starts_joined}
-use Rattle.wi_reports.specs.Table.{entries_beside}
+use Rattle.wi_reports.proofs.Words.{◌∙◌, string_bytes, starts_itself, starts_joined, entries_beside}
 use Rattle.wi_reports.proofs.TableLemmas.{row_written}
 use Rattle.wi_reports.proofs.table.push_row.Goals as goal
 

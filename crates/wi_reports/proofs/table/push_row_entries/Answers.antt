@@ -1,9 +1,4 @@
-use Rattle.std.proofs.Common.{ℕ, ◌+◌, ◌-◌, List, ◌++◌, map, ap, ◌∙◌, arith}
-use Rattle.std.proofs.lemmas.Grind.{common_steps}
-use Rattle.std.specs.Prelude.{string_bytes}
-use Rattle.wi_values.specs.Address.{row_of, cells_of_row}
-use Rattle.wi_reports.specs.Table.{entry_text}
-use Rattle.wi_reports.specs.Inner.Parts.{pairs_at}
+use Rattle.wi_reports.proofs.Words.{ℕ, ◌+◌, ◌-◌, List, ◌++◌, map, ap, ◌∙◌, arith, common_steps, string_bytes, row_of, cells_of_row, entry_text, pairs_at}
 use Rattle.wi_reports.proofs.TextLemmas.{one_text, all_texts}
 use Rattle.wi_reports.proofs.table.push_row_entries.Goals as goal
 

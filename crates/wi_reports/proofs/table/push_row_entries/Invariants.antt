@@ -1,7 +1,4 @@
-use Rattle.std.proofs.Common.{◌≡◌, ◌≤◌, ◌+◌, ◌-◌, ◌++◌, map}
-use Rattle.std.specs.Prelude.{string_bytes}
-use Rattle.wi_reports.specs.Table.{entry_text}
-use Rattle.wi_reports.specs.Inner.Parts.{pairs_at}
+use Rattle.wi_reports.proofs.Words.{◌≡◌, ◌≤◌, ◌+◌, ◌-◌, ◌++◌, map, string_bytes, entry_text, pairs_at}
 use Rattle.wi_reports.proofs.TextLemmas.{texts}
 use Rattle.wi_reports.proofs.table.push_row_entries.Given as goal
 

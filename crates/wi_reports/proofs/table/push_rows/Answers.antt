@@ -1,9 +1,4 @@
-use Rattle.std.proofs.Common.{◌+◌, ◌-◌, ◌∙◌, ap, arith}
-use Rattle.std.proofs.lemmas.Grind.{common_steps}
-use Rattle.std.specs.List.{flat_map}
-use Rattle.std.proofs.Transfers.{starts_with_trans}
-use Rattle.wi_values.specs.Address.{column_of, cells_of_row}
-use Rattle.wi_reports.specs.Inner.Parts.{table_row}
+use Rattle.wi_reports.proofs.Words.{◌+◌, ◌-◌, ◌∙◌, ap, arith, common_steps, flat_map, starts_with_trans, column_of, cells_of_row, table_row}
 use Rattle.wi_reports.proofs.RowLemmas.{all_rows}
 use Rattle.wi_reports.proofs.TableLemmas.{rows_more}
 use Rattle.wi_reports.proofs.table.push_rows.Goals as goal

@@ -1,7 +1,4 @@
-use Rattle.std.proofs.Common.{◌≡◌, ◌≤◌, ◌+◌, ◌-◌, ◌++◌}
-use Rattle.std.specs.Io.{StartsWith}
-use Rattle.std.specs.List.{flat_map}
-use Rattle.wi_reports.specs.Inner.Parts.{table_row}
+use Rattle.wi_reports.proofs.Words.{◌≡◌, ◌≤◌, ◌+◌, ◌-◌, ◌++◌, StartsWith, flat_map, table_row}
 use Rattle.wi_reports.proofs.RowLemmas.{rows_from}
 use Rattle.wi_reports.proofs.table.push_rows.Given as goal
 

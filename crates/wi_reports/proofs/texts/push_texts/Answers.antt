@@ -1,7 +1,4 @@
-use Rattle.std.proofs.Common.{◌+◌, ◌-◌, ◌∙◌, arith}
-use Rattle.std.proofs.lemmas.Grind.{common_steps}
-use Rattle.std.specs.Prelude.{string_bytes}
-use Rattle.wi_reports.specs.Rows.{text_under}
+use Rattle.wi_reports.proofs.Words.{◌+◌, ◌-◌, ◌∙◌, arith, common_steps, string_bytes, text_under}
 use Rattle.wi_reports.proofs.TextLemmas.{one_text, all_texts}
 use Rattle.wi_reports.proofs.texts.push_texts.Goals as goal
 

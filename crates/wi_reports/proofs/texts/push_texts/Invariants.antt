@@ -1,6 +1,4 @@
-use Rattle.std.proofs.Common.{◌≡◌, ◌≤◌, ◌+◌, ◌-◌, ◌++◌, map}
-use Rattle.std.specs.Prelude.{string_bytes}
-use Rattle.wi_reports.specs.Rows.{text_under}
+use Rattle.wi_reports.proofs.Words.{◌≡◌, ◌≤◌, ◌+◌, ◌-◌, ◌++◌, map, string_bytes, text_under}
 use Rattle.wi_reports.proofs.TextLemmas.{texts}
 use Rattle.wi_reports.proofs.texts.push_texts.Given as goal
 

@@ -1,5 +1,4 @@
-use Rattle.std.proofs.Common.{◌++◌, ap, ◌∙◌}
-use Rattle.wi_values.specs.Value.{shown_text}
+use Rattle.wi_reports.proofs.Words.{◌++◌, ap, ◌∙◌, shown_text}
 use Rattle.wi_reports.proofs.texts.shown_text.Goals as goal
 
 pub returns : goal.returns

@@ -1,7 +1,4 @@
-use Rattle.std.proofs.Common.{◌∙◌, ℕ, List, ap}
-use Rattle.wi_values.specs.declared.value.Value.{Value}
-use Rattle.wi_values.specs.Replacements.{overridden}
-use Rattle.wi_scenario_list.specs.Inner.Parts.{as_replacements}
+use Rattle.wi_scenario_list.proofs.Words.{◌∙◌, ℕ, List, ap, Value, overridden, as_replacements}
 use Rattle.wi_scenario_list.proofs.Own.{put_into_nothing}
 use Rattle.wi_scenario_list.proofs.entries.copied.Goals as goal
 

@@ -1,9 +1,4 @@
-use Rattle.std.proofs.Common.{List, ℕ, sym, ap, ◌∙◌}
-use Rattle.std.specs.Ordering.{nat_cmp}
-use Rattle.std.specs.BTreeMap.{insert_entry}
-use Rattle.wi_values.specs.declared.value.Value.{Value}
-use Rattle.wi_values.specs.Replacements.{overridden}
-use Rattle.wi_scenario_list.specs.Inner.Parts.{as_replacements}
+use Rattle.wi_scenario_list.proofs.Words.{List, ℕ, sym, ap, ◌∙◌, nat_cmp, insert_entry, Value, overridden, as_replacements}
 use Rattle.wi_scenario_list.proofs.Own.{order_of_entries}
 use Rattle.wi_scenario_list.proofs.entries.put_in.Goals as goal
 

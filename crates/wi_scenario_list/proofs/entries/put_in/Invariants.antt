@@ -1,6 +1,4 @@
-use Rattle.std.proofs.Common.{◌≡◌}
-use Rattle.wi_values.specs.Replacements.{overridden}
-use Rattle.wi_scenario_list.specs.Inner.Parts.{as_replacements}
+use Rattle.wi_scenario_list.proofs.Words.{◌≡◌, overridden, as_replacements}
 use Rattle.wi_scenario_list.proofs.entries.put_in.Given as goal
 
 -- what is left to be put in leads to the whole

@@ -1,7 +1,4 @@
-use Rattle.std.proofs.Common.{◌∙◌, List, ap, Global}
-use Rattle.std.specs.declared.rc.RcStr.{RcStr}
-use Rattle.wi_scenario_list.specs.Inner.Held.{held}
-use Rattle.wi_scenario_list.specs.declared.layer.Layer.{Layer}
+use Rattle.wi_scenario_list.proofs.Words.{◌∙◌, List, ap, Global, RcStr, held, Layer}
 use Rattle.wi_scenario_list.proofs.Held.{inserted}
 use Rattle.wi_scenario_list.proofs.scenarios.insert.Goals as goal
 

@@ -1,9 +1,4 @@
-use Rattle.std.proofs.Common.{◌∙◌, inl, List, [], Ok, refl, sym, ap}
-use Rattle.std.specs.Option.{option_copied}
-use Rattle.wi_scenario_list.specs.Scenarios.{Scenario}
-use Rattle.wi_values.proofs.Outcomes.{on_err}
-use Rattle.wi_scenarios.specs.State.{State}
-use Rattle.wi_scenarios.specs.Inner.Held.{state_of}
+use Rattle.wi_scenarios.proofs.Words.{◌∙◌, inl, List, [], Ok, refl, sym, ap, option_copied, Scenario, on_err, State, state_of}
 use Rattle.wi_scenarios.proofs.ScenarioLemmas.{lacked, base_done, base_missing, base_loop, is_there}
 use Rattle.wi_scenarios.proofs.base.base.Goals as goal
 

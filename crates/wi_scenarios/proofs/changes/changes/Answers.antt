@@ -1,5 +1,4 @@
-use Rattle.std.proofs.Common.{refl, rules, arith}
-use Rattle.std.proofs.lemmas.Grind.{common_steps}
+use Rattle.wi_scenarios.proofs.Words.{refl, rules, arith, common_steps}
 use Rattle.wi_scenarios.proofs.ChangesLemmas.{sound_after}
 use Rattle.wi_scenarios.proofs.changes.changes.Goals as goal
 

@@ -1,9 +1,4 @@
-use Rattle.std.proofs.Common.{◌≡◌, ◌∙◌, length, refl, arith}
-use Rattle.std.proofs.lemmas.Grind.{common_steps}
-use Rattle.std.proofs.lemmas.Result.{IfOk-from_err, IfOk-weaker}
-use Rattle.std.proofs.Math.Nat.{le-add_right}
-use Rattle.wi_scenario_list.specs.Inner.Chains.{effective}
-use Rattle.wi_sessions.specs.Roster.{pending_of, session_at}
+use Rattle.wi_scenarios.proofs.Words.{◌≡◌, ◌∙◌, length, refl, arith, common_steps, IfOk-from_err, IfOk-weaker, le-add_right, effective, pending_of, session_at}
 use Rattle.wi_scenarios.proofs.ChangesLemmas.{changes_found, nothing_found, looked, begun_again}
 use Rattle.wi_scenarios.proofs.changes.find.Goals as goal
 

@@ -1,4 +1,4 @@
-use Rattle.std.proofs.Common.{rules}
+use Rattle.wi_scenarios.proofs.Words.{rules}
 use Rattle.wi_scenarios.proofs.changes.tell.Goals as goal
 
 pub returns-in_err-push_changes-clause-refused : goal.returns-in_err-push_changes-clause-refused

@@ -1,8 +1,4 @@
-use Rattle.std.proofs.Common.{◌∙◌, List, ℕ, [], ◌∷◌, Option, refl, subst}
-use Rattle.std.specs.Map.{keys_of}
-use Rattle.wi_parser.specs.declared.content.Content.{Content}
-use Rattle.wi_scenarios.specs.Pending.{AddsOnly}
-use Rattle.wi_scenarios.specs.Inner.Held.{state_of, pending_in}
+use Rattle.wi_scenarios.proofs.Words.{◌∙◌, List, ℕ, [], ◌∷◌, Option, refl, subst, keys_of, Content, AddsOnly, state_of, pending_in}
 use Rattle.wi_scenarios.proofs.ClearLemmas.{emptied_are, clear_edited}
 use Rattle.wi_scenarios.proofs.clear.clear.Goals as goal
 

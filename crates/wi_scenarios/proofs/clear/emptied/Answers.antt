@@ -1,5 +1,4 @@
-use Rattle.std.proofs.Common.{arith}
-use Rattle.std.proofs.lemmas.Grind.{common_steps}
+use Rattle.wi_scenarios.proofs.Words.{arith, common_steps}
 use Rattle.wi_scenarios.proofs.clear.emptied.Goals as goal
 
 pub loop-cell-preserved : goal.loop-cell-preserved

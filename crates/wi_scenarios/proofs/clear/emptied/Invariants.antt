@@ -1,4 +1,4 @@
-use Rattle.std.proofs.Common.{◌≡◌, ◌++◌, map, drop, None}
+use Rattle.wi_scenarios.proofs.Words.{◌≡◌, ◌++◌, map, drop, None}
 use Rattle.wi_scenarios.proofs.clear.emptied.Given as goal
 
 -- what is listed and what is still to be listed

@@ -1,7 +1,4 @@
-use Rattle.std.proofs.Common.{refl, ap, rules}
-use Rattle.std.specs.Option.{option_copied}
-use Rattle.wi_scenario_list.specs.Inner.Chains.{effective}
-use Rattle.wi_scenarios.specs.Inner.Held.{state_of}
+use Rattle.wi_scenarios.proofs.Words.{refl, ap, rules, option_copied, effective, state_of}
 use Rattle.wi_scenarios.proofs.LookLemmas.{compare_lacked, compare_done}
 use Rattle.wi_scenarios.proofs.compare.compare.Goals as goal
 

@@ -1,10 +1,4 @@
-use Rattle.std.proofs.Common.{◌∙◌, ◌++◌, List, sym, ap, subst}
-use Rattle.std.specs.Option.{option_copied}
-use Rattle.std.proofs.lemmas.Result.{on_ok_weaker}
-use Rattle.wi_values.specs.Replacements.{IsInOrder}
-use Rattle.wi_values.specs.declared.replacement.Replacement.{Replacement}
-use Rattle.wi_scenario_list.specs.Inner.Chains.{effective}
-use Rattle.wi_reports.specs.Compare.{cells_compared}
+use Rattle.wi_scenarios.proofs.Words.{◌∙◌, ◌++◌, List, sym, ap, subst, option_copied, on_ok_weaker, IsInOrder, Replacement, effective, cells_compared}
 use Rattle.wi_scenarios.proofs.compare.push_differences.Goals as goal
 
 pub push_comparison-requires-clause-first : goal.push_comparison-requires-clause-first

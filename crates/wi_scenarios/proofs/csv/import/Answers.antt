@@ -1,9 +1,5 @@
-use Rattle.std.proofs.Common.{rules, ℕ, List, refl, subst, sym}
+use Rattle.wi_scenarios.proofs.Words.{rules, ℕ, List, refl, subst, sym, fields_at, AreChanges, AddsOnly, state_of, pending_in}
 use Rattle.wi_import.specs.declared.fault.ImportFault.TheVariants as import
-use Rattle.wi_import.specs.Fields.{fields_at}
-use Rattle.wi_import.specs.Imports.{AreChanges}
-use Rattle.wi_scenarios.specs.Pending.{AddsOnly}
-use Rattle.wi_scenarios.specs.Inner.Held.{state_of, pending_in}
 use Rattle.wi_scenarios.proofs.CsvLemmas.{csv_refused, csv_edited, imported_are}
 use Rattle.wi_scenarios.proofs.csv.import.Goals as goal
 

@@ -1,4 +1,4 @@
-use Rattle.std.proofs.Common.{◌∙◌, ap}
+use Rattle.wi_scenarios.proofs.Words.{◌∙◌, ap}
 use Rattle.wi_scenarios.proofs.DifferingLemmas.{pushed, passed, walked}
 use Rattle.wi_scenarios.proofs.differing.push_differing.Goals.{then-not-has_same+in_ok-push, else-not-has_same}
 use Rattle.wi_scenarios.proofs.differing.push_differing.Goals as goal

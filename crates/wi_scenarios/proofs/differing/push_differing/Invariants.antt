@@ -1,5 +1,4 @@
-use Rattle.std.proofs.Common.{◌≡◌, ◌++◌, drop}
-use Rattle.wi_scenarios.specs.Inner.Switch.{differing}
+use Rattle.wi_scenarios.proofs.Words.{◌≡◌, ◌++◌, drop, differing}
 use Rattle.wi_scenarios.proofs.differing.push_differing.Given as goal
 
 -- what is appended and what is still to come is what was to come

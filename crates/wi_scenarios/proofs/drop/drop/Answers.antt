@@ -1,4 +1,4 @@
-use Rattle.std.proofs.Common.{rules}
+use Rattle.wi_scenarios.proofs.Words.{rules}
 use Rattle.wi_scenarios.proofs.DropLemmas.{sound_without}
 use Rattle.wi_scenarios.proofs.drop.drop.Goals as goal
 

@@ -1,7 +1,5 @@
-use Rattle.std.proofs.Common.{◌≡◌, false}
+use Rattle.wi_scenarios.proofs.Words.{◌≡◌, false, list_any, is_name_of}
 use Rattle.std.specs.Prelude.{take}
-use Rattle.std.specs.List.{list_any}
-use Rattle.wi_scenario_list.specs.Bases.{is_name_of}
 use Rattle.wi_scenarios.proofs.drop.is_used.Given as goal
 
 -- none before this one uses it

@@ -1,11 +1,4 @@
-use Rattle.std.proofs.Common.{◌≡◌, [], subst, sym, rules}
-use Rattle.std.specs.Map.{keys_of}
-use Rattle.wi_scenarios.specs.Answer.{Serves}
-use Rattle.wi_scenarios.specs.Causes.{no_cause}
-use Rattle.wi_scenarios.specs.Edits.{edit_answer}
-use Rattle.wi_scenarios.specs.Pending.{AddsOnly}
-use Rattle.wi_scenarios.specs.Inner.Held.{state_of, pending_in, IsSound}
-use Rattle.wi_scenarios.specs.declared.desk.Desk.{Desk}
+use Rattle.wi_scenarios.proofs.Words.{◌≡◌, [], subst, sym, rules, keys_of, Serves, no_cause, edit_answer, AddsOnly, state_of, pending_in, IsSound, Desk}
 use Rattle.wi_scenarios.proofs.EditLemmas.{edit_lacks, same_log}
 use Rattle.wi_scenarios.proofs.edit.apply_edit.Goals as goal
 

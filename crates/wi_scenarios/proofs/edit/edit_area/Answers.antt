@@ -1,9 +1,4 @@
-use Rattle.std.proofs.Common.{◌≡◌, List, [], subst}
-use Rattle.wi_values.specs.Address.{Area}
-use Rattle.wi_scenarios.specs.Answer.{Serves}
-use Rattle.wi_scenarios.specs.Causes.{no_cause}
-use Rattle.wi_scenarios.specs.Edits.{edit_answer}
-use Rattle.wi_scenarios.specs.Inner.Held.{state_of}
+use Rattle.wi_scenarios.proofs.Words.{◌≡◌, List, [], subst, Area, Serves, no_cause, edit_answer, state_of}
 use Rattle.wi_scenarios.proofs.edit.edit_area.Goals as goal
 
 pub returns-clause-step : goal.returns-clause-step

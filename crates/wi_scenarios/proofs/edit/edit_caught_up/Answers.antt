@@ -1,6 +1,4 @@
-use Rattle.std.proofs.Common.{◌∙◌, Ok, refl, rules}
-use Rattle.wi_sessions.specs.Roster.{is_pending_for_all}
-use Rattle.wi_scenarios.specs.Inner.Held.{state_of}
+use Rattle.wi_scenarios.proofs.Words.{◌∙◌, Ok, refl, rules, is_pending_for_all, state_of}
 use Rattle.wi_scenarios.proofs.EditLemmas.{closed_for_all, marked_as, AreTaken, edit_served, sound_taken, adds_taken}
 use Rattle.wi_scenarios.proofs.edit.edit_caught_up.Goals as goal
 

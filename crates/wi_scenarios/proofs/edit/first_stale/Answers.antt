@@ -1,4 +1,4 @@
-use Rattle.std.proofs.Common.{rules}
+use Rattle.wi_scenarios.proofs.Words.{rules}
 use Rattle.wi_scenarios.proofs.edit.first_stale.Goals as goal
 
 pub returns : goal.returns

@@ -1,4 +1,4 @@
-use Rattle.std.proofs.lemmas.Result.{on_ok_weaker}
+use Rattle.wi_scenarios.proofs.Words.{on_ok_weaker}
 use Rattle.wi_scenarios.proofs.EditLemmas.{rooms_made}
 use Rattle.wi_scenarios.proofs.edit.make_rooms.Goals as goal
 

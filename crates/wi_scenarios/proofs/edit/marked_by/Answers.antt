@@ -1,5 +1,4 @@
-use Rattle.std.proofs.Common.{◌∙◌, length}
-use Rattle.wi_sessions.specs.Roster.{is_pending_for_all}
+use Rattle.wi_scenarios.proofs.Words.{◌∙◌, length, is_pending_for_all}
 use Rattle.wi_scenarios.proofs.EditLemmas.{none_marked, some_marked, if_ok_both, is_none, is_one}
 use Rattle.wi_scenarios.proofs.edit.marked_by.Goals as goal
 

@@ -1,5 +1,4 @@
-use Rattle.std.proofs.Common.{refl, ap, rules}
-use Rattle.wi_scenarios.specs.Inner.Held.{state_of}
+use Rattle.wi_scenarios.proofs.Words.{refl, ap, rules, state_of}
 use Rattle.wi_scenarios.proofs.LookLemmas.{export_lacked}
 use Rattle.wi_scenarios.proofs.export.export.Goals as goal
 

@@ -1,6 +1,4 @@
-use Rattle.std.proofs.Common.{◌≡◌, None, ap}
-use Rattle.std.specs.Option.{option_copied}
-use Rattle.wi_scenarios.specs.Fill.{rows_between, columns_between, copied}
+use Rattle.wi_scenarios.proofs.Words.{◌≡◌, None, ap, option_copied, rows_between, columns_between, copied}
 use Rattle.wi_scenarios.proofs.FillLemmas.{lacks_copy}
 use Rattle.wi_scenarios.proofs.fill.copied.Goals as goal
 

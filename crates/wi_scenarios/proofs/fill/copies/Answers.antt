@@ -1,9 +1,5 @@
-use Rattle.std.proofs.Common.{◌+◌, ◌-◌, ℕ, List, sym, subst, arith}
-use Rattle.std.specs.Option.{option_copied}
-use Rattle.wi_values.specs.Address.{cells_of}
-use Rattle.wi_scenarios.specs.Inner.Copies.{AreCopies, HasNoCopies}
+use Rattle.wi_scenarios.proofs.Words.{◌+◌, ◌-◌, ℕ, List, sym, subst, arith, option_copied, cells_of, AreCopies, HasNoCopies, rows_from, rows_are, one_row}
 use Rattle.wi_scenarios.proofs.AnswerLemmas.{at_error}
-use Rattle.wi_reports.proofs.RowLemmas.{rows_from, rows_are, one_row}
 use Rattle.wi_scenarios.proofs.FillLemmas.{no_copy_in_rows}
 use Rattle.wi_scenarios.proofs.fill.copies.Goals as goal
 

@@ -1,7 +1,4 @@
-use Rattle.std.proofs.Common.{◌≤◌, ◌+◌, ◌-◌}
-use Rattle.std.specs.Option.{option_copied}
-use Rattle.wi_scenarios.specs.Inner.Copies.{AreCopies}
-use Rattle.wi_reports.proofs.RowLemmas.{rows_from}
+use Rattle.wi_scenarios.proofs.Words.{◌≤◌, ◌+◌, ◌-◌, option_copied, AreCopies, rows_from}
 use Rattle.wi_scenarios.proofs.fill.copies.Given as goal
 
 -- the rows before this one have got their copies

@@ -1,9 +1,4 @@
-use Rattle.std.proofs.Common.{ℕ, List, [], ◌∷◌, refl, sym, ◌∙◌, subst, rules}
-use Rattle.std.specs.Option.{option_copied}
-use Rattle.wi_values.specs.Address.{cells_of}
-use Rattle.wi_scenarios.specs.Inner.Copies.{AreCopies}
-use Rattle.wi_scenarios.specs.Pending.{AddsOnly}
-use Rattle.wi_scenarios.specs.Inner.Held.{state_of, pending_in}
+use Rattle.wi_scenarios.proofs.Words.{ℕ, List, [], ◌∷◌, refl, sym, ◌∙◌, subst, rules, option_copied, cells_of, AreCopies, AddsOnly, state_of, pending_in}
 use Rattle.wi_scenarios.proofs.FillLemmas.{fill_too_large, fill_leaves, fill_edited, copied_cells}
 use Rattle.wi_scenarios.proofs.fill.fill.Goals as goal
 

@@ -1,9 +1,5 @@
-use Rattle.std.proofs.Common.{◌+◌, ◌-◌, ℕ, List, ◌++◌, sym, subst, arith}
-use Rattle.std.specs.Option.{option_copied}
-use Rattle.wi_values.specs.Address.{cells_of_row}
-use Rattle.wi_scenarios.specs.Inner.Copies.{AreCopies, HasNoCopies}
+use Rattle.wi_scenarios.proofs.Words.{◌+◌, ◌-◌, ℕ, List, ◌++◌, sym, subst, arith, option_copied, cells_of_row, AreCopies, HasNoCopies, row_is}
 use Rattle.wi_scenarios.proofs.AnswerLemmas.{at_error}
-use Rattle.wi_reports.proofs.RowLemmas.{row_is}
 use Rattle.wi_scenarios.proofs.FillLemmas.{one_cell, no_copy_in_row}
 use Rattle.wi_scenarios.proofs.fill.push_copies.Goals as goal
 

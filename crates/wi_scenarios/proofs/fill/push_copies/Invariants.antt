@@ -1,8 +1,5 @@
-use Rattle.std.proofs.Common.{◌≤◌, ◌+◌, ◌-◌, List, ◌++◌}
+use Rattle.wi_scenarios.proofs.Words.{◌≤◌, ◌+◌, ◌-◌, List, ◌++◌, option_copied, AreCopies, cells_in}
 use Rattle.std.specs.Prelude.{ℕ}
-use Rattle.std.specs.Option.{option_copied}
-use Rattle.wi_scenarios.specs.Inner.Copies.{AreCopies}
-use Rattle.wi_reports.proofs.RowLemmas.{cells_in}
 use Rattle.wi_scenarios.proofs.fill.push_copies.Given as goal
 
 -- the cells before this column have got their copies

@@ -1,6 +1,4 @@
-use Rattle.std.proofs.Common.{◌≡◌, length, arith}
-use Rattle.std.proofs.lemmas.Grind.{common_steps}
-use Rattle.wi_scenarios.specs.Inner.Held.{state_of}
+use Rattle.wi_scenarios.proofs.Words.{◌≡◌, length, arith, common_steps, state_of}
 use Rattle.wi_scenarios.proofs.ScenarioLemmas.{put_served, taken_served}
 use Rattle.wi_scenarios.proofs.scenario.put.Goals as goal
 

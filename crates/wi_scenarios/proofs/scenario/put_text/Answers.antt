@@ -1,9 +1,4 @@
-use Rattle.std.proofs.Common.{◌∙◌, inl, List, [], Ok, refl, sym, ap}
-use Rattle.wi_scenario_list.specs.Scenarios.{Scenario}
-use Rattle.wi_values.specs.Inner.Import.{imported}
-use Rattle.wi_values.proofs.Outcomes.{on_err}
-use Rattle.wi_scenarios.specs.State.{State}
-use Rattle.wi_scenarios.specs.Inner.Held.{state_of}
+use Rattle.wi_scenarios.proofs.Words.{◌∙◌, inl, List, [], Ok, refl, sym, ap, Scenario, imported, on_err, State, state_of}
 use Rattle.wi_scenarios.proofs.ScenarioLemmas.{lacked, put_there, put_full, unread}
 use Rattle.wi_scenarios.proofs.scenario.put_text.Goals as goal
 

@@ -1,8 +1,4 @@
-use Rattle.std.proofs.Common.{◌∙◌, inl, List, [], Ok, refl, sym, ap}
-use Rattle.wi_scenario_list.specs.Scenarios.{Scenario}
-use Rattle.wi_values.proofs.Outcomes.{on_err}
-use Rattle.wi_scenarios.specs.State.{State}
-use Rattle.wi_scenarios.specs.Inner.Held.{state_of}
+use Rattle.wi_scenarios.proofs.Words.{◌∙◌, inl, List, [], Ok, refl, sym, ap, Scenario, on_err, State, state_of}
 use Rattle.wi_scenarios.proofs.ScenarioLemmas.{lacked, taken, not_taken}
 use Rattle.wi_scenarios.proofs.scenario.take_away.Goals as goal
 

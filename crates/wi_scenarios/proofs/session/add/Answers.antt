@@ -1,6 +1,4 @@
-use Rattle.std.proofs.Common.{◌∙◌, List, ℕ, ap, rules}
-use Rattle.wi_sessions.specs.Pictures.Laws.{is_listed}
-use Rattle.wi_scenarios.specs.Inner.Held.{state_of}
+use Rattle.wi_scenarios.proofs.Words.{◌∙◌, List, ℕ, ap, rules, is_listed, state_of}
 use Rattle.wi_scenarios.proofs.SessionLemmas.{sound_new, grown_state}
 use Rattle.wi_scenarios.proofs.session.add.Goals as goal
 

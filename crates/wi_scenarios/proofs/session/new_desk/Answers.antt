@@ -1,7 +1,4 @@
-use Rattle.std.proofs.Common.{◌∙◌, ℕ, List, [], length, refl, ap}
-use Rattle.std.specs.Prelude.{codes}
-use Rattle.std.specs.List.{slice_index_or}
-use Rattle.wi_sessions.specs.Pictures.Laws.{is_listed}
+use Rattle.wi_scenarios.proofs.Words.{◌∙◌, ℕ, List, [], length, refl, ap, codes, slice_index_or, is_listed}
 use Rattle.wi_scenarios.proofs.SessionLemmas.{one_list, sound_first, first_state}
 use Rattle.wi_scenarios.proofs.session.new_desk.Goals as goal
 

@@ -1,7 +1,5 @@
-use Rattle.std.proofs.Common.{subst}
-use Rattle.std.specs.Prelude.{◌≡◌, IfOk, filter}
-use Rattle.std.specs.Map.{keys_of}
-use Rattle.wi_values.specs.Address.{is_within}
+use Rattle.wi_scenarios.proofs.Words.{subst, IfOk, filter, keys_of, is_within}
+use Rattle.std.specs.Prelude.{◌≡◌}
 use Rattle.wi_scenarios.proofs.SessionLemmas.{whole_area, occupied_closed}
 use Rattle.wi_scenarios.proofs.session.occupied.Goals as goal
 

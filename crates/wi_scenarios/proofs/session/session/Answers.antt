@@ -1,5 +1,4 @@
-use Rattle.std.proofs.Common.{rules}
-use Rattle.wi_scenarios.specs.Inner.Held.{state_of}
+use Rattle.wi_scenarios.proofs.Words.{rules, state_of}
 use Rattle.wi_scenarios.proofs.SessionLemmas.{new_step}
 use Rattle.wi_scenarios.proofs.session.session.Goals as goal
 

@@ -1,7 +1,4 @@
-use Rattle.std.proofs.Common.{◌≡◌, ◌<◌, length, arith}
-use Rattle.std.proofs.lemmas.Grind.{common_steps}
-use Rattle.std.proofs.lemmas.Result.{on_ok_weaker}
-use Rattle.wi_sessions.specs.Roster.{pending_of, vacant_of}
+use Rattle.wi_scenarios.proofs.Words.{◌≡◌, ◌<◌, length, arith, common_steps, on_ok_weaker, pending_of, vacant_of}
 use Rattle.wi_scenarios.proofs.SwitchLemmas.{none_differs, room_marked}
 use Rattle.wi_scenarios.proofs.switch.make_room_between.Goals as goal
 

@@ -1,4 +1,4 @@
-use Rattle.std.proofs.Common.{rules}
+use Rattle.wi_scenarios.proofs.Words.{rules}
 use Rattle.wi_scenarios.proofs.switch.make_room_for.Goals as goal
 
 pub returns-clause-room : goal.returns-clause-room

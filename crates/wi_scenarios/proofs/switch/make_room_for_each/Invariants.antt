@@ -1,6 +1,4 @@
-use Rattle.std.proofs.Common.{◌≡◌, ◌<◌, ◌≤◌, ℕ, []}
-use Rattle.wi_sessions.specs.Roster.{vacant_of}
-use Rattle.wi_scenarios.specs.Inner.Switch.{HasRoomFor}
+use Rattle.wi_scenarios.proofs.Words.{◌≡◌, ◌<◌, ◌≤◌, ℕ, [], vacant_of, HasRoomFor}
 use Rattle.wi_scenarios.proofs.switch.make_room_for_each.Given as goal
 
 -- there is room for those before this one, and no vacant room yet from it on

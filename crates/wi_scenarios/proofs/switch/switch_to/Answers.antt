@@ -1,7 +1,4 @@
-use Rattle.std.proofs.Common.{◌∙◌, List, refl, ap}
-use Rattle.wi_sessions.specs.Sessions.{Session}
-use Rattle.wi_sessions.specs.Roster.{vacant_of}
-use Rattle.wi_scenarios.specs.Inner.Held.{state_of}
+use Rattle.wi_scenarios.proofs.Words.{◌∙◌, List, refl, ap, Session, vacant_of, state_of}
 use Rattle.wi_scenarios.proofs.SwitchedLemmas.{sound_again, adds_none, scenarios_switched, switched_sound, switched_adds}
 use Rattle.wi_scenarios.proofs.switch.switch_to.Goals as goal
 

@@ -1,10 +1,4 @@
-use Rattle.std.proofs.Common.{◌∙◌, List, ap}
-use Rattle.std.specs.List.{slice_set}
-use Rattle.std.specs.Option.{option_copied}
-use Rattle.wi_sessions.specs.Sessions.{Session, using_scenario}
-use Rattle.wi_sessions.specs.Roster.{session_at, vacant_of}
-use Rattle.wi_scenarios.specs.State.{State}
-use Rattle.wi_scenarios.specs.Inner.Held.{state_of}
+use Rattle.wi_scenarios.proofs.Words.{◌∙◌, List, ap, slice_set, option_copied, Session, using_scenario, session_at, vacant_of, State, state_of}
 use Rattle.wi_scenarios.proofs.SwitchedLemmas.{sound_again, adds_none, switched_sound, switched_adds, switched_others, others_none, used_sessions, use_switched}
 use Rattle.wi_scenarios.proofs.use_scenario.use_in_current.Goals as goal
 

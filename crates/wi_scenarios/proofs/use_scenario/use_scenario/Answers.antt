@@ -1,7 +1,4 @@
-use Rattle.std.proofs.Common.{◌∙◌, [], Ok, refl, sym, ap}
-use Rattle.std.specs.Option.{option_copied}
-use Rattle.wi_scenarios.specs.State.{State}
-use Rattle.wi_scenarios.specs.Inner.Held.{state_of}
+use Rattle.wi_scenarios.proofs.Words.{◌∙◌, [], Ok, refl, sym, ap, option_copied, State, state_of}
 use Rattle.wi_scenarios.proofs.ScenarioLemmas.{lacked, use_done, use_missing}
 use Rattle.wi_scenarios.proofs.use_scenario.use_scenario.Goals as goal
 

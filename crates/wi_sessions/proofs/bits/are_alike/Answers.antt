@@ -1,5 +1,5 @@
-use Rattle.std.proofs.Common.{ap, eqb-true, eq-eqb}
-use Rattle.wi_sessions.specs.Inner.Cells.{has_bit}
+use Rattle.wi_sessions.proofs.Words.{ap, has_bit}
+use Rattle.std.proofs.Common.{eqb-true, eq-eqb}
 use Rattle.wi_sessions.proofs.BitLemmas.{same_words}
 use Rattle.wi_sessions.proofs.bits.are_alike.Goals as goal
 

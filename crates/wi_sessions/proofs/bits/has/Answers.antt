@@ -1,5 +1,4 @@
-use Rattle.std.proofs.Common.{ap, ◌==◌}
-use Rattle.std.proofs.lemmas.Nat.Bits.{shr_and_one}
+use Rattle.wi_sessions.proofs.Words.{ap, ◌==◌, shr_and_one}
 use Rattle.wi_sessions.proofs.bits.has.Goals as goal
 
 pub returns : goal.returns

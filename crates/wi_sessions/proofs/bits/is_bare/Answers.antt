@@ -1,5 +1,5 @@
-use Rattle.std.proofs.Common.{ap, ◌∙◌, eqb-true}
-use Rattle.wi_sessions.specs.Inner.Cells.{has_bit}
+use Rattle.wi_sessions.proofs.Words.{ap, ◌∙◌, has_bit}
+use Rattle.std.proofs.Common.{eqb-true}
 use Rattle.wi_sessions.proofs.BitLemmas.{none_in_zero}
 use Rattle.wi_sessions.proofs.bits.is_bare.Goals as goal
 

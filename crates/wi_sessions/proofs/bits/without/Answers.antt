@@ -1,4 +1,4 @@
-use Rattle.std.proofs.Common.{◌<◌, ◌^◌, rules}
+use Rattle.wi_sessions.proofs.Words.{◌<◌, ◌^◌, rules}
 use Rattle.wi_sessions.proofs.BitLemmas.{has_without}
 use Rattle.wi_sessions.proofs.bits.without.Goals as goal
 

@@ -1,4 +1,4 @@
-use Rattle.std.proofs.Common.{arith}
+use Rattle.wi_sessions.proofs.Words.{arith}
 use Rattle.wi_sessions.proofs.WordLemmas.{cleared_all, cleared_more, nothing_cleared}
 use Rattle.wi_sessions.proofs.cells.clear_each.Goals as goal
 

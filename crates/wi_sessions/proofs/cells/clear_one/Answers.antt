@@ -1,4 +1,4 @@
-use Rattle.std.proofs.Common.{◌∙◌, sym}
+use Rattle.wi_sessions.proofs.Words.{◌∙◌, sym}
 use Rattle.wi_sessions.proofs.WordLemmas.{has_cleared_none}
 use Rattle.wi_sessions.proofs.cells.clear_one.Goals as goal
 

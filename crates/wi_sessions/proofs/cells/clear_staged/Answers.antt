@@ -1,4 +1,4 @@
-use Rattle.std.proofs.Common.{arith, rules}
+use Rattle.wi_sessions.proofs.Words.{arith, rules}
 use Rattle.wi_sessions.proofs.WordLemmas.{no_room_cleared, rooms_all, rooms_more}
 use Rattle.wi_sessions.proofs.cells.clear_staged.Goals as goal
 

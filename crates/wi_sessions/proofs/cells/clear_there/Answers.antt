@@ -1,7 +1,4 @@
-use Rattle.std.proofs.Common.{ℕ, List, Option, refl, sym, subst}
-use Rattle.std.specs.Prelude.{IsSome}
-use Rattle.std.specs.List.Sorted.{IsStrictlySortedBy}
-use Rattle.std.specs.Ordering.{nat_cmp}
+use Rattle.wi_sessions.proofs.Words.{ℕ, List, Option, refl, sym, subst, IsSome, IsStrictlySortedBy, nat_cmp}
 use Rattle.wi_sessions.proofs.EntryLemmas.{found-removed, found-replaced, keys-replaced, order-removed}
 use Rattle.wi_sessions.proofs.WordLemmas.{has_cleared_all, has_cleared_some}
 use Rattle.wi_sessions.proofs.cells.clear_there.Goals as goal

@@ -1,4 +1,4 @@
-use Rattle.std.proofs.Common.{arith}
+use Rattle.wi_sessions.proofs.Words.{arith}
 use Rattle.wi_sessions.proofs.WordLemmas.{dropped_all, dropped_more, nothing_dropped}
 use Rattle.wi_sessions.proofs.cells.drop_rooms.Goals as goal
 

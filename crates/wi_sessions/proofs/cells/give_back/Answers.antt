@@ -1,5 +1,4 @@
-use Rattle.std.proofs.Common.{subst}
-use Rattle.wi_sessions.specs.Inner.Cells.{is_staged, HasCleared}
+use Rattle.wi_sessions.proofs.Words.{subst, is_staged, HasCleared}
 use Rattle.wi_sessions.proofs.WordLemmas.{Words, given_back}
 use Rattle.wi_sessions.proofs.cells.give_back.Goals as goal
 

@@ -1,6 +1,5 @@
-use Rattle.std.proofs.Common.{◌≡◌, ◌++◌, drop}
+use Rattle.wi_sessions.proofs.Words.{◌≡◌, ◌++◌, drop, is_in}
 use Rattle.std.specs.Prelude.{filter}
-use Rattle.wi_sessions.specs.Inner.Cells.{is_in}
 use Rattle.wi_sessions.proofs.cells.push_those.Given as goal
 
 abbrev pub invariant-loop-at : goal.invariant-loop-at

@@ -1,4 +1,4 @@
-use Rattle.std.proofs.Common.{◌∙◌, sym}
+use Rattle.wi_sessions.proofs.Words.{◌∙◌, sym}
 use Rattle.wi_sessions.proofs.WordLemmas.{none_pushed, one_pushed}
 use Rattle.wi_sessions.proofs.cells.push_with.Goals as goal
 

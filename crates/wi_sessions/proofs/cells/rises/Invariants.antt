@@ -1,5 +1,4 @@
-use Rattle.std.proofs.Common.{◌<◌, ◌+◌, ℕ}
-use Rattle.std.specs.Prelude.{slice_index}
+use Rattle.wi_sessions.proofs.Words.{◌<◌, ◌+◌, ℕ, slice_index}
 use Rattle.wi_sessions.proofs.cells.rises.Given as goal
 
 abbrev pub invariant-loop-i : goal.invariant-loop-i

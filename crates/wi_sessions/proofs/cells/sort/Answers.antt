@@ -1,5 +1,4 @@
-use Rattle.std.proofs.lemmas.List.Filters.{dedup_is}
-use Rattle.std.proofs.lemmas.Map.Keys.{IsStrictlyIncreasing-dedup}
+use Rattle.wi_sessions.proofs.Words.{dedup_is, IsStrictlyIncreasing-dedup}
 use Rattle.wi_sessions.proofs.CellLemmas.{sorted_once}
 use Rattle.wi_sessions.proofs.cells.sort.Goals as goal
 

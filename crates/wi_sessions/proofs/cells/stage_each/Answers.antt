@@ -1,5 +1,4 @@
-use Rattle.std.proofs.Common.{arith, take}
-use Rattle.wi_sessions.specs.Inner.Cells.{at_cells}
+use Rattle.wi_sessions.proofs.Words.{arith, take, at_cells}
 use Rattle.wi_sessions.proofs.WordLemmas.{made_all, made_more, nothing_made, others_stay, others_then, pending_stay, pending_then}
 use Rattle.wi_sessions.proofs.cells.stage_each.Goals as goal
 

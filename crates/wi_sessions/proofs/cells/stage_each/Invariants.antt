@@ -1,7 +1,4 @@
-use Rattle.std.proofs.Common.{take}
-use Rattle.std.specs.Ordering.{nat_cmp}
-use Rattle.wi_tiles.specs.Entries.{IsOrdered}
-use Rattle.wi_sessions.specs.Inner.Cells.{at_cells, HasMade}
+use Rattle.wi_sessions.proofs.Words.{take, nat_cmp, IsOrdered, at_cells, HasMade}
 use Rattle.wi_sessions.proofs.cells.stage_each.Given as goal
 
 -- there is room for the cells before this one

@@ -1,12 +1,4 @@
-use Rattle.std.proofs.Common.{◌≡◌, ◌==◌, ◌&&◌, ◌∙◌, ◌++◌, ◌∷◌, [], ℕ, Option, Some, cond, not, refl, ap, sym, subst, arith}
-use Rattle.std.proofs.lemmas.Grind.{common_steps}
-use Rattle.std.specs.Prelude.{unwrap_or, OnOk}
-use Rattle.std.specs.Option.{is_some}
-use Rattle.std.specs.List.Sorted.{IsStrictlySortedBy}
-use Rattle.std.specs.Ordering.{nat_cmp}
-use Rattle.std.specs.Map.{lookup, keys_of}
-use Rattle.std.specs.BTreeMap.{is_at}
-use Rattle.wi_sessions.specs.Inner.Cells.{has_bit, is_in, is_staged, HasMade}
+use Rattle.wi_sessions.proofs.Words.{◌≡◌, ◌==◌, ◌&&◌, ◌∙◌, ◌++◌, ◌∷◌, [], ℕ, Option, Some, cond, not, refl, ap, sym, subst, arith, common_steps, unwrap_or, OnOk, is_some, IsStrictlySortedBy, nat_cmp, lookup, keys_of, is_at, has_bit, is_in, is_staged, HasMade}
 use Rattle.wi_sessions.proofs.EntryLemmas.{found-with_new, nothing_put, nothing_there, order-with_new, something_there}
 use Rattle.wi_sessions.proofs.WordLemmas.{Words, has_made_new, others_as_made, pending_stay}
 use Rattle.wi_sessions.proofs.cells.stage_one.Goals as goal

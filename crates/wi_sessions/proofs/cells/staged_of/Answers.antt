@@ -1,6 +1,4 @@
-use Rattle.std.proofs.Common.{◌||◌, ◌&&◌, ◌==◌, ◌∙◌, ap, sym, arith}
-use Rattle.std.proofs.lemmas.List.{take_all}
-use Rattle.wi_sessions.specs.Inner.Cells.{has_bit, is_staged}
+use Rattle.wi_sessions.proofs.Words.{◌||◌, ◌&&◌, ◌==◌, ◌∙◌, ap, sym, arith, take_all, has_bit, is_staged}
 use Rattle.wi_sessions.proofs.BitLemmas.{none_in_zero}
 use Rattle.wi_sessions.proofs.WordLemmas.{Words, one_more_room}
 use Rattle.wi_sessions.proofs.cells.staged_of.Goals as goal

@@ -1,5 +1,4 @@
-use Rattle.std.proofs.Common.{◌≡◌, ℕ, take}
-use Rattle.wi_sessions.specs.Inner.Cells.{has_bit, is_staged}
+use Rattle.wi_sessions.proofs.Words.{◌≡◌, ℕ, take, has_bit, is_staged}
 use Rattle.wi_sessions.proofs.cells.staged_of.Given as goal
 
 -- those of the rooms before this one

@@ -1,4 +1,4 @@
-use Rattle.std.proofs.Common.{◌≡◌, ◌≤◌, ap, length, arith}
+use Rattle.wi_sessions.proofs.Words.{◌≡◌, ◌≤◌, ap, length, arith}
 use Rattle.wi_sessions.proofs.WordLemmas.{walk_begins, walk_ends, walk_more, none_left, one_left}
 use Rattle.wi_sessions.proofs.cells.walked.Goals as goal
 

@@ -1,5 +1,4 @@
-use Rattle.std.proofs.Common.{◌≡◌, ◌++◌, ◌+◌, length}
-use Rattle.wi_sessions.specs.Inner.Cells.{cells_with}
+use Rattle.wi_sessions.proofs.Words.{◌≡◌, ◌++◌, ◌+◌, length, cells_with}
 use Rattle.wi_sessions.proofs.cells.walked.Given as goal
 
 -- what was found, with what is still to come, is all

@@ -1,6 +1,4 @@
-use Rattle.std.proofs.Common.{◌||◌, ◌&&◌, ◌∙◌, ap, sym}
-use Rattle.std.proofs.Math.Bool.{or-false}
-use Rattle.wi_sessions.specs.Inner.Cells.{has_bit}
+use Rattle.wi_sessions.proofs.Words.{◌||◌, ◌&&◌, ◌∙◌, ap, sym, or-false, has_bit}
 use Rattle.wi_sessions.proofs.cells.with_room.Goals as goal
 
 pub returns-then-eq : goal.returns-then-eq

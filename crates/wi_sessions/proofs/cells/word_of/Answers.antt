@@ -1,6 +1,4 @@
-use Rattle.std.proofs.Common.{ℕ, Option, ap, sym, ◌∙◌}
-use Rattle.std.specs.Prelude.{unwrap_or}
-use Rattle.wi_sessions.specs.Inner.Cells.{has_bit}
+use Rattle.wi_sessions.proofs.Words.{ℕ, Option, ap, sym, ◌∙◌, unwrap_or, has_bit}
 use Rattle.wi_sessions.proofs.cells.word_of.Goals as goal
 
 pub returns-in-Some : goal.returns-in-Some

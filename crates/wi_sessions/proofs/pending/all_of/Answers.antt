@@ -1,7 +1,4 @@
-use Rattle.std.proofs.Common.{◌∙◌, ◌++◌, ◌-◌, ℕ, List, ap, arith, drop, filter, length, refl}
-use Rattle.std.proofs.lemmas.List.{length-drop, take_all}
-use Rattle.wi_sessions.specs.Pictures.Laws.{is_listed}
-use Rattle.wi_sessions.specs.Inner.Cells.{is_in}
+use Rattle.wi_sessions.proofs.Words.{◌∙◌, ◌++◌, ◌-◌, ℕ, List, ap, arith, drop, filter, length, refl, length-drop, take_all, is_listed, is_in}
 use Rattle.wi_sessions.proofs.CellLemmas.{ascend_rising}
 use Rattle.wi_sessions.proofs.WordLemmas.{these_cells}
 use Rattle.wi_sessions.proofs.PendingLemmas.{found_cells, if_ok_both}

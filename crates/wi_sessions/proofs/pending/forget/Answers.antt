@@ -1,5 +1,4 @@
-use Rattle.std.proofs.Common.{ap, arith}
-use Rattle.std.specs.Map.{keys_of}
+use Rattle.wi_sessions.proofs.Words.{ap, arith, keys_of}
 use Rattle.wi_sessions.proofs.PendingLemmas.{all_forgotten, cleared_same}
 use Rattle.wi_sessions.proofs.CellLemmas.{none_in_order}
 use Rattle.wi_sessions.proofs.pending.forget.Goals as goal

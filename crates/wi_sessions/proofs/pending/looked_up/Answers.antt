@@ -1,7 +1,5 @@
-use Rattle.std.proofs.Common.{◌∙◌, ◌++◌, ℕ, List, ap}
-use Rattle.wi_sessions.specs.Pictures.Laws.{is_listed}
+use Rattle.wi_sessions.proofs.Words.{◌∙◌, ◌++◌, ℕ, List, ap, is_listed, is_in}
 use Rattle.std.specs.Prelude.{filter}
-use Rattle.wi_sessions.specs.Inner.Cells.{is_in}
 use Rattle.wi_sessions.proofs.pending.looked_up.Goals as goal
 
 pub returns-clause-same : goal.returns-clause-same

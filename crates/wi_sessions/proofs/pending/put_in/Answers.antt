@@ -1,5 +1,4 @@
-use Rattle.std.proofs.Common.{subst}
-use Rattle.wi_sessions.specs.Inner.Cells.{SamePending}
+use Rattle.wi_sessions.proofs.Words.{subst, SamePending}
 use Rattle.wi_sessions.proofs.WordLemmas.{Words}
 use Rattle.wi_sessions.proofs.PendingLemmas.{same_bits}
 use Rattle.wi_sessions.proofs.pending.put_in.Goals as goal

@@ -1,5 +1,4 @@
-use Rattle.std.proofs.Common.{◌∙◌, ◌≤◌, ℕ, ap, length, refl, subst, sym}
-use Rattle.std.specs.Prelude.{nat_lt}
+use Rattle.wi_sessions.proofs.Words.{◌∙◌, ◌≤◌, ℕ, ap, length, refl, subst, sym, nat_lt}
 use Rattle.wi_sessions.proofs.WordLemmas.{has_made_same}
 use Rattle.wi_sessions.proofs.pending.stage_all.Goals as goal
 

@@ -1,4 +1,4 @@
-use Rattle.std.proofs.Common.{refl}
+use Rattle.wi_sessions.proofs.Words.{refl}
 use Rattle.wi_sessions.proofs.pending.stage_own.Goals as goal
 
 pub returns-in_err-note-clause-pending : goal.returns-in_err-note-clause-pending

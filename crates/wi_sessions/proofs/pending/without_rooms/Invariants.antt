@@ -1,6 +1,5 @@
-use Rattle.std.proofs.Common.{◌≡◌, ◌++◌, drop, not}
+use Rattle.wi_sessions.proofs.Words.{◌≡◌, ◌++◌, drop, not, is_staged}
 use Rattle.std.specs.Prelude.{filter}
-use Rattle.wi_sessions.specs.Inner.Cells.{is_staged}
 use Rattle.wi_sessions.proofs.pending.without_rooms.Given as goal
 
 abbrev pub invariant-loop-at : goal.invariant-loop-at

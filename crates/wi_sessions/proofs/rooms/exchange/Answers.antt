@@ -1,9 +1,4 @@
-use Rattle.std.proofs.Common.{ap, cond, subst, sym, ◌∙◌, List, ℕ, Some}
-use Rattle.std.specs.List.Sorted.{IsStrictlySortedBy}
-use Rattle.std.specs.Ordering.{nat_cmp}
-use Rattle.wi_values.specs.declared.value.Value.TheVariants.{Empty}
-use Rattle.wi_values.proofs.Order.{at_other}
-use Rattle.wi_sessions.specs.Inner.Rooms.{room_of}
+use Rattle.wi_sessions.proofs.Words.{ap, cond, subst, sym, ◌∙◌, List, ℕ, Some, IsStrictlySortedBy, nat_cmp, Empty, at_other, room_of}
 use Rattle.wi_sessions.proofs.EntryLemmas.{found-replaced, keys-replaced}
 use Rattle.wi_sessions.proofs.RoomLemmas.{held_put}
 use Rattle.wi_sessions.proofs.rooms.exchange.Goals as goal

@@ -1,6 +1,4 @@
-use Rattle.std.proofs.Common.{◌<◌, length, get_or, ◌∙◌, arith}
-use Rattle.wi_values.proofs.Keys.{keys_of-set}
-use Rattle.wi_sessions.specs.Pictures.{with_changes}
+use Rattle.wi_sessions.proofs.Words.{◌<◌, length, get_or, ◌∙◌, arith, keys_of-set, with_changes}
 use Rattle.wi_sessions.proofs.ChangeSteps.{values_more, vacant_more, room_more}
 use Rattle.wi_sessions.proofs.rooms.exchange_all.Goals as goal
 

@@ -1,9 +1,4 @@
-use Rattle.std.proofs.Common.{◌≡◌, drop}
-use Rattle.std.specs.List.{All}
-use Rattle.std.specs.Map.{keys_of}
-use Rattle.wi_sessions.specs.Pictures.{with_changes}
-use Rattle.wi_values.specs.declared.value.Value.TheVariants.{Empty}
-use Rattle.wi_sessions.specs.Inner.Rooms.{HasRoomFor, RoomsAreInOrder, VacantOnlyAt, HoldsTheSame}
+use Rattle.wi_sessions.proofs.Words.{◌≡◌, drop, All, keys_of, with_changes, Empty, HasRoomFor, RoomsAreInOrder, VacantOnlyAt, HoldsTheSame}
 use Rattle.wi_sessions.proofs.rooms.exchange_all.Given as goal
 
 abbrev pub invariant-loop-change : goal.invariant-loop-change

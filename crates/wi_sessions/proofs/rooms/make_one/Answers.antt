@@ -1,10 +1,4 @@
-use Rattle.std.proofs.Common.{◌∙◌, cond, inr, refl, sym, ap, subst, Some}
-use Rattle.std.specs.Option.{is_some}
-use Rattle.std.specs.Ordering.{nat_cmp}
-use Rattle.std.specs.BTreeMap.{is_at}
-use Rattle.wi_values.proofs.Order.{at_itself}
-use Rattle.wi_values.specs.declared.value.Value.TheVariants.{Empty}
-use Rattle.wi_sessions.specs.Inner.Rooms.{held_at, room_of, HasRoomFor, RoomsAreInOrder}
+use Rattle.wi_sessions.proofs.Words.{◌∙◌, cond, inr, refl, sym, ap, subst, Some, is_some, nat_cmp, is_at, at_itself, Empty, held_at, room_of, HasRoomFor, RoomsAreInOrder}
 use Rattle.wi_sessions.proofs.EntryLemmas.{found-with_new, order-with_new}
 use Rattle.wi_sessions.proofs.RoomLemmas.{held_made, vacancy_made, room_kept}
 use Rattle.wi_sessions.proofs.rooms.make_one.Goals as goal

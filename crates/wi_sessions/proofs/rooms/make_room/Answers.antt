@@ -1,7 +1,4 @@
-use Rattle.std.proofs.Common.{◌<◌, length, ◌∙◌, arith}
-use Rattle.std.proofs.lemmas.Result.{IfOk-at_ok}
-use Rattle.wi_values.specs.declared.value.Value.{Value}
-use Rattle.wi_sessions.specs.Inner.Rooms.{HasRoomFor}
+use Rattle.wi_sessions.proofs.Words.{◌<◌, length, ◌∙◌, arith, IfOk-at_ok, Value, HasRoomFor}
 use Rattle.wi_sessions.proofs.ChangeSteps.{vacant_more_made, room_more_made}
 use Rattle.wi_sessions.proofs.rooms.make_room.Goals as goal
 

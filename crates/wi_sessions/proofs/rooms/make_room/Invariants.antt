@@ -1,8 +1,4 @@
-use Rattle.std.proofs.Common.{ℕ, ◌<◌, get_or}
-use Rattle.std.specs.Map.{keys_of}
-use Rattle.wi_values.specs.declared.value.Value.{Value}
-use Rattle.wi_values.specs.declared.value.Value.TheVariants.{Empty}
-use Rattle.wi_sessions.specs.Inner.Rooms.{HasRoomFor, RoomsAreInOrder, VacantOnlyAt, HoldsTheSame}
+use Rattle.wi_sessions.proofs.Words.{ℕ, ◌<◌, get_or, keys_of, Value, Empty, HasRoomFor, RoomsAreInOrder, VacantOnlyAt, HoldsTheSame}
 use Rattle.wi_sessions.proofs.rooms.make_room.Given as goal
 
 abbrev pub invariant-loop-at : goal.invariant-loop-at

@@ -1,6 +1,4 @@
-use Rattle.std.proofs.Common.{sym, ◌∙◌}
-use Rattle.std.proofs.lemmas.Result.{on_ok_weaker, on_err_weaker}
-use Rattle.wi_sessions.specs.Pictures.{with_changes}
+use Rattle.wi_sessions.proofs.Words.{sym, ◌∙◌, on_ok_weaker, on_err_weaker, with_changes}
 use Rattle.wi_sessions.proofs.RoomLemmas.{Ascends-from_order}
 use Rattle.wi_sessions.proofs.PictureLemmas.{Ascends-with_changes, HasNoVacancy-with_changes, same_pictures}
 use Rattle.wi_sessions.proofs.rooms.put_changes.Goals as goal

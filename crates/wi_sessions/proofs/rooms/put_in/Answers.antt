@@ -1,4 +1,4 @@
-use Rattle.std.proofs.Common.{◌∙◌}
+use Rattle.wi_sessions.proofs.Words.{◌∙◌}
 use Rattle.wi_sessions.proofs.PictureLemmas.{same_after}
 use Rattle.wi_sessions.proofs.rooms.put_in.Goals as goal
 

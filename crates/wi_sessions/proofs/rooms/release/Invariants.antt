@@ -1,7 +1,4 @@
-use Rattle.std.proofs.Common.{drop}
-use Rattle.std.specs.Map.{keys_of}
-use Rattle.wi_values.specs.declared.value.Value.TheVariants.{Empty}
-use Rattle.wi_sessions.specs.Inner.Rooms.{RoomsAreInOrder, VacantOnlyAt, HoldsTheSame}
+use Rattle.wi_sessions.proofs.Words.{drop, keys_of, Empty, RoomsAreInOrder, VacantOnlyAt, HoldsTheSame}
 use Rattle.wi_sessions.proofs.rooms.release.Given as goal
 
 abbrev pub invariant-loop-at : goal.invariant-loop-at

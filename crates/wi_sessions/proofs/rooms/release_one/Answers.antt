@@ -1,9 +1,4 @@
-use Rattle.std.proofs.Common.{◌≡◌, ◌∙◌, ap, cond, None}
-use Rattle.std.specs.Ordering.{nat_cmp}
-use Rattle.std.specs.BTreeMap.{is_at}
-use Rattle.wi_values.proofs.Order.{at_itself}
-use Rattle.wi_values.specs.declared.value.Value.TheVariants.{Empty}
-use Rattle.wi_sessions.specs.Inner.Rooms.{room_of}
+use Rattle.wi_sessions.proofs.Words.{◌≡◌, ◌∙◌, ap, cond, None, nat_cmp, is_at, at_itself, Empty, room_of}
 use Rattle.wi_sessions.proofs.EntryLemmas.{found-removed, order-removed}
 use Rattle.wi_sessions.proofs.RoomLemmas.{held_released, vacancy_kept}
 use Rattle.wi_sessions.proofs.rooms.release_one.Goals as goal

@@ -1,5 +1,4 @@
-use Rattle.std.proofs.Common.{◌∙◌, refl}
-use Rattle.std.specs.Rc.{rc_str_bytes}
+use Rattle.wi_sessions.proofs.Words.{◌∙◌, refl, rc_str_bytes}
 use Rattle.wi_sessions.proofs.RosterLemmas.{added}
 use Rattle.wi_sessions.proofs.sessions.add.Goals as goal
 

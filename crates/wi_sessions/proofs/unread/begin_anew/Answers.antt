@@ -1,5 +1,4 @@
-use Rattle.std.proofs.Common.{◌<◌, ◌∙◌, length, refl, arith}
-use Rattle.std.proofs.lemmas.List.{length-set}
+use Rattle.wi_sessions.proofs.Words.{◌<◌, ◌∙◌, length, refl, arith, length-set}
 use Rattle.wi_sessions.proofs.PlaceLemmas.{begun_more, left_more}
 use Rattle.wi_sessions.proofs.unread.begin_anew.Goals as goal
 

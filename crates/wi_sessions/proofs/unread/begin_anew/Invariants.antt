@@ -1,4 +1,4 @@
-use Rattle.std.proofs.Common.{◌≡◌, ℕ, List, length}
+use Rattle.wi_sessions.proofs.Words.{◌≡◌, ℕ, List, length}
 use Rattle.wi_sessions.proofs.WordLemmas.{Words}
 use Rattle.wi_sessions.proofs.PlaceLemmas.{HaveBegun, LeftAsWere}
 use Rattle.wi_sessions.proofs.unread.begin_anew.Given as goal

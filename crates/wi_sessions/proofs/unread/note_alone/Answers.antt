@@ -1,5 +1,4 @@
-use Rattle.std.proofs.Common.{◌<◌, length, arith}
-use Rattle.std.proofs.lemmas.List.{length-set}
+use Rattle.wi_sessions.proofs.Words.{◌<◌, length, arith, length-set}
 use Rattle.wi_sessions.proofs.PlaceLemmas.{alone_looks, place_noted, place_read, places_set, unread_anywhere}
 use Rattle.wi_sessions.proofs.unread.note_alone.Goals as goal
 

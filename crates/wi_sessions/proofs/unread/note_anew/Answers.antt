@@ -1,5 +1,4 @@
-use Rattle.std.proofs.Common.{◌∙◌, ◌++◌, ℕ, List, [], ap, sym, subst}
-use Rattle.wi_sessions.specs.Inner.Unread.{AreLookedAt, HavePlaces}
+use Rattle.wi_sessions.proofs.Words.{◌∙◌, ◌++◌, ℕ, List, [], ap, sym, subst, AreLookedAt, HavePlaces}
 use Rattle.wi_sessions.proofs.PlaceLemmas.{places_longer, places_looked}
 use Rattle.wi_sessions.proofs.unread.note_anew.Goals as goal
 

@@ -1,8 +1,4 @@
-use Rattle.std.proofs.Common.{◌∙◌, Option, Some, None, ap, refl}
-use Rattle.std.specs.Ordering.{nat_cmp}
-use Rattle.std.specs.Map.{set_value}
-use Rattle.std.specs.BTreeMap.{is_at}
-use Rattle.wi_parser.specs.declared.content.Content.{Content}
+use Rattle.wi_store.proofs.Words.{◌∙◌, Option, Some, None, ap, refl, nat_cmp, set_value, is_at, Content}
 use Rattle.wi_store.proofs.ExchangeLemmas.{sheet_in-put, stood_there, put_order, put_length, put_kept, put_others}
 use Rattle.wi_store.proofs.rooms.exchange.Goals as goal
 

@@ -1,8 +1,4 @@
-use Rattle.std.proofs.Common.{◌<◌, length, sym, ◌∙◌, arith}
-use Rattle.wi_values.proofs.Keys.{keys_of-set}
-use Rattle.wi_store.specs.Store.{edited}
-use Rattle.wi_store.specs.Inner.Rooms.{sheet_in}
-use Rattle.wi_store.specs.Inner.Exchange.{stood}
+use Rattle.wi_store.proofs.Words.{◌<◌, length, sym, ◌∙◌, arith, keys_of-set, edited, sheet_in, stood}
 use Rattle.wi_store.proofs.RoomLemmas.{Ascends-from_order, Ascends-sheet_in, few}
 use Rattle.wi_store.proofs.ChangeLemmas.{edited_more, stood_more, room_more, vacant_more, count_fits, counted_more}
 use Rattle.wi_store.proofs.rooms.exchange_all.Goals as goal

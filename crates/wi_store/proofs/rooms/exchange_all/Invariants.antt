@@ -1,9 +1,4 @@
-use Rattle.std.proofs.Common.{◌≡◌, ◌++◌, length, take, drop}
-use Rattle.std.specs.List.{All}
-use Rattle.std.specs.Map.{keys_of}
-use Rattle.wi_store.specs.Store.{edited}
-use Rattle.wi_store.specs.Inner.Rooms.{sheet_in, RoomsAreInOrder, VacantOnlyAt, HasRoomFor}
-use Rattle.wi_store.specs.Inner.Exchange.{stood}
+use Rattle.wi_store.proofs.Words.{◌≡◌, ◌++◌, length, take, drop, All, keys_of, edited, sheet_in, RoomsAreInOrder, VacantOnlyAt, HasRoomFor, stood}
 use Rattle.wi_store.proofs.rooms.exchange_all.Given as goal
 
 abbrev pub invariant-loop-change : goal.invariant-loop-change

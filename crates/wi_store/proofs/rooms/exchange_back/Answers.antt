@@ -1,7 +1,4 @@
-use Rattle.std.proofs.Common.{◌≡◌, ◌+◌, ◌-◌, ◌<◌, length, arith}
-use Rattle.wi_values.proofs.Keys.{keys_of-set}
-use Rattle.wi_store.specs.Inner.Rooms.{sheet_in}
-use Rattle.wi_store.specs.Inner.Exchange.{restored}
+use Rattle.wi_store.proofs.Words.{◌≡◌, ◌+◌, ◌-◌, ◌<◌, length, arith, keys_of-set, sheet_in, restored}
 use Rattle.wi_store.proofs.RoomLemmas.{Ascends-from_order}
 use Rattle.wi_store.proofs.ChangeLemmas.{restored_more, room_more, vacant_more}
 use Rattle.wi_store.proofs.rooms.exchange_back.Goals as goal

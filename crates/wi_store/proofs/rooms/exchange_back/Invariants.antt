@@ -1,8 +1,4 @@
-use Rattle.std.proofs.Common.{◌≡◌, take}
-use Rattle.std.specs.List.{All}
-use Rattle.std.specs.Map.{keys_of}
-use Rattle.wi_store.specs.Inner.Rooms.{sheet_in, RoomsAreInOrder, VacantOnlyAt, HasRoomFor}
-use Rattle.wi_store.specs.Inner.Exchange.{restored}
+use Rattle.wi_store.proofs.Words.{◌≡◌, take, All, keys_of, sheet_in, RoomsAreInOrder, VacantOnlyAt, HasRoomFor, restored}
 use Rattle.wi_store.proofs.rooms.exchange_back.Given as goal
 
 abbrev pub invariant-loop-i : goal.invariant-loop-i

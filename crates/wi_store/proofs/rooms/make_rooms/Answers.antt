@@ -1,6 +1,4 @@
-use Rattle.std.proofs.Common.{◌<◌, length, refl, ◌∙◌, arith}
-use Rattle.std.proofs.lemmas.Result.{IfOk-at_ok}
-use Rattle.wi_store.specs.Inner.Rooms.{HasRoomFor}
+use Rattle.wi_store.proofs.Words.{◌<◌, length, refl, ◌∙◌, arith, IfOk-at_ok, HasRoomFor}
 use Rattle.wi_store.proofs.RoomLemmas.{Ascends-from_order, length-sheet_in-le, length-made}
 use Rattle.wi_store.proofs.ChangeLemmas.{vacant_none, vacant_more_made, room_more_made}
 use Rattle.wi_store.proofs.rooms.make_rooms.Goals as goal

@@ -1,7 +1,4 @@
-use Rattle.std.proofs.Common.{◌≡◌, ℕ, ◌<◌, get_or, Option}
-use Rattle.std.specs.Map.{keys_of}
-use Rattle.wi_parser.specs.declared.content.Content.{Content}
-use Rattle.wi_store.specs.Inner.Rooms.{sheet_in, RoomsAreInOrder, VacantOnlyAt, HasRoomFor}
+use Rattle.wi_store.proofs.Words.{◌≡◌, ℕ, ◌<◌, get_or, Option, keys_of, Content, sheet_in, RoomsAreInOrder, VacantOnlyAt, HasRoomFor}
 use Rattle.wi_store.proofs.rooms.make_rooms.Given as goal
 
 abbrev pub invariant-loop-at : goal.invariant-loop-at

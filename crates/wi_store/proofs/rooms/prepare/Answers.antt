@@ -1,4 +1,4 @@
-use Rattle.std.proofs.Common.{arith, rules}
+use Rattle.wi_store.proofs.Words.{arith, rules}
 use Rattle.wi_store.proofs.ChangeLemmas.{brought_more}
 use Rattle.wi_store.proofs.rooms.prepare.Goals as goal
 

@@ -1,5 +1,4 @@
-use Rattle.std.proofs.Common.{◌≡◌, ◌++◌, map, drop}
-use Rattle.wi_store.specs.Store.{change_without_empty}
+use Rattle.wi_store.proofs.Words.{◌≡◌, ◌++◌, map, drop, change_without_empty}
 use Rattle.wi_store.proofs.rooms.prepare.Given as goal
 
 -- the rooms that were made, with those of the changes that are left, are all

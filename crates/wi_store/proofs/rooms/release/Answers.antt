@@ -1,4 +1,4 @@
-use Rattle.std.proofs.Common.{arith}
+use Rattle.wi_store.proofs.Words.{arith}
 use Rattle.wi_store.proofs.RoomLemmas.{no_vacancy}
 use Rattle.wi_store.proofs.rooms.release.Goals as goal
 

@@ -1,6 +1,4 @@
-use Rattle.std.proofs.Common.{◌≡◌, drop}
-use Rattle.std.specs.Map.{keys_of}
-use Rattle.wi_store.specs.Inner.Rooms.{sheet_in, RoomsAreInOrder, VacantOnlyAt}
+use Rattle.wi_store.proofs.Words.{◌≡◌, drop, keys_of, sheet_in, RoomsAreInOrder, VacantOnlyAt}
 use Rattle.wi_store.proofs.rooms.release_each.Given as goal
 
 abbrev pub invariant-loop-at : goal.invariant-loop-at

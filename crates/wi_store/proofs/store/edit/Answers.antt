@@ -1,10 +1,4 @@
-use Rattle.std.proofs.Common.{ℕ, List, Option, ap, ◌∙◌, rules}
-use Rattle.wi_parser.specs.Sheet.{Sheet}
-use Rattle.wi_parser.specs.declared.content.Content.{Content}
-use Rattle.wi_values.proofs.Outcomes.{on_err}
-use Rattle.wi_store.specs.Store.{edited}
-use Rattle.wi_store.specs.Inner.Rooms.{sheet_in}
-use Rattle.wi_store.specs.Inner.Exchange.{restored}
+use Rattle.wi_store.proofs.Words.{ℕ, List, Option, ap, ◌∙◌, rules, Sheet, Content, on_err, edited, sheet_in, restored}
 use Rattle.wi_store.proofs.RoomLemmas.{Ascends-from_order, Ascends-sheet_in}
 use Rattle.wi_store.proofs.ExchangeLemmas.{restored-stood}
 use Rattle.wi_store.proofs.store.edit.Goals as goal

@@ -1,5 +1,4 @@
-use Rattle.std.proofs.Common.{◌≡◌, ◌++◌}
-use Rattle.wi_store.specs.Inner.Rooms.{formula_cells}
+use Rattle.wi_store.proofs.Words.{◌≡◌, ◌++◌, formula_cells}
 use Rattle.wi_store.proofs.store.formula_cells.Given as goal
 
 -- what was found, with what is still to come, is all

@@ -1,4 +1,4 @@
-use Rattle.std.proofs.Common.{arith}
+use Rattle.wi_tiles.proofs.Words.{arith}
 use Rattle.wi_tiles.proofs.Keys.{key_read}
 use Rattle.wi_tiles.proofs.LineLemmas.{searched_none, searched_all, searched_more, next_found}
 use Rattle.wi_tiles.proofs.band.next_tile.Goals as goal

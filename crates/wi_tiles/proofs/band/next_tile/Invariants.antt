@@ -1,4 +1,4 @@
-use Rattle.std.proofs.Common.{◌-◌, length}
+use Rattle.wi_tiles.proofs.Words.{◌-◌, length}
 use Rattle.wi_tiles.proofs.LineLemmas.{Searched}
 use Rattle.wi_tiles.proofs.band.next_tile.Given as goal
 

@@ -1,5 +1,4 @@
-use Rattle.std.proofs.Common.{arith, ◌/◌, ◌+◌}
-use Rattle.wi_values.specs.Address.{column_of}
+use Rattle.wi_tiles.proofs.Words.{arith, ◌/◌, ◌+◌, column_of}
 use Rattle.wi_tiles.proofs.BandLemmas.{part_rises, part_low, part_high, part_same, low_high}
 use Rattle.wi_tiles.proofs.band.tiles_in.Goals as goal
 

@@ -1,7 +1,4 @@
-use Rattle.std.proofs.Common.{rules, arith, ◌≡◌, ◌<◌, ◌+◌, ◌*◌, ◌/◌, true}
-use Rattle.std.specs.Prelude.{min, ◌==◌}
-use borrow.Author.Tests.{eqb-true}
-use Rattle.wi_values.specs.Address.{place, row_of}
+use Rattle.wi_tiles.proofs.Words.{rules, arith, ◌≡◌, ◌<◌, ◌+◌, ◌*◌, ◌/◌, true, min, ◌==◌, eqb-true, place, row_of}
 use Rattle.wi_tiles.proofs.Firsts.{first_bit}
 use Rattle.wi_tiles.proofs.TurnLemmas.{group_within, turn_alone, none_alone}
 use Rattle.wi_tiles.proofs.band.turn_alone.Goals as goal

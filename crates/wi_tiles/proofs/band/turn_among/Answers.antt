@@ -1,4 +1,4 @@
-use Rattle.std.proofs.Common.{rules, refl, ◌≡◌, ◌<◌, length}
+use Rattle.wi_tiles.proofs.Words.{rules, refl, ◌≡◌, ◌<◌, length}
 use Rattle.wi_tiles.proofs.TurnLemmas.{none_empty}
 use Rattle.wi_tiles.proofs.band.turn_among.Goals as goal
 

@@ -1,6 +1,4 @@
-use Rattle.std.proofs.Common.{rules, arith, ◌≡◌, ◌<◌, ◌+◌, ◌*◌, ◌/◌}
-use Rattle.std.specs.Prelude.{min}
-use Rattle.wi_values.specs.Address.{place, row_of, column_of}
+use Rattle.wi_tiles.proofs.Words.{rules, arith, ◌≡◌, ◌<◌, ◌+◌, ◌*◌, ◌/◌, min, place, row_of, column_of}
 use Rattle.wi_tiles.proofs.Firsts.{first_bit}
 use Rattle.wi_tiles.proofs.TurnLemmas.{passed_start, passed_next, passed_end, group_small, turn_beside}
 use Rattle.wi_tiles.proofs.band.turn_beside.Goals as goal

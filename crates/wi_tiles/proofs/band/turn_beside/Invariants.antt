@@ -1,4 +1,4 @@
-use Rattle.std.proofs.Common.{◌-◌}
+use Rattle.wi_tiles.proofs.Words.{◌-◌}
 use Rattle.wi_tiles.proofs.TurnLemmas.{Passed}
 use Rattle.wi_tiles.proofs.band.turn_beside.Given as goal
 

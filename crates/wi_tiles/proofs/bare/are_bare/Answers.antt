@@ -1,5 +1,4 @@
-use Rattle.std.proofs.Common.{arith, ◌≤◌, ◌/◌}
-use Rattle.wi_values.specs.Address.{column_of}
+use Rattle.wi_tiles.proofs.Words.{arith, ◌≤◌, ◌/◌, column_of}
 use Rattle.wi_tiles.proofs.BareLemmas.{bare_past, bare_before, bare_bits}
 use Rattle.wi_tiles.proofs.Keys.{key_read}
 use Rattle.wi_tiles.proofs.bare.are_bare.Goals as goal

@@ -1,4 +1,4 @@
-use Rattle.std.proofs.Common.{refl}
+use Rattle.wi_tiles.proofs.Words.{refl}
 use Rattle.wi_tiles.proofs.BareLemmas.{bare_page}
 use Rattle.wi_tiles.proofs.bare.past_bands.Goals as goal
 

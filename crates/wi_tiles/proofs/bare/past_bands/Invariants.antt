@@ -1,6 +1,4 @@
-use Rattle.std.proofs.Common.{◌-◌, ◌≤◌, ◌<◌, ℕ}
-use Rattle.wi_tiles.specs.Inner.Columns.{IsBare}
-use Rattle.wi_tiles.specs.Inner.Parts.{part_from}
+use Rattle.wi_tiles.proofs.Words.{◌-◌, ◌≤◌, ◌<◌, ℕ, IsBare, part_from}
 use Rattle.wi_tiles.proofs.bare.past_bands.Given as goal
 
 abbrev pub invariant-bands : goal.invariant-bands

@@ -1,4 +1,4 @@
-use Rattle.std.proofs.Common.{sym}
+use Rattle.wi_tiles.proofs.Words.{sym}
 use Rattle.wi_tiles.proofs.BareLemmas.{bare_rows}
 use Rattle.wi_tiles.proofs.bare.past_bare.Goals as goal
 

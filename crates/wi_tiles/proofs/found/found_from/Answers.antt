@@ -1,9 +1,4 @@
-use Rattle.std.proofs.Common.{Some, ◌≡◌, sym, subst}
-use Rattle.std.specs.Int.{w64, trailing_zeros}
-use Rattle.wi_values.specs.Address.{place}
-use Rattle.wi_tiles.specs.Inner.Cells.{at_cell}
-use Rattle.wi_tiles.specs.Inner.Next.{IsNext}
-use Rattle.wi_tiles.specs.Inner.Within.{cell_in}
+use Rattle.wi_tiles.proofs.Words.{Some, ◌≡◌, sym, subst, w64, trailing_zeros, place, at_cell, IsNext, cell_in}
 use Rattle.wi_tiles.proofs.StepLemmas.{turn_within, turn_place, turn_value}
 use Rattle.wi_tiles.proofs.WalkLemmas.{turn_first, next_started, none_started}
 use Rattle.wi_tiles.proofs.found.found_from.Goals as goal

@@ -1,5 +1,4 @@
-use Rattle.std.proofs.Common.{rules, ◌≡◌}
-use Rattle.wi_values.specs.Address.{place, column_of}
+use Rattle.wi_tiles.proofs.Words.{rules, ◌≡◌, place, column_of}
 use Rattle.wi_tiles.proofs.TurnLemmas.{reached_start, reached_next, reached_end, turn_earlier}
 use Rattle.wi_tiles.proofs.found.turn_below.Goals as goal
 

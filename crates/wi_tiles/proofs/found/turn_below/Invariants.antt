@@ -1,5 +1,4 @@
-use Rattle.std.proofs.Common.{◌-◌, ◌+◌}
-use Rattle.wi_values.specs.Address.{place, row_of}
+use Rattle.wi_tiles.proofs.Words.{◌-◌, ◌+◌, place, row_of}
 use Rattle.wi_tiles.proofs.TurnLemmas.{Reached}
 use Rattle.wi_tiles.proofs.found.turn_below.Given as goal
 

@@ -1,5 +1,4 @@
-use Rattle.std.proofs.Common.{rules, Some, ◌≡◌}
-use Rattle.wi_tiles.specs.Inner.Next.{band_at}
+use Rattle.wi_tiles.proofs.Words.{rules, Some, ◌≡◌, band_at}
 use Rattle.wi_tiles.proofs.BareLemmas.{bare_below}
 use Rattle.wi_tiles.proofs.TurnLemmas.{band_tiles, gap_none}
 use Rattle.wi_tiles.proofs.found.turn_into.Goals as goal

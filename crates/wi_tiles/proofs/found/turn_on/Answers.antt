@@ -1,6 +1,4 @@
-use Rattle.std.proofs.Common.{rules, arith, ◌≡◌, ◌+◌, ◌*◌, ◌/◌}
-use Rattle.std.proofs.lemmas.Option.{IfSome_then}
-use Rattle.wi_values.specs.Address.{place, column_of}
+use Rattle.wi_tiles.proofs.Words.{rules, arith, ◌≡◌, ◌+◌, ◌*◌, ◌/◌, IfSome_then, place, column_of}
 use Rattle.wi_tiles.proofs.TurnLemmas.{goes_beside, band_beside, turn_earlier, none_earlier, before_row}
 use Rattle.wi_tiles.proofs.WalkLemmas.{none_then}
 use Rattle.wi_tiles.proofs.found.turn_on.Goals as goal

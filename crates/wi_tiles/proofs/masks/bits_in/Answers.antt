@@ -1,4 +1,4 @@
-use Rattle.std.proofs.Common.{rules}
+use Rattle.wi_tiles.proofs.Words.{rules}
 use Rattle.wi_tiles.proofs.MaskLemmas.{inside_sound, inside_whole}
 use Rattle.wi_tiles.proofs.masks.bits_in.Goals as goal
 

@@ -1,4 +1,4 @@
-use Rattle.std.proofs.Common.{rules}
+use Rattle.wi_tiles.proofs.Words.{rules}
 use Rattle.wi_tiles.proofs.MaskLemmas.{columns_all, columns_between}
 use Rattle.wi_tiles.proofs.masks.columns_of.Goals as goal
 

@@ -1,5 +1,4 @@
-use Rattle.std.proofs.Common.{sym, ap, ◌∙◌, ◌/◌, ◌%◌}
-use Rattle.wi_tiles.specs.Inner.Next.{in_page}
+use Rattle.wi_tiles.proofs.Words.{sym, ap, ◌∙◌, ◌/◌, ◌%◌, in_page}
 use Rattle.wi_tiles.proofs.NextLemmas.{page_gap}
 use Rattle.wi_tiles.proofs.pages.past_gap.Goals as goal
 

@@ -1,4 +1,4 @@
-use Rattle.std.proofs.Common.{rules}
+use Rattle.wi_tiles.proofs.Words.{rules}
 use Rattle.wi_tiles.proofs.pages.path_of.Goals as goal
 
 pub returns-clause-value : goal.returns-clause-value

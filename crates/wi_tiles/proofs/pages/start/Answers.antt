@@ -1,4 +1,4 @@
-use Rattle.std.proofs.Common.{rules}
+use Rattle.wi_tiles.proofs.Words.{rules}
 use Rattle.wi_tiles.proofs.NextLemmas.{starts_below}
 use Rattle.wi_tiles.proofs.pages.start.Goals as goal
 

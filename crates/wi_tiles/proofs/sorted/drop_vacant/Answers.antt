@@ -1,8 +1,4 @@
-use Rattle.std.proofs.Common.{rules, arith, ◌<◌, ap, ◌∙◌, sym, None, ◌≡◌, ℕ, subst}
-use Rattle.std.specs.Prelude.{slice_index_or}
-use Rattle.std.specs.List.{All, remove}
-use Rattle.wi_tiles.specs.Inner.Lines.{slot}
-use Rattle.wi_tiles.specs.Inner.Sorted.{at_sorted, groups, Rises, IsFilled}
+use Rattle.wi_tiles.proofs.Words.{rules, arith, ◌<◌, ap, ◌∙◌, sym, None, ◌≡◌, ℕ, subst, slice_index_or, All, remove, slot, at_sorted, groups, Rises, IsFilled}
 use Rattle.wi_tiles.proofs.Filled.{all_back}
 use Rattle.wi_tiles.proofs.Keys.{key_read, Rises-remove}
 use Rattle.wi_tiles.proofs.Outcomes.{not_both}

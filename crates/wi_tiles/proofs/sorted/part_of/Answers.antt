@@ -1,4 +1,4 @@
-use Rattle.std.proofs.Common.{sym, arith}
+use Rattle.wi_tiles.proofs.Words.{sym, arith}
 use Rattle.wi_tiles.proofs.Keys.{find_beyond, find_at, just_above}
 use Rattle.wi_tiles.proofs.sorted.part_of.Goals as goal
 

@@ -1,4 +1,4 @@
-use Rattle.std.proofs.Common.{◌<◌, ◌≤◌, ◌+◌, ◌-◌, ◌/◌, ℕ, length, arith, subst, sym}
+use Rattle.wi_tiles.proofs.Words.{◌<◌, ◌≤◌, ◌+◌, ◌-◌, ◌/◌, ℕ, length, arith, subst, sym}
 use Rattle.wi_tiles.proofs.Keys.{below_more, above_more}
 use Rattle.wi_tiles.proofs.sorted.place_from.Goals as goal
 

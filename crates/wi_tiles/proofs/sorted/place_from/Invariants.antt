@@ -1,5 +1,4 @@
-use Rattle.std.proofs.Common.{◌-◌, ◌<◌, ◌≤◌, ℕ, length}
-use Rattle.wi_tiles.specs.Inner.Sorted.{key}
+use Rattle.wi_tiles.proofs.Words.{◌-◌, ◌<◌, ◌≤◌, ℕ, length, key}
 use Rattle.wi_tiles.proofs.sorted.place_from.Given as goal
 
 abbrev pub invariant-loop-low : goal.invariant-loop-low

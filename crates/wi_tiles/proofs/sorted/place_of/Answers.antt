@@ -1,5 +1,4 @@
-use Rattle.std.proofs.Common.{arith, ◌∙◌, ◌<◌, ◌≤◌, ℕ, length}
-use Rattle.wi_tiles.specs.Inner.Sorted.{key}
+use Rattle.wi_tiles.proofs.Words.{arith, ◌∙◌, ◌<◌, ◌≤◌, ℕ, length, key}
 use Rattle.wi_tiles.proofs.Keys.{key_read, find_beyond, just_above}
 use Rattle.wi_tiles.proofs.sorted.place_of.Goals as goal
 

@@ -1,9 +1,4 @@
-use Rattle.std.proofs.Common.{rules, arith, ◌<◌, ap, ◌∙◌, sym, Some, ◌≡◌, ◌%◌, ◌/◌, cond, subst}
-use Rattle.std.specs.Prelude.{◌==◌}
-use Rattle.std.specs.Option.{option_or}
-use Rattle.std.specs.List.{All, insert}
-use Rattle.wi_tiles.specs.Inner.Lines.{slot}
-use Rattle.wi_tiles.specs.Inner.Sorted.{at_sorted, groups, Rises, IsFilled}
+use Rattle.wi_tiles.proofs.Words.{rules, arith, ◌<◌, ap, ◌∙◌, sym, Some, ◌≡◌, ◌%◌, ◌/◌, cond, subst, ◌==◌, option_or, All, insert, slot, at_sorted, groups, Rises, IsFilled}
 use Rattle.wi_tiles.proofs.Filled.{all_more, filled_put}
 use Rattle.wi_tiles.proofs.Keys.{find_beyond, Rises-insert}
 use Rattle.wi_tiles.proofs.Sorts.{sorted_put}

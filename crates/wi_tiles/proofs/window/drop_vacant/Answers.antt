@@ -1,5 +1,4 @@
-use Rattle.std.proofs.Common.{rules, sym, ◌∙◌, ◌≡◌}
-use Rattle.std.specs.Prelude.{slice_index_or}
+use Rattle.wi_tiles.proofs.Words.{rules, sym, ◌∙◌, ◌≡◌, slice_index_or}
 use Rattle.wi_tiles.proofs.Outcomes.{not_both}
 use Rattle.wi_tiles.proofs.Windows.{part_is}
 use Rattle.wi_tiles.proofs.window.drop_vacant.Goals as goal

@@ -1,4 +1,4 @@
-use Rattle.std.proofs.Common.{arith, sym, ◌∙◌, ◌-◌, length}
+use Rattle.wi_tiles.proofs.Words.{arith, sym, ◌∙◌, ◌-◌, length}
 use Rattle.wi_tiles.proofs.Outcomes.{not_both}
 use Rattle.wi_tiles.proofs.Windows.{part_is}
 use Rattle.wi_tiles.proofs.window.ends_vacant.Goals as goal

@@ -1,5 +1,4 @@
-use Rattle.std.proofs.Common.{arith, ap, ◌∙◌, length}
-use Rattle.wi_tiles.specs.Inner.Parts.{at_window}
+use Rattle.wi_tiles.proofs.Words.{arith, ap, ◌∙◌, length, at_window}
 use Rattle.wi_tiles.proofs.window.lengthen.Goals as goal
 
 pub up-init : goal.up-init

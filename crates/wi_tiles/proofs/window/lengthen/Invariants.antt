@@ -1,5 +1,4 @@
-use Rattle.std.proofs.Common.{◌≡◌, ◌-◌, ◌+◌, ◌<◌, ◌≤◌, ℕ, length}
-use Rattle.wi_tiles.specs.Inner.Parts.{at_window, span}
+use Rattle.wi_tiles.proofs.Words.{◌≡◌, ◌-◌, ◌+◌, ◌<◌, ◌≤◌, ℕ, length, at_window, span}
 use Rattle.wi_tiles.proofs.window.lengthen.Given as goal
 
 abbrev pub invariant-up : goal.invariant-up

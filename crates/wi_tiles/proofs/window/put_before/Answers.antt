@@ -1,6 +1,4 @@
-use Rattle.std.proofs.Common.{rules, arith, ap, ◌∙◌, ◌≡◌, ◌+◌, ◌++◌, length}
-use Rattle.std.proofs.lemmas.List.{length-append}
-use Rattle.wi_tiles.specs.Inner.Parts.{at_window}
+use Rattle.wi_tiles.proofs.Words.{rules, arith, ap, ◌∙◌, ◌≡◌, ◌+◌, ◌++◌, length, length-append, at_window}
 use Rattle.wi_tiles.proofs.Windows.{window_before}
 use Rattle.wi_tiles.proofs.window.put_before.Goals as goal
 

@@ -1,7 +1,4 @@
-use Rattle.std.proofs.Common.{rules, ap, ◌∙◌, sym, Some, ◌≡◌, ◌-◌, ◌<◌, ◌≤◌, ◌%◌, ◌/◌, ℕ, length, cond, refl, subst}
-use Rattle.std.specs.Prelude.{slice_index_or, ◌==◌, IfOk, is_some, not}
-use Rattle.std.specs.Option.{option_or}
-use Rattle.wi_tiles.specs.Inner.Parts.{at_part, at_window, span}
+use Rattle.wi_tiles.proofs.Words.{rules, ap, ◌∙◌, sym, Some, ◌≡◌, ◌-◌, ◌<◌, ◌≤◌, ◌%◌, ◌/◌, ℕ, length, cond, refl, subst, slice_index_or, ◌==◌, IfOk, is_some, not, option_or, at_part, at_window, span}
 use Rattle.wi_tiles.proofs.Outcomes.{on_ok, on_err}
 use Rattle.wi_tiles.proofs.Windows.{part_read, window_changed, window_kept}
 use Rattle.wi_tiles.proofs.window.put_part.Goals as goal

@@ -1,7 +1,4 @@
-use Rattle.std.proofs.Common.{rules, arith, ap, ◌∙◌, sym, ◌≡◌, ◌+◌, ◌<◌, ◌≤◌, ℕ, None, length, drop, subst}
-use Rattle.std.specs.Prelude.{slice_get}
-use Rattle.std.proofs.lemmas.List.{length-drop}
-use Rattle.wi_tiles.specs.Inner.Parts.{at_part, at_window, HasSome, IsTrimmed}
+use Rattle.wi_tiles.proofs.Words.{rules, arith, ap, ◌∙◌, sym, ◌≡◌, ◌+◌, ◌<◌, ◌≤◌, ℕ, None, length, drop, subst, slice_get, length-drop, at_part, at_window, HasSome, IsTrimmed}
 use Rattle.wi_tiles.proofs.Ends.{trimmed_from, window_from}
 use Rattle.wi_tiles.proofs.window.trim.Goals as goal
 

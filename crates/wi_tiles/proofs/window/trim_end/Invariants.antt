@@ -1,5 +1,4 @@
-use Rattle.std.proofs.Common.{◌≡◌, ◌≤◌, ℕ, length}
-use Rattle.wi_tiles.specs.Inner.Parts.{at_window}
+use Rattle.wi_tiles.proofs.Words.{◌≡◌, ◌≤◌, ℕ, length, at_window}
 use Rattle.wi_tiles.proofs.window.trim_end.Given as goal
 
 abbrev pub invariant-end : goal.invariant-end

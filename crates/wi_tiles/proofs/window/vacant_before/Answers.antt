@@ -1,4 +1,4 @@
-use Rattle.std.proofs.Common.{arith, sym, ◌∙◌}
+use Rattle.wi_tiles.proofs.Words.{arith, sym, ◌∙◌}
 use Rattle.wi_tiles.proofs.Ends.{vacant_more}
 use Rattle.wi_tiles.proofs.Outcomes.{not_both}
 use Rattle.wi_tiles.proofs.Windows.{part_is}

@@ -1,6 +1,4 @@
-use Rattle.std.proofs.Common.{◌≡◌, ◌-◌, ◌<◌, ◌≤◌, ℕ, None, length}
-use Rattle.std.specs.Prelude.{slice_get}
-use Rattle.wi_tiles.specs.Inner.Parts.{at_part}
+use Rattle.wi_tiles.proofs.Words.{◌≡◌, ◌-◌, ◌<◌, ◌≤◌, ℕ, None, length, slice_get, at_part}
 use Rattle.wi_tiles.proofs.window.vacant_before.Given as goal
 
 abbrev pub invariant-parts : goal.invariant-parts

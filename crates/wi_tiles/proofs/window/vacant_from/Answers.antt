@@ -1,4 +1,4 @@
-use Rattle.std.proofs.Common.{rules, arith, ◌∙◌, ◌≡◌, length}
+use Rattle.wi_tiles.proofs.Words.{rules, arith, ◌∙◌, ◌≡◌, length}
 use Rattle.wi_tiles.proofs.Windows.{window_none}
 use Rattle.wi_tiles.proofs.window.vacant_from.Goals as goal
 

@@ -1,5 +1,4 @@
-use Rattle.std.proofs.Common.{◌≡◌, ◌-◌, ◌≤◌, ℕ, None, length}
-use Rattle.wi_tiles.specs.Inner.Parts.{at_window}
+use Rattle.wi_tiles.proofs.Words.{◌≡◌, ◌-◌, ◌≤◌, ℕ, None, length, at_window}
 use Rattle.wi_tiles.proofs.window.vacant_from.Given as goal
 
 abbrev pub invariant-more : goal.invariant-more

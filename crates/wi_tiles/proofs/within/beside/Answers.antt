@@ -1,8 +1,4 @@
-use Rattle.std.proofs.Common.{rules, sym, subst}
-use Rattle.std.specs.Prelude.{IfSome}
-use Rattle.wi_values.specs.Address.{place}
-use Rattle.wi_tiles.specs.Inner.Cells.{Pages}
-use Rattle.wi_tiles.specs.Inner.Within.{AreBeside, IsTurn}
+use Rattle.wi_tiles.proofs.Words.{rules, sym, subst, IfSome, place, Pages, AreBeside, IsTurn}
 use Rattle.wi_tiles.proofs.TurnLemmas.{goes_beside}
 use Rattle.wi_tiles.proofs.WalkLemmas.{whatever}
 use Rattle.wi_tiles.proofs.within.beside.Goals as goal

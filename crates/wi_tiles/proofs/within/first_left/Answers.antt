@@ -1,8 +1,4 @@
-use Rattle.std.proofs.Common.{rules, arith, ℕ, ◌≡◌, ◌<◌, sym, subst, true}
-use Rattle.std.specs.Prelude.{IsSome, IfSome, IfNone, MatchOption}
-use Rattle.std.specs.Int.{bit_at, w64, trailing_zeros}
-use Rattle.wi_tiles.specs.Inner.Lines.{slot}
-use Rattle.wi_tiles.specs.Inner.Within.{CountsFirst, IsFirstLeft}
+use Rattle.wi_tiles.proofs.Words.{rules, arith, ℕ, ◌≡◌, ◌<◌, sym, subst, true, IsSome, IfSome, IfNone, MatchOption, bit_at, w64, trailing_zeros, slot, CountsFirst, IsFirstLeft}
 use Rattle.wi_tiles.proofs.Counts.{filled_small, filled_below}
 use Rattle.wi_tiles.proofs.Firsts.{first_bit, first_value}
 use Rattle.wi_tiles.proofs.within.first_left.Goals as goal

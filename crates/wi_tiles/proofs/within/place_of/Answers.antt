@@ -1,4 +1,4 @@
-use Rattle.std.proofs.Common.{rules, sym}
+use Rattle.wi_tiles.proofs.Words.{rules, sym}
 use Rattle.wi_tiles.proofs.within.place_of.Goals as goal
 
 pub returns-then-whole : goal.returns-then-whole

@@ -1,5 +1,4 @@
-use Rattle.std.specs.Int.{w64}
-use Rattle.std.proofs.lemmas.Nat.Bits.{bit_at_clear_same, bit_at_clear_other}
+use Rattle.wi_tiles.proofs.Words.{w64, bit_at_clear_same, bit_at_clear_other}
 use Rattle.wi_tiles.proofs.within.without.Goals as goal
 
 pub returns-clause-cleared : goal.returns-clause-cleared

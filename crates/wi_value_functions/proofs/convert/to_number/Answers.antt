@@ -1,4 +1,4 @@
-use Rattle.std.proofs.Common.{rules}
+use Rattle.wi_value_functions.proofs.Words.{rules}
 use Rattle.wi_value_functions.proofs.convert.to_number.Goals as goal
 
 pub returns-in-Text : goal.returns-in-Text

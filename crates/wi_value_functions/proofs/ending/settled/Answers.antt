@@ -1,4 +1,4 @@
-use Rattle.std.proofs.Common.{rules}
+use Rattle.wi_value_functions.proofs.Words.{rules}
 use Rattle.wi_value_functions.proofs.ending.settled.Goals as goal
 
 pub returns-in-Err-Error-clause-ends : goal.returns-in-Err-Error-clause-ends

@@ -1,4 +1,4 @@
-use Rattle.std.proofs.Common.{rules}
+use Rattle.wi_value_functions.proofs.Words.{rules}
 use Rattle.wi_value_functions.proofs.first_error.no_error.Goals as goal
 
 pub returns-in-Empty : goal.returns-in-Empty

@@ -1,4 +1,4 @@
-use Rattle.std.proofs.Common.{rules}
+use Rattle.wi_value_functions.proofs.Words.{rules}
 use Rattle.wi_value_functions.proofs.logical.true_value.Goals as goal
 
 pub returns : goal.returns

@@ -1,4 +1,4 @@
-use Rattle.std.proofs.Common.{sym, ◌∙◌, rules, arith}
+use Rattle.wi_value_functions.proofs.Words.{sym, ◌∙◌, rules, arith}
 use Rattle.wi_value_functions.proofs.Comparing.{apart, alike, ended}
 use Rattle.wi_value_functions.proofs.table.compare.Goals as goal
 

@@ -1,6 +1,4 @@
-use Rattle.std.proofs.Common.{◌≡◌}
-use Rattle.std.specs.Cmp.Lexicographic.{slice_cmp}
-use Rattle.std.specs.Ordering.{nat_cmp}
+use Rattle.wi_value_functions.proofs.Words.{◌≡◌, slice_cmp, nat_cmp}
 use Rattle.wi_value_functions.proofs.Comparing.{order_from}
 use Rattle.wi_value_functions.proofs.table.compare.Given as goal
 

@@ -1,6 +1,4 @@
-use Rattle.std.proofs.Common.{sym, ap, ◌∙◌}
-use Rattle.wi_standard_functions.specs.Functions.{has_parameters}
-use Rattle.wi_value_functions.specs.Inner.Rows.{function_of}
+use Rattle.wi_value_functions.proofs.Words.{sym, ap, ◌∙◌, has_parameters, function_of}
 use Rattle.wi_value_functions.proofs.Names.{call_unknown, call_taken, call_refused}
 use Rattle.wi_value_functions.proofs.table.function_for.Goals as goal
 

@@ -1,5 +1,4 @@
-use Rattle.std.proofs.Common.{◌+◌, ◌/◌, sym, ◌∙◌, arith}
-use Rattle.wi_value_functions.specs.Inner.Rows.{function_of}
+use Rattle.wi_value_functions.proofs.Words.{◌+◌, ◌/◌, sym, ◌∙◌, arith, function_of}
 use Rattle.wi_value_functions.proofs.Searching.{before, behind}
 use Rattle.wi_value_functions.proofs.Names.{rows_ascend, row_found, none_found}
 use Rattle.wi_value_functions.proofs.table.row_of.Goals as goal

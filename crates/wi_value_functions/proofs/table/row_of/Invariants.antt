@@ -1,4 +1,4 @@
-use Rattle.std.proofs.Common.{◌-◌, ◌≤◌, length}
+use Rattle.wi_value_functions.proofs.Words.{◌-◌, ◌≤◌, length}
 use Rattle.wi_value_functions.proofs.Searching.{IsWithin}
 use Rattle.wi_value_functions.proofs.table.row_of.Given as goal
 

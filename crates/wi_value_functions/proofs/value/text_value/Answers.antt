@@ -1,6 +1,4 @@
-use Rattle.std.proofs.Common.{rules, ◌≡◌, List, IfOk, sym, subst}
-use Rattle.wi_standard_functions.specs.Text.{concatenate_value}
-use Rattle.wi_values.specs.declared.value.Value.{Value}
+use Rattle.wi_value_functions.proofs.Words.{rules, ◌≡◌, List, IfOk, sym, subst, concatenate_value, Value}
 use Rattle.wi_value_functions.proofs.Given.{values_are}
 use Rattle.wi_value_functions.proofs.value.text_value.Goals as goal
 use Rattle.wi_value_functions.proofs.value.text_value.Goals.{in-Concatenate, in-Exact, in-Find, in-Left, in-Len, in-Mid, in-Rept, in-Right}

@@ -1,4 +1,4 @@
-use Rattle.std.proofs.Common.{◌<◌, inl, inr, arith}
+use Rattle.wi_values.proofs.Words.{◌<◌, inl, inr, arith}
 use Rattle.wi_values.proofs.Letters.{append_no_letters, append_letter}
 use Rattle.wi_values.proofs.address.+push_letters.Goals as goal
 use Rattle.wi_values.proofs.address.+push_letters.Goals.{then-most-eq0-via-then-most-eq0, then-most-eq0-via-else-most-eq0+then-number-eq0}

@@ -1,7 +1,5 @@
-use Rattle.std.proofs.Common.{◌≡◌, ◌+◌, ◌-◌, ◌∙◌, get_or, min, ap, arith}
-use Rattle.std.specs.Char.{to_ascii_uppercase}
+use Rattle.wi_values.proofs.Words.{◌≡◌, ◌+◌, ◌-◌, ◌∙◌, get_or, min, ap, arith, to_ascii_uppercase, columns}
 use Rattle.wi_values.proofs.Spelling.{letters_step, letters_from_none}
-use Rattle.wi_values.specs.Address.{columns}
 use Rattle.wi_values.proofs.address.column_number.Goals as goal
 
 pub loop-letter-init : goal.loop-letter-init

@@ -1,5 +1,4 @@
-use Rattle.std.proofs.Common.{◌≡◌, ◌+◌, ◌≤◌, min, drop}
-use Rattle.wi_values.specs.Address.{columns, letters_value}
+use Rattle.wi_values.proofs.Words.{◌≡◌, ◌+◌, ◌≤◌, min, drop, columns, letters_value}
 use Rattle.wi_values.proofs.Spelling.{letters_value_after}
 use Rattle.wi_values.proofs.address.column_number.Given as goal
 

@@ -1,6 +1,4 @@
-use Rattle.std.proofs.Common.{◌≡◌, ◌+◌, drop}
-use Rattle.std.specs.Char.{is_ascii_alphabetic}
-use Rattle.std.specs.List.{prefix_len}
+use Rattle.wi_values.proofs.Words.{◌≡◌, ◌+◌, drop, is_ascii_alphabetic, prefix_len}
 use Rattle.wi_values.proofs.address.letters_len.Given as goal
 
 abbrev pub invariant-loop-i : goal.invariant-loop-i

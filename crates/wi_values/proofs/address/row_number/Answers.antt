@@ -1,5 +1,4 @@
-use Rattle.std.proofs.Common.{◌≡◌, ◌∙◌, get_or, ap, arith}
-use Rattle.std.specs.Char.{digit_value}
+use Rattle.wi_values.proofs.Words.{◌≡◌, ◌∙◌, get_or, ap, arith, digit_value}
 use Rattle.wi_values.proofs.Spelling.{digits_step, digit_or_none}
 use Rattle.wi_values.proofs.address.row_number.Goals as goal
 

@@ -1,6 +1,4 @@
-use Rattle.std.proofs.Common.{◌≡◌, ◌+◌, ◌≤◌, min, drop}
-use Rattle.std.specs.Str.Parse.{digits_value, digits_value_after}
-use Rattle.wi_values.specs.Address.{rows}
+use Rattle.wi_values.proofs.Words.{◌≡◌, ◌+◌, ◌≤◌, min, drop, digits_value, digits_value_after, rows}
 use Rattle.wi_values.proofs.address.row_number.Given as goal
 
 abbrev pub invariant-loop-c : goal.invariant-loop-c

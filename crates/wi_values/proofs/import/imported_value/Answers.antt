@@ -1,5 +1,4 @@
-use Rattle.std.proofs.Common.{rules}
-use Rattle.wi_values.specs.Inner.Import.{imported}
+use Rattle.wi_values.proofs.Words.{rules, imported}
 use Rattle.wi_values.proofs.import.imported_value.Goals as goal
 
 pub returns-in-Some-clause-value : goal.returns-in-Some-clause-value

@@ -1,9 +1,4 @@
-use Rattle.std.proofs.Common.{◌++◌, ◌∙◌, List, ap}
-use Rattle.std.proofs.lemmas.Result.{err_from_is_err_and}
-use Rattle.wi_values.specs.declared.replacement.Replacement.{Replacement}
-use Rattle.wi_values.specs.Replacements.{as_map}
-use Rattle.wi_values.proofs.Replacements.InOrder.{order_from_entries, one_more_taken, all_taken}
-use Rattle.wi_values.proofs.Lists.{one_less}
+use Rattle.wi_worlds.proofs.Words.{◌++◌, ◌∙◌, List, ap, err_from_is_err_and, Replacement, as_map, order_from_entries, one_more_taken, all_taken, one_less}
 use Rattle.wi_worlds.proofs.entries.listed.Goals as goal
 
 pub loop-at-init : goal.loop-at-init

@@ -1,5 +1,4 @@
-use Rattle.std.proofs.Common.{◌≡◌, ◌++◌}
-use Rattle.wi_values.specs.Replacements.{as_map}
+use Rattle.wi_worlds.proofs.Words.{◌≡◌, ◌++◌, as_map}
 use Rattle.wi_worlds.proofs.entries.listed.Given as goal
 
 abbrev pub invariant-loop-at : goal.invariant-loop-at

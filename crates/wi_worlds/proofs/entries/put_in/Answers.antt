@@ -1,5 +1,4 @@
-use Rattle.std.proofs.Common.{arith}
-use Rattle.std.proofs.lemmas.Grind.{common_steps}
+use Rattle.wi_worlds.proofs.Words.{arith, common_steps}
 use Rattle.wi_worlds.proofs.entries.put_in.Goals as goal
 
 pub loop-replacement-preserved : goal.loop-replacement-preserved

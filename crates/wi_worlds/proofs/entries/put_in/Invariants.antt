@@ -1,5 +1,4 @@
-use Rattle.std.proofs.Common.{◌≡◌, drop}
-use Rattle.wi_values.specs.Replacements.{overridden}
+use Rattle.wi_worlds.proofs.Words.{◌≡◌, drop, overridden}
 use Rattle.wi_worlds.proofs.entries.put_in.Given as goal
 
 -- what is left to be put in leads to the whole

@@ -1,8 +1,4 @@
-use Rattle.std.proofs.Common.{◌∙◌, List, sym, ap}
-use Rattle.wi_values.specs.declared.replacement.Replacement.{Replacement}
-use Rattle.wi_values.specs.Replacements.{replaced}
-use Rattle.wi_values.proofs.Replacements.Same.{same_replacements_Decides}
-use Rattle.wi_values.proofs.Replacements.InOrder.{same_from_replaced}
+use Rattle.wi_worlds.proofs.Words.{◌∙◌, List, sym, ap, Replacement, replaced, same_replacements_Decides, same_from_replaced}
 use Rattle.wi_worlds.proofs.laws.equal_worlds_are_one.Goals as goal
 
 pub returns-clause-one : goal.returns-clause-one

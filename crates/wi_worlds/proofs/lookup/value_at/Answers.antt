@@ -1,5 +1,4 @@
-use Rattle.std.proofs.Common.{rules}
-use Rattle.std.proofs.lemmas.List.Sorted.{answers_always}
+use Rattle.wi_worlds.proofs.Words.{rules, answers_always}
 use Rattle.wi_worlds.proofs.Searching.{searched_of}
 use Rattle.wi_worlds.proofs.lookup.value_at.Goals as goal
 

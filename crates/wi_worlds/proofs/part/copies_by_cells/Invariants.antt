@@ -1,5 +1,4 @@
-use Rattle.std.proofs.Common.{◌≡◌, ◌++◌, drop}
-use Rattle.wi_worlds.specs.Inner.Picked.{picked}
+use Rattle.wi_worlds.proofs.Words.{◌≡◌, ◌++◌, drop, picked}
 use Rattle.wi_worlds.proofs.part.copies_by_cells.Given as goal
 
 -- those that are kept, and those that will be

@@ -1,5 +1,4 @@
-use Rattle.std.proofs.Common.{◌≡◌, ◌++◌, drop, filter}
-use Rattle.wi_worlds.specs.Reached.{is_of}
+use Rattle.wi_worlds.proofs.Words.{◌≡◌, ◌++◌, drop, filter, is_of}
 use Rattle.wi_worlds.proofs.part.copies_by_replacements.Given as goal
 
 -- those that are kept, and those that will be

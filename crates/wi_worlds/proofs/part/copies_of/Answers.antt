@@ -1,5 +1,4 @@
-use Rattle.std.proofs.Common.{◌∙◌}
-use Rattle.std.proofs.lemmas.Result.{IfOk-weaker}
+use Rattle.wi_worlds.proofs.Words.{◌∙◌, IfOk-weaker}
 use Rattle.wi_worlds.proofs.PickedLemmas.{picked_is}
 use Rattle.wi_worlds.proofs.part.copies_of.Goals as goal
 

@@ -1,5 +1,4 @@
-use Rattle.std.proofs.Common.{◌∙◌, Some, ap, rules}
-use Rattle.std.proofs.lemmas.List.Sorted.{answers_always}
+use Rattle.wi_worlds.proofs.Words.{◌∙◌, Some, ap, rules, answers_always}
 use Rattle.wi_worlds.proofs.Searching.{found_of}
 use Rattle.wi_worlds.proofs.part.found_at.Goals as goal
 

@@ -1,6 +1,4 @@
-use Rattle.std.proofs.Common.{◌≡◌, ◌≤◌, ◌+◌, ◌&&◌, true, drop, length}
-use Rattle.wi_values.specs.Replacements.{same_replacements}
-use Rattle.wi_worlds.specs.Inner.Picked.{picked}
+use Rattle.wi_worlds.proofs.Words.{◌≡◌, ◌≤◌, ◌+◌, ◌&&◌, true, drop, length, same_replacements, picked}
 use Rattle.wi_worlds.proofs.part.part_by_cells.Given as goal
 
 -- those that are counted, and whether what is left of both is the same

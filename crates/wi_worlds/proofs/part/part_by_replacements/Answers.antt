@@ -1,7 +1,4 @@
-use Rattle.std.proofs.Common.{◌≡◌, ◌==◌, filter, length, arith}
-use Rattle.std.proofs.lemmas.Grind.{common_steps}
-use Rattle.wi_values.specs.Replacements.{same_replacements}
-use Rattle.wi_worlds.specs.Reached.{is_of}
+use Rattle.wi_worlds.proofs.Words.{◌≡◌, ◌==◌, filter, length, arith, common_steps, same_replacements, is_of}
 use Rattle.wi_worlds.proofs.part.part_by_replacements.Goals as goal
 
 pub returns-then-is_last-2-clause-last : goal.returns-then-is_last-2-clause-last

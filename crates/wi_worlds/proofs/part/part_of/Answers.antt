@@ -1,6 +1,4 @@
-use Rattle.std.proofs.Common.{◌∙◌, List, length, ap}
-use Rattle.wi_values.specs.declared.replacement.Replacement.{Replacement}
-use Rattle.wi_values.specs.Replacements.{same_replacements}
+use Rattle.wi_worlds.proofs.Words.{◌∙◌, List, length, ap, Replacement, same_replacements}
 use Rattle.wi_worlds.proofs.PickedLemmas.{picked_is}
 use Rattle.wi_worlds.proofs.part.part_of.Goals as goal
 

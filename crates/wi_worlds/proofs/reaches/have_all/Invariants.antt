@@ -1,6 +1,4 @@
-use Rattle.std.proofs.Common.{◌≡◌, true, take}
-use Rattle.std.specs.List.{list_all}
-use Rattle.wi_worlds.specs.Reached.{has_cell}
+use Rattle.wi_worlds.proofs.Words.{◌≡◌, true, take, list_all, has_cell}
 use Rattle.wi_worlds.proofs.reaches.have_all.Given as goal
 
 -- the cells have those passed

@@ -1,6 +1,5 @@
-use Rattle.std.proofs.Common.{◌∙◌, ℕ, List, [], Option, IsSome, refl, sym, ap, subst}
-use Rattle.std.specs.Option.{unwrap_or}
-use Rattle.std.proofs.lemmas.Result.{on_ok_weaker, on_err_weaker, err_from_is_err_and}
+use Rattle.wi_worlds.proofs.Words.{◌∙◌, ℕ, List, [], Option, refl, sym, ap, subst, unwrap_or, on_ok_weaker, on_err_weaker, err_from_is_err_and}
+use Rattle.std.proofs.Common.{IsSome}
 use Rattle.wi_worlds.proofs.TellSteps.{told_more, told_same, told_first, told_as_before}
 use Rattle.wi_worlds.proofs.reaches.put.Goals as goal
 

@@ -1,5 +1,4 @@
-use Rattle.std.proofs.Common.{◌≡◌, ℕ, List, take, subst, arith}
-use Rattle.std.proofs.lemmas.Grind.{common_steps}
+use Rattle.wi_worlds.proofs.Words.{◌≡◌, ℕ, List, take, subst, arith, common_steps}
 use Rattle.wi_worlds.proofs.TellSteps.{ToldOf, told_none, told_next, adds_some, adds_same}
 use Rattle.wi_worlds.proofs.reaches.put_all.Goals as goal
 

@@ -1,4 +1,4 @@
-use Rattle.std.proofs.Common.{take}
+use Rattle.wi_worlds.proofs.Words.{take}
 use Rattle.wi_worlds.proofs.TellSteps.{ToldOf}
 use Rattle.wi_worlds.proofs.reaches.put_all.Given as goal
 

@@ -1,4 +1,4 @@
-use Rattle.std.proofs.Common.{Ok, Err}
+use Rattle.wi_worlds.proofs.Words.{Ok, Err}
 use Rattle.wi_worlds.proofs.RisingSteps.{search_tells}
 use Rattle.wi_worlds.proofs.rising.has_next.Goals as goal
 

@@ -1,5 +1,4 @@
-use Rattle.std.proofs.Common.{rules}
-use Rattle.wi_worlds.specs.Inner.Compared.{digest_of}
+use Rattle.wi_worlds.proofs.Words.{rules, digest_of}
 use Rattle.wi_worlds.proofs.world.digest.Goals as goal
 
 pub returns : goal.returns

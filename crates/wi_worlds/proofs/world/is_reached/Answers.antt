@@ -1,4 +1,4 @@
-use Rattle.std.proofs.Common.{rules}
+use Rattle.wi_worlds.proofs.Words.{rules}
 use Rattle.wi_worlds.proofs.world.is_reached.Goals as goal
 
 pub returns : goal.returns

@@ -1,11 +1,4 @@
-use Rattle.std.proofs.Common.{◌≡◌, ◌==◌, filter, length, subst, sym, arith}
-use Rattle.std.proofs.lemmas.Grind.{common_steps}
-use Rattle.std.specs.Prelude.{IsSome}
-use Rattle.std.specs.BTreeMap.{get}
-use Rattle.std.specs.Ordering.{nat_cmp}
-use Rattle.wi_values.specs.declared.replacement.Replacement.{Replacement}
-use Rattle.wi_values.specs.Replacements.{same_replacements}
-use Rattle.wi_worlds.specs.Reaching.{is_reached}
+use Rattle.wi_worlds.proofs.Words.{◌≡◌, ◌==◌, filter, length, subst, sym, arith, common_steps, IsSome, get, nat_cmp, Replacement, same_replacements, is_reached}
 use Rattle.wi_worlds.proofs.world.part_reached.Goals as goal
 
 pub returns-then-is_last-2-clause-last : goal.returns-then-is_last-2-clause-last

@@ -1,6 +1,4 @@
-use Rattle.std.proofs.Common.{◌≡◌, ◌≤◌, ◌&&◌, true, drop, take, filter, length}
-use Rattle.wi_values.specs.Replacements.{same_replacements}
-use Rattle.wi_worlds.specs.Reaching.{is_reached}
+use Rattle.wi_worlds.proofs.Words.{◌≡◌, ◌≤◌, ◌&&◌, true, drop, take, filter, length, same_replacements, is_reached}
 use Rattle.wi_worlds.proofs.world.part_reached.Given as goal
 
 -- those that are counted, and whether what is left of both is the same

@@ -1,9 +1,4 @@
-use Rattle.std.proofs.Common.{subst, sym, arith}
-use Rattle.std.proofs.lemmas.Grind.{common_steps}
-use Rattle.std.specs.Prelude.{IsSome}
-use Rattle.std.specs.BTreeMap.{get}
-use Rattle.std.specs.Ordering.{nat_cmp}
-use Rattle.wi_values.specs.declared.replacement.Replacement.{Replacement}
+use Rattle.wi_worlds.proofs.Words.{subst, sym, arith, common_steps, IsSome, get, nat_cmp, Replacement}
 use Rattle.wi_worlds.proofs.world.reached.Goals as goal
 
 pub is_reached-requires : goal.is_reached-requires

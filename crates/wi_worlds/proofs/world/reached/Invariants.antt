@@ -1,5 +1,4 @@
-use Rattle.std.proofs.Common.{◌≡◌, ◌++◌, drop, filter}
-use Rattle.wi_worlds.specs.Reaching.{is_reached}
+use Rattle.wi_worlds.proofs.Words.{◌≡◌, ◌++◌, drop, filter, is_reached}
 use Rattle.wi_worlds.proofs.world.reached.Given as goal
 
 -- those that are kept, and those that will be

@@ -1,4 +1,4 @@
-use Rattle.std.proofs.Common.{◌∙◌, sym, refl, subst}
+use Rattle.wi_cli.proofs.Vocabulary.{◌∙◌, sym, refl, subst}
 use Rattle.wi_cli.specs.Inner.Data.{Holds}
 use Rattle.wi_cli.proofs.DataLemmas.{added_none, added_one, held_on}
 use Rattle.wi_cli.proofs.data_lines.DataLines.add.Goals as goal

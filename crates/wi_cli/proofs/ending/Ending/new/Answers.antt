@@ -1,4 +1,4 @@
-use Rattle.std.proofs.Common.{rules}
+use Rattle.wi_cli.proofs.Vocabulary.{rules}
 use Rattle.wi_cli.proofs.ending.Ending.new.Goals as goal
 
 pub returns-in-Err-clause-status : goal.returns-in-Err-clause-status

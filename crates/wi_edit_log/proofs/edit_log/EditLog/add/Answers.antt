@@ -1,9 +1,4 @@
-use Rattle.std.proofs.Common.{◌∙◌, List, ap, sym, subst, arith, rules}
-use Rattle.std.proofs.lemmas.Grind.{common_steps}
-use Rattle.std.proofs.lemmas.Result.{err_from_is_err_and}
-use Rattle.wi_edit_log.specs.Inner.Edits.{entries_in}
-use Rattle.wi_edit_log.specs.Inner.Noted.{IsKept}
-use Rattle.wi_edit_log.specs.declared.edit.Edit.{Edit}
+use Rattle.wi_edit_log.proofs.Words.{◌∙◌, List, ap, sym, subst, arith, rules, common_steps, err_from_is_err_and, entries_in, IsKept, Edit}
 use Rattle.wi_edit_log.proofs.Notes.{noted_before_more}
 use Rattle.wi_edit_log.proofs.Runs.{runs_of_more}
 use Rattle.wi_edit_log.proofs.edit_log.EditLog.add.Goals as goal

@@ -1,5 +1,4 @@
-use Rattle.std.proofs.Common.{◌∙◌, None, ap, min, rules, sym}
-use Rattle.wi_edit_log.specs.Inner.Edits.{entries_in}
+use Rattle.wi_edit_log.proofs.Words.{◌∙◌, None, ap, min, rules, sym, entries_in}
 use Rattle.wi_edit_log.proofs.Least.{stale_is_first}
 use Rattle.wi_edit_log.proofs.Runs.{none_of_own}
 use Rattle.wi_edit_log.proofs.edit_log.EditLog.first_stale.Goals as goal

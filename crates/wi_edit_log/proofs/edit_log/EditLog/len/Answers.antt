@@ -1,5 +1,4 @@
-use Rattle.std.proofs.Common.{arith}
-use Rattle.std.proofs.lemmas.Grind.{common_steps}
+use Rattle.wi_edit_log.proofs.Words.{arith, common_steps}
 use Rattle.wi_edit_log.proofs.edit_log.EditLog.len.Goals as goal
 
 pub returns : goal.returns

@@ -1,5 +1,4 @@
-use Rattle.std.proofs.Common.{◌≡◌, ◌-◌, length, take, arith}
-use Rattle.std.proofs.lemmas.Grind.{common_steps}
+use Rattle.wi_edit_log.proofs.Words.{◌≡◌, ◌-◌, length, take, arith, common_steps}
 use Rattle.wi_edit_log.proofs.Notes.{kept_of_fewer}
 use Rattle.wi_edit_log.proofs.edit_log.EditLog.take_back.Goals as goal
 

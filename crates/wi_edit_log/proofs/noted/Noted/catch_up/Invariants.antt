@@ -1,5 +1,4 @@
-use Rattle.std.proofs.Common.{◌≡◌}
-use Rattle.wi_edit_log.specs.Inner.Noted.{AreNoted}
+use Rattle.wi_edit_log.proofs.Words.{◌≡◌, AreNoted}
 use Rattle.wi_edit_log.proofs.noted.Noted.catch_up.Given as goal
 
 abbrev pub invariant-loop-known : goal.invariant-loop-known

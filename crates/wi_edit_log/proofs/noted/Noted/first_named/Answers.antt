@@ -1,4 +1,4 @@
-use Rattle.std.proofs.Common.{rules}
+use Rattle.wi_edit_log.proofs.Words.{rules}
 use Rattle.wi_edit_log.proofs.Notes.{first_in_parts}
 use Rattle.wi_edit_log.proofs.noted.Noted.first_named.Goals as goal
 

@@ -1,5 +1,4 @@
-use Rattle.std.proofs.Common.{arith}
-use Rattle.wi_edit_log.specs.Inner.Noted.{is_told}
+use Rattle.wi_edit_log.proofs.Words.{arith, is_told}
 use Rattle.wi_edit_log.proofs.Shared.{of_all, of_none, of_one_more}
 use Rattle.wi_edit_log.proofs.noted.Noted.first_told.Goals as goal
 

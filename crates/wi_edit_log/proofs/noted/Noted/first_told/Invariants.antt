@@ -1,6 +1,4 @@
-use Rattle.std.proofs.Common.{take}
-use Rattle.wi_edit_log.specs.Inner.First.{IsFirst}
-use Rattle.wi_edit_log.specs.Inner.Noted.{is_wanted_told}
+use Rattle.wi_edit_log.proofs.Words.{take, IsFirst, is_wanted_told}
 use Rattle.wi_edit_log.proofs.noted.Noted.first_told.Given as goal
 
 abbrev pub invariant-loop-area : goal.invariant-loop-area

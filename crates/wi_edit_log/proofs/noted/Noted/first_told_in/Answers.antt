@@ -1,5 +1,4 @@
-use Rattle.std.proofs.Common.{◌∙◌, sym}
-use Rattle.wi_edit_log.specs.Inner.Noted.{is_told}
+use Rattle.wi_edit_log.proofs.Words.{◌∙◌, sym, is_told}
 use Rattle.wi_edit_log.proofs.Next.{fewer_left, searched_found, searched_none, searched_on, searched_start}
 use Rattle.wi_edit_log.proofs.noted.Noted.first_told_in.Goals as goal
 

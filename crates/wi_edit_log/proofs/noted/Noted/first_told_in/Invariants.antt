@@ -1,5 +1,4 @@
-use Rattle.wi_values.proofs.Within.{places_left}
-use Rattle.wi_edit_log.specs.Inner.Noted.{is_told}
+use Rattle.wi_edit_log.proofs.Words.{places_left, is_told}
 use Rattle.wi_edit_log.proofs.Next.{IsSearched}
 use Rattle.wi_edit_log.proofs.noted.Noted.first_told_in.Given as goal
 

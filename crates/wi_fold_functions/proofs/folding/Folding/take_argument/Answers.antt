@@ -1,6 +1,4 @@
-use Rattle.std.proofs.Common.{refl}
-use Rattle.wi_standard_functions.specs.Sequence.{from_cell}
-use Rattle.wi_fold_functions.specs.Inner.Items.{go_on}
+use Rattle.wi_fold_functions.proofs.Words.{refl, from_cell, go_on}
 use Rattle.wi_fold_functions.proofs.Arguments.{reference_taken}
 use Rattle.wi_fold_functions.proofs.folding.Folding.take_argument.Goals as goal
 

@@ -1,7 +1,5 @@
-use Rattle.std.proofs.Common.{◌∙◌, sym, ap, Ok}
-use Rattle.std.proofs.lemmas.Result.{IfOk-from_err}
-use Rattle.wi_fold_functions.specs.Inner.Items.{item_of}
-use Rattle.wi_fold_functions.specs.Inner.Made.{mean_with}
+use Rattle.wi_fold_functions.proofs.Words.{◌∙◌, sym, ap, IfOk-from_err, item_of, mean_with}
+use Rattle.std.proofs.Common.{Ok}
 use Rattle.wi_fold_functions.proofs.Counting.{mean_error, mean_same, mean_more, mean_too_great, error_told}
 use Rattle.wi_fold_functions.proofs.statistical.AverageFold.step.Goals as goal
 

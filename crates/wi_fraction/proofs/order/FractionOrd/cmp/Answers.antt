@@ -1,8 +1,4 @@
-use Rattle.std.proofs.Common.{◌∙◌, FitsSigned, arith, rules}
-use Rattle.std.proofs.lemmas.Grind.{common_steps}
-use Rattle.std.proofs.lemmas.Int.{to_z-of_z}
-use Rattle.std.specs.Int.{w128}
-use Rattle.wi_fraction.specs.Inner.Words.{number_in}
+use Rattle.wi_fraction.proofs.Vocabulary.{◌∙◌, FitsSigned, arith, rules, common_steps, to_z-of_z, w128, number_in}
 use Rattle.wi_fraction.proofs.Sizes.{like_cmp}
 use Rattle.wi_fraction.proofs.order.FractionOrd.cmp.Goals as goal
 

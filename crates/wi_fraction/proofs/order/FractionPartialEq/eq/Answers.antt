@@ -1,5 +1,4 @@
-use Rattle.std.proofs.Common.{rules}
-use Rattle.wi_fraction.specs.Order.{same_parts}
+use Rattle.wi_fraction.proofs.Vocabulary.{rules, same_parts}
 use Rattle.wi_fraction.proofs.order.FractionPartialEq.eq.Goals as goal
 
 pub returns-then-a-c : goal.returns-then-a-c

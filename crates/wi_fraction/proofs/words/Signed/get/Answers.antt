@@ -1,6 +1,4 @@
-use Rattle.std.proofs.Common.{◌∙◌, FitsSigned, ap, rules}
-use Rattle.std.specs.Int.{w128, cast_signed}
-use Rattle.std.proofs.lemmas.Int.{to_z-of_z}
+use Rattle.wi_fraction.proofs.Vocabulary.{◌∙◌, FitsSigned, ap, rules, w128, cast_signed, to_z-of_z}
 use Rattle.wi_fraction.proofs.words.Signed.get.Goals as goal
 
 pub returns : goal.returns

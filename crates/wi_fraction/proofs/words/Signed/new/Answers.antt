@@ -1,7 +1,5 @@
-use Rattle.std.proofs.Common.{◌≡◌, ◌∙◌, FitsSigned, refl, rules}
-use Rattle.std.specs.Int.{w128, cast_unsigned}
-use Rattle.std.proofs.lemmas.Int.{to_z-of_z}
-use Rattle.wi_fraction.specs.Inner.Halves.{from_halves}
+use Rattle.wi_fraction.proofs.Vocabulary.{◌∙◌, FitsSigned, rules, w128, cast_unsigned, to_z-of_z, from_halves}
+use Rattle.std.proofs.Common.{◌≡◌, refl}
 use Rattle.wi_fraction.proofs.words.Signed.new.Goals as goal
 
 pub returns : goal.returns

@@ -1,4 +1,4 @@
-use Rattle.std.proofs.Common.{◌∙◌}
+use Rattle.wi_fraction.proofs.Vocabulary.{◌∙◌}
 use Rattle.wi_fraction.proofs.words.Unsigned.get.Goals as goal
 
 pub returns : goal.returns

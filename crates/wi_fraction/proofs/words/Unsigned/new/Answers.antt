@@ -1,4 +1,4 @@
-use Rattle.wi_fraction.specs.Inner.Halves.{from_halves}
+use Rattle.wi_fraction.proofs.Vocabulary.{from_halves}
 use Rattle.wi_fraction.proofs.words.Unsigned.new.Goals as goal
 
 pub returns : goal.returns

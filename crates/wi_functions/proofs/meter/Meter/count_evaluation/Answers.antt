@@ -1,4 +1,4 @@
-use Rattle.std.proofs.Common.{rules}
+use Rattle.wi_functions.proofs.Words.{rules}
 use Rattle.wi_functions.proofs.meter.Meter.count_evaluation.Goals as goal
 
 pub returns : goal.returns

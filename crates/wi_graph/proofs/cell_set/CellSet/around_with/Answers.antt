@@ -1,5 +1,4 @@
-use Rattle.std.proofs.Common.{subst}
-use Rattle.wi_graph.specs.Inner.Bounds.{AreWithin}
+use Rattle.wi_graph.proofs.Words.{subst, AreWithin}
 use Rattle.wi_graph.proofs.BoundsSteps.{none_within}
 use Rattle.wi_graph.proofs.cell_set.CellSet.around_with.Goals as goal
 

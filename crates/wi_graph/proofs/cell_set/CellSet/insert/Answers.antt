@@ -1,8 +1,4 @@
-use Rattle.std.proofs.Common.{ℕ, true, sym, subst}
-use Rattle.std.proofs.lemmas.Result.{IfOk-from_err}
-use Rattle.std.specs.Ordering.{nat_cmp}
-use Rattle.std.specs.BTreeSet.{BTreeSet, Updates}
-use Rattle.wi_graph.specs.Inner.Bounds.{AreWithin}
+use Rattle.wi_graph.proofs.Words.{ℕ, true, sym, subst, IfOk-from_err, nat_cmp, BTreeSet, Updates, AreWithin}
 use Rattle.wi_graph.proofs.BoundsSteps.{gains_within, same_within}
 use Rattle.wi_graph.proofs.cell_set.CellSet.insert.Goals as goal
 

@@ -1,7 +1,4 @@
-use Rattle.std.proofs.Common.{◌≡◌, ◌+◌, ℕ, false, subst}
-use Rattle.std.specs.Prelude.{if◌then◌else◌}
-use Rattle.std.specs.Ordering.{nat_cmp}
-use Rattle.std.specs.BTreeSet.{BTreeSet, btree_set_len, contains, Updates}
+use Rattle.wi_graph.proofs.Words.{◌≡◌, ◌+◌, ℕ, false, subst, if◌then◌else◌, nat_cmp, BTreeSet, btree_set_len, contains, Updates}
 use Rattle.wi_graph.proofs.BoundsSteps.{loses_within}
 use Rattle.wi_graph.proofs.cell_set.CellSet.remove.Goals as goal
 

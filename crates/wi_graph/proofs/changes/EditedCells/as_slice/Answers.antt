@@ -1,4 +1,4 @@
-use Rattle.std.proofs.Common.{rules}
+use Rattle.wi_graph.proofs.Words.{rules}
 use Rattle.wi_graph.proofs.changes.EditedCells.as_slice.Goals as goal
 
 pub returns-in-More : goal.returns-in-More

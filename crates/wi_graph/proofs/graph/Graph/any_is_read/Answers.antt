@@ -1,5 +1,4 @@
-use Rattle.std.proofs.Common.{◌∙◌, ap, sym, subst}
-use Rattle.wi_graph.specs.Edges.{AreEdgesOf, Staging}
+use Rattle.wi_graph.proofs.Words.{◌∙◌, ap, sym, subst, AreEdgesOf, Staging}
 use Rattle.wi_graph.proofs.BeyondSteps.{read_cell, unread_cells}
 use Rattle.wi_graph.proofs.GraphEnds.{unstaged}
 use Rattle.wi_graph.proofs.graph.Graph.any_is_read.Goals as goal

@@ -1,4 +1,4 @@
-use Rattle.std.proofs.Common.{◌∙◌, sym}
+use Rattle.wi_graph.proofs.Words.{◌∙◌, sym}
 use Rattle.wi_graph.proofs.EdgeLemmas.{rooms_over}
 use Rattle.wi_graph.proofs.GraphEnds.{taken_view, staged_is}
 use Rattle.wi_graph.proofs.graph.Graph.commit.Goals as goal

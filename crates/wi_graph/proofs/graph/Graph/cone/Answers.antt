@@ -1,11 +1,4 @@
-use Rattle.std.proofs.Common.{◌≡◌, ◌∙◌, ℕ, sym, ap, subst}
-use Rattle.std.specs.Global.{Vec}
-use Rattle.std.specs.List.Sorted.{IsStrictlyIncreasing}
-use Rattle.std.proofs.lemmas.Result.{IfOk-weaker}
-use Rattle.wi_parser.specs.Sheet.{Sheet}
-use Rattle.wi_graph.specs.Reach.{is_one_of, in_cone}
-use Rattle.wi_graph.specs.Edges.{AreEdgesOf, Staging}
-use Rattle.wi_graph.specs.Inner.Search.{IsConeOf}
+use Rattle.wi_graph.proofs.Words.{◌≡◌, ◌∙◌, ℕ, sym, ap, subst, Vec, IsStrictlyIncreasing, IfOk-weaker, Sheet, is_one_of, in_cone, AreEdgesOf, Staging, IsConeOf}
 use Rattle.wi_graph.proofs.TurningSteps.{listed_cone}
 use Rattle.wi_graph.proofs.GraphEnds.{unstaged}
 use Rattle.wi_graph.proofs.graph.Graph.cone.Goals as goal

@@ -1,11 +1,4 @@
-use Rattle.std.proofs.Common.{◌≡◌, ◌∙◌, ◌&&◌, not, ℕ, sym, ap, subst}
-use Rattle.std.specs.List.Sorted.{IsStrictlyIncreasing}
-use Rattle.std.proofs.lemmas.Result.{IfOk-weaker}
-use Rattle.smallvec.specs.SmallVec.{SmallVec}
-use Rattle.wi_parser.specs.Sheet.{Sheet}
-use Rattle.wi_graph.specs.Reach.{is_one_of, in_cone}
-use Rattle.wi_graph.specs.Edges.{AreEdgesOf, Staging}
-use Rattle.wi_graph.specs.Inner.Search.{IsListBeyond}
+use Rattle.wi_graph.proofs.Words.{◌≡◌, ◌∙◌, ◌&&◌, not, ℕ, sym, ap, subst, IsStrictlyIncreasing, IfOk-weaker, SmallVec, Sheet, is_one_of, in_cone, AreEdgesOf, Staging, IsListBeyond}
 use Rattle.wi_graph.proofs.BeyondSteps.{edge_beyond}
 use Rattle.wi_graph.proofs.GraphEnds.{unstaged}
 use Rattle.wi_graph.proofs.graph.Graph.cone_beyond.Goals as goal

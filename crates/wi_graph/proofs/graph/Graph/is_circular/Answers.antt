@@ -1,4 +1,4 @@
-use Rattle.std.proofs.Common.{rules}
+use Rattle.wi_graph.proofs.Words.{rules}
 use Rattle.wi_graph.proofs.GraphEnds.{circular_is}
 use Rattle.wi_graph.proofs.graph.Graph.is_circular.Goals as goal
 

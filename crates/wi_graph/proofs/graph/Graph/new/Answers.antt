@@ -1,4 +1,4 @@
-use Rattle.std.proofs.Common.{rules}
+use Rattle.wi_graph.proofs.Words.{rules}
 use Rattle.wi_graph.proofs.GraphEnds.{empty_graph}
 use Rattle.wi_graph.proofs.graph.Graph.new.Goals as goal
 

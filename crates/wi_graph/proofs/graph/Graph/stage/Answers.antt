@@ -1,6 +1,4 @@
-use Rattle.std.proofs.Common.{◌∙◌, refl, ap}
-use Rattle.wi_values.proofs.Outcomes.{on_err}
-use Rattle.wi_graph.specs.Edges.{Staging}
+use Rattle.wi_graph.proofs.Words.{◌∙◌, refl, ap, on_err, Staging}
 use Rattle.wi_graph.proofs.EdgeLemmas.{rooms_same}
 use Rattle.wi_graph.proofs.GraphEnds.{unstaged}
 use Rattle.wi_graph.proofs.ChangeSteps.{staged_edges}

@@ -1,4 +1,4 @@
-use Rattle.std.proofs.Common.{rules}
+use Rattle.wi_import.proofs.Words.{rules}
 use Rattle.wi_import.proofs.fault.ImportFaultFromAllocFailed.from.Goals as goal
 
 pub returns : goal.returns

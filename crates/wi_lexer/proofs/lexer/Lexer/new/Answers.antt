@@ -1,4 +1,4 @@
-use Rattle.std.proofs.Common.{rules}
+use Rattle.wi_lexer.proofs.Words.{rules}
 use Rattle.wi_lexer.proofs.lexer.Lexer.new.Goals as goal
 
 pub returns : goal.returns

@@ -1,6 +1,4 @@
-use Rattle.std.proofs.Common.{◌-◌, length, sym, ap, ◌∙◌, subst, arith}
-use Rattle.std.specs.Str.{IsCharBoundary}
-use Rattle.std.proofs.lemmas.Str.{IsCharBoundary-end}
+use Rattle.wi_lexer.proofs.Words.{◌-◌, length, sym, ap, ◌∙◌, subst, arith, IsCharBoundary, IsCharBoundary-end}
 use Rattle.wi_lexer.proofs.CutLemmas.{blanks_cut, token_cut}
 use Rattle.wi_lexer.proofs.TokenLemmas.{token_sound}
 use Rattle.wi_lexer.proofs.ScanLemmas.{later_end, nothing_is, within_front, no_bytes, ahead_is, longest_is, front_is, none_is, tail_is, some_bytes, span_is, slice_is}

@@ -1,5 +1,4 @@
-use Rattle.std.proofs.Common.{rules}
-use Rattle.wi_parser.specs.Inner.Reading.{content_read}
+use Rattle.wi_parser.proofs.Words.{rules, content_read}
 use Rattle.wi_parser.proofs.Answered.{read_formula, read_constant}
 use Rattle.wi_parser.proofs.content.Content.read.Goals as goal
 

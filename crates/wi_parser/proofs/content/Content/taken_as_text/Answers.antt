@@ -1,4 +1,4 @@
-use Rattle.std.proofs.Common.{rules}
+use Rattle.wi_parser.proofs.Words.{rules}
 use Rattle.wi_parser.proofs.Answered.{text_taken}
 use Rattle.wi_parser.proofs.content.Content.taken_as_text.Goals as goal
 

@@ -1,8 +1,4 @@
-use Rattle.std.proofs.Common.{ap, sym, subst, ◌∙◌}
-use Rattle.wi_parser.specs.declared.formula.Parts.{Parts}
-use Rattle.wi_parser.specs.View.{tree_of}
-use Rattle.wi_parser.specs.Reads.{inputs_of, rectangles_of}
-use Rattle.wi_parser.specs.Writable.{IsFormulaTree}
+use Rattle.wi_parser.proofs.Words.{ap, sym, subst, ◌∙◌, Parts, tree_of, inputs_of, rectangles_of, IsFormulaTree}
 use Rattle.wi_parser.proofs.formula.Formula.copy.Goals as goal
 
 pub invariant_of-result : goal.invariant_of-result

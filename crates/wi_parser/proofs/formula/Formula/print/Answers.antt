@@ -1,6 +1,4 @@
-use Rattle.std.proofs.Common.{rules, ap, sym, subst, length, string_bytes}
-use Rattle.std.proofs.lemmas.Str.{IsUtf8-string_bytes}
-use Rattle.std.specs.Str.{IsCharBoundary}
+use Rattle.wi_parser.proofs.Words.{rules, ap, sym, subst, length, string_bytes, IsUtf8-string_bytes, IsCharBoundary}
 use Rattle.wi_parser.proofs.PrintLemmas.{cut_place}
 use Rattle.wi_parser.proofs.FormulaTrees.{printed_spells, printed_again}
 use Rattle.wi_parser.proofs.formula.Formula.print.Goals as goal

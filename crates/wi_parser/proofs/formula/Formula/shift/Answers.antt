@@ -1,8 +1,4 @@
-use Rattle.std.proofs.Common.{ap, sym, subst, ◌∙◌}
-use Rattle.std.proofs.lemmas.Int.{to_z-of_z}
-use Rattle.wi_parser.specs.declared.formula.Parts.{Parts}
-use Rattle.wi_parser.specs.View.{tree_of}
-use Rattle.wi_parser.specs.Writable.{IsFormulaTree}
+use Rattle.wi_parser.proofs.Words.{ap, sym, subst, ◌∙◌, to_z-of_z, Parts, tree_of, IsFormulaTree}
 use Rattle.wi_parser.proofs.FormulaTrees.{moved_tree}
 use Rattle.wi_parser.proofs.Answered.{shifted_none, shifted_found}
 use Rattle.wi_parser.proofs.formula.Formula.shift.Goals as goal

@@ -1,4 +1,4 @@
-use Rattle.std.proofs.Common.{rules}
+use Rattle.wi_parser.proofs.Words.{rules}
 use Rattle.wi_parser.proofs.formula.Parts.copy.Goals as goal
 
 pub returns-clause-rectangles : goal.returns-clause-rectangles

@@ -1,8 +1,4 @@
-use Rattle.std.proofs.Common.{arith, ◌<◌, ◌-◌, length, Some, ap, ◌∙◌, sym, subst}
-use Rattle.std.proofs.lemmas.Result.{err_from_is_err_and}
-use Rattle.std.proofs.Math.Nat.{lt_trans}
-use Rattle.wi_parser.specs.Inner.Reader.{read_then, line, expression, operator_within}
-use Rattle.wi_parser.specs.View.{tree_of}
+use Rattle.wi_parser.proofs.Words.{arith, ◌<◌, ◌-◌, length, Some, ap, ◌∙◌, sym, subst, err_from_is_err_and, lt_trans, read_then, line, expression, operator_within, tree_of}
 use Rattle.wi_parser.proofs.Marks.{within_is, from_powers}
 use Rattle.wi_parser.proofs.Turns.{fails_as}
 use Rattle.wi_parser.proofs.Climbing.{loops, line_loops, loops_stop, loops_fail, loops_more}

@@ -1,6 +1,5 @@
-use Rattle.std.proofs.Common.{◌≡◌, ◌<◌, length}
+use Rattle.wi_parser.proofs.Words.{◌≡◌, ◌<◌, length, tree_of}
 use Rattle.wi_parser.specs.Inner.Reader as reader
-use Rattle.wi_parser.specs.View.{tree_of}
 use Rattle.wi_parser.proofs.Climbing.{loops}
 use Rattle.wi_parser.proofs.grammar.Grammar.+line.Given as goal
 

@@ -1,9 +1,5 @@
-use Rattle.std.proofs.Common.{arith, ◌<◌, length, Some, OnOk, ap, ◌∙◌, sym, subst}
-use Rattle.std.proofs.lemmas.Result.{err_from_is_err_and}
-use Rattle.wi_parser.specs.Inner.Reader.{signed_read, atom, line, expression}
-use Rattle.wi_parser.specs.Inner.Outcome.{Finds}
+use Rattle.wi_parser.proofs.Words.{arith, ◌<◌, length, Some, OnOk, ap, ◌∙◌, sym, subst, err_from_is_err_and, signed_read, atom, line, expression, Finds, lt_trans}
 use Rattle.wi_parser.proofs.Turns.{fails_as, prefix_stop, prefix_more}
-use Rattle.std.proofs.Math.Nat.{lt_trans}
 use Rattle.wi_parser.proofs.Shorter.{past_sign}
 use Rattle.wi_parser.proofs.grammar.Grammar.+prefixed.Goals as goal
 

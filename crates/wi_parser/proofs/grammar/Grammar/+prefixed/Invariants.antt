@@ -1,4 +1,4 @@
-use Rattle.std.proofs.Common.{length}
+use Rattle.wi_parser.proofs.Words.{length}
 use Rattle.wi_parser.proofs.grammar.Grammar.+prefixed.Given as goal
 
 abbrev pub decreases-prefixed : goal.decreases-prefixed

@@ -1,7 +1,4 @@
-use Rattle.std.proofs.Common.{Some, ap, ◌∙◌, sym, subst}
-use Rattle.wi_values.proofs.Lists.{one_less}
-use Rattle.wi_parser.specs.Inner.Reader.{atom, expression}
-use Rattle.wi_parser.specs.Inner.Outcome.{Finds}
+use Rattle.wi_parser.proofs.Words.{Some, ap, ◌∙◌, sym, subst, one_less, atom, expression, Finds}
 use Rattle.wi_parser.proofs.Shorter.{still_less}
 use Rattle.wi_parser.proofs.grammar.Grammar.atom.Goals as goal
 

@@ -1,10 +1,6 @@
-use Rattle.std.proofs.Common.{Some, ap, ◌∙◌, sym}
-use Rattle.std.proofs.lemmas.Result.{err_from_is_err_and}
-use Rattle.wi_parser.specs.Inner.Reader.{as_call, called, expression, parameters_at}
-use Rattle.wi_parser.specs.Inner.Outcome.{put_before}
+use Rattle.wi_parser.proofs.Words.{Some, ap, ◌∙◌, sym, err_from_is_err_and, as_call, called, expression, parameters_at, put_before, lt_trans}
 use Rattle.wi_parser.proofs.Turns.{fails_as}
 use Rattle.wi_parser.proofs.Parameters.{put_before-nothing}
-use Rattle.std.proofs.Math.Nat.{lt_trans}
 use Rattle.wi_parser.proofs.Shorter.{past_open}
 use Rattle.wi_parser.proofs.grammar.Grammar.called.Goals as goal
 

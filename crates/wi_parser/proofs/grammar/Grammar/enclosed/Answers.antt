@@ -1,10 +1,5 @@
-use Rattle.std.proofs.Common.{Some, option_map, ap, ◌∙◌, sym}
-use Rattle.std.proofs.lemmas.Result.{err_from_is_err_and}
-use Rattle.wi_parser.specs.Inner.Reader.{read_then, then_close}
-use Rattle.wi_parser.specs.Tree.{parenthesized}
-use Rattle.wi_parser.specs.View.{tree_of}
+use Rattle.wi_parser.proofs.Words.{Some, option_map, ap, ◌∙◌, sym, err_from_is_err_and, read_then, then_close, parenthesized, tree_of, lt_trans}
 use Rattle.wi_parser.proofs.Turns.{fails_as}
-use Rattle.std.proofs.Math.Nat.{lt_trans}
 use Rattle.wi_parser.proofs.Shorter.{past_close}
 use Rattle.wi_parser.proofs.grammar.Grammar.enclosed.Goals as goal
 

@@ -1,12 +1,7 @@
-use Rattle.std.proofs.Common.{arith, ◌-◌, Some, ap, ◌∙◌, sym}
-use Rattle.std.proofs.lemmas.Result.{err_from_is_err_and}
-use Rattle.wi_parser.specs.Inner.Reader.{expression, more_parameters, after_separator}
-use Rattle.wi_parser.specs.Inner.Outcome.{put_before}
-use Rattle.wi_parser.specs.View.{tree_of}
+use Rattle.wi_parser.proofs.Words.{arith, ◌-◌, Some, ap, ◌∙◌, sym, err_from_is_err_and, expression, more_parameters, after_separator, put_before, tree_of, lt_trans, lt_of_lt_of_le}
 use Rattle.wi_parser.proofs.Marks.{close-length, separator-length}
 use Rattle.wi_parser.proofs.Turns.{fails_as}
 use Rattle.wi_parser.proofs.Parameters.{more_last, more_fail, more_bad, more_again, before-none, put_before-first}
-use Rattle.std.proofs.Math.Nat.{lt_trans, lt_of_lt_of_le}
 use Rattle.wi_parser.proofs.Shorter.{past_close, past_separator}
 use Rattle.wi_parser.proofs.grammar.Grammar.more_parameters.Goals as goal
 

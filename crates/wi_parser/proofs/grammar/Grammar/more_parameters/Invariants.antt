@@ -1,6 +1,4 @@
-use Rattle.std.proofs.Common.{◌≡◌, ◌≤◌, length, ℕ}
-use Rattle.wi_parser.specs.Inner.Reader.{more_parameters, expression}
-use Rattle.wi_parser.specs.Inner.Outcome.{put_before}
+use Rattle.wi_parser.proofs.Words.{◌≡◌, ◌≤◌, length, ℕ, more_parameters, expression, put_before}
 use Rattle.wi_parser.proofs.grammar.Grammar.more_parameters.Given as goal
 
 abbrev pub invariant-loop-symbols : goal.invariant-loop-symbols

@@ -1,8 +1,4 @@
-use Rattle.std.proofs.Common.{◌<◌, Some, ap, ◌∙◌, sym, subst, length}
-use Rattle.std.proofs.lemmas.Result.{err_from_is_err_and}
-use Rattle.wi_parser.specs.Inner.Reader.{expression, more_parameters, first_parameter, parameters_at}
-use Rattle.wi_parser.specs.Inner.Outcome.{FindsMore, put_before}
-use Rattle.wi_parser.specs.View.{tree_of}
+use Rattle.wi_parser.proofs.Words.{◌<◌, Some, ap, ◌∙◌, sym, subst, length, err_from_is_err_and, expression, more_parameters, first_parameter, parameters_at, FindsMore, put_before, tree_of}
 use Rattle.wi_parser.proofs.Turns.{fails_as}
 use Rattle.wi_parser.proofs.Parameters.{parameters_first, parameters_bad, before-none, put_before-first}
 use Rattle.wi_parser.proofs.Shorter.{past_close, still_less}

@@ -1,7 +1,4 @@
-use Rattle.std.proofs.Common.{arith, ◌<◌, length, Some, ap, sym, subst, ◌∙◌}
-use Rattle.std.proofs.lemmas.Result.{err_from_is_err_and}
-use Rattle.wi_parser.specs.Inner.Reader.{read_then, percents, line}
-use Rattle.wi_parser.specs.View.{tree_of}
+use Rattle.wi_parser.proofs.Words.{arith, ◌<◌, length, Some, ap, sym, subst, ◌∙◌, err_from_is_err_and, read_then, percents, line, tree_of}
 use Rattle.wi_parser.proofs.Marks.{percent-length}
 use Rattle.wi_parser.proofs.Turns.{fails_as, percents_stop, percents_more}
 use Rattle.wi_parser.proofs.Shorter.{past_percent}

@@ -1,5 +1,4 @@
-use Rattle.std.proofs.Common.{rules, ◌≡◌, ◌<◌, ◌∙◌, ℕ, false, ap, sym}
-use Rattle.wi_ranges.specs.Blocks.{first_row, half_with, last_row, lies_within}
+use Rattle.wi_ranges.proofs.Words.{rules, ◌≡◌, ◌<◌, ◌∙◌, ℕ, false, ap, sym, first_row, half_with, last_row, lies_within}
 use Rattle.wi_ranges.proofs.First.{among_half, half_holds, itself, more_rows}
 use Rattle.wi_ranges.proofs.block.Block.+first_of.Goals as goal
 

@@ -1,6 +1,4 @@
-use Rattle.std.proofs.Common.{◌<◌, ◌∙◌, ℕ, sym, ap, subst}
-use Rattle.wi_values.specs.Address.{rows}
-use Rattle.wi_ranges.specs.Blocks.{block, blocks_in}
+use Rattle.wi_ranges.proofs.Words.{◌<◌, ◌∙◌, ℕ, sym, ap, subst, rows, block, blocks_in}
 use Rattle.wi_ranges.proofs.CutLemmas.{row_around}
 use Rattle.wi_ranges.proofs.block.Block.around.Goals as goal
 

@@ -1,4 +1,4 @@
-use Rattle.std.proofs.Common.{rules}
+use Rattle.wi_ranges.proofs.Words.{rules}
 use Rattle.wi_ranges.proofs.few.Many.add.Goals as goal
 
 pub returns-clause-more : goal.returns-clause-more

@@ -1,7 +1,4 @@
-use Rattle.std.proofs.Common.{◌≡◌, ◌∙◌, List, ℕ, true, refl, subst}
-use Rattle.std.proofs.lemmas.Bool.{or_left, eq-eqb}
-use Rattle.wi_values.proofs.Order.{is_at-eq}
-use Rattle.wi_ranges.specs.Inner.Rising.{has_cell}
+use Rattle.wi_ranges.proofs.Words.{◌≡◌, ◌∙◌, List, ℕ, true, refl, subst, or_left, eq-eqb, is_at-eq, has_cell}
 use Rattle.wi_ranges.proofs.few.Many.has_one.Goals as goal
 
 pub returns : goal.returns

@@ -1,8 +1,4 @@
-use Rattle.std.proofs.Common.{◌≡◌, ◌<◌, ◌==◌, ◌∙◌, ℕ, List, ◌∷◌, false, length, None, Some, refl, sym, ap, subst}
-use Rattle.std.specs.List.{position}
-use Rattle.std.specs.List.Sorted.{IsPermutation}
-use Rattle.std.proofs.lemmas.Bool.{eqb-true}
-use Rattle.wi_ranges.specs.Inner.Rising.{has_cell}
+use Rattle.wi_ranges.proofs.Words.{◌≡◌, ◌<◌, ◌==◌, ◌∙◌, ℕ, List, ◌∷◌, false, length, None, Some, refl, sym, ap, subst, position, IsPermutation, eqb-true, has_cell}
 use Rattle.wi_ranges.proofs.FewLemmas.{first_gone, not_there, other_gone, place_found, place_none}
 use Rattle.wi_ranges.proofs.few.Many.remove.Goals as goal
 

@@ -1,9 +1,4 @@
-use Rattle.std.proofs.Common.{rules, List, OnOk, subst, sym}
-use Rattle.std.proofs.lemmas.Result.{on_ok_weaker}
-use Rattle.wi_ranges.specs.declared.pair.RangePair.{RangePair}
-use Rattle.wi_ranges.specs.Bag.{Bag, HasOneMore, pair_for}
-use Rattle.wi_ranges.specs.Inner.Index.{bag_of}
-use Rattle.wi_ranges.specs.Inner.Singles.{with_pairs, HasPairMore}
+use Rattle.wi_ranges.proofs.Words.{rules, List, OnOk, subst, sym, on_ok_weaker, RangePair, Bag, HasOneMore, pair_for, bag_of, with_pairs, HasPairMore}
 use Rattle.wi_ranges.proofs.Joined.{more_by_cell, more_in_bag}
 use Rattle.wi_ranges.proofs.index.RangeIndex.add.Goals as goal
 

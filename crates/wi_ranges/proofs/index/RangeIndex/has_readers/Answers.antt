@@ -1,10 +1,4 @@
-use Rattle.std.proofs.Common.{◌∙◌, refl, sym, subst, ⊎_elim}
-use Rattle.std.specs.List.{list_any}
-use Rattle.std.proofs.lemmas.Bool.{true≢false, or_cases}
-use Rattle.wi_values.specs.Address.{row_of}
-use Rattle.wi_ranges.specs.Blocks.{blocks_with}
-use Rattle.wi_ranges.specs.Bag.{Bag, IsReader}
-use Rattle.wi_ranges.specs.Inner.Index.{bag_of, reads_at}
+use Rattle.wi_ranges.proofs.Words.{◌∙◌, refl, sym, subst, ⊎_elim, list_any, true≢false, or_cases, row_of, blocks_with, Bag, IsReader, bag_of, reads_at}
 use Rattle.wi_ranges.proofs.Found.{reader_found, found_reader}
 use Rattle.wi_ranges.proofs.Joined.{reader_by_cell, reader_in_bag, reader_in_either}
 use Rattle.wi_ranges.proofs.index.RangeIndex.has_readers.Goals as goal

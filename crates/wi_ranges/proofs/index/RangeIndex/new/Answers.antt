@@ -1,4 +1,4 @@
-use Rattle.std.proofs.Common.{rules}
+use Rattle.wi_ranges.proofs.Words.{rules}
 use Rattle.wi_ranges.proofs.index.RangeIndex.new.Goals as goal
 
 pub returns : goal.returns

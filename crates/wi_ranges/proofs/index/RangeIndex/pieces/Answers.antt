@@ -1,7 +1,4 @@
-use Rattle.std.proofs.Common.{rules, ◌≡◌, ap}
-use Rattle.wi_ranges.specs.Bag.{pieces_of}
-use Rattle.wi_ranges.specs.Inner.Index.{bag_of}
-use Rattle.wi_ranges.specs.Inner.Singles.{with_pairs}
+use Rattle.wi_ranges.proofs.Words.{rules, ◌≡◌, ap, pieces_of, bag_of, with_pairs}
 use Rattle.wi_ranges.proofs.Joined.{pieces_with}
 use Rattle.wi_ranges.proofs.index.RangeIndex.pieces.Goals as goal
 

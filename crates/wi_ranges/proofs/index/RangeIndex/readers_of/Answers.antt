@@ -1,14 +1,4 @@
-use Rattle.std.proofs.Common.{◌≡◌, ◌∙◌, ◌||◌, ◌↔◌, ℕ, List, refl, sym, ap, subst, true, false, ⊎_elim}
-use Rattle.std.specs.Ordering.{nat_cmp}
-use Rattle.std.specs.List.{Contains, list_any}
-use Rattle.std.specs.BTreeSet.{contains}
-use Rattle.std.proofs.lemmas.Bool.{or_cases}
-use Rattle.std.proofs.lemmas.Result.{IfOk-weaker}
-use Rattle.std.specs.BTreeMap.{is_at}
-use Rattle.wi_values.specs.Address.{row_of}
-use Rattle.wi_ranges.specs.Blocks.{blocks_with}
-use Rattle.wi_ranges.specs.Bag.{Bag, IsReader}
-use Rattle.wi_ranges.specs.Inner.Index.{bag_of, pair_reads, reads_at}
+use Rattle.wi_ranges.proofs.Words.{◌≡◌, ◌∙◌, ◌||◌, ◌↔◌, ℕ, List, refl, sym, ap, subst, true, false, ⊎_elim, nat_cmp, Contains, list_any, contains, or_cases, IfOk-weaker, is_at, row_of, blocks_with, Bag, IsReader, bag_of, pair_reads, reads_at}
 use Rattle.wi_ranges.proofs.Found.{reader_found, found_reader}
 use Rattle.wi_ranges.proofs.Joined.{reader_by_cell, reader_in_bag, reader_in_either}
 use Rattle.wi_ranges.proofs.index.RangeIndex.readers_of.Goals as goal

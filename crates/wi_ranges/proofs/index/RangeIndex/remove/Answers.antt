@@ -1,9 +1,4 @@
-use Rattle.std.proofs.Common.{rules, ◌≡◌, List, false, subst, sym}
-use Rattle.std.specs.List.{list_any}
-use Rattle.wi_ranges.specs.declared.pair.RangePair.{RangePair}
-use Rattle.wi_ranges.specs.Bag.{Bag, HasOneLess, is_same, pair_for}
-use Rattle.wi_ranges.specs.Inner.Index.{bag_of}
-use Rattle.wi_ranges.specs.Inner.Singles.{with_pairs, HasPairMore}
+use Rattle.wi_ranges.proofs.Words.{rules, ◌≡◌, List, false, subst, sym, list_any, RangePair, Bag, HasOneLess, is_same, pair_for, bag_of, with_pairs, HasPairMore}
 use Rattle.wi_ranges.proofs.Joined.{less_by_cell, less_in_bag}
 use Rattle.wi_ranges.proofs.index.RangeIndex.remove.Goals as goal
 

@@ -1,4 +1,4 @@
-use Rattle.std.proofs.Common.{rules}
+use Rattle.wi_ranges.proofs.Words.{rules}
 use Rattle.wi_ranges.proofs.pair.RangePair.has.Goals as goal
 
 pub returns-then-column : goal.returns-then-column

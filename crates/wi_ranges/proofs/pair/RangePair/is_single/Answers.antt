@@ -1,5 +1,4 @@
-use Rattle.std.proofs.Common.{◌<◌, ◌∙◌, ℕ, sym, subst}
-use Rattle.wi_values.specs.Address.{rows}
+use Rattle.wi_ranges.proofs.Words.{◌<◌, ◌∙◌, ℕ, sym, subst, rows}
 use Rattle.wi_ranges.proofs.CutLemmas.{lone_block}
 use Rattle.wi_ranges.proofs.pair.RangePair.is_single.Goals as goal
 

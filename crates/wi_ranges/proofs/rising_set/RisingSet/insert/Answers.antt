@@ -1,9 +1,4 @@
-use Rattle.std.proofs.Common.{◌∙◌, ℕ, List, ap, sym, subst, not}
-use Rattle.std.proofs.lemmas.Result.{err_from_is_err_and}
-use Rattle.std.specs.BTreeSet.{BTreeSet}
-use Rattle.std.specs.List.Sorted.{IsStrictlyIncreasing}
-use Rattle.wi_values.proofs.Outcomes.{on_err}
-use Rattle.wi_ranges.specs.Inner.Rising.{has_cell, ends_before, StandApart}
+use Rattle.wi_ranges.proofs.Words.{◌∙◌, ℕ, List, ap, sym, subst, not, err_from_is_err_and, BTreeSet, IsStrictlyIncreasing, on_err, has_cell, ends_before, StandApart}
 use Rattle.wi_ranges.proofs.RisingLemmas.{apart_more, new_behind, apart_still, has_more, same_rising, same_others, has_behind, has_already, has_no_more, new_among_others}
 use Rattle.wi_ranges.proofs.rising_set.RisingSet.insert.Goals as goal
 

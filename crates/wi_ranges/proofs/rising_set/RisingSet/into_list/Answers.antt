@@ -1,9 +1,4 @@
-use Rattle.std.proofs.Common.{◌↔◌, ◌++◌, ◌≡◌, ℕ, true, refl, rules}
-use Rattle.std.specs.Ordering.{nat_cmp}
-use Rattle.std.specs.List.{Contains}
-use Rattle.std.specs.Global.{Vec}
-use Rattle.std.specs.BTreeSet.{contains}
-use Rattle.std.proofs.lemmas.Result.{IfOk-weaker}
+use Rattle.wi_ranges.proofs.Words.{◌↔◌, ◌++◌, ◌≡◌, ℕ, true, refl, rules, nat_cmp, Contains, Vec, contains, IfOk-weaker}
 use Rattle.wi_ranges.proofs.RisingLemmas.{cells_alone, cells_through}
 use Rattle.wi_ranges.proofs.rising_set.RisingSet.into_list.Goals as goal
 

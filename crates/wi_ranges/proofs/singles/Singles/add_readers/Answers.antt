@@ -1,11 +1,4 @@
-use Rattle.std.proofs.Common.{◌∙◌, ◌||◌, List, ap, sym}
-use Rattle.std.specs.Ordering.{nat_cmp}
-use Rattle.std.specs.List.{list_any}
-use Rattle.std.specs.BTreeSet.{contains}
-use Rattle.std.proofs.Math.Bool.{or-false}
-use Rattle.std.proofs.lemmas.Result.{on_ok_weaker}
-use Rattle.wi_ranges.specs.declared.pair.RangePair.{RangePair}
-use Rattle.wi_ranges.specs.Inner.Index.{pair_reads}
+use Rattle.wi_ranges.proofs.Words.{◌∙◌, ◌||◌, List, ap, sym, nat_cmp, list_any, contains, or-false, on_ok_weaker, RangePair, pair_reads}
 use Rattle.wi_ranges.proofs.ByCell.{reads_of_few, reads_without}
 use Rattle.wi_ranges.proofs.singles.Singles.add_readers.Goals as goal
 

@@ -1,8 +1,4 @@
-use Rattle.std.proofs.Common.{◌∙◌, List, refl, ap, sym}
-use Rattle.std.specs.List.{list_any}
-use Rattle.std.proofs.lemmas.Bool.{true≢false}
-use Rattle.wi_ranges.specs.declared.pair.RangePair.{RangePair}
-use Rattle.wi_ranges.specs.Inner.Index.{pair_reads}
+use Rattle.wi_ranges.proofs.Words.{◌∙◌, List, refl, ap, sym, list_any, true≢false, RangePair, pair_reads}
 use Rattle.wi_ranges.proofs.ByCell.{reads_of_few, reads_without}
 use Rattle.wi_ranges.proofs.singles.Singles.has_readers.Goals as goal
 

@@ -1,4 +1,4 @@
-use Rattle.std.proofs.Common.{rules}
+use Rattle.wi_reports.proofs.Words.{rules}
 use Rattle.wi_reports.proofs.table.DataTable.is_within.Goals as goal
 
 pub returns-in-Some : goal.returns-in-Some

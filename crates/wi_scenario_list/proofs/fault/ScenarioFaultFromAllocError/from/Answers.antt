@@ -1,4 +1,4 @@
-use Rattle.std.proofs.Common.{rules}
+use Rattle.wi_scenario_list.proofs.Words.{rules}
 use Rattle.wi_scenario_list.proofs.fault.ScenarioFaultFromAllocError.from.Goals as goal
 
 pub returns : goal.returns

@@ -1,4 +1,4 @@
-use Rattle.std.proofs.Common.{rules}
+use Rattle.wi_scenario_list.proofs.Words.{rules}
 use Rattle.wi_scenario_list.proofs.Own.{full_where_new, full_where_replaced}
 use Rattle.wi_scenario_list.proofs.layer.Layer.is_full.Goals as goal
 

@@ -1,9 +1,4 @@
-use Rattle.std.proofs.Common.{◌∙◌, ℕ, List, BTreeMap, ap}
-use Rattle.wi_values.specs.declared.value.Value.{Value}
-use Rattle.std.specs.Ordering.{nat_cmp}
-use Rattle.std.specs.BTreeMap.{insert_entry}
-use Rattle.std.proofs.lemmas.Result.{IfOk-weaker}
-use Rattle.wi_scenario_list.specs.Inner.Parts.{as_replacements}
+use Rattle.wi_scenario_list.proofs.Words.{◌∙◌, ℕ, List, BTreeMap, ap, Value, nat_cmp, insert_entry, IfOk-weaker, as_replacements}
 use Rattle.wi_scenario_list.proofs.Own.{with_one}
 use Rattle.wi_scenario_list.proofs.layer.Layer.with.Goals as goal
 

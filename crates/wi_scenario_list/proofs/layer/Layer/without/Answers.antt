@@ -1,10 +1,4 @@
-use Rattle.std.proofs.Common.{◌∙◌, ℕ, List, BTreeMap, sym, ap}
-use Rattle.wi_values.specs.declared.value.Value.{Value}
-use Rattle.std.specs.Ordering.{nat_cmp}
-use Rattle.std.specs.Map.{lookup}
-use Rattle.std.specs.BTreeMap.{is_at}
-use Rattle.std.proofs.lemmas.Result.{IfOk-weaker}
-use Rattle.wi_scenario_list.specs.Inner.Parts.{as_replacements, without_replacement}
+use Rattle.wi_scenario_list.proofs.Words.{◌∙◌, ℕ, List, BTreeMap, sym, ap, Value, nat_cmp, lookup, is_at, IfOk-weaker, as_replacements, without_replacement}
 use Rattle.wi_scenario_list.proofs.Own.{without_one}
 use Rattle.wi_scenario_list.proofs.layer.Layer.without.Goals as goal
 

@@ -1,12 +1,4 @@
-use Rattle.std.proofs.Common.{◌∙◌, ◌-◌, ℕ, List, Option, BTreeMap, ap, rules}
-use Rattle.wi_values.specs.declared.value.Value.{Value}
-use Rattle.std.specs.Option.{option_copied}
-use Rattle.std.proofs.lemmas.Result.{IfOk-weaker}
-use Rattle.wi_values.specs.Replacements.{as_map, overridden}
-use Rattle.wi_scenario_list.specs.Scenarios.{layered, scenario_of}
-use Rattle.wi_scenario_list.specs.Inner.Chains.{chain_within}
-use Rattle.wi_scenario_list.specs.Inner.Parts.{as_replacements}
-use Rattle.wi_scenario_list.specs.Inner.Held.{with_name}
+use Rattle.wi_scenario_list.proofs.Words.{◌∙◌, ◌-◌, ℕ, List, Option, BTreeMap, ap, rules, Value, option_copied, IfOk-weaker, as_map, overridden, layered, scenario_of, chain_within, as_replacements, with_name}
 use Rattle.wi_scenario_list.proofs.Chains.{layered_more}
 use Rattle.wi_scenario_list.proofs.scenarios.Scenarios.+layered.Goals as goal
 

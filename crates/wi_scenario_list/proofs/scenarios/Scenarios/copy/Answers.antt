@@ -1,4 +1,4 @@
-use Rattle.std.proofs.Common.{◌∙◌}
+use Rattle.wi_scenario_list.proofs.Words.{◌∙◌}
 use Rattle.wi_scenario_list.proofs.Held.{cloned}
 use Rattle.wi_scenario_list.proofs.scenarios.Scenarios.copy.Goals as goal
 

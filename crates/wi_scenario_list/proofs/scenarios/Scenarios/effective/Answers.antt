@@ -1,5 +1,4 @@
-use Rattle.std.specs.Option.{option_copied}
-use Rattle.std.proofs.lemmas.Result.{IfOk-weaker}
+use Rattle.wi_scenario_list.proofs.Words.{option_copied, IfOk-weaker}
 use Rattle.wi_scenario_list.proofs.Chains.{effective_listed}
 use Rattle.wi_scenario_list.proofs.scenarios.Scenarios.effective.Goals as goal
 

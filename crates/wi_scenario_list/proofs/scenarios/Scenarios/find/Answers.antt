@@ -1,8 +1,4 @@
-use Rattle.std.proofs.Common.{◌∙◌, List, ap}
-use Rattle.std.specs.List.{find}
-use Rattle.std.specs.Option.{option_map}
-use Rattle.wi_scenario_list.specs.Scenarios.{Scenario, is_named}
-use Rattle.wi_scenario_list.specs.Inner.Held.{with_name}
+use Rattle.wi_scenario_list.proofs.Words.{◌∙◌, List, ap, find, option_map, Scenario, is_named, with_name}
 use Rattle.wi_scenario_list.proofs.Held.{behind, found-scenario}
 use Rattle.wi_scenario_list.proofs.scenarios.Scenarios.find.Goals as goal
 

@@ -1,4 +1,4 @@
-use Rattle.std.proofs.Common.{rules}
+use Rattle.wi_scenario_list.proofs.Words.{rules}
 use Rattle.wi_scenario_list.proofs.Held.{any_based}
 use Rattle.wi_scenario_list.proofs.scenarios.Scenarios.is_base.Goals as goal
 

@@ -1,7 +1,4 @@
-use Rattle.std.proofs.Common.{◌∙◌, List, rules, length, sym, ap}
-use Rattle.std.proofs.lemmas.List.{length-map}
-use Rattle.wi_scenario_list.specs.Scenarios.{Scenario}
-use Rattle.wi_scenario_list.specs.Inner.Held.{scenario_in, with_name}
+use Rattle.wi_scenario_list.proofs.Words.{◌∙◌, List, rules, length, sym, ap, length-map, Scenario, scenario_in, with_name}
 use Rattle.wi_scenario_list.proofs.Held.{full_where_there, full_where_none}
 use Rattle.wi_scenario_list.proofs.scenarios.Scenarios.is_full.Goals as goal
 

@@ -1,5 +1,4 @@
-use Rattle.std.proofs.Common.{rules}
-use Rattle.wi_scenario_list.specs.Inner.Chains.{chain}
+use Rattle.wi_scenario_list.proofs.Words.{rules, chain}
 use Rattle.wi_scenario_list.proofs.scenarios.Scenarios.rests_on.Goals as goal
 
 pub returns : goal.returns

@@ -1,7 +1,4 @@
-use Rattle.std.proofs.Common.{◌∙◌}
-use Rattle.std.proofs.lemmas.Result.{on_ok_weaker}
-use Rattle.wi_scenario_list.specs.Scenarios.{with_scenario}
-use Rattle.wi_scenario_list.specs.Inner.Held.{with_name}
+use Rattle.wi_scenario_list.proofs.Words.{◌∙◌, on_ok_weaker, with_scenario, with_name}
 use Rattle.wi_scenario_list.proofs.scenarios.Scenarios.set.Goals as goal
 
 pub returns-clause-ok : goal.returns-clause-ok

@@ -1,10 +1,4 @@
-use Rattle.std.proofs.Common.{◌≡◌, Option, ap, ◌∙◌, rules}
-use Rattle.std.specs.Option.{option_copied}
-use Rattle.std.proofs.lemmas.Result.{on_ok_weaker}
-use Rattle.wi_scenario_list.specs.Scenarios.{Scenario, with_scenario}
-use Rattle.wi_scenario_list.specs.Inner.Parts.{scenario_or_new}
-use Rattle.wi_scenario_list.specs.Bases.{based_on}
-use Rattle.wi_scenario_list.specs.Inner.Held.{with_name}
+use Rattle.wi_scenario_list.proofs.Words.{◌≡◌, Option, ap, ◌∙◌, rules, option_copied, on_ok_weaker, Scenario, with_scenario, scenario_or_new, based_on, with_name}
 use Rattle.wi_scenario_list.proofs.Held.{not_found, found_there}
 use Rattle.wi_scenario_list.proofs.scenarios.Scenarios.set_base.Goals as goal
 

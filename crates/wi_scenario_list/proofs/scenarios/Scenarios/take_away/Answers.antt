@@ -1,8 +1,4 @@
-use Rattle.std.proofs.Common.{◌≡◌, Option, ap, ◌∙◌, rules}
-use Rattle.std.proofs.lemmas.Result.{on_ok_weaker}
-use Rattle.wi_scenario_list.specs.Scenarios.{Scenario, with_scenario, without_own}
-use Rattle.wi_scenario_list.specs.Inner.Parts.{scenario_or_new, without_replacement}
-use Rattle.wi_scenario_list.specs.Inner.Held.{with_name, own_of, base_of}
+use Rattle.wi_scenario_list.proofs.Words.{◌≡◌, Option, ap, ◌∙◌, rules, on_ok_weaker, Scenario, with_scenario, without_own, scenario_or_new, without_replacement, with_name, own_of, base_of}
 use Rattle.wi_scenario_list.proofs.Held.{not_found, found_there}
 use Rattle.wi_scenario_list.proofs.scenarios.Scenarios.take_away.Goals as goal
 

@@ -1,4 +1,4 @@
-use Rattle.std.proofs.Common.{rules}
+use Rattle.wi_scenarios.proofs.Words.{rules}
 use Rattle.wi_scenarios.proofs.refusal.Refusal.code.Goals as goal
 
 pub returns-in-TooLarge : goal.returns-in-TooLarge

@@ -1,5 +1,4 @@
-use Rattle.std.proofs.Common.{◌≤◌, ◌+◌, subst}
-use Rattle.wi_scenarios.specs.Pending.{Book, pending_evaluations, pending_restarts}
+use Rattle.wi_scenarios.proofs.Words.{◌≤◌, ◌+◌, subst, Book, pending_evaluations, pending_restarts}
 use Rattle.wi_scenarios.proofs.workbook.Workbook.changes.Goals as goal
 
 pub returns-clause-evaluations : goal.returns-clause-evaluations

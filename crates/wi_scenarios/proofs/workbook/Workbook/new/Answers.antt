@@ -1,4 +1,4 @@
-use Rattle.std.proofs.Common.{rules}
+use Rattle.wi_scenarios.proofs.Words.{rules}
 use Rattle.wi_scenarios.proofs.workbook.Workbook.new.Goals as goal
 
 pub returns-clause-state : goal.returns-clause-state

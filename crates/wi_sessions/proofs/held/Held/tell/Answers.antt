@@ -1,6 +1,4 @@
-use Rattle.std.proofs.Common.{ℕ, List, ap}
-use Rattle.wi_values.specs.declared.value.Value.{Value}
-use Rattle.wi_sessions.specs.Inner.Held.{with_name}
+use Rattle.wi_sessions.proofs.Words.{ℕ, List, ap, Value, with_name}
 use Rattle.wi_sessions.proofs.held.Held.tell.Goals as goal
 
 pub returns-clause-told : goal.returns-clause-told

@@ -1,4 +1,4 @@
-use Rattle.std.proofs.Common.{rules}
+use Rattle.wi_sessions.proofs.Words.{rules}
 use Rattle.wi_sessions.proofs.held.Held.use_scenario.Goals as goal
 
 pub returns : goal.returns

@@ -1,8 +1,4 @@
-use Rattle.std.proofs.Common.{◌≡◌, ◌∙◌, ℕ, List, ap, length, sym, subst, arith}
-use Rattle.std.proofs.lemmas.Result.{IfOk-weaker}
-use Rattle.wi_sessions.specs.Pictures.Laws.{is_listed}
-use Rattle.wi_sessions.specs.Inner.Cells.{cells_with}
-use Rattle.wi_sessions.specs.Inner.Unread.{HasPlace}
+use Rattle.wi_sessions.proofs.Words.{◌≡◌, ◌∙◌, ℕ, List, ap, length, sym, subst, arith, IfOk-weaker, is_listed, cells_with, HasPlace}
 use Rattle.wi_sessions.proofs.PlaceLemmas.{place_read}
 use Rattle.wi_sessions.proofs.WordLemmas.{listed_with}
 use Rattle.wi_sessions.proofs.PendingLemmas.{listed_told, within_unread}

@@ -1,9 +1,5 @@
-use Rattle.std.proofs.Common.{◌∙◌, ◌&&◌, ℕ, Option, ap, eq-eqb, eqb-true, length, not, refl, sym}
-use Rattle.std.specs.Prelude.{nat_lt, unwrap_or}
-use Rattle.std.specs.List.{list_all}
-use Rattle.wi_sessions.specs.Pending.{AllPending}
-use Rattle.wi_sessions.specs.Pictures.Laws.{is_listed}
-use Rattle.wi_sessions.specs.Inner.Cells.{has_bit, is_in, is_staged}
+use Rattle.wi_sessions.proofs.Words.{◌∙◌, ◌&&◌, ℕ, Option, ap, length, not, refl, sym, nat_lt, unwrap_or, list_all, AllPending, is_listed, has_bit, is_in, is_staged}
+use Rattle.std.proofs.Common.{eq-eqb, eqb-true}
 use Rattle.wi_sessions.proofs.WordLemmas.{Words}
 use Rattle.wi_sessions.proofs.PendingLemmas.{each_has, none_has}
 use Rattle.wi_sessions.proofs.pending.Pending.all_have.Goals as goal

@@ -1,10 +1,5 @@
-use Rattle.std.proofs.Common.{◌≡◌, ℕ, List, length, not, sym, subst, arith}
+use Rattle.wi_sessions.proofs.Words.{◌≡◌, ℕ, List, length, not, sym, subst, arith, common_steps, IfOk-weaker, on_ok, is_staged, HasPlace}
 use Rattle.std.specs.Prelude.{filter}
-use Rattle.std.proofs.lemmas.Grind.{common_steps}
-use Rattle.std.proofs.lemmas.Result.{IfOk-weaker}
-use Rattle.wi_values.proofs.Outcomes.{on_ok}
-use Rattle.wi_sessions.specs.Inner.Cells.{is_staged}
-use Rattle.wi_sessions.specs.Inner.Unread.{HasPlace}
 use Rattle.wi_sessions.proofs.PlaceLemmas.{place_read}
 use Rattle.wi_sessions.proofs.PendingLemmas.{all_told, cells_told, within_unread}
 use Rattle.wi_sessions.proofs.pending.Pending.cells.Goals as goal

@@ -1,4 +1,4 @@
-use Rattle.std.proofs.Common.{length}
+use Rattle.wi_sessions.proofs.Words.{length}
 use Rattle.wi_sessions.proofs.PendingLemmas.{cells_rise, within_unread}
 use Rattle.wi_sessions.proofs.pending.Pending.cells_rise.Goals as goal
 

@@ -1,8 +1,4 @@
-use Rattle.std.proofs.Common.{◌<◌, ◌∙◌, ℕ, [], ap, length, map, set, arith}
-use Rattle.std.proofs.lemmas.List.{length-set}
-use Rattle.std.specs.List.{range_with_len}
-use Rattle.wi_sessions.specs.Pending.{AllPending}
-use Rattle.wi_sessions.specs.Inner.Cells.{cells_in, vacant_in}
+use Rattle.wi_sessions.proofs.Words.{◌<◌, ◌∙◌, ℕ, [], ap, length, map, set, arith, length-set, range_with_len, AllPending, cells_in, vacant_in}
 use Rattle.wi_sessions.proofs.PendingLemmas.{forgotten_kept, forgotten_pending, forgotten_vacant, listed_told, within_unread}
 use Rattle.wi_sessions.proofs.pending.Pending.clear.Goals as goal
 

@@ -1,5 +1,4 @@
-use Rattle.std.proofs.Common.{◌∙◌, ap, length}
-use Rattle.wi_sessions.specs.Pending.{AllPending}
+use Rattle.wi_sessions.proofs.Words.{◌∙◌, ap, length, AllPending}
 use Rattle.wi_sessions.proofs.PlaceLemmas.{kept_given}
 use Rattle.wi_sessions.proofs.PendingLemmas.{pending_same, rooms_gone}
 use Rattle.wi_sessions.proofs.pending.Pending.give_back.Goals as goal

@@ -1,9 +1,4 @@
-use Rattle.std.proofs.Common.{◌<◌, ◌||◌, ◌&&◌, ◌∙◌, ℕ, not, map, length, refl, ap, arith, rules}
-use Rattle.std.proofs.lemmas.List.{length-set}
-use Rattle.std.specs.List.{range_with_len}
-use Rattle.wi_sessions.specs.Pictures.Laws.{is_listed}
-use Rattle.wi_sessions.specs.Pending.{AllPending, list_at}
-use Rattle.wi_sessions.specs.Inner.Cells.{cells_in, vacant_in}
+use Rattle.wi_sessions.proofs.Words.{◌<◌, ◌||◌, ◌&&◌, ◌∙◌, ℕ, not, map, length, refl, ap, arith, rules, length-set, range_with_len, is_listed, AllPending, list_at, cells_in, vacant_in}
 use Rattle.wi_sessions.proofs.PlaceLemmas.{kept_at, place_noted, place_read, places_set}
 use Rattle.wi_sessions.proofs.PendingLemmas.{dropped_elsewhere, dropped_here, dropped_kept, dropped_pending, kept_here, pending_same, room_elsewhere, room_here, within_unread}
 use Rattle.wi_sessions.proofs.pending.Pending.make_room.Goals as goal

@@ -1,8 +1,4 @@
-use Rattle.std.proofs.Common.{◌||◌, ◌&&◌, ◌∙◌, ℕ, not, map, length, ap}
-use Rattle.std.specs.List.{range_with_len}
-use Rattle.wi_sessions.specs.Pictures.Laws.{is_listed}
-use Rattle.wi_sessions.specs.Pending.{AllPending, list_at}
-use Rattle.wi_sessions.specs.Inner.Cells.{cells_in, vacant_in}
+use Rattle.wi_sessions.proofs.Words.{◌||◌, ◌&&◌, ◌∙◌, ℕ, not, map, length, ap, range_with_len, is_listed, AllPending, list_at, cells_in, vacant_in}
 use Rattle.wi_sessions.proofs.PlaceLemmas.{kept_at, kept_given}
 use Rattle.wi_sessions.proofs.WordLemmas.{pending_then}
 use Rattle.wi_sessions.proofs.PendingLemmas.{kept_each, pending_same, room_each, rooms_gone, within_unread}

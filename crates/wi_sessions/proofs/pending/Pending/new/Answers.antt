@@ -1,7 +1,4 @@
-use Rattle.std.proofs.Common.{List, map, length, ap}
-use Rattle.std.specs.List.{range_with_len}
-use Rattle.wi_sessions.specs.declared.unread.Unread.{Unread}
-use Rattle.wi_sessions.specs.Inner.Cells.{cells_in, vacant_in}
+use Rattle.wi_sessions.proofs.Words.{List, map, length, ap, range_with_len, Unread, cells_in, vacant_in}
 use Rattle.wi_sessions.proofs.PlaceLemmas.{kept_none}
 use Rattle.wi_sessions.proofs.pending.Pending.new.Goals as goal
 

@@ -1,12 +1,4 @@
-use Rattle.std.proofs.Common.{◌≡◌, ◌+◌, ◌++◌, ◌∷◌, ◌∙◌, ℕ, List, [], map, length, refl, ap, sym, subst, arith, rules}
-use Rattle.std.proofs.lemmas.Grind.{common_steps}
-use Rattle.std.proofs.lemmas.List.{length-append}
-use Rattle.std.specs.List.{range_with_len}
-use Rattle.wi_values.proofs.Outcomes.{on_err}
-use Rattle.wi_sessions.specs.Pending.{AllPending}
-use Rattle.wi_sessions.specs.declared.unread.Unread.{Unread}
-use Rattle.wi_sessions.specs.Inner.Cells.{cells_in, vacant_in, pending_in}
-use Rattle.wi_sessions.specs.Inner.Unread.{AreKept}
+use Rattle.wi_sessions.proofs.Words.{◌≡◌, ◌+◌, ◌++◌, ◌∷◌, ◌∙◌, ℕ, List, [], map, length, refl, ap, sym, subst, arith, rules, common_steps, length-append, range_with_len, on_err, AllPending, Unread, cells_in, vacant_in, pending_in, AreKept}
 use Rattle.wi_sessions.proofs.PendingLemmas.{pushed_cells, pushed_kept, pushed_pending, pushed_vacant, refused_kept, refused_same}
 use Rattle.wi_sessions.proofs.pending.Pending.push.Goals as goal
 

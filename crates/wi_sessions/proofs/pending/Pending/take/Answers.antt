@@ -1,7 +1,4 @@
-use Rattle.std.proofs.Common.{◌∙◌, ◌||◌, ap, length, sym}
-use Rattle.wi_sessions.specs.Pending.{AllPending, list_at}
-use Rattle.wi_sessions.specs.Pictures.Laws.{is_listed}
-use Rattle.wi_sessions.specs.Inner.Cells.{cells_in}
+use Rattle.wi_sessions.proofs.Words.{◌∙◌, ◌||◌, ap, length, sym, AllPending, list_at, is_listed, cells_in}
 use Rattle.wi_sessions.proofs.ViewLemmas.{so_many}
 use Rattle.wi_sessions.proofs.PlaceLemmas.{kept_taken}
 use Rattle.wi_sessions.proofs.PendingLemmas.{rooms_gone, taken_at}

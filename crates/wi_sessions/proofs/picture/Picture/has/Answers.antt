@@ -1,6 +1,4 @@
-use Rattle.std.proofs.Common.{ap, ◌∙◌}
-use Rattle.wi_values.specs.declared.value.Value.{Value}
-use Rattle.wi_sessions.specs.Pictures.{same_value}
+use Rattle.wi_sessions.proofs.Words.{ap, ◌∙◌, Value, same_value}
 use Rattle.wi_sessions.proofs.picture.Picture.has.Goals as goal
 
 pub returns-in-Some : goal.returns-in-Some

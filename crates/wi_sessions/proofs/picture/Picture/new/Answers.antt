@@ -1,6 +1,4 @@
-use Rattle.std.proofs.Common.{ap, rules}
-use Rattle.std.specs.Map.{keys_of}
-use Rattle.wi_values.specs.declared.value.Value.TheVariants.{Empty}
+use Rattle.wi_sessions.proofs.Words.{ap, rules, keys_of, Empty}
 use Rattle.wi_sessions.proofs.CellLemmas.{none_in_order}
 use Rattle.wi_sessions.proofs.RoomLemmas.{no_rooms}
 use Rattle.wi_sessions.proofs.picture.Picture.new.Goals as goal

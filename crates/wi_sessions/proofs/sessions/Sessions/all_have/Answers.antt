@@ -1,5 +1,4 @@
-use Rattle.std.proofs.Common.{◌∙◌, ap}
-use Rattle.wi_sessions.specs.Roster.{Roster, is_pending_for_all}
+use Rattle.wi_sessions.proofs.Words.{◌∙◌, ap, Roster, is_pending_for_all}
 use Rattle.wi_sessions.proofs.sessions.Sessions.all_have.Goals as goal
 
 pub returns : goal.returns

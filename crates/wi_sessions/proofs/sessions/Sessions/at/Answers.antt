@@ -1,8 +1,4 @@
-use Rattle.std.proofs.Common.{◌<◌, ℕ, length, [], sym, ap, subst, ◌∙◌}
-use Rattle.std.proofs.lemmas.List.{length-map}
-use Rattle.wi_sessions.specs.Sessions.{Session, new_session}
-use Rattle.wi_sessions.specs.Roster.{Roster}
-use Rattle.wi_sessions.specs.Inner.Held.{session_in, with_name}
+use Rattle.wi_sessions.proofs.Words.{◌<◌, ℕ, length, [], sym, ap, subst, ◌∙◌, length-map, Session, new_session, Roster, session_in, with_name}
 use Rattle.wi_sessions.proofs.RosterLemmas.{entry_at, part_at}
 use Rattle.wi_sessions.proofs.sessions.Sessions.at.Goals as goal
 

@@ -1,9 +1,4 @@
-use Rattle.std.proofs.Common.{◌≡◌, ℕ, Option, map, sym, ap, subst, ◌∙◌}
-use Rattle.std.specs.Prelude.{IfSome}
-use Rattle.std.specs.Option.{is_some}
-use Rattle.wi_sessions.specs.Sessions.{has_session, index_of}
-use Rattle.wi_sessions.specs.Roster.{Roster}
-use Rattle.wi_sessions.specs.Inner.Held.{session_in}
+use Rattle.wi_sessions.proofs.Words.{◌≡◌, ℕ, Option, map, sym, ap, subst, ◌∙◌, IfSome, is_some, has_session, index_of, Roster, session_in}
 use Rattle.wi_sessions.proofs.RosterLemmas.{found_session, place_found}
 use Rattle.wi_sessions.proofs.sessions.Sessions.find.Goals as goal
 

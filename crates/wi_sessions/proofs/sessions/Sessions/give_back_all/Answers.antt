@@ -1,5 +1,4 @@
-use Rattle.std.proofs.Common.{◌∙◌, ℕ, List, ap, length}
-use Rattle.wi_sessions.specs.Roster.{Roster}
+use Rattle.wi_sessions.proofs.Words.{◌∙◌, ℕ, List, ap, length, Roster}
 use Rattle.wi_sessions.proofs.sessions.Sessions.give_back_all.Goals as goal
 
 pub returns-clause-sessions : goal.returns-clause-sessions

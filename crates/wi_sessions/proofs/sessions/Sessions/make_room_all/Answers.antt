@@ -1,7 +1,4 @@
-use Rattle.std.proofs.Common.{◌||◌, ◌&&◌, ◌∙◌, ℕ, List, not, ap, length}
-use Rattle.std.proofs.lemmas.Result.{on_ok_weaker}
-use Rattle.wi_sessions.specs.Pictures.Laws.{is_listed}
-use Rattle.wi_sessions.specs.Roster.{Roster, pending_of, vacant_of}
+use Rattle.wi_sessions.proofs.Words.{◌||◌, ◌&&◌, ◌∙◌, ℕ, List, not, ap, length, on_ok_weaker, is_listed, Roster, pending_of, vacant_of}
 use Rattle.wi_sessions.proofs.RosterLemmas.{within_lists}
 use Rattle.wi_sessions.proofs.sessions.Sessions.make_room_all.Goals as goal
 

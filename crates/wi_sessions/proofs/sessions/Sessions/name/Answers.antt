@@ -1,7 +1,4 @@
-use Rattle.std.proofs.Common.{[], sym, ap, ◌∙◌}
-use Rattle.wi_sessions.specs.Sessions.{Session, new_session}
-use Rattle.wi_sessions.specs.Roster.{Roster}
-use Rattle.wi_sessions.specs.Inner.Held.{session_in}
+use Rattle.wi_sessions.proofs.Words.{[], sym, ap, ◌∙◌, Session, new_session, Roster, session_in}
 use Rattle.wi_sessions.proofs.RosterLemmas.{part_at}
 use Rattle.wi_sessions.proofs.sessions.Sessions.name.Goals as goal
 

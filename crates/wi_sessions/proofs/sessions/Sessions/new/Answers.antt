@@ -1,9 +1,4 @@
-use Rattle.std.proofs.Common.{◌≡◌, ℕ, List, [], ◌∷◌, ◌++◌, map, get_or, length, ap, sym, ◌∙◌, Global}
-use Rattle.std.specs.declared.rc.RcStr.{RcStr}
-use Rattle.wi_sessions.specs.Pictures.Laws.{is_listed}
-use Rattle.wi_sessions.specs.Sessions.{new_session}
-use Rattle.wi_sessions.specs.Inner.Held.{session_in}
-use Rattle.wi_sessions.specs.declared.held.Held.{Held}
+use Rattle.wi_sessions.proofs.Words.{◌≡◌, ℕ, List, [], ◌∷◌, ◌++◌, map, get_or, length, ap, sym, ◌∙◌, Global, RcStr, is_listed, new_session, session_in, Held}
 use Rattle.wi_sessions.proofs.sessions.Sessions.new.Goals as goal
 
 pub invariant_of-sessions : goal.invariant_of-sessions

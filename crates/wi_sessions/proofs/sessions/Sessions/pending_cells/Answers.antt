@@ -1,8 +1,4 @@
-use Rattle.std.proofs.Common.{◌≡◌, subst}
-use Rattle.std.specs.Prelude.{IfOk, OnOk}
-use Rattle.wi_sessions.specs.Pictures.{sheet_size}
-use Rattle.wi_sessions.specs.Pictures.Laws.{Rises}
-use Rattle.wi_sessions.specs.Roster.{Roster, pending_of}
+use Rattle.wi_sessions.proofs.Words.{◌≡◌, subst, IfOk, OnOk, sheet_size, Rises, Roster, pending_of}
 use Rattle.wi_sessions.proofs.RosterLemmas.{within_lists}
 use Rattle.wi_sessions.proofs.sessions.Sessions.pending_cells.Goals as goal
 

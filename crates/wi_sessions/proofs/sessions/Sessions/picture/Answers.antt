@@ -1,5 +1,4 @@
-use Rattle.std.proofs.Common.{ap}
-use Rattle.wi_sessions.specs.Sessions.{Session}
+use Rattle.wi_sessions.proofs.Words.{ap, Session}
 use Rattle.wi_sessions.proofs.sessions.Sessions.picture.Goals as goal
 
 pub returns : goal.returns

@@ -1,9 +1,4 @@
-use Rattle.std.proofs.Common.{◌≡◌, ◌+◌, ◌∙◌, ℕ, List, [], ◌∷◌, ◌++◌, get_or, length, ap, sym, arith}
-use Rattle.std.proofs.lemmas.List.{length-append}
-use Rattle.wi_sessions.specs.Sessions.{new_session}
-use Rattle.wi_sessions.specs.Pending.{AllPending}
-use Rattle.wi_sessions.specs.Roster.{Roster}
-use Rattle.wi_sessions.specs.Inner.Held.{roster_in, session_in}
+use Rattle.wi_sessions.proofs.Words.{◌≡◌, ◌+◌, ◌∙◌, ℕ, List, [], ◌∷◌, ◌++◌, get_or, length, ap, sym, arith, length-append, new_session, AllPending, Roster, roster_in, session_in}
 use Rattle.wi_sessions.proofs.RosterLemmas.{told_more, empty_after, popped_again}
 use Rattle.wi_sessions.proofs.sessions.Sessions.push.Goals as goal
 

@@ -1,6 +1,4 @@
-use Rattle.std.proofs.Common.{◌∙◌, ◌||◌, ap, length}
-use Rattle.wi_sessions.specs.Pictures.Laws.{is_listed}
-use Rattle.wi_sessions.specs.Roster.{Roster, pending_of, vacant_of}
+use Rattle.wi_sessions.proofs.Words.{◌∙◌, ◌||◌, ap, length, is_listed, Roster, pending_of, vacant_of}
 use Rattle.wi_sessions.proofs.sessions.Sessions.take_all.Goals as goal
 
 pub returns-clause-sessions : goal.returns-clause-sessions

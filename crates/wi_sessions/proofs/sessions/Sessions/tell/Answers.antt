@@ -1,14 +1,4 @@
-use Rattle.std.proofs.Common.{[], ℕ, List, sym, ap, ◌∙◌, length}
-use Rattle.std.specs.Rc.{rc_str_bytes}
-use Rattle.std.specs.List.{slice_set}
-use Rattle.std.proofs.lemmas.List.{length-set}
-use Rattle.indexmap.specs.IndexMap.{set_value_at}
-use Rattle.indexmap.proofs.CallerLemmas.{index_map_len-with_value_at}
-use Rattle.wi_values.proofs.Outcomes.{on_err}
-use Rattle.wi_sessions.specs.Sessions.{Session, new_session, told}
-use Rattle.wi_sessions.specs.Roster.{Roster}
-use Rattle.wi_sessions.specs.Inner.Held.{roster_in, session_in}
-use Rattle.wi_sessions.specs.declared.held.Held.{Held}
+use Rattle.wi_sessions.proofs.Words.{[], ℕ, List, sym, ap, ◌∙◌, length, rc_str_bytes, slice_set, length-set, set_value_at, index_map_len-with_value_at, on_err, Session, new_session, told, Roster, roster_in, session_in, Held}
 use Rattle.wi_sessions.proofs.RosterLemmas.{entry_at, part_at, part_set, put_back, within_lists}
 use Rattle.wi_sessions.proofs.sessions.Sessions.tell.Goals as goal
 

@@ -1,10 +1,4 @@
-use Rattle.std.proofs.Common.{[], sym, ap, ◌∙◌, string_bytes}
-use Rattle.std.specs.Option.{option_map}
-use Rattle.std.specs.Rc.{rc_str_bytes}
-use Rattle.indexmap.proofs.CallerLemmas.{index_map_len-with_value_at}
-use Rattle.wi_sessions.specs.Sessions.{Session, new_session, using_scenario}
-use Rattle.wi_sessions.specs.Roster.{Roster}
-use Rattle.wi_sessions.specs.Inner.Held.{session_in}
+use Rattle.wi_sessions.proofs.Words.{[], sym, ap, ◌∙◌, string_bytes, option_map, rc_str_bytes, index_map_len-with_value_at, Session, new_session, using_scenario, Roster, session_in}
 use Rattle.wi_sessions.proofs.RosterLemmas.{entry_at, part_at, part_set}
 use Rattle.wi_sessions.proofs.sessions.Sessions.use_scenario.Goals as goal
 

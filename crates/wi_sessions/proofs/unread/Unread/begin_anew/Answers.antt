@@ -1,4 +1,4 @@
-use Rattle.std.proofs.Common.{◌∙◌, refl, sym}
+use Rattle.wi_sessions.proofs.Words.{◌∙◌, refl, sym}
 use Rattle.wi_sessions.proofs.PlaceLemmas.{unread_anew}
 use Rattle.wi_sessions.proofs.unread.Unread.begin_anew.Goals as goal
 

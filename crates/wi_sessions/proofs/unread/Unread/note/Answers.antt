@@ -1,7 +1,4 @@
-use Rattle.std.proofs.Common.{◌||◌, ◌∙◌, ℕ, List, drop, refl, ap}
-use Rattle.std.proofs.lemmas.Bool.{or_left, or_right}
-use Rattle.wi_sessions.specs.Pictures.Laws.{is_listed}
-use Rattle.wi_sessions.specs.Inner.Unread.{is_unread}
+use Rattle.wi_sessions.proofs.Words.{◌||◌, ◌∙◌, ℕ, List, drop, refl, ap, or_left, or_right, is_listed, is_unread}
 use Rattle.wi_sessions.proofs.PlaceLemmas.{unread_noted}
 use Rattle.wi_sessions.proofs.unread.Unread.note.Goals as goal
 

@@ -1,5 +1,4 @@
-use Rattle.std.proofs.Common.{ap}
-use Rattle.wi_store.specs.Inner.Rooms.{sheet_in}
+use Rattle.wi_store.proofs.Words.{ap, sheet_in}
 use Rattle.wi_store.proofs.ContentsLemmas.{all_have}
 use Rattle.wi_store.proofs.contents.Contents.all.Goals as goal
 

@@ -1,6 +1,4 @@
-use Rattle.std.proofs.Common.{Some, ap, ◌∙◌}
-use Rattle.wi_store.specs.Store.{is_ahead}
-use Rattle.wi_store.specs.Inner.Rooms.{sheet_in}
+use Rattle.wi_store.proofs.Words.{Some, ap, ◌∙◌, is_ahead, sheet_in}
 use Rattle.wi_store.proofs.ContentsLemmas.{those_have, sheet_in-filter}
 use Rattle.wi_store.proofs.contents.Contents.new.Goals as goal
 

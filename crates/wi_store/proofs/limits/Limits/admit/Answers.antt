@@ -1,4 +1,4 @@
-use Rattle.std.proofs.Common.{rules}
+use Rattle.wi_store.proofs.Words.{rules}
 use Rattle.wi_store.proofs.limits.Limits.admit.Goals as goal
 
 pub returns-then-cells-self : goal.returns-then-cells-self

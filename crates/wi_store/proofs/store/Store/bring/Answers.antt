@@ -1,7 +1,4 @@
-use Rattle.std.proofs.Common.{◌∙◌, refl, sym, ap, length}
-use Rattle.std.proofs.lemmas.Result.{err_from_is_err_and}
-use Rattle.wi_store.specs.Inner.Rooms.{sheet_in}
-use Rattle.wi_store.specs.Store.{Stored}
+use Rattle.wi_store.proofs.Words.{◌∙◌, refl, sym, ap, length, err_from_is_err_and, sheet_in, Stored}
 use Rattle.wi_store.proofs.EditLemmas.{occupied_after, applies_after_refusal, applies_after_acceptance}
 use Rattle.wi_store.proofs.store.Store.bring.Goals as goal
 

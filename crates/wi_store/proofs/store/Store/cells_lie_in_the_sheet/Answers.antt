@@ -1,8 +1,4 @@
-use Rattle.std.proofs.Common.{◌<◌, ◌*◌, subst}
-use Rattle.std.specs.List.{All}
-use Rattle.std.specs.Map.{keys_of}
-use Rattle.wi_values.specs.Address.{rows, columns}
-use Rattle.wi_store.specs.Store.{Stored}
+use Rattle.wi_store.proofs.Words.{◌<◌, ◌*◌, subst, All, keys_of, rows, columns, Stored}
 use Rattle.wi_store.proofs.RoomLemmas.{within-sheet_in}
 use Rattle.wi_store.proofs.store.Store.cells_lie_in_the_sheet.Goals as goal
 

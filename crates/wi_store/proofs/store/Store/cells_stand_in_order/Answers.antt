@@ -1,9 +1,4 @@
-use Rattle.std.proofs.Common.{subst}
-use Rattle.std.specs.Map.{keys_of}
-use Rattle.std.specs.List.Sorted.{IsStrictlyIncreasing}
-use Rattle.std.proofs.lemmas.Map.Keys.{IsStrictlyIncreasing-from_sorted}
-use Rattle.wi_store.specs.Store.{Stored}
-use Rattle.wi_store.specs.Inner.Rooms.{sheet_in}
+use Rattle.wi_store.proofs.Words.{subst, keys_of, IsStrictlyIncreasing, IsStrictlyIncreasing-from_sorted, Stored, sheet_in}
 use Rattle.wi_store.proofs.RoomLemmas.{Ascends-from_order, Ascends-sheet_in, order-from_Ascends}
 use Rattle.wi_store.proofs.store.Store.cells_stand_in_order.Goals as goal
 

@@ -1,6 +1,5 @@
-use Rattle.std.proofs.Common.{ap, ◌∙◌}
+use Rattle.wi_store.proofs.Words.{ap, ◌∙◌, Stored, is_ahead}
 use Rattle.std.specs.Prelude.{Some, filter}
-use Rattle.wi_store.specs.Store.{Stored, is_ahead}
 use Rattle.wi_store.proofs.store.Store.contents_from.Goals as goal
 
 pub returns : goal.returns

@@ -1,4 +1,4 @@
-use Rattle.std.proofs.Common.{rules}
+use Rattle.wi_store.proofs.Words.{rules}
 use Rattle.wi_store.proofs.store.Store.edits.Goals as goal
 
 pub returns : goal.returns

@@ -1,6 +1,4 @@
-use Rattle.std.proofs.Common.{◌≡◌, ◌∙◌, ℕ, List, IfOk, ap, subst}
-use Rattle.wi_store.specs.Inner.Rooms.{formula_cells}
-use Rattle.wi_store.specs.Store.{Stored}
+use Rattle.wi_store.proofs.Words.{◌≡◌, ◌∙◌, ℕ, List, IfOk, ap, subst, formula_cells, Stored}
 use Rattle.wi_store.proofs.ContentsLemmas.{formulas_within}
 use Rattle.wi_store.proofs.store.Store.formulas_in.Goals as goal
 

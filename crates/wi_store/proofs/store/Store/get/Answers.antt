@@ -1,8 +1,4 @@
-use Rattle.std.proofs.Common.{sym, ap, ◌∙◌, Option}
-use Rattle.std.specs.Option.{option_flatten}
-use Rattle.wi_parser.specs.Sheet.{content_of}
-use Rattle.wi_parser.specs.declared.content.Content.{Content}
-use Rattle.wi_store.specs.Store.{Stored}
+use Rattle.wi_store.proofs.Words.{sym, ap, ◌∙◌, Option, option_flatten, content_of, Content, Stored}
 use Rattle.wi_store.proofs.RoomLemmas.{Ascends-from_order, content_of-sheet_in}
 use Rattle.wi_store.proofs.store.Store.get.Goals as goal
 

@@ -1,5 +1,4 @@
-use Rattle.std.proofs.Common.{ap, rules}
-use Rattle.wi_store.specs.Store.{Stored}
+use Rattle.wi_store.proofs.Words.{ap, rules, Stored}
 use Rattle.wi_store.proofs.NextRoom.{sought_in, stands_in}
 use Rattle.wi_store.proofs.store.Store.next_content.Goals as goal
 

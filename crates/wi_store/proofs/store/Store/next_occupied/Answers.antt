@@ -1,5 +1,4 @@
-use Rattle.std.proofs.Common.{ap}
-use Rattle.wi_store.specs.Store.{Stored}
+use Rattle.wi_store.proofs.Words.{ap, Stored}
 use Rattle.wi_store.proofs.NextRoom.{sought_in}
 use Rattle.wi_store.proofs.store.Store.next_occupied.Goals as goal
 

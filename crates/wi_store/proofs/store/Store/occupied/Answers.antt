@@ -1,5 +1,4 @@
-use Rattle.std.proofs.Common.{sym, ap, ◌∙◌, length}
-use Rattle.wi_store.specs.Store.{Stored}
+use Rattle.wi_store.proofs.Words.{sym, ap, ◌∙◌, length, Stored}
 use Rattle.wi_store.proofs.RoomLemmas.{Ascends-from_order, length-sheet_in}
 use Rattle.wi_store.proofs.store.Store.occupied.Goals as goal
 

@@ -1,10 +1,5 @@
-use Rattle.std.proofs.Common.{Some, ◌≡◌, ap, ◌∙◌, subst}
-use Rattle.std.specs.Prelude.{nat_le, filter, IfSome}
-use Rattle.std.specs.Ordering.{nat_cmp}
+use Rattle.wi_tiles.proofs.Words.{Some, ◌≡◌, ap, ◌∙◌, subst, nat_le, filter, IfSome, nat_cmp, keys_of, is_within, get}
 use Rattle.std.specs.List.{find}
-use Rattle.std.specs.Map.{keys_of}
-use Rattle.wi_values.specs.Address.{is_within}
-use Rattle.wi_tiles.specs.Entries.{get}
 use Rattle.wi_tiles.proofs.MapLemmas.{first_is, first_has}
 use Rattle.wi_tiles.proofs.cell_map.CellMap.first_in.Goals as goal
 

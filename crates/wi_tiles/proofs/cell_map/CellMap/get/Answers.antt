@@ -1,7 +1,4 @@
-use Rattle.std.proofs.Common.{rules, ap, ◌∙◌, ◌≡◌, ◌<◌}
-use Rattle.std.specs.Ordering.{nat_cmp}
-use Rattle.wi_tiles.specs.Entries.{get}
-use Rattle.wi_tiles.specs.Inner.Cells.{path_of}
+use Rattle.wi_tiles.proofs.Words.{rules, ap, ◌∙◌, ◌≡◌, ◌<◌, nat_cmp, get, path_of}
 use Rattle.wi_tiles.proofs.MapLemmas.{found}
 use Rattle.wi_tiles.proofs.cell_map.CellMap.get.Goals as goal
 

@@ -1,5 +1,4 @@
-use Rattle.std.proofs.Common.{ap, ◌∙◌, ◌≡◌, [], length}
-use Rattle.std.specs.Prelude.{◌↔◌, IsTrue, ◌==◌}
+use Rattle.wi_tiles.proofs.Words.{ap, ◌∙◌, ◌≡◌, [], length, ◌↔◌, IsTrue, ◌==◌}
 use Rattle.wi_tiles.proofs.MapLemmas.{none_counted}
 use Rattle.wi_tiles.proofs.cell_map.CellMap.is_empty.Goals as goal
 

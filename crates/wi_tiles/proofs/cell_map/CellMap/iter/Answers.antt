@@ -1,6 +1,4 @@
-use Rattle.std.proofs.Common.{rules, ap, ◌∙◌, ◌≡◌, ◌<◌, ◌*◌, subst}
-use Rattle.std.specs.List.{All}
-use Rattle.wi_values.specs.Address.{rows, columns}
+use Rattle.wi_tiles.proofs.Words.{rules, ap, ◌∙◌, ◌≡◌, ◌<◌, ◌*◌, subst, All, rows, columns}
 use Rattle.wi_tiles.proofs.MapLemmas.{within_sheet}
 use Rattle.wi_tiles.proofs.WalkLemmas.{all_pass}
 use Rattle.wi_tiles.proofs.cell_map.CellMap.iter.Goals as goal

@@ -1,8 +1,4 @@
-use Rattle.std.proofs.Common.{arith, ap, ◌∙◌, ◌<◌, ◌*◌, length, subst}
-use Rattle.std.specs.Ordering.{nat_cmp}
-use Rattle.std.specs.List.{All}
-use Rattle.wi_values.specs.Address.{rows, columns}
-use Rattle.wi_tiles.specs.Entries.{IsOrdered}
+use Rattle.wi_tiles.proofs.Words.{arith, ap, ◌∙◌, ◌<◌, ◌*◌, length, subst, nat_cmp, All, rows, columns, IsOrdered}
 use Rattle.wi_tiles.proofs.MapLemmas.{rises, within_sheet, length_within}
 use Rattle.wi_tiles.proofs.cell_map.CellMap.len.Goals as goal
 

@@ -1,7 +1,4 @@
-use Rattle.std.proofs.Common.{sym, ap, length}
-use Rattle.wi_tiles.specs.Inner.Lines.{slot}
-use Rattle.wi_tiles.specs.Inner.Parts.{at_window}
-use Rattle.wi_tiles.specs.Inner.Sorted.{at_sorted}
+use Rattle.wi_tiles.proofs.Words.{sym, ap, length, slot, at_window, at_sorted}
 use Rattle.wi_tiles.proofs.Ends.{trimmed_none}
 use Rattle.wi_tiles.proofs.MapLemmas.{no_pages}
 use Rattle.wi_tiles.proofs.cell_map.CellMap.new.Goals as goal

@@ -1,11 +1,4 @@
-use Rattle.std.proofs.Common.{rules, ap, ◌∙◌, ◌≡◌, ◌<◌, arith, cond}
-use Rattle.std.specs.Prelude.{is_some, not}
-use Rattle.std.specs.Ordering.{nat_cmp}
-use Rattle.std.specs.Int.{from_bool}
-use Rattle.std.specs.BTreeMap.{insert_entry}
-use Rattle.wi_tiles.specs.Entries.{get}
-use Rattle.wi_tiles.specs.Inner.Cells.{path_of}
-use Rattle.wi_tiles.specs.Inner.Entries.{entries_of}
+use Rattle.wi_tiles.proofs.Words.{rules, ap, ◌∙◌, ◌≡◌, ◌<◌, arith, cond, is_some, not, nat_cmp, from_bool, insert_entry, get, path_of, entries_of}
 use Rattle.wi_tiles.proofs.MapLemmas.{at_path, found, put_made, length_within, one_at_most}
 use Rattle.wi_tiles.proofs.cell_map.CellMap.put_new.Goals as goal
 

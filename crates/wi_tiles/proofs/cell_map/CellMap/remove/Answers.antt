@@ -1,9 +1,4 @@
-use Rattle.std.proofs.Common.{rules, sym, ap, ◌∙◌, ◌≡◌, ◌<◌, arith}
-use Rattle.std.specs.Ordering.{nat_cmp}
-use Rattle.std.specs.Map.{remove_entry}
-use Rattle.std.specs.BTreeMap.{is_at}
-use Rattle.wi_tiles.specs.Entries.{get}
-use Rattle.wi_tiles.specs.Inner.Cells.{path_of}
+use Rattle.wi_tiles.proofs.Words.{rules, sym, ap, ◌∙◌, ◌≡◌, ◌<◌, arith, nat_cmp, remove_entry, is_at, get, path_of}
 use Rattle.wi_tiles.proofs.MapLemmas.{found, cut_is, cut_len, cut_none}
 use Rattle.wi_tiles.proofs.cell_map.CellMap.remove.Goals as goal
 

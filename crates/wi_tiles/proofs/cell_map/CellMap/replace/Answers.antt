@@ -1,9 +1,4 @@
-use Rattle.std.proofs.Common.{rules, sym, ap, ◌∙◌, ◌≡◌, ◌<◌}
-use Rattle.std.specs.Ordering.{nat_cmp}
-use Rattle.std.specs.Map.{set_value}
-use Rattle.std.specs.BTreeMap.{is_at}
-use Rattle.wi_tiles.specs.Entries.{get}
-use Rattle.wi_tiles.specs.Inner.Cells.{path_of}
+use Rattle.wi_tiles.proofs.Words.{rules, sym, ap, ◌∙◌, ◌≡◌, ◌<◌, nat_cmp, set_value, is_at, get, path_of}
 use Rattle.wi_tiles.proofs.MapLemmas.{found, set_is, set_len}
 use Rattle.wi_tiles.proofs.cell_map.CellMap.replace.Goals as goal
 

@@ -1,6 +1,4 @@
-use Rattle.std.proofs.Common.{ap, ◌∙◌}
-use Rattle.std.specs.Prelude.{nat_le, filter, ◌&&◌}
-use Rattle.wi_values.specs.Address.{is_within}
+use Rattle.wi_tiles.proofs.Words.{ap, ◌∙◌, nat_le, filter, ◌&&◌, is_within}
 use Rattle.wi_tiles.proofs.cell_map.CellMap.within.Goals as goal
 
 pub returns : goal.returns

@@ -1,4 +1,4 @@
-use Rattle.std.proofs.Common.{sym, ap, ◌∙◌}
+use Rattle.wi_tiles.proofs.Words.{sym, ap, ◌∙◌}
 use Rattle.wi_tiles.proofs.BareLemmas.{in_bands, columns_lack}
 use Rattle.wi_tiles.proofs.page.Page.lacks.Goals as goal
 

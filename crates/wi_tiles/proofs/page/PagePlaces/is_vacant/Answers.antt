@@ -1,7 +1,4 @@
-use Rattle.std.proofs.Common.{◌≡◌, ℕ, None, subst}
-use Rattle.std.specs.Prelude.{◌↔◌, IsTrue}
-use Rattle.wi_tiles.specs.Inner.Lines.{slot}
-use Rattle.wi_tiles.specs.Inner.Sorted.{at_sorted}
+use Rattle.wi_tiles.proofs.Words.{◌≡◌, ℕ, None, subst, ◌↔◌, IsTrue, slot, at_sorted}
 use Rattle.wi_tiles.proofs.BareLemmas.{in_bands}
 use Rattle.wi_tiles.proofs.Ends.{none_where_none}
 use Rattle.wi_tiles.proofs.page.PagePlaces.is_vacant.Goals as goal

@@ -1,6 +1,4 @@
-use Rattle.std.proofs.Common.{rules, Some, ◌≡◌}
-use Rattle.std.specs.Option.{option_or}
-use Rattle.wi_tiles.specs.Inner.Columns.{column_bit}
+use Rattle.wi_tiles.proofs.Words.{rules, Some, ◌≡◌, option_or, column_bit}
 use Rattle.wi_tiles.proofs.BareLemmas.{in_bands, columns_more}
 use Rattle.wi_tiles.proofs.page.PagePlaces.put_new.Goals as goal
 

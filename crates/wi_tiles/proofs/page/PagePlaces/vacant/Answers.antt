@@ -1,6 +1,4 @@
-use Rattle.std.proofs.Common.{◌≡◌, ℕ, None, ap, length}
-use Rattle.wi_tiles.specs.Inner.Lines.{slot}
-use Rattle.wi_tiles.specs.Inner.Sorted.{at_sorted}
+use Rattle.wi_tiles.proofs.Words.{◌≡◌, ℕ, None, ap, length, slot, at_sorted}
 use Rattle.wi_tiles.proofs.BareLemmas.{in_bands, columns_none}
 use Rattle.wi_tiles.proofs.Ends.{trimmed_none}
 use Rattle.wi_tiles.proofs.Windows.{window_none}

@@ -1,9 +1,4 @@
-use Rattle.std.proofs.Common.{arith, ◌≡◌, ℕ, None, length, sym, subst}
-use Rattle.std.proofs.lemmas.Grind.{common_steps}
-use Rattle.std.specs.Prelude.{◌↔◌, IsTrue, ◌==◌}
-use Rattle.std.specs.Vec.{vec_len}
-use Rattle.wi_tiles.specs.Inner.Lines.{slot}
-use Rattle.wi_tiles.specs.Inner.Sorted.{at_sorted}
+use Rattle.wi_tiles.proofs.Words.{arith, ◌≡◌, ℕ, None, length, sym, subst, common_steps, ◌↔◌, IsTrue, ◌==◌, vec_len, slot, at_sorted}
 use Rattle.wi_tiles.proofs.Filled.{none_filled}
 use Rattle.wi_tiles.proofs.sorted.BandPlaces.is_vacant.Goals as goal
 

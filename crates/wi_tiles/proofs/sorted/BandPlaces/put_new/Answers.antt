@@ -1,10 +1,4 @@
-use Rattle.std.proofs.Common.{rules, ap, ◌∙◌, sym, Some, None, ◌≡◌, ◌<◌, ◌≤◌, ◌%◌, ◌/◌, ℕ, length, cond, subst}
-use Rattle.std.specs.Prelude.{slice_index_or, ◌==◌, IfOk, is_some, not}
-use Rattle.std.specs.Option.{option_or}
-use Rattle.wi_tiles.specs.Inner.Parts.{at_part}
-use Rattle.wi_tiles.specs.Inner.Lines.{slot}
-use Rattle.wi_tiles.specs.Inner.Sorted.{find, at_sorted, groups, key, IsFilled}
-use Rattle.std.proofs.lemmas.List.Elements.{All-set}
+use Rattle.wi_tiles.proofs.Words.{rules, ap, ◌∙◌, sym, Some, None, ◌≡◌, ◌<◌, ◌≤◌, ◌%◌, ◌/◌, ℕ, length, cond, subst, slice_index_or, ◌==◌, IfOk, is_some, not, option_or, at_part, slot, find, at_sorted, groups, key, IsFilled, All-set}
 use Rattle.wi_tiles.proofs.Keys.{key_read, Rises-set}
 use Rattle.wi_tiles.proofs.Filled.{filled_put, filled_kept}
 use Rattle.wi_tiles.proofs.Outcomes.{on_ok, on_err, either_way}

@@ -1,9 +1,4 @@
-use Rattle.std.proofs.Common.{rules, arith, subst, ap, ◌∙◌, sym, None, ◌≡◌, ◌<◌, ◌%◌, ◌/◌, length, cond}
-use Rattle.std.specs.Prelude.{slice_index_or, slice_set, ◌==◌}
-use Rattle.std.specs.List.{All, remove}
-use Rattle.wi_tiles.specs.Inner.Parts.{at_part}
-use Rattle.wi_tiles.specs.Inner.Lines.{slot}
-use Rattle.wi_tiles.specs.Inner.Sorted.{at_sorted, groups, key, IsFilled}
+use Rattle.wi_tiles.proofs.Words.{rules, arith, subst, ap, ◌∙◌, sym, None, ◌≡◌, ◌<◌, ◌%◌, ◌/◌, length, cond, slice_index_or, slice_set, ◌==◌, All, remove, at_part, slot, at_sorted, groups, key, IsFilled}
 use Rattle.wi_tiles.proofs.Filled.{all_less, remove_set}
 use Rattle.wi_tiles.proofs.Keys.{key_read, key-set, Rises-set}
 use Rattle.wi_tiles.proofs.Sorts.{part_at, sorted_changed}

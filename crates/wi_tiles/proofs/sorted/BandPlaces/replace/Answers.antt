@@ -1,9 +1,4 @@
-use Rattle.std.proofs.Common.{rules, ap, ◌∙◌, sym, subst, ◌≡◌, ◌<◌, ◌%◌, ◌/◌, length, cond}
-use Rattle.std.specs.Prelude.{slice_index_or, ◌==◌, option_map}
-use Rattle.wi_tiles.specs.Inner.Parts.{at_part}
-use Rattle.wi_tiles.specs.Inner.Lines.{slot}
-use Rattle.wi_tiles.specs.Inner.Sorted.{at_sorted, groups, key, IsFilled}
-use Rattle.std.proofs.lemmas.List.Elements.{All-set}
+use Rattle.wi_tiles.proofs.Words.{rules, ap, ◌∙◌, sym, subst, ◌≡◌, ◌<◌, ◌%◌, ◌/◌, length, cond, slice_index_or, ◌==◌, option_map, at_part, slot, at_sorted, groups, key, IsFilled, All-set}
 use Rattle.wi_tiles.proofs.Filled.{filled_replaced}
 use Rattle.wi_tiles.proofs.Keys.{key_read, Rises-set}
 use Rattle.wi_tiles.proofs.Sorts.{part_at, sorted_changed}

@@ -1,6 +1,4 @@
-use Rattle.std.proofs.Common.{arith, ap, length}
-use Rattle.wi_tiles.specs.Inner.Lines.{slot}
-use Rattle.wi_tiles.specs.Inner.Sorted.{IsFilled}
+use Rattle.wi_tiles.proofs.Words.{arith, ap, length, slot, IsFilled}
 use Rattle.wi_tiles.proofs.Filled.{all_none}
 use Rattle.wi_tiles.proofs.sorted.BandPlaces.vacant.Goals as goal
 

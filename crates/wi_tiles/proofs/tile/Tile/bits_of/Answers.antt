@@ -1,6 +1,4 @@
-use Rattle.std.proofs.Common.{None, ◌≡◌, ◌<◌, ℕ, subst}
-use Rattle.std.specs.Prelude.{slice_index_or, IsSome, bit_and}
-use Rattle.std.specs.Int.{bit_at}
+use Rattle.wi_tiles.proofs.Words.{None, ◌≡◌, ◌<◌, ℕ, subst, slice_index_or, IsSome, bit_and, bit_at}
 use Rattle.wi_tiles.proofs.Firsts.{masked_sound, masked_whole}
 use Rattle.wi_tiles.proofs.tile.Tile.bits_of.Goals as goal
 

@@ -1,5 +1,4 @@
-use Rattle.std.proofs.Common.{arith, ap, ◌∙◌}
-use Rattle.wi_tiles.specs.Inner.Within.{filled}
+use Rattle.wi_tiles.proofs.Words.{arith, ap, ◌∙◌, filled}
 use Rattle.wi_tiles.proofs.Counts.{rank_filled}
 use Rattle.wi_tiles.proofs.tile.Tile.count_before.Goals as goal
 

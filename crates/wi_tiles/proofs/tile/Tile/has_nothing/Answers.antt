@@ -1,5 +1,4 @@
-use Rattle.std.proofs.Common.{rules, None, ◌≡◌, ◌<◌, ◌^◌, ℕ, subst}
-use Rattle.std.specs.Prelude.{◌↔◌, IsTrue, ◌==◌, slice_index_or}
+use Rattle.wi_tiles.proofs.Words.{rules, None, ◌≡◌, ◌<◌, ◌^◌, ℕ, subst, ◌↔◌, IsTrue, ◌==◌, slice_index_or}
 use Rattle.wi_tiles.proofs.Firsts.{bits_none}
 use Rattle.wi_tiles.proofs.tile.Tile.has_nothing.Goals as goal
 

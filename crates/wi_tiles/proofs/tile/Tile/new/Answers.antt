@@ -1,6 +1,4 @@
-use Rattle.std.proofs.Common.{ap, ◌∙◌, None}
-use Rattle.std.specs.Prelude.{slice_index_or}
-use Rattle.wi_tiles.specs.Inner.Tile.{slots}
+use Rattle.wi_tiles.proofs.Words.{ap, ◌∙◌, None, slice_index_or, slots}
 use Rattle.wi_tiles.proofs.Tiles.{none_anywhere}
 use Rattle.wi_tiles.proofs.tile.Tile.new.Goals as goal
 

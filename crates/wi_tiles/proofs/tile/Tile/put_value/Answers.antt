@@ -1,7 +1,4 @@
-use Rattle.std.proofs.Common.{rules, ap, ◌∙◌, None, Some, arith, ◌≡◌, ◌<◌, ◌^◌, ◌*◌, ◌%◌, length}
-use Rattle.std.specs.Prelude.{slice_index_or, slice_set, bit_or}
-use Rattle.std.specs.List.{insert}
-use Rattle.wi_tiles.specs.Inner.Tile.{rank, slots}
+use Rattle.wi_tiles.proofs.Words.{rules, ap, ◌∙◌, None, Some, arith, ◌≡◌, ◌<◌, ◌^◌, ◌*◌, ◌%◌, length, slice_index_or, slice_set, bit_or, insert, rank, slots}
 use Rattle.wi_tiles.proofs.Tiles.{put_within, slots_put_made, put_full, there_put}
 use Rattle.wi_tiles.proofs.tile.Tile.put_value.Goals as goal
 

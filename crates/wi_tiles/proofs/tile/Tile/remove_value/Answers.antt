@@ -1,9 +1,4 @@
-use Rattle.std.proofs.Common.{rules, ap, ◌∙◌, sym, None, arith, ◌≡◌, ◌<◌, ◌^◌, ◌*◌, ◌%◌, length}
-use Rattle.std.specs.Prelude.{slice_index_or, slice_set, bit_and}
-use Rattle.std.specs.Int.{bit_not, w64}
-use Rattle.std.specs.List.{remove}
-use Rattle.std.proofs.lemmas.Option.{slice_get_read}
-use Rattle.wi_tiles.specs.Inner.Tile.{rank, slots}
+use Rattle.wi_tiles.proofs.Words.{rules, ap, ◌∙◌, sym, None, arith, ◌≡◌, ◌<◌, ◌^◌, ◌*◌, ◌%◌, length, slice_index_or, slice_set, bit_and, bit_not, w64, remove, slice_get_read, rank, slots}
 use Rattle.wi_tiles.proofs.Tiles.{none_found, one_found, found_within, slots_cut_made, cut_full, cut_none}
 use Rattle.wi_tiles.proofs.tile.Tile.remove_value.Goals as goal
 

@@ -1,6 +1,4 @@
-use Rattle.std.proofs.Common.{rules, ap, ◌∙◌, sym, Some, None, arith, ◌≡◌, ◌<◌, ◌^◌, ℕ, subst}
-use Rattle.std.specs.Prelude.{slice_index_or, slice_set, option_map, ◌==◌, if◌then◌else◌}
-use Rattle.wi_tiles.specs.Inner.Tile.{slots}
+use Rattle.wi_tiles.proofs.Words.{rules, ap, ◌∙◌, sym, Some, None, arith, ◌≡◌, ◌<◌, ◌^◌, ℕ, subst, slice_index_or, slice_set, option_map, ◌==◌, if◌then◌else◌, slots}
 use Rattle.wi_tiles.proofs.Tiles.{none_found, found_within}
 use Rattle.wi_tiles.proofs.Replaced.{replaced, after_replace, not_replaced}
 use Rattle.wi_tiles.proofs.tile.Tile.replace_value.Goals as goal

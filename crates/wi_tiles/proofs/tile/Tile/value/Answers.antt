@@ -1,7 +1,4 @@
-use Rattle.std.proofs.Common.{rules, ap, ◌∙◌, sym, None, arith, ◌≡◌, ◌<◌, ◌^◌, length}
-use Rattle.std.specs.Prelude.{slice_index_or}
-use Rattle.std.proofs.lemmas.Option.{slice_get_read}
-use Rattle.wi_tiles.specs.Inner.Tile.{rank}
+use Rattle.wi_tiles.proofs.Words.{rules, ap, ◌∙◌, sym, None, arith, ◌≡◌, ◌<◌, ◌^◌, length, slice_index_or, slice_get_read, rank}
 use Rattle.wi_tiles.proofs.Tiles.{none_found, one_found, found_within}
 use Rattle.wi_tiles.proofs.tile.Tile.value.Goals as goal
 

@@ -1,6 +1,4 @@
-use Rattle.std.proofs.Common.{rules, None, Some, arith, ◌≡◌, ◌<◌, ◌≤◌, ℕ, length, subst}
-use Rattle.std.specs.Prelude.{slice_index_or, IsSome}
-use Rattle.wi_tiles.specs.Inner.Within.{filled}
+use Rattle.wi_tiles.proofs.Words.{rules, None, Some, arith, ◌≡◌, ◌<◌, ◌≤◌, ℕ, length, subst, slice_index_or, IsSome, filled}
 use Rattle.wi_tiles.proofs.Counts.{filled_within, value_is}
 use Rattle.wi_tiles.proofs.tile.Tile.value_at.Goals as goal
 

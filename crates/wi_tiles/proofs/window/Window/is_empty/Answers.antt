@@ -1,8 +1,4 @@
-use Rattle.std.proofs.Common.{arith, ◌≡◌, ◌+◌, ◌≤◌, [], length, subst}
-use Rattle.std.proofs.lemmas.Grind.{common_steps}
-use Rattle.std.specs.Prelude.{◌↔◌, IsTrue, ◌==◌}
-use Rattle.std.specs.Vec.{vec_len}
-use Rattle.wi_tiles.specs.Inner.Parts.{span}
+use Rattle.wi_tiles.proofs.Words.{arith, ◌≡◌, ◌+◌, ◌≤◌, [], length, subst, common_steps, ◌↔◌, IsTrue, ◌==◌, vec_len, span}
 use Rattle.wi_tiles.proofs.MapLemmas.{none_counted}
 use Rattle.wi_tiles.proofs.window.Window.is_empty.Goals as goal
 

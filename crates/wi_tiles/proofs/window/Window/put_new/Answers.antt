@@ -1,7 +1,4 @@
-use Rattle.std.proofs.Common.{rules, ap, ◌∙◌, sym, Some, ◌≡◌, ◌-◌, ◌<◌, ◌≤◌, ◌%◌, ◌/◌, length, cond, subst}
-use Rattle.std.specs.Prelude.{slice_index_or, ◌==◌, IfOk, is_some, not}
-use Rattle.std.specs.Option.{option_or}
-use Rattle.wi_tiles.specs.Inner.Parts.{at_part, at_window, span, IsTrimmed}
+use Rattle.wi_tiles.proofs.Words.{rules, ap, ◌∙◌, sym, Some, ◌≡◌, ◌-◌, ◌<◌, ◌≤◌, ◌%◌, ◌/◌, length, cond, subst, slice_index_or, ◌==◌, IfOk, is_some, not, option_or, at_part, at_window, span, IsTrimmed}
 use Rattle.wi_tiles.proofs.Ends.{trimmed_set}
 use Rattle.wi_tiles.proofs.Filled.{filled_put, filled_kept}
 use Rattle.wi_tiles.proofs.Outcomes.{on_ok, on_err, either_way}

@@ -1,6 +1,4 @@
-use Rattle.std.proofs.Common.{rules, ap, ◌∙◌, None, sym, ◌≡◌, ◌-◌, ◌<◌, ◌≤◌, ◌%◌, length, cond, subst}
-use Rattle.std.specs.Prelude.{slice_index_or, slice_get, slice_set, ◌==◌}
-use Rattle.wi_tiles.specs.Inner.Parts.{at_window, span, HasSome, IsTrimmed}
+use Rattle.wi_tiles.proofs.Words.{rules, ap, ◌∙◌, None, sym, ◌≡◌, ◌-◌, ◌<◌, ◌≤◌, ◌%◌, length, cond, subst, slice_index_or, slice_get, slice_set, ◌==◌, at_window, span, HasSome, IsTrimmed}
 use Rattle.wi_tiles.proofs.Ends.{trimmed_cut}
 use Rattle.wi_tiles.proofs.Windows.{window_changed}
 use Rattle.wi_tiles.proofs.window.Window.remove.Goals as goal

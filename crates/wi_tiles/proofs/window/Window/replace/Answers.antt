@@ -1,6 +1,4 @@
-use Rattle.std.proofs.Common.{rules, ap, ◌∙◌, sym, ◌≡◌, ◌-◌, ◌<◌, ◌≤◌, ◌%◌, ◌/◌, length, cond, subst}
-use Rattle.std.specs.Prelude.{slice_index_or, option_map, ◌==◌}
-use Rattle.wi_tiles.specs.Inner.Parts.{at_part, at_window, span, IsTrimmed}
+use Rattle.wi_tiles.proofs.Words.{rules, ap, ◌∙◌, sym, ◌≡◌, ◌-◌, ◌<◌, ◌≤◌, ◌%◌, ◌/◌, length, cond, subst, slice_index_or, option_map, ◌==◌, at_part, at_window, span, IsTrimmed}
 use Rattle.wi_tiles.proofs.Ends.{trimmed_set}
 use Rattle.wi_tiles.proofs.Filled.{filled_replaced}
 use Rattle.wi_tiles.proofs.Windows.{part_read, window_changed}

@@ -1,4 +1,4 @@
-use Rattle.std.proofs.Common.{arith}
+use Rattle.wi_tiles.proofs.Words.{arith}
 use Rattle.wi_tiles.proofs.WalkLemmas.{begins}
 use Rattle.wi_tiles.proofs.within.Within.new.Goals as goal
 

@@ -1,8 +1,4 @@
-use Rattle.std.proofs.Common.{arith, ◌∷◌, sym, ap, ◌∙◌}
-use Rattle.std.specs.Int.{w64, trailing_zeros}
-use Rattle.wi_values.specs.Address.{place}
-use Rattle.wi_tiles.specs.Inner.Entries.{entries_of}
-use Rattle.wi_tiles.specs.Inner.Within.{is_pending}
+use Rattle.wi_tiles.proofs.Words.{arith, ◌∷◌, sym, ap, ◌∙◌, w64, trailing_zeros, place, entries_of, is_pending}
 use Rattle.wi_tiles.proofs.StepLemmas.{step_turned, walk_turned, turn_within, turn_place, turn_few, turn_value}
 use Rattle.wi_tiles.proofs.WalkLemmas.{passing, all_behind}
 use Rattle.wi_tiles.proofs.within.Within.next_beside.Goals as goal

@@ -1,7 +1,4 @@
-use Rattle.std.proofs.Common.{rules, ◌≡◌, ◌∷◌, sym, ap, ◌∙◌}
-use Rattle.wi_values.specs.Address.{place}
-use Rattle.wi_tiles.specs.Inner.Entries.{entries_of}
-use Rattle.wi_tiles.specs.Inner.Within.{is_pending}
+use Rattle.wi_tiles.proofs.Words.{rules, ◌≡◌, ◌∷◌, sym, ap, ◌∙◌, place, entries_of, is_pending}
 use Rattle.wi_tiles.proofs.StepLemmas.{step_left, walk_left, walk_there, walk_counts}
 use Rattle.wi_tiles.proofs.WalkLemmas.{passing}
 use Rattle.wi_tiles.proofs.within.WithinIterator.next.Goals as goal

@@ -1,5 +1,4 @@
-use Rattle.std.proofs.Common.{◌∙◌, ap, chars, arith}
-use Rattle.std.specs.Str.Iter.{chars_rest}
+use Rattle.wi_value_functions.proofs.Words.{◌∙◌, ap, chars, arith, chars_rest}
 use Rattle.wi_value_functions.proofs.Counting.{advance, at_end}
 use Rattle.wi_value_functions.proofs.text.characters.after.Goals as goal
 

@@ -1,6 +1,4 @@
-use Rattle.std.proofs.Common.{◌≡◌, drop, chars}
-use Rattle.std.specs.Str.{IsUtf8}
-use Rattle.wi_value_functions.specs.Inner.Gives.{EndsWith}
+use Rattle.wi_value_functions.proofs.Words.{◌≡◌, drop, chars, IsUtf8, EndsWith}
 use Rattle.wi_value_functions.proofs.text.characters.after.Given as goal
 
 abbrev pub invariant-loop : goal.invariant-loop

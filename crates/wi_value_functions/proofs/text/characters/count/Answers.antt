@@ -1,5 +1,4 @@
-use Rattle.std.proofs.Common.{rules}
-use Rattle.std.proofs.lemmas.Str.{chars_from_encodes}
+use Rattle.wi_value_functions.proofs.Words.{rules, chars_from_encodes}
 use Rattle.wi_value_functions.proofs.text.characters.count.Goals as goal
 
 pub returns : goal.returns

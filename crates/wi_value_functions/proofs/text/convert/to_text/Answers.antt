@@ -1,4 +1,4 @@
-use Rattle.std.proofs.Common.{rules}
+use Rattle.wi_value_functions.proofs.Words.{rules}
 use Rattle.wi_value_functions.proofs.Texts.{text_itself}
 use Rattle.wi_value_functions.proofs.text.convert.to_text.Goals as goal
 

@@ -1,9 +1,4 @@
-use Rattle.std.proofs.Common.{ap, ◌∙◌, List, ℕ}
-use Rattle.std.specs.Prelude.{string_bytes}
-use Rattle.std.proofs.lemmas.Result.{err_from_is_err_and}
-use Rattle.wi_standard_functions.specs.Convert.{to_text}
-use Rattle.wi_standard_functions.specs.Steps.{map_until_error}
-use Rattle.wi_standard_functions.specs.Text.{concatenate_value}
+use Rattle.wi_value_functions.proofs.Words.{ap, ◌∙◌, List, ℕ, string_bytes, err_from_is_err_and, to_text, map_until_error, concatenate_value}
 use Rattle.wi_value_functions.proofs.Joining.{joined_to, joined_more, joined_all, joined_stops}
 use Rattle.wi_value_functions.proofs.text.joined.concatenate.Goals as goal
 

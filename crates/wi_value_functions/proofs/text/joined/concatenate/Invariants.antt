@@ -1,8 +1,4 @@
-use Rattle.std.proofs.Common.{◌≡◌, drop}
-use Rattle.std.specs.Prelude.{string_bytes}
-use Rattle.wi_standard_functions.specs.Convert.{to_text}
-use Rattle.wi_standard_functions.specs.Steps.{map_until_error}
-use Rattle.wi_standard_functions.specs.Text.{concatenate_value}
+use Rattle.wi_value_functions.proofs.Words.{◌≡◌, drop, string_bytes, to_text, map_until_error, concatenate_value}
 use Rattle.wi_value_functions.proofs.Joining.{joined_to}
 use Rattle.wi_value_functions.proofs.text.joined.concatenate.Given as goal
 

@@ -1,4 +1,4 @@
-use Rattle.std.proofs.Common.{rules}
+use Rattle.wi_value_functions.proofs.Words.{rules}
 use Rattle.wi_value_functions.proofs.text.joined.push_text.Goals as goal
 
 pub returns-in-Fault-clause-taken : goal.returns-in-Fault-clause-taken

@@ -1,4 +1,4 @@
-use Rattle.std.proofs.Common.{◌∙◌, arith}
+use Rattle.wi_value_functions.proofs.Words.{◌∙◌, arith}
 use Rattle.wi_value_functions.proofs.Joining.{too_often, not_too_often}
 use Rattle.wi_value_functions.proofs.text.joined.repeated.Goals as goal
 

@@ -1,8 +1,4 @@
-use Rattle.std.proofs.Common.{rules, FitsSigned, ◌∙◌, ap, sym, subst}
-use Rattle.std.proofs.lemmas.Int.{to_z-of_z}
-use Rattle.std.specs.Int.{w128}
-use Rattle.std.specs.Prelude.{Ok}
-use Rattle.wi_value_functions.specs.Endings.{Gives}
+use Rattle.wi_value_functions.proofs.Words.{rules, FitsSigned, ◌∙◌, ap, sym, subst, to_z-of_z, w128, Ok, Gives}
 use Rattle.wi_value_functions.proofs.Taking.{mid_is}
 use Rattle.wi_value_functions.proofs.text.parts.mid.Goals as goal
 

@@ -1,4 +1,4 @@
-use Rattle.std.proofs.Common.{rules}
+use Rattle.wi_value_functions.proofs.Words.{rules}
 use Rattle.wi_value_functions.proofs.text.place.find.Goals as goal
 
 pub returns-in-Some : goal.returns-in-Some

@@ -1,5 +1,4 @@
-use Rattle.std.proofs.Common.{rules, ◌∙◌, ap, sym, drop}
-use Rattle.std.specs.Prelude.{Some}
+use Rattle.wi_value_functions.proofs.Words.{rules, ◌∙◌, ap, sym, drop, Some}
 use Rattle.wi_value_functions.proofs.Finding.{found_nowhere, found_behind, fewer}
 use Rattle.wi_value_functions.proofs.text.place.first_place.Goals as goal
 

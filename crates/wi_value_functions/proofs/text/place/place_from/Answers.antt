@@ -1,5 +1,4 @@
-use Rattle.std.proofs.Common.{ap, length, chars, arith}
-use Rattle.std.proofs.lemmas.List.{length-drop}
+use Rattle.wi_value_functions.proofs.Words.{ap, length, chars, arith, length-drop}
 use Rattle.wi_value_functions.proofs.Counting.{few_chars}
 use Rattle.wi_value_functions.proofs.text.place.place_from.Goals as goal
 

@@ -1,4 +1,4 @@
-use Rattle.std.proofs.Common.{rules}
+use Rattle.wi_values.proofs.Words.{rules}
 use Rattle.wi_values.proofs.Letters.{letters_of_column}
 use Rattle.wi_values.proofs.address.Address.push_column.Goals as goal
 

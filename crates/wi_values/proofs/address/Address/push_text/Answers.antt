@@ -1,6 +1,4 @@
-use Rattle.std.proofs.Common.{arith}
-use Rattle.std.proofs.lemmas.Grind.{common_steps}
-use Rattle.wi_values.specs.Address.{address_text}
+use Rattle.wi_values.proofs.Words.{arith, common_steps, address_text}
 use Rattle.wi_values.proofs.Letters.{letters_of_column}
 use Rattle.wi_values.proofs.address.Address.push_text.Goals as goal
 

@@ -1,5 +1,4 @@
-use Rattle.std.proofs.Common.{rules}
-use Rattle.wi_values.specs.AddressReading.{read_address}
+use Rattle.wi_values.proofs.Words.{rules, read_address}
 use Rattle.wi_values.proofs.address.Address.read.Goals as goal
 
 pub returns : goal.returns

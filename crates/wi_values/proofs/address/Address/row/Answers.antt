@@ -1,4 +1,4 @@
-use Rattle.std.proofs.Common.{rules}
+use Rattle.wi_values.proofs.Words.{rules}
 use Rattle.wi_values.proofs.address.Address.row.Goals as goal
 
 pub returns-clause-value : goal.returns-clause-value

@@ -1,4 +1,4 @@
-use Rattle.std.proofs.Common.{rules}
+use Rattle.wi_values.proofs.Words.{rules}
 use Rattle.wi_values.proofs.rect.Rect.first.Goals as goal
 
 pub returns : goal.returns

@@ -1,5 +1,4 @@
-use Rattle.std.proofs.Common.{rules}
-use Rattle.wi_values.specs.AddressReading.{read_rect}
+use Rattle.wi_values.proofs.Words.{rules, read_rect}
 use Rattle.wi_values.proofs.rect.Rect.read.Goals as goal
 
 pub returns-in_ok-cell-in-None : goal.returns-in_ok-cell-in-None

@@ -1,4 +1,4 @@
-use Rattle.std.proofs.Common.{rules}
+use Rattle.wi_values.proofs.Words.{rules}
 use Rattle.wi_values.proofs.text.TextPartialEq.eq.Goals as goal
 
 pub returns : goal.returns

@@ -1,5 +1,4 @@
-use Rattle.std.proofs.Common.{rules}
-use Rattle.wi_values.specs.Value.{shown_text}
+use Rattle.wi_values.proofs.Words.{rules, shown_text}
 use Rattle.wi_values.proofs.value.Value.push_shown.Goals as goal
 
 pub returns-in-Empty-clause-ok : goal.returns-in-Empty-clause-ok

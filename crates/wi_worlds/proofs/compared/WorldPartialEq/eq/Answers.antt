@@ -1,4 +1,4 @@
-use Rattle.std.proofs.Common.{rules}
+use Rattle.wi_worlds.proofs.Words.{rules}
 use Rattle.wi_worlds.proofs.Digest.{told_apart}
 use Rattle.wi_worlds.proofs.compared.WorldPartialEq.eq.Goals as goal
 

@@ -1,6 +1,4 @@
-use Rattle.std.proofs.Common.{◌≡◌, ◌∙◌, ◌==◌, ◌||◌, ℕ, true, List, Ok, Err, sym, ap, subst}
-use Rattle.std.specs.List.Sorted.{IsStrictlyIncreasing}
-use Rattle.wi_worlds.specs.Reached.{has_cell}
+use Rattle.wi_worlds.proofs.Words.{◌≡◌, ◌∙◌, ◌==◌, ◌||◌, ℕ, true, List, Ok, Err, sym, ap, subst, IsStrictlyIncreasing, has_cell}
 use Rattle.wi_worlds.proofs.RisingSteps.{Searched, searched_in, has_at, has_still, has_more, rise_more}
 use Rattle.wi_worlds.proofs.rising.RisingCells.insert.Goals as goal
 

@@ -1,4 +1,4 @@
-use Rattle.std.proofs.Common.{rules}
+use Rattle.wi_worlds.proofs.Words.{rules}
 use Rattle.wi_worlds.proofs.world.World.new.Goals as goal
 
 pub returns : goal.returns

@@ -1,13 +1,4 @@
-use Rattle.std.proofs.Common.{◌≡◌, ◌∙◌, ℕ, List, filter, None, IfOk, Ok, Err, Result, if◌then◌else◌, sym, ap, subst}
-use Rattle.std.specs.Prelude.{All, IsSome}
-use Rattle.std.specs.BTreeMap.{BTreeMap, get}
-use Rattle.std.specs.BTreeSet.{BTreeSet}
-use Rattle.std.specs.Ordering.{nat_cmp}
-use Rattle.wi_values.specs.declared.replacement.Replacement.{Replacement}
-use Rattle.wi_values.specs.Replacements.{IsInOrder, replaced}
-use Rattle.wi_values.proofs.Replacements.Same.{same_replacements_Decides}
-use Rattle.wi_values.proofs.Replacements.Filtering.{order_of_filter, replaced-filter}
-use Rattle.wi_worlds.specs.Reaching.{cone_has, is_reached}
+use Rattle.wi_worlds.proofs.Words.{◌≡◌, ◌∙◌, ℕ, List, filter, None, IfOk, Ok, Err, Result, if◌then◌else◌, sym, ap, subst, All, IsSome, BTreeMap, get, BTreeSet, nat_cmp, Replacement, IsInOrder, replaced, same_replacements_Decides, order_of_filter, replaced-filter, cone_has, is_reached}
 use Rattle.wi_worlds.proofs.Filtering.{filter_whole, filter_nothing, made_of}
 use Rattle.wi_worlds.proofs.world.World.reaching.Goals as goal
 

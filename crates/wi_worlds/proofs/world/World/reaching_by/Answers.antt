@@ -1,11 +1,4 @@
-use Rattle.std.proofs.Common.{◌≡◌, ◌∙◌, ℕ, List, [], ◌∷◌, refl, length, filter, None, IfOk, Ok, Err, Result, if◌then◌else◌, sym, ap, subst, arith}
-use Rattle.std.specs.List.Sorted.{IsStrictlyIncreasing}
-use Rattle.std.proofs.lemmas.Bool.{eqb-true}
-use Rattle.wi_values.specs.declared.replacement.Replacement.{Replacement}
-use Rattle.wi_values.specs.Replacements.{IsInOrder, replaced}
-use Rattle.wi_values.proofs.Replacements.Same.{same_replacements_Decides}
-use Rattle.wi_values.proofs.Replacements.Filtering.{order_of_filter, replaced-filter}
-use Rattle.wi_worlds.specs.Reached.{ReachTable, is_of, is_reached_by, reached_by, reached_cells}
+use Rattle.wi_worlds.proofs.Words.{◌≡◌, ◌∙◌, ℕ, List, [], ◌∷◌, refl, length, filter, None, IfOk, Ok, Err, Result, if◌then◌else◌, sym, ap, subst, arith, IsStrictlyIncreasing, eqb-true, Replacement, IsInOrder, replaced, same_replacements_Decides, order_of_filter, replaced-filter, ReachTable, is_of, is_reached_by, reached_by, reached_cells}
 use Rattle.wi_worlds.proofs.Filtering.{filter_whole, filter_nothing, made_of}
 use Rattle.wi_worlds.proofs.world.World.reaching_by.Goals as goal
 

@@ -1,9 +1,4 @@
-use Rattle.std.proofs.Common.{◌≡◌, ◌∙◌, ℕ, List, [], IfOk, Ok, Err, Result, sym, ap, subst}
-use Rattle.wi_values.specs.declared.value.Value.{Value}
-use Rattle.wi_values.specs.declared.replacement.Replacement.{Replacement}
-use Rattle.std.specs.Option.{option_or}
-use Rattle.wi_values.specs.Replacements.{IsInOrder, as_map, last_for, overridden, replaced}
-use Rattle.wi_values.proofs.Replacements.Overriding.{overridden-nothing, replaced-overridden}
+use Rattle.wi_worlds.proofs.Words.{◌≡◌, ◌∙◌, ℕ, List, [], IfOk, Ok, Err, Result, sym, ap, subst, Value, Replacement, option_or, IsInOrder, as_map, last_for, overridden, replaced, overridden-nothing, replaced-overridden}
 use Rattle.wi_worlds.proofs.world.World.with.Goals as goal
 
 -- the old replacements are put into an empty map, then the others

@@ -1,0 +1,124 @@
+-- The words of the library, of the crates below and of this crate's definitions that its proofs are written in.
+pub use Rattle.std.proofs.Common.{Bool, Err, List, None, Ok, Option, Result, Some, [], ap, append_assoc, arith, cond, drop, false, get_or, if◌then◌else◌, inl, inr, length, map, max, min, not, refl, rules, set, subst, suc, sym, take, true, zero, ℕ, ⊎_elim, ◌%◌, ◌&&◌, ◌*◌, ◌++◌, ◌+◌, ◌-◌, ◌/◌, ◌<◌, ◌==◌, ◌||◌, ◌↔◌, ◌∙◌, ◌∷◌, ◌≡◌, ◌≢◌, ◌≤◌, ◌⊎◌}
+pub use Rattle.std.proofs.Math.Bool.{or-false}
+pub use Rattle.std.proofs.Math.Nat.{div-lt_iff_lt-mul, eq-or-lt_of_le, le-add_right, mod-lt}
+pub use Rattle.std.proofs.Math.Seq.{get_or-append_seam, take-append_seam}
+pub use Rattle.std.proofs.lemmas.Bool.{and_from, and_parts, both_ways, cases_eq, cases_lt, eqb-false, eqb-true, false_from_ne_true, false≢true, le-leb, leb-true, ne_eqb, or_cases, or_left, or_parts, or_right}
+pub use Rattle.std.proofs.lemmas.Bool.Decides.{nat_tests}
+pub use Rattle.std.proofs.lemmas.Grind.{common_steps}
+pub use Rattle.std.proofs.lemmas.List.{append-nil, drop-append-le, drop_all, get_or-set_other, get_or-set_same, get_or_append_left, length-append, length-set, map-append, nil_from_length}
+pub use Rattle.std.proofs.lemmas.List.Elements.{All-head, All-map, All-tail}
+pub use Rattle.std.proofs.lemmas.List.Folds.{flat_map-map, list_any-append, list_any_at}
+pub use Rattle.std.proofs.lemmas.List.FromFn.{map-range_with_len_more}
+pub use Rattle.std.proofs.lemmas.Map.Entries.{length-keys_of}
+pub use Rattle.std.proofs.lemmas.Map.Views.{any-filter_same}
+pub use Rattle.std.proofs.lemmas.Option.{none-some, same_Some}
+pub use Rattle.std.proofs.lemmas.Result.{IfOk-from_err, IfOk-weaker, err_from_is_err_and, on_ok_weaker}
+pub use Rattle.std.proofs.lemmas.Slice.Eq.{bytes_eq-Decides}
+pub use Rattle.std.specs.List.{All, AllByRecursion, AllZip, find, flat_map, list_any, position_or_len, range_with_len, slice_index_or, slice_set}
+pub use Rattle.std.specs.Map.{keys_of}
+pub use Rattle.std.specs.Option.{option_copied, option_or}
+pub use Rattle.std.specs.Prelude.{IfOk, IfSome, IsErrOf, MatchResult, codes, filter, is_some, nat_le, nat_lt, option_map}
+pub use Rattle.std.specs.Result.{IsErrAnd}
+pub use Rattle.std.specs.Str.{bytes_eq}
+pub use Rattle.wi_csv.proofs.ReadAgain.{read_again}
+pub use Rattle.wi_csv.specs.Records.{recs}
+pub use Rattle.wi_csv.specs.Row.{row}
+pub use Rattle.wi_edit_log.proofs.First.{only_first}
+pub use Rattle.wi_edit_log.proofs.Least.{stale_is_first}
+pub use Rattle.wi_edit_log.specs.EditLog.{Entry, first_stale, have_cell}
+pub use Rattle.wi_edit_log.specs.Inner.Edits.{entries_in, is_wanted_of_others}
+pub use Rattle.wi_edit_log.specs.Inner.First.{IsFirst}
+pub use Rattle.wi_import.proofs.ImportLemmas.{no_other, some_import}
+pub use Rattle.wi_import.specs.Fields.{Field, areas_at, fields_at}
+pub use Rattle.wi_import.specs.Imports.{AreChanges, IsChange, IsFault}
+pub use Rattle.wi_import.specs.Inner.Reading.{field_cell}
+pub use Rattle.wi_import.specs.declared.fault.ImportFault.{ImportFault}
+pub use Rattle.wi_parser.proofs.ContentsOfTexts.{content_is_one}
+pub use Rattle.wi_parser.specs.Inner.Reading.{ReadsAs, content_read, is_too_long}
+pub use Rattle.wi_parser.specs.Sheet.{Sheet, content_of, has_formula}
+pub use Rattle.wi_parser.specs.declared.content.Content.{Content}
+pub use Rattle.wi_parser.specs.declared.fault.ParseFault.{ParseFault}
+pub use Rattle.wi_parser.specs.declared.shift.ShiftFault.{ShiftFault}
+pub use Rattle.wi_propagate.proofs.Editing.{accepted_is, same_off_edited}
+pub use Rattle.wi_propagate.proofs.EmptyCells.{has_none, shows_nothing}
+pub use Rattle.wi_reports.proofs.RowLemmas.{cells_in, one_row, row_is, rows_are, rows_from}
+pub use Rattle.wi_reports.specs.Changes.{change_records, kind_text}
+pub use Rattle.wi_reports.specs.Compare.{cells_compared}
+pub use Rattle.wi_reports.specs.Contents.{content_record}
+pub use Rattle.wi_reports.specs.Inner.Shape.{entries, has_row, is_column}
+pub use Rattle.wi_reports.specs.Looks.{evaluations_for, restarts_for}
+pub use Rattle.wi_reports.specs.Rows.{export_of, rows_shown}
+pub use Rattle.wi_reports.specs.Table.{table_of}
+pub use Rattle.wi_scenario_list.proofs.Named.{found_with, found_without, not_based, scenario_without}
+pub use Rattle.wi_scenario_list.specs.Bases.{based_on, is_base, is_name_of, lacks, would_loop}
+pub use Rattle.wi_scenario_list.specs.Inner.Chains.{chain_within, effective}
+unfoldable pub use Rattle.wi_scenario_list.specs.Inner.Chains.{chain}
+pub use Rattle.wi_scenario_list.specs.Inner.Parts.{scenario_or_new}
+pub use Rattle.wi_scenario_list.specs.Scenarios.{Scenario, has_scenario, is_full, is_named, layered, max_scenarios, scenario_for, scenario_of, with_own, with_scenario, without_own, without_scenario}
+pub use Rattle.wi_scenarios.specs.Answer.{Answer, MayRefuse, MayRefuseData, Serves, ServesData, field_refusal, import_refusal, may_grow, parse_refusal}
+pub use Rattle.wi_scenarios.specs.As.{as_step}
+pub use Rattle.wi_scenarios.specs.Base.{base_step}
+pub use Rattle.wi_scenarios.specs.Causes.{answer, first_cause, no_cause, unless, when}
+pub use Rattle.wi_scenarios.specs.Changes.{change_list, changes_step}
+pub use Rattle.wi_scenarios.specs.Clear.{clear_edit, clear_step}
+pub use Rattle.wi_scenarios.specs.Compare.{compare_step}
+pub use Rattle.wi_scenarios.specs.Csv.{ImportOutcome, IsCsvStep, contents_in, csv_answer, field_fault, has_bad_field, imported_cells}
+pub use Rattle.wi_scenarios.specs.Drop.{drop_step, is_in_use}
+pub use Rattle.wi_scenarios.specs.Edits.{Edit, after_edit, edit_answer, edit_refusal, limit_of, stale_in}
+pub use Rattle.wi_scenarios.specs.Export.{export_step}
+pub use Rattle.wi_scenarios.specs.Fill.{columns_between, copied, copy_to, fill_edit, fill_step, has_no_copy, or_nothing, rows_between, shift_refusal}
+pub use Rattle.wi_scenarios.specs.Formula.{formula_step}
+pub use Rattle.wi_scenarios.specs.Inner.Copies.{AreCopies, CopiesAs, HasNoCopies}
+pub use Rattle.wi_scenarios.specs.Inner.Editing.{AreMarked, Commits, HasRooms, MayFail, SameBeside}
+pub use Rattle.wi_scenarios.specs.Inner.Held.{AreClosed, AreCovered, IsClosed, IsSound, IsUpToDate, pending_in, state_of}
+pub use Rattle.wi_scenarios.specs.Inner.Switch.{AreDiffering, Differs, HasRoom, HasRoomFor, differing, same_option}
+pub use Rattle.wi_scenarios.specs.Inner.Told.{IsTold}
+pub use Rattle.wi_scenarios.specs.Laws.{Event, ForcedIsNotStale, HasScenarioChanged, IsCoherent, IsEdited, IsFirstNewer, IsRun, KeepsApart, Leaves, ListsAddUp, LogGrows, MayHappen, RecordsTellList, StaleIsNewer, change_fields, counts_before, edits_in, edits_since, is_accepted_changes, is_forced, is_newer, is_refused_before, is_told, last_shown, left_by, lists_told, logged, logged_by, named_by, state_after, unseen, with_lists}
+pub use Rattle.wi_scenarios.specs.Pending.{AddsOnly, Book, IsMarked, IsTouched, SameForOthers, is_pending, occupied_cells, pending_evaluations, pending_restarts}
+pub use Rattle.wi_scenarios.specs.Scenario.{IsScenarioStep, put_answer, replacement_by, take_away_step}
+pub use Rattle.wi_scenarios.specs.Set.{IsSetStep, cell_area, content_in, fault_in, set_answer, set_edit}
+pub use Rattle.wi_scenarios.specs.Show.{show_step}
+pub use Rattle.wi_scenarios.specs.State.{State, max_area, state_over}
+pub use Rattle.wi_scenarios.specs.Step.{As, Base, Changes, Clear, Command, Compare, Csv, Drop, Export, Fill, Formula, IsStep, Refused, RefusedData, Set, Show, Table, Use}
+pub use Rattle.wi_scenarios.specs.Table.{table_step}
+pub use Rattle.wi_scenarios.specs.Use.{use_step}
+pub use Rattle.wi_scenarios.specs.Views.{current_replacements, current_session, shown_to, with_current}
+pub use Rattle.wi_scenarios.specs.declared.desk.Desk.{Desk}
+pub use Rattle.wi_scenarios.specs.declared.refusal.Refusal.{Refusal}
+pub use Rattle.wi_scenarios.specs.declared.refusal.Refusal.TheVariants.{BadCommand, BadField, InUse, LeavesSheet, Loop, Memory, NoScenario, Stale, TooLarge, TooLong, TooMany}
+pub use Rattle.wi_sessions.proofs.CellLemmas.{listed_filter}
+pub use Rattle.wi_sessions.proofs.ChangeLists.{any_cells, picture_is_shown}
+pub use Rattle.wi_sessions.proofs.RosterLemmas.{all_have_so, one_of_all_has}
+pub use Rattle.wi_sessions.specs.Pictures.{same_value, value_in, with_changes}
+unfoldable pub use Rattle.wi_sessions.specs.Pictures.{sheet_size}
+pub use Rattle.wi_sessions.specs.Pictures.Laws.{Rises, changes_among, is_listed}
+pub use Rattle.wi_sessions.specs.Roster.{Roster, SameCells, is_pending_for_all, pending_of, session_at, vacant_of}
+pub use Rattle.wi_sessions.specs.Sessions.{Session, has_session, index_of, max_sessions, new_session, told, using_scenario, with_session}
+pub use Rattle.wi_sheet.proofs.Cones.{outside_unmoved}
+pub use Rattle.wi_sheet.proofs.Overrides.{last_in_order, override_in_order}
+pub use Rattle.wi_sheet.specs.Shown.{shown}
+pub use Rattle.wi_sheet.specs.Unmoved.{IsMarking}
+pub use Rattle.wi_store.specs.Store.{Applies, Stored, applied, change_without_empty, edited}
+pub use Rattle.wi_store.specs.declared.fault.StoreFault.{StoreFault}
+pub use Rattle.wi_values.proofs.Equal.{same_replacement_Decides}
+pub use Rattle.wi_values.proofs.Fields.{numbers_read_back}
+pub use Rattle.wi_values.proofs.Imports.{imported_exactly}
+pub use Rattle.wi_values.proofs.Lists.{left_more}
+pub use Rattle.wi_values.proofs.Order.{is_itself}
+pub use Rattle.wi_values.proofs.Outcomes.{on_err}
+pub use Rattle.wi_values.proofs.ReadsBack.{addresses_read_back}
+pub use Rattle.wi_values.proofs.Within.{within_between}
+pub use Rattle.wi_values.specs.Address.{Area, address_text, cells_of, cells_of_row, column_of, columns, is_within, place, rect_of, row_of, rows, size_of}
+pub use Rattle.wi_values.specs.AddressReading.{read_address}
+pub use Rattle.wi_values.specs.Inner.Import.{imported}
+pub use Rattle.wi_values.specs.Replacements.{IsInOrder, replaced}
+pub use Rattle.wi_values.specs.Value.{error_name, logical_name}
+unfoldable pub use Rattle.wi_values.specs.Value.{shown_text}
+pub use Rattle.wi_values.specs.declared.address.AddressFault.{AddressFault}
+pub use Rattle.wi_values.specs.declared.import.FieldFault.{FieldFault}
+pub use Rattle.wi_values.specs.declared.replacement.Replacement.{Replacement}
+pub use Rattle.wi_values.specs.declared.value.ErrorKind.{ErrorKind}
+pub use Rattle.wi_values.specs.declared.value.ErrorKind.TheVariants.{BadNumber, BadReference, BadValue, Circular, DivisionByZero, NotAvailable, UnknownName}
+pub use Rattle.wi_values.specs.declared.value.Value.{Value}
+pub use Rattle.wi_values.specs.declared.value.Value.TheVariants.{Empty, Fault, Logical, Number, Text}
