@@ -22,15 +22,17 @@ pub use Rattle.std.specs.Vec.{vec_len}
 pub use Rattle.std.specs.declared.cmp.Ordering.TheVariants.{Equal, Greater, Less}
 pub use Rattle.wi_tiles.specs.Entries.{IsOrdered, get}
 pub use Rattle.wi_tiles.specs.Inner.Cells.{Band, Page, Pages, at_cell, is_ahead, path_of}
-pub use Rattle.wi_tiles.specs.Inner.Columns.{HasColumns, HasEach, IsBare, column_bit}
+pub use Rattle.wi_tiles.specs.Inner.Changes.{IsChanged, IsKept}
+pub use Rattle.wi_tiles.specs.Inner.Columns.{HasColumns, HasEach, HasLast, IsBare, column_bit}
 pub use Rattle.wi_tiles.specs.Inner.Entries.{entries_from, entries_of, map_of, with_entry}
 unfoldable pub use Rattle.wi_tiles.specs.Inner.Entries.{cells}
 pub use Rattle.wi_tiles.specs.Inner.Lines.{cell, slot}
-pub use Rattle.wi_tiles.specs.Inner.Next.{IsNext, IsStart, band_at, in_band, in_page}
-pub use Rattle.wi_tiles.specs.Inner.Parts.{HasSome, IsTrimmed, at_part, at_window, part_from, span}
-pub use Rattle.wi_tiles.specs.Inner.Sorted.{IsFilled, Rises, at_sorted, find, groups, key}
+pub use Rattle.wi_tiles.specs.Inner.Next.{HasNoneAbove, HasNoneBetween, HasNoneFrom, IsNext, IsStart, band_at, in_band, in_page}
+pub use Rattle.wi_tiles.specs.Inner.Parts.{EndsFilled, Fits, HasSome, IsTrimmed, at_part, at_window, part_from, span}
+pub use Rattle.wi_tiles.specs.Inner.Sorted.{IsFilled, IsGap, Rises, at_sorted, find, groups, key}
 pub use Rattle.wi_tiles.specs.Inner.Tile.{at_bit, rank}
 unfoldable pub use Rattle.wi_tiles.specs.Inner.Tile.{slots}
+pub use Rattle.wi_tiles.specs.Inner.Turns.{LeadsOn}
 pub use Rattle.wi_tiles.specs.Inner.Within.{AreBeside, AreOfBand, AreTiles, CountsFirst, GoesOn, HasBits, IsFirstLeft, IsInside, IsNextTile, IsPlace, IsRest, IsTurn, IsWalk, IsWhole, bit_of, cell_in, in_band_tile, in_tile, is_left, is_pending, line_of, lines_from, lines_of, lines_to, tile_at}
 unfoldable pub use Rattle.wi_tiles.specs.Inner.Within.{filled}
 pub use Rattle.wi_values.specs.Address.{Area, column_of, columns, is_within, place, row_of, rows}

@@ -1,5 +1,6 @@
 -- What the representation means: no public clause cites it.
 pub mod Cells
+pub mod Changes
 pub mod Columns
 pub mod Entries
 pub mod Lines
@@ -7,4 +8,5 @@ pub mod Next
 pub mod Parts
 pub mod Sorted
 pub mod Tile
+pub mod Turns
 pub mod Within

@@ -1,11 +1,13 @@
 //! The tiles of a band that lie in the columns of a rectangle, and which of their bits come next.
 
-ghost use Rattle.std.specs.Prelude.{◌≡◌, ◌≢◌, ◌<◌, ◌≤◌, ◌+◌, ◌*◌, ◌/◌, ◌%◌, ℕ, true, None, IsTrue, IfSome, IfNone, length};
+ghost use Rattle.std.specs.Prelude.{◌≡◌, ◌≢◌, ◌<◌, ◌≤◌, ◌+◌, ◌*◌, ◌/◌, ◌%◌, ℕ, None, IsTrue, IfSome, IfNone, length};
 ghost use Rattle.wi_values.specs.Address.{rows, columns, place, row_of, column_of};
-ghost use Rattle.wi_tiles.specs.Inner.Cells.{Pages, at_cell, is_ahead};
+ghost use Rattle.wi_tiles.specs.Inner.Cells.{Pages};
 ghost use Rattle.wi_tiles.specs.Inner.Lines.{cell};
+ghost use Rattle.wi_tiles.specs.Inner.Next.{HasNoneAbove};
 ghost use Rattle.wi_tiles.specs.Inner.Sorted.{find, key, Rises};
-ghost use Rattle.wi_tiles.specs.Inner.Within.{AreTiles, AreOfBand, IsPlace, IsNextTile, IsTurn};
+ghost use Rattle.wi_tiles.specs.Inner.Turns.{LeadsOn};
+ghost use Rattle.wi_tiles.specs.Inner.Within.{AreTiles, AreOfBand, IsPlace, IsNextTile};
 
 use crate::masks::{bits_in, lines_between};
 use crate::sorted::place_from;
@@ -37,7 +39,8 @@ pub struct Turn<'a, V> {
 pub fn tiles_in<V>(parts: &[(u32, Tile<V>)], area: Rect) -> &[(u32, Tile<V>)]
     requires { Rises parts.now }
     ensures tiles { AreTiles area result.now }
-    ensures same { (g : ℕ) → column_of area.first / 4 ≤ g → g ≤ column_of area.last / 4 → find g result.now ≡ find g parts.now }
+    ensures same { (g : ℕ) → column_of area.first / 4 ≤ g → g ≤ column_of area.last / 4
+        → find g result.now ≡ find g parts.now }
 {
     let low = place_from(parts, area.first().column() / 4);
     let high = place_from(parts, area.last().column() / 4 + 1);
@@ -60,9 +63,9 @@ pub fn turn_beside<'a, V>(
     requires right { side ≤ columns }
     requires place { IsPlace tiles.now first (side / 4) }
     ensures some { IfSome result (λ t. (w : Pages V) → AreOfBand w area from tiles.now
-        → IsTurn w area (place from side) t.tile.now t.corner t.left t.before t.whole t.row t.column t.tiles t.first) }
+        → LeadsOn w area from side t) }
     ensures none { IfNone result ((w : Pages V) → AreOfBand w area from tiles.now
-        → (c : ℕ) → is_ahead area (place from side) c ≡ true → row_of c < from / 16 * 16 + 16 → at_cell w c ≡ None) }
+        → HasNoneAbove w area (place from side) (from / 16 * 16 + 16)) }
 {
     let left = area.first().column();
     let below = (from / 16 * 16 + 16).min(area.last().row() + 1);
@@ -108,7 +111,8 @@ fn next_tile<V>(
     requires line { line < 16 }
     requires place { IsPlace tiles.now first (column / 4) }
     ensures some { IfSome result (λ x. IsNextTile area tiles.now line column x.0 x.1) }
-    ensures none { IfNone result ((k : ℕ) → column ≤ k → k ≤ column_of area.last → cell tiles.now line k ≡ None) }
+    ensures none { IfNone result ((k : ℕ) → column ≤ k → k ≤ column_of area.last
+        → cell tiles.now line k ≡ None) }
 {
     let mut place = first;
     'tiles: while place < tiles.len() {
@@ -135,9 +139,9 @@ pub fn turn_among<'a, V>(
     requires left { column_of area.first ≤ column }
     requires right { column ≤ columns }
     ensures some { IfSome result (λ t. (w : Pages V) → AreOfBand w area row tiles.now
-        → IsTurn w area (place row column) t.tile.now t.corner t.left t.before t.whole t.row t.column t.tiles t.first) }
+        → LeadsOn w area row column t) }
     ensures none { IfNone result ((w : Pages V) → AreOfBand w area row tiles.now
-        → (c : ℕ) → is_ahead area (place row column) c ≡ true → row_of c < row / 16 * 16 + 16 → at_cell w c ≡ None) }
+        → HasNoneAbove w area (place row column) (row / 16 * 16 + 16)) }
 {
     if tiles.is_empty() {
         return None;
@@ -169,9 +173,9 @@ fn turn_alone<'a, V>(
     requires bottom { row ≤ row_of area.last }
     requires first { column ≡ column_of area.first }
     ensures some { IfSome result (λ t. (w : Pages V) → AreOfBand w area row tiles.now
-        → IsTurn w area (place row column) t.tile.now t.corner t.left t.before t.whole t.row t.column t.tiles t.first) }
+        → LeadsOn w area row column t) }
     ensures none { IfNone result ((w : Pages V) → AreOfBand w area row tiles.now
-        → (c : ℕ) → is_ahead area (place row column) c ≡ true → row_of c < row / 16 * 16 + 16 → at_cell w c ≡ None) }
+        → HasNoneAbove w area (place row column) (row / 16 * 16 + 16)) }
 {
     let part = &tiles[0];
     let last = area.last().row().min(row / 16 * 16 + 15);

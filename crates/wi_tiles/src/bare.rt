@@ -1,13 +1,11 @@
 //! Rows of a page in which a rectangle has nothing.
 
 ghost use Rattle.std.specs.Prelude.{◌≡◌, ◌<◌, ◌≤◌, ◌+◌, ◌*◌, ◌/◌, ℕ, true, Some, None, IsSome, IsTrue};
-ghost use Rattle.std.specs.Int.{bit_at};
-ghost use Rattle.wi_values.specs.Address.{rows, row_of, column_of, is_within};
-ghost use Rattle.wi_tiles.specs.Inner.Cells.{at_cell};
-ghost use Rattle.wi_tiles.specs.Inner.Columns.{IsBare};
+ghost use Rattle.wi_values.specs.Address.{rows};
+ghost use Rattle.wi_tiles.specs.Inner.Columns.{HasLast, IsBare};
+ghost use Rattle.wi_tiles.specs.Inner.Next.{HasNoneBetween};
 ghost use Rattle.wi_tiles.specs.Inner.Parts.{part_from};
 ghost use Rattle.wi_tiles.specs.Inner.Sorted.{Rises};
-ghost use Rattle.wi_tiles.specs.Inner.Within.{IsInside};
 
 use crate::masks::{bits_in, columns_of};
 use crate::page::Page;
@@ -23,7 +21,7 @@ pub fn past_bare<V>(pages: &Pages<V>, area: Rect, row: u32) -> u32
     requires { row < rows }
     ensures later { row < result }
     ensures sheet { result ≤ rows }
-    ensures bare { (c : ℕ) → is_within area c ≡ true → row / 16 * 16 + 16 ≤ row_of c → row_of c < result → at_cell pages.now c ≡ None }
+    ensures bare { HasNoneBetween pages.now area (row / 16 * 16 + 16) result }
 {
     match pages.part((row / 4_096) as usize) {
         Some(page) => { row / 4_096 * 4_096 + 16 * past_bands(page, area, row / 16 % 256 + 1) }
@@ -54,7 +52,7 @@ fn past_bands<V>(page: &Page<V>, area: Rect, from: u32) -> u32
 
 /// Whether there is a band at an index, and a rectangle has nothing in it; it may not know.
 fn is_bare<V>(page: &Page<V>, index: usize, area: Rect, mask: u64) -> bool
-    requires { (i : ℕ) → i < 64 → IsInside area (column_of area.last / 4) (column_of area.first) 0 15 i → bit_at mask i ≡ 1 }
+    requires { HasLast area mask }
     ensures { IsTrue result → IsBare area (part_from page.now index) }
 {
     match page.band(index) {
@@ -66,7 +64,7 @@ fn is_bare<V>(page: &Page<V>, index: usize, area: Rect, mask: u64) -> bool
 /// The same of a band's tiles. The bits of a rectangle's last columns are told.
 fn are_bare<V>(parts: &[(u32, Tile<V>)], area: Rect, mask: u64) -> bool
     requires rises { Rises parts.now }
-    requires mask { (i : ℕ) → i < 64 → IsInside area (column_of area.last / 4) (column_of area.first) 0 15 i → bit_at mask i ≡ 1 }
+    requires mask { HasLast area mask }
     ensures { IsTrue result → IsBare area (Some parts.now) }
 {
     let place = place_from(parts, area.first().column() / 4);

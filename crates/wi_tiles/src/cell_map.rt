@@ -36,7 +36,8 @@ impl<V> Model for CellMap<V> {
 
     ghost view = { λ m. map_of (entries_of m.pages) };
 
-    ghost invariant = { λ m. (m.occupied ≡ length (entries_of m.pages)) × IsTrimmed (at_window (at_sorted slot)) m.pages.1 };
+    ghost invariant = { λ m. (m.occupied ≡ length (entries_of m.pages))
+        × IsTrimmed (at_window (at_sorted slot)) m.pages.1 };
 }
 
 impl<V: Drop> CellMap<V> {
@@ -92,7 +93,8 @@ impl<V: Drop> CellMap<V> {
     /// work is that of `get`.
     pub fn replace(&mut self, cell: Address, value: V) -> Option<V>
         ensures stood { result ≡ get nat_cmp self.old cell }
-        ensures entries { self.new.entries ≡ set_value (is_at (nat_cmp cell)) self.old.entries value }
+        ensures entries { self.new.entries
+            ≡ set_value (is_at (nat_cmp cell)) self.old.entries value }
     {
         self.pages.replace(path_of(cell), value)
     }
@@ -126,7 +128,8 @@ impl<V: Drop> CellMap<V> {
     /// nothing stands are passed at once, and so are 4,096 rows where nothing has stood in its columns, nor in any with the same
     /// remainder by 64.
     pub fn next_in(&self, area: Rect, from: Address) -> Option<Address>
-        ensures { result ≡ find (λ a. nat_le from a) (filter (is_within area) (keys_of self.now.entries)) }
+        ensures { result
+            ≡ find (λ a. nat_le from a) (filter (is_within area) (keys_of self.now.entries)) }
     {
         match self.first_in(area, from) {
             Some(found) => Some(found.0),
@@ -144,7 +147,8 @@ impl<V: Drop> CellMap<V> {
 
     /// The cell that `next_in` gives, with what it has. The work is that of `next_in`.
     pub fn first_in(&self, area: Rect, from: Address) -> Option<(Address, &V)>
-        ensures cell { option_map (λ x. x.0) result ≡ find (λ a. nat_le from a) (filter (is_within area) (keys_of self.now.entries)) }
+        ensures cell { option_map (λ x. x.0) result
+            ≡ find (λ a. nat_le from a) (filter (is_within area) (keys_of self.now.entries)) }
         ensures value { IfSome result (λ x. get nat_cmp self.now x.0 ≡ Some x.1.now) }
     {
         found_from(&self.pages, area, from)

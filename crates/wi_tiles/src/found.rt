@@ -1,10 +1,11 @@
 //! The next tile of which a rectangle has something, and the first cell of a rectangle that has something.
 
-ghost use Rattle.std.specs.Prelude.{◌≡◌, ◌<◌, ◌≤◌, ◌+◌, ◌*◌, ◌/◌, ℕ, true, Some, None, IfSome, IfNone, IfOk, IfErr};
+ghost use Rattle.std.specs.Prelude.{◌≡◌, ◌<◌, ◌≤◌, ◌+◌, ◌*◌, ◌/◌, ℕ, Some, IfSome, IfNone, IfOk, IfErr};
 ghost use Rattle.wi_values.specs.Address.{rows, columns, place, row_of, column_of};
-ghost use Rattle.wi_tiles.specs.Inner.Cells.{at_cell, is_ahead};
-ghost use Rattle.wi_tiles.specs.Inner.Next.{IsNext};
-ghost use Rattle.wi_tiles.specs.Inner.Within.{GoesOn, AreBeside, IsTurn};
+ghost use Rattle.wi_tiles.specs.Inner.Cells.{at_cell};
+ghost use Rattle.wi_tiles.specs.Inner.Next.{HasNoneFrom, HasNoneAbove, IsNext};
+ghost use Rattle.wi_tiles.specs.Inner.Turns.{LeadsOn};
+ghost use Rattle.wi_tiles.specs.Inner.Within.{GoesOn, AreBeside};
 
 use crate::band::{Tiles, Turn, tiles_in, turn_among, turn_beside};
 use crate::bare::past_bare;
@@ -14,9 +15,10 @@ use wi_values::{Address, Rect};
 
 /// The first cell of a rectangle, at a cell or after it, that has something, with what it has.
 pub fn found_from<V>(pages: &Pages<V>, area: Rect, from: Address) -> Option<(Address, &V)>
-    ensures some { IfSome result (λ x. IsNext pages.now area from x.0 × (at_cell pages.now x.0 ≡ Some x.1.now)) }
+    ensures some { IfSome result (λ x. IsNext pages.now area from x.0
+        × (at_cell pages.now x.0 ≡ Some x.1.now)) }
     ensures sheet { IfSome result (λ x. x.0 < 17179869184) }
-    ensures none { IfNone result ((c : ℕ) → is_ahead area from c ≡ true → at_cell pages.now c ≡ None) }
+    ensures none { IfNone result (HasNoneFrom pages.now area from) }
 {
     let begin = start(area, from);
     match turn_below(pages, area, begin.0, begin.1) {
@@ -40,8 +42,8 @@ pub fn turn_on<'a, V>(
 ) -> Option<Turn<'a, V>>
     requires goes { GoesOn area row column tiles first }
     requires band { AreBeside pages.now area row tiles }
-    ensures some { IfSome result (λ t. IsTurn pages.now area (place row column) t.tile.now t.corner t.left t.before t.whole t.row t.column t.tiles t.first) }
-    ensures none { IfNone result ((c : ℕ) → is_ahead area (place row column) c ≡ true → at_cell pages.now c ≡ None) }
+    ensures some { IfSome result (λ t. LeadsOn pages.now area row column t) }
+    ensures none { IfNone result (HasNoneFrom pages.now area (place row column)) }
 {
     match tiles {
         Some(tiles) => match turn_beside(tiles, area, row, column, first) {
@@ -58,8 +60,8 @@ fn turn_below<'a, V>(pages: &'a Pages<V>, area: Rect, from: u32, side: u32) -> O
     requires sheet { from ≤ rows }
     requires left { column_of area.first ≤ side }
     requires right { side ≤ columns }
-    ensures some { IfSome result (λ t. IsTurn pages.now area (place from side) t.tile.now t.corner t.left t.before t.whole t.row t.column t.tiles t.first) }
-    ensures none { IfNone result ((c : ℕ) → is_ahead area (place from side) c ≡ true → at_cell pages.now c ≡ None) }
+    ensures some { IfSome result (λ t. LeadsOn pages.now area from side t) }
+    ensures none { IfNone result (HasNoneFrom pages.now area (place from side)) }
 {
     let left = area.first().column();
     let last = area.last().row();
@@ -88,9 +90,9 @@ fn turn_into<'a, V>(
     requires bottom { row ≤ row_of area.last }
     requires left { column_of area.first ≤ column }
     requires right { column ≤ columns }
-    ensures found { IfOk result (λ t. IsTurn pages.now area (place row column) t.tile.now t.corner t.left t.before t.whole t.row t.column t.tiles t.first) }
+    ensures found { IfOk result (λ t. LeadsOn pages.now area row column t) }
     ensures none { IfErr result (λ next. (row < next) × (next ≤ rows)
-        × ((c : ℕ) → is_ahead area (place row column) c ≡ true → row_of c < next → at_cell pages.now c ≡ None)) }
+        × HasNoneAbove pages.now area (place row column) next) }
 {
     match band_of(pages, row) {
         Some(band) => match turn_among(tiles_in(band.parts(), area), area, row, column) {

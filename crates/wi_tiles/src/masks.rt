@@ -25,8 +25,10 @@ pub fn bits_in(area: Rect, group: u32, column: u32, top: u32, bottom: u32) -> u6
     requires right { group ≤ column_of area.last / 4 }
     requires top { top < 16 }
     requires bottom { bottom < 16 }
-    ensures sound { (i : ℕ) → i < 64 → bit_at result i ≡ 1 → IsInside area group column top bottom i }
-    ensures whole { (i : ℕ) → i < 64 → IsInside area group column top bottom i → bit_at result i ≡ 1 }
+    ensures sound { (i : ℕ) → i < 64 → bit_at result i ≡ 1
+        → IsInside area group column top bottom i }
+    ensures whole { (i : ℕ) → i < 64 → IsInside area group column top bottom i
+        → bit_at result i ≡ 1 }
 {
     let left = group * 4;
     let low = left.max(column) - left;
@@ -57,7 +59,8 @@ fn lines_of(line: u64) -> u64
 pub fn lines_between(top: u32, bottom: u32) -> u64
     requires top { top < 16 }
     requires bottom { bottom < 16 }
-    ensures { (i : ℕ) → i < 64 → (bit_at result i == 1) ≡ (nat_le top (i / 4) && nat_le (i / 4) bottom) }
+    ensures { (i : ℕ) → i < 64 → (bit_at result i == 1)
+        ≡ (nat_le top (i / 4) && nat_le (i / 4) bottom) }
 {
     (u64::MAX << (4 * top)) & (u64::MAX >> (60 - 4 * bottom))
 }

@@ -57,7 +57,8 @@ impl<V> Page<V> {
 
     /// Whether it has nothing in any of these columns, by their remainders; it may not know.
     pub fn lacks(&self, columns: u64) -> bool
-        ensures { IsTrue result → (p : ℕ) → bit_at columns (column_bit p) ≡ 1 → at_window (at_sorted slot) self.now p ≡ None }
+        ensures { IsTrue result → (p : ℕ) → bit_at columns (column_bit p) ≡ 1
+            → at_window (at_sorted slot) self.now p ≡ None }
     {
         self.columns & columns == 0
     }

@@ -2,6 +2,7 @@
 
 ghost use Rattle.std.specs.Prelude.{◌≡◌, ◌↔◌, ◌<◌, ◌==◌, ℕ, Option, Some, None, is_some, not, IsTrue, IfOk, OnOk, OnErr, option_copied, option_map, if◌then◌else◌};
 ghost use Rattle.std.specs.Option.{option_or};
+ghost use Rattle.wi_tiles.specs.Inner.Changes.{IsKept, IsChanged};
 
 use std::alloc::{AllocError, Global};
 
@@ -30,22 +31,22 @@ pub trait Places<V> {
     fn put_new(&mut self, place: u64, value: V, alloc: Global) -> Result<bool, AllocError>
         requires { place < size }
         ensures new { IfOk result (λ new. new ≡ not (is_some (at self.old place))) }
-        ensures ok { OnOk result ((p : ℕ) → at self.new p
-            ≡ (if p == place then option_or (at self.old place) (Some value) else at self.old p)) }
-        ensures err { OnErr result ((p : ℕ) → at self.new p ≡ at self.old p) };
+        ensures ok { OnOk result (IsChanged at self.old self.new place
+            (option_or (at self.old place) (Some value))) }
+        ensures err { OnErr result (IsKept at self.old self.new) };
 
     /// Puts a value in the place of what stands, and gives that; where nothing stands it does nothing. Takes no memory.
     fn replace(&mut self, place: u64, value: V) -> Option<V>
         requires { place < size }
         ensures value { result ≡ at self.old place }
-        ensures put { (p : ℕ) → at self.new p
-            ≡ (if p == place then option_map (λ _. value) (at self.old place) else at self.old p) };
+        ensures put { IsChanged at self.old self.new place
+            (option_map (λ _. value) (at self.old place)) };
 
     /// Takes away what a place has. Takes no memory.
     fn remove(&mut self, place: u64, alloc: Global) -> Option<V>
         requires { place < size }
         ensures value { result ≡ at self.old place }
-        ensures left { (p : ℕ) → at self.new p ≡ (if p == place then None else at self.old p) };
+        ensures left { IsChanged at self.old self.new place None };
 }
 
 /// Takes room for one part, where there is none yet. If memory runs out, all is as before.

@@ -2,8 +2,9 @@
 
 ghost use Rattle.std.specs.Prelude.{◌≡◌, ◌<◌, ◌≤◌, ◌+◌, ◌*◌, ◌/◌, ◌%◌, ◌==◌, ℕ, length, true, Some, None, IsSome, IsTrue, OnOk, OnErr, IfOk, IfErr, option_copied, option_map, slice_index_or, if◌then◌else◌};
 ghost use Rattle.std.specs.List.{All, remove};
+ghost use Rattle.wi_tiles.specs.Inner.Changes.{IsKept, IsChanged};
 ghost use Rattle.wi_tiles.specs.Inner.Lines.{slot};
-ghost use Rattle.wi_tiles.specs.Inner.Sorted.{find, key, Rises, at_sorted, groups, IsFilled};
+ghost use Rattle.wi_tiles.specs.Inner.Sorted.{find, key, Rises, IsGap, at_sorted, groups, IsFilled};
 
 use crate::places::{Places, room_for_first};
 use crate::tile::Tile;
@@ -105,15 +106,13 @@ fn put_part<V: Drop>(
 ) -> Result<bool, AllocError>
     requires rises { Rises parts.old.items }
     requires within { path < groups * 64 }
-    requires bound { place ≤ length parts.old.items }
-    requires below { (i : ℕ) → i < place → key parts.old.items i < path % groups }
-    requires above { (i : ℕ) → place ≤ i → i < length parts.old.items → path % groups < key parts.old.items i }
+    requires place { IsGap parts.old.items place (path % groups) }
     ensures rises { Rises parts.new.items }
     ensures filled { All (IsFilled slot) parts.old.items → All (IsFilled slot) parts.new.items }
     ensures new { IfOk result (λ new. new ≡ true) }
-    ensures ok { OnOk result ((p : ℕ) → at_sorted slot parts.new.items p
-        ≡ (if p == path then Some value else at_sorted slot parts.old.items p)) }
-    ensures err { OnErr result ((p : ℕ) → at_sorted slot parts.new.items p ≡ at_sorted slot parts.old.items p) }
+    ensures ok { OnOk result (IsChanged (at_sorted slot) parts.old.items parts.new.items path
+        (Some value)) }
+    ensures err { OnErr result (IsKept (at_sorted slot) parts.old.items parts.new.items) }
 {
     let mut part = Tile::vacant(alloc);
     part.put_new(path / GROUPS, value, alloc)?;
@@ -127,8 +126,10 @@ fn drop_vacant<V: Drop>(parts: &mut Vec<(u32, Tile<V>)>, place: usize)
     requires rises { Rises parts.old.items }
     requires within { place < length parts.old.items }
     ensures rises { Rises parts.new.items }
-    ensures filled { key parts.old.items place < groups → All (IsFilled slot) (remove parts.old.items place) → All (IsFilled slot) parts.new.items }
-    ensures kept { (p : ℕ) → at_sorted slot parts.new.items p ≡ at_sorted slot parts.old.items p }
+    ensures filled { key parts.old.items place < groups
+        → All (IsFilled slot) (remove parts.old.items place)
+        → All (IsFilled slot) parts.new.items }
+    ensures kept { IsKept (at_sorted slot) parts.old.items parts.new.items }
 {
     if parts[place].1.is_vacant() {
         let _ = parts.remove(place);
@@ -139,9 +140,7 @@ fn drop_vacant<V: Drop>(parts: &mut Vec<(u32, Tile<V>)>, place: usize)
 fn place_of<T>(parts: &[(u32, T)], group: u32) -> Result<usize, usize>
     requires { Rises parts.now }
     ensures ok { IfOk result (λ i. (i < length parts.now) × (key parts.now i ≡ group)) }
-    ensures none { IfErr result (λ i. (i ≤ length parts.now) × (find group parts.now ≡ None)
-        × ((j : ℕ) → j < i → key parts.now j < group)
-        × ((j : ℕ) → i ≤ j → j < length parts.now → group < key parts.now j)) }
+    ensures none { IfErr result (λ i. IsGap parts.now i group × (find group parts.now ≡ None)) }
 {
     let place = place_from(parts, group);
     if parts.len() <= place {

@@ -3,6 +3,8 @@
 ghost use Rattle.std.specs.Prelude.{◌≡◌, ◌↔◌, ◌<◌, ◌≤◌, ◌+◌, ◌*◌, ◌%◌, ◌==◌, if◌then◌else◌, ◌^◌, ℕ, Some, None, IsSome, IsTrue, OnOk, OnErr, is_ok, length, option_copied, option_map, slice_index_or, slice_set};
 ghost use Rattle.std.specs.Int.{bit_at};
 ghost use Rattle.std.specs.List.{insert};
+ghost use Rattle.wi_tiles.specs.Inner.Changes.{IsChanged};
+ghost use Rattle.wi_tiles.specs.Inner.Lines.{slot};
 ghost use Rattle.wi_tiles.specs.Inner.Tile.{rank};
 ghost use Rattle.wi_tiles.specs.Inner.Within.{filled};
 
@@ -61,8 +63,10 @@ impl<V> Tile<V> {
 
     /// The bits of a mask that have something.
     pub fn bits_of(&self, mask: u64) -> u64
-        ensures sound { (i : ℕ) → i < 64 → bit_at result i ≡ 1 → (bit_at mask i ≡ 1) × IsSome (slice_index_or self.now i None) }
-        ensures whole { (i : ℕ) → i < 64 → bit_at mask i ≡ 1 → IsSome (slice_index_or self.now i None) → bit_at result i ≡ 1 }
+        ensures sound { (i : ℕ) → i < 64 → bit_at result i ≡ 1
+            → (bit_at mask i ≡ 1) × IsSome (slice_index_or self.now i None) }
+        ensures whole { (i : ℕ) → i < 64 → bit_at mask i ≡ 1
+            → IsSome (slice_index_or self.now i None) → bit_at result i ≡ 1 }
     {
         self.bits & mask
     }
@@ -78,7 +82,8 @@ impl<V> Tile<V> {
     /// What the bit has before which so many have something.
     pub fn value_at(&self, place: usize) -> &V
         requires { place < filled self.now 64 }
-        ensures { (i : ℕ) → i < 64 → IsSome (slice_index_or self.now i None) → filled self.now i ≡ place → slice_index_or self.now i None ≡ Some result.now }
+        ensures { (i : ℕ) → i < 64 → IsSome (slice_index_or self.now i None)
+            → filled self.now i ≡ place → slice_index_or self.now i None ≡ Some result.now }
     {
         &self.values[place]
     }
@@ -118,8 +123,8 @@ impl<V: Drop> Tile<V> {
     fn replace_value(&mut self, bit: u32, value: V) -> Option<V>
         requires { bit < 64 }
         ensures value { result ≡ slice_index_or self.old bit None }
-        ensures put { (i : ℕ) → slice_index_or self.new i None
-            ≡ (if i == bit then option_map (λ _. value) (slice_index_or self.old bit None) else slice_index_or self.old i None) }
+        ensures put { IsChanged slot self.old self.new bit
+            (option_map (λ _. value) (slice_index_or self.old bit None)) }
     {
         if (self.bits >> bit) & 1 == 0 {
             return None;

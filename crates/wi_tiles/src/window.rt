@@ -2,7 +2,8 @@
 
 ghost use Rattle.std.specs.Prelude.{◌≡◌, ◌↔◌, ◌<◌, ◌≤◌, ◌+◌, ◌-◌, ◌*◌, ◌==◌, ◌++◌, ◌∷◌, [], ℕ, List, length, drop, false, Some, None, is_some, not, slice_get, IfSome, IfNone, IsTrue, IfOk, OnOk, OnErr, option_copied, option_map, if◌then◌else◌};
 ghost use Rattle.std.specs.Option.{option_or};
-ghost use Rattle.wi_tiles.specs.Inner.Parts.{at_part, part_from, at_window, span, HasSome, IsTrimmed};
+ghost use Rattle.wi_tiles.specs.Inner.Changes.{IsKept, IsChanged};
+ghost use Rattle.wi_tiles.specs.Inner.Parts.{at_part, part_from, at_window, span, Fits, HasSome, EndsFilled, IsTrimmed};
 
 use crate::places::{Places, room_for_first};
 use std::alloc::{AllocError, Global};
@@ -20,14 +21,14 @@ pub struct Window<T> {
 }
 
 impl<T> Model for Window<T> {
-    ghost use Rattle.std.specs.Prelude.{ℕ, List, ◌≤◌, ◌+◌, length};
-    ghost use Rattle.wi_tiles.specs.Inner.Parts.{span};
+    ghost use Rattle.std.specs.Prelude.{ℕ, List};
+    ghost use Rattle.wi_tiles.specs.Inner.Parts.{Fits};
 
     ghost Value = { ℕ × List T };
 
     ghost view = { λ w. (w.first, w.parts.items) };
 
-    ghost invariant = { λ w. w.first + length w.parts.items ≤ span };
+    ghost invariant = { λ w. Fits w.first w.parts.items };
 }
 
 impl<T> Window<T> {
@@ -44,7 +45,7 @@ impl<T> Window<T> {
     /// Whether there are no parts.
     pub fn is_empty(&self) -> bool
         ensures none { IsTrue result ↔ (self.now.1 ≡ []) }
-        ensures bound { self.now.0 + length self.now.1 ≤ span }
+        ensures bound { Fits self.now.0 self.now.1 }
     {
         self.parts.is_empty()
     }
@@ -103,9 +104,9 @@ impl<T: Drop> Window<T> {
         T: Places<V>,
         requires { path < span * T.size }
         ensures new { IfOk result (λ new. new ≡ not (is_some (at_window T.at self.old path))) }
-        ensures ok { OnOk result ((p : ℕ) → at_window T.at self.new p
-            ≡ (if p == path then option_or (at_window T.at self.old path) (Some value) else at_window T.at self.old p)) }
-        ensures err { OnErr result ((p : ℕ) → at_window T.at self.new p ≡ at_window T.at self.old p) }
+        ensures ok { OnOk result (IsChanged (at_window T.at) self.old self.new path
+            (option_or (at_window T.at self.old path) (Some value))) }
+        ensures err { OnErr result (IsKept (at_window T.at) self.old self.new) }
         ensures trimmed { IsTrimmed T.at self.old.1 → IsTrimmed T.at self.new.1 }
     {
         match place_in(self.first, &self.parts, (path % SPAN) as usize) {
@@ -124,8 +125,8 @@ impl<T: Drop> Window<T> {
         T: Places<V>,
         requires { path < span * T.size }
         ensures value { result ≡ at_window T.at self.old path }
-        ensures put { (p : ℕ) → at_window T.at self.new p
-            ≡ (if p == path then option_map (λ _. value) (at_window T.at self.old path) else at_window T.at self.old p) }
+        ensures put { IsChanged (at_window T.at) self.old self.new path
+            (option_map (λ _. value) (at_window T.at self.old path)) }
         ensures trimmed { IsTrimmed T.at self.old.1 → IsTrimmed T.at self.new.1 }
     {
         match place_in(self.first, &self.parts, (path % SPAN) as usize) {
@@ -140,7 +141,7 @@ impl<T: Drop> Window<T> {
         T: Places<V>,
         requires { path < span * T.size }
         ensures value { result ≡ at_window T.at self.old path }
-        ensures left { (p : ℕ) → at_window T.at self.new p ≡ (if p == path then None else at_window T.at self.old p) }
+        ensures left { IsChanged (at_window T.at) self.old self.new path None }
         ensures trimmed { IsTrimmed T.at self.old.1 → IsTrimmed T.at self.new.1 }
     {
         match place_in(self.first, &self.parts, (path % SPAN) as usize) {
@@ -156,7 +157,8 @@ impl<T: Drop> Window<T> {
 
 /// Where the part with an index stands.
 fn place_in<T>(first: usize, parts: &[T], index: usize) -> Option<usize>
-    ensures some { IfSome result (λ i. (i < length parts.now) × (first ≤ index) × (i ≡ index - first)) }
+    ensures some { IfSome result (λ i. (i < length parts.now)
+        × (first ≤ index) × (i ≡ index - first)) }
     ensures none { IfNone result (part_from (first, parts.now) index ≡ None) }
 {
     if index < first {
@@ -179,12 +181,15 @@ fn put_part<V: Drop, T: Places<V> + Drop>(
     alloc: Global,
 ) -> Result<bool, AllocError>
     requires path { path < span * T.size }
-    requires bound { first.old + length parts.old.items ≤ span }
-    ensures bound { first.new + length parts.new.items ≤ span }
-    ensures new { IfOk result (λ new. new ≡ not (is_some (at_window T.at (first.old, parts.old.items) path))) }
-    ensures ok { OnOk result ((p : ℕ) → at_window T.at (first.new, parts.new.items) p
-        ≡ (if p == path then option_or (at_window T.at (first.old, parts.old.items) path) (Some value) else at_window T.at (first.old, parts.old.items) p)) }
-    ensures err { OnErr result ((p : ℕ) → at_window T.at (first.new, parts.new.items) p ≡ at_window T.at (first.old, parts.old.items) p) }
+    requires bound { Fits first.old parts.old.items }
+    ensures bound { Fits first.new parts.new.items }
+    ensures new { IfOk result (λ new. new
+        ≡ not (is_some (at_window T.at (first.old, parts.old.items) path))) }
+    ensures ok { OnOk result (IsChanged (at_window T.at) (first.old, parts.old.items)
+        (first.new, parts.new.items) path
+        (option_or (at_window T.at (first.old, parts.old.items) path) (Some value))) }
+    ensures err { OnErr result (IsKept (at_window T.at) (first.old, parts.old.items)
+        (first.new, parts.new.items)) }
 {
     let index = (path % SPAN) as usize;
     reach_down(first, parts, index, alloc)?;
@@ -201,8 +206,9 @@ fn reach_down<V, T: Places<V> + Drop>(
     alloc: Global,
 ) -> Result<(), AllocError>
     ensures reached { OnOk result (first.new ≤ index) }
-    ensures bound { index < span → first.old + length parts.old.items ≤ span → first.new + length parts.new.items ≤ span }
-    ensures kept { (p : ℕ) → at_window T.at (first.new, parts.new.items) p ≡ at_window T.at (first.old, parts.old.items) p }
+    ensures bound { index < span → Fits first.old parts.old.items → Fits first.new parts.new.items }
+    ensures kept { IsKept (at_window T.at) (first.old, parts.old.items)
+        (first.new, parts.new.items) }
 {
     if parts.is_empty() {
         *first = index;
@@ -225,7 +231,8 @@ fn put_before<V, T: Places<V> + Drop>(
 ) -> Result<(), AllocError>
     requires { index < first }
     ensures reach { OnOk result (index + length parts.new.items ≡ first + length parts.old.items) }
-    ensures ok { OnOk result ((p : ℕ) → at_window T.at (index, parts.new.items) p ≡ at_window T.at (first, parts.old.items) p) }
+    ensures ok { OnOk result (IsKept (at_window T.at) (first, parts.old.items)
+        (index, parts.new.items)) }
     ensures err { OnErr result (parts.new.items ≡ parts.old.items) }
 {
     let mut all = vacant_from(index, first - index, parts.len(), alloc)?;
@@ -260,8 +267,8 @@ fn reach_up<V, T: Places<V> + Drop>(
 ) -> Result<(), AllocError>
     requires { place < span }
     ensures within { OnOk result (place < length parts.new.items) }
-    ensures bound { first + place < span → first + length parts.old.items ≤ span → first + length parts.new.items ≤ span }
-    ensures kept { (p : ℕ) → at_window T.at (first, parts.new.items) p ≡ at_window T.at (first, parts.old.items) p }
+    ensures bound { first + place < span → Fits first parts.old.items → Fits first parts.new.items }
+    ensures kept { IsKept (at_window T.at) (first, parts.old.items) (first, parts.new.items) }
 {
     if parts.len() <= place {
         return lengthen(first, parts, place, alloc);
@@ -279,8 +286,8 @@ fn lengthen<V, T: Places<V> + Drop>(
 ) -> Result<(), AllocError>
     requires { place < span }
     ensures within { OnOk result (place < length parts.new.items) }
-    ensures bound { first + place < span → first + length parts.old.items ≤ span → first + length parts.new.items ≤ span }
-    ensures kept { (p : ℕ) → at_window T.at (first, parts.new.items) p ≡ at_window T.at (first, parts.old.items) p }
+    ensures bound { first + place < span → Fits first parts.old.items → Fits first parts.new.items }
+    ensures kept { IsKept (at_window T.at) (first, parts.old.items) (first, parts.new.items) }
 {
     room_for_first(parts)?;
     parts.reserve((place + 1).saturating_sub(parts.len()))?;
@@ -298,7 +305,7 @@ fn push_vacant<V, T: Places<V> + Drop>(
 ) -> Result<(), AllocError>
     ensures longer { OnOk result (length parts.new.items ≡ length parts.old.items + 1) }
     ensures most { length parts.new.items ≤ length parts.old.items + 1 }
-    ensures kept { (p : ℕ) → at_window T.at (first, parts.new.items) p ≡ at_window T.at (first, parts.old.items) p }
+    ensures kept { IsKept (at_window T.at) (first, parts.old.items) (first, parts.new.items) }
 {
     parts.push(T::vacant(alloc))?;
     Ok(())
@@ -312,10 +319,12 @@ fn drop_vacant<V, T: Places<V> + Drop>(
     alloc: Global,
 )
     requires within { place < length parts.old.items }
-    requires bound { first.old + length parts.old.items ≤ span }
-    ensures bound { first.new + length parts.new.items ≤ span }
-    ensures trimmed { (HasSome T.at (slice_get parts.old.items place) → IsTrimmed T.at parts.old.items) → IsTrimmed T.at parts.new.items }
-    ensures kept { (p : ℕ) → at_window T.at (first.new, parts.new.items) p ≡ at_window T.at (first.old, parts.old.items) p }
+    requires bound { Fits first.old parts.old.items }
+    ensures bound { Fits first.new parts.new.items }
+    ensures trimmed { (HasSome T.at (slice_get parts.old.items place)
+        → IsTrimmed T.at parts.old.items) → IsTrimmed T.at parts.new.items }
+    ensures kept { IsKept (at_window T.at) (first.old, parts.old.items)
+        (first.new, parts.new.items) }
 {
     if parts[place].is_vacant() {
         parts[place] = T::vacant(alloc);
@@ -325,10 +334,11 @@ fn drop_vacant<V, T: Places<V> + Drop>(
 
 /// Takes away the parts at both ends that have nothing.
 fn trim<V, T: Places<V> + Drop>(first: &mut usize, parts: &mut Vec<T>)
-    requires { first.old + length parts.old.items ≤ span }
-    ensures bound { first.new + length parts.new.items ≤ span }
+    requires { Fits first.old parts.old.items }
+    ensures bound { Fits first.new parts.new.items }
     ensures trimmed { IsTrimmed T.at parts.new.items }
-    ensures kept { (p : ℕ) → at_window T.at (first.new, parts.new.items) p ≡ at_window T.at (first.old, parts.old.items) p }
+    ensures kept { IsKept (at_window T.at) (first.old, parts.old.items)
+        (first.new, parts.new.items) }
 {
     trim_end(*first, parts);
     let count = vacant_before(parts);
@@ -339,8 +349,8 @@ fn trim<V, T: Places<V> + Drop>(first: &mut usize, parts: &mut Vec<T>)
 /// Takes away the parts behind the last that has something.
 fn trim_end<V, T: Places<V> + Drop>(first: usize, parts: &mut Vec<T>)
     ensures most { length parts.new.items ≤ length parts.old.items }
-    ensures filled { 0 < length parts.new.items → HasSome T.at (slice_get parts.new.items (length parts.new.items - 1)) }
-    ensures kept { (p : ℕ) → at_window T.at (first, parts.new.items) p ≡ at_window T.at (first, parts.old.items) p }
+    ensures filled { EndsFilled T.at parts.new.items }
+    ensures kept { IsKept (at_window T.at) (first, parts.old.items) (first, parts.new.items) }
 {
     'end: while ends_vacant(parts) {
         let _ = parts.pop();
@@ -350,8 +360,9 @@ fn trim_end<V, T: Places<V> + Drop>(first: usize, parts: &mut Vec<T>)
 /// Whether the last part has nothing.
 fn ends_vacant<V, T: Places<V>>(parts: &[T]) -> bool
     ensures some { IsTrue result → 0 < length parts.now }
-    ensures vacant { IsTrue result → (xs : List T) (x : T) → parts.now ≡ xs ++ x ∷ [] → (p : ℕ) → T.at x p ≡ None }
-    ensures filled { result ≡ false → 0 < length parts.now → HasSome T.at (slice_get parts.now (length parts.now - 1)) }
+    ensures vacant { IsTrue result → (xs : List T) (x : T) → parts.now ≡ xs ++ x ∷ []
+        → (p : ℕ) → T.at x p ≡ None }
+    ensures filled { result ≡ false → EndsFilled T.at parts.now }
 {
     let len = parts.len();
     if len == 0 {

@@ -7,7 +7,8 @@ ghost use Rattle.wi_values.specs.Address.{place};
 ghost use Rattle.wi_tiles.specs.Inner.Cells.{Pages as AllPages, is_ahead};
 ghost use Rattle.wi_tiles.specs.Inner.Entries.{entries_of};
 ghost use Rattle.wi_tiles.specs.Inner.Lines.{slot};
-ghost use Rattle.wi_tiles.specs.Inner.Within.{entry, filled, CountsFirst, GoesOn, AreBeside, IsFirstLeft, IsTurn};
+ghost use Rattle.wi_tiles.specs.Inner.Turns.{LeadsOn};
+ghost use Rattle.wi_tiles.specs.Inner.Within.{entry, filled, CountsFirst, GoesOn, AreBeside, IsFirstLeft};
 
 use crate::band::{Tiles, Turn, turn_beside};
 use crate::found::turn_on;
@@ -45,9 +46,11 @@ impl<'a, V> Model for Within<'a, V> {
 
     ghost Value = { List (ℕ × V) };
 
-    ghost view = { λ w. filter (λ e. is_pending w.area (place w.row w.column) w.corner w.left e.0) (entries_of w.pages.now) };
+    ghost view = { λ w. filter (λ e. is_pending w.area (place w.row w.column) w.corner w.left e.0)
+        (entries_of w.pages.now) };
 
-    ghost invariant = { λ w. IsWalk w.pages.now w.area w.tile w.corner w.left w.before w.whole w.row w.column w.tiles w.first };
+    ghost invariant = { λ w. (IsWalk w.pages.now w.area w.tile w.corner w.left w.before w.whole)
+        w.row w.column w.tiles w.first };
 }
 
 impl<'a, V> Within<'a, V> {
@@ -174,10 +177,12 @@ fn first_left<V>(
     before: usize,
     whole: bool,
 ) -> Option<(u32, usize, &V)>
-    requires there { IfSome tile (λ t. (i : ℕ) → i < 64 → bit_at left i ≡ 1 → IsSome (slot t.now i)) }
+    requires there { IfSome tile (λ t. (i : ℕ) → i < 64 → bit_at left i ≡ 1
+        → IsSome (slot t.now i)) }
     requires counted { IfSome tile (λ t. whole ≡ true → CountsFirst t.now left before) }
     requires nothing { IfNone tile (left ≡ 0) }
-    ensures some { IfSome result (λ x. MatchOption tile.entry ⊥ (λ t. IsFirstLeft t.now left x.0 x.1 x.2.now)) }
+    ensures some { IfSome result (λ x. MatchOption tile.entry ⊥
+        (λ t. IsFirstLeft t.now left x.0 x.1 x.2.now)) }
     ensures small { IfSome result (λ x. x.1 < 64) }
     ensures none { IfNone result (left ≡ 0) }
 {
@@ -219,7 +224,7 @@ fn beside<'a, V>(
     requires { GoesOn area row column tiles first }
     ensures empty { IfSome result (λ t. left ≡ 0) }
     ensures some { IfSome result (λ t. (w : AllPages V) → AreBeside w area row tiles.entry
-        → IsTurn w area (place row column) t.tile.now t.corner t.left t.before t.whole t.row t.column t.tiles t.first) }
+        → LeadsOn w area row column t) }
 {
     if left != 0 {
         return None;

@@ -1,5 +1,5 @@
 -- Parts in order of their keys.
-use Rattle.std.specs.Prelude.{ℕ, zero, suc, ◌<◌, ◌/◌, ◌%◌, ◌==◌, if◌then◌else◌, List, [], ◌∷◌, length, Option, Some, None}
+use Rattle.std.specs.Prelude.{ℕ, zero, suc, ◌<◌, ◌≤◌, ◌/◌, ◌%◌, ◌==◌, if◌then◌else◌, List, [], ◌∷◌, length, Option, Some, None}
 use Rattle.wi_tiles.specs.Inner.Parts.{at_part, HasSome}
 
 -- the part with a key
@@ -16,6 +16,12 @@ key (t ∷ ts) (suc i) = key ts i
 -- the keys rise
 abbrev pub Rises : {S : Type 0} → List (ℕ × S) → Type 0
 Rises ts = (i j : ℕ) → i < j → j < length ts → key ts i < key ts j
+
+-- a key that no part has comes at a place
+pub record IsGap {S : Type 0} (ts : List (ℕ × S)) (place g : ℕ) : Type 0 where
+  pub bound : place ≤ length ts
+  pub below : (i : ℕ) → i < place → key ts i < g
+  pub above : (i : ℕ) → place ≤ i → i < length ts → g < key ts i
 
 -- how many keys there may be
 abbrev pub groups : ℕ

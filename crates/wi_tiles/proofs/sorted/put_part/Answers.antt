@@ -7,7 +7,7 @@ use Rattle.wi_tiles.proofs.sorted.put_part.Goals as goal
 pub returns-clause-rises : goal.returns-clause-rises
 returns-clause-rises g c =
     let items : c.insert.new.self.items ≡ insert c.args.parts.now.items c.args.place (c.args.path % groups, c.put_new.new.self) = search rules in
-    subst (λ xs. Rises xs) (sym items) (Rises-insert c.args.parts.now.items c.args.place (c.args.path % groups) c.put_new.new.self c.requires.rises c.requires.bound c.requires.below c.requires.above)
+    subst (λ xs. Rises xs) (sym items) (Rises-insert c.args.parts.now.items c.args.place (c.args.path % groups) c.put_new.new.self c.requires.rises c.requires.place.bound c.requires.place.below c.requires.place.above)
 
 pub returns-in_err-insert-clause-filled : goal.returns-in_err-insert-clause-filled
 returns-in_err-insert-clause-filled g c = λ all.
@@ -24,4 +24,4 @@ returns-clause-filled g c = λ all.
 pub returns-clause-ok : goal.returns-clause-ok
 returns-clause-ok g c =
     let items : c.insert.new.self.items ≡ insert c.args.parts.now.items c.args.place (c.args.path % groups, c.put_new.new.self) = search rules in
-    λ p. ap (λ xs. at_sorted slot xs p) items ∙ sorted_put slot c.args.parts.now.items c.args.path c.args.place c.vacant-part.result c.put_new.new.self (Some c.args.value) c.requires.bound c.requires.below (find_beyond c.args.parts.now.items c.args.place (c.args.path % groups) c.requires.bound c.requires.below c.requires.above) c.vacant-part.ensures (λ q. c.in_ok-put_new.ensures.ok q ∙ ap (λ o. cond (q == c.args.path / groups) (option_or o (Some c.args.value)) (slot c.vacant-part.result q)) (c.vacant-part.ensures (c.args.path / groups))) p
+    λ p. ap (λ xs. at_sorted slot xs p) items ∙ sorted_put slot c.args.parts.now.items c.args.path c.args.place c.vacant-part.result c.put_new.new.self (Some c.args.value) c.requires.place.bound c.requires.place.below (find_beyond c.args.parts.now.items c.args.place (c.args.path % groups) c.requires.place.bound c.requires.place.below c.requires.place.above) c.vacant-part.ensures (λ q. c.in_ok-put_new.ensures.ok q ∙ ap (λ o. cond (q == c.args.path / groups) (option_or o (Some c.args.value)) (slot c.vacant-part.result q)) (c.vacant-part.ensures (c.args.path / groups))) p

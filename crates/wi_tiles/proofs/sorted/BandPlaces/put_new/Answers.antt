@@ -1,4 +1,4 @@
-use Rattle.wi_tiles.proofs.Words.{rules, ap, ◌∙◌, sym, Some, None, ◌≡◌, ◌<◌, ◌≤◌, ◌%◌, ◌/◌, ℕ, length, cond, subst, slice_index_or, ◌==◌, IfOk, is_some, not, option_or, at_part, slot, find, at_sorted, groups, key, IsFilled, All-set}
+use Rattle.wi_tiles.proofs.Words.{rules, ap, ◌∙◌, sym, Some, None, ◌≡◌, ◌<◌, ◌%◌, ◌/◌, length, cond, subst, slice_index_or, ◌==◌, IfOk, is_some, not, option_or, at_part, slot, find, at_sorted, groups, key, IsGap, IsFilled, All-set}
 use Rattle.wi_tiles.proofs.Keys.{key_read, Rises-set}
 use Rattle.wi_tiles.proofs.Filled.{filled_put, filled_kept}
 use Rattle.wi_tiles.proofs.Outcomes.{on_ok, on_err, either_way}
@@ -37,11 +37,8 @@ returns-in-Ok-clause-err g c =
     let stays : c.index_mut.result.now.0 ≡ c.args.path % groups = sym (key_read c.self.inside.parts.items c.in-Ok.place c.index_mut.result.now there.0 read) ∙ there.1 in
     on_err c.put_new.result (λ kept p. sorted_kept slot c.self.inside.parts.items (c.args.path % groups) c.in-Ok.place c.index_mut.result.now (c.index_mut.result.now.0, c.put_new.new.self) c.self.invariant.0 there.0 there.1 read stays kept p ∙ ap (λ s. at_sorted slot s p) c.self.view_is) c.put_new.ensures.err
 
-pub put_part-requires-clause-below : goal.put_part-requires-clause-below
-put_part-requires-clause-below g c = subst (λ xs. (i : ℕ) → i < c.in-Err.place → key xs i < c.args.path % groups) c.deref.ensures.value c.in-Err.ensures.none.2
-
-pub put_part-requires-clause-above : goal.put_part-requires-clause-above
-put_part-requires-clause-above g c = subst (λ xs. (i : ℕ) → c.in-Err.place ≤ i → i < length xs → c.args.path % groups < key xs i) c.deref.ensures.value c.in-Err.ensures.none.3
+pub put_part-requires-clause-place : goal.put_part-requires-clause-place
+put_part-requires-clause-place g c = subst (λ xs. IsGap xs c.in-Err.place (c.args.path % groups)) c.deref.ensures.value c.in-Err.ensures.none.0
 
 pub returns-in-Err-clause-new : goal.returns-in-Err-clause-new
 returns-in-Err-clause-new g c =
