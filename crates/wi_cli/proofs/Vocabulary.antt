@@ -6,7 +6,6 @@ pub use Rattle.std.proofs.Math.Bool.{or-false, or-true}
 pub use Rattle.std.proofs.Math.Seq.{drop-append_seam, take-add, take-append-add, take-append_seam}
 pub use Rattle.std.proofs.lemmas.Bool.{and_parts, both_ways, cases_lt, eqb-true, false_from_ne_true, false≢true, le-leb, le-ltb, leb-true, lt-ltb, ltb-false, ltb-true, ne_eqb, not-false, or_cases, or_parts}
 pub use Rattle.std.proofs.lemmas.Bool.Decides.{nat_tests}
-pub use Rattle.std.proofs.lemmas.Grind.{common_steps}
 pub use Rattle.std.proofs.lemmas.Iterator.{YieldsList-from_slice}
 pub use Rattle.std.proofs.lemmas.Iterator.Search.{all_from_yields_List}
 pub use Rattle.std.proofs.lemmas.List.{append_cancel_left, drop-take, drop_all, drop_more, get_or-take, get_or_default, length-drop, length-take, nil_from_length, take-append-drop, take-append-le, take_all, take_at, take_min, take_rest}
@@ -43,7 +42,7 @@ pub use Rattle.wi_cli.specs.Inner.Data.{AddedTo, BrokeData, HoldsLines, IsCsv, T
 pub use Rattle.wi_cli.specs.Inner.EditCommands.{clear_command, edit_command, fill_command, fill_command_of, set_command}
 pub use Rattle.wi_cli.specs.Inner.Front.{AppendsFront}
 pub use Rattle.wi_cli.specs.Inner.LookCommands.{changes_command, compare_command, export_command, formula_command, show_command}
-pub use Rattle.wi_cli.specs.Inner.Operands.{at_end, column_fault, is_all_spaces, name_or_none, of_name, of_operand, only_name, read_side, row_fault, worse}
+pub use Rattle.wi_cli.specs.Inner.Operands.{at_end, is_all_spaces, line_fault, name_or_none, of_name, of_operand, only_name, read_side, unless_refused, worse}
 pub use Rattle.wi_cli.specs.Inner.Reading.{Broke, CanRead, HasStopped, TookLine, TookPart, raw}
 unfoldable pub use Rattle.wi_cli.specs.Inner.Reading.{line_front}
 pub use Rattle.wi_cli.specs.Inner.Reply.{reply, told_cell}
@@ -55,7 +54,7 @@ pub use Rattle.wi_cli.specs.Inner.ScenarioCommands.{as_command, base_command, dr
 pub use Rattle.wi_cli.specs.Inner.Script.{block_command, command_with, commands, is_comment, named_command, text_command, whole_lines}
 unfoldable pub use Rattle.wi_cli.specs.Inner.Script.{all_commands, complete_commands, line_command, spelled_command}
 pub use Rattle.wi_cli.specs.Inner.Spelling.{IsCommandOf, IsLineOf, command_of}
-pub use Rattle.wi_cli.specs.Inner.TableCommand.{table_command, table_of_one, table_of_two, unless_refused}
+pub use Rattle.wi_cli.specs.Inner.TableCommand.{table_command, table_of_one, table_of_two}
 pub use Rattle.wi_cli.specs.Inner.Taken.{AreBlocks, AreBlocksOf, AreWhole, BrokeLines, TookLines}
 pub use Rattle.wi_cli.specs.Inner.Told.{IsServed, RefusedAs, Told, told_bytes}
 pub use Rattle.wi_cli.specs.Inner.Turn.{BrokeBlock, Stopped, TookBlock, Turned}
@@ -102,7 +101,6 @@ pub use Rattle.wi_scenario_list.specs.Inner.Chains.{chain, effective}
 pub use Rattle.wi_scenario_list.specs.Scenarios.{has_scenario, is_full, is_named, scenario_for, with_own, without_own, without_scenario}
 pub use Rattle.wi_scenarios.proofs.RecordLemmas.{records_tell_list}
 pub use Rattle.wi_scenarios.proofs.RunLemmas.{new_is_coherent}
-pub use Rattle.wi_scenarios.proofs.ScenarioLemmas.{taken_served}
 pub use Rattle.wi_scenarios.proofs.SetLemmas.{rect_cell}
 pub use Rattle.wi_scenarios.proofs.StaleLemmas.{refused_so, stale_exactly}
 pub use Rattle.wi_scenarios.proofs.StepLemmas.{an_answer, no_other}

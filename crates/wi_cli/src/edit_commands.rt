@@ -6,7 +6,8 @@ ghost use Rattle.wi_cli.specs.Inner.EditCommands.{set_command, clear_command, fi
 ghost use Rattle.wi_cli.specs.Inner.Spelling.{IsCommandOf};
 
 use crate::command::Command;
-use crate::words::{is_all_spaces, split_word};
+use crate::operands::worse;
+use crate::words::{only_word, split_word};
 use wi_scenarios::Refusal;
 use wi_values::{Address, AddressFault, Rect};
 
@@ -50,11 +51,7 @@ pub(crate) fn read_set(force: bool, operands: &str) -> Result<Command<'_>, Refus
 fn read_clear(force: bool, operands: &str) -> Result<Command<'_>, Refusal>
     ensures { IsCommandOf (clear_command force operands.now) result }
 {
-    let (area, more) = split_word(operands);
-    if !is_all_spaces(more) {
-        return Err(Refusal::BadCommand);
-    }
-    let area = Rect::read(area.as_bytes())?;
+    let area = Rect::read(only_word(operands)?.as_bytes())?;
     Ok(Command::Clear { force, area })
 }
 
@@ -63,10 +60,7 @@ fn read_fill(force: bool, operands: &str) -> Result<Command<'_>, Refusal>
     ensures { IsCommandOf (fill_command force operands.now) result }
 {
     let (from, others) = split_word(operands);
-    let (area, more) = split_word(others);
-    if !is_all_spaces(more) {
-        return Err(Refusal::BadCommand);
-    }
+    let area = only_word(others)?;
     filled(
         force,
         Address::read(from.as_bytes()),
@@ -74,7 +68,7 @@ fn read_fill(force: bool, operands: &str) -> Result<Command<'_>, Refusal>
     )
 }
 
-/// `fill` of these operands. The wrong shape of either comes before a cell outside the sheet.
+/// `fill` of these operands.
 fn filled<'a>(
     force: bool,
     from: Result<Address, AddressFault>,
@@ -82,10 +76,12 @@ fn filled<'a>(
 ) -> Result<Command<'a>, Refusal>
     ensures { IsCommandOf (fill_command_of force from area) result }
 {
-    match (from, area) {
-        (Ok(from), Ok(area)) => Ok(Command::Fill { force, from, area }),
-        (Err(AddressFault::Outside), Err(fault)) => Err(Refusal::from(fault)),
-        (Err(fault), _) => Err(Refusal::from(fault)),
-        (Ok(_), Err(fault)) => Err(Refusal::from(fault)),
+    if let Some(fault) = worse(from.err(), area.err()) {
+        return Err(Refusal::from(fault));
     }
+    Ok(Command::Fill {
+        force,
+        from: from?,
+        area: area?,
+    })
 }

@@ -1,5 +1,5 @@
 -- Generations that the numbers of edits tell, and that are noted late.
-use Rattle.wi_propagate.proofs.Words.{◌≡◌, ◌==◌, ◌||◌, ◌⊎◌, inl, inr, ◌≤◌, ◌+◌, ◌++◌, max, ℕ, zero, suc, Bool, true, false, cond, List, [], ◌∷◌, map, Option, Some, None, IsSome, refl, ap, sym, ◌∙◌, subst, arith, or_cases, or_left, or_right, or_parts, false_from_ne_true, unwrap_or, nat_cmp, keys_of, lookup, is_at, is_at-eq, turn_test, Sheet, content_of, cells_with_formula, Walks, Reaches, is_one_of, SameOff, in_cone, numbered, IsLatest, IsOwed, AreOwed, IsUnread, latest_among, clash, same_cell, formula_cell, reader_formula, in_front, in_back, latest_of_cone, one_is_latest, latest_is_among, edit_owes, none_is_owed, Generations, generation_in, HasGeneration, Noted, noted_in, told, AreKeptUp}
+use Rattle.wi_propagate.proofs.Words.{◌≡◌, ◌==◌, ◌||◌, ◌⊎◌, inl, inr, ◌≤◌, ◌+◌, ◌++◌, max, ℕ, zero, suc, Bool, true, false, cond, List, [], ◌∷◌, map, Option, Some, None, IsSome, refl, ap, sym, ◌∙◌, subst, arith, or_cases, or_left, or_right, or_parts, false_from_ne_true, unwrap_or, nat_cmp, keys_of, lookup, is_at, is_at-eq, turn_test, Sheet, content_of, cells_with_formula, Walks, Reaches, is_one_of, SameOff, in_cone, numbered, IsLatest, IsOwed, AreOwed, IsUnread, latest_among, clash, same_cell, formula_cell, reader_formula, in_front, in_back, latest_of_cone, one_is_latest, latest_is_among, edit_owes, none_is_owed, Generations, generation_in, HasGeneration, Noted, noted_in, told, AreAllNoted, AreKeptUp}
 
 -- ---- what is told
 
@@ -146,6 +146,9 @@ kept_up_more s old new edits named noted stays k = record {
 -- and where it was settled
 pub settled_up : (s : Sheet) (edits : ℕ) (old new : Noted) → new.named ≡ old.named → AreOwed s (generation_in new.named) new.owed (noted_in new.named new.noted) → AreKeptUp s edits old → AreKeptUp s edits new
 settled_up s edits old new e o k = record { past = λ c. subst (λ (ns : Generations). generation_in ns c ≤ edits) (sym e) (k.past c); owed = o }
+
+pub all_noted : (s : Sheet) (edits : ℕ) (old new : Noted) → new.named ≡ old.named → AreOwed s (generation_in new.named) new.owed (noted_in new.named new.noted) → new.owed ≡ [] → AreKeptUp s edits old → AreAllNoted s edits new
+all_noted s edits old new e o none k = record { kept_up = settled_up s edits old new e o k; none_owed = none }
 
 -- ---- a cell of a map of numbers is one of its keys, and the other way round
 

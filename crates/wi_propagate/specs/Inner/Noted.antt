@@ -1,5 +1,5 @@
 -- Generations that are noted late.
-use Rattle.std.specs.Prelude.{◌≡◌, ◌≤◌, ◌++◌, ℕ, max, List, map}
+use Rattle.std.specs.Prelude.{◌≡◌, ◌≤◌, ◌++◌, ℕ, max, List, [], map}
 use Rattle.std.specs.Map.{keys_of}
 use Rattle.wi_parser.specs.Sheet.{Sheet, cells_with_formula}
 use Rattle.wi_graph.specs.Latest.{AreOwed, latest_among}
@@ -24,3 +24,8 @@ told s ns = map (λ c. (c, latest_among s (generation_in ns) (keys_of ns) c)) (k
 pub record AreKeptUp (s : Sheet) (edits : ℕ) (g : Noted) : Type 0 where
   pub past : (c : ℕ) → generation_in g.named c ≤ edits
   pub owed : AreOwed s (generation_in g.named) g.owed (noted_in g.named g.noted)
+
+-- and of each it is noted
+pub record AreAllNoted (s : Sheet) (edits : ℕ) (g : Noted) : Type 0 where
+  pub kept_up : AreKeptUp s edits g
+  pub none_owed : g.owed ≡ []

@@ -1,5 +1,5 @@
 use Rattle.wi_propagate.proofs.Words.{is_ok, ◌≡◌, ◌∙◌, IfOk, OnOk, false, true, refl, ap, sym, subst, IfOk-weaker, Sheet, circular, shown, case_of, reaching, demanded, HasCase, demands_itself, different_closed, shown_circular, shown_value, KeptSheet, generation_in, IsAtHand, is_kept, AreAllCones, told, noted_in, Owes}
-use Rattle.wi_propagate.proofs.NotedSteps.{settled_up}
+use Rattle.wi_propagate.proofs.NotedSteps.{all_noted, settled_up}
 use Rattle.wi_propagate.proofs.SettlingSteps.{owed_over}
 use Rattle.wi_propagate.proofs.Questions.{begins, begun_right, may_be_read, right_then, asked_kept, at_hand_is, owes_none, owes_settled, owes_spent, settled_view, settled_right}
 use Rattle.wi_propagate.proofs.kept.KeptCalculator.value_of.Goals as goal
@@ -11,20 +11,19 @@ returns-then-is_circular-clause-value c =
 
 pub new-memo-requires-clause-right : goal.new-memo-requires-clause-right
 new-memo-requires-clause-right c =
-    let i = c.self.inside in
-    begun_right i.store (told i.store.sheet c.settle.new.self.named) i.kept i.meter _ c.in-Some-take.ensures.value (settled_right {s = i.store} c.in_ok-settle.ensures.named i.kept i.meter c.self.invariant.3)
+    begun_right c.self.inside.store (told c.self.inside.store.sheet c.settle.new.self.named) c.self.inside.kept c.self.inside.meter _ c.in-Some-take.ensures.value (settled_right {s = c.self.inside.store} c.in_ok-settle.ensures.named c.self.inside.kept c.self.inside.meter c.self.invariant.3)
 
 pub value-result-requires-clause-read : goal.value-result-requires-clause-read
 value-result-requires-clause-read c =
     let i = c.self.inside in
     let o : circular i.store.sheet c.args.at ≡ false = sym (c.is_circular.ensures i.store.sheet c.self.invariant.1) ∙ c.if-is_circular.false in
-    let q = begins i.store (told i.store.sheet c.settle.new.self.named) i.kept i.meter _ c.new-memo.result c.in-Some-take.ensures.value c.new-memo.ensures.value c.new-memo.ensures.within c.new-memo.ensures.one_each in
+    let q = begins i.store (told i.store.sheet c.settle.new.self.named) i.kept i.meter _ c.new-memo.result c.in-Some-take.ensures.value c.new-memo.ensures.value c.new-memo.ensures.placed in
     may_be_read q c.args.at o
 
 pub invariant_of-self-2 : goal.invariant_of-self-2
 invariant_of-self-2 c =
     let i = c.self.inside in
-    let q = begins i.store (told i.store.sheet c.settle.new.self.named) i.kept i.meter _ c.new-memo.result c.in-Some-take.ensures.value c.new-memo.ensures.value c.new-memo.ensures.within c.new-memo.ensures.one_each in
+    let q = begins i.store (told i.store.sheet c.settle.new.self.named) i.kept i.meter _ c.new-memo.result c.in-Some-take.ensures.value c.new-memo.ensures.value c.new-memo.ensures.placed in
     let e = c.value-result.ensures in
     let h = c.self.invariant in (
       refl,
@@ -47,7 +46,7 @@ returns-clause-easy c =
     let i = c.self.inside in
     let view = settled_view {s = i.store} c.in_ok-settle.ensures.named i.kept i.meter c.args.self.now c.self.view_is in
     let o : circular i.store.sheet c.args.at ≡ false = sym (c.is_circular.ensures i.store.sheet c.self.invariant.1) ∙ c.if-is_circular.false in
-    let q = begins i.store (told i.store.sheet c.settle.new.self.named) i.kept i.meter _ c.new-memo.result c.in-Some-take.ensures.value c.new-memo.ensures.value c.new-memo.ensures.within c.new-memo.ensures.one_each in
+    let q = begins i.store (told i.store.sheet c.settle.new.self.named) i.kept i.meter _ c.new-memo.result c.in-Some-take.ensures.value c.new-memo.ensures.value c.new-memo.ensures.placed in
     subst (λ (x : KeptSheet). IsAtHand x c.args.put.now c.args.at → c.value-result.new.self.meter ≡ x.counts) view
     (λ h. c.value-result.ensures.uncounted (at_hand_is q c.in_ok-world.world c.args.put.now c.args.at o c.in_ok-world.ensures h))
 
@@ -56,7 +55,7 @@ returns-clause-kept c =
     let i = c.self.inside in
     let view = settled_view {s = i.store} c.in_ok-settle.ensures.named i.kept i.meter c.args.self.now c.self.view_is in
     let o : circular i.store.sheet c.args.at ≡ false = sym (c.is_circular.ensures i.store.sheet c.self.invariant.1) ∙ c.if-is_circular.false in
-    let q = begins i.store (told i.store.sheet c.settle.new.self.named) i.kept i.meter _ c.new-memo.result c.in-Some-take.ensures.value c.new-memo.ensures.value c.new-memo.ensures.within c.new-memo.ensures.one_each in
+    let q = begins i.store (told i.store.sheet c.settle.new.self.named) i.kept i.meter _ c.new-memo.result c.in-Some-take.ensures.value c.new-memo.ensures.value c.new-memo.ensures.placed in
     let new : KeptSheet = record { stored = i.store; generations = told i.store.sheet c.settle.new.self.named; values = c.into_parts-kept.result.0; counts = c.value-result.new.self.meter } in
     let e = c.value-result.ensures in
     subst (λ (x : KeptSheet). OnOk c.value-result.result ((IsAtHand x c.args.put.now c.args.at → ⊥) → is_kept new c.args.at (reaching x.stored.sheet c.args.at c.args.put.now) ≡ true)) view
@@ -98,7 +97,7 @@ returns-clause-owes c =
     let i = c.self.inside in
     let view = settled_view {s = i.store} c.in_ok-settle.ensures.named i.kept i.meter c.args.self.now c.self.view_is in
     let o : circular i.store.sheet c.args.at ≡ false = sym (c.is_circular.ensures i.store.sheet c.self.invariant.1) ∙ c.if-is_circular.false in
-    let q = begins i.store (told i.store.sheet c.settle.new.self.named) i.kept i.meter _ c.new-memo.result c.in-Some-take.ensures.value c.new-memo.ensures.value c.new-memo.ensures.within c.new-memo.ensures.one_each in
+    let q = begins i.store (told i.store.sheet c.settle.new.self.named) i.kept i.meter _ c.new-memo.result c.in-Some-take.ensures.value c.new-memo.ensures.value c.new-memo.ensures.placed in
     let has = demands_itself i.store.sheet c.in_ok-world.world c.args.put.now c.args.at o c.in_ok-world.ensures in
     let closed = different_closed i.store.sheet (case_of i.store.sheet c.args.put.now c.args.at) in
     let Has = HasCase i.store.sheet c.in_ok-world.world c.args.at in
@@ -108,23 +107,15 @@ returns-clause-owes c =
 
 pub settle-requires-clause-owed : goal.settle-requires-clause-owed
 settle-requires-clause-owed c =
-    let i = c.self.inside in
-    let h = c.self.invariant in
-    λ s a. owed_over i.graph.now i.store.sheet s (generation_in i.generations.named) i.generations.owed (noted_in i.generations.named i.generations.noted) h.1 a h.5.owed
+    λ s a. owed_over c.self.inside.graph.now c.self.inside.store.sheet s (generation_in c.self.inside.generations.named) c.self.inside.generations.owed (noted_in c.self.inside.generations.named c.self.inside.generations.noted) c.self.invariant.1 a c.self.invariant.5.owed
 
-pub new-memo-requires-clause-kept_up : goal.new-memo-requires-clause-kept_up
-new-memo-requires-clause-kept_up c =
-    let i = c.self.inside in
-    let h = c.self.invariant in
-    settled_up i.store.sheet i.store.edits i.generations c.settle.new.self c.in_ok-settle.ensures.named (c.in_ok-settle.ensures.owed i.store.sheet h.1) h.5
-
-pub new-memo-requires-clause-settled : goal.new-memo-requires-clause-settled
-new-memo-requires-clause-settled c = c.in_ok-settle.ensures.settled
+pub new-memo-requires-clause-noted : goal.new-memo-requires-clause-noted
+new-memo-requires-clause-noted c =
+    all_noted c.self.inside.store.sheet c.self.inside.store.edits c.self.inside.generations c.settle.new.self c.in_ok-settle.ensures.named (c.in_ok-settle.ensures.owed c.self.inside.store.sheet c.self.invariant.1) c.in_ok-settle.ensures.settled c.self.invariant.5
 
 pub returns-in_err-settle-clause-owes : goal.returns-in_err-settle-clause-owes
 returns-in_err-settle-clause-owes c =
-    let i = c.self.inside in
-    owes_settled c.args.self.now _ _ _ (settled_view {s = i.store} c.settle.ensures.named i.kept i.meter c.args.self.now c.self.view_is)
+    owes_settled c.args.self.now _ _ _ (settled_view {s = c.self.inside.store} c.settle.ensures.named c.self.inside.kept c.self.inside.meter c.args.self.now c.self.view_is)
 
 pub returns-in_err-settle-clause-easy : goal.returns-in_err-settle-clause-easy
 returns-in_err-settle-clause-easy c = λ h. ap (λ (k : KeptSheet). k.counts) c.self.view_is

@@ -1,28 +1,25 @@
 use Rattle.wi_propagate.proofs.Words.{is_ok, get_or, ◌≡◌, All, IfOk, OnOk, false, ℕ, List, refl, ap, subst, IfOk-weaker, Sheet, circular, HasEntry, table_entry, entry_demanded, IsWhatIfSettled, table_closed, entry_has, entry_shown, KeptSheet, generation_in, HasRoomFor, is_kept, AreAllCones, told, noted_in, state_in, Owes}
-use Rattle.wi_propagate.proofs.NotedSteps.{settled_up}
+use Rattle.wi_propagate.proofs.NotedSteps.{all_noted, settled_up}
 use Rattle.wi_propagate.proofs.SettlingSteps.{owed_over}
 use Rattle.wi_propagate.proofs.Questions.{begins, begun_right, may_be_read, right_then, asked_where, asked_settled, circular_entry, circular_clash, open_cells, owes_none, owes_settled, owes_spent, settled_view, settled_right}
 use Rattle.wi_propagate.proofs.kept.KeptCalculator.value_of_entry.Goals as goal
 
 pub returns-then-entry_is_circular-clause-value : goal.returns-then-entry_is_circular-clause-value
 returns-then-entry_is_circular-clause-value c =
-    let s = c.self.inside.store.sheet in
-    circular_entry s c.args.self.now.stored.sheet c.args.put.now c.args.formula_cell c.args.pairs.now c.entry_is_circular.result (ap (λ (x : KeptSheet). x.stored.sheet) c.self.view_is) (c.entry_is_circular.ensures s c.self.invariant.1) c.if-entry_is_circular.true
+    circular_entry c.self.inside.store.sheet c.args.self.now.stored.sheet c.args.put.now c.args.formula_cell c.args.pairs.now c.entry_is_circular.result (ap (λ (x : KeptSheet). x.stored.sheet) c.self.view_is) (c.entry_is_circular.ensures c.self.inside.store.sheet c.self.invariant.1) c.if-entry_is_circular.true
 
 pub returns-then-entry_is_circular-clause-settled : goal.returns-then-entry_is_circular-clause-settled
 returns-then-entry_is_circular-clause-settled c = λ room one all.
-    let s = c.self.inside.store.sheet in
-    circular_clash s c.args.self.now.stored.sheet c.args.formula_cell c.args.pairs.now c.entry_is_circular.result (ap (λ (x : KeptSheet). x.stored.sheet) c.self.view_is) (c.entry_is_circular.ensures s c.self.invariant.1) c.if-entry_is_circular.true one all
+    circular_clash c.self.inside.store.sheet c.args.self.now.stored.sheet c.args.formula_cell c.args.pairs.now c.entry_is_circular.result (ap (λ (x : KeptSheet). x.stored.sheet) c.self.view_is) (c.entry_is_circular.ensures c.self.inside.store.sheet c.self.invariant.1) c.if-entry_is_circular.true one all
 
 pub new-memo-requires-clause-right : goal.new-memo-requires-clause-right
 new-memo-requires-clause-right c =
-    let i = c.self.inside in
-    begun_right i.store (told i.store.sheet c.settle.new.self.named) i.kept i.meter _ c.in-Some.ensures.value (settled_right {s = i.store} c.in_ok-settle.ensures.named i.kept i.meter c.self.invariant.3)
+    begun_right c.self.inside.store (told c.self.inside.store.sheet c.settle.new.self.named) c.self.inside.kept c.self.inside.meter _ c.in-Some.ensures.value (settled_right {s = c.self.inside.store} c.in_ok-settle.ensures.named c.self.inside.kept c.self.inside.meter c.self.invariant.3)
 
 pub open_entry-result-requires-clause-formula_cell : goal.open_entry-result-requires-clause-formula_cell
 open_entry-result-requires-clause-formula_cell c =
     let i = c.self.inside in
-    let q = begins i.store (told i.store.sheet c.settle.new.self.named) i.kept i.meter _ c.new-memo.result c.in-Some.ensures.value c.new-memo.ensures.value c.new-memo.ensures.within c.new-memo.ensures.one_each in
+    let q = begins i.store (told i.store.sheet c.settle.new.self.named) i.kept i.meter _ c.new-memo.result c.in-Some.ensures.value c.new-memo.ensures.value c.new-memo.ensures.placed in
     let s = i.store.sheet in
     let o = open_cells s c.args.formula_cell c.args.pairs.now c.entry_is_circular.result (c.entry_is_circular.ensures s c.self.invariant.1) c.if-entry_is_circular.false in
     may_be_read q c.args.formula_cell o.0
@@ -30,7 +27,7 @@ open_entry-result-requires-clause-formula_cell c =
 pub open_entry-result-requires-clause-replacing : goal.open_entry-result-requires-clause-replacing
 open_entry-result-requires-clause-replacing c =
     let i = c.self.inside in
-    let q = begins i.store (told i.store.sheet c.settle.new.self.named) i.kept i.meter _ c.new-memo.result c.in-Some.ensures.value c.new-memo.ensures.value c.new-memo.ensures.within c.new-memo.ensures.one_each in
+    let q = begins i.store (told i.store.sheet c.settle.new.self.named) i.kept i.meter _ c.new-memo.result c.in-Some.ensures.value c.new-memo.ensures.value c.new-memo.ensures.placed in
     let s = i.store.sheet in
     let o = open_cells s c.args.formula_cell c.args.pairs.now c.entry_is_circular.result (c.entry_is_circular.ensures s c.self.invariant.1) c.if-entry_is_circular.false in
     λ j x less. may_be_read q (get_or c.args.pairs.now j x).1 (o.1 j x less)
@@ -38,7 +35,7 @@ open_entry-result-requires-clause-replacing c =
 pub invariant_of-self-2 : goal.invariant_of-self-2
 invariant_of-self-2 c =
     let i = c.self.inside in
-    let q = begins i.store (told i.store.sheet c.settle.new.self.named) i.kept i.meter _ c.new-memo.result c.in-Some.ensures.value c.new-memo.ensures.value c.new-memo.ensures.within c.new-memo.ensures.one_each in
+    let q = begins i.store (told i.store.sheet c.settle.new.self.named) i.kept i.meter _ c.new-memo.result c.in-Some.ensures.value c.new-memo.ensures.value c.new-memo.ensures.placed in
     let e = c.open_entry-result.ensures in
     let h = c.self.invariant in (
       refl,
@@ -61,7 +58,7 @@ pub returns-clause-settled : goal.returns-clause-settled
 returns-clause-settled c =
     let i = c.self.inside in
     let view = settled_view {s = i.store} c.in_ok-settle.ensures.named i.kept i.meter c.args.self.now c.self.view_is in
-    let q = begins i.store (told i.store.sheet c.settle.new.self.named) i.kept i.meter _ c.new-memo.result c.in-Some.ensures.value c.new-memo.ensures.value c.new-memo.ensures.within c.new-memo.ensures.one_each in
+    let q = begins i.store (told i.store.sheet c.settle.new.self.named) i.kept i.meter _ c.new-memo.result c.in-Some.ensures.value c.new-memo.ensures.value c.new-memo.ensures.placed in
     let s = i.store.sheet in
     let o = open_cells s c.args.formula_cell c.args.pairs.now c.entry_is_circular.result (c.entry_is_circular.ensures s c.self.invariant.1) c.if-entry_is_circular.false in
     let cases = entry_demanded s c.args.put.now c.args.formula_cell c.args.pairs.now in
@@ -92,7 +89,7 @@ pub returns-clause-owes : goal.returns-clause-owes
 returns-clause-owes c =
     let i = c.self.inside in
     let view = settled_view {s = i.store} c.in_ok-settle.ensures.named i.kept i.meter c.args.self.now c.self.view_is in
-    let q = begins i.store (told i.store.sheet c.settle.new.self.named) i.kept i.meter _ c.new-memo.result c.in-Some.ensures.value c.new-memo.ensures.value c.new-memo.ensures.within c.new-memo.ensures.one_each in
+    let q = begins i.store (told i.store.sheet c.settle.new.self.named) i.kept i.meter _ c.new-memo.result c.in-Some.ensures.value c.new-memo.ensures.value c.new-memo.ensures.placed in
     let s = i.store.sheet in
     let o = open_cells s c.args.formula_cell c.args.pairs.now c.entry_is_circular.result (c.entry_is_circular.ensures s c.self.invariant.1) c.if-entry_is_circular.false in
     let cases = entry_demanded s c.args.put.now c.args.formula_cell c.args.pairs.now in
@@ -105,23 +102,15 @@ returns-clause-owes c =
 
 pub settle-requires-clause-owed : goal.settle-requires-clause-owed
 settle-requires-clause-owed c =
-    let i = c.self.inside in
-    let h = c.self.invariant in
-    λ s a. owed_over i.graph.now i.store.sheet s (generation_in i.generations.named) i.generations.owed (noted_in i.generations.named i.generations.noted) h.1 a h.5.owed
+    λ s a. owed_over c.self.inside.graph.now c.self.inside.store.sheet s (generation_in c.self.inside.generations.named) c.self.inside.generations.owed (noted_in c.self.inside.generations.named c.self.inside.generations.noted) c.self.invariant.1 a c.self.invariant.5.owed
 
-pub new-memo-requires-clause-kept_up : goal.new-memo-requires-clause-kept_up
-new-memo-requires-clause-kept_up c =
-    let i = c.self.inside in
-    let h = c.self.invariant in
-    settled_up i.store.sheet i.store.edits i.generations c.settle.new.self c.in_ok-settle.ensures.named (c.in_ok-settle.ensures.owed i.store.sheet h.1) h.5
-
-pub new-memo-requires-clause-settled : goal.new-memo-requires-clause-settled
-new-memo-requires-clause-settled c = c.in_ok-settle.ensures.settled
+pub new-memo-requires-clause-noted : goal.new-memo-requires-clause-noted
+new-memo-requires-clause-noted c =
+    all_noted c.self.inside.store.sheet c.self.inside.store.edits c.self.inside.generations c.settle.new.self c.in_ok-settle.ensures.named (c.in_ok-settle.ensures.owed c.self.inside.store.sheet c.self.invariant.1) c.in_ok-settle.ensures.settled c.self.invariant.5
 
 pub returns-in_err-settle-clause-owes : goal.returns-in_err-settle-clause-owes
 returns-in_err-settle-clause-owes c =
-    let i = c.self.inside in
-    owes_settled c.args.self.now _ _ _ (settled_view {s = i.store} c.settle.ensures.named i.kept i.meter c.args.self.now c.self.view_is)
+    owes_settled c.args.self.now _ _ _ (settled_view {s = c.self.inside.store} c.settle.ensures.named c.self.inside.kept c.self.inside.meter c.args.self.now c.self.view_is)
 
 pub invariant_of-self : goal.invariant_of-self
 invariant_of-self c =
