@@ -39,7 +39,7 @@ pub use Rattle.wi_engine.specs.Inner.Attempt.{AsksAt, IsLacking, cell_known, kno
 pub use Rattle.wi_engine.specs.Inner.Attempts.{IsAttemptOf}
 pub use Rattle.wi_engine.specs.Inner.Courses.{AreTogether, IsCourseTo, IsSmallestWith, is_next, part}
 pub use Rattle.wi_engine.specs.Inner.Findings.{AreAllRight, IsWithCell, IsWithWhatIf, found_value, found_what_ifs, what_if_found}
-pub use Rattle.wi_engine.specs.Inner.Frames.{AreBelow, AreLinked, AreReadHere, Awaits, BottomIs, IsAwaited, IsBegun, IsDemanded, IsFormulaKey, IsFrame, IsNext, IsNextFormula, IsStack, IsUnvalued, IsUnvaluedFormula, IsUnvaluedKey, MayBeRead, StandsAt, at_most, case_at, content_reads_here, frame_cost, frames_cost, key_above, lacks, spare, taken, waits}
+pub use Rattle.wi_engine.specs.Inner.Frames.{AreBelow, AreLinked, AreReadHere, Awaits, BottomIs, IsAwaited, IsBegun, IsDemanded, IsFormulaKey, IsFrame, IsNext, IsNextFormula, IsStack, IsUnvalued, IsUnvaluedFormula, IsUnvaluedKey, IsWaitedFor, MayBeRead, StandsAt, at_most, case_at, content_reads_here, frame_cost, frames_cost, key_above, lacks, spare, taken, waits}
 pub use Rattle.wi_engine.specs.Inner.Keeps.{HasKept, Keeps}
 pub use Rattle.wi_engine.specs.Inner.Lists.{first_for, first_of, pairs_of, same_pairs}
 pub use Rattle.wi_engine.specs.Inner.MemoState.{AreKnownRight, IsClosedUnderReads, IsMemoOf, IsTold, MemoState}

@@ -3,7 +3,7 @@
 ghost use Rattle.std.specs.Prelude.{◌≡◌, ℕ, true, None, IfOk, IfSome, is_ok};
 ghost use Rattle.wi_engine.specs.Inner.MemoState.{IsMemoOf};
 ghost use Rattle.wi_engine.specs.Inner.Findings.{found_value};
-ghost use Rattle.wi_engine.specs.Inner.Frames.{IsAwaited, IsFrame, IsNextFormula};
+ghost use Rattle.wi_engine.specs.Inner.Frames.{IsFrame, IsWaitedFor};
 ghost use Rattle.wi_engine.specs.Inner.Steps.{FrameSteps};
 ghost use Rattle.wi_engine.specs.declared.frame.Waiting.TheVariants as waiting;
 
@@ -30,9 +30,7 @@ pub(crate) fn look_ahead<'a, M: Memo>(
     ensures steps { FrameSteps store.now.sheet (M.state memo.old) (M.state memo.new)
         frame.old frame.new 0 (is_ok result) }
     ensures next { IfOk result (λ o. IfSome o
-        (IsNextFormula store.now.sheet (M.state memo.old) frame.old.key)) }
-    ensures awaited { IfOk result (λ o. IfSome o (λ u.
-        IsAwaited store.now.sheet frame.new.key.world frame.new.waiting u.key)) }
+        (IsWaitedFor store.now.sheet (M.state memo.old) frame.new)) }
 {
     if !is_new(frame) {
         return Ok(None);

@@ -4,7 +4,7 @@ ghost use Rattle.std.specs.Prelude.{◌≡◌, false, IfOk, OnErr};
 ghost use Rattle.wi_parser.specs.Sheet.{put_all};
 ghost use Rattle.wi_functions.specs.Counts.{counted};
 ghost use Rattle.wi_graph.specs.Circular.{circular};
-ghost use Rattle.wi_sheet.specs.CellValue as show;
+ghost use Rattle.wi_sheet.specs.CellValue as values;
 ghost use Rattle.wi_sheet.specs.Inner.Spending.{NeverFall};
 ghost use Rattle.wi_engine.specs.Inner.Findings.{AreAllRight};
 ghost use Rattle.wi_engine.specs.Inner.Attempts.{IsAttemptOf};
@@ -27,8 +27,8 @@ pub(crate) fn attempt(
 ) -> Result<Outcome, AllocError>
     requires open { circular store.now.sheet frame.now.key.cell ≡ false }
     requires formula { StandsAt store.now.sheet frame.now.key frame.now.formula.now }
-    requires right { AreAllRight (show.cell_value (put_all store.now.sheet frame.now.key.world))
-        (show.what_if_value (put_all store.now.sheet frame.now.key.world)) frame.now.found }
+    requires right { AreAllRight (values.cell_value (put_all store.now.sheet frame.now.key.world))
+        (values.what_if_value (put_all store.now.sheet frame.now.key.world)) frame.now.found }
     ensures outcome { IfOk result (IsAttemptOf store.now.sheet frame.now.key frame.now.found) }
     ensures counted { IfOk result (λ o. meter.new ≡ counted o meter.old) }
     ensures counts { NeverFall meter.old meter.new }

@@ -5,11 +5,11 @@ ghost use Rattle.wi_values.specs.Replacements.{IsInOrder};
 ghost use Rattle.wi_parser.specs.Sheet.{put_all};
 ghost use Rattle.wi_functions.specs.declared.evaluation.Want.TheVariants as wanted;
 ghost use Rattle.wi_graph.specs.Reach.{is_one_of};
-ghost use Rattle.wi_sheet.specs.CellValue as show;
+ghost use Rattle.wi_sheet.specs.CellValue as values;
 ghost use Rattle.wi_engine.specs.Inner.MemoState.{IsMemoOf};
 ghost use Rattle.wi_engine.specs.Inner.Attempt.{AsksAt, IsLacking, lacks_cell};
-ghost use Rattle.wi_engine.specs.Inner.Frames.{MayBeRead, StandsAt, AreReadHere, Awaits, IsAwaited, IsFrame, IsNextFormula, case_at, is_of_cell, waits};
-ghost use Rattle.wi_engine.specs.Inner.Steps.{AreInputsOf, FrameSteps, FrameCounts, FrameTakes, FrameWaits, IsAdvanceOf, IsAwaitedBy};
+ghost use Rattle.wi_engine.specs.Inner.Frames.{MayBeRead, StandsAt, AreReadHere, Awaits, IsAwaited, IsFrame, IsWaitedFor, case_at, is_of_cell, waits};
+ghost use Rattle.wi_engine.specs.Inner.Steps.{AreInputsOf, FrameSteps, FrameCounts, FrameTakes, FrameWaits, IsAdvanceOf};
 ghost use Rattle.wi_engine.specs.declared.frame.Waiting.TheVariants as waiting;
 
 use crate::ahead::look_ahead;
@@ -99,9 +99,7 @@ fn settle_cells<'a, M: Memo>(
     ensures steps { FrameSteps store.now.sheet (M.state memo.old) (M.state memo.new)
         frame.old frame.new 1 (is_ok result) }
     ensures next { IfOk result (λ o. IfSome o
-        (IsNextFormula store.now.sheet (M.state memo.old) frame.old.key)) }
-    ensures awaited { IfOk result (λ o. IfSome o (λ u.
-        IsAwaited store.now.sheet frame.new.key.world frame.new.waiting u.key)) }
+        (IsWaitedFor store.now.sheet (M.state memo.old) frame.new)) }
     ensures settled { result ≡ Ok None → frame.new.waiting ≡ waiting.Nothing }
     ensures all { result ≡ Ok None → (d : ℕ) → is_one_of others.items d ≡ true
         → lacks_cell store.now.sheet frame.new.key.world frame.new.found d ≡ false }
@@ -142,9 +140,7 @@ fn settle_what_if<'a, M: Memo>(
     ensures steps { FrameSteps store.now.sheet (M.state memo.old) (M.state memo.new)
         frame.old frame.new 1 (is_ok result) }
     ensures next { IfOk result (λ o. IfSome o
-        (IsNextFormula store.now.sheet (M.state memo.old) frame.old.key)) }
-    ensures awaited { IfOk result (λ o. IfSome o (λ u.
-        IsAwaited store.now.sheet frame.new.key.world frame.new.waiting u.key)) }
+        (IsWaitedFor store.now.sheet (M.state memo.old) frame.new)) }
     ensures settled { result ≡ Ok None → frame.new.waiting ≡ waiting.Nothing }
 {
     let alloc = pool.allocator();
@@ -180,9 +176,7 @@ fn settle<'a, M: Memo>(
     ensures steps { FrameSteps store.now.sheet (M.state memo.old) (M.state memo.new)
         frame.old frame.new 0 (is_ok result) }
     ensures next { IfOk result (λ o. IfSome o
-        (IsNextFormula store.now.sheet (M.state memo.old) frame.old.key)) }
-    ensures awaited { IfOk result (λ o. IfSome o (λ u.
-        IsAwaited store.now.sheet frame.new.key.world frame.new.waiting u.key)) }
+        (IsWaitedFor store.now.sheet (M.state memo.old) frame.new)) }
     ensures settled { result ≡ Ok None → frame.new.waiting ≡ waiting.Nothing }
 {
     match mem::replace(&mut frame.waiting, Waiting::Nothing) {
@@ -227,9 +221,8 @@ pub(crate) fn advance<'a, M: Memo>(
     ensures steps { FrameSteps store.now.sheet (M.state memo.old) (M.state memo.new)
         frame.old frame.new (meter.new.restarts - meter.old.restarts) (is_ok result) }
     ensures gives { IfOk result
-        (IsAdvanceOf store.now.sheet (M.state memo.old) frame.old meter.old meter.new) }
+        (IsAdvanceOf store.now.sheet (M.state memo.old) frame.old frame.new meter.old meter.new) }
     ensures counts { FrameCounts store.now.sheet frame.old meter.old meter.new (is_ok result) }
-    ensures awaited { IfOk result (IsAwaitedBy store.now.sheet frame.new) }
 {
     if let Some(ahead) = look_ahead(pool, store, frame, memo)? {
         return Ok(Advance::Unvalued(ahead));
@@ -281,7 +274,7 @@ pub(crate) fn take_in(
         (case_at frame.old.key) frame.old.found frame.old.waiting }
     requires awaited { IsAwaited store.now.sheet frame.old.key.world frame.old.waiting key.now }
     requires right { value.now
-        ≡ show.cell_value (put_all store.now.sheet key.now.world) key.now.cell }
+        ≡ values.cell_value (put_all store.now.sheet key.now.world) key.now.cell }
     ensures { FrameTakes store.now.sheet key.now frame.old frame.new (is_ok result) }
 {
     if !waits_for_cell(frame) {

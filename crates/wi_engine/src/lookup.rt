@@ -10,7 +10,7 @@ ghost use Rattle.wi_store.specs.Store.{is_ahead};
 ghost use Rattle.wi_arguments.specs.Assignment.{value_if_known};
 ghost use Rattle.wi_arguments.specs.Filled.{ComesBefore};
 ghost use Rattle.wi_arguments.specs.Walk.{HasTaken};
-ghost use Rattle.wi_sheet.specs.CellValue as show;
+ghost use Rattle.wi_sheet.specs.CellValue as values;
 ghost use Rattle.wi_engine.specs.Inner.Attempt.{cell_known, known_in};
 ghost use Rattle.wi_engine.specs.Inner.Findings.{AreAllRight, found_value};
 ghost use Rattle.wi_engine.specs.Inner.Seen.{content_seen};
@@ -35,16 +35,16 @@ pub struct Known<'a> {
     empty: Value,
     ghost is_empty: { empty ≡ Empty },
     // So what was found can be told before what stands in a cell.
-    ghost right: { AreAllRight (show.cell_value (put_all store.now.sheet world.now))
-        (show.what_if_value (put_all store.now.sheet world.now))
+    ghost right: { AreAllRight (values.cell_value (put_all store.now.sheet world.now))
+        (values.what_if_value (put_all store.now.sheet world.now))
         found.now } by { Prim.hlevel props },
 }
 
 impl<'a> Known<'a> {
     /// What is known with these values found.
     pub(crate) fn new(store: &'a Store, world: &'a World, found: &'a Findings) -> Known<'a>
-        requires right { AreAllRight (show.cell_value (put_all store.now.sheet world.now))
-            (show.what_if_value (put_all store.now.sheet world.now)) found.now }
+        requires right { AreAllRight (values.cell_value (put_all store.now.sheet world.now))
+            (values.what_if_value (put_all store.now.sheet world.now)) found.now }
         ensures store { result.store.now ≡ store.now }
         ensures world { result.world.now ≡ world.now }
         ensures found { result.found.now ≡ found.now }

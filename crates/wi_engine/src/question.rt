@@ -2,7 +2,7 @@
 
 ghost use Rattle.std.specs.Prelude.{◌≡◌, ◌≤◌, true, Contains, IfOk, OnOk, is_ok};
 ghost use Rattle.wi_parser.specs.Sheet.{put_all};
-ghost use Rattle.wi_sheet.specs.CellValue as show;
+ghost use Rattle.wi_sheet.specs.CellValue as values;
 ghost use Rattle.wi_sheet.specs.Demand.{reaching};
 ghost use Rattle.wi_sheet.specs.Settled.{IsSettled};
 ghost use Rattle.wi_sheet.specs.Inner.Spending.{HasCase};
@@ -41,7 +41,7 @@ impl<M: Memo + Drop> Question<M> {
         requires memo { IsMemoOf store.now.sheet (M.state self.old.memo) }
         requires read { MayBeRead store.now.sheet (M.state self.old.memo) at }
         ensures value { IfOk result (λ v.
-            v ≡ show.cell_value (put_all store.now.sheet world.now) at) }
+            v ≡ values.cell_value (put_all store.now.sheet world.now) at) }
 
         // What is remembered then is right, and no more is counted than the cases cost whose values were not,
         // also where memory runs out.
@@ -76,7 +76,7 @@ impl<M: Memo + Drop> Question<M> {
         requires key { IsUnvaluedKey store.now.sheet (M.state self.old.memo) key }
         requires formula { StandsAt store.now.sheet key formula.now }
         ensures value { IfOk result (λ v.
-            v ≡ show.cell_value (put_all store.now.sheet key.world) key.cell) }
+            v ≡ values.cell_value (put_all store.now.sheet key.world) key.cell) }
         ensures spends { Spends store.now.sheet (λ ks. Contains ks (case_at key))
             (M.state self.old.memo) (M.state self.new.memo)
             self.old.meter self.new.meter (is_ok result) }

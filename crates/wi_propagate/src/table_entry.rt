@@ -4,7 +4,7 @@ ghost use Rattle.std.specs.Prelude.{◌≡◌, ◌∷◌, map, All, IfOk, OnOk, 
 ghost use Rattle.wi_values.specs.Replacements.{IsInOrder};
 ghost use Rattle.wi_parser.specs.Sheet.{put_all};
 ghost use Rattle.wi_functions.specs.Meaning as formulas;
-ghost use Rattle.wi_sheet.specs.CellValue as show;
+ghost use Rattle.wi_sheet.specs.CellValue as values;
 ghost use Rattle.wi_sheet.specs.TableEntry as table;
 ghost use Rattle.wi_sheet.specs.TableEntry.{entry_demanded};
 ghost use Rattle.wi_sheet.specs.Demand.{with_what_if};
@@ -89,7 +89,7 @@ pub(crate) fn open_entry<M: Memo + Drop>(
         MayBeRead store.now.sheet (M.state question.old.memo) x.1) pairs.now }
     ensures value { let inside = with_what_if store.now.sheet world.now pairs.now in
         IfOk result (λ v. v ≡ formulas.zero_for_empty
-        (show.cell_value (put_all store.now.sheet inside) formula_cell)) }
+        (values.cell_value (put_all store.now.sheet inside) formula_cell)) }
 
     // What is remembered then is right, and no more is counted than the cases cost whose values were not, also
     // where memory runs out.

@@ -107,6 +107,11 @@ pub record IsNextFormula (s : Sheet) (m : MemoState) (below : Key) (u : Unvalued
   pub next : IsNext s m below u.key
   pub stands : StandsAt s u.key u.formula.now
 
+-- a formula that has to be valued before a frame's, for which the frame waits
+pub record IsWaitedFor (s : Sheet) (m : MemoState) (f : Frame) (u : Unvalued) : Type 0 where
+  pub next : IsNextFormula s m f.key u
+  pub awaited : IsAwaited s f.key.world f.waiting u.key
+
 -- ---- restarts
 
 -- one where a value is waited for: it asks for no restart any more

@@ -16,7 +16,8 @@ pub record MemoState : Type 0 where
   pub generation : ℕ → ℕ
   -- the value that is remembered of a cell under replacements; unless it is found, it may be forgotten
   pub known : ℕ → List Replacement → Option Value
-  -- whether it is found: it is remembered as long as the memory lives (`stays` of `Memo::keep`). Some may be from the start.
+  -- whether it is found: it is remembered as long as the memory lives (`stays` of `Memo::keep`). Where
+  -- values are cached, it is kept or was given up in this question, so that what is cached is found from the start.
   pub found : ℕ → List Replacement → Bool
   -- whether it is kept for longer than the memory lives; it may be evicted where there is no room
   pub kept : ℕ → List Replacement → Bool

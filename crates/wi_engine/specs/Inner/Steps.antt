@@ -14,7 +14,7 @@ use Rattle.wi_sheet.specs.Demand.{with_what_if}
 use Rattle.wi_sheet.specs.Settled.{IsSettled, RestsOnKept}
 use Rattle.wi_sheet.specs.Inner.Spending.{NeverFall, Table, plus}
 use Rattle.wi_engine.specs.Inner.MemoState.{MemoState}
-use Rattle.wi_engine.specs.Inner.Frames.{Awaits, IsAwaited, IsFrame, IsUnvaluedFormula, IsNextFormula, case_at, frame_cost, spare}
+use Rattle.wi_engine.specs.Inner.Frames.{Awaits, IsFrame, IsUnvaluedFormula, IsWaitedFor, case_at, frame_cost, spare}
 use Rattle.wi_engine.specs.Inner.Saving.{KeepsFound, NeedsNoEvaluation}
 use Rattle.wi_engine.specs.Inner.SettledFrames.{IsFrameSettled}
 use Rattle.wi_engine.specs.declared.frame.Frame.{Frame}
@@ -80,12 +80,7 @@ abbrev pub AreInputsOf : Sheet → MemoState → List Replacement → List Pair 
 AreInputsOf s m w pairs (inputs.TheVariants.Known v) = IsWorldWith s m w pairs v
 AreInputsOf s m w pairs (inputs.TheVariants.Unvalued u) = (list_any (λ p. p.1.at == u.key.cell) (map pair_of pairs) ≡ true) × IsUnvaluedFormula s m w u.key.cell u
 
--- the frame waits for the formula that has to be valued first, if one has
-abbrev pub IsAwaitedBy : Sheet → Frame → advance.Advance → Type 0
-IsAwaitedBy s f (advance.TheVariants.Done v) = Unit {0}
-IsAwaitedBy s f (advance.TheVariants.Unvalued u) = IsAwaited s f.key.world f.waiting u.key
-
--- a frame's value, for which an evaluation was counted, or a formula that has to be valued first
-abbrev pub IsAdvanceOf : Sheet → MemoState → Frame → Counts → Counts → advance.Advance → Type 0
-IsAdvanceOf s m f before after (advance.TheVariants.Done v) = IsFrameValue s m f v × (after.evaluations ≡ one_more before.evaluations)
-IsAdvanceOf s m f before after (advance.TheVariants.Unvalued u) = IsNextFormula s m f.key u × (after.evaluations ≡ before.evaluations)
+-- the value of a frame as it was, for which an evaluation was counted, or a formula for which it waits now
+abbrev pub IsAdvanceOf : Sheet → MemoState → Frame → Frame → Counts → Counts → advance.Advance → Type 0
+IsAdvanceOf s m before after from to (advance.TheVariants.Done v) = IsFrameValue s m before v × (to.evaluations ≡ one_more from.evaluations)
+IsAdvanceOf s m before after from to (advance.TheVariants.Unvalued u) = IsWaitedFor s m after u × (to.evaluations ≡ from.evaluations)

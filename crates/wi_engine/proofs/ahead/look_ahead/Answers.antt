@@ -52,12 +52,8 @@ pub returns-in-Unvalued-clause-next : goal.returns-in-Unvalued-clause-next
 returns-in-Unvalued-clause-next g c =
     let f = c.args.frame.now in
     let there = rw (c.in-Unvalued.is, c.requires.memo.sheet) at c.in_ok-value.ensures.asked in
-    next_here f.key f.key refl refl there (read_at c.args.store.now.sheet f.key f.formula.now c.in-Some.at c.requires.frame.formula c.in-Some.ensures)
-
-pub returns-in-Unvalued-clause-awaited : goal.returns-in-Unvalued-clause-awaited
-returns-in-Unvalued-clause-awaited g c =
-    let there = rw (c.in-Unvalued.is, c.requires.memo.sheet) at c.in_ok-value.ensures.asked in
-    (there.unvalued.cell, there.unvalued.world)
+    let next = next_here f.key f.key refl refl there (read_at c.args.store.now.sheet f.key f.formula.now c.in-Some.at c.requires.frame.formula c.in-Some.ensures) in
+    record { next = next; awaited = (there.unvalued.cell, there.unvalued.world) }
 
 pub returns-in_err-value-clause-steps : goal.returns-in_err-value-clause-steps
 returns-in_err-value-clause-steps g c = steps_err c.from_residual.result c.from_residual.ensures.0 c.remembered_value.ensures.same refl

@@ -1,4 +1,4 @@
-use Rattle.wi_engine.proofs.Words.{◌-◌, Ok, ap, refl, sym, subst, arith, ◌∙◌, put_all, Counts, one_more, Key, cell_value, never_fall-same, never_fall-then, MemoState, IsMemoOf, IsFrame, IsNextFormula, IsFrameValue}
+use Rattle.wi_engine.proofs.Words.{◌-◌, Ok, ap, refl, sym, subst, arith, ◌∙◌, put_all, Counts, one_more, Key, cell_value, never_fall-same, never_fall-then, MemoState, IsMemoOf, IsFrame, IsWaitedFor, IsFrameValue}
 use Rattle.wi_engine.proofs.engine.NextValues.{one_more_at_most}
 use Rattle.wi_engine.proofs.engine.SettledFindings.{done_settled}
 use Rattle.wi_engine.proofs.engine.Steps.{steps_err, steps_then, steps_less, steps_wait, counts_none, counts_want, counts_done, counts_then}
@@ -58,16 +58,9 @@ returns-in-Some-clause-gives g c = (rw c.in-Some.is at c.in_ok-ahead.ensures.nex
 
 pub returns-in-Some-2-clause-gives : goal.returns-in-Some-2-clause-gives
 returns-in-Some-2-clause-gives g c =
-    let s = c.args.store.now.sheet in
     let i = c.rounds.invariant in
-    let next = subst (λ (x : MemoState). IsNextFormula s x c.rounds.frame.key c.in-Some-2.first) i.steps.same (rw c.in-Some-2.is at c.in_ok-first.ensures.next) in
-    (subst (λ (k : Key). IsNextFormula s (g.M.Memo.state c.args.memo.now) k c.in-Some-2.first) i.steps.key next, i.evaluations)
-
-pub returns-in-Some-clause-awaited : goal.returns-in-Some-clause-awaited
-returns-in-Some-clause-awaited g c = rw c.in-Some.is at c.in_ok-ahead.ensures.awaited
-
-pub returns-in-Some-2-clause-awaited : goal.returns-in-Some-2-clause-awaited
-returns-in-Some-2-clause-awaited g c = rw c.in-Some-2.is at c.in_ok-first.ensures.awaited
+    let next = subst (λ (x : MemoState). IsWaitedFor c.args.store.now.sheet x c.settle.new.frame c.in-Some-2.first) i.steps.same (rw c.in-Some-2.is at c.in_ok-first.ensures.next) in
+    (next, i.evaluations)
 
 pub returns-in-Done-clause-gives : goal.returns-in-Done-clause-gives
 returns-in-Done-clause-gives g c =

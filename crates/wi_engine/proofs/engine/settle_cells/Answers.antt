@@ -37,12 +37,8 @@ cells-preserved g c =
 pub returns-in-Unvalued-clause-next : goal.returns-in-Unvalued-clause-next
 returns-in-Unvalued-clause-next g c =
     let i = c.cells.invariant in
-    next_here c.cells.frame.key c.args.frame.now.key i.steps.same i.steps.key (rw c.in-Unvalued.is at c.in_ok-value.ensures.asked) i.awaits.1
-
-pub returns-in-Unvalued-clause-awaited : goal.returns-in-Unvalued-clause-awaited
-returns-in-Unvalued-clause-awaited g c =
     let there = rw c.in-Unvalued.is at c.in_ok-value.ensures.asked in
-    (there.unvalued.cell, there.unvalued.world)
+    record { next = next_here c.cells.frame.key c.cells.frame.key i.steps.same refl there i.awaits.1; awaited = (there.unvalued.cell, there.unvalued.world) }
 
 pub returns-in-Unvalued-clause-steps : goal.returns-in-Unvalued-clause-steps
 returns-in-Unvalued-clause-steps g c =

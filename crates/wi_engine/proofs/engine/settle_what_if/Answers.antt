@@ -19,13 +19,17 @@ value_now-requires-clause-read g c =
 
 pub returns-in-Unvalued-clause-next : goal.returns-in-Unvalued-clause-next
 returns-in-Unvalued-clause-next g c =
-    next_input c.args.store.now.sheet (g.M.Memo.state c.args.memo.now) c.args.frame.now.key c.in-Unvalued.first c.args.at c.args.pairs c.deref.result.now c.requires.awaits.1 c.deref.ensures.value (rw c.in-Unvalued.is at c.in_ok-first.ensures.inputs)
+    let next =
+    next_input c.args.store.now.sheet (g.M.Memo.state c.args.memo.now) c.args.frame.now.key c.in-Unvalued.first c.args.at c.args.pairs c.deref.result.now c.requires.awaits.1 c.deref.ensures.value (rw c.in-Unvalued.is at c.in_ok-first.ensures.inputs) in
+    record { next = next; awaited = tt }
 
 pub returns-in-Unvalued-2-clause-next : goal.returns-in-Unvalued-2-clause-next
 returns-in-Unvalued-2-clause-next g c =
     let world = rw c.in-Known.is at c.in_ok-first.ensures.inputs in
+    let next =
     next_inner c.args.store.now.sheet (g.M.Memo.state c.args.memo.now) (g.M.Memo.state c.world_of_what_if.new.memo) c.args.frame.now.key c.in-Unvalued-2.first c.args.at c.args.pairs c.deref.result.now _
-    c.in_ok-first.ensures.same c.requires.awaits.1 c.deref.ensures.value world (rw c.in-Unvalued-2.is at c.in_ok-first-in-Known.ensures.asked)
+    c.in_ok-first.ensures.same c.requires.awaits.1 c.deref.ensures.value world (rw c.in-Unvalued-2.is at c.in_ok-first-in-Known.ensures.asked) in
+    record { next = next; awaited = tt }
 
 -- ---- what is left
 

@@ -1,5 +1,5 @@
 use Rattle.wi_engine.proofs.Words.{◌≡◌, ◌∙◌, ℕ, List, [], ◌∷◌, length, refl, arith, Frame}
-use Rattle.wi_engine.proofs.engine.FrameRuns.{IsNew, GoesDeeper, deeper_smaller, back_smaller, run_below, run_value}
+use Rattle.wi_engine.proofs.engine.FrameRuns.{IsNew, GoesDeeper, deeper_smaller, back_smaller, next_before, run_below, run_value}
 use Rattle.wi_engine.proofs.engine.Ends.{turn_same, turn_kept, comes_back, going_start, going_deeper, going_awaited, going_back, going_stops, going_ends, root_kept, root_there}
 use Rattle.wi_engine.proofs.engine.Steps.{counts_less}
 use Rattle.wi_engine.proofs.question.Question.run.Goals as goal
@@ -26,7 +26,7 @@ advance-requires-clause-frame g c = c.frames.invariant.running.begun.frame
 pub frames-smaller-in-Unvalued : goal.frames-smaller-in-Unvalued
 frames-smaller-in-Unvalued g c =
     let a = c.in_ok-next.ensures in
-    deeper_smaller c.frames.invariant.running (g.M.Memo.state c.advance.new.memo) c.new-frame-in-Unvalued.result a.steps.same (rw c.in-Unvalued.is at a.gives).0.next c.new-frame-in-Unvalued.ensures.key
+    deeper_smaller c.frames.invariant.running (g.M.Memo.state c.advance.new.memo) c.new-frame-in-Unvalued.result a.steps.same (next_before a.steps.key (rw c.in-Unvalued.is at a.gives).0) c.new-frame-in-Unvalued.ensures.key
 
 pub frames-preserved-in-Unvalued : goal.frames-preserved-in-Unvalued
 frames-preserved-in-Unvalued g c =
@@ -38,9 +38,9 @@ frames-preserved-in-Unvalued g c =
       steps = rw a.steps.same at a.steps;
       rises = a.counts.rises;
       evaluations = u.1;
-      key = u.0.next;
-      awaited = rw c.in-Unvalued.is at a.awaited;
-      new = record { key = n.key; formula = rw n.formula u.0.stands; cells = n.cells; what_ifs = n.what_ifs; waiting = n.waiting };
+      key = next_before a.steps.key u.0;
+      awaited = u.0.awaited;
+      new = record { key = n.key; formula = rw n.formula u.0.next.stands; cells = n.cells; what_ifs = n.what_ifs; waiting = n.waiting };
     } in
     rw (c.in_ok-push-in-Unvalued.ensures.items, a.steps.same) (going_deeper c.frames.invariant turn)
 
