@@ -1,5 +1,5 @@
 -- A question asked of a calculator that keeps values.
-use Rattle.wi_propagate.proofs.Words.{◌≡◌, ◌≤◌, ◌<◌, ◌+◌, ◌-◌, ◌^◌, inl, inr, length, All, filter, not, is_some, ℕ, Bool, true, false, List, [], Option, Some, refl, ap, sym, ◌∙◌, subst, arith, keys_of, cases_lt, true≢false, Value, Fault, Circular, Replacement, Sheet, content_of, put_all, has_formula, Counts, Stored, Key, KeptValues, HasOneEach, value_for, circular, clash, Case, reaching, asks_circular, table_entry, IsWhatIfSettled, IsClosed, SpentOn, left_is_unkept, sum_ones, never_fall-same, spent_price, spent_unkept, cells_open, entry_circular, none_circular, MayBeRead, KeepsFound, WhereRoom, TakesNoMore, GivesUpWhenFull, NeedsNoEvaluation, IsValuedAnew, IsSameBeside, Saved, Spends, what_if_more, rests_more, none_went, Generations, generation_in, KeptSheet, key_in, stands, is_kept, unkept, gone, IsAtHand, HasRoomFor, KeepsAll, KeepsNoMore, KeepsOld, KeepsWhileRoom, AreRight, AreKeptRight, kept_sheet, values_in, Keeping, keeping, begun, state_in, IsKeepingRight, Owes, told, or_none}
+use Rattle.wi_propagate.proofs.Words.{◌≡◌, ◌≤◌, ◌<◌, ◌+◌, ◌-◌, ◌^◌, inl, inr, length, All, filter, not, is_some, ℕ, Bool, true, false, List, [], Option, Some, refl, ap, sym, ◌∙◌, subst, arith, keys_of, cases_lt, true≢false, Value, Fault, Circular, Replacement, Sheet, content_of, put_all, has_formula, Counts, Stored, Key, KeptValues, value_for, circular, clash, Case, reaching, asks_circular, table_entry, IsWhatIfSettled, IsClosed, SpentOn, left_is_unkept, sum_ones, never_fall-same, spent_price, spent_unkept, cells_open, entry_circular, none_circular, MayBeRead, KeepsFound, WhereRoom, TakesNoMore, GivesUpWhenFull, NeedsNoEvaluation, IsValuedAnew, IsSameBeside, Saved, Spends, what_if_more, rests_more, none_went, Generations, generation_in, KeptSheet, key_in, stands, is_kept, unkept, gone, IsAtHand, HasRoomFor, KeepsAll, KeepsNoMore, KeepsOld, KeepsWhileRoom, AreRight, AreKeptRight, kept_sheet, values_in, Keeping, keeping, begun, state_in, ArePlaced, IsKeepingRight, Owes, told, or_none}
 use Rattle.wi_engine.specs.Inner.Saving as saving
 use Rattle.wi_propagate.proofs.PlaceCounts.{all_stand}
 
@@ -18,14 +18,12 @@ module _ {s : Stored} {old new : Generations} (e : new ≡ old) (o : Option Kept
 -- with what was kept, which is no more than there is room for, each value under a key of its own
 pub record Begins (k : KeptSheet) (q : Keeping) : Type 0 where
   pub is : q ≡ begun k
-  pub within : length k.values.entries ≤ k.values.capacity
-  pub one_each : HasOneEach k.values.entries
+  pub placed : ArePlaced k.values
 
-pub begins : (s : Stored) (gs : Generations) (o : Option KeptValues) (n : Counts) (v : KeptValues) (q : Keeping) → Some v ≡ o → q ≡ keeping s.sheet s.edits gs [] v → length v.entries ≤ v.capacity → HasOneEach v.entries → Begins (kept_sheet s gs o n) q
-begins s gs o n v q f e within one_each = record {
+pub begins : (s : Stored) (gs : Generations) (o : Option KeptValues) (n : Counts) (v : KeptValues) (q : Keeping) → Some v ≡ o → q ≡ keeping s.sheet s.edits gs [] v → ArePlaced v → Begins (kept_sheet s gs o n) q
+begins s gs o n v q f e placed = record {
   is = e ∙ ap (λ (x : Option KeptValues). keeping s.sheet s.edits gs [] (values_in x)) f;
-  within = subst (λ (x : Option KeptValues). length (values_in x).entries ≤ (values_in x).capacity) f within;
-  one_each = subst (λ (x : Option KeptValues). HasOneEach (values_in x).entries) f one_each;
+  placed = subst (λ (x : Option KeptValues). ArePlaced (values_in x)) f placed;
 }
 
 -- and what was kept is right
@@ -119,7 +117,7 @@ module _ {k : KeptSheet} {q : Keeping} (e : Begins k q) (last : Keeping) (values
 
   pub asked_no_more : length values.entries ≤ values.capacity → TakesNoMore (state_in q) (state_in last) k.counts.evaluations counts.evaluations → KeepsNoMore k after
   asked_no_more within (inl h) =
-      let counted = h (keys_of k.values.entries) e.one_each in
+      let counted = h (keys_of k.values.entries) e.placed.one_each in
       inl (omega (arith, counted, gone_is, none_gone_before, room_before, room_after, same_capacity, within))
   asked_no_more within (inr h) = inr h
 
@@ -132,13 +130,13 @@ module _ {k : KeptSheet} {q : Keeping} (e : Begins k q) (last : Keeping) (values
   fits_places gives (inl t) few short j i = elim (cases_lt 0 (state_in last).room) [
     | inl room ↦ stays_with_room gives room j i
     | inr full ↦ (
-        let fits : counts.evaluations + (state_in last).room ≤ k.counts.evaluations + (state_in q).room = omega (arith, full, room_before, same_capacity, e.within, few) in
+        let fits : counts.evaluations + (state_in last).room ≤ k.counts.evaluations + (state_in q).room = omega (arith, full, room_before, same_capacity, e.placed.within, few) in
         stands_now j ∙ none_went (state_in q) (state_in last) k.counts.evaluations counts.evaluations j t fits (sym (stood j) ∙ i))
   ]
 
   pub asked_while_room : GivesUpWhenFull (state_in q) (state_in last) → TakesNoMore (state_in q) (state_in last) k.counts.evaluations counts.evaluations → KeepsWhileRoom k after
   asked_while_room h t = record {
-    count = omega (arith, h.room, room_before, room_after, same_capacity, e.within);
+    count = omega (arith, h.room, room_before, room_after, same_capacity, e.placed.within);
     stays = λ few. stays_with_room h (omega (arith, few, room_after));
     fits = fits_places h t;
   }

@@ -1,5 +1,5 @@
 -- What is kept or was given up in a question: a value comes, and none goes.
-use Rattle.wi_propagate.proofs.Words.{◌≡◌, ◌≤◌, ◌-◌, ◌⊎◌, inl, inr, ◌||◌, ℕ, Bool, true, false, cond, nat_lt, List, [], ◌∷◌, length, slice_get, Option, Some, None, IfSome, IsSome, is_some, Result, Ok, Err, OnOk, refl, ap, sym, ◌∙◌, subst, arith, if◌then◌else◌, nat_tests, lookup_from_place, slice_get_cases, update, option_or, AllocError, Value, Replacement, Key, Entries, KeptValues, HasOneEach, Puts, going, same_key, value_for, last_entry, same_key_means, same_key_equiv, same_case, known_still, known_then, Keeps, Generations, generation_in, key_in, Keeping, TakesOver, state_in, value_in}
+use Rattle.wi_propagate.proofs.Words.{◌≡◌, ◌≤◌, ◌-◌, ◌⊎◌, inl, inr, ◌||◌, ℕ, Bool, true, false, cond, nat_lt, List, [], ◌∷◌, length, Option, Some, None, IfSome, IsSome, is_some, Result, Ok, Err, OnOk, refl, ap, sym, ◌∙◌, subst, arith, if◌then◌else◌, nat_tests, lookup_from_place, slice_get_cases, update, option_or, AllocError, Value, Replacement, Key, Entries, KeptValues, HasOneEach, Puts, going, same_key, value_for, last_entry, same_key_means, same_key_equiv, same_case, known_still, known_then, Keeps, Generations, generation_in, key_in, Keeping, TakesOver, state_in, value_in}
 use Rattle.wi_propagate.proofs.KeepSteps.{KeepsIn, put_is_some}
 use Rattle.wi_propagate.proofs.RightValues.{told_in}
 

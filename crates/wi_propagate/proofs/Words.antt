@@ -58,7 +58,7 @@ pub use Rattle.wi_parser.specs.Sheet.{Sheet, cells_with_formula, content_of, has
 pub use Rattle.wi_parser.specs.declared.content.Content.{Content}
 pub use Rattle.wi_parser.specs.declared.content.Content.TheVariants.{Constant, Formula}
 pub use Rattle.wi_propagate.specs.Inner.Cones.{AreAllCones}
-pub use Rattle.wi_propagate.specs.Inner.Keeping.{HasGeneration, IsKeepingRight, Keeping, TakesOver, begun, keeping, kept_sheet, state_in, value_in, values_in}
+pub use Rattle.wi_propagate.specs.Inner.Keeping.{ArePlaced, HasGeneration, IsKeepingRight, Keeping, TakesOver, begun, keeping, kept_sheet, state_in, value_in, values_in}
 pub use Rattle.wi_propagate.specs.Inner.Noted.{AreKeptUp, Noted, noted_in}
 unfoldable pub use Rattle.wi_propagate.specs.Inner.Noted.{told}
 pub use Rattle.wi_propagate.specs.Inner.Owes.{Owes}

@@ -2,12 +2,12 @@
 
 ghost use Rattle.std.specs.Prelude.{◌≡◌, ◌≤◌, [], None, length, IfSome, OnOk};
 ghost use Rattle.wi_graph.specs.Edges.{AreEdgesOf};
-ghost use Rattle.wi_cache.specs.Entries.{HasOneEach, going};
+ghost use Rattle.wi_cache.specs.Entries.{going};
 ghost use Rattle.wi_cache.specs.declared.key.Key.{Key as Keys};
 ghost use Rattle.wi_engine.specs.Inner.MemoState.{IsMemoOf};
 ghost use Rattle.wi_propagate.specs.Inner.Cones.{AreAllCones};
-ghost use Rattle.wi_propagate.specs.Inner.Keeping.{keeping, state_in, IsKeepingRight, TakesOver};
-ghost use Rattle.wi_propagate.specs.Inner.Noted.{told, AreKeptUp};
+ghost use Rattle.wi_propagate.specs.Inner.Keeping.{keeping, state_in, ArePlaced, IsKeepingRight, TakesOver};
+ghost use Rattle.wi_propagate.specs.Inner.Noted.{told, AreAllNoted};
 
 use crate::cones::add_cones;
 use crate::generations::Generations;
@@ -50,11 +50,11 @@ impl<'a> Model for Keeping<'a> {
     ghost coded = { Prim.hlevel
         (codes, content.the_row.coded, key.the_row.coded, value.the_row.coded) };
 
-    ghost use Rattle.std.specs.Prelude.{◌≡◌, [], None};
+    ghost use Rattle.std.specs.Prelude.{◌≡◌, None};
     ghost use Rattle.wi_graph.specs.Edges.{AreEdgesOf};
     ghost use Rattle.wi_propagate.specs.Inner.Cones.{AreAllCones};
     ghost use Rattle.wi_propagate.specs.Inner.Keeping.{keeping, IsKeepingRight};
-    ghost use Rattle.wi_propagate.specs.Inner.Noted.{told, AreKeptUp};
+    ghost use Rattle.wi_propagate.specs.Inner.Noted.{told, AreAllNoted};
 
     ghost view = { λ m. keeping m.store.now.sheet m.store.now.edits
         (told m.store.now.sheet m.generations.now.named) m.given_up.entries m.kept };
@@ -64,8 +64,7 @@ impl<'a> Model for Keeping<'a> {
         × AreAllCones m.store.now.sheet m.cones
         × IsKeepingRight (keeping m.store.now.sheet m.store.now.edits
         (told m.store.now.sheet m.generations.now.named) m.given_up.entries m.kept)
-        × AreKeptUp m.store.now.sheet m.store.now.edits m.generations.now
-        × (m.generations.now.owed ≡ []) };
+        × AreAllNoted m.store.now.sheet m.store.now.edits m.generations.now };
 }
 
 impl<'a> Keeping<'a> {
@@ -86,14 +85,12 @@ impl<'a> Keeping<'a> {
         requires right { IsKeepingRight
             (keeping store.now.sheet store.now.edits
             (told store.now.sheet generations.now.named) [] kept) }
-        requires kept_up { AreKeptUp store.now.sheet store.now.edits generations.now }
-        requires settled { generations.now.owed ≡ [] }
+        requires noted { AreAllNoted store.now.sheet store.now.edits generations.now }
         ensures value { result
             ≡ keeping store.now.sheet store.now.edits
             (told store.now.sheet generations.now.named) [] kept }
         ensures memo { IsMemoOf store.now.sheet (state_in result) }
-        ensures within { length kept.entries ≤ kept.capacity }
-        ensures one_each { HasOneEach kept.entries }
+        ensures placed { ArePlaced kept }
     {
         let _ = kept.len();
         let mut given_up = given_up;
@@ -164,7 +161,8 @@ impl<'a> Memo for Keeping<'a> {
 // Makes room for the value that goes for a new one, if one does. If memory runs out, all is as before.
 fn make_room(kept: &Kept, given_up: &mut GivenUp) -> Result<(), AllocError>
     ensures entries { given_up.new.entries ≡ given_up.old.entries }
-    ensures room { OnOk result ((k : Keys) → IfSome (going kept.now k) (λ _. 1 ≤ given_up.new.room)) }
+    ensures room { OnOk result ((k : Keys)
+        → IfSome (going kept.now k) (λ _. 1 ≤ given_up.new.room)) }
 {
     if kept.is_full() {
         return given_up.make_room();

@@ -1,5 +1,5 @@
 -- One value more is found, and fewer are lacking.
-use Rattle.wi_engine.proofs.Words.{◌≡◌, ◌==◌, ℕ, ◌+◌, ◌<◌, ◌≤◌, Bool, true, false, ◌&&◌, cond, List, [], filter, length, Option, Some, None, refl, ap, sym, ◌∙◌, arith, eq-eqb, and_from, and_parts, list_any, is_none, option_or, Value, Tree, Sheet, content_of, has_formula, cells_with_formula, Asks, WhatIf, list_any-both, same_cell, found, formula_cell, keeps_few, reads_here, formulas_read_here, what_ifs_of, asked_what_if, in_contained, found_in, Findings, FoundWhatIf, same_pairs, pairs_of, first_for, found_value, found_what_ifs, what_if_found, IsWithCell, IsWithWhatIf, lacking, PassesToo, no_more, fewer}
+use Rattle.wi_engine.proofs.Words.{◌≡◌, ◌==◌, ℕ, ◌+◌, ◌<◌, ◌≤◌, Bool, true, false, ◌&&◌, cond, List, filter, length, Option, Some, None, refl, ap, sym, ◌∙◌, arith, eq-eqb, and_from, and_parts, list_any, is_none, option_or, Value, Tree, Sheet, content_of, has_formula, cells_with_formula, Asks, WhatIf, list_any-both, same_cell, found, formula_cell, keeps_few, reads_here, formulas_read_here, what_ifs_of, asked_what_if, in_contained, found_in, Findings, FoundWhatIf, same_pairs, pairs_of, first_for, found_value, found_what_ifs, what_if_found, IsWithCell, IsWithWhatIf, lacking, PassesToo, no_more, fewer}
 use Rattle.wi_engine.proofs.lists.FoundPairs.{same_lists, same_pairs-refl, first_for-push}
 
 -- a cell of which no value was found

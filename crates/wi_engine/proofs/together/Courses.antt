@@ -1,5 +1,5 @@
 -- The cells that are found together with one, and the course that they make.
-use Rattle.wi_engine.proofs.Words.{◌≡◌, ◌==◌, ◌-◌, ◌≤◌, ◌*◌, ℕ, ◌||◌, Bool, true, false, List, [], ◌∷◌, filter, take, Some, Contains, refl, ap, sym, ◌∙◌, subst, inl, inr, ◌⊎◌, eq-eqb, arith, and_parts, or_left, keys_of, Area, row_of, column_of, is_within, Replacement, Tree, Sheet, content_of, has_formula, put_all, rectangles_of, one_cell, is_one_of, same_cell, reads_here, cells_after, is_after, put_formula, in_filter, IsWhole, rectangle_whole, lies, is_inside, in_corners, lacks_cell, lacking_after, IsSmallestWith, AreTogether, IsCourseTo, is_next, part, Course, Way, Alone, Row, Column, Whole, Findings, Frame, column_within, taken_one}
+use Rattle.wi_engine.proofs.Words.{◌≡◌, ◌==◌, ◌-◌, ◌≤◌, ◌*◌, ℕ, ◌||◌, Bool, true, false, List, ◌∷◌, filter, take, Some, Contains, refl, ap, sym, ◌∙◌, subst, inl, inr, ◌⊎◌, eq-eqb, arith, and_parts, or_left, keys_of, Area, row_of, column_of, is_within, Replacement, Tree, Sheet, content_of, has_formula, put_all, rectangles_of, one_cell, is_one_of, same_cell, reads_here, cells_after, is_after, put_formula, in_filter, IsWhole, rectangle_whole, lies, is_inside, in_corners, lacks_cell, lacking_after, IsSmallestWith, AreTogether, IsCourseTo, is_next, part, Course, Way, Alone, Row, Column, Whole, Findings, Frame, column_within, taken_one}
 
 -- ---- the parts of a rectangle through which ways lead lie in it
 

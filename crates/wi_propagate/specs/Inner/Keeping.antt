@@ -9,7 +9,7 @@ use Rattle.wi_parser.specs.Sheet.{Sheet}
 use Rattle.wi_functions.specs.Counts.{Counts}
 use Rattle.wi_store.specs.Store.{Stored}
 use Rattle.wi_cache.specs.declared.key.Key.{Key}
-use Rattle.wi_cache.specs.Entries.{Entries, KeptValues, Puts, kept, value_for}
+use Rattle.wi_cache.specs.Entries.{Entries, HasOneEach, KeptValues, Puts, kept, value_for}
 use Rattle.wi_engine.specs.Inner.MemoState.{MemoState}
 use Rattle.wi_propagate.specs.KeptSheet.{Generations, KeptSheet, generation_in, key_in}
 use Rattle.wi_propagate.specs.Right.{AreRight}
@@ -58,6 +58,11 @@ state_in q = record {
   capacity = q.values.capacity;
   latest = q.edits;
 }
+
+-- kept values stand under keys of their own, and are no more than there is room for
+pub record ArePlaced (v : KeptValues) : Type 0 where
+  pub within : length v.entries ≤ v.capacity
+  pub one_each : HasOneEach v.entries
 
 -- what is kept is right
 pub record IsKeepingRight (q : Keeping) : Type 0 where

@@ -24,3 +24,8 @@ told s ns = map (λ c. (c, latest_among s (generation_in ns) (keys_of ns) c)) (k
 pub record AreKeptUp (s : Sheet) (edits : ℕ) (g : Noted) : Type 0 where
   pub past : (c : ℕ) → generation_in g.named c ≤ edits
   pub owed : AreOwed s (generation_in g.named) g.owed (noted_in g.named g.noted)
+
+-- and of each it is noted
+pub record AreAllNoted (s : Sheet) (edits : ℕ) (g : Noted) : Type 0 where
+  pub kept_up : AreKeptUp s edits g
+  pub none_owed : g.owed ≡ []

@@ -112,5 +112,4 @@ invariant_of-self-2 c =
         right = right_after done i.store.now.sheet i.store.now.edits (generation_in (told i.store.now.sheet i.generations.now.named)) i.kept c.keep.new.self c.args.key c.args.value keeps new h.3.right;
       },
       h.4,
-      h.5,
     )

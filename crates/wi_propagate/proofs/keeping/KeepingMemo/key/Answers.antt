@@ -13,4 +13,4 @@ returns-clause-world c =
 pub returns-clause-generation : goal.returns-clause-generation
 returns-clause-generation c =
     let i = c.self.inside in
-    c.generation_of.ensures ∙ noted_is_told i.store.now.sheet i.store.now.edits i.generations.now c.self.invariant.4 c.self.invariant.5 c.args.at ∙ ap (λ (q : Keeping). generation_in q.generations c.args.at) c.self.view_is
+    c.generation_of.ensures ∙ noted_is_told i.store.now.sheet i.store.now.edits i.generations.now c.self.invariant.4.kept_up c.self.invariant.4.none_owed c.args.at ∙ ap (λ (q : Keeping). generation_in q.generations c.args.at) c.self.view_is

@@ -18,13 +18,13 @@ pub value-result-requires-clause-read : goal.value-result-requires-clause-read
 value-result-requires-clause-read c =
     let i = c.self.inside in
     let o : circular i.store.sheet c.args.at ≡ false = sym (c.is_circular.ensures i.store.sheet c.self.invariant.1) ∙ c.if-is_circular.false in
-    let q = begins i.store (told i.store.sheet c.settle.new.self.named) i.kept i.meter _ c.new-memo.result c.in-Some-take.ensures.value c.new-memo.ensures.value c.new-memo.ensures.within c.new-memo.ensures.one_each in
+    let q = begins i.store (told i.store.sheet c.settle.new.self.named) i.kept i.meter _ c.new-memo.result c.in-Some-take.ensures.value c.new-memo.ensures.value c.new-memo.ensures.placed in
     may_be_read q c.args.at o
 
 pub invariant_of-self-2 : goal.invariant_of-self-2
 invariant_of-self-2 c =
     let i = c.self.inside in
-    let q = begins i.store (told i.store.sheet c.settle.new.self.named) i.kept i.meter _ c.new-memo.result c.in-Some-take.ensures.value c.new-memo.ensures.value c.new-memo.ensures.within c.new-memo.ensures.one_each in
+    let q = begins i.store (told i.store.sheet c.settle.new.self.named) i.kept i.meter _ c.new-memo.result c.in-Some-take.ensures.value c.new-memo.ensures.value c.new-memo.ensures.placed in
     let e = c.value-result.ensures in
     let h = c.self.invariant in (
       refl,
@@ -47,7 +47,7 @@ returns-clause-easy c =
     let i = c.self.inside in
     let view = settled_view {s = i.store} c.in_ok-settle.ensures.named i.kept i.meter c.args.self.now c.self.view_is in
     let o : circular i.store.sheet c.args.at ≡ false = sym (c.is_circular.ensures i.store.sheet c.self.invariant.1) ∙ c.if-is_circular.false in
-    let q = begins i.store (told i.store.sheet c.settle.new.self.named) i.kept i.meter _ c.new-memo.result c.in-Some-take.ensures.value c.new-memo.ensures.value c.new-memo.ensures.within c.new-memo.ensures.one_each in
+    let q = begins i.store (told i.store.sheet c.settle.new.self.named) i.kept i.meter _ c.new-memo.result c.in-Some-take.ensures.value c.new-memo.ensures.value c.new-memo.ensures.placed in
     subst (λ (x : KeptSheet). IsAtHand x c.args.put.now c.args.at → c.value-result.new.self.meter ≡ x.counts) view
     (λ h. c.value-result.ensures.uncounted (at_hand_is q c.in_ok-world.world c.args.put.now c.args.at o c.in_ok-world.ensures h))
 
@@ -56,7 +56,7 @@ returns-clause-kept c =
     let i = c.self.inside in
     let view = settled_view {s = i.store} c.in_ok-settle.ensures.named i.kept i.meter c.args.self.now c.self.view_is in
     let o : circular i.store.sheet c.args.at ≡ false = sym (c.is_circular.ensures i.store.sheet c.self.invariant.1) ∙ c.if-is_circular.false in
-    let q = begins i.store (told i.store.sheet c.settle.new.self.named) i.kept i.meter _ c.new-memo.result c.in-Some-take.ensures.value c.new-memo.ensures.value c.new-memo.ensures.within c.new-memo.ensures.one_each in
+    let q = begins i.store (told i.store.sheet c.settle.new.self.named) i.kept i.meter _ c.new-memo.result c.in-Some-take.ensures.value c.new-memo.ensures.value c.new-memo.ensures.placed in
     let new : KeptSheet = record { stored = i.store; generations = told i.store.sheet c.settle.new.self.named; values = c.into_parts-kept.result.0; counts = c.value-result.new.self.meter } in
     let e = c.value-result.ensures in
     subst (λ (x : KeptSheet). OnOk c.value-result.result ((IsAtHand x c.args.put.now c.args.at → ⊥) → is_kept new c.args.at (reaching x.stored.sheet c.args.at c.args.put.now) ≡ true)) view
@@ -98,7 +98,7 @@ returns-clause-owes c =
     let i = c.self.inside in
     let view = settled_view {s = i.store} c.in_ok-settle.ensures.named i.kept i.meter c.args.self.now c.self.view_is in
     let o : circular i.store.sheet c.args.at ≡ false = sym (c.is_circular.ensures i.store.sheet c.self.invariant.1) ∙ c.if-is_circular.false in
-    let q = begins i.store (told i.store.sheet c.settle.new.self.named) i.kept i.meter _ c.new-memo.result c.in-Some-take.ensures.value c.new-memo.ensures.value c.new-memo.ensures.within c.new-memo.ensures.one_each in
+    let q = begins i.store (told i.store.sheet c.settle.new.self.named) i.kept i.meter _ c.new-memo.result c.in-Some-take.ensures.value c.new-memo.ensures.value c.new-memo.ensures.placed in
     let has = demands_itself i.store.sheet c.in_ok-world.world c.args.put.now c.args.at o c.in_ok-world.ensures in
     let closed = different_closed i.store.sheet (case_of i.store.sheet c.args.put.now c.args.at) in
     let Has = HasCase i.store.sheet c.in_ok-world.world c.args.at in
@@ -112,14 +112,14 @@ settle-requires-clause-owed c =
     let h = c.self.invariant in
     λ s a. owed_over i.graph.now i.store.sheet s (generation_in i.generations.named) i.generations.owed (noted_in i.generations.named i.generations.noted) h.1 a h.5.owed
 
-pub new-memo-requires-clause-kept_up : goal.new-memo-requires-clause-kept_up
-new-memo-requires-clause-kept_up c =
+pub new-memo-requires-clause-noted : goal.new-memo-requires-clause-noted
+new-memo-requires-clause-noted c =
     let i = c.self.inside in
     let h = c.self.invariant in
-    settled_up i.store.sheet i.store.edits i.generations c.settle.new.self c.in_ok-settle.ensures.named (c.in_ok-settle.ensures.owed i.store.sheet h.1) h.5
-
-pub new-memo-requires-clause-settled : goal.new-memo-requires-clause-settled
-new-memo-requires-clause-settled c = c.in_ok-settle.ensures.settled
+    record {
+      kept_up = settled_up i.store.sheet i.store.edits i.generations c.settle.new.self c.in_ok-settle.ensures.named (c.in_ok-settle.ensures.owed i.store.sheet h.1) h.5;
+      none_owed = c.in_ok-settle.ensures.settled;
+    }
 
 pub returns-in_err-settle-clause-owes : goal.returns-in_err-settle-clause-owes
 returns-in_err-settle-clause-owes c =

@@ -22,7 +22,7 @@ new-memo-requires-clause-right c =
 pub open_entry-result-requires-clause-formula_cell : goal.open_entry-result-requires-clause-formula_cell
 open_entry-result-requires-clause-formula_cell c =
     let i = c.self.inside in
-    let q = begins i.store (told i.store.sheet c.settle.new.self.named) i.kept i.meter _ c.new-memo.result c.in-Some.ensures.value c.new-memo.ensures.value c.new-memo.ensures.within c.new-memo.ensures.one_each in
+    let q = begins i.store (told i.store.sheet c.settle.new.self.named) i.kept i.meter _ c.new-memo.result c.in-Some.ensures.value c.new-memo.ensures.value c.new-memo.ensures.placed in
     let s = i.store.sheet in
     let o = open_cells s c.args.formula_cell c.args.pairs.now c.entry_is_circular.result (c.entry_is_circular.ensures s c.self.invariant.1) c.if-entry_is_circular.false in
     may_be_read q c.args.formula_cell o.0
@@ -30,7 +30,7 @@ open_entry-result-requires-clause-formula_cell c =
 pub open_entry-result-requires-clause-replacing : goal.open_entry-result-requires-clause-replacing
 open_entry-result-requires-clause-replacing c =
     let i = c.self.inside in
-    let q = begins i.store (told i.store.sheet c.settle.new.self.named) i.kept i.meter _ c.new-memo.result c.in-Some.ensures.value c.new-memo.ensures.value c.new-memo.ensures.within c.new-memo.ensures.one_each in
+    let q = begins i.store (told i.store.sheet c.settle.new.self.named) i.kept i.meter _ c.new-memo.result c.in-Some.ensures.value c.new-memo.ensures.value c.new-memo.ensures.placed in
     let s = i.store.sheet in
     let o = open_cells s c.args.formula_cell c.args.pairs.now c.entry_is_circular.result (c.entry_is_circular.ensures s c.self.invariant.1) c.if-entry_is_circular.false in
     λ j x less. may_be_read q (get_or c.args.pairs.now j x).1 (o.1 j x less)
@@ -38,7 +38,7 @@ open_entry-result-requires-clause-replacing c =
 pub invariant_of-self-2 : goal.invariant_of-self-2
 invariant_of-self-2 c =
     let i = c.self.inside in
-    let q = begins i.store (told i.store.sheet c.settle.new.self.named) i.kept i.meter _ c.new-memo.result c.in-Some.ensures.value c.new-memo.ensures.value c.new-memo.ensures.within c.new-memo.ensures.one_each in
+    let q = begins i.store (told i.store.sheet c.settle.new.self.named) i.kept i.meter _ c.new-memo.result c.in-Some.ensures.value c.new-memo.ensures.value c.new-memo.ensures.placed in
     let e = c.open_entry-result.ensures in
     let h = c.self.invariant in (
       refl,
@@ -61,7 +61,7 @@ pub returns-clause-settled : goal.returns-clause-settled
 returns-clause-settled c =
     let i = c.self.inside in
     let view = settled_view {s = i.store} c.in_ok-settle.ensures.named i.kept i.meter c.args.self.now c.self.view_is in
-    let q = begins i.store (told i.store.sheet c.settle.new.self.named) i.kept i.meter _ c.new-memo.result c.in-Some.ensures.value c.new-memo.ensures.value c.new-memo.ensures.within c.new-memo.ensures.one_each in
+    let q = begins i.store (told i.store.sheet c.settle.new.self.named) i.kept i.meter _ c.new-memo.result c.in-Some.ensures.value c.new-memo.ensures.value c.new-memo.ensures.placed in
     let s = i.store.sheet in
     let o = open_cells s c.args.formula_cell c.args.pairs.now c.entry_is_circular.result (c.entry_is_circular.ensures s c.self.invariant.1) c.if-entry_is_circular.false in
     let cases = entry_demanded s c.args.put.now c.args.formula_cell c.args.pairs.now in
@@ -92,7 +92,7 @@ pub returns-clause-owes : goal.returns-clause-owes
 returns-clause-owes c =
     let i = c.self.inside in
     let view = settled_view {s = i.store} c.in_ok-settle.ensures.named i.kept i.meter c.args.self.now c.self.view_is in
-    let q = begins i.store (told i.store.sheet c.settle.new.self.named) i.kept i.meter _ c.new-memo.result c.in-Some.ensures.value c.new-memo.ensures.value c.new-memo.ensures.within c.new-memo.ensures.one_each in
+    let q = begins i.store (told i.store.sheet c.settle.new.self.named) i.kept i.meter _ c.new-memo.result c.in-Some.ensures.value c.new-memo.ensures.value c.new-memo.ensures.placed in
     let s = i.store.sheet in
     let o = open_cells s c.args.formula_cell c.args.pairs.now c.entry_is_circular.result (c.entry_is_circular.ensures s c.self.invariant.1) c.if-entry_is_circular.false in
     let cases = entry_demanded s c.args.put.now c.args.formula_cell c.args.pairs.now in
@@ -109,14 +109,14 @@ settle-requires-clause-owed c =
     let h = c.self.invariant in
     λ s a. owed_over i.graph.now i.store.sheet s (generation_in i.generations.named) i.generations.owed (noted_in i.generations.named i.generations.noted) h.1 a h.5.owed
 
-pub new-memo-requires-clause-kept_up : goal.new-memo-requires-clause-kept_up
-new-memo-requires-clause-kept_up c =
+pub new-memo-requires-clause-noted : goal.new-memo-requires-clause-noted
+new-memo-requires-clause-noted c =
     let i = c.self.inside in
     let h = c.self.invariant in
-    settled_up i.store.sheet i.store.edits i.generations c.settle.new.self c.in_ok-settle.ensures.named (c.in_ok-settle.ensures.owed i.store.sheet h.1) h.5
-
-pub new-memo-requires-clause-settled : goal.new-memo-requires-clause-settled
-new-memo-requires-clause-settled c = c.in_ok-settle.ensures.settled
+    record {
+      kept_up = settled_up i.store.sheet i.store.edits i.generations c.settle.new.self c.in_ok-settle.ensures.named (c.in_ok-settle.ensures.owed i.store.sheet h.1) h.5;
+      none_owed = c.in_ok-settle.ensures.settled;
+    }
 
 pub returns-in_err-settle-clause-owes : goal.returns-in_err-settle-clause-owes
 returns-in_err-settle-clause-owes c =
