@@ -20,6 +20,13 @@ use wi_propagate::Calculator;
 use wi_sessions::same;
 use wi_values::{Address, ErrorKind, Rect, Replacement, Value};
 
+/// The two lists of replacements of a comparison.
+#[derive(Drop)]
+pub struct Sides<'a> {
+    pub first: &'a [Replacement],
+    pub second: &'a [Replacement],
+}
+
 /// Appends a record for each cell of a rectangle whose values under two lists of replacements differ, in row-major order: the
 /// address, the first value, the second, and the second less the first where both are numbers. Each list stands in the order of
 /// its addresses, one for each. On an error the bytes are as before. The calculator is asked twice for each cell; beside that the
@@ -27,21 +34,19 @@ use wi_values::{Address, ErrorKind, Rect, Replacement, Value};
 pub fn push_comparison<C: Calculator>(
     alloc: Global,
     calculator: &mut C,
-    first: &[Replacement],
-    second: &[Replacement],
+    sides: &Sides<'_>,
     area: Rect,
     out: &mut Vec<u8>,
 ) -> Result<(), AllocError>
-    requires first { IsInOrder first.now }
-    requires second { IsInOrder second.now }
+    requires { IsInOrder sides.now.first.now × IsInOrder sides.now.second.now }
     ensures ok { let records = cells_compared
-        (C.stored calculator.old).sheet first.now second.now area in
+        (C.stored calculator.old).sheet sides.now.first.now sides.now.second.now area in
         OnOk result (out.new.items ≡ out.old.items ++ records) }
     ensures err { OnErr result (out.new.items ≡ out.old.items) }
     ensures same { C.stored calculator.new ≡ C.stored calculator.old }
 {
     let before = out.len();
-    let pushed = push_all(alloc, calculator, first, second, area, out);
+    let pushed = push_all(alloc, calculator, sides, area, out);
     if pushed.is_err() {
         out.truncate(before);
     }
@@ -52,22 +57,20 @@ pub fn push_comparison<C: Calculator>(
 fn push_all<C: Calculator>(
     alloc: Global,
     calculator: &mut C,
-    first: &[Replacement],
-    second: &[Replacement],
+    sides: &Sides<'_>,
     area: Rect,
     out: &mut Vec<u8>,
 ) -> Result<(), AllocError>
-    requires first { IsInOrder first.now }
-    requires second { IsInOrder second.now }
+    requires { IsInOrder sides.now.first.now × IsInOrder sides.now.second.now }
     ensures ok { let records = cells_compared
-        (C.stored calculator.old).sheet first.now second.now area in
+        (C.stored calculator.old).sheet sides.now.first.now sides.now.second.now area in
         OnOk result (out.new.items ≡ out.old.items ++ records) }
     ensures kept { StartsWith out.new.items out.old.items }
     ensures same { C.stored calculator.new ≡ C.stored calculator.old }
 {
     let top = area.first().row();
     for row in top..area.last().row() + 1 {
-        push_row(alloc, calculator, first, second, row, area, out)?;
+        push_row(alloc, calculator, sides, row, area, out)?;
     }
     Ok(())
 }
@@ -76,17 +79,15 @@ fn push_all<C: Calculator>(
 fn push_row<C: Calculator>(
     alloc: Global,
     calculator: &mut C,
-    first: &[Replacement],
-    second: &[Replacement],
+    sides: &Sides<'_>,
     row: u32,
     area: Rect,
     out: &mut Vec<u8>,
 ) -> Result<(), AllocError>
-    requires first { IsInOrder first.now }
-    requires second { IsInOrder second.now }
+    requires order { IsInOrder sides.now.first.now × IsInOrder sides.now.second.now }
     requires within { row < rows }
     ensures ok { let compared = cell_compared
-        (C.stored calculator.old).sheet first.now second.now in
+        (C.stored calculator.old).sheet sides.now.first.now sides.now.second.now in
         OnOk result (out.new.items ≡ out.old.items ++ flat_map compared (cells_of_row row area)) }
     ensures kept { StartsWith out.new.items out.old.items }
     ensures same { C.stored calculator.new ≡ C.stored calculator.old }
@@ -94,7 +95,7 @@ fn push_row<C: Calculator>(
     let left = area.first().column();
     for column in left..area.last().column() + 1 {
         let at = Address::at(row, column);
-        push_cell(alloc, calculator, first, second, at, out)?;
+        push_cell(alloc, calculator, sides, at, out)?;
     }
     Ok(())
 }
@@ -103,21 +104,19 @@ fn push_row<C: Calculator>(
 fn push_cell<C: Calculator>(
     alloc: Global,
     calculator: &mut C,
-    first: &[Replacement],
-    second: &[Replacement],
+    sides: &Sides<'_>,
     at: Address,
     out: &mut Vec<u8>,
 ) -> Result<(), AllocError>
-    requires first { IsInOrder first.now }
-    requires second { IsInOrder second.now }
+    requires { IsInOrder sides.now.first.now × IsInOrder sides.now.second.now }
     ensures ok { let compared = cell_compared
-        (C.stored calculator.old).sheet first.now second.now at in
+        (C.stored calculator.old).sheet sides.now.first.now sides.now.second.now at in
         OnOk result (out.new.items ≡ out.old.items ++ compared) }
     ensures kept { StartsWith out.new.items out.old.items }
     ensures same { C.stored calculator.new ≡ C.stored calculator.old }
 {
-    let before = calculator.value(first, at)?;
-    push_compared(alloc, calculator, &before, second, at, out)
+    let before = calculator.value(sides.first, at)?;
+    push_compared(alloc, calculator, &before, sides.second, at, out)
 }
 
 /// Appends the record of a cell with this first value; nothing where its second value is the same. On an error the bytes are

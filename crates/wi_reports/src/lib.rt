@@ -10,7 +10,7 @@ mod table;
 mod texts;
 
 pub use changes::{find_changes, push_changes};
-pub use compare::push_comparison;
+pub use compare::{Sides, push_comparison};
 pub use contents::push_content;
 pub use export::push_export;
 pub use rows::push_rows;

@@ -1,6 +1,6 @@
 //! A data table: the value of a formula cell for each cell of a column, or of a column and a row, in the place of inputs.
 
-ghost use Rattle.std.specs.Prelude.{◌≡◌, ◌++◌, ◌∷◌, ◌&&◌, ℕ, true, [], map, nat_le, IfOk, OnOk, OnErr, string_bytes};
+ghost use Rattle.std.specs.Prelude.{◌≡◌, ◌++◌, ◌∷◌, ◌&&◌, ℕ, true, [], map, nat_le, OnOk, OnErr, string_bytes};
 ghost use Rattle.std.specs.List.{flat_map};
 ghost use Rattle.std.specs.Io.{StartsWith};
 ghost use Rattle.wi_values.specs.Address.{row_of, cells_of, cells_of_row};

@@ -15,34 +15,41 @@ use crate::refusal::Refusal;
 use crate::views::is_missing;
 use std::alloc::{AllocError, Global};
 use wi_propagate::Calculator;
-use wi_reports::push_comparison;
+use wi_reports::{Sides, push_comparison};
 use wi_scenario_list::Scenarios;
 use wi_values::Rect;
+
+/// The names of the two scenarios of a comparison; none is the sheet as it stands.
+#[derive(Drop)]
+pub(crate) struct Compared<'a> {
+    pub first: Option<&'a str>,
+    pub second: Option<&'a str>,
+}
 
 /// Appends a record for each cell of a rectangle whose values under two scenarios differ. The work is that of `push_comparison`.
 pub(crate) fn compare<C: Calculator>(
     alloc: Global,
     calculator: &mut C,
     desk: &Desk,
-    first: Option<&str>,
-    second: Option<&str>,
+    compared: &Compared<'_>,
     area: Rect,
     out: &mut Vec<u8>,
 ) -> Result<(), Refusal>
     requires { IsSound C.marked (C.stored calculator.old) desk.now }
     ensures step { let old = state_of (C.stored calculator.old) desk.now in
         (records : List ℕ) × (out.new.items ≡ out.old.items ++ records)
-        × Serves (λ a. compare_step old (option_copied first.entry) (option_copied second.entry)
-        area ≡ a) result old (state_of (C.stored calculator.new) desk.now) records }
+        × Serves (λ a. compare_step old (option_copied compared.now.first)
+        (option_copied compared.now.second) area ≡ a)
+        result old (state_of (C.stored calculator.new) desk.now) records }
     ensures same { C.stored calculator.new ≡ C.stored calculator.old }
 {
     if is_too_large(area) {
         return Err(Refusal::TooLarge);
     }
-    if lacks_either(&desk.scenarios, first, second) {
+    if lacks_either(&desk.scenarios, compared) {
         return Err(Refusal::NoScenario);
     }
-    push_differences(alloc, calculator, desk, first, second, area, out)?;
+    push_differences(alloc, calculator, desk, compared, area, out)?;
     Ok(())
 }
 
@@ -51,26 +58,29 @@ fn push_differences<C: Calculator>(
     alloc: Global,
     calculator: &mut C,
     desk: &Desk,
-    first: Option<&str>,
-    second: Option<&str>,
+    compared: &Compared<'_>,
     area: Rect,
     out: &mut Vec<u8>,
 ) -> Result<(), AllocError>
     ensures ok { let under = effective desk.now.scenarios in
         OnOk result (out.new.items ≡ out.old.items ++ cells_compared (C.stored calculator.old).sheet
-        (under (option_copied first.entry)) (under (option_copied second.entry)) area) }
+        (under (option_copied compared.now.first)) (under (option_copied compared.now.second)) area) }
     ensures err { OnErr result (out.new.items ≡ out.old.items) }
     ensures same { C.stored calculator.new ≡ C.stored calculator.old }
 {
-    let before = desk.scenarios.effective(first)?;
-    let after = desk.scenarios.effective(second)?;
-    push_comparison(alloc, calculator, &before, &after, area, out)
+    let before = desk.scenarios.effective(compared.first)?;
+    let after = desk.scenarios.effective(compared.second)?;
+    let sides = Sides {
+        first: &before,
+        second: &after,
+    };
+    push_comparison(alloc, calculator, &sides, area, out)
 }
 
 /// Whether one of two scenarios is named that isn't there.
-fn lacks_either(scenarios: &Scenarios, first: Option<&str>, second: Option<&str>) -> bool
-    ensures { result ≡ (lacks scenarios.now (option_copied first.entry)
-        || lacks scenarios.now (option_copied second.entry)) }
+fn lacks_either(scenarios: &Scenarios, compared: &Compared<'_>) -> bool
+    ensures { result ≡ (lacks scenarios.now (option_copied compared.now.first)
+        || lacks scenarios.now (option_copied compared.now.second)) }
 {
-    is_missing(scenarios, first) || is_missing(scenarios, second)
+    is_missing(scenarios, compared.first) || is_missing(scenarios, compared.second)
 }

@@ -1,6 +1,6 @@
 //! The command `csv`: puts the fields of a CSV text into cells.
 
-ghost use Rattle.std.specs.Prelude.{◌≡◌, [], OnErr};
+ghost use Rattle.std.specs.Prelude.{◌≡◌, OnErr};
 ghost use Rattle.wi_scenarios.specs.Answer.{ServesData};
 ghost use Rattle.wi_scenarios.specs.Csv.{IsCsvStep, imported_cells};
 ghost use Rattle.wi_scenarios.specs.Pending.{AddsOnly};

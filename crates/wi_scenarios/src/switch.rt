@@ -2,8 +2,7 @@
 
 ghost use Rattle.std.specs.Prelude.{◌≡◌, ◌≢◌, ◌<◌, ℕ, length, [], OnOk, OnErr};
 ghost use Rattle.wi_values.specs.Replacements.{IsInOrder};
-ghost use Rattle.wi_scenario_list.specs.Inner.Chains.{effective};
-ghost use Rattle.wi_sessions.specs.Roster.{session_at, pending_of, vacant_of};
+ghost use Rattle.wi_sessions.specs.Roster.{pending_of, vacant_of};
 ghost use Rattle.wi_scenarios.specs.Pending.{AddsOnly};
 ghost use Rattle.wi_scenarios.specs.Inner.Held.{state_of, pending_in, IsSound};
 ghost use Rattle.wi_scenarios.specs.Inner.Switch.{HasRoom, HasRoomFor};

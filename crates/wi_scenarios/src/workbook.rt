@@ -20,7 +20,7 @@ ghost use Rattle.wi_scenarios.specs.Pending.{AddsOnly, SameForOthers, SameCounts
 use crate::base::base;
 use crate::changes::changes;
 use crate::clear::clear;
-use crate::compare::compare;
+use crate::compare::{Compared, compare};
 use crate::csv::import;
 use crate::desk::Desk;
 use crate::drop::drop;
@@ -344,12 +344,15 @@ impl<C: Calculator> Workbook<C> {
             (option_map bytes_of second.entry) area)) result self.old.state self.new.state records }
         ensures pending { self.new.pending ≡ self.old.pending }
     {
+        let compared = Compared {
+            first: as_text(first),
+            second: as_text(second),
+        };
         compare(
             self.alloc,
             &mut self.calculator,
             &self.desk,
-            as_text(first),
-            as_text(second),
+            &compared,
             area,
             out,
         )

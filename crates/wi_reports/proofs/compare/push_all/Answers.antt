@@ -11,7 +11,7 @@ loop-row-preserved g c =
     record {
       within = omega arith;
       same = c.in_ok-push_row.ensures.same ∙ old.same;
-      written = one_more_row (λ s. cell_compared s.sheet c.args.first.now c.args.second.now) _ _ c.args.area top (row - top) (row + 1 - top) row _ _ _ (omega arith) (omega arith) old.same old.written c.in_ok-push_row.ensures.ok;
+      written = one_more_row (λ s. cell_compared s.sheet c.args.sides.now.first.now c.args.sides.now.second.now) _ _ c.args.area top (row - top) (row + 1 - top) row _ _ _ (omega arith) (omega arith) old.same old.written c.in_ok-push_row.ensures.ok;
       kept = starts_with_trans _ _ _ c.in_ok-push_row.ensures.kept old.kept;
     }
 
@@ -21,18 +21,15 @@ returns-clause-ok g c =
     let top = c.row-top.result in
     let last = c.row-row-end.result in
     let row = c.loop-row.row in
-    let compared = cell_compared (g.C.Calculator.stored c.args.calculator.now).sheet c.args.first.now c.args.second.now in
+    let compared = cell_compared (g.C.Calculator.stored c.args.calculator.now).sheet c.args.sides.now.first.now c.args.sides.now.second.now in
     all_rows (λ rs. flat_map compared (flat_map (λ r. cells_of_row r area) rs)) area _ top _ last (row - top) _ _
     c.first.ensures c.row-top.ensures.value c.last.ensures c.row-row-end.ensures.value (omega arith) c.loop-row.invariant.written
 
 pub loop-row-init : goal.loop-row-init
 loop-row-init g c = grind (arith, common_steps)
 
-pub push_row-requires-clause-first : goal.push_row-requires-clause-first
-push_row-requires-clause-first g c = c.requires.first
-
-pub push_row-requires-clause-second : goal.push_row-requires-clause-second
-push_row-requires-clause-second g c = c.requires.second
+pub push_row-requires-clause-order : goal.push_row-requires-clause-order
+push_row-requires-clause-order g c = c.requires
 
 pub returns-in_err-push_row-clause-kept : goal.returns-in_err-push_row-clause-kept
 returns-in_err-push_row-clause-kept g c = starts_with_trans _ _ _ c.in_err-push_row.ensures.kept c.loop-row.invariant.kept

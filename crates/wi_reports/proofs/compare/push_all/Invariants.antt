@@ -9,6 +9,6 @@ invariant-loop-row g l =
     record {
       within : l.row ≤ l.top + (l.row-end - l.top);
       same : stored l.calculator ≡ stored l.fn.calculator;
-      written : l.out.items ≡ l.fn.out.items ++ flat_map (cell_compared (stored l.fn.calculator).sheet l.fn.first l.fn.second) (rows_from l.area l.top (l.row - l.top));
+      written : l.out.items ≡ l.fn.out.items ++ flat_map (cell_compared (stored l.fn.calculator).sheet l.fn.sides.first.now l.fn.sides.second.now) (rows_from l.area l.top (l.row - l.top));
       kept : StartsWith l.out.items l.fn.out.items;
     }

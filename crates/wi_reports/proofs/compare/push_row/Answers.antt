@@ -10,7 +10,7 @@ loop-column-preserved g c =
     record {
       within = omega arith;
       same = c.in_ok-push_cell.ensures.same ∙ old.same;
-      written = one_cell (λ s. cell_compared s.sheet c.args.first.now c.args.second.now) _ _ c.args.row left (column - left) (column + 1 - left) column c.at-at.result _ _ _ (omega arith) (omega arith) old.same c.at-at.ensures old.written c.in_ok-push_cell.ensures.ok;
+      written = one_cell (λ s. cell_compared s.sheet c.args.sides.now.first.now c.args.sides.now.second.now) _ _ c.args.row left (column - left) (column + 1 - left) column c.at-at.result _ _ _ (omega arith) (omega arith) old.same c.at-at.ensures old.written c.in_ok-push_cell.ensures.ok;
       kept = starts_with_trans _ _ _ c.in_ok-push_cell.ensures.kept old.kept;
     }
 
@@ -19,17 +19,14 @@ returns-clause-ok g c =
     let left = c.column-left.result in
     let last = c.column-column-end.result in
     let column = c.loop-column.column in
-    all_cells (cell_compared (g.C.Calculator.stored c.args.calculator.now).sheet c.args.first.now c.args.second.now) c.args.area c.args.row _ left _ last (column - left) _ _
+    all_cells (cell_compared (g.C.Calculator.stored c.args.calculator.now).sheet c.args.sides.now.first.now c.args.sides.now.second.now) c.args.area c.args.row _ left _ last (column - left) _ _
     c.first.ensures c.column-left.ensures.value c.last.ensures c.column-column-end.ensures.value (omega arith) c.loop-column.invariant.written
 
 pub loop-column-init : goal.loop-column-init
 loop-column-init g c = grind (arith, common_steps)
 
-pub push_cell-requires-clause-first : goal.push_cell-requires-clause-first
-push_cell-requires-clause-first g c = c.requires.first
-
-pub push_cell-requires-clause-second : goal.push_cell-requires-clause-second
-push_cell-requires-clause-second g c = c.requires.second
+pub push_cell-requires : goal.push_cell-requires
+push_cell-requires g c = c.requires.order
 
 pub returns-in_err-push_cell-clause-kept : goal.returns-in_err-push_cell-clause-kept
 returns-in_err-push_cell-clause-kept g c = starts_with_trans _ _ _ c.in_err-push_cell.ensures.kept c.loop-column.invariant.kept

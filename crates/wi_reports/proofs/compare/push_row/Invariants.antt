@@ -9,6 +9,6 @@ invariant-loop-column g l =
     record {
       within : l.column ≤ l.left + (l.column-end - l.left);
       same : stored l.calculator ≡ stored l.fn.calculator;
-      written : l.out.items ≡ l.fn.out.items ++ flat_map (cell_compared (stored l.fn.calculator).sheet l.fn.first l.fn.second) (cells_in l.row l.left (l.column - l.left));
+      written : l.out.items ≡ l.fn.out.items ++ flat_map (cell_compared (stored l.fn.calculator).sheet l.fn.sides.first.now l.fn.sides.second.now) (cells_in l.row l.left (l.column - l.left));
       kept : StartsWith l.out.items l.fn.out.items;
     }

@@ -1,4 +1,4 @@
-use Rattle.wi_scenarios.proofs.Words.{◌≡◌, ◌∙◌, Some, [], ◌∷◌, refl, sym, rules, state_of}
+use Rattle.wi_scenarios.proofs.Words.{◌∙◌, Some, [], ◌∷◌, refl, sym, state_of}
 use Rattle.wi_scenarios.proofs.SetLemmas.{set_empty, set_refused, set_edited, one_cell_edit}
 use Rattle.wi_scenarios.proofs.set.set.Goals as goal
 
