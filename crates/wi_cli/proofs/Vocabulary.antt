@@ -6,7 +6,6 @@ pub use Rattle.std.proofs.Math.Bool.{or-false, or-true}
 pub use Rattle.std.proofs.Math.Seq.{drop-append_seam, take-add, take-append-add, take-append_seam}
 pub use Rattle.std.proofs.lemmas.Bool.{and_parts, both_ways, cases_lt, eqb-true, false_from_ne_true, false≢true, le-leb, le-ltb, leb-true, lt-ltb, ltb-false, ltb-true, ne_eqb, not-false, or_cases, or_parts}
 pub use Rattle.std.proofs.lemmas.Bool.Decides.{nat_tests}
-pub use Rattle.std.proofs.lemmas.Grind.{common_steps}
 pub use Rattle.std.proofs.lemmas.Iterator.{YieldsList-from_slice}
 pub use Rattle.std.proofs.lemmas.Iterator.Search.{all_from_yields_List}
 pub use Rattle.std.proofs.lemmas.List.{append_cancel_left, drop-take, drop_all, drop_more, get_or-take, get_or_default, length-drop, length-take, nil_from_length, take-append-drop, take-append-le, take_all, take_at, take_min, take_rest}
@@ -102,7 +101,6 @@ pub use Rattle.wi_scenario_list.specs.Inner.Chains.{chain, effective}
 pub use Rattle.wi_scenario_list.specs.Scenarios.{has_scenario, is_full, is_named, scenario_for, with_own, without_own, without_scenario}
 pub use Rattle.wi_scenarios.proofs.RecordLemmas.{records_tell_list}
 pub use Rattle.wi_scenarios.proofs.RunLemmas.{new_is_coherent}
-pub use Rattle.wi_scenarios.proofs.ScenarioLemmas.{taken_served}
 pub use Rattle.wi_scenarios.proofs.SetLemmas.{rect_cell}
 pub use Rattle.wi_scenarios.proofs.StaleLemmas.{refused_so, stale_exactly}
 pub use Rattle.wi_scenarios.proofs.StepLemmas.{an_answer, no_other}

@@ -1,10 +1,6 @@
 //! What a line is answered.
 
 ghost use Rattle.std.specs.Prelude.{◌≡◌, ◌++◌, [], List, ℕ};
-ghost use Rattle.wi_values.specs.Name.{bytes_of};
-ghost use Rattle.wi_scenarios.specs.Answer.{Serves};
-ghost use Rattle.wi_scenarios.specs.Step as step;
-ghost use Rattle.wi_scenarios.specs.Step.{IsStep};
 ghost use Rattle.wi_cli.specs.Inner.Script.{line_command};
 ghost use Rattle.wi_cli.specs.Inner.Spelling.{command_of};
 ghost use Rattle.wi_cli.specs.Inner.Told.{IsServed, Told};
@@ -13,24 +9,6 @@ use crate::command::{Command, read_line_command};
 use crate::reply::Reply;
 use wi_propagate::Calculator;
 use wi_scenarios::{Refusal, Workbook};
-use wi_values::{Address, Name};
-
-/// Puts a replacement into a scenario, or takes it away where the content is empty.
-fn replace<C: Calculator>(
-    book: &mut Workbook<C>,
-    name: Name<'_>,
-    at: Address,
-    content: &str,
-) -> Result<(), Refusal>
-    ensures { Serves (IsStep book.old.state (step.Scenario (bytes_of name.entry) at content.now))
-        result book.old.state book.new.state [] }
-{
-    if content.is_empty() {
-        book.scenario_clear(name, at)
-    } else {
-        book.scenario_set(name, at, content)
-    }
-}
 
 /// Does a command, and appends its records.
 fn execute<C: Calculator>(
@@ -45,7 +23,7 @@ fn execute<C: Calculator>(
         Command::Set { force, at, content } => book.set(at, content, force),
         Command::Clear { force, area } => book.clear(area, force),
         Command::Fill { force, from, area } => book.fill(from, area, force),
-        Command::Scenario { name, at, content } => replace(book, name, at, content),
+        Command::Scenario { name, at, content } => book.scenario_set(name, at, content),
         Command::Drop { name } => book.scenario_drop(name),
         Command::Base { name, other } => book.scenario_base(name, other),
         Command::Use { name } => book.use_scenario(name),

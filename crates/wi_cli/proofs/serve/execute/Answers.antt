@@ -11,7 +11,7 @@ pub returns-in-Fill : goal.returns-in-Fill
 returns-in-Fill g c = served_alone _ _ _ _ _ _ c.in-Fill.is c.fill.ensures.step tt
 
 pub returns-in-Scenario : goal.returns-in-Scenario
-returns-in-Scenario g c = served_alone _ _ _ _ _ _ c.in-Scenario.is c.replace.ensures tt
+returns-in-Scenario g c = served_alone _ _ _ _ _ _ c.in-Scenario.is c.scenario_set.ensures.step tt
 
 pub returns-in-Drop : goal.returns-in-Drop
 returns-in-Drop g c = served_alone _ _ _ _ _ _ c.in-Drop.is c.scenario_drop.ensures.step c.scenario_drop.ensures.no_memory
