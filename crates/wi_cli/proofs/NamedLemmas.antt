@@ -32,12 +32,12 @@ abbrev pub compare_words : List ℕ → List ℕ → List ℕ → Command
 compare_words one two area = of_name (read_side one) (λ s. of_name (read_side two) (λ t. of_operand (read_rect area) (λ cells. Compare s t cells)))
 
 -- its three words are the operands, and none is left
-pub compared : (text one behind two behind' area more : List ℕ) (ended : Bool) (r : Result ReadCommand Refusal) → one ≡ first_word text → behind ≡ after_word text
-    → two ≡ first_word behind → behind' ≡ after_word behind → area ≡ first_word behind' → more ≡ after_word behind' → ended ≡ is_all_spaces more → ended ≡ true
+pub compared : (text one behind two behind' area : List ℕ) (r : Result ReadCommand Refusal) → one ≡ first_word text → behind ≡ after_word text
+    → two ≡ first_word behind → behind' ≡ after_word behind → is_all_spaces (after_word behind') ≡ true → area ≡ first_word behind'
     → IsCommandOf (compare_words one two area) r → IsCommandOf (compare_command text) r
-compared text one behind two behind' area more ended r o b t b' a m e is h =
+compared text one behind two behind' area r o b t b' e a h =
     let b'' : behind' ≡ after_word (after_word text) = b' ∙ ap after_word b in
-    let none : is_all_spaces (after_word (after_word (after_word text))) ≡ true = sym (ap is_all_spaces (m ∙ ap after_word b'')) ∙ sym e ∙ is in
+    let none : is_all_spaces (after_word (after_word (after_word text))) ≡ true = sym (ap (λ x. is_all_spaces (after_word x)) b'') ∙ e in
     let words : compare_words one two area ≡ compare_words (first_word text) (first_word (after_word text)) (first_word (after_word (after_word text))) =
     ap (λ x. compare_words x two area) o ∙ ap (λ x. compare_words (first_word text) x area) (t ∙ ap first_word b)
     ∙ ap (compare_words (first_word text) (first_word (after_word text))) (a ∙ ap first_word b'') in

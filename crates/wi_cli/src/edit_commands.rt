@@ -6,7 +6,7 @@ ghost use Rattle.wi_cli.specs.Inner.EditCommands.{set_command, clear_command, fi
 ghost use Rattle.wi_cli.specs.Inner.Spelling.{IsCommandOf};
 
 use crate::command::Command;
-use crate::words::{is_all_spaces, split_word};
+use crate::words::{only_word, split_word};
 use wi_scenarios::Refusal;
 use wi_values::{Address, AddressFault, Rect};
 
@@ -50,11 +50,7 @@ pub(crate) fn read_set(force: bool, operands: &str) -> Result<Command<'_>, Refus
 fn read_clear(force: bool, operands: &str) -> Result<Command<'_>, Refusal>
     ensures { IsCommandOf (clear_command force operands.now) result }
 {
-    let (area, more) = split_word(operands);
-    if !is_all_spaces(more) {
-        return Err(Refusal::BadCommand);
-    }
-    let area = Rect::read(area.as_bytes())?;
+    let area = Rect::read(only_word(operands)?.as_bytes())?;
     Ok(Command::Clear { force, area })
 }
 
@@ -63,10 +59,7 @@ fn read_fill(force: bool, operands: &str) -> Result<Command<'_>, Refusal>
     ensures { IsCommandOf (fill_command force operands.now) result }
 {
     let (from, others) = split_word(operands);
-    let (area, more) = split_word(others);
-    if !is_all_spaces(more) {
-        return Err(Refusal::BadCommand);
-    }
+    let area = only_word(others)?;
     filled(
         force,
         Address::read(from.as_bytes()),

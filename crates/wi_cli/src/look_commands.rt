@@ -8,7 +8,7 @@ ghost use Rattle.wi_cli.specs.Inner.Spelling.{IsCommandOf};
 
 use crate::command::Command;
 use crate::names::read_side;
-use crate::words::{is_all_spaces, split_word};
+use crate::words::{is_all_spaces, only_word, split_word};
 use wi_scenarios::Refusal;
 use wi_values::{Address, Rect};
 
@@ -16,11 +16,7 @@ use wi_values::{Address, Rect};
 pub(crate) fn read_show(operands: &str) -> Result<Command<'_>, Refusal>
     ensures { IsCommandOf (show_command operands.now) result }
 {
-    let (area, more) = split_word(operands);
-    if !is_all_spaces(more) {
-        return Err(Refusal::BadCommand);
-    }
-    let area = Rect::read(area.as_bytes())?;
+    let area = Rect::read(only_word(operands)?.as_bytes())?;
     Ok(Command::Show { area })
 }
 
@@ -28,11 +24,7 @@ pub(crate) fn read_show(operands: &str) -> Result<Command<'_>, Refusal>
 pub(crate) fn read_export(operands: &str) -> Result<Command<'_>, Refusal>
     ensures { IsCommandOf (export_command operands.now) result }
 {
-    let (area, more) = split_word(operands);
-    if !is_all_spaces(more) {
-        return Err(Refusal::BadCommand);
-    }
-    let area = Rect::read(area.as_bytes())?;
+    let area = Rect::read(only_word(operands)?.as_bytes())?;
     Ok(Command::Export { area })
 }
 
@@ -52,10 +44,7 @@ pub(crate) fn read_compare(operands: &str) -> Result<Command<'_>, Refusal>
 {
     let (first, others) = split_word(operands);
     let (second, others) = split_word(others);
-    let (area, more) = split_word(others);
-    if !is_all_spaces(more) {
-        return Err(Refusal::BadCommand);
-    }
+    let area = only_word(others)?;
     compare_of(first, second, area)
 }
 
@@ -78,10 +67,6 @@ fn compare_of<'a>(first: &'a str, second: &'a str, area: &str) -> Result<Command
 pub(crate) fn read_formula(operands: &str) -> Result<Command<'_>, Refusal>
     ensures { IsCommandOf (formula_command operands.now) result }
 {
-    let (address, others) = split_word(operands);
-    if !is_all_spaces(others) {
-        return Err(Refusal::BadCommand);
-    }
-    let at = Address::read(address.as_bytes())?;
+    let at = Address::read(only_word(operands)?.as_bytes())?;
     Ok(Command::Formula { at })
 }

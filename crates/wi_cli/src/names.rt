@@ -4,7 +4,7 @@ ghost use Rattle.wi_values.specs.Name.{read_name};
 ghost use Rattle.wi_cli.specs.Inner.Operands.{only_name, name_or_none, read_side};
 ghost use Rattle.wi_cli.specs.Inner.Spelling.{IsNameOf, IsNameOrNoneOf};
 
-use crate::words::{is_all_spaces, split_word};
+use crate::words::{is_all_spaces, only_word};
 use wi_scenarios::Refusal;
 use wi_values::Name;
 
@@ -22,11 +22,7 @@ pub(crate) fn read_name(word: &str) -> Result<Name<'_>, Refusal>
 pub(crate) fn only_name(words: &str) -> Result<Name<'_>, Refusal>
     ensures { IsNameOf (only_name words.now) result }
 {
-    let (word, more) = split_word(words);
-    if !is_all_spaces(more) {
-        return Err(Refusal::BadCommand);
-    }
-    read_name(word)
+    read_name(only_word(words)?)
 }
 
 /// The name that is the only word, or none where there is no word.

@@ -6,7 +6,7 @@ ghost use Rattle.wi_cli.specs.Inner.Spelling.{IsCommandOf};
 
 use crate::command::Command;
 use crate::operands::{column_fault, row_fault, worse};
-use crate::words::{is_all_spaces, split_word};
+use crate::words::{is_all_spaces, only_word, split_word};
 use wi_scenarios::Refusal;
 use wi_values::{Address, AddressFault, Rect};
 
@@ -42,10 +42,7 @@ fn table_behind(
         return table_of_one(formula_cell, input, column);
     }
     let (second, others) = split_word(more);
-    let (row, others) = split_word(others);
-    if !is_all_spaces(others) {
-        return Err(Refusal::BadCommand);
-    }
+    let row = only_word(others)?;
     table_of_two(
         formula_cell,
         input,

@@ -1,8 +1,11 @@
 //! The words of a line.
 
-ghost use Rattle.std.specs.Prelude.{◌≡◌};
+ghost use Rattle.std.specs.Prelude.{◌≡◌, true, false, MatchResult};
+ghost use Rattle.wi_scenarios.specs.declared.refusal.Refusal.TheVariants.{BadCommand};
 ghost use Rattle.wi_cli.specs.Lines.{first_word, after_word, skip_spaces};
 ghost use Rattle.wi_cli.specs.Inner.Operands.{is_all_spaces};
+
+use wi_scenarios::Refusal;
 
 /// The text without the spaces that it begins with.
 fn skip_spaces(text: &str) -> &str
@@ -28,4 +31,17 @@ pub(crate) fn is_all_spaces(text: &str) -> bool
     ensures { result ≡ is_all_spaces text.now }
 {
     text.bytes().all(|byte| byte == b' ')
+}
+
+/// The only word.
+pub(crate) fn only_word(words: &str) -> Result<&str, Refusal>
+    ensures { MatchResult result
+        (λ word. (is_all_spaces (after_word words.now) ≡ true) × (word.now ≡ first_word words.now))
+        (λ e. (is_all_spaces (after_word words.now) ≡ false) × (e ≡ BadCommand)) }
+{
+    let (word, more) = split_word(words);
+    if !is_all_spaces(more) {
+        return Err(Refusal::BadCommand);
+    }
+    Ok(word)
 }
