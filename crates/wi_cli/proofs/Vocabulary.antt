@@ -42,7 +42,7 @@ pub use Rattle.wi_cli.specs.Inner.Data.{AddedTo, BrokeData, HoldsLines, IsCsv, T
 pub use Rattle.wi_cli.specs.Inner.EditCommands.{clear_command, edit_command, fill_command, fill_command_of, set_command}
 pub use Rattle.wi_cli.specs.Inner.Front.{AppendsFront}
 pub use Rattle.wi_cli.specs.Inner.LookCommands.{changes_command, compare_command, export_command, formula_command, show_command}
-pub use Rattle.wi_cli.specs.Inner.Operands.{at_end, column_fault, is_all_spaces, name_or_none, of_name, of_operand, only_name, read_side, row_fault, worse}
+pub use Rattle.wi_cli.specs.Inner.Operands.{at_end, column_fault, is_all_spaces, name_or_none, of_name, of_operand, only_name, read_side, row_fault, unless_refused, worse}
 pub use Rattle.wi_cli.specs.Inner.Reading.{Broke, CanRead, HasStopped, TookLine, TookPart, raw}
 unfoldable pub use Rattle.wi_cli.specs.Inner.Reading.{line_front}
 pub use Rattle.wi_cli.specs.Inner.Reply.{reply, told_cell}
@@ -54,7 +54,7 @@ pub use Rattle.wi_cli.specs.Inner.ScenarioCommands.{as_command, base_command, dr
 pub use Rattle.wi_cli.specs.Inner.Script.{block_command, command_with, commands, is_comment, named_command, text_command, whole_lines}
 unfoldable pub use Rattle.wi_cli.specs.Inner.Script.{all_commands, complete_commands, line_command, spelled_command}
 pub use Rattle.wi_cli.specs.Inner.Spelling.{IsCommandOf, IsLineOf, command_of}
-pub use Rattle.wi_cli.specs.Inner.TableCommand.{table_command, table_of_one, table_of_two, unless_refused}
+pub use Rattle.wi_cli.specs.Inner.TableCommand.{table_command, table_of_one, table_of_two}
 pub use Rattle.wi_cli.specs.Inner.Taken.{AreBlocks, AreBlocksOf, AreWhole, BrokeLines, TookLines}
 pub use Rattle.wi_cli.specs.Inner.Told.{IsServed, RefusedAs, Told, told_bytes}
 pub use Rattle.wi_cli.specs.Inner.Turn.{BrokeBlock, Stopped, TookBlock, Turned}

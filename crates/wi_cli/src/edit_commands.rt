@@ -6,6 +6,7 @@ ghost use Rattle.wi_cli.specs.Inner.EditCommands.{set_command, clear_command, fi
 ghost use Rattle.wi_cli.specs.Inner.Spelling.{IsCommandOf};
 
 use crate::command::Command;
+use crate::operands::worse;
 use crate::words::{only_word, split_word};
 use wi_scenarios::Refusal;
 use wi_values::{Address, AddressFault, Rect};
@@ -67,7 +68,7 @@ fn read_fill(force: bool, operands: &str) -> Result<Command<'_>, Refusal>
     )
 }
 
-/// `fill` of these operands. The wrong shape of either comes before a cell outside the sheet.
+/// `fill` of these operands.
 fn filled<'a>(
     force: bool,
     from: Result<Address, AddressFault>,
@@ -75,10 +76,12 @@ fn filled<'a>(
 ) -> Result<Command<'a>, Refusal>
     ensures { IsCommandOf (fill_command_of force from area) result }
 {
-    match (from, area) {
-        (Ok(from), Ok(area)) => Ok(Command::Fill { force, from, area }),
-        (Err(AddressFault::Outside), Err(fault)) => Err(Refusal::from(fault)),
-        (Err(fault), _) => Err(Refusal::from(fault)),
-        (Ok(_), Err(fault)) => Err(Refusal::from(fault)),
+    if let Some(fault) = worse(from.err(), area.err()) {
+        return Err(Refusal::from(fault));
     }
+    Ok(Command::Fill {
+        force,
+        from: from?,
+        area: area?,
+    })
 }

@@ -1,15 +1,14 @@
 -- The commands that edit the sheet. They may be forced.
-use Rattle.std.specs.Prelude.{ℕ, Bool, ◌==◌, List, length, Result, Ok, Err, if◌then◌else◌, codes}
+use Rattle.std.specs.Prelude.{ℕ, Bool, ◌==◌, List, length, Result, if◌then◌else◌, codes}
+use Rattle.std.specs.Result.{result_err}
 use Rattle.std.specs.Str.{bytes_eq}
 use Rattle.wi_values.specs.Address.{Area}
 use Rattle.wi_values.specs.AddressReading.{read_address, read_rect}
 use Rattle.wi_values.specs.declared.address.AddressFault.{AddressFault}
-use Rattle.wi_values.specs.declared.address.AddressFault.TheVariants.{Shape, Outside}
 use Rattle.wi_scenarios.specs.declared.refusal.Refusal.TheVariants.{BadCommand}
-use Rattle.wi_scenarios.specs.Answer.{operand_refusal}
 use Rattle.wi_scenarios.specs.Step.{Command, Set, Clear, Fill, Refused}
 use Rattle.wi_cli.specs.Lines.{first_word, after_word}
-use Rattle.wi_cli.specs.Inner.Operands.{at_end, of_operand}
+use Rattle.wi_cli.specs.Inner.Operands.{at_end, of_operand, worse, unless_refused}
 
 -- `set ADDR CONTENT`; CONTENT is all after the one space that follows ADDR
 abbrev pub set_command : Bool → List ℕ → Command
@@ -21,13 +20,9 @@ set_command force operands =
 abbrev pub clear_command : Bool → List ℕ → Command
 clear_command force operands = at_end (after_word operands) (of_operand (read_rect (first_word operands)) (λ area. Clear force area))
 
--- the wrong shape of either operand comes before a cell outside the sheet
 abbrev pub fill_command_of : Bool → Result ℕ AddressFault → Result Area AddressFault → Command
-fill_command_of force (Ok from) (Ok area) = Fill force from area
-fill_command_of force (Ok from) (Err fault) = Refused (operand_refusal fault)
-fill_command_of force (Err Shape) area = Refused (operand_refusal Shape)
-fill_command_of force (Err Outside) (Ok area) = Refused (operand_refusal Outside)
-fill_command_of force (Err Outside) (Err fault) = Refused (operand_refusal fault)
+fill_command_of force from area =
+    unless_refused (worse (result_err from) (result_err area)) (of_operand from (λ from. of_operand area (λ area. Fill force from area)))
 
 -- `fill ADDR RECT`
 abbrev pub fill_command : Bool → List ℕ → Command

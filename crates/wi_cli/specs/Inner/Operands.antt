@@ -43,6 +43,11 @@ worse (Some Shape) other = Some Shape
 worse (Some Outside) None = Some Outside
 worse (Some Outside) (Some fault) = Some fault
 
+-- the command, unless an operand is refused
+abbrev pub unless_refused : Option AddressFault → Command → Command
+unless_refused None command = command
+unless_refused (Some fault) command = Refused (operand_refusal fault)
+
 -- ---- names
 
 -- a command of what is named, where it is a name

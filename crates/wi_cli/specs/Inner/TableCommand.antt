@@ -1,18 +1,12 @@
 -- The command `table`.
-use Rattle.std.specs.Prelude.{ℕ, List, Option, Some, None, Result, if◌then◌else◌}
+use Rattle.std.specs.Prelude.{ℕ, List, Some, None, Result, if◌then◌else◌}
 use Rattle.std.specs.Result.{result_err}
 use Rattle.wi_values.specs.Address.{Area}
 use Rattle.wi_values.specs.AddressReading.{read_address, read_rect}
 use Rattle.wi_values.specs.declared.address.AddressFault.{AddressFault}
-use Rattle.wi_scenarios.specs.Answer.{operand_refusal}
-use Rattle.wi_scenarios.specs.Step.{Command, Table, Refused}
+use Rattle.wi_scenarios.specs.Step.{Command, Table}
 use Rattle.wi_cli.specs.Lines.{first_word, after_word}
-use Rattle.wi_cli.specs.Inner.Operands.{at_end, of_operand, column_fault, row_fault, worse, is_all_spaces}
-
--- the command, unless an operand is refused
-abbrev pub unless_refused : Option AddressFault → Command → Command
-unless_refused None command = command
-unless_refused (Some fault) command = Refused (operand_refusal fault)
+use Rattle.wi_cli.specs.Inner.Operands.{at_end, of_operand, column_fault, row_fault, worse, unless_refused, is_all_spaces}
 
 abbrev pub table_of_one : Result ℕ AddressFault → Result ℕ AddressFault → Result Area AddressFault → Command
 table_of_one f r xs =
