@@ -42,7 +42,7 @@ pub use Rattle.wi_cli.specs.Inner.Data.{AddedTo, BrokeData, HoldsLines, IsCsv, T
 pub use Rattle.wi_cli.specs.Inner.EditCommands.{clear_command, edit_command, fill_command, fill_command_of, set_command}
 pub use Rattle.wi_cli.specs.Inner.Front.{AppendsFront}
 pub use Rattle.wi_cli.specs.Inner.LookCommands.{changes_command, compare_command, export_command, formula_command, show_command}
-pub use Rattle.wi_cli.specs.Inner.Operands.{at_end, column_fault, is_all_spaces, name_or_none, of_name, of_operand, only_name, read_side, row_fault, unless_refused, worse}
+pub use Rattle.wi_cli.specs.Inner.Operands.{at_end, is_all_spaces, line_fault, name_or_none, of_name, of_operand, only_name, read_side, unless_refused, worse}
 pub use Rattle.wi_cli.specs.Inner.Reading.{Broke, CanRead, HasStopped, TookLine, TookPart, raw}
 unfoldable pub use Rattle.wi_cli.specs.Inner.Reading.{line_front}
 pub use Rattle.wi_cli.specs.Inner.Reply.{reply, told_cell}

@@ -1,29 +1,20 @@
 //! The operands of commands.
 
-ghost use Rattle.std.specs.Prelude.{◌≡◌};
-ghost use Rattle.wi_cli.specs.Inner.Operands.{column_fault, row_fault, worse};
+ghost use Rattle.std.specs.Prelude.{◌≡◌, if◌then◌else◌};
+ghost use Rattle.wi_reports.specs.Inner.Shape.{is_column, is_row};
+ghost use Rattle.wi_cli.specs.Inner.Operands.{line_fault, worse};
 
 use wi_values::{AddressFault, Rect};
 
-/// Why a rectangle that is to be one column is refused, if it is.
-pub(crate) fn column_fault(area: Result<Rect, AddressFault>) -> Option<AddressFault>
-    ensures { result ≡ column_fault area }
+/// Why a rectangle that is to be one column, if it is to stand upright, or else one row, is refused, if it is.
+pub(crate) fn line_fault(area: Result<Rect, AddressFault>, upright: bool) -> Option<AddressFault>
+    ensures { result ≡ line_fault (if upright then is_column else is_row) area }
 {
-    match area {
-        Ok(area) if area.first().column() == area.last().column() => None,
-        Ok(_) => Some(AddressFault::Shape),
-        Err(fault) => Some(fault),
-    }
-}
-
-/// Why a rectangle that is to be one row is refused, if it is.
-pub(crate) fn row_fault(area: Result<Rect, AddressFault>) -> Option<AddressFault>
-    ensures { result ≡ row_fault area }
-{
-    match area {
-        Ok(area) if area.first().row() == area.last().row() => None,
-        Ok(_) => Some(AddressFault::Shape),
-        Err(fault) => Some(fault),
+    match (area, upright) {
+        (Ok(area), true) if area.first().column() == area.last().column() => None,
+        (Ok(area), false) if area.first().row() == area.last().row() => None,
+        (Ok(_), _) => Some(AddressFault::Shape),
+        (Err(fault), _) => Some(fault),
     }
 }
 

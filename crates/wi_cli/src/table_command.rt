@@ -5,7 +5,7 @@ ghost use Rattle.wi_cli.specs.Inner.TableCommand.{table_of_one, table_of_two, ta
 ghost use Rattle.wi_cli.specs.Inner.Spelling.{IsCommandOf};
 
 use crate::command::Command;
-use crate::operands::{column_fault, row_fault, worse};
+use crate::operands::{line_fault, worse};
 use crate::words::{is_all_spaces, only_word, split_word};
 use wi_scenarios::Refusal;
 use wi_values::{Address, AddressFault, Rect};
@@ -60,7 +60,8 @@ fn table_of_one<'a>(
 ) -> Result<Command<'a>, Refusal>
     ensures { IsCommandOf (table_of_one formula_cell input column) result }
 {
-    let fault = worse(formula_cell.err(), worse(input.err(), column_fault(column)));
+    let fault = line_fault(column, true);
+    let fault = worse(formula_cell.err(), worse(input.err(), fault));
     if let Some(fault) = fault {
         return Err(Refusal::from(fault));
     }
@@ -81,7 +82,8 @@ fn table_of_two<'a>(
 ) -> Result<Command<'a>, Refusal>
     ensures { IsCommandOf (table_of_two formula_cell input column second row) result }
 {
-    let others = worse(column_fault(column), worse(second.err(), row_fault(row)));
+    let others = worse(second.err(), line_fault(row, false));
+    let others = worse(line_fault(column, true), others);
     let fault = worse(formula_cell.err(), worse(input.err(), others));
     if let Some(fault) = fault {
         return Err(Refusal::from(fault));

@@ -1,5 +1,5 @@
 -- What holds of commands one after another, by the laws over the calls of a workbook.
-use Rattle.wi_cli.proofs.Vocabulary.{◌≡◌, ◌≢◌, ◌↔◌, ◌==◌, ◌-◌, ◌&&◌, ◌++◌, ◌⊎◌, inl, inr, ℕ, Bool, true, false, cond, List, [], ◌∷◌, length, map, Option, Some, None, Result, Ok, Err, refl, sym, ap, ap₂, ◌∙◌, subst, append-nil, list_any, list_all, concat, result_err, and_parts, both_ways, false≢true, append_cancel_left, none-some, Area, AddressFault, Shape, Value, Entry, value_in, Refusal, State, session_at, shown_to, change_list, left_by, IsCoherent, with_lists, unseen, IsFirstNewer, counts_before, is_refused_before, stale_exactly, refused_so, records_tell_list, of_operand, worse, column_fault, row_fault, fill_command_of, unless_refused, table_of_one, table_of_two, is_long, csv_command, Bytes, Command, Set, Clear, Fill, Csv, Scenario, Drop, Base, Use, As, Show, Export, Compare, Table, Formula, Changes, Unknown, Unreadable, named, is_forced, Cause, BadLine, BadCommand, CutShort, Outside, TooLarge, NoScenario, InUse, TooMany, BadField, TooLong, OutOfSheet, NumberRange, TooDeep, Syntax, LeavesSheet, Stale, Loop, Full, EditLimit, Holds, stale_cell, Does, Answer, Tells, IsStep, causes, IsFirstOf, was, read_cell, read_corners, read_any, Event, MayHappen, MayFollow, state_after, StaysCoherent, KeepsApart, is_accepted_changes, is_told, lists_told, last_shown, ListsAddUp, RecordsTellList, logged_by, edits_in, edits_since, LogGrows, StaleIsNewer, ForcedIsNotStale}
+use Rattle.wi_cli.proofs.Vocabulary.{◌≡◌, ◌≢◌, ◌↔◌, ◌==◌, ◌-◌, ◌&&◌, ◌++◌, ◌⊎◌, inl, inr, ℕ, Bool, true, false, cond, List, [], ◌∷◌, length, map, Option, Some, None, Result, Ok, Err, refl, sym, ap, ap₂, ◌∙◌, subst, append-nil, list_any, list_all, concat, result_err, and_parts, both_ways, false≢true, append_cancel_left, none-some, Area, AddressFault, Shape, Value, Entry, value_in, Refusal, State, session_at, shown_to, change_list, left_by, IsCoherent, with_lists, unseen, IsFirstNewer, counts_before, is_refused_before, stale_exactly, refused_so, records_tell_list, of_operand, worse, line_fault, is_column, is_row, fill_command_of, unless_refused, table_of_one, table_of_two, is_long, csv_command, Bytes, Command, Set, Clear, Fill, Csv, Scenario, Drop, Base, Use, As, Show, Export, Compare, Table, Formula, Changes, Unknown, Unreadable, named, is_forced, Cause, BadLine, BadCommand, CutShort, Outside, TooLarge, NoScenario, InUse, TooMany, BadField, TooLong, OutOfSheet, NumberRange, TooDeep, Syntax, LeavesSheet, Stale, Loop, Full, EditLimit, Holds, stale_cell, Does, Answer, Tells, IsStep, causes, IsFirstOf, was, read_cell, read_corners, read_any, Event, MayHappen, MayFollow, state_after, StaysCoherent, KeepsApart, is_accepted_changes, is_told, lists_told, last_shown, ListsAddUp, RecordsTellList, logged_by, edits_in, edits_since, LogGrows, StaleIsNewer, ForcedIsNotStale}
 use Rattle.wi_values.specs.declared.address.AddressFault.TheVariants.{Outside as AtOutside}
 use Rattle.wi_scenarios.specs.declared.refusal.Refusal.TheVariants as refusal
 use Rattle.wi_scenarios.specs.Step as old
@@ -80,13 +80,13 @@ module _ (done : State × Bytes) where
 
   by_one : (f r : Result ℕ AddressFault) (xs : Result Area AddressFault) → TellsNothing (table_of_one f r xs)
   by_one f r xs =
-      by_table (worse (result_err f) (worse (result_err r) (column_fault xs))) (of_operand f (λ f. of_operand r (λ r. of_operand xs (λ xs. old.Table f r xs None))))
+      by_table (worse (result_err f) (worse (result_err r) (line_fault is_column xs))) (of_operand f (λ f. of_operand r (λ r. of_operand xs (λ xs. old.Table f r xs None))))
       (by_operand f (λ f. of_operand r (λ r. of_operand xs (λ xs. old.Table f r xs None)))
       (λ f. by_operand r (λ r. of_operand xs (λ xs. old.Table f r xs None)) (λ r. by_operand xs (λ xs. old.Table f r xs None) (λ xs. refl))))
 
   by_two : (f r : Result ℕ AddressFault) (xs : Result Area AddressFault) (c : Result ℕ AddressFault) (ys : Result Area AddressFault) → TellsNothing (table_of_two f r xs c ys)
   by_two f r xs c ys =
-      by_table (worse (result_err f) (worse (result_err r) (worse (column_fault xs) (worse (result_err c) (row_fault ys)))))
+      by_table (worse (result_err f) (worse (result_err r) (worse (line_fault is_column xs) (worse (result_err c) (line_fault is_row ys)))))
       (of_operand f (λ f. of_operand r (λ r. of_operand xs (λ xs. of_operand c (λ c. of_operand ys (λ ys. old.Table f r xs (Some (c, ys))))))))
       (by_operand f (λ f. of_operand r (λ r. of_operand xs (λ xs. of_operand c (λ c. of_operand ys (λ ys. old.Table f r xs (Some (c, ys)))))))
       (λ f. by_operand r (λ r. of_operand xs (λ xs. of_operand c (λ c. of_operand ys (λ ys. old.Table f r xs (Some (c, ys))))))

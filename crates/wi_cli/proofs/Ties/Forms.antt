@@ -1,5 +1,5 @@
 -- For each name the operands that are spelled behind it, and the command that was read there.
-use Rattle.wi_cli.proofs.Vocabulary.{◌≡◌, ℕ, Bool, true, false, ◌==◌, ◌||◌, List, [], ◌∷◌, length, ◌⊎◌, inl, inr, Option, Some, None, Result, Ok, Err, option_map, if◌then◌else◌, refl, sym, ap, ap₂, ◌∙◌, result_err, both_ways, Area, read_address, read_rect, is_name, read_name, AddressFault, Shape, first_word, after_word, Bytes, at_end, of_operand, of_name, only_name, name_or_none, read_side, column_fault, row_fault, is_all_spaces, set_command, fill_command, fill_command_of, scenario_command, base_command, use_command, changes_command, compare_command, formula_command, table_command, table_of_one, table_of_two, Cell, Corners, Operand, ADDR, RECT, NAME, SIDE, CONTENT, IsAddr, IsRect, IsSpelled, IsWritten, Set, Fill, Scenario, Base, Use, Compare, Table, Formula, Changes, was, read_cell, read_corners}
+use Rattle.wi_cli.proofs.Vocabulary.{◌≡◌, ℕ, Bool, true, false, ◌==◌, ◌||◌, List, [], ◌∷◌, length, ◌⊎◌, inl, inr, Option, Some, None, Result, Ok, Err, option_map, if◌then◌else◌, refl, sym, ap, ap₂, ◌∙◌, result_err, both_ways, Area, read_address, read_rect, is_name, read_name, AddressFault, Shape, first_word, after_word, Bytes, at_end, of_operand, of_name, only_name, name_or_none, read_side, line_fault, is_column, is_row, is_all_spaces, set_command, fill_command, fill_command_of, scenario_command, base_command, use_command, changes_command, compare_command, formula_command, table_command, table_of_one, table_of_two, Cell, Corners, Operand, ADDR, RECT, NAME, SIDE, CONTENT, IsAddr, IsRect, IsSpelled, IsWritten, Set, Fill, Scenario, Base, Use, Compare, Table, Formula, Changes, was, read_cell, read_corners}
 use Rattle.wi_values.specs.declared.address.AddressFault.TheVariants.{Outside}
 use Rattle.wi_scenarios.specs.declared.refusal.Refusal.TheVariants as refusal
 use Rattle.wi_scenarios.specs.Step as old
@@ -368,13 +368,13 @@ module _ (text : Bytes) where
   bad_r = is_shape (result_err (read_address second_word))
 
   abbrev bad_xs : Bool
-  bad_xs = is_shape (column_fault (read_rect third_word))
+  bad_xs = is_shape (line_fault is_column (read_rect third_word))
 
   abbrev bad_c : Bool
   bad_c = is_shape (result_err (read_address (first_word more)))
 
   abbrev bad_ys : Bool
-  bad_ys = is_shape (row_fault (read_rect (first_word (after_word more))))
+  bad_ys = is_shape (line_fault is_row (read_rect (first_word (after_word more))))
 
   one_bad : is_all_spaces more ≡ true → (bad_f ≡ true) ⊎ ((bad_r ≡ true) ⊎ (bad_xs ≡ true)) → table_command text ≡ old.Refused refusal.BadCommand
   one_bad e h = by_more true e ∙ one_is_bad (read_address (first_word text)) (read_address second_word) (read_rect third_word) (third_is bad_f bad_r bad_xs h)
@@ -396,7 +396,7 @@ module _ (text : Bytes) where
   one_or e (inr bad) r xs = inr (λ x h. no_addr (first_word text) x.0 bad h.0, one_bad e (inl (shape_of _ bad)))
   one_or e (inl f) (inr bad) xs = inr (λ x h. no_addr second_word x.1 bad h.1.0, one_bad e (inr (inl (shape_of _ bad))))
   one_or e (inl f) (inl r) (inr bad) =
-      inr (λ x h. no_rect third_word x.2 bad h.1.1.0, one_bad e (inr (inr (ap (λ (x : Result Area AddressFault). is_shape (column_fault x)) bad))))
+      inr (λ x h. no_rect third_word x.2 bad h.1.1.0, one_bad e (inr (inr (ap (λ (x : Result Area AddressFault). is_shape (line_fault is_column x)) bad))))
   one_or e (inl f) (inl r) (inl xs) = inl ((f.0, r.0, xs.0, None), (f.1, (r.1, (xs.1, e))))
 
   -- nothing is spelled behind the column, if there are words
@@ -408,13 +408,13 @@ module _ (text : Bytes) where
   two_or e g (inr bad) r xs c ys = inr (λ x h. no_addr (first_word text) x.0 bad h.0, two_bad e g (inl (shape_of _ bad)))
   two_or e g (inl f) (inr bad) xs c ys = inr (λ x h. no_addr second_word x.1 bad h.1.0, two_bad e g (inr (inl (shape_of _ bad))))
   two_or e g (inl f) (inl r) (inr bad) c ys =
-      inr (λ x h. no_rect third_word x.2 bad h.1.1.0, two_bad e g (inr (inr (inl (ap (λ (x : Result Area AddressFault). is_shape (column_fault x)) bad)))))
+      inr (λ x h. no_rect third_word x.2 bad h.1.1.0, two_bad e g (inr (inr (inl (ap (λ (x : Result Area AddressFault). is_shape (line_fault is_column x)) bad)))))
   two_or e g (inl f) (inl r) (inl xs) (inr bad) ys =
       inr (λ x h. none_more e (λ y k. no_addr (first_word more) y.0 bad k.0) x.3 h.1.1.1, two_bad e g (inr (inr (inr (inl (shape_of _ bad))))))
   two_or e g (inl f) (inl r) (inl xs) (inl c) (inr bad) =
       inr (
         λ x h. none_more e (λ y k. no_rect (first_word (after_word more)) y.1 bad k.1.0) x.3 h.1.1.1,
-        two_bad e g (inr (inr (inr (inr (ap (λ (x : Result Area AddressFault). is_shape (row_fault x)) bad))))),
+        two_bad e g (inr (inr (inr (inr (ap (λ (x : Result Area AddressFault). is_shape (line_fault is_row x)) bad))))),
       )
   two_or e g (inl f) (inl r) (inl xs) (inl c) (inl ys) = inl ((f.0, r.0, xs.0, Some (c.0, ys.0)), (f.1, (r.1, (xs.1, (c.1, (ys.1, g))))))
 

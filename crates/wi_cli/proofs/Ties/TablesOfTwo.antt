@@ -1,5 +1,5 @@
 -- The step of `table` with two inputs.
-use Rattle.wi_cli.proofs.Vocabulary.{◌≡◌, ◌<◌, ◌*◌, ℕ, min, max, Bool, true, false, not, ◌||◌, ◌&&◌, ◌==◌, nat_lt, List, [], ◌∷◌, Option, Some, None, Result, if◌then◌else◌, refl, sym, ap, ◌∙◌, subst, arith, list_any, result_err, or_parts, both_ways, or-false, Area, columns, place, row_of, column_of, size_of, AddressFault, Shape, row_of_place, column_of_place, State, max_area, current_replacements, table_of, is_column, is_row, of_operand, worse, column_fault, row_fault, unless_refused, table_of_one, table_of_two, Cell, Corners, is_outside, address, area, Bytes, Command, Table, Cause, BadCommand, Outside, TooLarge, NoScenario, Stale, Full, EditLimit, Holds, Answer, causes, SameStep, read_by, read_cell, read_corners, was}
+use Rattle.wi_cli.proofs.Vocabulary.{◌≡◌, ◌<◌, ◌*◌, ℕ, min, max, Bool, true, false, not, ◌||◌, ◌&&◌, ◌==◌, nat_lt, List, [], ◌∷◌, Option, Some, None, Result, if◌then◌else◌, refl, sym, ap, ◌∙◌, subst, arith, list_any, result_err, or_parts, both_ways, or-false, Area, columns, place, row_of, column_of, size_of, AddressFault, Shape, row_of_place, column_of_place, State, max_area, current_replacements, table_of, is_column, is_row, of_operand, worse, line_fault, unless_refused, table_of_one, table_of_two, Cell, Corners, is_outside, address, area, Bytes, Command, Table, Cause, BadCommand, Outside, TooLarge, NoScenario, Stale, Full, EditLimit, Holds, Answer, causes, SameStep, read_by, read_cell, read_corners, was}
 use Rattle.wi_values.specs.declared.address.AddressFault.TheVariants.{Outside as AtOutside}
 use Rattle.wi_scenarios.specs.declared.refusal.Refusal.TheVariants as refusal
 use Rattle.wi_scenarios.specs.Step as old
@@ -58,27 +58,18 @@ cell_out : (b : Bool) (a : ℕ) → is_out (result_err (read_by b a)) ≡ b
 cell_out true a = refl
 cell_out false a = refl
 
-column_shape : (b line : Bool) (a : Area) → (b ≡ false → is_column a ≡ line) → is_shape (column_fault (read_by b a)) ≡ (not b && not line)
-column_shape true line a e = refl
-column_shape false true a e = rw (e refl) refl
-column_shape false false a e = rw (e refl) refl
-
-row_shape : (b line : Bool) (a : Area) → (b ≡ false → is_row a ≡ line) → is_shape (row_fault (read_by b a)) ≡ (not b && not line)
-row_shape true line a e = refl
-row_shape false true a e = rw (e refl) refl
-row_shape false false a e = rw (e refl) refl
+line_shape : (is_line : Area → Bool) (b line : Bool) (a : Area) → (b ≡ false → is_line a ≡ line) → is_shape (line_fault is_line (read_by b a)) ≡ (not b && not line)
+line_shape is_line true line a e = refl
+line_shape is_line false true a e = rw (e refl) refl
+line_shape is_line false false a e = rw (e refl) refl
 
 shape_out : (v : Bool) → is_out (if v then None else Some Shape) ≡ false
 shape_out true = refl
 shape_out false = refl
 
-column_out : (b : Bool) (a : Area) → is_out (column_fault (read_by b a)) ≡ b
-column_out true a = refl
-column_out false a = shape_out (is_column a)
-
-row_out : (b : Bool) (a : Area) → is_out (row_fault (read_by b a)) ≡ b
-row_out true a = refl
-row_out false a = shape_out (is_row a)
+line_out : (is_line : Area → Bool) (b : Bool) (a : Area) → is_out (line_fault is_line (read_by b a)) ≡ b
+line_out is_line true a = refl
+line_out is_line false a = shape_out (is_line a)
 
 -- ---- rows
 
@@ -133,15 +124,15 @@ module _ (s : State) (f r : Cell) (xs : Corners) (c : Cell) (ys : Corners) where
   cells = size_of (area xs) * (size_of (area ys) * 1)
 
   abbrev faults : List (Option AddressFault)
-  faults = result_err (read_cell f) ∷ result_err (read_cell r) ∷ column_fault (read_corners xs) ∷ result_err (read_cell c) ∷ row_fault (read_corners ys) ∷ []
+  faults = result_err (read_cell f) ∷ result_err (read_cell r) ∷ line_fault is_column (read_corners xs) ∷ result_err (read_cell c) ∷ line_fault is_row (read_corners ys) ∷ []
 
   shapes : list_any is_shape faults ≡ bent
   shapes =
       let a = cell_shape (is_outside f) (address f) in
       let b = cell_shape (is_outside r) (address r) in
-      let d = column_shape outside_xs (xs.0.column == xs.1.column) (area xs) (column_is s f r xs) in
+      let d = line_shape is_column outside_xs (xs.0.column == xs.1.column) (area xs) (column_is s f r xs) in
       let e = cell_shape (is_outside c) (address c) in
-      let g = row_shape outside_ys (ys.0.row == ys.1.row) (area ys) (row_is ys) in
+      let g = line_shape is_row outside_ys (ys.0.row == ys.1.row) (area ys) (row_is ys) in
       by _ _ _ _ _ _ _ a b d e g
     where
       by : (p q x y z u v : Bool) → p ≡ false → q ≡ false → x ≡ u → y ≡ false → z ≡ v → (p || (q || (x || (y || (z || false))))) ≡ (u || v)
@@ -152,8 +143,8 @@ module _ (s : State) (f r : Cell) (xs : Corners) (c : Cell) (ys : Corners) where
 
   outs : list_any is_out faults ≡ out
   outs =
-      by _ _ _ _ _ _ _ _ _ _ (cell_out (is_outside f) (address f)) (cell_out (is_outside r) (address r)) (column_out outside_xs (area xs)) (cell_out (is_outside c) (address c))
-      (row_out outside_ys (area ys))
+      by _ _ _ _ _ _ _ _ _ _ (cell_out (is_outside f) (address f)) (cell_out (is_outside r) (address r)) (line_out is_column outside_xs (area xs)) (cell_out (is_outside c) (address c))
+      (line_out is_row outside_ys (area ys))
     where
       by : (p q x y z p' q' x' y' z' : Bool) → p ≡ p' → q ≡ q' → x ≡ x' → y ≡ y' → z ≡ z' → (p || (q || (x || (y || (z || false))))) ≡ (p' || (q' || (x' || (y' || (z' || false)))))
       by p q x y z p' q' x' y' z' a b d e g =
@@ -167,8 +158,8 @@ module _ (s : State) (f r : Cell) (xs : Corners) (c : Cell) (ys : Corners) where
 
   was_is : (o : Option AddressFault) → worst faults ≡ o → was table ≡ unless_refused o command
   was_is o e =
-      ap (λ (y : Option AddressFault). unless_refused (worse (result_err (read_cell f)) (worse (result_err (read_cell r)) (worse (column_fault (read_corners xs)) (worse (result_err (read_cell c)) y)))) command)
-      (last_one (row_fault (read_corners ys)))
+      ap (λ (y : Option AddressFault). unless_refused (worse (result_err (read_cell f)) (worse (result_err (read_cell r)) (worse (line_fault is_column (read_corners xs)) (worse (result_err (read_cell c)) y)))) command)
+      (last_one (line_fault is_row (read_corners ys)))
       ∙ ap (λ (w : Option AddressFault). unless_refused w command) e
 
   abbrev table_test : Cause → Bool
@@ -261,12 +252,12 @@ module _ (s : State) (f r : Cell) (xs : Corners) where
   one_out = is_outside f || (is_outside r || ((is_outside xs.0 || is_outside xs.1) || false))
 
   abbrev one_faults : List (Option AddressFault)
-  one_faults = result_err (read_cell f) ∷ result_err (read_cell r) ∷ column_fault (read_corners xs) ∷ []
+  one_faults = result_err (read_cell f) ∷ result_err (read_cell r) ∷ line_fault is_column (read_corners xs) ∷ []
 
   one_shapes : list_any is_shape one_faults ≡ one_bent
   one_shapes =
       by _ _ _ _ (cell_shape (is_outside f) (address f)) (cell_shape (is_outside r) (address r))
-      (column_shape (is_outside xs.0 || is_outside xs.1) (xs.0.column == xs.1.column) (area xs) (column_is s f r xs))
+      (line_shape is_column (is_outside xs.0 || is_outside xs.1) (xs.0.column == xs.1.column) (area xs) (column_is s f r xs))
     where
       by : (p q x u : Bool) → p ≡ false → q ≡ false → x ≡ u → (p || (q || (x || false))) ≡ u
       by true q x u a b d = absurd (both_ways true a refl)
@@ -274,7 +265,7 @@ module _ (s : State) (f r : Cell) (xs : Corners) where
       by false false x u a b d = or-false x ∙ d
 
   one_outs : list_any is_out one_faults ≡ one_out
-  one_outs = by _ _ _ _ _ _ (cell_out (is_outside f) (address f)) (cell_out (is_outside r) (address r)) (column_out (is_outside xs.0 || is_outside xs.1) (area xs))
+  one_outs = by _ _ _ _ _ _ (cell_out (is_outside f) (address f)) (cell_out (is_outside r) (address r)) (line_out is_column (is_outside xs.0 || is_outside xs.1) (area xs))
     where
       by : (p q x p' q' x' : Bool) → p ≡ p' → q ≡ q' → x ≡ x' → (p || (q || (x || false))) ≡ (p' || (q' || (x' || false)))
       by p q x p' q' x' a b d =
@@ -285,7 +276,7 @@ module _ (s : State) (f r : Cell) (xs : Corners) where
 
   one_was : (o : Option AddressFault) → worst one_faults ≡ o → was one ≡ unless_refused o one_command
   one_was o e =
-      ap (λ (y : Option AddressFault). unless_refused (worse (result_err (read_cell f)) (worse (result_err (read_cell r)) y)) one_command) (last_one (column_fault (read_corners xs)))
+      ap (λ (y : Option AddressFault). unless_refused (worse (result_err (read_cell f)) (worse (result_err (read_cell r)) y)) one_command) (last_one (line_fault is_column (read_corners xs)))
       ∙ ap (λ (w : Option AddressFault). unless_refused w one_command) e
 
   pub one_was_bent : one_bent ≡ true → was one ≡ old.Refused refusal.BadCommand
@@ -304,16 +295,16 @@ module _ (s : State) (f r : Cell) (xs : Corners) where
 
 -- ---- operands of the wrong shape
 
-pub one_is_bad : (f r : Result ℕ AddressFault) (xs : Result Area AddressFault) → list_any is_shape (result_err f ∷ result_err r ∷ column_fault xs ∷ []) ≡ true
+pub one_is_bad : (f r : Result ℕ AddressFault) (xs : Result Area AddressFault) → list_any is_shape (result_err f ∷ result_err r ∷ line_fault is_column xs ∷ []) ≡ true
     → table_of_one f r xs ≡ old.Refused refusal.BadCommand
 one_is_bad f r xs h =
     let command : old.Command = of_operand f (λ f. of_operand r (λ r. of_operand xs (λ xs. old.Table f r xs None))) in
-    ap (λ (y : Option AddressFault). unless_refused (worse (result_err f) (worse (result_err r) y)) command) (last_one (column_fault xs))
-    ∙ ap (λ (w : Option AddressFault). unless_refused w command) (shape_first (result_err f ∷ result_err r ∷ column_fault xs ∷ []) h)
+    ap (λ (y : Option AddressFault). unless_refused (worse (result_err f) (worse (result_err r) y)) command) (last_one (line_fault is_column xs))
+    ∙ ap (λ (w : Option AddressFault). unless_refused w command) (shape_first (result_err f ∷ result_err r ∷ line_fault is_column xs ∷ []) h)
 
 pub two_is_bad : (f r : Result ℕ AddressFault) (xs : Result Area AddressFault) (c : Result ℕ AddressFault) (ys : Result Area AddressFault)
-    → list_any is_shape (result_err f ∷ result_err r ∷ column_fault xs ∷ result_err c ∷ row_fault ys ∷ []) ≡ true → table_of_two f r xs c ys ≡ old.Refused refusal.BadCommand
+    → list_any is_shape (result_err f ∷ result_err r ∷ line_fault is_column xs ∷ result_err c ∷ line_fault is_row ys ∷ []) ≡ true → table_of_two f r xs c ys ≡ old.Refused refusal.BadCommand
 two_is_bad f r xs c ys h =
     let command : old.Command = of_operand f (λ f. of_operand r (λ r. of_operand xs (λ xs. of_operand c (λ c. of_operand ys (λ ys. old.Table f r xs (Some (c, ys))))))) in
-    ap (λ (y : Option AddressFault). unless_refused (worse (result_err f) (worse (result_err r) (worse (column_fault xs) (worse (result_err c) y)))) command) (last_one (row_fault ys))
-    ∙ ap (λ (w : Option AddressFault). unless_refused w command) (shape_first (result_err f ∷ result_err r ∷ column_fault xs ∷ result_err c ∷ row_fault ys ∷ []) h)
+    ap (λ (y : Option AddressFault). unless_refused (worse (result_err f) (worse (result_err r) (worse (line_fault is_column xs) (worse (result_err c) y)))) command) (last_one (line_fault is_row ys))
+    ∙ ap (λ (w : Option AddressFault). unless_refused w command) (shape_first (result_err f ∷ result_err r ∷ line_fault is_column xs ∷ result_err c ∷ line_fault is_row ys ∷ []) h)

@@ -6,7 +6,6 @@ use Rattle.wi_values.specs.Address.{Area}
 use Rattle.wi_values.specs.Name.{read_name}
 use Rattle.wi_values.specs.declared.address.AddressFault.{AddressFault}
 use Rattle.wi_values.specs.declared.address.AddressFault.TheVariants.{Shape, Outside}
-use Rattle.wi_reports.specs.Inner.Shape.{is_column, is_row}
 use Rattle.wi_scenarios.specs.declared.refusal.Refusal.TheVariants.{BadCommand}
 use Rattle.wi_scenarios.specs.Answer.{operand_refusal}
 use Rattle.wi_scenarios.specs.Step.{Command, Refused}
@@ -28,13 +27,9 @@ of_operand (Ok x) command = command x
 of_operand (Err fault) command = Refused (operand_refusal fault)
 
 -- why a rectangle that is to be one column, or one row, is refused, if it is
-abbrev pub column_fault : Result Area AddressFault → Option AddressFault
-column_fault (Ok area) = if is_column area then None else Some Shape
-column_fault (Err fault) = Some fault
-
-abbrev pub row_fault : Result Area AddressFault → Option AddressFault
-row_fault (Ok area) = if is_row area then None else Some Shape
-row_fault (Err fault) = Some fault
+abbrev pub line_fault : (Area → Bool) → Result Area AddressFault → Option AddressFault
+line_fault is_line (Ok area) = if is_line area then None else Some Shape
+line_fault is_line (Err fault) = Some fault
 
 -- of two operands: the wrong form of either comes before a cell outside the sheet
 abbrev pub worse : Option AddressFault → Option AddressFault → Option AddressFault
