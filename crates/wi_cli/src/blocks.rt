@@ -1,6 +1,6 @@
 //! The blocks of a script: a line, and the data lines that it takes.
 
-ghost use Rattle.std.specs.Prelude.{◌≡◌, ◌≤◌, [], List, ℕ, Option, MatchResult, vec_capacity};
+ghost use Rattle.std.specs.Prelude.{◌≡◌, ◌≤◌, [], Option, MatchResult, vec_capacity};
 ghost use Rattle.wi_scenarios.specs.Step.{Command};
 ghost use Rattle.wi_cli.specs.Lines.{max_lines};
 ghost use Rattle.wi_cli.specs.Inner.Reading.{CanRead, ReadsOn};

@@ -1,6 +1,6 @@
 //! The lines of a source.
 
-ghost use Rattle.std.specs.Prelude.{◌++◌, ◌∷◌, [], List, ℕ, ◌≡◌, ◌+◌, ◌<◌, ◌≤◌, false, true, MatchResult, nat_lt, vec_capacity, if◌then◌else◌};
+ghost use Rattle.std.specs.Prelude.{◌++◌, List, ℕ, ◌≡◌, ◌+◌, ◌≤◌, MatchResult, nat_lt, vec_capacity, if◌then◌else◌};
 ghost use Rattle.wi_cli.specs.Lines.{max_lines};
 ghost use Rattle.wi_cli.specs.Inner.Reading.{CanRead, ReadsOn, TookLine, TookPart, Broke, line_front};
 

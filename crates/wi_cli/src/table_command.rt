@@ -1,6 +1,5 @@
 //! The command `table`, as it is read.
 
-ghost use Rattle.std.specs.Prelude.{◌≡◌};
 ghost use Rattle.wi_cli.specs.Inner.TableCommand.{table_of_one, table_of_two, table_behind, table_command};
 ghost use Rattle.wi_cli.specs.Inner.Spelling.{IsCommandOf};
 

@@ -1,5 +1,5 @@
 -- The outcome of a run is what it was.
-use Rattle.wi_cli.proofs.Vocabulary.{◌≡◌, ◌↔◌, ◌<◌, ℕ, length, true, false, Bool, List, [], ◌∷◌, ◌++◌, map, take, filter, inl, inr, Option, Some, None, Result, Ok, Err, ◌⊎◌, refl, sym, ap, ap₂, ◌∙◌, subst, subst₂, append_assoc, append-nil, false≢true, concat, State, RunFault, Memory, Read, Write, ScriptLimit, raw_lines, is_whole, max_lines, Bytes, commands, all_commands, whole_lines, complete_commands, WritesFrontOfReplies, RunOutcome, limited, Command, AreCommands, Replies, Runs, Writes, Outcome, was, before, HasCommands, SameOutcome}
+use Rattle.wi_cli.proofs.Vocabulary.{◌≡◌, ◌↔◌, ◌<◌, ℕ, length, true, false, Bool, List, [], ◌∷◌, ◌++◌, map, take, filter, inl, inr, Option, Some, None, Result, Ok, Err, ◌⊎◌, refl, sym, ap, ap₂, ◌∙◌, subst, subst₂, append_assoc, append-nil, false≢true, concat, State, RunFault, Memory, Read, Write, ScriptLimit, raw_lines, is_whole, max_lines, Bytes, all_commands, whole_lines, complete_commands, WritesFrontOfReplies, RunOutcome, limited, Command, AreCommands, Replies, Runs, Writes, Outcome, was, before, HasCommands, SameOutcome}
 use Rattle.std.proofs.Common.{option_to_list}
 use Rattle.wi_scenarios.specs.Step as old
 use Rattle.wi_cli.specs.Inner.Run as old_run

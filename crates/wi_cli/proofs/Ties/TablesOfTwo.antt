@@ -1,5 +1,5 @@
 -- The step of `table` with two inputs.
-use Rattle.wi_cli.proofs.Vocabulary.{◌≡◌, ◌<◌, ◌*◌, ℕ, min, max, Bool, true, false, not, ◌||◌, ◌&&◌, ◌==◌, nat_lt, List, [], ◌∷◌, Option, Some, None, Result, if◌then◌else◌, refl, sym, ap, ◌∙◌, subst, arith, list_any, result_err, or_parts, both_ways, or-false, Area, columns, place, row_of, column_of, size_of, AddressFault, Shape, row_of_place, column_of_place, State, max_area, current_replacements, table_of, is_column, is_row, of_operand, worse, line_fault, unless_refused, table_of_one, table_of_two, Cell, Corners, is_outside, address, area, Bytes, Command, Table, Cause, BadCommand, Outside, TooLarge, NoScenario, Stale, Full, EditLimit, Holds, Answer, causes, SameStep, read_by, read_cell, read_corners, was}
+use Rattle.wi_cli.proofs.Vocabulary.{◌≡◌, ◌<◌, ◌*◌, ℕ, min, max, Bool, true, false, not, ◌||◌, ◌&&◌, ◌==◌, nat_lt, List, [], ◌∷◌, Option, Some, None, Result, if◌then◌else◌, refl, sym, ap, ◌∙◌, subst, arith, list_any, result_err, or_parts, both_ways, or-false, Area, columns, row_of, column_of, size_of, AddressFault, Shape, row_of_place, column_of_place, State, max_area, current_replacements, table_of, is_column, is_row, of_operand, worse, line_fault, unless_refused, table_of_one, table_of_two, Cell, Corners, is_outside, address, area, Bytes, Command, Table, Cause, BadCommand, Outside, TooLarge, NoScenario, Stale, Full, EditLimit, Holds, Answer, causes, SameStep, read_by, read_cell, read_corners, was}
 use Rattle.wi_values.specs.declared.address.AddressFault.TheVariants.{Outside as AtOutside}
 use Rattle.wi_scenarios.specs.declared.refusal.Refusal.TheVariants as refusal
 use Rattle.wi_scenarios.specs.Step as old

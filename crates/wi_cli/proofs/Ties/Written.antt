@@ -1,5 +1,5 @@
 -- What a run has written comes of events.
-use Rattle.wi_cli.proofs.Vocabulary.{◌≡◌, List, [], ◌∷◌, ◌++◌, inl, inr, false, Ok, Err, refl, ap, ap₂, ◌∙◌, subst, false≢true, State, left_by, reply, MayAnswer, Bytes, Command, Replies, Answer, was, Writes, Event, MayHappen, AreEvents}
+use Rattle.wi_cli.proofs.Vocabulary.{◌≡◌, List, [], ◌∷◌, ◌++◌, inl, inr, false, Ok, Err, refl, ap, ap₂, ◌∙◌, subst, false≢true, State, left_by, reply, MayAnswer, Bytes, Command, Replies, Answer, was, Writes, MayHappen, AreEvents}
 use Rattle.wi_scenarios.specs.declared.refusal.Refusal.TheVariants as refusal
 use Rattle.wi_cli.specs.Inner.Reply as inner
 use Rattle.wi_cli.proofs.Ties.Steps.{same_step}
