@@ -1,5 +1,5 @@
 -- Generations that are noted late.
-use Rattle.std.specs.Prelude.{◌≡◌, ◌≤◌, ◌++◌, ℕ, max, List, map}
+use Rattle.std.specs.Prelude.{◌≡◌, ◌≤◌, ◌++◌, ℕ, max, List, [], map}
 use Rattle.std.specs.Map.{keys_of}
 use Rattle.wi_parser.specs.Sheet.{Sheet, cells_with_formula}
 use Rattle.wi_graph.specs.Latest.{AreOwed, latest_among}
