@@ -85,10 +85,7 @@ pub fn zero_for_empty(value: Value) -> Value
 {
     match value {
         Value::Empty => Value::Number(zero()),
-        Value::Number(x) => Value::Number(x),
-        Value::Text(t) => Value::Text(t),
-        Value::Logical(b) => Value::Logical(b),
-        Value::Fault(e) => Value::Fault(e),
+        other => other,
     }
 }
 
@@ -108,9 +105,9 @@ fn value_of<L: Lookup>(alloc: Global, expr: &Expr, lookup: &L) -> Result<Value, 
         Expr::Parenthesized(inner) => value_of(alloc, inner, lookup),
         Expr::Signed(sign, inner) => signed_value(alloc, *sign, inner, lookup),
         Expr::Percent(inner) => percent_value(alloc, inner, lookup),
-        Expr::Binary(operator, left, right) => match lent(left, lookup) {
-            Some(x) => with_right_operand(alloc, *operator, x, right, lookup),
-            None => binary_value(alloc, *operator, left, right, lookup),
+        Expr::Binary(operator, operands) => match lent(&operands.0, lookup) {
+            Some(x) => with_right_operand(alloc, *operator, x, &operands.1, lookup),
+            None => binary_value(alloc, *operator, &operands.0, &operands.1, lookup),
         },
         Expr::WhatIf(formula_cell, pairs) => what_if_value(alloc, *formula_cell, pairs, lookup),
         Expr::Call(name, parameters) => call_value(alloc, name, parameters, lookup),

@@ -11,7 +11,8 @@ ghost use Rattle.wi_values.specs.Address.{is_within};
 ghost use Rattle.wi_graph.specs.Inner.Bounds.{AreWithin};
 ghost use Rattle.wi_graph.specs.Inner.Rooms.{items_of, areas_of};
 ghost use Rattle.wi_graph.specs.Inner.Search.{as_set};
-ghost use Rattle.wi_graph.specs.Inner.Turning.{has_one, reads_one_of, meets_one_of, has_room_in, StandsApart};
+ghost use Rattle.wi_graph.specs.Inner.Stripping.{is_in};
+ghost use Rattle.wi_graph.specs.Inner.Turning.{reads_cell, has_one, reads_one_of, meets_one_of, has_room_in, StandsApart};
 
 use crate::bounds::around;
 use crate::cell_set::CellSet;
@@ -20,13 +21,33 @@ use crate::within::{first_listed, next_within};
 use wi_values::{Address, Rect};
 
 /// Whether what is next reads a cell of a cone, which is in row-major order. The work grows with the count of the cone, and is
-/// that of `first_listed` for each rectangle that is read.
+/// that of `first_listed` for each rectangle that is read; of one cell it is a look at each.
 pub(crate) fn closes_cycle(next: &[Brought], cone: &[Address]) -> bool
     requires { IsStrictlyIncreasing cone.now }
     ensures { result ≡ reads_one_of next.now (as_set cone.now) }
 {
+    if let [cell] = cone {
+        return reads_cell(next, *cell);
+    }
     let bounds = around(cone);
     next.iter().any(|entry| reads_one(&entry.1, cone, bounds))
+}
+
+/// Whether what is next reads a cell.
+fn reads_cell(next: &[Brought], cell: Address) -> bool
+    ensures { result ≡ reads_cell next.now cell }
+{
+    next.iter().any(|entry| has_cell(&entry.1, cell))
+}
+
+/// Whether the rectangles of a room have a cell.
+fn has_cell(room: &Option<Rectangles>, cell: Address) -> bool
+    ensures { result ≡ is_in (areas_of (items_of room.now)) cell }
+{
+    match room {
+        Some(areas) => areas.iter().any(|area| area.contains(cell)),
+        None => false,
+    }
 }
 
 /// Whether the rectangles of a room have one of the cells.
@@ -52,6 +73,7 @@ fn has_one(area: Rect, cells: &[Address], bounds: Rect) -> bool
 
 /// Whether what is next is for a circular cell, or reads one. The work is that of `next_within` for each rectangle that is read;
 /// where no cell is circular, it is constant.
+#[inline(always)]
 pub(crate) fn meets_circle(next: &[Brought], circles: &CellSet) -> bool
     ensures { result ≡ meets_one_of next.now circles.now }
 {

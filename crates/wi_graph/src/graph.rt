@@ -8,7 +8,8 @@ ghost use Rattle.wi_tiles.specs.Entries.{IsOrdered};
 ghost use Rattle.wi_parser.specs.Sheet.{Sheet, content_of};
 ghost use Rattle.wi_parser.specs.Reads.{content_reads};
 ghost use Rattle.wi_graph.specs.Circular.{circular};
-ghost use Rattle.wi_graph.specs.Reach.{is_one_of, in_cone};
+ghost use Rattle.wi_values.specs.Address.{is_one_of};
+ghost use Rattle.wi_graph.specs.Reach.{in_cone};
 ghost use Rattle.wi_graph.specs.Watched.{IsClosedUp};
 ghost use Rattle.wi_graph.specs.Latest.{IsUnread};
 ghost use Rattle.wi_graph.specs.Edges.{AreEdgesOf, edges_after, staging};
@@ -18,7 +19,7 @@ ghost use Rattle.wi_graph.specs.Inner.Turning.{AreTurns};
 
 use crate::beyond::{Cells, listed_beyond};
 use crate::cell_set::CellSet;
-use crate::changes::{Change, reads_stay, rooms_of};
+use crate::changes::{reads_stay, rooms_of};
 use crate::cone::{any_is_read, listed_cone};
 use crate::rooms::{Coming, Rooms, take_back, take_over};
 use crate::sets::take_away;
@@ -27,7 +28,7 @@ use crate::turning::{Turns, bring_circles, turns_of};
 use crate::watch::Watch;
 use std::alloc::{AllocError, Global};
 use std::marker::Model;
-use wi_parser::Content;
+use wi_parser::NewContent;
 use wi_ranges::RangeIndex;
 use wi_tiles::CellMap;
 use wi_values::Address;
@@ -84,7 +85,8 @@ impl Graph {
     /// cell reads what it read, nor where one cell that isn't circular gets something that reads neither it nor a formula. Where it reads
     /// formulas, but no circular cell, what it reads at any remove is searched for it at the same time, so that the work is that of the
     /// smaller search.
-    pub fn stage(&mut self, changes: &[(Address, Option<Content>)]) -> Result<(), AllocError>
+    #[inline(always)]
+    pub fn stage(&mut self, changes: &[NewContent]) -> Result<(), AllocError>
         requires { self.old.staged ≡ None }
         ensures ok { OnOk result (self.new
             ≡ staging self.old.now (Some (edges_after self.old.now changes.now))) }
@@ -116,10 +118,12 @@ impl Graph {
     pub fn commit(&mut self)
         ensures { self.new ≡ staging (unwrap_or self.old.staged self.old.now) None }
     {
-        if let Some(mut staged) = self.staged.take() {
-            take_over(&mut self.rooms, &mut self.readers, &mut staged.next);
-            take_away(&mut self.circles, &staged.turns.went);
-        }
+        let Some(staged) = &mut self.staged else {
+            return;
+        };
+        take_over(&mut self.rooms, &mut self.readers, &mut staged.next);
+        take_away(&mut self.circles, &staged.turns.went);
+        self.staged = None;
     }
 
     /// Takes back the edit that was staged, if one was. Takes no memory.
@@ -179,12 +183,13 @@ impl Graph {
 }
 
 /// Makes ready an edit. If memory runs out, all is as before.
+#[inline(always)]
 fn make_ready(
     alloc: Global,
     rooms: &mut Rooms,
     readers: &mut RangeIndex,
     circles: &mut CellSet,
-    changes: &[Change],
+    changes: &[NewContent],
 ) -> Result<Staged, AllocError>
     requires { IsGraph rooms.old readers.old circles.old }
     ensures ordered { IsOrdered nat_cmp rooms.new }

@@ -3,7 +3,7 @@
 ghost use Rattle.std.specs.Prelude.{◌≡◌, ◌||◌, ℕ, true, IfOk, OnOk};
 ghost use Rattle.std.specs.Ordering.{nat_cmp};
 ghost use Rattle.std.specs.BTreeSet.{contains, difference, IsOrdered};
-ghost use Rattle.wi_graph.specs.Reach.{is_one_of};
+ghost use Rattle.wi_values.specs.Address.{is_one_of};
 ghost use Rattle.wi_graph.specs.Inner.Rooms.{less_these};
 
 use crate::cell_set::CellSet;
@@ -40,6 +40,7 @@ pub(crate) fn set_of(alloc: Global, cells: &[Address]) -> Result<CellSet, AllocE
 }
 
 /// Puts cells into a set. If memory runs out, some of them may be in.
+#[inline(always)]
 pub(crate) fn insert_all(set: &mut CellSet, cells: &[Address]) -> Result<(), AllocError>
     ensures all { OnOk result ((c : ℕ) → contains nat_cmp set.new c
         ≡ (contains nat_cmp set.old c || is_one_of cells.now c)) }

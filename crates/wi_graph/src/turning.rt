@@ -6,14 +6,14 @@ ghost use Rattle.std.specs.Ordering.{nat_cmp};
 ghost use Rattle.std.specs.BTreeSet.{contains};
 ghost use Rattle.std.specs.Map.{keys_of};
 ghost use Rattle.wi_ranges.specs.Bag.{IsRead};
-ghost use Rattle.wi_graph.specs.Reach.{is_one_of};
+ghost use Rattle.wi_values.specs.Address.{is_one_of};
 ghost use Rattle.wi_graph.specs.Inner.Changes.{Brings, IsEditCone, went_from};
 ghost use Rattle.wi_graph.specs.Inner.Rooms.{room_at, AreCircles, AreInOrder, IsGraph};
 ghost use Rattle.wi_graph.specs.Inner.Stripping.{IsWithin};
 ghost use Rattle.wi_graph.specs.Inner.Turning.{AreTurns, SettlesCone};
 
 use crate::cell_set::CellSet;
-use crate::changes::{Change, reads_stay};
+use crate::changes::reads_stay;
 use crate::closing::{closes_cycle, meets_circle, stands_apart};
 use crate::held::held_set;
 use crate::reads::reads_of;
@@ -22,6 +22,7 @@ use crate::sets::{insert_all, listed, set_of, take_away, without};
 use crate::sides::cone_unless_apart;
 use crate::stripping::strip;
 use std::alloc::{AllocError, Global};
+use wi_parser::NewContent;
 use wi_ranges::RangeIndex;
 use wi_values::Address;
 
@@ -43,7 +44,7 @@ pub(crate) fn turns_of(
     readers: &RangeIndex,
     circles: &CellSet,
     next: &[Brought],
-    changes: &[Change],
+    changes: &[NewContent],
 ) -> Result<Turns, AllocError>
     requires graph { IsGraph rooms.now readers.now circles.now }
     requires order { AreInOrder next.now }
@@ -60,7 +61,7 @@ pub(crate) fn turns_of(
 }
 
 /// The cell of an edit of one cell that no formula reads. It is its own cone.
-fn lone_unread(readers: &RangeIndex, changes: &[Change]) -> Option<Address>
+fn lone_unread(readers: &RangeIndex, changes: &[NewContent]) -> Option<Address>
     ensures alone { IfSome result (λ cell. keys_of changes.now ≡ cell ∷ []) }
     ensures unread { IfSome result (λ cell. IsRead readers.now cell → ⊥) }
 {
@@ -81,7 +82,7 @@ fn turns_sought(
     readers: &RangeIndex,
     circles: &CellSet,
     next: &[Brought],
-    changes: &[Change],
+    changes: &[NewContent],
 ) -> Result<Turns, AllocError>
     requires graph { IsGraph rooms.now readers.now circles.now }
     requires order { AreInOrder next.now }
@@ -104,6 +105,7 @@ fn turns_sought(
 /// the work grows with the count of the cone, and with the rows of what is next reads where the rectangle around the cone or that around
 /// the circular cells meets it, times the logarithms of their counts, and it takes no memory. Else it grows also with the cone and what its
 /// cells read, times logarithms.
+#[inline(always)]
 fn turns_in(
     alloc: Global,
     rooms: &Rooms,
@@ -123,7 +125,8 @@ fn turns_in(
     turns_among(alloc, rooms, circles, next, &cone)
 }
 
-/// The same, where a cycle may be closed or opened, of a cone as a set.
+/// The same, where a cycle may be closed or opened, of a cone as a set. It stands apart, since most edits don't come to it.
+#[inline(never)]
 fn turns_among(
     alloc: Global,
     rooms: &Rooms,

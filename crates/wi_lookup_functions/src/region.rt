@@ -2,24 +2,10 @@
 
 ghost use Rattle.std.specs.Prelude.{◌≡◌, ◌+◌, ◌<◌, IfOk};
 ghost use Rattle.wi_standard_functions.specs.Lookup.{position_among};
-ghost use Rattle.wi_values.specs.Address.{column_of, place, row_of};
-ghost use Rattle.wi_lookup_functions.specs.Inner.Lines.{first_column, first_row, height, is_line, steps, width};
+ghost use Rattle.wi_values.specs.Address.{column_of, height, place, row_of, width};
+ghost use Rattle.wi_lookup_functions.specs.Inner.Lines.{first_column, first_row, is_line, steps};
 
 use wi_values::{Address, ErrorKind, Rect};
-
-/// How many rows it has.
-pub(crate) fn height(area: Rect) -> u32
-    ensures { result ≡ height area }
-{
-    (area.last().row() + 1).saturating_sub(area.first().row())
-}
-
-/// How many columns it has.
-pub(crate) fn width(area: Rect) -> u32
-    ensures { result ≡ width area }
-{
-    (area.last().column() + 1).saturating_sub(area.first().column())
-}
 
 /// The place, from 0, of the k-th of so many.
 pub(crate) fn place_among(count: u32, k: i128) -> Result<u32, ErrorKind>
@@ -44,26 +30,24 @@ pub(crate) fn cell_at(area: Rect, row: u32, column: u32) -> Address
     Address::at(area.first().row() + row, area.first().column() + column)
 }
 
-/// Its first column, unless it has no rows.
-pub(crate) fn first_column(area: Rect) -> Option<Rect>
-    ensures { result ≡ first_column area }
+/// Its first column. It has a row at least.
+pub(crate) fn first_column(area: Rect) -> Rect
+    ensures column { result ≡ first_column area }
+    ensures some { 0 < height area }
 {
+    let _ = area.height();
     let (first, last) = (area.first(), area.last());
-    if last.row() < first.row() {
-        return None;
-    }
-    Some(Rect::new(first, Address::at(last.row(), first.column())))
+    Rect::new(first, Address::at(last.row(), first.column()))
 }
 
-/// Its first row, unless it has no columns.
-pub(crate) fn first_row(area: Rect) -> Option<Rect>
-    ensures { result ≡ first_row area }
+/// Its first row. It has a column at least.
+pub(crate) fn first_row(area: Rect) -> Rect
+    ensures row { result ≡ first_row area }
+    ensures some { 0 < width area }
 {
+    let _ = area.width();
     let (first, last) = (area.first(), area.last());
-    if last.column() < first.column() {
-        return None;
-    }
-    Some(Rect::new(first, Address::at(first.row(), last.column())))
+    Rect::new(first, Address::at(first.row(), last.column()))
 }
 
 /// How many steps a cell is after the first, in a rectangle of one row or one column.
@@ -79,5 +63,5 @@ pub(crate) fn steps(line: Rect, cell: Address) -> u32
 pub(crate) fn is_line(area: Rect) -> bool
     ensures { result ≡ is_line area }
 {
-    height(area) == 1 || width(area) == 1
+    area.height() == 1 || area.width() == 1
 }

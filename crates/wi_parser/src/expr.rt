@@ -76,7 +76,8 @@ pub enum Expr {
     Signed(Sign, Box<Expr>),
     /// A hundredth of its operand.
     Percent(Box<Expr>),
-    Binary(Operator, Box<Expr>, Box<Expr>),
+    /// Both operands stand behind one box.
+    Binary(Operator, Box<(Expr, Expr)>),
     /// The value of a formula cell, if each input had the value of its replacement cell.
     WhatIf(Reference, Vec<Pair>),
     /// A function by its name in capitals, with its parameters.
@@ -97,9 +98,7 @@ impl Expr {
             Expr::Parenthesized(t) => Ok(Expr::Parenthesized(copied(alloc, t)?)),
             Expr::Signed(sign, t) => Ok(Expr::Signed(*sign, copied(alloc, t)?)),
             Expr::Percent(t) => Ok(Expr::Percent(copied(alloc, t)?)),
-            Expr::Binary(op, t, u) => {
-                Ok(Expr::Binary(*op, copied(alloc, t)?, copied(alloc, u)?))
-            }
+            Expr::Binary(op, operands) => binary_copied(alloc, *op, &operands.0, &operands.1),
             Expr::WhatIf(f, pairs) => what_if(alloc, *f, pairs),
             Expr::Call(f, trees) => call(alloc, f, all_copied(alloc, trees)?),
         }
@@ -112,6 +111,18 @@ fn copied(alloc: Global, expr: &Expr) -> Result<Box<Expr>, AllocError>
     ensures { IfOk result (λ e. tree_of e.value ≡ tree_of expr.now) }
 {
     Ok(Box::new(alloc, expr.copy(alloc)?)?)
+}
+
+// An operator between copies of its operands. It stands apart for the same reason.
+#[cycle(copying)]
+#[inline(never)]
+fn binary_copied(alloc: Global, op: Operator, left: &Expr, right: &Expr) -> Result<Expr, AllocError>
+    ensures { IfOk result
+        (λ e. tree_of e ≡ tree.binary op (tree_of left.now) (tree_of right.now)) }
+{
+    let left = left.copy(alloc)?;
+    let right = right.copy(alloc)?;
+    binary(alloc, op, left, right)
 }
 
 #[cycle(copying)]
@@ -130,6 +141,19 @@ pub(crate) fn text(alloc: Global, content: &Text) -> Result<Expr, AllocError>
     ensures { IfOk result (λ e. tree_of e ≡ tree.text content.now) }
 {
     Ok(Expr::Text(content.copy(alloc)?))
+}
+
+/// The tree of an operator between two operands.
+pub(crate) fn binary(
+    alloc: Global,
+    op: Operator,
+    left: Expr,
+    right: Expr,
+) -> Result<Expr, AllocError>
+    ensures { IfOk result (λ e. tree_of e ≡ tree.binary op (tree_of left) (tree_of right)) }
+{
+    let operands = Box::new(alloc, (left, right))?;
+    Ok(Expr::Binary(op, operands))
 }
 
 /// The tree of a what-if.

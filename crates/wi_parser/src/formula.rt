@@ -77,6 +77,7 @@ impl Model for Formula {
 
 impl Formula {
     /// The formula of a tree that a text can have.
+    #[inline(always)]
     pub(crate) fn new(alloc: Global, expr: Expr) -> Result<Formula, AllocError>
         requires { IsFormulaTree (tree_of expr) }
         ensures { IfOk result (λ f. f ≡ tree_of expr) }
@@ -187,9 +188,9 @@ fn push_leaves(
         Expr::Parenthesized(inner) => push_leaves(inner, inputs, rectangles),
         Expr::Signed(_, operand) => push_leaves(operand, inputs, rectangles),
         Expr::Percent(operand) => push_leaves(operand, inputs, rectangles),
-        Expr::Binary(_, left, right) => {
-            push_leaves(left, inputs, rectangles)?;
-            push_leaves(right, inputs, rectangles)
+        Expr::Binary(_, operands) => {
+            push_leaves(&operands.0, inputs, rectangles)?;
+            push_leaves(&operands.1, inputs, rectangles)
         }
         Expr::WhatIf(formula_cell, pairs) => {
             push_area(rectangles, cell_area(formula_cell.at))?;

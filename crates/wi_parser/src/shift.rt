@@ -8,7 +8,7 @@ ghost use Rattle.wi_parser.specs.Leaves.{all_leaves};
 ghost use Rattle.wi_parser.specs.View.{tree_of, all_of, pair_of};
 ghost use Rattle.wi_parser.specs.Shift as shift;
 
-use crate::expr::{Corners, Expr, Pair, Reference, call, text};
+use crate::expr::{Corners, Expr, Operator, Pair, Reference, binary, call, text};
 use std::alloc::{AllocError, AllocFailed, Global};
 use thiserror::Error;
 use wi_values::{Address, COLUMNS, ROWS};
@@ -57,7 +57,9 @@ pub(crate) fn all_stay(expr: &Expr, rows: i64, columns: i64) -> bool
         Expr::Parenthesized(t) => all_stay(t, rows, columns),
         Expr::Signed(_, t) => all_stay(t, rows, columns),
         Expr::Percent(t) => all_stay(t, rows, columns),
-        Expr::Binary(_, t, u) => all_stay(t, rows, columns) && all_stay(u, rows, columns),
+        Expr::Binary(_, operands) => {
+            all_stay(&operands.0, rows, columns) && all_stay(&operands.1, rows, columns)
+        }
         Expr::WhatIf(f, pairs) => stays(f, rows, columns) && pairs_stay(pairs, rows, columns),
         Expr::Call(_, parameters) => each_stays(parameters, rows, columns),
     }
@@ -105,11 +107,9 @@ pub(crate) fn shifted(
         Expr::Parenthesized(t) => Ok(Expr::Parenthesized(boxed(alloc, t, rows, columns)?)),
         Expr::Signed(sign, t) => Ok(Expr::Signed(*sign, boxed(alloc, t, rows, columns)?)),
         Expr::Percent(t) => Ok(Expr::Percent(boxed(alloc, t, rows, columns)?)),
-        Expr::Binary(op, t, u) => Ok(Expr::Binary(
-            *op,
-            boxed(alloc, t, rows, columns)?,
-            boxed(alloc, u, rows, columns)?,
-        )),
+        Expr::Binary(op, operands) => {
+            binary_shifted(alloc, *op, &operands.0, &operands.1, rows, columns)
+        }
         Expr::WhatIf(f, pairs) => what_if(alloc, f, pairs, rows, columns),
         Expr::Call(f, parameters) => {
             call(alloc, f, each_shifted(alloc, parameters, rows, columns)?)
@@ -124,6 +124,25 @@ fn boxed(alloc: Global, expr: &Expr, rows: i64, columns: i64) -> Result<Box<Expr
         ≡ shift.map_references (shift.moved rows columns) (tree_of expr.now)) }
 {
     Ok(Box::new(alloc, shifted(alloc, expr, rows, columns)?)?)
+}
+
+// An operator between its operands, both moved. It stands apart so that a level needs little stack.
+#[cycle(shift)]
+#[inline(never)]
+fn binary_shifted(
+    alloc: Global,
+    op: Operator,
+    left: &Expr,
+    right: &Expr,
+    rows: i64,
+    columns: i64,
+) -> Result<Expr, AllocError>
+    ensures { IfOk result (λ e. tree_of e ≡ shift.map_references (shift.moved rows columns)
+        (tree.binary op (tree_of left.now) (tree_of right.now))) }
+{
+    let left = shifted(alloc, left, rows, columns)?;
+    let right = shifted(alloc, right, rows, columns)?;
+    binary(alloc, op, left, right)
 }
 
 // The parameters of a call.

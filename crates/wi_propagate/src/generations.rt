@@ -3,7 +3,7 @@
 
 ghost use Rattle.std.specs.Prelude.{◌≡◌, ◌⊎◌, ℕ, [], max, true, None, if◌then◌else◌, OnOk};
 ghost use Rattle.wi_parser.specs.Sheet.{Sheet};
-ghost use Rattle.wi_graph.specs.Reach.{is_one_of};
+ghost use Rattle.wi_values.specs.Address.{is_one_of};
 ghost use Rattle.wi_graph.specs.Edges.{AreEdgesOf};
 ghost use Rattle.wi_graph.specs.Latest.{AreOwed, IsUnread};
 ghost use Rattle.wi_propagate.specs.KeptSheet.{generation_in};
@@ -62,6 +62,7 @@ impl Generations {
     }
 
     /// What is noted of a cell: its generation, where none is owed.
+    #[inline(always)]
     pub(crate) fn generation_of(&self, at: Address) -> u64
         ensures { result ≡ noted_in self.now.named self.now.noted at }
     {
@@ -139,6 +140,7 @@ fn owe_read(generations: &mut Numbers, graph: &Graph, cells: &[Address]) -> Resu
 }
 
 /// The number of a cell.
+#[inline(always)]
 pub(crate) fn number_at(numbers: &Numbers, at: Address) -> u64
     ensures { result ≡ generation_in numbers.now.entries at }
 {
@@ -153,6 +155,7 @@ pub(crate) fn greater(a: u64, b: u64) -> u64
 }
 
 /// Makes room for the numbers of these cells: each that has none gets 0. If memory runs out, the rooms made so far stay.
+#[inline(always)]
 pub(crate) fn make_room(generations: &mut Numbers, cells: &[Address]) -> Result<(), AllocError>
     ensures same { (c : ℕ)
         → generation_in generations.new.entries c ≡ generation_in generations.old.entries c }

@@ -9,11 +9,11 @@ ghost use Rattle.wi_reports.specs.Looks.{evaluations_for, restarts_for};
 ghost use Rattle.wi_reports.specs.Changes.{kind_text, change_records};
 ghost use Rattle.wi_reports.specs.Inner.Parts.{change_record};
 
-use crate::texts::{address_text, shown_text};
+use crate::texts::address_text;
 use std::alloc::{AllocError, Global};
 use wi_csv::push_record;
 use wi_propagate::Calculator;
-use wi_sessions::Picture;
+use wi_sessions::{Change, Picture};
 use wi_values::{Address, Replacement, Value};
 
 /// Those of some cells whose value under replacements isn't the picture's, each with its value, in the order in which they are
@@ -25,7 +25,7 @@ pub fn find_changes<C: Calculator>(
     put: &[Replacement],
     picture: &Picture,
     cells: &[Address],
-) -> Result<Vec<(Address, Value)>, AllocError>
+) -> Result<Vec<Change>, AllocError>
     requires { IsInOrder put.now }
     ensures found { let shown = show.shown (C.stored calculator.old).sheet put.now in
         IfOk result (λ found. found.items ≡ changes_among cells.now picture.now shown) }
@@ -54,11 +54,7 @@ pub fn find_changes<C: Calculator>(
 
 /// Appends the records of changes, in their order: the address, the letter of the value's kind, and the text that it shows. On
 /// an error the bytes are as before. The work grows with the length of the records.
-pub fn push_changes(
-    alloc: Global,
-    changes: &[(Address, Value)],
-    out: &mut Vec<u8>,
-) -> Result<(), AllocError>
+pub fn push_changes(alloc: Global, changes: &[Change], out: &mut Vec<u8>) -> Result<(), AllocError>
     ensures ok { OnOk result (out.new.items ≡ out.old.items ++ change_records changes.now) }
     ensures err { OnErr result (out.new.items ≡ out.old.items) }
 {
@@ -71,11 +67,7 @@ pub fn push_changes(
 }
 
 /// Appends the records of changes. On an error a part of them may be there.
-fn push_all(
-    alloc: Global,
-    changes: &[(Address, Value)],
-    out: &mut Vec<u8>,
-) -> Result<(), AllocError>
+fn push_all(alloc: Global, changes: &[Change], out: &mut Vec<u8>) -> Result<(), AllocError>
     ensures ok { OnOk result (out.new.items ≡ out.old.items ++ change_records changes.now) }
     ensures kept { StartsWith out.new.items out.old.items }
 {
@@ -86,17 +78,13 @@ fn push_all(
 }
 
 /// Appends the record of a change. On an error the bytes are as before.
-fn push_change(
-    alloc: Global,
-    change: &(Address, Value),
-    out: &mut Vec<u8>,
-) -> Result<(), AllocError>
+fn push_change(alloc: Global, change: &Change, out: &mut Vec<u8>) -> Result<(), AllocError>
     ensures ok { OnOk result (out.new.items ≡ out.old.items ++ change_record change.now) }
     ensures kept { StartsWith out.new.items out.old.items }
 {
     let (at, value) = change;
     let address = address_text(alloc, *at)?;
-    let text = shown_text(alloc, value)?;
+    let text = value.shown(alloc)?;
     push_record(&[address.as_str(), kind_text(value), text.as_str()], out)
 }
 

@@ -1,20 +1,20 @@
 //! Cells with a bit for each session for which they are pending or have room only. Bits of rooms stand in a list beside them
 //! too: as that is emptied the cells are pending, with no search and no memory.
 
-ghost use Rattle.std.specs.Prelude.{◌≡◌, true, false, ◌==◌, ◌<◌, ◌*◌, ℕ, All, Some, None, IfOk, OnOk, ◌++◌, ◌∷◌, ◌||◌, ◌&&◌, not, filter, length, option_copied, [], IsTrue, OnErr};
+ghost use Rattle.std.specs.Prelude.{◌≡◌, true, false, ◌==◌, ◌<◌, ◌*◌, ℕ, Some, None, IfOk, OnOk, ◌++◌, ◌∷◌, ◌||◌, ◌&&◌, filter, [], OnErr};
 ghost use Rattle.std.specs.Option.{is_some};
 ghost use Rattle.std.specs.List.Sorted.{IsStrictlyIncreasing};
 ghost use Rattle.std.specs.Ordering.{nat_cmp};
-ghost use Rattle.std.specs.Map.{lookup, keys_of};
+ghost use Rattle.std.specs.Map.{lookup};
 ghost use Rattle.std.specs.BTreeMap.{is_at};
 ghost use Rattle.wi_tiles.specs.Entries.{IsOrdered};
-ghost use Rattle.wi_sessions.specs.Pictures.Laws.{is_listed};
+ghost use Rattle.wi_values.specs.Address.{is_one_of};
 ghost use Rattle.wi_sessions.specs.Inner.Cells.{has_bit, is_in, is_staged, cells_with, at_cells, SamePending, HasMade, HasCleared};
 
 use crate::bits::{common, has, is_bare, joined, without};
 use std::alloc::{AllocError, Global};
 use wi_tiles::CellMap;
-use wi_values::Address;
+use wi_values::{Address, rise};
 
 /// All cells that are pending for a session or have room only, each with the bits of these sessions.
 pub(crate) type Words = CellMap<u64>;
@@ -95,6 +95,7 @@ fn stage_one(
 }
 
 /// Makes room for cells in the lists of these sessions. If memory runs out, there is room for a part of them.
+#[inline(always)]
 pub(crate) fn stage_each(
     words: &mut Words,
     staged: &mut Vec<Room>,
@@ -303,9 +304,9 @@ pub(crate) fn push_those(
 /// Puts cells into row-major order, each once.
 pub(crate) fn put_in_order(cells: &mut Vec<Address>)
     ensures order { IsStrictlyIncreasing cells.new.items }
-    ensures same { (c : ℕ) → is_listed cells.new.items c ≡ is_listed cells.old.items c }
+    ensures same { (c : ℕ) → is_one_of cells.new.items c ≡ is_one_of cells.old.items c }
 {
-    if !rises(cells) {
+    if !rise(cells) {
         sort(cells);
     }
 }
@@ -313,20 +314,8 @@ pub(crate) fn put_in_order(cells: &mut Vec<Address>)
 /// The same by a sort.
 fn sort(cells: &mut Vec<Address>)
     ensures order { IsStrictlyIncreasing cells.new.items }
-    ensures same { (c : ℕ) → is_listed cells.new.items c ≡ is_listed cells.old.items c }
+    ensures same { (c : ℕ) → is_one_of cells.new.items c ≡ is_one_of cells.old.items c }
 {
     cells.sort_unstable();
     cells.dedup();
-}
-
-/// Whether each cell comes after that before it.
-fn rises(cells: &[Address]) -> bool
-    ensures { IsTrue result → IsStrictlyIncreasing cells.now }
-{
-    for i in 1..cells.len() {
-        if cells[i] <= cells[i - 1] {
-            return false;
-        }
-    }
-    true
 }

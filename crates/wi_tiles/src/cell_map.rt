@@ -1,6 +1,6 @@
 //! A map by cell address.
 
-ghost use Rattle.std.specs.Prelude.{◌≡◌, ◌↔◌, ◌&&◌, ◌<◌, ◌≤◌, ◌*◌, ℕ, [], Some, nat_le, filter, length, is_some, not, IsTrue, IfSome, IfOk, OnOk, OnErr, option_copied, option_map, if◌then◌else◌};
+ghost use Rattle.std.specs.Prelude.{◌≡◌, ◌↔◌, ◌&&◌, ◌<◌, ◌≤◌, ◌*◌, [], Some, nat_le, filter, length, is_some, not, IsTrue, IfSome, IfOk, OnOk, OnErr, option_copied, option_map, if◌then◌else◌};
 ghost use Rattle.std.specs.Ordering.{nat_cmp};
 ghost use Rattle.std.specs.List.{find, All};
 ghost use Rattle.std.specs.Map.{keys_of, remove_entry, set_value};
@@ -25,7 +25,7 @@ pub struct CellMap<V> {
 }
 
 impl<V> Model for CellMap<V> {
-    ghost use Rattle.std.specs.Prelude.{ℕ, ◌≡◌, length};
+    ghost use Rattle.std.specs.Prelude.{◌≡◌, length};
     ghost use Rattle.wi_tiles.specs.Entries.{CellEntries};
     ghost use Rattle.wi_tiles.specs.Inner.Entries.{map_of, entries_of};
     ghost use Rattle.wi_tiles.specs.Inner.Lines.{slot};
@@ -70,6 +70,7 @@ impl<V: Drop> CellMap<V> {
     }
 
     /// What a cell has. The work is the same however many cells have something, but for a search among the tiles of 16 rows.
+    #[inline(always)]
     pub fn get(&self, cell: Address) -> Option<&V>
         ensures { option_copied result ≡ get nat_cmp self.now cell }
     {

@@ -1,6 +1,6 @@
 //! The tiles of a band, in order of their groups of columns.
 
-ghost use Rattle.std.specs.Prelude.{◌≡◌, ◌<◌, ◌≤◌, ◌+◌, ◌*◌, ◌/◌, ◌%◌, ◌==◌, ℕ, length, true, Some, None, IsSome, IsTrue, OnOk, OnErr, IfOk, IfErr, option_copied, option_map, slice_index_or, if◌then◌else◌};
+ghost use Rattle.std.specs.Prelude.{◌≡◌, ◌<◌, ◌≤◌, ◌*◌, ◌%◌, ℕ, length, true, Some, None, OnOk, OnErr, IfOk, IfErr, option_copied};
 ghost use Rattle.std.specs.List.{All, remove};
 ghost use Rattle.wi_tiles.specs.Inner.Changes.{IsKept, IsChanged};
 ghost use Rattle.wi_tiles.specs.Inner.Lines.{slot};
@@ -16,7 +16,7 @@ const GROUPS: u64 = 4_096;
 
 /// Tiles in order of their keys, found by the first digit of a path. Each has something.
 #[derive(Drop)]
-pub struct Band<V> {
+pub(crate) struct Band<V> {
     parts: Vec<(u32, Tile<V>)>,
 }
 
@@ -35,7 +35,7 @@ impl<V> Model for Band<V> {
 
 impl<V> Band<V> {
     /// The tiles with their keys, in order.
-    pub fn parts(&self) -> &[(u32, Tile<V>)]
+    pub(crate) fn parts(&self) -> &[(u32, Tile<V>)]
         ensures parts { result.now ≡ self.now }
         ensures rises { Rises result.now }
     {
@@ -62,6 +62,7 @@ impl<V: Drop> Places<V> for Band<V> {
         self.parts.is_empty()
     }
 
+    #[inline(always)]
     fn get(&self, path: u64) -> Option<&V> {
         match part_of(&self.parts, (path % GROUPS) as u32) {
             Some(part) => part.get(path / GROUPS),
@@ -69,6 +70,7 @@ impl<V: Drop> Places<V> for Band<V> {
         }
     }
 
+    #[inline(always)]
     fn put_new(&mut self, path: u64, value: V, alloc: Global) -> Result<bool, AllocError> {
         let group = (path % GROUPS) as u32;
         match place_of(&self.parts, group) {
@@ -154,7 +156,8 @@ fn place_of<T>(parts: &[(u32, T)], group: u32) -> Result<usize, usize>
 }
 
 /// The place of the first part with a key or a later one.
-pub fn place_from<T>(parts: &[(u32, T)], group: u32) -> usize
+#[inline(always)]
+pub(crate) fn place_from<T>(parts: &[(u32, T)], group: u32) -> usize
     requires { Rises parts.now }
     ensures bound { result ≤ length parts.now }
     ensures below { (i : ℕ) → i < result → key parts.now i < group }
@@ -174,7 +177,8 @@ pub fn place_from<T>(parts: &[(u32, T)], group: u32) -> usize
 }
 
 /// The part with a key.
-pub fn part_of<T>(parts: &[(u32, T)], group: u32) -> Option<&T>
+#[inline(always)]
+fn part_of<T>(parts: &[(u32, T)], group: u32) -> Option<&T>
     requires { Rises parts.now }
     ensures { option_copied result ≡ find group parts.now }
 {

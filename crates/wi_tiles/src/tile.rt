@@ -1,6 +1,6 @@
 //! Something for each of some of 64 cells.
 
-ghost use Rattle.std.specs.Prelude.{◌≡◌, ◌↔◌, ◌<◌, ◌≤◌, ◌+◌, ◌*◌, ◌%◌, ◌==◌, if◌then◌else◌, ◌^◌, ℕ, Some, None, IsSome, IsTrue, OnOk, OnErr, is_ok, length, option_copied, option_map, slice_index_or, slice_set};
+ghost use Rattle.std.specs.Prelude.{◌≡◌, ◌↔◌, ◌<◌, ◌≤◌, if◌then◌else◌, ℕ, Some, None, IsSome, IsTrue, OnOk, OnErr, is_ok, length, count_ones, option_copied, option_map, slice_index_or, slice_set};
 ghost use Rattle.std.specs.Int.{bit_at};
 ghost use Rattle.std.specs.List.{insert};
 ghost use Rattle.wi_tiles.specs.Inner.Changes.{IsChanged};
@@ -15,13 +15,13 @@ use std::mem;
 
 /// The cells of a tile that have something, by bits, and what they have. It is seen as 64 places.
 #[derive(Drop)]
-pub struct Tile<V> {
+pub(crate) struct Tile<V> {
     bits: u64,
     values: Vec<V>,
 }
 
 impl<V> Model for Tile<V> {
-    ghost use Rattle.std.specs.Prelude.{ℕ, List, Option, ◌≡◌, length, count_ones};
+    ghost use Rattle.std.specs.Prelude.{List, Option, ◌≡◌, length, count_ones};
     ghost use Rattle.wi_tiles.specs.Inner.Tile.{slots};
 
     ghost Value = { List (Option V) };
@@ -50,7 +50,8 @@ impl<V> Tile<V> {
     }
 
     /// What a bit has.
-    pub fn value(&self, bit: u32) -> Option<&V>
+    #[inline(always)]
+    fn value(&self, bit: u32) -> Option<&V>
         requires { bit < 64 }
         ensures { option_copied result ≡ slice_index_or self.now bit None }
     {
@@ -62,7 +63,7 @@ impl<V> Tile<V> {
     }
 
     /// The bits of a mask that have something.
-    pub fn bits_of(&self, mask: u64) -> u64
+    pub(crate) fn bits_of(&self, mask: u64) -> u64
         ensures sound { (i : ℕ) → i < 64 → bit_at result i ≡ 1
             → (bit_at mask i ≡ 1) × IsSome (slice_index_or self.now i None) }
         ensures whole { (i : ℕ) → i < 64 → bit_at mask i ≡ 1
@@ -72,7 +73,7 @@ impl<V> Tile<V> {
     }
 
     /// How many bits before one have something.
-    pub fn count_before(&self, bit: u32) -> usize
+    pub(crate) fn count_before(&self, bit: u32) -> usize
         requires { bit < 64 }
         ensures { result ≡ filled self.now bit }
     {
@@ -80,7 +81,7 @@ impl<V> Tile<V> {
     }
 
     /// What the bit has before which so many have something.
-    pub fn value_at(&self, place: usize) -> &V
+    pub(crate) fn value_at(&self, place: usize) -> &V
         requires { place < filled self.now 64 }
         ensures { (i : ℕ) → i < 64 → IsSome (slice_index_or self.now i None)
             → filled self.now i ≡ place → slice_index_or self.now i None ≡ Some result.now }
@@ -88,7 +89,16 @@ impl<V> Tile<V> {
         &self.values[place]
     }
 
+    /// Takes room for 16 values, as many as a column of a tile has, where the four that there was room for at first are there. If memory
+    /// runs out, all is as before.
+    fn widen(&mut self) -> Result<(), AllocError>
+        ensures { self.new ≡ self.old }
+    {
+        room_for_column(&mut self.values)
+    }
+
     /// Puts a value where nothing stands. If memory runs out, all is as before.
+    #[inline(always)]
     fn put_value(&mut self, bit: u32, value: V) -> Result<(), AllocFailed<V>>
         requires within { bit < 64 }
         requires vacant { slice_index_or self.old bit None ≡ None }
@@ -96,7 +106,7 @@ impl<V> Tile<V> {
         ensures there { OnOk result (slice_index_or self.new bit None ≡ Some value) }
         ensures err { OnErr result (self.new ≡ self.old) }
     {
-        let place = rank(self.bits, bit);
+        let place = place_of(self.bits, self.values.len(), bit);
         put_in(&mut self.values, place, value)?;
         self.bits |= 1 << bit;
         Ok(())
@@ -129,7 +139,7 @@ impl<V: Drop> Tile<V> {
         if (self.bits >> bit) & 1 == 0 {
             return None;
         }
-        let place = rank(self.bits, bit);
+        let place = place_of(self.bits, self.values.len(), bit);
         Some(mem::replace(&mut self.values[place], value))
     }
 }
@@ -149,14 +159,17 @@ impl<V: Drop> Places<V> for Tile<V> {
         self.has_nothing()
     }
 
+    #[inline(always)]
     fn get(&self, place: u64) -> Option<&V> {
         self.value(place as u32)
     }
 
+    #[inline(always)]
     fn put_new(&mut self, place: u64, value: V, _alloc: Global) -> Result<bool, AllocError> {
         if self.value(place as u32).is_some() {
             return Ok(false);
         }
+        self.widen()?;
         self.put_value(place as u32, value)?;
         Ok(true)
     }
@@ -170,7 +183,18 @@ impl<V: Drop> Places<V> for Tile<V> {
     }
 }
 
+/// Takes room for 16 values where there are four, so that they move once.
+fn room_for_column<V>(values: &mut Vec<V>) -> Result<(), AllocError>
+    ensures { values.new.items ≡ values.old.items }
+{
+    if values.len() == 4 {
+        values.reserve(12)?;
+    }
+    Ok(())
+}
+
 /// Puts a value in at a place, and moves those behind it. If memory runs out, all is as before.
+#[inline(always)]
 fn put_in<V>(values: &mut Vec<V>, place: usize, value: V) -> Result<(), AllocFailed<V>>
     requires { place ≤ length values.old.items }
     ensures { values.new.items
@@ -180,6 +204,19 @@ fn put_in<V>(values: &mut Vec<V>, place: usize, value: V) -> Result<(), AllocFai
         values.push(value)
     } else {
         values.insert(place, value)
+    }
+}
+
+/// How many ones stand below a bit, of so many in all. Where none stands behind it, as in a tile that is filled in order, they aren't counted.
+fn place_of(bits: u64, count: usize, bit: u32) -> usize
+    requires within { bit < 64 }
+    requires count { count ≡ count_ones bits }
+    ensures { result ≡ rank bits bit }
+{
+    match bits >> bit {
+        0 => count,
+        1 => count - 1,
+        _ => rank(bits, bit),
     }
 }
 

@@ -1,6 +1,6 @@
 -- Addresses and rectangles. A cell's address is its place in row-major order: row after row, in each from the left.
 use Rattle.std.specs.Prelude.{ℕ, ◌+◌, ◌-◌, ◌*◌, ◌/◌, ◌%◌, ◌^◌, ◌≤◌, min, max, List, [], ◌∷◌, ◌++◌, Bool, ◌&&◌, not, ◌==◌, nat_lt, nat_le, length, slice_index, if◌then◌else◌, map, decimal}
-use Rattle.std.specs.List.{range_with_len, flat_map}
+use Rattle.std.specs.List.{range_with_len, flat_map, list_any}
 use Rattle.std.specs.Char.{to_ascii_uppercase}
 use Rattle.std.specs.Str.{byte, all_ascii_digits}
 use Rattle.wi_fraction.specs.Text.{Bytes}
@@ -20,6 +20,10 @@ row_of a = a / columns
 
 abbrev pub column_of : ℕ → ℕ
 column_of a = a % columns
+
+-- the cell is one of these
+abbrev pub is_one_of : List ℕ → ℕ → Bool
+is_one_of cells c = list_any (λ x. x == c) cells
 
 -- ---- rectangles
 
@@ -53,8 +57,21 @@ rows_in r = range_with_len (row_of r.first) ((row_of r.last + 1) - row_of r.firs
 abbrev pub cells_of : Area → List ℕ
 cells_of r = flat_map (λ row. cells_of_row row r) (rows_in r)
 
+abbrev pub height : Area → ℕ
+height r = (row_of r.last + 1) - row_of r.first
+
+abbrev pub width : Area → ℕ
+width r = (column_of r.last + 1) - column_of r.first
+
 abbrev pub size_of : Area → ℕ
-size_of r = ((row_of r.last + 1) - row_of r.first) * ((column_of r.last + 1) - column_of r.first)
+size_of r = height r * width r
+
+-- all its cells stand in one column, or in one row
+abbrev pub is_column : Area → Bool
+is_column r = column_of r.first == column_of r.last
+
+abbrev pub is_row : Area → Bool
+is_row r = row_of r.first == row_of r.last
 
 -- ---- texts of addresses
 

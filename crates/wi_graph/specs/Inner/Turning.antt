@@ -7,10 +7,10 @@ use Rattle.std.specs.Global.{Vec}
 use Rattle.std.specs.BTreeMap.{BTreeMap, get}
 use Rattle.std.specs.BTreeSet.{BTreeSet, contains}
 use Rattle.smallvec.specs.SmallVec.{SmallVec}
-use Rattle.wi_values.specs.Address.{Area, is_within}
+use Rattle.wi_values.specs.Address.{Area, is_one_of, is_within}
 use Rattle.wi_parser.specs.Sheet.{Sheet, content_of}
 use Rattle.wi_graph.specs.Circular.{circular}
-use Rattle.wi_graph.specs.Reach.{is_one_of, SameOff, in_cone}
+use Rattle.wi_graph.specs.Reach.{SameOff, in_cone}
 use Rattle.wi_graph.specs.Edges.{areas_in}
 use Rattle.wi_graph.specs.Inner.Stripping.{items_there, is_in}
 use Rattle.wi_graph.specs.Inner.Rooms.{Rooms, Coming, brought_to, items_of, areas_of, room_over, AreCircles}
@@ -23,6 +23,10 @@ has_circle_outside circles cells r = list_any (λ d. is_within r d && not (conta
 -- c reads one of the circular cells outside the cone
 abbrev pub reads_outside : BTreeMap ℕ (Vec Area) → BTreeSet ℕ → BTreeSet ℕ → ℕ → Bool
 reads_outside reads circles cells c = list_any (has_circle_outside circles cells) (items_there (get nat_cmp reads c))
+
+-- what is next reads the cell
+abbrev pub reads_cell : Coming → ℕ → Bool
+reads_cell es c = list_any (λ e. is_in (areas_of (items_of e.1)) c) es
 
 -- the rectangle has one of the cells
 abbrev pub has_one : BTreeSet ℕ → Area → Bool
