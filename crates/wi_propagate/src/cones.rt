@@ -8,7 +8,6 @@ ghost use Rattle.wi_graph.specs.Edges.{AreEdgesOf};
 ghost use Rattle.wi_propagate.specs.Inner.Cones.{AreAllCones};
 
 use std::alloc::{AllocError, Global};
-use std::mem;
 use wi_graph::Graph;
 use wi_values::Address;
 use wi_worlds::{Reaches, World};
@@ -17,17 +16,15 @@ use wi_worlds::{Reaches, World};
 // from the one before.
 const MOST_CONES: usize = 64;
 
-/// Takes the cones out for a question, where questions have had at most so many replaced cells: none where they are more than
-/// it takes over. Takes no memory.
+/// Lets the cones go where they are more than a question takes over, if questions have had at most so many replaced cells. Takes no
+/// memory.
 #[tactic(auto, using(crate::proofs::KeptCones::none_told))]
-pub(crate) fn take_cones(alloc: Global, widest: usize, cones: &mut Reaches) -> Reaches
-    ensures { (s : Sheet) → AreAllCones s cones.old → AreAllCones s result }
+pub(crate) fn keep_if_few(alloc: Global, widest: usize, cones: &mut Reaches)
+    ensures { (s : Sheet) → AreAllCones s cones.old → AreAllCones s cones.new }
 {
-    let taken = mem::replace(cones, Reaches::new(alloc));
-    if taken.len().saturating_sub(widest) > MOST_CONES {
-        return Reaches::new(alloc);
+    if cones.len().saturating_sub(widest) > MOST_CONES {
+        *cones = Reaches::new(alloc);
     }
-    taken
 }
 
 /// Lets the cones go over the edit that is staged if after it some cell reads other cells than before. Takes no memory.

@@ -11,6 +11,7 @@ ghost use Rattle.wi_propagate.specs.Inner.Noted.{told, AreAllNoted};
 
 use crate::cones::add_cones;
 use crate::generations::Generations;
+use crate::held::Held;
 use std::alloc::{AllocError, Global};
 use std::marker::Model;
 use wi_cache::{GivenUp, Kept, Key};
@@ -18,7 +19,7 @@ use wi_engine::Memo;
 use wi_graph::Graph;
 use wi_store::Store;
 use wi_values::{Address, Value};
-use wi_worlds::{Reaches, World};
+use wi_worlds::World;
 
 /// What is remembered in one question: the values that are kept for longer, and those that were given up in it, so that none is lost
 /// before it ends.
@@ -28,13 +29,10 @@ pub struct Keeping<'a> {
     store: &'a Store,
     graph: &'a Graph,
     generations: &'a Generations,
-    // Of the replaced cells so far, and of some before: which cells reach them.
-    cones: Reaches,
+    // With the cones of the replaced cells so far, and of some before, and the values that were given up in this question.
+    held: Held,
     // The replacements of the last key that had some of them, and not all.
     last: World,
-    // The values that were given up in this question.
-    given_up: GivenUp,
-    kept: Kept,
 }
 
 impl<'a> Model for Keeping<'a> {
@@ -57,69 +55,63 @@ impl<'a> Model for Keeping<'a> {
     ghost use Rattle.wi_propagate.specs.Inner.Noted.{told, AreAllNoted};
 
     ghost view = { λ m. keeping m.store.now.sheet m.store.now.edits
-        (told m.store.now.sheet m.generations.now.named) m.given_up.entries m.kept };
+        (told m.store.now.sheet m.generations.now.named) m.held.given_up.entries m.held.kept };
 
     ghost invariant = { λ m. AreEdgesOf m.graph.now.now m.store.now.sheet
         × (m.graph.now.staged ≡ None)
-        × AreAllCones m.store.now.sheet m.cones
+        × AreAllCones m.store.now.sheet m.held.cones
         × IsKeepingRight (keeping m.store.now.sheet m.store.now.edits
-        (told m.store.now.sheet m.generations.now.named) m.given_up.entries m.kept)
+        (told m.store.now.sheet m.generations.now.named) m.held.given_up.entries m.held.kept)
         × AreAllNoted m.store.now.sheet m.store.now.edits m.generations.now };
 }
 
 impl<'a> Keeping<'a> {
-    /// What is kept, with nothing given up yet, and the cones that are known. Takes no memory. Values go that are in the table for
-    /// those that are given up.
+    /// What is held, with nothing given up yet. Takes no memory. Values go that are in the table for those that are given up.
     pub(crate) fn new(
         alloc: Global,
         store: &'a Store,
         graph: &'a Graph,
         generations: &'a Generations,
-        cones: Reaches,
-        given_up: GivenUp,
-        kept: Kept,
+        mut held: Held,
     ) -> Keeping<'a>
         requires edges { AreEdgesOf graph.now.now store.now.sheet }
         requires staged { graph.now.staged ≡ None }
-        requires cones { AreAllCones store.now.sheet cones }
+        requires cones { AreAllCones store.now.sheet held.cones }
         requires right { IsKeepingRight
             (keeping store.now.sheet store.now.edits
-            (told store.now.sheet generations.now.named) [] kept) }
+            (told store.now.sheet generations.now.named) [] held.kept) }
         requires noted { AreAllNoted store.now.sheet store.now.edits generations.now }
         ensures value { result
             ≡ keeping store.now.sheet store.now.edits
-            (told store.now.sheet generations.now.named) [] kept }
+            (told store.now.sheet generations.now.named) [] held.kept }
         ensures memo { IsMemoOf store.now.sheet (state_in result) }
-        ensures placed { ArePlaced kept }
+        ensures placed { ArePlaced held.kept }
     {
-        let _ = kept.len();
-        let mut given_up = given_up;
-        given_up.clear(alloc);
+        let _ = held.kept.len();
+        held.given_up.clear(alloc);
         Keeping {
             alloc,
             store,
             graph,
             generations,
-            cones,
+            held,
             last: World::new(alloc),
-            given_up,
-            kept,
         }
     }
 
-    /// What is kept for longer, which is no more than there is room for, the cones that are known, and the table for values that are
-    /// given up, without them.
-    pub(crate) fn into_parts(self) -> (Kept, Reaches, GivenUp)
-        ensures kept { result.0 ≡ self.entry.values }
-        ensures within { length result.0.entries ≤ result.0.capacity }
+    /// What is held for the next question: the values that are kept, which are no more than there is room for, the cones that are
+    /// known, and the table for values that are given up, without them.
+    pub(crate) fn into_held(self) -> Held
+        ensures kept { result.kept ≡ self.entry.values }
+        ensures within { length result.kept.entries ≤ result.kept.capacity }
         ensures right { IsKeepingRight self.entry }
-        ensures cones { AreAllCones self.entry.sheet result.1 }
+        ensures cones { AreAllCones self.entry.sheet result.cones }
     {
         let _ = &self.store;
-        let _ = self.kept.len();
-        let mut given_up = self.given_up;
-        given_up.clear(self.alloc);
-        (self.kept, self.cones, given_up)
+        let _ = self.held.kept.len();
+        let mut held = self.held;
+        held.given_up.clear(self.alloc);
+        held
     }
 }
 
@@ -131,8 +123,8 @@ impl<'a> Memo for Keeping<'a> {
     /// replacements share it.
     #[inline(always)]
     fn key(&mut self, at: Address, world: &World) -> Result<Key, AllocError> {
-        add_cones(self.graph, world, &mut self.cones)?;
-        let world = world.reaching_by(at, &self.cones, &mut self.last)?;
+        add_cones(self.graph, world, &mut self.held.cones)?;
+        let world = world.reaching_by(at, &self.held.cones, &mut self.last)?;
         Ok(Key {
             cell: at,
             generation: self.generations.generation_of(at),
@@ -141,9 +133,9 @@ impl<'a> Memo for Keeping<'a> {
     }
 
     fn look(&self, key: &Key) -> Option<&Value> {
-        match self.kept.look(key) {
+        match self.held.kept.look(key) {
             Some(value) => Some(value),
-            None => self.given_up.look(key),
+            None => self.held.given_up.look(key),
         }
     }
 
@@ -151,10 +143,10 @@ impl<'a> Memo for Keeping<'a> {
     /// if memory runs out.
     #[inline(always)]
     fn keep(&mut self, key: Key, value: Value) -> Result<(), AllocError> {
-        let _ = self.kept.len();
-        make_room(&self.kept, &mut self.given_up)?;
-        let gone = self.kept.keep(key, value)?;
-        give_up(gone, &mut self.given_up);
+        let _ = self.held.kept.len();
+        make_room(&self.held.kept, &mut self.held.given_up)?;
+        let gone = self.held.kept.keep(key, value)?;
+        give_up(gone, &mut self.held.given_up);
         Ok(())
     }
 }

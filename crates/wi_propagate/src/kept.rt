@@ -22,8 +22,8 @@ ghost use Rattle.wi_propagate.specs.KeptSheet.{generation_in, is_kept, unkept, I
 ghost use Rattle.wi_propagate.specs.Right.{AreKeptRight};
 
 use crate::calculator::Calculator;
-use crate::cones::{keep_over_edit, take_cones};
 use crate::generations::Generations;
+use crate::held::{Held, hold_over_edit, take_held};
 use crate::keeping::Keeping;
 use crate::last_worlds::LastWorlds;
 use crate::standing::standing_value;
@@ -31,14 +31,12 @@ use crate::table_entry::open_entry;
 use std::alloc::{AllocError, Global};
 use std::marker::Model;
 use std::mem;
-use wi_cache::{GivenUp, Kept};
 use wi_engine::{Pool, Question};
 use wi_functions::Meter;
 use wi_graph::{Cells, Graph, Watch, edited_cells};
 use wi_parser::{Content, NewContent};
 use wi_store::{Limits, Store, StoreFault};
 use wi_values::{Address, ErrorKind, Rect, Replacement, Value};
-use wi_worlds::Reaches;
 
 /// A calculator that keeps values from one question to the next. It is seen as its sheet, the generations of cells, the values
 /// that are kept, and what was counted.
@@ -47,19 +45,15 @@ pub struct KeptCalculator {
     store: Store,
     graph: Graph,
     generations: Generations,
-    // Of some cells that were replaced since the last accepted edit: which cells reach them.
-    cones: Reaches,
+    // There but while a question is answered.
+    held: Option<Held>,
     // What the last questions replaced, for one that replaces the same.
     worlds: LastWorlds,
     // The most replaced cells that a question had.
     widest: usize,
-    // There but while a question is answered.
-    kept: Option<Kept>,
     meter: Meter,
     // Arrays for the formulas of the next questions.
     pool: Pool,
-    // Memory for the values that the next questions give up.
-    given_up: GivenUp,
     alloc: Global,
 }
 
@@ -79,25 +73,23 @@ impl Model for KeptCalculator {
     ghost use Rattle.std.specs.Prelude.{◌≡◌, [], None, IsSome};
     ghost use Rattle.wi_graph.specs.Edges.{AreEdgesOf};
     ghost use Rattle.wi_propagate.specs.Right.{AreKeptRight};
-    ghost use Rattle.wi_propagate.specs.Inner.Cones.{AreAllCones};
-    ghost use Rattle.wi_propagate.specs.Inner.Keeping.{kept_sheet};
+    ghost use Rattle.wi_propagate.specs.Inner.Keeping.{kept_sheet, AreHeldCones};
     ghost use Rattle.wi_propagate.specs.Inner.Noted.{told, AreKeptUp};
 
     ghost view = { λ k. kept_sheet k.store
-        (told k.store.sheet k.generations.named) k.kept k.meter };
+        (told k.store.sheet k.generations.named) k.held k.meter };
 
-    ghost invariant = { λ k. IsSome k.kept
+    ghost invariant = { λ k. IsSome k.held
         × AreEdgesOf k.graph.now k.store.sheet
         × (k.graph.staged ≡ None)
-        × AreKeptRight (kept_sheet k.store (told k.store.sheet k.generations.named) k.kept k.meter)
-        × AreAllCones k.store.sheet k.cones
+        × AreKeptRight (kept_sheet k.store (told k.store.sheet k.generations.named) k.held k.meter)
+        × AreHeldCones k.store.sheet k.held
         × AreKeptUp k.store.sheet k.store.edits k.generations };
 }
 
 impl KeptCalculator {
     /// An empty sheet within limits, with no edits yet, and room for so many kept values. Memory for them is taken as they
     /// come.
-    #[tactic(auto, using(crate::proofs::KeptCones::none_told))]
     pub fn new(alloc: Global, limits: Limits, keep: usize) -> Result<KeptCalculator, AllocError>
         requires { 1 ≤ keep }
         ensures stored { IfOk result (λ k.
@@ -106,18 +98,16 @@ impl KeptCalculator {
         ensures generations { IfOk result (λ k. (c : ℕ) → generation_in k.generations c ≡ 0) }
         ensures values { IfOk result (λ k. k.values ≡ kept [] keep) }
     {
-        let kept = Kept::new(alloc, keep)?;
+        let held = Held::new(alloc, keep)?;
         Ok(KeptCalculator {
             store: Store::new(alloc, limits),
             graph: Graph::new(alloc),
             generations: Generations::new(alloc),
-            cones: Reaches::new(alloc),
+            held: Some(held),
             worlds: LastWorlds::new(alloc),
             widest: 0,
-            kept: Some(kept),
             meter: Meter::new(),
             pool: Pool::new(alloc),
-            given_up: GivenUp::new(alloc),
             alloc,
         })
     }
@@ -169,7 +159,7 @@ impl KeptCalculator {
         self.graph.stage(changes)?;
         match self.store.apply_slice(changes) {
             Ok(()) => {
-                keep_over_edit(self.alloc, &self.graph, &mut self.cones);
+                hold_over_edit(self.alloc, &self.graph, &mut self.held);
                 self.graph.commit();
                 self.generations.name(cells, self.store.edits());
                 Ok(())
@@ -200,19 +190,14 @@ impl KeptCalculator {
         }
         let world = self.worlds.world_for(self.alloc, put)?;
         self.generations.settle(&self.graph)?;
-        let Some(kept) = self.kept.take() else {
-            unreachable!()
-        };
         self.widest = self.widest.max(put.len());
-        let cones = take_cones(self.alloc, self.widest, &mut self.cones);
+        let held = take_held(self.alloc, self.widest, &mut self.held);
         let memo = Keeping::new(
             self.alloc,
             &self.store,
             &self.graph,
             &self.generations,
-            cones,
-            mem::replace(&mut self.given_up, GivenUp::new(self.alloc)),
-            kept,
+            held,
         );
         let mut question = Question {
             memo,
@@ -222,10 +207,7 @@ impl KeptCalculator {
         let result = question.value(&self.store, &world, at);
         self.meter = question.meter;
         self.pool = question.pool;
-        let (kept, cones, given_up) = question.memo.into_parts();
-        self.kept = Some(kept);
-        self.cones = cones;
-        self.given_up = given_up;
+        self.held = Some(question.memo.into_held());
         self.worlds.keep(world);
         result
     }
@@ -254,19 +236,14 @@ impl KeptCalculator {
         }
         let world = self.worlds.world_for(self.alloc, put)?;
         self.generations.settle(&self.graph)?;
-        let Some(kept) = self.kept.take() else {
-            unreachable!()
-        };
         self.widest = self.widest.max(put.len());
-        let cones = take_cones(self.alloc, self.widest, &mut self.cones);
+        let held = take_held(self.alloc, self.widest, &mut self.held);
         let memo = Keeping::new(
             self.alloc,
             &self.store,
             &self.graph,
             &self.generations,
-            cones,
-            mem::replace(&mut self.given_up, GivenUp::new(self.alloc)),
-            kept,
+            held,
         );
         let mut question = Question {
             memo,
@@ -276,10 +253,7 @@ impl KeptCalculator {
         let result = open_entry(&mut question, &self.store, &world, formula_cell, pairs);
         self.meter = question.meter;
         self.pool = question.pool;
-        let (kept, cones, given_up) = question.memo.into_parts();
-        self.kept = Some(kept);
-        self.cones = cones;
-        self.given_up = given_up;
+        self.held = Some(question.memo.into_held());
         self.worlds.keep(world);
         result
     }

@@ -4,6 +4,7 @@
 mod calculator;
 mod cones;
 mod generations;
+mod held;
 mod keeping;
 mod kept;
 mod last_worlds;

@@ -1,6 +1,6 @@
 -- What is kept and found in one question.
-use Rattle.std.specs.Prelude.{◌≡◌, ◌≤◌, ◌-◌, ℕ, true, [], length, Option, None, Some, IsSome, is_some}
-use Rattle.std.specs.Option.{unwrap_or, option_or}
+use Rattle.std.specs.Prelude.{◌≡◌, ◌≤◌, ◌-◌, ℕ, true, [], length, Option, None, Some, IfSome, IsSome, is_some}
+use Rattle.std.specs.Option.{option_or}
 use Rattle.std.specs.Ordering.{nat_cmp}
 use Rattle.std.specs.Map.{lookup}
 use Rattle.std.specs.BTreeMap.{is_at}
@@ -13,17 +13,24 @@ use Rattle.wi_cache.specs.Entries.{Entries, HasOneEach, KeptValues, Puts, kept, 
 use Rattle.wi_engine.specs.Inner.MemoState.{MemoState}
 use Rattle.wi_propagate.specs.KeptSheet.{Generations, KeptSheet, generation_in, key_in}
 use Rattle.wi_propagate.specs.Right.{AreRight}
+use Rattle.wi_propagate.specs.Inner.Cones.{AreAllCones}
+use Rattle.wi_propagate.specs.declared.held.Held.{Held}
 
 -- the cell has a generation
 abbrev pub HasGeneration : Generations → ℕ → Type 0
 HasGeneration gs c = IsSome (lookup (is_at (nat_cmp c)) gs)
 
--- what is kept, which is there but while a question is answered
-abbrev pub values_in : Option KeptValues → KeptValues
-values_in o = unwrap_or o (kept [] 1)
+-- what is kept of what is held, which is there but while a question is answered
+abbrev pub values_in : Option Held → KeptValues
+values_in None = kept [] 1
+values_in (Some h) = h.kept
+
+-- the cones that are held are those of the sheet
+abbrev pub AreHeldCones : Sheet → Option Held → Type 0
+AreHeldCones s o = IfSome o (λ h. AreAllCones s h.cones)
 
 -- what a calculator is seen as that keeps values
-abbrev pub kept_sheet : Stored → Generations → Option KeptValues → Counts → KeptSheet
+abbrev pub kept_sheet : Stored → Generations → Option Held → Counts → KeptSheet
 kept_sheet s gs o n = record { stored = s; generations = gs; values = values_in o; counts = n }
 
 -- a sheet with its count of edits and its generations, the values that were given up in a question, and those kept

@@ -19,26 +19,26 @@ standing_value-requires-clause-open_cell c = sym (c.is_circular.ensures c.self.i
 
 pub new-memo-requires-clause-right : goal.new-memo-requires-clause-right
 new-memo-requires-clause-right c =
-    begun_right c.self.inside.store (told c.self.inside.store.sheet c.settle.new.self.named) c.self.inside.kept c.self.inside.meter _ c.in-Some-take.ensures.value (settled_right {s = c.self.inside.store} c.in_ok-settle.ensures.named c.self.inside.kept c.self.inside.meter c.self.invariant.3)
+    begun_right c.self.inside.store (told c.self.inside.store.sheet c.settle.new.self.named) c.self.inside.held c.self.inside.meter _ c.take_held-held.ensures.values (settled_right {s = c.self.inside.store} c.in_ok-settle.ensures.named c.self.inside.held c.self.inside.meter c.self.invariant.3)
 
 pub value-result-requires-clause-read : goal.value-result-requires-clause-read
 value-result-requires-clause-read c =
     let i = c.self.inside in
     let o : circular i.store.sheet c.args.at ≡ false = sym (c.is_circular.ensures i.store.sheet c.self.invariant.1) ∙ c.if-is_circular.false in
-    let q = begins i.store (told i.store.sheet c.settle.new.self.named) i.kept i.meter _ c.new-memo.result c.in-Some-take.ensures.value c.new-memo.ensures.value c.new-memo.ensures.placed in
+    let q = begins i.store (told i.store.sheet c.settle.new.self.named) i.held i.meter _ c.new-memo.result c.take_held-held.ensures.values c.new-memo.ensures.value c.new-memo.ensures.placed in
     may_be_read q c.args.at o
 
 pub invariant_of-self-2 : goal.invariant_of-self-2
 invariant_of-self-2 c =
     let i = c.self.inside in
-    let q = begins i.store (told i.store.sheet c.settle.new.self.named) i.kept i.meter _ c.new-memo.result c.in-Some-take.ensures.value c.new-memo.ensures.value c.new-memo.ensures.placed in
+    let q = begins i.store (told i.store.sheet c.settle.new.self.named) i.held i.meter _ c.new-memo.result c.take_held-held.ensures.values c.new-memo.ensures.value c.new-memo.ensures.placed in
     let e = c.value-result.ensures in
     let h = c.self.invariant in (
       refl,
       h.1,
       h.2,
-      right_then q c.value-result.new.self.memo c.into_parts-kept.result.0 c.value-result.new.self.meter e.spends.same c.into_parts-kept.ensures.kept e.spends.right.sheet (settled_right {s = i.store} c.in_ok-settle.ensures.named i.kept i.meter c.self.invariant.3) c.into_parts-kept.ensures.right,
-      subst (λ (x : Sheet). AreAllCones x c.into_parts-kept.result.1) e.spends.right.sheet c.into_parts-kept.ensures.cones,
+      right_then q c.value-result.new.self.memo c.into_held.result.kept c.value-result.new.self.meter e.spends.same c.into_held.ensures.kept e.spends.right.sheet (settled_right {s = i.store} c.in_ok-settle.ensures.named i.held i.meter c.self.invariant.3) c.into_held.ensures.right,
+      subst (λ (x : Sheet). AreAllCones x c.into_held.result.cones) e.spends.right.sheet c.into_held.ensures.cones,
       settled_up i.store.sheet i.store.edits i.generations c.settle.new.self c.in_ok-settle.ensures.named (c.in_ok-settle.ensures.owed i.store.sheet h.1) h.5,
     )
 
@@ -52,26 +52,26 @@ returns-clause-value c =
 pub returns-clause-easy : goal.returns-clause-easy
 returns-clause-easy c =
     let i = c.self.inside in
-    let view = settled_view {s = i.store} c.in_ok-settle.ensures.named i.kept i.meter c.args.self.now c.self.view_is in
+    let view = settled_view {s = i.store} c.in_ok-settle.ensures.named i.held i.meter c.args.self.now c.self.view_is in
     let o : circular i.store.sheet c.args.at ≡ false = sym (c.is_circular.ensures i.store.sheet c.self.invariant.1) ∙ c.if-is_circular.false in
-    let q = begins i.store (told i.store.sheet c.settle.new.self.named) i.kept i.meter _ c.new-memo.result c.in-Some-take.ensures.value c.new-memo.ensures.value c.new-memo.ensures.placed in
+    let q = begins i.store (told i.store.sheet c.settle.new.self.named) i.held i.meter _ c.new-memo.result c.take_held-held.ensures.values c.new-memo.ensures.value c.new-memo.ensures.placed in
     subst (λ (x : KeptSheet). IsAtHand x c.args.put.now c.args.at → c.value-result.new.self.meter ≡ x.counts) view
     (λ h. c.value-result.ensures.uncounted (at_hand_is q c.in_ok-world.world c.args.put.now c.args.at o c.in_ok-world.ensures h))
 
 pub returns-clause-kept : goal.returns-clause-kept
 returns-clause-kept c =
     let i = c.self.inside in
-    let view = settled_view {s = i.store} c.in_ok-settle.ensures.named i.kept i.meter c.args.self.now c.self.view_is in
+    let view = settled_view {s = i.store} c.in_ok-settle.ensures.named i.held i.meter c.args.self.now c.self.view_is in
     let o : circular i.store.sheet c.args.at ≡ false = sym (c.is_circular.ensures i.store.sheet c.self.invariant.1) ∙ c.if-is_circular.false in
-    let q = begins i.store (told i.store.sheet c.settle.new.self.named) i.kept i.meter _ c.new-memo.result c.in-Some-take.ensures.value c.new-memo.ensures.value c.new-memo.ensures.placed in
-    let new : KeptSheet = record { stored = i.store; generations = told i.store.sheet c.settle.new.self.named; values = c.into_parts-kept.result.0; counts = c.value-result.new.self.meter } in
+    let q = begins i.store (told i.store.sheet c.settle.new.self.named) i.held i.meter _ c.new-memo.result c.take_held-held.ensures.values c.new-memo.ensures.value c.new-memo.ensures.placed in
+    let new : KeptSheet = record { stored = i.store; generations = told i.store.sheet c.settle.new.self.named; values = c.into_held.result.kept; counts = c.value-result.new.self.meter } in
     let e = c.value-result.ensures in
     subst (λ (x : KeptSheet). OnOk c.value-result.result ((IsAtHand x c.args.put.now c.args.at → ⊥) → is_kept new c.args.at (reaching x.stored.sheet c.args.at c.args.put.now) ≡ true)) view
-    (IfOk-weaker c.value-result.result _ _ (λ v h. asked_kept q c.in_ok-world.world c.args.put.now c.args.at o c.in_ok-world.ensures c.value-result.new.self.memo c.into_parts-kept.result.0 c.value-result.new.self.meter
-    e.spends.same c.into_parts-kept.ensures.kept c.self.invariant.3.room h) e.kept)
+    (IfOk-weaker c.value-result.result _ _ (λ v h. asked_kept q c.in_ok-world.world c.args.put.now c.args.at o c.in_ok-world.ensures c.value-result.new.self.memo c.into_held.result.kept c.value-result.new.self.meter
+    e.spends.same c.into_held.ensures.kept c.self.invariant.3.room h) e.kept)
 
 pub new-memo-requires-clause-cones : goal.new-memo-requires-clause-cones
-new-memo-requires-clause-cones c = c.take_cones-cones.ensures c.self.inside.store.sheet c.self.invariant.4
+new-memo-requires-clause-cones c = c.take_held-held.ensures.cones c.self.inside.store.sheet c.self.invariant.4
 
 pub returns-then-is_circular-clause-easy : goal.returns-then-is_circular-clause-easy
 returns-then-is_circular-clause-easy c = λ h. refl
@@ -103,15 +103,15 @@ returns-in_err-world-clause-owes c = owes_none c.args.self.now _ _
 pub returns-clause-owes : goal.returns-clause-owes
 returns-clause-owes c =
     let i = c.self.inside in
-    let view = settled_view {s = i.store} c.in_ok-settle.ensures.named i.kept i.meter c.args.self.now c.self.view_is in
+    let view = settled_view {s = i.store} c.in_ok-settle.ensures.named i.held i.meter c.args.self.now c.self.view_is in
     let o : circular i.store.sheet c.args.at ≡ false = sym (c.is_circular.ensures i.store.sheet c.self.invariant.1) ∙ c.if-is_circular.false in
-    let q = begins i.store (told i.store.sheet c.settle.new.self.named) i.kept i.meter _ c.new-memo.result c.in-Some-take.ensures.value c.new-memo.ensures.value c.new-memo.ensures.placed in
+    let q = begins i.store (told i.store.sheet c.settle.new.self.named) i.held i.meter _ c.new-memo.result c.take_held-held.ensures.values c.new-memo.ensures.value c.new-memo.ensures.placed in
     let has = demands_itself i.store.sheet c.in_ok-world.world c.args.put.now c.args.at o c.in_ok-world.ensures in
     let closed = different_closed i.store.sheet (case_of i.store.sheet c.args.put.now c.args.at) in
     let Has = HasCase i.store.sheet c.in_ok-world.world c.args.at in
-    let new : KeptSheet = record { stored = i.store; generations = told i.store.sheet c.settle.new.self.named; values = c.into_parts-kept.result.0; counts = c.value-result.new.self.meter } in
+    let new : KeptSheet = record { stored = i.store; generations = told i.store.sheet c.settle.new.self.named; values = c.into_held.result.kept; counts = c.value-result.new.self.meter } in
     subst (λ (x : KeptSheet). Owes x new (demanded x.stored.sheet c.args.put.now c.args.at) (is_ok c.value-result.result)) view
-    (owes_spent q c.value-result.new.self.memo c.into_parts-kept.result.0 c.value-result.new.self.meter c.into_parts-kept.ensures.kept c.into_parts-kept.ensures.within Has (demanded i.store.sheet c.args.put.now c.args.at) closed has _ c.value-result.ensures.spends)
+    (owes_spent q c.value-result.new.self.memo c.into_held.result.kept c.value-result.new.self.meter c.into_held.ensures.kept c.into_held.ensures.within Has (demanded i.store.sheet c.args.put.now c.args.at) closed has _ c.value-result.ensures.spends)
 
 pub settle-requires-clause-owed : goal.settle-requires-clause-owed
 settle-requires-clause-owed c =
@@ -123,7 +123,7 @@ new-memo-requires-clause-noted c =
 
 pub returns-in_err-settle-clause-owes : goal.returns-in_err-settle-clause-owes
 returns-in_err-settle-clause-owes c =
-    owes_settled c.args.self.now _ _ _ (settled_view {s = c.self.inside.store} c.settle.ensures.named c.self.inside.kept c.self.inside.meter c.args.self.now c.self.view_is)
+    owes_settled c.args.self.now _ _ _ (settled_view {s = c.self.inside.store} c.settle.ensures.named c.self.inside.held c.self.inside.meter c.args.self.now c.self.view_is)
 
 pub returns-in_err-settle-clause-easy : goal.returns-in_err-settle-clause-easy
 returns-in_err-settle-clause-easy c = λ h. ap (λ (k : KeptSheet). k.counts) c.self.view_is
@@ -135,7 +135,7 @@ invariant_of-self c =
       h.0,
       h.1,
       h.2,
-      settled_right {s = i.store} c.settle.ensures.named i.kept i.meter h.3,
+      settled_right {s = i.store} c.settle.ensures.named i.held i.meter h.3,
       h.4,
       settled_up i.store.sheet i.store.edits i.generations c.settle.new.self c.settle.ensures.named (c.settle.ensures.owed i.store.sheet h.1) h.5,
     )

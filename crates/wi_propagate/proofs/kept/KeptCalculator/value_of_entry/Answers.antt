@@ -14,12 +14,12 @@ returns-then-entry_is_circular-clause-settled c = λ room one all.
 
 pub new-memo-requires-clause-right : goal.new-memo-requires-clause-right
 new-memo-requires-clause-right c =
-    begun_right c.self.inside.store (told c.self.inside.store.sheet c.settle.new.self.named) c.self.inside.kept c.self.inside.meter _ c.in-Some.ensures.value (settled_right {s = c.self.inside.store} c.in_ok-settle.ensures.named c.self.inside.kept c.self.inside.meter c.self.invariant.3)
+    begun_right c.self.inside.store (told c.self.inside.store.sheet c.settle.new.self.named) c.self.inside.held c.self.inside.meter _ c.take_held-held.ensures.values (settled_right {s = c.self.inside.store} c.in_ok-settle.ensures.named c.self.inside.held c.self.inside.meter c.self.invariant.3)
 
 pub open_entry-result-requires-clause-formula_cell : goal.open_entry-result-requires-clause-formula_cell
 open_entry-result-requires-clause-formula_cell c =
     let i = c.self.inside in
-    let q = begins i.store (told i.store.sheet c.settle.new.self.named) i.kept i.meter _ c.new-memo.result c.in-Some.ensures.value c.new-memo.ensures.value c.new-memo.ensures.placed in
+    let q = begins i.store (told i.store.sheet c.settle.new.self.named) i.held i.meter _ c.new-memo.result c.take_held-held.ensures.values c.new-memo.ensures.value c.new-memo.ensures.placed in
     let s = i.store.sheet in
     let o = open_cells s c.args.formula_cell c.args.pairs.now c.entry_is_circular.result (c.entry_is_circular.ensures s c.self.invariant.1) c.if-entry_is_circular.false in
     may_be_read q c.args.formula_cell o.0
@@ -27,7 +27,7 @@ open_entry-result-requires-clause-formula_cell c =
 pub open_entry-result-requires-clause-replacing : goal.open_entry-result-requires-clause-replacing
 open_entry-result-requires-clause-replacing c =
     let i = c.self.inside in
-    let q = begins i.store (told i.store.sheet c.settle.new.self.named) i.kept i.meter _ c.new-memo.result c.in-Some.ensures.value c.new-memo.ensures.value c.new-memo.ensures.placed in
+    let q = begins i.store (told i.store.sheet c.settle.new.self.named) i.held i.meter _ c.new-memo.result c.take_held-held.ensures.values c.new-memo.ensures.value c.new-memo.ensures.placed in
     let s = i.store.sheet in
     let o = open_cells s c.args.formula_cell c.args.pairs.now c.entry_is_circular.result (c.entry_is_circular.ensures s c.self.invariant.1) c.if-entry_is_circular.false in
     λ j x less. may_be_read q (get_or c.args.pairs.now j x).1 (o.1 j x less)
@@ -35,14 +35,14 @@ open_entry-result-requires-clause-replacing c =
 pub invariant_of-self-2 : goal.invariant_of-self-2
 invariant_of-self-2 c =
     let i = c.self.inside in
-    let q = begins i.store (told i.store.sheet c.settle.new.self.named) i.kept i.meter _ c.new-memo.result c.in-Some.ensures.value c.new-memo.ensures.value c.new-memo.ensures.placed in
+    let q = begins i.store (told i.store.sheet c.settle.new.self.named) i.held i.meter _ c.new-memo.result c.take_held-held.ensures.values c.new-memo.ensures.value c.new-memo.ensures.placed in
     let e = c.open_entry-result.ensures in
     let h = c.self.invariant in (
       refl,
       h.1,
       h.2,
-      right_then q c.open_entry-result.new.question.memo c.into_parts-kept.result.0 c.open_entry-result.new.question.meter e.spends.same c.into_parts-kept.ensures.kept e.spends.right.sheet (settled_right {s = i.store} c.in_ok-settle.ensures.named i.kept i.meter c.self.invariant.3) c.into_parts-kept.ensures.right,
-      subst (λ (x : Sheet). AreAllCones x c.into_parts-kept.result.1) e.spends.right.sheet c.into_parts-kept.ensures.cones,
+      right_then q c.open_entry-result.new.question.memo c.into_held.result.kept c.open_entry-result.new.question.meter e.spends.same c.into_held.ensures.kept e.spends.right.sheet (settled_right {s = i.store} c.in_ok-settle.ensures.named i.held i.meter c.self.invariant.3) c.into_held.ensures.right,
+      subst (λ (x : Sheet). AreAllCones x c.into_held.result.cones) e.spends.right.sheet c.into_held.ensures.cones,
       settled_up i.store.sheet i.store.edits i.generations c.settle.new.self c.in_ok-settle.ensures.named (c.in_ok-settle.ensures.owed i.store.sheet h.1) h.5,
     )
 
@@ -57,24 +57,24 @@ returns-clause-value c =
 pub returns-clause-settled : goal.returns-clause-settled
 returns-clause-settled c =
     let i = c.self.inside in
-    let view = settled_view {s = i.store} c.in_ok-settle.ensures.named i.kept i.meter c.args.self.now c.self.view_is in
-    let q = begins i.store (told i.store.sheet c.settle.new.self.named) i.kept i.meter _ c.new-memo.result c.in-Some.ensures.value c.new-memo.ensures.value c.new-memo.ensures.placed in
+    let view = settled_view {s = i.store} c.in_ok-settle.ensures.named i.held i.meter c.args.self.now c.self.view_is in
+    let q = begins i.store (told i.store.sheet c.settle.new.self.named) i.held i.meter _ c.new-memo.result c.take_held-held.ensures.values c.new-memo.ensures.value c.new-memo.ensures.placed in
     let s = i.store.sheet in
     let o = open_cells s c.args.formula_cell c.args.pairs.now c.entry_is_circular.result (c.entry_is_circular.ensures s c.self.invariant.1) c.if-entry_is_circular.false in
     let cases = entry_demanded s c.args.put.now c.args.formula_cell c.args.pairs.now in
     let has = entry_has s c.in_ok-world.world c.args.put.now c.args.formula_cell c.args.pairs.now o c.in_ok-world.ensures in
     let closed = table_closed s c.args.put.now c.args.formula_cell c.args.pairs.now in
     let Has = HasEntry s c.in_ok-world.world c.args.formula_cell c.args.pairs.now in
-    let new : KeptSheet = record { stored = i.store; generations = told i.store.sheet c.settle.new.self.named; values = c.into_parts-kept.result.0; counts = c.open_entry-result.new.question.meter } in
+    let new : KeptSheet = record { stored = i.store; generations = told i.store.sheet c.settle.new.self.named; values = c.into_held.result.kept; counts = c.open_entry-result.new.question.meter } in
     let e = c.open_entry-result.ensures in
     let x : ℕ × List (ℕ × ℕ) = (c.args.formula_cell, c.args.pairs.now) in
     subst (λ (y : KeptSheet). OnOk c.open_entry-result.result (HasRoomFor y (entry_demanded y.stored.sheet c.args.put.now c.args.formula_cell c.args.pairs.now) → circular y.stored.sheet c.args.formula_cell ≡ false → All (λ p. circular y.stored.sheet p.1 ≡ false) c.args.pairs.now
     → IsWhatIfSettled y.stored.sheet (is_kept new) c.args.put.now x)) view
-    (IfOk-weaker c.open_entry-result.result _ _ (λ v g room a b. asked_settled q c.open_entry-result.new.question.memo c.into_parts-kept.result.0 c.open_entry-result.new.question.meter e.spends.same c.into_parts-kept.ensures.kept c.in_ok-world.world c.args.put.now x c.in_ok-world.ensures
+    (IfOk-weaker c.open_entry-result.result _ _ (λ v g room a b. asked_settled q c.open_entry-result.new.question.memo c.into_held.result.kept c.open_entry-result.new.question.meter e.spends.same c.into_held.ensures.kept c.in_ok-world.world c.args.put.now x c.in_ok-world.ensures
     (asked_where q (λ ks. IsWhatIfSettled s (state_in c.open_entry-result.new.question.memo).kept c.in_ok-world.world x) cases Has g closed has room)) e.settled)
 
 pub new-memo-requires-clause-cones : goal.new-memo-requires-clause-cones
-new-memo-requires-clause-cones c = c.take_cones-cones.ensures c.self.inside.store.sheet c.self.invariant.4
+new-memo-requires-clause-cones c = c.take_held-held.ensures.cones c.self.inside.store.sheet c.self.invariant.4
 
 pub open_entry-result-requires-clause-memo : goal.open_entry-result-requires-clause-memo
 open_entry-result-requires-clause-memo c = c.new-memo.ensures.memo
@@ -88,17 +88,17 @@ returns-in_err-world-clause-owes c = owes_none c.args.self.now _ _
 pub returns-clause-owes : goal.returns-clause-owes
 returns-clause-owes c =
     let i = c.self.inside in
-    let view = settled_view {s = i.store} c.in_ok-settle.ensures.named i.kept i.meter c.args.self.now c.self.view_is in
-    let q = begins i.store (told i.store.sheet c.settle.new.self.named) i.kept i.meter _ c.new-memo.result c.in-Some.ensures.value c.new-memo.ensures.value c.new-memo.ensures.placed in
+    let view = settled_view {s = i.store} c.in_ok-settle.ensures.named i.held i.meter c.args.self.now c.self.view_is in
+    let q = begins i.store (told i.store.sheet c.settle.new.self.named) i.held i.meter _ c.new-memo.result c.take_held-held.ensures.values c.new-memo.ensures.value c.new-memo.ensures.placed in
     let s = i.store.sheet in
     let o = open_cells s c.args.formula_cell c.args.pairs.now c.entry_is_circular.result (c.entry_is_circular.ensures s c.self.invariant.1) c.if-entry_is_circular.false in
     let cases = entry_demanded s c.args.put.now c.args.formula_cell c.args.pairs.now in
     let has = entry_has s c.in_ok-world.world c.args.put.now c.args.formula_cell c.args.pairs.now o c.in_ok-world.ensures in
     let closed = table_closed s c.args.put.now c.args.formula_cell c.args.pairs.now in
     let Has = HasEntry s c.in_ok-world.world c.args.formula_cell c.args.pairs.now in
-    let new : KeptSheet = record { stored = i.store; generations = told i.store.sheet c.settle.new.self.named; values = c.into_parts-kept.result.0; counts = c.open_entry-result.new.question.meter } in
+    let new : KeptSheet = record { stored = i.store; generations = told i.store.sheet c.settle.new.self.named; values = c.into_held.result.kept; counts = c.open_entry-result.new.question.meter } in
     subst (λ (x : KeptSheet). Owes x new (entry_demanded x.stored.sheet c.args.put.now c.args.formula_cell c.args.pairs.now) (is_ok c.open_entry-result.result)) view
-    (owes_spent q c.open_entry-result.new.question.memo c.into_parts-kept.result.0 c.open_entry-result.new.question.meter c.into_parts-kept.ensures.kept c.into_parts-kept.ensures.within Has cases closed has _ c.open_entry-result.ensures.spends)
+    (owes_spent q c.open_entry-result.new.question.memo c.into_held.result.kept c.open_entry-result.new.question.meter c.into_held.ensures.kept c.into_held.ensures.within Has cases closed has _ c.open_entry-result.ensures.spends)
 
 pub settle-requires-clause-owed : goal.settle-requires-clause-owed
 settle-requires-clause-owed c =
@@ -110,7 +110,7 @@ new-memo-requires-clause-noted c =
 
 pub returns-in_err-settle-clause-owes : goal.returns-in_err-settle-clause-owes
 returns-in_err-settle-clause-owes c =
-    owes_settled c.args.self.now _ _ _ (settled_view {s = c.self.inside.store} c.settle.ensures.named c.self.inside.kept c.self.inside.meter c.args.self.now c.self.view_is)
+    owes_settled c.args.self.now _ _ _ (settled_view {s = c.self.inside.store} c.settle.ensures.named c.self.inside.held c.self.inside.meter c.args.self.now c.self.view_is)
 
 pub invariant_of-self : goal.invariant_of-self
 invariant_of-self c =
@@ -119,7 +119,7 @@ invariant_of-self c =
       h.0,
       h.1,
       h.2,
-      settled_right {s = i.store} c.settle.ensures.named i.kept i.meter h.3,
+      settled_right {s = i.store} c.settle.ensures.named i.held i.meter h.3,
       h.4,
       settled_up i.store.sheet i.store.edits i.generations c.settle.new.self c.settle.ensures.named (c.settle.ensures.owed i.store.sheet h.1) h.5,
     )
