@@ -1,5 +1,5 @@
 -- The next tile of which a rectangle has something.
-use Rattle.wi_tiles.proofs.Words.{◌≡◌, ℕ, ◌+◌, ◌*◌, ◌/◌, ◌%◌, ◌<◌, ◌≤◌, List, [], ◌∷◌, length, Option, Some, None, sym, ap, arith, ◌∙◌, ⊎_elim, refl, subst, true, Bool, ◌&&◌, ◌==◌, nat_le, IsSome, IfSome, slice_index_or, min, Bor, bit_at, w64, trailing_zeros, cases_lt, and_from, le-leb, bit_at-zero, ◌≢◌, Area, place, row_of, column_of, is_within, Pages, Band, at_cell, is_ahead, cell, slot, band_at, in_band, at_part, key, find as find_part, bit_of, cell_in, in_band_tile, tile_at, is_left, AreTiles, AreOfBand, IsPlace, IsInside, HasBits, IsNextTile, IsRest, GoesOn, AreBeside, IsTurn, filled}
+use Rattle.wi_tiles.proofs.Words.{◌≡◌, ℕ, ◌+◌, ◌*◌, ◌/◌, ◌%◌, ◌<◌, ◌≤◌, List, [], ◌∷◌, length, Option, Some, None, sym, ap, arith, ◌∙◌, ⊎_elim, refl, subst, true, Bool, ◌&&◌, ◌==◌, nat_le, IsSome, IfSome, slice_index_or, min, Bor, bit_at, w64, trailing_zeros, cases_lt, and_from, le-leb, bit_at-zero, ◌≢◌, Area, place, row_of, column_of, is_within, Pages, Band, at_cell, is_ahead, cell, slot, HasNoneAbove, HasNoneFrom, band_at, in_band, at_part, key, find as find_part, bit_of, cell_in, in_band_tile, tile_at, is_left, AreTiles, AreOfBand, IsPlace, IsInside, HasBits, IsNextTile, IsRest, GoesOn, AreBeside, IsTurn, filled}
 use Rattle.wi_tiles.proofs.BandLemmas.{one_key}
 use Rattle.wi_tiles.proofs.Counts.{first_counts, line_whole, lines_whole}
 use Rattle.wi_tiles.proofs.Keys.{key_read}
@@ -117,7 +117,7 @@ passed_next ts r from side row column n start tiles is passed none = record {
 }
 
 pub passed_end : {V : Type 0} (ts : Band V) (r : Area) (from side row column n below : ℕ) → below ≡ min (from / 16 * 16 + 16) (row_of r.last + 1) → from < 1048576 → below ≤ row → Passed ts r from side row column n
-    → (w : Pages V) → AreOfBand w r from ts → (c : ℕ) → is_ahead r (place from side) c ≡ true → row_of c < from / 16 * 16 + 16 → at_cell w c ≡ None
+    → (w : Pages V) → AreOfBand w r from ts → HasNoneAbove w r (place from side) (from / 16 * 16 + 16)
 passed_end ts r from side row column n below least sheet over passed w of c h u =
     let s = sides r (place from side) c h in
     let start : from ≤ row_of c = omega (arith, s.0) in
@@ -264,7 +264,7 @@ module _ {V : Type 0} (ts : Band V) (r : Area) (row column last left before corn
       last_sheet : last < 1048576
       last_sheet = omega (arith, end, sheet)
 
-  pub none_alone : left ≡ 0 → (w : Pages V) → AreOfBand w r row ts → (c : ℕ) → is_ahead r (place row column) c ≡ true → row_of c < row / 16 * 16 + 16 → at_cell w c ≡ None
+  pub none_alone : left ≡ 0 → (w : Pages V) → AreOfBand w r row ts → HasNoneAbove w r (place row column) (row / 16 * 16 + 16)
   none_alone z w of c ahead u = nothing_but (at_cell w c) (λ there.
       let s = sides r (place row column) c ahead in
       let within = ahead_within r (place row column) c ahead in
@@ -278,7 +278,7 @@ module _ {V : Type 0} (ts : Band V) (r : Area) (row column last left before corn
       omega (arith, sym (each (bit_of c) (bit_small c) (mask_whole (bit_of c) (bit_small c) (omega (arith, start, same), omega (arith, until, same, same_band_rows), omega (arith, group, first, s.3), omega (arith, group, s.4))) (subst (λ o. IsSome o) value stands)) ∙ ap (λ n. bit_at n (bit_of c)) z ∙ bit_at-zero (bit_of c)))
 
 -- where no tile of a band lies in the rectangle
-pub none_empty : {V : Type 0} (r : Area) (row column : ℕ) (ts : Band V) → length ts ≡ 0 → row < 1048576 → (w : Pages V) → AreOfBand w r row ts → (c : ℕ) → is_ahead r (place row column) c ≡ true → row_of c < row / 16 * 16 + 16 → at_cell w c ≡ None
+pub none_empty : {V : Type 0} (r : Area) (row column : ℕ) (ts : Band V) → length ts ≡ 0 → row < 1048576 → (w : Pages V) → AreOfBand w r row ts → HasNoneAbove w r (place row column) (row / 16 * 16 + 16)
 none_empty {V} r row column ts none sheet w of c ahead u =
     let start : row ≤ row_of c = omega (arith, (sides r (place row column) c ahead).0) in
     cell_of w r row ts of c (cell_below c (omega (arith, u, sheet))) (ahead_within r (place row column) c ahead) (omega (arith, start, u)) ∙ by ts none
@@ -291,7 +291,7 @@ none_empty {V} r row column ts none sheet w of c ahead u =
 pub band_tiles : {V : Type 0} (w : Pages V) (r : Area) (row : ℕ) (band ts : Band V) → band_at w row ≡ Some band → ((g : ℕ) → column_of r.first / 4 ≤ g → g ≤ column_of r.last / 4 → find_part g ts ≡ find_part g band) → AreOfBand w r row ts
 band_tiles w r row band ts is same g l u = ap (λ o. in_band_tile o g) is ∙ sym (same g l u)
 
-pub gap_none : {V : Type 0} (w : Pages V) (r : Area) (row column next : ℕ) → next ≤ 1048576 → ((q : ℕ) → row ≤ q → q < next → band_at w q ≡ None) → (c : ℕ) → is_ahead r (place row column) c ≡ true → row_of c < next → at_cell w c ≡ None
+pub gap_none : {V : Type 0} (w : Pages V) (r : Area) (row column next : ℕ) → next ≤ 1048576 → ((q : ℕ) → row ≤ q → q < next → band_at w q ≡ None) → HasNoneAbove w r (place row column) next
 gap_none w r row column next bound bare c h u =
     row_cell w c (cell_below c (omega (arith, u, bound))) ∙ ap (λ o. in_band o (c / 16384 % 16) (c % 16384)) (bare (row_of c) (omega (arith, (sides r (place row column) c h).0)) u)
 
@@ -313,7 +313,7 @@ turn_earlier {V} w r from start t corner left before whole row column tiles n h 
       (cases_lt c start);
 }
 
-pub none_earlier : {V : Type 0} (w : Pages V) (r : Area) (from start : ℕ) → ((c : ℕ) → is_ahead r from c ≡ true → c < start → at_cell w c ≡ None) → ((c : ℕ) → is_ahead r start c ≡ true → at_cell w c ≡ None) → (c : ℕ) → is_ahead r from c ≡ true → at_cell w c ≡ None
+pub none_earlier : {V : Type 0} (w : Pages V) (r : Area) (from start : ℕ) → ((c : ℕ) → is_ahead r from c ≡ true → c < start → at_cell w c ≡ None) → HasNoneFrom w r start → HasNoneFrom w r from
 none_earlier w r from start clear none c ahead = ⊎_elim (λ q. clear c ahead q) (λ q. none c (ahead_from r start c q (ahead_within r from c ahead))) (cases_lt c start)
 
 -- cells before a row's first column stand in the rows before
@@ -346,7 +346,7 @@ reached_start w r row column top sheet left right = record {
   clear = λ b h l. absurd (omega (arith, (sides r (place row column) b h).0, l));
 }
 
-pub reached_next : {V : Type 0} (w : Pages V) (r : Area) (from row column next start : ℕ) → start ≡ column_of r.first → Reached w r from row column → (row < next) × (next ≤ 1048576) × ((c : ℕ) → is_ahead r (place row column) c ≡ true → row_of c < next → at_cell w c ≡ None) → Reached w r from next start
+pub reached_next : {V : Type 0} (w : Pages V) (r : Area) (from row column next start : ℕ) → start ≡ column_of r.first → Reached w r from row column → (row < next) × (next ≤ 1048576) × HasNoneAbove w r (place row column) next → Reached w r from next start
 reached_next w r from row column next start is reached none =
     let later : row < next = none.0 in
     record {
@@ -361,5 +361,5 @@ reached_next w r from row column next start is reached none =
           (cases_lt c (place row column)));
     }
 
-pub reached_end : {V : Type 0} (w : Pages V) (r : Area) (from row column : ℕ) → row_of r.last < row → Reached w r from row column → (c : ℕ) → is_ahead r from c ≡ true → at_cell w c ≡ None
+pub reached_end : {V : Type 0} (w : Pages V) (r : Area) (from row column : ℕ) → row_of r.last < row → Reached w r from row column → HasNoneFrom w r from
 reached_end w r from row column over reached c ahead = reached.clear c ahead (omega (arith, over, (sides r from c ahead).2))

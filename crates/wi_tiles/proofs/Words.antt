@@ -22,13 +22,13 @@ pub use Rattle.std.specs.Vec.{vec_len}
 pub use Rattle.std.specs.declared.cmp.Ordering.TheVariants.{Equal, Greater, Less}
 pub use Rattle.wi_tiles.specs.Entries.{IsOrdered, get}
 pub use Rattle.wi_tiles.specs.Inner.Cells.{Band, Page, Pages, at_cell, is_ahead, path_of}
-pub use Rattle.wi_tiles.specs.Inner.Changes.{IsChanged, IsKept}
-pub use Rattle.wi_tiles.specs.Inner.Columns.{HasColumns, HasEach, HasLast, IsBare, column_bit}
+pub use Rattle.wi_tiles.specs.Inner.Changes.{IsKept}
+pub use Rattle.wi_tiles.specs.Inner.Columns.{HasColumns, HasEach, IsBare, column_bit}
 pub use Rattle.wi_tiles.specs.Inner.Entries.{entries_from, entries_of, map_of, with_entry}
 unfoldable pub use Rattle.wi_tiles.specs.Inner.Entries.{cells}
 pub use Rattle.wi_tiles.specs.Inner.Lines.{cell, slot}
-pub use Rattle.wi_tiles.specs.Inner.Next.{HasNoneAbove, HasNoneBetween, HasNoneFrom, IsNext, IsStart, band_at, in_band, in_page}
-pub use Rattle.wi_tiles.specs.Inner.Parts.{EndsFilled, Fits, HasSome, IsTrimmed, at_part, at_window, part_from, span}
+pub use Rattle.wi_tiles.specs.Inner.Next.{HasNoneAbove, HasNoneFrom, IsNext, IsStart, band_at, in_band, in_page}
+pub use Rattle.wi_tiles.specs.Inner.Parts.{Fits, HasSome, IsTrimmed, at_part, at_window, part_from, span}
 pub use Rattle.wi_tiles.specs.Inner.Sorted.{IsFilled, IsGap, Rises, at_sorted, find, groups, key}
 pub use Rattle.wi_tiles.specs.Inner.Tile.{at_bit, rank}
 unfoldable pub use Rattle.wi_tiles.specs.Inner.Tile.{slots}

@@ -1,6 +1,6 @@
 //! What has something at some of its places.
 
-ghost use Rattle.std.specs.Prelude.{◌≡◌, ◌↔◌, ◌<◌, ◌==◌, ℕ, Option, Some, None, is_some, not, IsTrue, IfOk, OnOk, OnErr, option_copied, option_map, if◌then◌else◌};
+ghost use Rattle.std.specs.Prelude.{◌≡◌, ◌↔◌, ◌<◌, ℕ, Option, Some, None, is_some, not, IsTrue, IfOk, OnOk, OnErr, option_copied, option_map};
 ghost use Rattle.std.specs.Option.{option_or};
 ghost use Rattle.wi_tiles.specs.Inner.Changes.{IsKept, IsChanged};
 

@@ -1,4 +1,4 @@
-use Rattle.wi_tiles.proofs.Words.{rules, sym, subst, IfSome, place, Pages, AreBeside, IsTurn}
+use Rattle.wi_tiles.proofs.Words.{rules, sym, subst, IfSome, Pages, LeadsOn, AreBeside}
 use Rattle.wi_tiles.proofs.TurnLemmas.{goes_beside}
 use Rattle.wi_tiles.proofs.WalkLemmas.{whatever}
 use Rattle.wi_tiles.proofs.within.beside.Goals as goal
@@ -7,7 +7,7 @@ pub returns-in-Some-clause-empty : goal.returns-in-Some-clause-empty
 returns-in-Some-clause-empty g c = whatever c.turn_beside.result (search rules)
 
 pub returns-in-Some-clause-some : goal.returns-in-Some-clause-some
-returns-in-Some-clause-some g c = subst (λ o. IfSome c.turn_beside.result (λ t. (w : Pages g.row.V.Denot) → AreBeside w c.args.area c.args.row o → IsTurn w c.args.area (place c.args.row c.args.column) t.tile.now t.corner t.left t.before t.whole t.row t.column t.tiles t.first)) (sym c.in-Some.is) c.turn_beside.ensures.some
+returns-in-Some-clause-some g c = subst (λ o. IfSome c.turn_beside.result (λ t. (w : Pages g.row.V.Denot) → AreBeside w c.args.area c.args.row o → LeadsOn w c.args.area c.args.row c.args.column t)) (sym c.in-Some.is) c.turn_beside.ensures.some
 
 pub turn_beside-requires-clause-tiles : goal.turn_beside-requires-clause-tiles
 turn_beside-requires-clause-tiles g c = (goes_beside c.args.area c.args.row c.args.column c.args.tiles c.in-Some.tiles c.args.first c.in-Some.is c.requires).1
