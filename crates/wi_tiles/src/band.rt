@@ -15,11 +15,11 @@ use crate::tile::Tile;
 use wi_values::{Address, Rect};
 
 /// Tiles of a band, with their groups of columns.
-pub type Tiles<'a, V> = &'a [(u32, Tile<V>)];
+pub(crate) type Tiles<'a, V> = &'a [(u32, Tile<V>)];
 
 /// A tile of which something is to come, and where a walk goes on behind that.
 #[derive(Drop)]
-pub struct Turn<'a, V> {
+pub(crate) struct Turn<'a, V> {
     pub tile: &'a Tile<V>,
     // One of its cells, its bits that are to come, and how many others before these have something.
     pub corner: Address,
@@ -36,7 +36,7 @@ pub struct Turn<'a, V> {
 }
 
 /// Those of the tiles of a band.
-pub fn tiles_in<V>(parts: &[(u32, Tile<V>)], area: Rect) -> &[(u32, Tile<V>)]
+pub(crate) fn tiles_in<V>(parts: &[(u32, Tile<V>)], area: Rect) -> &[(u32, Tile<V>)]
     requires { Rises parts.now }
     ensures tiles { AreTiles area result.now }
     ensures same { (g : ℕ) → column_of area.first / 4 ≤ g → g ≤ column_of area.last / 4
@@ -49,7 +49,7 @@ pub fn tiles_in<V>(parts: &[(u32, Tile<V>)], area: Rect) -> &[(u32, Tile<V>)]
 
 /// Turns to the first tile, in a band's rows from a row and a column on, that has something of a rectangle. The tiles before a
 /// first place lie left of the column.
-pub fn turn_beside<'a, V>(
+pub(crate) fn turn_beside<'a, V>(
     tiles: &'a [(u32, Tile<V>)],
     area: Rect,
     from: u32,
@@ -127,7 +127,7 @@ fn next_tile<V>(
 }
 
 /// Turns to the first of these tiles that has something of a rectangle, from a row and a column on.
-pub fn turn_among<'a, V>(
+pub(crate) fn turn_among<'a, V>(
     tiles: &'a [(u32, Tile<V>)],
     area: Rect,
     row: u32,

@@ -17,7 +17,7 @@ use wi_values::Rect;
 /// The row behind a row's band, and behind those below it in its page in which a rectangle has nothing: all, if none of the page's
 /// tiles has anything in its columns. It stands apart, so that a turn from one band to the next takes little.
 #[inline(never)]
-pub fn past_bare<V>(pages: &Pages<V>, area: Rect, row: u32) -> u32
+pub(crate) fn past_bare<V>(pages: &Pages<V>, area: Rect, row: u32) -> u32
     requires { row < rows }
     ensures later { row < result }
     ensures sheet { result ≤ rows }

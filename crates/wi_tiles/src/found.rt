@@ -14,7 +14,7 @@ use crate::pages::{Pages, band_of, past_gap, start};
 use wi_values::{Address, Rect};
 
 /// The first cell of a rectangle, at a cell or after it, that has something, with what it has.
-pub fn found_from<V>(pages: &Pages<V>, area: Rect, from: Address) -> Option<(Address, &V)>
+pub(crate) fn found_from<V>(pages: &Pages<V>, area: Rect, from: Address) -> Option<(Address, &V)>
     ensures some { IfSome result (λ x. IsNext pages.now area from x.0
         × (at_cell pages.now x.0 ≡ Some x.1.now)) }
     ensures sheet { IfSome result (λ x. x.0 < 17179869184) }
@@ -32,7 +32,7 @@ pub fn found_from<V>(pages: &Pages<V>, area: Rect, from: Address) -> Option<(Add
 
 /// Turns to the next tile of which a rectangle has something, from a row and a column on, where tiles of the row's band may be at
 /// hand: those before a first place lie left of the column.
-pub fn turn_on<'a, V>(
+pub(crate) fn turn_on<'a, V>(
     pages: &'a Pages<V>,
     area: Rect,
     row: u32,

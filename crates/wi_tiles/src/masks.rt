@@ -9,7 +9,7 @@ ghost use Rattle.wi_tiles.specs.Inner.Within.{cell_in, line_of, lines_of, IsInsi
 use wi_values::{Address, Rect};
 
 /// The cell of a bit of the tile in which a cell stands.
-pub fn cell_in(corner: Address, bit: u32) -> Address
+pub(crate) fn cell_in(corner: Address, bit: u32) -> Address
     requires { bit < 64 }
     ensures { result ≡ cell_in corner bit }
 {
@@ -20,7 +20,7 @@ pub fn cell_in(corner: Address, bit: u32) -> Address
 }
 
 /// The bits of a group of columns that stand in a band's lines from one to another, from a column on, and in a rectangle's columns.
-pub fn bits_in(area: Rect, group: u32, column: u32, top: u32, bottom: u32) -> u64
+pub(crate) fn bits_in(area: Rect, group: u32, column: u32, top: u32, bottom: u32) -> u64
     requires left { column / 4 ≤ group }
     requires right { group ≤ column_of area.last / 4 }
     requires top { top < 16 }
@@ -56,7 +56,7 @@ fn lines_of(line: u64) -> u64
 }
 
 /// The bits of the lines from one to another.
-pub fn lines_between(top: u32, bottom: u32) -> u64
+pub(crate) fn lines_between(top: u32, bottom: u32) -> u64
     requires top { top < 16 }
     requires bottom { bottom < 16 }
     ensures { (i : ℕ) → i < 64 → (bit_at result i == 1)
@@ -66,7 +66,7 @@ pub fn lines_between(top: u32, bottom: u32) -> u64
 }
 
 /// A bit for each column of a rectangle, by its remainder, and maybe for others.
-pub fn columns_of(area: Rect) -> u64
+pub(crate) fn columns_of(area: Rect) -> u64
     ensures { HasEach area result }
 {
     let left = area.first().column();

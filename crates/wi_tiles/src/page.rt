@@ -16,7 +16,7 @@ use std::marker::Model;
 /// Bands of 16 rows, 256 of which are a page, from the first that has something to the last, and a bit for each column, by its
 /// remainder, in which a tile may have something. It is seen as its bands.
 #[derive(Drop)]
-pub struct Page<V> {
+pub(crate) struct Page<V> {
     bands: Window<Band<V>>,
     columns: u64,
 }
@@ -38,14 +38,14 @@ impl<V> Model for Page<V> {
 
 impl<V> Page<V> {
     /// The band at an index.
-    pub fn band(&self, index: usize) -> Option<&Band<V>>
+    pub(crate) fn band(&self, index: usize) -> Option<&Band<V>>
         ensures { option_copied result ≡ part_from self.now index }
     {
         self.bands.part(index)
     }
 
     /// The index behind those, from one without a band on, that have none because it has none.
-    pub fn past_gap(&self, index: usize) -> usize
+    pub(crate) fn past_gap(&self, index: usize) -> usize
         requires within { index < span }
         requires bare { part_from self.now index ≡ None }
         ensures later { index < result }
@@ -56,7 +56,7 @@ impl<V> Page<V> {
     }
 
     /// Whether it has nothing in any of these columns, by their remainders; it may not know.
-    pub fn lacks(&self, columns: u64) -> bool
+    pub(crate) fn lacks(&self, columns: u64) -> bool
         ensures { IsTrue result → (p : ℕ) → bit_at columns (column_bit p) ≡ 1
             → at_window (at_sorted slot) self.now p ≡ None }
     {

@@ -11,10 +11,10 @@ use crate::window::Window;
 use wi_values::{Address, Rect};
 
 /// Tiles of 16 rows by 4 columns, in order of their columns in a band of 16 rows; 256 bands are a page.
-pub type Pages<V> = Window<Page<V>>;
+pub(crate) type Pages<V> = Window<Page<V>>;
 
 /// The digits of a cell: its page, its band, its group of columns, and its place in a tile.
-pub fn path_of(cell: Address) -> u64
+pub(crate) fn path_of(cell: Address) -> u64
     ensures value { result ≡ path_of cell }
     ensures within { result < 256 * (256 * (4096 * 64)) }
     ensures cell { cell < 17179869184 }
@@ -28,7 +28,7 @@ pub fn path_of(cell: Address) -> u64
 }
 
 /// The band of a row.
-pub fn band_of<V>(pages: &Pages<V>, row: u32) -> Option<&Band<V>>
+pub(crate) fn band_of<V>(pages: &Pages<V>, row: u32) -> Option<&Band<V>>
     ensures { option_copied result ≡ band_at pages.now row }
 {
     match pages.part((row / 4_096) as usize) {
@@ -38,7 +38,7 @@ pub fn band_of<V>(pages: &Pages<V>, row: u32) -> Option<&Band<V>>
 }
 
 /// A row up to which none has a band, where this one has none; it is found without a search.
-pub fn past_gap<V>(pages: &Pages<V>, row: u32) -> u32
+pub(crate) fn past_gap<V>(pages: &Pages<V>, row: u32) -> u32
     requires row { row < rows }
     requires bare { band_at pages.now row ≡ None }
     ensures later { row < result }
@@ -52,7 +52,7 @@ pub fn past_gap<V>(pages: &Pages<V>, row: u32) -> u32
 }
 
 /// The row and the column of a rectangle's first cell at a cell or after it, or a row below the rectangle.
-pub fn start(area: Rect, from: Address) -> (u32, u32)
+pub(crate) fn start(area: Rect, from: Address) -> (u32, u32)
     ensures start { IsStart area from result.0 result.1 }
     ensures sheet { result.0 ≤ rows }
 {

@@ -7,7 +7,7 @@ ghost use Rattle.wi_tiles.specs.Inner.Changes.{IsKept, IsChanged};
 use std::alloc::{AllocError, Global};
 
 /// Something at some of so many places.
-pub trait Places<V> {
+pub(crate) trait Places<V> {
     /// How many places there are.
     ghost size: { ℕ };
 
@@ -50,7 +50,7 @@ pub trait Places<V> {
 }
 
 /// Takes room for one part, where there is none yet. If memory runs out, all is as before.
-pub fn room_for_first<T>(parts: &mut Vec<T>) -> Result<(), AllocError>
+pub(crate) fn room_for_first<T>(parts: &mut Vec<T>) -> Result<(), AllocError>
     ensures { parts.new.items ≡ parts.old.items }
 {
     if parts.is_empty() {

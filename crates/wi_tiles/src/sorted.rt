@@ -16,7 +16,7 @@ const GROUPS: u64 = 4_096;
 
 /// Tiles in order of their keys, found by the first digit of a path. Each has something.
 #[derive(Drop)]
-pub struct Band<V> {
+pub(crate) struct Band<V> {
     parts: Vec<(u32, Tile<V>)>,
 }
 
@@ -35,7 +35,7 @@ impl<V> Model for Band<V> {
 
 impl<V> Band<V> {
     /// The tiles with their keys, in order.
-    pub fn parts(&self) -> &[(u32, Tile<V>)]
+    pub(crate) fn parts(&self) -> &[(u32, Tile<V>)]
         ensures parts { result.now ≡ self.now }
         ensures rises { Rises result.now }
     {
@@ -154,7 +154,7 @@ fn place_of<T>(parts: &[(u32, T)], group: u32) -> Result<usize, usize>
 }
 
 /// The place of the first part with a key or a later one.
-pub fn place_from<T>(parts: &[(u32, T)], group: u32) -> usize
+pub(crate) fn place_from<T>(parts: &[(u32, T)], group: u32) -> usize
     requires { Rises parts.now }
     ensures bound { result ≤ length parts.now }
     ensures below { (i : ℕ) → i < result → key parts.now i < group }
@@ -174,7 +174,7 @@ pub fn place_from<T>(parts: &[(u32, T)], group: u32) -> usize
 }
 
 /// The part with a key.
-pub fn part_of<T>(parts: &[(u32, T)], group: u32) -> Option<&T>
+fn part_of<T>(parts: &[(u32, T)], group: u32) -> Option<&T>
     requires { Rises parts.now }
     ensures { option_copied result ≡ find group parts.now }
 {

@@ -15,7 +15,7 @@ use std::mem;
 
 /// The cells of a tile that have something, by bits, and what they have. It is seen as 64 places.
 #[derive(Drop)]
-pub struct Tile<V> {
+pub(crate) struct Tile<V> {
     bits: u64,
     values: Vec<V>,
 }
@@ -50,7 +50,7 @@ impl<V> Tile<V> {
     }
 
     /// What a bit has.
-    pub fn value(&self, bit: u32) -> Option<&V>
+    fn value(&self, bit: u32) -> Option<&V>
         requires { bit < 64 }
         ensures { option_copied result ≡ slice_index_or self.now bit None }
     {
@@ -62,7 +62,7 @@ impl<V> Tile<V> {
     }
 
     /// The bits of a mask that have something.
-    pub fn bits_of(&self, mask: u64) -> u64
+    pub(crate) fn bits_of(&self, mask: u64) -> u64
         ensures sound { (i : ℕ) → i < 64 → bit_at result i ≡ 1
             → (bit_at mask i ≡ 1) × IsSome (slice_index_or self.now i None) }
         ensures whole { (i : ℕ) → i < 64 → bit_at mask i ≡ 1
@@ -72,7 +72,7 @@ impl<V> Tile<V> {
     }
 
     /// How many bits before one have something.
-    pub fn count_before(&self, bit: u32) -> usize
+    pub(crate) fn count_before(&self, bit: u32) -> usize
         requires { bit < 64 }
         ensures { result ≡ filled self.now bit }
     {
@@ -80,7 +80,7 @@ impl<V> Tile<V> {
     }
 
     /// What the bit has before which so many have something.
-    pub fn value_at(&self, place: usize) -> &V
+    pub(crate) fn value_at(&self, place: usize) -> &V
         requires { place < filled self.now 64 }
         ensures { (i : ℕ) → i < 64 → IsSome (slice_index_or self.now i None)
             → filled self.now i ≡ place → slice_index_or self.now i None ≡ Some result.now }

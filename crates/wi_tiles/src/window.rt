@@ -15,7 +15,7 @@ const SPAN: u64 = 256;
 /// Parts found by the first digit of a path. There are none before the first, and none behind the last, so that a lone part
 /// costs the same wherever it stands. What has a window keeps it trimmed: its first part and its last have something.
 #[derive(Drop)]
-pub struct Window<T> {
+pub(crate) struct Window<T> {
     first: usize,
     parts: Vec<T>,
 }
@@ -33,7 +33,7 @@ impl<T> Model for Window<T> {
 
 impl<T> Window<T> {
     /// No parts. Takes no memory.
-    pub fn new(alloc: Global) -> Window<T>
+    pub(crate) fn new(alloc: Global) -> Window<T>
         ensures { result.1 ≡ [] }
     {
         Window {
@@ -43,7 +43,7 @@ impl<T> Window<T> {
     }
 
     /// Whether there are no parts.
-    pub fn is_empty(&self) -> bool
+    pub(crate) fn is_empty(&self) -> bool
         ensures none { IsTrue result ↔ (self.now.1 ≡ []) }
         ensures bound { Fits self.now.0 self.now.1 }
     {
@@ -51,7 +51,7 @@ impl<T> Window<T> {
     }
 
     /// The part at an index.
-    pub fn part(&self, index: usize) -> Option<&T>
+    pub(crate) fn part(&self, index: usize) -> Option<&T>
         ensures { option_copied result ≡ part_from self.now index }
     {
         match place_in(self.first, &self.parts, index) {
@@ -61,7 +61,7 @@ impl<T> Window<T> {
     }
 
     /// What a path has.
-    pub fn get<V>(&self, path: u64) -> Option<&V>
+    pub(crate) fn get<V>(&self, path: u64) -> Option<&V>
     where
         T: Places<V>,
         requires { path < span * T.size }
@@ -74,7 +74,7 @@ impl<T> Window<T> {
     }
 
     /// An index up to which none has a part, where this one has none; it is found without a search.
-    pub fn past_gap(&self, index: usize) -> usize
+    pub(crate) fn past_gap(&self, index: usize) -> usize
         requires within { index < span }
         requires bare { part_from self.now index ≡ None }
         ensures later { index < result }
@@ -87,14 +87,14 @@ impl<T> Window<T> {
 
 impl<T: Drop> Window<T> {
     /// Takes all parts away, and keeps the room for them.
-    pub fn clear(&mut self)
+    pub(crate) fn clear(&mut self)
         ensures { self.new.1 ≡ [] }
     {
         self.parts.clear();
     }
 
     /// Puts a value where nothing stands, and answers whether nothing stood. If memory runs out, each path has what it had.
-    pub fn put_new<V: Drop>(
+    pub(crate) fn put_new<V: Drop>(
         &mut self,
         path: u64,
         value: V,
@@ -120,7 +120,7 @@ impl<T: Drop> Window<T> {
     }
 
     /// Puts a value in the place of what stands, and gives that; where nothing stands it does nothing. Takes no memory.
-    pub fn replace<V: Drop>(&mut self, path: u64, value: V) -> Option<V>
+    pub(crate) fn replace<V: Drop>(&mut self, path: u64, value: V) -> Option<V>
     where
         T: Places<V>,
         requires { path < span * T.size }
@@ -136,7 +136,7 @@ impl<T: Drop> Window<T> {
     }
 
     /// Takes away what a path has. Takes no memory.
-    pub fn remove<V>(&mut self, path: u64, alloc: Global) -> Option<V>
+    pub(crate) fn remove<V>(&mut self, path: u64, alloc: Global) -> Option<V>
     where
         T: Places<V>,
         requires { path < span * T.size }
