@@ -2,6 +2,7 @@
 use Rattle.wi_tiles.proofs.Words.{◌≡◌, ℕ, ◌+◌, ◌-◌, ◌*◌, ◌/◌, ◌%◌, ◌<◌, ◌≤◌, List, [], ◌∷◌, length, Some, None, sym, ap, arith, ◌∙◌, ⊎_elim, zero, suc, refl, cond, eqb, subst, true, false, Bool, IsSome, ◌==◌, cases_lt, ne_eqb, eqb-true, Band, cell, slot, at_part, key, Rises, find as find_part}
 use lib.ListN.{take, drop}
 use Rattle.wi_tiles.proofs.Keys.{find_none}
+use Rattle.wi_tiles.proofs.Outcomes.{nothing_some}
 
 find_dropped : {S : Type 0} (ts : List (ℕ × S)) (n g : ℕ) → ((i : ℕ) → i < n → key ts i < g) → find_part g (drop n ts) ≡ find_part g ts
 find_dropped ts zero g below = refl
@@ -61,9 +62,6 @@ module _ {S : Type 0} (ts : List (ℕ × S)) (low high : ℕ) where
 
 pub low_high : {S : Type 0} (ts : List (ℕ × S)) (low high g h : ℕ) → g < h → low ≤ length ts → ((i : ℕ) → i < low → key ts i < g) → ((i : ℕ) → high ≤ i → i < length ts → h ≤ key ts i) → low ≤ high
 low_high ts low high g h less bound below above = ⊎_elim (λ q. absurd (omega (arith, below high q, above high (omega arith) (omega (arith, q, bound)), less))) (λ q. q) (cases_lt high low)
-
-nothing_some : (V : Type 0) → IsSome {T = V} None → ⊥
-nothing_some V e = grind arith
 
 -- where there is one tile, all stands in it
 pub one_key : {V : Type 0} (ts : Band V) (line k : ℕ) → length ts ≡ 1 → IsSome (cell ts line k) → k / 4 ≡ key ts 0

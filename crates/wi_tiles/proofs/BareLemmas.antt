@@ -1,16 +1,14 @@
 -- Which columns a page has bits for, and bands in which a rectangle has nothing.
-use Rattle.wi_tiles.proofs.Words.{◌≡◌, ℕ, ◌+◌, ◌*◌, ◌/◌, ◌%◌, ◌^◌, ◌<◌, ◌≤◌, List, length, Option, Some, None, sym, ap, arith, ◌∙◌, ⊎_elim, refl, cond, subst, true, ◌==◌, if◌then◌else◌, IsTrue, IsSome, is_some, slice_index_or, option_map, bit_and, bit_or, bit_at, w64, cases_eq, cases_lt, bit_at-zero, bit_at_set_same, bit_at_set_other, eq-eqb, eqb-true, ne_eqb, Area, place, row_of, column_of, is_within, Pages, Page, Band, at_cell, is_ahead, column_bit, HasColumns, HasEach, IsBare, cell, slot, in_page, in_band, at_part, part_from, at_window, at_sorted, key, Rises, find as find_part, IsInside}
+use Rattle.wi_tiles.proofs.Words.{◌≡◌, ℕ, ◌+◌, ◌*◌, ◌/◌, ◌%◌, ◌^◌, ◌<◌, ◌≤◌, List, length, Option, Some, None, sym, ap, arith, ◌∙◌, ⊎_elim, refl, cond, subst, true, ◌==◌, if◌then◌else◌, IsTrue, IsSome, is_some, slice_index_or, option_map, bit_and, bit_or, bit_at, w64, cases_eq, cases_lt, bit_at-zero, bit_at_set_same, bit_at_set_other, eq-eqb, eqb-true, ne_eqb, Area, place, row_of, column_of, is_within, Pages, Page, Band, at_cell, is_ahead, column_bit, HasColumns, HasEach, IsBare, cell, slot, in_page, in_band, at_part, part_from, at_window, at_sorted, key, Rises, find as find_part, IsInside, within_parts}
 use Rattle.wi_tiles.proofs.Keys.{find_at, find_beyond, above_more}
 use Rattle.wi_tiles.proofs.MaskLemmas.{both_from}
 use Rattle.wi_tiles.proofs.NextLemmas.{row_cell}
-use Rattle.wi_tiles.proofs.WalkLemmas.{nothing_but, sides_of, ahead_within}
+use Rattle.wi_tiles.proofs.Outcomes.{nothing_some}
+use Rattle.wi_tiles.proofs.WalkLemmas.{nothing_but, ahead_within}
 
 -- what a page has at a path
 abbrev pub in_bands : {V : Type 0} → Page V → ℕ → Option V
 in_bands w p = at_window (at_sorted slot) w p
-
-nothing_some : (V : Type 0) → IsSome {T = V} None → ⊥
-nothing_some V e = grind arith
 
 replaced_some : {V : Type 0} (v : V) (o : Option V) → IsSome (option_map (λ _. v) o) → IsSome o
 replaced_some v None some = some
@@ -110,7 +108,7 @@ module _ {V : Type 0} (ts : Band V) (r : Area) (place : ℕ) (rises : Rises ts) 
 -- rows of a page in which a rectangle has nothing
 pub bare_rows : {V : Type 0} (w : Pages V) (r : Area) (row n : ℕ) (p : Page V) → part_from w (row / 4096) ≡ Some p → n ≤ 256 → row < 1048576 → ((i : ℕ) → row / 16 % 256 + 1 ≤ i → i < n → IsBare r (part_from p i)) → (c : ℕ) → is_within r c ≡ true → row / 16 * 16 + 16 ≤ row_of c → row_of c < row / 4096 * 4096 + 16 * n → at_cell w c ≡ None
 bare_rows w r row n p is bound sheet bare c within l u =
-    let s = sides_of r c within in
+    let s = within_parts r c within in
     let same : row_of c / 4096 ≡ row / 4096 = omega (arith, l, u, bound) in
     row_cell w c (omega (arith, u, bound, sheet))
     ∙ ap (λ i. in_band (in_page (part_from w i) (c / 16384 / 16 % 256)) (c / 16384 % 16) (c % 16384)) same

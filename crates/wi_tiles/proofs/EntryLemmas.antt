@@ -1,16 +1,6 @@
 -- The entries of cells: what a look-up finds in them, and what one cell's change makes of them.
-use Rattle.wi_tiles.proofs.Words.{◌≡◌, ℕ, ◌+◌, ◌-◌, ◌<◌, ◌≤◌, List, [], ◌∷◌, ◌++◌, length, Option, Some, None, sym, ap, arith, ◌∙◌, zero, suc, refl, cond, ◌==◌, if◌then◌else◌, option_map, Less, Equal, Greater, nat_cmp, is_eq, match_ordering, nat_cmp_is, is_at, insert_entry, All, AllByRecursion, All-nil, All-cons, keys_of, lookup, remove_entry, set_value, eq-eqb, ne_eqb, ◌≢◌, with_entry, entries_from}
+use Rattle.wi_tiles.proofs.Words.{◌≡◌, ℕ, ◌+◌, ◌-◌, ◌<◌, ◌≤◌, List, [], ◌∷◌, ◌++◌, length, Option, Some, None, sym, ap, arith, ◌∙◌, zero, suc, refl, cond, ◌==◌, if◌then◌else◌, option_map, Less, Equal, Greater, nat_cmp, is_eq, match_ordering, is_at, insert_entry, All, AllByRecursion, All-nil, All-cons, keys_of, lookup, remove_entry, set_value, eq-eqb, ne_eqb, ◌≢◌, with_entry, entries_from, cmp_after, cmp_before, cmp_equal}
 use Rattle.std.specs.List.Sorted.{IsStrictlySortedBy}
-
--- how two cells compare
-less : (a b : ℕ) → a < b → nat_cmp a b ≡ Less
-less a b l = sym (nat_cmp_is a b Less l)
-
-equal : (a : ℕ) → nat_cmp a a ≡ Equal
-equal a = sym (nat_cmp_is a a Equal refl)
-
-greater : (a b : ℕ) → b < a → nat_cmp a b ≡ Greater
-greater a b l = sym (nat_cmp_is a b Greater l)
 
 -- the first of some that ascend
 rise_nil : IsStrictlySortedBy nat_cmp []
@@ -57,7 +47,7 @@ module _ {V : Type 0} where
       where
         at : (o : Option V) → (lookup (is_at (nat_cmp k)) (entries_from f (suc s) a ++ es) ≡ lookup (is_at (nat_cmp k)) es) → lookup (is_at (nat_cmp k)) (with_entry s o (entries_from f (suc s) a) ++ es) ≡ lookup (is_at (nat_cmp k)) es
         at None rest = rest
-        at (Some v) rest = ap (λ r. cond (is_eq r) (Some v) (lookup (is_at (nat_cmp k)) (entries_from f (suc s) a ++ es))) (greater k s (omega arith)) ∙ rest
+        at (Some v) rest = ap (λ r. cond (is_eq r) (Some v) (lookup (is_at (nat_cmp k)) (entries_from f (suc s) a ++ es))) (cmp_after k s (omega arith)) ∙ rest
 
     pass_insert : (w : V) (s a : ℕ) (es : List (ℕ × V)) → s + a ≤ k → insert_entry nat_cmp (entries_from f s a ++ es) k w ≡ entries_from f s a ++ insert_entry nat_cmp es k w
     pass_insert w s zero es h = refl
@@ -65,7 +55,7 @@ module _ {V : Type 0} where
       where
         at : (o : Option V) → (insert_entry nat_cmp (entries_from f (suc s) a ++ es) k w ≡ entries_from f (suc s) a ++ insert_entry nat_cmp es k w) → insert_entry nat_cmp (with_entry s o (entries_from f (suc s) a) ++ es) k w ≡ with_entry s o (entries_from f (suc s) a) ++ insert_entry nat_cmp es k w
         at None rest = rest
-        at (Some v) rest = ap (λ r. match_ordering r ((k, w) ∷ (s, v) ∷ (entries_from f (suc s) a ++ es)) ((s, w) ∷ (entries_from f (suc s) a ++ es)) ((s, v) ∷ insert_entry nat_cmp (entries_from f (suc s) a ++ es) k w)) (greater k s (omega arith)) ∙ ap (λ ds. (s, v) ∷ ds) rest
+        at (Some v) rest = ap (λ r. match_ordering r ((k, w) ∷ (s, v) ∷ (entries_from f (suc s) a ++ es)) ((s, w) ∷ (entries_from f (suc s) a ++ es)) ((s, v) ∷ insert_entry nat_cmp (entries_from f (suc s) a ++ es) k w)) (cmp_after k s (omega arith)) ∙ ap (λ ds. (s, v) ∷ ds) rest
 
     pass_remove : (s a : ℕ) (es : List (ℕ × V)) → s + a ≤ k → remove_entry (is_at (nat_cmp k)) (entries_from f s a ++ es) ≡ entries_from f s a ++ remove_entry (is_at (nat_cmp k)) es
     pass_remove s zero es h = refl
@@ -73,7 +63,7 @@ module _ {V : Type 0} where
       where
         at : (o : Option V) → (remove_entry (is_at (nat_cmp k)) (entries_from f (suc s) a ++ es) ≡ entries_from f (suc s) a ++ remove_entry (is_at (nat_cmp k)) es) → remove_entry (is_at (nat_cmp k)) (with_entry s o (entries_from f (suc s) a) ++ es) ≡ with_entry s o (entries_from f (suc s) a) ++ remove_entry (is_at (nat_cmp k)) es
         at None rest = rest
-        at (Some v) rest = ap (λ r. cond (is_eq r) (entries_from f (suc s) a ++ es) ((s, v) ∷ remove_entry (is_at (nat_cmp k)) (entries_from f (suc s) a ++ es))) (greater k s (omega arith)) ∙ ap (λ ds. (s, v) ∷ ds) rest
+        at (Some v) rest = ap (λ r. cond (is_eq r) (entries_from f (suc s) a ++ es) ((s, v) ∷ remove_entry (is_at (nat_cmp k)) (entries_from f (suc s) a ++ es))) (cmp_after k s (omega arith)) ∙ ap (λ ds. (s, v) ∷ ds) rest
 
     pass_set : (w : V) (s a : ℕ) (es : List (ℕ × V)) → s + a ≤ k → set_value (is_at (nat_cmp k)) (entries_from f s a ++ es) w ≡ entries_from f s a ++ set_value (is_at (nat_cmp k)) es w
     pass_set w s zero es h = refl
@@ -81,7 +71,7 @@ module _ {V : Type 0} where
       where
         at : (o : Option V) → (set_value (is_at (nat_cmp k)) (entries_from f (suc s) a ++ es) w ≡ entries_from f (suc s) a ++ set_value (is_at (nat_cmp k)) es w) → set_value (is_at (nat_cmp k)) (with_entry s o (entries_from f (suc s) a) ++ es) w ≡ with_entry s o (entries_from f (suc s) a) ++ set_value (is_at (nat_cmp k)) es w
         at None rest = rest
-        at (Some v) rest = ap (λ r. cond (is_eq r) ((s, w) ∷ (entries_from f (suc s) a ++ es)) ((s, v) ∷ set_value (is_at (nat_cmp k)) (entries_from f (suc s) a ++ es) w)) (greater k s (omega arith)) ∙ ap (λ ds. (s, v) ∷ ds) rest
+        at (Some v) rest = ap (λ r. cond (is_eq r) ((s, w) ∷ (entries_from f (suc s) a ++ es)) ((s, v) ∷ set_value (is_at (nat_cmp k)) (entries_from f (suc s) a ++ es) w)) (cmp_after k s (omega arith)) ∙ ap (λ ds. (s, v) ∷ ds) rest
 
     -- a cell isn't among the entries after it
     past_lookup : (s n : ℕ) → k < s → lookup (is_at (nat_cmp k)) (entries_from f s n) ≡ None
@@ -90,7 +80,7 @@ module _ {V : Type 0} where
       where
         at : (o : Option V) → (lookup (is_at (nat_cmp k)) (entries_from f (suc s) n) ≡ None) → lookup (is_at (nat_cmp k)) (with_entry s o (entries_from f (suc s) n)) ≡ None
         at None rest = rest
-        at (Some v) rest = ap (λ r. cond (is_eq r) (Some v) (lookup (is_at (nat_cmp k)) (entries_from f (suc s) n))) (less k s l) ∙ rest
+        at (Some v) rest = ap (λ r. cond (is_eq r) (Some v) (lookup (is_at (nat_cmp k)) (entries_from f (suc s) n))) (cmp_before k s l) ∙ rest
 
     past_insert : (w : V) (s n : ℕ) → k < s → insert_entry nat_cmp (entries_from f s n) k w ≡ (k, w) ∷ entries_from f s n
     past_insert w s zero l = refl
@@ -98,7 +88,7 @@ module _ {V : Type 0} where
       where
         at : (o : Option V) → (insert_entry nat_cmp (entries_from f (suc s) n) k w ≡ (k, w) ∷ entries_from f (suc s) n) → insert_entry nat_cmp (with_entry s o (entries_from f (suc s) n)) k w ≡ (k, w) ∷ with_entry s o (entries_from f (suc s) n)
         at None rest = rest
-        at (Some v) rest = ap (λ r. match_ordering r ((k, w) ∷ (s, v) ∷ entries_from f (suc s) n) ((s, w) ∷ entries_from f (suc s) n) ((s, v) ∷ insert_entry nat_cmp (entries_from f (suc s) n) k w)) (less k s l)
+        at (Some v) rest = ap (λ r. match_ordering r ((k, w) ∷ (s, v) ∷ entries_from f (suc s) n) ((s, w) ∷ entries_from f (suc s) n) ((s, v) ∷ insert_entry nat_cmp (entries_from f (suc s) n) k w)) (cmp_before k s l)
 
     past_remove : (s n : ℕ) → k < s → remove_entry (is_at (nat_cmp k)) (entries_from f s n) ≡ entries_from f s n
     past_remove s zero l = refl
@@ -106,7 +96,7 @@ module _ {V : Type 0} where
       where
         at : (o : Option V) → (remove_entry (is_at (nat_cmp k)) (entries_from f (suc s) n) ≡ entries_from f (suc s) n) → remove_entry (is_at (nat_cmp k)) (with_entry s o (entries_from f (suc s) n)) ≡ with_entry s o (entries_from f (suc s) n)
         at None rest = rest
-        at (Some v) rest = ap (λ r. cond (is_eq r) (entries_from f (suc s) n) ((s, v) ∷ remove_entry (is_at (nat_cmp k)) (entries_from f (suc s) n))) (less k s l) ∙ ap (λ ds. (s, v) ∷ ds) rest
+        at (Some v) rest = ap (λ r. cond (is_eq r) (entries_from f (suc s) n) ((s, v) ∷ remove_entry (is_at (nat_cmp k)) (entries_from f (suc s) n))) (cmp_before k s l) ∙ ap (λ ds. (s, v) ∷ ds) rest
 
     past_set : (w : V) (s n : ℕ) → k < s → set_value (is_at (nat_cmp k)) (entries_from f s n) w ≡ entries_from f s n
     past_set w s zero l = refl
@@ -114,7 +104,7 @@ module _ {V : Type 0} where
       where
         at : (o : Option V) → (set_value (is_at (nat_cmp k)) (entries_from f (suc s) n) w ≡ entries_from f (suc s) n) → set_value (is_at (nat_cmp k)) (with_entry s o (entries_from f (suc s) n)) w ≡ with_entry s o (entries_from f (suc s) n)
         at None rest = rest
-        at (Some v) rest = ap (λ r. cond (is_eq r) ((s, w) ∷ entries_from f (suc s) n) ((s, v) ∷ set_value (is_at (nat_cmp k)) (entries_from f (suc s) n) w)) (less k s l) ∙ ap (λ ds. (s, v) ∷ ds) rest
+        at (Some v) rest = ap (λ r. cond (is_eq r) ((s, w) ∷ entries_from f (suc s) n) ((s, v) ∷ set_value (is_at (nat_cmp k)) (entries_from f (suc s) n) w)) (cmp_before k s l) ∙ ap (λ ds. (s, v) ∷ ds) rest
 
   module _ (f : ℕ → Option V) (k n : ℕ) (h : k < n) where
     -- the entries before and after it
@@ -135,7 +125,7 @@ module _ {V : Type 0} where
       where
         at : (o : Option V) → lookup (is_at (nat_cmp k)) (with_entry k o back) ≡ o
         at None = past_lookup f k (suc k) (n - suc k) high
-        at (Some v) = ap (λ r. cond (is_eq r) (Some v) (lookup (is_at (nat_cmp k)) back)) (equal k)
+        at (Some v) = ap (λ r. cond (is_eq r) (Some v) (lookup (is_at (nat_cmp k)) back)) (cmp_equal k k refl)
 
     module _ (g : ℕ → Option V) (o : Option V) (changed : (c : ℕ) → c < n → g c ≡ (if c == k then o else f c)) where
       same_at : (c : ℕ) → c < n → c ≢ k → g c ≡ f c
@@ -165,7 +155,7 @@ module _ {V : Type 0} where
       where
         at : (o : Option V) → back ≡ remove_entry (is_at (nat_cmp k)) (with_entry k o back)
         at None = sym (past_remove f k (suc k) (n - suc k) high)
-        at (Some v) = sym (ap (λ r. cond (is_eq r) back ((k, v) ∷ remove_entry (is_at (nat_cmp k)) back)) (equal k))
+        at (Some v) = sym (ap (λ r. cond (is_eq r) back ((k, v) ∷ remove_entry (is_at (nat_cmp k)) back)) (cmp_equal k k refl))
 
     pub length_cut : (g : ℕ → Option V) (w : V) → f k ≡ Some w → ((c : ℕ) → c < n → g c ≡ (if c == k then None else f c)) → length (entries_from g 0 n) + 1 ≡ length (entries_from f 0 n)
     length_cut g w some changed = ap (λ es. length es + 1) (reopened g None changed) ∙ sym (ap length (opened f k n h ∙ ap (λ o. front ++ with_entry k o back) some) ∙ longer front)
@@ -179,7 +169,7 @@ module _ {V : Type 0} where
       where
         at : (o : Option V) → with_entry k (option_map (λ _. w) o) back ≡ set_value (is_at (nat_cmp k)) (with_entry k o back) w
         at None = sym (past_set f k w (suc k) (n - suc k) high)
-        at (Some v) = sym (ap (λ r. cond (is_eq r) ((k, w) ∷ back) ((k, v) ∷ set_value (is_at (nat_cmp k)) back w)) (equal k))
+        at (Some v) = sym (ap (λ r. cond (is_eq r) ((k, w) ∷ back) ((k, v) ∷ set_value (is_at (nat_cmp k)) back w)) (cmp_equal k k refl))
 
     pub length_set : (g : ℕ → Option V) (w : V) → ((c : ℕ) → c < n → g c ≡ (if c == k then option_map (λ _. w) (f k) else f c)) → length (entries_from g 0 n) ≡ length (entries_from f 0 n)
     length_set g w changed = ap length (reopened g (option_map (λ _. w) (f k)) changed) ∙ as_long front (f k) ∙ sym (ap length (opened f k n h))
@@ -210,7 +200,7 @@ module _ {V : Type 0} where
     where
       at : (o : Option V) → (AllByRecursion (λ y. nat_cmp k y ≡ Less) (keys_of (entries_from f (suc s) n))) → AllByRecursion (λ y. nat_cmp k y ≡ Less) (keys_of (with_entry s o (entries_from f (suc s) n)))
       at None rest = rest
-      at (Some v) rest = (less k s l, rest)
+      at (Some v) rest = (cmp_before k s l, rest)
 
   pub entries_rise : (f : ℕ → Option V) (s n : ℕ) → IsStrictlySortedBy nat_cmp (keys_of (entries_from f s n))
   entries_rise f s zero = rise_nil

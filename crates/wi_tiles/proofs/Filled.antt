@@ -1,5 +1,6 @@
 -- That each part has something, after a change of one part.
 use Rattle.wi_tiles.proofs.Words.{◌≡◌, ℕ, ◌<◌, List, [], ◌∷◌, length, ◌+◌, ◌*◌, ◌/◌, ◌%◌, Option, Some, None, sym, ap, arith, ◌∙◌, ⊎_elim, zero, suc, refl, cond, subst, take, drop, get_or, ◌↔◌, IsTrue, ◌==◌, if◌then◌else◌, option_map, slice_set, option_or, All, insert, remove, cases_eq, All-nil, All-cons, All-head, All-tail, All-append, All-take, All-drop, eq-eqb, ne_eqb, eqb-true, at_part, find, at_sorted, IsFilled}
+use Rattle.wi_tiles.proofs.Outcomes.{some_none}
 
 -- all of some, with one more, one less, or one back
 pub all_more : {X : Type 0} (P : X → Type 0) (xs : List X) (i : ℕ) (x : X) → All P xs → P x → All P (insert xs i x)
@@ -21,9 +22,6 @@ remove_set (y ∷ ys) (suc i) x = ap (λ zs. y ∷ zs) (remove_set ys i x)
 pub all_none : {X : Type 0} (P : X → Type 0) (xs : List X) → xs ≡ [] → All P xs
 all_none P xs e = subst (λ ys. All P ys) (sym e) (All-nil P)
 
-never : {X : Type 0} (x : X) → Some x ≡ None → ⊥
-never x e = grind arith
-
 module _ {S V : Type 0} (at : S → ℕ → Option V) where
   changed_at : (s t : S) (place : ℕ) (o : Option V) → ((p : ℕ) → at t p ≡ (if p == place then o else at s p)) → at t place ≡ o
   changed_at s t place o changed = changed place ∙ ap (λ b. cond b o (at s place)) (eq-eqb place place refl)
@@ -33,8 +31,8 @@ module _ {S V : Type 0} (at : S → ℕ → Option V) where
   filled_put s t place v put none = put_some (at s place) (sym (changed_at s t place (option_or (at s place) (Some v)) put) ∙ none place)
     where
       put_some : (o : Option V) → option_or o (Some v) ≡ None → ⊥
-      put_some None e = never v e
-      put_some (Some w) e = never w e
+      put_some None e = some_none v e
+      put_some (Some w) e = some_none w e
 
   -- and where one was put in the place of another
   pub filled_replaced : (s t : S) (place : ℕ) (v : V) → ((p : ℕ) → at t p ≡ (if p == place then option_map (λ _. v) (at s place) else at s p)) → (((p : ℕ) → at s p ≡ None) → ⊥) → ((p : ℕ) → at t p ≡ None) → ⊥
@@ -45,7 +43,7 @@ module _ {S V : Type 0} (at : S → ℕ → Option V) where
     where
       map_none : (o : Option V) → option_map (λ _. v) o ≡ None → o ≡ None
       map_none None e = refl
-      map_none (Some w) e = absurd (never v e)
+      map_none (Some w) e = absurd (some_none v e)
 
   pub filled_kept : (s t : S) → ((p : ℕ) → at t p ≡ at s p) → (((p : ℕ) → at s p ≡ None) → ⊥) → ((p : ℕ) → at t p ≡ None) → ⊥
   filled_kept s t kept filled none = filled (λ p. sym (kept p) ∙ none p)

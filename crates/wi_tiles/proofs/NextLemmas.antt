@@ -1,8 +1,9 @@
 -- Where a walk through a rectangle begins, and what rows without a band have.
-use Rattle.wi_tiles.proofs.Words.{◌≡◌, ℕ, ◌+◌, ◌*◌, ◌/◌, ◌%◌, ◌<◌, ◌≤◌, List, ◌∷◌, Option, Some, None, sym, ap, arith, ◌∙◌, ⊎_elim, zero, suc, refl, cond, subst, true, false, ◌&&◌, nat_le, filter, IsSome, max, ◌≢◌, keys_of, true≢false, cases_eq, and_parts, and_from, leb-true, le-leb, Area, row_of, column_of, Pages, Page, Band, at_cell, is_ahead, with_entry, entries_from, slot, in_page, band_at, in_band, IsStart, at_part, part_from, at_window, at_sorted, find as find_part}
+use Rattle.wi_tiles.proofs.Words.{◌≡◌, ℕ, ◌+◌, ◌*◌, ◌/◌, ◌%◌, ◌<◌, ◌≤◌, List, ◌∷◌, Option, Some, None, sym, ap, arith, ◌∙◌, ⊎_elim, zero, suc, refl, cond, subst, true, false, ◌&&◌, nat_le, filter, IsSome, max, ◌≢◌, keys_of, true≢false, cases_eq, and_parts, and_from, leb-true, le-leb, Area, row_of, column_of, Pages, Page, Band, at_cell, is_ahead, with_entry, entries_from, slot, in_page, band_at, in_band, IsStart, at_part, part_from, at_window, at_sorted, find as find_part, within_from, within_parts}
 use Rattle.std.proofs.Common.{Bool}
 use Rattle.std.specs.List.{find}
 use Rattle.wi_tiles.proofs.CellLemmas.{digits}
+use Rattle.wi_tiles.proofs.Outcomes.{nothing_some, some_none}
 
 -- what a cell has is what its band has in its line and its column
 in_pages : {V : Type 0} (w : Pages V) (p r k : ℕ) → (p % 256 ≡ r / 4096) × (p / 256 % 256 ≡ r / 16 % 256) × (p / 256 / 256 % 4096 ≡ k / 4) × (p / 256 / 256 / 4096 ≡ r % 16 * 4 + k % 4) → at_window (at_window (at_sorted slot)) w p ≡ in_band (band_at w r) (r % 16) k
@@ -34,13 +35,11 @@ pages_gap w row n gap r l u = ap (λ o. in_page o (r / 16 % 256)) (gap (r / 4096
 pub sides : (r : Area) (from a : ℕ) → is_ahead r from a ≡ true → (from ≤ a) × (row_of r.first ≤ row_of a) × (row_of a ≤ row_of r.last) × (column_of r.first ≤ column_of a) × (column_of a ≤ column_of r.last)
 sides r from a h =
     let o = and_parts (nat_le from a) _ h in
-    let p = and_parts (nat_le (row_of r.first) (row_of a) && nat_le (row_of a) (row_of r.last)) _ o.1 in
-    let rows = and_parts (nat_le (row_of r.first) (row_of a)) _ p.0 in
-    let cols = and_parts (nat_le (column_of r.first) (column_of a)) _ p.1 in
-    (leb-true _ _ o.0, leb-true _ _ rows.0, leb-true _ _ rows.1, leb-true _ _ cols.0, leb-true _ _ cols.1)
+    let p = within_parts r a o.1 in
+    (leb-true _ _ o.0, p.0, p.1, p.2, p.3)
 
 pub is_inside : (r : Area) (from a : ℕ) → from ≤ a → row_of r.first ≤ row_of a → row_of a ≤ row_of r.last → column_of r.first ≤ column_of a → column_of a ≤ column_of r.last → is_ahead r from a ≡ true
-is_inside r from a h i j k l = and_from _ _ (le-leb _ _ h) (and_from _ _ (and_from _ _ (le-leb _ _ i) (le-leb _ _ j)) (and_from _ _ (le-leb _ _ k) (le-leb _ _ l)))
+is_inside r from a h i j k l = and_from _ _ (le-leb _ _ h) (within_from r a i j k l)
 
 -- the three beginnings
 pub starts_above : (r : Area) (from : ℕ) → row_of from < row_of r.first → column_of r.first ≤ column_of r.last → IsStart r from (row_of r.first) (column_of r.first)
@@ -84,12 +83,9 @@ module _ {V : Type 0} (f : ℕ → Option V) (p q : ℕ → Bool) where
       at false true e d z = ap (λ t. find p (cond t (k ∷ filter q (keys_of es)) (filter q (keys_of es)))) d ∙ ap (λ t. cond t (Some k) (sought es)) e
       at false false e d z = ap (λ t. find p (cond t (k ∷ filter q (keys_of es)) (filter q (keys_of es)))) d
 
-  some_none : {y : V} → Some y ≡ None → ⊥
-  some_none z = grind arith
-
   not_both : (b : Bool) (k : ℕ) (v : V) → (p k && q k) ≡ b → f k ≡ Some v → ((p k && q k) ≡ true → f k ≡ None) → b ≡ false
   not_both false k v z e none = refl
-  not_both true k v z e none = absurd (some_none (sym e ∙ none z))
+  not_both true k v z e none = absurd (some_none v (sym e ∙ none z))
 
   pub sought_none : (s n : ℕ) → ((b : ℕ) → s ≤ b → b < s + n → (p b && q b) ≡ true → f b ≡ None) → sought (entries_from f s n) ≡ None
   sought_none s zero none = refl
@@ -103,11 +99,8 @@ module _ {V : Type 0} (f : ℕ → Option V) (p q : ℕ → Bool) where
   sought_some s zero a l u there pa qa none = absurd (omega arith)
   sought_some s (suc n) a l u there pa qa none = ⊎_elim here (λ ne. later ne (f s) refl (sought_some (suc s) n a (omega (arith, ne)) (omega arith) there pa qa (λ b m. none b (omega arith)))) (cases_eq a s)
     where
-      never : IsSome {T = V} None → ⊥
-      never e = grind arith
-
       at : a ≡ s → (o : Option V) → IsSome o → sought (with_entry s o (entries_from f (suc s) n)) ≡ Some a
-      at e None z = absurd (never z)
+      at e None z = absurd (nothing_some V z)
       at e (Some v) z = ap (λ t. find p (cond t (s ∷ filter q (keys_of (entries_from f (suc s) n))) (filter q (keys_of (entries_from f (suc s) n))))) (ap q (sym e) ∙ qa) ∙ ap (λ t. cond t (Some s) (sought (entries_from f (suc s) n))) (ap p (sym e) ∙ pa) ∙ ap (λ c. Some c) (sym e)
 
       here : a ≡ s → sought (entries_from f s (suc n)) ≡ Some a

@@ -1,5 +1,5 @@
--- A clause of a part, carried over to the whole.
-use Rattle.wi_tiles.proofs.Words.{◌≡◌, Result, Ok, Err, true, false, arith, Bool, IsTrue, OnOk, OnErr}
+-- A clause of a part, carried over to the whole, and what can't be.
+use Rattle.wi_tiles.proofs.Words.{◌≡◌, Result, Ok, Err, true, false, arith, Bool, IsTrue, OnOk, OnErr, Some, None, IsSome}
 
 pub on_ok : {A E P Q : Type 0} (r : Result A E) → (P → Q) → OnOk r P → OnOk r Q
 on_ok (Ok a) f p = f p
@@ -16,3 +16,9 @@ either_way (Err e) f g p q = g q
 pub not_both : (b : Bool) → b ≡ false → IsTrue b → ⊥
 not_both false e t = grind arith
 not_both true e t = grind arith
+
+pub some_none : {X : Type 0} (x : X) → Some x ≡ None → ⊥
+some_none x e = grind arith
+
+pub nothing_some : (X : Type 0) → IsSome {T = X} None → ⊥
+nothing_some X e = grind arith

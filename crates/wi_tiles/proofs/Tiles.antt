@@ -1,5 +1,6 @@
 -- What a change of one bit, and of the list of values with it, makes of a tile.
 use Rattle.wi_tiles.proofs.Words.{◌≡◌, ℕ, ◌+◌, ◌-◌, ◌*◌, ◌/◌, ◌%◌, ◌^◌, ◌<◌, ◌≤◌, List, [], ◌∷◌, length, Option, Some, None, sym, refl, ap, arith, suc, zero, ◌∙◌, slice_get, count_ones, ◌==◌, if◌then◌else◌, bit_and, bit_at, insert, remove, and_mask, one_shl, bit_at-lt, ◌≢◌, ◌⊎◌, inl, inr, ⊎_elim, get_or, slice_set, cases_lt, cases_eq, get_or-set_same, get_or-set_other, length-set, length-map-range_with_len, get_or-map-range_with_len, fill_by_all, slice_get-get_or, bit_not, w64, bit_or, or_lt, and_le_l, mod_below, pow_pos, bit_at_set_same, bit_at_set_other, bit_at_clear_same, bit_at_clear_other, shr_and_one, bit_at-zero, get_or_past, length-insert, length-remove, rank, at_bit, slots}
+use Rattle.wi_tiles.proofs.Outcomes.{some_none}
 use Rattle.wi_tiles.proofs.Ranks.{rank_grows, rank_below, rank-whole, rank_same, rank_set}
 
 -- the count as the code makes it
@@ -160,10 +161,7 @@ vacant_clear {V} n vs k h b full none = ⊎_elim (λ one. absurd (stands one)) (
       where
         by_length : (xs : List V) → rank n k < length xs → slice_get xs (rank n k) ≡ None → ⊥
         by_length [] l e = omega arith
-        by_length (x ∷ xs) l e = none_some (sym (slice_get-get_or (x ∷ xs) (rank n k) x l) ∙ e)
-          where
-            none_some : {y : V} → Some y ≡ None → ⊥
-            none_some e = grind arith
+        by_length (x ∷ xs) l e = some_none _ (sym (slice_get-get_or (x ∷ xs) (rank n k) x l) ∙ e)
 
 -- the bits as the code changes them
 pub slots_put_made : {V : Type 0} (n k : ℕ) (vs : List V) (v : V) → k < 64 → n < 2 ^ 64 → length vs ≡ count_ones n → get_or (slots n vs) k None ≡ None → slots (bit_or n (1 * 2 ^ k % 2 ^ 64)) (insert vs (rank n k) v) ≡ slice_set (slots n vs) k (Some v)

@@ -1,21 +1,16 @@
 -- The next tile of which a rectangle has something.
-use Rattle.wi_tiles.proofs.Words.{◌≡◌, ℕ, ◌+◌, ◌*◌, ◌/◌, ◌%◌, ◌<◌, ◌≤◌, List, [], ◌∷◌, length, Option, Some, None, sym, ap, arith, ◌∙◌, ⊎_elim, refl, subst, true, Bool, ◌&&◌, ◌==◌, nat_le, IsSome, IfSome, slice_index_or, min, Bor, bit_at, w64, trailing_zeros, cases_lt, and_from, le-leb, bit_at-zero, ◌≢◌, Area, place, row_of, column_of, is_within, Pages, Band, at_cell, is_ahead, cell, slot, HasNoneAbove, HasNoneFrom, band_at, in_band, at_part, key, find as find_part, bit_of, cell_in, in_band_tile, tile_at, is_left, AreTiles, AreOfBand, IsPlace, IsInside, HasBits, IsNextTile, IsRest, GoesOn, AreBeside, IsTurn, filled}
+use Rattle.wi_tiles.proofs.Words.{◌≡◌, ℕ, ◌+◌, ◌*◌, ◌/◌, ◌%◌, ◌<◌, ◌≤◌, List, [], ◌∷◌, length, Option, Some, None, sym, ap, arith, ◌∙◌, ⊎_elim, refl, subst, true, Bool, ◌&&◌, ◌==◌, nat_le, IsSome, IfSome, slice_index_or, min, Bor, bit_at, w64, trailing_zeros, cases_lt, and_from, le-leb, bit_at-zero, ◌≢◌, Area, place, row_of, column_of, is_within, Pages, Band, at_cell, is_ahead, cell, slot, HasNoneAbove, HasNoneFrom, band_at, in_band, at_part, key, find as find_part, bit_of, cell_in, in_band_tile, tile_at, is_left, AreTiles, AreOfBand, IsPlace, IsInside, HasBits, IsNextTile, IsRest, GoesOn, AreBeside, IsTurn, filled, within_from, within_parts}
 use Rattle.wi_tiles.proofs.BandLemmas.{one_key}
 use Rattle.wi_tiles.proofs.Counts.{first_counts, line_whole, lines_whole}
 use Rattle.wi_tiles.proofs.Keys.{key_read}
 use Rattle.wi_tiles.proofs.LineLemmas.{key_rises}
 use Rattle.wi_tiles.proofs.NextLemmas.{row_cell, sides}
+use Rattle.wi_tiles.proofs.Outcomes.{nothing_some}
 use Rattle.wi_tiles.proofs.Sorts.{part_at}
-use Rattle.wi_tiles.proofs.WalkLemmas.{same_band, tile_cell, nothing_but, sides_of, ahead_within, ahead_from, row_in, column_in, left_from, bit_small}
-
-nothing_some : (V : Type 0) → IsSome {T = V} None → ⊥
-nothing_some V e = grind arith
+use Rattle.wi_tiles.proofs.WalkLemmas.{same_band, tile_cell, nothing_but, ahead_within, ahead_from, row_in, column_in, left_from, bit_small}
 
 cell_below : (c : ℕ) → row_of c < 1048576 → c < 17179869184
 cell_below c h = omega (arith, h)
-
-within_from : (r : Area) (a : ℕ) → row_of r.first ≤ row_of a → row_of a ≤ row_of r.last → column_of r.first ≤ column_of a → column_of a ≤ column_of r.last → is_within r a ≡ true
-within_from r a i j k l = and_from _ _ (and_from _ _ (le-leb _ _ i) (le-leb _ _ j)) (and_from _ _ (le-leb _ _ k) (le-leb _ _ l))
 
 -- tiles of a row's band
 module _ {V : Type 0} (w : Pages V) (r : Area) (from : ℕ) (ts : Band V) (of : AreOfBand w r from ts) where
@@ -23,7 +18,7 @@ module _ {V : Type 0} (w : Pages V) (r : Area) (from : ℕ) (ts : Band V) (of : 
   tiles_of row same g l u = ap (λ o. in_band_tile o g) (same_band w row from same) ∙ of g l u
 
   pub cell_of : (c : ℕ) → c < 17179869184 → is_within r c ≡ true → row_of c / 16 ≡ from / 16 → at_cell w c ≡ cell ts (row_of c % 16) (column_of c)
-  cell_of c h m same = let s = sides_of r c m in row_cell w c h ∙ band (band_at w (row_of c)) (tiles_of (row_of c) same (column_of c / 4) (omega (arith, s.2)) (omega (arith, s.3)))
+  cell_of c h m same = let s = within_parts r c m in row_cell w c h ∙ band (band_at w (row_of c)) (tiles_of (row_of c) same (column_of c / 4) (omega (arith, s.2)) (omega (arith, s.3)))
     where
       band : (o : Option (Band V)) → in_band_tile o (column_of c / 4) ≡ find_part (column_of c / 4) ts → in_band o (row_of c % 16) (column_of c) ≡ cell ts (row_of c % 16) (column_of c)
       band None e = ap (λ x. at_part slot x (4 * (row_of c % 16) + column_of c % 4)) e
@@ -67,7 +62,7 @@ module _ {V : Type 0} (w : Pages V) (r : Area) (row low column g left corner : �
 
   pub block_set : (c : ℕ) → c < 17179869184 → is_within r c ≡ true → row ≤ row_of c → row_of c ≤ low → column_of c / 4 ≡ g → column ≤ column_of c → IsSome (at_cell w c) → is_left corner left c ≡ true
   block_set c h m i j k l some =
-      let s = sides_of r c m in
+      let s = within_parts r c m in
       let rows : row_of c / 16 ≡ row_of corner / 16 = omega (arith, i, j, same, corner_row) in
       let columns : column_of c / 4 ≡ column_of corner / 4 = omega (arith, k, corner_column) in
       left_from corner left c rows columns (bits.whole (bit_of c) (bit_small c)

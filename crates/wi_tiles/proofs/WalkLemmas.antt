@@ -2,16 +2,14 @@
 use Rattle.wi_tiles.proofs.Words.{◌≡◌, ℕ, ◌+◌, ◌*◌, ◌/◌, ◌%◌, ◌<◌, ◌≤◌, List, [], ◌∷◌, Option, Some, None, sym, ap, arith, ◌∙◌, ⊎_elim, zero, suc, refl, cond, subst, true, false, Bool, ◌||◌, ◌==◌, nat_le, filter, IsSome, IfSome, IfNone, Bor, bit_at, cases_eq, cases_lt, and_parts, and_from, leb-true, le-leb, bit_at-zero, eqb-true, eq-eqb, ◌≢◌, ◌⊎◌, Area, place, row_of, column_of, is_within, Pages, Band, at_cell, is_ahead, with_entry, entries_from, entries_of, cells, slot, in_page, band_at, in_band, IsNext, IsStart, at_part, part_from, find as find_part, bit_of, cell_in, in_band_tile, tile_at, in_tile, is_left, is_pending, IsRest, IsFirstLeft, IsTurn}
 use Rattle.std.proofs.Common.{inl, inr}
 use Rattle.wi_tiles.proofs.MapLemmas.{below, above}
-use Rattle.wi_tiles.proofs.NextLemmas.{row_cell, sides, is_inside}
+use Rattle.wi_tiles.proofs.NextLemmas.{row_cell, is_inside}
+use Rattle.wi_tiles.proofs.Outcomes.{some_none}
 
 -- the entries of cells that pass
 abbrev pub passing : {V : Type 0} → (ℕ → Bool) → List (ℕ × V) → List (ℕ × V)
 passing t es = filter (λ e. t e.0) es
 
 module _ {V : Type 0} (f : ℕ → Option V) (p q : ℕ → Bool) where
-  some_none : {y : V} → Some y ≡ None → ⊥
-  some_none z = grind arith
-
   -- tests that agree where there is something
   pub passing_same : (s n : ℕ) → ((b : ℕ) → s ≤ b → b < s + n → IsSome (f b) → q b ≡ p b) → passing q (entries_from f s n) ≡ passing p (entries_from f s n)
   passing_same s zero same = refl
@@ -26,7 +24,7 @@ module _ {V : Type 0} (f : ℕ → Option V) (p q : ℕ → Bool) where
   -- a test that nothing there passes
   not_so : (t : ℕ → Bool) (k : ℕ) (v : V) (b : Bool) → t k ≡ b → f k ≡ Some v → (t k ≡ true → f k ≡ None) → b ≡ false
   not_so t k v false z e none = refl
-  not_so t k v true z e none = absurd (some_none (sym e ∙ none z))
+  not_so t k v true z e none = absurd (some_none v (sym e ∙ none z))
 
   pub passing_none : (s n : ℕ) → ((b : ℕ) → s ≤ b → b < s + n → p b ≡ true → f b ≡ None) → passing p (entries_from f s n) ≡ []
   passing_none s zero none = refl
@@ -163,18 +161,12 @@ tile_cell {V} w corner c t h is i j = row_cell w c h ∙ band (band_at w (row_of
     same = same_band w (row_of c) (row_of corner) i
 
     band : (o : Option (Band V)) → in_band_tile o (column_of corner / 4) ≡ Some t → in_band o (row_of c % 16) (column_of c) ≡ slot t (bit_of c)
-    band None e = absurd (never e)
-      where
-        never : None ≡ Some t → ⊥
-        never z = grind arith
+    band None e = absurd (some_none t (sym e))
     band (Some ts) e = ap (λ g. at_part slot (find_part g ts) (4 * (row_of c % 16) + column_of c % 4)) j ∙ ap (λ o. at_part slot o (4 * (row_of c % 16) + column_of c % 4)) e ∙ ap (λ b. slot t b) (let z : 4 * (row_of c % 16) + column_of c % 4 ≡ bit_of c = omega arith in z)
 
 -- the cells of a tile are cells of the sheet
 pub in_sheet : (corner b : ℕ) → corner < 17179869184 → b < 64 → cell_in corner b < 17179869184
 in_sheet corner b h l = omega (arith, h, l)
-
-pub sides_of : (r : Area) (c : ℕ) → is_within r c ≡ true → (row_of r.first ≤ row_of c) × (row_of c ≤ row_of r.last) × (column_of r.first ≤ column_of c) × (column_of c ≤ column_of r.last)
-sides_of r c h = let s = sides r c c (and_from _ _ (le-leb c c (omega arith)) h) in (s.1, s.2, s.3, s.4)
 
 pub ahead_within : (r : Area) (from a : ℕ) → is_ahead r from a ≡ true → is_within r a ≡ true
 ahead_within r from a h = (and_parts (nat_le from a) (is_within r a) h).1

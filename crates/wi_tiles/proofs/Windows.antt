@@ -2,6 +2,7 @@
 use Rattle.wi_tiles.proofs.Words.{◌≡◌, ℕ, ◌+◌, ◌-◌, ◌*◌, ◌/◌, ◌%◌, ◌<◌, ◌≤◌, List, [], ◌∷◌, ◌++◌, length, Option, Some, None, sym, ap, arith, ◌∙◌, ⊎_elim, zero, suc, refl, cond, slice_get, slice_set, slice_index_or, ◌==◌, if◌then◌else◌, cases_lt, slice_get_read, le-ltb, ◌≢◌, at_part, part_from, at_window, span}
 use borrow.Author.Tests.{lt-ltb}
 use Rattle.wi_tiles.proofs.Digits.{IsDigit, digit_changed, digit_kept}
+use Rattle.wi_tiles.proofs.Outcomes.{some_none}
 
 digit : IsDigit 256
 digit p q r s = omega (arith, r, s)
@@ -26,10 +27,7 @@ part_past f ts i l h = part_here f ts i l ∙ get_past ts (i - f) h
 
 get_none : {S : Type 0} (ts : List S) (i : ℕ) → slice_get ts i ≡ None → length ts ≤ i
 get_none [] i e = omega arith
-get_none {S} (t ∷ ts) zero e = absurd (never t e)
-  where
-    never : (s : S) → Some s ≡ None → ⊥
-    never s z = grind arith
+get_none (t ∷ ts) zero e = absurd (some_none t e)
 get_none (t ∷ ts) (suc i) e = let h : length ts ≤ i = get_none ts i e in omega (arith, h)
 
 -- the indices before the first part, and behind the last

@@ -11,7 +11,6 @@ pub use Rattle.std.proofs.lemmas.Nat.Bits.{bit_at-lt, bit_at-trailing_zeros, bit
 pub use Rattle.std.proofs.lemmas.Option.{IfSome_then, slice_get-get_or, slice_get_read}
 pub use Rattle.std.specs.BTreeMap.{insert_entry, is_at}
 pub use Rattle.std.specs.Borrow.{Bor}
-pub use Rattle.std.specs.Cmp.{nat_cmp_is}
 pub use Rattle.std.specs.Int.{bit_at, bit_not, from_bool, trailing_zeros, w64}
 pub use Rattle.std.specs.List.{All, AllByRecursion, insert, remove}
 pub use Rattle.std.specs.Map.{keys_of, lookup, remove_entry, set_value}
@@ -35,6 +34,8 @@ unfoldable pub use Rattle.wi_tiles.specs.Inner.Tile.{slots}
 pub use Rattle.wi_tiles.specs.Inner.Turns.{LeadsOn}
 pub use Rattle.wi_tiles.specs.Inner.Within.{AreBeside, AreOfBand, AreTiles, CountsFirst, GoesOn, HasBits, IsFirstLeft, IsInside, IsNextTile, IsPlace, IsRest, IsTurn, IsWalk, IsWhole, bit_of, cell_in, in_band_tile, in_tile, is_left, is_pending, line_of, lines_from, lines_of, lines_to, tile_at}
 unfoldable pub use Rattle.wi_tiles.specs.Inner.Within.{filled}
+pub use Rattle.wi_values.proofs.Order.{cmp_after, cmp_before, cmp_equal}
+pub use Rattle.wi_values.proofs.Within.{within_from, within_parts}
 pub use Rattle.wi_values.specs.Address.{Area, column_of, columns, is_within, place, row_of, rows}
 pub use borrow.Author.Tests.{eq-eqb, eq-true, eqb-true, le-ltb, ltb-true, ne_eqb}
 pub use mathlib.Core.Logic.{inl, inr, ◌≢◌, ◌⊎◌}
