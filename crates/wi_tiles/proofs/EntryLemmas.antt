@@ -1,5 +1,5 @@
 -- The entries of cells: what a look-up finds in them, and what one cell's change makes of them.
-use Rattle.wi_tiles.proofs.Words.{◌≡◌, ℕ, ◌+◌, ◌-◌, ◌<◌, ◌≤◌, List, [], ◌∷◌, ◌++◌, length, Option, Some, None, sym, ap, arith, ◌∙◌, zero, suc, refl, cond, ◌==◌, if◌then◌else◌, option_map, Less, Equal, Greater, nat_cmp, is_eq, match_ordering, is_at, insert_entry, All, AllByRecursion, All-nil, All-cons, keys_of, lookup, remove_entry, set_value, eq-eqb, ne_eqb, ◌≢◌, with_entry, entries_from, cmp_after, cmp_before, cmp_equal}
+use Rattle.wi_tiles.proofs.Words.{◌≡◌, ℕ, ◌+◌, ◌-◌, ◌<◌, ◌≤◌, List, [], ◌∷◌, ◌++◌, length, Option, Some, None, sym, ap, arith, ◌∙◌, zero, suc, refl, cond, ◌==◌, if◌then◌else◌, option_map, Less, nat_cmp, is_eq, match_ordering, is_at, insert_entry, All, AllByRecursion, All-nil, All-cons, keys_of, lookup, remove_entry, set_value, eq-eqb, ne_eqb, ◌≢◌, with_entry, entries_from, cmp_after, cmp_before, cmp_equal}
 use Rattle.std.specs.List.Sorted.{IsStrictlySortedBy}
 
 -- the first of some that ascend

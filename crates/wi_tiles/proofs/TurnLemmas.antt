@@ -1,5 +1,5 @@
 -- The next tile of which a rectangle has something.
-use Rattle.wi_tiles.proofs.Words.{◌≡◌, ℕ, ◌+◌, ◌*◌, ◌/◌, ◌%◌, ◌<◌, ◌≤◌, List, [], ◌∷◌, length, Option, Some, None, sym, ap, arith, ◌∙◌, ⊎_elim, refl, subst, true, Bool, ◌&&◌, ◌==◌, nat_le, IsSome, IfSome, slice_index_or, min, Bor, bit_at, w64, trailing_zeros, cases_lt, and_from, le-leb, bit_at-zero, ◌≢◌, Area, place, row_of, column_of, is_within, Pages, Band, at_cell, is_ahead, cell, slot, HasNoneAbove, HasNoneFrom, band_at, in_band, at_part, key, find as find_part, bit_of, cell_in, in_band_tile, tile_at, is_left, AreTiles, AreOfBand, IsPlace, IsInside, HasBits, IsNextTile, IsRest, GoesOn, AreBeside, IsTurn, filled, within_from, within_parts}
+use Rattle.wi_tiles.proofs.Words.{◌≡◌, ℕ, ◌+◌, ◌*◌, ◌/◌, ◌%◌, ◌<◌, ◌≤◌, List, [], ◌∷◌, length, Option, Some, None, sym, ap, arith, ◌∙◌, ⊎_elim, refl, subst, true, Bool, ◌&&◌, ◌==◌, nat_le, IsSome, IfSome, slice_index_or, min, Bor, bit_at, w64, trailing_zeros, cases_lt, bit_at-zero, ◌≢◌, Area, place, row_of, column_of, is_within, Pages, Band, at_cell, is_ahead, cell, slot, HasNoneAbove, HasNoneFrom, band_at, in_band, at_part, key, find as find_part, bit_of, cell_in, in_band_tile, tile_at, is_left, AreTiles, AreOfBand, IsPlace, IsInside, HasBits, IsNextTile, IsRest, GoesOn, AreBeside, IsTurn, filled, within_from, within_parts}
 use Rattle.wi_tiles.proofs.BandLemmas.{one_key}
 use Rattle.wi_tiles.proofs.Counts.{first_counts, line_whole, lines_whole}
 use Rattle.wi_tiles.proofs.Keys.{key_read}

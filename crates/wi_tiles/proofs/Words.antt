@@ -18,7 +18,7 @@ pub use Rattle.std.specs.Option.{option_or}
 pub use Rattle.std.specs.Ordering.{is_eq, match_ordering, nat_cmp}
 pub use Rattle.std.specs.Prelude.{Bool, IfNone, IfOk, IfSome, IsSome, IsTrue, MatchOption, OnErr, OnOk, bit_and, bit_or, count_ones, filter, if◌then◌else◌, is_some, max, min, nat_le, nat_lt, not, option_map, slice_get, slice_index_or, slice_set, ◌&&◌, ◌==◌, ◌||◌, ◌↔◌}
 pub use Rattle.std.specs.Vec.{vec_len}
-pub use Rattle.std.specs.declared.cmp.Ordering.TheVariants.{Equal, Greater, Less}
+pub use Rattle.std.specs.declared.cmp.Ordering.TheVariants.{Less}
 pub use Rattle.wi_tiles.specs.Entries.{IsOrdered, get}
 pub use Rattle.wi_tiles.specs.Inner.Cells.{Band, Page, Pages, at_cell, is_ahead, path_of}
 pub use Rattle.wi_tiles.specs.Inner.Changes.{IsKept}

@@ -1,11 +1,11 @@
 //! The tiles of a band that lie in the columns of a rectangle, and which of their bits come next.
 
-ghost use Rattle.std.specs.Prelude.{◌≡◌, ◌≢◌, ◌<◌, ◌≤◌, ◌+◌, ◌*◌, ◌/◌, ◌%◌, ℕ, None, IsTrue, IfSome, IfNone, length};
+ghost use Rattle.std.specs.Prelude.{◌≡◌, ◌<◌, ◌≤◌, ◌+◌, ◌*◌, ◌/◌, ℕ, None, IsTrue, IfSome, IfNone, length};
 ghost use Rattle.wi_values.specs.Address.{rows, columns, place, row_of, column_of};
 ghost use Rattle.wi_tiles.specs.Inner.Cells.{Pages};
 ghost use Rattle.wi_tiles.specs.Inner.Lines.{cell};
 ghost use Rattle.wi_tiles.specs.Inner.Next.{HasNoneAbove};
-ghost use Rattle.wi_tiles.specs.Inner.Sorted.{find, key, Rises};
+ghost use Rattle.wi_tiles.specs.Inner.Sorted.{find, Rises};
 ghost use Rattle.wi_tiles.specs.Inner.Turns.{LeadsOn};
 ghost use Rattle.wi_tiles.specs.Inner.Within.{AreTiles, AreOfBand, IsPlace, IsNextTile};
 

@@ -1,6 +1,6 @@
 //! Rows of a page in which a rectangle has nothing.
 
-ghost use Rattle.std.specs.Prelude.{◌<◌, ◌≤◌, ◌+◌, ◌*◌, ◌/◌, ℕ, true, Some, None, IsSome, IsTrue};
+ghost use Rattle.std.specs.Prelude.{◌<◌, ◌≤◌, ◌+◌, ◌*◌, ◌/◌, ℕ, Some, IsTrue};
 ghost use Rattle.wi_values.specs.Address.{rows};
 ghost use Rattle.wi_tiles.specs.Inner.Columns.{HasLast, IsBare};
 ghost use Rattle.wi_tiles.specs.Inner.Next.{HasNoneBetween};

@@ -1,6 +1,6 @@
 //! A map by cell address.
 
-ghost use Rattle.std.specs.Prelude.{◌≡◌, ◌↔◌, ◌&&◌, ◌<◌, ◌≤◌, ◌*◌, ℕ, [], Some, nat_le, filter, length, is_some, not, IsTrue, IfSome, IfOk, OnOk, OnErr, option_copied, option_map, if◌then◌else◌};
+ghost use Rattle.std.specs.Prelude.{◌≡◌, ◌↔◌, ◌&&◌, ◌<◌, ◌≤◌, ◌*◌, [], Some, nat_le, filter, length, is_some, not, IsTrue, IfSome, IfOk, OnOk, OnErr, option_copied, option_map, if◌then◌else◌};
 ghost use Rattle.std.specs.Ordering.{nat_cmp};
 ghost use Rattle.std.specs.List.{find, All};
 ghost use Rattle.std.specs.Map.{keys_of, remove_entry, set_value};
@@ -25,7 +25,7 @@ pub struct CellMap<V> {
 }
 
 impl<V> Model for CellMap<V> {
-    ghost use Rattle.std.specs.Prelude.{ℕ, ◌≡◌, length};
+    ghost use Rattle.std.specs.Prelude.{◌≡◌, length};
     ghost use Rattle.wi_tiles.specs.Entries.{CellEntries};
     ghost use Rattle.wi_tiles.specs.Inner.Entries.{map_of, entries_of};
     ghost use Rattle.wi_tiles.specs.Inner.Lines.{slot};

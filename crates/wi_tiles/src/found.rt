@@ -1,6 +1,6 @@
 //! The next tile of which a rectangle has something, and the first cell of a rectangle that has something.
 
-ghost use Rattle.std.specs.Prelude.{◌≡◌, ◌<◌, ◌≤◌, ◌+◌, ◌*◌, ◌/◌, Some, IfSome, IfNone, IfOk, IfErr};
+ghost use Rattle.std.specs.Prelude.{◌≡◌, ◌<◌, ◌≤◌, Some, IfSome, IfNone, IfOk, IfErr};
 ghost use Rattle.wi_values.specs.Address.{rows, columns, place, row_of, column_of};
 ghost use Rattle.wi_tiles.specs.Inner.Cells.{at_cell};
 ghost use Rattle.wi_tiles.specs.Inner.Next.{HasNoneFrom, HasNoneAbove, IsNext};

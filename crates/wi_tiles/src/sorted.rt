@@ -1,6 +1,6 @@
 //! The tiles of a band, in order of their groups of columns.
 
-ghost use Rattle.std.specs.Prelude.{◌≡◌, ◌<◌, ◌≤◌, ◌+◌, ◌*◌, ◌/◌, ◌%◌, ◌==◌, ℕ, length, true, Some, None, IsSome, IsTrue, OnOk, OnErr, IfOk, IfErr, option_copied, option_map, slice_index_or, if◌then◌else◌};
+ghost use Rattle.std.specs.Prelude.{◌≡◌, ◌<◌, ◌≤◌, ◌*◌, ◌%◌, ℕ, length, true, Some, None, OnOk, OnErr, IfOk, IfErr, option_copied};
 ghost use Rattle.std.specs.List.{All, remove};
 ghost use Rattle.wi_tiles.specs.Inner.Changes.{IsKept, IsChanged};
 ghost use Rattle.wi_tiles.specs.Inner.Lines.{slot};

@@ -1,6 +1,6 @@
 //! Something for each of some of 64 cells.
 
-ghost use Rattle.std.specs.Prelude.{◌≡◌, ◌↔◌, ◌<◌, ◌≤◌, ◌+◌, ◌*◌, ◌%◌, ◌==◌, if◌then◌else◌, ◌^◌, ℕ, Some, None, IsSome, IsTrue, OnOk, OnErr, is_ok, length, option_copied, option_map, slice_index_or, slice_set};
+ghost use Rattle.std.specs.Prelude.{◌≡◌, ◌↔◌, ◌<◌, ◌≤◌, if◌then◌else◌, ℕ, Some, None, IsSome, IsTrue, OnOk, OnErr, is_ok, length, option_copied, option_map, slice_index_or, slice_set};
 ghost use Rattle.std.specs.Int.{bit_at};
 ghost use Rattle.std.specs.List.{insert};
 ghost use Rattle.wi_tiles.specs.Inner.Changes.{IsChanged};
@@ -21,7 +21,7 @@ pub(crate) struct Tile<V> {
 }
 
 impl<V> Model for Tile<V> {
-    ghost use Rattle.std.specs.Prelude.{ℕ, List, Option, ◌≡◌, length, count_ones};
+    ghost use Rattle.std.specs.Prelude.{List, Option, ◌≡◌, length, count_ones};
     ghost use Rattle.wi_tiles.specs.Inner.Tile.{slots};
 
     ghost Value = { List (Option V) };

@@ -1,6 +1,6 @@
 //! Parts by their index, from a first one on.
 
-ghost use Rattle.std.specs.Prelude.{◌≡◌, ◌↔◌, ◌<◌, ◌≤◌, ◌+◌, ◌-◌, ◌*◌, ◌==◌, ◌++◌, ◌∷◌, [], ℕ, List, length, drop, false, Some, None, is_some, not, slice_get, IfSome, IfNone, IsTrue, IfOk, OnOk, OnErr, option_copied, option_map, if◌then◌else◌};
+ghost use Rattle.std.specs.Prelude.{◌≡◌, ◌↔◌, ◌<◌, ◌≤◌, ◌+◌, ◌-◌, ◌*◌, ◌++◌, ◌∷◌, [], ℕ, List, length, drop, false, Some, None, is_some, not, slice_get, IfSome, IfNone, IsTrue, IfOk, OnOk, OnErr, option_copied, option_map};
 ghost use Rattle.std.specs.Option.{option_or};
 ghost use Rattle.wi_tiles.specs.Inner.Changes.{IsKept, IsChanged};
 ghost use Rattle.wi_tiles.specs.Inner.Parts.{at_part, part_from, at_window, span, Fits, HasSome, EndsFilled, IsTrimmed};

@@ -3,7 +3,6 @@
 ghost use Rattle.std.specs.Prelude.{◌≡◌, ◌≢◌, ◌<◌, ℕ, true, IsSome, IfSome, IfNone, MatchOption, filter};
 ghost use Rattle.std.specs.Int.{bit_at};
 ghost use Rattle.std.specs.Map.Iter.{TakesFirst};
-ghost use Rattle.wi_values.specs.Address.{place};
 ghost use Rattle.wi_tiles.specs.Inner.Cells.{Pages as AllPages, is_ahead};
 ghost use Rattle.wi_tiles.specs.Inner.Entries.{entries_of};
 ghost use Rattle.wi_tiles.specs.Inner.Lines.{slot};
