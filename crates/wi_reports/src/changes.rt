@@ -9,7 +9,7 @@ ghost use Rattle.wi_reports.specs.Looks.{evaluations_for, restarts_for};
 ghost use Rattle.wi_reports.specs.Changes.{kind_text, change_records};
 ghost use Rattle.wi_reports.specs.Inner.Parts.{change_record};
 
-use crate::texts::{address_text, shown_text};
+use crate::texts::address_text;
 use std::alloc::{AllocError, Global};
 use wi_csv::push_record;
 use wi_propagate::Calculator;
@@ -96,7 +96,7 @@ fn push_change(
 {
     let (at, value) = change;
     let address = address_text(alloc, *at)?;
-    let text = shown_text(alloc, value)?;
+    let text = value.shown(alloc)?;
     push_record(&[address.as_str(), kind_text(value), text.as_str()], out)
 }
 

@@ -12,7 +12,7 @@ ghost use Rattle.wi_csv.specs.Row.{row};
 ghost use Rattle.wi_reports.specs.Compare.{number_text, difference_text, difference_record, cells_compared};
 ghost use Rattle.wi_reports.specs.Inner.Parts.{cell_compared};
 
-use crate::texts::{address_text, shown_text};
+use crate::texts::address_text;
 use std::alloc::{AllocError, Global};
 use wi_csv::push_record;
 use wi_fraction::Fraction;
@@ -173,8 +173,8 @@ fn push_values(
         OnOk result (out.new.items ≡ out.old.items ++ row fields) }
     ensures err { OnErr result (out.new.items ≡ out.old.items) }
 {
-    let before = shown_text(alloc, first)?;
-    let after = shown_text(alloc, second)?;
+    let before = first.shown(alloc)?;
+    let after = second.shown(alloc)?;
     push_record(&[address, before.as_str(), after.as_str(), difference], out)
 }
 
@@ -183,7 +183,7 @@ fn difference_text(alloc: Global, first: &Value, second: &Value) -> Result<Strin
     ensures { IfOk result (λ text. string_bytes text ≡ difference_text first.now second.now) }
 {
     match (first, second) {
-        (Value::Number(x), Value::Number(y)) => shown_text(alloc, &difference(*x, *y)),
+        (Value::Number(x), Value::Number(y)) => difference(*x, *y).shown(alloc),
         _ => Ok(String::new(alloc)),
     }
 }

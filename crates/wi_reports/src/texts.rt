@@ -10,15 +10,6 @@ use std::alloc::{AllocError, Global};
 use wi_propagate::Calculator;
 use wi_values::{Address, Rect, Replacement, Value};
 
-/// The text that is shown for a value.
-pub(crate) fn shown_text(alloc: Global, value: &Value) -> Result<String, AllocError>
-    ensures { IfOk result (λ text. string_bytes text ≡ shown_text value.now) }
-{
-    let mut text = String::new(alloc);
-    value.push_shown(&mut text)?;
-    Ok(text)
-}
-
 /// The text of an address.
 pub(crate) fn address_text(alloc: Global, at: Address) -> Result<String, AllocError>
     ensures { IfOk result (λ text. string_bytes text ≡ address_text at) }
@@ -37,7 +28,7 @@ pub(crate) fn push_text_of(
     ensures { OnOk result (map string_bytes texts.new.items
         ≡ map string_bytes texts.old.items ++ shown_text value.now ∷ []) }
 {
-    texts.push(shown_text(alloc, value)?)?;
+    texts.push(value.shown(alloc)?)?;
     Ok(())
 }
 

@@ -68,6 +68,15 @@ impl Value {
         }
     }
 
+    /// The shown text.
+    pub fn shown(&self, alloc: Global) -> Result<String, AllocError>
+        ensures { IfOk result (λ text. string_bytes text ≡ shown_text self.now) }
+    {
+        let mut text = String::new(alloc);
+        self.push_shown(&mut text)?;
+        Ok(text)
+    }
+
     /// Appends the shown text. On an error the text is as before.
     #[tactic(auto, unfolding(crate::specs::Value::shown_text))]
     pub fn push_shown(&self, text: &mut String) -> Result<(), AllocError>

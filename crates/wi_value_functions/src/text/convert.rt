@@ -1,10 +1,9 @@
 //! Values taken for texts and whole numbers (OpenFormula, "Implicit Conversion Operators").
 
-ghost use Rattle.std.specs.Prelude.{◌≡◌, IfOk, string_bytes};
+ghost use Rattle.std.specs.Prelude.{◌≡◌};
 ghost use Rattle.wi_standard_functions.specs.Convert.{to_text, to_whole};
 ghost use Rattle.wi_standard_functions.specs.Text.{at_least};
 ghost use Rattle.wi_value_functions.specs.Inner.Gives.{Agrees, shown_bytes};
-ghost use Rattle.wi_values.specs.Value.{shown_text};
 
 use crate::ending::Ending;
 use std::alloc::{AllocError, Global};
@@ -35,17 +34,8 @@ pub(crate) fn to_text<'a>(alloc: Global, value: &'a Value) -> Result<Shown<'a>, 
     match value {
         Value::Fault(e) => Err(Ending::Error(*e)),
         Value::Text(text) => Ok(Shown::Lent(text.as_str())),
-        _ => Ok(Shown::Written(written(alloc, value)?)),
+        _ => Ok(Shown::Written(value.shown(alloc)?)),
     }
-}
-
-/// The shown text of a value.
-fn written(alloc: Global, value: &Value) -> Result<String, AllocError>
-    ensures { IfOk result (λ t. string_bytes t ≡ shown_text value.now) }
-{
-    let mut text = String::new(alloc);
-    value.push_shown(&mut text)?;
-    Ok(text)
 }
 
 /// A value taken for a whole number: its number cut toward zero.
