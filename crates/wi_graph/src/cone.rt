@@ -8,7 +8,7 @@ ghost use Rattle.wi_graph.specs.Inner.Search.{HasAll, HasReaders, IsConeOf, IsLe
 
 use std::alloc::{AllocError, Global};
 use wi_ranges::{RangeIndex, RisingSet};
-use wi_values::Address;
+use wi_values::{Address, rise};
 
 /// The cells that read one of these, at any remove, with themselves: each once, in row-major order. Cells in that order which
 /// nothing reads are their own cone, and cost no more than the search for their readers.
@@ -36,18 +36,6 @@ pub(crate) fn are_alone(readers: &RangeIndex, cells: &[Address]) -> bool
         return false;
     }
     !any_is_read(readers, cells)
-}
-
-/// Whether cells stand in row-major order, each once.
-pub(crate) fn rise(cells: &[Address]) -> bool
-    ensures { IsTrue result → IsStrictlyIncreasing cells.now }
-{
-    for i in 1..cells.len() {
-        if cells[i] <= cells[i - 1] {
-            return false;
-        }
-    }
-    true
 }
 
 /// Whether some cell reads one of the cells.

@@ -32,7 +32,7 @@ pub use Rattle.std.specs.List.Sorted.{IsPermutation, IsStrictlyIncreasing, IsStr
 pub use Rattle.std.specs.Map.{keys_of, lookup, remove_entry, set_value, values_of}
 pub use Rattle.std.specs.Option.{is_some, option_map, option_to_list}
 pub use Rattle.std.specs.Ordering.{nat_cmp}
-pub use Rattle.std.specs.Prelude.{IfOk, IfSome, IsSome, OnOk, bit_and, nat_lt, slice_index, unwrap_or}
+pub use Rattle.std.specs.Prelude.{IfOk, IfSome, IsSome, OnOk, bit_and, nat_lt, unwrap_or}
 pub use Rattle.std.specs.Rc.{rc_str_bytes}
 pub use Rattle.std.specs.Str.{bytes_eq}
 pub use Rattle.std.specs.declared.cmp.Ordering.TheVariants.{Less}

@@ -1,7 +1,7 @@
 //! Cells with a bit for each session for which they are pending or have room only. Bits of rooms stand in a list beside them
 //! too: as that is emptied the cells are pending, with no search and no memory.
 
-ghost use Rattle.std.specs.Prelude.{◌≡◌, true, false, ◌==◌, ◌<◌, ◌*◌, ℕ, All, Some, None, IfOk, OnOk, ◌++◌, ◌∷◌, ◌||◌, ◌&&◌, not, filter, length, option_copied, [], IsTrue, OnErr};
+ghost use Rattle.std.specs.Prelude.{◌≡◌, true, false, ◌==◌, ◌<◌, ◌*◌, ℕ, All, Some, None, IfOk, OnOk, ◌++◌, ◌∷◌, ◌||◌, ◌&&◌, not, filter, length, option_copied, [], OnErr};
 ghost use Rattle.std.specs.Option.{is_some};
 ghost use Rattle.std.specs.List.Sorted.{IsStrictlyIncreasing};
 ghost use Rattle.std.specs.Ordering.{nat_cmp};
@@ -14,7 +14,7 @@ ghost use Rattle.wi_sessions.specs.Inner.Cells.{has_bit, is_in, is_staged, cells
 use crate::bits::{common, has, is_bare, joined, without};
 use std::alloc::{AllocError, Global};
 use wi_tiles::CellMap;
-use wi_values::Address;
+use wi_values::{Address, rise};
 
 /// All cells that are pending for a session or have room only, each with the bits of these sessions.
 pub(crate) type Words = CellMap<u64>;
@@ -305,7 +305,7 @@ pub(crate) fn put_in_order(cells: &mut Vec<Address>)
     ensures order { IsStrictlyIncreasing cells.new.items }
     ensures same { (c : ℕ) → is_listed cells.new.items c ≡ is_listed cells.old.items c }
 {
-    if !rises(cells) {
+    if !rise(cells) {
         sort(cells);
     }
 }
@@ -317,16 +317,4 @@ fn sort(cells: &mut Vec<Address>)
 {
     cells.sort_unstable();
     cells.dedup();
-}
-
-/// Whether each cell comes after that before it.
-fn rises(cells: &[Address]) -> bool
-    ensures { IsTrue result → IsStrictlyIncreasing cells.now }
-{
-    for i in 1..cells.len() {
-        if cells[i] <= cells[i - 1] {
-            return false;
-        }
-    }
-    true
 }

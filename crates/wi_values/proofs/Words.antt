@@ -22,7 +22,7 @@ pub use Rattle.std.specs.List.Sorted.{IsStrictlyIncreasing, IsStrictlySortedBy}
 pub use Rattle.std.specs.Map.{keys_of, lookup, remove_entry}
 pub use Rattle.std.specs.Option.{SomeIff, option_or}
 pub use Rattle.std.specs.Ordering.{match_ordering, nat_cmp}
-pub use Rattle.std.specs.Prelude.{Decides, codes}
+pub use Rattle.std.specs.Prelude.{Decides, codes, slice_index}
 pub use Rattle.std.specs.Str.{all_ascii_digits, bytes_eq}
 pub use Rattle.std.specs.Str.Parse.{digits_value, digits_value_after}
 pub use Rattle.std.specs.declared.cmp.Ordering.{Ordering}

@@ -2,6 +2,7 @@
 #![tactic(auto)]
 
 mod address;
+mod cells;
 mod import;
 pub mod laws;
 mod name;
@@ -11,6 +12,7 @@ mod text;
 mod value;
 
 pub use address::{Address, AddressFault, COLUMNS, ROWS};
+pub use cells::rise;
 pub use import::{FieldFault, field_value, imported_value};
 pub use name::Name;
 pub use rect::Rect;
