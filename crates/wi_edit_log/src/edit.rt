@@ -9,8 +9,7 @@ ghost use Rattle.wi_edit_log.specs.declared.edit.Edit.{Edit};
 
 use crate::named::{Named, are_narrow};
 use crate::rising::are_rising;
-use crate::search::sooner;
-use wi_values::{Address, Rect};
+use wi_values::{Address, Rect, sooner};
 
 /// An edit: its session, what it named, and the place in the log where its run begins, from which on all edits up to it
 /// are that session's. Of the last edits up to it so many, or more, named narrow rectangles alone.

@@ -11,10 +11,9 @@ ghost use Rattle.wi_edit_log.specs.declared.edit.Edit.{Edit};
 
 use crate::cells::{cell_after, first_cell};
 use crate::edit::{Edit, first_of_others, first_of_wide, run_after};
-use crate::search::sooner;
 use std::alloc::{AllocError, Global};
 use std::collections::HashMap;
-use wi_values::{Address, Rect};
+use wi_values::{Address, Rect, sooner};
 
 /// What is noted of a cell, over the edits of narrow rectangles that named it: how long the log was after the last of them, whose that one
 /// was, and how long the log was after the last of any other session, 0 where there is none.

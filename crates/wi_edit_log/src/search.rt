@@ -1,22 +1,11 @@
 //! The first cell that rectangles share.
 
 ghost use Rattle.std.specs.Prelude.{◌≡◌, true};
-ghost use Rattle.wi_edit_log.specs.Inner.First.{IsFirst, in_both, in_each, in_one, sooner};
+ghost use Rattle.wi_edit_log.specs.Inner.First.{IsFirst, in_both, in_each, in_one};
 ghost use Rattle.wi_edit_log.specs.Inner.Rising.{are_rising};
 
 use crate::rising::first_in_rising;
-use wi_values::{Address, Rect};
-
-/// The sooner of two cells that may be there.
-pub(crate) fn sooner(one: Option<Address>, other: Option<Address>) -> Option<Address>
-    ensures { result ≡ sooner one other }
-{
-    match (one, other) {
-        (None, found) => found,
-        (found, None) => found,
-        (Some(a), Some(b)) => Some(a.min(b)),
-    }
-}
+use wi_values::{Address, Rect, sooner};
 
 /// The first cell that two rectangles share.
 pub(crate) fn first_in_both(one: Rect, other: Rect) -> Option<Address>

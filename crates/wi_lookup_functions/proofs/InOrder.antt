@@ -1,5 +1,5 @@
 -- Places of rectangles of one size, in row-major order.
-use Rattle.wi_lookup_functions.proofs.Words.{◌≡◌, ℕ, ◌<◌, ◌≤◌, ◌-◌, ◌+◌, Bool, true, false, ◌&&◌, inl, inr, List, [], ◌∷◌, length, take, get_or, Option, Some, None, IfSome, refl, sym, ap, ◌∙◌, subst, arith, list_all, and_parts, and_from, cases_lt, eq-eqb, take_all, min-eq_left, min-eq_right, list_all_more, list_all_at, Area, is_within, row_of, column_of, Value, within_between, ComesBefore, IsNextFilled, is_known_empty, IsNextAfter, earlier, ComesAfter, IsNextPlace, same_extent, same_place}
+use Rattle.wi_lookup_functions.proofs.Words.{◌≡◌, ℕ, ◌<◌, ◌≤◌, ◌-◌, ◌+◌, Bool, true, false, ◌&&◌, inl, inr, List, [], ◌∷◌, length, take, get_or, Option, Some, None, IfSome, refl, sym, ap, ◌∙◌, subst, arith, list_all, and_parts, and_from, cases_lt, eq-eqb, take_all, min-eq_left, min-eq_right, list_all_more, list_all_at, Area, is_within, row_of, column_of, Value, within_between, ComesBefore, IsNextFilled, is_known_empty, IsNextAfter, sooner, ComesAfter, IsNextPlace, same_extent, same_place}
 use Rattle.std.proofs.Common.{option_map}
 use Rattle.wi_lookup_functions.proofs.Extents.{within_other, same_place_inside, sizes}
 
@@ -89,7 +89,7 @@ module _ (known : ℕ → Option Value) (r s : Area) (k : same_extent r s ≡ tr
 
 -- ---- of several
 
-either : (P : ℕ → Type 0) (o n : Option ℕ) → IfSome o P → IfSome n P → IfSome (earlier o n) P
+either : (P : ℕ → Type 0) (o n : Option ℕ) → IfSome o P → IfSome n P → IfSome (sooner o n) P
 either P None n h k = k
 either P (Some a) None h k = h
 either P (Some a) (Some b) h k = elim (cases_lt a b) [
@@ -97,7 +97,7 @@ either P (Some a) (Some b) h k = elim (cases_lt a b) [
   | inr behind ↦ subst P (sym (min-eq_right {n = b} {m = a} behind)) k
 ]
 
-before_both : (a : ℕ) (o n : Option ℕ) → ComesBefore a (earlier o n) → ComesBefore a o × ComesBefore a n
+before_both : (a : ℕ) (o n : Option ℕ) → ComesBefore a (sooner o n) → ComesBefore a o × ComesBefore a n
 before_both a None n h = (tt, h)
 before_both a (Some x) None h = (h, tt)
 before_both a (Some x) (Some y) h = (omega (arith, h), omega (arith, h))
@@ -116,7 +116,7 @@ module _ (known : ℕ → Option Value) (r : Area) (rs : List Area) (passed : Op
   pub none_yet : (o : Option ℕ) → o ≡ None → IsNextPlace known r [] passed o
   none_yet o e = subst (IsNextPlace known r [] passed) (sym e) record { inside = tt; empty_between = λ a w l b. refl }
 
-  pub one_more : (i : ℕ) (s : Area) (found next more : Option ℕ) → i < length rs → s ≡ get_or rs i s → more ≡ earlier found next → IsNextPlace known r (take i rs) passed found → IsNextPlace known r (s ∷ []) passed next → IsNextPlace known r (take (i + 1) rs) passed more
+  pub one_more : (i : ℕ) (s : Area) (found next more : Option ℕ) → i < length rs → s ≡ get_or rs i s → more ≡ sooner found next → IsNextPlace known r (take i rs) passed found → IsNextPlace known r (s ∷ []) passed next → IsNextPlace known r (take (i + 1) rs) passed more
   one_more i s found next more l is e h n = subst (IsNextPlace known r (take (i + 1) rs) passed) (sym e) record {
     inside = either (λ c. (is_within r c ≡ true) × ComesAfter passed c) found next h.inside n.inside;
     empty_between = λ a w m b. all_empty a (h.empty_between a w m (before_both a found next b).0) (n.empty_between a w m (before_both a found next b).1);

@@ -3,13 +3,13 @@
 ghost use Rattle.std.specs.Prelude.{◌≡◌, true, [], ◌∷◌, IfSome, option_map};
 ghost use Rattle.std.specs.List.{list_all};
 ghost use Rattle.wi_values.specs.Address.{is_within};
-ghost use Rattle.wi_lookup_functions.specs.Inner.Places.{earlier, IsNextPlace};
+ghost use Rattle.wi_lookup_functions.specs.Inner.Places.{IsNextPlace};
 ghost use Rattle.wi_lookup_functions.specs.Inner.Sums.{same_extent, same_place};
 
 use crate::cells::next_after;
 use crate::extent::{same_extent, same_place};
 use wi_arguments::Lookup;
-use wi_values::{Address, Rect};
+use wi_values::{Address, Rect, sooner};
 
 /// Whether rectangles have as many rows and columns as the first.
 pub(crate) fn have_one_size(first: Rect, areas: &[Rect]) -> bool
@@ -33,7 +33,7 @@ pub(crate) fn next_place<L: Lookup>(
 {
     let mut found = None;
     for area in areas {
-        found = earlier(found, next_in(first, *area, passed, lookup));
+        found = sooner(found, next_in(first, *area, passed, lookup));
     }
     found
 }
@@ -70,16 +70,5 @@ fn moved(found: Option<Address>, one: Rect, other: Rect) -> Option<Address>
     match found {
         Some(at) => Some(same_place(at, one, other)),
         None => None,
-    }
-}
-
-/// The one that comes first of two, where there are two.
-fn earlier(one: Option<Address>, other: Option<Address>) -> Option<Address>
-    ensures { result ≡ earlier one other }
-{
-    match (one, other) {
-        (Some(a), Some(b)) => Some(a.min(b)),
-        (None, found) => found,
-        (found, None) => found,
     }
 }

@@ -1,7 +1,8 @@
 //! Cells in row-major order.
 
-ghost use Rattle.std.specs.Prelude.{IsTrue};
+ghost use Rattle.std.specs.Prelude.{◌≡◌, IsTrue};
 ghost use Rattle.std.specs.List.Sorted.{IsStrictlyIncreasing};
+ghost use Rattle.wi_values.specs.Inner.Cells.{sooner};
 
 use crate::address::Address;
 
@@ -15,4 +16,15 @@ pub fn rise(cells: &[Address]) -> bool
         }
     }
     true
+}
+
+/// The sooner of two cells that may be there.
+pub fn sooner(one: Option<Address>, other: Option<Address>) -> Option<Address>
+    ensures { result ≡ sooner one other }
+{
+    match (one, other) {
+        (None, found) => found,
+        (found, None) => found,
+        (Some(a), Some(b)) => Some(a.min(b)),
+    }
 }

@@ -12,7 +12,7 @@ mod text;
 mod value;
 
 pub use address::{Address, AddressFault, COLUMNS, ROWS};
-pub use cells::rise;
+pub use cells::{rise, sooner};
 pub use import::{FieldFault, field_value, imported_value};
 pub use name::Name;
 pub use rect::Rect;

@@ -1,5 +1,5 @@
 -- The first cell that passes a test.
-use Rattle.std.specs.Prelude.{◌≡◌, ℕ, ◌≤◌, Bool, true, ◌&&◌, nat_lt, min, List, Option, Some, None, IfSome}
+use Rattle.std.specs.Prelude.{◌≡◌, ℕ, ◌≤◌, Bool, true, ◌&&◌, nat_lt, List, Option, Some, None, IfSome}
 use Rattle.wi_values.specs.Address.{Area, is_within}
 use Rattle.wi_edit_log.specs.EditLog.{have_cell}
 
@@ -28,9 +28,3 @@ in_each areas others a = have_cell areas a && have_cell others a
 -- the cell a is in the rectangle and comes after another, in row-major order
 abbrev pub is_after : Area → ℕ → ℕ → Bool
 is_after r at a = is_within r a && nat_lt at a
-
--- the sooner of two cells that may be there
-abbrev pub sooner : Option ℕ → Option ℕ → Option ℕ
-sooner None b = b
-sooner (Some a) None = Some a
-sooner (Some a) (Some b) = Some (min a b)

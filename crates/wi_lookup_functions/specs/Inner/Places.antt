@@ -1,16 +1,10 @@
 -- The places of rectangles of one size, each told by the cell of the first that stands there.
-use Rattle.std.specs.Prelude.{◌≡◌, ℕ, ◌<◌, true, min, List, Option, Some, None, IfSome}
+use Rattle.std.specs.Prelude.{◌≡◌, ℕ, ◌<◌, true, List, Option, IfSome}
 use Rattle.std.specs.List.{list_all}
 use Rattle.wi_values.specs.Address.{Area, is_within}
 use Rattle.wi_values.specs.declared.value.Value.{Value}
 use Rattle.wi_arguments.specs.Filled.{ComesBefore, is_known_empty}
 use Rattle.wi_lookup_functions.specs.Inner.Sums.{same_place}
-
--- the first of two, where there are two
-abbrev pub earlier : Option ℕ → Option ℕ → Option ℕ
-earlier None o = o
-earlier (Some a) None = Some a
-earlier (Some a) (Some b) = Some (min a b)
 
 -- the place comes after the one that was passed, or none was
 abbrev pub ComesAfter : Option ℕ → ℕ → Type 0

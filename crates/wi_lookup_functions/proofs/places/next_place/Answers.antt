@@ -8,7 +8,7 @@ loop-area-init g c = none_yet (g.L.Lookup.known_cell c.args.lookup.now) c.args.f
 pub loop-area-preserved : goal.loop-area-preserved
 loop-area-preserved g c =
     let l = c.loop-area in
-    one_more (g.L.Lookup.known_cell c.args.lookup.now) c.args.first c.args.areas.now c.args.passed.now l.area-index c.area-item.result l.found c.next_in.result c.earlier-found.result c.loop-area-test.true c.area-item.is c.earlier-found.ensures l.invariant c.next_in.ensures
+    one_more (g.L.Lookup.known_cell c.args.lookup.now) c.args.first c.args.areas.now c.args.passed.now l.area-index c.area-item.result l.found c.next_in.result c.sooner-found.result c.loop-area-test.true c.area-item.is c.sooner-found.ensures l.invariant c.next_in.ensures
 
 pub returns : goal.returns
 returns g c =
