@@ -42,7 +42,7 @@ pub use Rattle.wi_lookup_functions.specs.Inner.Axis.{cell_along, cell_in_line, f
 pub use Rattle.wi_lookup_functions.specs.Inner.Finding.{Finds, IsMissingIn, IsPlacedIn, Places, WhateverHeld}
 pub use Rattle.wi_lookup_functions.specs.Inner.Giving.{Agrees, Gives, IsCriterionOf, criterion_argument}
 pub use Rattle.wi_lookup_functions.specs.Inner.Laws.{empty_meets_none}
-pub use Rattle.wi_lookup_functions.specs.Inner.Lines.{first_column, first_row, height, is_line, steps, width}
+pub use Rattle.wi_lookup_functions.specs.Inner.Lines.{first_column, first_row, is_line, steps}
 pub use Rattle.wi_lookup_functions.specs.Inner.Meeting.{IsRestAfter, criterion_held, holds, holds_between_kinds, is_met, relation_of}
 pub use Rattle.wi_lookup_functions.specs.Inner.Places.{ComesAfter, IsNextPlace}
 pub use Rattle.wi_lookup_functions.specs.Inner.Products.{IsAreaError, IsMissingInAny, areas_of, product_there, sum_over, sum_through, with_factor, with_place}
@@ -78,7 +78,7 @@ pub use Rattle.wi_value_functions.specs.declared.ending.Ending.TheVariants.{Erro
 pub use Rattle.wi_value_functions.specs.declared.ending.Stop.{Stop}
 pub use Rattle.wi_value_functions.specs.declared.ending.Stop.TheVariants.{Memory, Missing}
 pub use Rattle.wi_values.proofs.Within.{column_of_place, column_within, places_left, row_of_place, within_between, within_from, within_parts}
-pub use Rattle.wi_values.specs.Address.{Area, cells_of, column_of, is_within, place, rect_of, row_of}
+pub use Rattle.wi_values.specs.Address.{Area, cells_of, column_of, height, is_within, place, rect_of, row_of, width}
 pub use Rattle.wi_values.specs.Inner.Cells.{sooner}
 pub use Rattle.wi_values.specs.declared.value.ErrorKind.{ErrorKind}
 pub use Rattle.wi_values.specs.declared.value.ErrorKind.TheVariants.{BadReference, BadValue, NotAvailable}

@@ -3,7 +3,7 @@
 ghost use Rattle.std.specs.Prelude.{◌≡◌, ◌<◌};
 ghost use Rattle.wi_lookup_functions.specs.Inner.Axis.{cell_along, first_cells, line_count, line_width};
 
-use crate::region::{cell_at, first_column, first_row, height, width};
+use crate::region::{cell_at, first_column, first_row};
 use wi_values::{Address, Rect};
 
 /// What the lines of a rectangle are.
@@ -19,8 +19,8 @@ impl Axis {
         ensures { result ≡ line_width self area }
     {
         match self {
-            Axis::Rows => width(area),
-            Axis::Columns => height(area),
+            Axis::Rows => area.width(),
+            Axis::Columns => area.height(),
         }
     }
 

@@ -4,14 +4,13 @@ ghost use Rattle.std.specs.Prelude.{◌≡◌, true};
 ghost use Rattle.wi_values.specs.Address.{is_within};
 ghost use Rattle.wi_lookup_functions.specs.Inner.Sums.{same_extent, same_place};
 
-use crate::region::{height, width};
 use wi_values::{Address, Rect};
 
 /// Whether two rectangles have as many rows and columns.
 pub(crate) fn same_extent(one: Rect, other: Rect) -> bool
     ensures { result ≡ same_extent one other }
 {
-    height(one) == height(other) && width(one) == width(other)
+    one.height() == other.height() && one.width() == other.width()
 }
 
 /// The cell of another rectangle at the place that a cell has in one.

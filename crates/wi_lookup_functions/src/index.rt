@@ -8,7 +8,7 @@ ghost use Rattle.wi_lookup_functions.specs.Inner.Finding.{Finds, IsPlacedIn};
 
 use crate::arguments::{area_at, whole_at};
 use crate::outcome::value_found;
-use crate::region::{cell_at, height, place_among, width};
+use crate::region::{cell_at, place_among};
 use std::alloc::Global;
 use wi_arguments::{Argument, Lookup};
 use wi_value_functions::{Ending, Stop};
@@ -59,9 +59,9 @@ fn index_by_both<L: Lookup>(arguments: &[Argument], lookup: &L) -> Result<Addres
 fn nth_cell_along(area: Rect, k: i128) -> Result<Address, ErrorKind>
     ensures { IsPlacedIn area (λ r. nth_cell_along r k) result }
 {
-    if width(area) == 1 {
+    if area.width() == 1 {
         nth_cell(area, k, 1)
-    } else if height(area) == 1 {
+    } else if area.height() == 1 {
         nth_cell(area, 1, k)
     } else {
         Err(ErrorKind::BadValue)
@@ -75,7 +75,7 @@ fn nth_cell(area: Rect, j: i128, k: i128) -> Result<Address, ErrorKind>
     if j < 1 || k < 1 {
         return Err(ErrorKind::BadValue);
     }
-    let row = place_among(height(area), j)?;
-    let column = place_among(width(area), k)?;
+    let row = place_among(area.height(), j)?;
+    let column = place_among(area.width(), k)?;
     Ok(cell_at(area, row, column))
 }

@@ -2,24 +2,10 @@
 
 ghost use Rattle.std.specs.Prelude.{◌≡◌, ◌+◌, ◌<◌, IfOk};
 ghost use Rattle.wi_standard_functions.specs.Lookup.{position_among};
-ghost use Rattle.wi_values.specs.Address.{column_of, place, row_of};
-ghost use Rattle.wi_lookup_functions.specs.Inner.Lines.{first_column, first_row, height, is_line, steps, width};
+ghost use Rattle.wi_values.specs.Address.{column_of, height, place, row_of, width};
+ghost use Rattle.wi_lookup_functions.specs.Inner.Lines.{first_column, first_row, is_line, steps};
 
 use wi_values::{Address, ErrorKind, Rect};
-
-/// How many rows it has.
-pub(crate) fn height(area: Rect) -> u32
-    ensures { result ≡ height area }
-{
-    (area.last().row() + 1).saturating_sub(area.first().row())
-}
-
-/// How many columns it has.
-pub(crate) fn width(area: Rect) -> u32
-    ensures { result ≡ width area }
-{
-    (area.last().column() + 1).saturating_sub(area.first().column())
-}
 
 /// The place, from 0, of the k-th of so many.
 pub(crate) fn place_among(count: u32, k: i128) -> Result<u32, ErrorKind>
@@ -79,5 +65,5 @@ pub(crate) fn steps(line: Rect, cell: Address) -> u32
 pub(crate) fn is_line(area: Rect) -> bool
     ensures { result ≡ is_line area }
 {
-    height(area) == 1 || width(area) == 1
+    area.height() == 1 || area.width() == 1
 }

@@ -53,8 +53,14 @@ rows_in r = range_with_len (row_of r.first) ((row_of r.last + 1) - row_of r.firs
 abbrev pub cells_of : Area → List ℕ
 cells_of r = flat_map (λ row. cells_of_row row r) (rows_in r)
 
+abbrev pub height : Area → ℕ
+height r = (row_of r.last + 1) - row_of r.first
+
+abbrev pub width : Area → ℕ
+width r = (column_of r.last + 1) - column_of r.first
+
 abbrev pub size_of : Area → ℕ
-size_of r = ((row_of r.last + 1) - row_of r.first) * ((column_of r.last + 1) - column_of r.first)
+size_of r = height r * width r
 
 -- ---- texts of addresses
 

@@ -3,7 +3,7 @@
 ghost use Rattle.std.specs.Prelude.{◌≡◌, ◌==◌, ◌<◌, length, IfSome};
 ghost use Rattle.std.specs.List.{position};
 ghost use Rattle.std.specs.Str.{byte};
-ghost use Rattle.wi_values.specs.Address.{rect_of, is_within, size_of};
+ghost use Rattle.wi_values.specs.Address.{rect_of, is_within, height, width, size_of};
 ghost use Rattle.wi_values.specs.AddressReading.{corners, read_rect};
 
 use crate::address::{Address, AddressFault};
@@ -78,13 +78,27 @@ impl Rect {
             && (self.first.column() <= at.column() && at.column() <= self.last.column())
     }
 
+    /// How many rows it has.
+    pub fn height(self) -> u32
+        ensures value { result ≡ height self }
+        ensures some { 0 < result }
+    {
+        self.last.row() + 1 - self.first.row()
+    }
+
+    /// How many columns it has.
+    pub fn width(self) -> u32
+        ensures value { result ≡ width self }
+        ensures some { 0 < result }
+    {
+        self.last.column() + 1 - self.first.column()
+    }
+
     /// How many cells it has.
     pub fn size(self) -> u64
         ensures { result ≡ size_of self }
     {
-        let rows = self.last.row() + 1 - self.first.row();
-        let columns = self.last.column() + 1 - self.first.column();
-        u64::from(rows) * u64::from(columns)
+        u64::from(self.height()) * u64::from(self.width())
     }
 }
 

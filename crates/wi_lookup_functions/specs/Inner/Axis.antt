@@ -1,12 +1,12 @@
 -- The lines of a rectangle, which are its rows or its columns.
 use Rattle.std.specs.Prelude.{ℕ, ◌+◌, List, Option}
-use Rattle.wi_values.specs.Address.{Area, place, row_of, column_of}
+use Rattle.wi_values.specs.Address.{Area, place, row_of, column_of, height, width}
 use Rattle.wi_values.specs.declared.value.Value.{Value}
 use Rattle.wi_standard_functions.specs.Arguments.{Argument, Region}
 use Rattle.wi_standard_functions.specs.Lookup.{cell_in, look_up_value}
 use Rattle.wi_lookup_functions.specs.declared.axis.Axis.{Axis}
 use Rattle.wi_lookup_functions.specs.declared.axis.Axis.TheVariants.{Rows, Columns}
-use Rattle.wi_lookup_functions.specs.Inner.Lines.{first_column, first_row, height, width}
+use Rattle.wi_lookup_functions.specs.Inner.Lines.{first_column, first_row}
 
 abbrev pub line_count : Axis → Area → ℕ
 line_count Rows = height

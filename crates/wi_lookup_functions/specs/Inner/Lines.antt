@@ -1,12 +1,6 @@
 -- Rows and columns of a rectangle.
 use Rattle.std.specs.Prelude.{ℕ, ◌+◌, ◌-◌, ◌==◌, ◌||◌, Bool, nat_lt, if◌then◌else◌, Option, Some, None}
-use Rattle.wi_values.specs.Address.{Area, place, row_of, column_of, rect_of}
-
-abbrev pub height : Area → ℕ
-height r = (row_of r.last + 1) - row_of r.first
-
-abbrev pub width : Area → ℕ
-width r = (column_of r.last + 1) - column_of r.first
+use Rattle.wi_values.specs.Address.{Area, place, row_of, column_of, rect_of, height, width}
 
 -- one row or one column
 abbrev pub is_line : Area → Bool

@@ -1,13 +1,12 @@
 -- The cells that SUMIF adds.
 use Rattle.std.specs.Prelude.{◌≡◌, ℕ, ◌+◌, ◌-◌, ◌==◌, ◌&&◌, ◌||◌, Bool, true, List, map, filter, zip, Option, None, Result, if◌then◌else◌}
 use Rattle.wi_fraction.specs.Number as numbers
-use Rattle.wi_values.specs.Address.{Area, is_within, place, row_of, column_of}
+use Rattle.wi_values.specs.Address.{Area, is_within, place, row_of, column_of, height, width}
 use Rattle.wi_values.specs.declared.value.ErrorKind.{ErrorKind}
 use Rattle.wi_values.specs.declared.value.Value.{Value}
 use Rattle.wi_standard_functions.specs.Arithmetic.{addition}
 use Rattle.wi_standard_functions.specs.Sequence.{Item, from_cell, number_of_item, with_number}
 use Rattle.wi_standard_functions.specs.Steps.{and_then}
-use Rattle.wi_lookup_functions.specs.Inner.Lines.{height, width}
 use Rattle.wi_lookup_functions.specs.declared.criterion.Criterion.{Criterion}
 use Rattle.wi_lookup_functions.specs.Inner.Meeting.{is_met}
 
