@@ -92,7 +92,7 @@ pub use Rattle.wi_propagate.specs.KeptSheet.{KeptSheet}
 pub use Rattle.wi_reports.specs.Changes.{change_records}
 pub use Rattle.wi_reports.specs.Compare.{cells_compared}
 pub use Rattle.wi_reports.specs.Contents.{content_record}
-pub use Rattle.wi_reports.specs.Inner.Shape.{entries, is_column, is_row}
+pub use Rattle.wi_reports.specs.Inner.Shape.{entries}
 pub use Rattle.wi_reports.specs.Rows.{export_of, rows_shown}
 pub use Rattle.wi_reports.specs.Table.{table_of}
 pub use Rattle.wi_scenario_list.proofs.ChainsKept.{based_kept, dropped_kept, has_room, is_chain, no_scenarios, own_kept}
@@ -128,7 +128,7 @@ pub use Rattle.wi_values.proofs.Lists.{Any-weaker}
 pub use Rattle.wi_values.proofs.ReadsBack.{no_letters, scan}
 pub use Rattle.wi_values.proofs.Spelling.{digit_or_none, digits_step, letters_above_zero}
 pub use Rattle.wi_values.proofs.Within.{column_of_place, row_of_place}
-pub use Rattle.wi_values.specs.Address.{Area, cells_of, column_of, columns, is_row_number, is_within, letters_value, place, rect_of, row_of, rows, size_of}
+pub use Rattle.wi_values.specs.Address.{Area, cells_of, column_of, columns, is_column, is_row, is_row_number, is_within, letters_value, place, rect_of, row_of, rows, size_of}
 unfoldable pub use Rattle.wi_values.specs.Address.{address_text}
 pub use Rattle.wi_values.specs.AddressReading.{cell_at, corners}
 unfoldable pub use Rattle.wi_values.specs.AddressReading.{address_at, read_address, read_rect}

@@ -1,7 +1,7 @@
 //! The operands of commands.
 
 ghost use Rattle.std.specs.Prelude.{◌≡◌, if◌then◌else◌};
-ghost use Rattle.wi_reports.specs.Inner.Shape.{is_column, is_row};
+ghost use Rattle.wi_values.specs.Address.{is_column, is_row};
 ghost use Rattle.wi_cli.specs.Inner.Operands.{line_fault, worse};
 
 use wi_values::{AddressFault, Rect};
@@ -11,8 +11,8 @@ pub(crate) fn line_fault(area: Result<Rect, AddressFault>, upright: bool) -> Opt
     ensures { result ≡ line_fault (if upright then is_column else is_row) area }
 {
     match (area, upright) {
-        (Ok(area), true) if area.first().column() == area.last().column() => None,
-        (Ok(area), false) if area.first().row() == area.last().row() => None,
+        (Ok(area), true) if area.is_column() => None,
+        (Ok(area), false) if area.is_row() => None,
         (Ok(_), _) => Some(AddressFault::Shape),
         (Err(fault), _) => Some(fault),
     }

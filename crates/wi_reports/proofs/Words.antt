@@ -1,5 +1,5 @@
 -- The words of the library, of the crates below and of this crate's definitions that its proofs are written in.
-pub use Rattle.std.proofs.Common.{Bool, Err, List, None, Ok, OnOk, Option, Result, Some, [], add-one, ap, append_assoc, arith, cond, drop, false, filter, get_or, if◌then◌else◌, is_ok, length, map, not, refl, rules, subst, suc, sym, true, zero, ℕ, ◌++◌, ◌+◌, ◌-◌, ◌<◌, ◌==◌, ◌∙◌, ◌∷◌, ◌≡◌, ◌≤◌}
+pub use Rattle.std.proofs.Common.{Bool, Err, List, None, Ok, OnOk, Option, Result, Some, [], add-one, ap, append_assoc, arith, cond, drop, false, filter, get_or, if◌then◌else◌, is_ok, length, map, not, refl, rules, subst, suc, sym, true, zero, ℕ, ◌++◌, ◌+◌, ◌-◌, ◌<◌, ◌∙◌, ◌∷◌, ◌≡◌, ◌≤◌}
 pub use Rattle.std.proofs.Transfers.{starts_with_trans}
 pub use Rattle.std.proofs.lemmas.Bool.{eqb-true}
 pub use Rattle.std.proofs.lemmas.Grind.{common_steps, flat_map-append}
@@ -22,7 +22,6 @@ pub use Rattle.wi_reports.specs.Changes.{change_records}
 pub use Rattle.wi_reports.specs.Compare.{number_text}
 pub use Rattle.wi_reports.specs.Contents.{content_text}
 pub use Rattle.wi_reports.specs.Inner.Parts.{cell_compared, pairs_at, row_shown, table_row}
-pub use Rattle.wi_reports.specs.Inner.Shape.{is_column, is_row}
 pub use Rattle.wi_reports.specs.Looks.{evaluations_for, restarts_for}
 pub use Rattle.wi_reports.specs.Rows.{text_under}
 pub use Rattle.wi_reports.specs.Table.{entries_beside, entry_text}
@@ -32,7 +31,7 @@ pub use Rattle.wi_sheet.specs.Demand.{demanded, wants}
 pub use Rattle.wi_sheet.specs.Shown.{shown}
 pub use Rattle.wi_store.specs.Store.{Stored}
 pub use Rattle.wi_values.proofs.Lists.{left_more}
-pub use Rattle.wi_values.specs.Address.{Area, cells_of, cells_of_row, column_of, place, row_of, rows_in}
+pub use Rattle.wi_values.specs.Address.{Area, cells_of, cells_of_row, column_of, is_column, is_row, place, row_of, rows_in}
 unfoldable pub use Rattle.wi_values.specs.Value.{shown_text}
 pub use Rattle.wi_values.specs.declared.replacement.Replacement.{Replacement}
 pub use Rattle.wi_values.specs.declared.value.ErrorKind.TheVariants.{BadNumber}

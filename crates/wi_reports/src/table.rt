@@ -3,7 +3,7 @@
 ghost use Rattle.std.specs.Prelude.{◌≡◌, ◌++◌, ◌∷◌, ◌&&◌, ℕ, true, [], map, nat_le, OnOk, OnErr, string_bytes};
 ghost use Rattle.std.specs.List.{flat_map};
 ghost use Rattle.std.specs.Io.{StartsWith};
-ghost use Rattle.wi_values.specs.Address.{row_of, cells_of, cells_of_row};
+ghost use Rattle.wi_values.specs.Address.{row_of, cells_of, cells_of_row, is_column};
 ghost use Rattle.wi_values.specs.Replacements.{IsInOrder};
 ghost use Rattle.wi_csv.specs.Row.{row};
 ghost use Rattle.wi_reports.specs.Rows.{text_under};
@@ -33,9 +33,9 @@ pub struct DataTable {
 impl DataTable {
     /// Whether the column is one, and the row too, where there is one.
     pub fn is_shaped(&self) -> bool
-        ensures { result ≡ (shape.is_column self.now.column && shape.has_row self.now.second) }
+        ensures { result ≡ (is_column self.now.column && shape.has_row self.now.second) }
     {
-        is_column(self.column) && self.has_row()
+        self.column.is_column() && self.has_row()
     }
 
     /// Whether there are at most so many entries. The head and the texts of the column don't count.
@@ -54,7 +54,7 @@ impl DataTable {
     {
         match self.second {
             None => true,
-            Some((_, cells)) => is_row(cells),
+            Some((_, cells)) => cells.is_row(),
         }
     }
 
@@ -69,20 +69,6 @@ impl DataTable {
     }
 }
 
-/// Whether all cells of a rectangle stand in one column.
-fn is_column(area: Rect) -> bool
-    ensures { result ≡ shape.is_column area }
-{
-    area.first().column() == area.last().column()
-}
-
-/// Whether all cells of a rectangle stand in one row.
-fn is_row(area: Rect) -> bool
-    ensures { result ≡ shape.is_row area }
-{
-    area.first().row() == area.last().row()
-}
-
 /// Appends the records of a data table under replacements, which stand in the order of their addresses, one for each: one for
 /// each cell of the column, its text and the entries beside it, under a head with the texts of the row where there is one.
 /// On an error the bytes are as before. The calculator is asked once for each cell of the column and of the row, and once for
@@ -95,7 +81,7 @@ pub fn push_table<C: Calculator>(
     out: &mut Vec<u8>,
 ) -> Result<(), AllocError>
     requires order { IsInOrder put.now }
-    requires shaped { (shape.is_column table.now.column && shape.has_row table.now.second) ≡ true }
+    requires shaped { (is_column table.now.column && shape.has_row table.now.second) ≡ true }
     ensures ok { let sheet = (C.stored calculator.old).sheet in
         let records = spec.table_of sheet put.now table.now.formula_cell
         table.now.input table.now.column table.now.second in
@@ -120,7 +106,7 @@ fn push_all<C: Calculator>(
     out: &mut Vec<u8>,
 ) -> Result<(), AllocError>
     requires order { IsInOrder put.now }
-    requires shaped { (shape.is_column table.now.column && shape.has_row table.now.second) ≡ true }
+    requires shaped { (is_column table.now.column && shape.has_row table.now.second) ≡ true }
     ensures ok { let sheet = (C.stored calculator.old).sheet in
         let records = spec.table_of sheet put.now table.now.formula_cell
         table.now.input table.now.column table.now.second in
@@ -166,7 +152,7 @@ fn push_rows<C: Calculator>(
     out: &mut Vec<u8>,
 ) -> Result<(), AllocError>
     requires order { IsInOrder put.now }
-    requires column { shape.is_column table.now.column ≡ true }
+    requires column { is_column table.now.column ≡ true }
     requires row { shape.has_row table.now.second ≡ true }
     ensures ok { let sheet = (C.stored calculator.old).sheet in
         let row = table_row sheet put.now table.now.formula_cell table.now.input table.now.second in

@@ -46,7 +46,7 @@ pub use Rattle.wi_reports.proofs.RowLemmas.{cells_in, one_row, row_is, rows_are,
 pub use Rattle.wi_reports.specs.Changes.{change_records, kind_text}
 pub use Rattle.wi_reports.specs.Compare.{cells_compared}
 pub use Rattle.wi_reports.specs.Contents.{content_record}
-pub use Rattle.wi_reports.specs.Inner.Shape.{entries, has_row, is_column}
+pub use Rattle.wi_reports.specs.Inner.Shape.{entries, has_row}
 pub use Rattle.wi_reports.specs.Looks.{evaluations_for, restarts_for}
 pub use Rattle.wi_reports.specs.Rows.{export_of, rows_shown}
 pub use Rattle.wi_reports.specs.Table.{table_of}
@@ -109,7 +109,7 @@ pub use Rattle.wi_values.proofs.Order.{is_itself}
 pub use Rattle.wi_values.proofs.Outcomes.{on_err}
 pub use Rattle.wi_values.proofs.ReadsBack.{addresses_read_back}
 pub use Rattle.wi_values.proofs.Within.{within_between}
-pub use Rattle.wi_values.specs.Address.{Area, address_text, cells_of, cells_of_row, column_of, columns, is_within, place, rect_of, row_of, rows, size_of}
+pub use Rattle.wi_values.specs.Address.{Area, address_text, cells_of, cells_of_row, column_of, columns, is_column, is_within, place, rect_of, row_of, rows, size_of}
 pub use Rattle.wi_values.specs.AddressReading.{read_address}
 pub use Rattle.wi_values.specs.Inner.Import.{imported}
 pub use Rattle.wi_values.specs.Replacements.{IsInOrder, replaced}

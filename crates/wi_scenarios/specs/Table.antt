@@ -1,8 +1,8 @@
 -- The command `table`: the value of a formula cell for each cell of a column, or of a column and a row, in the place of inputs.
 use Rattle.std.specs.Prelude.{ℕ, nat_lt, not, ◌||◌, Option}
-use Rattle.wi_values.specs.Address.{Area}
+use Rattle.wi_values.specs.Address.{Area, is_column}
 use Rattle.wi_reports.specs.Table.{table_of}
-use Rattle.wi_reports.specs.Inner.Shape.{is_column, has_row, entries}
+use Rattle.wi_reports.specs.Inner.Shape.{has_row, entries}
 use Rattle.wi_scenarios.specs.State.{State, max_area}
 use Rattle.wi_scenarios.specs.Views.{current_replacements}
 use Rattle.wi_scenarios.specs.Answer.{Answer}

@@ -62,6 +62,13 @@ width r = (column_of r.last + 1) - column_of r.first
 abbrev pub size_of : Area → ℕ
 size_of r = height r * width r
 
+-- all its cells stand in one column, or in one row
+abbrev pub is_column : Area → Bool
+is_column r = column_of r.first == column_of r.last
+
+abbrev pub is_row : Area → Bool
+is_row r = row_of r.first == row_of r.last
+
 -- ---- texts of addresses
 
 -- letters of either case in base 26: A is 1, Z 26, AA 27 and so on

@@ -3,7 +3,7 @@
 ghost use Rattle.std.specs.Prelude.{◌≡◌, ◌==◌, ◌<◌, length, IfSome};
 ghost use Rattle.std.specs.List.{position};
 ghost use Rattle.std.specs.Str.{byte};
-ghost use Rattle.wi_values.specs.Address.{rect_of, is_within, height, width, size_of};
+ghost use Rattle.wi_values.specs.Address.{rect_of, is_within, height, width, size_of, is_column, is_row};
 ghost use Rattle.wi_values.specs.AddressReading.{corners, read_rect};
 
 use crate::address::{Address, AddressFault};
@@ -99,6 +99,20 @@ impl Rect {
         ensures { result ≡ size_of self }
     {
         u64::from(self.height()) * u64::from(self.width())
+    }
+
+    /// Whether all its cells stand in one column.
+    pub fn is_column(self) -> bool
+        ensures { result ≡ is_column self }
+    {
+        self.first.column() == self.last.column()
+    }
+
+    /// Whether all its cells stand in one row.
+    pub fn is_row(self) -> bool
+        ensures { result ≡ is_row self }
+    {
+        self.first.row() == self.last.row()
     }
 }
 

@@ -1,12 +1,6 @@
 -- Of which shape a table's column and row are, and how many entries it has.
-use Rattle.std.specs.Prelude.{ℕ, ◌*◌, ◌==◌, Bool, true, Option, Some, None}
-use Rattle.wi_values.specs.Address.{Area, size_of, row_of, column_of}
-
-abbrev pub is_column : Area → Bool
-is_column a = column_of a.first == column_of a.last
-
-abbrev pub is_row : Area → Bool
-is_row a = row_of a.first == row_of a.last
+use Rattle.std.specs.Prelude.{ℕ, ◌*◌, Bool, true, Option, Some, None}
+use Rattle.wi_values.specs.Address.{Area, size_of, is_row}
 
 abbrev pub has_row : Option (ℕ × Area) → Bool
 has_row None = true
