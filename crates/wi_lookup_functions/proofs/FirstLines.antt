@@ -1,5 +1,5 @@
 -- The first column and the first row of a rectangle.
-use Rattle.wi_lookup_functions.proofs.Words.{◌≡◌, ℕ, zero, suc, ◌<◌, ◌≤◌, ◌+◌, ◌==◌, Bool, true, false, cond, List, length, map, min, max, Some, None, refl, sym, ap, ◌∙◌, subst, arith, nat_lt, ltb-false, ltb-true, or_left, or_right, eq-eqb, length-map-range_with_len, Area, cells_of, place, row_of, column_of, is_within, rect_of, Value, within_parts, row_of_place, column_of_place, column_within, within_from, block, run, region_of, cell_in, Axis, Rows, Columns, line_count, line_width, first_cells, first_column, first_row, height, is_line, width}
+use Rattle.wi_lookup_functions.proofs.Words.{◌≡◌, ℕ, zero, suc, ◌<◌, ◌≤◌, ◌+◌, ◌==◌, true, List, length, map, min, max, refl, sym, ap, ◌∙◌, subst, arith, or_left, or_right, eq-eqb, length-map-range_with_len, Area, cells_of, place, row_of, column_of, is_within, rect_of, Value, within_parts, row_of_place, column_of_place, column_within, within_from, block, run, region_of, cell_in, Axis, Rows, Columns, line_count, line_width, first_cells, first_column, first_row, height, is_line, width}
 use Rattle.wi_lookup_functions.proofs.CellsByPlace.{cell_at, column_cells, row_cells}
 use Rattle.wi_lookup_functions.proofs.Chains.{first_cells_in}
 use Rattle.wi_lookup_functions.proofs.Lines.{one_row, one_column}
@@ -33,26 +33,15 @@ spans_to a bottom right h k l =
     spans_rect a (place bottom right) (row_of a) bottom (column_of a) right
     (ap (min (row_of a)) row_is ∙ top) (ap (max (row_of a)) row_is ∙ low) (ap (min (column_of a)) column_is ∙ left) (ap (max (column_of a)) column_is ∙ far) (column_within a) l
 
--- a line that there is unless a test holds
-there : (b : Bool) (m l : Area) → cond b None (Some m) ≡ Some l → (b ≡ false) × (m ≡ l)
-there true m l h = cc
-there false m l h = (refl, cc)
+column_spans : (r l : Area) → l ≡ first_column r → 0 < height r → Spans l (row_of r.first) (row_of r.last) (column_of r.first) (column_of r.first)
+column_spans r l h some =
+    subst (λ (m : Area). Spans m (row_of r.first) (row_of r.last) (column_of r.first) (column_of r.first)) (sym h)
+    (spans_to r.first (row_of r.last) (column_of r.first) (omega (arith, some)) (omega arith) (column_within r.first))
 
-absent : (b : Bool) (m : Area) → cond b None (Some m) ≡ None → b ≡ true
-absent true m h = refl
-absent false m h = cc
-
-column_spans : (r l : Area) → first_column r ≡ Some l → Spans l (row_of r.first) (row_of r.last) (column_of r.first) (column_of r.first)
-column_spans r l h =
-    let t = there (nat_lt (row_of r.last) (row_of r.first)) (rect_of r.first (place (row_of r.last) (column_of r.first))) l h in
-    subst (λ (m : Area). Spans m (row_of r.first) (row_of r.last) (column_of r.first) (column_of r.first)) t.1
-    (spans_to r.first (row_of r.last) (column_of r.first) (ltb-false (row_of r.last) (row_of r.first) t.0) (omega arith) (column_within r.first))
-
-row_spans : (r l : Area) → first_row r ≡ Some l → Spans l (row_of r.first) (row_of r.first) (column_of r.first) (column_of r.last)
-row_spans r l h =
-    let t = there (nat_lt (column_of r.last) (column_of r.first)) (rect_of r.first (place (row_of r.first) (column_of r.last))) l h in
-    subst (λ (m : Area). Spans m (row_of r.first) (row_of r.first) (column_of r.first) (column_of r.last)) t.1
-    (spans_to r.first (row_of r.first) (column_of r.last) (omega arith) (ltb-false (column_of r.last) (column_of r.first) t.0) (column_within r.last))
+row_spans : (r l : Area) → l ≡ first_row r → 0 < width r → Spans l (row_of r.first) (row_of r.first) (column_of r.first) (column_of r.last)
+row_spans r l h some =
+    subst (λ (m : Area). Spans m (row_of r.first) (row_of r.first) (column_of r.first) (column_of r.last)) (sym h)
+    (spans_to r.first (row_of r.first) (column_of r.last) (omega arith) (omega (arith, some)) (column_within r.last))
 
 -- ---- their cells
 
@@ -67,9 +56,9 @@ length-block : (row n a : ℕ) → length (block row n a 1) ≡ n
 length-block row zero a = refl
 length-block row (suc n) a = ap suc (length-block (row + 1) n a)
 
-column_line : (r l : Area) → first_column r ≡ Some l → 0 < width r → IsFirstLine r l (λ cells. first_cells_in Rows (region_of cells r)) (height r)
-column_line r l h w =
-    let s : Spans l (row_of r.first) (row_of r.last) (column_of r.first) (column_of r.first) = column_spans r l h in
+column_line : (r l : Area) → l ≡ first_column r → 0 < height r → 0 < width r → IsFirstLine r l (λ cells. first_cells_in Rows (region_of cells r)) (height r)
+column_line r l h some w =
+    let s : Spans l (row_of r.first) (row_of r.last) (column_of r.first) (column_of r.first) = column_spans r l h some in
     let thin : width l ≡ 1 = omega (arith, s.left_is, s.right_is) in
     let tall : height l ≡ height r = omega (arith, s.top_is, s.bottom_is) in
     let cells_are : cells_of l ≡ block (row_of r.first) (height r) (column_of r.first) 1 = one_column l thin ∙ ap (λ (i : ℕ). block i (height l) (column_of l.first) 1) s.top_is ∙ ap (λ (n : ℕ). block (row_of r.first) n (column_of l.first) 1) tall ∙ ap (λ (a : ℕ). block (row_of r.first) (height r) a 1) s.left_is in
@@ -84,9 +73,9 @@ column_line r l h w =
       inside = λ c k. let p = within_parts l c k in within_from r c (omega (arith, p.0, s.top_is)) (omega (arith, p.1, s.bottom_is)) (omega (arith, p.2, s.left_is)) (omega (arith, p.3, s.right_is, w));
     }
 
-row_line : (r l : Area) → first_row r ≡ Some l → 0 < height r → IsFirstLine r l (λ cells. first_cells_in Columns (region_of cells r)) (width r)
-row_line r l h w =
-    let s : Spans l (row_of r.first) (row_of r.first) (column_of r.first) (column_of r.last) = row_spans r l h in
+row_line : (r l : Area) → l ≡ first_row r → 0 < width r → 0 < height r → IsFirstLine r l (λ cells. first_cells_in Columns (region_of cells r)) (width r)
+row_line r l h some w =
+    let s : Spans l (row_of r.first) (row_of r.first) (column_of r.first) (column_of r.last) = row_spans r l h some in
     let flat : height l ≡ 1 = omega (arith, s.top_is, s.bottom_is) in
     let wide : width l ≡ width r = omega (arith, s.left_is, s.right_is) in
     let cells_are : cells_of l ≡ run (row_of r.first) (column_of r.first) (width r) = one_row l flat ∙ ap (λ (i : ℕ). run i (column_of l.first) (width l)) s.top_is ∙ ap (λ (a : ℕ). run (row_of r.first) a (width l)) s.left_is ∙ ap (λ (n : ℕ). run (row_of r.first) (column_of r.first) n) wide in
@@ -101,19 +90,8 @@ row_line r l h w =
       inside = λ c k. let p = within_parts l c k in within_from r c (omega (arith, p.0, s.top_is)) (omega (arith, p.1, s.bottom_is, w)) (omega (arith, p.2, s.left_is)) (omega (arith, p.3, s.right_is));
     }
 
--- a rectangle without rows has no first column, and one without columns no first row
-no_rows : (r : Area) → first_column r ≡ None → height r ≡ 0
-no_rows r h = let up = ltb-true (row_of r.last) (row_of r.first) (absent _ (rect_of r.first (place (row_of r.last) (column_of r.first))) h) in omega (arith, up)
-
-no_columns : (r : Area) → first_row r ≡ None → width r ≡ 0
-no_columns r h = let back = ltb-true (column_of r.last) (column_of r.first) (absent _ (rect_of r.first (place (row_of r.first) (column_of r.last))) h) in omega (arith, back)
-
 -- ---- by the axis
 
-pub first_line : (axis : Axis) (r l : Area) → first_cells axis r ≡ Some l → 0 < line_width axis r → IsFirstLine r l (λ cells. first_cells_in axis (region_of cells r)) (line_count axis r)
+pub first_line : (axis : Axis) (r l : Area) → l ≡ first_cells axis r → 0 < line_count axis r → 0 < line_width axis r → IsFirstLine r l (λ cells. first_cells_in axis (region_of cells r)) (line_count axis r)
 first_line Rows = column_line
 first_line Columns = row_line
-
-pub no_lines : (axis : Axis) (r : Area) → first_cells axis r ≡ None → line_count axis r ≡ 0
-no_lines Rows = no_rows
-no_lines Columns = no_columns

@@ -24,9 +24,10 @@ impl Axis {
         }
     }
 
-    /// The first cells of the lines, unless there are none.
-    pub(crate) fn first_cells(self, area: Rect) -> Option<Rect>
-        ensures { result ≡ first_cells self area }
+    /// The first cells of the lines, of which there is one at least.
+    pub(crate) fn first_cells(self, area: Rect) -> Rect
+        ensures cells { result ≡ first_cells self area }
+        ensures some { 0 < line_count self area }
     {
         match self {
             Axis::Rows => first_column(area),

@@ -30,26 +30,24 @@ pub(crate) fn cell_at(area: Rect, row: u32, column: u32) -> Address
     Address::at(area.first().row() + row, area.first().column() + column)
 }
 
-/// Its first column, unless it has no rows.
-pub(crate) fn first_column(area: Rect) -> Option<Rect>
-    ensures { result ≡ first_column area }
+/// Its first column. It has a row at least.
+pub(crate) fn first_column(area: Rect) -> Rect
+    ensures column { result ≡ first_column area }
+    ensures some { 0 < height area }
 {
+    let _ = area.height();
     let (first, last) = (area.first(), area.last());
-    if last.row() < first.row() {
-        return None;
-    }
-    Some(Rect::new(first, Address::at(last.row(), first.column())))
+    Rect::new(first, Address::at(last.row(), first.column()))
 }
 
-/// Its first row, unless it has no columns.
-pub(crate) fn first_row(area: Rect) -> Option<Rect>
-    ensures { result ≡ first_row area }
+/// Its first row. It has a column at least.
+pub(crate) fn first_row(area: Rect) -> Rect
+    ensures row { result ≡ first_row area }
+    ensures some { 0 < width area }
 {
+    let _ = area.width();
     let (first, last) = (area.first(), area.last());
-    if last.column() < first.column() {
-        return None;
-    }
-    Some(Rect::new(first, Address::at(first.row(), last.column())))
+    Rect::new(first, Address::at(first.row(), last.column()))
 }
 
 /// How many steps a cell is after the first, in a rectangle of one row or one column.

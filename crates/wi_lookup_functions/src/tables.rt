@@ -16,7 +16,7 @@ use crate::search::place_along;
 use std::alloc::Global;
 use wi_arguments::{Argument, Lookup};
 use wi_value_functions::{Ending, Stop, zero};
-use wi_values::{Address, ErrorKind, Value};
+use wi_values::{Address, Value};
 
 /// The value in a column of a rectangle, in the row whose first cell is found. The filled cells of the first column are looked
 /// up one after another: where they aren't told to be in order up to the first that is equal, else all; and then one cell.
@@ -62,7 +62,7 @@ fn look_up<L: Lookup>(
     let k = whole_at(arguments, 2, lookup)?;
     let in_order = logical_or(true, arguments, 3, lookup)?;
     let place = place_among(axis.width(area), k)?;
-    let firsts = axis.first_cells(area).ok_or(ErrorKind::NotAvailable)?;
+    let firsts = axis.first_cells(area);
     let line = place_along(Rule::in_order(in_order), sought, firsts, lookup)?;
     Ok(axis.cell_at(area, line, place))
 }

@@ -1,5 +1,5 @@
 -- The lines of a rectangle, which are its rows or its columns.
-use Rattle.std.specs.Prelude.{ℕ, ◌+◌, List, Option}
+use Rattle.std.specs.Prelude.{ℕ, ◌+◌, List}
 use Rattle.wi_values.specs.Address.{Area, place, row_of, column_of, height, width}
 use Rattle.wi_values.specs.declared.value.Value.{Value}
 use Rattle.wi_standard_functions.specs.Arguments.{Argument, Region}
@@ -16,7 +16,7 @@ abbrev pub line_width : Axis → Area → ℕ
 line_width Rows = width
 line_width Columns = height
 
-abbrev pub first_cells : Axis → Area → Option Area
+abbrev pub first_cells : Axis → Area → Area
 first_cells Rows = first_column
 first_cells Columns = first_row
 

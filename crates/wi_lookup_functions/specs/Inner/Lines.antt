@@ -1,5 +1,5 @@
 -- Rows and columns of a rectangle.
-use Rattle.std.specs.Prelude.{ℕ, ◌+◌, ◌-◌, ◌==◌, ◌||◌, Bool, nat_lt, if◌then◌else◌, Option, Some, None}
+use Rattle.std.specs.Prelude.{ℕ, ◌+◌, ◌-◌, ◌==◌, ◌||◌, Bool}
 use Rattle.wi_values.specs.Address.{Area, place, row_of, column_of, rect_of, height, width}
 
 -- one row or one column
@@ -10,9 +10,9 @@ is_line r = (height r == 1) || (width r == 1)
 abbrev pub steps : Area → ℕ → ℕ
 steps r c = (row_of c - row_of r.first) + (column_of c - column_of r.first)
 
--- the first column of a rectangle that has rows, and the first row of one that has columns
-abbrev pub first_column : Area → Option Area
-first_column r = if nat_lt (row_of r.last) (row_of r.first) then None else Some (rect_of r.first (place (row_of r.last) (column_of r.first)))
+-- its first column, and its first row
+abbrev pub first_column : Area → Area
+first_column r = rect_of r.first (place (row_of r.last) (column_of r.first))
 
-abbrev pub first_row : Area → Option Area
-first_row r = if nat_lt (column_of r.last) (column_of r.first) then None else Some (rect_of r.first (place (row_of r.first) (column_of r.last)))
+abbrev pub first_row : Area → Area
+first_row r = rect_of r.first (place (row_of r.first) (column_of r.last))

@@ -53,6 +53,14 @@ returns-in_err-place g c =
     (asked cells args s r c.in_ok-k.k c.in_ok-in_order.in_order (c.in_ok-sought.ensures cells a) c.in_ok-area.ensures (c.in_ok-k.ensures cells a) (c.in_ok-in_order.ensures cells a))
     (placed_along c.args.axis cells r c.in_ok-k.k c.width.result (Err e) c.width.ensures (c.in_err-place.ensures.place ∙ ap (position_among c.width.result) same)))
 
+pub place_along-requires : goal.place_along-requires
+place_along-requires g c =
+    let axis = c.args.axis in
+    let r = c.in_ok-area.area in
+    let some : 0 < line_width axis r = omega (arith, c.in_ok-place.ensures.within, c.width.ensures) in
+    let line = first_line axis r c.first_cells-firsts.result c.first_cells-firsts.ensures.cells c.first_cells-firsts.ensures.some some in
+    line.line
+
 pub returns-in_err-line : goal.returns-in_err-line
 returns-in_err-line g c =
     let fits : FitsSigned w128 c.in_ok-k.k = search rules in
@@ -62,9 +70,9 @@ returns-in_err-line g c =
     let axis = c.args.axis in
     let r = c.in_ok-area.area in
     let s = c.in_ok-sought.sought.now in
-    let l = c.in_ok-firsts.firsts in
+    let l = c.first_cells-firsts.result in
     let some : 0 < line_width axis r = omega (arith, c.in_ok-place.ensures.within, c.width.ensures) in
-    let line : IsFirstLine r l (λ cells. first_cells_in axis (region_of cells r)) (line_count axis r) = first_line axis r l (sym c.first_cells.ensures ∙ c.in_ok-firsts.ensures.ok_part) some in
+    let line : IsFirstLine r l (λ cells. first_cells_in axis (region_of cells r)) (line_count axis r) = first_line axis r l c.first_cells-firsts.ensures.cells c.first_cells-firsts.ensures.some some in
     finds_so known args (look_up_by axis) c.from_residual-in_err-line.result c.in_err-line.field-0.0 c.from_residual-in_err-line.ensures.1
     (ended {A = ℕ} {B = ℕ} known args (look_up_by axis) (IsMissingIn known l) (λ i. i) (λ cells. ok_or (position_by c.in_order.result s (map cells (cells_of l))) NotAvailable) c.in_err-line.field-0.0
     (λ b m. (m.0, is_referred args 1 r c.in_ok-area.ensures b (line.inside b m.1)))
@@ -80,7 +88,7 @@ cell_at-requires-clause-line_within g c =
     let axis = c.args.axis in
     let r = c.in_ok-area.area in
     let some : 0 < line_width axis r = omega (arith, c.in_ok-place.ensures.within, c.width.ensures) in
-    let line = first_line axis r c.in_ok-firsts.firsts (sym c.first_cells.ensures ∙ c.in_ok-firsts.ensures.ok_part) some in
+    let line = first_line axis r c.first_cells-firsts.result c.first_cells-firsts.ensures.cells c.first_cells-firsts.ensures.some some in
     subst (λ (n : ℕ). c.in_ok-line.line < n) line.count_is c.in_ok-line.ensures.within
 
 pub returns : goal.returns
@@ -91,9 +99,9 @@ returns g c =
     let axis = c.args.axis in
     let r = c.in_ok-area.area in
     let s = c.in_ok-sought.sought.now in
-    let l = c.in_ok-firsts.firsts in
+    let l = c.first_cells-firsts.result in
     let some : 0 < line_width axis r = omega (arith, c.in_ok-place.ensures.within, c.width.ensures) in
-    let line : IsFirstLine r l (λ cells. first_cells_in axis (region_of cells r)) (line_count axis r) = first_line axis r l (sym c.first_cells.ensures ∙ c.in_ok-firsts.ensures.ok_part) some in
+    let line : IsFirstLine r l (λ cells. first_cells_in axis (region_of cells r)) (line_count axis r) = first_line axis r l c.first_cells-firsts.ensures.cells c.first_cells-firsts.ensures.some some in
     let line_within : c.in_ok-line.line < line_count axis r = subst (λ (n : ℕ). c.in_ok-line.line < n) line.count_is c.in_ok-line.ensures.within in
     let place_within : c.in_ok-place.place < line_width axis r = subst (λ (n : ℕ). c.in_ok-place.place < n) c.width.ensures c.in_ok-place.ensures.within in (
       λ cells a.
