@@ -1,6 +1,6 @@
 //! Something for each of some of 64 cells.
 
-ghost use Rattle.std.specs.Prelude.{◌≡◌, ◌↔◌, ◌<◌, ◌≤◌, if◌then◌else◌, ℕ, Some, None, IsSome, IsTrue, OnOk, OnErr, is_ok, length, option_copied, option_map, slice_index_or, slice_set};
+ghost use Rattle.std.specs.Prelude.{◌≡◌, ◌↔◌, ◌<◌, ◌≤◌, if◌then◌else◌, ℕ, Some, None, IsSome, IsTrue, OnOk, OnErr, is_ok, length, count_ones, option_copied, option_map, slice_index_or, slice_set};
 ghost use Rattle.std.specs.Int.{bit_at};
 ghost use Rattle.std.specs.List.{insert};
 ghost use Rattle.wi_tiles.specs.Inner.Changes.{IsChanged};
@@ -96,7 +96,7 @@ impl<V> Tile<V> {
         ensures there { OnOk result (slice_index_or self.new bit None ≡ Some value) }
         ensures err { OnErr result (self.new ≡ self.old) }
     {
-        let place = rank(self.bits, bit);
+        let place = place_of(self.bits, self.values.len(), bit);
         put_in(&mut self.values, place, value)?;
         self.bits |= 1 << bit;
         Ok(())
@@ -129,7 +129,7 @@ impl<V: Drop> Tile<V> {
         if (self.bits >> bit) & 1 == 0 {
             return None;
         }
-        let place = rank(self.bits, bit);
+        let place = place_of(self.bits, self.values.len(), bit);
         Some(mem::replace(&mut self.values[place], value))
     }
 }
@@ -180,6 +180,19 @@ fn put_in<V>(values: &mut Vec<V>, place: usize, value: V) -> Result<(), AllocFai
         values.push(value)
     } else {
         values.insert(place, value)
+    }
+}
+
+/// How many ones stand below a bit, of so many in all. Where none stands behind it, as in a tile that is filled in order, they aren't counted.
+fn place_of(bits: u64, count: usize, bit: u32) -> usize
+    requires within { bit < 64 }
+    requires count { count ≡ count_ones bits }
+    ensures { result ≡ rank bits bit }
+{
+    match bits >> bit {
+        0 => count,
+        1 => count - 1,
+        _ => rank(bits, bit),
     }
 }
 
