@@ -88,6 +88,14 @@ impl<V> Tile<V> {
         &self.values[place]
     }
 
+    /// Takes room for 16 values, as many as a column of a tile has, where the four that there was room for at first are there. If memory
+    /// runs out, all is as before.
+    fn widen(&mut self) -> Result<(), AllocError>
+        ensures { self.new ≡ self.old }
+    {
+        room_for_column(&mut self.values)
+    }
+
     /// Puts a value where nothing stands. If memory runs out, all is as before.
     fn put_value(&mut self, bit: u32, value: V) -> Result<(), AllocFailed<V>>
         requires within { bit < 64 }
@@ -157,6 +165,7 @@ impl<V: Drop> Places<V> for Tile<V> {
         if self.value(place as u32).is_some() {
             return Ok(false);
         }
+        self.widen()?;
         self.put_value(place as u32, value)?;
         Ok(true)
     }
@@ -168,6 +177,16 @@ impl<V: Drop> Places<V> for Tile<V> {
     fn remove(&mut self, place: u64, _alloc: Global) -> Option<V> {
         self.remove_value(place as u32)
     }
+}
+
+/// Takes room for 16 values where there are four, so that they move once.
+fn room_for_column<V>(values: &mut Vec<V>) -> Result<(), AllocError>
+    ensures { values.new.items ≡ values.old.items }
+{
+    if values.len() == 4 {
+        values.reserve(12)?;
+    }
+    Ok(())
 }
 
 /// Puts a value in at a place, and moves those behind it. If memory runs out, all is as before.
