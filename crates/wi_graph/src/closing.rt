@@ -1,7 +1,7 @@
 //! Whether an edit may close a cycle, or open one: whether what it brings reads a cell of its cone, and whether it meets a circular
 //! cell.
 
-ghost use Rattle.std.specs.Prelude.{◌≡◌, ◌||◌, false, IsTrue};
+ghost use Rattle.std.specs.Prelude.{◌≡◌, ◌||◌, ◌∷◌, [], false, IsTrue};
 ghost use Rattle.std.specs.List.{list_any};
 ghost use Rattle.std.specs.List.Sorted.{IsStrictlyIncreasing};
 ghost use Rattle.std.specs.Map.{keys_of};
@@ -20,13 +20,26 @@ use crate::within::{first_listed, next_within};
 use wi_values::{Address, Rect};
 
 /// Whether what is next reads a cell of a cone, which is in row-major order. The work grows with the count of the cone, and is
-/// that of `first_listed` for each rectangle that is read.
+/// that of `first_listed` for each rectangle that is read; of one cell it is a look at each.
 pub(crate) fn closes_cycle(next: &[Brought], cone: &[Address]) -> bool
     requires { IsStrictlyIncreasing cone.now }
     ensures { result ≡ reads_one_of next.now (as_set cone.now) }
 {
+    if let [cell] = cone {
+        return next.iter().any(|entry| reads_cell(&entry.1, *cell));
+    }
     let bounds = around(cone);
     next.iter().any(|entry| reads_one(&entry.1, cone, bounds))
+}
+
+/// Whether the rectangles of a room have a cell.
+fn reads_cell(room: &Option<Rectangles>, cell: Address) -> bool
+    ensures { result ≡ list_any (has_one (as_set (cell ∷ []))) (areas_of (items_of room.now)) }
+{
+    match room {
+        Some(areas) => areas.iter().any(|area| area.contains(cell)),
+        None => false,
+    }
 }
 
 /// Whether the rectangles of a room have one of the cells.
