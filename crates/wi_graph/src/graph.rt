@@ -116,10 +116,11 @@ impl Graph {
     pub fn commit(&mut self)
         ensures { self.new ≡ staging (unwrap_or self.old.staged self.old.now) None }
     {
-        if let Some(mut staged) = self.staged.take() {
+        if let Some(staged) = &mut self.staged {
             take_over(&mut self.rooms, &mut self.readers, &mut staged.next);
             take_away(&mut self.circles, &staged.turns.went);
         }
+        self.staged = None;
     }
 
     /// Takes back the edit that was staged, if one was. Takes no memory.
