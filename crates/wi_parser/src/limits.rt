@@ -74,9 +74,13 @@ fn is_sign(symbol: &Symbol) -> bool
     }
 }
 
+// Fewer symbols than the limit, as most formulas have, needn't be looked at.
 fn is_too_deep(symbols: &[Symbol]) -> bool
     ensures { result ≡ nesting.is_too_deep (all_meant symbols.now) }
 {
+    if symbols.len() <= MAX_DEPTH {
+        return false;
+    }
     opens_too_many(symbols) || repeats_signs(symbols)
 }
 
