@@ -67,7 +67,7 @@ fn read_after(negative: bool, whole: &[u8], rest: &[u8]) -> Option<Fraction>
     ensures { result ≡ read_after negative whole.now rest.now }
 {
     let [mark, more @ ..] = rest else {
-        return decimal(negative, &[], whole, &[], rest);
+        return undivided(negative, whole);
     };
     if !is_numeral(more) {
         return None;
@@ -89,7 +89,7 @@ fn decimal_after(whole: &[u8], rest: &[u8]) -> Option<Fraction>
         return if whole.is_empty() {
             None
         } else {
-            decimal(false, &[], whole, &[], rest)
+            undivided(false, whole)
         };
     };
     if *mark == b'.' {
@@ -244,6 +244,14 @@ fn quotient(negative: bool, above: &[u8], below: &[u8]) -> Option<Fraction>
         return None;
     }
     reduced(negative, size, denominator)
+}
+
+/// The decimal with those digits and no point.
+fn undivided(negative: bool, digits: &[u8]) -> Option<Fraction>
+    requires { AllDigits 10 digits.now }
+    ensures { result ≡ decimal_value negative digits.now [] }
+{
+    number_at(negative, whole_number(&[], digits)?, 1)
 }
 
 /// The decimal with those digits, in two pieces each, before and after the point.
