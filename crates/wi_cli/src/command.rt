@@ -1,9 +1,11 @@
 //! The commands that lines spell.
 
-ghost use Rattle.std.specs.Prelude.{◌≡◌};
+ghost use Rattle.std.specs.Prelude.{◌≡◌, ◌≢◌, None, Some, MatchOption, MatchResult};
+ghost use Rattle.wi_scenarios.specs.declared.refusal.Refusal.TheVariants.{Memory};
+ghost use Rattle.wi_scenarios.specs.Step.{Refused};
 ghost use Rattle.wi_cli.specs.Lines.{without_cr};
 ghost use Rattle.wi_cli.specs.Inner.Script.{is_comment, spelled_command, text_command, line_command};
-ghost use Rattle.wi_cli.specs.Inner.Spelling.{IsCommandOf, IsLineOf};
+ghost use Rattle.wi_cli.specs.Inner.Spelling.{IsCommandOf};
 
 use crate::edit_commands::{read_edit, read_forced, read_set};
 use crate::lines::MAX_LINE;
@@ -120,29 +122,30 @@ fn is_comment(text: &str) -> bool
     text.starts_with('#')
 }
 
-/// The command of a text that is a line, or nothing where the line is passed over.
-fn read_text(text: &str) -> Result<Option<Command<'_>>, Refusal>
-    ensures { IsLineOf (text_command text.now) result }
+/// The text, or nothing where a line of this text is passed over.
+fn unless_passed(text: &str) -> Option<&str>
+    ensures { MatchOption result (text_command text.now ≡ None)
+        (λ kept. text_command text.now ≡ Some (spelled_command kept.now)) }
 {
     if is_all_spaces(text) || is_comment(text) {
-        return Ok(None);
+        return None;
     }
-    match read_command(text) {
-        Ok(command) => Ok(Some(command)),
-        Err(refusal) => Err(refusal),
-    }
+    Some(text)
 }
 
-/// The command of a line without its LF, or nothing where the line is passed over.
+/// The text of a line without its LF, which spells its command, or nothing where the line is passed over.
 #[tactic(auto, unfolding(crate::specs::Inner::Script::line_command))]
-pub(crate) fn read_line_command(line: &[u8]) -> Result<Option<Command<'_>>, Refusal>
-    ensures { IsLineOf (line_command line.now) result }
+pub(crate) fn read_line(line: &[u8]) -> Result<Option<&str>, Refusal>
+    ensures { MatchResult result
+        (λ text. MatchOption text (line_command line.now ≡ None)
+        (λ kept. line_command line.now ≡ Some (spelled_command kept.now)))
+        (λ e. (line_command line.now ≡ Some (Refused e)) × (e ≢ Memory)) }
 {
     if line.len() > MAX_LINE {
         return Err(Refusal::BadLine);
     }
     match str::from_utf8(without_cr(line)) {
-        Ok(text) => read_text(text),
+        Ok(text) => Ok(unless_passed(text)),
         Err(_) => Err(Refusal::BadLine),
     }
 }

@@ -1,11 +1,11 @@
 //! What a line is answered.
 
-ghost use Rattle.std.specs.Prelude.{◌≡◌, ◌++◌, [], List, ℕ};
-ghost use Rattle.wi_cli.specs.Inner.Script.{line_command};
+ghost use Rattle.std.specs.Prelude.{◌≡◌, ◌++◌, [], List, ℕ, Some};
+ghost use Rattle.wi_cli.specs.Inner.Script.{line_command, spelled_command};
 ghost use Rattle.wi_cli.specs.Inner.Spelling.{command_of};
 ghost use Rattle.wi_cli.specs.Inner.Told.{IsServed, Told};
 
-use crate::command::{Command, read_line_command};
+use crate::command::{Command, read_command, read_line};
 use crate::reply::Reply;
 use wi_propagate::Calculator;
 use wi_scenarios::{Refusal, Workbook};
@@ -52,18 +52,31 @@ fn execute<C: Calculator>(
     }
 }
 
+/// Serves the command that a text spells, and leaves its records in `out`, which was empty.
+#[tactic(auto, using(crate::proofs::ServeLemmas::told_done, crate::proofs::ServeLemmas::told_refused, crate::proofs::ServeLemmas::told_bad))]
+fn serve_text<C: Calculator>(book: &mut Workbook<C>, text: &str, out: &mut Vec<u8>) -> Reply
+    requires { out.old.items ≡ [] }
+    ensures { Told (Some (spelled_command text.now)) result
+        book.old.state book.new.state out.new.items }
+{
+    match read_command(text) {
+        Ok(command) => match execute(&command, book, out) {
+            Ok(()) => Reply::Done,
+            Err(refusal) => Reply::Refused(refusal),
+        },
+        Err(refusal) => Reply::Refused(refusal),
+    }
+}
+
 /// Serves a line, and leaves its records in `out`, which was empty.
-#[tactic(auto, using(crate::proofs::ServeLemmas::told_passed, crate::proofs::ServeLemmas::told_done, crate::proofs::ServeLemmas::told_refused, crate::proofs::ServeLemmas::told_bad))]
+#[tactic(auto, using(crate::proofs::ServeLemmas::told_passed, crate::proofs::ServeLemmas::told_bad))]
 pub(crate) fn serve<C: Calculator>(book: &mut Workbook<C>, line: &[u8], out: &mut Vec<u8>) -> Reply
     requires { out.old.items ≡ [] }
     ensures { Told (line_command line.now) result book.old.state book.new.state out.new.items }
 {
-    match read_line_command(line) {
+    match read_line(line) {
         Ok(None) => Reply::Passed,
-        Ok(Some(command)) => match execute(&command, book, out) {
-            Ok(()) => Reply::Done,
-            Err(refusal) => Reply::Refused(refusal),
-        },
+        Ok(Some(text)) => serve_text(book, text, out),
         Err(refusal) => Reply::Refused(refusal),
     }
 }
