@@ -24,7 +24,8 @@ pub(crate) fn path_of(cell: Address) -> u64
     let bit = row % 16 * 4 + column % 4;
     let group = u64::from(column / 4) + 4_096 * u64::from(bit);
     let band = u64::from(row / 16 % 256) + 256 * group;
-    u64::from(row / 4_096) + 256 * band
+    // A page is one of 256: said so, its digit comes off the path for nothing.
+    u64::from(row / 4_096 % 256) + 256 * band
 }
 
 /// The band of a row.
