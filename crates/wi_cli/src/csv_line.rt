@@ -119,6 +119,7 @@ fn read_operands(force: bool, operands: &[u8]) -> Option<CsvLine>
 }
 
 /// The edit of this name, where it is `csv`.
+#[inline(always)]
 fn read_named(force: bool, name: &[u8], operands: &[u8]) -> Option<CsvLine>
     ensures { IsCsv (csv_named force name.now operands.now) result }
 {
@@ -149,6 +150,7 @@ fn is_text(bytes: &[u8]) -> bool
 }
 
 /// A line without its LF, where it asks for data lines.
+#[inline(always)]
 #[tactic(auto, unfolding(crate::specs::Inner::CsvCommand::csv_line))]
 pub(crate) fn read_csv_line(line: &[u8]) -> Option<CsvLine>
     ensures read { IsCsv (csv_line line.now) result }

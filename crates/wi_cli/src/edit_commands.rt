@@ -36,6 +36,7 @@ pub(crate) fn read_edit<'a>(
 }
 
 /// `set ADDR CONTENT`, where CONTENT is all after the one space that follows ADDR.
+#[inline(always)]
 pub(crate) fn read_set(force: bool, operands: &str) -> Result<Command<'_>, Refusal>
     ensures { IsCommandOf (set_command force operands.now) result }
 {

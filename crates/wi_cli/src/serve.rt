@@ -11,6 +11,7 @@ use wi_propagate::Calculator;
 use wi_scenarios::{Refusal, Workbook};
 
 /// Does a command, and appends its records.
+#[inline(always)]
 fn execute<C: Calculator>(
     command: &Command<'_>,
     book: &mut Workbook<C>,

@@ -40,6 +40,7 @@ impl EditedCells {
 }
 
 /// The cells of an edit, of which each gets a content or none, in its order.
+#[inline(always)]
 pub fn edited_cells(
     alloc: Global,
     changes: &[(Address, Option<Content>)],

@@ -65,6 +65,7 @@ fn has_one(area: Rect, cells: &[Address], bounds: Rect) -> bool
 
 /// Whether what is next is for a circular cell, or reads one. The work is that of `next_within` for each rectangle that is read;
 /// where no cell is circular, it is constant.
+#[inline(always)]
 pub(crate) fn meets_circle(next: &[Brought], circles: &CellSet) -> bool
     ensures { result ≡ meets_one_of next.now circles.now }
 {

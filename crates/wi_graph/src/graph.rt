@@ -84,6 +84,7 @@ impl Graph {
     /// cell reads what it read, nor where one cell that isn't circular gets something that reads neither it nor a formula. Where it reads
     /// formulas, but no circular cell, what it reads at any remove is searched for it at the same time, so that the work is that of the
     /// smaller search.
+    #[inline(always)]
     pub fn stage(&mut self, changes: &[(Address, Option<Content>)]) -> Result<(), AllocError>
         requires { self.old.staged ≡ None }
         ensures ok { OnOk result (self.new
@@ -180,6 +181,7 @@ impl Graph {
 }
 
 /// Makes ready an edit. If memory runs out, all is as before.
+#[inline(always)]
 fn make_ready(
     alloc: Global,
     rooms: &mut Rooms,

@@ -40,6 +40,7 @@ pub(crate) fn set_of(alloc: Global, cells: &[Address]) -> Result<CellSet, AllocE
 }
 
 /// Puts cells into a set. If memory runs out, some of them may be in.
+#[inline(always)]
 pub(crate) fn insert_all(set: &mut CellSet, cells: &[Address]) -> Result<(), AllocError>
     ensures all { OnOk result ((c : ℕ) → contains nat_cmp set.new c
         ≡ (contains nat_cmp set.old c || is_one_of cells.now c)) }

@@ -104,6 +104,7 @@ fn turns_sought(
 /// the work grows with the count of the cone, and with the rows of what is next reads where the rectangle around the cone or that around
 /// the circular cells meets it, times the logarithms of their counts, and it takes no memory. Else it grows also with the cone and what its
 /// cells read, times logarithms.
+#[inline(always)]
 fn turns_in(
     alloc: Global,
     rooms: &Rooms,
@@ -123,7 +124,8 @@ fn turns_in(
     turns_among(alloc, rooms, circles, next, &cone)
 }
 
-/// The same, where a cycle may be closed or opened, of a cone as a set.
+/// The same, where a cycle may be closed or opened, of a cone as a set. It stands apart, since most edits don't come to it.
+#[inline(never)]
 fn turns_among(
     alloc: Global,
     rooms: &Rooms,

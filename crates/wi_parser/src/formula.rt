@@ -77,6 +77,7 @@ impl Model for Formula {
 
 impl Formula {
     /// The formula of a tree that a text can have.
+    #[inline(always)]
     pub(crate) fn new(alloc: Global, expr: Expr) -> Result<Formula, AllocError>
         requires { IsFormulaTree (tree_of expr) }
         ensures { IfOk result (λ f. f ≡ tree_of expr) }

@@ -153,6 +153,7 @@ pub(crate) fn greater(a: u64, b: u64) -> u64
 }
 
 /// Makes room for the numbers of these cells: each that has none gets 0. If memory runs out, the rooms made so far stay.
+#[inline(always)]
 pub(crate) fn make_room(generations: &mut Numbers, cells: &[Address]) -> Result<(), AllocError>
     ensures same { (c : ℕ)
         → generation_in generations.new.entries c ≡ generation_in generations.old.entries c }

@@ -95,6 +95,7 @@ fn stage_one(
 }
 
 /// Makes room for cells in the lists of these sessions. If memory runs out, there is room for a part of them.
+#[inline(always)]
 pub(crate) fn stage_each(
     words: &mut Words,
     staged: &mut Vec<Room>,

@@ -81,6 +81,7 @@ pub(crate) fn make_rooms(rooms: &mut Rooms, changes: &[Change]) -> Result<usize,
 }
 
 /// Exchanges a room with that of a cell, or gives it up where the cell has none. One search.
+#[inline(always)]
 fn exchange(rooms: &mut Rooms, at: Address, room: &mut Room)
     requires order { RoomsAreInOrder rooms.old.entries }
     requires room { HasRoomFor rooms.old.entries (at, room.old) }

@@ -89,6 +89,7 @@ impl<V: Drop> Places<V> for Page<V> {
         self.bands.get(path)
     }
 
+    #[inline(always)]
     fn put_new(&mut self, path: u64, value: V, alloc: Global) -> Result<bool, AllocError> {
         let new = self.bands.put_new(path, value, alloc)?;
         self.columns |= 1 << column_bit(path);

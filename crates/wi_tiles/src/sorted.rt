@@ -69,6 +69,7 @@ impl<V: Drop> Places<V> for Band<V> {
         }
     }
 
+    #[inline(always)]
     fn put_new(&mut self, path: u64, value: V, alloc: Global) -> Result<bool, AllocError> {
         let group = (path % GROUPS) as u32;
         match place_of(&self.parts, group) {

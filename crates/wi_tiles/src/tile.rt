@@ -97,6 +97,7 @@ impl<V> Tile<V> {
     }
 
     /// Puts a value where nothing stands. If memory runs out, all is as before.
+    #[inline(always)]
     fn put_value(&mut self, bit: u32, value: V) -> Result<(), AllocFailed<V>>
         requires within { bit < 64 }
         requires vacant { slice_index_or self.old bit None ≡ None }
@@ -161,6 +162,7 @@ impl<V: Drop> Places<V> for Tile<V> {
         self.value(place as u32)
     }
 
+    #[inline(always)]
     fn put_new(&mut self, place: u64, value: V, _alloc: Global) -> Result<bool, AllocError> {
         if self.value(place as u32).is_some() {
             return Ok(false);
@@ -190,6 +192,7 @@ fn room_for_column<V>(values: &mut Vec<V>) -> Result<(), AllocError>
 }
 
 /// Puts a value in at a place, and moves those behind it. If memory runs out, all is as before.
+#[inline(always)]
 fn put_in<V>(values: &mut Vec<V>, place: usize, value: V) -> Result<(), AllocFailed<V>>
     requires { place ≤ length values.old.items }
     ensures { values.new.items
