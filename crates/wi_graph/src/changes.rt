@@ -10,11 +10,8 @@ ghost use Rattle.wi_graph.specs.Inner.Changes.{cells_in, Brings, HasNoIdle, Read
 use crate::rooms::{Brought, Coming, Rectangles, Rooms, is_vacant};
 use std::alloc::{AllocError, Global};
 use std::collections::BTreeMap;
-use wi_parser::Content;
+use wi_parser::{Content, NewContent};
 use wi_values::{Address, Rect};
-
-/// A cell, and the content that it gets, or none.
-pub(crate) type Change = (Address, Option<Content>);
 
 /// What an edit brings, by its cells.
 type Sorted = BTreeMap<Address, Option<Rectangles>>;
@@ -43,7 +40,7 @@ impl EditedCells {
 #[inline(always)]
 pub fn edited_cells(
     alloc: Global,
-    changes: &[(Address, Option<Content>)],
+    changes: &[NewContent],
 ) -> Result<EditedCells, AllocError>
     ensures { IfOk result (λ cells. cells_in cells ≡ keys_of changes.now) }
 {
@@ -54,7 +51,7 @@ pub fn edited_cells(
 }
 
 /// The cell of an edit of one cell.
-fn lone_cell(changes: &[Change]) -> Option<Address>
+fn lone_cell(changes: &[NewContent]) -> Option<Address>
     ensures { IfSome result (λ at. keys_of changes.now ≡ at ∷ []) }
 {
     if changes.len() != 1 {
@@ -65,7 +62,7 @@ fn lone_cell(changes: &[Change]) -> Option<Address>
 }
 
 /// The same in a list.
-pub(crate) fn changed_cells(alloc: Global, changes: &[Change]) -> Result<Vec<Address>, AllocError>
+pub(crate) fn changed_cells(alloc: Global, changes: &[NewContent]) -> Result<Vec<Address>, AllocError>
     ensures { IfOk result (λ v. v.items ≡ keys_of changes.now) }
 {
     let mut cells = Vec::new(alloc);
@@ -80,7 +77,7 @@ pub(crate) fn changed_cells(alloc: Global, changes: &[Change]) -> Result<Vec<Add
 pub(crate) fn rooms_of(
     alloc: Global,
     rooms: &Rooms,
-    changes: &[Change],
+    changes: &[NewContent],
 ) -> Result<Coming, AllocError>
     ensures brings { IfOk result (λ next. Brings rooms.now next.items changes.now) }
     ensures no_idle { IfOk result (λ next. HasNoIdle rooms.now next.items) }
@@ -113,7 +110,7 @@ fn room_of(
 }
 
 /// The same of more cells, in any order.
-fn sorted_rooms(alloc: Global, rooms: &Rooms, changes: &[Change]) -> Result<Sorted, AllocError>
+fn sorted_rooms(alloc: Global, rooms: &Rooms, changes: &[NewContent]) -> Result<Sorted, AllocError>
     ensures brings { IfOk result (λ next. Brings rooms.now next.entries changes.now) }
     ensures no_idle { IfOk result (λ next. HasNoIdle rooms.now next.entries) }
 {

@@ -18,7 +18,7 @@ ghost use Rattle.wi_graph.specs.Inner.Turning.{AreTurns};
 
 use crate::beyond::{Cells, listed_beyond};
 use crate::cell_set::CellSet;
-use crate::changes::{Change, reads_stay, rooms_of};
+use crate::changes::{reads_stay, rooms_of};
 use crate::cone::{any_is_read, listed_cone};
 use crate::rooms::{Coming, Rooms, take_back, take_over};
 use crate::sets::take_away;
@@ -27,7 +27,7 @@ use crate::turning::{Turns, bring_circles, turns_of};
 use crate::watch::Watch;
 use std::alloc::{AllocError, Global};
 use std::marker::Model;
-use wi_parser::Content;
+use wi_parser::NewContent;
 use wi_ranges::RangeIndex;
 use wi_tiles::CellMap;
 use wi_values::Address;
@@ -85,7 +85,7 @@ impl Graph {
     /// formulas, but no circular cell, what it reads at any remove is searched for it at the same time, so that the work is that of the
     /// smaller search.
     #[inline(always)]
-    pub fn stage(&mut self, changes: &[(Address, Option<Content>)]) -> Result<(), AllocError>
+    pub fn stage(&mut self, changes: &[NewContent]) -> Result<(), AllocError>
         requires { self.old.staged ≡ None }
         ensures ok { OnOk result (self.new
             ≡ staging self.old.now (Some (edges_after self.old.now changes.now))) }
@@ -187,7 +187,7 @@ fn make_ready(
     rooms: &mut Rooms,
     readers: &mut RangeIndex,
     circles: &mut CellSet,
-    changes: &[Change],
+    changes: &[NewContent],
 ) -> Result<Staged, AllocError>
     requires { IsGraph rooms.old readers.old circles.old }
     ensures ordered { IsOrdered nat_cmp rooms.new }

@@ -11,11 +11,12 @@ ghost use Rattle.wi_graph.specs.Inner.Below.{ReachesNot, ReadsApart};
 
 use crate::below::{begin_below, go_below, is_clear};
 use crate::cell_set::CellSet;
-use crate::changes::{Change, changed_cells};
+use crate::changes::changed_cells;
 use crate::closing::meets_circle;
 use crate::cone::{listed_cone, note};
 use crate::rooms::{Brought, Rooms};
 use std::alloc::{AllocError, Global};
+use wi_parser::NewContent;
 use wi_ranges::{RangeIndex, RisingSet};
 use wi_values::Address;
 
@@ -28,7 +29,7 @@ pub(crate) fn cone_unless_apart(
     readers: &RangeIndex,
     circles: &CellSet,
     next: &[Brought],
-    changes: &[Change],
+    changes: &[NewContent],
 ) -> Result<Option<Vec<Address>>, AllocError>
     requires { IsOrdered nat_cmp rooms.now }
     ensures cone { IfOk result (λ o.

@@ -13,7 +13,7 @@ ghost use Rattle.wi_graph.specs.Inner.Stripping.{IsWithin};
 ghost use Rattle.wi_graph.specs.Inner.Turning.{AreTurns, SettlesCone};
 
 use crate::cell_set::CellSet;
-use crate::changes::{Change, reads_stay};
+use crate::changes::reads_stay;
 use crate::closing::{closes_cycle, meets_circle, stands_apart};
 use crate::held::held_set;
 use crate::reads::reads_of;
@@ -22,6 +22,7 @@ use crate::sets::{insert_all, listed, set_of, take_away, without};
 use crate::sides::cone_unless_apart;
 use crate::stripping::strip;
 use std::alloc::{AllocError, Global};
+use wi_parser::NewContent;
 use wi_ranges::RangeIndex;
 use wi_values::Address;
 
@@ -43,7 +44,7 @@ pub(crate) fn turns_of(
     readers: &RangeIndex,
     circles: &CellSet,
     next: &[Brought],
-    changes: &[Change],
+    changes: &[NewContent],
 ) -> Result<Turns, AllocError>
     requires graph { IsGraph rooms.now readers.now circles.now }
     requires order { AreInOrder next.now }
@@ -60,7 +61,7 @@ pub(crate) fn turns_of(
 }
 
 /// The cell of an edit of one cell that no formula reads. It is its own cone.
-fn lone_unread(readers: &RangeIndex, changes: &[Change]) -> Option<Address>
+fn lone_unread(readers: &RangeIndex, changes: &[NewContent]) -> Option<Address>
     ensures alone { IfSome result (λ cell. keys_of changes.now ≡ cell ∷ []) }
     ensures unread { IfSome result (λ cell. IsRead readers.now cell → ⊥) }
 {
@@ -81,7 +82,7 @@ fn turns_sought(
     readers: &RangeIndex,
     circles: &CellSet,
     next: &[Brought],
-    changes: &[Change],
+    changes: &[NewContent],
 ) -> Result<Turns, AllocError>
     requires graph { IsGraph rooms.now readers.now circles.now }
     requires order { AreInOrder next.now }

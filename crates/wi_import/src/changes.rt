@@ -9,7 +9,7 @@ ghost use Rattle.wi_import.specs.Inner.Records.{bytes_of, all_bytes, is_faulty};
 
 use std::alloc::{AllocError, Global};
 use std::str;
-use wi_parser::Content;
+use wi_parser::{Content, NewContent};
 use wi_values::{Address, FieldFault, Value, field_value};
 
 /// What the cell of each field of these records gets, the first field being for this cell. No field has a fault.
@@ -18,7 +18,7 @@ pub(crate) fn changes(
     alloc: Global,
     at: Address,
     records: &[Vec<Vec<u8>>],
-) -> Result<Vec<(Address, Option<Content>)>, AllocError>
+) -> Result<Vec<NewContent>, AllocError>
     requires { list_any is_faulty (fields_from (row_of at) (column_of at) (all_bytes records.now))
         ≡ false }
     ensures { IfOk result (λ changes. changes.items
@@ -52,7 +52,7 @@ fn push_record(
     row: usize,
     column: usize,
     fields: &[Vec<u8>],
-    changes: &mut Vec<(Address, Option<Content>)>,
+    changes: &mut Vec<NewContent>,
 ) -> Result<(), AllocError>
     requires { list_any is_faulty (fields_of row column (bytes_of fields.now)) ≡ false }
     ensures { OnOk result (changes.new.items

@@ -8,7 +8,10 @@ use crate::formula::Formula;
 use crate::front::{after, is_formula};
 use crate::parser::parse;
 use std::alloc::{AllocError, Global};
-use wi_values::{MAX_TEXT, Text, Value, imported_value};
+use wi_values::{Address, MAX_TEXT, Text, Value, imported_value};
+
+/// A cell, and the content that it gets, or none.
+pub type NewContent = (Address, Option<Content>);
 
 /// What stands in a cell. A cell with the constant Empty has no content.
 #[derive(Drop)]

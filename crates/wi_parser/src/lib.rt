@@ -17,7 +17,7 @@ mod symbols;
 mod tokens;
 mod what_if;
 
-pub use content::Content;
+pub use content::{Content, NewContent};
 pub use expr::{Corners, Expr, Operator, Pair, Reference, Sign};
 pub use fault::ParseFault;
 pub use formula::Formula;

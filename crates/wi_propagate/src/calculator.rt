@@ -17,7 +17,7 @@ ghost use Rattle.wi_sheet.specs.Unmoved.{IsUnmoved, IsMarking};
 
 use std::alloc::AllocError;
 use wi_graph::{Cells, Watch};
-use wi_parser::Content;
+use wi_parser::{Content, NewContent};
 use wi_store::StoreFault;
 use wi_values::{Address, Rect, Replacement, Value};
 
@@ -50,14 +50,14 @@ pub trait Calculator {
         ensures { All (λ a. a < rows * columns) (keys_of (stored self.now).sheet) };
 
     /// One edit: puts contents in or takes them away, one after another, or refuses and leaves all as it was.
-    fn apply(&mut self, changes: Vec<(Address, Option<Content>)>) -> Result<(), StoreFault>
+    fn apply(&mut self, changes: Vec<NewContent>) -> Result<(), StoreFault>
         ensures applied { Applies (applied (stored self.old) changes.items) result
             (stored self.old) (stored self.new) }
         ensures same_evaluations { evaluated self.new ≡ evaluated self.old }
         ensures same_restarts { restarted self.new ≡ restarted self.old };
 
     /// The same of changes that are lent. It takes the contents out of them, so they are not to be used again.
-    fn apply_slice(&mut self, changes: &mut [(Address, Option<Content>)]) -> Result<(), StoreFault>
+    fn apply_slice(&mut self, changes: &mut [NewContent]) -> Result<(), StoreFault>
         ensures applied { Applies (applied (stored self.old) changes.old) result
             (stored self.old) (stored self.new) }
         ensures same_evaluations { evaluated self.new ≡ evaluated self.old }

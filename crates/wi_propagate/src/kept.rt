@@ -34,7 +34,7 @@ use wi_cache::{GivenUp, Kept};
 use wi_engine::{Pool, Question};
 use wi_functions::Meter;
 use wi_graph::{Cells, Graph, Watch, edited_cells};
-use wi_parser::Content;
+use wi_parser::{Content, NewContent};
 use wi_store::{Limits, Store, StoreFault};
 use wi_values::{Address, ErrorKind, Rect, Replacement, Value};
 use wi_worlds::Reaches;
@@ -130,7 +130,7 @@ impl KeptCalculator {
     }
 
     // Does an edit.
-    fn edit(&mut self, changes: &mut [(Address, Option<Content>)]) -> Result<(), StoreFault>
+    fn edit(&mut self, changes: &mut [NewContent]) -> Result<(), StoreFault>
         ensures applied { Applies
             (applied self.old.stored changes.old) result self.old.stored self.new.stored }
         ensures same_counts { self.new.counts ≡ self.old.counts }
@@ -149,7 +149,7 @@ impl KeptCalculator {
     // The same, where the cells of the changes are at hand.
     fn edit_cells(
         &mut self,
-        changes: &mut [(Address, Option<Content>)],
+        changes: &mut [NewContent],
         cells: &[Address],
     ) -> Result<(), StoreFault>
         requires { cells.now ≡ keys_of changes.old }
@@ -312,7 +312,7 @@ impl Calculator for KeptCalculator {
     /// One edit. The work grows with what the edited cells read and who reads them; with their cone, what its cells read and who reads
     /// them, times logarithms, only where several cells read something new, or a cycle may be closed or opened. An accepted edit is the new generation of each cell of the cone;
     /// it is noted when a question asks. What is kept stays; so do the cones that are known, if each cell reads what it read before.
-    fn apply(&mut self, mut changes: Vec<(Address, Option<Content>)>) -> Result<(), StoreFault>
+    fn apply(&mut self, mut changes: Vec<NewContent>) -> Result<(), StoreFault>
         ensures applied { Applies
             (applied self.old.stored changes.items) result self.old.stored self.new.stored }
         ensures same_counts { self.new.counts ≡ self.old.counts }
@@ -330,7 +330,7 @@ impl Calculator for KeptCalculator {
     /// The same. The contents are taken out of the list.
     fn apply_slice(
         &mut self,
-        changes: &mut [(Address, Option<Content>)],
+        changes: &mut [NewContent],
     ) -> Result<(), StoreFault> {
         self.edit(changes)
     }

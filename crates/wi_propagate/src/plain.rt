@@ -7,7 +7,7 @@ use crate::table_entry::table_entry;
 use crate::value::shown;
 use std::alloc::{AllocError, Global};
 use wi_functions::Meter;
-use wi_parser::Content;
+use wi_parser::{Content, NewContent};
 use wi_store::{Limits, Store, StoreFault};
 use wi_values::{Address, Rect, Replacement, Value};
 
@@ -60,13 +60,13 @@ impl Calculator for PlainCalculator {
         self.store.cells_lie_in_the_sheet();
     }
 
-    fn apply(&mut self, changes: Vec<(Address, Option<Content>)>) -> Result<(), StoreFault> {
+    fn apply(&mut self, changes: Vec<NewContent>) -> Result<(), StoreFault> {
         self.store.apply(changes)
     }
 
     fn apply_slice(
         &mut self,
-        changes: &mut [(Address, Option<Content>)],
+        changes: &mut [NewContent],
     ) -> Result<(), StoreFault> {
         self.store.apply_slice(changes)
     }

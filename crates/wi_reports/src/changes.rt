@@ -13,7 +13,7 @@ use crate::texts::address_text;
 use std::alloc::{AllocError, Global};
 use wi_csv::push_record;
 use wi_propagate::Calculator;
-use wi_sessions::Picture;
+use wi_sessions::{Change, Picture};
 use wi_values::{Address, Replacement, Value};
 
 /// Those of some cells whose value under replacements isn't the picture's, each with its value, in the order in which they are
@@ -25,7 +25,7 @@ pub fn find_changes<C: Calculator>(
     put: &[Replacement],
     picture: &Picture,
     cells: &[Address],
-) -> Result<Vec<(Address, Value)>, AllocError>
+) -> Result<Vec<Change>, AllocError>
     requires { IsInOrder put.now }
     ensures found { let shown = show.shown (C.stored calculator.old).sheet put.now in
         IfOk result (λ found. found.items ≡ changes_among cells.now picture.now shown) }
@@ -56,7 +56,7 @@ pub fn find_changes<C: Calculator>(
 /// an error the bytes are as before. The work grows with the length of the records.
 pub fn push_changes(
     alloc: Global,
-    changes: &[(Address, Value)],
+    changes: &[Change],
     out: &mut Vec<u8>,
 ) -> Result<(), AllocError>
     ensures ok { OnOk result (out.new.items ≡ out.old.items ++ change_records changes.now) }
@@ -73,7 +73,7 @@ pub fn push_changes(
 /// Appends the records of changes. On an error a part of them may be there.
 fn push_all(
     alloc: Global,
-    changes: &[(Address, Value)],
+    changes: &[Change],
     out: &mut Vec<u8>,
 ) -> Result<(), AllocError>
     ensures ok { OnOk result (out.new.items ≡ out.old.items ++ change_records changes.now) }
@@ -88,7 +88,7 @@ fn push_all(
 /// Appends the record of a change. On an error the bytes are as before.
 fn push_change(
     alloc: Global,
-    change: &(Address, Value),
+    change: &Change,
     out: &mut Vec<u8>,
 ) -> Result<(), AllocError>
     ensures ok { OnOk result (out.new.items ≡ out.old.items ++ change_record change.now) }

@@ -14,7 +14,7 @@ use crate::views::replacements_for;
 use std::alloc::{AllocError, Global};
 use wi_propagate::Calculator;
 use wi_reports::{find_changes, push_changes};
-use wi_values::{Address, Value};
+use wi_sessions::Change;
 
 /// Appends a record for each cell that has changed since the current session was last shown what has. Only its pending cells
 /// are looked at. The work is that of `Scenarios::effective`, of `value` for each of them, and of `Picture::apply` for those that have
@@ -59,7 +59,7 @@ fn find<C: Calculator>(
     alloc: Global,
     calculator: &mut C,
     desk: &Desk,
-) -> Result<Vec<(Address, Value)>, AllocError>
+) -> Result<Vec<Change>, AllocError>
     requires { IsSound C.marked (C.stored calculator.old) desk.now }
     ensures list { let state = state_of (C.stored calculator.old) desk.now in
         IfOk result (λ found. found.items ≡ change_list state) }
@@ -89,7 +89,7 @@ fn find<C: Calculator>(
 fn tell(
     alloc: Global,
     desk: &mut Desk,
-    changes: Vec<(Address, Value)>,
+    changes: Vec<Change>,
     out: &mut Vec<u8>,
 ) -> Result<(), AllocError>
     requires { desk.old.current < length desk.old.sessions.sessions }

@@ -11,7 +11,7 @@ use crate::desk::Desk;
 use crate::edit::edit_area;
 use crate::refusal::Refusal;
 use std::alloc::{AllocError, Global};
-use wi_parser::Content;
+use wi_parser::NewContent;
 use wi_propagate::{Calculator, occupied_in};
 use wi_values::{Address, Rect};
 
@@ -41,7 +41,7 @@ pub(crate) fn clear<C: Calculator>(
 }
 
 /// No content for each of some cells.
-fn emptied(alloc: Global, cells: &[Address]) -> Result<Vec<(Address, Option<Content>)>, AllocError>
+fn emptied(alloc: Global, cells: &[Address]) -> Result<Vec<NewContent>, AllocError>
     ensures { IfOk result (λ changes. changes.items ≡ map (λ a. (a, None)) cells.now) }
 {
     let mut changes = Vec::new(alloc);

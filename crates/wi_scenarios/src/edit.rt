@@ -16,7 +16,7 @@ use crate::desk::Desk;
 use crate::refusal::Refusal;
 use std::alloc::{AllocError, Global};
 use wi_edit_log::{EditLog, Named};
-use wi_parser::Content;
+use wi_parser::NewContent;
 use wi_propagate::{Calculator, Cells, Watch, edited_cells};
 use wi_sessions::Sessions;
 use wi_values::{Address, Rect};
@@ -31,7 +31,7 @@ pub(crate) fn apply_edit<C: Calculator>(
     calculator: &mut C,
     desk: &mut Desk,
     named: Named,
-    contents: &mut [(Address, Option<Content>)],
+    contents: &mut [NewContent],
     force: bool,
 ) -> Result<(), Refusal>
     requires { IsSound C.marked (C.stored calculator.old) desk.old }
@@ -55,7 +55,7 @@ fn edit_caught_up<C: Calculator>(
     calculator: &mut C,
     desk: &mut Desk,
     named: Named,
-    contents: &mut [(Address, Option<Content>)],
+    contents: &mut [NewContent],
     force: bool,
 ) -> Result<(), Refusal>
     requires { IsSound C.marked (C.stored calculator.old) desk.old }
@@ -91,7 +91,7 @@ pub(crate) fn edit_area<C: Calculator>(
     calculator: &mut C,
     desk: &mut Desk,
     area: Rect,
-    contents: &mut [(Address, Option<Content>)],
+    contents: &mut [NewContent],
     force: bool,
 ) -> Result<(), Refusal>
     requires { IsSound C.marked (C.stored calculator.old) desk.old }
@@ -127,7 +127,7 @@ fn marked_by<C: Calculator>(
     alloc: Global,
     calculator: &C,
     sessions: &Sessions,
-    contents: &[(Address, Option<Content>)],
+    contents: &[NewContent],
 ) -> Result<Cells, AllocError>
     requires { IsClosed C.marked (C.stored calculator.now).sheet
         (is_pending_for_all sessions.now) }
@@ -163,7 +163,7 @@ fn edit_with_rooms<C: Calculator>(
     calculator: &mut C,
     desk: &mut Desk,
     named: Named,
-    contents: &mut [(Address, Option<Content>)],
+    contents: &mut [NewContent],
     marked: &[Address],
 ) -> Result<(), Refusal>
     requires within { desk.old.current < length desk.old.sessions.sessions }
@@ -201,7 +201,7 @@ fn commit<C: Calculator>(
     log: &mut EditLog,
     session: u32,
     named: Named,
-    contents: &mut [(Address, Option<Content>)],
+    contents: &mut [NewContent],
 ) -> Result<(), Refusal>
     ensures { Commits (applied (C.stored calculator.old) contents.old)
         (record { session = session; cells = named })

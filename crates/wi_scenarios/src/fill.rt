@@ -14,12 +14,12 @@ use crate::desk::Desk;
 use crate::edit::edit_area;
 use crate::refusal::Refusal;
 use std::alloc::Global;
-use wi_parser::{Content, ShiftFault};
+use wi_parser::{Content, NewContent, ShiftFault};
 use wi_propagate::Calculator;
 use wi_values::{Address, Rect};
 
 /// What each cell gets.
-type Changes = Vec<(Address, Option<Content>)>;
+type Filled = Vec<NewContent>;
 
 /// Copies a cell's content to each cell of a rectangle, all from the content that stands there before. The work grows with
 /// the cells of the rectangle and with the content, and is that of `apply_edit` for them.
@@ -53,7 +53,7 @@ fn copies(
     content: Option<&Content>,
     from: Address,
     area: Rect,
-) -> Result<Changes, ShiftFault>
+) -> Result<Filled, ShiftFault>
     ensures { MatchResult result
         (λ changes. AreCopies (option_copied content.entry) from (cells_of area) changes.items)
         (λ fault. HasNoCopies (option_copied content.entry) from (cells_of area) fault) }
@@ -73,7 +73,7 @@ fn push_copies(
     from: Address,
     area: Rect,
     row: u32,
-    changes: &mut Changes,
+    changes: &mut Filled,
 ) -> Result<(), ShiftFault>
     requires { row < rows }
     ensures { MatchResult result

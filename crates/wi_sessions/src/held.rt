@@ -6,8 +6,8 @@ ghost use Rattle.wi_sessions.specs.Sessions.{new_session, told, using_scenario};
 ghost use Rattle.wi_sessions.specs.Inner.Held.{with_name};
 
 use crate::picture::Picture;
+use crate::rooms::Change;
 use std::alloc::{AllocError, Global};
-use wi_values::{Address, Value};
 
 /// What a session holds beside its name.
 #[derive(Drop)]
@@ -40,7 +40,7 @@ impl Held {
     /// Puts a change list into the picture, when the log has this length. On an error all is as before.
     pub(crate) fn tell(
         &mut self,
-        changes: Vec<(Address, Value)>,
+        changes: Vec<Change>,
         seen: u64,
     ) -> Result<(), AllocError>
         ensures told { OnOk result ((name : List ℕ) → with_name name self.new

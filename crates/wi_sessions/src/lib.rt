@@ -12,4 +12,5 @@ mod sessions;
 mod unread;
 
 pub use picture::{Picture, same};
+pub use rooms::Change;
 pub use sessions::{MAX_SESSIONS, Sessions};

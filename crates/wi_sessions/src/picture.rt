@@ -5,7 +5,7 @@ ghost use Rattle.std.specs.Option.{option_copied};
 ghost use Rattle.wi_values.specs.declared.value.Value.TheVariants.{Empty};
 ghost use Rattle.wi_sessions.specs.Pictures.{same_value, value_in, with_changes};
 
-use crate::rooms::{Rooms, put_changes};
+use crate::rooms::{Change, Rooms, put_changes};
 use std::alloc::{AllocError, Global};
 use std::marker::Model;
 use wi_tiles::CellMap;
@@ -73,7 +73,7 @@ impl Picture {
 
     /// Puts changes in, one after another: cells and the values that they have now. On an error all is as before. The work
     /// for each change is that of three look-ups, and of putting a value in where none stands or taking it away.
-    pub fn apply(&mut self, mut changes: Vec<(Address, Value)>) -> Result<(), AllocError>
+    pub fn apply(&mut self, mut changes: Vec<Change>) -> Result<(), AllocError>
         ensures done { OnOk result (self.new ≡ with_changes self.old changes.items) }
         ensures refused { OnErr result (self.new ≡ self.old) }
     {

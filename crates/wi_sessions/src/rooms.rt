@@ -16,7 +16,7 @@ use wi_values::{Address, Value};
 pub(crate) type Rooms = CellMap<Value>;
 
 /// A cell, and the value that it has now.
-pub(crate) type Change = (Address, Value);
+pub type Change = (Address, Value);
 
 /// Makes a room for a cell that has none.
 fn make_one(rooms: &mut Rooms, at: Address) -> Result<(), AllocError>

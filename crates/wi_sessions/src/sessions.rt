@@ -15,11 +15,12 @@ ghost use Rattle.wi_sessions.specs.Inner.Held.{with_name};
 use crate::held::Held;
 use crate::pending::Pending;
 use crate::picture::Picture;
+use crate::rooms::Change;
 use indexmap::IndexMap;
 use std::alloc::{AllocError, Global};
 use std::marker::Model;
 use std::rc::RcStr;
-use wi_values::{Address, Value};
+use wi_values::Address;
 
 /// How many sessions there may be; this limit is the caller's to keep.
 pub const MAX_SESSIONS: usize = 64;
@@ -179,7 +180,7 @@ impl Sessions {
     pub fn tell(
         &mut self,
         i: usize,
-        changes: Vec<(Address, Value)>,
+        changes: Vec<Change>,
         seen: u64,
     ) -> Result<(), AllocError>
         requires { i < length self.old.sessions }

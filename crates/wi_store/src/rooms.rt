@@ -11,7 +11,7 @@ ghost use Rattle.wi_store.specs.Inner.Exchange.{stood, restored};
 use crate::room::Room;
 use std::alloc::{AllocError, Global};
 use std::mem;
-use wi_parser::Content;
+use wi_parser::NewContent;
 use wi_tiles::CellMap;
 use wi_values::Address;
 
@@ -19,13 +19,13 @@ use wi_values::Address;
 pub(crate) type Rooms = CellMap<Room>;
 
 /// A cell, and the room that it gets, vacant where it gets no content.
-pub(crate) type Change = (Address, Room);
+pub(crate) type NewRoom = (Address, Room);
 
 /// The room that a change brings, by its content, which it takes; the constant Empty is no content.
 pub(crate) fn room_for(
     alloc: Global,
-    change: &mut (Address, Option<Content>),
-) -> Result<Change, AllocError>
+    change: &mut NewContent,
+) -> Result<NewRoom, AllocError>
     ensures { IfOk result (λ made. made ≡ change_without_empty change.old) }
 {
     Ok((change.0, Room::new(alloc, change.1.take())?))
@@ -34,8 +34,8 @@ pub(crate) fn room_for(
 /// The same of each of some changes.
 pub(crate) fn prepare(
     alloc: Global,
-    changes: &mut [(Address, Option<Content>)],
-) -> Result<Vec<Change>, AllocError>
+    changes: &mut [NewContent],
+) -> Result<Vec<NewRoom>, AllocError>
     ensures { IfOk result (λ made. made.items ≡ map change_without_empty changes.old) }
 {
     let mut made = Vec::with_capacity(alloc, changes.len())?;
@@ -63,7 +63,7 @@ fn make_one(rooms: &mut Rooms, at: Address, room: &Room) -> Result<(), AllocErro
 
 /// Makes a vacant room in each cell that gets a content and has none, and answers how many it made. One search for each
 /// cell that gets a content. If memory runs out, the rooms made so far stay.
-pub(crate) fn make_rooms(rooms: &mut Rooms, changes: &[Change]) -> Result<usize, AllocError>
+pub(crate) fn make_rooms(rooms: &mut Rooms, changes: &[NewRoom]) -> Result<usize, AllocError>
     requires order { RoomsAreInOrder rooms.old.entries }
     requires full { HasNoVacancy rooms.old.entries }
     ensures sheet { sheet_in rooms.new.entries ≡ sheet_in rooms.old.entries }
@@ -102,7 +102,7 @@ fn exchange(rooms: &mut Rooms, at: Address, room: &mut Room)
 
 /// Exchanges the rooms of the changes with those of their cells, one after another. Answers how many
 /// cells have a content then; `vacant` is how many rooms had none before.
-pub(crate) fn exchange_all(rooms: &mut Rooms, changes: &mut [Change], vacant: usize) -> usize
+pub(crate) fn exchange_all(rooms: &mut Rooms, changes: &mut [NewRoom], vacant: usize) -> usize
     requires order { RoomsAreInOrder rooms.old.entries }
     requires room { All (HasRoomFor rooms.old.entries) changes.old }
     requires vacant { length rooms.old.entries ≡ length (sheet_in rooms.old.entries) + vacant }
@@ -124,7 +124,7 @@ pub(crate) fn exchange_all(rooms: &mut Rooms, changes: &mut [Change], vacant: us
 }
 
 /// Exchanges the rooms of the changes with those of their cells, the last first.
-pub(crate) fn exchange_back(rooms: &mut Rooms, changes: &mut [Change])
+pub(crate) fn exchange_back(rooms: &mut Rooms, changes: &mut [NewRoom])
     requires order { RoomsAreInOrder rooms.old.entries }
     requires room { All (HasRoomFor rooms.old.entries) changes.old }
     requires only { VacantOnlyAt (keys_of changes.old) rooms.old.entries }
@@ -163,7 +163,7 @@ fn release_one(rooms: &mut Rooms, at: Address)
 }
 
 /// Takes away the vacant rooms. One search for each change, and one more for each room that goes.
-fn release_each(rooms: &mut Rooms, changes: &[Change])
+fn release_each(rooms: &mut Rooms, changes: &[NewRoom])
     requires order { RoomsAreInOrder rooms.old.entries }
     requires vacant { VacantOnlyAt (keys_of changes.now) rooms.old.entries }
     ensures sheet { sheet_in rooms.new.entries ≡ sheet_in rooms.old.entries }
@@ -176,7 +176,7 @@ fn release_each(rooms: &mut Rooms, changes: &[Change])
 }
 
 /// Takes away the vacant rooms; `occupied` is how many cells have a content. No search where no room is vacant.
-pub(crate) fn release(rooms: &mut Rooms, changes: &[Change], occupied: u64)
+pub(crate) fn release(rooms: &mut Rooms, changes: &[NewRoom], occupied: u64)
     requires order { RoomsAreInOrder rooms.old.entries }
     requires vacant { VacantOnlyAt (keys_of changes.now) rooms.old.entries }
     requires occupied { occupied ≡ length (sheet_in rooms.old.entries) }

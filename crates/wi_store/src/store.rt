@@ -15,11 +15,11 @@ use crate::contents::Contents;
 use crate::fault::StoreFault;
 use crate::limits::Limits;
 use crate::rooms::{
-    Change, Rooms, exchange_all, exchange_back, make_rooms, prepare, release, room_for,
+    NewRoom, Rooms, exchange_all, exchange_back, make_rooms, prepare, release, room_for,
 };
 use std::alloc::{AllocError, Global};
 use std::marker::Model;
-use wi_parser::Content;
+use wi_parser::{Content, NewContent};
 use wi_tiles::CellMap;
 use wi_values::{Address, Rect};
 
@@ -120,7 +120,7 @@ impl Store {
     /// edits are accepted; `Memory` if memory runs out. After each of them all is as before. The work for each
     /// pair is the same whatever the count of occupied cells, but for the searches among the tiles of 16 rows: two for a content,
     /// and one for none; up to two more for each pair where a cell loses its content, and up to three where the edit is refused.
-    pub fn apply(&mut self, mut changes: Vec<(Address, Option<Content>)>) -> Result<(), StoreFault>
+    pub fn apply(&mut self, mut changes: Vec<NewContent>) -> Result<(), StoreFault>
         ensures { Applies (applied self.old changes.items) result self.old self.new }
     {
         self.apply_slice(&mut changes)
@@ -129,7 +129,7 @@ impl Store {
     /// The same of changes that are lent. It takes the contents out of them, so they are not to be used again.
     pub fn apply_slice(
         &mut self,
-        changes: &mut [(Address, Option<Content>)],
+        changes: &mut [NewContent],
     ) -> Result<(), StoreFault>
         ensures { Applies (applied self.old changes.old) result self.old self.new }
     {
@@ -142,7 +142,7 @@ impl Store {
     }
 
     /// The same of the rooms that the changes bring.
-    fn bring(&mut self, brought: &mut [Change]) -> Result<(), StoreFault>
+    fn bring(&mut self, brought: &mut [NewRoom]) -> Result<(), StoreFault>
         ensures { Applies (accepted self.old brought.old) result self.old self.new }
     {
         let before = self.occupied();
@@ -227,7 +227,7 @@ fn edit(
     rooms: &mut Rooms,
     limits: &Limits,
     edits: u64,
-    changes: &mut [Change],
+    changes: &mut [NewRoom],
 ) -> Result<u64, StoreFault>
     requires order { RoomsAreInOrder rooms.old.entries }
     requires full { HasNoVacancy rooms.old.entries }
