@@ -82,7 +82,7 @@ pub use Rattle.wi_graph.proofs.ReachTest.{finds_in, reaches_true, true_reaches}
 pub use Rattle.wi_graph.proofs.SetSteps.{taken_one}
 pub use Rattle.wi_graph.proofs.Walks.{formula_cell, found, same_cell}
 pub use Rattle.wi_graph.specs.Circular.{circular}
-pub use Rattle.wi_graph.specs.Reach.{Reaches, is_one_of, reaches}
+pub use Rattle.wi_graph.specs.Reach.{Reaches, reaches}
 pub use Rattle.wi_parser.proofs.Rectangles.{one_cell, reads_within}
 pub use Rattle.wi_parser.specs.Reads.{content_reads, reads, rectangles_of}
 pub use Rattle.wi_parser.specs.Sheet.{Sheet, cells_with_formula, constant, content_of, has_formula, put_all}
@@ -126,7 +126,7 @@ pub use Rattle.wi_values.proofs.Lists.{keeps_few}
 pub use Rattle.wi_values.proofs.Order.{Ascends, Ascends-from_order, ComeAfter, at_earlier, at_itself, at_same, come_after_earlier, is_at-eq, lookup_after, order-from_Ascends, turn_test}
 pub use Rattle.wi_values.proofs.Replacements.InOrder.{order_from_sorted, sorted_from_order}
 pub use Rattle.wi_values.proofs.Within.{column_within, places_left, within_between}
-pub use Rattle.wi_values.specs.Address.{Area, column_of, is_within, row_of, size_of}
+pub use Rattle.wi_values.specs.Address.{Area, column_of, is_one_of, is_within, row_of, size_of}
 pub use Rattle.wi_values.specs.Replacements.{IsInOrder, as_map, replaced, same_replacements}
 pub use Rattle.wi_values.specs.declared.replacement.Replacement.{Replacement}
 pub use Rattle.wi_values.specs.declared.value.Value.{Value}

@@ -7,9 +7,8 @@
 
 ghost use Rattle.std.specs.Prelude.{◌≡◌, ℕ, true, nat_lt, if◌then◌else◌, IfOk, IfSome};
 ghost use Rattle.std.specs.List.{list_any};
-ghost use Rattle.wi_values.specs.Address.{is_within, size_of};
+ghost use Rattle.wi_values.specs.Address.{is_one_of, is_within, size_of};
 ghost use Rattle.wi_parser.specs.Sheet.{content_of, has_formula};
-ghost use Rattle.wi_graph.specs.Reach.{is_one_of};
 ghost use Rattle.wi_sheet.specs.Demand.{reads_here};
 ghost use Rattle.wi_engine.specs.Inner.Courses.{AreTogether, IsCourseTo, IsSmallestWith, is_next};
 

@@ -1,6 +1,6 @@
 -- The cells from which so many steps lead, layer by layer.
 use Rattle.wi_graph.proofs.Words.{◌≡◌, ◌==◌, ℕ, zero, suc, ◌+◌, Bool, true, false, ◌&&◌, ◌||◌, cond, List, [], ◌∷◌, filter, Option, Some, None, length, refl, ap, sym, ◌∙◌, arith, any-filter_same, and-true, and-false, eqb-true, filter_agree, list_any, nat_cmp, keys_of, is_at, Content, Constant, Formula, Sheet, content_of, has_formula, cells_with_formula, content_reads, has_walk}
-pub use Rattle.wi_graph.specs.Reach.{is_one_of}
+pub use Rattle.wi_values.specs.Address.{is_one_of}
 use Rattle.wi_graph.proofs.Tests.{turn_test, is_at-eq}
 
 -- to find an element with two properties is to find one with the first among those with the second

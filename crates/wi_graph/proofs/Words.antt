@@ -46,7 +46,7 @@ pub use Rattle.wi_graph.specs.Inner.Turning.{AreTurns, SettlesCone, StandsApart,
 pub use Rattle.wi_graph.specs.Inner.Walks.{has_walk}
 pub use Rattle.wi_graph.specs.Inner.Within.{IsAhead, IsBetween, IsFoundBy}
 pub use Rattle.wi_graph.specs.Latest.{EditOwes, IsLatest, IsOwed, IsUnread, LatestByStep, LatestIsAmong, LatestOfCone, LatestRises, NoneIsOwed, OneIsLatest, OwedStays, SettlesOne, SettlingBegins, latest_among, numbered}
-pub use Rattle.wi_graph.specs.Reach.{AgreeFrom, IsInCone, Reaches, SameOff, Walks, in_cone, is_one_of, reaches_by}
+pub use Rattle.wi_graph.specs.Reach.{AgreeFrom, IsInCone, Reaches, SameOff, Walks, in_cone, reaches_by}
 unfoldable pub use Rattle.wi_graph.specs.Reach.{reaches}
 pub use Rattle.wi_graph.specs.Watched.{IsClosedUp}
 pub use Rattle.wi_graph.specs.declared.graph.Staged.{Staged}
@@ -66,6 +66,6 @@ pub use Rattle.wi_values.proofs.Lookups.{cond_again, cond_apart, found-insert, f
 pub use Rattle.wi_values.proofs.Order.{Ascends, Ascends-filter, Ascends-from_order, Ascends-insert, Ascends-remove, ComeAfter, at_earlier, at_itself, at_same, below_from_Less, come_after_earlier, is_at-eq, lookup_after, order-from_Ascends, turn_test}
 pub use Rattle.wi_values.proofs.Outcomes.{on_err}
 pub use Rattle.wi_values.proofs.Within.{column_of_place, fewer_places, places_left, row_of_place, within_between, within_from, within_parts}
-pub use Rattle.wi_values.specs.Address.{Area, column_of, columns, is_within, place, rect_of, row_of}
+pub use Rattle.wi_values.specs.Address.{Area, column_of, columns, is_one_of, is_within, place, rect_of, row_of}
 pub use Rattle.wi_values.specs.declared.value.Value.{Value}
 pub use Rattle.wi_values.specs.declared.value.Value.TheVariants.{Empty, Fault, Logical, Number, Text}

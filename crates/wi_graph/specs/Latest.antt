@@ -2,7 +2,8 @@
 use Rattle.std.specs.Prelude.{◌≡◌, ◌⊎◌, ◌≤◌, ◌&&◌, ◌||◌, ℕ, max, Bool, true, false, not, List, [], ◌∷◌, cond}
 use Rattle.wi_parser.specs.Sheet.{Sheet, content_of}
 use Rattle.wi_parser.specs.Reads.{content_reads}
-use Rattle.wi_graph.specs.Reach.{Reaches, is_one_of, SameOff, reaches, in_cone}
+use Rattle.wi_values.specs.Address.{is_one_of}
+use Rattle.wi_graph.specs.Reach.{Reaches, SameOff, reaches, in_cone}
 use Rattle.wi_graph.specs.Watched.{IsClosedUp}
 
 -- an edit of this number named these cells

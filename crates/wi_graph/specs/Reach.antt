@@ -1,6 +1,7 @@
 -- Which cells a cell rests on: its precedents at any remove, and the cone of its dependents at any remove.
 use Rattle.std.specs.Prelude.{◌≡◌, ◌==◌, ℕ, zero, suc, Bool, true, false, ◌&&◌, ◌||◌, List, length}
 use Rattle.std.specs.List.{list_any}
+use Rattle.wi_values.specs.Address.{is_one_of}
 use Rattle.wi_parser.specs.Sheet.{Sheet, content_of, cells_with_formula}
 use Rattle.wi_parser.specs.Reads.{content_reads}
 
@@ -16,10 +17,6 @@ Reaches s c d = (n : ℕ) × Walks n s c d
 -- the two sheets have the same content in all that c reaches in the first
 abbrev pub AgreeFrom : Sheet → Sheet → ℕ → Type 0
 AgreeFrom s t c = (d : ℕ) → Reaches s c d → content_of s d ≡ content_of t d
-
--- the cell is one of these
-abbrev pub is_one_of : List ℕ → ℕ → Bool
-is_one_of xs a = list_any (λ x. x == a) xs
 
 -- c reaches one of these cells
 abbrev pub IsInCone : Sheet → List ℕ → ℕ → Type 0

@@ -1,7 +1,7 @@
 //! The cells that read one of a list, at any remove, but for those that are watched.
 
 ghost use Rattle.std.specs.Prelude.{◌≡◌, ◌∷◌, ℕ, [], true, false, IfOk, OnOk};
-ghost use Rattle.wi_graph.specs.Reach.{is_one_of};
+ghost use Rattle.wi_values.specs.Address.{is_one_of};
 ghost use Rattle.wi_graph.specs.Inner.Search.{IsConeBeyond, IsListBeyond, AreNoted, beyond};
 
 use crate::cone::{are_alone, note, note_one};

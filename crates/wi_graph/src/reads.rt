@@ -3,7 +3,7 @@
 ghost use Rattle.std.specs.Prelude.{◌≡◌, ℕ, true, IfOk};
 ghost use Rattle.std.specs.Ordering.{nat_cmp};
 ghost use Rattle.std.specs.BTreeMap.{get};
-ghost use Rattle.wi_graph.specs.Reach.{is_one_of};
+ghost use Rattle.wi_values.specs.Address.{is_one_of};
 ghost use Rattle.wi_graph.specs.Inner.Rooms.{room_at, room_over, areas_of, items_of, AreInOrder};
 ghost use Rattle.wi_graph.specs.Inner.Stripping.{items_there};
 

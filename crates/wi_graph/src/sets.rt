@@ -3,7 +3,7 @@
 ghost use Rattle.std.specs.Prelude.{◌≡◌, ◌||◌, ℕ, true, IfOk, OnOk};
 ghost use Rattle.std.specs.Ordering.{nat_cmp};
 ghost use Rattle.std.specs.BTreeSet.{contains, difference, IsOrdered};
-ghost use Rattle.wi_graph.specs.Reach.{is_one_of};
+ghost use Rattle.wi_values.specs.Address.{is_one_of};
 ghost use Rattle.wi_graph.specs.Inner.Rooms.{less_these};
 
 use crate::cell_set::CellSet;

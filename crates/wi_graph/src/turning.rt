@@ -6,7 +6,7 @@ ghost use Rattle.std.specs.Ordering.{nat_cmp};
 ghost use Rattle.std.specs.BTreeSet.{contains};
 ghost use Rattle.std.specs.Map.{keys_of};
 ghost use Rattle.wi_ranges.specs.Bag.{IsRead};
-ghost use Rattle.wi_graph.specs.Reach.{is_one_of};
+ghost use Rattle.wi_values.specs.Address.{is_one_of};
 ghost use Rattle.wi_graph.specs.Inner.Changes.{Brings, IsEditCone, went_from};
 ghost use Rattle.wi_graph.specs.Inner.Rooms.{room_at, AreCircles, AreInOrder, IsGraph};
 ghost use Rattle.wi_graph.specs.Inner.Stripping.{IsWithin};

@@ -52,7 +52,7 @@ pub use Rattle.wi_graph.specs.Circular.{circular}
 pub use Rattle.wi_graph.specs.Edges.{AreEdgesOf, Edges, Staging, brought, edges_after, sheet_after, staging}
 pub use Rattle.wi_graph.specs.Inner.Below.{has_seen}
 pub use Rattle.wi_graph.specs.Latest.{AreOwed, IsLatest, IsOwed, IsSettling, IsUnread, latest_among, numbered}
-pub use Rattle.wi_graph.specs.Reach.{IsInCone, Reaches, SameOff, Walks, in_cone, is_one_of, reaches}
+pub use Rattle.wi_graph.specs.Reach.{IsInCone, Reaches, SameOff, Walks, in_cone, reaches}
 pub use Rattle.wi_graph.specs.Watched.{IsClosedUp}
 pub use Rattle.wi_parser.specs.Sheet.{Sheet, cells_with_formula, content_of, has_formula, put_all, with_content}
 pub use Rattle.wi_parser.specs.declared.content.Content.{Content}
@@ -99,7 +99,7 @@ pub use Rattle.wi_values.proofs.Order.{is_at-eq, is_itself, turn_test}
 pub use Rattle.wi_values.proofs.Outcomes.{on_err, on_ok}
 pub use Rattle.wi_values.proofs.Replacements.Same.{same_replacements_Decides}
 pub use Rattle.wi_values.proofs.Within.{places_left}
-pub use Rattle.wi_values.specs.Address.{columns, rows}
+pub use Rattle.wi_values.specs.Address.{columns, is_one_of, rows}
 pub use Rattle.wi_values.specs.Replacements.{same_replacements}
 pub use Rattle.wi_values.specs.declared.replacement.Replacement.{Replacement}
 pub use Rattle.wi_values.specs.declared.value.ErrorKind.TheVariants.{Circular}

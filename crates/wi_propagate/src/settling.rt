@@ -3,7 +3,8 @@
 ghost use Rattle.std.specs.Prelude.{◌≡◌, ◌&&◌, ◌||◌, ◌∷◌, ℕ, [], max, nat_lt, not, None, true, false, if◌then◌else◌, IfOk, OnOk, OnErr};
 ghost use Rattle.std.specs.Map.{keys_of};
 ghost use Rattle.wi_parser.specs.Sheet.{Sheet};
-ghost use Rattle.wi_graph.specs.Reach.{is_one_of, in_cone};
+ghost use Rattle.wi_values.specs.Address.{is_one_of};
+ghost use Rattle.wi_graph.specs.Reach.{in_cone};
 ghost use Rattle.wi_graph.specs.Edges.{AreEdgesOf};
 ghost use Rattle.wi_graph.specs.Watched.{IsClosedUp};
 ghost use Rattle.wi_graph.specs.Latest.{AreOwed};

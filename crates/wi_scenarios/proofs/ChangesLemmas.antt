@@ -1,5 +1,5 @@
 -- What `changes` answers, and that pictures are right after it.
-use Rattle.wi_scenarios.proofs.Words.{◌≡◌, ◌≢◌, ◌<◌, ◌≤◌, ◌+◌, ℕ, zero, suc, Bool, true, false, List, [], ◌∷◌, length, get_or, set, Ok, refl, sym, ap, subst, ◌∙◌, ⊎_elim, cases_eq, false≢true, get_or-set_same, get_or-set_other, length-set, nil_from_length, Value, Replacement, Sheet, Stored, shown, effective, Entry, value_in, sheet_size, is_listed, Rises, changes_among, Session, new_session, told, session_at, pending_of, any_cells, picture_is_shown, Scenario, evaluations_for, restarts_for, change_records, State, current_session, with_current, shown_to, change_list, changes_step, pending_evaluations, pending_restarts, Desk, state_of, pending_in, IsUpToDate, AreCovered, AreClosed, IsSound, IsTold}
+use Rattle.wi_scenarios.proofs.Words.{◌≡◌, ◌≢◌, ◌<◌, ◌≤◌, ◌+◌, ℕ, zero, suc, Bool, true, false, List, [], ◌∷◌, length, get_or, set, Ok, refl, sym, ap, subst, ◌∙◌, ⊎_elim, cases_eq, false≢true, get_or-set_same, get_or-set_other, length-set, nil_from_length, Value, Replacement, Sheet, Stored, shown, effective, Entry, value_in, sheet_size, is_one_of, Rises, changes_among, Session, new_session, told, session_at, pending_of, any_cells, picture_is_shown, Scenario, evaluations_for, restarts_for, change_records, State, current_session, with_current, shown_to, change_list, changes_step, pending_evaluations, pending_restarts, Desk, state_of, pending_in, IsUpToDate, AreCovered, AreClosed, IsSound, IsTold}
 
 -- what has changed is found among the pending cells
 pub changes_found : {marked : Sheet → List ℕ → ℕ → Bool} (stored : Stored) (d : Desk) (own cells : List ℕ) (put : List Replacement) (picture found : List (ℕ × Value)) → IsSound marked stored d → Rises 0 sheet_size own
@@ -92,7 +92,7 @@ other_up_to_date stored d d' changes i other h before a l none =
     let cells : get_or d'.sessions.pending i [] ≡ get_or d.sessions.pending i [] =
     ap (λ xs. get_or xs i []) h.pending ∙ get_or-set_other d.sessions.pending d.current i [] [] other in
     ap (λ (z : Session). value_in z.picture a) here
-    ∙ before a l (ap (λ cs. is_listed cs a) (sym cells) ∙ none)
+    ∙ before a l (ap (λ cs. is_one_of cs a) (sym cells) ∙ none)
     ∙ ap (λ (xs : List Scenario). shown stored.sheet (effective xs x.scenario) a) (sym h.scenarios)
     ∙ ap (λ (z : Session). shown stored.sheet (effective d'.scenarios z.scenario) a) (sym here)
 
@@ -114,16 +114,16 @@ closed_after {marked} stored d d' changes sound h i l a c p m = ⊎_elim (λ sam
     here : d.current < length d.sessions.pending
     here = subst (λ (n : ℕ). d.current < n) (sym sound.each) sound.within
 
-    none : i ≡ d.current → is_listed (get_or d'.sessions.pending i []) a ≡ false
+    none : i ≡ d.current → is_one_of (get_or d'.sessions.pending i []) a ≡ false
     none same =
-        ap (λ (xs : List (List ℕ)). is_listed (get_or xs i []) a) h.pending ∙ ap (λ (j : ℕ). is_listed (get_or (set d.sessions.pending d.current []) j []) a) same
-        ∙ ap (λ (cs : List ℕ). is_listed cs a) (get_or-set_same d.sessions.pending d.current [] [] here)
+        ap (λ (xs : List (List ℕ)). is_one_of (get_or xs i []) a) h.pending ∙ ap (λ (j : ℕ). is_one_of (get_or (set d.sessions.pending d.current []) j []) a) same
+        ∙ ap (λ (cs : List ℕ). is_one_of cs a) (get_or-set_same d.sessions.pending d.current [] [] here)
 
-    had : i ≢ d.current → is_listed (get_or d'.sessions.pending i []) c ≡ true
+    had : i ≢ d.current → is_one_of (get_or d'.sessions.pending i []) c ≡ true
     had other =
         let cells : get_or d'.sessions.pending i [] ≡ get_or d.sessions.pending i [] =
         ap (λ xs. get_or xs i []) h.pending ∙ get_or-set_other d.sessions.pending d.current i [] [] other in
-        ap (λ cs. is_listed cs c) cells ∙ sound.closed i below a c (ap (λ cs. is_listed cs a) (sym cells) ∙ p) m
+        ap (λ cs. is_one_of cs c) cells ∙ sound.closed i below a c (ap (λ cs. is_one_of cs a) (sym cells) ∙ p) m
 
 pub sound_after : {marked : Sheet → List ℕ → ℕ → Bool} (stored stored' : Stored) (d d' : Desk) (changes : List (ℕ × Value)) → stored' ≡ stored → changes ≡ change_list (state_of stored d) → IsSound marked stored d → IsTold d changes d' → IsSound marked stored' d'
 sound_after {marked} stored stored' d d' changes same is sound h =

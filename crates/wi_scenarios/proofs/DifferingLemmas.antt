@@ -1,5 +1,5 @@
 -- The cells whose replacement is another, as two walks collect them.
-use Rattle.wi_scenarios.proofs.Words.{◌≡◌, ◌==◌, ℕ, ◌+◌, ◌<◌, ◌≤◌, Bool, true, false, not, cond, ◌||◌, ◌&&◌, List, [], ◌∷◌, ◌++◌, map, length, drop, get_or, Option, Some, None, refl, sym, ap, ◌∙◌, subst, arith, false≢true, nat_tests, append-nil, drop_all, list_any-append, Value, Replacement, replaced, same_replacement_Decides, left_more, is_listed, listed_filter, same_option, differing, AreDiffering}
+use Rattle.wi_scenarios.proofs.Words.{◌≡◌, ◌==◌, ℕ, ◌+◌, ◌<◌, ◌≤◌, Bool, true, false, not, cond, ◌||◌, ◌&&◌, List, [], ◌∷◌, ◌++◌, map, length, drop, get_or, Option, Some, None, refl, sym, ap, ◌∙◌, subst, arith, false≢true, nat_tests, append-nil, drop_all, list_any-append, Value, Replacement, replaced, same_replacement_Decides, left_more, is_one_of, listed_filter, same_option, differing, AreDiffering}
 use Rattle.std.proofs.lemmas.List.{append_assoc}
 
 -- ---- a walk
@@ -55,24 +55,24 @@ module _ (before after : List Replacement) where
       let one : v ≡ w = cc in absurd (false≢true (sym e ∙ (same_replacement_Decides (at_first v) (at_first w)).1 (ap at_first one)))
 
   -- a cell for which no replacement stands is replaced by none
-  not_among : (rs : List Replacement) (a : ℕ) → is_listed (map (λ (r : Replacement). r.at) rs) a ≡ false → replaced rs a ≡ None
+  not_among : (rs : List Replacement) (a : ℕ) → is_one_of (map (λ (r : Replacement). r.at) rs) a ≡ false → replaced rs a ≡ None
   not_among [] a h = refl
   not_among (r ∷ rs) a h = grind (arith, nat_tests, not_among rs a)
 
   abbrev both : List ℕ
   both = differing before after before ++ differing before after after
 
-  in_both : (a : ℕ) → is_listed both a
-      ≡ ((is_listed (map (λ (r : Replacement). r.at) before) a && not (same_at a)) || (is_listed (map (λ (r : Replacement). r.at) after) a && not (same_at a)))
+  in_both : (a : ℕ) → is_one_of both a
+      ≡ ((is_one_of (map (λ (r : Replacement). r.at) before) a && not (same_at a)) || (is_one_of (map (λ (r : Replacement). r.at) after) a && not (same_at a)))
   in_both a =
       list_any-append (λ x. x == a) (differing before after before) (differing before after after)
-      ∙ ap (λ (b : Bool). b || is_listed (differing before after after) a) (listed_filter (λ x. not (same_at x)) (map (λ (r : Replacement). r.at) before) a)
-      ∙ ap (λ (b : Bool). (is_listed (map (λ (r : Replacement). r.at) before) a && not (same_at a)) || b) (listed_filter (λ x. not (same_at x)) (map (λ (r : Replacement). r.at) after) a)
+      ∙ ap (λ (b : Bool). b || is_one_of (differing before after after) a) (listed_filter (λ x. not (same_at x)) (map (λ (r : Replacement). r.at) before) a)
+      ∙ ap (λ (b : Bool). (is_one_of (map (λ (r : Replacement). r.at) before) a && not (same_at a)) || b) (listed_filter (λ x. not (same_at x)) (map (λ (r : Replacement). r.at) after) a)
 
   found_in_both : AreDiffering before after both
   found_in_both = record {
-    each = λ a h. other_means (replaced before a) (replaced after a) (differs (is_listed (map (λ (r : Replacement). r.at) before) a) (is_listed (map (λ (r : Replacement). r.at) after) a) (same_at a) (sym (in_both a) ∙ h));
-    others = λ a h. by_places a (is_listed (map (λ (r : Replacement). r.at) before) a) refl (is_listed (map (λ (r : Replacement). r.at) after) a) refl (same_at a) refl (sym (in_both a) ∙ h);
+    each = λ a h. other_means (replaced before a) (replaced after a) (differs (is_one_of (map (λ (r : Replacement). r.at) before) a) (is_one_of (map (λ (r : Replacement). r.at) after) a) (same_at a) (sym (in_both a) ∙ h));
+    others = λ a h. by_places a (is_one_of (map (λ (r : Replacement). r.at) before) a) refl (is_one_of (map (λ (r : Replacement). r.at) after) a) refl (same_at a) refl (sym (in_both a) ∙ h);
   }
     where
       differs : (x y b : Bool) → ((x && not b) || (y && not b)) ≡ true → b ≡ false
@@ -82,7 +82,7 @@ module _ (before after : List Replacement) where
       differs false false true h = cc
       differs x y false h = refl
 
-      by_places : (a : ℕ) (x : Bool) → is_listed (map (λ (r : Replacement). r.at) before) a ≡ x → (y : Bool) → is_listed (map (λ (r : Replacement). r.at) after) a ≡ y → (b : Bool) → same_at a ≡ b
+      by_places : (a : ℕ) (x : Bool) → is_one_of (map (λ (r : Replacement). r.at) before) a ≡ x → (y : Bool) → is_one_of (map (λ (r : Replacement). r.at) after) a ≡ y → (b : Bool) → same_at a ≡ b
           → ((x && not b) || (y && not b)) ≡ false → replaced before a ≡ replaced after a
       by_places a x p y q true s h = same_means (replaced before a) (replaced after a) s
       by_places a false p false q false s h = not_among before a p ∙ sym (not_among after a q)

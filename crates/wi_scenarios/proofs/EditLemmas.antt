@@ -1,5 +1,5 @@
 -- What an edit is answered, and what is pending after it.
-use Rattle.wi_scenarios.proofs.Words.{◌≡◌, ◌==◌, ◌<◌, ◌≤◌, ◌-◌, ℕ, zero, suc, Bool, true, false, not, ◌&&◌, ◌||◌, ◌⊎◌, inl, inr, List, [], ◌∷◌, ◌++◌, length, map, take, ⊎_elim, Option, Some, None, Result, Ok, Err, refl, sym, ap, ◌∙◌, subst, arith, slice_index_or, MatchResult, IfOk, IsErrAnd, err_from_is_err_and, keys_of, take-append_seam, length-append, cases_lt, false_from_ne_true, false≢true, or_left, or_right, or_parts, or_cases, length-keys_of, nat_tests, Area, Replacement, Content, Sheet, StoreFault, Stored, edited, change_without_empty, applied, Applies, shown, IsMarking, same_off_edited, accepted_is, Entry, Scenario, effective, value_in, sheet_size, is_listed, Session, new_session, Roster, pending_of, vacant_of, is_pending_for_all, all_have_so, one_of_all_has, Refusal, Memory, Stale, Desk, State, Answer, may_grow, MayRefuse, Serves, no_cause, answer, Edit, edit_refusal, limit_of, stale_in, after_edit, edit_answer, is_pending, AddsOnly, state_of, AreCovered, IsClosed, AreClosed, IsSound, AreMarked, HasRooms, SameBeside, MayFail, Commits, is_itself}
+use Rattle.wi_scenarios.proofs.Words.{◌≡◌, ◌==◌, ◌<◌, ◌≤◌, ◌-◌, ℕ, zero, suc, Bool, true, false, not, ◌&&◌, ◌||◌, ◌⊎◌, inl, inr, List, [], ◌∷◌, ◌++◌, length, map, take, ⊎_elim, Option, Some, None, Result, Ok, Err, refl, sym, ap, ◌∙◌, subst, arith, slice_index_or, MatchResult, IfOk, IsErrAnd, err_from_is_err_and, keys_of, take-append_seam, length-append, cases_lt, false_from_ne_true, false≢true, or_left, or_right, or_parts, or_cases, length-keys_of, nat_tests, Area, Replacement, Content, Sheet, StoreFault, Stored, edited, change_without_empty, applied, Applies, shown, IsMarking, same_off_edited, accepted_is, Entry, Scenario, effective, value_in, sheet_size, is_one_of, Session, new_session, Roster, pending_of, vacant_of, is_pending_for_all, all_have_so, one_of_all_has, Refusal, Memory, Stale, Desk, State, Answer, may_grow, MayRefuse, Serves, no_cause, answer, Edit, edit_refusal, limit_of, stale_in, after_edit, edit_answer, is_pending, AddsOnly, state_of, AreCovered, IsClosed, AreClosed, IsSound, AreMarked, HasRooms, SameBeside, MayFail, Commits, is_itself}
 use Rattle.wi_store.specs.declared.fault.StoreFault.TheVariants as store
 
 -- an edit of these
@@ -109,7 +109,7 @@ applied_as a entry (Err store.Memory) s t log h = (tt, h, refl)
 -- with no cell none is
 pub none_marked : (marked : Sheet → List ℕ → ℕ → Bool) (sheet : Sheet) (test : ℕ → Bool) (contents : List (ℕ × Option Content)) (found : List ℕ) → length contents ≡ 0 → found ≡ [] → AreMarked marked sheet test contents found
 none_marked marked sheet test contents found none empty = record {
-  only = λ a h. absurd (false≢true (sym (ap (λ (xs : List ℕ). is_listed xs a) empty) ∙ h));
+  only = λ a h. absurd (false≢true (sym (ap (λ (xs : List ℕ). is_one_of xs a) empty) ∙ h));
   others = λ l a h. absurd (omega (arith, none, l));
 }
 
@@ -118,7 +118,7 @@ if_ok_both A B C (Ok x) f a b = f x a b
 if_ok_both A B C (Err e) f a b = tt
 
 pub some_marked : (marked : Sheet → List ℕ → ℕ → Bool) (sheet : Sheet) (test : ℕ → Bool) (contents : List (ℕ × Option Content)) (cells found : List ℕ) → 0 < length contents → cells ≡ keys_of contents →
-    ((a : ℕ) → is_listed found a ≡ true → marked sheet cells a ≡ true) → ((a : ℕ) → marked sheet cells a ≡ true → (is_listed found a ≡ true) ⊎ (test a ≡ true)) → AreMarked marked sheet test contents found
+    ((a : ℕ) → is_one_of found a ≡ true → marked sheet cells a ≡ true) → ((a : ℕ) → marked sheet cells a ≡ true → (is_one_of found a ≡ true) ⊎ (test a ≡ true)) → AreMarked marked sheet test contents found
 some_marked marked sheet test contents cells found l e m o = record {
   only = λ a h. (l, sym (same a) ∙ m a h);
   others = λ k a h. o a (same a ∙ h);
@@ -142,25 +142,25 @@ marked_as marked sheet test contents changes found cells c f h =
 
 module _ (marked : Sheet → List ℕ → ℕ → Bool) (s : Stored) (d : Desk) (sound : IsSound marked s d) where
   -- is so for each
-  pub pending_for_each : (i a : ℕ) → i < length d.sessions.sessions → is_pending_for_all d.sessions a ≡ true → is_listed (pending_of d.sessions i) a ≡ true
+  pub pending_for_each : (i a : ℕ) → i < length d.sessions.sessions → is_pending_for_all d.sessions a ≡ true → is_one_of (pending_of d.sessions i) a ≡ true
   pending_for_each i a l h =
-      one_of_all_has (λ cells. is_listed cells a) d.sessions.pending i h (subst (λ (n : ℕ). i < n) (sym sound.each) l)
+      one_of_all_has (λ cells. is_one_of cells a) d.sessions.pending i h (subst (λ (n : ℕ). i < n) (sym sound.each) l)
 
   -- and so is what it marks
   pub closed_for_all : IsClosed marked s.sheet (is_pending_for_all d.sessions)
   closed_for_all a c h m =
-      all_have_so (λ cells. is_listed cells c) d.sessions.pending
+      all_have_so (λ cells. is_one_of cells c) d.sessions.pending
       (λ i l. let k : i < length d.sessions.sessions = subst (λ (n : ℕ). i < n) sound.each l in sound.closed i k a c (pending_for_each i a k h) m)
 
 -- ---- rooms for them
 
 -- each session has room for those that aren't pending for it, where none had any
 pub rooms_made : (cells : List ℕ) (r q : Roster) → ((i : ℕ) → vacant_of r i ≡ []) → q.sessions ≡ r.sessions → q.pending ≡ r.pending
-    → ((i a : ℕ) → i < length r.sessions → is_listed (vacant_of q i) a ≡ (is_listed (vacant_of r i) a || (is_listed cells a && not (is_listed (pending_of r i) a)))) → HasRooms cells q
+    → ((i a : ℕ) → i < length r.sessions → is_one_of (vacant_of q i) a ≡ (is_one_of (vacant_of r i) a || (is_one_of cells a && not (is_one_of (pending_of r i) a)))) → HasRooms cells q
 rooms_made cells r q none sessions pending room = λ i a l.
     room i a (subst (λ (xs : List Session). i < length xs) sessions l)
-    ∙ ap (λ (xs : List ℕ). is_listed xs a || (is_listed cells a && not (is_listed (pending_of r i) a))) (none i)
-    ∙ ap (λ (xss : List (List ℕ)). is_listed cells a && not (is_listed (slice_index_or xss i []) a)) (sym pending)
+    ∙ ap (λ (xs : List ℕ). is_one_of xs a || (is_one_of cells a && not (is_one_of (pending_of r i) a))) (none i)
+    ∙ ap (λ (xss : List (List ℕ)). is_one_of cells a && not (is_one_of (slice_index_or xss i []) a)) (sym pending)
 
 -- ---- what is pending after it
 
@@ -168,7 +168,7 @@ rooms_made cells r q none sessions pending room = λ i a l.
 pub record AreTaken (old new : Roster) : Type 0 where
   pub sessions : new.sessions ≡ old.sessions
   pub lists : length new.pending ≡ length old.pending
-  pub pending : (i a : ℕ) → is_listed (pending_of new i) a ≡ (is_listed (pending_of old i) a || is_listed (vacant_of old i) a)
+  pub pending : (i a : ℕ) → is_one_of (pending_of new i) a ≡ (is_one_of (pending_of old i) a || is_one_of (vacant_of old i) a)
   pub vacant : (i : ℕ) → vacant_of new i ≡ []
 
 pub record AreGivenBack (old new : Roster) : Type 0 where
@@ -185,12 +185,12 @@ is_found : (v f p : Bool) → v ≡ (f && not p) → v ≡ true → f ≡ true
 is_found v true p e h = refl
 is_found v false p e h = sym e ∙ h
 
-listed_at : (xs : List ℕ) (k d : ℕ) → k < length xs → is_listed xs (slice_index_or xs k d) ≡ true
+listed_at : (xs : List ℕ) (k d : ℕ) → k < length xs → is_one_of xs (slice_index_or xs k d) ≡ true
 listed_at [] k d l = absurd (omega (arith, l))
-listed_at (x ∷ xs) zero d l = ap (λ (b : Bool). b || is_listed xs x) (is_itself x)
+listed_at (x ∷ xs) zero d l = ap (λ (b : Bool). b || is_one_of xs x) (is_itself x)
 listed_at (x ∷ xs) (suc k) d l = by (x == slice_index_or xs k d) (listed_at xs k d (omega (arith, l)))
   where
-    by : (b : Bool) → is_listed xs (slice_index_or xs k d) ≡ true → (b || is_listed xs (slice_index_or xs k d)) ≡ true
+    by : (b : Bool) → is_one_of xs (slice_index_or xs k d) ≡ true → (b || is_one_of xs (slice_index_or xs k d)) ≡ true
     by true h = refl
     by false h = h
 
@@ -206,17 +206,17 @@ covers false q v f e w h = or_right q v (w ∙ ap (λ (b : Bool). b && true) h)
 
 module _ (marked : Sheet → List ℕ → ℕ → Bool) (law : IsMarking marked) (s t : Stored) (d n : Desk) (r : Roster) (contents : List (ℕ × Option Content)) (found : List ℕ)
     (sound : IsSound marked s d) (beside : SameBeside d n) (are : AreMarked marked s.sheet (is_pending_for_all d.sessions) contents found) where
-  pending_then : (i a : ℕ) → is_listed (pending_of n.sessions i) a ≡ is_listed (pending_of d.sessions i) a
-  pending_then i a = ap (λ (xss : List (List ℕ)). is_listed (slice_index_or xss i []) a) beside.pending
+  pending_then : (i a : ℕ) → is_one_of (pending_of n.sessions i) a ≡ is_one_of (pending_of d.sessions i) a
+  pending_then i a = ap (λ (xss : List (List ℕ)). is_one_of (slice_index_or xss i []) a) beside.pending
 
   abbrev then_sheet : Sheet
   then_sheet = edited s.sheet (map change_without_empty contents)
 
   -- a cell that was neither found nor is pending for all shows the same
-  unmoved : (a : ℕ) (p : List Replacement) → is_listed found a ≡ false → is_pending_for_all d.sessions a ≡ false → shown then_sheet p a ≡ shown s.sheet p a
+  unmoved : (a : ℕ) (p : List Replacement) → is_one_of found a ≡ false → is_pending_for_all d.sessions a ≡ false → shown then_sheet p a ≡ shown s.sheet p a
   unmoved a p f k = at (cases_lt 0 (length contents))
     where
-      neither_is : (is_listed found a ≡ true) ⊎ (is_pending_for_all d.sessions a ≡ true) → ⊥
+      neither_is : (is_one_of found a ≡ true) ⊎ (is_pending_for_all d.sessions a ≡ true) → ⊥
       neither_is (inl e) = false≢true (sym f ∙ e)
       neither_is (inr e) = false≢true (sym k ∙ e)
 
@@ -227,18 +227,18 @@ module _ (marked : Sheet → List ℕ → ℕ → Bool) (law : IsMarking marked)
       at (inr g) = ap (λ (x : Sheet). shown x p a) (stays s.sheet contents (omega (arith, g)))
 
   module _ (rooms : HasRooms found n.sessions) (taken : AreTaken n.sessions r) where
-    room_at : (i a : ℕ) → i < length d.sessions.sessions → is_listed (vacant_of n.sessions i) a ≡ (is_listed found a && not (is_listed (pending_of d.sessions i) a))
+    room_at : (i a : ℕ) → i < length d.sessions.sessions → is_one_of (vacant_of n.sessions i) a ≡ (is_one_of found a && not (is_one_of (pending_of d.sessions i) a))
     room_at i a l =
-        rooms i a (subst (λ (xs : List Session). i < length xs) (sym beside.sessions) l) ∙ ap (λ (b : Bool). is_listed found a && not b) (pending_then i a)
+        rooms i a (subst (λ (xs : List Session). i < length xs) (sym beside.sessions) l) ∙ ap (λ (b : Bool). is_one_of found a && not b) (pending_then i a)
 
     -- a cell that isn't pending then was neither pending nor marked
-    quiet : (i a : ℕ) → i < length d.sessions.sessions → is_listed (pending_of r i) a ≡ false → (is_listed (pending_of d.sessions i) a ≡ false) × (is_listed found a ≡ false)
+    quiet : (i a : ℕ) → i < length d.sessions.sessions → is_one_of (pending_of r i) a ≡ false → (is_one_of (pending_of d.sessions i) a ≡ false) × (is_one_of found a ≡ false)
     quiet i a l h =
-        let both = or_parts (is_listed (pending_of n.sessions i) a) (is_listed (vacant_of n.sessions i) a) (sym (taken.pending i a) ∙ h) in
-        let before : is_listed (pending_of d.sessions i) a ≡ false = sym (pending_then i a) ∙ both.0 in
+        let both = or_parts (is_one_of (pending_of n.sessions i) a) (is_one_of (vacant_of n.sessions i) a) (sym (taken.pending i a) ∙ h) in
+        let before : is_one_of (pending_of d.sessions i) a ≡ false = sym (pending_then i a) ∙ both.0 in
         (before, not_found _ _ _ (room_at i a l) before both.1)
 
-    not_for_all : (i a : ℕ) → i < length d.sessions.sessions → is_listed (pending_of d.sessions i) a ≡ false → is_pending_for_all d.sessions a ≡ false
+    not_for_all : (i a : ℕ) → i < length d.sessions.sessions → is_one_of (pending_of d.sessions i) a ≡ false → is_pending_for_all d.sessions a ≡ false
     not_for_all i a l h = false_from_ne_true (is_pending_for_all d.sessions a) (λ k. false≢true (sym h ∙ pending_for_each marked s d sound i a l k))
 
     -- the picture of a session, of the old sheet and of the new one
@@ -257,22 +257,22 @@ module _ (marked : Sheet → List ℕ → ℕ → Bool) (law : IsMarking marked)
 
     -- ---- and with each cell those that it marks
 
-    still_pending : (i a : ℕ) → is_listed (pending_of d.sessions i) a ≡ true → is_listed (pending_of r i) a ≡ true
-    still_pending i a h = taken.pending i a ∙ or_left (is_listed (pending_of n.sessions i) a) (is_listed (vacant_of n.sessions i) a) (pending_then i a ∙ h)
+    still_pending : (i a : ℕ) → is_one_of (pending_of d.sessions i) a ≡ true → is_one_of (pending_of r i) a ≡ true
+    still_pending i a h = taken.pending i a ∙ or_left (is_one_of (pending_of n.sessions i) a) (is_one_of (vacant_of n.sessions i) a) (pending_then i a ∙ h)
 
-    marked_pending : (i a : ℕ) → i < length d.sessions.sessions → 0 < length contents → marked s.sheet (keys_of contents) a ≡ true → is_listed (pending_of r i) a ≡ true
+    marked_pending : (i a : ℕ) → i < length d.sessions.sessions → 0 < length contents → marked s.sheet (keys_of contents) a ≡ true → is_one_of (pending_of r i) a ≡ true
     marked_pending i a l g m = at (are.others g a m)
       where
-        at : (is_listed found a ≡ true) ⊎ (is_pending_for_all d.sessions a ≡ true) → is_listed (pending_of r i) a ≡ true
+        at : (is_one_of found a ≡ true) ⊎ (is_pending_for_all d.sessions a ≡ true) → is_one_of (pending_of r i) a ≡ true
         at (inl f) =
             taken.pending i a
-            ∙ covers (is_listed (pending_of d.sessions i) a) (is_listed (pending_of n.sessions i) a) (is_listed (vacant_of n.sessions i) a) (is_listed found a) (pending_then i a) (room_at i a l) f
+            ∙ covers (is_one_of (pending_of d.sessions i) a) (is_one_of (pending_of n.sessions i) a) (is_one_of (vacant_of n.sessions i) a) (is_one_of found a) (pending_then i a) (room_at i a l) f
         at (inr k) = still_pending i a (pending_for_each marked s d sound i a l k)
 
-    was_or_found : (i a : ℕ) → i < length d.sessions.sessions → is_listed (pending_of r i) a ≡ true → (is_listed (pending_of d.sessions i) a ≡ true) ⊎ (is_listed found a ≡ true)
+    was_or_found : (i a : ℕ) → i < length d.sessions.sessions → is_one_of (pending_of r i) a ≡ true → (is_one_of (pending_of d.sessions i) a ≡ true) ⊎ (is_one_of found a ≡ true)
     was_or_found i a l h =
-        ⊎_elim (λ (p : is_listed (pending_of n.sessions i) a ≡ true). inl (sym (pending_then i a) ∙ p))
-        (λ (v : is_listed (vacant_of n.sessions i) a ≡ true). inr (is_found _ _ _ (room_at i a l) v))
+        ⊎_elim (λ (p : is_one_of (pending_of n.sessions i) a ≡ true). inl (sym (pending_then i a) ∙ p))
+        (λ (v : is_one_of (vacant_of n.sessions i) a ≡ true). inr (is_found _ _ _ (room_at i a l) v))
         (or_cases _ _ (sym (taken.pending i a) ∙ h))
 
     -- what a cell marks in the new sheet it marked in the old one, or the edited cells did
@@ -294,11 +294,11 @@ module _ (marked : Sheet → List ℕ → ℕ → Bool) (law : IsMarking marked)
         old : i < length d.sessions.sessions
         old = subst (λ (xs : List Session). i < length xs) (taken.sessions ∙ beside.sessions) l
 
-        by : marked s.sheet (a ∷ []) c ≡ true → (is_listed (pending_of d.sessions i) a ≡ true) ⊎ (is_listed found a ≡ true) → is_listed (pending_of r i) c ≡ true
+        by : marked s.sheet (a ∷ []) c ≡ true → (is_one_of (pending_of d.sessions i) a ≡ true) ⊎ (is_one_of found a ≡ true) → is_one_of (pending_of r i) c ≡ true
         by b (inl p) = still_pending i c (sound.closed i old a c p b)
         by b (inr f) = let o = are.only a f in marked_pending i c old o.0 (law.further s.sheet (keys_of contents) a c o.1 b)
 
-        at : (marked s.sheet (a ∷ []) c ≡ true) ⊎ ((0 < length contents) × (marked s.sheet (keys_of contents) c ≡ true)) → is_listed (pending_of r i) c ≡ true
+        at : (marked s.sheet (a ∷ []) c ≡ true) ⊎ ((0 < length contents) × (marked s.sheet (keys_of contents) c ≡ true)) → is_one_of (pending_of r i) c ≡ true
         at (inl b) = by b (was_or_found i a old h)
         at (inr b) = marked_pending i c old b.0 b.1
 
@@ -319,8 +319,8 @@ module _ (marked : Sheet → List ℕ → ℕ → Bool) (law : IsMarking marked)
 
     pub adds_taken : AddsOnly marked (keys_of contents) (state_of s d) (state_of t (record n { sessions = r })) d.sessions.pending r.pending
     adds_taken i a l h =
-        ⊎_elim (λ (p : is_listed (pending_of d.sessions i) a ≡ true). inl p)
-        (λ (f : is_listed found a ≡ true). let o = are.only a f in
+        ⊎_elim (λ (p : is_one_of (pending_of d.sessions i) a ≡ true). inl p)
+        (λ (f : is_one_of found a ≡ true). let o = are.only a f in
         inr (record { cells = keys_of contents; some = omega (arith, o.0, length-keys_of contents); touched = λ k e m. inl (listed_at (keys_of contents) k e m); has = o.1 }))
         (was_or_found i a l h)
 

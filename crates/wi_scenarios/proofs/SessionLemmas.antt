@@ -1,5 +1,5 @@
 -- What `session` answers.
-use Rattle.wi_scenarios.proofs.Words.{◌≡◌, ℕ, suc, ◌+◌, ◌-◌, ◌*◌, ◌/◌, ◌%◌, ◌<◌, ◌≤◌, Bool, true, false, not, ◌&&◌, ◌||◌, ◌==◌, List, [], ◌∷◌, ◌++◌, length, None, Ok, Err, if◌then◌else◌, refl, sym, ap, ◌∙◌, subst, arith, ◌⊎◌, inl, inr, nat_le, codes, All, list_any, slice_index_or, position_or_len, bytes_eq, keys_of, div-lt_iff_lt-mul, mod-lt, eqb-true, leb-true, le-leb, cases_lt, false≢true, or_cases, get_or_append_left, length-append, All-head, All-tail, get_or-append_seam, any-filter_same, Area, is_within, row_of, column_of, rect_of, rows, columns, Sheet, content_of, has_formula, shown, IsMarking, shows_nothing, has_none, Stored, sheet_size, value_in, is_listed, Replacement, Scenario, effective, chain, Session, new_session, max_sessions, has_session, index_of, Roster, vacant_of, SameCells, Entry, TooMany, Desk, State, state_over, Answer, no_cause, answer, as_step, occupied_cells, IsClosed, IsSound, state_of}
+use Rattle.wi_scenarios.proofs.Words.{◌≡◌, ℕ, suc, ◌+◌, ◌-◌, ◌*◌, ◌/◌, ◌%◌, ◌<◌, ◌≤◌, Bool, true, false, not, ◌&&◌, ◌||◌, ◌==◌, List, [], ◌∷◌, ◌++◌, length, None, Ok, Err, if◌then◌else◌, refl, sym, ap, ◌∙◌, subst, arith, ◌⊎◌, inl, inr, nat_le, codes, All, list_any, slice_index_or, position_or_len, bytes_eq, keys_of, div-lt_iff_lt-mul, mod-lt, eqb-true, leb-true, le-leb, cases_lt, false≢true, or_cases, get_or_append_left, length-append, All-head, All-tail, get_or-append_seam, any-filter_same, Area, is_within, row_of, column_of, rect_of, rows, columns, Sheet, content_of, has_formula, shown, IsMarking, shows_nothing, has_none, Stored, sheet_size, value_in, is_one_of, Replacement, Scenario, effective, chain, Session, new_session, max_sessions, has_session, index_of, Roster, vacant_of, SameCells, Entry, TooMany, Desk, State, state_over, Answer, no_cause, answer, as_step, occupied_cells, IsClosed, IsSound, state_of}
 
 -- ---- cells of the sheet
 
@@ -32,7 +32,7 @@ whole_has a l =
     all_four false q r s e f g h = e
 
 -- a cell that isn't among the occupied ones has no content
-pub unoccupied : (s : Sheet) (a : ℕ) → a < sheet_size → is_listed (occupied_cells s) a ≡ false → content_of s a ≡ None
+pub unoccupied : (s : Sheet) (a : ℕ) → a < sheet_size → is_one_of (occupied_cells s) a ≡ false → content_of s a ≡ None
 unoccupied s a l h =
     let whole : Area = record { first = 0; last = sheet_size - 1 } in
     let there : list_any (λ c. c == a) (keys_of s) ≡ false =
@@ -49,9 +49,9 @@ below_all n (x ∷ xs) c h e = at (or_cases (x == c) (list_any (λ k. k == c) xs
     at (inr m) rest = rest m
 
 -- a cell with a formula is occupied
-formula_occupied : (s : Sheet) (c : ℕ) → All (λ a. a < rows * columns) (keys_of s) → has_formula (content_of s c) ≡ true → is_listed (occupied_cells s) c ≡ true
+formula_occupied : (s : Sheet) (c : ℕ) → All (λ a. a < rows * columns) (keys_of s) → has_formula (content_of s c) ≡ true → is_one_of (occupied_cells s) c ≡ true
 unfolding sheet_size
-formula_occupied s c within f = at (is_listed (occupied_cells s) c) refl
+formula_occupied s c within f = at (is_one_of (occupied_cells s) c) refl
   where
     no_content : content_of s c ≡ None → ⊥
     no_content e = false≢true (sym (ap has_formula e) ∙ f)
@@ -60,19 +60,19 @@ formula_occupied s c within f = at (is_listed (occupied_cells s) c) refl
     key true e = below_all (rows * columns) (keys_of s) c within e
     key false e = absurd (no_content (has_none s c e))
 
-    at : (b : Bool) → is_listed (occupied_cells s) c ≡ b → b ≡ true
+    at : (b : Bool) → is_one_of (occupied_cells s) c ≡ b → b ≡ true
     at true e = refl
     at false e = absurd (no_content (unoccupied s c (key (list_any (λ k. k == c) (keys_of s)) refl) e))
 
 -- so with the occupied cells those are occupied that they mark
-pub occupied_closed : (marked : Sheet → List ℕ → ℕ → Bool) → IsMarking marked → (s : Sheet) → All (λ a. a < rows * columns) (keys_of s) → IsClosed marked s (is_listed (occupied_cells s))
-occupied_closed marked law s within a c h m = at (or_cases (has_formula (content_of s c)) (is_listed (a ∷ []) c) (law.formulas s (a ∷ []) c m))
+pub occupied_closed : (marked : Sheet → List ℕ → ℕ → Bool) → IsMarking marked → (s : Sheet) → All (λ a. a < rows * columns) (keys_of s) → IsClosed marked s (is_one_of (occupied_cells s))
+occupied_closed marked law s within a c h m = at (or_cases (has_formula (content_of s c)) (is_one_of (a ∷ []) c) (law.formulas s (a ∷ []) c m))
   where
-    itself : (b : Bool) → (a == c) ≡ b → (b || false) ≡ true → is_listed (occupied_cells s) c ≡ true
-    itself true e k = subst (λ x. is_listed (occupied_cells s) x ≡ true) (eqb-true a c e) h
+    itself : (b : Bool) → (a == c) ≡ b → (b || false) ≡ true → is_one_of (occupied_cells s) c ≡ true
+    itself true e k = subst (λ x. is_one_of (occupied_cells s) x ≡ true) (eqb-true a c e) h
     itself false e k = absurd (false≢true k)
 
-    at : (has_formula (content_of s c) ≡ true) ⊎ (is_listed (a ∷ []) c ≡ true) → is_listed (occupied_cells s) c ≡ true
+    at : (has_formula (content_of s c) ≡ true) ⊎ (is_one_of (a ∷ []) c ≡ true) → is_one_of (occupied_cells s) c ≡ true
     at (inl f) = formula_occupied s c within f
     at (inr e) = itself (a == c) refl e
 
@@ -145,7 +145,7 @@ pub sound_there : {marked : Sheet → List ℕ → ℕ → Bool} (stored : Store
 sound_there stored d place l h = record { within = l; few = h.few; each = h.each; full = h.full; closed = h.closed; covered = h.covered }
 
 -- a list with the same cells has those that they mark too
-closed_as : (marked : Sheet → List ℕ → ℕ → Bool) (s : Sheet) (xs ys : List ℕ) → SameCells xs ys → IsClosed marked s (is_listed ys) → IsClosed marked s (is_listed xs)
+closed_as : (marked : Sheet → List ℕ → ℕ → Bool) (s : Sheet) (xs ys : List ℕ) → SameCells xs ys → IsClosed marked s (is_one_of ys) → IsClosed marked s (is_one_of xs)
 closed_as marked s xs ys e h a c p m = e c ∙ h a c (sym (e a) ∙ p) m
 
 -- what a scenario that is none puts in
@@ -155,7 +155,7 @@ none_put xs = refl
 
 pub sound_new : {marked : Sheet → List ℕ → ℕ → Bool} (stored : Stored) (d : Desk) (r : Roster) (place : ℕ) (name cells new : List ℕ) → length d.sessions.sessions < max_sessions → place ≡ length d.sessions.sessions
     → r.sessions ≡ d.sessions.sessions ++ new_session name ∷ [] → r.pending ≡ d.sessions.pending ++ new ∷ [] → SameCells new cells → cells ≡ occupied_cells stored.sheet
-    → IsClosed marked stored.sheet (is_listed (occupied_cells stored.sheet)) → ((i : ℕ) → vacant_of r i ≡ vacant_of d.sessions i) → IsSound marked stored d
+    → IsClosed marked stored.sheet (is_one_of (occupied_cells stored.sheet)) → ((i : ℕ) → vacant_of r i ≡ vacant_of d.sessions i) → IsSound marked stored d
     → IsSound marked stored (record d { sessions = r; current = place })
 sound_new {marked} stored d r place name cells new few at grown more same are marks vacant h =
     let count : length r.sessions ≡ length d.sessions.sessions + 1 = ap length grown ∙ length-append d.sessions.sessions (new_session name ∷ []) in
@@ -175,37 +175,37 @@ sound_new {marked} stored d r place name cells new few at grown more same are ma
     listed_last i e =
         ap (λ xs. slice_index_or xs i []) more ∙ ap (λ n. slice_index_or (d.sessions.pending ++ new ∷ []) n []) (e ∙ sym h.each) ∙ get_or-append_seam d.sessions.pending new [] []
 
-    closed_by : (i : ℕ) → (i < length d.sessions.sessions) ⊎ (length d.sessions.sessions ≤ i) → i < length d.sessions.sessions + 1 → IsClosed marked stored.sheet (is_listed (slice_index_or r.pending i []))
+    closed_by : (i : ℕ) → (i < length d.sessions.sessions) ⊎ (length d.sessions.sessions ≤ i) → i < length d.sessions.sessions + 1 → IsClosed marked stored.sheet (is_one_of (slice_index_or r.pending i []))
     closed_by i (inl l) n =
-        closed_as marked stored.sheet (slice_index_or r.pending i []) (slice_index_or d.sessions.pending i []) (λ a. ap (λ xs. is_listed xs a) (listed_before i l)) (h.closed i l)
+        closed_as marked stored.sheet (slice_index_or r.pending i []) (slice_index_or d.sessions.pending i []) (λ a. ap (λ xs. is_one_of xs a) (listed_before i l)) (h.closed i l)
     closed_by i (inr g) n =
         closed_as marked stored.sheet (slice_index_or r.pending i []) (occupied_cells stored.sheet)
-        (λ a. ap (λ xs. is_listed xs a) (listed_last i (omega (arith, g, n))) ∙ same a ∙ ap (λ xs. is_listed xs a) are) marks
+        (λ a. ap (λ xs. is_one_of xs a) (listed_last i (omega (arith, g, n))) ∙ same a ∙ ap (λ xs. is_one_of xs a) are) marks
 
-    before : (i a : ℕ) → a < sheet_size → i < length d.sessions.sessions → is_listed (slice_index_or r.pending i []) a ≡ false
+    before : (i a : ℕ) → a < sheet_size → i < length d.sessions.sessions → is_one_of (slice_index_or r.pending i []) a ≡ false
         → value_in (slice_index_or r.sessions i (new_session [])).picture a ≡ shown stored.sheet (effective d.scenarios (slice_index_or r.sessions i (new_session [])).scenario) a
     before i a m l k =
         let here : slice_index_or r.sessions i (new_session []) ≡ slice_index_or d.sessions.sessions i (new_session []) =
         ap (λ xs. slice_index_or xs i (new_session [])) grown ∙ get_or_append_left d.sessions.sessions (new_session name ∷ []) (new_session []) i l in
         let listed : slice_index_or r.pending i [] ≡ slice_index_or d.sessions.pending i [] = listed_before i l in
         ap (λ (x : Session). value_in x.picture a) here
-        ∙ h.covered i l a m (sym (ap (λ xs. is_listed xs a) listed) ∙ k)
+        ∙ h.covered i l a m (sym (ap (λ xs. is_one_of xs a) listed) ∙ k)
         ∙ ap (λ (x : Session). shown stored.sheet (effective d.scenarios x.scenario) a) (sym here)
 
-    last : (i a : ℕ) → a < sheet_size → i ≡ length d.sessions.sessions → is_listed (slice_index_or r.pending i []) a ≡ false
+    last : (i a : ℕ) → a < sheet_size → i ≡ length d.sessions.sessions → is_one_of (slice_index_or r.pending i []) a ≡ false
         → value_in (slice_index_or r.sessions i (new_session [])).picture a ≡ shown stored.sheet (effective d.scenarios (slice_index_or r.sessions i (new_session [])).scenario) a
     last i a m e k =
         let here : slice_index_or r.sessions i (new_session []) ≡ new_session name =
         ap (λ xs. slice_index_or xs i (new_session [])) grown ∙ ap (λ n. slice_index_or (d.sessions.sessions ++ new_session name ∷ []) n (new_session [])) e
         ∙ get_or-append_seam d.sessions.sessions (new_session name) [] (new_session []) in
         let listed : slice_index_or r.pending i [] ≡ new = listed_last i e in
-        let free : is_listed (occupied_cells stored.sheet) a ≡ false =
-        sym (ap (λ xs. is_listed xs a) are) ∙ sym (same a) ∙ sym (ap (λ xs. is_listed xs a) listed) ∙ k in
+        let free : is_one_of (occupied_cells stored.sheet) a ≡ false =
+        sym (ap (λ xs. is_one_of xs a) are) ∙ sym (same a) ∙ sym (ap (λ xs. is_one_of xs a) listed) ∙ k in
         ap (λ (x : Session). value_in x.picture a) here ∙ sym (shows_nothing stored.sheet a (unoccupied stored.sheet a m free))
         ∙ ap (λ (p : List Replacement). shown stored.sheet p a) (sym (none_put d.scenarios))
         ∙ ap (λ (x : Session). shown stored.sheet (effective d.scenarios x.scenario) a) (sym here)
 
-    by : (i a : ℕ) → a < sheet_size → (i < length d.sessions.sessions) ⊎ (length d.sessions.sessions ≤ i) → i < length d.sessions.sessions + 1 → is_listed (slice_index_or r.pending i []) a ≡ false
+    by : (i a : ℕ) → a < sheet_size → (i < length d.sessions.sessions) ⊎ (length d.sessions.sessions ≤ i) → i < length d.sessions.sessions + 1 → is_one_of (slice_index_or r.pending i []) a ≡ false
         → value_in (slice_index_or r.sessions i (new_session [])).picture a ≡ shown stored.sheet (effective d.scenarios (slice_index_or r.sessions i (new_session [])).scenario) a
     by i a m (inl l) n k = before i a m l k
     by i a m (inr g) n k = last i a m (omega (arith, g, n)) k
@@ -251,7 +251,7 @@ grown_state s name after place more at =
 
 -- the first session
 pub sound_first : {marked : Sheet → List ℕ → ℕ → Bool} (stored : Stored) (d : Desk) (name cells : List ℕ) → d.scenarios ≡ [] → d.current ≡ 0 → d.sessions.sessions ≡ new_session name ∷ [] → length d.sessions.pending ≡ length d.sessions.sessions
-    → SameCells (slice_index_or d.sessions.pending 0 []) cells → cells ≡ occupied_cells stored.sheet → IsClosed marked stored.sheet (is_listed (occupied_cells stored.sheet))
+    → SameCells (slice_index_or d.sessions.pending 0 []) cells → cells ≡ occupied_cells stored.sheet → IsClosed marked stored.sheet (is_one_of (occupied_cells stored.sheet))
     → ((i : ℕ) → vacant_of d.sessions i ≡ []) → IsSound marked stored d
 sound_first {marked} stored d name cells none zeroth is each same are marks vacant =
     let one : length d.sessions.sessions ≡ 1 = ap length is in
@@ -262,17 +262,17 @@ sound_first {marked} stored d name cells none zeroth is each same are marks vaca
       full = vacant;
       closed = λ i l.
           closed_as marked stored.sheet (slice_index_or d.sessions.pending i []) (occupied_cells stored.sheet)
-          (λ a. ap (λ n. is_listed (slice_index_or d.sessions.pending n []) a) (let e : i ≡ 0 = omega (arith, subst (λ n. i < n) one l) in e) ∙ same a ∙ ap (λ xs. is_listed xs a) are) marks;
+          (λ a. ap (λ n. is_one_of (slice_index_or d.sessions.pending n []) a) (let e : i ≡ 0 = omega (arith, subst (λ n. i < n) one l) in e) ∙ same a ∙ ap (λ xs. is_one_of xs a) are) marks;
       covered = λ i l a m k. by i a m (omega (arith, subst (λ n. i < n) one l)) k;
     }
   where
-    by : (i a : ℕ) → a < sheet_size → i ≡ 0 → is_listed (slice_index_or d.sessions.pending i []) a ≡ false
+    by : (i a : ℕ) → a < sheet_size → i ≡ 0 → is_one_of (slice_index_or d.sessions.pending i []) a ≡ false
         → value_in (slice_index_or d.sessions.sessions i (new_session [])).picture a ≡ shown stored.sheet (effective d.scenarios (slice_index_or d.sessions.sessions i (new_session [])).scenario) a
     by i a m e k =
         let here : slice_index_or d.sessions.sessions i (new_session []) ≡ new_session name =
         ap (λ xs. slice_index_or xs i (new_session [])) is ∙ ap (λ n. slice_index_or (new_session name ∷ []) n (new_session [])) e in
-        let free : is_listed (occupied_cells stored.sheet) a ≡ false =
-        sym (ap (λ xs. is_listed xs a) are) ∙ sym (same a) ∙ sym (ap (λ n. is_listed (slice_index_or d.sessions.pending n []) a) e) ∙ k in
+        let free : is_one_of (occupied_cells stored.sheet) a ≡ false =
+        sym (ap (λ xs. is_one_of xs a) are) ∙ sym (same a) ∙ sym (ap (λ n. is_one_of (slice_index_or d.sessions.pending n []) a) e) ∙ k in
         ap (λ (x : Session). value_in x.picture a) here ∙ sym (shows_nothing stored.sheet a (unoccupied stored.sheet a m free))
         ∙ ap (λ (p : List Replacement). shown stored.sheet p a) (sym (none_put d.scenarios))
         ∙ ap (λ (x : Session). shown stored.sheet (effective d.scenarios x.scenario) a) (sym here)

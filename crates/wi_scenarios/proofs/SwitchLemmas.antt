@@ -1,5 +1,5 @@
 -- Room for the cells that may show something else, and what is then shown.
-use Rattle.wi_scenarios.proofs.Words.{◌≡◌, ◌==◌, ℕ, ◌<◌, Bool, true, false, not, ◌||◌, ◌&&◌, List, [], ◌∷◌, length, get_or, Option, refl, sym, ap, ◌∙◌, subst, arith, false≢true, nat_tests, list_any_at, Replacement, IsInOrder, replaced, Sheet, shown, IsMarking, outside_unmoved, last_in_order, override_in_order, Scenario, layered, chain, effective, is_listed, slice_index_or, Session, new_session, Roster, session_at, pending_of, vacant_of, Differs, AreDiffering, HasRoom, HasRoomFor}
+use Rattle.wi_scenarios.proofs.Words.{◌≡◌, ◌==◌, ℕ, ◌<◌, Bool, true, false, not, ◌||◌, ◌&&◌, List, [], ◌∷◌, length, get_or, Option, refl, sym, ap, ◌∙◌, subst, arith, false≢true, nat_tests, list_any_at, Replacement, IsInOrder, replaced, Sheet, shown, IsMarking, outside_unmoved, last_in_order, override_in_order, Scenario, layered, chain, effective, is_one_of, slice_index_or, Session, new_session, Roster, session_at, pending_of, vacant_of, Differs, AreDiffering, HasRoom, HasRoomFor}
 
 -- what scenarios put in is in order
 layered_in_order : (xs : List Scenario) → IsInOrder (layered xs)
@@ -16,15 +16,15 @@ pub shown_alike : (s : Sheet) (p q : List Replacement) (c : ℕ) → IsInOrder p
 shown_alike s p q c h k e =
     outside_unmoved s [] c refl s s p q (λ d n. refl) (λ d n. refl) (λ d n. last_in_order p h d ∙ e d ∙ sym (last_in_order q k d))
 
-none_listed : (xs : List ℕ) → length xs ≡ 0 → (a : ℕ) → is_listed xs a ≡ false
+none_listed : (xs : List ℕ) → length xs ≡ 0 → (a : ℕ) → is_one_of xs a ≡ false
 none_listed [] e a = refl
 none_listed (x ∷ xs) e a = absurd (omega (arith, e))
 
 pub none_differs : (marked : Sheet → List ℕ → ℕ → Bool) (sheet : Sheet) (before after : List Replacement) (cells pending vacant : List ℕ)
     → IsInOrder before → IsInOrder after → AreDiffering before after cells → length cells ≡ 0 → vacant ≡ [] → HasRoom marked sheet before after pending vacant
 none_differs marked sheet before after cells pending vacant first second found none empty = record {
-  marks = λ a h. absurd (false≢true (sym (ap (λ (xs : List ℕ). is_listed xs a) empty) ∙ h));
-  further = λ a c h m. absurd (false≢true (sym (ap (λ (xs : List ℕ). is_listed xs a) empty) ∙ h));
+  marks = λ a h. absurd (false≢true (sym (ap (λ (xs : List ℕ). is_one_of xs a) empty) ∙ h));
+  further = λ a c h m. absurd (false≢true (sym (ap (λ (xs : List ℕ). is_one_of xs a) empty) ∙ h));
   others = λ a h k. shown_alike sheet before after a first second (λ d. found.others d (none_listed cells none d));
 }
 
@@ -52,8 +52,8 @@ all_differ before after cells found k d l =
 
 pub some_differ : (marked : Sheet → List ℕ → ℕ → Bool) (law : IsMarking marked) (sheet : Sheet) (before after : List Replacement) (cells told pending vacant vacant' : List ℕ)
     → IsInOrder before → IsInOrder after → AreDiffering before after cells → 0 < length cells → vacant ≡ []
-    → ((c : ℕ) → is_listed told c ≡ marked sheet cells c)
-    → ((a : ℕ) → is_listed vacant' a ≡ (is_listed vacant a || (is_listed told a && not (is_listed pending a))))
+    → ((c : ℕ) → is_one_of told c ≡ marked sheet cells c)
+    → ((a : ℕ) → is_one_of vacant' a ≡ (is_one_of vacant a || (is_one_of told a && not (is_one_of pending a))))
     → HasRoom marked sheet before after pending vacant'
 some_differ marked law sheet before after cells told pending vacant vacant' first second found some empty marks room = record {
   marks = λ a h. record {
@@ -62,28 +62,28 @@ some_differ marked law sheet before after cells told pending vacant vacant' firs
     touched = λ k d l. all_differ before after cells found k d l;
     has = it_is a h;
   };
-  further = λ a c h m. told_has (is_listed pending c) (is_listed vacant' c) (is_listed told c) (now c) (marks c ∙ law.further sheet cells a c (it_is a h) m);
+  further = λ a c h m. told_has (is_one_of pending c) (is_one_of vacant' c) (is_one_of told c) (now c) (marks c ∙ law.further sheet cells a c (it_is a h) m);
   others = λ a h k.
-      law.unmoved sheet cells a (sym (marks a) ∙ left_false (is_listed told a) (is_listed pending a) (sym (now a) ∙ k) h) sheet sheet before after (λ d n. refl) (λ d n. refl)
+      law.unmoved sheet cells a (sym (marks a) ∙ left_false (is_one_of told a) (is_one_of pending a) (sym (now a) ∙ k) h) sheet sheet before after (λ d n. refl) (λ d n. refl)
       (λ d n. last_in_order before first d ∙ found.others d n ∙ sym (last_in_order after second d));
 }
   where
-    now : (a : ℕ) → is_listed vacant' a ≡ (false || (is_listed told a && not (is_listed pending a)))
-    now a = room a ∙ ap (λ (xs : List ℕ). is_listed xs a || (is_listed told a && not (is_listed pending a))) empty
+    now : (a : ℕ) → is_one_of vacant' a ≡ (false || (is_one_of told a && not (is_one_of pending a)))
+    now a = room a ∙ ap (λ (xs : List ℕ). is_one_of xs a || (is_one_of told a && not (is_one_of pending a))) empty
 
-    it_is : (a : ℕ) → is_listed vacant' a ≡ true → marked sheet cells a ≡ true
-    it_is a h = sym (marks a) ∙ both_true (is_listed told a) (not (is_listed pending a)) (sym (now a) ∙ h)
+    it_is : (a : ℕ) → is_one_of vacant' a ≡ true → marked sheet cells a ≡ true
+    it_is a h = sym (marks a) ∙ both_true (is_one_of told a) (not (is_one_of pending a)) (sym (now a) ∙ h)
 
 -- the same of lists as they are lent
 pub room_marked : (marked : Sheet → List ℕ → ℕ → Bool) (law : IsMarking marked) (sheet : Sheet) (before after : List Replacement) (cells lent found told pending vacant vacant' : List ℕ)
     → IsInOrder before → IsInOrder after → AreDiffering before after cells → lent ≡ cells → 0 < length cells → vacant ≡ []
-    → ((c : ℕ) → is_listed found c ≡ marked sheet lent c) → told ≡ found
-    → ((a : ℕ) → is_listed vacant' a ≡ (is_listed vacant a || (is_listed told a && not (is_listed pending a))))
+    → ((c : ℕ) → is_one_of found c ≡ marked sheet lent c) → told ≡ found
+    → ((a : ℕ) → is_one_of vacant' a ≡ (is_one_of vacant a || (is_one_of told a && not (is_one_of pending a))))
     → HasRoom marked sheet before after pending vacant'
 room_marked marked law sheet before after cells lent found told pending vacant vacant' first second differ e some empty marks t room =
     some_differ marked law sheet before after lent told pending vacant vacant' first second
     (subst (AreDiffering before after) (sym e) differ) (subst (λ (xs : List ℕ). 0 < length xs) (sym e) some) empty
-    (λ c. ap (λ (xs : List ℕ). is_listed xs c) t ∙ marks c) room
+    (λ c. ap (λ (xs : List ℕ). is_one_of xs c) t ∙ marks c) room
 
 -- ---- each session in turn
 

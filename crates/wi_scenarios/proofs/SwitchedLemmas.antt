@@ -1,5 +1,5 @@
 -- What holds after a session was switched: the pending cells that were added are marked, and of all others the picture is right.
-use Rattle.wi_scenarios.proofs.Words.{◌≡◌, ◌≢◌, ◌==◌, arith, ◌⊎◌, inl, inr, ℕ, ◌<◌, ◌≤◌, Bool, true, false, ◌||◌, List, [], length, Option, refl, sym, ap, ◌∙◌, subst, slice_index_or, slice_set, or-false, false≢true, or_left, or_parts, or_cases, nat_tests, get_or-set_same, get_or-set_other, length-set, Value, Replacement, Sheet, Stored, Scenario, effective, value_in, is_listed, Session, new_session, max_sessions, using_scenario, Roster, session_at, pending_of, vacant_of, State, IsMarked, IsTouched, AddsOnly, SameForOthers, Desk, state_of, pending_in, AreCovered, AreClosed, IsSound, Differs, HasRoom, HasRoomFor}
+use Rattle.wi_scenarios.proofs.Words.{◌≡◌, ◌≢◌, ◌==◌, arith, ◌⊎◌, inl, inr, ℕ, ◌<◌, ◌≤◌, Bool, true, false, ◌||◌, List, [], length, Option, refl, sym, ap, ◌∙◌, subst, slice_index_or, slice_set, or-false, false≢true, or_left, or_parts, or_cases, nat_tests, get_or-set_same, get_or-set_other, length-set, Value, Replacement, Sheet, Stored, Scenario, effective, value_in, is_one_of, Session, new_session, max_sessions, using_scenario, Roster, session_at, pending_of, vacant_of, State, IsMarked, IsTouched, AddsOnly, SameForOthers, Desk, state_of, pending_in, AreCovered, AreClosed, IsSound, Differs, HasRoom, HasRoomFor}
 
 -- ---- nothing is switched
 
@@ -20,7 +20,7 @@ sound_again {marked} stored d e h same pending none = record {
 }
 
 pub adds_none : (marked : Sheet → List ℕ → ℕ → Bool) (s t : State) (before after : List (List ℕ)) → after ≡ before → AddsOnly marked [] s t before after
-adds_none marked s t before after same = λ i a l h. inl (sym (ap (λ (cs : List (List ℕ)). is_listed (slice_index_or cs i []) a) same) ∙ h)
+adds_none marked s t before after same = λ i a l h. inl (sym (ap (λ (cs : List (List ℕ)). is_one_of (slice_index_or cs i []) a) same) ∙ h)
 
 -- ---- sessions that put in something else
 
@@ -32,19 +32,19 @@ pub record IsSwitch (marked : Sheet → List ℕ → ℕ → Bool) (stored : Sto
   pub pictures : (i : ℕ) → (session_at e.sessions i).picture ≡ (session_at d.sessions i).picture
   pub room : (i : ℕ) → i < length d.sessions.sessions
       → HasRoom marked stored.sheet (effective d.scenarios (session_at d.sessions i).scenario) (effective e.scenarios (session_at e.sessions i).scenario) (pending_of d.sessions i) (vacant i)
-  pub pending : (i a : ℕ) → is_listed (pending_of e.sessions i) a ≡ (is_listed (pending_of d.sessions i) a || is_listed (vacant i) a)
+  pub pending : (i a : ℕ) → is_one_of (pending_of e.sessions i) a ≡ (is_one_of (pending_of d.sessions i) a || is_one_of (vacant i) a)
   pub empty : (i : ℕ) → vacant_of e.sessions i ≡ []
 
 module _ (marked : Sheet → List ℕ → ℕ → Bool) (stored : Stored) (d e : Desk) (vacant : ℕ → List ℕ) (w : IsSwitch marked stored d e vacant) where
   -- with what was pending or gets room what it marks is pending then
   switched_closed : IsSound marked stored d → AreClosed marked (state_of stored e) (pending_in e)
-  switched_closed h i l a c p m = w.pending i c ∙ at (or_cases (is_listed (pending_of d.sessions i) a) (is_listed (vacant i) a) (sym (w.pending i a) ∙ p))
+  switched_closed h i l a c p m = w.pending i c ∙ at (or_cases (is_one_of (pending_of d.sessions i) a) (is_one_of (vacant i) a) (sym (w.pending i a) ∙ p))
     where
       old : i < length d.sessions.sessions
       old = subst (λ (k : ℕ). i < k) w.count l
 
-      at : (is_listed (pending_of d.sessions i) a ≡ true) ⊎ (is_listed (vacant i) a ≡ true) → (is_listed (pending_of d.sessions i) c || is_listed (vacant i) c) ≡ true
-      at (inl there) = or_left (is_listed (pending_of d.sessions i) c) (is_listed (vacant i) c) (h.closed i old a c there m)
+      at : (is_one_of (pending_of d.sessions i) a ≡ true) ⊎ (is_one_of (vacant i) a ≡ true) → (is_one_of (pending_of d.sessions i) c || is_one_of (vacant i) c) ≡ true
+      at (inl there) = or_left (is_one_of (pending_of d.sessions i) c) (is_one_of (vacant i) c) (h.closed i old a c there m)
       at (inr new) = (w.room i old).further a c new m
 
   pub switched_sound : IsSound marked stored d → IsSound marked stored e
@@ -56,10 +56,10 @@ module _ (marked : Sheet → List ℕ → ℕ → Bool) (stored : Stored) (d e :
     closed = switched_closed h;
     covered = λ i l a m n.
         let old : i < length d.sessions.sessions = subst (λ (k : ℕ). i < k) w.count l in
-        let both : (is_listed (pending_of d.sessions i) a || is_listed (vacant i) a) ≡ false = sym (w.pending i a) ∙ n in
-        let before = (or_parts (is_listed (pending_of d.sessions i) a) (is_listed (vacant i) a) both).0 in
+        let both : (is_one_of (pending_of d.sessions i) a || is_one_of (vacant i) a) ≡ false = sym (w.pending i a) ∙ n in
+        let before = (or_parts (is_one_of (pending_of d.sessions i) a) (is_one_of (vacant i) a) both).0 in
         ap (λ (picture : List (ℕ × Value)). value_in picture a) (w.pictures i) ∙ h.covered i old a m before
-        ∙ (w.room i old).others a before (or_parts (is_listed (pending_of d.sessions i) a) (is_listed (vacant i) a) both).1;
+        ∙ (w.room i old).others a before (or_parts (is_one_of (pending_of d.sessions i) a) (is_one_of (vacant i) a) both).1;
   }
 
   marked_there : (i a : ℕ) → IsMarked marked stored.sheet (Differs (effective d.scenarios (session_at d.sessions i).scenario) (effective e.scenarios (session_at e.sessions i).scenario)) a
@@ -68,7 +68,7 @@ module _ (marked : Sheet → List ℕ → ℕ → Bool) (stored : Stored) (d e :
 
   pub switched_adds : AddsOnly marked [] (state_of stored d) (state_of stored e) (pending_in d) (pending_in e)
   switched_adds = λ i a l t.
-      elim (or_cases (is_listed (pending_of d.sessions i) a) (is_listed (vacant i) a) (sym (w.pending i a) ∙ t)) [
+      elim (or_cases (is_one_of (pending_of d.sessions i) a) (is_one_of (vacant i) a) (sym (w.pending i a) ∙ t)) [
         | inl there ↦ inl there
         | inr new ↦ inr (marked_there i a ((w.room i l).marks a new))
       ]
@@ -78,11 +78,11 @@ pub switched_others : (marked : Sheet → List ℕ → ℕ → Bool) (stored : S
     → ((j : ℕ) → j ≢ d.current → vacant j ≡ []) → SameForOthers d.current (pending_in d) (pending_in e)
 switched_others marked stored d e vacant w none = λ j a n.
     w.pending j a
-    ∙ ap (λ (xs : List ℕ). is_listed (pending_of d.sessions j) a || is_listed xs a) (none j n)
-    ∙ or-false (is_listed (pending_of d.sessions j) a)
+    ∙ ap (λ (xs : List ℕ). is_one_of (pending_of d.sessions j) a || is_one_of xs a) (none j n)
+    ∙ or-false (is_one_of (pending_of d.sessions j) a)
 
 pub others_none : (i : ℕ) (before after : List (List ℕ)) → after ≡ before → SameForOthers i before after
-others_none i before after same = λ j a n. ap (λ (cs : List (List ℕ)). is_listed (slice_index_or cs j []) a) same
+others_none i before after same = λ j a n. ap (λ (cs : List (List ℕ)). is_one_of (slice_index_or cs j []) a) same
 
 -- ---- other scenarios take the place of all
 
@@ -91,7 +91,7 @@ pub scenarios_switched : (marked : Sheet → List ℕ → ℕ → Bool) (stored 
     → mid.sessions ≡ d.sessions.sessions → mid.pending ≡ d.sessions.pending
     → ((i : ℕ) → i < length d.sessions.sessions → HasRoomFor marked stored.sheet d.scenarios e.scenarios mid i)
     → e.sessions.sessions ≡ mid.sessions → length e.sessions.pending ≡ length mid.pending
-    → ((i a : ℕ) → is_listed (pending_of e.sessions i) a ≡ (is_listed (pending_of mid i) a || is_listed (vacant_of mid i) a))
+    → ((i a : ℕ) → is_one_of (pending_of e.sessions i) a ≡ (is_one_of (pending_of mid i) a || is_one_of (vacant_of mid i) a))
     → ((i : ℕ) → vacant_of e.sessions i ≡ []) → e.current ≡ d.current → IsSwitch marked stored d e (vacant_of mid)
 scenarios_switched marked stored d e mid sessions pending room after lists took empty current =
     let same : e.sessions.sessions ≡ d.sessions.sessions = after ∙ sessions in
@@ -105,7 +105,7 @@ scenarios_switched marked stored d e mid sessions pending room after lists took 
           subst (λ (xs : List Session). HasRoom marked stored.sheet (effective d.scenarios (session_at d.sessions i).scenario) (effective e.scenarios (its i xs).scenario) (pending_of d.sessions i) (vacant_of mid i)) (sym same)
           (subst (λ (xs : List Session). HasRoom marked stored.sheet (effective d.scenarios (its i xs).scenario) (effective e.scenarios (its i xs).scenario) (pending_of d.sessions i) (vacant_of mid i)) sessions
           (subst (λ (cs : List (List ℕ)). HasRoom marked stored.sheet (effective d.scenarios (session_at mid i).scenario) (effective e.scenarios (session_at mid i).scenario) (slice_index_or cs i []) (vacant_of mid i)) pending (room i l)));
-      pending = λ i a. took i a ∙ ap (λ (cs : List (List ℕ)). is_listed (slice_index_or cs i []) a || is_listed (vacant_of mid i) a) pending;
+      pending = λ i a. took i a ∙ ap (λ (cs : List (List ℕ)). is_one_of (slice_index_or cs i []) a || is_one_of (vacant_of mid i) a) pending;
       empty = empty;
     }
 
@@ -114,8 +114,8 @@ scenarios_switched marked stored d e mid sessions pending room after lists took 
 -- nothing is to be marked where the replacements are the same
 same_room : (marked : Sheet → List ℕ → ℕ → Bool) (sheet : Sheet) (p : List Replacement) (pending vacant : List ℕ) → vacant ≡ [] → HasRoom marked sheet p p pending vacant
 same_room marked sheet p pending vacant empty = record {
-  marks = λ a h. absurd (false≢true (sym (ap (λ (xs : List ℕ). is_listed xs a) empty) ∙ h));
-  further = λ a c h m. absurd (false≢true (sym (ap (λ (xs : List ℕ). is_listed xs a) empty) ∙ h));
+  marks = λ a h. absurd (false≢true (sym (ap (λ (xs : List ℕ). is_one_of xs a) empty) ∙ h));
+  further = λ a c h m. absurd (false≢true (sym (ap (λ (xs : List ℕ). is_one_of xs a) empty) ∙ h));
   others = λ a h k. refl;
 }
 
@@ -157,7 +157,7 @@ module _ (marked : Sheet → List ℕ → ℕ → Bool) (stored : Stored) (d e :
       (same_room marked stored.sheet (effective d.scenarios (session_at d.sessions j).scenario) (pending_of d.sessions j) (vacant_of mid j) (others j other ∙ h.full j))
 
   pub current_switched : length e.sessions.pending ≡ length d.sessions.pending
-      → ((i a : ℕ) → is_listed (pending_of e.sessions i) a ≡ (is_listed (pending_of d.sessions i) a || is_listed (vacant_of mid i) a))
+      → ((i a : ℕ) → is_one_of (pending_of e.sessions i) a ≡ (is_one_of (pending_of d.sessions i) a || is_one_of (vacant_of mid i) a))
       → ((i : ℕ) → vacant_of e.sessions i ≡ []) → e.current ≡ d.current → IsSwitch marked stored d e (vacant_of mid)
   current_switched lists took empty current = record {
     count = ap length sessions ∙ length-set d.sessions.sessions d.current it;
@@ -184,12 +184,12 @@ pub use_switched : (marked : Sheet → List ℕ → ℕ → Bool) (stored : Stor
     → u.sessions ≡ slice_set r.sessions.sessions r.current (using_scenario (session_at r.sessions r.current) n) → n ≡ name
     → u.pending ≡ r.sessions.pending → u.vacant ≡ r.sessions.vacant
     → t.sessions ≡ u.sessions → length t.pending ≡ length u.pending
-    → ((i a : ℕ) → is_listed (pending_of t i) a ≡ (is_listed (pending_of u i) a || is_listed (vacant_of u i) a)) → ((i : ℕ) → vacant_of t i ≡ [])
+    → ((i a : ℕ) → is_one_of (pending_of t i) a ≡ (is_one_of (pending_of u i) a || is_one_of (vacant_of u i) a)) → ((i : ℕ) → vacant_of t i ≡ [])
     → IsSwitch marked stored d (record r { sessions = t }) (vacant_of r.sessions)
 use_switched marked stored d r u t n name h same pending others room turned named kept rooms after lists took empty =
     current_switched marked stored d (record r { sessions = t }) r.sessions name h room others
     (ap (λ (s : State). s.scenarios) same) (used_sessions stored d r u.sessions t.sessions n name same turned named after)
     (lists ∙ ap length (kept ∙ pending))
-    (λ i a. took i a ∙ ap (λ (cs : List (List ℕ)). is_listed (slice_index_or cs i []) a || is_listed (vacant_of u i) a) (kept ∙ pending)
-    ∙ ap (λ (cs : List (List ℕ)). is_listed (pending_of d.sessions i) a || is_listed (slice_index_or cs i []) a) rooms)
+    (λ i a. took i a ∙ ap (λ (cs : List (List ℕ)). is_one_of (slice_index_or cs i []) a || is_one_of (vacant_of u i) a) (kept ∙ pending)
+    ∙ ap (λ (cs : List (List ℕ)). is_one_of (pending_of d.sessions i) a || is_one_of (slice_index_or cs i []) a) rooms)
     empty (ap (λ (s : State). s.current) same)

@@ -92,7 +92,7 @@ pub use Rattle.wi_sessions.proofs.ChangeLists.{any_cells, picture_is_shown}
 pub use Rattle.wi_sessions.proofs.RosterLemmas.{all_have_so, one_of_all_has}
 pub use Rattle.wi_sessions.specs.Pictures.{same_value, value_in, with_changes}
 unfoldable pub use Rattle.wi_sessions.specs.Pictures.{sheet_size}
-pub use Rattle.wi_sessions.specs.Pictures.Laws.{Rises, changes_among, is_listed}
+pub use Rattle.wi_sessions.specs.Pictures.Laws.{Rises, changes_among}
 pub use Rattle.wi_sessions.specs.Roster.{Roster, SameCells, is_pending_for_all, pending_of, session_at, vacant_of}
 pub use Rattle.wi_sessions.specs.Sessions.{Session, has_session, index_of, max_sessions, new_session, told, using_scenario, with_session}
 pub use Rattle.wi_sheet.proofs.Cones.{outside_unmoved}
@@ -109,7 +109,7 @@ pub use Rattle.wi_values.proofs.Order.{is_itself}
 pub use Rattle.wi_values.proofs.Outcomes.{on_err}
 pub use Rattle.wi_values.proofs.ReadsBack.{addresses_read_back}
 pub use Rattle.wi_values.proofs.Within.{within_between}
-pub use Rattle.wi_values.specs.Address.{Area, address_text, cells_of, cells_of_row, column_of, columns, is_column, is_within, place, rect_of, row_of, rows, size_of}
+pub use Rattle.wi_values.specs.Address.{Area, address_text, cells_of, cells_of_row, column_of, columns, is_column, is_one_of, is_within, place, rect_of, row_of, rows, size_of}
 pub use Rattle.wi_values.specs.AddressReading.{read_address}
 pub use Rattle.wi_values.specs.Inner.Import.{imported}
 pub use Rattle.wi_values.specs.Replacements.{IsInOrder, replaced}

@@ -2,11 +2,10 @@
 use Rattle.std.specs.Prelude.{◌≡◌, ◌≢◌, ℕ, ◌<◌, ◌⊎◌, ◌++◌, ◌∷◌, Bool, true, ◌-◌, List, [], All, filter, length}
 use Rattle.std.specs.List.{slice_index_or, slice_set}
 use Rattle.std.specs.Map.{keys_of}
-use Rattle.wi_values.specs.Address.{is_within}
+use Rattle.wi_values.specs.Address.{is_one_of, is_within}
 use Rattle.wi_values.specs.Replacements.{replaced}
 use Rattle.wi_parser.specs.Sheet.{Sheet}
 use Rattle.wi_sessions.specs.Pictures.{sheet_size}
-use Rattle.wi_sessions.specs.Pictures.Laws.{is_listed}
 use Rattle.wi_sessions.specs.Roster.{SameCells}
 use Rattle.wi_scenarios.specs.State.{State}
 use Rattle.wi_reports.specs.Looks.{evaluations_for, restarts_for}
@@ -25,7 +24,7 @@ pending_for pending i = slice_index_or pending i []
 
 -- a cell is pending for the i-th session
 abbrev pub is_pending : List (List ℕ) → ℕ → ℕ → Bool
-is_pending pending i a = is_listed (pending_for pending i) a
+is_pending pending i a = is_one_of (pending_for pending i) a
 
 -- the i-th session's replacement for a cell was set, removed or switched
 abbrev pub IsSwitched : State → State → ℕ → ℕ → Type 0
@@ -34,7 +33,7 @@ IsSwitched old new i a =
 
 -- a cell that the command edits, or whose replacement for the i-th session it sets, removes or switches
 abbrev pub IsTouched : List ℕ → State → State → ℕ → ℕ → Type 0
-IsTouched edited old new i a = (is_listed edited a ≡ true) ⊎ IsSwitched old new i a
+IsTouched edited old new i a = (is_one_of edited a ≡ true) ⊎ IsSwitched old new i a
 
 -- a cell that is marked for some cells that were touched, one at least: a calculator may mark cells for none
 pub record IsMarked (marked : Sheet → List ℕ → ℕ → Bool) (sheet : Sheet) (Touched : ℕ → Type 0) (a : ℕ) : Type 0 where

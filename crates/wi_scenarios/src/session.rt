@@ -1,7 +1,7 @@
 //! The command `as`: makes a session current.
 
 ghost use Rattle.std.specs.Prelude.{◌≡◌, ◌≢◌, ◌<◌, ◌∷◌, ◌++◌, ℕ, List, [], true, false, length, Err, IfOk, OnOk, OnErr};
-ghost use Rattle.wi_sessions.specs.Pictures.Laws.{is_listed};
+ghost use Rattle.wi_values.specs.Address.{is_one_of};
 ghost use Rattle.wi_sessions.specs.Sessions.{has_session, new_session, max_sessions};
 ghost use Rattle.wi_scenarios.specs.declared.refusal.Refusal.TheVariants.{Memory};
 ghost use Rattle.wi_scenarios.specs.Answer.{Serves};
@@ -85,7 +85,7 @@ fn occupied<C: Calculator>(alloc: Global, calculator: &C) -> Result<Vec<Address>
     ensures cells { IfOk result (λ cells.
         cells.items ≡ occupied_cells (C.stored calculator.now).sheet) }
     ensures closed { let sheet = (C.stored calculator.now).sheet in
-        IsClosed C.marked sheet (is_listed (occupied_cells sheet)) }
+        IsClosed C.marked sheet (is_one_of (occupied_cells sheet)) }
 {
     calculator.cells_lie_in_the_sheet();
     let first = Address::at(0, 0);

@@ -1,5 +1,5 @@
 -- Laws of lists of cells.
-use Rattle.wi_sessions.proofs.Words.{◌≡◌, ◌==◌, ◌<◌, ◌≤◌, ◌+◌, ◌||◌, ◌&&◌, ◌⊎◌, inl, inr, ℕ, eqb, Bool, true, false, cond, List, [], ◌∷◌, filter, refl, sym, ap, ◌∙◌, arith, ◌*◌, subst, and_comm, All, AllByRecursion, Contains, dedup, list_any, IsPermutation, IsStrictlyIncreasing, nat_cmp, Less, is_at, both_ways, cases_order, eq-eqb, eqb-true, ne_eqb, All-head, All-tail, list_any_at, Any-from_list_any, Contains-dedup_nat, Contains-from_dedup, Contains-permutation, IsPermutation-sym, sorted_from_strictly_increasing, sorted_head, sorted_tail, any-filter_same, one_truth, below_from_Less, is_at-eq, turn_test, rows, columns, sheet_size, is_listed, Rises}
+use Rattle.wi_sessions.proofs.Words.{◌≡◌, ◌==◌, ◌<◌, ◌≤◌, ◌+◌, ◌||◌, ◌&&◌, ◌⊎◌, inl, inr, ℕ, eqb, Bool, true, false, cond, List, [], ◌∷◌, filter, refl, sym, ap, ◌∙◌, arith, ◌*◌, subst, and_comm, All, AllByRecursion, Contains, dedup, list_any, IsPermutation, IsStrictlyIncreasing, nat_cmp, Less, is_at, both_ways, cases_order, eq-eqb, eqb-true, ne_eqb, All-head, All-tail, list_any_at, Any-from_list_any, Contains-dedup_nat, Contains-from_dedup, Contains-permutation, IsPermutation-sym, sorted_from_strictly_increasing, sorted_head, sorted_tail, any-filter_same, one_truth, below_from_Less, is_at-eq, turn_test, rows, columns, sheet_size, is_one_of, Rises}
 use Rattle.std.specs.List.Sorted.{IsStrictlySortedBy}
 
 -- ---- lists of cells in order
@@ -43,47 +43,47 @@ ascend_filter p (x ∷ xs) h = by (p x) (ascend_filter p xs h.1)
 -- ---- which cells are listed
 
 -- none that comes no later than all of them
-unlisted : (a q : ℕ) (xs : List ℕ) → ComeAfter a xs → q ≤ a → is_listed xs q ≡ false
+unlisted : (a q : ℕ) (xs : List ℕ) → ComeAfter a xs → q ≤ a → is_one_of xs q ≡ false
 unlisted a q [] h l = refl
-unlisted a q (x ∷ xs) h l = ap (λ b. b || is_listed xs q) (ne_eqb x q (apart x h.0)) ∙ unlisted a q xs h.1 l
+unlisted a q (x ∷ xs) h l = ap (λ b. b || is_one_of xs q) (ne_eqb x q (apart x h.0)) ∙ unlisted a q xs h.1 l
   where
     apart : (x : ℕ) → a < x → x ≡ q → Prim.⊥
     apart x m e = omega (arith, m, l, e)
 
-first_listed : (x : ℕ) (xs : List ℕ) → is_listed (x ∷ xs) x ≡ true
-first_listed x xs = ap (λ b. b || is_listed xs x) (eq-eqb x x refl)
+first_listed : (x : ℕ) (xs : List ℕ) → is_one_of (x ∷ xs) x ≡ true
+first_listed x xs = ap (λ b. b || is_one_of xs x) (eq-eqb x x refl)
 
-not_there : (x : ℕ) (xs ys : List ℕ) → is_listed xs x ≡ true → is_listed ys x ≡ false → ((q : ℕ) → is_listed xs q ≡ is_listed ys q) → Prim.⊥
-not_there x xs ys h k e = both_ways (is_listed ys x) k (sym (e x) ∙ h)
+not_there : (x : ℕ) (xs ys : List ℕ) → is_one_of xs x ≡ true → is_one_of ys x ≡ false → ((q : ℕ) → is_one_of xs q ≡ is_one_of ys q) → Prim.⊥
+not_there x xs ys h k e = both_ways (is_one_of ys x) k (sym (e x) ∙ h)
 
-tails : (x : ℕ) (xs ys : List ℕ) → ComeAfter x xs → ComeAfter x ys → ((q : ℕ) → is_listed (x ∷ xs) q ≡ is_listed (x ∷ ys) q) → (q : ℕ) → is_listed xs q ≡ is_listed ys q
+tails : (x : ℕ) (xs ys : List ℕ) → ComeAfter x xs → ComeAfter x ys → ((q : ℕ) → is_one_of (x ∷ xs) q ≡ is_one_of (x ∷ ys) q) → (q : ℕ) → is_one_of xs q ≡ is_one_of ys q
 tails x xs ys a b h q = by (x == q) refl (h q)
   where
-    by : (d : Bool) → (x == q) ≡ d → (d || is_listed xs q) ≡ (d || is_listed ys q) → is_listed xs q ≡ is_listed ys q
+    by : (d : Bool) → (x == q) ≡ d → (d || is_one_of xs q) ≡ (d || is_one_of ys q) → is_one_of xs q ≡ is_one_of ys q
     by true t g = let e = eqb-true x q t in unlisted x q xs a (omega (arith, e)) ∙ sym (unlisted x q ys b (omega (arith, e)))
     by false t g = g
 
 -- lists in order that have the same cells are the same
-pub same_listed : (xs ys : List ℕ) → Ascend xs → Ascend ys → ((q : ℕ) → is_listed xs q ≡ is_listed ys q) → xs ≡ ys
+pub same_listed : (xs ys : List ℕ) → Ascend xs → Ascend ys → ((q : ℕ) → is_one_of xs q ≡ is_one_of ys q) → xs ≡ ys
 same_listed [] [] a b h = refl
 same_listed [] (y ∷ ys) a b h = absurd (not_there y (y ∷ ys) [] (first_listed y ys) refl (λ q. sym (h q)))
 same_listed (x ∷ xs) [] a b h = absurd (not_there x (x ∷ xs) [] (first_listed x xs) refl h)
 same_listed (x ∷ xs) (y ∷ ys) a b h = by (cases_order x y) (same_listed xs ys a.1 b.1)
   where
-    by : (x ≡ y) ⊎ ((x < y) ⊎ (y < x)) → (((q : ℕ) → is_listed xs q ≡ is_listed ys q) → xs ≡ ys) → x ∷ xs ≡ y ∷ ys
+    by : (x ≡ y) ⊎ ((x < y) ⊎ (y < x)) → (((q : ℕ) → is_one_of xs q ≡ is_one_of ys q) → xs ≡ ys) → x ∷ xs ≡ y ∷ ys
     by (inl e) ih =
         let after : ComeAfter x ys = subst (λ (z : ℕ). ComeAfter z ys) (sym e) b.0 in
-        let same : (q : ℕ) → is_listed (x ∷ xs) q ≡ is_listed (x ∷ ys) q = subst (λ (z : ℕ). (q : ℕ) → is_listed (x ∷ xs) q ≡ is_listed (z ∷ ys) q) (sym e) h in
+        let same : (q : ℕ) → is_one_of (x ∷ xs) q ≡ is_one_of (x ∷ ys) q = subst (λ (z : ℕ). (q : ℕ) → is_one_of (x ∷ xs) q ≡ is_one_of (z ∷ ys) q) (sym e) h in
         ap (λ (zs : List ℕ). x ∷ zs) (ih (tails x xs ys a.0 after same)) ∙ ap (λ (z : ℕ). z ∷ ys) e
     by (inr (inl l)) ih = absurd (not_there x (x ∷ xs) (y ∷ ys) (first_listed x xs) (unlisted x x (y ∷ ys) (l, come_after_earlier x y ys l b.0) (omega arith)) h)
     by (inr (inr l)) ih = absurd (not_there y (y ∷ ys) (x ∷ xs) (first_listed y ys) (unlisted y y (x ∷ xs) (l, come_after_earlier y x xs l a.0) (omega arith)) (λ q. sym (h q)))
 
 -- those of a list that pass a test
-pub listed_filter : (p : ℕ → Bool) (xs : List ℕ) (q : ℕ) → is_listed (filter p xs) q ≡ (is_listed xs q && p q)
-listed_filter p xs q = any-filter_same (λ c. c == q) p (p q) (λ k t. ap p (eqb-true k q t)) xs ∙ and_comm (p q) (is_listed xs q)
+pub listed_filter : (p : ℕ → Bool) (xs : List ℕ) (q : ℕ) → is_one_of (filter p xs) q ≡ (is_one_of xs q && p q)
+listed_filter p xs q = any-filter_same (λ c. c == q) p (p q) (λ k t. ap p (eqb-true k q t)) xs ∙ and_comm (p q) (is_one_of xs q)
 
 -- as a set tells it
-pub found_listed : (q : ℕ) (ks : List ℕ) → list_any (is_at (nat_cmp q)) ks ≡ is_listed ks q
+pub found_listed : (q : ℕ) (ks : List ℕ) → list_any (is_at (nat_cmp q)) ks ≡ is_one_of ks q
 found_listed q [] = refl
 found_listed q (k ∷ ks) = ap (λ b. b || list_any (is_at (nat_cmp q)) ks) (is_at-eq q k ∙ turn_test q k) ∙ ap (λ b. (k == q) || b) (found_listed q ks)
 
@@ -116,18 +116,18 @@ rises xs a h = rising 0 (rows * columns) xs a (from_zero xs) h
 
 -- ---- lists that are sorted
 
-listed_from : (xs : List ℕ) (c : ℕ) → Contains xs c → is_listed xs c ≡ true
+listed_from : (xs : List ℕ) (c : ℕ) → Contains xs c → is_one_of xs c ≡ true
 listed_from xs c h = list_any_at (λ d. d == c) xs h.0 c h.1 (eq-eqb _ c h.2)
 
-contains_from : (xs : List ℕ) (c : ℕ) → is_listed xs c ≡ true → Contains xs c
+contains_from : (xs : List ℕ) (c : ℕ) → is_one_of xs c ≡ true → Contains xs c
 contains_from xs c h =
     let found = Any-from_list_any (λ d. d == c) xs h in
     subst (λ (x : ℕ). Contains xs x) (eqb-true found.1 c found.4) (found.0, found.2, found.3)
 
 -- what a sort, and each cell once, leave has the same cells
-pub sorted_once : (cells sorted list : List ℕ) → IsPermutation cells sorted → list ≡ dedup eqb sorted → (c : ℕ) → is_listed list c ≡ is_listed cells c
+pub sorted_once : (cells sorted list : List ℕ) → IsPermutation cells sorted → list ≡ dedup eqb sorted → (c : ℕ) → is_one_of list c ≡ is_one_of cells c
 sorted_once cells sorted list p d c =
-    one_truth (is_listed list c) (is_listed cells c)
+    one_truth (is_one_of list c) (is_one_of cells c)
     (λ t. listed_from cells c (Contains-permutation sorted cells c (IsPermutation-sym cells sorted p) (Contains-from_dedup eqb sorted c (subst (λ (xs : List ℕ). Contains xs c) d (contains_from list c t)))))
     (λ t. listed_from list c (subst (λ (xs : List ℕ). Contains xs c) (sym d) (Contains-dedup_nat sorted c (Contains-permutation cells sorted c p (contains_from cells c t)))))
 

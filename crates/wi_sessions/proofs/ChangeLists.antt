@@ -1,5 +1,5 @@
 -- Whichever cells are looked at, what has changed is the same.
-use Rattle.wi_sessions.proofs.Words.{◌≡◌, ℕ, zero, suc, ◌+◌, ◌<◌, ◌≤◌, Bool, true, false, not, cond, List, [], ◌∷◌, map, refl, sym, ap, subst, ◌∙◌, arith, ◌||◌, Option, Some, None, unwrap_or, range_with_len, false≢true, eqb-true, nat_tests, Value, Empty, Number, Text, Logical, Fault, nat_cmp, lookup, is_at, found-insert, found-without, turn_test, equality, same_value, value_in, with_value, with_changes, sheet_size, is_listed, Rises, AnyCells, PictureIsShown, every_cell}
+use Rattle.wi_sessions.proofs.Words.{◌≡◌, ℕ, zero, suc, ◌+◌, ◌<◌, ◌≤◌, Bool, true, false, not, cond, List, [], ◌∷◌, map, refl, sym, ap, subst, ◌∙◌, arith, ◌||◌, Option, Some, None, unwrap_or, range_with_len, false≢true, eqb-true, nat_tests, Value, Empty, Number, Text, Logical, Fault, nat_cmp, lookup, is_at, found-insert, found-without, turn_test, equality, same_value, value_in, with_value, with_changes, sheet_size, is_one_of, Rises, AnyCells, PictureIsShown, every_cell}
 use Rattle.std.specs.Prelude.{filter, nat_eq, ◌==◌}
 
 -- an element at which the test fails is left out
@@ -7,27 +7,27 @@ skipped : (p : ℕ → Bool) (a : ℕ) (xs : List ℕ) → p a ≡ false → fil
 skipped p a xs e = ap (λ b. cond b (a ∷ filter p xs) (filter p xs)) e
 
 -- one of risen numbers is not below them
-not_below : (a low high : ℕ) (cs : List ℕ) → Rises low high cs → a < low → is_listed cs a ≡ false
+not_below : (a low high : ℕ) (cs : List ℕ) → Rises low high cs → a < low → is_one_of cs a ≡ false
 not_below a low high [] r h = refl
 not_below a low high (c ∷ cs) r h =
     let other : (c == a) ≡ false = (let e : low ≤ c = r.0 in grind (arith, nat_tests)) in
-    let more : is_listed cs a ≡ false = not_below a (c + 1) high cs r.2 (let e : low ≤ c = r.0 in omega (arith, e, h)) in
-    ap (λ b. b || is_listed cs a) other ∙ more
+    let more : is_one_of cs a ≡ false = not_below a (c + 1) high cs r.2 (let e : low ≤ c = r.0 in omega (arith, e, h)) in
+    ap (λ b. b || is_one_of cs a) other ∙ more
 
 -- it fails where no cell is found
-fails : (p : ℕ → Bool) (a : ℕ) (cs : List ℕ) → (p a ≡ true → is_listed cs a ≡ true) → is_listed cs a ≡ false → p a ≡ false
+fails : (p : ℕ → Bool) (a : ℕ) (cs : List ℕ) → (p a ≡ true → is_one_of cs a ≡ true) → is_one_of cs a ≡ false → p a ≡ false
 fails p a cs all none =
     elim (p a) as (λ b. p a ≡ b → b ≡ false) [ true ↦ λ t. absurd (false≢true (sym none ∙ all t)) | false ↦ λ t. refl ] refl
 
 above : (a c : ℕ) → a ≤ c → nat_eq a c ≡ false → a + 1 ≤ c
 above a c h e = grind (arith, nat_tests)
 
-another : (c q : ℕ) (cs : List ℕ) → c + 1 ≤ q → is_listed (c ∷ cs) q ≡ true → is_listed cs q ≡ true
+another : (c q : ℕ) (cs : List ℕ) → c + 1 ≤ q → is_one_of (c ∷ cs) q ≡ true → is_one_of cs q ≡ true
 another c q cs h t =
     let other : (c == q) ≡ false = grind (arith, nat_tests) in
-    ap (λ b. b || is_listed cs q) (sym other) ∙ t
+    ap (λ b. b || is_one_of cs q) (sym other) ∙ t
 
-pub in_range : (p : ℕ → Bool) (n a high : ℕ) (cs : List ℕ) → a + n ≡ high → Rises a high cs → ((q : ℕ) → a ≤ q → q < high → p q ≡ true → is_listed cs q ≡ true)
+pub in_range : (p : ℕ → Bool) (n a high : ℕ) (cs : List ℕ) → a + n ≡ high → Rises a high cs → ((q : ℕ) → a ≤ q → q < high → p q ≡ true → is_one_of cs q ≡ true)
     → filter p (range_with_len a n) ≡ filter p cs
 in_range p zero a high [] e r all = refl
 in_range p zero a high (c ∷ cs) e r all =
@@ -58,8 +58,8 @@ same_itself v = (equality.1 v v).1 refl
 pub any_cells : AnyCells
 any_cells cells picture shown h =
     let p : ℕ → Bool = λ a. not (same_value (value_in picture a) (shown a)) in
-    let found : (q : ℕ) → 0 ≤ q → q < sheet_size → p q ≡ true → is_listed cells q ≡ true =
-    λ q low within t. elim (is_listed cells q) as (λ b. is_listed cells q ≡ b → b ≡ true) [
+    let found : (q : ℕ) → 0 ≤ q → q < sheet_size → p q ≡ true → is_one_of cells q ≡ true =
+    λ q low within t. elim (is_one_of cells q) as (λ b. is_one_of cells q ≡ b → b ≡ true) [
       | true ↦ λ u. refl
       | false ↦ λ u. absurd (false≢true (sym (ap not (ap (λ v. same_value v (shown q)) (h.1 q within u) ∙ same_itself (shown q))) ∙ t))
     ] refl in
@@ -82,22 +82,22 @@ value_in-with picture c v q = by_value v
 
 -- with values put in at cells, each of the cells has its value
 value_in-changes : (picture : List (ℕ × Value)) (f : ℕ → Value) (cs : List ℕ) (q : ℕ)
-    → value_in (with_changes picture (map (λ a. (a, f a)) cs)) q ≡ cond (is_listed cs q) (f q) (value_in picture q)
+    → value_in (with_changes picture (map (λ a. (a, f a)) cs)) q ≡ cond (is_one_of cs q) (f q) (value_in picture q)
 value_in-changes picture f [] q = refl
 value_in-changes picture f (c ∷ cs) q =
     value_in-changes (with_value picture c (f c)) f cs q
-    ∙ ap (cond (is_listed cs q) (f q)) (value_in-with picture c (f c) q ∙ ap (λ b. cond b (f c) (value_in picture q)) (turn_test q c))
-    ∙ elim (c == q) as (λ b. (c == q) ≡ b → cond (is_listed cs q) (f q) (cond b (f c) (value_in picture q)) ≡ cond (b || is_listed cs q) (f q) (value_in picture q)) [
-      | true ↦ λ t. ap (λ x. cond (is_listed cs q) (f q) (f x)) (eqb-true c q t) ∙ elim (is_listed cs q) as (λ b. cond b (f q) (f q) ≡ f q) [ true ↦ refl | false ↦ refl ]
+    ∙ ap (cond (is_one_of cs q) (f q)) (value_in-with picture c (f c) q ∙ ap (λ b. cond b (f c) (value_in picture q)) (turn_test q c))
+    ∙ elim (c == q) as (λ b. (c == q) ≡ b → cond (is_one_of cs q) (f q) (cond b (f c) (value_in picture q)) ≡ cond (b || is_one_of cs q) (f q) (value_in picture q)) [
+      | true ↦ λ t. ap (λ x. cond (is_one_of cs q) (f q) (f x)) (eqb-true c q t) ∙ elim (is_one_of cs q) as (λ b. cond b (f q) (f q) ≡ f q) [ true ↦ refl | false ↦ refl ]
       | false ↦ λ t. refl
     ] refl
 
 -- where the test fails, the number isn't among those that pass
-never : (p : ℕ → Bool) (xs : List ℕ) (q : ℕ) → p q ≡ false → is_listed (filter p xs) q ≡ false
+never : (p : ℕ → Bool) (xs : List ℕ) (q : ℕ) → p q ≡ false → is_one_of (filter p xs) q ≡ false
 never p [] q e = refl
 never p (x ∷ xs) q e =
-    elim (p x) as (λ b. p x ≡ b → is_listed (cond b (x ∷ filter p xs) (filter p xs)) q ≡ false) [
-      | true ↦ λ h. ap (λ b. b || is_listed (filter p xs) q) (other (x == q) refl h) ∙ never p xs q e
+    elim (p x) as (λ b. p x ≡ b → is_one_of (cond b (x ∷ filter p xs) (filter p xs)) q ≡ false) [
+      | true ↦ λ h. ap (λ b. b || is_one_of (filter p xs) q) (other (x == q) refl h) ∙ never p xs q e
       | false ↦ λ h. never p xs q e
     ] refl
   where
@@ -106,29 +106,29 @@ never p (x ∷ xs) q e =
     other false t h = t
 
 -- a number of the range that passes is found among those that pass
-among : (p : ℕ → Bool) (q n a high : ℕ) → a + n ≡ high → a ≤ q → q < high → is_listed (filter p (range_with_len a n)) q ≡ p q
+among : (p : ℕ → Bool) (q n a high : ℕ) → a + n ≡ high → a ≤ q → q < high → is_one_of (filter p (range_with_len a n)) q ≡ p q
 among p q zero a high e low top = let none : ⊥ = omega (arith, e, low, top) in absurd none
 among p q (suc n) a high e low top =
     let e' : (a + 1) + n ≡ high = omega (arith, e) in
-    elim (nat_eq a q) as (λ b. nat_eq a q ≡ b → is_listed (filter p (a ∷ range_with_len (a + 1) n)) q ≡ p q) [
+    elim (nat_eq a q) as (λ b. nat_eq a q ≡ b → is_one_of (filter p (a ∷ range_with_len (a + 1) n)) q ≡ p q) [
       | true ↦ λ t. here (p a) refl t
       | false ↦ λ t. there (p a) refl t ∙ among p q n (a + 1) high e' (above a q low t) top
     ] refl
   where
-    here : (b : Bool) → p a ≡ b → nat_eq a q ≡ true → is_listed (filter p (a ∷ range_with_len (a + 1) n)) q ≡ p q
+    here : (b : Bool) → p a ≡ b → nat_eq a q ≡ true → is_one_of (filter p (a ∷ range_with_len (a + 1) n)) q ≡ p q
     here true h t =
-        ap (λ x. is_listed (cond x (a ∷ filter p (range_with_len (a + 1) n)) (filter p (range_with_len (a + 1) n))) q) h
-        ∙ ap (λ x. x || is_listed (filter p (range_with_len (a + 1) n)) q) t ∙ sym (ap p (sym (eqb-true a q t)) ∙ h)
+        ap (λ x. is_one_of (cond x (a ∷ filter p (range_with_len (a + 1) n)) (filter p (range_with_len (a + 1) n))) q) h
+        ∙ ap (λ x. x || is_one_of (filter p (range_with_len (a + 1) n)) q) t ∙ sym (ap p (sym (eqb-true a q t)) ∙ h)
     here false h t =
         let fails_here : p q ≡ false = ap p (sym (eqb-true a q t)) ∙ h in
-        ap (λ x. is_listed (cond x (a ∷ filter p (range_with_len (a + 1) n)) (filter p (range_with_len (a + 1) n))) q) h
+        ap (λ x. is_one_of (cond x (a ∷ filter p (range_with_len (a + 1) n)) (filter p (range_with_len (a + 1) n))) q) h
         ∙ never p (range_with_len (a + 1) n) q fails_here ∙ sym fails_here
 
-    there : (b : Bool) → p a ≡ b → nat_eq a q ≡ false → is_listed (filter p (a ∷ range_with_len (a + 1) n)) q ≡ is_listed (filter p (range_with_len (a + 1) n)) q
+    there : (b : Bool) → p a ≡ b → nat_eq a q ≡ false → is_one_of (filter p (a ∷ range_with_len (a + 1) n)) q ≡ is_one_of (filter p (range_with_len (a + 1) n)) q
     there true h t =
-        ap (λ x. is_listed (cond x (a ∷ filter p (range_with_len (a + 1) n)) (filter p (range_with_len (a + 1) n))) q) h
-        ∙ ap (λ x. x || is_listed (filter p (range_with_len (a + 1) n)) q) t
-    there false h t = ap (λ x. is_listed (cond x (a ∷ filter p (range_with_len (a + 1) n)) (filter p (range_with_len (a + 1) n))) q) h
+        ap (λ x. is_one_of (cond x (a ∷ filter p (range_with_len (a + 1) n)) (filter p (range_with_len (a + 1) n))) q) h
+        ∙ ap (λ x. x || is_one_of (filter p (range_with_len (a + 1) n)) q) t
+    there false h t = ap (λ x. is_one_of (cond x (a ∷ filter p (range_with_len (a + 1) n)) (filter p (range_with_len (a + 1) n))) q) h
 
 same_means : (v w : Value) → same_value v w ≡ true → v ≡ w
 same_means v w e = (equality.1 v w).0 e

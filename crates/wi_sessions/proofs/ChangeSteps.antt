@@ -1,5 +1,5 @@
 -- Laws of lists of changes, for one step of a loop over them.
-use Rattle.wi_sessions.proofs.Words.{◌≡◌, ◌==◌, ◌<◌, ◌+◌, ◌⊎◌, ℕ, cond, List, length, get_or, set, drop, Some, sym, ap, subst, ◌∙◌, arith, ⊎_elim, All, keys_of, cases_eq, eqb-true, or_cases, drop-set-lt, drop_more, get_or_default, All-set, Value, Empty, is_named, value_in, with_value, with_changes, is_listed, room_of, HasRoomFor, HasNoVacancy, VacantOnlyAt, HoldsTheSame}
+use Rattle.wi_sessions.proofs.Words.{◌≡◌, ◌==◌, ◌<◌, ◌+◌, ◌⊎◌, ℕ, cond, List, length, get_or, set, drop, Some, sym, ap, subst, ◌∙◌, arith, ⊎_elim, All, keys_of, cases_eq, eqb-true, or_cases, drop-set-lt, drop_more, get_or_default, All-set, Value, Empty, is_named, value_in, with_value, with_changes, is_one_of, room_of, HasRoomFor, HasNoVacancy, VacantOnlyAt, HoldsTheSame}
 use Rattle.wi_sessions.proofs.ChangeLists.{value_in-with}
 use Rattle.wi_sessions.proofs.RoomLemmas.{room_by_keys}
 use Rattle.wi_sessions.proofs.PictureLemmas.{same_after}
@@ -24,7 +24,7 @@ pub vacant_more : (cs : Entries) (cells : List ℕ) (i : ℕ) (d : ℕ × Value)
     → ((q : ℕ) → (q ≡ (get_or cs i d).0 → ⊥) → room_of new q ≡ room_of old q)
     → VacantOnlyAt Empty cells old → VacantOnlyAt Empty cells new
 vacant_more cs cells i d old new l same others h =
-    λ q v. ⊎_elim (λ p. ap (λ (ks : List ℕ). is_listed ks q) (sym same) ∙ is_named q cs i d l p) (λ apart. h q (sym (others q apart) ∙ v)) (cases_eq q (get_or cs i d).0)
+    λ q v. ⊎_elim (λ p. ap (λ (ks : List ℕ). is_one_of ks q) (sym same) ∙ is_named q cs i d l p) (λ apart. h q (sym (others q apart) ∙ v)) (cases_eq q (get_or cs i d).0)
 
 -- after the room of the i-th change was released
 pub vacant_less : (cs : Entries) (i : ℕ) (d : ℕ × Value) (old new : Entries) → i < length cs
@@ -33,7 +33,7 @@ pub vacant_less : (cs : Entries) (i : ℕ) (d : ℕ × Value) (old new : Entries
     → VacantOnlyAt Empty (keys_of (drop i cs)) old → VacantOnlyAt Empty (keys_of (drop (i + 1) cs)) new
 vacant_less cs i d old new l released kept h =
     λ q v. ⊎_elim (λ t. absurd (released (ap (λ (a : ℕ). room_of new a) (eqb-true _ q t) ∙ v))) (λ t. t)
-    (or_cases ((get_or cs i d).0 == q) _ (ap (λ (xs : Entries). is_listed (keys_of xs) q) (sym (drop_more cs i d l)) ∙ h q (kept q v)))
+    (or_cases ((get_or cs i d).0 == q) _ (ap (λ (xs : Entries). is_one_of (keys_of xs) q) (sym (drop_more cs i d l)) ∙ h q (kept q v)))
 
 -- ---- rooms for changes
 

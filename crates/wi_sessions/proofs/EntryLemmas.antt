@@ -1,12 +1,12 @@
 -- What stands in a map by cell once something is put in, replaced or taken away.
-use Rattle.wi_sessions.proofs.Words.{◌≡◌, ◌==◌, ℕ, Bool, true, false, cond, not, List, [], ◌∷◌, filter, Option, Some, None, refl, sym, ap, subst, ◌∙◌, arith, unwrap_or, is_some, IsStrictlySortedBy, nat_cmp, keys_of, lookup, remove_entry, set_value, is_at, eqb-true, ne_eqb, true≢false, eq_by_cmp_equiv, nat_cmp_total, keys-set_value, lookup-set_value, is_some-lookup, found-insert, found-without, Ascends, Ascends-filter, Ascends-from_order, Ascends-insert, ComeAfter, at_same, is_at-eq, order-from_Ascends, turn_test, is_listed}
+use Rattle.wi_sessions.proofs.Words.{◌≡◌, ◌==◌, ℕ, Bool, true, false, cond, not, List, [], ◌∷◌, filter, Option, Some, None, refl, sym, ap, subst, ◌∙◌, arith, unwrap_or, is_some, IsStrictlySortedBy, nat_cmp, keys_of, lookup, remove_entry, set_value, is_at, eqb-true, ne_eqb, true≢false, eq_by_cmp_equiv, nat_cmp_total, keys-set_value, lookup-set_value, is_some-lookup, found-insert, found-without, Ascends, Ascends-filter, Ascends-from_order, Ascends-insert, ComeAfter, at_same, is_at-eq, order-from_Ascends, turn_test, is_one_of}
 use Rattle.std.specs.Option.{IsSome}
 use Rattle.std.specs.BTreeMap.{insert_entry}
 use Rattle.wi_sessions.proofs.CellLemmas.{found_listed}
 
 module _ {X : Type 0} where
   -- whether a cell has something, as a look-up tells it
-  pub has_listed : (es : List (ℕ × X)) (q : ℕ) → is_some (lookup (is_at (nat_cmp q)) es) ≡ is_listed (keys_of es) q
+  pub has_listed : (es : List (ℕ × X)) (q : ℕ) → is_some (lookup (is_at (nat_cmp q)) es) ≡ is_one_of (keys_of es) q
   has_listed es q = is_some-lookup (is_at (nat_cmp q)) es ∙ found_listed q (keys_of es)
 
   -- ---- something put where nothing stands

@@ -1,5 +1,5 @@
 -- Laws of what is pending for all sessions, for each call.
-use Rattle.wi_sessions.proofs.Words.{◌⊎◌, ◌≡◌, ◌≢◌, ◌==◌, ◌<◌, ◌≤◌, ◌+◌, ◌||◌, ◌&&◌, ◌∙◌, ℕ, Bool, true, false, not, List, [], ◌∷◌, ◌++◌, map, length, get_or, set, drop, filter, Result, Ok, Err, ◌*◌, refl, sym, ap, subst, arith, ⊎_elim, zero, suc, inl, inr, Option, None, and-false, and-true, or-false, nat_lt, unwrap_or, IfOk, All, list_all, range_with_len, IsStrictlySortedBy, nat_cmp, keys_of, lookup, is_at, and_parts, both_ways, cases_eq, cases_lt, eq-eqb, ne_eqb, le-ltb, lt-ltb, get_or-set_same, length-append, length-set, All-filter, All-map, list_any-append, one_truth, rows, columns, filter_all, sheet_size, is_listed, Rises, AllPending, list_at, SameCells, Unread, has_bit, is_in, is_staged, cells_with, cells_in, vacant_in, pending_in, at_cells, SamePending, HasMade, HasCleared, is_unread, HasPlace, AreKept, AreLookedAt}
+use Rattle.wi_sessions.proofs.Words.{◌⊎◌, ◌≡◌, ◌≢◌, ◌==◌, ◌<◌, ◌≤◌, ◌+◌, ◌||◌, ◌&&◌, ◌∙◌, ℕ, Bool, true, false, not, List, [], ◌∷◌, ◌++◌, map, length, get_or, set, drop, filter, Result, Ok, Err, ◌*◌, refl, sym, ap, subst, arith, ⊎_elim, zero, suc, inl, inr, Option, None, and-false, and-true, or-false, nat_lt, unwrap_or, IfOk, All, list_all, range_with_len, IsStrictlySortedBy, nat_cmp, keys_of, lookup, is_at, and_parts, both_ways, cases_eq, cases_lt, eq-eqb, ne_eqb, le-ltb, lt-ltb, get_or-set_same, length-append, length-set, All-filter, All-map, list_any-append, one_truth, rows, columns, filter_all, sheet_size, is_one_of, Rises, AllPending, list_at, SameCells, Unread, has_bit, is_in, is_staged, cells_with, cells_in, vacant_in, pending_in, at_cells, SamePending, HasMade, HasCleared, is_unread, HasPlace, AreKept, AreLookedAt}
 use Rattle.wi_sessions.proofs.BitLemmas.{none_in_zero}
 use Rattle.wi_sessions.proofs.CellLemmas.{listed_filter, rises, same_listed}
 use Rattle.wi_sessions.proofs.WordLemmas.{Words, OthersStay}
@@ -34,15 +34,15 @@ list_same f g n j h =
 
 -- once the rooms are taken
 pub taken_at : (words staged none : Words) (n i q : ℕ) → Ordered words → none ≡ []
-    → is_listed (list_at (map (cells_in words none) (range_with_len 0 n)) i) q
-    ≡ (is_listed (list_at (map (cells_in words staged) (range_with_len 0 n)) i) q || is_listed (list_at (map (vacant_in words staged) (range_with_len 0 n)) i) q)
+    → is_one_of (list_at (map (cells_in words none) (range_with_len 0 n)) i) q
+    ≡ (is_one_of (list_at (map (cells_in words staged) (range_with_len 0 n)) i) q || is_one_of (list_at (map (vacant_in words staged) (range_with_len 0 n)) i) q)
 taken_at words staged none n i q order e = ⊎_elim
-    (λ l. ap (λ (xs : List ℕ). is_listed xs q) (list_there (cells_in words none) n i l) ∙ pending_taken words staged none i order e q
-    ∙ ap (λ (xs : List ℕ). is_listed xs q || is_listed (vacant_in words staged i) q) (sym (list_there (cells_in words staged) n i l))
-    ∙ ap (λ (xs : List ℕ). is_listed (list_at (map (cells_in words staged) (range_with_len 0 n)) i) q || is_listed xs q) (sym (list_there (vacant_in words staged) n i l)))
-    (λ l. ap (λ (xs : List ℕ). is_listed xs q) (list_beyond (cells_in words none) n i l)
-    ∙ sym (ap (λ (xs : List ℕ). is_listed xs q || is_listed (list_at (map (vacant_in words staged) (range_with_len 0 n)) i) q) (list_beyond (cells_in words staged) n i l)
-    ∙ ap (λ (xs : List ℕ). is_listed xs q) (list_beyond (vacant_in words staged) n i l)))
+    (λ l. ap (λ (xs : List ℕ). is_one_of xs q) (list_there (cells_in words none) n i l) ∙ pending_taken words staged none i order e q
+    ∙ ap (λ (xs : List ℕ). is_one_of xs q || is_one_of (vacant_in words staged i) q) (sym (list_there (cells_in words staged) n i l))
+    ∙ ap (λ (xs : List ℕ). is_one_of (list_at (map (cells_in words staged) (range_with_len 0 n)) i) q || is_one_of xs q) (sym (list_there (vacant_in words staged) n i l)))
+    (λ l. ap (λ (xs : List ℕ). is_one_of xs q) (list_beyond (cells_in words none) n i l)
+    ∙ sym (ap (λ (xs : List ℕ). is_one_of xs q || is_one_of (list_at (map (vacant_in words staged) (range_with_len 0 n)) i) q) (list_beyond (cells_in words staged) n i l)
+    ∙ ap (λ (xs : List ℕ). is_one_of xs q) (list_beyond (vacant_in words staged) n i l)))
     (cases_lt i n)
 
 -- ---- one session alone
@@ -56,16 +56,16 @@ module _ (words staged more rooms : Words) (i n bit : ℕ) (cells : List ℕ) (a
   elsewhere j apart = alone j ∙ ne_eqb j i apart
 
   not_elsewhere : (j c : ℕ) → j ≢ i → at_cells cells bit j c ≡ false
-  not_elsewhere j c apart = ap (λ t. is_listed cells c && t) (elsewhere j apart) ∙ and-false (is_listed cells c)
+  not_elsewhere j c apart = ap (λ t. is_one_of cells c && t) (elsewhere j apart) ∙ and-false (is_one_of cells c)
 
-  pub room_here : (q : ℕ) → is_listed (list_at (map (vacant_in more rooms) (range_with_len 0 n)) i) q
-      ≡ (is_listed (list_at (map (vacant_in words staged) (range_with_len 0 n)) i) q
-      || (is_listed cells q && not (is_listed (list_at (map (cells_in words staged) (range_with_len 0 n)) i) q)))
+  pub room_here : (q : ℕ) → is_one_of (list_at (map (vacant_in more rooms) (range_with_len 0 n)) i) q
+      ≡ (is_one_of (list_at (map (vacant_in words staged) (range_with_len 0 n)) i) q
+      || (is_one_of cells q && not (is_one_of (list_at (map (cells_in words staged) (range_with_len 0 n)) i) q)))
   room_here q =
-      ap (λ (xs : List ℕ). is_listed xs q) (list_there (vacant_in more rooms) n i l) ∙ vacant_made words staged more rooms a b (at_cells cells bit) h i q
-      ∙ ap (λ t. is_listed (vacant_in words staged i) q || (t && not (is_listed (cells_in words staged i) q))) (ap (λ t. is_listed cells q && t) here ∙ and-true (is_listed cells q))
-      ∙ ap (λ (xs : List ℕ). is_listed xs q || (is_listed cells q && not (is_listed (cells_in words staged i) q))) (sym (list_there (vacant_in words staged) n i l))
-      ∙ ap (λ (xs : List ℕ). is_listed (list_at (map (vacant_in words staged) (range_with_len 0 n)) i) q || (is_listed cells q && not (is_listed xs q))) (sym (list_there (cells_in words staged) n i l))
+      ap (λ (xs : List ℕ). is_one_of xs q) (list_there (vacant_in more rooms) n i l) ∙ vacant_made words staged more rooms a b (at_cells cells bit) h i q
+      ∙ ap (λ t. is_one_of (vacant_in words staged i) q || (t && not (is_one_of (cells_in words staged i) q))) (ap (λ t. is_one_of cells q && t) here ∙ and-true (is_one_of cells q))
+      ∙ ap (λ (xs : List ℕ). is_one_of xs q || (is_one_of cells q && not (is_one_of (cells_in words staged i) q))) (sym (list_there (vacant_in words staged) n i l))
+      ∙ ap (λ (xs : List ℕ). is_one_of (list_at (map (vacant_in words staged) (range_with_len 0 n)) i) q || (is_one_of cells q && not (is_one_of xs q))) (sym (list_there (cells_in words staged) n i l))
 
   pub room_elsewhere : (j : ℕ) → j ≢ i → list_at (map (vacant_in more rooms) (range_with_len 0 n)) j ≡ list_at (map (vacant_in words staged) (range_with_len 0 n)) j
   room_elsewhere j apart =
@@ -74,15 +74,15 @@ module _ (words staged more rooms : Words) (i n bit : ℕ) (cells : List ℕ) (a
 
   -- where its cells are looked at
   pub kept_here : (changed : List ℕ) (unread : List Unread) (u : Unread) → length unread ≡ n → AreKept words staged changed unread → HasPlace words changed i u
-      → ((c : ℕ) → is_listed cells c ≡ true → is_unread changed u c ≡ true) → AreKept more rooms changed (set unread i u)
+      → ((c : ℕ) → is_one_of cells c ≡ true → is_unread changed u c ≡ true) → AreKept more rooms changed (set unread i u)
   kept_here changed unread u e k p own =
       kept_made words staged changed (set unread i u)
       (kept_at words staged changed unread k changed (set unread i u) (length-set unread i u) (places_set words changed unread i u within k.places p))
       (at_cells cells bit) more rooms b h
       (λ j c m. not_elsewhere j c (λ (s : j ≡ i). let n' : n ≤ j = subst (λ (c : ℕ). c ≤ j) (length-set unread i u ∙ e) m in let none : Prim.⊥ = omega (arith, l, n', s) in none))
       (λ j c d m t. ⊎_elim
-      (λ s. subst (λ (v : Unread). is_unread changed v c ≡ true) (sym (at_i j d s)) (own c (and_parts (is_listed cells c) (has_bit j bit) t).0))
-      (λ apart. absurd (both_ways (has_bit j bit) (elsewhere j apart) (and_parts (is_listed cells c) (has_bit j bit) t).1))
+      (λ s. subst (λ (v : Unread). is_unread changed v c ≡ true) (sym (at_i j d s)) (own c (and_parts (is_one_of cells c) (has_bit j bit) t).0))
+      (λ apart. absurd (both_ways (has_bit j bit) (elsewhere j apart) (and_parts (is_one_of cells c) (has_bit j bit) t).1))
       (cases_eq j i))
     where
       within : i < length unread
@@ -151,22 +151,22 @@ module _ (words staged more rooms less : Words) (i n bit : ℕ) (a : Ordered wor
 -- ---- each session
 
 module _ (words staged more rooms : Words) (n : ℕ) (cells : List ℕ) (a : Ordered words) (b : Ordered more)
-    (h : HasMade (λ i c. is_listed cells c && nat_lt i n) words staged more rooms) where
-  pub room_each : (i q : ℕ) → i < n → is_listed (list_at (map (vacant_in more rooms) (range_with_len 0 n)) i) q
-      ≡ (is_listed (list_at (map (vacant_in words staged) (range_with_len 0 n)) i) q
-      || (is_listed cells q && not (is_listed (list_at (map (cells_in words staged) (range_with_len 0 n)) i) q)))
+    (h : HasMade (λ i c. is_one_of cells c && nat_lt i n) words staged more rooms) where
+  pub room_each : (i q : ℕ) → i < n → is_one_of (list_at (map (vacant_in more rooms) (range_with_len 0 n)) i) q
+      ≡ (is_one_of (list_at (map (vacant_in words staged) (range_with_len 0 n)) i) q
+      || (is_one_of cells q && not (is_one_of (list_at (map (cells_in words staged) (range_with_len 0 n)) i) q)))
   room_each i q l =
-      ap (λ (xs : List ℕ). is_listed xs q) (list_there (vacant_in more rooms) n i l) ∙ vacant_made words staged more rooms a b (λ j c. is_listed cells c && nat_lt j n) h i q
-      ∙ ap (λ t. is_listed (vacant_in words staged i) q || (t && not (is_listed (cells_in words staged i) q)))
-      (ap (λ t. is_listed cells q && t) (lt-ltb i n l) ∙ and-true (is_listed cells q))
-      ∙ ap (λ (xs : List ℕ). is_listed xs q || (is_listed cells q && not (is_listed (cells_in words staged i) q))) (sym (list_there (vacant_in words staged) n i l))
-      ∙ ap (λ (xs : List ℕ). is_listed (list_at (map (vacant_in words staged) (range_with_len 0 n)) i) q || (is_listed cells q && not (is_listed xs q))) (sym (list_there (cells_in words staged) n i l))
+      ap (λ (xs : List ℕ). is_one_of xs q) (list_there (vacant_in more rooms) n i l) ∙ vacant_made words staged more rooms a b (λ j c. is_one_of cells c && nat_lt j n) h i q
+      ∙ ap (λ t. is_one_of (vacant_in words staged i) q || (t && not (is_one_of (cells_in words staged i) q)))
+      (ap (λ t. is_one_of cells q && t) (lt-ltb i n l) ∙ and-true (is_one_of cells q))
+      ∙ ap (λ (xs : List ℕ). is_one_of xs q || (is_one_of cells q && not (is_one_of (cells_in words staged i) q))) (sym (list_there (vacant_in words staged) n i l))
+      ∙ ap (λ (xs : List ℕ). is_one_of (list_at (map (vacant_in words staged) (range_with_len 0 n)) i) q || (is_one_of cells q && not (is_one_of xs q))) (sym (list_there (cells_in words staged) n i l))
 
   pub kept_each : (changed : List ℕ) (unread : List Unread) → length unread ≡ n → AreKept words staged changed unread → AreLookedAt cells changed unread → AreKept more rooms changed unread
   kept_each changed unread e k look =
-      kept_made words staged changed unread k (λ i c. is_listed cells c && nat_lt i n) more rooms b h
-      (λ i c m. ap (λ t. is_listed cells c && t) (le-ltb i n (subst (λ (z : ℕ). z ≤ i) e m)) ∙ and-false (is_listed cells c))
-      (λ i c d m t. look i c d m (and_parts (is_listed cells c) (nat_lt i n) t).0)
+      kept_made words staged changed unread k (λ i c. is_one_of cells c && nat_lt i n) more rooms b h
+      (λ i c m. ap (λ t. is_one_of cells c && t) (le-ltb i n (subst (λ (z : ℕ). z ≤ i) e m)) ∙ and-false (is_one_of cells c))
+      (λ i c d m t. look i c d m (and_parts (is_one_of cells c) (nat_lt i n) t).0)
 
 -- ---- one session more
 
@@ -174,15 +174,15 @@ module _ (words staged more : Words) (changed : List ℕ) (unread : List Unread)
     (few : n < 64) (alone : (j : ℕ) → has_bit j bit ≡ (j == n)) (put : (j c : ℕ) → is_in more j c ≡ (is_in words j c || at_cells cells bit j c)) where
   as_before : (j c : ℕ) → j ≢ n → is_in more j c ≡ is_in words j c
   as_before j c apart =
-      put j c ∙ ap (λ t. is_in words j c || (is_listed cells c && t)) (alone j ∙ ne_eqb j n apart) ∙ ap (λ t. is_in words j c || t) (and-false (is_listed cells c))
+      put j c ∙ ap (λ t. is_in words j c || (is_one_of cells c && t)) (alone j ∙ ne_eqb j n apart) ∙ ap (λ t. is_in words j c || t) (and-false (is_one_of cells c))
       ∙ or-false (is_in words j c)
 
   none_before : (c : ℕ) → is_in words n c ≡ false
   none_before c = k.none n c (omega (arith, e))
 
-  new_has : (c : ℕ) → is_in more n c ≡ is_listed cells c
+  new_has : (c : ℕ) → is_in more n c ≡ is_one_of cells c
   new_has c =
-      put n c ∙ ap (λ t. t || (is_listed cells c && has_bit n bit)) (none_before c) ∙ ap (λ t. is_listed cells c && t) (alone n ∙ eq-eqb n n refl) ∙ and-true (is_listed cells c)
+      put n c ∙ ap (λ t. t || (is_one_of cells c && has_bit n bit)) (none_before c) ∙ ap (λ t. is_one_of cells c && t) (alone n ∙ eq-eqb n n refl) ∙ and-true (is_one_of cells c)
 
   apart_below : (i : ℕ) → i < n → i ≡ n → Prim.⊥
   apart_below i l s = let none : Prim.⊥ = omega (arith, l, s) in none
@@ -210,7 +210,7 @@ module _ (words staged more : Words) (changed : List ℕ) (unread : List Unread)
           same_listed (vacant_in more staged n) [] (ascend_vacant more staged n b) tt
           (λ q. listed_vacant more staged n b q ∙ ap (λ t. is_in more n q && t) (k.bare n q (omega (arith, e))) ∙ and-false (is_in more n q))
 
-  pub pushed_kept : u.from ≤ length changed → ((c : ℕ) → is_listed cells c ≡ true → is_unread changed u c ≡ true) → AreKept more staged changed (unread ++ u ∷ [])
+  pub pushed_kept : u.from ≤ length changed → ((c : ℕ) → is_one_of cells c ≡ true → is_unread changed u c ≡ true) → AreKept more staged changed (unread ++ u ∷ [])
   pushed_kept within own = record {
     order = b;
     few = subst (λ (m : ℕ). m ≤ 64) (sym (length-append unread (u ∷ []))) (omega (arith, e, few));
@@ -241,20 +241,20 @@ module _ (words staged more : Words) (a : Ordered words) (b : Ordered more) (bit
 pub each_has : (words staged : Words) (changed : List ℕ) (unread : List Unread) (at word bits n : ℕ) (answer : Bool) → length unread ≡ n → AreKept words staged changed unread
     → ((j : ℕ) → has_bit j word ≡ (is_in words j at && not (is_staged staged j at))) → ((j : ℕ) → has_bit j bits ≡ nat_lt j n)
     → (answer ≡ true → (j : ℕ) → has_bit j word ≡ has_bit j bits) → (((j : ℕ) → has_bit j word ≡ has_bit j bits) → answer ≡ true)
-    → answer ≡ list_all (λ cells. is_listed cells at) (map (cells_in words staged) (range_with_len 0 n))
+    → answer ≡ list_all (λ cells. is_one_of cells at) (map (cells_in words staged) (range_with_len 0 n))
 each_has words staged changed unread at word bits n answer e k is all alike unlike =
-    one_truth answer (list_all (λ cells. is_listed cells at) lists)
-    (λ t. all_pass (λ cells. is_listed cells at) (cells_in words staged) n (λ i l. listed i ∙ sym (is i) ∙ alike t i ∙ all i ∙ lt-ltb i n l))
+    one_truth answer (list_all (λ cells. is_one_of cells at) lists)
+    (λ t. all_pass (λ cells. is_one_of cells at) (cells_in words staged) n (λ i l. listed i ∙ sym (is i) ∙ alike t i ∙ all i ∙ lt-ltb i n l))
     (λ t. unlike (λ j. ⊎_elim
-    (λ l. is j ∙ sym (listed j) ∙ ap (λ (xs : List ℕ). is_listed xs at) (sym (list_there (cells_in words staged) n j l))
-    ∙ one_of_all_has (λ cells. is_listed cells at) lists j t (subst (λ (m : ℕ). j < m) (sym (so_many (cells_in words staged) n)) l) ∙ sym (all j ∙ lt-ltb j n l))
+    (λ l. is j ∙ sym (listed j) ∙ ap (λ (xs : List ℕ). is_one_of xs at) (sym (list_there (cells_in words staged) n j l))
+    ∙ one_of_all_has (λ cells. is_one_of cells at) lists j t (subst (λ (m : ℕ). j < m) (sym (so_many (cells_in words staged) n)) l) ∙ sym (all j ∙ lt-ltb j n l))
     (λ l. is j ∙ ap (λ b. b && not (is_staged staged j at)) (k.none j at (subst (λ (m : ℕ). m ≤ j) (sym e) l)) ∙ sym (all j ∙ le-ltb j n l))
     (cases_lt j n)))
   where
     lists : List (List ℕ)
     lists = map (cells_in words staged) (range_with_len 0 n)
 
-    listed : (i : ℕ) → is_listed (cells_in words staged i) at ≡ (is_in words i at && not (is_staged staged i at))
+    listed : (i : ℕ) → is_one_of (cells_in words staged i) at ≡ (is_in words i at && not (is_staged staged i at))
     listed i = listed_in words staged i k.order at
 
 zero_or_more : (n : ℕ) → (n ≡ 0) ⊎ (0 < n)
@@ -263,37 +263,37 @@ zero_or_more (suc n) = inr (omega arith)
 
 -- where the cell has no bits, it is pending for each of no sessions alone
 pub none_has : (words staged : Words) (at n : ℕ) (answer : Bool) → Ordered words → lookup (is_at (nat_cmp at)) words ≡ None → (answer ≡ true → n ≡ 0) → (n ≡ 0 → answer ≡ true)
-    → answer ≡ list_all (λ cells. is_listed cells at) (map (cells_in words staged) (range_with_len 0 n))
+    → answer ≡ list_all (λ cells. is_one_of cells at) (map (cells_in words staged) (range_with_len 0 n))
 none_has words staged at n answer order none few all =
-    one_truth answer (list_all (λ cells. is_listed cells at) (lists n))
-    (λ t. ap (λ (m : ℕ). list_all (λ cells. is_listed cells at) (lists m)) (few t))
-    (λ t. ⊎_elim all (λ some. absurd (both_ways (is_listed (cells_in words staged 0) at) unlisted (listed some t))) (zero_or_more n))
+    one_truth answer (list_all (λ cells. is_one_of cells at) (lists n))
+    (λ t. ap (λ (m : ℕ). list_all (λ cells. is_one_of cells at) (lists m)) (few t))
+    (λ t. ⊎_elim all (λ some. absurd (both_ways (is_one_of (cells_in words staged 0) at) unlisted (listed some t))) (zero_or_more n))
   where
     lists : ℕ → List (List ℕ)
     lists m = map (cells_in words staged) (range_with_len 0 m)
 
-    unlisted : is_listed (cells_in words staged 0) at ≡ false
+    unlisted : is_one_of (cells_in words staged 0) at ≡ false
     unlisted =
         listed_in words staged 0 order at
         ∙ ap (λ (o : Option ℕ). has_bit 0 (unwrap_or o 0) && not (is_staged staged 0 at)) none ∙ ap (λ b. b && not (is_staged staged 0 at)) (none_in_zero 0)
 
-    listed : 0 < n → list_all (λ cells. is_listed cells at) (lists n) ≡ true → is_listed (cells_in words staged 0) at ≡ true
+    listed : 0 < n → list_all (λ cells. is_one_of cells at) (lists n) ≡ true → is_one_of (cells_in words staged 0) at ≡ true
     listed some t =
-        ap (λ (xs : List ℕ). is_listed xs at) (sym (list_there (cells_in words staged) n 0 some))
-        ∙ one_of_all_has (λ cells. is_listed cells at) (lists n) 0 t (subst (λ (m : ℕ). 0 < m) (sym (so_many (cells_in words staged) n)) some)
+        ap (λ (xs : List ℕ). is_one_of xs at) (sym (list_there (cells_in words staged) n 0 some))
+        ∙ one_of_all_has (λ cells. is_one_of cells at) (lists n) 0 t (subst (λ (m : ℕ). 0 < m) (sym (so_many (cells_in words staged) n)) some)
 
 -- ---- the cells of a session, found where they stand
 
 pub found_cells : (words : Words) (changed : List ℕ) (i : ℕ) (u : Unread) (found sorted : List ℕ) → HasPlace words changed i u → u.anywhere ≡ false
-    → found ≡ filter (is_in words i) (drop u.from changed) ++ filter (is_in words i) u.own.items → ((c : ℕ) → is_listed sorted c ≡ is_listed found c)
-    → (c : ℕ) → is_listed sorted c ≡ is_in words i c
+    → found ≡ filter (is_in words i) (drop u.from changed) ++ filter (is_in words i) u.own.items → ((c : ℕ) → is_one_of sorted c ≡ is_one_of found c)
+    → (c : ℕ) → is_one_of sorted c ≡ is_in words i c
 found_cells words changed i u found sorted p n e same c =
-    same c ∙ ap (λ (xs : List ℕ). is_listed xs c) e
+    same c ∙ ap (λ (xs : List ℕ). is_one_of xs c) e
     ∙ list_any-append (λ d. d == c) (filter (is_in words i) (drop u.from changed)) (filter (is_in words i) u.own.items)
-    ∙ ap (λ b. b || is_listed (filter (is_in words i) u.own.items) c) (listed_filter (is_in words i) (drop u.from changed) c)
-    ∙ ap (λ b. (is_listed (drop u.from changed) c && is_in words i c) || b) (listed_filter (is_in words i) u.own.items c)
-    ∙ by (is_listed (drop u.from changed) c) (is_listed u.own.items c) (is_in words i c)
-    (λ t. sym (ap (λ b. b || (is_listed (drop u.from changed) c || is_listed u.own.items c)) n) ∙ p.found c t)
+    ∙ ap (λ b. b || is_one_of (filter (is_in words i) u.own.items) c) (listed_filter (is_in words i) (drop u.from changed) c)
+    ∙ ap (λ b. (is_one_of (drop u.from changed) c && is_in words i c) || b) (listed_filter (is_in words i) u.own.items c)
+    ∙ by (is_one_of (drop u.from changed) c) (is_one_of u.own.items c) (is_in words i c)
+    (λ t. sym (ap (λ b. b || (is_one_of (drop u.from changed) c || is_one_of u.own.items c)) n) ∙ p.found c t)
   where
     by : (b o s : Bool) → (s ≡ true → (b || o) ≡ true) → ((b && s) || (o && s)) ≡ s
     by true o true h = refl
@@ -308,53 +308,53 @@ if_ok_both (Err e) items p q f = tt
 
 -- ---- a session's bit taken from all its cells
 
-pub all_forgotten : (words less : Words) (all : List ℕ) (i count : ℕ) → less ≡ [] → count ≡ 1 → i < count → ((c : ℕ) → is_listed all c ≡ is_in words i c)
-    → ((j c : ℕ) → count ≤ j → is_in words j c ≡ false) → HasCleared (λ j c. is_listed all c && (j == i)) words less
+pub all_forgotten : (words less : Words) (all : List ℕ) (i count : ℕ) → less ≡ [] → count ≡ 1 → i < count → ((c : ℕ) → is_one_of all c ≡ is_in words i c)
+    → ((j c : ℕ) → count ≤ j → is_in words j c ≡ false) → HasCleared (λ j c. is_one_of all c && (j == i)) words less
 all_forgotten words less all i count e one l is none = λ j c.
     ap (λ (es : Words). is_in es j c) e ∙ none_in_zero j
     ∙ sym (⊎_elim
-    (λ (s : j ≡ i). subst (λ (k : ℕ). (is_in words k c && not (is_listed all c && (k == i))) ≡ false) (sym s)
-    (cleared (is_in words i c) (is_listed all c && (i == i)) (ap (λ t. is_listed all c && t) (eq-eqb i i refl) ∙ and-true (is_listed all c) ∙ is c)))
-    (λ (apart : j ≡ i → Prim.⊥). ap (λ t. t && not (is_listed all c && (j == i))) (none j c (beyond j apart)))
+    (λ (s : j ≡ i). subst (λ (k : ℕ). (is_in words k c && not (is_one_of all c && (k == i))) ≡ false) (sym s)
+    (cleared (is_in words i c) (is_one_of all c && (i == i)) (ap (λ t. is_one_of all c && t) (eq-eqb i i refl) ∙ and-true (is_one_of all c) ∙ is c)))
+    (λ (apart : j ≡ i → Prim.⊥). ap (λ t. t && not (is_one_of all c && (j == i))) (none j c (beyond j apart)))
     (cases_eq j i))
   where
     beyond : (j : ℕ) → (j ≡ i → Prim.⊥) → count ≤ j
     beyond j apart = omega (arith, one, l, apart)
 
-pub cleared_same : (all : List ℕ) (bit i : ℕ) (words less : Words) → ((j : ℕ) → has_bit j bit ≡ (j == i)) → HasCleared (at_cells all bit) words less → HasCleared (λ j c. is_listed all c && (j == i)) words less
-cleared_same all bit i words less e h = λ j c. h j c ∙ ap (λ t. is_in words j c && not (is_listed all c && t)) (e j)
+pub cleared_same : (all : List ℕ) (bit i : ℕ) (words less : Words) → ((j : ℕ) → has_bit j bit ≡ (j == i)) → HasCleared (at_cells all bit) words less → HasCleared (λ j c. is_one_of all c && (j == i)) words less
+cleared_same all bit i words less e h = λ j c. h j c ∙ ap (λ t. is_in words j c && not (is_one_of all c && t)) (e j)
 
 -- what is left of it
 module _ (words less staged : Words) (changed : List ℕ) (unread : List Unread) (u : Unread) (all : List ℕ) (i : ℕ) (k : AreKept words staged changed unread) (b : Ordered less)
-    (l : i < length unread) (is : (c : ℕ) → is_listed all c ≡ is_in words i c) (h : HasCleared (λ j c. is_listed all c && (j == i)) words less) where
-  test_here : (c : ℕ) → (is_listed all c && (i == i)) ≡ is_in words i c
-  test_here c = ap (λ t. is_listed all c && t) (eq-eqb i i refl) ∙ and-true (is_listed all c) ∙ is c
+    (l : i < length unread) (is : (c : ℕ) → is_one_of all c ≡ is_in words i c) (h : HasCleared (λ j c. is_one_of all c && (j == i)) words less) where
+  test_here : (c : ℕ) → (is_one_of all c && (i == i)) ≡ is_in words i c
+  test_here c = ap (λ t. is_one_of all c && t) (eq-eqb i i refl) ∙ and-true (is_one_of all c) ∙ is c
 
-  test_elsewhere : (j c : ℕ) → j ≢ i → (is_listed all c && (j == i)) ≡ false
-  test_elsewhere j c apart = ap (λ t. is_listed all c && t) (ne_eqb j i apart) ∙ and-false (is_listed all c)
+  test_elsewhere : (j c : ℕ) → j ≢ i → (is_one_of all c && (j == i)) ≡ false
+  test_elsewhere j c apart = ap (λ t. is_one_of all c && t) (ne_eqb j i apart) ∙ and-false (is_one_of all c)
 
   bit_gone : (c : ℕ) → is_in less i c ≡ false
-  bit_gone c = h i c ∙ cleared (is_in words i c) (is_listed all c && (i == i)) (test_here c)
+  bit_gone c = h i c ∙ cleared (is_in words i c) (is_one_of all c && (i == i)) (test_here c)
 
   pub forgotten_pending : map (cells_in less staged) (range_with_len 0 (length unread)) ≡ set (map (cells_in words staged) (range_with_len 0 (length unread))) i []
-  forgotten_pending = pending_cleared words less staged i (length unread) (λ j c. is_listed all c && (j == i)) k.order b h l test_here test_elsewhere
+  forgotten_pending = pending_cleared words less staged i (length unread) (λ j c. is_one_of all c && (j == i)) k.order b h l test_here test_elsewhere
 
   pub forgotten_vacant : map (vacant_in less staged) (range_with_len 0 (length unread)) ≡ set (map (vacant_in words staged) (range_with_len 0 (length unread))) i []
-  forgotten_vacant = vacant_cleared words less staged i (length unread) (λ j c. is_listed all c && (j == i)) k.order b h l test_here test_elsewhere
+  forgotten_vacant = vacant_cleared words less staged i (length unread) (λ j c. is_one_of all c && (j == i)) k.order b h l test_here test_elsewhere
 
   pub forgotten_kept : u.from ≡ length changed → AreKept less staged changed (set unread i u)
   forgotten_kept e =
-      let less_kept : AreKept less staged changed unread = kept_cleared words staged changed unread k (λ j c. is_listed all c && (j == i)) less b h in
+      let less_kept : AreKept less staged changed unread = kept_cleared words staged changed unread k (λ j c. is_one_of all c && (j == i)) less b h in
       kept_at less staged changed unread less_kept changed (set unread i u) (length-set unread i u)
       (places_set less changed unread i u l less_kept.places (record { within = omega (arith, e); found = λ c t. absurd (both_ways (is_in less i c) (bit_gone c) t) }))
 
 -- all cells of a session, as its lists tell them
 pub listed_told : (words staged : Words) (n i : ℕ) (p : AllPending) → Ordered words → pending_in words staged n ≡ p → i < n
-    → (q : ℕ) → (is_listed (list_at p.pending i) q || is_listed (list_at p.vacant i) q) ≡ is_in words i q
+    → (q : ℕ) → (is_one_of (list_at p.pending i) q || is_one_of (list_at p.vacant i) q) ≡ is_in words i q
 listed_told words staged n i p order v l q =
-    ap (λ (r : AllPending). is_listed (list_at r.pending i) q || is_listed (list_at r.vacant i) q) (sym v)
-    ∙ ap (λ (xs : List ℕ). is_listed xs q || is_listed (list_at (map (vacant_in words staged) (range_with_len 0 n)) i) q) (list_there (cells_in words staged) n i l)
-    ∙ ap (λ (xs : List ℕ). is_listed (cells_in words staged i) q || is_listed xs q) (list_there (vacant_in words staged) n i l) ∙ listed_either words staged i order q
+    ap (λ (r : AllPending). is_one_of (list_at r.pending i) q || is_one_of (list_at r.vacant i) q) (sym v)
+    ∙ ap (λ (xs : List ℕ). is_one_of xs q || is_one_of (list_at (map (vacant_in words staged) (range_with_len 0 n)) i) q) (list_there (cells_in words staged) n i l)
+    ∙ ap (λ (xs : List ℕ). is_one_of (cells_in words staged i) q || is_one_of xs q) (list_there (vacant_in words staged) n i l) ∙ listed_either words staged i order q
 
 -- its pending cells rise
 pub cells_rise : (words staged : Words) (n i : ℕ) (p : AllPending) → Ordered words → All (λ e. e.0 < rows * columns) words → pending_in words staged n ≡ p → i < n → Rises 0 sheet_size (list_at p.pending i)

@@ -1,5 +1,5 @@
 -- Laws of the places where each session's cells stand.
-use Rattle.wi_sessions.proofs.Words.{◌≡◌, ◌==◌, ◌<◌, ◌≤◌, ◌+◌, ◌||◌, ◌&&◌, ◌∙◌, ℕ, Bool, true, false, not, List, [], ◌∷◌, ◌++◌, length, get_or, set, drop, refl, sym, ap, subst, arith, ⊎_elim, and-true, nat_cmp, keys_of, cases_eq, cases_lt, both_ways, or_cases, or_left, or_right, and_parts, true≢false, false_from_ne_true, get_or-set_same, get_or-set_other, get_or_append_left, get_or_push, length-append, length-set, drop_all, drop-append-le, list_any-append, is_listed, Unread, is_in, is_staged, SamePending, HasMade, HasCleared, is_unread, HasPlace, HavePlaces, AreKept, AreLookedAt}
+use Rattle.wi_sessions.proofs.Words.{◌≡◌, ◌==◌, ◌<◌, ◌≤◌, ◌+◌, ◌||◌, ◌&&◌, ◌∙◌, ℕ, Bool, true, false, not, List, [], ◌∷◌, ◌++◌, length, get_or, set, drop, refl, sym, ap, subst, arith, ⊎_elim, and-true, nat_cmp, keys_of, cases_eq, cases_lt, both_ways, or_cases, or_left, or_right, and_parts, true≢false, false_from_ne_true, get_or-set_same, get_or-set_other, get_or_append_left, get_or_push, length-append, length-set, drop_all, drop-append-le, list_any-append, is_one_of, Unread, is_in, is_staged, SamePending, HasMade, HasCleared, is_unread, HasPlace, HavePlaces, AreKept, AreLookedAt}
 use Rattle.std.specs.List.Sorted.{IsStrictlySortedBy}
 use Rattle.wi_sessions.proofs.BitLemmas.{none_in_zero}
 use Rattle.wi_sessions.proofs.WordLemmas.{Words}
@@ -8,10 +8,10 @@ use Rattle.wi_sessions.proofs.WordLemmas.{Words}
 
 module _ (changed : List ℕ) (u : Unread) (c : ℕ) where
   abbrev pub behind : Bool
-  behind = is_listed (drop u.from changed) c
+  behind = is_one_of (drop u.from changed) c
 
   abbrev pub own : Bool
-  own = is_listed u.own.items c
+  own = is_one_of u.own.items c
 
   pub unread_anywhere : u.anywhere ≡ true → is_unread changed u c ≡ true
   unread_anywhere e = or_left u.anywhere (behind || own) e
@@ -27,37 +27,37 @@ module _ (changed : List ℕ) (u : Unread) (c : ℕ) where
 
 -- where the list grows, each cell that was looked at is, and those that came
 module _ (changed cells : List ℕ) (u : Unread) (c : ℕ) (l : u.from ≤ length changed) where
-  longer : behind (changed ++ cells) u c ≡ (behind changed u c || is_listed cells c)
-  longer = ap (λ (xs : List ℕ). is_listed xs c) (drop-append-le u.from changed cells l) ∙ list_any-append (λ d. d == c) (drop u.from changed) cells
+  longer : behind (changed ++ cells) u c ≡ (behind changed u c || is_one_of cells c)
+  longer = ap (λ (xs : List ℕ). is_one_of xs c) (drop-append-le u.from changed cells l) ∙ list_any-append (λ d. d == c) (drop u.from changed) cells
 
   pub unread_longer : is_unread changed u c ≡ true → is_unread (changed ++ cells) u c ≡ true
   unread_longer h =
       unread_cases changed u c h (unread_anywhere (changed ++ cells) u c)
-      (λ s. unread_behind (changed ++ cells) u c (longer ∙ or_left (behind changed u c) (is_listed cells c) s)) (unread_own (changed ++ cells) u c)
+      (λ s. unread_behind (changed ++ cells) u c (longer ∙ or_left (behind changed u c) (is_one_of cells c) s)) (unread_own (changed ++ cells) u c)
 
-  pub unread_new : is_listed cells c ≡ true → is_unread (changed ++ cells) u c ≡ true
-  unread_new h = unread_behind (changed ++ cells) u c (longer ∙ or_right (behind changed u c) (is_listed cells c) h)
+  pub unread_new : is_one_of cells c ≡ true → is_unread (changed ++ cells) u c ≡ true
+  unread_new h = unread_behind (changed ++ cells) u c (longer ∙ or_right (behind changed u c) (is_one_of cells c) h)
 
 -- own cells noted
 pub unread_noted : (changed cells : List ℕ) (u v : Unread) → v.anywhere ≡ u.anywhere → v.from ≡ u.from → v.own.items ≡ u.own.items ++ cells
-    → (c : ℕ) → (is_unread changed u c || is_listed cells c) ≡ true → is_unread changed v c ≡ true
+    → (c : ℕ) → (is_unread changed u c || is_one_of cells c) ≡ true → is_unread changed v c ≡ true
 unread_noted changed cells u v a f o c h =
     ⊎_elim (λ k. unread_cases changed u c k (λ t. unread_anywhere changed v c (a ∙ t))
-    (λ s. unread_behind changed v c (ap (λ (n : ℕ). is_listed (drop n changed) c) f ∙ s))
-    (λ t. unread_own changed v c (more ∙ or_left (own changed u c) (is_listed cells c) t)))
-    (λ k. unread_own changed v c (more ∙ or_right (own changed u c) (is_listed cells c) k))
-    (or_cases (is_unread changed u c) (is_listed cells c) h)
+    (λ s. unread_behind changed v c (ap (λ (n : ℕ). is_one_of (drop n changed) c) f ∙ s))
+    (λ t. unread_own changed v c (more ∙ or_left (own changed u c) (is_one_of cells c) t)))
+    (λ k. unread_own changed v c (more ∙ or_right (own changed u c) (is_one_of cells c) k))
+    (or_cases (is_unread changed u c) (is_one_of cells c) h)
   where
-    more : own changed v c ≡ (own changed u c || is_listed cells c)
-    more = ap (λ (xs : List ℕ). is_listed xs c) o ∙ list_any-append (λ d. d == c) u.own.items cells
+    more : own changed v c ≡ (own changed u c || is_one_of cells c)
+    more = ap (λ (xs : List ℕ). is_one_of xs c) o ∙ list_any-append (λ d. d == c) u.own.items cells
 
 -- the list begins anew: who had read all looks at its own cells alone
 pub unread_anew : (changed : List ℕ) (u v : Unread) → u.from ≡ length changed → v.anywhere ≡ u.anywhere → v.own.items ≡ u.own.items
     → (c : ℕ) → is_unread changed u c ≡ true → is_unread [] v c ≡ true
 unread_anew changed u v all a o c h =
     unread_cases changed u c h (λ t. unread_anywhere [] v c (a ∙ t))
-    (λ s. absurd (true≢false (sym s ∙ ap (λ (xs : List ℕ). is_listed xs c) (drop_all u.from changed (omega (arith, all))))))
-    (λ t. unread_own [] v c (ap (λ (xs : List ℕ). is_listed xs c) o ∙ t))
+    (λ s. absurd (true≢false (sym s ∙ ap (λ (xs : List ℕ). is_one_of xs c) (drop_all u.from changed (omega (arith, all))))))
+    (λ t. unread_own [] v c (ap (λ (xs : List ℕ). is_one_of xs c) o ∙ t))
 
 -- ---- all places
 

@@ -1,5 +1,5 @@
 -- Laws of the lists of pending cells, and of those with room only, of all sessions.
-use Rattle.wi_sessions.proofs.Words.{◌≡◌, ◌≢◌, ◌<◌, ◌≤◌, ◌+◌, ◌||◌, ◌&&◌, ◌∙◌, ℕ, zero, suc, Bool, true, false, not, List, [], ◌∷◌, ◌++◌, map, length, get_or, set, filter, refl, sym, ap, subst, arith, ⊎_elim, and-true, or-false, or-true, list_all, range_with_len, IsStrictlySortedBy, nat_cmp, keys_of, cases_eq, get_or_past, get_or-set_same, get_or-set_other, length-set, fill_by_all, get_or-map-range_with_len, length-map-range_with_len, map-range_with_len_more, is_listed, list_at, is_in, is_staged, cells_with, cells_in, vacant_in, SamePending, HasMade, HasCleared}
+use Rattle.wi_sessions.proofs.Words.{◌≡◌, ◌≢◌, ◌<◌, ◌≤◌, ◌+◌, ◌||◌, ◌&&◌, ◌∙◌, ℕ, zero, suc, Bool, true, false, not, List, [], ◌∷◌, ◌++◌, map, length, get_or, set, filter, refl, sym, ap, subst, arith, ⊎_elim, and-true, or-false, or-true, list_all, range_with_len, IsStrictlySortedBy, nat_cmp, keys_of, cases_eq, get_or_past, get_or-set_same, get_or-set_other, length-set, fill_by_all, get_or-map-range_with_len, length-map-range_with_len, map-range_with_len_more, is_one_of, list_at, is_in, is_staged, cells_with, cells_in, vacant_in, SamePending, HasMade, HasCleared}
 use Rattle.wi_sessions.proofs.CellLemmas.{Ascend, ascend_filter, listed_filter, same_listed}
 use Rattle.wi_sessions.proofs.WordLemmas.{Words, listed_with, ascend_with}
 
@@ -41,11 +41,11 @@ module _ (f : ℕ → List ℕ) (n : ℕ) where
 -- ---- what is listed
 
 module _ (words staged : Words) (i : ℕ) (order : IsStrictlySortedBy nat_cmp (keys_of words)) where
-  pub listed_in : (q : ℕ) → is_listed (cells_in words staged i) q ≡ (is_in words i q && not (is_staged staged i q))
+  pub listed_in : (q : ℕ) → is_one_of (cells_in words staged i) q ≡ (is_in words i q && not (is_staged staged i q))
   listed_in q =
       listed_filter (λ c. not (is_staged staged i c)) (cells_with words i) q ∙ ap (λ b. b && not (is_staged staged i q)) (listed_with words i order q)
 
-  pub listed_vacant : (q : ℕ) → is_listed (vacant_in words staged i) q ≡ (is_in words i q && is_staged staged i q)
+  pub listed_vacant : (q : ℕ) → is_one_of (vacant_in words staged i) q ≡ (is_in words i q && is_staged staged i q)
   listed_vacant q =
       listed_filter (λ c. is_staged staged i c) (cells_with words i) q ∙ ap (λ b. b && is_staged staged i q) (listed_with words i order q)
 
@@ -61,9 +61,9 @@ module _ (words staged : Words) (i : ℕ) (order : IsStrictlySortedBy nat_cmp (k
   split false v = refl
 
   -- pending or with room only
-  pub listed_either : (q : ℕ) → (is_listed (cells_in words staged i) q || is_listed (vacant_in words staged i) q) ≡ is_in words i q
+  pub listed_either : (q : ℕ) → (is_one_of (cells_in words staged i) q || is_one_of (vacant_in words staged i) q) ≡ is_in words i q
   listed_either q =
-      ap (λ b. b || is_listed (vacant_in words staged i) q) (listed_in q) ∙ ap (λ b. (is_in words i q && not (is_staged staged i q)) || b) (listed_vacant q)
+      ap (λ b. b || is_one_of (vacant_in words staged i) q) (listed_in q) ∙ ap (λ b. (is_in words i q && not (is_staged staged i q)) || b) (listed_vacant q)
       ∙ sym (split (is_in words i q) (is_staged staged i q))
 
   -- where no cell has the bit
@@ -106,12 +106,12 @@ module _ (words staged more rooms : Words) (a : IsStrictlySortedBy nat_cmp (keys
 
   -- for which cells there is room
   pub vacant_made : (test : ℕ → ℕ → Bool) → HasMade test words staged more rooms
-      → (i q : ℕ) → is_listed (vacant_in more rooms i) q ≡ (is_listed (vacant_in words staged i) q || (test i q && not (is_listed (cells_in words staged i) q)))
+      → (i q : ℕ) → is_one_of (vacant_in more rooms i) q ≡ (is_one_of (vacant_in words staged i) q || (test i q && not (is_one_of (cells_in words staged i) q)))
   vacant_made test h i q =
       listed_vacant more rooms i b q
       ∙ room_made (is_in words i q) (is_staged staged i q) (test i q) (is_in more i q) (is_staged rooms i q) (h.put i q) (h.made i q)
       ∙ ap (λ x. x || (test i q && not (is_in words i q && not (is_staged staged i q)))) (sym (listed_vacant words staged i a q))
-      ∙ ap (λ x. is_listed (vacant_in words staged i) q || (test i q && not x)) (sym (listed_in words staged i a q))
+      ∙ ap (λ x. is_one_of (vacant_in words staged i) q || (test i q && not x)) (sym (listed_in words staged i a q))
 
   -- and for which sessions there is as before
   pub vacant_stays : (test : ℕ → ℕ → Bool) → HasMade test words staged more rooms → (i : ℕ) → ((c : ℕ) → test i c ≡ false) → vacant_in more rooms i ≡ vacant_in words staged i
@@ -121,7 +121,7 @@ module _ (words staged more rooms : Words) (a : IsStrictlySortedBy nat_cmp (keys
 
 -- once those with room only are pending
 pub pending_taken : (words staged none : Words) (i : ℕ) → IsStrictlySortedBy nat_cmp (keys_of words) → none ≡ []
-    → (q : ℕ) → is_listed (cells_in words none i) q ≡ (is_listed (cells_in words staged i) q || is_listed (vacant_in words staged i) q)
+    → (q : ℕ) → is_one_of (cells_in words none i) q ≡ (is_one_of (cells_in words staged i) q || is_one_of (vacant_in words staged i) q)
 pending_taken words staged none i order e q =
     listed_in words none i order q ∙ ap (λ (rs : Words). is_in words i q && not (is_staged rs i q)) e ∙ and-true (is_in words i q) ∙ sym (listed_either words staged i order q)
 

@@ -1,5 +1,5 @@
 -- Laws of cells with a bit for each session, and of rooms.
-use Rattle.wi_sessions.proofs.Words.{◌≡◌, ◌==◌, ◌<◌, ◌≤◌, ◌+◌, ◌||◌, ◌&&◌, ◌∙◌, ℕ, Bool, true, false, cond, not, List, [], ◌∷◌, ◌++◌, length, take, get_or, filter, Option, Some, None, refl, sym, ap, subst, arith, and-false, and-true, or-false, or-true, unwrap_or, is_some, IsStrictlySortedBy, nat_cmp, keys_of, lookup, is_at, eqb-true, both_ways, take_all, append_assoc, append-nil, list_any-append, list_any_more, Ascends-filter, Ascends-from_order, is_at-eq, order-from_Ascends, is_listed, has_bit, is_in, is_staged, cells_with, at_cells, SamePending, HasMade, HasCleared}
+use Rattle.wi_sessions.proofs.Words.{◌≡◌, ◌==◌, ◌<◌, ◌≤◌, ◌+◌, ◌||◌, ◌&&◌, ◌∙◌, ℕ, Bool, true, false, cond, not, List, [], ◌∷◌, ◌++◌, length, take, get_or, filter, Option, Some, None, refl, sym, ap, subst, arith, and-false, and-true, or-false, or-true, unwrap_or, is_some, IsStrictlySortedBy, nat_cmp, keys_of, lookup, is_at, eqb-true, both_ways, take_all, append_assoc, append-nil, list_any-append, list_any_more, Ascends-filter, Ascends-from_order, is_at-eq, order-from_Ascends, is_one_of, has_bit, is_in, is_staged, cells_with, at_cells, SamePending, HasMade, HasCleared}
 use Rattle.wi_sessions.proofs.BitLemmas.{none_in_zero}
 use Rattle.wi_sessions.proofs.CellLemmas.{Ascend, ascend, same_listed}
 use Rattle.wi_sessions.proofs.EntryLemmas.{has_listed}
@@ -10,7 +10,7 @@ Words = List (ℕ × ℕ)
 
 -- ---- the cells that have a session's bit
 
-pub listed_with : (words : Words) (i : ℕ) → IsStrictlySortedBy nat_cmp (keys_of words) → (q : ℕ) → is_listed (cells_with words i) q ≡ is_in words i q
+pub listed_with : (words : Words) (i : ℕ) → IsStrictlySortedBy nat_cmp (keys_of words) → (q : ℕ) → is_one_of (cells_with words i) q ≡ is_in words i q
 listed_with words i h q =
     sym (has_listed (filter (λ e. has_bit i e.1) words) q)
     ∙ ap is_some (room_of-filter (has_bit i) words (Ascends-from_order words h) q) ∙ by (lookup (is_at (nat_cmp q)) words)
@@ -28,7 +28,7 @@ ascend_with words i h =
     ascend (cells_with words i) (order-from_Ascends (filter (λ e. has_bit i e.1) words) (Ascends-filter (λ e. has_bit i e.1) words (Ascends-from_order words h)))
 
 -- a list in order that has just these cells is theirs
-pub these_cells : (words : Words) (i : ℕ) (xs : List ℕ) → IsStrictlySortedBy nat_cmp (keys_of words) → Ascend xs → ((q : ℕ) → is_listed xs q ≡ is_in words i q) → xs ≡ cells_with words i
+pub these_cells : (words : Words) (i : ℕ) (xs : List ℕ) → IsStrictlySortedBy nat_cmp (keys_of words) → Ascend xs → ((q : ℕ) → is_one_of xs q ≡ is_in words i q) → xs ≡ cells_with words i
 these_cells words i xs h a e = same_listed xs (cells_with words i) a (ascend_with words i h) (λ q. e q ∙ sym (listed_with words i h q))
 
 -- ---- one cell changed
@@ -180,8 +180,8 @@ or_and false y b = refl
 pub one_more_cell : (cells : List ℕ) (k at bits : ℕ) → k < length cells → at ≡ get_or cells k at
     → (i c : ℕ) → at_cells (take (k + 1) cells) bits i c ≡ (at_cells (take k cells) bits i c || ((at == c) && has_bit i bits))
 one_more_cell cells k at bits l is i c =
-    ap (λ b. b && has_bit i bits) (list_any_more (λ d. d == c) cells k at l ∙ ap (λ d. is_listed (take k cells) c || (d == c)) (sym is))
-    ∙ or_and (is_listed (take k cells) c) (at == c) (has_bit i bits)
+    ap (λ b. b && has_bit i bits) (list_any_more (λ d. d == c) cells k at l ∙ ap (λ d. is_one_of (take k cells) c || (d == c)) (sym is))
+    ∙ or_and (is_one_of (take k cells) c) (at == c) (has_bit i bits)
 
 pub made_more : (cells : List ℕ) (k at bits : ℕ) (words staged more rooms wider noted : Words) → k < length cells → at ≡ get_or cells k at
     → HasMade (at_cells (take k cells) bits) words staged more rooms → HasMade (λ i c. (at == c) && has_bit i bits) more rooms wider noted
@@ -196,10 +196,10 @@ made_all cells k bits words staged more rooms l h = subst (λ xs. HasMade (at_ce
 
 -- the same, told by another test of sessions
 pub has_made_same : (cells : List ℕ) (bits : ℕ) (has : ℕ → Bool) (words staged more rooms : Words) → ((i : ℕ) → has_bit i bits ≡ has i) → HasMade (at_cells cells bits) words staged more rooms
-    → HasMade (λ i c. is_listed cells c && has i) words staged more rooms
+    → HasMade (λ i c. is_one_of cells c && has i) words staged more rooms
 has_made_same cells bits has words staged more rooms e h = record {
-  put = λ i c. h.put i c ∙ ap (λ b. is_in words i c || (is_listed cells c && b)) (e i);
-  made = λ i c. h.made i c ∙ ap (λ b. is_staged staged i c || ((is_listed cells c && b) && not (is_in words i c))) (e i);
+  put = λ i c. h.put i c ∙ ap (λ b. is_in words i c || (is_one_of cells c && b)) (e i);
+  made = λ i c. h.made i c ∙ ap (λ b. is_staged staged i c || ((is_one_of cells c && b) && not (is_in words i c))) (e i);
 }
 
 -- for sessions without a bit all is as it was
@@ -214,7 +214,7 @@ others_as_made bits test words staged more rooms h = λ i c n.
     )
 
 pub others_stay : (bits : ℕ) (cells : List ℕ) (words staged more rooms : Words) → HasMade (at_cells cells bits) words staged more rooms → OthersStay bits words staged more rooms
-others_stay bits cells words staged more rooms h = others_as_made bits (is_listed cells) words staged more rooms h
+others_stay bits cells words staged more rooms h = others_as_made bits (is_one_of cells) words staged more rooms h
 
 pub others_then : (bits : ℕ) (words staged more rooms wider noted : Words) → OthersStay bits words staged more rooms → OthersStay bits more rooms wider noted → OthersStay bits words staged wider noted
 others_then bits words staged more rooms wider noted h k = λ i c n. ((k i c n).0 ∙ (h i c n).0, (k i c n).1 ∙ (h i c n).1)

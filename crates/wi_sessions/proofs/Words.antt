@@ -44,7 +44,7 @@ pub use Rattle.wi_sessions.specs.Inner.Unread.{AreKept, AreLookedAt, HasPlace, H
 pub use Rattle.wi_sessions.specs.Pending.{AllPending, list_at}
 pub use Rattle.wi_sessions.specs.Pictures.{equality, same_value, value_in, with_changes, with_value}
 unfoldable pub use Rattle.wi_sessions.specs.Pictures.{sheet_size}
-pub use Rattle.wi_sessions.specs.Pictures.Laws.{AnyCells, PictureIsShown, Rises, every_cell, is_listed}
+pub use Rattle.wi_sessions.specs.Pictures.Laws.{AnyCells, PictureIsShown, Rises, every_cell}
 pub use Rattle.wi_sessions.specs.Roster.{Roster, SameCells, is_pending_for_all, pending_of, vacant_of}
 pub use Rattle.wi_sessions.specs.Sessions.{Session, has_session, index_of, new_session, told, using_scenario}
 pub use Rattle.wi_sessions.specs.declared.held.Held.{Held}
@@ -55,6 +55,6 @@ pub use Rattle.wi_values.proofs.Lists.{filter_all}
 pub use Rattle.wi_values.proofs.Lookups.{found-insert, found-without}
 pub use Rattle.wi_values.proofs.Order.{Ascends, Ascends-filter, Ascends-from_order, Ascends-insert, ComeAfter, ComeAfter-filter, at_itself, at_other, at_same, below_from_Less, come_after_earlier, is_at-eq, lookup_after, order-from_Ascends, turn_test}
 pub use Rattle.wi_values.proofs.Outcomes.{on_err, on_ok}
-pub use Rattle.wi_values.specs.Address.{columns, rows}
+pub use Rattle.wi_values.specs.Address.{columns, is_one_of, rows}
 pub use Rattle.wi_values.specs.declared.value.Value.{Value}
 pub use Rattle.wi_values.specs.declared.value.Value.TheVariants.{Empty, Fault, Logical, Number, Text}

@@ -8,7 +8,7 @@ ghost use Rattle.std.specs.Ordering.{nat_cmp};
 ghost use Rattle.std.specs.Map.{lookup, keys_of};
 ghost use Rattle.std.specs.BTreeMap.{is_at};
 ghost use Rattle.wi_tiles.specs.Entries.{IsOrdered};
-ghost use Rattle.wi_sessions.specs.Pictures.Laws.{is_listed};
+ghost use Rattle.wi_values.specs.Address.{is_one_of};
 ghost use Rattle.wi_sessions.specs.Inner.Cells.{has_bit, is_in, is_staged, cells_with, at_cells, SamePending, HasMade, HasCleared};
 
 use crate::bits::{common, has, is_bare, joined, without};
@@ -304,7 +304,7 @@ pub(crate) fn push_those(
 /// Puts cells into row-major order, each once.
 pub(crate) fn put_in_order(cells: &mut Vec<Address>)
     ensures order { IsStrictlyIncreasing cells.new.items }
-    ensures same { (c : ℕ) → is_listed cells.new.items c ≡ is_listed cells.old.items c }
+    ensures same { (c : ℕ) → is_one_of cells.new.items c ≡ is_one_of cells.old.items c }
 {
     if !rise(cells) {
         sort(cells);
@@ -314,7 +314,7 @@ pub(crate) fn put_in_order(cells: &mut Vec<Address>)
 /// The same by a sort.
 fn sort(cells: &mut Vec<Address>)
     ensures order { IsStrictlyIncreasing cells.new.items }
-    ensures same { (c : ℕ) → is_listed cells.new.items c ≡ is_listed cells.old.items c }
+    ensures same { (c : ℕ) → is_one_of cells.new.items c ≡ is_one_of cells.old.items c }
 {
     cells.sort_unstable();
     cells.dedup();

@@ -3,7 +3,8 @@
 ghost use Rattle.std.specs.Prelude.{◌≡◌, ◌≢◌, ◌<◌, ◌≤◌, ◌||◌, ◌&&◌, ◌++◌, ◌∷◌, ℕ, List, not, length, [], IfOk, OnOk, OnErr, true, false, nat_lt, filter, ◌==◌};
 ghost use Rattle.std.specs.List.{list_all, slice_set};
 ghost use Rattle.wi_sessions.specs.Pictures.{sheet_size};
-ghost use Rattle.wi_sessions.specs.Pictures.Laws.{is_listed, Rises};
+ghost use Rattle.wi_values.specs.Address.{is_one_of};
+ghost use Rattle.wi_sessions.specs.Pictures.Laws.{Rises};
 ghost use Rattle.wi_sessions.specs.Pending.{list_at};
 ghost use Rattle.std.specs.List.Sorted.{IsStrictlyIncreasing};
 ghost use Rattle.std.specs.Ordering.{nat_cmp};
@@ -99,9 +100,9 @@ impl Pending {
     pub(crate) fn make_room(&mut self, i: usize, cells: &[Address]) -> Result<(), AllocError>
         requires { i < length self.old.pending }
         ensures lists { self.new.pending ≡ self.old.pending }
-        ensures room { OnOk result ((a : ℕ) → is_listed (list_at self.new.vacant i) a
-            ≡ (is_listed (list_at self.old.vacant i) a
-            || (is_listed cells.now a && not (is_listed (list_at self.old.pending i) a)))) }
+        ensures room { OnOk result ((a : ℕ) → is_one_of (list_at self.new.vacant i) a
+            ≡ (is_one_of (list_at self.old.vacant i) a
+            || (is_one_of cells.now a && not (is_one_of (list_at self.old.pending i) a)))) }
         ensures refused { OnErr result (list_at self.new.vacant i ≡ []) }
         ensures others { (j : ℕ) → j ≢ i → list_at self.new.vacant j ≡ list_at self.old.vacant j }
     {
@@ -127,9 +128,9 @@ impl Pending {
     pub(crate) fn make_room_all(&mut self, cells: &[Address]) -> Result<(), AllocError>
         ensures pending { self.new.pending ≡ self.old.pending }
         ensures room { OnOk result ((i a : ℕ) → i < length self.old.pending
-            → is_listed (list_at self.new.vacant i) a
-            ≡ (is_listed (list_at self.old.vacant i) a
-            || (is_listed cells.now a && not (is_listed (list_at self.old.pending i) a)))) }
+            → is_one_of (list_at self.new.vacant i) a
+            ≡ (is_one_of (list_at self.old.vacant i) a
+            || (is_one_of cells.now a && not (is_one_of (list_at self.old.pending i) a)))) }
         ensures refused { OnErr result ((j : ℕ) → list_at self.new.vacant j ≡ []) }
     {
         let limit = self.words.len() / 2 + 64;
@@ -152,9 +153,9 @@ impl Pending {
     /// The cells for which there is room are pending now. Takes no memory, and no search.
     pub(crate) fn take(&mut self)
         ensures lists { length self.new.pending ≡ length self.old.pending }
-        ensures pending { (i a : ℕ) → is_listed (list_at self.new.pending i) a
-            ≡ (is_listed (list_at self.old.pending i) a
-            || is_listed (list_at self.old.vacant i) a) }
+        ensures pending { (i a : ℕ) → is_one_of (list_at self.new.pending i) a
+            ≡ (is_one_of (list_at self.old.pending i) a
+            || is_one_of (list_at self.old.vacant i) a) }
         ensures vacant { (i : ℕ) → list_at self.new.vacant i ≡ [] }
     {
         self.staged.clear();
@@ -170,7 +171,7 @@ impl Pending {
 
     /// Whether a cell is pending for each session. One look-up.
     pub(crate) fn all_have(&self, at: Address) -> bool
-        ensures { result ≡ list_all (λ cells. is_listed cells at) self.now.pending }
+        ensures { result ≡ list_all (λ cells. is_one_of cells at) self.now.pending }
     {
         match found(&self.words, at) {
             Some(bits) => {
@@ -185,8 +186,8 @@ impl Pending {
     pub(crate) fn all(&self, i: usize) -> Result<Vec<Address>, AllocError>
         requires { i < length self.now.pending }
         ensures { IfOk result (λ found.
-            (a : ℕ) → is_listed found.items a ≡ (is_listed (list_at self.now.pending i) a
-            || is_listed (list_at self.now.vacant i) a)) }
+            (a : ℕ) → is_one_of found.items a ≡ (is_one_of (list_at self.now.pending i) a
+            || is_one_of (list_at self.now.vacant i) a)) }
     {
         all_of(self.alloc, &self.words, &self.changed, &self.unread[i], i)
     }
@@ -219,8 +220,8 @@ impl Pending {
     /// for each; where there is one session, that of dropping them.
     pub(crate) fn clear(&mut self, i: usize, all: &[Address])
         requires within { i < length self.old.pending }
-        requires all { (a : ℕ) → is_listed all.now a ≡ (is_listed (list_at self.old.pending i) a
-            || is_listed (list_at self.old.vacant i) a) }
+        requires all { (a : ℕ) → is_one_of all.now a ≡ (is_one_of (list_at self.old.pending i) a
+            || is_one_of (list_at self.old.vacant i) a) }
         ensures pending { self.new.pending ≡ slice_set self.old.pending i [] }
         ensures vacant { self.new.vacant ≡ slice_set self.old.vacant i [] }
     {
@@ -267,8 +268,8 @@ fn looked_up(
 ) -> Result<Vec<Address>, AllocError>
     requires { i < 64 }
     ensures order { IfOk result (λ found. IsStrictlyIncreasing found.items) }
-    ensures same { IfOk result (λ found. (c : ℕ) → is_listed found.items c
-        ≡ is_listed (filter (is_in words.now.entries i) behind.now
+    ensures same { IfOk result (λ found. (c : ℕ) → is_one_of found.items c
+        ≡ is_one_of (filter (is_in words.now.entries i) behind.now
         ++ filter (is_in words.now.entries i) own.now) c) }
 {
     let mut found = Vec::new(alloc);
@@ -303,10 +304,10 @@ fn forget(words: &mut Words, all: &[Address], i: usize, count: usize)
     requires order { IsOrdered nat_cmp words.old }
     requires within { i < count }
     requires few { count ≤ 64 }
-    requires all { (c : ℕ) → is_listed all.now c ≡ is_in words.old.entries i c }
+    requires all { (c : ℕ) → is_one_of all.now c ≡ is_in words.old.entries i c }
     requires none { (j c : ℕ) → count ≤ j → is_in words.old.entries j c ≡ false }
     ensures order { IsOrdered nat_cmp words.new }
-    ensures less { HasCleared (λ j c. is_listed all.now c && j == i)
+    ensures less { HasCleared (λ j c. is_one_of all.now c && j == i)
         words.old.entries words.new.entries }
 {
     if count == 1 {
@@ -319,7 +320,7 @@ fn forget(words: &mut Words, all: &[Address], i: usize, count: usize)
 /// Where the cells of a new session stand, which are noted as its own.
 fn begun(alloc: Global, from: usize, cells: &[Address], limit: usize) -> Result<Unread, AllocError>
     ensures from { IfOk result (λ u. u.from ≡ from) }
-    ensures own { IfOk result (λ u. (changed : List ℕ) (c : ℕ) → is_listed cells.now c ≡ true
+    ensures own { IfOk result (λ u. (changed : List ℕ) (c : ℕ) → is_one_of cells.now c ≡ true
         → is_unread changed u c ≡ true) }
 {
     let mut unread = Unread::new(alloc, from);
@@ -364,7 +365,7 @@ fn stage_own(
         → is_unread changed own.new c ≡ true }
     ensures room { OnOk result (HasMade (at_cells cells.now bit)
         words.old.entries staged.old.items words.new.entries staged.new.items) }
-    ensures own { OnOk result ((changed : List ℕ) (c : ℕ) → is_listed cells.now c ≡ true
+    ensures own { OnOk result ((changed : List ℕ) (c : ℕ) → is_one_of cells.now c ≡ true
         → is_unread changed own.new c ≡ true) }
 {
     own.note(cells, limit)?;
@@ -390,7 +391,7 @@ fn stage_all(
     ensures places { (all : List (ℕ × ℕ)) → HavePlaces all changed.old.items unread.old.items
         → HavePlaces all changed.new.items unread.new.items }
     ensures room { OnOk result
-        (HasMade (λ i c. is_listed cells.now c && nat_lt i (length unread.old.items))
+        (HasMade (λ i c. is_one_of cells.now c && nat_lt i (length unread.old.items))
         words.old.entries staged.old.items words.new.entries staged.new.items) }
     ensures looked { OnOk result
         ((all : List (ℕ × ℕ)) → HavePlaces all changed.old.items unread.old.items

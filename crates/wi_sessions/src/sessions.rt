@@ -7,7 +7,8 @@ ghost use Rattle.std.specs.Map.{lookup};
 ghost use Rattle.std.specs.Rc.{rc_str_bytes};
 ghost use Rattle.std.specs.Str.{bytes_eq};
 ghost use Rattle.wi_sessions.specs.Pictures.{sheet_size};
-ghost use Rattle.wi_sessions.specs.Pictures.Laws.{is_listed, Rises};
+ghost use Rattle.wi_values.specs.Address.{is_one_of};
+ghost use Rattle.wi_sessions.specs.Pictures.Laws.{Rises};
 ghost use Rattle.wi_sessions.specs.Sessions.{new_session, told, using_scenario, has_session, index_of};
 ghost use Rattle.wi_sessions.specs.Roster.{session_at, pending_of, vacant_of, is_pending_for_all, SameCells};
 ghost use Rattle.wi_sessions.specs.Inner.Held.{with_name};
@@ -202,9 +203,9 @@ impl Sessions {
         requires { i < length self.old.sessions }
         ensures sessions { self.new.sessions ≡ self.old.sessions }
         ensures pending { self.new.pending ≡ self.old.pending }
-        ensures room { OnOk result ((a : ℕ) → is_listed (vacant_of self.new i) a
-            ≡ (is_listed (vacant_of self.old i) a
-            || (is_listed cells.now a && not (is_listed (pending_of self.old i) a)))) }
+        ensures room { OnOk result ((a : ℕ) → is_one_of (vacant_of self.new i) a
+            ≡ (is_one_of (vacant_of self.old i) a
+            || (is_one_of cells.now a && not (is_one_of (pending_of self.old i) a)))) }
         ensures refused { OnErr result (vacant_of self.new i ≡ []) }
         ensures others { (j : ℕ) → j ≢ i → vacant_of self.new j ≡ vacant_of self.old j }
     {
@@ -216,9 +217,9 @@ impl Sessions {
         ensures sessions { self.new.sessions ≡ self.old.sessions }
         ensures pending { self.new.pending ≡ self.old.pending }
         ensures room { OnOk result ((i a : ℕ) → i < length self.old.sessions
-            → is_listed (vacant_of self.new i) a
-            ≡ (is_listed (vacant_of self.old i) a
-            || (is_listed cells.now a && not (is_listed (pending_of self.old i) a)))) }
+            → is_one_of (vacant_of self.new i) a
+            ≡ (is_one_of (vacant_of self.old i) a
+            || (is_one_of cells.now a && not (is_one_of (pending_of self.old i) a)))) }
         ensures refused { OnErr result ((j : ℕ) → vacant_of self.new j ≡ []) }
     {
         self.pending.make_room_all(cells)
@@ -228,8 +229,8 @@ impl Sessions {
     pub fn take_all(&mut self)
         ensures sessions { self.new.sessions ≡ self.old.sessions }
         ensures lists { length self.new.pending ≡ length self.old.pending }
-        ensures pending { (i a : ℕ) → is_listed (pending_of self.new i) a
-            ≡ (is_listed (pending_of self.old i) a || is_listed (vacant_of self.old i) a) }
+        ensures pending { (i a : ℕ) → is_one_of (pending_of self.new i) a
+            ≡ (is_one_of (pending_of self.old i) a || is_one_of (vacant_of self.old i) a) }
         ensures vacant { (i : ℕ) → vacant_of self.new i ≡ [] }
     {
         self.pending.take();

@@ -1,7 +1,7 @@
 //! Where to look for the cells that are pending for a session.
 
 ghost use Rattle.std.specs.Prelude.{◌≡◌, ◌≤◌, ◌<◌, ℕ, List, true, length, [], OnOk};
-ghost use Rattle.wi_sessions.specs.Pictures.Laws.{is_listed};
+ghost use Rattle.wi_values.specs.Address.{is_one_of};
 ghost use Rattle.wi_sessions.specs.Inner.Unread.{is_unread, HavePlaces, AreLookedAt};
 
 use std::alloc::{AllocError, Global};
@@ -33,7 +33,7 @@ impl Unread {
         ensures from { self.new.from ≡ self.old.from }
         ensures stay { (changed : List ℕ) (c : ℕ) → is_unread changed self.old c ≡ true
             → is_unread changed self.new c ≡ true }
-        ensures own { OnOk result ((changed : List ℕ) (c : ℕ) → is_listed cells.now c ≡ true
+        ensures own { OnOk result ((changed : List ℕ) (c : ℕ) → is_one_of cells.now c ≡ true
             → is_unread changed self.new c ≡ true) }
     {
         if is_longer(self.own.len(), cells.len(), limit) {

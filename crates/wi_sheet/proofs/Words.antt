@@ -40,7 +40,7 @@ pub use Rattle.wi_graph.proofs.Tests.{clash, turned}
 pub use Rattle.wi_graph.proofs.Walks.{circular_is, circular_walks, first_step, formula_cell, reader_formula, same_cell, step, walks_circular}
 unfoldable pub use Rattle.wi_graph.specs.Circular.{circular}
 pub use Rattle.wi_graph.specs.Inner.Walks.{has_walk}
-pub use Rattle.wi_graph.specs.Reach.{AgreeFrom, IsInCone, Reaches, SameOff, Walks, in_cone, is_one_of}
+pub use Rattle.wi_graph.specs.Reach.{AgreeFrom, IsInCone, Reaches, SameOff, Walks, in_cone}
 unfoldable pub use Rattle.wi_graph.specs.Reach.{reaches}
 pub use Rattle.wi_parser.proofs.Rectangles.{one_cell, reads_within}
 pub use Rattle.wi_parser.specs.Leaves.{Leaf, all_leaves, cell_leaf, leaves, rectangle_leaf, what_if_leaf}
@@ -78,7 +78,7 @@ pub use Rattle.wi_values.proofs.Replacements.InOrder.{order_from_entries, same_f
 pub use Rattle.wi_values.proofs.Replacements.Overriding.{lookup-overridden, overridden-nothing}
 pub use Rattle.wi_values.proofs.Replacements.Same.{same_replacements_Decides}
 pub use Rattle.wi_values.proofs.Within.{column_of_place, fewer_places, places_left, row_of_place, within_between}
-pub use Rattle.wi_values.specs.Address.{Area, column_of, is_within, place, rect_of, row_of}
+pub use Rattle.wi_values.specs.Address.{Area, column_of, is_one_of, is_within, place, rect_of, row_of}
 pub use Rattle.wi_values.specs.Replacements.{IsInOrder, as_map, last_for, overridden, replaced, same_replacements}
 unfoldable pub use Rattle.wi_values.specs.Value.{shown_text}
 pub use Rattle.wi_values.specs.declared.replacement.Replacement.{Replacement}

@@ -3,7 +3,8 @@ use Rattle.std.specs.Prelude.{◌≡◌, ◌⊎◌, ◌||◌, ℕ, Bool, true, f
 use Rattle.wi_values.specs.declared.replacement.Replacement.{Replacement}
 use Rattle.wi_values.specs.Replacements.{last_for}
 use Rattle.wi_parser.specs.Sheet.{Sheet, content_of, has_formula}
-use Rattle.wi_graph.specs.Reach.{is_one_of, SameOff}
+use Rattle.wi_values.specs.Address.{is_one_of}
+use Rattle.wi_graph.specs.Reach.{SameOff}
 use Rattle.wi_sheet.specs.Shown.{shown}
 
 -- both lists of replacements say the same of all cells but these, replaced and not replaced alike

@@ -1,6 +1,6 @@
 -- Addresses and rectangles. A cell's address is its place in row-major order: row after row, in each from the left.
 use Rattle.std.specs.Prelude.{ℕ, ◌+◌, ◌-◌, ◌*◌, ◌/◌, ◌%◌, ◌^◌, ◌≤◌, min, max, List, [], ◌∷◌, ◌++◌, Bool, ◌&&◌, not, ◌==◌, nat_lt, nat_le, length, slice_index, if◌then◌else◌, map, decimal}
-use Rattle.std.specs.List.{range_with_len, flat_map}
+use Rattle.std.specs.List.{range_with_len, flat_map, list_any}
 use Rattle.std.specs.Char.{to_ascii_uppercase}
 use Rattle.std.specs.Str.{byte, all_ascii_digits}
 use Rattle.wi_fraction.specs.Text.{Bytes}
@@ -20,6 +20,10 @@ row_of a = a / columns
 
 abbrev pub column_of : ℕ → ℕ
 column_of a = a % columns
+
+-- the cell is one of these
+abbrev pub is_one_of : List ℕ → ℕ → Bool
+is_one_of cells c = list_any (λ x. x == c) cells
 
 -- ---- rectangles
 

@@ -1,5 +1,5 @@
 -- Replacements that are picked by their cells are those that are of one of the cells.
-use Rattle.wi_worlds.proofs.Words.{◌≡◌, ◌==◌, ◌||◌, ℕ, Bool, true, false, cond, List, [], ◌∷◌, map, filter, Option, Some, None, is_some, refl, sym, ap, ◌∙◌, subst, option_map, IsStrictlyIncreasing, IsStrictlyIncreasing-filter, eqb-true, Value, Replacement, IsInOrder, replaced, is_at-eq, turn_test, same_from_replaced, order_of_filter, replaced-filter, has_cell, is_of, and_then, picked}
+use Rattle.wi_worlds.proofs.Words.{◌≡◌, ◌==◌, ◌||◌, ℕ, Bool, true, false, cond, List, [], ◌∷◌, map, filter, Option, Some, None, is_some, refl, sym, ap, ◌∙◌, subst, option_map, IsStrictlyIncreasing, IsStrictlyIncreasing-filter, eqb-true, Value, Replacement, IsInOrder, replaced, is_at-eq, turn_test, same_from_replaced, order_of_filter, replaced-filter, is_one_of, is_of, and_then, picked}
 
 abbrev of_value : ℕ → Option Value → Option Replacement
 of_value c o = option_map (λ v. record { at = c; value = v }) o
@@ -20,7 +20,7 @@ order_picked rs cs h = subst IsStrictlyIncreasing (sym (cells_picked rs cs)) (Is
 
 -- ---- what an address has among them
 
-replaced_picked : (rs : List Replacement) (cs : List ℕ) (a : ℕ) → replaced (picked rs cs) a ≡ cond (has_cell cs a) (replaced rs a) None
+replaced_picked : (rs : List Replacement) (cs : List ℕ) (a : ℕ) → replaced (picked rs cs) a ≡ cond (is_one_of cs a) (replaced rs a) None
 replaced_picked rs [] a = refl
 replaced_picked rs (c ∷ cs) a = by (replaced rs c) refl (c == a) refl (replaced_picked rs cs a)
   where
@@ -34,9 +34,9 @@ replaced_picked rs (c ∷ cs) a = by (replaced rs c) refl (c == a) refl (replace
     nothing true o e = refl
     nothing false o e = sym e
 
-    by : (o : Option Value) → replaced rs c ≡ o → (b : Bool) → (c == a) ≡ b → replaced (picked rs cs) a ≡ cond (has_cell cs a) (replaced rs a) None
-        → replaced (and_then (of_value c o) (picked rs cs)) a ≡ cond (b || has_cell cs a) (replaced rs a) None
-    by None e true t h = h ∙ nothing (has_cell cs a) (replaced rs a) (there t ∙ e)
+    by : (o : Option Value) → replaced rs c ≡ o → (b : Bool) → (c == a) ≡ b → replaced (picked rs cs) a ≡ cond (is_one_of cs a) (replaced rs a) None
+        → replaced (and_then (of_value c o) (picked rs cs)) a ≡ cond (b || is_one_of cs a) (replaced rs a) None
+    by None e true t h = h ∙ nothing (is_one_of cs a) (replaced rs a) (there t ∙ e)
     by None e false t h = h
     by (Some v) e true t h = at_front v true t ∙ sym (there t ∙ e)
     by (Some v) e false t h = at_front v false t ∙ h
@@ -44,4 +44,4 @@ replaced_picked rs (c ∷ cs) a = by (replaced rs c) refl (c == a) refl (replace
 pub picked_is : (rs : List Replacement) (cs : List ℕ) → IsInOrder rs → IsStrictlyIncreasing cs → picked rs cs ≡ filter (is_of cs) rs
 picked_is rs cs order rise =
     same_from_replaced (picked rs cs) (filter (is_of cs) rs) (order_picked rs cs rise) (order_of_filter (is_of cs) rs order)
-    (λ a. replaced_picked rs cs a ∙ sym (replaced-filter (has_cell cs) a rs))
+    (λ a. replaced_picked rs cs a ∙ sym (replaced-filter (is_one_of cs) a rs))

@@ -1,5 +1,5 @@
 -- Cells in row-major order: a search among them, and one put in.
-use Rattle.wi_worlds.proofs.Words.{◌≡◌, ◌==◌, ◌<◌, ◌≤◌, ◌+◌, ◌-◌, ◌||◌, ℕ, zero, suc, Bool, true, false, List, [], ◌∷◌, length, get_or, Result, Ok, Err, MatchResult, ⊎_elim, refl, sym, ap, ◌∙◌, subst, arith, nat_cmp, is_ok, insert, IsStrictlyIncreasing, IsBinarySearchResult, cases_lt, or_right, nat_tests, length-insert, get_or-insert_below, get_or-insert_at, get_or-insert_above, searched, IsPermutation-insert, list_any-IsPermutation, sorted_from_strictly_increasing, non_decreasing_from_sorted, has_cell}
+use Rattle.wi_worlds.proofs.Words.{◌≡◌, ◌==◌, ◌<◌, ◌≤◌, ◌+◌, ◌-◌, ◌||◌, ℕ, zero, suc, Bool, true, false, List, [], ◌∷◌, length, get_or, Result, Ok, Err, MatchResult, ⊎_elim, refl, sym, ap, ◌∙◌, subst, arith, nat_cmp, is_ok, insert, IsStrictlyIncreasing, IsBinarySearchResult, cases_lt, or_right, nat_tests, length-insert, get_or-insert_below, get_or-insert_at, get_or-insert_above, searched, IsPermutation-insert, list_any-IsPermutation, sorted_from_strictly_increasing, non_decreasing_from_sorted, is_one_of}
 
 -- ---- a search
 
@@ -9,15 +9,15 @@ itself x c e = grind (arith, nat_tests, e)
 other : (x c : ℕ) → (x ≡ c → ⊥) → (x == c) ≡ false
 other x c h = grind (arith, nat_tests, h)
 
-pub has_at : (xs : List ℕ) (i c : ℕ) → i < length xs → get_or xs i 0 ≡ c → has_cell xs c ≡ true
+pub has_at : (xs : List ℕ) (i c : ℕ) → i < length xs → get_or xs i 0 ≡ c → is_one_of xs c ≡ true
 has_at [] i c l e = absurd (omega (arith, l))
-has_at (x ∷ xs) zero c l e = ap (λ b. b || has_cell xs c) (itself x c e)
+has_at (x ∷ xs) zero c l e = ap (λ b. b || is_one_of xs c) (itself x c e)
 has_at (x ∷ xs) (suc i) c l e = or_right _ _ (has_at xs i c (omega (arith, l)) e)
 
-has_nowhere : (xs : List ℕ) (c : ℕ) → ((k : ℕ) → k < length xs → get_or xs k 0 ≡ c → ⊥) → has_cell xs c ≡ false
+has_nowhere : (xs : List ℕ) (c : ℕ) → ((k : ℕ) → k < length xs → get_or xs k 0 ≡ c → ⊥) → is_one_of xs c ≡ false
 has_nowhere [] c h = refl
 has_nowhere (x ∷ xs) c h =
-    ap (λ b. b || has_cell xs c) (other x c (h 0 (omega arith))) ∙ has_nowhere xs c (λ k l e. h (suc k) (omega (arith, l)) e)
+    ap (λ b. b || is_one_of xs c) (other x c (h 0 (omega arith))) ∙ has_nowhere xs c (λ k l e. h (suc k) (omega (arith, l)) e)
 
 -- what a binary search says
 abbrev pub Searched : List ℕ → ℕ → Result ℕ ℕ → Type 0
@@ -28,27 +28,27 @@ pub searched_in : (xs : List ℕ) (c : ℕ) (r : Result ℕ ℕ) → IsStrictlyI
 searched_in xs c r order h =
     searched xs c r h (λ i j l m. non_decreasing_from_sorted xs (sorted_from_strictly_increasing xs order) i j 0 l m)
 
-pub search_tells : (xs : List ℕ) (c : ℕ) (r : Result ℕ ℕ) → IsStrictlyIncreasing xs → IsBinarySearchResult (λ y. nat_cmp y c) xs r → is_ok r ≡ has_cell xs c
+pub search_tells : (xs : List ℕ) (c : ℕ) (r : Result ℕ ℕ) → IsStrictlyIncreasing xs → IsBinarySearchResult (λ y. nat_cmp y c) xs r → is_ok r ≡ is_one_of xs c
 search_tells xs c r order h = by r (searched_in xs c r order h)
   where
-    by : (s : Result ℕ ℕ) → Searched xs c s → is_ok s ≡ has_cell xs c
+    by : (s : Result ℕ ℕ) → Searched xs c s → is_ok s ≡ is_one_of xs c
     by (Ok i) f = sym (has_at xs i c f.0 f.1)
     by (Err i) f = sym (has_nowhere xs c (λ k l e. ⊎_elim (λ m. omega (arith, f.1 k m, e)) (λ m. omega (arith, f.2 k m l, e)) (cases_lt k i)))
 
 -- ---- one more
 
 -- a cell that is there is put in
-pub has_still : (xs : List ℕ) (x c : ℕ) → has_cell xs x ≡ true → has_cell xs c ≡ ((x == c) || has_cell xs c)
+pub has_still : (xs : List ℕ) (x c : ℕ) → is_one_of xs x ≡ true → is_one_of xs c ≡ ((x == c) || is_one_of xs c)
 has_still xs x c h = by (x == c) refl
   where
     same : (x == c) ≡ true → x ≡ c
     same t = grind (arith, nat_tests, t)
 
-    by : (b : Bool) → (x == c) ≡ b → has_cell xs c ≡ (b || has_cell xs c)
-    by true t = subst (λ (y : ℕ). has_cell xs y ≡ true) (same t) h
+    by : (b : Bool) → (x == c) ≡ b → is_one_of xs c ≡ (b || is_one_of xs c)
+    by true t = subst (λ (y : ℕ). is_one_of xs y ≡ true) (same t) h
     by false t = refl
 
-pub has_more : (xs : List ℕ) (i x c : ℕ) → has_cell (insert xs i x) c ≡ ((x == c) || has_cell xs c)
+pub has_more : (xs : List ℕ) (i x c : ℕ) → is_one_of (insert xs i x) c ≡ ((x == c) || is_one_of xs c)
 has_more xs i x c = sym (list_any-IsPermutation (λ y. y == c) (x ∷ xs) (insert xs i x) (IsPermutation-insert xs i x))
 
 module _ (xs : List ℕ) (i c : ℕ) (order : IsStrictlyIncreasing xs) (within : i ≤ length xs)

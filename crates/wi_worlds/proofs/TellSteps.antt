@@ -1,26 +1,26 @@
 -- What is told of cells: one pair more, and a list of them.
-use Rattle.wi_worlds.proofs.Words.{◌≡◌, ◌==◌, ◌<◌, ◌+◌, ◌&&◌, ◌||◌, ◌⊎◌, inl, inr, ℕ, Bool, true, false, cond, List, [], ◌∷◌, length, take, drop, get_or, Option, Some, None, nat_eq, refl, sym, ap, ◌∙◌, subst, add-one, lookup, unwrap_or, or-false, take-suc, or_cases, or_left, or_right, and_parts, false≢true, eqb-true, take-append-drop, list_any-append, is_itself, has_cell, Told, told, told_cells, AddsOf}
+use Rattle.wi_worlds.proofs.Words.{◌≡◌, ◌==◌, ◌<◌, ◌+◌, ◌&&◌, ◌||◌, ◌⊎◌, inl, inr, ℕ, Bool, true, false, cond, List, [], ◌∷◌, length, take, drop, get_or, Option, Some, None, nat_eq, refl, sym, ap, ◌∙◌, subst, add-one, lookup, unwrap_or, or-false, take-suc, or_cases, or_left, or_right, and_parts, false≢true, eqb-true, take-append-drop, list_any-append, is_itself, is_one_of, Told, told, told_cells, AddsOf}
 
 -- ---- at one cell
 
 -- its cells are w in the place of v, and those of others are as they were
 module _ (cell : ℕ) (v w : List ℕ) (es fs : Told) (old : told_cells es cell ≡ v)
     (put : (q : ℕ) → lookup (nat_eq q) fs ≡ cond (nat_eq cell q) (Some w) (lookup (nat_eq q) es)) where
-  told_is : (c b : ℕ) → told fs c b ≡ cond (nat_eq cell c) (has_cell w b) (told es c b)
-  told_is c b = ap (λ (o : Option (List ℕ)). has_cell (unwrap_or o []) b) (put c) ∙ by (nat_eq cell c)
+  told_is : (c b : ℕ) → told fs c b ≡ cond (nat_eq cell c) (is_one_of w b) (told es c b)
+  told_is c b = ap (λ (o : Option (List ℕ)). is_one_of (unwrap_or o []) b) (put c) ∙ by (nat_eq cell c)
     where
-      by : (t : Bool) → has_cell (unwrap_or (cond t (Some w) (lookup (nat_eq c) es)) []) b ≡ cond t (has_cell w b) (told es c b)
+      by : (t : Bool) → is_one_of (unwrap_or (cond t (Some w) (lookup (nat_eq c) es)) []) b ≡ cond t (is_one_of w b) (told es c b)
       by true = refl
       by false = refl
 
-  old_there : (c b : ℕ) → nat_eq cell c ≡ true → told es c b ≡ has_cell v b
-  old_there c b t = ap (λ (q : ℕ). told es q b) (sym (eqb-true cell c t)) ∙ ap (λ (xs : List ℕ). has_cell xs b) old
+  old_there : (c b : ℕ) → nat_eq cell c ≡ true → told es c b ≡ is_one_of v b
+  old_there c b t = ap (λ (q : ℕ). told es q b) (sym (eqb-true cell c t)) ∙ ap (λ (xs : List ℕ). is_one_of xs b) old
 
   -- with a cell more
-  pub told_more : (a : ℕ) → ((b : ℕ) → has_cell w b ≡ ((a == b) || has_cell v b)) → (c b : ℕ) → told fs c b ≡ (((cell == c) && (a == b)) || told es c b)
+  pub told_more : (a : ℕ) → ((b : ℕ) → is_one_of w b ≡ ((a == b) || is_one_of v b)) → (c b : ℕ) → told fs c b ≡ (((cell == c) && (a == b)) || told es c b)
   told_more a more c b = told_is c b ∙ by (nat_eq cell c) refl
     where
-      by : (t : Bool) → nat_eq cell c ≡ t → cond t (has_cell w b) (told es c b) ≡ ((t && (a == b)) || told es c b)
+      by : (t : Bool) → nat_eq cell c ≡ t → cond t (is_one_of w b) (told es c b) ≡ ((t && (a == b)) || told es c b)
       by true t = more b ∙ ap (λ (x : Bool). (a == b) || x) (sym (old_there c b t))
       by false t = refl
 
@@ -28,8 +28,8 @@ module _ (cell : ℕ) (v w : List ℕ) (es fs : Told) (old : told_cells es cell 
   pub told_same : w ≡ v → (c b : ℕ) → told fs c b ≡ told es c b
   told_same e c b = told_is c b ∙ by (nat_eq cell c) refl
     where
-      by : (t : Bool) → nat_eq cell c ≡ t → cond t (has_cell w b) (told es c b) ≡ told es c b
-      by true t = ap (λ (xs : List ℕ). has_cell xs b) e ∙ sym (old_there c b t)
+      by : (t : Bool) → nat_eq cell c ≡ t → cond t (is_one_of w b) (told es c b) ≡ told es c b
+      by true t = ap (λ (xs : List ℕ). is_one_of xs b) e ∙ sym (old_there c b t)
       by false t = refl
 
 -- where nothing was told of it
@@ -38,30 +38,30 @@ pub told_first : (cell a : ℕ) (value : List ℕ) (es ms fs : Told) → ms ≡ 
 told_first cell a value es ms fs same none first put =
     told_more cell [] value es fs (ap (λ (o : Option (List ℕ)). unwrap_or o []) none)
     (λ q. put q ∙ ap (λ (ts : Told). cond (nat_eq cell q) (Some value) (lookup (nat_eq q) ts)) same)
-    a (λ b. ap (λ (xs : List ℕ). has_cell xs b) first)
+    a (λ b. ap (λ (xs : List ℕ). is_one_of xs b) first)
 
 pub told_as_before : (es fs : Told) → fs ≡ es → (c b : ℕ) → told fs c b ≡ told es c b
 told_as_before es fs same c b = ap (λ (ts : Told). told ts c b) same
 
 -- ---- at a list of cells
 
-pub has_next_more : (xs : List ℕ) (i x c : ℕ) → i < length xs → x ≡ get_or xs i x → has_cell (take (i + 1) xs) c ≡ (has_cell (take i xs) c || (x == c))
+pub has_next_more : (xs : List ℕ) (i x c : ℕ) → i < length xs → x ≡ get_or xs i x → is_one_of (take (i + 1) xs) c ≡ (is_one_of (take i xs) c || (x == c))
 has_next_more xs i x c l e =
-    ap (λ (n : ℕ). has_cell (take n xs) c) (add-one i)
-    ∙ ap (λ (ys : List ℕ). has_cell ys c) (take-suc xs i x l)
+    ap (λ (n : ℕ). is_one_of (take n xs) c) (add-one i)
+    ∙ ap (λ (ys : List ℕ). is_one_of ys c) (take-suc xs i x l)
     ∙ list_any-append (λ (y : ℕ). y == c) (take i xs) (get_or xs i x ∷ [])
-    ∙ ap (λ (y : ℕ). has_cell (take i xs) c || ((y == c) || false)) (sym e)
-    ∙ ap (λ (b : Bool). has_cell (take i xs) c || b) (or-false (x == c))
+    ∙ ap (λ (y : ℕ). is_one_of (take i xs) c || ((y == c) || false)) (sym e)
+    ∙ ap (λ (b : Bool). is_one_of (take i xs) c || b) (or-false (x == c))
 
-has_whole : (xs : List ℕ) (i c : ℕ) → has_cell (take i xs) c ≡ true → has_cell xs c ≡ true
+has_whole : (xs : List ℕ) (i c : ℕ) → is_one_of (take i xs) c ≡ true → is_one_of xs c ≡ true
 has_whole xs i c h =
-    subst (λ (ys : List ℕ). has_cell ys c ≡ true) (take-append-drop i xs)
+    subst (λ (ys : List ℕ). is_one_of ys c ≡ true) (take-append-drop i xs)
     (list_any-append (λ (y : ℕ). y == c) (take i xs) (drop i xs) ∙ or_left _ _ h)
 
 -- of the first cells it is told that each reaches a, and nothing else came
 pub record ToldOf (a : ℕ) (cells : List ℕ) (old new : Told) : Type 0 where
   pub adds : AddsOf a cells old new
-  pub all : (c : ℕ) → has_cell cells c ≡ true → told new c a ≡ true
+  pub all : (c : ℕ) → is_one_of cells c ≡ true → told new c a ≡ true
 
 pub told_none : (a : ℕ) (es fs : Told) → ((q : ℕ) → lookup (nat_eq q) fs ≡ lookup (nat_eq q) es) → ToldOf a [] es fs
 told_none a es fs same = record {
@@ -70,7 +70,7 @@ told_none a es fs same = record {
 }
   where
     still : (c b : ℕ) → told fs c b ≡ told es c b
-    still c b = ap (λ (o : Option (List ℕ)). has_cell (unwrap_or o []) b) (same c)
+    still c b = ap (λ (o : Option (List ℕ)). is_one_of (unwrap_or o []) b) (same c)
 
 -- of one more
 pub told_next : (a i x : ℕ) (cells : List ℕ) (old mid new : Told) → i < length cells → x ≡ get_or cells i x → ToldOf a (take i cells) old mid
@@ -80,27 +80,27 @@ told_next a i x cells old mid new l e h put = record {
     stays = λ c b k. stays c b (h.adds.stays c b k);
     within = λ c b k. came c b (or_cases ((x == c) && (a == b)) (told mid c b) (sym (put c b) ∙ k));
   };
-  all = λ c k. there c (or_cases (has_cell (take i cells) c) (x == c) (sym (has_next_more cells i x c l e) ∙ k));
+  all = λ c k. there c (or_cases (is_one_of (take i cells) c) (x == c) (sym (has_next_more cells i x c l e) ∙ k));
 }
   where
     stays : (c b : ℕ) → told mid c b ≡ true → told new c b ≡ true
     stays c b k = put c b ∙ or_right _ _ k
 
-    last : (c : ℕ) → (x == c) ≡ true → has_cell (take (i + 1) cells) c ≡ true
+    last : (c : ℕ) → (x == c) ≡ true → is_one_of (take (i + 1) cells) c ≡ true
     last c k = has_next_more cells i x c l e ∙ or_right _ _ k
 
-    came : (c b : ℕ) → (((x == c) && (a == b)) ≡ true) ⊎ (told mid c b ≡ true) → (told old c b ≡ true) ⊎ ((has_cell (take (i + 1) cells) c ≡ true) × (b ≡ a))
+    came : (c b : ℕ) → (((x == c) && (a == b)) ≡ true) ⊎ (told mid c b ≡ true) → (told old c b ≡ true) ⊎ ((is_one_of (take (i + 1) cells) c ≡ true) × (b ≡ a))
     came c b (inl k) = let p = and_parts (x == c) (a == b) k in inr (last c p.0, sym (eqb-true a b p.1))
     came c b (inr k) = earlier (h.adds.within c b k)
       where
-        earlier : (told old c b ≡ true) ⊎ ((has_cell (take i cells) c ≡ true) × (b ≡ a)) → (told old c b ≡ true) ⊎ ((has_cell (take (i + 1) cells) c ≡ true) × (b ≡ a))
+        earlier : (told old c b ≡ true) ⊎ ((is_one_of (take i cells) c ≡ true) × (b ≡ a)) → (told old c b ≡ true) ⊎ ((is_one_of (take (i + 1) cells) c ≡ true) × (b ≡ a))
         earlier (inl m) = inl m
         earlier (inr m) = inr (has_next_more cells i x c l e ∙ or_left _ _ m.0, m.1)
 
     both : (t : Bool) → t ≡ true → (t && (a == a)) ≡ true
     both t k = ap (λ (s : Bool). s && (a == a)) k ∙ is_itself a
 
-    there : (c : ℕ) → (has_cell (take i cells) c ≡ true) ⊎ ((x == c) ≡ true) → told new c a ≡ true
+    there : (c : ℕ) → (is_one_of (take i cells) c ≡ true) ⊎ ((x == c) ≡ true) → told new c a ≡ true
     there c (inl k) = stays c a (h.all c k)
     there c (inr k) = put c a ∙ or_left _ _ (both (x == c) k)
 
@@ -108,7 +108,7 @@ told_next a i x cells old mid new l e h put = record {
 pub adds_some : (a i : ℕ) (cells : List ℕ) (old new : Told) → AddsOf a (take i cells) old new → AddsOf a cells old new
 adds_some a i cells old new h = record { stays = h.stays; within = λ c b k. by c b (h.within c b k) }
   where
-    by : (c b : ℕ) → (told old c b ≡ true) ⊎ ((has_cell (take i cells) c ≡ true) × (b ≡ a)) → (told old c b ≡ true) ⊎ ((has_cell cells c ≡ true) × (b ≡ a))
+    by : (c b : ℕ) → (told old c b ≡ true) ⊎ ((is_one_of (take i cells) c ≡ true) × (b ≡ a)) → (told old c b ≡ true) ⊎ ((is_one_of cells c ≡ true) × (b ≡ a))
     by c b (inl k) = inl k
     by c b (inr k) = inr (has_whole cells i c k.0, k.1)
 

@@ -1,13 +1,9 @@
 -- Which cells are told to reach which others.
-use Rattle.std.specs.Prelude.{◌≡◌, ◌==◌, ◌⊎◌, ℕ, Bool, true, List, [], nat_eq}
-use Rattle.std.specs.List.{list_any}
+use Rattle.std.specs.Prelude.{◌≡◌, ◌⊎◌, ℕ, Bool, true, List, [], nat_eq}
 use Rattle.std.specs.Map.{lookup}
 use Rattle.std.specs.Option.{unwrap_or}
+use Rattle.wi_values.specs.Address.{is_one_of}
 use Rattle.wi_values.specs.declared.replacement.Replacement.{Replacement}
-
--- the cell is one of these
-abbrev pub has_cell : List ℕ → ℕ → Bool
-has_cell xs a = list_any (λ x. x == a) xs
 
 -- by a cell, those that it is told to reach
 abbrev pub Told : Type 0
@@ -19,7 +15,7 @@ told_cells es c = unwrap_or (lookup (nat_eq c) es) []
 
 -- c is told to reach a
 abbrev pub told : Told → ℕ → ℕ → Bool
-told es c a = has_cell (told_cells es c) a
+told es c a = is_one_of (told_cells es c) a
 
 -- the cells of which it is known which reach them, and what is told
 pub record ReachTable : Type 0 where
@@ -28,7 +24,7 @@ pub record ReachTable : Type 0 where
 
 -- it is known of the cell a which cells reach it
 abbrev pub is_known : ReachTable → ℕ → Bool
-is_known t a = has_cell t.known a
+is_known t a = is_one_of t.known a
 
 abbrev pub reached_cells : ReachTable → ℕ → List ℕ
 reached_cells t c = told_cells t.reached c
@@ -42,9 +38,9 @@ is_reached_by t c r = reached_by t c r.at
 
 -- the address of the replacement is one of these
 abbrev pub is_of : List ℕ → Replacement → Bool
-is_of cells r = has_cell cells r.at
+is_of cells r = is_one_of cells r.at
 
 -- what was told stays, and what came is that one of these cells reaches a
 pub record AddsOf (a : ℕ) (cells : List ℕ) (old new : Told) : Type 0 where
   pub stays : (c b : ℕ) → told old c b ≡ true → told new c b ≡ true
-  pub within : (c b : ℕ) → told new c b ≡ true → (told old c b ≡ true) ⊎ ((has_cell cells c ≡ true) × (b ≡ a))
+  pub within : (c b : ℕ) → told new c b ≡ true → (told old c b ≡ true) ⊎ ((is_one_of cells c ≡ true) × (b ≡ a))

@@ -3,7 +3,8 @@
 ghost use Rattle.std.specs.Prelude.{◌≡◌, ◌↔◌, ◌==◌, ◌&&◌, ◌||◌, ℕ, [], true, IsTrue, OnOk, OnErr, length};
 ghost use Rattle.std.specs.List.{list_all};
 ghost use Rattle.std.specs.List.Sorted.{IsStrictlyIncreasing};
-ghost use Rattle.wi_worlds.specs.Reached.{has_cell, is_known, reached_by, reached_cells, told, told_cells, AddsOf};
+ghost use Rattle.wi_values.specs.Address.{is_one_of};
+ghost use Rattle.wi_worlds.specs.Reached.{is_known, reached_by, reached_cells, told, told_cells, AddsOf};
 ghost use Rattle.wi_worlds.specs.Inner.Shared.{told_in};
 
 use crate::rising::{RisingCells, has_next};
@@ -82,7 +83,7 @@ impl Reaches {
         ensures known { OnOk result ((a : ℕ) → is_known self.new a
             ≡ (at == a || is_known self.old a)) }
         ensures adds { AddsOf at cone.now self.old.reached self.new.reached }
-        ensures all { OnOk result ((c : ℕ) → has_cell cone.now c ≡ true
+        ensures all { OnOk result ((c : ℕ) → is_one_of cone.now c ≡ true
             → reached_by self.new c at ≡ true) }
         ensures err { OnErr result (self.new.known ≡ self.old.known) }
     {
@@ -131,7 +132,7 @@ fn tell(
     cone: &[Address],
 ) -> Result<(), AllocError>
     ensures adds { AddsOf at cone.now (told_in reached.old) (told_in reached.new) }
-    ensures all { OnOk result ((c : ℕ) → has_cell cone.now c ≡ true
+    ensures all { OnOk result ((c : ℕ) → is_one_of cone.now c ≡ true
         → told (told_in reached.new) c at ≡ true) }
 {
     match reached {
@@ -153,7 +154,7 @@ fn put_all(
     cone: &[Address],
 ) -> Result<(), AllocError>
     ensures adds { AddsOf at cone.now reached.old.entries reached.new.entries }
-    ensures all { OnOk result ((c : ℕ) → has_cell cone.now c ≡ true
+    ensures all { OnOk result ((c : ℕ) → is_one_of cone.now c ≡ true
         → told reached.new.entries c at ≡ true) }
 {
     reached.reserve(cone.len().saturating_sub(reached.len()))?;
@@ -181,7 +182,7 @@ fn put(alloc: Global, reached: &mut Reached, cell: Address, at: Address) -> Resu
 /// Whether cells in row-major order have each replaced address.
 fn have_all(cells: &[Address], replacements: &[Replacement]) -> bool
     requires { IsStrictlyIncreasing cells.now }
-    ensures { result ≡ list_all (λ r. has_cell cells.now r.at) replacements.now }
+    ensures { result ≡ list_all (λ r. is_one_of cells.now r.at) replacements.now }
 {
     let mut likely = 0;
     for replacement in replacements {

@@ -2,7 +2,7 @@
 
 ghost use Rattle.std.specs.Prelude.{◌≡◌, ◌==◌, ◌||◌, ◌∷◌, ℕ, [], IfOk, OnOk, OnErr};
 ghost use Rattle.std.specs.List.Sorted.{IsStrictlyIncreasing};
-ghost use Rattle.wi_worlds.specs.Reached.{has_cell};
+ghost use Rattle.wi_values.specs.Address.{is_one_of};
 
 use std::alloc::{AllocError, Global};
 use std::marker::Model;
@@ -56,7 +56,7 @@ impl RisingCells {
     /// behind it.
     pub(crate) fn insert(&mut self, cell: Address) -> Result<(), AllocError>
         ensures has { OnOk result ((c : ℕ)
-            → has_cell self.new c ≡ (cell == c || has_cell self.old c)) }
+            → is_one_of self.new c ≡ (cell == c || is_one_of self.old c)) }
         ensures err { OnErr result (self.new ≡ self.old) }
     {
         match self.cells.binary_search(&cell) {
@@ -73,7 +73,7 @@ impl RisingCells {
 /// likely place becomes that of the next cell in order.
 pub(crate) fn has_next(cells: &[Address], likely: &mut usize, cell: Address) -> bool
     requires { IsStrictlyIncreasing cells.now }
-    ensures { result ≡ has_cell cells.now cell }
+    ensures { result ≡ is_one_of cells.now cell }
 {
     if cells.get(*likely) == Some(&cell) {
         *likely = likely.saturating_add(1);

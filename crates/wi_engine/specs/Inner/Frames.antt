@@ -9,7 +9,7 @@ use Rattle.wi_functions.specs.Counts.{Counts}
 use Rattle.wi_functions.specs.declared.evaluation.Want as want
 use Rattle.wi_cache.specs.declared.key.Key.{Key}
 use Rattle.wi_graph.specs.Circular.{circular}
-use Rattle.wi_graph.specs.Reach.{is_one_of}
+use Rattle.wi_values.specs.Address.{is_one_of}
 use Rattle.wi_sheet.specs.CellValue.{cell_value, what_if_value}
 use Rattle.wi_sheet.specs.Demand.{Case, same_case, reaching, reads_here, of_formula}
 use Rattle.wi_sheet.specs.Inner.Spending.{RestsOn, IsClosed, Table, cost, plus}

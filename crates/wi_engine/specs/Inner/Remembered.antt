@@ -7,7 +7,8 @@ use Rattle.wi_values.specs.declared.replacement.Replacement.{Replacement}
 use Rattle.wi_parser.specs.Sheet.{Sheet}
 use Rattle.wi_cache.specs.declared.key.Key.{Key}
 use Rattle.wi_cache.specs.Entries.{Entries, value_for}
-use Rattle.wi_graph.specs.Reach.{is_one_of, reaches}
+use Rattle.wi_values.specs.Address.{is_one_of}
+use Rattle.wi_graph.specs.Reach.{reaches}
 use Rattle.wi_engine.specs.Inner.MemoState.{MemoState}
 
 -- a sheet, some of its cells, and the values found of these

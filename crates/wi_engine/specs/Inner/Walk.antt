@@ -3,11 +3,11 @@ use Rattle.std.specs.Prelude.{◌≡◌, ◌==◌, ℕ, ◌+◌, Bool, true, fal
 use Rattle.std.specs.List.{list_any, flat_map}
 use Rattle.std.specs.Ordering.{nat_cmp}
 use Rattle.std.specs.BTreeMap.{BTreeMap, get}
-use Rattle.wi_values.specs.Address.{Area}
+use Rattle.wi_values.specs.Address.{Area, is_one_of}
 use Rattle.wi_parser.specs.Sheet.{Sheet, content_of, has_formula, cells_with_formula}
 use Rattle.wi_parser.specs.Reads.{content_reads}
 use Rattle.wi_graph.specs.Circular.{circular}
-use Rattle.wi_graph.specs.Reach.{is_one_of, Reaches}
+use Rattle.wi_graph.specs.Reach.{Reaches}
 use Rattle.wi_sheet.specs.Inner.ReadCells.{rectangles_in, occupied_within, cells_after}
 use Rattle.wi_sheet.specs.Inner.ReadOrder.{IsReadOrder}
 use Rattle.wi_engine.specs.declared.walk.Progress.{Progress}

@@ -6,13 +6,12 @@ use Rattle.std.specs.Map.{keys_of, lookup}
 use Rattle.std.specs.BTreeMap.{is_at}
 use Rattle.std.specs.BTreeSet.{BTreeSet, contains}
 use Rattle.smallvec.specs.SmallVec.{SmallVec}
-use Rattle.wi_values.specs.Address.{Area}
+use Rattle.wi_values.specs.Address.{Area, is_one_of}
 use Rattle.wi_tiles.specs.Entries.{CellEntries, get, IsOrdered}
 use Rattle.wi_parser.specs.Sheet.{Sheet, content_of}
 use Rattle.wi_ranges.specs.declared.pair.RangePair.{RangePair}
 use Rattle.wi_ranges.specs.Bag.{Bag, pair_for, is_same, count_of}
 use Rattle.wi_graph.specs.Circular.{circular}
-use Rattle.wi_graph.specs.Reach.{is_one_of}
 use Rattle.wi_graph.specs.Edges.{Edges, areas_in, with_areas}
 use Rattle.wi_graph.specs.declared.turning.Turns.{Turns}
 

@@ -4,7 +4,7 @@ use Rattle.std.specs.Ordering.{nat_cmp}
 use Rattle.std.specs.BTreeSet.{BTreeSet, contains}
 use Rattle.std.specs.List.Sorted.{IsStrictlyIncreasing}
 use Rattle.wi_ranges.specs.Bag.{Bag, IsReader}
-use Rattle.wi_graph.specs.Reach.{is_one_of}
+use Rattle.wi_values.specs.Address.{is_one_of}
 
 -- the set has each of these cells
 abbrev pub HasAll : List ℕ → BTreeSet ℕ → Type 0

@@ -5,8 +5,7 @@ use Rattle.std.specs.Ordering.{nat_cmp}
 use Rattle.std.specs.Global.{Vec}
 use Rattle.std.specs.BTreeMap.{BTreeMap, get}
 use Rattle.std.specs.BTreeSet.{BTreeSet, contains}
-use Rattle.wi_values.specs.Address.{Area, is_within}
-use Rattle.wi_graph.specs.Reach.{is_one_of}
+use Rattle.wi_values.specs.Address.{Area, is_one_of, is_within}
 
 -- what is there, or nothing
 abbrev pub items_there : {X : Type 0} → Option (Vec X) → List X

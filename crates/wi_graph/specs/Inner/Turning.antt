@@ -7,10 +7,10 @@ use Rattle.std.specs.Global.{Vec}
 use Rattle.std.specs.BTreeMap.{BTreeMap, get}
 use Rattle.std.specs.BTreeSet.{BTreeSet, contains}
 use Rattle.smallvec.specs.SmallVec.{SmallVec}
-use Rattle.wi_values.specs.Address.{Area, is_within}
+use Rattle.wi_values.specs.Address.{Area, is_one_of, is_within}
 use Rattle.wi_parser.specs.Sheet.{Sheet, content_of}
 use Rattle.wi_graph.specs.Circular.{circular}
-use Rattle.wi_graph.specs.Reach.{is_one_of, SameOff, in_cone}
+use Rattle.wi_graph.specs.Reach.{SameOff, in_cone}
 use Rattle.wi_graph.specs.Edges.{areas_in}
 use Rattle.wi_graph.specs.Inner.Stripping.{items_there, is_in}
 use Rattle.wi_graph.specs.Inner.Rooms.{Rooms, Coming, brought_to, items_of, areas_of, room_over, AreCircles}

@@ -1,13 +1,12 @@
 -- What an edit of the sheet finds on its way, step by step.
 use Rattle.std.specs.Prelude.{◌≡◌, ℕ, ◌<◌, ◌⊎◌, Bool, true, not, ◌&&◌, if◌then◌else◌, List, [], ◌∷◌, ◌++◌, length, Option, Some, None, Result, Ok, Err}
 use Rattle.std.specs.Map.{keys_of}
-use Rattle.wi_values.specs.Address.{Area}
+use Rattle.wi_values.specs.Address.{Area, is_one_of}
 use Rattle.wi_parser.specs.declared.content.Content.{Content}
 use Rattle.wi_parser.specs.Sheet.{Sheet}
 use Rattle.wi_store.specs.declared.fault.StoreFault.{StoreFault}
 use Rattle.wi_store.specs.Store.{Stored}
 use Rattle.wi_edit_log.specs.EditLog.{Entry, first_stale}
-use Rattle.wi_sessions.specs.Pictures.Laws.{is_listed}
 use Rattle.wi_sessions.specs.Roster.{Roster, session_at, pending_of, vacant_of}
 use Rattle.wi_scenarios.specs.declared.refusal.Refusal.{Refusal}
 use Rattle.wi_scenarios.specs.declared.refusal.Refusal.TheVariants.{Memory}
@@ -20,13 +19,13 @@ stale_on d force named = if force then None else first_stale d.log d.current (se
 
 -- Cells that are marked for the edited ones, of which there is one at least then, and among them all those that don't pass the test.
 pub record AreMarked (marked : Sheet → List ℕ → ℕ → Bool) (sheet : Sheet) (test : ℕ → Bool) (contents : List (ℕ × Option Content)) (found : List ℕ) : Type 0 where
-  pub only : (a : ℕ) → is_listed found a ≡ true → (0 < length contents) × (marked sheet (keys_of contents) a ≡ true)
-  pub others : 0 < length contents → (a : ℕ) → marked sheet (keys_of contents) a ≡ true → (is_listed found a ≡ true) ⊎ (test a ≡ true)
+  pub only : (a : ℕ) → is_one_of found a ≡ true → (0 < length contents) × (marked sheet (keys_of contents) a ≡ true)
+  pub others : 0 < length contents → (a : ℕ) → marked sheet (keys_of contents) a ≡ true → (is_one_of found a ≡ true) ⊎ (test a ≡ true)
 
 -- in the list of each session there is room for those of the cells that aren't pending for it, and for no other
 abbrev pub HasRooms : List ℕ → Roster → Type 0
 HasRooms cells r =
-    (i a : ℕ) → i < length r.sessions → is_listed (vacant_of r i) a ≡ (is_listed cells a && not (is_listed (pending_of r i) a))
+    (i a : ℕ) → i < length r.sessions → is_one_of (vacant_of r i) a ≡ (is_one_of cells a && not (is_one_of (pending_of r i) a))
 
 -- all but the log and the rooms is as it was
 pub record SameBeside (old new : Desk) : Type 0 where

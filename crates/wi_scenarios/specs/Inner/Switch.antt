@@ -8,7 +8,7 @@ use Rattle.wi_sheet.specs.Shown.{shown}
 use Rattle.wi_scenario_list.specs.Scenarios.{Scenario}
 use Rattle.wi_scenario_list.specs.Inner.Chains.{effective}
 use Rattle.wi_sessions.specs.Pictures.{same_value}
-use Rattle.wi_sessions.specs.Pictures.Laws.{is_listed}
+use Rattle.wi_values.specs.Address.{is_one_of}
 use Rattle.wi_sessions.specs.Roster.{Roster, session_at, pending_of, vacant_of}
 use Rattle.wi_scenarios.specs.Pending.{IsMarked}
 
@@ -29,15 +29,15 @@ Differs before after a = replaced before a ≢ replaced after a
 
 -- The cells whose replacement is another are these.
 pub record AreDiffering (before after : List Replacement) (cells : List ℕ) : Type 0 where
-  pub each : (a : ℕ) → is_listed cells a ≡ true → Differs before after a
-  pub others : (a : ℕ) → is_listed cells a ≡ false → replaced before a ≡ replaced after a
+  pub each : (a : ℕ) → is_one_of cells a ≡ true → Differs before after a
+  pub others : (a : ℕ) → is_one_of cells a ≡ false → replaced before a ≡ replaced after a
 
 -- There is room for cells alone that are marked for some whose replacement is another, and with each of them for those that it marks, where
 -- they aren't pending. A cell that is neither one of them nor pending shows the same.
 pub record HasRoom (marked : Sheet → List ℕ → ℕ → Bool) (sheet : Sheet) (before after : List Replacement) (pending vacant : List ℕ) : Type 0 where
-  pub marks : (a : ℕ) → is_listed vacant a ≡ true → IsMarked marked sheet (Differs before after) a
-  pub further : (a c : ℕ) → is_listed vacant a ≡ true → marked sheet (a ∷ []) c ≡ true → (is_listed pending c || is_listed vacant c) ≡ true
-  pub others : (a : ℕ) → is_listed pending a ≡ false → is_listed vacant a ≡ false → shown sheet before a ≡ shown sheet after a
+  pub marks : (a : ℕ) → is_one_of vacant a ≡ true → IsMarked marked sheet (Differs before after) a
+  pub further : (a c : ℕ) → is_one_of vacant a ≡ true → marked sheet (a ∷ []) c ≡ true → (is_one_of pending c || is_one_of vacant c) ≡ true
+  pub others : (a : ℕ) → is_one_of pending a ≡ false → is_one_of vacant a ≡ false → shown sheet before a ≡ shown sheet after a
 
 -- the same of the i-th session, where other scenarios take the place of all
 abbrev pub HasRoomFor : (Sheet → List ℕ → ℕ → Bool) → Sheet → List Scenario → List Scenario → Roster → ℕ → Type 0

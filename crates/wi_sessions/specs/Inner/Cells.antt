@@ -6,7 +6,7 @@ use Rattle.std.specs.Ordering.{nat_cmp}
 use Rattle.std.specs.Map.{keys_of, lookup}
 use Rattle.std.specs.BTreeMap.{is_at}
 use Rattle.wi_sessions.specs.Pending.{AllPending}
-use Rattle.wi_sessions.specs.Pictures.Laws.{is_listed}
+use Rattle.wi_values.specs.Address.{is_one_of}
 
 -- the i-th session's bit stands in a word
 abbrev pub has_bit : ℕ → ℕ → Bool
@@ -59,4 +59,4 @@ HasCleared test words less = (i c : ℕ) → is_in less i c ≡ (is_in words i c
 
 -- the i-th session's bit for one of the cells
 abbrev pub at_cells : List ℕ → ℕ → ℕ → ℕ → Bool
-at_cells cells bits i c = is_listed cells c && has_bit i bits
+at_cells cells bits i c = is_one_of cells c && has_bit i bits

@@ -5,7 +5,7 @@ use Rattle.std.specs.Ordering.{nat_cmp}
 use Rattle.std.specs.Map.{lookup, keys_of}
 use Rattle.std.specs.BTreeMap.{is_at}
 use Rattle.std.specs.List.Sorted.{IsStrictlySortedBy}
-use Rattle.wi_sessions.specs.Pictures.Laws.{is_listed}
+use Rattle.wi_values.specs.Address.{is_one_of}
 
 module _ {X : Type 0} where
   -- what the room of a cell has, if it has a room
@@ -35,4 +35,4 @@ module _ {X : Type 0} (nothing : X) where
 
   -- no other room than those of the cells is vacant
   abbrev pub VacantOnlyAt : List ℕ → List (ℕ × X) → Type 0
-  VacantOnlyAt cells rooms = (c : ℕ) → room_of rooms c ≡ Some nothing → is_listed cells c ≡ true
+  VacantOnlyAt cells rooms = (c : ℕ) → room_of rooms c ≡ Some nothing → is_one_of cells c ≡ true

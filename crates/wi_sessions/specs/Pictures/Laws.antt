@@ -1,6 +1,7 @@
 -- Laws of change lists, as statements.
-use Rattle.std.specs.Prelude.{◌≡◌, ℕ, ◌+◌, ◌<◌, ◌≤◌, ◌==◌, Bool, false, not, List, [], ◌∷◌, map, filter}
-use Rattle.std.specs.List.{list_any, range_with_len}
+use Rattle.std.specs.Prelude.{◌≡◌, ℕ, ◌+◌, ◌<◌, ◌≤◌, Bool, false, not, List, [], ◌∷◌, map, filter}
+use Rattle.std.specs.List.{range_with_len}
+use Rattle.wi_values.specs.Address.{is_one_of}
 use Rattle.wi_values.specs.declared.value.Value.{Value}
 use Rattle.wi_sessions.specs.Pictures.{same_value, value_in, with_changes, sheet_size, changes_since}
 
@@ -13,10 +14,6 @@ abbrev pub changes_among : List ℕ → List (ℕ × Value) → (ℕ → Value) 
 changes_among cells picture shown =
     map (λ a. (a, shown a)) (filter (λ a. not (same_value (value_in picture a) (shown a))) cells)
 
--- the cell is one of these
-abbrev pub is_listed : List ℕ → ℕ → Bool
-is_listed cells a = list_any (λ c. c == a) cells
-
 -- the cells rise, from one number on, and stay below another
 abbrev pub Rises : ℕ → ℕ → List ℕ → Type 0
 Rises low high [] = Unit {0}
@@ -25,7 +22,7 @@ Rises low high (a ∷ more) = (low ≤ a) × (a < high) × Rises (a + 1) high mo
 -- the cells are in row-major order, and of all others of the sheet the picture has the value
 abbrev pub Suffice : List ℕ → List (ℕ × Value) → (ℕ → Value) → Type 0
 Suffice cells picture shown =
-    Rises 0 sheet_size cells × ((a : ℕ) → a < sheet_size → is_listed cells a ≡ false → value_in picture a ≡ shown a)
+    Rises 0 sheet_size cells × ((a : ℕ) → a < sheet_size → is_one_of cells a ≡ false → value_in picture a ≡ shown a)
 
 -- so whichever such cells are looked at, what has changed is the same
 abbrev pub AnyCells : Type 0

@@ -1,4 +1,4 @@
-use Rattle.wi_scenarios.proofs.Words.{◌∙◌, List, ℕ, ap, rules, is_listed, state_of}
+use Rattle.wi_scenarios.proofs.Words.{◌∙◌, List, ℕ, ap, rules, is_one_of, state_of}
 use Rattle.wi_scenarios.proofs.SessionLemmas.{sound_new, grown_state}
 use Rattle.wi_scenarios.proofs.session.add.Goals as goal
 
@@ -9,7 +9,7 @@ returns-clause-state g c =
 pub returns-clause-made : goal.returns-clause-made
 returns-clause-made g c =
     let new = c.in_ok-push.ensures.pending in
-    (new.0, search rules, λ a. new.2 a ∙ ap (λ (xs : List ℕ). is_listed xs a) (c.deref.ensures.value ∙ c.in_ok-cells.ensures.cells))
+    (new.0, search rules, λ a. new.2 a ∙ ap (λ (xs : List ℕ). is_one_of xs a) (c.deref.ensures.value ∙ c.in_ok-cells.ensures.cells))
 
 pub returns-clause-sound : goal.returns-clause-sound
 returns-clause-sound g c =

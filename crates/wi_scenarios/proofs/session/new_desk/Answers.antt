@@ -1,4 +1,4 @@
-use Rattle.wi_scenarios.proofs.Words.{◌∙◌, ℕ, List, [], length, refl, ap, codes, slice_index_or, is_listed}
+use Rattle.wi_scenarios.proofs.Words.{◌∙◌, ℕ, List, [], length, refl, ap, codes, slice_index_or, is_one_of}
 use Rattle.wi_scenarios.proofs.SessionLemmas.{one_list, sound_first, first_state}
 use Rattle.wi_scenarios.proofs.session.new_desk.Goals as goal
 
@@ -11,7 +11,7 @@ pub returns-clause-pending : goal.returns-clause-pending
 returns-clause-pending g c = (
   slice_index_or c.in_ok-sessions.sessions.pending 0 [],
   one_list c.in_ok-sessions.sessions.pending (c.each_has_pending_cells.ensures ∙ ap length c.in_ok-sessions.ensures.sessions),
-  λ a. c.in_ok-sessions.ensures.pending a ∙ ap (λ (xs : List ℕ). is_listed xs a) (c.deref.ensures.value ∙ c.in_ok-cells.ensures.cells),
+  λ a. c.in_ok-sessions.ensures.pending a ∙ ap (λ (xs : List ℕ). is_one_of xs a) (c.deref.ensures.value ∙ c.in_ok-cells.ensures.cells),
 )
 
 pub returns-clause-sound : goal.returns-clause-sound

@@ -1,4 +1,4 @@
-use Rattle.wi_sessions.proofs.Words.{◌∙◌, ◌++◌, ◌-◌, ℕ, List, ap, arith, drop, filter, length, refl, length-drop, take_all, is_listed, is_in}
+use Rattle.wi_sessions.proofs.Words.{◌∙◌, ◌++◌, ◌-◌, ℕ, List, ap, arith, drop, filter, length, refl, length-drop, take_all, is_one_of, is_in}
 use Rattle.wi_sessions.proofs.CellLemmas.{ascend_rising}
 use Rattle.wi_sessions.proofs.WordLemmas.{these_cells}
 use Rattle.wi_sessions.proofs.PendingLemmas.{found_cells, if_ok_both}
@@ -13,6 +13,6 @@ returns c =
     (λ xs order same. these_cells c.args.words.now.entries c.args.i xs c.requires.order (ascend_rising xs order)
     (found_cells c.args.words.now.entries c.args.changed.now c.args.i c.args.unread.now _ xs c.requires.place (c.looks_anywhere.ensures c.if-looks_anywhere.false) refl
     (λ q. same q
-    ∙ ap (λ (ys : List ℕ). is_listed (filter (is_in c.args.words.now.entries c.args.i) ys ++ filter (is_in c.args.words.now.entries c.args.i) c.deref.result.now) q)
+    ∙ ap (λ (ys : List ℕ). is_one_of (filter (is_in c.args.words.now.entries c.args.i) ys ++ filter (is_in c.args.words.now.entries c.args.i) c.deref.result.now) q)
     (take_all (length c.args.changed.now - c.args.unread.now.from) (drop c.args.unread.now.from c.args.changed.now) (omega (arith, length-drop c.args.unread.now.from c.args.changed.now)))
-    ∙ ap (λ (ys : List ℕ). is_listed (filter (is_in c.args.words.now.entries c.args.i) (drop c.args.unread.now.from c.args.changed.now) ++ filter (is_in c.args.words.now.entries c.args.i) ys) q) c.deref.ensures.value)))
+    ∙ ap (λ (ys : List ℕ). is_one_of (filter (is_in c.args.words.now.entries c.args.i) (drop c.args.unread.now.from c.args.changed.now) ++ filter (is_in c.args.words.now.entries c.args.i) ys) q) c.deref.ensures.value)))

@@ -1,4 +1,4 @@
-use Rattle.wi_sessions.proofs.Words.{◌≡◌, ◌∙◌, ℕ, List, ap, length, sym, subst, arith, IfOk-weaker, is_listed, cells_with, HasPlace}
+use Rattle.wi_sessions.proofs.Words.{◌≡◌, ◌∙◌, ℕ, List, ap, length, sym, subst, arith, IfOk-weaker, is_one_of, cells_with, HasPlace}
 use Rattle.wi_sessions.proofs.PlaceLemmas.{place_read}
 use Rattle.wi_sessions.proofs.WordLemmas.{listed_with}
 use Rattle.wi_sessions.proofs.PendingLemmas.{listed_told, within_unread}
@@ -30,5 +30,5 @@ returns c =
     let n = length c.self.inside.unread.items in
     let l = within_unread words staged n c.args.i c.args.self.now c.self.view_is c.requires in
     IfOk-weaker c.all_of.result (λ found. found.items ≡ cells_with words c.args.i) _
-    (λ found is q. ap (λ (ys : List ℕ). is_listed ys q) is ∙ listed_with words c.args.i c.self.invariant.order q
+    (λ found is q. ap (λ (ys : List ℕ). is_one_of ys q) is ∙ listed_with words c.args.i c.self.invariant.order q
     ∙ sym (listed_told words staged n c.args.i c.args.self.now c.self.invariant.order c.self.view_is l q)) c.all_of.ensures

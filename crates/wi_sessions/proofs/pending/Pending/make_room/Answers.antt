@@ -1,4 +1,4 @@
-use Rattle.wi_sessions.proofs.Words.{◌<◌, ◌||◌, ◌&&◌, ◌∙◌, ℕ, not, map, length, refl, ap, arith, rules, length-set, range_with_len, is_listed, AllPending, list_at, cells_in, vacant_in}
+use Rattle.wi_sessions.proofs.Words.{◌<◌, ◌||◌, ◌&&◌, ◌∙◌, ℕ, not, map, length, refl, ap, arith, rules, length-set, range_with_len, is_one_of, AllPending, list_at, cells_in, vacant_in}
 use Rattle.wi_sessions.proofs.PlaceLemmas.{kept_at, place_noted, place_read, places_set}
 use Rattle.wi_sessions.proofs.PendingLemmas.{dropped_elsewhere, dropped_here, dropped_kept, dropped_pending, kept_here, pending_same, room_elsewhere, room_here, within_unread}
 use Rattle.wi_sessions.proofs.pending.Pending.make_room.Goals as goal
@@ -34,9 +34,9 @@ returns-in-Ok-clause-room c =
     let more = c.stage_own.new.words.entries in
     let rooms = c.stage_own.new.staged.items in
     let l : c.args.i < length c.self.inside.unread.items = within_unread words staged (length us) c.args.i c.args.self.now c.self.view_is c.requires in
-    λ q. ap (λ (m : ℕ). is_listed (list_at (map (vacant_in more rooms) (range_with_len 0 m)) c.args.i) q) (length-set us c.args.i c.stage_own.new.own)
+    λ q. ap (λ (m : ℕ). is_one_of (list_at (map (vacant_in more rooms) (range_with_len 0 m)) c.args.i) q) (length-set us c.args.i c.stage_own.new.own)
     ∙ room_here words staged more rooms c.args.i (length us) c.bit_of-bit.result c.args.cells.now c.self.invariant.order c.stage_own.ensures.order l c.bit_of-bit.ensures c.in-Ok.ensures.room q
-    ∙ ap (λ (p : AllPending). is_listed (list_at p.vacant c.args.i) q || (is_listed c.args.cells.now q && not (is_listed (list_at p.pending c.args.i) q))) c.self.view_is
+    ∙ ap (λ (p : AllPending). is_one_of (list_at p.vacant c.args.i) q || (is_one_of c.args.cells.now q && not (is_one_of (list_at p.pending c.args.i) q))) c.self.view_is
 
 pub returns-in-Ok-clause-others : goal.returns-in-Ok-clause-others
 returns-in-Ok-clause-others c =

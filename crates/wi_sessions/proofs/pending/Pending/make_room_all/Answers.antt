@@ -1,4 +1,4 @@
-use Rattle.wi_sessions.proofs.Words.{◌||◌, ◌&&◌, ◌∙◌, ℕ, not, map, length, ap, range_with_len, is_listed, AllPending, list_at, cells_in, vacant_in}
+use Rattle.wi_sessions.proofs.Words.{◌||◌, ◌&&◌, ◌∙◌, ℕ, not, map, length, ap, range_with_len, is_one_of, AllPending, list_at, cells_in, vacant_in}
 use Rattle.wi_sessions.proofs.PlaceLemmas.{kept_at, kept_given}
 use Rattle.wi_sessions.proofs.WordLemmas.{pending_then}
 use Rattle.wi_sessions.proofs.PendingLemmas.{kept_each, pending_same, room_each, rooms_gone, within_unread}
@@ -29,9 +29,9 @@ returns-in-Ok-clause-room c =
     let more = c.stage_all.new.words.entries in
     let rooms = c.stage_all.new.staged.items in
     let k = c.self.invariant in
-    λ i q l. ap (λ (m : ℕ). is_listed (list_at (map (vacant_in more rooms) (range_with_len 0 m)) i) q) c.stage_all.ensures.lists
+    λ i q l. ap (λ (m : ℕ). is_one_of (list_at (map (vacant_in more rooms) (range_with_len 0 m)) i) q) c.stage_all.ensures.lists
     ∙ room_each words staged more rooms n c.args.cells.now k.order c.stage_all.ensures.order c.in-Ok.ensures.room i q (within_unread words staged n i c.args.self.now c.self.view_is l)
-    ∙ ap (λ (p : AllPending). is_listed (list_at p.vacant i) q || (is_listed c.args.cells.now q && not (is_listed (list_at p.pending i) q))) c.self.view_is
+    ∙ ap (λ (p : AllPending). is_one_of (list_at p.vacant i) q || (is_one_of c.args.cells.now q && not (is_one_of (list_at p.pending i) q))) c.self.view_is
 
 pub invariant_of-self : goal.invariant_of-self
 invariant_of-self c =

@@ -1,4 +1,4 @@
-use Rattle.wi_sessions.proofs.Words.{◌∙◌, ◌||◌, ap, length, sym, AllPending, list_at, is_listed, cells_in}
+use Rattle.wi_sessions.proofs.Words.{◌∙◌, ◌||◌, ap, length, sym, AllPending, list_at, is_one_of, cells_in}
 use Rattle.wi_sessions.proofs.ViewLemmas.{so_many}
 use Rattle.wi_sessions.proofs.PlaceLemmas.{kept_taken}
 use Rattle.wi_sessions.proofs.PendingLemmas.{rooms_gone, taken_at}
@@ -13,7 +13,7 @@ returns-clause-lists c =
 pub returns-clause-pending : goal.returns-clause-pending
 returns-clause-pending c =
     λ i q. taken_at c.self.inside.words.entries c.self.inside.staged.items c.clear.new.self.items (length c.self.inside.unread.items) i q c.self.invariant.order c.clear.ensures.items
-    ∙ ap (λ (p : AllPending). is_listed (list_at p.pending i) q || is_listed (list_at p.vacant i) q) c.self.view_is
+    ∙ ap (λ (p : AllPending). is_one_of (list_at p.pending i) q || is_one_of (list_at p.vacant i) q) c.self.view_is
 
 pub returns-clause-vacant : goal.returns-clause-vacant
 returns-clause-vacant c = λ i. rooms_gone c.self.inside.words.entries c.clear.new.self.items (length c.self.inside.unread.items) i c.clear.ensures.items

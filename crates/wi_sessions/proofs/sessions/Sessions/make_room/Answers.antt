@@ -1,4 +1,4 @@
-use Rattle.wi_sessions.proofs.Words.{◌||◌, ◌&&◌, ◌∙◌, ℕ, List, not, ap, length, on_ok_weaker, is_listed, Roster, pending_of, vacant_of}
+use Rattle.wi_sessions.proofs.Words.{◌||◌, ◌&&◌, ◌∙◌, ℕ, List, not, ap, length, on_ok_weaker, is_one_of, Roster, pending_of, vacant_of}
 use Rattle.wi_sessions.proofs.RosterLemmas.{within_lists}
 use Rattle.wi_sessions.proofs.sessions.Sessions.make_room.Goals as goal
 
@@ -14,7 +14,7 @@ returns-clause-pending c = c.make_room.ensures.lists ∙ ap (λ (r : Roster). r.
 pub returns-clause-room : goal.returns-clause-room
 returns-clause-room c =
     on_ok_weaker c.make_room.result
-    (λ h q. h q ∙ ap (λ (r : Roster). is_listed (vacant_of r c.args.i) q || (is_listed c.args.cells.now q && not (is_listed (pending_of r c.args.i) q))) c.self.view_is)
+    (λ h q. h q ∙ ap (λ (r : Roster). is_one_of (vacant_of r c.args.i) q || (is_one_of c.args.cells.now q && not (is_one_of (pending_of r c.args.i) q))) c.self.view_is)
     c.make_room.ensures.room
 
 pub returns-clause-others : goal.returns-clause-others

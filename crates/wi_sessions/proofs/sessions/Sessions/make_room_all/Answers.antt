@@ -1,4 +1,4 @@
-use Rattle.wi_sessions.proofs.Words.{◌||◌, ◌&&◌, ◌∙◌, ℕ, List, not, ap, length, on_ok_weaker, is_listed, Roster, pending_of, vacant_of}
+use Rattle.wi_sessions.proofs.Words.{◌||◌, ◌&&◌, ◌∙◌, ℕ, List, not, ap, length, on_ok_weaker, is_one_of, Roster, pending_of, vacant_of}
 use Rattle.wi_sessions.proofs.RosterLemmas.{within_lists}
 use Rattle.wi_sessions.proofs.sessions.Sessions.make_room_all.Goals as goal
 
@@ -12,7 +12,7 @@ pub returns-clause-room : goal.returns-clause-room
 returns-clause-room c =
     on_ok_weaker c.make_room_all.result
     (λ h i q l. h i q (within_lists c.self.inside.held.entries c.self.inside.pending c.args.self.now i c.self.view_is c.self.invariant l)
-    ∙ ap (λ (r : Roster). is_listed (vacant_of r i) q || (is_listed c.args.cells.now q && not (is_listed (pending_of r i) q))) c.self.view_is)
+    ∙ ap (λ (r : Roster). is_one_of (vacant_of r i) q || (is_one_of c.args.cells.now q && not (is_one_of (pending_of r i) q))) c.self.view_is)
     c.make_room_all.ensures.room
 
 pub invariant_of-self : goal.invariant_of-self

@@ -1,4 +1,4 @@
-use Rattle.wi_sessions.proofs.Words.{◌∙◌, ◌||◌, ap, length, is_listed, Roster, pending_of, vacant_of}
+use Rattle.wi_sessions.proofs.Words.{◌∙◌, ◌||◌, ap, length, is_one_of, Roster, pending_of, vacant_of}
 use Rattle.wi_sessions.proofs.sessions.Sessions.take_all.Goals as goal
 
 pub returns-clause-sessions : goal.returns-clause-sessions
@@ -8,7 +8,7 @@ pub returns-clause-lists : goal.returns-clause-lists
 returns-clause-lists c = c.take.ensures.lists ∙ ap (λ (r : Roster). length r.pending) c.self.view_is
 
 pub returns-clause-pending : goal.returns-clause-pending
-returns-clause-pending c = λ i q. c.take.ensures.pending i q ∙ ap (λ (r : Roster). is_listed (pending_of r i) q || is_listed (vacant_of r i) q) c.self.view_is
+returns-clause-pending c = λ i q. c.take.ensures.pending i q ∙ ap (λ (r : Roster). is_one_of (pending_of r i) q || is_one_of (vacant_of r i) q) c.self.view_is
 
 pub returns-clause-vacant : goal.returns-clause-vacant
 returns-clause-vacant c = c.take.ensures.vacant

@@ -1,4 +1,4 @@
-use Rattle.wi_worlds.proofs.Words.{◌≡◌, ◌∙◌, ◌==◌, ◌||◌, ℕ, true, List, Ok, Err, sym, ap, subst, IsStrictlyIncreasing, has_cell}
+use Rattle.wi_worlds.proofs.Words.{◌≡◌, ◌∙◌, ◌==◌, ◌||◌, ℕ, true, List, Ok, Err, sym, ap, subst, IsStrictlyIncreasing, is_one_of}
 use Rattle.wi_worlds.proofs.RisingSteps.{Searched, searched_in, has_at, has_still, has_more, rise_more}
 use Rattle.wi_worlds.proofs.rising.RisingCells.insert.Goals as goal
 
@@ -17,12 +17,12 @@ returns-in-Ok-clause-has c =
     let place = c.in-Ok.field-0 in
     let found : Searched c.deref.result.now c.args.cell (Ok place) =
     searched_in c.deref.result.now c.args.cell (Ok place) (subst IsStrictlyIncreasing (sym c.deref.ensures.value) c.self.invariant) c.in-Ok.ensures.position in
-    let there = subst (λ (ys : List ℕ). has_cell ys c.args.cell ≡ true) (c.deref.ensures.value ∙ c.self.view_is) (has_at c.deref.result.now place c.args.cell found.0 found.1) in
+    let there = subst (λ (ys : List ℕ). is_one_of ys c.args.cell ≡ true) (c.deref.ensures.value ∙ c.self.view_is) (has_at c.deref.result.now place c.args.cell found.0 found.1) in
     λ q. has_still c.args.self.now c.args.cell q there
 
 pub returns-in_ok-insert-in-Err-clause-has : goal.returns-in_ok-insert-in-Err-clause-has
 returns-in_ok-insert-in-Err-clause-has c =
     let xs = c.self.inside.cells.items in
-    λ q. ap (λ (ys : List ℕ). has_cell ys q) c.in_ok-insert-in-Err.ensures.items
+    λ q. ap (λ (ys : List ℕ). is_one_of ys q) c.in_ok-insert-in-Err.ensures.items
     ∙ has_more xs c.in-Err.place c.args.cell q
-    ∙ ap (λ (ys : List ℕ). (c.args.cell == q) || has_cell ys q) c.self.view_is
+    ∙ ap (λ (ys : List ℕ). (c.args.cell == q) || is_one_of ys q) c.self.view_is
