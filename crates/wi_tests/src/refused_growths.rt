@@ -3,9 +3,8 @@
 //! `rt try --test --fail-alloc N` refuses the Nth growth, and so one at most in a test. `rt test` and the gate refuse none: there
 //! these tests show that each call succeeds. So of two passes at least one must be without a refusal.
 
-use crate::cells::Changes;
 use crate::keys::{is_logical, keep, keep_in_table, look, look_in_table};
-use crate::stores::expect_counts;
+use crate::stores::{apply, expect_counts};
 use std::alloc::{AllocError, Global};
 use std::process::Abort;
 use wi_cache::{Kept, RunTable};
@@ -71,39 +70,16 @@ fn has(store: &Store, at: Address, sign: bool) -> bool {
     }
 }
 
-// An edit that empties A1 and fills forty other cells, which needs memory more than once.
-fn forty(alloc: Global) -> Result<Changes, AllocError> {
-    let mut forty = Vec::new(alloc);
-    forty.push((Address::at(0, 0), None))?;
-    for row in 1..41 {
-        let content = Content::Constant(Value::Logical(false));
-        forty.push((Address::at(row, 0), Some(content)))?;
-    }
-    Ok(forty)
-}
-
 // An edit that puts TRUE into A1.
-fn one(alloc: Global) -> Result<Changes, AllocError> {
-    let mut one = Vec::new(alloc);
-    let content = Content::Constant(Value::Logical(true));
-    one.push((Address::at(0, 0), Some(content)))?;
-    Ok(one)
-}
+const ONE: &str = "A1 TRUE";
 
-// A store with TRUE in A1.
-fn store_of_one(alloc: Global) -> Option<Store> {
-    let one = one(alloc).ok()?;
-    let mut store = Store::new(alloc, Limits::standard());
-    if store.apply(one).is_ok() {
-        return Some(store);
-    }
-    drop(store);
-    None
-}
-
-fn apply_forty(alloc: Global, store: &mut Store) -> Result<(), StoreFault> {
-    store.apply(forty(alloc)?)
-}
+// An edit that empties A1 and fills forty other cells, which needs memory more than once.
+const FORTY: &str =
+    "A1 -, A2 FALSE, A3 FALSE, A4 FALSE, A5 FALSE, A6 FALSE, A7 FALSE, A8 FALSE, A9 FALSE, \
+    A10 FALSE, A11 FALSE, A12 FALSE, A13 FALSE, A14 FALSE, A15 FALSE, A16 FALSE, A17 FALSE, \
+    A18 FALSE, A19 FALSE, A20 FALSE, A21 FALSE, A22 FALSE, A23 FALSE, A24 FALSE, A25 FALSE, \
+    A26 FALSE, A27 FALSE, A28 FALSE, A29 FALSE, A30 FALSE, A31 FALSE, A32 FALSE, A33 FALSE, \
+    A34 FALSE, A35 FALSE, A36 FALSE, A37 FALSE, A38 FALSE, A39 FALSE, A40 FALSE, A41 FALSE";
 
 fn expect_forty(rt: &impl Abort, store: &Store) {
     expect_counts(rt, store, 40, 2);
@@ -118,22 +94,27 @@ fn expect_one(rt: &impl Abort, store: &Store) {
     }
 }
 
-// Whether the edit was made.
-fn is_applied(rt: &impl Abort, alloc: Global) -> bool {
-    let Some(mut store) = store_of_one(alloc) else {
+// A store gets TRUE in A1, and then the edit of forty, or all is as before that. Tells whether both edits were made.
+fn expect_applied(rt: &impl Abort, alloc: Global, store: &mut Store) -> bool {
+    if apply(rt, alloc, store, ONE).is_err() {
         return false;
-    };
-    let is_applied = match apply_forty(alloc, &mut store) {
+    }
+    match apply(rt, alloc, store, FORTY) {
         Ok(()) => {
-            expect_forty(rt, &store);
+            expect_forty(rt, store);
             true
         }
         Err(refusal) => {
             assert!(rt; refusal == StoreFault::Memory);
-            expect_one(rt, &store);
+            expect_one(rt, store);
             false
         }
-    };
+    }
+}
+
+fn is_applied(rt: &impl Abort, alloc: Global) -> bool {
+    let mut store = Store::new(alloc, Limits::standard());
+    let is_applied = expect_applied(rt, alloc, &mut store);
     drop(store);
     is_applied
 }
@@ -141,18 +122,6 @@ fn is_applied(rt: &impl Abort, alloc: Global) -> bool {
 #[test]
 fn of_stores(rt: HostRuntime) {
     assert!(rt; is_applied(&rt, rt.alloc()) || is_applied(&rt, rt.alloc()));
-}
-
-// An index with the pair of A1:A10 and C1.
-fn index_of_one(alloc: Global) -> Option<RangeIndex> {
-    let area = Rect::new(Address::at(0, 0), Address::at(9, 0));
-    let reader = Address::at(0, 2);
-    let mut index = RangeIndex::new(alloc);
-    if index.add(area, reader).is_ok() {
-        return Some(index);
-    }
-    drop(index);
-    None
 }
 
 // So many readers are listed. Tells whether there was memory for the list.
@@ -179,11 +148,11 @@ fn expect_added(rt: &impl Abort, index: &mut RangeIndex) -> bool {
     times == 2 && at_bottom && at_top
 }
 
+// The index of one has the pair of A1:A10 and C1.
 fn is_added(rt: &impl Abort, alloc: Global) -> bool {
-    let Some(mut index) = index_of_one(alloc) else {
-        return false;
-    };
-    let is_added = expect_added(rt, &mut index);
+    let area = Rect::new(Address::at(0, 0), Address::at(9, 0));
+    let mut index = RangeIndex::new(alloc);
+    let is_added = index.add(area, Address::at(0, 2)).is_ok() && expect_added(rt, &mut index);
     drop(index);
     is_added
 }
@@ -191,16 +160,6 @@ fn is_added(rt: &impl Abort, alloc: Global) -> bool {
 #[test]
 fn of_the_range_index(rt: HostRuntime) {
     assert!(rt; is_added(&rt, rt.alloc()) || is_added(&rt, rt.alloc()));
-}
-
-// A list of two that has one value.
-fn list_of_one(alloc: Global) -> Option<Kept> {
-    let mut kept = Kept::new(alloc, 2).ok()?;
-    if keep(alloc, &mut kept, Address::at(0, 0), Value::Logical(true)).is_ok() {
-        return Some(kept);
-    }
-    drop(kept);
-    None
 }
 
 // One more value is kept in a list of one, or only that one is there. Tells whether it is kept.
@@ -214,11 +173,13 @@ fn expect_second(rt: &impl Abort, alloc: Global, kept: &mut Kept) -> bool {
     added
 }
 
+// Whether two values are kept in a list of two.
 fn is_kept(rt: &impl Abort, alloc: Global) -> bool {
-    let Some(mut kept) = list_of_one(alloc) else {
+    let Ok(mut kept) = Kept::new(alloc, 2) else {
         return false;
     };
-    let is_kept = expect_second(rt, alloc, &mut kept);
+    let first = keep(alloc, &mut kept, Address::at(0, 0), Value::Logical(true)).is_ok();
+    let is_kept = first && expect_second(rt, alloc, &mut kept);
     drop(kept);
     is_kept
 }

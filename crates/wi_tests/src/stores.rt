@@ -41,9 +41,17 @@ pub fn expect_counts(rt: &impl Abort, store: &Store, occupied: u64, edits: u64) 
     assert!(rt; store.edits() == edits);
 }
 
-/// Makes an edit, and gives what is answered.
-fn apply(rt: &impl Abort, alloc: Global, store: &mut Store, edit: &str) -> Result<(), StoreFault> {
-    store.apply(changes(rt, alloc, edit).expect(rt, edit))
+/// Makes an edit, and gives what is answered, or that there is no memory for what it puts in.
+pub fn apply(
+    rt: &impl Abort,
+    alloc: Global,
+    store: &mut Store,
+    edit: &str,
+) -> Result<(), StoreFault> {
+    match changes(rt, alloc, edit) {
+        Some(changes) => store.apply(changes),
+        None => Err(StoreFault::Memory),
+    }
 }
 
 fn expect_edit(rt: &impl Abort, alloc: Global, store: &mut Store, edit: &Edit<'_>) {

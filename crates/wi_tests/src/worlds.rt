@@ -143,18 +143,35 @@ fn all_have_cones(world: &World, cones: &BTreeMap<Address, BTreeSet<Address>>) -
     true
 }
 
-/// These are the replacements of a world whose cone has a cell.
+/// By what it is known which cells a cell reaches.
+#[derive(Clone, Copy)]
+enum Known<'a> {
+    Cones(&'a Cones),
+    Told(&'a Reaches),
+}
+
+/// The replacements of a world whose cell reaches a cell.
+fn reaching(rt: &impl Abort, world: &World, known: Known<'_>, last: &mut World, at: &str) -> World {
+    match known {
+        Known::Cones(cones) => {
+            assert!(rt; all_have_cones(world, cones));
+            world.reaching(cell(rt, at), cones, last).expect(rt, at)
+        }
+        Known::Told(told) => world.reaching_by(cell(rt, at), told, last).expect(rt, at),
+    }
+}
+
+/// These are the replacements of a world whose cell reaches a cell.
 fn expect_reaching_cell(
     rt: &impl Abort,
     alloc: Global,
     world: &World,
-    cones: &Cones,
+    known: Known<'_>,
     last: &mut World,
     at: &str,
     wanted: &str,
 ) {
-    assert!(rt; all_have_cones(world, cones));
-    let found = world.reaching(cell(rt, at), cones, last).expect(rt, at);
+    let found = reaching(rt, world, known, last, at);
     expect_world(rt, alloc, at, &found, wanted);
     drop(found);
 }
@@ -163,12 +180,12 @@ fn expect_reaching(
     rt: &impl Abort,
     alloc: Global,
     world: &World,
-    cones: &Cones,
+    known: Known<'_>,
     rows: &[(&str, &str)],
 ) {
     let mut last = World::new(alloc);
     for (at, wanted) in rows {
-        expect_reaching_cell(rt, alloc, world, cones, &mut last, at, wanted);
+        expect_reaching_cell(rt, alloc, world, known, &mut last, at, wanted);
     }
     drop(last);
 }
@@ -184,7 +201,7 @@ fn cones_that_have_a_cell(rt: HostRuntime) {
         &rt,
         rt.alloc(),
         &world,
-        &cones,
+        Known::Cones(&cones),
         &[
             ("A1", ""),
             ("A2", "A2=TRUE "),
@@ -203,37 +220,6 @@ fn tell(rt: &impl Abort, alloc: Global, reaches: &mut Reaches, at: &str, names: 
     reaches.add(cell(rt, at), &cone).expect(rt, at);
 }
 
-/// These are the replacements of a world that a cell is told to reach.
-fn expect_told_cell(
-    rt: &impl Abort,
-    alloc: Global,
-    world: &World,
-    reaches: &Reaches,
-    last: &mut World,
-    at: &str,
-    wanted: &str,
-) {
-    let found = world
-        .reaching_by(cell(rt, at), reaches, last)
-        .expect(rt, at);
-    expect_world(rt, alloc, at, &found, wanted);
-    drop(found);
-}
-
-fn expect_told(
-    rt: &impl Abort,
-    alloc: Global,
-    world: &World,
-    reaches: &Reaches,
-    rows: &[(&str, &str)],
-) {
-    let mut last = World::new(alloc);
-    for (at, wanted) in rows {
-        expect_told_cell(rt, alloc, world, reaches, &mut last, at, wanted);
-    }
-    drop(last);
-}
-
 /// The cells of which it is known which cells reach them, of the two that the world replaces, C3 told first.
 fn expect_known(rt: &impl Abort, alloc: Global, reaches: &mut Reaches, world: &World) {
     expect_that(rt, reaches.is_empty(), "nothing yet");
@@ -250,11 +236,11 @@ fn cells_that_are_told_to_reach(rt: HostRuntime) {
     let mut reaches = Reaches::new(rt.alloc());
     let world = after(&rt, rt.alloc(), &[OLD]);
     expect_known(&rt, rt.alloc(), &mut reaches, &world);
-    expect_told(
+    expect_reaching(
         &rt,
         rt.alloc(),
         &world,
-        &reaches,
+        Known::Told(&reaches),
         &[
             ("A1", ""),
             ("A2", "A2=TRUE "),
@@ -283,7 +269,7 @@ fn few_of_many_are_told(rt: HostRuntime) {
     tell_each(&rt, rt.alloc(), &mut reaches, "A1 A2 A3 A4 A5 A6 A7 A8");
     tell(&rt, rt.alloc(), &mut reaches, "A4", "D4");
     let rows = [("D4", "A4=FALSE "), ("D5", ""), ("A8", "A8= ")];
-    expect_told(&rt, rt.alloc(), &world, &reaches, &rows);
+    expect_reaching(&rt, rt.alloc(), &world, Known::Told(&reaches), &rows);
     drop(world);
     drop(reaches);
 }
