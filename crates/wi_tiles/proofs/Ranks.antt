@@ -1,5 +1,5 @@
 -- The count of ones below a bit, and what a change of one bit makes of it.
-use Rattle.wi_tiles.proofs.Words.{◌≡◌, ℕ, ◌+◌, ◌*◌, ◌/◌, ◌%◌, ◌^◌, ◌<◌, ◌≤◌, sym, refl, ap, arith, suc, zero, ◌∙◌, count_ones, bit_at, mod-pow-add, ones_cat, mod_below, pow_pos, bit_at-lt, ◌≢◌, ◌⊎◌, inl, inr, ⊎_elim, cases_lt, mod-eq_of_lt, rank}
+use Rattle.wi_tiles.proofs.Words.{◌≡◌, ℕ, ◌+◌, ◌*◌, ◌/◌, ◌%◌, ◌^◌, ◌<◌, ◌≤◌, sym, refl, ap, arith, suc, zero, ◌∙◌, count_ones, bit_at, mod-pow-add, ones_cat, mod_below, pow_pos, bit_at-lt, ◌≢◌, ◌⊎◌, inl, inr, ⊎_elim, cases_lt, div-add-mod', mod-eq_of_lt, rank}
 use Rattle.std.specs.Int.Count.{ones}
 
 ones_of_bit : (b : ℕ) → b < 2 → ones b ≡ b
@@ -46,6 +46,14 @@ rank_at_most n =
     let cut : ones (n / 2 ^ 64 * 2 ^ 64 + n % 2 ^ 64) ≡ ones (n / 2 ^ 64) + ones (n % 2 ^ 64) = ones_cat 64 (n / 2 ^ 64) (n % 2 ^ 64) (mod_below n (2 ^ 64) (pow_pos 64)) in
     let all : ones n ≡ ones (n / 2 ^ 64) + ones (n % 2 ^ 64) = ap ones (sym whole) ∙ cut in
     omega (arith, all)
+
+-- all ones are those below a bit, where no other stands from it on
+pub rank_with : (n k b : ℕ) → b < 2 → n / 2 ^ k ≡ b → count_ones n ≡ b + rank n k
+rank_with n k b small is =
+    let whole : ones (n / 2 ^ k * 2 ^ k + n % 2 ^ k) ≡ ones n = ap ones (div-add-mod' n (2 ^ k)) in
+    let cut : ones (n / 2 ^ k * 2 ^ k + n % 2 ^ k) ≡ ones (n / 2 ^ k) + ones (n % 2 ^ k) = ones_cat k (n / 2 ^ k) (n % 2 ^ k) (mod_below n (2 ^ k) (pow_pos k)) in
+    let last : ones (n / 2 ^ k) ≡ b = ap ones is ∙ ones_of_bit b small in
+    omega (arith, whole, cut, last)
 
 -- below a changed bit all counts stay, above it they are one more
 pub rank_same : (m n k : ℕ) → ((i : ℕ) → i < k → bit_at m i ≡ bit_at n i) → rank m k ≡ rank n k

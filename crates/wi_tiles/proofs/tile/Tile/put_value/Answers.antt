@@ -5,7 +5,7 @@ use Rattle.wi_tiles.proofs.tile.Tile.put_value.Goals as goal
 pub put_in-requires : goal.put_in-requires
 put_in-requires g c =
     let below : c.self.inside.bits < 2 ^ 64 = search rules in
-    grind (arith, put_within c.self.inside.bits c.self.inside.values.items c.args.bit c.requires.within below c.self.invariant, c.rank-place.ensures, c.self.inside.values.ok)
+    grind (arith, put_within c.self.inside.bits c.self.inside.values.items c.args.bit c.requires.within below c.self.invariant, c.place_of-place.ensures, c.self.inside.values.ok)
 
 pub invariant_of-self-2 : goal.invariant_of-self-2
 invariant_of-self-2 g c =

@@ -12,19 +12,19 @@ returns-then-self-bit-eq0-clause-put g c = subst (λ s. (i : ℕ) → slice_inde
 pub index_mut-requires : goal.index_mut-requires
 index_mut-requires g c =
     let below : c.self.inside.bits < 2 ^ 64 = search rules in
-    grind (arith, found_within c.self.inside.bits c.self.inside.values.items c.args.bit c.requires below c.self.invariant c.if-self-bit-eq0.false, c.rank-place.ensures, c.self.inside.values.ok)
+    grind (arith, found_within c.self.inside.bits c.self.inside.values.items c.args.bit c.requires below c.self.invariant c.if-self-bit-eq0.false, c.place_of-place.ensures, c.self.inside.values.ok)
 
 pub returns-clause-value : goal.returns-clause-value
 returns-clause-value g c =
     let below : c.self.inside.bits < 2 ^ 64 = search rules in
-    let read : c.index_mut.result.now ≡ slice_index_or c.self.inside.values.items c.rank-place.result c.index_mut.result.now = search rules in
+    let read : c.index_mut.result.now ≡ slice_index_or c.self.inside.values.items c.place_of-place.result c.index_mut.result.now = search rules in
     let stood : c.replace.result ≡ c.index_mut.result.now = search rules in
-    ap (λ v. Some v) stood ∙ sym (ap (λ s. slice_index_or s c.args.bit None) (sym c.self.view_is) ∙ replaced c.self.inside.bits c.args.bit c.self.inside.values.items c.rank-place.result c.index_mut.result.now c.rank-place.ensures c.requires below c.self.invariant c.if-self-bit-eq0.false read)
+    ap (λ v. Some v) stood ∙ sym (ap (λ s. slice_index_or s c.args.bit None) (sym c.self.view_is) ∙ replaced c.self.inside.bits c.args.bit c.self.inside.values.items c.place_of-place.result c.index_mut.result.now c.place_of-place.ensures c.requires below c.self.invariant c.if-self-bit-eq0.false read)
 
 pub returns-clause-put : goal.returns-clause-put
 returns-clause-put g c =
     let below : c.self.inside.bits < 2 ^ 64 = search rules in
-    let read : c.index_mut.result.now ≡ slice_index_or c.self.inside.values.items c.rank-place.result c.index_mut.result.now = search rules in
+    let read : c.index_mut.result.now ≡ slice_index_or c.self.inside.values.items c.place_of-place.result c.index_mut.result.now = search rules in
     let put : c.replace.new.dest ≡ c.args.value = search rules in
-    subst (λ w. (i : ℕ) → slice_index_or (slots c.self.inside.bits (slice_set c.self.inside.values.items c.rank-place.result w)) i None ≡ (if i == c.args.bit then option_map (λ _. c.args.value) (slice_index_or c.args.self.now c.args.bit None) else slice_index_or c.args.self.now i None)) (sym put)
-    (subst (λ s. (i : ℕ) → slice_index_or (slots c.self.inside.bits (slice_set c.self.inside.values.items c.rank-place.result c.args.value)) i None ≡ (if i == c.args.bit then option_map (λ _. c.args.value) (slice_index_or s c.args.bit None) else slice_index_or s i None)) c.self.view_is (after_replace c.self.inside.bits c.args.bit c.self.inside.values.items c.rank-place.result c.index_mut.result.now c.args.value c.rank-place.ensures c.requires below c.self.invariant c.if-self-bit-eq0.false read))
+    subst (λ w. (i : ℕ) → slice_index_or (slots c.self.inside.bits (slice_set c.self.inside.values.items c.place_of-place.result w)) i None ≡ (if i == c.args.bit then option_map (λ _. c.args.value) (slice_index_or c.args.self.now c.args.bit None) else slice_index_or c.args.self.now i None)) (sym put)
+    (subst (λ s. (i : ℕ) → slice_index_or (slots c.self.inside.bits (slice_set c.self.inside.values.items c.place_of-place.result c.args.value)) i None ≡ (if i == c.args.bit then option_map (λ _. c.args.value) (slice_index_or s c.args.bit None) else slice_index_or s i None)) c.self.view_is (after_replace c.self.inside.bits c.args.bit c.self.inside.values.items c.place_of-place.result c.index_mut.result.now c.args.value c.place_of-place.ensures c.requires below c.self.invariant c.if-self-bit-eq0.false read))
