@@ -1,8 +1,8 @@
 -- Reading digit by digit: a whole number from the first, a decimal from the last.
-use Rattle.wi_fraction.proofs.Vocabulary.{◌≡◌, ℕ, zero, suc, ◌+◌, ◌-◌, ◌*◌, ◌<◌, ◌≤◌, pos, unsigned_abs, Bool, false, ◌⊎◌, List, [], ◌∷◌, length, drop, take, Option, Some, None, refl, digit_value, AllDigits, digits_value, ◌∙◌, sym, inl, inr, arith, get_or, drop-cons, nat_tests, mul-le-mul_left, digits_value_more, digits_value-take-le, Number, number_at, number_of, signed, max_size, bounded, decimal_value, read_quotient, gcd}
+use Rattle.wi_fraction.proofs.Vocabulary.{◌≡◌, ℕ, zero, suc, ◌+◌, ◌-◌, ◌*◌, ◌<◌, ◌≤◌, pos, unsigned_abs, Bool, false, ◌⊎◌, List, [], ◌∷◌, length, drop, take, Option, Some, None, refl, ap, append-nil, pow-zero, digit_value, AllDigits, digits_value, ◌∙◌, sym, inl, inr, arith, get_or, drop-cons, nat_tests, mul-le-mul_left, digits_value_more, digits_value-take-le, Number, number_at, number_of, signed, max_size, bounded, decimal_value, read_quotient, gcd}
 use Rattle.wi_fraction.proofs.Steps.{bounded-some, bounded-none}
 use Rattle.wi_fraction.proofs.Fineness.{tail_more, tail_below_one, tail_from_none, tail_whole, fine_drop, none_from_tail, gcd_shifted}
-use Rattle.wi_fraction.proofs.Numbers.{number_of-lowest, number_at-too_large}
+use Rattle.wi_fraction.proofs.Numbers.{number_of-lowest, number_of-whole, number_at-too_large}
 
 pub digits_drop : (i : ℕ) (ds : List ℕ) → AllDigits 10 ds → AllDigits 10 (drop i ds)
 digits_drop zero ds h = h
@@ -45,6 +45,17 @@ whole_none ds i v w e h f k =
     let more : digits_value 10 (take (i + 1) ds) ≡ v * 10 + w = digits_value_more 10 ds i h ∙ rw (e, f) refl in
     let less : digits_value 10 (take (i + 1) ds) ≤ digits_value 10 ds = digits_value-take-le 10 ds (i + 1) (omega arith) in
     bounded-too_large (digits_value 10 ds) (omega (arith, large, more, less))
+
+-- ---- a whole number alone
+
+alone : (s : Bool) (whole : List ℕ) → number_at (signed s (digits_value 10 whole)) 1 ≡ decimal_value s whole []
+alone s whole = rw (append-nil whole, pow-zero 10) (number_of-whole s (digits_value 10 whole))
+
+pub alone_some : (s : Bool) (whole : List ℕ) (u : ℕ) (r : Option Number) → Some u ≡ bounded (digits_value 10 whole) → r ≡ number_at (signed s u) 1 → r ≡ decimal_value s whole []
+alone_some s whole u r e h = h ∙ ap (λ n. number_at (signed s n) 1) (bounded-some (digits_value 10 whole) u e).0 ∙ alone s whole
+
+pub alone_none : (s : Bool) (whole : List ℕ) → None ≡ bounded (digits_value 10 whole) → None ≡ decimal_value s whole []
+alone_none s whole e = number_at-too_large s (digits_value 10 whole) 1 (inl (bounded-none (digits_value 10 whole) e)) ∙ alone s whole
 
 -- ---- a whole part and a tail
 
