@@ -1,5 +1,5 @@
 -- What nests too deep is what the code finds by two counts.
-use Rattle.wi_parser.proofs.Words.{◌≡◌, ℕ, suc, ◌+◌, ◌-◌, ◌<◌, ◌≤◌, max, Bool, true, false, cond, ◌||◌, ◌↔◌, nat_lt, List, [], ◌∷◌, refl, sym, ap, ap₂, ◌∙◌, arith, lt-ltb, ltb-true, ltb-false, or_parts, nat_tests, prefix_len, IsTrue, Symbol, open_parenthesis, close_parenthesis, opened, is_sign, max_depth, is_too_deep, deepest, most_signs}
+use Rattle.wi_parser.proofs.Words.{◌≡◌, ℕ, suc, ◌+◌, ◌-◌, ◌<◌, ◌≤◌, max, Bool, true, false, cond, ◌||◌, ◌↔◌, nat_lt, List, [], ◌∷◌, length, refl, sym, ap, ap₂, ◌∙◌, arith, le-ltb, lt-ltb, ltb-true, ltb-false, or_parts, nat_tests, prefix_len, IsTrue, Symbol, open_parenthesis, close_parenthesis, opened, is_sign, max_depth, is_too_deep, deepest, most_signs}
 
 -- ---- parentheses
 
@@ -51,6 +51,30 @@ too_deep ts =
     let parentheses : most_opened ts ≡ deepest 0 ts = omega (arith, deepest_is 0 ts, first_opened ts) in
     let signs : most_in_a_row ts ≡ most_signs 0 ts = omega (arith, most_signs_is 0 ts, first_in_a_row ts) in
     by_most ts ∙ ap₂ (λ m n. nat_lt max_depth m || nat_lt max_depth n) parentheses signs
+
+-- ---- few symbols
+
+at_most : (b : Bool) (n m k : ℕ) → m ≤ n → k ≤ n → cond b m k ≤ n
+at_most true n m k h e = h
+at_most false n m k h e = e
+
+most_deepest : (h : ℕ) (ts : List Symbol) → deepest h ts ≤ h + length ts
+most_deepest h [] = omega arith
+most_deepest h (open_parenthesis ∷ ts) = omega (arith, most_deepest (suc h) ts)
+most_deepest h (close_parenthesis ∷ ts) = omega (arith, most_deepest (h - 1) ts)
+most_deepest h (s ∷ ts) = omega (arith, most_deepest h ts)
+
+most_in_all : (n : ℕ) (ts : List Symbol) → most_signs n ts ≤ n + length ts
+most_in_all n [] = omega arith
+most_in_all n (s ∷ ts) =
+    at_most (is_sign s) (n + length (s ∷ ts)) (most_signs (suc n) ts) (max n (most_signs 0 ts)) (omega (arith, most_in_all (suc n) ts)) (omega (arith, most_in_all 0 ts))
+
+-- as many symbols as the limit, or fewer, never nest too deep
+pub few_symbols : (ts : List Symbol) → length ts ≤ max_depth → false ≡ is_too_deep ts
+few_symbols ts few =
+    let parentheses : nat_lt max_depth (deepest 0 ts) ≡ false = le-ltb max_depth (deepest 0 ts) (omega (arith, most_deepest 0 ts, few)) in
+    let signs : nat_lt max_depth (most_signs 0 ts) ≡ false = le-ltb max_depth (most_signs 0 ts) (omega (arith, most_in_all 0 ts, few)) in
+    sym (too_deep ts ∙ ap₂ (λ (m n : Bool). m || n) parentheses signs)
 
 -- ---- what the code finds
 

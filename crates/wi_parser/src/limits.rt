@@ -74,7 +74,7 @@ fn is_sign(symbol: &Symbol) -> bool
     }
 }
 
-// Fewer symbols than the limit, as most formulas have, needn't be looked at.
+// No more symbols than the limit, as most formulas have, can't nest too deep.
 fn is_too_deep(symbols: &[Symbol]) -> bool
     ensures { result ≡ nesting.is_too_deep (all_meant symbols.now) }
 {
