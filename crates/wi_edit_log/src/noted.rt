@@ -1,6 +1,6 @@
 //! Who edited a cell: one look tells whether others did.
 
-ghost use Rattle.std.specs.Prelude.{◌≡◌, ◌==◌, ◌&&◌, ◌<◌, ◌≤◌, ◌+◌, ℕ, List, [], OnErr, OnOk, Some, drop, if◌then◌else◌, length, take};
+ghost use Rattle.std.specs.Prelude.{◌≡◌, ◌==◌, ◌&&◌, ◌<◌, ◌≤◌, ◌+◌, ℕ, List, [], OnOk, Some, drop, if◌then◌else◌, length, take};
 ghost use Rattle.wi_values.specs.Address.{is_within};
 ghost use Rattle.wi_edit_log.specs.EditLog.{have_cell};
 ghost use Rattle.wi_edit_log.specs.Inner.Edits.{AreInRuns, is_wanted_of_others};

@@ -1,6 +1,6 @@
 //! Words with a bit for each session.
 
-ghost use Rattle.std.specs.Prelude.{◌≡◌, ◌<◌, ◌≤◌, ◌==◌, ◌||◌, ◌&&◌, ℕ, false, true, not, nat_lt, IsTrue};
+ghost use Rattle.std.specs.Prelude.{◌≡◌, ◌<◌, ◌≤◌, ◌==◌, ◌||◌, ◌&&◌, ℕ, false, true, not, nat_lt};
 ghost use Rattle.wi_sessions.specs.Inner.Cells.{has_bit};
 
 /// Whether a session's bit stands in a word.

@@ -1,11 +1,11 @@
 //! Cells with a bit for each session for which they are pending or have room only. Bits of rooms stand in a list beside them
 //! too: as that is emptied the cells are pending, with no search and no memory.
 
-ghost use Rattle.std.specs.Prelude.{◌≡◌, true, false, ◌==◌, ◌<◌, ◌*◌, ℕ, All, Some, None, IfOk, OnOk, ◌++◌, ◌∷◌, ◌||◌, ◌&&◌, not, filter, length, option_copied, [], OnErr};
+ghost use Rattle.std.specs.Prelude.{◌≡◌, true, false, ◌==◌, ◌<◌, ◌*◌, ℕ, Some, None, IfOk, OnOk, ◌++◌, ◌∷◌, ◌||◌, ◌&&◌, filter, [], OnErr};
 ghost use Rattle.std.specs.Option.{is_some};
 ghost use Rattle.std.specs.List.Sorted.{IsStrictlyIncreasing};
 ghost use Rattle.std.specs.Ordering.{nat_cmp};
-ghost use Rattle.std.specs.Map.{lookup, keys_of};
+ghost use Rattle.std.specs.Map.{lookup};
 ghost use Rattle.std.specs.BTreeMap.{is_at};
 ghost use Rattle.wi_tiles.specs.Entries.{IsOrdered};
 ghost use Rattle.wi_values.specs.Address.{is_one_of};

@@ -1,6 +1,6 @@
 //! What a session holds beside its name.
 
-ghost use Rattle.std.specs.Prelude.{◌≡◌, ℕ, List, [], IfOk, OnOk, OnErr, string_bytes};
+ghost use Rattle.std.specs.Prelude.{◌≡◌, ℕ, List, OnOk, OnErr, string_bytes};
 ghost use Rattle.std.specs.Option.{option_map};
 ghost use Rattle.wi_sessions.specs.Sessions.{new_session, told, using_scenario};
 ghost use Rattle.wi_sessions.specs.Inner.Held.{with_name};

@@ -1,6 +1,6 @@
 //! Where to look for the cells that are pending for a session.
 
-ghost use Rattle.std.specs.Prelude.{◌≡◌, ◌≤◌, ◌<◌, ℕ, List, true, length, [], OnOk};
+ghost use Rattle.std.specs.Prelude.{◌≡◌, ◌<◌, ℕ, List, true, length, [], OnOk};
 ghost use Rattle.wi_values.specs.Address.{is_one_of};
 ghost use Rattle.wi_sessions.specs.Inner.Unread.{is_unread, HavePlaces, AreLookedAt};
 
