@@ -1,5 +1,5 @@
 -- Edits that close no cycle.
-use Rattle.wi_graph.proofs.Words.{◌≡◌, ◌==◌, ◌&&◌, ◌||◌, ◌⊎◌, inl, inr, ℕ, Bool, true, false, cond, filter, nat_le, get_or, length, arith, List, [], ◌∷◌, Option, Some, None, IfSome, is_some, refl, ap, sym, ◌∙◌, subst, or_cases, or_left, or_right, or_parts, and_parts, and_from, false_from_ne_true, le-leb, nil_from_length, list_any, find, keys_of, lookup, nat_cmp, is_at, BTreeSet, btree_set_len, contains, SmallVec, one_truth, Area, is_within, within_between, Content, Sheet, content_of, content_reads, circular, is_one_of, areas_in, Turns, areas_then, Brings, IsEditCone, Rooms, Coming, brought_to, in_room, items_of, room_at, put_over, room_over, areas_of, AreCircles, is_in, has_one, reads_one_of, meets_one_of, has_room_in, StandsApart, AreTurns, is_ahead, IsLookedAt, ReachesNot, ReadsApart, IsAhead, IsFoundBy}
+use Rattle.wi_graph.proofs.Words.{◌≡◌, ◌==◌, ◌&&◌, ◌||◌, ◌⊎◌, inl, inr, ℕ, Bool, true, false, cond, filter, nat_le, get_or, length, arith, List, [], ◌∷◌, Option, Some, None, IfSome, is_some, refl, ap, sym, ◌∙◌, subst, or_cases, or_left, or_right, or_parts, or-false, and_parts, and_from, false_from_ne_true, le-leb, nil_from_length, list_any, find, keys_of, lookup, nat_cmp, is_at, BTreeSet, btree_set_len, contains, SmallVec, one_truth, Area, is_within, within_between, Content, Sheet, content_of, content_reads, circular, is_one_of, areas_in, Turns, areas_then, Brings, IsEditCone, Rooms, Coming, brought_to, in_room, items_of, room_at, put_over, room_over, areas_of, AreCircles, is_in, has_one, reads_one_of, meets_one_of, has_room_in, StandsApart, AreTurns, as_set, is_ahead, IsLookedAt, ReachesNot, ReadsApart, IsAhead, IsFoundBy}
 use Rattle.wi_graph.proofs.Tests.{is_at-eq, turn_test, is_itself, clash, turned}
 use Rattle.wi_graph.proofs.Walks.{found, same_cell}
 use Rattle.wi_graph.proofs.Graphs.{left_circular}
@@ -25,6 +25,27 @@ has_one_is cells r None f n = sym (false_from_ne_true (has_one cells r) (λ h.
     let x = inside_finds cells.keys r h in
     n x.0 ((within_between r x.0 x.2).0, x.2, turned cells.keys x.0 ∙ x.1)))
 has_one_is cells r (Some d) f n = sym (found (is_within r) cells.keys d (sym (turned cells.keys d) ∙ f.2) f.1)
+
+-- ---- where the cone is one cell
+
+-- what is next reads the cell
+abbrev pub reads_cell : Coming → ℕ → Bool
+reads_cell es c = list_any (λ e. is_in (areas_of (items_of e.1)) c) es
+
+lone_area : (rs : List Area) (c : ℕ) → is_in rs c ≡ list_any (has_one (as_set (c ∷ []))) rs
+lone_area [] c = refl
+lone_area (r ∷ rs) c = ap (λ (b : Bool). b || is_in rs c) (sym (or-false (is_within r c))) ∙ ap (λ (b : Bool). (is_within r c || false) || b) (lone_area rs c)
+
+lone_reads : (es : Coming) (c : ℕ) → reads_cell es c ≡ reads_one_of es (as_set (c ∷ []))
+lone_reads [] c = refl
+lone_reads (e ∷ es) c =
+    ap (λ (b : Bool). b || reads_cell es c) (lone_area (areas_of (items_of e.1)) c)
+    ∙ ap (λ (b : Bool). list_any (has_one (as_set (c ∷ []))) (areas_of (items_of e.1)) || b) (lone_reads es c)
+
+pub lone_cell_reads : (es : Coming) (cone : List ℕ) (c : ℕ) → length cone ≡ 1 → c ≡ get_or cone 0 c → reads_cell es c ≡ reads_one_of es (as_set cone)
+lone_cell_reads es [] c l s = cc
+lone_cell_reads es (k ∷ []) c l s = let is : c ≡ k = s in ap (reads_cell es) is ∙ lone_reads es k
+lone_cell_reads es (j ∷ k ∷ ks) c l s = absurd (omega arith)
 
 -- ---- what reads none of them
 

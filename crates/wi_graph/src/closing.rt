@@ -1,7 +1,7 @@
 //! Whether an edit may close a cycle, or open one: whether what it brings reads a cell of its cone, and whether it meets a circular
 //! cell.
 
-ghost use Rattle.std.specs.Prelude.{◌≡◌, ◌||◌, ◌∷◌, [], false, IsTrue};
+ghost use Rattle.std.specs.Prelude.{◌≡◌, ◌||◌, false, IsTrue};
 ghost use Rattle.std.specs.List.{list_any};
 ghost use Rattle.std.specs.List.Sorted.{IsStrictlyIncreasing};
 ghost use Rattle.std.specs.Map.{keys_of};
@@ -11,6 +11,7 @@ ghost use Rattle.wi_values.specs.Address.{is_within};
 ghost use Rattle.wi_graph.specs.Inner.Bounds.{AreWithin};
 ghost use Rattle.wi_graph.specs.Inner.Rooms.{items_of, areas_of};
 ghost use Rattle.wi_graph.specs.Inner.Search.{as_set};
+ghost use Rattle.wi_graph.specs.Inner.Stripping.{is_in};
 ghost use Rattle.wi_graph.specs.Inner.Turning.{has_one, reads_one_of, meets_one_of, has_room_in, StandsApart};
 
 use crate::bounds::around;
@@ -34,7 +35,7 @@ pub(crate) fn closes_cycle(next: &[Brought], cone: &[Address]) -> bool
 
 /// Whether the rectangles of a room have a cell.
 fn reads_cell(room: &Option<Rectangles>, cell: Address) -> bool
-    ensures { result ≡ list_any (has_one (as_set (cell ∷ []))) (areas_of (items_of room.now)) }
+    ensures { result ≡ is_in (areas_of (items_of room.now)) cell }
 {
     match room {
         Some(areas) => areas.iter().any(|area| area.contains(cell)),

@@ -118,10 +118,11 @@ impl Graph {
     pub fn commit(&mut self)
         ensures { self.new ≡ staging (unwrap_or self.old.staged self.old.now) None }
     {
-        if let Some(staged) = &mut self.staged {
-            take_over(&mut self.rooms, &mut self.readers, &mut staged.next);
-            take_away(&mut self.circles, &staged.turns.went);
-        }
+        let Some(staged) = &mut self.staged else {
+            return;
+        };
+        take_over(&mut self.rooms, &mut self.readers, &mut staged.next);
+        take_away(&mut self.circles, &staged.turns.went);
         self.staged = None;
     }
 
