@@ -97,9 +97,9 @@ pub fn push_tree(tree: &Expr, text: &mut String) -> Result<(), AllocError> {
         Expr::Signed(Sign::Plus, operand) => push_between("{+", operand, "}", text),
         Expr::Signed(Sign::Minus, operand) => push_between("{-", operand, "}", text),
         Expr::Percent(operand) => push_between("{", operand, "%}", text),
-        Expr::Binary(operator, left, right) => {
-            push_between("{", left, mark_of(*operator), text)?;
-            push_between("", right, "}", text)
+        Expr::Binary(operator, operands) => {
+            push_between("{", &operands.0, mark_of(*operator), text)?;
+            push_between("", &operands.1, "}", text)
         }
         Expr::Call(name, parameters) => push_call(name, parameters, text),
         Expr::Text(content) => push_content(content, text),

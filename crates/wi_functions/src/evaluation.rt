@@ -108,9 +108,9 @@ fn value_of<L: Lookup>(alloc: Global, expr: &Expr, lookup: &L) -> Result<Value, 
         Expr::Parenthesized(inner) => value_of(alloc, inner, lookup),
         Expr::Signed(sign, inner) => signed_value(alloc, *sign, inner, lookup),
         Expr::Percent(inner) => percent_value(alloc, inner, lookup),
-        Expr::Binary(operator, left, right) => match lent(left, lookup) {
-            Some(x) => with_right_operand(alloc, *operator, x, right, lookup),
-            None => binary_value(alloc, *operator, left, right, lookup),
+        Expr::Binary(operator, operands) => match lent(&operands.0, lookup) {
+            Some(x) => with_right_operand(alloc, *operator, x, &operands.1, lookup),
+            None => binary_value(alloc, *operator, &operands.0, &operands.1, lookup),
         },
         Expr::WhatIf(formula_cell, pairs) => what_if_value(alloc, *formula_cell, pairs, lookup),
         Expr::Call(name, parameters) => call_value(alloc, name, parameters, lookup),

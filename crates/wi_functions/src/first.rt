@@ -31,9 +31,9 @@ fn first_of(expr: &Expr) -> Option<Address>
         Expr::Parenthesized(inner) => first_of(inner),
         Expr::Signed(_, inner) => first_of(inner),
         Expr::Percent(inner) => first_of(inner),
-        Expr::Binary(_, left, right) => match first_of(left) {
+        Expr::Binary(_, operands) => match first_of(&operands.0) {
             Some(at) => Some(at),
-            None => first_of(right),
+            None => first_of(&operands.1),
         },
         Expr::WhatIf(_, _) => None,
         Expr::Call(name, parameters) => first_of_call(name, parameters),

@@ -19,7 +19,7 @@ layer_tree (Expr-F.Rectangle c) = rectangle c
 layer_tree (Expr-F.Parenthesized t) = parenthesized t.value
 layer_tree (Expr-F.Signed s t) = signed s t.value
 layer_tree (Expr-F.Percent t) = percent t.value
-layer_tree (Expr-F.Binary op t u) = binary op t.value u.value
+layer_tree (Expr-F.Binary op t) = binary op t.value.0 t.value.1
 layer_tree (Expr-F.WhatIf f v) = what_if f (map pair_of v.items)
 layer_tree (Expr-F.Call f v) = call f (trees_of v.items)
 

@@ -76,7 +76,8 @@ pub enum Expr {
     Signed(Sign, Box<Expr>),
     /// A hundredth of its operand.
     Percent(Box<Expr>),
-    Binary(Operator, Box<Expr>, Box<Expr>),
+    /// Two operands stand behind one box.
+    Binary(Operator, Box<(Expr, Expr)>),
     /// The value of a formula cell, if each input had the value of its replacement cell.
     WhatIf(Reference, Vec<Pair>),
     /// A function by its name in capitals, with its parameters.
@@ -97,8 +98,8 @@ impl Expr {
             Expr::Parenthesized(t) => Ok(Expr::Parenthesized(copied(alloc, t)?)),
             Expr::Signed(sign, t) => Ok(Expr::Signed(*sign, copied(alloc, t)?)),
             Expr::Percent(t) => Ok(Expr::Percent(copied(alloc, t)?)),
-            Expr::Binary(op, t, u) => {
-                Ok(Expr::Binary(*op, copied(alloc, t)?, copied(alloc, u)?))
+            Expr::Binary(op, operands) => {
+                Ok(Expr::Binary(*op, both_copied(alloc, &operands.0, &operands.1)?))
             }
             Expr::WhatIf(f, pairs) => what_if(alloc, *f, pairs),
             Expr::Call(f, trees) => call(alloc, f, all_copied(alloc, trees)?),
@@ -112,6 +113,18 @@ fn copied(alloc: Global, expr: &Expr) -> Result<Box<Expr>, AllocError>
     ensures { IfOk result (λ e. tree_of e.value ≡ tree_of expr.now) }
 {
     Ok(Box::new(alloc, expr.copy(alloc)?)?)
+}
+
+// Both operands of a copied tree. They stand apart so that a tree's copy needs little stack for each level.
+#[cycle(copying)]
+#[inline(never)]
+fn both_copied(alloc: Global, left: &Expr, right: &Expr) -> Result<Box<(Expr, Expr)>, AllocError>
+    ensures left { IfOk result (λ e. tree_of e.value.0 ≡ tree_of left.now) }
+    ensures right { IfOk result (λ e. tree_of e.value.1 ≡ tree_of right.now) }
+{
+    let left = left.copy(alloc)?;
+    let right = right.copy(alloc)?;
+    Ok(Box::new(alloc, (left, right))?)
 }
 
 #[cycle(copying)]

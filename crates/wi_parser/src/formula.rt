@@ -188,9 +188,9 @@ fn push_leaves(
         Expr::Parenthesized(inner) => push_leaves(inner, inputs, rectangles),
         Expr::Signed(_, operand) => push_leaves(operand, inputs, rectangles),
         Expr::Percent(operand) => push_leaves(operand, inputs, rectangles),
-        Expr::Binary(_, left, right) => {
-            push_leaves(left, inputs, rectangles)?;
-            push_leaves(right, inputs, rectangles)
+        Expr::Binary(_, operands) => {
+            push_leaves(&operands.0, inputs, rectangles)?;
+            push_leaves(&operands.1, inputs, rectangles)
         }
         Expr::WhatIf(formula_cell, pairs) => {
             push_area(rectangles, cell_area(formula_cell.at))?;

@@ -234,7 +234,5 @@ fn percent(alloc: Global, operand: Expr) -> Result<Expr, AllocError>
 fn binary(alloc: Global, op: Operator, left: Expr, right: Expr) -> Result<Expr, AllocError>
     ensures { IfOk result (λ e. tree_of e ≡ tree.binary op (tree_of left) (tree_of right)) }
 {
-    let left = Box::new(alloc, left)?;
-    let right = Box::new(alloc, right)?;
-    Ok(Expr::Binary(op, left, right))
+    Ok(Expr::Binary(op, Box::new(alloc, (left, right))?))
 }

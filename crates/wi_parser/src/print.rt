@@ -47,9 +47,9 @@ fn push_tree(expr: &Expr, out: &mut String) -> Result<(), AllocError>
         Expr::Parenthesized(inner) => push_parenthesized(inner, out),
         Expr::Signed(sign, operand) => push_signed(*sign, operand, out),
         Expr::Percent(operand) => push_percent(operand, out),
-        Expr::Binary(op, left, right) => {
-            push_tree(left, out)?;
-            push_operation(*op, right, out)
+        Expr::Binary(op, operands) => {
+            push_tree(&operands.0, out)?;
+            push_operation(*op, &operands.1, out)
         }
         Expr::WhatIf(formula_cell, pairs) => push_what_if(*formula_cell, pairs, out),
         Expr::Call(name, parameters) => push_call(name, parameters, out),

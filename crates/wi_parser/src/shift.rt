@@ -57,7 +57,9 @@ pub(crate) fn all_stay(expr: &Expr, rows: i64, columns: i64) -> bool
         Expr::Parenthesized(t) => all_stay(t, rows, columns),
         Expr::Signed(_, t) => all_stay(t, rows, columns),
         Expr::Percent(t) => all_stay(t, rows, columns),
-        Expr::Binary(_, t, u) => all_stay(t, rows, columns) && all_stay(u, rows, columns),
+        Expr::Binary(_, operands) => {
+            all_stay(&operands.0, rows, columns) && all_stay(&operands.1, rows, columns)
+        }
         Expr::WhatIf(f, pairs) => stays(f, rows, columns) && pairs_stay(pairs, rows, columns),
         Expr::Call(_, parameters) => each_stays(parameters, rows, columns),
     }
@@ -105,11 +107,10 @@ pub(crate) fn shifted(
         Expr::Parenthesized(t) => Ok(Expr::Parenthesized(boxed(alloc, t, rows, columns)?)),
         Expr::Signed(sign, t) => Ok(Expr::Signed(*sign, boxed(alloc, t, rows, columns)?)),
         Expr::Percent(t) => Ok(Expr::Percent(boxed(alloc, t, rows, columns)?)),
-        Expr::Binary(op, t, u) => Ok(Expr::Binary(
-            *op,
-            boxed(alloc, t, rows, columns)?,
-            boxed(alloc, u, rows, columns)?,
-        )),
+        Expr::Binary(op, operands) => {
+            let both = both_boxed(alloc, &operands.0, &operands.1, rows, columns)?;
+            Ok(Expr::Binary(*op, both))
+        }
         Expr::WhatIf(f, pairs) => what_if(alloc, f, pairs, rows, columns),
         Expr::Call(f, parameters) => {
             call(alloc, f, each_shifted(alloc, parameters, rows, columns)?)
@@ -124,6 +125,26 @@ fn boxed(alloc: Global, expr: &Expr, rows: i64, columns: i64) -> Result<Box<Expr
         ≡ shift.map_references (shift.moved rows columns) (tree_of expr.now)) }
 {
     Ok(Box::new(alloc, shifted(alloc, expr, rows, columns)?)?)
+}
+
+// Both operands of an operator, in a box. They stand apart so that a level needs little stack.
+#[cycle(shift)]
+#[inline(never)]
+fn both_boxed(
+    alloc: Global,
+    left: &Expr,
+    right: &Expr,
+    rows: i64,
+    columns: i64,
+) -> Result<Box<(Expr, Expr)>, AllocError>
+    ensures left { IfOk result (λ b. tree_of b.value.0
+        ≡ shift.map_references (shift.moved rows columns) (tree_of left.now)) }
+    ensures right { IfOk result (λ b. tree_of b.value.1
+        ≡ shift.map_references (shift.moved rows columns) (tree_of right.now)) }
+{
+    let left = shifted(alloc, left, rows, columns)?;
+    let right = shifted(alloc, right, rows, columns)?;
+    Ok(Box::new(alloc, (left, right))?)
 }
 
 // The parameters of a call.
