@@ -1,5 +1,5 @@
 -- The tree of each kind of expression.
-use Rattle.wi_parser.proofs.Words.{◌≡◌, ℕ, ◌+◌, ◌<◌, length, take, get_or, List, [], ◌∷◌, ◌++◌, map, Box, Vec, Global, Result, IfOk, ap, sym, subst, ◌∙◌, map-append, take_more, Fraction, Corners, Expr, Expr-F, fold-roll-Expr, Operator, Pair, Reference, Sign, Tree, number, text, cell, rectangle, parenthesized, signed, percent, binary, what_if, call, leaves, all_leaves, cell_leaf, rectangle_leaf, what_if_leaf, layer_tree, tree_of, all_of, pair_of}
+use Rattle.wi_parser.proofs.Words.{◌≡◌, ℕ, ◌+◌, ◌<◌, length, take, get_or, List, [], ◌∷◌, ◌++◌, map, Box, Vec, Global, Result, IfOk, ap, ap₂, sym, subst, ◌∙◌, map-append, take_more, Fraction, Corners, Expr, Expr-F, fold-roll-Expr, Operator, Pair, Reference, Sign, Tree, number, text, cell, rectangle, parenthesized, signed, percent, binary, what_if, call, leaves, all_leaves, cell_leaf, rectangle_leaf, what_if_leaf, layer_tree, tree_of, all_of, pair_of}
 use Rattle.wi_values.specs.declared.text.Text.{Text}
 use Rattle.wi_parser.specs.declared.expr.Expr.TheVariants as code
 
@@ -24,8 +24,8 @@ signed_tree s t = ap tree_of (sym (code.rolls-Signed s t)) ∙ fold-roll-Expr Tr
 pub percent_tree : (t : Box Expr Global) → tree_of (code.Percent t) ≡ percent (tree_of t.value)
 percent_tree t = ap tree_of (sym (code.rolls-Percent t)) ∙ fold-roll-Expr Tree layer_tree (Expr-F.Percent t)
 
-pub binary_tree : (op : Operator) (t u : Box Expr Global) → tree_of (code.Binary op t u) ≡ binary op (tree_of t.value) (tree_of u.value)
-binary_tree op t u = ap tree_of (sym (code.rolls-Binary op t u)) ∙ fold-roll-Expr Tree layer_tree (Expr-F.Binary op t u)
+pub binary_tree : (op : Operator) (t : Box (Expr × Expr) Global) → tree_of (code.Binary op t) ≡ binary op (tree_of t.value.0) (tree_of t.value.1)
+binary_tree op t = ap tree_of (sym (code.rolls-Binary op t)) ∙ fold-roll-Expr Tree layer_tree (Expr-F.Binary op t)
 
 pub what_if_tree : (f : Reference) (v : Vec Pair Global) → tree_of (code.WhatIf f v) ≡ what_if f (map pair_of v.items)
 what_if_tree f v = ap tree_of (sym (code.rolls-WhatIf f v)) ∙ fold-roll-Expr Tree layer_tree (Expr-F.WhatIf f v)
@@ -33,10 +33,20 @@ what_if_tree f v = ap tree_of (sym (code.rolls-WhatIf f v)) ∙ fold-roll-Expr T
 pub call_tree : (f : Text) (v : Vec Expr Global) → tree_of (code.Call f v) ≡ call f (all_of v.items)
 call_tree f v = ap tree_of (sym (code.rolls-Call f v)) ∙ fold-roll-Expr Tree layer_tree (Expr-F.Call f v)
 
-pub binary_made : (op : Operator) (left right : Expr) (t u : Box Expr Global) → t.value ≡ left → u.value ≡ right
-    → tree_of (code.Binary op t u) ≡ binary op (tree_of left) (tree_of right)
-binary_made op left right t u one other =
-    binary_tree op t u ∙ ap (λ e. binary op (tree_of e) (tree_of u.value)) one ∙ ap (λ e. binary op (tree_of left) (tree_of e)) other
+-- the operands behind a box that was made of them
+pub binary_made : (op : Operator) (t : Box (Expr × Expr) Global) (q : Expr × Expr) → t.value ≡ q → tree_of (code.Binary op t) ≡ binary op (tree_of q.0) (tree_of q.1)
+binary_made op t q made = binary_tree op t ∙ ap (λ (p : Expr × Expr). binary op (tree_of p.0) (tree_of p.1)) made
+
+-- the operands, each as a call sees it
+pub binary_seen : (e : Expr) (op : Operator) (t : Box (Expr × Expr) Global) (d b : Expr × Expr) → e ≡ code.Binary op t → d ≡ t.value → b ≡ t.value
+    → tree_of e ≡ binary op (tree_of d.0) (tree_of b.1)
+binary_seen e op t d b is left right =
+    ap tree_of is ∙ binary_tree op t ∙ ap₂ (λ (p q : Expr × Expr). binary op (tree_of p.0) (tree_of q.1)) (sym left) (sym right)
+
+-- an operator between two parts, of which each has the tree that is wanted
+pub binary_of_parts : {E : Type 0} (r : Result Expr E) (op : Operator) (a b : Expr) (t u : Tree) → tree_of a ≡ t → tree_of b ≡ u
+    → IfOk r (λ x. tree_of x ≡ binary op (tree_of a) (tree_of b)) → IfOk r (λ x. tree_of x ≡ binary op t u)
+binary_of_parts r op a b t u left right h = subst (λ v. IfOk r (λ x. tree_of x ≡ v)) (ap₂ (binary op) left right) h
 
 -- ---- with the parts that were copied
 
@@ -49,10 +59,9 @@ signed_copied e s t u is same = signed_tree s u ∙ ap (signed s) same ∙ sym (
 pub percent_copied : (e : Expr) (t u : Box Expr Global) → e ≡ code.Percent t → tree_of u.value ≡ tree_of t.value → tree_of (code.Percent u) ≡ tree_of e
 percent_copied e t u is same = percent_tree u ∙ ap percent same ∙ sym (ap tree_of is ∙ percent_tree t)
 
-pub binary_copied : (e : Expr) (op : Operator) (t v u w : Box Expr Global) → e ≡ code.Binary op t v → tree_of u.value ≡ tree_of t.value → tree_of w.value ≡ tree_of v.value
-    → tree_of (code.Binary op u w) ≡ tree_of e
-binary_copied e op t v u w is left right =
-    binary_tree op u w ∙ ap (λ a. binary op a (tree_of w.value)) left ∙ ap (binary op (tree_of t.value)) right ∙ sym (ap tree_of is ∙ binary_tree op t v)
+pub binary_copied : {E : Type 0} (r : Result Expr E) (e : Expr) (op : Operator) (t : Box (Expr × Expr) Global) (d b : Expr × Expr) → e ≡ code.Binary op t → d ≡ t.value → b ≡ t.value
+    → IfOk r (λ x. tree_of x ≡ binary op (tree_of d.0) (tree_of b.1)) → IfOk r (λ x. tree_of x ≡ tree_of e)
+binary_copied r e op t d b is left right h = subst (λ v. IfOk r (λ x. tree_of x ≡ v)) (sym (binary_seen e op t d b is left right)) h
 
 pub call_copied : {E : Type 0} (r : Result Expr E) (e : Expr) (f : Text) (v : Vec Expr Global) (es us : List Expr) → e ≡ code.Call f v → es ≡ v.items → all_of us ≡ all_of es
     → IfOk r (λ x. tree_of x ≡ call f (all_of us)) → IfOk r (λ x. tree_of x ≡ tree_of e)
@@ -89,11 +98,9 @@ signed_leaves e d s t is inner = ap (λ x. leaves (tree_of x)) inner ∙ sym (ap
 pub percent_leaves : (e d : Expr) (t : Box Expr Global) → e ≡ code.Percent t → d ≡ t.value → leaves (tree_of d) ≡ leaves (tree_of e)
 percent_leaves e d t is inner = ap (λ x. leaves (tree_of x)) inner ∙ sym (ap leaves (ap tree_of is ∙ percent_tree t))
 
-pub binary_leaves : (e d b : Expr) (op : Operator) (t u : Box Expr Global) → e ≡ code.Binary op t u → d ≡ t.value → b ≡ u.value
-    → leaves (tree_of d) ++ leaves (tree_of b) ≡ leaves (tree_of e)
-binary_leaves e d b op t u is left right =
-    ap (λ x. leaves (tree_of x) ++ leaves (tree_of b)) left ∙ ap (λ x. leaves (tree_of t.value) ++ leaves (tree_of x)) right
-    ∙ sym (ap leaves (ap tree_of is ∙ binary_tree op t u))
+pub binary_leaves : (e : Expr) (d b : Expr × Expr) (op : Operator) (t : Box (Expr × Expr) Global) → e ≡ code.Binary op t → d ≡ t.value → b ≡ t.value
+    → leaves (tree_of d.0) ++ leaves (tree_of b.1) ≡ leaves (tree_of e)
+binary_leaves e d b op t is left right = sym (ap leaves (binary_seen e op t d b is left right))
 
 pub what_if_leaves : (e : Expr) (f : Reference) (v : Vec Pair Global) (ps : List Pair) → e ≡ code.WhatIf f v → ps ≡ v.items
     → leaves (tree_of e) ≡ what_if_leaf f (map pair_of ps) ∷ []

@@ -3,7 +3,7 @@ use Rattle.wi_parser.proofs.Words.{◌≡◌, ℕ, ◌*◌, ◌<◌, pos, ◌+�
 use Rattle.std.proofs.lemmas.List.{append-nil}
 use Rattle.wi_values.specs.declared.text.Text.{Text}
 use Rattle.wi_parser.specs.declared.expr.Expr.TheVariants as code
-use Rattle.wi_parser.proofs.ExprTrees.{number_tree, text_tree, cell_tree, rectangle_tree, parenthesized_tree, signed_tree, percent_tree, binary_tree, what_if_tree, call_tree, number_leaves, text_leaves, cell_leaves, rectangle_leaves}
+use Rattle.wi_parser.proofs.ExprTrees.{number_tree, text_tree, cell_tree, rectangle_tree, parenthesized_tree, signed_tree, percent_tree, binary_seen, what_if_tree, call_tree, number_leaves, text_leaves, cell_leaves, rectangle_leaves}
 
 mutual
   -- a tree with other references is spelled where the tree is
@@ -192,9 +192,13 @@ pub percent_moved : (f : Reference → Reference) (e : Expr) (t u : Box Expr Glo
     → tree_of u.value ≡ map_references f (tree_of t.value) → tree_of (code.Percent u) ≡ map_references f (tree_of e)
 percent_moved f e t u is h = percent_tree u ∙ ap percent h ∙ sym (ap (map_references f) (ap tree_of is ∙ percent_tree t))
 
-pub binary_moved : (f : Reference → Reference) (e : Expr) (op : Operator) (t v u w : Box Expr Global) → e ≡ code.Binary op t v
-    → tree_of u.value ≡ map_references f (tree_of t.value) → tree_of w.value ≡ map_references f (tree_of v.value) → tree_of (code.Binary op u w) ≡ map_references f (tree_of e)
-binary_moved f e op t v u w is h k = binary_tree op u w ∙ ap₂ (binary op) h k ∙ sym (ap (map_references f) (ap tree_of is ∙ binary_tree op t v))
+pub binary_moved : {E : Type 0} (r : Result Expr E) (g f : Reference → Reference) (e : Expr) (op : Operator) (t : Box (Expr × Expr) Global) (d b : Expr × Expr)
+    → e ≡ code.Binary op t → d ≡ t.value → b ≡ t.value → g ≡ f → IfOk r (λ x. tree_of x ≡ map_references g (binary op (tree_of d.0) (tree_of b.1)))
+    → IfOk r (λ x. tree_of x ≡ map_references f (tree_of e))
+binary_moved r g f e op t d b is left right same h =
+    let there : map_references g (binary op (tree_of d.0) (tree_of b.1)) ≡ map_references f (tree_of e) =
+    ap (λ k. map_references k (binary op (tree_of d.0) (tree_of b.1))) same ∙ ap (map_references f) (sym (binary_seen e op t d b is left right)) in
+    subst (λ u. IfOk r (λ x. tree_of x ≡ u)) there h
 
 pub what_if_moved : {E : Type 0} (r : Result Expr E) (g f : Reference → Reference) (e : Expr) (a : Reference) (v : Vec Pair Global) (ps : List Pair)
     → e ≡ code.WhatIf a v → ps ≡ v.items → g ≡ f → IfOk r (λ x. tree_of x ≡ what_if (g a) (map (λ q. (g q.0, g q.1)) (map pair_of ps)))

@@ -76,7 +76,7 @@ pub enum Expr {
     Signed(Sign, Box<Expr>),
     /// A hundredth of its operand.
     Percent(Box<Expr>),
-    /// Two operands stand behind one box.
+    /// Both operands stand behind one box.
     Binary(Operator, Box<(Expr, Expr)>),
     /// The value of a formula cell, if each input had the value of its replacement cell.
     WhatIf(Reference, Vec<Pair>),
@@ -98,9 +98,7 @@ impl Expr {
             Expr::Parenthesized(t) => Ok(Expr::Parenthesized(copied(alloc, t)?)),
             Expr::Signed(sign, t) => Ok(Expr::Signed(*sign, copied(alloc, t)?)),
             Expr::Percent(t) => Ok(Expr::Percent(copied(alloc, t)?)),
-            Expr::Binary(op, operands) => {
-                Ok(Expr::Binary(*op, both_copied(alloc, &operands.0, &operands.1)?))
-            }
+            Expr::Binary(op, operands) => binary_copied(alloc, *op, &operands.0, &operands.1),
             Expr::WhatIf(f, pairs) => what_if(alloc, *f, pairs),
             Expr::Call(f, trees) => call(alloc, f, all_copied(alloc, trees)?),
         }
@@ -115,16 +113,21 @@ fn copied(alloc: Global, expr: &Expr) -> Result<Box<Expr>, AllocError>
     Ok(Box::new(alloc, expr.copy(alloc)?)?)
 }
 
-// Both operands of a copied tree. They stand apart so that a tree's copy needs little stack for each level.
+// An operator between copies of its operands. It stands apart for the same reason.
 #[cycle(copying)]
 #[inline(never)]
-fn both_copied(alloc: Global, left: &Expr, right: &Expr) -> Result<Box<(Expr, Expr)>, AllocError>
-    ensures left { IfOk result (λ e. tree_of e.value.0 ≡ tree_of left.now) }
-    ensures right { IfOk result (λ e. tree_of e.value.1 ≡ tree_of right.now) }
+fn binary_copied(
+    alloc: Global,
+    op: Operator,
+    left: &Expr,
+    right: &Expr,
+) -> Result<Expr, AllocError>
+    ensures { IfOk result
+        (λ e. tree_of e ≡ tree.binary op (tree_of left.now) (tree_of right.now)) }
 {
     let left = left.copy(alloc)?;
     let right = right.copy(alloc)?;
-    Ok(Box::new(alloc, (left, right))?)
+    binary(alloc, op, left, right)
 }
 
 #[cycle(copying)]
@@ -143,6 +146,19 @@ pub(crate) fn text(alloc: Global, content: &Text) -> Result<Expr, AllocError>
     ensures { IfOk result (λ e. tree_of e ≡ tree.text content.now) }
 {
     Ok(Expr::Text(content.copy(alloc)?))
+}
+
+/// The tree of an operator between two operands.
+pub(crate) fn binary(
+    alloc: Global,
+    op: Operator,
+    left: Expr,
+    right: Expr,
+) -> Result<Expr, AllocError>
+    ensures { IfOk result (λ e. tree_of e ≡ tree.binary op (tree_of left) (tree_of right)) }
+{
+    let operands = Box::new(alloc, (left, right))?;
+    Ok(Expr::Binary(op, operands))
 }
 
 /// The tree of a what-if.

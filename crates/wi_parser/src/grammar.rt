@@ -7,7 +7,7 @@ ghost use Rattle.wi_parser.specs.Inner.Nests.{Nests};
 ghost use Rattle.wi_parser.specs.View.{tree_of};
 ghost use Rattle.wi_parser.specs.Tree as tree;
 
-use crate::expr::{Corners, Expr, Operator, Reference, Sign, call, text};
+use crate::expr::{Corners, Expr, Reference, Sign, binary, call, text};
 use crate::fault::ParseFault;
 use crate::symbol::Symbol;
 use crate::symbols::{Symbols, line_of};
@@ -229,10 +229,4 @@ fn percent(alloc: Global, operand: Expr) -> Result<Expr, AllocError>
     ensures { IfOk result (λ e. tree_of e ≡ tree.percent (tree_of operand)) }
 {
     Ok(Expr::Percent(Box::new(alloc, operand)?))
-}
-
-fn binary(alloc: Global, op: Operator, left: Expr, right: Expr) -> Result<Expr, AllocError>
-    ensures { IfOk result (λ e. tree_of e ≡ tree.binary op (tree_of left) (tree_of right)) }
-{
-    Ok(Expr::Binary(op, Box::new(alloc, (left, right))?))
 }

@@ -8,7 +8,7 @@ ghost use Rattle.wi_parser.specs.Leaves.{all_leaves};
 ghost use Rattle.wi_parser.specs.View.{tree_of, all_of, pair_of};
 ghost use Rattle.wi_parser.specs.Shift as shift;
 
-use crate::expr::{Corners, Expr, Pair, Reference, call, text};
+use crate::expr::{Corners, Expr, Operator, Pair, Reference, binary, call, text};
 use std::alloc::{AllocError, AllocFailed, Global};
 use thiserror::Error;
 use wi_values::{Address, COLUMNS, ROWS};
@@ -108,8 +108,7 @@ pub(crate) fn shifted(
         Expr::Signed(sign, t) => Ok(Expr::Signed(*sign, boxed(alloc, t, rows, columns)?)),
         Expr::Percent(t) => Ok(Expr::Percent(boxed(alloc, t, rows, columns)?)),
         Expr::Binary(op, operands) => {
-            let both = both_boxed(alloc, &operands.0, &operands.1, rows, columns)?;
-            Ok(Expr::Binary(*op, both))
+            binary_shifted(alloc, *op, &operands.0, &operands.1, rows, columns)
         }
         Expr::WhatIf(f, pairs) => what_if(alloc, f, pairs, rows, columns),
         Expr::Call(f, parameters) => {
@@ -127,24 +126,23 @@ fn boxed(alloc: Global, expr: &Expr, rows: i64, columns: i64) -> Result<Box<Expr
     Ok(Box::new(alloc, shifted(alloc, expr, rows, columns)?)?)
 }
 
-// Both operands of an operator, in a box. They stand apart so that a level needs little stack.
+// An operator between its operands, both moved. It stands apart so that a level needs little stack.
 #[cycle(shift)]
 #[inline(never)]
-fn both_boxed(
+fn binary_shifted(
     alloc: Global,
+    op: Operator,
     left: &Expr,
     right: &Expr,
     rows: i64,
     columns: i64,
-) -> Result<Box<(Expr, Expr)>, AllocError>
-    ensures left { IfOk result (λ b. tree_of b.value.0
-        ≡ shift.map_references (shift.moved rows columns) (tree_of left.now)) }
-    ensures right { IfOk result (λ b. tree_of b.value.1
-        ≡ shift.map_references (shift.moved rows columns) (tree_of right.now)) }
+) -> Result<Expr, AllocError>
+    ensures { IfOk result (λ e. tree_of e ≡ shift.map_references (shift.moved rows columns)
+        (tree.binary op (tree_of left.now) (tree_of right.now))) }
 {
     let left = shifted(alloc, left, rows, columns)?;
     let right = shifted(alloc, right, rows, columns)?;
-    Ok(Box::new(alloc, (left, right))?)
+    binary(alloc, op, left, right)
 }
 
 // The parameters of a call.

@@ -1,5 +1,5 @@
 use Rattle.wi_parser.proofs.Words.{ap, sym, ◌∙◌, tree_of}
-use Rattle.wi_parser.proofs.ExprTrees.{copied_more, call_copied, parenthesized_copied, signed_copied, percent_copied, binary_copied}
+use Rattle.wi_parser.proofs.ExprTrees.{copied_more, call_copied, parenthesized_copied, signed_copied, percent_copied, binary_copied, binary_of_parts}
 use Rattle.wi_parser.proofs.expr.+copying.Goals as goal
 
 pub Expr::copy-returns-in-Rectangle : goal.Expr::copy-returns-in-Rectangle
@@ -23,10 +23,11 @@ pub Expr::copy-returns-in_ok-copied-in-Percent : goal.Expr::copy-returns-in_ok-c
 Expr::copy-returns-in_ok-copied-in-Percent t c =
     percent_copied _ _ _ c.in-Percent.is (c.in_ok-copied-in-Percent.ensures ∙ ap tree_of c.deref-in-Percent.ensures)
 
-pub Expr::copy-returns-in_ok-copied-in-Binary-2 : goal.Expr::copy-returns-in_ok-copied-in-Binary-2
-Expr::copy-returns-in_ok-copied-in-Binary-2 t c =
-    binary_copied _ _ _ _ _ _ c.in-Binary.is (c.in_ok-copied-in-Binary.ensures ∙ ap tree_of c.deref-in-Binary.ensures)
-    (c.in_ok-copied-in-Binary-2.ensures ∙ ap tree_of c.deref-in-Binary-2.ensures)
+pub Expr::copy-returns-in-Binary : goal.Expr::copy-returns-in-Binary
+Expr::copy-returns-in-Binary t c = binary_copied _ _ _ _ _ _ c.in-Binary.is c.deref-in-Binary.ensures c.deref-in-Binary-2.ensures c.binary_copied.ensures
+
+pub binary_copied-returns : goal.binary_copied-returns
+binary_copied-returns t c = binary_of_parts _ _ _ _ _ _ c.in_ok-left.ensures c.in_ok-right.ensures c.binary.ensures
 
 pub copied-returns : goal.copied-returns
 copied-returns t c = ap tree_of c.in_ok-new.ensures.ok ∙ c.in_ok-copy.ensures

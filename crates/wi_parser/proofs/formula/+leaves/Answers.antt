@@ -59,15 +59,15 @@ push_leaves-returns-in-Percent-clause-rectangles t c =
 
 pub push_leaves-returns-in_ok-push_leaves-in-Binary-clause-inputs : goal.push_leaves-returns-in_ok-push_leaves-in-Binary-clause-inputs
 push_leaves-returns-in_ok-push_leaves-in-Binary-clause-inputs t c =
-    same_appended leaf_inputs _ _ _ _ _ (binary_leaves _ _ _ _ _ _ c.in-Binary.is c.deref-in-Binary.ensures c.deref-in-Binary-2.ensures)
+    same_appended leaf_inputs _ _ _ _ _ (binary_leaves _ _ _ _ _ c.in-Binary.is c.deref-in-Binary.ensures c.deref-in-Binary-2.ensures)
     (both_appended leaf_inputs c.push_leaves-in-Binary-2.result c.args.inputs.now.items c.push_leaves-in-Binary.new.inputs.items c.push_leaves-in-Binary-2.new.inputs.items
-    (leaves (tree_of c.deref-in-Binary.result.now)) (leaves (tree_of c.deref-in-Binary-2.result.now)) c.in_ok-push_leaves-in-Binary.ensures.inputs c.push_leaves-in-Binary-2.ensures.inputs)
+    (leaves (tree_of c.deref-in-Binary.result.now.0)) (leaves (tree_of c.deref-in-Binary-2.result.now.1)) c.in_ok-push_leaves-in-Binary.ensures.inputs c.push_leaves-in-Binary-2.ensures.inputs)
 
 pub push_leaves-returns-in_ok-push_leaves-in-Binary-clause-rectangles : goal.push_leaves-returns-in_ok-push_leaves-in-Binary-clause-rectangles
 push_leaves-returns-in_ok-push_leaves-in-Binary-clause-rectangles t c =
-    same_appended leaf_rectangles _ _ _ _ _ (binary_leaves _ _ _ _ _ _ c.in-Binary.is c.deref-in-Binary.ensures c.deref-in-Binary-2.ensures)
+    same_appended leaf_rectangles _ _ _ _ _ (binary_leaves _ _ _ _ _ c.in-Binary.is c.deref-in-Binary.ensures c.deref-in-Binary-2.ensures)
     (both_appended leaf_rectangles c.push_leaves-in-Binary-2.result c.args.rectangles.now.items c.push_leaves-in-Binary.new.rectangles.items c.push_leaves-in-Binary-2.new.rectangles.items
-    (leaves (tree_of c.deref-in-Binary.result.now)) (leaves (tree_of c.deref-in-Binary-2.result.now)) c.in_ok-push_leaves-in-Binary.ensures.rectangles c.push_leaves-in-Binary-2.ensures.rectangles)
+    (leaves (tree_of c.deref-in-Binary.result.now.0)) (leaves (tree_of c.deref-in-Binary-2.result.now.1)) c.in_ok-push_leaves-in-Binary.ensures.rectangles c.push_leaves-in-Binary-2.ensures.rectangles)
 
 pub push_leaves-returns-in_ok-push_area-in-WhatIf-clause-inputs : goal.push_leaves-returns-in_ok-push_area-in-WhatIf-clause-inputs
 push_leaves-returns-in_ok-push_area-in-WhatIf-clause-inputs t c =

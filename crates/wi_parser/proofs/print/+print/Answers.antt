@@ -1,5 +1,5 @@
-use Rattle.wi_parser.proofs.Words.{rules, arith, ◌≡◌, ◌≤◌, suc, ◌+◌, List, [], ◌∷◌, length, map, ◌++◌, drop, drop-cons, codes, string_bytes, ap, sym, ◌∙◌, starts_with_of_eq, starts_with_trans, starts_with_of_append, drop_of_length-le, common_steps, IfOk-from_err, quoted, starts_joined, Expr, Pair, parenthesized, signed, percent, binary, what_if, call, tree_of, all_of, pair_of, operator_text, symbols_text, tree_text, written_as, spelling_of_all}
-use Rattle.wi_parser.proofs.ExprTrees.{number_tree, text_tree, cell_tree, rectangle_tree, parenthesized_tree, signed_tree, percent_tree, binary_tree, what_if_tree, call_tree}
+use Rattle.wi_parser.proofs.Words.{rules, arith, ◌≡◌, ◌≤◌, suc, ◌+◌, List, [], ◌∷◌, length, map, ◌++◌, drop, drop-cons, codes, string_bytes, ap, sym, ◌∙◌, starts_with_of_eq, starts_with_trans, starts_with_of_append, drop_of_length-le, common_steps, IfOk-from_err, quoted, starts_joined, Expr, Pair, parenthesized, signed, percent, what_if, call, tree_of, all_of, pair_of, operator_text, symbols_text, tree_text, written_as, spelling_of_all}
+use Rattle.wi_parser.proofs.ExprTrees.{number_tree, text_tree, cell_tree, rectangle_tree, parenthesized_tree, signed_tree, percent_tree, binary_seen, what_if_tree, call_tree}
 use Rattle.wi_parser.proofs.PrintLemmas.{after_written, parenthesized_written, parameter_written, parameters_from, parameters_closed, tree_written, symbol_written, binary_written, percent_written, starts_same, starts_on, starts_still}
 use Rattle.wi_parser.proofs.print.+print.Goals as goal
 
@@ -165,9 +165,7 @@ push_percent-returns-in_err-push_tree-clause-kept t c = c.in_err-push_tree.ensur
 
 pub push_tree-returns-in_ok-push_tree-in-Binary-clause-ok : goal.push_tree-returns-in_ok-push_tree-in-Binary-clause-ok
 push_tree-returns-in_ok-push_tree-in-Binary-clause-ok t c =
-    let left = ap (λ (x : Expr). binary c.in-Binary.op (tree_of x) (tree_of c.in-Binary.right.value)) (sym c.deref-in-Binary.ensures) in
-    let right = ap (λ (x : Expr). binary c.in-Binary.op (tree_of c.deref-in-Binary.result.now) (tree_of x)) (sym c.deref-in-Binary-2.ensures) in
-    binary_written _ _ _ _ _ _ _ _ (ap tree_of c.in-Binary.is ∙ binary_tree c.in-Binary.op c.in-Binary.left c.in-Binary.right ∙ left ∙ right)
+    binary_written _ _ _ _ _ _ _ _ (binary_seen _ _ _ _ _ c.in-Binary.is c.deref-in-Binary.ensures c.deref-in-Binary-2.ensures)
     c.in_ok-push_tree-in-Binary.ensures.ok c.push_operation.ensures.ok
 
 pub push_percent-returns-clause-ok : goal.push_percent-returns-clause-ok

@@ -1,4 +1,5 @@
 use Rattle.wi_parser.proofs.Words.{List, map, refl, ap, ap₂, sym, ◌∙◌, arith, rules, w64, common_steps, SFits, to_z-of_z, take_all, IfOk-from_err, Expr, Reference, trees_of, tree_of, moved, map_references}
+use Rattle.wi_parser.proofs.ExprTrees.{binary_of_parts}
 use Rattle.wi_parser.proofs.Shifts.{mapped, number_moved, text_moved, cell_moved, rectangle_moved, part_moved, parenthesized_moved, signed_moved, percent_moved, binary_moved, what_if_moved, call_moved}
 use Rattle.wi_parser.proofs.shift.+shift.Goals as goal
 
@@ -36,11 +37,11 @@ shifted-returns-in_err-boxed-in-Signed t c = IfOk-from_err _ _ c.from_residual-i
 pub shifted-returns-in_err-boxed-in-Percent : goal.shifted-returns-in_err-boxed-in-Percent
 shifted-returns-in_err-boxed-in-Percent t c = IfOk-from_err _ _ c.from_residual-in_err-boxed-in-Percent.ensures.0
 
-pub shifted-returns-in_err-boxed-in-Binary : goal.shifted-returns-in_err-boxed-in-Binary
-shifted-returns-in_err-boxed-in-Binary t c = IfOk-from_err _ _ c.from_residual-in_err-boxed-in-Binary.ensures.0
+pub binary_shifted-returns-in_err-left : goal.binary_shifted-returns-in_err-left
+binary_shifted-returns-in_err-left t c = IfOk-from_err _ _ c.from_residual.ensures.0
 
-pub shifted-returns-in_err-boxed-in-Binary-2 : goal.shifted-returns-in_err-boxed-in-Binary-2
-shifted-returns-in_err-boxed-in-Binary-2 t c = IfOk-from_err _ _ c.from_residual-in_err-boxed-in-Binary-2.ensures.0
+pub binary_shifted-returns-in_err-right : goal.binary_shifted-returns-in_err-right
+binary_shifted-returns-in_err-right t c = IfOk-from_err _ _ c.from_residual-in_err-right.ensures.0
 
 pub shifted-returns-in_err-each_shifted-in-Call : goal.shifted-returns-in_err-each_shifted-in-Call
 shifted-returns-in_err-each_shifted-in-Call t c = IfOk-from_err _ _ c.from_residual-in_err-each_shifted-in-Call.ensures.0
@@ -82,11 +83,15 @@ shifted-returns-in_ok-boxed-in-Percent t c =
     let same = ap₂ moved (to_z-of_z w64 c.args.rows c.ranges.rows) (to_z-of_z w64 c.args.columns c.ranges.columns) in
     percent_moved _ _ _ _ c.in-Percent.is (part_moved _ _ _ _ _ same c.deref-in-Percent.ensures c.in_ok-boxed-in-Percent.ensures)
 
-pub shifted-returns-in_ok-boxed-in-Binary-2 : goal.shifted-returns-in_ok-boxed-in-Binary-2
-shifted-returns-in_ok-boxed-in-Binary-2 t c =
+pub shifted-returns-in-Binary : goal.shifted-returns-in-Binary
+shifted-returns-in-Binary t c =
     let same = ap₂ moved (to_z-of_z w64 c.args.rows c.ranges.rows) (to_z-of_z w64 c.args.columns c.ranges.columns) in
-    binary_moved _ _ _ _ _ _ _ c.in-Binary.is (part_moved _ _ _ _ _ same c.deref-in-Binary.ensures c.in_ok-boxed-in-Binary.ensures)
-    (part_moved _ _ _ _ _ same c.deref-in-Binary-2.ensures c.in_ok-boxed-in-Binary-2.ensures)
+    binary_moved _ _ _ _ _ _ _ _ c.in-Binary.is c.deref-in-Binary.ensures c.deref-in-Binary-2.ensures same c.binary_shifted.ensures
+
+pub binary_shifted-returns : goal.binary_shifted-returns
+binary_shifted-returns t c =
+    let same = ap₂ moved (to_z-of_z w64 c.args.rows c.ranges.rows) (to_z-of_z w64 c.args.columns c.ranges.columns) in
+    binary_of_parts _ _ _ _ _ _ (part_moved _ _ _ _ _ same refl c.in_ok-left.ensures) (part_moved _ _ _ _ _ same refl c.in_ok-right.ensures) c.binary.ensures
 
 pub shifted-returns-in-WhatIf : goal.shifted-returns-in-WhatIf
 shifted-returns-in-WhatIf t c =

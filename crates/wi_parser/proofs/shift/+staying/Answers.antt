@@ -59,19 +59,19 @@ pub all_stay-returns-then-all_stay : goal.all_stay-returns-then-all_stay
 all_stay-returns-then-all_stay t c =
     let same = ap₂ stays (to_z-of_z w64 c.args.rows c.ranges.rows) (to_z-of_z w64 c.args.columns c.ranges.columns) in
     let p = stays c.args.rows c.args.columns in
-    first_holds _ _ _ _ (c.all_stay-in-Binary.ensures ∙ ap (λ (q : Reference → Bool). all_references q (tree_of c.deref-in-Binary.result.now)) same)
+    first_holds _ _ _ _ (c.all_stay-in-Binary.ensures ∙ ap (λ (q : Reference → Bool). all_references q (tree_of c.deref-in-Binary.result.now.0)) same)
     c.if-all_stay.true
-    (c.all_stay-then-all_stay.ensures ∙ ap (λ (q : Reference → Bool). all_references q (tree_of c.deref-then-all_stay.result.now)) same)
-    ∙ both_pass p (leaves (tree_of c.deref-in-Binary.result.now)) (leaves (tree_of c.deref-then-all_stay.result.now))
-    ∙ same_pass p _ _ (binary_leaves _ _ _ _ _ _ c.in-Binary.is c.deref-in-Binary.ensures c.deref-then-all_stay.ensures)
+    (c.all_stay-then-all_stay.ensures ∙ ap (λ (q : Reference → Bool). all_references q (tree_of c.deref-then-all_stay.result.now.1)) same)
+    ∙ both_pass p (leaves (tree_of c.deref-in-Binary.result.now.0)) (leaves (tree_of c.deref-then-all_stay.result.now.1))
+    ∙ same_pass p _ _ (binary_leaves _ _ _ _ _ c.in-Binary.is c.deref-in-Binary.ensures c.deref-then-all_stay.ensures)
 
 pub all_stay-returns-else-all_stay : goal.all_stay-returns-else-all_stay
 all_stay-returns-else-all_stay t c =
     let same = ap₂ stays (to_z-of_z w64 c.args.rows c.ranges.rows) (to_z-of_z w64 c.args.columns c.ranges.columns) in
     let p = stays c.args.rows c.args.columns in
-    first_fails _ _ _ (c.all_stay-in-Binary.ensures ∙ ap (λ (q : Reference → Bool). all_references q (tree_of c.deref-in-Binary.result.now)) same) c.if-all_stay.false
-    ∙ both_pass p (leaves (tree_of c.deref-in-Binary.result.now)) (leaves (tree_of c.in-Binary.u.value))
-    ∙ same_pass p _ _ (binary_leaves _ _ _ _ _ _ c.in-Binary.is c.deref-in-Binary.ensures refl)
+    first_fails _ _ _ (c.all_stay-in-Binary.ensures ∙ ap (λ (q : Reference → Bool). all_references q (tree_of c.deref-in-Binary.result.now.0)) same) c.if-all_stay.false
+    ∙ both_pass p (leaves (tree_of c.deref-in-Binary.result.now.0)) (leaves (tree_of c.in-Binary.operands.value.1))
+    ∙ same_pass p _ _ (binary_leaves _ _ _ _ _ c.in-Binary.is c.deref-in-Binary.ensures refl)
 
 pub all_stay-returns-then-stays-2 : goal.all_stay-returns-then-stays-2
 all_stay-returns-then-stays-2 t c =
