@@ -116,12 +116,7 @@ fn copied(alloc: Global, expr: &Expr) -> Result<Box<Expr>, AllocError>
 // An operator between copies of its operands. It stands apart for the same reason.
 #[cycle(copying)]
 #[inline(never)]
-fn binary_copied(
-    alloc: Global,
-    op: Operator,
-    left: &Expr,
-    right: &Expr,
-) -> Result<Expr, AllocError>
+fn binary_copied(alloc: Global, op: Operator, left: &Expr, right: &Expr) -> Result<Expr, AllocError>
     ensures { IfOk result
         (λ e. tree_of e ≡ tree.binary op (tree_of left.now) (tree_of right.now)) }
 {

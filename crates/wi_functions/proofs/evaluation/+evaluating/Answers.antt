@@ -1,4 +1,4 @@
-use Rattle.wi_functions.proofs.Words.{◌≡◌, ℕ, List, refl, sym, ap, ◌∙◌, subst, arith, rules, err_from_is_err_and, MatchResult-weaker, Value, Expr, the_lemmas, Tree, text, binary, call, leaves, all_leaves, tree_of, all_of, value_or, call_value, applied, applied_to_values, Lazy, References, values_alone, arguments_in, operate, meaning, arguments, IsWanted, values_of, ReferInside, of_tree, of_parameters, mapped, Evaluates, IfMissing, Stop, Want}
+use Rattle.wi_functions.proofs.Words.{◌≡◌, ℕ, List, refl, sym, ap, ◌∙◌, subst, arith, rules, err_from_is_err_and, MatchResult-weaker, Value, Expr, the_lemmas, Tree, text, binary, call, binary_seen, leaves, all_leaves, tree_of, all_of, value_or, call_value, applied, applied_to_values, Lazy, References, values_alone, arguments_in, operate, meaning, arguments, IsWanted, values_of, ReferInside, of_tree, of_parameters, mapped, Evaluates, IfMissing, Stop, Want}
 use Rattle.wi_arguments.specs.declared.argument.Argument as given
 use Rattle.wi_functions.proofs.Asking.{left_asks, right_asks, memory_wants, wanted_too, evaluates_too, stop_wants}
 use Rattle.wi_functions.proofs.Parameters.{value_there, value_missing, asks_there, length_arguments, call_found, more_arguments, more_values, none_left, reference_is, value_is, reference_asks, value_asks, more_refer}
@@ -16,12 +16,17 @@ value_of-returns-in-Text g t c =
 pub value_of-returns-in-Some : goal.value_of-returns-in-Some
 value_of-returns-in-Some g t c =
     let op = c.in-Binary.operator in
-    let left = tree_of c.deref-in-Binary.result.now in
-    let right = tree_of c.deref-in-Some.result.now in
-    let is : tree_of c.args.expr.now ≡ binary op left right = search (rules, the_lemmas) in
+    let left = tree_of c.deref-in-Binary.result.now.0 in
+    let right = tree_of c.deref-in-Some.result.now.1 in
+    let is = binary_seen _ _ _ _ _ c.in-Binary.is c.deref-in-Binary.ensures c.deref-in-Some.ensures in
     subst (λ (u : Tree). Evaluates g.L.Lookup.known_cell g.L.Lookup.known_what_if c.args.lookup.now c.with_right_operand.result (of_tree u)) (sym is)
     (evaluates_too g.L.Lookup.known_cell g.L.Lookup.known_what_if c.args.lookup.now (mapped (operate op c.in-Some.x.now) (of_tree right)) (of_tree (binary op left right)) c.with_right_operand.result
     (λ a agrees. ap (λ (x : Value). operate op x (meaning right a.cells a.what_ifs)) (c.in-Some.ensures a agrees)) (right_asks op left right) c.with_right_operand.ensures)
+
+pub value_of-returns-in-None : goal.value_of-returns-in-None
+value_of-returns-in-None g t c =
+    let is = binary_seen _ _ _ _ _ c.in-Binary.is c.deref-in-None.ensures c.deref-in-None-2.ensures in
+    subst (λ (u : Tree). Evaluates g.L.Lookup.known_cell g.L.Lookup.known_what_if c.args.lookup.now c.binary_value.result (of_tree u)) (sym is) c.binary_value.ensures
 
 -- ---- two operands
 

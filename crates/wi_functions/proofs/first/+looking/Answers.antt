@@ -1,4 +1,4 @@
-use Rattle.wi_functions.proofs.Words.{◌≡◌, List, IfSome, refl, sym, subst, rules, IfSome_then, tree_of, all_of, cell_leaf, Tree, cell, binary, call, Expr, the_lemmas, Asks, AnyAsks, Cell}
+use Rattle.wi_functions.proofs.Words.{◌≡◌, List, IfSome, refl, sym, subst, rules, IfSome_then, tree_of, all_of, cell_leaf, Tree, cell, call, binary_seen, Expr, the_lemmas, Asks, AnyAsks, Cell}
 use Rattle.wi_functions.proofs.Asking.{leaf_asks, left_asks, right_asks}
 use Rattle.wi_functions.proofs.first.+looking.Goals as goal
 
@@ -10,19 +10,17 @@ first_of-returns-in-Cell t c =
 
 pub first_of-returns-in-Some : goal.first_of-returns-in-Some
 first_of-returns-in-Some t c =
-    let op = c.in-Binary.field-0 in
-    let left = tree_of c.in-Binary.left.value in
-    let right = tree_of c.in-Binary.right.value in
-    let is : tree_of c.args.expr.now ≡ binary op left right = search (rules, the_lemmas) in
-    subst (λ (u : Tree). Asks u (Cell c.in-Some.at)) (sym is) (left_asks op left right (Cell c.in-Some.at) (subst (λ (e : Expr). Asks (tree_of e) (Cell c.in-Some.at)) c.deref-in-Binary.ensures c.in-Some.ensures))
+    let both = c.deref-in-Binary.result.now in
+    let is = binary_seen _ _ _ _ _ c.in-Binary.is c.deref-in-Binary.ensures c.deref-in-Binary.ensures in
+    subst (λ (u : Tree). Asks u (Cell c.in-Some.at)) (sym is) (left_asks c.in-Binary.field-0 (tree_of both.0) (tree_of both.1) (Cell c.in-Some.at) c.in-Some.ensures)
 
 pub first_of-returns-in-None : goal.first_of-returns-in-None
 first_of-returns-in-None t c =
-    let op = c.in-Binary.field-0 in
-    let left = tree_of c.in-Binary.left.value in
-    let right = tree_of c.in-Binary.right.value in
-    let is : tree_of c.args.expr.now ≡ binary op left right = search (rules, the_lemmas) in
-    subst (λ (u : Tree). IfSome c.first_of-in-None.result (λ a. Asks u (Cell a))) (sym is) (IfSome_then c.first_of-in-None.result (subst (λ (e : Expr). IfSome c.first_of-in-None.result (λ a. Asks (tree_of e) (Cell a))) c.deref-in-None.ensures c.first_of-in-None.ensures) (λ a. right_asks op left right (Cell a)))
+    let left = tree_of c.deref-in-Binary.result.now.0 in
+    let right = tree_of c.deref-in-None.result.now.1 in
+    let is = binary_seen _ _ _ _ _ c.in-Binary.is c.deref-in-Binary.ensures c.deref-in-None.ensures in
+    subst (λ (u : Tree). IfSome c.first_of-in-None.result (λ a. Asks u (Cell a))) (sym is)
+    (IfSome_then c.first_of-in-None.result c.first_of-in-None.ensures (λ a. right_asks c.in-Binary.field-0 left right (Cell a)))
 
 pub first_of-returns-in-WhatIf : goal.first_of-returns-in-WhatIf
 first_of-returns-in-WhatIf t c = search rules
