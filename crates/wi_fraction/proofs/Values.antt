@@ -1,5 +1,5 @@
 -- What the results are worth: they have the value of the exact operation.
-use Rattle.wi_fraction.proofs.Vocabulary.{◌≡◌, ℕ, zero, suc, ◌*◌, ◌/◌, ◌<◌, ℤ, pos, negsuc, ◌+ℤ◌, ◌-ℤ◌, ◌*ℤ◌, neg_ℤ, unsigned_abs, int_div, Option, Some, None, refl, ◌∣◌, sym, ap, ◌∙◌, subst, arith, ints, mul_comm, mul_assoc, div-mul_cancel, dvd-mul_left, dvd-mul_right, Bool, true, false, cond, nat_le, option_and_then, ◌<ℤ◌, int_cmp, int_ranks, gcd, is_gcd, unsigned_abs-mul, same_lowest, IsExact, Number, number_of, max_size, number_at-some, number_at-is, negated, bounded, int_bounded, sum_of, product_of, quotient_of, fraction_of, mul-mul, neg-pos-mul, mul_below, int_irrefl, by_rank, turn}
+use Rattle.wi_fraction.proofs.Vocabulary.{◌≡◌, IfOk, Result, ok_or, ℕ, zero, suc, ◌*◌, ◌/◌, ◌<◌, ℤ, pos, negsuc, ◌+ℤ◌, ◌-ℤ◌, ◌*ℤ◌, neg_ℤ, unsigned_abs, int_div, Option, Some, None, refl, ◌∣◌, sym, ap, ◌∙◌, subst, arith, ints, mul_comm, mul_assoc, div-mul_cancel, dvd-mul_left, dvd-mul_right, Bool, true, false, cond, nat_le, option_and_then, ◌<ℤ◌, int_cmp, int_ranks, gcd, is_gcd, unsigned_abs-mul, same_lowest, IsExact, Number, number_of, max_size, number_at-some, number_at-is, negated, bounded, int_bounded, sum_of, product_of, quotient_of, fraction_of, mul-mul, neg-pos-mul, mul_below, int_irrefl, by_rank, turn}
 use Rattle.wi_fraction.proofs.Divisors.{gcd_pos, div_gcd_pos, coprime_divided}
 use Rattle.wi_fraction.proofs.NearWholes.{opposite, negated_is}
 use Rattle.wi_fraction.proofs.Numbers.{abs-signed}
@@ -130,6 +130,17 @@ pub difference_value : (x y z : Number) → sum_of x (negated y) ≡ Some z → 
 difference_value x y z e =
     ap (λ v. (x.num *ℤ pos y.den +ℤ v) *ℤ pos z.den) (sym (neg-mul y.num x.den))
     ∙ sum_value x (opposite y) z (ap (sum_of x) (sym (negated_is y)) ∙ e)
+
+-- ---- a call that gives what an operation gives, or an error
+
+-- with an equal operand it gives the same
+pub sum_with : {E : Type 0} (x y z : Number) (e : E) (r : Result Number E) → r ≡ ok_or (sum_of x y) e → y ≡ z → r ≡ ok_or (sum_of x z) e
+sum_with x y z e r is same = is ∙ ap (λ (w : Number). ok_or (sum_of x w) e) same
+
+-- what is so of each value of the operation is so of its own
+pub value_by : {E : Type 0} (o : Option Number) (e : E) (r : Result Number E) (P : Number → Type 0) → r ≡ ok_or o e → ((z : Number) → o ≡ Some z → P z) → IfOk r P
+value_by {E} None e r P is f = subst (λ (s : Result Number E). IfOk s P) (sym is) tt
+value_by {E} (Some z) e r P is f = subst (λ (s : Result Number E). IfOk s P) (sym is) (f z refl)
 
 -- ---- the number that has a value
 

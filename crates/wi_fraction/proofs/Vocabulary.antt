@@ -1,5 +1,5 @@
 -- The words of the library, of the crates below and of this crate's definitions that its proofs are written in.
-pub use Rattle.std.proofs.Common.{Err, FitsSigned, Ok, OnErr, OnOk, Result, String, ap, arith, drop-cons, get_or, if◌then◌else◌, inl, inr, is_ok, rules, string_bytes, subst, sym, tests, ◌||◌, ◌∙◌}
+pub use Rattle.std.proofs.Common.{Err, FitsSigned, IfOk, Ok, OnErr, OnOk, Result, String, ap, arith, drop-cons, get_or, if◌then◌else◌, inl, inr, is_ok, ok_or, rules, string_bytes, subst, sym, tests, ◌||◌, ◌∙◌}
 pub use Rattle.std.proofs.Math.ListN.{get_or-append}
 pub use Rattle.std.proofs.Math.Nat.{add-mul, add-mul-div_right, div-add-mod, div-add-mod', div-div-eq-div-mul, div-le_self, div-lt_iff_lt-mul, div-mul-le_self, div-mul_cancel, div-one, div_self, dvd-mul_left, dvd-mul_right, dvd-mul_right_of_dvd, dvd_of_mul-dvd-mul_right, dvd_trans, eq-one_of_dvd-one, le-div_iff_mul-le, le_trans, lt-div-mul-add, lt_of_mul-lt-mul_right, mod-eq_of_lt, mod-lt, mul-add-mod_self_right, mul-div-mul_right, mul-div_cancel, mul-dvd-mul, mul-dvd-mul_right, mul-le-mul_left, mul-le-mul_right, mul-lt-mul_of_pos_right, mul-mul-mul_comm, mul-one, mul-pos, mul_assoc, mul_comm, mul_right_comm, one-dvd, one-le-pow, one-mul, pos_of_dvd_of_pos, pow-le-pow_left, pow-le-pow_right, pow-suc, pow-succ', pow-zero, zero-div, zero-mul}
 pub use Rattle.std.proofs.Math.Seq.{drop-append_seam, drop-length, get_or-append_right, take-append_seam}
