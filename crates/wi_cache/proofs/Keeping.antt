@@ -1,6 +1,6 @@
 -- What `keep` makes of kept values, clause by clause.
 use Rattle.std.proofs.Common.{◌≡◌, ℕ, zero, suc, ◌+◌, ◌-◌, ◌<◌, ◌≤◌, inl, inr, lt-ltb, le-ltb, Bool, true, false, cond, if◌then◌else◌, nat_lt, List, [], ◌∷◌, ◌++◌, map, length, take, drop, reverse, get_or, set, slice_get, Option, Some, None, IfSome, IsSome, is_some, min, refl, sym, ap, ◌∙◌, subst, arith, true≢false, length-append, IsPermutation}
-use Rattle.std.proofs.lemmas.Bool.{ltb-false}
+use Rattle.std.proofs.lemmas.Bool.{ltb-false, ltb-true}
 use Rattle.std.proofs.lemmas.List.{append-nil, append_assoc, drop-map, drop-set-lt, drop_all, length-drop, length-map, length-reverse, length-set, length-take, map-append, reverse-append, set-append_left, take-append-drop, take_all, take_at}
 use Rattle.std.proofs.lemmas.Grind.{take-set_at}
 use Rattle.std.proofs.Math.Seq.{get_or-append_seam}
@@ -116,6 +116,14 @@ module _ {X : Type 0} where
           let past : length (set xs n x) ≤ n + 1 = omega (arith, length-set xs n x, full, ltb-false (n + 1) cap e) in
           ap (λ j. latest j (set xs n x)) (is ∙ ap (λ b. if b then n + 1 else 0) e) ∙ ap reverse (append-nil (set xs n x))
           ∙ (λ i. reverse (sym (drop_all (n + 1) (set xs n x) past) i ++ sym (take_all (n + 1) (set xs n x) past) i))
+
+-- the next place is one of the circle
+pub place_within : (m i n : ℕ) → i < n → m ≡ place_after i n → m < n
+place_within m i n l e = by (nat_lt (i + 1) n) refl e
+  where
+    by : (b : Bool) → nat_lt (i + 1) n ≡ b → m ≡ (if b then i + 1 else 0) → m < n
+    by true t h = omega (arith, h, ltb-true (i + 1) n t)
+    by false t h = omega (arith, h, l)
 
 -- ---- which entry goes
 

@@ -1,7 +1,7 @@
-use Rattle.std.proofs.Common.{◌≡◌, ◌≤◌, Some, None, length, subst, sym, ap, ◌∙◌, arith, rules}
+use Rattle.std.proofs.Common.{◌≡◌, ◌≤◌, Some, None, length, subst, sym, ap, ◌∙◌, arith}
 use Rattle.std.specs.Map.{keys_of}
 use Rattle.wi_cache.specs.Entries.{HasRoom, KeptValues, Puts, PutsForGoing, PutsForOne, going, kept, keys_after, latest, len_after, value_for}
-use Rattle.wi_cache.proofs.Keeping.{none_is_gone, gone_is, found_put, puts_latest, none_went, none_goes, len_put, order_put, line_put, found_gone, one_went, no_room, oldest_went, len_gone, order_gone, line_gone}
+use Rattle.wi_cache.proofs.Keeping.{none_is_gone, gone_is, found_put, puts_latest, none_went, none_goes, len_put, order_put, place_within, found_gone, one_went, no_room, oldest_went, len_gone, order_gone, line_gone}
 use Rattle.wi_cache.proofs.kept.Kept.keep.Goals as goal
 
 -- ---- where there aren't too many
@@ -11,7 +11,7 @@ returns-clause-found c =
     let i = c.self.inside in
     let new = c.insert.new.self in
     let found = found_put i.entries new c.args.key c.args.value c.in_ok-insert.ensures.updates c.insert.ensures.unique i.oldest i.capacity c.self.invariant in
-    search (rules, found)
+    search found
 
 pub returns-clause-stays : goal.returns-clause-stays
 returns-clause-stays c =
@@ -52,6 +52,15 @@ returns-clause-gone c =
 
 -- ---- where there are, and the oldest goes
 
+pub invariant_of-self-then-len-self : goal.invariant_of-self-then-len-self
+invariant_of-self-then-len-self c =
+    let i = c.self.inside in
+    let new = c.insert.new.self in
+    let left = c.swap_remove_index-gone.new.self in
+    let next = c.place_after-self-inside.result in
+    line_gone i.entries new c.args.key c.args.value c.in_ok-insert.ensures.updates c.insert.ensures.unique i.oldest i.capacity c.self.invariant c.in_ok-insert.field-0 c.in_ok-insert.ensures.old c.in_ok-insert.ensures.len left c.in_ok-insert.ensures.entries (omega (arith, c.len.ensures.len, c.if-len-self.true)) c.swap_remove_index-gone.result c.swap_remove_index-gone.ensures.entry c.swap_remove_index-gone.ensures.updates c.swap_remove_index-gone.ensures.len c.swap_remove_index-gone.ensures.unique next
+    (place_within next i.oldest i.capacity c.self.invariant.2 c.place_after-self-inside.ensures)
+
 pub returns-then-len-self-clause-found : goal.returns-then-len-self-clause-found
 returns-then-len-self-clause-found c =
     let i = c.self.inside in
@@ -59,7 +68,7 @@ returns-then-len-self-clause-found c =
     let left = c.swap_remove_index-gone.new.self in
     let next = c.place_after-self-inside.result in
     let found = found_gone i.entries new c.args.key c.args.value c.in_ok-insert.ensures.updates c.insert.ensures.unique i.oldest i.capacity c.self.invariant c.in_ok-insert.field-0 c.in_ok-insert.ensures.old c.in_ok-insert.ensures.len left c.in_ok-insert.ensures.entries (omega (arith, c.len.ensures.len, c.if-len-self.true)) c.swap_remove_index-gone.result c.swap_remove_index-gone.ensures.entry c.swap_remove_index-gone.ensures.updates c.swap_remove_index-gone.ensures.len c.swap_remove_index-gone.ensures.unique next in
-    search (rules, found)
+    search found
 
 pub returns-then-len-self-clause-stays : goal.returns-then-len-self-clause-stays
 returns-then-len-self-clause-stays c =
