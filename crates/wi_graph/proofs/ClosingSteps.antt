@@ -1,5 +1,5 @@
 -- Edits that close no cycle.
-use Rattle.wi_graph.proofs.Words.{◌≡◌, ◌==◌, ◌&&◌, ◌||◌, ◌⊎◌, inl, inr, ℕ, Bool, true, false, cond, filter, nat_le, get_or, length, arith, List, [], ◌∷◌, Option, Some, None, IfSome, is_some, refl, ap, sym, ◌∙◌, subst, or_cases, or_left, or_right, or_parts, or-false, and_parts, and_from, false_from_ne_true, le-leb, nil_from_length, list_any, find, keys_of, lookup, nat_cmp, is_at, BTreeSet, btree_set_len, contains, SmallVec, one_truth, Area, is_within, within_between, Content, Sheet, content_of, content_reads, circular, is_one_of, areas_in, Turns, areas_then, Brings, IsEditCone, Rooms, Coming, brought_to, in_room, items_of, room_at, put_over, room_over, areas_of, AreCircles, is_in, has_one, reads_one_of, meets_one_of, has_room_in, StandsApart, AreTurns, as_set, is_ahead, IsLookedAt, ReachesNot, ReadsApart, IsAhead, IsFoundBy}
+use Rattle.wi_graph.proofs.Words.{◌≡◌, ◌==◌, ◌&&◌, ◌||◌, ◌⊎◌, inl, inr, ℕ, Bool, true, false, cond, filter, nat_le, get_or, length, arith, List, [], ◌∷◌, Option, Some, None, IfSome, is_some, refl, ap, sym, ◌∙◌, subst, or_cases, or_left, or_right, or_parts, or-false, and_parts, and_from, false_from_ne_true, le-leb, nil_from_length, list_any, find, keys_of, lookup, nat_cmp, is_at, BTreeSet, btree_set_len, contains, SmallVec, one_truth, Area, is_within, within_between, Content, Sheet, content_of, content_reads, circular, is_one_of, areas_in, Turns, areas_then, Brings, IsEditCone, Rooms, Coming, brought_to, in_room, items_of, room_at, put_over, room_over, areas_of, AreCircles, is_in, reads_cell, has_one, reads_one_of, meets_one_of, has_room_in, StandsApart, AreTurns, as_set, is_ahead, IsLookedAt, ReachesNot, ReadsApart, IsAhead, IsFoundBy}
 use Rattle.wi_graph.proofs.Tests.{is_at-eq, turn_test, is_itself, clash, turned}
 use Rattle.wi_graph.proofs.Walks.{found, same_cell}
 use Rattle.wi_graph.proofs.Graphs.{left_circular}
@@ -27,10 +27,6 @@ has_one_is cells r None f n = sym (false_from_ne_true (has_one cells r) (λ h.
 has_one_is cells r (Some d) f n = sym (found (is_within r) cells.keys d (sym (turned cells.keys d) ∙ f.2) f.1)
 
 -- ---- where the cone is one cell
-
--- what is next reads the cell
-abbrev pub reads_cell : Coming → ℕ → Bool
-reads_cell es c = list_any (λ e. is_in (areas_of (items_of e.1)) c) es
 
 lone_area : (rs : List Area) (c : ℕ) → is_in rs c ≡ list_any (has_one (as_set (c ∷ []))) rs
 lone_area [] c = refl

@@ -12,7 +12,7 @@ ghost use Rattle.wi_graph.specs.Inner.Bounds.{AreWithin};
 ghost use Rattle.wi_graph.specs.Inner.Rooms.{items_of, areas_of};
 ghost use Rattle.wi_graph.specs.Inner.Search.{as_set};
 ghost use Rattle.wi_graph.specs.Inner.Stripping.{is_in};
-ghost use Rattle.wi_graph.specs.Inner.Turning.{has_one, reads_one_of, meets_one_of, has_room_in, StandsApart};
+ghost use Rattle.wi_graph.specs.Inner.Turning.{reads_cell, has_one, reads_one_of, meets_one_of, has_room_in, StandsApart};
 
 use crate::bounds::around;
 use crate::cell_set::CellSet;
@@ -27,14 +27,21 @@ pub(crate) fn closes_cycle(next: &[Brought], cone: &[Address]) -> bool
     ensures { result ≡ reads_one_of next.now (as_set cone.now) }
 {
     if let [cell] = cone {
-        return next.iter().any(|entry| reads_cell(&entry.1, *cell));
+        return reads_cell(next, *cell);
     }
     let bounds = around(cone);
     next.iter().any(|entry| reads_one(&entry.1, cone, bounds))
 }
 
+/// Whether what is next reads a cell.
+fn reads_cell(next: &[Brought], cell: Address) -> bool
+    ensures { result ≡ reads_cell next.now cell }
+{
+    next.iter().any(|entry| has_cell(&entry.1, cell))
+}
+
 /// Whether the rectangles of a room have a cell.
-fn reads_cell(room: &Option<Rectangles>, cell: Address) -> bool
+fn has_cell(room: &Option<Rectangles>, cell: Address) -> bool
     ensures { result ≡ is_in (areas_of (items_of room.now)) cell }
 {
     match room {

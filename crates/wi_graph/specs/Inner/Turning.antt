@@ -24,6 +24,10 @@ has_circle_outside circles cells r = list_any (λ d. is_within r d && not (conta
 abbrev pub reads_outside : BTreeMap ℕ (Vec Area) → BTreeSet ℕ → BTreeSet ℕ → ℕ → Bool
 reads_outside reads circles cells c = list_any (has_circle_outside circles cells) (items_there (get nat_cmp reads c))
 
+-- what is next reads the cell
+abbrev pub reads_cell : Coming → ℕ → Bool
+reads_cell es c = list_any (λ e. is_in (areas_of (items_of e.1)) c) es
+
 -- the rectangle has one of the cells
 abbrev pub has_one : BTreeSet ℕ → Area → Bool
 has_one cells r = list_any (is_within r) cells.keys

@@ -3,8 +3,8 @@ use Rattle.wi_graph.proofs.EdgeLemmas.{rooms_over}
 use Rattle.wi_graph.proofs.GraphEnds.{taken_graph, taken_view, staged_is}
 use Rattle.wi_graph.proofs.graph.Graph.commit.Goals as goal
 
-pub invariant_of-self : goal.invariant_of-self
-invariant_of-self c =
+pub invariant_of-self-2 : goal.invariant_of-self
+invariant_of-self-2 c =
     let g = c.self.inside in
     let x = c.in-Some.staged in
     let s = staged_is g.rooms g.readers g.circles g.staged x c.in-Some.is c.self.invariant.1 in
