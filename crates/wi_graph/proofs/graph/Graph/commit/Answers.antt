@@ -3,7 +3,7 @@ use Rattle.wi_graph.proofs.EdgeLemmas.{rooms_over}
 use Rattle.wi_graph.proofs.GraphEnds.{taken_graph, taken_view, staged_is}
 use Rattle.wi_graph.proofs.graph.Graph.commit.Goals as goal
 
-pub invariant_of-self-2 : goal.invariant_of-self
+pub invariant_of-self-2 : goal.invariant_of-self-2
 invariant_of-self-2 c =
     let g = c.self.inside in
     let x = c.in-Some.staged in
