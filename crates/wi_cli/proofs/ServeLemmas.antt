@@ -1,5 +1,5 @@
 -- What is told of a line that was served.
-use Rattle.wi_cli.proofs.Vocabulary.{◌≡◌, ℕ, Bool, true, false, List, [], ◌++◌, refl, sym, ap, ◌∙◌, subst, Option, None, Some, Result, Ok, Err, append-nil, has_session, bytes_of, Refusal, State, MayLackMemory, Passed, Done, command_of, Told, IsServed, RefusedAs}
+use Rattle.wi_cli.proofs.Vocabulary.{◌≡◌, ℕ, Bool, true, false, List, [], ◌++◌, refl, sym, ap, ◌∙◌, subst, Option, None, Some, Result, Ok, Err, append-nil, has_session, bytes_of, Refusal, State, MayLackMemory, Passed, Done, command_of, Told, IsServed, RefusedAs, Reply}
 use Rattle.wi_scenarios.specs.declared.refusal.Refusal.TheVariants.{Memory}
 use Rattle.wi_scenarios.specs.Answer as answer
 use Rattle.wi_scenarios.specs.Step.{Command, IsStep}
@@ -60,21 +60,31 @@ pub served_with : (d e : ReadCommand) (r : Ended) (s t : State) (out out' : List
 served_with d e r s t out out' same h k =
     (h.0, h.1, subst (λ (x : ReadCommand). IsServed (command_of x) r s t h.0) (sym same) (served e r s t h.0 h.2 k))
 
-pub told_passed : (o : Option Command) (s : State) (out : List ℕ) → o ≡ None → Told o Passed s s out
-told_passed o s out e = subst (λ x. Told x Passed s s out) (sym e) refl
+-- ---- of a command
 
-pub told_done : (o : Option Command) (c : Command) (s t : State) (out out' records : List ℕ) → o ≡ Some c → out ≡ [] → out' ≡ out ++ records
-    → IsServed c (Ok tt) s t records → Told o Done s t out'
-told_done o c s t out out' records e none grown h =
-    subst (λ x. Told x Done s t out') (sym e) (subst (λ x. IsStep s c (Ok (t, x))) (sym (grown ∙ ap (λ x. x ++ records) none)) h)
+pub told_done : (d c : Command) (s t : State) (out out' records : List ℕ) → d ≡ c → out ≡ [] → out' ≡ out ++ records
+    → IsServed c (Ok tt) s t records → Told (Some d) Done s t out'
+told_done d c s t out out' records e none grown h =
+    subst (λ x. IsStep s x (Ok (t, out'))) (sym e) (subst (λ x. IsStep s c (Ok (t, x))) (sym (grown ∙ ap (λ x. x ++ records) none)) h)
 
-pub told_refused : (o : Option Command) (c : Command) (e : Refusal) (s t : State) (out records : List ℕ) → o ≡ Some c
-    → IsServed c (Err e) s t records → Told o (Refused e) s t out
-told_refused o c e s t out records same h = subst (λ x. Told x (Refused e) s t out) (sym same) h
+pub told_refused : (d c : Command) (e : Refusal) (s t : State) (out records : List ℕ) → d ≡ c
+    → IsServed c (Err e) s t records → Told (Some d) (Refused e) s t out
+told_refused d c e s t out records same h = subst (λ x. Told (Some x) (Refused e) s t out) (sym same) h
 
 bad : (e : Refusal) (s : State) → (e ≡ Memory → ⊥) → RefusedAs e s (spell.Refused e)
 bad Memory s h = absurd (h refl)
 bad e s h = refl
 
-pub told_bad : (o : Option Command) (e : Refusal) (s : State) (out : List ℕ) → o ≡ Some (spell.Refused e) → (e ≡ Memory → ⊥) → Told o (Refused e) s s out
-told_bad o e s out same h = subst (λ x. Told x (Refused e) s s out) (sym same) (refl, bad e s h)
+pub told_bad : (d : Command) (e : Refusal) (s : State) (out : List ℕ) → (d ≡ spell.Refused e) × (e ≡ Memory → ⊥) → Told (Some d) (Refused e) s s out
+told_bad d e s out h = subst (λ x. Told (Some x) (Refused e) s s out) (sym h.0) (refl, bad e s h.1)
+
+-- ---- of a line
+
+pub line_passed : (o : Option Command) (s : State) (out : List ℕ) → o ≡ None → Told o Passed s s out
+line_passed o s out e = subst (λ x. Told x Passed s s out) (sym e) refl
+
+pub line_told : (o p : Option Command) (r : Reply) (s t : State) (out : List ℕ) → o ≡ p → Told p r s t out → Told o r s t out
+line_told o p r s t out e h = subst (λ x. Told x r s t out) (sym e) h
+
+pub line_bad : (o : Option Command) (e : Refusal) (s : State) (out : List ℕ) → (o ≡ Some (spell.Refused e)) × (e ≡ Memory → ⊥) → Told o (Refused e) s s out
+line_bad o e s out h = line_told o (Some (spell.Refused e)) (Refused e) s s out h.0 (told_bad (spell.Refused e) e s out (refl, h.1))

@@ -1,6 +1,6 @@
 -- The words of the library, of the crates below and of this crate's definitions that its proofs are written in.
 pub use Rattle.memchr.specs.Find.{NoneBefore, Nowhere, Passes, is_byte}
-pub use Rattle.std.proofs.Common.{Bool, Err, IfErr, IfOk, List, MatchResult, None, Ok, OnOk, Option, Result, Some, [], ap, append-nil, append_assoc, ap₂, arith, bytes_eq, codes, cond, drop, eqb, false, filter, filter_map, get_or, if◌then◌else◌, inl, inr, is_ok, is_some, length, length-append, ltb, map, max, min, nat_eq, nat_le, nat_lt, not, ok_or, option_map, refl, rules, subst, subst₂, suc, sym, take, tests, true, vec_capacity, zero, ℕ, ⊎_elim, ◌%◌, ◌&&◌, ◌*◌, ◌++◌, ◌+◌, ◌-◌, ◌/◌, ◌<◌, ◌==◌, ◌||◌, ◌↔◌, ◌∙◌, ◌∷◌, ◌≡◌, ◌≢◌, ◌≤◌, ◌⊎◌}
+pub use Rattle.std.proofs.Common.{Bool, Err, IfErr, IfOk, List, MatchOption, MatchResult, None, Ok, OnOk, Option, Result, Some, [], ap, append-nil, append_assoc, ap₂, arith, bytes_eq, codes, cond, drop, eqb, false, filter, filter_map, get_or, if◌then◌else◌, inl, inr, is_ok, is_some, length, length-append, ltb, map, max, min, nat_eq, nat_le, nat_lt, not, ok_or, option_map, refl, rules, subst, subst₂, suc, sym, take, tests, true, vec_capacity, zero, ℕ, ⊎_elim, ◌%◌, ◌&&◌, ◌*◌, ◌++◌, ◌+◌, ◌-◌, ◌/◌, ◌<◌, ◌==◌, ◌||◌, ◌↔◌, ◌∙◌, ◌∷◌, ◌≡◌, ◌≢◌, ◌≤◌, ◌⊎◌}
 pub use Rattle.std.proofs.KnownBytes.{Appends-kept, Appends-nil, Appends-trans, Consumes-nil, Consumes-trans}
 pub use Rattle.std.proofs.Math.Bool.{or-false, or-true}
 pub use Rattle.std.proofs.Math.Seq.{drop-append_seam, take-add, take-append-add, take-append_seam}
@@ -53,7 +53,7 @@ unfoldable pub use Rattle.wi_cli.specs.Inner.RunOutcome.{limited}
 pub use Rattle.wi_cli.specs.Inner.ScenarioCommands.{as_command, base_command, drop_command, scenario_command, use_command}
 pub use Rattle.wi_cli.specs.Inner.Script.{block_command, command_with, commands, is_comment, named_command, text_command, whole_lines}
 unfoldable pub use Rattle.wi_cli.specs.Inner.Script.{all_commands, complete_commands, line_command, spelled_command}
-pub use Rattle.wi_cli.specs.Inner.Spelling.{IsCommandOf, IsLineOf, command_of}
+pub use Rattle.wi_cli.specs.Inner.Spelling.{IsCommandOf, command_of}
 pub use Rattle.wi_cli.specs.Inner.TableCommand.{table_command, table_of_one, table_of_two}
 pub use Rattle.wi_cli.specs.Inner.Taken.{AreBlocks, AreBlocksOf, AreWhole, BrokeLines, TookLines}
 pub use Rattle.wi_cli.specs.Inner.Told.{IsServed, RefusedAs, Told, told_bytes}

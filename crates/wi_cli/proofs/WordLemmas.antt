@@ -1,7 +1,6 @@
 -- Spaces before a word, and the CR at the end of a line.
-use Rattle.wi_cli.proofs.Vocabulary.{◌≡◌, ℕ, zero, suc, ◌-◌, Bool, true, false, cond, eqb, nat_eq, List, [], ◌∷◌, ◌++◌, length, take, drop, refl, sym, ap, ◌∙◌, subst, Option, None, Some, Result, arith, ◌&&◌, ◌||◌, not, ltb, ◌≤◌, pointwise, IfSome, FindsCharPrefix, CutsPrefixes, IsTrimStartMatches, drop_at_char, false≢true, eqb-true, le-ltb, false_from_ne_true, IsUtf8, is_utf8, encode_ascii, IsUtf8-from_is_utf8, is_utf8-from_IsUtf8, Refusal, Refused, line_command, text_command, IsLineOf, without_cr, skip_spaces}
+use Rattle.wi_cli.proofs.Vocabulary.{◌≡◌, ℕ, zero, suc, ◌-◌, Bool, true, false, cond, eqb, nat_eq, List, [], ◌∷◌, ◌++◌, length, take, drop, refl, sym, ap, ◌∙◌, subst, Option, None, Some, arith, ◌&&◌, ◌||◌, not, ltb, ◌≤◌, pointwise, IfSome, FindsCharPrefix, CutsPrefixes, IsTrimStartMatches, drop_at_char, false≢true, eqb-true, le-ltb, false_from_ne_true, IsUtf8, is_utf8, encode_ascii, IsUtf8-from_is_utf8, is_utf8-from_IsUtf8, Refused, line_command, text_command, without_cr, skip_spaces}
 use Rattle.wi_scenarios.specs.declared.refusal.Refusal.TheVariants.{Memory, BadLine}
-use Rattle.wi_cli.specs.declared.command.Command.{Command as ReadCommand}
 
 -- what is cut off are spaces
 cut : (s : List ℕ) (ns : List ℕ) (r : List ℕ) → CutsPrefixes (FindsCharPrefix 32) s ns r → skip_spaces s ≡ skip_spaces r
@@ -55,18 +54,16 @@ no_cr (b ∷ bs) h = no_cr_at (length (b ∷ bs) - 1) (b ∷ bs) (omega arith) h
 
 -- ---- lines that are texts, and others
 
-pub text_read : (line bytes text : List ℕ) (r : Result (Option ReadCommand) Refusal) → length line ≤ 65536 → bytes ≡ without_cr line → text ≡ bytes → IsUtf8 bytes
-    → IsLineOf (text_command text) r → IsLineOf (line_command line) r
+pub text_read : (line bytes text : List ℕ) → length line ≤ 65536 → bytes ≡ without_cr line → text ≡ bytes → IsUtf8 bytes
+    → line_command line ≡ text_command text
 unfolding line_command
-text_read line bytes text r few e t u h =
+text_read line bytes text few e t u =
     let content = without_cr line in
     let good : is_utf8 content ≡ true = is_utf8-from_IsUtf8 content (subst IsUtf8 e u) in
     let short : ltb 65536 (length line) ≡ false = le-ltb 65536 (length line) few in
-    let said : line_command line ≡ text_command text =
     ap (λ b. cond (b || not (is_utf8 content)) (Some (Refused BadLine)) (text_command content)) short
     ∙ ap (λ b. cond (not b) (Some (Refused BadLine)) (text_command content)) good
-    ∙ ap text_command (sym (t ∙ e)) in
-    subst (λ o. IsLineOf o r) (sym said) h
+    ∙ ap text_command (sym (t ∙ e))
 
 pub no_text : (line bytes : List ℕ) → length line ≤ 65536 → bytes ≡ without_cr line → (IsUtf8 bytes → ⊥)
     → (line_command line ≡ Some (Refused BadLine)) × (BadLine ≡ Memory → ⊥)

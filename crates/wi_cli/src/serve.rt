@@ -54,7 +54,6 @@ fn execute<C: Calculator>(
 }
 
 /// Serves the command that a text spells, and leaves its records in `out`, which was empty.
-#[tactic(auto, using(crate::proofs::ServeLemmas::told_done, crate::proofs::ServeLemmas::told_refused, crate::proofs::ServeLemmas::told_bad))]
 fn serve_text<C: Calculator>(book: &mut Workbook<C>, text: &str, out: &mut Vec<u8>) -> Reply
     requires { out.old.items ≡ [] }
     ensures { Told (Some (spelled_command text.now)) result
@@ -70,7 +69,6 @@ fn serve_text<C: Calculator>(book: &mut Workbook<C>, text: &str, out: &mut Vec<u
 }
 
 /// Serves a line, and leaves its records in `out`, which was empty.
-#[tactic(auto, using(crate::proofs::ServeLemmas::told_passed, crate::proofs::ServeLemmas::told_bad))]
 pub(crate) fn serve<C: Calculator>(book: &mut Workbook<C>, line: &[u8], out: &mut Vec<u8>) -> Reply
     requires { out.old.items ≡ [] }
     ensures { Told (line_command line.now) result book.old.state book.new.state out.new.items }

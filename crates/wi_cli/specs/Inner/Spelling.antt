@@ -31,12 +31,6 @@ abbrev pub IsCommandOf : Command → Result ReadCommand Refusal → Type 0
 IsCommandOf c (Ok d) = c ≡ command_of d
 IsCommandOf c (Err e) = (c ≡ Refused e) × (e ≢ Memory)
 
--- the same of a line, which may be passed over
-abbrev pub IsLineOf : Option Command → Result (Option ReadCommand) Refusal → Type 0
-IsLineOf o (Ok None) = o ≡ None
-IsLineOf o (Ok (Some d)) = o ≡ Some (command_of d)
-IsLineOf o (Err e) = (o ≡ Some (Refused e)) × (e ≢ Memory)
-
 -- a name that was read
 abbrev pub IsNameOf : Option (List ℕ) → Result Name Refusal → Type 0
 IsNameOf o (Ok name) = o ≡ Some (bytes_of name)
