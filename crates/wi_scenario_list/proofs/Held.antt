@@ -10,6 +10,9 @@ module _ {Z : Type 0} where
   abbrev pub key_is : List ℕ → RcStr Z → Bool
   key_is bs k = bytes_eq bs (rc_str_bytes k)
 
+  pub none_held : (es : List (RcStr Z × Layer)) → es ≡ [] → held es ≡ []
+  none_held es e = ap held e
+
   pub found-scenario : (bs : List ℕ) (es : List (RcStr Z × Layer)) → option_map (with_name bs) (lookup (key_is bs) es) ≡ find (is_named bs) (held es)
   found-scenario bs [] = refl
   found-scenario bs (e ∷ es) = by (key_is bs e.0) refl (found-scenario bs es)

@@ -1,5 +1,5 @@
-use Rattle.wi_scenario_list.proofs.Words.{rules}
+use Rattle.wi_scenario_list.proofs.Held.{none_held}
 use Rattle.wi_scenario_list.proofs.scenarios.Scenarios.new.Goals as goal
 
 pub returns : goal.returns
-returns c = search rules
+returns c = none_held _ (search)
