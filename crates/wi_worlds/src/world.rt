@@ -1,6 +1,6 @@
 //! Replacements, one for each address.
 
-ghost use Rattle.std.specs.Prelude.{◌≡◌, ℕ, [], All, filter, None, IsSome, IfOk, OnErr, length, if◌then◌else◌};
+ghost use Rattle.std.specs.Prelude.{◌≡◌, ◌∷◌, ℕ, [], All, filter, None, IsSome, IsTrue, IfOk, OnErr, length, if◌then◌else◌};
 ghost use Rattle.std.specs.BTreeMap.{get};
 ghost use Rattle.std.specs.Option.{option_copied, option_or};
 ghost use Rattle.std.specs.Ordering.{nat_cmp};
@@ -118,6 +118,27 @@ impl World {
         ensures each { IfOk result (λ w.
             (a : ℕ) → replaced w a ≡ option_or (last_for others.now a) (replaced self.now a)) }
     {
+        if is_first(self.replacements(), others) {
+            return World::one(self.alloc, &others[0]);
+        }
+        self.with_all(others)
+    }
+
+    /// One replacement.
+    fn one(alloc: Global, replacement: &Replacement) -> Result<World, AllocError>
+        ensures { IfOk result (λ w. w ≡ replacement.now ∷ []) }
+    {
+        let mut one = Vec::with_capacity(alloc, 1)?;
+        one.push(copied(alloc, replacement)?)?;
+        World::of(alloc, one)
+    }
+
+    /// The same as `with`, however many there are.
+    fn with_all(&self, others: &[Replacement]) -> Result<World, AllocError>
+        ensures list { IfOk result (λ w. as_map w ≡ overridden (as_map self.now) others.now) }
+        ensures each { IfOk result (λ w.
+            (a : ℕ) → replaced w a ≡ option_or (last_for others.now a) (replaced self.now a)) }
+    {
         let alloc = self.alloc;
         let mut all = BTreeMap::new(alloc);
         put_in(alloc, &mut all, self.replacements())?;
@@ -203,6 +224,13 @@ impl World {
         *last = world.copy()?;
         Ok(world)
     }
+}
+
+/// Whether there is one other replacement, and none before it.
+fn is_first(replacements: &[Replacement], others: &[Replacement]) -> bool
+    ensures { IsTrue result → (replacements.now ≡ []) × (length others.now ≡ 1) }
+{
+    replacements.is_empty() && others.len() == 1
 }
 
 /// A hash of replacements.

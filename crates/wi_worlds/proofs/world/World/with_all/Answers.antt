@@ -1,5 +1,5 @@
 use Rattle.wi_worlds.proofs.Words.{◌≡◌, ◌∙◌, ℕ, List, [], IfOk, Ok, Err, Result, sym, ap, subst, Value, Replacement, option_or, IsInOrder, as_map, last_for, overridden, replaced, overridden-nothing, replaced-overridden}
-use Rattle.wi_worlds.proofs.world.World.with.Goals as goal
+use Rattle.wi_worlds.proofs.world.World.with_all.Goals as goal
 
 -- the old replacements are put into an empty map, then the others
 put_in_twice : (v old others w : List Replacement) (none first second : List (ℕ × Value)) → IsInOrder old → old ≡ v
