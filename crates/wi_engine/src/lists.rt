@@ -1,6 +1,6 @@
 //! Lists of the values that were found for one formula.
 
-ghost use Rattle.std.specs.Prelude.{◌≡◌, ℕ, [], map, None, OnOk, OnErr};
+ghost use Rattle.std.specs.Prelude.{◌≡◌, ℕ, [], map, true, None, OnOk, OnErr};
 ghost use Rattle.std.specs.Option.{option_copied};
 ghost use Rattle.wi_parser.specs.View.{pair_of};
 ghost use Rattle.wi_arguments.specs.Assignment.{addresses};
@@ -64,6 +64,18 @@ impl Lists {
         self.what_ifs.clear();
     }
 
+    /// Whether there are no values.
+    #[inline(always)]
+    pub(crate) fn are_empty(&self) -> bool
+        ensures cells { result ≡ true → (c : ℕ) → listed_value self.now c ≡ None }
+        ensures what_ifs { result ≡ true → self.now.what_ifs.items ≡ [] }
+    {
+        self.first.is_empty()
+            && self.rising.is_empty()
+            && self.others.is_empty()
+            && self.what_ifs.is_empty()
+    }
+
     /// Whether no array that grows with the cells found has more than so many values.
     pub(crate) fn is_within(&self, most: usize) -> bool {
         self.rising.count() <= most && self.what_ifs.len() <= most
@@ -109,6 +121,16 @@ impl Lists {
             self.first.push((at, value))?;
             return Ok(());
         }
+        self.add_later(at, value)
+    }
+
+    /// The same, where it doesn't go to the first. It stands apart, so that an addition to the first takes little.
+    #[inline(never)]
+    fn add_later(&mut self, at: Address, value: Value) -> Result<(), AllocError>
+        requires { listed_value self.old at ≡ None }
+        ensures ok { OnOk result (IsWithListed self.old self.new at value) }
+        ensures err { OnErr result (IsSame self.old self.new) }
+    {
         if self.rising.ends_before(at) {
             self.rising.push(at, value)?;
             return Ok(());

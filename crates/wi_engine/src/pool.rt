@@ -44,7 +44,9 @@ impl Pool {
     {
         match self.lists.pop() {
             Some(mut lists) => {
-                lists.clear();
+                if !lists.are_empty() {
+                    lists.clear();
+                }
                 Ok(lists)
             }
             None => Ok(Box::new(self.alloc, Lists::new(self.alloc))?),
