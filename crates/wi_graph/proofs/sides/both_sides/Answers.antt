@@ -29,3 +29,6 @@ returns-then-is_clear-clause-apart c =
 
 pub returns-clause-cone : goal.returns-clause-cone
 returns-clause-cone c = (c.cells.invariant.0.all, search_end c.args.readers.now c.args.cells.now c.cells.found c.cells.work.items (search rules) c.cells.invariant.0, c.cells.invariant.0.least)
+
+pub returns-clause-apart : goal.returns-clause-apart
+returns-clause-apart c = tt
