@@ -38,10 +38,7 @@ impl EditedCells {
 
 /// The cells of an edit, of which each gets a content or none, in its order.
 #[inline(always)]
-pub fn edited_cells(
-    alloc: Global,
-    changes: &[NewContent],
-) -> Result<EditedCells, AllocError>
+pub fn edited_cells(alloc: Global, changes: &[NewContent]) -> Result<EditedCells, AllocError>
     ensures { IfOk result (λ cells. cells_in cells ≡ keys_of changes.now) }
 {
     match lone_cell(changes) {
@@ -62,7 +59,10 @@ fn lone_cell(changes: &[NewContent]) -> Option<Address>
 }
 
 /// The same in a list.
-pub(crate) fn changed_cells(alloc: Global, changes: &[NewContent]) -> Result<Vec<Address>, AllocError>
+pub(crate) fn changed_cells(
+    alloc: Global,
+    changes: &[NewContent],
+) -> Result<Vec<Address>, AllocError>
     ensures { IfOk result (λ v. v.items ≡ keys_of changes.now) }
 {
     let mut cells = Vec::new(alloc);

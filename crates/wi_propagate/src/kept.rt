@@ -329,10 +329,7 @@ impl Calculator for KeptCalculator {
     }
 
     /// The same. The contents are taken out of the list.
-    fn apply_slice(
-        &mut self,
-        changes: &mut [NewContent],
-    ) -> Result<(), StoreFault> {
+    fn apply_slice(&mut self, changes: &mut [NewContent]) -> Result<(), StoreFault> {
         self.edit(changes)
     }
 

@@ -64,10 +64,7 @@ impl Calculator for PlainCalculator {
         self.store.apply(changes)
     }
 
-    fn apply_slice(
-        &mut self,
-        changes: &mut [NewContent],
-    ) -> Result<(), StoreFault> {
+    fn apply_slice(&mut self, changes: &mut [NewContent]) -> Result<(), StoreFault> {
         self.store.apply_slice(changes)
     }
 

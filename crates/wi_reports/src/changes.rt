@@ -54,11 +54,7 @@ pub fn find_changes<C: Calculator>(
 
 /// Appends the records of changes, in their order: the address, the letter of the value's kind, and the text that it shows. On
 /// an error the bytes are as before. The work grows with the length of the records.
-pub fn push_changes(
-    alloc: Global,
-    changes: &[Change],
-    out: &mut Vec<u8>,
-) -> Result<(), AllocError>
+pub fn push_changes(alloc: Global, changes: &[Change], out: &mut Vec<u8>) -> Result<(), AllocError>
     ensures ok { OnOk result (out.new.items ≡ out.old.items ++ change_records changes.now) }
     ensures err { OnErr result (out.new.items ≡ out.old.items) }
 {
@@ -71,11 +67,7 @@ pub fn push_changes(
 }
 
 /// Appends the records of changes. On an error a part of them may be there.
-fn push_all(
-    alloc: Global,
-    changes: &[Change],
-    out: &mut Vec<u8>,
-) -> Result<(), AllocError>
+fn push_all(alloc: Global, changes: &[Change], out: &mut Vec<u8>) -> Result<(), AllocError>
     ensures ok { OnOk result (out.new.items ≡ out.old.items ++ change_records changes.now) }
     ensures kept { StartsWith out.new.items out.old.items }
 {
@@ -86,11 +78,7 @@ fn push_all(
 }
 
 /// Appends the record of a change. On an error the bytes are as before.
-fn push_change(
-    alloc: Global,
-    change: &Change,
-    out: &mut Vec<u8>,
-) -> Result<(), AllocError>
+fn push_change(alloc: Global, change: &Change, out: &mut Vec<u8>) -> Result<(), AllocError>
     ensures ok { OnOk result (out.new.items ≡ out.old.items ++ change_record change.now) }
     ensures kept { StartsWith out.new.items out.old.items }
 {

@@ -38,11 +38,7 @@ impl Held {
     }
 
     /// Puts a change list into the picture, when the log has this length. On an error all is as before.
-    pub(crate) fn tell(
-        &mut self,
-        changes: Vec<Change>,
-        seen: u64,
-    ) -> Result<(), AllocError>
+    pub(crate) fn tell(&mut self, changes: Vec<Change>, seen: u64) -> Result<(), AllocError>
         ensures told { OnOk result ((name : List ℕ) → with_name name self.new
             ≡ told (with_name name self.old) changes.items seen) }
         ensures refused { OnErr result (self.new ≡ self.old) }

@@ -178,12 +178,7 @@ impl Sessions {
 
     /// Puts a change list into a session's picture, when the log has this length; no cell is pending for it then. On an error
     /// all is as before. The work is that of `Picture::apply`, and of `pending_cells`, with a look-up for each.
-    pub fn tell(
-        &mut self,
-        i: usize,
-        changes: Vec<Change>,
-        seen: u64,
-    ) -> Result<(), AllocError>
+    pub fn tell(&mut self, i: usize, changes: Vec<Change>, seen: u64) -> Result<(), AllocError>
         requires { i < length self.old.sessions }
         ensures sessions { OnOk result (self.new.sessions
             ≡ slice_set self.old.sessions i (told (session_at self.old i) changes.items seen)) }

@@ -22,20 +22,14 @@ pub(crate) type Rooms = CellMap<Room>;
 pub(crate) type NewRoom = (Address, Room);
 
 /// The room that a change brings, by its content, which it takes; the constant Empty is no content.
-pub(crate) fn room_for(
-    alloc: Global,
-    change: &mut NewContent,
-) -> Result<NewRoom, AllocError>
+pub(crate) fn room_for(alloc: Global, change: &mut NewContent) -> Result<NewRoom, AllocError>
     ensures { IfOk result (λ made. made ≡ change_without_empty change.old) }
 {
     Ok((change.0, Room::new(alloc, change.1.take())?))
 }
 
 /// The same of each of some changes.
-pub(crate) fn prepare(
-    alloc: Global,
-    changes: &mut [NewContent],
-) -> Result<Vec<NewRoom>, AllocError>
+pub(crate) fn prepare(alloc: Global, changes: &mut [NewContent]) -> Result<Vec<NewRoom>, AllocError>
     ensures { IfOk result (λ made. made.items ≡ map change_without_empty changes.old) }
 {
     let mut made = Vec::with_capacity(alloc, changes.len())?;

@@ -127,10 +127,7 @@ impl Store {
     }
 
     /// The same of changes that are lent. It takes the contents out of them, so they are not to be used again.
-    pub fn apply_slice(
-        &mut self,
-        changes: &mut [NewContent],
-    ) -> Result<(), StoreFault>
+    pub fn apply_slice(&mut self, changes: &mut [NewContent]) -> Result<(), StoreFault>
         ensures { Applies (applied self.old changes.old) result self.old self.new }
     {
         if changes.len() == 1 {
