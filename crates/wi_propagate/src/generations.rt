@@ -62,6 +62,7 @@ impl Generations {
     }
 
     /// What is noted of a cell: its generation, where none is owed.
+    #[inline(always)]
     pub(crate) fn generation_of(&self, at: Address) -> u64
         ensures { result ≡ noted_in self.now.named self.now.noted at }
     {
@@ -139,6 +140,7 @@ fn owe_read(generations: &mut Numbers, graph: &Graph, cells: &[Address]) -> Resu
 }
 
 /// The number of a cell.
+#[inline(always)]
 pub(crate) fn number_at(numbers: &Numbers, at: Address) -> u64
     ensures { result ≡ generation_in numbers.now.entries at }
 {

@@ -70,6 +70,7 @@ impl<V: Drop> CellMap<V> {
     }
 
     /// What a cell has. The work is the same however many cells have something, but for a search among the tiles of 16 rows.
+    #[inline(always)]
     pub fn get(&self, cell: Address) -> Option<&V>
         ensures { option_copied result ≡ get nat_cmp self.now cell }
     {

@@ -85,6 +85,7 @@ impl<V: Drop> Places<V> for Page<V> {
         self.bands.is_empty()
     }
 
+    #[inline(always)]
     fn get(&self, path: u64) -> Option<&V> {
         self.bands.get(path)
     }

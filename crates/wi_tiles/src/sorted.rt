@@ -62,6 +62,7 @@ impl<V: Drop> Places<V> for Band<V> {
         self.parts.is_empty()
     }
 
+    #[inline(always)]
     fn get(&self, path: u64) -> Option<&V> {
         match part_of(&self.parts, (path % GROUPS) as u32) {
             Some(part) => part.get(path / GROUPS),
@@ -155,6 +156,7 @@ fn place_of<T>(parts: &[(u32, T)], group: u32) -> Result<usize, usize>
 }
 
 /// The place of the first part with a key or a later one.
+#[inline(always)]
 pub(crate) fn place_from<T>(parts: &[(u32, T)], group: u32) -> usize
     requires { Rises parts.now }
     ensures bound { result ≤ length parts.now }
@@ -175,6 +177,7 @@ pub(crate) fn place_from<T>(parts: &[(u32, T)], group: u32) -> usize
 }
 
 /// The part with a key.
+#[inline(always)]
 fn part_of<T>(parts: &[(u32, T)], group: u32) -> Option<&T>
     requires { Rises parts.now }
     ensures { option_copied result ≡ find group parts.now }

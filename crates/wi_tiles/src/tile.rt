@@ -50,6 +50,7 @@ impl<V> Tile<V> {
     }
 
     /// What a bit has.
+    #[inline(always)]
     fn value(&self, bit: u32) -> Option<&V>
         requires { bit < 64 }
         ensures { option_copied result ≡ slice_index_or self.now bit None }
@@ -158,6 +159,7 @@ impl<V: Drop> Places<V> for Tile<V> {
         self.has_nothing()
     }
 
+    #[inline(always)]
     fn get(&self, place: u64) -> Option<&V> {
         self.value(place as u32)
     }

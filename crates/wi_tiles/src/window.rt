@@ -51,6 +51,7 @@ impl<T> Window<T> {
     }
 
     /// The part at an index.
+    #[inline(always)]
     pub(crate) fn part(&self, index: usize) -> Option<&T>
         ensures { option_copied result ≡ part_from self.now index }
     {
@@ -61,6 +62,7 @@ impl<T> Window<T> {
     }
 
     /// What a path has.
+    #[inline(always)]
     pub(crate) fn get<V>(&self, path: u64) -> Option<&V>
     where
         T: Places<V>,
