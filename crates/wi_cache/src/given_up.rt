@@ -61,6 +61,7 @@ impl GivenUp {
     }
 
     /// Puts a value in for a key, in the place of an earlier one. Takes no memory. Expected constant time, beside the hash of the key.
+    #[inline(always)]
     pub fn put(&mut self, key: Key, value: Value)
         requires { 1 ≤ self.old.room }
         ensures { Puts self.old.entries self.new.entries key value }

@@ -66,6 +66,7 @@ impl Kept {
     /// Keeps a value for a key, in the place of an earlier one, and gives the entry that goes for it. A new key that comes to a full
     /// list takes the place of the one that was kept longest ago. If memory runs out, all stays as it was. Expected constant time
     /// over many calls, beside the hash of the key.
+    #[inline(always)]
     pub fn keep(&mut self, key: Key, value: Value) -> Result<Option<(Key, Value)>, AllocError>
         ensures found { OnOk result (value_for self.new.entries key ≡ Some value) }
         ensures stays { OnOk result (HasRoom self.old key

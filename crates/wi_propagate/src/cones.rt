@@ -46,6 +46,7 @@ pub(crate) fn keep_over_edit(alloc: Global, graph: &Graph, cones: &mut Reaches)
 
 /// Adds the cones of the replaced cells that have none yet. The work for each is that of its cone; where all have one it is
 /// that of `knows_all`. If memory runs out, those added so far stay.
+#[inline(always)]
 pub(crate) fn add_cones(graph: &Graph, world: &World, cones: &mut Reaches) -> Result<(), AllocError>
     requires { graph.now.staged ≡ None }
     ensures cones { (s : Sheet) → AreEdgesOf graph.now.now s → AreAllCones s cones.old

@@ -129,6 +129,7 @@ impl<'a> Memo for Keeping<'a> {
     /// The key for a cell under replacements. The work for a cell that is replaced for the first time is that of its cone;
     /// else it is a comparison for each replacement, and that of `reaching_by`. Keys in turn with the same part of the
     /// replacements share it.
+    #[inline(always)]
     fn key(&mut self, at: Address, world: &World) -> Result<Key, AllocError> {
         add_cones(self.graph, world, &mut self.cones)?;
         let world = world.reaching_by(at, &self.cones, &mut self.last)?;
@@ -171,6 +172,7 @@ fn make_room(kept: &Kept, given_up: &mut GivenUp) -> Result<(), AllocError>
 }
 
 // Puts the value that went, if one did, among those given up. Takes no memory.
+#[inline(always)]
 fn give_up(gone: Option<(Key, Value)>, given_up: &mut GivenUp)
     requires { IfSome gone (λ _. 1 ≤ given_up.old.room) }
     ensures { TakesOver gone given_up.old.entries given_up.new.entries }

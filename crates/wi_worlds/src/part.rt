@@ -31,6 +31,7 @@ fn cells_lead(replacements: &[Replacement], cells: &[Address]) -> bool {
 
 /// The replacements that are of one of the cells, compared with the last part. The work grows with the count of the fewer, times
 /// the logarithm of that of the others.
+#[inline(always)]
 pub(crate) fn part_of(replacements: &[Replacement], cells: &[Address], last: &[Replacement]) -> Part
     requires order { IsInOrder replacements.now }
     requires rise { IsStrictlyIncreasing cells.now }
@@ -46,6 +47,7 @@ pub(crate) fn part_of(replacements: &[Replacement], cells: &[Address], last: &[R
 }
 
 /// The same, where each replacement is searched for among the cells.
+#[inline(always)]
 fn part_by_replacements(
     replacements: &[Replacement],
     cells: &[Address],

@@ -71,6 +71,7 @@ impl Reaches {
 
     /// Whether it is known of all replaced cells. The work for each is a comparison where those that are known stand in the
     /// same order with none between, and else a search.
+    #[inline(always)]
     pub fn knows_all(&self, world: &World) -> bool
         ensures { result ≡ list_all (λ r. is_known self.now r.at) world.now }
     {
@@ -180,6 +181,7 @@ fn put(alloc: Global, reached: &mut Reached, cell: Address, at: Address) -> Resu
 }
 
 /// Whether cells in row-major order have each replaced address.
+#[inline(always)]
 fn have_all(cells: &[Address], replacements: &[Replacement]) -> bool
     requires { IsStrictlyIncreasing cells.now }
     ensures { result ≡ list_all (λ r. is_one_of cells.now r.at) replacements.now }

@@ -71,6 +71,7 @@ impl RisingCells {
 
 /// Whether a cell is one of these, which stand in row-major order. Where it stands at the likely place it isn't searched for. The
 /// likely place becomes that of the next cell in order.
+#[inline(always)]
 pub(crate) fn has_next(cells: &[Address], likely: &mut usize, cell: Address) -> bool
     requires { IsStrictlyIncreasing cells.now }
     ensures { result ≡ is_one_of cells.now cell }

@@ -193,6 +193,7 @@ impl World {
     /// whatever the last are. If memory runs out, the last stay as they were. What the cell reaches is looked up once; then the
     /// work grows with the count of the fewer, replacements or such cells, times the logarithm of that of the others; texts
     /// are compared with the last byte by byte.
+    #[inline(always)]
     pub fn reaching_by(
         &self,
         at: Address,
