@@ -74,6 +74,7 @@ fn hundred() -> Fraction
     }
 }
 
+#[inline(always)]
 fn sum(left: &Value, right: &Value) -> Result<Fraction, ErrorKind>
     ensures { number_value result ≡ calculated addition left.now right.now }
 {
@@ -81,6 +82,7 @@ fn sum(left: &Value, right: &Value) -> Result<Fraction, ErrorKind>
     add(x, y)
 }
 
+#[inline(always)]
 fn difference(left: &Value, right: &Value) -> Result<Fraction, ErrorKind>
     ensures { number_value result ≡ calculated subtraction left.now right.now }
 {
@@ -88,6 +90,7 @@ fn difference(left: &Value, right: &Value) -> Result<Fraction, ErrorKind>
     subtract(x, y)
 }
 
+#[inline(always)]
 fn product(left: &Value, right: &Value) -> Result<Fraction, ErrorKind>
     ensures { number_value result ≡ calculated multiplication left.now right.now }
 {

@@ -9,6 +9,7 @@ use wi_fraction::{Fraction, FractionError};
 use wi_values::{ErrorKind, Value};
 
 /// The sum, or `BadNumber` where it doesn't fit.
+#[inline(always)]
 pub fn add(x: Fraction, y: Fraction) -> Result<Fraction, ErrorKind>
     ensures { result ≡ addition x y }
 {
@@ -49,6 +50,7 @@ pub(crate) fn raise(base: Fraction, exponent: Fraction) -> Result<Fraction, Erro
 }
 
 /// The number as a value, or the error.
+#[inline(always)]
 pub fn number_value(outcome: Result<Fraction, ErrorKind>) -> Value
     ensures { result ≡ number_value outcome }
 {
@@ -59,6 +61,7 @@ pub fn number_value(outcome: Result<Fraction, ErrorKind>) -> Value
 }
 
 /// What an operation on fractions gave.
+#[inline(always)]
 pub(crate) fn number_or_error(
     outcome: Result<Fraction, FractionError>,
 ) -> Result<Fraction, ErrorKind>

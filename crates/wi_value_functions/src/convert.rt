@@ -29,6 +29,7 @@ pub fn one() -> Fraction
 }
 
 /// A value taken for a number.
+#[inline(always)]
 pub fn to_number(value: &Value) -> Result<Fraction, ErrorKind>
     ensures { result ≡ to_number value.now }
 {

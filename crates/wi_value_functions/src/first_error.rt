@@ -21,6 +21,7 @@ pub fn no_error(value: &Value) -> Result<(), ErrorKind>
 }
 
 /// Both operands, or the first error from the left.
+#[inline(always)]
 pub fn both<T: Copy>(
     left: Result<T, ErrorKind>,
     right: Result<T, ErrorKind>,
