@@ -85,10 +85,7 @@ pub fn zero_for_empty(value: Value) -> Value
 {
     match value {
         Value::Empty => Value::Number(zero()),
-        Value::Number(x) => Value::Number(x),
-        Value::Text(t) => Value::Text(t),
-        Value::Logical(b) => Value::Logical(b),
-        Value::Fault(e) => Value::Fault(e),
+        other => other,
     }
 }
 
