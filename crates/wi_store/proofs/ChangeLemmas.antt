@@ -67,6 +67,12 @@ brought_more made made' all cs i d v l e h =
     ∙ ap (λ (xs : Changes). made ++ x ∷ map change_without_empty xs) (drop-set-lt (i + 1) cs i v (omega arith))
     ∙ ap (λ (xs : Changes). made ++ map change_without_empty xs) (sym (drop_more cs i d l)) ∙ h
 
+-- that of a lone change
+pub brought_alone : (cs : Changes) (d made : ℕ × Option Content) → length cs ≡ 1 → made ≡ change_without_empty (get_or cs 0 d) → made ∷ [] ≡ map change_without_empty cs
+brought_alone [] d made l e = absurd (omega (arith, l))
+brought_alone (x ∷ []) d made l e = ap (λ (y : ℕ × Option Content). y ∷ []) e
+brought_alone (x ∷ y ∷ cs) d made l e = absurd (omega (arith, l))
+
 -- ---- the sheet
 
 -- what is left to be put in gives the whole
