@@ -107,11 +107,11 @@ impl<M: Memo + Drop> Question<M> {
                         self.memo.keep(root, value)?;
                         return Ok(shown);
                     }
-                    Some(below) => {
+                    Some(mut below) => {
                         let key = frame.retire(&mut self.pool);
-                        frame = below;
-                        take_in(&mut self.pool, store, &mut frame, &key, &value)?;
+                        take_in(&mut self.pool, store, &mut below, &key, &value)?;
                         self.memo.keep(key, value)?;
+                        frame = below;
                     }
                 },
             }
