@@ -1,4 +1,4 @@
-use Rattle.wi_propagate.proofs.Words.{is_ok, ◌≡◌, ◌∙◌, IfOk, OnOk, false, true, refl, ap, sym, subst, IfOk-weaker, Sheet, circular, shown, case_of, reaching, demanded, HasCase, demands_itself, different_closed, shown_circular, shown_value, KeptSheet, generation_in, IsAtHand, is_kept, AreAllCones, told, noted_in, Owes}
+use Rattle.wi_propagate.proofs.Words.{is_ok, ◌≡◌, ◌∙◌, inl, IfOk, OnOk, false, true, refl, ap, sym, subst, IfOk-weaker, Sheet, circular, shown, case_of, reaching, demanded, HasCase, demands_itself, different_closed, shown_circular, shown_value, KeptSheet, generation_in, IsAtHand, is_kept, AreAllCones, told, noted_in, Owes}
 use Rattle.wi_propagate.proofs.NotedSteps.{all_noted, settled_up}
 use Rattle.wi_propagate.proofs.SettlingSteps.{owed_over}
 use Rattle.wi_propagate.proofs.Questions.{begins, begun_right, may_be_read, right_then, asked_kept, at_hand_is, owes_none, owes_settled, owes_spent, settled_view, settled_right}
@@ -8,6 +8,14 @@ pub returns-then-is_circular-clause-value : goal.returns-then-is_circular-clause
 returns-then-is_circular-clause-value c =
     let is : circular c.self.inside.store.sheet c.args.at ≡ true = sym (c.is_circular.ensures c.self.inside.store.sheet c.self.invariant.1) ∙ c.if-is_circular.true in
     sym (shown_circular c.args.self.now.stored.sheet c.args.put.now c.args.at (ap (λ (k : KeptSheet). circular k.stored.sheet c.args.at) (sym c.self.view_is) ∙ is))
+
+pub returns-then-is_circular-clause-kept : goal.returns-then-is_circular-clause-kept
+returns-then-is_circular-clause-kept c =
+    let is : circular c.self.inside.store.sheet c.args.at ≡ true = sym (c.is_circular.ensures c.self.inside.store.sheet c.self.invariant.1) ∙ c.if-is_circular.true in
+    λ h. absurd (h (inl (ap (λ (k : KeptSheet). circular k.stored.sheet c.args.at) (sym c.self.view_is) ∙ is)))
+
+pub standing_value-requires-clause-open_cell : goal.standing_value-requires-clause-open_cell
+standing_value-requires-clause-open_cell c = sym (c.is_circular.ensures c.self.inside.store.sheet c.self.invariant.1) ∙ c.if-is_circular.false
 
 pub new-memo-requires-clause-right : goal.new-memo-requires-clause-right
 new-memo-requires-clause-right c =
