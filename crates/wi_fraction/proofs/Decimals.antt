@@ -1,7 +1,7 @@
 -- The exact decimal: its places, its digits, and what stands before it.
 use Rattle.wi_fraction.proofs.Vocabulary.{String, string_bytes, subst, sym, ap, ◌∙◌, arith, Result, Ok, Err, OnOk, OnErr, is_ok, if◌then◌else◌, starts_with_length, starts_with_of_append, ◌≡◌, ℕ, zero, suc, ◌+◌, ◌-◌, ◌*◌, ◌/◌, ◌%◌, ◌^◌, ◌<◌, ◌≤◌, ◌≢◌, List, [], ◌∷◌, ◌++◌, length, Some, None, refl, Global, decimal, StartsWith, IsUtf8, IsCharBoundary, decimal_digit, take-append-le, take_all, append_assoc, append-nil, div-mul-add, IsCharBoundary-from_take, IsUtf8-string_bytes, div-add-mod', mul-div_cancel, mul_assoc, mul_comm, mul_right_comm, pow-suc, pow-zero, mul-one, mod-eq_of_lt, mul-add-mod_self_right, add-mul-div_right, div-lt_iff_lt-mul, padded, size_text, all_places, places_from}
 use Rattle.wi_fraction.proofs.Places.{places_from_end, places_from_found, places_from_more, all_divide, multiple_of}
-use Rattle.wi_fraction.proofs.Digits.{padded_suc}
+use Rattle.wi_fraction.proofs.Padded.{padded_suc}
 
 -- ---- bytes that stay at the front
 

@@ -30,8 +30,8 @@ pub use Rattle.std.specs.Str.Parse.{AllDigits, digits_value}
 pub use Rattle.std.specs.Str.Pattern.{FindsTextPrefix, StripsPrefix}
 pub use Rattle.wi_fraction.proofs.Decimals.{starts_joined}
 pub use Rattle.wi_fraction.proofs.DecimalsReadBack.{decimal_few, decimals_read_back}
-pub use Rattle.wi_fraction.proofs.Digits.{digits_padded, length-padded}
 pub use Rattle.wi_fraction.proofs.Numerals.{read_decimal-numeral}
+pub use Rattle.wi_fraction.proofs.Padded.{digits_padded, length-padded}
 pub use Rattle.wi_fraction.proofs.Places.{all_none}
 pub use Rattle.wi_fraction.proofs.ReadsBack.{div_small}
 pub use Rattle.wi_fraction.proofs.Values.{then_some}
