@@ -1,7 +1,7 @@
 use Rattle.wi_fraction.proofs.Vocabulary.{◌∙◌, arith, max_size}
 use Rattle.std.proofs.Common.{◌<◌, ◌/◌}
 use Rattle.wi_fraction.proofs.Tenths.{digit_times, tenth_divided, tenth_none}
-use Rattle.wi_fraction.proofs.read.tenth.Goals as goal
+use Rattle.wi_fraction.proofs.digits.tenth.Goals as goal
 
 pub returns-then-rest-eq0 : goal.returns-then-rest-eq0
 returns-then-rest-eq0 c = c.reduced.ensures ∙ tenth_divided c.args.digit c.args.n c.args.d c.if-rest-eq0.true
