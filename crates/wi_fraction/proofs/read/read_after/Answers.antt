@@ -5,4 +5,4 @@ pub decimal-requires-clause-whole : goal.decimal-requires-clause-whole
 decimal-requires-clause-whole c = rw c.alone.ensures c.requires
 
 pub decimal-requires-clause-parts : goal.decimal-requires-clause-parts
-decimal-requires-clause-parts c = rw c.alone-2.ensures (search rules)
+decimal-requires-clause-parts c = rw c.alone-in-46.ensures (search rules)

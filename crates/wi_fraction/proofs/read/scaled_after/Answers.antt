@@ -4,4 +4,4 @@ pub decimal-requires-clause-whole : goal.decimal-requires-clause-whole
 decimal-requires-clause-whole c = rw c.alone.ensures c.requires.whole
 
 pub decimal-requires-clause-parts : goal.decimal-requires-clause-parts
-decimal-requires-clause-parts c = rw c.alone-2.ensures c.requires.parts
+decimal-requires-clause-parts c = rw c.alone-in_default.ensures c.requires.parts
