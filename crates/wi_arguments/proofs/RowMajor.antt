@@ -3,6 +3,7 @@ use Rattle.std.proofs.Common.{◌≡◌, ℕ, zero, suc, ◌<◌, ◌≤◌, ◌
 use Rattle.std.specs.Prelude.{nat_le, nat_lt}
 use Rattle.std.specs.List.{AllByRecursion, range_with_len, flat_map}
 use Rattle.std.proofs.lemmas.Bool.{and_from, le-leb, le-ltb, lt-leb, lt-ltb, ltb-false, ltb-true}
+use Rattle.std.proofs.lemmas.List.Elements.{filter-append}
 use Rattle.std.proofs.Math.Nat.{mod-lt, div-add-mod'}
 use Rattle.wi_values.specs.declared.value.Value.{Value}
 use Rattle.wi_standard_functions.specs.Arguments.{region_of}
@@ -12,14 +13,6 @@ use Rattle.wi_values.proofs.Within.{within_parts}
 all_append : (P : ℕ → Type 0) (xs ys : List ℕ) → AllByRecursion P xs → AllByRecursion P ys → AllByRecursion P (xs ++ ys)
 all_append P [] ys h k = k
 all_append P (x ∷ xs) ys h k = (h.0, all_append P xs ys h.1 k)
-
-filter_append : (p : ℕ → Bool) (xs ys : List ℕ) → filter p (xs ++ ys) ≡ filter p xs ++ filter p ys
-filter_append p [] ys = refl
-filter_append p (x ∷ xs) ys = at (p x) (filter_append p xs ys)
-  where
-    at : (b : Bool) → filter p (xs ++ ys) ≡ filter p xs ++ filter p ys → cond b (x ∷ filter p (xs ++ ys)) (filter p (xs ++ ys)) ≡ cond b (x ∷ filter p xs) (filter p xs) ++ filter p ys
-    at true e = ap (λ (zs : List ℕ). x ∷ zs) e
-    at false e = e
 
 -- ---- the cells from one on are it and those after it
 
@@ -48,10 +41,10 @@ above_same c (z ∷ zs) h =
 
 then_above : (c : ℕ) (xs zs : List ℕ) → Splits c xs → AllByRecursion (λ z. c < z) zs → Splits c (xs ++ zs)
 then_above c xs zs k h =
-    filter_append (λ a. nat_le c a) xs zs
+    filter-append (λ a. nat_le c a) xs zs
     ∙ ap (λ (ys : List ℕ). ys ++ from_on c zs) k
     ∙ ap (λ (ys : List ℕ). c ∷ (past c xs ++ ys)) (above_same c zs h)
-    ∙ ap (λ (ys : List ℕ). c ∷ ys) (sym (filter_append (λ a. nat_lt c a) xs zs))
+    ∙ ap (λ (ys : List ℕ). c ∷ ys) (sym (filter-append (λ a. nat_lt c a) xs zs))
 
 itself : (c : ℕ) → Splits c (c ∷ [])
 itself c = ap (λ (b : Bool). cond b (c ∷ []) []) (le-leb c c (omega arith)) ∙ ap (λ (b : Bool). c ∷ cond b (c ∷ []) []) (sym (le-ltb c c (omega arith)))

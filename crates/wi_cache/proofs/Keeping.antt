@@ -1,5 +1,5 @@
 -- What `keep` makes of kept values, clause by clause.
-use Rattle.std.proofs.Common.{◌≡◌, ℕ, zero, suc, ◌+◌, ◌-◌, ◌<◌, ◌≤◌, inl, inr, lt-ltb, le-ltb, Bool, true, false, cond, if◌then◌else◌, nat_lt, List, [], ◌∷◌, ◌++◌, map, length, take, drop, reverse, get_or, set, slice_get, Option, Some, None, IfSome, IsSome, is_some, min, refl, sym, ap, ◌∙◌, subst, arith, true≢false, length-append, IsPermutation}
+use Rattle.std.proofs.Common.{◌≡◌, ℕ, zero, suc, ◌+◌, ◌-◌, ◌<◌, ◌≤◌, inl, inr, le-ltb, Bool, true, false, cond, if◌then◌else◌, nat_lt, List, [], ◌∷◌, ◌++◌, map, length, take, drop, reverse, get_or, set, slice_get, Option, Some, None, IfSome, IsSome, is_some, min, refl, sym, ap, ◌∙◌, subst, arith, true≢false, length-append, IsPermutation}
 use Rattle.std.proofs.lemmas.Bool.{ltb-false, ltb-true}
 use Rattle.std.proofs.lemmas.List.{append-nil, append_assoc, drop-map, drop-set-lt, drop_all, length-drop, length-map, length-reverse, length-set, length-take, map-append, reverse-append, set-append_left, take-append-drop, take_all, take_at}
 use Rattle.std.proofs.lemmas.Grind.{take-set_at}
@@ -15,8 +15,9 @@ use Rattle.std.specs.Map.{keys_of}
 use Rattle.indexmap.specs.IndexMap.{IndexMap, IsUnique, Updates, insert_entry}
 use Rattle.indexmap.proofs.MapLemmas.{absent_from_lookup, insert_entry-absent, lookup_permutation}
 use Rattle.wi_values.specs.declared.value.Value.{Value}
+use Rattle.wi_values.proofs.Lists.{got_in_front}
 use Rattle.wi_cache.specs.declared.key.Key.{Key}
-use Rattle.wi_cache.specs.Entries.{Entries, HasOneEach, HasRoom, IsLine, Puts, PutsFor, PutsForGoing, PutsForOne, going, kept, keys_after, last_entry, latest, len_after, place_after, same_key, value_for}
+use Rattle.wi_cache.specs.Entries.{Entries, HasOneEach, HasRoom, IsLine, PutsIn, PutsFor, PutsForGoing, PutsForOne, going, kept, keys_after, last_entry, latest, len_after, place_after, same_key, value_for}
 use Rattle.wi_cache.specs.Hashed.{same_key_means}
 use Rattle.wi_cache.proofs.Keys.{same_key_equiv}
 
@@ -56,11 +57,6 @@ module _ {X : Type 0} where
   stands [] i h = absurd (omega arith)
   stands (x ∷ xs) zero h = (x, refl)
   stands (x ∷ xs) (suc i) h = stands xs i (omega (arith, h))
-
-  in_front : (xs ys : List X) (i : ℕ) → i < length xs → slice_get (xs ++ ys) i ≡ slice_get xs i
-  in_front [] ys i h = absurd (omega arith)
-  in_front (x ∷ xs) ys zero h = refl
-  in_front (x ∷ xs) ys (suc i) h = in_front xs ys i (omega (arith, h))
 
 last_pushed : (es : Entries) (e : Key × Value) → last_entry (es ++ e ∷ []) ≡ Some e
 last_pushed es e =
@@ -156,7 +152,7 @@ module _ {S : Type 0} (em fm : IndexMap Key Value S) (k : Key) (v : Value) (put 
   pub found_put : value_for (latest n fs) k ≡ Some v
   found_put = latest_finds n fs each k ∙ put.1
 
-  pub puts_latest : Puts (latest n es) (latest n fs) k v
+  pub puts_latest : PutsIn (latest n es) (latest n fs) k v
   puts_latest q = latest_finds n fs each q ∙ put.0 q ∙ ap (cond (same_key k q) (Some v)) (sym (latest_finds n es line.0 q))
 
   module _ (o : Option Value) (old : o ≡ value_for es k) (len : length fs ≡ length es + (if is_some o then 0 else 1)) where
@@ -247,7 +243,7 @@ module _ {S : Type 0} (em fm : IndexMap Key Value S) (k : Key) (v : Value) (put 
       pushed = entries ∙ insert_entry-absent same_key k v es (absent_from_lookup (same_key k) es new)
 
       at_place : slice_get es n ≡ Some e
-      at_place = sym (in_front es ((k, v) ∷ []) n (omega (arith, line.2, full))) ∙ ap (λ (l : Entries). slice_get l n) (sym pushed) ∙ there.1
+      at_place = sym (got_in_front es ((k, v) ∷ []) n (omega (arith, line.2, full))) ∙ ap (λ (l : Entries). slice_get l n) (sym pushed) ∙ there.1
 
       stood : value_for es e.0 ≡ Some e.1
       stood = lookup_from_place same_key_equiv es n e.0 e.1 line.0 at_place

@@ -24,8 +24,8 @@ HasOneEach es = IsDistinct same_key (keys_of es)
 
 module _ (es fs : Entries) (k : Key) (v : Value) where
   -- v stands for k, and for every other key what stood before
-  abbrev pub Puts : Type 0
-  Puts = (q : Key) → value_for fs q ≡ update same_key (value_for es) k (Some v) q
+  abbrev pub PutsIn : Type 0
+  PutsIn = (q : Key) → value_for fs q ≡ update same_key (value_for es) k (Some v) q
 
   -- the key gone goes; v stands for k, and for every other key what stood before
   abbrev pub PutsFor : Key → Type 0

@@ -2,7 +2,7 @@
 
 ghost use Rattle.std.specs.Prelude.{◌≡◌, ◌≤◌, [], OnOk};
 ghost use Rattle.std.specs.Option.{option_copied};
-ghost use Rattle.wi_cache.specs.Entries.{Puts, value_for};
+ghost use Rattle.wi_cache.specs.Entries.{PutsIn, value_for};
 
 use crate::key::Key;
 use indexmap::IndexMap;
@@ -64,7 +64,7 @@ impl GivenUp {
     #[inline(always)]
     pub fn put(&mut self, key: Key, value: Value)
         requires { 1 ≤ self.old.room }
-        ensures { Puts self.old.entries self.new.entries key value }
+        ensures { PutsIn self.old.entries self.new.entries key value }
     {
         match self.entries.insert(key, value) {
             Ok(_) => {}

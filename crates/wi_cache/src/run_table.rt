@@ -2,7 +2,7 @@
 
 ghost use Rattle.std.specs.Prelude.{◌≡◌, [], OnOk, OnErr};
 ghost use Rattle.std.specs.Option.{option_copied};
-ghost use Rattle.wi_cache.specs.Entries.{Puts, value_for};
+ghost use Rattle.wi_cache.specs.Entries.{PutsIn, value_for};
 
 use crate::key::Key;
 use std::alloc::{AllocError, Global};
@@ -55,7 +55,7 @@ impl RunTable {
     /// Keeps a value for a key, in the place of an earlier one. If memory runs out, all stays as it was. Expected
     /// constant time over many calls, beside the hash of the key.
     pub fn keep(&mut self, key: Key, value: Value) -> Result<(), AllocError>
-        ensures ok { OnOk result (Puts self.old self.new key value) }
+        ensures ok { OnOk result (PutsIn self.old self.new key value) }
         ensures err { OnErr result (self.new ≡ self.old) }
     {
         self.found.insert(key, value)?;

@@ -4,29 +4,21 @@ use Rattle.wi_scenarios.specs.declared.refusal.Refusal.TheVariants.{BadCommand}
 use Rattle.wi_scenarios.specs.Step.{Command, Compare}
 use Rattle.wi_cli.specs.declared.command.Command.{Command as ReadCommand}
 
--- the first word of a text is this name, and what is behind it is what the command is read from
-pub named : (by_name : List ℕ → List ℕ → Command) (text word operands name : List ℕ) (r : Result ReadCommand Refusal) → word ≡ first_word text → operands ≡ after_word text
-    → word ≡ name → IsCommandOf (by_name name operands) r → IsCommandOf (by_name (first_word text) (after_word text)) r
-named by_name text word operands name r first behind is h =
-    subst (λ (c : Command). IsCommandOf c r) (ap (λ x. by_name x operands) (sym is ∙ first) ∙ ap (by_name (first_word text)) behind) h
-
 -- a word that is none of the other names is an edit's
-not_name : (w name : List ℕ) → (w ≡ name → ⊥) → bytes_eq w name ≡ false
+pub not_name : (w name : List ℕ) → (w ≡ name → ⊥) → bytes_eq w name ≡ false
 not_name w name apart = by (bytes_eq w name) refl
   where
     by : (b : Bool) → bytes_eq w name ≡ b → b ≡ false
     by true e = absurd (apart ((bytes_eq-Decides w name).0 e))
     by false e = refl
 
-pub edit_named : (text word operands : List ℕ) (r : Result ReadCommand Refusal) → word ≡ first_word text → operands ≡ after_word text
+pub edit_named : (word operands : List ℕ)
     → (word ≡ codes "force" → ⊥) → (word ≡ codes "scenario" → ⊥) → (word ≡ codes "drop" → ⊥) → (word ≡ codes "base" → ⊥)
     → (word ≡ codes "use" → ⊥) → (word ≡ codes "as" → ⊥) → (word ≡ codes "show" → ⊥) → (word ≡ codes "export" → ⊥)
     → (word ≡ codes "changes" → ⊥) → (word ≡ codes "compare" → ⊥) → (word ≡ codes "table" → ⊥) → (word ≡ codes "formula" → ⊥)
-    → IsCommandOf (edit_command false word operands) r → IsCommandOf (named_command (first_word text) (after_word text)) r
-edit_named text word operands r first behind a b c d e f g h i j k l read =
-    let is : named_command word operands ≡ edit_command false word operands =
-    rw (not_name word (codes "force") a, not_name word (codes "scenario") b, not_name word (codes "drop") c, not_name word (codes "base") d, not_name word (codes "use") e, not_name word (codes "as") f, not_name word (codes "show") g, not_name word (codes "export") h, not_name word (codes "changes") i, not_name word (codes "compare") j, not_name word (codes "table") k, not_name word (codes "formula") l) refl in
-    named named_command text word operands word r first behind refl (subst (λ (q : Command). IsCommandOf q r) (sym is) read)
+    → named_command word operands ≡ edit_command false word operands
+edit_named word operands a b c d e f g h i j k l =
+    rw (not_name word (codes "force") a, not_name word (codes "scenario") b, not_name word (codes "drop") c, not_name word (codes "base") d, not_name word (codes "use") e, not_name word (codes "as") f, not_name word (codes "show") g, not_name word (codes "export") h, not_name word (codes "changes") i, not_name word (codes "compare") j, not_name word (codes "table") k, not_name word (codes "formula") l) refl
 
 abbrev pub compare_words : List ℕ → List ℕ → List ℕ → Command
 compare_words one two area = of_name (read_side one) (λ s. of_name (read_side two) (λ t. of_operand (read_rect area) (λ cells. Compare s t cells)))

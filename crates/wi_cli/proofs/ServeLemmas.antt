@@ -1,5 +1,5 @@
 -- What is told of a line that was served.
-use Rattle.wi_cli.proofs.Vocabulary.{◌≡◌, ℕ, Bool, true, false, List, [], ◌++◌, refl, sym, ap, ◌∙◌, subst, Option, None, Some, Result, Ok, Err, append-nil, has_session, bytes_of, Refusal, State, MayLackMemory, Passed, Done, command_of, Told, IsServed, RefusedAs, Reply}
+use Rattle.wi_cli.proofs.Vocabulary.{◌≡◌, ℕ, Bool, true, false, List, [], ◌++◌, refl, sym, ap, ◌∙◌, subst, Some, Result, Ok, Err, append-nil, has_session, bytes_of, Refusal, State, MayLackMemory, Done, command_of, Told, IsServed, RefusedAs}
 use Rattle.wi_scenarios.specs.declared.refusal.Refusal.TheVariants.{Memory}
 use Rattle.wi_scenarios.specs.Answer as answer
 use Rattle.wi_scenarios.specs.Step.{Command, IsStep}
@@ -77,14 +77,3 @@ bad e s h = refl
 
 pub told_bad : (d : Command) (e : Refusal) (s : State) (out : List ℕ) → (d ≡ spell.Refused e) × (e ≡ Memory → ⊥) → Told (Some d) (Refused e) s s out
 told_bad d e s out h = subst (λ x. Told (Some x) (Refused e) s s out) (sym h.0) (refl, bad e s h.1)
-
--- ---- of a line
-
-pub line_passed : (o : Option Command) (s : State) (out : List ℕ) → o ≡ None → Told o Passed s s out
-line_passed o s out e = subst (λ x. Told x Passed s s out) (sym e) refl
-
-pub line_told : (o p : Option Command) (r : Reply) (s t : State) (out : List ℕ) → o ≡ p → Told p r s t out → Told o r s t out
-line_told o p r s t out e h = subst (λ x. Told x r s t out) (sym e) h
-
-pub line_bad : (o : Option Command) (e : Refusal) (s : State) (out : List ℕ) → (o ≡ Some (spell.Refused e)) × (e ≡ Memory → ⊥) → Told o (Refused e) s s out
-line_bad o e s out h = line_told o (Some (spell.Refused e)) (Refused e) s s out h.0 (told_bad (spell.Refused e) e s out (refl, h.1))

@@ -1,9 +1,11 @@
 -- A line served, and its reply written.
-use Rattle.wi_cli.proofs.Vocabulary.{◌≡◌, ℕ, ◌+◌, ◌<◌, ◌≤◌, Bool, ◌||◌, not, cond, ltb, ap, refl, ◌∙◌, ⊎_elim, Some, List, ◌++◌, length, take, drop, sym, subst, Option, length-append, arith, option_to_list, Appends, Appends-trans, take-append-drop, take-append-le, length-take, take_all, lt-ltb, cases_lt, is_utf8, Refused, without_cr, take-append-add, AppendsFront, State, Reply, Told, told_bytes, line_command, text_command, line_front, RunFault, Memory, Read, Write, ScriptLimit, TookBlock, BrokeBlock, Turned, Stopped, WritesReplies}
+use Rattle.wi_cli.proofs.Vocabulary.{◌≡◌, ℕ, ◌+◌, ◌<◌, ◌≤◌, Bool, ◌||◌, not, cond, ltb, ap, refl, ◌∙◌, ⊎_elim, Some, List, ◌++◌, length, take, drop, sym, subst, Option, None, [], Appends-nil, length-append, arith, option_to_list, Appends, Appends-trans, take-append-drop, take-append-le, length-take, take_all, lt-ltb, cases_lt, is_utf8, Refused, without_cr, take-append-add, AppendsFront, State, Passed, Reply, Told, told_bytes, csv_line, line_command, text_command, line_front, RunFault, Result, Err, Broke, Memory, Read, Write, ScriptLimit, TookLine, TookBlock, BrokeBlock, Turned, Stopped, WritesReplies}
 use Rattle.wi_scenarios.specs.Step.{Command}
 use Rattle.wi_scenarios.specs.declared.refusal.Refusal.TheVariants.{BadLine}
 use Rattle.wi_cli.specs.Inner.Turn.{CutShort}
 use Rattle.wi_cli.proofs.RunLemmas.{WritesReplies-told}
+use Rattle.wi_cli.proofs.TakenLemmas.{IsCounted, plain_block}
+use Rattle.wi_cli.proofs.DataLemmas.{no_csv}
 
 pub AppendsFront-append : (a b c : Option (List ℕ)) (xs ys : List ℕ) → Appends a b xs → AppendsFront b c ys → AppendsFront a c (xs ++ ys)
 AppendsFront-append a b c xs ys h k =
@@ -28,10 +30,24 @@ pub line_command-front : (content : List ℕ) → line_command (line_front conte
 unfolding line_front line_command
 line_command-front content = same_at_front 65536 65537 (λ xs. text_command (without_cr xs)) (Some (Refused BadLine)) (λ xs. not (is_utf8 (without_cr xs))) content refl
 
+-- a line that asks for no data lines, by what was read of its front
+pub asked_block : (whole : Bool) (b : List ℕ) (l : Option (List ℕ)) (b' : List ℕ) (l' : Option (List ℕ)) (line front : List ℕ) (count count' : ℕ) (command : Option Command) → count ≤ 1000000
+    → (k : TookLine (ltb count 1000000) whole b l b' l' line) → IsCounted whole count count' → front ≡ line → csv_line front ≡ None → line_command front ≡ command
+    → TookBlock command whole b l b' l' count count'
+asked_block whole b l b' l' line front count count' command most k e same none is =
+    let read : front ≡ line_front k.content = same ∙ k.kept in
+    subst (λ o. TookBlock o whole b l b' l' count count') (sym (line_command-front k.content) ∙ ap line_command (sym read) ∙ is)
+    (plain_block whole b l b' l' line count count' most k e (no_csv front k.content read none))
+
 pub turned : (whole : Bool) (b : List ℕ) (l : Option (List ℕ)) (b' : List ℕ) (l' : Option (List ℕ)) (count count' : ℕ) (s t : State) (w w' : Option (List ℕ)) (command : Option Command) (a : Reply) (out : List ℕ)
     → TookBlock command whole b l b' l' count count' → Told command a s t out → Appends w w' (told_bytes a out) → Turned whole b l b' l' count count' s t w w'
 turned whole b l b' l' count count' s t w w' command a out k told h =
     record { command = command; block = k; out = told_bytes a out; written = h; writes = WritesReplies-told command a s t out told }
+
+-- a line that is passed over
+pub passed : (whole : Bool) (b : List ℕ) (l : Option (List ℕ)) (b' : List ℕ) (l' : Option (List ℕ)) (count count' : ℕ) (s : State) (w : Option (List ℕ))
+    → TookBlock None whole b l b' l' count count' → Turned whole b l b' l' count count' s s w w
+passed whole b l b' l' count count' s w k = turned whole b l b' l' count count' s s w w None Passed [] k refl (Appends-nil w)
 
 -- no block was taken, and nothing is answered
 pub stopped : (e : RunFault) (b : List ℕ) (l : Option (List ℕ)) (b' : List ℕ) (l' : Option (List ℕ)) (count : ℕ) (s t : State) (w w' : Option (List ℕ))
@@ -53,3 +69,9 @@ cut_short whole b l b' l' count count' s t w w' command a out k told h = record 
   written = h.2;
   writes = subst (λ x. WritesReplies s (option_to_list command) x t) (sym (take-append-drop h.0 (told_bytes a out))) (WritesReplies-told command a s t out told);
 }
+
+-- no fault of the reader of lines is want of memory
+pub broke_no_memory : (r : Result Bool RunFault) (e fault : RunFault) (allowed : Bool) (b : List ℕ) (l : Option (List ℕ)) (b' : List ℕ) (l' : Option (List ℕ))
+    → r ≡ Err e → e ≡ fault → Broke fault allowed b l b' l' → r ≡ Err Memory → ⊥
+broke_no_memory r e fault allowed b l b' l' is same h m =
+    let one : fault ≡ Memory = cc in subst (λ (x : RunFault). Broke x allowed b l b' l') one h

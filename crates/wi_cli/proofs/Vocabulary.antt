@@ -1,6 +1,6 @@
 -- The words of the library, of the crates below and of this crate's definitions that its proofs are written in.
 pub use Rattle.memchr.specs.Find.{NoneBefore, Nowhere, Passes, is_byte}
-pub use Rattle.std.proofs.Common.{Bool, Err, IfErr, IfOk, List, MatchOption, MatchResult, None, Ok, OnOk, Option, Result, Some, [], ap, append-nil, append_assoc, ap₂, arith, bytes_eq, codes, cond, drop, eqb, false, filter, filter_map, get_or, if◌then◌else◌, inl, inr, is_ok, is_some, length, length-append, ltb, map, max, min, nat_eq, nat_le, nat_lt, not, ok_or, option_map, refl, rules, subst, subst₂, suc, sym, take, tests, true, vec_capacity, zero, ℕ, ⊎_elim, ◌%◌, ◌&&◌, ◌*◌, ◌++◌, ◌+◌, ◌-◌, ◌/◌, ◌<◌, ◌==◌, ◌||◌, ◌↔◌, ◌∙◌, ◌∷◌, ◌≡◌, ◌≢◌, ◌≤◌, ◌⊎◌}
+pub use Rattle.std.proofs.Common.{Bool, Err, IfErr, IfOk, List, None, Ok, OnOk, Option, Result, Some, [], ap, append-nil, append_assoc, ap₂, arith, bytes_eq, codes, cond, drop, eqb, false, filter, filter_map, get_or, if◌then◌else◌, inl, inr, is_some, length, length-append, ltb, map, max, min, nat_eq, nat_le, nat_lt, not, ok_or, option_map, refl, rules, subst, subst₂, suc, sym, take, tests, true, vec_capacity, zero, ℕ, ⊎_elim, ◌%◌, ◌&&◌, ◌*◌, ◌++◌, ◌+◌, ◌-◌, ◌/◌, ◌<◌, ◌==◌, ◌||◌, ◌↔◌, ◌∙◌, ◌∷◌, ◌≡◌, ◌≢◌, ◌≤◌, ◌⊎◌}
 pub use Rattle.std.proofs.KnownBytes.{Appends-kept, Appends-nil, Appends-trans, Consumes-nil, Consumes-trans}
 pub use Rattle.std.proofs.Math.Bool.{or-false, or-true}
 pub use Rattle.std.proofs.Math.Seq.{drop-append_seam, take-add, take-append-add, take-append_seam}
@@ -15,8 +15,8 @@ pub use Rattle.std.proofs.lemmas.List.Sums.{passes_at_first, split_at_first}
 pub use Rattle.std.proofs.lemmas.Option.{none-some}
 pub use Rattle.std.proofs.lemmas.Result.{err_from_is_err_and, on_err_weaker, on_ok_weaker}
 pub use Rattle.std.proofs.lemmas.Slice.Eq.{bytes_eq-Decides}
-pub use Rattle.std.proofs.lemmas.Str.{IsUtf8-from_is_utf8, encode_ascii, is_utf8-from_IsUtf8}
-pub use Rattle.std.proofs.lemmas.Str.Pattern.{drop_at_char}
+pub use Rattle.std.proofs.lemmas.Str.{IsCharBoundary-before_ascii, IsCharBoundary-end, IsUtf8-from_is_utf8, encode_ascii, is_utf8-from_IsUtf8}
+pub use Rattle.std.proofs.lemmas.Str.Pattern.{drop_at_char, strip_prefix_char}
 pub use Rattle.std.specs.Char.{digit_value, is_ascii_alphabetic, is_ascii_digit}
 pub use Rattle.std.specs.Cmp.Lexicographic.{pointwise}
 pub use Rattle.std.specs.Io.KnownBytes.{Appends, Consumes, IsAtEnd, Keeps, prepend_known}
@@ -25,7 +25,7 @@ pub use Rattle.std.specs.Map.{keys_of}
 pub use Rattle.std.specs.Option.{IfSome, option_to_list}
 pub use Rattle.std.specs.Prelude.{All}
 pub use Rattle.std.specs.Result.{result_err}
-pub use Rattle.std.specs.Str.{IsUtf8, all_ascii_digits, byte, is_utf8}
+pub use Rattle.std.specs.Str.{IsCharBoundary, IsUtf8, all_ascii_digits, byte, is_utf8}
 pub use Rattle.std.specs.Str.Parse.{digits_value, digits_value_after}
 pub use Rattle.std.specs.Str.Pattern.{CutsPrefixes, FindsCharPrefix, IsTrimStartMatches}
 pub use Rattle.wi_cli.specs.Causes.{BadCommand, BadField, BadLine, Cause, CutShort, EditLimit, Full, Holds, InUse, IsFirst, LeavesSheet, Loop, NoScenario, NumberRange, OutOfSheet, Outside, Stale, Syntax, TooDeep, TooLarge, TooLong, TooMany, is_missing, lies_outside, order, size, stale_cell}
@@ -35,8 +35,9 @@ pub use Rattle.wi_cli.specs.Edits.{Put, Puts, after_edit, copy_in, fields, is_fo
 pub use Rattle.wi_cli.specs.Events.{AreEvents, Event, ForcedIsNotStale, GivesChain, KeepsApart, KeepsChains, ListsAddUp, LogGrows, MayFollow, MayHappen, RecordsTellList, StaleIsNewer, StaysCoherent, edits_in, edits_since, is_accepted_changes, is_told, last_shown, lists_told, logged_by, state_after}
 pub use Rattle.wi_cli.specs.InTurn.{RunInTurn}
 pub use Rattle.wi_cli.specs.Inner.Ahead.{Takes, budget}
+pub use Rattle.wi_cli.specs.Inner.Asked.{IsAsked}
 pub use Rattle.wi_cli.specs.Inner.Blocks.{Block, begun, blocks, blocks_from, is_complete, lines_of, with_data}
-pub use Rattle.wi_cli.specs.Inner.CsvCommand.{CsvLine, csv_command, csv_named, csv_of, csv_operands, csv_text, is_long, read_lines}
+pub use Rattle.wi_cli.specs.Inner.CsvCommand.{CsvLine, csv_by_name, csv_command, csv_named, csv_of, csv_operands, csv_text, is_long, read_lines}
 unfoldable pub use Rattle.wi_cli.specs.Inner.CsvCommand.{csv_line}
 pub use Rattle.wi_cli.specs.Inner.Data.{AddedTo, BrokeData, HoldsLines, IsCsv, TookData, command_of_csv, wants}
 pub use Rattle.wi_cli.specs.Inner.EditCommands.{clear_command, edit_command, fill_command, fill_command_of, set_command}
@@ -58,12 +59,12 @@ pub use Rattle.wi_cli.specs.Inner.TableCommand.{table_command, table_of_one, tab
 pub use Rattle.wi_cli.specs.Inner.Taken.{AreBlocks, AreBlocksOf, AreWhole, BrokeLines, TookLines}
 pub use Rattle.wi_cli.specs.Inner.Told.{IsServed, RefusedAs, Told, told_bytes}
 pub use Rattle.wi_cli.specs.Inner.Turn.{BrokeBlock, Stopped, TookBlock, Turned}
-pub use Rattle.wi_cli.specs.Laws.{HasCommands, HasOneAnswer, SameAddr, SameCommands, SameLack, SameOutcome, SameRect, SameReply, SameRuns, SameStep, Splits, a_line, asked, before, block, cut_short, kept, none, read_any, read_by, read_cell, read_corners, was}
+pub use Rattle.wi_cli.specs.Laws.{HasCommands, HasOneAnswer, SameAddr, SameCommands, SameLack, SameOutcome, SameRect, SameReply, SameRuns, SameStep, Splits, a_line, asked, before, block, cut_short, blocks_that_count, none, read_any, read_by, read_cell, read_area, was}
 pub use Rattle.wi_cli.specs.Lines.{Bytes, after_word, first_word, is_space, is_whole, max_line, max_lines, onto_first, raw_lines, skip_spaces, without_cr, without_lf}
 pub use Rattle.wi_cli.specs.Operands.{ADDR, ANY, CONTENT, Cell, Corners, IsAddr, IsRect, IsSpelled, IsWritten, LINES, NAME, Operand, RECT, SESSION, SIDE, WORD, a_cell, addr, address, area, is_outside, two_cells}
 pub use Rattle.wi_cli.specs.Outcome.{IsRun, Outcome, Writes}
 pub use Rattle.wi_cli.specs.Reply.{Replies, accepted, cell_told, late, unserved}
-pub use Rattle.wi_cli.specs.Script.{AreCommands, Asks, IsCommand, IsGood, IsWithin, is_passed_over, text_of}
+pub use Rattle.wi_cli.specs.Script.{AreCommands, Asks, IsCommand, IsGood, IsWithin, is_passed_over, line_text}
 pub use Rattle.wi_cli.specs.Step.{Answer, IsFirstOf, IsStep, Runs, Tells, causes}
 pub use Rattle.wi_cli.specs.declared.data_lines.DataLines.{DataLines}
 pub use Rattle.wi_cli.specs.declared.data_lines.Held.{Held}
@@ -76,13 +77,14 @@ pub use Rattle.wi_csv.specs.Records.{recs}
 pub use Rattle.wi_edit_log.specs.EditLog.{Entry}
 pub use Rattle.wi_fraction.proofs.Scanning.{digits_same}
 pub use Rattle.wi_import.proofs.ImportLemmas.{some_import}
-pub use Rattle.wi_import.specs.Fields.{Field, IsInside, areas_at, areas_from, fields_at, fields_from}
+pub use Rattle.wi_import.specs.Fields.{Field, IsInside, areas_from, fields_at, fields_from, record_areas_at}
 pub use Rattle.wi_import.specs.Imports.{AreChanges, IsFault, IsImport, bad_field, out_of_sheet, too_long}
 pub use Rattle.wi_import.specs.Inner.Reading.{IsText, IsTooLong}
 pub use Rattle.wi_import.specs.declared.fault.ImportFault.{ImportFault}
 pub use Rattle.wi_parser.proofs.ContentsOfTexts.{content_is_one}
 pub use Rattle.wi_parser.specs.Contents.{AreJudged, IsContent, IsParsed, a_constant, a_formula, a_long_text, a_text, a_tree, as_judged, at_fault, no_constant, no_formula, no_tree}
 pub use Rattle.wi_parser.specs.Inner.Reading.{content_read}
+pub use Rattle.wi_parser.specs.Reads.{cell_area}
 pub use Rattle.wi_parser.specs.Sheet.{content_of}
 pub use Rattle.wi_parser.specs.Symbol.{Symbol}
 pub use Rattle.wi_parser.specs.Tree.{Tree}
@@ -101,7 +103,6 @@ pub use Rattle.wi_scenario_list.specs.Inner.Chains.{chain, effective}
 pub use Rattle.wi_scenario_list.specs.Scenarios.{has_scenario, is_full, is_named, scenario_for, with_own, without_own, without_scenario}
 pub use Rattle.wi_scenarios.proofs.RecordLemmas.{records_tell_list}
 pub use Rattle.wi_scenarios.proofs.RunLemmas.{new_is_coherent}
-pub use Rattle.wi_scenarios.proofs.SetLemmas.{rect_cell}
 pub use Rattle.wi_scenarios.proofs.StaleLemmas.{refused_so, stale_exactly}
 pub use Rattle.wi_scenarios.proofs.StepLemmas.{an_answer, no_other}
 pub use Rattle.wi_scenarios.specs.Answer.{MayGrow, may_grow}
@@ -113,7 +114,7 @@ pub use Rattle.wi_scenarios.specs.Edits.{edit_answer, stale_in}
 pub use Rattle.wi_scenarios.specs.Fill.{copy_to, has_no_copy, or_nothing}
 pub use Rattle.wi_scenarios.specs.Laws.{IsCoherent, IsFirstNewer, counts_before, is_refused_before, left_by, unseen, with_lists}
 pub use Rattle.wi_scenarios.specs.Pending.{Book}
-pub use Rattle.wi_scenarios.specs.Set.{cell_area, fault_in, set_answer, set_edit}
+pub use Rattle.wi_scenarios.specs.Set.{fault_in, set_answer, set_edit}
 pub use Rattle.wi_scenarios.specs.State.{State, max_area, new_state, state_over}
 pub use Rattle.wi_scenarios.specs.Step.{MayLackMemory, Refused}
 pub use Rattle.wi_scenarios.specs.Views.{current_replacements, current_session, session_at, shown_to, with_current}

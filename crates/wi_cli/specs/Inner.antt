@@ -11,6 +11,7 @@ pub mod Reply
 pub mod Run
 pub mod RunOutcome
 pub mod Ahead
+pub mod Asked
 pub mod Data
 pub mod Front
 pub mod Reading

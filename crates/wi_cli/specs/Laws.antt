@@ -32,8 +32,8 @@ read_by outside x = if outside then Err AtOutside else Ok x
 abbrev pub read_cell : Cell → Result ℕ AddressFault
 read_cell c = read_by (is_outside c) (address c)
 
-abbrev pub read_corners : Corners → Result Area AddressFault
-read_corners r = read_by (is_outside r.0 || is_outside r.1) (area r)
+abbrev pub read_area : Corners → Result Area AddressFault
+read_area r = read_by (is_outside r.0 || is_outside r.1) (area r)
 
 abbrev pub read_any : Option Cell → Result ℕ AddressFault
 read_any None = Err Shape
@@ -45,7 +45,7 @@ pub record SameAddr (word : Bytes) : Type 0 where
   pub read : (read_address word ≡ Err Shape → ⊥) → (c : Cell) × IsAddr word c
 
 pub record SameRect (word : Bytes) : Type 0 where
-  pub spelled : (r : Corners) → IsRect word r → read_rect word ≡ read_corners r
+  pub spelled : (r : Corners) → IsRect word r → read_rect word ≡ read_area r
   pub read : (read_rect word ≡ Err Shape → ⊥) → (r : Corners) × IsRect word r
 
 -- ---- commands
@@ -53,19 +53,19 @@ pub record SameRect (word : Bytes) : Type 0 where
 -- the command as it was
 abbrev pub was : Command → old.Command
 was (Set force at text) = if length text == 0 then old.Refused refusal.BadCommand else of_operand (read_cell at) (λ a. old.Set force a text)
-was (Clear force rect) = of_operand (read_corners rect) (λ r. old.Clear force r)
-was (Fill force at rect) = fill_command_of force (read_cell at) (read_corners rect)
+was (Clear force rect) = of_operand (read_area rect) (λ r. old.Clear force r)
+was (Fill force at rect) = fill_command_of force (read_cell at) (read_area rect)
 was (Csv force at n lines) = csv_command force (read_any at) lines (n - length lines)
 was (Scenario name at text) = of_operand (read_cell at) (λ a. old.Scenario name a text)
 was (Drop name) = old.Drop name
 was (Base name other) = old.Base name other
 was (Use name) = old.Use name
 was (As name) = old.As name
-was (Show rect) = of_operand (read_corners rect) (λ r. old.Show r)
-was (Export rect) = of_operand (read_corners rect) (λ r. old.Export r)
-was (Compare p q rect) = of_operand (read_corners rect) (λ r. old.Compare p q r)
-was (Table f r xs None) = table_of_one (read_cell f) (read_cell r) (read_corners xs)
-was (Table f r xs (Some y)) = table_of_two (read_cell f) (read_cell r) (read_corners xs) (read_cell y.0) (read_corners y.1)
+was (Show rect) = of_operand (read_area rect) (λ r. old.Show r)
+was (Export rect) = of_operand (read_area rect) (λ r. old.Export r)
+was (Compare p q rect) = of_operand (read_area rect) (λ r. old.Compare p q r)
+was (Table f r xs None) = table_of_one (read_cell f) (read_cell r) (read_area xs)
+was (Table f r xs (Some y)) = table_of_two (read_cell f) (read_cell r) (read_area xs) (read_cell y.0) (read_area y.1)
 was (Formula at) = of_operand (read_cell at) (λ a. old.Formula a)
 was Changes = old.Changes
 was Unknown = old.Refused refusal.BadCommand
@@ -110,13 +110,13 @@ pub data Splits : List Bytes → List Block → Type 0 where
   cut_short : (line : Bytes) (taken : List Bytes) → length taken < asked line → Splits (line ∷ taken) (block line taken ∷ [])
 
 -- of these blocks all count where the script has ended, else those of which no data line is missing
-abbrev pub kept : Bool → List Block → List Block
-kept true bs = bs
-kept false bs = filter is_complete bs
+abbrev pub blocks_that_count : Bool → List Block → List Block
+blocks_that_count true bs = bs
+blocks_that_count false bs = filter is_complete bs
 
 -- the commands that lines had
 abbrev pub before : Bool → List Bytes → List old.Command
-before ended lines = filter_map block_command (kept ended (blocks lines))
+before ended lines = filter_map block_command (blocks_that_count ended (blocks lines))
 
 -- lines have commands, which are these as they were; and any that they have are
 abbrev pub HasCommands : Bool → List Bytes → List old.Command → Type 0

@@ -8,18 +8,18 @@ use Rattle.wi_cli.specs.Operands.{Cell, IsWritten}
 use Rattle.wi_cli.specs.Command.{Command, Csv, Unknown, Unreadable, form, data_of}
 
 -- without its LF, and then without a CR at its end
-abbrev pub text_of : Bytes → Bytes
-text_of line = without_cr (without_lf line)
+abbrev pub line_text : Bytes → Bytes
+line_text line = without_cr (without_lf line)
 
 abbrev pub IsWithin : Bytes → Type 0
 IsWithin line = length (without_lf line) ≤ max_line
 
 abbrev pub IsGood : Bytes → Type 0
-IsGood line = IsWithin line × IsUtf8 (text_of line)
+IsGood line = IsWithin line × IsUtf8 (line_text line)
 
 -- within the limit, written as `csv`, any second word and n
 abbrev pub Asks : Bytes → ℕ → Type 0
-Asks line n = IsWithin line × ((force : Bool) × (at : Option Cell) × IsWritten (text_of line) (form (Csv force at n [])))
+Asks line n = IsWithin line × ((force : Bool) × (at : Option Cell) × IsWritten (line_text line) (form (Csv force at n [])))
 
 -- empty, only spaces, or beginning with `#`
 abbrev pub is_passed_over : Bytes → Bool
@@ -28,11 +28,11 @@ is_passed_over (b ∷ bs) = if b == byte "#" then true else list_all is_space (b
 
 -- Too long or not UTF-8 is Unreadable; of no form is Unknown.
 abbrev pub IsCommand : Bytes → List Bytes → Option Command → Type 0
-IsCommand line taken None = IsGood line × (is_passed_over (text_of line) ≡ true)
+IsCommand line taken None = IsGood line × (is_passed_over (line_text line) ≡ true)
 IsCommand line taken (Some Unreadable) = IsGood line → ⊥
 IsCommand line taken (Some Unknown) =
-    IsGood line × (is_passed_over (text_of line) ≡ false) × ((c : Command) → IsWritten (text_of line) (form c) → ⊥)
-IsCommand line taken (Some c) = IsGood line × IsWritten (text_of line) (form c) × (data_of c ≡ taken)
+    IsGood line × (is_passed_over (line_text line) ≡ false) × ((c : Command) → IsWritten (line_text line) (form c) → ⊥)
+IsCommand line taken (Some c) = IsGood line × IsWritten (line_text line) (form c) × (data_of c ≡ taken)
 
 -- Data lines are taken whatever is answered. A line that lacks some counts only where the script has ended.
 pub data AreCommands (ended : Bool) : List Bytes → List Command → Type 0 where

@@ -1,17 +1,14 @@
 -- A step as the calls of a workbook tell it, which refuse by `Refusal`, and commands with their replies one after another.
-use Rattle.std.specs.Prelude.{◌≡◌, ◌⊎◌, ℕ, List, [], ◌∷◌, map, Some, Result, Ok, Err}
+use Rattle.std.specs.Prelude.{◌≡◌, ◌⊎◌, ℕ, List, [], ◌∷◌, map, Some, Ok, Err}
 use Rattle.wi_scenarios.specs.declared.refusal.Refusal.{Refusal}
 use Rattle.wi_scenarios.specs.declared.refusal.Refusal.TheVariants as refusal
 use Rattle.wi_scenarios.specs.State.{State}
+pub use Rattle.wi_scenarios.specs.Answer.{Answer}
 use Rattle.wi_cli.specs.Lines.{Bytes}
 use Rattle.wi_cli.specs.Command.{Command}
 use Rattle.wi_cli.specs.Causes.{Cause, BadLine, BadCommand, CutShort, Outside, TooLarge, NoScenario, InUse, TooMany, BadField, TooLong, OutOfSheet, NumberRange, TooDeep, Syntax, LeavesSheet, Stale, Loop, Full, EditLimit, order, Holds, stale_cell}
 use Rattle.wi_cli.specs.Does.{Does}
 use Rattle.wi_cli.specs.Reply.{Replies}
-
--- the new state and the records, or a refusal
-abbrev pub Answer : Type 0
-Answer = Result (State × Bytes) Refusal
 
 -- the refusal for a cause, which for a stale edit names the first stale cell
 abbrev pub Tells : State → Command → Cause → Refusal → Type 0

@@ -1,37 +1,52 @@
 //! The commands that edit the sheet, as they are read. They may be forced.
 
-ghost use Rattle.std.specs.Prelude.{true};
+ghost use Rattle.std.specs.Prelude.{true, Some};
+ghost use Rattle.wi_scenarios.specs.declared.refusal.Refusal.TheVariants.{BadCommand};
+ghost use Rattle.wi_scenarios.specs.Step.{Refused};
 ghost use Rattle.wi_cli.specs.Lines.{first_word, after_word};
+ghost use Rattle.wi_cli.specs.Inner.CsvCommand.{csv_operands, csv_named};
 ghost use Rattle.wi_cli.specs.Inner.EditCommands.{set_command, clear_command, fill_command, fill_command_of, edit_command};
 ghost use Rattle.wi_cli.specs.Inner.Spelling.{IsCommandOf};
+ghost use Rattle.wi_cli.specs.Inner.Asked.{IsAsked};
 
 use crate::command::Command;
+use crate::csv_line::read_csv;
+use crate::line::Line;
 use crate::operands::worse;
 use crate::words::{only_word, split_word};
 use wi_scenarios::Refusal;
 use wi_values::{Address, AddressFault, Rect};
 
 /// `force`, before an edit.
-pub(crate) fn read_forced(text: &str) -> Result<Command<'_>, Refusal>
-    ensures { IsCommandOf (edit_command true (first_word text.now) (after_word text.now)) result }
+pub(crate) fn read_forced(text: &str) -> Line<'_>
+    ensures { IsAsked (csv_named true (first_word text.now) (after_word text.now)) true
+        (Some (edit_command true (first_word text.now) (after_word text.now))) result }
 {
     let (name, operands) = split_word(text);
     read_edit(true, name, operands)
 }
 
 /// The edit of this name.
-pub(crate) fn read_edit<'a>(
-    force: bool,
-    name: &str,
-    operands: &'a str,
-) -> Result<Command<'a>, Refusal>
-    ensures { IsCommandOf (edit_command force name.now operands.now) result }
+pub(crate) fn read_edit<'a>(force: bool, name: &str, operands: &'a str) -> Line<'a>
+    ensures { IsAsked (csv_named force name.now operands.now) true
+        (Some (edit_command force name.now operands.now)) result }
 {
     match name {
-        "set" => read_set(force, operands),
-        "clear" => read_clear(force, operands),
-        "fill" => read_fill(force, operands),
-        _ => Err(Refusal::BadCommand),
+        "set" => Line::Command(read_set(force, operands)),
+        "clear" => Line::Command(read_clear(force, operands)),
+        "fill" => Line::Command(read_fill(force, operands)),
+        "csv" => read_import(force, operands),
+        _ => Line::Command(Err(Refusal::BadCommand)),
+    }
+}
+
+/// `csv ADDR LINES`.
+fn read_import(force: bool, operands: &str) -> Line<'_>
+    ensures { IsAsked (csv_operands force operands.now) true (Some (Refused BadCommand)) result }
+{
+    match read_csv(force, operands.as_bytes()) {
+        Some(csv) => Line::Csv(csv),
+        None => Line::Command(Err(Refusal::BadCommand)),
     }
 }
 

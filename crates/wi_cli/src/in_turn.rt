@@ -15,7 +15,7 @@ use wi_propagate::Calculator;
 use wi_scenarios::Workbook;
 
 /// Runs the script that is loaded, and then the other one, on one workbook. After a fault in the first nothing is read of the
-/// second. The limit of lines counts for each of them apart.
+/// second. The limit of lines counts for each of them apart. The costs are those of two calls of `run`.
 pub fn run_in_turn<L: Source, R: Source, W: Sink, C: Calculator>(
     alloc: Global,
     load: &mut L,
@@ -36,7 +36,7 @@ pub fn run_in_turn<L: Source, R: Source, W: Sink, C: Calculator>(
     run(alloc, reader, writer, book)
 }
 
-/// Runs two scripts in turn on a new workbook, within the standard limits, that keeps so many values. The outcome is that of
+/// Runs two scripts in turn on a new workbook, within the standard limits, that keeps so many values. The outcome and the costs are those of
 /// `run_in_turn`. The workbook's memory is given back at the end of the process, not before.
 pub fn run_new_in_turn<L: Source, R: Source, W: Sink>(
     alloc: Global,

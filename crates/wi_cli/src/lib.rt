@@ -1,7 +1,6 @@
 //! The lines of a script and the commands that they spell, and the run of a script on a workbook.
 #![tactic(auto)]
 
-mod blocks;
 mod chunk;
 mod command;
 mod csv_line;
@@ -11,6 +10,7 @@ mod ending;
 mod fault;
 mod in_turn;
 pub mod laws;
+mod line;
 mod lines;
 mod look_commands;
 mod names;

@@ -28,7 +28,7 @@ pub struct LineReader {
 
 /// Takes the next line, without its LF, and tells whether its LF came. Of a line over the limit
 /// the front is kept, one byte more than the limit. With no LF and no byte the input has ended.
-pub(crate) fn read_line<R: Source>(
+fn take_line<R: Source>(
     chunk: &mut Chunk,
     source: &mut R,
     line: &mut Vec<u8>,
@@ -100,7 +100,7 @@ fn may_go_on(lines: u32) -> bool
     lines < MAX_LINES
 }
 
-/// Takes the next line as `read_line` does, where the script may have one more, and counts it if its LF came.
+/// Takes the next line as `take_line` does, where the script may have one more, and counts it if its LF came.
 pub(crate) fn next_line<R: Source>(
     script: &mut LineReader,
     source: &mut R,
@@ -117,7 +117,7 @@ pub(crate) fn next_line<R: Source>(
     ensures reads { ReadsOn result (R.has_failed source.new) (vec_capacity script.new.line) }
 {
     let allowed = may_go_on(script.lines);
-    let whole = read_line(&mut script.chunk, source, &mut script.line, allowed)?;
+    let whole = take_line(&mut script.chunk, source, &mut script.line, allowed)?;
     if whole {
         script.lines += 1;
     }

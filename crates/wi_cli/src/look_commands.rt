@@ -32,7 +32,7 @@ pub(crate) fn read_export(operands: &str) -> Result<Command<'_>, Refusal>
 pub(crate) fn read_changes(operands: &str) -> Result<Command<'_>, Refusal>
     ensures { IsCommandOf (changes_command operands.now) result }
 {
-    if !is_all_spaces(operands) {
+    if !is_all_spaces(operands.as_bytes()) {
         return Err(Refusal::BadCommand);
     }
     Ok(Command::Changes)

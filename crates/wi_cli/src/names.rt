@@ -29,7 +29,7 @@ pub(crate) fn only_name(words: &str) -> Result<Name<'_>, Refusal>
 pub(crate) fn name_or_none(words: &str) -> Result<Option<Name<'_>>, Refusal>
     ensures { IsNameOrNoneOf (name_or_none words.now) result }
 {
-    if is_all_spaces(words) {
+    if is_all_spaces(words.as_bytes()) {
         return Ok(None);
     }
     let name = only_name(words)?;

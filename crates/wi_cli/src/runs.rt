@@ -7,51 +7,77 @@ ghost use Rattle.wi_cli.specs.Inner.Turn.{Turned, Stopped};
 ghost use Rattle.wi_cli.specs.Lines.{max_lines};
 ghost use Rattle.wi_cli.specs.Outcome.{IsRun};
 
-use crate::blocks::{read_block, serve_block};
 use crate::chunk::Chunk;
-use crate::data_lines::DataLines;
+use crate::data_lines::{DataLines, read_data};
 use crate::fault::RunFault;
-use crate::lines::{LineReader, MAX_LINE};
+use crate::line::{Line, read_line};
+use crate::lines::{LineReader, MAX_LINE, next_line};
 use crate::reply::write_reply;
+use crate::serve::serve;
+use crate::serve_csv::serve_csv;
 use std::alloc::Global;
 use wi_devices::{Sink, Source};
 use wi_propagate::Calculator;
 use wi_scenarios::Workbook;
 
+/// What a run uses anew for each line.
+#[derive(Drop)]
+pub struct Buffers {
+    /// What reads the lines.
+    pub script: LineReader,
+    /// The data lines of a line.
+    pub data_lines: DataLines,
+    /// The records of a command.
+    pub records: Vec<u8>,
+}
+
 /// Reads a line with its data lines, serves it and writes its reply. Tells whether the last LF came.
 fn turn<R: Source, W: Sink, C: Calculator>(
-    script: &mut LineReader,
+    buffers: &mut Buffers,
     reader: &mut R,
     writer: &mut W,
     book: &mut Workbook<C>,
-    data_lines: &mut DataLines,
-    out: &mut Vec<u8>,
 ) -> Result<bool, RunFault>
-    requires reads { CanRead (R.has_failed reader.old) (vec_capacity script.old.line) }
+    requires reads { CanRead (R.has_failed reader.old) (vec_capacity buffers.old.script.line) }
     requires writes { W.has_failed writer.old ≡ false }
-    requires few { script.old.lines ≤ max_lines }
+    requires few { buffers.old.script.lines ≤ max_lines }
     ensures done { MatchResult result
-        (λ whole. Turned whole script.old.chunk (R.remaining reader.old)
-        script.new.chunk (R.remaining reader.new) script.old.lines script.new.lines
+        (λ whole. Turned whole buffers.old.script.chunk (R.remaining reader.old)
+        buffers.new.script.chunk (R.remaining reader.new)
+        buffers.old.script.lines buffers.new.script.lines
         book.old.state book.new.state (W.contents writer.old) (W.contents writer.new))
-        (λ e. Stopped e script.old.chunk (R.remaining reader.old)
-        script.new.chunk (R.remaining reader.new) script.old.lines
+        (λ e. Stopped e buffers.old.script.chunk (R.remaining reader.old)
+        buffers.new.script.chunk (R.remaining reader.new) buffers.old.script.lines
         book.old.state book.new.state (W.contents writer.old) (W.contents writer.new)) }
-    ensures reads { ReadsOn result (R.has_failed reader.new) (vec_capacity script.new.line) }
+    ensures reads { ReadsOn result (R.has_failed reader.new)
+        (vec_capacity buffers.new.script.line) }
     ensures writes { OnOk result (W.has_failed writer.new ≡ false) }
     ensures write_fault { result ≡ Err RunFault.Write → W.has_failed writer.new ≡ true }
     ensures no_memory { result ≡ Err RunFault.Memory → ⊥ }
 {
-    let block = match read_block(script, reader, data_lines) {
-        Ok(block) => block,
-        // What a fault cuts is not answered.
-        Err(fault) => return Err(fault),
-    };
-    out.clear();
-    let reply = serve_block(book, &block.csv, &script.line, data_lines, out);
-    match write_reply(writer, reply, out) {
-        Ok(()) => Ok(block.whole),
-        Err(_) => Err(RunFault::Write),
+    let whole = next_line(&mut buffers.script, reader)?;
+    match read_line(&buffers.script.line) {
+        Line::Passed => Ok(whole),
+        Line::Command(command) => {
+            let reply = serve(&command, book, &mut buffers.records);
+            match write_reply(writer, reply, &buffers.records) {
+                Ok(()) => Ok(whole),
+                Err(_) => Err(RunFault::Write),
+            }
+        }
+        Line::Csv(csv) => {
+            let script = &mut buffers.script;
+            let end = match read_data(script, reader, &mut buffers.data_lines, &csv, whole) {
+                Ok(end) => end,
+                // What a fault cuts is not answered.
+                Err(fault) => return Err(fault),
+            };
+            let reply = serve_csv(book, &csv, &buffers.data_lines);
+            match write_reply(writer, reply, b"") {
+                Ok(()) => Ok(end),
+                Err(_) => Err(RunFault::Write),
+            }
+        }
     }
 }
 
@@ -72,7 +98,9 @@ fn send<W: Sink>(writer: &mut W) -> Result<(), RunFault>
 
 /// Runs a script on a workbook. It takes each line as it comes, with its data lines, serves it and writes its reply, then
 /// goes on to the next; the contract tells what is written, not when. On a fault the replies to the commands before it stand; where a
-/// write failed, the last of them may be cut short, and nothing is served after it.
+/// write failed, the last of them may be cut short, and nothing is served after it. Beside what its command does, a line costs time
+/// that grows with its length. Memory is taken for a line of the greatest length, once, and as much as the data lines of one
+/// `csv` and the records of one command want.
 pub fn run<R: Source, W: Sink, C: Calculator>(
     alloc: Global,
     reader: &mut R,
@@ -89,14 +117,17 @@ pub fn run<R: Source, W: Sink, C: Calculator>(
     let Ok(line) = Vec::with_capacity(alloc, MAX_LINE + 1) else {
         return Err(RunFault::Memory);
     };
-    let mut data_lines = DataLines::new(alloc);
-    let mut out = Vec::new(alloc);
     let chunk = Chunk::new();
-    let mut script = LineReader {
+    let script = LineReader {
         chunk,
         line,
         lines: 0,
     };
-    'turns: while turn(&mut script, reader, writer, book, &mut data_lines, &mut out)? {}
+    let mut buffers = Buffers {
+        script,
+        data_lines: DataLines::new(alloc),
+        records: Vec::new(alloc),
+    };
+    'turns: while turn(&mut buffers, reader, writer, book)? {}
     send(writer)
 }

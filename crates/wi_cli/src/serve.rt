@@ -1,11 +1,11 @@
-//! What a line is answered.
+//! What a command is answered.
 
-ghost use Rattle.std.specs.Prelude.{◌≡◌, ◌++◌, [], List, ℕ, Some};
-ghost use Rattle.wi_cli.specs.Inner.Script.{line_command, spelled_command};
-ghost use Rattle.wi_cli.specs.Inner.Spelling.{command_of};
+ghost use Rattle.std.specs.Prelude.{◌≡◌, ◌++◌, List, ℕ, Some};
+ghost use Rattle.wi_scenarios.specs.Step as spell;
+ghost use Rattle.wi_cli.specs.Inner.Spelling.{command_of, IsCommandOf};
 ghost use Rattle.wi_cli.specs.Inner.Told.{IsServed, Told};
 
-use crate::command::{Command, read_command, read_line};
+use crate::command::Command;
 use crate::reply::Reply;
 use wi_propagate::Calculator;
 use wi_scenarios::{Refusal, Workbook};
@@ -53,29 +53,21 @@ fn execute<C: Calculator>(
     }
 }
 
-/// Serves the command that a text spells, and leaves its records in `out`, which was empty.
-fn serve_text<C: Calculator>(book: &mut Workbook<C>, text: &str, out: &mut Vec<u8>) -> Reply
-    requires { out.old.items ≡ [] }
-    ensures { Told (Some (spelled_command text.now)) result
-        book.old.state book.new.state out.new.items }
+/// Serves a command that was read, or refused so, and leaves its records in `out`.
+pub(crate) fn serve<C: Calculator>(
+    command: &Result<Command<'_>, Refusal>,
+    book: &mut Workbook<C>,
+    out: &mut Vec<u8>,
+) -> Reply
+    ensures { (spelled : spell.Command) → IsCommandOf spelled command.now
+        → Told (Some spelled) result book.old.state book.new.state out.new.items }
 {
-    match read_command(text) {
-        Ok(command) => match execute(&command, book, out) {
+    out.clear();
+    match command {
+        Ok(command) => match execute(command, book, out) {
             Ok(()) => Reply::Done,
             Err(refusal) => Reply::Refused(refusal),
         },
-        Err(refusal) => Reply::Refused(refusal),
-    }
-}
-
-/// Serves a line, and leaves its records in `out`, which was empty.
-pub(crate) fn serve<C: Calculator>(book: &mut Workbook<C>, line: &[u8], out: &mut Vec<u8>) -> Reply
-    requires { out.old.items ≡ [] }
-    ensures { Told (line_command line.now) result book.old.state book.new.state out.new.items }
-{
-    match read_line(line) {
-        Ok(None) => Reply::Passed,
-        Ok(Some(text)) => serve_text(book, text, out),
-        Err(refusal) => Reply::Refused(refusal),
+        Err(refusal) => Reply::Refused(*refusal),
     }
 }

@@ -37,7 +37,7 @@ fn table_behind(
 ) -> Result<Command<'_>, Refusal>
     ensures { IsCommandOf (table_behind formula_cell input column more.now) result }
 {
-    if is_all_spaces(more) {
+    if is_all_spaces(more.as_bytes()) {
         return table_of_one(formula_cell, input, column);
     }
     let (second, others) = split_word(more);

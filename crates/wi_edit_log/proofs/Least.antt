@@ -1,49 +1,45 @@
 -- The first cell that passes is the least of those that pass, as the definition has it.
-use Rattle.wi_edit_log.proofs.Words.{◌≡◌, ◌∙◌, ℕ, zero, suc, ◌+◌, ◌-◌, ◌==◌, ◌≤◌, ◌<◌, ◌⊎◌, inl, inr, Bool, true, false, cond, ◌||◌, ◌&&◌, not, List, [], ◌∷◌, length, drop, map, filter, min, Option, Some, refl, ap, sym, subst, arith, nat_le, list_any, flat_map, reduce, fold, range_with_len, drop_min, drop-map, list_any-append, and_parts, and_from, both_ways, cases_eq, eq-eqb, eqb-true, leb-true, le-leb, or_cases, or_left, or_right, one_truth, Area, columns, place, row_of, column_of, is_within, cells_of, cells_of_row, row_of_place, column_of_place, column_within, Entry, have_cell, is_stale, first_stale, IsFirst, entries_in, entry_in, is_wanted_of_others, Edit}
+use Rattle.wi_edit_log.proofs.Words.{◌≡◌, ◌∙◌, ℕ, zero, suc, ◌+◌, ◌-◌, ◌==◌, ◌≤◌, ◌<◌, ◌⊎◌, inl, inr, Bool, true, false, cond, ◌||◌, ◌&&◌, not, List, [], ◌∷◌, length, drop, map, filter, min, Option, Some, refl, ap, sym, subst, arith, nat_le, list_any, flat_map, reduce, fold, range_with_len, drop_min, drop-map, list_any-append, and_parts, and_from, both_ways, cases_eq, eq-eqb, eqb-true, leb-true, le-leb, or_cases, or_left, or_right, one_truth, Area, columns, place, row_of, column_of, is_one_of, is_within, cells_of, cells_of_row, row_of_place, column_of_place, column_within, Entry, have_cell, is_stale, first_stale, IsFirst, entries_in, entry_in, is_wanted_of_others, Edit}
 use Rattle.wi_edit_log.proofs.First.{only_first, same_first}
-
--- a is one of the numbers
-abbrev has : List ℕ → ℕ → Bool
-has xs a = list_any (λ x. a == x) xs
 
 -- ---- the cells of a rectangle are those within it
 
 pub place_of : (a : ℕ) → a ≡ place (row_of a) (column_of a)
 place_of a = omega arith
 
-in_row : (row first n c : ℕ) → first ≤ c → c < first + n → has (map (place row) (range_with_len first n)) (place row c) ≡ true
+in_row : (row first n c : ℕ) → first ≤ c → c < first + n → is_one_of (map (place row) (range_with_len first n)) (place row c) ≡ true
 in_row row first zero c l m = absurd (omega (arith, l, m))
 in_row row first (suc n) c l m = elim (cases_eq c first) [
-  | inl e ↦ or_left (place row c == place row first) _ (eq-eqb (place row c) (place row first) (ap (place row) e))
-  | inr f ↦ or_right (place row c == place row first) _ (in_row row (first + 1) n c (omega (arith, l, f)) (omega (arith, m)))
+  | inl e ↦ or_left (place row first == place row c) _ (eq-eqb (place row first) (place row c) (ap (place row) (sym e)))
+  | inr f ↦ or_right (place row first == place row c) _ (in_row row (first + 1) n c (omega (arith, l, f)) (omega (arith, m)))
 ]
 
-of_row : (row first n a : ℕ) → has (map (place row) (range_with_len first n)) a ≡ true → (c : ℕ) × (first ≤ c) × (c < first + n) × (a ≡ place row c)
+of_row : (row first n a : ℕ) → is_one_of (map (place row) (range_with_len first n)) a ≡ true → (c : ℕ) × (first ≤ c) × (c < first + n) × (a ≡ place row c)
 of_row row first zero a h = absurd (both_ways false refl h)
-of_row row first (suc n) a h = elim (or_cases (a == place row first) _ h) [
-  | inl t ↦ (first, omega arith, omega arith, eqb-true a (place row first) t)
+of_row row first (suc n) a h = elim (or_cases (place row first == a) _ h) [
+  | inl t ↦ (first, omega arith, omega arith, sym (eqb-true (place row first) a t))
   | inr t ↦ let r = of_row row (first + 1) n a t in (r.0, omega (arith, r.1), omega (arith, r.2), r.3)
 ]
 
-in_rows : (r : Area) (first n row a : ℕ) → first ≤ row → row < first + n → has (cells_of_row row r) a ≡ true → has (flat_map (λ k. cells_of_row k r) (range_with_len first n)) a ≡ true
+in_rows : (r : Area) (first n row a : ℕ) → first ≤ row → row < first + n → is_one_of (cells_of_row row r) a ≡ true → is_one_of (flat_map (λ k. cells_of_row k r) (range_with_len first n)) a ≡ true
 in_rows r first zero row a l m h = absurd (omega (arith, l, m))
 in_rows r first (suc n) row a l m h =
-    list_any-append (λ x. a == x) (cells_of_row first r) (flat_map (λ k. cells_of_row k r) (range_with_len (first + 1) n))
+    list_any-append (λ x. x == a) (cells_of_row first r) (flat_map (λ k. cells_of_row k r) (range_with_len (first + 1) n))
     ∙ elim (cases_eq row first) [
-      | inl e ↦ or_left (has (cells_of_row first r) a) _ (subst (λ k. has (cells_of_row k r) a ≡ true) e h)
-      | inr f ↦ or_right (has (cells_of_row first r) a) _ (in_rows r (first + 1) n row a (omega (arith, l, f)) (omega (arith, m)) h)
+      | inl e ↦ or_left (is_one_of (cells_of_row first r) a) _ (subst (λ k. is_one_of (cells_of_row k r) a ≡ true) e h)
+      | inr f ↦ or_right (is_one_of (cells_of_row first r) a) _ (in_rows r (first + 1) n row a (omega (arith, l, f)) (omega (arith, m)) h)
     ]
 
-of_rows : (r : Area) (first n a : ℕ) → has (flat_map (λ k. cells_of_row k r) (range_with_len first n)) a ≡ true → (row : ℕ) × (first ≤ row) × (row < first + n) × (has (cells_of_row row r) a ≡ true)
+of_rows : (r : Area) (first n a : ℕ) → is_one_of (flat_map (λ k. cells_of_row k r) (range_with_len first n)) a ≡ true → (row : ℕ) × (first ≤ row) × (row < first + n) × (is_one_of (cells_of_row row r) a ≡ true)
 of_rows r first zero a h = absurd (both_ways false refl h)
 of_rows r first (suc n) a h =
     let rest = flat_map (λ k. cells_of_row k r) (range_with_len (first + 1) n) in
-    elim (or_cases (has (cells_of_row first r) a) (has rest a) (sym (list_any-append (λ x. a == x) (cells_of_row first r) rest) ∙ h)) [
+    elim (or_cases (is_one_of (cells_of_row first r) a) (is_one_of rest a) (sym (list_any-append (λ x. x == a) (cells_of_row first r) rest) ∙ h)) [
       | inl t ↦ (first, omega arith, omega arith, t)
       | inr t ↦ let k = of_rows r (first + 1) n a t in (k.0, omega (arith, k.1), omega (arith, k.2), k.3)
     ]
 
-inside : (r : Area) (a : ℕ) → is_within r a ≡ true → has (cells_of r) a ≡ true
+inside : (r : Area) (a : ℕ) → is_within r a ≡ true → is_one_of (cells_of r) a ≡ true
 inside r a h =
     let p = and_parts (nat_le (row_of r.first) (row_of a) && nat_le (row_of a) (row_of r.last)) _ h in
     let rows = and_parts (nat_le (row_of r.first) (row_of a)) _ p.0 in
@@ -54,7 +50,7 @@ inside r a h =
     let right = leb-true _ _ cols.1 in
     let there = in_row (row_of a) (column_of r.first) ((column_of r.last + 1) - column_of r.first) (column_of a) left (ends (column_of r.first) (column_of a) (column_of r.last) left right) in
     in_rows r (row_of r.first) ((row_of r.last + 1) - row_of r.first) (row_of a) a above (ends (row_of r.first) (row_of a) (row_of r.last) above low)
-    (subst (λ b. has (cells_of_row (row_of a) r) b ≡ true) (sym (place_of a)) there)
+    (subst (λ b. is_one_of (cells_of_row (row_of a) r) b ≡ true) (sym (place_of a)) there)
   where
     ends : (f c l : ℕ) → f ≤ c → c ≤ l → c < f + ((l + 1) - f)
     ends f c l g h = omega (arith, g, h)
@@ -62,7 +58,7 @@ inside r a h =
 at_most : (f c l : ℕ) → f ≤ c → c < f + ((l + 1) - f) → c ≤ l
 at_most f c l g h = omega (arith, g, h)
 
-within : (r : Area) (a : ℕ) → has (cells_of r) a ≡ true → is_within r a ≡ true
+within : (r : Area) (a : ℕ) → is_one_of (cells_of r) a ≡ true → is_within r a ≡ true
 within r a h =
     let row = of_rows r (row_of r.first) ((row_of r.last + 1) - row_of r.first) a h in
     let col = of_row row.0 (column_of r.first) ((column_of r.last + 1) - column_of r.first) a row.3 in
@@ -78,11 +74,11 @@ within r a h =
     fit : (c d : ℕ) → c ≤ d → d < columns → c < columns
     fit c d g h = omega (arith, g, h)
 
-cells_are : (areas : List Area) (a : ℕ) → has (flat_map cells_of areas) a ≡ have_cell areas a
+cells_are : (areas : List Area) (a : ℕ) → is_one_of (flat_map cells_of areas) a ≡ have_cell areas a
 cells_are [] a = refl
 cells_are (r ∷ rs) a =
-    list_any-append (λ x. a == x) (cells_of r) (flat_map cells_of rs)
-    ∙ ap (λ b. b || has (flat_map cells_of rs) a) (one_truth (has (cells_of r) a) (is_within r a) (within r a) (inside r a))
+    list_any-append (λ x. x == a) (cells_of r) (flat_map cells_of rs)
+    ∙ ap (λ b. b || is_one_of (flat_map cells_of rs) a) (one_truth (is_one_of (cells_of r) a) (is_within r a) (within r a) (inside r a))
     ∙ ap (λ b. is_within r a || b) (cells_are rs a)
 
 -- ---- those that pass
@@ -91,67 +87,67 @@ none_of_false : (b c : Bool) → c ≡ false → (b && c) ≡ c
 none_of_false true c h = refl
 none_of_false false c h = sym h
 
-filtered_here : (test : ℕ → Bool) (x : ℕ) (xs : List ℕ) (a : ℕ) → has (filter test xs) a ≡ (has xs a && test a) → (q t : Bool) → test x ≡ q → (a == x) ≡ t
-    → has (filter test (x ∷ xs)) a ≡ (((a == x) || has xs a) && test a)
+filtered_here : (test : ℕ → Bool) (x : ℕ) (xs : List ℕ) (a : ℕ) → is_one_of (filter test xs) a ≡ (is_one_of xs a && test a) → (q t : Bool) → test x ≡ q → (x == a) ≡ t
+    → is_one_of (filter test (x ∷ xs)) a ≡ (((x == a) || is_one_of xs a) && test a)
 filtered_here test x xs a rest true true e t =
-    let same : test a ≡ true = ap test (eqb-true a x t) ∙ e in
-    ap (λ b. has (cond b (x ∷ filter test xs) (filter test xs)) a) e ∙ ap (λ b. b || has (filter test xs) a) t ∙ sym (ap (λ b. (b || has xs a) && test a) t ∙ same)
+    let same : test a ≡ true = ap test (sym (eqb-true x a t)) ∙ e in
+    ap (λ b. is_one_of (cond b (x ∷ filter test xs) (filter test xs)) a) e ∙ ap (λ b. b || is_one_of (filter test xs) a) t ∙ sym (ap (λ b. (b || is_one_of xs a) && test a) t ∙ same)
 filtered_here test x xs a rest true false e t =
-    ap (λ b. has (cond b (x ∷ filter test xs) (filter test xs)) a) e ∙ ap (λ b. b || has (filter test xs) a) t ∙ rest ∙ sym (ap (λ b. (b || has xs a) && test a) t)
+    ap (λ b. is_one_of (cond b (x ∷ filter test xs) (filter test xs)) a) e ∙ ap (λ b. b || is_one_of (filter test xs) a) t ∙ rest ∙ sym (ap (λ b. (b || is_one_of xs a) && test a) t)
 filtered_here test x xs a rest false true e t =
-    let same : test a ≡ false = ap test (eqb-true a x t) ∙ e in
-    ap (λ b. has (cond b (x ∷ filter test xs) (filter test xs)) a) e ∙ rest ∙ none_of_false (has xs a) (test a) same ∙ sym (ap (λ b. (b || has xs a) && test a) t)
+    let same : test a ≡ false = ap test (sym (eqb-true x a t)) ∙ e in
+    ap (λ b. is_one_of (cond b (x ∷ filter test xs) (filter test xs)) a) e ∙ rest ∙ none_of_false (is_one_of xs a) (test a) same ∙ sym (ap (λ b. (b || is_one_of xs a) && test a) t)
 filtered_here test x xs a rest false false e t =
-    ap (λ b. has (cond b (x ∷ filter test xs) (filter test xs)) a) e ∙ rest ∙ sym (ap (λ b. (b || has xs a) && test a) t)
+    ap (λ b. is_one_of (cond b (x ∷ filter test xs) (filter test xs)) a) e ∙ rest ∙ sym (ap (λ b. (b || is_one_of xs a) && test a) t)
 
-filtered : (test : ℕ → Bool) (xs : List ℕ) (a : ℕ) → has (filter test xs) a ≡ (has xs a && test a)
+filtered : (test : ℕ → Bool) (xs : List ℕ) (a : ℕ) → is_one_of (filter test xs) a ≡ (is_one_of xs a && test a)
 filtered test [] a = refl
-filtered test (x ∷ xs) a = filtered_here test x xs a (filtered test xs a) (test x) (a == x) refl refl
+filtered test (x ∷ xs) a = filtered_here test x xs a (filtered test xs a) (test x) (x == a) refl refl
 
 -- ---- the least of a list
 
-only_one : (x a : ℕ) → ((a == x) ≡ true) ⊎ (false ≡ true) → x ≤ a
-only_one x a (inl t) = let e = eqb-true a x t in omega (arith, e)
+only_one : (x a : ℕ) → ((x == a) ≡ true) ⊎ (false ≡ true) → x ≤ a
+only_one x a (inl t) = let e = eqb-true x a t in omega (arith, e)
 only_one x a (inr t) = absurd (both_ways false refl t)
 
 -- the smaller of two numbers goes on
-module _ (x y : ℕ) (ys : List ℕ) (m : ℕ) (rest : IsFirst (has (min x y ∷ ys)) (Some m)) where
+module _ (x y : ℕ) (ys : List ℕ) (m : ℕ) (rest : IsFirst (is_one_of (min x y ∷ ys)) (Some m)) where
   one_of : (k : ℕ) → k ≡ min x y → (k ≡ x) ⊎ (k ≡ x → Prim.⊥) → (k ≡ x) ⊎ (k ≡ y)
   one_of k e (inl h) = inl h
   one_of k e (inr f) = inr (omega (arith, e, f))
 
-  among : (k : ℕ) → ((k == min x y) ≡ true) ⊎ (has ys k ≡ true) → ((k == x) || ((k == y) || has ys k)) ≡ true
-  among k (inl t) = elim (one_of k (eqb-true k (min x y) t) (cases_eq k x)) [
-    | inl e ↦ or_left (k == x) _ (eq-eqb k x e)
-    | inr e ↦ or_right (k == x) _ (or_left (k == y) _ (eq-eqb k y e))
+  among : (k : ℕ) → ((min x y == k) ≡ true) ⊎ (is_one_of ys k ≡ true) → ((x == k) || ((y == k) || is_one_of ys k)) ≡ true
+  among k (inl t) = elim (one_of k (sym (eqb-true (min x y) k t)) (cases_eq k x)) [
+    | inl e ↦ or_left (x == k) _ (eq-eqb x k (sym e))
+    | inr e ↦ or_right (x == k) _ (or_left (y == k) _ (eq-eqb y k (sym e)))
   ]
-  among k (inr t) = or_right (k == x) _ (or_right (k == y) _ t)
+  among k (inr t) = or_right (x == k) _ (or_right (y == k) _ t)
 
   low : m ≤ min x y
   low = rest.least (min x y) (or_left (min x y == min x y) _ (eq-eqb (min x y) (min x y) refl))
 
-  at_second : (a : ℕ) → ((a == y) ≡ true) ⊎ (has ys a ≡ true) → m ≤ a
-  at_second a (inl t) = let e = eqb-true a y t in omega (arith, e, low)
-  at_second a (inr t) = rest.least a (or_right (a == min x y) _ t)
+  at_second : (a : ℕ) → ((y == a) ≡ true) ⊎ (is_one_of ys a ≡ true) → m ≤ a
+  at_second a (inl t) = let e = eqb-true y a t in omega (arith, e, low)
+  at_second a (inr t) = rest.least a (or_right (min x y == a) _ t)
 
-  later : (a : ℕ) → ((a == x) ≡ true) ⊎ (((a == y) || has ys a) ≡ true) → m ≤ a
-  later a (inl t) = let e = eqb-true a x t in omega (arith, e, low)
-  later a (inr t) = at_second a (or_cases (a == y) (has ys a) t)
+  later : (a : ℕ) → ((x == a) ≡ true) ⊎ (((y == a) || is_one_of ys a) ≡ true) → m ≤ a
+  later a (inl t) = let e = eqb-true x a t in omega (arith, e, low)
+  later a (inr t) = at_second a (or_cases (y == a) (is_one_of ys a) t)
 
-  least_of_more : IsFirst (has (x ∷ y ∷ ys)) (Some m)
+  least_of_more : IsFirst (is_one_of (x ∷ y ∷ ys)) (Some m)
   least_of_more = record {
-    passes = among m (or_cases (m == min x y) (has ys m) rest.passes);
-    least = λ a t. later a (or_cases (a == x) ((a == y) || has ys a) t);
+    passes = among m (or_cases (min x y == m) (is_one_of ys m) rest.passes);
+    least = λ a t. later a (or_cases (x == a) ((y == a) || is_one_of ys a) t);
   }
 
-least_of : (x : ℕ) (xs : List ℕ) → IsFirst (has (x ∷ xs)) (Some (fold min x xs))
+least_of : (x : ℕ) (xs : List ℕ) → IsFirst (is_one_of (x ∷ xs)) (Some (fold min x xs))
 least_of x [] = record {
   passes = or_left (x == x) false (eq-eqb x x refl);
-  least = λ a t. only_one x a (or_cases (a == x) false t);
+  least = λ a t. only_one x a (or_cases (x == a) false t);
 }
 least_of x (y ∷ ys) = least_of_more x y ys (fold min (min x y) ys) (least_of (min x y) ys)
 
-least : (xs : List ℕ) → IsFirst (has xs) (reduce min xs)
+least : (xs : List ℕ) → IsFirst (is_one_of xs) (reduce min xs)
 least [] = record { passes = tt; least = λ a t. absurd (both_ways false refl t) }
 least (x ∷ xs) = least_of x xs
 
@@ -164,7 +160,7 @@ stale_is_first log es session since k areas o v e h =
     let cells = flat_map cells_of areas in
     let rest : entries_in (drop k es) ≡ drop since log =
     ap (λ n. entries_in (drop n es)) e ∙ ap entries_in (drop_min since es) ∙ sym (drop-map entry_in since es) ∙ ap (drop since) v in
-    let same : (a : ℕ) → is_wanted_of_others (drop k es) session areas a ≡ has (filter stale cells) a =
+    let same : (a : ℕ) → is_wanted_of_others (drop k es) session areas a ≡ is_one_of (filter stale cells) a =
     λ a. ap (λ ys. have_cell areas a && list_any (λ (x : Entry). not (x.session == session) && have_cell x.cells a) ys) rest
     ∙ sym (filtered stale cells a ∙ ap (λ b. b && stale a) (cells_are areas a)) in
-    only_first (has (filter stale cells)) o (reduce min (filter stale cells)) (same_first (is_wanted_of_others (drop k es) session areas) (has (filter stale cells)) o same h) (least (filter stale cells))
+    only_first (is_one_of (filter stale cells)) o (reduce min (filter stale cells)) (same_first (is_wanted_of_others (drop k es) session areas) (is_one_of (filter stale cells)) o same h) (least (filter stale cells))

@@ -1,5 +1,5 @@
 -- What is noted of cells, one and many.
-use Rattle.wi_edit_log.proofs.Words.{◌≡◌, ◌∙◌, ℕ, ◌+◌, ◌==◌, ◌<◌, Bool, true, false, ◌||◌, ◌&&◌, List, length, take, get_or, Option, Some, None, IfSome, refl, ap, sym, if◌then◌else◌, eq-eqb, eqb-true, Area, is_within, have_cell, IsFirst, is_after, NotesMore, before_of, last_after, last_of, Last}
+use Rattle.wi_edit_log.proofs.Words.{◌≡◌, ◌∙◌, ℕ, ◌+◌, ◌==◌, ◌<◌, Bool, true, false, ◌||◌, ◌&&◌, List, length, take, get_or, Option, Some, None, IfSome, refl, ap, sym, if◌then◌else◌, eq-eqb, eqb-true, Area, is_within, have_cell, IsFirst, is_after, NotesMore, before_of, last_after, last_of, Last, and-true}
 use Rattle.wi_edit_log.proofs.Next.{all_within, is_before, none_before, one_more_before}
 use Rattle.wi_edit_log.proofs.Shared.{one_more_of}
 
@@ -58,11 +58,7 @@ noting_on r s n old mid new at next h put k = record {
 }
 
 pub noting_done : (r : Area) (s n : ℕ) (old new : List (ℕ × Last)) → IsNoting r s n old new None → NotesMore (is_within r) s n old new
-noting_done r s n old new h a = h.noted a ∙ ap (λ b. if b then Some (last_after (last_of old a) s n) else last_of old a) (whole (is_within r a))
-  where
-    whole : (b : Bool) → (b && true) ≡ b
-    whole true = refl
-    whole false = refl
+noting_done r s n old new h a = h.noted a ∙ ap (λ b. if b then Some (last_after (last_of old a) s n) else last_of old a) (and-true (is_within r a))
 
 -- ---- those of several rectangles
 

@@ -2,6 +2,9 @@
 use Rattle.wi_edit_log.proofs.Words.{◌≡◌, ◌∙◌, ℕ, zero, suc, ◌+◌, ◌-◌, ◌==◌, ◌≤◌, ◌<◌, ◌⊎◌, inl, inr, Bool, true, false, not, ◌||◌, ◌&&◌, List, [], ◌∷◌, ◌++◌, length, take, drop, get_or, max, Option, None, refl, ap, sym, subst, arith, and-false, drop_more, drop_all, get_or_append_left, get_or_default, get_or_push, get_or-take, length-take, length_push, cases_eq, cases_lt, eq-eqb, ne_eqb, Area, have_cell, IsFirst, in_each, sooner, AreInRuns, IsInRun, is_named_by_others, is_wanted_of_others, are_narrow, Edit}
 use Rattle.wi_edit_log.proofs.First.{no_first, same_first, sooner_first}
 
+pub not_last : (i n : ℕ) → i < n + 1 → (i ≡ n → Prim.⊥) → i < n
+not_last i n l f = omega (arith, l, f)
+
 -- ---- a log with one edit more, or with fewer
 
 module _ (es ys : List Edit) (i : ℕ) (e : Edit) (r : IsInRun es i e) (same : (k : ℕ) (d : Edit) → k < i → get_or ys k d ≡ get_or es k d) where
@@ -20,10 +23,7 @@ runs_of_more es x runs last i d l = by (cases_eq i (length es))
     same j m k d o = get_or_append_left es (x ∷ []) d k (omega (arith, m, o))
 
     within : (i ≡ length es → Prim.⊥) → i < length es
-    within f = not_last i (length es) (length (es ++ x ∷ [])) l (length_push es x) f
-      where
-        not_last : (i n m : ℕ) → i < m → m ≡ n + 1 → (i ≡ n → Prim.⊥) → i < n
-        not_last i n m l e f = omega (arith, l, e, f)
+    within f = not_last i (length es) (subst (λ n. i < n) (length_push es x) l) f
 
     by : (i ≡ length es) ⊎ (i ≡ length es → Prim.⊥) → IsInRun (es ++ x ∷ []) i (get_or (es ++ x ∷ []) i d)
     by (inl e) =

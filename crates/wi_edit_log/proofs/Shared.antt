@@ -1,5 +1,5 @@
 -- Which cells are in rectangles, one and many.
-use Rattle.wi_edit_log.proofs.Words.{◌≡◌, ◌∙◌, ℕ, ◌+◌, ◌≤◌, ◌<◌, ◌||◌, ◌&&◌, List, [], length, take, get_or, Option, None, Bool, true, false, max, subst, refl, ap, sym, arith, and-false, and_comm, and-or_distrib_left, and-or_distrib_right, then_some, and_parts, and_from, both_ways, le-leb, take_all, list_any_more, Area, columns, place, row_of, column_of, is_within, row_of_place, column_of_place, column_within, within_parts, have_cell, IsFirst, in_both, in_each, in_one, sooner}
+use Rattle.wi_edit_log.proofs.Words.{◌≡◌, ◌∙◌, ℕ, ◌+◌, ◌≤◌, ◌<◌, ◌||◌, ◌&&◌, List, [], length, take, get_or, Option, None, Bool, true, false, max, subst, refl, ap, sym, arith, and-false, and_comm, and-or_distrib_left, and-or_distrib_right, then_some, and_parts, and_from, both_ways, le-leb, take_all, list_any_more, Area, columns, place, row_of, column_of, is_within, row_of_place, column_of_place, column_within, within_parts, have_cell, IsFirst, in_both, in_each, in_one, sooner, le_trans, max_at_most}
 use Rattle.std.proofs.Common.{nat_le}
 use Rattle.wi_edit_log.proofs.First.{no_first, same_first, sooner_first}
 
@@ -57,17 +57,11 @@ within_from r a row column e f l m n o =
 pub no_sooner : (row column a : ℕ) → row ≤ row_of a → column ≤ column_of a → place row column ≤ a
 no_sooner row column a l m = omega arith
 
-above_both : (k l m n : ℕ) → k ≡ max l m → l ≤ n → m ≤ n → k ≤ n
-above_both k l m n e h i = omega arith
-
 from_left : (k l m : ℕ) → k ≡ max l m → l ≤ k
 from_left k l m e = omega arith
 
 from_right : (k l m : ℕ) → k ≡ max l m → m ≤ k
 from_right k l m e = omega arith
-
-no_more_than : (k m n : ℕ) → k ≤ m → m ≤ n → k ≤ n
-no_more_than k m n h i = omega arith
 
 corner_shared : (r s : Area) (row column a : ℕ) → row ≡ max (row_of r.first) (row_of s.first) → column ≡ max (column_of r.first) (column_of s.first) → in_both r s a ≡ true
     → (place row column ≤ a) × (in_both r s (place row column) ≡ true)
@@ -75,20 +69,16 @@ corner_shared r s row column a e f h =
     let both = and_parts (is_within r a) (is_within s a) h in
     let p = within_parts r a both.0 in
     let q = within_parts s a both.1 in
-    let above = above_both row (row_of r.first) (row_of s.first) (row_of a) e p.0 q.0 in
-    let left = above_both column (column_of r.first) (column_of s.first) (column_of a) f p.2 q.2 in
+    let above = max_at_most row (row_of r.first) (row_of s.first) (row_of a) e p.0 q.0 in
+    let left = max_at_most column (column_of r.first) (column_of s.first) (column_of a) f p.2 q.2 in
     let inside : column < columns = (let w = column_within a in omega arith) in
     let at_row = row_of_place row column inside in
     let at_column = column_of_place row column inside in (
       no_sooner row column a above left,
       and_from (is_within r (place row column)) (is_within s (place row column))
-          (within_from r (place row column) row column at_row at_column (from_left row _ _ e) (no_more_than row (row_of a) _ above p.1) (from_left column _ _ f) (no_more_than column (column_of a) _ left p.3))
-          (within_from s (place row column) row column at_row at_column (from_right row _ _ e) (no_more_than row (row_of a) _ above q.1) (from_right column _ _ f) (no_more_than column (column_of a) _ left q.3)),
+          (within_from r (place row column) row column at_row at_column (from_left row _ _ e) (le_trans above p.1) (from_left column _ _ f) (le_trans left p.3))
+          (within_from s (place row column) row column at_row at_column (from_right row _ _ e) (le_trans above q.1) (from_right column _ _ f) (le_trans left q.3)),
     )
-
--- the later of two that are within
-pub both_below : (k l m n : ℕ) → k ≡ max l m → l < n → m < n → k < n
-both_below k l m n e h i = omega arith
 
 pub first_shared : (r s : Area) (row column at : ℕ) (shared : Bool) (found : Option ℕ) → row ≡ max (row_of r.first) (row_of s.first) → column ≡ max (column_of r.first) (column_of s.first)
     → at ≡ place row column → shared ≡ in_both r s at → found ≡ then_some shared at → IsFirst (in_both r s) found

@@ -1,7 +1,7 @@
 -- Edits of narrow rectangles, and those that name a wider one: a search from the last edit to earlier ones passes over the first.
 use Rattle.wi_edit_log.proofs.Words.{◌≡◌, ◌∙◌, ℕ, zero, suc, ◌+◌, ◌-◌, ◌==◌, ◌≤◌, ◌<◌, ◌⊎◌, inl, inr, Bool, true, false, not, ◌||◌, ◌&&◌, List, [], ◌∷◌, ◌++◌, length, take, drop, get_or, max, Option, None, refl, ap, sym, subst, arith, nat_lt, list_any, and-false, or-true, drop_more, drop_all, drop-append-le, get_or_default, length-take-le, take-append-drop, list_any-append, cases_eq, cases_lt, eq-eqb, lt-ltb, ne_eqb, Area, have_cell, IsFirst, in_each, sooner, AreInRuns, IsInRun, is_named_by_others, are_narrow, names_narrowly, names_for, names_widely, is_named_narrowly, is_named_widely, is_wanted_widely, Edit}
 use Rattle.wi_edit_log.proofs.First.{no_first, same_first, sooner_first}
-use Rattle.wi_edit_log.proofs.Runs.{reordered, run_before}
+use Rattle.wi_edit_log.proofs.Runs.{not_last, reordered, run_before}
 
 -- ---- what names nothing widely
 
@@ -38,9 +38,6 @@ narrow_before es x i runs l at some k d m o = among (cases_eq k i)
   where
     r : IsInRun es i x
     r = subst (IsInRun es i) (sym at) (runs i x l)
-
-    not_last : (k i : ℕ) → k < i + 1 → (k ≡ i → Prim.⊥) → k < i
-    not_last k i o f = omega (arith, o, f)
 
     among : (k ≡ i) ⊎ (k ≡ i → Prim.⊥) → are_narrow (get_or es k d).named ≡ true
     among (inl e) =

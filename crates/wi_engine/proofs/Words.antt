@@ -33,7 +33,7 @@ pub use Rattle.wi_arguments.specs.Filled.{ComesBefore, is_known_empty}
 pub use Rattle.wi_arguments.specs.Walk.{HasTaken, after_cells}
 pub use Rattle.wi_arguments.specs.declared.lookup.LookedUp.{LookedUp}
 pub use Rattle.wi_cache.proofs.Keys.{same_key_Decides}
-pub use Rattle.wi_cache.specs.Entries.{Entries, Puts, same_key, value_for}
+pub use Rattle.wi_cache.specs.Entries.{Entries, PutsIn, same_key, value_for}
 pub use Rattle.wi_cache.specs.declared.key.Key.{Key}
 pub use Rattle.wi_engine.specs.Inner.Attempt.{AsksAt, IsLacking, cell_known, known_in, lacking, lacking_after, lacks_cell}
 pub use Rattle.wi_engine.specs.Inner.Attempts.{IsAttemptOf}
@@ -69,7 +69,7 @@ pub use Rattle.wi_functions.proofs.Outcomes.{same_by_all, value_by_all}
 pub use Rattle.wi_functions.specs.Counts.{Counts, one_more}
 pub use Rattle.wi_functions.specs.Evaluation.{IsOutcomeOf}
 pub use Rattle.wi_functions.specs.Meaning.{meaning}
-pub use Rattle.wi_functions.specs.Wants.{Asks, IsUnknown}
+pub use Rattle.wi_functions.specs.Wants.{IsUnknown, TreeAsks}
 pub use Rattle.wi_functions.specs.declared.evaluation.Outcome.{Outcome}
 pub use Rattle.wi_functions.specs.declared.evaluation.Outcome.TheVariants.{Needs}
 pub use Rattle.wi_functions.specs.declared.evaluation.Want.{Want}
@@ -79,7 +79,6 @@ pub use Rattle.wi_graph.proofs.Graphs.{left_circular}
 pub use Rattle.wi_graph.proofs.Layers.{list_any-both}
 pub use Rattle.wi_graph.proofs.ReachSteps.{reaches_by_step, reaches_here, reaches_on, reaches_read, reaches_step}
 pub use Rattle.wi_graph.proofs.ReachTest.{finds_in, reaches_true, true_reaches}
-pub use Rattle.wi_graph.proofs.SetSteps.{taken_one}
 pub use Rattle.wi_graph.proofs.Walks.{formula_cell, found, same_cell}
 pub use Rattle.wi_graph.specs.Circular.{circular}
 pub use Rattle.wi_graph.specs.Reach.{Reaches, reaches}
@@ -95,7 +94,7 @@ pub use Rattle.wi_sheet.proofs.Bounds.{put_formula, put_reads, tree_reads}
 pub use Rattle.wi_sheet.proofs.CaseCosts.{left_at_keep, left_falls, never_fall-same, never_fall-then, one_less_left, spent_all, spent_none, spent_then, spent_weaken}
 pub use Rattle.wi_sheet.proofs.Cases.{one_case, pair_path, same_case-refl}
 pub use Rattle.wi_sheet.proofs.Demands.{demand_closed, demand_has_itself, here_reads, same_tree, what_if_reads}
-pub use Rattle.wi_sheet.proofs.Filters.{PassesToo, fewer, in_filter, no_more}
+pub use Rattle.wi_sheet.proofs.Filters.{PassesToo, fewer, no_more}
 pub use Rattle.wi_sheet.proofs.Inputs.{one_more_input}
 pub use Rattle.wi_sheet.proofs.Last.{over}
 pub use Rattle.wi_sheet.proofs.Meanings.{meaning_same}
@@ -122,6 +121,7 @@ pub use Rattle.wi_sheet.specs.Inner.Spending.{HasCase, IsClosed, NeverFall, Rest
 pub use Rattle.wi_sheet.specs.Settled.{AgreesWhereSettled, IsSettled, IsWhatIfSettled, RestsOnKept}
 pub use Rattle.wi_store.proofs.NextRoom.{find_ahead}
 pub use Rattle.wi_store.specs.Store.{Stored, is_ahead}
+pub use Rattle.wi_values.proofs.Listed.{has-filter, has_one_more, has_taken}
 pub use Rattle.wi_values.proofs.Lists.{keeps_few}
 pub use Rattle.wi_values.proofs.Order.{Ascends, Ascends-from_order, ComeAfter, at_earlier, at_itself, at_same, come_after_earlier, is_at-eq, lookup_after, order-from_Ascends, turn_test}
 pub use Rattle.wi_values.proofs.Replacements.InOrder.{order_from_sorted, sorted_from_order}

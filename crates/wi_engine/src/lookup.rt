@@ -58,6 +58,7 @@ impl<'a> Known<'a> {
     }
 
     /// What is known of a cell in which this stands.
+    #[inline(always)]
     fn known(&self, at: Address, seen: Seen<'a>) -> LookedUp<'_>
         ensures { value_if_known result
             ≡ known_in (content_seen seen.entry) (found_value self.now.found.now at) }

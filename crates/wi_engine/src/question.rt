@@ -17,6 +17,7 @@ use crate::frame::{Advance, Asked, Frame};
 use crate::memo::Memo;
 use crate::pool::Pool;
 use std::alloc::AllocError;
+use std::mem;
 use wi_cache::Key;
 use wi_functions::Meter;
 use wi_parser::Formula;
@@ -97,8 +98,10 @@ impl<M: Memo + Drop> Question<M> {
                 &mut self.meter,
             )? {
                 Advance::Unvalued(next) => {
-                    stack.push(frame)?;
-                    frame = Frame::new(alloc, next.key, next.formula);
+                    // Into room that is there a frame is moved once.
+                    stack.reserve(1)?;
+                    let above = Frame::new(alloc, next.key, next.formula);
+                    stack.push_reserved(mem::replace(&mut frame, above));
                 }
                 Advance::Done(value) => match stack.pop() {
                     None => {
@@ -107,11 +110,10 @@ impl<M: Memo + Drop> Question<M> {
                         self.memo.keep(root, value)?;
                         return Ok(shown);
                     }
-                    Some(mut below) => {
-                        let key = frame.retire(&mut self.pool);
-                        take_in(&mut self.pool, store, &mut below, &key, &value)?;
+                    Some(below) => {
+                        let key = mem::replace(&mut frame, below).retire(&mut self.pool);
+                        take_in(&mut self.pool, store, &mut frame, &key, &value)?;
                         self.memo.keep(key, value)?;
-                        frame = below;
                     }
                 },
             }

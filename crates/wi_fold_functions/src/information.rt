@@ -1,9 +1,9 @@
 //! COUNT and COUNTA (OpenFormula, "Information Functions").
 
 ghost use Rattle.std.specs.Prelude.{IfOk, IfErr, refl};
-ghost use Rattle.wi_arguments.specs.Arguments.{IsMissing, IsOfArguments};
 ghost use Rattle.wi_standard_functions.specs.Arithmetic.{whole_value};
-ghost use Rattle.wi_standard_functions.specs.Information.{is_empty_value, is_number_value, count_value, count_a_value};
+ghost use Rattle.wi_standard_functions.specs.Information.{count_value, count_a_value};
+ghost use Rattle.wi_arguments.specs.Arguments.{IsMissing, IsOfArguments};
 ghost use Rattle.wi_fold_functions.specs.Inner.Made.{numbers_with, filled_with};
 
 use crate::fold::Fold;

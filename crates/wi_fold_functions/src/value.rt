@@ -1,7 +1,7 @@
 //! The value of a function that folds the items of its arguments.
 
 ghost use Rattle.std.specs.Prelude.{IfOk, IfErr};
-ghost use Rattle.wi_value_functions.specs.Applied.{applied};
+ghost use Rattle.wi_value_functions.specs.Applied.{applied_to_arguments};
 ghost use Rattle.wi_value_functions.specs.declared.function.Function.TheVariants.{References};
 ghost use Rattle.wi_value_functions.specs.declared.function.ReferenceFunction.TheVariants.{Fold};
 ghost use Rattle.wi_arguments.specs.Arguments.{IsMissing, IsOfArguments};
@@ -22,7 +22,7 @@ pub fn value_of_fold<L: Lookup>(
     lookup: &L,
 ) -> Result<Value, Address>
     ensures done { IfOk result (IsOfArguments
-        (L.known_cell lookup.now) (applied (References (Fold function))) arguments.now) }
+        (L.known_cell lookup.now) (applied_to_arguments (References (Fold function))) arguments.now) }
     ensures missing { IfErr result (IsMissing (L.known_cell lookup.now) arguments.now) }
 {
     match function {

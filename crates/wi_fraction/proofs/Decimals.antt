@@ -1,7 +1,7 @@
 -- The exact decimal: its places, its digits, and what stands before it.
-use Rattle.wi_fraction.proofs.Vocabulary.{String, string_bytes, subst, sym, ap, ◌∙◌, arith, Result, Ok, Err, OnOk, OnErr, is_ok, if◌then◌else◌, starts_with_length, starts_with_of_append, ◌≡◌, ℕ, zero, suc, ◌+◌, ◌-◌, ◌*◌, ◌/◌, ◌%◌, ◌^◌, ◌<◌, ◌≤◌, ◌≢◌, List, [], ◌∷◌, ◌++◌, length, Some, None, refl, Global, decimal, StartsWith, IsUtf8, IsCharBoundary, decimal_digit, take-append-le, take_all, append_assoc, append-nil, div-mul-add, IsCharBoundary-from_take, IsUtf8-string_bytes, div-add-mod', mul-div_cancel, mul_assoc, mul_comm, mul_right_comm, pow-suc, pow-zero, mul-one, mod-eq_of_lt, mul-add-mod_self_right, add-mul-div_right, div-lt_iff_lt-mul, padded, size_text, all_places, places_from}
+use Rattle.wi_fraction.proofs.Vocabulary.{String, string_bytes, subst, sym, ap, ◌∙◌, arith, Result, Ok, Err, OnOk, OnErr, is_ok, if◌then◌else◌, starts_with_length, starts_with_of_append, ◌≡◌, ℕ, zero, suc, ◌+◌, ◌-◌, ◌*◌, ◌/◌, ◌%◌, ◌^◌, ◌<◌, ◌≤◌, ◌≢◌, List, [], ◌∷◌, ◌++◌, length, Some, None, refl, Global, decimal, StartsWith, IsUtf8, IsCharBoundary, decimal_digit, take-append-le, take_all, append_assoc, append-nil, div-mul-add, IsCharBoundary-from_take, IsUtf8-string_bytes, div-add-mod', mul-div_cancel, mul_assoc, mul_comm, mul_right_comm, pow_more, pow-zero, mul-one, mod-eq_of_lt, mul-add-mod_self_right, add-mul-div_right, div-lt_iff_lt-mul, padded, size_text, all_places, places_from}
 use Rattle.wi_fraction.proofs.Places.{places_from_end, places_from_found, places_from_more, all_divide, multiple_of}
-use Rattle.wi_fraction.proofs.Digits.{padded_suc}
+use Rattle.wi_fraction.proofs.Padded.{padded_suc}
 
 -- ---- bytes that stay at the front
 
@@ -76,11 +76,8 @@ tenfold_quotient n d dp =
     let parts : n * 10 / d ≡ n % d * 10 / d + n / d * 10 = rw turned (add-mul-div_right (n % d * 10) (n / d * 10) dp) in
     omega (arith, parts)
 
-power_next : (i : ℕ) → 10 ^ (i + 1) ≡ 10 ^ i * 10
-power_next i = let next : i + 1 ≡ suc i = omega arith in rw (next, pow-suc 10 i) refl
-
 pub next_power : (i d r s : ℕ) → r ≡ 10 ^ i % d → s ≡ r * 10 % d → s ≡ 10 ^ (i + 1) % d
-next_power i d r s e f = f ∙ rw (e, power_next i) (tenfold_rest (10 ^ i) d)
+next_power i d r s e f = f ∙ rw (e, pow_more 10 i) (tenfold_rest (10 ^ i) d)
 
 pub all_next : (k d r : ℕ) → k < 127 → r ≡ 10 ^ k % d → r ≢ 0 → all_places d ≡ places_from (127 - k) k d → all_places d ≡ places_from (127 - (k + 1)) (k + 1) d
 all_next k d r h e apart f =
@@ -109,7 +106,7 @@ padded_next i q c h =
     rw (padded_suc i (q * 10 + c), front, last, decimal_digit c h) refl
 
 power_of_next : (n i : ℕ) → n * 10 ^ (i + 1) ≡ n * 10 ^ i * 10
-power_of_next n i = rw (power_next i) (sym (mul_assoc n (10 ^ i) 10))
+power_of_next n i = rw (pow_more 10 i) (sym (mul_assoc n (10 ^ i) 10))
 
 pub digits_none : (n d : ℕ) (old : List ℕ) → old ≡ old ++ padded 0 (n * 10 ^ 0 / d)
 unfolding padded

@@ -4,7 +4,7 @@ use Rattle.wi_fraction.proofs.Divisors.{gcd_pos, coprime_divided, divided_dvd}
 use Rattle.wi_fraction.proofs.Numbers.{number_of-lowest}
 use Rattle.wi_fraction.proofs.Places.{all_divide, all_none, divides_one}
 use Rattle.wi_fraction.proofs.ReadsBack.{scan, is_numeral-true, numeral, div_small, read_places_text, read_whole_text}
-use Rattle.wi_fraction.proofs.Digits.{length-padded, digits_padded}
+use Rattle.wi_fraction.proofs.Padded.{length-padded, digits_padded}
 use Rattle.wi_fraction.proofs.Scanning.{own}
 use Rattle.wi_fraction.proofs.Steps.{signed-abs}
 

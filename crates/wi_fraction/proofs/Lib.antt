@@ -1,6 +1,5 @@
 pub mod Decimals
 pub mod DecimalsReadBack
-pub mod Digits
 pub mod Divisors
 pub mod Exponents
 pub mod Fineness
@@ -8,6 +7,7 @@ pub mod NearWholes
 pub mod Neighbours
 pub mod Numbers
 pub mod Numerals
+pub mod Padded
 pub mod Pieces
 pub mod Places
 pub mod Powers

@@ -1,5 +1,5 @@
 -- Digits in two pieces.
-use Rattle.wi_fraction.proofs.Vocabulary.{◌≡◌, ℕ, zero, suc, ◌+◌, ◌-◌, ◌<◌, ◌≤◌, List, [], ◌∷◌, ◌++◌, length, take, drop, IsInRange, AllDigits, sym, ap, ◌∙◌, subst, arith, get_or, digit_at, get_or-append, get_or-append_right, length-append, take-append-drop, append_assoc}
+use Rattle.wi_fraction.proofs.Vocabulary.{◌≡◌, ℕ, zero, suc, ◌+◌, ◌-◌, ◌<◌, ◌≤◌, List, [], ◌∷◌, ◌++◌, length, take, drop, IsInRange, AllDigits, sym, ap, ◌∙◌, subst, get_or, digit_at, get_or-append, get_or-append_right, length-append, take-append-drop, append_assoc}
 
 pub digits_append : (ds es : List ℕ) → AllDigits 10 ds → AllDigits 10 es → AllDigits 10 (ds ++ es)
 digits_append [] es h k = k
@@ -10,11 +10,21 @@ digits_take zero ds h = tt
 digits_take (suc i) [] h = tt
 digits_take (suc i) (c ∷ ds) h = (h.0, digits_take i ds h.1)
 
-pub digit_left : (ds es : List ℕ) (i : ℕ) → AllDigits 10 (ds ++ es) → i < length ds → IsInRange 48 57 (get_or ds i 0)
-digit_left ds es i all h = subst (λ c. IsInRange 48 57 c) (get_or-append ds es 0 i h) (digit_at (ds ++ es) i all (rw (length-append ds es) (omega (arith, h))))
+pub pieces_length : (ds es all : List ℕ) → ds ++ es ≡ all → length ds + length es ≡ length all
+pieces_length ds es all same = sym (length-append ds es) ∙ ap (λ (xs : List ℕ). length xs) same
 
-pub digit_right : (ds es : List ℕ) (i : ℕ) → AllDigits 10 (ds ++ es) → length ds ≤ i → i < length ds + length es → IsInRange 48 57 (get_or es (i - length ds) 0)
-digit_right ds es i all h k = subst (λ c. IsInRange 48 57 c) (get_or-append_right ds es i 0 h) (digit_at (ds ++ es) i all (rw (length-append ds es) k))
+-- which digit of the whole one of a piece is
+pub digit_left : (ds es all : List ℕ) (i : ℕ) → ds ++ es ≡ all → i < length ds → get_or all i 0 ≡ get_or ds i 0
+digit_left ds es all i same h = ap (λ (xs : List ℕ). get_or xs i 0) (sym same) ∙ get_or-append ds es 0 i h
+
+pub digit_right : (ds es all : List ℕ) (i : ℕ) → ds ++ es ≡ all → length ds ≤ i → get_or all i 0 ≡ get_or es (i - length ds) 0
+digit_right ds es all i same h = ap (λ (xs : List ℕ). get_or xs i 0) (sym same) ∙ get_or-append_right ds es i 0 h
+
+pub range_left : (ds es all : List ℕ) (i : ℕ) → ds ++ es ≡ all → AllDigits 10 all → i < length all → i < length ds → IsInRange 48 57 (get_or ds i 0)
+range_left ds es all i same digits inside h = subst (λ c. IsInRange 48 57 c) (digit_left ds es all i same h) (digit_at all i digits inside)
+
+pub range_right : (ds es all : List ℕ) (i : ℕ) → ds ++ es ≡ all → AllDigits 10 all → i < length all → length ds ≤ i → IsInRange 48 57 (get_or es (i - length ds) 0)
+range_right ds es all i same digits inside h = subst (λ c. IsInRange 48 57 c) (digit_right ds es all i same h) (digit_at all i digits inside)
 
 -- a piece cut in two and put together with what stands before it
 pub cut_after : (ds es : List ℕ) (i : ℕ) → ds ++ take i es ++ drop i es ≡ ds ++ es

@@ -4,7 +4,7 @@ use Rattle.std.proofs.lemmas.Nat.{div-add-mod'}
 use Rattle.wi_fraction.proofs.Scanning.{own}
 use Rattle.wi_fraction.proofs.Numbers.{number_of-scaled, number_of-lowest}
 use Rattle.wi_fraction.proofs.Steps.{signed-abs}
-use Rattle.wi_fraction.proofs.Digits.{length-padded, digits_padded, value_padded}
+use Rattle.wi_fraction.proofs.Padded.{length-padded, digits_padded, value_padded}
 use Rattle.wi_fraction.proofs.Places.{places_divide, multiple_of, factor_pos, rest_less, divides_one}
 
 pub scan : (ds rest : List ℕ) → all_ascii_digits ds ≡ true → prefix_len is_ascii_digit rest ≡ 0 → prefix_len is_ascii_digit (ds ++ rest) ≡ length ds

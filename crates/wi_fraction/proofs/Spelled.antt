@@ -1,5 +1,5 @@
 -- A text is read as the fraction that it spells, and what is read spells one.
-use Rattle.wi_fraction.proofs.Vocabulary.{◌≡◌, ℕ, ◌<◌, ◌≤◌, ℤ, Bool, true, false, cond, not, ◌==◌, ◌&&◌, nat_lt, nat_le, List, [], ◌∷◌, ◌++◌, length, take, drop, slice_index, Some, None, refl, is_ascii_digit, prefix_len, IsNumeral, digits_value, sym, ap, ◌∙◌, subst, arith, eqb-true, nat_tests, append-nil, take-append-drop, length-prefix_len, pow-zero, ReadsWhatIsSpelled, Number, number_of, signed, max_size, SpellsSize, whole, point, slash, SpellsFraction, plain, plus, minus, IsSpelled, is_numeral, decimal_value, read_quotient, read_after, read_size, read}
+use Rattle.wi_fraction.proofs.Vocabulary.{◌≡◌, ℕ, ◌<◌, ◌≤◌, ℤ, Bool, true, false, cond, not, ◌==◌, ◌&&◌, nat_lt, nat_le, List, [], ◌∷◌, ◌++◌, length, take, drop, slice_index, Some, None, refl, is_ascii_digit, prefix_len, IsNumeral, digits_value, sym, ap, ◌∙◌, subst, arith, eqb-true, nat_tests, append-nil, take-append-drop, length-prefix_len, pow-zero, ReadsWhatIsSpelled, Number, number_of, signed, max_size, SpellsSize, whole, point, slash, SpellsFraction, plain, plus, minus, IsFractionText, is_numeral, decimal_value, read_quotient, read_after, read_size, read}
 use Rattle.std.specs.Prelude.{if◌then◌else◌}
 use Rattle.wi_fraction.proofs.ReadsBack.{first_digit, is_numeral-true, read_size_scanned, read_signed}
 use Rattle.wi_fraction.proofs.Scanning.{digits_before}
@@ -64,14 +64,14 @@ size_spelled s text x e =
     let some : 0 < length (take k text) = rw (length-prefix_len is_ascii_digit text) (grind (arith, nat_tests, t.0)) in
     subst SizeIsSpelled (take-append-drop k text) (rest_spelled s (take k text) (drop k text) x (some, digits_before text) t.1)
 
-spelled : (text : List ℕ) (x : Number) → read text ≡ Some x → IsSpelled text
+spelled : (text : List ℕ) (x : Number) → read text ≡ Some x → IsFractionText text
 unfolding read
 spelled [] x e = let t = size_spelled false [] x e in (_, _, plain [] t.0 t.1 t.2)
 spelled (c ∷ cs) x e = by_sign (c == 45) (c == 43) refl refl e
   where
-    by_sign : (m p : Bool) → (c == 45) ≡ m → (c == 43) ≡ p → (if m then read_size true cs else read_size false (drop (cond p 1 0) (c ∷ cs))) ≡ Some x → IsSpelled (c ∷ cs)
-    by_sign true p f g i = let t = size_spelled true cs x i in subst (λ b. IsSpelled (b ∷ cs)) (sym (eqb-true c 45 f)) (_, _, minus cs t.0 t.1 t.2)
-    by_sign false true f g i = let t = size_spelled false cs x i in subst (λ b. IsSpelled (b ∷ cs)) (sym (eqb-true c 43 g)) (_, _, plus cs t.0 t.1 t.2)
+    by_sign : (m p : Bool) → (c == 45) ≡ m → (c == 43) ≡ p → (if m then read_size true cs else read_size false (drop (cond p 1 0) (c ∷ cs))) ≡ Some x → IsFractionText (c ∷ cs)
+    by_sign true p f g i = let t = size_spelled true cs x i in subst (λ b. IsFractionText (b ∷ cs)) (sym (eqb-true c 45 f)) (_, _, minus cs t.0 t.1 t.2)
+    by_sign false true f g i = let t = size_spelled false cs x i in subst (λ b. IsFractionText (b ∷ cs)) (sym (eqb-true c 43 g)) (_, _, plus cs t.0 t.1 t.2)
     by_sign false false f g i = let t = size_spelled false (c ∷ cs) x i in (_, _, plain (c ∷ cs) t.0 t.1 t.2)
 
 pub reads_what_is_spelled : ReadsWhatIsSpelled

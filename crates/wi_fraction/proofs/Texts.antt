@@ -1,6 +1,6 @@
 -- The shown text by its parts.
 use Rattle.wi_fraction.proofs.Vocabulary.{◌≡◌, ℕ, zero, suc, ◌+◌, ◌*◌, ◌/◌, ◌%◌, ◌^◌, ◌<◌, ◌≤◌, Bool, ◌∷◌, ◌++◌, length, drop, Option, Some, None, refl, decimal, sym, subst, arith, div-one, one-le-pow, places, size_text}
-use Rattle.wi_fraction.proofs.Digits.{decimal_after_one}
+use Rattle.wi_fraction.proofs.Padded.{decimal_after_one}
 use Rattle.wi_fraction.proofs.Places.{places_divide, places_few, power_few, multiple_of, factor_pos, rest_less, divides_one}
 
 -- the digits after the point are fewer than the places

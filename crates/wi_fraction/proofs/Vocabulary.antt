@@ -7,7 +7,7 @@ pub use Rattle.std.proofs.Transfers.{starts_with_length, starts_with_of_append, 
 pub use Rattle.std.proofs.lemmas.Bool.{cases_lt, eqb-true}
 pub use Rattle.std.proofs.lemmas.Bool.Decides.{nat_tests}
 pub use Rattle.std.proofs.lemmas.Fmt.{decimal_digit, decimal_is_IsNumeral_wide, decimal_step_wide}
-pub use Rattle.std.proofs.lemmas.Grind.{common_steps, reverse_onto}
+pub use Rattle.std.proofs.lemmas.Grind.{common_steps, pow_more, reverse_onto}
 pub use Rattle.std.proofs.lemmas.Int.{ints, to_z-of_z, unsigned_abs-mul}
 pub use Rattle.std.proofs.lemmas.Int.Digits.{digits_push, digits_value-lt, digits_value_more, digits_value_push}
 pub use Rattle.std.proofs.lemmas.List.{append-nil, append_assoc, length-append, length-drop, map-append, take-append-drop, take-append-le, take_all, take_rest}
@@ -50,9 +50,9 @@ unfoldable pub use Rattle.wi_fraction.specs.Order.{same_parts}
 pub use Rattle.wi_fraction.specs.Order.Integers.{by_rank, int_irrefl, mul-mul, mul_below, neg-pos-mul, turn}
 pub use Rattle.wi_fraction.specs.Rounding.{floor_of, rounded_size}
 unfoldable pub use Rattle.wi_fraction.specs.Rounding.{floored, rounded}
-pub use Rattle.wi_fraction.specs.Spelled.{IsSpelled, SpellsFraction, SpellsSize, minus, plain, plus, point, slash, whole}
+pub use Rattle.wi_fraction.specs.Spelled.{IsFractionText, SpellsFraction, SpellsSize, minus, plain, plus, point, slash, whole}
 pub use Rattle.wi_fraction.specs.Text.{sign_text}
 unfoldable pub use Rattle.wi_fraction.specs.Text.{padded, places, size_text, text_of}
-pub use Rattle.wi_fraction.specs.Written.{IsWritten, Writes, WritesDigits, WritesExponent, is_exponent_letter, none, times_power, unsigned, writes, written_value}
+pub use Rattle.wi_fraction.specs.Written.{IsDecimalText, WritesDecimal, WritesDigits, WritesExponent, is_exponent_letter, none, times_power, unsigned, writes, written_value}
 pub use Rattle.wi_fraction.specs.declared.rounding.Mode.{Mode}
 pub use Rattle.wi_fraction.specs.declared.rounding.Mode.TheVariants.{Away, HalfAway, Toward}

@@ -1,5 +1,5 @@
 -- A number token is read as the value of what it writes, and what is read writes a decimal.
-use Rattle.wi_fraction.proofs.Vocabulary.{◌≡◌, ℕ, suc, ◌+◌, ◌-◌, ◌*◌, ◌^◌, ◌<◌, ℤ, pos, negsuc, neg_ℤ, ◌-ℤ◌, Bool, true, false, cond, not, ◌==◌, List, [], ◌∷◌, ◌++◌, length, take, drop, slice_index, Option, Some, None, refl, is_ascii_digit, prefix_len, all_ascii_digits, AllDigits, IsNumeral, digits_value, sym, ap, ◌∙◌, subst, inl, inr, arith, cases_lt, eqb-true, nat_tests, ints, append-nil, take-append-drop, length-prefix_len, mul_assoc, mul-one, one-mul, pow-zero, take-append_seam, drop-append_seam, ReadsWhatIsWritten, Number, number_of, is_numeral, decimal_value, raised, lowered, with_exponent, exponent_after, scaled_after, point_after, decimal_after, read_decimal, WritesDigits, is_exponent_letter, WritesExponent, none, unsigned, Writes, writes, IsWritten, times_power, written_value}
+use Rattle.wi_fraction.proofs.Vocabulary.{◌≡◌, ℕ, suc, ◌+◌, ◌-◌, ◌*◌, ◌^◌, ◌<◌, ℤ, pos, negsuc, neg_ℤ, ◌-ℤ◌, Bool, true, false, cond, not, ◌==◌, List, [], ◌∷◌, ◌++◌, length, take, drop, slice_index, Option, Some, None, refl, is_ascii_digit, prefix_len, all_ascii_digits, AllDigits, IsNumeral, digits_value, sym, ap, ◌∙◌, subst, inl, inr, arith, cases_lt, eqb-true, nat_tests, ints, append-nil, take-append-drop, length-prefix_len, mul_assoc, mul-one, one-mul, pow-zero, take-append_seam, drop-append_seam, ReadsWhatIsWritten, Number, number_of, is_numeral, decimal_value, raised, lowered, with_exponent, exponent_after, scaled_after, point_after, decimal_after, read_decimal, WritesDigits, is_exponent_letter, WritesExponent, none, unsigned, WritesDecimal, writes, IsDecimalText, times_power, written_value}
 use Rattle.std.specs.Prelude.{if◌then◌else◌}
 use Rattle.std.proofs.Common.{append_assoc}
 use Rattle.wi_fraction.specs.Written.{plain, point, plus, minus}
@@ -91,7 +91,7 @@ digits_rest : (text w p : List ℕ) → WritesDigits text w p → (rest : List �
 digits_rest text w p (plain ds h) rest k e = read_scanned ds rest h.1 (no_digit rest k e) ∙ whole_rest ds rest k h e
 digits_rest text w p (point ds es h i) rest k e = ap read_decimal (append_assoc ds (46 ∷ es) rest) ∙ read_scanned ds (46 ∷ es ++ rest) h refl ∙ point_rest ds es rest i (no_digit rest k e)
 
-value : (text w p : List ℕ) (k : ℤ) → Writes text w p k → read_decimal text ≡ written_value w p k
+value : (text w p : List ℕ) (k : ℤ) → WritesDecimal text w p k → read_decimal text ≡ written_value w p k
 value text w p k (writes front rest w2 p2 k2 d e) = digits_rest front w2 p2 d rest k2 e ∙ exponent_value rest k2 e w2 p2
 
 -- ---- what is read is written
@@ -131,11 +131,11 @@ rest_written w p [] x e = (pos 0, none)
 rest_written w p (c ∷ more) x e = let t = some_then (is_exponent_letter c) (exponent_after w p more) x e in after_sign c w p more x t.0 t.1
 
 -- digits, and what follows them
-whole_written : (ds rest : List ℕ) (x : Number) → IsNumeral 10 ds → scaled_after ds [] rest ≡ Some x → IsWritten (ds ++ rest)
+whole_written : (ds rest : List ℕ) (x : Number) → IsNumeral 10 ds → scaled_after ds [] rest ≡ Some x → IsDecimalText (ds ++ rest)
 whole_written ds rest x h e = let k = rest_written ds [] rest x e in (ds, [], k.0, writes ds rest ds [] k.0 (plain ds h) k.1)
 
 -- a point, digits after it, and what follows them
-point_written : (ds bs : List ℕ) (x : Number) → AllDigits 10 ds → point_after ds bs ≡ Some x → IsWritten (ds ++ 46 ∷ bs)
+point_written : (ds bs : List ℕ) (x : Number) → AllDigits 10 ds → point_after ds bs ≡ Some x → IsDecimalText (ds ++ 46 ∷ bs)
 unfolding point_after
 point_written ds bs x all e =
     let n = prefix_len is_ascii_digit bs in
@@ -143,29 +143,29 @@ point_written ds bs x all e =
     let k = rest_written ds (take n bs) (drop n bs) x t.1 in
     let some : 0 < length (take n bs) = rw (length-prefix_len is_ascii_digit bs) (grind (arith, nat_tests, t.0)) in
     let back : (ds ++ 46 ∷ take n bs) ++ drop n bs ≡ ds ++ 46 ∷ bs = append_assoc ds (46 ∷ take n bs) (drop n bs) ∙ ap (λ cs. ds ++ 46 ∷ cs) (take-append-drop n bs) in
-    subst IsWritten back (ds, take n bs, k.0, writes (ds ++ 46 ∷ take n bs) (drop n bs) ds (take n bs) k.0 (point ds (take n bs) all (some, digits_before bs)) k.1)
+    subst IsDecimalText back (ds, take n bs, k.0, writes (ds ++ 46 ∷ take n bs) (drop n bs) ds (take n bs) k.0 (point ds (take n bs) all (some, digits_before bs)) k.1)
 
 pub some_from_test : (ds : List ℕ) → AllDigits 10 ds → (length ds == 0) ≡ false → IsNumeral 10 ds
 some_from_test ds all h = (grind (arith, nat_tests), all)
 
-digits_written : (ds rest : List ℕ) (x : Number) → AllDigits 10 ds → decimal_after ds rest ≡ Some x → IsWritten (ds ++ rest)
+digits_written : (ds rest : List ℕ) (x : Number) → AllDigits 10 ds → decimal_after ds rest ≡ Some x → IsDecimalText (ds ++ rest)
 unfolding decimal_after
 digits_written ds [] x all e =
     let t = some_if (length ds == 0) (decimal_value false ds []) x e in
     (ds, [], pos 0, writes ds [] ds [] (pos 0) (plain ds (some_from_test ds all t.0)) none)
 digits_written ds (c ∷ more) x all e = by_point (c == 46) refl e
   where
-    by_point : (b : Bool) → (c == 46) ≡ b → (if b then point_after ds more else (if length ds == 0 then None else scaled_after ds [] (c ∷ more))) ≡ Some x → IsWritten (ds ++ c ∷ more)
-    by_point true f i = subst (λ t. IsWritten (ds ++ t ∷ more)) (sym (eqb-true c 46 f)) (point_written ds more x all i)
+    by_point : (b : Bool) → (c == 46) ≡ b → (if b then point_after ds more else (if length ds == 0 then None else scaled_after ds [] (c ∷ more))) ≡ Some x → IsDecimalText (ds ++ c ∷ more)
+    by_point true f i = subst (λ t. IsDecimalText (ds ++ t ∷ more)) (sym (eqb-true c 46 f)) (point_written ds more x all i)
     by_point false f i =
         let t = some_if (length ds == 0) (scaled_after ds [] (c ∷ more)) x i in
         whole_written ds (c ∷ more) x (some_from_test ds all t.0) t.1
 
-written : (text : List ℕ) (x : Number) → read_decimal text ≡ Some x → IsWritten text
+written : (text : List ℕ) (x : Number) → read_decimal text ≡ Some x → IsDecimalText text
 unfolding read_decimal
 written text x e =
     let n = prefix_len is_ascii_digit text in
-    subst IsWritten (take-append-drop n text) (digits_written (take n text) (drop n text) x (digits_before text) e)
+    subst IsDecimalText (take-append-drop n text) (digits_written (take n text) (drop n text) x (digits_before text) e)
 
 pub reads_what_is_written : ReadsWhatIsWritten
 reads_what_is_written = record { value = value; written = written }

@@ -17,5 +17,5 @@ pub data SpellsFraction : Bytes → ℤ → ℕ → Type 0 where
   minus : (text : Bytes) (n d : ℕ) → SpellsSize text n d → SpellsFraction (byte "-" ∷ text) (neg_ℤ (pos n)) d
 
 -- The text spells a fraction.
-abbrev pub IsSpelled : Bytes → Type 0
-IsSpelled text = (n : ℤ) × (d : ℕ) × SpellsFraction text n d
+abbrev pub IsFractionText : Bytes → Type 0
+IsFractionText text = (n : ℤ) × (d : ℕ) × SpellsFraction text n d

@@ -20,12 +20,12 @@ pub data WritesExponent : Bytes → ℤ → Type 0 where
   minus : (c : ℕ) (ds : Bytes) → is_exponent_letter c ≡ true → IsNumeral 10 ds → WritesExponent (c ∷ byte "-" ∷ ds) (neg_ℤ (pos (digits_value 10 ds)))
 
 -- the digits before the point, those after it, and the exponent
-pub data Writes : Bytes → Bytes → Bytes → ℤ → Type 0 where
-  writes : (text exponent whole parts : Bytes) (k : ℤ) → WritesDigits text whole parts → WritesExponent exponent k → Writes (text ++ exponent) whole parts k
+pub data WritesDecimal : Bytes → Bytes → Bytes → ℤ → Type 0 where
+  writes : (text exponent whole parts : Bytes) (k : ℤ) → WritesDigits text whole parts → WritesExponent exponent k → WritesDecimal (text ++ exponent) whole parts k
 
 -- The text writes a decimal.
-abbrev pub IsWritten : Bytes → Type 0
-IsWritten text = (whole : Bytes) × (parts : Bytes) × (k : ℤ) × Writes text whole parts k
+abbrev pub IsDecimalText : Bytes → Type 0
+IsDecimalText text = (whole : Bytes) × (parts : Bytes) × (k : ℤ) × WritesDecimal text whole parts k
 
 -- n times ten to the power k
 abbrev pub times_power : ℕ → ℤ → Option Number

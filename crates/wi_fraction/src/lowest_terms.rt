@@ -8,6 +8,15 @@ use crate::division::{divide, gcd};
 use crate::words::Parts;
 use crate::{Fraction, MAX};
 
+impl Fraction {
+    /// The numerator without its sign.
+    pub(crate) fn size(&self) -> u128
+        ensures { result ≡ unsigned_abs self.now.num }
+    {
+        self.parts().numerator.unsigned_abs()
+    }
+}
+
 /// The number of that sign, size and denominator, in lowest terms.
 pub(crate) fn reduced(negative: bool, size: u128, denominator: u128) -> Option<Fraction>
     requires { 0 < denominator }

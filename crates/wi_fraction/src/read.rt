@@ -1,8 +1,7 @@
 // Reading texts and number tokens.
 
-ghost use Rattle.std.specs.Prelude.{◌≡◌, ◌+◌, ◌*◌, ◌^◌, ◌<◌, ◌≤◌, ◌++◌, unsigned_abs, pos, length, slice_index, IsTrue, false, [], None, Some};
-ghost use Rattle.std.specs.Char.{is_ascii_digit, digit_value};
-ghost use Rattle.std.specs.Int.{IsInRange};
+ghost use Rattle.std.specs.Prelude.{◌≡◌, ◌*◌, ◌^◌, ◌<◌, ◌≤◌, pos, length, IsTrue, []};
+ghost use Rattle.std.specs.Char.{is_ascii_digit};
 ghost use Rattle.std.specs.List.{prefix_len};
 ghost use Rattle.std.specs.Str.Parse.{AllDigits, digits_value};
 ghost use Rattle.wi_fraction.specs.Gcd.{gcd};
@@ -11,8 +10,8 @@ ghost use Rattle.wi_fraction.specs.Arithmetic.{bounded};
 ghost use Rattle.wi_fraction.specs.Inner.Reading.{read, read_size, read_after, read_quotient, read_decimal, decimal_after, point_after, scaled_after, exponent_after, with_exponent, raised, lowered, decimal_value, is_numeral};
 
 use crate::arithmetic::multiplied;
+use crate::digits::{Digits, mul_add, zero};
 use crate::lowest_terms::{number_at, reduced};
-use crate::words::Parts;
 use crate::{Fraction, MAX};
 
 impl Fraction {
@@ -39,13 +38,6 @@ impl Fraction {
         let count = digit_count(token);
         decimal_after(&token[..count], &token[count..])
     }
-
-    /// The numerator without its sign.
-    fn size(&self) -> u128
-        ensures { result ≡ unsigned_abs self.now.num }
-    {
-        self.parts().numerator.unsigned_abs()
-    }
 }
 
 /// What a text without its sign reads as.
@@ -67,13 +59,13 @@ fn read_after(negative: bool, whole: &[u8], rest: &[u8]) -> Option<Fraction>
     ensures { result ≡ read_after negative whole.now rest.now }
 {
     let [mark, more @ ..] = rest else {
-        return undivided(negative, whole);
+        return without_point(negative, whole);
     };
     if !is_numeral(more) {
         return None;
     }
     match *mark {
-        b'.' => decimal(negative, &[], whole, &[], more),
+        b'.' => decimal(negative, &Digits::alone(whole), &Digits::alone(more)),
         b'/' => quotient(negative, whole, more),
         _ => None,
     }
@@ -89,7 +81,7 @@ fn decimal_after(whole: &[u8], rest: &[u8]) -> Option<Fraction>
         return if whole.is_empty() {
             None
         } else {
-            undivided(false, whole)
+            without_point(false, whole)
         };
     };
     if *mark == b'.' {
@@ -122,7 +114,7 @@ fn scaled_after(whole: &[u8], parts: &[u8], rest: &[u8]) -> Option<Fraction>
     ensures { result ≡ scaled_after whole.now parts.now rest.now }
 {
     let [mark, more @ ..] = rest else {
-        return decimal(false, &[], whole, &[], parts);
+        return decimal(false, &Digits::alone(whole), &Digits::alone(parts));
     };
     if *mark != b'e' && *mark != b'E' {
         return None;
@@ -168,7 +160,7 @@ fn exponent(digits: &[u8]) -> u128
     ensures exact { digits_value 10 digits.now ≤ max_size → result ≡ digits_value 10 digits.now }
     ensures large { max_size < digits_value 10 digits.now → max_size ≤ result }
 {
-    whole_number(&[], digits).unwrap_or(MAX)
+    whole_number(digits).unwrap_or(MAX)
 }
 
 /// The decimal times that power of ten.
@@ -180,9 +172,14 @@ fn raised(whole: &[u8], parts: &[u8], power: u128) -> Option<Fraction>
     let places = parts.len() as u128;
     if power < places {
         let place = power as usize;
-        return decimal(false, whole, &parts[..place], &[], &parts[place..]);
+        return decimal(
+            false,
+            &Digits::joined(whole, &parts[..place]),
+            &Digits::alone(&parts[place..]),
+        );
     }
-    let size = raised_size(whole_number(whole, parts)?, power - places)?;
+    let number = Digits::joined(whole, parts).whole_number()?;
+    let size = raised_size(number, power - places)?;
     number_at(false, size, 1)
 }
 
@@ -209,9 +206,13 @@ fn lowered(whole: &[u8], parts: &[u8], power: u128) -> Option<Fraction>
     let places = whole.len() as u128;
     if power <= places {
         let place = (places - power) as usize;
-        return decimal(false, &[], &whole[..place], &whole[place..], parts);
+        return decimal(
+            false,
+            &Digits::alone(&whole[..place]),
+            &Digits::joined(&whole[place..], parts),
+        );
     }
-    let part = decimal_part(whole, parts)?;
+    let part = Digits::joined(whole, parts).decimal_part()?;
     lowered_part(part.size(), part.denominator(), power - places)
 }
 
@@ -238,123 +239,41 @@ fn quotient(negative: bool, above: &[u8], below: &[u8]) -> Option<Fraction>
     ensures { result
         ≡ read_quotient negative (digits_value 10 above.now) (digits_value 10 below.now) }
 {
-    let size = whole_number(&[], above)?;
-    let denominator = whole_number(&[], below)?;
+    let size = whole_number(above)?;
+    let denominator = whole_number(below)?;
     if denominator == 0 {
         return None;
     }
     reduced(negative, size, denominator)
 }
 
-/// The decimal with those digits and no point.
-fn undivided(negative: bool, digits: &[u8]) -> Option<Fraction>
+/// The number that digits without a point write.
+fn without_point(negative: bool, digits: &[u8]) -> Option<Fraction>
     requires { AllDigits 10 digits.now }
     ensures { result ≡ decimal_value negative digits.now [] }
 {
-    number_at(negative, whole_number(&[], digits)?, 1)
+    number_at(negative, whole_number(digits)?, 1)
 }
 
-/// The decimal with those digits, in two pieces each, before and after the point.
-fn decimal(
-    negative: bool,
-    first: &[u8],
-    second: &[u8],
-    third: &[u8],
-    fourth: &[u8],
-) -> Option<Fraction>
-    requires whole { AllDigits 10 (first.now ++ second.now) }
-    requires parts { AllDigits 10 (third.now ++ fourth.now) }
-    ensures { result ≡ decimal_value negative (first.now ++ second.now) (third.now ++ fourth.now) }
+/// The decimal with those digits before and after the point.
+fn decimal(negative: bool, whole: &Digits<'_>, parts: &Digits<'_>) -> Option<Fraction>
+    requires whole { AllDigits 10 whole.now }
+    requires parts { AllDigits 10 parts.now }
+    ensures { result ≡ decimal_value negative whole.now parts.now }
 {
-    let part = decimal_part(third, fourth)?;
-    let whole = whole_number(first, second)?;
+    let part = parts.decimal_part()?;
+    let number = whole.whole_number()?;
     let denominator = part.denominator();
-    let size = mul_add(whole, denominator, part.size())?;
+    let size = mul_add(number, denominator, part.size())?;
     number_at(negative, size, denominator)
 }
 
-/// The decimal with nothing before the point, from its last digit to its first. The digits need not fit where the
-/// number does, but where the digits from some place on are no number the whole is none.
-fn decimal_part(first: &[u8], second: &[u8]) -> Option<Fraction>
-    requires { AllDigits 10 (first.now ++ second.now) }
-    ensures { result ≡ decimal_value false [] (first.now ++ second.now) }
-{
-    let mut part = zero();
-    for i in (0..first.len() + second.len()).rev() {
-        part = tenth(digit_at(first, second, i), part.size(), part.denominator())?;
-    }
-    Some(part)
-}
-
-fn zero() -> Fraction
-    ensures { Some result ≡ number_of (pos 0) 1 }
-{
-    let parts = Parts {
-        numerator: 0,
-        denominator: 1,
-    };
-    Fraction::of(parts)
-}
-
-/// A tenth of the digit and n/d together. Of a tenth that five does not cancel, the denominator is at least 5 * d.
-fn tenth(digit: u128, n: u128, d: u128) -> Option<Fraction>
-    requires digit { digit < 10 }
-    requires below_one { n < d }
-    requires fits { d ≤ max_size }
-    requires lowest { gcd n d ≡ 1 }
-    ensures { result ≡ number_of (pos (digit * d + n)) (d * 10) }
-{
-    let rest = digit * (d % 5) + n % 5;
-    if rest % 5 == 0 {
-        return reduced(false, digit * (d / 5) + n / 5 + rest / 5, 2 * d);
-    }
-    if d > MAX / 5 {
-        return None;
-    }
-    reduced(false, digit * d + n, d * 10)
-}
-
 /// The whole number that the digits write, where it is small enough.
-fn whole_number(first: &[u8], second: &[u8]) -> Option<u128>
-    requires { AllDigits 10 (first.now ++ second.now) }
-    ensures { result ≡ bounded (digits_value 10 (first.now ++ second.now)) }
+fn whole_number(digits: &[u8]) -> Option<u128>
+    requires { AllDigits 10 digits.now }
+    ensures { result ≡ bounded (digits_value 10 digits.now) }
 {
-    let mut value = 0;
-    for i in 0..first.len() + second.len() {
-        value = mul_add(value, 10, digit_at(first, second, i))?;
-    }
-    Some(value)
-}
-
-/// The value of a digit of two pieces.
-fn digit_at(first: &[u8], second: &[u8], i: usize) -> u128
-    requires digits { AllDigits 10 (first.now ++ second.now) }
-    requires inside { i < length first.now + length second.now }
-    ensures value { result ≡ digit_value (slice_index (first.now ++ second.now) i) }
-    ensures small { result < 10 }
-{
-    let count = first.len();
-    if i < count {
-        return digit(first[i]);
-    }
-    digit(second[i - count])
-}
-
-/// The product and more, where it is small enough.
-fn mul_add(a: u128, b: u128, more: u128) -> Option<u128>
-    ensures { result ≡ bounded (a * b + more) }
-{
-    let sum = a.checked_mul(b)?.checked_add(more)?;
-    if sum <= MAX { Some(sum) } else { None }
-}
-
-/// The value of a digit.
-fn digit(byte: u8) -> u128
-    requires { IsInRange 48 57 byte }
-    ensures value { result ≡ digit_value byte }
-    ensures small { result < 10 }
-{
-    u128::from(byte - b'0')
+    Digits::alone(digits).whole_number()
 }
 
 /// How many digits the text begins with.

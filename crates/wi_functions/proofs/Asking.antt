@@ -1,5 +1,5 @@
 -- What asks, and what has it as a part.
-use Rattle.wi_functions.proofs.Words.{◌≡◌, ◌++◌, ℕ, zero, suc, true, List, [], ◌∷◌, Option, Any, Contains, Result, Ok, Err, sym, ◌∙◌, subst, arith, Contains-append_left, Contains-append_right, Any-push, Value, Corners, Operator, Tree, Trees, cell, rectangle, binary, Leaf, rectangle_leaf, leaves, all_leaves, is_within, corners_may_turn, area_of, IsMissing, IfMissing, Stop, Missing, Memory, Cell, WhatIf, Want, WantsCell, WantsWithin, LeafAsks, AnyLeafAsks, Asks, ByAll, IsWanted, ReferInside, Part, Evaluates, stopped}
+use Rattle.wi_functions.proofs.Words.{◌≡◌, ◌++◌, ℕ, zero, suc, true, List, [], ◌∷◌, Option, Any, Contains, Result, Ok, Err, sym, ◌∙◌, subst, arith, Contains-append_left, Contains-append_right, Any-push, Value, Corners, Operator, Tree, Trees, cell, rectangle, binary, Leaf, rectangle_leaf, leaves, all_leaves, is_within, corners_may_turn, area_of, IsMissing, IfMissing, Stop, Missing, Memory, Cell, WhatIf, Want, WantsCell, WantsWithin, LeafAsks, AnyLeafAsks, TreeAsks, ByAll, IsWanted, ReferInside, Part, Evaluates, stopped, ap, MatchResult, mapped}
 use Rattle.wi_arguments.specs.declared.argument.Argument as given
 
 any_in : {X : Type 0} (P : X → Type 0) (xs : List X) (x : X) → Contains xs x → P x → Any P xs
@@ -16,10 +16,10 @@ pub leaf_asks : (l : Leaf) (w : Want) → LeafAsks l w → Any (λ k. LeafAsks k
 leaf_asks l w h = Any-push (λ k. LeafAsks k w) [] l h
 
 -- what a corner asks for, its rectangle asks for
-pub corner_asks : (c : Corners) (w : Want) → Asks (cell c.one) w → Asks (rectangle c) w
+pub corner_asks : (c : Corners) (w : Want) → TreeAsks (cell c.one) w → TreeAsks (rectangle c) w
 corner_asks c w a = leaf_asks (rectangle_leaf c) w (within w (alone a))
   where
-    alone : Asks (cell c.one) w → WantsCell w c.one.at
+    alone : TreeAsks (cell c.one) w → WantsCell w c.one.at
     alone (zero, l, i, same, asks) = subst (λ k. LeafAsks k w) (sym same) asks
     alone (suc k, l, i, same, asks) = absurd (omega (arith, i))
 
@@ -28,10 +28,10 @@ corner_asks c w a = leaf_asks (rectangle_leaf c) w (within w (alone a))
     within (WhatIf f pairs) e = e
 
 -- what an operand asks for, the operator asks for
-pub left_asks : (op : Operator) (t u : Tree) (w : Want) → Asks t w → Asks (binary op t u) w
+pub left_asks : (op : Operator) (t u : Tree) (w : Want) → TreeAsks t w → TreeAsks (binary op t u) w
 left_asks op t u w a = any_left (λ l. LeafAsks l w) (leaves t) (leaves u) a
 
-pub right_asks : (op : Operator) (t u : Tree) (w : Want) → Asks u w → Asks (binary op t u) w
+pub right_asks : (op : Operator) (t u : Tree) (w : Want) → TreeAsks u w → TreeAsks (binary op t u) w
 right_asks op t u w a = any_right (λ l. LeafAsks l w) (leaves t) (leaves u) a
 
 -- ---- how an evaluation stops
@@ -52,6 +52,12 @@ module _ {K : Type 0} (known_cell : K → ℕ → Option Value) (known_what_if :
       ((w : Want) → AnyLeafAsks p.asking w → AnyLeafAsks q.asking w) → Evaluates known_cell known_what_if known r p → Evaluates known_cell known_what_if known r q
   evaluates_too p q (Ok v) same asks h = λ a agrees. h a agrees ∙ same a agrees
   evaluates_too p q (Err s) same asks h = wanted_too p.asking q.asking asks s h
+
+  -- what is made of the value that a part means is given for what is made of the part
+  pub made_of : (f : Value → Value) (y : Value) (p : Part Value) (r : Result Value (Stop Want)) → ByAll known_cell known_what_if known (λ a. y ≡ p.means a) → MatchResult r (λ v. v ≡ f y) (λ s. s ≡ Memory) →
+      Evaluates known_cell known_what_if known r (mapped f p)
+  made_of f y p (Ok v) same h = λ a agrees. h ∙ ap f (same a agrees)
+  made_of f y p (Err s) same h = memory_wants _ s h
 
   -- a function wants a cell that isn't known, and to which one of its arguments refers
   pub stop_wants : (s : Stop ℕ) (args : List given.Argument) (ts : Trees) → IfMissing s (IsMissing (known_cell known) args) → ReferInside args ts →

@@ -1,5 +1,5 @@
 -- Parameters and the arguments that they are.
-use Rattle.wi_functions.proofs.Words.{◌≡◌, ◌==◌, ℕ, zero, suc, ◌<◌, ◌≤◌, ◌+◌, ◌*◌, Bool, true, false, cond, List, [], ◌∷◌, ◌++◌, length, slice_index_or, ◌||◌, drop, drop-cons, append_assoc, Some, None, refl, sym, ap, ap₂, ◌∙◌, subst, eq-eqb, arith, list_any, map-append, append-nil, drop_all, list_any-append, mod-lt, div-add-mod', eqb-true, Area, row_of, column_of, rect_of, is_within, BadValue, Value, Fault, Corners, Expr, Tree, cell, rectangle, parenthesized, cell_leaf, rectangle_leaf, leaves, all_leaves, one_cell, area_of, cell_area, tree_of, all_of, Argument, value_or, argument_of, call_value, applied, Function, value_of_area, argument_in, arguments_in, refers_to, meaning, arguments, referred, is_one_cell, Asks, AnyAsks, values_of, ReferInside, Want, Cell}
+use Rattle.wi_functions.proofs.Words.{◌≡◌, ◌==◌, ℕ, zero, suc, ◌<◌, ◌≤◌, ◌+◌, ◌*◌, Bool, true, false, cond, List, [], ◌∷◌, ◌++◌, length, slice_index_or, ◌||◌, drop, drop-cons, append_assoc, Some, None, refl, sym, ap, ap₂, ◌∙◌, subst, eq-eqb, arith, list_any, map-append, append-nil, drop_all, list_any-append, mod-lt, div-add-mod', eqb-true, Area, row_of, column_of, rect_of, is_within, BadValue, Value, Fault, Corners, Expr, Tree, cell, rectangle, parenthesized, cell_leaf, rectangle_leaf, leaves, all_leaves, one_cell, area_of, cell_area, tree_of, all_of, Argument, value_or, argument_of, call_value, applied_to_arguments, Function, value_of_area, argument_in, arguments_in, refers_to, meaning, arguments, referred, is_one_cell, TreeAsks, AnyTreeAsks, values_of, ReferInside, Want, Cell}
 use Rattle.wi_arguments.specs.declared.argument.Argument as given
 use Rattle.wi_functions.proofs.Asking.{any_left, any_right, leaf_asks}
 
@@ -20,9 +20,9 @@ value_missing (x ∷ es) zero d cells what_ifs l = absurd (omega (arith, l))
 value_missing (x ∷ es) (suc k) d cells what_ifs l = value_missing es k d cells what_ifs (omega (arith, l))
 
 -- what it asks for, one of the parameters asks for
-pub asks_there : (es : List Expr) (k : ℕ) (e : Expr) (w : Want) → k < length es → e ≡ slice_index_or es k e → Asks (tree_of e) w → AnyAsks (all_of es) w
+pub asks_there : (es : List Expr) (k : ℕ) (e : Expr) (w : Want) → k < length es → e ≡ slice_index_or es k e → TreeAsks (tree_of e) w → AnyTreeAsks (all_of es) w
 asks_there [] k e w l h a = absurd (omega (arith, l))
-asks_there (x ∷ es) zero e w l h a = any_left _ (leaves (tree_of x)) (all_leaves (all_of es)) (subst (λ (y : Expr). Asks (tree_of y) w) h a)
+asks_there (x ∷ es) zero e w l h a = any_left _ (leaves (tree_of x)) (all_leaves (all_of es)) (subst (λ (y : Expr). TreeAsks (tree_of y) w) h a)
 asks_there (x ∷ es) (suc k) e w l h a = any_right _ (leaves (tree_of x)) (all_leaves (all_of es)) (asks_there es k e w (omega (arith, l)) h a)
 
 pub length_arguments : (es : List Expr) (cells : ℕ → Value) (what_ifs : ℕ → List (ℕ × ℕ) → Value) → length (arguments (all_of es) cells what_ifs) ≡ length es
@@ -31,11 +31,11 @@ length_arguments (x ∷ es) cells what_ifs = ap (λ (n : ℕ). suc n) (length_ar
 
 -- a call is worth what the function gives that is found for its name
 pub call_found : (es : List Expr) (name given_name : List ℕ) (f g : Function) (cells : ℕ → Value) (what_ifs : ℕ → List (ℕ × ℕ) → Value) →
-    ((args : List Argument) → length args ≡ length es → call_value name args ≡ applied f args) → f ≡ g → name ≡ given_name →
-    applied g (arguments (all_of es) cells what_ifs) ≡ call_value given_name (arguments (all_of es) cells what_ifs)
+    ((args : List Argument) → length args ≡ length es → call_value name args ≡ applied_to_arguments f args) → f ≡ g → name ≡ given_name →
+    applied_to_arguments g (arguments (all_of es) cells what_ifs) ≡ call_value given_name (arguments (all_of es) cells what_ifs)
 call_found es name given_name f g cells what_ifs found is same =
     let args = arguments (all_of es) cells what_ifs in
-    ap (λ (h : Function). applied h args) (sym is) ∙ sym (found args (length_arguments es cells what_ifs)) ∙ ap (λ (n : List ℕ). call_value n args) same
+    ap (λ (h : Function). applied_to_arguments h args) (sym is) ∙ sym (found args (length_arguments es cells what_ifs)) ∙ ap (λ (n : List ℕ). call_value n args) same
 
 -- ---- the value of a reference
 
@@ -133,7 +133,7 @@ pub value_is : (t : Tree) (v : Value) (cells : ℕ → Value) (what_ifs : ℕ �
 value_is t v cells what_ifs h e = ap (λ (x : Value). argument_of cells x None) e ∙ ap (argument_of cells (meaning t cells what_ifs)) (sym h)
 
 -- what a reference refers to, its parameter asks for
-pub reference_asks : (t : Tree) (r : Area) (c : ℕ) → referred t ≡ Some r → is_within r c ≡ true → Asks t (Cell c)
+pub reference_asks : (t : Tree) (r : Area) (c : ℕ) → referred t ≡ Some r → is_within r c ≡ true → TreeAsks t (Cell c)
 reference_asks (cell a) r c h w =
     let e : r ≡ cell_area a.at = cc in
     let in_cell : is_within (cell_area a.at) c ≡ true = subst (λ (x : Area). is_within x c ≡ true) e w in
@@ -143,18 +143,18 @@ reference_asks (parenthesized t) r c h w = reference_asks t r c h w
 reference_asks t r c h w = cc
 
 -- and a value refers to nothing
-pub value_asks : (t : Tree) (v : Value) (c : ℕ) → refers_to c (given.TheVariants.Value v) ≡ true → Asks t (Cell c)
+pub value_asks : (t : Tree) (v : Value) (c : ℕ) → refers_to c (given.TheVariants.Value v) ≡ true → TreeAsks t (Cell c)
 value_asks t v c h = cc
 
 -- what one more argument refers to, a parameter asks for
 pub more_refer : (es : List Expr) (i : ℕ) (e : Expr) (args more : List given.Argument) (arg : given.Argument) → i < length es → e ≡ slice_index_or es i e → more ≡ args ++ arg ∷ [] →
-    ((c : ℕ) → refers_to c arg ≡ true → Asks (tree_of e) (Cell c)) → ReferInside args (all_of es) → ReferInside more (all_of es)
+    ((c : ℕ) → refers_to c arg ≡ true → TreeAsks (tree_of e) (Cell c)) → ReferInside args (all_of es) → ReferInside more (all_of es)
 more_refer es i e args more arg l h m k inv c r = by (list_any (refers_to c) args) refl (refers_to c arg) refl
   where
     split : (list_any (refers_to c) args || (refers_to c arg || false)) ≡ true
     split = sym (list_any-append (refers_to c) args (arg ∷ [])) ∙ ap (list_any (refers_to c)) (sym m) ∙ r
 
-    by : (b : Bool) → list_any (refers_to c) args ≡ b → (d : Bool) → refers_to c arg ≡ d → AnyAsks (all_of es) (Cell c)
+    by : (b : Bool) → list_any (refers_to c) args ≡ b → (d : Bool) → refers_to c arg ≡ d → AnyTreeAsks (all_of es) (Cell c)
     by true x d y = inv c x
     by false x true y = asks_there es i e (Cell c) l h (k c y)
     by false x false y = let no : (false || (false || false)) ≡ true = ap₂ (λ (p q : Bool). p || (q || false)) (sym x) (sym y) ∙ split in cc

@@ -12,7 +12,7 @@ pub use Rattle.std.proofs.lemmas.Option.{IfSome_then}
 pub use Rattle.std.proofs.lemmas.Result.{MatchResult-weaker, err_from_is_err_and}
 pub use Rattle.std.specs.Int.{w128}
 pub use Rattle.std.specs.List.{list_any}
-pub use Rattle.std.specs.Prelude.{int_lt, negsuc, ok_or, pos, slice_get, unsigned_abs, ◌-◌, ◌^◌, ◌≤ℤ◌}
+pub use Rattle.std.specs.Prelude.{MatchResult, int_lt, negsuc, ok_or, pos, slice_get, unsigned_abs, ◌-◌, ◌^◌, ◌≤ℤ◌}
 pub use Rattle.wi_arguments.specs.Arguments.{IsMissing, argument_in, arguments_in, refers_to, value_of_area}
 pub use Rattle.wi_arguments.specs.Assignment.{AgreesWith, Assignment}
 unfoldable pub use Rattle.wi_fraction.specs.Arithmetic.{sum_of}
@@ -25,7 +25,7 @@ pub use Rattle.wi_functions.specs.Inner.Named.{is_one_cell}
 pub use Rattle.wi_functions.specs.Inner.Parts.{Evaluates, Part, mapped, of_parameters, of_tree, stopped}
 pub use Rattle.wi_functions.specs.Meaning.{arguments, meaning, referred, zero_for_empty}
 pub use Rattle.wi_functions.specs.Operators.{operate}
-pub use Rattle.wi_functions.specs.Wants.{AnyAsks, AnyLeafAsks, Asks, LeafAsks, WantsCell, WantsWithin}
+pub use Rattle.wi_functions.specs.Wants.{AnyLeafAsks, AnyTreeAsks, LeafAsks, TreeAsks, WantsCell, WantsWithin}
 pub use Rattle.wi_functions.specs.declared.evaluation.Want.{Want}
 pub use Rattle.wi_functions.specs.declared.evaluation.Want.TheVariants.{Cell, WhatIf}
 pub use Rattle.wi_parser.proofs.ExprTrees.{binary_seen}
@@ -47,7 +47,7 @@ pub use Rattle.wi_standard_functions.specs.Lookup.{choose_value, chosen}
 pub use Rattle.wi_standard_functions.specs.Steps.{◌>>=◌}
 pub use Rattle.wi_value_functions.proofs.Constants.{number_of-hundred}
 pub use Rattle.wi_value_functions.proofs.ValuesAlone.{values_alone}
-pub use Rattle.wi_value_functions.specs.Applied.{applied, applied_to_values}
+pub use Rattle.wi_value_functions.specs.Applied.{applied_to_arguments, applied_to_values}
 pub use Rattle.wi_value_functions.specs.Endings.{IfMissing}
 pub use Rattle.wi_value_functions.specs.declared.ending.Stop.{Stop}
 pub use Rattle.wi_value_functions.specs.declared.ending.Stop.TheVariants.{Memory, Missing}

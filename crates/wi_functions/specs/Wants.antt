@@ -1,12 +1,12 @@
 -- What an evaluation may ask for.
 use Rattle.std.specs.Prelude.{◌≡◌, ℕ, true, List, map, Any, Option, None}
 use Rattle.wi_values.specs.declared.value.Value.{Value}
+use Rattle.wi_values.specs.Address.{Area, is_within}
 use Rattle.wi_parser.specs.declared.expr.Reference.{Reference}
 use Rattle.wi_parser.specs.Tree.{Tree, Trees}
 use Rattle.wi_parser.specs.Leaves.{Leaf, cell_leaf, rectangle_leaf, what_if_leaf, leaves, all_leaves}
 use Rattle.wi_parser.specs.View.{pair_of}
 use Rattle.wi_parser.specs.Reads.{area_of}
-use Rattle.wi_values.specs.Address.{Area, is_within}
 use Rattle.wi_arguments.specs.Assignment.{addresses}
 use Rattle.wi_functions.specs.declared.evaluation.Want.{Want}
 use Rattle.wi_functions.specs.declared.evaluation.Want.TheVariants.{Cell, WhatIf}
@@ -37,12 +37,12 @@ abbrev pub AnyLeafAsks : List Leaf → Want → Type 0
 AnyLeafAsks ls w = Any (λ l. LeafAsks l w) ls
 
 -- a leaf of the tree asks for this
-abbrev pub Asks : Tree → Want → Type 0
-Asks t w = AnyLeafAsks (leaves t) w
+abbrev pub TreeAsks : Tree → Want → Type 0
+TreeAsks t w = AnyLeafAsks (leaves t) w
 
 -- a leaf of one of the trees asks for this
-abbrev pub AnyAsks : Trees → Want → Type 0
-AnyAsks ts w = AnyLeafAsks (all_leaves ts) w
+abbrev pub AnyTreeAsks : Trees → Want → Type 0
+AnyTreeAsks ts w = AnyLeafAsks (all_leaves ts) w
 
 -- what is wanted isn't known
 abbrev pub IsUnknown : (ℕ → Option Value) → (ℕ → List (ℕ × ℕ) → Option Value) → Want → Type 0

@@ -5,7 +5,7 @@ ghost use Rattle.wi_parser.specs.View.{tree_of, all_of, pair_of};
 ghost use Rattle.wi_parser.specs.Tree.{cell, rectangle, signed, percent, binary, call};
 ghost use Rattle.wi_parser.specs.Tree.{what_if as what_if_tree};
 ghost use Rattle.wi_standard_functions.specs.Arguments.{value_or};
-ghost use Rattle.wi_value_functions.specs.Applied.{applied};
+ghost use Rattle.wi_value_functions.specs.Applied.{applied_to_arguments};
 ghost use Rattle.wi_value_functions.specs.declared.function.Function.TheVariants.{Lazy};
 ghost use Rattle.wi_arguments.specs.Arguments.{arguments_in};
 ghost use Rattle.wi_functions.specs.Meaning as formulas;
@@ -105,10 +105,12 @@ fn value_of<L: Lookup>(alloc: Global, expr: &Expr, lookup: &L) -> Result<Value, 
         Expr::Parenthesized(inner) => value_of(alloc, inner, lookup),
         Expr::Signed(sign, inner) => signed_value(alloc, *sign, inner, lookup),
         Expr::Percent(inner) => percent_value(alloc, inner, lookup),
-        Expr::Binary(operator, operands) => match lent(&operands.0, lookup) {
-            Some(x) => with_right_operand(alloc, *operator, x, &operands.1, lookup),
-            None => binary_value(alloc, *operator, &operands.0, &operands.1, lookup),
-        },
+        Expr::Binary(operator, operands) => {
+            if let Some(x) = lent(&operands.0, lookup) {
+                return with_right_operand(alloc, *operator, x, &operands.1, lookup);
+            }
+            binary_value(alloc, *operator, &operands.0, &operands.1, lookup)
+        }
         Expr::WhatIf(formula_cell, pairs) => what_if_value(alloc, *formula_cell, pairs, lookup),
         Expr::Call(name, parameters) => call_value(alloc, name, parameters, lookup),
     }
@@ -172,13 +174,13 @@ fn with_right_operand<L: Lookup>(
         (mapped (operators.operate operator left.now) (of_tree (tree_of right.now))) }
 {
     if let Some(y) = lent(right, lookup) {
-        return Ok(operate(alloc, operator, left, y)?);
+        return operate(alloc, operator, left, y);
     }
     if let Expr::Number(y) = right {
-        return Ok(operate(alloc, operator, left, &Value::Number(*y))?);
+        return operate(alloc, operator, left, &Value::Number(*y));
     }
     let y = value_of(alloc, right, lookup)?;
-    Ok(operate(alloc, operator, left, &y)?)
+    operate(alloc, operator, left, &y)
 }
 
 /// A call's value. Which function it calls, and whether that takes so many parameters, comes before
@@ -221,7 +223,7 @@ fn lazy_value<L: Lookup>(
     lookup: &L,
 ) -> Result<Value, Stop<Want>>
     ensures { Evaluates L.known_cell L.known_what_if lookup.now result
-        (mapped (applied (Lazy function)) (of_parameters (all_of parameters.now))) }
+        (mapped (applied_to_arguments (Lazy function)) (of_parameters (all_of parameters.now))) }
 {
     let first = parameter_or(alloc, parameters, 0, Value::Empty, lookup)?;
     match choose(function, first, parameters.len()) {

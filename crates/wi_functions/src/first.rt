@@ -2,7 +2,7 @@
 
 ghost use Rattle.std.specs.Prelude.{IfSome};
 ghost use Rattle.wi_parser.specs.View.{tree_of, all_of};
-ghost use Rattle.wi_functions.specs.Wants.{Asks, AnyAsks};
+ghost use Rattle.wi_functions.specs.Wants.{TreeAsks, AnyTreeAsks};
 ghost use Rattle.wi_functions.specs.declared.evaluation.Want.TheVariants as wanted;
 
 use wi_parser::{Expr, Formula};
@@ -13,7 +13,7 @@ use wi_values::{Address, Text};
 /// of these in the order of evaluation. `None` says nothing. The work is at most one walk over the
 /// tree, and mostly a step or two.
 pub fn first_cell(formula: &Formula) -> Option<Address>
-    ensures { IfSome result (λ a. Asks formula.now (wanted.Cell a)) }
+    ensures { IfSome result (λ a. TreeAsks formula.now (wanted.Cell a)) }
 {
     first_of(formula.tree())
 }
@@ -21,7 +21,7 @@ pub fn first_cell(formula: &Formula) -> Option<Address>
 /// A cell that each evaluation of the expression asks for.
 #[cycle(looking)]
 fn first_of(expr: &Expr) -> Option<Address>
-    ensures { IfSome result (λ a. Asks (tree_of expr.now) (wanted.Cell a)) }
+    ensures { IfSome result (λ a. TreeAsks (tree_of expr.now) (wanted.Cell a)) }
 {
     match expr {
         Expr::Number(_) => None,
@@ -45,7 +45,7 @@ fn first_of(expr: &Expr) -> Option<Address>
 #[cycle(looking)]
 #[inline(never)]
 fn first_of_call(name: &Text, parameters: &[Expr]) -> Option<Address>
-    ensures { IfSome result (λ a. AnyAsks (all_of parameters.now) (wanted.Cell a)) }
+    ensures { IfSome result (λ a. AnyTreeAsks (all_of parameters.now) (wanted.Cell a)) }
 {
     let Some(parameter) = parameters.first() else {
         return None;

@@ -1,35 +1,38 @@
 //! The operators (OpenFormula, "Standard Operators").
 
-ghost use Rattle.std.specs.Prelude.{◌≡◌, ◌++◌, Bool, IfOk};
-ghost use Rattle.wi_values.specs.Value.{shown_text};
+ghost use Rattle.std.specs.Prelude.{◌≡◌, ◌++◌, Bool, IfOk, MatchResult};
 ghost use Rattle.std.specs.declared.cmp.Ordering.{Ordering};
+ghost use Rattle.wi_values.specs.Value.{shown_text};
 ghost use Rattle.wi_standard_functions.specs.Arithmetic.{addition, subtraction, multiplication};
 ghost use Rattle.wi_standard_functions.specs.Arithmetic.{division, calculated, limited_text};
-ghost use Rattle.wi_standard_functions.specs.Comparison.{beside, order, compared};
-ghost use Rattle.wi_standard_functions.specs.Convert.{hundred_number, to_number};
+ghost use Rattle.wi_standard_functions.specs.Comparison.{beside, value_order, compared};
+ghost use Rattle.wi_standard_functions.specs.Convert.{hundred_number};
 ghost use Rattle.wi_value_functions.specs.Inner.Outcome.{number_value};
 ghost use Rattle.wi_functions.specs.Operators.{operate, with_sign};
 ghost use Rattle.wi_functions.specs.Inner.Named.{hundredth};
 
+use crate::evaluation::Want;
 use std::alloc::{AllocError, Global};
 use wi_fraction::Fraction;
 use wi_lookup_functions::compare;
 use wi_parser::{Operator, Sign};
 use wi_value_functions::{
-    add, both, divide, limited_text, multiply, no_error, number_value, power_value, subtract,
+    Stop, add, both, divide, limited_text, multiply, no_error, number_value, power_value, subtract,
     to_number,
 };
 use wi_values::{ErrorKind, Value};
 
-/// What an operator gives for two values. Only a join needs memory.
+/// What an operator gives for two values. Only a join needs memory. It ends as an evaluation does, so that its result is handed on
+/// as it stands.
 #[inline(never)]
 pub(crate) fn operate(
     alloc: Global,
     operator: Operator,
     left: &Value,
     right: &Value,
-) -> Result<Value, AllocError>
-    ensures { IfOk result (λ v. v ≡ operate operator left.now right.now) }
+) -> Result<Value, Stop<Want>>
+    ensures { MatchResult result (λ v. v ≡ operate operator left.now right.now)
+        (λ s. s ≡ Stop.Memory) }
 {
     match operator {
         Operator::Add => Ok(number_value(sum(left, right))),
@@ -37,7 +40,7 @@ pub(crate) fn operate(
         Operator::Multiply => Ok(number_value(product(left, right))),
         Operator::Divide => Ok(number_value(quotient(left, right))),
         Operator::Power => Ok(power_value(left, right)),
-        Operator::Join => join(alloc, left, right),
+        Operator::Join => Ok(join(alloc, left, right)?),
         Operator::Equal => Ok(truth(left, right, compare(alloc, left, right).is_eq())),
         Operator::NotEqual => Ok(truth(left, right, compare(alloc, left, right).is_ne())),
         Operator::Less => Ok(truth(left, right, compare(alloc, left, right).is_lt())),
@@ -138,7 +141,7 @@ fn join_shown(alloc: Global, left: &Value, right: &Value) -> Result<Value, Alloc
 /// Whether the order of two values passes a test, unless one is an error.
 fn truth(left: &Value, right: &Value, holds: bool) -> Value
     ensures { (test : Ordering → Bool)
-        → holds ≡ test (order (beside right.now left.now) (beside left.now right.now))
+        → holds ≡ test (value_order (beside right.now left.now) (beside left.now right.now))
         → result ≡ compared test left.now right.now }
 {
     match both(no_error(left), no_error(right)) {

@@ -2,7 +2,7 @@
 
 ghost use Rattle.std.specs.Prelude.{◌≡◌, IfOk, IfErr};
 ghost use Rattle.wi_parser.specs.View.{tree_of};
-ghost use Rattle.wi_value_functions.specs.Applied.{applied};
+ghost use Rattle.wi_value_functions.specs.Applied.{applied_to_arguments};
 ghost use Rattle.wi_value_functions.specs.declared.function.Function.TheVariants.{References};
 ghost use Rattle.wi_arguments.specs.Arguments.{IsOfArguments, IsMissing};
 ghost use Rattle.wi_value_functions.specs.Endings.{IfMissing};
@@ -37,7 +37,7 @@ pub(crate) fn value_of_references<L: Lookup>(
     lookup: &L,
 ) -> Result<Value, Stop<Address>>
     ensures done { IfOk result (IsOfArguments
-        (L.known_cell lookup.now) (applied (References function)) arguments.now) }
+        (L.known_cell lookup.now) (applied_to_arguments (References function)) arguments.now) }
     ensures missing { IfErr result
         (λ s. IfMissing s (IsMissing (L.known_cell lookup.now) arguments.now)) }
 {

@@ -1,9 +1,9 @@
 -- Steps of a search over readers that stops at watched cells.
-use Rattle.wi_graph.proofs.Words.{◌≡◌, ◌==◌, ◌&&◌, ◌||◌, ◌⊎◌, inl, inr, not, ℕ, ◌+◌, ◌<◌, ◌↔◌, Bool, true, false, cond, List, [], ◌∷◌, ◌++◌, length, take, get_or, ap, sym, ◌∙◌, subst, arith, or_cases, or_left, or_right, and_parts, and_from, cases_Bool, not-true, not_from_false, false_from_ne_true, length-append, any-filter_same, filter-append, list_any, Contains, nat_cmp, is_at, BTreeSet, contains, IsStrictlyIncreasing, one_truth, Sheet, content_of, content_reads, Bag, IsReader, IsRead, taken_more, is_one_of, in_cone, IsClosedUp, IsUnread, AreEdgesOf, Rooms, edges_in, IsGraph, HasAll, GoesToReaders, IsLeast, IsConeBeyond, IsListBeyond, beyond, as_set, missing, AreNoted}
-use Rattle.wi_graph.proofs.Tests.{is_itself, clash, turned}
+use Rattle.wi_graph.proofs.Words.{◌≡◌, ◌==◌, ◌&&◌, ◌||◌, ◌⊎◌, inl, inr, not, ℕ, ◌+◌, ◌<◌, ◌↔◌, Bool, true, false, cond, List, [], ◌∷◌, ◌++◌, length, take, get_or, ap, sym, ◌∙◌, subst, arith, or_cases, or_left, or_right, and_parts, and_from, cases_Bool, not-true, not_from_false, false_from_ne_true, length-append, any-filter_same, filter-append, list_any, Contains, nat_cmp, is_at, BTreeSet, contains, IsStrictlyIncreasing, one_truth, Sheet, content_of, content_reads, Bag, IsReader, IsRead, taken_more, is_one_of, in_cone, IsClosedUp, IsUnread, AreEdgesOf, Rooms, edges_in, IsGraph, HasAll, GoesToReaders, IsLeast, IsConeBeyond, IsListBeyond, beyond, as_set, missing, AreNoted, has_key, has-from_Contains, Contains-from_has}
+use Rattle.wi_graph.proofs.Tests.{is_itself, clash}
 use Rattle.wi_graph.proofs.Walks.{same_cell}
 use Rattle.wi_graph.proofs.SetSteps.{in_last, in_front, in_back}
-use Rattle.wi_graph.proofs.SearchSteps.{AreReaders, listed_one, one_listed, all_readers, readers_there, noted_none, noted_both}
+use Rattle.wi_graph.proofs.SearchSteps.{AreReaders, all_readers, readers_there, noted_none, noted_both}
 use Rattle.wi_graph.proofs.Cones.{cone_has, cone_closed, cone_least}
 use Rattle.wi_graph.proofs.GraphSteps.{graph_readers}
 
@@ -85,7 +85,7 @@ beyond_step readers w cells found more work less after next noted cell e r q m s
 
     gone : (a d : ℕ) → IsReader readers a d → w d ≡ false → (is_one_of less a ≡ true) ⊎ (cell ≡ a) → (is_one_of after a ≡ true) ⊎ (contains nat_cmp more d ≡ true)
     gone a d i u (inl j) = inl (n.stays a j)
-    gone a d i u (inr j) = inr (n.found d ∙ or_right (contains nat_cmp found d) _ (beyond_in w next d (listed_one next d ((r d).1 (subst (λ (x : ℕ). IsReader readers x d) (sym j) i))) u))
+    gone a d i u (inr j) = inr (n.found d ∙ or_right (contains nat_cmp found d) _ (beyond_in w next d (has-from_Contains next d ((r d).1 (subst (λ (x : ℕ). IsReader readers x d) (sym j) i))) u))
 
     known : (a d : ℕ) → IsReader readers a d → w d ≡ false → (is_one_of work a ≡ true) ⊎ (contains nat_cmp found d ≡ true) → (is_one_of after a ≡ true) ⊎ (contains nat_cmp more d ≡ true)
     known a d i u (inl j) = gone a d i u (in_last less cell a (ap (λ (xs : List ℕ). is_one_of xs a) (sym e) ∙ j))
@@ -108,7 +108,7 @@ beyond_step readers w cells found more work less after next noted cell e r q m s
 
     first : (p : ℕ → Bool) → ((c : ℕ) → is_one_of cells c ≡ true → p c ≡ true) → GoesToReaders readers p → (c : ℕ) → (contains nat_cmp found c ≡ true) ⊎ (is_one_of (beyond w next) c ≡ true) → p c ≡ true
     first p i g c (inl j) = s.least p i g c j
-    first p i g c (inr j) = g cell c (s.least p i g cell here) ((r c).0 (one_listed next c (in_beyond w next c j).0))
+    first p i g c (inr j) = g cell c (s.least p i g cell here) ((r c).0 (Contains-from_has next c (in_beyond w next c j).0))
 
 pub beyond_end : (readers : Bag) (w : ℕ → Bool) (cells : List ℕ) (found : BTreeSet ℕ) (work : List ℕ) → work ≡ [] → IsSearchingBeyond readers w cells found work → IsConeBeyond readers w cells found
 beyond_end readers w cells found work e s = record {
@@ -127,7 +127,7 @@ pub beyond_ends : (readers : Bag) (w : ℕ → Bool) (found more : BTreeSet ℕ)
     length (missing more (all_readers readers)) + length after < length (missing found (all_readers readers)) + length work
 beyond_ends readers w found more work less after next noted cell e r q m =
     let n = subst (λ (xs : List ℕ). AreNoted xs found more less after) (ap (beyond w) q) m in
-    let f = n.fewer (all_readers readers) (λ c i. readers_there readers cell c ((r c).0 (one_listed next c (in_beyond w next c i).0))) in
+    let f = n.fewer (all_readers readers) (λ c i. readers_there readers cell c ((r c).0 (Contains-from_has next c (in_beyond w next c i).0))) in
     let t : length work ≡ length less + 1 = ap (λ (xs : List ℕ). length xs) e ∙ length-append less (cell ∷ []) in
     omega (arith, f, t)
 
@@ -136,7 +136,7 @@ beyond_ends readers w found more work less after next noted cell e r q m =
 -- the cone but for the watched cells, where with each of them each that reads it is watched
 pub found_beyond : (s : Sheet) (readers : Bag) (w : ℕ → Bool) (cells : List ℕ) (found : BTreeSet ℕ) → ((a r : ℕ) → (content_reads (content_of s r) a ≡ true) ↔ IsReader readers a r) → IsClosedUp s w → IsConeBeyond readers w cells found →
     (c : ℕ) → is_one_of found.keys c ≡ (in_cone s cells c && not (w c))
-found_beyond s readers w cells found i g k c = sym (turned found.keys c) ∙ one_truth (contains nat_cmp found c) (in_cone s cells c && not (w c)) to from
+found_beyond s readers w cells found i g k c = sym (has_key found.keys c) ∙ one_truth (contains nat_cmp found c) (in_cone s cells c && not (w c)) to from
   where
     to : contains nat_cmp found c ≡ true → (in_cone s cells c && not (w c)) ≡ true
     to h = and_from (in_cone s cells c) (not (w c)) (k.least (in_cone s cells) (cone_has s cells) (λ a r m u. cone_closed s cells r a ((i a r).1 u) m) c h) (not_from_false (w c) (k.unwatched c h))
@@ -177,22 +177,22 @@ beyond_list readers w cells list found o e k = record {
 }
   where
     same : (c : ℕ) → contains nat_cmp (as_set list) c ≡ contains nat_cmp found c
-    same c = turned list c ∙ one_truth (is_one_of list c) (contains nat_cmp found c) (λ h. (e c).0 (one_listed list c h)) (λ h. listed_one list c ((e c).1 h))
+    same c = has_key list c ∙ one_truth (is_one_of list c) (contains nat_cmp found c) (λ h. (e c).0 (Contains-from_has list c h)) (λ h. has-from_Contains list c ((e c).1 h))
 
 -- those that aren't watched, where they stand in order and nothing reads them
 pub own_beyond : (readers : Bag) (w : ℕ → Bool) (cells list looked : List ℕ) → list ≡ beyond w cells → looked ≡ list → IsStrictlyIncreasing looked → ((a r : ℕ) → is_one_of looked a ≡ true → IsReader readers a r → ⊥) → IsListBeyond readers w cells list
 own_beyond readers w cells list looked e q o n = record {
   order = subst IsStrictlyIncreasing q o;
   cone = record {
-    all = λ c h. turned list c ∙ ap (λ (xs : List ℕ). is_one_of xs c) e ∙ h;
-    closed = λ a r h i u. absurd (n a r (ap (λ (xs : List ℕ). is_one_of xs a) q ∙ sym (turned list a) ∙ h) i);
+    all = λ c h. has_key list c ∙ ap (λ (xs : List ℕ). is_one_of xs c) e ∙ h;
+    closed = λ a r h i u. absurd (n a r (ap (λ (xs : List ℕ). is_one_of xs a) q ∙ sym (has_key list a) ∙ h) i);
     unwatched = λ c h. (own c h).1;
     least = λ p h g c m. h c (own c m).0;
   };
 }
   where
     own : (c : ℕ) → contains nat_cmp (as_set list) c ≡ true → (is_one_of cells c ≡ true) × (w c ≡ false)
-    own c h = in_beyond w cells c (ap (λ (xs : List ℕ). is_one_of xs c) (sym e) ∙ sym (turned list c) ∙ h)
+    own c h = in_beyond w cells c (ap (λ (xs : List ℕ). is_one_of xs c) (sym e) ∙ sym (has_key list c) ∙ h)
 
 -- none of them is watched
 pub none_watched : (w : ℕ → Bool) (cells list looked : List ℕ) → list ≡ beyond w cells → looked ≡ list → (c : ℕ) → is_one_of looked c ≡ true → w c ≡ false

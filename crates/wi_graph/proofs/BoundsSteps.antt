@@ -1,6 +1,5 @@
 -- Cells that come and go, and the rectangle around them.
-use Rattle.wi_graph.proofs.Words.{◌≡◌, ◌==◌, ◌&&◌, ◌||◌, ◌⊎◌, inl, inr, ℕ, ◌+◌, ◌<◌, ◌≤◌, min, max, Bool, true, false, List, [], ◌∷◌, take, get_or, length, refl, ap, sym, ◌∙◌, arith, nat_cmp, list_any, is_at, BTreeSet, contains, btree_set_len, IsUnchanged, or_cases, and_parts, and_from, false_from_ne_true, one_truth, Area, columns, place, row_of, column_of, rect_of, is_within, row_of_place, column_of_place, within_parts, within_from, is_one_of, AreWithin, as_set}
-use Rattle.wi_graph.proofs.Tests.{turned}
+use Rattle.wi_graph.proofs.Words.{◌≡◌, ◌==◌, ◌&&◌, ◌||◌, ◌⊎◌, inl, inr, ℕ, ◌+◌, ◌<◌, ◌≤◌, min, max, Bool, true, false, List, [], ◌∷◌, take, get_or, length, refl, ap, sym, ◌∙◌, arith, nat_cmp, list_any, is_at, BTreeSet, contains, btree_set_len, IsUnchanged, or_cases, and_parts, and_from, false_from_ne_true, one_truth, Area, columns, place, row_of, column_of, rect_of, is_within, row_of_place, column_of_place, within_parts, within_from, is_one_of, AreWithin, as_set, has_key, le_trans, max_at_most}
 use Rattle.wi_graph.proofs.Walks.{same_cell}
 use Rattle.wi_graph.proofs.SetSteps.{Gains, Loses, gains_cases, loses_others, taken}
 
@@ -8,14 +7,14 @@ use Rattle.wi_graph.proofs.SetSteps.{Gains, Loses, gains_cases, loses_others, ta
 
 pub around_more : (cells : List ℕ) (i x : ℕ) (old new : Area) → i < length cells → x ≡ get_or cells i x → is_within new x ≡ true → ((c : ℕ) → is_within old c ≡ true → is_within new c ≡ true) → AreWithin old (as_set (take i cells)) →
     AreWithin new (as_set (take (i + 1) cells))
-around_more cells i x old new l e n o w c h = at (or_cases (is_one_of (take i cells) c) _ (sym (taken cells i x c l e) ∙ sym (turned (take (i + 1) cells) c) ∙ h))
+around_more cells i x old new l e n o w c h = at (or_cases (is_one_of (take i cells) c) _ (sym (taken cells i x c l e) ∙ sym (has_key (take (i + 1) cells) c) ∙ h))
   where
     last : (b : Bool) → (x == c) ≡ b → (b || false) ≡ true → is_within new c ≡ true
     last true k m = ap (is_within new) (sym (same_cell c x k)) ∙ n
     last false k m = cc
 
     at : (is_one_of (take i cells) c ≡ true) ⊎ (((x == c) || false) ≡ true) → is_within new c ≡ true
-    at (inl k) = o c (w c (turned (take i cells) c ∙ k))
+    at (inl k) = o c (w c (has_key (take i cells) c ∙ k))
     at (inr k) = last (x == c) refl k
 
 pub gains_within : (old new : BTreeSet ℕ) (r : Area) (x : ℕ) → Gains old new x → is_within r x ≡ true → AreWithin r old → AreWithin r new
@@ -73,9 +72,6 @@ max_of m a b x y e f g = e ∙ ap (λ (z : ℕ). max z b) f ∙ ap (λ (z : ℕ)
 pub min_below : (m a b n : ℕ) → m ≡ min a b → a < n → m < n
 min_below m a b n e h = omega (arith, e, h)
 
-pub max_below : (m a b n : ℕ) → m ≡ max a b → a < n → b < n → m < n
-max_below m a b n e h k = omega (arith, e, h, k)
-
 -- the sides of the least rectangle that has another and a cell
 pub record IsGrown (area : Area) (cell first_row first_column last_row last_column : ℕ) : Type 0 where
   pub top : first_row ≡ min (row_of area.first) (row_of cell)
@@ -99,9 +95,6 @@ pub grown_others : (area new : Area) (cell top left bottom right : ℕ) → IsGr
 grown_others area new cell t l m n g s c h =
     let p = within_parts area c h in
     within_from new c (le_trans (min_first _ _ _ _ s.top g.top).0 p.0) (le_trans p.1 (max_last _ _ _ _ s.bottom g.bottom).0) (le_trans (min_first _ _ _ _ s.left g.left).0 p.2) (le_trans p.3 (max_last _ _ _ _ s.right g.right).0)
-  where
-    le_trans : {x y z : ℕ} → x ≤ y → y ≤ z → x ≤ z
-    le_trans p q = omega (arith, p, q)
 
 -- the sides of what two rectangles have in common
 pub record IsCommon (a b : Area) (first_row first_column last_row last_column : ℕ) : Type 0 where
@@ -109,9 +102,6 @@ pub record IsCommon (a b : Area) (first_row first_column last_row last_column : 
   pub left : first_column ≡ max (column_of a.first) (column_of b.first)
   pub bottom : last_row ≡ min (row_of a.last) (row_of b.last)
   pub right : last_column ≡ min (column_of a.last) (column_of b.last)
-
-above_both : (m a b c : ℕ) → m ≡ max a b → a ≤ c → b ≤ c → m ≤ c
-above_both m a b c e h k = omega (arith, e, h, k)
 
 below_both : (m a b c : ℕ) → m ≡ min a b → c ≤ a → c ≤ b → c ≤ m
 below_both m a b c e h k = omega (arith, e, h, k)
@@ -139,7 +129,7 @@ common_part a b part t l m n i s c = one_truth (is_within part c) (is_within a c
         let q = and_parts (is_within a c) _ h in
         let x = within_parts a c q.0 in
         let y = within_parts b c q.1 in
-        within_from part c (above_both _ _ _ _ (s.top ∙ i.top) x.0 y.0) (below_both _ _ _ _ (s.bottom ∙ i.bottom) x.1 y.1) (above_both _ _ _ _ (s.left ∙ i.left) x.2 y.2) (below_both _ _ _ _ (s.right ∙ i.right) x.3 y.3)
+        within_from part c (max_at_most _ _ _ _ (s.top ∙ i.top) x.0 y.0) (below_both _ _ _ _ (s.bottom ∙ i.bottom) x.1 y.1) (max_at_most _ _ _ _ (s.left ∙ i.left) x.2 y.2) (below_both _ _ _ _ (s.right ∙ i.right) x.3 y.3)
 
 pub no_part : (a b : Area) (top left bottom right : ℕ) → IsCommon a b top left bottom right → ((top ≤ bottom) × (right < left)) ⊎ (bottom < top) → (c : ℕ) → false ≡ (is_within a c && is_within b c)
 no_part a b t l m n i o c = sym (false_from_ne_true (is_within a c && is_within b c) none)
@@ -157,11 +147,11 @@ no_part a b t l m n i o c = sym (false_from_ne_true (is_within a c && is_within 
         at (inl k) =
             let x = within_parts a c q.0 in
             let y = within_parts b c q.1 in
-            apart l n (column_of c) (above_both _ _ _ _ i.left x.2 y.2) (below_both _ _ _ _ i.right x.3 y.3) k.1
+            apart l n (column_of c) (max_at_most _ _ _ _ i.left x.2 y.2) (below_both _ _ _ _ i.right x.3 y.3) k.1
         at (inr k) =
             let x = within_parts a c q.0 in
             let y = within_parts b c q.1 in
-            apart t m (row_of c) (above_both _ _ _ _ i.top x.0 y.0) (below_both _ _ _ _ i.bottom x.1 y.1) k
+            apart t m (row_of c) (max_at_most _ _ _ _ i.top x.0 y.0) (below_both _ _ _ _ i.bottom x.1 y.1) k
 
 -- ---- no cell, or the same cells
 

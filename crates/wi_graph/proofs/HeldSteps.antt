@@ -1,6 +1,6 @@
 -- Which cells read a circular cell outside a cone.
-use Rattle.wi_graph.proofs.Words.{◌≡◌, ◌==◌, ◌&&◌, ◌||◌, ◌⊎◌, inl, inr, not, ℕ, ◌+◌, ◌<◌, ◌≤◌, Bool, true, false, List, [], ◌∷◌, filter, Option, Some, None, IfSome, ap, sym, ◌∙◌, arith, lt_of_le-ne, or_cases, or_left, or_right, and_parts, and_from, false_from_ne_true, not-true, not_from_false, any-filter_same, list_any, nat_cmp, Vec, BTreeMap, BTreeSet, contains, Area, is_within, is_one_of, IsAhead, IsFoundBy, has_circle_outside, reads_outside, within_between, places_left}
-use Rattle.wi_graph.proofs.Tests.{is_itself, clash, turned}
+use Rattle.wi_graph.proofs.Words.{◌≡◌, ◌==◌, ◌&&◌, ◌||◌, ◌⊎◌, inl, inr, not, ℕ, ◌+◌, ◌<◌, ◌≤◌, Bool, true, false, List, [], ◌∷◌, filter, Option, Some, None, IfSome, ap, sym, ◌∙◌, arith, lt_of_le-ne, or_cases, or_left, or_right, and_parts, and_from, false_from_ne_true, not-true, not_from_false, any-filter_same, list_any, nat_cmp, Vec, BTreeMap, BTreeSet, contains, Area, is_within, is_one_of, IsAhead, IsFoundBy, has_circle_outside, reads_outside, within_between, places_left, has_key}
+use Rattle.wi_graph.proofs.Tests.{is_itself, clash}
 use Rattle.wi_graph.proofs.Walks.{same_cell, found}
 
 pub outside_finds : (cells : BTreeSet ℕ) (ks : List ℕ) (r : Area) → list_any (λ d. is_within r d && not (contains nat_cmp cells d)) ks ≡ true → (d : ℕ) × (is_one_of ks d ≡ true) × (is_within r d ≡ true) × (contains nat_cmp cells d ≡ false)
@@ -35,7 +35,7 @@ pub held_test : (reads : BTreeMap ℕ (Vec Area)) (circles cells : BTreeSet ℕ)
 held_test reads circles cells outer held e h c =
     h c ∙ ap (λ (xs : List ℕ). is_one_of xs c) e
     ∙ any-filter_same (λ x. x == c) (reads_outside reads circles cells) (reads_outside reads circles cells c) (λ k m. ap (reads_outside reads circles cells) (same_cell c k m)) cells.keys
-    ∙ ap (λ (b : Bool). reads_outside reads circles cells c && b) (sym (turned cells.keys c))
+    ∙ ap (λ (b : Bool). reads_outside reads circles cells c && b) (sym (has_key cells.keys c))
 
 -- ---- a rectangle is searched
 
@@ -73,9 +73,9 @@ fewer_circles circles r circle (Some d) w h = let l = (within_between r circle w
 
 pub searched_found : (circles cells : BTreeSet ℕ) (r : Area) (circle : ℕ) → contains nat_cmp cells circle ≡ false → IsSearched circles cells r (Some circle) → has_circle_outside circles cells r ≡ true
 searched_found circles cells r circle n s =
-    found (λ d. is_within r d && not (contains nat_cmp cells d)) circles.keys circle (sym (turned circles.keys circle) ∙ s.1.1) (and_from (is_within r circle) _ s.1.0 (not_from_false (contains nat_cmp cells circle) n))
+    found (λ d. is_within r d && not (contains nat_cmp cells d)) circles.keys circle (sym (has_key circles.keys circle) ∙ s.1.1) (and_from (is_within r circle) _ s.1.0 (not_from_false (contains nat_cmp cells circle) n))
 
 pub searched_none : (circles cells : BTreeSet ℕ) (r : Area) → IsSearched circles cells r None → has_circle_outside circles cells r ≡ false
 searched_none circles cells r s = false_from_ne_true (has_circle_outside circles cells r) (λ h.
     let x = outside_finds cells circles.keys r h in
-    s.0 x.0 (x.2, turned circles.keys x.0 ∙ x.1, x.3))
+    s.0 x.0 (x.2, has_key circles.keys x.0 ∙ x.1, x.3))

@@ -1,5 +1,5 @@
 -- Laws of the latest edit that a cell's value may rest on.
-use Rattle.wi_graph.proofs.Words.{◌≡◌, ◌⊎◌, inl, inr, ◌<◌, ◌≤◌, ◌==◌, ◌&&◌, ◌||◌, not, max, ℕ, zero, suc, Bool, true, false, cond, List, [], ◌∷◌, Option, ap, sym, ◌∙◌, refl, subst, arith, Content, Sheet, content_of, content_reads, Walks, Reaches, is_one_of, SameOff, reaches, in_cone, numbered, IsLatest, LatestOfCone, OneIsLatest, LatestRises, LatestByStep, IsOwed, IsUnread, EditOwes, NoneIsOwed, SettlesOne, SettlingBegins, OwedStays, latest_among, LatestIsAmong, false_from_ne_true, cases_Bool, cases_lt, or_cases, or_left, or_right}
+use Rattle.wi_graph.proofs.Words.{◌≡◌, ◌⊎◌, inl, inr, ◌<◌, ◌≤◌, ◌==◌, ◌&&◌, ◌||◌, not, max, ℕ, zero, suc, Bool, true, false, cond, List, [], ◌∷◌, Option, ap, sym, ◌∙◌, refl, subst, arith, Content, Sheet, content_of, content_reads, Walks, Reaches, is_one_of, SameOff, reaches, in_cone, numbered, IsLatest, LatestOfCone, OneIsLatest, LatestRises, LatestByStep, IsOwed, IsUnread, EditOwes, NoneIsOwed, SettlesOne, SettlingBegins, OwedStays, latest_among, LatestIsAmong, false_from_ne_true, cases_Bool, cases_lt, or_cases, or_left, or_right, or-false}
 use Rattle.wi_graph.proofs.Tests.{clash, is_itself}
 use Rattle.wi_graph.proofs.Walks.{same_cell}
 use Rattle.wi_graph.proofs.ReachTest.{reaches_true, true_reaches, in_cone_true, true_in_cone, not_in_cone}
@@ -168,11 +168,7 @@ none_is_owed s number noted owed c n none o l = at (o c n l).noted_or_owed
 reaches_one : (s : Sheet) (x c : ℕ) → in_cone s (x ∷ []) c ≡ true → Reaches s c x
 reaches_one s x c i =
     let j = in_cone_true s (x ∷ []) c i in
-    subst (Reaches s c) (sym (same_cell j.0 x (only (x == j.0) j.1))) j.2
-  where
-    only : (b : Bool) → (b || false) ≡ true → b ≡ true
-    only true h = refl
-    only false h = h
+    subst (Reaches s c) (sym (same_cell j.0 x (sym (or-false (x == j.0)) ∙ j.1))) j.2
 
 one_reached : (s : Sheet) (x c : ℕ) → Reaches s c x → in_cone s (x ∷ []) c ≡ true
 one_reached s x c w = true_in_cone s (x ∷ []) c (x, or_left (x == x) false (is_itself x), w)

@@ -1,5 +1,5 @@
 -- The cells from which so many steps lead, layer by layer.
-use Rattle.wi_graph.proofs.Words.{◌≡◌, ◌==◌, ℕ, zero, suc, ◌+◌, Bool, true, false, ◌&&◌, ◌||◌, cond, List, [], ◌∷◌, filter, Option, Some, None, length, refl, ap, sym, ◌∙◌, arith, any-filter_same, and-true, and-false, eqb-true, filter_agree, list_any, nat_cmp, keys_of, is_at, Content, Constant, Formula, Sheet, content_of, has_formula, cells_with_formula, content_reads, has_walk}
+use Rattle.wi_graph.proofs.Words.{◌≡◌, ◌==◌, ℕ, zero, suc, ◌+◌, Bool, true, false, ◌&&◌, ◌||◌, cond, List, [], ◌∷◌, filter, Option, Some, None, refl, ap, sym, ◌∙◌, arith, any-filter_same, and-true, and-false, eqb-true, filter_agree, list_any, nat_cmp, keys_of, is_at, Content, Constant, Formula, Sheet, content_of, has_formula, cells_with_formula, content_reads, has_walk}
 pub use Rattle.wi_values.specs.Address.{is_one_of}
 use Rattle.wi_graph.proofs.Tests.{turn_test, is_at-eq}
 
@@ -51,17 +51,17 @@ pub walker_has_formula : (n : ℕ) (s : Sheet) (c : ℕ) → has_walk n s c ≡ 
 walker_has_formula zero s c h = h
 walker_has_formula (suc n) s c h = reader_has_formula (content_of s c) (has_walk n s) (cells_with_formula s) h
 
-is_key : (s : Sheet) (a : ℕ) → has_formula (content_of s a) ≡ true → list_any (λ k. k == a) (keys_of s) ≡ true
+is_key : (s : Sheet) (a : ℕ) → has_formula (content_of s a) ≡ true → is_one_of (keys_of s) a ≡ true
 is_key [] a h = h
 is_key (e ∷ es) a h = at (is_at (nat_cmp a) e.0) (is_at-eq a e.0) h (is_key es a)
   where
-    at : (b : Bool) → b ≡ (a == e.0) → has_formula (cond b (Some e.1) (content_of es a)) ≡ true → (has_formula (content_of es a) ≡ true → list_any (λ k. k == a) (keys_of es) ≡ true) →
-        ((e.0 == a) || list_any (λ k. k == a) (keys_of es)) ≡ true
-    at true t h ih = ap (λ (c : Bool). c || list_any (λ k. k == a) (keys_of es)) (turn_test e.0 a ∙ sym t)
-    at false t h ih = ap (λ (c : Bool). c || list_any (λ k. k == a) (keys_of es)) (turn_test e.0 a ∙ sym t) ∙ ih h
+    at : (b : Bool) → b ≡ (a == e.0) → has_formula (cond b (Some e.1) (content_of es a)) ≡ true → (has_formula (content_of es a) ≡ true → is_one_of (keys_of es) a ≡ true) →
+        ((e.0 == a) || is_one_of (keys_of es) a) ≡ true
+    at true t h ih = ap (λ (c : Bool). c || is_one_of (keys_of es) a) (turn_test e.0 a ∙ sym t)
+    at false t h ih = ap (λ (c : Bool). c || is_one_of (keys_of es) a) (turn_test e.0 a ∙ sym t) ∙ ih h
 
 -- a cell is found among those that pass a test exactly where it is one and passes
-among : (p : ℕ → Bool) (xs : List ℕ) (a : ℕ) → list_any (λ x. x == a) (filter p xs) ≡ (p a && list_any (λ x. x == a) xs)
+among : (p : ℕ → Bool) (xs : List ℕ) (a : ℕ) → is_one_of (filter p xs) a ≡ (p a && is_one_of xs a)
 among p xs a = any-filter_same (λ x. x == a) p (p a) (λ k h. ap p (eqb-true k a h)) xs
 
 implied : (b c : Bool) → (b ≡ true → c ≡ true) → (b && c) ≡ b
@@ -69,7 +69,7 @@ implied true c h = h refl
 implied false c h = refl
 
 -- a cell is in a layer exactly where so many steps lead from it
-pub in_layer : (n : ℕ) (s : Sheet) (a : ℕ) → list_any (λ x. x == a) (layer n s) ≡ has_walk n s a
+pub in_layer : (n : ℕ) (s : Sheet) (a : ℕ) → is_one_of (layer n s) a ≡ has_walk n s a
 in_layer n s a = among (has_walk n s) (cells_with_formula s) a ∙ implied (has_walk n s a) _ (λ h.
     let f = walker_has_formula n s a h in
-    among (λ c. has_formula (content_of s c)) (keys_of s) a ∙ ap (λ (b : Bool). b && list_any (λ k. k == a) (keys_of s)) f ∙ is_key s a f)
+    among (λ c. has_formula (content_of s c)) (keys_of s) a ∙ ap (λ (b : Bool). b && is_one_of (keys_of s) a) f ∙ is_key s a f)

@@ -1,6 +1,6 @@
 -- Steps of a search over readers.
-use Rattle.wi_graph.proofs.Words.{◌≡◌, ◌==◌, ◌||◌, ◌⊎◌, inl, inr, not, ℕ, zero, suc, ◌+◌, ◌<◌, ◌↔◌, Bool, true, false, cond, List, [], ◌∷◌, ◌++◌, map, length, take, get_or, Some, Result, Ok, Err, IfOk, refl, ap, sym, ◌∙◌, subst, arith, or-false, or_assoc, list_any-append, or_cases, or_left, or_right, cases_Bool, not-true, not_from_false, length-append, Vec, list_any, Contains, lookup, unwrap_or, nat_cmp, is_at, BTreeSet, contains, IsStrictlyIncreasing, Sheet, content_of, content_reads, RangePair, Bag, IsReader, IsRead, is_same, count_of, same_is, is_one_of, in_cone, HasAll, HasReaders, GoesToReaders, IsLeast, IsConeOf, as_set, missing, AreNoted, filter_agree, one_truth, taken_more}
-use Rattle.wi_graph.proofs.Tests.{is_itself, clash, turned}
+use Rattle.wi_graph.proofs.Words.{◌≡◌, ◌==◌, ◌||◌, ◌⊎◌, inl, inr, not, ℕ, ◌+◌, ◌<◌, ◌↔◌, Bool, true, false, cond, List, [], ◌∷◌, ◌++◌, map, length, take, get_or, Some, Result, Ok, Err, IfOk, refl, ap, sym, ◌∙◌, subst, arith, or-false, or_assoc, list_any-append, or_cases, or_left, or_right, cases_Bool, not-true, not_from_false, length-append, Vec, list_any, Contains, lookup, unwrap_or, nat_cmp, is_at, BTreeSet, contains, IsStrictlyIncreasing, Sheet, content_of, content_reads, RangePair, Bag, IsReader, IsRead, is_same, count_of, same_is, is_one_of, in_cone, HasAll, HasReaders, GoesToReaders, IsLeast, IsConeOf, as_set, missing, AreNoted, filter_agree, one_truth, taken_more, has_key, has-from_Contains, Contains-from_has}
+use Rattle.wi_graph.proofs.Tests.{is_itself, clash}
 use Rattle.wi_graph.proofs.Walks.{same_cell, shrinks, Same}
 use Rattle.wi_graph.proofs.SetSteps.{in_last, in_front, in_back, Gains, gains, gains_stays, gains_one, gains_cases, taken}
 use Rattle.wi_graph.proofs.Cones.{cone_has, cone_closed, cone_least}
@@ -149,22 +149,6 @@ search_start readers cells none found empty work e f n = record {
 abbrev pub AreReaders : Bag → ℕ → List ℕ → Type 0
 AreReaders readers a next = (r : ℕ) → Contains next r ↔ IsReader readers a r
 
-pub listed_one : (xs : List ℕ) (c : ℕ) → Contains xs c → is_one_of xs c ≡ true
-listed_one xs c h = at xs h.0 h.1 h.2
-  where
-    at : (ys : List ℕ) (i : ℕ) → i < length ys → get_or ys i c ≡ c → is_one_of ys c ≡ true
-    at [] i l e = absurd (omega arith)
-    at (y ∷ ys) zero l e = or_left (y == c) _ (ap (λ (z : ℕ). z == c) e ∙ is_itself c)
-    at (y ∷ ys) (suc i) l e = or_right (y == c) _ (at ys i (omega arith) e)
-
-pub one_listed : (xs : List ℕ) (c : ℕ) → is_one_of xs c ≡ true → Contains xs c
-one_listed [] c h = cc
-one_listed (x ∷ xs) c h = at (or_cases (x == c) _ h) (one_listed xs c)
-  where
-    at : ((x == c) ≡ true) ⊎ (is_one_of xs c ≡ true) → (is_one_of xs c ≡ true → Contains xs c) → Contains (x ∷ xs) c
-    at (inl e) ih = (0, omega arith, same_cell c x e)
-    at (inr k) ih = let i = ih k in (suc i.0, omega (arith, i.1), i.2)
-
 step : (readers : Bag) (cells : List ℕ) (found more : BTreeSet ℕ) (work less after next : List ℕ) (cell : ℕ) → work ≡ less ++ cell ∷ [] → AreReaders readers cell next → AreNoted next found more less after →
     IsSearching readers cells found work → IsSearching readers cells more after
 step readers cells found more work less after next cell e r n s = record {
@@ -179,7 +163,7 @@ step readers cells found more work less after next cell e r n s = record {
 
     gone : (a d : ℕ) → IsReader readers a d → (is_one_of less a ≡ true) ⊎ (cell ≡ a) → (is_one_of after a ≡ true) ⊎ (contains nat_cmp more d ≡ true)
     gone a d i (inl k) = inl (n.stays a k)
-    gone a d i (inr k) = inr (n.found d ∙ or_right (contains nat_cmp found d) _ (listed_one next d ((r d).1 (subst (λ (x : ℕ). IsReader readers x d) (sym k) i))))
+    gone a d i (inr k) = inr (n.found d ∙ or_right (contains nat_cmp found d) _ (has-from_Contains next d ((r d).1 (subst (λ (x : ℕ). IsReader readers x d) (sym k) i))))
 
     known : (a d : ℕ) → IsReader readers a d → (is_one_of work a ≡ true) ⊎ (contains nat_cmp found d ≡ true) → (is_one_of after a ≡ true) ⊎ (contains nat_cmp more d ≡ true)
     known a d i (inl k) = gone a d i (in_last less cell a (ap (λ (xs : List ℕ). is_one_of xs a) (sym e) ∙ k))
@@ -198,7 +182,7 @@ step readers cells found more work less after next cell e r n s = record {
 
     first : (p : ℕ → Bool) → ((c : ℕ) → is_one_of cells c ≡ true → p c ≡ true) → GoesToReaders readers p → (c : ℕ) → (contains nat_cmp found c ≡ true) ⊎ (is_one_of next c ≡ true) → p c ≡ true
     first p h k c (inl m) = s.least p h k c m
-    first p h k c (inr m) = k cell c (s.least p h k cell here) ((r c).0 (one_listed next c m))
+    first p h k c (inr m) = k cell c (s.least p h k cell here) ((r c).0 (Contains-from_has next c m))
 
 pub search_step : (readers : Bag) (cells : List ℕ) (found more : BTreeSet ℕ) (work less after next noted : List ℕ) (cell : ℕ) → work ≡ less ++ cell ∷ [] → AreReaders readers cell next → noted ≡ next → AreNoted noted found more less after →
     IsSearching readers cells found work → IsSearching readers cells more after
@@ -231,7 +215,7 @@ pub search_ends : (readers : Bag) (found more : BTreeSet ℕ) (work less after n
     length (missing more (all_readers readers)) + length after < length (missing found (all_readers readers)) + length work
 search_ends readers found more work less after next noted cell e r k m =
     let n = subst (λ (xs : List ℕ). AreNoted xs found more less after) k m in
-    let f = n.fewer (all_readers readers) (λ c h. readers_there readers cell c ((r c).0 (one_listed next c h))) in
+    let f = n.fewer (all_readers readers) (λ c h. readers_there readers cell c ((r c).0 (Contains-from_has next c h))) in
     let t : length work ≡ length less + 1 = ap (λ (xs : List ℕ). length xs) e ∙ length-append less (cell ∷ []) in
     omega (arith, f, t)
 
@@ -240,7 +224,7 @@ search_ends readers found more work less after next noted cell e r k m =
 pub found_cone : (s : Sheet) (readers : Bag) (cells : List ℕ) (found : BTreeSet ℕ) → ((a r : ℕ) → (content_reads (content_of s r) a ≡ true) ↔ IsReader readers a r) → HasAll cells found → HasReaders readers found →
     IsLeast readers cells found →
     (c : ℕ) → is_one_of found.keys c ≡ in_cone s cells c
-found_cone s readers cells found i h k l c = sym (turned found.keys c) ∙ one_truth (contains nat_cmp found c) (in_cone s cells c)
+found_cone s readers cells found i h k l c = sym (has_key found.keys c) ∙ one_truth (contains nat_cmp found c) (in_cone s cells c)
     (l (in_cone s cells) (cone_has s cells) (λ a r m u. cone_closed s cells r a ((i a r).1 u) m) c)
     (cone_least s cells (contains nat_cmp found) h (λ d a r m. k a d m ((i a d).0 r)) c)
 
@@ -250,17 +234,14 @@ found_cone s readers cells found i h k l c = sym (turned found.keys c) ∙ one_t
 pub own_cone : (readers : Bag) (cells list : List ℕ) → IsStrictlyIncreasing cells → ((a r : ℕ) → is_one_of cells a ≡ true → IsReader readers a r → ⊥) → list ≡ cells → IsConeOf readers cells list
 own_cone readers cells list o n e = subst (IsConeOf readers cells) (sym e) (record {
   order = o;
-  all = λ c h. turned cells c ∙ h;
-  closed = λ a r h k. absurd (n a r (sym (turned cells a) ∙ h) k);
-  least = λ p h g c k. h c (sym (turned cells c) ∙ k);
+  all = λ c h. has_key cells c ∙ h;
+  closed = λ a r h k. absurd (n a r (sym (has_key cells a) ∙ h) k);
+  least = λ p h g c k. h c (sym (has_key cells c) ∙ k);
 })
 
 -- one cell that no cell reads
 pub lone_cone : (readers : Bag) (cell : ℕ) → (IsRead readers cell → ⊥) → IsConeOf readers (cell ∷ []) (cell ∷ [])
-lone_cone readers cell n = own_cone readers (cell ∷ []) (cell ∷ []) (λ i l. absurd (omega (arith, l))) (λ a r h k. n (r, subst (λ (y : ℕ). IsReader readers y r) (sym (same_cell a cell (is_it (cell == a) h))) k)) refl
-  where
-    is_it : (b : Bool) → (b || false) ≡ true → b ≡ true
-    is_it b w = sym (or-false b) ∙ w
+lone_cone readers cell n = own_cone readers (cell ∷ []) (cell ∷ []) (λ i l. absurd (omega (arith, l))) (λ a r h k. n (r, subst (λ (y : ℕ). IsReader readers y r) (sym (same_cell a cell (sym (or-false (cell == a)) ∙ h))) k)) refl
 
 -- a set that was found
 pub found_list : (readers : Bag) (cells list : List ℕ) (found : BTreeSet ℕ) → IsStrictlyIncreasing list → ((c : ℕ) → Contains list c ↔ (contains nat_cmp found c ≡ true)) → HasAll cells found → HasReaders readers found →
@@ -273,7 +254,7 @@ found_list readers cells list found o e a k l = record {
 }
   where
     same : (c : ℕ) → contains nat_cmp (as_set list) c ≡ contains nat_cmp found c
-    same c = turned list c ∙ one_truth (is_one_of list c) (contains nat_cmp found c) (λ h. (e c).0 (one_listed list c h)) (λ h. listed_one list c ((e c).1 h))
+    same c = has_key list c ∙ one_truth (is_one_of list c) (contains nat_cmp found c) (λ h. (e c).0 (Contains-from_has list c h)) (λ h. has-from_Contains list c ((e c).1 h))
 
 pub found_listed : {E : Type 0} (readers : Bag) (cells : List ℕ) (found : BTreeSet ℕ) (r : Result (Vec ℕ) E) → HasAll cells found → HasReaders readers found → IsLeast readers cells found →
     IfOk r (λ list. IsStrictlyIncreasing list.items) → IfOk r (λ list. (c : ℕ) → Contains list.items c ↔ (contains nat_cmp found c ≡ true)) → IfOk r (λ list. IsConeOf readers cells list.items)
@@ -285,9 +266,6 @@ pub none_more : (readers : Bag) (cells : List ℕ) (i x : ℕ) (read : Bool) →
     (a r : ℕ) → is_one_of (take (i + 1) cells) a ≡ true → IsReader readers a r → ⊥
 none_more readers cells i x read l e f z n a r h k = at (or_cases (is_one_of (take i cells) a) _ (sym (taken cells i x a l e) ∙ h))
   where
-    is_it : (b : Bool) → (b || false) ≡ true → b ≡ true
-    is_it b w = sym (or-false b) ∙ w
-
     at : (is_one_of (take i cells) a ≡ true) ⊎ (((x == a) || false) ≡ true) → ⊥
     at (inl w) = n a r w k
-    at (inr w) = clash read (f.1 (r, subst (λ (y : ℕ). IsReader readers y r) (sym (same_cell a x (is_it (x == a) w))) k)) z
+    at (inr w) = clash read (f.1 (r, subst (λ (y : ℕ). IsReader readers y r) (sym (same_cell a x (sym (or-false (x == a)) ∙ w))) k)) z

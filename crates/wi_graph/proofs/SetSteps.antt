@@ -1,6 +1,6 @@
 -- Cells that go into a set, and out of one.
-use Rattle.wi_graph.proofs.Words.{◌≡◌, ◌==◌, ◌&&◌, ◌||◌, ◌⊎◌, inl, inr, not, ℕ, zero, suc, ◌+◌, ◌<◌, Bool, true, false, cond, List, [], ◌∷◌, ◌++◌, length, take, get_or, refl, ap, sym, ◌∙◌, add-one, take-suc, or_cases, or_left, or_right, list_any-append, any-filter_same, list_any, nat_cmp, is_at, BTreeSet, contains, difference, IsUnchanged, is_one_of, less_these}
-use Rattle.wi_graph.proofs.Tests.{is_at-eq, is_itself, turn_test, at_same, at_itself, clash, turned}
+use Rattle.wi_graph.proofs.Words.{◌≡◌, ◌==◌, ◌&&◌, ◌||◌, ◌⊎◌, inl, inr, not, ℕ, ◌+◌, ◌<◌, Bool, true, false, cond, List, [], ◌∷◌, ◌++◌, length, take, get_or, refl, ap, sym, ◌∙◌, add-one, take-suc, or_cases, or_left, or_right, list_any-append, any-filter_same, list_any, nat_cmp, is_at, BTreeSet, contains, difference, IsUnchanged, is_one_of, less_these, and-true, has_taken, has_key}
+use Rattle.wi_graph.proofs.Tests.{is_at-eq, is_itself, turn_test, at_same, at_itself, clash}
 use Rattle.wi_graph.proofs.Walks.{same_cell}
 
 -- ---- lists
@@ -26,7 +26,7 @@ in_back xs ys a h = list_any-append (λ (y : ℕ). y == a) xs ys ∙ or_right (i
 pub in_difference : (set others : BTreeSet ℕ) (c : ℕ) → is_one_of (difference nat_cmp set others) c ≡ (not (contains nat_cmp others c) && contains nat_cmp set c)
 in_difference set others c =
     any-filter_same (λ x. x == c) (λ x. not (contains nat_cmp others x)) (not (contains nat_cmp others c)) (λ k h. ap (λ (y : ℕ). not (contains nat_cmp others y)) (same_cell c k h)) set.keys
-    ∙ ap (λ (b : Bool). not (contains nat_cmp others c) && b) (sym (turned set.keys c))
+    ∙ ap (λ (b : Bool). not (contains nat_cmp others c) && b) (sym (has_key set.keys c))
 
 -- ---- cells are put in
 
@@ -83,19 +83,6 @@ found_more cells i x old mid new l e g f c =
     by false false true = refl
     by false false false = refl
 
-pub taken_one : (cells : List ℕ) (i c : ℕ) → is_one_of (take i cells) c ≡ true → is_one_of cells c ≡ true
-taken_one [] i c h = at i h
-  where
-    at : (j : ℕ) → is_one_of (take j []) c ≡ true → is_one_of [] c ≡ true
-    at zero k = k
-    at (suc j) k = k
-taken_one (x ∷ xs) zero c h = cc
-taken_one (x ∷ xs) (suc i) c h = at (or_cases (x == c) _ h) (taken_one xs i c)
-  where
-    at : ((x == c) ≡ true) ⊎ (is_one_of (take i xs) c ≡ true) → (is_one_of (take i xs) c ≡ true → is_one_of xs c ≡ true) → ((x == c) || is_one_of xs c) ≡ true
-    at (inl k) ih = or_left (x == c) _ k
-    at (inr k) ih = or_right (x == c) _ (ih k)
-
 pub insert_stays : (cells : List ℕ) (i : ℕ) (first old : BTreeSet ℕ) → ((c : ℕ) → contains nat_cmp old c ≡ (contains nat_cmp first c || is_one_of (take i cells) c)) → (c : ℕ) → contains nat_cmp first c ≡ true → contains nat_cmp old c ≡ true
 insert_stays cells i first old h c k = h c ∙ or_left (contains nat_cmp first c) _ k
 
@@ -104,7 +91,7 @@ insert_only cells i first old h c k = at (or_cases (contains nat_cmp first c) _ 
   where
     at : (contains nat_cmp first c ≡ true) ⊎ (is_one_of (take i cells) c ≡ true) → (contains nat_cmp first c || is_one_of cells c) ≡ true
     at (inl m) = or_left (contains nat_cmp first c) _ m
-    at (inr m) = or_right (contains nat_cmp first c) _ (taken_one cells i c m)
+    at (inr m) = or_right (contains nat_cmp first c) _ (has_taken cells i c m)
 
 pub unchanged_test : (old new : BTreeSet ℕ) → IsUnchanged old new → (f : ℕ → Bool) → ((c : ℕ) → contains nat_cmp old c ≡ f c) → (c : ℕ) → contains nat_cmp new c ≡ f c
 unchanged_test old new e f h c = ap (λ (ks : List ℕ). list_any (is_at (nat_cmp c)) ks) e ∙ h c
@@ -150,11 +137,7 @@ away_step cells i x first old new l e u h c =
     by false false y = refl
 
 pub away_start : (first : BTreeSet ℕ) (c : ℕ) → contains nat_cmp first c ≡ less_these first [] c
-away_start first c = at (contains nat_cmp first c)
-  where
-    at : (b : Bool) → b ≡ (b && true)
-    at true = refl
-    at false = refl
+away_start first c = sym (and-true (contains nat_cmp first c))
 
 -- ---- cells that are new in a set
 

@@ -1,7 +1,7 @@
 -- Steps to the cells of a cone that are circular after an edit.
-use Rattle.wi_graph.proofs.Words.{◌≡◌, ◌==◌, ◌+◌, ◌<◌, ℕ, Bool, true, false, ◌&&◌, ◌||◌, cond, not, List, [], filter, take, get_or, length, Option, Some, refl, ap, sym, ◌∙◌, and_parts, and_from, not-true, any-filter_same, list_any, keys_of, nat_cmp, Vec, SmallVec, BTreeMap, is_at, BTreeSet, contains, difference, Area, is_within, IsOrdered, Sheet, content_of, content_reads, Bag, circular, is_one_of, in_cone, AreEdgesOf, areas_in, Turns, areas_then, ReadsStay, IsEditCone, went_from, Rooms, Coming, AreInOrder, brought_to, put_over, items_of, room_at, room_over, edges_in, areas_of, HasPairs, AreCircles, IsGraph, as_set, IsConeOf, items_there, reads_in, EachReadsOne, AreStripped, IsWithin, reads_outside, turned_by, AreTurns, SettlesCone, Ascends-from_order}
+use Rattle.wi_graph.proofs.Words.{◌≡◌, ◌==◌, ◌+◌, ◌<◌, ℕ, Bool, true, false, ◌&&◌, ◌||◌, cond, not, List, [], filter, take, get_or, length, Option, Some, refl, ap, sym, ◌∙◌, and_parts, and_from, not-true, any-filter_same, list_any, keys_of, nat_cmp, Vec, SmallVec, BTreeMap, is_at, BTreeSet, contains, difference, Area, is_within, IsOrdered, Sheet, content_of, content_reads, Bag, circular, is_one_of, in_cone, AreEdgesOf, areas_in, Turns, areas_then, ReadsStay, IsEditCone, went_from, Rooms, Coming, AreInOrder, brought_to, put_over, items_of, room_at, room_over, edges_in, areas_of, HasPairs, AreCircles, IsGraph, as_set, IsConeOf, items_there, reads_in, EachReadsOne, AreStripped, IsWithin, reads_outside, turned_by, AreTurns, SettlesCone, Ascends-from_order, has_key}
 use Rattle.std.specs.BTreeMap.{get}
-use Rattle.wi_graph.proofs.Tests.{is_at-eq, clash, turned}
+use Rattle.wi_graph.proofs.Tests.{is_at-eq, clash}
 use Rattle.wi_graph.proofs.Walks.{same_cell}
 use Rattle.wi_graph.proofs.SetSteps.{in_difference, taken}
 use Rattle.wi_graph.proofs.SearchSteps.{found_cone}
@@ -52,7 +52,7 @@ settles rooms next circles cells held all rest list outer reads e g o h a w st l
     ∙ ap (λ (b : Bool). cond b (contains nat_cmp rest c) (circular s c)) (sym (cone c)) ∙ ap (λ (b : Bool). cond (contains nat_cmp cells c) (contains nat_cmp rest c) b) (sym (circ c))
   where
     in_list : (d : ℕ) → contains nat_cmp cells d ≡ is_one_of list d
-    in_list d = turned cells.keys d ∙ ap (λ (ys : List ℕ). is_one_of ys d) (sym e)
+    in_list d = has_key cells.keys d ∙ ap (λ (ys : List ℕ). is_one_of ys d) (sym e)
 
     in_cells : (d : ℕ) → contains nat_cmp all d ≡ true → contains nat_cmp cells d ≡ true
     in_cells d k = in_list d ∙ sym (a d) ∙ k
@@ -67,16 +67,16 @@ settles rooms next circles cells held all rest list outer reads e g o h a w st l
     holds d i k =
         let p = and_parts (reads_outside reads circles cells d) _ (sym (held_test reads circles cells outer held o h d) ∙ k) in
         let x = held_finds circles cells (items_there (get nat_cmp reads d)) p.0 in
-        (x.0, sym (as_read d (cone d ∙ i) x.0) ∙ x.2, sym (cone x.0) ∙ x.3, sym (circ x.0) ∙ turned circles.keys x.0 ∙ x.1)
+        (x.0, sym (as_read d (cone d ∙ i) x.0) ∙ x.2, sym (cone x.0) ∙ x.3, sym (circ x.0) ∙ has_key circles.keys x.0 ∙ x.1)
 
     frees : (d : ℕ) → in_cone s xs d ≡ true → contains nat_cmp held d ≡ false → (f : ℕ) → content_reads (content_of t d) f ≡ true → in_cone s xs f ≡ false → (b : Bool) → contains nat_cmp circles f ≡ b → circular s f ≡ false
     frees d i k f r n true m =
-        let y = finds_held circles cells (items_there (get nat_cmp reads d)) f (sym (turned circles.keys f) ∙ m) (as_read d (cone d ∙ i) f ∙ r) (cone f ∙ n) in
+        let y = finds_held circles cells (items_there (get nat_cmp reads d)) f (sym (has_key circles.keys f) ∙ m) (as_read d (cone d ∙ i) f ∙ r) (cone f ∙ n) in
         clash (contains nat_cmp held d) (held_test reads circles cells outer held o h d ∙ and_from (reads_outside reads circles cells d) _ y (cone d ∙ i)) k
     frees d i k f r n false m = sym (circ f) ∙ m
 
 pub rest_within : (cells all rest : BTreeSet ℕ) (list : List ℕ) → list ≡ cells.keys → ((c : ℕ) → contains nat_cmp all c ≡ is_one_of list c) → IsWithin rest all → IsWithin rest cells
-rest_within cells all rest list e a w c k = turned cells.keys c ∙ ap (λ (ys : List ℕ). is_one_of ys c) (sym e) ∙ sym (a c) ∙ w c k
+rest_within cells all rest list e a w c k = has_key cells.keys c ∙ ap (λ (ys : List ℕ). is_one_of ys c) (sym e) ∙ sym (a c) ∙ w c k
 
 -- ---- the turns
 
@@ -84,7 +84,7 @@ went_is : (circles cells rest : BTreeSet ℕ) (c : ℕ) → is_one_of (went_from
 went_is circles cells rest c =
     any-filter_same (λ x. x == c) (λ x. contains nat_cmp circles x && not (contains nat_cmp rest x)) (contains nat_cmp circles c && not (contains nat_cmp rest c))
     (λ k h. ap (λ (y : ℕ). contains nat_cmp circles y && not (contains nat_cmp rest y)) (same_cell c k h)) cells.keys
-    ∙ ap (λ (b : Bool). (contains nat_cmp circles c && not (contains nat_cmp rest c)) && b) (sym (turned cells.keys c))
+    ∙ ap (λ (b : Bool). (contains nat_cmp circles c && not (contains nat_cmp rest c)) && b) (sym (has_key cells.keys c))
 
 abbrev pub AreOf : BTreeSet ℕ → BTreeSet ℕ → BTreeSet ℕ → Turns → Type 0
 AreOf circles cells rest turns = (turns.came.items ≡ difference nat_cmp rest circles) × (turns.went.items ≡ went_from circles cells rest)

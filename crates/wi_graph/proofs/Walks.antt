@@ -10,7 +10,7 @@ pub found : (p : ℕ → Bool) (xs : List ℕ) (a : ℕ) → is_one_of xs a ≡ 
 found p [] a m h = m
 found p (x ∷ xs) a m h = at (x == a) refl m (found p xs a)
   where
-    at : (b : Bool) → (x == a) ≡ b → (b || list_any (λ y. y == a) xs) ≡ true → (is_one_of xs a ≡ true → p a ≡ true → list_any p xs ≡ true) → (p x || list_any p xs) ≡ true
+    at : (b : Bool) → (x == a) ≡ b → (b || is_one_of xs a) ≡ true → (is_one_of xs a ≡ true → p a ≡ true → list_any p xs ≡ true) → (p x || list_any p xs) ≡ true
     at true e m ih = ap (λ (b : Bool). b || list_any p xs) (ap p (same_cell a x e) ∙ h)
     at false e m ih = either (p x) (ih m h)
       where
@@ -99,11 +99,11 @@ shrinks p q le (x ∷ xs) = at (p x) (q x) refl refl (shrinks p q le xs)
   where
     at : (b d : Bool) → p x ≡ b → q x ≡ d → (length (filter q xs) < length (filter p xs)) ⊎ Same p q xs →
         (length (cond d (x ∷ filter q xs) (filter q xs)) < length (cond b (x ∷ filter p xs) (filter p xs)))
-        ⊎ ((length (cond d (x ∷ filter q xs) (filter q xs)) ≡ length (cond b (x ∷ filter p xs) (filter p xs))) × ((a : ℕ) → ((x == a) || list_any (λ y. y == a) xs) ≡ true → p a ≡ true → q a ≡ true))
+        ⊎ ((length (cond d (x ∷ filter q xs) (filter q xs)) ≡ length (cond b (x ∷ filter p xs) (filter p xs))) × ((a : ℕ) → ((x == a) || is_one_of xs a) ≡ true → p a ≡ true → q a ≡ true))
     at true true e f (inl l) = inl (omega arith)
     at true true e f (inr k) = inr (omega (arith, k.0), λ a m h. here a m h (q a) refl)
       where
-        here : (a : ℕ) → ((x == a) || list_any (λ y. y == a) xs) ≡ true → p a ≡ true → (b : Bool) → q a ≡ b → b ≡ true
+        here : (a : ℕ) → ((x == a) || is_one_of xs a) ≡ true → p a ≡ true → (b : Bool) → q a ≡ b → b ≡ true
         here a m h true g = refl
         here a m h false g = absurd (no (or_cases (x == a) _ m))
           where
@@ -197,15 +197,15 @@ layer_read s =
 pub circular_walks : (s : Sheet) (c : ℕ) → circular s c ≡ true → (n : ℕ) → has_walk n s c ≡ true
 unfolding circular
 circular_walks s c h n =
-    let f = Any-from_list_any (λ cs. list_any (λ d. d == c) cs && all_read s cs) (sublists (cells_with_formula s)) h in
-    let x = and_parts (list_any (λ d. d == c) f.1) (all_read s f.1) f.4 in
+    let f = Any-from_list_any (λ cs. is_one_of cs c && all_read s cs) (sublists (cells_with_formula s)) h in
+    let x = and_parts (is_one_of f.1 c) (all_read s f.1) f.4 in
     all_walk s f.1 x.1 n c x.0
 
 long_walk : (s : Sheet) (c : ℕ) → has_walk (length (cells_with_formula s)) s c ≡ true → circular s c ≡ true
 unfolding circular
 long_walk s c h =
     let n = length (cells_with_formula s) in
-    filter_passes (λ cs. list_any (λ d. d == c) cs && all_read s cs) (has_walk n s) (cells_with_formula s) (and_from _ _ (in_layer n s c ∙ h) (layer_read s))
+    filter_passes (λ cs. is_one_of cs c && all_read s cs) (has_walk n s) (cells_with_formula s) (and_from _ _ (in_layer n s c ∙ h) (layer_read s))
 
 -- a cell is circular exactly where as many steps lead from it as there are formulas
 pub circular_is : (s : Sheet) (c : ℕ) → circular s c ≡ has_walk (length (cells_with_formula s)) s c
@@ -216,5 +216,5 @@ pub walks_circular : (s : Sheet) (c : ℕ) → ((n : ℕ) → has_walk n s c ≡
 walks_circular s c h = long_walk s c (h (length (cells_with_formula s)))
 
 -- what a plain search for a cycle answers
-pub circular_layer : (s : Sheet) (a : ℕ) → list_any (λ x. x == a) (layer (length (cells_with_formula s)) s) ≡ circular s a
+pub circular_layer : (s : Sheet) (a : ℕ) → is_one_of (layer (length (cells_with_formula s)) s) a ≡ circular s a
 circular_layer s a = in_layer (length (cells_with_formula s)) s a ∙ sym (circular_is s a)

@@ -7,7 +7,7 @@ ghost use Rattle.wi_tiles.specs.Entries.{IsOrdered};
 ghost use Rattle.wi_graph.specs.Inner.Rooms.{items_of, areas_of, room_at};
 ghost use Rattle.wi_graph.specs.Inner.Below.{HasAreas, HasRest, has_seen, IsSearchingBelow, IsBelow};
 
-use crate::rooms::{Rectangles, Rooms};
+use crate::rooms::{Rectangles, Rooms, rectangles_in};
 use crate::within::place_after;
 use std::alloc::{AllocError, Global};
 use wi_tiles::CellMap;
@@ -145,10 +145,7 @@ fn push_room(
     ensures { IfOk result (λ clear. IsTrue clear
         → HasAreas cell (areas_of (items_of room.now)) ahead.old.items ahead.new.items) }
 {
-    match room {
-        Some(areas) => push_areas(areas, cell, ahead),
-        None => Ok(true),
-    }
+    push_areas(rectangles_in(room), cell, ahead)
 }
 
 /// The same of some rectangles.

@@ -11,7 +11,7 @@ use crate::rooms::{Brought, Coming, Rectangles, Rooms, is_vacant};
 use std::alloc::{AllocError, Global};
 use std::collections::BTreeMap;
 use wi_parser::{Content, NewContent};
-use wi_values::{Address, Rect};
+use wi_values::Address;
 
 /// What an edit brings, by its cells.
 type Sorted = BTreeMap<Address, Option<Rectangles>>;

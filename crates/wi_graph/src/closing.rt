@@ -16,7 +16,7 @@ ghost use Rattle.wi_graph.specs.Inner.Turning.{reads_cell, has_one, reads_one_of
 
 use crate::bounds::around;
 use crate::cell_set::CellSet;
-use crate::rooms::{Brought, Rectangles, Rooms};
+use crate::rooms::{Brought, Rectangles, Rooms, rectangles_in};
 use crate::within::{first_listed, next_within};
 use wi_values::{Address, Rect};
 
@@ -44,10 +44,7 @@ fn reads_cell(next: &[Brought], cell: Address) -> bool
 fn has_cell(room: &Option<Rectangles>, cell: Address) -> bool
     ensures { result ≡ is_in (areas_of (items_of room.now)) cell }
 {
-    match room {
-        Some(areas) => areas.iter().any(|area| area.contains(cell)),
-        None => false,
-    }
+    rectangles_in(room).iter().any(|area| area.contains(cell))
 }
 
 /// Whether the rectangles of a room have one of the cells.
@@ -56,10 +53,9 @@ fn reads_one(room: &Option<Rectangles>, cells: &[Address], bounds: Rect) -> bool
     requires within { AreWithin bounds (as_set cells.now) }
     ensures { result ≡ list_any (has_one (as_set cells.now)) (areas_of (items_of room.now)) }
 {
-    match room {
-        Some(areas) => areas.iter().any(|area| has_one(*area, cells, bounds)),
-        None => false,
-    }
+    rectangles_in(room)
+        .iter()
+        .any(|area| has_one(*area, cells, bounds))
 }
 
 /// Whether a rectangle has one of the cells.
@@ -95,10 +91,9 @@ fn is_met(cell: Address, room: &Option<Rectangles>, circles: &CellSet) -> bool
 fn reads_circle(room: &Option<Rectangles>, circles: &CellSet) -> bool
     ensures { result ≡ list_any (has_one circles.now) (areas_of (items_of room.now)) }
 {
-    match room {
-        Some(areas) => areas.iter().any(|area| has_circle(*area, circles)),
-        None => false,
-    }
+    rectangles_in(room)
+        .iter()
+        .any(|area| has_circle(*area, circles))
 }
 
 /// Whether a rectangle has a circular cell.
@@ -135,10 +130,9 @@ fn is_apart(rooms: &Rooms, circles: &CellSet, entry: &Brought) -> bool
 fn reads_room(rooms: &Rooms, cell: Address, room: &Option<Rectangles>) -> bool
     ensures { result ≡ list_any (has_room_in rooms.now cell) (areas_of (items_of room.now)) }
 {
-    match room {
-        Some(areas) => areas.iter().any(|area| has_room(rooms, cell, *area)),
-        None => false,
-    }
+    rectangles_in(room)
+        .iter()
+        .any(|area| has_room(rooms, cell, *area))
 }
 
 /// Whether a rectangle has a cell, or one that has a room.

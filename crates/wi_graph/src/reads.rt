@@ -7,7 +7,7 @@ ghost use Rattle.wi_values.specs.Address.{is_one_of};
 ghost use Rattle.wi_graph.specs.Inner.Rooms.{room_at, room_over, areas_of, items_of, AreInOrder};
 ghost use Rattle.wi_graph.specs.Inner.Stripping.{items_there};
 
-use crate::rooms::{Brought, Rectangles, Rooms};
+use crate::rooms::{Brought, Rectangles, Rooms, rectangles_in};
 use crate::stripping::Areas;
 use std::alloc::{AllocError, Global};
 use std::collections::BTreeMap;
@@ -59,8 +59,5 @@ fn areas_before(alloc: Global, rooms: &Rooms, cell: Address) -> Result<Vec<Rect>
 fn copy_of(alloc: Global, room: &Option<Rectangles>) -> Result<Vec<Rect>, AllocError>
     ensures { IfOk result (λ v. v.items ≡ areas_of (items_of room.now)) }
 {
-    match room {
-        Some(areas) => areas.iter().copied().collect(alloc),
-        None => Ok(Vec::new(alloc)),
-    }
+    rectangles_in(room).iter().copied().collect(alloc)
 }

@@ -26,6 +26,16 @@ pub(crate) type Brought = (Address, Option<Rectangles>);
 /// What an edit brings, in row-major order of its cells.
 pub(crate) type Coming = SmallVec<Brought, 1>;
 
+/// The rectangles of a room; where there is no formula, none.
+pub(crate) fn rectangles_in(room: &Option<Rectangles>) -> &[Rect]
+    ensures { result.now ≡ areas_of (items_of room.now) }
+{
+    match room {
+        Some(areas) => areas,
+        None => &[],
+    }
+}
+
 /// Takes what is next: it goes into the rooms, and the pairs of what stood there leave the index.
 pub(crate) fn take_over(rooms: &mut Rooms, readers: &mut RangeIndex, next: &mut Coming)
     requires ordered { IsOrdered nat_cmp rooms.old }
@@ -118,9 +128,7 @@ pub(crate) fn remove_room(readers: &mut RangeIndex, cell: Address, room: &Option
     ensures { (p : RangePair) → count_of readers.new p
         ≡ count_of readers.old p - times cell (areas_of (items_of room.now)) p }
 {
-    if let Some(areas) = room {
-        remove_pairs(readers, cell, areas);
-    }
+    remove_pairs(readers, cell, rectangles_in(room));
 }
 
 /// Takes the pairs of some rectangles and a cell out of the index.

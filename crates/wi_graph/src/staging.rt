@@ -8,7 +8,7 @@ ghost use Rattle.wi_ranges.specs.Bag.{count_of};
 ghost use Rattle.wi_graph.specs.Inner.Rooms.{items_of, room_at, areas_of, times, AreInOrder, HasRooms, HasPairs, HasBoth};
 ghost use Rattle.wi_graph.specs.Inner.Staging.{HasThese};
 
-use crate::rooms::{Brought, Rectangles, Rooms, release, remove_pairs, remove_room};
+use crate::rooms::{Brought, Rectangles, Rooms, rectangles_in, release, remove_pairs, remove_room};
 use std::alloc::AllocError;
 use wi_ranges::RangeIndex;
 use wi_values::{Address, Rect};
@@ -106,10 +106,7 @@ fn add_room(
         ≡ count_of readers.old p + times cell (areas_of (items_of room.now)) p) }
     ensures err { OnErr result ((p : RangePair) → count_of readers.new p ≡ count_of readers.old p) }
 {
-    match room {
-        Some(areas) => add_pairs(readers, cell, areas),
-        None => Ok(()),
-    }
+    add_pairs(readers, cell, rectangles_in(room))
 }
 
 /// Puts the pairs of some rectangles and a cell into the index. On an error the index has those that it had.

@@ -36,5 +36,5 @@ abbrev pub areas_from : ℕ → ℕ → List (List (List ℕ)) → List Area
 areas_from row column records = filter_map (λ r. area_of_record r.0 column r.1) (enumerate_from row records)
 
 -- the rectangles of a text's records, the first from the cell `at` on
-abbrev pub areas_at : ℕ → List ℕ → List Area
-areas_at at text = areas_from (row_of at) (column_of at) (recs text)
+abbrev pub record_areas_at : ℕ → List ℕ → List Area
+record_areas_at at text = areas_from (row_of at) (column_of at) (recs text)

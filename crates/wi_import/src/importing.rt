@@ -1,7 +1,7 @@
 //! An import of CSV text.
 
 ghost use Rattle.std.specs.Prelude.{◌≡◌, ◌≢◌, IfOk, IfErr};
-ghost use Rattle.wi_import.specs.Fields.{fields_at, areas_at};
+ghost use Rattle.wi_import.specs.Fields.{fields_at, record_areas_at};
 ghost use Rattle.wi_import.specs.Imports.{AreChanges, IsFault};
 ghost use Rattle.wi_import.specs.declared.fault.ImportFault.TheVariants.{Memory};
 
@@ -20,7 +20,7 @@ use wi_values::Address;
 /// isn't named. The work grows with the text.
 pub fn import(alloc: Global, at: Address, text: &[u8]) -> Result<Import, ImportFault>
     ensures changes { IfOk result (λ i. AreChanges (fields_at at text.now) i.changes.items) }
-    ensures named { IfOk result (λ i. i.named.items ≡ areas_at at text.now) }
+    ensures named { IfOk result (λ i. i.named.items ≡ record_areas_at at text.now) }
     ensures fault { IfErr result (λ fault. fault ≢ Memory → IsFault (fields_at at text.now) fault) }
 {
     let records = records(alloc, text)?;

@@ -1,5 +1,5 @@
 -- A token stays one where what follows doesn't go on with it.
-use Rattle.wi_lexer.proofs.Words.{◌≡◌, ℕ, ◌<◌, Bool, true, false, cond, ◌||◌, ◌==◌, List, [], ◌∷◌, ◌++◌, length, drop, refl, sym, ap, ◌∙◌, subst, arith, slice_index, nat_tests, list_all, prefix_len, is_ascii_digit, and_parts, not-true, WritesDigits, plain, point, is_exponent_letter, IsWritten, quoted, Kind, Number, Reference, Rectangle, Name, Text, Mark, NotEqual, Less, Greater, is_blank, IsRun, one_longer, decimals_len, decimal_len, signed_len, exponent_len, number_len, Cell, IsCell, cell_text, IsReference, one_cell, IsRectangle, two_cells, IsName, is_name_start, is_name_part, IsText, of_content, quoted_len, text_len, mark_text, two_byte_mark, one_byte_mark, mark_at, IsToken, after_blanks, token_at, then_tokens, tokens_ahead, tokens, ends}
+use Rattle.wi_lexer.proofs.Words.{◌≡◌, ℕ, ◌<◌, Bool, true, false, cond, ◌||◌, ◌==◌, List, [], ◌∷◌, ◌++◌, length, drop, refl, sym, ap, ◌∙◌, subst, arith, slice_index, nat_tests, list_all, prefix_len, is_ascii_digit, and_parts, not-true, WritesDigits, plain, point, is_exponent_letter, IsDecimalText, quoted, Kind, Number, Reference, Rectangle, Name, Text, Mark, NotEqual, Less, Greater, is_blank, IsRunOf, one_longer, decimals_len, decimal_len, signed_len, exponent_len, number_len, WrittenCell, IsCell, cell_text, IsReference, one_cell, IsRectangle, two_cells, IsName, is_name_start, is_name_part, IsText, of_content, quoted_len, text_len, mark_text, two_byte_mark, one_byte_mark, mark_at, IsToken, after_blanks, token_at, then_tokens, tokens_ahead, tokens, ends}
 use Rattle.wi_lexer.specs.declared.token.Mark as mark
 use Rattle.wi_lexer.proofs.RunLemmas.{run_stops, digits_all, digits_run}
 use Rattle.wi_lexer.proofs.DecimalLemmas.{decimal_some, no_point}
@@ -18,7 +18,7 @@ use Rattle.wi_lexer.proofs.CallerLemmas.{tokens_are, found_ahead}
 abbrev pub is_number_start : ℕ → Bool
 is_number_start b = is_ascii_digit b || b == 46
 
-run_start : (class : ℕ → Bool) (text : List ℕ) → IsRun class text → class (slice_index text 0) ≡ true
+run_start : (class : ℕ → Bool) (text : List ℕ) → IsRunOf class text → class (slice_index text 0) ≡ true
 run_start class [] run = absurd (omega (arith, run.some))
 run_start class (b ∷ text) run = (and_parts (class b) (list_all class text) run.all).0
 
@@ -35,7 +35,7 @@ decimal_start text _ _ (plain ds h) = digit_starts (slice_index ds 0) (run_start
 decimal_start text _ _ (point [] es h i) = refl
 decimal_start text _ _ (point (d ∷ ds) es h i) = digit_starts d (and_parts (is_ascii_digit d) (list_all is_ascii_digit ds) (digits_all (d ∷ ds) h)).0
 
-pub number_start : (text : List ℕ) → IsWritten text → is_number_start (slice_index text 0) ≡ true
+pub number_start : (text : List ℕ) → IsDecimalText text → is_number_start (slice_index text 0) ≡ true
 number_start = number_cases (λ text. is_number_start (slice_index text 0) ≡ true) record {
   alone = decimal_start;
   scaled = λ text ds es d exponent k e letter. ap is_number_start (first_of_both text exponent (decimal_some text ds es d)) ∙ decimal_start text ds es d;
@@ -97,7 +97,7 @@ ends_number (b ∷ rest) h = record {
   exponent = ap (λ t. cond t (one_longer (signed_len rest)) 0) (no_letter_on b h);
 }
 
-number_whole : (text rest : List ℕ) → IsWritten text → ends Number rest ≡ true → FoundWhole Number text rest
+number_whole : (text rest : List ℕ) → IsDecimalText text → ends Number rest ≡ true → FoundWhole Number text rest
 number_whole text rest t h =
     let exact = number_exact text t rest (ends_number rest h) in
     number_found (text ++ rest) (omega (arith, exact, number_some text t)) ∙ ap (found_token Number) exact
@@ -107,7 +107,7 @@ reference_whole text rest (one_cell c h) =
     let exact = reference_complete c h rest in
     reference_found (46 ∷ (cell_text c ++ 93 ∷ []) ++ rest) (omega (arith, exact)) ∙ ap (found_token Reference) exact
 
-beside_whole : (c d : Cell) (rest : List ℕ) → IsCell c → IsCell d → FoundWhole Rectangle (bracketed (beside c d)) rest
+beside_whole : (c d : WrittenCell) (rest : List ℕ) → IsCell c → IsCell d → FoundWhole Rectangle (bracketed (beside c d)) rest
 beside_whole c d rest h k =
     let exact = rectangle_complete c d h k rest in
     rectangle_found (46 ∷ (beside c d ++ 93 ∷ []) ++ rest) (no_reference_len c d h k rest) (omega (arith, exact)) ∙ ap (found_token Rectangle) exact

@@ -2,6 +2,7 @@ pub mod RunLemmas
 pub mod DecimalLemmas
 pub mod NumberLemmas
 pub mod CellLemmas
+pub mod FrontLemmas
 pub mod BracketLemmas
 pub mod ReferenceLemmas
 pub mod RectangleLemmas

@@ -1,5 +1,5 @@
 -- The number found at the front is one, and no number there is longer.
-use Rattle.wi_lexer.proofs.Words.{◌≡◌, ℕ, suc, ◌+◌, ◌<◌, ◌≤◌, ℤ, pos, Bool, true, false, cond, ◌||◌, ◌==◌, ◌⊎◌, inl, inr, List, [], ◌∷◌, ◌++◌, length, take, drop, refl, sym, ap, ◌∙◌, subst, arith, append_assoc, append-nil, length-append, length-drop, nat_lt, eqb-true, ltb-true, ltb-false, lt-ltb, nat_tests, take-add, drop-append_seam, is_ascii_digit, IsNumeral, WritesDigits, is_exponent_letter, WritesExponent, none as no_exponent, unsigned, plus, minus, Writes, writes, IsWritten, letter_no_digit, letter_no_point, digits_len, one_longer, is_sign_byte, decimals_len, decimal_len, signed_len, exponent_len, number_len}
+use Rattle.wi_lexer.proofs.Words.{◌≡◌, ℕ, suc, ◌+◌, ◌<◌, ◌≤◌, ℤ, pos, Bool, true, false, cond, ◌||◌, ◌==◌, ◌⊎◌, inl, inr, List, [], ◌∷◌, ◌++◌, length, take, drop, refl, sym, ap, ◌∙◌, subst, arith, append_assoc, append-nil, length-append, length-drop, nat_lt, eqb-true, ltb-true, ltb-false, lt-ltb, nat_tests, take-add, drop-append_seam, is_ascii_digit, IsNumeral, WritesDigits, is_exponent_letter, WritesExponent, none as no_exponent, unsigned, plus, minus, WritesDecimal, writes, IsDecimalText, letter_no_digit, letter_no_point, digits_len, one_longer, is_sign_byte, decimals_len, decimal_len, signed_len, exponent_len, number_len}
 use Rattle.wi_lexer.proofs.RunLemmas.{run_within, run_stops, run_more, digits_all, one_longer_some, one_longer_back, one_longer_within}
 use Rattle.wi_lexer.proofs.DecimalLemmas.{digits_front, SomeDigits, decimal_some, decimal_more, decimal_within, decimal_sound, no_point, decimal_exact}
 
@@ -131,17 +131,17 @@ with_exponent : (P : List ℕ → Type 0) → ByExponent P → (text ds es : Lis
 with_exponent P p text ds es d exponent k e (inl empty) = subst P (sym (ap (λ x. text ++ x) empty ∙ append-nil text)) (p.alone text ds es d)
 with_exponent P p text ds es d exponent k e (inr letter) = p.scaled text ds es d exponent k e letter
 
-by_exponent : (P : List ℕ → Type 0) → ByExponent P → (text ds es : List ℕ) (k : ℤ) → Writes text ds es k → P text
+by_exponent : (P : List ℕ → Type 0) → ByExponent P → (text ds es : List ℕ) (k : ℤ) → WritesDecimal text ds es k → P text
 by_exponent P p text _ _ _ (writes front exponent ds es k d e) = with_exponent P p front ds es d exponent k e (has_letter exponent k e)
 
-pub number_cases : (P : List ℕ → Type 0) → ByExponent P → (text : List ℕ) → IsWritten text → P text
+pub number_cases : (P : List ℕ → Type 0) → ByExponent P → (text : List ℕ) → IsDecimalText text → P text
 number_cases P p text w = by_exponent P p text w.0 w.1 w.2 w.3
 
 -- digits alone are a number
-pub digits_alone : (text : List ℕ) → SomeDigits text → IsWritten text
-digits_alone text d = subst IsWritten (append-nil text) (d.0, d.1, pos 0, writes text [] d.0 d.1 (pos 0) d.2 no_exponent)
+pub digits_alone : (text : List ℕ) → SomeDigits text → IsDecimalText text
+digits_alone text d = subst IsDecimalText (append-nil text) (d.0, d.1, pos 0, writes text [] d.0 d.1 (pos 0) d.2 no_exponent)
 
-pub number_some : (text : List ℕ) → IsWritten text → 0 < length text
+pub number_some : (text : List ℕ) → IsDecimalText text → 0 < length text
 number_some = number_cases (λ text. 0 < length text) record {
   alone = decimal_some;
   scaled = λ text ds es d exponent k e letter. omega (arith, decimal_some text ds es d, length-append text exponent);
@@ -174,7 +174,7 @@ decimal_covered text ds es d rest =
     omega (arith, more, decimal_first (text ++ rest) (omega (arith, more, decimal_some text ds es d)))
 
 -- a number at the front is no longer than what is found there
-pub number_more : (text : List ℕ) → IsWritten text → (rest : List ℕ) → length text ≤ number_len (text ++ rest)
+pub number_more : (text : List ℕ) → IsDecimalText text → (rest : List ℕ) → length text ≤ number_len (text ++ rest)
 number_more = number_cases (λ text. (rest : List ℕ) → length text ≤ number_len (text ++ rest)) record {
   alone = decimal_covered;
   scaled = λ text ds es d exponent k e letter rest. omega (arith, scaled_len text ds es d exponent letter rest);
@@ -194,7 +194,7 @@ alone_exact text ds es d rest stops =
     omega (arith, first, exact, ap exponent_len after, stops.exponent)
 
 -- a number is found whole where nothing goes on with it
-pub number_exact : (text : List ℕ) → IsWritten text → (rest : List ℕ) → EndsNumber rest → number_len (text ++ rest) ≡ length text
+pub number_exact : (text : List ℕ) → IsDecimalText text → (rest : List ℕ) → EndsNumber rest → number_len (text ++ rest) ≡ length text
 number_exact = number_cases (λ text. (rest : List ℕ) → EndsNumber rest → number_len (text ++ rest) ≡ length text) record {
   alone = alone_exact;
   scaled = λ text ds es d exponent k e letter rest stops. omega (arith, scaled_len text ds es d exponent letter rest, stops.digits);
@@ -215,13 +215,13 @@ number_within bs =
     (λ some. omega (arith, decimal_within bs, exponent_within (drop (decimal_len bs) bs), length-drop (decimal_len bs) bs))
 
 -- a decimal and the exponent after it, if one is found
-decimal_then : (bs : List ℕ) → 0 < decimal_len bs → IsWritten (take (decimal_len bs + exponent_len (drop (decimal_len bs) bs)) bs)
+decimal_then : (bs : List ℕ) → 0 < decimal_len bs → IsDecimalText (take (decimal_len bs + exponent_len (drop (decimal_len bs) bs)) bs)
 decimal_then bs some =
     let n = decimal_len bs in
     let m = exponent_len (drop n bs) in
     let d = decimal_sound bs some in
     let e = exponent_sound (drop n bs) in
-    subst IsWritten (sym (take-add n m bs)) (d.0, d.1, e.0, writes (take n bs) (take m (drop n bs)) d.0 d.1 e.0 d.2 e.1)
+    subst IsDecimalText (sym (take-add n m bs)) (d.0, d.1, e.0, writes (take n bs) (take m (drop n bs)) d.0 d.1 e.0 d.2 e.1)
 
-pub number_sound : (bs : List ℕ) → 0 < number_len bs → IsWritten (take (number_len bs) bs)
-number_sound bs = number_by (λ n. 0 < n → IsWritten (take n bs)) bs (λ none some. absurd (omega (arith, some))) (λ some _. decimal_then bs some)
+pub number_sound : (bs : List ℕ) → 0 < number_len bs → IsDecimalText (take (number_len bs) bs)
+number_sound bs = number_by (λ n. 0 < n → IsDecimalText (take n bs)) bs (λ none some. absurd (omega (arith, some))) (λ some _. decimal_then bs some)

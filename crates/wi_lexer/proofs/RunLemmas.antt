@@ -1,5 +1,5 @@
 -- Runs of bytes of one class.
-use Rattle.wi_lexer.proofs.Words.{◌≡◌, ℕ, suc, ◌+◌, ◌<◌, ◌≤◌, Bool, true, false, cond, ◌⊎◌, inl, inr, List, [], ◌∷◌, ◌++◌, length, take, refl, sym, ap, ◌∙◌, subst, arith, nat_lt, cases_Bool, ltb-true, lt-ltb, and_parts, prefix_len, list_all, prefix_len-le-length, is_ascii_digit, AllDigits, IsNumeral, own, digits_same, IsRun, one_longer}
+use Rattle.wi_lexer.proofs.Words.{◌≡◌, ℕ, suc, ◌+◌, ◌<◌, ◌≤◌, Bool, true, false, cond, ◌⊎◌, inl, inr, List, [], ◌∷◌, ◌++◌, length, take, refl, sym, ap, ◌∙◌, subst, arith, nat_lt, cases_Bool, ltb-true, lt-ltb, and_parts, prefix_len, list_all, prefix_len-le-length, is_ascii_digit, AllDigits, IsNumeral, own, digits_same, IsRunOf, one_longer}
 
 pub run_within : (class : ℕ → Bool) (bs : List ℕ) → prefix_len class bs ≤ length bs
 run_within class bs = prefix_len-le-length class bs
@@ -48,7 +48,7 @@ all_wider class wider each (x ∷ xs) h =
 pub digits_all : (ds : List ℕ) → AllDigits 10 ds → list_all is_ascii_digit ds ≡ true
 digits_all ds h = sym (digits_same ds) ∙ own.from ds h
 
-pub digits_run : (ds : List ℕ) → IsNumeral 10 ds → IsRun is_ascii_digit ds
+pub digits_run : (ds : List ℕ) → IsNumeral 10 ds → IsRunOf is_ascii_digit ds
 digits_run ds h = record { some = h.0; all = digits_all ds h.1 }
 
 -- ---- a length and one byte before it

@@ -1,5 +1,5 @@
 -- What `token_at` finds is the longest token, and it finds one wherever one begins.
-use Rattle.wi_lexer.proofs.Words.{◌≡◌, ℕ, ◌<◌, ◌≤◌, Bool, true, false, cond, ◌==◌, List, [], ◌∷◌, ◌++◌, length, take, drop, Option, Some, None, refl, sym, ap, ◌∙◌, subst, arith, length-append, nat_lt, slice_index, option_or, ltb-true, lt-ltb, take-append-drop, length-take-le, same_Some, take-append_seam, IsWritten, quoted, Kind, Number, Reference, Rectangle, Name, Text, Mark, NotEqual, Less, LessOrEqual, Greater, GreaterOrEqual, decimals_len, decimal_len, number_len, IsReference, one_cell, reference_len, IsRectangle, two_cells, rectangle_len, Cell, IsCell, cell_text, IsName, is_name_start, name_len, IsText, of_content, text_len, mark_text, two_byte_mark, one_byte_mark, mark_at, IsToken, IsLongest, NoToken, of_length, mark_token, token_at}
+use Rattle.wi_lexer.proofs.Words.{◌≡◌, ℕ, ◌<◌, ◌≤◌, Bool, true, false, cond, ◌==◌, List, [], ◌∷◌, ◌++◌, length, take, drop, Option, Some, None, refl, sym, ap, ◌∙◌, subst, arith, length-append, nat_lt, slice_index, option_or, ltb-true, lt-ltb, take-append-drop, length-take-le, same_Some, take-append_seam, IsDecimalText, quoted, Kind, Number, Reference, Rectangle, Name, Text, Mark, NotEqual, Less, LessOrEqual, Greater, GreaterOrEqual, decimals_len, decimal_len, number_len, IsReference, one_cell, reference_len, IsRectangle, two_cells, rectangle_len, WrittenCell, IsCell, cell_text, IsName, is_name_start, name_len, IsText, of_content, text_len, mark_text, two_byte_mark, one_byte_mark, mark_at, IsToken, IsLongest, NoToken, of_length, mark_token, brackets_at, token_at}
 use Rattle.wi_lexer.specs.declared.token.Mark as mark
 use Rattle.wi_lexer.proofs.NumberLemmas.{number_some, number_more, number_within, number_sound}
 use Rattle.wi_lexer.proofs.BracketLemmas.{bracketed}
@@ -22,14 +22,11 @@ record IsCovered (j : Kind) (text bs : List ℕ) : Type 0 where
 abbrev from_name : List ℕ → Option (Kind × ℕ)
 from_name bs = option_or (of_length Name (name_len bs)) (of_length Text (text_len bs))
 
-abbrev from_rectangle : List ℕ → Option (Kind × ℕ)
-from_rectangle bs = option_or (of_length Rectangle (rectangle_len bs)) (from_name bs)
-
-abbrev from_reference : List ℕ → Option (Kind × ℕ)
-from_reference bs = option_or (of_length Reference (reference_len bs)) (from_rectangle bs)
+abbrev from_brackets : List ℕ → Option (Kind × ℕ)
+from_brackets bs = option_or (brackets_at bs) (from_name bs)
 
 abbrev from_mark : List ℕ → Option (Kind × ℕ)
-from_mark bs = option_or (mark_token (mark_at bs)) (from_reference bs)
+from_mark bs = option_or (mark_token (mark_at bs)) (from_brackets bs)
 
 last_found : (k : Kind) (n : ℕ) → 0 < n → of_length k n ≡ Some (k, n)
 last_found k n h = ap (λ t. cond t (Some (k, n)) None) (lt-ltb 0 n h)
@@ -48,28 +45,30 @@ number_passed : (bs : List ℕ) → number_len bs ≡ 0 → token_at bs ≡ from
 unfolding token_at
 number_passed bs h = length_passed Number (number_len bs) (from_mark bs) h
 
-mark_passed : (bs : List ℕ) → number_len bs ≡ 0 → mark_at bs ≡ None → token_at bs ≡ from_reference bs
-mark_passed bs h k = number_passed bs h ∙ ap (λ o. option_or (mark_token o) (from_reference bs)) k
+mark_passed : (bs : List ℕ) → number_len bs ≡ 0 → mark_at bs ≡ None → token_at bs ≡ from_brackets bs
+mark_passed bs h k = number_passed bs h ∙ ap (λ o. option_or (mark_token o) (from_brackets bs)) k
 
 -- a text that begins with `[` is no number and no mark
-bracket_passed : (bs : List ℕ) → token_at (91 ∷ bs) ≡ from_reference (91 ∷ bs)
+bracket_passed : (bs : List ℕ) → token_at (91 ∷ bs) ≡ from_brackets (91 ∷ bs)
 unfolding number_len decimal_len decimals_len mark_at two_byte_mark one_byte_mark
 bracket_passed bs = mark_passed (91 ∷ bs) refl refl
 
 pub reference_found : (bs : List ℕ) → 0 < reference_len (91 ∷ bs) → token_at (91 ∷ bs) ≡ Some (Reference, reference_len (91 ∷ bs))
-reference_found bs h = bracket_passed bs ∙ length_found Reference (reference_len (91 ∷ bs)) (from_rectangle (91 ∷ bs)) h
+reference_found bs h =
+    bracket_passed bs
+    ∙ ap (λ o. option_or o (from_name (91 ∷ bs))) (length_found Reference (reference_len (91 ∷ bs)) (of_length Rectangle (rectangle_len (91 ∷ bs))) h)
 
 pub rectangle_found : (bs : List ℕ) → reference_len (91 ∷ bs) ≡ 0 → 0 < rectangle_len (91 ∷ bs) → token_at (91 ∷ bs) ≡ Some (Rectangle, rectangle_len (91 ∷ bs))
 rectangle_found bs none h =
     bracket_passed bs
-    ∙ length_passed Reference (reference_len (91 ∷ bs)) (from_rectangle (91 ∷ bs)) none
-    ∙ length_found Rectangle (rectangle_len (91 ∷ bs)) (from_name (91 ∷ bs)) h
+    ∙ ap (λ o. option_or o (from_name (91 ∷ bs)))
+    (length_passed Reference (reference_len (91 ∷ bs)) (of_length Rectangle (rectangle_len (91 ∷ bs))) none ∙ last_found Rectangle (rectangle_len (91 ∷ bs)) h)
 
 -- no reference begins with another byte than `[`
-brackets_passed : (bs : List ℕ) → (slice_index bs 0 ≡ 91 → ⊥) → from_reference bs ≡ from_name bs
+brackets_passed : (bs : List ℕ) → (slice_index bs 0 ≡ 91 → ⊥) → from_brackets bs ≡ from_name bs
 brackets_passed bs other =
-    length_passed Reference (reference_len bs) (from_rectangle bs) (no_reference bs other)
-    ∙ length_passed Rectangle (rectangle_len bs) (from_name bs) (no_rectangle bs other)
+    ap (λ o. option_or o (from_name bs))
+    (length_passed Reference (reference_len bs) (of_length Rectangle (rectangle_len bs)) (no_reference bs other) ∙ ap (of_length Rectangle) (no_rectangle bs other))
 
 pub name_found : (b : ℕ) (bs : List ℕ) → is_name_start b ≡ true → 0 < name_len (b ∷ bs) → token_at (b ∷ bs) ≡ Some (Name, name_len (b ∷ bs))
 name_found b bs h some =
@@ -103,7 +102,7 @@ longer_mark m n rest found longer =
     record { kind = Mark n; len = length (mark_text n); found = found; longer = omega arith; same = λ e. absurd (omega arith) }
 
 pub mark_found : (bs : List ℕ) (m : mark.Mark) → number_len bs ≡ 0 → mark_at bs ≡ Some m → MarkFound m bs
-mark_found bs m none h = number_passed bs none ∙ ap (λ o. option_or (mark_token o) (from_reference bs)) h
+mark_found bs m none h = number_passed bs none ∙ ap (λ o. option_or (mark_token o) (from_brackets bs)) h
 
 covered_less : (rest : List ℕ) → CoveredMark Less rest
 unfolding number_len decimal_len decimals_len mark_at two_byte_mark one_byte_mark
@@ -151,7 +150,7 @@ token_some Name text t = name_some text t
 token_some Text text t = text_some text t
 token_some (Mark m) text t = subst (λ x. 0 < length x) (sym t) (mark_some m)
 
-covered_number : (text : List ℕ) → IsWritten text → (rest : List ℕ) → IsCovered Number text (text ++ rest)
+covered_number : (text : List ℕ) → IsDecimalText text → (rest : List ℕ) → IsCovered Number text (text ++ rest)
 covered_number text t rest =
     let more = number_more text t rest in
     record {
@@ -173,7 +172,7 @@ covered_reference text (one_cell c h) rest =
       same = λ _. refl;
     }
 
-covered_beside : (c d : Cell) → IsCell c → IsCell d → (rest : List ℕ) → IsCovered Rectangle (bracketed (beside c d)) (bracketed (beside c d) ++ rest)
+covered_beside : (c d : WrittenCell) → IsCell c → IsCell d → (rest : List ℕ) → IsCovered Rectangle (bracketed (beside c d)) (bracketed (beside c d) ++ rest)
 covered_beside c d h k rest =
     let whole = rectangle_complete c d h k rest in
     record {
@@ -267,15 +266,20 @@ mark_or k n bs later next h = go (mark_at bs) refl h
     go (Some m) e f = same_stands (Mark m) k (length (mark_text m)) n bs f (mark_stands m bs (mark_sound bs m e))
     go None e f = next f
 
+-- what is found first, or what later kinds find
+found_or : (k : Kind) (n : ℕ) (bs : List ℕ) (first later : Option (Kind × ℕ)) → (first ≡ found_token k n → Stands k n bs) → (later ≡ found_token k n → Stands k n bs) → option_or first later ≡ found_token k n → Stands k n bs
+found_or k n bs (Some t) later here next h = here h
+found_or k n bs None later here next h = next h
+
 found_stands : (bs : List ℕ) (k : Kind) (n : ℕ) → token_at bs ≡ Some (k, n) → Stands k n bs
 unfolding token_at
 found_stands bs k n =
     stands_or Number k (number_len bs) n bs (from_mark bs) number
-    (mark_or k n bs (from_reference bs)
-    (stands_or Reference k (reference_len bs) n bs (from_rectangle bs) reference
-    (stands_or Rectangle k (rectangle_len bs) n bs (from_name bs) rectangle
+    (mark_or k n bs (from_brackets bs)
+    (found_or k n bs (brackets_at bs) (from_name bs)
+    (stands_or Reference k (reference_len bs) n bs (of_length Rectangle (rectangle_len bs)) reference (last_stands Rectangle k (rectangle_len bs) n bs rectangle))
     (stands_or Name k (name_len bs) n bs (of_length Text (text_len bs)) name
-    (last_stands Text k (text_len bs) n bs text)))))
+    (last_stands Text k (text_len bs) n bs text))))
   where
     number : 0 < number_len bs → Stands Number (number_len bs) bs
     number h = record { within = number_within bs; token = number_sound bs h }

@@ -2,24 +2,24 @@
 use Rattle.std.specs.Prelude.{◌<◌, Bool, if◌then◌else◌, ◌++◌, slice_index, codes, []}
 use Rattle.std.specs.Char.{is_ascii_digit, is_ascii_alphabetic}
 use Rattle.std.specs.Str.{byte}
-use Rattle.wi_lexer.specs.Runs.{IsRun}
+use Rattle.wi_lexer.specs.Runs.{IsRunOf}
 use Rattle.wi_fraction.specs.Text.{Bytes}
 
 -- a cell as written
-pub record Cell : Type 0 where
+pub record WrittenCell : Type 0 where
   pub column_is_absolute : Bool
   pub letters : Bytes
   pub row_is_absolute : Bool
   pub digits : Bytes
 
 -- Some letters, and digits of which the first isn't 0.
-pub record IsCell (c : Cell) : Type 0 where
-  pub letters : IsRun is_ascii_alphabetic c.letters
-  pub digits : IsRun is_ascii_digit c.digits
+pub record IsCell (c : WrittenCell) : Type 0 where
+  pub letters : IsRunOf is_ascii_alphabetic c.letters
+  pub digits : IsRunOf is_ascii_digit c.digits
   pub first : byte "0" < slice_index c.digits 0
 
 abbrev pub dollar : Bool → Bytes
 dollar absolute = if absolute then codes "$" else []
 
-abbrev pub cell_text : Cell → Bytes
+abbrev pub cell_text : WrittenCell → Bytes
 cell_text c = dollar c.column_is_absolute ++ (c.letters ++ (dollar c.row_is_absolute ++ c.digits))

@@ -9,7 +9,7 @@ abbrev pub is_blank : ℕ → Bool
 is_blank b = b == byte " " || b == byte "\t" || b == byte "\r" || b == byte "\n"
 
 -- some bytes, each of the class
-pub record IsRun (class : ℕ → Bool) (text : Bytes) : Type 0 where
+pub record IsRunOf (class : ℕ → Bool) (text : Bytes) : Type 0 where
   pub some : 0 < length text
   pub all : list_all class text ≡ true
 

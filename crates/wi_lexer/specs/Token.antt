@@ -2,7 +2,7 @@
 use Rattle.std.specs.Prelude.{◌≡◌, ℕ, ◌≤◌, length, take, drop}
 use Rattle.wi_lexer.specs.declared.token.Kind.{Kind}
 use Rattle.wi_lexer.specs.declared.token.Kind.TheVariants.{Number, Reference, Rectangle, Name, Text, Mark}
-use Rattle.wi_fraction.specs.Written.{IsWritten}
+use Rattle.wi_fraction.specs.Written.{IsDecimalText}
 use Rattle.wi_lexer.specs.Runs.{blanks_len}
 use Rattle.wi_lexer.specs.Reference.{IsReference}
 use Rattle.wi_lexer.specs.Rectangle.{IsRectangle}
@@ -13,7 +13,7 @@ use Rattle.wi_fraction.specs.Text.{Bytes}
 
 -- the text is a token of this kind
 abbrev pub IsToken : Kind → Bytes → Type 0
-IsToken Number text = IsWritten text
+IsToken Number text = IsDecimalText text
 IsToken Reference text = IsReference text
 IsToken Rectangle text = IsRectangle text
 IsToken Name text = IsName text

@@ -1,11 +1,11 @@
 //! The cells that references name.
 
-ghost use Rattle.std.specs.Prelude.{◌≡◌, option_map};
+ghost use Rattle.std.specs.Prelude.{◌≡◌, ◌≤◌, length, option_map};
 ghost use Rattle.std.specs.List.{list_all};
 ghost use Rattle.std.specs.Char.{is_ascii_digit};
 ghost use Rattle.wi_lexer.specs.Inner.Cell as spec;
 
-use crate::runs::{byte, letters_len};
+use crate::runs::{byte, digits_len, letters_len};
 
 /// A cell as a formula writes it: the letters of its column, of either case, and the digits of its row.
 #[derive(Clone, Copy)]
@@ -54,6 +54,52 @@ pub(crate) fn cut(text: &[u8]) -> CellText<'_>
         row_is_absolute,
         digits,
     }
+}
+
+// How long a `$` at the front is.
+fn dollar_len(text: &[u8]) -> usize
+    ensures value { result ≡ spec.dollar_len text.now }
+    ensures within { result ≤ length text.now }
+{
+    if byte(text, 0) == b'$' { 1 } else { 0 }
+}
+
+#[tactic(auto, unfolding(crate::specs::Inner::Cell::column_len))]
+fn column_len(text: &[u8]) -> usize
+    ensures value { result ≡ spec.column_len text.now }
+    ensures within { result ≤ length text.now }
+{
+    let dollar = dollar_len(text);
+    let letters = letters_len(&text[dollar..]);
+    if letters > 0 { dollar + letters } else { 0 }
+}
+
+#[tactic(auto, unfolding(crate::specs::Inner::Cell::row_len))]
+fn row_len(text: &[u8]) -> usize
+    ensures value { result ≡ spec.row_len text.now }
+    ensures within { result ≤ length text.now }
+{
+    let dollar = dollar_len(text);
+    let row = &text[dollar..];
+    if byte(row, 0) <= b'0' {
+        return 0;
+    }
+    let digits = digits_len(row);
+    if digits > 0 { dollar + digits } else { 0 }
+}
+
+// The length of the cell at the front, or 0 where none stands there.
+#[tactic(auto, unfolding(crate::specs::Inner::Cell::cell_len))]
+pub(crate) fn cell_len(text: &[u8]) -> usize
+    ensures value { result ≡ spec.cell_len text.now }
+    ensures within { result ≤ length text.now }
+{
+    let column = column_len(text);
+    if column == 0 {
+        return 0;
+    }
+    let row = row_len(&text[column..]);
+    if row > 0 { column + row } else { 0 }
 }
 
 /// The parts of a cell, as `$A1`. None where the text is no cell.

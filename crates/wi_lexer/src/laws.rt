@@ -2,7 +2,7 @@
 
 ghost use Rattle.std.specs.Prelude.{◌≡◌, ◌↔◌, ℕ, true, List, [], ◌∷◌, ◌++◌, Some, None};
 ghost use Rattle.wi_lexer.specs.Quoted.{quoted};
-ghost use Rattle.wi_lexer.specs.Cell.{Cell, IsCell, cell_text};
+ghost use Rattle.wi_lexer.specs.Cell.{WrittenCell, IsCell, cell_text};
 ghost use Rattle.wi_lexer.specs.Inner.Cell.{cell_of};
 ghost use Rattle.wi_lexer.specs.Reference.{reference_text};
 ghost use Rattle.wi_lexer.specs.Inner.Reference.{reference_of};
@@ -44,34 +44,34 @@ pub fn token_and_rest()
 
 /// A text in which a cell is found is the text of that cell.
 pub fn cell_found()
-    ensures { (bs : List ℕ) (c : Cell) → cell_of bs ≡ Some c → IsCell c × (cell_text c ≡ bs) }
+    ensures { (bs : List ℕ) (c : WrittenCell) → cell_of bs ≡ Some c → IsCell c × (cell_text c ≡ bs) }
 {}
 
 /// Each cell is found in its text.
 pub fn cell_spelled()
-    ensures { (c : Cell) → IsCell c → cell_of (cell_text c) ≡ Some c }
+    ensures { (c : WrittenCell) → IsCell c → cell_of (cell_text c) ≡ Some c }
 {}
 
 /// A text in which the cell of a reference is found is the reference to that cell.
 pub fn reference_found()
-    ensures { (bs : List ℕ) (c : Cell) → reference_of bs ≡ Some c
+    ensures { (bs : List ℕ) (c : WrittenCell) → reference_of bs ≡ Some c
         → IsCell c × (reference_text c ≡ bs) }
 {}
 
 /// Each reference is found in its text.
 pub fn reference_spelled()
-    ensures { (c : Cell) → IsCell c → reference_of (reference_text c) ≡ Some c }
+    ensures { (c : WrittenCell) → IsCell c → reference_of (reference_text c) ≡ Some c }
 {}
 
 /// A text in which the cells of a rectangle are found is the reference to it.
 pub fn rectangle_found()
-    ensures { (bs : List ℕ) (c d : Cell) → rectangle_of bs ≡ Some (c, d)
+    ensures { (bs : List ℕ) (c d : WrittenCell) → rectangle_of bs ≡ Some (c, d)
         → IsCell c × IsCell d × (rectangle_text c d ≡ bs) }
 {}
 
 /// Each reference to a rectangle is found in its text.
 pub fn rectangle_spelled()
-    ensures { (c d : Cell) → IsCell c → IsCell d → rectangle_of (rectangle_text c d) ≡ Some (c, d) }
+    ensures { (c d : WrittenCell) → IsCell c → IsCell d → rectangle_of (rectangle_text c d) ≡ Some (c, d) }
 {}
 
 /// Each content is found in its text in double quotes.

@@ -1,6 +1,7 @@
 //! The tokens of a formula.
 #![tactic(auto)]
 
+mod brackets;
 mod cell;
 pub mod laws;
 mod lexer;

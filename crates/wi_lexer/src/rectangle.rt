@@ -6,7 +6,7 @@ ghost use Rattle.wi_lexer.specs.Rectangle.{IsRectangle};
 
 use crate::cell::{CellText, cell_of, cut};
 use crate::reference::is_bracketed;
-use crate::runs::{before_colon_len, byte, inside_len};
+use crate::runs::{before_colon_len, byte};
 
 // The cells on both sides of `:.`.
 #[tactic(auto, unfolding(crate::specs::Inner::Rectangle::corner_cells))]
@@ -42,21 +42,4 @@ pub fn cells_in(text: &[u8]) -> (CellText<'_>, CellText<'_>)
     let (first, rest) = inside.split_at(before_colon_len(inside));
     let (_colon, second) = rest.split_at(2);
     (cut(first), cut(second))
-}
-
-#[tactic(auto, using(crate::proofs::RectangleLemmas::no_rectangle), unfolding(crate::specs::Inner::Rectangle::rectangle_len))]
-pub(crate) fn rectangle_len(text: &[u8]) -> usize
-    ensures { result ≡ spec.rectangle_len text.now }
-{
-    if byte(text, 0) != b'[' {
-        return 0;
-    }
-    let inside = inside_len(text);
-    if inside == text.len() {
-        return 0;
-    }
-    if rectangle_of(&text[..inside + 1]).is_none() {
-        return 0;
-    }
-    inside + 1
 }

@@ -6,7 +6,6 @@ ghost use Rattle.wi_lexer.specs.Inner.Reference as spec;
 ghost use Rattle.wi_lexer.specs.Reference.{IsReference};
 
 use crate::cell::{CellText, cell_of, cut};
-use crate::runs::{byte, inside_len};
 
 pub(crate) fn is_bracketed(text: &[u8]) -> bool
     ensures { result ≡ spec.is_bracketed text.now }
@@ -32,21 +31,4 @@ pub fn cell_in(text: &[u8]) -> CellText<'_>
     ensures { spec.reference_of text.now ≡ Some (parts result) }
 {
     cut(&text[2..text.len() - 1])
-}
-
-#[tactic(auto, using(crate::proofs::ReferenceLemmas::no_reference), unfolding(crate::specs::Inner::Reference::reference_len))]
-pub(crate) fn reference_len(text: &[u8]) -> usize
-    ensures { result ≡ spec.reference_len text.now }
-{
-    if byte(text, 0) != b'[' {
-        return 0;
-    }
-    let inside = inside_len(text);
-    if inside == text.len() {
-        return 0;
-    }
-    if reference_of(&text[..inside + 1]).is_none() {
-        return 0;
-    }
-    inside + 1
 }

@@ -35,14 +35,6 @@ pub(crate) fn letters_len(text: &[u8]) -> usize
 }
 
 #[tactic(auto, using(crate::proofs::RunLemmas::run_within))]
-pub(crate) fn inside_len(text: &[u8]) -> usize
-    ensures value { result ≡ reader.inside_len text.now }
-    ensures within { result ≤ length text.now }
-{
-    text.iter().take_while(|b| **b != b']').count()
-}
-
-#[tactic(auto, using(crate::proofs::RunLemmas::run_within))]
 pub(crate) fn before_colon_len(text: &[u8]) -> usize
     ensures value { result ≡ reader.before_colon_len text.now }
     ensures within { result ≤ length text.now }

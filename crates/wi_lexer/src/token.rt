@@ -4,11 +4,10 @@ ghost use Rattle.std.specs.Prelude.{◌≡◌};
 ghost use Rattle.wi_lexer.specs.Mark.{mark_text};
 ghost use Rattle.wi_lexer.specs.Inner.Token as spec;
 
+use crate::brackets::brackets_at;
 use crate::mark::mark_at;
 use crate::name::name_len;
 use crate::number::number_len;
-use crate::rectangle::rectangle_len;
-use crate::reference::reference_len;
 use crate::text::text_len;
 
 /// The kinds of tokens, as in OpenFormula, "Expression Syntax".
@@ -87,13 +86,8 @@ pub(crate) fn token_at(text: &[u8]) -> Option<(Kind, usize)>
     if let Some(mark) = mark_at(text) {
         return Some((Kind::Mark(mark), mark.text().len()));
     }
-    let reference = reference_len(text);
-    if reference > 0 {
-        return Some((Kind::Reference, reference));
-    }
-    let rectangle = rectangle_len(text);
-    if rectangle > 0 {
-        return Some((Kind::Rectangle, rectangle));
+    if let Some(found) = brackets_at(text) {
+        return Some(found);
     }
     let name = name_len(text);
     if name > 0 {

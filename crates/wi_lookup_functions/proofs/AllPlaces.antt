@@ -1,20 +1,11 @@
 -- What SUMPRODUCT makes of the cells at each place, and of all places.
-use Rattle.wi_lookup_functions.proofs.Words.{◌≡◌, ℕ, zero, suc, ◌<◌, ◌≤◌, ◌+◌, ◌-◌, Bool, true, false, ◌&&◌, ◌||◌, List, [], ◌∷◌, fold, drop, get_or, length, Option, Some, None, IfSome, refl, sym, ap, ◌∙◌, subst, arith, Result, slice_get, nat_lt, if◌then◌else◌, list_all, list_any, and_parts, and_from, ltb-true, nat_tests, drop_more, drop_all, Area, cells_of, is_within, ErrorKind, Value, Empty, Logical, addition, zero_number, one_number, is_empty_value, and_then, places_left, within_between, Missing, KnownAgrees, ComesBefore, IsNextFilled, is_known_empty, after_cells, known_is, first_of, Stop, Ending, Error, Stopped, Agrees, ComesAfter, IsNextPlace, product_there, sum_through, with_factor, with_place, IsMissingInAny, same_extent, same_place}
+use Rattle.wi_lookup_functions.proofs.Words.{◌≡◌, ℕ, ◌<◌, ◌≤◌, ◌+◌, Bool, true, false, ◌&&◌, List, [], ◌∷◌, fold, drop, get_or, length, Option, Some, None, IfSome, refl, sym, ap, ◌∙◌, subst, arith, Result, slice_get, nat_lt, if◌then◌else◌, list_all, list_any_at, and_parts, and_from, ltb-true, nat_tests, drop_more, drop_all, Area, cells_of, is_within, ErrorKind, Value, Empty, Logical, addition, zero_number, one_number, is_empty_value, and_then, places_left, within_between, Missing, KnownAgrees, ComesBefore, IsNextFilled, is_known_empty, after_cells, known_is, first_of, Stop, Ending, Error, Stopped, Agrees, ComesAfter, IsNextPlace, product_there, sum_through, with_factor, with_place, IsMissingInAny, same_extent, same_place}
 use Rattle.std.specs.Prelude.{Ok, Err}
 use Rattle.wi_fraction.specs.Number as numbers
 use Rattle.wi_arguments.proofs.Walking as walk
 use Rattle.wi_lookup_functions.proofs.Extents.{same_place_inside}
 use Rattle.wi_lookup_functions.proofs.InOrder.{all_at}
 use Rattle.wi_lookup_functions.proofs.Zeros.{added_zero, multiplied_zero}
-
-pub any_at : {X : Type 0} (p : X → Bool) (xs : List X) (i : ℕ) (x : X) → i < length xs → x ≡ get_or xs i x → p x ≡ true → list_any p xs ≡ true
-any_at p [] i x l e h = absurd (omega (arith, l))
-any_at p (y ∷ ys) zero x l e h = ap (λ (b : Bool). b || list_any p ys) (ap p (sym e) ∙ h)
-any_at p (y ∷ ys) (suc i) x l e h = either (p y) (any_at p ys i x (omega (arith, l)) e h)
-  where
-    either : (b : Bool) → list_any p ys ≡ true → (b || list_any p ys) ≡ true
-    either true k = refl
-    either false k = k
 
 -- ---- the product at one place
 
@@ -57,7 +48,7 @@ module _ (known : ℕ → Option Value) (r : Area) (rs : List Area) (c : ℕ) wh
       ∙ failed cells e (drop (i + 1) rs))
 
   pub misses : (i : ℕ) (s : Area) (other d : ℕ) (x : Ending (Stop ℕ)) → x ≡ Stopped (Missing d) → is_within r c ≡ true → list_all (same_extent r) rs ≡ true → i < length rs → s ≡ get_or rs i s → other ≡ same_place r s c → d ≡ other → known d ≡ None → IsProduct (Err x)
-  misses i s other d x n w k l is o e m = subst (λ (y : Ending (Stop ℕ)). IsProduct (Err y)) (sym n) (m, any_at (λ t. is_within t d) rs i s l is (subst (λ (b : ℕ). is_within s b ≡ true) (sym (e ∙ o)) (same_place_inside r s c w (all_at (same_extent r) rs i s l is k))))
+  misses i s other d x n w k l is o e m = subst (λ (y : Ending (Stop ℕ)). IsProduct (Err y)) (sym n) (m, list_any_at (λ t. is_within t d) rs i s l (ap (λ (t : Area). is_within t d) (sym is) ∙ subst (λ (b : ℕ). is_within s b ≡ true) (sym (e ∙ o)) (same_place_inside r s c w (all_at (same_extent r) rs i s l is k))))
 
   pub ends : (product : numbers.Number) (i : ℕ) → length rs ≤ i → Left product (drop i rs) → IsProduct (Ok product)
   ends product i l h = λ cells a. sym (h cells a) ∙ ap (fold (times cells) (Ok product)) (drop_all i rs l)

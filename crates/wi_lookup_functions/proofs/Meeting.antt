@@ -1,5 +1,5 @@
 -- Which values meet a criterion.
-use Rattle.wi_lookup_functions.proofs.Words.{◌≡◌, Bool, true, false, ◌&&◌, ◌==◌, Option, Some, None, refl, sym, ap, ◌∙◌, not, if◌then◌else◌, is_eq, is_ne, Ordering, Less as less, Equal as equal, Greater as greater, and-true, and_parts, Value, rank, order, can_be_found, same_kind, Relation, Unequal, AtMost, AtLeast, relation_of, holds, holds_between_kinds}
+use Rattle.wi_lookup_functions.proofs.Words.{◌≡◌, Bool, true, false, ◌&&◌, ◌==◌, Option, Some, None, refl, sym, ap, ◌∙◌, not, if◌then◌else◌, is_eq, is_ne, Ordering, Less as less, Equal as equal, Greater as greater, and-true, and_parts, Value, rank, value_order, can_be_found, same_kind, Relation, Unequal, AtMost, AtLeast, relation_of, holds, holds_between_kinds}
 use Rattle.wi_lookup_functions.specs.declared.criterion.Relation.TheVariants.{Equal, Less, Greater}
 
 -- what is told by the order of a value to the operand, where they are of one kind
@@ -13,7 +13,7 @@ ne_is equal = refl
 ne_is greater = refl
 
 -- of values of one kind, and of others
-same : (r : Relation) (w v : Value) (b : Bool) → same_kind v w ≡ b → relation_of r w v ≡ told r v (if b then Some (order v w) else None)
+same : (r : Relation) (w v : Value) (b : Bool) → same_kind v w ≡ b → relation_of r w v ≡ told r v (if b then Some (value_order v w) else None)
 same Equal w v true e = rw e refl
 same Equal w v false e = rw e refl
 same Less w v true e = rw e refl
@@ -25,12 +25,12 @@ same Greater w v false e = rw e refl
 same AtLeast w v true e = rw e refl
 same AtLeast w v false e = rw e refl
 same Unequal w v true e =
-    ap (λ (b : Bool). can_be_found v && not (b && is_eq (order v w))) e
-    ∙ ap (λ (b : Bool). b && not (is_eq (order v w))) (and_parts (can_be_found v) (can_be_found w) (and_parts (can_be_found v && can_be_found w) (rank v == rank w) e).0).0
-    ∙ ne_is (order v w)
+    ap (λ (b : Bool). can_be_found v && not (b && is_eq (value_order v w))) e
+    ∙ ap (λ (b : Bool). b && not (is_eq (value_order v w))) (and_parts (can_be_found v) (can_be_found w) (and_parts (can_be_found v && can_be_found w) (rank v == rank w) e).0).0
+    ∙ ne_is (value_order v w)
 same Unequal w v false e =
-    ap (λ (b : Bool). can_be_found v && not (b && is_eq (order v w))) e
+    ap (λ (b : Bool). can_be_found v && not (b && is_eq (value_order v w))) e
     ∙ and-true (can_be_found v)
 
-pub met_by : (r : Relation) (w v : Value) (m : Option Ordering) → m ≡ (if same_kind v w then Some (order v w) else None) → relation_of r w v ≡ told r v m
+pub met_by : (r : Relation) (w v : Value) (m : Option Ordering) → m ≡ (if same_kind v w then Some (value_order v w) else None) → relation_of r w v ≡ told r v m
 met_by r w v m e = same r w v (same_kind v w) refl ∙ ap (told r v) (sym e)

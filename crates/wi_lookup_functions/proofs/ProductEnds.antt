@@ -1,5 +1,5 @@
 -- The sum over all places is SUMPRODUCT, and how SUMPRODUCT ends.
-use Rattle.wi_lookup_functions.proofs.Words.{◌≡◌, ℕ, suc, ◌<◌, ◌≤◌, ◌+◌, ◌-◌, ◌==◌, Bool, true, false, ◌&&◌, ◌||◌, List, [], ◌∷◌, ◌++◌, map, fold, drop, get_or, length, Option, Some, None, refl, sym, ap, ◌∙◌, subst, arith, Result, slice_get, unwrap_or, if◌then◌else◌, list_all, list_any, range_with_len, and_parts, and_from, eq-eqb, drop_more, drop_all, length-map, append_assoc, append-nil, list_all-map, slice_get-map, Area, cells_of, is_within, row_of, column_of, ErrorKind, BadValue, Value, Empty, Number, Argument, Region, region_of, region_referred, addition, multiplication, zero_number, one_number, same_size, of_one_size, factor, product_at, products, sum_of_items, sum_product_value, Item, scalar, number_of_item, with_number, ◌>>=◌, and_then, map_until_error, Missing, Memory, arguments_in, refers_to, area_referred, Stop, Ending, Error, Stopped, Agrees, Gives, areas_of, product_there, sum_over, sum_through, with_factor, with_place, IsAreaError, IsMissingInAny, same_extent, same_place}
+use Rattle.wi_lookup_functions.proofs.Words.{◌≡◌, ℕ, suc, ◌<◌, ◌≤◌, ◌+◌, ◌-◌, ◌==◌, Bool, true, false, ◌&&◌, ◌||◌, List, [], ◌∷◌, ◌++◌, map, fold, drop, get_or, length, Option, Some, None, refl, sym, ap, ◌∙◌, subst, arith, Result, slice_get, unwrap_or, if◌then◌else◌, list_all, list_any, range_with_len, and_parts, and_from, eq-eqb, drop_more, drop_all, length-map, append_assoc, append-nil, list_all-map, slice_get-map, Area, cells_of, is_within, row_of, column_of, ErrorKind, BadValue, Value, Empty, Number, Region, region_of, region_referred, addition, multiplication, zero_number, one_number, same_size, of_one_size, factor, product_at, products, sum_of_items, sum_product_value, Item, scalar, number_of_item, with_number, ◌>>=◌, and_then, map_until_error, Missing, Memory, arguments_in, refers_to, area_referred, Stop, Ending, Error, Stopped, Agrees, Gives, areas_of, product_there, sum_over, sum_through, with_factor, with_place, IsAreaError, IsMissingInAny, same_extent, same_place}
 use Rattle.std.proofs.Common.{option_map}
 use Rattle.std.specs.Prelude.{Ok, Err}
 use Rattle.wi_fraction.specs.Number as numbers

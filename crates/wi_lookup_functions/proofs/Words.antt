@@ -7,7 +7,7 @@ pub use Rattle.std.proofs.lemmas.Bool.Decides.{Decides-eqb, nat_tests}
 pub use Rattle.std.proofs.lemmas.Grind.{common_steps}
 pub use Rattle.std.proofs.lemmas.Int.{ints, to_z-of_z}
 pub use Rattle.std.proofs.lemmas.List.{append-nil, append_assoc, drop_all, drop_more, length-map, map-append, take_all}
-pub use Rattle.std.proofs.lemmas.List.Folds.{list_all-map, list_all_at, list_all_more}
+pub use Rattle.std.proofs.lemmas.List.Folds.{list_all-map, list_all_at, list_all_more, list_any_at}
 pub use Rattle.std.proofs.lemmas.List.FromFn.{length-map-range_with_len}
 pub use Rattle.std.proofs.lemmas.List.Sums.{sum_by-cons}
 pub use Rattle.std.proofs.lemmas.Option.{slice_get-map, slice_get_past, slice_get_read}
@@ -59,7 +59,7 @@ pub use Rattle.wi_lookup_functions.specs.declared.rule.Rule.TheVariants.{FirstEq
 pub use Rattle.wi_lookup_functions.specs.declared.search.Search.{Search}
 pub use Rattle.wi_standard_functions.specs.Arguments.{Argument, Region, region_at, region_of, region_or, region_referred, value_at, value_or}
 pub use Rattle.wi_standard_functions.specs.Arithmetic.{addition, fitting, multiplication, whole_value}
-pub use Rattle.wi_standard_functions.specs.Comparison.{order, rank}
+pub use Rattle.wi_standard_functions.specs.Comparison.{rank, value_order}
 pub use Rattle.wi_standard_functions.specs.Convert.{one_number, to_logical, to_number, to_whole, zero_number}
 pub use Rattle.wi_standard_functions.specs.Criterion.{constant_of, criterion_of, meets_criterion}
 pub use Rattle.wi_standard_functions.specs.FirstError.{no_error}

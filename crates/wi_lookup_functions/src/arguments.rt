@@ -1,13 +1,13 @@
 //! The arguments of a call, by their places.
 
 ghost use Rattle.std.specs.Prelude.{◌≡◌, Ok};
-ghost use Rattle.wi_arguments.specs.Arguments.{area_at, arguments_in, IsMissing};
+ghost use Rattle.wi_values.specs.declared.value.Value.TheVariants.{Number, Logical};
 ghost use Rattle.wi_standard_functions.specs.Arguments.{value_at, value_or};
 ghost use Rattle.wi_standard_functions.specs.Convert.{to_logical, to_number, to_whole, zero_number};
 ghost use Rattle.wi_standard_functions.specs.FirstError.{no_error};
 ghost use Rattle.wi_standard_functions.specs.Matching.{sought_for};
 ghost use Rattle.wi_standard_functions.specs.Steps.{and_then};
-ghost use Rattle.wi_values.specs.declared.value.Value.TheVariants.{Number, Logical};
+ghost use Rattle.wi_arguments.specs.Arguments.{area_at, arguments_in, IsMissing};
 ghost use Rattle.wi_lookup_functions.specs.Inner.Finding.{Agrees};
 
 use wi_arguments::{Argument, Lookup};

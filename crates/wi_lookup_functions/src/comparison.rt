@@ -2,7 +2,7 @@
 
 ghost use Rattle.std.specs.Prelude.{◌≡◌};
 ghost use Rattle.wi_values.specs.declared.value.Value.{Value as Values};
-ghost use Rattle.wi_standard_functions.specs.Comparison.{empty_beside, beside, rank, order};
+ghost use Rattle.wi_standard_functions.specs.Comparison.{empty_beside, beside, rank, value_order};
 
 use std::alloc::Global;
 use std::cmp::Ordering;
@@ -12,7 +12,7 @@ use wi_values::{Text, Value};
 /// The order of two values, in which Empty counts as 0, the empty text or FALSE, as the other is. Linear in the shorter of two
 /// texts.
 pub fn compare(alloc: Global, left: &Value, right: &Value) -> Ordering
-    ensures { result ≡ order (beside right.now left.now) (beside left.now right.now) }
+    ensures { result ≡ value_order (beside right.now left.now) (beside left.now right.now) }
 {
     match (left, right) {
         (Value::Number(x), Value::Number(y)) => x.cmp(y),
@@ -23,7 +23,7 @@ pub fn compare(alloc: Global, left: &Value, right: &Value) -> Ordering
 /// The same for values of any kinds.
 #[inline(never)]
 fn compare_any(alloc: Global, left: &Value, right: &Value) -> Ordering
-    ensures { result ≡ order (beside right.now left.now) (beside left.now right.now) }
+    ensures { result ≡ value_order (beside right.now left.now) (beside left.now right.now) }
 {
     let left_empty = empty_beside(alloc, right);
     let right_empty = empty_beside(alloc, left);
@@ -59,7 +59,7 @@ fn or_empty<'a>(value: &'a Value, empty: &'a Value) -> &'a Value
 
 /// The order of two values, neither of them Empty.
 pub(crate) fn order(left: &Value, right: &Value) -> Ordering
-    ensures { result ≡ order left.now right.now }
+    ensures { result ≡ value_order left.now right.now }
 {
     match (left, right) {
         (Value::Number(x), Value::Number(y)) => x.cmp(y),

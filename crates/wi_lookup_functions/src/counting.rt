@@ -7,8 +7,8 @@ ghost use Rattle.wi_values.specs.declared.value.Value.{Value as Values};
 ghost use Rattle.wi_standard_functions.specs.Information.{count_if_value};
 ghost use Rattle.wi_value_functions.specs.Endings.{IfMissing};
 ghost use Rattle.wi_arguments.specs.Arguments.{IsMissing, IsOfArguments, KnownAgrees};
-ghost use Rattle.wi_lookup_functions.specs.Inner.Meeting.{is_met};
 ghost use Rattle.wi_value_functions.specs.Inner.Counts.{counted, IsCut};
+ghost use Rattle.wi_lookup_functions.specs.Inner.Meeting.{is_met};
 ghost use Rattle.wi_lookup_functions.specs.Inner.Laws.{empty_not_counted};
 ghost use Rattle.wi_lookup_functions.specs.Inner.Giving.{Gives};
 

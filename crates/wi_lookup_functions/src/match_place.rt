@@ -1,8 +1,8 @@
 //! MATCH (OpenFormula, "Lookup Functions").
 
 ghost use Rattle.std.specs.Prelude.{IfOk, IfErr};
-ghost use Rattle.wi_arguments.specs.Arguments.{IsMissing, IsOfArguments};
 ghost use Rattle.wi_standard_functions.specs.Lookup.{match_value};
+ghost use Rattle.wi_arguments.specs.Arguments.{IsMissing, IsOfArguments};
 ghost use Rattle.wi_lookup_functions.specs.Inner.Finding.{Places};
 
 use crate::arguments::{area_at, number_or, sought_at};

@@ -1,7 +1,7 @@
 //! Which values can be found, and how they stand to the one sought.
 
 ghost use Rattle.std.specs.Prelude.{◌≡◌, Some, None, if◌then◌else◌};
-ghost use Rattle.wi_standard_functions.specs.Comparison.{order};
+ghost use Rattle.wi_standard_functions.specs.Comparison.{value_order};
 ghost use Rattle.wi_standard_functions.specs.Matching.{can_be_found, same_kind};
 
 use crate::comparison::{order, rank};
@@ -12,7 +12,7 @@ use wi_values::Value;
 /// in the shorter of two texts.
 pub(crate) fn match_order(value: &Value, sought: &Value) -> Option<Ordering>
     ensures { result ≡ if same_kind value.now sought.now
-        then Some (order value.now sought.now) else None }
+        then Some (value_order value.now sought.now) else None }
 {
     if same_kind(value, sought) {
         Some(order(value, sought))

@@ -1,12 +1,12 @@
 //! From what was found to the value of a function.
 
 ghost use Rattle.std.specs.Prelude.{◌≡◌, ℕ, ◌+◌, List, Option, IfOk, IfErr};
+ghost use Rattle.wi_values.specs.declared.value.Value.{Value as Values};
+ghost use Rattle.wi_standard_functions.specs.Arguments.{Argument};
+ghost use Rattle.wi_standard_functions.specs.Arithmetic.{whole_value};
 ghost use Rattle.wi_arguments.specs.Arguments.{IsMissing, IsOfArguments};
 ghost use Rattle.wi_value_functions.specs.Endings.{IfMissing};
 ghost use Rattle.wi_arguments.specs.declared.argument.Argument as given;
-ghost use Rattle.wi_standard_functions.specs.Arguments.{Argument};
-ghost use Rattle.wi_standard_functions.specs.Arithmetic.{whole_value};
-ghost use Rattle.wi_values.specs.declared.value.Value.{Value as Values};
 ghost use Rattle.wi_lookup_functions.specs.Inner.Finding.{Finds, Places};
 
 use std::alloc::Global;

@@ -1,8 +1,8 @@
 //! Rows and columns of a rectangle.
 
 ghost use Rattle.std.specs.Prelude.{◌≡◌, ◌+◌, ◌<◌, IfOk};
-ghost use Rattle.wi_standard_functions.specs.Lookup.{position_among};
 ghost use Rattle.wi_values.specs.Address.{column_of, height, place, row_of, width};
+ghost use Rattle.wi_standard_functions.specs.Lookup.{position_among};
 ghost use Rattle.wi_lookup_functions.specs.Inner.Lines.{first_column, first_row, is_line, steps};
 
 use wi_values::{Address, ErrorKind, Rect};

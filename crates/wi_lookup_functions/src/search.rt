@@ -3,9 +3,9 @@
 ghost use Rattle.std.specs.Prelude.{◌≡◌, ◌<◌, length, map, ok_or, true, IfOk};
 ghost use Rattle.wi_values.specs.Address.{cells_of};
 ghost use Rattle.wi_values.specs.declared.value.ErrorKind.TheVariants.{NotAvailable};
+ghost use Rattle.wi_standard_functions.specs.Matching.{is_match};
 ghost use Rattle.wi_lookup_functions.specs.Inner.Finding.{Agrees, IsMissingIn};
 ghost use Rattle.wi_lookup_functions.specs.Inner.Lines.{is_line};
-ghost use Rattle.wi_standard_functions.specs.Matching.{is_match};
 ghost use Rattle.wi_lookup_functions.specs.Inner.Search.{is_settled, passes, position_by};
 
 use crate::matching::match_order;

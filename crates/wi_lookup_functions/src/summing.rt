@@ -7,7 +7,7 @@ ghost use Rattle.wi_value_functions.specs.Endings.{IfMissing};
 ghost use Rattle.wi_arguments.specs.Arguments.{IsMissing, IsOfArguments};
 ghost use Rattle.wi_lookup_functions.specs.Inner.Meeting.{is_met};
 ghost use Rattle.wi_lookup_functions.specs.Inner.Giving.{Agrees, Gives};
-ghost use Rattle.wi_lookup_functions.specs.Inner.Sums.{same_extent, same_place, values_where, with_cell, with_met, IsMissingInEither};
+ghost use Rattle.wi_lookup_functions.specs.Inner.Sums.{same_extent, values_where, with_cell, IsMissingInEither};
 
 use crate::arguments::area_at;
 use crate::cells::{next_after, value_of};

@@ -1,7 +1,7 @@
 //! The value of a function that looks cells up.
 
 ghost use Rattle.std.specs.Prelude.{IfOk, IfErr};
-ghost use Rattle.wi_value_functions.specs.Applied.{applied};
+ghost use Rattle.wi_value_functions.specs.Applied.{applied_to_arguments};
 ghost use Rattle.wi_value_functions.specs.Endings.{IfMissing};
 ghost use Rattle.wi_value_functions.specs.declared.function.Function.TheVariants.{References};
 ghost use Rattle.wi_value_functions.specs.declared.function.ReferenceFunction.TheVariants.{Lookup as ByLookup};
@@ -26,7 +26,7 @@ pub fn value_of_lookup<L: Lookup>(
     lookup: &L,
 ) -> Result<Value, Stop<Address>>
     ensures done { IfOk result (IsOfArguments
-        (L.known_cell lookup.now) (applied (References (ByLookup function))) arguments.now) }
+        (L.known_cell lookup.now) (applied_to_arguments (References (ByLookup function))) arguments.now) }
     ensures missing { IfErr result
         (λ s. IfMissing s (IsMissing (L.known_cell lookup.now) arguments.now)) }
 {

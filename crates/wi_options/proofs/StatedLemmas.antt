@@ -11,7 +11,7 @@ use Rattle.clap.specs.declared.parser.matches.ArgMatches.{ArgMatches}
 use Rattle.clap.proofs.OnLiterals.{clap_on_literals}
 use Rattle.clap.proofs.WalkLemmas.{first_value-rows}
 use Rattle.wi_options.specs.Stated.{spelled, stated, whatif}
-use Rattle.wi_options.specs.Refused.{IsFault, fault_by, found_amiss, is_taken}
+use Rattle.wi_options.specs.Refused.{AreRefusedFor, fault_by, found_amiss, is_taken}
 
 is_simple_whatif : is_simple whatif ≡ true
 unfolding clap_on_literals
@@ -32,7 +32,7 @@ pub taken_by : (a : App) (words : List (String Global)) → a ≡ whatif → is_
 unfolding is_taken
 taken_by a words is taken = ap (λ (x : App). takes x (spelled words)) is ∙ taken
 
-by_kind : (words : List (String Global)) (e : Error) (k : ErrorKind) → kind_of e ≡ k → HasKind (found_amiss words) e → IsFault words (fault_by k e)
+by_kind : (words : List (String Global)) (e : Error) (k : ErrorKind) → kind_of e ≡ k → HasKind (found_amiss words) e → AreRefusedFor words (fault_by k e)
 by_kind words e OutOfMemory is has = tt
 by_kind words e DisplayHelp is (inl short) = let bad : DisplayHelp ≡ OutOfMemory = sym is ∙ short in cc
 by_kind words e DisplayHelp is (inr among) = (is, among)
@@ -41,7 +41,7 @@ by_kind words e k is (inr among) = (λ help. let bad : k ≡ DisplayHelp = sym i
 
 pub is_fault : (a : App) (words : List (String Global)) (e : Error) → a ≡ whatif
     → (is_simple_and_free a ≡ true → HasKind (fault_of a (spelled words)) e)
-    → IsFault words (fault_by (kind_of e) e)
+    → AreRefusedFor words (fault_by (kind_of e) e)
 unfolding found_amiss
 is_fault a words e is has =
     by_kind words e (kind_of e) refl (subst (λ (x : App). HasKind (fault_of x (spelled words)) e) is (has (ap is_simple_and_free is ∙ is_free_whatif)))

@@ -23,9 +23,9 @@ fault_by OutOfMemory error = Memory
 fault_by DisplayHelp error = Help error
 fault_by _ error = Usage error
 
--- a fault for these words: memory may always be short, and else it is what clap finds amiss,
+-- the words are refused for this fault: memory may always be short, and else it is what clap finds amiss,
 -- Help where that is a call for help
-abbrev pub IsFault : List (String Global) → OptionsFault → Type 0
-IsFault words Memory = ⊤
-IsFault words (Help error) = (kind_of error ≡ DisplayHelp) × IsAmong (kind_of error) (found_amiss words)
-IsFault words (Usage error) = (kind_of error ≡ DisplayHelp → ⊥) × IsAmong (kind_of error) (found_amiss words)
+abbrev pub AreRefusedFor : List (String Global) → OptionsFault → Type 0
+AreRefusedFor words Memory = ⊤
+AreRefusedFor words (Help error) = (kind_of error ≡ DisplayHelp) × IsAmong (kind_of error) (found_amiss words)
+AreRefusedFor words (Usage error) = (kind_of error ≡ DisplayHelp → ⊥) × IsAmong (kind_of error) (found_amiss words)

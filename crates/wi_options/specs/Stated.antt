@@ -49,10 +49,10 @@ abbrev pub stated_keep : List (String Global) → Option Text
 stated_keep words = first_of (codes "keep") (stated words)
 
 -- the number that a text spells
-abbrev pub number_of : Text → ℕ
-number_of text = digits_value 10 (without_leading_plus (without_minus text))
+abbrev pub spelled_number : Text → ℕ
+spelled_number text = digits_value 10 (without_leading_plus (without_minus text))
 
 -- the number that is stated, or else the usual one
 abbrev pub number_or : ℕ → Option Text → ℕ
 number_or usual None = usual
-number_or usual (Some text) = number_of text
+number_or usual (Some text) = spelled_number text

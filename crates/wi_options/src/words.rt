@@ -3,7 +3,7 @@
 ghost use Rattle.std.specs.Prelude.{◌≡◌, ◌≤◌, [], true, IfOk, IfErr, option_map};
 ghost use Rattle.clap.specs.Words.{Text, first_of, first_value, found_of};
 ghost use Rattle.wi_options.specs.Stated.{most_kept, number_or, stated, stated_keep, stated_load, usual_kept};
-ghost use Rattle.wi_options.specs.Refused.{IsFault, found_amiss, is_taken};
+ghost use Rattle.wi_options.specs.Refused.{AreRefusedFor, found_amiss, is_taken};
 ghost use Rattle.wi_options.specs.Inner.Reads.{ReadsKeep};
 
 use crate::command::{command, kept};
@@ -20,7 +20,7 @@ fn parsed<'a>(alloc: Global, words: &'a [String]) -> Result<ArgMatches<'a>, Opti
     ensures whole { IfOk result (λ _. found_amiss words.now ≡ []) }
     ensures taken { IfErr result
         (λ fault. is_taken words.now ≡ true → fault ≡ OptionsFault.Memory) }
-    ensures amiss { IfErr result (IsFault words.now) }
+    ensures amiss { IfErr result (AreRefusedFor words.now) }
 {
     Ok(command(alloc)?.try_get_matches_from(words)?)
 }
@@ -36,7 +36,7 @@ pub fn options<'a>(alloc: Global, words: &'a [String]) -> Result<Options<'a>, Op
     ensures whole { IfOk result (λ _. found_amiss words.now ≡ []) }
     ensures taken { IfErr result
         (λ fault. is_taken words.now ≡ true → fault ≡ OptionsFault.Memory) }
-    ensures amiss { IfErr result (IsFault words.now) }
+    ensures amiss { IfErr result (AreRefusedFor words.now) }
 {
     let matches = parsed(alloc, words)?;
     Ok(Options {

@@ -1,15 +1,15 @@
 -- The cell of a reference in the sheet is written with its column and row, which stand for its address.
-use Rattle.wi_parser.proofs.Words.{◌≡◌, ℕ, ◌+◌, ◌*◌, ◌<◌, ◌^◌, Bool, true, false, ◌&&◌, nat_lt, List, [], ◌∷◌, ◌++◌, length, Option, Some, None, Ok, Err, ok_or, option_map, if◌then◌else◌, refl, ap, arith, nat_tests, decimal_is_IsNumeral, first_decimal, take-append_seam, drop-append_seam, is_ascii_alphabetic, is_ascii_digit, decimal, list_all, prefix_len, and_parts, columns, rows, row_of, column_of, column_letters, address_text, is_row_number, address_at, read_address, Shape, Outside, addresses_read_back, column_are_letters, column_some, IsRun, IsCell, run_stops, run_more, digits_run, Reference, cell_named, in_sheet, reference_to}
+use Rattle.wi_parser.proofs.Words.{◌≡◌, ℕ, ◌+◌, ◌*◌, ◌<◌, ◌^◌, Bool, true, false, ◌&&◌, nat_lt, List, [], ◌∷◌, ◌++◌, length, Option, Some, None, Ok, Err, ok_or, option_map, if◌then◌else◌, refl, ap, arith, nat_tests, decimal_is_IsNumeral, first_decimal, take-append_seam, drop-append_seam, is_ascii_alphabetic, is_ascii_digit, decimal, list_all, prefix_len, and_parts, columns, rows, row_of, column_of, column_letters, address_text, is_row_number, address_at, read_address, Shape, Outside, addresses_read_back, column_are_letters, column_some, IsRunOf, IsCell, run_stops, run_more, digits_run, Reference, cell_named, in_sheet, reference_to}
 
 -- ---- the column, and the row
 
-column_is : (column : ℕ) → IsRun is_ascii_alphabetic (column_letters column)
+column_is : (column : ℕ) → IsRunOf is_ascii_alphabetic (column_letters column)
 column_is column = record { some = column_some column; all = column_are_letters column }
 
 short : (row : ℕ) → row < rows → row + 1 < 2 ^ 64
 short row h = omega arith
 
-row_is : (row : ℕ) → row < rows → IsRun is_ascii_digit (decimal (row + 1))
+row_is : (row : ℕ) → row < rows → IsRunOf is_ascii_digit (decimal (row + 1))
 row_is row h = digits_run (decimal (row + 1)) (decimal_is_IsNumeral (row + 1) (short row h)).0
 
 -- ---- the cell
@@ -29,7 +29,7 @@ cell_is r e =
       first = first_decimal (row_of r.at + 1) (omega arith) (short (row_of r.at) row);
     }
 
-no_letters : (ds : List ℕ) → IsRun is_ascii_digit ds → prefix_len is_ascii_alphabetic ds ≡ 0
+no_letters : (ds : List ℕ) → IsRunOf is_ascii_digit ds → prefix_len is_ascii_alphabetic ds ≡ 0
 no_letters [] run = refl
 no_letters (d ∷ ds) run =
     let first = (and_parts (is_ascii_digit d) (list_all is_ascii_digit ds) run.all).0 in
@@ -43,7 +43,7 @@ was_there true (Some b) a h = cc
 was_there false o a h = cc
 
 -- an address that is read from letters and digits is the one of that column and row
-read_parts : (ls ds : List ℕ) (a : ℕ) → IsRun is_ascii_alphabetic ls → IsRun is_ascii_digit ds → read_address (ls ++ ds) ≡ Ok a → address_at ls ds ≡ Some a
+read_parts : (ls ds : List ℕ) (a : ℕ) → IsRunOf is_ascii_alphabetic ls → IsRunOf is_ascii_digit ds → read_address (ls ++ ds) ≡ Ok a → address_at ls ds ≡ Some a
 unfolding read_address
 read_parts ls ds a h i e =
     let len : prefix_len is_ascii_alphabetic (ls ++ ds) ≡ length ls = omega (arith, run_more is_ascii_alphabetic ls ds h.all, no_letters ds i) in

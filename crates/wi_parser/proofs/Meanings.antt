@@ -1,5 +1,5 @@
 -- A text means a symbol where it is a token that stands for it.
-use Rattle.wi_parser.proofs.Words.{◌≡◌, ◌↔◌, ℕ, ℤ, ◌⊎◌, inl, inr, List, Option, Some, None, refl, sym, ap, ap₂, ◌∙◌, subst, Number as Numbers, read_decimal, Writes, IsWritten, written_value, reads_what_is_written, quoted, Kind, Text, Rectangle, Mark, Name, OpenParenthesis, CloseParenthesis, Semicolon, Asterisk, Slash, Caret, Percent, Ampersand, Equal, NotEqual, Less, LessOrEqual, Greater, GreaterOrEqual, Cell, IsCell, mark_text, IsRectangle, two_cells, rectangle_text, IsReference, one_cell, reference_text, IsText, of_content, IsToken, reference_of_complete, rectangle_of_complete, text_reads_back, Operator, OutOfSheet, number_symbol, cell_symbol, reference_symbol, corners_symbol, rectangle_symbol, mark_symbol, symbol_of, reference_to, operator_text, Symbol, text_literal, bad_token, infix_mark, Means, an_unfit_number, a_reference, an_outside_reference, an_outside_rectangle, a_name, an_opening_parenthesis, a_closing_parenthesis, a_separator, a_percent_mark, an_operator}
+use Rattle.wi_parser.proofs.Words.{◌≡◌, ◌↔◌, ℕ, ℤ, ◌⊎◌, inl, inr, List, Option, Some, None, refl, sym, ap, ap₂, ◌∙◌, subst, Number as Numbers, read_decimal, WritesDecimal, IsDecimalText, written_value, reads_what_is_written, quoted, Kind, Text, Rectangle, Mark, Name, OpenParenthesis, CloseParenthesis, Semicolon, Asterisk, Slash, Caret, Percent, Ampersand, Equal, NotEqual, Less, LessOrEqual, Greater, GreaterOrEqual, WrittenCell, IsCell, mark_text, IsRectangle, two_cells, rectangle_text, IsReference, one_cell, reference_text, IsText, of_content, IsToken, reference_of_complete, rectangle_of_complete, text_reads_back, Operator, OutOfSheet, number_symbol, cell_symbol, reference_symbol, corners_symbol, rectangle_symbol, mark_symbol, symbol_of, reference_to, operator_text, Symbol, text_literal, bad_token, infix_mark, Means, an_unfit_number, a_reference, an_outside_reference, an_outside_rectangle, a_name, an_opening_parenthesis, a_closing_parenthesis, a_separator, a_percent_mark, an_operator}
 use Rattle.wi_lexer.specs.declared.token.Kind.TheVariants.{Number, Reference}
 use Rattle.wi_lexer.specs.declared.token.Mark as mark
 use Rattle.wi_lexer.specs.declared.token.Mark.TheVariants.{Plus, Minus}
@@ -9,17 +9,17 @@ use Rattle.wi_parser.specs.Symbols.{a_number, a_text, a_rectangle}
 
 -- ---- a token means what it stands for
 
-value_means : (text whole parts : List ℕ) (k : ℤ) → Writes text whole parts k → (o : Option Numbers) → written_value whole parts k ≡ o → Means text (number_symbol o)
+value_means : (text whole parts : List ℕ) (k : ℤ) → WritesDecimal text whole parts k → (o : Option Numbers) → written_value whole parts k ≡ o → Means text (number_symbol o)
 value_means text whole parts k w None e = an_unfit_number text whole parts k w e
 value_means text whole parts k w (Some x) e = a_number text whole parts k x w e
 
-number_means : (text : List ℕ) → IsWritten text → Means text (number_symbol (read_decimal text))
+number_means : (text : List ℕ) → IsDecimalText text → Means text (number_symbol (read_decimal text))
 number_means text w = value_means text w.0 w.1 w.2 w.3 (read_decimal text) (sym (reads_what_is_written.value text w.0 w.1 w.2 w.3))
 
 text_means : (text : List ℕ) → IsText text → Means text (symbol_of Text text)
 text_means text (of_content content) = subst (λ c. Means (quoted content) (text_literal c)) (sym (text_reads_back content)) (a_text content)
 
-cell_means : (c : Cell) → IsCell c → (o : Option references.Reference) → reference_to c ≡ o → Means (reference_text c) (cell_symbol o)
+cell_means : (c : WrittenCell) → IsCell c → (o : Option references.Reference) → reference_to c ≡ o → Means (reference_text c) (cell_symbol o)
 cell_means c is None e = an_outside_reference c is e
 cell_means c is (Some r) e = a_reference c r is e
 
@@ -27,7 +27,7 @@ reference_means : (text : List ℕ) → IsReference text → Means text (symbol_
 reference_means text (one_cell c is) =
     subst (λ o. Means (reference_text c) (reference_symbol o)) (sym (reference_of_complete c is)) (cell_means c is (reference_to c) refl)
 
-corners_mean : (c d : Cell) → IsCell c → IsCell d → (o p : Option references.Reference) → reference_to c ≡ o → reference_to d ≡ p → Means (rectangle_text c d) (corners_symbol o p)
+corners_mean : (c d : WrittenCell) → IsCell c → IsCell d → (o p : Option references.Reference) → reference_to c ≡ o → reference_to d ≡ p → Means (rectangle_text c d) (corners_symbol o p)
 corners_mean c d i j None p e f = an_outside_rectangle c d i j (inl e)
 corners_mean c d i j (Some r) None e f = an_outside_rectangle c d i j (inr f)
 corners_mean c d i j (Some r) (Some s) e f = a_rectangle c d (record { one = r; other = s }) i j e f

@@ -1,5 +1,5 @@
 -- What the tree of a text is, and why there is none.
-use Rattle.wi_parser.proofs.Words.{◌≡◌, ℕ, ◌+◌, ◌<◌, ◌≤◌, Bool, true, false, ◌||◌, nat_lt, List, [], ◌∷◌, ◌++◌, length, Option, Some, None, Result, Ok, Err, ok_or, if◌then◌else◌, IfOk, ◌↔◌, refl, sym, ap, ap₂, ◌∙◌, subst, arith, or_parts, lt-ltb, le-ltb, ltb-false, list_any-append, list_any, ParseFault, TooLong, OutOfSheet, NumberRange, TooDeep, Syntax, Memory, Tree, Trees, Symbol, close_parenthesis, infix_mark, percent_mark, bad_token, is_outside, is_unfit, loosest, Spells, a_number, a_cell, a_rectangle, in_parentheses, one_input, two_inputs, with_sign, with_percent, tighter, joined, SpellsAll, SpellsMore, a_text, a_call, no_parameter, parameters, last_parameter, another_parameter, max_depth, is_too_deep, whole, Fails, formula_symbols, max_formula, refusal_of, unless_refused, judged, parsed, IsWithinLimits, is_too_long, ReadsAs}
+use Rattle.wi_parser.proofs.Words.{◌≡◌, ℕ, ◌+◌, ◌<◌, ◌≤◌, Bool, true, false, ◌||◌, nat_lt, List, [], ◌∷◌, ◌++◌, length, Option, Some, None, Result, Ok, Err, ok_or, if◌then◌else◌, IfOk, ◌↔◌, refl, sym, ap, ap₂, ◌∙◌, subst, arith, or_parts, lt-ltb, le-ltb, ltb-false, list_any-append, list_any, ParseFault, TooLong, OutOfSheet, NumberRange, TooDeep, Syntax, Memory, Tree, Trees, Symbol, close_parenthesis, infix_mark, percent_mark, bad_token, is_out_of_sheet, is_unfit, loosest, Spells, a_number, a_cell, a_rectangle, in_parentheses, one_input, two_inputs, with_sign, with_percent, tighter, joined, SpellsAll, SpellsMore, a_text, a_call, no_parameter, parameters, last_parameter, another_parameter, max_depth, is_too_deep, whole, Fails, after_prefix, after_equals, symbols_by, formula_symbols, max_formula, refusal_of, unless_refused, judged, parsed, IsWithinLimits, is_too_long, ReadsAs}
 use Rattle.wi_parser.proofs.Sound.{whole_sound}
 use Rattle.wi_parser.proofs.Complete.{whole_complete}
 use Rattle.wi_parser.proofs.Depth.{depth-deepest}
@@ -48,7 +48,7 @@ none_passes p h (s ∷ ts) e =
     let i = or_parts (is_refused s) (list_any is_refused ts) e in
     ap₂ (λ a b. a || b) (h s i.0) (none_passes p h ts i.1)
 
-outside_is_refused : (s : Symbol) → is_refused s ≡ false → is_outside s ≡ false
+outside_is_refused : (s : Symbol) → is_refused s ≡ false → is_out_of_sheet s ≡ false
 outside_is_refused (bad_token e) h = cc
 outside_is_refused s h = refl
 
@@ -56,7 +56,7 @@ unfit_is_refused : (s : Symbol) → is_refused s ≡ false → is_unfit s ≡ fa
 unfit_is_refused (bad_token e) h = cc
 unfit_is_refused s h = refl
 
-not_refused : (ts : List Symbol) → list_any is_outside ts ≡ false → list_any is_unfit ts ≡ false → is_too_deep ts ≡ false → refusal_of ts ≡ None
+not_refused : (ts : List Symbol) → list_any is_out_of_sheet ts ≡ false → list_any is_unfit ts ≡ false → is_too_deep ts ≡ false → refusal_of ts ≡ None
 not_refused ts o u d =
     ap (λ b. if b then Some OutOfSheet else (if list_any is_unfit ts then Some NumberRange else (if is_too_deep ts then Some TooDeep else None))) o
     ∙ ap (λ b. if b then Some NumberRange else (if is_too_deep ts then Some TooDeep else None)) u
@@ -65,10 +65,15 @@ not_refused ts o u d =
 -- what is spelled and does not nest too deep is judged to be the tree
 judged_spelled : (ts : List Symbol) (t : Tree) → Spells loosest t ts → is_too_deep ts ≡ false → judged ts ≡ Ok t
 judged_spelled ts t s h =
-    ap (λ o. unless_refused o (whole (max_depth + 1) ts)) (not_refused ts (none_passes is_outside outside_is_refused ts (none_is_refused s)) (none_passes is_unfit unfit_is_refused ts (none_is_refused s)) h)
+    ap (λ o. unless_refused o (whole (max_depth + 1) ts)) (not_refused ts (none_passes is_out_of_sheet outside_is_refused ts (none_is_refused s)) (none_passes is_unfit unfit_is_refused ts (none_is_refused s)) h)
     ∙ ap (λ found. ok_or found Syntax) (whole_complete max_depth ts t s (omega (arith, depth-deepest t ts s, few_open ts h)))
 
 -- ---- a text
+
+-- the symbols of what follows a text's prefix and its `=`
+pub by_front : (text plain : List ℕ) (body : Option (List ℕ)) → plain ≡ after_prefix text → body ≡ after_equals text → symbols_by plain body ≡ formula_symbols text
+unfolding formula_symbols
+by_front text plain body h k = ap₂ symbols_by h k
 
 pub parsed_long : (text : List ℕ) → max_formula < length text → parsed text ≡ Err TooLong
 unfolding parsed
@@ -115,7 +120,7 @@ not_chosen false e o h = (refl, h)
 
 pub shallow : (ts : List Symbol) → refusal_of ts ≡ None → is_too_deep ts ≡ false
 shallow ts h =
-    let a = not_chosen (list_any is_outside ts) OutOfSheet _ h in
+    let a = not_chosen (list_any is_out_of_sheet ts) OutOfSheet _ h in
     let b = not_chosen (list_any is_unfit ts) NumberRange _ a.1 in
     (not_chosen (is_too_deep ts) TooDeep None b.1).0
 
@@ -149,7 +154,7 @@ pub short_lacks : (text : List ℕ) (r : Result Tree ParseFault) → length text
 short_lacks text r h e =
     let ts = formula_symbols text in
     let short : is_too_long (parsed text) ≡ false =
-    ap is_too_long (parsed_short text h) ∙ never_too_long (list_any is_outside ts) (list_any is_unfit ts) (is_too_deep ts) (whole (max_depth + 1) ts) in
+    ap is_too_long (parsed_short text h) ∙ never_too_long (list_any is_out_of_sheet ts) (list_any is_unfit ts) (is_too_deep ts) (whole (max_depth + 1) ts) in
     subst (ReadsAs (parsed text)) (sym e) short
 
 pub reads_as : {A : Type 0} (found : Result A ParseFault) (e : ParseFault) → found ≡ Err e → ReadsAs found (Err e)

@@ -2,7 +2,7 @@
 use Rattle.wi_parser.proofs.Words.{◌≡◌, refl, ℕ, List, ◌++◌, sym, ap, ◌∙◌, [], ◌∷◌, append_assoc, map, codes, cond, Result, Ok, Err, is_ok, OnOk, append-nil, subst, starts_with_of_append, flat_map, StartsWith, reference_text, Expr, Operator, Pair, Reference, pair_symbols, spelling, spelling_of_all, spelling_of_more, Tree, Trees, parenthesized, percent, binary, what_if, no_trees, more_trees, Symbol, close_parenthesis, infix_mark, percent_mark, tree_of, all_of, pair_of, cell_named, operator_text, symbol_text, symbols_text, tree_text, pairs_text}
 pub use Rattle.std.proofs.Transfers.{starts_with_trans}
 use Rattle.std.proofs.lemmas.List.Concat.{flat_map-append}
-pub use Rattle.wi_fraction.proofs.Decimals.{starts_itself, starts_more, cut_place}
+pub use Rattle.wi_fraction.proofs.Decimals.{starts_itself, starts_more, starts_pushed, cut_place}
 
 -- what a text begins with, a text that is the same begins with
 pub starts_same : (o d front : List ℕ) → d ≡ o → StartsWith o front → StartsWith d front
@@ -11,11 +11,6 @@ starts_same o d front h k = subst (λ x. StartsWith x front) (sym h) k
 -- what begins with a longer text begins with that one's front
 pub starts_on : (o a d more : List ℕ) → a ≡ o ++ more → StartsWith d a → StartsWith d o
 starts_on o a d more h k = starts_with_trans d a o k (starts_with_of_append a o more h)
-
--- where more was appended or memory ended
-pub starts_still : {E : Type 0} (r : Result (Unit {0}) E) (o d front more : List ℕ) → d ≡ cond (is_ok r) (o ++ more) o → StartsWith o front → StartsWith d front
-starts_still (Ok u) o d front more h k = starts_same (o ++ more) d front h (starts_more o more front k)
-starts_still (Err e) o d front more h k = starts_same o d front h k
 
 -- a part, and where that went well what follows it
 pub after_written : {E : Type 0} (r : Result (Unit {0}) E) (o a d m t : List ℕ) → a ≡ o ++ m → OnOk r (d ≡ a ++ t) → OnOk r (d ≡ o ++ (m ++ t))

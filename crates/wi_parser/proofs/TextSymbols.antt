@@ -1,5 +1,5 @@
 -- Each symbol of a formula's text is one that a text can have.
-use Rattle.wi_parser.proofs.Words.{◌≡◌, ℕ, ◌-◌, ◌*◌, ◌<◌, ◌≤◌, Bool, true, false, ◌&&◌, nat_lt, nat_le, List, [], ◌∷◌, All, codes, Option, Some, None, option_map, refl, ap, ap₂, ◌∙◌, subst, arith, if◌then◌else◌, and_parts, ltb-true, leb-true, lt-ltb, nat_tests, All-nil, All-cons, All-append, All-map, All-weaker, lowercase-uppercase, uppercase-uppercase, to_ascii_uppercase, list_all, digits_value, bytes_eq, str_to_ascii_lowercase, str_eq_ignore_ascii_case, Number as Numbers, read_decimal, IsUnsignedDecimal, read_decimal-numeral, columns, rows, place, letters_value, cell_at, address_at, Kind, Text, Rectangle, Mark, Name, OpenParenthesis, Cell, IsName, is_name_start, is_name_part, reference_of, rectangle_of, IsToken, Tokens, AreTokens, ended, bad, more, tokens, tokens_hold, Syntax, in_capitals, number_symbol, cell_symbol, reference_symbol, corners_symbol, rectangle_symbol, mark_symbol, symbol_of, symbols_of, after_prefix, after_equals, symbols_by, formula_symbols, reference_to, name_symbol, in_sheet, bad_token, what_if_name, name, IsWritable}
+use Rattle.wi_parser.proofs.Words.{◌≡◌, ℕ, ◌-◌, ◌*◌, ◌<◌, ◌≤◌, Bool, true, false, ◌&&◌, nat_lt, nat_le, List, [], ◌∷◌, All, codes, Option, Some, None, option_map, refl, ap, ap₂, ◌∙◌, subst, arith, if◌then◌else◌, and_parts, ltb-true, leb-true, lt-ltb, nat_tests, All-nil, All-cons, All-append, All-map, All-weaker, lowercase-uppercase, uppercase-uppercase, to_ascii_uppercase, list_all, digits_value, bytes_eq, str_to_ascii_lowercase, str_eq_ignore_ascii_case, Number as Numbers, read_decimal, IsUnsignedDecimal, read_decimal-numeral, columns, rows, place, letters_value, cell_at, address_at, Kind, Text, Rectangle, Mark, Name, OpenParenthesis, WrittenCell, IsName, is_name_start, is_name_part, reference_of, rectangle_of, IsToken, Tokens, AreTokens, ended, bad, more, tokens, tokens_hold, Syntax, in_capitals, number_symbol, cell_symbol, reference_symbol, corners_symbol, rectangle_symbol, mark_symbol, symbol_of, symbols_of, after_prefix, after_equals, symbols_by, formula_symbols, reference_to, name_symbol, in_sheet, bad_token, what_if_name, name, IsWritable}
 use Rattle.wi_lexer.specs.declared.token.Kind.TheVariants.{Number, Reference}
 use Rattle.wi_lexer.specs.declared.token.Mark as mark
 use Rattle.wi_parser.specs.declared.expr.Reference as references
@@ -57,14 +57,14 @@ inside_of c b (Some a) h r e =
     let at_is : a ≡ r.at = cc in
     subst (λ n. nat_lt n (rows * columns) ≡ true) at_is (h a refl)
 
-reference_inside : (c : Cell) → Inside (reference_to c)
+reference_inside : (c : WrittenCell) → Inside (reference_to c)
 reference_inside c = inside_of c.column_is_absolute c.row_is_absolute (address_at c.letters c.digits) (address_found c.letters c.digits)
 
 cell_writable : (o : Option references.Reference) → Inside o → IsWritable (cell_symbol o)
 cell_writable None h = tt
 cell_writable (Some r) h = h r refl
 
-reference_writable : (o : Option Cell) → IsWritable (reference_symbol o)
+reference_writable : (o : Option WrittenCell) → IsWritable (reference_symbol o)
 reference_writable None = tt
 reference_writable (Some c) = cell_writable (reference_to c) (reference_inside c)
 
@@ -73,7 +73,7 @@ corners_writable None p h e = tt
 corners_writable (Some c) None h e = tt
 corners_writable (Some c) (Some d) h e = (h c refl, e d refl)
 
-rectangle_writable : (o : Option (Cell × Cell)) → IsWritable (rectangle_symbol o)
+rectangle_writable : (o : Option (WrittenCell × WrittenCell)) → IsWritable (rectangle_symbol o)
 rectangle_writable None = tt
 rectangle_writable (Some p) = corners_writable (reference_to p.0) (reference_to p.1) (reference_inside p.0) (reference_inside p.1)
 

@@ -30,8 +30,8 @@ pub use Rattle.std.specs.Str.Parse.{AllDigits, digits_value}
 pub use Rattle.std.specs.Str.Pattern.{FindsTextPrefix, StripsPrefix}
 pub use Rattle.wi_fraction.proofs.Decimals.{starts_joined}
 pub use Rattle.wi_fraction.proofs.DecimalsReadBack.{decimal_few, decimals_read_back}
-pub use Rattle.wi_fraction.proofs.Digits.{digits_padded, length-padded}
 pub use Rattle.wi_fraction.proofs.Numerals.{read_decimal-numeral}
+pub use Rattle.wi_fraction.proofs.Padded.{digits_padded, length-padded}
 pub use Rattle.wi_fraction.proofs.Places.{all_none}
 pub use Rattle.wi_fraction.proofs.ReadsBack.{div_small}
 pub use Rattle.wi_fraction.proofs.Values.{then_some}
@@ -42,7 +42,7 @@ pub use Rattle.wi_fraction.specs.Inner.Reading.{read_decimal}
 pub use Rattle.wi_fraction.specs.Number.{Number, max_size}
 pub use Rattle.wi_fraction.specs.Text.{padded, sign_text}
 unfoldable pub use Rattle.wi_fraction.specs.Text.{size_text}
-pub use Rattle.wi_fraction.specs.Written.{IsWritten, Writes, WritesDigits, plain, point, written_value}
+pub use Rattle.wi_fraction.specs.Written.{IsDecimalText, WritesDecimal, WritesDigits, plain, point, written_value}
 pub use Rattle.wi_fraction.specs.declared.Fraction.{Fraction}
 pub use Rattle.wi_lexer.proofs.CallerLemmas.{found_ahead, next_shortens, token_is, token_shortens, tokens_are, tokens_bad, tokens_end, tokens_next}
 pub use Rattle.wi_lexer.proofs.DecimalLemmas.{SomeDigits}
@@ -54,14 +54,14 @@ pub use Rattle.wi_lexer.proofs.ReferenceLemmas.{reference_of_complete}
 pub use Rattle.wi_lexer.proofs.RunLemmas.{digits_all, digits_run, run_more, run_stops}
 pub use Rattle.wi_lexer.proofs.TextLemmas.{by_length, tokens_hold}
 pub use Rattle.wi_lexer.proofs.TokenLemmas.{none_begins, none_found, token_complete, token_some, token_sound}
-pub use Rattle.wi_lexer.specs.Cell.{Cell, IsCell}
-unfoldable pub use Rattle.wi_lexer.specs.Inner.Cell.{cell_of}
+pub use Rattle.wi_lexer.specs.Cell.{WrittenCell, IsCell}
+unfoldable pub use Rattle.wi_lexer.specs.Inner.Cell.{cell_len, cell_of, column_len, row_len}
 pub use Rattle.wi_lexer.specs.Inner.Ends.{ends, goes_on}
 unfoldable pub use Rattle.wi_lexer.specs.Inner.Mark.{mark_at, one_byte_mark, two_byte_mark}
 unfoldable pub use Rattle.wi_lexer.specs.Inner.Name.{name_len}
 unfoldable pub use Rattle.wi_lexer.specs.Inner.Number.{decimal_len, decimals_len, exponent_len, number_len, signed_len}
-unfoldable pub use Rattle.wi_lexer.specs.Inner.Rectangle.{corner_cells, rectangle_len, rectangle_of}
-unfoldable pub use Rattle.wi_lexer.specs.Inner.Reference.{reference_len, reference_of}
+unfoldable pub use Rattle.wi_lexer.specs.Inner.Rectangle.{corner_cells, rectangle_len, rectangle_of, second_len}
+unfoldable pub use Rattle.wi_lexer.specs.Inner.Reference.{first_len, reference_len, reference_of}
 unfoldable pub use Rattle.wi_lexer.specs.Inner.Text.{quoted_len}
 unfoldable pub use Rattle.wi_lexer.specs.Inner.Token.{token_at}
 pub use Rattle.wi_lexer.specs.Inner.Tokens.{tokens_ahead, tokens_from}
@@ -72,7 +72,7 @@ pub use Rattle.wi_lexer.specs.Name.{IsName, is_name_part, is_name_start}
 pub use Rattle.wi_lexer.specs.Quoted.{doubled, quoted}
 pub use Rattle.wi_lexer.specs.Rectangle.{IsRectangle, rectangle_text, two_cells}
 pub use Rattle.wi_lexer.specs.Reference.{IsReference, one_cell, reference_text}
-pub use Rattle.wi_lexer.specs.Runs.{IsRun, blanks_len, is_blank}
+pub use Rattle.wi_lexer.specs.Runs.{IsRunOf, blanks_len, is_blank}
 pub use Rattle.wi_lexer.specs.Scan.{Scan}
 pub use Rattle.wi_lexer.specs.Text.{IsText, of_content}
 pub use Rattle.wi_lexer.specs.Token.{IsLongest, IsToken, NoToken, after_blanks}
@@ -105,7 +105,7 @@ pub use Rattle.wi_parser.specs.Reads.{area_of, cell_area, inputs_of, leaf_inputs
 pub use Rattle.wi_parser.specs.Shift.{all_references, column_moved, in_sheet, leaf_references, map_references, map_references_in, part, row_moved, shifted, within}
 unfoldable pub use Rattle.wi_parser.specs.Shift.{moved, stays}
 pub use Rattle.wi_parser.specs.Spelling.{HasSpelling, IsSpelling, spelling, spelling_of_all, spelling_of_more}
-pub use Rattle.wi_parser.specs.Symbol.{Symbol, bad_token, close_parenthesis, corners, infix_mark, is_outside, is_unfit, name, numeral, open_parenthesis, percent_mark, reference, separator, sign_mark, text_literal, what_if_name, written_as}
+pub use Rattle.wi_parser.specs.Symbol.{Symbol, bad_token, close_parenthesis, corners, infix_mark, is_out_of_sheet, is_unfit, name, numeral, open_parenthesis, percent_mark, reference, separator, sign_mark, text_literal, what_if_name, written_as}
 pub use Rattle.wi_parser.specs.Symbols.{AreSymbols, Means, NoneBegins, NoneLonger, a_closing_parenthesis, a_name, a_percent_mark, a_reference, a_separator, a_token, an_opening_parenthesis, an_operator, an_outside_rectangle, an_outside_reference, an_unfit_number, at_the_end, name_symbol, no_token, reference_to, white_space}
 pub use Rattle.wi_parser.specs.Tree.{Tree, Trees, binary, call, cell, more_trees, no_trees, number, parenthesized, percent, rectangle, signed, text, trees_of, what_if}
 pub use Rattle.wi_parser.specs.View.{all_of, layer_tree, pair_of, tree_of}

@@ -3,7 +3,7 @@ use Rattle.std.specs.Prelude.{ℕ, List, if◌then◌else◌, Option, Some, None
 use Rattle.std.specs.List.{list_any}
 use Rattle.wi_parser.specs.declared.fault.ParseFault.{ParseFault}
 use Rattle.wi_parser.specs.declared.fault.ParseFault.TheVariants.{OutOfSheet, NumberRange, TooDeep}
-use Rattle.wi_parser.specs.Symbol.{Symbol, is_outside, is_unfit}
+use Rattle.wi_parser.specs.Symbol.{Symbol, is_out_of_sheet, is_unfit}
 use Rattle.wi_parser.specs.Nesting.{is_too_deep}
 
 -- the greatest length of a formula's text in bytes
@@ -12,6 +12,6 @@ max_formula = 4096
 
 abbrev pub refusal_of : List Symbol → Option ParseFault
 refusal_of ts =
-    if list_any is_outside ts then Some OutOfSheet
+    if list_any is_out_of_sheet ts then Some OutOfSheet
     else (if list_any is_unfit ts then Some NumberRange
     else (if is_too_deep ts then Some TooDeep else None))

@@ -5,7 +5,7 @@ use Rattle.std.specs.List.{flat_map}
 use Rattle.wi_fraction.specs.Decimal.{decimal_text}
 use Rattle.wi_values.specs.Address.{row_of, column_of, column_letters}
 use Rattle.wi_lexer.specs.Quoted.{quoted}
-use Rattle.wi_lexer.specs.Cell.{Cell}
+use Rattle.wi_lexer.specs.Cell.{WrittenCell}
 use Rattle.wi_lexer.specs.Reference.{reference_text}
 use Rattle.wi_lexer.specs.Rectangle.{rectangle_text}
 use Rattle.wi_parser.specs.declared.expr.Operator.{Operator}
@@ -17,7 +17,7 @@ use Rattle.wi_parser.specs.Spelling.{spelling}
 use Rattle.wi_fraction.specs.Text.{Bytes}
 
 -- `$` as written
-abbrev pub cell_named : Reference → Cell
+abbrev pub cell_named : Reference → WrittenCell
 cell_named r = record {
   column_is_absolute = r.column_is_absolute;
   letters = column_letters (column_of r.at);

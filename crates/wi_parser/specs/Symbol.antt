@@ -35,9 +35,9 @@ abbrev pub sign_mark : Sign → Symbol
 sign_mark s = infix_mark (written_as s)
 
 -- a reference to a cell outside the sheet
-abbrev pub is_outside : Symbol → Bool
-is_outside (bad_token OutOfSheet) = true
-is_outside s = false
+abbrev pub is_out_of_sheet : Symbol → Bool
+is_out_of_sheet (bad_token OutOfSheet) = true
+is_out_of_sheet s = false
 
 -- a number that does not fit
 abbrev pub is_unfit : Symbol → Bool

@@ -1,9 +1,9 @@
 -- The symbols of a text: what its tokens mean, as facts about its bytes.
 use Rattle.std.specs.Prelude.{◌≡◌, ◌≢◌, ℕ, ◌≤◌, ℤ, true, false, List, [], ◌∷◌, ◌++◌, length, ◌⊎◌, Some, None, codes, if◌then◌else◌, Option, option_map, map}
 use Rattle.wi_fraction.specs.Number.{Number}
-use Rattle.wi_fraction.specs.Written.{Writes, written_value}
+use Rattle.wi_fraction.specs.Written.{WritesDecimal, written_value}
 use Rattle.wi_lexer.specs.Quoted.{quoted}
-use Rattle.wi_lexer.specs.Cell.{Cell, IsCell}
+use Rattle.wi_lexer.specs.Cell.{WrittenCell, IsCell}
 use Rattle.wi_lexer.specs.Name.{IsName}
 use Rattle.wi_lexer.specs.Rectangle.{rectangle_text}
 use Rattle.wi_lexer.specs.Reference.{reference_text}
@@ -20,7 +20,7 @@ use Rattle.std.specs.Char.{to_ascii_uppercase}
 use Rattle.wi_fraction.specs.Text.{Bytes}
 
 -- if the sheet has the cell
-abbrev pub reference_to : Cell → Option Reference
+abbrev pub reference_to : WrittenCell → Option Reference
 reference_to c =
     option_map (λ a. record { at = a; column_is_absolute = c.column_is_absolute; row_is_absolute = c.row_is_absolute }) (address_at c.letters c.digits)
 
@@ -29,16 +29,16 @@ name_symbol bs = if str_eq_ignore_ascii_case bs (codes "MULTIPLE.OPERATIONS") th
 
 -- the token means this symbol
 pub data Means : Bytes → Symbol → Type 0 where
-  a_number : (text whole parts : Bytes) (k : ℤ) (x : Number) → Writes text whole parts k → written_value whole parts k ≡ Some x
+  a_number : (text whole parts : Bytes) (k : ℤ) (x : Number) → WritesDecimal text whole parts k → written_value whole parts k ≡ Some x
       → Means text (numeral x)
-  an_unfit_number : (text whole parts : Bytes) (k : ℤ) → Writes text whole parts k → written_value whole parts k ≡ None
+  an_unfit_number : (text whole parts : Bytes) (k : ℤ) → WritesDecimal text whole parts k → written_value whole parts k ≡ None
       → Means text (bad_token NumberRange)
   a_text : (content : Bytes) → Means (quoted content) (text_literal content)
-  a_reference : (c : Cell) (r : Reference) → IsCell c → reference_to c ≡ Some r → Means (reference_text c) (reference r)
-  an_outside_reference : (c : Cell) → IsCell c → reference_to c ≡ None → Means (reference_text c) (bad_token OutOfSheet)
-  a_rectangle : (c d : Cell) (p : Corners) → IsCell c → IsCell d → reference_to c ≡ Some p.one → reference_to d ≡ Some p.other
+  a_reference : (c : WrittenCell) (r : Reference) → IsCell c → reference_to c ≡ Some r → Means (reference_text c) (reference r)
+  an_outside_reference : (c : WrittenCell) → IsCell c → reference_to c ≡ None → Means (reference_text c) (bad_token OutOfSheet)
+  a_rectangle : (c d : WrittenCell) (p : Corners) → IsCell c → IsCell d → reference_to c ≡ Some p.one → reference_to d ≡ Some p.other
       → Means (rectangle_text c d) (corners p)
-  an_outside_rectangle : (c d : Cell) → IsCell c → IsCell d → (reference_to c ≡ None) ⊎ (reference_to d ≡ None)
+  an_outside_rectangle : (c d : WrittenCell) → IsCell c → IsCell d → (reference_to c ≡ None) ⊎ (reference_to d ≡ None)
       → Means (rectangle_text c d) (bad_token OutOfSheet)
   a_name : (text : Bytes) → IsName text → Means text (name_symbol text)
   an_opening_parenthesis : Means (codes "(") open_parenthesis

@@ -5,8 +5,8 @@ ghost use Rattle.wi_parser.specs.Inner.Reading.{ReadsAs, content_read, taken_as_
 
 use crate::fault::ParseFault;
 use crate::formula::Formula;
-use crate::front::{after, is_formula};
-use crate::parser::parse;
+use crate::front::{after, after_prefix};
+use crate::parser::parse_body;
 use std::alloc::{AllocError, Global};
 use wi_values::{Address, MAX_TEXT, Text, Value, imported_value};
 
@@ -27,8 +27,10 @@ impl Content {
     pub fn read(alloc: Global, text: &str) -> Result<Content, ParseFault>
         ensures { ReadsAs (content_read text.now) result }
     {
-        if is_formula(text) {
-            return Ok(Content::Formula(parse(alloc, text)?));
+        let plain = after_prefix(text);
+        let body = after("=", plain);
+        if body.is_some() {
+            return Ok(Content::Formula(parse_body(alloc, text, plain, body)?));
         }
         if let Some(rest) = after("'", text) {
             return Content::taken_as_text(alloc, rest);

@@ -1,6 +1,6 @@
 //! How a text begins.
 
-ghost use Rattle.std.specs.Prelude.{◌≡◌, option_map, is_some};
+ghost use Rattle.std.specs.Prelude.{◌≡◌, option_map};
 ghost use Rattle.wi_parser.specs.Inner.FormulaText as spec;
 
 /// What follows the front, where the text begins with it.
@@ -15,11 +15,4 @@ pub(crate) fn after_prefix(text: &str) -> &str
     ensures { result.now ≡ spec.after_prefix text.now }
 {
     after("of:", text).unwrap_or(text)
-}
-
-/// Whether a text begins as a formula does.
-pub(crate) fn is_formula(text: &str) -> bool
-    ensures { result ≡ is_some (spec.after_equals text.now) }
-{
-    after("=", after_prefix(text)).is_some()
 }

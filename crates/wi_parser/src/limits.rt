@@ -2,7 +2,7 @@
 
 ghost use Rattle.std.specs.Prelude.{◌≡◌, ◌<◌, ◌↔◌, IsTrue};
 ghost use Rattle.std.specs.List.{list_any};
-ghost use Rattle.wi_parser.specs.Symbol.{is_outside, is_unfit};
+ghost use Rattle.wi_parser.specs.Symbol.{is_out_of_sheet, is_unfit};
 ghost use Rattle.wi_parser.specs.Inner.SymbolCode.{meant_by, all_meant};
 ghost use Rattle.wi_parser.specs.Nesting as nesting;
 ghost use Rattle.wi_parser.specs.Nesting.{max_depth};
@@ -34,7 +34,7 @@ pub(crate) fn refusal_of(symbols: &[Symbol]) -> Option<ParseFault>
 
 #[tactic(auto, using(crate::proofs::Refusals::any_meant))]
 fn has_outside(symbols: &[Symbol]) -> bool
-    ensures { result ≡ list_any is_outside (all_meant symbols.now) }
+    ensures { result ≡ list_any is_out_of_sheet (all_meant symbols.now) }
 {
     symbols.iter().any(|s| is_outside(s))
 }
@@ -47,7 +47,7 @@ fn has_unfit(symbols: &[Symbol]) -> bool
 }
 
 fn is_outside(symbol: &Symbol) -> bool
-    ensures { result ≡ is_outside (meant_by symbol.now) }
+    ensures { result ≡ is_out_of_sheet (meant_by symbol.now) }
 {
     match symbol {
         Symbol::Refused(ParseFault::OutOfSheet) => true,

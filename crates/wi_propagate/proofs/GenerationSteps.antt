@@ -1,5 +1,5 @@
 -- Generations are given and raised, one cell after another.
-use Rattle.wi_propagate.proofs.Words.{◌≡◌, ◌==◌, ◌||◌, ◌⊎◌, inl, inr, ◌<◌, ◌+◌, ℕ, Bool, true, false, cond, List, length, take, get_or, Option, Some, None, IsSome, is_some, refl, ap, sym, ◌∙◌, subst, eq-eqb, eqb-true, or_cases, eq_by_cmp_equiv, nat_cmp_total, list_any_at, lookup-set_value, unwrap_or, nat_cmp, eq_by_cmp, lookup, set_value, is_at, insert_entry, found-insert, is_at-eq, is_itself, turn_test, is_one_of, one_more, Generations, generation_in, HasGeneration}
+use Rattle.wi_propagate.proofs.Words.{◌≡◌, ◌==◌, ◌||◌, ◌⊎◌, inl, inr, ◌<◌, ◌+◌, ℕ, Bool, true, false, cond, List, length, take, get_or, Option, Some, None, IsSome, is_some, refl, ap, sym, ◌∙◌, subst, eqb-true, or_cases, eq_by_cmp_equiv, nat_cmp_total, lookup-set_value, unwrap_or, nat_cmp, eq_by_cmp, lookup, set_value, is_at, insert_entry, found-insert, is_at-eq, is_itself, turn_test, is_one_of, Generations, generation_in, HasGeneration, has_one_more}
 
 -- a cell is given a generation, and no other cell
 abbrev pub IsGiven : Generations → Generations → ℕ → ℕ → Type 0
@@ -43,7 +43,7 @@ room_made old new a e = at (lookup (is_at (nat_cmp a)) old) refl e
         (λ c. ap (lookup (is_at (nat_cmp c))) k ∙ found-insert old a 0 c ∙ ap (λ (b : Bool). cond b (Some 0) (lookup (is_at (nat_cmp c)) old)) (turn_test c a))
 
 pub there_more : (old new : Generations) (xs : List ℕ) (i a : ℕ) → i < length xs → a ≡ get_or xs i a → MakesRoom old new a → ((c : ℕ) → is_one_of (take i xs) c ≡ true → HasGeneration old c) → (c : ℕ) → is_one_of (take (i + 1) xs) c ≡ true → HasGeneration new c
-there_more old new xs i a l e made k c m = at (or_cases (is_one_of (take i xs) c) (a == c) (sym (one_more xs i a c l e) ∙ m))
+there_more old new xs i a l e made k c m = at (or_cases (is_one_of (take i xs) c) (a == c) (sym (has_one_more xs i a c l e) ∙ m))
   where
     at : (is_one_of (take i xs) c ≡ true) ⊎ ((a == c) ≡ true) → HasGeneration new c
     at (inl f) = made.stay c (k c f)
@@ -60,13 +60,10 @@ pub raised_more : (old new first : Generations) (xs : List ℕ) (i a edit : ℕ)
     (c : ℕ) → generation_in new c ≡ cond (is_one_of (take (i + 1) xs) c) edit (generation_in first c)
 raised_more old new first xs i a edit l e u h c =
     ap (λ (o : Option ℕ). unwrap_or o 0) (u c) ∙ at (is_one_of (take i xs) c) (a == c) (h c)
-    ∙ ap (λ (b : Bool). cond b edit (generation_in first c)) (sym (one_more xs i a c l e))
+    ∙ ap (λ (b : Bool). cond b edit (generation_in first c)) (sym (has_one_more xs i a c l e))
   where
     at : (b d : Bool) → generation_in old c ≡ cond b edit (generation_in first c) → unwrap_or (cond d (Some edit) (lookup (is_at (nat_cmp c)) old)) 0 ≡ cond (b || d) edit (generation_in first c)
     at true true k = refl
     at true false k = k
     at false true k = refl
     at false false k = k
-
-pub is_there : (xs : List ℕ) (i a : ℕ) → i < length xs → a ≡ get_or xs i a → is_one_of xs a ≡ true
-is_there xs i a l e = list_any_at (λ (x : ℕ). x == a) xs i a l (eq-eqb (get_or xs i a) a (sym e))

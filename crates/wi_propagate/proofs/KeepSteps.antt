@@ -1,10 +1,10 @@
 -- A value is kept in one question, and for longer.
-use Rattle.wi_propagate.proofs.Words.{◌≡◌, ◌==◌, ◌<◌, ◌≤◌, ◌-◌, ◌+◌, inl, inr, ◌||◌, ◌&&◌, ℕ, Bool, true, false, cond, min, List, length, Option, Some, None, IsSome, is_some, Result, Ok, Err, OnOk, OnErr, refl, ap, sym, ◌∙◌, subst, arith, if◌then◌else◌, eqb-true, or_left, update, AllocError, Value, Replacement, same_replacements, is_itself, Key, Entries, KeptValues, HasRoom, Puts, PutsForGoing, PutsForOne, same_key, value_for, len_after, holds_after_keep, Sheet, same_case, GivesUpWhenFull, IsKeptFor, AreRight, Generations, generation_in, key_in, keeping, state_in}
+use Rattle.wi_propagate.proofs.Words.{◌≡◌, ◌==◌, ◌<◌, ◌≤◌, ◌-◌, ◌+◌, inl, inr, ◌||◌, ◌&&◌, ℕ, Bool, true, false, cond, min, List, length, Option, Some, None, IsSome, is_some, Result, Ok, Err, OnOk, OnErr, refl, ap, sym, ◌∙◌, subst, arith, if◌then◌else◌, eqb-true, or_left, update, AllocError, Value, Replacement, same_replacements, is_itself, Key, Entries, KeptValues, HasRoom, PutsIn, PutsForGoing, PutsForOne, same_key, value_for, len_after, holds_after_keep, Sheet, same_case, GivesUpWhenFull, IsKeptFor, AreRight, Generations, generation_in, key_in, keeping, state_in}
 
 -- what an accepted `keep` of kept values ensures, and what a refused one does
 pub record KeepsIn (r : Result (Unit {0}) AllocError) (m n : KeptValues) (k : Key) (v : Value) : Type 0 where
   pub found : OnOk r (value_for n.entries k ≡ Some v)
-  pub stays : OnOk r (HasRoom m k → Puts m.entries n.entries k v)
+  pub stays : OnOk r (HasRoom m k → PutsIn m.entries n.entries k v)
   pub goes : OnOk r (value_for m.entries k ≡ None → m.capacity ≤ length m.entries → PutsForOne m.entries n.entries k v)
   pub len : OnOk r (length n.entries ≡ len_after m k)
   pub going : OnOk r (PutsForGoing m n k v)
@@ -61,7 +61,7 @@ room_after (Ok x) g m n k v h e = λ a l.
 room_after (Err x) g m n k v h e = tt
 
 -- a key that was there is there
-pub stays_put : (es fs : Entries) (k q : Key) (v : Value) → Puts es fs k v → is_some (value_for es q) ≡ true → is_some (value_for fs q) ≡ true
+pub stays_put : (es fs : Entries) (k q : Key) (v : Value) → PutsIn es fs k v → is_some (value_for es q) ≡ true → is_some (value_for fs q) ≡ true
 stays_put es fs k q v p h = ap (λ (o : Option Value). is_some o) (p q) ∙ is_some_cond (same_key k q) v (value_for es q) ∙ or_left (is_some (value_for es q)) (same_key k q) h
 
 -- none goes but for a key that comes to a full list

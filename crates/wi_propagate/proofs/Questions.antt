@@ -1,12 +1,12 @@
 -- A question asked of a calculator that keeps values.
-use Rattle.wi_propagate.proofs.Words.{◌≡◌, ◌≤◌, ◌<◌, ◌+◌, ◌-◌, ◌^◌, inl, inr, length, All, filter, not, is_some, ℕ, Bool, true, false, List, [], Option, refl, ap, sym, ◌∙◌, subst, arith, keys_of, cases_lt, true≢false, Value, Fault, Circular, Replacement, Sheet, content_of, put_all, has_formula, Counts, Stored, Key, KeptValues, value_for, circular, clash, Case, reaching, asks_circular, table_entry, IsWhatIfSettled, IsClosed, SpentOn, left_is_unkept, sum_ones, never_fall-same, spent_price, spent_unkept, cells_open, entry_circular, none_circular, MayBeRead, KeepsFound, WhereRoom, TakesNoMore, GivesUpWhenFull, NeedsNoEvaluation, IsValuedAnew, IsSameBeside, Saved, Spends, what_if_more, rests_more, none_went, Generations, generation_in, KeptSheet, key_in, stands, is_kept, unkept, gone, IsAtHand, HasRoomFor, KeepsAll, KeepsNoMore, KeepsOld, KeepsWhileRoom, AreRight, AreKeptRight, Held, kept_sheet, values_in, Keeping, keeping, begun, state_in, ArePlaced, IsKeepingRight, Owes, told, or_none}
+use Rattle.wi_propagate.proofs.Words.{◌≡◌, ◌≤◌, ◌<◌, ◌+◌, ◌-◌, ◌^◌, inl, inr, length, All, filter, not, is_some, ℕ, Bool, true, false, List, [], Option, refl, ap, sym, ◌∙◌, subst, arith, keys_of, cases_lt, true≢false, Value, Fault, Circular, Replacement, Sheet, content_of, put_all, has_formula, Counts, Stored, Key, KeptValues, value_for, circular, clash, Case, reaching, asks_circular, table_entry, IsWhatIfSettled, IsClosed, SpentOn, left_is_unkept, sum_ones, never_fall-same, spent_price, spent_unkept, cells_open, entry_circular, none_circular, MayBeRead, KeepsFound, WhereRoom, TakesNoMore, GivesUpWhenFull, NeedsNoEvaluation, IsValuedAnew, IsSameBeside, Saved, Spends, what_if_more, rests_more, none_went, Generations, generation_in, KeptSheet, key_in, stands, is_kept, unkept, gone, IsAtHand, HasRoomFor, KeepsAll, KeepsNoMore, KeepsOld, KeepsWhileRoom, AreRight, AreKeptRight, Box, Held, kept_sheet, values_in, Keeping, keeping, begun, state_in, ArePlaced, IsKeepingRight, Owes, told, or_none}
 use Rattle.wi_engine.specs.Inner.Saving as saving
 use Rattle.wi_propagate.proofs.PlaceCounts.{all_stand}
 
 -- ---- what is owed is settled first
 
 -- where the numbers of edits are the same, so is the calculator
-module _ {s : Stored} {old new : Generations} (e : new ≡ old) (o : Option Held) (n : Counts) where
+module _ {s : Stored} {old new : Generations} (e : new ≡ old) (o : Option (Box Held)) (n : Counts) where
   pub settled_view : (k : KeptSheet) → kept_sheet s (told s.sheet old) o n ≡ k → kept_sheet s (told s.sheet new) o n ≡ k
   settled_view k h = ap (λ (ns : Generations). kept_sheet s (told s.sheet ns) o n) e ∙ h
 
@@ -20,14 +20,14 @@ pub record Begins (k : KeptSheet) (q : Keeping) : Type 0 where
   pub is : q ≡ begun k
   pub placed : ArePlaced k.values
 
-pub begins : (s : Stored) (gs : Generations) (o : Option Held) (n : Counts) (v : KeptValues) (q : Keeping) → v ≡ values_in o → q ≡ keeping s.sheet s.edits gs [] v → ArePlaced v → Begins (kept_sheet s gs o n) q
+pub begins : (s : Stored) (gs : Generations) (o : Option (Box Held)) (n : Counts) (v : KeptValues) (q : Keeping) → v ≡ values_in o → q ≡ keeping s.sheet s.edits gs [] v → ArePlaced v → Begins (kept_sheet s gs o n) q
 begins s gs o n v q f e placed = record {
   is = e ∙ ap (λ (x : KeptValues). keeping s.sheet s.edits gs [] x) f;
   placed = subst (λ (x : KeptValues). ArePlaced x) f placed;
 }
 
 -- and what was kept is right
-pub begun_right : (s : Stored) (gs : Generations) (o : Option Held) (n : Counts) (v : KeptValues) → v ≡ values_in o → AreKeptRight (kept_sheet s gs o n) → IsKeepingRight (keeping s.sheet s.edits gs [] v)
+pub begun_right : (s : Stored) (gs : Generations) (o : Option (Box Held)) (n : Counts) (v : KeptValues) → v ≡ values_in o → AreKeptRight (kept_sheet s gs o n) → IsKeepingRight (keeping s.sheet s.edits gs [] v)
 begun_right s gs o n v f h = record {
   past = h.past;
   right = subst (λ (x : KeptValues). AreRight s.sheet s.edits (generation_in gs) x.entries) (sym f) h.right;

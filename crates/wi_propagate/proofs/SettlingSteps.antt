@@ -1,5 +1,5 @@
 -- What is owed is noted, one edit after another.
-use Rattle.wi_propagate.proofs.Words.{◌≡◌, ◌==◌, ◌||◌, ◌&&◌, ◌⊎◌, inl, inr, not, ◌≤◌, ◌<◌, ◌+◌, max, ℕ, Bool, true, false, cond, List, [], ◌∷◌, length, take, get_or, ◌++◌, nat_lt, Option, Some, is_some, refl, ap, sym, ◌∙◌, subst, arith, eqb-true, or-false, map-append, list_any-append, list_any-IsPermutation, IsPermutation-map, IsPermutation, unwrap_or, nat_cmp, keys_of, lookup, is_at, insert_entry, CellEntries, get, Sheet, Reaches, is_one_of, reaches, in_cone, Edges, AreEdgesOf, IsLatest, IsOwed, AreOwed, IsSettling, reaches_true, true_reaches, same_reaches, in_last, in_front, settles_one, settling_begins, owed_stays, one_more, Generations, generation_in, noted_in, second_cells, has_seen, ltb-false, seen_one}
+use Rattle.wi_propagate.proofs.Words.{◌≡◌, ◌==◌, ◌||◌, ◌&&◌, ◌⊎◌, inl, inr, not, ◌≤◌, ◌<◌, ◌+◌, max, ℕ, Bool, true, false, cond, List, [], ◌∷◌, length, take, get_or, ◌++◌, nat_lt, Option, Some, is_some, refl, ap, sym, ◌∙◌, subst, arith, eqb-true, or-false, map-append, list_any-append, list_any-IsPermutation, IsPermutation-map, IsPermutation, unwrap_or, nat_cmp, keys_of, lookup, is_at, insert_entry, CellEntries, get, Sheet, Reaches, is_one_of, reaches, in_cone, Edges, AreEdgesOf, IsLatest, IsOwed, AreOwed, IsSettling, reaches_true, true_reaches, same_reaches, in_last, in_front, settles_one, settling_begins, owed_stays, Generations, generation_in, noted_in, second_cells, has_seen, ltb-false, seen_one, has_one_more, or_assoc, or_new}
 use Rattle.wi_propagate.proofs.GenerationSteps.{IsGiven}
 
 -- ---- one cell more is seen
@@ -7,11 +7,7 @@ use Rattle.wi_propagate.proofs.GenerationSteps.{IsGiven}
 pub seen_more : {X : Type 0} (first old new : CellEntries X) (xs : List ℕ) (i a : ℕ) (v : X) → i < length xs → a ≡ get_or xs i a → new.entries ≡ cond (is_some (get nat_cmp old a)) old.entries (insert_entry nat_cmp old.entries a v) →
     ((c : ℕ) → has_seen old c ≡ (has_seen first c || is_one_of (take i xs) c)) → (c : ℕ) → has_seen new c ≡ (has_seen first c || is_one_of (take (i + 1) xs) c)
 seen_more first old new xs i a v l e k h c =
-    seen_one old new a v k c ∙ ap (λ (b : Bool). b || (a == c)) (h c) ∙ three (has_seen first c) (is_one_of (take i xs) c) (a == c) ∙ ap (λ (b : Bool). has_seen first c || b) (sym (one_more xs i a c l e))
-  where
-    three : (p q r : Bool) → ((p || q) || r) ≡ (p || (q || r))
-    three true q r = refl
-    three false q r = refl
+    seen_one old new a v k c ∙ ap (λ (b : Bool). b || (a == c)) (h c) ∙ or_assoc (has_seen first c) (is_one_of (take i xs) c) (a == c) ∙ ap (λ (b : Bool). has_seen first c || b) (sym (has_one_more xs i a c l e))
 
 -- ---- one number more is lifted
 
@@ -19,7 +15,7 @@ pub lifted_more : (old new first : Generations) (xs : List ℕ) (i a number lift
     ((c : ℕ) → generation_in old c ≡ cond (is_one_of (take i xs) c) (max (generation_in first c) number) (generation_in first c)) → (c : ℕ) → generation_in new c ≡ cond (is_one_of (take (i + 1) xs) c) (max (generation_in first c) number) (generation_in first c)
 lifted_more old new first xs i a number lifted l e w u h c =
     ap (λ (o : Option ℕ). unwrap_or o 0) (u c) ∙ at (is_one_of (take i xs) c) (a == c) refl (h c)
-    ∙ ap (λ (b : Bool). cond b (max (generation_in first c) number) (generation_in first c)) (sym (one_more xs i a c l e))
+    ∙ ap (λ (b : Bool). cond b (max (generation_in first c) number) (generation_in first c)) (sym (has_one_more xs i a c l e))
   where
     here : (b : Bool) → (a == c) ≡ true → generation_in old c ≡ cond b (max (generation_in first c) number) (generation_in first c) → lifted ≡ max (generation_in first c) number
     here true t k = let f = ap (generation_in old) (eqb-true a c t) in omega (arith, w, f, k)
@@ -43,13 +39,8 @@ pub settling_more : (es : Edges) (named old new : Generations) (rest less : List
     ((s : Sheet) → AreEdgesOf es s → (c : ℕ) → now c ≡ (seen c || (in_cone s (x ∷ []) c && not (seen c)))) → IsSettlingOver es named old rest seen last → IsSettlingOver es named new less now number
 settling_more es named old new rest less x number last seen now part e falls raised shown k s a =
     subst (IsSettling s (generation_in named) (noted_in named new) less now) (sym e) (settles_one s (generation_in named) (noted_in named old) (noted_in named new) rest less x last seen now part (subst (λ (m : ℕ). m ≤ last) e falls)
-    (λ c. shown s a c ∙ either (seen c) (in_cone s (x ∷ []) c)) (λ c. ap (λ (m : ℕ). max (generation_in named c) m) (raised s a c) ∙ over c (in_cone s (x ∷ []) c && not (seen c))) (k s a))
+    (λ c. shown s a c ∙ or_new (seen c) (in_cone s (x ∷ []) c)) (λ c. ap (λ (m : ℕ). max (generation_in named c) m) (raised s a c) ∙ over c (in_cone s (x ∷ []) c && not (seen c))) (k s a))
   where
-    either : (p q : Bool) → (p || (q && not p)) ≡ (p || q)
-    either true q = refl
-    either false true = refl
-    either false false = refl
-
     over : (c : ℕ) (b : Bool) → max (generation_in named c) (cond b (max (generation_in old c) number) (generation_in old c)) ≡ cond b (max (noted_in named old c) (generation_in named x)) (noted_in named old c)
     over c true = omega (arith, e)
     over c false = refl

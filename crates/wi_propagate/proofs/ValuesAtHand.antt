@@ -1,5 +1,5 @@
 -- What is kept or was given up in a question: a value comes, and none goes.
-use Rattle.wi_propagate.proofs.Words.{◌≡◌, ◌≤◌, ◌-◌, ◌⊎◌, inl, inr, ◌||◌, ℕ, Bool, true, false, cond, nat_lt, List, [], ◌∷◌, length, Option, Some, None, IfSome, IsSome, is_some, Result, Ok, Err, OnOk, refl, ap, sym, ◌∙◌, subst, arith, if◌then◌else◌, nat_tests, lookup_from_place, slice_get_cases, update, option_or, AllocError, Value, Replacement, Key, Entries, KeptValues, HasOneEach, Puts, going, same_key, value_for, last_entry, same_key_means, same_key_equiv, same_case, known_still, known_then, Keeps, Generations, generation_in, key_in, Keeping, TakesOver, state_in, value_in}
+use Rattle.wi_propagate.proofs.Words.{◌≡◌, ◌≤◌, ◌-◌, ◌⊎◌, inl, inr, ◌||◌, ℕ, Bool, true, false, cond, nat_lt, List, [], ◌∷◌, length, Option, Some, None, IfSome, IsSome, is_some, Result, Ok, Err, OnOk, refl, ap, sym, ◌∙◌, subst, arith, if◌then◌else◌, nat_tests, lookup_from_place, slice_get_cases, update, option_or, AllocError, Value, Replacement, Key, Entries, KeptValues, HasOneEach, PutsIn, going, same_key, value_for, last_entry, same_key_means, same_key_equiv, same_case, known_still, known_then, Keeps, Generations, generation_in, key_in, Keeping, TakesOver, state_in, value_in}
 use Rattle.wi_propagate.proofs.KeepSteps.{KeepsIn, put_is_some}
 use Rattle.wi_propagate.proofs.RightValues.{told_in}
 
@@ -30,13 +30,13 @@ none_stands [] q l h = let z = h in cc
 none_stands (e ∷ es) q l h = absurd (omega (arith, l))
 
 -- where none goes, all that stood stands beside the new one
-none_gone : (m n : KeptValues) (k : Key) (v : Value) → KeepsIn (Ok tt) m n k v → going m k ≡ None → Puts m.entries n.entries k v
+none_gone : (m n : KeptValues) (k : Key) (v : Value) → KeepsIn (Ok tt) m n k v → going m k ≡ None → PutsIn m.entries n.entries k v
 none_gone m n k v h none = at (value_for m.entries k) (nat_lt (length m.entries) m.capacity) refl refl
   where
     goes : Option Value → Bool → Option (Key × Value)
     goes o b = if is_some o then None else (if b then None else last_entry m.entries)
 
-    at : (o : Option Value) (b : Bool) → value_for m.entries k ≡ o → nat_lt (length m.entries) m.capacity ≡ b → Puts m.entries n.entries k v
+    at : (o : Option Value) (b : Bool) → value_for m.entries k ≡ o → nat_lt (length m.entries) m.capacity ≡ b → PutsIn m.entries n.entries k v
     at (Some u) b e f = h.stays (inl (subst (λ (o : Option Value). IsSome o) (sym e) refl))
     at None true e f = h.stays (inr (grind (arith, nat_tests)))
     at None false e f =

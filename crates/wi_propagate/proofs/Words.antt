@@ -1,13 +1,13 @@
 -- The words of the library, of the crates below and of this crate's definitions that its proofs are written in.
 pub use Rattle.std.proofs.Common.{All, Bool, Err, IfOk, IfSome, IsSome, List, None, Ok, OnErr, OnOk, Option, Result, Some, [], ap, arith, cond, eq-eqb, false, filter, get_or, if◌then◌else◌, inl, inr, is_ok, is_some, length, map, max, min, nat_le, nat_lt, not, refl, rules, slice_get, subst, suc, sym, take, true, zero, ℕ, ◌&&◌, ◌*◌, ◌++◌, ◌+◌, ◌-◌, ◌<◌, ◌==◌, ◌^◌, ◌||◌, ◌∙◌, ◌∷◌, ◌≡◌, ◌≤◌, ◌⊎◌}
-pub use Rattle.std.proofs.Math.Bool.{or-false}
+pub use Rattle.std.proofs.Math.Bool.{or-false, or_assoc}
 pub use Rattle.std.proofs.lemmas.Bool.{and_parts, cases_lt, eqb-true, false_from_ne_true, false≢true, ltb-false, or_cases, or_left, or_parts, or_right, true≢false}
 pub use Rattle.std.proofs.lemmas.Bool.Decides.{nat_tests}
 pub use Rattle.std.proofs.lemmas.Cmp.{eq_by_cmp_equiv, nat_cmp_total}
 pub use Rattle.std.proofs.lemmas.Grind.{common_steps}
 pub use Rattle.std.proofs.lemmas.List.{map-append, nil_from_length}
 pub use Rattle.std.proofs.lemmas.List.Elements.{All-more}
-pub use Rattle.std.proofs.lemmas.List.Folds.{list_all_more, list_any-append, list_any_at}
+pub use Rattle.std.proofs.lemmas.List.Folds.{list_all_more, list_any-append}
 pub use Rattle.std.proofs.lemmas.List.Sorted.{IsPermutation-map, list_any-IsPermutation}
 pub use Rattle.std.proofs.lemmas.Map.{lookup-set_value}
 pub use Rattle.std.proofs.lemmas.Map.Entries.{lookup_from_place}
@@ -15,6 +15,7 @@ pub use Rattle.std.proofs.lemmas.Map.Keys.{IsDistinct-head, IsDistinct-tail}
 pub use Rattle.std.proofs.lemmas.Option.{slice_get_cases}
 pub use Rattle.std.proofs.lemmas.Result.{IfOk-weaker}
 pub use Rattle.std.specs.BTreeMap.{insert_entry, is_at}
+pub use Rattle.std.specs.Global.{Box}
 pub use Rattle.std.specs.Cmp.Derive.{one_truth}
 pub use Rattle.std.specs.List.{AllByRecursion, IsDistinct, list_all, list_any}
 pub use Rattle.std.specs.List.Sorted.{IsPermutation}
@@ -24,7 +25,7 @@ pub use Rattle.std.specs.Ordering.{eq_by_cmp, nat_cmp}
 pub use Rattle.std.specs.declared.alloc.AllocError.{AllocError}
 pub use Rattle.wi_cache.proofs.Callers.{holds_after_keep, none_goes_before}
 pub use Rattle.wi_cache.proofs.Keys.{key_itself, same_key_equiv}
-pub use Rattle.wi_cache.specs.Entries.{Entries, HasOneEach, HasRoom, KeptValues, Puts, PutsForGoing, PutsForOne, going, kept, last_entry, len_after, same_key, value_for}
+pub use Rattle.wi_cache.specs.Entries.{Entries, HasOneEach, HasRoom, KeptValues, PutsIn, PutsForGoing, PutsForOne, going, kept, last_entry, len_after, same_key, value_for}
 pub use Rattle.wi_cache.specs.Hashed.{same_key_means}
 pub use Rattle.wi_cache.specs.declared.key.Key.{Key}
 pub use Rattle.wi_engine.proofs.Ledger.{spends_err, spends_then, spends_weaken, where_then}
@@ -71,7 +72,6 @@ pub use Rattle.wi_sheet.proofs.CaseCosts.{left_is_unkept, never_fall-same, spent
 pub use Rattle.wi_sheet.proofs.Cases.{demands_itself, different_closed}
 pub use Rattle.wi_sheet.proofs.CellsAhead.{all_ahead, cells_ahead, fewer, none_ahead, occupied, one_ahead}
 pub use Rattle.wi_sheet.proofs.Cones.{outside_shown, outside_shown_same, outside_unmoved, outside_value}
-pub use Rattle.wi_sheet.proofs.Filters.{one_more}
 pub use Rattle.wi_sheet.proofs.Limits.{demand_by_replacements}
 pub use Rattle.wi_sheet.proofs.Locality.{others_do_not_count, value_same}
 pub use Rattle.wi_sheet.proofs.Marks.{formulas_and_cells, others_unmoved}
@@ -94,11 +94,13 @@ unfoldable pub use Rattle.wi_store.specs.Store.{accepted}
 pub use Rattle.wi_store.specs.declared.fault.StoreFault.{StoreFault}
 pub use Rattle.wi_store.specs.declared.fault.StoreFault.TheVariants.{EditLimit, Full, Memory}
 pub use Rattle.wi_tiles.specs.Entries.{CellEntries, get}
+pub use Rattle.wi_values.proofs.Listed.{has_at, has_one_more}
 pub use Rattle.wi_values.proofs.Lists.{sum_ones}
 pub use Rattle.wi_values.proofs.Lookups.{found-insert}
 pub use Rattle.wi_values.proofs.Order.{is_at-eq, is_itself, turn_test}
 pub use Rattle.wi_values.proofs.Outcomes.{on_err, on_ok}
 pub use Rattle.wi_values.proofs.Replacements.Same.{same_replacements_Decides}
+pub use Rattle.wi_values.proofs.Small.{or_new}
 pub use Rattle.wi_values.proofs.Within.{places_left}
 pub use Rattle.wi_values.specs.Address.{columns, is_one_of, rows}
 pub use Rattle.wi_values.specs.Replacements.{same_replacements}

@@ -2,8 +2,8 @@
 //! names; of those that reach them it is noted when a question asks.
 
 ghost use Rattle.std.specs.Prelude.{◌≡◌, ◌⊎◌, ℕ, [], max, true, None, if◌then◌else◌, OnOk};
-ghost use Rattle.wi_parser.specs.Sheet.{Sheet};
 ghost use Rattle.wi_values.specs.Address.{is_one_of};
+ghost use Rattle.wi_parser.specs.Sheet.{Sheet};
 ghost use Rattle.wi_graph.specs.Edges.{AreEdgesOf};
 ghost use Rattle.wi_graph.specs.Latest.{AreOwed, IsUnread};
 ghost use Rattle.wi_propagate.specs.KeptSheet.{generation_in};

@@ -13,7 +13,7 @@ use wi_cache::{GivenUp, Kept};
 use wi_graph::Graph;
 use wi_worlds::Reaches;
 
-/// What a question takes over from the one before, and leaves to the next.
+/// What a question takes over from the one before, and leaves to the next. It stands in a box, so that each question moves a pointer.
 #[derive(Drop)]
 pub struct Held {
     pub kept: Kept,
@@ -26,27 +26,28 @@ pub struct Held {
 impl Held {
     /// Nothing yet, and room for so many kept values. Memory for them is taken as they come.
     #[tactic(auto, using(crate::proofs::KeptCones::none_told))]
-    pub(crate) fn new(alloc: Global, keep: usize) -> Result<Held, AllocError>
+    pub(crate) fn new(alloc: Global, keep: usize) -> Result<Box<Held>, AllocError>
         requires { 1 ≤ keep }
-        ensures values { IfOk result (λ h. h.kept ≡ kept [] keep) }
-        ensures cones { IfOk result (λ h. (s : Sheet) → AreAllCones s h.cones) }
+        ensures values { IfOk result (λ h. h.value.kept ≡ kept [] keep) }
+        ensures cones { IfOk result (λ h. (s : Sheet) → AreAllCones s h.value.cones) }
     {
         let kept = Kept::new(alloc, keep)?;
-        Ok(Held {
+        let held = Held {
             kept,
             cones: Reaches::new(alloc),
             given_up: GivenUp::new(alloc),
-        })
+        };
+        Ok(Box::new(alloc, held)?)
     }
 }
 
 /// Takes out what is held, for a question, where questions have had at most so many replaced cells: without the cones where they
 /// are more than it takes over. Takes no memory.
 #[inline(always)]
-pub(crate) fn take_held(alloc: Global, widest: usize, held: &mut Option<Held>) -> Held
+pub(crate) fn take_held(alloc: Global, widest: usize, held: &mut Option<Box<Held>>) -> Box<Held>
     requires { IsSome held.old }
-    ensures values { result.kept ≡ values_in held.old }
-    ensures cones { (s : Sheet) → AreHeldCones s held.old → AreAllCones s result.cones }
+    ensures values { result.value.kept ≡ values_in held.old }
+    ensures cones { (s : Sheet) → AreHeldCones s held.old → AreAllCones s result.value.cones }
 {
     let Some(mut taken) = held.take() else {
         unreachable!()
@@ -56,7 +57,7 @@ pub(crate) fn take_held(alloc: Global, widest: usize, held: &mut Option<Held>) -
 }
 
 /// Lets the cones that are held go over the edit that is staged, as `keep_over_edit` does. Takes no memory.
-pub(crate) fn hold_over_edit(alloc: Global, graph: &Graph, held: &mut Option<Held>)
+pub(crate) fn hold_over_edit(alloc: Global, graph: &Graph, held: &mut Option<Box<Held>>)
     ensures there { IsSome held.old → IsSome held.new }
     ensures values { values_in held.new ≡ values_in held.old }
     ensures cones { (s t : Sheet) → AreEdgesOf graph.now.now s

@@ -30,7 +30,7 @@ pub struct Keeping<'a> {
     graph: &'a Graph,
     generations: &'a Generations,
     // With the cones of the replaced cells so far, and of some before, and the values that were given up in this question.
-    held: Held,
+    held: Box<Held>,
     // The replacements of the last key that had some of them, and not all.
     last: World,
 }
@@ -55,13 +55,13 @@ impl<'a> Model for Keeping<'a> {
     ghost use Rattle.wi_propagate.specs.Inner.Noted.{told, AreAllNoted};
 
     ghost view = { λ m. keeping m.store.now.sheet m.store.now.edits
-        (told m.store.now.sheet m.generations.now.named) m.held.given_up.entries m.held.kept };
+        (told m.store.now.sheet m.generations.now.named) m.held.value.given_up.entries m.held.value.kept };
 
     ghost invariant = { λ m. AreEdgesOf m.graph.now.now m.store.now.sheet
         × (m.graph.now.staged ≡ None)
-        × AreAllCones m.store.now.sheet m.held.cones
+        × AreAllCones m.store.now.sheet m.held.value.cones
         × IsKeepingRight (keeping m.store.now.sheet m.store.now.edits
-        (told m.store.now.sheet m.generations.now.named) m.held.given_up.entries m.held.kept)
+        (told m.store.now.sheet m.generations.now.named) m.held.value.given_up.entries m.held.value.kept)
         × AreAllNoted m.store.now.sheet m.store.now.edits m.generations.now };
 }
 
@@ -72,20 +72,20 @@ impl<'a> Keeping<'a> {
         store: &'a Store,
         graph: &'a Graph,
         generations: &'a Generations,
-        mut held: Held,
+        mut held: Box<Held>,
     ) -> Keeping<'a>
         requires edges { AreEdgesOf graph.now.now store.now.sheet }
         requires staged { graph.now.staged ≡ None }
-        requires cones { AreAllCones store.now.sheet held.cones }
+        requires cones { AreAllCones store.now.sheet held.value.cones }
         requires right { IsKeepingRight
             (keeping store.now.sheet store.now.edits
-            (told store.now.sheet generations.now.named) [] held.kept) }
+            (told store.now.sheet generations.now.named) [] held.value.kept) }
         requires noted { AreAllNoted store.now.sheet store.now.edits generations.now }
         ensures value { result
             ≡ keeping store.now.sheet store.now.edits
-            (told store.now.sheet generations.now.named) [] held.kept }
+            (told store.now.sheet generations.now.named) [] held.value.kept }
         ensures memo { IsMemoOf store.now.sheet (state_in result) }
-        ensures placed { ArePlaced held.kept }
+        ensures placed { ArePlaced held.value.kept }
     {
         let _ = held.kept.len();
         held.given_up.clear(alloc);
@@ -101,11 +101,11 @@ impl<'a> Keeping<'a> {
 
     /// What is held for the next question: the values that are kept, which are no more than there is room for, the cones that are
     /// known, and the table for values that are given up, without them.
-    pub(crate) fn into_held(self) -> Held
-        ensures kept { result.kept ≡ self.entry.values }
-        ensures within { length result.kept.entries ≤ result.kept.capacity }
+    pub(crate) fn into_held(self) -> Box<Held>
+        ensures kept { result.value.kept ≡ self.entry.values }
+        ensures within { length result.value.kept.entries ≤ result.value.kept.capacity }
         ensures right { IsKeepingRight self.entry }
-        ensures cones { AreAllCones self.entry.sheet result.cones }
+        ensures cones { AreAllCones self.entry.sheet result.value.cones }
     {
         let _ = &self.store;
         let _ = self.held.kept.len();
@@ -123,8 +123,9 @@ impl<'a> Memo for Keeping<'a> {
     /// replacements share it.
     #[inline(always)]
     fn key(&mut self, at: Address, world: &World) -> Result<Key, AllocError> {
-        add_cones(self.graph, world, &mut self.held.cones)?;
-        let world = world.reaching_by(at, &self.held.cones, &mut self.last)?;
+        let held = &mut *self.held;
+        add_cones(self.graph, world, &mut held.cones)?;
+        let world = world.reaching_by(at, &held.cones, &mut self.last)?;
         Ok(Key {
             cell: at,
             generation: self.generations.generation_of(at),
@@ -143,10 +144,11 @@ impl<'a> Memo for Keeping<'a> {
     /// if memory runs out.
     #[inline(always)]
     fn keep(&mut self, key: Key, value: Value) -> Result<(), AllocError> {
-        let _ = self.held.kept.len();
-        make_room(&self.held.kept, &mut self.held.given_up)?;
-        let gone = self.held.kept.keep(key, value)?;
-        give_up(gone, &mut self.held.given_up);
+        let held = &mut *self.held;
+        let _ = held.kept.len();
+        make_room(&held.kept, &mut held.given_up)?;
+        let gone = held.kept.keep(key, value)?;
+        give_up(gone, &mut held.given_up);
         Ok(())
     }
 }

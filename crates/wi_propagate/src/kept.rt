@@ -1,16 +1,16 @@
 //! A calculator that keeps what it has calculated.
 
-ghost use Rattle.std.specs.Prelude.{◌≡◌, ◌≤◌, ◌⊎◌, ◌+◌, ◌&&◌, ◌||◌, ◌∷◌, [], ℕ, not, Some, None, true, false, if◌then◌else◌, length, sum_by, All, IfOk, OnOk, OnErr, is_ok};
+ghost use Rattle.std.specs.Prelude.{◌≡◌, ◌≤◌, ◌⊎◌, ◌+◌, ◌&&◌, ◌||◌, ◌∷◌, [], ℕ, not, None, true, false, if◌then◌else◌, length, sum_by, All, IfOk, OnOk, OnErr, is_ok};
 ghost use Rattle.std.specs.List.{list_any};
 ghost use Rattle.std.specs.List.Sorted.{IsStrictlyIncreasing};
 ghost use Rattle.std.specs.Map.{keys_of};
 ghost use Rattle.wi_values.specs.Replacements.{IsInOrder};
+ghost use Rattle.wi_values.specs.Address.{is_one_of};
 ghost use Rattle.wi_parser.specs.Sheet.{Sheet};
 ghost use Rattle.wi_store.specs.Store.{applied, Applies};
 ghost use Rattle.wi_cache.specs.Entries.{kept};
 ghost use Rattle.wi_graph.specs.Circular.{circular};
 ghost use Rattle.wi_graph.specs.Edges.{AreEdgesOf};
-ghost use Rattle.wi_values.specs.Address.{is_one_of};
 ghost use Rattle.wi_graph.specs.Reach.{in_cone};
 ghost use Rattle.wi_sheet.specs.Shown as show;
 ghost use Rattle.wi_sheet.specs.TableEntry.{table_entry, entry_demanded};
@@ -46,7 +46,7 @@ pub struct KeptCalculator {
     graph: Graph,
     generations: Generations,
     // There but while a question is answered.
-    held: Option<Held>,
+    held: Option<Box<Held>>,
     // What the last questions replaced, for one that replaces the same.
     worlds: LastWorlds,
     // The most replaced cells that a question had.

@@ -2,15 +2,15 @@
 
 ghost use Rattle.std.specs.Prelude.{◌≡◌, ◌&&◌, ◌||◌, ◌∷◌, ℕ, [], max, nat_lt, not, None, true, false, if◌then◌else◌, IfOk, OnOk, OnErr};
 ghost use Rattle.std.specs.Map.{keys_of};
-ghost use Rattle.wi_parser.specs.Sheet.{Sheet};
 ghost use Rattle.wi_values.specs.Address.{is_one_of};
+ghost use Rattle.wi_parser.specs.Sheet.{Sheet};
 ghost use Rattle.wi_graph.specs.Reach.{in_cone};
 ghost use Rattle.wi_graph.specs.Edges.{AreEdgesOf};
 ghost use Rattle.wi_graph.specs.Watched.{IsClosedUp};
 ghost use Rattle.wi_graph.specs.Latest.{AreOwed};
+ghost use Rattle.wi_graph.specs.Inner.Below.{has_seen};
 ghost use Rattle.wi_propagate.specs.KeptSheet.{generation_in};
 ghost use Rattle.wi_propagate.specs.Inner.Keeping.{HasGeneration};
-ghost use Rattle.wi_graph.specs.Inner.Below.{has_seen};
 ghost use Rattle.wi_propagate.specs.Inner.Noted.{noted_in};
 ghost use Rattle.wi_propagate.specs.Inner.Settling.{second_cells};
 

@@ -1,5 +1,5 @@
 -- The pairs that readers by cell are: what is added up over them, and whether one of them passes a test.
-use Rattle.wi_ranges.proofs.Words.{◌≡◌, ◌==◌, ℕ, ◌+◌, Bool, true, false, ◌&&◌, ◌||◌, cond, List, [], ◌∷◌, ◌++◌, Option, Some, None, HashMap, refl, sym, ap, subst, ◌∙◌, arith, nat_eq, nat_le, nat_cmp, unwrap_or, list_any, sum_by, IsDistinct, AllByRecursion, IsPermutation, keys_of, lookup, set_value, remove_entry, get, PutsEntry, is_at, true≢false, or_from, le-leb, eqb-true, eq-eqb, nat_tests, map-append, same_Some, list_any-append, sum_by-cons, sum_by-append, sum_by_push, IsPermutation-map, sum_by-IsPermutation, sum_by_pushed, IsDistinct-head, IsDistinct-tail, set_value_same, or-false, Area, row_of, column_of, is_within, turn_test, is_at-eq, within_between, RangePair, is_same, pair_reads, has_cell, single_pair, pairs_at, pairs_of, HasPairMore}
+use Rattle.wi_ranges.proofs.Words.{◌≡◌, ◌==◌, ℕ, ◌+◌, Bool, true, false, ◌&&◌, ◌||◌, cond, List, [], ◌∷◌, ◌++◌, Option, Some, None, HashMap, refl, sym, ap, subst, ◌∙◌, arith, nat_eq, nat_le, unwrap_or, list_any, sum_by, IsDistinct, AllByRecursion, IsPermutation, keys_of, lookup, set_value, remove_entry, get, PutsEntry, true≢false, or_from, le-leb, eqb-true, eq-eqb, nat_tests, map-append, same_Some, list_any-append, sum_by-cons, sum_by-append, sum_by_push, IsPermutation-map, sum_by-IsPermutation, sum_by_pushed, IsDistinct-head, IsDistinct-tail, set_value_same, or-false, Area, row_of, column_of, is_within, within_between, RangePair, is_same, pair_reads, is_one_of, single_pair, pairs_at, pairs_of, HasPairMore}
 
 abbrev pub Entries : Type 0
 Entries = List (ℕ × List ℕ)
@@ -109,34 +109,34 @@ same_few a v w es fs h e put = ap pairs_of (put ∙ ap (set_value (nat_eq a) es)
 abbrev readers_at : Entries → ℕ → List ℕ
 readers_at es a = unwrap_or (lookup (nat_eq a) es) []
 
-any_at : (t : RangePair → Bool) (b : Bool) (k r : ℕ) → ((x : ℕ) → t (single_pair k x) ≡ (b && is_at (nat_cmp r) x)) → (rs : List ℕ) → list_any t (pairs_at k rs) ≡ (b && has_cell rs r)
+any_at : (t : RangePair → Bool) (b : Bool) (k r : ℕ) → ((x : ℕ) → t (single_pair k x) ≡ (b && (x == r))) → (rs : List ℕ) → list_any t (pairs_at k rs) ≡ (b && is_one_of rs r)
 any_at t true k r h [] = refl
 any_at t false k r h [] = refl
 any_at t true k r h (x ∷ xs) = rw (h x, any_at t true k r h xs) refl
 any_at t false k r h (x ∷ xs) = rw (h x, any_at t false k r h xs) refl
 
 -- a test that only the pair of the cell a and the reader r passes
-module _ (t : RangePair → Bool) (a r : ℕ) (one : (k x : ℕ) → t (single_pair k x) ≡ (nat_eq a k && is_at (nat_cmp r) x)) where
-  at_key : (b : Bool) (e : ℕ × List ℕ) → nat_eq a e.0 ≡ b → list_any t (pairs_at e.0 e.1) ≡ (b && has_cell e.1 r)
-  at_key b e s = any_at t b e.0 r (λ x. one e.0 x ∙ ap (λ c. c && is_at (nat_cmp r) x) s) e.1
+module _ (t : RangePair → Bool) (a r : ℕ) (one : (k x : ℕ) → t (single_pair k x) ≡ (nat_eq a k && (x == r))) where
+  at_key : (b : Bool) (e : ℕ × List ℕ) → nat_eq a e.0 ≡ b → list_any t (pairs_at e.0 e.1) ≡ (b && is_one_of e.1 r)
+  at_key b e s = any_at t b e.0 r (λ x. one e.0 x ∙ ap (λ c. c && (x == r)) s) e.1
 
   none_at_others : (es : Entries) → AllByRecursion (λ k. nat_eq a k ≡ false) (keys_of es) → list_any t (pairs_of es) ≡ false
   none_at_others [] l = refl
   none_at_others (e ∷ es) l = list_any-append t (pairs_at e.0 e.1) (pairs_of es) ∙ or_from _ _ (at_key false e l.0) (none_at_others es l.1)
 
-  any_of_pairs : (es : Entries) → IsDistinct nat_eq (keys_of es) → list_any t (pairs_of es) ≡ has_cell (readers_at es a) r
+  any_of_pairs : (es : Entries) → IsDistinct nat_eq (keys_of es) → list_any t (pairs_of es) ≡ is_one_of (readers_at es a) r
   any_of_pairs [] d = refl
   any_of_pairs (e ∷ es) d =
       list_any-append t (pairs_at e.0 e.1) (pairs_of es) ∙ by (nat_eq a e.0) refl (any_of_pairs es (IsDistinct-tail nat_eq e.0 (keys_of es) d))
     where
-      by : (b : Bool) → nat_eq a e.0 ≡ b → list_any t (pairs_of es) ≡ has_cell (readers_at es a) r
-          → (list_any t (pairs_at e.0 e.1) || list_any t (pairs_of es)) ≡ has_cell (unwrap_or (cond b (Some e.1) (lookup (nat_eq a) es)) []) r
+      by : (b : Bool) → nat_eq a e.0 ≡ b → list_any t (pairs_of es) ≡ is_one_of (readers_at es a) r
+          → (list_any t (pairs_at e.0 e.1) || list_any t (pairs_of es)) ≡ is_one_of (unwrap_or (cond b (Some e.1) (lookup (nat_eq a) es)) []) r
       by true s i =
           let others = subst (λ (k : ℕ). AllByRecursion (λ y. nat_eq k y ≡ false) (keys_of es)) (sym (eqb-true a e.0 s)) (IsDistinct-head nat_eq e.0 (keys_of es) d) in
-          ap (λ c. c || list_any t (pairs_of es)) (at_key true e s) ∙ ap (λ c. has_cell e.1 r || c) (none_at_others es others) ∙ or-false (has_cell e.1 r)
+          ap (λ c. c || list_any t (pairs_of es)) (at_key true e s) ∙ ap (λ c. is_one_of e.1 r || c) (none_at_others es others) ∙ or-false (is_one_of e.1 r)
       by false s i = ap (λ c. c || list_any t (pairs_of es)) (at_key false e s) ∙ i
 
-same_one : (a r k x : ℕ) → is_same (single_pair a r) (single_pair k x) ≡ (nat_eq a k && is_at (nat_cmp r) x)
+same_one : (a r k x : ℕ) → is_same (single_pair a r) (single_pair k x) ≡ (nat_eq a k && (x == r))
 same_one a r k x = grind (arith, nat_tests)
 
 abbrev cell_alone : ℕ → Area
@@ -160,25 +160,25 @@ alone k a = by (is_within (cell_alone k) a) (nat_eq a k) refl refl
         absurd (true≢false (sym (eq-eqb a k (omega (arith, between.0, between.1))) ∙ e))
     by false true h e = absurd (true≢false (sym (ap (λ (n : ℕ). is_within (cell_alone k) n) (eqb-true a k e) ∙ in_itself k) ∙ h))
 
-reads_one : (a r k x : ℕ) → pair_reads a r (single_pair k x) ≡ (nat_eq a k && is_at (nat_cmp r) x)
-reads_one a r k x = ap (λ b. b && (x == r)) (alone k a) ∙ ap (λ b. nat_eq a k && b) (turn_test x r ∙ sym (is_at-eq r x))
+reads_one : (a r k x : ℕ) → pair_reads a r (single_pair k x) ≡ (nat_eq a k && (x == r))
+reads_one a r k x = ap (λ b. b && (x == r)) (alone k a)
 
-same_of_pairs : (p : RangePair) → single_pair p.first p.reader ≡ p → (es : Entries) → IsDistinct nat_eq (keys_of es) → list_any (is_same p) (pairs_of es) ≡ has_cell (readers_at es p.first) p.reader
+same_of_pairs : (p : RangePair) → single_pair p.first p.reader ≡ p → (es : Entries) → IsDistinct nat_eq (keys_of es) → list_any (is_same p) (pairs_of es) ≡ is_one_of (readers_at es p.first) p.reader
 same_of_pairs p one es d =
     ap (λ (q : RangePair). list_any (is_same q) (pairs_of es)) (sym one) ∙ any_of_pairs (is_same (single_pair p.first p.reader)) p.first p.reader (same_one p.first p.reader) es d
 
 -- the pair is not there
-pub none_in_few : (p : RangePair) → single_pair p.first p.reader ≡ p → (v : List ℕ) (es : Entries) → IsDistinct nat_eq (keys_of es) → lookup (nat_eq p.first) es ≡ Some v → has_cell v p.reader ≡ false → list_any (is_same p) (pairs_of es) ≡ false
-none_in_few p one v es d h none = same_of_pairs p one es d ∙ ap (λ (o : Option (List ℕ)). has_cell (unwrap_or o []) p.reader) h ∙ none
+pub none_in_few : (p : RangePair) → single_pair p.first p.reader ≡ p → (v : List ℕ) (es : Entries) → IsDistinct nat_eq (keys_of es) → lookup (nat_eq p.first) es ≡ Some v → is_one_of v p.reader ≡ false → list_any (is_same p) (pairs_of es) ≡ false
+none_in_few p one v es d h none = same_of_pairs p one es d ∙ ap (λ (o : Option (List ℕ)). is_one_of (unwrap_or o []) p.reader) h ∙ none
 
 pub none_without : (p : RangePair) → single_pair p.first p.reader ≡ p → (es : Entries) → IsDistinct nat_eq (keys_of es) → lookup (nat_eq p.first) es ≡ None → list_any (is_same p) (pairs_of es) ≡ false
-none_without p one es d h = same_of_pairs p one es d ∙ ap (λ (o : Option (List ℕ)). has_cell (unwrap_or o []) p.reader) h
+none_without p one es d h = same_of_pairs p one es d ∙ ap (λ (o : Option (List ℕ)). is_one_of (unwrap_or o []) p.reader) h
 
-pub reads_of_few : (a r : ℕ) (v : List ℕ) (es : Entries) → IsDistinct nat_eq (keys_of es) → lookup (nat_eq a) es ≡ Some v → list_any (pair_reads a r) (pairs_of es) ≡ has_cell v r
-reads_of_few a r v es d h = any_of_pairs (pair_reads a r) a r (reads_one a r) es d ∙ ap (λ (o : Option (List ℕ)). has_cell (unwrap_or o []) r) h
+pub reads_of_few : (a r : ℕ) (v : List ℕ) (es : Entries) → IsDistinct nat_eq (keys_of es) → lookup (nat_eq a) es ≡ Some v → list_any (pair_reads a r) (pairs_of es) ≡ is_one_of v r
+reads_of_few a r v es d h = any_of_pairs (pair_reads a r) a r (reads_one a r) es d ∙ ap (λ (o : Option (List ℕ)). is_one_of (unwrap_or o []) r) h
 
 pub reads_without : (a r : ℕ) (es : Entries) → IsDistinct nat_eq (keys_of es) → lookup (nat_eq a) es ≡ None → list_any (pair_reads a r) (pairs_of es) ≡ false
-reads_without a r es d h = any_of_pairs (pair_reads a r) a r (reads_one a r) es d ∙ ap (λ (o : Option (List ℕ)). has_cell (unwrap_or o []) r) h
+reads_without a r es d h = any_of_pairs (pair_reads a r) a r (reads_one a r) es d ∙ ap (λ (o : Option (List ℕ)). is_one_of (unwrap_or o []) r) h
 
 -- ---- pairs of one cell, and others
 

@@ -1,5 +1,5 @@
 -- The readers of one cell: one more, one less, and whether a cell is among them.
-use Rattle.wi_ranges.proofs.Words.{◌≡◌, ◌↔◌, ◌==◌, ℕ, ◌<◌, ◌≤◌, ◌+◌, Bool, true, false, ◌||◌, cond, List, [], ◌∷◌, ◌++◌, length, take, get_or, Option, Some, None, refl, sym, ap, subst, ◌∙◌, arith, nat_lt, nat_cmp, unwrap_or, position, position_or_len, swap_remove, IsPermutation, is_at, true≢false, or_from, ltb-false, ltb-true, eqb-true, eq-eqb, ne_eqb, list_any_more, passes_at_first, fails_before_first, IsPermutation-cons, IsPermutation-trans, IsPermutation-to_front, IsPermutation-middle, IsPermutation-swap_remove, or-false, or_assoc, turn_test, is_at-eq, has_cell}
+use Rattle.wi_ranges.proofs.Words.{◌≡◌, ◌↔◌, ◌==◌, ℕ, ◌<◌, ◌≤◌, ◌+◌, Bool, true, false, ◌||◌, cond, List, [], ◌∷◌, ◌++◌, length, take, get_or, Option, Some, None, refl, sym, ap, subst, ◌∙◌, arith, nat_lt, unwrap_or, position, position_or_len, swap_remove, IsPermutation, true≢false, or_from, ltb-false, ltb-true, eqb-true, eq-eqb, ne_eqb, list_any_more, passes_at_first, fails_before_first, IsPermutation-cons, IsPermutation-trans, IsPermutation-to_front, IsPermutation-middle, IsPermutation-swap_remove, or-false, or_assoc, turn_test, is_one_of}
 use Rattle.wi_ranges.proofs.RisingLemmas.{has_nowhere}
 
 -- ---- where a cell stands
@@ -16,10 +16,10 @@ place_found xs c o i d e f = by (nat_lt (position_or_len (is_cell c) xs) (length
         ap (λ (j : ℕ). get_or xs j d) (sym (ap (λ (p : Option ℕ). unwrap_or p 0) s)) ∙ eqb-true _ c here
     by false l s = let k = s in cc
 
-pub place_none : (xs : List ℕ) (c : ℕ) (o : Option ℕ) → o ≡ position (is_cell c) xs → o ≡ None → has_cell xs c ≡ false
+pub place_none : (xs : List ℕ) (c : ℕ) (o : Option ℕ) → o ≡ position (is_cell c) xs → o ≡ None → is_one_of xs c ≡ false
 place_none xs c o e f = by (nat_lt (position_or_len (is_cell c) xs) (length xs)) refl (sym e ∙ f)
   where
-    by : (b : Bool) → nat_lt (position_or_len (is_cell c) xs) (length xs) ≡ b → cond b (Some (position_or_len (is_cell c) xs)) None ≡ None → has_cell xs c ≡ false
+    by : (b : Bool) → nat_lt (position_or_len (is_cell c) xs) (length xs) ≡ b → cond b (Some (position_or_len (is_cell c) xs)) None ≡ None → is_one_of xs c ≡ false
     by true l s = let k = s in cc
     by false l s =
         let long : length xs ≤ position_or_len (is_cell c) xs = ltb-false _ _ l in
@@ -36,28 +36,28 @@ other_gone first c i x old new l e s n =
     (subst (λ (y : ℕ). IsPermutation old (y ∷ swap_remove old i x)) s (IsPermutation-swap_remove old i x l e)) in
     IsPermutation-trans (first ∷ old) (first ∷ c ∷ new) (c ∷ first ∷ new) (IsPermutation-cons first old (c ∷ new) gone) (IsPermutation-middle (first ∷ []) c new)
 
-pub not_there : (first c : ℕ) (others : List ℕ) → (first == c) ≡ false → has_cell others c ≡ false → has_cell (first ∷ others) c ≡ false
-not_there first c others n h = or_from _ _ (is_at-eq c first ∙ turn_test c first ∙ n) h
+pub not_there : (first c : ℕ) (others : List ℕ) → (first == c) ≡ false → is_one_of others c ≡ false → is_one_of (first ∷ others) c ≡ false
+not_there first c others n h = or_from _ _ n h
 
 -- ---- put into a set
 
-pub one_more_in : (cells : List ℕ) (i x r : ℕ) (old mid new : Bool) → i < length cells → x ≡ get_or cells i x → new ≡ (mid || r == x) → mid ≡ (old || has_cell (take i cells) r) → new ≡ (old || has_cell (take (i + 1) cells) r)
+pub one_more_in : (cells : List ℕ) (i x r : ℕ) (old mid new : Bool) → i < length cells → x ≡ get_or cells i x → new ≡ (mid || r == x) → mid ≡ (old || is_one_of (take i cells) r) → new ≡ (old || is_one_of (take (i + 1) cells) r)
 one_more_in cells i x r old mid new l e f g =
     f ∙ ap (λ b. b || r == x) g ∙ or_assoc old _ _
-    ∙ ap (λ b. old || (has_cell (take i cells) r || b)) (sym (is_at-eq r x) ∙ ap (λ (y : ℕ). is_at (nat_cmp r) y) e)
-    ∙ ap (λ b. old || b) (sym (list_any_more (is_at (nat_cmp r)) cells i x l))
+    ∙ ap (λ b. old || (is_one_of (take i cells) r || b)) (turn_test r x ∙ ap (λ (y : ℕ). y == r) e)
+    ∙ ap (λ b. old || b) (sym (list_any_more (λ y. y == r) cells i x l))
 
-pub first_and_others : (first r : ℕ) (others : List ℕ) (old mid new : Bool) → mid ≡ (old || r == first) → new ≡ (mid || has_cell others r) → new ≡ (old || has_cell (first ∷ others) r)
+pub first_and_others : (first r : ℕ) (others : List ℕ) (old mid new : Bool) → mid ≡ (old || r == first) → new ≡ (mid || is_one_of others r) → new ≡ (old || is_one_of (first ∷ others) r)
 first_and_others first r others old mid new e f =
-    f ∙ ap (λ b. b || has_cell others r) (e ∙ ap (λ b. old || b) (sym (is_at-eq r first))) ∙ or_assoc old _ _
+    f ∙ ap (λ b. b || is_one_of others r) (e ∙ ap (λ b. old || b) (turn_test r first)) ∙ or_assoc old _ _
 
 -- ---- one alone
 
-pub only_one : (x r : ℕ) (xs : List ℕ) (old new : Bool) → xs ≡ x ∷ [] → new ≡ (old || r == x) → new ≡ (old || has_cell xs r)
-only_one x r xs old new e f = first_and_others x r [] old new new f (sym (or-false new)) ∙ ap (λ (ys : List ℕ). old || has_cell ys r) (sym e)
+pub only_one : (x r : ℕ) (xs : List ℕ) (old new : Bool) → xs ≡ x ∷ [] → new ≡ (old || r == x) → new ≡ (old || is_one_of xs r)
+only_one x r xs old new e f = first_and_others x r [] old new new f (sym (or-false new)) ∙ ap (λ (ys : List ℕ). old || is_one_of ys r) (sym e)
 
-pub none_alone : (x c : ℕ) (xs : List ℕ) → xs ≡ x ∷ [] → (xs ≡ c ∷ [] → Prim.⊥) → has_cell xs c ≡ false
-none_alone x c xs e h = ap (λ (ys : List ℕ). has_cell ys c) e ∙ not_there x c [] (ne_eqb x c (λ f. h (e ∙ ap (λ (y : ℕ). y ∷ []) f))) refl
+pub none_alone : (x c : ℕ) (xs : List ℕ) → xs ≡ x ∷ [] → (xs ≡ c ∷ [] → Prim.⊥) → is_one_of xs c ≡ false
+none_alone x c xs e h = ap (λ (ys : List ℕ). is_one_of ys c) e ∙ not_there x c [] (ne_eqb x c (λ f. h (e ∙ ap (λ (y : ℕ). y ∷ []) f))) refl
 
 pub is_alone : (x c : ℕ) (xs : List ℕ) (b : Bool) → xs ≡ x ∷ [] → b ≡ (x == c) → (b ≡ true) ↔ (xs ≡ c ∷ [])
 is_alone x c xs b e f =

@@ -9,6 +9,7 @@ pub mod CutLemmas
 pub mod LargestLemmas
 pub mod Rows
 pub mod Apart
+mod AroundLemmas
 mod Levels
 mod First
 mod Sums

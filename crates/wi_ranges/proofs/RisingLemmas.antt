@@ -1,5 +1,5 @@
 -- Laws of cells in row-major order in a list, and others beside it.
-use Rattle.wi_ranges.proofs.Words.{◌≡◌, ◌==◌, ◌<◌, ◌≤◌, ◌-◌, ◌||◌, ◌++◌, ◌↔◌, ℕ, zero, suc, nat_lt, eqb, Bool, true, false, not, cond, List, [], ◌∷◌, Some, Result, Ok, Err, MatchResult, ⊎_elim, length, get_or, slice_get, refl, sym, ap, ◌∙◌, subst, arith, nat_cmp, Less, nat_cmp_total, is_ok, AllByRecursion, Contains, dedup, IsStrictlyIncreasing, IsBinarySearchResult, IsPermutation, is_at, BTreeSet, contains, append-nil, Contains-dedup_nat, Contains-from_dedup, exact_unsigned, btree_set_contains_iff, true≢false, or_right, cases_lt, ltb-true, false_from_ne_true, nat_tests, list_any-append, or-false, searched, Contains-permutation, IsPermutation-sym, sorted_head, sorted_tail, sorted_from_strictly_increasing, IsStrictlyIncreasing-from_sorted, non_decreasing_from_sorted, cmp_before, below_from_Less, less_from_both, at_earlier, at_same, is_at-eq, turn_test, at_itself, at_other, has_cell, ends_before, StandApart}
+use Rattle.wi_ranges.proofs.Words.{has_key, ◌≡◌, ◌==◌, ◌<◌, ◌≤◌, ◌-◌, ◌||◌, ◌++◌, ◌↔◌, ℕ, zero, suc, nat_lt, eqb, Bool, true, false, not, cond, List, [], ◌∷◌, Some, Result, Ok, Err, MatchResult, ⊎_elim, length, get_or, slice_get, refl, sym, ap, ◌∙◌, subst, arith, nat_cmp, Less, nat_cmp_total, is_ok, AllByRecursion, Contains, dedup, IsStrictlyIncreasing, IsBinarySearchResult, IsPermutation, is_at, BTreeSet, contains, append-nil, Contains-dedup_nat, Contains-from_dedup, exact_unsigned, btree_set_contains_iff, true≢false, eq-eqb, ne_eqb, or_right, cases_lt, ltb-true, false_from_ne_true, nat_tests, list_any-append, or-false, searched, Contains-permutation, IsPermutation-sym, sorted_head, sorted_tail, sorted_from_strictly_increasing, IsStrictlyIncreasing-from_sorted, non_decreasing_from_sorted, cmp_before, below_from_Less, less_from_both, at_earlier, at_same, is_at-eq, turn_test, is_one_of, ends_before, StandApart}
 use Rattle.std.specs.List.Sorted.{IsStrictlySortedBy}
 
 -- ---- the last of a list
@@ -14,23 +14,27 @@ last_tells (y ∷ ys) x c h =
     let count : length (y ∷ ys) - 1 ≡ length ys = omega arith in
     at_end y ys x c (sym (h ∙ ap (slice_get (y ∷ ys)) count))
 
+-- a set of these cells
+abbrev pub as_set : List ℕ → BTreeSet ℕ
+as_set ks = record { keys = ks }
+
 -- ---- a search in a list
 
-has_from_place : (xs : List ℕ) (i c : ℕ) → i < length xs → get_or xs i 0 ≡ c → has_cell xs c ≡ true
+has_from_place : (xs : List ℕ) (i c : ℕ) → i < length xs → get_or xs i 0 ≡ c → is_one_of xs c ≡ true
 has_from_place [] i c l e = absurd (omega (arith, l))
-has_from_place (x ∷ xs) zero c l e = ap (λ b. b || has_cell xs c) (ap (λ (y : ℕ). is_at (nat_cmp c) y) e ∙ at_itself c)
+has_from_place (x ∷ xs) zero c l e = ap (λ b. b || is_one_of xs c) (eq-eqb x c e)
 has_from_place (x ∷ xs) (suc i) c l e = or_right _ _ (has_from_place xs i c (omega (arith, l)) e)
 
-pub has_nowhere : (xs : List ℕ) (c : ℕ) → ((k : ℕ) → k < length xs → get_or xs k 0 ≡ c → ⊥) → has_cell xs c ≡ false
+pub has_nowhere : (xs : List ℕ) (c : ℕ) → ((k : ℕ) → k < length xs → get_or xs k 0 ≡ c → ⊥) → is_one_of xs c ≡ false
 has_nowhere [] c h = refl
 has_nowhere (x ∷ xs) c h =
-    ap (λ b. b || has_cell xs c) (at_other c x (h 0 (omega arith))) ∙ has_nowhere xs c (λ k l e. h (suc k) (omega (arith, l)) e)
+    ap (λ b. b || is_one_of xs c) (ne_eqb x c (h 0 (omega arith))) ∙ has_nowhere xs c (λ k l e. h (suc k) (omega (arith, l)) e)
 
-pub search_tells : (xs : List ℕ) (c : ℕ) (r : Result ℕ ℕ) → IsStrictlyIncreasing xs → IsBinarySearchResult (λ y. nat_cmp y c) xs r → is_ok r ≡ has_cell xs c
+pub search_tells : (xs : List ℕ) (c : ℕ) (r : Result ℕ ℕ) → IsStrictlyIncreasing xs → IsBinarySearchResult (λ y. nat_cmp y c) xs r → is_ok r ≡ is_one_of xs c
 search_tells xs c r order h = by r (searched xs c r h (λ i j l m. non_decreasing_from_sorted xs (sorted_from_strictly_increasing xs order) i j 0 l m))
   where
     by : (s : Result ℕ ℕ) → MatchResult s (λ i. (i < length xs) × (get_or xs i 0 ≡ c))
-        (λ i. (i ≤ length xs) × ((k : ℕ) → k < i → get_or xs k 0 < c) × ((k : ℕ) → i ≤ k → k < length xs → c < get_or xs k 0)) → is_ok s ≡ has_cell xs c
+        (λ i. (i ≤ length xs) × ((k : ℕ) → k < i → get_or xs k 0 < c) × ((k : ℕ) → i ≤ k → k < length xs → c < get_or xs k 0)) → is_ok s ≡ is_one_of xs c
     by (Ok i) f = sym (has_from_place xs i c f.0 f.1)
     by (Err i) f = sym (has_nowhere xs c (λ k l e. ⊎_elim (λ m. omega (arith, f.1 k m, e)) (λ m. omega (arith, f.2 k m l, e)) (cases_lt k i)))
 
@@ -67,33 +71,29 @@ not_after [] x c e f = absurd (true≢false f)
 not_after (y ∷ []) x c e f = grind (arith, nat_tests)
 not_after (y ∷ z ∷ zs) x c e f = not_after (z ∷ zs) x c e f
 
-pub apart_more : (xs more os : List ℕ) (x : ℕ) → StandApart xs os → true ≡ ends_before xs x → more ≡ xs ++ x ∷ [] → StandApart more os
+pub apart_more : (xs more : List ℕ) (os : BTreeSet ℕ) (x : ℕ) → StandApart xs os → true ≡ ends_before xs x → more ≡ xs ++ x ∷ [] → StandApart more os
 apart_more xs more os x s e m =
     subst (λ (ys : List ℕ). StandApart ys os) (sym m)
     (rise_more xs x s.0 (sym e), λ c h. ends_with_it xs x c ∙ not_after xs x c (sym e) (s.1 c h))
 
-none_before : (xs : List ℕ) (x : ℕ) → AllByRecursion (λ y. nat_cmp y x ≡ Less) xs → has_cell xs x ≡ false
+none_before : (xs : List ℕ) (x : ℕ) → AllByRecursion (λ y. nat_cmp y x ≡ Less) xs → contains nat_cmp (as_set xs) x ≡ false
 none_before [] x h = refl
-none_before (y ∷ ys) x h = ap (λ b. b || has_cell ys x) (at_earlier x y (below_from_Less y x h.0)) ∙ none_before ys x h.1
+none_before (y ∷ ys) x h = ap (λ b. b || contains nat_cmp (as_set ys) x) (at_earlier x y (below_from_Less y x h.0)) ∙ none_before ys x h.1
 
--- a set of these cells
-abbrev pub as_set : List ℕ → BTreeSet ℕ
-as_set ks = record { keys = ks }
+pub same_rising : (xs ys : List ℕ) (os set : BTreeSet ℕ) → ys ≡ xs → as_set (xs ++ os.keys) ≡ set → as_set (ys ++ os.keys) ≡ set
+same_rising xs ys os set e h = ap (λ (ks : List ℕ). as_set (ks ++ os.keys)) e ∙ h
 
-pub same_rising : (xs ys os : List ℕ) (set : BTreeSet ℕ) → ys ≡ xs → as_set (xs ++ os) ≡ set → as_set (ys ++ os) ≡ set
-same_rising xs ys os set e h = ap (λ (ks : List ℕ). as_set (ks ++ os)) e ∙ h
-
-pub same_others : (xs os ps : List ℕ) (set : BTreeSet ℕ) → ps ≡ os → as_set (xs ++ os) ≡ set → as_set (xs ++ ps) ≡ set
+pub same_others : (xs : List ℕ) (os ps set : BTreeSet ℕ) → ps.keys ≡ os.keys → as_set (xs ++ os.keys) ≡ set → as_set (xs ++ ps.keys) ≡ set
 same_others xs os ps set e h = ap (λ (ks : List ℕ). as_set (xs ++ ks)) e ∙ h
 
-pub has_behind : (xs more os : List ℕ) (set : BTreeSet ℕ) (x : ℕ) → as_set (xs ++ os) ≡ set → more ≡ xs ++ x ∷ []
-    → (c : ℕ) → has_cell (more ++ os) c ≡ (contains nat_cmp set c || c == x)
+pub has_behind : (xs more : List ℕ) (os set : BTreeSet ℕ) (x : ℕ) → as_set (xs ++ os.keys) ≡ set → more ≡ xs ++ x ∷ []
+    → (c : ℕ) → contains nat_cmp (as_set (more ++ os.keys)) c ≡ (contains nat_cmp set c || c == x)
 has_behind xs more os set x is m c =
-    ap (λ (ys : List ℕ). has_cell (ys ++ os) c) m ∙ list_any-append (λ y. is_at (nat_cmp c) y) (xs ++ x ∷ []) os
-    ∙ ap (λ b. b || has_cell os c) (list_any-append (λ y. is_at (nat_cmp c) y) xs (x ∷ []))
-    ∙ ap (λ b. (has_cell xs c || (b || false)) || has_cell os c) (is_at-eq c x)
-    ∙ by (has_cell xs c) (c == x) (has_cell os c)
-    ∙ ap (λ b. b || c == x) (sym (list_any-append (λ y. is_at (nat_cmp c) y) xs os) ∙ ap (λ (s : BTreeSet ℕ). contains nat_cmp s c) is)
+    ap (λ (ys : List ℕ). contains nat_cmp (as_set (ys ++ os.keys)) c) m ∙ list_any-append (λ y. is_at (nat_cmp c) y) (xs ++ x ∷ []) os.keys
+    ∙ ap (λ b. b || contains nat_cmp os c) (list_any-append (λ y. is_at (nat_cmp c) y) xs (x ∷ []))
+    ∙ ap (λ b. (contains nat_cmp (as_set xs) c || (b || false)) || contains nat_cmp os c) (is_at-eq c x)
+    ∙ by (contains nat_cmp (as_set xs) c) (c == x) (contains nat_cmp os c)
+    ∙ ap (λ b. b || c == x) (sym (list_any-append (λ y. is_at (nat_cmp c) y) xs os.keys) ∙ ap (λ (s : BTreeSet ℕ). contains nat_cmp s c) is)
   where
     by : (a b d : Bool) → ((a || (b || false)) || d) ≡ ((a || d) || b)
     by true b d = refl
@@ -102,30 +102,30 @@ has_behind xs more os set x is m c =
     by false false true = refl
     by false false false = refl
 
-pub new_behind : (xs os : List ℕ) (set : BTreeSet ℕ) (x : ℕ) → StandApart xs os → true ≡ ends_before xs x → set.keys ≡ xs ++ os → true ≡ not (contains nat_cmp set x)
+pub new_behind : (xs : List ℕ) (os set : BTreeSet ℕ) (x : ℕ) → StandApart xs os → true ≡ ends_before xs x → set.keys ≡ xs ++ os.keys → true ≡ not (contains nat_cmp set x)
 new_behind xs os set x s e is =
-    sym (ap not (ap (λ (ks : List ℕ). has_cell ks x) is ∙ list_any-append (λ y. is_at (nat_cmp x) y) xs os
-    ∙ ap (λ b. b || has_cell os x) (none_before xs x (all_before xs x (sorted_from_strictly_increasing xs s.0) (sym e)))
-    ∙ false_from_ne_true (has_cell os x) (λ h. true≢false (e ∙ s.1 x h))))
+    sym (ap not (ap (λ (ks : List ℕ). contains nat_cmp (as_set ks) x) is ∙ list_any-append (λ y. is_at (nat_cmp x) y) xs os.keys
+    ∙ ap (λ b. b || contains nat_cmp os x) (none_before xs x (all_before xs x (sorted_from_strictly_increasing xs s.0) (sym e)))
+    ∙ false_from_ne_true (contains nat_cmp os x) (λ h. true≢false (e ∙ s.1 x h))))
 
 -- ---- a cell among the others
 
-pub apart_still : (xs os new : List ℕ) (x : ℕ) → StandApart xs os → false ≡ ends_before xs x
-    → ((c : ℕ) → has_cell new c ≡ cond (is_at (nat_cmp x) c) true (has_cell os c)) → StandApart xs new
+pub apart_still : (xs : List ℕ) (os new : BTreeSet ℕ) (x : ℕ) → StandApart xs os → false ≡ ends_before xs x
+    → ((c : ℕ) → contains nat_cmp new c ≡ cond (is_at (nat_cmp x) c) true (contains nat_cmp os c)) → StandApart xs new
 apart_still xs os new x s e g = (s.0, λ c h. by c (is_at (nat_cmp x) c) refl (sym (g c) ∙ h))
   where
-    by : (c : ℕ) (b : Bool) → is_at (nat_cmp x) c ≡ b → cond b true (has_cell os c) ≡ true → ends_before xs c ≡ false
+    by : (c : ℕ) (b : Bool) → is_at (nat_cmp x) c ≡ b → cond b true (contains nat_cmp os c) ≡ true → ends_before xs c ≡ false
     by c true f h = ap (λ (y : ℕ). ends_before xs y) (at_same x c f) ∙ sym e
     by c false f h = s.1 c h
 
-pub has_more : (xs os new : List ℕ) (old : BTreeSet ℕ) (x : ℕ) → old.keys ≡ xs ++ os
-    → ((c : ℕ) → has_cell new c ≡ cond (is_at (nat_cmp x) c) true (has_cell os c))
-    → (c : ℕ) → has_cell (xs ++ new) c ≡ (contains nat_cmp old c || c == x)
+pub has_more : (xs : List ℕ) (os new old : BTreeSet ℕ) (x : ℕ) → old.keys ≡ xs ++ os.keys
+    → ((c : ℕ) → contains nat_cmp new c ≡ cond (is_at (nat_cmp x) c) true (contains nat_cmp os c))
+    → (c : ℕ) → contains nat_cmp (as_set (xs ++ new.keys)) c ≡ (contains nat_cmp old c || c == x)
 has_more xs os new old x is g c =
-    list_any-append (λ y. is_at (nat_cmp c) y) xs new
-    ∙ ap (λ b. has_cell xs c || b) (g c ∙ ap (λ b. cond b true (has_cell os c)) (is_at-eq x c ∙ turn_test x c))
-    ∙ by (has_cell xs c) (c == x) (has_cell os c)
-    ∙ ap (λ b. b || c == x) (sym (ap (λ (ks : List ℕ). has_cell ks c) is ∙ list_any-append (λ y. is_at (nat_cmp c) y) xs os))
+    list_any-append (λ y. is_at (nat_cmp c) y) xs new.keys
+    ∙ ap (λ b. contains nat_cmp (as_set xs) c || b) (g c ∙ ap (λ b. cond b true (contains nat_cmp os c)) (is_at-eq x c ∙ turn_test x c))
+    ∙ by (contains nat_cmp (as_set xs) c) (c == x) (contains nat_cmp os c)
+    ∙ ap (λ b. b || c == x) (sym (ap (λ (ks : List ℕ). contains nat_cmp (as_set ks) c) is ∙ list_any-append (λ y. is_at (nat_cmp c) y) xs os.keys))
   where
     by : (a b d : Bool) → (a || cond b true d) ≡ ((a || d) || b)
     by true b d = refl
@@ -134,9 +134,9 @@ has_more xs os new old x is g c =
     by false false true = refl
     by false false false = refl
 
-pub has_already : (xs os : List ℕ) (set : BTreeSet ℕ) (x : ℕ) → as_set (xs ++ os) ≡ set → true ≡ has_cell xs x → contains nat_cmp set x ≡ true
+pub has_already : (xs : List ℕ) (os set : BTreeSet ℕ) (x : ℕ) → as_set (xs ++ os.keys) ≡ set → true ≡ is_one_of xs x → contains nat_cmp set x ≡ true
 has_already xs os set x is h =
-    ap (λ (s : BTreeSet ℕ). contains nat_cmp s x) (sym is) ∙ list_any-append (λ y. is_at (nat_cmp x) y) xs os ∙ ap (λ b. b || has_cell os x) (sym h)
+    ap (λ (s : BTreeSet ℕ). contains nat_cmp s x) (sym is) ∙ list_any-append (λ y. is_at (nat_cmp x) y) xs os.keys ∙ ap (λ b. b || contains nat_cmp os x) (has_key xs x ∙ sym h)
 
 pub has_no_more : (set : BTreeSet ℕ) (x : ℕ) → contains nat_cmp set x ≡ true → (c : ℕ) → contains nat_cmp set c ≡ (contains nat_cmp set c || c == x)
 has_no_more set x h c = by (c == x) refl
@@ -145,9 +145,9 @@ has_no_more set x h c = by (c == x) refl
     by true e = let has = ap (λ (y : ℕ). contains nat_cmp set y) (at_same x c (is_at-eq x c ∙ turn_test x c ∙ e)) ∙ h in has ∙ sym (or_right (contains nat_cmp set c) true refl)
     by false e = sym (or-false (contains nat_cmp set c))
 
-pub new_among_others : (xs os : List ℕ) (set : BTreeSet ℕ) (x : ℕ) → as_set (xs ++ os) ≡ set → false ≡ has_cell xs x → has_cell os x ≡ contains nat_cmp set x
+pub new_among_others : (xs : List ℕ) (os set : BTreeSet ℕ) (x : ℕ) → as_set (xs ++ os.keys) ≡ set → false ≡ is_one_of xs x → contains nat_cmp os x ≡ contains nat_cmp set x
 new_among_others xs os set x is h =
-    ap (λ b. b || has_cell os x) h ∙ sym (list_any-append (λ y. is_at (nat_cmp x) y) xs os) ∙ ap (λ (s : BTreeSet ℕ). contains nat_cmp s x) is
+    ap (λ b. b || contains nat_cmp os x) (h ∙ sym (has_key xs x)) ∙ sym (list_any-append (λ y. is_at (nat_cmp x) y) xs os.keys) ∙ ap (λ (s : BTreeSet ℕ). contains nat_cmp s x) is
 
 -- ---- all cells in one list
 

@@ -41,15 +41,17 @@ pub use Rattle.std.specs.declared.ops.Bound.TheVariants.{Included, Unbounded}
 pub use Rattle.wi_ranges.specs.Bag.{Bag, HasOneLess, HasOneMore, IsReader, count_of, is_same, lowest_pair, pair_area, pair_cmp, pair_for, pieces_of, raise}
 pub use Rattle.wi_ranges.specs.Blocks.{block, blocks_in, blocks_of, first_row, half_with, last_row, lies_within, meets}
 unfoldable pub use Rattle.wi_ranges.specs.Blocks.{blocks_with, blocks_within}
+pub use Rattle.wi_ranges.specs.Inner.Around.{IsAround, has_cell}
 pub use Rattle.wi_ranges.specs.Inner.Index.{AreUpTo, AreWhole, Gains, HasPieces, IsIndexed, KeepsOtherPieces, LacksPieces, Piece, bag_of, block_cmp, has_piece, holds, is_among, is_at_block, is_one, is_piece, lowest, numbered_cmp, pair_reads, piece_cmp, piece_reads, reads_at, stands_first}
-pub use Rattle.wi_ranges.specs.Inner.Rising.{StandApart, ends_before, has_cell}
+pub use Rattle.wi_ranges.specs.Inner.Rising.{StandApart, ends_before}
 pub use Rattle.wi_ranges.specs.Inner.Singles.{HasPairMore, blocks_in_all, pairs_at, pairs_of, single_pair, with_pairs}
 pub use Rattle.wi_ranges.specs.Laws.{BlocksAreFew, BlocksAreLargest, IsAligned, IsPartOf, RowsAreHeldOnce, times_held}
 pub use Rattle.wi_ranges.specs.declared.block.Block.{Block}
 pub use Rattle.wi_ranges.specs.declared.pair.Numbered.{Numbered}
 pub use Rattle.wi_ranges.specs.declared.pair.RangePair.{RangePair}
+pub use Rattle.wi_values.proofs.Listed.{has_key}
 pub use Rattle.wi_values.proofs.Lists.{one_less, sum_ones}
-pub use Rattle.wi_values.proofs.Order.{at_earlier, at_itself, at_other, at_same, below_from_Less, cmp_after, cmp_before, is_at-eq, less_from_both, turn_test}
+pub use Rattle.wi_values.proofs.Order.{at_earlier, at_same, below_from_Less, cmp_after, cmp_before, is_at-eq, less_from_both, turn_test}
 pub use Rattle.wi_values.proofs.Outcomes.{on_err}
 pub use Rattle.wi_values.proofs.Within.{within_between}
-pub use Rattle.wi_values.specs.Address.{Area, column_of, is_within, row_of, rows}
+pub use Rattle.wi_values.specs.Address.{Area, column_of, is_one_of, is_within, row_of, rows}

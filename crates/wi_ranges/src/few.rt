@@ -5,7 +5,7 @@ ghost use Rattle.std.specs.List.{position};
 ghost use Rattle.std.specs.List.Sorted.{IsPermutation};
 ghost use Rattle.std.specs.Ordering.{nat_cmp};
 ghost use Rattle.std.specs.BTreeSet.{contains};
-ghost use Rattle.wi_ranges.specs.Inner.Rising.{has_cell};
+ghost use Rattle.wi_values.specs.Address.{is_one_of};
 
 use crate::rising_set::RisingSet;
 use std::alloc::{AllocError, Global};
@@ -51,7 +51,7 @@ impl Few {
 
     /// One of them is there. This is a law: the call changes nothing.
     pub(crate) fn has_one(&self)
-        ensures { (c : ℕ) × (has_cell self.now c ≡ true) }
+        ensures { (c : ℕ) × (is_one_of self.now c ≡ true) }
     {
         match &self.held {
             Held::One(_) => {}
@@ -90,7 +90,7 @@ impl Few {
     pub(crate) fn remove(&mut self, cell: Address) -> bool
         requires { self.old ≡ cell ∷ [] → ⊥ }
         ensures less { IsTrue result → IsPermutation self.old (cell ∷ self.new) }
-        ensures none { result ≡ false → has_cell self.old cell ≡ false }
+        ensures none { result ≡ false → is_one_of self.old cell ≡ false }
         ensures same { result ≡ false → self.new ≡ self.old }
     {
         match &mut self.held {
@@ -102,7 +102,7 @@ impl Few {
     /// Puts them into a set. If memory runs out, some of them may be in it.
     pub(crate) fn add_to(&self, set: &mut RisingSet) -> Result<(), AllocError>
         ensures { OnOk result ((r : ℕ) → contains nat_cmp set.new r
-            ≡ (contains nat_cmp set.old r || has_cell self.now r)) }
+            ≡ (contains nat_cmp set.old r || is_one_of self.now r)) }
     {
         match &self.held {
             Held::One(first) => {
@@ -142,7 +142,7 @@ impl Many {
 
     /// One of them is there. This is a law: the call does nothing.
     fn has_one(&self)
-        ensures { (c : ℕ) × (has_cell self.now c ≡ true) }
+        ensures { (c : ℕ) × (is_one_of self.now c ≡ true) }
     {
         let _ = &self.first;
     }
@@ -171,7 +171,7 @@ impl Many {
     fn remove(&mut self, cell: Address) -> bool
         requires { self.old ≡ cell ∷ [] → ⊥ }
         ensures less { IsTrue result → IsPermutation self.old (cell ∷ self.new) }
-        ensures none { result ≡ false → has_cell self.old cell ≡ false }
+        ensures none { result ≡ false → is_one_of self.old cell ≡ false }
         ensures same { result ≡ false → self.new ≡ self.old }
     {
         if self.first == cell {
@@ -193,7 +193,7 @@ impl Many {
     /// Puts them into a set. If memory runs out, some of them may be in it.
     fn add_to(&self, set: &mut RisingSet) -> Result<(), AllocError>
         ensures { OnOk result ((r : ℕ) → contains nat_cmp set.new r
-            ≡ (contains nat_cmp set.old r || has_cell self.now r)) }
+            ≡ (contains nat_cmp set.old r || is_one_of self.now r)) }
     {
         set.insert(self.first)?;
         insert_all(set, &self.others)
@@ -211,7 +211,7 @@ fn place_of(cells: &[Address], cell: Address) -> Option<usize>
 /// Puts cells into a set. If memory runs out, some of them may be in it.
 fn insert_all(set: &mut RisingSet, cells: &[Address]) -> Result<(), AllocError>
     ensures { OnOk result ((r : ℕ) → contains nat_cmp set.new r
-        ≡ (contains nat_cmp set.old r || has_cell cells.now r)) }
+        ≡ (contains nat_cmp set.old r || is_one_of cells.now r)) }
 {
     for cell in cells {
         set.insert(*cell)?;

@@ -5,6 +5,7 @@ ghost use Rattle.std.specs.List.{Contains};
 ghost use Rattle.std.specs.List.Sorted.{IsStrictlyIncreasing};
 ghost use Rattle.wi_ranges.specs.Bag.{pair_for, pieces_of, HasOneMore, HasOneLess, IsReader, IsRead};
 
+use crate::around::{has_cell, with_area};
 use crate::bag::{add_pair, remove_pair};
 use crate::pair::RangePair;
 use crate::pieces::Pieces;
@@ -23,11 +24,14 @@ pub struct RangeIndex {
     singles: Singles,
     // Each other pair, by its number among equal ones, at each of its blocks.
     pieces: Pieces,
+    // It has each cell that such a pair reads or has read, so that what lies apart from it need not be searched.
+    around: Option<Rect>,
     alloc: Global,
 }
 
 impl Model for RangeIndex {
     ghost use Rattle.wi_ranges.specs.Bag.{Bag};
+    ghost use Rattle.wi_ranges.specs.Inner.Around.{IsAround};
     ghost use Rattle.wi_ranges.specs.Inner.Index.{AreWhole, bag_of};
     ghost use Rattle.wi_ranges.specs.Inner.Singles.{with_pairs};
 
@@ -35,7 +39,7 @@ impl Model for RangeIndex {
 
     ghost view = { λ x. with_pairs x.singles (bag_of x.pieces.keys) };
 
-    ghost invariant = { λ x. AreWhole x.pieces.keys };
+    ghost invariant = { λ x. AreWhole x.pieces.keys × IsAround x.around (bag_of x.pieces.keys) };
 }
 
 impl RangeIndex {
@@ -46,6 +50,7 @@ impl RangeIndex {
         RangeIndex {
             singles: Singles::new(alloc),
             pieces: BTreeSet::new(alloc),
+            around: None,
             alloc,
         }
     }
@@ -61,7 +66,9 @@ impl RangeIndex {
         if self.singles.add(&pair)? {
             return Ok(());
         }
-        add_pair(&mut self.pieces, &pair)
+        add_pair(&mut self.pieces, &pair)?;
+        self.around = Some(with_area(&self.around, area));
+        Ok(())
     }
 
     /// Takes away one such pair if there is one. Takes no memory. For a pair of one cell that few read the work is expected
@@ -91,12 +98,16 @@ impl RangeIndex {
         readers.into_list()
     }
 
-    /// Whether some cell reads the cell. The search is that of `readers_of`, and ends at the first that does. It takes no memory.
+    /// Whether some cell reads the cell. The search is that of `readers_of`, and ends at the first that does. Apart from the rectangle
+    /// around all that is read by rectangles it is for pairs of one cell alone. It takes no memory.
     pub fn has_readers(&self, at: Address) -> bool
         ensures { IsTrue result ↔ IsRead self.now at }
     {
         if self.singles.has_readers(at) {
             return true;
+        }
+        if !has_cell(&self.around, at) {
+            return false;
         }
         has_readers_in(&self.pieces, at)
     }

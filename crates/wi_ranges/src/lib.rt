@@ -1,6 +1,7 @@
 //! The dependents of a cell: pairs of a rectangle and a cell that reads it, found by blocks of rows.
 #![tactic(auto)]
 
+mod around;
 mod bag;
 mod block;
 mod few;

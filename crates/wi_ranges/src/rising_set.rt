@@ -5,7 +5,8 @@ ghost use Rattle.std.specs.List.{Contains};
 ghost use Rattle.std.specs.List.Sorted.{IsStrictlyIncreasing};
 ghost use Rattle.std.specs.Ordering.{nat_cmp};
 ghost use Rattle.std.specs.BTreeSet.{contains};
-ghost use Rattle.wi_ranges.specs.Inner.Rising.{ends_before, has_cell};
+ghost use Rattle.wi_values.specs.Address.{is_one_of};
+ghost use Rattle.wi_ranges.specs.Inner.Rising.{ends_before};
 
 use std::alloc::{AllocError, Global};
 use std::collections::BTreeSet;
@@ -31,7 +32,7 @@ impl Model for RisingSet {
 
     ghost view = { λ s. record { keys = s.rising.items ++ s.others.keys } };
 
-    ghost invariant = { λ s. StandApart s.rising.items s.others.keys };
+    ghost invariant = { λ s. StandApart s.rising.items s.others };
 }
 
 impl RisingSet {
@@ -91,7 +92,7 @@ fn ends_before(cells: &[Address], cell: Address) -> bool
 /// Whether a cell is one of these, which stand in row-major order.
 fn is_among(cells: &[Address], cell: Address) -> bool
     requires { IsStrictlyIncreasing cells.now }
-    ensures { result ≡ has_cell cells.now cell }
+    ensures { result ≡ is_one_of cells.now cell }
 {
     cells.binary_search(&cell).is_ok()
 }

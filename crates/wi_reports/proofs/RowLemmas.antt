@@ -1,11 +1,6 @@
 -- The record of a row, and the records of rows, as they grow.
-use Rattle.wi_reports.proofs.Words.{◌≡◌, ℕ, zero, suc, add-one, ◌+◌, ◌-◌, List, [], ◌∷◌, ◌++◌, map, sym, ap, ◌∙◌, arith, Result, Ok, Err, OnOk, is_ok, if◌then◌else◌, StartsWith, flat_map, range_with_len, flat_map_more, Area, place, row_of, column_of, rows_in, cells_of, cells_of_row, Replacement, Stored, starts_after, starts_same, row_shown}
+use Rattle.wi_reports.proofs.Words.{◌≡◌, ℕ, zero, suc, add-one, ◌+◌, ◌-◌, List, [], ◌∷◌, ◌++◌, map, sym, ap, ◌∙◌, arith, Result, Ok, Err, OnOk, flat_map, range_with_len, flat_map_more, Area, place, row_of, column_of, rows_in, cells_of, cells_of_row, Replacement, Stored, row_shown}
 use Rattle.wi_csv.specs.Row as csv
-
-pub starts_either : {E : Type 0} (r : Result (Unit {0}) E) (next out more before : List ℕ) → next ≡ (if is_ok r then out ++ more else out)
-    → StartsWith out before → StartsWith next before
-starts_either (Ok u) next out more before h k = starts_after next out more before h k
-starts_either (Err e) next out more before h k = starts_same next out before h k
 
 -- one more number of a range
 range_more : (a n j : ℕ) → a + n ≡ j → range_with_len a (suc n) ≡ range_with_len a n ++ j ∷ []

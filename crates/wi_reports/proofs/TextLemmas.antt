@@ -18,10 +18,6 @@ one_text bytes f stored stored' before row first n m c at written next e more sa
     grown ∙ ap (λ ts. ts ++ f stored' at ∷ []) so_far ∙ ap (λ t. (before ++ map (f stored) cells) ++ t ∷ []) here
     ∙ append_assoc before (map (f stored) cells) (f stored (place row c) ∷ []) ∙ ap (λ ts. before ++ ts) all
 
--- a text behind others
-pub one_pushed : {X : Type 0} (bytes : X → List ℕ) (before after : List X) (x : X) (text : List ℕ) → after ≡ before ++ x ∷ [] → bytes x ≡ text → map bytes after ≡ map bytes before ++ text ∷ []
-one_pushed bytes before after x text e f = ap (map bytes) e ∙ map-append bytes before (x ∷ []) ∙ ap (λ t. map bytes before ++ t ∷ []) f
-
 -- the text of a value
 pub one_shown : {E : Type 0} (r : Result (Unit {0}) E) (before next : List (List ℕ)) (v w : Value) → v ≡ w → OnOk r (next ≡ before ++ shown_text v ∷ []) → OnOk r (next ≡ before ++ shown_text w ∷ [])
 one_shown r before next v w e = subst (λ (x : Value). OnOk r (next ≡ before ++ shown_text x ∷ [])) e

@@ -9,9 +9,10 @@ pub use Rattle.std.proofs.lemmas.List.Sums.{sum_by-cons}
 pub use Rattle.std.specs.Io.{StartsWith}
 pub use Rattle.std.specs.List.{flat_map, range_with_len, sum_by}
 pub use Rattle.std.specs.Prelude.{codes, ok_or, string_bytes}
+pub use Rattle.wi_csv.proofs.Copied.{one_more}
 pub use Rattle.wi_csv.proofs.Growth.{starts_after, starts_itself, starts_same}
 pub use Rattle.wi_csv.specs.Row.{row}
-pub use Rattle.wi_fraction.proofs.Decimals.{starts_joined}
+pub use Rattle.wi_fraction.proofs.Decimals.{starts_joined, starts_pushed}
 pub use Rattle.wi_fraction.specs.Arithmetic.{negated, sum_of}
 pub use Rattle.wi_fraction.specs.Number.{Number}
 pub use Rattle.wi_fraction.specs.Text.{text_of}

@@ -8,8 +8,8 @@ use Rattle.wi_values.specs.Value.{shown_text}
 use Rattle.wi_values.specs.declared.replacement.Replacement.{Replacement}
 use Rattle.wi_parser.specs.Sheet.{Sheet}
 use Rattle.wi_sheet.specs.TableEntry.{table_entry}
-use Rattle.wi_reports.specs.Rows.{text_under}
 use Rattle.wi_csv.specs.Row.{row}
+use Rattle.wi_reports.specs.Rows.{text_under}
 
 module _ (sheet : Sheet) (put : List Replacement) where
   -- an entry, for the pairs R and X, C and Y

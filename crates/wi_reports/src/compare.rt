@@ -3,10 +3,10 @@
 ghost use Rattle.std.specs.Prelude.{◌≡◌, ◌++◌, ◌∷◌, ◌<◌, [], IfOk, OnOk, OnErr, string_bytes};
 ghost use Rattle.std.specs.List.{flat_map};
 ghost use Rattle.std.specs.Io.{StartsWith};
+ghost use Rattle.wi_fraction.specs.Arithmetic.{sum_of, negated};
 ghost use Rattle.wi_values.specs.Address.{rows, cells_of_row};
 ghost use Rattle.wi_values.specs.Replacements.{IsInOrder};
 ghost use Rattle.wi_values.specs.Value.{shown_text};
-ghost use Rattle.wi_fraction.specs.Arithmetic.{sum_of, negated};
 ghost use Rattle.wi_sheet.specs.Shown as show;
 ghost use Rattle.wi_csv.specs.Row.{row};
 ghost use Rattle.wi_reports.specs.Compare.{number_text, difference_text, difference_record, cells_compared};

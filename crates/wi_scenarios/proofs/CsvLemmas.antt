@@ -1,5 +1,5 @@
 -- What `csv` answers.
-use Rattle.wi_scenarios.proofs.Words.{◌≡◌, ◌≢◌, ℕ, Bool, List, [], ◌∷◌, map, Option, Result, Ok, Err, refl, sym, ap, ◌∙◌, subst, AllZip, keys_of, IsErrAnd, err_from_is_err_and, Area, Content, ImportFault, Field, fields_at, areas_at, field_cell, IsChange, AreChanges, IsFault, Refusal, Memory, State, Answer, import_refusal, MayRefuse, Serves, MayRefuseData, ServesData, no_cause, edit_answer, IsCsvStep, imported_cells}
+use Rattle.wi_scenarios.proofs.Words.{◌≡◌, ◌≢◌, ℕ, Bool, List, [], ◌∷◌, map, Option, Result, Ok, Err, refl, sym, ap, ◌∙◌, subst, AllZip, keys_of, IsErrAnd, err_from_is_err_and, Area, Content, ImportFault, Field, fields_at, record_areas_at, field_cell, IsChange, AreChanges, IsFault, Refusal, Memory, State, Answer, import_refusal, MayRefuse, Serves, MayRefuseData, ServesData, no_cause, edit_answer, IsCsvStep, imported_cells}
 use Rattle.wi_import.specs.declared.fault.ImportFault.TheVariants as import
 
 -- ---- an import that is refused
@@ -28,7 +28,7 @@ serves_data IsOne IsOther f (Ok u) s t h = f (Ok (t, [])) h
 serves_data IsOne IsOther f (Err e) s t h = (may_refuse_data e IsOne IsOther f h.0, h.1)
 
 pub csv_edited : (r : Result (Unit {0}) Refusal) (s t : State) (force : Bool) (at : ℕ) (text : List ℕ) (named : List Area) (contents : List (ℕ × Option Content)) →
-    named ≡ areas_at at text → AreChanges (fields_at at text) contents →
+    named ≡ record_areas_at at text → AreChanges (fields_at at text) contents →
     Serves (λ a. edit_answer s force no_cause (record { named = named; contents = contents }) ≡ a) r s t [] → ServesData (IsCsvStep s force at text) r s t
 csv_edited r s t force at text named contents n c =
     serves_data (λ a. edit_answer s force no_cause (record { named = named; contents = contents }) ≡ a) (IsCsvStep s force at text)

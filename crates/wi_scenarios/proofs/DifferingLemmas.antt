@@ -1,5 +1,5 @@
 -- The cells whose replacement is another, as two walks collect them.
-use Rattle.wi_scenarios.proofs.Words.{◌≡◌, ◌==◌, ℕ, ◌+◌, ◌<◌, ◌≤◌, Bool, true, false, not, cond, ◌||◌, ◌&&◌, List, [], ◌∷◌, ◌++◌, map, length, drop, get_or, Option, Some, None, refl, sym, ap, ◌∙◌, subst, arith, false≢true, nat_tests, append-nil, drop_all, list_any-append, Value, Replacement, replaced, same_replacement_Decides, left_more, is_one_of, listed_filter, same_option, differing, AreDiffering}
+use Rattle.wi_scenarios.proofs.Words.{◌≡◌, ◌==◌, ℕ, ◌+◌, ◌<◌, ◌≤◌, Bool, true, false, not, cond, ◌||◌, ◌&&◌, List, [], ◌∷◌, ◌++◌, map, length, drop, get_or, Option, Some, None, refl, sym, ap, ◌∙◌, subst, arith, false≢true, nat_tests, append-nil, drop_all, list_any-append, Value, Replacement, replaced, same_replacement_Decides, left_more, is_one_of, same_option, differing, AreDiffering, has-filter}
 use Rattle.std.proofs.lemmas.List.{append_assoc}
 
 -- ---- a walk
@@ -66,8 +66,8 @@ module _ (before after : List Replacement) where
       ≡ ((is_one_of (map (λ (r : Replacement). r.at) before) a && not (same_at a)) || (is_one_of (map (λ (r : Replacement). r.at) after) a && not (same_at a)))
   in_both a =
       list_any-append (λ x. x == a) (differing before after before) (differing before after after)
-      ∙ ap (λ (b : Bool). b || is_one_of (differing before after after) a) (listed_filter (λ x. not (same_at x)) (map (λ (r : Replacement). r.at) before) a)
-      ∙ ap (λ (b : Bool). (is_one_of (map (λ (r : Replacement). r.at) before) a && not (same_at a)) || b) (listed_filter (λ x. not (same_at x)) (map (λ (r : Replacement). r.at) after) a)
+      ∙ ap (λ (b : Bool). b || is_one_of (differing before after after) a) (has-filter (λ x. not (same_at x)) (map (λ (r : Replacement). r.at) before) a)
+      ∙ ap (λ (b : Bool). (is_one_of (map (λ (r : Replacement). r.at) before) a && not (same_at a)) || b) (has-filter (λ x. not (same_at x)) (map (λ (r : Replacement). r.at) after) a)
 
   found_in_both : AreDiffering before after both
   found_in_both = record {

@@ -1,5 +1,5 @@
 -- What an edit is answered, and what is pending after it.
-use Rattle.wi_scenarios.proofs.Words.{◌≡◌, ◌==◌, ◌<◌, ◌≤◌, ◌-◌, ℕ, zero, suc, Bool, true, false, not, ◌&&◌, ◌||◌, ◌⊎◌, inl, inr, List, [], ◌∷◌, ◌++◌, length, map, take, ⊎_elim, Option, Some, None, Result, Ok, Err, refl, sym, ap, ◌∙◌, subst, arith, slice_index_or, MatchResult, IfOk, IsErrAnd, err_from_is_err_and, keys_of, take-append_seam, length-append, cases_lt, false_from_ne_true, false≢true, or_left, or_right, or_parts, or_cases, length-keys_of, nat_tests, Area, Replacement, Content, Sheet, StoreFault, Stored, edited, change_without_empty, applied, Applies, shown, IsMarking, same_off_edited, accepted_is, Entry, Scenario, effective, value_in, sheet_size, is_one_of, Session, new_session, Roster, pending_of, vacant_of, is_pending_for_all, all_have_so, one_of_all_has, Refusal, Memory, Stale, Desk, State, Answer, may_grow, MayRefuse, Serves, no_cause, answer, Edit, edit_refusal, limit_of, stale_in, after_edit, edit_answer, is_pending, AddsOnly, state_of, AreCovered, IsClosed, AreClosed, IsSound, AreMarked, HasRooms, SameBeside, MayFail, Commits, is_itself}
+use Rattle.wi_scenarios.proofs.Words.{◌≡◌, ◌==◌, ◌<◌, ◌≤◌, ◌-◌, ℕ, zero, suc, Bool, true, false, not, ◌&&◌, ◌||◌, ◌⊎◌, inl, inr, List, [], ◌∷◌, ◌++◌, length, map, take, ⊎_elim, Option, Some, None, Result, Ok, Err, refl, sym, ap, ◌∙◌, subst, arith, slice_index_or, MatchResult, IfOk, IsErrAnd, err_from_is_err_and, keys_of, take-append_seam, length-append, cases_lt, false_from_ne_true, false≢true, or_left, or_right, or_parts, or_cases, length-keys_of, nat_tests, Area, Replacement, Content, Sheet, StoreFault, Stored, edited, change_without_empty, applied, Applies, shown, IsMarking, same_off_edited, accepted_is, Entry, Scenario, effective, value_in, sheet_size, is_one_of, Session, new_session, Roster, pending_of, vacant_of, is_pending_for_all, all_have_so, one_of_all_has, Refusal, Memory, Stale, Desk, State, Answer, may_grow, MayRefuse, Serves, no_cause, answer, Edit, edit_refusal, limit_of, stale_in, with_stored, edit_answer, is_pending, AddsOnly, state_of, AreCovered, IsClosed, AreClosed, IsSound, AreMarked, HasRooms, SameBeside, MayFail, Commits, is_itself}
 use Rattle.wi_store.specs.declared.fault.StoreFault.TheVariants as store
 
 -- an edit of these
@@ -12,10 +12,10 @@ same_edit named areas contents changes n c = cc
 -- the answer that is found, where a cell is stale or none is
 abbrev pub found_by : State → Option ℕ → List Area → Result Stored StoreFault → Answer
 found_by s (Some at) named r = Err (Stale at)
-found_by s None named (Ok stored) = Ok (after_edit s named (Ok stored), [])
+found_by s None named (Ok stored) = Ok (with_stored s named (Ok stored), [])
 found_by s None named (Err e) = Err (edit_refusal e)
 
-by_causes : (s : State) (o : Option ℕ) (named : List Area) (r : Result Stored StoreFault) → answer (record no_cause { stale = o; limit = limit_of r }) (after_edit s named r, []) ≡ found_by s o named r
+by_causes : (s : State) (o : Option ℕ) (named : List Area) (r : Result Stored StoreFault) → answer (record no_cause { stale = o; limit = limit_of r }) (with_stored s named r, []) ≡ found_by s o named r
 by_causes s (Some at) named r = refl
 by_causes s None named (Ok stored) = refl
 by_causes s None named (Err e) = refl
@@ -63,7 +63,7 @@ edit_lacks r s force e k =
 
 made : (s : State) (stored : Stored) (named : List Area) (scenarios : List Scenario) (sessions : List Session) (current : ℕ) (log : List Entry) →
     scenarios ≡ s.scenarios → sessions ≡ s.sessions → current ≡ s.current → log ≡ s.log ++ record { session = s.current; cells = named } ∷ [] →
-    after_edit s named (Ok stored) ≡ record { stored = stored; scenarios = scenarios; sessions = sessions; current = current; log = log }
+    with_stored s named (Ok stored) ≡ record { stored = stored; scenarios = scenarios; sessions = sessions; current = current; log = log }
 made s stored named scenarios sessions current log a b c d = cc
 
 kept : (s : State) (stored : Stored) (scenarios : List Scenario) (sessions : List Session) (current : ℕ) (log : List Entry) →

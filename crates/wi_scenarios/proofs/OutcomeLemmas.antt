@@ -1,5 +1,5 @@
 -- What each command leaves.
-use Rattle.wi_scenarios.proofs.Words.{nat_le, nat_lt, option_map, ◌≡◌, ◌∙◌, ℕ, ◌==◌, inl, inr, Bool, true, false, not, ◌&&◌, ◌||◌, cond, List, [], ◌∷◌, length, Option, Some, None, Result, Ok, Err, refl, sym, subst, list_any, find, option_or, bytes_eq, bytes_eq-Decides, Area, size_of, cells_of, content_of, Stored, applied, StoreFault, areas_at, is_named, has_scenario, scenario_for, with_scenario, without_scenario, with_own, without_own, is_full, scenario_or_new, lacks, would_loop, based_on, found_with, found_without, max_sessions, has_session, with_session, index_of, using_scenario, told, table_of, is_column, has_row, entries, rows_shown, export_of, cells_compared, change_records, content_record, effective, Refusal, BadCommand, TooLarge, NoScenario, InUse, TooMany, BadField, LeavesSheet, Stale, TooLong, State, max_area, current_session, with_current, current_replacements, Answer, when, unless, no_cause, first_cause, limit_of, edit_refusal, stale_in, after_edit, change_list, cell_area, fault_in, content_in, clear_edit, fill_edit, has_no_copy, has_bad_field, field_fault, contents_in, replacement_by, is_in_use, Command, Set, Clear, Fill, Csv, Drop, Base, Use, As, Show, Export, Changes, Compare, Table, Formula, Refused, RefusedData, IsStep, Event, MayHappen, IsEdited, HasScenarioChanged, Leaves}
+use Rattle.wi_scenarios.proofs.Words.{nat_le, nat_lt, option_map, ◌≡◌, ◌∙◌, ℕ, ◌==◌, inl, inr, Bool, true, false, not, ◌&&◌, ◌||◌, cond, List, [], ◌∷◌, length, Option, Some, None, Result, Ok, Err, refl, sym, subst, list_any, find, option_or, bytes_eq, bytes_eq-Decides, Area, size_of, cells_of, content_of, Stored, applied, StoreFault, record_areas_at, is_named, has_scenario, scenario_for, with_scenario, without_scenario, with_own, without_own, is_full, scenario_or_new, lacks, would_loop, based_on, found_with, found_without, max_sessions, has_session, with_session, index_of, using_scenario, told, table_of, is_column, has_row, entries, rows_shown, export_of, cells_compared, change_records, content_record, effective, Refusal, BadCommand, TooLarge, NoScenario, InUse, TooMany, BadField, LeavesSheet, Stale, TooLong, State, max_area, current_session, with_current, current_replacements, Answer, when, unless, no_cause, first_cause, limit_of, edit_refusal, stale_in, with_stored, change_list, cell_area, fault_in, content_in, clear_edit, fill_edit, has_no_copy, has_bad_field, field_fault, contents_in, replacement_by, is_in_use, Command, Set, Clear, Fill, Csv, Drop, Base, Use, As, Show, Export, Changes, Compare, Table, Formula, Refused, RefusedData, IsStep, Event, MayHappen, IsEdited, HasScenarioChanged, Leaves}
 use Rattle.std.proofs.Common.{is_some}
 use Rattle.wi_scenario_list.specs.Scenarios as list
 use Rattle.wi_scenarios.specs.declared.refusal.Refusal.TheVariants as refusal
@@ -35,7 +35,7 @@ edit_refused : (named : List Area) (s : State) (e : Refusal) (a : Answer) → Er
 edit_refused named s e a h = subst (EditOutcome named s) h tt
 
 edited : (named : List Area) (s : State) (o p : Option Refusal) (stale : Option ℕ) (r : Result Stored StoreFault) (a : Answer)
-    → unless (edit_cause o p stale (limit_of r)) (after_edit s named r, []) ≡ a → EditOutcome named s a
+    → unless (edit_cause o p stale (limit_of r)) (with_stored s named r, []) ≡ a → EditOutcome named s a
 edited named s (Some e) p stale r a h = edit_refused named s e a h
 edited named s None (Some e) stale r a h = edit_refused named s e a h
 edited named s None None (Some c) r a h = edit_refused named s (Stale c) a h
@@ -96,9 +96,9 @@ outcome s (Fill force from area) a h =
     as_edit (Ok done) k = k
     as_edit (Err e) k = tt
 outcome s (Csv force at text) a h =
-    as_edit a (edited (areas_at at text) s (when (has_bad_field h.read) BadField) (field_fault h.read) (stale_in s force (areas_at at text)) (applied s.stored (contents_in h.read)) a h.answered)
+    as_edit a (edited (record_areas_at at text) s (when (has_bad_field h.read) BadField) (field_fault h.read) (stale_in s force (record_areas_at at text)) (applied s.stored (contents_in h.read)) a h.answered)
   where
-    as_edit : (b : Answer) → EditOutcome (areas_at at text) s b → Outcome s (Csv force at text) b
+    as_edit : (b : Answer) → EditOutcome (record_areas_at at text) s b → Outcome s (Csv force at text) b
     as_edit (Ok done) k = k
     as_edit (Err e) k = tt
 outcome s (Scenario name at []) a h =

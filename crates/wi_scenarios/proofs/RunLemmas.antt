@@ -1,5 +1,5 @@
 -- What a run does to the sessions and to the log.
-use Rattle.wi_scenarios.proofs.Words.{◌≡◌, ◌≢◌, ◌∙◌, ℕ, zero, suc, ◌+◌, ◌<◌, ◌≤◌, ◌==◌, ◌⊎◌, inl, inr, Bool, true, false, not, ◌&&◌, ◌||◌, cond, List, [], ◌∷◌, ◌++◌, length, get_or, drop, Ok, Err, refl, sym, ap, subst, append_assoc, arith, list_any, position_or_len, bytes_eq, eqb-true, eqb-false, ne_eqb, false≢true, length-set, length-append, get_or-set_same, get_or-set_other, drop-append-le, drop_all, Value, Stored, Entry, value_in, with_changes, sheet_size, Session, new_session, has_session, with_session, index_of, using_scenario, told, picture_is_shown, State, state_over, current_session, with_current, shown_to, Answer, change_list, Command, Set, Clear, Fill, Csv, Drop, Base, Use, As, Changes, Event, MayHappen, left_by, IsRun, state_after, IsCoherent, KeepsApart, is_accepted_changes, is_told, lists_told, with_lists, last_shown, ListsAddUp, named_by, logged, logged_by, edits_in, edits_since, unseen, LogGrows}
+use Rattle.wi_scenarios.proofs.Words.{◌≡◌, ◌≢◌, ◌∙◌, ℕ, zero, suc, ◌+◌, ◌<◌, ◌≤◌, ◌==◌, ◌⊎◌, inl, inr, Bool, true, false, not, ◌&&◌, ◌||◌, cond, List, [], ◌∷◌, ◌++◌, length, get_or, drop, Ok, Err, refl, sym, ap, subst, append_assoc, arith, list_any, position_or_len, bytes_eq, eqb-true, eqb-false, ne_eqb, false≢true, length-set, length-append, get_or-set_same, get_or-set_other, drop-append-le, drop_all, Value, Stored, Entry, value_in, with_changes, sheet_size, Session, new_session, has_session, with_session, index_of, using_scenario, told, picture_is_shown, State, state_over, current_session, with_current, shown_to, Answer, change_list, Command, Set, Clear, Fill, Csv, Drop, Base, Use, As, Changes, Event, MayHappen, left_by, MayFollow, state_after, IsCoherent, KeepsApart, is_accepted_changes, is_told, lists_told, with_lists, last_shown, ListsAddUp, named_by, logged, logged_by, edits_in, edits_since, unseen, LogGrows}
 use Rattle.std.proofs.Common.{append-nil}
 use Rattle.wi_scenarios.specs.Views.{session_at}
 use Rattle.wi_scenarios.specs.Step.{Scenario}
@@ -174,7 +174,7 @@ settled_then s e settled h = record {
       (seen_by s e i settled h) (settled.seen i) (omega (arith, grown));
 }
 
-pub stays_coherent : (s : State) (es : List Event) → IsCoherent s → IsRun s es → IsCoherent (state_after s es)
+pub stays_coherent : (s : State) (es : List Event) → IsCoherent s → MayFollow s es → IsCoherent (state_after s es)
 stays_coherent s [] settled run = settled
 stays_coherent s (e ∷ es) settled run = stays_coherent (left_by s e.answer) es (settled_then s e settled run.0) run.1
 
@@ -212,7 +212,7 @@ lists_in_turn : (picture : List (ℕ × Value)) (ls ms : List (List (ℕ × Valu
 lists_in_turn picture [] ms = refl
 lists_in_turn picture (l ∷ ls) ms = lists_in_turn (with_changes picture l) ls ms
 
-pictures_add_up : (s : State) (es : List Event) (i : ℕ) → IsCoherent s → IsRun s es
+pictures_add_up : (s : State) (es : List Event) (i : ℕ) → IsCoherent s → MayFollow s es
     → (session_at (state_after s es) i).picture ≡ with_lists (session_at s i).picture (lists_told i s es)
 pictures_add_up s [] i settled run = refl
 pictures_add_up s (e ∷ es) i settled run =
@@ -236,7 +236,7 @@ told_to_current i s e h = eqb-true s.current i (both (is_accepted_changes e.answ
     both true c h = h
     both false c h = absurd (false≢true h)
 
-shown_at_last : (s : State) (es : List Event) (i a : ℕ) (v : Value) → IsCoherent s → IsRun s es → a < sheet_size → value_in (session_at s i).picture a ≡ v
+shown_at_last : (s : State) (es : List Event) (i a : ℕ) (v : Value) → IsCoherent s → MayFollow s es → a < sheet_size → value_in (session_at s i).picture a ≡ v
     → value_in (session_at (state_after s es) i).picture a ≡ last_shown i a v s es
 shown_at_last s [] i a v settled run l h = h
 shown_at_last s (e ∷ es) i a v settled run l h =
@@ -244,7 +244,7 @@ shown_at_last s (e ∷ es) i a v settled run l h =
     (ap (λ (p : List (ℕ × Value)). value_in p a) (picture_by s e i settled run.0)
     ∙ shown_then s i a v (is_told i s e) (told_to_current i s e) l h)
 
-pub lists_add_up : (s : State) (es : List Event) (i : ℕ) → IsCoherent s → IsRun s es → ListsAddUp s es i
+pub lists_add_up : (s : State) (es : List Event) (i : ℕ) → IsCoherent s → MayFollow s es → ListsAddUp s es i
 lists_add_up s es i settled run = record {
   picture = pictures_add_up s es i settled run;
   shown = λ a l.
@@ -254,7 +254,7 @@ lists_add_up s es i settled run = record {
 
 -- ---- the log
 
-logs_add_up : (s : State) (es : List Event) → IsRun s es → (state_after s es).log ≡ s.log ++ edits_in s es
+logs_add_up : (s : State) (es : List Event) → MayFollow s es → (state_after s es).log ≡ s.log ++ edits_in s es
 logs_add_up s [] run = sym (append-nil s.log)
 logs_add_up s (e ∷ es) run =
     let t = left_by s e.answer in
@@ -284,12 +284,12 @@ unseen_then s e i settled h =
     by true false t = drop-append-le (session_at s i).seen s.log (logged_by s e) (settled.seen i)
     by false c t = drop-append-le (session_at s i).seen s.log (logged_by s e) (settled.seen i)
 
-unseen_is_since : (s : State) (es : List Event) (i : ℕ) → IsCoherent s → IsRun s es → unseen (state_after s es) i ≡ edits_since i (unseen s i) s es
+unseen_is_since : (s : State) (es : List Event) (i : ℕ) → IsCoherent s → MayFollow s es → unseen (state_after s es) i ≡ edits_since i (unseen s i) s es
 unseen_is_since s [] i settled run = refl
 unseen_is_since s (e ∷ es) i settled run =
     let t = left_by s e.answer in
     unseen_is_since t es i (settled_then s e settled run.0) run.1
     ∙ ap (λ (earlier : List Entry). edits_since i earlier t es) (unseen_then s e i settled run.0)
 
-pub log_grows : (s : State) (es : List Event) (i : ℕ) → IsCoherent s → IsRun s es → LogGrows s es i
+pub log_grows : (s : State) (es : List Event) (i : ℕ) → IsCoherent s → MayFollow s es → LogGrows s es i
 log_grows s es i settled run = record { log = logs_add_up s es run; place = unseen_is_since s es i settled run }

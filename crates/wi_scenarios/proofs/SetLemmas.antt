@@ -1,5 +1,5 @@
 -- What `set` answers.
-use Rattle.wi_scenarios.proofs.Words.{◌≡◌, ℕ, Bool, true, false, ◌==◌, min, max, List, [], ◌∷◌, length, Option, Some, Result, Ok, Err, if◌then◌else◌, refl, sym, ap, ◌∙◌, subst, arith, IsErrAnd, err_from_is_err_and, Area, place, row_of, column_of, rect_of, Content, ParseFault, content_read, is_too_long, ReadsAs, content_is_one, Refusal, BadCommand, State, Answer, may_grow, Serves, parse_refusal, no_cause, Edit, edit_answer, IsSetStep, set_edit, cell_area, fault_in}
+use Rattle.wi_scenarios.proofs.Words.{◌≡◌, ℕ, Bool, true, false, ◌==◌, List, [], ◌∷◌, length, Option, Some, Result, Ok, Err, if◌then◌else◌, refl, sym, ap, ◌∙◌, subst, IsErrAnd, err_from_is_err_and, Area, Content, ParseFault, content_read, is_too_long, ReadsAs, content_is_one, Refusal, BadCommand, State, Answer, may_grow, Serves, parse_refusal, no_cause, Edit, edit_answer, IsSetStep, set_edit, cell_area, fault_in}
 use Rattle.wi_parser.specs.declared.fault.ParseFault.TheVariants as parse
 use Rattle.wi_scenarios.proofs.AnswerLemmas.{MayRefuseFound, ServesFound, serves, serves_as}
 use Rattle.wi_scenarios.proofs.EditLemmas.{edit_grows, same_edit}
@@ -80,13 +80,7 @@ module _ (s : State) (force : Bool) (at : ℕ) (text : List ℕ) (some : (length
 
 -- ---- the edit
 
-pub rect_cell : (at : ℕ) → rect_of at at ≡ cell_area at
-rect_cell at =
-    let first : place (min (row_of at) (row_of at)) (min (column_of at) (column_of at)) ≡ at = omega arith in
-    let last : place (max (row_of at) (row_of at)) (max (column_of at) (column_of at)) ≡ at = omega arith in
-    cc
-
-pub one_cell_edit : (at : ℕ) (content : Content) (area : Area) (named : List Area) (contents : List (ℕ × Option Content)) → area ≡ rect_of at at → named ≡ area ∷ [] → contents ≡ (at, Some content) ∷ [] →
+pub one_cell_edit : (at : ℕ) (content : Content) (area : Area) (named : List Area) (contents : List (ℕ × Option Content)) → area ≡ cell_area at → named ≡ area ∷ [] → contents ≡ (at, Some content) ∷ [] →
     ◌≡◌ {A = Edit} (record { named = named; contents = contents }) (set_edit at (Ok content))
 one_cell_edit at content area named contents a n c =
-    same_edit named (cell_area at ∷ []) contents ((at, Some content) ∷ []) (n ∙ ap (λ (x : Area). x ∷ []) (a ∙ rect_cell at)) c
+    same_edit named (cell_area at ∷ []) contents ((at, Some content) ∷ []) (n ∙ ap (λ (x : Area). x ∷ []) a) c

@@ -1,5 +1,5 @@
 -- When an edit is refused for a stale cell.
-use Rattle.wi_scenarios.proofs.Words.{IfSome, nat_lt, ◌≡◌, ◌∙◌, ℕ, zero, suc, ◌+◌, ◌<◌, ◌≤◌, ◌==◌, ◌⊎◌, inl, inr, Bool, true, false, ◌&&◌, List, [], ◌∷◌, length, map, max, Option, Some, None, Result, Ok, Err, refl, sym, ap, subst, arith, list_any, and_parts, and_from, both_ways, cases_eq, cases_lt, or_cases, false≢true, none-some, same_Some, Area, is_within, size_of, cells_of, within_between, Content, ParseFault, content_of, areas_at, Stored, applied, StoreFault, Entry, have_cell, first_stale, IsFirst, entries_in, is_wanted_of_others, only_first, stale_is_first, Refusal, Memory, BadCommand, TooLarge, BadField, LeavesSheet, Stale, State, max_area, Answer, when, unless, limit_of, edit_refusal, stale_in, after_edit, cell_area, fault_in, content_in, clear_edit, fill_edit, has_no_copy, ImportOutcome, has_bad_field, field_fault, contents_in, Command, Set, Clear, Fill, Csv, IsStep, Event, MayHappen, IsRun, state_after, IsCoherent, named_by, is_forced, edits_since, unseen, is_newer, IsFirstNewer, counts_before, is_refused_before, StaleIsNewer, ForcedIsNotStale}
+use Rattle.wi_scenarios.proofs.Words.{IfSome, nat_lt, ◌≡◌, ◌∙◌, ℕ, zero, suc, ◌+◌, ◌<◌, ◌≤◌, ◌==◌, ◌⊎◌, inl, inr, Bool, true, false, ◌&&◌, List, [], ◌∷◌, length, map, max, Option, Some, None, Result, Ok, Err, refl, sym, ap, subst, arith, list_any, and_parts, and_from, both_ways, cases_eq, cases_lt, or_cases, false≢true, none-some, same_Some, Area, is_within, size_of, cells_of, within_between, Content, ParseFault, content_of, record_areas_at, Stored, applied, StoreFault, Entry, have_cell, first_stale, IsFirst, entries_in, is_wanted_of_others, only_first, stale_is_first, Refusal, Memory, BadCommand, TooLarge, BadField, LeavesSheet, Stale, State, max_area, Answer, when, unless, limit_of, edit_refusal, stale_in, with_stored, cell_area, fault_in, content_in, clear_edit, fill_edit, has_no_copy, ImportOutcome, has_bad_field, field_fault, contents_in, Command, Set, Clear, Fill, Csv, IsStep, Event, MayHappen, MayFollow, state_after, IsCoherent, named_by, is_forced, edits_since, unseen, is_newer, IsFirstNewer, counts_before, is_refused_before, StaleIsNewer, ForcedIsNotStale}
 use Rattle.std.specs.Prelude.{◌↔◌}
 use Rattle.wi_parser.specs.declared.fault.ParseFault.TheVariants as parse
 use Rattle.wi_import.specs.declared.fault.ImportFault.TheVariants as import
@@ -160,14 +160,14 @@ set_stale : (s : State) (force : Bool) (at : ℕ) (text : List ℕ) (a : Answer)
     → (a ≡ Err (Stale c)) ↔ (stale_in s force (cell_area at ∷ []) ≡ Some c)
 set_stale s force at text a c h f =
     let r = applied s.stored ((at, content_in h.read) ∷ []) in
-    stale_answer (when (length text == 0) BadCommand) (fault_in h.read) (stale_in s force (cell_area at ∷ [])) r (after_edit s (cell_area at ∷ []) r, []) a c
+    stale_answer (when (length text == 0) BadCommand) (fault_in h.read) (stale_in s force (cell_area at ∷ [])) r (with_stored s (cell_area at ∷ []) r, []) a c
     (when_before (length text == 0) BadCommand refl) (fault_before h.read) h.answered f
 
 clear_stale : (s : State) (force : Bool) (area : Area) (a : Answer) (c : ℕ) → IsStep s (Clear force area) a → is_refused_before a ≡ false
     → (a ≡ Err (Stale c)) ↔ (stale_in s force (area ∷ []) ≡ Some c)
 clear_stale s force area a c h f =
     let r = applied s.stored (clear_edit s.stored.sheet area).contents in
-    stale_answer None None (stale_in s force (area ∷ [])) r (after_edit s (area ∷ []) r, []) a c tt tt h f
+    stale_answer None None (stale_in s force (area ∷ [])) r (with_stored s (area ∷ []) r, []) a c tt tt h f
 
 fill_stale : (s : State) (force : Bool) (from : ℕ) (area : Area) (a : Answer) (c : ℕ) → IsStep s (Fill force from area) a → is_refused_before a ≡ false
     → (a ≡ Err (Stale c)) ↔ (stale_in s force (area ∷ []) ≡ Some c)
@@ -175,14 +175,14 @@ fill_stale s force from area a c h f =
     let r = applied s.stored (fill_edit s.stored.sheet from area).contents in
     let large = nat_lt max_area (size_of area) in
     let leaves = list_any (has_no_copy (content_of s.stored.sheet from) from) (cells_of area) in
-    stale_answer (when large TooLarge) (when leaves LeavesSheet) (stale_in s force (area ∷ [])) r (after_edit s (area ∷ []) r, []) a c
+    stale_answer (when large TooLarge) (when leaves LeavesSheet) (stale_in s force (area ∷ [])) r (with_stored s (area ∷ []) r, []) a c
     (when_before large TooLarge refl) (when_before leaves LeavesSheet refl) h f
 
 csv_stale : (s : State) (force : Bool) (at : ℕ) (text : List ℕ) (a : Answer) (c : ℕ) → IsStep s (Csv force at text) a → is_refused_before a ≡ false
-    → (a ≡ Err (Stale c)) ↔ (stale_in s force (areas_at at text) ≡ Some c)
+    → (a ≡ Err (Stale c)) ↔ (stale_in s force (record_areas_at at text) ≡ Some c)
 csv_stale s force at text a c h f =
     let r = applied s.stored (contents_in h.read) in
-    stale_answer (when (has_bad_field h.read) BadField) (field_fault h.read) (stale_in s force (areas_at at text)) r (after_edit s (areas_at at text) r, []) a c
+    stale_answer (when (has_bad_field h.read) BadField) (field_fault h.read) (stale_in s force (record_areas_at at text)) r (with_stored s (record_areas_at at text) r, []) a c
     (when_before (has_bad_field h.read) BadField refl) (field_before h.read) h.answered f
 
 -- the first stale cell of an edit that names these rectangles
@@ -200,7 +200,7 @@ edit_stale s c a named at h n f = absurd (none-some named n)
 
 -- ---- the laws
 
-pub stale_is_newer : (s : State) (es : List Event) (e : Event) (named : List Area) → IsCoherent s → IsRun s es → StaleIsNewer s es e named
+pub stale_is_newer : (s : State) (es : List Event) (e : Event) (named : List Area) → IsCoherent s → MayFollow s es → StaleIsNewer s es e named
 stale_is_newer s es e named settled run h n free f a = by h
   where
     t : State

@@ -30,12 +30,13 @@ pub use Rattle.wi_edit_log.specs.EditLog.{Entry, first_stale, have_cell}
 pub use Rattle.wi_edit_log.specs.Inner.Edits.{entries_in, is_wanted_of_others}
 pub use Rattle.wi_edit_log.specs.Inner.First.{IsFirst}
 pub use Rattle.wi_import.proofs.ImportLemmas.{no_other, some_import}
-pub use Rattle.wi_import.specs.Fields.{Field, areas_at, fields_at}
+pub use Rattle.wi_import.specs.Fields.{Field, fields_at, record_areas_at}
 pub use Rattle.wi_import.specs.Imports.{AreChanges, IsChange, IsFault}
 pub use Rattle.wi_import.specs.Inner.Reading.{field_cell}
 pub use Rattle.wi_import.specs.declared.fault.ImportFault.{ImportFault}
 pub use Rattle.wi_parser.proofs.ContentsOfTexts.{content_is_one}
 pub use Rattle.wi_parser.specs.Inner.Reading.{ReadsAs, content_read, is_too_long}
+pub use Rattle.wi_parser.specs.Reads.{cell_area}
 pub use Rattle.wi_parser.specs.Sheet.{Sheet, content_of, has_formula}
 pub use Rattle.wi_parser.specs.declared.content.Content.{Content}
 pub use Rattle.wi_parser.specs.declared.fault.ParseFault.{ParseFault}
@@ -65,7 +66,7 @@ pub use Rattle.wi_scenarios.specs.Clear.{clear_edit, clear_step}
 pub use Rattle.wi_scenarios.specs.Compare.{compare_step}
 pub use Rattle.wi_scenarios.specs.Csv.{ImportOutcome, IsCsvStep, contents_in, csv_answer, field_fault, has_bad_field, imported_cells}
 pub use Rattle.wi_scenarios.specs.Drop.{drop_step, is_in_use}
-pub use Rattle.wi_scenarios.specs.Edits.{Edit, after_edit, edit_answer, edit_refusal, limit_of, stale_in}
+pub use Rattle.wi_scenarios.specs.Edits.{Edit, edit_answer, edit_refusal, limit_of, stale_in, with_stored}
 pub use Rattle.wi_scenarios.specs.Export.{export_step}
 pub use Rattle.wi_scenarios.specs.Fill.{columns_between, copied, copy_to, fill_edit, fill_step, has_no_copy, or_nothing, rows_between, shift_refusal}
 pub use Rattle.wi_scenarios.specs.Formula.{formula_step}
@@ -74,10 +75,10 @@ pub use Rattle.wi_scenarios.specs.Inner.Editing.{AreMarked, Commits, HasRooms, M
 pub use Rattle.wi_scenarios.specs.Inner.Held.{AreClosed, AreCovered, IsClosed, IsSound, IsUpToDate, pending_in, state_of}
 pub use Rattle.wi_scenarios.specs.Inner.Switch.{AreDiffering, Differs, HasRoom, HasRoomFor, differing, same_option}
 pub use Rattle.wi_scenarios.specs.Inner.Told.{IsTold}
-pub use Rattle.wi_scenarios.specs.Laws.{Event, ForcedIsNotStale, HasScenarioChanged, IsCoherent, IsEdited, IsFirstNewer, IsRun, KeepsApart, Leaves, ListsAddUp, LogGrows, MayHappen, RecordsTellList, StaleIsNewer, change_fields, counts_before, edits_in, edits_since, is_accepted_changes, is_forced, is_newer, is_refused_before, is_told, last_shown, left_by, lists_told, logged, logged_by, named_by, state_after, unseen, with_lists}
+pub use Rattle.wi_scenarios.specs.Laws.{Event, ForcedIsNotStale, HasScenarioChanged, IsCoherent, IsEdited, IsFirstNewer, KeepsApart, Leaves, ListsAddUp, LogGrows, MayFollow, MayHappen, RecordsTellList, StaleIsNewer, change_fields, counts_before, edits_in, edits_since, is_accepted_changes, is_forced, is_newer, is_refused_before, is_told, last_shown, left_by, lists_told, logged, logged_by, named_by, state_after, unseen, with_lists}
 pub use Rattle.wi_scenarios.specs.Pending.{AddsOnly, Book, IsMarked, IsTouched, SameForOthers, is_pending, occupied_cells, pending_evaluations, pending_restarts}
 pub use Rattle.wi_scenarios.specs.Scenario.{IsScenarioStep, put_answer, replacement_by, take_away_step}
-pub use Rattle.wi_scenarios.specs.Set.{IsSetStep, cell_area, content_in, fault_in, set_answer, set_edit}
+pub use Rattle.wi_scenarios.specs.Set.{IsSetStep, content_in, fault_in, set_answer, set_edit}
 pub use Rattle.wi_scenarios.specs.Show.{show_step}
 pub use Rattle.wi_scenarios.specs.State.{State, max_area, state_over}
 pub use Rattle.wi_scenarios.specs.Step.{As, Base, Changes, Clear, Command, Compare, Csv, Drop, Export, Fill, Formula, IsStep, Refused, RefusedData, Set, Show, Table, Use}
@@ -87,7 +88,6 @@ pub use Rattle.wi_scenarios.specs.Views.{current_replacements, current_session, 
 pub use Rattle.wi_scenarios.specs.declared.desk.Desk.{Desk}
 pub use Rattle.wi_scenarios.specs.declared.refusal.Refusal.{Refusal}
 pub use Rattle.wi_scenarios.specs.declared.refusal.Refusal.TheVariants.{BadCommand, BadField, InUse, LeavesSheet, Loop, Memory, NoScenario, Stale, TooLarge, TooLong, TooMany}
-pub use Rattle.wi_sessions.proofs.CellLemmas.{listed_filter}
 pub use Rattle.wi_sessions.proofs.ChangeLists.{any_cells, picture_is_shown}
 pub use Rattle.wi_sessions.proofs.RosterLemmas.{all_have_so, one_of_all_has}
 pub use Rattle.wi_sessions.specs.Pictures.{same_value, value_in, with_changes}
@@ -104,6 +104,7 @@ pub use Rattle.wi_store.specs.declared.fault.StoreFault.{StoreFault}
 pub use Rattle.wi_values.proofs.Equal.{same_replacement_Decides}
 pub use Rattle.wi_values.proofs.Fields.{numbers_read_back}
 pub use Rattle.wi_values.proofs.Imports.{imported_exactly}
+pub use Rattle.wi_values.proofs.Listed.{has-filter}
 pub use Rattle.wi_values.proofs.Lists.{left_more}
 pub use Rattle.wi_values.proofs.Order.{is_itself}
 pub use Rattle.wi_values.proofs.Outcomes.{on_err}

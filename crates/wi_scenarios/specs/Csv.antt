@@ -3,7 +3,7 @@ use Rattle.std.specs.Prelude.{◌≡◌, ℕ, Bool, true, false, List, [], map, 
 use Rattle.wi_parser.specs.declared.content.Content.{Content}
 use Rattle.wi_import.specs.declared.fault.ImportFault.{ImportFault}
 use Rattle.wi_import.specs.declared.fault.ImportFault.TheVariants as import
-use Rattle.wi_import.specs.Fields.{fields_at, areas_at}
+use Rattle.wi_import.specs.Fields.{fields_at, record_areas_at}
 use Rattle.wi_import.specs.Inner.Reading.{field_cell}
 use Rattle.wi_import.specs.Imports.{IsImport}
 use Rattle.wi_scenarios.specs.declared.refusal.Refusal.{Refusal}
@@ -38,7 +38,7 @@ imported_cells at text = map field_cell (fields_at at text)
 abbrev pub csv_answer : State → Bool → ℕ → List ℕ → ImportOutcome → Answer
 csv_answer s force at text read =
     edit_answer s force (record no_cause { bad_field = has_bad_field read; content = field_fault read })
-    (record { named = areas_at at text; contents = contents_in read })
+    (record { named = record_areas_at at text; contents = contents_in read })
 
 -- The answer to importing a text: that of what its fields come to.
 pub record IsCsvStep (s : State) (force : Bool) (at : ℕ) (text : List ℕ) (a : Answer) : Type 0 where

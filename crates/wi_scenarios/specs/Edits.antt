@@ -2,10 +2,10 @@
 use Rattle.std.specs.Prelude.{ℕ, Bool, if◌then◌else◌, List, [], ◌∷◌, ◌++◌, Option, Some, None, Result, Ok, Err}
 use Rattle.wi_values.specs.Address.{Area}
 use Rattle.wi_parser.specs.declared.content.Content.{Content}
+use Rattle.wi_edit_log.specs.EditLog.{first_stale}
 use Rattle.wi_store.specs.declared.fault.StoreFault.{StoreFault}
 use Rattle.wi_store.specs.declared.fault.StoreFault.TheVariants as store
 use Rattle.wi_store.specs.Store.{Stored, applied}
-use Rattle.wi_edit_log.specs.EditLog.{first_stale}
 use Rattle.wi_scenarios.specs.declared.refusal.Refusal.{Refusal}
 use Rattle.wi_scenarios.specs.declared.refusal.Refusal.TheVariants.{Memory, Full, EditLimit}
 use Rattle.wi_scenarios.specs.State.{State}
@@ -34,12 +34,12 @@ abbrev pub stale_in : State → Bool → List Area → Option ℕ
 stale_in s force named = if force then None else first_stale s.log s.current (current_session s).seen named
 
 -- the state after an edit, which enters the log
-abbrev pub after_edit : State → List Area → Result Stored StoreFault → State
-after_edit s named (Ok stored) = record s { stored = stored; log = s.log ++ record { session = s.current; cells = named } ∷ [] }
-after_edit s named (Err e) = s
+abbrev pub with_stored : State → List Area → Result Stored StoreFault → State
+with_stored s named (Ok stored) = record s { stored = stored; log = s.log ++ record { session = s.current; cells = named } ∷ [] }
+with_stored s named (Err e) = s
 
 -- the answer to an edit, beside the causes that it has as a command
 abbrev pub edit_answer : State → Bool → Causes → Edit → Answer
 edit_answer s force causes e =
     answer (record causes { stale = stale_in s force e.named; limit = limit_of (applied s.stored e.contents) })
-    (after_edit s e.named (applied s.stored e.contents), [])
+    (with_stored s e.named (applied s.stored e.contents), [])

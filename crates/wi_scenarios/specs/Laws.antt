@@ -1,11 +1,12 @@
--- Runs of commands, and what holds of every run.
+-- Commands one after another, each with its answer, and what holds of them.
 use Rattle.std.specs.Prelude.{◌≡◌, ◌≢◌, ◌↔◌, ◌⊎◌, ◌==◌, ◌&&◌, ℕ, ◌<◌, ◌≤◌, Bool, true, false, not, if◌then◌else◌, List, [], ◌∷◌, ◌++◌, length, drop, map, Option, Some, None, Ok, Err}
 use Rattle.std.specs.List.{list_any}
 use Rattle.wi_values.specs.Address.{Area, address_text}
 use Rattle.wi_values.specs.Value.{shown_text}
 use Rattle.wi_values.specs.declared.value.Value.{Value}
+use Rattle.wi_parser.specs.Reads.{cell_area}
 use Rattle.wi_csv.specs.Records.{recs}
-use Rattle.wi_import.specs.Fields.{areas_at}
+use Rattle.wi_import.specs.Fields.{record_areas_at}
 use Rattle.wi_edit_log.specs.EditLog.{Entry, have_cell}
 use Rattle.wi_scenario_list.specs.Scenarios.{scenario_of}
 use Rattle.wi_sessions.specs.Pictures.{sheet_size, value_in, with_changes}
@@ -17,10 +18,9 @@ use Rattle.wi_scenarios.specs.State.{State}
 use Rattle.wi_scenarios.specs.Views.{session_at, current_session, with_current, shown_to}
 use Rattle.wi_scenarios.specs.Answer.{Answer}
 use Rattle.wi_scenarios.specs.Changes.{change_list}
-use Rattle.wi_scenarios.specs.Set.{cell_area}
 use Rattle.wi_scenarios.specs.Step.{Command, Set, Clear, Fill, Csv, Scenario, Drop, Base, Use, As, Changes, IsStep}
 
--- ---- runs
+-- ---- events
 
 -- a command, and what it was answered
 pub record Event : Type 0 where
@@ -37,9 +37,9 @@ left_by s (Ok done) = done.0
 left_by s (Err e) = s
 
 -- The events may happen one after another from this state. Whose they are is up to them: `as` makes another session current.
-abbrev pub IsRun : State → List Event → Type 0
-IsRun s [] = Unit {0}
-IsRun s (e ∷ es) = MayHappen s e × IsRun (left_by s e.answer) es
+abbrev pub MayFollow : State → List Event → Type 0
+MayFollow s [] = Unit {0}
+MayFollow s (e ∷ es) = MayHappen s e × MayFollow (left_by s e.answer) es
 
 -- the state at the end
 abbrev pub state_after : State → List Event → State
@@ -73,7 +73,7 @@ abbrev pub Leaves : Command → State → State → Type 0
 Leaves (Set force at text) old new = IsEdited (cell_area at ∷ []) old new
 Leaves (Clear force area) old new = IsEdited (area ∷ []) old new
 Leaves (Fill force from area) old new = IsEdited (area ∷ []) old new
-Leaves (Csv force at text) old new = IsEdited (areas_at at text) old new
+Leaves (Csv force at text) old new = IsEdited (record_areas_at at text) old new
 Leaves (Scenario name at text) old new = HasScenarioChanged name old new
 Leaves (Drop name) old new = HasScenarioChanged name old new
 Leaves (Base name other) old new = HasScenarioChanged name old new
@@ -137,7 +137,7 @@ abbrev pub named_by : Command → Option (List Area)
 named_by (Set force at text) = Some (cell_area at ∷ [])
 named_by (Clear force area) = Some (area ∷ [])
 named_by (Fill force from area) = Some (area ∷ [])
-named_by (Csv force at text) = Some (areas_at at text)
+named_by (Csv force at text) = Some (record_areas_at at text)
 named_by c = None
 
 -- whether an edit is forced
@@ -198,7 +198,7 @@ abbrev pub is_refused_before : Answer → Bool
 is_refused_before (Ok done) = false
 is_refused_before (Err e) = counts_before e
 
--- What an edit is answered at the end of a run, if it isn't forced, and isn't refused for a cause that counts before or for want
+-- What an edit is answered after these events, if it isn't forced, and isn't refused for a cause that counts before or for want
 -- of memory: it is refused for a stale cell exactly where this is the first of the cells it names that other sessions' edits name,
 -- of those accepted since its session was last told a list.
 abbrev pub StaleIsNewer : State → List Event → Event → List Area → Type 0

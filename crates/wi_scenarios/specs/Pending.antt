@@ -7,8 +7,8 @@ use Rattle.wi_values.specs.Replacements.{replaced}
 use Rattle.wi_parser.specs.Sheet.{Sheet}
 use Rattle.wi_sessions.specs.Pictures.{sheet_size}
 use Rattle.wi_sessions.specs.Roster.{SameCells}
-use Rattle.wi_scenarios.specs.State.{State}
 use Rattle.wi_reports.specs.Looks.{evaluations_for, restarts_for}
+use Rattle.wi_scenarios.specs.State.{State}
 use Rattle.wi_scenarios.specs.Views.{session_at, replacements_for, current_replacements}
 
 -- The state, the pending cells of each session in the order of making, and the counts that the calculator tells.

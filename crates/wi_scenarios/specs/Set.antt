@@ -1,9 +1,9 @@
 -- The command `set`: puts a content into a cell.
 use Rattle.std.specs.Prelude.{◌≡◌, ◌==◌, ℕ, Bool, List, [], ◌∷◌, length, Option, Some, None, Result, Ok, Err}
-use Rattle.wi_values.specs.Address.{Area}
 use Rattle.wi_parser.specs.declared.content.Content.{Content}
 use Rattle.wi_parser.specs.declared.fault.ParseFault.{ParseFault}
 use Rattle.wi_parser.specs.Contents.{IsContent}
+use Rattle.wi_parser.specs.Reads.{cell_area}
 use Rattle.wi_scenarios.specs.declared.refusal.Refusal.{Refusal}
 use Rattle.wi_scenarios.specs.State.{State}
 use Rattle.wi_scenarios.specs.Answer.{Answer, parse_refusal}
@@ -17,10 +17,6 @@ fault_in (Err e) = Some (parse_refusal e)
 abbrev pub content_in : Result Content ParseFault → Option Content
 content_in (Ok content) = Some content
 content_in (Err e) = None
-
--- a cell as a rectangle
-abbrev pub cell_area : ℕ → Area
-cell_area at = record { first = at; last = at }
 
 -- the content that was read, into the cell
 abbrev pub set_edit : ℕ → Result Content ParseFault → Edit

@@ -1,7 +1,7 @@
 -- What a workbook holds.
 use Rattle.std.specs.Prelude.{ℕ, List, [], ◌∷◌, codes}
-use Rattle.wi_store.specs.Store.{Stored}
 use Rattle.wi_edit_log.specs.EditLog.{Entry}
+use Rattle.wi_store.specs.Store.{Stored}
 use Rattle.wi_scenario_list.specs.Scenarios.{Scenario}
 use Rattle.wi_sessions.specs.Sessions.{Session, new_session}
 

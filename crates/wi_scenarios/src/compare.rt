@@ -1,11 +1,11 @@
 //! The command `compare`: the cells of a rectangle whose values under two scenarios differ.
 
 ghost use Rattle.std.specs.Prelude.{◌≡◌, ◌++◌, ◌||◌, ℕ, List, OnOk, OnErr};
-ghost use Rattle.wi_scenarios.specs.Answer.{Serves};
 ghost use Rattle.std.specs.Option.{option_copied};
 ghost use Rattle.wi_scenario_list.specs.Inner.Chains.{effective};
 ghost use Rattle.wi_scenario_list.specs.Bases.{lacks};
 ghost use Rattle.wi_reports.specs.Compare.{cells_compared};
+ghost use Rattle.wi_scenarios.specs.Answer.{Serves};
 ghost use Rattle.wi_scenarios.specs.Compare.{compare_step};
 ghost use Rattle.wi_scenarios.specs.Inner.Held.{state_of, IsSound};
 

@@ -18,9 +18,6 @@ use wi_parser::{Content, NewContent, ShiftFault};
 use wi_propagate::Calculator;
 use wi_values::{Address, Rect};
 
-/// What each cell gets.
-type Filled = Vec<NewContent>;
-
 /// Copies a cell's content to each cell of a rectangle, all from the content that stands there before. The work grows with
 /// the cells of the rectangle and with the content, and is that of `apply_edit` for them.
 pub(crate) fn fill<C: Calculator>(
@@ -53,7 +50,7 @@ fn copies(
     content: Option<&Content>,
     from: Address,
     area: Rect,
-) -> Result<Filled, ShiftFault>
+) -> Result<Vec<NewContent>, ShiftFault>
     ensures { MatchResult result
         (λ changes. AreCopies (option_copied content.entry) from (cells_of area) changes.items)
         (λ fault. HasNoCopies (option_copied content.entry) from (cells_of area) fault) }
@@ -73,7 +70,7 @@ fn push_copies(
     from: Address,
     area: Rect,
     row: u32,
-    changes: &mut Filled,
+    changes: &mut Vec<NewContent>,
 ) -> Result<(), ShiftFault>
     requires { row < rows }
     ensures { MatchResult result

@@ -6,7 +6,7 @@ ghost use Rattle.wi_store.specs.Store.{Stored};
 ghost use Rattle.wi_scenarios.specs.State.{State, state_over};
 ghost use Rattle.wi_scenarios.specs.Answer.{Answer};
 ghost use Rattle.wi_scenarios.specs.Step.{Changes, Command, IsStep};
-ghost use Rattle.wi_scenarios.specs.Laws.{Event, ForcedIsNotStale, IsRun, IsCoherent, KeepsApart, Leaves, ListsAddUp, LogGrows, MayHappen, RecordsTellList, StaleIsNewer, state_after};
+ghost use Rattle.wi_scenarios.specs.Laws.{Event, ForcedIsNotStale, IsCoherent, KeepsApart, Leaves, ListsAddUp, LogGrows, MayFollow, MayHappen, RecordsTellList, StaleIsNewer, state_after};
 
 /// A command has one answer in each state.
 #[tactic(auto, using(crate::proofs::StepLemmas::an_answer, crate::proofs::StepLemmas::no_other))]
@@ -22,14 +22,14 @@ pub fn one_answer()
 pub fn runs_stay_coherent()
     ensures new { (stored : Stored) → IsCoherent (state_over stored) }
     ensures stays { (s : State) (es : List Event) → IsCoherent s
-        → IsRun s es → IsCoherent (state_after s es) }
+        → MayFollow s es → IsCoherent (state_after s es) }
 {}
 
 /// In every interleaving, the change lists that a session is told, put into the picture that it had before, make the one that
 /// it has at the end, which has what it was shown at the last of them.
 pub fn change_lists_add_up()
     ensures { (s : State) (es : List Event) (i : ℕ) → IsCoherent s
-        → IsRun s es → ListsAddUp s es i }
+        → MayFollow s es → ListsAddUp s es i }
 {}
 
 /// The records of a change list tell its addresses, kinds and texts, and with them the list.
@@ -53,8 +53,8 @@ pub fn sessions_keep_apart()
 #[tactic(auto, using(crate::proofs::StaleLemmas::forced_is_not_stale))]
 pub fn stale_is_newer()
     ensures log { (s : State) (es : List Event) (i : ℕ) → IsCoherent s
-        → IsRun s es → LogGrows s es i }
+        → MayFollow s es → LogGrows s es i }
     ensures stale { (s : State) (es : List Event) (e : Event) (named : List Area) → IsCoherent s
-        → IsRun s es → StaleIsNewer s es e named }
+        → MayFollow s es → StaleIsNewer s es e named }
     ensures forced { (s : State) (e : Event) → ForcedIsNotStale s e }
 {}

@@ -3,10 +3,10 @@
 ghost use Rattle.std.specs.Prelude.{◌≡◌, ◌≢◌, ◌<◌, ◌∷◌, ◌++◌, ℕ, List, [], true, false, length, Err, IfOk, OnOk, OnErr};
 ghost use Rattle.wi_values.specs.Address.{is_one_of};
 ghost use Rattle.wi_sessions.specs.Sessions.{has_session, new_session, max_sessions};
+ghost use Rattle.wi_sessions.specs.Roster.{SameCells};
 ghost use Rattle.wi_scenarios.specs.declared.refusal.Refusal.TheVariants.{Memory};
 ghost use Rattle.wi_scenarios.specs.Answer.{Serves};
 ghost use Rattle.wi_scenarios.specs.As.{as_step};
-ghost use Rattle.wi_sessions.specs.Roster.{SameCells};
 ghost use Rattle.wi_scenarios.specs.State.{state_over};
 ghost use Rattle.wi_scenarios.specs.Pending.{HasNewSession, occupied_cells};
 ghost use Rattle.wi_scenarios.specs.Inner.Held.{state_of, pending_in, IsClosed, IsSound};

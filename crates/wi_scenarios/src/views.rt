@@ -2,8 +2,8 @@
 
 ghost use Rattle.std.specs.Prelude.{◌≡◌, ◌<◌, length, IfOk};
 ghost use Rattle.std.specs.Option.{option_copied};
-ghost use Rattle.wi_scenario_list.specs.Bases.{lacks};
 ghost use Rattle.wi_values.specs.Replacements.{IsInOrder};
+ghost use Rattle.wi_scenario_list.specs.Bases.{lacks};
 ghost use Rattle.wi_scenario_list.specs.Inner.Chains.{effective};
 ghost use Rattle.wi_sessions.specs.Roster.{session_at};
 

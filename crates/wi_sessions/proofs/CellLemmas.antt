@@ -1,5 +1,5 @@
 -- Laws of lists of cells.
-use Rattle.wi_sessions.proofs.Words.{◌≡◌, ◌==◌, ◌<◌, ◌≤◌, ◌+◌, ◌||◌, ◌&&◌, ◌⊎◌, inl, inr, ℕ, eqb, Bool, true, false, cond, List, [], ◌∷◌, filter, refl, sym, ap, ◌∙◌, arith, ◌*◌, subst, and_comm, All, AllByRecursion, Contains, dedup, list_any, IsPermutation, IsStrictlyIncreasing, nat_cmp, Less, is_at, both_ways, cases_order, eq-eqb, eqb-true, ne_eqb, All-head, All-tail, list_any_at, Any-from_list_any, Contains-dedup_nat, Contains-from_dedup, Contains-permutation, IsPermutation-sym, sorted_from_strictly_increasing, sorted_head, sorted_tail, any-filter_same, one_truth, below_from_Less, is_at-eq, turn_test, rows, columns, sheet_size, is_one_of, Rises}
+use Rattle.wi_sessions.proofs.Words.{◌≡◌, ◌==◌, ◌<◌, ◌≤◌, ◌+◌, ◌||◌, ◌⊎◌, inl, inr, ℕ, eqb, Bool, true, false, cond, List, [], ◌∷◌, filter, refl, sym, ap, ◌∙◌, arith, ◌*◌, subst, All, AllByRecursion, Contains, dedup, IsPermutation, IsStrictlyIncreasing, nat_cmp, Less, both_ways, cases_order, eq-eqb, eqb-true, ne_eqb, All-head, All-tail, Contains-dedup_nat, Contains-from_dedup, Contains-permutation, IsPermutation-sym, sorted_from_strictly_increasing, sorted_head, sorted_tail, one_truth, below_from_Less, rows, columns, sheet_size, is_one_of, Rises, is_some, lookup, keys_of, is_some-lookup, is_at, has_key, has-from_Contains, Contains-from_has}
 use Rattle.std.specs.List.Sorted.{IsStrictlySortedBy}
 
 -- ---- lists of cells in order
@@ -78,14 +78,9 @@ same_listed (x ∷ xs) (y ∷ ys) a b h = by (cases_order x y) (same_listed xs y
     by (inr (inl l)) ih = absurd (not_there x (x ∷ xs) (y ∷ ys) (first_listed x xs) (unlisted x x (y ∷ ys) (l, come_after_earlier x y ys l b.0) (omega arith)) h)
     by (inr (inr l)) ih = absurd (not_there y (y ∷ ys) (x ∷ xs) (first_listed y ys) (unlisted y y (x ∷ xs) (l, come_after_earlier y x xs l a.0) (omega arith)) (λ q. sym (h q)))
 
--- those of a list that pass a test
-pub listed_filter : (p : ℕ → Bool) (xs : List ℕ) (q : ℕ) → is_one_of (filter p xs) q ≡ (is_one_of xs q && p q)
-listed_filter p xs q = any-filter_same (λ c. c == q) p (p q) (λ k t. ap p (eqb-true k q t)) xs ∙ and_comm (p q) (is_one_of xs q)
-
--- as a set tells it
-pub found_listed : (q : ℕ) (ks : List ℕ) → list_any (is_at (nat_cmp q)) ks ≡ is_one_of ks q
-found_listed q [] = refl
-found_listed q (k ∷ ks) = ap (λ b. b || list_any (is_at (nat_cmp q)) ks) (is_at-eq q k ∙ turn_test q k) ∙ ap (λ b. (k == q) || b) (found_listed q ks)
+-- whether a cell has something, as a look-up tells it
+pub has_listed : {X : Type 0} (es : List (ℕ × X)) (q : ℕ) → is_some (lookup (is_at (nat_cmp q)) es) ≡ is_one_of (keys_of es) q
+has_listed es q = is_some-lookup (is_at (nat_cmp q)) es ∙ has_key (keys_of es) q
 
 pub none_in_order : (ks : List ℕ) → ks ≡ [] → IsStrictlySortedBy nat_cmp ks
 unfolding IsStrictlySortedBy
@@ -116,20 +111,12 @@ rises xs a h = rising 0 (rows * columns) xs a (from_zero xs) h
 
 -- ---- lists that are sorted
 
-listed_from : (xs : List ℕ) (c : ℕ) → Contains xs c → is_one_of xs c ≡ true
-listed_from xs c h = list_any_at (λ d. d == c) xs h.0 c h.1 (eq-eqb _ c h.2)
-
-contains_from : (xs : List ℕ) (c : ℕ) → is_one_of xs c ≡ true → Contains xs c
-contains_from xs c h =
-    let found = Any-from_list_any (λ d. d == c) xs h in
-    subst (λ (x : ℕ). Contains xs x) (eqb-true found.1 c found.4) (found.0, found.2, found.3)
-
 -- what a sort, and each cell once, leave has the same cells
 pub sorted_once : (cells sorted list : List ℕ) → IsPermutation cells sorted → list ≡ dedup eqb sorted → (c : ℕ) → is_one_of list c ≡ is_one_of cells c
 sorted_once cells sorted list p d c =
     one_truth (is_one_of list c) (is_one_of cells c)
-    (λ t. listed_from cells c (Contains-permutation sorted cells c (IsPermutation-sym cells sorted p) (Contains-from_dedup eqb sorted c (subst (λ (xs : List ℕ). Contains xs c) d (contains_from list c t)))))
-    (λ t. listed_from list c (subst (λ (xs : List ℕ). Contains xs c) (sym d) (Contains-dedup_nat sorted c (Contains-permutation cells sorted c p (contains_from cells c t)))))
+    (λ t. has-from_Contains cells c (Contains-permutation sorted cells c (IsPermutation-sym cells sorted p) (Contains-from_dedup eqb sorted c (subst (λ (xs : List ℕ). Contains xs c) d (Contains-from_has list c t)))))
+    (λ t. has-from_Contains list c (subst (λ (xs : List ℕ). Contains xs c) (sym d) (Contains-dedup_nat sorted c (Contains-permutation cells sorted c p (Contains-from_has cells c t)))))
 
 -- a list that rises is in order
 pub ascend_rising : (xs : List ℕ) → IsStrictlyIncreasing xs → Ascend xs

@@ -1,9 +1,6 @@
 pub mod ChangeLists
-pub mod RoomLemmas
 pub mod PictureLemmas
-pub mod ChangeSteps
 pub mod CellLemmas
-pub mod EntryLemmas
 pub mod RosterLemmas
 pub mod BitLemmas
 pub mod WordLemmas

@@ -1,7 +1,7 @@
 -- Laws of what is pending for all sessions, for each call.
-use Rattle.wi_sessions.proofs.Words.{◌⊎◌, ◌≡◌, ◌≢◌, ◌==◌, ◌<◌, ◌≤◌, ◌+◌, ◌||◌, ◌&&◌, ◌∙◌, ℕ, Bool, true, false, not, List, [], ◌∷◌, ◌++◌, map, length, get_or, set, drop, filter, Result, Ok, Err, ◌*◌, refl, sym, ap, subst, arith, ⊎_elim, zero, suc, inl, inr, Option, None, and-false, and-true, or-false, nat_lt, unwrap_or, IfOk, All, list_all, range_with_len, IsStrictlySortedBy, nat_cmp, keys_of, lookup, is_at, and_parts, both_ways, cases_eq, cases_lt, eq-eqb, ne_eqb, le-ltb, lt-ltb, get_or-set_same, length-append, length-set, All-filter, All-map, list_any-append, one_truth, rows, columns, filter_all, sheet_size, is_one_of, Rises, AllPending, list_at, SameCells, Unread, has_bit, is_in, is_staged, cells_with, cells_in, vacant_in, pending_in, at_cells, SamePending, HasMade, HasCleared, is_unread, HasPlace, AreKept, AreLookedAt}
+use Rattle.wi_sessions.proofs.Words.{◌⊎◌, ◌≡◌, ◌≢◌, ◌==◌, ◌<◌, ◌≤◌, ◌+◌, ◌||◌, ◌&&◌, ◌∙◌, ℕ, Bool, true, false, not, List, [], ◌∷◌, ◌++◌, map, length, get_or, set, drop, filter, Result, Ok, Err, ◌*◌, refl, sym, ap, subst, arith, ⊎_elim, zero, suc, inl, inr, Option, None, and-false, and-true, or-false, nat_lt, unwrap_or, IfOk, All, list_all, range_with_len, IsStrictlySortedBy, nat_cmp, keys_of, lookup, is_at, and_parts, both_ways, cases_eq, cases_lt, eq-eqb, ne_eqb, le-ltb, lt-ltb, get_or-set_same, length-append, length-set, All-filter, All-map, list_any-append, one_truth, rows, columns, filter_all, sheet_size, is_one_of, Rises, AllPending, list_at, SameCells, Unread, has_bit, is_in, is_staged, cells_with, cells_in, vacant_in, pending_in, at_cells, SamePending, HasMade, HasCleared, is_unread, HasPlace, AreKept, AreLookedAt, has-filter}
 use Rattle.wi_sessions.proofs.BitLemmas.{none_in_zero}
-use Rattle.wi_sessions.proofs.CellLemmas.{listed_filter, rises, same_listed}
+use Rattle.wi_sessions.proofs.CellLemmas.{rises, same_listed}
 use Rattle.wi_sessions.proofs.WordLemmas.{Words, OthersStay}
 use Rattle.wi_sessions.proofs.ViewLemmas.{all_pass, ascend_in, ascend_vacant, list_beyond, list_there, listed_either, listed_in, listed_vacant, none_vacant, one_list_more, pending_cleared, pending_taken, same_as, same_in, same_vacant, so_many, vacant_cleared, vacant_made, vacant_stays, cleared}
 use Rattle.wi_sessions.proofs.PlaceLemmas.{kept_at, kept_cleared, kept_fewer, kept_made, places_pushed, places_set}
@@ -290,8 +290,8 @@ pub found_cells : (words : Words) (changed : List ℕ) (i : ℕ) (u : Unread) (f
 found_cells words changed i u found sorted p n e same c =
     same c ∙ ap (λ (xs : List ℕ). is_one_of xs c) e
     ∙ list_any-append (λ d. d == c) (filter (is_in words i) (drop u.from changed)) (filter (is_in words i) u.own.items)
-    ∙ ap (λ b. b || is_one_of (filter (is_in words i) u.own.items) c) (listed_filter (is_in words i) (drop u.from changed) c)
-    ∙ ap (λ b. (is_one_of (drop u.from changed) c && is_in words i c) || b) (listed_filter (is_in words i) u.own.items c)
+    ∙ ap (λ b. b || is_one_of (filter (is_in words i) u.own.items) c) (has-filter (is_in words i) (drop u.from changed) c)
+    ∙ ap (λ b. (is_one_of (drop u.from changed) c && is_in words i c) || b) (has-filter (is_in words i) u.own.items c)
     ∙ by (is_one_of (drop u.from changed) c) (is_one_of u.own.items c) (is_in words i c)
     (λ t. sym (ap (λ b. b || (is_one_of (drop u.from changed) c || is_one_of u.own.items c)) n) ∙ p.found c t)
   where

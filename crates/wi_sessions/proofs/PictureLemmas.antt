@@ -1,11 +1,6 @@
 -- Laws of the rooms of a picture.
-use Rattle.wi_sessions.proofs.Words.{◌≡◌, ◌==◌, ℕ, Bool, true, false, cond, not, List, [], ◌∷◌, Option, Some, None, sym, ap, ◌∙◌, found-insert, found-without, Ascends, Ascends-filter, Ascends-insert, Value, Empty, Number, Text, Logical, Fault, with_value, with_changes, room_of, HasNoVacancy, HoldsTheSame}
+use Rattle.wi_sessions.proofs.Words.{◌≡◌, ◌==◌, ℕ, Bool, true, false, cond, not, List, [], ◌∷◌, Option, Some, None, Result, Ok, Err, IfOk, OnErr, refl, sym, ◌∙◌, result_unwrap_or, IsStrictlySortedBy, nat_cmp, keys_of, found-insert, found-without, Ascends, Ascends-filter, Ascends-from_order, Ascends-insert, Value, Empty, Number, Text, Logical, Fault, value_in, with_value, with_changes, room_of, held_at, HasNoVacancy, HoldsTheSame, with_one, with_all, same_all, same_filled}
 use Rattle.wi_sessions.proofs.ChangeLists.{value_in-with}
-use Rattle.wi_sessions.proofs.RoomLemmas.{same_rooms, filled}
-
--- two pictures with the same values are one
-pub same_pictures : (es fs : List (ℕ × Value)) → Ascends es → Ascends fs → HasNoVacancy Empty es → HasNoVacancy Empty fs → HoldsTheSame Empty es fs → es ≡ fs
-same_pictures es fs a b m n h = same_rooms es fs a b (λ q. filled Empty (room_of es q) (room_of fs q) (m q) (n q) (sym (h q)))
 
 Ascends-with_value : (s : List (ℕ × Value)) (c : ℕ) (v : Value) → Ascends s → Ascends (with_value s c v)
 Ascends-with_value s c Empty h = Ascends-filter (λ e. not (e.0 == c)) s h
@@ -33,9 +28,31 @@ pub HasNoVacancy-with_changes : (s es : List (ℕ × Value)) → HasNoVacancy Em
 HasNoVacancy-with_changes s [] h = h
 HasNoVacancy-with_changes s (e ∷ es) h = HasNoVacancy-with_changes (with_value s e.0 e.1) es (HasNoVacancy-with_value s e.0 e.1 h)
 
--- the same values with the same changes are the same values
-pub same_after : (es xs ys : List (ℕ × Value)) → HoldsTheSame Empty xs ys → HoldsTheSame Empty (with_changes xs es) (with_changes ys es)
-same_after [] xs ys h = h
-same_after (e ∷ es) xs ys h =
-    same_after es (with_value xs e.0 e.1) (with_value ys e.0 e.1)
-    (λ q. value_in-with ys e.0 e.1 q ∙ ap (λ (v : Value). cond (q == e.0) e.1 v) (h q) ∙ sym (value_in-with xs e.0 e.1 q))
+-- the values after changes
+value_in-with_changes : (es s : List (ℕ × Value)) (q : ℕ) → value_in (with_changes s es) q ≡ with_all (value_in s) es q
+value_in-with_changes [] s q = refl
+value_in-with_changes (e ∷ es) s q =
+    value_in-with_changes es (with_value s e.0 e.1) q ∙ same_all es (value_in (with_value s e.0 e.1)) (with_one (value_in s) e) (λ c. value_in-with s e.0 e.1 c) q
+
+-- those of rooms, of which some were made before
+pub values_after : (old made new es : List (ℕ × Value)) → HoldsTheSame Empty old made → ((q : ℕ) → held_at Empty new q ≡ with_all (held_at Empty made) es q)
+    → HoldsTheSame Empty (with_changes old es) new
+values_after old made new es same after q = after q ∙ same_all es (held_at Empty made) (value_in old) same q ∙ sym (value_in-with_changes es old q)
+
+-- what a call that may be refused leaves, once vacant rooms are gone
+module _ (old left new : List (ℕ × Value)) (order : IsStrictlySortedBy nat_cmp (keys_of old)) (last : IsStrictlySortedBy nat_cmp (keys_of new)) (full : HasNoVacancy Empty old) (none : HasNoVacancy Empty new) (same : HoldsTheSame Empty left new) where
+  up : Ascends old
+  up = Ascends-from_order old order
+
+  pub all_put : (es : List (ℕ × Value)) → HoldsTheSame Empty (with_changes old es) left → new ≡ with_changes old es
+  all_put es h =
+      same_filled Empty new (with_changes old es) (Ascends-from_order new last) (Ascends-with_changes old es up) none (HasNoVacancy-with_changes old es full)
+      (λ q. sym (same q ∙ h q))
+
+  pub none_put : HoldsTheSame Empty old left → new ≡ old
+  none_put h = same_filled Empty new old (Ascends-from_order new last) up none full (λ q. sym (same q ∙ h q))
+
+-- how many have a value then is what was answered, or what was before
+pub count_after : {E : Type 0} (r : Result ℕ E) (before n k : ℕ) → n ≡ result_unwrap_or r before → IfOk r (λ m. m ≡ k) → OnErr r (before ≡ k) → n ≡ k
+count_after (Ok m) before n k e ok err = e ∙ ok
+count_after (Err x) before n k e ok err = e ∙ err

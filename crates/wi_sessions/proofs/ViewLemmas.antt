@@ -1,6 +1,6 @@
 -- Laws of the lists of pending cells, and of those with room only, of all sessions.
-use Rattle.wi_sessions.proofs.Words.{◌≡◌, ◌≢◌, ◌<◌, ◌≤◌, ◌+◌, ◌||◌, ◌&&◌, ◌∙◌, ℕ, zero, suc, Bool, true, false, not, List, [], ◌∷◌, ◌++◌, map, length, get_or, set, filter, refl, sym, ap, subst, arith, ⊎_elim, and-true, or-false, or-true, list_all, range_with_len, IsStrictlySortedBy, nat_cmp, keys_of, cases_eq, get_or_past, get_or-set_same, get_or-set_other, length-set, fill_by_all, get_or-map-range_with_len, length-map-range_with_len, map-range_with_len_more, is_one_of, list_at, is_in, is_staged, cells_with, cells_in, vacant_in, SamePending, HasMade, HasCleared}
-use Rattle.wi_sessions.proofs.CellLemmas.{Ascend, ascend_filter, listed_filter, same_listed}
+use Rattle.wi_sessions.proofs.Words.{◌≡◌, ◌≢◌, ◌<◌, ◌≤◌, ◌+◌, ◌||◌, ◌&&◌, ◌∙◌, ℕ, zero, suc, Bool, true, false, not, List, [], ◌∷◌, ◌++◌, map, length, get_or, set, filter, refl, sym, ap, subst, arith, ⊎_elim, and-true, or-false, or-true, list_all, range_with_len, IsStrictlySortedBy, nat_cmp, keys_of, cases_eq, get_or_past, get_or-set_same, get_or-set_other, length-set, fill_by_all, get_or-map-range_with_len, length-map-range_with_len, map-range_with_len_more, is_one_of, list_at, is_in, is_staged, cells_with, cells_in, vacant_in, SamePending, HasMade, HasCleared, has-filter}
+use Rattle.wi_sessions.proofs.CellLemmas.{Ascend, ascend_filter, same_listed}
 use Rattle.wi_sessions.proofs.WordLemmas.{Words, listed_with, ascend_with}
 
 -- ---- a list for each session
@@ -43,11 +43,11 @@ module _ (f : ℕ → List ℕ) (n : ℕ) where
 module _ (words staged : Words) (i : ℕ) (order : IsStrictlySortedBy nat_cmp (keys_of words)) where
   pub listed_in : (q : ℕ) → is_one_of (cells_in words staged i) q ≡ (is_in words i q && not (is_staged staged i q))
   listed_in q =
-      listed_filter (λ c. not (is_staged staged i c)) (cells_with words i) q ∙ ap (λ b. b && not (is_staged staged i q)) (listed_with words i order q)
+      has-filter (λ c. not (is_staged staged i c)) (cells_with words i) q ∙ ap (λ b. b && not (is_staged staged i q)) (listed_with words i order q)
 
   pub listed_vacant : (q : ℕ) → is_one_of (vacant_in words staged i) q ≡ (is_in words i q && is_staged staged i q)
   listed_vacant q =
-      listed_filter (λ c. is_staged staged i c) (cells_with words i) q ∙ ap (λ b. b && is_staged staged i q) (listed_with words i order q)
+      has-filter (λ c. is_staged staged i c) (cells_with words i) q ∙ ap (λ b. b && is_staged staged i q) (listed_with words i order q)
 
   pub ascend_in : Ascend (cells_in words staged i)
   ascend_in = ascend_filter (λ c. not (is_staged staged i c)) (cells_with words i) (ascend_with words i order)

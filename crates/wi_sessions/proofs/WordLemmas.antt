@@ -1,9 +1,8 @@
 -- Laws of cells with a bit for each session, and of rooms.
-use Rattle.wi_sessions.proofs.Words.{◌≡◌, ◌==◌, ◌<◌, ◌≤◌, ◌+◌, ◌||◌, ◌&&◌, ◌∙◌, ℕ, Bool, true, false, cond, not, List, [], ◌∷◌, ◌++◌, length, take, get_or, filter, Option, Some, None, refl, sym, ap, subst, arith, and-false, and-true, or-false, or-true, unwrap_or, is_some, IsStrictlySortedBy, nat_cmp, keys_of, lookup, is_at, eqb-true, both_ways, take_all, append_assoc, append-nil, list_any-append, list_any_more, Ascends-filter, Ascends-from_order, is_at-eq, order-from_Ascends, is_one_of, has_bit, is_in, is_staged, cells_with, at_cells, SamePending, HasMade, HasCleared}
+use Rattle.wi_sessions.proofs.Words.{◌≡◌, ◌==◌, ◌<◌, ◌≤◌, ◌+◌, ◌||◌, ◌&&◌, ◌∙◌, ℕ, Bool, true, false, cond, not, List, [], ◌∷◌, ◌++◌, length, take, get_or, filter, Option, Some, None, refl, sym, ap, subst, arith, and-false, and-true, or-false, or-true, unwrap_or, is_some, IsStrictlySortedBy, nat_cmp, keys_of, lookup, is_at, eqb-true, both_ways, take_all, append_assoc, append-nil, list_any-append, list_any_more, Ascends-filter, Ascends-from_order, is_at-eq, order-from_Ascends, is_one_of, has_bit, is_in, is_staged, cells_with, at_cells, SamePending, HasMade, HasCleared, or_assoc, and-or_distrib_right, or_new}
 use Rattle.wi_sessions.proofs.BitLemmas.{none_in_zero}
-use Rattle.wi_sessions.proofs.CellLemmas.{Ascend, ascend, same_listed}
-use Rattle.wi_sessions.proofs.EntryLemmas.{has_listed}
-use Rattle.wi_sessions.proofs.RoomLemmas.{passing, room_of-filter}
+use Rattle.wi_sessions.proofs.CellLemmas.{Ascend, ascend, has_listed, same_listed}
+use Rattle.wi_tiles.proofs.RoomLemmas.{passing, room_of-filter}
 
 abbrev pub Words : Type 0
 Words = List (ℕ × ℕ)
@@ -95,11 +94,7 @@ has_made_new words staged more rooms at bits none put made = record {
 }
 
 put_there : (t w m b s : Bool) → m ≡ (b && not w) → (t ≡ true → s ≡ w) → cond t (w || m) s ≡ (s || (t && b))
-put_there true w m b s e h = ap (λ x. w || x) e ∙ by w b ∙ sym (ap (λ x. x || b) (h refl))
-  where
-    by : (w b : Bool) → (w || (b && not w)) ≡ (w || b)
-    by true b = refl
-    by false b = and-true b
+put_there true w m b s e h = ap (λ x. w || x) e ∙ or_new w b ∙ sym (ap (λ x. x || b) (h refl))
 put_there false w m b s e h = sym (or-false s)
 
 made_there : (t w m b s n : Bool) → m ≡ (b && not w) → (t ≡ true → s ≡ w) → (n || (t && m)) ≡ (n || ((t && b) && not s))
@@ -156,32 +151,23 @@ joined a v t x m r e f = ap (λ b. b || (x && not m)) f ∙ ap (λ b. (v || (t &
     by false false true x = refl
     by false false false x = refl
 
-together : (a t x : Bool) → ((a || t) || x) ≡ (a || (t || x))
-together true t x = refl
-together false t x = refl
-
 -- room for two groups of cells, one after the other
 pub made_both : (t u v : ℕ → ℕ → Bool) (words staged more rooms wider noted : Words) → ((i c : ℕ) → v i c ≡ (t i c || u i c))
     → HasMade t words staged more rooms → HasMade u more rooms wider noted → HasMade v words staged wider noted
 made_both t u v words staged more rooms wider noted e h k = record {
   put = λ i c.
-      k.put i c ∙ ap (λ b. b || u i c) (h.put i c) ∙ together (is_in words i c) (t i c) (u i c) ∙ ap (λ b. is_in words i c || b) (sym (e i c));
+      k.put i c ∙ ap (λ b. b || u i c) (h.put i c) ∙ or_assoc (is_in words i c) (t i c) (u i c) ∙ ap (λ b. is_in words i c || b) (sym (e i c));
   made = λ i c.
       k.made i c ∙ joined (is_in words i c) (is_staged staged i c) (t i c) (u i c) (is_in more i c) (is_staged rooms i c) (h.put i c) (h.made i c)
       ∙ ap (λ b. is_staged staged i c || (b && not (is_in words i c))) (sym (e i c));
 }
-
-or_and : (x y b : Bool) → ((x || y) && b) ≡ ((x && b) || (y && b))
-or_and true y true = refl
-or_and true y false = sym (and-false y)
-or_and false y b = refl
 
 -- the cells up to the k-th, at, and that one
 pub one_more_cell : (cells : List ℕ) (k at bits : ℕ) → k < length cells → at ≡ get_or cells k at
     → (i c : ℕ) → at_cells (take (k + 1) cells) bits i c ≡ (at_cells (take k cells) bits i c || ((at == c) && has_bit i bits))
 one_more_cell cells k at bits l is i c =
     ap (λ b. b && has_bit i bits) (list_any_more (λ d. d == c) cells k at l ∙ ap (λ d. is_one_of (take k cells) c || (d == c)) (sym is))
-    ∙ or_and (is_one_of (take k cells) c) (at == c) (has_bit i bits)
+    ∙ and-or_distrib_right (is_one_of (take k cells) c) (at == c) (has_bit i bits)
 
 pub made_more : (cells : List ℕ) (k at bits : ℕ) (words staged more rooms wider noted : Words) → k < length cells → at ≡ get_or cells k at
     → HasMade (at_cells (take k cells) bits) words staged more rooms → HasMade (λ i c. (at == c) && has_bit i bits) more rooms wider noted

@@ -5,8 +5,7 @@ ghost use Rattle.std.specs.Option.{option_map};
 ghost use Rattle.wi_sessions.specs.Sessions.{new_session, told, using_scenario};
 ghost use Rattle.wi_sessions.specs.Inner.Held.{with_name};
 
-use crate::picture::Picture;
-use crate::rooms::Change;
+use crate::picture::{Change, Picture};
 use std::alloc::{AllocError, Global};
 
 /// What a session holds beside its name.

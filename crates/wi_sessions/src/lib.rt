@@ -7,10 +7,8 @@ mod held;
 pub mod laws;
 mod pending;
 mod picture;
-mod rooms;
 mod sessions;
 mod unread;
 
-pub use picture::{Picture, same};
-pub use rooms::Change;
+pub use picture::{Change, Picture, same};
 pub use sessions::{MAX_SESSIONS, Sessions};

@@ -1,21 +1,25 @@
 //! What a session was last shown.
 
-ghost use Rattle.std.specs.Prelude.{◌≡◌, [], OnOk, OnErr, unwrap_or};
+ghost use Rattle.std.specs.Prelude.{◌≡◌, [], ℕ, IfOk, OnOk, OnErr, length, unwrap_or};
+ghost use Rattle.std.specs.Map.{keys_of};
 ghost use Rattle.std.specs.Option.{option_copied};
 ghost use Rattle.wi_values.specs.declared.value.Value.TheVariants.{Empty};
+ghost use Rattle.wi_tiles.specs.Rooms.{HasNoVacancy, HoldsTheSame, RoomsAreInOrder, VacantOnlyAt, has_value, taken};
 ghost use Rattle.wi_sessions.specs.Pictures.{same_value, value_in, with_changes};
 
-use crate::rooms::{Change, Rooms, put_changes};
 use std::alloc::{AllocError, Global};
 use std::marker::Model;
-use wi_tiles::CellMap;
+use wi_tiles::{CellMap, exchange_all, make_rooms, release};
 use wi_values::{Address, Value};
+
+/// A cell, and the value that it has now.
+pub type Change = (Address, Value);
 
 /// The values of a sheet's cells as they were at some time. A cell that was empty has no value here.
 #[derive(Drop)]
 pub struct Picture {
     // None of them is Empty but while changes are put in.
-    values: Rooms,
+    values: CellMap<Value>,
 }
 
 impl Model for Picture {
@@ -24,7 +28,7 @@ impl Model for Picture {
     ghost use Rattle.std.specs.Coded.{codes};
     ghost use Rattle.wi_values.specs.contracts.value.Value as value;
     ghost use Rattle.wi_values.specs.declared.value.Value.TheVariants.{Empty};
-    ghost use Rattle.wi_sessions.specs.Inner.Rooms.{RoomsAreInOrder, HasNoVacancy};
+    ghost use Rattle.wi_tiles.specs.Rooms.{RoomsAreInOrder, HasNoVacancy};
 
     ghost Value = { List (ℕ × Shown) };
 
@@ -72,11 +76,50 @@ impl Picture {
     }
 
     /// Puts changes in, one after another: cells and the values that they have now. On an error all is as before. The work
-    /// for each change is that of three look-ups, and of putting a value in where none stands or taking it away.
+    /// for each change is that of two look-ups, of one more where a value is taken away or memory runs out, and of putting a value in
+    /// where none stands or taking it away.
     pub fn apply(&mut self, mut changes: Vec<Change>) -> Result<(), AllocError>
         ensures done { OnOk result (self.new ≡ with_changes self.old changes.items) }
         ensures refused { OnErr result (self.new ≡ self.old) }
     {
         put_changes(&mut self.values, &mut changes)
     }
+}
+
+/// Puts changes in, one after another. If memory runs out, all is as before.
+fn put_changes(values: &mut CellMap<Value>, changes: &mut [Change]) -> Result<(), AllocError>
+    requires order { RoomsAreInOrder values.old.entries }
+    requires full { HasNoVacancy Empty values.old.entries }
+    ensures done { OnOk result (values.new.entries ≡ with_changes values.old.entries changes.old) }
+    ensures refused { OnErr result (values.new.entries ≡ values.old.entries) }
+    ensures order { RoomsAreInOrder values.new.entries }
+    ensures full { HasNoVacancy Empty values.new.entries }
+{
+    let before = values.len() as u64;
+    let answer = put_in(values, before, changes);
+    release(values, changes, answer.unwrap_or(before));
+    answer?;
+    Ok(())
+}
+
+/// Puts changes in, one after another, and answers how many cells have a value then, or leaves the values as they were; `before` is
+/// how many have one before. Rooms of the changed cells may be vacant after either.
+fn put_in(
+    values: &mut CellMap<Value>,
+    before: u64,
+    changes: &mut [Change],
+) -> Result<u64, AllocError>
+    requires order { RoomsAreInOrder values.old.entries }
+    requires full { HasNoVacancy Empty values.old.entries }
+    requires before { before ≡ length values.old.entries }
+    ensures done { OnOk result
+        (HoldsTheSame Empty (with_changes values.old.entries changes.old) values.new.entries) }
+    ensures refused { OnErr result (HoldsTheSame Empty values.old.entries values.new.entries) }
+    ensures occupied { IfOk result (λ n. n ≡ length (taken has_value values.new.entries)) }
+    ensures kept { OnErr result (before ≡ length (taken has_value values.new.entries)) }
+    ensures order { RoomsAreInOrder values.new.entries }
+    ensures vacant { VacantOnlyAt Empty (keys_of changes.new) values.new.entries }
+{
+    make_rooms(values, changes)?;
+    Ok(exchange_all(values, changes, before))
 }

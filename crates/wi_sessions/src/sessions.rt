@@ -15,8 +15,7 @@ ghost use Rattle.wi_sessions.specs.Inner.Held.{with_name};
 
 use crate::held::Held;
 use crate::pending::Pending;
-use crate::picture::Picture;
-use crate::rooms::Change;
+use crate::picture::{Change, Picture};
 use indexmap::IndexMap;
 use std::alloc::{AllocError, Global};
 use std::marker::Model;

@@ -1,5 +1,5 @@
 -- What a value demands, with no bound in sight.
-use Rattle.wi_sheet.proofs.Words.{◌≡◌, ◌==◌, ◌≤◌, ◌<◌, ◌⊎◌, inl, inr, ℕ, zero, suc, Bool, true, false, cond, List, [], ◌∷◌, map, length, Option, Some, None, Contains, refl, ap, sym, ◌∙◌, subst, arith, eq-eqb, or_left, or_right, cases_Bool, false_from_ne_true, flat_map, Replacement, Tree, Leaf, what_if_leaf, leaves, Content, Constant, Formula, Sheet, content_of, put_all, has_formula, cells_with_formula, leaf_reads, reads, content_reads, circular, has_walk, ends_open, Case, case_of, with_what_if, leaf_what_ifs, what_ifs_of, leaf_reads_here, reads_here, formulas_read_here, rests_on, of_formula, demand_within, demand, RestsOn, IsClosed}
+use Rattle.wi_sheet.proofs.Words.{◌≡◌, ◌==◌, ◌≤◌, ◌<◌, ◌⊎◌, inl, inr, ℕ, zero, suc, Bool, true, false, cond, List, [], ◌∷◌, map, length, Option, Some, None, Contains, refl, ap, sym, ◌∙◌, subst, arith, eq-eqb, or_left, or_right, cases_Bool, false_from_ne_true, flat_map, Replacement, Tree, Leaf, what_if_leaf, leaves, Content, Constant, Formula, Sheet, content_of, put_all, has_formula, cells_with_formula, leaf_reads, reads, content_reads, circular, has_walk, ends_open, Case, case_of, with_what_if, leaf_what_ifs, what_ifs_of, leaf_reads_here, reads_here, formulas_read_here, precedent_cases, of_formula, demand_within, demand, RestsOn, IsClosed}
 use Rattle.wi_sheet.proofs.Bounds.{read_walk, tree_reads, put_formula, put_reads}
 use Rattle.wi_sheet.proofs.Steps.{some_formula, no_walk}
 use Rattle.wi_sheet.proofs.Members.{IsIn, in_contained, contains_in, in_either, of_map, in_flat, of_flat, of_filter, flat_same, found_in, more_pass}
@@ -27,7 +27,7 @@ pub what_if_reads : (t : Tree) (x : ℕ × List (ℕ × ℕ)) → Contains (what
 what_if_reads t x h = formula_cell_in t x (in_contained (what_ifs_of t) x h)
 
 -- the cell of each case on which a tree's value rests is read
-below_reads : (s : Sheet) (w : List Replacement) (t : Tree) (j : Case) → IsIn (rests_on s w t) j → reads t j.0 ≡ true
+below_reads : (s : Sheet) (w : List Replacement) (t : Tree) (j : Case) → IsIn (precedent_cases s w t) j → reads t j.0 ≡ true
 below_reads s w t j h = elim (in_either (map (case_of s w) (formulas_read_here s t)) _ j h) [
   | inl i ↦
       (let x = of_map (case_of s w) (formulas_read_here s t) j i in
@@ -38,7 +38,7 @@ below_reads s w t j h = elim (in_either (map (case_of s w) (formulas_read_here s
 ]
 
 -- and it is read in the sheet by the case's cell
-pub rests_reads : (s : Sheet) (k j : Case) (t : Tree) → content_of (put_all s k.1) k.0 ≡ Some (Formula t) → IsIn (rests_on s k.1 t) j → content_reads (content_of s k.0) j.0 ≡ true
+pub rests_reads : (s : Sheet) (k j : Case) (t : Tree) → content_of (put_all s k.1) k.0 ≡ Some (Formula t) → IsIn (precedent_cases s k.1 t) j → content_reads (content_of s k.0) j.0 ≡ true
 rests_reads s k j t e h = put_reads s k.1 k.0 j.0 (tree_reads (put_all s k.1) k.0 t j.0 e (below_reads s k.1 t j h))
 
 -- ---- the bound is not felt
@@ -68,7 +68,7 @@ circular_within zero s k h = refl
 circular_within (suc n) s k h = rw h refl
 
 -- from the cell of each case below leads one step less
-below_walk : (n : ℕ) (s : Sheet) (k j : Case) (t : Tree) → has_walk (suc n) s k.0 ≡ false → content_of (put_all s k.1) k.0 ≡ Some (Formula t) → IsIn (rests_on s k.1 t) j → has_walk n s j.0 ≡ false
+below_walk : (n : ℕ) (s : Sheet) (k j : Case) (t : Tree) → has_walk (suc n) s k.0 ≡ false → content_of (put_all s k.1) k.0 ≡ Some (Formula t) → IsIn (precedent_cases s k.1 t) j → has_walk n s j.0 ≡ false
 below_walk n s k j t w e i = read_walk n s k.0 j.0 w (rests_reads s k j t e i)
 
 demand_same : (n i j : ℕ) (s : Sheet) (k : Case) → has_walk n s k.0 ≡ false → n ≤ i → n ≤ j → demand_within i s k ≡ demand_within j s k
@@ -80,7 +80,7 @@ demand_same (suc n) zero j s k w a b = absurd (omega arith)
 demand_same (suc n) (suc i) zero s k w a b = absurd (omega arith)
 demand_same (suc n) (suc i) (suc j) s k w a b =
     ap (λ (ks : List Case). cond (circular s k.0) [] ks) (same_of_formula (content_of (put_all s k.1) k.0) [] _ _ (λ t e.
-    ap (λ (ks : List Case). k ∷ ks) (flat_same (demand_within i s) (demand_within j s) (rests_on s k.1 t) (λ x m.
+    ap (λ (ks : List Case). k ∷ ks) (flat_same (demand_within i s) (demand_within j s) (precedent_cases s k.1 t) (λ x m.
     demand_same n i j s x (below_walk n s k x t w e m) (omega arith) (omega arith)))))
 
 -- every bound from the number of formulas on gives what a case demands
@@ -92,7 +92,7 @@ demand_not_felt n s k l = at (cases_Bool (circular s k.0))
     at (inl h) = circular_within n s k h ∙ sym (circular_within (length (cells_with_formula s)) s k h)
     at (inr h) = demand_same (length (cells_with_formula s)) n (length (cells_with_formula s)) s k (no_walk (length (cells_with_formula s)) s k.0 refl h) l (omega arith)
 
-by_formula : (n : ℕ) (s : Sheet) (k : Case) (t : Tree) → circular s k.0 ≡ false → content_of (put_all s k.1) k.0 ≡ Some (Formula t) → demand_within (suc n) s k ≡ k ∷ flat_map (demand_within n s) (rests_on s k.1 t)
+by_formula : (n : ℕ) (s : Sheet) (k : Case) (t : Tree) → circular s k.0 ≡ false → content_of (put_all s k.1) k.0 ≡ Some (Formula t) → demand_within (suc n) s k ≡ k ∷ flat_map (demand_within n s) (precedent_cases s k.1 t)
 unfolding demand_within
 by_formula n s k t h e = rw h (rw e refl)
 
@@ -101,14 +101,14 @@ near_demand n s j l w =
     demand_same n n (length (cells_with_formula s)) s j w (omega arith) (omega arith) ∙ demand_not_felt (length (cells_with_formula s)) s j (omega arith)
 
 -- a case demands itself, and what those demand on which its formula's value rests
-pub demand_by_step : (s : Sheet) (k : Case) (t : Tree) → circular s k.0 ≡ false → content_of (put_all s k.1) k.0 ≡ Some (Formula t) → demand s k ≡ k ∷ flat_map (demand s) (rests_on s k.1 t)
+pub demand_by_step : (s : Sheet) (k : Case) (t : Tree) → circular s k.0 ≡ false → content_of (put_all s k.1) k.0 ≡ Some (Formula t) → demand s k ≡ k ∷ flat_map (demand s) (precedent_cases s k.1 t)
 demand_by_step s k t h e = at (length (cells_with_formula s)) refl (some_formula s k.0 (length (cells_with_formula s)) refl (put_formula s k.1 k.0 (ap has_formula e)))
   where
-    at : (n : ℕ) → length (cells_with_formula s) ≡ n → 0 < n → demand s k ≡ k ∷ flat_map (demand s) (rests_on s k.1 t)
+    at : (n : ℕ) → length (cells_with_formula s) ≡ n → 0 < n → demand s k ≡ k ∷ flat_map (demand s) (precedent_cases s k.1 t)
     at zero l z = absurd (omega arith)
     at (suc n) l z =
         sym (demand_not_felt (suc n) s k (omega arith)) ∙ by_formula n s k t h e
-        ∙ ap (λ (ks : List Case). k ∷ ks) (flat_same (demand_within n s) (demand s) (rests_on s k.1 t) (λ x m.
+        ∙ ap (λ (ks : List Case). k ∷ ks) (flat_same (demand_within n s) (demand s) (precedent_cases s k.1 t) (λ x m.
         near_demand n s x l (below_walk n s k x t (no_walk (suc n) s k.0 l h) e m)))
 
 -- a circular cell demands nothing
@@ -135,7 +135,7 @@ unfolding demand_within
 itself_within zero s k w f = let z = put_formula s k.1 k.0 f in cc
 itself_within (suc n) s k w f = rw (ends_open (suc n) s k.0 w) (at (content_of (put_all s k.1) k.0) f)
   where
-    at : (o : Option Content) → has_formula o ≡ true → IsIn (of_formula o [] (λ t. k ∷ flat_map (demand_within n s) (rests_on s k.1 t))) k
+    at : (o : Option Content) → has_formula o ≡ true → IsIn (of_formula o [] (λ t. k ∷ flat_map (demand_within n s) (precedent_cases s k.1 t))) k
     at None e = cc
     at (Some (Constant v)) e = cc
     at (Some (Formula t)) e = inl refl
@@ -144,22 +144,22 @@ pub same_tree : (a b : Tree) (o : Option Content) → o ≡ Some (Formula a) →
 same_tree a b o e f = cc
 
 -- what a formula's value rests on is in the list of it
-below_has : (s : Sheet) (k j : Case) (t : Tree) → content_of (put_all s k.1) k.0 ≡ Some (Formula t) → RestsOn s k j → IsIn (rests_on s k.1 t) j
+below_has : (s : Sheet) (k j : Case) (t : Tree) → content_of (put_all s k.1) k.0 ≡ Some (Formula t) → RestsOn s k j → IsIn (precedent_cases s k.1 t) j
 below_has s k j t e r =
     let same = same_tree r.tree t (content_of (put_all s k.1) k.0) r.is e in
-    subst (λ (u : Tree). IsIn (rests_on s k.1 u) j) same (in_contained (rests_on s k.1 r.tree) j r.asks)
+    subst (λ (u : Tree). IsIn (precedent_cases s k.1 u) j) same (in_contained (precedent_cases s k.1 r.tree) j r.asks)
 
 closed_at : (n : ℕ) (s : Sheet) (k : Case) (t : Tree) → content_of (put_all s k.1) k.0 ≡ Some (Formula t) → has_walk (suc n) s k.0 ≡ false →
-    ((j : Case) → has_walk n s j.0 ≡ false → IsClosedIn s (demand_within n s j)) → IsClosedIn s (k ∷ flat_map (demand_within n s) (rests_on s k.1 t))
+    ((j : Case) → has_walk n s j.0 ≡ false → IsClosedIn s (demand_within n s j)) → IsClosedIn s (k ∷ flat_map (demand_within n s) (precedent_cases s k.1 t))
 closed_at n s k t e w ih = λ x j i r. at x j r i
   where
-    at : (x j : Case) → RestsOn s x j → IsIn (k ∷ flat_map (demand_within n s) (rests_on s k.1 t)) x → IsIn (k ∷ flat_map (demand_within n s) (rests_on s k.1 t)) j
+    at : (x j : Case) → RestsOn s x j → IsIn (k ∷ flat_map (demand_within n s) (precedent_cases s k.1 t)) x → IsIn (k ∷ flat_map (demand_within n s) (precedent_cases s k.1 t)) j
     at x j r (inl same) =
         let m = below_has s k j t e (subst (λ (y : Case). RestsOn s y j) (sym same) r) in
-        inr (in_flat (demand_within n s) (rests_on s k.1 t) j j m (itself_within n s j (below_walk n s k j t w e m) r.formula))
+        inr (in_flat (demand_within n s) (precedent_cases s k.1 t) j j m (itself_within n s j (below_walk n s k j t w e m) r.formula))
     at x j r (inr i) =
-        let y = of_flat (demand_within n s) (rests_on s k.1 t) x i in
-        inr (in_flat (demand_within n s) (rests_on s k.1 t) y.0 j y.1 (ih y.0 (below_walk n s k y.0 t w e y.1) x j y.2 r))
+        let y = of_flat (demand_within n s) (precedent_cases s k.1 t) x i in
+        inr (in_flat (demand_within n s) (precedent_cases s k.1 t) y.0 j y.1 (ih y.0 (below_walk n s k y.0 t w e y.1) x j y.2 r))
 
 closed_within : (n : ℕ) (s : Sheet) (k : Case) → has_walk n s k.0 ≡ false → IsClosedIn s (demand_within n s k)
 unfolding demand_within
@@ -167,7 +167,7 @@ closed_within zero s k w = nothing_closed s [] refl
 closed_within (suc n) s k w = rw (ends_open (suc n) s k.0 w) (at (content_of (put_all s k.1) k.0) refl (closed_within n s))
   where
     at : (o : Option Content) → content_of (put_all s k.1) k.0 ≡ o → ((j : Case) → has_walk n s j.0 ≡ false → IsClosedIn s (demand_within n s j)) →
-        IsClosedIn s (of_formula o [] (λ t. k ∷ flat_map (demand_within n s) (rests_on s k.1 t)))
+        IsClosedIn s (of_formula o [] (λ t. k ∷ flat_map (demand_within n s) (precedent_cases s k.1 t)))
     at None e ih = nothing_closed s [] refl
     at (Some (Constant v)) e ih = nothing_closed s [] refl
     at (Some (Formula t)) e ih = closed_at n s k t e w ih

@@ -1,5 +1,5 @@
 -- Which elements of a list pass a test.
-use Rattle.wi_sheet.proofs.Words.{◌≡◌, ◌==◌, ℕ, ◌+◌, ◌<◌, ◌≤◌, Bool, true, false, ◌||◌, ◌&&◌, cond, List, [], ◌∷◌, filter, length, take, get_or, refl, ap, sym, ◌∙◌, arith, and-false, and-true, list_any_more, list_any, is_one_of, same_cell}
+use Rattle.wi_sheet.proofs.Words.{◌≡◌, ◌<◌, ◌≤◌, Bool, true, false, ◌||◌, cond, List, [], ◌∷◌, filter, length, refl, arith, list_any}
 
 -- ---- how many
 
@@ -51,24 +51,3 @@ alike_within w p q h (x ∷ xs) = at (w x) refl (alike_within w p q h xs)
     at : (b : Bool) → w x ≡ b → filter p (filter w xs) ≡ filter q (filter w xs) → filter p (cond b (x ∷ filter w xs) (filter w xs)) ≡ filter q (cond b (x ∷ filter w xs) (filter w xs))
     at true e ih = rw (h x e, ih) refl
     at false e ih = ih
-
--- ---- of numbers
-
--- one is among those that pass a test exactly where it passes and is among all
-pub in_filter : (p : ℕ → Bool) (xs : List ℕ) (a : ℕ) → is_one_of (filter p xs) a ≡ (p a && is_one_of xs a)
-in_filter p [] a = sym (and-false (p a))
-in_filter p (x ∷ xs) a = by (p x) (x == a) refl refl (in_filter p xs a)
-  where
-    by : (b d : Bool) → p x ≡ b → (x == a) ≡ d → is_one_of (filter p xs) a ≡ (p a && is_one_of xs a) → is_one_of (cond b (x ∷ filter p xs) (filter p xs)) a ≡ (p a && (d || is_one_of xs a))
-    by true true e f ih =
-        ap (λ (c : Bool). c || is_one_of (filter p xs) a) f
-        ∙ sym (and-true (p a) ∙ sym (ap p (same_cell a x f)) ∙ e)
-    by true false e f ih = ap (λ (c : Bool). c || is_one_of (filter p xs) a) f ∙ ih
-    by false true e f ih =
-        let no = sym (ap p (same_cell a x f)) ∙ e in
-        ih ∙ ap (λ (c : Bool). c && is_one_of xs a) no ∙ sym (ap (λ (c : Bool). c && true) no)
-    by false false e f ih = ih
-
--- and one more, as at a step of a loop
-pub one_more : (xs : List ℕ) (i x q : ℕ) → i < length xs → x ≡ get_or xs i x → is_one_of (take (i + 1) xs) q ≡ (is_one_of (take i xs) q || (x == q))
-one_more xs i x q l e = list_any_more (λ (y : ℕ). y == q) xs i x l ∙ ap (λ (y : ℕ). is_one_of (take i xs) q || (y == q)) (sym e)

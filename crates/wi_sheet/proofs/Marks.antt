@@ -1,5 +1,5 @@
 -- Cells without a formula that are not edited reach no edited one. What calculators mark: a cone, or all cells with a formula.
-use Rattle.wi_sheet.proofs.Words.{◌≡◌, ◌⊎◌, inl, inr, ◌==◌, ◌||◌, ◌++◌, ℕ, Bool, true, false, List, [], ◌∷◌, Option, refl, ap, subst, sym, ◌∙◌, cases_Bool, or_cases, or_left, or_right, false_from_ne_true, list_any-append, Content, Sheet, content_of, has_formula, cells_with_formula, is_one_of, SameOff, in_cone, clash, in_layer, layer_zero, reader_formula, same_cell, not_in_cone, cone_closed, cone_least, outside_reaches, IsUnmoved, IsMarking}
+use Rattle.wi_sheet.proofs.Words.{◌≡◌, ◌⊎◌, inl, inr, ◌==◌, ◌||◌, ◌++◌, ℕ, Bool, true, false, List, [], ◌∷◌, Option, ap, subst, sym, ◌∙◌, cases_Bool, or_cases, or_left, or_right, false_from_ne_true, list_any-append, Content, Sheet, content_of, has_formula, cells_with_formula, is_one_of, SameOff, in_cone, clash, in_layer, layer_zero, reader_formula, same_cell, not_in_cone, cone_closed, cone_least, outside_reaches, IsUnmoved, IsMarking, or-false}
 use Rattle.wi_sheet.proofs.Cones.{outside_unmoved}
 
 -- a cell is among those with a formula exactly where it has one
@@ -25,11 +25,7 @@ others_unmoved s cells found is c n =
 -- ---- a cone marks
 
 one_of_one : (x a : ℕ) → is_one_of (x ∷ []) a ≡ true → x ≡ a
-one_of_one x a h = same_cell a x (by (x == a) h)
-  where
-    by : (b : Bool) → (b || false) ≡ true → b ≡ true
-    by true e = refl
-    by false e = e
+one_of_one x a h = same_cell a x (sym (or-false (x == a)) ∙ h)
 
 cone_further : (s : Sheet) (xs : List ℕ) (a c : ℕ) → in_cone s xs a ≡ true → in_cone s (a ∷ []) c ≡ true → in_cone s xs c ≡ true
 cone_further s xs a c h =

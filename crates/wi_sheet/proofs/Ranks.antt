@@ -1,5 +1,5 @@
 -- Ranks fall along reads.
-use Rattle.wi_sheet.proofs.Words.{◌≡◌, ◌<◌, ◌≤◌, ◌+◌, ◌*◌, ℕ, zero, suc, Bool, true, false, length, refl, sym, ◌∙◌, arith, if◌then◌else◌, Sheet, content_of, has_formula, cells_with_formula, content_reads, circular, has_walk, step, reader_formula, circular_is, Case, rests_on, RestsOn, lengths_below, reach_rank}
+use Rattle.wi_sheet.proofs.Words.{◌≡◌, ◌<◌, ◌≤◌, ◌+◌, ◌*◌, ℕ, zero, suc, Bool, true, false, length, refl, sym, ◌∙◌, arith, if◌then◌else◌, Sheet, content_of, has_formula, cells_with_formula, content_reads, circular, has_walk, step, reader_formula, circular_is, Case, precedent_cases, RestsOn, lengths_below, reach_rank, one_at_most}
 use Rattle.wi_sheet.proofs.Bounds.{put_formula}
 use Rattle.wi_sheet.proofs.Members.{in_contained}
 use Rattle.wi_sheet.proofs.Demands.{rests_reads}
@@ -30,14 +30,10 @@ rank_falls s c d r o f =
     let same = no_more (length (cells_with_formula s)) s c (sym (circular_is s c) ∙ o) in
     omega (arith, more, same)
 
-bit_small : (b : Bool) → (if b then 1 else 0) ≤ 1
-bit_small true = omega arith
-bit_small false = omega arith
-
 few_lengths : (n : ℕ) (s : Sheet) (c : ℕ) → lengths_below n s c ≤ n
 few_lengths zero s c = omega arith
 few_lengths (suc n) s c =
-    let one = bit_small (has_walk n s c) in
+    let one = one_at_most (has_walk n s c) in
     let rest = few_lengths n s c in
     omega (arith, one, rest)
 
@@ -48,7 +44,7 @@ rank_small s c = few_lengths (length (cells_with_formula s)) s c
 
 -- and so they do from a case to those on which it rests
 pub rests_rank : (s : Sheet) (k j : Case) → RestsOn s k j → circular s k.0 ≡ false → reach_rank s j.0 < reach_rank s k.0
-rests_rank s k j r o = rank_falls s k.0 j.0 (rests_reads s k j r.tree r.is (in_contained (rests_on s k.1 r.tree) j r.asks)) o (put_formula s j.1 j.0 r.formula)
+rests_rank s k j r o = rank_falls s k.0 j.0 (rests_reads s k j r.tree r.is (in_contained (precedent_cases s k.1 r.tree) j r.asks)) o (put_formula s j.1 j.0 r.formula)
 
 -- ---- how a calculation ends
 

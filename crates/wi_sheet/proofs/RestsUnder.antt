@@ -1,5 +1,5 @@
 -- What a formula's value rests on, under those replacements alone of cells that its cell reaches.
-use Rattle.wi_sheet.proofs.Words.{◌≡◌, ◌==◌, ℕ, true, List, ◌++◌, map, Some, ap, ◌∙◌, list_any, Replacement, IsInOrder, Formula, Tree, Sheet, content_of, put_all, cells_with_formula, reads, reaches, reaches_read, Case, case_of, reaching, what_if_case, what_ifs_of, reads_here, formulas_read_here, rests_on}
+use Rattle.wi_sheet.proofs.Words.{◌≡◌, ◌==◌, ℕ, true, List, ◌++◌, map, Some, ap, ◌∙◌, list_any, Replacement, IsInOrder, Formula, Tree, Sheet, content_of, put_all, cells_with_formula, reads, reaches, reaches_read, Case, case_of, reaching, what_if_case, what_ifs_of, reads_here, formulas_read_here, precedent_cases}
 use Rattle.wi_sheet.proofs.Bounds.{put_reads, tree_reads}
 use Rattle.wi_sheet.proofs.SmallerWorlds.{reaching_below, content_below, what_if_below}
 use Rattle.wi_sheet.proofs.Members.{contains_in, of_filter, map_same}
@@ -15,7 +15,7 @@ what_if_case_below : (s : Sheet) (w : List Replacement) (c : ℕ) (x : ℕ × Li
     ((a : ℕ) → list_any (λ p. p.1 == a) x.1 ≡ true → reaches s c a ≡ true) → what_if_case s (reaching s c w) x ≡ what_if_case s w x
 what_if_case_below s w c x h r k = ap (λ (p : List Replacement). (x.0, p)) (what_if_below s c x.0 w x.1 h r k)
 
-same_rests : (s : Sheet) (c : ℕ) (w : List Replacement) (t : Tree) → IsInOrder w → ((a : ℕ) → reads t a ≡ true → reaches s c a ≡ true) → rests_on s (reaching s c w) t ≡ rests_on s w t
+same_rests : (s : Sheet) (c : ℕ) (w : List Replacement) (t : Tree) → IsInOrder w → ((a : ℕ) → reads t a ≡ true → reaches s c a ≡ true) → precedent_cases s (reaching s c w) t ≡ precedent_cases s w t
 same_rests s c w t h k =
     ap (λ (ks : List Case). ks ++ map (what_if_case s (reaching s c w)) (what_ifs_of t))
     (map_same (case_of s (reaching s c w)) (case_of s w) (formulas_read_here s t) (λ d i.
@@ -26,5 +26,5 @@ same_rests s c w t h k =
 
 -- under those replacements alone of cells that it reaches, a cell has the same formula, which rests on the same cases
 pub rests_stay : (s : Sheet) (w : List Replacement) (c : ℕ) (t : Tree) → IsInOrder w → content_of (put_all s w) c ≡ Some (Formula t) →
-    (content_of (put_all s (reaching s c w)) c ≡ Some (Formula t)) × (rests_on s (reaching s c w) t ≡ rests_on s w t)
+    (content_of (put_all s (reaching s c w)) c ≡ Some (Formula t)) × (precedent_cases s (reaching s c w) t ≡ precedent_cases s w t)
 rests_stay s w c t h e = (content_below s c w ∙ e, same_rests s c w t h (λ a r. reaches_read s c a (put_reads s w c a (tree_reads (put_all s w) c t a e r))))

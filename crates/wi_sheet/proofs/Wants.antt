@@ -1,5 +1,5 @@
 -- What an evaluation asks for is demanded.
-use Rattle.wi_sheet.proofs.Words.{◌≡◌, ◌==◌, ◌||◌, inl, inr, ℕ, Bool, true, false, List, [], ◌∷◌, map, Some, Contains, refl, ap, sym, ◌∙◌, eq-eqb, list_any, Vec, Replacement, Pair, Reference, Formula, Tree, Leaf, cell_leaf, rectangle_leaf, what_if_leaf, leaves, pair_of, Sheet, content_of, put_all, has_formula, cells_with_formula, addresses, LeafAsks, Asks, Cell, WhatIf, is_one_of, same_cell, formula_cell, Case, reaching, case_of, with_what_if, leaf_what_ifs, what_ifs_of, leaf_reads_here, reads_here, formulas_read_here, rests_on, RestsOn}
+use Rattle.wi_sheet.proofs.Words.{◌≡◌, ◌==◌, ◌||◌, inl, inr, ℕ, Bool, true, false, List, [], ◌∷◌, map, Some, Contains, refl, ap, sym, ◌∙◌, eq-eqb, list_any, Vec, Replacement, Pair, Reference, Formula, Tree, Leaf, cell_leaf, rectangle_leaf, what_if_leaf, leaves, pair_of, Sheet, content_of, put_all, has_formula, cells_with_formula, addresses, LeafAsks, TreeAsks, Cell, WhatIf, is_one_of, same_cell, formula_cell, Case, reaching, case_of, with_what_if, leaf_what_ifs, what_ifs_of, leaf_reads_here, reads_here, formulas_read_here, precedent_cases, RestsOn}
 use Rattle.wi_sheet.proofs.Bounds.{put_formula}
 use Rattle.wi_sheet.proofs.Members.{IsIn, in_contained, contains_in, in_left, in_right, in_map, in_flat, of_flat, in_filter, of_any, found_in}
 use Rattle.wi_sheet.proofs.Meanings.{replacement_cells}
@@ -15,16 +15,16 @@ is_in (x ∷ xs) a h = at (x == a) refl h (is_in xs a)
     at false e h ih = inr (ih h)
 
 -- a formula's value rests on each cell with a formula that it reads as the sheet stands
-pub read_is_below : (s : Sheet) (w : List Replacement) (t : Tree) (d : ℕ) → reads_here t d ≡ true → has_formula (content_of s d) ≡ true → Contains (rests_on s w t) (case_of s w d)
+pub read_is_below : (s : Sheet) (w : List Replacement) (t : Tree) (d : ℕ) → reads_here t d ≡ true → has_formula (content_of s d) ≡ true → Contains (precedent_cases s w t) (case_of s w d)
 read_is_below s w t d h f =
     let m = in_filter (reads_here t) (cells_with_formula s) d (is_in (cells_with_formula s) d (formula_cell s d f)) h in
-    contains_in (rests_on s w t) (case_of s w d) (in_left (map (case_of s w) (formulas_read_here s t)) _ (case_of s w d) (in_map (case_of s w) (formulas_read_here s t) d m))
+    contains_in (precedent_cases s w t) (case_of s w d) (in_left (map (case_of s w) (formulas_read_here s t)) _ (case_of s w d) (in_map (case_of s w) (formulas_read_here s t) d m))
 
 -- and on the formula cell of each of its what-ifs, with the replacements of that what-if put in
-pub what_if_is_below : (s : Sheet) (w : List Replacement) (t : Tree) (x : ℕ × List (ℕ × ℕ)) → Contains (what_ifs_of t) x → Contains (rests_on s w t) (case_of s (with_what_if s w x.1) x.0)
+pub what_if_is_below : (s : Sheet) (w : List Replacement) (t : Tree) (x : ℕ × List (ℕ × ℕ)) → Contains (what_ifs_of t) x → Contains (precedent_cases s w t) (case_of s (with_what_if s w x.1) x.0)
 what_if_is_below s w t x h =
     let inner : ℕ × List (ℕ × ℕ) → Case = λ y. case_of s (with_what_if s w y.1) y.0 in
-    contains_in (rests_on s w t) (inner x) (in_right (map (case_of s w) (formulas_read_here s t)) (map inner (what_ifs_of t)) (inner x) (in_map inner (what_ifs_of t) x (in_contained (what_ifs_of t) x h)))
+    contains_in (precedent_cases s w t) (inner x) (in_right (map (case_of s w) (formulas_read_here s t)) (map inner (what_ifs_of t)) (inner x) (in_map inner (what_ifs_of t) x (in_contained (what_ifs_of t) x h)))
 
 -- a case rests on that of each cell that its formula reads as the sheet stands, where that has a formula too
 pub rests_on_read : (s : Sheet) (k : Case) (t : Tree) (d : ℕ) → content_of (put_all s k.1) k.0 ≡ Some (Formula t) → reads_here t d ≡ true →
@@ -57,7 +57,7 @@ leaf_asked_cell (rectangle_leaf c) a h = h
 leaf_asked_cell (what_if_leaf f ps) a h = absurd h
 
 -- a cell that is asked for is read as the sheet stands
-pub asked_cell : (t : Tree) (a : ℕ) → Asks t (Cell a) → reads_here t a ≡ true
+pub asked_cell : (t : Tree) (a : ℕ) → TreeAsks t (Cell a) → reads_here t a ≡ true
 asked_cell t a h =
     let l = of_any (λ k. LeafAsks k (Cell a)) (leaves t) h in
     found_in (λ k. leaf_reads_here k a) (leaves t) l.0 l.1 (leaf_asked_cell l.0 a l.2)
@@ -71,7 +71,7 @@ leaf_asked (cell_leaf r) f pairs h = absurd h
 leaf_asked (rectangle_leaf c) f pairs h = absurd h
 leaf_asked (what_if_leaf g qs) f pairs h = inl (ap (λ (n : ℕ). named n qs) (sym h.0) ∙ ap (named f) (sym h.1))
 
-wanted_in : (t : Tree) (f : ℕ) (pairs : Vec Pair) → Asks t (WhatIf f pairs) → IsIn (what_ifs_of t) (named f (map pair_of pairs.items))
+wanted_in : (t : Tree) (f : ℕ) (pairs : Vec Pair) → TreeAsks t (WhatIf f pairs) → IsIn (what_ifs_of t) (named f (map pair_of pairs.items))
 wanted_in t f pairs h =
     let l = of_any (λ k. LeafAsks k (WhatIf f pairs)) (leaves t) h in
     in_flat leaf_what_ifs (leaves t) l.0 (named f (map pair_of pairs.items)) l.1 (leaf_asked l.0 f pairs l.2)
@@ -91,10 +91,10 @@ replacing_read t x a i h =
     found_in (λ k. leaf_reads_here k a) (leaves t) l.0 l.1 (leaf_replacing l.0 x a l.2 h)
 
 -- a what-if that is asked for is one of the tree's
-pub asked_what_if : (t : Tree) (f : ℕ) (pairs : Vec Pair) → Asks t (WhatIf f pairs) → Contains (what_ifs_of t) (f, map addresses (map pair_of pairs.items))
+pub asked_what_if : (t : Tree) (f : ℕ) (pairs : Vec Pair) → TreeAsks t (WhatIf f pairs) → Contains (what_ifs_of t) (f, map addresses (map pair_of pairs.items))
 asked_what_if t f pairs h = contains_in (what_ifs_of t) (named f (map pair_of pairs.items)) (wanted_in t f pairs h)
 
 -- and each of its replacement cells is read as the sheet stands
-pub asked_replacing : (t : Tree) (f : ℕ) (pairs : Vec Pair) (a : ℕ) → Asks t (WhatIf f pairs) → list_any (λ p. p.1.at == a) (map pair_of pairs.items) ≡ true → reads_here t a ≡ true
+pub asked_replacing : (t : Tree) (f : ℕ) (pairs : Vec Pair) (a : ℕ) → TreeAsks t (WhatIf f pairs) → list_any (λ p. p.1.at == a) (map pair_of pairs.items) ≡ true → reads_here t a ≡ true
 asked_replacing t f pairs a h m =
     replacing_read t (named f (map pair_of pairs.items)) a (wanted_in t f pairs h) (replacement_cells (map pair_of pairs.items) a ∙ m)

@@ -1,12 +1,12 @@
 -- The words of the library, of the crates below and of this crate's definitions that its proofs are written in.
 pub use Rattle.std.proofs.Common.{All, Any, Bool, Bor, Contains, IfNone, IfSome, List, None, Option, Some, [], add-one, ap, append-nil, append_assoc, ap₂, arith, codes, cond, eq-eqb, false, filter, get_or, if◌then◌else◌, inl, inr, is_some, length, map, max, min, not, option_map, refl, subst, suc, sum_by, sym, take, true, zero, ℕ, ◌&&◌, ◌*◌, ◌++◌, ◌+◌, ◌-◌, ◌<◌, ◌==◌, ◌||◌, ◌∙◌, ◌∷◌, ◌≡◌, ◌≤◌, ◌⊎◌}
-pub use Rattle.std.proofs.Math.Bool.{and-false, and-true}
+pub use Rattle.std.proofs.Math.Bool.{and-false, and-or_distrib_left, or-false}
 pub use Rattle.std.proofs.Math.Seq.{take-nil}
 pub use Rattle.std.proofs.lemmas.Bool.{and_from, and_parts, cases_Bool, eqb-true, false_from_ne_true, le-leb, le-ltb, leb-true, lt-ltb, or_cases, or_left, or_parts, or_right, true≢false}
 pub use Rattle.std.proofs.lemmas.Bool.Decides.{nat_tests}
 pub use Rattle.std.proofs.lemmas.Grind.{common_steps}
 pub use Rattle.std.proofs.lemmas.List.Elements.{All-weaker, filter_agree}
-pub use Rattle.std.proofs.lemmas.List.Folds.{Any-from_list_any, list_any-append, list_any_at, list_any_more, list_any_none}
+pub use Rattle.std.proofs.lemmas.List.Folds.{Any-from_list_any, list_any-append, list_any_at, list_any_none}
 pub use Rattle.std.proofs.lemmas.List.Kept.{AllPairs-from_increasing, IsStrictlyIncreasing-filter}
 pub use Rattle.std.proofs.lemmas.List.Sums.{sum_by-cons}
 pub use Rattle.std.proofs.lemmas.Map.Made.{is_some-lookup}
@@ -26,7 +26,7 @@ pub use Rattle.wi_functions.specs.Counts.{Counts}
 pub use Rattle.wi_functions.specs.Inner.Named.{hundredth, is_one_cell}
 pub use Rattle.wi_functions.specs.Meaning.{arguments, meaning, referred, zero_for_empty}
 pub use Rattle.wi_functions.specs.Operators.{operate, with_sign}
-pub use Rattle.wi_functions.specs.Wants.{Asks, LeafAsks}
+pub use Rattle.wi_functions.specs.Wants.{LeafAsks, TreeAsks}
 pub use Rattle.wi_functions.specs.declared.evaluation.Want.TheVariants.{Cell, WhatIf}
 pub use Rattle.wi_graph.proofs.Agreement.{agree_here, agree_next, circular_same}
 pub use Rattle.wi_graph.proofs.Cones.{agree_outside, cone_closed, cone_least, cone_stays, outside_reaches}
@@ -36,7 +36,7 @@ pub use Rattle.wi_graph.proofs.Graphs.{stripped}
 pub use Rattle.wi_graph.proofs.Layers.{in_layer, layer_zero, walker_has_formula}
 pub use Rattle.wi_graph.proofs.ReachSteps.{reaches_here, reaches_on, reaches_read}
 pub use Rattle.wi_graph.proofs.ReachTest.{not_in_cone, true_reaches}
-pub use Rattle.wi_graph.proofs.Tests.{clash, turned}
+pub use Rattle.wi_graph.proofs.Tests.{clash}
 pub use Rattle.wi_graph.proofs.Walks.{circular_is, circular_walks, first_step, formula_cell, reader_formula, same_cell, step, walks_circular}
 unfoldable pub use Rattle.wi_graph.specs.Circular.{circular}
 pub use Rattle.wi_graph.specs.Inner.Walks.{has_walk}
@@ -56,7 +56,7 @@ pub use Rattle.wi_parser.specs.declared.expr.Pair.{Pair}
 pub use Rattle.wi_parser.specs.declared.expr.Reference.{Reference}
 pub use Rattle.wi_sheet.specs.CellValue.{formula_in, replacements, value_of, what_if_in, what_if_value}
 unfoldable pub use Rattle.wi_sheet.specs.CellValue.{cell_value, value_within}
-pub use Rattle.wi_sheet.specs.Demand.{Case, case_of, demanded, different, formulas_read_here, leaf_reads_here, leaf_what_ifs, of_formula, puts_of, reaching, reads_here, rests_on, same_case, wants, what_if_case, what_ifs_of, with_what_if}
+pub use Rattle.wi_sheet.specs.Demand.{Case, case_of, demanded, different, formulas_read_here, leaf_reads_here, leaf_what_ifs, of_formula, precedent_cases, puts_of, reaching, reads_here, same_case, wants, what_if_case, what_ifs_of, with_what_if}
 unfoldable pub use Rattle.wi_sheet.specs.Demand.{demand, demand_within}
 pub use Rattle.wi_sheet.specs.Inner.Rank.{lengths_below}
 unfoldable pub use Rattle.wi_sheet.specs.Inner.Rank.{reach_rank}
@@ -71,12 +71,14 @@ pub use Rattle.wi_sheet.specs.Unmoved.{IsMarking, IsUnmoved, SayTheSameOff}
 pub use Rattle.wi_standard_functions.specs.Arguments.{Argument, Region, region_of}
 pub use Rattle.wi_standard_functions.specs.Functions.{call_value}
 pub use Rattle.wi_values.proofs.Corners.{corners_may_turn}
+pub use Rattle.wi_values.proofs.Listed.{has-filter, has_key}
 pub use Rattle.wi_values.proofs.Lists.{each_fails, sum_ones}
 pub use Rattle.wi_values.proofs.Order.{Ascends, Ascends-from_order, Ascends-insert, order-from_Ascends, turn_test}
 pub use Rattle.wi_values.proofs.Replacements.Filtering.{order_of_filter, replaced-filter}
 pub use Rattle.wi_values.proofs.Replacements.InOrder.{order_from_entries, same_from_replaced, sorted_from_order}
 pub use Rattle.wi_values.proofs.Replacements.Overriding.{lookup-overridden, overridden-nothing}
 pub use Rattle.wi_values.proofs.Replacements.Same.{same_replacements_Decides}
+pub use Rattle.wi_values.proofs.Small.{one_at_most}
 pub use Rattle.wi_values.proofs.Within.{column_of_place, fewer_places, places_left, row_of_place, within_between}
 pub use Rattle.wi_values.specs.Address.{Area, column_of, is_one_of, is_within, place, rect_of, row_of}
 pub use Rattle.wi_values.specs.Replacements.{IsInOrder, as_map, last_for, overridden, replaced, same_replacements}

@@ -70,15 +70,15 @@ abbrev pub formulas_read_here : Sheet → Tree → List ℕ
 formulas_read_here s t = filter (reads_here t) (cells_with_formula s)
 
 -- the cases on which a tree's value under replacements rests
-abbrev pub rests_on : Sheet → List Replacement → Tree → List Case
-rests_on s w t = map (case_of s w) (formulas_read_here s t) ++ map (what_if_case s w) (what_ifs_of t)
+abbrev pub precedent_cases : Sheet → List Replacement → Tree → List Case
+precedent_cases s w t = map (case_of s w) (formulas_read_here s t) ++ map (what_if_case s w) (what_ifs_of t)
 
 -- The cases that a case demands, by at most n formulas one below the other: itself, and what those demand on which its
 -- formula's value rests. One that is circular in the sheet, or has no formula under its replacements, demands nothing.
 unfoldable pub demand_within : ℕ → Sheet → Case → List Case
 demand_within zero s k = []
 demand_within (suc n) s k = if circular s k.0 then [] else
-    of_formula (content_of (put_all s k.1) k.0) [] (λ t. k ∷ flat_map (demand_within n s) (rests_on s k.1 t))
+    of_formula (content_of (put_all s k.1) k.0) [] (λ t. k ∷ flat_map (demand_within n s) (precedent_cases s k.1 t))
 
 -- the cases that a case demands: as many formulas as the sheet has can stand one below the other
 unfoldable pub demand : Sheet → Case → List Case

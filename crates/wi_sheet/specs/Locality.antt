@@ -10,7 +10,7 @@ use Rattle.wi_graph.specs.Reach.{Reaches, AgreeFrom, IsInCone, SameOff, reaches,
 use Rattle.wi_sheet.specs.CellValue.{cell_value, what_if_value}
 use Rattle.wi_sheet.specs.Shown.{shown}
 use Rattle.wi_sheet.specs.Unmoved.{IsUnmoved}
-use Rattle.wi_sheet.specs.Demand.{reaching, with_what_if, rests_on}
+use Rattle.wi_sheet.specs.Demand.{reaching, with_what_if, precedent_cases}
 
 -- ---- values
 
@@ -45,7 +45,7 @@ OrderStays = (s : Sheet) (w : List Replacement) → IsInOrder w →
 -- under the replacements of itself and its precedents at any remove alone, a cell has the same formula, and what that rests on is the same
 abbrev pub RestsStay : Type 0
 RestsStay = (s : Sheet) (w : List Replacement) (c : ℕ) (t : Tree) → IsInOrder w → content_of (put_all s w) c ≡ Some (Formula t) →
-    (content_of (put_all s (reaching s c w)) c ≡ Some (Formula t)) × (rests_on s (reaching s c w) t ≡ rests_on s w t)
+    (content_of (put_all s (reaching s c w)) c ≡ Some (Formula t)) × (precedent_cases s (reaching s c w) t ≡ precedent_cases s w t)
 
 -- ---- edits
 

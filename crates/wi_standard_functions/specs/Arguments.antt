@@ -1,7 +1,7 @@
 -- The arguments of a call, as its function sees them (OpenFormula, "Functions and Function Parameters").
-use Rattle.std.specs.Prelude.{ℕ, ◌-◌, ◌+◌, List, map, Option, Result, Err, ok_or, slice_get}
+use Rattle.std.specs.Prelude.{ℕ, List, map, Option, Result, Err, ok_or, slice_get}
 use Rattle.std.specs.Option.{option_map_or}
-use Rattle.wi_values.specs.Address.{Area, cells_of, row_of, column_of}
+use Rattle.wi_values.specs.Address.{Area, cells_of, height, width}
 use Rattle.wi_values.specs.declared.value.ErrorKind.{ErrorKind}
 use Rattle.wi_values.specs.declared.value.ErrorKind.TheVariants.{BadValue}
 use Rattle.wi_values.specs.declared.value.Value.{Value}
@@ -21,8 +21,8 @@ pub record Argument : Type 0 where
 -- where `cells` gives the value of each cell
 abbrev pub region_of : (ℕ → Value) → Area → Region
 region_of cells r = record {
-  height = (row_of r.last + 1) - row_of r.first;
-  width = (column_of r.last + 1) - column_of r.first;
+  height = height r;
+  width = width r;
   values = map cells (cells_of r);
 }
 

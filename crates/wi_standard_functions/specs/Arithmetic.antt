@@ -4,6 +4,7 @@ use Rattle.std.specs.Ordering.{int_eq}
 use Rattle.wi_fraction.specs.Number as numbers
 use Rattle.wi_fraction.specs.Number.{number_of}
 use Rattle.wi_fraction.specs.Arithmetic.{sum_of, product_of, quotient_of, negated, power_of}
+use Rattle.wi_fraction.specs.Text.{Bytes}
 use Rattle.wi_values.specs.Import.{max_text}
 use Rattle.wi_values.specs.declared.value.ErrorKind.{ErrorKind}
 use Rattle.wi_values.specs.declared.value.ErrorKind.TheVariants.{DivisionByZero, BadNumber, BadValue}
@@ -11,7 +12,6 @@ use Rattle.wi_values.specs.declared.value.Value.{Value}
 use Rattle.wi_values.specs.declared.value.Value.TheVariants.{Number, Text, Fault}
 use Rattle.wi_standard_functions.specs.Convert.{to_number}
 use Rattle.wi_standard_functions.specs.Steps.{◌>>=◌}
-use Rattle.wi_fraction.specs.Text.{Bytes}
 
 -- ---- numbers
 

@@ -28,11 +28,11 @@ rank (Logical b) = 2
 rank v = 0
 
 -- values of different kinds stand in the order of the kinds
-abbrev pub order : Value → Value → Ordering
-order (Number x) (Number y) = cross_cmp x y
-order (Text s) (Text t) = slice_cmp nat_cmp s t
-order (Logical a) (Logical b) = bool_cmp a b
-order v w = nat_cmp (rank v) (rank w)
+abbrev pub value_order : Value → Value → Ordering
+value_order (Number x) (Number y) = cross_cmp x y
+value_order (Text s) (Text t) = slice_cmp nat_cmp s t
+value_order (Logical a) (Logical b) = bool_cmp a b
+value_order v w = nat_cmp (rank v) (rank w)
 
 abbrev pub compared : (Ordering → Bool) → Value → Value → Value
-compared test v w = do x ← no_error v; y ← no_error w; Logical (test (order (beside y x) (beside x y)))
+compared test v w = do x ← no_error v; y ← no_error w; Logical (test (value_order (beside y x) (beside x y)))

@@ -6,13 +6,13 @@ use Rattle.wi_fraction.specs.Gcd.Laws.{gcd-one}
 use Rattle.wi_fraction.specs.Number.{Number, max_size}
 use Rattle.wi_fraction.specs.Rounding.{rounded}
 use Rattle.wi_fraction.specs.declared.rounding.Mode.TheVariants.{Toward}
+use Rattle.wi_fraction.specs.Text.{Bytes}
 use Rattle.wi_values.specs.Value.{shown_text}
 use Rattle.wi_values.specs.declared.value.ErrorKind.{ErrorKind}
 use Rattle.wi_values.specs.declared.value.ErrorKind.TheVariants.{BadValue}
 use Rattle.wi_values.specs.declared.value.Value as value
 use Rattle.wi_values.specs.declared.value.Value.TheVariants as v
 use Rattle.wi_standard_functions.specs.Steps.{and_then}
-use Rattle.wi_fraction.specs.Text.{Bytes}
 
 abbrev pub whole : (n : ℕ) → n ≤ max_size → Number
 whole n fits = record {

@@ -3,12 +3,12 @@ pub mod Laws
 use Rattle.std.specs.Prelude.{Bool, not, ◌&&◌, List, [], ◌∷◌, drop, length, codes, nat_eq, unwrap_or, Option, if◌then◌else◌}
 use Rattle.std.specs.List.{starts_with}
 use Rattle.std.specs.Ordering.{is_eq, is_lt, is_le, is_gt, is_ge}
+use Rattle.wi_fraction.specs.Text.{Bytes}
 use Rattle.wi_values.specs.Imported.{IsImported}
 use Rattle.wi_values.proofs.Imports.{the_import}
 use Rattle.wi_values.specs.declared.value.Value.{Value}
 use Rattle.wi_values.specs.declared.value.Value.TheVariants.{Text}
 use Rattle.wi_standard_functions.specs.Matching.{can_be_found, is_match, sought_for}
-use Rattle.wi_fraction.specs.Text.{Bytes}
 
 -- met by a value where the relation holds of the operand and the value
 pub record Criterion : Type 0 where

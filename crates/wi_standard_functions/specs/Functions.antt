@@ -2,6 +2,7 @@
 use Rattle.std.specs.Prelude.{ℕ, ◌&&◌, Bool, true, false, not, nat_le, List, [], ◌∷◌, length, map, find, codes, Option, Some, None, if◌then◌else◌}
 use Rattle.std.specs.Str.{bytes_eq}
 use Rattle.wi_fraction.specs.declared.rounding.Mode.TheVariants.{HalfAway, Away, Toward}
+use Rattle.wi_fraction.specs.Text.{Bytes}
 use Rattle.wi_values.specs.declared.value.ErrorKind.TheVariants.{BadValue, UnknownName, NotAvailable}
 use Rattle.wi_values.specs.declared.value.Value.{Value}
 use Rattle.wi_values.specs.declared.value.Value.TheVariants.{Number, Logical, Fault}
@@ -15,7 +16,6 @@ use Rattle.wi_standard_functions.specs.Mathematical.{abs_value, sign_value, quot
 use Rattle.wi_standard_functions.specs.Rounding.{int_value, round_value}
 use Rattle.wi_standard_functions.specs.Statistical.{min_value, max_value, average_value}
 use Rattle.wi_standard_functions.specs.Text.{len_value, left_value, right_value, mid_value, concatenate_value, exact_value, find_value, rept_value}
-use Rattle.wi_fraction.specs.Text.{Bytes}
 
 -- its name in capitals, how many parameters it has at least and at most (None is any number), and what it gives
 pub record Function : Type 0 where

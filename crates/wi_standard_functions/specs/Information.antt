@@ -1,6 +1,7 @@
 -- OpenFormula, "Information Functions".
 use Rattle.std.specs.Prelude.{◌≡◌, ◌↔◌, Bool, true, false, not, List, count_by, Option, Some, ok_or}
 use Rattle.wi_fraction.specs.Number as numbers
+use Rattle.wi_fraction.specs.Text.{Bytes}
 use Rattle.wi_values.specs.Imported.{SpellsNumber}
 use Rattle.wi_values.proofs.Imports.{the_number}
 use Rattle.wi_values.specs.declared.value.ErrorKind.TheVariants.{BadValue, NotAvailable}
@@ -12,7 +13,6 @@ use Rattle.wi_standard_functions.specs.Criterion.{meets_criterion}
 use Rattle.wi_standard_functions.specs.FirstError.{no_error}
 use Rattle.wi_standard_functions.specs.Sequence.{sequence_of, value_of_item}
 use Rattle.wi_standard_functions.specs.Steps.{◌>>=◌}
-use Rattle.wi_fraction.specs.Text.{Bytes}
 
 -- ---- tests of a value; no error passes through
 

@@ -7,7 +7,7 @@ use Rattle.std.specs.declared.cmp.Ordering.{Ordering}
 use Rattle.wi_fraction.specs.Number as numbers
 use Rattle.wi_values.specs.declared.value.Value.{Value}
 use Rattle.wi_values.specs.declared.value.Value.TheVariants.{Empty, Number, Fault}
-use Rattle.wi_standard_functions.specs.Comparison.{rank, order}
+use Rattle.wi_standard_functions.specs.Comparison.{rank, value_order}
 use Rattle.wi_standard_functions.specs.Convert.{zero_number}
 
 -- Empty cells and errors match nothing
@@ -26,7 +26,7 @@ sought_for v = v
 
 -- it has the kind of the one sought, and its order to that passes the test
 abbrev pub is_match : (Ordering → Bool) → Value → Value → Bool
-is_match test sought v = same_kind v sought && test (order v sought)
+is_match test sought v = same_kind v sought && test (value_order v sought)
 
 abbrev pub last_position : (Value → Bool) → List Value → Option ℕ
 last_position test vs = last_or None (map (λ p. p.0) (filter (λ p. test p.1) (enumerate_from 0 vs)))

@@ -31,10 +31,10 @@ have_filter t (e ∷ es) h = at (t e.0) (have_filter t es h.1)
     at true ih = (h.0, ih)
     at false ih = ih
 
-pub all_have : (rooms es : Rooms) → RoomsAreInOrder rooms → HasNoVacancy rooms → es ≡ rooms → HaveContents es
+pub all_have : (rooms es : Rooms) → RoomsAreInOrder rooms → HasNoVacancy None rooms → es ≡ rooms → HaveContents es
 all_have rooms es order full e = subst HaveContents (sym e) (all_occupied rooms (Ascends-from_order rooms order) full)
 
-pub those_have : (t : ℕ → Bool) (rooms es : Rooms) → RoomsAreInOrder rooms → HasNoVacancy rooms → es ≡ filter (λ e. t e.0) rooms → HaveContents es
+pub those_have : (t : ℕ → Bool) (rooms es : Rooms) → RoomsAreInOrder rooms → HasNoVacancy None rooms → es ≡ filter (λ e. t e.0) rooms → HaveContents es
 those_have t rooms es order full e = subst HaveContents (sym e) (have_filter t rooms (all_occupied rooms (Ascends-from_order rooms order) full))
 
 -- ---- a step from one to the next

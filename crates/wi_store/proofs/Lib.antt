@@ -1,5 +1,5 @@
 pub mod RoomLemmas
-pub mod ExchangeLemmas
+pub mod SheetLemmas
 pub mod ChangeLemmas
 pub mod EditLemmas
 pub mod NextRoom

@@ -1,5 +1,5 @@
 -- Laws of rooms and of the sheet in them.
-use Rattle.wi_store.proofs.Words.{◌≡◌, ℕ, ◌+◌, ◌<◌, ◌≤◌, Bool, true, false, cond, List, [], ◌∷◌, filter, length, Option, Some, None, refl, sym, ap, ◌∙◌, subst, arith, ⊎_elim, option_flatten, All, AllByRecursion, nat_cmp, lookup, keys_of, is_at, cases_order, All-cons, All-head, All-tail, at_itself, at_later, at_earlier, lookup_after, Sheet, content_of, cells_with_formula, has_formula, Content, Rooms, sheet_in, room_of, formula_cells, IsOccupied, HaveContents, RoomsAreInOrder, HasNoVacancy}
+use Rattle.wi_store.proofs.Words.{◌≡◌, ℕ, ◌<◌, Bool, true, false, cond, List, [], ◌∷◌, filter, length, Option, Some, None, refl, sym, ap, ◌∙◌, subst, arith, ⊎_elim, unwrap_or, is_some, All, AllByRecursion, nat_cmp, lookup, keys_of, is_at, cases_order, All-cons, All-head, All-tail, at_itself, at_later, at_earlier, lookup_after, Sheet, content_of, cells_with_formula, has_formula, Content, Rooms, sheet_in, formula_cells, IsOccupied, HaveContents, tells_none, room_of, RoomsAreInOrder, taken, held_at, HoldsTheSame, HasNoVacancy, first_there, same_rooms, room_of-tail, no_rooms, all_taken}
 pub use Rattle.wi_values.proofs.Order.{ComeAfter, Ascends, Ascends-from_order, order-from_Ascends}
 
 -- ---- the sheet in rooms
@@ -30,23 +30,17 @@ content_of-later : (a c : ℕ) (o : Option Content) (es : Rooms) → is_at (nat_
 content_of-later a c None es t = refl
 content_of-later a c (Some x) es t = rw t
 
-room_of-here : (c : ℕ) (o : Option Content) (es : Rooms) → room_of ((c, o) ∷ es) c ≡ Some o
-room_of-here c o es = rw (at_itself c)
-
-room_of-later : (a c : ℕ) (o : Option Content) (es : Rooms) → is_at (nat_cmp a) c ≡ false → room_of ((c, o) ∷ es) a ≡ room_of es a
-room_of-later a c o es t = rw t
-
 abbrev Agrees : Rooms → ℕ → Type 0
-Agrees rooms a = content_of (sheet_in rooms) a ≡ option_flatten (room_of rooms a)
+Agrees rooms a = content_of (sheet_in rooms) a ≡ held_at None rooms a
 
 agrees_here : (c : ℕ) (o : Option Content) (es : Rooms) → ComeAfter c (sheet_in es) → Agrees ((c, o) ∷ es) c
-agrees_here c o es l = rw room_of-here (content_of-here c o es l)
+agrees_here c o es l = content_of-here c o es l ∙ sym (ap (λ (r : Option (Option Content)). unwrap_or r None) (first_there (c, o) es))
 
 agrees_later : (a c : ℕ) (o : Option Content) (es : Rooms) → is_at (nat_cmp a) c ≡ false → Agrees es a → Agrees ((c, o) ∷ es) a
-agrees_later a c o es t h = content_of-later a c o es t ∙ h ∙ ap option_flatten (sym (room_of-later a c o es t))
+agrees_later a c o es t h = content_of-later a c o es t ∙ h ∙ sym (ap (λ (b : Bool). unwrap_or (cond b (Some o) (room_of es a)) None) t)
 
 -- what stands in a cell is what its room has
-pub content_of-sheet_in : (a : ℕ) (rooms : Rooms) → Ascends rooms → content_of (sheet_in rooms) a ≡ option_flatten (room_of rooms a)
+pub content_of-sheet_in : (a : ℕ) (rooms : Rooms) → Ascends rooms → content_of (sheet_in rooms) a ≡ held_at None rooms a
 content_of-sheet_in a [] h = refl
 content_of-sheet_in a (e ∷ es) h =
     ⊎_elim (λ p. subst (λ (b : ℕ). Agrees (e ∷ es) b) (sym p) (agrees_here e.0 e.1 es (ComeAfter-sheet_in e.0 es h.0)))
@@ -54,82 +48,57 @@ content_of-sheet_in a (e ∷ es) h =
     (λ l. agrees_later a e.0 e.1 es (at_earlier a e.0 l) (content_of-sheet_in a es h.1)))
     (cases_order a e.0)
 
+-- the sheet whose cells have what the rooms have
+pub sheet_in-is : (rooms : Rooms) (s : Sheet) → RoomsAreInOrder rooms → Ascends s → ((q : ℕ) → held_at None rooms q ≡ content_of s q) → sheet_in rooms ≡ s
+sheet_in-is rooms s order up h =
+    let asc : Ascends rooms = Ascends-from_order rooms order in
+    same_rooms (sheet_in rooms) s (Ascends-sheet_in rooms asc) up (λ q. content_of-sheet_in q rooms asc ∙ h q)
+
+-- rooms with the same in each cell have the same sheet
+pub sheet_in-same : (old new : Rooms) → RoomsAreInOrder old → RoomsAreInOrder new → HoldsTheSame None old new → sheet_in new ≡ sheet_in old
+sheet_in-same old new a b h =
+    let asc : Ascends old = Ascends-from_order old a in
+    sheet_in-is new (sheet_in old) b (Ascends-sheet_in old asc) (λ q. h q ∙ sym (content_of-sheet_in q old asc))
+
+-- ---- how many contents there are
+
+pub length-taken : (rooms : Rooms) → length (taken is_some rooms) ≡ length (sheet_in rooms)
+length-taken [] = refl
+length-taken (e ∷ es) = by e.1 (length-taken es)
+  where
+    by : (o : Option Content) → length (taken is_some es) ≡ length (sheet_in es) → length (taken is_some ((e.0, o) ∷ es)) ≡ length (sheet_in ((e.0, o) ∷ es))
+    by None h = h
+    by (Some x) h = omega (arith, h)
+
 -- ---- where no room is vacant
 
-length-one_more : (c : ℕ) (o : Option Content) (es : Rooms) → (o ≡ None → ⊥) → length (sheet_in es) ≡ length es → length (sheet_in ((c, o) ∷ es)) ≡ length es + 1
-length-one_more c None es n h = absurd (n refl)
-length-one_more c (Some x) es n h = omega (arith, h)
-
--- a room that is not the first is a room
-room_of-tail : (a c : ℕ) (o : Option Content) (es : Rooms) → ComeAfter c es → room_of es a ≡ Some None → room_of ((c, o) ∷ es) a ≡ Some None
-room_of-tail a c o es l h =
-    ⊎_elim (λ p. let n : room_of es a ≡ None = lookup_after a es (subst (λ (b : ℕ). ComeAfter b es) (sym p) l) in cc)
-    (⊎_elim (λ l. room_of-later a c o es (at_later a c l) ∙ h) (λ l. room_of-later a c o es (at_earlier a c l) ∙ h))
-    (cases_order a c)
-
 -- the sheet is as long as the rooms are
-pub length-sheet_in : (rooms : Rooms) → Ascends rooms → HasNoVacancy rooms → length (sheet_in rooms) ≡ length rooms
-length-sheet_in [] h n = refl
-length-sheet_in (e ∷ es) h n =
-    let o : e.1 ≡ None → ⊥ = λ p. n e.0 (room_of-here e.0 e.1 es ∙ ap (λ (o : Option Content). Some o) p) in
-    let r : length (sheet_in es) ≡ length es = length-sheet_in es h.1 (λ a v. n a (room_of-tail a e.0 e.1 es h.0 v)) in
-    omega (arith, length-one_more e.0 e.1 es o r)
+pub length-sheet_in : (rooms : Rooms) → Ascends rooms → HasNoVacancy None rooms → length (sheet_in rooms) ≡ length rooms
+length-sheet_in rooms h n = sym (length-taken rooms) ∙ all_taken None is_some tells_none rooms h n
 
 keys-one_more : (c : ℕ) (o : Option Content) (es : Rooms) → (o ≡ None → ⊥) → keys_of (sheet_in es) ≡ keys_of es → keys_of (sheet_in ((c, o) ∷ es)) ≡ c ∷ keys_of es
 keys-one_more c None es n h = absurd (n refl)
 keys-one_more c (Some x) es n h = ap (λ (cs : List ℕ). c ∷ cs) h
 
 -- and has their cells
-pub keys-sheet_in : (rooms : Rooms) → Ascends rooms → HasNoVacancy rooms → keys_of (sheet_in rooms) ≡ keys_of rooms
+pub keys-sheet_in : (rooms : Rooms) → Ascends rooms → HasNoVacancy None rooms → keys_of (sheet_in rooms) ≡ keys_of rooms
 keys-sheet_in [] h n = refl
 keys-sheet_in (e ∷ es) h n =
-    let o : e.1 ≡ None → ⊥ = λ p. n e.0 (room_of-here e.0 e.1 es ∙ ap (λ (o : Option Content). Some o) p) in
-    keys-one_more e.0 e.1 es o (keys-sheet_in es h.1 (λ a v. n a (room_of-tail a e.0 e.1 es h.0 v)))
+    let o : e.1 ≡ None → ⊥ = λ p. n e.0 (first_there e es ∙ ap (λ (o : Option Content). Some o) p) in
+    keys-one_more e.0 e.1 es o (keys-sheet_in es h.1 (λ a v. n a (room_of-tail a e es None h.0 v)))
 
 -- where there is no room
-pub none_at_all : (rooms : Rooms) → rooms ≡ [] → RoomsAreInOrder rooms × HasNoVacancy rooms
-none_at_all rooms e = (
-  subst (λ (r : Rooms). RoomsAreInOrder r) (sym e) (order-from_Ascends {X = Option Content} [] tt),
-  λ c h. let z : room_of [] c ≡ Some None = ap (λ (r : Rooms). room_of r c) (sym e) ∙ h in cc,
-)
+pub none_at_all : (rooms : Rooms) → rooms ≡ [] → RoomsAreInOrder rooms × HasNoVacancy None rooms
+none_at_all rooms e = (subst (λ (r : Rooms). RoomsAreInOrder r) (sym e) (order-from_Ascends {X = Option Content} [] tt), no_rooms None rooms e)
 
 -- each of them has a content
-pub all_occupied : (rooms : Rooms) → Ascends rooms → HasNoVacancy rooms → HaveContents rooms
+pub all_occupied : (rooms : Rooms) → Ascends rooms → HasNoVacancy None rooms → HaveContents rooms
 all_occupied [] h n = tt
-all_occupied (e ∷ es) h n = (by e.1 (λ p. n e.0 (room_of-here e.0 e.1 es ∙ ap (λ (o : Option Content). Some o) p)), all_occupied es h.1 (λ a v. n a (room_of-tail a e.0 e.1 es h.0 v)))
+all_occupied (e ∷ es) h n = (by e.1 (λ p. n e.0 (first_there e es ∙ ap (λ (o : Option Content). Some o) p)), all_occupied es h.1 (λ a v. n a (room_of-tail a e es None h.0 v)))
   where
     by : (o : Option Content) → (o ≡ None → ⊥) → IsOccupied o
     by None n = n refl
     by (Some x) n = tt
-
--- ---- where some are
-
--- the sheet is no longer than the rooms
-pub length-sheet_in-le : (rooms : Rooms) → length (sheet_in rooms) ≤ length rooms
-length-sheet_in-le [] = omega arith
-length-sheet_in-le (e ∷ es) = by e.1 (length-sheet_in-le es)
-  where
-    by : (o : Option Content) → length (sheet_in es) ≤ length es → length (sheet_in ((e.0, o) ∷ es)) ≤ length {A = ℕ × Option Content} ((e.0, o) ∷ es)
-    by None h = omega arith
-    by (Some x) h = omega arith
-
--- after rooms were made in which nothing stands, the sheet is as long as the rooms were
-pub length-made : (old new : Rooms) → Ascends old → HasNoVacancy old → sheet_in new ≡ sheet_in old → length old ≡ length (sheet_in new)
-length-made old new h n e = sym (length-sheet_in old h n) ∙ ap length (sym e)
-
-content_first : (b : Bool) (x : Content) (o : Option (Option Content)) → (o ≡ Some None → ⊥) → cond b (Some (Some x)) o ≡ Some None → ⊥
-content_first true x o n v = cc
-content_first false x o n v = n v
-
-no_vacancy-one_more : (c : ℕ) (o : Option Content) (es : Rooms) → (length es ≤ length (sheet_in es) → HasNoVacancy es)
-    → length es + 1 ≤ length (sheet_in ((c, o) ∷ es)) → HasNoVacancy ((c, o) ∷ es)
-no_vacancy-one_more c None es h l = absurd (omega (arith, length-sheet_in-le es))
-no_vacancy-one_more c (Some x) es h l = λ a v. content_first (is_at (nat_cmp a) c) x (room_of es a) (h (omega arith) a) v
-
--- where it is as long, none is vacant
-pub no_vacancy : (rooms : Rooms) → length rooms ≤ length (sheet_in rooms) → HasNoVacancy rooms
-no_vacancy [] l = λ a v. cc
-no_vacancy (e ∷ es) l = no_vacancy-one_more e.0 e.1 es (no_vacancy es) (omega arith)
 
 -- ---- each room is of a cell of the sheet
 
@@ -140,16 +109,6 @@ within-one_more n c (Some x) es l h = All-cons (λ a. a < n) c (keys_of (sheet_i
 pub within-sheet_in : (n : ℕ) (rooms : Rooms) → All (λ e. e.0 < n) rooms → All (λ a. a < n) (keys_of (sheet_in rooms))
 within-sheet_in n [] h = λ k d l. absurd (omega (arith, l))
 within-sheet_in n (e ∷ es) h = within-one_more n e.0 e.1 es (All-head (λ d. d.0 < n) e es h) (within-sheet_in n es (All-tail (λ d. d.0 < n) e es h))
-
--- ---- no more rooms than cells
-
-few_after : (n a : ℕ) (rooms : Rooms) → a < n → ComeAfter a rooms → Ascends rooms → All (λ e. e.0 < n) rooms → length rooms + (a + 1) ≤ n
-few_after n a [] l c h k = omega (arith, l)
-few_after n a (e ∷ es) l c h k = omega (arith, c.0, few_after n e.0 es (All-head (λ e. e.0 < n) e es k) h.0 h.1 (All-tail (λ e. e.0 < n) e es k))
-
-pub few : (n : ℕ) (rooms : Rooms) → RoomsAreInOrder rooms → All (λ e. e.0 < n) rooms → length rooms ≤ n
-few n [] h k = omega arith
-few n (e ∷ es) h k = let o = Ascends-from_order (e ∷ es) h in omega (arith, few_after n e.0 es (All-head (λ e. e.0 < n) e es k) o.0 o.1 (All-tail (λ e. e.0 < n) e es k))
 
 -- ---- formula cells
 

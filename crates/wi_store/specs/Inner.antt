@@ -1,3 +1,3 @@
 -- Words of the code's own contracts, and readers that laws tie to the definitions. Nothing here needs belief.
-pub mod Exchange
+pub mod Admission
 pub mod Rooms

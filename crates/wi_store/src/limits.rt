@@ -1,7 +1,7 @@
 //! The limits of a sheet.
 
 ghost use Rattle.std.specs.Prelude.{◌≡◌};
-ghost use Rattle.wi_store.specs.Inner.Exchange.{admitted};
+ghost use Rattle.wi_store.specs.Inner.Admission.{admitted};
 
 use crate::fault::StoreFault;
 

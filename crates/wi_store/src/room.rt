@@ -1,12 +1,13 @@
 //! A room for what stands in one cell.
 
-ghost use Rattle.std.specs.Prelude.{◌≡◌, None, IfOk};
-ghost use Rattle.std.specs.Option.{option_copied, is_some};
+ghost use Rattle.std.specs.Prelude.{◌≡◌, IfOk};
+ghost use Rattle.std.specs.Option.{option_copied};
 ghost use Rattle.wi_store.specs.Store.{without_empty};
 
 use std::alloc::{AllocError, Global};
 use std::marker::Model;
 use wi_parser::Content;
+use wi_tiles::MayBeVacant;
 use wi_values::Value;
 
 /// A room, seen as its content, or none if it is vacant.
@@ -33,13 +34,6 @@ impl Model for Room {
 }
 
 impl Room {
-    /// A vacant room. Takes no memory.
-    pub(crate) fn vacant() -> Room
-        ensures { result ≡ None }
-    {
-        Room { held: None }
-    }
-
     /// A room with a content, or a vacant one; the constant Empty is no content. Takes the memory of a content.
     pub(crate) fn new(alloc: Global, content: Option<Content>) -> Result<Room, AllocError>
         ensures { IfOk result (λ r. r ≡ without_empty content) }
@@ -53,13 +47,6 @@ impl Room {
         }
     }
 
-    /// Whether it has a content.
-    pub(crate) fn has_content(&self) -> bool
-        ensures { result ≡ is_some self.now }
-    {
-        self.held.is_some()
-    }
-
     /// What stands in it.
     pub(crate) fn content(&self) -> Option<&Content>
         ensures { option_copied result ≡ self.now }
@@ -69,4 +56,24 @@ impl Room {
             None => None,
         }
     }
+}
+
+impl MayBeVacant for Room {
+    ghost use Rattle.std.specs.Prelude.{None};
+    ghost use Rattle.std.specs.Option.{is_some};
+    ghost use Rattle.wi_store.specs.Inner.Rooms.{tells_none};
+
+    ghost vacant = { None };
+
+    ghost is_taken = { is_some };
+
+    fn vacant() -> Room {
+        Room { held: None }
+    }
+
+    fn is_taken(&self) -> bool {
+        self.held.is_some()
+    }
+
+    ghost tells = { tells_none };
 }

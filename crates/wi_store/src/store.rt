@@ -1,6 +1,6 @@
 //! A sheet within limits.
 
-ghost use Rattle.std.specs.Prelude.{◌≡◌, ◌⊎◌, ◌<◌, ◌*◌, [], All, nat_le, filter, length, option_map, Some, IfOk, IfSome, OnOk, OnErr};
+ghost use Rattle.std.specs.Prelude.{◌≡◌, ◌⊎◌, ◌<◌, ◌*◌, [], All, nat_le, filter, length, option_map, Some, None, IfOk, IfSome, OnOk, OnErr};
 ghost use Rattle.std.specs.Option.{option_copied};
 ghost use Rattle.std.specs.List.{find};
 ghost use Rattle.std.specs.List.Sorted.{IsStrictlyIncreasing};
@@ -8,19 +8,18 @@ ghost use Rattle.std.specs.Map.{keys_of};
 ghost use Rattle.wi_values.specs.Address.{is_within, rows, columns};
 ghost use Rattle.wi_parser.specs.Sheet.{content_of, cells_with_formula, has_formula};
 ghost use Rattle.wi_store.specs.Store.{edited, accepted, applied, Applies, is_ahead};
-ghost use Rattle.wi_store.specs.Inner.Rooms.{sheet_in, formula_cells, RoomsAreInOrder, HasNoVacancy, VacantOnlyAt};
-ghost use Rattle.wi_store.specs.Inner.Exchange.{admitted};
+ghost use Rattle.wi_tiles.specs.Rooms.{RoomsAreInOrder, HasNoVacancy, VacantOnlyAt};
+ghost use Rattle.wi_store.specs.Inner.Rooms.{sheet_in, formula_cells};
+ghost use Rattle.wi_store.specs.Inner.Admission.{admitted};
 
 use crate::contents::Contents;
 use crate::fault::StoreFault;
 use crate::limits::Limits;
-use crate::rooms::{
-    NewRoom, Rooms, exchange_all, exchange_back, make_rooms, prepare, release, room_for,
-};
+use crate::rooms::{NewRoom, Rooms, prepare, room_for};
 use std::alloc::{AllocError, Global};
 use std::marker::Model;
 use wi_parser::{Content, NewContent};
-use wi_tiles::CellMap;
+use wi_tiles::{CellMap, exchange_all, exchange_back, make_rooms, release};
 use wi_values::{Address, Rect};
 
 /// The contents of a sheet, with the count of accepted edits and the limits of both.
@@ -43,7 +42,9 @@ impl Model for Store {
 
     ghost coded = { Prim.hlevel (codes, content.the_row.coded) };
 
-    ghost use Rattle.wi_store.specs.Inner.Rooms.{sheet_in, RoomsAreInOrder, HasNoVacancy};
+    ghost use Rattle.std.specs.Prelude.{None};
+    ghost use Rattle.wi_tiles.specs.Rooms.{RoomsAreInOrder, HasNoVacancy};
+    ghost use Rattle.wi_store.specs.Inner.Rooms.{sheet_in};
 
     ghost view = { λ s. record {
       sheet = sheet_in s.rooms.entries;
@@ -51,7 +52,7 @@ impl Model for Store {
       limits = s.limits;
     } };
 
-    ghost invariant = { λ s. RoomsAreInOrder s.rooms.entries × HasNoVacancy s.rooms.entries };
+    ghost invariant = { λ s. RoomsAreInOrder s.rooms.entries × HasNoVacancy None s.rooms.entries };
 }
 
 impl Store {
@@ -143,7 +144,7 @@ impl Store {
         ensures { Applies (accepted self.old brought.old) result self.old self.new }
     {
         let before = self.occupied();
-        let answer = edit(&mut self.rooms, &self.limits, self.edits, brought);
+        let answer = edit(&mut self.rooms, before, &self.limits, self.edits, brought);
         let occupied = answer.unwrap_or(before);
         release(&mut self.rooms, brought, occupied);
         answer?;
@@ -218,16 +219,18 @@ fn is_formula(content: &Content) -> bool
     matches!(content, Content::Formula(_))
 }
 
-// Does an edit, and answers how many cells have a content then, or refuses it and leaves the sheet as it was. Rooms of
-// the changed cells may be vacant after either.
+// Does an edit, and answers how many cells have a content then, or refuses it and leaves the sheet as it was; `before` is how
+// many have one before. Rooms of the changed cells may be vacant after either.
 fn edit(
     rooms: &mut Rooms,
+    before: u64,
     limits: &Limits,
     edits: u64,
     changes: &mut [NewRoom],
 ) -> Result<u64, StoreFault>
     requires order { RoomsAreInOrder rooms.old.entries }
-    requires full { HasNoVacancy rooms.old.entries }
+    requires full { HasNoVacancy None rooms.old.entries }
+    requires before { before ≡ length (sheet_in rooms.old.entries) }
     ensures done { OnOk result (sheet_in rooms.new.entries
         ≡ edited (sheet_in rooms.old.entries) changes.old) }
     ensures refused { OnErr result (sheet_in rooms.new.entries ≡ sheet_in rooms.old.entries) }
@@ -235,11 +238,11 @@ fn edit(
         ⊎ (result ≡ admitted limits.now
         (length (edited (sheet_in rooms.old.entries) changes.old)) edits) }
     ensures order { RoomsAreInOrder rooms.new.entries }
-    ensures vacant { VacantOnlyAt (keys_of changes.new) rooms.new.entries }
+    ensures vacant { VacantOnlyAt None (keys_of changes.new) rooms.new.entries }
 {
-    let vacant = make_rooms(rooms, changes)?;
-    let occupied = exchange_all(rooms, changes, vacant);
-    let answer = limits.admit(occupied as u64, edits);
+    make_rooms(rooms, changes)?;
+    let occupied = exchange_all(rooms, changes, before);
+    let answer = limits.admit(occupied, edits);
     if answer.is_err() {
         exchange_back(rooms, changes);
     }

@@ -1,7 +1,5 @@
 //! The std devices that serve as a source and a sink, call by call.
 
-ghost use Rattle.std.specs.Prelude.{◌≡◌, false};
-
 use crate::texts::expect_that;
 use std::io;
 use std::io::{Read, Write};

@@ -6,7 +6,7 @@ use std::alloc::{AllocError, Global};
 use std::process::Abort;
 use wi_parser::Content;
 use wi_store::{Limits, Store, StoreFault};
-use wi_values::{Address, Rect, Value};
+use wi_values::{Address, Value};
 
 /// Appends a constant as a word, the text of a formula, or a dash.
 fn push_told(content: Option<&Content>, text: &mut String) -> Result<(), AllocError> {

@@ -150,9 +150,17 @@ enum Known<'a> {
     Told(&'a Reaches),
 }
 
+/// A world, and by what it is known which cells a cell reaches.
+#[derive(Clone, Copy)]
+struct Asked<'a> {
+    world: &'a World,
+    known: Known<'a>,
+}
+
 /// The replacements of a world whose cell reaches a cell.
-fn reaching(rt: &impl Abort, world: &World, known: Known<'_>, last: &mut World, at: &str) -> World {
-    match known {
+fn reaching(rt: &impl Abort, asked: Asked<'_>, last: &mut World, at: &str) -> World {
+    let world = asked.world;
+    match asked.known {
         Known::Cones(cones) => {
             assert!(rt; all_have_cones(world, cones));
             world.reaching(cell(rt, at), cones, last).expect(rt, at)
@@ -165,27 +173,20 @@ fn reaching(rt: &impl Abort, world: &World, known: Known<'_>, last: &mut World, 
 fn expect_reaching_cell(
     rt: &impl Abort,
     alloc: Global,
-    world: &World,
-    known: Known<'_>,
+    asked: Asked<'_>,
     last: &mut World,
     at: &str,
     wanted: &str,
 ) {
-    let found = reaching(rt, world, known, last, at);
+    let found = reaching(rt, asked, last, at);
     expect_world(rt, alloc, at, &found, wanted);
     drop(found);
 }
 
-fn expect_reaching(
-    rt: &impl Abort,
-    alloc: Global,
-    world: &World,
-    known: Known<'_>,
-    rows: &[(&str, &str)],
-) {
+fn expect_reaching(rt: &impl Abort, alloc: Global, asked: Asked<'_>, rows: &[(&str, &str)]) {
     let mut last = World::new(alloc);
     for (at, wanted) in rows {
-        expect_reaching_cell(rt, alloc, world, known, &mut last, at, wanted);
+        expect_reaching_cell(rt, alloc, asked, &mut last, at, wanted);
     }
     drop(last);
 }
@@ -197,11 +198,14 @@ fn cones_that_have_a_cell(rt: HostRuntime) {
     put_cone(&rt, rt.alloc(), &mut cones, "A2", "A2 D4");
     put_cone(&rt, rt.alloc(), &mut cones, "C3", "D4 C3 E5");
     let world = after(&rt, rt.alloc(), &[OLD]);
+    let asked = Asked {
+        world: &world,
+        known: Known::Cones(&cones),
+    };
     expect_reaching(
         &rt,
         rt.alloc(),
-        &world,
-        Known::Cones(&cones),
+        asked,
         &[
             ("A1", ""),
             ("A2", "A2=TRUE "),
@@ -236,11 +240,14 @@ fn cells_that_are_told_to_reach(rt: HostRuntime) {
     let mut reaches = Reaches::new(rt.alloc());
     let world = after(&rt, rt.alloc(), &[OLD]);
     expect_known(&rt, rt.alloc(), &mut reaches, &world);
+    let asked = Asked {
+        world: &world,
+        known: Known::Told(&reaches),
+    };
     expect_reaching(
         &rt,
         rt.alloc(),
-        &world,
-        Known::Told(&reaches),
+        asked,
         &[
             ("A1", ""),
             ("A2", "A2=TRUE "),
@@ -268,8 +275,12 @@ fn few_of_many_are_told(rt: HostRuntime) {
     let mut reaches = Reaches::new(rt.alloc());
     tell_each(&rt, rt.alloc(), &mut reaches, "A1 A2 A3 A4 A5 A6 A7 A8");
     tell(&rt, rt.alloc(), &mut reaches, "A4", "D4");
+    let asked = Asked {
+        world: &world,
+        known: Known::Told(&reaches),
+    };
     let rows = [("D4", "A4=FALSE "), ("D5", ""), ("A8", "A8= ")];
-    expect_reaching(&rt, rt.alloc(), &world, Known::Told(&reaches), &rows);
+    expect_reaching(&rt, rt.alloc(), asked, &rows);
     drop(world);
     drop(reaches);
 }

@@ -1,5 +1,5 @@
 -- How many of a tile's first bits have something.
-use Rattle.wi_tiles.proofs.Words.{◌≡◌, ℕ, ◌+◌, ◌-◌, ◌/◌, ◌^◌, ◌<◌, ◌≤◌, List, length, Option, Some, None, sym, ap, arith, ◌∙◌, ⊎_elim, zero, suc, true, false, get_or, subst, refl, Bool, ◌&&◌, ◌==◌, nat_le, IsSome, is_some, if◌then◌else◌, count_ones, slice_get, slice_index_or, bit_at, w64, trailing_zeros, cases_lt, and_from, le-leb, slice_get_read, eqb-true, ◌≢◌, Area, slot, rank, slots, filled, CountsFirst, IsWhole, IsFirstLeft, HasBits}
+use Rattle.wi_tiles.proofs.Words.{◌≡◌, ℕ, ◌+◌, ◌-◌, ◌/◌, ◌^◌, ◌<◌, ◌≤◌, List, length, Option, Some, None, sym, ap, arith, ◌∙◌, ⊎_elim, zero, suc, get_or, subst, refl, ◌&&◌, ◌==◌, nat_le, IsSome, is_some, if◌then◌else◌, count_ones, slice_get, slice_index_or, bit_at, w64, trailing_zeros, cases_lt, and_from, le-leb, slice_get_read, eqb-true, ◌≢◌, Area, slot, rank, slots, filled, CountsFirst, IsWhole, IsFirstLeft, HasBits, one_at_most}
 use Rattle.wi_tiles.proofs.Firsts.{there_one, one_there, one_within, first_bit}
 use Rattle.wi_tiles.proofs.Ranks.{rank-suc, rank-zero, rank_at_most}
 use Rattle.wi_tiles.proofs.Tiles.{at_zero, at_one, get-slots, bit_or_not}
@@ -19,13 +19,9 @@ filled_there t b there = filled_suc t b ∙ ap (λ q. filled t b + (if q then 1 
 filled_clear : {V : Type 0} (t : List (Option V)) (b : ℕ) → slot t b ≡ None → filled t (suc b) ≡ filled t b
 filled_clear t b none = filled_suc t b ∙ ap (λ o. filled t b + (if is_some o then 1 else 0)) none ∙ (let e : filled t b + 0 ≡ filled t b = omega arith in e)
 
-one_more : (b : Bool) → (if b then 1 else 0) ≤ 1
-one_more true = omega arith
-one_more false = omega arith
-
 pub filled_small : {V : Type 0} (t : List (Option V)) (n : ℕ) → filled t n ≤ n
 filled_small t zero = omega (arith, filled_zero t)
-filled_small t (suc n) = omega (arith, filled_suc t n, filled_small t n, one_more (is_some (slot t n)))
+filled_small t (suc n) = omega (arith, filled_suc t n, filled_small t n, one_at_most (is_some (slot t n)))
 
 filled_grows : {V : Type 0} (t : List (Option V)) (i j : ℕ) → i ≤ j → filled t i ≤ filled t j
 filled_grows t i zero h = omega (arith, ap (λ k. filled t k) (let e : i ≡ 0 = omega arith in e))

@@ -10,11 +10,14 @@ pub mod Firsts
 pub mod Keys
 pub mod LineLemmas
 pub mod MapLemmas
+pub mod MapSteps
 pub mod MaskLemmas
 pub mod NextLemmas
 pub mod Outcomes
 pub mod Ranks
 pub mod Replaced
+pub mod RoomChanges
+pub mod RoomLemmas
 pub mod Sorts
 pub mod StepLemmas
 pub mod Tiles

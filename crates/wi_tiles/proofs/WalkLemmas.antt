@@ -1,5 +1,5 @@
 -- A walk through a rectangle, tile by tile.
-use Rattle.wi_tiles.proofs.Words.{◌≡◌, ℕ, ◌+◌, ◌*◌, ◌/◌, ◌%◌, ◌<◌, ◌≤◌, List, [], ◌∷◌, Option, Some, None, sym, ap, arith, ◌∙◌, ⊎_elim, zero, suc, refl, cond, subst, true, false, Bool, ◌||◌, ◌==◌, nat_le, filter, IsSome, IfSome, IfNone, Bor, bit_at, cases_eq, cases_lt, and_parts, and_from, leb-true, le-leb, bit_at-zero, eqb-true, eq-eqb, ◌≢◌, ◌⊎◌, Area, place, row_of, column_of, is_within, Pages, Band, at_cell, is_ahead, with_entry, entries_from, entries_of, cells, slot, in_page, band_at, in_band, IsNext, IsStart, at_part, part_from, find as find_part, bit_of, cell_in, in_band_tile, tile_at, in_tile, is_left, is_pending, IsRest, IsFirstLeft, IsTurn}
+use Rattle.wi_tiles.proofs.Words.{◌≡◌, ℕ, ◌+◌, ◌*◌, ◌/◌, ◌%◌, ◌<◌, ◌≤◌, List, [], ◌∷◌, Option, Some, None, sym, ap, arith, ◌∙◌, ⊎_elim, zero, suc, refl, cond, subst, true, false, Bool, ◌||◌, ◌==◌, nat_le, filter, IsSome, IfSome, IfNone, Bor, bit_at, cases_eq, cases_lt, and_parts, and_from, leb-true, le-leb, bit_at-zero, eqb-true, eq-eqb, ◌≢◌, ◌⊎◌, Area, place, row_of, column_of, is_within, Pages, Band, at_cell, is_ahead, with_entry, entries_from, entries_of, cells, slot, in_page, band_at, in_band, IsNext, IsStart, at_part, part_from, find as find_part, bit_of, cell_in, in_band_tile, tile_at, in_tile, is_left, is_pending, IsRest, IsFirstLeft, IsTurn, false_from_ne_true, or_cases, or_left, or_right}
 use Rattle.std.proofs.Common.{inl, inr}
 use Rattle.wi_tiles.proofs.MapLemmas.{below, above}
 use Rattle.wi_tiles.proofs.NextLemmas.{row_cell, is_inside}
@@ -71,10 +71,6 @@ same_test true false f g = f refl
 same_test false true f g = sym (g refl)
 same_test false false f g = refl
 
-not_true : (a : Bool) → (a ≡ true → ⊥) → a ≡ false
-not_true true f = absurd (f refl)
-not_true false f = refl
-
 -- what holds anyway
 pub whatever : {X : Type 0} {P : Type 0} (o : Option X) → P → IfSome o (λ _. P)
 whatever None p = tt
@@ -89,17 +85,6 @@ pub nothing_but : {V : Type 0} (o : Option V) → (IsSome o → ⊥) → o ≡ N
 nothing_but None h = refl
 nothing_but (Some v) h = absurd (h refl)
 
-or_parts : (a b : Bool) → (a || b) ≡ true → (a ≡ true) ⊎ (b ≡ true)
-or_parts true b h = inl refl
-or_parts false b h = inr h
-
-or_left : (a b : Bool) → a ≡ true → (a || b) ≡ true
-or_left a b h = ap (λ t. t || b) h
-
-or_right : (a b : Bool) → b ≡ true → (a || b) ≡ true
-or_right true b h = refl
-or_right false b h = h
-
 left_parts : (corner left c : ℕ) → is_left corner left c ≡ true → (row_of c / 16 ≡ row_of corner / 16) × (column_of c / 4 ≡ column_of corner / 4) × (bit_at left (bit_of c) ≡ 1)
 left_parts corner left c h =
     let p = and_parts (in_tile corner c) (bit_at left (bit_of c) == 1) h in
@@ -112,7 +97,7 @@ left_from corner left c i j k = and_from (in_tile corner c) (bit_at left (bit_of
 pending_parts : (r : Area) (ahead corner left c : ℕ) → is_pending r ahead corner left c ≡ true → ((is_left corner left c ≡ true) ⊎ (ahead ≤ c)) × (is_within r c ≡ true)
 pending_parts r ahead corner left c h =
     let p = and_parts (is_left corner left c || nat_le ahead c) (is_within r c) h in
-    (⊎_elim (λ l. inl l) (λ f. inr (leb-true ahead c f)) (or_parts (is_left corner left c) (nat_le ahead c) p.0), p.1)
+    (⊎_elim (λ l. inl l) (λ f. inr (leb-true ahead c f)) (or_cases (is_left corner left c) (nat_le ahead c) p.0), p.1)
 
 pending_from : (r : Area) (ahead corner left c : ℕ) → (is_left corner left c ≡ true) ⊎ (ahead ≤ c) → is_within r c ≡ true → is_pending r ahead corner left c ≡ true
 pending_from r ahead corner left c either w = and_from (is_left corner left c || nat_le ahead c) (is_within r c) (⊎_elim (λ l. or_left (is_left corner left c) (nat_le ahead c) l) (λ f. or_right (is_left corner left c) (nat_le ahead c) (le-leb ahead c f)) either) w
@@ -203,7 +188,7 @@ module _ {V : Type 0} (w : Pages V) (r : Area) (ahead corner left after b place 
   takes_left = passing_first (λ c. at_cell w c) (is_pending r ahead corner left) (is_pending r ahead corner after) 0 cells a v (omega arith) (omega (arith, below a sheet))
       (tile_cell w corner a t sheet rest.stands stands.0 stands.1 ∙ ap (λ i. slot t i) stands.2 ∙ found.value)
       (pending_from r ahead corner left a (inl a_left) within)
-      (not_true (is_pending r ahead corner after a) (λ q. let p = pending_parts r ahead corner after a q in ⊎_elim
+      (false_from_ne_true (is_pending r ahead corner after a) (λ q. let p = pending_parts r ahead corner after a q in ⊎_elim
       (λ l. let s = left_parts corner after a l in (stays (bit_of a) (bit_small a) s.2).0 stands.2)
       (λ f. before a (omega arith) f p.1)
       p.0))

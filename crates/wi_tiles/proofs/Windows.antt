@@ -1,5 +1,5 @@
 -- What a change of one part, or a part more or less at an end, makes of all paths.
-use Rattle.wi_tiles.proofs.Words.{◌≡◌, ℕ, ◌+◌, ◌-◌, ◌*◌, ◌/◌, ◌%◌, ◌<◌, ◌≤◌, List, [], ◌∷◌, ◌++◌, length, Option, Some, None, sym, ap, arith, ◌∙◌, ⊎_elim, zero, suc, refl, cond, slice_get, slice_set, slice_index_or, ◌==◌, if◌then◌else◌, cases_lt, slice_get_read, le-ltb, ◌≢◌, at_part, part_from, at_window, span}
+use Rattle.wi_tiles.proofs.Words.{◌≡◌, ℕ, ◌+◌, ◌-◌, ◌*◌, ◌/◌, ◌%◌, ◌<◌, ◌≤◌, List, [], ◌∷◌, ◌++◌, length, Option, Some, None, sym, ap, arith, ◌∙◌, ⊎_elim, zero, suc, refl, cond, slice_get, slice_set, slice_index_or, ◌==◌, if◌then◌else◌, cases_lt, slice_get_read, le-ltb, ◌≢◌, at_part, part_from, at_window, span, slice_get_past, got_in_front}
 use borrow.Author.Tests.{lt-ltb}
 use Rattle.wi_tiles.proofs.Digits.{IsDigit, digit_changed, digit_kept}
 use Rattle.wi_tiles.proofs.Outcomes.{some_none}
@@ -17,13 +17,8 @@ part_before f ts i l = ap (λ b. cond b None (slice_get ts (i - f))) (lt-ltb i f
 pub part_read : {S : Type 0} (f : ℕ) (ts : List S) (i place : ℕ) (before : S) → f ≤ i → place ≡ i - f → place < length ts → before ≡ slice_index_or ts place before → part_from (f, ts) i ≡ Some before
 part_read f ts i place before l is h read = part_here f ts i l ∙ ap (λ j. slice_get ts j) (sym is) ∙ slice_get_read ts (length ts) place before (λ _. length ts) h read
 
-pub get_past : {S : Type 0} (ts : List S) (i : ℕ) → length ts ≤ i → slice_get ts i ≡ None
-get_past [] i h = refl
-get_past (t ∷ ts) zero h = absurd (omega arith)
-get_past (t ∷ ts) (suc i) h = get_past ts i (omega arith)
-
 pub part_past : {S : Type 0} (f : ℕ) (ts : List S) (i : ℕ) → f ≤ i → length ts ≤ i - f → part_from (f, ts) i ≡ None
-part_past f ts i l h = part_here f ts i l ∙ get_past ts (i - f) h
+part_past f ts i l h = part_here f ts i l ∙ slice_get_past ts (i - f) h
 
 get_none : {S : Type 0} (ts : List S) (i : ℕ) → slice_get ts i ≡ None → length ts ≤ i
 get_none [] i e = omega arith
@@ -87,11 +82,6 @@ window_up at f ts s nothing p = ⊎_elim
     (cases_lt (p % span) f)
 
 -- and those before the first
-get_front : {S : Type 0} (vs ts : List S) (i : ℕ) → i < length vs → slice_get (vs ++ ts) i ≡ slice_get vs i
-get_front [] ts i l = absurd (omega arith)
-get_front (v ∷ vs) ts zero l = refl
-get_front (v ∷ vs) ts (suc i) l = get_front vs ts i (omega arith)
-
 get_behind : {S : Type 0} (vs ts : List S) (i j : ℕ) → i ≡ length vs + j → slice_get (vs ++ ts) i ≡ slice_get ts j
 get_behind [] ts i j is = ap (λ k. slice_get ts k) (let z : i ≡ j = omega (arith, is) in z)
 get_behind (v ∷ vs) ts zero j is = absurd (omega arith)
@@ -103,7 +93,7 @@ window_before at k f vs ts is nothing p = ⊎_elim below above (cases_lt (p % sp
     below : p % span < f → at_window at (k, vs ++ ts) p ≡ at_window at (f, ts) p
     below l = ⊎_elim
         (λ m. ap (λ x. at_part at x (p / span)) (part_before k (vs ++ ts) (p % span) m ∙ sym (part_before f ts (p % span) l)))
-        (λ m. ap (λ x. at_part at x (p / span)) (part_here k (vs ++ ts) (p % span) m ∙ get_front vs ts (p % span - k) (omega (arith, is, l, m)) ∙ sym (part_here k vs (p % span) m)) ∙ nothing p ∙ sym (ap (λ x. at_part at x (p / span)) (part_before f ts (p % span) l)))
+        (λ m. ap (λ x. at_part at x (p / span)) (part_here k (vs ++ ts) (p % span) m ∙ got_in_front vs ts (p % span - k) (omega (arith, is, l, m)) ∙ sym (part_here k vs (p % span) m)) ∙ nothing p ∙ sym (ap (λ x. at_part at x (p / span)) (part_before f ts (p % span) l)))
         (cases_lt (p % span) k)
 
     above : f ≤ p % span → at_window at (k, vs ++ ts) p ≡ at_window at (f, ts) p
@@ -130,7 +120,7 @@ part_is at ts n x p l read = ap (λ y. at_part at y p) (slice_get_read ts (lengt
 
 -- where no path has anything, no part has
 pub none_have : {S V : Type 0} (at : S → ℕ → Option V) (f : ℕ) (ts : List S) → f + length ts ≤ span → ((p : ℕ) → at_window at (f, ts) p ≡ None) → (i p : ℕ) → at_part at (slice_get ts i) p ≡ None
-none_have at f ts bound nothing i p = ⊎_elim within (λ l. ap (λ x. at_part at x p) (get_past ts i l)) (cases_lt i (length ts))
+none_have at f ts bound nothing i p = ⊎_elim within (λ l. ap (λ x. at_part at x p) (slice_get_past ts i l)) (cases_lt i (length ts))
   where
     within : i < length ts → at_part at (slice_get ts i) p ≡ None
     within l =

@@ -1,4 +1,4 @@
-//! A map by cell address, ordered row by row.
+//! A map by cell address, ordered row by row, and edits of it that can be taken back.
 #![tactic(auto)]
 
 mod band;
@@ -9,10 +9,14 @@ mod masks;
 mod page;
 mod pages;
 mod places;
+mod rooms;
 mod sorted;
 mod tile;
+mod vacant;
 mod window;
 mod within;
 
 pub use cell_map::CellMap;
+pub use rooms::{exchange_all, exchange_back, make_rooms, release};
+pub use vacant::MayBeVacant;
 pub use within::Within;

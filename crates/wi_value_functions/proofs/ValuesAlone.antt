@@ -1,5 +1,5 @@
 -- A function of values gives what it gives for the arguments' values, whether they are those of references or not.
-use Rattle.wi_value_functions.proofs.Words.{◌≡◌, ℕ, zero, suc, List, [], ◌∷◌, refl, ap, map, Argument, value_or, of_one, of_two_or, of_three_or, zero_value, one_value, power_value, not_value, value_value, abs_value, sign_value, quotient_value, mod_value, int_value, round_value, len_value, left_value, right_value, mid_value, concatenate_value, exact_value, find_value, rept_value, Value as AnyValue, Empty, Logical, applied, applied_to_values, arguments_of, passes, Values, Concatenate, Exact, Find, Left, Len, Mid, Rept, Right, ValueFunction, Abs, False, Int, Is, Mod, Na, Not, Power, Quotient, Round, Sign, True}
+use Rattle.wi_value_functions.proofs.Words.{◌≡◌, ℕ, zero, suc, List, [], ◌∷◌, refl, ap, map, Argument, value_or, of_one, of_two_or, of_three_or, zero_value, one_value, power_value, not_value, value_value, abs_value, sign_value, quotient_value, mod_value, int_value, round_value, len_value, left_value, right_value, mid_value, concatenate_value, exact_value, find_value, rept_value, Value as AnyValue, Empty, Logical, applied_to_arguments, applied_to_values, arguments_of, passes, Values, Concatenate, Exact, Find, Left, Len, Mid, Rept, Right, ValueFunction, Abs, False, Int, Is, Mod, Na, Not, Power, Quotient, Round, Sign, True}
 use Rattle.wi_value_functions.specs.declared.function.ValueFunction.TheVariants.{Text, Value}
 
 -- the arguments' values
@@ -32,7 +32,7 @@ three_or default f args = λ i. f (same_or Empty args 0 i) (same_or Empty args 1
 
 -- ---- each function
 
-pub values_alone : (f : ValueFunction) (args : List Argument) → applied (Values f) args ≡ applied_to_values f (values_of args)
+pub values_alone : (f : ValueFunction) (args : List Argument) → applied_to_arguments (Values f) args ≡ applied_to_values f (values_of args)
 values_alone Abs args = one abs_value args
 values_alone False args = refl
 values_alone Int args = one int_value args

@@ -50,7 +50,7 @@ pub use Rattle.wi_standard_functions.specs.Mathematical.{abs_value, mod_value, q
 pub use Rattle.wi_standard_functions.specs.Rounding.{int_value, round_value}
 pub use Rattle.wi_standard_functions.specs.Steps.{and_then, map_until_error, ◌>>=◌}
 pub use Rattle.wi_standard_functions.specs.Text.{at_least, concatenate_value, exact_value, find_value, first_position, left_value, len_value, mid_value, of_chars, rept_value, right_value}
-pub use Rattle.wi_value_functions.specs.Applied.{applied, applied_to_values, arguments_of, passes}
+pub use Rattle.wi_value_functions.specs.Applied.{applied_to_arguments, applied_to_values, arguments_of, passes}
 pub use Rattle.wi_value_functions.specs.Endings.{Gives}
 pub use Rattle.wi_value_functions.specs.Inner.Counts.{IsCut, counted}
 pub use Rattle.wi_value_functions.specs.Inner.Gives.{Agrees, EndsWith}

@@ -35,48 +35,48 @@ passes test.Number v = is_number_value v
 passes test.Text v = is_text_value v
 
 -- what a function gives for the arguments of a call, of which there are as many as it takes
-abbrev pub applied : Function → List Argument → AnyValue
-applied (Lazy If) args = if_value args
-applied (Lazy IfError) args = of_two if_error_value args
-applied (Lazy IfNa) args = of_two if_na_value args
-applied (Lazy Choose) args = choose_value args
-applied (Values Abs) args = of_one abs_value args
-applied (Values False) args = of_none false_value args
-applied (Values Int) args = of_one int_value args
-applied (Values (Is test)) args = of_test (passes test) args
-applied (Values Mod) args = of_two mod_value args
-applied (Values Na) args = of_none na_value args
-applied (Values Not) args = of_one not_value args
-applied (Values Power) args = of_two power_value args
-applied (Values Quotient) args = of_two quotient_value args
-applied (Values (Round mode)) args = of_two_or zero_value (round_value mode) args
-applied (Values Sign) args = of_one sign_value args
-applied (Values True) args = of_none true_value args
-applied (Values Value) args = of_one value_value args
-applied (Values (Text Concatenate)) args = of_values concatenate_value args
-applied (Values (Text Exact)) args = of_two exact_value args
-applied (Values (Text Find)) args = of_three_or one_value find_value args
-applied (Values (Text Left)) args = of_two_or one_value left_value args
-applied (Values (Text Len)) args = of_one len_value args
-applied (Values (Text Mid)) args = of_three mid_value args
-applied (Values (Text Rept)) args = of_two rept_value args
-applied (Values (Text Right)) args = of_two_or one_value right_value args
-applied (References (Fold And)) args = and_value args
-applied (References (Fold Average)) args = average_value args
-applied (References (Fold Count)) args = count_value args
-applied (References (Fold CountA)) args = count_a_value args
-applied (References (Lookup CountIf)) args = count_if_value args
-applied (References (Lookup HLookup)) args = h_lookup_value args
-applied (References (Lookup Index)) args = index_value args
-applied (References (Lookup Match)) args = match_value args
-applied (References (Fold Max)) args = max_value args
-applied (References (Fold Min)) args = min_value args
-applied (References (Fold Or)) args = or_value args
-applied (References (Fold Product)) args = product_value args
-applied (References (Fold Sum)) args = sum_value args
-applied (References (Lookup SumIf)) args = sum_if_value args
-applied (References (Lookup SumProduct)) args = sum_product_value args
-applied (References (Lookup VLookup)) args = v_lookup_value args
+abbrev pub applied_to_arguments : Function → List Argument → AnyValue
+applied_to_arguments (Lazy If) args = if_value args
+applied_to_arguments (Lazy IfError) args = of_two if_error_value args
+applied_to_arguments (Lazy IfNa) args = of_two if_na_value args
+applied_to_arguments (Lazy Choose) args = choose_value args
+applied_to_arguments (Values Abs) args = of_one abs_value args
+applied_to_arguments (Values False) args = of_none false_value args
+applied_to_arguments (Values Int) args = of_one int_value args
+applied_to_arguments (Values (Is test)) args = of_test (passes test) args
+applied_to_arguments (Values Mod) args = of_two mod_value args
+applied_to_arguments (Values Na) args = of_none na_value args
+applied_to_arguments (Values Not) args = of_one not_value args
+applied_to_arguments (Values Power) args = of_two power_value args
+applied_to_arguments (Values Quotient) args = of_two quotient_value args
+applied_to_arguments (Values (Round mode)) args = of_two_or zero_value (round_value mode) args
+applied_to_arguments (Values Sign) args = of_one sign_value args
+applied_to_arguments (Values True) args = of_none true_value args
+applied_to_arguments (Values Value) args = of_one value_value args
+applied_to_arguments (Values (Text Concatenate)) args = of_values concatenate_value args
+applied_to_arguments (Values (Text Exact)) args = of_two exact_value args
+applied_to_arguments (Values (Text Find)) args = of_three_or one_value find_value args
+applied_to_arguments (Values (Text Left)) args = of_two_or one_value left_value args
+applied_to_arguments (Values (Text Len)) args = of_one len_value args
+applied_to_arguments (Values (Text Mid)) args = of_three mid_value args
+applied_to_arguments (Values (Text Rept)) args = of_two rept_value args
+applied_to_arguments (Values (Text Right)) args = of_two_or one_value right_value args
+applied_to_arguments (References (Fold And)) args = and_value args
+applied_to_arguments (References (Fold Average)) args = average_value args
+applied_to_arguments (References (Fold Count)) args = count_value args
+applied_to_arguments (References (Fold CountA)) args = count_a_value args
+applied_to_arguments (References (Lookup CountIf)) args = count_if_value args
+applied_to_arguments (References (Lookup HLookup)) args = h_lookup_value args
+applied_to_arguments (References (Lookup Index)) args = index_value args
+applied_to_arguments (References (Lookup Match)) args = match_value args
+applied_to_arguments (References (Fold Max)) args = max_value args
+applied_to_arguments (References (Fold Min)) args = min_value args
+applied_to_arguments (References (Fold Or)) args = or_value args
+applied_to_arguments (References (Fold Product)) args = product_value args
+applied_to_arguments (References (Fold Sum)) args = sum_value args
+applied_to_arguments (References (Lookup SumIf)) args = sum_if_value args
+applied_to_arguments (References (Lookup SumProduct)) args = sum_product_value args
+applied_to_arguments (References (Lookup VLookup)) args = v_lookup_value args
 
 -- arguments with these values, none of which is a reference
 abbrev pub arguments_of : List AnyValue → List Argument
@@ -84,4 +84,4 @@ arguments_of vs = map (λ v. record { value = v; region = None }) vs
 
 -- what a function of values gives for values; whether they are those of references does not count
 abbrev pub applied_to_values : ValueFunction → List AnyValue → AnyValue
-applied_to_values f vs = applied (Values f) (arguments_of vs)
+applied_to_values f vs = applied_to_arguments (Values f) (arguments_of vs)

@@ -1,9 +1,9 @@
 //! Values taken for numbers and truth values (OpenFormula, "Implicit Conversion Operators").
 
 ghost use Rattle.std.specs.Prelude.{◌≡◌};
-ghost use Rattle.wi_standard_functions.specs.Convert.{to_number, to_whole, to_logical, zero_number, one_number};
 ghost use Rattle.wi_fraction.specs.Rounding.{rounded};
 ghost use Rattle.wi_fraction.specs.declared.rounding.Mode.TheVariants.{Toward};
+ghost use Rattle.wi_standard_functions.specs.Convert.{to_number, to_whole, to_logical, zero_number, one_number};
 
 use wi_fraction::{Fraction, Mode};
 use wi_values::{ErrorKind, Value};

@@ -1,8 +1,8 @@
 //! Why a function ends before its value.
 
 ghost use Rattle.std.specs.Prelude.{◌≡◌, IfOk};
-ghost use Rattle.wi_value_functions.specs.Endings.{settled, Gives};
 ghost use Rattle.wi_values.specs.declared.value.Value.{Value as AnyValue};
+ghost use Rattle.wi_value_functions.specs.Endings.{settled, Gives};
 
 use std::alloc::{AllocError, AllocFailed};
 use wi_values::{Address, ErrorKind, Value};

@@ -3,10 +3,10 @@
 ghost use Rattle.std.specs.Prelude.{◌≡◌, ◌&&◌, nat_le, List, length, map, IfOk, IfErr, IfSome, IfNone, Some, None};
 ghost use Rattle.std.specs.Cmp.Lexicographic.{slice_cmp};
 ghost use Rattle.std.specs.Ordering.{nat_cmp};
+ghost use Rattle.wi_values.specs.declared.value.Value.TheVariants.{Fault};
 ghost use Rattle.wi_standard_functions.specs.Arguments.{Argument};
 ghost use Rattle.wi_standard_functions.specs.Functions.{call_value, function_named, functions, is_not_above};
-ghost use Rattle.wi_values.specs.declared.value.Value.TheVariants.{Fault};
-ghost use Rattle.wi_value_functions.specs.Applied.{applied};
+ghost use Rattle.wi_value_functions.specs.Applied.{applied_to_arguments};
 ghost use Rattle.wi_value_functions.specs.Inner.Rows.{function_of};
 
 use crate::function::FoldFunction::{And, Average, Count, CountA, Max, Min, Or, Product, Sum};
@@ -85,7 +85,7 @@ static ROWS: [Row; 51] = [
 /// the name, else `BadValue` where it doesn't take so many. Six comparisons of names at most.
 pub fn function_for(name: &str, count: usize) -> Result<Function, ErrorKind>
     ensures found { IfOk result (λ f. (args : List Argument) → length args ≡ count
-        → call_value name.now args ≡ applied f args) }
+        → call_value name.now args ≡ applied_to_arguments f args) }
     ensures refused { IfErr result
         (λ e. (args : List Argument) → length args ≡ count → call_value name.now args ≡ Fault e) }
 {

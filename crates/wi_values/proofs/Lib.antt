@@ -4,12 +4,14 @@ pub mod Fields
 pub mod Imports
 pub mod Keys
 pub mod Letters
+pub mod Listed
 pub mod Lists
 pub mod Lookups
 pub mod Order
 pub mod Outcomes
 pub mod ReadsBack
 pub mod Replacements
+pub mod Small
 pub mod Spelling
 pub mod Within
 pub mod Words

@@ -1,5 +1,5 @@
 -- What each element of a list has, what some has, how many there are, and what one more is.
-use Rattle.wi_values.proofs.Words.{◌≡◌, ◌∙◌, ℕ, zero, suc, ◌+◌, ◌<◌, ◌≤◌, Bool, true, false, cond, List, [], ◌∷◌, ◌++◌, length, get_or, take, drop, filter, sum_by, All, refl, sym, ap, arith, or_parts, drop_more, take_more, sum_by-cons, Any, list_any}
+use Rattle.wi_values.proofs.Words.{◌≡◌, ◌∙◌, ℕ, zero, suc, ◌+◌, ◌<◌, ◌≤◌, Bool, true, false, cond, List, [], ◌∷◌, ◌++◌, length, get_or, slice_get, take, drop, filter, sum_by, All, refl, sym, ap, arith, or_parts, drop_more, take_more, sum_by-cons, Any, list_any}
 
 module _ {X : Type 0} where
   -- ---- each and some
@@ -35,6 +35,13 @@ module _ {X : Type 0} where
   pub sum_ones : (xs : List X) → sum_by (λ _. 1) xs ≡ length xs
   sum_ones [] = refl
   sum_ones (x ∷ xs) = let s = sum_by-cons (λ _. 1) x xs in omega (arith, s, sum_ones xs)
+
+  -- ---- what stands in front of others
+
+  pub got_in_front : (xs ys : List X) (i : ℕ) → i < length xs → slice_get (xs ++ ys) i ≡ slice_get xs i
+  got_in_front [] ys i l = absurd (omega arith)
+  got_in_front (x ∷ xs) ys zero l = refl
+  got_in_front (x ∷ xs) ys (suc i) l = got_in_front xs ys i (omega (arith, l))
 
   -- ---- one more
 

@@ -32,8 +32,8 @@ pub record Area : Type 0 where
   pub first : ℕ
   pub last : ℕ
 
-abbrev pub IsOrdered : Area → Type 0
-IsOrdered r = (row_of r.first ≤ row_of r.last) × (column_of r.first ≤ column_of r.last)
+abbrev pub HasCornersInOrder : Area → Type 0
+HasCornersInOrder r = (row_of r.first ≤ row_of r.last) × (column_of r.first ≤ column_of r.last)
 
 -- the rectangle with these corners, in any order
 abbrev pub rect_of : ℕ → ℕ → Area
@@ -47,29 +47,35 @@ is_within r a =
     (nat_le (row_of r.first) (row_of a) && nat_le (row_of a) (row_of r.last))
     && (nat_le (column_of r.first) (column_of a) && nat_le (column_of a) (column_of r.last))
 
-abbrev pub cells_of_row : ℕ → Area → List ℕ
-cells_of_row row r = map (place row) (range_with_len (column_of r.first) ((column_of r.last + 1) - column_of r.first))
-
-abbrev pub rows_in : Area → List ℕ
-rows_in r = range_with_len (row_of r.first) ((row_of r.last + 1) - row_of r.first)
-
--- in row-major order
-abbrev pub cells_of : Area → List ℕ
-cells_of r = flat_map (λ row. cells_of_row row r) (rows_in r)
-
+-- how many rows it has
 abbrev pub height : Area → ℕ
 height r = (row_of r.last + 1) - row_of r.first
 
+-- how many columns it has
 abbrev pub width : Area → ℕ
 width r = (column_of r.last + 1) - column_of r.first
 
+-- its cells in one row, from the left
+abbrev pub cells_of_row : ℕ → Area → List ℕ
+cells_of_row row r = map (place row) (range_with_len (column_of r.first) (width r))
+
+-- the numbers of its rows, from above
+abbrev pub rows_in : Area → List ℕ
+rows_in r = range_with_len (row_of r.first) (height r)
+
+-- all its cells, in row-major order
+abbrev pub cells_of : Area → List ℕ
+cells_of r = flat_map (λ row. cells_of_row row r) (rows_in r)
+
+-- how many cells it has
 abbrev pub size_of : Area → ℕ
 size_of r = height r * width r
 
--- all its cells stand in one column, or in one row
+-- whether all its cells stand in one column
 abbrev pub is_column : Area → Bool
 is_column r = column_of r.first == column_of r.last
 
+-- whether all its cells stand in one row
 abbrev pub is_row : Area → Bool
 is_row r = row_of r.first == row_of r.last
 

@@ -17,13 +17,13 @@ pub struct Rect {
 }
 
 impl Model for Rect {
-    ghost use Rattle.wi_values.specs.Address.{Area, IsOrdered};
+    ghost use Rattle.wi_values.specs.Address.{Area, HasCornersInOrder};
 
     ghost Value = { Area };
 
     ghost view = { λ r. record { first = r.first; last = r.last } };
 
-    ghost invariant = { λ r. IsOrdered (record { first = r.first; last = r.last }) };
+    ghost invariant = { λ r. HasCornersInOrder (record { first = r.first; last = r.last }) };
 
     ghost inverse = { λ a. record { first = a.first; last = a.last } };
 }

@@ -68,7 +68,7 @@ impl Value {
         }
     }
 
-    /// The shown text.
+    /// The shown text. The work, and the memory that it takes, grow with the text.
     pub fn shown(&self, alloc: Global) -> Result<String, AllocError>
         ensures { IfOk result (λ text. string_bytes text ≡ shown_text self.now) }
     {

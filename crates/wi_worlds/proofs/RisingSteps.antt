@@ -1,18 +1,11 @@
 -- Cells in row-major order: a search among them, and one put in.
-use Rattle.wi_worlds.proofs.Words.{◌≡◌, ◌==◌, ◌<◌, ◌≤◌, ◌+◌, ◌-◌, ◌||◌, ℕ, zero, suc, Bool, true, false, List, [], ◌∷◌, length, get_or, Result, Ok, Err, MatchResult, ⊎_elim, refl, sym, ap, ◌∙◌, subst, arith, nat_cmp, is_ok, insert, IsStrictlyIncreasing, IsBinarySearchResult, cases_lt, or_right, nat_tests, length-insert, get_or-insert_below, get_or-insert_at, get_or-insert_above, searched, IsPermutation-insert, list_any-IsPermutation, sorted_from_strictly_increasing, non_decreasing_from_sorted, is_one_of}
+use Rattle.wi_values.proofs.Listed.{has_at}
+use Rattle.wi_worlds.proofs.Words.{◌≡◌, ◌==◌, ◌<◌, ◌≤◌, ◌+◌, ◌-◌, ◌||◌, ℕ, suc, Bool, true, false, List, [], ◌∷◌, length, get_or, Result, Ok, Err, MatchResult, ⊎_elim, refl, sym, ap, ◌∙◌, subst, arith, nat_cmp, is_ok, insert, IsStrictlyIncreasing, IsBinarySearchResult, cases_lt, nat_tests, length-insert, get_or-insert_below, get_or-insert_at, get_or-insert_above, searched, IsPermutation-insert, list_any-IsPermutation, sorted_from_strictly_increasing, non_decreasing_from_sorted, is_one_of}
 
 -- ---- a search
 
-itself : (x c : ℕ) → x ≡ c → (x == c) ≡ true
-itself x c e = grind (arith, nat_tests, e)
-
 other : (x c : ℕ) → (x ≡ c → ⊥) → (x == c) ≡ false
 other x c h = grind (arith, nat_tests, h)
-
-pub has_at : (xs : List ℕ) (i c : ℕ) → i < length xs → get_or xs i 0 ≡ c → is_one_of xs c ≡ true
-has_at [] i c l e = absurd (omega (arith, l))
-has_at (x ∷ xs) zero c l e = ap (λ b. b || is_one_of xs c) (itself x c e)
-has_at (x ∷ xs) (suc i) c l e = or_right _ _ (has_at xs i c (omega (arith, l)) e)
 
 has_nowhere : (xs : List ℕ) (c : ℕ) → ((k : ℕ) → k < length xs → get_or xs k 0 ≡ c → ⊥) → is_one_of xs c ≡ false
 has_nowhere [] c h = refl
@@ -32,7 +25,7 @@ pub search_tells : (xs : List ℕ) (c : ℕ) (r : Result ℕ ℕ) → IsStrictly
 search_tells xs c r order h = by r (searched_in xs c r order h)
   where
     by : (s : Result ℕ ℕ) → Searched xs c s → is_ok s ≡ is_one_of xs c
-    by (Ok i) f = sym (has_at xs i c f.0 f.1)
+    by (Ok i) f = sym (has_at xs i c 0 f.0 f.1)
     by (Err i) f = sym (has_nowhere xs c (λ k l e. ⊎_elim (λ m. omega (arith, f.1 k m, e)) (λ m. omega (arith, f.2 k m l, e)) (cases_lt k i)))
 
 -- ---- one more

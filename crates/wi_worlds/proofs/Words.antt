@@ -1,14 +1,11 @@
 -- The words of the library, of the crates below and of this crate's definitions that its proofs are written in.
-pub use Rattle.std.proofs.Common.{Bool, Err, IfOk, List, MatchResult, None, Ok, Option, Result, Some, [], add-one, ap, arith, cond, drop, false, filter, get_or, if◌then◌else◌, inl, inr, is_some, length, map, nat_eq, refl, rules, subst, suc, sym, take, true, zero, ℕ, ⊎_elim, ◌&&◌, ◌++◌, ◌+◌, ◌-◌, ◌<◌, ◌==◌, ◌||◌, ◌∙◌, ◌∷◌, ◌≡◌, ◌≤◌, ◌⊎◌}
-pub use Rattle.std.proofs.Math.Bool.{or-false}
-pub use Rattle.std.proofs.Math.Seq.{take-suc}
+pub use Rattle.std.proofs.Common.{Bool, Err, IfOk, List, MatchResult, None, Ok, Option, Result, Some, [], ap, arith, cond, drop, false, filter, get_or, if◌then◌else◌, inl, inr, is_some, length, map, nat_eq, refl, rules, subst, suc, sym, take, true, zero, ℕ, ⊎_elim, ◌&&◌, ◌++◌, ◌+◌, ◌-◌, ◌<◌, ◌==◌, ◌||◌, ◌∙◌, ◌∷◌, ◌≡◌, ◌≤◌, ◌⊎◌}
 pub use Rattle.std.proofs.lemmas.Bool.{and_parts, cases_lt, eqb-true, false≢true, ne_eqb, or_cases, or_left, or_right}
 pub use Rattle.std.proofs.lemmas.Bool.Decides.{nat_tests}
 pub use Rattle.std.proofs.lemmas.Cmp.{ranked}
 pub use Rattle.std.proofs.lemmas.Grind.{common_steps}
-pub use Rattle.std.proofs.lemmas.List.{get_or-map, length-map, nil_from_length, take-append-drop}
+pub use Rattle.std.proofs.lemmas.List.{get_or-map, length-map, nil_from_length}
 pub use Rattle.std.proofs.lemmas.List.Edits.{get_or-insert_above, get_or-insert_at, get_or-insert_below, length-insert}
-pub use Rattle.std.proofs.lemmas.List.Folds.{list_any-append}
 pub use Rattle.std.proofs.lemmas.List.Kept.{IsStrictlyIncreasing-filter}
 pub use Rattle.std.proofs.lemmas.List.Sorted.{IsPermutation-insert, answers_always, list_any-IsPermutation, searched}
 pub use Rattle.std.proofs.lemmas.Map.Keys.{below_from_sorted, non_decreasing_from_sorted, sorted_from_strictly_increasing}
@@ -34,5 +31,5 @@ pub use Rattle.wi_values.specs.declared.value.Value.{Value}
 unfoldable pub use Rattle.wi_worlds.specs.Inner.Compared.{digest_of}
 pub use Rattle.wi_worlds.specs.Inner.Picked.{and_then, picked, replacement_at}
 pub use Rattle.wi_values.specs.Address.{is_one_of}
-pub use Rattle.wi_worlds.specs.Reached.{AddsOf, ReachTable, Told, is_of, is_reached_by, reached_by, reached_cells, told, told_cells}
+pub use Rattle.wi_worlds.specs.Reached.{AddsOf, ReachTable, Told, is_of, is_reached_by, reached_by, reached_cells, tells, told_cells}
 pub use Rattle.wi_worlds.specs.Reaching.{cone_has, is_reached}

@@ -14,8 +14,8 @@ abbrev pub told_cells : Told → ℕ → List ℕ
 told_cells es c = unwrap_or (lookup (nat_eq c) es) []
 
 -- c is told to reach a
-abbrev pub told : Told → ℕ → ℕ → Bool
-told es c a = is_one_of (told_cells es c) a
+abbrev pub tells : Told → ℕ → ℕ → Bool
+tells es c a = is_one_of (told_cells es c) a
 
 -- the cells of which it is known which reach them, and what is told
 pub record ReachTable : Type 0 where
@@ -30,7 +30,7 @@ abbrev pub reached_cells : ReachTable → ℕ → List ℕ
 reached_cells t c = told_cells t.reached c
 
 abbrev pub reached_by : ReachTable → ℕ → ℕ → Bool
-reached_by t c a = told t.reached c a
+reached_by t c a = tells t.reached c a
 
 -- c is told to reach the replaced address
 abbrev pub is_reached_by : ReachTable → ℕ → Replacement → Bool
@@ -42,5 +42,5 @@ is_of cells r = is_one_of cells r.at
 
 -- what was told stays, and what came is that one of these cells reaches a
 pub record AddsOf (a : ℕ) (cells : List ℕ) (old new : Told) : Type 0 where
-  pub stays : (c b : ℕ) → told old c b ≡ true → told new c b ≡ true
-  pub within : (c b : ℕ) → told new c b ≡ true → (told old c b ≡ true) ⊎ ((is_one_of cells c ≡ true) × (b ≡ a))
+  pub stays : (c b : ℕ) → tells old c b ≡ true → tells new c b ≡ true
+  pub within : (c b : ℕ) → tells new c b ≡ true → (tells old c b ≡ true) ⊎ ((is_one_of cells c ≡ true) × (b ≡ a))

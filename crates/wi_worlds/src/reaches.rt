@@ -4,7 +4,7 @@ ghost use Rattle.std.specs.Prelude.{◌≡◌, ◌↔◌, ◌==◌, ◌&&◌, �
 ghost use Rattle.std.specs.List.{list_all};
 ghost use Rattle.std.specs.List.Sorted.{IsStrictlyIncreasing};
 ghost use Rattle.wi_values.specs.Address.{is_one_of};
-ghost use Rattle.wi_worlds.specs.Reached.{is_known, reached_by, reached_cells, told, told_cells, AddsOf};
+ghost use Rattle.wi_worlds.specs.Reached.{is_known, reached_by, reached_cells, tells, told_cells, AddsOf};
 ghost use Rattle.wi_worlds.specs.Inner.Shared.{told_in};
 
 use crate::rising::{RisingCells, has_next};
@@ -134,7 +134,7 @@ fn tell(
 ) -> Result<(), AllocError>
     ensures adds { AddsOf at cone.now (told_in reached.old) (told_in reached.new) }
     ensures all { OnOk result ((c : ℕ) → is_one_of cone.now c ≡ true
-        → told (told_in reached.new) c at ≡ true) }
+        → tells (told_in reached.new) c at ≡ true) }
 {
     match reached {
         Some(reached) => put_all(alloc, reached, at, cone),
@@ -156,7 +156,7 @@ fn put_all(
 ) -> Result<(), AllocError>
     ensures adds { AddsOf at cone.now reached.old.entries reached.new.entries }
     ensures all { OnOk result ((c : ℕ) → is_one_of cone.now c ≡ true
-        → told reached.new.entries c at ≡ true) }
+        → tells reached.new.entries c at ≡ true) }
 {
     reached.reserve(cone.len().saturating_sub(reached.len()))?;
     for cell in cone {
@@ -167,10 +167,10 @@ fn put_all(
 
 /// Tells of a cell that it reaches another. If memory runs out, the same is told as before.
 fn put(alloc: Global, reached: &mut Reached, cell: Address, at: Address) -> Result<(), AllocError>
-    ensures ok { OnOk result ((c b : ℕ) → told reached.new.entries c b
-        ≡ ((cell == c && at == b) || told reached.old.entries c b)) }
-    ensures err { OnErr result ((c b : ℕ) → told reached.new.entries c b
-        ≡ told reached.old.entries c b) }
+    ensures ok { OnOk result ((c b : ℕ) → tells reached.new.entries c b
+        ≡ ((cell == c && at == b) || tells reached.old.entries c b)) }
+    ensures err { OnErr result ((c b : ℕ) → tells reached.new.entries c b
+        ≡ tells reached.old.entries c b) }
 {
     if let Some(cells) = reached.get_mut(&cell) {
         return cells.insert(at);

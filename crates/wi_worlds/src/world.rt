@@ -118,7 +118,7 @@ impl World {
         ensures each { IfOk result (λ w.
             (a : ℕ) → replaced w a ≡ option_or (last_for others.now a) (replaced self.now a)) }
     {
-        if is_first(self.replacements(), others) {
+        if is_lone(self.replacements(), others) {
             return World::one(self.alloc, &others[0]);
         }
         self.with_all(others)
@@ -227,8 +227,8 @@ impl World {
     }
 }
 
-/// Whether there is one other replacement, and none before it.
-fn is_first(replacements: &[Replacement], others: &[Replacement]) -> bool
+/// Whether there is one other replacement, and nothing else.
+fn is_lone(replacements: &[Replacement], others: &[Replacement]) -> bool
     ensures { IsTrue result → (replacements.now ≡ []) × (length others.now ≡ 1) }
 {
     replacements.is_empty() && others.len() == 1

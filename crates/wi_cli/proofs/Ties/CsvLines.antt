@@ -1,5 +1,5 @@
 -- Lines that ask for data lines.
-use Rattle.wi_cli.proofs.Vocabulary.{◌≡◌, ℕ, ◌<◌, ◌≤◌, Bool, true, false, nat_lt, [], ◌∷◌, length, ◌⊎◌, inl, inr, Option, Some, None, Err, if◌then◌else◌, refl, sym, ap, ◌∙◌, subst, arith, codes, bytes_eq, nat_tests, bytes_eq-Decides, ltb-false, le-ltb, both_ways, read_address, Shape, without_lf, max_line, first_word, after_word, Bytes, is_all_spaces, CsvLine, csv_of, read_lines, csv_operands, csv_named, csv_text, csv_line, lines_of, Cell, IsAddr, IsSpelled, ANY, LINES, IsWritten, Csv, form, text_of, IsWithin, Asks, read_any, asked}
+use Rattle.wi_cli.proofs.Vocabulary.{◌≡◌, ℕ, ◌<◌, ◌≤◌, Bool, true, false, nat_lt, [], ◌∷◌, length, ◌⊎◌, inl, inr, Option, Some, None, Err, if◌then◌else◌, refl, sym, ap, ◌∙◌, subst, arith, codes, bytes_eq, nat_tests, bytes_eq-Decides, ltb-false, le-ltb, both_ways, read_address, Shape, without_lf, max_line, first_word, after_word, Bytes, is_all_spaces, CsvLine, csv_of, read_lines, csv_operands, csv_named, csv_text, csv_line, lines_of, Cell, IsAddr, IsSpelled, ANY, LINES, IsWritten, Csv, form, line_text, IsWithin, Asks, read_any, asked}
 use Rattle.wi_cli.specs.Laws.{Takes}
 use Rattle.wi_cli.proofs.Ties.Addresses.{same_addr}
 use Rattle.wi_cli.proofs.Ties.OperandsRead.{no_addr, addr_or, lines_read, lines_or, none_behind}
@@ -118,32 +118,32 @@ text_or text =
 too_long : (n : ℕ) → nat_lt max_line n ≡ true → n ≤ max_line → ⊥
 too_long n e h = grind (arith, nat_tests)
 
-pub short_line : (line : Bytes) → nat_lt max_line (length (without_lf line)) ≡ false → csv_line (without_lf line) ≡ csv_text (text_of line)
+pub short_line : (line : Bytes) → nat_lt max_line (length (without_lf line)) ≡ false → csv_line (without_lf line) ≡ csv_text (line_text line)
 unfolding csv_line
-short_line line e = ap (λ (b : Bool). if b then None else csv_text (text_of line)) e
+short_line line e = ap (λ (b : Bool). if b then None else csv_text (line_text line)) e
 
 long_line : (line : Bytes) → nat_lt max_line (length (without_lf line)) ≡ true → csv_line (without_lf line) ≡ None
 unfolding csv_line
-long_line line e = ap (λ (b : Bool). if b then None else csv_text (text_of line)) e
+long_line line e = ap (λ (b : Bool). if b then None else csv_text (line_text line)) e
 
 -- a line that asks for data lines was read as one that does, and one that doesn't asks for none
 pub data AsksOrNot (line : Bytes) : Type 0 where
-  it_asks : (force : Bool) (o : Option Cell) (n : ℕ) → IsWithin line → IsWritten (text_of line) (form (Csv force o n [])) → IsRead force o n (csv_line (without_lf line)) → AsksOrNot line
-  it_asks_none : ((force : Bool) (o : Option Cell) (n : ℕ) → IsWithin line → IsWritten (text_of line) (form (Csv force o n [])) → ⊥) → csv_line (without_lf line) ≡ None → AsksOrNot line
+  it_asks : (force : Bool) (o : Option Cell) (n : ℕ) → IsWithin line → IsWritten (line_text line) (form (Csv force o n [])) → IsRead force o n (csv_line (without_lf line)) → AsksOrNot line
+  it_asks_none : ((force : Bool) (o : Option Cell) (n : ℕ) → IsWithin line → IsWritten (line_text line) (form (Csv force o n [])) → ⊥) → csv_line (without_lf line) ≡ None → AsksOrNot line
 
 pub asks_or_not : (line : Bytes) → AsksOrNot line
-asks_or_not line = by (nat_lt max_line (length (without_lf line))) refl (text_or (text_of line))
+asks_or_not line = by (nat_lt max_line (length (without_lf line))) refl (text_or (line_text line))
   where
-    by : (b : Bool) → nat_lt max_line (length (without_lf line)) ≡ b → TextReads (text_of line) → AsksOrNot line
+    by : (b : Bool) → nat_lt max_line (length (without_lf line)) ≡ b → TextReads (line_text line) → AsksOrNot line
     by true e k = it_asks_none (λ force o n within h. too_long _ e within) (long_line line e)
     by false e (inr bad) = it_asks_none (λ force o n within h. bad.0 force o n h) (short_line line e ∙ bad.1)
     by false e (inl f) =
-        let r = text_read (text_of line) f.0 f.1 f.2 f.3 in
+        let r = text_read (line_text line) f.0 f.1 f.2 f.3 in
         it_asks f.0 f.1 f.2 (ltb-false _ _ e) f.3 (r.0, short_line line e ∙ r.1, r.2)
 
 pub asked_is : (line : Bytes) (n : ℕ) → Asks line n → asked line ≡ n
 asked_is line n h =
-    let r = text_read (text_of line) h.1.0 h.1.1 n h.1.2 in
+    let r = text_read (line_text line) h.1.0 h.1.1 n h.1.2 in
     ap lines_of (short_line line (le-ltb _ _ h.0) ∙ r.1)
 
 pub takes : (line : Bytes) → Takes line (asked line)
@@ -152,7 +152,7 @@ takes line = by (asks_or_not line)
     by : AsksOrNot line → Takes line (asked line)
     by (it_asks force o n within h r) =
         let same : asked line ≡ n = ap lines_of r.1 in
-        inl (within, (force, o, subst (λ (k : ℕ). IsWritten (text_of line) (form (Csv force o k []))) (sym same) h))
+        inl (within, (force, o, subst (λ (k : ℕ). IsWritten (line_text line) (form (Csv force o k []))) (sym same) h))
     by (it_asks_none nothing e) = inr (ap lines_of e, λ k h. nothing h.1.0 h.1.1 k h.0 h.1.2)
 
 pub asks : (line : Bytes) (k : ℕ) → k < asked line → Asks line (asked line)

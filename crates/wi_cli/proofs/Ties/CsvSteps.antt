@@ -1,5 +1,5 @@
 -- The step of `csv`.
-use Rattle.wi_cli.proofs.Vocabulary.{◌≡◌, ◌<◌, ◌-◌, ℕ, Bool, true, false, ◌==◌, ◌||◌, nat_lt, List, [], ◌∷◌, length, ◌⊎◌, inl, inr, Option, Some, None, Ok, Err, refl, sym, ap, ap₂, ◌∙◌, subst, arith, list_any, concat, slice_index_or, Any, All, nat_tests, get_or_default, both_ways, Any-from_list_any, list_any-from_Any, ImportFault, recs, Field, IsInside, fields_from, fields_at, areas_from, areas_at, IsText, IsTooLong, AreChanges, IsFault, bad_field, too_long, out_of_sheet, IsImport, some_import, State, max_area, no_cause, edit_answer, csv_answer, ImportOutcome, row_of_place, column_of_place, Any-weaker, max_line, without_lf, Bytes, is_long, csv_command, Cell, is_outside, address, Command, Csv, form, Put, Puts, after_edit, fields, Cause, BadLine, BadCommand, CutShort, Outside, TooLarge, NoScenario, BadField, TooLong, OutOfSheet, NumberRange, TooDeep, Syntax, LeavesSheet, Stale, Full, EditLimit, Holds, lies_outside, is_missing, size, Does, Answer, IsStep, causes, IsFirstOf, SameStep, read_any}
+use Rattle.wi_cli.proofs.Vocabulary.{◌≡◌, ◌<◌, ◌-◌, ℕ, Bool, true, false, ◌==◌, nat_lt, List, [], ◌∷◌, length, ◌⊎◌, inl, inr, Option, Some, None, Ok, Err, refl, sym, ap, ap₂, ◌∙◌, subst, arith, list_any, concat, slice_index_or, Any, All, nat_tests, get_or_default, both_ways, Any-from_list_any, list_any-from_Any, ImportFault, recs, Field, IsInside, fields_from, fields_at, areas_from, record_areas_at, IsText, IsTooLong, AreChanges, IsFault, bad_field, too_long, out_of_sheet, IsImport, some_import, State, max_area, no_cause, edit_answer, csv_answer, ImportOutcome, row_of_place, column_of_place, Any-weaker, max_line, without_lf, Bytes, is_long, csv_command, Cell, is_outside, address, Command, Csv, form, Put, Puts, after_edit, fields, Cause, BadLine, BadCommand, CutShort, Outside, TooLarge, NoScenario, BadField, TooLong, OutOfSheet, NumberRange, TooDeep, Syntax, LeavesSheet, Stale, Full, EditLimit, Holds, lies_outside, is_missing, size, Does, Answer, IsStep, causes, IsFirstOf, SameStep, read_any, or-false}
 use Rattle.wi_import.specs.declared.fault.ImportFault.TheVariants as import
 use Rattle.wi_import.proofs.ImportLemmas.{no_other}
 use Rattle.wi_scenarios.specs.declared.refusal.Refusal.TheVariants as refusal
@@ -66,16 +66,8 @@ module _ (s : State) (force : Bool) (c : Cell) (n : ℕ) (lines : List Bytes) wh
   text = concat lines
 
   outside_is : (b : Bool) → list_any lies_outside (form (Csv b (Some c) n lines)) ≡ is_outside c
-  outside_is true = by (is_outside c)
-    where
-      by : (b : Bool) → (b || false) ≡ b
-      by true = refl
-      by false = refl
-  outside_is false = by (is_outside c)
-    where
-      by : (b : Bool) → (b || false) ≡ b
-      by true = refl
-      by false = refl
+  outside_is true = or-false (is_outside c)
+  outside_is false = or-false (is_outside c)
 
   small : (b : Bool) → max_area < size (form (Csv b (Some c) n lines)) → ⊥
   small true h = omega (arith, h)
@@ -106,7 +98,7 @@ module _ (s : State) (force : Bool) (c : Cell) (n : ℕ) (lines : List Bytes) wh
         same_fields : fields_at (address c) text ≡ fields c lines
         same_fields = ap₂ (λ (i j : ℕ). fields_from i j (recs text)) (row_of_place c.row c.column (inside c o)) (column_of_place c.row c.column (inside c o))
 
-        same_areas : areas_from c.row c.column (recs text) ≡ areas_at (address c) text
+        same_areas : areas_from c.row c.column (recs text) ≡ record_areas_at (address c) text
         same_areas = ap₂ (λ (i j : ℕ). areas_from i j (recs text)) (sym (row_of_place c.row c.column (inside c o))) (sym (column_of_place c.row c.column (inside c o)))
 
         abbrev behind : List Cause
@@ -153,8 +145,8 @@ module _ (s : State) (force : Bool) (c : Cell) (n : ℕ) (lines : List Bytes) wh
           only EditLimit h = inr (inr h)
           only x h = absurd h
 
-          importing : IsStep s csv (edit_answer s force no_cause (record { named = areas_at (address c) text; contents = puts }))
-          importing = edit_step s csv force (areas_at (address c) text) puts are one_put refl same_areas (λ h. h) later only (λ d h. h)
+          importing : IsStep s csv (edit_answer s force no_cause (record { named = record_areas_at (address c) text; contents = puts }))
+          importing = edit_step s csv force (record_areas_at (address c) text) puts are one_put refl same_areas (λ h. h) later only (λ d h. h)
 
         fault_is : (e : ImportFault) → IsFault (fields c lines) e → IsStep s csv (csv_answer s force (address c) text (Err e))
         fault_is e (bad_field fs h) = (BadField, front BadField (inl (h, refl)), refl)

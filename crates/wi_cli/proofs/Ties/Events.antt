@@ -1,5 +1,5 @@
 -- What holds of commands one after another, by the laws over the calls of a workbook.
-use Rattle.wi_cli.proofs.Vocabulary.{◌≡◌, ◌≢◌, ◌↔◌, ◌==◌, ◌-◌, ◌&&◌, ◌++◌, ◌⊎◌, inl, inr, ℕ, Bool, true, false, cond, List, [], ◌∷◌, length, map, Option, Some, None, Result, Ok, Err, refl, sym, ap, ap₂, ◌∙◌, subst, append-nil, list_any, list_all, concat, result_err, and_parts, both_ways, false≢true, append_cancel_left, none-some, Area, AddressFault, Shape, Value, Entry, value_in, Refusal, State, session_at, shown_to, change_list, left_by, IsCoherent, with_lists, unseen, IsFirstNewer, counts_before, is_refused_before, stale_exactly, refused_so, records_tell_list, of_operand, worse, line_fault, is_column, is_row, fill_command_of, unless_refused, table_of_one, table_of_two, is_long, csv_command, Bytes, Command, Set, Clear, Fill, Csv, Scenario, Drop, Base, Use, As, Show, Export, Compare, Table, Formula, Changes, Unknown, Unreadable, named, is_forced, Cause, BadLine, BadCommand, CutShort, Outside, TooLarge, NoScenario, InUse, TooMany, BadField, TooLong, OutOfSheet, NumberRange, TooDeep, Syntax, LeavesSheet, Stale, Loop, Full, EditLimit, Holds, stale_cell, Does, Answer, Tells, IsStep, causes, IsFirstOf, was, read_cell, read_corners, read_any, Event, MayHappen, MayFollow, state_after, StaysCoherent, KeepsApart, is_accepted_changes, is_told, lists_told, last_shown, ListsAddUp, RecordsTellList, logged_by, edits_in, edits_since, LogGrows, StaleIsNewer, ForcedIsNotStale}
+use Rattle.wi_cli.proofs.Vocabulary.{◌≡◌, ◌≢◌, ◌↔◌, ◌==◌, ◌-◌, ◌&&◌, ◌++◌, ◌⊎◌, inl, inr, ℕ, Bool, true, false, cond, List, [], ◌∷◌, length, map, Option, Some, None, Result, Ok, Err, refl, sym, ap, ap₂, ◌∙◌, subst, append-nil, list_any, list_all, concat, result_err, and_parts, both_ways, false≢true, append_cancel_left, none-some, Area, AddressFault, Shape, Value, Entry, value_in, Refusal, State, session_at, shown_to, change_list, left_by, IsCoherent, with_lists, unseen, IsFirstNewer, counts_before, is_refused_before, stale_exactly, refused_so, records_tell_list, of_operand, worse, line_fault, is_column, is_row, fill_command_of, unless_refused, table_of_one, table_of_two, is_long, csv_command, Bytes, Command, Set, Clear, Fill, Csv, Scenario, Drop, Base, Use, As, Show, Export, Compare, Table, Formula, Changes, Unknown, Unreadable, named, is_forced, Cause, BadLine, BadCommand, CutShort, Outside, TooLarge, NoScenario, InUse, TooMany, BadField, TooLong, OutOfSheet, NumberRange, TooDeep, Syntax, LeavesSheet, Stale, Loop, Full, EditLimit, Holds, stale_cell, Does, Answer, Tells, IsStep, causes, IsFirstOf, was, read_cell, read_area, read_any, Event, MayHappen, MayFollow, state_after, StaysCoherent, KeepsApart, is_accepted_changes, is_told, lists_told, last_shown, ListsAddUp, RecordsTellList, logged_by, edits_in, edits_since, LogGrows, StaleIsNewer, ForcedIsNotStale}
 use Rattle.wi_values.specs.declared.address.AddressFault.TheVariants.{Outside as AtOutside}
 use Rattle.wi_scenarios.specs.declared.refusal.Refusal.TheVariants as refusal
 use Rattle.wi_scenarios.specs.Step as old
@@ -20,7 +20,7 @@ happens : (s : State) (e : Event) → MayHappen s e → laws.MayHappen s (as_was
 happens s e (inl h) = inl ((same_step s e.command e.answer).1 h)
 happens s e (inr h) = inr h
 
-follow : (s : State) (es : List Event) → MayFollow s es → laws.IsRun s (were es)
+follow : (s : State) (es : List Event) → MayFollow s es → laws.MayFollow s (were es)
 follow s [] h = h
 follow s (e ∷ es) h = (happens s e h.0, follow (left_by s e.answer) es h.1)
 
@@ -96,19 +96,19 @@ module _ (done : State × Bytes) where
   told_by : (c : Command) → laws.is_accepted_changes (Ok done) (was c) ≡ is_accepted_changes (Ok done) c
   told_by (Set force at text) =
       by_set (length text == 0) (of_operand (read_cell at) (λ a. old.Set force a text)) (by_operand (read_cell at) (λ a. old.Set force a text) (λ x. refl))
-  told_by (Clear force rect) = by_operand (read_corners rect) (λ r. old.Clear force r) (λ x. refl)
-  told_by (Fill force at rect) = by_fill force (read_cell at) (read_corners rect)
+  told_by (Clear force rect) = by_operand (read_area rect) (λ r. old.Clear force r) (λ x. refl)
+  told_by (Fill force at rect) = by_fill force (read_cell at) (read_area rect)
   told_by (Csv force at n lines) = by_csv force (read_any at) lines (n - length lines)
   told_by (Scenario name at text) = by_operand (read_cell at) (λ a. old.Scenario name a text) (λ x. refl)
   told_by (Drop name) = refl
   told_by (Base name other) = refl
   told_by (Use name) = refl
   told_by (As name) = refl
-  told_by (Show rect) = by_operand (read_corners rect) (λ r. old.Show r) (λ x. refl)
-  told_by (Export rect) = by_operand (read_corners rect) (λ r. old.Export r) (λ x. refl)
-  told_by (Compare p q rect) = by_operand (read_corners rect) (λ r. old.Compare p q r) (λ x. refl)
-  told_by (Table f r xs None) = by_one (read_cell f) (read_cell r) (read_corners xs)
-  told_by (Table f r xs (Some y)) = by_two (read_cell f) (read_cell r) (read_corners xs) (read_cell y.0) (read_corners y.1)
+  told_by (Show rect) = by_operand (read_area rect) (λ r. old.Show r) (λ x. refl)
+  told_by (Export rect) = by_operand (read_area rect) (λ r. old.Export r) (λ x. refl)
+  told_by (Compare p q rect) = by_operand (read_area rect) (λ r. old.Compare p q r) (λ x. refl)
+  told_by (Table f r xs None) = by_one (read_cell f) (read_cell r) (read_area xs)
+  told_by (Table f r xs (Some y)) = by_two (read_cell f) (read_cell r) (read_area xs) (read_cell y.0) (read_area y.1)
   told_by (Formula at) = by_operand (read_cell at) (λ a. old.Formula a) (λ x. refl)
   told_by Changes = refl
   told_by Unknown = refl

@@ -1,5 +1,5 @@
 -- For each name the operands that are spelled behind it, and the command that was read there.
-use Rattle.wi_cli.proofs.Vocabulary.{◌≡◌, ℕ, Bool, true, false, ◌==◌, ◌||◌, List, [], ◌∷◌, length, ◌⊎◌, inl, inr, Option, Some, None, Result, Ok, Err, option_map, if◌then◌else◌, refl, sym, ap, ap₂, ◌∙◌, result_err, both_ways, Area, read_address, read_rect, is_name, read_name, AddressFault, Shape, first_word, after_word, Bytes, at_end, of_operand, of_name, only_name, name_or_none, read_side, line_fault, is_column, is_row, is_all_spaces, set_command, fill_command, fill_command_of, scenario_command, base_command, use_command, changes_command, compare_command, formula_command, table_command, table_of_one, table_of_two, Cell, Corners, Operand, ADDR, RECT, NAME, SIDE, CONTENT, IsAddr, IsRect, IsSpelled, IsWritten, Set, Fill, Scenario, Base, Use, Compare, Table, Formula, Changes, was, read_cell, read_corners}
+use Rattle.wi_cli.proofs.Vocabulary.{◌≡◌, ℕ, Bool, true, false, ◌==◌, ◌||◌, List, [], ◌∷◌, length, ◌⊎◌, inl, inr, Option, Some, None, Result, Ok, Err, option_map, if◌then◌else◌, refl, sym, ap, ap₂, ◌∙◌, result_err, both_ways, Area, read_address, read_rect, is_name, read_name, AddressFault, Shape, first_word, after_word, Bytes, at_end, of_operand, of_name, only_name, name_or_none, read_side, line_fault, is_column, is_row, is_all_spaces, set_command, fill_command, fill_command_of, scenario_command, base_command, use_command, changes_command, compare_command, formula_command, table_command, table_of_one, table_of_two, Cell, Corners, Operand, ADDR, RECT, NAME, SIDE, CONTENT, IsAddr, IsRect, IsSpelled, IsWritten, Set, Fill, Scenario, Base, Use, Compare, Table, Formula, Changes, was, read_cell, read_area}
 use Rattle.wi_values.specs.declared.address.AddressFault.TheVariants.{Outside}
 use Rattle.wi_scenarios.specs.declared.refusal.Refusal.TheVariants as refusal
 use Rattle.wi_scenarios.specs.Step as old
@@ -27,7 +27,7 @@ module _ (command : Area → old.Command) where
   abbrev rect_was : Bytes → old.Command
   rect_was text = at_end (after_word text) (of_operand (read_rect (first_word text)) command)
 
-  pub same_rect_end : (text : Bytes) (r : Corners) → IsWritten text (RECT r ∷ []) → rect_was text ≡ of_operand (read_corners r) command
+  pub same_rect_end : (text : Bytes) (r : Corners) → IsWritten text (RECT r ∷ []) → rect_was text ≡ of_operand (read_area r) command
   same_rect_end text r h =
       end_true (after_word text) (of_operand (read_rect (first_word text)) command) h.1
       ∙ ap (λ (x : Result Area AddressFault). of_operand x command) ((same_rect (first_word text)).spelled r h.0)
@@ -352,7 +352,7 @@ module _ (text : Bytes) where
       ((same_addr (first_word text)).spelled f h.0)
       ∙ ap₂ (λ (x : Result ℕ AddressFault) (z : Result Area AddressFault). table_of_two (read_cell f) x z (read_address (first_word more)) (read_rect (first_word (after_word more))))
       ((same_addr second_word).spelled r h.1.0) ((same_rect third_word).spelled xs h.1.1.0)
-      ∙ ap₂ (table_of_two (read_cell f) (read_cell r) (read_corners xs)) ((same_addr (first_word more)).spelled y.0 h.1.1.1.0) ((same_rect (first_word (after_word more))).spelled y.1 h.1.1.1.1.0)
+      ∙ ap₂ (table_of_two (read_cell f) (read_cell r) (read_area xs)) ((same_addr (first_word more)).spelled y.0 h.1.1.1.0) ((same_rect (first_word (after_word more))).spelled y.1 h.1.1.1.1.0)
     where
       not_more : (b : Bool) → is_all_spaces more ≡ b → is_all_spaces more ≡ false
       not_more b e = e ∙ not_spaces more y.0 h.1.1.1.0 b e

@@ -1,5 +1,5 @@
 -- The commands of lines are those that they had.
-use Rattle.wi_cli.proofs.Vocabulary.{◌≡◌, ℕ, suc, zero, ◌-◌, ◌<◌, Bool, true, false, not, ◌==◌, ◌||◌, nat_lt, cond, List, [], ◌∷◌, ◌++◌, length, map, take, filter, filter_map, Option, Some, None, option_map, Result, ◌⊎◌, inl, inr, if◌then◌else◌, refl, sym, ap, ap₂, ◌∙◌, subst, arith, list_all, cons_option, byte, is_utf8, nat_tests, IsUtf8-from_is_utf8, is_utf8-from_IsUtf8, or_parts, not-false, ltb-false, le-ltb, both_ways, nil_from_length, or-true, or-false, read_address, AddressFault, raw_lines, onto_first, without_lf, is_whole, max_line, is_space, Bytes, is_all_spaces, CsvLine, csv_line, csv_command, Block, lines_of, blocks, is_complete, is_comment, text_command, line_command, command_with, block_command, spelled_command, whole_lines, Cell, IsWritten, Command, Csv, Unknown, Unreadable, form, text_of, IsWithin, IsGood, Asks, is_passed_over, IsCommand, was, read_any, asked, block, Splits, none, a_line, cut_short, before, HasCommands}
+use Rattle.wi_cli.proofs.Vocabulary.{◌≡◌, ℕ, suc, zero, ◌-◌, ◌<◌, Bool, true, false, not, ◌==◌, ◌||◌, nat_lt, cond, List, [], ◌∷◌, ◌++◌, length, map, take, filter, filter_map, Option, Some, None, option_map, Result, ◌⊎◌, inl, inr, if◌then◌else◌, refl, sym, ap, ap₂, ◌∙◌, subst, arith, list_all, cons_option, byte, is_utf8, nat_tests, IsUtf8-from_is_utf8, is_utf8-from_IsUtf8, or_parts, not-false, ltb-false, le-ltb, both_ways, nil_from_length, or-true, or-false, read_address, AddressFault, raw_lines, onto_first, without_lf, is_whole, max_line, is_space, Bytes, is_all_spaces, CsvLine, csv_line, csv_command, Block, lines_of, blocks, is_complete, is_comment, text_command, line_command, command_with, block_command, spelled_command, whole_lines, Cell, IsWritten, Command, Csv, Unknown, Unreadable, form, line_text, IsWithin, IsGood, Asks, is_passed_over, IsCommand, was, read_any, asked, block, Splits, none, a_line, cut_short, before, HasCommands}
 use Rattle.std.proofs.Common.{option_to_list}
 use Rattle.wi_scenarios.specs.declared.refusal.Refusal.TheVariants as refusal
 use Rattle.wi_scenarios.specs.Step as old
@@ -28,24 +28,24 @@ text_is text b e = ap (λ (v : Bool). if v then None else Some (spelled_command 
 
 -- ---- a line
 
-pub line_is : (line : Bytes) (b : Bool) → (nat_lt max_line (length (without_lf line)) || not (is_utf8 (text_of line))) ≡ b
-    → line_command (without_lf line) ≡ (if b then Some (old.Refused refusal.BadLine) else text_command (text_of line))
+pub line_is : (line : Bytes) (b : Bool) → (nat_lt max_line (length (without_lf line)) || not (is_utf8 (line_text line))) ≡ b
+    → line_command (without_lf line) ≡ (if b then Some (old.Refused refusal.BadLine) else text_command (line_text line))
 unfolding line_command
-line_is line b e = ap (λ (v : Bool). if v then Some (old.Refused refusal.BadLine) else text_command (text_of line)) e
+line_is line b e = ap (λ (v : Bool). if v then Some (old.Refused refusal.BadLine) else text_command (line_text line)) e
 
-pub good : (line : Bytes) → (nat_lt max_line (length (without_lf line)) || not (is_utf8 (text_of line))) ≡ false → IsGood line
-good line e = (ltb-false _ _ (or_parts _ _ e).0, IsUtf8-from_is_utf8 (text_of line) (not-false _ (or_parts _ _ e).1))
+pub good : (line : Bytes) → (nat_lt max_line (length (without_lf line)) || not (is_utf8 (line_text line))) ≡ false → IsGood line
+good line e = (ltb-false _ _ (or_parts _ _ e).0, IsUtf8-from_is_utf8 (line_text line) (not-false _ (or_parts _ _ e).1))
 
-pub good_is : (line : Bytes) → IsGood line → (nat_lt max_line (length (without_lf line)) || not (is_utf8 (text_of line))) ≡ false
+pub good_is : (line : Bytes) → IsGood line → (nat_lt max_line (length (without_lf line)) || not (is_utf8 (line_text line))) ≡ false
 good_is line h =
     let long : nat_lt max_line (length (without_lf line)) ≡ false = le-ltb _ _ h.0 in
-    let text : is_utf8 (text_of line) ≡ true = is_utf8-from_IsUtf8 (text_of line) h.1 in
+    let text : is_utf8 (line_text line) ≡ true = is_utf8-from_IsUtf8 (line_text line) h.1 in
     ap₂ ◌||◌ long (ap not text)
 
-not_good : (line : Bytes) → (nat_lt max_line (length (without_lf line)) || not (is_utf8 (text_of line))) ≡ true → IsGood line → ⊥
+not_good : (line : Bytes) → (nat_lt max_line (length (without_lf line)) || not (is_utf8 (line_text line))) ≡ true → IsGood line → ⊥
 not_good line e h = both_ways _ (good_is line h) e
 
-as_command : (line : Bytes) (taken : List Bytes) (c : Command) → is_plain c ≡ true → IsGood line → IsWritten (text_of line) (form c) → taken ≡ [] → IsCommand line taken (Some c)
+as_command : (line : Bytes) (taken : List Bytes) (c : Command) → is_plain c ≡ true → IsGood line → IsWritten (line_text line) (form c) → taken ≡ [] → IsCommand line taken (Some c)
 as_command line taken (Csv force at n lines) p g h e = absurd (both_ways false refl p)
 as_command line taken Unknown p g h e = absurd (both_ways false refl p)
 as_command line taken Unreadable p g h e = absurd (both_ways false refl p)
@@ -56,7 +56,7 @@ pub plain_line : (line : Bytes) (taken : List Bytes) → csv_line (without_lf li
 plain_line line taken e = ap (λ (x : Option CsvLine). command_with x (block line taken)) e
 
 -- one that does, by what it was read as
-pub csv_line_is : (line : Bytes) (taken : List Bytes) (force : Bool) (o : Option Cell) (n : ℕ) → IsRead force o n (csv_line (without_lf line)) → (b : Bool) → is_utf8 (text_of line) ≡ b
+pub csv_line_is : (line : Bytes) (taken : List Bytes) (force : Bool) (o : Option Cell) (n : ℕ) → IsRead force o n (csv_line (without_lf line)) → (b : Bool) → is_utf8 (line_text line) ≡ b
     → block_command (block line taken) ≡ Some (if b then csv_command force (read_any o) taken (n - length taken) else old.Refused refusal.BadLine)
 csv_line_is line taken force o n r b e =
     let many : asked line ≡ n = ap lines_of r.1 in
@@ -70,32 +70,32 @@ HasCommand line taken = (o : Option Command) × IsCommand line taken o × (block
 
 module _ (line : Bytes) (taken : List Bytes) where
   -- a line that asks for data lines
-  csv_has : (force : Bool) (o : Option Cell) (n : ℕ) → IsWithin line → IsWritten (text_of line) (form (Csv force o n [])) → IsRead force o n (csv_line (without_lf line)) → HasCommand line taken
-  csv_has force o n within h r = by (is_utf8 (text_of line)) refl
+  csv_has : (force : Bool) (o : Option Cell) (n : ℕ) → IsWithin line → IsWritten (line_text line) (form (Csv force o n [])) → IsRead force o n (csv_line (without_lf line)) → HasCommand line taken
+  csv_has force o n within h r = by (is_utf8 (line_text line)) refl
     where
-      by : (b : Bool) → is_utf8 (text_of line) ≡ b → HasCommand line taken
-      by true e = (Some (Csv force o n taken), ((within, IsUtf8-from_is_utf8 (text_of line) e), h, refl), csv_line_is line taken force o n r true e)
-      by false e = (Some Unreadable, (λ g. both_ways _ e (is_utf8-from_IsUtf8 (text_of line) g.1)), csv_line_is line taken force o n r false e)
+      by : (b : Bool) → is_utf8 (line_text line) ≡ b → HasCommand line taken
+      by true e = (Some (Csv force o n taken), ((within, IsUtf8-from_is_utf8 (line_text line) e), h, refl), csv_line_is line taken force o n r true e)
+      by false e = (Some Unreadable, (λ g. both_ways _ e (is_utf8-from_IsUtf8 (line_text line) g.1)), csv_line_is line taken force o n r false e)
 
-  module _ (no_csv : (force : Bool) (o : Option Cell) (n : ℕ) → IsWithin line → IsWritten (text_of line) (form (Csv force o n [])) → ⊥)
+  module _ (no_csv : (force : Bool) (o : Option Cell) (n : ℕ) → IsWithin line → IsWritten (line_text line) (form (Csv force o n [])) → ⊥)
       (plain : csv_line (without_lf line) ≡ None) (fits : taken ≡ []) where
-    no_form : (g : IsGood line) → is_passed_over (text_of line) ≡ false → ((c : Command) → is_plain c ≡ true → IsWritten (text_of line) (form c) → ⊥) → (c : Command) → IsWritten (text_of line) (form c) → ⊥
+    no_form : (g : IsGood line) → is_passed_over (line_text line) ≡ false → ((c : Command) → is_plain c ≡ true → IsWritten (line_text line) (form c) → ⊥) → (c : Command) → IsWritten (line_text line) (form c) → ⊥
     no_form g p plain_none (Csv force o n lines) h = no_csv force o n g.0 h
-    no_form g p plain_none Unknown h = both_ways _ p (spaces_pass (text_of line) h)
-    no_form g p plain_none Unreadable h = both_ways _ p (spaces_pass (text_of line) h)
+    no_form g p plain_none Unknown h = both_ways _ p (spaces_pass (line_text line) h)
+    no_form g p plain_none Unreadable h = both_ways _ p (spaces_pass (line_text line) h)
     no_form g p plain_none c h = plain_none c refl h
 
-    text_has : IsGood line → is_passed_over (text_of line) ≡ false → block_command (block line taken) ≡ Some (spelled_command (text_of line)) → Reads (text_of line) → HasCommand line taken
-    text_has g p e (spells c is h) = (Some c, as_command line taken c is g h fits, e ∙ ap (λ (x : old.Command). Some x) (same_form (text_of line) c is h))
-    text_has g p e (spells_none nothing bad) = (Some Unknown, (g, p, no_form g p (none_written (text_of line) nothing)), e ∙ ap (λ (x : old.Command). Some x) bad)
+    text_has : IsGood line → is_passed_over (line_text line) ≡ false → block_command (block line taken) ≡ Some (spelled_command (line_text line)) → Reads (line_text line) → HasCommand line taken
+    text_has g p e (spells c is h) = (Some c, as_command line taken c is g h fits, e ∙ ap (λ (x : old.Command). Some x) (same_form (line_text line) c is h))
+    text_has g p e (spells_none nothing bad) = (Some Unknown, (g, p, no_form g p (none_written (line_text line) nothing)), e ∙ ap (λ (x : old.Command). Some x) bad)
 
-    by_line : (b : Bool) → (nat_lt max_line (length (without_lf line)) || not (is_utf8 (text_of line))) ≡ b → (p : Bool) → is_passed_over (text_of line) ≡ p → HasCommand line taken
+    by_line : (b : Bool) → (nat_lt max_line (length (without_lf line)) || not (is_utf8 (line_text line))) ≡ b → (p : Bool) → is_passed_over (line_text line) ≡ p → HasCommand line taken
     by_line true e p f = (Some Unreadable, not_good line e, plain_line line taken plain ∙ line_is line true e)
-    by_line false e true f = (None, (good line e, f), plain_line line taken plain ∙ line_is line false e ∙ text_is (text_of line) true f)
-    by_line false e false f = text_has (good line e) f (plain_line line taken plain ∙ line_is line false e ∙ text_is (text_of line) false f) (reads (text_of line))
+    by_line false e true f = (None, (good line e, f), plain_line line taken plain ∙ line_is line false e ∙ text_is (line_text line) true f)
+    by_line false e false f = text_has (good line e) f (plain_line line taken plain ∙ line_is line false e ∙ text_is (line_text line) false f) (reads (line_text line))
 
     line_has : HasCommand line taken
-    line_has = by_line (nat_lt max_line (length (without_lf line)) || not (is_utf8 (text_of line))) refl (is_passed_over (text_of line)) refl
+    line_has = by_line (nat_lt max_line (length (without_lf line)) || not (is_utf8 (line_text line))) refl (is_passed_over (line_text line)) refl
 
   pub has_command : (csv_line (without_lf line) ≡ None → taken ≡ []) → HasCommand line taken
   has_command fits = by (asks_or_not line)

@@ -1,5 +1,5 @@
 -- Lines have no other commands than those that they had.
-use Rattle.wi_cli.proofs.Vocabulary.{◌≡◌, ℕ, suc, ◌+◌, ◌-◌, ◌<◌, Bool, true, false, not, ◌==◌, ◌||◌, nat_lt, cond, List, [], ◌∷◌, ◌++◌, length, map, take, filter, filter_map, ◌⊎◌, inl, inr, Option, Some, None, option_map, if◌then◌else◌, refl, sym, ap, ap₂, ◌∙◌, subst, arith, codes, bytes_eq, append_assoc, append-nil, cons_option, prefix_len, before_first, byte, is_utf8, nat_tests, IsUtf8-from_is_utf8, is_utf8-from_IsUtf8, le-ltb, both_ways, without_lf, max_line, is_space, skip_spaces, first_word, after_word, Bytes, is_all_spaces, csv_text, csv_named, csv_command, Block, lines_of, blocks, blocks_from, is_complete, block_command, spelled_command, Cell, IsWritten, Command, Set, Clear, Fill, Csv, Scenario, Drop, Base, Use, As, Show, Export, Compare, Table, Formula, Changes, Unknown, Unreadable, form, text_of, IsGood, Asks, is_passed_over, IsCommand, was, read_any, asked, block, kept, SameCommands}
+use Rattle.wi_cli.proofs.Vocabulary.{◌≡◌, ℕ, suc, ◌+◌, ◌-◌, ◌<◌, Bool, true, false, not, ◌==◌, ◌||◌, nat_lt, cond, List, [], ◌∷◌, ◌++◌, length, map, take, filter, filter_map, ◌⊎◌, inl, inr, Option, Some, None, option_map, if◌then◌else◌, refl, sym, ap, ap₂, ◌∙◌, subst, arith, codes, bytes_eq, append_assoc, append-nil, cons_option, prefix_len, before_first, byte, is_utf8, nat_tests, IsUtf8-from_is_utf8, is_utf8-from_IsUtf8, le-ltb, both_ways, without_lf, max_line, is_space, skip_spaces, first_word, after_word, Bytes, is_all_spaces, csv_text, csv_named, csv_command, Block, lines_of, blocks, blocks_from, is_complete, block_command, spelled_command, Cell, IsWritten, Command, Set, Clear, Fill, Csv, Scenario, Drop, Base, Use, As, Show, Export, Compare, Table, Formula, Changes, Unknown, Unreadable, form, line_text, IsGood, Asks, is_passed_over, IsCommand, was, read_any, asked, block, blocks_that_count, SameCommands}
 use Rattle.std.proofs.Common.{option_to_list}
 use Rattle.wi_scenarios.specs.declared.refusal.Refusal.TheVariants as refusal
 use Rattle.wi_scenarios.specs.Step as old
@@ -110,48 +110,48 @@ csv_apart text false o n h = not_passed text (codes "csv") h.0 refl
 
 module _ (line : Bytes) (taken : List Bytes) where
   -- one that asks for none, by whether it is passed over
-  plain_is : IsGood line → csv_text (text_of line) ≡ None → (p : Bool) → is_passed_over (text_of line) ≡ p
-      → block_command (block line taken) ≡ (if p then None else Some (spelled_command (text_of line)))
-  plain_is g e p f = plain_line line taken (short_line line (le-ltb _ _ g.0) ∙ e) ∙ line_is line false (good_is line g) ∙ text_is (text_of line) p f
+  plain_is : IsGood line → csv_text (line_text line) ≡ None → (p : Bool) → is_passed_over (line_text line) ≡ p
+      → block_command (block line taken) ≡ (if p then None else Some (spelled_command (line_text line)))
+  plain_is g e p f = plain_line line taken (short_line line (le-ltb _ _ g.0) ∙ e) ∙ line_is line false (good_is line g) ∙ text_is (line_text line) p f
 
-  is_none : IsGood line → is_passed_over (text_of line) ≡ true → TextReads (text_of line) → block_command (block line taken) ≡ None
-  is_none g p (inl f) = absurd (both_ways _ (csv_apart (text_of line) f.0 f.1 f.2 f.3) p)
+  is_none : IsGood line → is_passed_over (line_text line) ≡ true → TextReads (line_text line) → block_command (block line taken) ≡ None
+  is_none g p (inl f) = absurd (both_ways _ (csv_apart (line_text line) f.0 f.1 f.2 f.3) p)
   is_none g p (inr bad) = plain_is g bad.1 true p
 
-  is_unknown : IsGood line → is_passed_over (text_of line) ≡ false → ((c : Command) → IsWritten (text_of line) (form c) → ⊥) → TextReads (text_of line) → Reads (text_of line)
+  is_unknown : IsGood line → is_passed_over (line_text line) ≡ false → ((c : Command) → IsWritten (line_text line) (form c) → ⊥) → TextReads (line_text line) → Reads (line_text line)
       → block_command (block line taken) ≡ Some (old.Refused refusal.BadCommand)
   is_unknown g p nothing (inl f) r = absurd (nothing (Csv f.0 f.1 f.2 []) f.3)
   is_unknown g p nothing (inr bad) (spells c is h) = absurd (nothing c h)
   is_unknown g p nothing (inr bad) (spells_none unread e) = plain_is g bad.1 false p ∙ ap (λ (x : old.Command). Some x) e
 
   is_unreadable : (IsGood line → ⊥) → AsksOrNot line → block_command (block line taken) ≡ Some (old.Refused refusal.BadLine)
-  is_unreadable bad (it_asks force o n within h r) = by (is_utf8 (text_of line)) refl
+  is_unreadable bad (it_asks force o n within h r) = by (is_utf8 (line_text line)) refl
     where
-      by : (b : Bool) → is_utf8 (text_of line) ≡ b → block_command (block line taken) ≡ Some (old.Refused refusal.BadLine)
-      by true e = absurd (bad (within, IsUtf8-from_is_utf8 (text_of line) e))
+      by : (b : Bool) → is_utf8 (line_text line) ≡ b → block_command (block line taken) ≡ Some (old.Refused refusal.BadLine)
+      by true e = absurd (bad (within, IsUtf8-from_is_utf8 (line_text line) e))
       by false e = csv_line_is line taken force o n r false e
-  is_unreadable bad (it_asks_none nothing e) = by (nat_lt max_line (length (without_lf line)) || not (is_utf8 (text_of line))) refl
+  is_unreadable bad (it_asks_none nothing e) = by (nat_lt max_line (length (without_lf line)) || not (is_utf8 (line_text line))) refl
     where
-      by : (b : Bool) → (nat_lt max_line (length (without_lf line)) || not (is_utf8 (text_of line))) ≡ b → block_command (block line taken) ≡ Some (old.Refused refusal.BadLine)
+      by : (b : Bool) → (nat_lt max_line (length (without_lf line)) || not (is_utf8 (line_text line))) ≡ b → block_command (block line taken) ≡ Some (old.Refused refusal.BadLine)
       by true f = plain_line line taken e ∙ line_is line true f
       by false f = absurd (bad (good line f))
 
-  is_csv : (force : Bool) (o : Option Cell) (n : ℕ) (lines : List Bytes) → IsGood line → IsWritten (text_of line) (form (Csv force o n [])) → lines ≡ taken
+  is_csv : (force : Bool) (o : Option Cell) (n : ℕ) (lines : List Bytes) → IsGood line → IsWritten (line_text line) (form (Csv force o n [])) → lines ≡ taken
       → block_command (block line taken) ≡ Some (was (Csv force o n lines))
   is_csv force o n lines g h e =
-      let r = text_read (text_of line) force o n h in
-      csv_line_is line taken force o n (r.0, short_line line (le-ltb _ _ g.0) ∙ r.1, r.2) true (is_utf8-from_IsUtf8 (text_of line) g.1)
+      let r = text_read (line_text line) force o n h in
+      csv_line_is line taken force o n (r.0, short_line line (le-ltb _ _ g.0) ∙ r.1, r.2) true (is_utf8-from_IsUtf8 (line_text line) g.1)
       ∙ ap (λ (ls : List Bytes). Some (csv_command force (read_any o) ls (n - length ls))) (sym e)
 
-  is_plain_one : (c : Command) → is_plain c ≡ true → IsGood line → IsWritten (text_of line) (form c) → block_command (block line taken) ≡ Some (was c)
+  is_plain_one : (c : Command) → is_plain c ≡ true → IsGood line → IsWritten (line_text line) (form c) → block_command (block line taken) ≡ Some (was c)
   is_plain_one c p g h =
-      let a = apart (text_of line) c p h in
-      plain_is g a.no_csv false a.read ∙ ap (λ (x : old.Command). Some x) (same_form (text_of line) c p h)
+      let a = apart (line_text line) c p h in
+      plain_is g a.no_csv false a.read ∙ ap (λ (x : old.Command). Some x) (same_form (line_text line) c p h)
 
   pub one_command : (o : Option Command) → IsCommand line taken o → block_command (block line taken) ≡ option_map was o
-  one_command None h = is_none h.0 h.1 (text_or (text_of line))
+  one_command None h = is_none h.0 h.1 (text_or (line_text line))
   one_command (Some Unreadable) h = is_unreadable h (asks_or_not line)
-  one_command (Some Unknown) h = is_unknown h.0 h.1 h.2 (text_or (text_of line)) (reads (text_of line))
+  one_command (Some Unknown) h = is_unknown h.0 h.1 h.2 (text_or (line_text line)) (reads (line_text line))
   one_command (Some (Csv force o n lines)) h = is_csv force o n lines h.0 h.1 h.2
   one_command (Some c) h = is_plain_one c refl h.0 h.1
 
@@ -198,7 +198,7 @@ onto_none : (o : Option Command) → cons_option (option_map was o) [] ≡ map w
 onto_none None = refl
 onto_none (Some c) = refl
 
-kept_one : (ended : Bool) (b : Block) (bs : List Block) → is_complete b ≡ true → kept ended (b ∷ bs) ≡ b ∷ kept ended bs
+kept_one : (ended : Bool) (b : Block) (bs : List Block) → is_complete b ≡ true → blocks_that_count ended (b ∷ bs) ≡ b ∷ blocks_that_count ended bs
 kept_one true b bs e = refl
 kept_one false b bs e = ap (λ (v : Bool). cond v (b ∷ filter is_complete bs) (filter is_complete bs)) e
 
@@ -207,7 +207,7 @@ same_commands true lines cs no_commands = refl
 same_commands false lines cs no_commands = refl
 same_commands ended lines cs (line_with line taken more o ds takes is rest) =
     let many : asked line ≡ length taken = is_asked line (length taken) (are_taken line taken takes) in
-    ap (λ (bs : List Block). filter_map block_command (kept ended bs)) (block_filled line taken more many)
+    ap (λ (bs : List Block). filter_map block_command (blocks_that_count ended bs)) (block_filled line taken more many)
     ∙ ap (filter_map block_command) (kept_one ended (block line taken) (blocks more) (complete line taken many))
     ∙ ap₂ cons_option (one_command line taken o is) (same_commands ended more ds rest) ∙ onto_was o ds
 same_commands true lines cs (line_cut line taken n o asks short is) =

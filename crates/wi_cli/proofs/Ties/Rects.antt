@@ -1,5 +1,5 @@
 -- The words that spell a rectangle, and what they were read as.
-use Rattle.wi_cli.proofs.Vocabulary.{◌≡◌, ℕ, suc, ◌+◌, ◌<◌, Bool, true, false, ◌&&◌, ◌||◌, not, nat_lt, ◌==◌, cond, [], ◌∷◌, ◌++◌, take, drop, length, get_or, Some, None, Result, Ok, Err, refl, sym, ap, ap₂, ◌∙◌, subst, arith, append_assoc, append-nil, length-append, codes, take-append_seam, nat_tests, list_all-append, split_at_first, passes_at_first, is_ascii_alphabetic, is_ascii_digit, list_all, prefix_len, position_or_len, byte, all_ascii_digits, and_parts, rect_of, read_address, read_rect, corners, AddressFault, Shape, Cell, Corners, is_outside, address, IsAddr, addr, IsRect, a_cell, two_cells, Bytes, read_by, read_corners, SameRect}
+use Rattle.wi_cli.proofs.Vocabulary.{◌≡◌, ℕ, suc, ◌+◌, ◌<◌, Bool, true, false, ◌&&◌, ◌||◌, not, nat_lt, ◌==◌, cond, [], ◌∷◌, ◌++◌, take, drop, length, get_or, Some, None, Result, Ok, Err, refl, sym, ap, ap₂, ◌∙◌, subst, arith, append_assoc, append-nil, length-append, codes, take-append_seam, nat_tests, list_all-append, split_at_first, passes_at_first, is_ascii_alphabetic, is_ascii_digit, list_all, prefix_len, position_or_len, byte, all_ascii_digits, and_parts, rect_of, read_address, read_rect, corners, AddressFault, Shape, Cell, Corners, is_outside, address, IsAddr, addr, IsRect, a_cell, two_cells, Bytes, read_by, read_area, SameRect}
 use Rattle.std.proofs.Common.{eqb-true}
 use Rattle.wi_values.specs.AddressReading.{read_corners as read_at_colon}
 use Rattle.wi_values.specs.declared.address.AddressFault.TheVariants.{Outside}
@@ -62,7 +62,7 @@ corners_by true false x y = refl
 corners_by false true x y = refl
 corners_by false false x y = refl
 
-one_cell : (word : Bytes) (c : Cell) → IsAddr word c → read_rect word ≡ read_corners (c, c)
+one_cell : (word : Bytes) (c : Cell) → IsAddr word c → read_rect word ≡ read_area (c, c)
 one_cell word c h =
     let spelled = (same_addr word).spelled c h in
     by_colon word false (below _ _ (whole word (addr_plain word c h)))
@@ -80,7 +80,7 @@ is_longer v w =
     let some : length (58 ∷ w) ≡ suc (length w) = refl in
     grind (arith, nat_tests)
 
-two : (v w : Bytes) (c d : Cell) → IsAddr v c → IsAddr w d → read_rect (v ++ (58 ∷ w)) ≡ read_corners (c, d)
+two : (v w : Bytes) (c d : Cell) → IsAddr v c → IsAddr w d → read_rect (v ++ (58 ∷ w)) ≡ read_area (c, d)
 two v w c d h k =
     let text : Bytes = v ++ (58 ∷ w) in
     let place : position_or_len is_colon text ≡ length v = scan v (58 ∷ w) (addr_plain v c h) refl in
@@ -90,7 +90,7 @@ two v w c d h k =
     ∙ ap₂ (λ (x y : Bytes). corners (read_address x) (read_address y)) (take-append_seam v (58 ∷ w)) (behind_colon v w)
     ∙ ap₂ corners ((same_addr v).spelled c h) ((same_addr w).spelled d k) ∙ corners_by (is_outside c) (is_outside d) (address c) (address d)
 
-pub spelled : (word : Bytes) (r : Corners) → IsRect word r → read_rect word ≡ read_corners r
+pub spelled : (word : Bytes) (r : Corners) → IsRect word r → read_rect word ≡ read_area r
 spelled word r (a_cell w c h) = one_cell w c h
 spelled word r (two_cells v w c d h k) = ap read_rect (append_assoc v (58 ∷ []) w) ∙ two v w c d h k
 

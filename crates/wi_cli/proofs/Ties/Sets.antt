@@ -1,5 +1,5 @@
 -- The step of `set`.
-use Rattle.wi_cli.proofs.Vocabulary.{◌≡◌, ◌↔◌, ◌<◌, ℕ, Bool, true, false, ◌==◌, List, [], ◌∷◌, length, ◌⊎◌, inl, inr, Some, None, Result, Ok, Err, if◌then◌else◌, refl, sym, ap, ◌∙◌, subst, arith, list_any, nat_tests, both_ways, Area, Content, ParseFault, IsContent, a_formula, no_formula, a_text, a_long_text, a_constant, no_constant, IsParsed, as_judged, AreJudged, at_fault, a_tree, no_tree, Symbol, Tree, content_read, content_is_one, State, max_area, no_cause, edit_answer, set_answer, set_edit, cell_area, fault_in, of_operand, Cell, is_outside, address, Bytes, Command, Set, form, Put, Puts, after_edit, Cause, BadCommand, Outside, TooLarge, NoScenario, TooLong, OutOfSheet, NumberRange, TooDeep, Syntax, LeavesSheet, Stale, Full, EditLimit, Holds, lies_outside, is_missing, size, Answer, IsStep, causes, IsFirstOf, Does, SameStep, read_by, read_cell, rect_cell}
+use Rattle.wi_cli.proofs.Vocabulary.{◌≡◌, ◌↔◌, ◌<◌, ℕ, Bool, true, false, ◌==◌, List, [], ◌∷◌, length, ◌⊎◌, inl, inr, Some, None, Result, Ok, Err, if◌then◌else◌, refl, sym, ap, ◌∙◌, subst, arith, list_any, nat_tests, both_ways, Content, ParseFault, IsContent, a_formula, no_formula, a_text, a_long_text, a_constant, no_constant, IsParsed, as_judged, AreJudged, at_fault, a_tree, no_tree, Symbol, Tree, content_read, content_is_one, State, max_area, no_cause, edit_answer, set_answer, set_edit, cell_area, fault_in, of_operand, Cell, is_outside, address, Bytes, Command, Set, form, Put, Puts, after_edit, Cause, BadCommand, Outside, TooLarge, NoScenario, TooLong, OutOfSheet, NumberRange, TooDeep, Syntax, LeavesSheet, Stale, Full, EditLimit, Holds, lies_outside, is_missing, size, Answer, IsStep, causes, IsFirstOf, Does, SameStep, read_by, read_cell}
 use Rattle.wi_parser.specs.declared.fault.ParseFault.TheVariants as parse
 use Rattle.wi_parser.specs.Contents.{too_long}
 use Rattle.wi_scenarios.specs.declared.refusal.Refusal.TheVariants as refusal
@@ -112,8 +112,7 @@ module _ (s : State) (force : Bool) (c : Cell) (text : Bytes) (inside : is_outsi
 
       putting : IsStep s set (edit_answer s force no_cause (set_edit (address c) (Ok content)))
       putting =
-          edit_step s set force (cell_area (address c) ∷ []) ((address c, Some content) ∷ []) put one_put refl
-          (ap (λ (a : Area). a ∷ []) (rect_cell (address c))) (λ h. h) later only (λ d h. h)
+          edit_step s set force (cell_area (address c) ∷ []) ((address c, Some content) ∷ []) put one_put refl refl (λ h. h) later only (λ d h. h)
 
     -- by what the content is read as
     abbrev set_by : Result Content ParseFault → Answer

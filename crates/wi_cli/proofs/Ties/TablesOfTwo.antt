@@ -1,5 +1,5 @@
 -- The step of `table` with two inputs.
-use Rattle.wi_cli.proofs.Vocabulary.{◌≡◌, ◌<◌, ◌*◌, ℕ, min, max, Bool, true, false, not, ◌||◌, ◌&&◌, ◌==◌, nat_lt, List, [], ◌∷◌, Option, Some, None, Result, if◌then◌else◌, refl, sym, ap, ◌∙◌, subst, arith, list_any, result_err, or_parts, both_ways, or-false, Area, columns, row_of, column_of, size_of, AddressFault, Shape, row_of_place, column_of_place, State, max_area, current_replacements, table_of, is_column, is_row, of_operand, worse, line_fault, unless_refused, table_of_one, table_of_two, Cell, Corners, is_outside, address, area, Bytes, Command, Table, Cause, BadCommand, Outside, TooLarge, NoScenario, Stale, Full, EditLimit, Holds, Answer, causes, SameStep, read_by, read_cell, read_corners, was}
+use Rattle.wi_cli.proofs.Vocabulary.{◌≡◌, ◌<◌, ◌*◌, ℕ, min, max, Bool, true, false, not, ◌||◌, ◌&&◌, ◌==◌, nat_lt, List, [], ◌∷◌, Option, Some, None, Result, if◌then◌else◌, refl, sym, ap, ◌∙◌, subst, arith, list_any, result_err, or_parts, both_ways, or-false, Area, columns, row_of, column_of, size_of, AddressFault, Shape, row_of_place, column_of_place, State, max_area, current_replacements, table_of, is_column, is_row, of_operand, worse, line_fault, unless_refused, table_of_one, table_of_two, Cell, Corners, is_outside, address, area, Bytes, Command, Table, Cause, BadCommand, Outside, TooLarge, NoScenario, Stale, Full, EditLimit, Holds, Answer, causes, SameStep, read_by, read_cell, read_area, was}
 use Rattle.wi_values.specs.declared.address.AddressFault.TheVariants.{Outside as AtOutside}
 use Rattle.wi_scenarios.specs.declared.refusal.Refusal.TheVariants as refusal
 use Rattle.wi_scenarios.specs.Step as old
@@ -124,7 +124,7 @@ module _ (s : State) (f r : Cell) (xs : Corners) (c : Cell) (ys : Corners) where
   cells = size_of (area xs) * (size_of (area ys) * 1)
 
   abbrev faults : List (Option AddressFault)
-  faults = result_err (read_cell f) ∷ result_err (read_cell r) ∷ line_fault is_column (read_corners xs) ∷ result_err (read_cell c) ∷ line_fault is_row (read_corners ys) ∷ []
+  faults = result_err (read_cell f) ∷ result_err (read_cell r) ∷ line_fault is_column (read_area xs) ∷ result_err (read_cell c) ∷ line_fault is_row (read_area ys) ∷ []
 
   shapes : list_any is_shape faults ≡ bent
   shapes =
@@ -154,12 +154,12 @@ module _ (s : State) (f r : Cell) (xs : Corners) (c : Cell) (ys : Corners) where
 
   abbrev command : old.Command
   command =
-      of_operand (read_cell f) (λ f. of_operand (read_cell r) (λ r. of_operand (read_corners xs) (λ xs. of_operand (read_cell c) (λ c. of_operand (read_corners ys) (λ ys. old.Table f r xs (Some (c, ys)))))))
+      of_operand (read_cell f) (λ f. of_operand (read_cell r) (λ r. of_operand (read_area xs) (λ xs. of_operand (read_cell c) (λ c. of_operand (read_area ys) (λ ys. old.Table f r xs (Some (c, ys)))))))
 
   was_is : (o : Option AddressFault) → worst faults ≡ o → was table ≡ unless_refused o command
   was_is o e =
-      ap (λ (y : Option AddressFault). unless_refused (worse (result_err (read_cell f)) (worse (result_err (read_cell r)) (worse (line_fault is_column (read_corners xs)) (worse (result_err (read_cell c)) y)))) command)
-      (last_one (line_fault is_row (read_corners ys)))
+      ap (λ (y : Option AddressFault). unless_refused (worse (result_err (read_cell f)) (worse (result_err (read_cell r)) (worse (line_fault is_column (read_area xs)) (worse (result_err (read_cell c)) y)))) command)
+      (last_one (line_fault is_row (read_area ys)))
       ∙ ap (λ (w : Option AddressFault). unless_refused w command) e
 
   abbrev table_test : Cause → Bool
@@ -252,7 +252,7 @@ module _ (s : State) (f r : Cell) (xs : Corners) where
   one_out = is_outside f || (is_outside r || ((is_outside xs.0 || is_outside xs.1) || false))
 
   abbrev one_faults : List (Option AddressFault)
-  one_faults = result_err (read_cell f) ∷ result_err (read_cell r) ∷ line_fault is_column (read_corners xs) ∷ []
+  one_faults = result_err (read_cell f) ∷ result_err (read_cell r) ∷ line_fault is_column (read_area xs) ∷ []
 
   one_shapes : list_any is_shape one_faults ≡ one_bent
   one_shapes =
@@ -272,11 +272,11 @@ module _ (s : State) (f r : Cell) (xs : Corners) where
           ap (λ (k : Bool). k || (q || (x || false))) a ∙ ap (λ (k : Bool). p' || (k || (x || false))) b ∙ ap (λ (k : Bool). p' || (q' || (k || false))) d
 
   abbrev one_command : old.Command
-  one_command = of_operand (read_cell f) (λ f. of_operand (read_cell r) (λ r. of_operand (read_corners xs) (λ xs. old.Table f r xs None)))
+  one_command = of_operand (read_cell f) (λ f. of_operand (read_cell r) (λ r. of_operand (read_area xs) (λ xs. old.Table f r xs None)))
 
   one_was : (o : Option AddressFault) → worst one_faults ≡ o → was one ≡ unless_refused o one_command
   one_was o e =
-      ap (λ (y : Option AddressFault). unless_refused (worse (result_err (read_cell f)) (worse (result_err (read_cell r)) y)) one_command) (last_one (line_fault is_column (read_corners xs)))
+      ap (λ (y : Option AddressFault). unless_refused (worse (result_err (read_cell f)) (worse (result_err (read_cell r)) y)) one_command) (last_one (line_fault is_column (read_area xs)))
       ∙ ap (λ (w : Option AddressFault). unless_refused w one_command) e
 
   pub one_was_bent : one_bent ≡ true → was one ≡ old.Refused refusal.BadCommand

@@ -1,5 +1,5 @@
 -- Where memory may be lacking, for each command.
-use Rattle.wi_cli.proofs.Vocabulary.{◌≡◌, ◌↔◌, ◌-◌, ℕ, Bool, true, false, ◌==◌, ◌||◌, List, [], ◌∷◌, ◌++◌, length, inl, inr, Option, Some, None, Err, refl, sym, ap, subst, arith, list_any, concat, Contains, nat_tests, both_ways, Refusal, State, MayGrow, of_operand, is_long, Cell, Corners, is_outside, address, area, Bytes, Command, Set, Clear, Fill, Csv, Scenario, Drop, Base, Use, As, Show, Export, Compare, Table, Formula, Changes, Unknown, Unreadable, form, Cause, BadLine, BadCommand, CutShort, Outside, TooLarge, NoScenario, InUse, TooMany, BadField, TooLong, OutOfSheet, NumberRange, TooDeep, Syntax, LeavesSheet, Stale, Loop, Full, EditLimit, Holds, lies_outside, late, Answer, IsStep, causes, IsFirstOf, was, read_by, SameLack}
+use Rattle.wi_cli.proofs.Vocabulary.{◌≡◌, ◌↔◌, ◌-◌, ℕ, Bool, true, false, ◌==◌, ◌||◌, List, [], ◌∷◌, ◌++◌, length, inl, inr, Option, Some, None, Err, refl, sym, ap, subst, arith, list_any, concat, Contains, nat_tests, both_ways, Refusal, State, MayGrow, of_operand, is_long, Cell, Corners, is_outside, address, area, Bytes, Command, Set, Clear, Fill, Csv, Scenario, Drop, Base, Use, As, Show, Export, Compare, Table, Formula, Changes, Unknown, Unreadable, form, Cause, BadLine, BadCommand, CutShort, Outside, TooLarge, NoScenario, InUse, TooMany, BadField, TooLong, OutOfSheet, NumberRange, TooDeep, Syntax, LeavesSheet, Stale, Loop, Full, EditLimit, Holds, lies_outside, late, Answer, IsStep, causes, IsFirstOf, was, read_by, SameLack, or-false, ◌∙◌}
 use Rattle.wi_scenarios.specs.declared.refusal.Refusal.TheVariants as refusal
 use Rattle.wi_scenarios.specs.Step as old
 use Rattle.wi_cli.proofs.Ties.Codes.{LateCoded, same_late}
@@ -66,42 +66,36 @@ module _ (s : State) (c : Command) where
 
 -- ---- each command
 
-any_true : (b : Bool) → b ≡ true → (b || false) ≡ true
-any_true b e = ap (λ (x : Bool). x || false) e
-
-any_false : (b : Bool) → b ≡ false → (b || false) ≡ false
-any_false b e = ap (λ (x : Bool). x || false) e
-
 lack_show : (s : State) (r : Corners) (b : Bool) → (is_outside r.0 || is_outside r.1) ≡ b → SameLack s (Show r)
-lack_show s r true e = refused s (Show r) refusal.OutOfSheet (ap (λ (x : Bool). of_operand (read_by x (area r)) (λ at. old.Show at)) e) (early_outside s (Show r) (any_true _ e))
+lack_show s r true e = refused s (Show r) refusal.OutOfSheet (ap (λ (x : Bool). of_operand (read_by x (area r)) (λ at. old.Show at)) e) (early_outside s (Show r) (or-false _ ∙ e))
 lack_show s r false e =
-    proper_lack s (Show r) (old.Show (area r)) (ap (λ (x : Bool). of_operand (read_by x (area r)) (λ at. old.Show at)) e) (λ h. h, λ h. h) (λ h. both_ways _ (any_false _ e) h) (λ h. h) (λ h. h)
+    proper_lack s (Show r) (old.Show (area r)) (ap (λ (x : Bool). of_operand (read_by x (area r)) (λ at. old.Show at)) e) (λ h. h, λ h. h) (λ h. both_ways _ (or-false _ ∙ e) h) (λ h. h) (λ h. h)
 
 lack_export : (s : State) (r : Corners) (b : Bool) → (is_outside r.0 || is_outside r.1) ≡ b → SameLack s (Export r)
-lack_export s r true e = refused s (Export r) refusal.OutOfSheet (ap (λ (x : Bool). of_operand (read_by x (area r)) (λ at. old.Export at)) e) (early_outside s (Export r) (any_true _ e))
+lack_export s r true e = refused s (Export r) refusal.OutOfSheet (ap (λ (x : Bool). of_operand (read_by x (area r)) (λ at. old.Export at)) e) (early_outside s (Export r) (or-false _ ∙ e))
 lack_export s r false e =
-    proper_lack s (Export r) (old.Export (area r)) (ap (λ (x : Bool). of_operand (read_by x (area r)) (λ at. old.Export at)) e) (λ h. h, λ h. h) (λ h. both_ways _ (any_false _ e) h) (λ h. h) (λ h. h)
+    proper_lack s (Export r) (old.Export (area r)) (ap (λ (x : Bool). of_operand (read_by x (area r)) (λ at. old.Export at)) e) (λ h. h, λ h. h) (λ h. both_ways _ (or-false _ ∙ e) h) (λ h. h) (λ h. h)
 
 lack_compare : (s : State) (p q : Option Bytes) (r : Corners) (b : Bool) → (is_outside r.0 || is_outside r.1) ≡ b → SameLack s (Compare p q r)
-lack_compare s p q r true e = refused s (Compare p q r) refusal.OutOfSheet (ap (λ (x : Bool). of_operand (read_by x (area r)) (λ at. old.Compare p q at)) e) (early_outside s (Compare p q r) (any_true _ e))
+lack_compare s p q r true e = refused s (Compare p q r) refusal.OutOfSheet (ap (λ (x : Bool). of_operand (read_by x (area r)) (λ at. old.Compare p q at)) e) (early_outside s (Compare p q r) (or-false _ ∙ e))
 lack_compare s p q r false e =
-    proper_lack s (Compare p q r) (old.Compare p q (area r)) (ap (λ (x : Bool). of_operand (read_by x (area r)) (λ at. old.Compare p q at)) e) (λ h. h, λ h. h) (λ h. both_ways _ (any_false _ e) h) (λ h. h) (λ h. h)
+    proper_lack s (Compare p q r) (old.Compare p q (area r)) (ap (λ (x : Bool). of_operand (read_by x (area r)) (λ at. old.Compare p q at)) e) (λ h. h, λ h. h) (λ h. both_ways _ (or-false _ ∙ e) h) (λ h. h) (λ h. h)
 
 lack_formula : (s : State) (c : Cell) (b : Bool) → is_outside c ≡ b → SameLack s (Formula c)
-lack_formula s c true e = refused s (Formula c) refusal.OutOfSheet (ap (λ (x : Bool). of_operand (read_by x (address c)) (λ at. old.Formula at)) e) (early_outside s (Formula c) (any_true _ e))
+lack_formula s c true e = refused s (Formula c) refusal.OutOfSheet (ap (λ (x : Bool). of_operand (read_by x (address c)) (λ at. old.Formula at)) e) (early_outside s (Formula c) (or-false _ ∙ e))
 lack_formula s c false e =
-    proper_lack s (Formula c) (old.Formula (address c)) (ap (λ (x : Bool). of_operand (read_by x (address c)) (λ at. old.Formula at)) e) (λ h. h, λ h. h) (λ h. both_ways _ (any_false _ e) h) (λ h. h) (λ h. h)
+    proper_lack s (Formula c) (old.Formula (address c)) (ap (λ (x : Bool). of_operand (read_by x (address c)) (λ at. old.Formula at)) e) (λ h. h, λ h. h) (λ h. both_ways _ (or-false _ ∙ e) h) (λ h. h) (λ h. h)
 
 lack_scenario : (s : State) (name : Bytes) (c : Cell) (text : Bytes) (b : Bool) → is_outside c ≡ b → SameLack s (Scenario name c text)
-lack_scenario s name c text true e = refused s (Scenario name c text) refusal.OutOfSheet (ap (λ (x : Bool). of_operand (read_by x (address c)) (λ at. old.Scenario name at text)) e) (early_outside s (Scenario name c text) (any_true _ e))
+lack_scenario s name c text true e = refused s (Scenario name c text) refusal.OutOfSheet (ap (λ (x : Bool). of_operand (read_by x (address c)) (λ at. old.Scenario name at text)) e) (early_outside s (Scenario name c text) (or-false _ ∙ e))
 lack_scenario s name c text false e =
-    proper_lack s (Scenario name c text) (old.Scenario name (address c) text) (ap (λ (x : Bool). of_operand (read_by x (address c)) (λ at. old.Scenario name at text)) e) (λ h. h, λ h. h) (λ h. both_ways _ (any_false _ e) h) (λ h. h) (λ h. h)
+    proper_lack s (Scenario name c text) (old.Scenario name (address c) text) (ap (λ (x : Bool). of_operand (read_by x (address c)) (λ at. old.Scenario name at text)) e) (λ h. h, λ h. h) (λ h. both_ways _ (or-false _ ∙ e) h) (λ h. h) (λ h. h)
 
 set_outside : (force b : Bool) (c : Cell) (text : Bytes) → is_outside c ≡ b → list_any lies_outside (form (Set force c text)) ≡ b
-set_outside true true c text e = any_true _ e
-set_outside true false c text e = any_false _ e
-set_outside false true c text e = any_true _ e
-set_outside false false c text e = any_false _ e
+set_outside true true c text e = or-false _ ∙ e
+set_outside true false c text e = or-false _ ∙ e
+set_outside false true c text e = or-false _ ∙ e
+set_outside false false c text e = or-false _ ∙ e
 
 lack_clear : (s : State) (force : Bool) (r : Corners) (b : Bool) → (is_outside r.0 || is_outside r.1) ≡ b → SameLack s (Clear force r)
 lack_clear s force r true e = refused s (Clear force r) refusal.OutOfSheet (ap (λ (x : Bool). of_operand (read_by x (area r)) (λ at. old.Clear force at)) e) (early_outside s (Clear force r) (clear_outside force true r e))

@@ -37,11 +37,14 @@ csv_operands force operands =
 abbrev pub csv_named : Bool → List ℕ → List ℕ → Option CsvLine
 csv_named force name operands = if bytes_eq name (codes "csv") then csv_operands force operands else None
 
--- a text, in which `force` may stand before `csv`
+-- the same, where `force` may stand before `csv`
+abbrev pub csv_by_name : List ℕ → List ℕ → Option CsvLine
+csv_by_name name operands =
+    if bytes_eq name (codes "force") then csv_named true (first_word operands) (after_word operands) else csv_named false name operands
+
+-- what a text asks for
 abbrev pub csv_text : List ℕ → Option CsvLine
-csv_text text =
-    if bytes_eq (first_word text) (codes "force") then csv_named true (first_word (after_word text)) (after_word (after_word text))
-    else csv_named false (first_word text) (after_word text)
+csv_text text = csv_by_name (first_word text) (after_word text)
 
 -- a line without its LF, also where it isn't UTF-8; one that is too long asks for none
 unfoldable pub csv_line : List ℕ → Option CsvLine

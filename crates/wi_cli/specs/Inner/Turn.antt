@@ -1,19 +1,16 @@
 -- What one turn of a run does.
-use Rattle.std.specs.Prelude.{◌≡◌, ℕ, ◌<◌, Bool, true, List, [], ◌++◌, filter, filter_map, Option, Some, None}
+use Rattle.std.specs.Prelude.{◌≡◌, ℕ, ◌<◌, Bool, true, List, [], ◌++◌, filter, filter_map, Option}
 use Rattle.std.specs.Option.{option_to_list}
 use Rattle.std.specs.Io.KnownBytes.{Appends}
 use Rattle.wi_cli.specs.declared.fault.RunFault.{RunFault}
 use Rattle.wi_cli.specs.declared.fault.RunFault.TheVariants.{Memory, Read, Write, ScriptLimit}
-use Rattle.wi_cli.specs.declared.csv_line.CsvLine.{CsvLine as ReadCsv}
-use Rattle.wi_cli.specs.declared.data_lines.DataLines.{DataLines}
 use Rattle.wi_scenarios.specs.State.{State}
 use Rattle.wi_scenarios.specs.Step.{Command}
 use Rattle.wi_cli.specs.Lines.{raw_lines}
 use Rattle.wi_cli.specs.Inner.Blocks.{Block, blocks, is_complete}
-use Rattle.wi_cli.specs.Inner.Script.{line_command, block_command}
+use Rattle.wi_cli.specs.Inner.Script.{block_command}
 use Rattle.wi_cli.specs.Inner.Run.{WritesReplies}
 use Rattle.wi_cli.specs.Inner.Taken.{AreBlocksOf, TookLines, BrokeLines}
-use Rattle.wi_cli.specs.Inner.Data.{command_of_csv, wants, HoldsLines}
 
 -- a block was taken, or nothing was there; this is its command, if it has one
 pub record TookBlock (command : Option Command) (whole : Bool) (buffer : List ℕ) (left : Option (List ℕ)) (buffer' : List ℕ) (left' : Option (List ℕ)) (count count' : ℕ) : Type 0 where
@@ -22,12 +19,6 @@ pub record TookBlock (command : Option Command) (whole : Bool) (buffer : List �
   pub are_blocks : AreBlocksOf whole (took.lines ++ raw_lines took.last) taken
   pub is_command : filter_map block_command taken ≡ option_to_list command
   pub grows : whole ≡ true → count < count'
-
--- the command of a line and its data lines, as they are read
-abbrev pub IsRead : Option Command → Option ReadCsv → List ℕ → DataLines → Type 0
-IsRead command None line d = command ≡ line_command line
-IsRead command (Some csv) line d =
-    (lines : List (List ℕ)) × (command ≡ Some (command_of_csv csv lines d.missing)) × (d.wanted ≡ wants csv) × HoldsLines d lines
 
 -- no block was taken, but maybe lines of one that isn't complete
 pub record BrokeBlock (fault : RunFault) (buffer : List ℕ) (left : Option (List ℕ)) (buffer' : List ℕ) (left' : Option (List ℕ)) (count : ℕ) : Type 0 where

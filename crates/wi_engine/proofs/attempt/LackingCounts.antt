@@ -1,5 +1,5 @@
 -- One value more is found, and fewer are lacking.
-use Rattle.wi_engine.proofs.Words.{◌≡◌, ◌==◌, ℕ, ◌+◌, ◌<◌, ◌≤◌, Bool, true, false, ◌&&◌, cond, List, filter, length, Option, Some, None, refl, ap, sym, ◌∙◌, arith, eq-eqb, and_from, and_parts, list_any, is_none, option_or, Value, Tree, Sheet, content_of, has_formula, cells_with_formula, Asks, WhatIf, list_any-both, same_cell, found, formula_cell, keeps_few, reads_here, formulas_read_here, what_ifs_of, asked_what_if, in_contained, found_in, Findings, FoundWhatIf, same_pairs, pairs_of, first_for, found_value, found_what_ifs, what_if_found, IsWithCell, IsWithWhatIf, lacking, PassesToo, no_more, fewer}
+use Rattle.wi_engine.proofs.Words.{◌≡◌, ◌==◌, ℕ, ◌+◌, ◌<◌, ◌≤◌, Bool, true, false, ◌&&◌, cond, List, filter, length, Option, Some, None, refl, ap, sym, ◌∙◌, arith, eq-eqb, and_from, and_parts, list_any, is_none, option_or, Value, Tree, Sheet, content_of, has_formula, cells_with_formula, TreeAsks, WhatIf, list_any-both, same_cell, found, formula_cell, keeps_few, reads_here, formulas_read_here, what_ifs_of, asked_what_if, in_contained, found_in, Findings, FoundWhatIf, same_pairs, pairs_of, first_for, found_value, found_what_ifs, what_if_found, IsWithCell, IsWithWhatIf, lacking, PassesToo, no_more, fewer}
 use Rattle.wi_engine.proofs.lists.FoundPairs.{same_lists, same_pairs-refl, first_for-push}
 
 -- a cell of which no value was found
@@ -54,7 +54,7 @@ module _ (f g : Findings) (a : ℕ) (v : Value) (more : IsWithCell f g a v) wher
 abbrev is_what_if : FoundWhatIf → ℕ × List (ℕ × ℕ) → Bool
 is_what_if x y = x.at == y.0 && same_pairs (pairs_of x) y.1
 
-asked_found : (t : Tree) (x : FoundWhatIf) → Asks t (WhatIf x.at x.pairs) → list_any (is_what_if x) (what_ifs_of t) ≡ true
+asked_found : (t : Tree) (x : FoundWhatIf) → TreeAsks t (WhatIf x.at x.pairs) → list_any (is_what_if x) (what_ifs_of t) ≡ true
 asked_found t x h =
     let same = and_from (x.at == x.at) _ (eq-eqb x.at x.at refl) (same_pairs-refl (pairs_of x)) in
     found_in (is_what_if x) (what_ifs_of t) (x.at, pairs_of x) (in_contained (what_ifs_of t) (x.at, pairs_of x) (asked_what_if t x.at x.pairs h)) same
@@ -81,7 +81,7 @@ module _ (f g : Findings) (x : FoundWhatIf) (more : IsWithWhatIf f g x) where
       (ap (λ (o : Option Value). is_none o) there, ap (λ (o : Option Value). is_none o) now)
 
   -- of one that the tree asks for, and that had none, fewer are lacking
-  pub what_if_lacks_fewer : (s : Sheet) (t : Tree) → Asks t (WhatIf x.at x.pairs) → what_if_found f x.at (pairs_of x) ≡ None → lacking s t g < lacking s t f
+  pub what_if_lacks_fewer : (s : Sheet) (t : Tree) → TreeAsks t (WhatIf x.at x.pairs) → what_if_found f x.at (pairs_of x) ≡ None → lacking s t g < lacking s t f
   what_if_lacks_fewer s t asks e =
       let cells = fewer_cells (formulas_read_here s t) in
       let what_ifs = fewer (unfound_what_if f) (unfound_what_if g) what_if_unfound (is_what_if x) (what_if_gone e) (what_ifs_of t) (asked_found t x asks) in

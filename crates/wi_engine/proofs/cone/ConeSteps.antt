@@ -1,7 +1,6 @@
 -- One pass over an order of reading finds the cells that reach a cell.
-use Rattle.wi_engine.proofs.Words.{◌≡◌, ◌==◌, ℕ, suc, ◌+◌, ◌<◌, Bool, true, false, ◌&&◌, ◌||◌, cond, List, [], ◌∷◌, ◌++◌, filter, take, drop, length, get_or, Option, Some, None, IsSome, IfSome, All, refl, ap, sym, ◌∙◌, subst, inl, inr, ◌⊎◌, eq-eqb, drop-cons, and_parts, and_from, or_cases, or_left, or_right, take-append-drop, All-head, All-more, All-tail, list_any, nat_cmp, BTreeMap, get, is_at, BTreeSet, contains, Area, is_within, Replacement, Formula, Tree, Sheet, content_of, has_formula, content_reads, rectangles_of, reads_within, is_one_of, reaches, same_cell, one_truth, found, finds_in, reaches_here, reaches_read, reaches_step, reaches_by_step, is_at-eq, at_same, reaching, rectangles_in, occupied_within, IsReadOrder, AreCones, occupied_read, read_occupied}
+use Rattle.wi_engine.proofs.Words.{◌≡◌, ◌==◌, ℕ, suc, ◌+◌, ◌<◌, Bool, true, false, ◌&&◌, ◌||◌, cond, List, [], ◌∷◌, ◌++◌, filter, take, drop, length, get_or, Option, Some, None, IsSome, IfSome, All, refl, ap, sym, ◌∙◌, subst, inl, inr, ◌⊎◌, eq-eqb, drop-cons, and_parts, and_from, or_cases, or_left, or_right, take-append-drop, All-head, All-more, All-tail, list_any, nat_cmp, BTreeMap, get, is_at, BTreeSet, contains, Area, is_within, Replacement, Formula, Tree, Sheet, content_of, has_formula, content_reads, rectangles_of, reads_within, is_one_of, reaches, same_cell, one_truth, found, finds_in, reaches_here, reaches_read, reaches_step, reaches_by_step, is_at-eq, at_same, reaching, rectangles_in, occupied_within, IsReadOrder, AreCones, occupied_read, read_occupied, has_one_more}
 use Rattle.wi_worlds.specs.Reaching as cones
-use Rattle.wi_sheet.proofs.Filters.{one_more}
 
 -- a formula reads what lies in one of its rectangles
 pub reads_rectangles : (s : Sheet) (c : ℕ) (t : Tree) (a : ℕ) → content_of s c ≡ Some (Formula t) → content_reads (content_of s c) a ≡ list_any (λ (r : Area). is_within r a) (rectangles_of t)
@@ -44,7 +43,7 @@ step_reaches s order i x a among o l e h = one_truth (steps_in s among x a) (rea
 -- the cells passed that reach a cell, and one cell more
 pub cone_more : (s : Sheet) (order : List ℕ) (i x a : ℕ) (old new : ℕ → Bool) → i < length order → x ≡ get_or order i x → ((c : ℕ) → old c ≡ (is_one_of (take i order) c && reaches s c a)) →
     reaches s x a ≡ true → ((q : ℕ) → new q ≡ cond (is_at (nat_cmp x) q) true (old q)) → (c : ℕ) → new c ≡ (is_one_of (take (i + 1) order) c && reaches s c a)
-cone_more s order i x a old new l e h r u c = u c ∙ by (is_at (nat_cmp x) c) (x == c) (old c) (is_one_of (take i order) c) (is_one_of (take (i + 1) order) c) (is_at-eq x c) (h c) (one_more order i x c l e) (λ k. ap (λ (y : ℕ). reaches s y a) (sym (same_cell c x k)) ∙ r)
+cone_more s order i x a old new l e h r u c = u c ∙ by (is_at (nat_cmp x) c) (x == c) (old c) (is_one_of (take i order) c) (is_one_of (take (i + 1) order) c) (is_at-eq x c) (h c) (has_one_more order i x c l e) (λ k. ap (λ (y : ℕ). reaches s y a) (sym (same_cell c x k)) ∙ r)
   where
     by : (t b o f g : Bool) → t ≡ b → o ≡ (f && reaches s c a) → g ≡ (f || b) → (b ≡ true → reaches s c a ≡ true) → cond t true o ≡ (g && reaches s c a)
     by t true o true g d m n k = rw (d, n) (sym (k refl))
@@ -59,7 +58,7 @@ and_none false g r e = rw e refl
 -- and one that does not
 pub cone_same : (s : Sheet) (order : List ℕ) (i x a : ℕ) (old : ℕ → Bool) → i < length order → x ≡ get_or order i x → ((c : ℕ) → old c ≡ (is_one_of (take i order) c && reaches s c a)) →
     reaches s x a ≡ false → (c : ℕ) → old c ≡ (is_one_of (take (i + 1) order) c && reaches s c a)
-cone_same s order i x a old l e h r c = h c ∙ by (x == c) (is_one_of (take i order) c) (is_one_of (take (i + 1) order) c) (one_more order i x c l e) (λ k. ap (λ (y : ℕ). reaches s y a) (sym (same_cell c x k)) ∙ r)
+cone_same s order i x a old l e h r c = h c ∙ by (x == c) (is_one_of (take i order) c) (is_one_of (take (i + 1) order) c) (has_one_more order i x c l e) (λ k. ap (λ (y : ℕ). reaches s y a) (sym (same_cell c x k)) ∙ r)
   where
     by : (b f g : Bool) → g ≡ (f || b) → (b ≡ true → reaches s c a ≡ false) → (f && reaches s c a) ≡ (g && reaches s c a)
     by true true g n k = rw n refl

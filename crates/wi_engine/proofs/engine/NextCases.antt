@@ -1,5 +1,5 @@
 -- On which cases the value of a case rests.
-use Rattle.wi_engine.proofs.Words.{◌≡◌, ◌==◌, ℕ, Bool, true, false, List, map, Option, Some, None, refl, ap, sym, ◌∙◌, subst, list_any, Vec, Value, Replacement, Pair, Tree, pair_of, Content, Constant, Formula, Sheet, content_of, put_all, has_formula, content_reads, addresses, Asks, WhatIf, Key, circular, reaches_here, cell_value, Case, case_of, reaching, with_what_if, what_ifs_of, reads_here, of_formula, RestsOn, put_formula, put_reads, tree_reads, pair_path, reads_not_circular, reaching_suffices, IsIn, in_contained, contains_in, content_below, reaching_below, rests_on_read, rests_on_what_if, asked_what_if, asked_replacing, here_reads, what_if_reads, MemoState, IsMemoOf, AsksAt, case_at, content_reads_here, MayBeRead, StandsAt, IsUnvalued, IsNext}
+use Rattle.wi_engine.proofs.Words.{◌≡◌, ◌==◌, ℕ, Bool, true, false, List, map, Option, Some, None, refl, ap, sym, ◌∙◌, subst, list_any, Vec, Value, Replacement, Pair, Tree, pair_of, Content, Constant, Formula, Sheet, content_of, put_all, has_formula, content_reads, addresses, TreeAsks, WhatIf, Key, circular, reaches_here, cell_value, Case, case_of, reaching, with_what_if, what_ifs_of, reads_here, of_formula, RestsOn, put_formula, put_reads, tree_reads, pair_path, reads_not_circular, reaching_suffices, IsIn, in_contained, contains_in, content_below, reaching_below, rests_on_read, rests_on_what_if, asked_what_if, asked_replacing, here_reads, what_if_reads, MemoState, IsMemoOf, AsksAt, case_at, content_reads_here, MayBeRead, StandsAt, IsUnvalued, IsNext}
 
 -- ---- what is read
 
@@ -52,7 +52,7 @@ abbrev pub named : ℕ → Vec Pair → ℕ × List (ℕ × ℕ)
 named f pairs = (f, map addresses (map pair_of pairs.items))
 
 -- a what-if that is asked for is one of the tree's
-pub asked_in : (t : Tree) (f : ℕ) (pairs : Vec Pair) → Asks t (WhatIf f pairs) → IsIn (what_ifs_of t) (named f pairs)
+pub asked_in : (t : Tree) (f : ℕ) (pairs : Vec Pair) → TreeAsks t (WhatIf f pairs) → IsIn (what_ifs_of t) (named f pairs)
 asked_in t f pairs h = in_contained (what_ifs_of t) (named f pairs) (asked_what_if t f pairs h)
 
 -- ---- the cases on which a case rests

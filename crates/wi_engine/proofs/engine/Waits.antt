@@ -1,5 +1,5 @@
 -- What a frame waits for, and what it gets.
-use Rattle.wi_engine.proofs.Words.{◌≡◌, ◌==◌, ◌+◌, ◌<◌, ◌≤◌, ℕ, zero, suc, true, List, [], ◌∷◌, map, filter, length, get_or, Option, Some, None, Result, Ok, Err, IsErr, is_ok, refl, ap, sym, ◌∙◌, arith, eq-eqb, or_left, or_right, true≢false, list_any, is_none, Vec, Value, Replacement, Pair, pair_of, Tree, Content, Formula, Sheet, content_of, put_all, has_formula, cells_with_formula, Asks, Want, Key, is_one_of, formula_cell, cell_value, what_if_value, what_ifs_of, reads_here, formulas_read_here, of_formula, put_formula, IsIn, is_in, asked_cell, same_tree, MemoState, pairs_of, found_value, what_if_found, AreAllRight, IsWithCell, IsWithWhatIf, AsksAt, IsLacking, lacking, case_at, StandsAt, content_reads_here, Awaits, IsUnvaluedFormula, IsFrame, lacks, waits, FrameWaits, Findings, FoundWhatIf, Frame, Unvalued, Waiting, Nothing, Cells}
+use Rattle.wi_engine.proofs.Words.{◌≡◌, ◌==◌, ◌+◌, ◌<◌, ◌≤◌, ℕ, zero, suc, true, List, [], ◌∷◌, map, filter, length, get_or, Option, Some, None, Result, Ok, Err, IsErr, is_ok, refl, ap, sym, ◌∙◌, arith, eq-eqb, or_left, or_right, true≢false, list_any, is_none, Vec, Value, Replacement, Pair, pair_of, Tree, Content, Formula, Sheet, content_of, put_all, has_formula, cells_with_formula, TreeAsks, Want, Key, is_one_of, formula_cell, cell_value, what_if_value, what_ifs_of, reads_here, formulas_read_here, of_formula, put_formula, IsIn, is_in, asked_cell, same_tree, MemoState, pairs_of, found_value, what_if_found, AreAllRight, IsWithCell, IsWithWhatIf, AsksAt, IsLacking, lacking, case_at, StandsAt, content_reads_here, Awaits, IsUnvaluedFormula, IsFrame, lacks, waits, FrameWaits, Findings, FoundWhatIf, Frame, Unvalued, Waiting, Nothing, Cells}
 use Rattle.wi_functions.specs.declared.evaluation.Want.TheVariants as wanted
 use Rattle.wi_sheet.proofs.Members.{in_filter}
 use Rattle.wi_engine.specs.declared.frame.Waiting.TheVariants.{WhatIf}
@@ -39,7 +39,7 @@ awaits_cells s k f want t a others h l e i r =
     (lacking, here a ∙ cell_here s k want t a h e i, put_formula s k.world a lacking.0, λ d m. (here d ∙ (r d m).0, (r d m).1))
 
 -- a cell for which a formula asks, and that is waited for alone
-module _ (s : Sheet) (k : Key) (t : Tree) (a : ℕ) (stands : StandsAt s k t) (asks : Asks t (wanted.Cell a)) where
+module _ (s : Sheet) (k : Key) (t : Tree) (a : ℕ) (stands : StandsAt s k t) (asks : TreeAsks t (wanted.Cell a)) where
   -- what stands in the cell of the key asks for it
   pub asks_at : AsksAt s k.world k.cell (wanted.Cell a)
   asks_at = record { tree = t; is = stands; asks = asks }

@@ -1,5 +1,5 @@
 -- What is remembered in one question.
-use Rattle.wi_engine.proofs.Words.{◌≡◌, ◌==◌, ℕ, true, is_some, List, [], ◌∷◌, ◌++◌, Some, IfSome, Result, Ok, Err, OnOk, OnErr, refl, ap, sym, ◌∙◌, subst, inl, inr, ◌⊎◌, or_cases, or_left, list_any-append, or-false, AllocError, Value, Replacement, Sheet, put_all, Key, Entries, Puts, same_key, value_for, is_one_of, same_cell, cell_value, IsClosedUnderReads, IsTold, IsMemoOf, IsReadOrder, OneQuestion, key_of, question_state, remembered}
+use Rattle.wi_engine.proofs.Words.{◌≡◌, ◌==◌, ℕ, true, is_some, List, [], ◌∷◌, ◌++◌, Some, IfSome, Result, Ok, Err, OnOk, OnErr, refl, ap, sym, ◌∙◌, subst, inl, inr, ◌⊎◌, or_cases, or_left, list_any-append, or-false, AllocError, Value, Replacement, Sheet, put_all, Key, Entries, PutsIn, same_key, value_for, is_one_of, same_cell, cell_value, IsClosedUnderReads, IsTold, IsMemoOf, IsReadOrder, OneQuestion, key_of, question_state, remembered}
 use Rattle.wi_engine.proofs.Places.{known_still, known_then}
 
 -- a list, cut before one of its cells
@@ -32,7 +32,7 @@ no_values s order values o e = record {
 }
 
 -- a value is remembered for a key that was put in, or was before
-pub known_kept : (r : Result (Unit {0}) AllocError) (old new : Entries) (k : Key) (v : Value) → OnOk r (Puts old new k v) → OnErr r (new ≡ old) → (c : ℕ) (w : List Replacement) →
+pub known_kept : (r : Result (Unit {0}) AllocError) (old new : Entries) (k : Key) (v : Value) → OnOk r (PutsIn old new k v) → OnErr r (new ≡ old) → (c : ℕ) (w : List Replacement) →
     IfSome (value_for new (key_of c w)) (λ u. (value_for old (key_of c w) ≡ Some u) ⊎ ((c ≡ k.cell) × (w ≡ k.world) × (u ≡ v)))
 known_kept (Ok x) old new k v p e c w = known_then (value_for old (key_of c w)) (value_for new (key_of c w)) k (key_of c w) v (same_key k (key_of c w)) refl (p (key_of c w))
 known_kept (Err x) old new k v p e c w = known_still (value_for old (key_of c w)) (value_for new (key_of c w)) k (key_of c w) v (ap (λ (es : Entries). value_for es (key_of c w)) e)

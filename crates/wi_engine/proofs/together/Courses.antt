@@ -1,5 +1,5 @@
 -- The cells that are found together with one, and the course that they make.
-use Rattle.wi_engine.proofs.Words.{◌≡◌, ◌==◌, ◌-◌, ◌≤◌, ◌*◌, ℕ, ◌||◌, Bool, true, false, List, ◌∷◌, filter, take, Some, Contains, refl, ap, sym, ◌∙◌, subst, inl, inr, ◌⊎◌, eq-eqb, arith, and_parts, or_left, keys_of, Area, row_of, column_of, is_within, Replacement, Tree, Sheet, content_of, has_formula, put_all, rectangles_of, one_cell, is_one_of, same_cell, reads_here, cells_after, is_after, put_formula, in_filter, IsWhole, rectangle_whole, lies, is_inside, in_corners, lacks_cell, lacking_after, IsSmallestWith, AreTogether, IsCourseTo, is_next, part, Course, Way, Alone, Row, Column, Whole, Findings, Frame, column_within, taken_one}
+use Rattle.wi_engine.proofs.Words.{◌≡◌, ◌==◌, ◌-◌, ◌≤◌, ◌*◌, ℕ, ◌||◌, Bool, true, false, List, ◌∷◌, filter, take, Some, Contains, refl, ap, sym, ◌∙◌, subst, inl, inr, ◌⊎◌, eq-eqb, arith, and_parts, or_left, keys_of, Area, row_of, column_of, is_within, Replacement, Tree, Sheet, content_of, has_formula, put_all, rectangles_of, one_cell, is_one_of, same_cell, reads_here, cells_after, is_after, put_formula, IsWhole, rectangle_whole, lies, is_inside, in_corners, lacks_cell, lacking_after, IsSmallestWith, AreTogether, IsCourseTo, is_next, part, Course, Way, Alone, Row, Column, Whole, Findings, Frame, column_within, has_taken, has-filter}
 
 -- ---- the parts of a rectangle through which ways lead lie in it
 
@@ -26,10 +26,10 @@ led_to s f a old c way one same is (inr twice) next = inr (old, record { one_of 
 -- a cell that comes after one in a rectangle, and has a formula
 comes_after : (s : Sheet) (w : List Replacement) (f : Findings) (r : Area) (a d : ℕ) → is_one_of (lacking_after s w f r a) d ≡ true → (is_within r d ≡ true) × (has_formula (content_of s d) ≡ true)
 comes_after s w f r a d h =
-    let lacked = and_parts (lacks_cell s w f d) _ (sym (in_filter (lacks_cell s w f) (cells_after s r (Some a)) d) ∙ h) in
-    let after = and_parts (is_after (Some a) d) _ (sym (in_filter (is_after (Some a)) (filter (is_within r) (keys_of s)) d) ∙ lacked.1) in
-    let inside = and_parts (is_within r d) _ (sym (in_filter (is_within r) (keys_of s) d) ∙ after.1) in
-    (inside.0, put_formula s w d (and_parts (has_formula (content_of (put_all s w) d)) _ lacked.0).0)
+    let lacked = and_parts (is_one_of (cells_after s r (Some a)) d) _ (sym (has-filter (lacks_cell s w f) (cells_after s r (Some a)) d) ∙ h) in
+    let after = and_parts (is_one_of (filter (is_within r) (keys_of s)) d) _ (sym (has-filter (is_after (Some a)) (filter (is_within r) (keys_of s)) d) ∙ lacked.0) in
+    let inside = and_parts (is_one_of (keys_of s) d) _ (sym (has-filter (is_within r) (keys_of s) d) ∙ after.0) in
+    (inside.1, put_formula s w d (and_parts (has_formula (content_of (put_all s w) d)) _ lacked.1).0)
 
 -- ---- a cell, and those that are lacking after it in a part of the rectangle
 
@@ -52,7 +52,7 @@ they_are_read s w f t rs r area way cells a more e k p i h g d m = by (a == d) r
         let is : a ≡ d = same_cell d a same in
         (ap (reads_here t) (sym is) ∙ h, ap (λ (c : ℕ). has_formula (content_of s c)) (sym is) ∙ g)
     by false same l =
-        let there = comes_after s w f area a d (taken_one (lacking_after s w f area a) more d l) in
+        let there = comes_after s w f area a d (has_taken (lacking_after s w f area a) more d l) in
         (beside (rectangle_whole t r (subst (λ (xs : List Area). Contains xs r) e k.one_of)) (part_within r way a d k.holds (sym (ap (λ (x : Area). is_within x d) p) ∙ there.0)), there.1)
 
 -- they are of one rectangle

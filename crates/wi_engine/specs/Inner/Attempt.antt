@@ -11,7 +11,7 @@ use Rattle.wi_parser.specs.declared.content.Content.{Content}
 use Rattle.wi_parser.specs.declared.content.Content.TheVariants.{Constant, Formula}
 use Rattle.wi_parser.specs.Sheet.{Sheet, content_of, put_all, has_formula}
 use Rattle.wi_arguments.specs.Assignment.{addresses}
-use Rattle.wi_functions.specs.Wants.{Asks}
+use Rattle.wi_functions.specs.Wants.{TreeAsks}
 use Rattle.wi_functions.specs.declared.evaluation.Want.{Want}
 use Rattle.wi_functions.specs.declared.evaluation.Want.TheVariants.{Cell, WhatIf}
 use Rattle.wi_sheet.specs.Demand.{formulas_read_here, what_ifs_of}
@@ -33,7 +33,7 @@ cell_known s w f c = known_in (content_of (put_all s w) c) (found_value f c)
 pub record AsksAt (s : Sheet) (w : List Replacement) (c : ℕ) (want : Want) : Type 0 where
   pub tree : Tree
   pub is : content_of (put_all s w) c ≡ Some (Formula tree)
-  pub asks : Asks tree want
+  pub asks : TreeAsks tree want
 
 -- a value that was not found: of a cell that has a formula under replacements, or of a what-if
 abbrev pub IsLacking : Sheet → List Replacement → Findings → Want → Type 0

@@ -5,11 +5,11 @@ use Rattle.std.specs.Str.{is_utf8}
 use Rattle.wi_values.specs.Address.{rows, columns, place}
 use Rattle.wi_values.specs.Inner.Import.{field_value}
 use Rattle.wi_values.specs.declared.value.Value.{Value}
+use Rattle.wi_values.specs.Imported.{IsImported}
 use Rattle.wi_parser.specs.declared.content.Content.{Content}
 use Rattle.wi_parser.specs.Sheet.{constant}
 use Rattle.wi_import.specs.declared.fault.ImportFault.{ImportFault}
 use Rattle.wi_import.specs.declared.fault.ImportFault.TheVariants.{BadField, TooLong, OutOfSheet}
-use Rattle.wi_values.specs.Imported.{IsImported}
 use Rattle.wi_import.specs.Fields.{Field}
 
 -- the cell for which a field is

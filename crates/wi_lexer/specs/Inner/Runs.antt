@@ -4,10 +4,6 @@ use Rattle.std.specs.List.{prefix_len}
 use Rattle.std.specs.Char.{is_ascii_digit, is_ascii_alphabetic}
 use Rattle.std.specs.Str.{byte}
 
--- any byte but `]`
-abbrev pub is_inside : ℕ → Bool
-is_inside b = if b == byte "]" then false else true
-
 -- any byte but `:`
 abbrev pub is_before_colon : ℕ → Bool
 is_before_colon b = if b == byte ":" then false else true
@@ -17,9 +13,6 @@ digits_len bs = prefix_len is_ascii_digit bs
 
 abbrev pub letters_len : List ℕ → ℕ
 letters_len bs = prefix_len is_ascii_alphabetic bs
-
-abbrev pub inside_len : List ℕ → ℕ
-inside_len bs = prefix_len is_inside bs
 
 abbrev pub before_colon_len : List ℕ → ℕ
 before_colon_len bs = prefix_len is_before_colon bs

@@ -21,12 +21,15 @@ abbrev pub mark_token : Option mark.Mark → Option (Kind × ℕ)
 mark_token None = None
 mark_token (Some m) = Some (Mark m, length (mark_text m))
 
+-- the reference at the front, to a cell or to a rectangle
+abbrev pub brackets_at : List ℕ → Option (Kind × ℕ)
+brackets_at bs = option_or (of_length Reference (reference_len bs)) (of_length Rectangle (rectangle_len bs))
+
 -- the longest token at the front and its length: a number, else a mark, else a reference, else a rectangle, else a name, else a text
 unfoldable pub token_at : List ℕ → Option (Kind × ℕ)
 token_at bs =
     option_or (of_length Number (number_len bs))
     (option_or (mark_token (mark_at bs))
-    (option_or (of_length Reference (reference_len bs))
-    (option_or (of_length Rectangle (rectangle_len bs))
+    (option_or (brackets_at bs)
     (option_or (of_length Name (name_len bs))
-    (of_length Text (text_len bs))))))
+    (of_length Text (text_len bs)))))

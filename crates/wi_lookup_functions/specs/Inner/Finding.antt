@@ -5,10 +5,10 @@ use Rattle.wi_values.specs.Address.{Area, is_within}
 use Rattle.wi_values.specs.declared.value.ErrorKind.{ErrorKind}
 use Rattle.wi_values.specs.declared.value.Value.{Value}
 use Rattle.wi_values.specs.declared.value.Value.TheVariants.{Fault}
-use Rattle.wi_arguments.specs.declared.argument.Argument as given
-use Rattle.wi_arguments.specs.Arguments.{arguments_in, KnownAgrees, IsMissing, refers_to}
 use Rattle.wi_standard_functions.specs.Arguments.{Argument, Region, region_of}
 use Rattle.wi_standard_functions.specs.Arithmetic.{whole_value}
+use Rattle.wi_arguments.specs.declared.argument.Argument as given
+use Rattle.wi_arguments.specs.Arguments.{arguments_in, KnownAgrees, IsMissing, refers_to}
 use Rattle.wi_value_functions.specs.declared.ending.Ending.{Ending}
 use Rattle.wi_value_functions.specs.declared.ending.Ending.TheVariants.{Error, Stopped}
 

@@ -13,10 +13,10 @@ use Rattle.wi_value_functions.specs.declared.ending.Stop.{Stop}
 use Rattle.wi_value_functions.specs.declared.ending.Stop.TheVariants.{Memory}
 use Rattle.wi_arguments.specs.Arguments.{KnownAgrees, IsOfArguments, IsMissing}
 use Rattle.wi_value_functions.specs.Endings.{IfMissing}
-use Rattle.wi_lookup_functions.specs.declared.criterion.Criterion.{Criterion}
-use Rattle.wi_lookup_functions.specs.Inner.Meeting.{criterion_held}
 use Rattle.wi_value_functions.specs.declared.ending.Ending.{Ending}
 use Rattle.wi_value_functions.specs.declared.ending.Ending.TheVariants.{Error, Stopped}
+use Rattle.wi_lookup_functions.specs.declared.criterion.Criterion.{Criterion}
+use Rattle.wi_lookup_functions.specs.Inner.Meeting.{criterion_held}
 
 -- the function's value or error, whatever the cells hold of which this is known, or a cell whose value is missing
 abbrev pub Gives : (ℕ → Option Value) → (List Argument → Value) → List given.Argument → Result Value (Ending (Stop ℕ)) → Type 0

@@ -2,11 +2,11 @@
 use Rattle.std.specs.Prelude.{◌≡◌, ℕ, Bool, false}
 use Rattle.std.proofs.Common.{ap, refl}
 use Rattle.wi_values.specs.declared.value.Value.TheVariants.{Empty}
+use Rattle.wi_value_functions.specs.Inner.Counts.{counted}
 use Rattle.wi_lookup_functions.specs.declared.criterion.Criterion.{Criterion}
 use Rattle.wi_lookup_functions.specs.declared.criterion.Relation.{Relation}
 use Rattle.wi_lookup_functions.specs.declared.criterion.Relation.TheVariants.{Equal, Unequal, Less, AtMost, Greater, AtLeast}
 use Rattle.wi_lookup_functions.specs.Inner.Meeting.{is_met, relation_of, EmptyMeetsNone}
-use Rattle.wi_value_functions.specs.Inner.Counts.{counted}
 
 -- Empty meets none
 pub empty_meets_none : EmptyMeetsNone

@@ -6,7 +6,7 @@ use Rattle.wi_lexer.specs.declared.token.Kind.{Kind}
 use Rattle.wi_lexer.specs.declared.token.Kind.TheVariants.{Number, Text, Reference, Rectangle, Mark, Name}
 use Rattle.wi_lexer.specs.declared.token.Mark as mark
 use Rattle.wi_lexer.specs.declared.token.Mark.TheVariants.{OpenParenthesis, CloseParenthesis, Semicolon, Plus, Minus, Asterisk, Slash, Caret, Percent, Ampersand, Equal, NotEqual, Less, LessOrEqual, Greater, GreaterOrEqual}
-use Rattle.wi_lexer.specs.Cell.{Cell}
+use Rattle.wi_lexer.specs.Cell.{WrittenCell}
 use Rattle.wi_lexer.specs.Inner.Reference.{reference_of}
 use Rattle.wi_lexer.specs.Inner.Rectangle.{rectangle_of}
 use Rattle.wi_lexer.specs.Inner.Text.{text_content}
@@ -27,7 +27,7 @@ abbrev pub cell_symbol : Option references.Reference → Symbol
 cell_symbol None = bad_token OutOfSheet
 cell_symbol (Some r) = reference r
 
-abbrev pub reference_symbol : Option Cell → Symbol
+abbrev pub reference_symbol : Option WrittenCell → Symbol
 reference_symbol None = bad_token Syntax
 reference_symbol (Some c) = cell_symbol (reference_to c)
 
@@ -37,7 +37,7 @@ corners_symbol None d = bad_token OutOfSheet
 corners_symbol (Some c) None = bad_token OutOfSheet
 corners_symbol (Some c) (Some d) = corners (record { one = c; other = d })
 
-abbrev pub rectangle_symbol : Option (Cell × Cell) → Symbol
+abbrev pub rectangle_symbol : Option (WrittenCell × WrittenCell) → Symbol
 rectangle_symbol None = bad_token Syntax
 rectangle_symbol (Some p) = corners_symbol (reference_to p.0) (reference_to p.1)
 

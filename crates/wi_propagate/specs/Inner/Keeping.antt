@@ -2,6 +2,7 @@
 use Rattle.std.specs.Prelude.{◌≡◌, ◌≤◌, ◌-◌, ℕ, true, [], length, Option, None, Some, IfSome, IsSome, is_some}
 use Rattle.std.specs.Option.{option_or}
 use Rattle.std.specs.Ordering.{nat_cmp}
+use Rattle.std.specs.Global.{Box}
 use Rattle.std.specs.Map.{lookup}
 use Rattle.std.specs.BTreeMap.{is_at}
 use Rattle.wi_values.specs.declared.value.Value.{Value}
@@ -9,7 +10,7 @@ use Rattle.wi_parser.specs.Sheet.{Sheet}
 use Rattle.wi_functions.specs.Counts.{Counts}
 use Rattle.wi_store.specs.Store.{Stored}
 use Rattle.wi_cache.specs.declared.key.Key.{Key}
-use Rattle.wi_cache.specs.Entries.{Entries, HasOneEach, KeptValues, Puts, kept, value_for}
+use Rattle.wi_cache.specs.Entries.{Entries, HasOneEach, KeptValues, PutsIn, kept, value_for}
 use Rattle.wi_engine.specs.Inner.MemoState.{MemoState}
 use Rattle.wi_propagate.specs.KeptSheet.{Generations, KeptSheet, generation_in, key_in}
 use Rattle.wi_propagate.specs.Right.{AreRight}
@@ -21,16 +22,16 @@ abbrev pub HasGeneration : Generations → ℕ → Type 0
 HasGeneration gs c = IsSome (lookup (is_at (nat_cmp c)) gs)
 
 -- what is kept of what is held, which is there but while a question is answered
-abbrev pub values_in : Option Held → KeptValues
+abbrev pub values_in : Option (Box Held) → KeptValues
 values_in None = kept [] 1
-values_in (Some h) = h.kept
+values_in (Some h) = h.value.kept
 
 -- the cones that are held are those of the sheet
-abbrev pub AreHeldCones : Sheet → Option Held → Type 0
-AreHeldCones s o = IfSome o (λ h. AreAllCones s h.cones)
+abbrev pub AreHeldCones : Sheet → Option (Box Held) → Type 0
+AreHeldCones s o = IfSome o (λ h. AreAllCones s h.value.cones)
 
 -- what a calculator is seen as that keeps values
-abbrev pub kept_sheet : Stored → Generations → Option Held → Counts → KeptSheet
+abbrev pub kept_sheet : Stored → Generations → Option (Box Held) → Counts → KeptSheet
 kept_sheet s gs o n = record { stored = s; generations = gs; values = values_in o; counts = n }
 
 -- a sheet with its count of edits and its generations, the values that were given up in a question, and those kept
@@ -79,4 +80,4 @@ pub record IsKeepingRight (q : Keeping) : Type 0 where
 -- a copy of the entry that goes, if one does, is put among those that were given up
 abbrev pub TakesOver : Option (Key × Value) → Entries → Entries → Type 0
 TakesOver None old new = new ≡ old
-TakesOver (Some e) old new = Puts old new e.0 e.1
+TakesOver (Some e) old new = PutsIn old new e.0 e.1

@@ -1,9 +1,9 @@
 -- What a plain calculator is seen as, and what it marks.
 use Rattle.std.specs.Prelude.{ℕ, Bool, ◌||◌, List}
+use Rattle.wi_values.specs.Address.{is_one_of}
 use Rattle.wi_parser.specs.Sheet.{Sheet, content_of, has_formula}
 use Rattle.wi_functions.specs.Counts.{Counts}
 use Rattle.wi_store.specs.Store.{Stored}
-use Rattle.wi_values.specs.Address.{is_one_of}
 use Rattle.wi_propagate.specs.declared.plain.PlainCalculator.{PlainCalculator}
 
 -- its sheet, with the count of accepted edits and the limits of both

@@ -1,4 +1,4 @@
--- Of which shape a table's column and row are, and how many entries it has.
+-- The shape of a table: whether its second rectangle, where it has one, is a row, and how many entries it has.
 use Rattle.std.specs.Prelude.{ℕ, ◌*◌, Bool, true, Option, Some, None}
 use Rattle.wi_values.specs.Address.{Area, size_of, is_row}
 

@@ -4,9 +4,9 @@ use Rattle.std.specs.Map.{keys_of}
 use Rattle.wi_values.specs.Address.{Area, is_one_of}
 use Rattle.wi_parser.specs.declared.content.Content.{Content}
 use Rattle.wi_parser.specs.Sheet.{Sheet}
+use Rattle.wi_edit_log.specs.EditLog.{Entry, first_stale}
 use Rattle.wi_store.specs.declared.fault.StoreFault.{StoreFault}
 use Rattle.wi_store.specs.Store.{Stored}
-use Rattle.wi_edit_log.specs.EditLog.{Entry, first_stale}
 use Rattle.wi_sessions.specs.Roster.{Roster, session_at, pending_of, vacant_of}
 use Rattle.wi_scenarios.specs.declared.refusal.Refusal.{Refusal}
 use Rattle.wi_scenarios.specs.declared.refusal.Refusal.TheVariants.{Memory}

@@ -1,8 +1,8 @@
 -- In what order cells with a formula are read.
 use Rattle.std.specs.Prelude.{◌≡◌, ℕ, true, false, List, ◌∷◌, ◌++◌}
+use Rattle.wi_values.specs.Address.{is_one_of}
 use Rattle.wi_parser.specs.Sheet.{Sheet, content_of, has_formula}
 use Rattle.wi_parser.specs.Reads.{content_reads}
-use Rattle.wi_values.specs.Address.{is_one_of}
 
 -- the cell may stand after these: it has a formula, each cell with a formula that it reads is one of these, and the cell itself is none of these
 pub record MayFollow (s : Sheet) (cells : List ℕ) (c : ℕ) : Type 0 where

@@ -5,14 +5,14 @@ use Rattle.wi_parser.specs.Tree.{Tree}
 use Rattle.wi_parser.specs.declared.content.Content.TheVariants.{Formula}
 use Rattle.wi_parser.specs.Sheet.{Sheet, content_of, put_all, has_formula}
 use Rattle.wi_functions.specs.Counts.{Counts}
-use Rattle.wi_sheet.specs.Demand.{Case, case_of, with_what_if, rests_on, wants}
+use Rattle.wi_sheet.specs.Demand.{Case, case_of, with_what_if, precedent_cases, wants}
 
 -- a case rests on another: its formula reads that one's cell as the sheet stands, or has a what-if of it, and that one has a
 -- formula too
 pub record RestsOn (s : Sheet) (k j : Case) : Type 0 where
   pub tree : Tree
   pub is : content_of (put_all s k.1) k.0 ≡ Some (Formula tree)
-  pub asks : Contains (rests_on s k.1 tree) j
+  pub asks : Contains (precedent_cases s k.1 tree) j
   pub formula : has_formula (content_of (put_all s j.1) j.0) ≡ true
 
 -- a list of cases that has all on which they rest

@@ -1,10 +1,10 @@
 -- How the code's outcomes stand to the definitions.
 use Rattle.std.specs.Prelude.{◌≡◌, ℕ, ◌++◌, List, Result, Ok, Err, ⊤, string_bytes}
+use Rattle.wi_values.specs.declared.value.ErrorKind.{ErrorKind}
 use Rattle.wi_value_functions.specs.declared.text.convert.Shown.{Shown}
 use Rattle.wi_value_functions.specs.declared.text.convert.Shown.TheVariants.{Lent, Written}
 use Rattle.wi_value_functions.specs.declared.ending.Ending.{Ending}
 use Rattle.wi_value_functions.specs.declared.ending.Ending.TheVariants.{Error, Stopped}
-use Rattle.wi_values.specs.declared.value.ErrorKind.{ErrorKind}
 
 -- a step's result, as f sees it, or its error, unless memory is wanting
 abbrev pub Agrees : {A B S : Type 0} → (A → B) → Result A (Ending S) → Result B ErrorKind → Type 0

@@ -2,12 +2,12 @@
 
 ghost use Rattle.std.specs.Prelude.{◌≡◌, ◌++◌, IfOk, OnOk, string_bytes};
 ghost use Rattle.std.specs.List.{repeat};
+ghost use Rattle.wi_values.specs.Value.{shown_text};
 ghost use Rattle.wi_standard_functions.specs.Arithmetic.{limited_text};
 ghost use Rattle.wi_standard_functions.specs.Convert.{to_text};
 ghost use Rattle.wi_standard_functions.specs.Text.{concatenate_value, rept_value};
 ghost use Rattle.wi_value_functions.specs.Endings.{Gives};
 ghost use Rattle.wi_value_functions.specs.Inner.Gives.{Agrees};
-ghost use Rattle.wi_values.specs.Value.{shown_text};
 
 use crate::ending::{Ending, settled};
 use crate::text::convert::{at_least, to_text, to_whole};

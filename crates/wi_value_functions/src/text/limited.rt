@@ -1,7 +1,7 @@
 //! Copies of texts as values, where they are not too long.
 
-ghost use Rattle.wi_value_functions.specs.Endings.{Gives};
 ghost use Rattle.wi_standard_functions.specs.Arithmetic.{limited_text};
+ghost use Rattle.wi_value_functions.specs.Endings.{Gives};
 
 use crate::ending::Ending;
 use std::alloc::{AllocError, Global};

@@ -18,7 +18,7 @@ turns-preserved g c =
     let turned = rw c.if-branch.true at c.in_ok-turn.ensures.done in
     let old = c.turns.invariant in
     record {
-      going = going_on _ _ _ _ _ _ _ _ _ _ _ c.turns.script.lines _ old.going turned;
+      going = going_on _ _ _ _ _ _ _ _ _ _ _ c.turns.buffers.script.lines _ old.going turned;
       few = still_few turned;
       reads = c.in_ok-turn.ensures.reads;
       writes = c.in_ok-turn.ensures.writes;
@@ -41,7 +41,7 @@ returns-in_err-turn g c =
     let old = c.turns.invariant in
     record {
       runs =
-          run_is _ _ _ _ _ _ _ _ _ _ _ _ (rw (p.1, p.2) (ends_stopped _ _ _ _ _ _ _ _ _ _ _ _ c.turns.script.lines old.going c.in_err-turn.ensures.done))
+          run_is _ _ _ _ _ _ _ _ _ _ _ _ (rw (p.1, p.2) (ends_stopped _ _ _ _ _ _ _ _ _ _ _ _ c.turns.buffers.script.lines old.going c.in_err-turn.ensures.done))
           (search rules) (search rules) (search rules) (search rules) (failed_unread _ _ _ p.1 p.2 c.in_err-turn.ensures.reads) (search rules) (search rules) (search rules);
     }
 
@@ -51,6 +51,6 @@ returns g c =
     let old = c.turns.invariant in
     record {
       runs =
-          run_is _ _ _ _ _ _ _ _ _ _ _ _ (ends_sent _ _ _ _ _ _ _ _ _ _ _ _ _ c.turns.script.lines _ old.going turned c.send.ensures.bytes c.send.ensures.fault)
+          run_is _ _ _ _ _ _ _ _ _ _ _ _ (ends_sent _ _ _ _ _ _ _ _ _ _ _ _ _ c.turns.buffers.script.lines _ old.going turned c.send.ensures.bytes c.send.ensures.fault)
           (all_read _ _ _ _ _ _ _ _ _ _ _ turned) (search rules) (search rules) (search rules) (search rules) (search rules) (search rules) (search rules);
     }

@@ -7,11 +7,11 @@ invariant-turns g l =
     let left = g.R.Source.remaining in
     let given = g.W.Sink.contents in
     record {
-      going : IsGoing (left l.fn.reader) l.script.chunk (left l.reader) l.fn.book.state l.book.state (given l.fn.writer) (given l.writer) l.script.lines;
-      few : l.script.lines ≤ 1000000;
-      reads : CanRead (g.R.Source.has_failed l.reader) (vec_capacity l.script.line);
+      going : IsGoing (left l.fn.reader) l.buffers.script.chunk (left l.reader) l.fn.book.state l.book.state (given l.fn.writer) (given l.writer) l.buffers.script.lines;
+      few : l.buffers.script.lines ≤ 1000000;
+      reads : CanRead (g.R.Source.has_failed l.reader) (vec_capacity l.buffers.script.line);
       writes : g.W.Sink.has_failed l.writer ≡ false;
     }
 
 abbrev pub decreases-turns : goal.decreases-turns
-decreases-turns g l = 1000001 - l.script.lines
+decreases-turns g l = 1000001 - l.buffers.script.lines

@@ -1,22 +1,77 @@
-use Rattle.wi_cli.proofs.Vocabulary.{rules}
+use Rattle.wi_cli.proofs.Vocabulary.{◌∙◌, [], None, Some, rules, err_from_is_err_and, command_of_csv}
 use Rattle.wi_cli.proofs.ReadingLemmas.{stops_unwritten}
-use Rattle.wi_cli.proofs.TurnLemmas.{turned, cut_short, stopped}
+use Rattle.wi_cli.proofs.TakenLemmas.{first_broke, data_broke, csv_block, data_of}
+use Rattle.wi_cli.proofs.DataLemmas.{csv_read}
+use Rattle.wi_cli.proofs.TurnLemmas.{asked_block, passed, turned, cut_short, stopped, broke_no_memory}
 use Rattle.wi_cli.proofs.runs.turn.Goals as goal
 
+pub returns-in_err-whole-clause-done : goal.returns-in_err-whole-clause-done
+returns-in_err-whole-clause-done g c =
+    let p = err_from_is_err_and c.from_residual.result c.from_residual.ensures.1 in
+    rw (p.1, p.2) (stopped _ _ _ _ _ _ _ _ _ _ (first_broke _ _ _ _ _ c.args.buffers.now.script.lines c.requires.few c.in_err-whole.ensures.took) (search rules) (search rules))
+
+pub returns-in_err-whole-clause-reads : goal.returns-in_err-whole-clause-reads
+returns-in_err-whole-clause-reads g c =
+    let p = err_from_is_err_and c.from_residual.result c.from_residual.ensures.1 in
+    rw (p.1, p.2) c.in_err-whole.ensures.reads
+
+pub returns-in_err-whole-clause-no_memory : goal.returns-in_err-whole-clause-no_memory
+returns-in_err-whole-clause-no_memory g c =
+    let p = err_from_is_err_and c.from_residual.result c.from_residual.ensures.1 in
+    broke_no_memory _ _ _ _ _ _ _ _ p.1 p.2 c.in_err-whole.ensures.took
+
+pub returns-in-Passed-clause-done : goal.returns-in-Passed-clause-done
+returns-in-Passed-clause-done g c =
+    let k = c.in_ok-whole.ensures.took.0 in
+    passed _ _ _ _ _ _ _ _ _ (asked_block _ _ _ _ _ _ _ _ _ None c.requires.few k c.in_ok-whole.ensures.took.1 c.deref.ensures.value c.in-Passed.ensures.0 c.in-Passed.ensures.1)
+
+pub returns-in-Ok-clause-done : goal.returns-in-Ok-clause-done
+returns-in-Ok-clause-done g c =
+    let k = c.in_ok-whole.ensures.took.0 in
+    let a = c.in-Command.ensures in
+    turned _ _ _ _ _ _ _ _ _ _ _ (Some a.1.0) c.serve-reply.result c.serve-reply.new.out.items
+    (asked_block _ _ _ _ _ _ _ _ _ (Some a.1.0) c.requires.few k c.in_ok-whole.ensures.took.1 c.deref.ensures.value a.0 a.1.1)
+    (c.serve-reply.ensures a.1.0 a.1.2) (rw c.deref-in-Command.ensures.value at c.in-Ok.ensures.ok)
+
 pub returns-in-Err-clause-done : goal.returns-in-Err-clause-done
-returns-in-Err-clause-done g c = stopped _ _ _ _ _ _ _ _ _ _ c.in-Err.ensures.took (search rules) (search rules)
+returns-in-Err-clause-done g c =
+    let k = c.in_ok-whole.ensures.took.0 in
+    let a = c.in-Command.ensures in
+    cut_short _ _ _ _ _ _ _ _ _ _ _ (Some a.1.0) c.serve-reply.result c.serve-reply.new.out.items
+    (asked_block _ _ _ _ _ _ _ _ _ (Some a.1.0) c.requires.few k c.in_ok-whole.ensures.took.1 c.deref.ensures.value a.0 a.1.1)
+    (c.serve-reply.ensures a.1.0 a.1.2) (rw c.deref-in-Command.ensures.value at c.in-Err.ensures.err)
+
+pub returns-in-Err-clause-reads : goal.returns-in-Err-clause-reads
+returns-in-Err-clause-reads g c = stops_unwritten c.in_ok-whole.ensures.reads
+
+pub returns-in-Err-read_data-clause-done : goal.returns-in-Err-read_data-clause-done
+returns-in-Err-read_data-clause-done g c =
+    let k = c.in_ok-whole.ensures.took.0 in
+    let a = c.in-Csv.ensures in
+    let is = csv_read _ k.content (c.deref.ensures.value ∙ k.kept) c.in-Csv.csv a.0 a.1 in
+    stopped _ _ _ _ _ _ _ _ _ _ (data_broke c.in_ok-whole.whole _ _ _ _ _ _ _ _ c.args.buffers.now.script.lines _ c.requires.few k c.in_ok-whole.ensures.took.1 c.in-Csv.csv is c.in-Err-read_data.ensures.took) (search rules) (search rules)
 
 pub returns-in-Ok-write_reply-clause-done : goal.returns-in-Ok-write_reply-clause-done
 returns-in-Ok-write_reply-clause-done g c =
-    let k = c.in-Ok.ensures.took in
-    let told = rw c.deref.ensures.value at c.serve_block-reply.ensures in
-    turned _ _ _ _ _ _ _ _ _ _ _ k.0 c.serve_block-reply.result c.serve_block-reply.new.out.items k.1 (told k.0 k.2) (rw c.deref-2.ensures.value at c.in-Ok-write_reply.ensures.ok)
+    let k = c.in_ok-whole.ensures.took.0 in
+    let a = c.in-Csv.ensures in
+    let is = csv_read _ k.content (c.deref.ensures.value ∙ k.kept) c.in-Csv.csv a.0 a.1 in
+    let h = c.in-Ok-read_data.ensures.took in
+    let d = c.read_data.new.data_lines in
+    turned _ _ _ _ _ _ _ _ _ _ _ (Some (command_of_csv c.in-Csv.csv (data_of h.took) d.missing)) c.serve_csv-reply.result []
+    (csv_block c.in_ok-whole.whole c.in-Ok-read_data.end _ _ _ _ _ _ _ c.args.buffers.now.script.lines _ _ c.requires.few k c.in_ok-whole.ensures.took.1 c.in-Csv.csv is d h c.in-Ok-read_data.ensures.all)
+    (c.serve_csv-reply.ensures (data_of h.took) c.in-Ok-read_data.ensures.wanted h.held) c.in-Ok-write_reply.ensures.ok
 
 pub returns-in-Err-write_reply-clause-done : goal.returns-in-Err-write_reply-clause-done
 returns-in-Err-write_reply-clause-done g c =
-    let k = c.in-Ok.ensures.took in
-    let told = rw c.deref.ensures.value at c.serve_block-reply.ensures in
-    cut_short _ _ _ _ _ _ _ _ _ _ _ k.0 c.serve_block-reply.result c.serve_block-reply.new.out.items k.1 (told k.0 k.2) (rw c.deref-2.ensures.value at c.in-Err-write_reply.ensures.err)
+    let k = c.in_ok-whole.ensures.took.0 in
+    let a = c.in-Csv.ensures in
+    let is = csv_read _ k.content (c.deref.ensures.value ∙ k.kept) c.in-Csv.csv a.0 a.1 in
+    let h = c.in-Ok-read_data.ensures.took in
+    let d = c.read_data.new.data_lines in
+    cut_short _ _ _ _ _ _ _ _ _ _ _ (Some (command_of_csv c.in-Csv.csv (data_of h.took) d.missing)) c.serve_csv-reply.result []
+    (csv_block c.in_ok-whole.whole c.in-Ok-read_data.end _ _ _ _ _ _ _ c.args.buffers.now.script.lines _ _ c.requires.few k c.in_ok-whole.ensures.took.1 c.in-Csv.csv is d h c.in-Ok-read_data.ensures.all)
+    (c.serve_csv-reply.ensures (data_of h.took) c.in-Ok-read_data.ensures.wanted h.held) c.in-Err-write_reply.ensures.err
 
 pub returns-in-Err-write_reply-clause-reads : goal.returns-in-Err-write_reply-clause-reads
-returns-in-Err-write_reply-clause-reads g c = stops_unwritten c.in-Ok.ensures.reads
+returns-in-Err-write_reply-clause-reads g c = stops_unwritten c.in-Ok-read_data.ensures.reads

@@ -1,5 +1,5 @@
-use Rattle.wi_cli.proofs.WordLemmas.{trimmed}
+use Rattle.wi_cli.proofs.WordLemmas.{spaces_off}
 use Rattle.wi_cli.proofs.words.skip_spaces.Goals as goal
 
 pub returns : goal.returns
-returns c = trimmed c.args.text.now c.trim_start_matches.result.now c.trim_start_matches.ensures.matches
+returns c = spaces_off c.args.bytes.now c.spaces_len.result c.spaces_len.ensures.value

@@ -1,13 +1,13 @@
-use Rattle.wi_edit_log.proofs.Words.{◌≡◌, ◌∙◌, ◌&&◌, ap, sym, max, rows, columns, row_of, column_of, is_within, in_both}
-use Rattle.wi_edit_log.proofs.Shared.{both_below, first_shared}
+use Rattle.wi_edit_log.proofs.Words.{◌≡◌, ◌∙◌, ◌&&◌, ap, sym, max, rows, columns, row_of, column_of, is_within, in_both, max_below}
+use Rattle.wi_edit_log.proofs.Shared.{first_shared}
 use Rattle.wi_edit_log.proofs.search.first_in_both.Goals as goal
 use Rattle.wi_edit_log.proofs.search.first_in_both.Goals.{then-contains, else-contains}
 
 pub at-at-requires-clause-row_within : goal.at-at-requires-clause-row_within
-at-at-requires-clause-row_within c = both_below c.max-row.result c.row.result c.row-2.result rows c.max-row.ensures c.row.ensures.within c.row-2.ensures.within
+at-at-requires-clause-row_within c = max_below c.max-row.result c.row.result c.row-2.result rows c.max-row.ensures c.row.ensures.within c.row-2.ensures.within
 
 pub at-at-requires-clause-column_within : goal.at-at-requires-clause-column_within
-at-at-requires-clause-column_within c = both_below c.max-column.result c.column.result c.column-2.result columns c.max-column.ensures c.column.ensures.within c.column-2.ensures.within
+at-at-requires-clause-column_within c = max_below c.max-column.result c.column.result c.column-2.result columns c.max-column.ensures c.column.ensures.within c.column-2.ensures.within
 
 pub returns : goal.returns
 returns c =

@@ -1,6 +1,6 @@
-use Rattle.wi_functions.proofs.Words.{◌≡◌, ℕ, List, refl, sym, ap, ◌∙◌, subst, arith, rules, err_from_is_err_and, MatchResult-weaker, Value, Expr, the_lemmas, Tree, text, binary, call, binary_seen, leaves, all_leaves, tree_of, all_of, value_or, call_value, applied, applied_to_values, Lazy, References, values_alone, arguments_in, operate, meaning, arguments, IsWanted, values_of, ReferInside, of_tree, of_parameters, mapped, Evaluates, IfMissing, Stop, Want}
+use Rattle.wi_functions.proofs.Words.{◌≡◌, ℕ, List, refl, sym, ap, ◌∙◌, subst, arith, rules, err_from_is_err_and, MatchResult-weaker, Value, Expr, the_lemmas, Tree, text, binary, call, binary_seen, leaves, all_leaves, tree_of, all_of, value_or, call_value, applied_to_arguments, applied_to_values, Lazy, References, values_alone, arguments_in, operate, meaning, arguments, IsWanted, values_of, ReferInside, of_tree, of_parameters, mapped, Evaluates, IfMissing, Stop, Want}
 use Rattle.wi_arguments.specs.declared.argument.Argument as given
-use Rattle.wi_functions.proofs.Asking.{left_asks, right_asks, memory_wants, wanted_too, evaluates_too, stop_wants}
+use Rattle.wi_functions.proofs.Asking.{left_asks, right_asks, memory_wants, wanted_too, evaluates_too, made_of, stop_wants}
 use Rattle.wi_functions.proofs.Parameters.{value_there, value_missing, asks_there, length_arguments, call_found, more_arguments, more_values, none_left, reference_is, value_is, reference_asks, value_asks, more_refer}
 use Rattle.wi_functions.proofs.evaluation.+evaluating.Goals as goal
 use Rattle.wi_functions.proofs.evaluation.+evaluating.Goals.{all_arguments-in-Some, all_arguments-in-None+in_ok-value_of-in-None}
@@ -23,9 +23,9 @@ value_of-returns-in-Some g t c =
     (evaluates_too g.L.Lookup.known_cell g.L.Lookup.known_what_if c.args.lookup.now (mapped (operate op c.in-Some.x.now) (of_tree right)) (of_tree (binary op left right)) c.with_right_operand.result
     (λ a agrees. ap (λ (x : Value). operate op x (meaning right a.cells a.what_ifs)) (c.in-Some.ensures a agrees)) (right_asks op left right) c.with_right_operand.ensures)
 
-pub value_of-returns-in-None : goal.value_of-returns-in-None
-value_of-returns-in-None g t c =
-    let is = binary_seen _ _ _ _ _ c.in-Binary.is c.deref-in-None.ensures c.deref-in-None-2.ensures in
+pub value_of-returns-in_default : goal.value_of-returns-in_default
+value_of-returns-in_default g t c =
+    let is = binary_seen _ _ _ _ _ c.in-Binary.is c.deref-in-Binary-2.ensures c.deref-in-Binary-3.ensures in
     subst (λ (u : Tree). Evaluates g.L.Lookup.known_cell g.L.Lookup.known_what_if c.args.lookup.now c.binary_value.result (of_tree u)) (sym is) c.binary_value.ensures
 
 -- ---- two operands
@@ -42,6 +42,14 @@ binary_value-returns g t c =
     let right = tree_of c.args.right.now in
     evaluates_too g.L.Lookup.known_cell g.L.Lookup.known_what_if c.args.lookup.now (mapped (operate op c.in_ok-x.x) (of_tree right)) (of_tree (binary op left right)) c.with_right_operand.result
     (λ a agrees. ap (λ (x : Value). operate op x (meaning right a.cells a.what_ifs)) (c.in_ok-x.ensures a agrees)) (right_asks op left right) c.with_right_operand.ensures
+
+pub with_right_operand-returns-in-Some : goal.with_right_operand-returns-in-Some
+with_right_operand-returns-in-Some g t c =
+    made_of g.L.Lookup.known_cell g.L.Lookup.known_what_if c.args.lookup.now (operate c.args.operator c.args.left.now) c.in-Some.y.now (of_tree (tree_of c.args.right.now)) c.operate.result c.in-Some.ensures c.operate.ensures
+
+pub with_right_operand-returns : goal.with_right_operand-returns
+with_right_operand-returns g t c =
+    made_of g.L.Lookup.known_cell g.L.Lookup.known_what_if c.args.lookup.now (operate c.args.operator c.args.left.now) c.in_ok-y.y (of_tree (tree_of c.args.right.now)) _ c.in_ok-y.ensures (search rules)
 
 -- ---- all parameters
 
@@ -102,7 +110,7 @@ call_value-returns-in-Err g t c =
 pub call_value-returns-in-Ok-Lazy : goal.call_value-returns-in-Ok-Lazy
 call_value-returns-in-Ok-Lazy g t c =
     let trees = all_of c.args.parameters.now in
-    evaluates_too g.L.Lookup.known_cell g.L.Lookup.known_what_if c.args.lookup.now (mapped (applied (Lazy c.in-Ok-Lazy.function)) (of_parameters trees)) (of_tree (call c.args.name.now trees)) c.lazy_value.result
+    evaluates_too g.L.Lookup.known_cell g.L.Lookup.known_what_if c.args.lookup.now (mapped (applied_to_arguments (Lazy c.in-Ok-Lazy.function)) (of_parameters trees)) (of_tree (call c.args.name.now trees)) c.lazy_value.result
     (λ a agrees. call_found c.args.parameters.now _ _ _ _ a.cells a.what_ifs c.in-Ok-Lazy.ensures.found c.in-Ok-Lazy.field-0-is c.as_str.ensures) (λ w h. h) c.lazy_value.ensures
 
 pub call_value-returns-in-Ok-Values : goal.call_value-returns-in-Ok-Values
@@ -115,8 +123,8 @@ call_value-returns-in-Ok-Values g t c =
 pub call_value-returns-in-Ok : goal.call_value-returns-in-Ok
 call_value-returns-in-Ok g t c =
     λ a agrees. c.in-Ok.ensures.done a.cells agrees.cells
-    ∙ ap (λ (xs : List given.Argument). applied (References c.in-Ok-References.function) (arguments_in a.cells xs)) c.deref-in-Ok-References.ensures.value
-    ∙ ap (applied (References c.in-Ok-References.function)) (c.in_ok-arguments-in-Ok-References.ensures.meant a agrees)
+    ∙ ap (λ (xs : List given.Argument). applied_to_arguments (References c.in-Ok-References.function) (arguments_in a.cells xs)) c.deref-in-Ok-References.ensures.value
+    ∙ ap (applied_to_arguments (References c.in-Ok-References.function)) (c.in_ok-arguments-in-Ok-References.ensures.meant a agrees)
     ∙ call_found c.args.parameters.now _ _ _ _ a.cells a.what_ifs c.in-Ok-References.ensures.found c.in-Ok-References.field-0-is c.as_str.ensures
 
 pub call_value-returns : goal.call_value-returns
@@ -136,7 +144,7 @@ pub lazy_value-returns-in-Parameter : goal.lazy_value-returns-in-Parameter
 lazy_value-returns-in-Parameter g t c =
     let es = c.args.parameters.now in
     let values = of_parameters (all_of es) in
-    evaluates_too g.L.Lookup.known_cell g.L.Lookup.known_what_if c.args.lookup.now (mapped (λ args. value_or c.in-Parameter.default args c.in-Parameter.place) values) (mapped (applied (Lazy c.args.function)) values) c.parameter_or-in-Parameter.result
+    evaluates_too g.L.Lookup.known_cell g.L.Lookup.known_what_if c.args.lookup.now (mapped (λ args. value_or c.in-Parameter.default args c.in-Parameter.place) values) (mapped (applied_to_arguments (Lazy c.args.function)) values) c.parameter_or-in-Parameter.result
     (λ a agrees. c.in-Parameter.ensures (arguments (all_of es) a.cells a.what_ifs) (length_arguments es a.cells a.what_ifs) (c.in_ok-first.ensures a agrees)) (λ w h. h) c.parameter_or-in-Parameter.ensures
 
 pub parameter_or-returns-in-Some : goal.parameter_or-returns-in-Some

@@ -1,5 +1,5 @@
-use Rattle.wi_graph.proofs.Words.{ap, ◌∙◌, arith, row_of, column_of}
-use Rattle.wi_graph.proofs.BoundsSteps.{sides_of, max_of, min_of, max_below, min_below, common_part, no_part}
+use Rattle.wi_graph.proofs.Words.{ap, ◌∙◌, arith, row_of, column_of, max_below}
+use Rattle.wi_graph.proofs.BoundsSteps.{sides_of, max_of, min_of, min_below, common_part, no_part}
 use Rattle.wi_graph.proofs.bounds.common.Goals as goal
 
 pub at-requires-clause-row_within : goal.at-requires-clause-row_within

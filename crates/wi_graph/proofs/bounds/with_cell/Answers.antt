@@ -1,5 +1,5 @@
-use Rattle.wi_graph.proofs.Words.{ap, ◌∙◌, row_of, column_of}
-use Rattle.wi_graph.proofs.BoundsSteps.{IsGrown, HasSides, sides_of, min_of, max_of, min_below, max_below, min_max, grown_cell, grown_others}
+use Rattle.wi_graph.proofs.Words.{ap, ◌∙◌, row_of, column_of, max_below}
+use Rattle.wi_graph.proofs.BoundsSteps.{IsGrown, HasSides, sides_of, min_of, max_of, min_below, min_max, grown_cell, grown_others}
 use Rattle.wi_graph.proofs.bounds.with_cell.Goals as goal
 
 pub at-requires-clause-row_within : goal.at-requires-clause-row_within

@@ -1,12 +1,12 @@
-use Rattle.wi_graph.proofs.Words.{◌∙◌, ℕ, List, ap, sym, arith, true≢false, is_one_of}
+use Rattle.wi_graph.proofs.Words.{◌∙◌, ℕ, List, ap, sym, arith, true≢false, is_one_of, has-from_Contains}
 use Rattle.std.proofs.lemmas.List.{take_all}
-use Rattle.wi_graph.proofs.SearchSteps.{none_more, listed_one}
+use Rattle.wi_graph.proofs.SearchSteps.{none_more}
 use Rattle.wi_graph.proofs.cone.any_is_read.Goals as goal
 
 pub returns-then-has_readers-clause-read : goal.returns-then-has_readers-clause-read
 returns-then-has_readers-clause-read c =
     let x = c.cell-item.result in
-    λ t. (x, listed_one c.args.cells.now x (c.loop-cell.cell-index, c.loop-cell-test.true, sym c.cell-item.is), c.has_readers.ensures.0 c.if-has_readers.true)
+    λ t. (x, has-from_Contains c.args.cells.now x (c.loop-cell.cell-index, c.loop-cell-test.true, sym c.cell-item.is), c.has_readers.ensures.0 c.if-has_readers.true)
 
 pub returns-then-has_readers-clause-unread : goal.returns-then-has_readers-clause-unread
 returns-then-has_readers-clause-unread c = λ none. absurd (true≢false none)

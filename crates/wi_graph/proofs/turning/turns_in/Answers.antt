@@ -1,6 +1,5 @@
-use Rattle.wi_graph.proofs.Words.{◌∙◌, sym, as_set}
+use Rattle.wi_graph.proofs.Words.{◌∙◌, sym, as_set, has_key}
 use Rattle.wi_graph.proofs.ClosingSteps.{none_turn}
-use Rattle.wi_graph.proofs.Tests.{turned}
 use Rattle.wi_graph.proofs.turning.turns_in.Goals as goal
 
 pub returns-then-not-closes_cycle : goal.returns-then-not-closes_cycle
@@ -9,7 +8,7 @@ returns-then-not-closes_cycle c =
       order = c.requires.cone.order;
       changes = c.requires.cone.changes;
       brings = c.requires.cone.brings;
-      is_cone = λ s h d. turned c.args.cone.now d ∙ c.requires.cone.is_cone s h d;
+      is_cone = λ s h d. has_key c.args.cone.now d ∙ c.requires.cone.is_cone s h d;
     }) (sym c.meets_circle.ensures ∙ c.if-not-meets_circle.true) (sym c.closes_cycle.ensures ∙ c.if-not-closes_cycle.true) c.no_turns.ensures.came c.no_turns.ensures.went
 
 pub turns_among-requires-clause-cone : goal.turns_among-requires-clause-cone

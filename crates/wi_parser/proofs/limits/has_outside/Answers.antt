@@ -1,8 +1,8 @@
-use Rattle.wi_parser.proofs.Words.{rules, tests, sym, ◌∙◌, YieldsList-from_slice, any_from_yields_List, is_outside, meant_by}
+use Rattle.wi_parser.proofs.Words.{rules, tests, sym, ◌∙◌, YieldsList-from_slice, any_from_yields_List, is_out_of_sheet, meant_by}
 use Rattle.wi_parser.proofs.Refusals.{any_meant}
 use Rattle.wi_parser.proofs.limits.has_outside.Goals as goal
 
 pub returns : goal.returns
 returns c =
-    any_from_yields_List (λ w. is_outside (meant_by w)) _ _ c.any.result c.any.ensures.ran (YieldsList-from_slice c.args.symbols.now (cc)) (λ x b q k. search (rules, tests))
-    ∙ sym (any_meant is_outside c.args.symbols.now)
+    any_from_yields_List (λ w. is_out_of_sheet (meant_by w)) _ _ c.any.result c.any.ensures.ran (YieldsList-from_slice c.args.symbols.now (cc)) (λ x b q k. search (rules, tests))
+    ∙ sym (any_meant is_out_of_sheet c.args.symbols.now)

@@ -1,6 +1,6 @@
 use Rattle.wi_parser.proofs.Words.{rules, arith, ◌≡◌, ◌≤◌, suc, ◌+◌, List, [], ◌∷◌, length, map, ◌++◌, drop, drop-cons, codes, string_bytes, ap, sym, ◌∙◌, starts_with_of_eq, starts_with_trans, starts_with_of_append, drop_of_length-le, common_steps, IfOk-from_err, quoted, starts_joined, Expr, Pair, parenthesized, signed, percent, what_if, call, tree_of, all_of, pair_of, operator_text, symbols_text, tree_text, written_as, spelling_of_all}
 use Rattle.wi_parser.proofs.ExprTrees.{number_tree, text_tree, cell_tree, rectangle_tree, parenthesized_tree, signed_tree, percent_tree, binary_seen, what_if_tree, call_tree}
-use Rattle.wi_parser.proofs.PrintLemmas.{after_written, parenthesized_written, parameter_written, parameters_from, parameters_closed, tree_written, symbol_written, binary_written, percent_written, starts_same, starts_on, starts_still}
+use Rattle.wi_parser.proofs.PrintLemmas.{after_written, parenthesized_written, parameter_written, parameters_from, parameters_closed, tree_written, symbol_written, binary_written, percent_written, starts_same, starts_on, starts_pushed}
 use Rattle.wi_parser.proofs.print.+print.Goals as goal
 
 pub push_operation-returns-clause-kept : goal.push_operation-returns-clause-kept
@@ -20,7 +20,7 @@ push_parenthesized-returns-in_err-push_tree-clause-kept t c = starts_on _ _ _ _ 
 
 pub push_parenthesized-returns-clause-kept : goal.push_parenthesized-returns-clause-kept
 push_parenthesized-returns-clause-kept t c =
-    starts_still c.push_str-2.result _ _ _ _ c.push_str-2.ensures.bytes (starts_on _ _ _ _ c.in_ok-push_str.ensures.bytes c.in_ok-push_tree.ensures.kept)
+    starts_pushed c.push_str-2.result _ _ _ _ c.push_str-2.ensures.bytes (starts_on _ _ _ _ c.in_ok-push_str.ensures.bytes c.in_ok-push_tree.ensures.kept)
 
 pub push_tree-returns-in_ok-push_tree-in-Binary-clause-kept : goal.push_tree-returns-in_ok-push_tree-in-Binary-clause-kept
 push_tree-returns-in_ok-push_tree-in-Binary-clause-kept t c = starts_with_trans _ _ _ c.push_operation.ensures.kept c.in_ok-push_tree-in-Binary.ensures.kept
@@ -38,7 +38,7 @@ pub push_parenthesized-returns-in_err-push_str-clause-kept : goal.push_parenthes
 push_parenthesized-returns-in_err-push_str-clause-kept t c = starts_with_of_eq _ _ c.in_err-push_str.ensures.bytes
 
 pub push_percent-returns-clause-kept : goal.push_percent-returns-clause-kept
-push_percent-returns-clause-kept t c = starts_still c.push_str.result _ _ _ _ c.push_str.ensures.bytes c.in_ok-push_tree.ensures.kept
+push_percent-returns-clause-kept t c = starts_pushed c.push_str.result _ _ _ _ c.push_str.ensures.bytes c.in_ok-push_tree.ensures.kept
 
 pub push_parameters-returns-in_err-push_str-clause-kept : goal.push_parameters-returns-in_err-push_str-clause-kept
 push_parameters-returns-in_err-push_str-clause-kept t c = starts_same _ _ _ c.in_err-push_str.ensures.bytes c.loop-parameter.invariant.kept
@@ -86,7 +86,7 @@ push_signed-returns-clause-ok t c =
     after_written _ _ _ _ (operator_text (written_as c.args.sign)) _ (c.in_ok-push_str.ensures.bytes ∙ ap (λ x. string_bytes c.args.out.now ++ x) c.sign_text.ensures) c.push_tree.ensures.ok
 
 pub push_parameters-returns-clause-kept : goal.push_parameters-returns-clause-kept
-push_parameters-returns-clause-kept t c = starts_still c.push_str-2.result _ _ _ _ c.push_str-2.ensures.bytes c.loop-parameter.invariant.kept
+push_parameters-returns-clause-kept t c = starts_pushed c.push_str-2.result _ _ _ _ c.push_str-2.ensures.bytes c.loop-parameter.invariant.kept
 
 pub push_parameters-loop-parameter-init : goal.push_parameters-loop-parameter-init
 push_parameters-loop-parameter-init t c = grind (arith, common_steps)

@@ -1,5 +1,5 @@
 use Rattle.wi_parser.proofs.Words.{rules, ap, sym, subst, ◌∙◌, ◌++◌, ◌∷◌, [], string_bytes, arith, starts_with_of_eq, common_steps, IfOk-from_err, StartsWith, flat_map, doubled}
-use Rattle.wi_parser.proofs.PrintLemmas.{starts_same, starts_more, starts_still}
+use Rattle.wi_parser.proofs.PrintLemmas.{starts_same, starts_more, starts_pushed}
 use Rattle.wi_parser.proofs.Quotes.{piece_doubled, rest_doubled, piece_written, last_written}
 use Rattle.wi_parser.proofs.print.push_quoted.Goals as goal
 
@@ -33,7 +33,7 @@ returns-in_err-push_str-3-clause-kept c =
 
 pub returns-clause-kept : goal.returns-clause-kept
 returns-clause-kept c =
-    starts_still c.push_str-3.result _ _ _ _ c.push_str-3.ensures.bytes
+    starts_pushed c.push_str-3.result _ _ _ _ c.push_str-3.ensures.bytes
     (starts_same _ _ _ c.in_ok-push_str-4.ensures.bytes (starts_more _ _ _ c.loop-piece.invariant.kept))
 
 pub loop-piece-init : goal.loop-piece-init

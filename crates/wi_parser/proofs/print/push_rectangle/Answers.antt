@@ -1,5 +1,5 @@
 use Rattle.wi_parser.proofs.Words.{arith, starts_with_of_eq, starts_with_trans, common_steps}
-use Rattle.wi_parser.proofs.PrintLemmas.{starts_same, starts_on, starts_still}
+use Rattle.wi_parser.proofs.PrintLemmas.{starts_same, starts_on, starts_pushed}
 use Rattle.wi_parser.proofs.print.push_rectangle.Goals as goal
 
 pub returns-in_err-push_str-clause-kept : goal.returns-in_err-push_str-clause-kept
@@ -18,7 +18,7 @@ returns-in_err-push_cell-2-clause-kept c =
 
 pub returns-clause-kept : goal.returns-clause-kept
 returns-clause-kept c =
-    starts_still c.push_str-3.result _ _ _ _ c.push_str-3.ensures.bytes
+    starts_pushed c.push_str-3.result _ _ _ _ c.push_str-3.ensures.bytes
     (starts_on _ _ _ _ c.in_ok-push_str.ensures.bytes
     (starts_with_trans _ _ _ (starts_on _ _ _ _ c.in_ok-push_str-2.ensures.bytes c.in_ok-push_cell-2.ensures.kept) c.in_ok-push_cell.ensures.kept))
 

@@ -1,5 +1,5 @@
 use Rattle.wi_parser.proofs.Words.{starts_with_of_eq, starts_with_trans}
-use Rattle.wi_parser.proofs.PrintLemmas.{starts_on, starts_still, what_if_written}
+use Rattle.wi_parser.proofs.PrintLemmas.{starts_on, starts_pushed, what_if_written}
 use Rattle.wi_parser.proofs.print.push_what_if.Goals as goal
 
 pub returns-clause-ok : goal.returns-clause-ok
@@ -18,5 +18,5 @@ returns-in_err-push_pairs-clause-kept c = starts_on _ _ _ _ c.in_ok-push_str.ens
 
 pub returns-clause-kept : goal.returns-clause-kept
 returns-clause-kept c =
-    starts_still c.push_str-2.result _ _ _ _ c.push_str-2.ensures.bytes
+    starts_pushed c.push_str-2.result _ _ _ _ c.push_str-2.ensures.bytes
     (starts_on _ _ _ _ c.in_ok-push_str.ensures.bytes (starts_with_trans _ _ _ c.in_ok-push_pairs.ensures.kept c.in_ok-push_reference.ensures.kept))

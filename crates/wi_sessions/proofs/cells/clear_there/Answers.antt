@@ -1,5 +1,5 @@
 use Rattle.wi_sessions.proofs.Words.{ℕ, List, Option, refl, sym, subst, IsSome, IsStrictlySortedBy, nat_cmp}
-use Rattle.wi_sessions.proofs.EntryLemmas.{found-removed, found-replaced, keys-replaced, order-removed}
+use Rattle.wi_tiles.proofs.MapSteps.{found-removed, found-replaced, keys-replaced, order-removed}
 use Rattle.wi_sessions.proofs.WordLemmas.{has_cleared_all, has_cleared_some}
 use Rattle.wi_sessions.proofs.cells.clear_there.Goals as goal
 

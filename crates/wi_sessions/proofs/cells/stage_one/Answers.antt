@@ -1,5 +1,5 @@
 use Rattle.wi_sessions.proofs.Words.{◌≡◌, ◌==◌, ◌&&◌, ◌∙◌, ◌++◌, ◌∷◌, [], ℕ, Option, Some, cond, not, refl, ap, sym, subst, arith, common_steps, unwrap_or, OnOk, is_some, IsStrictlySortedBy, nat_cmp, lookup, keys_of, is_at, has_bit, is_in, is_staged, HasMade}
-use Rattle.wi_sessions.proofs.EntryLemmas.{found-with_new, nothing_put, nothing_there, order-with_new, something_there}
+use Rattle.wi_tiles.proofs.MapSteps.{found-with_new, nothing_put, nothing_there, order-with_new, something_there}
 use Rattle.wi_sessions.proofs.WordLemmas.{Words, has_made_new, others_as_made, pending_stay}
 use Rattle.wi_sessions.proofs.cells.stage_one.Goals as goal
 

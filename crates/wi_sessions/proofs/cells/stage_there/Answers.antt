@@ -1,5 +1,5 @@
 use Rattle.wi_sessions.proofs.Words.{◌≡◌, ◌==◌, ◌&&◌, ◌∙◌, ◌++◌, ◌∷◌, [], ℕ, List, Option, not, refl, ap, sym, subst, arith, common_steps, IsSome, IsStrictlySortedBy, nat_cmp, has_bit, is_in, is_staged}
-use Rattle.wi_sessions.proofs.EntryLemmas.{found-replaced, keys-replaced}
+use Rattle.wi_tiles.proofs.MapSteps.{found-replaced, keys-replaced}
 use Rattle.wi_sessions.proofs.WordLemmas.{Words, has_made_none, has_made_there, others_as_made, pending_stay}
 use Rattle.wi_sessions.proofs.cells.stage_there.Goals as goal
 

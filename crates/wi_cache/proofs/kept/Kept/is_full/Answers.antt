@@ -1,4 +1,4 @@
-use Rattle.std.proofs.Common.{◌≡◌, ◌∙◌, ap, sym, length, nat_le}
+use Rattle.std.proofs.Common.{◌∙◌, ap, sym, length, nat_le}
 use Rattle.wi_cache.specs.Entries.{KeptValues}
 use Rattle.wi_cache.proofs.Keeping.{latest_len}
 use Rattle.wi_cache.proofs.kept.Kept.is_full.Goals as goal

@@ -1,6 +1,6 @@
-use Rattle.std.proofs.Common.{◌≡◌, ◌≤◌, Some, None, length, subst, sym, ap, ◌∙◌, arith}
+use Rattle.std.proofs.Common.{◌≡◌, ◌≤◌, None, length, subst, ap, ◌∙◌, arith}
 use Rattle.std.specs.Map.{keys_of}
-use Rattle.wi_cache.specs.Entries.{HasRoom, KeptValues, Puts, PutsForGoing, PutsForOne, going, kept, keys_after, latest, len_after, value_for}
+use Rattle.wi_cache.specs.Entries.{HasRoom, KeptValues, PutsIn, PutsForGoing, PutsForOne, going, kept, keys_after, latest, len_after, value_for}
 use Rattle.wi_cache.proofs.Keeping.{none_is_gone, gone_is, found_put, puts_latest, none_went, none_goes, len_put, order_put, place_within, found_gone, one_went, no_room, oldest_went, len_gone, order_gone, line_gone}
 use Rattle.wi_cache.proofs.kept.Kept.keep.Goals as goal
 
@@ -17,7 +17,7 @@ pub returns-clause-stays : goal.returns-clause-stays
 returns-clause-stays c =
     let i = c.self.inside in
     let new = c.insert.new.self in
-    subst (λ (m : KeptValues). HasRoom m c.args.key → Puts m.entries (latest i.oldest new.entries) c.args.key c.args.value) c.self.view_is (λ room. puts_latest i.entries new c.args.key c.args.value c.in_ok-insert.ensures.updates c.insert.ensures.unique i.oldest i.capacity c.self.invariant)
+    subst (λ (m : KeptValues). HasRoom m c.args.key → PutsIn m.entries (latest i.oldest new.entries) c.args.key c.args.value) c.self.view_is (λ room. puts_latest i.entries new c.args.key c.args.value c.in_ok-insert.ensures.updates c.insert.ensures.unique i.oldest i.capacity c.self.invariant)
 
 pub returns-clause-one_goes : goal.returns-clause-one_goes
 returns-clause-one_goes c =
@@ -76,7 +76,7 @@ returns-then-len-self-clause-stays c =
     let new = c.insert.new.self in
     let left = c.swap_remove_index-gone.new.self in
     let next = c.place_after-self-inside.result in
-    subst (λ (m : KeptValues). HasRoom m c.args.key → Puts m.entries (latest next left.entries) c.args.key c.args.value) c.self.view_is (no_room i.entries new c.args.key c.args.value c.in_ok-insert.ensures.updates c.insert.ensures.unique i.oldest i.capacity c.self.invariant c.in_ok-insert.field-0 c.in_ok-insert.ensures.old c.in_ok-insert.ensures.len left c.in_ok-insert.ensures.entries (omega (arith, c.len.ensures.len, c.if-len-self.true)) c.swap_remove_index-gone.result c.swap_remove_index-gone.ensures.entry c.swap_remove_index-gone.ensures.updates c.swap_remove_index-gone.ensures.len c.swap_remove_index-gone.ensures.unique)
+    subst (λ (m : KeptValues). HasRoom m c.args.key → PutsIn m.entries (latest next left.entries) c.args.key c.args.value) c.self.view_is (no_room i.entries new c.args.key c.args.value c.in_ok-insert.ensures.updates c.insert.ensures.unique i.oldest i.capacity c.self.invariant c.in_ok-insert.field-0 c.in_ok-insert.ensures.old c.in_ok-insert.ensures.len left c.in_ok-insert.ensures.entries (omega (arith, c.len.ensures.len, c.if-len-self.true)) c.swap_remove_index-gone.result c.swap_remove_index-gone.ensures.entry c.swap_remove_index-gone.ensures.updates c.swap_remove_index-gone.ensures.len c.swap_remove_index-gone.ensures.unique)
 
 pub returns-then-len-self-clause-one_goes : goal.returns-then-len-self-clause-one_goes
 returns-then-len-self-clause-one_goes c =

@@ -1,4 +1,4 @@
-use Rattle.wi_engine.proofs.Words.{◌≡◌, ◌∙◌, ℕ, List, [], ◌∷◌, length, refl, arith, Frame}
+use Rattle.wi_engine.proofs.Words.{◌≡◌, ◌∙◌, ℕ, List, [], ◌∷◌, length, refl, ap, arith, Frame}
 use Rattle.wi_engine.proofs.engine.FrameRuns.{IsNew, GoesDeeper, deeper_smaller, back_smaller, next_before, run_below, run_value}
 use Rattle.wi_engine.proofs.engine.Ends.{turn_same, turn_kept, comes_back, going_start, going_deeper, going_awaited, going_back, going_stops, going_ends, root_kept, root_there}
 use Rattle.wi_engine.proofs.engine.Steps.{counts_less}
@@ -26,15 +26,15 @@ advance-requires-clause-frame g c = c.frames.invariant.running.begun.frame
 pub frames-smaller-in-Unvalued : goal.frames-smaller-in-Unvalued
 frames-smaller-in-Unvalued g c =
     let a = c.in_ok-next.ensures in
-    deeper_smaller c.frames.invariant.running (g.M.Memo.state c.advance.new.memo) c.new-frame-in-Unvalued.result a.steps.same (next_before a.steps.key (rw c.in-Unvalued.is at a.gives).0) c.new-frame-in-Unvalued.ensures.key
+    deeper_smaller c.frames.invariant.running (g.M.Memo.state c.advance.new.memo) c.replace.new.dest a.steps.same (next_before a.steps.key (rw c.in-Unvalued.is at a.gives).0) (ap (λ (f : Frame). f.key) c.replace.ensures.after ∙ c.new-above.ensures.key)
 
 pub frames-preserved-in-Unvalued : goal.frames-preserved-in-Unvalued
 frames-preserved-in-Unvalued g c =
     let s = c.args.store.now.sheet in
-    let n = c.new-frame-in-Unvalued.ensures in
+    let n = c.new-above.ensures in
     let a = c.in_ok-next.ensures in
     let u = rw c.in-Unvalued.is at a.gives in
-    let turn : GoesDeeper s (g.M.Memo.state c.frames.self.memo) c.frames.self.meter c.advance.new.meter c.frames.frame c.advance.new.frame c.new-frame-in-Unvalued.result c.in-Unvalued.next.key = record {
+    let turn : GoesDeeper s (g.M.Memo.state c.frames.self.memo) c.frames.self.meter c.advance.new.meter c.frames.frame c.advance.new.frame c.new-above.result c.in-Unvalued.next.key = record {
       steps = rw a.steps.same at a.steps;
       rises = a.counts.rises;
       evaluations = u.1;
@@ -42,34 +42,34 @@ frames-preserved-in-Unvalued g c =
       awaited = u.0.awaited;
       new = record { key = n.key; formula = rw n.formula u.0.next.stands; cells = n.cells; what_ifs = n.what_ifs; waiting = n.waiting };
     } in
-    rw (c.in_ok-push-in-Unvalued.ensures.items, a.steps.same) (going_deeper c.frames.invariant turn)
+    rw (c.push_reserved.ensures.items, c.reserve.ensures.items, c.replace.ensures.value, c.replace.ensures.after, a.steps.same) (going_deeper c.frames.invariant turn)
 
 pub take_in-requires-clause-awaits : goal.take_in-requires-clause-awaits
-take_in-requires-clause-awaits g c = (run_below _ (rw c.in-Some.ensures.items at c.frames.invariant).running).waiting
+take_in-requires-clause-awaits g c = rw c.replace-in-Some.ensures.after (run_below _ (rw c.in-Some.ensures.items at c.frames.invariant).running).waiting
 
 pub take_in-requires-clause-awaited : goal.take_in-requires-clause-awaited
-take_in-requires-clause-awaited g c = rw (c.retire-key.ensures, c.in_ok-next.ensures.steps.key) (going_awaited _ _ (rw c.in-Some.ensures.items at c.frames.invariant))
+take_in-requires-clause-awaited g c = rw (c.retire-key.ensures, c.replace-in-Some.ensures.value, c.replace-in-Some.ensures.after, c.in_ok-next.ensures.steps.key) (going_awaited _ _ (rw c.in-Some.ensures.items at c.frames.invariant))
 
 pub take_in-requires-clause-right : goal.take_in-requires-clause-right
 take_in-requires-clause-right g c =
     let a = c.in_ok-next.ensures in
-    rw (c.retire-key.ensures, a.steps.key) (rw c.in-Done.is at a.gives).0.value
+    rw (c.retire-key.ensures, c.replace-in-Some.ensures.value, a.steps.key) (rw c.in-Done.is at a.gives).0.value
 
 pub frames-smaller : goal.frames-smaller
 frames-smaller g c =
     let a = c.in_ok-next.ensures in
     let k = c.in_ok-keep-in-Some.ensures in
-    let turn = comes_back a.steps.same (c.retire-key.ensures ∙ a.steps.key) k.keeps k.kept (rw c.in-Done.is at a.gives) a.counts in
+    let turn = comes_back a.steps.same (c.retire-key.ensures ∙ ap (λ (f : Frame). f.key) c.replace-in-Some.ensures.value ∙ a.steps.key) k.keeps k.kept (rw c.in-Done.is at a.gives) a.counts in
     back_smaller c.frames.invariant.running (g.M.Memo.state c.keep-in-Some.new.self) c.take_in.new.frame turn.kept.found c.requires.key.key.open_cell c.requires.key.key.formula
 
 pub frames-preserved : goal.frames-preserved
 frames-preserved g c =
     let a = c.in_ok-next.ensures in
     let k = c.in_ok-keep-in-Some.ensures in
-    let key = c.retire-key.ensures ∙ a.steps.key in
+    let key = c.retire-key.ensures ∙ ap (λ (f : Frame). f.key) c.replace-in-Some.ensures.value ∙ a.steps.key in
     let turn = comes_back a.steps.same key k.keeps k.kept (rw c.in-Done.is at a.gives) a.counts in
     let going = rw c.in-Some.ensures.items at c.frames.invariant in
-    going_back going turn (rw key at c.in_ok-take_in-in-Some.ensures)
+    going_back going turn (rw (key, c.replace-in-Some.ensures.after) at c.in_ok-take_in-in-Some.ensures)
 
 -- ---- what is asked of the memory
 
@@ -91,17 +91,17 @@ keep-requires-clause-right g c =
 pub keep-requires-in-Some-clause-generation : goal.keep-requires-in-Some-clause-generation
 keep-requires-in-Some-clause-generation g c =
     let a = c.in_ok-next.ensures in
-    rw (c.retire-key.ensures, a.steps.same) (a.steps.frame refl).key.generation
+    rw (c.retire-key.ensures, c.replace-in-Some.ensures.value, a.steps.same) (a.steps.frame refl).key.generation
 
 pub keep-requires-in-Some-clause-open_cell : goal.keep-requires-in-Some-clause-open_cell
 keep-requires-in-Some-clause-open_cell g c =
     let a = c.in_ok-next.ensures in
-    rw (c.retire-key.ensures, a.steps.same, c.frames.invariant.running.memo.sheet) (a.steps.frame refl).key.open_cell
+    rw (c.retire-key.ensures, c.replace-in-Some.ensures.value, a.steps.same, c.frames.invariant.running.memo.sheet) (a.steps.frame refl).key.open_cell
 
 pub keep-requires-in-Some-clause-right : goal.keep-requires-in-Some-clause-right
 keep-requires-in-Some-clause-right g c =
     let a = c.in_ok-next.ensures in
-    rw (c.retire-key.ensures, a.steps.key, a.steps.same, c.frames.invariant.running.memo.sheet) (rw c.in-Done.is at a.gives).0.value
+    rw (c.retire-key.ensures, c.replace-in-Some.ensures.value, a.steps.key, a.steps.same, c.frames.invariant.running.memo.sheet) (rw c.in-Done.is at a.gives).0.value
 
 -- ---- the end, where the root's value is kept
 
@@ -139,11 +139,11 @@ returns-in_err-next-clause-spends g c =
     let i = c.frames.invariant in
     going_stops i (turn_same i.running.memo a.steps.same (counts_less a.counts)) c.from_residual.result c.from_residual.ensures.0
 
-pub returns-in_err-push-in-Unvalued-clause-spends : goal.returns-in_err-push-in-Unvalued-clause-spends
-returns-in_err-push-in-Unvalued-clause-spends g c =
+pub returns-in_err-reserve-in-Unvalued-clause-spends : goal.returns-in_err-reserve-in-Unvalued-clause-spends
+returns-in_err-reserve-in-Unvalued-clause-spends g c =
     let a = c.in_ok-next.ensures in
     let i = c.frames.invariant in
-    going_stops i (turn_same i.running.memo a.steps.same a.counts) c.from_residual-in_err-push-in-Unvalued.result c.from_residual-in_err-push-in-Unvalued.ensures.0
+    going_stops i (turn_same i.running.memo a.steps.same a.counts) c.from_residual-in_err-reserve-in-Unvalued.result c.from_residual-in_err-reserve-in-Unvalued.ensures.0
 
 pub returns-in_err-shown-in-None-clause-spends : goal.returns-in_err-shown-in-None-clause-spends
 returns-in_err-shown-in-None-clause-spends g c =
@@ -161,7 +161,7 @@ pub returns-in_err-keep-in-Some-clause-spends : goal.returns-in_err-keep-in-Some
 returns-in_err-keep-in-Some-clause-spends g c =
     let a = c.in_ok-next.ensures in
     let i = c.frames.invariant in
-    let turn = turn_kept i.running.memo a.steps.same (c.retire-key.ensures ∙ a.steps.key) (rw c.in-Done.is at a.gives) c.in_err-keep-in-Some.ensures.keeps a.counts in
+    let turn = turn_kept i.running.memo a.steps.same (c.retire-key.ensures ∙ ap (λ (f : Frame). f.key) c.replace-in-Some.ensures.value ∙ a.steps.key) (rw c.in-Done.is at a.gives) c.in_err-keep-in-Some.ensures.keeps a.counts in
     going_stops i turn c.from_residual-in_err-keep-in-Some.result c.from_residual-in_err-keep-in-Some.ensures.0
 
 pub returns-in_err-keep-in-None-clause-spends : goal.returns-in_err-keep-in-None-clause-spends

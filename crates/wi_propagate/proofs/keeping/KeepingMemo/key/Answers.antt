@@ -1,4 +1,4 @@
-use Rattle.wi_propagate.proofs.Words.{◌∙◌, ap, reaching, Keeping, generation_in}
+use Rattle.wi_propagate.proofs.Words.{◌∙◌, ap, sym, subst, reaching, AreAllCones, Held, Keeping, generation_in}
 use Rattle.wi_propagate.proofs.ReplacedCones.{worlds_all}
 use Rattle.wi_propagate.proofs.NotedSteps.{noted_is_told}
 use Rattle.wi_propagate.proofs.keeping.KeepingMemo.key.Goals as goal
@@ -7,7 +7,7 @@ pub returns-clause-world : goal.returns-clause-world
 returns-clause-world c =
     let s = c.self.inside.store.now.sheet in
     let h = c.self.invariant in
-    c.in_ok-world.ensures.list ∙ worlds_all s c.add_cones.new.cones c.args.at (c.in_ok-add_cones.ensures.cones s h.0 h.2) c.args.world.now c.in_ok-add_cones.ensures.all
+    c.in_ok-world.ensures.list ∙ worlds_all s c.add_cones.new.cones c.args.at (c.in_ok-add_cones.ensures.cones s h.0 (subst (λ (x : Held). AreAllCones s x.cones) (sym c.deref_mut-held.ensures.value) h.2)) c.args.world.now c.in_ok-add_cones.ensures.all
     ∙ ap (λ (q : Keeping). reaching q.sheet c.args.at c.args.world.now) c.self.view_is
 
 pub returns-clause-generation : goal.returns-clause-generation

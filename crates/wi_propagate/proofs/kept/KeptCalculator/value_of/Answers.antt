@@ -37,8 +37,8 @@ invariant_of-self-2 c =
       refl,
       h.1,
       h.2,
-      right_then q c.value-result.new.self.memo c.into_held.result.kept c.value-result.new.self.meter e.spends.same c.into_held.ensures.kept e.spends.right.sheet (settled_right {s = i.store} c.in_ok-settle.ensures.named i.held i.meter c.self.invariant.3) c.into_held.ensures.right,
-      subst (λ (x : Sheet). AreAllCones x c.into_held.result.cones) e.spends.right.sheet c.into_held.ensures.cones,
+      right_then q c.value-result.new.self.memo c.into_held.result.value.kept c.value-result.new.self.meter e.spends.same c.into_held.ensures.kept e.spends.right.sheet (settled_right {s = i.store} c.in_ok-settle.ensures.named i.held i.meter c.self.invariant.3) c.into_held.ensures.right,
+      subst (λ (x : Sheet). AreAllCones x c.into_held.result.value.cones) e.spends.right.sheet c.into_held.ensures.cones,
       settled_up i.store.sheet i.store.edits i.generations c.settle.new.self c.in_ok-settle.ensures.named (c.in_ok-settle.ensures.owed i.store.sheet h.1) h.5,
     )
 
@@ -64,10 +64,10 @@ returns-clause-kept c =
     let view = settled_view {s = i.store} c.in_ok-settle.ensures.named i.held i.meter c.args.self.now c.self.view_is in
     let o : circular i.store.sheet c.args.at ≡ false = sym (c.is_circular.ensures i.store.sheet c.self.invariant.1) ∙ c.if-is_circular.false in
     let q = begins i.store (told i.store.sheet c.settle.new.self.named) i.held i.meter _ c.new-memo.result c.take_held-held.ensures.values c.new-memo.ensures.value c.new-memo.ensures.placed in
-    let new : KeptSheet = record { stored = i.store; generations = told i.store.sheet c.settle.new.self.named; values = c.into_held.result.kept; counts = c.value-result.new.self.meter } in
+    let new : KeptSheet = record { stored = i.store; generations = told i.store.sheet c.settle.new.self.named; values = c.into_held.result.value.kept; counts = c.value-result.new.self.meter } in
     let e = c.value-result.ensures in
     subst (λ (x : KeptSheet). OnOk c.value-result.result ((IsAtHand x c.args.put.now c.args.at → ⊥) → is_kept new c.args.at (reaching x.stored.sheet c.args.at c.args.put.now) ≡ true)) view
-    (IfOk-weaker c.value-result.result _ _ (λ v h. asked_kept q c.in_ok-world.world c.args.put.now c.args.at o c.in_ok-world.ensures c.value-result.new.self.memo c.into_held.result.kept c.value-result.new.self.meter
+    (IfOk-weaker c.value-result.result _ _ (λ v h. asked_kept q c.in_ok-world.world c.args.put.now c.args.at o c.in_ok-world.ensures c.value-result.new.self.memo c.into_held.result.value.kept c.value-result.new.self.meter
     e.spends.same c.into_held.ensures.kept c.self.invariant.3.room h) e.kept)
 
 pub new-memo-requires-clause-cones : goal.new-memo-requires-clause-cones
@@ -109,9 +109,9 @@ returns-clause-owes c =
     let has = demands_itself i.store.sheet c.in_ok-world.world c.args.put.now c.args.at o c.in_ok-world.ensures in
     let closed = different_closed i.store.sheet (case_of i.store.sheet c.args.put.now c.args.at) in
     let Has = HasCase i.store.sheet c.in_ok-world.world c.args.at in
-    let new : KeptSheet = record { stored = i.store; generations = told i.store.sheet c.settle.new.self.named; values = c.into_held.result.kept; counts = c.value-result.new.self.meter } in
+    let new : KeptSheet = record { stored = i.store; generations = told i.store.sheet c.settle.new.self.named; values = c.into_held.result.value.kept; counts = c.value-result.new.self.meter } in
     subst (λ (x : KeptSheet). Owes x new (demanded x.stored.sheet c.args.put.now c.args.at) (is_ok c.value-result.result)) view
-    (owes_spent q c.value-result.new.self.memo c.into_held.result.kept c.value-result.new.self.meter c.into_held.ensures.kept c.into_held.ensures.within Has (demanded i.store.sheet c.args.put.now c.args.at) closed has _ c.value-result.ensures.spends)
+    (owes_spent q c.value-result.new.self.memo c.into_held.result.value.kept c.value-result.new.self.meter c.into_held.ensures.kept c.into_held.ensures.within Has (demanded i.store.sheet c.args.put.now c.args.at) closed has _ c.value-result.ensures.spends)
 
 pub settle-requires-clause-owed : goal.settle-requires-clause-owed
 settle-requires-clause-owed c =

@@ -41,8 +41,8 @@ invariant_of-self-2 c =
       refl,
       h.1,
       h.2,
-      right_then q c.open_entry-result.new.question.memo c.into_held.result.kept c.open_entry-result.new.question.meter e.spends.same c.into_held.ensures.kept e.spends.right.sheet (settled_right {s = i.store} c.in_ok-settle.ensures.named i.held i.meter c.self.invariant.3) c.into_held.ensures.right,
-      subst (λ (x : Sheet). AreAllCones x c.into_held.result.cones) e.spends.right.sheet c.into_held.ensures.cones,
+      right_then q c.open_entry-result.new.question.memo c.into_held.result.value.kept c.open_entry-result.new.question.meter e.spends.same c.into_held.ensures.kept e.spends.right.sheet (settled_right {s = i.store} c.in_ok-settle.ensures.named i.held i.meter c.self.invariant.3) c.into_held.ensures.right,
+      subst (λ (x : Sheet). AreAllCones x c.into_held.result.value.cones) e.spends.right.sheet c.into_held.ensures.cones,
       settled_up i.store.sheet i.store.edits i.generations c.settle.new.self c.in_ok-settle.ensures.named (c.in_ok-settle.ensures.owed i.store.sheet h.1) h.5,
     )
 
@@ -65,12 +65,12 @@ returns-clause-settled c =
     let has = entry_has s c.in_ok-world.world c.args.put.now c.args.formula_cell c.args.pairs.now o c.in_ok-world.ensures in
     let closed = table_closed s c.args.put.now c.args.formula_cell c.args.pairs.now in
     let Has = HasEntry s c.in_ok-world.world c.args.formula_cell c.args.pairs.now in
-    let new : KeptSheet = record { stored = i.store; generations = told i.store.sheet c.settle.new.self.named; values = c.into_held.result.kept; counts = c.open_entry-result.new.question.meter } in
+    let new : KeptSheet = record { stored = i.store; generations = told i.store.sheet c.settle.new.self.named; values = c.into_held.result.value.kept; counts = c.open_entry-result.new.question.meter } in
     let e = c.open_entry-result.ensures in
     let x : ℕ × List (ℕ × ℕ) = (c.args.formula_cell, c.args.pairs.now) in
     subst (λ (y : KeptSheet). OnOk c.open_entry-result.result (HasRoomFor y (entry_demanded y.stored.sheet c.args.put.now c.args.formula_cell c.args.pairs.now) → circular y.stored.sheet c.args.formula_cell ≡ false → All (λ p. circular y.stored.sheet p.1 ≡ false) c.args.pairs.now
     → IsWhatIfSettled y.stored.sheet (is_kept new) c.args.put.now x)) view
-    (IfOk-weaker c.open_entry-result.result _ _ (λ v g room a b. asked_settled q c.open_entry-result.new.question.memo c.into_held.result.kept c.open_entry-result.new.question.meter e.spends.same c.into_held.ensures.kept c.in_ok-world.world c.args.put.now x c.in_ok-world.ensures
+    (IfOk-weaker c.open_entry-result.result _ _ (λ v g room a b. asked_settled q c.open_entry-result.new.question.memo c.into_held.result.value.kept c.open_entry-result.new.question.meter e.spends.same c.into_held.ensures.kept c.in_ok-world.world c.args.put.now x c.in_ok-world.ensures
     (asked_where q (λ ks. IsWhatIfSettled s (state_in c.open_entry-result.new.question.memo).kept c.in_ok-world.world x) cases Has g closed has room)) e.settled)
 
 pub new-memo-requires-clause-cones : goal.new-memo-requires-clause-cones
@@ -96,9 +96,9 @@ returns-clause-owes c =
     let has = entry_has s c.in_ok-world.world c.args.put.now c.args.formula_cell c.args.pairs.now o c.in_ok-world.ensures in
     let closed = table_closed s c.args.put.now c.args.formula_cell c.args.pairs.now in
     let Has = HasEntry s c.in_ok-world.world c.args.formula_cell c.args.pairs.now in
-    let new : KeptSheet = record { stored = i.store; generations = told i.store.sheet c.settle.new.self.named; values = c.into_held.result.kept; counts = c.open_entry-result.new.question.meter } in
+    let new : KeptSheet = record { stored = i.store; generations = told i.store.sheet c.settle.new.self.named; values = c.into_held.result.value.kept; counts = c.open_entry-result.new.question.meter } in
     subst (λ (x : KeptSheet). Owes x new (entry_demanded x.stored.sheet c.args.put.now c.args.formula_cell c.args.pairs.now) (is_ok c.open_entry-result.result)) view
-    (owes_spent q c.open_entry-result.new.question.memo c.into_held.result.kept c.open_entry-result.new.question.meter c.into_held.ensures.kept c.into_held.ensures.within Has cases closed has _ c.open_entry-result.ensures.spends)
+    (owes_spent q c.open_entry-result.new.question.memo c.into_held.result.value.kept c.open_entry-result.new.question.meter c.into_held.ensures.kept c.into_held.ensures.within Has cases closed has _ c.open_entry-result.ensures.spends)
 
 pub settle-requires-clause-owed : goal.settle-requires-clause-owed
 settle-requires-clause-owed c =

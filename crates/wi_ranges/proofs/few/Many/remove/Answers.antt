@@ -1,4 +1,4 @@
-use Rattle.wi_ranges.proofs.Words.{◌≡◌, ◌<◌, ◌==◌, ◌∙◌, ℕ, List, ◌∷◌, false, length, None, Some, refl, sym, ap, subst, position, IsPermutation, eqb-true, has_cell}
+use Rattle.wi_ranges.proofs.Words.{◌≡◌, ◌<◌, ◌==◌, ◌∙◌, ℕ, List, ◌∷◌, false, length, None, Some, refl, sym, ap, subst, position, IsPermutation, eqb-true, is_one_of}
 use Rattle.wi_ranges.proofs.FewLemmas.{first_gone, not_there, other_gone, place_found, place_none}
 use Rattle.wi_ranges.proofs.few.Many.remove.Goals as goal
 
@@ -30,4 +30,4 @@ returns-in-None-place_of-clause-none c =
     let first = c.self.inside.first in
     let old = c.self.inside.others.items in
     let none : None ≡ position (λ y. y == cell) old = c.in-None-place_of.ensures.value ∙ ap (λ (xs : List ℕ). position (λ y. y == cell) xs) c.deref.ensures.value in
-    λ f. subst (λ (xs : List ℕ). has_cell xs cell ≡ false) c.self.view_is (not_there first cell old (sym c.eq.ensures ∙ c.if-eq.false) (place_none old cell None none refl))
+    λ f. subst (λ (xs : List ℕ). is_one_of xs cell ≡ false) c.self.view_is (not_there first cell old (sym c.eq.ensures ∙ c.if-eq.false) (place_none old cell None none refl))

@@ -17,10 +17,10 @@ returns-clause-readers c =
     ∙ ap (λ b. b || list_any (reads_at xs a r) ks) (c.in_ok-add_readers.ensures r ∙ ap (λ b. b || list_any (pair_reads a r) singles) (none r)) in
     let reader : (r : ℕ) → contains nat_cmp set r ≡ true → IsReader c.args.self.now a r = λ r h.
     subst (λ (b : Bag). IsReader b a r) c.self.view_is
-    (⊎_elim (λ e. reader_by_cell singles bag a r e) (λ e. reader_in_bag singles bag a r (reader_found bag ks xs a r c.self.invariant.0 e)) (or_cases _ _ (sym (found r) ∙ h))) in
+    (⊎_elim (λ e. reader_by_cell singles bag a r e) (λ e. reader_in_bag singles bag a r (reader_found bag ks xs a r c.self.invariant.0.0 e)) (or_cases _ _ (sym (found r) ∙ h))) in
     let read : (r : ℕ) → IsReader c.args.self.now a r → contains nat_cmp set r ≡ true = λ r h.
     found r
-    ∙ reader_in_either singles bag a r (list_any (reads_at xs a r) ks) (λ g. found_reader bag ks (row_of a) a r refl c.add_readers_of.ensures.row c.self.invariant.0 g)
+    ∙ reader_in_either singles bag a r (list_any (reads_at xs a r) ks) (λ g. found_reader bag ks (row_of a) a r refl c.add_readers_of.ensures.row c.self.invariant.0.0 g)
     (subst (λ (b : Bag). IsReader b a r) (sym c.self.view_is) h) in
     IfOk-weaker c.into_list.result (λ list. (r : ℕ) → Contains list.items r ↔ (contains nat_cmp set r ≡ true)) (λ list. (r : ℕ) → Contains list.items r ↔ IsReader c.args.self.now a r)
     (λ list h r. (

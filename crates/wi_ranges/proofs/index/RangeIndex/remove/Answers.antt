@@ -1,9 +1,15 @@
 use Rattle.wi_ranges.proofs.Words.{rules, ◌≡◌, List, false, subst, sym, list_any, RangePair, Bag, HasOneLess, is_same, pair_for, bag_of, with_pairs, HasPairMore}
+use Rattle.wi_ranges.proofs.AroundLemmas.{around_less}
 use Rattle.wi_ranges.proofs.Joined.{less_by_cell, less_in_bag}
 use Rattle.wi_ranges.proofs.index.RangeIndex.remove.Goals as goal
 
 pub invariant_of-self-2 : goal.invariant_of-self-2
-invariant_of-self-2 c = search rules
+invariant_of-self-2 c =
+    let p = pair_for c.args.area c.args.reader in
+    let bag = bag_of c.self.inside.pieces.keys in
+    let new = bag_of c.remove_pair.new.pieces.keys in
+    let less : HasOneLess p bag new = search rules in
+    (c.remove_pair.ensures.whole, around_less p bag new c.self.inside.around less c.self.invariant.1)
 
 pub returns-then-remove : goal.returns-then-remove
 returns-then-remove c =

@@ -1,6 +1,5 @@
-use Rattle.wi_sessions.proofs.Words.{ap, rules, keys_of, Empty}
+use Rattle.wi_sessions.proofs.Words.{ap, rules, keys_of, Empty, no_rooms}
 use Rattle.wi_sessions.proofs.CellLemmas.{none_in_order}
-use Rattle.wi_sessions.proofs.RoomLemmas.{no_rooms}
 use Rattle.wi_sessions.proofs.picture.Picture.new.Goals as goal
 
 pub returns : goal.returns

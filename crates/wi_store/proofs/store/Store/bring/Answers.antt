@@ -1,6 +1,10 @@
 use Rattle.wi_store.proofs.Words.{◌∙◌, refl, sym, ap, length, err_from_is_err_and, sheet_in, Stored}
+use Rattle.wi_store.proofs.RoomLemmas.{sheet_in-same, length-taken}
 use Rattle.wi_store.proofs.EditLemmas.{occupied_after, applies_after_refusal, applies_after_acceptance}
 use Rattle.wi_store.proofs.store.Store.bring.Goals as goal
+
+pub edit-answer-requires-clause-before : goal.edit-answer-requires-clause-before
+edit-answer-requires-clause-before c = c.occupied-before.ensures ∙ ap (λ (s : Stored). length s.sheet) (sym c.self.view_is)
 
 pub release-requires-clause-occupied : goal.release-requires-clause-occupied
 release-requires-clause-occupied c =
@@ -8,6 +12,7 @@ release-requires-clause-occupied c =
     (sheet_in c.self.inside.rooms.entries) (sheet_in c.edit-answer.new.rooms.entries) _
     (c.occupied-before.ensures ∙ ap (λ (s : Stored). length s.sheet) (sym c.self.view_is)) c.unwrap_or-occupied.ensures
     c.edit-answer.ensures.cause c.edit-answer.ensures.done c.edit-answer.ensures.refused
+    ∙ sym (length-taken c.edit-answer.new.rooms.entries)
 
 pub returns-in_err-answer : goal.returns-in_err-answer
 returns-in_err-answer c =
@@ -15,11 +20,11 @@ returns-in_err-answer c =
     applies_after_refusal c.args.self.now (sheet_in c.self.inside.rooms.entries) (sheet_in c.release.new.rooms.entries)
     c.self.inside.edits c.self.inside.limits c.args.brought.now c.args.brought.now c.from_residual.result p.0 c.in_err-answer.field-0.0
     c.self.view_is refl p.1 p.2 c.in_err-answer.ensures.cause
-    (c.release.ensures.sheet ∙ c.in_err-answer.ensures.refused)
+    (sheet_in-same c.edit-answer.new.rooms.entries c.release.new.rooms.entries c.in_err-answer.ensures.order c.release.ensures.order c.release.ensures.same ∙ c.in_err-answer.ensures.refused)
 
 pub returns : goal.returns
 returns c =
     applies_after_acceptance c.args.self.now (sheet_in c.self.inside.rooms.entries) (sheet_in c.release.new.rooms.entries)
     c.self.inside.edits _ c.self.inside.limits c.args.brought.now c.args.brought.now
     c.self.view_is refl c.in_ok-answer.ensures.cause
-    (c.release.ensures.sheet ∙ c.in_ok-answer.ensures.done)
+    (sheet_in-same c.edit-answer.new.rooms.entries c.release.new.rooms.entries c.in_ok-answer.ensures.order c.release.ensures.order c.release.ensures.same ∙ c.in_ok-answer.ensures.done)

@@ -1,5 +1,6 @@
+use Rattle.wi_values.proofs.Listed.{has_at}
 use Rattle.wi_worlds.proofs.Words.{◌≡◌, ◌∙◌, ◌==◌, ◌||◌, ℕ, true, List, Ok, Err, sym, ap, subst, IsStrictlyIncreasing, is_one_of}
-use Rattle.wi_worlds.proofs.RisingSteps.{Searched, searched_in, has_at, has_still, has_more, rise_more}
+use Rattle.wi_worlds.proofs.RisingSteps.{Searched, searched_in, has_still, has_more, rise_more}
 use Rattle.wi_worlds.proofs.rising.RisingCells.insert.Goals as goal
 
 pub invariant_of-self-in-Err : goal.invariant_of-self-in-Err
@@ -17,7 +18,7 @@ returns-in-Ok-clause-has c =
     let place = c.in-Ok.field-0 in
     let found : Searched c.deref.result.now c.args.cell (Ok place) =
     searched_in c.deref.result.now c.args.cell (Ok place) (subst IsStrictlyIncreasing (sym c.deref.ensures.value) c.self.invariant) c.in-Ok.ensures.position in
-    let there = subst (λ (ys : List ℕ). is_one_of ys c.args.cell ≡ true) (c.deref.ensures.value ∙ c.self.view_is) (has_at c.deref.result.now place c.args.cell found.0 found.1) in
+    let there = subst (λ (ys : List ℕ). is_one_of ys c.args.cell ≡ true) (c.deref.ensures.value ∙ c.self.view_is) (has_at c.deref.result.now place c.args.cell 0 found.0 found.1) in
     λ q. has_still c.args.self.now c.args.cell q there
 
 pub returns-in_ok-insert-in-Err-clause-has : goal.returns-in_ok-insert-in-Err-clause-has

@@ -1,0 +1,12 @@
+use Rattle.wi_tiles.proofs.Words.{◌≡◌, ◌++◌, ℕ, length, take, drop, All, keys_of, taken, held_at, with_all, stood, VacantOnlyAt, HasRoomFor}
+use Rattle.wi_tiles.proofs.rooms.exchange_all.Given as goal
+
+abbrev pub invariant-loop-change : goal.invariant-loop-change
+invariant-loop-change g l = record {
+  after : (q : ℕ) → with_all (held_at g.V.MayBeVacant.vacant l.rooms.entries) (drop l.change-index l.changes) q ≡ with_all (held_at g.V.MayBeVacant.vacant l.initial.rooms.entries) l.initial.changes q;
+  stood : take l.change-index l.changes ++ stood (held_at g.V.MayBeVacant.vacant l.rooms.entries) (drop l.change-index l.changes) ≡ stood (held_at g.V.MayBeVacant.vacant l.initial.rooms.entries) l.initial.changes;
+  occupied : l.occupied ≡ length (taken g.V.MayBeVacant.is_taken l.rooms.entries);
+  cells : keys_of l.rooms.entries ≡ keys_of l.initial.rooms.entries;
+  room : All (HasRoomFor g.V.MayBeVacant.vacant l.rooms.entries) l.changes;
+  vacant : VacantOnlyAt g.V.MayBeVacant.vacant (keys_of l.changes) l.rooms.entries;
+}
