@@ -1,5 +1,5 @@
 -- What the tree of a text is, and why there is none.
-use Rattle.wi_parser.proofs.Words.{◌≡◌, ℕ, ◌+◌, ◌<◌, ◌≤◌, Bool, true, false, ◌||◌, nat_lt, List, [], ◌∷◌, ◌++◌, length, Option, Some, None, Result, Ok, Err, ok_or, if◌then◌else◌, IfOk, ◌↔◌, refl, sym, ap, ap₂, ◌∙◌, subst, arith, or_parts, lt-ltb, le-ltb, ltb-false, list_any-append, list_any, ParseFault, TooLong, OutOfSheet, NumberRange, TooDeep, Syntax, Memory, Tree, Trees, Symbol, close_parenthesis, infix_mark, percent_mark, bad_token, is_out_of_sheet, is_unfit, loosest, Spells, a_number, a_cell, a_rectangle, in_parentheses, one_input, two_inputs, with_sign, with_percent, tighter, joined, SpellsAll, SpellsMore, a_text, a_call, no_parameter, parameters, last_parameter, another_parameter, max_depth, is_too_deep, whole, Fails, after_prefix, after_equals, symbols_by, formula_symbols, max_formula, refusal_of, unless_refused, judged, parsed, IsWithinLimits, is_too_long, ReadsAs}
+use Rattle.wi_parser.proofs.Words.{◌≡◌, ℕ, ◌+◌, ◌<◌, ◌≤◌, Bool, true, false, ◌||◌, nat_lt, List, [], ◌∷◌, ◌++◌, length, Option, Some, None, Result, Ok, Err, ok_or, if◌then◌else◌, IfOk, ◌↔◌, refl, sym, ap, ap₂, ◌∙◌, subst, arith, or_parts, lt-ltb, le-ltb, ltb-false, list_any-append, list_any, ParseFault, TooLong, OutOfSheet, NumberRange, TooDeep, Syntax, Memory, Tree, Trees, Symbol, close_parenthesis, infix_mark, percent_mark, bad_token, is_out_of_sheet, is_unfit, loosest, Spells, a_number, a_cell, a_rectangle, in_parentheses, one_input, two_inputs, with_sign, with_percent, tighter, joined, SpellsAll, SpellsMore, a_text, a_call, no_parameter, parameters, last_parameter, another_parameter, max_depth, is_too_deep, whole, Fails, Front, IsFrontOf, symbols_by, symbols_with, formula_symbols, max_formula, refusal_of, unless_refused, judged, parsed, IsWithinLimits, is_too_long, ReadsAs}
 use Rattle.wi_parser.proofs.Sound.{whole_sound}
 use Rattle.wi_parser.proofs.Complete.{whole_complete}
 use Rattle.wi_parser.proofs.Depth.{depth-deepest}
@@ -70,10 +70,10 @@ judged_spelled ts t s h =
 
 -- ---- a text
 
--- the symbols of what follows a text's prefix and its `=`
-pub by_front : (text plain : List ℕ) (body : Option (List ℕ)) → plain ≡ after_prefix text → body ≡ after_equals text → symbols_by plain body ≡ formula_symbols text
+-- the symbols of a text by its front
+pub by_front : (text : List ℕ) (front : Front) → IsFrontOf text front → symbols_with front ≡ formula_symbols text
 unfolding formula_symbols
-by_front text plain body h k = ap₂ symbols_by h k
+by_front text front is = ap₂ symbols_by is.plain is.body
 
 pub parsed_long : (text : List ℕ) → max_formula < length text → parsed text ≡ Err TooLong
 unfolding parsed

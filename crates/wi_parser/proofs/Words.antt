@@ -85,7 +85,7 @@ pub use Rattle.wi_parser.specs.Capitals.{in_capitals}
 pub use Rattle.wi_parser.specs.Contents.{AreJudged, IsConstantText, IsContent, IsFormulaText, IsNoFormulaText, IsParsed, IsTextOf, a_constant, a_formula, a_long_text, a_tree, as_judged, at_fault, no_constant, no_formula, no_tree, too_long}
 pub use Rattle.wi_parser.specs.Grammar.{AreGrammatical, IsGrammatical, line_of, tree_line}
 pub use Rattle.wi_parser.specs.Inner.Deepest.{deepest, most_signs}
-pub use Rattle.wi_parser.specs.Inner.FormulaText.{after, after_equals, after_prefix, cell_symbol, corners_symbol, mark_symbol, number_symbol, rectangle_symbol, reference_symbol, symbol_of, symbols_by, symbols_of}
+pub use Rattle.wi_parser.specs.Inner.FormulaText.{IsFrontOf, after, after_equals, after_prefix, cell_symbol, corners_symbol, mark_symbol, number_symbol, rectangle_symbol, reference_symbol, symbol_of, symbols_by, symbols_of, symbols_with}
 unfoldable pub use Rattle.wi_parser.specs.Inner.FormulaText.{formula_symbols}
 pub use Rattle.wi_parser.specs.Inner.Lines.{Spells, SpellsAll, SpellsMore, a_call, a_cell, a_number, a_rectangle, a_text, another_parameter, in_parentheses, joined, last_parameter, loosest, no_parameter, one_input, parameters, tighter, two_inputs, with_percent, with_sign}
 pub use Rattle.wi_parser.specs.Inner.Outcome.{Fails, Finds, FindsMore, before, put_before}
@@ -123,6 +123,7 @@ pub use Rattle.wi_parser.specs.declared.expr.Sign.TheVariants.{Minus, Plus}
 pub use Rattle.wi_parser.specs.declared.fault.ParseFault.{ParseFault}
 pub use Rattle.wi_parser.specs.declared.fault.ParseFault.TheVariants.{Memory, NumberRange, OutOfSheet, Syntax, TooDeep, TooLong}
 pub use Rattle.wi_parser.specs.declared.formula.Parts.{Parts}
+pub use Rattle.wi_parser.specs.declared.front.Front.{Front}
 pub use Rattle.wi_values.proofs.Imports.{imported_exactly}
 pub use Rattle.wi_values.proofs.Lists.{one_less}
 pub use Rattle.wi_values.proofs.Order.{is_itself}
