@@ -1,9 +1,9 @@
 -- Steps of bringing an edit in.
-use Rattle.wi_graph.proofs.Words.{◌≡◌, ◌==◌, ◌+◌, ◌<◌, ◌≤◌, ℕ, Bool, true, false, cond, List, [], ◌∷◌, ◌++◌, take, take_all, drop, drop-cons, get_or, length, Option, Some, None, refl, ap, sym, ◌∙◌, subst, arith, suc, add-one, drop_all, if◌then◌else◌, lookup, nat_cmp, is_at, Area, get, IsOrdered, RangePair, Bag, pair_for, is_same, count_of, HasOneMore, ComeAfter, Ascends, Ascends-from_order, lookup_after, taken_more, Rooms, Coming, brought_to, coming_at, items_of, in_room, room_at, areas_of, times, times_in, times_coming, AreInOrder, HasRooms, HasPairs, HasBoth, times_among, HasThese, SmallVec}
+use Rattle.wi_graph.proofs.Words.{◌≡◌, ◌==◌, ◌+◌, ◌<◌, ◌≤◌, ℕ, Bool, true, false, cond, List, [], ◌∷◌, ◌++◌, take, take_all, drop, drop-cons, get_or, length, Option, Some, None, unwrap_or, refl, ap, sym, ◌∙◌, subst, arith, suc, add-one, drop_all, if◌then◌else◌, lookup, nat_cmp, is_at, Area, get, IsOrdered, RangePair, Bag, pair_for, is_same, count_of, HasOneMore, ComeAfter, Ascends, Ascends-from_order, lookup_after, taken_more, Rooms, Coming, brought_to, coming_at, items_of, in_room, room_at, areas_of, times, times_in, times_coming, AreInOrder, HasRooms, HasPairs, HasBoth, times_among, HasThese, SmallVec}
 use Rattle.wi_graph.proofs.Tests.{is_at-eq, is_itself, at_same, turn_test}
 use Rattle.wi_graph.proofs.Walks.{same_cell}
 use Rattle.wi_graph.proofs.ComingSteps.{found_longer}
-use Rattle.wi_graph.proofs.MapSteps.{PutsNew, or_new, put}
+use Rattle.wi_tiles.proofs.MapSteps.{with_new, found-with_new}
 use Rattle.wi_graph.proofs.RoomSteps.{times_more, times_other, times_room, Loses}
 
 pub one_more : (k : ℕ) (rs : List Area) (i : ℕ) (r : Area) (first old new : Bag) → i < length rs → r ≡ get_or rs i r → HasOneMore (pair_for r k) old new → ((p : RangePair) → count_of old p ≡ count_of first p + times k (take i rs) p) →
@@ -25,13 +25,16 @@ put_other : (old new : Rooms) (k : ℕ) (o : Option (SmallVec Area)) → Puts ol
 put_other old new k o u c e = u c ∙ ap (λ (b : Bool). cond b (Some o) (get nat_cmp old c)) (is_at-eq k c ∙ e)
 
 -- a vacant room, where there was none
-pub room_same : (old new : Rooms) (k : ℕ) → PutsNew old new k None → (c : ℕ) → room_at new c ≡ room_at old c
+abbrev pub MakesRoom : Rooms → Rooms → ℕ → Type 0
+MakesRoom old new k = new.entries ≡ with_new old.entries k None
+
+pub room_same : (old new : Rooms) (k : ℕ) → MakesRoom old new k → (c : ℕ) → room_at new c ≡ room_at old c
 room_same old new k p c = at (k == c) refl
   where
-    u : Puts old new k (or_new (get nat_cmp old k) None)
-    u = put old new k None p
+    u : Puts old new k (unwrap_or (get nat_cmp old k) None)
+    u = found-with_new old.entries new.entries k None p
 
-    there : (x : Option (Option (SmallVec Area))) → items_of (or_new x None) ≡ in_room x
+    there : (x : Option (Option (SmallVec Area))) → items_of (unwrap_or x None) ≡ in_room x
     there None = refl
     there (Some y) = refl
 
@@ -39,18 +42,18 @@ room_same old new k p c = at (k == c) refl
     at true e = ap in_room (put_here old new k _ u c e) ∙ there (get nat_cmp old k) ∙ ap (room_at old) (same_cell c k e)
     at false e = ap in_room (put_other old new k _ u c e)
 
-pub room_stays : (old new : Rooms) (k : ℕ) → PutsNew old new k None → (c : ℕ) → get nat_cmp new c ≡ None → get nat_cmp old c ≡ None
+pub room_stays : (old new : Rooms) (k : ℕ) → MakesRoom old new k → (c : ℕ) → get nat_cmp new c ≡ None → get nat_cmp old c ≡ None
 room_stays old new k p c h = at (k == c) refl
   where
-    u : Puts old new k (or_new (get nat_cmp old k) None)
-    u = put old new k None p
+    u : Puts old new k (unwrap_or (get nat_cmp old k) None)
+    u = found-with_new old.entries new.entries k None p
 
     at : (b : Bool) → (k == c) ≡ b → get nat_cmp old c ≡ None
     at true e = let z = put_here old new k _ u c e in cc
     at false e = sym (put_other old new k _ u c e) ∙ h
 
-pub room_there : (old new : Rooms) (k : ℕ) → PutsNew old new k None → get nat_cmp new k ≡ None → ⊥
-room_there old new k p h = let z = put_here old new k (or_new (get nat_cmp old k) None) (put old new k None p) k (is_itself k) in cc
+pub room_there : (old new : Rooms) (k : ℕ) → MakesRoom old new k → get nat_cmp new k ≡ None → ⊥
+room_there old new k p h = let z = put_here old new k (unwrap_or (get nat_cmp old k) None) (found-with_new old.entries new.entries k None p) k (is_itself k) in cc
 
 -- ---- the rooms of some cells
 

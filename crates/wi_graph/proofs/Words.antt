@@ -13,7 +13,6 @@ pub use Rattle.std.proofs.lemmas.List.Elements.{filter-append, filter_agree}
 pub use Rattle.std.proofs.lemmas.List.Folds.{Any-from_list_any, list_any-append, list_any_at}
 pub use Rattle.std.proofs.lemmas.List.Sorted.{IsNonDecreasingBy-from_default, IsPartitionPoint-from_clause, IsPartitionedBy-ltb}
 pub use Rattle.std.proofs.lemmas.List.Sums.{AllPass-from_list_all, list_all-from_AllPass}
-pub use Rattle.std.proofs.lemmas.Map.{keys-set_value}
 pub use Rattle.std.proofs.lemmas.Map.Keys.{sorted_head, sorted_tail}
 pub use Rattle.std.proofs.lemmas.Map.Views.{any-filter_same}
 pub use Rattle.std.proofs.lemmas.Result.{IfOk-from_err, IfOk-weaker, on_ok_weaker}
@@ -27,7 +26,7 @@ pub use Rattle.std.specs.Cmp.Lexicographic.{pointwise}
 pub use Rattle.std.specs.Global.{Vec}
 pub use Rattle.std.specs.List.{AllByRecursion, Contains, find, list_all, list_any}
 pub use Rattle.std.specs.List.Sorted.{IsNonDecreasing, IsPartitionPoint, IsStrictlyIncreasing, IsStrictlySortedBy}
-pub use Rattle.std.specs.Map.{keys_of, lookup, remove_entry, set_value}
+pub use Rattle.std.specs.Map.{keys_of, lookup}
 pub use Rattle.std.specs.Option.{is_none, option_eq, option_flatten, unwrap_or}
 pub use Rattle.std.specs.Ordering.{nat_cmp}
 pub use Rattle.std.specs.Prelude.{if◌then◌else◌, nat_lt}
@@ -64,8 +63,8 @@ pub use Rattle.wi_tiles.specs.Entries.{CellEntries, IsOrdered, get}
 pub use Rattle.wi_values.proofs.Keys.{lone_key}
 pub use Rattle.wi_values.proofs.Listed.{Contains-from_has, has-from_Contains, has_key, has_taken}
 pub use Rattle.wi_values.proofs.Lists.{keeps_few, taken_more}
-pub use Rattle.wi_values.proofs.Lookups.{cond_again, cond_apart, found-insert, found-without}
-pub use Rattle.wi_values.proofs.Order.{Ascends, Ascends-filter, Ascends-from_order, Ascends-insert, Ascends-remove, ComeAfter, at_earlier, at_itself, at_same, below_from_Less, come_after_earlier, is_at-eq, lookup_after, order-from_Ascends, turn_test}
+pub use Rattle.wi_values.proofs.Lookups.{cond_apart, found-insert, found-without}
+pub use Rattle.wi_values.proofs.Order.{Ascends, Ascends-filter, Ascends-from_order, Ascends-insert, ComeAfter, at_earlier, at_itself, at_same, below_from_Less, come_after_earlier, is_at-eq, lookup_after, order-from_Ascends, turn_test}
 pub use Rattle.wi_values.proofs.Outcomes.{on_err}
 pub use Rattle.wi_values.proofs.Small.{max_at_most, max_below}
 pub use Rattle.wi_values.proofs.Within.{column_of_place, fewer_places, places_left, row_of_place, within_between, within_from, within_parts}
