@@ -126,7 +126,7 @@ pub use Rattle.wi_values.proofs.Lists.{keeps_few}
 pub use Rattle.wi_values.proofs.Order.{Ascends, Ascends-from_order, ComeAfter, at_earlier, at_itself, at_same, come_after_earlier, is_at-eq, lookup_after, order-from_Ascends, turn_test}
 pub use Rattle.wi_values.proofs.Replacements.InOrder.{order_from_sorted, sorted_from_order}
 pub use Rattle.wi_values.proofs.Within.{column_within, places_left, within_between}
-pub use Rattle.wi_values.specs.Address.{Area, column_of, is_one_of, is_within, row_of, size_of}
+pub use Rattle.wi_values.specs.Address.{Area, column_of, is_one_of, is_within, is_within_one, row_of, size_of}
 pub use Rattle.wi_values.specs.Replacements.{IsInOrder, as_map, replaced, same_replacements}
 pub use Rattle.wi_values.specs.declared.replacement.Replacement.{Replacement}
 pub use Rattle.wi_values.specs.declared.value.Value.{Value}

@@ -41,7 +41,7 @@ pub use Rattle.wi_graph.specs.Inner.Changes.{Brings, HasNoIdle, IsEditCone, Read
 pub use Rattle.wi_graph.specs.Inner.Rooms.{AreCircles, AreInOrder, Coming, HasBoth, HasPairs, HasRooms, IsGraph, IsStaged, Rooms, areas_of, brought_to, coming_at, edges_in, edges_over, in_room, items_of, less_these, put_over, room_at, room_over, times, times_coming, times_in, with_room}
 pub use Rattle.wi_graph.specs.Inner.Search.{AreNoted, GoesToReaders, HasAll, HasReaders, IsConeBeyond, IsConeOf, IsLeast, IsListBeyond, as_set, beyond, missing}
 pub use Rattle.wi_graph.specs.Inner.Staging.{HasThese, times_among}
-pub use Rattle.wi_graph.specs.Inner.Stripping.{AreStripped, EachReadsOne, IsFree, IsTracking, IsWithin, KeepsReads, ReadsOne, Waits, is_in, items_there, reads_in, waiting_for, waits_for}
+pub use Rattle.wi_graph.specs.Inner.Stripping.{AreStripped, EachReadsOne, IsFree, IsTracking, IsWithin, KeepsReads, ReadsOne, Waits, items_there, reads_in, waiting_for, waits_for}
 pub use Rattle.wi_graph.specs.Inner.Turning.{AreTurns, SettlesCone, StandsApart, has_circle_outside, has_one, has_room_in, meets_one_of, reads_cell, reads_one_of, reads_outside, turned_by}
 pub use Rattle.wi_graph.specs.Inner.Walks.{has_walk}
 pub use Rattle.wi_graph.specs.Inner.Within.{IsAhead, IsBetween, IsFoundBy}
@@ -68,6 +68,6 @@ pub use Rattle.wi_values.proofs.Order.{Ascends, Ascends-filter, Ascends-from_ord
 pub use Rattle.wi_values.proofs.Outcomes.{on_err}
 pub use Rattle.wi_values.proofs.Small.{max_at_most, max_below}
 pub use Rattle.wi_values.proofs.Within.{column_of_place, fewer_places, places_left, row_of_place, within_between, within_from, within_parts}
-pub use Rattle.wi_values.specs.Address.{Area, column_of, columns, is_one_of, is_within, place, rect_of, row_of}
+pub use Rattle.wi_values.specs.Address.{Area, column_of, columns, is_one_of, is_within, is_within_one, place, rect_of, row_of}
 pub use Rattle.wi_values.specs.declared.value.Value.{Value}
 pub use Rattle.wi_values.specs.declared.value.Value.TheVariants.{Empty, Fault, Logical, Number, Text}

@@ -129,7 +129,7 @@ pub use Rattle.wi_values.proofs.Lists.{one_less}
 pub use Rattle.wi_values.proofs.Order.{is_itself}
 pub use Rattle.wi_values.proofs.ReadsBack.{addresses_read_back, column_are_letters, column_some}
 pub use Rattle.wi_values.proofs.Within.{within_between}
-pub use Rattle.wi_values.specs.Address.{Area, column_letters, column_of, columns, is_row_number, is_within, letters_value, place, row_of, rows}
+pub use Rattle.wi_values.specs.Address.{Area, column_letters, column_of, columns, is_row_number, is_within, is_within_one, letters_value, place, row_of, rows}
 unfoldable pub use Rattle.wi_values.specs.Address.{address_text}
 pub use Rattle.wi_values.specs.AddressReading.{cell_at}
 unfoldable pub use Rattle.wi_values.specs.AddressReading.{address_at, read_address}

@@ -1,5 +1,5 @@
 -- When an edit is refused for a stale cell.
-use Rattle.wi_scenarios.proofs.Words.{IfSome, nat_lt, ◌≡◌, ◌∙◌, ℕ, zero, suc, ◌+◌, ◌<◌, ◌≤◌, ◌==◌, ◌⊎◌, inl, inr, Bool, true, false, ◌&&◌, List, [], ◌∷◌, length, map, max, Option, Some, None, Result, Ok, Err, refl, sym, ap, subst, arith, list_any, and_parts, and_from, both_ways, cases_eq, cases_lt, or_cases, false≢true, none-some, same_Some, Area, is_within, size_of, cells_of, within_between, Content, ParseFault, content_of, record_areas_at, Stored, applied, StoreFault, Entry, have_cell, first_stale, IsFirst, entries_in, is_wanted_of_others, only_first, stale_is_first, Refusal, Memory, BadCommand, TooLarge, BadField, LeavesSheet, Stale, State, max_area, Answer, when, unless, limit_of, edit_refusal, stale_in, with_stored, cell_area, fault_in, content_in, clear_edit, fill_edit, has_no_copy, ImportOutcome, has_bad_field, field_fault, contents_in, Command, Set, Clear, Fill, Csv, IsStep, Event, MayHappen, MayFollow, state_after, IsCoherent, named_by, is_forced, edits_since, unseen, is_newer, IsFirstNewer, counts_before, is_refused_before, StaleIsNewer, ForcedIsNotStale}
+use Rattle.wi_scenarios.proofs.Words.{IfSome, nat_lt, ◌≡◌, ◌∙◌, ℕ, zero, suc, ◌+◌, ◌<◌, ◌≤◌, ◌==◌, ◌⊎◌, inl, inr, Bool, true, false, ◌&&◌, List, [], ◌∷◌, length, map, max, Option, Some, None, Result, Ok, Err, refl, sym, ap, subst, arith, list_any, and_parts, and_from, both_ways, cases_eq, cases_lt, or_cases, false≢true, none-some, same_Some, Area, is_within, size_of, cells_of, within_between, Content, ParseFault, content_of, record_areas_at, Stored, applied, StoreFault, Entry, is_within_one, first_stale, IsFirst, entries_in, is_wanted_of_others, only_first, stale_is_first, Refusal, Memory, BadCommand, TooLarge, BadField, LeavesSheet, Stale, State, max_area, Answer, when, unless, limit_of, edit_refusal, stale_in, with_stored, cell_area, fault_in, content_in, clear_edit, fill_edit, has_no_copy, ImportOutcome, has_bad_field, field_fault, contents_in, Command, Set, Clear, Fill, Csv, IsStep, Event, MayHappen, MayFollow, state_after, IsCoherent, named_by, is_forced, edits_since, unseen, is_newer, IsFirstNewer, counts_before, is_refused_before, StaleIsNewer, ForcedIsNotStale}
 use Rattle.std.specs.Prelude.{◌↔◌}
 use Rattle.wi_parser.specs.declared.fault.ParseFault.TheVariants as parse
 use Rattle.wi_import.specs.declared.fault.ImportFault.TheVariants as import
@@ -39,10 +39,10 @@ bound : List Area → ℕ
 bound [] = 0
 bound (r ∷ rs) = max (r.last + 1) (bound rs)
 
-is_below : (areas : List Area) (a : ℕ) → have_cell areas a ≡ true → a < bound areas
+is_below : (areas : List Area) (a : ℕ) → is_within_one areas a ≡ true → a < bound areas
 unfolding bound
 is_below [] a h = absurd (false≢true h)
-is_below (r ∷ rs) a h = elim (or_cases (is_within r a) (have_cell rs a) h) [
+is_below (r ∷ rs) a h = elim (or_cases (is_within r a) (is_within_one rs a) h) [
   | inl t ↦ let k : a ≤ r.last = (within_between r a t).1 in omega (arith, k)
   | inr t ↦ let k : a < bound rs = is_below rs a t in omega (arith, k)
 ]
@@ -58,7 +58,7 @@ kept_entries (e ∷ es) = ap (λ (xs : List Entry). e ∷ xs) (kept_entries es)
 
 -- a cell that is named, and named by others
 abbrev is_wanted : List Entry → ℕ → List Area → ℕ → Bool
-is_wanted edits i named a = have_cell named a && is_newer edits i a
+is_wanted edits i named a = is_within_one named a && is_newer edits i a
 
 some_first : (edits : List Entry) (i : ℕ) (named : List Area) → (o : Option ℕ) × IsFirst (is_wanted edits i named) o
 some_first edits i named = by (search_below (is_wanted edits i named) (bound named))
@@ -70,7 +70,7 @@ some_first edits i named = by (search_below (is_wanted edits i named) (bound nam
       None,
       record {
         passes = tt;
-        least = λ a t. both_ways (is_wanted edits i named a) (none a (is_below named a (and_parts (have_cell named a) (is_newer edits i a) t).0)) t;
+        least = λ a t. both_ways (is_wanted edits i named a) (none a (is_below named a (and_parts (is_within_one named a) (is_newer edits i a) t).0)) t;
       },
     )
 
@@ -87,17 +87,17 @@ stale_exactly edits i named a = (there, back)
     there : first_stale edits i 0 named ≡ Some a → IsFirstNewer edits i named a
     there e =
         let f = subst (IsFirst (is_wanted edits i named)) e (least_stale edits i named) in
-        let p = and_parts (have_cell named a) (is_newer edits i a) f.passes in
+        let p = and_parts (is_within_one named a) (is_newer edits i a) f.passes in
         record {
           is_named = p.0;
           by_others = p.1;
-          none_before = λ b h k. f.least b (and_from (have_cell named b) (is_newer edits i b) h k);
+          none_before = λ b h k. f.least b (and_from (is_within_one named b) (is_newer edits i b) h k);
         }
 
     back : IsFirstNewer edits i named a → first_stale edits i 0 named ≡ Some a
     back h = only_first (is_wanted edits i named) (first_stale edits i 0 named) (Some a) (least_stale edits i named) (record {
-      passes = and_from (have_cell named a) (is_newer edits i a) h.is_named h.by_others;
-      least = λ b t. let p = and_parts (have_cell named b) (is_newer edits i b) t in h.none_before b p.0 p.1;
+      passes = and_from (is_within_one named a) (is_newer edits i a) h.is_named h.by_others;
+      least = λ b t. let p = and_parts (is_within_one named b) (is_newer edits i b) t in h.none_before b p.0 p.1;
     })
 
 -- ---- the order of causes

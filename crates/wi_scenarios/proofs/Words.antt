@@ -26,7 +26,7 @@ pub use Rattle.wi_csv.specs.Records.{recs}
 pub use Rattle.wi_csv.specs.Row.{row}
 pub use Rattle.wi_edit_log.proofs.First.{only_first}
 pub use Rattle.wi_edit_log.proofs.Least.{stale_is_first}
-pub use Rattle.wi_edit_log.specs.EditLog.{Entry, first_stale, have_cell}
+pub use Rattle.wi_edit_log.specs.EditLog.{Entry, first_stale}
 pub use Rattle.wi_edit_log.specs.Inner.Edits.{entries_in, is_wanted_of_others}
 pub use Rattle.wi_edit_log.specs.Inner.First.{IsFirst}
 pub use Rattle.wi_import.proofs.ImportLemmas.{no_other, some_import}
@@ -110,7 +110,7 @@ pub use Rattle.wi_values.proofs.Order.{is_itself}
 pub use Rattle.wi_values.proofs.Outcomes.{on_err}
 pub use Rattle.wi_values.proofs.ReadsBack.{addresses_read_back}
 pub use Rattle.wi_values.proofs.Within.{within_between}
-pub use Rattle.wi_values.specs.Address.{Area, address_text, cells_of, cells_of_row, column_of, columns, is_column, is_one_of, is_within, place, rect_of, row_of, rows, size_of}
+pub use Rattle.wi_values.specs.Address.{Area, address_text, cells_of, cells_of_row, column_of, columns, is_column, is_one_of, is_within, is_within_one, place, rect_of, row_of, rows, size_of}
 pub use Rattle.wi_values.specs.AddressReading.{read_address}
 pub use Rattle.wi_values.specs.Inner.Import.{imported}
 pub use Rattle.wi_values.specs.Replacements.{IsInOrder, replaced}

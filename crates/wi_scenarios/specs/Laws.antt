@@ -1,13 +1,13 @@
 -- Commands one after another, each with its answer, and what holds of them.
 use Rattle.std.specs.Prelude.{◌≡◌, ◌≢◌, ◌↔◌, ◌⊎◌, ◌==◌, ◌&&◌, ℕ, ◌<◌, ◌≤◌, Bool, true, false, not, if◌then◌else◌, List, [], ◌∷◌, ◌++◌, length, drop, map, Option, Some, None, Ok, Err}
 use Rattle.std.specs.List.{list_any}
-use Rattle.wi_values.specs.Address.{Area, address_text}
+use Rattle.wi_values.specs.Address.{Area, address_text, is_within_one}
 use Rattle.wi_values.specs.Value.{shown_text}
 use Rattle.wi_values.specs.declared.value.Value.{Value}
 use Rattle.wi_parser.specs.Reads.{cell_area}
 use Rattle.wi_csv.specs.Records.{recs}
 use Rattle.wi_import.specs.Fields.{record_areas_at}
-use Rattle.wi_edit_log.specs.EditLog.{Entry, have_cell}
+use Rattle.wi_edit_log.specs.EditLog.{Entry}
 use Rattle.wi_scenario_list.specs.Scenarios.{scenario_of}
 use Rattle.wi_sessions.specs.Pictures.{sheet_size, value_in, with_changes}
 use Rattle.wi_sessions.specs.Sessions.{told, using_scenario, with_session, index_of}
@@ -178,13 +178,13 @@ pub record LogGrows (s : State) (es : List Event) (i : ℕ) : Type 0 where
 
 -- an edit of another session than the i-th names the cell
 abbrev pub is_newer : List Entry → ℕ → ℕ → Bool
-is_newer edits i a = list_any (λ e. not (e.session == i) && have_cell e.cells a) edits
+is_newer edits i a = list_any (λ e. not (e.session == i) && is_within_one e.cells a) edits
 
 -- Of the cells in the rectangles, this is the first in row-major order that an edit of another session names.
 pub record IsFirstNewer (edits : List Entry) (i : ℕ) (named : List Area) (a : ℕ) : Type 0 where
-  pub is_named : have_cell named a ≡ true
+  pub is_named : is_within_one named a ≡ true
   pub by_others : is_newer edits i a ≡ true
-  pub none_before : (b : ℕ) → have_cell named b ≡ true → is_newer edits i b ≡ true → a ≤ b
+  pub none_before : (b : ℕ) → is_within_one named b ≡ true → is_newer edits i b ≡ true → a ≤ b
 
 -- whether a refusal counts before that of a stale cell; want of memory says nothing of one either
 abbrev pub counts_before : Refusal → Bool
