@@ -35,16 +35,16 @@ whole_has a l =
 pub unoccupied : (s : Sheet) (a : ℕ) → a < sheet_size → is_one_of (occupied_cells s) a ≡ false → content_of s a ≡ None
 unoccupied s a l h =
     let whole : Area = record { first = 0; last = sheet_size - 1 } in
-    let there : list_any (λ c. c == a) (keys_of s) ≡ false =
+    let there : is_one_of (keys_of s) a ≡ false =
     sym (any-filter_same (λ c. c == a) (is_within whole) true (λ k e. subst (λ x. is_within whole x ≡ true) (sym (eqb-true k a e)) (whole_has a l)) (keys_of s)) ∙ h in
     has_none s a there
 
 -- a cell of a list lies below its bound
-below_all : (n : ℕ) (xs : List ℕ) (c : ℕ) → All (λ a. a < n) xs → list_any (λ x. x == c) xs ≡ true → c < n
+below_all : (n : ℕ) (xs : List ℕ) (c : ℕ) → All (λ a. a < n) xs → is_one_of xs c ≡ true → c < n
 below_all n [] c h e = absurd (false≢true e)
-below_all n (x ∷ xs) c h e = at (or_cases (x == c) (list_any (λ k. k == c) xs) e) (below_all n xs c (All-tail (λ a. a < n) x xs h))
+below_all n (x ∷ xs) c h e = at (or_cases (x == c) (is_one_of xs c) e) (below_all n xs c (All-tail (λ a. a < n) x xs h))
   where
-    at : ((x == c) ≡ true) ⊎ (list_any (λ k. k == c) xs ≡ true) → (list_any (λ k. k == c) xs ≡ true → c < n) → c < n
+    at : ((x == c) ≡ true) ⊎ (is_one_of xs c ≡ true) → (is_one_of xs c ≡ true → c < n) → c < n
     at (inl t) rest = subst (λ k. k < n) (eqb-true x c t) (All-head (λ a. a < n) x xs h)
     at (inr m) rest = rest m
 
@@ -56,13 +56,13 @@ formula_occupied s c within f = at (is_one_of (occupied_cells s) c) refl
     no_content : content_of s c ≡ None → ⊥
     no_content e = false≢true (sym (ap has_formula e) ∙ f)
 
-    key : (b : Bool) → list_any (λ k. k == c) (keys_of s) ≡ b → c < rows * columns
+    key : (b : Bool) → is_one_of (keys_of s) c ≡ b → c < rows * columns
     key true e = below_all (rows * columns) (keys_of s) c within e
     key false e = absurd (no_content (has_none s c e))
 
     at : (b : Bool) → is_one_of (occupied_cells s) c ≡ b → b ≡ true
     at true e = refl
-    at false e = absurd (no_content (unoccupied s c (key (list_any (λ k. k == c) (keys_of s)) refl) e))
+    at false e = absurd (no_content (unoccupied s c (key (is_one_of (keys_of s) c) refl) e))
 
 -- so with the occupied cells those are occupied that they mark
 pub occupied_closed : (marked : Sheet → List ℕ → ℕ → Bool) → IsMarking marked → (s : Sheet) → All (λ a. a < rows * columns) (keys_of s) → IsClosed marked s (is_one_of (occupied_cells s))

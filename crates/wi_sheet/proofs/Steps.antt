@@ -1,5 +1,5 @@
 -- A cell's value by one step, with no bound in sight.
-use Rattle.wi_sheet.proofs.Words.{◌≡◌, ◌==◌, ℕ, zero, suc, ◌<◌, Bool, true, false, cond, List, [], ◌∷◌, Some, length, refl, ap, sym, ◌∙◌, subst, arith, false_from_ne_true, list_any, Value, Empty, Fault, Circular, Replacement, Tree, Formula, Sheet, content_of, put_all, has_formula, cells_with_formula, content_reads, meaning, zero_for_empty, circular, has_walk, step, circular_walks, walks_circular, circular_is, formula_cell, reader_formula, value_of, replacements, what_if_in, formula_in, value_within, cell_value, what_if_value, shown}
+use Rattle.wi_sheet.proofs.Words.{◌≡◌, ℕ, zero, suc, ◌<◌, Bool, true, false, cond, List, [], ◌∷◌, Some, length, refl, ap, sym, ◌∙◌, subst, arith, false_from_ne_true, is_one_of, Value, Empty, Fault, Circular, Replacement, Tree, Formula, Sheet, content_of, put_all, has_formula, cells_with_formula, content_reads, meaning, zero_for_empty, circular, has_walk, step, circular_walks, walks_circular, circular_is, formula_cell, reader_formula, value_of, replacements, what_if_in, formula_in, value_within, cell_value, what_if_value, shown}
 use Rattle.wi_sheet.proofs.Meanings.{meaning_same, replacements_same}
 use Rattle.wi_sheet.proofs.Bounds.{put_walk, put_formulas, bound_not_felt, bound_same, tree_reads, read_walk, put_no_walk, circular_value, plain_value}
 
@@ -24,7 +24,7 @@ reads_not_circular s c d r h = false_from_ne_true (circular s d) (λ w. let z = 
 pub some_formula : (s : Sheet) (c : ℕ) (n : ℕ) → length (cells_with_formula s) ≡ n → has_formula (content_of s c) ≡ true → 0 < n
 some_formula s c n e h = at (cells_with_formula s) e (formula_cell s c h)
   where
-    at : (xs : List ℕ) → length xs ≡ n → list_any (λ x. x == c) xs ≡ true → 0 < n
+    at : (xs : List ℕ) → length xs ≡ n → is_one_of xs c ≡ true → 0 < n
     at [] l m = cc
     at (x ∷ xs) l m = omega arith
 
