@@ -39,7 +39,7 @@ pub use Rattle.wi_graph.specs.Inner.Below.{HasAreas, HasRest, IsBelow, IsLookedA
 pub use Rattle.wi_graph.specs.Inner.Bounds.{AreWithin}
 pub use Rattle.wi_graph.specs.Inner.Changes.{Brings, HasNoIdle, IsEditCone, ReadsStay, areas_then, went_from}
 pub use Rattle.wi_graph.specs.Inner.Rooms.{AreCircles, AreInOrder, Coming, HasBoth, HasPairs, HasRooms, IsGraph, IsStaged, Rooms, areas_of, brought_to, coming_at, edges_in, edges_over, in_room, items_of, less_these, put_over, room_at, room_over, times, times_coming, times_in, with_room}
-pub use Rattle.wi_graph.specs.Inner.Search.{AreNoted, GoesToReaders, HasAll, HasReaders, IsConeBeyond, IsConeOf, IsLeast, IsListBeyond, as_set, beyond, missing}
+pub use Rattle.wi_graph.specs.Inner.Search.{AreNoted, GoesToReaders, HasAll, HasReaders, IsConeBeyond, IsConeOf, IsLeast, IsListBeyond, beyond, missing}
 pub use Rattle.wi_graph.specs.Inner.Staging.{HasThese, times_among}
 pub use Rattle.wi_graph.specs.Inner.Stripping.{AreStripped, EachReadsOne, IsFree, IsTracking, IsWithin, KeepsReads, ReadsOne, Waits, items_there, reads_in, waiting_for, waits_for}
 pub use Rattle.wi_graph.specs.Inner.Turning.{AreTurns, SettlesCone, StandsApart, has_circle_outside, has_one, has_room_in, meets_one_of, reads_cell, reads_one_of, reads_outside, turned_by}
@@ -58,6 +58,7 @@ pub use Rattle.wi_parser.specs.declared.content.Content.{Content}
 pub use Rattle.wi_parser.specs.declared.content.Content.TheVariants.{Constant, Formula}
 pub use Rattle.wi_ranges.proofs.Exact.{same_is, same_self}
 pub use Rattle.wi_ranges.specs.Bag.{Bag, HasOneLess, HasOneMore, IsRead, IsReader, count_of, is_same, pair_area, pair_for}
+pub use Rattle.wi_ranges.specs.Inner.Rising.{as_set}
 pub use Rattle.wi_ranges.specs.declared.pair.RangePair.{RangePair}
 pub use Rattle.wi_tiles.specs.Entries.{CellEntries, IsOrdered, get}
 pub use Rattle.wi_values.proofs.Keys.{lone_key}

@@ -8,9 +8,9 @@ ghost use Rattle.std.specs.Map.{keys_of};
 ghost use Rattle.std.specs.Ordering.{nat_cmp};
 ghost use Rattle.std.specs.BTreeSet.{contains};
 ghost use Rattle.wi_values.specs.Address.{is_within, is_within_one};
+ghost use Rattle.wi_ranges.specs.Inner.Rising.{as_set};
 ghost use Rattle.wi_graph.specs.Inner.Bounds.{AreWithin};
 ghost use Rattle.wi_graph.specs.Inner.Rooms.{items_of, areas_of};
-ghost use Rattle.wi_graph.specs.Inner.Search.{as_set};
 ghost use Rattle.wi_graph.specs.Inner.Turning.{reads_cell, has_one, reads_one_of, meets_one_of, has_room_in, StandsApart};
 
 use crate::bounds::around;

@@ -43,7 +43,7 @@ pub use Rattle.wi_ranges.specs.Blocks.{block, blocks_in, blocks_of, first_row, h
 unfoldable pub use Rattle.wi_ranges.specs.Blocks.{blocks_with, blocks_within}
 pub use Rattle.wi_ranges.specs.Inner.Around.{IsAround, has_cell}
 pub use Rattle.wi_ranges.specs.Inner.Index.{AreUpTo, AreWhole, Gains, HasPieces, IsIndexed, KeepsOtherPieces, LacksPieces, Piece, bag_of, block_cmp, has_piece, holds, is_among, is_at_block, is_one, is_piece, lowest, numbered_cmp, pair_reads, piece_cmp, piece_reads, reads_at, stands_first}
-pub use Rattle.wi_ranges.specs.Inner.Rising.{StandApart, ends_before}
+pub use Rattle.wi_ranges.specs.Inner.Rising.{StandApart, as_set, ends_before}
 pub use Rattle.wi_ranges.specs.Inner.Singles.{HasPairMore, blocks_in_all, pairs_at, pairs_of, single_pair, with_pairs}
 pub use Rattle.wi_ranges.specs.Laws.{BlocksAreFew, BlocksAreLargest, IsAligned, IsPartOf, RowsAreHeldOnce, times_held}
 pub use Rattle.wi_ranges.specs.declared.block.Block.{Block}
