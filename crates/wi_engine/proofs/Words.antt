@@ -59,8 +59,8 @@ pub use Rattle.wi_engine.specs.declared.frame.Frame.{Frame}
 pub use Rattle.wi_engine.specs.declared.frame.Unvalued.{Unvalued}
 pub use Rattle.wi_engine.specs.declared.frame.Waiting.{Waiting}
 pub use Rattle.wi_engine.specs.declared.frame.Waiting.TheVariants.{Cells, Nothing}
+pub use Rattle.wi_engine.specs.declared.known.Known.{Known}
 pub use Rattle.wi_engine.specs.declared.lists.FoundWhatIf.{FoundWhatIf}
-pub use Rattle.wi_engine.specs.declared.lookup.Known.{Known}
 pub use Rattle.wi_engine.specs.declared.seen.Seen.{Seen}
 pub use Rattle.wi_engine.specs.declared.walk.Progress.{Progress}
 pub use Rattle.wi_engine.specs.declared.walk.Progress.TheVariants.{Done, Open}

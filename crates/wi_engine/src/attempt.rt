@@ -11,7 +11,7 @@ ghost use Rattle.wi_engine.specs.Inner.Attempts.{IsAttemptOf};
 ghost use Rattle.wi_engine.specs.Inner.Frames.{StandsAt};
 
 use crate::frame::Frame;
-use crate::lookup::Known;
+use crate::known::Known;
 use std::alloc::{AllocError, Global};
 use wi_functions::{Meter, Outcome, evaluate};
 use wi_store::Store;

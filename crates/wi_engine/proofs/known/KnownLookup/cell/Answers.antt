@@ -1,6 +1,6 @@
 use Rattle.wi_engine.proofs.Words.{◌≡◌, Option, Some, IfSome, ap, refl, subst, sym, ◌∙◌, Value, content_of, put_all, cell_value, known_in, found_value}
 use Rattle.wi_engine.proofs.attempt.KnownValues.{found_known}
-use Rattle.wi_engine.proofs.lookup.KnownLookup.cell.Goals as goal
+use Rattle.wi_engine.proofs.known.KnownLookup.cell.Goals as goal
 
 -- what was found is right, and so it is known
 pub returns-in-Some : goal.returns-in-Some

@@ -1,6 +1,6 @@
 use Rattle.wi_engine.proofs.Words.{rules}
 use Rattle.wi_engine.proofs.filled.FirstTouched.{passed_over}
-use Rattle.wi_engine.proofs.lookup.KnownLookup.next_value.Goals as goal
+use Rattle.wi_engine.proofs.known.KnownLookup.next_value.Goals as goal
 
 pub loop-ahead-preserved : goal.loop-ahead-preserved
 loop-ahead-preserved c =

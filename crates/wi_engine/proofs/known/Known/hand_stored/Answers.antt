@@ -1,6 +1,6 @@
 use Rattle.wi_engine.proofs.Words.{ap, ◌∙◌, sym, value_if_known, Content, Option, known_in, found_value}
-use Rattle.wi_engine.proofs.lookup.HandOver.{handed_enough, handed_to_end, handed_to_limit, inside_here, missing_here, one_more}
-use Rattle.wi_engine.proofs.lookup.Known.hand_stored.Goals as goal
+use Rattle.wi_engine.proofs.known.HandOver.{handed_enough, handed_to_end, handed_to_limit, inside_here, missing_here, one_more}
+use Rattle.wi_engine.proofs.known.Known.hand_stored.Goals as goal
 
 pub returns-then-is_reached-clause-taken : goal.returns-then-is_reached-clause-taken
 returns-then-is_reached-clause-taken g c =

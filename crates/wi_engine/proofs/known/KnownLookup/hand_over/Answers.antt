@@ -1,6 +1,6 @@
 use Rattle.wi_engine.proofs.Words.{◌∙◌, None, Some, sym}
-use Rattle.wi_engine.proofs.lookup.HandOver.{further, replaced_ahead, replaced_last, replaced_on, stands}
-use Rattle.wi_engine.proofs.lookup.KnownLookup.hand_over.Goals as goal
+use Rattle.wi_engine.proofs.known.HandOver.{further, replaced_ahead, replaced_last, replaced_on, stands}
+use Rattle.wi_engine.proofs.known.KnownLookup.hand_over.Goals as goal
 
 pub hand_stored-requires-clause-ahead : goal.hand_stored-requires-clause-ahead
 hand_stored-requires-clause-ahead g c = (replaced_ahead c.args.area c.args.from c.in-Some.replacement.now.at c.replacements.result.now c.in-Some.ensures.cell).1

@@ -1,5 +1,5 @@
-use Rattle.wi_engine.proofs.lookup.HandOver.{AreHanded}
-use Rattle.wi_engine.proofs.lookup.Known.hand_stored.Given as goal
+use Rattle.wi_engine.proofs.known.HandOver.{AreHanded}
+use Rattle.wi_engine.proofs.known.Known.hand_stored.Given as goal
 
 -- what was handed over, and what is to come
 abbrev pub invariant-loop-at : goal.invariant-loop-at
