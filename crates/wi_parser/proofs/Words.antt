@@ -105,7 +105,7 @@ pub use Rattle.wi_parser.specs.Reads.{area_of, cell_area, inputs_of, leaf_inputs
 pub use Rattle.wi_parser.specs.Shift.{all_references, column_moved, in_sheet, leaf_references, map_references, map_references_in, part, row_moved, shifted, within}
 unfoldable pub use Rattle.wi_parser.specs.Shift.{moved, stays}
 pub use Rattle.wi_parser.specs.Spelling.{HasSpelling, IsSpelling, spelling, spelling_of_all, spelling_of_more}
-pub use Rattle.wi_parser.specs.Symbol.{Symbol, bad_token, close_parenthesis, corners, infix_mark, is_out_of_sheet, is_unfit, name, numeral, open_parenthesis, percent_mark, reference, separator, sign_mark, text_literal, what_if_name, written_as}
+pub use Rattle.wi_parser.specs.Symbol.{Symbol, bad_token, close_parenthesis, corners, infix_mark, is_out_of_sheet, is_refused, is_unfit, name, numeral, open_parenthesis, percent_mark, reference, separator, sign_mark, text_literal, what_if_name, written_as}
 pub use Rattle.wi_parser.specs.Symbols.{AreSymbols, Means, NoneBegins, NoneLonger, a_closing_parenthesis, a_name, a_percent_mark, a_reference, a_separator, a_token, an_opening_parenthesis, an_operator, an_outside_rectangle, an_outside_reference, an_unfit_number, at_the_end, name_symbol, no_token, reference_to, white_space}
 pub use Rattle.wi_parser.specs.Tree.{Tree, Trees, binary, call, cell, more_trees, no_trees, number, parenthesized, percent, rectangle, signed, text, trees_of, what_if}
 pub use Rattle.wi_parser.specs.View.{all_of, layer_tree, pair_of, tree_of}
