@@ -63,6 +63,27 @@ impl Ord for Fraction {
     ghost matches_eq = { cross_same_parts };
 
     fn cmp(&self, other: &Fraction) -> Ordering {
+        if self.parts().denominator == other.parts().denominator {
+            self.like_order(*other)
+        } else {
+            self.unlike_order(*other)
+        }
+    }
+}
+
+impl Fraction {
+    /// The order of two numbers with one denominator.
+    fn like_order(self, other: Fraction) -> Ordering
+        requires { self.den ≡ other.den }
+        ensures { result ≡ cross_cmp self other }
+    {
+        self.parts().numerator.cmp(&other.parts().numerator)
+    }
+
+    /// The order of two numbers with any denominators.
+    fn unlike_order(self, other: Fraction) -> Ordering
+        ensures { result ≡ cross_cmp self other }
+    {
         let Parts {
             numerator: m,
             denominator: b,
@@ -71,9 +92,6 @@ impl Ord for Fraction {
             numerator: n,
             denominator: d,
         } = other.parts();
-        if b == d {
-            return m.cmp(&n);
-        }
         let a = m.unsigned_abs();
         let c = n.unsigned_abs();
         match (m < 0, n < 0) {
