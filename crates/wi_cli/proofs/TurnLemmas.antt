@@ -1,9 +1,10 @@
 -- A line served, and its reply written.
-use Rattle.wi_cli.proofs.Vocabulary.{◌≡◌, ℕ, ◌+◌, ◌<◌, ◌≤◌, Bool, ◌||◌, not, cond, ltb, ap, refl, ◌∙◌, ⊎_elim, Some, List, ◌++◌, length, take, drop, sym, subst, Option, None, [], Appends-nil, length-append, arith, option_to_list, Appends, Appends-trans, take-append-drop, take-append-le, length-take, take_all, lt-ltb, cases_lt, is_utf8, Refused, without_cr, take-append-add, AppendsFront, State, Passed, Reply, Told, told_bytes, csv_line, line_command, text_command, line_front, RunFault, Result, Err, Broke, Memory, Read, Write, ScriptLimit, TookLine, TookBlock, BrokeBlock, Turned, Stopped, WritesReplies}
+use Rattle.wi_cli.proofs.Vocabulary.{◌≡◌, ℕ, ◌+◌, ◌<◌, ◌≤◌, Bool, ◌||◌, not, cond, ltb, ap, refl, ◌∙◌, ⊎_elim, Some, List, ◌++◌, length, take, drop, sym, subst, Option, None, [], Appends-nil, length-append, arith, option_to_list, Appends, Appends-trans, take-append-drop, take-append-le, length-take, take_all, lt-ltb, cases_lt, is_utf8, Refused, without_cr, take-append-add, AppendsFront, State, Passed, Reply, Told, told_bytes, csv_line, line_command, text_command, line_front, RunFault, Result, Ok, Err, MatchResult, Broke, Memory, Read, Write, ScriptLimit, CanRead, ReadsOn, TookLine, TookBlock, BrokeBlock, IsReplied, Turned, Stopped, WritesReplies}
 use Rattle.wi_scenarios.specs.Step.{Command}
 use Rattle.wi_scenarios.specs.declared.refusal.Refusal.TheVariants.{BadLine}
 use Rattle.wi_cli.specs.Inner.Turn.{CutShort}
 use Rattle.wi_cli.proofs.RunLemmas.{WritesReplies-told}
+use Rattle.wi_cli.proofs.ReadingLemmas.{stops_unwritten}
 use Rattle.wi_cli.proofs.TakenLemmas.{IsCounted, plain_block}
 use Rattle.wi_cli.proofs.DataLemmas.{no_csv}
 
@@ -69,6 +70,25 @@ cut_short whole b l b' l' count count' s t w w' command a out k told h = record 
   written = h.2;
   writes = subst (λ x. WritesReplies s (option_to_list command) x t) (sym (take-append-drop h.0 (told_bytes a out))) (WritesReplies-told command a s t out told);
 }
+
+-- a block was taken and served, and its reply was written, or a front of it
+pub answered : (r : Result Bool RunFault) (whole : Bool) (b : List ℕ) (l : Option (List ℕ)) (b' : List ℕ) (l' : Option (List ℕ)) (count count' : ℕ) (s t : State) (w w' : Option (List ℕ)) (command : Option Command) (a : Reply) (out : List ℕ)
+    → TookBlock command whole b l b' l' count count' → Told command a s t out → IsReplied whole a out r w w'
+    → MatchResult r (λ end. Turned end b l b' l' count count' s t w w') (λ e. Stopped e b l b' l' count s t w w')
+answered (Ok end) whole b l b' l' count count' s t w w' command a out k told h = subst (λ x. Turned x b l b' l' count count' s t w w') (sym h.0) (turned whole b l b' l' count count' s t w w' command a out k told h.1)
+answered (Err Write) whole b l b' l' count count' s t w w' command a out k told h = cut_short whole b l b' l' count count' s t w w' command a out k told h
+answered (Err Memory) whole b l b' l' count count' s t w w' command a out k told h = absurd h
+answered (Err Read) whole b l b' l' count count' s t w w' command a out k told h = absurd h
+answered (Err ScriptLimit) whole b l b' l' count count' s t w w' command a out k told h = absurd h
+
+-- and the reader of lines reads on where it was written
+pub answered_reads : {has_failed : Bool} {capacity : ℕ} (r : Result Bool RunFault) (whole : Bool) (a : Reply) (out : List ℕ) (w w' : Option (List ℕ))
+    → IsReplied whole a out r w w' → CanRead has_failed capacity → ReadsOn r has_failed capacity
+answered_reads (Ok end) whole a out w w' h k = k
+answered_reads (Err Write) whole a out w w' h k = stops_unwritten k
+answered_reads (Err Memory) whole a out w w' h k = absurd h
+answered_reads (Err Read) whole a out w w' h k = absurd h
+answered_reads (Err ScriptLimit) whole a out w w' h k = absurd h
 
 -- no fault of the reader of lines is want of memory
 pub broke_no_memory : (r : Result Bool RunFault) (e fault : RunFault) (allowed : Bool) (b : List ℕ) (l : Option (List ℕ)) (b' : List ℕ) (l' : Option (List ℕ))

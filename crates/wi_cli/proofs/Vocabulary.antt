@@ -23,7 +23,7 @@ pub use Rattle.std.specs.Io.KnownBytes.{Appends, Consumes, IsAtEnd, Keeps, prepe
 pub use Rattle.std.specs.List.{AllZip, Any, Contains, after_first, before_first, concat, cons_option, list_all, list_any, position_or_len, prefix_len, slice_index_or}
 pub use Rattle.std.specs.Map.{keys_of}
 pub use Rattle.std.specs.Option.{IfSome, option_to_list}
-pub use Rattle.std.specs.Prelude.{All}
+pub use Rattle.std.specs.Prelude.{All, MatchResult}
 pub use Rattle.std.specs.Result.{result_err}
 pub use Rattle.std.specs.Str.{IsCharBoundary, IsUtf8, all_ascii_digits, byte, is_utf8}
 pub use Rattle.std.specs.Str.Parse.{digits_value, digits_value_after}
@@ -44,7 +44,7 @@ pub use Rattle.wi_cli.specs.Inner.EditCommands.{clear_command, edit_command, fil
 pub use Rattle.wi_cli.specs.Inner.Front.{AppendsFront}
 pub use Rattle.wi_cli.specs.Inner.LookCommands.{changes_command, compare_command, export_command, formula_command, show_command}
 pub use Rattle.wi_cli.specs.Inner.Operands.{at_end, is_all_spaces, line_fault, name_or_none, of_name, of_operand, only_name, read_side, unless_refused, worse}
-pub use Rattle.wi_cli.specs.Inner.Reading.{Broke, CanRead, HasStopped, TookLine, TookPart, raw}
+pub use Rattle.wi_cli.specs.Inner.Reading.{Broke, CanRead, HasStopped, ReadsOn, TookLine, TookPart, raw}
 unfoldable pub use Rattle.wi_cli.specs.Inner.Reading.{line_front}
 pub use Rattle.wi_cli.specs.Inner.Reply.{reply, told_cell}
 unfoldable pub use Rattle.wi_cli.specs.Inner.Reply.{refused}
@@ -58,7 +58,7 @@ pub use Rattle.wi_cli.specs.Inner.Spelling.{IsCommandOf, command_of}
 pub use Rattle.wi_cli.specs.Inner.TableCommand.{table_command, table_of_one, table_of_two}
 pub use Rattle.wi_cli.specs.Inner.Taken.{AreBlocks, AreBlocksOf, AreWhole, BrokeLines, TookLines}
 pub use Rattle.wi_cli.specs.Inner.Told.{IsServed, RefusedAs, Told, told_bytes}
-pub use Rattle.wi_cli.specs.Inner.Turn.{BrokeBlock, Stopped, TookBlock, Turned}
+pub use Rattle.wi_cli.specs.Inner.Turn.{BrokeBlock, IsReplied, Stopped, TookBlock, Turned}
 pub use Rattle.wi_cli.specs.Laws.{HasCommands, HasOneAnswer, SameAddr, SameCommands, SameLack, SameOutcome, SameRect, SameReply, SameRuns, SameStep, Splits, a_line, asked, before, block, cut_short, blocks_that_count, none, read_any, read_by, read_cell, read_area, was}
 pub use Rattle.wi_cli.specs.Lines.{Bytes, after_word, first_word, is_space, is_whole, max_line, max_lines, onto_first, raw_lines, skip_spaces, without_cr, without_lf}
 pub use Rattle.wi_cli.specs.Operands.{ADDR, ANY, CONTENT, Cell, Corners, IsAddr, IsRect, IsSpelled, IsWritten, LINES, NAME, Operand, RECT, SESSION, SIDE, WORD, a_cell, addr, address, area, is_outside, two_cells}
