@@ -120,12 +120,13 @@ impl<'a> Memo for Keeping<'a> {
 
     /// The key for a cell under replacements. The work for a cell that is replaced for the first time is that of its cone;
     /// else it is a comparison for each replacement, and that of `reaching_by`. Keys in turn with the same part of the
-    /// replacements share it.
+    /// replacements share it. Values that were given up, and may have this part, are prepared for a look.
     #[inline(always)]
     fn key(&mut self, at: Address, world: &World) -> Result<Key, AllocError> {
         let held = &mut *self.held;
         add_cones(self.graph, world, &mut held.cones)?;
         let world = world.reaching_by(at, &held.cones, &mut self.last)?;
+        held.given_up.catch_up(&world)?;
         Ok(Key {
             cell: at,
             generation: self.generations.generation_of(at),
