@@ -92,14 +92,14 @@ impl GivenUp {
         self.list.reserve(1)
     }
 
-    /// Puts a value in for a key, in the place of an earlier one. Takes no memory. Constant time.
+    /// Puts a value in for its key, in the place of an earlier one. Takes no memory. Constant time.
     #[inline(always)]
-    pub fn put(&mut self, key: Key, value: Value)
+    pub fn put(&mut self, gone: (Key, Value))
         requires { 1 ≤ self.old.room }
-        ensures { PutsIn self.old.entries self.new.entries key value }
+        ensures { PutsIn self.old.entries self.new.entries gone.0 gone.1 }
     {
-        self.worlds |= 1 << world_bit(&key.world);
-        self.list.push_reserved((key, value));
+        self.worlds |= 1 << world_bit(&gone.0.world);
+        self.list.push_reserved(gone);
     }
 
     /// Takes the values away. The memory for them is used again, unless they were many. The work grows with their count.

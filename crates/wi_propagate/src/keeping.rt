@@ -173,6 +173,6 @@ fn give_up(gone: Option<(Key, Value)>, given_up: &mut GivenUp)
     ensures { TakesOver gone given_up.old.entries given_up.new.entries }
 {
     if let Some(entry) = gone {
-        given_up.put(entry.0, entry.1);
+        given_up.put(entry);
     }
 }

@@ -12,14 +12,16 @@ push_reserved-requires c =
 pub invariant_of-self : goal.invariant_of-self
 invariant_of-self c =
     let i = c.self.inside in
+    let k = c.args.gone.0 in
+    let v = c.args.gone.1 in
     let es = all_put i.table.entries i.list.items in
     let fs = all_put i.table.entries c.push_reserved.new.self.items in
-    let puts : PutsIn es fs c.args.key c.args.value = last_put i.table.entries i.list.items c.push_reserved.new.self.items c.args.key c.args.value c.push_reserved.ensures.items in
-    bits_more es fs i.worlds c.world_bit.result c.args.key c.args.value c.self.invariant puts c.world_bit.ensures.within c.world_bit.ensures.value
+    let puts : PutsIn es fs k v = last_put i.table.entries i.list.items c.push_reserved.new.self.items k v c.push_reserved.ensures.items in
+    bits_more es fs i.worlds c.world_bit.result k v c.self.invariant puts c.world_bit.ensures.within c.world_bit.ensures.value
 
 pub returns : goal.returns
 returns c =
     let i = c.self.inside in
-    let pushed : c.push_reserved.new.self.items ≡ i.list.items ++ (c.args.key, c.args.value) ∷ [] = search rules in
-    subst (λ (m : WithRoom). PutsIn m.entries (all_put i.table.entries c.push_reserved.new.self.items) c.args.key c.args.value) c.self.view_is
-    (last_put i.table.entries i.list.items c.push_reserved.new.self.items c.args.key c.args.value pushed)
+    let pushed : c.push_reserved.new.self.items ≡ i.list.items ++ c.args.gone ∷ [] = search rules in
+    subst (λ (m : WithRoom). PutsIn m.entries (all_put i.table.entries c.push_reserved.new.self.items) c.args.gone.0 c.args.gone.1) c.self.view_is
+    (last_put i.table.entries i.list.items c.push_reserved.new.self.items c.args.gone.0 c.args.gone.1 pushed)
