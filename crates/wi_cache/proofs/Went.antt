@@ -1,5 +1,5 @@
 -- Values that went one after another, in a list that stands before a table.
-use Rattle.std.proofs.Common.{◌≡◌, ℕ, ◌+◌, ◌-◌, ◌*◌, ◌%◌, ◌^◌, ◌<◌, ◌≤◌, ◌==◌, Bool, true, false, cond, if◌then◌else◌, List, [], ◌∷◌, ◌++◌, length, take, reverse, get_or, Option, Some, None, IsSome, refl, sym, ap, ◌∙◌, subst, arith, true≢false, ⊎_elim, length-append}
+use Rattle.std.proofs.Common.{◌≡◌, ℕ, ◌+◌, ◌-◌, ◌*◌, ◌%◌, ◌^◌, ◌<◌, ◌≤◌, ◌==◌, Bool, true, false, cond, if◌then◌else◌, [], ◌∷◌, ◌++◌, length, take, reverse, get_or, Option, Some, None, IsSome, refl, sym, ap, ◌∙◌, subst, arith, true≢false, ⊎_elim, length-append}
 use Rattle.std.proofs.lemmas.Bool.{cases_eq, eq-eqb}
 use Rattle.std.proofs.lemmas.List.{reverse-append, take_more}
 use Rattle.std.proofs.lemmas.List.Sums.{fold-append}
@@ -32,8 +32,7 @@ pub one_put : (es : Entries) (k : Key) (v : Value) → PutsIn es (insert_entry s
 one_put [] k v q = ap (λ b. cond b (Some v) None) (same_key_equiv.symm q k)
 one_put (e ∷ es) k v q = by (same_key k e.0) refl (one_put es k v q)
   where
-    by : (b : Bool) → same_key k e.0 ≡ b → value_for (insert_entry same_key es k v) q ≡ cond (same_key k q) (Some v) (value_for es q)
-        → value_for (if b then (e.0, v) ∷ es else e ∷ insert_entry same_key es k v) q ≡ cond (same_key k q) (Some v) (value_for (e ∷ es) q)
+    by : (b : Bool) → same_key k e.0 ≡ b → value_for (insert_entry same_key es k v) q ≡ cond (same_key k q) (Some v) (value_for es q) → value_for (if b then (e.0, v) ∷ es else e ∷ insert_entry same_key es k v) q ≡ cond (same_key k q) (Some v) (value_for (e ∷ es) q)
     by true h rest =
         let test : same_key q e.0 ≡ same_key k q = ap (same_key q) (sym (same_key_means k e.0 h)) ∙ same_key_equiv.symm q k in
         ap (λ b. cond b (Some v) (value_for es q)) test ∙ twice (same_key k q) v e.1 (value_for es q)
@@ -57,7 +56,7 @@ next_moved es fs xs ys e all is put from =
 
 -- there was one more
 pub one_popped : (xs ys : Entries) (e : Key × Value) → xs ≡ ys ++ e ∷ [] → length xs ≡ length ys + 1
-one_popped xs ys e is = ap length is ∙ length-append ys (e ∷ [])
+one_popped xs ys e is = ap (λ (l : Entries). length l) is ∙ length-append ys (e ∷ [])
 
 -- where one more fits there is room for it
 pub room_left : (len capacity : ℕ) → len + 1 ≤ capacity → 1 ≤ capacity - len

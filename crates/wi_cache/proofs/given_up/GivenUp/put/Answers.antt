@@ -16,7 +16,8 @@ invariant_of-self c =
     let v = c.args.gone.1 in
     let es = all_put i.table.entries i.list.items in
     let fs = all_put i.table.entries c.push_reserved.new.self.items in
-    let puts : PutsIn es fs k v = last_put i.table.entries i.list.items c.push_reserved.new.self.items k v c.push_reserved.ensures.items in
+    let pushed : c.push_reserved.new.self.items ≡ i.list.items ++ c.args.gone ∷ [] = search rules in
+    let puts : PutsIn es fs k v = last_put i.table.entries i.list.items c.push_reserved.new.self.items k v pushed in
     bits_more es fs i.worlds c.world_bit.result k v c.self.invariant puts c.world_bit.ensures.within c.world_bit.ensures.value
 
 pub returns : goal.returns
