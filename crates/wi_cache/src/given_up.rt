@@ -141,6 +141,7 @@ fn is_of(entry: &(Key, Value), key: &Key) -> bool
 }
 
 /// The value of the last in the list that is of a key, or else the one in the table.
+#[inline(never)]
 fn look_among<'a>(
     table: &'a IndexMap<Key, Value>,
     list: &'a [(Key, Value)],
@@ -158,6 +159,7 @@ fn look_among<'a>(
 }
 
 /// Moves what is in the list into the table, the first first. If memory runs out, all is as before.
+#[inline(never)]
 fn move_all(
     table: &mut IndexMap<Key, Value>,
     list: &mut Vec<(Key, Value)>,
