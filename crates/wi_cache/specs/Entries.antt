@@ -93,8 +93,11 @@ pub record WithRoom : Type 0 where
   pub entries : Entries
   pub room : ℕ
 
+abbrev pub with_room : Entries → ℕ → WithRoom
+with_room es n = record { entries = es; room = n }
+
 abbrev pub with_room_code : Coded Key → Coded Value → Coded WithRoom
-with_room_code k v = code_by (Entries × ℕ) (coded× (coded_list (coded× k v)) coded_ℕ) (λ m. (m.entries, m.room)) (λ p. record { entries = p.0; room = p.1 }) (λ _. refl)
+with_room_code k v = code_by (Entries × ℕ) (coded× (coded_list (coded× k v)) coded_ℕ) (λ m. (m.entries, m.room)) (λ p. with_room p.0 p.1) (λ _. refl)
 
 -- what stands after others were put in one after another, each in the place of an earlier one for its key
 abbrev pub all_put : Entries → Entries → Entries

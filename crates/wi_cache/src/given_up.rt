@@ -34,7 +34,7 @@ pub struct GivenUp {
 impl Model for GivenUp {
     ghost use Rattle.std.specs.Prelude.{◌-◌};
     ghost use Rattle.std.specs.Vec.{vec_capacity, vec_len};
-    ghost use Rattle.wi_cache.specs.Entries.{HasBits, WithRoom, all_put, with_room_code};
+    ghost use Rattle.wi_cache.specs.Entries.{HasBits, WithRoom, all_put, with_room, with_room_code};
     ghost use Rattle.wi_cache.specs.contracts.key.Key as key;
     ghost use Rattle.wi_values.specs.contracts.value.Value as value;
 
@@ -42,7 +42,8 @@ impl Model for GivenUp {
 
     ghost coded = { with_room_code key.the_row.coded value.the_row.coded };
 
-    ghost view = { λ g. record { entries = all_put g.table.entries g.list.items; room = vec_capacity g.list - vec_len g.list } };
+    ghost view = { λ g. with_room (all_put g.table.entries g.list.items)
+        (vec_capacity g.list - vec_len g.list) };
 
     ghost invariant = { λ g. HasBits (all_put g.table.entries g.list.items) g.worlds };
 }
@@ -164,7 +165,8 @@ fn move_all(
     table: &mut IndexMap<Key, Value>,
     list: &mut Vec<(Key, Value)>,
 ) -> Result<(), AllocError>
-    ensures { all_put table.new.entries list.new.items ≡ all_put table.old.entries list.old.items }
+    ensures { all_put table.new.entries list.new.items
+        ≡ all_put table.old.entries list.old.items }
 {
     table.reserve(list.len())?;
     list.reverse();
