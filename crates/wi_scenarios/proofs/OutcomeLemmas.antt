@@ -143,7 +143,7 @@ outcome s (Formula at) a h = done_so s (Formula at) None (s, content_record s.st
 outcome s (Refused e) a h = refused s (Refused e) e a h
 outcome s (RefusedData e) a h = refused s (RefusedData e) e a h
 
-pub what_happens : (s : State) (e : Event) → MayHappen s e → Outcome s e.command e.answer
+pub what_happens : (s : State) (e : Event Command) → MayHappen IsStep s e → Outcome s e.command e.answer
 what_happens s e (inl h) = outcome s e.command e.answer h
 what_happens s e (inr h) = subst (Outcome s e.command) (sym h) tt
 

@@ -98,7 +98,7 @@ records_in : Answer → List ℕ
 records_in (Ok done) = done.1
 records_in (Err e) = []
 
-pub records_tell_list : (s t : State) (records : List ℕ) → IsStep s Changes (Ok (t, records)) → RecordsTellList s records
+pub records_tell_list : (s t : State) (records : List ℕ) → IsStep s Changes (Ok (t, records)) → RecordsTellList IsStep Changes s records
 unfolding records_in
 records_tell_list s t records h =
     let same : change_records (change_list s) ≡ records = ap records_in h in

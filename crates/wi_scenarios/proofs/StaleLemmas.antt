@@ -1,12 +1,13 @@
 -- When an edit is refused for a stale cell.
-use Rattle.wi_scenarios.proofs.Words.{IfSome, nat_lt, ◌≡◌, ◌∙◌, ℕ, zero, suc, ◌+◌, ◌<◌, ◌≤◌, ◌==◌, ◌⊎◌, inl, inr, Bool, true, false, ◌&&◌, List, [], ◌∷◌, length, map, max, Option, Some, None, Result, Ok, Err, refl, sym, ap, subst, arith, list_any, and_parts, and_from, both_ways, cases_eq, cases_lt, or_cases, false≢true, none-some, same_Some, Area, is_within, size_of, cells_of, within_between, Content, ParseFault, content_of, record_areas_at, Stored, applied, StoreFault, Entry, have_cell, first_stale, IsFirst, entries_in, is_wanted_of_others, only_first, stale_is_first, Refusal, Memory, BadCommand, TooLarge, BadField, LeavesSheet, Stale, State, max_area, Answer, when, unless, limit_of, edit_refusal, stale_in, with_stored, cell_area, fault_in, content_in, clear_edit, fill_edit, has_no_copy, ImportOutcome, has_bad_field, field_fault, contents_in, Command, Set, Clear, Fill, Csv, IsStep, Event, MayHappen, MayFollow, state_after, IsCoherent, named_by, is_forced, edits_since, unseen, is_newer, IsFirstNewer, counts_before, is_refused_before, StaleIsNewer, ForcedIsNotStale}
+use Rattle.wi_scenarios.proofs.Words.{IfSome, nat_lt, ◌≡◌, ◌∙◌, ℕ, zero, suc, ◌+◌, ◌<◌, ◌≤◌, ◌==◌, ◌⊎◌, inl, inr, Bool, true, false, ◌&&◌, List, [], ◌∷◌, length, map, max, Option, Some, None, Result, Ok, Err, refl, sym, ap, subst, arith, list_any, and_parts, and_from, both_ways, cases_eq, cases_lt, or_cases, false≢true, none-some, same_Some, Area, is_within, size_of, cells_of, within_between, Content, ParseFault, content_of, record_areas_at, Stored, applied, StoreFault, Entry, have_cell, first_stale, IsFirst, entries_in, is_wanted_of_others, only_first, stale_is_first, Refusal, Memory, BadCommand, TooLarge, BadField, LeavesSheet, Stale, State, max_area, Answer, when, unless, limit_of, edit_refusal, stale_in, with_stored, cell_area, fault_in, content_in, clear_edit, fill_edit, has_no_copy, ImportOutcome, has_bad_field, field_fault, contents_in, Command, Set, Clear, Fill, Csv, IsStep, Event, MayHappen, MayFollow, state_after, IsCoherent, is_changes, named_by, is_forced, edits_since, unseen, is_newer, IsFirstNewer, counts_before, is_refused_before, StaleIsNewer, ForcedIsNotStale}
 use Rattle.std.specs.Prelude.{◌↔◌}
 use Rattle.wi_parser.specs.declared.fault.ParseFault.TheVariants as parse
 use Rattle.wi_import.specs.declared.fault.ImportFault.TheVariants as import
 use Rattle.wi_store.specs.declared.fault.StoreFault.TheVariants as store
 use Rattle.wi_edit_log.specs.declared.edit.Edit.{Edit}
 use Rattle.wi_scenarios.proofs.OutcomeLemmas.{edit_cause}
-use Rattle.wi_scenarios.proofs.RunLemmas.{log_grows}
+use Rattle.wi_scenarios.proofs.EventLemmas.{TellsAndLogs, log_grows}
+use Rattle.wi_scenarios.proofs.RunLemmas.{tells_and_logs}
 
 -- ---- the first stale cell
 
@@ -99,6 +100,15 @@ stale_exactly edits i named a = (there, back)
       passes = and_from (have_cell named a) (is_newer edits i a) h.is_named h.by_others;
       least = λ b t. let p = and_parts (have_cell named b) (is_newer edits i b) t in h.none_before b p.0 p.1;
     })
+
+module _ {C : Type 0} (IsStep : State → C → Answer → Type 0) (is_changes : C → Bool) (named_by : C → Option (List Area))
+    (does : (s : State) (e : Event C) → IsCoherent s → MayHappen IsStep s e → TellsAndLogs is_changes named_by s e) where
+  -- after commands, of those that other sessions' edits name since the session was last told a list
+  pub stale_since : (s : State) (es : List (Event C)) (i : ℕ) (named : List Area) (a : ℕ) → IsCoherent s → MayFollow IsStep s es
+      → (first_stale (unseen (state_after s es) i) i 0 named ≡ Some a) ↔ IsFirstNewer (edits_since is_changes named_by i (unseen s i) s es) i named a
+  stale_since s es i named a settled run =
+      subst (λ (edits : List Entry). (first_stale (unseen (state_after s es) i) i 0 named ≡ Some a) ↔ IsFirstNewer edits i named a)
+      (log_grows IsStep is_changes named_by does s es i settled run).behind (stale_exactly (unseen (state_after s es) i) i named a)
 
 -- ---- the order of causes
 
@@ -200,23 +210,20 @@ edit_stale s c a named at h n f = absurd (none-some named n)
 
 -- ---- the laws
 
-pub stale_is_newer : (s : State) (es : List Event) (e : Event) (named : List Area) → IsCoherent s → MayFollow s es → StaleIsNewer s es e named
-stale_is_newer s es e named settled run h n free f a = by h
+pub stale_is_newer : (s : State) (es : List (Event Command)) (e : Event Command) (named : List Area) → IsCoherent s → MayFollow IsStep s es → named_by e.command ≡ Some named
+    → StaleIsNewer IsStep is_changes named_by is_forced s es e named
+stale_is_newer s es e named settled run n h free f a = by h
   where
     t : State
     t = state_after s es
 
-    place : unseen t t.current ≡ edits_since t.current (unseen s t.current) s es
-    place = (log_grows s es t.current settled run).place
-
     stale : stale_of t (is_forced e.command) (named_by e.command) ≡ first_stale (unseen t t.current) t.current 0 named
     stale = ap (λ (b : Bool). stale_of t b (named_by e.command)) free ∙ ap (stale_of t false) n
 
-    exactly : (first_stale (unseen t t.current) t.current 0 named ≡ Some a) ↔ IsFirstNewer (edits_since t.current (unseen s t.current) s es) t.current named a
-    exactly = subst (λ (edits : List Entry). (first_stale (unseen t t.current) t.current 0 named ≡ Some a) ↔ IsFirstNewer edits t.current named a) place
-        (stale_exactly (unseen t t.current) t.current named a)
+    exactly : (first_stale (unseen t t.current) t.current 0 named ≡ Some a) ↔ IsFirstNewer (edits_since is_changes named_by t.current (unseen s t.current) s es) t.current named a
+    exactly = stale_since IsStep is_changes named_by tells_and_logs s es t.current named a settled run
 
-    by : MayHappen t e → (e.answer ≡ Err (Stale a)) ↔ IsFirstNewer (edits_since t.current (unseen s t.current) s es) t.current named a
+    by : MayHappen IsStep t e → (e.answer ≡ Err (Stale a)) ↔ IsFirstNewer (edits_since is_changes named_by t.current (unseen s t.current) s es) t.current named a
     by (inl k) =
         let found = edit_stale t e.command e.answer named a k n f in
         (λ x. exactly.0 (sym stale ∙ found.0 x), λ y. found.1 (stale ∙ exactly.1 y))
@@ -225,7 +232,7 @@ stale_is_newer s es e named settled run h n free f a = by h
 other_refusal : (a : ℕ) → ◌≡◌ {A = Answer} (Err Memory) (Err (Stale a)) → ⊥
 other_refusal a h = cc
 
-pub forced_is_not_stale : (s : State) (e : Event) → ForcedIsNotStale s e
+pub forced_is_not_stale : (s : State) (e : Event Command) → ForcedIsNotStale IsStep is_forced s e
 forced_is_not_stale s e (inr k) forced a x = other_refusal a (sym k ∙ x)
 forced_is_not_stale s e (inl k) forced a x = by e.command k forced
   where

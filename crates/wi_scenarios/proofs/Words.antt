@@ -67,6 +67,7 @@ pub use Rattle.wi_scenarios.specs.Compare.{compare_step}
 pub use Rattle.wi_scenarios.specs.Csv.{ImportOutcome, IsCsvStep, contents_in, csv_answer, field_fault, has_bad_field, imported_cells}
 pub use Rattle.wi_scenarios.specs.Drop.{drop_step, is_in_use}
 pub use Rattle.wi_scenarios.specs.Edits.{Edit, edit_answer, edit_refusal, limit_of, stale_in, with_stored}
+pub use Rattle.wi_scenarios.specs.Events.{Event, ForcedIsNotStale, IsCoherent, IsFirstNewer, KeepsApart, ListsAddUp, LogGrows, MayFollow, MayHappen, RecordsTellList, StaleIsNewer, StaysCoherent, change_fields, counts_before, edits_in, edits_since, is_accepted_changes, is_newer, is_refused_before, is_told, last_shown, left_by, lists_told, logged, logged_by, state_after, unseen, with_lists}
 pub use Rattle.wi_scenarios.specs.Export.{export_step}
 pub use Rattle.wi_scenarios.specs.Fill.{columns_between, copied, copy_to, fill_edit, fill_step, has_no_copy, or_nothing, rows_between, shift_refusal}
 pub use Rattle.wi_scenarios.specs.Formula.{formula_step}
@@ -75,7 +76,7 @@ pub use Rattle.wi_scenarios.specs.Inner.Editing.{AreMarked, Commits, HasRooms, M
 pub use Rattle.wi_scenarios.specs.Inner.Held.{AreClosed, AreCovered, IsClosed, IsSound, IsUpToDate, pending_in, state_of}
 pub use Rattle.wi_scenarios.specs.Inner.Switch.{AreDiffering, Differs, HasRoom, HasRoomFor, differing, same_option}
 pub use Rattle.wi_scenarios.specs.Inner.Told.{IsTold}
-pub use Rattle.wi_scenarios.specs.Laws.{Event, ForcedIsNotStale, HasScenarioChanged, IsCoherent, IsEdited, IsFirstNewer, KeepsApart, Leaves, ListsAddUp, LogGrows, MayFollow, MayHappen, RecordsTellList, StaleIsNewer, change_fields, counts_before, edits_in, edits_since, is_accepted_changes, is_forced, is_newer, is_refused_before, is_told, last_shown, left_by, lists_told, logged, logged_by, named_by, state_after, unseen, with_lists}
+pub use Rattle.wi_scenarios.specs.Laws.{HasScenarioChanged, IsEdited, Leaves, is_changes, is_forced, named_by}
 pub use Rattle.wi_scenarios.specs.Pending.{AddsOnly, Book, IsMarked, IsTouched, SameForOthers, is_pending, occupied_cells, pending_evaluations, pending_restarts}
 pub use Rattle.wi_scenarios.specs.Scenario.{IsScenarioStep, put_answer, replacement_by, take_away_step}
 pub use Rattle.wi_scenarios.specs.Set.{IsSetStep, content_in, fault_in, set_answer, set_edit}

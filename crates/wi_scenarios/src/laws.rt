@@ -1,12 +1,13 @@
 //! Laws of what commands answer. The contract of each function is the law.
 
-ghost use Rattle.std.specs.Prelude.{◌≡◌, ℕ, List, Ok};
+ghost use Rattle.std.specs.Prelude.{◌≡◌, ℕ, List, Some, Ok};
 ghost use Rattle.wi_values.specs.Address.{Area};
 ghost use Rattle.wi_store.specs.Store.{Stored};
 ghost use Rattle.wi_scenarios.specs.State.{State, state_over};
 ghost use Rattle.wi_scenarios.specs.Answer.{Answer};
 ghost use Rattle.wi_scenarios.specs.Step.{Changes, Command, IsStep};
-ghost use Rattle.wi_scenarios.specs.Laws.{Event, ForcedIsNotStale, IsCoherent, KeepsApart, Leaves, ListsAddUp, LogGrows, MayFollow, MayHappen, RecordsTellList, StaleIsNewer, state_after};
+ghost use Rattle.wi_scenarios.specs.Events.{Event, ForcedIsNotStale, IsCoherent, KeepsApart, ListsAddUp, LogGrows, MayFollow, MayHappen, RecordsTellList, StaleIsNewer, StaysCoherent};
+ghost use Rattle.wi_scenarios.specs.Laws.{is_changes, is_forced, Leaves, named_by};
 
 /// A command has one answer in each state.
 #[tactic(auto, using(crate::proofs::StepLemmas::an_answer, crate::proofs::StepLemmas::no_other))]
@@ -21,21 +22,20 @@ pub fn one_answer()
 #[tactic(auto, using(crate::proofs::RunLemmas::new_is_coherent, crate::proofs::RunLemmas::stays_coherent))]
 pub fn runs_stay_coherent()
     ensures new { (stored : Stored) → IsCoherent (state_over stored) }
-    ensures stays { (s : State) (es : List Event) → IsCoherent s
-        → MayFollow s es → IsCoherent (state_after s es) }
+    ensures stays { (s : State) (es : List (Event Command)) → StaysCoherent IsStep s es }
 {}
 
 /// In every interleaving, the change lists that a session is told, put into the picture that it had before, make the one that
 /// it has at the end, which has what it was shown at the last of them.
 pub fn change_lists_add_up()
-    ensures { (s : State) (es : List Event) (i : ℕ) → IsCoherent s
-        → MayFollow s es → ListsAddUp s es i }
+    ensures { (s : State) (es : List (Event Command)) (i : ℕ) → IsCoherent s
+        → MayFollow IsStep s es → ListsAddUp is_changes s es i }
 {}
 
 /// The records of a change list tell its addresses, kinds and texts, and with them the list.
 pub fn records_tell_lists()
     ensures { (s t : State) (records : List ℕ) → IsStep s Changes (Ok (t, records))
-        → RecordsTellList s records }
+        → RecordsTellList IsStep Changes s records }
 {}
 
 /// What each accepted command leaves. No command changes a session that isn't current.
@@ -43,8 +43,8 @@ pub fn records_tell_lists()
 pub fn sessions_keep_apart()
     ensures leaves { (s t : State) (c : Command) (records : List ℕ)
         → IsStep s c (Ok (t, records)) → Leaves c s t }
-    ensures apart { (s : State) (e : Event) (i : ℕ) → IsCoherent s
-        → MayHappen s e → KeepsApart s e i }
+    ensures apart { (s : State) (e : Event Command) (i : ℕ) → IsCoherent s
+        → MayHappen IsStep s e → KeepsApart s e i }
 {}
 
 /// The log grows by the accepted edits, and a session's place in it is that of the last change list that it was told. An edit
@@ -52,9 +52,10 @@ pub fn sessions_keep_apart()
 /// where others' edits since then name one of its cells, and for the first such. One that is forced never is.
 #[tactic(auto, using(crate::proofs::StaleLemmas::forced_is_not_stale))]
 pub fn stale_is_newer()
-    ensures log { (s : State) (es : List Event) (i : ℕ) → IsCoherent s
-        → MayFollow s es → LogGrows s es i }
-    ensures stale { (s : State) (es : List Event) (e : Event) (named : List Area) → IsCoherent s
-        → MayFollow s es → StaleIsNewer s es e named }
-    ensures forced { (s : State) (e : Event) → ForcedIsNotStale s e }
+    ensures log { (s : State) (es : List (Event Command)) (i : ℕ) → IsCoherent s
+        → MayFollow IsStep s es → LogGrows is_changes named_by s es i }
+    ensures stale { (s : State) (es : List (Event Command)) (e : Event Command) (named : List Area)
+        → IsCoherent s → MayFollow IsStep s es → named_by e.command ≡ Some named
+        → StaleIsNewer IsStep is_changes named_by is_forced s es e named }
+    ensures forced { (s : State) (e : Event Command) → ForcedIsNotStale IsStep is_forced s e }
 {}

@@ -1,5 +1,5 @@
 -- What a run has written comes of events.
-use Rattle.wi_cli.proofs.Vocabulary.{◌≡◌, List, [], ◌∷◌, ◌++◌, inl, inr, false, Ok, Err, refl, ap, ap₂, ◌∙◌, subst, false≢true, State, left_by, reply, MayAnswer, Bytes, Command, Replies, Answer, was, Writes, MayHappen, AreEvents}
+use Rattle.wi_cli.proofs.Vocabulary.{◌≡◌, List, [], ◌∷◌, ◌++◌, inl, inr, false, Ok, Err, refl, ap, ap₂, ◌∙◌, subst, false≢true, State, left_by, reply, MayAnswer, Bytes, Command, Replies, Answer, IsStep, was, Writes, MayHappen, AreEvents}
 use Rattle.wi_scenarios.specs.declared.refusal.Refusal.TheVariants as refusal
 use Rattle.wi_cli.specs.Inner.Reply as inner
 use Rattle.wi_cli.proofs.Ties.Steps.{same_step}
@@ -8,7 +8,7 @@ use Rattle.wi_cli.proofs.Ties.Replies.{same_reply}
 -- an answer of a command that has this reply and leaves this state
 record HasEvent (s : State) (c : Command) (told : Bytes) (t : State) : Type 0 where
   answer : Answer
-  happens : MayHappen s (record { command = c; answer = answer })
+  happens : MayHappen IsStep s (record { command = c; answer = answer })
   told_is : told ≡ reply answer
   left_is : t ≡ left_by s answer
 
