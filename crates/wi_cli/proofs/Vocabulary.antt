@@ -117,7 +117,7 @@ pub use Rattle.wi_scenarios.specs.Fill.{copy_to, has_no_copy, or_nothing}
 pub use Rattle.wi_scenarios.specs.Pending.{Book}
 pub use Rattle.wi_scenarios.specs.Set.{fault_in, set_answer, set_edit}
 pub use Rattle.wi_scenarios.specs.State.{State, max_area, new_state, state_over}
-pub use Rattle.wi_scenarios.specs.Step.{MayLackMemory, Refused}
+pub use Rattle.wi_scenarios.specs.Step.{CallMayLackMemory, Refused}
 pub use Rattle.wi_scenarios.specs.Views.{current_replacements, current_session, session_at, with_current}
 pub use Rattle.wi_scenarios.specs.declared.refusal.Refusal.{Refusal}
 pub use Rattle.wi_sessions.specs.Sessions.{Session, has_session, index_of, max_sessions, told, using_scenario, with_session}

@@ -76,13 +76,13 @@ pub use Rattle.wi_scenarios.specs.Inner.Editing.{AreMarked, Commits, HasRooms, M
 pub use Rattle.wi_scenarios.specs.Inner.Held.{AreClosed, AreCovered, IsClosed, IsSound, IsUpToDate, pending_in, state_of}
 pub use Rattle.wi_scenarios.specs.Inner.Switch.{AreDiffering, Differs, HasRoom, HasRoomFor, differing, same_option}
 pub use Rattle.wi_scenarios.specs.Inner.Told.{IsTold}
-pub use Rattle.wi_scenarios.specs.Laws.{HasScenarioChanged, IsEdited, Leaves, is_changes, is_forced, named_by}
+pub use Rattle.wi_scenarios.specs.Laws.{HasScenarioChanged, IsEdited, Leaves, is_changes_call, is_forced_call, named_by_call}
 pub use Rattle.wi_scenarios.specs.Pending.{AddsOnly, Book, IsMarked, IsTouched, SameForOthers, is_pending, occupied_cells, pending_evaluations, pending_restarts}
 pub use Rattle.wi_scenarios.specs.Scenario.{IsScenarioStep, put_answer, replacement_by, take_away_step}
 pub use Rattle.wi_scenarios.specs.Set.{IsSetStep, content_in, fault_in, set_answer, set_edit}
 pub use Rattle.wi_scenarios.specs.Show.{show_step}
 pub use Rattle.wi_scenarios.specs.State.{State, max_area, state_over}
-pub use Rattle.wi_scenarios.specs.Step.{As, Base, Changes, Clear, Command, Compare, Csv, Drop, Export, Fill, Formula, IsStep, Refused, RefusedData, Set, Show, Table, Use}
+pub use Rattle.wi_scenarios.specs.Step.{As, Base, Call, Changes, Clear, Compare, Csv, Drop, Export, Fill, Formula, IsCallStep, Refused, RefusedData, Set, Show, Table, Use}
 pub use Rattle.wi_scenarios.specs.Table.{table_step}
 pub use Rattle.wi_scenarios.specs.Use.{use_step}
 pub use Rattle.wi_scenarios.specs.Views.{current_replacements, current_session, shown_to, with_current}

@@ -8,9 +8,9 @@ use Rattle.wi_sessions.specs.Sessions.{told, using_scenario, with_session, index
 use Rattle.wi_scenarios.specs.State.{State}
 use Rattle.wi_scenarios.specs.Views.{current_session, with_current}
 use Rattle.wi_scenarios.specs.Changes.{change_list}
-use Rattle.wi_scenarios.specs.Step.{Command, Set, Clear, Fill, Csv, Scenario, Drop, Base, Use, As, Changes}
+use Rattle.wi_scenarios.specs.Step.{Call, Set, Clear, Fill, Csv, Scenario, Drop, Base, Use, As, Changes}
 
--- ---- what a command leaves
+-- ---- what a call leaves
 
 -- An edit that names these rectangles may change the sheet, and puts an entry into the log. All else is as it was.
 pub record IsEdited (named : List Area) (old new : State) : Type 0 where
@@ -27,8 +27,8 @@ pub record HasScenarioChanged (name : List ℕ) (old new : State) : Type 0 where
   pub current : new.current ≡ old.current
   pub log : new.log ≡ old.log
 
--- What an accepted command leaves. No other than these leaves anything but the state that was there.
-abbrev pub Leaves : Command → State → State → Type 0
+-- What an accepted call leaves. No other than these leaves anything but the state that was there.
+abbrev pub Leaves : Call → State → State → Type 0
 Leaves (Set force at text) old new = IsEdited (cell_area at ∷ []) old new
 Leaves (Clear force area) old new = IsEdited (area ∷ []) old new
 Leaves (Fill force from area) old new = IsEdited (area ∷ []) old new
@@ -44,22 +44,22 @@ Leaves c old new = new ≡ old
 -- ---- what the laws of commands one after another are told of calls
 
 -- whether this is `changes`
-abbrev pub is_changes : Command → Bool
-is_changes Changes = true
-is_changes c = false
+abbrev pub is_changes_call : Call → Bool
+is_changes_call Changes = true
+is_changes_call c = false
 
--- the rectangles that an edit names; no other command is an edit
-abbrev pub named_by : Command → Option (List Area)
-named_by (Set force at text) = Some (cell_area at ∷ [])
-named_by (Clear force area) = Some (area ∷ [])
-named_by (Fill force from area) = Some (area ∷ [])
-named_by (Csv force at text) = Some (record_areas_at at text)
-named_by c = None
+-- the rectangles that an edit names; no other call is an edit
+abbrev pub named_by_call : Call → Option (List Area)
+named_by_call (Set force at text) = Some (cell_area at ∷ [])
+named_by_call (Clear force area) = Some (area ∷ [])
+named_by_call (Fill force from area) = Some (area ∷ [])
+named_by_call (Csv force at text) = Some (record_areas_at at text)
+named_by_call c = None
 
 -- whether an edit is forced
-abbrev pub is_forced : Command → Bool
-is_forced (Set force at text) = force
-is_forced (Clear force area) = force
-is_forced (Fill force from area) = force
-is_forced (Csv force at text) = force
-is_forced c = false
+abbrev pub is_forced_call : Call → Bool
+is_forced_call (Set force at text) = force
+is_forced_call (Clear force area) = force
+is_forced_call (Fill force from area) = force
+is_forced_call (Csv force at text) = force
+is_forced_call c = false

@@ -41,7 +41,7 @@ module _ (s : State) (force : Bool) (n : ℕ) (lines : List Bytes) where
   abbrev none_there : Command
   none_there = Csv force None n lines
 
-  bare : (long : Bool) → list_any is_long lines ≡ long → (a : Answer) × old.IsStep s (csv_command force (read_any None) lines (n - length lines)) a × IsStep s none_there a
+  bare : (long : Bool) → list_any is_long lines ≡ long → (a : Answer) × old.IsCallStep s (csv_command force (read_any None) lines (n - length lines)) a × IsStep s none_there a
   bare true e = (Err refusal.BadLine, rw e refl, (BadLine, inl (long_lines lines e, refl), refl))
   bare false e = (Err refusal.BadCommand, rw e refl, (BadCommand, inr (no_long_line lines e, inl (tt, refl)), refl))
 
@@ -59,7 +59,7 @@ module _ (s : State) (force : Bool) (c : Cell) (n : ℕ) (lines : List Bytes) wh
   abbrev csv : Command
   csv = Csv force (Some c) n lines
 
-  abbrev was : old.Command
+  abbrev was : old.Call
   was = csv_command force (read_any (Some c)) lines (n - length lines)
 
   abbrev text : Bytes
@@ -78,7 +78,7 @@ module _ (s : State) (force : Bool) (c : Cell) (n : ℕ) (lines : List Bytes) wh
   none_missing false = refl
 
   abbrev Answered : Type 0
-  Answered = (a : Answer) × old.IsStep s was a × IsStep s csv a
+  Answered = (a : Answer) × old.IsCallStep s was a × IsStep s csv a
 
   long : list_any is_long lines ≡ true → (out : Bool) → is_outside c ≡ out → Answered
   long e true o = (Err refusal.BadLine, rw (o, e) refl, (BadLine, inl (long_lines lines e, refl), refl))

@@ -3,7 +3,7 @@ use Rattle.wi_cli.proofs.Vocabulary.{◌≡◌, ◌≢◌, ◌↔◌, ◌==◌, 
 use Rattle.wi_values.specs.declared.address.AddressFault.TheVariants.{Outside as AtOutside}
 use Rattle.wi_scenarios.specs.declared.refusal.Refusal.TheVariants as refusal
 use Rattle.wi_scenarios.specs.Step as old
-use Rattle.wi_scenarios.specs.Laws as laws
+use Rattle.wi_scenarios.specs.Laws.{is_changes_call}
 use Rattle.wi_scenarios.proofs.EventLemmas as events
 use Rattle.wi_scenarios.proofs.RunLemmas as runs
 use Rattle.wi_cli.proofs.Ties.Uniqueness.{first_holds}
@@ -11,10 +11,10 @@ use Rattle.wi_cli.proofs.Ties.Steps.{same_step}
 
 -- ---- an event as one of the calls of a workbook
 
-abbrev as_was : Event Command → Event old.Command
+abbrev as_was : Event Command → Event old.Call
 as_was e = record { command = was e.command; answer = e.answer }
 
-happens : (s : State) (e : Event Command) → MayHappen IsStep s e → MayHappen old.IsStep s (as_was e)
+happens : (s : State) (e : Event Command) → MayHappen IsStep s e → MayHappen old.IsCallStep s (as_was e)
 happens s e (inl h) = inl ((same_step s e.command e.answer).1 h)
 happens s e (inr h) = inr h
 
@@ -24,14 +24,14 @@ keeps_apart s e i settled h = runs.keeps_apart s (as_was e) i settled (happens s
 -- ---- what is told
 
 -- the call doesn't ask for the change list
-abbrev TellsNothing : old.Command → Type 0
-TellsNothing c = laws.is_changes c ≡ false
+abbrev TellsNothing : old.Call → Type 0
+TellsNothing c = is_changes_call c ≡ false
 
-by_operand : {X : Type 0} (r : Result X AddressFault) (f : X → old.Command) → ((x : X) → TellsNothing (f x)) → TellsNothing (of_operand r f)
+by_operand : {X : Type 0} (r : Result X AddressFault) (f : X → old.Call) → ((x : X) → TellsNothing (f x)) → TellsNothing (of_operand r f)
 by_operand (Ok x) f h = h x
 by_operand (Err fault) f h = refl
 
-by_set : (b : Bool) (c : old.Command) → TellsNothing c → TellsNothing (cond b (old.Refused refusal.BadCommand) c)
+by_set : (b : Bool) (c : old.Call) → TellsNothing c → TellsNothing (cond b (old.Refused refusal.BadCommand) c)
 by_set true c h = refl
 by_set false c h = h
 
@@ -61,7 +61,7 @@ by_csv force (Err AtOutside) lines missing = by (list_any is_long lines) (missin
     by false true = refl
     by false false = refl
 
-by_table : (o : Option AddressFault) (c : old.Command) → TellsNothing c → TellsNothing (unless_refused o c)
+by_table : (o : Option AddressFault) (c : old.Call) → TellsNothing c → TellsNothing (unless_refused o c)
 by_table None c h = h
 by_table (Some fault) c h = refl
 
@@ -80,7 +80,7 @@ by_two f r xs c ys =
     (λ r. by_operand xs (λ xs. of_operand c (λ c. of_operand ys (λ ys. old.Table f r xs (Some (c, ys)))))
     (λ xs. by_operand c (λ c. of_operand ys (λ ys. old.Table f r xs (Some (c, ys)))) (λ c. by_operand ys (λ ys. old.Table f r xs (Some (c, ys))) (λ ys. refl))))))
 
-told_by : (c : Command) → laws.is_changes (was c) ≡ is_changes c
+told_by : (c : Command) → is_changes_call (was c) ≡ is_changes c
 told_by (Set force at text) =
     by_set (length text == 0) (of_operand (read_cell at) (λ a. old.Set force a text)) (by_operand (read_cell at) (λ a. old.Set force a text) (λ x. refl))
 told_by (Clear force rect) = by_operand (read_area rect) (λ r. old.Clear force r) (λ x. refl)
@@ -101,11 +101,11 @@ told_by Changes = refl
 told_by Unknown = refl
 told_by Unreadable = refl
 
-same_accepted : (a : Answer) (c : Command) → is_accepted_changes laws.is_changes a (was c) ≡ is_accepted_changes is_changes a c
+same_accepted : (a : Answer) (c : Command) → is_accepted_changes is_changes_call a (was c) ≡ is_accepted_changes is_changes a c
 same_accepted (Ok done) c = told_by c
 same_accepted (Err e) c = refl
 
-same_told : (i : ℕ) (s : State) (e : Event Command) → is_told laws.is_changes i s (as_was e) ≡ is_told is_changes i s e
+same_told : (i : ℕ) (s : State) (e : Event Command) → is_told is_changes_call i s (as_was e) ≡ is_told is_changes i s e
 same_told i s e = ap (λ (b : Bool). b && (s.current == i)) (same_accepted e.answer e.command)
 
 pub records_tell : (s t : State) (records : Bytes) → IsStep s Changes (Ok (t, records)) → RecordsTellList IsStep Changes s records

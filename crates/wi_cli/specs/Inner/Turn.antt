@@ -5,7 +5,7 @@ use Rattle.std.specs.Io.KnownBytes.{Appends}
 use Rattle.wi_cli.specs.declared.fault.RunFault.{RunFault}
 use Rattle.wi_cli.specs.declared.fault.RunFault.TheVariants.{Memory, Read, Write, ScriptLimit}
 use Rattle.wi_scenarios.specs.State.{State}
-use Rattle.wi_scenarios.specs.Step.{Command}
+use Rattle.wi_scenarios.specs.Step.{Call}
 use Rattle.wi_cli.specs.Lines.{raw_lines}
 use Rattle.wi_cli.specs.Inner.Blocks.{Block, blocks, is_complete}
 use Rattle.wi_cli.specs.Inner.Script.{block_command}
@@ -13,7 +13,7 @@ use Rattle.wi_cli.specs.Inner.Run.{WritesReplies}
 use Rattle.wi_cli.specs.Inner.Taken.{AreBlocksOf, TookLines, BrokeLines}
 
 -- a block was taken, or nothing was there; this is its command, if it has one
-pub record TookBlock (command : Option Command) (whole : Bool) (buffer : List ℕ) (left : Option (List ℕ)) (buffer' : List ℕ) (left' : Option (List ℕ)) (count count' : ℕ) : Type 0 where
+pub record TookBlock (command : Option Call) (whole : Bool) (buffer : List ℕ) (left : Option (List ℕ)) (buffer' : List ℕ) (left' : Option (List ℕ)) (count count' : ℕ) : Type 0 where
   pub took : TookLines whole buffer left buffer' left' count count'
   pub taken : List Block
   pub are_blocks : AreBlocksOf whole (took.lines ++ raw_lines took.last) taken
@@ -27,7 +27,7 @@ pub record BrokeBlock (fault : RunFault) (buffer : List ℕ) (left : Option (Lis
 
 -- a block was taken, whole or up to the end, and served
 pub record Turned (whole : Bool) (buffer : List ℕ) (left : Option (List ℕ)) (buffer' : List ℕ) (left' : Option (List ℕ)) (count count' : ℕ) (s t : State) (given given' : Option (List ℕ)) : Type 0 where
-  pub command : Option Command
+  pub command : Option Call
   pub block : TookBlock command whole buffer left buffer' left' count count'
   pub out : List ℕ
   pub written : Appends given given' out
@@ -37,7 +37,7 @@ pub record Turned (whole : Bool) (buffer : List ℕ) (left : Option (List ℕ)) 
 pub record CutShort (buffer : List ℕ) (left : Option (List ℕ)) (buffer' : List ℕ) (left' : Option (List ℕ)) (count : ℕ) (s t : State) (given given' : Option (List ℕ)) : Type 0 where
   pub whole : Bool
   pub count' : ℕ
-  pub command : Option Command
+  pub command : Option Call
   pub block : TookBlock command whole buffer left buffer' left' count count'
   pub out : List ℕ
   pub unwritten : List ℕ
