@@ -82,7 +82,7 @@ least_stale edits i named =
     let first : IsFirst (is_wanted_of_others (map kept edits) i named) some.0 = subst (λ (es : List Entry). IsFirst (is_wanted es i named) some.0) (sym same) some.1 in
     subst (IsFirst (is_wanted edits i named)) (stale_is_first edits (map kept edits) i 0 0 named some.0 same (omega arith) first) some.1
 
-pub stale_exactly : (edits : List Entry) (i : ℕ) (named : List Area) (a : ℕ) → (first_stale edits i 0 named ≡ Some a) ↔ IsFirstNewer edits i named a
+stale_exactly : (edits : List Entry) (i : ℕ) (named : List Area) (a : ℕ) → (first_stale edits i 0 named ≡ Some a) ↔ IsFirstNewer edits i named a
 stale_exactly edits i named a = (there, back)
   where
     there : first_stale edits i 0 named ≡ Some a → IsFirstNewer edits i named a
