@@ -5,14 +5,15 @@ use Rattle.wi_scenarios.specs.declared.refusal.Refusal.TheVariants.{Memory}
 use Rattle.wi_scenarios.specs.State.{State}
 use Rattle.wi_scenarios.specs.Answer.{Answer}
 use Rattle.wi_scenarios.specs.Step.{Call, IsCallStep, CallMayLackMemory}
-use Rattle.wi_cli.specs.Inner.Reply.{refused, reply, state_after}
+use Rattle.wi_scenarios.specs.Events.{left_by}
+use Rattle.wi_cli.specs.Inner.Reply.{refused, reply}
 
 -- the command is answered by its step
 pub record IsAnswered (s : State) (c : Call) (told : List ℕ) (t : State) : Type 0 where
   pub answer : Answer
   pub is_step : IsCallStep s c answer
   pub reply_is : told ≡ reply answer
-  pub state_is : t ≡ state_after s answer
+  pub state_is : t ≡ left_by s answer
 
 -- or refused for want of memory, with the state as it was
 pub record IsUnserved (s : State) (c : Call) (told : List ℕ) (t : State) : Type 0 where
