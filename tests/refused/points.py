@@ -48,7 +48,7 @@ def same(what: str, written: bytes, wanted: bytes) -> None:
 
 
 def is_silent(run: Run) -> bool:
-    """Whether a run ended for want of memory before anything was read. It has written nothing then."""
+    """Whether a run ran out of memory before anything was read. It has written nothing then."""
     if run.status == 0:
         return False
     if run.status != MEMORY_STATUS or run.written or not run.told.startswith(MEMORY_TEXT):

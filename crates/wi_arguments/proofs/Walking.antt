@@ -25,10 +25,6 @@ abbrev pub steps_left : Area → Option ℕ → ℕ
 steps_left r None = 0
 steps_left r (Some a) = ((r.last + 1) - a) + 1
 
-pub fewer_steps : (r : Area) (from : ℕ) (next : Option ℕ) → IfSome next (λ n. (from < n) × (n ≤ r.last)) → steps_left r next < steps_left r (Some from)
-fewer_steps r from None h = omega arith
-fewer_steps r from (Some n) h = omega (arith, h.0, h.1)
-
 -- the cell that was found, without what is known of it
 abbrev pub cell_of : Option (ℕ × LookedUp) → Option ℕ
 cell_of o = option_map (λ x. x.0) o

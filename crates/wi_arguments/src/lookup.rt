@@ -57,7 +57,7 @@ pub trait Lookup {
         ensures next { IsNextFilled (known_cell self.now) area from (option_map (λ x. x.0) result) }
         ensures value { IfSome result (λ x. value_if_known x.1 ≡ known_cell self.now x.0) };
 
-    /// That cell alone. The work is that of `next_value`.
+    /// That cell alone, at the cost of `next_value`: it grows with the replaced cells and the filled ones that are passed over.
     fn next_filled(&self, area: Rect, from: Address) -> Option<Address>
         ensures { IsNextFilled (known_cell self.now) area from result }
     {
@@ -68,7 +68,7 @@ pub trait Lookup {
     }
 
     /// Hands the next cells of a rectangle over, in row-major order, from one on until one is missing, and tells where to go on,
-    /// if it does. Those that are known to be Empty may be passed over. The work is at most that of `next_value` for each of the others.
+    /// if it does. Those that are known to be Empty may be passed over. At most one `next_value` for each of the others.
     fn hand_over<T: TakesCells>(
         &self,
         area: Rect,

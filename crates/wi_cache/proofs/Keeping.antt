@@ -17,7 +17,7 @@ use Rattle.indexmap.proofs.MapLemmas.{absent_from_lookup, insert_entry-absent, l
 use Rattle.wi_values.specs.declared.value.Value.{Value}
 use Rattle.wi_values.proofs.Lists.{got_in_front}
 use Rattle.wi_cache.specs.declared.key.Key.{Key}
-use Rattle.wi_cache.specs.Entries.{Entries, HasOneEach, HasRoom, IsLine, PutsIn, PutsFor, PutsForGoing, PutsForOne, going, kept, keys_after, last_entry, latest, len_after, place_after, same_key, value_for}
+use Rattle.wi_cache.specs.Entries.{Entries, HasOneEach, HasRoom, IsLine, KeptValues, PutsIn, PutsFor, PutsForGoing, PutsForOne, going, kept, keys_after, last_entry, latest, len_after, place_after, same_key, value_for}
 use Rattle.wi_cache.specs.Hashed.{same_key_means}
 use Rattle.wi_cache.proofs.Keys.{same_key_equiv}
 
@@ -141,6 +141,16 @@ module _ (es : Entries) (n cap : ℕ) (k : Key) where
 
 -- ---- what an accepted `keep` makes of them: a value is put in, and where there are too many then, the oldest goes
 
+-- all that `keep` promises of what was kept and what is kept then, and of the entry that went
+pub record Keeps (m m' : KeptValues) (k : Key) (v : Value) (out : Option (Key × Value)) : Type 0 where
+  pub found : value_for m'.entries k ≡ Some v
+  pub stays : HasRoom m k → PutsIn m.entries m'.entries k v
+  pub one_goes : value_for m.entries k ≡ None → m.capacity ≤ length m.entries → PutsForOne m.entries m'.entries k v
+  pub goes : PutsForGoing m m' k v
+  pub is_gone : out ≡ going m k
+  pub order : keys_of m'.entries ≡ keys_after m k
+  pub len : length m'.entries ≡ len_after m k
+
 -- a value was put in
 module _ {S : Type 0} (em fm : IndexMap Key Value S) (k : Key) (v : Value) (put : Updates same_key em fm k (Some v)) (each : IsUnique same_key fm) (n cap : ℕ) (line : IsLine em.entries n cap) where
   abbrev es : Entries
@@ -207,6 +217,9 @@ module _ {S : Type 0} (em fm : IndexMap Key Value S) (k : Key) (v : Value) (put 
               ap (λ j. latest j fs) (line.3 few) ∙ ap (latest 0) pushed ∙ latest_pushed es (k, v) ∙ ap (λ j. (k, v) ∷ latest j es) (sym (line.3 few)) in
               ap keys_of first ∙ ap (λ l. k ∷ l) (sym rest)
               ∙ ap (λ (y : Option Value). if is_some y then keys_of (latest n es) else k ∷ take (cap - 1) (keys_of (latest n es))) (sym e)
+
+      pub keeps_put : fs ≡ insert_entry same_key es k v → Keeps (kept (latest n es) cap) (kept (latest n fs) cap) k v None
+      keeps_put entries = record { found = found_put; stays = λ room. puts_latest; one_goes = none_went; goes = none_goes; is_gone = none_is_gone; order = order_put entries; len = len_put }
 
       pub line_put : IsLine fs n cap
       line_put = (each, fits, line.2, λ few. line.3 (omega (arith, few, len)))
@@ -297,6 +310,17 @@ module _ {S : Type 0} (em fm : IndexMap Key Value S) (k : Key) (v : Value) (put 
           let first = latest_turned es n m cap (k, v) e (omega (arith, line.2, full)) full at_place is in
           ap (λ (l : Entries). keys_of (latest m l)) turned ∙ ap keys_of first ∙ ap (λ l. k ∷ l) (map_take (λ (x : Key × Value). x.0) (cap - 1) (latest n es))
           ∙ ap (λ (y : Option Value). if is_some y then keys_of (latest n es) else k ∷ take (cap - 1) (keys_of (latest n es))) (sym (latest_finds n es line.0 k ∙ new))
+
+      pub keeps_gone : IfSome r (λ p. gs ≡ swap_remove fs n p) → (m : ℕ) → m ≡ place_after n cap → Keeps (kept (latest n es) cap) (kept (latest m gs) cap) k v r
+      keeps_gone is_out m is = record {
+        found = found_gone m;
+        stays = no_room;
+        one_goes = λ new full. one_went m;
+        goes = oldest_went m;
+        is_gone = gone_is;
+        order = order_gone is_out m is;
+        len = len_gone m;
+      }
 
       pub line_gone : (m : ℕ) → m < cap → IsLine gs m cap
       line_gone m within = (left, omega (arith, one_less, full, one_more new), within, λ few. absurd (omega (arith, few, one_less, full, one_more new)))

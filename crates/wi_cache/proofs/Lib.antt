@@ -1,3 +1,4 @@
 pub mod Callers
 pub mod Keeping
 pub mod Keys
+pub mod Went

@@ -1,9 +1,13 @@
 -- Values by keys.
-use Rattle.std.specs.Prelude.{◌≡◌, ℕ, ◌+◌, ◌-◌, ◌<◌, ◌≤◌, ◌⊎◌, Bool, List, ◌∷◌, ◌++◌, length, take, drop, reverse, slice_get, min, Option, Some, None, IsSome, is_some, nat_lt, refl, if◌then◌else◌}
+use Rattle.std.specs.Prelude.{◌≡◌, ℕ, ◌+◌, ◌-◌, ◌%◌, ◌<◌, ◌≤◌, ◌⊎◌, Bool, List, ◌∷◌, ◌++◌, length, take, drop, reverse, slice_get, min, Option, Some, None, IsSome, is_some, nat_lt, refl, if◌then◌else◌}
 use Rattle.std.specs.List.{IsDistinct}
 use Rattle.std.specs.Map.{keys_of, lookup, update}
 use Rattle.std.specs.Coded.{Coded, code_by, coded×, coded_list, coded_ℕ}
+use Rattle.std.specs.Int.{bit_at}
+use Rattle.indexmap.specs.IndexMap.{insert_all}
+use Rattle.wi_values.specs.declared.replacement.Replacement.{Replacement}
 use Rattle.wi_values.specs.declared.value.Value.{Value}
+use Rattle.wi_worlds.specs.Inner.Compared.{digest_of}
 use Rattle.wi_cache.specs.declared.key.Key.{Key}
 use Rattle.wi_cache.specs.contracts.key.KeyPartialEq.TheImpl as equality
 
@@ -89,5 +93,20 @@ pub record WithRoom : Type 0 where
   pub entries : Entries
   pub room : ℕ
 
+abbrev pub with_room : Entries → ℕ → WithRoom
+with_room es n = record { entries = es; room = n }
+
 abbrev pub with_room_code : Coded Key → Coded Value → Coded WithRoom
-with_room_code k v = code_by (Entries × ℕ) (coded× (coded_list (coded× k v)) coded_ℕ) (λ m. (m.entries, m.room)) (λ p. record { entries = p.0; room = p.1 }) (λ _. refl)
+with_room_code k v = code_by (Entries × ℕ) (coded× (coded_list (coded× k v)) coded_ℕ) (λ m. (m.entries, m.room)) (λ p. with_room p.0 p.1) (λ _. refl)
+
+-- what stands after others were put in one after another, each in the place of an earlier one for its key
+abbrev pub all_put : Entries → Entries → Entries
+all_put es came = insert_all same_key es came
+
+-- which of 64 bits stands for replacements
+abbrev pub world_bit : List Replacement → ℕ
+world_bit w = digest_of w % 64
+
+-- of each key that has a value, the bit of its replacements is set
+abbrev pub HasBits : Entries → ℕ → Type 0
+HasBits es bits = (q : Key) → IsSome (value_for es q) → bit_at bits (world_bit q.world) ≡ 1

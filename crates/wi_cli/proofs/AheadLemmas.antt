@@ -1,5 +1,5 @@
 -- Bytes that are still to come, some taken, or more of them in the buffer.
-use Rattle.wi_cli.proofs.Vocabulary.{◌≡◌, ℕ, ◌+◌, ◌-◌, ◌≤◌, List, [], ◌++◌, take, drop, sym, ap, ◌∙◌, arith, append_assoc, Option, None, Some, Consumes, Keeps, IsAtEnd, prepend_known, drop-take, Takes}
+use Rattle.wi_cli.proofs.Vocabulary.{◌≡◌, ℕ, ◌+◌, ◌-◌, ◌≤◌, List, [], ◌++◌, take, drop, sym, ap, ◌∙◌, arith, append_assoc, Option, None, Some, IsAtEnd, prepend_known, drop-take, Takes}
 
 pub held : (bytes : List ℕ) (at filled : ℕ) → at ≤ filled → take (filled - at) (drop at bytes) ≡ drop at (take filled bytes)
 held bytes at filled l =
@@ -9,16 +9,6 @@ held bytes at filled l =
 pub buffered : (left : Option (List ℕ)) (xs ys taken : List ℕ) → xs ≡ taken ++ ys → Takes xs left ys left taken
 buffered None xs ys taken e = tt
 buffered (Some more) xs ys taken e = ap (λ l. l ++ more) e ∙ append_assoc taken ys more
-
-pub refilled : (left left' : Option (List ℕ)) (xs ys : List ℕ) → xs ≡ [] → Consumes left left' ys → Takes xs left ys left' []
-refilled None left' xs ys e h = tt
-refilled (Some p) None xs ys e h = absurd h
-refilled (Some p) (Some q) xs ys e h = ap (λ l. l ++ p) e ∙ h
-
-pub unfilled : (left left' : Option (List ℕ)) (xs : List ℕ) → xs ≡ [] → Keeps left left' → Takes xs left [] left' []
-unfilled None left' xs e h = tt
-unfilled (Some p) None xs e h = absurd h
-unfilled (Some p) (Some q) xs e h = ap (λ l. l ++ p) e ∙ sym h
 
 pub none_left : (left : Option (List ℕ)) → IsAtEnd left → IsAtEnd (prepend_known [] left)
 none_left None h = tt

@@ -1,18 +1,18 @@
 -- What a line asks for, by its name and its words.
 use Rattle.wi_cli.proofs.Vocabulary.{◌≡◌, ℕ, suc, ◌+◌, ◌<◌, ◌≤◌, Bool, true, false, ◌||◌, ◌&&◌, not, cond, eqb, List, [], ◌∷◌, length, take, refl, sym, ap, ◌∙◌, subst, ⊎_elim, Option, None, Some, Result, Err, list_all, position_or_len, before_first, after_first, is_utf8, IsUtf8, or_cases, eqb-true, le-ltb, lt-ltb, false_from_ne_true, arith, false≢true, is_utf8-from_IsUtf8, IsUtf8-from_is_utf8, codes, Refusal, Refused, is_space, skip_spaces, first_word, after_word, without_cr, is_all_spaces, is_comment, CsvLine, csv_named, csv_by_name, csv_text, csv_line, edit_command, named_command, spelled_command, text_command, line_command, IsCommandOf, IsAsked}
 use Rattle.wi_scenarios.specs.declared.refusal.Refusal.TheVariants.{Memory, BadCommand, BadLine}
-use Rattle.wi_scenarios.specs.Step.{Command}
+use Rattle.wi_scenarios.specs.Step.{Call}
 use Rattle.wi_cli.specs.declared.line.Line.{Line}
 use Rattle.wi_cli.specs.declared.line.Line.TheVariants as read
 use Rattle.wi_cli.specs.declared.command.Command.{Command as ReadCommand}
 use Rattle.wi_cli.proofs.NamedLemmas.{not_name, edit_named}
 
-pub asked_same : (a b : Option CsvLine) (t u : Bool) (o p : Option Command) (r : Line) → a ≡ b → t ≡ u → o ≡ p → IsAsked b u p r → IsAsked a t o r
+pub asked_same : (a b : Option CsvLine) (t u : Bool) (o p : Option Call) (r : Line) → a ≡ b → t ≡ u → o ≡ p → IsAsked b u p r → IsAsked a t o r
 asked_same a b t u o p r e f g h =
     subst (λ x. IsAsked x t o r) (sym e) (subst (λ x. IsAsked b x o r) (sym f) (subst (λ x. IsAsked b u x r) (sym g) h))
 
 -- one that is refused as it is read
-pub asked_refused : (a : Option CsvLine) (t : Bool) (o : Option Command) (e : Refusal) → a ≡ None → o ≡ Some (Refused e) → (e ≡ Memory → ⊥) → IsAsked a t o (read.Command (Err e))
+pub asked_refused : (a : Option CsvLine) (t : Bool) (o : Option Call) (e : Refusal) → a ≡ None → o ≡ Some (Refused e) → (e ≡ Memory → ⊥) → IsAsked a t o (read.Command (Err e))
 asked_refused a t o e none is grows = (none, (Refused e, is, (refl, grows)))
 
 -- ---- by its name
@@ -41,7 +41,7 @@ pub no_edit : (force : Bool) (word operands : List ℕ) → (word ≡ codes "set
 no_edit force word operands a b c d =
     let none : csv_named force word operands ≡ None = rw (not_name word (codes "csv") d) refl in
     let bad : edit_command force word operands ≡ Refused BadCommand = rw (not_name word (codes "set") a, not_name word (codes "clear") b, not_name word (codes "fill") c) refl in
-    asked_refused _ true _ BadCommand none (ap (λ (c : Command). Some c) bad) (λ (e : BadCommand ≡ Memory). cc)
+    asked_refused _ true _ BadCommand none (ap (λ (c : Call). Some c) bad) (λ (e : BadCommand ≡ Memory). cc)
 
 -- a line of this name
 pub name_asked : (word operands name : List ℕ) (r : Line) → word ≡ name → IsAsked (csv_by_name name operands) true (Some (named_command name operands)) r
@@ -60,7 +60,7 @@ pub others_asked : (word operands : List ℕ) (r : Line)
     → (word ≡ codes "changes" → ⊥) → (word ≡ codes "compare" → ⊥) → (word ≡ codes "table" → ⊥) → (word ≡ codes "formula" → ⊥)
     → IsAsked (csv_named false word operands) true (Some (edit_command false word operands)) r → IsAsked (csv_by_name word operands) true (Some (named_command word operands)) r
 others_asked word operands r a b c d e f g h i j k l asked =
-    asked_same _ _ true true _ _ r (rw (not_name word (codes "force") a) refl) refl (ap (λ (c : Command). Some c) (edit_named word operands a b c d e f g h i j k l)) asked
+    asked_same _ _ true true _ _ r (rw (not_name word (codes "force") a) refl) refl (ap (λ (c : Call). Some c) (edit_named word operands a b c d e f g h i j k l)) asked
 
 -- a text with this name and these operands
 pub text_asked : (text word operands : List ℕ) (r : Line) → word ≡ first_word text → operands ≡ after_word text

@@ -1,8 +1,8 @@
 -- What is told of a line that was served.
-use Rattle.wi_cli.proofs.Vocabulary.{◌≡◌, ℕ, Bool, true, false, List, [], ◌++◌, refl, sym, ap, ◌∙◌, subst, Some, Result, Ok, Err, append-nil, has_session, bytes_of, Refusal, State, MayLackMemory, Done, command_of, Told, IsServed, RefusedAs}
+use Rattle.wi_cli.proofs.Vocabulary.{◌≡◌, ℕ, Bool, true, false, List, [], ◌++◌, refl, sym, ap, ◌∙◌, subst, Some, Result, Ok, Err, append-nil, has_session, bytes_of, Refusal, State, CallMayLackMemory, Done, command_of, Told, IsServed, RefusedAs}
 use Rattle.wi_scenarios.specs.declared.refusal.Refusal.TheVariants.{Memory}
 use Rattle.wi_scenarios.specs.Answer as answer
-use Rattle.wi_scenarios.specs.Step.{Command, IsStep}
+use Rattle.wi_scenarios.specs.Step.{Call, IsCallStep}
 use Rattle.wi_scenarios.specs.Step as spell
 use Rattle.wi_cli.specs.declared.reply.Reply.TheVariants.{Refused}
 use Rattle.wi_cli.specs.declared.command.Command.{Command as ReadCommand}
@@ -12,13 +12,13 @@ use Rattle.wi_cli.specs.declared.command.Command.TheVariants as read
 abbrev pub Ended : Type 0
 Ended = Result (Unit {0}) Refusal
 
--- where a call of the workbook is never refused for want of memory
+-- where a call of the workbook is never refused as out of memory
 abbrev pub KeepsMemory : ReadCommand → Ended → State → Type 0
 KeepsMemory (read.Drop name) r s = r ≡ Err Memory → ⊥
 KeepsMemory (read.As name) r s = has_session s.sessions (bytes_of name) ≡ true → (r ≡ Err Memory → ⊥)
 KeepsMemory d r s = Unit {0}
 
-lacks : (d : ReadCommand) (s : State) → answer.MayGrow (IsStep s (command_of d)) → KeepsMemory d (Err Memory) s → MayLackMemory s (command_of d)
+lacks : (d : ReadCommand) (s : State) → answer.MayGrow (IsCallStep s (command_of d)) → KeepsMemory d (Err Memory) s → CallMayLackMemory s (command_of d)
 lacks (read.Drop name) s h k = absurd (k refl)
 lacks (read.As name) s h k = (go (has_session s.sessions (bytes_of name)) (λ e. k e refl), h) where
   go : (b : Bool) → (b ≡ true → ⊥) → b ≡ false
@@ -38,36 +38,36 @@ lacks (read.Table f r xs) s h k = h
 lacks (read.TableOfTwo f r xs c ys) s h k = h
 lacks (read.Formula at) s h k = h
 
-refuses : (e : Refusal) (d : ReadCommand) (s : State) → answer.MayRefuse e (IsStep s (command_of d)) → KeepsMemory d (Err e) s → RefusedAs e s (command_of d)
+refuses : (e : Refusal) (d : ReadCommand) (s : State) → answer.MayRefuse e (IsCallStep s (command_of d)) → KeepsMemory d (Err e) s → RefusedAs e s (command_of d)
 refuses Memory d s h k = lacks d s h k
 refuses e d s h k = h
 
 -- a command that was done or refused by a call of the workbook
-served : (d : ReadCommand) (r : Ended) (s t : State) (records : List ℕ) → answer.Serves (IsStep s (command_of d)) r s t records → KeepsMemory d r s
+served : (d : ReadCommand) (r : Ended) (s t : State) (records : List ℕ) → answer.Serves (IsCallStep s (command_of d)) r s t records → KeepsMemory d r s
     → IsServed (command_of d) r s t records
 served d (Ok _) s t records h k = h
 served d (Err e) s t records h k = (h.1, refuses e d s h.0 k)
 
 -- the same of a call that writes no records
-pub served_alone : (d e : ReadCommand) (r : Ended) (s t : State) (out : List ℕ) → d ≡ e → answer.Serves (IsStep s (command_of e)) r s t [] → KeepsMemory e r s
+pub served_alone : (d e : ReadCommand) (r : Ended) (s t : State) (out : List ℕ) → d ≡ e → answer.Serves (IsCallStep s (command_of e)) r s t [] → KeepsMemory e r s
     → (records : List ℕ) × (out ≡ out ++ records) × IsServed (command_of d) r s t records
 served_alone d e r s t out same h k = ([], sym (append-nil out), subst (λ (x : ReadCommand). IsServed (command_of x) r s t []) (sym same) (served e r s t [] h k))
 
 -- the same of a call that writes some
 pub served_with : (d e : ReadCommand) (r : Ended) (s t : State) (out out' : List ℕ) → d ≡ e
-    → (records : List ℕ) × (out' ≡ out ++ records) × answer.Serves (IsStep s (command_of e)) r s t records → KeepsMemory e r s
+    → (records : List ℕ) × (out' ≡ out ++ records) × answer.Serves (IsCallStep s (command_of e)) r s t records → KeepsMemory e r s
     → (records : List ℕ) × (out' ≡ out ++ records) × IsServed (command_of d) r s t records
 served_with d e r s t out out' same h k =
     (h.0, h.1, subst (λ (x : ReadCommand). IsServed (command_of x) r s t h.0) (sym same) (served e r s t h.0 h.2 k))
 
 -- ---- of a command
 
-pub told_done : (d c : Command) (s t : State) (out out' records : List ℕ) → d ≡ c → out ≡ [] → out' ≡ out ++ records
+pub told_done : (d c : Call) (s t : State) (out out' records : List ℕ) → d ≡ c → out ≡ [] → out' ≡ out ++ records
     → IsServed c (Ok tt) s t records → Told (Some d) Done s t out'
 told_done d c s t out out' records e none grown h =
-    subst (λ x. IsStep s x (Ok (t, out'))) (sym e) (subst (λ x. IsStep s c (Ok (t, x))) (sym (grown ∙ ap (λ x. x ++ records) none)) h)
+    subst (λ x. IsCallStep s x (Ok (t, out'))) (sym e) (subst (λ x. IsCallStep s c (Ok (t, x))) (sym (grown ∙ ap (λ x. x ++ records) none)) h)
 
-pub told_refused : (d c : Command) (e : Refusal) (s t : State) (out records : List ℕ) → d ≡ c
+pub told_refused : (d c : Call) (e : Refusal) (s t : State) (out records : List ℕ) → d ≡ c
     → IsServed c (Err e) s t records → Told (Some d) (Refused e) s t out
 told_refused d c e s t out records same h = subst (λ x. Told (Some x) (Refused e) s t out) (sym same) h
 
@@ -75,5 +75,5 @@ bad : (e : Refusal) (s : State) → (e ≡ Memory → ⊥) → RefusedAs e s (sp
 bad Memory s h = absurd (h refl)
 bad e s h = refl
 
-pub told_bad : (d : Command) (e : Refusal) (s : State) (out : List ℕ) → (d ≡ spell.Refused e) × (e ≡ Memory → ⊥) → Told (Some d) (Refused e) s s out
+pub told_bad : (d : Call) (e : Refusal) (s : State) (out : List ℕ) → (d ≡ spell.Refused e) × (e ≡ Memory → ⊥) → Told (Some d) (Refused e) s s out
 told_bad d e s out h = subst (λ x. Told (Some x) (Refused e) s s out) (sym h.0) (refl, bad e s h.1)

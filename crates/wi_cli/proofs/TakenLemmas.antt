@@ -3,7 +3,7 @@ use Rattle.wi_cli.proofs.Vocabulary.{◌≡◌, ℕ, ◌+◌, ◌<◌, ◌≤◌
 use Rattle.std.specs.List.{filter, filter_map}
 use Rattle.std.specs.Str.{is_utf8, chars}
 use Rattle.wi_scenarios.specs.declared.refusal.Refusal.TheVariants.{BadLine}
-use Rattle.wi_scenarios.specs.Step.{Command}
+use Rattle.wi_scenarios.specs.Step.{Call}
 use Rattle.wi_cli.specs.declared.csv_line.CsvLine.{CsvLine as ReadCsv}
 use Rattle.wi_cli.proofs.ReadingLemmas.{Takes-trans}
 use Rattle.wi_cli.proofs.LineLemmas.{AreWhole-none, AreWhole-one, AreWhole-append, raw_lines-last, raw_lines-raw, without_lf-raw, few_last}
@@ -168,11 +168,11 @@ none_asked : csv_line [] ≡ None
 unfolding csv_line
 none_asked = refl
 
-to_list : (o : Option Command) → cons_option o [] ≡ option_to_list o
+to_list : (o : Option Call) → cons_option o [] ≡ option_to_list o
 to_list None = refl
 to_list (Some c) = refl
 
-one_command : (b : Block) (o : Option Command) → block_command b ≡ o → filter_map block_command (b ∷ []) ≡ option_to_list o
+one_command : (b : Block) (o : Option Call) → block_command b ≡ o → filter_map block_command (b ∷ []) ≡ option_to_list o
 one_command b o e = ap (λ x. cons_option x []) e ∙ to_list o
 
 -- the command of a line that asks for no data lines

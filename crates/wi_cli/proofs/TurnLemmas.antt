@@ -1,9 +1,10 @@
 -- A line served, and its reply written.
-use Rattle.wi_cli.proofs.Vocabulary.{◌≡◌, ℕ, ◌+◌, ◌<◌, ◌≤◌, Bool, ◌||◌, not, cond, ltb, ap, refl, ◌∙◌, ⊎_elim, Some, List, ◌++◌, length, take, drop, sym, subst, Option, None, [], Appends-nil, length-append, arith, option_to_list, Appends, Appends-trans, take-append-drop, take-append-le, length-take, take_all, lt-ltb, cases_lt, is_utf8, Refused, without_cr, take-append-add, AppendsFront, State, Passed, Reply, Told, told_bytes, csv_line, line_command, text_command, line_front, RunFault, Result, Err, Broke, Memory, Read, Write, ScriptLimit, TookLine, TookBlock, BrokeBlock, Turned, Stopped, WritesReplies}
-use Rattle.wi_scenarios.specs.Step.{Command}
+use Rattle.wi_cli.proofs.Vocabulary.{◌≡◌, ℕ, ◌+◌, ◌<◌, ◌≤◌, Bool, ◌||◌, not, cond, ltb, ap, refl, ◌∙◌, ⊎_elim, Some, List, ◌++◌, length, take, drop, sym, subst, Option, None, [], Appends-nil, length-append, arith, option_to_list, Appends, Appends-trans, take-append-drop, take-append-le, length-take, take_all, lt-ltb, cases_lt, is_utf8, Refused, without_cr, take-append-add, AppendsFront, State, Passed, Reply, Told, told_bytes, csv_line, line_command, text_command, line_front, RunFault, Result, Err, Broke, Memory, Read, Write, ScriptLimit, TookLine, TookBlock, BrokeBlock, Turned, Stopped, WritesReplies, Ok, MatchResult, CanRead, ReadsOn, IsReplied}
+use Rattle.wi_scenarios.specs.Step.{Call}
 use Rattle.wi_scenarios.specs.declared.refusal.Refusal.TheVariants.{BadLine}
 use Rattle.wi_cli.specs.Inner.Turn.{CutShort}
 use Rattle.wi_cli.proofs.RunLemmas.{WritesReplies-told}
+use Rattle.wi_cli.proofs.ReadingLemmas.{stops_unwritten}
 use Rattle.wi_cli.proofs.TakenLemmas.{IsCounted, plain_block}
 use Rattle.wi_cli.proofs.DataLemmas.{no_csv}
 
@@ -31,7 +32,7 @@ unfolding line_front line_command
 line_command-front content = same_at_front 65536 65537 (λ xs. text_command (without_cr xs)) (Some (Refused BadLine)) (λ xs. not (is_utf8 (without_cr xs))) content refl
 
 -- a line that asks for no data lines, by what was read of its front
-pub asked_block : (whole : Bool) (b : List ℕ) (l : Option (List ℕ)) (b' : List ℕ) (l' : Option (List ℕ)) (line front : List ℕ) (count count' : ℕ) (command : Option Command) → count ≤ 1000000
+pub asked_block : (whole : Bool) (b : List ℕ) (l : Option (List ℕ)) (b' : List ℕ) (l' : Option (List ℕ)) (line front : List ℕ) (count count' : ℕ) (command : Option Call) → count ≤ 1000000
     → (k : TookLine (ltb count 1000000) whole b l b' l' line) → IsCounted whole count count' → front ≡ line → csv_line front ≡ None → line_command front ≡ command
     → TookBlock command whole b l b' l' count count'
 asked_block whole b l b' l' line front count count' command most k e same none is =
@@ -39,7 +40,7 @@ asked_block whole b l b' l' line front count count' command most k e same none i
     subst (λ o. TookBlock o whole b l b' l' count count') (sym (line_command-front k.content) ∙ ap line_command (sym read) ∙ is)
     (plain_block whole b l b' l' line count count' most k e (no_csv front k.content read none))
 
-pub turned : (whole : Bool) (b : List ℕ) (l : Option (List ℕ)) (b' : List ℕ) (l' : Option (List ℕ)) (count count' : ℕ) (s t : State) (w w' : Option (List ℕ)) (command : Option Command) (a : Reply) (out : List ℕ)
+pub turned : (whole : Bool) (b : List ℕ) (l : Option (List ℕ)) (b' : List ℕ) (l' : Option (List ℕ)) (count count' : ℕ) (s t : State) (w w' : Option (List ℕ)) (command : Option Call) (a : Reply) (out : List ℕ)
     → TookBlock command whole b l b' l' count count' → Told command a s t out → Appends w w' (told_bytes a out) → Turned whole b l b' l' count count' s t w w'
 turned whole b l b' l' count count' s t w w' command a out k told h =
     record { command = command; block = k; out = told_bytes a out; written = h; writes = WritesReplies-told command a s t out told }
@@ -57,7 +58,7 @@ stopped Read b l b' l' count s t w w' k same kept = (k, same, kept)
 stopped Write b l b' l' count s t w w' k same kept = absurd k.broke.cause
 stopped ScriptLimit b l b' l' count s t w w' k same kept = (k, same, kept)
 
-pub cut_short : (whole : Bool) (b : List ℕ) (l : Option (List ℕ)) (b' : List ℕ) (l' : Option (List ℕ)) (count count' : ℕ) (s t : State) (w w' : Option (List ℕ)) (command : Option Command) (a : Reply) (out : List ℕ)
+pub cut_short : (whole : Bool) (b : List ℕ) (l : Option (List ℕ)) (b' : List ℕ) (l' : Option (List ℕ)) (count count' : ℕ) (s t : State) (w w' : Option (List ℕ)) (command : Option Call) (a : Reply) (out : List ℕ)
     → TookBlock command whole b l b' l' count count' → Told command a s t out → AppendsFront w w' (told_bytes a out) → CutShort b l b' l' count s t w w'
 cut_short whole b l b' l' count count' s t w w' command a out k told h = record {
   whole = whole;
@@ -70,7 +71,26 @@ cut_short whole b l b' l' count count' s t w w' command a out k told h = record 
   writes = subst (λ x. WritesReplies s (option_to_list command) x t) (sym (take-append-drop h.0 (told_bytes a out))) (WritesReplies-told command a s t out told);
 }
 
--- no fault of the reader of lines is want of memory
+-- a block was taken and served, and its reply was written, or a front of it
+pub answered : (r : Result Bool RunFault) (whole : Bool) (b : List ℕ) (l : Option (List ℕ)) (b' : List ℕ) (l' : Option (List ℕ)) (count count' : ℕ) (s t : State) (w w' : Option (List ℕ)) (command : Option Call) (a : Reply) (out : List ℕ)
+    → TookBlock command whole b l b' l' count count' → Told command a s t out → IsReplied whole a out r w w'
+    → MatchResult r (λ end. Turned end b l b' l' count count' s t w w') (λ e. Stopped e b l b' l' count s t w w')
+answered (Ok end) whole b l b' l' count count' s t w w' command a out k told h = subst (λ x. Turned x b l b' l' count count' s t w w') (sym h.0) (turned whole b l b' l' count count' s t w w' command a out k told h.1)
+answered (Err Write) whole b l b' l' count count' s t w w' command a out k told h = cut_short whole b l b' l' count count' s t w w' command a out k told h
+answered (Err Memory) whole b l b' l' count count' s t w w' command a out k told h = absurd h
+answered (Err Read) whole b l b' l' count count' s t w w' command a out k told h = absurd h
+answered (Err ScriptLimit) whole b l b' l' count count' s t w w' command a out k told h = absurd h
+
+-- and the reader of lines reads on where it was written
+pub answered_reads : {has_failed : Bool} {capacity : ℕ} (r : Result Bool RunFault) (whole : Bool) (a : Reply) (out : List ℕ) (w w' : Option (List ℕ))
+    → IsReplied whole a out r w w' → CanRead has_failed capacity → ReadsOn r has_failed capacity
+answered_reads (Ok end) whole a out w w' h k = k
+answered_reads (Err Write) whole a out w w' h k = stops_unwritten k
+answered_reads (Err Memory) whole a out w w' h k = absurd h
+answered_reads (Err Read) whole a out w w' h k = absurd h
+answered_reads (Err ScriptLimit) whole a out w w' h k = absurd h
+
+-- no fault of the reader of lines is "out of memory"
 pub broke_no_memory : (r : Result Bool RunFault) (e fault : RunFault) (allowed : Bool) (b : List ℕ) (l : Option (List ℕ)) (b' : List ℕ) (l' : Option (List ℕ))
     → r ≡ Err e → e ≡ fault → Broke fault allowed b l b' l' → r ≡ Err Memory → ⊥
 broke_no_memory r e fault allowed b l b' l' is same h m =

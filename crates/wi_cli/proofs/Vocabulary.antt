@@ -8,7 +8,7 @@ pub use Rattle.std.proofs.lemmas.Bool.{and_parts, both_ways, cases_lt, eqb-true,
 pub use Rattle.std.proofs.lemmas.Bool.Decides.{nat_tests}
 pub use Rattle.std.proofs.lemmas.Iterator.{YieldsList-from_slice}
 pub use Rattle.std.proofs.lemmas.Iterator.Search.{all_from_yields_List}
-pub use Rattle.std.proofs.lemmas.List.{append_cancel_left, drop-take, drop_all, drop_more, get_or-take, get_or_default, length-drop, length-take, nil_from_length, take-append-drop, take-append-le, take_all, take_at, take_min, take_rest}
+pub use Rattle.std.proofs.lemmas.List.{drop-take, drop_all, drop_more, get_or-take, length-drop, length-take, nil_from_length, take-append-drop, take-append-le, take_all, take_at, take_min, take_rest}
 pub use Rattle.std.proofs.lemmas.List.Elements.{filter-append, filter_map-append}
 pub use Rattle.std.proofs.lemmas.List.Folds.{Any-from_list_any, concat-append, length-prefix_len, list_all-append, list_any-append, list_any-from_Any}
 pub use Rattle.std.proofs.lemmas.List.Sums.{passes_at_first, split_at_first}
@@ -23,7 +23,7 @@ pub use Rattle.std.specs.Io.KnownBytes.{Appends, Consumes, IsAtEnd, Keeps, prepe
 pub use Rattle.std.specs.List.{AllZip, Any, Contains, after_first, before_first, concat, cons_option, list_all, list_any, position_or_len, prefix_len, slice_index_or}
 pub use Rattle.std.specs.Map.{keys_of}
 pub use Rattle.std.specs.Option.{IfSome, option_to_list}
-pub use Rattle.std.specs.Prelude.{All}
+pub use Rattle.std.specs.Prelude.{All, MatchResult}
 pub use Rattle.std.specs.Result.{result_err}
 pub use Rattle.std.specs.Str.{IsCharBoundary, IsUtf8, all_ascii_digits, byte, is_utf8}
 pub use Rattle.std.specs.Str.Parse.{digits_value, digits_value_after}
@@ -32,7 +32,7 @@ pub use Rattle.wi_cli.specs.Causes.{BadCommand, BadField, BadLine, Cause, CutSho
 pub use Rattle.wi_cli.specs.Command.{As, Base, Changes, Clear, Command, Compare, Csv, Drop, Export, Fill, Formula, Scenario, Set, Show, Table, Unknown, Unreadable, Use, form}
 pub use Rattle.wi_cli.specs.Does.{Does, state_with}
 pub use Rattle.wi_cli.specs.Edits.{Put, Puts, after_edit, copy_in, fields, is_forced, named, sheet_with}
-pub use Rattle.wi_cli.specs.Events.{AreEvents, Event, ForcedIsNotStale, GivesChain, KeepsApart, KeepsChains, ListsAddUp, LogGrows, MayFollow, MayHappen, RecordsTellList, StaleIsNewer, StaysCoherent, edits_in, edits_since, is_accepted_changes, is_told, last_shown, lists_told, logged_by, state_after}
+pub use Rattle.wi_cli.specs.Events.{AreEvents, GivesChain, KeepsChains, is_changes, named_by}
 pub use Rattle.wi_cli.specs.InTurn.{RunInTurn}
 pub use Rattle.wi_cli.specs.Inner.Ahead.{Takes, budget}
 pub use Rattle.wi_cli.specs.Inner.Asked.{IsAsked}
@@ -44,7 +44,7 @@ pub use Rattle.wi_cli.specs.Inner.EditCommands.{clear_command, edit_command, fil
 pub use Rattle.wi_cli.specs.Inner.Front.{AppendsFront}
 pub use Rattle.wi_cli.specs.Inner.LookCommands.{changes_command, compare_command, export_command, formula_command, show_command}
 pub use Rattle.wi_cli.specs.Inner.Operands.{at_end, is_all_spaces, line_fault, name_or_none, of_name, of_operand, only_name, read_side, unless_refused, worse}
-pub use Rattle.wi_cli.specs.Inner.Reading.{Broke, CanRead, HasStopped, TookLine, TookPart, raw}
+pub use Rattle.wi_cli.specs.Inner.Reading.{Broke, CanRead, HasStopped, ReadsOn, TookLine, TookPart, raw}
 unfoldable pub use Rattle.wi_cli.specs.Inner.Reading.{line_front}
 pub use Rattle.wi_cli.specs.Inner.Reply.{reply, told_cell}
 unfoldable pub use Rattle.wi_cli.specs.Inner.Reply.{refused}
@@ -58,7 +58,7 @@ pub use Rattle.wi_cli.specs.Inner.Spelling.{IsCommandOf, command_of}
 pub use Rattle.wi_cli.specs.Inner.TableCommand.{table_command, table_of_one, table_of_two}
 pub use Rattle.wi_cli.specs.Inner.Taken.{AreBlocks, AreBlocksOf, AreWhole, BrokeLines, TookLines}
 pub use Rattle.wi_cli.specs.Inner.Told.{IsServed, RefusedAs, Told, told_bytes}
-pub use Rattle.wi_cli.specs.Inner.Turn.{BrokeBlock, Stopped, TookBlock, Turned}
+pub use Rattle.wi_cli.specs.Inner.Turn.{BrokeBlock, IsReplied, Stopped, TookBlock, Turned}
 pub use Rattle.wi_cli.specs.Laws.{HasCommands, HasOneAnswer, SameAddr, SameCommands, SameLack, SameOutcome, SameRect, SameReply, SameRuns, SameStep, Splits, a_line, asked, before, block, cut_short, blocks_that_count, none, read_any, read_by, read_cell, read_area, was}
 pub use Rattle.wi_cli.specs.Lines.{Bytes, after_word, first_word, is_space, is_whole, max_line, max_lines, onto_first, raw_lines, skip_spaces, without_cr, without_lf}
 pub use Rattle.wi_cli.specs.Operands.{ADDR, ANY, CONTENT, Cell, Corners, IsAddr, IsRect, IsSpelled, IsWritten, LINES, NAME, Operand, RECT, SESSION, SIDE, WORD, a_cell, addr, address, area, is_outside, two_cells}
@@ -101,9 +101,10 @@ pub use Rattle.wi_scenario_list.proofs.ChainsKept.{based_kept, dropped_kept, has
 pub use Rattle.wi_scenario_list.specs.Bases.{HasChains, based_on, is_base, is_name_of, lacks, would_loop}
 pub use Rattle.wi_scenario_list.specs.Inner.Chains.{chain, effective}
 pub use Rattle.wi_scenario_list.specs.Scenarios.{has_scenario, is_full, is_named, scenario_for, with_own, without_own, without_scenario}
+pub use Rattle.wi_scenarios.proofs.EventLemmas.{TellsAndLogs}
 pub use Rattle.wi_scenarios.proofs.RecordLemmas.{records_tell_list}
 pub use Rattle.wi_scenarios.proofs.RunLemmas.{new_is_coherent}
-pub use Rattle.wi_scenarios.proofs.StaleLemmas.{refused_so, stale_exactly}
+pub use Rattle.wi_scenarios.proofs.StaleLemmas.{refused_so, stale_since}
 pub use Rattle.wi_scenarios.proofs.StepLemmas.{an_answer, no_other}
 pub use Rattle.wi_scenarios.specs.Answer.{MayGrow, may_grow}
 pub use Rattle.wi_scenarios.specs.Causes.{no_cause}
@@ -111,15 +112,14 @@ pub use Rattle.wi_scenarios.specs.Changes.{change_list}
 pub use Rattle.wi_scenarios.specs.Csv.{ImportOutcome, csv_answer}
 pub use Rattle.wi_scenarios.specs.Drop.{is_in_use}
 pub use Rattle.wi_scenarios.specs.Edits.{edit_answer, stale_in}
+pub use Rattle.wi_scenarios.specs.Events.{Event, ForcedIsNotStale, IsCoherent, IsFirstNewer, KeepsApart, ListsAddUp, LogGrows, MayFollow, MayHappen, RecordsTellList, StaleIsNewer, StaysCoherent, counts_before, edits_since, is_accepted_changes, is_refused_before, is_told, left_by, logged, state_after, unseen, with_lists}
 pub use Rattle.wi_scenarios.specs.Fill.{copy_to, has_no_copy, or_nothing}
-pub use Rattle.wi_scenarios.specs.Laws.{IsCoherent, IsFirstNewer, counts_before, is_refused_before, left_by, unseen, with_lists}
 pub use Rattle.wi_scenarios.specs.Pending.{Book}
 pub use Rattle.wi_scenarios.specs.Set.{fault_in, set_answer, set_edit}
 pub use Rattle.wi_scenarios.specs.State.{State, max_area, new_state, state_over}
-pub use Rattle.wi_scenarios.specs.Step.{MayLackMemory, Refused}
-pub use Rattle.wi_scenarios.specs.Views.{current_replacements, current_session, session_at, shown_to, with_current}
+pub use Rattle.wi_scenarios.specs.Step.{CallMayLackMemory, Refused}
+pub use Rattle.wi_scenarios.specs.Views.{current_replacements, current_session, session_at, with_current}
 pub use Rattle.wi_scenarios.specs.declared.refusal.Refusal.{Refusal}
-pub use Rattle.wi_sessions.specs.Pictures.{value_in}
 pub use Rattle.wi_sessions.specs.Sessions.{Session, has_session, index_of, max_sessions, told, using_scenario, with_session}
 pub use Rattle.wi_store.specs.Store.{Stored}
 pub use Rattle.wi_store.specs.declared.limits.Limits.{Limits}

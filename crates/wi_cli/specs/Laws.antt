@@ -51,7 +51,7 @@ pub record SameRect (word : Bytes) : Type 0 where
 -- ---- commands
 
 -- the command as it was
-abbrev pub was : Command → old.Command
+abbrev pub was : Command → old.Call
 was (Set force at text) = if length text == 0 then old.Refused refusal.BadCommand else of_operand (read_cell at) (λ a. old.Set force a text)
 was (Clear force rect) = of_operand (read_area rect) (λ r. old.Clear force r)
 was (Fill force at rect) = fill_command_of force (read_cell at) (read_area rect)
@@ -73,15 +73,15 @@ was Unreadable = old.Refused refusal.BadLine
 
 -- the command has the answers that it had
 abbrev pub SameStep : State → Command → Type 0
-SameStep s c = (a : Answer) → old.IsStep s (was c) a ↔ IsStep s c a
+SameStep s c = (a : Answer) → old.IsCallStep s (was c) a ↔ IsStep s c a
 
 -- it has one answer
 abbrev pub HasOneAnswer : State → Command → Type 0
 HasOneAnswer s c = (a : Answer) × IsStep s c a × ((b : Answer) → IsStep s c b → a ≡ b)
 
--- want of memory may stand in place of an answer where it might before
+-- "out of memory" may stand in place of an answer where it might before
 abbrev pub SameLack : State → Command → Type 0
-SameLack s c = old.MayLackMemory s (was c) ↔ MayLackMemory s c
+SameLack s c = old.CallMayLackMemory s (was c) ↔ MayLackMemory s c
 
 -- a command, and commands, have the replies that they had, and leave the same state
 abbrev pub SameReply : State → Command → Bytes → State → Type 0
@@ -115,11 +115,11 @@ blocks_that_count true bs = bs
 blocks_that_count false bs = filter is_complete bs
 
 -- the commands that lines had
-abbrev pub before : Bool → List Bytes → List old.Command
+abbrev pub before : Bool → List Bytes → List old.Call
 before ended lines = filter_map block_command (blocks_that_count ended (blocks lines))
 
 -- lines have commands, which are these as they were; and any that they have are
-abbrev pub HasCommands : Bool → List Bytes → List old.Command → Type 0
+abbrev pub HasCommands : Bool → List Bytes → List old.Call → Type 0
 HasCommands ended lines commands = (cs : List Command) × AreCommands ended lines cs × (commands ≡ map was cs)
 
 abbrev pub SameCommands : Bool → List Bytes → List Command → Type 0

@@ -5,15 +5,16 @@ ghost use Rattle.std.specs.Prelude.{ℕ, Bool, false, List, Option, Result, Ok};
 ghost use Rattle.wi_store.specs.Store.{Stored};
 ghost use Rattle.wi_scenario_list.specs.Bases.{HasChains};
 ghost use Rattle.wi_scenarios.specs.State.{State, state_over};
-ghost use Rattle.wi_scenarios.specs.Laws.{IsCoherent};
+ghost use Rattle.wi_scenarios.specs.Events.{Event, ForcedIsNotStale, IsCoherent, KeepsApart, ListsAddUp, LogGrows, MayFollow, MayHappen, RecordsTellList, StaleIsNewer, StaysCoherent};
 ghost use Rattle.wi_cli.specs.declared.fault.RunFault.{RunFault};
 ghost use Rattle.wi_cli.specs.Inner.Blocks.{blocks};
 ghost use Rattle.wi_cli.specs.Lines.{Bytes};
 ghost use Rattle.wi_cli.specs.Command.{Command, Changes};
+ghost use Rattle.wi_cli.specs.Edits.{is_forced, named};
 ghost use Rattle.wi_cli.specs.Step.{IsStep};
 ghost use Rattle.wi_cli.specs.Laws.{before, HasCommands, HasOneAnswer, SameAddr, SameCommands, SameLack, SameOutcome, SameRect, SameReply, SameRuns, SameStep, Splits};
 ghost use Rattle.wi_cli.specs.Outcome.{Writes};
-ghost use Rattle.wi_cli.specs.Events.{AreEvents, Event, ForcedIsNotStale, GivesChain, KeepsApart, KeepsChains, ListsAddUp, LogGrows, MayFollow, MayHappen, RecordsTellList, StaleIsNewer, StaysCoherent};
+ghost use Rattle.wi_cli.specs.Events.{AreEvents, GivesChain, is_changes, KeepsChains, named_by};
 
 /// A command is answered as its step says.
 #[tactic(auto, using(crate::proofs::Ties::Steps::same_step))]
@@ -27,7 +28,7 @@ pub fn one_answer()
     ensures { (s : State) (c : Command) → HasOneAnswer s c }
 {}
 
-/// Want of memory stands in place of an answer where the step may lack it.
+/// By both descriptions of commands the same ones may run out of memory.
 #[tactic(auto, using(crate::proofs::Ties::Wants::same_want))]
 pub fn lacks_are_the_same()
     ensures { (s : State) (c : Command) → SameLack s c }
@@ -94,42 +95,44 @@ pub fn runs_have_events()
 /// of the log than there is.
 pub fn runs_stay_coherent()
     ensures new { (stored : Stored) → IsCoherent (state_over stored) }
-    ensures stays { (s : State) (es : List Event) → StaysCoherent s es }
+    ensures stays { (s : State) (es : List (Event Command)) → StaysCoherent IsStep s es }
 {}
 
 /// In a workbook that was just made, and so after each run from there, there are no more scenarios than may be, and each has a chain: none is based
 /// on itself, at any remove, or on one that isn't there. So what `chain_of` gives, by which commands show what scenarios put in, is the chain.
 pub fn scenarios_have_chains()
     ensures new { (stored : Stored) → HasChains (state_over stored).scenarios }
-    ensures kept { (s : State) (es : List Event) → KeepsChains s es }
+    ensures kept { (s : State) (es : List (Event Command)) → KeepsChains s es }
     ensures is_chain { (s : State) (name : Option Bytes) → GivesChain s name }
 {}
 
 /// In every interleaving, the change lists that a session is told, put into the picture that it had before, make the one that it has
 /// at the end, which has what it was shown at the last of them.
 pub fn change_lists_add_up()
-    ensures { (s : State) (es : List Event) (i : ℕ) → IsCoherent s
-        → MayFollow s es → ListsAddUp s es i }
+    ensures { (s : State) (es : List (Event Command)) (i : ℕ) → IsCoherent s
+        → MayFollow IsStep s es → ListsAddUp is_changes s es i }
 {}
 
 /// The records of a change list tell its addresses, kinds and texts, and with them the list.
 pub fn records_tell_lists()
     ensures { (s t : State) (records : Bytes) → IsStep s Changes (Ok (t, records))
-        → RecordsTellList s records }
+        → RecordsTellList IsStep Changes s records }
 {}
 
 /// No command changes a session that isn't current.
 pub fn sessions_keep_apart()
-    ensures { (s : State) (e : Event) (i : ℕ) → IsCoherent s → MayHappen s e → KeepsApart s e i }
+    ensures { (s : State) (e : Event Command) (i : ℕ) → IsCoherent s
+        → MayHappen IsStep s e → KeepsApart s e i }
 {}
 
 /// The log grows by the accepted edits, and what a session hasn't seen of it are those since it was last told a change list. An edit
-/// that isn't forced, and isn't refused for a cause that counts before or for want of memory, is refused for a stale cell exactly where
+/// that isn't forced, and isn't refused for a cause that counts before or as out of memory, is refused for a stale cell exactly where
 /// others' edits since then name one of its cells, and for the first such. One that is forced never is.
 pub fn stale_is_newer()
-    ensures log { (s : State) (es : List Event) (i : ℕ) → IsCoherent s
-        → MayFollow s es → LogGrows s es i }
-    ensures stale { (s : State) (es : List Event) (e : Event) → IsCoherent s
-        → MayFollow s es → StaleIsNewer s es e }
-    ensures forced { (s : State) (e : Event) → ForcedIsNotStale s e }
+    ensures log { (s : State) (es : List (Event Command)) (i : ℕ) → IsCoherent s
+        → MayFollow IsStep s es → LogGrows is_changes named_by s es i }
+    ensures stale { (s : State) (es : List (Event Command)) (e : Event Command) → IsCoherent s
+        → MayFollow IsStep s es
+        → StaleIsNewer IsStep is_changes named_by is_forced s es e (named e.command) }
+    ensures forced { (s : State) (e : Event Command) → ForcedIsNotStale IsStep is_forced s e }
 {}

@@ -116,7 +116,8 @@ fn without_cr(line: &[u8]) -> &[u8]
 /// What a line without its LF asks for. Its bytes are tested for UTF-8 once, and its words cut once.
 #[inline(always)]
 pub(crate) fn read_line(line: &[u8]) -> Line<'_>
-    ensures { IsAsked (csv_line line.now) (is_utf8 (without_cr line.now)) (line_command line.now) result }
+    ensures { IsAsked (csv_line line.now)
+        (is_utf8 (without_cr line.now)) (line_command line.now) result }
 {
     if line.len() > MAX_LINE {
         return Line::Command(Err(Refusal::BadLine));

@@ -3,7 +3,7 @@
 ghost use Rattle.std.specs.Prelude.{◌≡◌, ◌≤◌, OnOk, OnErr, IfErr, MatchResult, Err, false, true, vec_capacity};
 ghost use Rattle.std.specs.Io.KnownBytes.{Keeps};
 ghost use Rattle.wi_cli.specs.Inner.Reading.{CanRead, ReadsOn};
-ghost use Rattle.wi_cli.specs.Inner.Turn.{Turned, Stopped};
+ghost use Rattle.wi_cli.specs.Inner.Turn.{IsReplied, Turned, Stopped};
 ghost use Rattle.wi_cli.specs.Lines.{max_lines};
 ghost use Rattle.wi_cli.specs.Outcome.{IsRun};
 
@@ -12,7 +12,7 @@ use crate::data_lines::{DataLines, read_data};
 use crate::fault::RunFault;
 use crate::line::{Line, read_line};
 use crate::lines::{LineReader, MAX_LINE, next_line};
-use crate::reply::write_reply;
+use crate::reply::{Reply, write_reply};
 use crate::serve::serve;
 use crate::serve_csv::serve_csv;
 use std::alloc::Global;
@@ -29,6 +29,26 @@ pub struct Buffers {
     pub data_lines: DataLines,
     /// The records of a command.
     pub records: Vec<u8>,
+}
+
+/// Writes the reply to a line, and hands on whether the last LF came.
+fn answer<W: Sink>(
+    writer: &mut W,
+    reply: Reply,
+    records: &[u8],
+    whole: bool,
+) -> Result<bool, RunFault>
+    requires { W.has_failed writer.old ≡ false }
+    ensures done { IsReplied whole reply records.now result
+        (W.contents writer.old) (W.contents writer.new) }
+    ensures writes { OnOk result (W.has_failed writer.new ≡ false) }
+    ensures write_fault { result ≡ Err RunFault.Write → W.has_failed writer.new ≡ true }
+    ensures no_memory { result ≡ Err RunFault.Memory → ⊥ }
+{
+    match write_reply(writer, reply, records) {
+        Ok(()) => Ok(whole),
+        Err(_) => Err(RunFault::Write),
+    }
 }
 
 /// Reads a line with its data lines, serves it and writes its reply. Tells whether the last LF came.
@@ -60,10 +80,7 @@ fn turn<R: Source, W: Sink, C: Calculator>(
         Line::Passed => Ok(whole),
         Line::Command(command) => {
             let reply = serve(&command, book, &mut buffers.records);
-            match write_reply(writer, reply, &buffers.records) {
-                Ok(()) => Ok(whole),
-                Err(_) => Err(RunFault::Write),
-            }
+            answer(writer, reply, &buffers.records, whole)
         }
         Line::Csv(csv) => {
             let script = &mut buffers.script;
@@ -73,10 +90,7 @@ fn turn<R: Source, W: Sink, C: Calculator>(
                 Err(fault) => return Err(fault),
             };
             let reply = serve_csv(book, &csv, &buffers.data_lines);
-            match write_reply(writer, reply, b"") {
-                Ok(()) => Ok(end),
-                Err(_) => Err(RunFault::Write),
-            }
+            answer(writer, reply, b"", end)
         }
     }
 }

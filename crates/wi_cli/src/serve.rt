@@ -59,7 +59,7 @@ pub(crate) fn serve<C: Calculator>(
     book: &mut Workbook<C>,
     out: &mut Vec<u8>,
 ) -> Reply
-    ensures { (spelled : spell.Command) → IsCommandOf spelled command.now
+    ensures { (spelled : spell.Call) → IsCommandOf spelled command.now
         → Told (Some spelled) result book.old.state book.new.state out.new.items }
 {
     out.clear();

@@ -1,5 +1,5 @@
 -- Rectangles of which each lies below the one before: where their cells are, and what a search through them may leave out.
-use Rattle.wi_edit_log.proofs.Words.{◌≡◌, ◌∙◌, ℕ, zero, suc, ◌+◌, ◌≤◌, ◌<◌, inl, inr, Bool, true, false, ◌||◌, ◌&&◌, List, [], ◌∷◌, length, drop, get_or, Option, Some, None, refl, ap, sym, subst, arith, nat_le, IsNonDecreasingBy, drop_more, drop_all, and_parts, and_from, and_left, both_ways, leb-true, le-leb, or_cases, Area, row_of, is_within, have_cell, IsFirst, in_both, in_one, are_rising, begins_from, rise_from}
+use Rattle.wi_edit_log.proofs.Words.{◌≡◌, ◌∙◌, ℕ, zero, suc, ◌+◌, ◌≤◌, ◌<◌, inl, inr, Bool, true, false, ◌||◌, ◌&&◌, List, [], ◌∷◌, length, drop, get_or, Option, Some, None, refl, ap, sym, subst, arith, nat_le, IsNonDecreasingBy, drop_more, drop_all, and_parts, and_from, and_left, both_ways, leb-true, le-leb, or_cases, Area, row_of, is_within, is_within_one, IsFirst, in_both, in_one, are_rising, begins_from, rise_from}
 use Rattle.wi_edit_log.proofs.First.{no_first, same_first}
 
 -- ---- where rows of rectangles are
@@ -46,11 +46,11 @@ rise_after n (suc k) (x ∷ xs) h =
     rise_after n k xs (rise_earlier n (row_of x.last + 1) xs later p.rest)
 
 -- their cells are at the row n or below
-below : (n : ℕ) (xs : List Area) (a : ℕ) → rise_from n xs ≡ true → have_cell xs a ≡ true → n ≤ row_of a
-below n [] a h t = absurd (both_ways (have_cell [] a) refl t)
+below : (n : ℕ) (xs : List Area) (a : ℕ) → rise_from n xs ≡ true → is_within_one xs a ≡ true → n ≤ row_of a
+below n [] a h t = absurd (both_ways (is_within_one [] a) refl t)
 below n (x ∷ xs) a h t =
     let p = parts_of n x xs h in
-    elim (or_cases (is_within x a) (have_cell xs a) t) [
+    elim (or_cases (is_within x a) (is_within_one xs a) t) [
       | inl w ↦ let r = row_within x a w in omega (arith, r.0, p.below)
       | inr w ↦ let l = below (row_of x.last + 1) xs a p.rest w in omega (arith, l, p.below, p.ordered)
     ]
@@ -99,13 +99,13 @@ rises_all n xs i all l h = sym (h ∙ ap (rise_from n) (drop_all i xs l))
 -- ---- what ends above a row
 
 -- the first k end above the row n: no cell from there on is in them
-pub passed : (xs : List Area) (k n a : ℕ) → ((i : ℕ) (d : Area) → i < k → i < length xs → row_of (get_or xs i d).last < n) → n ≤ row_of a → have_cell xs a ≡ have_cell (drop k xs) a
+pub passed : (xs : List Area) (k n a : ℕ) → ((i : ℕ) (d : Area) → i < k → i < length xs → row_of (get_or xs i d).last < n) → n ≤ row_of a → is_within_one xs a ≡ is_within_one (drop k xs) a
 passed xs zero n a h l = refl
 passed [] (suc k) n a h l = refl
 passed (x ∷ xs) (suc k) n a h l =
     let ends : row_of x.last < n = h 0 x (omega arith) (omega arith) in
     let out : is_within x a ≡ false = not_within (is_within x a) refl ends in
-    ap (λ b. b || have_cell xs a) out ∙ passed xs k n a (λ i d m o. h (suc i) d (omega (arith, m)) (omega (arith, o))) l
+    ap (λ b. b || is_within_one xs a) out ∙ passed xs k n a (λ i d m o. h (suc i) d (omega (arith, m)) (omega (arith, o))) l
   where
     not_within : (b : Bool) → is_within x a ≡ b → row_of x.last < n → is_within x a ≡ false
     not_within true e m = let r = row_within x a e in absurd (omega (arith, r.1, m, l))
@@ -115,7 +115,7 @@ passed (x ∷ xs) (suc k) n a h l =
 
 -- a cell of the rectangle is in all exactly where it is in those from i on
 abbrev pub ArePassed : Area → List Area → ℕ → Type 0
-ArePassed r xs i = (a : ℕ) → is_within r a ≡ true → have_cell xs a ≡ have_cell (drop i xs) a
+ArePassed r xs i = (a : ℕ) → is_within r a ≡ true → is_within_one xs a ≡ is_within_one (drop i xs) a
 
 module _ (r : Area) (xs : List Area) (i : ℕ) (x : Area) (l : i < length xs) (at : x ≡ get_or xs i x) (rising : are_rising xs ≡ true) (before : ArePassed r xs i) where
   here : drop i xs ≡ x ∷ drop (i + 1) xs
@@ -124,13 +124,13 @@ module _ (r : Area) (xs : List Area) (i : ℕ) (x : Area) (l : i < length xs) (a
   rest_rises : rise_from 0 (x ∷ drop (i + 1) xs) ≡ true
   rest_rises = ap (rise_from 0) (sym here) ∙ rise_after 0 i xs rising
 
-  in_rest : (a : ℕ) → is_within r a ≡ true → have_cell xs a ≡ (is_within x a || have_cell (drop (i + 1) xs) a)
-  in_rest a w = before a w ∙ ap (λ ys. have_cell ys a) here
+  in_rest : (a : ℕ) → is_within r a ≡ true → is_within_one xs a ≡ (is_within x a || is_within_one (drop (i + 1) xs) a)
+  in_rest a w = before a w ∙ ap (λ ys. is_within_one ys a) here
 
   -- it ends above what is left
   none_left : (a : ℕ) → row_of r.last < row_of x.first → in_one r xs a ≡ true → Prim.⊥
   none_left a m t =
-      let p = and_parts (is_within r a) (have_cell xs a) t in
+      let p = and_parts (is_within r a) (is_within_one xs a) t in
       let rows = row_within r a p.0 in
       let low = below (row_of x.first) (x ∷ drop (i + 1) xs) a (rise_from_first 0 x (drop (i + 1) xs) rest_rises) (sym (in_rest a p.0) ∙ p.1) in
       omega (arith, rows.1, low, m)
@@ -142,14 +142,14 @@ module _ (r : Area) (xs : List Area) (i : ℕ) (x : Area) (l : i < length xs) (a
   met_passes : (at' : ℕ) → in_both r x at' ≡ true → in_one r xs at' ≡ true
   met_passes a t =
       let p = and_parts (is_within r a) (is_within x a) t in
-      and_from (is_within r a) (have_cell xs a) p.0 (in_rest a p.0 ∙ ap (λ b. b || have_cell (drop (i + 1) xs) a) p.1)
+      and_from (is_within r a) (is_within_one xs a) p.0 (in_rest a p.0 ∙ ap (λ b. b || is_within_one (drop (i + 1) xs) a) p.1)
 
   met_least : (c a : ℕ) → in_both r x c ≡ true → ((b : ℕ) → in_both r x b ≡ true → c ≤ b) → in_one r xs a ≡ true → c ≤ a
   met_least c a t h k =
-      let p = and_parts (is_within r a) (have_cell xs a) k in
+      let p = and_parts (is_within r a) (is_within_one xs a) k in
       let q = and_parts (is_within r c) (is_within x c) t in
       let rows = row_within x c q.1 in
-      elim (or_cases (is_within x a) (have_cell (drop (i + 1) xs) a) (sym (in_rest a p.0) ∙ p.1)) [
+      elim (or_cases (is_within x a) (is_within_one (drop (i + 1) xs) a) (sym (in_rest a p.0) ∙ p.1)) [
         | inl w ↦ h a (and_from (is_within r a) (is_within x a) p.0 w)
         | inr w ↦
             let low = below (row_of x.last + 1) (drop (i + 1) xs) a (parts_of 0 x (drop (i + 1) xs) rest_rises).rest w in
@@ -163,7 +163,7 @@ module _ (r : Area) (xs : List Area) (i : ℕ) (x : Area) (l : i < length xs) (a
 
   -- it does not
   pub passes_by : (o : Option ℕ) → IsFirst (in_both r x) o → o ≡ None → ArePassed r xs (i + 1)
-  passes_by o h e a w = in_rest a w ∙ ap (λ b. b || have_cell (drop (i + 1) xs) a) (out (is_within x a) refl)
+  passes_by o h e a w = in_rest a w ∙ ap (λ b. b || is_within_one (drop (i + 1) xs) a) (out (is_within x a) refl)
     where
       k : IsFirst (in_both r x) None
       k = subst (λ p. IsFirst (in_both r x) p) e h
@@ -177,14 +177,14 @@ pub meets_none : (r : Area) (xs : List Area) (i : ℕ) → length xs ≤ i → A
 meets_none r xs i l before = no_first (in_one r xs) (λ a. none a (is_within r a) refl)
   where
     none : (a : ℕ) (b : Bool) → is_within r a ≡ b → in_one r xs a ≡ false
-    none a true w = ap (λ b. b && have_cell xs a) w ∙ before a w ∙ ap (λ ys. have_cell ys a) (drop_all i xs l)
-    none a false w = and_left (is_within r a) (have_cell xs a) w
+    none a true w = ap (λ b. b && is_within_one xs a) w ∙ before a w ∙ ap (λ ys. is_within_one ys a) (drop_all i xs l)
+    none a false w = and_left (is_within r a) (is_within_one xs a) w
 
 -- what ends above the rectangle is left out
-pub first_of_rest : (r : Area) (xs ys : List Area) (k : ℕ) (o : Option ℕ) → ys ≡ drop k xs → ((a : ℕ) → row_of r.first ≤ row_of a → have_cell xs a ≡ have_cell (drop k xs) a)
+pub first_of_rest : (r : Area) (xs ys : List Area) (k : ℕ) (o : Option ℕ) → ys ≡ drop k xs → ((a : ℕ) → row_of r.first ≤ row_of a → is_within_one xs a ≡ is_within_one (drop k xs) a)
     → IsFirst (in_one r ys) o → IsFirst (in_one r xs) o
 first_of_rest r xs ys k o e h = same_first (in_one r ys) (in_one r xs) o (λ a. same a (is_within r a) refl)
   where
     same : (a : ℕ) (b : Bool) → is_within r a ≡ b → in_one r ys a ≡ in_one r xs a
-    same a true w = ap (λ c. is_within r a && c) (ap (λ zs. have_cell zs a) e ∙ sym (h a (row_within r a w).0))
-    same a false w = and_left (is_within r a) (have_cell ys a) w ∙ sym (and_left (is_within r a) (have_cell xs a) w)
+    same a true w = ap (λ c. is_within r a && c) (ap (λ zs. is_within_one zs a) e ∙ sym (h a (row_within r a w).0))
+    same a false w = and_left (is_within r a) (is_within_one ys a) w ∙ sym (and_left (is_within r a) (is_within_one xs a) w)

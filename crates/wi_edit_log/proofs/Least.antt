@@ -1,5 +1,5 @@
 -- The first cell that passes is the least of those that pass, as the definition has it.
-use Rattle.wi_edit_log.proofs.Words.{◌≡◌, ◌∙◌, ℕ, zero, suc, ◌+◌, ◌-◌, ◌==◌, ◌≤◌, ◌<◌, ◌⊎◌, inl, inr, Bool, true, false, cond, ◌||◌, ◌&&◌, not, List, [], ◌∷◌, length, drop, map, filter, min, Option, Some, refl, ap, sym, subst, arith, nat_le, list_any, flat_map, reduce, fold, range_with_len, drop_min, drop-map, list_any-append, and_parts, and_from, both_ways, cases_eq, eq-eqb, eqb-true, leb-true, le-leb, or_cases, or_left, or_right, one_truth, Area, columns, place, row_of, column_of, is_one_of, is_within, cells_of, cells_of_row, row_of_place, column_of_place, column_within, Entry, have_cell, is_stale, first_stale, IsFirst, entries_in, entry_in, is_wanted_of_others, Edit}
+use Rattle.wi_edit_log.proofs.Words.{◌≡◌, ◌∙◌, ℕ, zero, suc, ◌+◌, ◌-◌, ◌==◌, ◌≤◌, ◌<◌, ◌⊎◌, inl, inr, Bool, true, false, cond, ◌||◌, ◌&&◌, not, List, [], ◌∷◌, length, drop, map, filter, min, Option, Some, refl, ap, sym, subst, arith, nat_le, list_any, flat_map, reduce, fold, range_with_len, drop_min, drop-map, list_any-append, and_parts, and_from, both_ways, cases_eq, eq-eqb, eqb-true, leb-true, le-leb, or_cases, or_left, or_right, one_truth, Area, columns, place, row_of, column_of, is_one_of, is_within, cells_of, cells_of_row, row_of_place, column_of_place, column_within, Entry, is_within_one, is_stale, first_stale, IsFirst, entries_in, entry_in, is_wanted_of_others, Edit}
 use Rattle.wi_edit_log.proofs.First.{only_first, same_first}
 
 -- ---- the cells of a rectangle are those within it
@@ -74,7 +74,7 @@ within r a h =
     fit : (c d : ℕ) → c ≤ d → d < columns → c < columns
     fit c d g h = omega (arith, g, h)
 
-cells_are : (areas : List Area) (a : ℕ) → is_one_of (flat_map cells_of areas) a ≡ have_cell areas a
+cells_are : (areas : List Area) (a : ℕ) → is_one_of (flat_map cells_of areas) a ≡ is_within_one areas a
 cells_are [] a = refl
 cells_are (r ∷ rs) a =
     list_any-append (λ x. x == a) (cells_of r) (flat_map cells_of rs)
@@ -161,6 +161,6 @@ stale_is_first log es session since k areas o v e h =
     let rest : entries_in (drop k es) ≡ drop since log =
     ap (λ n. entries_in (drop n es)) e ∙ ap entries_in (drop_min since es) ∙ sym (drop-map entry_in since es) ∙ ap (drop since) v in
     let same : (a : ℕ) → is_wanted_of_others (drop k es) session areas a ≡ is_one_of (filter stale cells) a =
-    λ a. ap (λ ys. have_cell areas a && list_any (λ (x : Entry). not (x.session == session) && have_cell x.cells a) ys) rest
+    λ a. ap (λ ys. is_within_one areas a && list_any (λ (x : Entry). not (x.session == session) && is_within_one x.cells a) ys) rest
     ∙ sym (filtered stale cells a ∙ ap (λ b. b && stale a) (cells_are areas a)) in
     only_first (is_one_of (filter stale cells)) o (reduce min (filter stale cells)) (same_first (is_wanted_of_others (drop k es) session areas) (is_one_of (filter stale cells)) o same h) (least (filter stale cells))

@@ -1,5 +1,5 @@
 -- The cells of a rectangle one after another, in row-major order.
-use Rattle.wi_edit_log.proofs.Words.{◌≡◌, ◌∙◌, ℕ, ◌+◌, ◌==◌, ◌≤◌, ◌<◌, ◌⊎◌, inl, inr, Bool, true, false, ◌||◌, ◌&&◌, Option, Some, None, IfSome, refl, ap, sym, subst, arith, nat_lt, then_some, and_from, and_parts, both_ways, cases_eq, cases_lt, eq-eqb, eqb-true, le-ltb, lt-ltb, or_cases, or_left, or_right, one_truth, Area, columns, place, row_of, column_of, is_within, fewer_places, places_left, within_between, row_of_place, column_of_place, column_within, within_parts, IsAtOrBefore, IsFirst, is_after, le_trans}
+use Rattle.wi_edit_log.proofs.Words.{◌≡◌, ◌∙◌, ℕ, ◌+◌, ◌==◌, ◌≤◌, ◌<◌, ◌⊎◌, inl, inr, Bool, true, false, ◌||◌, ◌&&◌, Option, Some, None, IfSome, refl, ap, sym, subst, arith, nat_lt, then_some, and_from, and_parts, both_ways, cases_eq, cases_lt, eq-eqb, eqb-true, le-ltb, lt-ltb, or_cases, or_left, or_right, one_truth, Area, place, row_of, column_of, is_within, fewer_places, places_left, within_between, row_of_place, column_of_place, column_within, within_parts, IsAtOrBefore, IsFirst, is_after, le_trans}
 use Rattle.std.proofs.lemmas.Bool.{ltb-true}
 use Rattle.wi_edit_log.proofs.Shared.{no_sooner, within_from}
 
@@ -26,28 +26,6 @@ later c d g = omega (arith, g)
 
 sooner : (c d : ℕ) → c < d → c + 1 ≤ d
 sooner c d g = omega (arith, g)
-
-one_more_right : (at : ℕ) → place (row_of at) (column_of at + 1) ≡ at + 1
-one_more_right at = omega arith
-
-pub right_of : (r : Area) (at next : ℕ) → is_within r at ≡ true → column_of at < column_of r.last → next ≡ place (row_of at) (column_of at + 1) → IsFirst (is_after r at) (Some next)
-right_of r at next w l e =
-    let more : next ≡ at + 1 = e ∙ one_more_right at in
-    let fits : column_of at + 1 < columns = fit (column_of at) (column_of r.last) l (column_within r.last) in
-    let p = within_parts r at w in
-    let row : row_of next ≡ row_of at = ap row_of e ∙ row_of_place (row_of at) (column_of at + 1) fits in
-    let column : column_of next ≡ column_of at + 1 = ap column_of e ∙ column_of_place (row_of at) (column_of at + 1) fits in
-    let inside = within_from r next (row_of at) (column_of at + 1) row column p.0 p.1 (later _ _ p.2) (sooner _ _ l) in record {
-      passes = and_from (is_within r next) (nat_lt at next) inside (lt-ltb at next (omega (arith, more)));
-      least = λ a h. (
-          let q = and_parts (is_within r a) (nat_lt at a) h in
-          let behind = ltb-true at a q.1 in
-          omega (arith, more, behind)
-          );
-    }
-  where
-    fit : (c d : ℕ) → c < d → d < columns → c + 1 < columns
-    fit c d g h = omega (arith, g, h)
 
 lower : (at a : ℕ) → at < a → column_of a ≤ column_of at → row_of at + 1 ≤ row_of a
 lower at a l h = omega arith

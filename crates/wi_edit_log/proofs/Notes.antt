@@ -1,5 +1,5 @@
 -- What is noted of cells that edits of narrow rectangles named: it tells of the first edits of a log, of one more after each, and finds what a search would.
-use Rattle.wi_edit_log.proofs.Words.{◌≡◌, ◌∙◌, ℕ, ◌+◌, ◌-◌, ◌==◌, ◌≤◌, ◌<◌, ◌⊎◌, inl, inr, Bool, true, false, not, ◌||◌, ◌&&◌, List, [], ◌∷◌, ◌++◌, length, take, drop, get_or, max, Option, Some, refl, ap, sym, subst, arith, nat_lt, if◌then◌else◌, and-false, and-true, or-false, or-true, and-or_distrib_left, drop_all, drop-append-le, length-append, length-take, length-take-le, take-append-le, take-take, take_more, list_any-append, cases_lt, eqb-true, le-ltb, lt-ltb, ltb-false, Area, have_cell, IsFirst, sooner, AreInRuns, is_named_by_others, is_wanted_of_others, are_narrow, AreNoted, IsKept, NotesMore, before_of, is_told, is_wanted_told, last_after, last_of, tells, names_narrowly, is_named_narrowly, is_named_widely, is_wanted_narrowly, is_wanted_widely, Edit, Last}
+use Rattle.wi_edit_log.proofs.Words.{◌≡◌, ◌∙◌, ℕ, ◌+◌, ◌-◌, ◌==◌, ◌≤◌, ◌<◌, ◌⊎◌, inl, inr, Bool, true, false, not, ◌||◌, ◌&&◌, List, [], ◌∷◌, ◌++◌, length, take, drop, get_or, max, Option, Some, refl, ap, sym, subst, arith, nat_lt, if◌then◌else◌, and-false, and-true, or-false, or-true, and-or_distrib_left, drop_all, drop-append-le, length-append, length-take, length-take-le, take-append-le, take_more, list_any-append, cases_lt, eqb-true, le-ltb, lt-ltb, ltb-false, Area, is_within_one, IsFirst, sooner, AreInRuns, is_named_by_others, is_wanted_of_others, are_narrow, AreNoted, IsKept, NotesMore, before_of, is_told, is_wanted_told, last_after, last_of, tells, names_narrowly, is_named_narrowly, is_named_widely, is_wanted_narrowly, is_wanted_widely, Edit, Last}
 use Rattle.wi_edit_log.proofs.First.{same_first, sooner_first}
 use Rattle.wi_edit_log.proofs.Runs.{runs_of_fewer}
 use Rattle.wi_edit_log.proofs.Wide.{named_in_parts}
@@ -47,17 +47,17 @@ named_now named old s t since n e beyond = by (t == s) refl
         ∙ sym (ap (λ b. nat_lt since (if b then before_of old t else n)) other)
 
 module _ (es : List Edit) (known : ℕ) (notes more : List (ℕ × Last)) (x : Edit) (h : AreNoted es known notes) (l : known < length es) (e : x ≡ get_or es known x)
-    (put : NotesMore (λ a. are_narrow x.named && have_cell x.named a) x.session (known + 1) notes more) where
+    (put : NotesMore (λ a. are_narrow x.named && is_within_one x.named a) x.session (known + 1) notes more) where
   reordered : (w o n : Bool) → (w && (o && n)) ≡ (o && (w && n))
   reordered true true n = refl
   reordered true false n = refl
   reordered false true n = refl
   reordered false false n = refl
 
-  names : (a s : ℕ) → names_narrowly s a x ≡ (not (x.session == s) && (are_narrow x.named && have_cell x.named a))
-  names a s = reordered (are_narrow x.named) (not (x.session == s)) (have_cell x.named a)
+  names : (a s : ℕ) → names_narrowly s a x ≡ (not (x.session == s) && (are_narrow x.named && is_within_one x.named a))
+  names a s = reordered (are_narrow x.named) (not (x.session == s)) (is_within_one x.named a)
 
-  now : (a s since : ℕ) (b : Bool) → (are_narrow x.named && have_cell x.named a) ≡ b
+  now : (a s since : ℕ) (b : Bool) → (are_narrow x.named && is_within_one x.named a) ≡ b
       → (is_named_narrowly (drop since (take known es)) s a || (nat_lt since (known + 1) && names_narrowly s a x)) ≡ is_told more s since a
   now a s since true t =
       ap (λ b. is_named_narrowly (drop since (take known es)) s a || (nat_lt since (known + 1) && b)) (names a s ∙ ap (λ b. not (x.session == s) && b) t ∙ and-true (not (x.session == s)))
@@ -76,27 +76,15 @@ module _ (es : List Edit) (known : ℕ) (notes more : List (ℕ × Last)) (x : E
     told = λ a s since.
         one_more es known x s a since l
         ∙ ap (λ (y : Edit). is_named_narrowly (drop since (take known es)) s a || (nat_lt since (known + 1) && names_narrowly s a y)) (sym e)
-        ∙ now a s since (are_narrow x.named && have_cell x.named a) refl;
+        ∙ now a s since (are_narrow x.named && is_within_one x.named a) refl;
   }
 
 -- ---- nothing noted, more edits and fewer
-
-pub nothing_noted : (es : List Edit) (known : ℕ) (notes : List (ℕ × Last)) → known ≡ 0 → notes ≡ [] → AreNoted es known notes
-nothing_noted es known notes k n = rw (k, n) (record {
-  within = omega arith;
-  told = λ a s since. none_beyond es 0 since s a (omega arith) ∙ sym (le-ltb since 0 (omega arith));
-})
 
 pub noted_before_more : (es : List Edit) (known : ℕ) (notes : List (ℕ × Last)) (x : Edit) → AreNoted es known notes → AreNoted (es ++ x ∷ []) known notes
 noted_before_more es known notes x h = record {
   within = omega (arith, h.within, length-append es (x ∷ []));
   told = λ a s since. ap (λ ys. is_named_narrowly (drop since ys) s a) (take-append-le known es (x ∷ []) h.within) ∙ h.told a s since;
-}
-
-pub noted_of_fewer : (es : List Edit) (known n : ℕ) (notes : List (ℕ × Last)) → AreNoted es known notes → known ≤ n → AreNoted (take n es) known notes
-noted_of_fewer es known n notes h l = record {
-  within = omega (arith, h.within, length-take n es, l);
-  told = λ a s since. ap (λ ys. is_named_narrowly (drop since ys) s a) (take-take known n es l) ∙ h.told a s since;
 }
 
 -- the last edit is taken back, and what is noted of more edits than are left is forgotten
@@ -115,18 +103,18 @@ pub first_in_parts : (es : List Edit) (known : ℕ) (notes : List (ℕ × Last))
     → IsFirst (is_wanted_told wanted notes s from) told → IsFirst (is_wanted_widely (drop from es) s wanted) wide → IsFirst (is_wanted_of_others (drop k es) s wanted) left → IsFirst (is_wanted_of_others (drop from es) s wanted) all
 first_in_parts es known notes s from k wanted told wide left all h m e t w r =
     let early = drop from (take known es) in
-    let both : ℕ → Bool = λ a. have_cell wanted a && (is_named_narrowly early s a || is_named_widely (drop from es) s a) in
+    let both : ℕ → Bool = λ a. is_within_one wanted a && (is_named_narrowly early s a || is_named_widely (drop from es) s a) in
     let narrow : IsFirst (is_wanted_narrowly early s wanted) told =
-    same_first (is_wanted_told wanted notes s from) (is_wanted_narrowly early s wanted) told (λ a. ap (λ b. have_cell wanted a && b) (sym (h.told a s from))) t in
+    same_first (is_wanted_told wanted notes s from) (is_wanted_narrowly early s wanted) told (λ a. ap (λ b. is_within_one wanted a && b) (sym (h.told a s from))) t in
     let soon : IsFirst both (sooner told wide) =
     sooner_first (is_wanted_narrowly early s wanted) (is_wanted_widely (drop from es) s wanted) both told wide
-    (λ a. and-or_distrib_left (have_cell wanted a) (is_named_narrowly early s a) (is_named_widely (drop from es) s a)) narrow w in
+    (λ a. and-or_distrib_left (is_within_one wanted a) (is_named_narrowly early s a) (is_named_widely (drop from es) s a)) narrow w in
     rw e (sooner_first both (is_wanted_of_others (drop k es) s wanted) (is_wanted_of_others (drop from es) s wanted) (sooner told wide) left
     (λ a. parts a) soon r)
   where
     parts : (a : ℕ) → is_wanted_of_others (drop from es) s wanted a
-        ≡ ((have_cell wanted a && (is_named_narrowly (drop from (take known es)) s a || is_named_widely (drop from es) s a)) || is_wanted_of_others (drop k es) s wanted a)
+        ≡ ((is_within_one wanted a && (is_named_narrowly (drop from (take known es)) s a || is_named_widely (drop from es) s a)) || is_wanted_of_others (drop k es) s wanted a)
     parts a =
-        ap (λ b. have_cell wanted a && b) (named_in_parts es known from s a h.within)
-        ∙ and-or_distrib_left (have_cell wanted a) (is_named_narrowly (drop from (take known es)) s a || is_named_widely (drop from es) s a) (is_named_by_others (drop (max from known) es) s a)
-        ∙ ap (λ i. (have_cell wanted a && (is_named_narrowly (drop from (take known es)) s a || is_named_widely (drop from es) s a)) || is_wanted_of_others (drop i es) s wanted a) (sym m)
+        ap (λ b. is_within_one wanted a && b) (named_in_parts es known from s a h.within)
+        ∙ and-or_distrib_left (is_within_one wanted a) (is_named_narrowly (drop from (take known es)) s a || is_named_widely (drop from es) s a) (is_named_by_others (drop (max from known) es) s a)
+        ∙ ap (λ i. (is_within_one wanted a && (is_named_narrowly (drop from (take known es)) s a || is_named_widely (drop from es) s a)) || is_wanted_of_others (drop i es) s wanted a) (sym m)

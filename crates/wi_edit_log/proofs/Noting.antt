@@ -1,5 +1,5 @@
 -- What is noted of cells, one and many.
-use Rattle.wi_edit_log.proofs.Words.{◌≡◌, ◌∙◌, ℕ, ◌+◌, ◌==◌, ◌<◌, Bool, true, false, ◌||◌, ◌&&◌, List, length, take, get_or, Option, Some, None, IfSome, refl, ap, sym, if◌then◌else◌, eq-eqb, eqb-true, Area, is_within, have_cell, IsFirst, is_after, NotesMore, before_of, last_after, last_of, Last, and-true}
+use Rattle.wi_edit_log.proofs.Words.{◌≡◌, ◌∙◌, ℕ, ◌+◌, ◌==◌, ◌<◌, Bool, true, false, ◌||◌, ◌&&◌, List, length, take, get_or, Option, Some, None, IfSome, refl, ap, sym, if◌then◌else◌, eq-eqb, eqb-true, Area, is_within, is_within_one, IsFirst, is_after, NotesMore, before_of, last_after, last_of, Last, and-true}
 use Rattle.wi_edit_log.proofs.Next.{all_within, is_before, none_before, one_more_before}
 use Rattle.wi_edit_log.proofs.Shared.{one_more_of}
 
@@ -63,14 +63,6 @@ noting_done r s n old new h a = h.noted a ∙ ap (λ b. if b then Some (last_aft
 -- ---- those of several rectangles
 
 pub area_noted : (areas : List Area) (i : ℕ) (r : Area) (s n : ℕ) (old mid new : List (ℕ × Last)) → i < length areas → r ≡ get_or areas i r
-    → NotesMore (have_cell (take i areas)) s n old mid → NotesMore (is_within r) s n mid new → NotesMore (have_cell (take (i + 1) areas)) s n old new
+    → NotesMore (is_within_one (take i areas)) s n old mid → NotesMore (is_within r) s n mid new → NotesMore (is_within_one (take (i + 1) areas)) s n old new
 area_noted areas i r s n old mid new l at h k =
-    both_noted s n old mid new (have_cell (take i areas)) (is_within r) (have_cell (take (i + 1) areas)) (one_more_of areas i r l at) h k
-
--- ---- those of an edit
-
-pub edit_noted : (narrow : Bool) (test : ℕ → Bool) (s n : ℕ) (old new : List (ℕ × Last)) → narrow ≡ true → NotesMore test s n old new → NotesMore (λ a. narrow && test a) s n old new
-edit_noted narrow test s n old new t h a = h a ∙ ap (λ b. if b && test a then Some (last_after (last_of old a) s n) else last_of old a) (sym t)
-
-pub wide_passed : (narrow : Bool) (test : ℕ → Bool) (s n : ℕ) (old : List (ℕ × Last)) → narrow ≡ false → NotesMore (λ a. narrow && test a) s n old old
-wide_passed narrow test s n old f = none_noted s n old (λ a. narrow && test a) (λ a. ap (λ b. b && test a) f)
+    both_noted s n old mid new (is_within_one (take i areas)) (is_within r) (is_within_one (take (i + 1) areas)) (one_more_of areas i r l at) h k

@@ -1,5 +1,5 @@
 -- Runs of edits of one session, and what a step of the search from the last edit to earlier ones does.
-use Rattle.wi_edit_log.proofs.Words.{◌≡◌, ◌∙◌, ℕ, zero, suc, ◌+◌, ◌-◌, ◌==◌, ◌≤◌, ◌<◌, ◌⊎◌, inl, inr, Bool, true, false, not, ◌||◌, ◌&&◌, List, [], ◌∷◌, ◌++◌, length, take, drop, get_or, max, Option, None, refl, ap, sym, subst, arith, and-false, drop_more, drop_all, get_or_append_left, get_or_default, get_or_push, get_or-take, length-take, length_push, cases_eq, cases_lt, eq-eqb, ne_eqb, Area, have_cell, IsFirst, in_each, sooner, AreInRuns, IsInRun, is_named_by_others, is_wanted_of_others, are_narrow, Edit}
+use Rattle.wi_edit_log.proofs.Words.{◌≡◌, ◌∙◌, ℕ, zero, suc, ◌+◌, ◌-◌, ◌==◌, ◌≤◌, ◌<◌, ◌⊎◌, inl, inr, Bool, true, false, not, ◌||◌, ◌&&◌, List, [], ◌∷◌, ◌++◌, length, take, drop, get_or, max, Option, None, refl, ap, sym, subst, arith, and-false, drop_more, drop_all, get_or_append_left, get_or_default, get_or_push, get_or-take, length-take, length_push, cases_eq, cases_lt, eq-eqb, ne_eqb, Area, is_within_one, IsFirst, in_each, sooner, AreInRuns, IsInRun, is_named_by_others, is_wanted_of_others, are_narrow, Edit}
 use Rattle.wi_edit_log.proofs.First.{no_first, same_first, sooner_first}
 
 pub not_last : (i n : ℕ) → i < n + 1 → (i ≡ n → Prim.⊥) → i < n
@@ -46,7 +46,7 @@ runs_of_fewer es n runs i d l =
 
 -- an edit of the session names nothing for others
 own_names_none : (e : Edit) (es : List Edit) (s a : ℕ) → e.session ≡ s → is_named_by_others (e ∷ es) s a ≡ is_named_by_others es s a
-own_names_none e es s a h = ap (λ b. (not b && have_cell e.named a) || is_named_by_others es s a) (eq-eqb e.session s h)
+own_names_none e es s a h = ap (λ b. (not b && is_within_one e.named a) || is_named_by_others es s a) (eq-eqb e.session s h)
 
 stepped_over : (es : List Edit) (d : Edit) (s a n j i : ℕ) → j + n ≡ i → i ≤ length es → ((k : ℕ) (d : Edit) → j ≤ k → k < i → (get_or es k d).session ≡ s)
     → is_named_by_others (drop j es) s a ≡ is_named_by_others (drop i es) s a
@@ -80,7 +80,7 @@ own_stepped_over es x s from place next wanted o runs l m at own e h =
     let low : next < place = omega (arith, e, r.0, l) in (
       low,
       same_first (is_wanted_of_others (drop place es) s wanted) (is_wanted_of_others (drop next es) s wanted) o
-          (λ a. ap (λ b. have_cell wanted a && b) (sym (stepped_over es x s a (place - next) next place (omega (arith, low)) m (λ k d p q. r.1 k d (omega (arith, e, p)) (omega (arith, q, l))))))
+          (λ a. ap (λ b. is_within_one wanted a && b) (sym (stepped_over es x s a (place - next) next place (omega (arith, low)) m (λ k d p q. r.1 k d (omega (arith, e, p)) (omega (arith, q, l))))))
           h,
     )
 
@@ -88,7 +88,7 @@ own_stepped_over es x s from place next wanted o runs l m at own e h =
 pub none_of_own : (es : List Edit) (s run from : ℕ) (wanted : List Area) → run ≤ from → ((k : ℕ) (d : Edit) → run ≤ k → k < length es → (get_or es k d).session ≡ s)
     → IsFirst (is_wanted_of_others (drop from es) s wanted) None
 none_of_own es s run from wanted l own =
-    no_first (is_wanted_of_others (drop from es) s wanted) (λ a. ap (λ b. have_cell wanted a && b) (none es own a (cases_lt from (length es))) ∙ and-false (have_cell wanted a))
+    no_first (is_wanted_of_others (drop from es) s wanted) (λ a. ap (λ b. is_within_one wanted a && b) (none es own a (cases_lt from (length es))) ∙ and-false (is_within_one wanted a))
   where
     none : (xs : List Edit) → ((k : ℕ) (d : Edit) → run ≤ k → k < length xs → (get_or xs k d).session ≡ s) → (a : ℕ) → (from < length xs) ⊎ (length xs ≤ from)
         → is_named_by_others (drop from xs) s a ≡ false
@@ -117,11 +117,11 @@ other_looked_at es x s place next wanted o p q l m at n other e h k =
     let here : drop next es ≡ x ∷ drop place es = drop_more es next x (omega (arith, m, n)) ∙ ap (λ y. y ∷ drop (next + 1) es) (sym at) ∙ ap (λ i. x ∷ drop i es) n in
     let more : (a : ℕ) → is_wanted_of_others (drop next es) s wanted a ≡ (is_wanted_of_others (drop place es) s wanted a || in_each x.named wanted a) =
     λ a. ap (λ ys. is_wanted_of_others ys s wanted a) here
-    ∙ reordered (have_cell wanted a) (x.session == s) (have_cell x.named a) (is_named_by_others (drop place es) s a) (ne_eqb x.session s other) in
+    ∙ reordered (is_within_one wanted a) (x.session == s) (is_within_one x.named a) (is_named_by_others (drop place es) s a) (ne_eqb x.session s other) in
     rw e (sooner_first (is_wanted_of_others (drop place es) s wanted) (in_each x.named wanted) (is_wanted_of_others (drop next es) s wanted) o p more h k)
 
 -- ---- the start of the search
 
 pub none_after_all : (es : List Edit) (s place : ℕ) (wanted : List Area) → length es ≤ place → IsFirst (is_wanted_of_others (drop place es) s wanted) None
 none_after_all es s place wanted l =
-    no_first (is_wanted_of_others (drop place es) s wanted) (λ a. ap (λ ys. is_wanted_of_others ys s wanted a) (drop_all place es l) ∙ and-false (have_cell wanted a))
+    no_first (is_wanted_of_others (drop place es) s wanted) (λ a. ap (λ ys. is_wanted_of_others ys s wanted a) (drop_all place es l) ∙ and-false (is_within_one wanted a))

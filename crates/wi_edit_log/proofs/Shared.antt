@@ -1,5 +1,5 @@
 -- Which cells are in rectangles, one and many.
-use Rattle.wi_edit_log.proofs.Words.{◌≡◌, ◌∙◌, ℕ, ◌+◌, ◌≤◌, ◌<◌, ◌||◌, ◌&&◌, List, [], length, take, get_or, Option, None, Bool, true, false, max, subst, refl, ap, sym, arith, and-false, and_comm, and-or_distrib_left, and-or_distrib_right, then_some, and_parts, and_from, both_ways, le-leb, take_all, list_any_more, Area, columns, place, row_of, column_of, is_within, row_of_place, column_of_place, column_within, within_parts, have_cell, IsFirst, in_both, in_each, in_one, sooner, le_trans, max_at_most}
+use Rattle.wi_edit_log.proofs.Words.{◌≡◌, ◌∙◌, ℕ, ◌+◌, ◌≤◌, ◌<◌, ◌||◌, ◌&&◌, List, [], length, take, get_or, Option, None, Bool, true, false, max, subst, refl, ap, sym, arith, and-false, and_comm, and-or_distrib_left, and-or_distrib_right, then_some, and_parts, and_from, both_ways, le-leb, take_all, list_any_more, Area, columns, place, row_of, column_of, is_within, row_of_place, column_of_place, column_within, within_parts, is_within_one, IsFirst, in_both, in_each, in_one, sooner, le_trans, max_at_most}
 use Rattle.std.proofs.Common.{nat_le}
 use Rattle.wi_edit_log.proofs.First.{no_first, same_first, sooner_first}
 
@@ -8,8 +8,8 @@ use Rattle.wi_edit_log.proofs.First.{no_first, same_first, sooner_first}
 pub in_none : (r : Area) → IsFirst (in_one r []) None
 in_none r = no_first (in_one r []) (λ a. and-false (is_within r a))
 
-pub one_more_of : (areas : List Area) (i : ℕ) (s : Area) → i < length areas → s ≡ get_or areas i s → (a : ℕ) → have_cell (take (i + 1) areas) a ≡ (have_cell (take i areas) a || is_within s a)
-one_more_of areas i s l at a = list_any_more (λ t. is_within t a) areas i s l ∙ ap (λ t. have_cell (take i areas) a || is_within t a) (sym at)
+pub one_more_of : (areas : List Area) (i : ℕ) (s : Area) → i < length areas → s ≡ get_or areas i s → (a : ℕ) → is_within_one (take (i + 1) areas) a ≡ (is_within_one (take i areas) a || is_within s a)
+one_more_of areas i s l at a = list_any_more (λ t. is_within t a) areas i s l ∙ ap (λ t. is_within_one (take i areas) a || is_within t a) (sym at)
 
 -- one more of the others
 pub in_one_more : (r : Area) (areas : List Area) (i : ℕ) (s : Area) (o p q : Option ℕ) → i < length areas → s ≡ get_or areas i s → q ≡ sooner o p
@@ -17,7 +17,7 @@ pub in_one_more : (r : Area) (areas : List Area) (i : ℕ) (s : Area) (o p q : O
 in_one_more r areas i s o p q l at e h k =
     let more : (a : ℕ) → in_one r (take (i + 1) areas) a ≡ (in_one r (take i areas) a || in_both r s a) =
     λ a. ap (λ b. is_within r a && b) (one_more_of areas i s l at a)
-    ∙ and-or_distrib_left (is_within r a) (have_cell (take i areas) a) (is_within s a) in
+    ∙ and-or_distrib_left (is_within r a) (is_within_one (take i areas) a) (is_within s a) in
     rw e (sooner_first (in_one r (take i areas)) (in_both r s) (in_one r (take (i + 1) areas)) o p more h k)
 
 -- all of the others
@@ -27,24 +27,24 @@ in_one_all r areas i o l h = rw (take_all i areas l) at h
 -- ---- some of a list, and any test
 
 module _ (test : ℕ → Bool) where
-  pub of_none : IsFirst (λ a. have_cell [] a && test a) None
-  of_none = no_first (λ a. have_cell [] a && test a) (λ a. refl)
+  pub of_none : IsFirst (λ a. is_within_one [] a && test a) None
+  of_none = no_first (λ a. is_within_one [] a && test a) (λ a. refl)
 
   -- one more of the list
   pub of_one_more : (areas : List Area) (i : ℕ) (s : Area) (o p q : Option ℕ) → i < length areas → s ≡ get_or areas i s → q ≡ sooner o p
-      → IsFirst (λ a. have_cell (take i areas) a && test a) o → IsFirst (λ a. is_within s a && test a) p → IsFirst (λ a. have_cell (take (i + 1) areas) a && test a) q
+      → IsFirst (λ a. is_within_one (take i areas) a && test a) o → IsFirst (λ a. is_within s a && test a) p → IsFirst (λ a. is_within_one (take (i + 1) areas) a && test a) q
   of_one_more areas i s o p q l at e h k =
-      let more : (a : ℕ) → (have_cell (take (i + 1) areas) a && test a) ≡ ((have_cell (take i areas) a && test a) || (is_within s a && test a)) =
-      λ a. ap (λ b. b && test a) (one_more_of areas i s l at a) ∙ and-or_distrib_right (have_cell (take i areas) a) (is_within s a) (test a) in
-      rw e (sooner_first (λ a. have_cell (take i areas) a && test a) (λ a. is_within s a && test a) (λ a. have_cell (take (i + 1) areas) a && test a) o p more h k)
+      let more : (a : ℕ) → (is_within_one (take (i + 1) areas) a && test a) ≡ ((is_within_one (take i areas) a && test a) || (is_within s a && test a)) =
+      λ a. ap (λ b. b && test a) (one_more_of areas i s l at a) ∙ and-or_distrib_right (is_within_one (take i areas) a) (is_within s a) (test a) in
+      rw e (sooner_first (λ a. is_within_one (take i areas) a && test a) (λ a. is_within s a && test a) (λ a. is_within_one (take (i + 1) areas) a && test a) o p more h k)
 
   -- all of the list
-  pub of_all : (areas : List Area) (i : ℕ) (o : Option ℕ) → length areas ≤ i → IsFirst (λ a. have_cell (take i areas) a && test a) o → IsFirst (λ a. have_cell areas a && test a) o
+  pub of_all : (areas : List Area) (i : ℕ) (o : Option ℕ) → length areas ≤ i → IsFirst (λ a. is_within_one (take i areas) a && test a) o → IsFirst (λ a. is_within_one areas a && test a) o
   of_all areas i o l h = rw (take_all i areas l) at h
 
 -- the lists may be turned
 pub turned : (areas others : List Area) (o : Option ℕ) → IsFirst (in_each areas others) o → IsFirst (in_each others areas) o
-turned areas others o = same_first (in_each areas others) (in_each others areas) o (λ a. and_comm (have_cell areas a) (have_cell others a))
+turned areas others o = same_first (in_each areas others) (in_each others areas) o (λ a. and_comm (is_within_one areas a) (is_within_one others a))
 
 -- ---- two rectangles: their first cell is at the later of their first rows and of their first columns
 

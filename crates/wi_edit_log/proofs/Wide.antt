@@ -1,5 +1,5 @@
 -- Edits of narrow rectangles, and those that name a wider one: a search from the last edit to earlier ones passes over the first.
-use Rattle.wi_edit_log.proofs.Words.{◌≡◌, ◌∙◌, ℕ, zero, suc, ◌+◌, ◌-◌, ◌==◌, ◌≤◌, ◌<◌, ◌⊎◌, inl, inr, Bool, true, false, not, ◌||◌, ◌&&◌, List, [], ◌∷◌, ◌++◌, length, take, drop, get_or, max, Option, None, refl, ap, sym, subst, arith, nat_lt, list_any, and-false, or-true, drop_more, drop_all, drop-append-le, get_or_default, length-take-le, take-append-drop, list_any-append, cases_eq, cases_lt, eq-eqb, lt-ltb, ne_eqb, Area, have_cell, IsFirst, in_each, sooner, AreInRuns, IsInRun, is_named_by_others, are_narrow, names_narrowly, names_for, names_widely, is_named_narrowly, is_named_widely, is_wanted_widely, Edit}
+use Rattle.wi_edit_log.proofs.Words.{◌≡◌, ◌∙◌, ℕ, zero, suc, ◌+◌, ◌-◌, ◌==◌, ◌≤◌, ◌<◌, ◌⊎◌, inl, inr, Bool, true, false, not, ◌||◌, ◌&&◌, List, [], ◌∷◌, ◌++◌, length, take, drop, get_or, max, Option, None, refl, ap, sym, subst, arith, nat_lt, list_any, and-false, or-true, drop_more, drop_all, drop-append-le, get_or_default, length-take-le, take-append-drop, list_any-append, cases_eq, cases_lt, eq-eqb, lt-ltb, ne_eqb, Area, is_within_one, IsFirst, in_each, sooner, AreInRuns, IsInRun, is_named_by_others, are_narrow, names_narrowly, names_for, names_widely, is_named_narrowly, is_named_widely, is_wanted_widely, Edit}
 use Rattle.wi_edit_log.proofs.First.{no_first, same_first, sooner_first}
 use Rattle.wi_edit_log.proofs.Runs.{not_last, reordered, run_before}
 
@@ -10,7 +10,7 @@ narrow_names_none e s a h = ap (λ b. not b && names_for s a e) h
 
 own_names_none : (e : Edit) (s a : ℕ) → e.session ≡ s → names_widely s a e ≡ false
 own_names_none e s a h =
-    ap (λ b. not (are_narrow e.named) && (not b && have_cell e.named a)) (eq-eqb e.session s h) ∙ and-false (not (are_narrow e.named))
+    ap (λ b. not (are_narrow e.named) && (not b && is_within_one e.named a)) (eq-eqb e.session s h) ∙ and-false (not (are_narrow e.named))
 
 -- those between two places pass no test
 passed_over : (test : Edit → Bool) (es : List Edit) (d : Edit) (n j i : ℕ) → j + n ≡ i → i ≤ length es → ((k : ℕ) (d : Edit) → j ≤ k → k < i → test (get_or es k d) ≡ false)
@@ -30,7 +30,7 @@ stepped : (es : List Edit) (d : Edit) (s next place : ℕ) (wanted : List Area) 
     → IsFirst (is_wanted_widely (drop place es) s wanted) o → IsFirst (is_wanted_widely (drop next es) s wanted) o
 stepped es d s next place wanted o l m h =
     same_first (is_wanted_widely (drop place es) s wanted) (is_wanted_widely (drop next es) s wanted) o
-    (λ a. ap (λ b. have_cell wanted a && b) (sym (passed_over (names_widely s a) es d (place - next) next place (omega (arith, l)) m (h a))))
+    (λ a. ap (λ b. is_within_one wanted a && b) (sym (passed_over (names_widely s a) es d (place - next) next place (omega (arith, l)) m (h a))))
 
 -- the edits of narrow rectangles up to the place i
 narrow_before : (es : List Edit) (x : Edit) (i : ℕ) → AreInRuns es → i < length es → x ≡ get_or es i x → 0 < x.narrow → (k : ℕ) (d : Edit) → i + 1 ≤ k + x.narrow → k < i + 1 → are_narrow (get_or es k d).named ≡ true
@@ -74,13 +74,13 @@ wide_looked_at es x s place next wanted o p q runs l m at n none other e h k =
     let here : drop next es ≡ x ∷ drop place es = drop_more es next x (omega (arith, m, n)) ∙ ap (λ y. y ∷ drop (next + 1) es) (sym at) ∙ ap (λ i. x ∷ drop i es) n in
     let more : (a : ℕ) → is_wanted_widely (drop next es) s wanted a ≡ (is_wanted_widely (drop place es) s wanted a || in_each x.named wanted a) =
     λ a. ap (λ ys. is_wanted_widely ys s wanted a) here
-    ∙ ap (λ b. have_cell wanted a && ((not b && names_for s a x) || is_named_widely (drop place es) s a)) wide
-    ∙ reordered (have_cell wanted a) (x.session == s) (have_cell x.named a) (is_named_widely (drop place es) s a) (ne_eqb x.session s other) in
+    ∙ ap (λ b. is_within_one wanted a && ((not b && names_for s a x) || is_named_widely (drop place es) s a)) wide
+    ∙ reordered (is_within_one wanted a) (x.session == s) (is_within_one x.named a) (is_named_widely (drop place es) s a) (ne_eqb x.session s other) in
     rw e (sooner_first (is_wanted_widely (drop place es) s wanted) (in_each x.named wanted) (is_wanted_widely (drop next es) s wanted) o p more h k)
 
 pub none_wide_after_all : (es : List Edit) (s place : ℕ) (wanted : List Area) → length es ≤ place → IsFirst (is_wanted_widely (drop place es) s wanted) None
 none_wide_after_all es s place wanted l =
-    no_first (is_wanted_widely (drop place es) s wanted) (λ a. ap (λ ys. is_wanted_widely ys s wanted a) (drop_all place es l) ∙ and-false (have_cell wanted a))
+    no_first (is_wanted_widely (drop place es) s wanted) (λ a. ap (λ ys. is_wanted_widely ys s wanted a) (drop_all place es l) ∙ and-false (is_within_one wanted a))
 
 -- ---- all edits are those of narrow rectangles and the others
 

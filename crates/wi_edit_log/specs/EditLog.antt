@@ -1,19 +1,16 @@
 -- The log of accepted edits: who edited which cells.
 use Rattle.std.specs.Prelude.{ℕ, Bool, ◌==◌, ◌&&◌, not, min, List, drop, filter, Option}
 use Rattle.std.specs.List.{list_any, flat_map, reduce}
-use Rattle.wi_values.specs.Address.{Area, is_within, cells_of}
+use Rattle.wi_values.specs.Address.{Area, is_within_one, cells_of}
 
 -- an edit: the index of its session in the order of making, and the rectangles that it named
 pub record Entry : Type 0 where
   pub session : ℕ
   pub cells : List Area
 
-abbrev pub have_cell : List Area → ℕ → Bool
-have_cell areas a = list_any (λ r. is_within r a) areas
-
 -- a is stale for a session that has seen so many entries: an edit of another session after them names it
 abbrev pub is_stale : List Entry → ℕ → ℕ → ℕ → Bool
-is_stale log session since a = list_any (λ e. not (e.session == session) && have_cell e.cells a) (drop since log)
+is_stale log session since a = list_any (λ e. not (e.session == session) && is_within_one e.cells a) (drop since log)
 
 -- the first of the rectangles' cells, in row-major order, that is stale
 abbrev pub first_stale : List Entry → ℕ → ℕ → List Area → Option ℕ

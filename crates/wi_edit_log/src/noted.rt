@@ -1,8 +1,7 @@
 //! Who edited a cell: one look tells whether others did.
 
 ghost use Rattle.std.specs.Prelude.{◌≡◌, ◌==◌, ◌&&◌, ◌<◌, ◌≤◌, ◌+◌, ℕ, List, [], OnOk, Some, drop, if◌then◌else◌, length, take};
-ghost use Rattle.wi_values.specs.Address.{is_within};
-ghost use Rattle.wi_edit_log.specs.EditLog.{have_cell};
+ghost use Rattle.wi_values.specs.Address.{is_within, is_within_one};
 ghost use Rattle.wi_edit_log.specs.Inner.Edits.{AreInRuns, is_wanted_of_others};
 ghost use Rattle.wi_edit_log.specs.Inner.First.{IsFirst};
 ghost use Rattle.wi_edit_log.specs.Inner.Narrow.{are_narrow};
@@ -205,7 +204,7 @@ fn note_area(notes: &mut Notes, area: Rect, session: u32, count: u32) -> Result<
 /// The same of each cell of some rectangles.
 fn note_areas(notes: &mut Notes, areas: &[Rect], session: u32, count: u32) -> Result<(), AllocError>
     ensures { OnOk result
-        (NotesMore (have_cell areas.now) session count notes.old.entries notes.new.entries) }
+        (NotesMore (is_within_one areas.now) session count notes.old.entries notes.new.entries) }
 {
     for area in areas {
         note_area(notes, *area, session, count)?;
@@ -215,7 +214,8 @@ fn note_areas(notes: &mut Notes, areas: &[Rect], session: u32, count: u32) -> Re
 
 /// The same of each cell that an edit of narrow rectangles named; of another it notes nothing.
 fn note_edit(notes: &mut Notes, edit: &Edit, count: u32) -> Result<(), AllocError>
-    ensures { OnOk result (NotesMore (λ a. are_narrow edit.now.named && have_cell edit.now.named a)
+    ensures { OnOk result (NotesMore
+        (λ a. are_narrow edit.now.named && is_within_one edit.now.named a)
         edit.now.session count notes.old.entries notes.new.entries) }
 {
     if edit.is_narrow() {

@@ -1,8 +1,7 @@
 //! Rectangles of which each lies below the one before, as an import names them.
 
 ghost use Rattle.std.specs.Prelude.{◌≡◌, ◌≤◌, ℕ, drop, length, true};
-ghost use Rattle.wi_values.specs.Address.{row_of};
-ghost use Rattle.wi_edit_log.specs.EditLog.{have_cell};
+ghost use Rattle.wi_values.specs.Address.{is_within_one, row_of};
 ghost use Rattle.wi_edit_log.specs.Inner.First.{IsFirst, in_one};
 ghost use Rattle.wi_edit_log.specs.Inner.Rising.{are_rising, begins_from};
 
@@ -35,7 +34,7 @@ fn count_above(areas: &[Rect], row: u32) -> usize
     requires { are_rising areas.now ≡ true }
     ensures within { result ≤ length areas.now }
     ensures rest { (a : ℕ) → row ≤ row_of a
-        → have_cell areas.now a ≡ have_cell (drop result areas.now) a }
+        → is_within_one areas.now a ≡ is_within_one (drop result areas.now) a }
 {
     areas.partition_point(|area| area.last().row() < row)
 }

@@ -1,5 +1,5 @@
 -- What is kept for longer where one question follows another over the same memory.
-use Rattle.wi_engine.proofs.Words.{◌≡◌, ◌≤◌, ◌+◌, ◌||◌, inl, inr, ℕ, Bool, true, false, not, cond, List, [], ◌∷◌, length, Option, Some, None, IfSome, Result, Ok, Err, OnOk, ◌⊎◌, refl, ap, sym, subst, arith, true≢false, IsDistinct-cons, Value, Replacement, Key, same_key, same_key_Decides, same_case, MemoState, HasKept, TakesPlaces, TakesNoMore, GivesUpWhenFull}
+use Rattle.wi_engine.proofs.Words.{◌≡◌, ◌≤◌, ◌+◌, ◌||◌, inl, inr, ℕ, Bool, true, false, not, cond, List, [], ◌∷◌, length, Option, Some, None, IfSome, Result, Ok, Err, OnOk, ◌⊎◌, refl, ap, sym, subst, arith, true≢false, IsDistinct-cons, Value, Replacement, Key, same_key, same_key_Decides, same_case, MemoState, HasFound, TakesPlaces, TakesNoMore, GivesUpWhenFull}
 use Rattle.std.specs.List.{IsDistinct}
 
 pub takes_then : (old mid new : MemoState) (a b c : ℕ) → TakesNoMore old mid a b → TakesNoMore mid new b c → b ≤ c → TakesNoMore old new a c
@@ -41,10 +41,10 @@ none_went old new a b k t l = at (old.stands k) (new.stands k) (t (k ∷ []) (on
 
 -- ---- what is so where a value was remembered, from what is so of each of its parts
 
-pub has_kept : {X E : Type 0} (r : Result X E) (old new : MemoState) (k : Key) → OnOk r ((c : ℕ) (w : List Replacement) → new.found c w ≡ (old.found c w || same_case (k.cell, k.world) (c, w))) → OnOk r (1 ≤ old.capacity → new.kept k.cell k.world ≡ true) →
-    OnOk r (1 ≤ old.room → (c : ℕ) (w : List Replacement) → new.kept c w ≡ (old.kept c w || same_case (k.cell, k.world) (c, w))) → OnOk r (old.kept k.cell k.world ≡ false → 1 ≤ old.room → new.room + 1 ≡ old.room) → OnOk r (HasKept old new k)
-has_kept (Ok x) old new k found there kept room = record { found = found; there = there; kept = kept; room = room }
-has_kept (Err x) old new k found there kept room = tt
+pub has_found : {X E : Type 0} (r : Result X E) (old new : MemoState) (k : Key) → OnOk r ((c : ℕ) (w : List Replacement) → new.found c w ≡ (old.found c w || same_case (k.cell, k.world) (c, w))) →
+    OnOk r (1 ≤ old.room → (c : ℕ) (w : List Replacement) → new.kept c w ≡ (old.kept c w || same_case (k.cell, k.world) (c, w))) → OnOk r (old.kept k.cell k.world ≡ false → 1 ≤ old.room → new.room + 1 ≡ old.room) → OnOk r (HasFound old new k)
+has_found (Ok x) old new k found kept room = record { found = found; kept = kept; room = room }
+has_found (Err x) old new k found kept room = tt
 
 -- under a key is then what was there before, or the value that came
 pub known_still : (old new : Option Value) (k q : Key) (v : Value) → new ≡ old → IfSome new (λ u. (old ≡ Some u) ⊎ ((q.cell ≡ k.cell) × (q.world ≡ k.world) × (u ≡ v)))

@@ -40,7 +40,7 @@ pub use Rattle.wi_engine.specs.Inner.Attempts.{IsAttemptOf}
 pub use Rattle.wi_engine.specs.Inner.Courses.{AreTogether, IsCourseTo, IsSmallestWith, is_next, part}
 pub use Rattle.wi_engine.specs.Inner.Findings.{AreAllRight, IsWithCell, IsWithWhatIf, found_value, found_what_ifs, what_if_found}
 pub use Rattle.wi_engine.specs.Inner.Frames.{AreBelow, AreLinked, AreReadHere, Awaits, BottomIs, IsAwaited, IsBegun, IsDemanded, IsFormulaKey, IsFrame, IsNext, IsNextFormula, IsStack, IsUnvalued, IsUnvaluedFormula, IsUnvaluedKey, IsWaitedFor, MayBeRead, StandsAt, at_most, case_at, content_reads_here, frame_cost, frames_cost, key_above, lacks, spare, taken, waits}
-pub use Rattle.wi_engine.specs.Inner.Keeps.{HasKept, Keeps}
+pub use Rattle.wi_engine.specs.Inner.Keeps.{HasFound, Keeps}
 pub use Rattle.wi_engine.specs.Inner.Lists.{first_for, first_of, pairs_of, same_pairs}
 pub use Rattle.wi_engine.specs.Inner.MemoState.{AreKnownRight, IsClosedUnderReads, IsMemoOf, IsTold, MemoState}
 pub use Rattle.wi_engine.specs.Inner.Remembered.{AreCones, OneQuestion, key_of, question_state, remembered}
@@ -59,8 +59,8 @@ pub use Rattle.wi_engine.specs.declared.frame.Frame.{Frame}
 pub use Rattle.wi_engine.specs.declared.frame.Unvalued.{Unvalued}
 pub use Rattle.wi_engine.specs.declared.frame.Waiting.{Waiting}
 pub use Rattle.wi_engine.specs.declared.frame.Waiting.TheVariants.{Cells, Nothing}
+pub use Rattle.wi_engine.specs.declared.known.Known.{Known}
 pub use Rattle.wi_engine.specs.declared.lists.FoundWhatIf.{FoundWhatIf}
-pub use Rattle.wi_engine.specs.declared.lookup.Known.{Known}
 pub use Rattle.wi_engine.specs.declared.seen.Seen.{Seen}
 pub use Rattle.wi_engine.specs.declared.walk.Progress.{Progress}
 pub use Rattle.wi_engine.specs.declared.walk.Progress.TheVariants.{Done, Open}
@@ -126,7 +126,7 @@ pub use Rattle.wi_values.proofs.Lists.{keeps_few}
 pub use Rattle.wi_values.proofs.Order.{Ascends, Ascends-from_order, ComeAfter, at_earlier, at_itself, at_same, come_after_earlier, is_at-eq, lookup_after, order-from_Ascends, turn_test}
 pub use Rattle.wi_values.proofs.Replacements.InOrder.{order_from_sorted, sorted_from_order}
 pub use Rattle.wi_values.proofs.Within.{column_within, places_left, within_between}
-pub use Rattle.wi_values.specs.Address.{Area, column_of, is_one_of, is_within, row_of, size_of}
+pub use Rattle.wi_values.specs.Address.{Area, column_of, is_one_of, is_within, is_within_one, row_of, size_of}
 pub use Rattle.wi_values.specs.Replacements.{IsInOrder, as_map, replaced, same_replacements}
 pub use Rattle.wi_values.specs.declared.replacement.Replacement.{Replacement}
 pub use Rattle.wi_values.specs.declared.value.Value.{Value}

@@ -11,13 +11,13 @@ ghost use Rattle.wi_engine.specs.Inner.Attempts.{IsAttemptOf};
 ghost use Rattle.wi_engine.specs.Inner.Frames.{StandsAt};
 
 use crate::frame::Frame;
-use crate::lookup::Known;
+use crate::known::Known;
 use std::alloc::{AllocError, Global};
 use wi_functions::{Meter, Outcome, evaluate};
 use wi_store::Store;
 
-/// The value of a frame's formula, where what is known suffices, or what is lacking. Either is counted; want of
-/// memory counts nothing. The work is one walk over the formula's tree, in which each cell costs the logarithms of the
+/// The value of a frame's formula, where what is known suffices, or what is lacking. Either is counted; where memory
+/// runs out nothing is. The work is one walk over the formula's tree, in which each cell costs the logarithms of the
 /// counts of replacements, of occupied cells and of cells found, and each what-if a look through those found.
 pub(crate) fn attempt(
     alloc: Global,

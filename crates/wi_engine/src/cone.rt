@@ -6,7 +6,7 @@ ghost use Rattle.std.specs.BTreeSet.{contains};
 ghost use Rattle.std.specs.List.{list_any};
 ghost use Rattle.std.specs.Map.{keys_of};
 ghost use Rattle.std.specs.Ordering.{nat_cmp};
-ghost use Rattle.wi_values.specs.Address.{is_one_of, is_within};
+ghost use Rattle.wi_values.specs.Address.{is_one_of, is_within, is_within_one};
 ghost use Rattle.wi_parser.specs.Sheet.{content_of};
 ghost use Rattle.wi_parser.specs.Reads.{content_reads};
 ghost use Rattle.wi_graph.specs.Reach.{reaches};
@@ -109,7 +109,7 @@ fn steps_into(store: &Store, cell: Address, at: Address, cone: &BTreeSet<Address
 
 /// Whether a cell is in one of these rectangles.
 fn is_in_one(at: Address, rectangles: &[Rect]) -> bool
-    ensures { result ≡ list_any (λ r. is_within r at) rectangles.now }
+    ensures { result ≡ is_within_one rectangles.now at }
 {
     rectangles.iter().any(|rectangle| rectangle.contains(at))
 }

@@ -1,6 +1,6 @@
 //! What is remembered of values.
 
-ghost use Rattle.std.specs.Prelude.{◌≡◌, ℕ, true, false, List, None, IfOk, OnOk};
+ghost use Rattle.std.specs.Prelude.{◌≡◌, ◌≤◌, ℕ, true, false, List, None, IfOk, OnOk};
 ghost use Rattle.std.specs.Option.{option_copied};
 ghost use Rattle.wi_values.specs.declared.replacement.Replacement.{Replacement as Replacements};
 ghost use Rattle.wi_parser.specs.Sheet.{put_all};
@@ -8,7 +8,7 @@ ghost use Rattle.wi_graph.specs.Circular.{circular};
 ghost use Rattle.wi_sheet.specs.CellValue.{cell_value};
 ghost use Rattle.wi_sheet.specs.Demand.{reaching};
 ghost use Rattle.wi_engine.specs.Inner.MemoState.{MemoState};
-ghost use Rattle.wi_engine.specs.Inner.Keeps.{Keeps, HasKept};
+ghost use Rattle.wi_engine.specs.Inner.Keeps.{Keeps, HasFound};
 
 use std::alloc::AllocError;
 use wi_cache::Key;
@@ -38,15 +38,29 @@ pub trait Memo {
         ensures unkept { result ≡ None
             → (state self.now).kept key.now.cell key.now.world ≡ false };
 
-    /// Remembers a value for a key, which is found from then on. Where the capacity allows any, it is also kept for longer, and
-    /// another that was kept may be evicted for it; of those found none is forgotten. If memory runs out, the value may be
-    /// remembered or not.
+    /// Remembers a value for a key, which is found from then on, and keeps it for longer where the capacity allows any. Another that was
+    /// kept may be evicted for it; of those found none is forgotten. If memory runs out, the value may be remembered or not.
     fn keep(&mut self, key: Key, value: Value) -> Result<(), AllocError>
         requires generation { key.generation ≡ (state self.old).generation key.cell }
         requires open_cell { circular (state self.old).sheet key.cell ≡ false }
         requires right { value ≡ cell_value (put_all (state self.old).sheet key.world) key.cell }
         ensures keeps { Keeps (state self.old) (state self.new) key value }
-        ensures kept { OnOk result (HasKept (state self.old) (state self.new) key) }
+        ensures found { OnOk result (HasFound (state self.old) (state self.new) key) }
+        ensures there { OnOk result (1 ≤ (state self.old).capacity
+            → (state self.new).kept key.cell key.world ≡ true) }
         ensures stays { (c : ℕ) (w : List Replacements) → (state self.old).found c w ≡ true
             → (state self.new).found c w ≡ true };
+
+    /// As `keep`, but where no place is free it may be remembered for this question alone, so that none that is kept is evicted for it.
+    fn remember(&mut self, key: Key, value: Value) -> Result<(), AllocError>
+        requires generation { key.generation ≡ (state self.old).generation key.cell }
+        requires open_cell { circular (state self.old).sheet key.cell ≡ false }
+        requires right { value ≡ cell_value (put_all (state self.old).sheet key.world) key.cell }
+        ensures keeps { Keeps (state self.old) (state self.new) key value }
+        ensures found { OnOk result (HasFound (state self.old) (state self.new) key) }
+        ensures stays { (c : ℕ) (w : List Replacements) → (state self.old).found c w ≡ true
+            → (state self.new).found c w ≡ true }
+    {
+        self.keep(key, value)
+    }
 }

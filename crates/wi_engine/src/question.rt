@@ -71,7 +71,7 @@ impl<M: Memo + Drop> Question<M> {
     }
 
     /// The value of a formula under the replacements of its key, found by a stack of frames. The value of each frame goes to
-    /// the one below, which may wait for it, and then to the memory, by `Memo::keep`.
+    /// the one below, which may wait for it, and then to the memory, by `Memo::remember`; that of the last is kept.
     fn run(&mut self, store: &Store, key: Key, formula: &Formula) -> Result<Value, AllocError>
         requires memo { IsMemoOf store.now.sheet (M.state self.old.memo) }
         requires key { IsUnvaluedKey store.now.sheet (M.state self.old.memo) key }
@@ -113,7 +113,7 @@ impl<M: Memo + Drop> Question<M> {
                     Some(below) => {
                         let key = mem::replace(&mut frame, below).retire(&mut self.pool);
                         take_in(&mut self.pool, store, &mut frame, &key, &value)?;
-                        self.memo.keep(key, value)?;
+                        self.memo.remember(key, value)?;
                     }
                 },
             }

@@ -6,8 +6,7 @@
 //! follows, in its row, its column or the whole rectangle, twice as many are found each time, if there are so many.
 
 ghost use Rattle.std.specs.Prelude.{◌≡◌, ℕ, true, nat_lt, if◌then◌else◌, IfOk, IfSome};
-ghost use Rattle.std.specs.List.{list_any};
-ghost use Rattle.wi_values.specs.Address.{is_one_of, is_within, size_of};
+ghost use Rattle.wi_values.specs.Address.{is_one_of, is_within_one, size_of};
 ghost use Rattle.wi_parser.specs.Sheet.{content_of, has_formula};
 ghost use Rattle.wi_sheet.specs.Demand.{reads_here};
 ghost use Rattle.wi_engine.specs.Inner.Courses.{AreTogether, IsCourseTo, IsSmallestWith, is_next};
@@ -110,7 +109,7 @@ fn is_next(store: &Store, frame: &Frame, course: &Course, way: Way, at: Address)
 /// The one of rectangles that holds a cell and has the fewest cells, the first where more have as few. The work grows
 /// with their count.
 pub(crate) fn smallest_with(rectangles: &[Rect], at: Address) -> Rect
-    requires { list_any (λ r. is_within r at) rectangles.now ≡ true }
+    requires { is_within_one rectangles.now at ≡ true }
     ensures { IsSmallestWith rectangles.now at result }
 {
     let mut smallest = None;

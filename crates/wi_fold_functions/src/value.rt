@@ -21,8 +21,8 @@ pub fn value_of_fold<L: Lookup>(
     arguments: &[Argument],
     lookup: &L,
 ) -> Result<Value, Address>
-    ensures done { IfOk result (IsOfArguments
-        (L.known_cell lookup.now) (applied_to_arguments (References (Fold function))) arguments.now) }
+    ensures done { IfOk result (IsOfArguments (L.known_cell lookup.now)
+        (applied_to_arguments (References (Fold function))) arguments.now) }
     ensures missing { IfErr result (IsMissing (L.known_cell lookup.now) arguments.now) }
 {
     match function {

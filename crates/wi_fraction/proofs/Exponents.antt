@@ -28,9 +28,6 @@ one_lowest k = gcd_comm 1 k ∙ gcd-one k
 pub zero_of : (d : ℕ) → 0 < d → number_of (pos 0) d ≡ number_of (pos 0) 1
 zero_of d h = rw (zero-mul d, one-mul d) at (number_of-multiplied false 0 1 d h)
 
-pub bounded-zero : (k : ℕ) → Some 0 ≡ bounded (0 * k)
-bounded-zero k = rw (zero-mul k) refl
-
 at_least : (n k : ℕ) → 0 < n → k ≤ n * k
 at_least n k h = let least : 1 * k ≤ n * k = mul-le-mul_right k h in omega (arith, least)
 

@@ -44,9 +44,6 @@ odd_sign : (n : ℤ) (k : ℕ) → int_pow n k ≡ signed (int_lt n (pos 0) && (
 odd_sign (pos a) k = let e : nat_lt a 0 ≡ false = grind (arith, nat_tests) in ap (λ b. signed b (a ^ k)) (sym (ap (λ b. b && (k % 2 == 1)) e))
 odd_sign (negsuc a) k = grind (arith, nat_tests)
 
-pub power_up : (x : Number) (k : ℕ) → number_of (signed (int_lt x.num (pos 0) && (k % 2 == 1)) (unsigned_abs x.num ^ k)) (x.den ^ k) ≡ power_of x (pos k)
-power_up x k = ap (λ n. number_of n (x.den ^ k)) (sym (odd_sign x.num k))
-
 fraction_signed : (s : Bool) (n d : ℕ) → 0 < d → fraction_of (pos n) (signed s d) ≡ number_of (signed s n) d
 fraction_signed s n zero h = absurd (omega (arith, h))
 fraction_signed true n (suc d) h = refl

@@ -1,5 +1,5 @@
 -- Reading digit by digit: a whole number from the first, a decimal from the last.
-use Rattle.wi_fraction.proofs.Vocabulary.{◌≡◌, ℕ, zero, suc, ◌+◌, ◌-◌, ◌*◌, ◌<◌, ◌≤◌, pos, unsigned_abs, Bool, false, ◌⊎◌, List, [], ◌∷◌, length, drop, take, Option, Some, None, refl, ap, append-nil, pow-zero, digit_value, AllDigits, digits_value, ◌∙◌, sym, inl, inr, arith, get_or, drop-cons, nat_tests, mul-le-mul_left, digits_value_more, digits_value-take-le, Number, number_at, number_of, signed, max_size, bounded, decimal_value, read_quotient, gcd}
+use Rattle.wi_fraction.proofs.Vocabulary.{◌≡◌, ℕ, zero, suc, ◌+◌, ◌-◌, ◌*◌, ◌<◌, ◌≤◌, pos, unsigned_abs, Bool, false, List, [], ◌∷◌, length, drop, take, Option, Some, None, refl, ap, append-nil, pow-zero, digit_value, AllDigits, digits_value, ◌∙◌, sym, inl, arith, get_or, drop-cons, nat_tests, mul-le-mul_left, digits_value_more, digits_value-take-le, Number, number_at, number_of, signed, max_size, bounded, decimal_value, gcd}
 use Rattle.wi_fraction.proofs.Steps.{bounded-some, bounded-none}
 use Rattle.wi_fraction.proofs.Fineness.{tail_more, tail_below_one, tail_from_none, tail_whole, fine_drop, none_from_tail, gcd_shifted}
 use Rattle.wi_fraction.proofs.Numbers.{number_of-lowest, number_of-whole, number_at-too_large}
@@ -86,7 +86,3 @@ whole_part_none s whole ds x e h =
 
 pub part_none_whole : (s : Bool) (whole ds : List ℕ) → AllDigits 10 ds → None ≡ decimal_value false [] ds → None ≡ decimal_value s whole ds
 part_none_whole s whole ds all e = none_from_tail s whole ds (tail_from_none ds all e)
-
-pub quotient_none : (s : Bool) (n d : ℕ) → (max_size < n) ⊎ (max_size < d) → None ≡ read_quotient s n d
-quotient_none s n d (inl h) = grind (arith, nat_tests)
-quotient_none s n d (inr h) = grind (arith, nat_tests)

@@ -36,7 +36,7 @@ right_asks op t u w a = any_right (λ l. LeafAsks l w) (leaves t) (leaves u) a
 
 -- ---- how an evaluation stops
 
--- for want of memory it stops at no want
+-- where memory runs out it stops at nothing that it asks for
 pub memory_wants : (P : Want → Type 0) (s : Stop Want) → s ≡ Memory → IfMissing s P
 memory_wants P s h = subst (λ (x : Stop Want). IfMissing x P) (sym h) tt
 

@@ -53,7 +53,7 @@ fn stopped(stop: Stop<Address>) -> Stop<Want>
 
 /// A formula's value, in which Empty becomes 0, or what is missing for it. The first is counted as
 /// an evaluation, the second as a restart. Memory is needed for the texts that are copied and
-/// joined, and for what is missing; want of it counts nothing.
+/// joined, and for what is missing; where memory runs out nothing is counted.
 pub fn evaluate<L: Lookup>(
     alloc: Global,
     formula: &Formula,

@@ -10,7 +10,7 @@ use wi_value_functions::{Function, function_for};
 use wi_values::{Address, Text};
 
 /// A cell whose value each evaluation of the formula asks for, where one is easily seen: the first
-/// of these in the order of evaluation. `None` says nothing. The work is at most one walk over the
+/// of these in the order of evaluation. `None` says nothing. At most linear in the size of the
 /// tree, and mostly a step or two.
 pub fn first_cell(formula: &Formula) -> Option<Address>
     ensures { IfSome result (λ a. TreeAsks formula.now (wanted.Cell a)) }

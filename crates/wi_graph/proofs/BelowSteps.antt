@@ -1,5 +1,5 @@
 -- Steps of a search among what a cell reads.
-use Rattle.wi_graph.proofs.Words.{◌≡◌, ◌==◌, ◌&&◌, ◌||◌, ◌⊎◌, inl, inr, ℕ, ◌+◌, ◌<◌, ◌≤◌, Bool, true, false, cond, filter, nat_le, List, [], ◌∷◌, ◌++◌, take, get_or, length, Option, Some, None, is_some, IfSome, refl, ap, sym, ◌∙◌, subst, arith, or-false, or_assoc, or_cases, or_left, or_right, and_parts, and_from, cases_lt, false_from_ne_true, le-leb, leb-true, list_any-append, sorted_head, sorted_tail, find, AllByRecursion, IsStrictlySortedBy, keys_of, lookup, nat_cmp, Less, is_at, insert_entry, Area, is_within, found-insert, below_from_Less, within_between, taken_more, CellEntries, get, IsOrdered, is_one_of, Rooms, in_room, room_at, areas_of, is_in, IsFoundBy, is_ahead, has_seen, HasAreas, HasRest, IsLookedAt, IsSearchingBelow, ReachesNot}
+use Rattle.wi_graph.proofs.Words.{◌≡◌, ◌==◌, ◌&&◌, ◌||◌, ◌⊎◌, inl, inr, ℕ, ◌+◌, ◌<◌, ◌≤◌, Bool, true, false, cond, filter, nat_le, List, [], ◌∷◌, ◌++◌, take, get_or, length, Option, Some, None, is_some, refl, ap, sym, ◌∙◌, subst, arith, or-false, or_assoc, or_cases, or_left, or_right, and_parts, and_from, cases_lt, false_from_ne_true, le-leb, leb-true, list_any-append, sorted_head, sorted_tail, find, AllByRecursion, IsStrictlySortedBy, keys_of, lookup, nat_cmp, Less, is_at, insert_entry, Area, is_within, found-insert, below_from_Less, within_between, taken_more, CellEntries, get, IsOrdered, is_one_of, Rooms, in_room, room_at, areas_of, is_within_one, is_ahead, has_seen, HasAreas, HasRest, IsLookedAt, IsSearchingBelow, ReachesNot}
 use Rattle.std.proofs.lemmas.List.{take_all}
 use Rattle.wi_graph.proofs.Tests.{is_itself, turn_test, clash}
 use Rattle.wi_graph.proofs.Walks.{same_cell}
@@ -70,37 +70,6 @@ pub ahead_last : (ahead : List (Area × ℕ)) (area : Area) (from d : ℕ) → i
 ahead_last ahead area from d =
     list_any-append (λ (t : Area × ℕ). is_within t.0 d && nat_le t.1 d) ahead ((area, from) ∷ []) ∙ ap (λ (b : Bool). is_ahead ahead d || b) (or-false (is_within area d && nat_le from d))
 
--- what comes after a cell
-pub rest_more : (area : Area) (read on : ℕ) (o : Option ℕ) (old new : List (Area × ℕ)) → o ≡ Some on → IfSome o (λ a. (read < a) × (a ≤ area.last)) → ((a : ℕ) → is_within area a ≡ true → read < a → IsFoundBy o a) → new ≡ old ++ (area, on) ∷ [] →
-    HasRest area read old new
-rest_more area read on None old new k h f e = cc
-rest_more area read on (Some x) old new k h f e = record {
-  stays = λ d i. last d ∙ or_left (is_ahead old d) _ i;
-  rest = λ d w l. last d ∙ or_right (is_ahead old d) _ (and_from (is_within area d) (nat_le on d) w (le-leb on d (subst (λ (y : ℕ). y ≤ d) z (f d w l))));
-  within = λ d i. at d (or_cases (is_ahead old d) _ (sym (last d) ∙ i));
-}
-  where
-    z : x ≡ on
-    z = cc
-
-    last : (d : ℕ) → is_ahead new d ≡ (is_ahead old d || (is_within area d && nat_le on d))
-    last d = ap (λ (xs : List (Area × ℕ)). is_ahead xs d) e ∙ ahead_last old area on d
-
-    at : (d : ℕ) → (is_ahead old d ≡ true) ⊎ ((is_within area d && nat_le on d) ≡ true) → (is_ahead old d ≡ true) ⊎ ((is_within area d ≡ true) × (read < d))
-    at d (inl i) = inl i
-    at d (inr i) =
-        let p = and_parts (is_within area d) (nat_le on d) i in
-        let l = leb-true on d p.1 in
-        inr (p.0, omega (arith, z, h.0, l))
-
-pub rest_over : (area : Area) (read : ℕ) (o : Option ℕ) (old : List (Area × ℕ)) → o ≡ None → ((a : ℕ) → is_within area a ≡ true → read < a → IsFoundBy o a) → HasRest area read old old
-rest_over area read None old k f = record {
-  stays = λ d i. i;
-  rest = λ d w l. absurd (f d w l);
-  within = λ d i. inl i;
-}
-rest_over area read (Some x) old k f = cc
-
 -- rectangles one after another
 pub no_areas : (cell : ℕ) (ahead : List (Area × ℕ)) → HasAreas cell [] ahead ahead
 no_areas cell ahead = record {
@@ -118,13 +87,13 @@ areas_more cell areas i r b old mid new l e w n k a = record {
   more = λ d.
       ap (λ (xs : List (Area × ℕ)). is_ahead xs d) k ∙ ahead_last mid r r.first d
       ∙ ap (λ (x : Bool). is_ahead mid d || x) (own_first r d (is_within r d) refl ∙ sym (or-false (is_within r d)))
-      ∙ ap (λ (x : Bool). x || (is_within r d || false)) (a.more d) ∙ or_assoc (is_ahead old d) (is_in (take i areas) d) (is_within r d || false)
+      ∙ ap (λ (x : Bool). x || (is_within r d || false)) (a.more d) ∙ or_assoc (is_ahead old d) (is_within_one (take i areas) d) (is_within r d || false)
       ∙ ap (λ (x : Bool). is_ahead old d || x) (sym (in_taken d));
   apart = in_taken cell ∙ ap (λ (x : Bool). x || (is_within r cell || false)) a.apart ∙ ap (λ (x : Bool). x || false) (sym w ∙ n);
 }
   where
-    in_taken : (d : ℕ) → is_in (take (i + 1) areas) d ≡ (is_in (take i areas) d || (is_within r d || false))
-    in_taken d = ap (λ (xs : List Area). is_in xs d) (taken_more areas i r l e) ∙ list_any-append (λ (q : Area). is_within q d) (take i areas) (r ∷ [])
+    in_taken : (d : ℕ) → is_within_one (take (i + 1) areas) d ≡ (is_within_one (take i areas) d || (is_within r d || false))
+    in_taken d = ap (λ (xs : List Area). is_within_one xs d) (taken_more areas i r l e) ∙ list_any-append (λ (q : Area). is_within q d) (take i areas) (r ∷ [])
 
 pub all_areas : (cell : ℕ) (areas : List Area) (i : ℕ) (old new : List (Area × ℕ)) → length areas ≤ i → HasAreas cell (take i areas) old new → HasAreas cell areas old new
 all_areas cell areas i old new l a = subst (λ (xs : List Area). HasAreas cell xs old new) (take_all i areas l) a
@@ -133,7 +102,7 @@ all_areas cell areas i old new l a = subst (λ (xs : List Area). HasAreas cell x
 
 goes_on : (rooms : Rooms) (cell : ℕ) (areas : List Area) (seen more : ℕ → Bool) (before after : List (Area × ℕ)) → IsSearchingBelow rooms cell areas seen before → ((d : ℕ) → seen d ≡ true → more d ≡ true) →
     ((d : ℕ) → is_ahead before d ≡ true → (room_at rooms d ≡ None) ⊎ ((more d ≡ true) ⊎ (is_ahead after d ≡ true))) →
-    ((e : ℕ) → more e ≡ true → (seen e ≡ true) ⊎ ((is_ahead before e ≡ true) × ((d : ℕ) → is_in (areas_of (room_at rooms e)) d ≡ true → ((cell == d) ≡ false) × (is_ahead after d ≡ true)))) →
+    ((e : ℕ) → more e ≡ true → (seen e ≡ true) ⊎ ((is_ahead before e ≡ true) × ((d : ℕ) → is_within_one (areas_of (room_at rooms e)) d ≡ true → ((cell == d) ≡ false) × (is_ahead after d ≡ true)))) →
     ((d : ℕ) → is_ahead after d ≡ true → (cell == d) ≡ false) → IsSearchingBelow rooms cell areas more after
 goes_on rooms cell areas seen more before after s stays known fresh apart = record {
   first = λ d i. looked d (s.first d i);
@@ -150,11 +119,11 @@ goes_on rooms cell areas seen more before after s stays known fresh apart = reco
     looked : (d : ℕ) → IsLookedAt rooms cell seen before d → IsLookedAt rooms cell more after d
     looked d k = (k.0, at d k.1)
 
-    read : (e d : ℕ) → is_in (areas_of (room_at rooms e)) d ≡ true → (seen e ≡ true) ⊎ ((is_ahead before e ≡ true) × ((x : ℕ) → is_in (areas_of (room_at rooms e)) x ≡ true → ((cell == x) ≡ false) × (is_ahead after x ≡ true))) → IsLookedAt rooms cell more after d
+    read : (e d : ℕ) → is_within_one (areas_of (room_at rooms e)) d ≡ true → (seen e ≡ true) ⊎ ((is_ahead before e ≡ true) × ((x : ℕ) → is_within_one (areas_of (room_at rooms e)) x ≡ true → ((cell == x) ≡ false) × (is_ahead after x ≡ true))) → IsLookedAt rooms cell more after d
     read e d j (inl i) = looked d (s.reads e d i j)
     read e d j (inr k) = let x = k.1 d j in (x.0, inr (inr x.1))
 
-    other : (e : ℕ) → (seen e ≡ true) ⊎ ((is_ahead before e ≡ true) × ((x : ℕ) → is_in (areas_of (room_at rooms e)) x ≡ true → ((cell == x) ≡ false) × (is_ahead after x ≡ true))) → (cell == e) ≡ false
+    other : (e : ℕ) → (seen e ≡ true) ⊎ ((is_ahead before e ≡ true) × ((x : ℕ) → is_within_one (areas_of (room_at rooms e)) x ≡ true → ((cell == x) ≡ false) × (is_ahead after x ≡ true))) → (cell == e) ≡ false
     other e (inl i) = s.apart e i
     other e (inr k) = s.apart_ahead e k.0
 
@@ -231,20 +200,20 @@ below_new rooms cell areas seen more ahead mid after area from read o f r a g s 
     first : (is_within area read ≡ true) × (nat_le from read ≡ true)
     first = find_first (λ a. nat_le from a) (is_within area) (keys_of rooms.entries) read f
 
-    not_it : (d : ℕ) → is_in (areas_of (room_at rooms read)) d ≡ true → (cell == d) ≡ false
-    not_it d i = false_from_ne_true (cell == d) (λ e. clash (is_in (areas_of (room_at rooms read)) cell) (ap (is_in (areas_of (room_at rooms read))) (same_cell d cell e) ∙ i) a.apart)
+    not_it : (d : ℕ) → is_within_one (areas_of (room_at rooms read)) d ≡ true → (cell == d) ≡ false
+    not_it d i = false_from_ne_true (cell == d) (λ e. clash (is_within_one (areas_of (room_at rooms read)) cell) (ap (is_within_one (areas_of (room_at rooms read))) (same_cell d cell e) ∙ i) a.apart)
 
     here : is_ahead (ahead ++ (area, from) ∷ []) read ≡ true
     here = ahead_last ahead area from read ∙ or_right (is_ahead ahead read) _ (and_from (is_within area read) (nat_le from read) first.0 first.1)
 
-    given : (d : ℕ) → is_in (areas_of (room_at rooms read)) d ≡ true → ((cell == d) ≡ false) × (is_ahead after d ≡ true)
+    given : (d : ℕ) → is_within_one (areas_of (room_at rooms read)) d ≡ true → ((cell == d) ≡ false) × (is_ahead after d ≡ true)
     given d j = (not_it d j, a.more d ∙ or_right (is_ahead mid d) _ j)
 
-    fresh : (e : ℕ) → (read ≡ e) ⊎ (seen e ≡ true) → (seen e ≡ true) ⊎ ((is_ahead (ahead ++ (area, from) ∷ []) e ≡ true) × ((d : ℕ) → is_in (areas_of (room_at rooms e)) d ≡ true → ((cell == d) ≡ false) × (is_ahead after d ≡ true)))
-    fresh e (inl k) = inr (subst (λ (x : ℕ). is_ahead (ahead ++ (area, from) ∷ []) x ≡ true) k here, λ d j. given d (subst (λ (x : ℕ). is_in (areas_of (room_at rooms x)) d ≡ true) (sym k) j))
+    fresh : (e : ℕ) → (read ≡ e) ⊎ (seen e ≡ true) → (seen e ≡ true) ⊎ ((is_ahead (ahead ++ (area, from) ∷ []) e ≡ true) × ((d : ℕ) → is_within_one (areas_of (room_at rooms e)) d ≡ true → ((cell == d) ≡ false) × (is_ahead after d ≡ true)))
+    fresh e (inl k) = inr (subst (λ (x : ℕ). is_ahead (ahead ++ (area, from) ∷ []) x ≡ true) k here, λ d j. given d (subst (λ (x : ℕ). is_within_one (areas_of (room_at rooms x)) d ≡ true) (sym k) j))
     fresh e (inr k) = inl k
 
-    apart : (d : ℕ) → (is_ahead mid d ≡ true) ⊎ (is_in (areas_of (room_at rooms read)) d ≡ true) → (cell == d) ≡ false
+    apart : (d : ℕ) → (is_ahead mid d ≡ true) ⊎ (is_within_one (areas_of (room_at rooms read)) d ≡ true) → (cell == d) ≡ false
     apart d (inl j) = read_apart rooms cell areas seen ahead mid area from read first.1 r s d j
     apart d (inr j) = not_it d j
 
@@ -278,8 +247,8 @@ below_start rooms cell areas seen ahead e a = record {
   apart_ahead = λ d i. not_it d (sym (a.more d) ∙ i);
 }
   where
-    not_it : (d : ℕ) → is_in areas d ≡ true → (cell == d) ≡ false
-    not_it d i = false_from_ne_true (cell == d) (λ k. clash (is_in areas cell) (ap (is_in areas) (same_cell d cell k) ∙ i) a.apart)
+    not_it : (d : ℕ) → is_within_one areas d ≡ true → (cell == d) ≡ false
+    not_it d i = false_from_ne_true (cell == d) (λ k. clash (is_within_one areas cell) (ap (is_within_one areas) (same_cell d cell k) ∙ i) a.apart)
 
 pub below_end : (rooms : Rooms) (cell : ℕ) (areas : List Area) (seen : ℕ → Bool) (ahead : List (Area × ℕ)) → ahead ≡ [] → IsSearchingBelow rooms cell areas seen ahead → ReachesNot rooms cell areas
 below_end rooms cell areas seen ahead e s = (seen, subst (IsSearchingBelow rooms cell areas seen) e s)

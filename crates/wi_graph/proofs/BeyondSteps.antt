@@ -1,9 +1,9 @@
 -- Steps of a search over readers that stops at watched cells.
-use Rattle.wi_graph.proofs.Words.{◌≡◌, ◌==◌, ◌&&◌, ◌||◌, ◌⊎◌, inl, inr, not, ℕ, ◌+◌, ◌<◌, ◌↔◌, Bool, true, false, cond, List, [], ◌∷◌, ◌++◌, length, take, get_or, ap, sym, ◌∙◌, subst, arith, or_cases, or_left, or_right, and_parts, and_from, cases_Bool, not-true, not_from_false, false_from_ne_true, length-append, any-filter_same, filter-append, list_any, Contains, nat_cmp, is_at, BTreeSet, contains, IsStrictlyIncreasing, one_truth, Sheet, content_of, content_reads, Bag, IsReader, IsRead, taken_more, is_one_of, in_cone, IsClosedUp, IsUnread, AreEdgesOf, Rooms, edges_in, IsGraph, HasAll, GoesToReaders, IsLeast, IsConeBeyond, IsListBeyond, beyond, as_set, missing, AreNoted, has_key, has-from_Contains, Contains-from_has}
+use Rattle.wi_graph.proofs.Words.{◌≡◌, ◌==◌, ◌&&◌, ◌||◌, ◌⊎◌, inl, inr, not, ℕ, ◌+◌, ◌<◌, ◌↔◌, Bool, true, false, List, [], ◌∷◌, ◌++◌, length, take, get_or, ap, sym, ◌∙◌, subst, arith, or_cases, or_left, or_right, and_parts, and_from, cases_Bool, not-true, not_from_false, false_from_ne_true, length-append, any-filter_same, filter-append, list_any, Contains, nat_cmp, is_at, BTreeSet, contains, IsStrictlyIncreasing, one_truth, Sheet, content_of, content_reads, Bag, IsReader, IsRead, taken_more, is_one_of, in_cone, IsClosedUp, IsUnread, AreEdgesOf, Rooms, edges_in, IsGraph, HasAll, GoesToReaders, IsLeast, IsConeBeyond, IsListBeyond, beyond, as_set, missing, AreNoted, has_key, has-from_Contains, Contains-from_has}
 use Rattle.wi_graph.proofs.Tests.{is_itself, clash}
 use Rattle.wi_graph.proofs.Walks.{same_cell}
 use Rattle.wi_graph.proofs.SetSteps.{in_last, in_front, in_back}
-use Rattle.wi_graph.proofs.SearchSteps.{AreReaders, all_readers, readers_there, noted_none, noted_both}
+use Rattle.wi_graph.proofs.SearchSteps.{AreReaders, all_readers, readers_there, noted_both}
 use Rattle.wi_graph.proofs.Cones.{cone_has, cone_closed, cone_least}
 use Rattle.wi_graph.proofs.GraphSteps.{graph_readers}
 
@@ -25,14 +25,6 @@ pub beyond_more : (w : ℕ → Bool) (cells : List ℕ) (i x : ℕ) (old mid new
     AreNoted (beyond w (take (i + 1) cells)) old new before more
 beyond_more w cells i x old mid new before work more l e m n =
     subst (λ (xs : List ℕ). AreNoted xs old new before more) (sym (ap (beyond w) (taken_more cells i x l e) ∙ filter-append (λ c. not (w c)) (take i cells) (x ∷ []))) (noted_both (beyond w (take i cells)) (beyond w (x ∷ [])) old mid new before work more m n)
-
--- one that is watched
-pub beyond_watched : (w : ℕ → Bool) (x : ℕ) (b : Bool) (old : BTreeSet ℕ) (work : List ℕ) → b ≡ w x → b ≡ true → AreNoted (beyond w (x ∷ [])) old old work work
-beyond_watched w x b old work e h = subst (λ (xs : List ℕ). AreNoted xs old old work work) (sym (ap (λ (d : Bool). cond (not d) (x ∷ []) []) (sym e ∙ h))) (noted_none old work)
-
--- one that isn't
-pub beyond_unwatched : (w : ℕ → Bool) (x : ℕ) (b : Bool) → b ≡ w x → b ≡ false → x ∷ [] ≡ beyond w (x ∷ [])
-beyond_unwatched w x b e h = sym (ap (λ (d : Bool). cond (not d) (x ∷ []) []) (sym e ∙ h))
 
 -- ---- the search
 

@@ -1,5 +1,5 @@
 -- Edits that close no cycle.
-use Rattle.wi_graph.proofs.Words.{◌≡◌, ◌==◌, ◌&&◌, ◌||◌, ◌⊎◌, inl, inr, ℕ, Bool, true, false, cond, filter, nat_le, get_or, length, arith, List, [], ◌∷◌, Option, Some, None, IfSome, is_some, refl, ap, sym, ◌∙◌, subst, or_cases, or_left, or_right, or_parts, or-false, and_parts, and_from, false_from_ne_true, le-leb, nil_from_length, list_any, find, keys_of, lookup, nat_cmp, is_at, BTreeSet, btree_set_len, contains, SmallVec, one_truth, Area, is_within, within_between, Content, Sheet, content_of, content_reads, circular, is_one_of, areas_in, Turns, areas_then, Brings, IsEditCone, Rooms, Coming, brought_to, in_room, items_of, room_at, put_over, room_over, areas_of, AreCircles, is_in, reads_cell, has_one, reads_one_of, meets_one_of, has_room_in, StandsApart, AreTurns, as_set, is_ahead, IsLookedAt, ReachesNot, ReadsApart, IsAhead, IsFoundBy, has_key}
+use Rattle.wi_graph.proofs.Words.{◌≡◌, ◌==◌, ◌&&◌, ◌||◌, ◌⊎◌, inl, inr, ℕ, Bool, true, false, cond, filter, nat_le, get_or, length, arith, List, [], ◌∷◌, Option, Some, None, IfSome, is_some, refl, ap, sym, ◌∙◌, subst, or_cases, or_left, or_right, or_parts, or-false, and_parts, and_from, false_from_ne_true, le-leb, nil_from_length, list_any, find, keys_of, lookup, nat_cmp, is_at, BTreeSet, btree_set_len, contains, SmallVec, one_truth, Area, is_within, within_between, Content, Sheet, content_of, content_reads, circular, is_one_of, areas_in, Turns, areas_then, Brings, IsEditCone, Rooms, Coming, brought_to, in_room, items_of, room_at, put_over, room_over, areas_of, AreCircles, is_within_one, reads_cell, has_one, reads_one_of, meets_one_of, has_room_in, StandsApart, AreTurns, as_set, is_ahead, IsLookedAt, ReachesNot, ReadsApart, IsAhead, IsFoundBy, has_key}
 use Rattle.wi_graph.proofs.Tests.{is_at-eq, turn_test, is_itself, clash}
 use Rattle.wi_graph.proofs.Walks.{found, same_cell}
 use Rattle.wi_graph.proofs.Graphs.{left_circular}
@@ -28,9 +28,9 @@ has_one_is cells r (Some d) f n = sym (found (is_within r) cells.keys d (sym (ha
 
 -- ---- where the cone is one cell
 
-lone_area : (rs : List Area) (c : ℕ) → is_in rs c ≡ list_any (has_one (as_set (c ∷ []))) rs
+lone_area : (rs : List Area) (c : ℕ) → is_within_one rs c ≡ list_any (has_one (as_set (c ∷ []))) rs
 lone_area [] c = refl
-lone_area (r ∷ rs) c = ap (λ (b : Bool). b || is_in rs c) (sym (or-false (is_within r c))) ∙ ap (λ (b : Bool). (is_within r c || false) || b) (lone_area rs c)
+lone_area (r ∷ rs) c = ap (λ (b : Bool). b || is_within_one rs c) (sym (or-false (is_within r c))) ∙ ap (λ (b : Bool). (is_within r c || false) || b) (lone_area rs c)
 
 lone_reads : (es : Coming) (c : ℕ) → reads_cell es c ≡ reads_one_of es (as_set (c ∷ []))
 lone_reads [] c = refl
@@ -54,11 +54,11 @@ none_read cells (x ∷ xs) c r e h = at (is_at (nat_cmp c) x.0) e (or_parts (lis
     at true k p ih = let z : x.1 ≡ r = cc in subst (λ (o : Option (SmallVec Area)). list_any (has_one cells) (areas_of (items_of o)) ≡ false) z p.0
     at false k p ih = ih k p.1
 
-apart_from : (cells : BTreeSet ℕ) (rs : List Area) (d : ℕ) → list_any (has_one cells) rs ≡ false → is_in rs d ≡ true → contains nat_cmp cells d ≡ false
+apart_from : (cells : BTreeSet ℕ) (rs : List Area) (d : ℕ) → list_any (has_one cells) rs ≡ false → is_within_one rs d ≡ true → contains nat_cmp cells d ≡ false
 apart_from cells [] d n h = cc
 apart_from cells (r ∷ rs) d n h = at (or_cases (is_within r d) _ h) (or_parts (has_one cells r) _ n) (apart_from cells rs d)
   where
-    at : (is_within r d ≡ true) ⊎ (is_in rs d ≡ true) → (has_one cells r ≡ false) × (list_any (has_one cells) rs ≡ false) → (list_any (has_one cells) rs ≡ false → is_in rs d ≡ true → contains nat_cmp cells d ≡ false) →
+    at : (is_within r d ≡ true) ⊎ (is_within_one rs d ≡ true) → (has_one cells r ≡ false) × (list_any (has_one cells) rs ≡ false) → (list_any (has_one cells) rs ≡ false → is_within_one rs d ≡ true → contains nat_cmp cells d ≡ false) →
         contains nat_cmp cells d ≡ false
     at (inl w) p ih = false_from_ne_true (contains nat_cmp cells d) (λ k. clash (has_one cells r) (found (is_within r) cells.keys d (sym (has_key cells.keys d) ∙ k) w) p.0)
     at (inr w) p ih = ih p.1 w
@@ -83,16 +83,16 @@ record IsApart (rooms : Rooms) (next : Coming) (circles : BTreeSet ℕ) (then : 
   before : AreCircles (room_at rooms) (contains nat_cmp circles)
   after : (c : ℕ) → room_over next rooms c ≡ areas_in (content_of then c)
   named : (c : ℕ) (v : Option (SmallVec Area)) → brought_to next c ≡ Some v → contains nat_cmp circles c ≡ false
-  reads : (c : ℕ) (v : Option (SmallVec Area)) → brought_to next c ≡ Some v → (d : ℕ) → is_in (areas_of (items_of v)) d ≡ true → circular then d ≡ false
+  reads : (c : ℕ) (v : Option (SmallVec Area)) → brought_to next c ≡ Some v → (d : ℕ) → is_within_one (areas_of (items_of v)) d ≡ true → circular then d ≡ false
 
 module _ {rooms : Rooms} {next : Coming} {circles : BTreeSet ℕ} {then : Sheet} (k : IsApart rooms next circles then) where
-  reads_then : (c : ℕ) (o : Option (Option (SmallVec Area))) → brought_to next c ≡ o → (d : ℕ) → content_reads (content_of then c) d ≡ is_in (areas_of (put_over o (room_at rooms c))) d
+  reads_then : (c : ℕ) (o : Option (Option (SmallVec Area))) → brought_to next c ≡ o → (d : ℕ) → content_reads (content_of then c) d ≡ is_within_one (areas_of (put_over o (room_at rooms c))) d
   reads_then c o e d =
       reads_areas (content_of then c) d
-      ∙ ap (λ (x : Option (List Area)). is_in (areas_of x) d) (sym (k.after c) ∙ ap (λ (x : Option (Option (SmallVec Area))). put_over x (room_at rooms c)) e)
+      ∙ ap (λ (x : Option (List Area)). is_within_one (areas_of x) d) (sym (k.after c) ∙ ap (λ (x : Option (Option (SmallVec Area))). put_over x (room_at rooms c)) e)
 
-  reads_before : (c d : ℕ) → content_reads (content_of k.before.sheet c) d ≡ is_in (areas_of (room_at rooms c)) d
-  reads_before c d = reads_areas (content_of k.before.sheet c) d ∙ ap (λ (x : Option (List Area)). is_in (areas_of x) d) (sym (k.before.are c))
+  reads_before : (c d : ℕ) → content_reads (content_of k.before.sheet c) d ≡ is_within_one (areas_of (room_at rooms c)) d
+  reads_before c d = reads_areas (content_of k.before.sheet c) d ∙ ap (λ (x : Option (List Area)). is_within_one (areas_of x) d) (sym (k.before.are c))
 
   -- a cell that is circular after the edit reads such a cell before it too
   still_reads : (c : ℕ) → circular then c ≡ true → (d : ℕ) × (content_reads (content_of k.before.sheet c) d ≡ true) × (circular then d ≡ true)
@@ -148,7 +148,7 @@ apart_turn rooms next circles changes turns g b a f h = none_turns {then = then_
 
     ends : (d : ℕ) → room_over next rooms d ≡ None → (x : ℕ) × (content_reads (content_of (then_sheet g.sheet changes) d) x ≡ true) × (circular (then_sheet g.sheet changes) x ≡ true) → ⊥
     ends d n x =
-        let z : is_in (areas_of None) x.0 ≡ true = ap (λ (o : Option (List Area)). is_in (areas_of o) x.0) (sym n ∙ after d) ∙ sym (reads_areas (content_of (then_sheet g.sheet changes) d) x.0) ∙ x.1 in
+        let z : is_within_one (areas_of None) x.0 ≡ true = ap (λ (o : Option (List Area)). is_within_one (areas_of o) x.0) (sym n ∙ after d) ∙ sym (reads_areas (content_of (then_sheet g.sheet changes) d) x.0) ∙ x.1 in
         cc
 
 -- ---- what reads no formula
@@ -175,11 +175,11 @@ no_key (e ∷ es) d h = at (is_at (nat_cmp d) e.0) (is_at-eq d e.0) (or_parts (e
     at true t p ih = clash (e.0 == d) (turn_test e.0 d ∙ sym t) p.0
     at false t p ih = ih p.1
 
-no_room_there : (rooms : Rooms) (cell : ℕ) (rs : List Area) (d : ℕ) → list_any (has_room_in rooms cell) rs ≡ false → is_in rs d ≡ true → ((cell == d) ≡ false) × (is_one_of (keys_of rooms.entries) d ≡ false)
+no_room_there : (rooms : Rooms) (cell : ℕ) (rs : List Area) (d : ℕ) → list_any (has_room_in rooms cell) rs ≡ false → is_within_one rs d ≡ true → ((cell == d) ≡ false) × (is_one_of (keys_of rooms.entries) d ≡ false)
 no_room_there rooms cell [] d n h = cc
 no_room_there rooms cell (r ∷ rs) d n h = at (or_cases (is_within r d) _ h) (or_parts (has_room_in rooms cell r) _ n) (no_room_there rooms cell rs d)
   where
-    at : (is_within r d ≡ true) ⊎ (is_in rs d ≡ true) → (has_room_in rooms cell r ≡ false) × (list_any (has_room_in rooms cell) rs ≡ false) → (list_any (has_room_in rooms cell) rs ≡ false → is_in rs d ≡ true → ((cell == d) ≡ false) × (is_one_of (keys_of rooms.entries) d ≡ false)) →
+    at : (is_within r d ≡ true) ⊎ (is_within_one rs d ≡ true) → (has_room_in rooms cell r ≡ false) × (list_any (has_room_in rooms cell) rs ≡ false) → (list_any (has_room_in rooms cell) rs ≡ false → is_within_one rs d ≡ true → ((cell == d) ≡ false) × (is_one_of (keys_of rooms.entries) d ≡ false)) →
         ((cell == d) ≡ false) × (is_one_of (keys_of rooms.entries) d ≡ false)
     at (inl w) p ih =
         let q = or_parts (is_within r cell) _ p.0 in (
@@ -195,12 +195,12 @@ one_stands_apart rooms (y ∷ []) circles x l e n m c v h = at (is_at (nat_cmp c
     is_y : x ≡ y
     is_y = e
 
-    at : (b : Bool) → b ≡ (c == y.0) → cond b (Some y.1) None ≡ Some v → (contains nat_cmp circles c ≡ false) × ((d : ℕ) → is_in (areas_of (items_of v)) d ≡ true → room_over (y ∷ []) rooms d ≡ None)
+    at : (b : Bool) → b ≡ (c == y.0) → cond b (Some y.1) None ≡ Some v → (contains nat_cmp circles c ≡ false) × ((d : ℕ) → is_within_one (areas_of (items_of v)) d ≡ true → room_over (y ∷ []) rooms d ≡ None)
     at false t k = cc
     at true t k =
         let z : y.1 ≡ v = cc in
         let s : y.0 ≡ c = sym (same_cell y.0 c (sym t)) in
-        (ap (contains nat_cmp circles) (sym s ∙ sym (ap (λ (w : ℕ × Option (SmallVec Area)). w.0) is_y)) ∙ n, λ d i. none d (no_room_there rooms x.0 (areas_of (items_of x.1)) d m (ap (λ (w : Option (SmallVec Area)). is_in (areas_of (items_of w)) d) (ap (λ (w : ℕ × Option (SmallVec Area)). w.1) is_y ∙ z) ∙ i)))
+        (ap (contains nat_cmp circles) (sym s ∙ sym (ap (λ (w : ℕ × Option (SmallVec Area)). w.0) is_y)) ∙ n, λ d i. none d (no_room_there rooms x.0 (areas_of (items_of x.1)) d m (ap (λ (w : Option (SmallVec Area)). is_within_one (areas_of (items_of w)) d) (ap (λ (w : ℕ × Option (SmallVec Area)). w.1) is_y ∙ z) ∙ i)))
       where
         none : (d : ℕ) → ((x.0 == d) ≡ false) × (is_one_of (keys_of rooms.entries) d ≡ false) → room_over (y ∷ []) rooms d ≡ None
         none d p =
@@ -234,7 +234,7 @@ reach_turn rooms next circles changes turns g b k f h = none_turns {then = then_
     after : (c : ℕ) → room_over next rooms c ≡ areas_in (content_of (then_sheet g.sheet changes) c)
     after c = b c ∙ ap (areas_then changes c) (g.are c) ∙ sym (then_contents g.sheet changes c)
 
-    is_open : (c : ℕ) (v : Option (SmallVec Area)) → brought_to next c ≡ Some v → (d : ℕ) → is_in (areas_of (items_of v)) d ≡ true → circular g.sheet d ≡ false
+    is_open : (c : ℕ) (v : Option (SmallVec Area)) → brought_to next c ≡ Some v → (d : ℕ) → is_within_one (areas_of (items_of v)) d ≡ true → circular g.sheet d ≡ false
     is_open c v e d i = sym (g.circles d) ∙ apart_from circles (areas_of (items_of v)) d (none_met circles next c v e k.unmet).1 i
 
     -- nothing is next for another cell
@@ -245,23 +245,23 @@ reach_turn rooms next circles changes turns g b k f h = none_turns {then = then_
     its_room true v e = cc
     its_room false v e = cc
 
-    first : (c : ℕ) (v : Option (SmallVec Area)) → brought_to next c ≡ Some v → (d : ℕ) → is_in (areas_of (items_of v)) d ≡ true → IsLookedAt rooms k.cell k.not_met.0 [] d
+    first : (c : ℕ) (v : Option (SmallVec Area)) → brought_to next c ≡ Some v → (d : ℕ) → is_within_one (areas_of (items_of v)) d ≡ true → IsLookedAt rooms k.cell k.not_met.0 [] d
     first c v e d i =
-        k.not_met.1.first d (ap (λ (w : Option (SmallVec Area)). is_in (areas_of (items_of w)) d) (its_room (is_at (nat_cmp c) k.cell) v (ap (λ (es : Coming). brought_to es c) (sym k.alone) ∙ e)) ∙ i)
+        k.not_met.1.first d (ap (λ (w : Option (SmallVec Area)). is_within_one (areas_of (items_of w)) d) (its_room (is_at (nat_cmp c) k.cell) v (ap (λ (es : Coming). brought_to es c) (sym k.alone) ∙ e)) ∙ i)
 
-    reads_then : (x y : ℕ) → brought_to next x ≡ None → content_reads (content_of (then_sheet g.sheet changes) x) y ≡ is_in (areas_of (room_at rooms x)) y
+    reads_then : (x y : ℕ) → brought_to next x ≡ None → content_reads (content_of (then_sheet g.sheet changes) x) y ≡ is_within_one (areas_of (room_at rooms x)) y
     reads_then x y n =
         reads_areas (content_of (then_sheet g.sheet changes) x) y
-        ∙ ap (λ (o : Option (List Area)). is_in (areas_of o) y) (sym (after x) ∙ ap (λ (o : Option (Option (SmallVec Area))). put_over o (room_at rooms x)) n)
+        ∙ ap (λ (o : Option (List Area)). is_within_one (areas_of o) y) (sym (after x) ∙ ap (λ (o : Option (Option (SmallVec Area))). put_over o (room_at rooms x)) n)
 
-    reads_before : (x y : ℕ) → content_reads (content_of g.sheet x) y ≡ is_in (areas_of (room_at rooms x)) y
-    reads_before x y = reads_areas (content_of g.sheet x) y ∙ ap (λ (o : Option (List Area)). is_in (areas_of o) y) (sym (g.are x))
+    reads_before : (x y : ℕ) → content_reads (content_of g.sheet x) y ≡ is_within_one (areas_of (room_at rooms x)) y
+    reads_before x y = reads_areas (content_of g.sheet x) y ∙ ap (λ (o : Option (List Area)). is_within_one (areas_of o) y) (sym (g.are x))
 
     -- what is looked at and circular then was found
     found_at : (d : ℕ) → (k.cell == d) ≡ false → circular (then_sheet g.sheet changes) d ≡ true → (room_at rooms d ≡ None) ⊎ ((k.not_met.0 d ≡ true) ⊎ (is_ahead [] d ≡ true)) → k.not_met.0 d ≡ true
     found_at d n u (inl e) =
         let x = reads_circular (then_sheet g.sheet changes) d u in
-        clash (content_reads (content_of (then_sheet g.sheet changes) d) x.0) x.1 (reads_then d x.0 (others d n) ∙ ap (λ (o : Option (List Area)). is_in (areas_of o) x.0) e)
+        clash (content_reads (content_of (then_sheet g.sheet changes) d) x.0) x.1 (reads_then d x.0 (others d n) ∙ ap (λ (o : Option (List Area)). is_within_one (areas_of o) x.0) e)
     found_at d n u (inr (inl i)) = i
     found_at d n u (inr (inr i)) = cc
 
@@ -272,7 +272,7 @@ reach_turn rooms next circles changes turns g b k f h = none_turns {then = then_
     down x m =
         let p = and_parts (circular (then_sheet g.sheet changes) x) (k.not_met.0 x) m in
         let r = reads_circular (then_sheet g.sheet changes) x p.0 in
-        let j : is_in (areas_of (room_at rooms x)) r.0 ≡ true = sym (reads_then x r.0 (others x (k.not_met.1.apart x p.1))) ∙ r.1 in
+        let j : is_within_one (areas_of (room_at rooms x)) r.0 ≡ true = sym (reads_then x r.0 (others x (k.not_met.1.apart x p.1))) ∙ r.1 in
         let l = k.not_met.1.reads x r.0 p.1 j in
         (r.0, reads_before x r.0 ∙ j, and_from (circular (then_sheet g.sheet changes) r.0) (k.not_met.0 r.0) r.2 (found_at r.0 l.0 r.2 l.1))
 

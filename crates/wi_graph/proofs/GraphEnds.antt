@@ -41,14 +41,6 @@ taken_graph old new next before after had has turns s o e p h = record {
   circular = circles_over (room_at new) (room_over next old) (contains nat_cmp has) (less_these had turns.went.items) e h s.after;
 }
 
-pub taken_back_graph : (old new : Rooms) (next : Coming) (before after : Bag) (had has : BTreeSet ℕ) (turns : Turns) → IsStaged old next before had turns → IsOrdered nat_cmp new → ((c : ℕ) → room_at new c ≡ room_at old c) → HasPairs after new →
-    ((c : ℕ) → contains nat_cmp has c ≡ less_these had turns.came.items c) → IsGraph new after has
-taken_back_graph old new next before after had has turns s o e p h = record {
-  ordered = o;
-  pairs = p;
-  circular = circles_over (room_at new) (room_at old) (contains nat_cmp has) (less_these had turns.came.items) e h s.before;
-}
-
 -- ---- what it is seen as
 
 abbrev pub view_of : Rooms → Option Staged → Staging

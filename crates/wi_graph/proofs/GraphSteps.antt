@@ -1,12 +1,12 @@
 -- What a graph says of each sheet that has its edges.
-use Rattle.wi_graph.proofs.Words.{◌≡◌, ◌+◌, ◌<◌, ◌↔◌, ℕ, zero, suc, ◌⊎◌, inl, inr, Bool, true, false, ◌||◌, cond, List, [], ◌∷◌, Option, Some, None, refl, ap, sym, ◌∙◌, subst, arith, or_cases, or_left, or_right, list_any, nat_cmp, BTreeSet, contains, one_truth, Area, is_within, IsOrdered, Content, Constant, Formula, Sheet, content_of, has_formula, content_reads, reads_within, RangePair, Bag, IsReader, pair_for, pair_area, is_same, same_is, same_self, circular, has_walk, Walks, reaches, areas_in, AreEdgesOf, Rooms, room_at, edges_in, areas_of, times, HasPairs, IsGraph, Ascends-from_order}
+use Rattle.wi_graph.proofs.Words.{◌≡◌, ◌+◌, ◌<◌, ◌↔◌, ℕ, zero, suc, ◌⊎◌, inl, inr, Bool, true, false, ◌||◌, cond, List, [], ◌∷◌, Option, Some, None, refl, ap, sym, ◌∙◌, subst, arith, or_cases, or_left, or_right, nat_cmp, BTreeSet, contains, one_truth, Area, is_within, is_within_one, IsOrdered, Content, Constant, Formula, Sheet, content_of, has_formula, content_reads, reads_within, RangePair, Bag, IsReader, pair_for, pair_area, is_same, same_is, same_self, circular, has_walk, Walks, reaches, areas_in, AreEdgesOf, Rooms, room_at, edges_in, areas_of, times, HasPairs, IsGraph, Ascends-from_order}
 use Rattle.wi_graph.proofs.ReachTest.{reaches_true, true_reaches}
 use Rattle.wi_graph.proofs.Walks.{step, first_step, circular_walks, walks_circular}
 use Rattle.wi_graph.proofs.EdgeLemmas.{areas_rooms}
 
 -- ---- sheets that have the same edges
 
-pub reads_areas : (o : Option Content) (d : ℕ) → content_reads o d ≡ list_any (λ (r : Area). is_within r d) (areas_of (areas_in o))
+pub reads_areas : (o : Option Content) (d : ℕ) → content_reads o d ≡ is_within_one (areas_of (areas_in o)) d
 reads_areas None d = refl
 reads_areas (Some (Constant v)) d = refl
 reads_areas (Some (Formula t)) d = reads_within t d
@@ -22,7 +22,7 @@ abbrev pub HaveSameEdges : Sheet → Sheet → Type 0
 HaveSameEdges s t = (c : ℕ) → areas_in (content_of s c) ≡ areas_in (content_of t c)
 
 pub same_reads : (s t : Sheet) → HaveSameEdges s t → (c d : ℕ) → content_reads (content_of s c) d ≡ content_reads (content_of t c) d
-same_reads s t e c d = reads_areas (content_of s c) d ∙ ap (λ (o : Option (List Area)). list_any (λ (r : Area). is_within r d) (areas_of o)) (e c) ∙ sym (reads_areas (content_of t c) d)
+same_reads s t e c d = reads_areas (content_of s c) d ∙ ap (λ (o : Option (List Area)). is_within_one (areas_of o) d) (e c) ∙ sym (reads_areas (content_of t c) d)
 
 walks_there : (n : ℕ) (s t : Sheet) → HaveSameEdges s t → (c : ℕ) → has_walk n s c ≡ true → has_walk n t c ≡ true
 walks_there zero s t e c h = formula_areas (content_of s c) (content_of t c) (e c) h
@@ -53,31 +53,31 @@ graph_circular rooms readers circles g s e c =
 
 -- ---- who reads a cell
 
-times_reads : (k : ℕ) (rs : List Area) (p : RangePair) (d : ℕ) → 0 < times k rs p → is_within (pair_area p) d ≡ true → list_any (λ r. is_within r d) rs ≡ true
+times_reads : (k : ℕ) (rs : List Area) (p : RangePair) (d : ℕ) → 0 < times k rs p → is_within (pair_area p) d ≡ true → is_within_one rs d ≡ true
 times_reads k [] p d h w = absurd (omega arith)
 times_reads k (r ∷ rs) p d h w = at (is_same (pair_for r k) p) refl h (times_reads k rs p d)
   where
-    at : (b : Bool) → is_same (pair_for r k) p ≡ b → 0 < cond b 1 0 + times k rs p → (0 < times k rs p → is_within (pair_area p) d ≡ true → list_any (λ r. is_within r d) rs ≡ true) → (is_within r d || list_any (λ r. is_within r d) rs) ≡ true
+    at : (b : Bool) → is_same (pair_for r k) p ≡ b → 0 < cond b 1 0 + times k rs p → (0 < times k rs p → is_within (pair_area p) d ≡ true → is_within_one rs d ≡ true) → (is_within r d || is_within_one rs d) ≡ true
     at true e l ih = or_left (is_within r d) _ (ap (λ (q : RangePair). is_within (pair_area q) d) (same_is (pair_for r k) p e) ∙ w)
     at false e l ih = or_right (is_within r d) _ (ih (omega (arith, l)) w)
 
 -- a rectangle of the list that has the cell
-reads_times : (k : ℕ) (rs : List Area) (d : ℕ) → list_any (λ r. is_within r d) rs ≡ true → (r : Area) × (0 < times k rs (pair_for r k)) × (is_within r d ≡ true)
+reads_times : (k : ℕ) (rs : List Area) (d : ℕ) → is_within_one rs d ≡ true → (r : Area) × (0 < times k rs (pair_for r k)) × (is_within r d ≡ true)
 reads_times k [] d h = cc
 reads_times k (r ∷ rs) d h = at (or_cases (is_within r d) _ h) (reads_times k rs d)
   where
     here : 0 < cond (is_same (pair_for r k) (pair_for r k)) 1 0 + times k rs (pair_for r k)
     here = let e : cond {A = ℕ} (is_same (pair_for r k) (pair_for r k)) 1 0 ≡ 1 = ap {B = ℕ} (λ (b : Bool). cond b 1 0) (same_self (pair_for r k)) in omega (arith, e)
 
-    at : (is_within r d ≡ true) ⊎ (list_any (λ r. is_within r d) rs ≡ true) → (list_any (λ r. is_within r d) rs ≡ true → (q : Area) × (0 < times k rs (pair_for q k)) × (is_within q d ≡ true)) → (q : Area) × (0 < times k (r ∷ rs) (pair_for q k)) × (is_within q d ≡ true)
+    at : (is_within r d ≡ true) ⊎ (is_within_one rs d ≡ true) → (is_within_one rs d ≡ true → (q : Area) × (0 < times k rs (pair_for q k)) × (is_within q d ≡ true)) → (q : Area) × (0 < times k (r ∷ rs) (pair_for q k)) × (is_within q d ≡ true)
     at (inl w) ih = (r, here, w)
     at (inr w) ih = let i = ih w in (i.0, omega (arith, i.1), i.2)
 
 pub graph_readers : (rooms : Rooms) (readers : Bag) → IsOrdered nat_cmp rooms → HasPairs readers rooms → (s : Sheet) → AreEdgesOf (edges_in rooms.entries) s → (a r : ℕ) → (content_reads (content_of s r) a ≡ true) ↔ IsReader readers a r
 graph_readers rooms readers o h s e a r = (there, back)
   where
-    here : content_reads (content_of s r) a ≡ list_any (λ x. is_within x a) (areas_of (room_at rooms r))
-    here = reads_areas (content_of s r) a ∙ ap (λ (x : Option (List Area)). list_any (λ (r : Area). is_within r a) (areas_of x)) (sym (rooms_areas rooms s o e r))
+    here : content_reads (content_of s r) a ≡ is_within_one (areas_of (room_at rooms r)) a
+    here = reads_areas (content_of s r) a ∙ ap (λ (x : Option (List Area)). is_within_one (areas_of x) a) (sym (rooms_areas rooms s o e r))
 
     there : content_reads (content_of s r) a ≡ true → IsReader readers a r
     there k =

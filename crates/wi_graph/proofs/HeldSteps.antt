@@ -1,5 +1,5 @@
 -- Which cells read a circular cell outside a cone.
-use Rattle.wi_graph.proofs.Words.{◌≡◌, ◌==◌, ◌&&◌, ◌||◌, ◌⊎◌, inl, inr, not, ℕ, ◌+◌, ◌<◌, ◌≤◌, Bool, true, false, List, [], ◌∷◌, filter, Option, Some, None, IfSome, ap, sym, ◌∙◌, arith, lt_of_le-ne, or_cases, or_left, or_right, and_parts, and_from, false_from_ne_true, not-true, not_from_false, any-filter_same, list_any, nat_cmp, Vec, BTreeMap, BTreeSet, contains, Area, is_within, is_one_of, IsAhead, IsFoundBy, has_circle_outside, reads_outside, within_between, places_left, has_key}
+use Rattle.wi_graph.proofs.Words.{◌≡◌, ◌==◌, ◌&&◌, ◌||◌, ◌⊎◌, inl, inr, not, ℕ, ◌+◌, ◌<◌, ◌≤◌, Bool, true, false, List, [], ◌∷◌, filter, Option, Some, None, IfSome, ap, sym, ◌∙◌, arith, lt_of_le-ne, or_cases, or_left, or_right, and_parts, and_from, false_from_ne_true, not-true, not_from_false, any-filter_same, list_any, nat_cmp, Vec, BTreeMap, BTreeSet, contains, Area, is_within, is_within_one, is_one_of, IsAhead, IsFoundBy, has_circle_outside, reads_outside, within_between, places_left, has_key}
 use Rattle.wi_graph.proofs.Tests.{is_itself, clash}
 use Rattle.wi_graph.proofs.Walks.{same_cell, found}
 
@@ -13,20 +13,20 @@ outside_finds cells (k ∷ ks) r h = at (or_cases (is_within r k && not (contain
     at (inl m) ih = let x = and_parts (is_within r k) (not (contains nat_cmp cells k)) m in (k, or_left (k == k) _ (is_itself k), x.0, not-true (contains nat_cmp cells k) x.1)
     at (inr m) ih = let x = ih m in (x.0, or_right (k == x.0) _ x.1, x.2, x.3)
 
-pub held_finds : (circles cells : BTreeSet ℕ) (rs : List Area) → list_any (has_circle_outside circles cells) rs ≡ true → (d : ℕ) × (is_one_of circles.keys d ≡ true) × (list_any (λ r. is_within r d) rs ≡ true) × (contains nat_cmp cells d ≡ false)
+pub held_finds : (circles cells : BTreeSet ℕ) (rs : List Area) → list_any (has_circle_outside circles cells) rs ≡ true → (d : ℕ) × (is_one_of circles.keys d ≡ true) × (is_within_one rs d ≡ true) × (contains nat_cmp cells d ≡ false)
 held_finds circles cells [] h = cc
 held_finds circles cells (r ∷ rs) h = at (or_cases (has_circle_outside circles cells r) _ h) (held_finds circles cells rs)
   where
-    at : (has_circle_outside circles cells r ≡ true) ⊎ (list_any (has_circle_outside circles cells) rs ≡ true) → (list_any (has_circle_outside circles cells) rs ≡ true → (d : ℕ) × (is_one_of circles.keys d ≡ true) × (list_any (λ r. is_within r d) rs ≡ true) × (contains nat_cmp cells d ≡ false)) →
-        (d : ℕ) × (is_one_of circles.keys d ≡ true) × (list_any (λ r. is_within r d) (r ∷ rs) ≡ true) × (contains nat_cmp cells d ≡ false)
+    at : (has_circle_outside circles cells r ≡ true) ⊎ (list_any (has_circle_outside circles cells) rs ≡ true) → (list_any (has_circle_outside circles cells) rs ≡ true → (d : ℕ) × (is_one_of circles.keys d ≡ true) × (is_within_one rs d ≡ true) × (contains nat_cmp cells d ≡ false)) →
+        (d : ℕ) × (is_one_of circles.keys d ≡ true) × (is_within_one (r ∷ rs) d ≡ true) × (contains nat_cmp cells d ≡ false)
     at (inl m) ih = let x = outside_finds cells circles.keys r m in (x.0, x.1, or_left (is_within r x.0) _ x.2, x.3)
     at (inr m) ih = let x = ih m in (x.0, x.1, or_right (is_within r x.0) _ x.2, x.3)
 
-pub finds_held : (circles cells : BTreeSet ℕ) (rs : List Area) (d : ℕ) → is_one_of circles.keys d ≡ true → list_any (λ r. is_within r d) rs ≡ true → contains nat_cmp cells d ≡ false → list_any (has_circle_outside circles cells) rs ≡ true
+pub finds_held : (circles cells : BTreeSet ℕ) (rs : List Area) (d : ℕ) → is_one_of circles.keys d ≡ true → is_within_one rs d ≡ true → contains nat_cmp cells d ≡ false → list_any (has_circle_outside circles cells) rs ≡ true
 finds_held circles cells [] d m w n = cc
 finds_held circles cells (r ∷ rs) d m w n = at (or_cases (is_within r d) _ w) (λ k. finds_held circles cells rs d m k n)
   where
-    at : (is_within r d ≡ true) ⊎ (list_any (λ r. is_within r d) rs ≡ true) → (list_any (λ r. is_within r d) rs ≡ true → list_any (has_circle_outside circles cells) rs ≡ true) → (has_circle_outside circles cells r || list_any (has_circle_outside circles cells) rs) ≡ true
+    at : (is_within r d ≡ true) ⊎ (is_within_one rs d ≡ true) → (is_within_one rs d ≡ true → list_any (has_circle_outside circles cells) rs ≡ true) → (has_circle_outside circles cells r || list_any (has_circle_outside circles cells) rs) ≡ true
     at (inl k) ih = or_left (has_circle_outside circles cells r) _ (found (λ x. is_within r x && not (contains nat_cmp cells x)) circles.keys d m (and_from (is_within r d) _ k (not_from_false (contains nat_cmp cells d) n)))
     at (inr k) ih = or_right (has_circle_outside circles cells r) _ (ih k)
 

@@ -1,5 +1,5 @@
 -- The cells from which so many steps lead, layer by layer.
-use Rattle.wi_graph.proofs.Words.{◌≡◌, ◌==◌, ℕ, zero, suc, ◌+◌, Bool, true, false, ◌&&◌, ◌||◌, cond, List, [], ◌∷◌, filter, Option, Some, None, refl, ap, sym, ◌∙◌, arith, any-filter_same, and-true, and-false, eqb-true, filter_agree, list_any, nat_cmp, keys_of, is_at, Content, Constant, Formula, Sheet, content_of, has_formula, cells_with_formula, content_reads, has_walk}
+use Rattle.wi_graph.proofs.Words.{◌≡◌, ◌==◌, ℕ, zero, suc, Bool, true, false, ◌&&◌, ◌||◌, cond, List, [], ◌∷◌, filter, Option, Some, None, refl, ap, sym, ◌∙◌, any-filter_same, and-true, and-false, eqb-true, list_any, nat_cmp, keys_of, is_at, Content, Constant, Formula, Sheet, content_of, has_formula, cells_with_formula, content_reads, has_walk}
 pub use Rattle.wi_values.specs.Address.{is_one_of}
 use Rattle.wi_graph.proofs.Tests.{turn_test, is_at-eq}
 
@@ -31,12 +31,6 @@ filter_twice p (x ∷ xs) = at (p x) refl (filter_twice p xs)
 -- no step leads from each cell with a formula
 pub layer_zero : (s : Sheet) → layer 0 s ≡ cells_with_formula s
 layer_zero s = filter_twice (λ c. has_formula (content_of s c)) (keys_of s)
-
--- the next layer: what reads one of this
-pub layer_more : (n : ℕ) (s : Sheet) → layer (n + 1) s ≡ filter (λ c. list_any (content_reads (content_of s c)) (layer n s)) (cells_with_formula s)
-layer_more n s =
-    let e : n + 1 ≡ suc n = omega arith in
-    ap (λ (m : ℕ). layer m s) e ∙ filter_agree (has_walk (suc n) s) (λ c. list_any (content_reads (content_of s c)) (layer n s)) (has_walk_more n s) (cells_with_formula s)
 
 none_reads : (w : ℕ → Bool) (xs : List ℕ) → list_any (λ d. false && w d) xs ≡ false
 none_reads w [] = refl

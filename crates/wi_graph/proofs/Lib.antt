@@ -15,7 +15,6 @@ pub mod CircularAfter
 pub mod StripSteps
 pub mod SearchSteps
 pub mod EdgeLemmas
-pub mod MapSteps
 pub mod ComingSteps
 pub mod RoomSteps
 pub mod StagingSteps

@@ -1,5 +1,5 @@
 -- What a cell reaches, step by step.
-use Rattle.wi_graph.proofs.Words.{◌≡◌, ℕ, zero, suc, true, false, refl, ap, sym, ◌∙◌, inl, inr, ◌⊎◌, Sheet, content_of, has_formula, content_reads, Walks, Reaches, reaches}
+use Rattle.wi_graph.proofs.Words.{◌≡◌, ℕ, zero, suc, true, refl, ap, sym, ◌∙◌, inl, inr, ◌⊎◌, Sheet, content_of, has_formula, content_reads, Walks, Reaches, reaches}
 use Rattle.wi_graph.proofs.Walks.{reader_formula}
 use Rattle.wi_graph.proofs.ReachTest.{reaches_true, true_reaches}
 
@@ -42,11 +42,3 @@ reaches_by_step s c a h = let w = reaches_true s c a h in at w.0 w.1
     at zero w = inl w
     at (suc zero) w = inr (inl (ap (λ (b : ℕ). content_reads (content_of s c) b) (sym w.2) ∙ w.1))
     at (suc (suc n)) w = inr (inr (w.0, w.1, reader_formula (content_of s w.0) w.2.0 w.2.1, true_reaches s w.0 a (suc n, w.2)))
-
--- a cell without a formula reaches itself alone
-pub plain_reaches : (s : Sheet) (c a : ℕ) → has_formula (content_of s c) ≡ false → reaches s c a ≡ true → c ≡ a
-plain_reaches s c a p h = let w = reaches_true s c a h in at w.0 w.1
-  where
-    at : (n : ℕ) → Walks n s c a → c ≡ a
-    at zero w = w
-    at (suc n) w = let f = reader_formula (content_of s c) w.0 w.1 in cc

@@ -1,5 +1,5 @@
 -- Steps of taking an edit, and of taking it back.
-use Rattle.wi_graph.proofs.Words.{◌≡◌, ◌==◌, ◌+◌, ◌-◌, ◌<◌, ℕ, zero, suc, Bool, true, false, cond, not, List, [], ◌∷◌, take, get_or, length, Option, Some, None, IsSome, refl, ap, sym, ◌∙◌, arith, add-one, if◌then◌else◌, is_none, option_flatten, nat_cmp, is_at, SmallVec, Area, get, IsOrdered, RangePair, Bag, pair_for, is_same, count_of, HasOneLess, same_is, Rooms, Coming, items_of, in_room, room_at, brought_to, coming_at, put_over, room_over, areas_of, times, times_in, times_coming, AreInOrder, HasRooms, HasPairs, HasBoth}
+use Rattle.wi_graph.proofs.Words.{◌≡◌, ◌==◌, ◌+◌, ◌-◌, ◌<◌, ℕ, zero, suc, Bool, true, false, cond, not, List, [], ◌∷◌, take, get_or, length, Option, Some, None, IsSome, refl, ap, sym, ◌∙◌, arith, add-one, if◌then◌else◌, option_flatten, unwrap_or, nat_cmp, is_at, SmallVec, Area, get, IsOrdered, RangePair, Bag, pair_for, is_same, count_of, HasOneLess, same_is, Rooms, Coming, items_of, in_room, room_at, brought_to, coming_at, put_over, room_over, areas_of, times, times_in, times_coming, AreInOrder, HasRooms, HasPairs, HasBoth, HoldsTheSame}
 use Rattle.std.specs.Option.{is_some}
 use Rattle.wi_graph.proofs.Tests.{is_at-eq, is_itself}
 use Rattle.wi_graph.proofs.Walks.{same_cell}
@@ -45,14 +45,6 @@ put_room old new k x o e u c = ap in_room (u c) ∙ at (is_at (nat_cmp k) c) (k 
 pub put_others : (old new : Rooms) (k : ℕ) (x : Option (Option (SmallVec Area))) → ((q : ℕ) → get nat_cmp new q ≡ cond (is_at (nat_cmp k) q) x (get nat_cmp old q)) → (c : ℕ) → (k == c) ≡ false → get nat_cmp new c ≡ get nat_cmp old c
 put_others old new k x u c n = u c ∙ ap (λ (b : Bool). cond b x (get nat_cmp old c)) (is_at-eq k c ∙ n)
 
--- nothing stands there, and nothing is put in
-pub put_nothing : (rooms : Rooms) (k : ℕ) (o : Option (List Area)) → o ≡ None → room_at rooms k ≡ None → (c : ℕ) → room_at rooms c ≡ (if k == c then o else room_at rooms c)
-put_nothing rooms k o e n c = at (k == c) refl
-  where
-    at : (b : Bool) → (k == c) ≡ b → room_at rooms c ≡ cond b o (room_at rooms c)
-    at true s = ap (room_at rooms) (sym (same_cell c k s)) ∙ n ∙ sym e
-    at false s = refl
-
 -- none come
 pub none_come : (old new : Rooms) (k : ℕ) (r : Option (SmallVec Area)) (b : Bool) → is_some r ≡ not b → b ≡ true → ((c : ℕ) → room_at new c ≡ (if k == c then None else room_at old c)) → (c : ℕ) → room_at new c ≡ (if k == c then items_of r else room_at old c)
 none_come old new k None b e t h = h
@@ -75,12 +67,13 @@ had_room o r s e f = ap items_of f ∙ ap (λ (x : Option (Option (SmallVec Area
     at None = refl
     at (Some y) = refl
 
-none_is : (o : Option (List Area)) → is_none o ≡ true → o ≡ None
-none_is None h = refl
-none_is (Some x) h = cc
+in_room-held : (o : Option (Option (SmallVec Area))) → in_room o ≡ items_of (unwrap_or o None)
+in_room-held None = refl
+in_room-held (Some x) = refl
 
-pub release_same : (old new : Rooms) (k : ℕ) → is_none (room_at old k) ≡ true → ((q : ℕ) → get nat_cmp new q ≡ cond (is_at (nat_cmp k) q) None (get nat_cmp old q)) → (c : ℕ) → room_at new c ≡ room_at old c
-release_same old new k n u c = put_room old new k None None refl u c ∙ sym (put_nothing old k None refl (none_is (room_at old k) n) c)
+-- where each cell holds the same, it reads the same
+pub reads_same : (old new : Rooms) → HoldsTheSame None old.entries new.entries → (c : ℕ) → room_at new c ≡ room_at old c
+reads_same old new h c = in_room-held (get nat_cmp new c) ∙ ap items_of (h c) ∙ sym (in_room-held (get nat_cmp old c))
 
 -- ---- an edit is taken, cell by cell
 

@@ -1,5 +1,5 @@
 -- Steps of a search over readers.
-use Rattle.wi_graph.proofs.Words.{◌≡◌, ◌==◌, ◌||◌, ◌⊎◌, inl, inr, not, ℕ, ◌+◌, ◌<◌, ◌↔◌, Bool, true, false, cond, List, [], ◌∷◌, ◌++◌, map, length, take, get_or, Some, Result, Ok, Err, IfOk, refl, ap, sym, ◌∙◌, subst, arith, or-false, or_assoc, list_any-append, or_cases, or_left, or_right, cases_Bool, not-true, not_from_false, length-append, Vec, list_any, Contains, lookup, unwrap_or, nat_cmp, is_at, BTreeSet, contains, IsStrictlyIncreasing, Sheet, content_of, content_reads, RangePair, Bag, IsReader, IsRead, is_same, count_of, same_is, is_one_of, in_cone, HasAll, HasReaders, GoesToReaders, IsLeast, IsConeOf, as_set, missing, AreNoted, filter_agree, one_truth, taken_more, has_key, has-from_Contains, Contains-from_has}
+use Rattle.wi_graph.proofs.Words.{◌≡◌, ◌==◌, ◌||◌, ◌⊎◌, inl, inr, not, ℕ, ◌+◌, ◌<◌, ◌↔◌, Bool, true, false, cond, List, [], ◌∷◌, ◌++◌, map, length, take, get_or, Some, Result, Ok, Err, IfOk, refl, ap, sym, ◌∙◌, subst, arith, or-false, or_assoc, list_any-append, or_cases, or_left, or_right, cases_Bool, not-true, not_from_false, length-append, Vec, list_any, Contains, lookup, unwrap_or, nat_cmp, is_at, BTreeSet, contains, IsStrictlyIncreasing, Sheet, content_of, content_reads, RangePair, Bag, IsReader, IsRead, is_same, count_of, same_is, is_one_of, in_cone, HasAll, HasReaders, GoesToReaders, IsLeast, IsConeOf, as_set, missing, AreNoted, one_truth, taken_more, has_key, has-from_Contains, Contains-from_has}
 use Rattle.wi_graph.proofs.Tests.{is_itself, clash}
 use Rattle.wi_graph.proofs.Walks.{same_cell, shrinks, Same}
 use Rattle.wi_graph.proofs.SetSteps.{in_last, in_front, in_back, Gains, gains, gains_stays, gains_one, gains_cases, taken}
@@ -35,25 +35,6 @@ has_more old new x g c = gains old new x g c ∙ by (x == c) (contains nat_cmp o
 
 its_own : (x : ℕ) → is_one_of (x ∷ []) x ≡ true
 its_own x = or_left (x == x) false (is_itself x)
-
--- one that the set has already
-pub noted_old : (x : ℕ) (old new : BTreeSet ℕ) (work : List ℕ) → contains nat_cmp old x ≡ true → Gains old new x → AreNoted (x ∷ []) old new work work
-noted_old x old new work h g = record {
-  found = has_more old new x g;
-  stays = λ c k. k;
-  fresh = λ c k u. clash (contains nat_cmp old c) (sym (same c) ∙ k) u;
-  within = λ c k. inl k;
-  fewer = λ all k.
-      let s : length (missing new all) ≡ length (missing old all) = ap (λ (xs : List ℕ). length xs) (filter_agree (λ c. not (contains nat_cmp new c)) (λ c. not (contains nat_cmp old c)) (λ c. ap (λ (b : Bool). not b) (same c)) all) in
-      omega (arith, s);
-}
-  where
-    same : (c : ℕ) → contains nat_cmp new c ≡ contains nat_cmp old c
-    same c = gains old new x g c ∙ by (x == c) refl
-      where
-        by : (b : Bool) → (x == c) ≡ b → cond b true (contains nat_cmp old c) ≡ contains nat_cmp old c
-        by true f = sym h ∙ ap (λ (y : ℕ). contains nat_cmp old y) (same_cell c x f)
-        by false f = refl
 
 fewer_missing : (all : List ℕ) (mid new : BTreeSet ℕ) (x : ℕ) → Gains mid new x → contains nat_cmp mid x ≡ false → is_one_of all x ≡ true → length (missing new all) < length (missing mid all)
 fewer_missing all mid new x g n m = at (shrinks (λ c. not (contains nat_cmp mid c)) (λ c. not (contains nat_cmp new c)) (λ c h. lacks c (contains nat_cmp mid c) refl (not-true (contains nat_cmp new c) h)) all)

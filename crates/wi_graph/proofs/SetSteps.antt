@@ -1,5 +1,5 @@
 -- Cells that go into a set, and out of one.
-use Rattle.wi_graph.proofs.Words.{◌≡◌, ◌==◌, ◌&&◌, ◌||◌, ◌⊎◌, inl, inr, not, ℕ, ◌+◌, ◌<◌, Bool, true, false, cond, List, [], ◌∷◌, ◌++◌, length, take, get_or, refl, ap, sym, ◌∙◌, add-one, take-suc, or_cases, or_left, or_right, list_any-append, any-filter_same, list_any, nat_cmp, is_at, BTreeSet, contains, difference, IsUnchanged, is_one_of, less_these, and-true, has_taken, has_key}
+use Rattle.wi_graph.proofs.Words.{◌≡◌, ◌==◌, ◌&&◌, ◌||◌, ◌⊎◌, inl, inr, not, ℕ, ◌+◌, ◌<◌, Bool, true, false, cond, List, [], ◌∷◌, ◌++◌, length, take, get_or, refl, ap, sym, ◌∙◌, add-one, take-suc, or_cases, or_left, or_right, list_any-append, any-filter_same, list_any, nat_cmp, is_at, BTreeSet, contains, difference, IsUnchanged, is_one_of, less_these, has_taken, has_key}
 use Rattle.wi_graph.proofs.Tests.{is_at-eq, is_itself, turn_test, at_same, at_itself, clash}
 use Rattle.wi_graph.proofs.Walks.{same_cell}
 
@@ -83,9 +83,6 @@ found_more cells i x old mid new l e g f c =
     by false false true = refl
     by false false false = refl
 
-pub insert_stays : (cells : List ℕ) (i : ℕ) (first old : BTreeSet ℕ) → ((c : ℕ) → contains nat_cmp old c ≡ (contains nat_cmp first c || is_one_of (take i cells) c)) → (c : ℕ) → contains nat_cmp first c ≡ true → contains nat_cmp old c ≡ true
-insert_stays cells i first old h c k = h c ∙ or_left (contains nat_cmp first c) _ k
-
 pub insert_only : (cells : List ℕ) (i : ℕ) (first old : BTreeSet ℕ) → ((c : ℕ) → contains nat_cmp old c ≡ (contains nat_cmp first c || is_one_of (take i cells) c)) → (c : ℕ) → contains nat_cmp old c ≡ true → (contains nat_cmp first c || is_one_of cells c) ≡ true
 insert_only cells i first old h c k = at (or_cases (contains nat_cmp first c) _ (sym (h c) ∙ k))
   where
@@ -121,23 +118,6 @@ keeps_others rest less cell l c n h = l c ∙ at (is_at (nat_cmp cell) c) refl
     at : (b : Bool) → is_at (nat_cmp cell) c ≡ b → cond b false (contains nat_cmp rest c) ≡ true
     at true e = clash (c == cell) (ap (λ (x : ℕ). x == cell) (at_same cell c e) ∙ is_itself cell) n
     at false e = h
-
-pub away_step : (cells : List ℕ) (i x : ℕ) (first old new : BTreeSet ℕ) → i < length cells → x ≡ get_or cells i x → ((q : ℕ) → contains nat_cmp new q ≡ cond (is_at (nat_cmp x) q) false (contains nat_cmp old q)) →
-    ((c : ℕ) → contains nat_cmp old c ≡ less_these first (take i cells) c) → (c : ℕ) → contains nat_cmp new c ≡ less_these first (take (i + 1) cells) c
-away_step cells i x first old new l e u h c =
-    u c ∙ ap (λ (b : Bool). cond (is_at (nat_cmp x) c) false b) (h c) ∙ ap (λ (b : Bool). cond b false (less_these first (take i cells) c)) (is_at-eq x c) ∙ by (x == c) (contains nat_cmp first c) (is_one_of (take i cells) c)
-    ∙ ap (λ (b : Bool). contains nat_cmp first c && not b) (sym (taken cells i x c l e))
-  where
-    by : (b f y : Bool) → cond b false (f && not y) ≡ (f && not (y || (b || false)))
-    by true true true = refl
-    by true true false = refl
-    by true false y = refl
-    by false true true = refl
-    by false true false = refl
-    by false false y = refl
-
-pub away_start : (first : BTreeSet ℕ) (c : ℕ) → contains nat_cmp first c ≡ less_these first [] c
-away_start first c = sym (and-true (contains nat_cmp first c))
 
 -- ---- cells that are new in a set
 

@@ -1,9 +1,7 @@
 -- Steps of bringing an edit in.
-use Rattle.wi_graph.proofs.Words.{◌≡◌, ◌==◌, ◌+◌, ◌<◌, ◌≤◌, ℕ, Bool, true, false, cond, List, [], ◌∷◌, ◌++◌, take, take_all, drop, drop-cons, get_or, length, Option, Some, None, refl, ap, sym, ◌∙◌, subst, arith, suc, add-one, drop_all, if◌then◌else◌, lookup, nat_cmp, is_at, Area, get, IsOrdered, RangePair, Bag, pair_for, is_same, count_of, HasOneMore, ComeAfter, Ascends, Ascends-from_order, lookup_after, taken_more, Rooms, Coming, brought_to, coming_at, items_of, in_room, room_at, areas_of, times, times_in, times_coming, AreInOrder, HasRooms, HasPairs, HasBoth, times_among, HasThese, SmallVec}
-use Rattle.wi_graph.proofs.Tests.{is_at-eq, is_itself, at_same, turn_test}
-use Rattle.wi_graph.proofs.Walks.{same_cell}
+use Rattle.wi_graph.proofs.Words.{◌≡◌, ◌+◌, ◌<◌, ◌≤◌, ℕ, Bool, true, false, cond, List, [], ◌∷◌, ◌++◌, take, take_all, drop, drop-cons, get_or, length, Option, Some, None, refl, ap, sym, ◌∙◌, subst, arith, suc, add-one, drop_all, if◌then◌else◌, lookup, nat_cmp, is_at, Area, get, IsOrdered, RangePair, Bag, pair_for, is_same, count_of, HasOneMore, ComeAfter, Ascends, Ascends-from_order, lookup_after, taken_more, Rooms, Coming, brought_to, coming_at, items_of, in_room, room_at, areas_of, times, times_in, times_coming, AreInOrder, HasRooms, HasPairs, HasBoth, HasRoomFor, times_among, HasThese, SmallVec}
+use Rattle.wi_graph.proofs.Tests.{is_at-eq, at_same, turn_test}
 use Rattle.wi_graph.proofs.ComingSteps.{found_longer}
-use Rattle.wi_graph.proofs.MapSteps.{PutsNew, or_new, put}
 use Rattle.wi_graph.proofs.RoomSteps.{times_more, times_other, times_room, Loses}
 
 pub one_more : (k : ℕ) (rs : List Area) (i : ℕ) (r : Area) (first old new : Bag) → i < length rs → r ≡ get_or rs i r → HasOneMore (pair_for r k) old new → ((p : RangePair) → count_of old p ≡ count_of first p + times k (take i rs) p) →
@@ -13,44 +11,6 @@ one_more k rs i r first old new h e l u p = at (is_same (pair_for r k) p) (l p) 
     at : (b : Bool) → count_of new p ≡ (if b then count_of old p + 1 else count_of old p) → times k (take (i + 1) rs) p ≡ times k (take i rs) p + cond b 1 0 → count_of new p ≡ count_of first p + times k (take (i + 1) rs) p
     at true f g = omega (arith, f, g, u p)
     at false f g = omega (arith, f, g, u p)
-
--- a room more
-abbrev pub Puts : Rooms → Rooms → ℕ → Option (SmallVec Area) → Type 0
-Puts old new k o = (q : ℕ) → get nat_cmp new q ≡ cond (is_at (nat_cmp k) q) (Some o) (get nat_cmp old q)
-
-put_here : (old new : Rooms) (k : ℕ) (o : Option (SmallVec Area)) → Puts old new k o → (c : ℕ) → (k == c) ≡ true → get nat_cmp new c ≡ Some o
-put_here old new k o u c e = u c ∙ ap (λ (b : Bool). cond b (Some o) (get nat_cmp old c)) (is_at-eq k c ∙ e)
-
-put_other : (old new : Rooms) (k : ℕ) (o : Option (SmallVec Area)) → Puts old new k o → (c : ℕ) → (k == c) ≡ false → get nat_cmp new c ≡ get nat_cmp old c
-put_other old new k o u c e = u c ∙ ap (λ (b : Bool). cond b (Some o) (get nat_cmp old c)) (is_at-eq k c ∙ e)
-
--- a vacant room, where there was none
-pub room_same : (old new : Rooms) (k : ℕ) → PutsNew old new k None → (c : ℕ) → room_at new c ≡ room_at old c
-room_same old new k p c = at (k == c) refl
-  where
-    u : Puts old new k (or_new (get nat_cmp old k) None)
-    u = put old new k None p
-
-    there : (x : Option (Option (SmallVec Area))) → items_of (or_new x None) ≡ in_room x
-    there None = refl
-    there (Some y) = refl
-
-    at : (b : Bool) → (k == c) ≡ b → room_at new c ≡ room_at old c
-    at true e = ap in_room (put_here old new k _ u c e) ∙ there (get nat_cmp old k) ∙ ap (room_at old) (same_cell c k e)
-    at false e = ap in_room (put_other old new k _ u c e)
-
-pub room_stays : (old new : Rooms) (k : ℕ) → PutsNew old new k None → (c : ℕ) → get nat_cmp new c ≡ None → get nat_cmp old c ≡ None
-room_stays old new k p c h = at (k == c) refl
-  where
-    u : Puts old new k (or_new (get nat_cmp old k) None)
-    u = put old new k None p
-
-    at : (b : Bool) → (k == c) ≡ b → get nat_cmp old c ≡ None
-    at true e = let z = put_here old new k _ u c e in cc
-    at false e = sym (put_other old new k _ u c e) ∙ h
-
-pub room_there : (old new : Rooms) (k : ℕ) → PutsNew old new k None → get nat_cmp new k ≡ None → ⊥
-room_there old new k p h = let z = put_here old new k (or_new (get nat_cmp old k) None) (put old new k None p) k (is_itself k) in cc
 
 -- ---- the rooms of some cells
 
@@ -94,9 +54,9 @@ bringing_start rooms readers o h = record {
 }
 
 pub bringing_step : (first rooms mid : Rooms) (readers more : Bag) (coming : Coming) (i : ℕ) (x : ℕ × Option (SmallVec Area)) → AreInOrder coming → i < length coming → x ≡ get_or coming i x → IsOrdered nat_cmp mid → ((c : ℕ) → room_at mid c ≡ room_at rooms c) →
-    (get nat_cmp mid x.0 ≡ None → ⊥) → ((c : ℕ) → get nat_cmp mid c ≡ None → get nat_cmp rooms c ≡ None) → ((p : RangePair) → count_of more p ≡ count_of readers p + times x.0 (areas_of (items_of x.1)) p) →
+    HasRoomFor None mid.entries (x.0, x.1) → ((c : ℕ) → get nat_cmp mid c ≡ None → get nat_cmp rooms c ≡ None) → ((p : RangePair) → count_of more p ≡ count_of readers p + times x.0 (areas_of (items_of x.1)) p) →
     IsBringing first rooms readers (take i coming) → IsBringing first mid more (take (i + 1) coming)
-bringing_step first rooms mid readers more coming i x order l e ord n there stay g t = subst (IsBringing first mid more) (sym longer) (record {
+bringing_step first rooms mid readers more coming i x order l e ord n has stay g t = subst (IsBringing first mid more) (sym longer) (record {
   ordered = ord;
   same = λ c. n c ∙ t.same c;
   have_rooms = λ c h. room c h (is_at (nat_cmp x.0) c) refl;
@@ -110,9 +70,12 @@ bringing_step first rooms mid readers more coming i x order l e ord n there stay
     longer : take (i + 1) coming ≡ take i coming ++ (x.0, x.1) ∷ []
     longer = taken_more coming i x l e
 
+    found : (c : ℕ) (b : Bool) → is_at (nat_cmp x.0) c ≡ b → brought_to (take i coming ++ (x.0, x.1) ∷ []) c ≡ cond b (Some x.1) (brought_to (take i coming) c)
+    found c b s = ap (λ (xs : Coming). brought_to xs c) (sym longer) ∙ found_longer coming i x order l e c ∙ ap (λ (d : Bool). cond d (Some x.1) (brought_to (take i coming) c)) s
+
     room : (c : ℕ) → get nat_cmp mid c ≡ None → (b : Bool) → is_at (nat_cmp x.0) c ≡ b → coming_at (take i coming ++ (x.0, x.1) ∷ []) c ≡ None
-    room c h true s = absurd (there (ap (get nat_cmp mid) (sym (at_same x.0 c s)) ∙ h))
-    room c h false s = ap in_room (ap (λ (xs : Coming). brought_to xs c) (sym longer) ∙ found_longer coming i x order l e c ∙ ap (λ (b : Bool). cond b (Some x.1) (brought_to (take i coming) c)) s) ∙ t.have_rooms c (stay c h)
+    room c h true s = ap in_room (found c true s) ∙ ap items_of (has (ap (get nat_cmp mid) (sym (at_same x.0 c s)) ∙ h))
+    room c h false s = ap in_room (found c false s) ∙ t.have_rooms c (stay c h)
 
 -- all are in
 pub bringing_end : (first rooms : Rooms) (coming : Coming) (readers : Bag) (i : ℕ) → AreInOrder coming → length coming ≤ i → IsBringing first rooms readers (take i coming) → HasRooms rooms coming × HasBoth readers rooms coming
@@ -126,13 +89,6 @@ bringing_end first rooms coming readers i o l t = (
   where
     all_in : take i coming ≡ coming
     all_in = take_all i coming l
-
--- one is refused, and those before it are in
-pub bringing_refused : (first rooms mid : Rooms) (readers more : Bag) (front : Coming) → ((c : ℕ) → room_at mid c ≡ room_at rooms c) → ((p : RangePair) → count_of more p ≡ count_of readers p) → IsBringing first rooms readers front → HasThese more mid front
-bringing_refused first rooms mid readers more front n g t p =
-    let a = t.pairs p in
-    let d : times_in mid p ≡ times_in rooms p = times_room mid p (room_at rooms p.reader) (n p.reader) in
-    omega (arith, a, d, g p)
 
 -- ---- and taken out again
 

@@ -1,5 +1,5 @@
 -- Steps of stripping.
-use Rattle.wi_graph.proofs.Words.{◌≡◌, ◌==◌, ◌&&◌, ◌||◌, ◌⊎◌, inl, inr, not, nat_le, ℕ, ◌≤◌, Bool, true, false, cond, List, [], ◌∷◌, ◌++◌, Option, Some, None, refl, ap, sym, ◌∙◌, arith, or-false, or_cases, or_left, or_right, and_parts, and_from, false_from_ne_true, not-true, not_from_false, le-leb, list_any-append, lookup, nat_cmp, Vec, BTreeMap, is_at, BTreeSet, contains, difference, Area, row_of, is_within, is_one_of, IsAhead, IsFoundBy, items_there, is_in, reads_in, waiting_for, waits_for, KeepsReads, ReadsOne, EachReadsOne, AreStripped, IsWithin, Waits, IsTracking, IsFree, within_between}
+use Rattle.wi_graph.proofs.Words.{◌≡◌, ◌==◌, ◌&&◌, ◌||◌, ◌⊎◌, inl, inr, not, nat_le, ℕ, ◌≤◌, Bool, true, false, cond, List, [], ◌∷◌, ◌++◌, Option, Some, None, refl, ap, sym, ◌∙◌, arith, or-false, or_cases, or_left, or_right, and_parts, and_from, false_from_ne_true, not-true, not_from_false, le-leb, list_any-append, lookup, nat_cmp, Vec, BTreeMap, is_at, BTreeSet, contains, difference, Area, row_of, is_within, is_one_of, IsAhead, IsFoundBy, items_there, is_within_one, reads_in, waiting_for, waits_for, KeepsReads, ReadsOne, EachReadsOne, AreStripped, IsWithin, Waits, IsTracking, IsFree, within_between}
 use Rattle.std.specs.BTreeMap.{get}
 use Rattle.wi_graph.proofs.Tests.{turn_test, is_at-eq, is_itself, clash}
 use Rattle.wi_graph.proofs.Walks.{same_cell}
@@ -210,14 +210,14 @@ park_new waiting same next read cell v s n e u = new_one waiting next read cell 
 
 -- the rectangles have the same cells of the set
 abbrev pub KeepsCells : BTreeSet ℕ → List Area → List Area → Type 0
-KeepsCells rest old new = (d : ℕ) → contains nat_cmp rest d ≡ true → is_in new d ≡ is_in old d
+KeepsCells rest old new = (d : ℕ) → contains nat_cmp rest d ≡ true → is_within_one new d ≡ is_within_one old d
 
-last_area : (areas : List Area) (area : Area) (d : ℕ) → is_in (areas ++ area ∷ []) d ≡ (is_in areas d || is_within area d)
-last_area areas area d = list_any-append (λ r. is_within r d) areas (area ∷ []) ∙ ap (λ (b : Bool). is_in areas d || b) (or-false (is_within area d))
+last_area : (areas : List Area) (area : Area) (d : ℕ) → is_within_one (areas ++ area ∷ []) d ≡ (is_within_one areas d || is_within area d)
+last_area areas area d = list_any-append (λ r. is_within r d) areas (area ∷ []) ∙ ap (λ (b : Bool). is_within_one areas d || b) (or-false (is_within area d))
 
 -- the last has none of the set
 pub cells_dropped : (rest : BTreeSet ℕ) (first old new : List Area) (area : Area) → old ≡ new ++ area ∷ [] → ((c : ℕ) → IsAhead rest area area.first c → IsFoundBy None c) → KeepsCells rest first old → KeepsCells rest first new
-cells_dropped rest first old new area e n k d h = sym (ap (λ (rs : List Area). is_in rs d) e ∙ last_area new area d ∙ ap (λ (b : Bool). is_in new d || b) beside ∙ or-false (is_in new d)) ∙ k d h
+cells_dropped rest first old new area e n k d h = sym (ap (λ (rs : List Area). is_within_one rs d) e ∙ last_area new area d ∙ ap (λ (b : Bool). is_within_one new d || b) beside ∙ or-false (is_within_one new d)) ∙ k d h
   where
     beside : is_within area d ≡ false
     beside = false_from_ne_true (is_within area d) (λ w. n d ((within_between area d w).0, w, h))
@@ -226,8 +226,8 @@ cells_dropped rest first old new area e n k d h = sym (ap (λ (rs : List Area). 
 pub cells_cut : (rest : BTreeSet ℕ) (first old less new : List Area) (area cut : Area) (read : ℕ) → old ≡ less ++ area ∷ [] → new ≡ less ++ cut ∷ [] → ((a : ℕ) → is_within cut a ≡ (is_within area a && nat_le (row_of read) (row_of a))) →
     ((c : ℕ) → IsAhead rest area area.first c → IsFoundBy (Some read) c) → KeepsCells rest first old → KeepsCells rest first new
 cells_cut rest first old less new area cut read e f w n k d h =
-    ap (λ (rs : List Area). is_in rs d) f ∙ last_area less cut d ∙ ap (λ (b : Bool). is_in less d || b) (w d ∙ at (is_within area d) refl)
-    ∙ sym (ap (λ (rs : List Area). is_in rs d) e ∙ last_area less area d) ∙ k d h
+    ap (λ (rs : List Area). is_within_one rs d) f ∙ last_area less cut d ∙ ap (λ (b : Bool). is_within_one less d || b) (w d ∙ at (is_within area d) refl)
+    ∙ sym (ap (λ (rs : List Area). is_within_one rs d) e ∙ last_area less area d) ∙ k d h
   where
     below : (a b : ℕ) → a ≤ b → nat_le (row_of a) (row_of b) ≡ true
     below a b l = le-leb (row_of a) (row_of b) (omega (arith, l))
@@ -236,20 +236,20 @@ cells_cut rest first old less new area cut read e f w n k d h =
     at true i = ap (λ (x : Bool). x && nat_le (row_of read) (row_of d)) i ∙ below read d (n d ((within_between area d i).0, i, h)) ∙ sym i
     at false i = ap (λ (x : Bool). x && nat_le (row_of read) (row_of d)) i ∙ sym i
 
-pub cells_read : (rest : BTreeSet ℕ) (first old less : List Area) (area : Area) (read : ℕ) → old ≡ less ++ area ∷ [] → IsAhead rest area area.first read → KeepsCells rest first old → is_in first read ≡ true
+pub cells_read : (rest : BTreeSet ℕ) (first old less : List Area) (area : Area) (read : ℕ) → old ≡ less ++ area ∷ [] → IsAhead rest area area.first read → KeepsCells rest first old → is_within_one first read ≡ true
 cells_read rest first old less area read e a k =
-    sym (k read a.2) ∙ ap (λ (rs : List Area). is_in rs read) e ∙ last_area less area read ∙ or_right (is_in less read) _ a.1
+    sym (k read a.2) ∙ ap (λ (rs : List Area). is_within_one rs read) e ∙ last_area less area read ∙ or_right (is_within_one less read) _ a.1
 
-pub cells_none : (rest : BTreeSet ℕ) (first old : List Area) → old ≡ [] → KeepsCells rest first old → (d : ℕ) → is_in first d ≡ true → contains nat_cmp rest d ≡ false
+pub cells_none : (rest : BTreeSet ℕ) (first old : List Area) → old ≡ [] → KeepsCells rest first old → (d : ℕ) → is_within_one first d ≡ true → contains nat_cmp rest d ≡ false
 cells_none rest first old e k d i =
     false_from_ne_true (contains nat_cmp rest d) (λ h.
-    let z : is_in [] d ≡ true = ap (λ (rs : List Area). is_in rs d) (sym e) ∙ k d h ∙ i in
+    let z : is_within_one [] d ≡ true = ap (λ (rs : List Area). is_within_one rs d) (sym e) ∙ k d h ∙ i in
     cc)
 
 -- what one cell reads, among all
 pub kept_at : (rest : BTreeSet ℕ) (old new : BTreeMap ℕ (Vec Area)) (cell : ℕ) (v w : Vec Area) → get nat_cmp old cell ≡ Some v → ((q : ℕ) → get nat_cmp new q ≡ cond (is_at (nat_cmp cell) q) (Some w) (get nat_cmp old q)) → KeepsCells rest v.items w.items → KeepsReads rest old new
-kept_at rest old new cell v w e u k c d h = ap (λ (o : Option (Vec Area)). is_in (items_there o) d) (u c ∙ ap (λ (b : Bool). cond b (Some w) (get nat_cmp old c)) (is_at-eq cell c)) ∙ at (cell == c) refl
+kept_at rest old new cell v w e u k c d h = ap (λ (o : Option (Vec Area)). is_within_one (items_there o) d) (u c ∙ ap (λ (b : Bool). cond b (Some w) (get nat_cmp old c)) (is_at-eq cell c)) ∙ at (cell == c) refl
   where
-    at : (b : Bool) → (cell == c) ≡ b → is_in (items_there (cond b (Some w) (get nat_cmp old c))) d ≡ is_in (items_there (get nat_cmp old c)) d
-    at true s = k d h ∙ ap (λ (o : Option (Vec Area)). is_in (items_there o) d) (sym e ∙ ap (get nat_cmp old) (same_cell c cell s))
+    at : (b : Bool) → (cell == c) ≡ b → is_within_one (items_there (cond b (Some w) (get nat_cmp old c))) d ≡ is_within_one (items_there (get nat_cmp old c)) d
+    at true s = k d h ∙ ap (λ (o : Option (Vec Area)). is_within_one (items_there o) d) (sym e ∙ ap (get nat_cmp old) (same_cell c cell s))
     at false s = refl

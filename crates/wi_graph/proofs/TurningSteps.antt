@@ -1,5 +1,5 @@
 -- Steps to the cells of a cone that are circular after an edit.
-use Rattle.wi_graph.proofs.Words.{◌≡◌, ◌==◌, ◌+◌, ◌<◌, ℕ, Bool, true, false, ◌&&◌, ◌||◌, cond, not, List, [], filter, take, get_or, length, Option, Some, refl, ap, sym, ◌∙◌, and_parts, and_from, not-true, any-filter_same, list_any, keys_of, nat_cmp, Vec, SmallVec, BTreeMap, is_at, BTreeSet, contains, difference, Area, is_within, IsOrdered, Sheet, content_of, content_reads, Bag, circular, is_one_of, in_cone, AreEdgesOf, areas_in, Turns, areas_then, ReadsStay, IsEditCone, went_from, Rooms, Coming, AreInOrder, brought_to, put_over, items_of, room_at, room_over, edges_in, areas_of, HasPairs, AreCircles, IsGraph, as_set, IsConeOf, items_there, reads_in, EachReadsOne, AreStripped, IsWithin, reads_outside, turned_by, AreTurns, SettlesCone, Ascends-from_order, has_key}
+use Rattle.wi_graph.proofs.Words.{◌≡◌, ◌==◌, ◌+◌, ◌<◌, ℕ, Bool, true, false, ◌&&◌, ◌||◌, cond, not, List, [], filter, take, get_or, length, Option, Some, refl, ap, sym, ◌∙◌, and_parts, and_from, not-true, any-filter_same, keys_of, nat_cmp, Vec, SmallVec, BTreeMap, is_at, BTreeSet, contains, difference, Area, is_within_one, IsOrdered, Sheet, content_of, content_reads, Bag, circular, is_one_of, in_cone, AreEdgesOf, areas_in, Turns, areas_then, ReadsStay, IsEditCone, went_from, Rooms, Coming, AreInOrder, brought_to, put_over, items_of, room_at, room_over, edges_in, areas_of, HasPairs, AreCircles, IsGraph, as_set, IsConeOf, items_there, reads_in, EachReadsOne, AreStripped, IsWithin, reads_outside, turned_by, AreTurns, SettlesCone, Ascends-from_order, has_key}
 use Rattle.std.specs.BTreeMap.{get}
 use Rattle.wi_graph.proofs.Tests.{is_at-eq, clash}
 use Rattle.wi_graph.proofs.Walks.{same_cell}
@@ -61,7 +61,7 @@ settles rooms next circles cells held all rest list outer reads e g o h a w st l
     in_all d k = a d ∙ sym (in_list d) ∙ k
 
     as_read : (d : ℕ) → contains nat_cmp cells d ≡ true → (q : ℕ) → reads_in reads d q ≡ content_reads (content_of t d) q
-    as_read d k q = ap (λ (rs : List Area). list_any (λ r. is_within r q) rs) (g d (sym (in_list d) ∙ k) ∙ ap areas_of (are d)) ∙ sym (reads_areas (content_of t d) q)
+    as_read d k q = ap (λ (rs : List Area). is_within_one rs q) (g d (sym (in_list d) ∙ k) ∙ ap areas_of (are d)) ∙ sym (reads_areas (content_of t d) q)
 
     holds : (d : ℕ) → in_cone s xs d ≡ true → contains nat_cmp held d ≡ true → (f : ℕ) × (content_reads (content_of t d) f ≡ true) × (in_cone s xs f ≡ false) × (circular s f ≡ true)
     holds d i k =

@@ -214,7 +214,3 @@ circular_is s c = one_truth (circular s c) (has_walk (length (cells_with_formula
 -- and so exactly where walks of every length do
 pub walks_circular : (s : Sheet) (c : ℕ) → ((n : ℕ) → has_walk n s c ≡ true) → circular s c ≡ true
 walks_circular s c h = long_walk s c (h (length (cells_with_formula s)))
-
--- what a plain search for a cycle answers
-pub circular_layer : (s : Sheet) (a : ℕ) → is_one_of (layer (length (cells_with_formula s)) s) a ≡ circular s a
-circular_layer s a = in_layer (length (cells_with_formula s)) s a ∙ sym (circular_is s a)

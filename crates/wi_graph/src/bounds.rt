@@ -2,8 +2,8 @@
 
 ghost use Rattle.std.specs.Prelude.{◌≡◌, ◌&&◌, ℕ, true};
 ghost use Rattle.wi_values.specs.Address.{is_within};
+ghost use Rattle.wi_ranges.specs.Inner.Rising.{as_set};
 ghost use Rattle.wi_graph.specs.Inner.Bounds.{AreWithin, is_in_part};
-ghost use Rattle.wi_graph.specs.Inner.Search.{as_set};
 
 use wi_values::{Address, Rect};
 

@@ -7,11 +7,10 @@ ghost use Rattle.std.specs.List.Sorted.{IsStrictlyIncreasing};
 ghost use Rattle.std.specs.Map.{keys_of};
 ghost use Rattle.std.specs.Ordering.{nat_cmp};
 ghost use Rattle.std.specs.BTreeSet.{contains};
-ghost use Rattle.wi_values.specs.Address.{is_within};
+ghost use Rattle.wi_values.specs.Address.{is_within, is_within_one};
+ghost use Rattle.wi_ranges.specs.Inner.Rising.{as_set};
 ghost use Rattle.wi_graph.specs.Inner.Bounds.{AreWithin};
 ghost use Rattle.wi_graph.specs.Inner.Rooms.{items_of, areas_of};
-ghost use Rattle.wi_graph.specs.Inner.Search.{as_set};
-ghost use Rattle.wi_graph.specs.Inner.Stripping.{is_in};
 ghost use Rattle.wi_graph.specs.Inner.Turning.{reads_cell, has_one, reads_one_of, meets_one_of, has_room_in, StandsApart};
 
 use crate::bounds::around;
@@ -42,7 +41,7 @@ fn reads_cell(next: &[Brought], cell: Address) -> bool
 
 /// Whether the rectangles of a room have a cell.
 fn has_cell(room: &Option<Rectangles>, cell: Address) -> bool
-    ensures { result ≡ is_in (areas_of (items_of room.now)) cell }
+    ensures { result ≡ is_within_one (areas_of (items_of room.now)) cell }
 {
     rectangles_in(room).iter().any(|area| area.contains(cell))
 }

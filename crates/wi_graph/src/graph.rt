@@ -155,7 +155,8 @@ impl Graph {
         listed_cone(self.alloc, &self.readers, cells)
     }
 
-    /// Whether some formula reads one of these cells. The work is that of `has_readers` of the index for each, up to the first that is read.
+    /// Whether some formula reads one of these cells. The index is asked for each (`has_readers`), up to the first that is read: by the
+    /// cell alone where it lies apart from all that is read by rectangles, and else by the blocks that hold its row too.
     pub fn any_is_read(&self, cells: &[Address]) -> bool
         requires { self.now.staged ≡ None }
         ensures unread { result ≡ false → (s : Sheet) → AreEdgesOf self.now.now s

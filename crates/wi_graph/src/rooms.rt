@@ -11,7 +11,7 @@ ghost use Rattle.wi_graph.specs.Inner.Rooms.{items_of, room_at, room_over, areas
 
 use smallvec::SmallVec;
 use wi_ranges::RangeIndex;
-use wi_tiles::CellMap;
+use wi_tiles::{CellMap, release_one};
 use wi_values::{Address, Rect};
 
 /// Rectangles that a formula reads, mostly one.
@@ -65,7 +65,7 @@ pub(crate) fn take_back(rooms: &mut Rooms, readers: &mut RangeIndex, next: &mut 
     'cells: while let Some(entry) = next.pop() {
         let (cell, room) = entry;
         remove_room(readers, cell, &room);
-        release(rooms, cell);
+        release_one(rooms, cell);
     }
 }
 
@@ -98,19 +98,6 @@ fn take_room(rooms: &mut Rooms, at: Address) -> Option<Rectangles>
     ensures stood { items_of result ≡ room_at rooms.old at }
 {
     rooms.remove(at).flatten()
-}
-
-/// Takes away the room of a cell if it is vacant.
-pub(crate) fn release(rooms: &mut Rooms, at: Address)
-    requires ordered { IsOrdered nat_cmp rooms.old }
-    ensures ordered { IsOrdered nat_cmp rooms.new }
-    ensures rooms { (c : ℕ) → room_at rooms.new c ≡ room_at rooms.old c }
-    ensures others { (c : ℕ) → (at == c) ≡ false
-        → get nat_cmp rooms.new c ≡ get nat_cmp rooms.old c }
-{
-    if is_vacant(rooms, at) {
-        let _ = rooms.remove(at);
-    }
 }
 
 /// Whether nothing stands in a cell.

@@ -3,14 +3,16 @@
 ghost use Rattle.std.specs.Prelude.{◌≡◌, ◌+◌, ℕ, None, OnOk, OnErr};
 ghost use Rattle.std.specs.Ordering.{nat_cmp};
 ghost use Rattle.wi_tiles.specs.Entries.{get, IsOrdered};
+ghost use Rattle.wi_tiles.specs.Rooms.{HasRoomFor};
 ghost use Rattle.wi_ranges.specs.declared.pair.RangePair.{RangePair};
 ghost use Rattle.wi_ranges.specs.Bag.{count_of};
 ghost use Rattle.wi_graph.specs.Inner.Rooms.{items_of, room_at, areas_of, times, AreInOrder, HasRooms, HasPairs, HasBoth};
 ghost use Rattle.wi_graph.specs.Inner.Staging.{HasThese};
 
-use crate::rooms::{Brought, Rectangles, Rooms, rectangles_in, release, remove_pairs, remove_room};
+use crate::rooms::{Brought, Rectangles, Rooms, rectangles_in, remove_pairs, remove_room};
 use std::alloc::AllocError;
 use wi_ranges::RangeIndex;
+use wi_tiles::{make_room, release_one};
 use wi_values::{Address, Rect};
 
 /// Makes rooms for what is to come, and puts its pairs into the index. If memory runs out, what stands in the rooms and the
@@ -52,7 +54,7 @@ fn bring_one(
     requires ordered { IsOrdered nat_cmp rooms.old }
     ensures ordered { IsOrdered nat_cmp rooms.new }
     ensures rooms { (c : ℕ) → room_at rooms.new c ≡ room_at rooms.old c }
-    ensures there { OnOk result (get nat_cmp rooms.new cell ≡ None → ⊥) }
+    ensures room { OnOk result (HasRoomFor None rooms.new.entries (cell, room.now)) }
     ensures stay { OnOk result ((c : ℕ) → get nat_cmp rooms.new c ≡ None
         → get nat_cmp rooms.old c ≡ None) }
     ensures readers { OnOk result ((p : RangePair) → count_of readers.new p
@@ -60,11 +62,11 @@ fn bring_one(
     ensures same { OnErr result ((p : RangePair) → count_of readers.new p
         ≡ count_of readers.old p) }
 {
-    make_room(rooms, cell)?;
+    make_room(rooms, cell, room)?;
     match add_room(readers, cell, room) {
         Ok(()) => Ok(()),
         Err(error) => {
-            release(rooms, cell);
+            release_one(rooms, cell);
             Err(error)
         }
     }
@@ -80,20 +82,8 @@ fn take_out(rooms: &mut Rooms, readers: &mut RangeIndex, brought: &[Brought])
 {
     for entry in brought {
         remove_room(readers, entry.0, &entry.1);
-        release(rooms, entry.0);
+        release_one(rooms, entry.0);
     }
-}
-
-/// Makes a room for a cell that has none.
-fn make_room(rooms: &mut Rooms, at: Address) -> Result<(), AllocError>
-    requires ordered { IsOrdered nat_cmp rooms.old }
-    ensures ordered { IsOrdered nat_cmp rooms.new }
-    ensures rooms { (c : ℕ) → room_at rooms.new c ≡ room_at rooms.old c }
-    ensures there { OnOk result (get nat_cmp rooms.new at ≡ None → ⊥) }
-    ensures stay { (c : ℕ) → get nat_cmp rooms.new c ≡ None → get nat_cmp rooms.old c ≡ None }
-{
-    rooms.put_new(at, None)?;
-    Ok(())
 }
 
 /// Puts the pairs of what a cell gets into the index. On an error the index has those that it had.

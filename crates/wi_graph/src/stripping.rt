@@ -3,7 +3,8 @@
 ghost use Rattle.std.specs.Prelude.{◌≡◌, ◌==◌, ◌++◌, ◌∷◌, ℕ, [], true, false, None, IfOk, IfSome, IfNone, OnOk, if◌then◌else◌};
 ghost use Rattle.std.specs.Ordering.{nat_cmp};
 ghost use Rattle.std.specs.BTreeSet.{contains};
-ghost use Rattle.wi_graph.specs.Inner.Stripping.{is_in, reads_in, waiting_for, KeepsReads, ReadsNone, EachReadsOne, AreStripped, IsWithin, IsTracking, IsFree};
+ghost use Rattle.wi_values.specs.Address.{is_within_one};
+ghost use Rattle.wi_graph.specs.Inner.Stripping.{reads_in, waiting_for, KeepsReads, ReadsNone, EachReadsOne, AreStripped, IsWithin, IsTracking, IsFree};
 
 use crate::cell_set::CellSet;
 use crate::sets::without;
@@ -97,10 +98,10 @@ fn open_read(
 /// and the last that is left begins at the row of the one found.
 fn first_read(areas: &mut Vec<Rect>, rest: &CellSet) -> Result<Option<Address>, AllocError>
     ensures kept { OnOk result ((d : ℕ) → contains nat_cmp rest.now d ≡ true
-        → is_in areas.new.items d ≡ is_in areas.old.items d) }
-    ensures read { IfOk result (λ o. IfSome o (λ d. is_in areas.old.items d ≡ true)) }
+        → is_within_one areas.new.items d ≡ is_within_one areas.old.items d) }
+    ensures read { IfOk result (λ o. IfSome o (λ d. is_within_one areas.old.items d ≡ true)) }
     ensures there { IfOk result (λ o. IfSome o (λ d. contains nat_cmp rest.now d ≡ true)) }
-    ensures none { IfOk result (λ o. IfNone o ((d : ℕ) → is_in areas.old.items d ≡ true
+    ensures none { IfOk result (λ o. IfNone o ((d : ℕ) → is_within_one areas.old.items d ≡ true
         → contains nat_cmp rest.now d ≡ false)) }
 {
     'areas: while let Some(area) = areas.pop() {

@@ -4,8 +4,8 @@ ghost use Rattle.std.specs.Prelude.{◌≡◌, ◌<◌, ◌≤◌, ◌+◌, ◌&
 ghost use Rattle.std.specs.List.Sorted.{IsStrictlyIncreasing, IsPartitionPoint};
 ghost use Rattle.std.specs.BTreeSet.{contains};
 ghost use Rattle.wi_values.specs.Address.{row_of, is_within};
+ghost use Rattle.wi_ranges.specs.Inner.Rising.{as_set};
 ghost use Rattle.wi_graph.specs.Inner.Bounds.{AreWithin};
-ghost use Rattle.wi_graph.specs.Inner.Search.{as_set};
 ghost use Rattle.wi_graph.specs.Inner.Within.{IsAhead, IsBetween, IsFoundBy};
 
 use crate::bounds::common;

@@ -43,13 +43,6 @@ record_outside row column field (x ∷ xs) =
 
 -- ---- no fault
 
-or_both : (a b c d : Bool) → (a || b) ≡ false → (c || d) ≡ false → ((a || c) || (b || d)) ≡ false
-or_both true b c d e f = cc e
-or_both false true c d e f = cc e
-or_both false false true d e f = cc f
-or_both false false false true e f = cc f
-or_both false false false false e f = refl
-
 any_or : {X : Type 0} (p q : X → Bool) (xs : List X) → list_any p xs ≡ false → list_any q xs ≡ false → list_any (λ x. p x || q x) xs ≡ false
 any_or p q [] e f = refl
 any_or p q (x ∷ xs) e f =

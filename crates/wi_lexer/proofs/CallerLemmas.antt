@@ -1,5 +1,5 @@
 -- What a loop over `next_token` collects: the tokens of the text.
-use Rattle.wi_lexer.proofs.Words.{◌≡◌, ℕ, zero, suc, ◌<◌, ◌≤◌, true, false, List, [], ◌∷◌, ◌++◌, length, take, drop, Option, Some, None, Result, Ok, Err, refl, sym, ap, ◌∙◌, subst, arith, append_assoc, length-append, length-drop, append-nil, length-take-le, drop-append_seam, take-append_seam, Kind, Token, BadToken, blanks_len, IsToken, NoToken, after_blanks, token_at, Scan, start_of, ahead, IsNextToken, IsDone, Lexes, Tokens, no_tokens, bad_token, then_tokens, tokens_from, tokens_ahead, tokens_within, tokens}
+use Rattle.wi_lexer.proofs.Words.{◌≡◌, ℕ, zero, suc, ◌<◌, ◌≤◌, List, [], ◌∷◌, ◌++◌, length, take, drop, Option, Some, None, refl, ap, ◌∙◌, subst, arith, length-append, length-drop, length-take-le, drop-append_seam, take-append_seam, Kind, Token, blanks_len, IsToken, NoToken, after_blanks, token_at, Scan, ahead, IsNextToken, Tokens, no_tokens, bad_token, then_tokens, tokens_from, tokens_ahead, tokens_within, tokens}
 use Rattle.wi_lexer.proofs.TokenLemmas.{token_some, token_sound, token_complete, none_found}
 
 -- ---- the bound on the number of tokens is never felt
@@ -42,16 +42,6 @@ tokens_are (b ∷ bs) =
     (λ ys shorter. any_bound (length bs) (length ys) ys (omega arith) (omega arith))
 
 -- ---- what each answer of `next_token` tells
-
--- The answer in the form in which a `match` on it tells it.
-pub gives_token : (old new : Scan) (o : Option (Result Token BadToken)) (r : Result Token BadToken) (t : Token) → Lexes old o new → o ≡ Some r → r ≡ Ok t → IsNextToken old t new
-gives_token old new o r t h some ok = subst (λ x. Lexes old (Some x) new) ok (subst (λ x. Lexes old x new) some h)
-
-pub gives_bad : (old new : Scan) (o : Option (Result Token BadToken)) (r : Result Token BadToken) (b : BadToken) → Lexes old o new → o ≡ Some r → r ≡ Err b → (ahead old ≡ [] → ⊥) × NoToken (ahead old) × IsDone old new
-gives_bad old new o r b h some err = subst (λ x. Lexes old (Some x) new) err (subst (λ x. Lexes old x new) some h)
-
-pub gives_end : (old new : Scan) (o : Option (Result Token BadToken)) → Lexes old o new → o ≡ None → (ahead old ≡ []) × IsDone old new
-gives_end old new o h e = subst (λ x. Lexes old x new) e h
 
 -- a token, as the tokens of a text list it
 abbrev pub listed : Token → Kind × List ℕ
@@ -97,26 +87,3 @@ token_is old t new h =
 pub next_shortens : (old : Scan) (t : Token) (new : Scan) → IsNextToken old t new → length new.rest < length old.rest
 next_shortens old t new h =
     omega (arith, next_is_some old t new h, ap length h.front, length-append t.text.now new.rest, after_blanks_within old.rest)
-
--- ---- a loop
-
--- The tokens of the text are those collected, and then those of what is left.
-abbrev pub IsCollected : List ℕ → List (Kind × List ℕ) → Scan → Type 0
-IsCollected text collected s = tokens text ≡ then_tokens collected (tokens s.rest)
-
-pub collected_start : (text : List ℕ) → IsCollected text [] (start_of text)
-collected_start text = refl
-
-pub collected_next : (text : List ℕ) (collected : List (Kind × List ℕ)) (old : Scan) (t : Token) (new : Scan) → IsCollected text collected old → IsNextToken old t new → IsCollected text (collected ++ listed t ∷ []) new
-collected_next text collected old t new so_far h =
-    so_far
-    ∙ ap (λ more. then_tokens collected more) (tokens_next old t new h)
-    ∙ ap (λ ts. record { found = ts; bad = (tokens new.rest).bad }) (sym (append_assoc collected (listed t ∷ []) (tokens new.rest).found))
-
-pub collected_bad : (text : List ℕ) (collected : List (Kind × List ℕ)) (s : Scan) → IsCollected text collected s → (ahead s ≡ [] → ⊥) → NoToken (ahead s) → tokens text ≡ record { found = collected; bad = true }
-collected_bad text collected s so_far some none =
-    so_far ∙ ap (λ more. then_tokens collected more) (tokens_bad s some none) ∙ ap (λ ts. record { found = ts; bad = true }) (append-nil collected)
-
-pub collected_end : (text : List ℕ) (collected : List (Kind × List ℕ)) (s : Scan) → IsCollected text collected s → ahead s ≡ [] → tokens text ≡ record { found = collected; bad = false }
-collected_end text collected s so_far none =
-    so_far ∙ ap (λ more. then_tokens collected more) (tokens_end s none) ∙ ap (λ ts. record { found = ts; bad = false }) (append-nil collected)

@@ -1,5 +1,5 @@
 -- The words of the library, of the crates below and of this crate's definitions that its proofs are written in.
-pub use Rattle.std.proofs.Common.{Bool, Bor, Err, IsUtf8, List, MatchOption, None, Ok, Option, Result, Some, [], ap, append-nil, append_assoc, ap₂, arith, cond, drop, eq-eqb, false, get_or, inl, inr, is_some, length, length-append, length-drop, not, pos, refl, rules, string_bytes, subst, suc, sym, take, true, unwrap_or, zero, ℕ, ℤ, ◌&&◌, ◌++◌, ◌+◌, ◌-◌, ◌<◌, ◌==◌, ◌||◌, ◌↔◌, ◌∙◌, ◌∷◌, ◌≡◌, ◌≢◌, ◌≤◌, ◌⊎◌}
+pub use Rattle.std.proofs.Common.{Bool, Bor, IsUtf8, List, MatchOption, None, Option, Some, [], ap, append-nil, append_assoc, ap₂, arith, cond, drop, eq-eqb, false, get_or, inl, inr, is_some, length, length-append, length-drop, not, pos, refl, rules, string_bytes, subst, suc, sym, take, true, unwrap_or, zero, ℕ, ℤ, ◌&&◌, ◌++◌, ◌+◌, ◌-◌, ◌<◌, ◌==◌, ◌||◌, ◌↔◌, ◌∙◌, ◌∷◌, ◌≡◌, ◌≢◌, ◌≤◌, ◌⊎◌}
 pub use Rattle.std.proofs.Math.Seq.{drop-append_seam, take-add, take-append-add, take-append_seam, take-length}
 pub use Rattle.std.proofs.lemmas.Bool.{and_from, and_parts, cases_Bool, eqb-true, lt-ltb, ltb-false, ltb-true, ne_eqb, not-true, true≢false}
 pub use Rattle.std.proofs.lemmas.Bool.Decides.{nat_tests}
@@ -37,7 +37,7 @@ pub use Rattle.wi_lexer.specs.Inner.Token.{brackets_at, mark_token, of_length}
 unfoldable pub use Rattle.wi_lexer.specs.Inner.Token.{token_at}
 pub use Rattle.wi_lexer.specs.Inner.Tokens.{tokens_ahead, tokens_from}
 unfoldable pub use Rattle.wi_lexer.specs.Inner.Tokens.{tokens, tokens_within}
-pub use Rattle.wi_lexer.specs.Lexing.{IsDone, IsNextToken, Lexes, ahead, start_of}
+pub use Rattle.wi_lexer.specs.Lexing.{IsNextToken, ahead}
 pub use Rattle.wi_lexer.specs.Mark.{mark_text}
 pub use Rattle.wi_lexer.specs.Name.{IsName, is_name_part, is_name_start}
 pub use Rattle.wi_lexer.specs.Quoted.{doubled, quoted}
@@ -48,7 +48,6 @@ pub use Rattle.wi_lexer.specs.Scan.{Scan}
 pub use Rattle.wi_lexer.specs.Text.{IsText, of_content}
 pub use Rattle.wi_lexer.specs.Token.{IsLongest, IsToken, NoToken, after_blanks}
 pub use Rattle.wi_lexer.specs.Tokens.{AreTokens, Tokens, bad, bad_token, ended, more, no_tokens, then_tokens}
-pub use Rattle.wi_lexer.specs.declared.lexer.BadToken.{BadToken}
 pub use Rattle.wi_lexer.specs.declared.lexer.Token.{Token}
 pub use Rattle.wi_lexer.specs.declared.token.Kind.{Kind}
 pub use Rattle.wi_lexer.specs.declared.token.Kind.TheVariants.{Mark, Name, Number, Rectangle, Reference, Text}

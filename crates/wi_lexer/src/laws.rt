@@ -44,7 +44,8 @@ pub fn token_and_rest()
 
 /// A text in which a cell is found is the text of that cell.
 pub fn cell_found()
-    ensures { (bs : List ℕ) (c : WrittenCell) → cell_of bs ≡ Some c → IsCell c × (cell_text c ≡ bs) }
+    ensures { (bs : List ℕ) (c : WrittenCell) → cell_of bs ≡ Some c
+        → IsCell c × (cell_text c ≡ bs) }
 {}
 
 /// Each cell is found in its text.
@@ -71,7 +72,8 @@ pub fn rectangle_found()
 
 /// Each reference to a rectangle is found in its text.
 pub fn rectangle_spelled()
-    ensures { (c d : WrittenCell) → IsCell c → IsCell d → rectangle_of (rectangle_text c d) ≡ Some (c, d) }
+    ensures { (c d : WrittenCell) → IsCell c → IsCell d
+        → rectangle_of (rectangle_text c d) ≡ Some (c, d) }
 {}
 
 /// Each content is found in its text in double quotes.

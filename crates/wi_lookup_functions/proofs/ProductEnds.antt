@@ -1,5 +1,5 @@
 -- The sum over all places is SUMPRODUCT, and how SUMPRODUCT ends.
-use Rattle.wi_lookup_functions.proofs.Words.{◌≡◌, ℕ, suc, ◌<◌, ◌≤◌, ◌+◌, ◌-◌, ◌==◌, Bool, true, false, ◌&&◌, ◌||◌, List, [], ◌∷◌, ◌++◌, map, fold, drop, get_or, length, Option, Some, None, refl, sym, ap, ◌∙◌, subst, arith, Result, slice_get, unwrap_or, if◌then◌else◌, list_all, list_any, range_with_len, and_parts, and_from, eq-eqb, drop_more, drop_all, length-map, append_assoc, append-nil, list_all-map, slice_get-map, Area, cells_of, is_within, row_of, column_of, ErrorKind, BadValue, Value, Empty, Number, Region, region_of, region_referred, addition, multiplication, zero_number, one_number, same_size, of_one_size, factor, product_at, products, sum_of_items, sum_product_value, Item, scalar, number_of_item, with_number, ◌>>=◌, and_then, map_until_error, Missing, Memory, arguments_in, refers_to, area_referred, Stop, Ending, Error, Stopped, Agrees, Gives, areas_of, product_there, sum_over, sum_through, with_factor, with_place, IsAreaError, IsMissingInAny, same_extent, same_place}
+use Rattle.wi_lookup_functions.proofs.Words.{◌≡◌, ℕ, suc, ◌<◌, ◌≤◌, ◌+◌, ◌-◌, ◌==◌, Bool, true, false, ◌&&◌, ◌||◌, List, [], ◌∷◌, ◌++◌, map, fold, drop, get_or, length, Option, Some, None, refl, sym, ap, ◌∙◌, subst, arith, Result, slice_get, unwrap_or, if◌then◌else◌, list_all, list_any, range_with_len, and_parts, and_from, eq-eqb, drop_more, drop_all, length-map, append_assoc, append-nil, list_all-map, slice_get-map, Area, cells_of, is_within, is_within_one, row_of, column_of, ErrorKind, BadValue, Value, Empty, Number, Region, region_of, region_referred, addition, multiplication, zero_number, one_number, same_size, of_one_size, factor, product_at, products, sum_of_items, sum_product_value, Item, scalar, number_of_item, with_number, ◌>>=◌, and_then, map_until_error, Missing, Memory, arguments_in, refers_to, area_referred, Stop, Ending, Error, Stopped, Agrees, Gives, areas_of, product_there, sum_over, sum_through, with_factor, with_place, IsAreaError, IsMissingInAny, same_extent, same_place}
 use Rattle.std.proofs.Common.{option_map}
 use Rattle.std.specs.Prelude.{Ok, Err}
 use Rattle.wi_fraction.specs.Number as numbers
@@ -130,13 +130,13 @@ regions_are cells (given.TheVariants.Reference r ∷ args) = ap (and_then (λ ys
     at (Ok rs) = refl
     at (Err e) = refl
 
-referred : (c : ℕ) (args : List given.Argument) (rs : List Area) → areas_of args ≡ Ok rs → list_any (refers_to c) args ≡ list_any (λ r. is_within r c) rs
-referred c [] rs e = let same : [] ≡ rs = cc in ap (list_any (λ r. is_within r c)) same
+referred : (c : ℕ) (args : List given.Argument) (rs : List Area) → areas_of args ≡ Ok rs → list_any (refers_to c) args ≡ is_within_one rs c
+referred c [] rs e = let same : [] ≡ rs = cc in ap (λ (xs : List Area). is_within_one xs c) same
 referred c (given.TheVariants.Value v ∷ args) rs e = cc
 referred c (given.TheVariants.Reference r ∷ args) rs e = at (areas_of args) (λ ys m. referred c args ys m) e
   where
-    at : (o : Result (List Area) ErrorKind) → ((ys : List Area) → o ≡ Ok ys → list_any (refers_to c) args ≡ list_any (λ s. is_within s c) ys) → and_then (λ ys. Ok (r ∷ ys)) o ≡ Ok rs → (is_within r c || list_any (refers_to c) args) ≡ list_any (λ s. is_within s c) rs
-    at (Ok ys) again n = let same : r ∷ ys ≡ rs = cc in ap (λ (b : Bool). is_within r c || b) (again ys refl) ∙ ap (list_any (λ s. is_within s c)) same
+    at : (o : Result (List Area) ErrorKind) → ((ys : List Area) → o ≡ Ok ys → list_any (refers_to c) args ≡ is_within_one ys c) → and_then (λ ys. Ok (r ∷ ys)) o ≡ Ok rs → (is_within r c || list_any (refers_to c) args) ≡ is_within_one rs c
+    at (Ok ys) again n = let same : r ∷ ys ≡ rs = cc in ap (λ (b : Bool). is_within r c || b) (again ys refl) ∙ ap (λ (xs : List Area). is_within_one xs c) same
     at (Err x) again n = cc
 
 module _ (args : List given.Argument) where

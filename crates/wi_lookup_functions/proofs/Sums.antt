@@ -1,5 +1,5 @@
 -- What SUMIF adds.
-use Rattle.wi_lookup_functions.proofs.Words.{◌≡◌, ℕ, Bool, true, false, cond, ◌||◌, List, [], ◌∷◌, map, filter, fold, Option, Some, None, IfSome, refl, sym, ap, ◌∙◌, subst, Result, zip, if◌then◌else◌, list_any, or_left, or_right, Area, cells_of, is_within, ErrorKind, BadValue, Value, Empty, Number, Argument, Region, region_of, region_at, region_or, value_at, addition, zero_number, no_error, same_size, chosen_cells, sum_of_items, sum_if_value, Item, from_cell, number_of_item, with_number, ◌>>=◌, and_then, Missing, Memory, arguments_in, refers_to, KnownAgrees, region_in, IsReferred, IsNextFilled, after_cells, IsNextAfter, known_agrees, known_is, taken_for_known, Criterion, criterion_held, is_met, empty_meets_none, Stop, Ending, Error, Stopped, criterion_argument, Agrees, Gives, same_extent, same_place, values_where, with_cell, with_met, IsMissingInEither}
+use Rattle.wi_lookup_functions.proofs.Words.{◌≡◌, ℕ, Bool, true, false, cond, ◌||◌, List, [], ◌∷◌, map, filter, fold, Option, Some, None, IfSome, refl, sym, ap, ◌∙◌, subst, Result, zip, if◌then◌else◌, list_any, or_left, or_right, Area, cells_of, is_within, ErrorKind, BadValue, Value, Empty, Number, Argument, Region, region_of, region_at, region_or, value_at, addition, zero_number, no_error, same_size, chosen_cells, sum_of_items, sum_if_value, Item, from_cell, number_of_item, with_number, ◌>>=◌, and_then, Missing, Memory, arguments_in, refers_to, KnownAgrees, region_in, IsReferred, IsNextFilled, after_cells, IsNextAfter, known_agrees, taken_for_known, Criterion, criterion_held, is_met, empty_meets_none, Stop, Ending, Error, Stopped, criterion_argument, Agrees, Gives, same_extent, same_place, values_where, with_cell, with_met, IsMissingInEither}
 use Rattle.std.specs.Prelude.{Ok, Err}
 use Rattle.wi_fraction.specs.Number as numbers
 use Rattle.wi_standard_functions.specs.Criterion as defined
@@ -23,20 +23,6 @@ as_items criterion other cells t (x ∷ xs) = at (is_met criterion (cells x)) (�
         fold added t (map (λ (p : Value × Value). from_cell p.1) (cond b ((cells x, cells (other x)) ∷ filter (λ (p : Value × Value). is_met criterion p.0) (zip (map cells xs) (map cells (map other xs)))) (filter (λ (p : Value × Value). is_met criterion p.0) (zip (map cells xs) (map cells (map other xs)))))) ≡ after_cells (with_met criterion other cells) cells (if b then with_cell t (cells (other x)) else t) xs
     at true again = again (with_cell t (cells (other x)))
     at false again = again t
-
--- ---- one cell
-
--- the cell that stands beside one whose value meets the criterion is added
-pub adds_met : (known : ℕ → Option Value) (criterion : Criterion) (v : Value) (sum : numbers.Number) (other : ℕ) (w : Value) (o : Result numbers.Number ErrorKind) → is_met criterion v ≡ true → Some w ≡ known other → o ≡ with_cell (Ok sum) w →
-    (cells : ℕ → Value) → KnownAgrees known cells → (if is_met criterion v then with_cell (Ok sum) (cells other) else Ok sum) ≡ o
-adds_met known criterion v sum other w o m k e cells agrees =
-    ap (λ (b : Bool). if b then with_cell (Ok sum) (cells other) else Ok sum) m
-    ∙ ap (λ (u : Value). with_cell (Ok sum) u) (sym (known_is (known other) w (cells other) (agrees other) k))
-    ∙ sym e
-
--- and any other isn't
-pub passes_unmet : (criterion : Criterion) (v : Value) (sum : numbers.Number) (other : ℕ) → is_met criterion v ≡ false → (cells : ℕ → Value) → (if is_met criterion v then with_cell (Ok sum) (cells other) else Ok sum) ≡ Ok sum
-passes_unmet criterion v sum other m cells = ap (λ (b : Bool). if b then with_cell (Ok sum) (cells other) else Ok sum) m
 
 -- ---- the walk
 

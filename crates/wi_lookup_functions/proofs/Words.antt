@@ -78,7 +78,7 @@ pub use Rattle.wi_value_functions.specs.declared.ending.Ending.TheVariants.{Erro
 pub use Rattle.wi_value_functions.specs.declared.ending.Stop.{Stop}
 pub use Rattle.wi_value_functions.specs.declared.ending.Stop.TheVariants.{Memory, Missing}
 pub use Rattle.wi_values.proofs.Within.{column_of_place, column_within, places_left, row_of_place, within_between, within_from, within_parts}
-pub use Rattle.wi_values.specs.Address.{Area, cells_of, column_of, height, is_within, place, rect_of, row_of, width}
+pub use Rattle.wi_values.specs.Address.{Area, cells_of, column_of, height, is_within, is_within_one, place, rect_of, row_of, width}
 pub use Rattle.wi_values.specs.Inner.Cells.{sooner}
 pub use Rattle.wi_values.specs.declared.value.ErrorKind.{ErrorKind}
 pub use Rattle.wi_values.specs.declared.value.ErrorKind.TheVariants.{BadReference, BadValue, NotAvailable}

@@ -25,8 +25,8 @@ pub fn value_of_lookup<L: Lookup>(
     arguments: &[Argument],
     lookup: &L,
 ) -> Result<Value, Stop<Address>>
-    ensures done { IfOk result (IsOfArguments
-        (L.known_cell lookup.now) (applied_to_arguments (References (ByLookup function))) arguments.now) }
+    ensures done { IfOk result (IsOfArguments (L.known_cell lookup.now)
+        (applied_to_arguments (References (ByLookup function))) arguments.now) }
     ensures missing { IfErr result
         (λ s. IfMissing s (IsMissing (L.known_cell lookup.now) arguments.now)) }
 {

@@ -31,8 +31,8 @@ pub fn options<'a>(alloc: Global, words: &'a [String]) -> Result<Options<'a>, Op
     ensures load { IfOk result (λ o. option_map (λ s. s.now) o.load ≡ stated_load words.now) }
     ensures keep { IfOk result (λ o. o.keep ≡ number_or usual_kept (stated_keep words.now)) }
     ensures range { IfOk result (λ o. (1 ≤ o.keep) × (o.keep ≤ most_kept)) }
-    // Words in which clap finds anything amiss are refused, a call for help too. Words that clap takes are refused for want of
-    // memory alone, others also for what is amiss.
+    // Words in which clap finds anything amiss are refused, a call for help too. Words that clap takes are refused only
+    // where memory runs out, others also for what is amiss.
     ensures whole { IfOk result (λ _. found_amiss words.now ≡ []) }
     ensures taken { IfErr result
         (λ fault. is_taken words.now ≡ true → fault ≡ OptionsFault.Memory) }

@@ -1,5 +1,5 @@
 -- What the calls on formulas and contents answer.
-use Rattle.wi_parser.proofs.Words.{◌≡◌, ◌≤◌, Bool, Bor, true, false, List, length, ℕ, Option, Some, None, option_map, is_some, ok_or, Ok, Err, if◌then◌else◌, ℤ, codes, refl, ap, sym, ◌∙◌, le-ltb, Value, max_text, imported, Constant, Formula, TooLong, Tree, stays, moved, all_references, map_references, shifted, after, after_prefix, after_equals, parsed, as_content, taken_as_text, constant_read, content_read}
+use Rattle.wi_parser.proofs.Words.{◌≡◌, ◌≤◌, Bool, true, false, List, length, ℕ, Option, Some, None, option_map, is_some, ok_or, Ok, Err, if◌then◌else◌, ℤ, codes, refl, ap, sym, ◌∙◌, le-ltb, Value, max_text, imported, Constant, Formula, TooLong, Tree, stays, moved, all_references, map_references, shifted, Front, IsFrontOf, after, after_equals, parsed, as_content, taken_as_text, constant_read, content_read}
 use Rattle.wi_values.specs.declared.value.Value.TheVariants.{Text}
 
 -- ---- shifts
@@ -21,9 +21,8 @@ some_mapped f None = refl
 some_mapped f (Some x) = refl
 
 -- whether an `=` follows a text's prefix
-pub body_found : (text plain : List ℕ) (body : Option (Bor (List ℕ))) (test : Bool) → plain ≡ after_prefix text → option_map (λ b. b.now) body ≡ after (codes "=") plain → test ≡ is_some body → test ≡ is_some (after_equals text)
-body_found text plain body test front is h =
-    h ∙ sym (some_mapped (λ b. b.now) body) ∙ ap is_some (is ∙ ap (after (codes "=")) front)
+pub body_found : (text : List ℕ) (front : Front) (test : Bool) → IsFrontOf text front → test ≡ is_some front.body → test ≡ is_some (after_equals text)
+body_found text front test is h = h ∙ sym (some_mapped (λ b. b.now) front.body) ∙ ap is_some is.body
 
 pub read_formula : (text : List ℕ) (t : Tree) → true ≡ is_some (after_equals text) → parsed text ≡ Ok t → content_read text ≡ Ok (Formula t)
 unfolding content_read

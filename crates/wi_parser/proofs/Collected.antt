@@ -1,5 +1,5 @@
 -- What a loop over the tokens of a text collects.
-use Rattle.wi_parser.proofs.Words.{◌≡◌, ℕ, List, [], ◌∷◌, ◌++◌, length, ◌<◌, refl, sym, ap, ◌∙◌, arith, Token, NoToken, after_blanks, Scan, ahead, IsNextToken, IsDone, tokens, tokens_next, tokens_bad, tokens_end, Syntax, Symbol, bad_token, symbol_of, symbols_of, meant_by, all_meant}
+use Rattle.wi_parser.proofs.Words.{◌≡◌, List, [], ◌∷◌, ◌++◌, refl, sym, ap, ◌∙◌, Token, NoToken, after_blanks, Scan, ahead, IsNextToken, IsDone, tokens, tokens_next, tokens_bad, tokens_end, Syntax, Symbol, bad_token, symbol_of, symbols_of, meant_by, all_meant}
 use Rattle.wi_parser.specs.declared.symbol.Symbol as code
 
 -- what is left of the text's symbols
@@ -15,13 +15,6 @@ left_end s h = ap symbols_of (tokens_end s h)
 pub left_bad : (old new : Scan) → (ahead old ≡ [] → ⊥) → NoToken (ahead old) → IsDone old new → left old ≡ bad_token Syntax ∷ left new
 left_bad old new some none done =
     ap symbols_of (tokens_bad old some none) ∙ ap (λ ts. bad_token Syntax ∷ ts) (sym (left_end new (ap after_blanks done.rest)))
-
-shortens : (old new : List ℕ) → (after_blanks old ≡ [] → ⊥) → new ≡ [] → length new < length old
-shortens [] new some none = absurd (some refl)
-shortens (b ∷ bs) new some none = omega (arith, ap length none)
-
-pub bad_shortens : (old new : Scan) → (ahead old ≡ [] → ⊥) → IsDone old new → length new.rest < length old.rest
-bad_shortens old new some done = shortens old.rest new.rest some done.rest
 
 -- what one more symbol of the code means
 pub pushed : (ws : List code.Symbol) (w : code.Symbol) (ts : List Symbol) → all_meant (ws ++ w ∷ []) ++ ts ≡ all_meant ws ++ meant_by w ∷ ts

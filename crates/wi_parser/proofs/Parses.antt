@@ -1,15 +1,11 @@
 -- What the tree of a text is, and why there is none.
-use Rattle.wi_parser.proofs.Words.{◌≡◌, ℕ, ◌+◌, ◌<◌, ◌≤◌, Bool, true, false, ◌||◌, nat_lt, List, [], ◌∷◌, ◌++◌, length, Option, Some, None, Result, Ok, Err, ok_or, if◌then◌else◌, IfOk, ◌↔◌, refl, sym, ap, ap₂, ◌∙◌, subst, arith, or_parts, lt-ltb, le-ltb, ltb-false, list_any-append, list_any, ParseFault, TooLong, OutOfSheet, NumberRange, TooDeep, Syntax, Memory, Tree, Trees, Symbol, close_parenthesis, infix_mark, percent_mark, bad_token, is_out_of_sheet, is_unfit, loosest, Spells, a_number, a_cell, a_rectangle, in_parentheses, one_input, two_inputs, with_sign, with_percent, tighter, joined, SpellsAll, SpellsMore, a_text, a_call, no_parameter, parameters, last_parameter, another_parameter, max_depth, is_too_deep, whole, Fails, after_prefix, after_equals, symbols_by, formula_symbols, max_formula, refusal_of, unless_refused, judged, parsed, IsWithinLimits, is_too_long, ReadsAs}
+use Rattle.wi_parser.proofs.Words.{◌≡◌, ℕ, ◌+◌, ◌<◌, ◌≤◌, Bool, true, false, ◌||◌, nat_lt, List, [], ◌∷◌, ◌++◌, length, Option, Some, None, Result, Ok, Err, ok_or, if◌then◌else◌, IfOk, ◌↔◌, refl, sym, ap, ap₂, ◌∙◌, subst, arith, or_parts, lt-ltb, le-ltb, ltb-false, list_any-append, list_any, ParseFault, TooLong, OutOfSheet, NumberRange, TooDeep, Syntax, Memory, Tree, Trees, Symbol, close_parenthesis, infix_mark, percent_mark, bad_token, is_refused, is_out_of_sheet, is_unfit, loosest, Spells, a_number, a_cell, a_rectangle, in_parentheses, one_input, two_inputs, with_sign, with_percent, tighter, joined, SpellsAll, SpellsMore, a_text, a_call, no_parameter, parameters, last_parameter, another_parameter, max_depth, is_too_deep, whole, Fails, Front, IsFrontOf, symbols_by, symbols_with, formula_symbols, max_formula, refusal_of, unless_refused, judged, parsed, IsWithinLimits, is_too_long, ReadsAs}
 use Rattle.wi_parser.proofs.Sound.{whole_sound}
 use Rattle.wi_parser.proofs.Complete.{whole_complete}
 use Rattle.wi_parser.proofs.Depth.{depth-deepest}
 use Rattle.wi_parser.proofs.TooDeep.{few_open}
 
 -- ---- symbols that spell a tree are not refused
-
-abbrev is_refused : Symbol → Bool
-is_refused (bad_token e) = true
-is_refused s = false
 
 none_in_both : (xs ys : List Symbol) → list_any is_refused xs ≡ false → list_any is_refused ys ≡ false → list_any is_refused (xs ++ ys) ≡ false
 none_in_both xs ys h e = list_any-append is_refused xs ys ∙ ap₂ (λ a b. a || b) h e
@@ -56,24 +52,28 @@ unfit_is_refused : (s : Symbol) → is_refused s ≡ false → is_unfit s ≡ fa
 unfit_is_refused (bad_token e) h = cc
 unfit_is_refused s h = refl
 
-not_refused : (ts : List Symbol) → list_any is_out_of_sheet ts ≡ false → list_any is_unfit ts ≡ false → is_too_deep ts ≡ false → refusal_of ts ≡ None
-not_refused ts o u d =
+-- symbols that are refused for none of the causes before it may nest too deep
+pub by_depth : (ts : List Symbol) → list_any is_out_of_sheet ts ≡ false → list_any is_unfit ts ≡ false → refusal_of ts ≡ (if is_too_deep ts then Some TooDeep else None)
+by_depth ts o u =
     ap (λ b. if b then Some OutOfSheet else (if list_any is_unfit ts then Some NumberRange else (if is_too_deep ts then Some TooDeep else None))) o
     ∙ ap (λ b. if b then Some NumberRange else (if is_too_deep ts then Some TooDeep else None)) u
-    ∙ ap (λ b. if b then Some TooDeep else None) d
+
+-- and so may those of which none is bad
+pub by_depth_alone : (ts : List Symbol) → list_any is_refused ts ≡ false → refusal_of ts ≡ (if is_too_deep ts then Some TooDeep else None)
+by_depth_alone ts h = by_depth ts (none_passes is_out_of_sheet outside_is_refused ts h) (none_passes is_unfit unfit_is_refused ts h)
 
 -- what is spelled and does not nest too deep is judged to be the tree
 judged_spelled : (ts : List Symbol) (t : Tree) → Spells loosest t ts → is_too_deep ts ≡ false → judged ts ≡ Ok t
 judged_spelled ts t s h =
-    ap (λ o. unless_refused o (whole (max_depth + 1) ts)) (not_refused ts (none_passes is_out_of_sheet outside_is_refused ts (none_is_refused s)) (none_passes is_unfit unfit_is_refused ts (none_is_refused s)) h)
+    ap (λ o. unless_refused o (whole (max_depth + 1) ts)) (by_depth_alone ts (none_is_refused s) ∙ ap (λ b. if b then Some TooDeep else None) h)
     ∙ ap (λ found. ok_or found Syntax) (whole_complete max_depth ts t s (omega (arith, depth-deepest t ts s, few_open ts h)))
 
 -- ---- a text
 
--- the symbols of what follows a text's prefix and its `=`
-pub by_front : (text plain : List ℕ) (body : Option (List ℕ)) → plain ≡ after_prefix text → body ≡ after_equals text → symbols_by plain body ≡ formula_symbols text
+-- the symbols of a text by its front
+pub by_front : (text : List ℕ) (front : Front) → IsFrontOf text front → symbols_with front ≡ formula_symbols text
 unfolding formula_symbols
-by_front text plain body h k = ap₂ symbols_by h k
+by_front text front is = ap₂ symbols_by is.plain is.body
 
 pub parsed_long : (text : List ℕ) → max_formula < length text → parsed text ≡ Err TooLong
 unfolding parsed
@@ -149,7 +149,7 @@ never_too_long false false true o = refl
 never_too_long false false false (Some t) = refl
 never_too_long false false false None = refl
 
--- of a text within the limit want of memory may be answered
+-- of a text within the limit "out of memory" may be answered
 pub short_lacks : (text : List ℕ) (r : Result Tree ParseFault) → length text ≤ max_formula → r ≡ Err Memory → ReadsAs (parsed text) r
 short_lacks text r h e =
     let ts = formula_symbols text in

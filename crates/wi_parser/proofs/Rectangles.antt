@@ -1,5 +1,5 @@
 -- A tree reads exactly the cells of its rectangles.
-use Rattle.wi_parser.proofs.Words.{◌≡◌, ◌==◌, ℕ, ◌||◌, Bool, true, false, List, [], ◌∷◌, map, min, max, refl, ap, ap₂, sym, ◌∙◌, arith, list_any, flat_map, or-false, false_from_ne_true, eqb-true, nat_tests, list_any-append, Area, place, row_of, column_of, is_within, is_itself, within_between, Reference, Tree, Leaf, cell_leaf, rectangle_leaf, what_if_leaf, leaves, cell_area, area_of, leaf_reads, reads, leaf_rectangles, rectangles_of}
+use Rattle.wi_parser.proofs.Words.{◌≡◌, ◌==◌, ℕ, ◌||◌, Bool, true, false, List, [], ◌∷◌, map, min, max, refl, ap, ap₂, sym, ◌∙◌, arith, list_any, flat_map, or-false, false_from_ne_true, eqb-true, nat_tests, list_any-append, Area, place, row_of, column_of, is_within, is_within_one, is_itself, within_between, Reference, Tree, Leaf, cell_leaf, rectangle_leaf, what_if_leaf, leaves, cell_area, area_of, leaf_reads, reads, leaf_rectangles, rectangles_of}
 use Rattle.std.specs.Prelude.{nat_le}
 
 -- the area of two equal corners
@@ -29,25 +29,25 @@ one_cell r a = ap (λ (x : Area). is_within x a) (cell_at_once r) ∙ by (r == a
     by true h = ap (λ (x : ℕ). is_within (at_once x) a) (eqb-true r a h) ∙ within_itself a
     by false h = false_from_ne_true (is_within (at_once r) a) (λ w. let e = ap (λ (x : ℕ). x == a) (within_means r a w) ∙ is_itself a in cc)
 
-replacement_cells : (ps : List (Reference × Reference)) (a : ℕ) → list_any (λ (p : Reference × Reference). p.1.at == a) ps ≡ list_any (λ (r : Area). is_within r a) (map (λ (p : Reference × Reference). cell_area p.1.at) ps)
+replacement_cells : (ps : List (Reference × Reference)) (a : ℕ) → list_any (λ (p : Reference × Reference). p.1.at == a) ps ≡ is_within_one (map (λ (p : Reference × Reference). cell_area p.1.at) ps) a
 replacement_cells [] a = refl
 replacement_cells (p ∷ ps) a =
     ap (λ (b : Bool). b || list_any (λ (p : Reference × Reference). p.1.at == a) ps) (sym (one_cell p.1.at a))
     ∙ ap (λ (b : Bool). is_within (cell_area p.1.at) a || b) (replacement_cells ps a)
 
 -- a leaf reads exactly the cells of its rectangles
-leaf_within : (l : Leaf) (a : ℕ) → leaf_reads l a ≡ list_any (λ (r : Area). is_within r a) (leaf_rectangles l)
+leaf_within : (l : Leaf) (a : ℕ) → leaf_reads l a ≡ is_within_one (leaf_rectangles l) a
 leaf_within (cell_leaf r) a = sym (or-false (is_within (cell_area r.at) a) ∙ one_cell r.at a)
 leaf_within (rectangle_leaf c) a = sym (or-false (is_within (area_of c) a))
 leaf_within (what_if_leaf f ps) a =
     ap (λ (b : Bool). b || list_any (λ (p : Reference × Reference). p.1.at == a) ps) (sym (one_cell f.at a))
     ∙ ap (λ (b : Bool). is_within (cell_area f.at) a || b) (replacement_cells ps a)
 
-leaves_within : (ls : List Leaf) (a : ℕ) → list_any (λ l. leaf_reads l a) ls ≡ list_any (λ (r : Area). is_within r a) (flat_map leaf_rectangles ls)
+leaves_within : (ls : List Leaf) (a : ℕ) → list_any (λ l. leaf_reads l a) ls ≡ is_within_one (flat_map leaf_rectangles ls) a
 leaves_within [] a = refl
 leaves_within (l ∷ ls) a =
     ap₂ (λ (b c : Bool). b || c) (leaf_within l a) (leaves_within ls a)
     ∙ sym (list_any-append (λ (r : Area). is_within r a) (leaf_rectangles l) (flat_map leaf_rectangles ls))
 
-pub reads_within : (t : Tree) (a : ℕ) → reads t a ≡ list_any (λ (r : Area). is_within r a) (rectangles_of t)
+pub reads_within : (t : Tree) (a : ℕ) → reads t a ≡ is_within_one (rectangles_of t) a
 reads_within t a = leaves_within (leaves t) a

@@ -85,7 +85,7 @@ pub use Rattle.wi_parser.specs.Capitals.{in_capitals}
 pub use Rattle.wi_parser.specs.Contents.{AreJudged, IsConstantText, IsContent, IsFormulaText, IsNoFormulaText, IsParsed, IsTextOf, a_constant, a_formula, a_long_text, a_tree, as_judged, at_fault, no_constant, no_formula, no_tree, too_long}
 pub use Rattle.wi_parser.specs.Grammar.{AreGrammatical, IsGrammatical, line_of, tree_line}
 pub use Rattle.wi_parser.specs.Inner.Deepest.{deepest, most_signs}
-pub use Rattle.wi_parser.specs.Inner.FormulaText.{after, after_equals, after_prefix, cell_symbol, corners_symbol, mark_symbol, number_symbol, rectangle_symbol, reference_symbol, symbol_of, symbols_by, symbols_of}
+pub use Rattle.wi_parser.specs.Inner.FormulaText.{IsFrontOf, after, after_equals, after_prefix, cell_symbol, corners_symbol, mark_symbol, number_symbol, rectangle_symbol, reference_symbol, symbol_of, symbols_by, symbols_of, symbols_with}
 unfoldable pub use Rattle.wi_parser.specs.Inner.FormulaText.{formula_symbols}
 pub use Rattle.wi_parser.specs.Inner.Lines.{Spells, SpellsAll, SpellsMore, a_call, a_cell, a_number, a_rectangle, a_text, another_parameter, in_parentheses, joined, last_parameter, loosest, no_parameter, one_input, parameters, tighter, two_inputs, with_percent, with_sign}
 pub use Rattle.wi_parser.specs.Inner.Outcome.{Fails, Finds, FindsMore, before, put_before}
@@ -105,7 +105,7 @@ pub use Rattle.wi_parser.specs.Reads.{area_of, cell_area, inputs_of, leaf_inputs
 pub use Rattle.wi_parser.specs.Shift.{all_references, column_moved, in_sheet, leaf_references, map_references, map_references_in, part, row_moved, shifted, within}
 unfoldable pub use Rattle.wi_parser.specs.Shift.{moved, stays}
 pub use Rattle.wi_parser.specs.Spelling.{HasSpelling, IsSpelling, spelling, spelling_of_all, spelling_of_more}
-pub use Rattle.wi_parser.specs.Symbol.{Symbol, bad_token, close_parenthesis, corners, infix_mark, is_out_of_sheet, is_unfit, name, numeral, open_parenthesis, percent_mark, reference, separator, sign_mark, text_literal, what_if_name, written_as}
+pub use Rattle.wi_parser.specs.Symbol.{Symbol, bad_token, close_parenthesis, corners, infix_mark, is_out_of_sheet, is_refused, is_unfit, name, numeral, open_parenthesis, percent_mark, reference, separator, sign_mark, text_literal, what_if_name, written_as}
 pub use Rattle.wi_parser.specs.Symbols.{AreSymbols, Means, NoneBegins, NoneLonger, a_closing_parenthesis, a_name, a_percent_mark, a_reference, a_separator, a_token, an_opening_parenthesis, an_operator, an_outside_rectangle, an_outside_reference, an_unfit_number, at_the_end, name_symbol, no_token, reference_to, white_space}
 pub use Rattle.wi_parser.specs.Tree.{Tree, Trees, binary, call, cell, more_trees, no_trees, number, parenthesized, percent, rectangle, signed, text, trees_of, what_if}
 pub use Rattle.wi_parser.specs.View.{all_of, layer_tree, pair_of, tree_of}
@@ -123,12 +123,13 @@ pub use Rattle.wi_parser.specs.declared.expr.Sign.TheVariants.{Minus, Plus}
 pub use Rattle.wi_parser.specs.declared.fault.ParseFault.{ParseFault}
 pub use Rattle.wi_parser.specs.declared.fault.ParseFault.TheVariants.{Memory, NumberRange, OutOfSheet, Syntax, TooDeep, TooLong}
 pub use Rattle.wi_parser.specs.declared.formula.Parts.{Parts}
+pub use Rattle.wi_parser.specs.declared.front.Front.{Front}
 pub use Rattle.wi_values.proofs.Imports.{imported_exactly}
 pub use Rattle.wi_values.proofs.Lists.{one_less}
 pub use Rattle.wi_values.proofs.Order.{is_itself}
 pub use Rattle.wi_values.proofs.ReadsBack.{addresses_read_back, column_are_letters, column_some}
 pub use Rattle.wi_values.proofs.Within.{within_between}
-pub use Rattle.wi_values.specs.Address.{Area, column_letters, column_of, columns, is_row_number, is_within, letters_value, place, row_of, rows}
+pub use Rattle.wi_values.specs.Address.{Area, column_letters, column_of, columns, is_row_number, is_within, is_within_one, letters_value, place, row_of, rows}
 unfoldable pub use Rattle.wi_values.specs.Address.{address_text}
 pub use Rattle.wi_values.specs.AddressReading.{cell_at}
 unfoldable pub use Rattle.wi_values.specs.AddressReading.{address_at, read_address}

@@ -34,6 +34,11 @@ written_as Minus = Subtract
 abbrev pub sign_mark : Sign → Symbol
 sign_mark s = infix_mark (written_as s)
 
+-- a bad token
+abbrev pub is_refused : Symbol → Bool
+is_refused (bad_token e) = true
+is_refused s = false
+
 -- a reference to a cell outside the sheet
 abbrev pub is_out_of_sheet : Symbol → Bool
 is_out_of_sheet (bad_token OutOfSheet) = true

@@ -5,7 +5,7 @@ ghost use Rattle.wi_parser.specs.Inner.Reading.{ReadsAs, content_read, taken_as_
 
 use crate::fault::ParseFault;
 use crate::formula::Formula;
-use crate::front::{after, after_prefix};
+use crate::front::{after, front_of};
 use crate::parser::parse_body;
 use std::alloc::{AllocError, Global};
 use wi_values::{Address, MAX_TEXT, Text, Value, imported_value};
@@ -27,10 +27,9 @@ impl Content {
     pub fn read(alloc: Global, text: &str) -> Result<Content, ParseFault>
         ensures { ReadsAs (content_read text.now) result }
     {
-        let plain = after_prefix(text);
-        let body = after("=", plain);
-        if body.is_some() {
-            return Ok(Content::Formula(parse_body(alloc, text, plain, body)?));
+        let front = front_of(text);
+        if front.body.is_some() {
+            return Ok(Content::Formula(parse_body(alloc, text, &front)?));
         }
         if let Some(rest) = after("'", text) {
             return Content::taken_as_text(alloc, rest);

@@ -1,8 +1,7 @@
 //! Laws of the grammar alone.
 
 ghost use Rattle.std.specs.Prelude.{◌≡◌, ◌↔◌, ℕ, ◌≤◌, pos, true, List, length, Some, Result, Ok, Err, suc};
-ghost use Rattle.std.specs.List.{list_any};
-ghost use Rattle.wi_values.specs.Address.{is_within};
+ghost use Rattle.wi_values.specs.Address.{is_within_one};
 ghost use Rattle.wi_lexer.specs.Token.{IsToken};
 ghost use Rattle.wi_lexer.specs.Inner.Tokens.{tokens};
 ghost use Rattle.wi_lexer.specs.declared.token.Kind.{Kind};
@@ -120,5 +119,5 @@ pub fn shifted_by_nothing()
 
 /// A tree reads exactly the cells of its rectangles.
 pub fn what_is_in_its_rectangles()
-    ensures { (t : Tree) (a : ℕ) → reads t a ≡ list_any (λ r. is_within r a) (rectangles_of t) }
+    ensures { (t : Tree) (a : ℕ) → reads t a ≡ is_within_one (rectangles_of t) a }
 {}

@@ -1,8 +1,8 @@
 //! What is refused before it is read.
 
-ghost use Rattle.std.specs.Prelude.{◌≡◌, ◌<◌, ◌↔◌, IsTrue};
+ghost use Rattle.std.specs.Prelude.{◌≡◌, ◌<◌, ◌↔◌, Some, None, IsTrue, if◌then◌else◌};
 ghost use Rattle.std.specs.List.{list_any};
-ghost use Rattle.wi_parser.specs.Symbol.{is_out_of_sheet, is_unfit};
+ghost use Rattle.wi_parser.specs.Symbol.{is_refused, is_out_of_sheet, is_unfit};
 ghost use Rattle.wi_parser.specs.Inner.SymbolCode.{meant_by, all_meant};
 ghost use Rattle.wi_parser.specs.Nesting as nesting;
 ghost use Rattle.wi_parser.specs.Nesting.{max_depth};
@@ -16,8 +16,18 @@ use crate::symbol::Symbol;
 /// How many parentheses may be open at once, and how many signs may stand one after another.
 pub const MAX_DEPTH: usize = 64;
 
-/// The first cause for which the symbols are refused before they are read.
+/// The first cause for which the symbols are refused before they are read. Most formulas have no bad token, which one look tells.
 pub(crate) fn refusal_of(symbols: &[Symbol]) -> Option<ParseFault>
+    ensures { result ≡ spec.refusal_of (all_meant symbols.now) }
+{
+    if has_refused(symbols) {
+        return first_refusal(symbols);
+    }
+    depth_refusal(symbols)
+}
+
+// The first cause, where there may be a bad token.
+fn first_refusal(symbols: &[Symbol]) -> Option<ParseFault>
     ensures { result ≡ spec.refusal_of (all_meant symbols.now) }
 {
     if has_outside(symbols) {
@@ -26,10 +36,25 @@ pub(crate) fn refusal_of(symbols: &[Symbol]) -> Option<ParseFault>
     if has_unfit(symbols) {
         return Some(ParseFault::NumberRange);
     }
+    depth_refusal(symbols)
+}
+
+// The refusal of what nests too deep.
+fn depth_refusal(symbols: &[Symbol]) -> Option<ParseFault>
+    ensures { result ≡ (if nesting.is_too_deep (all_meant symbols.now)
+        then Some ParseFault.TooDeep else None) }
+{
     if is_too_deep(symbols) {
         return Some(ParseFault::TooDeep);
     }
     None
+}
+
+#[tactic(auto, using(crate::proofs::Refusals::any_meant))]
+fn has_refused(symbols: &[Symbol]) -> bool
+    ensures { result ≡ list_any is_refused (all_meant symbols.now) }
+{
+    symbols.iter().any(|s| is_refused(s))
 }
 
 #[tactic(auto, using(crate::proofs::Refusals::any_meant))]
@@ -44,6 +69,15 @@ fn has_unfit(symbols: &[Symbol]) -> bool
     ensures { result ≡ list_any is_unfit (all_meant symbols.now) }
 {
     symbols.iter().any(|s| is_unfit(s))
+}
+
+fn is_refused(symbol: &Symbol) -> bool
+    ensures { result ≡ is_refused (meant_by symbol.now) }
+{
+    match symbol {
+        Symbol::Refused(_) => true,
+        _ => false,
+    }
 }
 
 fn is_outside(symbol: &Symbol) -> bool

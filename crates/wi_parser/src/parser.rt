@@ -1,19 +1,19 @@
 //! From a text to a formula.
 
-ghost use Rattle.std.specs.Prelude.{◌≡◌, ◌+◌, Ok, IfOk, option_map};
+ghost use Rattle.std.specs.Prelude.{◌+◌, Ok, IfOk};
 ghost use Rattle.wi_parser.specs.Inner.SymbolCode.{all_meant};
 ghost use Rattle.wi_parser.specs.Nesting.{max_depth};
 ghost use Rattle.wi_parser.specs.Inner.Lines.{Spells, loosest};
 ghost use Rattle.wi_parser.specs.Inner.Reader as reader;
 ghost use Rattle.wi_parser.specs.Inner.Outcome.{FindsWhole};
-ghost use Rattle.wi_parser.specs.Inner.FormulaText.{after_prefix, after_equals, formula_symbols};
+ghost use Rattle.wi_parser.specs.Inner.FormulaText.{IsFrontOf, formula_symbols};
 ghost use Rattle.wi_parser.specs.Inner.Reading.{ReadsAs, IsWithinLimits, parsed};
 ghost use Rattle.wi_parser.specs.Tree.{Tree};
 
 use crate::expr::Expr;
 use crate::fault::ParseFault;
 use crate::formula::Formula;
-use crate::front::{after, after_prefix};
+use crate::front::{Front, front_of};
 use crate::grammar::expression;
 use crate::limits::{MAX_DEPTH, refusal_of};
 use crate::symbol::Symbol;
@@ -37,25 +37,22 @@ pub fn parse(alloc: Global, text: &str) -> Result<Formula, ParseFault>
     ensures only { (t : Tree) → Spells loosest t (formula_symbols text.now)
         → IsWithinLimits text.now → ReadsAs (Ok t) result }
 {
-    let plain = after_prefix(text);
-    parse_body(alloc, text, plain, after("=", plain))
+    parse_body(alloc, text, &front_of(text))
 }
 
-/// As `parse`, of a text whose front was looked at: what follows its prefix, and what follows its `=`.
+/// As `parse`, of a text whose front was looked at.
 pub(crate) fn parse_body(
     alloc: Global,
     text: &str,
-    plain: &str,
-    body: Option<&str>,
+    front: &Front<'_>,
 ) -> Result<Formula, ParseFault>
-    requires plain { plain.now ≡ after_prefix text.now }
-    requires body { option_map (λ b. b.now) body ≡ after_equals text.now }
+    requires { IsFrontOf text.now front.now }
     ensures { ReadsAs (parsed text.now) result }
 {
     if text.len() > MAX_FORMULA {
         return Err(ParseFault::TooLong);
     }
-    let symbols = symbols_of(alloc, plain, body)?;
+    let symbols = symbols_of(alloc, front)?;
     if let Some(fault) = refusal_of(&symbols) {
         return Err(fault);
     }

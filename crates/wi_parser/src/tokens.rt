@@ -1,29 +1,25 @@
 //! From a text to symbols.
 
-ghost use Rattle.std.specs.Prelude.{◌≡◌, ◌++◌, IfOk, option_map};
+ghost use Rattle.std.specs.Prelude.{◌≡◌, ◌++◌, IfOk};
 ghost use Rattle.wi_lexer.specs.Inner.Tokens.{tokens};
 ghost use Rattle.wi_parser.specs.Inner.SymbolCode.{all_meant};
-ghost use Rattle.wi_parser.specs.Inner.FormulaText.{symbols_by, symbols_of};
+ghost use Rattle.wi_parser.specs.Inner.FormulaText.{symbols_of, symbols_with};
 
 use crate::fault::ParseFault;
+use crate::front::Front;
 use crate::symbol::Symbol;
 use std::alloc::{AllocError, Global};
 use wi_lexer::Lexer;
 
 /// The symbols of what follows a formula's `=`. Where none follows the prefix, those of what does, after a refused one.
-pub(crate) fn symbols_of(
-    alloc: Global,
-    plain: &str,
-    body: Option<&str>,
-) -> Result<Vec<Symbol>, AllocError>
-    ensures { IfOk result (λ symbols. all_meant symbols.items
-        ≡ symbols_by plain.now (option_map (λ b. b.now) body.entry)) }
+pub(crate) fn symbols_of(alloc: Global, front: &Front<'_>) -> Result<Vec<Symbol>, AllocError>
+    ensures { IfOk result (λ symbols. all_meant symbols.items ≡ symbols_with front.now) }
 {
     let mut symbols = Vec::new(alloc);
-    if body.is_none() {
+    if front.body.is_none() {
         symbols.push(Symbol::Refused(ParseFault::Syntax))?;
     }
-    push_symbols(alloc, body.unwrap_or(plain), &mut symbols)?;
+    push_symbols(alloc, front.body.unwrap_or(front.plain), &mut symbols)?;
     Ok(symbols)
 }
 

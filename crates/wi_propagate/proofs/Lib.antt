@@ -4,7 +4,7 @@
 -- Of what is kept:
 -- `RightValues`: values that are kept stay right, over an edit, where one is kept, and where a question begins.
 -- `KeepSteps`: what is so where one value is kept; over it `ValuesAtHand`, what is kept or was given up in the question, and
--- `PlaceCounts`, each value takes one place.
+-- `PlaceCounts`, each value takes one place; `PutAside`, one is found that takes none.
 -- `Editing`: what is so of a calculator stays so over an edit, by generations and `RightValues`.
 -- Of a question:
 -- `Questions`: how it begins (`Begins`), what is kept when it ends, and that it owes what its contract says (`Owes`).
@@ -20,6 +20,7 @@ pub mod RightValues
 pub mod KeepSteps
 pub mod ValuesAtHand
 pub mod PlaceCounts
+pub mod PutAside
 pub mod Editing
 pub mod Questions
 pub mod EntryQuestions

@@ -1,5 +1,5 @@
 -- What is owed is noted, one edit after another.
-use Rattle.wi_propagate.proofs.Words.{◌≡◌, ◌==◌, ◌||◌, ◌&&◌, ◌⊎◌, inl, inr, not, ◌≤◌, ◌<◌, ◌+◌, max, ℕ, Bool, true, false, cond, List, [], ◌∷◌, length, take, get_or, ◌++◌, nat_lt, Option, Some, is_some, refl, ap, sym, ◌∙◌, subst, arith, eqb-true, or-false, map-append, list_any-append, list_any-IsPermutation, IsPermutation-map, IsPermutation, unwrap_or, nat_cmp, keys_of, lookup, is_at, insert_entry, CellEntries, get, Sheet, Reaches, is_one_of, reaches, in_cone, Edges, AreEdgesOf, IsLatest, IsOwed, AreOwed, IsSettling, reaches_true, true_reaches, same_reaches, in_last, in_front, settles_one, settling_begins, owed_stays, Generations, generation_in, noted_in, second_cells, has_seen, ltb-false, seen_one, has_one_more, or_assoc, or_new}
+use Rattle.wi_propagate.proofs.Words.{◌≡◌, ◌==◌, ◌||◌, ◌&&◌, ◌⊎◌, inl, inr, not, ◌≤◌, ◌<◌, ◌+◌, max, ℕ, Bool, true, false, cond, List, [], ◌∷◌, length, take, get_or, ◌++◌, nat_lt, Option, Some, is_some, refl, ap, sym, ◌∙◌, subst, arith, eqb-true, or-false, map-append, list_any-IsPermutation, IsPermutation-map, IsPermutation, unwrap_or, nat_cmp, keys_of, lookup, is_at, insert_entry, CellEntries, get, Sheet, Reaches, is_one_of, reaches, in_cone, Edges, AreEdgesOf, IsLatest, IsOwed, AreOwed, IsSettling, reaches_true, true_reaches, same_reaches, in_last, in_front, settles_one, settling_begins, owed_stays, Generations, generation_in, noted_in, second_cells, has_seen, ltb-false, seen_one, has_one_more, or_assoc, or_new}
 use Rattle.wi_propagate.proofs.GenerationSteps.{IsGiven}
 
 -- ---- one cell more is seen
@@ -64,18 +64,6 @@ settling_again es named noted rest last number seen now e k s a = at (nat_lt las
         same c = e c ∙ ap (λ (b : Bool). cond b false (seen c)) t
 
 -- ---- the cells that are owed, as a list
-
-pub lists_one : {X : Type 0} (order more : List (ℕ × ℕ)) (n : ℕ) (e : ℕ × X) (rest it all : List (ℕ × X)) → more ≡ order ++ (n, e.0) ∷ [] → it ≡ e ∷ rest → ((x : ℕ) → (is_one_of (second_cells order) x || is_one_of (keys_of it) x) ≡ is_one_of (keys_of all) x) →
-    (x : ℕ) → (is_one_of (second_cells more) x || is_one_of (keys_of rest) x) ≡ is_one_of (keys_of all) x
-lists_one {X} order more n e rest it all m i h x =
-    ap (λ (ys : List (ℕ × ℕ)). is_one_of (second_cells ys) x || is_one_of (keys_of rest) x) m
-    ∙ ap (λ (b : Bool). b || is_one_of (keys_of rest) x) (ap (λ (ys : List ℕ). is_one_of ys x) (map-append (λ (y : ℕ × ℕ). y.1) order ((n, e.0) ∷ [])) ∙ list_any-append (λ y. y == x) (second_cells order) (e.0 ∷ []))
-    ∙ three (is_one_of (second_cells order) x) (e.0 == x) (is_one_of (keys_of rest) x) ∙ ap (λ (ys : List (ℕ × X)). is_one_of (second_cells order) x || is_one_of (keys_of ys) x) (sym i) ∙ h x
-  where
-    three : (p q r : Bool) → ((p || (q || false)) || r) ≡ (p || (q || r))
-    three true q r = refl
-    three false true r = refl
-    three false false r = refl
 
 pub lists_all : {X : Type 0} (order : List (ℕ × ℕ)) (rest all : List (ℕ × X)) → rest ≡ [] → ((x : ℕ) → (is_one_of (second_cells order) x || is_one_of (keys_of rest) x) ≡ is_one_of (keys_of all) x) → (x : ℕ) → is_one_of (keys_of all) x ≡ is_one_of (second_cells order) x
 lists_all {X} order rest all e h x = sym (h x) ∙ ap (λ (ys : List (ℕ × X)). is_one_of (second_cells order) x || is_one_of (keys_of ys) x) e ∙ or-false (is_one_of (second_cells order) x)

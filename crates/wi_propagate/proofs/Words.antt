@@ -7,7 +7,7 @@ pub use Rattle.std.proofs.lemmas.Cmp.{eq_by_cmp_equiv, nat_cmp_total}
 pub use Rattle.std.proofs.lemmas.Grind.{common_steps}
 pub use Rattle.std.proofs.lemmas.List.{map-append, nil_from_length}
 pub use Rattle.std.proofs.lemmas.List.Elements.{All-more}
-pub use Rattle.std.proofs.lemmas.List.Folds.{list_all_more, list_any-append}
+pub use Rattle.std.proofs.lemmas.List.Folds.{list_all_more}
 pub use Rattle.std.proofs.lemmas.List.Sorted.{IsPermutation-map, list_any-IsPermutation}
 pub use Rattle.std.proofs.lemmas.Map.{lookup-set_value}
 pub use Rattle.std.proofs.lemmas.Map.Entries.{lookup_from_place}
@@ -29,9 +29,9 @@ pub use Rattle.wi_cache.specs.Entries.{Entries, HasOneEach, HasRoom, KeptValues,
 pub use Rattle.wi_cache.specs.Hashed.{same_key_means}
 pub use Rattle.wi_cache.specs.declared.key.Key.{Key}
 pub use Rattle.wi_engine.proofs.Ledger.{spends_err, spends_then, spends_weaken, where_then}
-pub use Rattle.wi_engine.proofs.Places.{has_kept, known_still, known_then, none_went}
+pub use Rattle.wi_engine.proofs.Places.{has_found, known_still, known_then, none_went}
 pub use Rattle.wi_engine.specs.Inner.Frames.{MayBeRead}
-pub use Rattle.wi_engine.specs.Inner.Keeps.{Keeps}
+pub use Rattle.wi_engine.specs.Inner.Keeps.{HasFound, Keeps}
 pub use Rattle.wi_engine.specs.Inner.MemoState.{IsMemoOf, IsTold, MemoState}
 pub use Rattle.wi_engine.specs.Inner.Remembered.{OneQuestion, question_state, remembered}
 pub use Rattle.wi_engine.specs.Inner.Saving.{GivesUpWhenFull, IsValuedAnew, KeepsFound, NeedsNoEvaluation, TakesNoMore, TakesPlaces, WhereRoom}

@@ -8,6 +8,7 @@ ghost use Rattle.wi_propagate.specs.Inner.Cones.{AreAllCones};
 ghost use Rattle.wi_propagate.specs.Inner.Keeping.{values_in, AreHeldCones};
 
 use crate::cones::{keep_if_few, keep_over_edit};
+use crate::recurring::Recurring;
 use std::alloc::{AllocError, Global};
 use wi_cache::{GivenUp, Kept};
 use wi_graph::Graph;
@@ -21,6 +22,8 @@ pub struct Held {
     pub cones: Reaches,
     /// The values that were given up in a question. Between two questions it is memory alone.
     pub given_up: GivenUp,
+    /// Which replacements come back, by which values have a place in a full list.
+    pub recurring: Recurring,
 }
 
 impl Held {
@@ -36,6 +39,7 @@ impl Held {
             kept,
             cones: Reaches::new(alloc),
             given_up: GivenUp::new(alloc),
+            recurring: Recurring::new(alloc, keep),
         };
         Ok(Box::new(alloc, held)?)
     }
@@ -52,7 +56,9 @@ pub(crate) fn take_held(alloc: Global, widest: usize, held: &mut Option<Box<Held
     let Some(mut taken) = held.take() else {
         unreachable!()
     };
-    keep_if_few(alloc, widest, &mut taken.cones);
+    let inner = &mut *taken;
+    keep_if_few(alloc, widest, &mut inner.cones);
+    inner.recurring.begin();
     taken
 }
 

@@ -1,8 +1,8 @@
 //! What is remembered in one question, and what is kept for longer.
 
-ghost use Rattle.std.specs.Prelude.{◌≡◌, ◌≤◌, [], None, length, IfSome, OnOk};
+ghost use Rattle.std.specs.Prelude.{◌≡◌, ◌≤◌, [], false, None, Ok, length, IfSome, OnOk, OnErr};
 ghost use Rattle.wi_graph.specs.Edges.{AreEdgesOf};
-ghost use Rattle.wi_cache.specs.Entries.{going};
+ghost use Rattle.wi_cache.specs.Entries.{PutsIn, going};
 ghost use Rattle.wi_cache.specs.declared.key.Key.{Key as Keys};
 ghost use Rattle.wi_engine.specs.Inner.MemoState.{IsMemoOf};
 ghost use Rattle.wi_propagate.specs.Inner.Cones.{AreAllCones};
@@ -33,6 +33,8 @@ pub struct Keeping<'a> {
     held: Box<Held>,
     // The replacements of the last key that had some of them, and not all.
     last: World,
+    // How many replacements the question came with.
+    own: usize,
 }
 
 impl<'a> Model for Keeping<'a> {
@@ -66,13 +68,15 @@ impl<'a> Model for Keeping<'a> {
 }
 
 impl<'a> Keeping<'a> {
-    /// What is held, with nothing given up yet. Takes no memory. Values go that are in the table for those that are given up.
+    /// What is held, with nothing given up yet, for a question that comes with so many replacements. Takes no memory. Values that were given
+    /// up before go.
     pub(crate) fn new(
         alloc: Global,
         store: &'a Store,
         graph: &'a Graph,
         generations: &'a Generations,
         mut held: Box<Held>,
+        own: usize,
     ) -> Keeping<'a>
         requires edges { AreEdgesOf graph.now.now store.now.sheet }
         requires staged { graph.now.staged ≡ None }
@@ -96,11 +100,12 @@ impl<'a> Keeping<'a> {
             generations,
             held,
             last: World::new(alloc),
+            own,
         }
     }
 
     /// What is held for the next question: the values that are kept, which are no more than there is room for, the cones that are
-    /// known, and the table for values that are given up, without them.
+    /// known, and the memory for values that are given up, without them.
     pub(crate) fn into_held(self) -> Box<Held>
         ensures kept { result.value.kept ≡ self.entry.values }
         ensures within { length result.value.kept.entries ≤ result.value.kept.capacity }
@@ -115,22 +120,55 @@ impl<'a> Keeping<'a> {
     }
 }
 
+impl<'a> Keeping<'a> {
+    /// Whether a value under replacements has a place in the list: always where one is free or the question came with as many replacements, and
+    /// in a full list where they come back. If memory runs out, all stays as it was.
+    #[inline(always)]
+    fn has_place(&mut self, world: &World) -> Result<bool, AllocError>
+        ensures same { self.new ≡ self.old }
+        ensures full { result ≡ Ok false
+            → self.old.values.capacity ≤ length self.old.values.entries }
+    {
+        let held = &mut *self.held;
+        if held.kept.is_full() && self.own < world.replacements().len() {
+            return held.recurring.comes_back(world);
+        }
+        Ok(true)
+    }
+
+    /// Puts a value among those that were given up, so that it is found in this question alone. If memory runs out, all stays as it was.
+    #[inline(always)]
+    fn put_aside(&mut self, key: Key, value: Value) -> Result<(), AllocError>
+        ensures puts { OnOk result (PutsIn self.old.given_up self.new.given_up key value) }
+        ensures same { self.new ≡ keeping self.old.sheet self.old.edits
+            self.old.generations self.new.given_up self.old.values }
+        ensures err { OnErr result (self.new ≡ self.old) }
+    {
+        let held = &mut *self.held;
+        held.given_up.make_room()?;
+        held.given_up.put((key, value));
+        Ok(())
+    }
+}
+
 impl<'a> Memo for Keeping<'a> {
     ghost state = { state_in };
 
     /// The key for a cell under replacements. The work for a cell that is replaced for the first time is that of its cone;
     /// else it is a comparison for each replacement, and that of `reaching_by`. Keys in turn with the same part of the
-    /// replacements share it.
+    /// replacements share it. Values that were given up, and may have this part, are prepared for a look by `GivenUp::catch_up`.
     #[inline(always)]
     fn key(&mut self, at: Address, world: &World) -> Result<Key, AllocError> {
         let held = &mut *self.held;
         add_cones(self.graph, world, &mut held.cones)?;
         let world = world.reaching_by(at, &held.cones, &mut self.last)?;
-        Ok(Key {
+        let key = Key {
             cell: at,
             generation: self.generations.generation_of(at),
             world,
-        })
+        };
+        held.given_up.catch_up(&key)?;
+        Ok(key)
     }
 
     fn look(&self, key: &Key) -> Option<&Value> {
@@ -150,6 +188,15 @@ impl<'a> Memo for Keeping<'a> {
         let gone = held.kept.keep(key, value)?;
         give_up(gone, &mut held.given_up);
         Ok(())
+    }
+
+    /// A value that is used by another one under the same replacements. In a full list it has a place only where `has_place` says so.
+    #[inline(always)]
+    fn remember(&mut self, key: Key, value: Value) -> Result<(), AllocError> {
+        if self.has_place(&key.world)? {
+            return self.keep(key, value);
+        }
+        self.put_aside(key, value)
     }
 }
 
@@ -172,6 +219,6 @@ fn give_up(gone: Option<(Key, Value)>, given_up: &mut GivenUp)
     ensures { TakesOver gone given_up.old.entries given_up.new.entries }
 {
     if let Some(entry) = gone {
-        given_up.put(entry.0, entry.1);
+        given_up.put(entry);
     }
 }

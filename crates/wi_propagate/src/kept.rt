@@ -198,6 +198,7 @@ impl KeptCalculator {
             &self.graph,
             &self.generations,
             held,
+            put.len(),
         );
         let mut question = Question {
             memo,
@@ -244,6 +245,7 @@ impl KeptCalculator {
             &self.graph,
             &self.generations,
             held,
+            put.len(),
         );
         let mut question = Question {
             memo,

@@ -1,8 +1,7 @@
 //! What a cell shows that neither a formula nor a replacement gives.
 
-ghost use Rattle.std.specs.Prelude.{◌≡◌, ◌==◌, false, IfOk, IfSome};
-ghost use Rattle.std.specs.List.{list_any};
-ghost use Rattle.wi_values.specs.Replacements.{IsInOrder};
+ghost use Rattle.std.specs.Prelude.{◌≡◌, false, IfOk, IfSome};
+ghost use Rattle.wi_values.specs.Replacements.{IsInOrder, is_replaced};
 ghost use Rattle.wi_parser.specs.Sheet.{content_of, has_formula, put_all};
 ghost use Rattle.wi_graph.specs.Circular.{circular};
 ghost use Rattle.wi_sheet.specs.Shown as show;
@@ -41,7 +40,7 @@ pub(crate) fn standing_value(
 // Whether one of the replacements, which stand in order, is of a cell.
 fn is_replaced(put: &[Replacement], at: Address) -> bool
     requires { IsInOrder put.now }
-    ensures { result ≡ list_any (λ r. r.at == at) put.now }
+    ensures { result ≡ is_replaced put.now at }
 {
     value_at(put, at).is_some()
 }

@@ -1,5 +1,5 @@
 -- Laws of the bag that the pieces tell, and of the pieces of a pair put in or taken out.
-use Rattle.wi_ranges.proofs.Words.{◌≡◌, ℕ, ◌+◌, ◌-◌, ◌<◌, ◌≤◌, Bool, true, false, ◌&&◌, cond, not, length, List, Result, Ok, Err, OnOk, refl, sym, ap, subst, ◌∙◌, arith, nat_lt, if◌then◌else◌, is_err, nat_cmp, ordering_then, is_eq, Less, Equal, Greater, Ordering, is_at, and-true, IsStrictlySortedBy, true≢false, and_right, and_parts, cond-true, cond-false, ltb-false, lt-ltb, nat_tests, btree_set_from_contains, Block, RangePair, Numbered, blocks_in, blocks_of, first_row, Bag, pair_cmp, is_same, count_of, HasOneMore, HasOneLess, AreWhole, Gains, HasPieces, IsIndexed, KeepsOtherPieces, LacksPieces, Piece, bag_of, has_piece, is_among, is_one, is_piece, piece_cmp}
+use Rattle.wi_ranges.proofs.Words.{◌≡◌, ℕ, ◌+◌, ◌-◌, ◌<◌, ◌≤◌, Bool, true, false, ◌&&◌, cond, not, length, List, refl, sym, ap, subst, ◌∙◌, arith, nat_lt, if◌then◌else◌, nat_cmp, ordering_then, is_eq, Less, Equal, Greater, Ordering, is_at, and-true, IsStrictlySortedBy, true≢false, and_right, and_parts, cond-true, cond-false, ltb-false, lt-ltb, nat_tests, btree_set_from_contains, Block, RangePair, Numbered, blocks_in, blocks_of, first_row, Bag, pair_cmp, is_same, count_of, HasOneMore, HasOneLess, AreWhole, Gains, HasPieces, IsIndexed, KeepsOtherPieces, LacksPieces, Piece, bag_of, has_piece, is_among, is_one, is_piece, piece_cmp}
 use Rattle.wi_ranges.proofs.Exact.{same_is, same_self, one_is, exact_piece, piece_total}
 use Rattle.wi_ranges.proofs.Sums.{gains_count, gains_length, gains_pieces, has_block}
 
@@ -238,7 +238,3 @@ put m x ks ls e r w l has kept grown order more = by (nat_lt m.number (count_of 
           same = λ t. absurd (true≢false (sym grows ∙ t));
           whole = whole_more m x ks ls e r w n g has kept order;
         }
-
-pub at_success : {T E P : Type 0} (r : Result T E) → is_err r ≡ false → OnOk r P → P
-at_success (Ok v) e h = h
-at_success (Err v) e h = absurd (true≢false e)

@@ -62,6 +62,3 @@ none_alone x c xs e h = ap (λ (ys : List ℕ). is_one_of ys c) e ∙ not_there 
 pub is_alone : (x c : ℕ) (xs : List ℕ) (b : Bool) → xs ≡ x ∷ [] → b ≡ (x == c) → (b ≡ true) ↔ (xs ≡ c ∷ [])
 is_alone x c xs b e f =
     (λ t. e ∙ ap (λ (y : ℕ). y ∷ []) (eqb-true x c (sym f ∙ t)), λ g. f ∙ eq-eqb x c (ap (λ (ys : List ℕ). get_or ys 0 0) (sym e ∙ g)))
-
-pub one_and_one : (x c : ℕ) (xs ys : List ℕ) → xs ≡ x ∷ [] → ys ≡ x ∷ c ∷ [] → ys ≡ xs ++ c ∷ []
-one_and_one x c xs ys e f = f ∙ ap (λ (zs : List ℕ). zs ++ c ∷ []) (sym e)

@@ -1,5 +1,5 @@
 -- Laws of cells in row-major order in a list, and others beside it.
-use Rattle.wi_ranges.proofs.Words.{has_key, ◌≡◌, ◌==◌, ◌<◌, ◌≤◌, ◌-◌, ◌||◌, ◌++◌, ◌↔◌, ℕ, zero, suc, nat_lt, eqb, Bool, true, false, not, cond, List, [], ◌∷◌, Some, Result, Ok, Err, MatchResult, ⊎_elim, length, get_or, slice_get, refl, sym, ap, ◌∙◌, subst, arith, nat_cmp, Less, nat_cmp_total, is_ok, AllByRecursion, Contains, dedup, IsStrictlyIncreasing, IsBinarySearchResult, IsPermutation, is_at, BTreeSet, contains, append-nil, Contains-dedup_nat, Contains-from_dedup, exact_unsigned, btree_set_contains_iff, true≢false, eq-eqb, ne_eqb, or_right, cases_lt, ltb-true, false_from_ne_true, nat_tests, list_any-append, or-false, searched, Contains-permutation, IsPermutation-sym, sorted_head, sorted_tail, sorted_from_strictly_increasing, IsStrictlyIncreasing-from_sorted, non_decreasing_from_sorted, cmp_before, below_from_Less, less_from_both, at_earlier, at_same, is_at-eq, turn_test, is_one_of, ends_before, StandApart}
+use Rattle.wi_ranges.proofs.Words.{has_key, ◌≡◌, ◌==◌, ◌<◌, ◌≤◌, ◌-◌, ◌||◌, ◌++◌, ◌↔◌, ℕ, zero, suc, nat_lt, eqb, Bool, true, false, not, cond, List, [], ◌∷◌, Some, Result, Ok, Err, MatchResult, ⊎_elim, length, get_or, slice_get, refl, sym, ap, ◌∙◌, subst, arith, nat_cmp, Less, nat_cmp_total, is_ok, AllByRecursion, Contains, dedup, IsStrictlyIncreasing, IsBinarySearchResult, IsPermutation, is_at, BTreeSet, contains, append-nil, Contains-dedup_nat, Contains-from_dedup, exact_unsigned, btree_set_contains_iff, true≢false, eq-eqb, ne_eqb, or_right, cases_lt, ltb-true, false_from_ne_true, nat_tests, list_any-append, or-false, searched, Contains-permutation, IsPermutation-sym, sorted_head, sorted_tail, sorted_from_strictly_increasing, IsStrictlyIncreasing-from_sorted, non_decreasing_from_sorted, cmp_before, below_from_Less, less_from_both, at_earlier, at_same, is_at-eq, turn_test, is_one_of, as_set, ends_before, StandApart}
 use Rattle.std.specs.List.Sorted.{IsStrictlySortedBy}
 
 -- ---- the last of a list
@@ -13,10 +13,6 @@ last_tells [] x c h = cc
 last_tells (y ∷ ys) x c h =
     let count : length (y ∷ ys) - 1 ≡ length ys = omega arith in
     at_end y ys x c (sym (h ∙ ap (slice_get (y ∷ ys)) count))
-
--- a set of these cells
-abbrev pub as_set : List ℕ → BTreeSet ℕ
-as_set ks = record { keys = ks }
 
 -- ---- a search in a list
 

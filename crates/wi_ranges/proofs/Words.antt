@@ -1,5 +1,5 @@
 -- The words of the library, of the crates below and of this crate's definitions that its proofs are written in.
-pub use Rattle.std.proofs.Common.{All, Bool, Err, HashMap, IsTrue, List, MatchResult, None, Ok, OnOk, Option, Result, Some, [], ap, arith, cond, eqb, false, filter, get_or, inl, inr, length, length-append, nat_eq, nat_le, nat_lt, not, refl, rules, slice_get, subst, suc, sym, take, true, zero, ℕ, ⊎_elim, ◌&&◌, ◌*◌, ◌++◌, ◌+◌, ◌-◌, ◌<◌, ◌==◌, ◌^◌, ◌||◌, ◌↔◌, ◌∙◌, ◌∷◌, ◌≡◌, ◌≤◌, ◌⊎◌}
+pub use Rattle.std.proofs.Common.{All, Bool, Err, HashMap, IsTrue, List, MatchResult, None, Ok, Option, Result, Some, [], ap, arith, cond, eqb, false, filter, get_or, inl, inr, length, length-append, nat_eq, nat_le, nat_lt, not, refl, rules, slice_get, subst, suc, sym, take, true, zero, ℕ, ⊎_elim, ◌&&◌, ◌*◌, ◌++◌, ◌+◌, ◌-◌, ◌<◌, ◌==◌, ◌^◌, ◌||◌, ◌↔◌, ◌∙◌, ◌∷◌, ◌≡◌, ◌≤◌, ◌⊎◌}
 pub use Rattle.std.proofs.Math.Bool.{and-or_distrib_left, and-true, or-false, or_assoc}
 pub use Rattle.std.proofs.Math.Nat.{add-mul, mul_assoc, pow-succ'}
 pub use Rattle.std.proofs.lemmas.Bool.{and_from, and_left, and_parts, and_right, cases_Bool, cases_lt, cases_order, cond-false, cond-true, eq-eqb, eqb-true, false_from_ne_true, le-leb, le-ltb, leb-true, lt-leb, lt-ltb, ltb-false, ltb-true, ne_eqb, or_cases, or_from, or_left, or_parts, or_right, true≢false}
@@ -33,7 +33,7 @@ pub use Rattle.std.specs.Map.{keys_of, lookup, remove_entry, set_value}
 pub use Rattle.std.specs.Option.{unwrap_or}
 pub use Rattle.std.specs.Ordering.{is_eq, is_gt, is_le, is_lt, match_ordering, nat_cmp, ordering_then}
 pub use Rattle.std.specs.Prelude.{if◌then◌else◌}
-pub use Rattle.std.specs.Result.{is_err, is_ok}
+pub use Rattle.std.specs.Result.{is_ok}
 pub use Rattle.std.specs.Set.{remove_key}
 pub use Rattle.std.specs.declared.cmp.Ordering.{Ordering}
 pub use Rattle.std.specs.declared.cmp.Ordering.TheVariants.{Equal, Greater, Less}
@@ -43,7 +43,7 @@ pub use Rattle.wi_ranges.specs.Blocks.{block, blocks_in, blocks_of, first_row, h
 unfoldable pub use Rattle.wi_ranges.specs.Blocks.{blocks_with, blocks_within}
 pub use Rattle.wi_ranges.specs.Inner.Around.{IsAround, has_cell}
 pub use Rattle.wi_ranges.specs.Inner.Index.{AreUpTo, AreWhole, Gains, HasPieces, IsIndexed, KeepsOtherPieces, LacksPieces, Piece, bag_of, block_cmp, has_piece, holds, is_among, is_at_block, is_one, is_piece, lowest, numbered_cmp, pair_reads, piece_cmp, piece_reads, reads_at, stands_first}
-pub use Rattle.wi_ranges.specs.Inner.Rising.{StandApart, ends_before}
+pub use Rattle.wi_ranges.specs.Inner.Rising.{StandApart, as_set, ends_before}
 pub use Rattle.wi_ranges.specs.Inner.Singles.{HasPairMore, blocks_in_all, pairs_at, pairs_of, single_pair, with_pairs}
 pub use Rattle.wi_ranges.specs.Laws.{BlocksAreFew, BlocksAreLargest, IsAligned, IsPartOf, RowsAreHeldOnce, times_held}
 pub use Rattle.wi_ranges.specs.declared.block.Block.{Block}

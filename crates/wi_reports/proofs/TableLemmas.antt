@@ -1,18 +1,6 @@
 -- The records of a table, as they grow.
-use Rattle.wi_reports.proofs.Words.{◌≡◌, ℕ, ◌+◌, ◌-◌, true, List, [], ◌∷◌, ◌++◌, map, Option, Result, Ok, Err, OnOk, refl, sym, ap, ◌∙◌, arith, flat_map, range_with_len, append-nil, flat_map_more, eqb-true, Area, place, row_of, column_of, cells_of, cells_of_row, Replacement, Stored, row, is_column, is_row, table_row}
+use Rattle.wi_reports.proofs.Words.{◌≡◌, ℕ, ◌+◌, ◌-◌, true, List, [], ◌∷◌, ◌++◌, map, Option, Result, Ok, Err, OnOk, sym, ap, ◌∙◌, arith, flat_map, range_with_len, flat_map_more, eqb-true, Area, place, column_of, cells_of_row, Replacement, Stored, row, is_column, table_row}
 use Rattle.wi_reports.proofs.RowLemmas.{rows_from, one_row}
-
--- ---- rectangles of one row
-
-row_alone : (area : Area) (r : ℕ) → row_of area.last ≡ r → row_of area.first ≡ r → cells_of area ≡ cells_of_row r area
-row_alone area r last first =
-    ap (λ x. flat_map (λ row. cells_of_row row area) (range_with_len (row_of area.first) ((x + 1) - row_of area.first))) last
-    ∙ ap (λ x. flat_map (λ row. cells_of_row row area) (range_with_len x ((r + 1) - x))) first
-    ∙ ap (λ n. flat_map (λ row. cells_of_row row area) (range_with_len r n)) (let one : (r + 1) - r ≡ 1 = omega arith in one)
-    ∙ append-nil (cells_of_row r area)
-
-pub only_row : (area : Area) → is_row area ≡ true → cells_of area ≡ cells_of_row (row_of area.first) area
-only_row area h = row_alone area (row_of area.first) (sym (eqb-true (row_of area.first) (row_of area.last) h)) refl
 
 -- ---- records
 

@@ -3,7 +3,7 @@ pub use Rattle.std.proofs.Common.{Bool, Err, List, None, Ok, OnOk, Option, Resul
 pub use Rattle.std.proofs.Transfers.{starts_with_trans}
 pub use Rattle.std.proofs.lemmas.Bool.{eqb-true}
 pub use Rattle.std.proofs.lemmas.Grind.{common_steps, flat_map-append}
-pub use Rattle.std.proofs.lemmas.List.{append-nil, flat_map_more, map-append}
+pub use Rattle.std.proofs.lemmas.List.{flat_map_more, map-append}
 pub use Rattle.std.proofs.lemmas.List.FromFn.{map-range_with_len_more}
 pub use Rattle.std.proofs.lemmas.List.Sums.{sum_by-cons}
 pub use Rattle.std.specs.Io.{StartsWith}
@@ -32,7 +32,7 @@ pub use Rattle.wi_sheet.specs.Demand.{demanded, wants}
 pub use Rattle.wi_sheet.specs.Shown.{shown}
 pub use Rattle.wi_store.specs.Store.{Stored}
 pub use Rattle.wi_values.proofs.Lists.{left_more}
-pub use Rattle.wi_values.specs.Address.{Area, cells_of, cells_of_row, column_of, is_column, is_row, place, row_of, rows_in}
+pub use Rattle.wi_values.specs.Address.{Area, cells_of, cells_of_row, column_of, is_column, place, row_of, rows_in}
 unfoldable pub use Rattle.wi_values.specs.Value.{shown_text}
 pub use Rattle.wi_values.specs.declared.replacement.Replacement.{Replacement}
 pub use Rattle.wi_values.specs.declared.value.ErrorKind.TheVariants.{BadNumber}

@@ -13,7 +13,7 @@ use wi_propagate::Calculator;
 use wi_values::{Address, Value};
 
 /// Appends the record of a cell: its address and its content, as it would be typed. On an error the bytes are as before.
-/// The work is that of a look at the sheet, and grows with the length of the record.
+/// It looks up one cell (`content`), and beside that the work grows with the length of the record.
 pub fn push_content<C: Calculator>(
     alloc: Global,
     calculator: &C,

@@ -13,7 +13,7 @@ use wi_propagate::Calculator;
 use wi_values::{Rect, Replacement};
 
 /// Appends the records of `push_rows` behind a line that tells how many lines they are. On an error the bytes are as before.
-/// The work is that of `push_rows`, and a second walk through the records.
+/// It costs what `push_rows` does, one question to the calculator for each cell, and is linear in the length of the records beside.
 pub fn push_export<C: Calculator>(
     alloc: Global,
     calculator: &mut C,

@@ -1,5 +1,5 @@
 -- That each scenario has a chain, whatever is made, changed or removed.
-use Rattle.wi_scenario_list.proofs.Words.{◌≡◌, ◌≢◌, ◌∙◌, ℕ, ◌+◌, suc, ◌<◌, ◌≤◌, nat_le, Bool, true, false, not, ◌||◌, ◌&&◌, cond, List, [], ◌∷◌, map, length, ◌==◌, Option, Some, None, is_some, refl, sym, ap, subst, arith, AllByRecursion, list_any, is_member, bytes_eq, both_ways, false≢true, not-false, not_from_true, or_from, or_parts, leb-false, nat_list_eq_equiv, length-map, length-filter, count_by-le-length, length-le_from_is_member, none-some, same_Some, bytes_eq-Decides, Scenario, is_named, scenario_of, has_scenario, scenario_for, with_scenario, without_scenario, is_full, max_scenarios, max_replacements, IsChain, ended, based, HasChains, based_on, is_name_of, is_base, lacks, would_loop, chain, scenario_or_new}
+use Rattle.wi_scenario_list.proofs.Words.{◌≡◌, ◌≢◌, ◌∙◌, ℕ, ◌+◌, suc, ◌<◌, ◌≤◌, nat_le, Bool, true, false, not, ◌||◌, ◌&&◌, cond, List, [], ◌∷◌, map, length, ◌==◌, Option, Some, None, is_some, refl, sym, ap, subst, arith, AllByRecursion, list_any, is_member, bytes_eq, both_ways, false≢true, not-false, not_from_true, or_from, or_parts, leb-false, nat_list_eq_equiv, length-map, length-filter, count_by-le-length, length-le_from_is_member, none-some, same_Some, bytes_eq-Decides, is_replaced, Scenario, is_named, scenario_of, has_scenario, scenario_for, with_scenario, without_scenario, is_full, max_scenarios, max_replacements, IsChain, ended, based, HasChains, based_on, is_name_of, is_base, lacks, would_loop, chain, scenario_or_new}
 use Rattle.std.specs.List.{IsDistinct}
 use Rattle.wi_scenario_list.proofs.Chains.{ends_within, one_chain}
 use Rattle.wi_scenario_list.proofs.Held.{has-found, not_found}
@@ -164,7 +164,7 @@ pub has_room : (xs : List Scenario) (name : List ℕ) (at : ℕ) → is_full xs 
 has_room xs name at e missing =
     let new : (not (has_scenario xs name) && nat_le max_scenarios (length xs)) ≡ false =
     (or_parts (not (has_scenario xs name) && nat_le max_scenarios (length xs))
-    (not (list_any (λ r. r.at == at) (scenario_for xs name).own) && nat_le max_replacements (length (scenario_for xs name).own)) e).0 in
+    (not (is_replaced (scenario_for xs name).own at) && nat_le max_replacements (length (scenario_for xs name).own)) e).0 in
     leb-false max_scenarios (length xs) (sym (ap (λ (b : Bool). not b && nat_le max_scenarios (length xs)) missing) ∙ new)
 
 -- ---- bases that are there

@@ -2,7 +2,7 @@
 use Rattle.std.specs.Prelude.{◌≡◌, ◌≤◌, ◌==◌, ◌&&◌, ◌||◌, ℕ, Bool, not, nat_le, List, [], ◌∷◌, filter, length, map, Option, Some, None, unwrap_or, if◌then◌else◌}
 use Rattle.std.specs.List.{find, list_any}
 use Rattle.std.specs.Str.{bytes_eq}
-use Rattle.wi_values.specs.Replacements.{as_map, overridden}
+use Rattle.wi_values.specs.Replacements.{as_map, is_replaced, overridden}
 use Rattle.wi_values.specs.declared.replacement.Replacement.{Replacement}
 
 pub record Scenario : Type 0 where
@@ -76,4 +76,4 @@ without_own x at = record x { own = filter (λ r. not (r.at == at)) x.own }
 abbrev pub is_full : List Scenario → List ℕ → ℕ → Bool
 is_full xs name at =
     (not (has_scenario xs name) && nat_le max_scenarios (length xs))
-    || (not (list_any (λ r. r.at == at) (scenario_for xs name).own) && nat_le max_replacements (length (scenario_for xs name).own))
+    || (not (is_replaced (scenario_for xs name).own at) && nat_le max_replacements (length (scenario_for xs name).own))

@@ -2,8 +2,9 @@
 
 ghost use Rattle.std.specs.Prelude.{◌≡◌, ◌&&◌, [], ◌∷◌, not, nat_le, length, IfOk, None};
 ghost use Rattle.std.specs.Option.{option_copied};
+ghost use Rattle.wi_values.specs.Replacements.{is_replaced};
 ghost use Rattle.wi_scenario_list.specs.Scenarios.{max_replacements, with_replacements};
-ghost use Rattle.wi_scenario_list.specs.Inner.Parts.{is_replaced, without_replacement};
+ghost use Rattle.wi_scenario_list.specs.Inner.Parts.{without_replacement};
 ghost use Rattle.wi_scenario_list.specs.Bases.{is_name_of};
 ghost use Rattle.wi_scenario_list.specs.Inner.Held.{base_of, own_of};
 

@@ -21,10 +21,6 @@ pub serves : (IsAnswer : Answer → Type 0) (found : Answer) → IsAnswer found 
 serves IsAnswer found is (Ok u) s t records h = subst IsAnswer h is
 serves IsAnswer found is (Err e) s t records h = (refused e IsAnswer found is (λ a k. subst IsAnswer k is) h.0, h.1, h.2)
 
--- the same of a step that is a function
-pub serves_step : (step found : Answer) → step ≡ found → (r : Result (Unit {0}) Refusal) (s t : State) (records : List ℕ) → ServesFound found r s t records → Serves (λ a. step ≡ a) r s t records
-serves_step step found e r s t records h = serves (λ a. step ≡ a) found e r s t records h
-
 -- ---- a call that did as another one
 
 may_refuse : (e : Refusal) (IsOne IsOther : Answer → Type 0) → ((a : Answer) → IsOne a → IsOther a) → MayRefuse e IsOne → MayRefuse e IsOther

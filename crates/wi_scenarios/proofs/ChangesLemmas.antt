@@ -1,5 +1,5 @@
 -- What `changes` answers, and that pictures are right after it.
-use Rattle.wi_scenarios.proofs.Words.{◌≡◌, ◌≢◌, ◌<◌, ◌≤◌, ◌+◌, ℕ, zero, suc, Bool, true, false, List, [], ◌∷◌, length, get_or, set, Ok, refl, sym, ap, subst, ◌∙◌, ⊎_elim, cases_eq, false≢true, get_or-set_same, get_or-set_other, length-set, nil_from_length, Value, Replacement, Sheet, Stored, shown, effective, Entry, value_in, sheet_size, is_one_of, Rises, changes_among, Session, new_session, told, session_at, pending_of, any_cells, picture_is_shown, Scenario, evaluations_for, restarts_for, change_records, State, current_session, with_current, shown_to, change_list, changes_step, pending_evaluations, pending_restarts, Desk, state_of, pending_in, IsUpToDate, AreCovered, AreClosed, IsSound, IsTold}
+use Rattle.wi_scenarios.proofs.Words.{◌≡◌, ◌≢◌, ◌<◌, ◌≤◌, ◌+◌, ℕ, zero, suc, Bool, true, false, List, [], ◌∷◌, length, get_or, set, refl, sym, ap, subst, ◌∙◌, ⊎_elim, cases_eq, false≢true, get_or-set_same, get_or-set_other, length-set, nil_from_length, Value, Replacement, Sheet, Stored, shown, effective, value_in, sheet_size, is_one_of, Rises, changes_among, Session, new_session, told, session_at, pending_of, any_cells, picture_is_shown, Scenario, evaluations_for, restarts_for, shown_to, change_list, pending_evaluations, pending_restarts, Desk, state_of, pending_in, IsUpToDate, AreCovered, AreClosed, IsSound, IsTold}
 
 -- what has changed is found among the pending cells
 pub changes_found : {marked : Sheet → List ℕ → ℕ → Bool} (stored : Stored) (d : Desk) (own cells : List ℕ) (put : List Replacement) (picture found : List (ℕ × Value)) → IsSound marked stored d → Rises 0 sheet_size own
@@ -45,27 +45,6 @@ set_nothing (x ∷ xs) (suc i) zero h = h
 set_nothing (x ∷ xs) (suc i) (suc j) h = set_nothing xs i j h
 
 -- ---- after a change list was told
-
-abbrev made : Stored → List Scenario → List Session → ℕ → List Entry → State
-made stored xs ys i log = record { stored = stored; scenarios = xs; sessions = ys; current = i; log = log }
-
-state_after : (stored stored' : Stored) (xs xs' : List Scenario) (ys ys' : List Session) (i i' : ℕ) (log log' : List Entry) → stored' ≡ stored → xs' ≡ xs → ys' ≡ ys → i' ≡ i → log' ≡ log
-    → made stored xs ys i log ≡ made stored' xs' ys' i' log'
-state_after stored stored' xs xs' ys ys' i i' log log' a b c d e =
-    ap (λ (v : Stored). made v xs ys i log) (sym a) ∙ ap (λ (v : List Scenario). made stored' v ys i log) (sym b) ∙ ap (λ (v : List Session). made stored' xs' v i log) (sym c)
-    ∙ ap (λ (v : ℕ). made stored' xs' ys' v log) (sym d) ∙ ap (λ (v : List Entry). made stored' xs' ys' i' v) (sym e)
-
-pub told_state : (stored stored' : Stored) (d d' : Desk) (changes : List (ℕ × Value)) → stored' ≡ stored → IsTold d changes d'
-    → with_current (state_of stored d) (told (current_session (state_of stored d)) changes (length d.log)) ≡ state_of stored' d'
-told_state stored stored' d d' changes same h =
-    state_after stored stored' d.scenarios d'.scenarios (set d.sessions.sessions d.current (told (session_at d.sessions d.current) changes (length d.log))) d'.sessions.sessions d.current d'.current d.log d'.log
-    same h.scenarios h.sessions h.current h.log
-
-pub told_step : (stored stored' : Stored) (d d' : Desk) (changes : List (ℕ × Value)) → stored' ≡ stored → changes ≡ change_list (state_of stored d) → IsTold d changes d'
-    → changes_step (state_of stored d) ≡ Ok (state_of stored' d', change_records changes)
-told_step stored stored' d d' changes same is h =
-    ap (λ cs. Ok (with_current (state_of stored d) (told (current_session (state_of stored d)) cs (length d.log)), change_records cs)) (sym is)
-    ∙ ap (λ s. Ok (s, change_records changes)) (told_state stored stored' d d' changes same h)
 
 -- the current session's picture has what it is shown
 current_up_to_date : (stored : Stored) (d d' : Desk) (changes : List (ℕ × Value)) → changes ≡ change_list (state_of stored d) → d.current < length d.sessions.sessions → IsTold d changes d'

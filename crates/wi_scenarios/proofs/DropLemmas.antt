@@ -1,32 +1,5 @@
 -- What `drop` answers, and that no session is shown anything else after it.
-use Rattle.wi_scenarios.proofs.Words.{◌≡◌, ℕ, zero, suc, ◌<◌, Bool, true, false, not, List, [], ◌∷◌, length, Option, Some, None, Ok, Err, if◌then◌else◌, refl, sym, ap, ◌∙◌, list_any, slice_index_or, list_any_at, Replacement, Sheet, shown, Stored, Scenario, scenario_of, has_scenario, layered, max_scenarios, without_scenario, effective, chain, chain_within, is_name_of, is_base, scenario_without, not_based, Session, new_session, NoScenario, InUse, Desk, State, Answer, no_cause, answer, is_in_use, IsSound}
-
--- ---- the answer that is found
-
-abbrev pub drop_by : State → List ℕ → Bool → Bool → Answer
-drop_by s name there used =
-    if there then (if used then Err InUse else Ok (record s { scenarios = without_scenario s.scenarios name }, [])) else Err NoScenario
-
-abbrev step_by : State → List ℕ → Bool → Bool → Answer
-step_by s name there used =
-    answer (record no_cause { no_scenario = not there; in_use = used }) (record s { scenarios = without_scenario s.scenarios name }, [])
-
-step_is : (s : State) (name : List ℕ) (there used : Bool) → step_by s name there used ≡ drop_by s name there used
-step_is s name true true = refl
-step_is s name true false = refl
-step_is s name false used = refl
-
-abbrev pub drop_found : State → List ℕ → Answer
-drop_found s name = drop_by s name (has_scenario s.scenarios name) (is_in_use s name)
-
-pub missing_answer : (s : State) (name : List ℕ) → has_scenario s.scenarios name ≡ false → drop_found s name ≡ Err NoScenario
-missing_answer s name h = ap (λ b. drop_by s name b (is_in_use s name)) h
-
-pub used_answer : (s : State) (name : List ℕ) → has_scenario s.scenarios name ≡ true → is_in_use s name ≡ true → drop_found s name ≡ Err InUse
-used_answer s name h k = ap (λ b. drop_by s name b (is_in_use s name)) h ∙ ap (λ b. drop_by s name true b) k
-
-pub dropped_answer : (s : State) (name : List ℕ) → has_scenario s.scenarios name ≡ true → is_in_use s name ≡ false → drop_found s name ≡ Ok (record s { scenarios = without_scenario s.scenarios name }, [])
-dropped_answer s name h k = ap (λ b. drop_by s name b (is_in_use s name)) h ∙ ap (λ b. drop_by s name true b) k
+use Rattle.wi_scenarios.proofs.Words.{◌≡◌, ℕ, zero, suc, ◌<◌, Bool, true, false, List, [], ◌∷◌, length, Option, Some, None, refl, sym, ap, ◌∙◌, list_any, slice_index_or, list_any_at, Replacement, Sheet, shown, Stored, Scenario, scenario_of, layered, max_scenarios, without_scenario, effective, chain, chain_within, is_name_of, is_base, scenario_without, not_based, Session, new_session, Desk, IsSound}
 
 -- ---- what the others put in
 

@@ -1,5 +1,5 @@
 -- What an edit is answered, and what is pending after it.
-use Rattle.wi_scenarios.proofs.Words.{◌≡◌, ◌==◌, ◌<◌, ◌≤◌, ◌-◌, ℕ, zero, suc, Bool, true, false, not, ◌&&◌, ◌||◌, ◌⊎◌, inl, inr, List, [], ◌∷◌, ◌++◌, length, map, take, ⊎_elim, Option, Some, None, Result, Ok, Err, refl, sym, ap, ◌∙◌, subst, arith, slice_index_or, MatchResult, IfOk, IsErrAnd, err_from_is_err_and, keys_of, take-append_seam, length-append, cases_lt, false_from_ne_true, false≢true, or_left, or_right, or_parts, or_cases, length-keys_of, nat_tests, Area, Replacement, Content, Sheet, StoreFault, Stored, edited, change_without_empty, applied, Applies, shown, IsMarking, same_off_edited, accepted_is, Entry, Scenario, effective, value_in, sheet_size, is_one_of, Session, new_session, Roster, pending_of, vacant_of, is_pending_for_all, all_have_so, one_of_all_has, Refusal, Memory, Stale, Desk, State, Answer, may_grow, MayRefuse, Serves, no_cause, answer, Edit, edit_refusal, limit_of, stale_in, with_stored, edit_answer, is_pending, AddsOnly, state_of, AreCovered, IsClosed, AreClosed, IsSound, AreMarked, HasRooms, SameBeside, MayFail, Commits, is_itself}
+use Rattle.wi_scenarios.proofs.Words.{◌≡◌, ◌==◌, ◌<◌, ◌≤◌, ◌-◌, ℕ, zero, suc, Bool, true, false, not, ◌&&◌, ◌||◌, ◌⊎◌, inl, inr, List, [], ◌∷◌, ◌++◌, length, map, take, ⊎_elim, Option, Some, None, Result, Ok, Err, refl, sym, ap, ◌∙◌, subst, arith, slice_index_or, IfOk, IsErrAnd, err_from_is_err_and, keys_of, take-append_seam, length-append, cases_lt, false_from_ne_true, false≢true, or_left, or_right, or_parts, or_cases, length-keys_of, nat_tests, Area, Replacement, Content, Sheet, StoreFault, Stored, edited, change_without_empty, applied, shown, IsMarking, same_off_edited, accepted_is, Entry, Scenario, effective, value_in, sheet_size, is_one_of, Session, new_session, Roster, pending_of, vacant_of, is_pending_for_all, all_have_so, one_of_all_has, Refusal, Memory, Stale, Desk, State, Answer, may_grow, MayRefuse, Serves, no_cause, answer, Edit, edit_refusal, limit_of, stale_in, with_stored, edit_answer, is_pending, AddsOnly, state_of, AreCovered, IsClosed, AreClosed, IsSound, AreMarked, HasRooms, SameBeside, MayFail, Commits, is_itself}
 use Rattle.wi_store.specs.declared.fault.StoreFault.TheVariants as store
 
 -- an edit of these
@@ -43,10 +43,6 @@ edit_grows s force e = ap may_grow (edit_found s force e) ∙ by (stale_in s for
 fresh_limit : (s : State) (named : List Area) (r : Result Stored StoreFault) (e : Refusal) → limit_of r ≡ Some e → found_by s None named r ≡ Err e
 fresh_limit s named (Ok stored) e h = cc
 fresh_limit s named (Err f) e h = cc
-
-pub stale_served : (s : State) (force : Bool) (e : Edit) (at : ℕ) → stale_in s force e.named ≡ Some at → Serves (λ a. edit_answer s force no_cause e ≡ a) (Err (Stale at)) s s []
-stale_served s force e at h =
-    (edit_found s force e ∙ ap (λ (o : Option ℕ). found_by s o e.named (applied s.stored e.contents)) h, refl, refl)
 
 may_fail : (s : State) (force : Bool) (e : Edit) (refusal : Refusal) → stale_in s force e.named ≡ None → MayFail refusal (applied s.stored e.contents) → MayRefuse refusal (λ a. edit_answer s force no_cause e ≡ a)
 may_fail s force e Memory fresh h =
@@ -95,14 +91,6 @@ taken_back log more x e = ap (λ (es : List Entry). take (length es - 1) es) e �
   where
     by : (es : List Entry) → take (length (es ++ x ∷ []) - 1) (es ++ x ∷ []) ≡ es
     by es = ap (λ (n : ℕ). take n (es ++ x ∷ [])) (omega (arith, length-append es (x ∷ []))) ∙ take-append_seam es (x ∷ [])
-
--- an edit that the calculator made or refused
-pub applied_as : (a : Result Stored StoreFault) (entry : Entry) (done : Result (Unit {0}) StoreFault) (s t : Stored) (log : List Entry) → Applies a done s t →
-    MatchResult done (λ _. Commits a entry (Ok tt) s t log (log ++ entry ∷ [])) (λ fault. Commits a entry (Err (edit_refusal fault)) s t log log)
-applied_as a entry (Ok u) s t log h = (h, refl)
-applied_as a entry (Err store.Full) s t log h = (ap limit_of h.0, h.1, refl)
-applied_as a entry (Err store.EditLimit) s t log h = (ap limit_of h.0, h.1, refl)
-applied_as a entry (Err store.Memory) s t log h = (tt, h, refl)
 
 -- ---- which cells are marked
 

@@ -1,5 +1,5 @@
 -- What `fill` answers, and the copies that it makes.
-use Rattle.wi_scenarios.proofs.Words.{◌≡◌, ℕ, zero, suc, ◌+◌, Bool, true, false, not, ◌||◌, if◌then◌else◌, List, [], ◌∷◌, ◌++◌, map, Option, Some, None, Result, Err, refl, sym, ap, ◌∙◌, subst, arith, ◌≤◌, ◌<◌, ◌⊎◌, inl, inr, append_assoc, nat_lt, is_some, keys_of, list_any, flat_map, range_with_len, map-append, map-range_with_len_more, list_any-append, Area, place, size_of, cells_of, cells_of_row, Content, content_of, IsErrAnd, err_from_is_err_and, Refusal, Memory, TooLarge, LeavesSheet, State, max_area, Answer, may_grow, MayRefuse, Serves, no_cause, Edit, edit_answer, fill_edit, fill_step, shift_refusal, copy_to, has_no_copy, or_nothing, ShiftFault, AreCopies, CopiesAs, HasNoCopies, false≢true, eq-or-lt_of_le, cells_in}
+use Rattle.wi_scenarios.proofs.Words.{◌≡◌, ℕ, zero, suc, ◌+◌, Bool, true, false, not, ◌||◌, if◌then◌else◌, List, [], ◌∷◌, ◌++◌, map, Option, Some, Result, Err, refl, sym, ap, ◌∙◌, subst, arith, ◌≤◌, ◌<◌, ◌⊎◌, inl, inr, append_assoc, nat_lt, is_some, keys_of, list_any, flat_map, range_with_len, map-append, map-range_with_len_more, list_any-append, Area, place, size_of, cells_of, cells_of_row, Content, content_of, IsErrAnd, err_from_is_err_and, Refusal, Memory, TooLarge, LeavesSheet, State, max_area, Answer, may_grow, MayRefuse, Serves, no_cause, Edit, edit_answer, fill_edit, fill_step, shift_refusal, copy_to, has_no_copy, or_nothing, ShiftFault, AreCopies, CopiesAs, HasNoCopies, false≢true, eq-or-lt_of_le, cells_in}
 use Rattle.wi_parser.specs.declared.shift.ShiftFault.TheVariants as shift
 use Rattle.wi_scenarios.proofs.EditLemmas.{edit_grows, same_edit}
 
@@ -35,9 +35,6 @@ fill_grows s force from area l =
 
 -- ---- copies, one after another
 
-pub no_copies : (content : Option Content) (from : ℕ) → AreCopies content from [] []
-no_copies content from = record { all = refl; each = refl }
-
 -- one more copy
 pub one_copy : (content : Option Content) (from to : ℕ) (cells : List ℕ) (changes new : List (ℕ × Option Content)) (copy : Option Content) → copy_to content from to ≡ Some copy → new ≡ changes ++ (to, copy) ∷ []
     → AreCopies content from cells changes → AreCopies content from (cells ++ to ∷ []) new
@@ -51,15 +48,6 @@ one_copy content from to cells changes new copy e grown h = record {
       ∙ ap (λ o. map (λ to. (to, or_nothing (copy_to content from to))) cells ++ (to, or_nothing o) ∷ []) (sym e)
       ∙ sym (map-append (λ to. (to, or_nothing (copy_to content from to))) cells (to ∷ []));
 }
-
--- a cell that has no copy
-pub leaves_at : (content : Option Content) (from to : ℕ) (cells more : List ℕ) → copy_to content from to ≡ None → list_any (has_no_copy content from) (cells ++ to ∷ more) ≡ true
-leaves_at content from to [] more e = ap (λ o. not (is_some o) || list_any (has_no_copy content from) more) e
-leaves_at content from to (c ∷ cells) more e = by (has_no_copy content from c) (leaves_at content from to cells more e)
-  where
-    by : (b : Bool) → list_any (has_no_copy content from) (cells ++ to ∷ more) ≡ true → (b || list_any (has_no_copy content from) (cells ++ to ∷ more)) ≡ true
-    by true ih = refl
-    by false ih = ih
 
 -- ---- the cells of a rectangle, row after row
 
@@ -130,14 +118,6 @@ fill_leaves r s force content from area fault at small k none =
     by e shift.Memory same u =
         subst (λ (x : Refusal). MayRefuse x (λ a. fill_step s force from area ≡ a)) (sym same)
         (record { answer = fill_step s force from area; is_answer = refl; grows = fill_grows s force from area small })
-
-pub fill_lacks : (r : Result (Unit {0}) Refusal) (s : State) (force : Bool) (from : ℕ) (area : Area) → nat_lt max_area (size_of area) ≡ false → IsErrAnd r (λ e. e ≡ Memory)
-    → Serves (λ a. fill_step s force from area ≡ a) r s s []
-fill_lacks r s force from area small k =
-    let p = err_from_is_err_and r k in
-    let same : r ≡ Err Memory = p.1 ∙ ap (λ (x : Refusal). let y : Result (Unit {0}) Refusal = Err x in y) p.2 in
-    subst (λ (x : Result (Unit {0}) Refusal). Serves (λ a. fill_step s force from area ≡ a) x s s []) (sym same)
-    (record { answer = fill_step s force from area; is_answer = refl; grows = fill_grows s force from area small }, refl, refl)
 
 -- ---- a fill with copies
 

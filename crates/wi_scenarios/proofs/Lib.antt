@@ -14,6 +14,7 @@ pub mod ScenarioLemmas
 pub mod SessionLemmas
 pub mod DropLemmas
 pub mod OutcomeLemmas
+pub mod EventLemmas
 pub mod RunLemmas
 pub mod RecordLemmas
 pub mod StaleLemmas

@@ -5,7 +5,7 @@ use Rattle.wi_scenarios.proofs.Words.{◌≡◌, ℕ, Bool, true, false, not, �
 abbrev pub Looked : Answer → Result (Unit {0}) Refusal → State → State → List ℕ → List ℕ → Type 0
 Looked step r old new before after = (records : List ℕ) × (after ≡ before ++ records) × Serves (λ a. step ≡ a) r old new records
 
--- it refused for want of memory
+-- it is refused as out of memory
 lacked : (step : Answer) (r : Result (Unit {0}) Refusal) (s t : State) (before after : List ℕ) → may_grow step ≡ true → IsErrAnd r (λ e. e ≡ Memory) → t ≡ s → after ≡ before → Looked step r s t before after
 lacked step r s t before after grows k same kept =
     let p = err_from_is_err_and r k in

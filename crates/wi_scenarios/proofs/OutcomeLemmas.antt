@@ -1,28 +1,28 @@
--- What each command leaves.
-use Rattle.wi_scenarios.proofs.Words.{nat_le, nat_lt, option_map, ◌≡◌, ◌∙◌, ℕ, ◌==◌, inl, inr, Bool, true, false, not, ◌&&◌, ◌||◌, cond, List, [], ◌∷◌, length, Option, Some, None, Result, Ok, Err, refl, sym, subst, list_any, find, option_or, bytes_eq, bytes_eq-Decides, Area, size_of, cells_of, content_of, Stored, applied, StoreFault, record_areas_at, is_named, has_scenario, scenario_for, with_scenario, without_scenario, with_own, without_own, is_full, scenario_or_new, lacks, would_loop, based_on, found_with, found_without, max_sessions, has_session, with_session, index_of, using_scenario, told, table_of, is_column, has_row, entries, rows_shown, export_of, cells_compared, change_records, content_record, effective, Refusal, BadCommand, TooLarge, NoScenario, InUse, TooMany, BadField, LeavesSheet, Stale, TooLong, State, max_area, current_session, with_current, current_replacements, Answer, when, unless, no_cause, first_cause, limit_of, edit_refusal, stale_in, with_stored, change_list, cell_area, fault_in, content_in, clear_edit, fill_edit, has_no_copy, has_bad_field, field_fault, contents_in, replacement_by, is_in_use, Command, Set, Clear, Fill, Csv, Drop, Base, Use, As, Show, Export, Changes, Compare, Table, Formula, Refused, RefusedData, IsStep, Event, MayHappen, IsEdited, HasScenarioChanged, Leaves}
+-- What each call leaves.
+use Rattle.wi_scenarios.proofs.Words.{nat_le, nat_lt, option_map, ◌≡◌, ◌∙◌, ℕ, ◌==◌, inl, inr, Bool, true, false, not, ◌&&◌, ◌||◌, cond, List, [], ◌∷◌, length, Option, Some, None, Result, Ok, Err, refl, sym, subst, list_any, find, option_or, bytes_eq, bytes_eq-Decides, Area, size_of, cells_of, content_of, Stored, applied, StoreFault, record_areas_at, is_named, has_scenario, scenario_for, with_scenario, without_scenario, with_own, without_own, is_full, scenario_or_new, lacks, would_loop, based_on, found_with, found_without, max_sessions, has_session, with_session, index_of, using_scenario, told, table_of, is_column, has_row, entries, rows_shown, export_of, cells_compared, change_records, content_record, effective, Refusal, BadCommand, TooLarge, NoScenario, InUse, TooMany, BadField, LeavesSheet, Stale, TooLong, State, max_area, current_session, with_current, current_replacements, Answer, when, unless, no_cause, first_cause, limit_of, edit_refusal, stale_in, with_stored, change_list, cell_area, fault_in, content_in, clear_edit, fill_edit, has_no_copy, has_bad_field, field_fault, contents_in, replacement_by, is_in_use, Call, Set, Clear, Fill, Csv, Drop, Base, Use, As, Show, Export, Changes, Compare, Table, Formula, Refused, RefusedData, IsCallStep, Event, MayHappen, IsEdited, HasScenarioChanged, Leaves}
 use Rattle.std.proofs.Common.{is_some}
 use Rattle.wi_scenario_list.specs.Scenarios as list
 use Rattle.wi_scenarios.specs.declared.refusal.Refusal.TheVariants as refusal
 use Rattle.wi_scenarios.specs.Step.{Scenario}
 
 -- what an answer says of the state that it leaves
-abbrev pub Outcome : State → Command → Answer → Type 0
+abbrev pub Outcome : State → Call → Answer → Type 0
 Outcome s c (Ok done) = Leaves c s done.0
 Outcome s c (Err e) = Unit {0}
 
 -- ---- answers
 
 -- where a refusal would have held of it, or not
-refused : (s : State) (c : Command) (e : Refusal) (a : Answer) → Err e ≡ a → Outcome s c a
+refused : (s : State) (c : Call) (e : Refusal) (a : Answer) → Err e ≡ a → Outcome s c a
 refused s c e a h = subst (Outcome s c) h tt
 
-done_so : (s : State) (c : Command) (o : Option Refusal) (done : State × List ℕ) (a : Answer) → unless o done ≡ a → Leaves c s done.0 → Outcome s c a
+done_so : (s : State) (c : Call) (o : Option Refusal) (done : State × List ℕ) (a : Answer) → unless o done ≡ a → Leaves c s done.0 → Outcome s c a
 done_so s c (Some e) done a h k = refused s c e a h
 done_so s c None done a h k = subst (Outcome s c) h k
 
 -- ---- edits
 
--- the order of the causes of an edit: two of the command's own, a stale cell, a limit
+-- the order of the causes of an edit: two of the call's own, a stale cell, a limit
 abbrev pub edit_cause : Option Refusal → Option Refusal → Option ℕ → Option Refusal → Option Refusal
 edit_cause o p stale limit = option_or o (option_or p (option_or (option_map Stale stale) (option_or limit None)))
 
@@ -73,9 +73,9 @@ taken_out s name = record {
   log = refl;
 }
 
--- ---- each command
+-- ---- each call
 
-pub outcome : (s : State) (c : Command) (a : Answer) → IsStep s c a → Outcome s c a
+pub outcome : (s : State) (c : Call) (a : Answer) → IsCallStep s c a → Outcome s c a
 outcome s (Set force at text) a h =
     as_edit a (edited (cell_area at ∷ []) s (when (length text == 0) BadCommand) (fault_in h.read) (stale_in s force (cell_area at ∷ [])) (applied s.stored ((at, content_in h.read) ∷ [])) a h.answered)
   where
@@ -143,9 +143,9 @@ outcome s (Formula at) a h = done_so s (Formula at) None (s, content_record s.st
 outcome s (Refused e) a h = refused s (Refused e) e a h
 outcome s (RefusedData e) a h = refused s (RefusedData e) e a h
 
-pub what_happens : (s : State) (e : Event) → MayHappen s e → Outcome s e.command e.answer
+pub what_happens : (s : State) (e : Event Call) → MayHappen IsCallStep s e → Outcome s e.command e.answer
 what_happens s e (inl h) = outcome s e.command e.answer h
 what_happens s e (inr h) = subst (Outcome s e.command) (sym h) tt
 
-pub leaves : (s t : State) (c : Command) (records : List ℕ) → IsStep s c (Ok (t, records)) → Leaves c s t
+pub leaves : (s t : State) (c : Call) (records : List ℕ) → IsCallStep s c (Ok (t, records)) → Leaves c s t
 leaves s t c records h = outcome s c (Ok (t, records)) h

@@ -1,5 +1,5 @@
 -- The records of a change list tell it.
-use Rattle.wi_scenarios.proofs.Words.{◌≡◌, ◌≢◌, ◌∙◌, ℕ, zero, suc, ◌+◌, ◌<◌, ◌≤◌, Bool, true, false, not, cond, List, [], ◌∷◌, map, get_or, Result, Ok, Err, refl, sym, ap, arith, bytes_eq, both_ways, same_Some, bytes_eq-Decides, AllByRecursion, range_with_len, All-map, flat_map-map, address_text, read_address, imported, error_name, logical_name, shown_text, AddressFault, ErrorKind, NotAvailable, DivisionByZero, UnknownName, BadNumber, BadReference, BadValue, Circular, Value, Empty, Number, Text, Logical, Fault, numbers_read_back, addresses_read_back, recs, row, read_again, sheet_size, value_in, same_value, kind_text, change_records, State, current_session, shown_to, Answer, change_list, Changes, IsStep, change_fields, RecordsTellList}
+use Rattle.wi_scenarios.proofs.Words.{◌≡◌, ◌≢◌, ◌∙◌, ℕ, zero, suc, ◌+◌, ◌<◌, ◌≤◌, Bool, true, false, not, cond, List, [], ◌∷◌, map, get_or, Result, Ok, Err, refl, sym, ap, arith, bytes_eq, both_ways, same_Some, bytes_eq-Decides, AllByRecursion, range_with_len, All-map, flat_map-map, address_text, read_address, imported, error_name, logical_name, shown_text, AddressFault, ErrorKind, NotAvailable, DivisionByZero, UnknownName, BadNumber, BadReference, BadValue, Circular, Value, Empty, Number, Text, Logical, Fault, numbers_read_back, addresses_read_back, recs, row, read_again, sheet_size, value_in, same_value, kind_text, change_records, State, current_session, shown_to, Answer, change_list, Changes, IsCallStep, change_fields, RecordsTellList}
 use Rattle.std.proofs.Common.{filter}
 
 -- ---- one change
@@ -98,7 +98,7 @@ records_in : Answer → List ℕ
 records_in (Ok done) = done.1
 records_in (Err e) = []
 
-pub records_tell_list : (s t : State) (records : List ℕ) → IsStep s Changes (Ok (t, records)) → RecordsTellList s records
+pub records_tell_list : (s t : State) (records : List ℕ) → IsCallStep s Changes (Ok (t, records)) → RecordsTellList IsCallStep Changes s records
 unfolding records_in
 records_tell_list s t records h =
     let same : change_records (change_list s) ≡ records = ap records_in h in

@@ -3,7 +3,7 @@ use Rattle.wi_scenarios.proofs.Words.{◌≡◌, ◌↔◌, ℕ, Bool, true, fal
 use Rattle.wi_values.specs.declared.import.FieldFault.TheVariants as field
 use Rattle.wi_scenarios.proofs.AnswerLemmas.{serves_as}
 
--- ---- calls that end at a want of memory
+-- ---- calls that run out of memory
 
 -- it may stand in place of an answer that does something
 pub lacked : (step : Answer) (done : State × List ℕ) (r : Result (Unit {0}) Refusal) (s t : State) → step ≡ Ok done → IsErrAnd r (λ e. e ≡ Memory) → t ≡ s

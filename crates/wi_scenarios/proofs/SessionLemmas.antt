@@ -35,16 +35,16 @@ whole_has a l =
 pub unoccupied : (s : Sheet) (a : ℕ) → a < sheet_size → is_one_of (occupied_cells s) a ≡ false → content_of s a ≡ None
 unoccupied s a l h =
     let whole : Area = record { first = 0; last = sheet_size - 1 } in
-    let there : list_any (λ c. c == a) (keys_of s) ≡ false =
+    let there : is_one_of (keys_of s) a ≡ false =
     sym (any-filter_same (λ c. c == a) (is_within whole) true (λ k e. subst (λ x. is_within whole x ≡ true) (sym (eqb-true k a e)) (whole_has a l)) (keys_of s)) ∙ h in
     has_none s a there
 
 -- a cell of a list lies below its bound
-below_all : (n : ℕ) (xs : List ℕ) (c : ℕ) → All (λ a. a < n) xs → list_any (λ x. x == c) xs ≡ true → c < n
+below_all : (n : ℕ) (xs : List ℕ) (c : ℕ) → All (λ a. a < n) xs → is_one_of xs c ≡ true → c < n
 below_all n [] c h e = absurd (false≢true e)
-below_all n (x ∷ xs) c h e = at (or_cases (x == c) (list_any (λ k. k == c) xs) e) (below_all n xs c (All-tail (λ a. a < n) x xs h))
+below_all n (x ∷ xs) c h e = at (or_cases (x == c) (is_one_of xs c) e) (below_all n xs c (All-tail (λ a. a < n) x xs h))
   where
-    at : ((x == c) ≡ true) ⊎ (list_any (λ k. k == c) xs ≡ true) → (list_any (λ k. k == c) xs ≡ true → c < n) → c < n
+    at : ((x == c) ≡ true) ⊎ (is_one_of xs c ≡ true) → (is_one_of xs c ≡ true → c < n) → c < n
     at (inl t) rest = subst (λ k. k < n) (eqb-true x c t) (All-head (λ a. a < n) x xs h)
     at (inr m) rest = rest m
 
@@ -56,13 +56,13 @@ formula_occupied s c within f = at (is_one_of (occupied_cells s) c) refl
     no_content : content_of s c ≡ None → ⊥
     no_content e = false≢true (sym (ap has_formula e) ∙ f)
 
-    key : (b : Bool) → list_any (λ k. k == c) (keys_of s) ≡ b → c < rows * columns
+    key : (b : Bool) → is_one_of (keys_of s) c ≡ b → c < rows * columns
     key true e = below_all (rows * columns) (keys_of s) c within e
     key false e = absurd (no_content (has_none s c e))
 
     at : (b : Bool) → is_one_of (occupied_cells s) c ≡ b → b ≡ true
     at true e = refl
-    at false e = absurd (no_content (unoccupied s c (key (list_any (λ k. k == c) (keys_of s)) refl) e))
+    at false e = absurd (no_content (unoccupied s c (key (is_one_of (keys_of s) c) refl) e))
 
 -- so with the occupied cells those are occupied that they mark
 pub occupied_closed : (marked : Sheet → List ℕ → ℕ → Bool) → IsMarking marked → (s : Sheet) → All (λ a. a < rows * columns) (keys_of s) → IsClosed marked s (is_one_of (occupied_cells s))
@@ -98,19 +98,6 @@ step_is s name true full = refl
 step_is s name false true = refl
 step_is s name false false = refl
 
--- a session that is there
-pub there_answer : (s : State) (name : List ℕ) (place : ℕ) → has_session s.sessions name ≡ true → place ≡ index_of s.sessions name → session_found s name ≡ Ok (record s { current = place }, [])
-there_answer s name place h e =
-    ap (λ b. session_by s name b (nat_le max_sessions (length s.sessions))) h ∙ ap (λ (p : ℕ). ok_of s p) (sym e)
-  where
-    ok_of : State → ℕ → Answer
-    ok_of s p = Ok (record s { current = p }, [])
-
--- one too many
-pub full_answer : (s : State) (name : List ℕ) → has_session s.sessions name ≡ false → max_sessions ≤ length s.sessions → session_found s name ≡ Err TooMany
-full_answer s name h l =
-    ap (λ b. session_by s name b (nat_le max_sessions (length s.sessions))) h ∙ ap (λ b. session_by s name false b) (le-leb max_sessions (length s.sessions) l)
-
 -- a session that is none has the place behind all
 no_place : (p : Session → Bool) (xs : List Session) → list_any p xs ≡ false → position_or_len p xs ≡ length xs
 no_place p [] h = refl
@@ -140,9 +127,6 @@ new_answer s name place h l e =
         by true k = absurd (let m = leb-true max_sessions n k in omega (arith, l, m))
 
 -- ---- what holds of the desk
-
-pub sound_there : {marked : Sheet → List ℕ → ℕ → Bool} (stored : Stored) (d : Desk) (place : ℕ) → place < length d.sessions.sessions → IsSound marked stored d → IsSound marked stored (record d { current = place })
-sound_there stored d place l h = record { within = l; few = h.few; each = h.each; full = h.full; closed = h.closed; covered = h.covered }
 
 -- a list with the same cells has those that they mark too
 closed_as : (marked : Sheet → List ℕ → ℕ → Bool) (s : Sheet) (xs ys : List ℕ) → SameCells xs ys → IsClosed marked s (is_one_of ys) → IsClosed marked s (is_one_of xs)
@@ -209,14 +193,6 @@ sound_new {marked} stored d r place name cells new few at grown more same are ma
         → value_in (slice_index_or r.sessions i (new_session [])).picture a ≡ shown stored.sheet (effective d.scenarios (slice_index_or r.sessions i (new_session [])).scenario) a
     by i a m (inl l) n k = before i a m l k
     by i a m (inr g) n k = last i a m (omega (arith, g, n)) k
-
-pub there_step : (s : State) (name : List ℕ) (place : ℕ) → has_session s.sessions name ≡ true → place ≡ index_of s.sessions name → as_step s name ≡ Ok (record s { current = place }, [])
-there_step s name place h e =
-    step_is s name (has_session s.sessions name) (nat_le max_sessions (length s.sessions)) ∙ there_answer s name place h e
-
-pub full_step : (s : State) (name : List ℕ) → has_session s.sessions name ≡ false → max_sessions ≤ length s.sessions → as_step s name ≡ Err TooMany
-full_step s name h l =
-    step_is s name (has_session s.sessions name) (nat_le max_sessions (length s.sessions)) ∙ full_answer s name h l
 
 pub new_step : (s t : State) (name : List ℕ) → has_session s.sessions name ≡ false → length s.sessions < max_sessions
     → t ≡ record s { sessions = s.sessions ++ new_session name ∷ []; current = length s.sessions } → as_step s name ≡ Ok (t, [])

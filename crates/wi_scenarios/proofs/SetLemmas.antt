@@ -28,10 +28,6 @@ set_found s force at text =
     let r = content_read text in
     record { read = r; is_read = (content_is_one text r).1 refl; answered = by_causes s force at (length text == 0) r }
 
-pub set_only : (s : State) (force : Bool) (at : ℕ) (text : List ℕ) (a : Answer) → IsSetStep s force at text a → found s force at text ≡ a
-set_only s force at text a h =
-    ap (answer_by s force at (length text == 0)) ((content_is_one text h.read).0 h.is_read) ∙ sym (by_causes s force at (length text == 0) h.read) ∙ h.answered
-
 pub set_served : (r : Result (Unit {0}) Refusal) (s t : State) (force : Bool) (at : ℕ) (text records : List ℕ) → ServesFound (found s force at text) r s t records → Serves (IsSetStep s force at text) r s t records
 set_served r s t force at text records h = serves (IsSetStep s force at text) (found s force at text) (set_found s force at text) r s t records h
 

@@ -1,12 +1,13 @@
 -- When an edit is refused for a stale cell.
-use Rattle.wi_scenarios.proofs.Words.{IfSome, nat_lt, ◌≡◌, ◌∙◌, ℕ, zero, suc, ◌+◌, ◌<◌, ◌≤◌, ◌==◌, ◌⊎◌, inl, inr, Bool, true, false, ◌&&◌, List, [], ◌∷◌, length, map, max, Option, Some, None, Result, Ok, Err, refl, sym, ap, subst, arith, list_any, and_parts, and_from, both_ways, cases_eq, cases_lt, or_cases, false≢true, none-some, same_Some, Area, is_within, size_of, cells_of, within_between, Content, ParseFault, content_of, record_areas_at, Stored, applied, StoreFault, Entry, have_cell, first_stale, IsFirst, entries_in, is_wanted_of_others, only_first, stale_is_first, Refusal, Memory, BadCommand, TooLarge, BadField, LeavesSheet, Stale, State, max_area, Answer, when, unless, limit_of, edit_refusal, stale_in, with_stored, cell_area, fault_in, content_in, clear_edit, fill_edit, has_no_copy, ImportOutcome, has_bad_field, field_fault, contents_in, Command, Set, Clear, Fill, Csv, IsStep, Event, MayHappen, MayFollow, state_after, IsCoherent, named_by, is_forced, edits_since, unseen, is_newer, IsFirstNewer, counts_before, is_refused_before, StaleIsNewer, ForcedIsNotStale}
+use Rattle.wi_scenarios.proofs.Words.{IfSome, nat_lt, ◌≡◌, ◌∙◌, ℕ, zero, suc, ◌+◌, ◌<◌, ◌≤◌, ◌==◌, ◌⊎◌, inl, inr, Bool, true, false, ◌&&◌, List, [], ◌∷◌, length, map, max, Option, Some, None, Result, Ok, Err, refl, sym, ap, subst, arith, list_any, and_parts, and_from, both_ways, cases_eq, cases_lt, or_cases, false≢true, none-some, same_Some, Area, is_within, size_of, cells_of, within_between, Content, ParseFault, content_of, record_areas_at, Stored, applied, StoreFault, Entry, is_within_one, first_stale, IsFirst, entries_in, is_wanted_of_others, only_first, stale_is_first, Refusal, Memory, BadCommand, TooLarge, BadField, LeavesSheet, Stale, State, max_area, Answer, when, unless, limit_of, edit_refusal, stale_in, with_stored, cell_area, fault_in, content_in, clear_edit, fill_edit, has_no_copy, ImportOutcome, has_bad_field, field_fault, contents_in, Call, Set, Clear, Fill, Csv, IsCallStep, Event, MayHappen, MayFollow, state_after, IsCoherent, is_changes_call, named_by_call, is_forced_call, edits_since, unseen, is_newer, IsFirstNewer, counts_before, is_refused_before, StaleIsNewer, ForcedIsNotStale}
 use Rattle.std.specs.Prelude.{◌↔◌}
 use Rattle.wi_parser.specs.declared.fault.ParseFault.TheVariants as parse
 use Rattle.wi_import.specs.declared.fault.ImportFault.TheVariants as import
 use Rattle.wi_store.specs.declared.fault.StoreFault.TheVariants as store
 use Rattle.wi_edit_log.specs.declared.edit.Edit.{Edit}
 use Rattle.wi_scenarios.proofs.OutcomeLemmas.{edit_cause}
-use Rattle.wi_scenarios.proofs.RunLemmas.{log_grows}
+use Rattle.wi_scenarios.proofs.EventLemmas.{TellsAndLogs, log_grows}
+use Rattle.wi_scenarios.proofs.RunLemmas.{tells_and_logs}
 
 -- ---- the first stale cell
 
@@ -39,10 +40,10 @@ bound : List Area → ℕ
 bound [] = 0
 bound (r ∷ rs) = max (r.last + 1) (bound rs)
 
-is_below : (areas : List Area) (a : ℕ) → have_cell areas a ≡ true → a < bound areas
+is_below : (areas : List Area) (a : ℕ) → is_within_one areas a ≡ true → a < bound areas
 unfolding bound
 is_below [] a h = absurd (false≢true h)
-is_below (r ∷ rs) a h = elim (or_cases (is_within r a) (have_cell rs a) h) [
+is_below (r ∷ rs) a h = elim (or_cases (is_within r a) (is_within_one rs a) h) [
   | inl t ↦ let k : a ≤ r.last = (within_between r a t).1 in omega (arith, k)
   | inr t ↦ let k : a < bound rs = is_below rs a t in omega (arith, k)
 ]
@@ -58,7 +59,7 @@ kept_entries (e ∷ es) = ap (λ (xs : List Entry). e ∷ xs) (kept_entries es)
 
 -- a cell that is named, and named by others
 abbrev is_wanted : List Entry → ℕ → List Area → ℕ → Bool
-is_wanted edits i named a = have_cell named a && is_newer edits i a
+is_wanted edits i named a = is_within_one named a && is_newer edits i a
 
 some_first : (edits : List Entry) (i : ℕ) (named : List Area) → (o : Option ℕ) × IsFirst (is_wanted edits i named) o
 some_first edits i named = by (search_below (is_wanted edits i named) (bound named))
@@ -70,7 +71,7 @@ some_first edits i named = by (search_below (is_wanted edits i named) (bound nam
       None,
       record {
         passes = tt;
-        least = λ a t. both_ways (is_wanted edits i named a) (none a (is_below named a (and_parts (have_cell named a) (is_newer edits i a) t).0)) t;
+        least = λ a t. both_ways (is_wanted edits i named a) (none a (is_below named a (and_parts (is_within_one named a) (is_newer edits i a) t).0)) t;
       },
     )
 
@@ -81,24 +82,33 @@ least_stale edits i named =
     let first : IsFirst (is_wanted_of_others (map kept edits) i named) some.0 = subst (λ (es : List Entry). IsFirst (is_wanted es i named) some.0) (sym same) some.1 in
     subst (IsFirst (is_wanted edits i named)) (stale_is_first edits (map kept edits) i 0 0 named some.0 same (omega arith) first) some.1
 
-pub stale_exactly : (edits : List Entry) (i : ℕ) (named : List Area) (a : ℕ) → (first_stale edits i 0 named ≡ Some a) ↔ IsFirstNewer edits i named a
+stale_exactly : (edits : List Entry) (i : ℕ) (named : List Area) (a : ℕ) → (first_stale edits i 0 named ≡ Some a) ↔ IsFirstNewer edits i named a
 stale_exactly edits i named a = (there, back)
   where
     there : first_stale edits i 0 named ≡ Some a → IsFirstNewer edits i named a
     there e =
         let f = subst (IsFirst (is_wanted edits i named)) e (least_stale edits i named) in
-        let p = and_parts (have_cell named a) (is_newer edits i a) f.passes in
+        let p = and_parts (is_within_one named a) (is_newer edits i a) f.passes in
         record {
           is_named = p.0;
           by_others = p.1;
-          none_before = λ b h k. f.least b (and_from (have_cell named b) (is_newer edits i b) h k);
+          none_before = λ b h k. f.least b (and_from (is_within_one named b) (is_newer edits i b) h k);
         }
 
     back : IsFirstNewer edits i named a → first_stale edits i 0 named ≡ Some a
     back h = only_first (is_wanted edits i named) (first_stale edits i 0 named) (Some a) (least_stale edits i named) (record {
-      passes = and_from (have_cell named a) (is_newer edits i a) h.is_named h.by_others;
-      least = λ b t. let p = and_parts (have_cell named b) (is_newer edits i b) t in h.none_before b p.0 p.1;
+      passes = and_from (is_within_one named a) (is_newer edits i a) h.is_named h.by_others;
+      least = λ b t. let p = and_parts (is_within_one named b) (is_newer edits i b) t in h.none_before b p.0 p.1;
     })
+
+module _ {C : Type 0} (IsStep : State → C → Answer → Type 0) (is_changes : C → Bool) (named_by : C → Option (List Area))
+    (does : (s : State) (e : Event C) → IsCoherent s → MayHappen IsStep s e → TellsAndLogs is_changes named_by s e) where
+  -- after commands, of those that other sessions' edits name since the session was last told a list
+  pub stale_since : (s : State) (es : List (Event C)) (i : ℕ) (named : List Area) (a : ℕ) → IsCoherent s → MayFollow IsStep s es
+      → (first_stale (unseen (state_after s es) i) i 0 named ≡ Some a) ↔ IsFirstNewer (edits_since is_changes named_by i (unseen s i) s es) i named a
+  stale_since s es i named a settled run =
+      subst (λ (edits : List Entry). (first_stale (unseen (state_after s es) i) i 0 named ≡ Some a) ↔ IsFirstNewer edits i named a)
+      (log_grows IsStep is_changes named_by does s es i settled run).behind (stale_exactly (unseen (state_after s es) i) i named a)
 
 -- ---- the order of causes
 
@@ -156,20 +166,20 @@ stale_answer None None None (Ok stored) done a c k l h f =
 
 -- ---- an edit
 
-set_stale : (s : State) (force : Bool) (at : ℕ) (text : List ℕ) (a : Answer) (c : ℕ) → IsStep s (Set force at text) a → is_refused_before a ≡ false
+set_stale : (s : State) (force : Bool) (at : ℕ) (text : List ℕ) (a : Answer) (c : ℕ) → IsCallStep s (Set force at text) a → is_refused_before a ≡ false
     → (a ≡ Err (Stale c)) ↔ (stale_in s force (cell_area at ∷ []) ≡ Some c)
 set_stale s force at text a c h f =
     let r = applied s.stored ((at, content_in h.read) ∷ []) in
     stale_answer (when (length text == 0) BadCommand) (fault_in h.read) (stale_in s force (cell_area at ∷ [])) r (with_stored s (cell_area at ∷ []) r, []) a c
     (when_before (length text == 0) BadCommand refl) (fault_before h.read) h.answered f
 
-clear_stale : (s : State) (force : Bool) (area : Area) (a : Answer) (c : ℕ) → IsStep s (Clear force area) a → is_refused_before a ≡ false
+clear_stale : (s : State) (force : Bool) (area : Area) (a : Answer) (c : ℕ) → IsCallStep s (Clear force area) a → is_refused_before a ≡ false
     → (a ≡ Err (Stale c)) ↔ (stale_in s force (area ∷ []) ≡ Some c)
 clear_stale s force area a c h f =
     let r = applied s.stored (clear_edit s.stored.sheet area).contents in
     stale_answer None None (stale_in s force (area ∷ [])) r (with_stored s (area ∷ []) r, []) a c tt tt h f
 
-fill_stale : (s : State) (force : Bool) (from : ℕ) (area : Area) (a : Answer) (c : ℕ) → IsStep s (Fill force from area) a → is_refused_before a ≡ false
+fill_stale : (s : State) (force : Bool) (from : ℕ) (area : Area) (a : Answer) (c : ℕ) → IsCallStep s (Fill force from area) a → is_refused_before a ≡ false
     → (a ≡ Err (Stale c)) ↔ (stale_in s force (area ∷ []) ≡ Some c)
 fill_stale s force from area a c h f =
     let r = applied s.stored (fill_edit s.stored.sheet from area).contents in
@@ -178,7 +188,7 @@ fill_stale s force from area a c h f =
     stale_answer (when large TooLarge) (when leaves LeavesSheet) (stale_in s force (area ∷ [])) r (with_stored s (area ∷ []) r, []) a c
     (when_before large TooLarge refl) (when_before leaves LeavesSheet refl) h f
 
-csv_stale : (s : State) (force : Bool) (at : ℕ) (text : List ℕ) (a : Answer) (c : ℕ) → IsStep s (Csv force at text) a → is_refused_before a ≡ false
+csv_stale : (s : State) (force : Bool) (at : ℕ) (text : List ℕ) (a : Answer) (c : ℕ) → IsCallStep s (Csv force at text) a → is_refused_before a ≡ false
     → (a ≡ Err (Stale c)) ↔ (stale_in s force (record_areas_at at text) ≡ Some c)
 csv_stale s force at text a c h f =
     let r = applied s.stored (contents_in h.read) in
@@ -190,8 +200,8 @@ abbrev stale_of : State → Bool → Option (List Area) → Option ℕ
 stale_of s force None = None
 stale_of s force (Some named) = stale_in s force named
 
-edit_stale : (s : State) (c : Command) (a : Answer) (named : List Area) (at : ℕ) → IsStep s c a → named_by c ≡ Some named → is_refused_before a ≡ false
-    → (a ≡ Err (Stale at)) ↔ (stale_of s (is_forced c) (named_by c) ≡ Some at)
+edit_stale : (s : State) (c : Call) (a : Answer) (named : List Area) (at : ℕ) → IsCallStep s c a → named_by_call c ≡ Some named → is_refused_before a ≡ false
+    → (a ≡ Err (Stale at)) ↔ (stale_of s (is_forced_call c) (named_by_call c) ≡ Some at)
 edit_stale s (Set force from text) a named at h n f = set_stale s force from text a at h f
 edit_stale s (Clear force area) a named at h n f = clear_stale s force area a at h f
 edit_stale s (Fill force from area) a named at h n f = fill_stale s force from area a at h f
@@ -200,23 +210,20 @@ edit_stale s c a named at h n f = absurd (none-some named n)
 
 -- ---- the laws
 
-pub stale_is_newer : (s : State) (es : List Event) (e : Event) (named : List Area) → IsCoherent s → MayFollow s es → StaleIsNewer s es e named
-stale_is_newer s es e named settled run h n free f a = by h
+pub stale_is_newer : (s : State) (es : List (Event Call)) (e : Event Call) (named : List Area) → IsCoherent s → MayFollow IsCallStep s es → named_by_call e.command ≡ Some named
+    → StaleIsNewer IsCallStep is_changes_call named_by_call is_forced_call s es e named
+stale_is_newer s es e named settled run n h free f a = by h
   where
     t : State
     t = state_after s es
 
-    place : unseen t t.current ≡ edits_since t.current (unseen s t.current) s es
-    place = (log_grows s es t.current settled run).place
+    stale : stale_of t (is_forced_call e.command) (named_by_call e.command) ≡ first_stale (unseen t t.current) t.current 0 named
+    stale = ap (λ (b : Bool). stale_of t b (named_by_call e.command)) free ∙ ap (stale_of t false) n
 
-    stale : stale_of t (is_forced e.command) (named_by e.command) ≡ first_stale (unseen t t.current) t.current 0 named
-    stale = ap (λ (b : Bool). stale_of t b (named_by e.command)) free ∙ ap (stale_of t false) n
+    exactly : (first_stale (unseen t t.current) t.current 0 named ≡ Some a) ↔ IsFirstNewer (edits_since is_changes_call named_by_call t.current (unseen s t.current) s es) t.current named a
+    exactly = stale_since IsCallStep is_changes_call named_by_call tells_and_logs s es t.current named a settled run
 
-    exactly : (first_stale (unseen t t.current) t.current 0 named ≡ Some a) ↔ IsFirstNewer (edits_since t.current (unseen s t.current) s es) t.current named a
-    exactly = subst (λ (edits : List Entry). (first_stale (unseen t t.current) t.current 0 named ≡ Some a) ↔ IsFirstNewer edits t.current named a) place
-        (stale_exactly (unseen t t.current) t.current named a)
-
-    by : MayHappen t e → (e.answer ≡ Err (Stale a)) ↔ IsFirstNewer (edits_since t.current (unseen s t.current) s es) t.current named a
+    by : MayHappen IsCallStep t e → (e.answer ≡ Err (Stale a)) ↔ IsFirstNewer (edits_since is_changes_call named_by_call t.current (unseen s t.current) s es) t.current named a
     by (inl k) =
         let found = edit_stale t e.command e.answer named a k n f in
         (λ x. exactly.0 (sym stale ∙ found.0 x), λ y. found.1 (stale ∙ exactly.1 y))
@@ -225,14 +232,14 @@ stale_is_newer s es e named settled run h n free f a = by h
 other_refusal : (a : ℕ) → ◌≡◌ {A = Answer} (Err Memory) (Err (Stale a)) → ⊥
 other_refusal a h = cc
 
-pub forced_is_not_stale : (s : State) (e : Event) → ForcedIsNotStale s e
+pub forced_is_not_stale : (s : State) (e : Event Call) → ForcedIsNotStale IsCallStep is_forced_call s e
 forced_is_not_stale s e (inr k) forced a x = other_refusal a (sym k ∙ x)
 forced_is_not_stale s e (inl k) forced a x = by e.command k forced
   where
     free : is_refused_before e.answer ≡ false
     free = ap is_refused_before x
 
-    by : (c : Command) → IsStep s c e.answer → is_forced c ≡ true → ⊥
+    by : (c : Call) → IsCallStep s c e.answer → is_forced_call c ≡ true → ⊥
     by (Set true from text) h t = none-some a ((set_stale s true from text e.answer a h free).0 x)
     by (Clear true area) h t = none-some a ((clear_stale s true area e.answer a h free).0 x)
     by (Fill true from area) h t = none-some a ((fill_stale s true from area e.answer a h free).0 x)

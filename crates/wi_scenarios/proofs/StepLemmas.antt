@@ -1,8 +1,8 @@
--- A command has one answer.
-use Rattle.wi_scenarios.proofs.Words.{◌≡◌, [], ◌∷◌, Err, refl, sym, ap, ◌∙◌, imported, imported_exactly, content_read, content_is_one, fields_at, some_import, no_other as no_other_import, State, Answer, set_answer, clear_step, fill_step, csv_answer, put_answer, take_away_step, drop_step, base_step, use_step, as_step, show_step, export_step, changes_step, compare_step, table_step, formula_step, Command, Set, Clear, Fill, Csv, Drop, Base, Use, As, Show, Export, Changes, Compare, Table, Formula, Refused, RefusedData, IsStep}
+-- A call has one answer.
+use Rattle.wi_scenarios.proofs.Words.{◌≡◌, [], ◌∷◌, Err, refl, sym, ap, ◌∙◌, imported, imported_exactly, content_read, content_is_one, fields_at, some_import, no_other as no_other_import, State, Answer, set_answer, clear_step, fill_step, csv_answer, put_answer, take_away_step, drop_step, base_step, use_step, as_step, show_step, export_step, changes_step, compare_step, table_step, formula_step, Call, Set, Clear, Fill, Csv, Drop, Base, Use, As, Show, Export, Changes, Compare, Table, Formula, Refused, RefusedData, IsCallStep}
 use Rattle.wi_scenarios.specs.Step.{Scenario}
 
-pub an_answer : (s : State) (c : Command) → (a : Answer) × IsStep s c a
+pub an_answer : (s : State) (c : Call) → (a : Answer) × IsCallStep s c a
 an_answer s (Set force at text) =
     let read = content_read text in
     (set_answer s force at text read, record { read = read; is_read = (content_is_one text read).1 refl; answered = refl })
@@ -28,7 +28,7 @@ an_answer s (Formula at) = (formula_step s at, refl)
 an_answer s (Refused e) = (Err e, refl)
 an_answer s (RefusedData e) = (Err e, refl)
 
-pub no_other : (s : State) (c : Command) (a b : Answer) → IsStep s c a → IsStep s c b → a ≡ b
+pub no_other : (s : State) (c : Call) (a b : Answer) → IsCallStep s c a → IsCallStep s c b → a ≡ b
 no_other s (Set force at text) a b h k =
     let same : h.read ≡ k.read = sym ((content_is_one text h.read).0 h.is_read) ∙ (content_is_one text k.read).0 k.is_read in
     sym h.answered ∙ ap (set_answer s force at text) same ∙ k.answered

@@ -1,13 +1,5 @@
 -- Room for the cells that may show something else, and what is then shown.
-use Rattle.wi_scenarios.proofs.Words.{◌≡◌, ◌==◌, ℕ, ◌<◌, Bool, true, false, not, ◌||◌, ◌&&◌, List, [], ◌∷◌, length, get_or, Option, refl, sym, ap, ◌∙◌, subst, arith, false≢true, nat_tests, list_any_at, Replacement, IsInOrder, replaced, Sheet, shown, IsMarking, outside_unmoved, last_in_order, override_in_order, Scenario, layered, chain, effective, is_one_of, slice_index_or, Session, new_session, Roster, session_at, pending_of, vacant_of, Differs, AreDiffering, HasRoom, HasRoomFor}
-
--- what scenarios put in is in order
-layered_in_order : (xs : List Scenario) → IsInOrder (layered xs)
-layered_in_order [] = λ k l. absurd (omega (arith, l))
-layered_in_order (x ∷ xs) = override_in_order (layered xs) x.own (layered_in_order xs)
-
-pub effective_in_order : (xs : List Scenario) (name : Option (List ℕ)) → IsInOrder (effective xs name)
-effective_in_order xs name = layered_in_order (chain xs name)
+use Rattle.wi_scenarios.proofs.Words.{◌≡◌, ◌==◌, ℕ, ◌<◌, Bool, true, false, not, ◌||◌, ◌&&◌, List, [], ◌∷◌, length, get_or, refl, sym, ap, ◌∙◌, subst, arith, false≢true, nat_tests, list_any_at, Replacement, IsInOrder, replaced, Sheet, shown, IsMarking, outside_unmoved, last_in_order, Scenario, effective, is_one_of, slice_index_or, Session, new_session, Roster, session_at, pending_of, vacant_of, Differs, AreDiffering, HasRoom, HasRoomFor}
 
 -- ---- no replacement is another
 

@@ -26,7 +26,7 @@ pub use Rattle.wi_csv.specs.Records.{recs}
 pub use Rattle.wi_csv.specs.Row.{row}
 pub use Rattle.wi_edit_log.proofs.First.{only_first}
 pub use Rattle.wi_edit_log.proofs.Least.{stale_is_first}
-pub use Rattle.wi_edit_log.specs.EditLog.{Entry, first_stale, have_cell}
+pub use Rattle.wi_edit_log.specs.EditLog.{Entry, first_stale}
 pub use Rattle.wi_edit_log.specs.Inner.Edits.{entries_in, is_wanted_of_others}
 pub use Rattle.wi_edit_log.specs.Inner.First.{IsFirst}
 pub use Rattle.wi_import.proofs.ImportLemmas.{no_other, some_import}
@@ -67,6 +67,7 @@ pub use Rattle.wi_scenarios.specs.Compare.{compare_step}
 pub use Rattle.wi_scenarios.specs.Csv.{ImportOutcome, IsCsvStep, contents_in, csv_answer, field_fault, has_bad_field, imported_cells}
 pub use Rattle.wi_scenarios.specs.Drop.{drop_step, is_in_use}
 pub use Rattle.wi_scenarios.specs.Edits.{Edit, edit_answer, edit_refusal, limit_of, stale_in, with_stored}
+pub use Rattle.wi_scenarios.specs.Events.{Event, ForcedIsNotStale, IsCoherent, IsFirstNewer, KeepsApart, ListsAddUp, LogGrows, MayFollow, MayHappen, RecordsTellList, StaleIsNewer, StaysCoherent, change_fields, counts_before, edits_in, edits_since, is_accepted_changes, is_newer, is_refused_before, is_told, last_shown, left_by, lists_told, logged, logged_by, state_after, unseen, with_lists}
 pub use Rattle.wi_scenarios.specs.Export.{export_step}
 pub use Rattle.wi_scenarios.specs.Fill.{columns_between, copied, copy_to, fill_edit, fill_step, has_no_copy, or_nothing, rows_between, shift_refusal}
 pub use Rattle.wi_scenarios.specs.Formula.{formula_step}
@@ -75,13 +76,13 @@ pub use Rattle.wi_scenarios.specs.Inner.Editing.{AreMarked, Commits, HasRooms, M
 pub use Rattle.wi_scenarios.specs.Inner.Held.{AreClosed, AreCovered, IsClosed, IsSound, IsUpToDate, pending_in, state_of}
 pub use Rattle.wi_scenarios.specs.Inner.Switch.{AreDiffering, Differs, HasRoom, HasRoomFor, differing, same_option}
 pub use Rattle.wi_scenarios.specs.Inner.Told.{IsTold}
-pub use Rattle.wi_scenarios.specs.Laws.{Event, ForcedIsNotStale, HasScenarioChanged, IsCoherent, IsEdited, IsFirstNewer, KeepsApart, Leaves, ListsAddUp, LogGrows, MayFollow, MayHappen, RecordsTellList, StaleIsNewer, change_fields, counts_before, edits_in, edits_since, is_accepted_changes, is_forced, is_newer, is_refused_before, is_told, last_shown, left_by, lists_told, logged, logged_by, named_by, state_after, unseen, with_lists}
+pub use Rattle.wi_scenarios.specs.Laws.{HasScenarioChanged, IsEdited, Leaves, is_changes_call, is_forced_call, named_by_call}
 pub use Rattle.wi_scenarios.specs.Pending.{AddsOnly, Book, IsMarked, IsTouched, SameForOthers, is_pending, occupied_cells, pending_evaluations, pending_restarts}
 pub use Rattle.wi_scenarios.specs.Scenario.{IsScenarioStep, put_answer, replacement_by, take_away_step}
 pub use Rattle.wi_scenarios.specs.Set.{IsSetStep, content_in, fault_in, set_answer, set_edit}
 pub use Rattle.wi_scenarios.specs.Show.{show_step}
 pub use Rattle.wi_scenarios.specs.State.{State, max_area, state_over}
-pub use Rattle.wi_scenarios.specs.Step.{As, Base, Changes, Clear, Command, Compare, Csv, Drop, Export, Fill, Formula, IsStep, Refused, RefusedData, Set, Show, Table, Use}
+pub use Rattle.wi_scenarios.specs.Step.{As, Base, Call, Changes, Clear, Compare, Csv, Drop, Export, Fill, Formula, IsCallStep, Refused, RefusedData, Set, Show, Table, Use}
 pub use Rattle.wi_scenarios.specs.Table.{table_step}
 pub use Rattle.wi_scenarios.specs.Use.{use_step}
 pub use Rattle.wi_scenarios.specs.Views.{current_replacements, current_session, shown_to, with_current}
@@ -96,10 +97,10 @@ pub use Rattle.wi_sessions.specs.Pictures.Laws.{Rises, changes_among}
 pub use Rattle.wi_sessions.specs.Roster.{Roster, SameCells, is_pending_for_all, pending_of, session_at, vacant_of}
 pub use Rattle.wi_sessions.specs.Sessions.{Session, has_session, index_of, max_sessions, new_session, told, using_scenario, with_session}
 pub use Rattle.wi_sheet.proofs.Cones.{outside_unmoved}
-pub use Rattle.wi_sheet.proofs.Overrides.{last_in_order, override_in_order}
+pub use Rattle.wi_sheet.proofs.Overrides.{last_in_order}
 pub use Rattle.wi_sheet.specs.Shown.{shown}
 pub use Rattle.wi_sheet.specs.Unmoved.{IsMarking}
-pub use Rattle.wi_store.specs.Store.{Applies, Stored, applied, change_without_empty, edited}
+pub use Rattle.wi_store.specs.Store.{Stored, applied, change_without_empty, edited}
 pub use Rattle.wi_store.specs.declared.fault.StoreFault.{StoreFault}
 pub use Rattle.wi_values.proofs.Equal.{same_replacement_Decides}
 pub use Rattle.wi_values.proofs.Fields.{numbers_read_back}
@@ -110,7 +111,7 @@ pub use Rattle.wi_values.proofs.Order.{is_itself}
 pub use Rattle.wi_values.proofs.Outcomes.{on_err}
 pub use Rattle.wi_values.proofs.ReadsBack.{addresses_read_back}
 pub use Rattle.wi_values.proofs.Within.{within_between}
-pub use Rattle.wi_values.specs.Address.{Area, address_text, cells_of, cells_of_row, column_of, columns, is_column, is_one_of, is_within, place, rect_of, row_of, rows, size_of}
+pub use Rattle.wi_values.specs.Address.{Area, address_text, cells_of, cells_of_row, column_of, columns, is_column, is_one_of, is_within, is_within_one, place, rect_of, row_of, rows, size_of}
 pub use Rattle.wi_values.specs.AddressReading.{read_address}
 pub use Rattle.wi_values.specs.Inner.Import.{imported}
 pub use Rattle.wi_values.specs.Replacements.{IsInOrder, replaced}

@@ -87,7 +87,7 @@ pub record MayGrow (IsAnswer : Answer → Type 0) : Type 0 where
   pub is_answer : IsAnswer answer
   pub grows : may_grow answer ≡ true
 
--- a refusal for want of memory may stand in place of an answer before which something may grow, another only as the answer
+-- "out of memory" may stand in place of an answer before which something may grow, another refusal only as the answer
 abbrev pub MayRefuse : Refusal → (Answer → Type 0) → Type 0
 MayRefuse Memory IsAnswer = MayGrow IsAnswer
 MayRefuse e IsAnswer = IsAnswer (Err e)
@@ -97,7 +97,7 @@ abbrev pub Serves : (Answer → Type 0) → Result (Unit {0}) Refusal → State 
 Serves IsAnswer (Ok _) old new records = IsAnswer (Ok (new, records))
 Serves IsAnswer (Err e) old new records = MayRefuse e IsAnswer × (new ≡ old) × (records ≡ [])
 
--- the same where data lines came before: a refusal for want of memory may stand in place of any answer
+-- the same where data lines came before: "out of memory" may stand in place of any answer
 abbrev pub MayRefuseData : Refusal → (Answer → Type 0) → Type 0
 MayRefuseData Memory IsAnswer = Unit {0}
 MayRefuseData e IsAnswer = IsAnswer (Err e)

@@ -1,57 +1,16 @@
--- Commands one after another, each with its answer, and what holds of them.
-use Rattle.std.specs.Prelude.{◌≡◌, ◌≢◌, ◌↔◌, ◌⊎◌, ◌==◌, ◌&&◌, ℕ, ◌<◌, ◌≤◌, Bool, true, false, not, if◌then◌else◌, List, [], ◌∷◌, ◌++◌, length, drop, map, Option, Some, None, Ok, Err}
-use Rattle.std.specs.List.{list_any}
-use Rattle.wi_values.specs.Address.{Area, address_text}
-use Rattle.wi_values.specs.Value.{shown_text}
-use Rattle.wi_values.specs.declared.value.Value.{Value}
+-- What a call leaves, and what the laws of `Events` are told of calls: which one asks for the change list, and what edits name.
+use Rattle.std.specs.Prelude.{◌≡◌, ◌≢◌, ℕ, Bool, true, false, List, [], ◌∷◌, ◌++◌, length, Option, Some, None}
+use Rattle.wi_values.specs.Address.{Area}
 use Rattle.wi_parser.specs.Reads.{cell_area}
-use Rattle.wi_csv.specs.Records.{recs}
 use Rattle.wi_import.specs.Fields.{record_areas_at}
-use Rattle.wi_edit_log.specs.EditLog.{Entry, have_cell}
 use Rattle.wi_scenario_list.specs.Scenarios.{scenario_of}
-use Rattle.wi_sessions.specs.Pictures.{sheet_size, value_in, with_changes}
 use Rattle.wi_sessions.specs.Sessions.{told, using_scenario, with_session, index_of}
-use Rattle.wi_reports.specs.Changes.{kind_text}
-use Rattle.wi_scenarios.specs.declared.refusal.Refusal.{Refusal}
-use Rattle.wi_scenarios.specs.declared.refusal.Refusal.TheVariants.{Memory, Full, EditLimit, Stale, Loop}
 use Rattle.wi_scenarios.specs.State.{State}
-use Rattle.wi_scenarios.specs.Views.{session_at, current_session, with_current, shown_to}
-use Rattle.wi_scenarios.specs.Answer.{Answer}
+use Rattle.wi_scenarios.specs.Views.{current_session, with_current}
 use Rattle.wi_scenarios.specs.Changes.{change_list}
-use Rattle.wi_scenarios.specs.Step.{Command, Set, Clear, Fill, Csv, Scenario, Drop, Base, Use, As, Changes, IsStep}
+use Rattle.wi_scenarios.specs.Step.{Call, Set, Clear, Fill, Csv, Scenario, Drop, Base, Use, As, Changes}
 
--- ---- events
-
--- a command, and what it was answered
-pub record Event : Type 0 where
-  pub command : Command
-  pub answer : Answer
-
--- the command has this answer, or is refused for want of memory
-abbrev pub MayHappen : State → Event → Type 0
-MayHappen s e = IsStep s e.command e.answer ⊎ (e.answer ≡ Err Memory)
-
--- the state that an answer leaves; a refusal leaves the one that was there
-abbrev pub left_by : State → Answer → State
-left_by s (Ok done) = done.0
-left_by s (Err e) = s
-
--- The events may happen one after another from this state. Whose they are is up to them: `as` makes another session current.
-abbrev pub MayFollow : State → List Event → Type 0
-MayFollow s [] = Unit {0}
-MayFollow s (e ∷ es) = MayHappen s e × MayFollow (left_by s e.answer) es
-
--- the state at the end
-abbrev pub state_after : State → List Event → State
-state_after s [] = s
-state_after s (e ∷ es) = state_after (left_by s e.answer) es
-
--- The current session is one of the sessions, and none has seen more of the log than there is.
-pub record IsCoherent (s : State) : Type 0 where
-  pub within : s.current < length s.sessions
-  pub seen : (i : ℕ) → (session_at s i).seen ≤ length s.log
-
--- ---- what a command leaves
+-- ---- what a call leaves
 
 -- An edit that names these rectangles may change the sheet, and puts an entry into the log. All else is as it was.
 pub record IsEdited (named : List Area) (old new : State) : Type 0 where
@@ -68,8 +27,8 @@ pub record HasScenarioChanged (name : List ℕ) (old new : State) : Type 0 where
   pub current : new.current ≡ old.current
   pub log : new.log ≡ old.log
 
--- What an accepted command leaves. No other than these leaves anything but the state that was there.
-abbrev pub Leaves : Command → State → State → Type 0
+-- What an accepted call leaves. No other than these leaves anything but the state that was there.
+abbrev pub Leaves : Call → State → State → Type 0
 Leaves (Set force at text) old new = IsEdited (cell_area at ∷ []) old new
 Leaves (Clear force area) old new = IsEdited (area ∷ []) old new
 Leaves (Fill force from area) old new = IsEdited (area ∷ []) old new
@@ -82,131 +41,25 @@ Leaves (As name) old new = new ≡ record old { sessions = with_session old.sess
 Leaves Changes old new = new ≡ with_current old (told (current_session old) (change_list old) (length old.log))
 Leaves c old new = new ≡ old
 
--- the i-th session is as it was, name, scenario, picture and place in the log, if it isn't the current one
-abbrev pub KeepsApart : State → Event → ℕ → Type 0
-KeepsApart s e i = i < length s.sessions → i ≢ s.current → session_at (left_by s e.answer) i ≡ session_at s i
+-- ---- what the laws of commands one after another are told of calls
 
--- ---- change lists
+-- whether this is `changes`
+abbrev pub is_changes_call : Call → Bool
+is_changes_call Changes = true
+is_changes_call c = false
 
--- whether this is `changes`, and accepted
-abbrev pub is_accepted_changes : Answer → Command → Bool
-is_accepted_changes (Err e) c = false
-is_accepted_changes (Ok done) Changes = true
-is_accepted_changes (Ok done) c = false
-
--- whether the i-th session is told a change list: it is current, and its `changes` is accepted
-abbrev pub is_told : ℕ → State → Event → Bool
-is_told i s e = is_accepted_changes e.answer e.command && (s.current == i)
-
--- the change lists that the i-th session is told
-abbrev pub lists_told : ℕ → State → List Event → List (List (ℕ × Value))
-lists_told i s [] = []
-lists_told i s (e ∷ es) = (if is_told i s e then change_list s ∷ [] else []) ++ lists_told i (left_by s e.answer) es
-
--- a picture with change lists put in, one after another
-abbrev pub with_lists : List (ℕ × Value) → List (List (ℕ × Value)) → List (ℕ × Value)
-with_lists picture [] = picture
-with_lists picture (l ∷ ls) = with_lists (with_changes picture l) ls
-
--- the value that the i-th session was shown at a cell when it was last told a list, and v where it was told none
-abbrev pub last_shown : ℕ → ℕ → Value → State → List Event → Value
-last_shown i a v s [] = v
-last_shown i a v s (e ∷ es) = last_shown i a (if is_told i s e then shown_to s (session_at s i) a else v) (left_by s e.answer) es
-
--- Put into the picture that a session has at the start, the lists that it is told make the picture that it has at the end, and
--- that has in each cell of the sheet the value that the session was shown at the last of them. A session that is made on the
--- way begins with an empty picture.
-pub record ListsAddUp (s : State) (es : List Event) (i : ℕ) : Type 0 where
-  pub picture : (session_at (state_after s es) i).picture ≡ with_lists (session_at s i).picture (lists_told i s es)
-  pub shown : (a : ℕ) → a < sheet_size
-      → value_in (with_lists (session_at s i).picture (lists_told i s es)) a ≡ last_shown i a (value_in (session_at s i).picture a) s es
-
--- a change's address, and the kind and the text of its value
-abbrev pub change_fields : ℕ × Value → List (List ℕ)
-change_fields e = address_text e.0 ∷ kind_text e.1 ∷ shown_text e.1 ∷ []
-
--- The records that an accepted `changes` writes are read as its list's addresses, kinds and texts, and no other list has the same.
-pub record RecordsTellList (s : State) (records : List ℕ) : Type 0 where
-  pub read : recs records ≡ map change_fields (change_list s)
-  pub one : (t u : State) → IsStep t Changes (Ok (u, records)) → change_list t ≡ change_list s
-
--- ---- stale cells
-
--- the rectangles that an edit names; no other command is an edit
-abbrev pub named_by : Command → Option (List Area)
-named_by (Set force at text) = Some (cell_area at ∷ [])
-named_by (Clear force area) = Some (area ∷ [])
-named_by (Fill force from area) = Some (area ∷ [])
-named_by (Csv force at text) = Some (record_areas_at at text)
-named_by c = None
+-- the rectangles that an edit names; no other call is an edit
+abbrev pub named_by_call : Call → Option (List Area)
+named_by_call (Set force at text) = Some (cell_area at ∷ [])
+named_by_call (Clear force area) = Some (area ∷ [])
+named_by_call (Fill force from area) = Some (area ∷ [])
+named_by_call (Csv force at text) = Some (record_areas_at at text)
+named_by_call c = None
 
 -- whether an edit is forced
-abbrev pub is_forced : Command → Bool
-is_forced (Set force at text) = force
-is_forced (Clear force area) = force
-is_forced (Fill force from area) = force
-is_forced (Csv force at text) = force
-is_forced c = false
-
--- what a session's command adds to the log, if it is an edit that is accepted
-abbrev pub logged : ℕ → Answer → Option (List Area) → List Entry
-logged session (Err e) named = []
-logged session (Ok done) None = []
-logged session (Ok done) (Some named) = record { session = session; cells = named } ∷ []
-
-abbrev pub logged_by : State → Event → List Entry
-logged_by s e = logged s.current e.answer (named_by e.command)
-
--- the accepted edits
-abbrev pub edits_in : State → List Event → List Entry
-edits_in s [] = []
-edits_in s (e ∷ es) = logged_by s e ++ edits_in (left_by s e.answer) es
-
--- the edits accepted since the i-th session was last told a list; before the first they come after the earlier ones
-abbrev pub edits_since : ℕ → List Entry → State → List Event → List Entry
-edits_since i earlier s [] = earlier
-edits_since i earlier s (e ∷ es) = edits_since i (if is_told i s e then [] else earlier ++ logged_by s e) (left_by s e.answer) es
-
--- the edits that the i-th session hasn't seen: those behind its place in the log; one that isn't made yet has seen none
-abbrev pub unseen : State → ℕ → List Entry
-unseen s i = drop (session_at s i).seen s.log
-
--- The log has grown by the accepted edits, and what a session hasn't seen of it are those since it was last told a list.
-pub record LogGrows (s : State) (es : List Event) (i : ℕ) : Type 0 where
-  pub log : (state_after s es).log ≡ s.log ++ edits_in s es
-  pub place : unseen (state_after s es) i ≡ edits_since i (unseen s i) s es
-
--- an edit of another session than the i-th names the cell
-abbrev pub is_newer : List Entry → ℕ → ℕ → Bool
-is_newer edits i a = list_any (λ e. not (e.session == i) && have_cell e.cells a) edits
-
--- Of the cells in the rectangles, this is the first in row-major order that an edit of another session names.
-pub record IsFirstNewer (edits : List Entry) (i : ℕ) (named : List Area) (a : ℕ) : Type 0 where
-  pub is_named : have_cell named a ≡ true
-  pub by_others : is_newer edits i a ≡ true
-  pub none_before : (b : ℕ) → have_cell named b ≡ true → is_newer edits i b ≡ true → a ≤ b
-
--- whether a refusal counts before that of a stale cell; want of memory says nothing of one either
-abbrev pub counts_before : Refusal → Bool
-counts_before (Stale a) = false
-counts_before Loop = false
-counts_before Full = false
-counts_before EditLimit = false
-counts_before e = true
-
-abbrev pub is_refused_before : Answer → Bool
-is_refused_before (Ok done) = false
-is_refused_before (Err e) = counts_before e
-
--- What an edit is answered after these events, if it isn't forced, and isn't refused for a cause that counts before or for want
--- of memory: it is refused for a stale cell exactly where this is the first of the cells it names that other sessions' edits name,
--- of those accepted since its session was last told a list.
-abbrev pub StaleIsNewer : State → List Event → Event → List Area → Type 0
-StaleIsNewer s es e named =
-    let t = state_after s es in
-    MayHappen t e → named_by e.command ≡ Some named → is_forced e.command ≡ false → is_refused_before e.answer ≡ false → (a : ℕ)
-    → (e.answer ≡ Err (Stale a)) ↔ IsFirstNewer (edits_since t.current (unseen s t.current) s es) t.current named a
-
--- an edit that is forced is never refused so
-abbrev pub ForcedIsNotStale : State → Event → Type 0
-ForcedIsNotStale s e = MayHappen s e → is_forced e.command ≡ true → (a : ℕ) → e.answer ≢ Err (Stale a)
+abbrev pub is_forced_call : Call → Bool
+is_forced_call (Set force at text) = force
+is_forced_call (Clear force area) = force
+is_forced_call (Fill force from area) = force
+is_forced_call (Csv force at text) = force
+is_forced_call c = false

@@ -19,6 +19,7 @@ pub mod Compare
 pub mod Table
 pub mod Formula
 pub mod Step
+pub mod Events
 pub mod Laws
 pub mod Pending
 pub mod Inner

@@ -1,4 +1,4 @@
--- What one command does.
+-- What one call of a workbook does.
 use Rattle.std.specs.Prelude.{◌≡◌, ℕ, Bool, false, List, Option, Err}
 use Rattle.wi_values.specs.Address.{Area}
 use Rattle.wi_sessions.specs.Sessions.{has_session}
@@ -21,53 +21,53 @@ use Rattle.wi_scenarios.specs.Compare.{compare_step}
 use Rattle.wi_scenarios.specs.Table.{table_step}
 use Rattle.wi_scenarios.specs.Formula.{formula_step}
 
--- A command, or a line that is refused whatever the state is: `Refused` before anything grows, `RefusedData` once its data lines
+-- A call, or a line that is refused whatever the state is: `Refused` before anything grows, `RefusedData` once its data lines
 -- are there. Edits say whether they are forced; scenarios and sessions are given by name, and no name is the sheet as it stands.
-pub data Command : Type 0 where
-  Set : Bool → ℕ → List ℕ → Command
-  Clear : Bool → Area → Command
-  Fill : Bool → ℕ → Area → Command
-  Csv : Bool → ℕ → List ℕ → Command
-  Scenario : List ℕ → ℕ → List ℕ → Command
-  Drop : List ℕ → Command
-  Base : List ℕ → Option (List ℕ) → Command
-  Use : Option (List ℕ) → Command
-  As : List ℕ → Command
-  Show : Area → Command
-  Export : Area → Command
-  Changes : Command
-  Compare : Option (List ℕ) → Option (List ℕ) → Area → Command
-  Table : ℕ → ℕ → Area → Option (ℕ × Area) → Command
-  Formula : ℕ → Command
-  Refused : Refusal → Command
-  RefusedData : Refusal → Command
+pub data Call : Type 0 where
+  Set : Bool → ℕ → List ℕ → Call
+  Clear : Bool → Area → Call
+  Fill : Bool → ℕ → Area → Call
+  Csv : Bool → ℕ → List ℕ → Call
+  Scenario : List ℕ → ℕ → List ℕ → Call
+  Drop : List ℕ → Call
+  Base : List ℕ → Option (List ℕ) → Call
+  Use : Option (List ℕ) → Call
+  As : List ℕ → Call
+  Show : Area → Call
+  Export : Area → Call
+  Changes : Call
+  Compare : Option (List ℕ) → Option (List ℕ) → Area → Call
+  Table : ℕ → ℕ → Area → Option (ℕ × Area) → Call
+  Formula : ℕ → Call
+  Refused : Refusal → Call
+  RefusedData : Refusal → Call
 
--- the command has this answer
-abbrev pub IsStep : State → Command → Answer → Type 0
-IsStep s (Set force at content) a = IsSetStep s force at content a
-IsStep s (Clear force area) a = clear_step s force area ≡ a
-IsStep s (Fill force from area) a = fill_step s force from area ≡ a
-IsStep s (Csv force at text) a = IsCsvStep s force at text a
-IsStep s (Scenario name at content) a = IsScenarioStep s name at content a
-IsStep s (Drop name) a = drop_step s name ≡ a
-IsStep s (Base name other) a = base_step s name other ≡ a
-IsStep s (Use name) a = use_step s name ≡ a
-IsStep s (As name) a = as_step s name ≡ a
-IsStep s (Show area) a = show_step s area ≡ a
-IsStep s (Export area) a = export_step s area ≡ a
-IsStep s Changes a = changes_step s ≡ a
-IsStep s (Compare first second area) a = compare_step s first second area ≡ a
-IsStep s (Table f r xs second) a = table_step s f r xs second ≡ a
-IsStep s (Formula at) a = formula_step s at ≡ a
-IsStep s (Refused e) a = Err e ≡ a
-IsStep s (RefusedData e) a = Err e ≡ a
+-- the call has this answer
+abbrev pub IsCallStep : State → Call → Answer → Type 0
+IsCallStep s (Set force at content) a = IsSetStep s force at content a
+IsCallStep s (Clear force area) a = clear_step s force area ≡ a
+IsCallStep s (Fill force from area) a = fill_step s force from area ≡ a
+IsCallStep s (Csv force at text) a = IsCsvStep s force at text a
+IsCallStep s (Scenario name at content) a = IsScenarioStep s name at content a
+IsCallStep s (Drop name) a = drop_step s name ≡ a
+IsCallStep s (Base name other) a = base_step s name other ≡ a
+IsCallStep s (Use name) a = use_step s name ≡ a
+IsCallStep s (As name) a = as_step s name ≡ a
+IsCallStep s (Show area) a = show_step s area ≡ a
+IsCallStep s (Export area) a = export_step s area ≡ a
+IsCallStep s Changes a = changes_step s ≡ a
+IsCallStep s (Compare first second area) a = compare_step s first second area ≡ a
+IsCallStep s (Table f r xs second) a = table_step s f r xs second ≡ a
+IsCallStep s (Formula at) a = formula_step s at ≡ a
+IsCallStep s (Refused e) a = Err e ≡ a
+IsCallStep s (RefusedData e) a = Err e ≡ a
 
--- The command may be refused for want of memory: something may grow before its answer. Nothing does for a line that is refused,
+-- The call may be refused as out of memory: something may grow before its answer. Nothing does for a line that is refused,
 -- for `drop`, and for `as` of a session that is there; for data lines something always may.
-abbrev pub MayLackMemory : State → Command → Type 0
-MayLackMemory s (Refused e) = ⊥
-MayLackMemory s (RefusedData e) = Unit {0}
-MayLackMemory s (Csv force at text) = Unit {0}
-MayLackMemory s (Drop name) = ⊥
-MayLackMemory s (As name) = (has_session s.sessions name ≡ false) × MayGrow (IsStep s (As name))
-MayLackMemory s c = MayGrow (IsStep s c)
+abbrev pub CallMayLackMemory : State → Call → Type 0
+CallMayLackMemory s (Refused e) = ⊥
+CallMayLackMemory s (RefusedData e) = Unit {0}
+CallMayLackMemory s (Csv force at text) = Unit {0}
+CallMayLackMemory s (Drop name) = ⊥
+CallMayLackMemory s (As name) = (has_session s.sessions name ≡ false) × MayGrow (IsCallStep s (As name))
+CallMayLackMemory s c = MayGrow (IsCallStep s c)

@@ -63,8 +63,9 @@ fn push_differences<C: Calculator>(
     out: &mut Vec<u8>,
 ) -> Result<(), AllocError>
     ensures ok { let under = effective desk.now.scenarios in
-        OnOk result (out.new.items ≡ out.old.items ++ cells_compared (C.stored calculator.old).sheet
-        (under (option_copied compared.now.first)) (under (option_copied compared.now.second)) area) }
+        OnOk result (out.new.items ≡ out.old.items ++ cells_compared
+        (C.stored calculator.old).sheet (under (option_copied compared.now.first))
+        (under (option_copied compared.now.second)) area) }
     ensures err { OnErr result (out.new.items ≡ out.old.items) }
     ensures same { C.stored calculator.new ≡ C.stored calculator.old }
 {

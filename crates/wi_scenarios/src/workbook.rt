@@ -13,8 +13,8 @@ ghost use Rattle.wi_scenarios.specs.Answer.{Serves, ServesData};
 ghost use Rattle.wi_scenarios.specs.Clear.{clear_edit};
 ghost use Rattle.wi_scenarios.specs.Csv.{imported_cells};
 ghost use Rattle.wi_scenarios.specs.Scenario.{take_away_step};
-ghost use Rattle.wi_scenarios.specs.Step as command;
-ghost use Rattle.wi_scenarios.specs.Step.{IsStep};
+ghost use Rattle.wi_scenarios.specs.Step as call;
+ghost use Rattle.wi_scenarios.specs.Step.{IsCallStep};
 ghost use Rattle.wi_scenarios.specs.Pending.{AddsOnly, SameForOthers, SameCounts, Emptied, HasNewSession, pending_for, pending_evaluations, pending_restarts, occupied_cells};
 
 use crate::base::base;
@@ -112,7 +112,7 @@ impl<C: Calculator> Workbook<C> {
     /// with those that read the edited ones; where several cells read something new, or a cycle may be closed or opened, with all that
     /// depend on them; the memory for a session with those that aren't pending for it.
     pub fn set(&mut self, at: Address, content: &str, force: bool) -> Result<(), Refusal>
-        ensures step { Serves (IsStep self.old.state (command.Set force at content.now))
+        ensures step { Serves (IsCallStep self.old.state (call.Set force at content.now))
             result self.old.state self.new.state [] }
         ensures adds { AddsOnly C.marked (at ∷ [])
             self.old.state self.new.state self.old.pending self.new.pending }
@@ -131,7 +131,7 @@ impl<C: Calculator> Workbook<C> {
     /// Empties the cells of a rectangle of any size. `force` is as of `set`. The work grows with its occupied cells; for each a search
     /// passes cells that stand beside it, in no more rows than the rectangle has columns.
     pub fn clear(&mut self, area: Rect, force: bool) -> Result<(), Refusal>
-        ensures step { Serves (IsStep self.old.state (command.Clear force area))
+        ensures step { Serves (IsCallStep self.old.state (call.Clear force area))
             result self.old.state self.new.state [] }
         ensures adds { AddsOnly C.marked
             (keys_of (clear_edit self.old.state.stored.sheet area).contents)
@@ -151,7 +151,7 @@ impl<C: Calculator> Workbook<C> {
     /// references move by the distance; where one would leave the sheet, the whole command is refused. From an empty cell
     /// the rectangle is emptied. `force` is as of `set`. The work grows with the cells of the rectangle.
     pub fn fill(&mut self, from: Address, area: Rect, force: bool) -> Result<(), Refusal>
-        ensures step { Serves (IsStep self.old.state (command.Fill force from area))
+        ensures step { Serves (IsCallStep self.old.state (call.Fill force from area))
             result self.old.state self.new.state [] }
         ensures adds { AddsOnly C.marked (cells_of area)
             self.old.state self.new.state self.old.pending self.new.pending }
@@ -171,7 +171,7 @@ impl<C: Calculator> Workbook<C> {
     /// of the cell. An empty field empties its cell; cells without a field stay. It is one edit, done whole or not at all. `force` is as of
     /// `set`. The work grows with the text.
     pub fn import(&mut self, at: Address, text: &[u8], force: bool) -> Result<(), Refusal>
-        ensures step { ServesData (IsStep self.old.state (command.Csv force at text.now))
+        ensures step { ServesData (IsCallStep self.old.state (call.Csv force at text.now))
             result self.old.state self.new.state }
         ensures adds { AddsOnly C.marked (imported_cells at text.now)
             self.old.state self.new.state self.old.pending self.new.pending }
@@ -198,7 +198,7 @@ impl<C: Calculator> Workbook<C> {
         content: &str,
     ) -> Result<(), Refusal>
         ensures step { Serves
-            (IsStep self.old.state (command.Scenario (bytes_of name.entry) at content.now))
+            (IsCallStep self.old.state (call.Scenario (bytes_of name.entry) at content.now))
             result self.old.state self.new.state [] }
         ensures adds { AddsOnly C.marked ([])
             self.old.state self.new.state self.old.pending self.new.pending }
@@ -214,7 +214,8 @@ impl<C: Calculator> Workbook<C> {
         )
     }
 
-    /// Takes a scenario's own replacement away, if there is one; the scenario stays. The work is as of `scenario_set`.
+    /// Takes a scenario's own replacement away, if there is one; the scenario stays. It costs what `scenario_set` does: the work grows
+    /// with the count of scenarios, the scenario's own replacements, all that the sessions' scenarios put in, and what depends on the cell.
     pub fn scenario_clear(&mut self, name: Name<'_>, at: Address) -> Result<(), Refusal>
         ensures step { Serves (λ a. take_away_step self.old.state (bytes_of name.entry) at ≡ a)
             result self.old.state self.new.state [] }
@@ -231,10 +232,11 @@ impl<C: Calculator> Workbook<C> {
         )
     }
 
-    /// Bases a scenario on another, whose replacements it then puts in too unless it has its own, or on none. The work is as of
-    /// `scenario_set`, with what depends on all cells whose replacement changes.
+    /// Bases a scenario on another, whose replacements it then puts in too unless it has its own, or on none. It costs what
+    /// `scenario_set` does: the work grows with the count of scenarios, the scenario's own replacements, all that the sessions' scenarios
+    /// put in, and what depends on the cells whose replacement changes.
     pub fn scenario_base(&mut self, name: Name<'_>, other: Option<Name<'_>>) -> Result<(), Refusal>
-        ensures step { Serves (IsStep self.old.state (command.Base (bytes_of name.entry)
+        ensures step { Serves (IsCallStep self.old.state (call.Base (bytes_of name.entry)
             (option_map bytes_of other.entry))) result self.old.state self.new.state [] }
         ensures adds { AddsOnly C.marked ([])
             self.old.state self.new.state self.old.pending self.new.pending }
@@ -252,7 +254,7 @@ impl<C: Calculator> Workbook<C> {
     /// Removes a scenario that no session uses, and on which none is based. Takes no memory. The work grows with the counts of
     /// scenarios and sessions.
     pub fn scenario_drop(&mut self, name: Name<'_>) -> Result<(), Refusal>
-        ensures step { Serves (IsStep self.old.state (command.Drop (bytes_of name.entry)))
+        ensures step { Serves (IsCallStep self.old.state (call.Drop (bytes_of name.entry)))
             result self.old.state self.new.state [] }
         ensures pending { self.new.pending ≡ self.old.pending }
         ensures no_memory { result ≢ Err Memory }
@@ -263,7 +265,8 @@ impl<C: Calculator> Workbook<C> {
     /// The current session uses a scenario, or the sheet as it stands. The work grows with all that the old and the new scenario put
     /// in, and with what depends on the cells whose replacement changes.
     pub fn use_scenario(&mut self, name: Option<Name<'_>>) -> Result<(), Refusal>
-        ensures step { Serves (IsStep self.old.state (command.Use (option_map bytes_of name.entry)))
+        ensures step { Serves
+            (IsCallStep self.old.state (call.Use (option_map bytes_of name.entry)))
             result self.old.state self.new.state [] }
         ensures adds { AddsOnly C.marked ([])
             self.old.state self.new.state self.old.pending self.new.pending }
@@ -276,7 +279,7 @@ impl<C: Calculator> Workbook<C> {
     /// Makes a session current, a new one if need be, which uses the sheet as it stands and was shown nothing. Takes no memory
     /// where the session is there; for a new one the work grows with the occupied cells.
     pub fn session(&mut self, name: Name<'_>) -> Result<(), Refusal>
-        ensures step { Serves (IsStep self.old.state (command.As (bytes_of name.entry)))
+        ensures step { Serves (IsCallStep self.old.state (call.As (bytes_of name.entry)))
             result self.old.state self.new.state [] }
         ensures there { has_session self.old.state.sessions (bytes_of name.entry) ≡ true
             → self.new.pending ≡ self.old.pending }
@@ -290,10 +293,11 @@ impl<C: Calculator> Workbook<C> {
         session(self.alloc, &self.calculator, &mut self.desk, name.as_str())
     }
 
-    /// Appends the texts that a rectangle's cells show to the current session, a record for each row.
+    /// Appends the texts that a rectangle's cells show to the current session, a record for each row. The calculator is asked once for
+    /// each cell; beside that the work grows with what the session's scenario puts in and with the length of the records.
     pub fn show(&mut self, area: Rect, out: &mut Vec<u8>) -> Result<(), Refusal>
         ensures step { (records : List ℕ) × (out.new.items ≡ out.old.items ++ records)
-            × Serves (IsStep self.old.state (command.Show area))
+            × Serves (IsCallStep self.old.state (call.Show area))
             result self.old.state self.new.state records }
         ensures pending { self.new.pending ≡ self.old.pending }
     {
@@ -301,10 +305,10 @@ impl<C: Calculator> Workbook<C> {
     }
 
     /// Appends the records of `show`, after a line that tells how many lines they are: `lines`, a space and the count of their
-    /// LF bytes.
+    /// LF bytes. It costs what `show` does, and is linear in the length of the records beside.
     pub fn export(&mut self, area: Rect, out: &mut Vec<u8>) -> Result<(), Refusal>
         ensures step { (records : List ℕ) × (out.new.items ≡ out.old.items ++ records)
-            × Serves (IsStep self.old.state (command.Export area))
+            × Serves (IsCallStep self.old.state (call.Export area))
             result self.old.state self.new.state records }
         ensures pending { self.new.pending ≡ self.old.pending }
     {
@@ -313,9 +317,11 @@ impl<C: Calculator> Workbook<C> {
 
     /// Appends a record for each cell whose value isn't what the current session was last shown: address, kind and shown text.
     /// The session has been shown them then. Only its pending cells are looked at; where there are none, no memory is taken.
+    /// The calculator is asked once for each of them; beside that the work grows with what the session's scenario puts in, with the
+    /// length of the records, and with the changes, some look-ups in the session's snapshot for each.
     pub fn changes(&mut self, out: &mut Vec<u8>) -> Result<(), Refusal>
         ensures step { (records : List ℕ) × (out.new.items ≡ out.old.items ++ records)
-            × Serves (IsStep self.old.state command.Changes)
+            × Serves (IsCallStep self.old.state call.Changes)
             result self.old.state self.new.state records }
         ensures emptied { OnOk result
             (Emptied self.old.state.current self.old.pending self.new.pending) }
@@ -331,7 +337,8 @@ impl<C: Calculator> Workbook<C> {
     }
 
     /// Appends a record for each cell of a rectangle whose values under two scenarios differ: address, both texts, and the text of
-    /// the second less the first where both are numbers. No name is the sheet as it stands.
+    /// the second less the first where both are numbers. No name is the sheet as it stands. The calculator is asked twice for each cell;
+    /// beside that the work grows with what both scenarios put in and with the length of the two texts of each cell.
     pub fn compare(
         &mut self,
         first: Option<Name<'_>>,
@@ -340,7 +347,7 @@ impl<C: Calculator> Workbook<C> {
         out: &mut Vec<u8>,
     ) -> Result<(), Refusal>
         ensures step { (records : List ℕ) × (out.new.items ≡ out.old.items ++ records)
-            × Serves (IsStep self.old.state (command.Compare (option_map bytes_of first.entry)
+            × Serves (IsCallStep self.old.state (call.Compare (option_map bytes_of first.entry)
             (option_map bytes_of second.entry) area)) result self.old.state self.new.state records }
         ensures pending { self.new.pending ≡ self.old.pending }
     {
@@ -372,7 +379,7 @@ impl<C: Calculator> Workbook<C> {
         out: &mut Vec<u8>,
     ) -> Result<(), Refusal>
         ensures step { (records : List ℕ) × (out.new.items ≡ out.old.items ++ records)
-            × Serves (IsStep self.old.state (command.Table formula_cell input column second))
+            × Serves (IsCallStep self.old.state (call.Table formula_cell input column second))
             result self.old.state self.new.state records }
         ensures pending { self.new.pending ≡ self.old.pending }
     {
@@ -386,10 +393,11 @@ impl<C: Calculator> Workbook<C> {
     }
 
     /// Appends a record: a cell's address and its content, which is a formula as printed, a text after an apostrophe,
-    /// another constant as shown, and empty where there is none.
+    /// another constant as shown, and empty where there is none. One look-up in the sheet; beside that the work grows with the length of
+    /// the record.
     pub fn formula_text(&self, at: Address, out: &mut Vec<u8>) -> Result<(), Refusal>
         ensures { (records : List ℕ) × (out.new.items ≡ out.old.items ++ records)
-            × Serves (IsStep self.now.state (command.Formula at))
+            × Serves (IsCallStep self.now.state (call.Formula at))
             result self.now.state self.now.state records }
     {
         formula(self.alloc, &self.calculator, &self.desk, at, out)

@@ -1,5 +1,5 @@
 -- Laws of the rooms of a picture.
-use Rattle.wi_sessions.proofs.Words.{◌≡◌, ◌==◌, ℕ, Bool, true, false, cond, not, List, [], ◌∷◌, Option, Some, None, Result, Ok, Err, IfOk, OnErr, refl, sym, ◌∙◌, result_unwrap_or, IsStrictlySortedBy, nat_cmp, keys_of, found-insert, found-without, Ascends, Ascends-filter, Ascends-from_order, Ascends-insert, Value, Empty, Number, Text, Logical, Fault, value_in, with_value, with_changes, room_of, held_at, HasNoVacancy, HoldsTheSame, with_one, with_all, same_all, same_filled}
+use Rattle.wi_sessions.proofs.Words.{◌≡◌, ◌==◌, ℕ, Bool, true, false, cond, not, List, [], ◌∷◌, Option, Some, None, Result, Ok, Err, IsErr, refl, sym, ◌∙◌, result_unwrap_or, found-insert, found-without, Ascends, Ascends-filter, Ascends-from_order, Ascends-insert, Value, Empty, Number, Text, Logical, Fault, value_in, with_value, with_changes, room_of, held_at, HasNoVacancy, AreBetweenEdits, HoldsTheSame, with_one, with_all, same_all, same_filled}
 use Rattle.wi_sessions.proofs.ChangeLists.{value_in-with}
 
 Ascends-with_value : (s : List (ℕ × Value)) (c : ℕ) (v : Value) → Ascends s → Ascends (with_value s c v)
@@ -40,19 +40,19 @@ pub values_after : (old made new es : List (ℕ × Value)) → HoldsTheSame Empt
 values_after old made new es same after q = after q ∙ same_all es (held_at Empty made) (value_in old) same q ∙ sym (value_in-with_changes es old q)
 
 -- what a call that may be refused leaves, once vacant rooms are gone
-module _ (old left new : List (ℕ × Value)) (order : IsStrictlySortedBy nat_cmp (keys_of old)) (last : IsStrictlySortedBy nat_cmp (keys_of new)) (full : HasNoVacancy Empty old) (none : HasNoVacancy Empty new) (same : HoldsTheSame Empty left new) where
+module _ (old left new : List (ℕ × Value)) (before : AreBetweenEdits Empty old) (after : AreBetweenEdits Empty new) (same : HoldsTheSame Empty left new) where
   up : Ascends old
-  up = Ascends-from_order old order
+  up = Ascends-from_order old before.order
 
   pub all_put : (es : List (ℕ × Value)) → HoldsTheSame Empty (with_changes old es) left → new ≡ with_changes old es
   all_put es h =
-      same_filled Empty new (with_changes old es) (Ascends-from_order new last) (Ascends-with_changes old es up) none (HasNoVacancy-with_changes old es full)
+      same_filled Empty new (with_changes old es) (Ascends-from_order new after.order) (Ascends-with_changes old es up) after.full (HasNoVacancy-with_changes old es before.full)
       (λ q. sym (same q ∙ h q))
 
   pub none_put : HoldsTheSame Empty old left → new ≡ old
-  none_put h = same_filled Empty new old (Ascends-from_order new last) up none full (λ q. sym (same q ∙ h q))
+  none_put h = same_filled Empty new old (Ascends-from_order new after.order) up after.full before.full (λ q. sym (same q ∙ h q))
 
--- how many have a value then is what was answered, or what was before
-pub count_after : {E : Type 0} (r : Result ℕ E) (before n k : ℕ) → n ≡ result_unwrap_or r before → IfOk r (λ m. m ≡ k) → OnErr r (before ≡ k) → n ≡ k
-count_after (Ok m) before n k e ok err = e ∙ ok
-count_after (Err x) before n k e ok err = e ∙ err
+-- where the call is refused as many have a value as before
+pub count_kept : {E : Type 0} (r : Result ℕ E) (before k : ℕ) → IsErr r → before ≡ k → result_unwrap_or r before ≡ k
+count_kept (Ok m) before k err h = cc
+count_kept (Err x) before k err h = h

@@ -64,9 +64,6 @@ kept_pending s n t u v e f = ap (λ b. b && not v) e ∙ ap (λ b. (s || t) && n
 pub pending_stay : (test : ℕ → ℕ → Bool) (words staged more rooms : Words) → HasMade test words staged more rooms → SamePending words staged more rooms
 pending_stay test words staged more rooms h = λ i c. kept_pending (is_in words i c) (is_staged staged i c) (test i c) (is_in more i c) (is_staged rooms i c) (h.put i c) (h.made i c)
 
-pub same_pending : (words staged : Words) → SamePending words staged words staged
-same_pending words staged = λ i c. refl
-
 pub pending_then : (words staged more rooms wider noted : Words) → SamePending words staged more rooms → SamePending more rooms wider noted → SamePending words staged wider noted
 pending_then words staged more rooms wider noted h k = λ i c. k i c ∙ h i c
 

@@ -29,7 +29,7 @@ pub use Rattle.std.specs.List.Sorted.{IsPermutation, IsStrictlyIncreasing, IsStr
 pub use Rattle.std.specs.Map.{keys_of, lookup, values_of}
 pub use Rattle.std.specs.Option.{is_some, option_map, option_to_list}
 pub use Rattle.std.specs.Ordering.{nat_cmp}
-pub use Rattle.std.specs.Prelude.{IfOk, IfSome, IsSome, OnErr, OnOk, bit_and, nat_lt, unwrap_or}
+pub use Rattle.std.specs.Prelude.{IfOk, IfSome, IsErr, IsSome, OnOk, bit_and, nat_lt, unwrap_or}
 pub use Rattle.std.specs.Rc.{rc_str_bytes}
 pub use Rattle.std.specs.Result.{result_unwrap_or}
 pub use Rattle.std.specs.Str.{bytes_eq}
@@ -49,7 +49,7 @@ pub use Rattle.wi_sessions.specs.declared.unread.Unread.{Unread}
 pub use Rattle.wi_tiles.proofs.RoomChanges.{same_all}
 pub use Rattle.wi_tiles.proofs.RoomLemmas.{no_rooms, same_filled}
 pub use Rattle.wi_tiles.specs.Entries.{IsOrdered}
-pub use Rattle.wi_tiles.specs.Rooms.{HasNoVacancy, HoldsTheSame, held_at, room_of, with_all, with_one}
+pub use Rattle.wi_tiles.specs.Rooms.{AreBetweenEdits, HasNoVacancy, HoldsTheSame, held_at, room_of, with_all, with_one}
 pub use Rattle.wi_values.proofs.Listed.{Contains-from_has, has-filter, has-from_Contains, has_key}
 pub use Rattle.wi_values.proofs.Lists.{filter_all}
 pub use Rattle.wi_values.proofs.Lookups.{found-insert, found-without}

@@ -1,10 +1,11 @@
 //! What a session was last shown.
 
-ghost use Rattle.std.specs.Prelude.{◌≡◌, [], ℕ, IfOk, OnOk, OnErr, length, unwrap_or};
+ghost use Rattle.std.specs.Prelude.{◌≡◌, [], ℕ, OnOk, OnErr, length, unwrap_or};
 ghost use Rattle.std.specs.Map.{keys_of};
 ghost use Rattle.std.specs.Option.{option_copied};
+ghost use Rattle.std.specs.Result.{result_unwrap_or};
 ghost use Rattle.wi_values.specs.declared.value.Value.TheVariants.{Empty};
-ghost use Rattle.wi_tiles.specs.Rooms.{HasNoVacancy, HoldsTheSame, RoomsAreInOrder, VacantOnlyAt, has_value, taken};
+ghost use Rattle.wi_tiles.specs.Rooms.{AreBetweenEdits, AreInEdit, HoldsTheSame, has_value, taken};
 ghost use Rattle.wi_sessions.specs.Pictures.{same_value, value_in, with_changes};
 
 use std::alloc::{AllocError, Global};
@@ -28,7 +29,7 @@ impl Model for Picture {
     ghost use Rattle.std.specs.Coded.{codes};
     ghost use Rattle.wi_values.specs.contracts.value.Value as value;
     ghost use Rattle.wi_values.specs.declared.value.Value.TheVariants.{Empty};
-    ghost use Rattle.wi_tiles.specs.Rooms.{RoomsAreInOrder, HasNoVacancy};
+    ghost use Rattle.wi_tiles.specs.Rooms.{AreBetweenEdits};
 
     ghost Value = { List (ℕ × Shown) };
 
@@ -36,8 +37,7 @@ impl Model for Picture {
 
     ghost view = { λ p. p.values.entries };
 
-    ghost invariant = { λ p. RoomsAreInOrder p.values.entries
-        × HasNoVacancy Empty p.values.entries };
+    ghost invariant = { λ p. AreBetweenEdits Empty p.values.entries };
 }
 
 /// Whether two values are one: of the same kind, and with the same content.
@@ -57,15 +57,15 @@ impl Picture {
         }
     }
 
-    /// The value of a cell; none if it was empty. The work is the same however many values there are, but for a search among the
-    /// tiles of 16 rows.
+    /// The value of a cell; none if it was empty. Logarithmic in the tiles of its 16 rows that have something, and else constant.
     pub fn value(&self, at: Address) -> Option<&Value>
         ensures { unwrap_or (option_copied result) Empty ≡ value_in self.now at }
     {
         self.values.get(at)
     }
 
-    /// Whether a cell had this value. The work is that of `value`, and a comparison.
+    /// Whether a cell had this value. One look-up by `value`, logarithmic in the tiles of 16 rows, and a comparison, at most linear in
+    /// the length of a text.
     pub fn has(&self, at: Address, value: &Value) -> bool
         ensures { result ≡ same_value (value_in self.now at) value.now }
     {
@@ -88,12 +88,10 @@ impl Picture {
 
 /// Puts changes in, one after another. If memory runs out, all is as before.
 fn put_changes(values: &mut CellMap<Value>, changes: &mut [Change]) -> Result<(), AllocError>
-    requires order { RoomsAreInOrder values.old.entries }
-    requires full { HasNoVacancy Empty values.old.entries }
+    requires { AreBetweenEdits Empty values.old.entries }
     ensures done { OnOk result (values.new.entries ≡ with_changes values.old.entries changes.old) }
     ensures refused { OnErr result (values.new.entries ≡ values.old.entries) }
-    ensures order { RoomsAreInOrder values.new.entries }
-    ensures full { HasNoVacancy Empty values.new.entries }
+    ensures between { AreBetweenEdits Empty values.new.entries }
 {
     let before = values.len() as u64;
     let answer = put_in(values, before, changes);
@@ -109,16 +107,14 @@ fn put_in(
     before: u64,
     changes: &mut [Change],
 ) -> Result<u64, AllocError>
-    requires order { RoomsAreInOrder values.old.entries }
-    requires full { HasNoVacancy Empty values.old.entries }
+    requires between { AreBetweenEdits Empty values.old.entries }
     requires before { before ≡ length values.old.entries }
     ensures done { OnOk result
         (HoldsTheSame Empty (with_changes values.old.entries changes.old) values.new.entries) }
     ensures refused { OnErr result (HoldsTheSame Empty values.old.entries values.new.entries) }
-    ensures occupied { IfOk result (λ n. n ≡ length (taken has_value values.new.entries)) }
-    ensures kept { OnErr result (before ≡ length (taken has_value values.new.entries)) }
-    ensures order { RoomsAreInOrder values.new.entries }
-    ensures vacant { VacantOnlyAt Empty (keys_of changes.new) values.new.entries }
+    ensures occupied { result_unwrap_or result before
+        ≡ length (taken has_value values.new.entries) }
+    ensures edit { AreInEdit Empty (keys_of changes.new) values.new.entries }
 {
     make_rooms(values, changes)?;
     Ok(exchange_all(values, changes, before))

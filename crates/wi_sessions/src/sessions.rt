@@ -71,7 +71,8 @@ impl Sessions {
     }
 
     /// Adds a session at the end, as `new` makes one. On an error all is as before. It is an error too where a session of this name is
-    /// there already, as `find` tells, and where there are 64. The work is that of `make_room` for the cells.
+    /// there already, as `find` tells, and where there are 64. For each cell it costs what `make_room` does: two look-ups in a map, and
+    /// putting it in where it is pending for no session.
     pub fn push(&mut self, name: &str, cells: &[Address]) -> Result<(), AllocError>
         ensures sessions { OnOk result (self.new.sessions
             ≡ self.old.sessions ++ new_session name.now ∷ []) }
@@ -146,9 +147,8 @@ impl Sessions {
         self.at(i).seen
     }
 
-    /// The cells that are pending for a session, in row-major order. The work is that of a look-up for each cell that was marked since it
-    /// was last told, and of a sort where several edits marked them; or of a step for each cell that is pending for any session, where
-    /// these are no more.
+    /// The cells that are pending for a session, in row-major order. One look-up for each cell that was marked since it was last told,
+    /// and a sort where several edits marked them; or linear in the cells that are pending for any session, where these are no more.
     pub fn pending_cells(&self, i: usize) -> Result<Vec<Address>, AllocError>
         requires { i < length self.now.sessions }
         ensures list { IfOk result (λ found. found.items ≡ pending_of self.now i) }
@@ -176,7 +176,8 @@ impl Sessions {
     }
 
     /// Puts a change list into a session's picture, when the log has this length; no cell is pending for it then. On an error
-    /// all is as before. The work is that of `Picture::apply`, and of `pending_cells`, with a look-up for each.
+    /// all is as before. It costs what `Picture::apply` does, some look-ups for each change, and what `pending_cells` does, with one
+    /// look-up for each pending cell.
     pub fn tell(&mut self, i: usize, changes: Vec<Change>, seen: u64) -> Result<(), AllocError>
         requires { i < length self.old.sessions }
         ensures sessions { OnOk result (self.new.sessions
@@ -206,7 +207,8 @@ impl Sessions {
         self.pending.make_room(i, cells)
     }
 
-    /// The same for each session, in one walk through the cells. The work is that of `make_room`.
+    /// The same for each session, in one walk through the cells. For each cell it costs what `make_room` does, two look-ups in a map
+    /// and putting it in, however many sessions there are.
     pub fn make_room_all(&mut self, cells: &[Address]) -> Result<(), AllocError>
         ensures sessions { self.new.sessions ≡ self.old.sessions }
         ensures pending { self.new.pending ≡ self.old.pending }

@@ -1,5 +1,5 @@
 -- When two cases are one, and each case once.
-use Rattle.wi_sheet.proofs.Words.{◌≡◌, ◌==◌, ◌||◌, inl, inr, ℕ, Bool, true, false, cond, List, [], ◌∷◌, Contains, refl, ap, sym, ◌∙◌, subst, eq-eqb, and_parts, and_from, eqb-true, Decides, list_any, Replacement, same_replacements, same_replacements_Decides, Sheet, content_of, put_all, has_formula, circular, Case, case_of, same_case, demand, demanded, different, HasCase, IsClosed}
+use Rattle.wi_sheet.proofs.Words.{◌≡◌, ◌==◌, ◌||◌, inl, inr, ℕ, Bool, true, false, cond, List, [], ◌∷◌, Contains, refl, ap, sym, ◌∙◌, subst, eq-eqb, and_parts, and_from, eqb-true, list_any, Replacement, same_replacements, same_replacements_Decides, Sheet, content_of, put_all, has_formula, circular, Case, case_of, same_case, demand, demanded, different, HasCase, IsClosed}
 use Rattle.wi_sheet.proofs.Members.{IsIn, in_contained, contains_in}
 use Rattle.wi_sheet.proofs.SmallerWorlds.{content_below}
 use Rattle.wi_sheet.proofs.Demands.{demand_closed, demand_has_itself}
@@ -17,10 +17,6 @@ one_case k j h =
 -- a case passes it with itself
 pub same_case-refl : (k : Case) → same_case k k ≡ true
 same_case-refl k = and_from (k.0 == k.0) (same_replacements k.1 k.1) (eq-eqb k.0 k.0 refl) ((same_replacements_Decides k.1 k.1).1 refl)
-
--- so the test decides
-pub same_case_Decides : (k j : Case) → Decides (same_case k j) (k ≡ j)
-same_case_Decides k j = (one_case k j, λ e. subst (λ (i : Case). same_case k i ≡ true) e (same_case-refl k))
 
 in_same : (k : Case) (ks : List Case) → list_any (same_case k) ks ≡ true → IsIn ks k
 in_same k [] h = cc

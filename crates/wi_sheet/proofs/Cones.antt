@@ -1,5 +1,5 @@
 -- What stays outside the cone of edited cells, under replacements.
-use Rattle.wi_sheet.proofs.Words.{◌≡◌, ℕ, Bool, false, cond, List, [], ◌∷◌, filter, Option, refl, ap, sym, ◌∙◌, false_from_ne_true, Value, Replacement, last_for, Sheet, content_of, put_all, is_one_of, IsInCone, SameOff, reaches, in_cone, not_in_cone, cone_stays, agree_outside, outside_reaches, cell_value, shown, SayTheSameOff, IsUnmoved, reaching}
+use Rattle.wi_sheet.proofs.Words.{◌≡◌, ℕ, false, List, [], Option, ap, sym, ◌∙◌, false_from_ne_true, Value, Replacement, last_for, Sheet, content_of, put_all, is_one_of, IsInCone, SameOff, in_cone, not_in_cone, cone_stays, agree_outside, cell_value, shown, SayTheSameOff, IsUnmoved}
 use Rattle.wi_sheet.proofs.Puts.{overlaid, content_of-put_all}
 use Rattle.wi_sheet.proofs.Last.{over, content_by_last}
 use Rattle.wi_sheet.proofs.Agreement.{agree_put}
@@ -18,16 +18,6 @@ same_off_put s t xs p same d m = content_of-put_all s p d ∙ ap (overlaid p d) 
 
 pub outside_shown_same : (s t : Sheet) (xs : List ℕ) (c : ℕ) (p : List Replacement) → SameOff s t xs → (IsInCone s xs c → ⊥) → shown s p c ≡ shown t p c
 outside_shown_same s t xs c p same out = outside_shown s t xs p p c same (same_off_put s t xs p same) out
-
-filter_alike : (f g : ℕ → Bool) → ((a : ℕ) → f a ≡ g a) → (w : List Replacement) → filter (λ r. f r.at) w ≡ filter (λ r. g r.at) w
-filter_alike f g h [] = refl
-filter_alike f g h (r ∷ rs) =
-    ap (λ (b : Bool). cond b (r ∷ filter (λ x. f x.at) rs) (filter (λ x. f x.at) rs)) (h r.at)
-    ∙ ap (λ (xs : List Replacement). cond (g r.at) (r ∷ xs) xs) (filter_alike f g h rs)
-
--- so the replacements of cells that a cell reaches are the same
-pub outside_reaching : (s t : Sheet) (xs : List ℕ) (c : ℕ) (w : List Replacement) → SameOff s t xs → (IsInCone s xs c → ⊥) → reaching s c w ≡ reaching t c w
-outside_reaching s t xs c w same out = filter_alike (reaches s c) (reaches t c) (λ a. outside_reaches s t xs c a same out) w
 
 -- ---- two edits of the same cells, under replacements that agree in all others
 

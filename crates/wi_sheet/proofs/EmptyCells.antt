@@ -1,5 +1,5 @@
 -- Cells without a content.
-use Rattle.wi_sheet.proofs.Words.{◌≡◌, ℕ, Bool, true, false, ◌==◌, Option, Some, None, [], length, refl, sym, ap, ◌∙◌, list_any, keys_of, is_at, nat_cmp, is_some-lookup, Empty, Content, Sheet, content_of, has_formula, cells_with_formula, circular, has_walk, walker_has_formula, has_key, circular_is, value_of, shown}
+use Rattle.wi_sheet.proofs.Words.{◌≡◌, ℕ, Bool, true, false, Option, Some, None, [], length, refl, sym, ap, ◌∙◌, is_one_of, keys_of, is_at, nat_cmp, is_some-lookup, Empty, Content, Sheet, content_of, has_formula, cells_with_formula, circular, has_walk, walker_has_formula, has_key, circular_is, value_of, shown}
 use Rattle.std.specs.Prelude.{is_some}
 use Rattle.wi_sheet.proofs.Steps.{value_plain, shown_open}
 
@@ -18,7 +18,7 @@ shows_nothing s a e =
     shown_open s [] a h ∙ value_plain s a h (ap has_formula e) ∙ ap (λ o. value_of o (λ t. Empty)) e
 
 -- a cell that isn't among those of the sheet has none
-pub has_none : (s : Sheet) (a : ℕ) → list_any (λ c. c == a) (keys_of s) ≡ false → content_of s a ≡ None
+pub has_none : (s : Sheet) (a : ℕ) → is_one_of (keys_of s) a ≡ false → content_of s a ≡ None
 has_none s a there = none (content_of s a) (is_some-lookup (is_at (nat_cmp a)) s ∙ has_key (keys_of s) a ∙ there)
   where
     none : (o : Option Content) → is_some o ≡ false → o ≡ None

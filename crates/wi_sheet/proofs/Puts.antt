@@ -1,5 +1,5 @@
 -- What replacements do to a sheet.
-use Rattle.wi_sheet.proofs.Words.{◌≡◌, ◌==◌, ℕ, Bool, true, false, not, cond, List, [], ◌∷◌, ◌++◌, filter, Option, Some, None, refl, ap, sym, ◌∙◌, arith, nat_tests, eqb-true, filter_agree, nat_cmp, match_ordering, Ordering, Less, Equal, Greater, keys_of, insert_entry, Value, Empty, Number, Text, Logical, Fault, Replacement, Content, Sheet, constant, content_of, without, with_content, put, put_all, has_formula, cells_with_formula, content_of-with}
+use Rattle.wi_sheet.proofs.Words.{◌≡◌, ◌==◌, ℕ, Bool, true, false, not, cond, List, [], ◌∷◌, filter, Option, Some, None, refl, ap, sym, ◌∙◌, arith, nat_tests, eqb-true, filter_agree, nat_cmp, match_ordering, Ordering, Less, Equal, Greater, keys_of, insert_entry, Value, Empty, Number, Text, Logical, Fault, Replacement, Content, Sheet, constant, content_of, without, with_content, put, put_all, has_formula, cells_with_formula, content_of-with}
 
 -- a content under replacements, of which the last for a cell stands
 abbrev pub overlaid : List Replacement → ℕ → Option Content → Option Content
@@ -12,10 +12,6 @@ content_of-put s c v q = content_of-with s c (constant v) q
 pub content_of-put_all : (s : Sheet) (p : List Replacement) (q : ℕ) → content_of (put_all s p) q ≡ overlaid p q (content_of s q)
 content_of-put_all s [] q = refl
 content_of-put_all s (r ∷ rs) q = content_of-put_all (put s r.at r.value) rs q ∙ ap (overlaid rs q) (content_of-put s r.at r.value q)
-
-pub put_all-append : (s : Sheet) (p r : List Replacement) → put_all s (p ++ r) ≡ put_all (put_all s p) r
-put_all-append s [] r = refl
-put_all-append s (x ∷ p) r = put_all-append (put s x.at x.value) p r
 
 -- ---- the formulas that are left
 

@@ -1,5 +1,5 @@
 -- The rectangles that a formula reads, their corners, and what of them is read as the sheet stands.
-use Rattle.wi_sheet.proofs.Words.{◌≡◌, ℕ, ◌<◌, ◌≤◌, ◌&&◌, Bool, true, min, max, List, Contains, sym, ap, ◌∙◌, subst, inl, inr, ◌⊎◌, arith, nat_le, list_any, and_parts, and_from, leb-true, le-leb, Area, place, row_of, column_of, is_within, rect_of, row_of_place, column_of_place, Reference, Tree, Leaf, cell_leaf, rectangle_leaf, what_if_leaf, leaves, cell_area, leaf_rectangles, rectangles_of, one_cell, reads_within, same_cell, leaf_reads_here, reads_here}
+use Rattle.wi_sheet.proofs.Words.{◌≡◌, ℕ, ◌<◌, ◌≤◌, ◌&&◌, Bool, true, min, max, List, Contains, sym, ap, ◌∙◌, subst, inl, inr, ◌⊎◌, arith, nat_le, and_parts, and_from, leb-true, le-leb, Area, place, row_of, column_of, is_within, is_within_one, rect_of, row_of_place, column_of_place, Reference, Tree, Leaf, cell_leaf, rectangle_leaf, what_if_leaf, leaves, cell_area, leaf_rectangles, rectangles_of, one_cell, reads_within, same_cell, leaf_reads_here, reads_here}
 use Rattle.wi_sheet.proofs.Demands.{here_reads}
 use Rattle.wi_sheet.proofs.Members.{IsIn, in_contained, of_map, of_flat, found_in}
 
@@ -81,5 +81,5 @@ rectangle_whole t r h =
     more_whole (leaf_reads_here l.0) (reads_here t) (λ d m. found_in (λ k. leaf_reads_here k d) (leaves t) l.0 l.1 m) r (leaf_whole l.0 r l.2)
 
 -- a cell that is read as the sheet stands is in one of the rectangles
-pub in_one_of : (t : Tree) (rs : List Area) (a : ℕ) → rs ≡ rectangles_of t → reads_here t a ≡ true → list_any (λ (r : Area). is_within r a) rs ≡ true
-in_one_of t rs a e h = ap (λ (xs : List Area). list_any (λ (r : Area). is_within r a) xs) e ∙ sym (reads_within t a) ∙ here_reads t a h
+pub in_one_of : (t : Tree) (rs : List Area) (a : ℕ) → rs ≡ rectangles_of t → reads_here t a ≡ true → is_within_one rs a ≡ true
+in_one_of t rs a e h = ap (λ (xs : List Area). is_within_one xs a) e ∙ sym (reads_within t a) ∙ here_reads t a h

@@ -1,7 +1,7 @@
 -- A cell's value by one step, with no bound in sight.
-use Rattle.wi_sheet.proofs.Words.{◌≡◌, ◌==◌, ℕ, zero, suc, ◌<◌, Bool, true, false, cond, List, [], ◌∷◌, Some, length, refl, ap, sym, ◌∙◌, subst, arith, false_from_ne_true, list_any, Value, Empty, Fault, Circular, Replacement, Tree, Formula, Sheet, content_of, put_all, has_formula, cells_with_formula, content_reads, meaning, zero_for_empty, circular, has_walk, step, circular_walks, walks_circular, circular_is, formula_cell, reader_formula, value_of, replacements, what_if_in, formula_in, value_within, cell_value, what_if_value, shown}
+use Rattle.wi_sheet.proofs.Words.{◌≡◌, ℕ, zero, suc, ◌<◌, Bool, true, false, cond, List, [], ◌∷◌, Some, length, refl, ap, sym, ◌∙◌, subst, arith, false_from_ne_true, is_one_of, Value, Empty, Fault, Circular, Replacement, Tree, Formula, Sheet, content_of, put_all, has_formula, cells_with_formula, content_reads, meaning, zero_for_empty, circular, has_walk, step, circular_walks, walks_circular, circular_is, formula_cell, reader_formula, value_of, replacements, what_if_in, formula_in, value_within, cell_value, what_if_value, shown}
 use Rattle.wi_sheet.proofs.Meanings.{meaning_same, replacements_same}
-use Rattle.wi_sheet.proofs.Bounds.{put_walk, put_formulas, bound_not_felt, bound_same, tree_reads, read_walk, put_no_walk, circular_value, plain_value}
+use Rattle.wi_sheet.proofs.Bounds.{put_walk, put_formulas, bound_not_felt, bound_same, tree_reads, read_walk, put_no_walk, plain_value}
 
 -- a cell on or above a cycle under replacements is so without them
 pub put_circular_back : (s : Sheet) (p : List Replacement) (c : ℕ) → circular (put_all s p) c ≡ true → circular s c ≡ true
@@ -24,7 +24,7 @@ reads_not_circular s c d r h = false_from_ne_true (circular s d) (λ w. let z = 
 pub some_formula : (s : Sheet) (c : ℕ) (n : ℕ) → length (cells_with_formula s) ≡ n → has_formula (content_of s c) ≡ true → 0 < n
 some_formula s c n e h = at (cells_with_formula s) e (formula_cell s c h)
   where
-    at : (xs : List ℕ) → length xs ≡ n → list_any (λ x. x == c) xs ≡ true → 0 < n
+    at : (xs : List ℕ) → length xs ≡ n → is_one_of xs c ≡ true → 0 < n
     at [] l m = cc
     at (x ∷ xs) l m = omega arith
 
@@ -66,10 +66,6 @@ value_step s c t h e = at (length (cells_with_formula s)) refl (some_formula s c
 pub value_plain : (s : Sheet) (c : ℕ) → circular s c ≡ false → has_formula (content_of s c) ≡ false → cell_value s c ≡ value_of (content_of s c) (λ t. Empty)
 unfolding cell_value
 value_plain s c h p = plain_value (length (cells_with_formula s)) s c p ∙ ap (λ (b : Bool). cond b (Fault Circular) (value_of (content_of s c) (λ t. Empty))) h
-
-pub value_circular : (s : Sheet) (c : ℕ) → circular s c ≡ true → cell_value s c ≡ Fault Circular
-unfolding cell_value
-value_circular s c h = circular_value (length (cells_with_formula s)) s c h
 
 pub shown_open : (s : Sheet) (p : List Replacement) (c : ℕ) → circular s c ≡ false → shown s p c ≡ cell_value (put_all s p) c
 unfolding shown

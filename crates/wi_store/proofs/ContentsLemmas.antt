@@ -1,5 +1,5 @@
 -- The contents of rooms one after another, and of a rectangle's.
-use Rattle.wi_store.proofs.Words.{◌≡◌, ℕ, Bool, true, false, ◌&&◌, cond, List, [], ◌∷◌, filter, Option, Some, None, refl, sym, ap, ◌∙◌, subst, nat_le, keys_of, and-false, le-leb, filter_agree, Area, is_within, within_between, Sheet, cells_with_formula, has_formula, Content, is_ahead, Rooms, sheet_in, formula_cells, RoomsAreInOrder, HasNoVacancy, IsOccupied, HaveContents}
+use Rattle.wi_store.proofs.Words.{◌≡◌, ℕ, Bool, true, false, ◌&&◌, cond, List, [], ◌∷◌, filter, Option, Some, None, refl, sym, ap, ◌∙◌, subst, nat_le, keys_of, and-false, le-leb, filter_agree, Area, is_within, within_between, Sheet, cells_with_formula, has_formula, Content, is_ahead, Rooms, sheet_in, formula_cells, RoomsAreInOrder, AreBetweenEdits, HaveContents}
 use Rattle.wi_store.proofs.RoomLemmas.{Ascends, Ascends-from_order, Ascends-sheet_in, all_occupied, formula_cells-all}
 
 -- ---- some of the rooms
@@ -31,22 +31,11 @@ have_filter t (e ∷ es) h = at (t e.0) (have_filter t es h.1)
     at true ih = (h.0, ih)
     at false ih = ih
 
-pub all_have : (rooms es : Rooms) → RoomsAreInOrder rooms → HasNoVacancy None rooms → es ≡ rooms → HaveContents es
-all_have rooms es order full e = subst HaveContents (sym e) (all_occupied rooms (Ascends-from_order rooms order) full)
+pub all_have : (rooms es : Rooms) → AreBetweenEdits None rooms → es ≡ rooms → HaveContents es
+all_have rooms es b e = subst HaveContents (sym e) (all_occupied rooms (Ascends-from_order rooms b.order) b.full)
 
-pub those_have : (t : ℕ → Bool) (rooms es : Rooms) → RoomsAreInOrder rooms → HasNoVacancy None rooms → es ≡ filter (λ e. t e.0) rooms → HaveContents es
-those_have t rooms es order full e = subst HaveContents (sym e) (have_filter t rooms (all_occupied rooms (Ascends-from_order rooms order) full))
-
--- ---- a step from one to the next
-
-pub step_have : (es fs : Rooms) (e : ℕ × Option Content) → HaveContents es → es ≡ e ∷ fs → IsOccupied e.1 × HaveContents fs
-step_have es fs e h k = subst HaveContents k h
-
-pub step_takes : (es fs : Rooms) (old : Sheet) (c : ℕ) (o : Option Content) (x : Content) → sheet_in es ≡ old → es ≡ (c, o) ∷ fs → Some x ≡ o → old ≡ (c, x) ∷ sheet_in fs
-step_takes es fs old c o x view k h = sym view ∙ ap sheet_in k ∙ ap (λ (p : Option Content). sheet_in ((c, p) ∷ fs)) (sym h)
-
-pub never_vacant : (es fs : Rooms) (c : ℕ) (o : Option Content) → HaveContents es → es ≡ (c, o) ∷ fs → None ≡ o → ⊥
-never_vacant es fs c o h k n = subst IsOccupied (sym n) (step_have es fs (c, o) h k).0
+pub those_have : (t : ℕ → Bool) (rooms es : Rooms) → AreBetweenEdits None rooms → es ≡ filter (λ e. t e.0) rooms → HaveContents es
+those_have t rooms es b e = subst HaveContents (sym e) (have_filter t rooms (all_occupied rooms (Ascends-from_order rooms b.order) b.full))
 
 -- ---- those that are formulas
 

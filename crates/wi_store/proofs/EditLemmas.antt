@@ -1,5 +1,5 @@
 -- Laws of an edit's answer.
-use Rattle.wi_store.proofs.Words.{◌≡◌, ℕ, ◌+◌, ◌<◌, Bool, true, false, List, Option, Result, Ok, Err, OnOk, OnErr, length, refl, sym, ap, ◌∙◌, subst, arith, ◌⊎◌, ⊎_elim, if◌then◌else◌, nat_lt, nat_le, result_unwrap_or, nat_tests, Sheet, Content, StoreFault, Full, EditLimit, Memory, Limits, Stored, edited, accepted, Applies, admitted}
+use Rattle.wi_store.proofs.Words.{◌≡◌, ℕ, ◌+◌, Bool, true, false, List, Option, Result, Ok, Err, OnOk, OnErr, length, refl, sym, ap, ◌∙◌, subst, ◌⊎◌, ⊎_elim, if◌then◌else◌, nat_lt, nat_le, result_unwrap_or, Sheet, Content, StoreFault, Full, EditLimit, Memory, Limits, Stored, edited, accepted, Applies, admitted}
 
 -- the sheet, the edits and the limits tell a store
 abbrev pub stored : Sheet → ℕ → Limits → Stored
@@ -66,17 +66,6 @@ applies_accepted : (s : Stored) (sheet : Sheet) (es : List (ℕ × Option Conten
     → done n ≡ admitted s.limits (length (edited s.sheet es)) s.edits
     → sheet ≡ edited s.sheet es → Applies (accepted s es) acceptance s (stored sheet (s.edits + 1) s.limits)
 applies_accepted s sheet es n h e = accepted-accepted s es n h ∙ ap (λ (t : Sheet). Ok (stored t (s.edits + 1) s.limits)) (sym e)
-
--- an accepted edit is below the limit
-accepted_below : (b c : Bool) (n m : ℕ) → done m ≡ outcome_of b c n → c ≡ false
-accepted_below true c n m h = cc
-accepted_below false true n m h = cc
-accepted_below false false n m h = refl
-
-pub edits_below : (limits : Limits) (cells edits n : ℕ) → done n ≡ admitted limits cells edits → edits < limits.edits
-edits_below limits cells edits n h =
-    let t : nat_le limits.edits edits ≡ false = accepted_below (nat_lt limits.cells cells) (nat_le limits.edits edits) cells n h in
-    grind (arith, nat_tests)
 
 -- how many cells are occupied after an edit is the count that it answers, or that of before
 pub occupied_after : (r : Outcome) (limits : Limits) (edits before n : ℕ) (old new t : Sheet) → before ≡ length old → n ≡ result_unwrap_or r before

@@ -1,5 +1,5 @@
 -- The first content of a rectangle.
-use Rattle.wi_store.proofs.Words.{◌≡◌, ℕ, Bool, true, false, ◌&&◌, cond, List, [], ◌∷◌, filter, Option, Some, None, refl, sym, ap, ◌∙◌, nat_le, unwrap_or, find, keys_of, and-false, and-true, Area, is_within, Sheet, content_of, Content, is_ahead, Rooms, sheet_in, room_of, RoomsAreInOrder, HasNoVacancy}
+use Rattle.wi_store.proofs.Words.{◌≡◌, ℕ, Bool, true, false, ◌&&◌, cond, List, [], ◌∷◌, filter, Option, Some, None, refl, sym, ap, ◌∙◌, nat_le, unwrap_or, find, keys_of, and-false, and-true, Area, is_within, Sheet, content_of, Content, is_ahead, Rooms, sheet_in, room_of, RoomsAreInOrder, AreBetweenEdits}
 use Rattle.wi_store.proofs.RoomLemmas.{Ascends-from_order, keys-sheet_in, content_of-sheet_in}
 
 -- one test after another
@@ -19,10 +19,10 @@ find_ahead r from (x ∷ xs) = at (is_within r x) refl (find_ahead r from xs)
         ∙ ih
 
 -- the first cell of a rectangle that has a room is the first that has a content
-pub sought_in : (r : Area) (from : ℕ) (rooms : Rooms) (s : Sheet) (o : Option ℕ) → RoomsAreInOrder rooms → HasNoVacancy None rooms → sheet_in rooms ≡ s
+pub sought_in : (r : Area) (from : ℕ) (rooms : Rooms) (s : Sheet) (o : Option ℕ) → AreBetweenEdits None rooms → sheet_in rooms ≡ s
     → o ≡ find (λ a. nat_le from a) (filter (is_within r) (keys_of rooms)) → o ≡ find (λ a. nat_le from a) (filter (is_within r) (keys_of s))
-sought_in r from rooms s o order full e f =
-    f ∙ ap (λ (cells : List ℕ). find (λ a. nat_le from a) (filter (is_within r) cells)) (sym (keys-sheet_in rooms (Ascends-from_order rooms order) full) ∙ ap (λ (t : Sheet). keys_of t) e)
+sought_in r from rooms s o b e f =
+    f ∙ ap (λ (cells : List ℕ). find (λ a. nat_le from a) (filter (is_within r) cells)) (sym (keys-sheet_in rooms (Ascends-from_order rooms b.order) b.full) ∙ ap (λ (t : Sheet). keys_of t) e)
 
 -- its room tells what stands there
 pub stands_in : (rooms : Rooms) (s : Sheet) (c : ℕ) (x : Content) → RoomsAreInOrder rooms → sheet_in rooms ≡ s → room_of rooms c ≡ Some (Some x) → content_of s c ≡ Some x

@@ -1,5 +1,5 @@
 -- Laws of rooms and of the sheet in them.
-use Rattle.wi_store.proofs.Words.{◌≡◌, ℕ, ◌<◌, Bool, true, false, cond, List, [], ◌∷◌, filter, length, Option, Some, None, refl, sym, ap, ◌∙◌, subst, arith, ⊎_elim, unwrap_or, is_some, All, AllByRecursion, nat_cmp, lookup, keys_of, is_at, cases_order, All-cons, All-head, All-tail, at_itself, at_later, at_earlier, lookup_after, Sheet, content_of, cells_with_formula, has_formula, Content, Rooms, sheet_in, formula_cells, IsOccupied, HaveContents, tells_none, room_of, RoomsAreInOrder, taken, held_at, HoldsTheSame, HasNoVacancy, first_there, same_rooms, room_of-tail, no_rooms, all_taken}
+use Rattle.wi_store.proofs.Words.{◌≡◌, ℕ, ◌<◌, Bool, true, false, cond, List, [], ◌∷◌, filter, length, Option, Some, None, refl, sym, ap, ◌∙◌, subst, arith, ⊎_elim, unwrap_or, is_some, All, AllByRecursion, nat_cmp, lookup, keys_of, is_at, cases_order, All-cons, All-head, All-tail, at_itself, at_later, at_earlier, lookup_after, Sheet, content_of, cells_with_formula, has_formula, Content, Rooms, sheet_in, formula_cells, IsOccupied, HaveContents, tells_none, room_of, RoomsAreInOrder, taken, held_at, HoldsTheSame, HasNoVacancy, AreBetweenEdits, first_there, same_rooms, room_of-tail, no_rooms, all_taken}
 pub use Rattle.wi_values.proofs.Order.{ComeAfter, Ascends, Ascends-from_order, order-from_Ascends}
 
 -- ---- the sheet in rooms
@@ -73,8 +73,8 @@ length-taken (e ∷ es) = by e.1 (length-taken es)
 -- ---- where no room is vacant
 
 -- the sheet is as long as the rooms are
-pub length-sheet_in : (rooms : Rooms) → Ascends rooms → HasNoVacancy None rooms → length (sheet_in rooms) ≡ length rooms
-length-sheet_in rooms h n = sym (length-taken rooms) ∙ all_taken None is_some tells_none rooms h n
+pub length-sheet_in : (rooms : Rooms) → AreBetweenEdits None rooms → length (sheet_in rooms) ≡ length rooms
+length-sheet_in rooms b = sym (length-taken rooms) ∙ all_taken None is_some tells_none rooms (Ascends-from_order rooms b.order) b.full
 
 keys-one_more : (c : ℕ) (o : Option Content) (es : Rooms) → (o ≡ None → ⊥) → keys_of (sheet_in es) ≡ keys_of es → keys_of (sheet_in ((c, o) ∷ es)) ≡ c ∷ keys_of es
 keys-one_more c None es n h = absurd (n refl)
@@ -88,8 +88,11 @@ keys-sheet_in (e ∷ es) h n =
     keys-one_more e.0 e.1 es o (keys-sheet_in es h.1 (λ a v. n a (room_of-tail a e es None h.0 v)))
 
 -- where there is no room
-pub none_at_all : (rooms : Rooms) → rooms ≡ [] → RoomsAreInOrder rooms × HasNoVacancy None rooms
-none_at_all rooms e = (subst (λ (r : Rooms). RoomsAreInOrder r) (sym e) (order-from_Ascends {X = Option Content} [] tt), no_rooms None rooms e)
+pub none_at_all : (rooms : Rooms) → rooms ≡ [] → AreBetweenEdits None rooms
+none_at_all rooms e = record {
+  order = subst (λ (r : Rooms). RoomsAreInOrder r) (sym e) (order-from_Ascends {X = Option Content} [] tt);
+  full = no_rooms None rooms e;
+}
 
 -- each of them has a content
 pub all_occupied : (rooms : Rooms) → Ascends rooms → HasNoVacancy None rooms → HaveContents rooms

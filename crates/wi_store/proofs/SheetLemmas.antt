@@ -1,5 +1,5 @@
 -- The sheet in rooms after an edit, and after it was taken back.
-use Rattle.wi_store.proofs.Words.{◌≡◌, ◌==◌, ℕ, cond, not, List, [], ◌∷◌, length, Option, Some, None, refl, sym, ap, ◌∙◌, is_some, found-insert, found-without, Ascends, Ascends-from_order, Ascends-filter, Ascends-insert, Sheet, content_of, with_content, Content, edited, Rooms, sheet_in, RoomsAreInOrder, taken, held_at, HoldsTheSame, HasNoVacancy, with_one, with_all, with_all_back, stood, same_all, same_back, taken_back}
+use Rattle.wi_store.proofs.Words.{◌≡◌, ◌==◌, ℕ, cond, not, List, [], ◌∷◌, length, Option, Some, None, refl, sym, ap, ◌∙◌, is_some, found-insert, found-without, Ascends, Ascends-from_order, Ascends-filter, Ascends-insert, Sheet, content_of, with_content, Content, edited, Rooms, sheet_in, RoomsAreInOrder, taken, held_at, HoldsTheSame, AreBetweenEdits, with_one, with_all, with_all_back, stood, same_all, same_back, taken_back}
 use Rattle.wi_store.proofs.RoomLemmas.{Ascends-sheet_in, content_of-sheet_in, sheet_in-is, sheet_in-same, length-taken, length-sheet_in}
 
 -- ---- contents put into a sheet, one after another
@@ -47,5 +47,5 @@ module _ (old made new : Rooms) (es : List (ℕ × Option Content)) (order : Roo
       ∙ taken_back es (held_at None made) q ∙ same q)
 
 -- how many have a content before
-pub count_before : (n : ℕ) (old made : Rooms) → RoomsAreInOrder old → HasNoVacancy None old → n ≡ length (sheet_in old) → length (taken is_some made) ≡ length old → n ≡ length (taken is_some made)
-count_before n old made order full e h = e ∙ length-sheet_in old (Ascends-from_order old order) full ∙ sym h
+pub count_before : (n : ℕ) (old made : Rooms) → AreBetweenEdits None old → n ≡ length (sheet_in old) → length (taken is_some made) ≡ length old → n ≡ length (taken is_some made)
+count_before n old made b e h = e ∙ length-sheet_in old b ∙ sym h

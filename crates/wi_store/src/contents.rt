@@ -2,7 +2,7 @@
 
 ghost use Rattle.std.specs.Prelude.{◌≡◌, filter, Some, None};
 ghost use Rattle.wi_store.specs.Store.{is_ahead};
-ghost use Rattle.wi_tiles.specs.Rooms.{HasNoVacancy, RoomsAreInOrder};
+ghost use Rattle.wi_tiles.specs.Rooms.{AreBetweenEdits};
 ghost use Rattle.wi_store.specs.Inner.Rooms.{sheet_in};
 
 use crate::room::Room;
@@ -38,8 +38,7 @@ impl<'a> Model for Contents<'a> {
 impl<'a> Contents<'a> {
     /// All contents.
     pub(crate) fn all(rooms: &'a Rooms) -> Contents<'a>
-        requires order { RoomsAreInOrder rooms.now.entries }
-        requires full { HasNoVacancy None rooms.now.entries }
+        requires { AreBetweenEdits None rooms.now.entries }
         ensures { result ≡ sheet_in rooms.now.entries }
     {
         Contents {
@@ -49,8 +48,7 @@ impl<'a> Contents<'a> {
 
     /// The contents of the rectangle at a cell or after it.
     pub(crate) fn new(rooms: &'a Rooms, area: Rect, from: Address) -> Contents<'a>
-        requires order { RoomsAreInOrder rooms.now.entries }
-        requires full { HasNoVacancy None rooms.now.entries }
+        requires { AreBetweenEdits None rooms.now.entries }
         ensures { result ≡ filter
             (λ e. is_ahead area (Some from) e.0) (sheet_in rooms.now.entries) }
     {

@@ -61,7 +61,7 @@ impl Room {
 impl MayBeVacant for Room {
     ghost use Rattle.std.specs.Prelude.{None};
     ghost use Rattle.std.specs.Option.{is_some};
-    ghost use Rattle.wi_store.specs.Inner.Rooms.{tells_none};
+    ghost use Rattle.wi_tiles.specs.Rooms.{tells_none};
 
     ghost vacant = { None };
 

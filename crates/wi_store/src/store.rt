@@ -8,7 +8,7 @@ ghost use Rattle.std.specs.Map.{keys_of};
 ghost use Rattle.wi_values.specs.Address.{is_within, rows, columns};
 ghost use Rattle.wi_parser.specs.Sheet.{content_of, cells_with_formula, has_formula};
 ghost use Rattle.wi_store.specs.Store.{edited, accepted, applied, Applies, is_ahead};
-ghost use Rattle.wi_tiles.specs.Rooms.{RoomsAreInOrder, HasNoVacancy, VacantOnlyAt};
+ghost use Rattle.wi_tiles.specs.Rooms.{AreBetweenEdits, AreInEdit};
 ghost use Rattle.wi_store.specs.Inner.Rooms.{sheet_in, formula_cells};
 ghost use Rattle.wi_store.specs.Inner.Admission.{admitted};
 
@@ -43,7 +43,7 @@ impl Model for Store {
     ghost coded = { Prim.hlevel (codes, content.the_row.coded) };
 
     ghost use Rattle.std.specs.Prelude.{None};
-    ghost use Rattle.wi_tiles.specs.Rooms.{RoomsAreInOrder, HasNoVacancy};
+    ghost use Rattle.wi_tiles.specs.Rooms.{AreBetweenEdits};
     ghost use Rattle.wi_store.specs.Inner.Rooms.{sheet_in};
 
     ghost view = { λ s. record {
@@ -52,7 +52,7 @@ impl Model for Store {
       limits = s.limits;
     } };
 
-    ghost invariant = { λ s. RoomsAreInOrder s.rooms.entries × HasNoVacancy None s.rooms.entries };
+    ghost invariant = { λ s. AreBetweenEdits None s.rooms.entries };
 }
 
 impl Store {
@@ -70,7 +70,7 @@ impl Store {
         }
     }
 
-    /// What stands in a cell. The work is the same however many cells are occupied, but for a search among the tiles of 16 rows.
+    /// What stands in a cell. Logarithmic in the tiles of its 16 rows that have something, and else constant.
     pub fn get(&self, at: Address) -> Option<&Content>
         ensures { option_copied result ≡ content_of self.now.sheet at }
     {
@@ -159,7 +159,8 @@ impl Store {
         formula_cells(self.alloc, Contents::all(&self.rooms))
     }
 
-    /// The cells of a rectangle that have a formula, in row-major order. The work is that of all steps of `contents_from`.
+    /// The cells of a rectangle that have a formula, in row-major order. It takes all steps of `contents_from`, one for each
+    /// occupied cell of the rectangle.
     pub fn formulas_in(&self, area: Rect) -> Result<Vec<Address>, AllocError>
         ensures { IfOk result (λ found.
             found.items ≡ filter (is_within area) (cells_with_formula self.now.sheet)) }
@@ -167,7 +168,8 @@ impl Store {
         formula_cells(self.alloc, self.contents_from(area, area.first()))
     }
 
-    /// The first occupied cell of a rectangle, in row-major order, at a cell or after it. The work is that of `next_content`.
+    /// The first occupied cell of a rectangle, in row-major order, at a cell or after it, at the cost of `next_content`: searches among
+    /// the tiles of 16 rows up to it.
     pub fn next_occupied(&self, area: Rect, from: Address) -> Option<Address>
         ensures { result ≡ find
             (λ a. nat_le from a) (filter (is_within area) (keys_of self.now.sheet)) }
@@ -175,8 +177,8 @@ impl Store {
         self.rooms.next_in(area, from)
     }
 
-    /// The same with what stands there. One search among the tiles of 16 rows for each row up to it, and where the rectangle lies
-    /// in one column of tiles, of four columns, for 16 rows; rows where nothing stands are passed at once.
+    /// The same with what stands there. One search among the tiles of 16 rows for these, and if more than one of them lie in the
+    /// rectangle, one step for each in each row up to it; rows where nothing stands are passed at once.
     pub fn next_content(&self, area: Rect, from: Address) -> Option<(Address, &Content)>
         ensures cell { option_map (λ x. x.0) result
             ≡ find (λ a. nat_le from a) (filter (is_within area) (keys_of self.now.sheet)) }
@@ -191,7 +193,9 @@ impl Store {
         }
     }
 
-    /// The contents of a rectangle with their cells, in row-major order, at a cell or after it. The work is that of its steps.
+    /// The contents of a rectangle with their cells, in row-major order, at a cell or after it. Made in constant time; a step for each
+    /// of them, one search for each 16 rows, and where more than one of their tiles lie in the rectangle, one step more for each tile
+    /// of each row.
     pub fn contents_from(&self, area: Rect, from: Address) -> Contents<'_>
         ensures { result ≡ filter (λ e. is_ahead area (Some from) e.0) self.now.sheet }
     {
@@ -228,8 +232,7 @@ fn edit(
     edits: u64,
     changes: &mut [NewRoom],
 ) -> Result<u64, StoreFault>
-    requires order { RoomsAreInOrder rooms.old.entries }
-    requires full { HasNoVacancy None rooms.old.entries }
+    requires between { AreBetweenEdits None rooms.old.entries }
     requires before { before ≡ length (sheet_in rooms.old.entries) }
     ensures done { OnOk result (sheet_in rooms.new.entries
         ≡ edited (sheet_in rooms.old.entries) changes.old) }
@@ -237,8 +240,7 @@ fn edit(
     ensures cause { (result ≡ Err StoreFault.Memory)
         ⊎ (result ≡ admitted limits.now
         (length (edited (sheet_in rooms.old.entries) changes.old)) edits) }
-    ensures order { RoomsAreInOrder rooms.new.entries }
-    ensures vacant { VacantOnlyAt None (keys_of changes.new) rooms.new.entries }
+    ensures edit { AreInEdit None (keys_of changes.new) rooms.new.entries }
 {
     make_rooms(rooms, changes)?;
     let occupied = exchange_all(rooms, changes, before);

@@ -1,4 +1,4 @@
-//! What calculators are asked, and what they are to answer. A call that is refused for want of memory is made again; what is
+//! What calculators are asked, and what they are to answer. A call that is refused as out of memory is made again; what is
 //! asked so tells whether it was answered at once, as it must be where no memory is refused.
 
 ghost use Rattle.wi_values.specs.Replacements.{IsInOrder};
@@ -171,7 +171,7 @@ pub fn expect_kept<C: Calculator>(
     answer.at_once && looked_up_at_once
 }
 
-// An edit that was refused for want of memory: D4 has no content and C4 is looked up as FALSE.
+// An edit that was refused as out of memory: D4 has no content and C4 is looked up as FALSE.
 fn expect_unedited<C: Calculator>(rt: &impl Abort, calculator: &mut C, fault: StoreFault) {
     expect_that(rt, fault == StoreFault::Memory, "memory");
     expect_occupied(rt, calculator, &[("D4", false)]);

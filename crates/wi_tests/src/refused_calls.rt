@@ -2,7 +2,7 @@
 //!
 //! `rt try --test --fail-alloc N` refuses the Nth growth, and so one at most in a test. `rt test` and the gate refuse none: there
 //! these tests show that each call succeeds at once. So of two passes at least one must succeed at once, or a call was refused
-//! for want of memory though there is memory.
+//! as out of memory though there is memory.
 
 ghost use Rattle.std.specs.Prelude.{◌≤◌};
 

@@ -1,5 +1,5 @@
 -- Where a walk through a rectangle begins, and what rows without a band have.
-use Rattle.wi_tiles.proofs.Words.{◌≡◌, ℕ, ◌+◌, ◌*◌, ◌/◌, ◌%◌, ◌<◌, ◌≤◌, List, ◌∷◌, Option, Some, None, sym, ap, arith, ◌∙◌, ⊎_elim, zero, suc, refl, cond, subst, true, false, ◌&&◌, nat_le, filter, IsSome, max, ◌≢◌, keys_of, true≢false, cases_eq, and_parts, and_from, leb-true, le-leb, Area, row_of, column_of, Pages, Page, Band, at_cell, is_ahead, with_entry, entries_from, slot, in_page, band_at, in_band, IsStart, at_part, part_from, at_window, at_sorted, find as find_part, within_from, within_parts}
+use Rattle.wi_tiles.proofs.Words.{◌≡◌, ℕ, ◌+◌, ◌*◌, ◌/◌, ◌%◌, ◌<◌, ◌≤◌, List, ◌∷◌, Option, Some, None, sym, ap, arith, ◌∙◌, ⊎_elim, zero, suc, refl, cond, subst, true, false, ◌&&◌, nat_le, filter, IsSome, ◌≢◌, keys_of, true≢false, cases_eq, and_parts, and_from, leb-true, le-leb, Area, row_of, column_of, Pages, Page, Band, at_cell, is_ahead, with_entry, entries_from, slot, in_page, band_at, in_band, IsStart, at_part, part_from, at_window, at_sorted, find as find_part, within_from, within_parts}
 use Rattle.std.proofs.Common.{Bool}
 use Rattle.std.specs.List.{find}
 use Rattle.wi_tiles.proofs.CellLemmas.{digits}
@@ -28,9 +28,6 @@ page_gap w row n p is bound gap r l u =
     let same : r / 4096 ≡ row / 4096 = omega (arith, l, u, bound) in
     ap (λ i. in_page (part_from w i) (r / 16 % 256)) same ∙ ap (λ o. in_page o (r / 16 % 256)) is ∙ gap (r / 16 % 256) (omega (arith, l, same)) (omega (arith, u, same))
 
-pub pages_gap : {V : Type 0} (w : Pages V) (row n : ℕ) → ((i : ℕ) → row / 4096 ≤ i → i < n → part_from w i ≡ None) → (r : ℕ) → row ≤ r → r < 4096 * n → band_at w r ≡ None
-pages_gap w row n gap r l u = ap (λ o. in_page o (r / 16 % 256)) (gap (r / 4096) (omega (arith, l)) (omega (arith, u)))
-
 -- what a cell of a rectangle tells of its row and its column
 pub sides : (r : Area) (from a : ℕ) → is_ahead r from a ≡ true → (from ≤ a) × (row_of r.first ≤ row_of a) × (row_of a ≤ row_of r.last) × (column_of r.first ≤ column_of a) × (column_of a ≤ column_of r.last)
 sides r from a h =
@@ -41,16 +38,6 @@ sides r from a h =
 pub is_inside : (r : Area) (from a : ℕ) → from ≤ a → row_of r.first ≤ row_of a → row_of a ≤ row_of r.last → column_of r.first ≤ column_of a → column_of a ≤ column_of r.last → is_ahead r from a ≡ true
 is_inside r from a h i j k l = and_from _ _ (le-leb _ _ h) (within_from r a i j k l)
 
--- the three beginnings
-pub starts_above : (r : Area) (from : ℕ) → row_of from < row_of r.first → column_of r.first ≤ column_of r.last → IsStart r from (row_of r.first) (column_of r.first)
-starts_above r from l o = record {
-  top = omega arith;
-  left = omega arith;
-  right = o;
-  after = omega (arith, l);
-  all = λ c h. let s = sides r from c h in omega (arith, s.1, s.3);
-}
-
 pub starts_below : (r : Area) (from : ℕ) → row_of r.first ≤ row_of from → column_of r.last < column_of from → column_of r.first ≤ column_of r.last → IsStart r from (row_of from + 1) (column_of r.first)
 starts_below r from l right o = record {
   top = omega (arith, l);
@@ -58,15 +45,6 @@ starts_below r from l right o = record {
   right = o;
   after = omega arith;
   all = λ c h. let s = sides r from c h in omega (arith, s.0, s.3, s.4, right);
-}
-
-pub starts_here : (r : Area) (from k : ℕ) → row_of r.first ≤ row_of from → column_of from ≤ column_of r.last → column_of r.first ≤ column_of r.last → k ≡ max (column_of from) (column_of r.first) → IsStart r from (row_of from) k
-starts_here r from k l right o is = record {
-  top = l;
-  left = omega (arith, is);
-  right = omega (arith, is, right, o);
-  after = omega (arith, is);
-  all = λ c h. let s = sides r from c h in omega (arith, is, s.0, s.1, s.3);
 }
 
 -- a search through the entries

@@ -1,5 +1,6 @@
 -- Laws of lists of changes of rooms, for one step of a loop over them.
-use Rattle.wi_tiles.proofs.Words.{◌≡◌, ◌==◌, ◌<◌, ◌≤◌, ◌+◌, ◌^◌, ◌++◌, ◌⊎◌, ℕ, Bool, true, false, cond, List, [], ◌∷◌, length, get_or, set, take, drop, Option, Some, None, refl, sym, ap, subst, ◌∙◌, arith, ⊎_elim, All, All-set, from_bool, keys_of, length-map, keeps_few, taken, cases_eq, eqb-true, or_cases, append_assoc, drop-set-lt, take-set, take_more, take_more_set, drop_more, get_or_default, unwrap_or, is_named, is_one_of, room_of, held_at, with_one, with_all, stood, with_all_back, HasNoVacancy, VacantOnlyAt, HasRoomFor}
+use Rattle.wi_tiles.proofs.Words.{◌≡◌, ◌==◌, ◌<◌, ◌≤◌, ◌+◌, ◌^◌, ◌++◌, ◌⊎◌, ℕ, Bool, true, false, cond, List, [], ◌∷◌, length, get_or, set, take, drop, Option, Some, None, refl, sym, ap, subst, ◌∙◌, arith, ⊎_elim, All-set, from_bool, keys_of, length-map, keeps_few, taken, cases_eq, eqb-true, or_cases, append_assoc, drop-set-lt, take-set, take_more, take_more_set, drop_more, drop_all, get_or_default, unwrap_or, nat_cmp, keys_of-set, is_named, is_one_of, room_of, RoomsAreInOrder, held_at, with_one, with_all, stood, with_all_back, VacantOnlyAt, HasRoomFor, AreBetweenEdits, AreInEdit, AreReadyFor}
+use Rattle.std.specs.List.Sorted.{IsStrictlySortedBy}
 use Rattle.wi_tiles.proofs.RoomLemmas.{none_by_keys, room_by_keys}
 
 module _ {X : Type 0} where
@@ -86,41 +87,27 @@ counts_fit {X} is_taken all rooms n x b same small e f =
     at_most false = omega arith
 
 module _ {X : Type 0} (vacant : X) where
-  -- ---- rooms that are vacant
+  -- ---- rooms made
 
-  pub vacant_none : (cells : List ℕ) (rooms : List (ℕ × X)) → HasNoVacancy vacant rooms → VacantOnlyAt vacant cells rooms
-  vacant_none cells rooms h = λ q v. absurd (h q v)
+  -- before the first
+  pub edit_begun : (cells : List ℕ) (rooms : List (ℕ × X)) → AreBetweenEdits vacant rooms → AreInEdit vacant cells rooms
+  edit_begun cells rooms h = record { order = h.order; only = λ q v. absurd (h.full q v) }
 
-  -- after a room was made for the i-th change, x
-  pub vacant_more_made : (cs : List (ℕ × X)) (i : ℕ) (x : ℕ × X) (old new : List (ℕ × X)) → i < length cs → x ≡ get_or cs i x
+  -- after that for the i-th change, x
+  pub edit_more_made : (cs : List (ℕ × X)) (i : ℕ) (x : ℕ × X) (old new : List (ℕ × X)) → i < length cs → x ≡ get_or cs i x
+      → (RoomsAreInOrder old → RoomsAreInOrder new)
       → ((q : ℕ) → room_of new q ≡ Some vacant → (q ≡ x.0) ⊎ (room_of old q ≡ Some vacant))
-      → VacantOnlyAt vacant (keys_of cs) old → VacantOnlyAt vacant (keys_of cs) new
-  vacant_more_made cs i x old new l is made h =
-      λ q v. ⊎_elim (λ p. is_named q cs i x l (p ∙ ap (λ (e : ℕ × X). e.0) is)) (λ w. h q w) (made q v)
-
-  -- after the i-th change was exchanged
-  pub vacant_more : (cs : List (ℕ × X)) (i : ℕ) (d : ℕ × X) (old new : List (ℕ × X)) → i < length cs
-      → ((q : ℕ) → (q ≡ (get_or cs i d).0 → ⊥) → room_of new q ≡ room_of old q)
-      → VacantOnlyAt vacant (keys_of cs) old → VacantOnlyAt vacant (keys_of cs) new
-  vacant_more cs i d old new l others h =
-      λ q v. ⊎_elim (λ p. is_named q cs i d l p) (λ apart. h q (sym (others q apart) ∙ v)) (cases_eq q (get_or cs i d).0)
-
-  -- after the room of the i-th change was released
-  pub vacant_less : (cs : List (ℕ × X)) (i : ℕ) (d : ℕ × X) (old new : List (ℕ × X)) → i < length cs
-      → (room_of new (get_or cs i d).0 ≡ Some vacant → ⊥)
-      → ((q : ℕ) → room_of new q ≡ Some vacant → room_of old q ≡ Some vacant)
-      → VacantOnlyAt vacant (keys_of (drop i cs)) old → VacantOnlyAt vacant (keys_of (drop (i + 1) cs)) new
-  vacant_less cs i d old new l released kept h =
-      λ q v. ⊎_elim (λ t. absurd (released (ap (λ (a : ℕ). room_of new a) (eqb-true _ q t) ∙ v))) (λ t. t)
-      (or_cases ((get_or cs i d).0 == q) _ (ap (λ (xs : List (ℕ × X)). is_one_of (keys_of xs) q) (sym (drop_more cs i d l)) ∙ h q (kept q v)))
-
-  -- ---- rooms for changes
+      → AreInEdit vacant (keys_of cs) old → AreInEdit vacant (keys_of cs) new
+  edit_more_made cs i x old new l is order made h = record {
+    order = order h.order;
+    only = λ q v. ⊎_elim (λ p. is_named q cs i x l (p ∙ ap (λ (e : ℕ × X). e.0) is)) (λ w. h.only q w) (made q v);
+  }
 
   -- so many of the changes have one
   abbrev pub HaveRooms : ℕ → List (ℕ × X) → List (ℕ × X) → Type 0
   HaveRooms n rooms cs = (k : ℕ) (d : ℕ × X) → k < n → HasRoomFor vacant rooms (get_or cs k d)
 
-  -- after a room was made for the i-th change, x
+  -- after that for the i-th change, x
   pub room_more_made : (cs : List (ℕ × X)) (i : ℕ) (x : ℕ × X) (old new : List (ℕ × X)) → i < length cs → x ≡ get_or cs i x
       → ((q : ℕ) → room_of new q ≡ None → room_of old q ≡ None)
       → HasRoomFor vacant new (x.0, x.1)
@@ -129,9 +116,40 @@ module _ {X : Type 0} (vacant : X) where
       λ k d l. ⊎_elim (λ p. subst (λ (j : ℕ). HasRoomFor vacant new (get_or cs j d)) (sym p) (subst (λ (y : ℕ × X). HasRoomFor vacant new y) (is ∙ get_or_default cs i x d m) here))
       (λ apart n. h k d (omega arith) (kept (get_or cs k d).0 n)) (cases_eq k i)
 
-  -- after the i-th change was exchanged
-  pub room_more : (cs : List (ℕ × X)) (i a : ℕ) (v : X) (old new : List (ℕ × X)) → keys_of new ≡ keys_of old
-      → v ≡ held_at vacant old a
-      → All (HasRoomFor vacant old) cs → All (HasRoomFor vacant new) (set cs i (a, v))
-  room_more cs i a v old new same e h =
-      All-set (HasRoomFor vacant new) cs i (a, v) (λ n. e ∙ ap (λ (o : Option X). unwrap_or o vacant) (none_by_keys old new same a n)) (λ k d l. room_by_keys vacant (get_or cs k d) old new same (h k d l))
+  -- ---- after the i-th change was exchanged
+
+  pub ready_more : (cs : List (ℕ × X)) (i : ℕ) (d : ℕ × X) (v : X) (old new : List (ℕ × X)) → i < length cs → keys_of new ≡ keys_of old
+      → v ≡ held_at vacant old (get_or cs i d).0
+      → ((q : ℕ) → (q ≡ (get_or cs i d).0 → ⊥) → room_of new q ≡ room_of old q)
+      → AreReadyFor vacant cs old → AreReadyFor vacant (set cs i ((get_or cs i d).0, v)) new
+  ready_more cs i d v old new l same stood others h = record {
+    edit = record {
+      order = subst (λ (cells : List ℕ). IsStrictlySortedBy nat_cmp cells) (sym same) h.edit.order;
+      only = subst (λ (cells : List ℕ). VacantOnlyAt vacant cells new) (sym (keys_of-set cs i d v))
+          (λ q w. ⊎_elim (λ p. is_named q cs i d l p) (λ apart. h.edit.only q (sym (others q apart) ∙ w)) (cases_eq q (get_or cs i d).0));
+    };
+    room = All-set (HasRoomFor vacant new) cs i ((get_or cs i d).0, v)
+        (λ n. stood ∙ ap (λ (o : Option X). unwrap_or o vacant) (none_by_keys old new same (get_or cs i d).0 n))
+        (λ k e m. room_by_keys vacant (get_or cs k e) old new same (h.room k e m));
+  }
+
+  -- ---- vacant rooms taken away
+
+  -- after that of the i-th change, x
+  pub edit_less : (cs : List (ℕ × X)) (i : ℕ) (x : ℕ × X) (old new : List (ℕ × X)) → i < length cs → x ≡ get_or cs i x
+      → RoomsAreInOrder new → (room_of new x.0 ≡ Some vacant → ⊥)
+      → ((q : ℕ) → room_of new q ≡ Some vacant → room_of old q ≡ Some vacant)
+      → AreInEdit vacant (keys_of (drop i cs)) old → AreInEdit vacant (keys_of (drop (i + 1) cs)) new
+  edit_less cs i x old new l is order released kept h = record {
+    order = order;
+    only = λ q v. ⊎_elim (λ t. absurd (released (ap (λ (a : ℕ). room_of new a) (eqb-true _ q t) ∙ v))) (λ t. t)
+        (or_cases (x.0 == q) _ (ap (λ (y : ℕ × X). is_one_of (keys_of (y ∷ drop (i + 1) cs)) q) is
+        ∙ ap (λ (xs : List (ℕ × X)). is_one_of (keys_of xs) q) (sym (drop_more cs i x l)) ∙ h.only q (kept q v)));
+  }
+
+  -- after the last
+  pub edit_done : (cs : List (ℕ × X)) (i : ℕ) (rooms : List (ℕ × X)) → length cs ≤ i → AreInEdit vacant (keys_of (drop i cs)) rooms → AreBetweenEdits vacant rooms
+  edit_done cs i rooms l h = record {
+    order = h.order;
+    full = λ q v. let none : false ≡ true = ap (λ (xs : List (ℕ × X)). is_one_of (keys_of xs) q) (sym (drop_all i cs l)) ∙ h.only q v in cc;
+  }

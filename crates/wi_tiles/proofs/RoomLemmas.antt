@@ -1,5 +1,5 @@
 -- Laws of rooms, whatever stands in them.
-use Rattle.wi_tiles.proofs.Words.{◌≡◌, ◌==◌, ◌<◌, ◌≤◌, ◌+◌, ◌⊎◌, ◌↔◌, ℕ, Bool, true, false, cond, not, IsTrue, List, [], ◌∷◌, filter, length, Option, Some, None, refl, sym, ap, subst, arith, ◌∙◌, ⊎_elim, inl, inr, unwrap_or, is_some, from_bool, nat_cmp, keys_of, set_value, remove_entry, is_at, cases_eq, cases_order, eqb-true, list_any, is_some-lookup, keeps_few, Ascends, Ascends-from_order, ComeAfter, ComeAfter-filter, Ascends-filter, come_after_earlier, at_itself, at_same, at_other, is_at-eq, turn_test, lookup_after, room_of, RoomsAreInOrder, taken, with_one, held_at, HoldsTheSame, HasNoVacancy, HasRoomFor}
+use Rattle.wi_tiles.proofs.Words.{◌≡◌, ◌==◌, ◌<◌, ◌≤◌, ◌+◌, ◌⊎◌, ◌↔◌, ℕ, Bool, true, false, cond, not, IsTrue, List, [], ◌∷◌, filter, length, Option, Some, None, refl, sym, ap, subst, arith, ◌∙◌, ⊎_elim, inl, inr, unwrap_or, is_some, from_bool, nat_cmp, keys_of, set_value, remove_entry, is_at, cases_eq, cases_order, eqb-true, list_any, is_some-lookup, keeps_few, Ascends, Ascends-from_order, ComeAfter, ComeAfter-filter, Ascends-filter, come_after_earlier, at_itself, at_same, at_other, is_at-eq, turn_test, lookup_after, room_of, RoomsAreInOrder, taken, with_one, held_at, HoldsTheSame, HasNoVacancy, HasRoomFor, AreBetweenEdits}
 use Rattle.wi_tiles.proofs.MapSteps.{with_new, found-with_new, found-replaced, replaced_nowhere, found-removed}
 
 module _ {X : Type 0} where
@@ -300,7 +300,7 @@ module _ {X : Type 0} (vacant : X) (is_taken : X → Bool) (tells : (x : X) → 
       ∙ sym (room_of-filter is_taken old a q ∙ passing_held (room_of old q)))
 
   -- so many have something after rooms were made as there were rooms
-  pub made_taken : (old new : List (ℕ × X)) → RoomsAreInOrder old → RoomsAreInOrder new → HasNoVacancy vacant old → HoldsTheSame vacant old new → length (taken is_taken new) ≡ length old
-  made_taken old new a b n h =
-      let up = Ascends-from_order old a in
-      ap length (same_taken old new up (Ascends-from_order new b) h) ∙ all_taken old up n
+  pub made_taken : (old new : List (ℕ × X)) → AreBetweenEdits vacant old → RoomsAreInOrder new → HoldsTheSame vacant old new → length (taken is_taken new) ≡ length old
+  made_taken old new a b h =
+      let up = Ascends-from_order old a.order in
+      ap length (same_taken old new up (Ascends-from_order new b) h) ∙ all_taken old up a.full

@@ -2,7 +2,6 @@
 use Rattle.wi_tiles.proofs.Words.{◌≡◌, ℕ, ◌+◌, ◌-◌, ◌*◌, ◌/◌, ◌%◌, ◌<◌, ◌≤◌, List, [], ◌∷◌, ◌++◌, length, Option, Some, None, sym, ap, arith, ◌∙◌, ⊎_elim, zero, suc, refl, cond, slice_get, slice_set, slice_index_or, ◌==◌, if◌then◌else◌, cases_lt, slice_get_read, le-ltb, ◌≢◌, at_part, part_from, at_window, span, slice_get_past, got_in_front}
 use borrow.Author.Tests.{lt-ltb}
 use Rattle.wi_tiles.proofs.Digits.{IsDigit, digit_changed, digit_kept}
-use Rattle.wi_tiles.proofs.Outcomes.{some_none}
 
 digit : IsDigit 256
 digit p q r s = omega (arith, r, s)
@@ -16,23 +15,6 @@ part_before f ts i l = ap (λ b. cond b None (slice_get ts (i - f))) (lt-ltb i f
 
 pub part_read : {S : Type 0} (f : ℕ) (ts : List S) (i place : ℕ) (before : S) → f ≤ i → place ≡ i - f → place < length ts → before ≡ slice_index_or ts place before → part_from (f, ts) i ≡ Some before
 part_read f ts i place before l is h read = part_here f ts i l ∙ ap (λ j. slice_get ts j) (sym is) ∙ slice_get_read ts (length ts) place before (λ _. length ts) h read
-
-pub part_past : {S : Type 0} (f : ℕ) (ts : List S) (i : ℕ) → f ≤ i → length ts ≤ i - f → part_from (f, ts) i ≡ None
-part_past f ts i l h = part_here f ts i l ∙ slice_get_past ts (i - f) h
-
-get_none : {S : Type 0} (ts : List S) (i : ℕ) → slice_get ts i ≡ None → length ts ≤ i
-get_none [] i e = omega arith
-get_none (t ∷ ts) zero e = absurd (some_none t e)
-get_none (t ∷ ts) (suc i) e = let h : length ts ≤ i = get_none ts i e in omega (arith, h)
-
--- the indices before the first part, and behind the last
-pub gap_before : {S : Type 0} (w : ℕ × List S) (i : ℕ) → i < w.0 → part_from w i ≡ None
-gap_before w i l = part_before w.0 w.1 i l
-
-pub gap_behind : {S : Type 0} (w : ℕ × List S) (index i : ℕ) → w.0 ≤ index → part_from w index ≡ None → index ≤ i → part_from w i ≡ None
-gap_behind w index i f none l =
-    let past : length w.1 ≤ index - w.0 = get_none w.1 (index - w.0) (sym (part_here w.0 w.1 index f) ∙ none) in
-    part_past w.0 w.1 i (omega (arith, f, l)) (omega (arith, past, f, l))
 
 pub get_set : {S : Type 0} (ts : List S) (i : ℕ) (w : S) → i < length ts → slice_get (slice_set ts i w) i ≡ Some w
 get_set [] i w l = absurd (omega arith)
@@ -68,19 +50,6 @@ window_kept at f ts place before w h read kept =
     (λ p. ap (λ x. at_part at x p) (set_here f ts (f + place) place w l is h) ∙ kept p ∙ ap (λ x. at_part at x p) (sym (part_read f ts (f + place) place before l is h read)))
     (λ j ne. set_other f ts (f + place) place j w l is ne)
 
--- a part with nothing behind the last
-more_at : {S V : Type 0} (at : S → ℕ → Option V) (ts : List S) (s : S) (i q : ℕ) → ((p : ℕ) → at s p ≡ None) → at_part at (slice_get (ts ++ s ∷ []) i) q ≡ at_part at (slice_get ts i) q
-more_at at [] s zero q nothing = nothing q
-more_at at [] s (suc i) q nothing = refl
-more_at at (t ∷ ts) s zero q nothing = refl
-more_at at (t ∷ ts) s (suc i) q nothing = more_at at ts s i q nothing
-
-pub window_up : {S V : Type 0} (at : S → ℕ → Option V) (f : ℕ) (ts : List S) (s : S) → ((p : ℕ) → at s p ≡ None) → (p : ℕ) → at_window at (f, ts ++ s ∷ []) p ≡ at_window at (f, ts) p
-window_up at f ts s nothing p = ⊎_elim
-    (λ l. ap (λ x. at_part at x (p / span)) (part_before f (ts ++ s ∷ []) (p % span) l ∙ sym (part_before f ts (p % span) l)))
-    (λ l. ap (λ x. at_part at x (p / span)) (part_here f (ts ++ s ∷ []) (p % span) l) ∙ more_at at ts s (p % span - f) (p / span) nothing ∙ sym (ap (λ x. at_part at x (p / span)) (part_here f ts (p % span) l)))
-    (cases_lt (p % span) f)
-
 -- and those before the first
 get_behind : {S : Type 0} (vs ts : List S) (i j : ℕ) → i ≡ length vs + j → slice_get (vs ++ ts) i ≡ slice_get ts j
 get_behind [] ts i j is = ap (λ k. slice_get ts k) (let z : i ≡ j = omega (arith, is) in z)
@@ -106,13 +75,6 @@ none_from {S} f i = ⊎_elim (λ l. part_before {S = S} f [] i l) (λ l. part_he
 pub window_none : {S V : Type 0} (at : S → ℕ → Option V) (f : ℕ) (ts : List S) → length ts ≡ 0 → (p : ℕ) → at_window at (f, ts) p ≡ None
 window_none at f [] h p = ap (λ x. at_part at x (p / span)) (none_from f (p % span))
 window_none at f (t ∷ ts) h p = absurd (omega arith)
-
--- the last of some parts
-pub last_read : {S : Type 0} (xs : List S) (x d : S) (n : ℕ) → n ≡ length xs → slice_index_or (xs ++ x ∷ []) n d ≡ x
-last_read [] x d zero h = refl
-last_read [] x d (suc n) h = absurd (omega arith)
-last_read (y ∷ xs) x d zero h = absurd (omega arith)
-last_read (y ∷ xs) x d (suc n) h = last_read xs x d n (omega arith)
 
 -- what stands at a place
 pub part_is : {S V : Type 0} (at : S → ℕ → Option V) (ts : List S) (n : ℕ) (x : S) (p : ℕ) → n < length ts → x ≡ slice_index_or ts n x → at_part at (slice_get ts n) p ≡ at x p

@@ -3,7 +3,7 @@ pub use Rattle.std.proofs.Common.{Err, List, None, Ok, Option, Result, Some, [],
 pub use Rattle.std.proofs.lemmas.Bool.{and_from, and_parts, cases_eq, cases_lt, cases_order, false_from_ne_true, le-leb, leb-true, lt-ltb, or_cases, or_left, or_right, true≢false}
 pub use Rattle.std.proofs.lemmas.Cmp.{eq_by_cmp_equiv, nat_cmp_total}
 pub use Rattle.std.proofs.lemmas.Grind.{common_steps}
-pub use Rattle.std.proofs.lemmas.List.{append_assoc, drop-set-lt, drop_more, get_or-set_other, get_or-set_same, get_or_default, get_or_past, length-append, length-drop, length-map, length-set, take-set, take_more, take_more_set}
+pub use Rattle.std.proofs.lemmas.List.{append_assoc, drop-set-lt, drop_all, drop_more, get_or-set_other, get_or-set_same, get_or_default, get_or_past, length-append, length-drop, length-map, length-set, take-set, take_more, take_more_set}
 pub use Rattle.std.proofs.lemmas.List.Edits.{length-insert, length-remove}
 pub use Rattle.std.proofs.lemmas.List.Elements.{All-append, All-cons, All-drop, All-head, All-nil, All-set, All-tail, All-take}
 pub use Rattle.std.proofs.lemmas.List.FromFn.{fill_by_all, get_or-map-range_with_len, length-map-range_with_len}
@@ -38,10 +38,11 @@ unfoldable pub use Rattle.wi_tiles.specs.Inner.Tile.{slots}
 pub use Rattle.wi_tiles.specs.Inner.Turns.{LeadsOn}
 pub use Rattle.wi_tiles.specs.Inner.Within.{AreBeside, AreOfBand, AreTiles, CountsFirst, GoesOn, HasBits, IsFirstLeft, IsInside, IsNextTile, IsPlace, IsRest, IsTurn, IsWalk, IsWhole, bit_of, cell_in, in_band_tile, in_tile, is_left, is_pending, line_of, lines_from, lines_of, lines_to, tile_at}
 unfoldable pub use Rattle.wi_tiles.specs.Inner.Within.{filled}
-pub use Rattle.wi_tiles.specs.Rooms.{HasNoVacancy, HasRoomFor, HoldsTheSame, RoomsAreInOrder, VacantOnlyAt, held_at, room_of, stood, taken, with_all, with_all_back, with_one}
+pub use Rattle.wi_tiles.specs.Rooms.{AreBetweenEdits, AreInEdit, AreReadyFor, HasNoVacancy, HasRoomFor, HoldsTheSame, RoomsAreInOrder, VacantOnlyAt, held_at, room_of, stood, taken, with_all, with_all_back, with_one}
 pub use Rattle.wi_values.proofs.Keys.{is_named, keys_of-set}
 pub use Rattle.wi_values.proofs.Lists.{got_in_front, keeps_few}
 pub use Rattle.wi_values.proofs.Lookups.{found-insert, found-without}
+pub use Rattle.wi_values.proofs.Outcomes.{on_err}
 pub use Rattle.wi_values.proofs.Order.{Ascends, Ascends-filter, Ascends-from_order, Ascends-insert, ComeAfter, ComeAfter-filter, at_itself, at_other, at_same, cmp_after, cmp_before, cmp_equal, come_after_earlier, is_at-eq, lookup_after, order-from_Ascends, turn_test}
 pub use Rattle.wi_values.proofs.Small.{one_at_most}
 pub use Rattle.wi_values.proofs.Within.{within_from, within_parts}

@@ -1,5 +1,5 @@
 -- Rooms: cells of a map, each with something or vacant. A room is vacant only while an edit goes on.
-use Rattle.std.specs.Prelude.{◌≡◌, ◌==◌, ◌↔◌, ℕ, Bool, true, false, List, [], ◌∷◌, filter, Option, Some, None, unwrap_or, if◌then◌else◌, refl}
+use Rattle.std.specs.Prelude.{◌≡◌, ◌==◌, ◌↔◌, ℕ, Bool, true, false, List, [], ◌∷◌, All, filter, Option, Some, None, is_some, unwrap_or, if◌then◌else◌, refl}
 use Rattle.std.specs.Ordering.{nat_cmp}
 use Rattle.std.specs.Map.{lookup, keys_of}
 use Rattle.std.specs.BTreeMap.{is_at}
@@ -63,7 +63,31 @@ module _ {X : Type 0} (vacant : X) where
   abbrev pub HasRoomFor : List (ℕ × X) → ℕ × X → Type 0
   HasRoomFor rooms change = room_of rooms change.0 ≡ None → change.1 ≡ vacant
 
--- ---- values, of which Empty is vacant
+  -- ---- rooms between two edits, and in the course of one
+
+  -- No edit goes on: the rooms stand in order, and none is vacant.
+  pub record AreBetweenEdits (rooms : List (ℕ × X)) : Type 0 where
+    pub order : RoomsAreInOrder rooms
+    pub full : HasNoVacancy rooms
+
+  -- An edit of the cells goes on: the rooms stand in order, and no other than those of the cells is vacant.
+  pub record AreInEdit (cells : List ℕ) (rooms : List (ℕ × X)) : Type 0 where
+    pub order : RoomsAreInOrder rooms
+    pub only : VacantOnlyAt cells rooms
+
+  -- An edit of the changes' cells goes on, and each of them that gets something has a room. So what the rooms have can be exchanged
+  -- with what the changes bring.
+  pub record AreReadyFor (changes rooms : List (ℕ × X)) : Type 0 where
+    pub edit : AreInEdit (keys_of changes) rooms
+    pub room : All (HasRoomFor rooms) changes
+
+-- ---- of options None is vacant
+
+pub tells_none : {X : Type 0} (o : Option X) → (is_some o ≡ false) ↔ (o ≡ None)
+tells_none None = (λ e. refl, λ e. refl)
+tells_none (Some x) = (λ e. cc, λ e. cc)
+
+-- ---- and of values Empty
 
 abbrev pub has_value : Value → Bool
 has_value Empty = false

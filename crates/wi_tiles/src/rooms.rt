@@ -2,10 +2,10 @@
 //! and has none. Then it exchanges what is in the rooms, which takes no memory and can be taken back. At the end the vacant
 //! rooms go.
 
-ghost use Rattle.std.specs.Prelude.{◌≡◌, ◌≢◌, ◌+◌, ◌⊎◌, ℕ, All, Some, None, length, IsTrue, OnOk, ◌↔◌};
+ghost use Rattle.std.specs.Prelude.{◌≡◌, ◌≢◌, ◌+◌, ◌⊎◌, ℕ, Some, None, length, IsTrue, OnOk, OnErr, ◌↔◌};
 ghost use Rattle.std.specs.Int.{from_bool};
 ghost use Rattle.std.specs.Map.{keys_of};
-ghost use Rattle.wi_tiles.specs.Rooms.{room_of, RoomsAreInOrder, taken, held_at, HoldsTheSame, HasNoVacancy, VacantOnlyAt, HasRoomFor, with_one, with_all, stood, with_all_back};
+ghost use Rattle.wi_tiles.specs.Rooms.{room_of, RoomsAreInOrder, taken, held_at, HoldsTheSame, HasRoomFor, AreBetweenEdits, AreInEdit, AreReadyFor, with_one, with_all, stood, with_all_back};
 
 use crate::cell_map::CellMap;
 use crate::vacant::MayBeVacant;
@@ -14,7 +14,7 @@ use std::mem;
 use wi_values::Address;
 
 /// Makes a vacant room in a cell that gets something and has none. One search; none for a cell that gets nothing.
-fn make_room<V: MayBeVacant + Drop>(
+pub fn make_room<V: MayBeVacant + Drop>(
     rooms: &mut CellMap<V>,
     at: Address,
     new: &V,
@@ -39,13 +39,11 @@ pub fn make_rooms<V: MayBeVacant + Drop>(
     rooms: &mut CellMap<V>,
     changes: &[(Address, V)],
 ) -> Result<(), AllocError>
-    requires order { RoomsAreInOrder rooms.old.entries }
-    requires full { HasNoVacancy V.vacant rooms.old.entries }
+    requires { AreBetweenEdits V.vacant rooms.old.entries }
     ensures same { HoldsTheSame V.vacant rooms.old.entries rooms.new.entries }
     ensures occupied { length (taken V.is_taken rooms.new.entries) ≡ length rooms.old.entries }
-    ensures order { RoomsAreInOrder rooms.new.entries }
-    ensures vacant { VacantOnlyAt V.vacant (keys_of changes.now) rooms.new.entries }
-    ensures room { OnOk result (All (HasRoomFor V.vacant rooms.new.entries) changes.now) }
+    ensures ready { OnOk result (AreReadyFor V.vacant changes.now rooms.new.entries) }
+    ensures edit { OnErr result (AreInEdit V.vacant (keys_of changes.now) rooms.new.entries) }
 {
     for (at, new) in changes {
         make_room(rooms, *at, new)?;
@@ -81,17 +79,13 @@ pub fn exchange_all<V: MayBeVacant + Drop>(
     changes: &mut [(Address, V)],
     mut occupied: u64,
 ) -> u64
-    requires order { RoomsAreInOrder rooms.old.entries }
-    requires room { All (HasRoomFor V.vacant rooms.old.entries) changes.old }
+    requires ready { AreReadyFor V.vacant changes.old rooms.old.entries }
     requires occupied { occupied ≡ length (taken V.is_taken rooms.old.entries) }
-    requires only { VacantOnlyAt V.vacant (keys_of changes.old) rooms.old.entries }
     ensures after { (c : ℕ) → held_at V.vacant rooms.new.entries c
         ≡ with_all (held_at V.vacant rooms.old.entries) changes.old c }
     ensures stood { changes.new ≡ stood (held_at V.vacant rooms.old.entries) changes.old }
     ensures occupied { result ≡ length (taken V.is_taken rooms.new.entries) }
-    ensures order { RoomsAreInOrder rooms.new.entries }
-    ensures room { All (HasRoomFor V.vacant rooms.new.entries) changes.new }
-    ensures vacant { VacantOnlyAt V.vacant (keys_of changes.new) rooms.new.entries }
+    ensures ready { AreReadyFor V.vacant changes.new rooms.new.entries }
 {
     let _ = rooms.len();
     for change in changes.iter_mut() {
@@ -104,13 +98,10 @@ pub fn exchange_all<V: MayBeVacant + Drop>(
 
 /// Exchanges the same, the last first: what `exchange_all` did is taken back. Takes no memory. One search for each change.
 pub fn exchange_back<V: MayBeVacant + Drop>(rooms: &mut CellMap<V>, changes: &mut [(Address, V)])
-    requires order { RoomsAreInOrder rooms.old.entries }
-    requires room { All (HasRoomFor V.vacant rooms.old.entries) changes.old }
-    requires only { VacantOnlyAt V.vacant (keys_of changes.old) rooms.old.entries }
+    requires { AreReadyFor V.vacant changes.old rooms.old.entries }
     ensures after { (c : ℕ) → held_at V.vacant rooms.new.entries c
         ≡ with_all_back (held_at V.vacant rooms.old.entries) changes.old c }
-    ensures order { RoomsAreInOrder rooms.new.entries }
-    ensures vacant { VacantOnlyAt V.vacant (keys_of changes.new) rooms.new.entries }
+    ensures ready { AreReadyFor V.vacant changes.new rooms.new.entries }
 {
     for i in (0..changes.len()).rev() {
         let change = &mut changes[i];
@@ -129,7 +120,7 @@ fn has_vacant<V: MayBeVacant + Drop>(rooms: &CellMap<V>, at: Address) -> bool
 }
 
 /// Takes away the room of a cell if it is vacant. One search, and one more for a room that goes.
-fn release_one<V: MayBeVacant + Drop>(rooms: &mut CellMap<V>, at: Address)
+pub fn release_one<V: MayBeVacant + Drop>(rooms: &mut CellMap<V>, at: Address)
     requires { RoomsAreInOrder rooms.old.entries }
     ensures same { HoldsTheSame V.vacant rooms.old.entries rooms.new.entries }
     ensures order { RoomsAreInOrder rooms.new.entries }
@@ -144,11 +135,9 @@ fn release_one<V: MayBeVacant + Drop>(rooms: &mut CellMap<V>, at: Address)
 
 /// Takes away the vacant rooms. One search for each change, and one more for each room that goes.
 fn release_each<V: MayBeVacant + Drop>(rooms: &mut CellMap<V>, changes: &[(Address, V)])
-    requires order { RoomsAreInOrder rooms.old.entries }
-    requires vacant { VacantOnlyAt V.vacant (keys_of changes.now) rooms.old.entries }
+    requires { AreInEdit V.vacant (keys_of changes.now) rooms.old.entries }
     ensures same { HoldsTheSame V.vacant rooms.old.entries rooms.new.entries }
-    ensures order { RoomsAreInOrder rooms.new.entries }
-    ensures full { HasNoVacancy V.vacant rooms.new.entries }
+    ensures between { AreBetweenEdits V.vacant rooms.new.entries }
 {
     for (at, _) in changes {
         release_one(rooms, *at);
@@ -162,12 +151,10 @@ pub fn release<V: MayBeVacant + Drop>(
     changes: &[(Address, V)],
     occupied: u64,
 )
-    requires order { RoomsAreInOrder rooms.old.entries }
-    requires vacant { VacantOnlyAt V.vacant (keys_of changes.now) rooms.old.entries }
+    requires edit { AreInEdit V.vacant (keys_of changes.now) rooms.old.entries }
     requires occupied { occupied ≡ length (taken V.is_taken rooms.old.entries) }
     ensures same { HoldsTheSame V.vacant rooms.old.entries rooms.new.entries }
-    ensures order { RoomsAreInOrder rooms.new.entries }
-    ensures full { HasNoVacancy V.vacant rooms.new.entries }
+    ensures between { AreBetweenEdits V.vacant rooms.new.entries }
 {
     if occupied < rooms.len() as u64 {
         release_each(rooms, changes);

@@ -43,3 +43,24 @@ impl MayBeVacant for Value {
 
     ghost tells = { tells_empty };
 }
+
+/// None is nothing.
+impl<T> MayBeVacant for Option<T> {
+    ghost use Rattle.std.specs.Prelude.{None};
+    ghost use Rattle.std.specs.Option.{is_some};
+    ghost use Rattle.wi_tiles.specs.Rooms.{tells_none};
+
+    ghost vacant = { None };
+
+    ghost is_taken = { is_some };
+
+    fn vacant() -> Option<T> {
+        None
+    }
+
+    fn is_taken(&self) -> bool {
+        self.is_some()
+    }
+
+    ghost tells = { tells_none };
+}

@@ -14,7 +14,7 @@ pub enum Ending<S> {
     Stopped(S),
 }
 
-/// What stops a function: a value that isn't known, or want of memory.
+/// What stops a function: a value that isn't known, or that memory ran out.
 #[derive(Drop)]
 pub enum Stop<W> {
     Missing(W),

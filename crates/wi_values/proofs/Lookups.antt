@@ -7,7 +7,7 @@ apart q c k h a b = grind (arith, nat_tests)
 
 module _ {X : Type 0} where
   -- two tests that say the same, and two that don't both hold
-  pub cond_again : (b d : Bool) (x y z : Option X) → d ≡ b → cond d x z ≡ cond b x (cond d y z)
+  cond_again : (b d : Bool) (x y z : Option X) → d ≡ b → cond d x z ≡ cond b x (cond d y z)
   cond_again true true x y z h = refl
   cond_again false false x y z h = refl
   cond_again true false x y z h = cc

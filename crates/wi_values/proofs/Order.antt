@@ -1,5 +1,5 @@
 -- Numbers in order: their comparison, the test for a key, and entries whose keys ascend.
-use Rattle.wi_values.proofs.Words.{◌≡◌, ◌==◌, ◌<◌, ℕ, Bool, true, false, cond, List, [], ◌∷◌, filter, None, refl, arith, nat_tests, sorted_head, sorted_tail, AllByRecursion, nat_cmp, match_ordering, Ordering, Less, Equal, Greater, lookup, keys_of, remove_entry, is_at, insert_entry}
+use Rattle.wi_values.proofs.Words.{◌≡◌, ◌==◌, ◌<◌, ℕ, Bool, true, false, cond, List, [], ◌∷◌, filter, None, refl, arith, nat_tests, sorted_head, sorted_tail, AllByRecursion, nat_cmp, match_ordering, Ordering, Less, Equal, Greater, lookup, keys_of, is_at, insert_entry}
 use Rattle.std.specs.List.Sorted.{IsStrictlySortedBy}
 
 -- ---- how two numbers compare
@@ -107,22 +107,6 @@ module _ {X : Type 0} where
       at : (b : Bool) → Ascends (filter p es) → Ascends (cond b (e ∷ filter p es) (filter p es))
       at true ih = (ComeAfter-filter p e.0 es h.0, ih)
       at false ih = ih
-
-  pub ComeAfter-remove : (a k : ℕ) (es : List (ℕ × X)) → ComeAfter a es → ComeAfter a (remove_entry (is_at (nat_cmp k)) es)
-  ComeAfter-remove a k [] h = tt
-  ComeAfter-remove a k (e ∷ es) h = at (is_at (nat_cmp k) e.0) (ComeAfter-remove a k es h.1)
-    where
-      at : (b : Bool) → ComeAfter a (remove_entry (is_at (nat_cmp k)) es) → ComeAfter a (cond b es (e ∷ remove_entry (is_at (nat_cmp k)) es))
-      at true ih = h.1
-      at false ih = (h.0, ih)
-
-  pub Ascends-remove : (k : ℕ) (es : List (ℕ × X)) → Ascends es → Ascends (remove_entry (is_at (nat_cmp k)) es)
-  Ascends-remove k [] h = tt
-  Ascends-remove k (e ∷ es) h = at (is_at (nat_cmp k) e.0) (Ascends-remove k es h.1)
-    where
-      at : (b : Bool) → Ascends (remove_entry (is_at (nat_cmp k)) es) → Ascends (cond b es (e ∷ remove_entry (is_at (nat_cmp k)) es))
-      at true ih = h.1
-      at false ih = (ComeAfter-remove e.0 k es h.0, ih)
 
   pub ComeAfter-insert : (a c : ℕ) (x : X) (es : List (ℕ × X)) → a < c → ComeAfter a es → ComeAfter a (insert_entry nat_cmp es c x)
   ComeAfter-insert a c x [] l h = (l, tt)

@@ -47,6 +47,10 @@ is_within r a =
     (nat_le (row_of r.first) (row_of a) && nat_le (row_of a) (row_of r.last))
     && (nat_le (column_of r.first) (column_of a) && nat_le (column_of a) (column_of r.last))
 
+-- the cell is within one of these
+abbrev pub is_within_one : List Area → ℕ → Bool
+is_within_one areas a = list_any (λ r. is_within r a) areas
+
 -- how many rows it has
 abbrev pub height : Area → ℕ
 height r = (row_of r.last + 1) - row_of r.first

@@ -1,6 +1,7 @@
 -- Lists of replacements, and what they are as a map from addresses to values. A replacement by Empty is an entry like others.
 use Rattle.std.specs.Prelude.{◌==◌, ℕ, Bool, List, [], ◌∷◌, map, Option, Some, None, if◌then◌else◌}
 use Rattle.std.specs.Cmp.Lexicographic.{pointwise}
+use Rattle.std.specs.List.{list_any}
 use Rattle.std.specs.Option.{option_or}
 use Rattle.std.specs.Ordering.{nat_cmp}
 use Rattle.std.specs.List.Sorted.{IsStrictlyIncreasing}
@@ -20,6 +21,10 @@ as_map rs = map (λ r. (r.at, r.value)) rs
 -- what stands in the place of an address's content, if anything does
 abbrev pub replaced : List Replacement → ℕ → Option Value
 replaced rs a = lookup (is_at (nat_cmp a)) (as_map rs)
+
+-- one of the replacements is for the address
+abbrev pub is_replaced : List Replacement → ℕ → Bool
+is_replaced rs a = list_any (λ r. r.at == a) rs
 
 -- with replacements put in, one after another
 abbrev pub overridden : List (ℕ × Value) → List Replacement → List (ℕ × Value)

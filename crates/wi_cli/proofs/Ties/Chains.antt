@@ -1,5 +1,5 @@
 -- That each scenario has a chain after every run.
-use Rattle.wi_cli.proofs.Vocabulary.{◌||◌, Bool, false, not, inl, inr, List, [], ◌∷◌, Option, Ok, Err, refl, sym, ap, subst, list_any, false_from_ne_true, not-false, or_parts, Stored, has_scenario, scenario_for, with_own, without_own, is_full, HasChains, is_name_of, is_base, lacks, would_loop, no_scenarios, is_chain, has_room, own_kept, based_kept, dropped_kept, State, state_over, is_in_use, left_by, Cell, address, Bytes, Command, Set, Clear, Fill, Csv, Scenario, Drop, Base, Use, As, Show, Export, Compare, Table, Formula, Changes, Unknown, Unreadable, Cause, NoScenario, InUse, TooMany, Loop, Holds, Does, Answer, Event, MayHappen, KeepsChains, GivesChain}
+use Rattle.wi_cli.proofs.Vocabulary.{◌||◌, Bool, false, not, inl, inr, List, [], ◌∷◌, Option, Ok, Err, refl, sym, ap, subst, list_any, false_from_ne_true, not-false, or_parts, Stored, has_scenario, scenario_for, with_own, without_own, is_full, HasChains, is_name_of, is_base, lacks, would_loop, no_scenarios, is_chain, has_room, own_kept, based_kept, dropped_kept, State, state_over, is_in_use, left_by, Cell, address, Bytes, Command, Set, Clear, Fill, Csv, Scenario, Drop, Base, Use, As, Show, Export, Compare, Table, Formula, Changes, Unknown, Unreadable, Cause, NoScenario, InUse, TooMany, Loop, Holds, Does, Answer, IsStep, Event, MayHappen, KeepsChains, GivesChain}
 use Rattle.wi_scenario_list.specs.Scenarios as list
 use Rattle.wi_scenarios.specs.declared.refusal.Refusal.TheVariants as refusal
 use Rattle.wi_cli.proofs.Ties.ScenarioSteps.{drop_yes, base_yes}
@@ -54,7 +54,7 @@ module _ (s : State) where
   kept Unknown done free h k = absurd h.1
   kept Unreadable done free h k = absurd h.1
 
-  kept_by : (c : Command) (a : Answer) → MayHappen s (record { command = c; answer = a }) → AreKept (left_by s a).scenarios
+  kept_by : (c : Command) (a : Answer) → MayHappen IsStep s (record { command = c; answer = a }) → AreKept (left_by s a).scenarios
   kept_by c (Err e) h k = k
   kept_by c (Ok done) (inl h) k = kept c done h.0 h.1 k
   kept_by c (Ok done) (inr h) k = absurd (unlike done refusal.Memory h)
@@ -62,7 +62,7 @@ module _ (s : State) where
 pub new_has_chains : (stored : Stored) → HasChains (state_over stored).scenarios
 new_has_chains stored = no_scenarios
 
-pub keeps_chains : (s : State) (es : List Event) → KeepsChains s es
+pub keeps_chains : (s : State) (es : List (Event Command)) → KeepsChains s es
 keeps_chains s [] k run = k
 keeps_chains s (e ∷ es) k run = keeps_chains (left_by s e.answer) es (kept_by s e.command e.answer run.0 k) run.1
 

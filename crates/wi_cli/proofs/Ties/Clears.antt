@@ -45,7 +45,7 @@ module _ (s : State) (force : Bool) (r : Corners) where
     step = edit_step s clear force (area r ∷ []) puts refl (λ q h. h) refl refl (λ h. h) front only (λ d h. h)
 
   abbrev by_place : Bool → Type 0
-  by_place out = (a : Answer) → old.IsStep s (of_operand (read_by out (area r)) (λ at. old.Clear force at)) a ↔ IsStep s clear a
+  by_place out = (a : Answer) → old.IsCallStep s (of_operand (read_by out (area r)) (λ at. old.Clear force at)) a ↔ IsStep s clear a
 
   placed : (out : Bool) → (is_outside r.0 || is_outside r.1) ≡ out → by_place out
   placed true o a = outside_step s clear one_done (λ h. h) (λ h. h) (λ h. h) (clear_outside force true r o) a

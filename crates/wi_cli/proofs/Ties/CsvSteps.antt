@@ -1,5 +1,5 @@
 -- The step of `csv`.
-use Rattle.wi_cli.proofs.Vocabulary.{◌≡◌, ◌<◌, ◌-◌, ℕ, Bool, true, false, ◌==◌, nat_lt, List, [], ◌∷◌, length, ◌⊎◌, inl, inr, Option, Some, None, Ok, Err, refl, sym, ap, ap₂, ◌∙◌, subst, arith, list_any, concat, slice_index_or, Any, All, nat_tests, get_or_default, both_ways, Any-from_list_any, list_any-from_Any, ImportFault, recs, Field, IsInside, fields_from, fields_at, areas_from, record_areas_at, IsText, IsTooLong, AreChanges, IsFault, bad_field, too_long, out_of_sheet, IsImport, some_import, State, max_area, no_cause, edit_answer, csv_answer, ImportOutcome, row_of_place, column_of_place, Any-weaker, max_line, without_lf, Bytes, is_long, csv_command, Cell, is_outside, address, Command, Csv, form, Put, Puts, after_edit, fields, Cause, BadLine, BadCommand, CutShort, Outside, TooLarge, NoScenario, BadField, TooLong, OutOfSheet, NumberRange, TooDeep, Syntax, LeavesSheet, Stale, Full, EditLimit, Holds, lies_outside, is_missing, size, Does, Answer, IsStep, causes, IsFirstOf, SameStep, read_any, or-false}
+use Rattle.wi_cli.proofs.Vocabulary.{◌≡◌, ◌<◌, ◌-◌, ℕ, Bool, true, false, ◌==◌, nat_lt, List, [], ◌∷◌, length, ◌⊎◌, inl, inr, Option, Some, None, Ok, Err, refl, sym, ap, ap₂, ◌∙◌, subst, arith, list_any, concat, Any, All, nat_tests, both_ways, Any-from_list_any, list_any-from_Any, ImportFault, recs, Field, IsInside, fields_from, fields_at, areas_from, record_areas_at, IsText, IsTooLong, AreChanges, IsFault, bad_field, too_long, out_of_sheet, IsImport, some_import, State, max_area, no_cause, edit_answer, csv_answer, ImportOutcome, row_of_place, column_of_place, Any-weaker, max_line, without_lf, Bytes, is_long, csv_command, Cell, is_outside, address, Command, Csv, form, Put, Puts, after_edit, fields, Cause, BadLine, BadCommand, CutShort, Outside, TooLarge, NoScenario, BadField, TooLong, OutOfSheet, NumberRange, TooDeep, Syntax, LeavesSheet, Stale, Full, EditLimit, Holds, lies_outside, is_missing, size, Does, Answer, IsStep, causes, IsFirstOf, SameStep, read_any, or-false}
 use Rattle.wi_import.specs.declared.fault.ImportFault.TheVariants as import
 use Rattle.wi_import.proofs.ImportLemmas.{no_other}
 use Rattle.wi_scenarios.specs.declared.refusal.Refusal.TheVariants as refusal
@@ -13,9 +13,6 @@ use Rattle.wi_cli.proofs.Ties.Tables.{inside}
 -- what holds of all isn't missing of some
 all_any : {X : Type 0} (P : X → Type 0) (xs : List X) → All P xs → Any (λ x. P x → ⊥) xs → ⊥
 all_any {X} P xs h k = k.4 (subst P k.3 (h k.0 k.1 k.2))
-
-none_all : {X : Type 0} (P : X → Type 0) (xs : List X) → (Any P xs → ⊥) → All (λ x. P x → ⊥) xs
-none_all {X} P xs none k d h p = none (k, slice_index_or xs k d, h, get_or_default xs k _ d h, p)
 
 pub long_lines : (lines : List Bytes) → list_any is_long lines ≡ true → Any (λ line. max_line < length (without_lf line)) lines
 long_lines lines e = Any-weaker (λ x. is_long x ≡ true) (λ line. max_line < length (without_lf line)) lines (λ x h. above _ h) (Any-from_list_any is_long lines e)
@@ -41,7 +38,7 @@ module _ (s : State) (force : Bool) (n : ℕ) (lines : List Bytes) where
   abbrev none_there : Command
   none_there = Csv force None n lines
 
-  bare : (long : Bool) → list_any is_long lines ≡ long → (a : Answer) × old.IsStep s (csv_command force (read_any None) lines (n - length lines)) a × IsStep s none_there a
+  bare : (long : Bool) → list_any is_long lines ≡ long → (a : Answer) × old.IsCallStep s (csv_command force (read_any None) lines (n - length lines)) a × IsStep s none_there a
   bare true e = (Err refusal.BadLine, rw e refl, (BadLine, inl (long_lines lines e, refl), refl))
   bare false e = (Err refusal.BadCommand, rw e refl, (BadCommand, inr (no_long_line lines e, inl (tt, refl)), refl))
 
@@ -59,7 +56,7 @@ module _ (s : State) (force : Bool) (c : Cell) (n : ℕ) (lines : List Bytes) wh
   abbrev csv : Command
   csv = Csv force (Some c) n lines
 
-  abbrev was : old.Command
+  abbrev was : old.Call
   was = csv_command force (read_any (Some c)) lines (n - length lines)
 
   abbrev text : Bytes
@@ -78,7 +75,7 @@ module _ (s : State) (force : Bool) (c : Cell) (n : ℕ) (lines : List Bytes) wh
   none_missing false = refl
 
   abbrev Answered : Type 0
-  Answered = (a : Answer) × old.IsStep s was a × IsStep s csv a
+  Answered = (a : Answer) × old.IsCallStep s was a × IsStep s csv a
 
   long : list_any is_long lines ≡ true → (out : Bool) → is_outside c ≡ out → Answered
   long e true o = (Err refusal.BadLine, rw (o, e) refl, (BadLine, inl (long_lines lines e, refl), refl))

@@ -1,149 +1,114 @@
--- What holds of commands one after another, by the laws over the calls of a workbook.
-use Rattle.wi_cli.proofs.Vocabulary.{◌≡◌, ◌≢◌, ◌↔◌, ◌==◌, ◌-◌, ◌&&◌, ◌++◌, ◌⊎◌, inl, inr, ℕ, Bool, true, false, cond, List, [], ◌∷◌, length, map, Option, Some, None, Result, Ok, Err, refl, sym, ap, ap₂, ◌∙◌, subst, append-nil, list_any, list_all, concat, result_err, and_parts, both_ways, false≢true, append_cancel_left, none-some, Area, AddressFault, Shape, Value, Entry, value_in, Refusal, State, session_at, shown_to, change_list, left_by, IsCoherent, with_lists, unseen, IsFirstNewer, counts_before, is_refused_before, stale_exactly, refused_so, records_tell_list, of_operand, worse, line_fault, is_column, is_row, fill_command_of, unless_refused, table_of_one, table_of_two, is_long, csv_command, Bytes, Command, Set, Clear, Fill, Csv, Scenario, Drop, Base, Use, As, Show, Export, Compare, Table, Formula, Changes, Unknown, Unreadable, named, is_forced, Cause, BadLine, BadCommand, CutShort, Outside, TooLarge, NoScenario, InUse, TooMany, BadField, TooLong, OutOfSheet, NumberRange, TooDeep, Syntax, LeavesSheet, Stale, Loop, Full, EditLimit, Holds, stale_cell, Does, Answer, Tells, IsStep, causes, IsFirstOf, was, read_cell, read_area, read_any, Event, MayHappen, MayFollow, state_after, StaysCoherent, KeepsApart, is_accepted_changes, is_told, lists_told, last_shown, ListsAddUp, RecordsTellList, logged_by, edits_in, edits_since, LogGrows, StaleIsNewer, ForcedIsNotStale}
+-- What holds of commands one after another, by what each does, which is what the call of a workbook for it does.
+use Rattle.wi_cli.proofs.Vocabulary.{◌≡◌, ◌≢◌, ◌↔◌, ◌==◌, ◌-◌, ◌&&◌, ◌++◌, ◌⊎◌, inl, inr, ℕ, Bool, true, false, cond, List, [], ◌∷◌, length, Option, Some, None, Result, Ok, Err, refl, sym, ap, ◌∙◌, subst, append-nil, list_any, list_all, concat, result_err, and_parts, both_ways, false≢true, none-some, Area, AddressFault, Shape, Entry, Refusal, State, session_at, change_list, left_by, IsCoherent, with_lists, unseen, IsFirstNewer, counts_before, is_refused_before, refused_so, stale_since, records_tell_list, of_operand, worse, line_fault, is_column, is_row, fill_command_of, unless_refused, table_of_one, table_of_two, is_long, csv_command, Bytes, Command, Set, Clear, Fill, Csv, Scenario, Drop, Base, Use, As, Show, Export, Compare, Table, Formula, Changes, Unknown, Unreadable, named, is_forced, Cause, BadLine, BadCommand, CutShort, Outside, TooLarge, NoScenario, InUse, TooMany, BadField, TooLong, OutOfSheet, NumberRange, TooDeep, Syntax, LeavesSheet, Stale, Loop, Full, EditLimit, Holds, stale_cell, Does, Answer, Tells, IsStep, causes, IsFirstOf, was, read_cell, read_area, read_any, is_changes, named_by, TellsAndLogs, Event, MayHappen, MayFollow, state_after, StaysCoherent, KeepsApart, is_accepted_changes, is_told, ListsAddUp, RecordsTellList, logged, edits_since, LogGrows, StaleIsNewer, ForcedIsNotStale}
 use Rattle.wi_values.specs.declared.address.AddressFault.TheVariants.{Outside as AtOutside}
 use Rattle.wi_scenarios.specs.declared.refusal.Refusal.TheVariants as refusal
 use Rattle.wi_scenarios.specs.Step as old
-use Rattle.wi_scenarios.specs.Laws as laws
+use Rattle.wi_scenarios.specs.Laws.{is_changes_call}
+use Rattle.wi_scenarios.proofs.EventLemmas as events
 use Rattle.wi_scenarios.proofs.RunLemmas as runs
 use Rattle.wi_cli.proofs.Ties.Uniqueness.{first_holds}
 use Rattle.wi_cli.proofs.Ties.Steps.{same_step}
 
 -- ---- an event as one of the calls of a workbook
 
-abbrev as_was : Event → laws.Event
+abbrev as_was : Event Command → Event old.Call
 as_was e = record { command = was e.command; answer = e.answer }
 
-abbrev were : List Event → List laws.Event
-were es = map as_was es
-
-happens : (s : State) (e : Event) → MayHappen s e → laws.MayHappen s (as_was e)
+happens : (s : State) (e : Event Command) → MayHappen IsStep s e → MayHappen old.IsCallStep s (as_was e)
 happens s e (inl h) = inl ((same_step s e.command e.answer).1 h)
 happens s e (inr h) = inr h
 
-follow : (s : State) (es : List Event) → MayFollow s es → laws.MayFollow s (were es)
-follow s [] h = h
-follow s (e ∷ es) h = (happens s e h.0, follow (left_by s e.answer) es h.1)
-
-state_was : (s : State) (es : List Event) → laws.state_after s (were es) ≡ state_after s es
-state_was s [] = refl
-state_was s (e ∷ es) = state_was (left_by s e.answer) es
-
-pub stays_coherent : (s : State) (es : List Event) → StaysCoherent s es
-stays_coherent s es settled run = subst IsCoherent (state_was s es) (runs.stays_coherent s (were es) settled (follow s es run))
-
-pub keeps_apart : (s : State) (e : Event) (i : ℕ) → IsCoherent s → MayHappen s e → KeepsApart s e i
+pub keeps_apart : (s : State) (e : Event Command) (i : ℕ) → IsCoherent s → MayHappen IsStep s e → KeepsApart s e i
 keeps_apart s e i settled h = runs.keeps_apart s (as_was e) i settled (happens s e h)
 
 -- ---- what is told
 
-module _ (done : State × Bytes) where
-  abbrev TellsNothing : old.Command → Type 0
-  TellsNothing c = laws.is_accepted_changes (Ok done) c ≡ false
+-- the call doesn't ask for the change list
+abbrev TellsNothing : old.Call → Type 0
+TellsNothing c = is_changes_call c ≡ false
 
-  by_operand : {X : Type 0} (r : Result X AddressFault) (f : X → old.Command) → ((x : X) → TellsNothing (f x)) → TellsNothing (of_operand r f)
-  by_operand (Ok x) f h = h x
-  by_operand (Err fault) f h = refl
+by_operand : {X : Type 0} (r : Result X AddressFault) (f : X → old.Call) → ((x : X) → TellsNothing (f x)) → TellsNothing (of_operand r f)
+by_operand (Ok x) f h = h x
+by_operand (Err fault) f h = refl
 
-  by_set : (b : Bool) (c : old.Command) → TellsNothing c → TellsNothing (cond b (old.Refused refusal.BadCommand) c)
-  by_set true c h = refl
-  by_set false c h = h
+by_set : (b : Bool) (c : old.Call) → TellsNothing c → TellsNothing (cond b (old.Refused refusal.BadCommand) c)
+by_set true c h = refl
+by_set false c h = h
 
-  by_fill : (force : Bool) (from : Result ℕ AddressFault) (area : Result Area AddressFault) → TellsNothing (fill_command_of force from area)
-  by_fill force (Ok from) (Ok area) = refl
-  by_fill force (Ok from) (Err fault) = refl
-  by_fill force (Err Shape) area = refl
-  by_fill force (Err AtOutside) (Ok area) = refl
-  by_fill force (Err AtOutside) (Err fault) = refl
+by_fill : (force : Bool) (from : Result ℕ AddressFault) (area : Result Area AddressFault) → TellsNothing (fill_command_of force from area)
+by_fill force (Ok from) (Ok area) = refl
+by_fill force (Ok from) (Err fault) = refl
+by_fill force (Err Shape) area = refl
+by_fill force (Err AtOutside) (Ok area) = refl
+by_fill force (Err AtOutside) (Err fault) = refl
 
-  by_csv : (force : Bool) (at : Result ℕ AddressFault) (lines : List Bytes) (missing : ℕ) → TellsNothing (csv_command force at lines missing)
-  by_csv force (Ok at) lines missing = by (list_any is_long lines) (missing == 0)
-    where
-      by : (b c : Bool) → TellsNothing (cond b (old.RefusedData refusal.BadLine) (cond c (old.Csv force at (concat lines)) (old.RefusedData refusal.CutShort)))
-      by true c = refl
-      by false true = refl
-      by false false = refl
-  by_csv force (Err Shape) lines missing = by (list_any is_long lines)
-    where
-      by : (b : Bool) → TellsNothing (cond b (old.Refused refusal.BadLine) (old.Refused refusal.BadCommand))
-      by true = refl
-      by false = refl
-  by_csv force (Err AtOutside) lines missing = by (list_any is_long lines) (missing == 0)
-    where
-      by : (b c : Bool) → TellsNothing (cond b (old.Refused refusal.BadLine) (cond c (old.Refused refusal.OutOfSheet) (old.Refused refusal.CutShort)))
-      by true c = refl
-      by false true = refl
-      by false false = refl
+by_csv : (force : Bool) (at : Result ℕ AddressFault) (lines : List Bytes) (missing : ℕ) → TellsNothing (csv_command force at lines missing)
+by_csv force (Ok at) lines missing = by (list_any is_long lines) (missing == 0)
+  where
+    by : (b c : Bool) → TellsNothing (cond b (old.RefusedData refusal.BadLine) (cond c (old.Csv force at (concat lines)) (old.RefusedData refusal.CutShort)))
+    by true c = refl
+    by false true = refl
+    by false false = refl
+by_csv force (Err Shape) lines missing = by (list_any is_long lines)
+  where
+    by : (b : Bool) → TellsNothing (cond b (old.Refused refusal.BadLine) (old.Refused refusal.BadCommand))
+    by true = refl
+    by false = refl
+by_csv force (Err AtOutside) lines missing = by (list_any is_long lines) (missing == 0)
+  where
+    by : (b c : Bool) → TellsNothing (cond b (old.Refused refusal.BadLine) (cond c (old.Refused refusal.OutOfSheet) (old.Refused refusal.CutShort)))
+    by true c = refl
+    by false true = refl
+    by false false = refl
 
-  by_table : (o : Option AddressFault) (c : old.Command) → TellsNothing c → TellsNothing (unless_refused o c)
-  by_table None c h = h
-  by_table (Some fault) c h = refl
+by_table : (o : Option AddressFault) (c : old.Call) → TellsNothing c → TellsNothing (unless_refused o c)
+by_table None c h = h
+by_table (Some fault) c h = refl
 
-  by_one : (f r : Result ℕ AddressFault) (xs : Result Area AddressFault) → TellsNothing (table_of_one f r xs)
-  by_one f r xs =
-      by_table (worse (result_err f) (worse (result_err r) (line_fault is_column xs))) (of_operand f (λ f. of_operand r (λ r. of_operand xs (λ xs. old.Table f r xs None))))
-      (by_operand f (λ f. of_operand r (λ r. of_operand xs (λ xs. old.Table f r xs None)))
-      (λ f. by_operand r (λ r. of_operand xs (λ xs. old.Table f r xs None)) (λ r. by_operand xs (λ xs. old.Table f r xs None) (λ xs. refl))))
+by_one : (f r : Result ℕ AddressFault) (xs : Result Area AddressFault) → TellsNothing (table_of_one f r xs)
+by_one f r xs =
+    by_table (worse (result_err f) (worse (result_err r) (line_fault is_column xs))) (of_operand f (λ f. of_operand r (λ r. of_operand xs (λ xs. old.Table f r xs None))))
+    (by_operand f (λ f. of_operand r (λ r. of_operand xs (λ xs. old.Table f r xs None)))
+    (λ f. by_operand r (λ r. of_operand xs (λ xs. old.Table f r xs None)) (λ r. by_operand xs (λ xs. old.Table f r xs None) (λ xs. refl))))
 
-  by_two : (f r : Result ℕ AddressFault) (xs : Result Area AddressFault) (c : Result ℕ AddressFault) (ys : Result Area AddressFault) → TellsNothing (table_of_two f r xs c ys)
-  by_two f r xs c ys =
-      by_table (worse (result_err f) (worse (result_err r) (worse (line_fault is_column xs) (worse (result_err c) (line_fault is_row ys)))))
-      (of_operand f (λ f. of_operand r (λ r. of_operand xs (λ xs. of_operand c (λ c. of_operand ys (λ ys. old.Table f r xs (Some (c, ys))))))))
-      (by_operand f (λ f. of_operand r (λ r. of_operand xs (λ xs. of_operand c (λ c. of_operand ys (λ ys. old.Table f r xs (Some (c, ys)))))))
-      (λ f. by_operand r (λ r. of_operand xs (λ xs. of_operand c (λ c. of_operand ys (λ ys. old.Table f r xs (Some (c, ys))))))
-      (λ r. by_operand xs (λ xs. of_operand c (λ c. of_operand ys (λ ys. old.Table f r xs (Some (c, ys)))))
-      (λ xs. by_operand c (λ c. of_operand ys (λ ys. old.Table f r xs (Some (c, ys)))) (λ c. by_operand ys (λ ys. old.Table f r xs (Some (c, ys))) (λ ys. refl))))))
+by_two : (f r : Result ℕ AddressFault) (xs : Result Area AddressFault) (c : Result ℕ AddressFault) (ys : Result Area AddressFault) → TellsNothing (table_of_two f r xs c ys)
+by_two f r xs c ys =
+    by_table (worse (result_err f) (worse (result_err r) (worse (line_fault is_column xs) (worse (result_err c) (line_fault is_row ys)))))
+    (of_operand f (λ f. of_operand r (λ r. of_operand xs (λ xs. of_operand c (λ c. of_operand ys (λ ys. old.Table f r xs (Some (c, ys))))))))
+    (by_operand f (λ f. of_operand r (λ r. of_operand xs (λ xs. of_operand c (λ c. of_operand ys (λ ys. old.Table f r xs (Some (c, ys)))))))
+    (λ f. by_operand r (λ r. of_operand xs (λ xs. of_operand c (λ c. of_operand ys (λ ys. old.Table f r xs (Some (c, ys))))))
+    (λ r. by_operand xs (λ xs. of_operand c (λ c. of_operand ys (λ ys. old.Table f r xs (Some (c, ys)))))
+    (λ xs. by_operand c (λ c. of_operand ys (λ ys. old.Table f r xs (Some (c, ys)))) (λ c. by_operand ys (λ ys. old.Table f r xs (Some (c, ys))) (λ ys. refl))))))
 
-  told_by : (c : Command) → laws.is_accepted_changes (Ok done) (was c) ≡ is_accepted_changes (Ok done) c
-  told_by (Set force at text) =
-      by_set (length text == 0) (of_operand (read_cell at) (λ a. old.Set force a text)) (by_operand (read_cell at) (λ a. old.Set force a text) (λ x. refl))
-  told_by (Clear force rect) = by_operand (read_area rect) (λ r. old.Clear force r) (λ x. refl)
-  told_by (Fill force at rect) = by_fill force (read_cell at) (read_area rect)
-  told_by (Csv force at n lines) = by_csv force (read_any at) lines (n - length lines)
-  told_by (Scenario name at text) = by_operand (read_cell at) (λ a. old.Scenario name a text) (λ x. refl)
-  told_by (Drop name) = refl
-  told_by (Base name other) = refl
-  told_by (Use name) = refl
-  told_by (As name) = refl
-  told_by (Show rect) = by_operand (read_area rect) (λ r. old.Show r) (λ x. refl)
-  told_by (Export rect) = by_operand (read_area rect) (λ r. old.Export r) (λ x. refl)
-  told_by (Compare p q rect) = by_operand (read_area rect) (λ r. old.Compare p q r) (λ x. refl)
-  told_by (Table f r xs None) = by_one (read_cell f) (read_cell r) (read_area xs)
-  told_by (Table f r xs (Some y)) = by_two (read_cell f) (read_cell r) (read_area xs) (read_cell y.0) (read_area y.1)
-  told_by (Formula at) = by_operand (read_cell at) (λ a. old.Formula a) (λ x. refl)
-  told_by Changes = refl
-  told_by Unknown = refl
-  told_by Unreadable = refl
+told_by : (c : Command) → is_changes_call (was c) ≡ is_changes c
+told_by (Set force at text) =
+    by_set (length text == 0) (of_operand (read_cell at) (λ a. old.Set force a text)) (by_operand (read_cell at) (λ a. old.Set force a text) (λ x. refl))
+told_by (Clear force rect) = by_operand (read_area rect) (λ r. old.Clear force r) (λ x. refl)
+told_by (Fill force at rect) = by_fill force (read_cell at) (read_area rect)
+told_by (Csv force at n lines) = by_csv force (read_any at) lines (n - length lines)
+told_by (Scenario name at text) = by_operand (read_cell at) (λ a. old.Scenario name a text) (λ x. refl)
+told_by (Drop name) = refl
+told_by (Base name other) = refl
+told_by (Use name) = refl
+told_by (As name) = refl
+told_by (Show rect) = by_operand (read_area rect) (λ r. old.Show r) (λ x. refl)
+told_by (Export rect) = by_operand (read_area rect) (λ r. old.Export r) (λ x. refl)
+told_by (Compare p q rect) = by_operand (read_area rect) (λ r. old.Compare p q r) (λ x. refl)
+told_by (Table f r xs None) = by_one (read_cell f) (read_cell r) (read_area xs)
+told_by (Table f r xs (Some y)) = by_two (read_cell f) (read_cell r) (read_area xs) (read_cell y.0) (read_area y.1)
+told_by (Formula at) = by_operand (read_cell at) (λ a. old.Formula a) (λ x. refl)
+told_by Changes = refl
+told_by Unknown = refl
+told_by Unreadable = refl
 
-same_is_accepted_changes : (a : Answer) (c : Command) → laws.is_accepted_changes a (was c) ≡ is_accepted_changes a c
-same_is_accepted_changes (Ok done) c = told_by done c
-same_is_accepted_changes (Err e) c = refl
+same_accepted : (a : Answer) (c : Command) → is_accepted_changes is_changes_call a (was c) ≡ is_accepted_changes is_changes a c
+same_accepted (Ok done) c = told_by c
+same_accepted (Err e) c = refl
 
-same_told : (i : ℕ) (s : State) (e : Event) → laws.is_told i s (as_was e) ≡ is_told i s e
-same_told i s e = ap (λ (b : Bool). b && (s.current == i)) (same_is_accepted_changes e.answer e.command)
+same_told : (i : ℕ) (s : State) (e : Event Command) → is_told is_changes_call i s (as_was e) ≡ is_told is_changes i s e
+same_told i s e = ap (λ (b : Bool). b && (s.current == i)) (same_accepted e.answer e.command)
 
-same_lists : (i : ℕ) (s : State) (es : List Event) → laws.lists_told i s (were es) ≡ lists_told i s es
-same_lists i s [] = refl
-same_lists i s (e ∷ es) =
-    ap₂ (λ (b : Bool) (ls : List (List (ℕ × Value))). cond b (change_list s ∷ []) [] ++ ls) (same_told i s e) (same_lists i (left_by s e.answer) es)
-
-same_shown : (i a : ℕ) (v : Value) (s : State) (es : List Event) → laws.last_shown i a v s (were es) ≡ last_shown i a v s es
-same_shown i a v s [] = refl
-same_shown i a v s (e ∷ es) =
-    ap (λ (b : Bool). laws.last_shown i a (cond b (shown_to s (session_at s i) a) v) (left_by s e.answer) (were es)) (same_told i s e)
-    ∙ same_shown i a (cond (is_told i s e) (shown_to s (session_at s i) a) v) (left_by s e.answer) es
-
-pub lists_add_up : (s : State) (es : List Event) (i : ℕ) → IsCoherent s → MayFollow s es → ListsAddUp s es i
-lists_add_up s es i settled run =
-    let h = runs.lists_add_up s (were es) i settled (follow s es run) in
-    let before = (session_at s i).picture in
-    record {
-      picture = ap (λ (t : State). (session_at t i).picture) (sym (state_was s es)) ∙ h.picture ∙ ap (with_lists before) (same_lists i s es);
-      shown = λ a l.
-          ap (λ (ls : List (List (ℕ × Value))). value_in (with_lists before ls) a) (sym (same_lists i s es))
-          ∙ h.shown a l ∙ same_shown i a (value_in before a) s es;
-    }
-
-pub records_tell : (s t : State) (records : Bytes) → IsStep s Changes (Ok (t, records)) → RecordsTellList s records
+pub records_tell : (s t : State) (records : Bytes) → IsStep s Changes (Ok (t, records)) → RecordsTellList IsStep Changes s records
 records_tell s t records h =
     let told = records_tell_list s t records ((same_step s Changes (Ok (t, records))).1 h) in
     record { read = told.read; one = λ r u k. told.one r u ((same_step r Changes (Ok (u, records))).1 k) }
@@ -157,7 +122,7 @@ module _ (s : State) where
   abbrev log_in : State × Bytes → List Entry
   log_in done = done.0.log
 
-  grown : (c : Command) (done : State × Bytes) → Does s c done → log_in done ≡ s.log ++ logged_by s (record { command = c; answer = Ok done })
+  grown : (c : Command) (done : State × Bytes) → Does s c done → log_in done ≡ s.log ++ logged s.current (Ok done) (named_by c)
   grown (Set force at text) done h = ap log_in h.2
   grown (Clear force rect) done h = ap log_in h.2
   grown (Fill force at rect) done h = ap log_in h.2
@@ -177,32 +142,38 @@ module _ (s : State) where
   grown Unknown done h = absurd h.1
   grown Unreadable done h = absurd h.1
 
-  log_then : (c : Command) (a : Answer) → MayHappen s (record { command = c; answer = a }) → (left_by s a).log ≡ s.log ++ logged_by s (record { command = c; answer = a })
+  log_then : (c : Command) (a : Answer) → IsStep s c a ⊎ (a ≡ Err refusal.Memory) → (left_by s a).log ≡ s.log ++ logged s.current a (named_by c)
   log_then c (Err e) h = sym (append-nil s.log)
   log_then c (Ok done) (inl h) = grown c done h.1
   log_then c (Ok done) (inr h) = absurd (unlike done refusal.Memory h)
 
-same_logged : (s : State) (e : Event) → MayHappen s e → laws.logged_by s (as_was e) ≡ logged_by s e
-same_logged s e h = append_cancel_left s.log (laws.logged_by s (as_was e)) (logged_by s e) (sym (runs.log_by s (as_was e) (happens s e h)) ∙ log_then s e.command e.answer h)
+-- `changes` adds nothing to it
+told_adds_nothing : (n : ℕ) (a : Answer) (c : Command) → is_accepted_changes is_changes a c ≡ true → logged n a (named_by c) ≡ []
+told_adds_nothing n (Err e) c h = refl
+told_adds_nothing n (Ok done) Changes h = refl
+told_adds_nothing n (Ok done) c h = absurd (false≢true h)
 
-same_edits : (s : State) (es : List Event) → MayFollow s es → laws.edits_in s (were es) ≡ edits_in s es
-same_edits s [] run = refl
-same_edits s (e ∷ es) run =
-    ap₂ (λ (xs ys : List Entry). xs ++ ys) (same_logged s e run.0) (same_edits (left_by s e.answer) es run.1)
+-- ---- commands one after another
 
-same_since : (i : ℕ) (earlier : List Entry) (s : State) (es : List Event) → MayFollow s es → laws.edits_since i earlier s (were es) ≡ edits_since i earlier s es
-same_since i earlier s [] run = refl
-same_since i earlier s (e ∷ es) run =
-    ap₂ (λ (b : Bool) (xs : List Entry). laws.edits_since i (cond b [] (earlier ++ xs)) (left_by s e.answer) (were es)) (same_told i s e) (same_logged s e run.0)
-    ∙ same_since i (cond (is_told i s e) [] (earlier ++ logged_by s e)) (left_by s e.answer) es run.1
-
-pub log_grows : (s : State) (es : List Event) (i : ℕ) → IsCoherent s → MayFollow s es → LogGrows s es i
-log_grows s es i settled run =
-    let h = runs.log_grows s (were es) i settled (follow s es run) in
+tells_and_logs : (s : State) (e : Event Command) → IsCoherent s → MayHappen IsStep s e → TellsAndLogs is_changes named_by s e
+tells_and_logs s e settled h =
+    let call = runs.tells_and_logs s (as_was e) settled (happens s e h) in
     record {
-      log = ap (λ (t : State). t.log) (sym (state_was s es)) ∙ h.log ∙ ap (λ (xs : List Entry). s.log ++ xs) (same_edits s es run);
-      behind = ap (λ (t : State). unseen t i) (sym (state_was s es)) ∙ h.place ∙ same_since i (unseen s i) s es run;
+      within = call.within;
+      place = λ i. call.place i ∙ ap (λ (b : Bool). cond b (length s.log) (session_at s i).seen) (same_told i s e);
+      picture = λ i. call.picture i ∙ ap (λ (b : Bool). with_lists (session_at s i).picture (cond b (change_list s ∷ []) [])) (same_told i s e);
+      log = log_then s e.command e.answer h;
+      told_alone = told_adds_nothing s.current e.answer e.command;
     }
+
+pub stays_coherent : (s : State) (es : List (Event Command)) → StaysCoherent IsStep s es
+stays_coherent s es = events.stays_coherent IsStep is_changes named_by tells_and_logs s es
+
+pub lists_add_up : (s : State) (es : List (Event Command)) (i : ℕ) → IsCoherent s → MayFollow IsStep s es → ListsAddUp is_changes s es i
+lists_add_up = events.lists_add_up IsStep is_changes named_by tells_and_logs
+
+pub log_grows : (s : State) (es : List (Event Command)) (i : ℕ) → IsCoherent s → MayFollow IsStep s es → LogGrows is_changes named_by s es i
+log_grows = events.log_grows IsStep is_changes named_by tells_and_logs
 
 -- ---- stale cells
 
@@ -267,24 +238,21 @@ module _ (s : State) (c : Command) where
       let held = subst (λ (x : Cause). Holds s x c) (stale_only k.0 a k.2) (first_holds s c causes k.0 k.1) in
       both_ways (is_forced c) held.0 forced
 
-pub stale_is_newer : (s : State) (es : List Event) (e : Event) → IsCoherent s → MayFollow s es → StaleIsNewer s es e
+pub stale_is_newer : (s : State) (es : List (Event Command)) (e : Event Command) → IsCoherent s → MayFollow IsStep s es
+    → StaleIsNewer IsStep is_changes named_by is_forced s es e (named e.command)
 stale_is_newer s es e settled run h free f a = by h
   where
     t : State
     t = state_after s es
 
-    since : List Entry
-    since = edits_since t.current (unseen s t.current) s es
+    exactly : (stale_cell t e.command ≡ Some a) ↔ IsFirstNewer (edits_since is_changes named_by t.current (unseen s t.current) s es) t.current (named e.command) a
+    exactly = stale_since IsStep is_changes named_by tells_and_logs s es t.current (named e.command) a settled run
 
-    exactly : (stale_cell t e.command ≡ Some a) ↔ IsFirstNewer since t.current (named e.command) a
-    exactly = subst (λ (edits : List Entry). (stale_cell t e.command ≡ Some a) ↔ IsFirstNewer edits t.current (named e.command) a)
-        (log_grows s es t.current settled run).behind (stale_exactly (unseen t t.current) t.current (named e.command) a)
-
-    by : MayHappen t e → (e.answer ≡ Err (refusal.Stale a)) ↔ IsFirstNewer since t.current (named e.command) a
+    by : MayHappen IsStep t e → (e.answer ≡ Err (refusal.Stale a)) ↔ IsFirstNewer (edits_since is_changes named_by t.current (unseen s t.current) s es) t.current (named e.command) a
     by (inl k) = (λ x. exactly.0 (is_stale t e.command e.answer a k x), λ y. told_stale t e.command e.answer a k free f (exactly.1 y))
     by (inr k) = absurd (both_ways (is_refused_before e.answer) f (ap is_refused_before k))
 
-pub forced_is_not_stale : (s : State) (e : Event) → ForcedIsNotStale s e
+pub forced_is_not_stale : (s : State) (e : Event Command) → ForcedIsNotStale IsStep is_forced s e
 forced_is_not_stale s e (inl h) forced a x = forced_not s e.command e.answer a h forced x
 forced_is_not_stale s e (inr h) forced a x = other (refused_so refusal.Memory (refusal.Stale a) (sym h ∙ x))
   where

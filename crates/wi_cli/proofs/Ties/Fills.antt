@@ -128,13 +128,13 @@ module _ (s : State) (force : Bool) (c : Cell) (r : Corners) where
 
     -- by what holds
     made : (big leave : Bool) → nat_lt max_area (size_of (area r) * 1) ≡ big → leaves ≡ leave
-        → (a : Answer) × old.IsStep s (old.Fill force (address c) (area r)) a × IsStep s fill a
+        → (a : Answer) × old.IsCallStep s (old.Fill force (address c) (area r)) a × IsStep s fill a
     made true leave eb el = (Err refusal.TooLarge, rw (large_once _ _ eb) refl, (TooLarge, inr (λ k. k, inr (λ k. k, inr (λ k. k, inr (inside, inl (large eb, refl))))), refl))
     made false true eb el = (Err refusal.LeavesSheet, rw (large_once _ _ eb, el) refl, (LeavesSheet, front eb LeavesSheet (inl (leaving el, refl)), refl))
     made false false eb el = (filled, rw (large_once _ _ eb, el) refl, step eb el)
 
   abbrev by_place : Bool → Bool → Type 0
-  by_place one two = (a : Answer) → old.IsStep s (fill_command_of force (read_by one (address c)) (read_by two (area r))) a ↔ IsStep s fill a
+  by_place one two = (a : Answer) → old.IsCallStep s (fill_command_of force (read_by one (address c)) (read_by two (area r))) a ↔ IsStep s fill a
 
   placed : (one two : Bool) → is_outside c ≡ one → (is_outside r.0 || is_outside r.1) ≡ two → by_place one two
   placed true false o p a = outside_step s fill one_done (λ h. h) (λ h. h) (λ h. h) (fill_outside force true false c r o p) a

@@ -9,22 +9,22 @@ use Rattle.wi_cli.proofs.Ties.OperandsRead.{no_addr, no_rect, addr_or, rect_or, 
 use Rattle.wi_cli.proofs.Ties.TablesOfTwo.{is_shape, one_is_bad, two_is_bad}
 
 -- operands of this form are spelled, or none are and the command was refused
-abbrev pub Chosen : {X : Type 0} → Bytes → (X → List Operand) → old.Command → Type 0
+abbrev pub Chosen : {X : Type 0} → Bytes → (X → List Operand) → old.Call → Type 0
 Chosen {X} text form before = ((x : X) × IsWritten text (form x)) ⊎ (((x : X) → IsWritten text (form x) → ⊥) × (before ≡ old.Refused refusal.BadCommand))
 
-end_true : (text : Bytes) (command : old.Command) → is_all_spaces text ≡ true → at_end text command ≡ command
+end_true : (text : Bytes) (command : old.Call) → is_all_spaces text ≡ true → at_end text command ≡ command
 end_true text command e = ap (λ (b : Bool). if b then command else old.Refused refusal.BadCommand) e
 
-end_false : (text : Bytes) (command : old.Command) → is_all_spaces text ≡ false → at_end text command ≡ old.Refused refusal.BadCommand
+end_false : (text : Bytes) (command : old.Call) → is_all_spaces text ≡ false → at_end text command ≡ old.Refused refusal.BadCommand
 end_false text command e = ap (λ (b : Bool). if b then command else old.Refused refusal.BadCommand) e
 
 -- ---- one operand
 
-module _ (command : Area → old.Command) where
+module _ (command : Area → old.Call) where
   abbrev rect_form : Corners → List Operand
   rect_form r = RECT r ∷ []
 
-  abbrev rect_was : Bytes → old.Command
+  abbrev rect_was : Bytes → old.Call
   rect_was text = at_end (after_word text) (of_operand (read_rect (first_word text)) command)
 
   pub same_rect_end : (text : Bytes) (r : Corners) → IsWritten text (RECT r ∷ []) → rect_was text ≡ of_operand (read_area r) command
@@ -44,7 +44,7 @@ module _ (command : Area → old.Command) where
             end_true (after_word text) (of_operand (read_rect (first_word text)) command) e ∙ ap (λ (x : Result Area AddressFault). of_operand x command) bad,
           )
 
-module _ (command : Bytes → old.Command) where
+module _ (command : Bytes → old.Call) where
   abbrev name_form : Bytes → List Operand
   name_form name = NAME name ∷ []
 
@@ -243,7 +243,7 @@ module _ (text : Bytes) where
   abbrev third : Bytes
   third = after_word (after_word text)
 
-  abbrev compared : Option (Option Bytes) → Option (Option Bytes) → Result Area AddressFault → old.Command
+  abbrev compared : Option (Option Bytes) → Option (Option Bytes) → Result Area AddressFault → old.Call
   compared p q r = of_name p (λ first. of_name q (λ second. of_operand r (λ area. old.Compare first second area)))
 
   compare_is : is_all_spaces (after_word third) ≡ true → compare_command text ≡ compared (read_side (first_word text)) (read_side (first_word second)) (read_rect (first_word third))
@@ -330,10 +330,10 @@ module _ (text : Bytes) where
   abbrev more : Bytes
   more = after_word (after_word (after_word text))
 
-  abbrev read_one : old.Command
+  abbrev read_one : old.Call
   read_one = table_of_one (read_address (first_word text)) (read_address second_word) (read_rect third_word)
 
-  abbrev read_two : old.Command
+  abbrev read_two : old.Call
   read_two =
       table_of_two (read_address (first_word text)) (read_address second_word) (read_rect third_word) (read_address (first_word more)) (read_rect (first_word (after_word more)))
 

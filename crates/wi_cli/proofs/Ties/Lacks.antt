@@ -58,10 +58,10 @@ module _ (s : State) (c : Command) (inside : Holds s Outside c → ⊥) (come : 
   is_late EditLimit h e t g = (7, omega arith, refl)
   is_late x h e t g = absurd (both_ways false refl (sym (ap (λ (r : Refusal). may_grow (Err r)) t) ∙ g))
 
-  pub same_lack : (was : old.Command) → ((a : Answer) → old.IsStep s was a ↔ IsStep s c a) → MayGrow (old.IsStep s was) ↔ ((x : Cause) → IsFirstOf s c causes x → Contains late x)
+  pub same_lack : (was : old.Call) → ((a : Answer) → old.IsCallStep s was a ↔ IsStep s c a) → MayGrow (old.IsCallStep s was) ↔ ((x : Cause) → IsFirstOf s c causes x → Contains late x)
   same_lack was same = (there, λ h. back h (an_answer s was).0 (an_answer s was).1 ((same (an_answer s was).0).0 (an_answer s was).1))
     where
-      there : MayGrow (old.IsStep s was) → (x : Cause) → IsFirstOf s c causes x → Contains late x
+      there : MayGrow (old.IsCallStep s was) → (x : Cause) → IsFirstOf s c causes x → Contains late x
       there m x f = by m.answer m.grows ((same m.answer).0 m.is_answer)
         where
           by : (a : Answer) → may_grow a ≡ true → IsStep s c a → Contains late x
@@ -70,6 +70,6 @@ module _ (s : State) (c : Command) (inside : Holds s Outside c → ⊥) (come : 
               let one : is.0 ≡ x = one_first s c causes is.0 x is.1 f in
               is_late x (first_holds s c causes x f) e (subst (λ (y : Cause). Tells s c y e) one is.2) g
 
-      back : ((x : Cause) → IsFirstOf s c causes x → Contains late x) → (a : Answer) → old.IsStep s was a → IsStep s c a → MayGrow (old.IsStep s was)
+      back : ((x : Cause) → IsFirstOf s c causes x → Contains late x) → (a : Answer) → old.IsCallStep s was a → IsStep s c a → MayGrow (old.IsCallStep s was)
       back h (Ok done) o n = record { answer = Ok done; is_answer = o; grows = refl }
       back h (Err e) o n = record { answer = Err e; is_answer = o; grows = grows n.0 (first_holds s c causes n.0 n.1) e n.2 (h n.0 n.1) }

@@ -86,8 +86,8 @@ module _ (line : Bytes) (taken : List Bytes) where
     no_form g p plain_none c h = plain_none c refl h
 
     text_has : IsGood line → is_passed_over (line_text line) ≡ false → block_command (block line taken) ≡ Some (spelled_command (line_text line)) → Reads (line_text line) → HasCommand line taken
-    text_has g p e (spells c is h) = (Some c, as_command line taken c is g h fits, e ∙ ap (λ (x : old.Command). Some x) (same_form (line_text line) c is h))
-    text_has g p e (spells_none nothing bad) = (Some Unknown, (g, p, no_form g p (none_written (line_text line) nothing)), e ∙ ap (λ (x : old.Command). Some x) bad)
+    text_has g p e (spells c is h) = (Some c, as_command line taken c is g h fits, e ∙ ap (λ (x : old.Call). Some x) (same_form (line_text line) c is h))
+    text_has g p e (spells_none nothing bad) = (Some Unknown, (g, p, no_form g p (none_written (line_text line) nothing)), e ∙ ap (λ (x : old.Call). Some x) bad)
 
     by_line : (b : Bool) → (nat_lt max_line (length (without_lf line)) || not (is_utf8 (line_text line))) ≡ b → (p : Bool) → is_passed_over (line_text line) ≡ p → HasCommand line taken
     by_line true e p f = (Some Unreadable, not_good line e, plain_line line taken plain ∙ line_is line true e)
@@ -134,8 +134,8 @@ has_all lines bs (cut_short line taken short) =
     (option_to_list k.0, line_cut line taken (asked line) k.0 (asks line (length taken) short) short k.1, last k.0 k.2)
   where
     last : (o : Option Command) → block_command (block line taken) ≡ option_map was o → cons_option (block_command (block line taken)) [] ≡ map was (option_to_list o)
-    last None e = ap (λ (x : Option old.Command). cons_option x []) e
-    last (Some c) e = ap (λ (x : Option old.Command). cons_option x []) e
+    last None e = ap (λ (x : Option old.Call). cons_option x []) e
+    last (Some c) e = ap (λ (x : Option old.Call). cons_option x []) e
 
 pub complete : (line : Bytes) (taken : List Bytes) → asked line ≡ length taken → is_complete (block line taken) ≡ true
 complete line taken e = grind (arith, nat_tests)

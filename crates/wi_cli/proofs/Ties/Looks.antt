@@ -37,7 +37,7 @@ module _ (s : State) (r : Corners) where
   show_no x e h = h
 
   show_picked : (out large : Bool) → (is_outside r.0 || is_outside r.1) ≡ out → nat_lt max_area (size_of (area r) * 1) ≡ large
-      → (o : Option Cause) × (first_test show_test causes ≡ o) × old.IsStep s (was (Show r)) (found shown o)
+      → (o : Option Cause) × (first_test show_test causes ≡ o) × old.IsCallStep s (was (Show r)) (found shown o)
   show_picked true large eo el = (Some Outside, rw eo refl, rw eo refl)
   show_picked false true eo el = (Some TooLarge, rw (eo, el) refl, rw (eo, large_once _ _ el) refl)
   show_picked false false eo el = (None, rw (eo, el) refl, rw (eo, large_once _ _ el) refl)
@@ -71,7 +71,7 @@ module _ (s : State) (r : Corners) where
   export_no x e h = h
 
   export_picked : (out large : Bool) → (is_outside r.0 || is_outside r.1) ≡ out → nat_lt max_area (size_of (area r) * 1) ≡ large
-      → (o : Option Cause) × (first_test export_test causes ≡ o) × old.IsStep s (was (Export r)) (found exported o)
+      → (o : Option Cause) × (first_test export_test causes ≡ o) × old.IsCallStep s (was (Export r)) (found exported o)
   export_picked true large eo el = (Some Outside, rw eo refl, rw eo refl)
   export_picked false true eo el = (Some TooLarge, rw (eo, el) refl, rw (eo, large_once _ _ el) refl)
   export_picked false false eo el = (None, rw (eo, el) refl, rw (eo, large_once _ _ el) refl)
@@ -122,7 +122,7 @@ module _ (s : State) (p q : Option Bytes) (r : Corners) where
 
   compare_picked : (out large missing : Bool) → (is_outside r.0 || is_outside r.1) ≡ out → nat_lt max_area (size_of (area r) * 1) ≡ large
       → list_any (is_missing s) (form (Compare p q r)) ≡ missing → (lacks s.scenarios p || lacks s.scenarios q) ≡ missing
-      → (o : Option Cause) × (first_test compare_test causes ≡ o) × old.IsStep s (was compare) (found compared o)
+      → (o : Option Cause) × (first_test compare_test causes ≡ o) × old.IsCallStep s (was compare) (found compared o)
   compare_picked true large missing eo el em en = (Some Outside, rw eo refl, rw eo refl)
   compare_picked false true missing eo el em en = (Some TooLarge, rw (eo, el) refl, rw (eo, large_once _ _ el) refl)
   compare_picked false false true eo el em en = (Some NoScenario, rw (eo, el, em) refl, rw (eo, large_once _ _ el, en) refl)
@@ -156,7 +156,7 @@ module _ (s : State) (c : Cell) where
   formula_no EditLimit e h = h.1
   formula_no x e h = h
 
-  formula_picked : (out : Bool) → is_outside c ≡ out → (o : Option Cause) × (first_test formula_test causes ≡ o) × old.IsStep s (was (Formula c)) (found told_of o)
+  formula_picked : (out : Bool) → is_outside c ≡ out → (o : Option Cause) × (first_test formula_test causes ≡ o) × old.IsCallStep s (was (Formula c)) (found told_of o)
   formula_picked true eo = (Some Outside, rw eo refl, rw eo refl)
   formula_picked false eo = (None, rw eo refl, rw eo refl)
 

@@ -122,7 +122,7 @@ module _ (line : Bytes) (taken : List Bytes) where
       → block_command (block line taken) ≡ Some (old.Refused refusal.BadCommand)
   is_unknown g p nothing (inl f) r = absurd (nothing (Csv f.0 f.1 f.2 []) f.3)
   is_unknown g p nothing (inr bad) (spells c is h) = absurd (nothing c h)
-  is_unknown g p nothing (inr bad) (spells_none unread e) = plain_is g bad.1 false p ∙ ap (λ (x : old.Command). Some x) e
+  is_unknown g p nothing (inr bad) (spells_none unread e) = plain_is g bad.1 false p ∙ ap (λ (x : old.Call). Some x) e
 
   is_unreadable : (IsGood line → ⊥) → AsksOrNot line → block_command (block line taken) ≡ Some (old.Refused refusal.BadLine)
   is_unreadable bad (it_asks force o n within h r) = by (is_utf8 (line_text line)) refl
@@ -146,7 +146,7 @@ module _ (line : Bytes) (taken : List Bytes) where
   is_plain_one : (c : Command) → is_plain c ≡ true → IsGood line → IsWritten (line_text line) (form c) → block_command (block line taken) ≡ Some (was c)
   is_plain_one c p g h =
       let a = apart (line_text line) c p h in
-      plain_is g a.no_csv false a.read ∙ ap (λ (x : old.Command). Some x) (same_form (line_text line) c p h)
+      plain_is g a.no_csv false a.read ∙ ap (λ (x : old.Call). Some x) (same_form (line_text line) c p h)
 
   pub one_command : (o : Option Command) → IsCommand line taken o → block_command (block line taken) ≡ option_map was o
   one_command None h = is_none h.0 h.1 (text_or (line_text line))
@@ -212,7 +212,7 @@ same_commands ended lines cs (line_with line taken more o ds takes is rest) =
     ∙ ap₂ cons_option (one_command line taken o is) (same_commands ended more ds rest) ∙ onto_was o ds
 same_commands true lines cs (line_cut line taken n o asks short is) =
     let less : length taken < asked line = subst (λ (k : ℕ). length taken < k) (sym (asked_is line n asks)) short in
-    ap (filter_map block_command) (block_short line taken less) ∙ ap (λ (x : Option old.Command). cons_option x []) (one_command line taken o is) ∙ onto_none o
+    ap (filter_map block_command) (block_short line taken less) ∙ ap (λ (x : Option old.Call). cons_option x []) (one_command line taken o is) ∙ onto_none o
 same_commands false lines cs (line_cut line taken n o asks short is) =
     let less : length taken < asked line = subst (λ (k : ℕ). length taken < k) (sym (asked_is line n asks)) short in
     ap (λ (bs : List Block). filter_map block_command (filter is_complete bs)) (block_short line taken less)

@@ -28,12 +28,12 @@ no_front (b ∷ bs) rest e = absurd (no_byte b (bs ++ rest) e)
     no_byte : (b : ℕ) (bs : Bytes) → b ∷ bs ≡ [] → ⊥
     no_byte b bs e = cc
 
-no_two : (o : Option old.Command) (x y : old.Command) (zs : List old.Command) → option_to_list o ≡ x ∷ y ∷ zs → ⊥
+no_two : (o : Option old.Call) (x y : old.Call) (zs : List old.Call) → option_to_list o ≡ x ∷ y ∷ zs → ⊥
 no_two None x y zs e = cc
 no_two (Some z) x y zs e = cc
 
 -- a front of the last, if there is one
-last_written : (s t : State) (last others : List Command) (had : Option old.Command) (rs : List Bytes) (front rest : Bytes) → option_to_list had ≡ map was last → Runs s last rs t → front ++ rest ≡ concat rs
+last_written : (s t : State) (last others : List Command) (had : Option old.Call) (rs : List Bytes) (front rest : Bytes) → option_to_list had ≡ map was last → Runs s last rs t → front ++ rest ≡ concat rs
     → Writes true s (last ++ others) front t
 last_written s t [] others had [] front rest e run j = none_written s t others front (no_front front rest j) run
 last_written s t [] others had (r ∷ rs) front rest e run j = absurd run
@@ -58,29 +58,29 @@ front_written s mid t (c ∷ cs) back (r ∷ rs) sent more h e w =
 abbrev Answered : Bool → Bool → List Bytes → State → Bytes → State → Type 0
 Answered ended fails lines s out t = (cs : List Command) × AreCommands ended lines cs × Writes fails s cs out t
 
-answers : (ended : Bool) (lines : List Bytes) (had : List old.Command) (s : State) (out : Bytes) (t : State) → HasCommands ended lines had → old_run.WritesReplies s had out t
+answers : (ended : Bool) (lines : List Bytes) (had : List old.Call) (s : State) (out : Bytes) (t : State) → HasCommands ended lines had → old_run.WritesReplies s had out t
     → Answered ended false lines s out t
 answers ended lines had s out t h w =
-    (h.0, h.1, all_written s h.0 w.replies out t ((same_runs s h.0 w.replies t).0 (subst (λ (cs : List old.Command). old_run.Runs s cs w.replies t) h.2 w.run)) w.joined)
+    (h.0, h.1, all_written s h.0 w.replies out t ((same_runs s h.0 w.replies t).0 (subst (λ (cs : List old.Call). old_run.Runs s cs w.replies t) h.2 w.run)) w.joined)
 
-same_cons : (x y : old.Command) (xs ys : List old.Command) → x ∷ xs ≡ y ∷ ys → (x ≡ y) × (xs ≡ ys)
+same_cons : (x y : old.Call) (xs ys : List old.Call) → x ∷ xs ≡ y ∷ ys → (x ≡ y) × (xs ≡ ys)
 same_cons x y xs ys e = (cc, cc)
 
-no_cons : (x : old.Command) (xs : List old.Command) → [] ≡ x ∷ xs → ⊥
+no_cons : (x : old.Call) (xs : List old.Call) → [] ≡ x ∷ xs → ⊥
 no_cons x xs e = cc
 
-abbrev IsSplit : List Command → List old.Command → List old.Command → Type 0
+abbrev IsSplit : List Command → List old.Call → List old.Call → Type 0
 IsSplit cs xs ys = (front back : List Command) × (cs ≡ front ++ back) × (xs ≡ map was front) × (ys ≡ map was back)
 
-split_map : (cs : List Command) (xs ys : List old.Command) → map was cs ≡ xs ++ ys → IsSplit cs xs ys
+split_map : (cs : List Command) (xs ys : List old.Call) → map was cs ≡ xs ++ ys → IsSplit cs xs ys
 split_map cs [] ys e = ([], cs, refl, refl, sym e)
 split_map [] (x ∷ xs) ys e = absurd (no_cons x (xs ++ ys) e)
 split_map (c ∷ cs) (x ∷ xs) ys e =
     let k = same_cons (was c) x (map was cs) (xs ++ ys) e in
     let r = split_map cs xs ys k.1 in
-    (c ∷ r.0, r.1, ap (λ (l : List Command). c ∷ l) r.2, ap₂ (λ (y : old.Command) (l : List old.Command). y ∷ l) (sym k.0) r.3, r.4)
+    (c ∷ r.0, r.1, ap (λ (l : List Command). c ∷ l) r.2, ap₂ (λ (y : old.Call) (l : List old.Call). y ∷ l) (sym k.0) r.3, r.4)
 
-answers_some : (ended : Bool) (lines : List Bytes) (had : List old.Command) (s : State) (out : Bytes) (t : State) → HasCommands ended lines had → WritesFrontOfReplies s had out t
+answers_some : (ended : Bool) (lines : List Bytes) (had : List old.Call) (s : State) (out : Bytes) (t : State) → HasCommands ended lines had → WritesFrontOfReplies s had out t
     → Answered ended true lines s out t
 answers_some ended lines had s out t h w =
     let first = split_map h.0 w.earlier (option_to_list w.last ++ w.others) (sym h.2 ∙ w.first) in
@@ -89,8 +89,8 @@ answers_some ended lines had s out t h w =
     let last : List Command = second.0 in
     let others : List Command = second.1 in
     let all : h.0 ≡ front ++ (last ++ others) = first.2 ∙ ap (λ (l : List Command). front ++ l) second.2 in
-    let run : Runs s front w.whole.replies w.mid = (same_runs s front w.whole.replies w.mid).0 (subst (λ (cs : List old.Command). old_run.Runs s cs w.whole.replies w.mid) first.3 w.whole.run) in
-    let end : Runs w.mid last w.cut.replies t = (same_runs w.mid last w.cut.replies t).0 (subst (λ (cs : List old.Command). old_run.Runs w.mid cs w.cut.replies t) second.3 w.cut.run) in
+    let run : Runs s front w.whole.replies w.mid = (same_runs s front w.whole.replies w.mid).0 (subst (λ (cs : List old.Call). old_run.Runs s cs w.whole.replies w.mid) first.3 w.whole.run) in
+    let end : Runs w.mid last w.cut.replies t = (same_runs w.mid last w.cut.replies t).0 (subst (λ (cs : List old.Call). old_run.Runs w.mid cs w.cut.replies t) second.3 w.cut.run) in
     let ends : Writes true w.mid (last ++ others) w.front t = last_written w.mid t last others w.last w.cut.replies w.front w.unwritten second.3 end w.cut.joined in (
       h.0,
       h.1,
@@ -112,12 +112,12 @@ back_all ended lines s out t a =
     let k = replies_of s a.0 out t a.2 in
     record {
       replies = k.0;
-      run = subst (λ (cs : List old.Command). old_run.Runs s cs k.0 t) (sym (same_commands ended lines a.0 a.1)) ((same_runs s a.0 k.0 t).1 k.1);
+      run = subst (λ (cs : List old.Call). old_run.Runs s cs k.0 t) (sym (same_commands ended lines a.0 a.1)) ((same_runs s a.0 k.0 t).1 k.1);
       joined = k.2;
     }
 
 -- nothing more
-none_more : (s t : State) (cs : List old.Command) (out : Bytes) → out ≡ [] → t ≡ s → WritesFrontOfReplies s cs out t
+none_more : (s t : State) (cs : List old.Call) (out : Bytes) → out ≡ [] → t ≡ s → WritesFrontOfReplies s cs out t
 none_more s t cs out e f = record {
   earlier = [];
   last = None;
@@ -140,7 +140,7 @@ back_some s (c ∷ cs) out t (inl h) =
       earlier = was c ∷ w.earlier;
       last = w.last;
       others = w.others;
-      first = ap (λ (l : List old.Command). was c ∷ l) w.first;
+      first = ap (λ (l : List old.Call). was c ∷ l) w.first;
       mid = w.mid;
       sent = h.1 ++ w.sent;
       whole = record { replies = h.1 ∷ w.whole.replies; run = (h.0, (same_reply s c h.1 h.0).1 h.3, w.whole.run); joined = ap (λ (x : Bytes). h.1 ++ x) w.whole.joined };
@@ -169,7 +169,7 @@ back_some s (c ∷ cs) out t (inr h) = by h.1
 
 back_front : (ended : Bool) (lines : List Bytes) (s : State) (out : Bytes) (t : State) → Answered ended true lines s out t → WritesFrontOfReplies s (before ended lines) out t
 back_front ended lines s out t a =
-    subst (λ (cs : List old.Command). WritesFrontOfReplies s cs out t) (sym (same_commands ended lines a.0 a.1)) (back_some s a.0 out t a.2)
+    subst (λ (cs : List old.Call). WritesFrontOfReplies s cs out t) (sym (same_commands ended lines a.0 a.1)) (back_some s a.0 out t a.2)
 
 -- ---- the commands of a script
 
@@ -196,17 +196,17 @@ cut_is input = ap complete_commands (limited_is input) ∙ complete_is (take max
 
 -- ---- the outcome
 
-module _ (ended : Bool) (lines : List Bytes) (cs : List old.Command) (same : cs ≡ before ended lines) (s : State) (out : Bytes) (t : State) where
+module _ (ended : Bool) (lines : List Bytes) (cs : List old.Call) (same : cs ≡ before ended lines) (s : State) (out : Bytes) (t : State) where
   same_answers : old_run.WritesReplies s cs out t ↔ Answered ended false lines s out t
   same_answers = (
-    λ w. answers ended lines (before ended lines) s out t (has_commands ended lines) (subst (λ (x : List old.Command). old_run.WritesReplies s x out t) same w),
-    λ a. subst (λ (x : List old.Command). old_run.WritesReplies s x out t) (sym same) (back_all ended lines s out t a),
+    λ w. answers ended lines (before ended lines) s out t (has_commands ended lines) (subst (λ (x : List old.Call). old_run.WritesReplies s x out t) same w),
+    λ a. subst (λ (x : List old.Call). old_run.WritesReplies s x out t) (sym same) (back_all ended lines s out t a),
   )
 
   same_fronts : WritesFrontOfReplies s cs out t ↔ Answered ended true lines s out t
   same_fronts = (
-    λ w. answers_some ended lines (before ended lines) s out t (has_commands ended lines) (subst (λ (x : List old.Command). WritesFrontOfReplies s x out t) same w),
-    λ a. subst (λ (x : List old.Command). WritesFrontOfReplies s x out t) (sym same) (back_front ended lines s out t a),
+    λ w. answers_some ended lines (before ended lines) s out t (has_commands ended lines) (subst (λ (x : List old.Call). WritesFrontOfReplies s x out t) same w),
+    λ a. subst (λ (x : List old.Call). WritesFrontOfReplies s x out t) (sym same) (back_front ended lines s out t a),
   )
 
 module _ (left : Option Bytes) (s t : State) (input out : Bytes) where

@@ -53,9 +53,6 @@ by_colon word b e = ap (λ (v : Bool). read_at_colon word (cond v (Some (positio
 below : (n m : ℕ) → n ≡ m → nat_lt n m ≡ false
 below n m e = grind (arith, nat_tests)
 
-above : (n m k : ℕ) → n ≡ m → k ≡ m + suc 0 → nat_lt n k ≡ true
-above n m k e f = grind (arith, nat_tests)
-
 corners_by : (a b : Bool) (x y : ℕ) → corners (read_by a x) (read_by b y) ≡ read_by (a || b) (rect_of x y)
 corners_by true true x y = refl
 corners_by true false x y = refl

@@ -1,7 +1,6 @@
 -- The replies to commands are what they were.
-use Rattle.wi_cli.proofs.Vocabulary.{◌≡◌, List, [], ◌∷◌, ◌++◌, map, ℕ, inl, inr, Option, Some, None, Ok, Err, codes, refl, sym, ap, ◌∙◌, subst₂, Refusal, State, refused as refused_line, reply, Bytes, Command, Cause, Stale, Holds, stale_cell, cell_told, Replies, accepted, unserved, Answer, Tells, IsStep, Runs, causes, was, SameReply, SameRuns}
+use Rattle.wi_cli.proofs.Vocabulary.{◌≡◌, List, [], ◌∷◌, ◌++◌, map, ℕ, inl, inr, Option, Some, None, Ok, Err, codes, refl, sym, ap, ◌∙◌, subst₂, Refusal, State, left_by, refused as refused_line, reply, Bytes, Command, Cause, Stale, Holds, stale_cell, cell_told, Replies, accepted, unserved, Answer, Tells, IsStep, Runs, causes, was, SameReply, SameRuns}
 use Rattle.wi_scenarios.specs.declared.refusal.Refusal.TheVariants as refusal
-use Rattle.wi_cli.specs.Inner.Reply.{state_after}
 use Rattle.wi_cli.specs.Inner.Run as old_run
 use Rattle.wi_cli.specs.Reply.{refused}
 use Rattle.wi_cli.proofs.Ties.Uniqueness.{first_holds}
@@ -28,7 +27,7 @@ module _ (s : State) (c : Command) where
       by (Some at) e h = (refusal.Stale at, (at, e, refl))
   has_refusal x h = (refusal_for x, refl)
 
-  answered : (a : Answer) (told : Bytes) (t : State) → IsStep s c a → told ≡ reply a → t ≡ state_after s a → Replies s c told t
+  answered : (a : Answer) (told : Bytes) (t : State) → IsStep s c a → told ≡ reply a → t ≡ left_by s a → Replies s c told t
   answered (Ok done) told t is r u = subst₂ (Replies s c) (sym r) (sym u) (accepted done.0 done.1 is.0 is.1)
   answered (Err e) told t is r u = subst₂ (Replies s c) (sym (r ∙ told_is is.0 e is.2)) (sym u) (refused is.0 (code is.0) (first_coded s c is.0 is.1))
 

@@ -63,7 +63,7 @@ module _ (s : State) (name : Bytes) where
   drop_no x e h = h
 
   drop_picked : (missing used : Bool) → not (has_scenario s.scenarios name) ≡ missing → is_in_use s name ≡ used
-      → (o : Option Cause) × (first_test drop_test causes ≡ o) × old.IsStep s (was (Drop name)) (found dropped o)
+      → (o : Option Cause) × (first_test drop_test causes ≡ o) × old.IsCallStep s (was (Drop name)) (found dropped o)
   drop_picked true used em eu = (Some NoScenario, rw em refl, rw em refl)
   drop_picked false true em eu = (Some InUse, rw (em, eu) refl, rw (em, eu) refl)
   drop_picked false false em eu = (None, rw (em, eu) refl, rw (em, eu) refl)
@@ -101,7 +101,7 @@ use_no s name EditLimit e h = h.1
 use_no s name x e h = h
 
 module _ (s : State) (name : Option Bytes) where
-  use_picked : (missing : Bool) → lacks s.scenarios name ≡ missing → (o : Option Cause) × (first_test (use_test s name) causes ≡ o) × old.IsStep s (was (Use name)) (found (used s name) o)
+  use_picked : (missing : Bool) → lacks s.scenarios name ≡ missing → (o : Option Cause) × (first_test (use_test s name) causes ≡ o) × old.IsCallStep s (was (Use name)) (found (used s name) o)
   use_picked true em = (Some NoScenario, rw em refl, rw em refl)
   use_picked false em = (None, rw em refl, rw em refl)
 
@@ -150,7 +150,7 @@ module _ (s : State) (name : Bytes) where
   as_no EditLimit e h = h.1
   as_no x e h = h
 
-  as_picked : (full : Bool) → (not there && many) ≡ full → (o : Option Cause) × (first_test as_test causes ≡ o) × old.IsStep s (was (As name)) (found made_current o)
+  as_picked : (full : Bool) → (not there && many) ≡ full → (o : Option Cause) × (first_test as_test causes ≡ o) × old.IsCallStep s (was (As name)) (found made_current o)
   as_picked true e = (Some TooMany, rw e refl, rw e refl)
   as_picked false e = (None, rw e refl, rw e refl)
 
@@ -195,7 +195,7 @@ base_no s name other x e h = h
 
 module _ (s : State) (name : Bytes) (other : Option Bytes) where
   base_picked : (missing loop : Bool) → (not (has_scenario s.scenarios name) || lacks s.scenarios other) ≡ missing → would_loop s.scenarios name other ≡ loop
-      → (o : Option Cause) × (first_test (base_test s name other) causes ≡ o) × old.IsStep s (was (Base name other)) (found (based s name other) o)
+      → (o : Option Cause) × (first_test (base_test s name other) causes ≡ o) × old.IsCallStep s (was (Base name other)) (found (based s name other) o)
   base_picked true loop em el = (Some NoScenario, rw em refl, rw em refl)
   base_picked false true em el = (Some Loop, rw (em, el) refl, rw (em, el) refl)
   base_picked false false em el = (None, rw (em, el) refl, rw (em, el) refl)
@@ -231,7 +231,7 @@ module _ (s : State) (name : Bytes) (at : Cell) where
   away_no x e h = h
 
   away_picked : (out missing : Bool) → is_outside at ≡ out → not (has_scenario s.scenarios name) ≡ missing
-      → (o : Option Cause) × (first_test away_test causes ≡ o) × old.IsStep s (was (Scenario name at [])) (found taken_away o)
+      → (o : Option Cause) × (first_test away_test causes ≡ o) × old.IsCallStep s (was (Scenario name at [])) (found taken_away o)
   away_picked true missing eo em = (Some Outside, rw eo refl, rw eo refl)
   away_picked false true eo em = (Some NoScenario, rw (eo, em) refl, rw (eo, em) refl)
   away_picked false false eo em = (None, rw (eo, em) refl, rw (eo, em) refl)
@@ -293,7 +293,7 @@ module _ (s : State) (name : Bytes) (at : Cell) (b : ℕ) (bs : Bytes) (value : 
 module _ (s : State) (name : Bytes) (at : Cell) (b : ℕ) (bs : Bytes) where
   abbrev Picked : (value : Option Value) → IsImported (b ∷ bs) value → Type 0
   Picked value is =
-      (o : Option Cause) × (first_test (put_test s name at b bs value is) causes ≡ o) × old.IsStep s (was (Scenario name at (b ∷ bs))) (found (putting s name at b bs value is value) o)
+      (o : Option Cause) × (first_test (put_test s name at b bs value is) causes ≡ o) × old.IsCallStep s (was (Scenario name at (b ∷ bs))) (found (putting s name at b bs value is value) o)
 
   put_picked : (value : Option Value) (is : IsImported (b ∷ bs) value) (out full : Bool) → is_outside at ≡ out → is_full s.scenarios name (address at) ≡ full → Picked value is
   put_picked value is true full eo ef = (Some Outside, rw eo refl, rw eo refl)

@@ -144,7 +144,7 @@ module _ (s : State) (force : Bool) (c : Cell) where
 
   module _ (b : ℕ) (bs : Bytes) where
     abbrev by_place : Bool → Type 0
-    by_place out = (a : Answer) → old.IsStep s (of_operand (read_by out (address c)) (λ at. old.Set force at (b ∷ bs))) a ↔ IsStep s (Set force c (b ∷ bs)) a
+    by_place out = (a : Answer) → old.IsCallStep s (of_operand (read_by out (address c)) (λ at. old.Set force at (b ∷ bs))) a ↔ IsStep s (Set force c (b ∷ bs)) a
 
     some : (length (b ∷ bs) == 0) ≡ false
     some = grind (arith, nat_tests)
@@ -164,7 +164,7 @@ module _ (s : State) (force : Bool) (c : Cell) where
 
     full : SameStep s (Set force c (b ∷ bs))
     full =
-        subst (λ (none : Bool). (a : Answer) → old.IsStep s (if none then old.Refused refusal.BadCommand else of_operand (read_cell c) (λ at. old.Set force at (b ∷ bs))) a ↔ IsStep s (Set force c (b ∷ bs)) a)
+        subst (λ (none : Bool). (a : Answer) → old.IsCallStep s (if none then old.Refused refusal.BadCommand else of_operand (read_cell c) (λ at. old.Set force at (b ∷ bs))) a ↔ IsStep s (Set force c (b ∷ bs)) a)
         (sym some) (placed (is_outside c) refl)
 
 pub same_set : (s : State) (force : Bool) (c : Cell) (text : Bytes) → SameStep s (Set force c text)

@@ -20,7 +20,7 @@ module _ (s : State) (f r : ℕ) (xs : Area) where
   done = (s, table_of s.stored.sheet (current_replacements s) f r xs None)
 
   before : (ox column of or big : Bool) → (ox ≡ false → is_column xs ≡ column) → nat_lt max_area (entries xs None) ≡ big → (a : Answer)
-      → old.IsStep s (table_of_one (read_by of f) (read_by or r) (read_by ox xs)) a ≡ (found ox column of or big done ≡ a)
+      → old.IsCallStep s (table_of_one (read_by of f) (read_by or r) (read_by ox xs)) a ≡ (found ox column of or big done ≡ a)
   before false false false false big c b a = rw (c refl) refl
   before false false false true big c b a = rw (c refl) refl
   before false false true false big c b a = rw (c refl) refl

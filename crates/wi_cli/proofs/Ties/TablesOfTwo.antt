@@ -152,7 +152,7 @@ module _ (s : State) (f r : Cell) (xs : Corners) (c : Cell) (ys : Corners) where
           ∙ ap (λ (k : Bool). p' || (q' || (k || (y || (z || false))))) d ∙ ap (λ (k : Bool). p' || (q' || (x' || (k || (z || false))))) e
           ∙ ap (λ (k : Bool). p' || (q' || (x' || (y' || (k || false))))) g
 
-  abbrev command : old.Command
+  abbrev command : old.Call
   command =
       of_operand (read_cell f) (λ f. of_operand (read_cell r) (λ r. of_operand (read_area xs) (λ xs. of_operand (read_cell c) (λ c. of_operand (read_area ys) (λ ys. old.Table f r xs (Some (c, ys)))))))
 
@@ -185,9 +185,9 @@ module _ (s : State) (f r : Cell) (xs : Corners) (c : Cell) (ys : Corners) where
   table_no x e h = h
 
   abbrev Picked : Type 0
-  Picked = (o : Option Cause) × (first_test table_test causes ≡ o) × old.IsStep s (was table) (found done o)
+  Picked = (o : Option Cause) × (first_test table_test causes ≡ o) × old.IsCallStep s (was table) (found done o)
 
-  abbrev pub proper : old.Command
+  abbrev pub proper : old.Call
   proper = old.Table (address f) (address r) (area xs) (Some (address c, area ys))
 
   -- as it was, where nothing is outside
@@ -199,7 +199,7 @@ module _ (s : State) (f r : Cell) (xs : Corners) (c : Cell) (ys : Corners) where
       by : is_outside f ≡ false → is_outside r ≡ false → outside_xs ≡ false → is_outside c ≡ false → outside_ys ≡ false → command ≡ proper
       by ef er ex ec ey = rw (ef, er, ex, ec, ey) refl
 
-  good : (large : Bool) → bent ≡ false → out ≡ false → nat_lt max_area (size_of (area xs) * size_of (area ys)) ≡ large → old.IsStep s proper (found done (if large then Some TooLarge else None))
+  good : (large : Bool) → bent ≡ false → out ≡ false → nat_lt max_area (size_of (area xs) * size_of (area ys)) ≡ large → old.IsCallStep s proper (found done (if large then Some TooLarge else None))
   good large eb eo el =
       let k = none_of (is_outside f) (is_outside r) outside_xs (is_outside c) outside_ys eo in
       let bent_xs : Bool = not outside_xs && not (xs.0.column == xs.1.column) in
@@ -208,7 +208,7 @@ module _ (s : State) (f r : Cell) (xs : Corners) (c : Cell) (ys : Corners) where
       (row_is ys k.4 ∙ straight outside_ys (ys.0.row == ys.1.row) (or_parts bent_xs bent_ys eb).1 k.4)
     where
       by : (large : Bool) → nat_lt max_area (size_of (area xs) * size_of (area ys)) ≡ large → is_column (area xs) ≡ true → is_row (area ys) ≡ true
-          → old.IsStep s proper (found done (if large then Some TooLarge else None))
+          → old.IsCallStep s proper (found done (if large then Some TooLarge else None))
       by true el column row = rw (column, row, el) refl
       by false el column row = rw (column, row, el) refl
 
@@ -225,8 +225,8 @@ module _ (s : State) (f r : Cell) (xs : Corners) (c : Cell) (ys : Corners) where
   pub was_proper : bent ≡ false → out ≡ false → was table ≡ proper
   was_proper eb eo = was_is None (none_bad faults (shapes ∙ eb) (outs ∙ eo)) ∙ command_is eo
 
-  as_was : (w : old.Command) (a : Answer) → was table ≡ w → old.IsStep s w a → old.IsStep s (was table) a
-  as_was w a e h = subst (λ (x : old.Command). old.IsStep s x a) (sym e) h
+  as_was : (w : old.Call) (a : Answer) → was table ≡ w → old.IsCallStep s w a → old.IsCallStep s (was table) a
+  as_was w a e h = subst (λ (x : old.Call). old.IsCallStep s x a) (sym e) h
 
   picked : (b o large : Bool) → bent ≡ b → out ≡ o → nat_lt max_area cells ≡ large → Picked
   picked true o large eb eo el = (Some BadCommand, rw eb refl, as_was _ _ (was_bent eb) refl)
@@ -271,7 +271,7 @@ module _ (s : State) (f r : Cell) (xs : Corners) where
       by p q x p' q' x' a b d =
           ap (λ (k : Bool). k || (q || (x || false))) a ∙ ap (λ (k : Bool). p' || (k || (x || false))) b ∙ ap (λ (k : Bool). p' || (q' || (k || false))) d
 
-  abbrev one_command : old.Command
+  abbrev one_command : old.Call
   one_command = of_operand (read_cell f) (λ f. of_operand (read_cell r) (λ r. of_operand (read_area xs) (λ xs. old.Table f r xs None)))
 
   one_was : (o : Option AddressFault) → worst one_faults ≡ o → was one ≡ unless_refused o one_command
@@ -298,13 +298,13 @@ module _ (s : State) (f r : Cell) (xs : Corners) where
 pub one_is_bad : (f r : Result ℕ AddressFault) (xs : Result Area AddressFault) → list_any is_shape (result_err f ∷ result_err r ∷ line_fault is_column xs ∷ []) ≡ true
     → table_of_one f r xs ≡ old.Refused refusal.BadCommand
 one_is_bad f r xs h =
-    let command : old.Command = of_operand f (λ f. of_operand r (λ r. of_operand xs (λ xs. old.Table f r xs None))) in
+    let command : old.Call = of_operand f (λ f. of_operand r (λ r. of_operand xs (λ xs. old.Table f r xs None))) in
     ap (λ (y : Option AddressFault). unless_refused (worse (result_err f) (worse (result_err r) y)) command) (last_one (line_fault is_column xs))
     ∙ ap (λ (w : Option AddressFault). unless_refused w command) (shape_first (result_err f ∷ result_err r ∷ line_fault is_column xs ∷ []) h)
 
 pub two_is_bad : (f r : Result ℕ AddressFault) (xs : Result Area AddressFault) (c : Result ℕ AddressFault) (ys : Result Area AddressFault)
     → list_any is_shape (result_err f ∷ result_err r ∷ line_fault is_column xs ∷ result_err c ∷ line_fault is_row ys ∷ []) ≡ true → table_of_two f r xs c ys ≡ old.Refused refusal.BadCommand
 two_is_bad f r xs c ys h =
-    let command : old.Command = of_operand f (λ f. of_operand r (λ r. of_operand xs (λ xs. of_operand c (λ c. of_operand ys (λ ys. old.Table f r xs (Some (c, ys))))))) in
+    let command : old.Call = of_operand f (λ f. of_operand r (λ r. of_operand xs (λ xs. of_operand c (λ c. of_operand ys (λ ys. old.Table f r xs (Some (c, ys))))))) in
     ap (λ (y : Option AddressFault). unless_refused (worse (result_err f) (worse (result_err r) (worse (line_fault is_column xs) (worse (result_err c) y)))) command) (last_one (line_fault is_row ys))
     ∙ ap (λ (w : Option AddressFault). unless_refused w command) (shape_first (result_err f ∷ result_err r ∷ line_fault is_column xs ∷ result_err c ∷ line_fault is_row ys ∷ []) h)

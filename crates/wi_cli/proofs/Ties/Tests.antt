@@ -106,5 +106,5 @@ module _ (s : State) (c : Command) (test : Cause → Bool) (yes : (x : Cause) �
       let p = first_is causes x e in
       (x, p.0, tells x p.1)
 
-  pub by_tests : (before : old.Command) (o : Option Cause) → first_test test causes ≡ o → old.IsStep s before (found done o) → (a : Answer) → old.IsStep s before a ↔ IsStep s c a
+  pub by_tests : (before : old.Call) (o : Option Cause) → first_test test causes ≡ o → old.IsCallStep s before (found done o) → (a : Answer) → old.IsCallStep s before a ↔ IsStep s c a
   by_tests before o e h a = same_answers s c one before (found done o) h (step o e) a

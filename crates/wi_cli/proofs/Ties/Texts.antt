@@ -118,7 +118,7 @@ module _ (text : Bytes) where
   refused name e none bad =
       spells_none (subst (λ (w : Bytes). NoForm (name_in w) operands) (sym e) none) (ap (λ (w : Bytes). named_command w operands) e ∙ bad)
 
-  pick : {X : Type 0} (name : Bytes) (shape : X → List Operand) (before : old.Command) (command : X → Command) → first_word text ≡ name → Chosen operands shape before
+  pick : {X : Type 0} (name : Bytes) (shape : X → List Operand) (before : old.Call) (command : X → Command) → first_word text ≡ name → Chosen operands shape before
       → ((x : X) → form (command x) ≡ WORD name ∷ shape x) → ((x : X) → is_plain (command x) ≡ true)
       → (((x : X) → IsWritten operands (shape x) → ⊥) → NoForm (name_in name) operands) → named_command name operands ≡ before → Reads text
   pick {X} name shape before command e (inl found) same plain shape_none was_named =
@@ -147,7 +147,7 @@ module _ (text : Bytes) where
   abbrev edited : Bytes
   edited = after_word operands
 
-  pick_forced : {X : Type 0} (name : Bytes) (shape : X → List Operand) (before : old.Command) (command : X → Command) → first_word text ≡ codes "force" → first_word operands ≡ name
+  pick_forced : {X : Type 0} (name : Bytes) (shape : X → List Operand) (before : old.Call) (command : X → Command) → first_word text ≡ codes "force" → first_word operands ≡ name
       → Chosen edited shape before → ((x : X) → form (command x) ≡ WORD (codes "force") ∷ WORD name ∷ shape x) → ((x : X) → is_plain (command x) ≡ true)
       → (((x : X) → IsWritten edited (shape x) → ⊥) → NoEdit (edit_name name) edited) → edit_command true name edited ≡ before → Reads text
   pick_forced {X} name shape before command e f (inl found) same plain shape_none was_named =

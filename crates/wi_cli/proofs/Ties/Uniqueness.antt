@@ -39,9 +39,9 @@ module _ (s : State) (c : Command) where
   answers one found is a = (λ e. subst (IsStep s c) e is, one_answer one found a is)
 
   -- where one answer is that of a step as it was, and of the step as it is, each answer of the one is an answer of the other
-  pub same_answers : DoesOne → (was : old.Command) (found : Answer) → old.IsStep s was found → IsStep s c found → (a : Answer) → old.IsStep s was a ↔ IsStep s c a
+  pub same_answers : DoesOne → (was : old.Call) (found : Answer) → old.IsCallStep s was found → IsStep s c found → (a : Answer) → old.IsCallStep s was a ↔ IsStep s c a
   same_answers one was found o n a =
-      (λ h. subst (IsStep s c) (no_other s was found a o h) n, λ k. subst (old.IsStep s was) (one_answer one found a n k) o)
+      (λ h. subst (IsStep s c) (no_other s was found a o h) n, λ k. subst (old.IsCallStep s was) (one_answer one found a n k) o)
 
   -- an operand lies outside, and no cause holds that is answered before
   pub outside_step : DoesOne → (Holds s BadLine c → ⊥) → (Holds s BadCommand c → ⊥) → (Holds s CutShort c → ⊥) → Holds s Outside c

@@ -52,17 +52,17 @@ module _ (s : State) (c : Command) where
   early_outside : Holds s Outside c → Early
   early_outside h x f l = bounded (BadLine ∷ BadCommand ∷ CutShort ∷ []) Outside behind (late_line, (late_command, (late_come, tt))) late_outside h x f l
 
-  refused : (e : Refusal) → was c ≡ old.Refused e → Early → old.MayLackMemory s (was c) ↔ LateCoded s c
+  refused : (e : Refusal) → was c ≡ old.Refused e → Early → old.CallMayLackMemory s (was c) ↔ LateCoded s c
   refused e eq early =
-      let told : old.IsStep s (was c) (Err e) = subst (λ (w : old.Command). old.IsStep s w (Err e)) (sym eq) refl in
+      let told : old.IsCallStep s (was c) (Err e) = subst (λ (w : old.Call). old.IsCallStep s w (Err e)) (sym eq) refl in
       let first : IsStep s c (Err e) = (same_step s c (Err e)).0 told in
-      (λ h. absurd (subst (old.MayLackMemory s) eq h), λ all. absurd (early first.0 first.1 ((same_late s c).1 all first.0 first.1)))
+      (λ h. absurd (subst (old.CallMayLackMemory s) eq h), λ all. absurd (early first.0 first.1 ((same_late s c).1 all first.0 first.1)))
 
-  proper_lack : (w : old.Command) → was c ≡ w → old.MayLackMemory s w ↔ MayGrow (old.IsStep s w) → (Holds s Outside c → ⊥) → (Holds s CutShort c → ⊥) → (Holds s BadField c → ⊥)
-      → old.MayLackMemory s (was c) ↔ LateCoded s c
+  proper_lack : (w : old.Call) → was c ≡ w → old.CallMayLackMemory s w ↔ MayGrow (old.IsCallStep s w) → (Holds s Outside c → ⊥) → (Holds s CutShort c → ⊥) → (Holds s BadField c → ⊥)
+      → old.CallMayLackMemory s (was c) ↔ LateCoded s c
   proper_lack w eq grows inside come texts =
-      let lack = same_lack s c inside come texts w (subst (λ (x : old.Command). (a : Answer) → old.IsStep s x a ↔ IsStep s c a) eq (same_step s c)) in
-      (λ h. (same_late s c).0 (lack.0 (grows.0 (subst (old.MayLackMemory s) eq h))), λ k. subst (old.MayLackMemory s) (sym eq) (grows.1 (lack.1 ((same_late s c).1 k))))
+      let lack = same_lack s c inside come texts w (subst (λ (x : old.Call). (a : Answer) → old.IsCallStep s x a ↔ IsStep s c a) eq (same_step s c)) in
+      (λ h. (same_late s c).0 (lack.0 (grows.0 (subst (old.CallMayLackMemory s) eq h))), λ k. subst (old.CallMayLackMemory s) (sym eq) (grows.1 (lack.1 ((same_late s c).1 k))))
 
 -- ---- each command
 
@@ -145,27 +145,27 @@ lack_two s f r xs c ys false false eb eo =
 
 -- data lines
 data_lack : (s : State) (force : Bool) (c : Cell) (n : ℕ) (lines : List Bytes) (b l m : Bool) → is_outside c ≡ b → list_any is_long lines ≡ l → (n - length lines == 0) ≡ m → SameLack s (Csv force (Some c) n lines)
-data_lack s force c n lines true true m e f g = (λ h. absurd (subst (old.MayLackMemory s) same h), λ k. absurd (both_ways _ k e))
+data_lack s force c n lines true true m e f g = (λ h. absurd (subst (old.CallMayLackMemory s) same h), λ k. absurd (both_ways _ k e))
   where
     same : was (Csv force (Some c) n lines) ≡ old.Refused refusal.BadLine
     same = rw (e, f) refl
-data_lack s force c n lines true false true e f g = (λ h. absurd (subst (old.MayLackMemory s) same h), λ k. absurd (both_ways _ k e))
+data_lack s force c n lines true false true e f g = (λ h. absurd (subst (old.CallMayLackMemory s) same h), λ k. absurd (both_ways _ k e))
   where
     same : was (Csv force (Some c) n lines) ≡ old.Refused refusal.OutOfSheet
     same = rw (e, f, g) refl
-data_lack s force c n lines true false false e f g = (λ h. absurd (subst (old.MayLackMemory s) same h), λ k. absurd (both_ways _ k e))
+data_lack s force c n lines true false false e f g = (λ h. absurd (subst (old.CallMayLackMemory s) same h), λ k. absurd (both_ways _ k e))
   where
     same : was (Csv force (Some c) n lines) ≡ old.Refused refusal.CutShort
     same = rw (e, f, g) refl
-data_lack s force c n lines false true m e f g = (λ h. e, λ k. subst (old.MayLackMemory s) (sym same) tt)
+data_lack s force c n lines false true m e f g = (λ h. e, λ k. subst (old.CallMayLackMemory s) (sym same) tt)
   where
     same : was (Csv force (Some c) n lines) ≡ old.RefusedData refusal.BadLine
     same = rw (e, f) refl
-data_lack s force c n lines false false true e f g = (λ h. e, λ k. subst (old.MayLackMemory s) (sym same) tt)
+data_lack s force c n lines false false true e f g = (λ h. e, λ k. subst (old.CallMayLackMemory s) (sym same) tt)
   where
     same : was (Csv force (Some c) n lines) ≡ old.Csv force (address c) (concat lines)
     same = rw (e, f, g) refl
-data_lack s force c n lines false false false e f g = (λ h. e, λ k. subst (old.MayLackMemory s) (sym same) tt)
+data_lack s force c n lines false false false e f g = (λ h. e, λ k. subst (old.CallMayLackMemory s) (sym same) tt)
   where
     same : was (Csv force (Some c) n lines) ≡ old.RefusedData refusal.CutShort
     same = rw (e, f, g) refl

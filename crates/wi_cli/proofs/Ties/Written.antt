@@ -1,26 +1,21 @@
 -- What a run has written comes of events.
-use Rattle.wi_cli.proofs.Vocabulary.{◌≡◌, List, [], ◌∷◌, ◌++◌, inl, inr, false, Ok, Err, refl, ap, ap₂, ◌∙◌, subst, false≢true, State, left_by, reply, MayAnswer, Bytes, Command, Replies, Answer, was, Writes, MayHappen, AreEvents}
+use Rattle.wi_cli.proofs.Vocabulary.{◌≡◌, List, [], ◌∷◌, ◌++◌, inl, inr, false, Err, refl, ap, ap₂, ◌∙◌, subst, false≢true, State, left_by, reply, MayAnswer, Bytes, Command, Replies, Answer, IsStep, was, Writes, MayHappen, AreEvents}
 use Rattle.wi_scenarios.specs.declared.refusal.Refusal.TheVariants as refusal
-use Rattle.wi_cli.specs.Inner.Reply as inner
 use Rattle.wi_cli.proofs.Ties.Steps.{same_step}
 use Rattle.wi_cli.proofs.Ties.Replies.{same_reply}
 
 -- an answer of a command that has this reply and leaves this state
 record HasEvent (s : State) (c : Command) (told : Bytes) (t : State) : Type 0 where
   answer : Answer
-  happens : MayHappen s (record { command = c; answer = answer })
+  happens : MayHappen IsStep s (record { command = c; answer = answer })
   told_is : told ≡ reply answer
   left_is : t ≡ left_by s answer
-
-same_state : (s : State) (a : Answer) → inner.state_after s a ≡ left_by s a
-same_state s (Ok done) = refl
-same_state s (Err e) = refl
 
 has_event : (s : State) (c : Command) (told : Bytes) (t : State) → Replies s c told t → HasEvent s c told t
 has_event s c told t h = by ((same_reply s c told t).1 h)
   where
     by : MayAnswer s (was c) told t → HasEvent s c told t
-    by (inl a) = record { answer = a.answer; happens = inl ((same_step s c a.answer).0 a.is_step); told_is = a.reply_is; left_is = a.state_is ∙ same_state s a.answer }
+    by (inl a) = record { answer = a.answer; happens = inl ((same_step s c a.answer).0 a.is_step); told_is = a.reply_is; left_is = a.state_is }
     by (inr u) = record { answer = Err refusal.Memory; happens = inr refl; told_is = u.reply_is; left_is = u.state_is }
 
 pub are_events : (s t : State) (cs : List Command) (out : Bytes) → Writes false s cs out t → AreEvents s cs out t

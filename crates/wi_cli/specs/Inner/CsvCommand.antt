@@ -6,7 +6,7 @@ use Rattle.std.specs.Str.Parse.{digits_value}
 use Rattle.wi_values.specs.declared.address.AddressFault.{AddressFault}
 use Rattle.wi_values.specs.declared.address.AddressFault.TheVariants.{Shape, Outside}
 use Rattle.wi_scenarios.specs.declared.refusal.Refusal.TheVariants.{BadCommand, BadLine, OutOfSheet, CutShort}
-use Rattle.wi_scenarios.specs.Step.{Command, Csv, Refused, RefusedData}
+use Rattle.wi_scenarios.specs.Step.{Call, Csv, Refused, RefusedData}
 use Rattle.wi_cli.specs.Lines.{without_lf, without_cr, max_line, first_word, after_word}
 use Rattle.wi_cli.specs.Inner.Operands.{is_all_spaces}
 
@@ -57,7 +57,7 @@ abbrev pub is_long : List ℕ → Bool
 is_long line = nat_lt max_line (length (without_lf line))
 
 -- The command of ADDR, its data lines, and how many of them are missing. Where ADDR is a cell its data lines are held.
-abbrev pub csv_command : Bool → Result ℕ AddressFault → List (List ℕ) → ℕ → Command
+abbrev pub csv_command : Bool → Result ℕ AddressFault → List (List ℕ) → ℕ → Call
 csv_command force (Ok at) lines missing =
     if list_any is_long lines then RefusedData BadLine
     else (if missing == 0 then Csv force at (concat lines) else RefusedData CutShort)

@@ -7,7 +7,7 @@ use Rattle.wi_values.specs.declared.address.AddressFault.TheVariants.{Shape, Out
 use Rattle.wi_scenarios.specs.declared.refusal.Refusal.{Refusal}
 use Rattle.wi_scenarios.specs.declared.refusal.Refusal.TheVariants.{BadCommand, BadLine, OutOfSheet, CutShort}
 use Rattle.wi_scenarios.specs.State.{State}
-use Rattle.wi_scenarios.specs.Step.{Command, Csv}
+use Rattle.wi_scenarios.specs.Step.{Call, Csv}
 use Rattle.wi_scenarios.specs.Step as spell
 use Rattle.wi_cli.specs.declared.csv_line.CsvLine.{CsvLine as ReadCsv}
 use Rattle.wi_cli.specs.declared.data_lines.Held.{Held}
@@ -26,7 +26,7 @@ IsCsv o (Some csv) =
     (word : List ℕ) × (o ≡ Some (record { force = csv.force; address = word; lines = csv.lines })) × (csv.at ≡ read_address word)
 
 -- what it is as a command, with its data lines and how many of them are missing
-abbrev pub command_of_csv : ReadCsv → List (List ℕ) → ℕ → Command
+abbrev pub command_of_csv : ReadCsv → List (List ℕ) → ℕ → Call
 command_of_csv csv lines missing = if csv.is_text then csv_command csv.force csv.at lines missing else spell.Refused BadLine
 
 -- its data lines are to be held
@@ -68,6 +68,6 @@ target_of (Err Shape) missing = Err BadCommand
 target_of (Err Outside) missing = if missing == 0 then Err OutOfSheet else Err CutShort
 
 -- the command puts these bytes there, or is refused whatever the state is
-abbrev pub IsTarget : Command → Bool → List ℕ → Result ℕ Refusal → Type 0
+abbrev pub IsTarget : Call → Bool → List ℕ → Result ℕ Refusal → Type 0
 IsTarget c force bytes (Ok at) = c ≡ Csv force at bytes
 IsTarget c force bytes (Err e) = (s : State) → RefusedAs e s c

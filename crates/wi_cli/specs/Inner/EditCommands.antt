@@ -6,31 +6,31 @@ use Rattle.wi_values.specs.Address.{Area}
 use Rattle.wi_values.specs.AddressReading.{read_address, read_rect}
 use Rattle.wi_values.specs.declared.address.AddressFault.{AddressFault}
 use Rattle.wi_scenarios.specs.declared.refusal.Refusal.TheVariants.{BadCommand}
-use Rattle.wi_scenarios.specs.Step.{Command, Set, Clear, Fill, Refused}
+use Rattle.wi_scenarios.specs.Step.{Call, Set, Clear, Fill, Refused}
 use Rattle.wi_cli.specs.Lines.{first_word, after_word}
 use Rattle.wi_cli.specs.Inner.Operands.{at_end, of_operand, worse, unless_refused}
 
 -- `set ADDR CONTENT`; CONTENT is all after the one space that follows ADDR
-abbrev pub set_command : Bool → List ℕ → Command
+abbrev pub set_command : Bool → List ℕ → Call
 set_command force operands =
     if length (after_word operands) == 0 then Refused BadCommand
     else of_operand (read_address (first_word operands)) (λ at. Set force at (after_word operands))
 
 -- `clear RECT`
-abbrev pub clear_command : Bool → List ℕ → Command
+abbrev pub clear_command : Bool → List ℕ → Call
 clear_command force operands = at_end (after_word operands) (of_operand (read_rect (first_word operands)) (λ area. Clear force area))
 
-abbrev pub fill_command_of : Bool → Result ℕ AddressFault → Result Area AddressFault → Command
+abbrev pub fill_command_of : Bool → Result ℕ AddressFault → Result Area AddressFault → Call
 fill_command_of force from area =
     unless_refused (worse (result_err from) (result_err area)) (of_operand from (λ from. of_operand area (λ area. Fill force from area)))
 
 -- `fill ADDR RECT`
-abbrev pub fill_command : Bool → List ℕ → Command
+abbrev pub fill_command : Bool → List ℕ → Call
 fill_command force operands =
     at_end (after_word (after_word operands)) (fill_command_of force (read_address (first_word operands)) (read_rect (first_word (after_word operands))))
 
 -- the edit of this name
-abbrev pub edit_command : Bool → List ℕ → List ℕ → Command
+abbrev pub edit_command : Bool → List ℕ → List ℕ → Call
 edit_command force name operands =
     if bytes_eq name (codes "set") then set_command force operands
     else (if bytes_eq name (codes "clear") then clear_command force operands

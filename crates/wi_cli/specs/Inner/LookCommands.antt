@@ -1,24 +1,24 @@
 -- The commands that show what a workbook holds.
 use Rattle.std.specs.Prelude.{ℕ, List}
 use Rattle.wi_values.specs.AddressReading.{read_address, read_rect}
-use Rattle.wi_scenarios.specs.Step.{Command, Show, Export, Changes, Compare, Formula}
+use Rattle.wi_scenarios.specs.Step.{Call, Show, Export, Changes, Compare, Formula}
 use Rattle.wi_cli.specs.Lines.{first_word, after_word}
 use Rattle.wi_cli.specs.Inner.Operands.{at_end, of_operand, of_name, read_side}
 
 -- `show RECT`
-abbrev pub show_command : List ℕ → Command
+abbrev pub show_command : List ℕ → Call
 show_command operands = at_end (after_word operands) (of_operand (read_rect (first_word operands)) (λ area. Show area))
 
 -- `export RECT`
-abbrev pub export_command : List ℕ → Command
+abbrev pub export_command : List ℕ → Call
 export_command operands = at_end (after_word operands) (of_operand (read_rect (first_word operands)) (λ area. Export area))
 
 -- `changes`
-abbrev pub changes_command : List ℕ → Command
+abbrev pub changes_command : List ℕ → Call
 changes_command operands = at_end operands Changes
 
 -- `compare S T RECT`, where S and T are names of scenarios, or `-`
-abbrev pub compare_command : List ℕ → Command
+abbrev pub compare_command : List ℕ → Call
 compare_command operands =
     at_end (after_word (after_word (after_word operands)))
     (of_name (read_side (first_word operands)) (λ first.
@@ -26,5 +26,5 @@ compare_command operands =
     of_operand (read_rect (first_word (after_word (after_word operands)))) (λ area. Compare first second area))))
 
 -- `formula ADDR`
-abbrev pub formula_command : List ℕ → Command
+abbrev pub formula_command : List ℕ → Call
 formula_command operands = at_end (after_word operands) (of_operand (read_address (first_word operands)) (λ at. Formula at))

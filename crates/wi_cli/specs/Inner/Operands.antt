@@ -8,7 +8,7 @@ use Rattle.wi_values.specs.declared.address.AddressFault.{AddressFault}
 use Rattle.wi_values.specs.declared.address.AddressFault.TheVariants.{Shape, Outside}
 use Rattle.wi_scenarios.specs.declared.refusal.Refusal.TheVariants.{BadCommand}
 use Rattle.wi_scenarios.specs.Answer.{operand_refusal}
-use Rattle.wi_scenarios.specs.Step.{Command, Refused}
+use Rattle.wi_scenarios.specs.Step.{Call, Refused}
 use Rattle.wi_cli.specs.Lines.{is_space, first_word, after_word}
 
 -- no word is there
@@ -16,13 +16,13 @@ abbrev pub is_all_spaces : List ℕ → Bool
 is_all_spaces text = list_all is_space text
 
 -- the command, where no word is left
-abbrev pub at_end : List ℕ → Command → Command
+abbrev pub at_end : List ℕ → Call → Call
 at_end more command = if is_all_spaces more then command else Refused BadCommand
 
 -- ---- cells
 
 -- a command of an operand, where it is one
-abbrev pub of_operand : {X : Type 0} → Result X AddressFault → (X → Command) → Command
+abbrev pub of_operand : {X : Type 0} → Result X AddressFault → (X → Call) → Call
 of_operand (Ok x) command = command x
 of_operand (Err fault) command = Refused (operand_refusal fault)
 
@@ -39,14 +39,14 @@ worse (Some Outside) None = Some Outside
 worse (Some Outside) (Some fault) = Some fault
 
 -- the command, unless an operand is refused
-abbrev pub unless_refused : Option AddressFault → Command → Command
+abbrev pub unless_refused : Option AddressFault → Call → Call
 unless_refused None command = command
 unless_refused (Some fault) command = Refused (operand_refusal fault)
 
 -- ---- names
 
 -- a command of what is named, where it is a name
-abbrev pub of_name : {X : Type 0} → Option X → (X → Command) → Command
+abbrev pub of_name : {X : Type 0} → Option X → (X → Call) → Call
 of_name (Some x) command = command x
 of_name None command = Refused BadCommand
 

@@ -4,7 +4,6 @@ use Rattle.std.specs.Str.{byte}
 use Rattle.wi_values.specs.Address.{address_text}
 use Rattle.wi_scenarios.specs.declared.refusal.Refusal.{Refusal}
 use Rattle.wi_scenarios.specs.declared.refusal.Refusal.TheVariants.{Stale}
-use Rattle.wi_scenarios.specs.State.{State}
 use Rattle.wi_scenarios.specs.Answer.{Answer, code_of}
 
 -- the byte of a digit
@@ -32,8 +31,3 @@ ok_line = codes "ok\n"
 abbrev pub reply : Answer → List ℕ
 reply (Ok a) = a.1 ++ ok_line
 reply (Err e) = refused e
-
--- the state after an answer
-abbrev pub state_after : State → Answer → State
-state_after s (Ok a) = a.0
-state_after s (Err e) = s

@@ -4,12 +4,12 @@ use Rattle.wi_values.specs.Name.{bytes_of}
 use Rattle.wi_values.specs.declared.name.Name.{Name}
 use Rattle.wi_scenarios.specs.declared.refusal.Refusal.{Refusal}
 use Rattle.wi_scenarios.specs.declared.refusal.Refusal.TheVariants.{Memory, BadCommand}
-use Rattle.wi_scenarios.specs.Step.{Command, Set, Clear, Fill, Scenario, Drop, Base, Use, As, Show, Export, Changes, Compare, Table, Formula, Refused}
+use Rattle.wi_scenarios.specs.Step.{Call, Set, Clear, Fill, Scenario, Drop, Base, Use, As, Show, Export, Changes, Compare, Table, Formula, Refused}
 use Rattle.wi_cli.specs.declared.command.Command.TheVariants as read
 use Rattle.wi_cli.specs.declared.command.Command.{Command as ReadCommand}
 
 -- the command that was read
-abbrev pub command_of : ReadCommand → Command
+abbrev pub command_of : ReadCommand → Call
 command_of (read.Set force at content) = Set force at content.now
 command_of (read.Clear force area) = Clear force area
 command_of (read.Fill force from area) = Fill force from area
@@ -26,8 +26,8 @@ command_of (read.Table f r xs) = Table f r xs None
 command_of (read.TableOfTwo f r xs c ys) = Table f r xs (Some (c, ys))
 command_of (read.Formula at) = Formula at
 
--- the text spells this command, or one that is refused, not for want of memory
-abbrev pub IsCommandOf : Command → Result ReadCommand Refusal → Type 0
+-- the text spells this command, or one that is refused, not as out of memory
+abbrev pub IsCommandOf : Call → Result ReadCommand Refusal → Type 0
 IsCommandOf c (Ok d) = c ≡ command_of d
 IsCommandOf c (Err e) = (c ≡ Refused e) × (e ≢ Memory)
 

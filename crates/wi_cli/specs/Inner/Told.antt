@@ -3,28 +3,28 @@ use Rattle.std.specs.Prelude.{◌≡◌, ℕ, List, [], ◌++◌, Option, Some, 
 use Rattle.wi_scenarios.specs.declared.refusal.Refusal.{Refusal}
 use Rattle.wi_scenarios.specs.declared.refusal.Refusal.TheVariants.{Memory}
 use Rattle.wi_scenarios.specs.State.{State}
-use Rattle.wi_scenarios.specs.Step.{Command, IsStep, MayLackMemory}
+use Rattle.wi_scenarios.specs.Step.{Call, IsCallStep, CallMayLackMemory}
 use Rattle.wi_cli.specs.declared.reply.Reply.{Reply}
 use Rattle.wi_cli.specs.declared.reply.Reply.TheVariants.{Passed, Done, Refused}
 use Rattle.wi_cli.specs.Inner.Reply.{refused, ok_line}
 
--- want of memory may refuse some commands; another refusal is the step's
-abbrev pub RefusedAs : Refusal → State → Command → Type 0
-RefusedAs Memory s c = MayLackMemory s c
-RefusedAs e s c = IsStep s c (Err e)
+-- some commands may be refused as out of memory; another refusal is the step's
+abbrev pub RefusedAs : Refusal → State → Call → Type 0
+RefusedAs Memory s c = CallMayLackMemory s c
+RefusedAs e s c = IsCallStep s c (Err e)
 
--- the command is answered by the step, or by want of memory
-abbrev pub IsServed : Command → Result (Unit {0}) Refusal → State → State → List ℕ → Type 0
-IsServed c (Ok _) s t records = IsStep s c (Ok (t, records))
+-- the command is answered by the step, or as out of memory
+abbrev pub IsServed : Call → Result (Unit {0}) Refusal → State → State → List ℕ → Type 0
+IsServed c (Ok _) s t records = IsCallStep s c (Ok (t, records))
 IsServed c (Err e) s t records = (t ≡ s) × RefusedAs e s c
 
--- the line is passed over, or its command is answered by the step, or by want of memory
-abbrev pub Told : Option Command → Reply → State → State → List ℕ → Type 0
+-- the line is passed over, or its command is answered by the step, or as out of memory
+abbrev pub Told : Option Call → Reply → State → State → List ℕ → Type 0
 Told None Passed s t out = t ≡ s
 Told None Done s t out = ⊥
 Told None (Refused e) s t out = ⊥
 Told (Some c) Passed s t out = ⊥
-Told (Some c) Done s t out = IsStep s c (Ok (t, out))
+Told (Some c) Done s t out = IsCallStep s c (Ok (t, out))
 Told (Some c) (Refused e) s t out = (t ≡ s) × RefusedAs e s c
 
 -- the bytes that tell it

@@ -1,19 +1,22 @@
 -- What one turn of a run does.
-use Rattle.std.specs.Prelude.{◌≡◌, ℕ, ◌<◌, Bool, true, List, [], ◌++◌, filter, filter_map, Option}
+use Rattle.std.specs.Prelude.{◌≡◌, ℕ, ◌<◌, Bool, true, List, [], ◌++◌, filter, filter_map, Option, Result, Ok, Err}
 use Rattle.std.specs.Option.{option_to_list}
 use Rattle.std.specs.Io.KnownBytes.{Appends}
 use Rattle.wi_cli.specs.declared.fault.RunFault.{RunFault}
 use Rattle.wi_cli.specs.declared.fault.RunFault.TheVariants.{Memory, Read, Write, ScriptLimit}
+use Rattle.wi_cli.specs.declared.reply.Reply.{Reply}
 use Rattle.wi_scenarios.specs.State.{State}
-use Rattle.wi_scenarios.specs.Step.{Command}
+use Rattle.wi_scenarios.specs.Step.{Call}
 use Rattle.wi_cli.specs.Lines.{raw_lines}
 use Rattle.wi_cli.specs.Inner.Blocks.{Block, blocks, is_complete}
+use Rattle.wi_cli.specs.Inner.Front.{AppendsFront}
 use Rattle.wi_cli.specs.Inner.Script.{block_command}
 use Rattle.wi_cli.specs.Inner.Run.{WritesReplies}
 use Rattle.wi_cli.specs.Inner.Taken.{AreBlocksOf, TookLines, BrokeLines}
+use Rattle.wi_cli.specs.Inner.Told.{told_bytes}
 
 -- a block was taken, or nothing was there; this is its command, if it has one
-pub record TookBlock (command : Option Command) (whole : Bool) (buffer : List ℕ) (left : Option (List ℕ)) (buffer' : List ℕ) (left' : Option (List ℕ)) (count count' : ℕ) : Type 0 where
+pub record TookBlock (command : Option Call) (whole : Bool) (buffer : List ℕ) (left : Option (List ℕ)) (buffer' : List ℕ) (left' : Option (List ℕ)) (count count' : ℕ) : Type 0 where
   pub took : TookLines whole buffer left buffer' left' count count'
   pub taken : List Block
   pub are_blocks : AreBlocksOf whole (took.lines ++ raw_lines took.last) taken
@@ -27,7 +30,7 @@ pub record BrokeBlock (fault : RunFault) (buffer : List ℕ) (left : Option (Lis
 
 -- a block was taken, whole or up to the end, and served
 pub record Turned (whole : Bool) (buffer : List ℕ) (left : Option (List ℕ)) (buffer' : List ℕ) (left' : Option (List ℕ)) (count count' : ℕ) (s t : State) (given given' : Option (List ℕ)) : Type 0 where
-  pub command : Option Command
+  pub command : Option Call
   pub block : TookBlock command whole buffer left buffer' left' count count'
   pub out : List ℕ
   pub written : Appends given given' out
@@ -37,12 +40,18 @@ pub record Turned (whole : Bool) (buffer : List ℕ) (left : Option (List ℕ)) 
 pub record CutShort (buffer : List ℕ) (left : Option (List ℕ)) (buffer' : List ℕ) (left' : Option (List ℕ)) (count : ℕ) (s t : State) (given given' : Option (List ℕ)) : Type 0 where
   pub whole : Bool
   pub count' : ℕ
-  pub command : Option Command
+  pub command : Option Call
   pub block : TookBlock command whole buffer left buffer' left' count count'
   pub out : List ℕ
   pub unwritten : List ℕ
   pub written : Appends given given' out
   pub writes : WritesReplies s (option_to_list command) (out ++ unwritten) t
+
+-- the reply to a block that was taken, whole or up to the end, was written, or a front of it
+abbrev pub IsReplied : Bool → Reply → List ℕ → Result Bool RunFault → Option (List ℕ) → Option (List ℕ) → Type 0
+IsReplied whole reply records (Ok end) given given' = (end ≡ whole) × Appends given given' (told_bytes reply records)
+IsReplied whole reply records (Err Write) given given' = AppendsFront given given' (told_bytes reply records)
+IsReplied whole reply records (Err e) given given' = ⊥
 
 abbrev pub Stopped : RunFault → List ℕ → Option (List ℕ) → List ℕ → Option (List ℕ) → ℕ → State → State → Option (List ℕ) → Option (List ℕ) → Type 0
 Stopped Memory b l b' l' count s t w w' = ⊥

@@ -1,8 +1,8 @@
 -- What the code keeps of an edit.
 use Rattle.std.specs.Prelude.{◌≡◌, ℕ, ◌+◌, ◌≤◌, ◌<◌, Bool, true, ◌==◌, ◌&&◌, not, nat_lt, List, length, map, slice_index_or}
 use Rattle.std.specs.List.{list_any}
-use Rattle.wi_values.specs.Address.{Area}
-use Rattle.wi_edit_log.specs.EditLog.{Entry, have_cell}
+use Rattle.wi_values.specs.Address.{Area, is_within_one}
+use Rattle.wi_edit_log.specs.EditLog.{Entry}
 use Rattle.wi_edit_log.specs.Inner.Narrow.{are_narrow}
 use Rattle.wi_edit_log.specs.declared.edit.Edit.{Edit}
 
@@ -15,11 +15,11 @@ entries_in es = map entry_in es
 
 -- an edit of another session names the cell a
 abbrev pub is_named_by_others : List Edit → ℕ → ℕ → Bool
-is_named_by_others es session a = list_any (λ e. not (e.session == session) && have_cell e.cells a) (entries_in es)
+is_named_by_others es session a = list_any (λ e. not (e.session == session) && is_within_one e.cells a) (entries_in es)
 
 -- and the cell a is one of the wanted
 abbrev pub is_wanted_of_others : List Edit → ℕ → List Area → ℕ → Bool
-is_wanted_of_others es session wanted a = have_cell wanted a && is_named_by_others es session a
+is_wanted_of_others es session wanted a = is_within_one wanted a && is_named_by_others es session a
 
 -- The run begins at the edit's place i or before, and all from there on to it are its session's. Of the edits up to it the last
 -- ones that are counted named narrow rectangles alone.

@@ -1,7 +1,6 @@
 -- The first cell that passes a test.
 use Rattle.std.specs.Prelude.{◌≡◌, ℕ, ◌≤◌, Bool, true, ◌&&◌, nat_lt, List, Option, Some, None, IfSome}
-use Rattle.wi_values.specs.Address.{Area, is_within}
-use Rattle.wi_edit_log.specs.EditLog.{have_cell}
+use Rattle.wi_values.specs.Address.{Area, is_within, is_within_one}
 
 -- there is a cell, and it stands at a or before
 abbrev pub IsAtOrBefore : Option ℕ → ℕ → Type 0
@@ -19,11 +18,11 @@ in_both r s a = is_within r a && is_within s a
 
 -- the cell a is in the rectangle and in one of the others
 abbrev pub in_one : Area → List Area → ℕ → Bool
-in_one r areas a = is_within r a && have_cell areas a
+in_one r areas a = is_within r a && is_within_one areas a
 
 -- the cell a is in one rectangle of each list
 abbrev pub in_each : List Area → List Area → ℕ → Bool
-in_each areas others a = have_cell areas a && have_cell others a
+in_each areas others a = is_within_one areas a && is_within_one others a
 
 -- the cell a is in the rectangle and comes after another, in row-major order
 abbrev pub is_after : Area → ℕ → ℕ → Bool

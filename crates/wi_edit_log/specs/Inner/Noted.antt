@@ -2,8 +2,7 @@
 use Rattle.std.specs.Prelude.{◌≡◌, ℕ, ◌≤◌, Bool, ◌==◌, ◌&&◌, not, nat_lt, if◌then◌else◌, List, take, drop, length, Option, Some, None}
 use Rattle.std.specs.List.{list_any}
 use Rattle.std.specs.Map.{lookup}
-use Rattle.wi_values.specs.Address.{Area, is_within}
-use Rattle.wi_edit_log.specs.EditLog.{have_cell}
+use Rattle.wi_values.specs.Address.{Area, is_within, is_within_one}
 use Rattle.wi_edit_log.specs.Inner.Edits.{AreInRuns}
 use Rattle.wi_edit_log.specs.Inner.Narrow.{are_narrow}
 use Rattle.wi_edit_log.specs.declared.edit.Edit.{Edit}
@@ -11,7 +10,7 @@ use Rattle.wi_edit_log.specs.declared.noted.Last.{Last}
 
 -- the edit is of another session, and names the cell a
 abbrev pub names_for : ℕ → ℕ → Edit → Bool
-names_for session a e = not (e.session == session) && have_cell e.named a
+names_for session a e = not (e.session == session) && is_within_one e.named a
 
 -- its rectangles are narrow
 abbrev pub names_narrowly : ℕ → ℕ → Edit → Bool
@@ -29,10 +28,10 @@ is_named_widely es session a = list_any (names_widely session a) es
 
 -- and the cell a is one of the wanted
 abbrev pub is_wanted_narrowly : List Edit → ℕ → List Area → ℕ → Bool
-is_wanted_narrowly es session wanted a = have_cell wanted a && is_named_narrowly es session a
+is_wanted_narrowly es session wanted a = is_within_one wanted a && is_named_narrowly es session a
 
 abbrev pub is_wanted_widely : List Edit → ℕ → List Area → ℕ → Bool
-is_wanted_widely es session wanted a = have_cell wanted a && is_named_widely es session a
+is_wanted_widely es session wanted a = is_within_one wanted a && is_named_widely es session a
 
 -- what is noted of the cell a
 abbrev pub last_of : List (ℕ × Last) → ℕ → Option Last
@@ -64,7 +63,7 @@ is_told_in r notes session since a = is_within r a && is_told notes session sinc
 
 -- and it is one of the wanted
 abbrev pub is_wanted_told : List Area → List (ℕ × Last) → ℕ → ℕ → ℕ → Bool
-is_wanted_told wanted notes session since a = have_cell wanted a && is_told notes session since a
+is_wanted_told wanted notes session since a = is_within_one wanted a && is_told notes session since a
 
 -- one edit more is noted of the cells that pass the test
 abbrev pub NotesMore : (ℕ → Bool) → ℕ → ℕ → List (ℕ × Last) → List (ℕ × Last) → Type 0

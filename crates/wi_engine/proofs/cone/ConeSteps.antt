@@ -1,9 +1,9 @@
 -- One pass over an order of reading finds the cells that reach a cell.
-use Rattle.wi_engine.proofs.Words.{◌≡◌, ◌==◌, ℕ, suc, ◌+◌, ◌<◌, Bool, true, false, ◌&&◌, ◌||◌, cond, List, [], ◌∷◌, ◌++◌, filter, take, drop, length, get_or, Option, Some, None, IsSome, IfSome, All, refl, ap, sym, ◌∙◌, subst, inl, inr, ◌⊎◌, eq-eqb, drop-cons, and_parts, and_from, or_cases, or_left, or_right, take-append-drop, All-head, All-more, All-tail, list_any, nat_cmp, BTreeMap, get, is_at, BTreeSet, contains, Area, is_within, Replacement, Formula, Tree, Sheet, content_of, has_formula, content_reads, rectangles_of, reads_within, is_one_of, reaches, same_cell, one_truth, found, finds_in, reaches_here, reaches_read, reaches_step, reaches_by_step, is_at-eq, at_same, reaching, rectangles_in, occupied_within, IsReadOrder, AreCones, occupied_read, read_occupied, has_one_more}
+use Rattle.wi_engine.proofs.Words.{◌≡◌, ◌==◌, ℕ, suc, ◌+◌, ◌<◌, Bool, true, false, ◌&&◌, ◌||◌, cond, List, [], ◌∷◌, ◌++◌, filter, take, drop, length, get_or, Option, Some, None, IsSome, IfSome, All, refl, ap, sym, ◌∙◌, subst, inl, inr, ◌⊎◌, eq-eqb, drop-cons, and_parts, and_from, or_cases, or_left, or_right, take-append-drop, All-head, All-more, All-tail, list_any, nat_cmp, BTreeMap, get, is_at, BTreeSet, contains, is_within_one, Replacement, Formula, Tree, Sheet, content_of, has_formula, content_reads, rectangles_of, reads_within, is_one_of, reaches, same_cell, one_truth, found, finds_in, reaches_here, reaches_read, reaches_step, reaches_by_step, is_at-eq, at_same, reaching, rectangles_in, occupied_within, IsReadOrder, AreCones, occupied_read, read_occupied, has_one_more}
 use Rattle.wi_worlds.specs.Reaching as cones
 
 -- a formula reads what lies in one of its rectangles
-pub reads_rectangles : (s : Sheet) (c : ℕ) (t : Tree) (a : ℕ) → content_of s c ≡ Some (Formula t) → content_reads (content_of s c) a ≡ list_any (λ (r : Area). is_within r a) (rectangles_of t)
+pub reads_rectangles : (s : Sheet) (c : ℕ) (t : Tree) (a : ℕ) → content_of s c ≡ Some (Formula t) → content_reads (content_of s c) a ≡ is_within_one (rectangles_of t) a
 reads_rectangles s c t a e = ap (λ o. content_reads o a) e ∙ reads_within t a
 
 -- a cell is another, reads it, or reads an occupied one of these

@@ -1,5 +1,5 @@
 -- A question in progress: what is so all the way, and what it has spent where it ends.
-use Rattle.wi_engine.proofs.Words.{◌≡◌, ◌<◌, ◌≤◌, ◌+◌, ◌-◌, ◌^◌, ◌⊎◌, inl, inr, ℕ, true, false, List, [], ◌∷◌, ◌++◌, Contains, Result, is_ok, IsErr, refl, sym, subst, arith, cases_lt, true≢false, Value, Sheet, Counts, one_more, Key, Case, NeverFall, never_fall-same, never_fall-then, MemoState, IsMemoOf, case_at, AreLinked, IsAwaited, IsUnvaluedKey, WhereRoom, TakesPlaces, TakesNoMore, GivesUpWhenFull, Keeps, HasKept, IsSameBeside, Spends, FrameCounts, FrameTakes, IsFrameValue, Frame}
+use Rattle.wi_engine.proofs.Words.{◌≡◌, ◌<◌, ◌≤◌, ◌+◌, ◌-◌, ◌^◌, ◌⊎◌, inl, inr, ℕ, true, false, List, [], ◌∷◌, ◌++◌, Contains, Result, is_ok, IsErr, refl, sym, subst, arith, cases_lt, true≢false, Value, Sheet, Counts, one_more, Key, Case, NeverFall, never_fall-same, never_fall-then, MemoState, IsMemoOf, case_at, AreLinked, IsAwaited, IsUnvaluedKey, WhereRoom, TakesPlaces, TakesNoMore, GivesUpWhenFull, Keeps, HasFound, IsSameBeside, Spends, FrameCounts, FrameTakes, IsFrameValue, Frame}
 use Rattle.wi_engine.proofs.Places.{takes_then, gives_up_none, gives_up_then}
 use Rattle.wi_engine.proofs.Ledger.{same_itself, same_then, spends_err}
 use Rattle.wi_engine.proofs.engine.Stacks.{pop_linked, push_linked, run_keeps}
@@ -52,8 +52,8 @@ turn_kept {s} {m} {a} {n} {f} {k} {v} {now} {next} h e ek gives there counts =
     }
 
 -- and by which the frame comes to its end
-pub comes_back : {s : Sheet} {m a n : MemoState} {f : Frame} {k : Key} {v : Value} {now next : Counts} → a ≡ m → k ≡ f.key → Keeps a n k v → HasKept a n k → IsFrameValue s m f v × (next.evaluations ≡ one_more now.evaluations) → FrameCounts s f now next true → ComesBack s m n now next f v
-comes_back e ek keeps kept gives counts = record { keeps = rw (e, ek) at keeps; kept = rw (e, ek) at kept; value = gives.0; counts = counts; evaluations = gives.1 }
+pub comes_back : {s : Sheet} {m a n : MemoState} {f : Frame} {k : Key} {v : Value} {now next : Counts} → a ≡ m → k ≡ f.key → Keeps a n k v → HasFound a n k → IsFrameValue s m f v × (next.evaluations ≡ one_more now.evaluations) → FrameCounts s f now next true → ComesBack s m n now next f v
+comes_back e ek keeps found gives counts = record { keeps = rw (e, ek) at keeps; found = rw (e, ek) at found; value = gives.0; counts = counts; evaluations = gives.1 }
 
 -- ---- all the way
 
@@ -82,7 +82,7 @@ going_deeper {s} {old} {m} {root} {start} {now} {next} {fs} {f} {h} {g} {k} i t 
 -- back to the frame below, which takes in the value
 pub going_back : {s : Sheet} {old m n : MemoState} {root : Case} {start now next : Counts} {fs : List Frame} {f b g : Frame} {v : Value} → IsGoing s old m root start now (fs ++ b ∷ []) f → ComesBack s m n now next f v → FrameTakes s f.key b g true → IsGoing s old n root start next fs g
 going_back {s} {old} {m} {n} {root} {start} {now} {next} {fs} {f} {b} {g} {v} i t takes =
-    let running = run_back t.kept.found t.counts i.running t.keeps t.value.value in
+    let running = run_back t.found.found t.counts i.running t.keeps t.value.value in
     record {
       running = run_take running takes.key (takes.frame refl n running.begun.frame) (takes.fewer refl);
       linked = subst (AreLinked s fs) (sym takes.key) (pop_linked s fs b f.key i.linked).0;
@@ -125,7 +125,7 @@ module _ {s : Sheet} {old m n : MemoState} {root : Case} {start now next : Count
     counts = never_fall-then start now next i.counts t.counts.rises;
     places = takes_then old m n start.evaluations now.evaluations next.evaluations i.places (takes_one m n now.evaluations next.evaluations t.keeps.places t.evaluations) t.counts.rises.0;
     gives_up = gives_up_then old m n i.gives_up t.keeps.gives_up;
-    on_found = run_ends n t.kept.found t.counts i.running;
+    on_found = run_ends n t.found.found t.counts i.running;
     on_kept = λ ks closed top whole room. saving_ends t closed top (i.saving ks closed top whole room);
     saved = λ d ks closed top whole room. saving_saved t closed top (i.saving ks closed top whole room);
   }
@@ -134,5 +134,5 @@ module _ {s : Sheet} {old m n : MemoState} {root : Case} {start now next : Count
   pub root_kept : WhereRoom s (λ ks. Contains ks root) old (λ ks. n.kept root.0 root.1 ≡ true)
   root_kept = λ ks closed top whole room. subst (λ (j : Case). n.kept j.0 j.1 ≡ true) i.running.bottom (saving_kept t closed top (i.saving ks closed top whole room))
 
-  pub root_there : 1 ≤ old.capacity → n.kept root.0 root.1 ≡ true
-  root_there some = subst (λ (j : Case). n.kept j.0 j.1 ≡ true) i.running.bottom (t.kept.there (rw i.same.capacity some))
+  pub root_there : (1 ≤ m.capacity → n.kept f.key.cell f.key.world ≡ true) → 1 ≤ old.capacity → n.kept root.0 root.1 ≡ true
+  root_there there some = subst (λ (j : Case). n.kept j.0 j.1 ≡ true) i.running.bottom (there (rw i.same.capacity some))

@@ -1,5 +1,5 @@
 -- A run of frames: what is so of it all the way, and what its turns do to that.
-use Rattle.wi_engine.proofs.Words.{◌≡◌, ◌<◌, ◌≤◌, ◌+◌, ◌-◌, ◌*◌, ◌||◌, ℕ, true, false, List, [], ◌∷◌, ◌++◌, length, Contains, None, refl, ap, sym, subst, ◌∙◌, true≢false, Value, Replacement, Sheet, content_of, put_all, has_formula, cells_with_formula, Counts, one_more, Key, circular, cell_value, what_if_value, Case, same_case, demand, IsClosed, NeverFall, SpentOn, cost, left, plus, one_less_left, spent_all, demand_closed, demand_has_itself, reach_rank, MemoState, IsMemoOf, found_value, found_what_ifs, case_at, IsAwaited, IsFormulaKey, StandsAt, IsFrame, IsNext, IsWaitedFor, IsBegun, IsStack, BottomIs, at_most, spare, Keeps, HasKept, FrameSteps, FrameCounts, IsFrameValue, Frame, Unvalued, Nothing, rests_rank, measure_falls_at_keep, measure_falls_at_push}
+use Rattle.wi_engine.proofs.Words.{◌≡◌, ◌<◌, ◌≤◌, ◌+◌, ◌-◌, ◌*◌, ◌||◌, ℕ, true, false, List, [], ◌∷◌, ◌++◌, length, Contains, None, refl, ap, sym, subst, ◌∙◌, true≢false, Value, Replacement, Sheet, content_of, put_all, has_formula, cells_with_formula, Counts, one_more, Key, circular, cell_value, what_if_value, Case, same_case, demand, IsClosed, NeverFall, SpentOn, cost, left, plus, one_less_left, spent_all, demand_closed, demand_has_itself, reach_rank, MemoState, IsMemoOf, found_value, found_what_ifs, case_at, IsAwaited, IsFormulaKey, StandsAt, IsFrame, IsNext, IsWaitedFor, IsBegun, IsStack, BottomIs, at_most, spare, Keeps, HasFound, FrameSteps, FrameCounts, IsFrameValue, Frame, Unvalued, Nothing, rests_rank, measure_falls_at_keep, measure_falls_at_push}
 use Rattle.wi_engine.proofs.findings.FoundValues.{right_none}
 use Rattle.wi_engine.proofs.engine.Stacks.{push_stack, pop_stack, push_bottom, pop_bottom, same_bottom, found_stack, run_keeps, begun_next, same_begun}
 use Rattle.wi_engine.proofs.engine.Steps.{restarts_after}
@@ -38,10 +38,10 @@ pub record GoesDeeper (s : Sheet) (m : MemoState) (now next : Counts) (f h g : F
 pub next_before : {s : Sheet} {m : MemoState} {h : Frame} {k : Key} {u : Unvalued} → h.key ≡ k → IsWaitedFor s m h u → IsNext s m k u.key
 next_before {s} {m} {h} {k} {u} e w = subst (λ (x : Key). IsNext s m x u.key) e w.next.next
 
--- a turn in which the frame on top comes to its value, which is kept
+-- a turn in which the frame on top comes to its value, which is remembered
 pub record ComesBack (s : Sheet) (m n : MemoState) (now next : Counts) (f : Frame) (v : Value) : Type 0 where
   pub keeps : Keeps m n f.key v
-  pub kept : HasKept m n f.key
+  pub found : HasFound m n f.key
   pub value : IsFrameValue s m f v
   pub counts : FrameCounts s f now next true
   pub evaluations : next.evaluations ≡ one_more now.evaluations

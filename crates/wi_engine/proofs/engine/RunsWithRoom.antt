@@ -124,11 +124,11 @@ module _ {s : Sheet} {old m n : MemoState} {root : Case} {start now next : Count
       omega (arith, some, r)
 
   kept : (c : ℕ) (w : List Replacement) → n.kept c w ≡ (m.kept c w || same_case (case_at f.key) (c, w))
-  kept = t.kept.kept place
+  kept = t.found.kept place
 
   -- which it takes
   takes : n.room + 1 ≡ m.room
-  takes = t.kept.room i.running.begun.unfound place
+  takes = t.found.room i.running.begun.unfound place
 
   still : not_kept n ks ≤ n.room
   still =
@@ -138,7 +138,7 @@ module _ {s : Sheet} {old m n : MemoState} {root : Case} {start now next : Count
       omega (arith, less, r, taken)
 
   whole_then : KeepsFound n
-  whole_then = whole_after m n f.key t.kept.found kept i.whole
+  whole_then = whole_after m n f.key t.found.found kept i.whole
 
   added_then : next.evaluations + n.room ≤ start.evaluations + old.room
   added_then =

@@ -1,14 +1,11 @@
 -- What a visit is still to look at.
-use Rattle.wi_engine.proofs.Words.{◌≡◌, ℕ, suc, ◌+◌, ◌<◌, List, [], ◌∷◌, ◌++◌, length, get_or, drop, Option, Some, None, refl, sym, ap, ◌∙◌, arith, append_assoc, append-nil, drop-cons, Area, Sheet, content_of, rectangles_in, occupied_within, cells_after, Task, Enter, Leave, cells_ahead, unread, begun, enters, tasks_at, tasks_in, Visit, all_after}
+use Rattle.wi_engine.proofs.Words.{◌≡◌, ℕ, suc, ◌+◌, ◌<◌, List, [], ◌∷◌, ◌++◌, length, get_or, drop, Option, None, refl, sym, ap, ◌∙◌, arith, append_assoc, append-nil, drop-cons, Area, Sheet, content_of, rectangles_in, occupied_within, cells_after, Task, Enter, Leave, cells_ahead, unread, begun, enters, tasks_at, tasks_in, Visit, all_after}
 
 -- ---- rectangles
 
 pub ahead_all : (s : Sheet) (rs : List Area) → cells_ahead s rs None ≡ occupied_within s rs
 ahead_all s [] = refl
 ahead_all s (r ∷ rs) = ap (λ (xs : List ℕ). xs ++ occupied_within s rs) (all_after s r)
-
-pub ahead_some : (s : Sheet) (rs more : List Area) (r : Area) (o : Option ℕ) (c : ℕ) → rs ≡ r ∷ more → cells_after s r o ≡ c ∷ cells_after s r (Some c) → cells_ahead s rs o ≡ c ∷ cells_ahead s rs (Some c)
-ahead_some s rs more r o c e h = rw e (ap (λ (xs : List ℕ). xs ++ occupied_within s more) h)
 
 pub ahead_none : (s : Sheet) (rs more : List Area) (r : Area) (o : Option ℕ) → rs ≡ r ∷ more → cells_after s r o ≡ [] → cells_ahead s more None ≡ cells_ahead s rs o
 ahead_none s rs more r o e h = rw e (ahead_all s more ∙ sym (ap (λ (xs : List ℕ). xs ++ occupied_within s more) h))

@@ -18,10 +18,9 @@ pub record Keeps (old new : MemoState) (k : Key) (v : Value) : Type 0 where
   pub places : TakesPlaces old new 0 1
   pub gives_up : GivesUpWhenFull old new
 
--- It is remembered: it is found, and kept for longer where the memory has any place. Where one was free, all that was kept still
--- is, and the value takes one place unless it was kept already.
-pub record HasKept (old new : MemoState) (k : Key) : Type 0 where
+-- It is remembered: it is found. Where a place was free, it is kept for longer too, all that was kept still is, and it takes one place
+-- unless it was kept already.
+pub record HasFound (old new : MemoState) (k : Key) : Type 0 where
   pub found : (c : ℕ) (w : List Replacement) → new.found c w ≡ (old.found c w || same_case (k.cell, k.world) (c, w))
-  pub there : 1 ≤ old.capacity → new.kept k.cell k.world ≡ true
   pub kept : 1 ≤ old.room → (c : ℕ) (w : List Replacement) → new.kept c w ≡ (old.kept c w || same_case (k.cell, k.world) (c, w))
   pub room : old.kept k.cell k.world ≡ false → 1 ≤ old.room → new.room + 1 ≡ old.room

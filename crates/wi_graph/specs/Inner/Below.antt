@@ -4,10 +4,9 @@ use Rattle.std.specs.List.{list_any}
 use Rattle.std.specs.Ordering.{nat_cmp}
 use Rattle.std.specs.BTreeSet.{BTreeSet}
 use Rattle.smallvec.specs.SmallVec.{SmallVec}
-use Rattle.wi_values.specs.Address.{Area, is_within}
+use Rattle.wi_values.specs.Address.{Area, is_within, is_within_one}
 use Rattle.wi_tiles.specs.Entries.{CellEntries, get}
 use Rattle.wi_graph.specs.Inner.Rooms.{Rooms, Coming, room_at, items_of, areas_of}
-use Rattle.wi_graph.specs.Inner.Stripping.{is_in}
 use Rattle.wi_graph.specs.Inner.Turning.{meets_one_of}
 use Rattle.wi_graph.specs.declared.below.Below.{Below}
 
@@ -21,8 +20,8 @@ has_seen cells d = is_some (get nat_cmp cells d)
 
 -- rectangles that don't have the cell were put ahead
 pub record HasAreas (cell : ℕ) (areas : List Area) (old new : List (Area × ℕ)) : Type 0 where
-  pub more : (d : ℕ) → is_ahead new d ≡ (is_ahead old d || is_in areas d)
-  pub apart : is_in areas cell ≡ false
+  pub more : (d : ℕ) → is_ahead new d ≡ (is_ahead old d || is_within_one areas d)
+  pub apart : is_within_one areas cell ≡ false
 
 -- what of a rectangle comes after a cell was put ahead
 pub record HasRest (area : Area) (read : ℕ) (old new : List (Area × ℕ)) : Type 0 where
@@ -36,8 +35,8 @@ IsLookedAt rooms cell seen ahead d = ((cell == d) ≡ false) × ((room_at rooms 
 
 -- so it is of each cell of these rectangles, and of each that a cell reads which was found
 pub record IsSearchingBelow (rooms : Rooms) (cell : ℕ) (areas : List Area) (seen : ℕ → Bool) (ahead : List (Area × ℕ)) : Type 0 where
-  pub first : (d : ℕ) → is_in areas d ≡ true → IsLookedAt rooms cell seen ahead d
-  pub reads : (e d : ℕ) → seen e ≡ true → is_in (areas_of (room_at rooms e)) d ≡ true → IsLookedAt rooms cell seen ahead d
+  pub first : (d : ℕ) → is_within_one areas d ≡ true → IsLookedAt rooms cell seen ahead d
+  pub reads : (e d : ℕ) → seen e ≡ true → is_within_one (areas_of (room_at rooms e)) d ≡ true → IsLookedAt rooms cell seen ahead d
   pub apart : (e : ℕ) → seen e ≡ true → (cell == e) ≡ false
   pub apart_ahead : (d : ℕ) → is_ahead ahead d ≡ true → (cell == d) ≡ false
 

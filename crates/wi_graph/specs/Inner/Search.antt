@@ -4,6 +4,7 @@ use Rattle.std.specs.Ordering.{nat_cmp}
 use Rattle.std.specs.BTreeSet.{BTreeSet, contains}
 use Rattle.std.specs.List.Sorted.{IsStrictlyIncreasing}
 use Rattle.wi_ranges.specs.Bag.{Bag, IsReader}
+use Rattle.wi_ranges.specs.Inner.Rising.{as_set}
 use Rattle.wi_values.specs.Address.{is_one_of}
 
 -- the set has each of these cells
@@ -26,10 +27,6 @@ IsLeast readers cells found = (p : ℕ → Bool) → ((c : ℕ) → is_one_of ce
 -- the set has these cells and all that read one of it, and no other
 abbrev pub IsConeSet : Bag → List ℕ → BTreeSet ℕ → Type 0
 IsConeSet readers cells found = HasAll cells found × HasReaders readers found × IsLeast readers cells found
-
--- the cells of a list as a set
-abbrev pub as_set : List ℕ → BTreeSet ℕ
-as_set cells = record { keys = cells }
 
 -- the list has these cells and all that read one of it, each once and in order, and no other
 pub record IsConeOf (readers : Bag) (cells list : List ℕ) : Type 0 where

@@ -1,24 +1,19 @@
 -- Cells that are taken away, again and again, where they read none that is still there.
 use Rattle.std.specs.Prelude.{◌≡◌, ◌⊎◌, ℕ, Bool, true, false, List, [], Option, Some, None}
-use Rattle.std.specs.List.{list_any}
 use Rattle.std.specs.Ordering.{nat_cmp}
 use Rattle.std.specs.Global.{Vec}
 use Rattle.std.specs.BTreeMap.{BTreeMap, get}
 use Rattle.std.specs.BTreeSet.{BTreeSet, contains}
-use Rattle.wi_values.specs.Address.{Area, is_one_of, is_within}
+use Rattle.wi_values.specs.Address.{Area, is_one_of, is_within_one}
 
 -- what is there, or nothing
 abbrev pub items_there : {X : Type 0} → Option (Vec X) → List X
 items_there None = []
 items_there (Some v) = v.items
 
--- the cell is in one of the rectangles
-abbrev pub is_in : List Area → ℕ → Bool
-is_in areas d = list_any (λ r. is_within r d) areas
-
 -- the formula of c reads d
 abbrev pub reads_in : BTreeMap ℕ (Vec Area) → ℕ → ℕ → Bool
-reads_in areas c d = is_in (items_there (get nat_cmp areas c)) d
+reads_in areas c d = is_within_one (items_there (get nat_cmp areas c)) d
 
 -- each formula reads the same cells of the set
 abbrev pub KeepsReads : BTreeSet ℕ → BTreeMap ℕ (Vec Area) → BTreeMap ℕ (Vec Area) → Type 0

@@ -7,12 +7,12 @@ use Rattle.std.specs.Global.{Vec}
 use Rattle.std.specs.BTreeMap.{BTreeMap, get}
 use Rattle.std.specs.BTreeSet.{BTreeSet, contains}
 use Rattle.smallvec.specs.SmallVec.{SmallVec}
-use Rattle.wi_values.specs.Address.{Area, is_one_of, is_within}
+use Rattle.wi_values.specs.Address.{Area, is_one_of, is_within, is_within_one}
 use Rattle.wi_parser.specs.Sheet.{Sheet, content_of}
 use Rattle.wi_graph.specs.Circular.{circular}
 use Rattle.wi_graph.specs.Reach.{SameOff, in_cone}
 use Rattle.wi_graph.specs.Edges.{areas_in}
-use Rattle.wi_graph.specs.Inner.Stripping.{items_there, is_in}
+use Rattle.wi_graph.specs.Inner.Stripping.{items_there}
 use Rattle.wi_graph.specs.Inner.Rooms.{Rooms, Coming, brought_to, items_of, areas_of, room_over, AreCircles}
 use Rattle.wi_graph.specs.declared.turning.Turns.{Turns}
 
@@ -26,7 +26,7 @@ reads_outside reads circles cells c = list_any (has_circle_outside circles cells
 
 -- what is next reads the cell
 abbrev pub reads_cell : Coming → ℕ → Bool
-reads_cell es c = list_any (λ e. is_in (areas_of (items_of e.1)) c) es
+reads_cell es c = list_any (λ e. is_within_one (areas_of (items_of e.1)) c) es
 
 -- the rectangle has one of the cells
 abbrev pub has_one : BTreeSet ℕ → Area → Bool
@@ -46,7 +46,7 @@ has_room_in rooms cell r = is_within r cell || list_any (is_within r) (keys_of r
 
 -- each cell that gets something else isn't circular, and reads no formula then
 abbrev pub StandsApart : Rooms → Coming → BTreeSet ℕ → Type 0
-StandsApart rooms next circles = (c : ℕ) (v : Option (SmallVec Area)) → brought_to next c ≡ Some v → (contains nat_cmp circles c ≡ false) × ((d : ℕ) → is_in (areas_of (items_of v)) d ≡ true → room_over next rooms d ≡ None)
+StandsApart rooms next circles = (c : ℕ) (v : Option (SmallVec Area)) → brought_to next c ≡ Some v → (contains nat_cmp circles c ≡ false) × ((d : ℕ) → is_within_one (areas_of (items_of v)) d ≡ true → room_over next rooms d ≡ None)
 
 -- the cell was circular or came, and did not go
 abbrev pub turned_by : BTreeSet ℕ → Turns → ℕ → Bool

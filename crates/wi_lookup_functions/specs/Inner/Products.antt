@@ -1,8 +1,7 @@
 -- What SUMPRODUCT adds, place by place.
 use Rattle.std.specs.Prelude.{◌≡◌, ℕ, true, List, fold, Option, None, Result, Ok, Err}
-use Rattle.std.specs.List.{list_any}
 use Rattle.wi_fraction.specs.Number as numbers
-use Rattle.wi_values.specs.Address.{Area, cells_of, is_within}
+use Rattle.wi_values.specs.Address.{Area, cells_of, is_within_one}
 use Rattle.wi_values.specs.declared.value.ErrorKind.{ErrorKind}
 use Rattle.wi_values.specs.declared.value.Value.{Value}
 use Rattle.wi_standard_functions.specs.Arguments.{Region}
@@ -30,7 +29,7 @@ IsAreaError args (Stopped s) = s ≡ Memory
 
 -- the cell's value isn't known, and it is in one of the rectangles
 abbrev pub IsMissingInAny : (ℕ → Option Value) → List Area → ℕ → Type 0
-IsMissingInAny known rs c = (known c ≡ None) × (list_any (λ r. is_within r c) rs ≡ true)
+IsMissingInAny known rs c = (known c ≡ None) × (is_within_one rs c ≡ true)
 
 -- the sum of the products at all places of regions, where these have one size
 abbrev pub sum_over : List Region → Result numbers.Number ErrorKind

@@ -1,5 +1,5 @@
 -- The symbols of a formula's text, as a reader finds them. Laws tie them to what texts mean.
-use Rattle.std.specs.Prelude.{ℕ, List, [], ◌∷◌, ◌++◌, map, codes, ◌==◌, if◌then◌else◌, Option, Some, None, unwrap_or}
+use Rattle.std.specs.Prelude.{◌≡◌, ℕ, List, [], ◌∷◌, ◌++◌, map, codes, ◌==◌, if◌then◌else◌, Option, Some, None, option_map, unwrap_or}
 use Rattle.wi_fraction.specs.Number.{Number as Numbers}
 use Rattle.wi_fraction.specs.Inner.Reading.{read_decimal}
 use Rattle.wi_lexer.specs.declared.token.Kind.{Kind}
@@ -15,6 +15,7 @@ use Rattle.wi_lexer.specs.Inner.Tokens.{tokens}
 use Rattle.wi_parser.specs.declared.expr.Operator.TheVariants as operator
 use Rattle.wi_parser.specs.declared.expr.Reference as references
 use Rattle.wi_parser.specs.declared.fault.ParseFault.TheVariants.{OutOfSheet, NumberRange, Syntax}
+use Rattle.wi_parser.specs.declared.front.Front.{Front}
 use Rattle.wi_parser.specs.Symbol.{Symbol, numeral, text_literal, reference, corners, open_parenthesis, close_parenthesis, separator, infix_mark, percent_mark, bad_token}
 use Rattle.wi_parser.specs.Symbols.{name_symbol, reference_to}
 
@@ -87,9 +88,18 @@ after_prefix text = unwrap_or (after (codes "of:") text) text
 abbrev pub after_equals : List ℕ → Option (List ℕ)
 after_equals text = after (codes "=") (after_prefix text)
 
+-- what was found at the front of a text
+pub record IsFrontOf (text : List ℕ) (front : Front) : Type 0 where
+  pub plain : front.plain.now ≡ after_prefix text
+  pub body : option_map (λ b. b.now) front.body ≡ after_equals text
+
 abbrev pub symbols_by : List ℕ → Option (List ℕ) → List Symbol
 symbols_by text (Some body) = symbols_of (tokens body)
 symbols_by text None = bad_token Syntax ∷ symbols_of (tokens text)
+
+-- the symbols of a text with this front
+abbrev pub symbols_with : Front → List Symbol
+symbols_with front = symbols_by front.plain.now (option_map (λ b. b.now) front.body)
 
 -- the symbols of a formula after its `=`; a text that does not begin with it has a refused one first
 unfoldable pub formula_symbols : List ℕ → List Symbol

@@ -13,3 +13,7 @@ ends_before (x ∷ y ∷ ys) c = ends_before (y ∷ ys) c
 -- the cells of the list ascend, and none of the others comes after the last of them
 abbrev pub StandApart : List ℕ → BTreeSet ℕ → Type 0
 StandApart cells others = IsStrictlyIncreasing cells × ((c : ℕ) → contains nat_cmp others c ≡ true → ends_before cells c ≡ false)
+
+-- the cells of a list as a set
+abbrev pub as_set : List ℕ → BTreeSet ℕ
+as_set cells = record { keys = cells }

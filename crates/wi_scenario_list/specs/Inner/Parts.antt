@@ -1,6 +1,5 @@
 -- Parts of a scenario that is found, made or changed.
-use Rattle.std.specs.Prelude.{◌==◌, ℕ, Bool, not, List, [], filter, map, Option, None, unwrap_or}
-use Rattle.std.specs.List.{list_any}
+use Rattle.std.specs.Prelude.{◌==◌, ℕ, not, List, [], filter, map, Option, None, unwrap_or}
 use Rattle.wi_values.specs.declared.value.Value.{Value}
 use Rattle.wi_values.specs.declared.replacement.Replacement.{Replacement}
 use Rattle.wi_scenario_list.specs.Scenarios.{Scenario}
@@ -16,7 +15,3 @@ without_replacement rs a = filter (λ r. not (r.at == a)) rs
 -- the scenario that is there, or else a new one, which replaces nothing and is based on none
 abbrev pub scenario_or_new : List ℕ → Option Scenario → Scenario
 scenario_or_new name o = unwrap_or o (record { name = name; own = []; base = None })
-
--- whether an address has a replacement
-abbrev pub is_replaced : List Replacement → ℕ → Bool
-is_replaced rs a = list_any (λ r. r.at == a) rs

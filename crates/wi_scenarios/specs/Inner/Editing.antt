@@ -34,7 +34,7 @@ pub record SameBeside (old new : Desk) : Type 0 where
   pub sessions : new.sessions.sessions ≡ old.sessions.sessions
   pub pending : new.sessions.pending ≡ old.sessions.pending
 
--- an edit that comes to this may be refused so: for the limit that it would pass, or for want of memory
+-- an edit that comes to this may be refused so: for the limit that it would pass, or as out of memory
 abbrev pub MayFail : Refusal → Result Stored StoreFault → Type 0
 MayFail Memory answer = Unit {0}
 MayFail e answer = limit_of answer ≡ Some e

@@ -1,9 +1,8 @@
 -- The rooms of a store: cells that may have a content. A room is vacant only while an edit goes on.
-use Rattle.std.specs.Prelude.{◌≡◌, ◌↔◌, ℕ, false, refl, List, [], ◌∷◌, filter, Option, Some, None, option_map}
+use Rattle.std.specs.Prelude.{ℕ, List, [], ◌∷◌, filter, Option, Some, None, option_map}
 use Rattle.std.specs.Borrow.{Bor}
 use Rattle.std.specs.List.{filter_map}
 use Rattle.std.specs.Map.{keys_of}
-use Rattle.std.specs.Option.{is_some}
 use Rattle.wi_parser.specs.Sheet.{Sheet, has_formula}
 use Rattle.wi_parser.specs.declared.content.Content.{Content}
 
@@ -36,8 +35,3 @@ IsOccupied (Some x) = Unit {0}
 abbrev pub HaveContents : Rooms → Type 0
 HaveContents [] = Unit {0}
 HaveContents (e ∷ es) = IsOccupied e.1 × HaveContents es
-
--- no content is that of a vacant room
-pub tells_none : (o : Option Content) → (is_some o ≡ false) ↔ (o ≡ None)
-tells_none None = (λ e. refl, λ e. refl)
-tells_none (Some x) = (λ e. cc, λ e. cc)

@@ -1,8 +1,7 @@
 use Rattle.wi_cli.proofs.Vocabulary.{◌∙◌, [], None, Some, rules, err_from_is_err_and, command_of_csv}
-use Rattle.wi_cli.proofs.ReadingLemmas.{stops_unwritten}
 use Rattle.wi_cli.proofs.TakenLemmas.{first_broke, data_broke, csv_block, data_of}
 use Rattle.wi_cli.proofs.DataLemmas.{csv_read}
-use Rattle.wi_cli.proofs.TurnLemmas.{asked_block, passed, turned, cut_short, stopped, broke_no_memory}
+use Rattle.wi_cli.proofs.TurnLemmas.{answered, answered_reads, asked_block, passed, stopped, broke_no_memory}
 use Rattle.wi_cli.proofs.runs.turn.Goals as goal
 
 pub returns-in_err-whole-clause-done : goal.returns-in_err-whole-clause-done
@@ -25,53 +24,34 @@ returns-in-Passed-clause-done g c =
     let k = c.in_ok-whole.ensures.took.0 in
     passed _ _ _ _ _ _ _ _ _ (asked_block _ _ _ _ _ _ _ _ _ None c.requires.few k c.in_ok-whole.ensures.took.1 c.deref.ensures.value c.in-Passed.ensures.0 c.in-Passed.ensures.1)
 
-pub returns-in-Ok-clause-done : goal.returns-in-Ok-clause-done
-returns-in-Ok-clause-done g c =
+pub returns-in-Command-clause-done : goal.returns-in-Command-clause-done
+returns-in-Command-clause-done g c =
     let k = c.in_ok-whole.ensures.took.0 in
     let a = c.in-Command.ensures in
-    turned _ _ _ _ _ _ _ _ _ _ _ (Some a.1.0) c.serve-reply.result c.serve-reply.new.out.items
+    answered c.answer.result _ _ _ _ _ _ _ _ _ _ _ (Some a.1.0) c.serve-reply.result c.serve-reply.new.out.items
     (asked_block _ _ _ _ _ _ _ _ _ (Some a.1.0) c.requires.few k c.in_ok-whole.ensures.took.1 c.deref.ensures.value a.0 a.1.1)
-    (c.serve-reply.ensures a.1.0 a.1.2) (rw c.deref-in-Command.ensures.value at c.in-Ok.ensures.ok)
+    (c.serve-reply.ensures a.1.0 a.1.2) (rw c.deref-in-Command.ensures.value at c.answer.ensures.done)
+
+pub returns-in-Command-clause-reads : goal.returns-in-Command-clause-reads
+returns-in-Command-clause-reads g c = answered_reads c.answer.result _ _ _ _ _ c.answer.ensures.done c.in_ok-whole.ensures.reads
 
 pub returns-in-Err-clause-done : goal.returns-in-Err-clause-done
 returns-in-Err-clause-done g c =
     let k = c.in_ok-whole.ensures.took.0 in
-    let a = c.in-Command.ensures in
-    cut_short _ _ _ _ _ _ _ _ _ _ _ (Some a.1.0) c.serve-reply.result c.serve-reply.new.out.items
-    (asked_block _ _ _ _ _ _ _ _ _ (Some a.1.0) c.requires.few k c.in_ok-whole.ensures.took.1 c.deref.ensures.value a.0 a.1.1)
-    (c.serve-reply.ensures a.1.0 a.1.2) (rw c.deref-in-Command.ensures.value at c.in-Err.ensures.err)
+    let a = c.in-Csv.ensures in
+    let is = csv_read _ k.content (c.deref.ensures.value ∙ k.kept) c.in-Csv.csv a.0 a.1 in
+    stopped _ _ _ _ _ _ _ _ _ _ (data_broke c.in_ok-whole.whole _ _ _ _ _ _ _ _ c.args.buffers.now.script.lines _ c.requires.few k c.in_ok-whole.ensures.took.1 c.in-Csv.csv is c.in-Err.ensures.took) (search rules) (search rules)
 
-pub returns-in-Err-clause-reads : goal.returns-in-Err-clause-reads
-returns-in-Err-clause-reads g c = stops_unwritten c.in_ok-whole.ensures.reads
-
-pub returns-in-Err-read_data-clause-done : goal.returns-in-Err-read_data-clause-done
-returns-in-Err-read_data-clause-done g c =
+pub returns-in-Ok-clause-done : goal.returns-in-Ok-clause-done
+returns-in-Ok-clause-done g c =
     let k = c.in_ok-whole.ensures.took.0 in
     let a = c.in-Csv.ensures in
     let is = csv_read _ k.content (c.deref.ensures.value ∙ k.kept) c.in-Csv.csv a.0 a.1 in
-    stopped _ _ _ _ _ _ _ _ _ _ (data_broke c.in_ok-whole.whole _ _ _ _ _ _ _ _ c.args.buffers.now.script.lines _ c.requires.few k c.in_ok-whole.ensures.took.1 c.in-Csv.csv is c.in-Err-read_data.ensures.took) (search rules) (search rules)
-
-pub returns-in-Ok-write_reply-clause-done : goal.returns-in-Ok-write_reply-clause-done
-returns-in-Ok-write_reply-clause-done g c =
-    let k = c.in_ok-whole.ensures.took.0 in
-    let a = c.in-Csv.ensures in
-    let is = csv_read _ k.content (c.deref.ensures.value ∙ k.kept) c.in-Csv.csv a.0 a.1 in
-    let h = c.in-Ok-read_data.ensures.took in
+    let h = c.in-Ok.ensures.took in
     let d = c.read_data.new.data_lines in
-    turned _ _ _ _ _ _ _ _ _ _ _ (Some (command_of_csv c.in-Csv.csv (data_of h.took) d.missing)) c.serve_csv-reply.result []
-    (csv_block c.in_ok-whole.whole c.in-Ok-read_data.end _ _ _ _ _ _ _ c.args.buffers.now.script.lines _ _ c.requires.few k c.in_ok-whole.ensures.took.1 c.in-Csv.csv is d h c.in-Ok-read_data.ensures.all)
-    (c.serve_csv-reply.ensures (data_of h.took) c.in-Ok-read_data.ensures.wanted h.held) c.in-Ok-write_reply.ensures.ok
+    answered c.answer-in-Csv.result _ _ _ _ _ _ _ _ _ _ _ (Some (command_of_csv c.in-Csv.csv (data_of h.took) d.missing)) c.serve_csv-reply.result []
+    (csv_block c.in_ok-whole.whole c.in-Ok.end _ _ _ _ _ _ _ c.args.buffers.now.script.lines _ _ c.requires.few k c.in_ok-whole.ensures.took.1 c.in-Csv.csv is d h c.in-Ok.ensures.all)
+    (c.serve_csv-reply.ensures (data_of h.took) c.in-Ok.ensures.wanted h.held) c.answer-in-Csv.ensures.done
 
-pub returns-in-Err-write_reply-clause-done : goal.returns-in-Err-write_reply-clause-done
-returns-in-Err-write_reply-clause-done g c =
-    let k = c.in_ok-whole.ensures.took.0 in
-    let a = c.in-Csv.ensures in
-    let is = csv_read _ k.content (c.deref.ensures.value ∙ k.kept) c.in-Csv.csv a.0 a.1 in
-    let h = c.in-Ok-read_data.ensures.took in
-    let d = c.read_data.new.data_lines in
-    cut_short _ _ _ _ _ _ _ _ _ _ _ (Some (command_of_csv c.in-Csv.csv (data_of h.took) d.missing)) c.serve_csv-reply.result []
-    (csv_block c.in_ok-whole.whole c.in-Ok-read_data.end _ _ _ _ _ _ _ c.args.buffers.now.script.lines _ _ c.requires.few k c.in_ok-whole.ensures.took.1 c.in-Csv.csv is d h c.in-Ok-read_data.ensures.all)
-    (c.serve_csv-reply.ensures (data_of h.took) c.in-Ok-read_data.ensures.wanted h.held) c.in-Err-write_reply.ensures.err
-
-pub returns-in-Err-write_reply-clause-reads : goal.returns-in-Err-write_reply-clause-reads
-returns-in-Err-write_reply-clause-reads g c = stops_unwritten c.in-Ok-read_data.ensures.reads
+pub returns-in-Ok-clause-reads : goal.returns-in-Ok-clause-reads
+returns-in-Ok-clause-reads g c = answered_reads c.answer-in-Csv.result _ _ _ _ _ c.answer-in-Csv.ensures.done c.in-Ok.ensures.reads

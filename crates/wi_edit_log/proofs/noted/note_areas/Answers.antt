@@ -1,4 +1,4 @@
-use Rattle.wi_edit_log.proofs.Words.{arith, refl, subst, take_all, have_cell, NotesMore}
+use Rattle.wi_edit_log.proofs.Words.{arith, refl, subst, take_all, is_within_one, NotesMore}
 use Rattle.wi_edit_log.proofs.Noting.{area_noted}
 use Rattle.wi_edit_log.proofs.noted.note_areas.Goals as goal
 
@@ -12,4 +12,4 @@ loop-area-preserved c =
 
 pub returns : goal.returns
 returns c =
-    subst (λ areas. NotesMore (have_cell areas) c.args.session c.args.count c.args.notes.now.entries c.loop-area.notes.entries) (take_all c.loop-area.area-index c.args.areas.now (omega arith)) c.loop-area.invariant
+    subst (λ areas. NotesMore (is_within_one areas) c.args.session c.args.count c.args.notes.now.entries c.loop-area.notes.entries) (take_all c.loop-area.area-index c.args.areas.now (omega arith)) c.loop-area.invariant

@@ -9,7 +9,7 @@ pub loop-entry-preserved : goal.loop-entry-preserved
 loop-entry-preserved c = (
   ap (λ n. n + 1) c.loop-entry.invariant.0,
   bringing_step c.args.rooms.now c.loop-entry.rooms c.bring_one.new.rooms c.loop-entry.readers c.bring_one.new.readers c.args.coming.now c.loop-entry.entry-index c.entry-item.result c.requires.order c.loop-entry-test.true c.entry-item.is
-      c.bring_one.ensures.ordered c.bring_one.ensures.rooms c.in-Ok.ensures.there c.in-Ok.ensures.stay c.in-Ok.ensures.readers c.loop-entry.invariant.1,
+      c.bring_one.ensures.ordered c.bring_one.ensures.rooms c.in-Ok.ensures.room c.in-Ok.ensures.stay c.in-Ok.ensures.readers c.loop-entry.invariant.1,
 )
 
 pub returns-clause-has_rooms : goal.returns-clause-has_rooms

@@ -8,7 +8,7 @@ returns-then-text-gt-MAX_FORMULA c = parsed_long c.args.text.now c.if-text-gt-MA
 
 pub returns-in-Some : goal.returns-in-Some
 returns-in-Some c =
-    let meant = ap all_meant c.deref.ensures.value ∙ c.in_ok-symbols.ensures ∙ by_front c.args.text.now _ _ c.requires.plain c.requires.body in
+    let meant = ap all_meant c.deref.ensures.value ∙ c.in_ok-symbols.ensures ∙ by_front c.args.text.now c.args.front.now c.requires in
     reads_as _ c.in-Some.fault (parsed_refused c.args.text.now _ c.in-Some.fault c.if-text-gt-MAX_FORMULA.false meant (sym c.refusal_of.ensures ∙ c.in-Some.is))
 
 pub returns-in_err-symbols : goal.returns-in_err-symbols
@@ -16,7 +16,7 @@ returns-in_err-symbols c = search (rules, short_lacks)
 
 pub returns-in_err-expr : goal.returns-in_err-expr
 returns-in_err-expr c =
-    let front = by_front c.args.text.now _ _ c.requires.plain c.requires.body in
+    let front = by_front c.args.text.now c.args.front.now c.requires in
     let meant = ap all_meant c.deref.ensures.value ∙ c.in_ok-symbols.ensures ∙ front in
     let meant_again = ap all_meant c.deref-2.ensures.value ∙ c.in_ok-symbols.ensures ∙ front in
     let none = ap refusal_of (meant_again ∙ sym meant) ∙ sym c.refusal_of.ensures ∙ c.in_default.is in
@@ -28,7 +28,7 @@ returns-in_err-new c = search (rules, short_lacks)
 
 pub new-requires : goal.new-requires
 new-requires c =
-    let front = by_front c.args.text.now _ _ c.requires.plain c.requires.body in
+    let front = by_front c.args.text.now c.args.front.now c.requires in
     let meant = ap all_meant c.deref.ensures.value ∙ c.in_ok-symbols.ensures ∙ front in
     let meant_again = ap all_meant c.deref-2.ensures.value ∙ c.in_ok-symbols.ensures ∙ front in
     let none = ap refusal_of (meant_again ∙ sym meant) ∙ sym c.refusal_of.ensures ∙ c.in_default.is in
@@ -37,7 +37,7 @@ new-requires c =
 
 pub returns : goal.returns
 returns c =
-    let front = by_front c.args.text.now _ _ c.requires.plain c.requires.body in
+    let front = by_front c.args.text.now c.args.front.now c.requires in
     let meant = ap all_meant c.deref.ensures.value ∙ c.in_ok-symbols.ensures ∙ front in
     let meant_again = ap all_meant c.deref-2.ensures.value ∙ c.in_ok-symbols.ensures ∙ front in
     let none = ap refusal_of (meant_again ∙ sym meant) ∙ sym c.refusal_of.ensures ∙ c.in_default.is in

@@ -1,6 +1,5 @@
-use Rattle.wi_tiles.proofs.Words.{◌<◌, ◌≤◌, ◌∙◌, ℕ, List, length, sym, subst, arith, keys_of-set, nat_cmp, taken, held_at, with_all, stood}
-use Rattle.std.specs.List.Sorted.{IsStrictlySortedBy}
-use Rattle.wi_tiles.proofs.RoomChanges.{all_more, stood_more, room_more, vacant_more, counted_more, counts_fit}
+use Rattle.wi_tiles.proofs.Words.{◌<◌, ◌≤◌, ◌∙◌, length, arith, taken, held_at, with_all, stood}
+use Rattle.wi_tiles.proofs.RoomChanges.{all_more, stood_more, ready_more, counted_more, counts_fit}
 use Rattle.wi_tiles.proofs.rooms.exchange_all.Goals as goal
 
 pub overflow_add-occupied : goal.overflow_add-occupied
@@ -13,7 +12,7 @@ overflow_add-occupied g c =
     )
 
 pub exchange-requires : goal.exchange-requires
-exchange-requires g c = c.loop-change.invariant.room c.loop-change.change-index c.change-item.result (omega arith)
+exchange-requires g c = c.loop-change.invariant.ready.room c.loop-change.change-index c.change-item.result (omega arith)
 
 pub loop-change-preserved : goal.loop-change-preserved
 loop-change-preserved g c =
@@ -29,12 +28,6 @@ loop-change-preserved g c =
           c.loop-change.changes c.loop-change.change-index c.change-item.result c.exchange.new.new below c.exchange.ensures.after c.exchange.ensures.stood c.loop-change.invariant.stood;
       occupied = omega (arith, counted);
       cells = c.exchange.ensures.cells ∙ c.loop-change.invariant.cells;
-      room = room_more vacant c.loop-change.changes c.loop-change.change-index _ c.exchange.new.new c.loop-change.rooms.entries c.exchange.new.rooms.entries
-          c.exchange.ensures.cells c.exchange.ensures.stood c.loop-change.invariant.room;
-      vacant = rw (keys_of-set c.loop-change.changes c.loop-change.change-index c.change-item.result c.exchange.new.new)
-          (vacant_more vacant c.loop-change.changes c.loop-change.change-index c.change-item.result
-          c.loop-change.rooms.entries c.exchange.new.rooms.entries below c.exchange.ensures.others c.loop-change.invariant.vacant);
+      ready = ready_more vacant c.loop-change.changes c.loop-change.change-index c.change-item.result c.exchange.new.new c.loop-change.rooms.entries c.exchange.new.rooms.entries
+          below c.exchange.ensures.cells c.exchange.ensures.stood c.exchange.ensures.others c.loop-change.invariant.ready;
     }
-
-pub returns-clause-order : goal.returns-clause-order
-returns-clause-order g c = subst (λ (cells : List ℕ). IsStrictlySortedBy nat_cmp cells) (sym c.loop-change.invariant.cells) c.requires.order

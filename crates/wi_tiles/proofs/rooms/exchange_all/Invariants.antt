@@ -1,4 +1,4 @@
-use Rattle.wi_tiles.proofs.Words.{◌≡◌, ◌++◌, ℕ, length, take, drop, All, keys_of, taken, held_at, with_all, stood, VacantOnlyAt, HasRoomFor}
+use Rattle.wi_tiles.proofs.Words.{◌≡◌, ◌++◌, ℕ, length, take, drop, keys_of, taken, held_at, with_all, stood, AreReadyFor}
 use Rattle.wi_tiles.proofs.rooms.exchange_all.Given as goal
 
 abbrev pub invariant-loop-change : goal.invariant-loop-change
@@ -7,6 +7,5 @@ invariant-loop-change g l = record {
   stood : take l.change-index l.changes ++ stood (held_at g.V.MayBeVacant.vacant l.rooms.entries) (drop l.change-index l.changes) ≡ stood (held_at g.V.MayBeVacant.vacant l.initial.rooms.entries) l.initial.changes;
   occupied : l.occupied ≡ length (taken g.V.MayBeVacant.is_taken l.rooms.entries);
   cells : keys_of l.rooms.entries ≡ keys_of l.initial.rooms.entries;
-  room : All (HasRoomFor g.V.MayBeVacant.vacant l.rooms.entries) l.changes;
-  vacant : VacantOnlyAt g.V.MayBeVacant.vacant (keys_of l.changes) l.rooms.entries;
+  ready : AreReadyFor g.V.MayBeVacant.vacant l.changes l.rooms.entries;
 }

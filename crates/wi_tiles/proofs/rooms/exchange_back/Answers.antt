@@ -1,10 +1,9 @@
-use Rattle.wi_tiles.proofs.Words.{◌≡◌, ◌+◌, ◌-◌, ◌<◌, ◌∙◌, ℕ, List, length, sym, subst, arith, keys_of-set, nat_cmp, held_at, with_all_back}
-use Rattle.std.specs.List.Sorted.{IsStrictlySortedBy}
-use Rattle.wi_tiles.proofs.RoomChanges.{back_more, room_more, vacant_more}
+use Rattle.wi_tiles.proofs.Words.{◌≡◌, ◌+◌, ◌-◌, ◌<◌, length, arith, held_at, with_all_back}
+use Rattle.wi_tiles.proofs.RoomChanges.{back_more, ready_more}
 use Rattle.wi_tiles.proofs.rooms.exchange_back.Goals as goal
 
 pub exchange-requires : goal.exchange-requires
-exchange-requires g c = c.loop-i.invariant.room (c.loop-i.i - 1) c.index-changes-i.result (omega arith)
+exchange-requires g c = c.loop-i.invariant.ready.room (c.loop-i.i - 1) c.index-changes-i.result (omega arith)
 
 pub loop-i-preserved : goal.loop-i-preserved
 loop-i-preserved g c =
@@ -14,13 +13,6 @@ loop-i-preserved g c =
     record {
       after = back_more (with_all_back (held_at vacant c.args.rooms.now.entries) c.args.changes.now) (held_at vacant c.loop-i.rooms.entries) (held_at vacant c.exchange.new.rooms.entries)
           c.loop-i.changes (c.loop-i.i - 1) c.index-changes-i.result _ below c.exchange.ensures.after (rw before c.loop-i.invariant.after);
-      cells = c.exchange.ensures.cells ∙ c.loop-i.invariant.cells;
-      room = room_more vacant c.loop-i.changes (c.loop-i.i - 1) _ c.exchange.new.new c.loop-i.rooms.entries c.exchange.new.rooms.entries
-          c.exchange.ensures.cells c.exchange.ensures.stood c.loop-i.invariant.room;
-      vacant = rw (keys_of-set c.loop-i.changes (c.loop-i.i - 1) c.index-changes-i.result c.exchange.new.new)
-          (vacant_more vacant c.loop-i.changes (c.loop-i.i - 1) c.index-changes-i.result c.loop-i.rooms.entries c.exchange.new.rooms.entries
-          below c.exchange.ensures.others c.loop-i.invariant.vacant);
+      ready = ready_more vacant c.loop-i.changes (c.loop-i.i - 1) c.index-changes-i.result c.exchange.new.new c.loop-i.rooms.entries c.exchange.new.rooms.entries
+          below c.exchange.ensures.cells c.exchange.ensures.stood c.exchange.ensures.others c.loop-i.invariant.ready;
     }
-
-pub returns-clause-order : goal.returns-clause-order
-returns-clause-order g c = subst (λ (cells : List ℕ). IsStrictlySortedBy nat_cmp cells) (sym c.loop-i.invariant.cells) c.requires.order

@@ -2,6 +2,8 @@ use Rattle.wi_tiles.proofs.Words.{arith}
 use Rattle.wi_tiles.proofs.RoomLemmas.{no_vacancy}
 use Rattle.wi_tiles.proofs.rooms.release.Goals as goal
 
-pub returns-else-occupied-len-clause-full : goal.returns-else-occupied-len-clause-full
-returns-else-occupied-len-clause-full g c =
-    no_vacancy g.V.MayBeVacant.vacant g.V.MayBeVacant.is_taken g.met.V.MayBeVacant.tells c.args.rooms.now.entries (omega arith)
+pub returns-else-occupied-len-clause-between : goal.returns-else-occupied-len-clause-between
+returns-else-occupied-len-clause-between g c = record {
+  order = c.requires.edit.order;
+  full = no_vacancy g.V.MayBeVacant.vacant g.V.MayBeVacant.is_taken g.met.V.MayBeVacant.tells c.args.rooms.now.entries (omega arith);
+}

@@ -1,9 +1,8 @@
-use Rattle.wi_tiles.proofs.Words.{drop, keys_of, RoomsAreInOrder, HoldsTheSame, VacantOnlyAt}
+use Rattle.wi_tiles.proofs.Words.{drop, keys_of, HoldsTheSame, AreInEdit}
 use Rattle.wi_tiles.proofs.rooms.release_each.Given as goal
 
 abbrev pub invariant-loop-at : goal.invariant-loop-at
 invariant-loop-at g l = record {
   same : HoldsTheSame g.V.MayBeVacant.vacant l.initial.rooms.entries l.rooms.entries;
-  order : RoomsAreInOrder l.rooms.entries;
-  vacant : VacantOnlyAt g.V.MayBeVacant.vacant (keys_of (drop l.at-index l.changes)) l.rooms.entries;
+  edit : AreInEdit g.V.MayBeVacant.vacant (keys_of (drop l.at-index l.changes)) l.rooms.entries;
 }

@@ -58,16 +58,16 @@ take_in-requires-clause-right g c =
 pub frames-smaller : goal.frames-smaller
 frames-smaller g c =
     let a = c.in_ok-next.ensures in
-    let k = c.in_ok-keep-in-Some.ensures in
-    let turn = comes_back a.steps.same (c.retire-key.ensures ∙ ap (λ (f : Frame). f.key) c.replace-in-Some.ensures.value ∙ a.steps.key) k.keeps k.kept (rw c.in-Done.is at a.gives) a.counts in
-    back_smaller c.frames.invariant.running (g.M.Memo.state c.keep-in-Some.new.self) c.take_in.new.frame turn.kept.found c.requires.key.key.open_cell c.requires.key.key.formula
+    let k = c.in_ok-remember-in-Some.ensures in
+    let turn = comes_back a.steps.same (c.retire-key.ensures ∙ ap (λ (f : Frame). f.key) c.replace-in-Some.ensures.value ∙ a.steps.key) k.keeps k.found (rw c.in-Done.is at a.gives) a.counts in
+    back_smaller c.frames.invariant.running (g.M.Memo.state c.remember.new.self) c.take_in.new.frame turn.found.found c.requires.key.key.open_cell c.requires.key.key.formula
 
 pub frames-preserved : goal.frames-preserved
 frames-preserved g c =
     let a = c.in_ok-next.ensures in
-    let k = c.in_ok-keep-in-Some.ensures in
+    let k = c.in_ok-remember-in-Some.ensures in
     let key = c.retire-key.ensures ∙ ap (λ (f : Frame). f.key) c.replace-in-Some.ensures.value ∙ a.steps.key in
-    let turn = comes_back a.steps.same key k.keeps k.kept (rw c.in-Done.is at a.gives) a.counts in
+    let turn = comes_back a.steps.same key k.keeps k.found (rw c.in-Done.is at a.gives) a.counts in
     let going = rw c.in-Some.ensures.items at c.frames.invariant in
     going_back going turn (rw (key, c.replace-in-Some.ensures.after) at c.in_ok-take_in-in-Some.ensures)
 
@@ -88,18 +88,18 @@ keep-requires-clause-right g c =
     let a = c.in_ok-next.ensures in
     rw (c.retire-root.ensures, a.steps.key, a.steps.same, c.frames.invariant.running.memo.sheet) (rw c.in-Done.is at a.gives).0.value
 
-pub keep-requires-in-Some-clause-generation : goal.keep-requires-in-Some-clause-generation
-keep-requires-in-Some-clause-generation g c =
+pub remember-requires-clause-generation : goal.remember-requires-clause-generation
+remember-requires-clause-generation g c =
     let a = c.in_ok-next.ensures in
     rw (c.retire-key.ensures, c.replace-in-Some.ensures.value, a.steps.same) (a.steps.frame refl).key.generation
 
-pub keep-requires-in-Some-clause-open_cell : goal.keep-requires-in-Some-clause-open_cell
-keep-requires-in-Some-clause-open_cell g c =
+pub remember-requires-clause-open_cell : goal.remember-requires-clause-open_cell
+remember-requires-clause-open_cell g c =
     let a = c.in_ok-next.ensures in
     rw (c.retire-key.ensures, c.replace-in-Some.ensures.value, a.steps.same, c.frames.invariant.running.memo.sheet) (a.steps.frame refl).key.open_cell
 
-pub keep-requires-in-Some-clause-right : goal.keep-requires-in-Some-clause-right
-keep-requires-in-Some-clause-right g c =
+pub remember-requires-clause-right : goal.remember-requires-clause-right
+remember-requires-clause-right g c =
     let a = c.in_ok-next.ensures in
     rw (c.retire-key.ensures, c.replace-in-Some.ensures.value, a.steps.key, a.steps.same, c.frames.invariant.running.memo.sheet) (rw c.in-Done.is at a.gives).0.value
 
@@ -114,21 +114,22 @@ pub returns-in-None-clause-spends : goal.returns-in-None-clause-spends
 returns-in-None-clause-spends g c =
     let a = c.in_ok-next.ensures in
     let k = c.in_ok-keep-in-None.ensures in
-    let turn = comes_back a.steps.same (c.retire-root.ensures ∙ a.steps.key) k.keeps k.kept (rw c.in-Done.is at a.gives) a.counts in
+    let turn = comes_back a.steps.same (c.retire-root.ensures ∙ a.steps.key) k.keeps k.found (rw c.in-Done.is at a.gives) a.counts in
     going_ends (rw (no_frames c.frames.stack.items c.frames.stack.len c.frames.stack.ok.0 c.in-None.ensures.cases.0) at c.frames.invariant) turn
 
 pub returns-in-None-clause-kept : goal.returns-in-None-clause-kept
 returns-in-None-clause-kept g c =
     let a = c.in_ok-next.ensures in
     let k = c.in_ok-keep-in-None.ensures in
-    let turn = comes_back a.steps.same (c.retire-root.ensures ∙ a.steps.key) k.keeps k.kept (rw c.in-Done.is at a.gives) a.counts in
-    root_there (rw (no_frames c.frames.stack.items c.frames.stack.len c.frames.stack.ok.0 c.in-None.ensures.cases.0) at c.frames.invariant) turn
+    let turn = comes_back a.steps.same (c.retire-root.ensures ∙ a.steps.key) k.keeps k.found (rw c.in-Done.is at a.gives) a.counts in
+    let key = c.retire-root.ensures ∙ a.steps.key in
+    root_there (rw (no_frames c.frames.stack.items c.frames.stack.len c.frames.stack.ok.0 c.in-None.ensures.cases.0) at c.frames.invariant) turn (rw (a.steps.same, key) at k.there)
 
 pub returns-in-None-clause-settled : goal.returns-in-None-clause-settled
 returns-in-None-clause-settled g c =
     let a = c.in_ok-next.ensures in
     let k = c.in_ok-keep-in-None.ensures in
-    let turn = comes_back a.steps.same (c.retire-root.ensures ∙ a.steps.key) k.keeps k.kept (rw c.in-Done.is at a.gives) a.counts in
+    let turn = comes_back a.steps.same (c.retire-root.ensures ∙ a.steps.key) k.keeps k.found (rw c.in-Done.is at a.gives) a.counts in
     root_kept (rw (no_frames c.frames.stack.items c.frames.stack.len c.frames.stack.ok.0 c.in-None.ensures.cases.0) at c.frames.invariant) turn
 
 -- ---- where memory runs out
@@ -157,12 +158,12 @@ returns-in_err-take_in-in-Some-clause-spends g c =
     let i = c.frames.invariant in
     going_stops i (turn_same i.running.memo a.steps.same a.counts) c.from_residual-in_err-take_in-in-Some.result c.from_residual-in_err-take_in-in-Some.ensures.0
 
-pub returns-in_err-keep-in-Some-clause-spends : goal.returns-in_err-keep-in-Some-clause-spends
-returns-in_err-keep-in-Some-clause-spends g c =
+pub returns-in_err-remember-in-Some-clause-spends : goal.returns-in_err-remember-in-Some-clause-spends
+returns-in_err-remember-in-Some-clause-spends g c =
     let a = c.in_ok-next.ensures in
     let i = c.frames.invariant in
-    let turn = turn_kept i.running.memo a.steps.same (c.retire-key.ensures ∙ ap (λ (f : Frame). f.key) c.replace-in-Some.ensures.value ∙ a.steps.key) (rw c.in-Done.is at a.gives) c.in_err-keep-in-Some.ensures.keeps a.counts in
-    going_stops i turn c.from_residual-in_err-keep-in-Some.result c.from_residual-in_err-keep-in-Some.ensures.0
+    let turn = turn_kept i.running.memo a.steps.same (c.retire-key.ensures ∙ ap (λ (f : Frame). f.key) c.replace-in-Some.ensures.value ∙ a.steps.key) (rw c.in-Done.is at a.gives) c.in_err-remember-in-Some.ensures.keeps a.counts in
+    going_stops i turn c.from_residual-in_err-remember-in-Some.result c.from_residual-in_err-remember-in-Some.ensures.0
 
 pub returns-in_err-keep-in-None-clause-spends : goal.returns-in_err-keep-in-None-clause-spends
 returns-in_err-keep-in-None-clause-spends g c =

@@ -1,5 +1,5 @@
 use Rattle.wi_engine.proofs.Words.{ap, arith, rules, OneQuestion, question_state, remembered}
-use Rattle.wi_engine.proofs.Places.{has_kept}
+use Rattle.wi_engine.proofs.Places.{has_found}
 use Rattle.wi_engine.proofs.remembered.QuestionMemory.{known_kept}
 use Rattle.wi_engine.proofs.remembered.RememberedMemo.keep.Goals as goal
 
@@ -15,6 +15,6 @@ returns-clause-keeps c =
       gives_up = record { room = omega arith; stays = λ r k i. i };
     }
 
-pub returns-clause-kept : goal.returns-clause-kept
-returns-clause-kept c =
-    has_kept c.keep.result (question_state c.args.self.now) (question_state (remembered c.self.inside.store.now.sheet c.self.inside.order.items c.keep.new.self)) c.args.key (search rules) (search rules) (search rules) (search rules)
+pub returns-clause-found : goal.returns-clause-found
+returns-clause-found c =
+    has_found c.keep.result (question_state c.args.self.now) (question_state (remembered c.self.inside.store.now.sheet c.self.inside.order.items c.keep.new.self)) c.args.key (search rules) (search rules) (search rules)

@@ -1,4 +1,4 @@
-use Rattle.wi_propagate.proofs.Words.{◌≡◌, ◌≤◌, ◌-◌, ◌+◌, ◌⊎◌, ◌||◌, ◌∙◌, ℕ, false, true, List, length, Option, Some, IfSome, OnOk, is_some, refl, ap, sym, subst, rules, option_or, Replacement, put_all, Value, Key, Entries, KeptValues, going, value_for, circular, cell_value, same_case, IsKeptFor, TakesPlaces, GivesUpWhenFull, AreAllCones, AreRight, Held, Keeping, TakesOver, keeping, state_in, value_in, generation_in, key_in, has_kept, told}
+use Rattle.wi_propagate.proofs.Words.{◌≡◌, ◌≤◌, ◌-◌, ◌+◌, ◌⊎◌, ◌||◌, ◌∙◌, ℕ, false, true, List, length, Option, Some, IfSome, OnOk, is_some, refl, ap, sym, subst, rules, option_or, Replacement, put_all, Value, Key, Entries, KeptValues, going, value_for, circular, cell_value, same_case, IsKeptFor, TakesPlaces, GivesUpWhenFull, AreAllCones, AreRight, Held, Keeping, TakesOver, keeping, state_in, value_in, generation_in, key_in, has_found, told}
 use Rattle.wi_propagate.proofs.RightValues.{found_is_kept}
 use Rattle.wi_propagate.proofs.KeepSteps.{KeepsIn, right_after, kept_after, there_after, room_after, gives_up_after}
 use Rattle.wi_propagate.proofs.ValuesAtHand.{done, given_over, keeps_nothing, known_after, stays_after, stays_found, found_after}
@@ -32,8 +32,8 @@ returns-clause-keeps c =
       gives_up = subst (λ (q : Keeping). GivesUpWhenFull (state_in q) (state_in (keeping s.sheet s.edits gs fs c.keep.new.self))) view (gives_up_after done s.sheet s.edits gs es fs held.kept c.keep.new.self c.args.key c.args.value keeps);
     }
 
-pub returns-clause-kept : goal.returns-clause-kept
-returns-clause-kept c =
+pub returns-clause-found : goal.returns-clause-found
+returns-clause-found c =
     let i = c.self.inside in
     let gs = told i.store.now.sheet i.generations.now.named in
     let held = c.deref_mut-held.result.now in
@@ -47,10 +47,18 @@ returns-clause-kept c =
     let new : ℕ → List Replacement → Option Value = λ d w. option_or (value_for c.keep.new.self.entries (key_in gs d w)) (value_for fs (key_in gs d w)) in
     let generation : c.args.key.generation ≡ generation_in (told i.store.now.sheet i.generations.now.named) c.args.key.cell = c.requires.generation ∙ ap (λ (q : Keeping). generation_in q.generations c.args.key.cell) (sym view) in
     let room = c.keep.new.self.capacity - length c.keep.new.self.entries in
-    let found = e.found in
-    let there = there_after done (told i.store.now.sheet i.generations.now.named) c.keep.new.self c.args.key c.args.value generation (search found) in
     let s = i.store.now in
-    has_kept done (state_in c.args.self.now) (state_in (keeping s.sheet s.edits gs fs c.keep.new.self)) c.args.key (subst (λ (q : Keeping). OnOk done ((d : ℕ) (w : List Replacement) → is_some (new d w) ≡ (is_some (value_in q (key_in q.generations d w)) || same_case (c.args.key.cell, c.args.key.world) (d, w)))) view (found_after es fs held.kept c.keep.new.self c.args.key c.args.value c.len.ensures.one_each takes gs done keeps generation)) (λ l. there) (subst (λ (q : Keeping). OnOk done (1 ≤ q.values.capacity - length q.values.entries → (d : ℕ) (w : List Replacement) → is_some (value_for c.keep.new.self.entries (key_in (told i.store.now.sheet i.generations.now.named) d w)) ≡ (is_some (value_for q.values.entries (key_in q.generations d w)) || same_case (c.args.key.cell, c.args.key.world) (d, w)))) view (kept_after done (told i.store.now.sheet i.generations.now.named) held.kept c.keep.new.self c.args.key c.args.value keeps generation)) (subst (λ (q : Keeping). OnOk done (is_some (value_for q.values.entries (key_in q.generations c.args.key.cell c.args.key.world)) ≡ false → 1 ≤ q.values.capacity - length q.values.entries → room + 1 ≡ q.values.capacity - length q.values.entries)) view (room_after done (told i.store.now.sheet i.generations.now.named) held.kept c.keep.new.self c.args.key c.args.value keeps generation))
+    has_found done (state_in c.args.self.now) (state_in (keeping s.sheet s.edits gs fs c.keep.new.self)) c.args.key (subst (λ (q : Keeping). OnOk done ((d : ℕ) (w : List Replacement) → is_some (new d w) ≡ (is_some (value_in q (key_in q.generations d w)) || same_case (c.args.key.cell, c.args.key.world) (d, w)))) view (found_after es fs held.kept c.keep.new.self c.args.key c.args.value c.len.ensures.one_each takes gs done keeps generation)) (subst (λ (q : Keeping). OnOk done (1 ≤ q.values.capacity - length q.values.entries → (d : ℕ) (w : List Replacement) → is_some (value_for c.keep.new.self.entries (key_in (told i.store.now.sheet i.generations.now.named) d w)) ≡ (is_some (value_for q.values.entries (key_in q.generations d w)) || same_case (c.args.key.cell, c.args.key.world) (d, w)))) view (kept_after done (told i.store.now.sheet i.generations.now.named) held.kept c.keep.new.self c.args.key c.args.value keeps generation)) (subst (λ (q : Keeping). OnOk done (is_some (value_for q.values.entries (key_in q.generations c.args.key.cell c.args.key.world)) ≡ false → 1 ≤ q.values.capacity - length q.values.entries → room + 1 ≡ q.values.capacity - length q.values.entries)) view (room_after done (told i.store.now.sheet i.generations.now.named) held.kept c.keep.new.self c.args.key c.args.value keeps generation))
+
+pub returns-clause-there : goal.returns-clause-there
+returns-clause-there c =
+    let i = c.self.inside in
+    let gs = told i.store.now.sheet i.generations.now.named in
+    let held = c.deref_mut-held.result.now in
+    let view = ap (λ (x : Held). keeping i.store.now.sheet i.store.now.edits gs x.given_up.entries x.kept) c.deref_mut-held.ensures.value ∙ c.self.view_is in
+    let found = c.in_ok-gone.ensures.found in
+    let generation : c.args.key.generation ≡ generation_in gs c.args.key.cell = c.requires.generation ∙ ap (λ (q : Keeping). generation_in q.generations c.args.key.cell) (sym view) in
+    λ l. there_after done gs c.keep.new.self c.args.key c.args.value generation (search found)
 
 pub returns-clause-stays : goal.returns-clause-stays
 returns-clause-stays c =

@@ -1,5 +1,5 @@
-use Rattle.wi_ranges.proofs.Words.{◌∙◌, ℕ, List, ap, sym, subst, not, err_from_is_err_and, BTreeSet, IsStrictlyIncreasing, on_err, is_one_of, ends_before, StandApart}
-use Rattle.wi_ranges.proofs.RisingLemmas.{as_set, apart_more, new_behind, apart_still, has_more, same_rising, same_others, has_behind, has_already, has_no_more, new_among_others}
+use Rattle.wi_ranges.proofs.Words.{◌∙◌, ℕ, List, ap, sym, subst, not, err_from_is_err_and, BTreeSet, IsStrictlyIncreasing, on_err, is_one_of, as_set, ends_before, StandApart}
+use Rattle.wi_ranges.proofs.RisingLemmas.{apart_more, new_behind, apart_still, has_more, same_rising, same_others, has_behind, has_already, has_no_more, new_among_others}
 use Rattle.wi_ranges.proofs.rising_set.RisingSet.insert.Goals as goal
 
 pub invariant_of-self : goal.invariant_of-self

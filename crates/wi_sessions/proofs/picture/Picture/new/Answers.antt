@@ -6,4 +6,7 @@ pub returns : goal.returns
 returns c = search rules
 
 pub invariant_of-result : goal.invariant_of-result
-invariant_of-result c = (none_in_order (keys_of c.new.result.entries) (ap (λ es. keys_of es) c.new.ensures), no_rooms Empty c.new.result.entries c.new.ensures)
+invariant_of-result c = record {
+  order = none_in_order (keys_of c.new.result.entries) (ap (λ es. keys_of es) c.new.ensures);
+  full = no_rooms Empty c.new.result.entries c.new.ensures;
+}

@@ -20,11 +20,11 @@ returns-in_err-answer c =
     applies_after_refusal c.args.self.now (sheet_in c.self.inside.rooms.entries) (sheet_in c.release.new.rooms.entries)
     c.self.inside.edits c.self.inside.limits c.args.brought.now c.args.brought.now c.from_residual.result p.0 c.in_err-answer.field-0.0
     c.self.view_is refl p.1 p.2 c.in_err-answer.ensures.cause
-    (sheet_in-same c.edit-answer.new.rooms.entries c.release.new.rooms.entries c.in_err-answer.ensures.order c.release.ensures.order c.release.ensures.same ∙ c.in_err-answer.ensures.refused)
+    (sheet_in-same c.edit-answer.new.rooms.entries c.release.new.rooms.entries c.in_err-answer.ensures.edit.order c.release.ensures.between.order c.release.ensures.same ∙ c.in_err-answer.ensures.refused)
 
 pub returns : goal.returns
 returns c =
     applies_after_acceptance c.args.self.now (sheet_in c.self.inside.rooms.entries) (sheet_in c.release.new.rooms.entries)
     c.self.inside.edits _ c.self.inside.limits c.args.brought.now c.args.brought.now
     c.self.view_is refl c.in_ok-answer.ensures.cause
-    (sheet_in-same c.edit-answer.new.rooms.entries c.release.new.rooms.entries c.in_ok-answer.ensures.order c.release.ensures.order c.release.ensures.same ∙ c.in_ok-answer.ensures.done)
+    (sheet_in-same c.edit-answer.new.rooms.entries c.release.new.rooms.entries c.in_ok-answer.ensures.edit.order c.release.ensures.between.order c.release.ensures.same ∙ c.in_ok-answer.ensures.done)
