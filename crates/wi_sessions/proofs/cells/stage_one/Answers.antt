@@ -59,31 +59,20 @@ returns-then-not-is_new-clause-others c =
 pub returns-clause-order : goal.returns-clause-order
 returns-clause-order c = order-with_new c.args.words.now.entries c.put_new.new.self.entries c.args.at c.args.bits c.in_ok-is_new.ensures.entries c.requires
 
-pub returns-clause-room : goal.returns-clause-room
-returns-clause-room c =
-    let none_found = nothing_there (lookup (is_at (nat_cmp c.args.at)) c.args.words.now.entries) c.in_ok-is_new.is_new c.in_ok-is_new.ensures.new c.if-not-is_new.false in
+made : (c : goal.After-unwrap) → HasMade (λ i q. (c.args.at == q) && has_bit i c.args.bits) c.args.words.now.entries c.args.staged.now.items c.put_new.new.self.entries c.push.new.self.items
+made c =
     let old = c.args.words.now.entries in
+    let none_found = nothing_there (lookup (is_at (nat_cmp c.args.at)) old) c.in_ok-is_new.is_new c.in_ok-is_new.ensures.new c.if-not-is_new.false in
     let pushed : c.push.new.self.items ≡ c.args.staged.now.items ++ (c.args.at, c.args.bits) ∷ [] = grind (arith, common_steps) in
     has_made_new old c.args.staged.now.items c.put_new.new.self.entries c.push.new.self.items c.args.at c.args.bits none_found
     (λ q. found-with_new old c.put_new.new.self.entries c.args.at c.args.bits c.in_ok-is_new.ensures.entries q
     ∙ ap (λ (o : Option ℕ). cond (is_at (nat_cmp c.args.at) q) (Some (unwrap_or o c.args.bits)) (lookup (is_at (nat_cmp q)) old)) none_found) pushed
 
+pub returns-clause-room : goal.returns-clause-room
+returns-clause-room c = made c
+
 pub returns-clause-pending : goal.returns-clause-pending
-returns-clause-pending c =
-    let none_found = nothing_there (lookup (is_at (nat_cmp c.args.at)) c.args.words.now.entries) c.in_ok-is_new.is_new c.in_ok-is_new.ensures.new c.if-not-is_new.false in
-    let old = c.args.words.now.entries in
-    let pushed : c.push.new.self.items ≡ c.args.staged.now.items ++ (c.args.at, c.args.bits) ∷ [] = grind (arith, common_steps) in
-    pending_stay (λ i q. (c.args.at == q) && has_bit i c.args.bits) old c.args.staged.now.items c.put_new.new.self.entries c.push.new.self.items
-    (has_made_new old c.args.staged.now.items c.put_new.new.self.entries c.push.new.self.items c.args.at c.args.bits none_found
-    (λ q. found-with_new old c.put_new.new.self.entries c.args.at c.args.bits c.in_ok-is_new.ensures.entries q
-    ∙ ap (λ (o : Option ℕ). cond (is_at (nat_cmp c.args.at) q) (Some (unwrap_or o c.args.bits)) (lookup (is_at (nat_cmp q)) old)) none_found) pushed)
+returns-clause-pending c = pending_stay (λ i q. (c.args.at == q) && has_bit i c.args.bits) c.args.words.now.entries c.args.staged.now.items c.put_new.new.self.entries c.push.new.self.items (made c)
 
 pub returns-clause-others : goal.returns-clause-others
-returns-clause-others c =
-    let none_found = nothing_there (lookup (is_at (nat_cmp c.args.at)) c.args.words.now.entries) c.in_ok-is_new.is_new c.in_ok-is_new.ensures.new c.if-not-is_new.false in
-    let old = c.args.words.now.entries in
-    let pushed : c.push.new.self.items ≡ c.args.staged.now.items ++ (c.args.at, c.args.bits) ∷ [] = grind (arith, common_steps) in
-    others_as_made c.args.bits (λ q. c.args.at == q) old c.args.staged.now.items c.put_new.new.self.entries c.push.new.self.items
-    (has_made_new old c.args.staged.now.items c.put_new.new.self.entries c.push.new.self.items c.args.at c.args.bits none_found
-    (λ q. found-with_new old c.put_new.new.self.entries c.args.at c.args.bits c.in_ok-is_new.ensures.entries q
-    ∙ ap (λ (o : Option ℕ). cond (is_at (nat_cmp c.args.at) q) (Some (unwrap_or o c.args.bits)) (lookup (is_at (nat_cmp q)) old)) none_found) pushed)
+returns-clause-others c = others_as_made c.args.bits (λ q. c.args.at == q) c.args.words.now.entries c.args.staged.now.items c.put_new.new.self.entries c.push.new.self.items (made c)
