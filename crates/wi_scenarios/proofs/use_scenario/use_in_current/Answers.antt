@@ -1,5 +1,5 @@
 use Rattle.wi_scenarios.proofs.Words.{◌∙◌, List, ap, slice_set, option_copied, Session, using_scenario, session_at, vacant_of, State, state_of}
-use Rattle.wi_scenarios.proofs.SwitchedLemmas.{sound_again, adds_none, switched_sound, switched_adds, switched_others, others_none, used_sessions, use_switched}
+use Rattle.wi_scenarios.proofs.SwitchedLemmas.{IsSwitch, sound_again, adds_none, switched_sound, switched_adds, switched_others, others_none, used_sessions, use_switched}
 use Rattle.wi_scenarios.proofs.use_scenario.use_in_current.Goals as goal
 
 pub returns-in-Ok-clause-state : goal.returns-in-Ok-clause-state
@@ -12,43 +12,25 @@ returns-in-Ok-clause-state g c =
     (used_sessions stored d r c.use_scenario.new.self.sessions c.take_all.new.self.sessions _ (option_copied c.args.name) same c.use_scenario.ensures.sessions c.requires.named c.take_all.ensures.sessions)
     ∙ ap (λ (s : State). record s { sessions = slice_set d.sessions.sessions d.current (using_scenario (session_at d.sessions d.current) (option_copied c.args.name)) }) same
 
-pub returns-in-Ok-clause-adds : goal.returns-in-Ok-clause-adds
-returns-in-Ok-clause-adds g c =
+switched : (g : _) (c : goal.After-take_all g) → IsSwitch g.C.Calculator.marked (g.C.Calculator.stored c.args.calculator.now) c.args.desk.now (record c.make_room_for_current.new.desk { sessions = c.take_all.new.self }) (vacant_of c.make_room_for_current.new.desk.sessions)
+switched g c =
     let stored = g.C.Calculator.stored c.args.calculator.now in
-    let d = c.args.desk.now in
-    let r = c.make_room_for_current.new.desk in
     let made = c.make_room_for_current.ensures in
     let used = c.use_scenario.ensures in
     let took = c.take_all.ensures in
-    switched_adds g.C.Calculator.marked stored d (record r { sessions = c.take_all.new.self }) (vacant_of r.sessions)
-    (use_switched g.C.Calculator.marked stored d r c.use_scenario.new.self c.take_all.new.self _ (option_copied c.args.name) c.requires.sound
-    made.state made.pending made.others c.in-Ok.ensures.room used.sessions c.requires.named used.pending used.vacant took.sessions took.lists took.pending took.vacant)
+    use_switched g.C.Calculator.marked stored c.args.desk.now c.make_room_for_current.new.desk c.use_scenario.new.self c.take_all.new.self _ (option_copied c.args.name) c.requires.sound
+    made.state made.pending made.others c.in-Ok.ensures.room used.sessions c.requires.named used.pending used.vacant took.sessions took.lists took.pending took.vacant
+
+pub returns-in-Ok-clause-adds : goal.returns-in-Ok-clause-adds
+returns-in-Ok-clause-adds g c = switched_adds _ _ _ _ _ (switched g c)
 
 pub returns-in-Ok-clause-others : goal.returns-in-Ok-clause-others
 returns-in-Ok-clause-others g c =
-    let stored = g.C.Calculator.stored c.args.calculator.now in
-    let d = c.args.desk.now in
-    let r = c.make_room_for_current.new.desk in
     let made = c.make_room_for_current.ensures in
-    let used = c.use_scenario.ensures in
-    let took = c.take_all.ensures in
-    switched_others g.C.Calculator.marked stored d (record r { sessions = c.take_all.new.self }) (vacant_of r.sessions)
-    (use_switched g.C.Calculator.marked stored d r c.use_scenario.new.self c.take_all.new.self _ (option_copied c.args.name) c.requires.sound
-    made.state made.pending made.others c.in-Ok.ensures.room used.sessions c.requires.named used.pending used.vacant took.sessions took.lists took.pending took.vacant)
-    (λ j n. made.others j n ∙ c.requires.sound.full j)
+    switched_others _ _ _ _ _ (switched g c) (λ j n. made.others j n ∙ c.requires.sound.full j)
 
 pub returns-in-Ok-clause-sound : goal.returns-in-Ok-clause-sound
-returns-in-Ok-clause-sound g c =
-    let stored = g.C.Calculator.stored c.args.calculator.now in
-    let d = c.args.desk.now in
-    let r = c.make_room_for_current.new.desk in
-    let made = c.make_room_for_current.ensures in
-    let used = c.use_scenario.ensures in
-    let took = c.take_all.ensures in
-    switched_sound g.C.Calculator.marked stored d (record r { sessions = c.take_all.new.self }) (vacant_of r.sessions)
-    (use_switched g.C.Calculator.marked stored d r c.use_scenario.new.self c.take_all.new.self _ (option_copied c.args.name) c.requires.sound
-    made.state made.pending made.others c.in-Ok.ensures.room used.sessions c.requires.named used.pending used.vacant took.sessions took.lists took.pending took.vacant)
-    c.requires.sound
+returns-in-Ok-clause-sound g c = switched_sound _ _ _ _ _ (switched g c) c.requires.sound
 
 pub returns-in-Err-clause-kept : goal.returns-in-Err-clause-kept
 returns-in-Err-clause-kept g c =
