@@ -1,4 +1,4 @@
-use Rattle.wi_lookup_functions.proofs.Words.{sym, ◌∙◌, ℤ, ap, FitsSigned, rules, Ok, Err, to_z-of_z, w128, arguments_in, IsMissing, region_of, value_at, to_whole, index_along, nth_cell_along, Error, is_referred, region_is}
+use Rattle.wi_lookup_functions.proofs.Words.{sym, ◌∙◌, ℤ, ap, rules, Ok, Err, to_z-of_z, w128, arguments_in, IsMissing, region_of, value_at, to_whole, index_along, nth_cell_along, Error, is_referred, region_is}
 use Rattle.wi_lookup_functions.proofs.Chains.{along, along_area, along_number}
 use Rattle.wi_lookup_functions.proofs.Endings.{ended, finds_so}
 use Rattle.wi_lookup_functions.proofs.index.index_along.Goals as goal
@@ -14,8 +14,7 @@ returns-in_err-k g c =
 
 pub returns-in_err-nth_cell_along : goal.returns-in_err-nth_cell_along
 returns-in_err-nth_cell_along g c =
-    let fits : FitsSigned w128 c.in_ok-k.k = search rules in
-    let same = to_z-of_z w128 c.in_ok-k.k fits in
+    let same = to_z-of_z w128 c.in_ok-k.k (search rules) in
     let known = g.L.Lookup.known_cell c.args.lookup.now in
     let args = c.args.arguments.now in
     let r = c.in_ok-area.area in
@@ -24,8 +23,7 @@ returns-in_err-nth_cell_along g c =
 
 pub returns : goal.returns
 returns g c =
-    let fits : FitsSigned w128 c.in_ok-k.k = search rules in
-    let same = to_z-of_z w128 c.in_ok-k.k fits in
+    let same = to_z-of_z w128 c.in_ok-k.k (search rules) in
     let args = c.args.arguments.now in
     let r = c.in_ok-area.area in (
       λ cells a. along (arguments_in cells args) (region_of cells r) c.in_ok-k.k (region_is args 0 (Ok r) c.in_ok-area.ensures cells) (c.in_ok-k.ensures cells a) ∙ ap (nth_cell_along (region_of cells r)) (sym same) ∙ c.in_ok-nth_cell_along.ensures.0 cells,

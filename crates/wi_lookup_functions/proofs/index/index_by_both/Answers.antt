@@ -1,4 +1,4 @@
-use Rattle.wi_lookup_functions.proofs.Words.{sym, ◌∙◌, ℤ, ◌≡◌, ap, FitsSigned, rules, Ok, Err, to_z-of_z, w128, arguments_in, IsMissing, region_of, value_at, to_whole, index_by_both, nth_cell, Value, Error, is_referred, region_is}
+use Rattle.wi_lookup_functions.proofs.Words.{sym, ◌∙◌, ℤ, ◌≡◌, ap, rules, Ok, Err, to_z-of_z, w128, arguments_in, IsMissing, region_of, value_at, to_whole, index_by_both, nth_cell, Value, Error, is_referred, region_is}
 use Rattle.wi_lookup_functions.proofs.Chains.{both, both_area, both_column, both_row}
 use Rattle.wi_lookup_functions.proofs.Endings.{ended, finds_so}
 use Rattle.wi_lookup_functions.proofs.index.index_by_both.Goals as goal
@@ -26,10 +26,8 @@ returns-in_err-k g c =
 
 pub returns-in_err-nth_cell : goal.returns-in_err-nth_cell
 returns-in_err-nth_cell g c =
-    let fits_j : FitsSigned w128 c.in_ok-j.j = search rules in
-    let same_j = to_z-of_z w128 c.in_ok-j.j fits_j in
-    let fits_k : FitsSigned w128 c.in_ok-k.k = search rules in
-    let same_k = to_z-of_z w128 c.in_ok-k.k fits_k in
+    let same_j = to_z-of_z w128 c.in_ok-j.j (search rules) in
+    let same_k = to_z-of_z w128 c.in_ok-k.k (search rules) in
     let known = g.L.Lookup.known_cell c.args.lookup.now in
     let args = c.args.arguments.now in
     let r = c.in_ok-area.area in
@@ -38,10 +36,8 @@ returns-in_err-nth_cell g c =
 
 pub returns : goal.returns
 returns g c =
-    let fits_j : FitsSigned w128 c.in_ok-j.j = search rules in
-    let same_j = to_z-of_z w128 c.in_ok-j.j fits_j in
-    let fits_k : FitsSigned w128 c.in_ok-k.k = search rules in
-    let same_k = to_z-of_z w128 c.in_ok-k.k fits_k in
+    let same_j = to_z-of_z w128 c.in_ok-j.j (search rules) in
+    let same_k = to_z-of_z w128 c.in_ok-k.k (search rules) in
     let args = c.args.arguments.now in
     let r = c.in_ok-area.area in (
       λ cells a. both (arguments_in cells args) (region_of cells r) c.in_ok-j.j c.in_ok-k.k (region_is args 0 (Ok r) c.in_ok-area.ensures cells) (c.in_ok-j.ensures cells a) (c.in_ok-k.ensures cells a) ∙ turned (nth_cell (region_of cells r)) c.in_ok-j.j _ c.in_ok-k.k _ same_j same_k ∙ c.in_ok-nth_cell.ensures.0 cells,

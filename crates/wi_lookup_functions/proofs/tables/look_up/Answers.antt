@@ -1,4 +1,4 @@
-use Rattle.wi_lookup_functions.proofs.Words.{Bor, Value, ◌≡◌, ◌<◌, true, Ok, Err, map, sym, ap, ◌∙◌, subst, arith, rules, ℕ, ℤ, Bool, FitsSigned, to_z-of_z, w128, ok_or, arguments_in, IsMissing, region_of, value_at, to_whole, position_among, cells_of, is_within, NotAvailable, Error, line_count, line_width, look_up_by, IsMissingIn, position_by, is_referred, region_is}
+use Rattle.wi_lookup_functions.proofs.Words.{Bor, Value, ◌≡◌, ◌<◌, true, Ok, Err, map, sym, ap, ◌∙◌, subst, arith, rules, ℕ, ℤ, Bool, to_z-of_z, w128, ok_or, arguments_in, IsMissing, region_of, value_at, to_whole, position_among, cells_of, is_within, NotAvailable, Error, line_count, line_width, look_up_by, IsMissingIn, position_by, is_referred, region_is}
 use Rattle.wi_lookup_functions.proofs.Axes.{along_is, along_within, asked, placed_along}
 use Rattle.wi_lookup_functions.proofs.Chains.{first_cells_in, no_area, no_number, no_order, no_place, no_sought, not_seen, order_in, seen, seen_along, sought_in}
 use Rattle.wi_lookup_functions.proofs.Endings.{ended, finds_so}
@@ -40,8 +40,7 @@ returns-in_err-in_order g c =
 
 pub returns-in_err-place : goal.returns-in_err-place
 returns-in_err-place g c =
-    let fits : FitsSigned w128 c.in_ok-k.k = search rules in
-    let same = to_z-of_z w128 c.in_ok-k.k fits in
+    let same = to_z-of_z w128 c.in_ok-k.k (search rules) in
     let known = g.L.Lookup.known_cell c.args.lookup.now in
     let args = c.args.arguments.now in
     let r = c.in_ok-area.area in
@@ -63,8 +62,7 @@ place_along-requires g c =
 
 pub returns-in_err-line : goal.returns-in_err-line
 returns-in_err-line g c =
-    let fits : FitsSigned w128 c.in_ok-k.k = search rules in
-    let same = to_z-of_z w128 c.in_ok-k.k fits in
+    let same = to_z-of_z w128 c.in_ok-k.k (search rules) in
     let known = g.L.Lookup.known_cell c.args.lookup.now in
     let args = c.args.arguments.now in
     let axis = c.args.axis in
@@ -93,8 +91,7 @@ cell_at-requires-clause-line_within g c =
 
 pub returns : goal.returns
 returns g c =
-    let fits : FitsSigned w128 c.in_ok-k.k = search rules in
-    let same = to_z-of_z w128 c.in_ok-k.k fits in
+    let same = to_z-of_z w128 c.in_ok-k.k (search rules) in
     let args = c.args.arguments.now in
     let axis = c.args.axis in
     let r = c.in_ok-area.area in
