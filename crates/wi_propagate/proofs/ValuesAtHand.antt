@@ -130,7 +130,7 @@ keeps_nothing q r k v e = subst (λ (x : Keeping). Remembers q x k v) (sym e) (r
 })
 
 -- what is owed of one that is kept, where the one that went for it is given up
-pub record KeepsFound (old new : Keeping) (k : Key) (v : Value) : Type 0 where
+pub record KeptAtHand (old new : Keeping) (k : Key) (v : Value) : Type 0 where
   pub remembers : Remembers old new k v
   pub found : HasFound (state_in old) (state_in new) k
   pub there : is_some (value_for new.values.entries (key_in new.generations k.cell k.world)) ≡ true
@@ -150,11 +150,11 @@ module _ (s : Sheet) (edits : ℕ) (g : Generations) (held was : Held) (q : Keep
     present : k.generation ≡ generation_in g k.cell
     present = generation ∙ ap (λ (x : Keeping). generation_in x.generations k.cell) (sym seen)
 
-    pub keeps_found : (fs : Entries) → HasOneEach held.kept.entries → TakesOver (going held.kept k) held.given_up.entries fs → KeepsFound q (keeping s edits g fs n) k v
-    keeps_found fs one_each takes =
+    pub kept_at_hand : (fs : Entries) → HasOneEach held.kept.entries → TakesOver (going held.kept k) held.given_up.entries fs → KeptAtHand q (keeping s edits g fs n) k v
+    kept_at_hand fs one_each takes =
         let es = held.given_up.entries in
         let m = held.kept in
-        subst (λ (x : Keeping). KeepsFound x (keeping s edits g fs n) k v) seen (record {
+        subst (λ (x : Keeping). KeptAtHand x (keeping s edits g fs n) k v) seen (record {
           remembers = record {
             keeps = record {
               sheet = refl;

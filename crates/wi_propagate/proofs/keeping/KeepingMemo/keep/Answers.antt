@@ -1,6 +1,6 @@
 use Rattle.wi_propagate.proofs.Words.{◌≤◌, Option, IfSome, sym, subst, Value, Key, going, AreAllCones, Held, TakesOver, keeping, told, refl}
 use Rattle.wi_propagate.proofs.KeepSteps.{KeepsIn}
-use Rattle.wi_propagate.proofs.ValuesAtHand.{KeepsFound, Remembers, given_over, keeps_found, keeps_right, out_of_memory}
+use Rattle.wi_propagate.proofs.ValuesAtHand.{KeptAtHand, Remembers, given_over, kept_at_hand, keeps_right, out_of_memory}
 use Rattle.wi_propagate.proofs.keeping.KeepingMemo.keep.Goals as goal
 
 -- ---- the value is kept
@@ -10,12 +10,12 @@ keeps c =
     let e = c.in_ok-gone.ensures in
     record { found = e.found; stays = e.stays; goes = e.one_goes; len = e.len; going = e.going; capacity = e.capacity }
 
-kept : (c : goal.After-self-2-1) → KeepsFound c.args.self.now (keeping c.self.inside.store.now.sheet c.self.inside.store.now.edits (told c.self.inside.store.now.sheet c.self.inside.generations.now.named) c.give_up.new.given_up.entries c.keep.new.self) c.args.key c.args.value
+kept : (c : goal.After-self-2-1) → KeptAtHand c.args.self.now (keeping c.self.inside.store.now.sheet c.self.inside.store.now.edits (told c.self.inside.store.now.sheet c.self.inside.generations.now.named) c.give_up.new.given_up.entries c.keep.new.self) c.args.key c.args.value
 kept c =
     let i = c.self.inside in
     let held = c.deref_mut-held.result.now in
     let takes : TakesOver (going held.kept c.args.key) held.given_up.entries c.give_up.new.given_up.entries = given_over c.give_up.new.given_up.entries c.in_ok-gone.ensures.gone c.make_room.ensures.entries c.give_up.ensures in
-    keeps_found i.store.now.sheet i.store.now.edits (told i.store.now.sheet i.generations.now.named) held i.held.value c.args.self.now c.deref_mut-held.ensures.value c.self.view_is c.args.key c.args.value c.keep.new.self (keeps c) c.requires.generation c.give_up.new.given_up.entries c.len.ensures.one_each takes
+    kept_at_hand i.store.now.sheet i.store.now.edits (told i.store.now.sheet i.generations.now.named) held i.held.value c.args.self.now c.deref_mut-held.ensures.value c.self.view_is c.args.key c.args.value c.keep.new.self (keeps c) c.requires.generation c.give_up.new.given_up.entries c.len.ensures.one_each takes
 
 pub returns-clause-keeps : goal.returns-clause-keeps
 returns-clause-keeps c = (kept c).remembers.keeps
