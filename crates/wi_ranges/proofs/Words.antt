@@ -19,7 +19,7 @@ pub use Rattle.std.proofs.lemmas.Map.Steps.{set_value_same}
 pub use Rattle.std.proofs.lemmas.Map.Views.{btree_set_contains_iff, tells_apart}
 pub use Rattle.std.proofs.lemmas.Nat.{mul-le, pow_below, pow_pos}
 pub use Rattle.std.proofs.lemmas.Option.{same_Some}
-pub use Rattle.std.proofs.lemmas.Result.{IfOk-weaker, err_from_is_err_and, on_err_weaker, on_ok_weaker}
+pub use Rattle.std.proofs.lemmas.Result.{IfOk-from_err, IfOk-weaker, on_err_weaker, on_ok_weaker}
 pub use Rattle.std.specs.BTreeMap.{is_at}
 pub use Rattle.std.specs.BTreeMap.Range.{range_contains}
 pub use Rattle.std.specs.BTreeSet.{BTreeSet, IsKeyRangeOf, contains, insert_key}

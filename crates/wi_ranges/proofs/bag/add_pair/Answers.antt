@@ -1,4 +1,4 @@
-use Rattle.wi_ranges.proofs.Words.{◌≡◌, ◌≤◌, ℕ, ◌∙◌, nat_lt, not, true, List, subst, arith, nat_tests, err_from_is_err_and, on_err, Bag, HasOneMore, bag_of, is_among, Block}
+use Rattle.wi_ranges.proofs.Words.{◌≡◌, ◌≤◌, ℕ, ◌∙◌, nat_lt, not, true, List, subst, arith, nat_tests, IfOk-from_err, on_err, Bag, HasOneMore, bag_of, is_among, Block}
 use Rattle.wi_ranges.proofs.First.{row_there}
 use Rattle.wi_ranges.proofs.bag.add_pair.Goals as goal
 
@@ -27,9 +27,7 @@ pub add_numbered-requires-clause-row : goal.add_numbered-requires-clause-row
 add_numbered-requires-clause-row c = row_there c.args.pair.now c.around-around.result 1048576 c.around-around.ensures.holds c.around-around.ensures.within
 
 pub returns-in_err-add_numbered-clause-more : goal.returns-in_err-add_numbered-clause-more
-returns-in_err-add_numbered-clause-more c =
-    let p = err_from_is_err_and c.from_residual.result c.from_residual.ensures.1 in
-    rw p.1 tt
+returns-in_err-add_numbered-clause-more c = IfOk-from_err c.from_residual.result _ c.from_residual.ensures.0
 
 pub returns-in_err-add_numbered-clause-whole : goal.returns-in_err-add_numbered-clause-whole
 returns-in_err-add_numbered-clause-whole c = c.add_numbered.ensures.whole
@@ -65,9 +63,7 @@ pub add_numbered-requires-2-clause-row : goal.add_numbered-requires-2-clause-row
 add_numbered-requires-2-clause-row c = row_there c.args.pair.now c.around-around.result 1048576 c.around-around.ensures.holds c.around-around.ensures.within
 
 pub returns-in_err-add_numbered-2-clause-more : goal.returns-in_err-add_numbered-2-clause-more
-returns-in_err-add_numbered-2-clause-more c =
-    let p = err_from_is_err_and c.from_residual-in_err-add_numbered-2.result c.from_residual-in_err-add_numbered-2.ensures.1 in
-    rw p.1 tt
+returns-in_err-add_numbered-2-clause-more c = IfOk-from_err c.from_residual-in_err-add_numbered-2.result _ c.from_residual-in_err-add_numbered-2.ensures.0
 
 pub returns-in_err-add_numbered-2-clause-whole : goal.returns-in_err-add_numbered-2-clause-whole
 returns-in_err-add_numbered-2-clause-whole c = c.add_numbered-2.ensures.whole

@@ -1,4 +1,4 @@
-use Rattle.wi_ranges.proofs.Words.{err_from_is_err_and, IsStrictlySortedBy, Piece, piece_cmp, has_piece, List, ap, subst, ◌≡◌, [], ◌+◌, ◌-◌, ◌^◌, sym, ◌∙◌, arith, refl, true, on_err, block, blocks_in, first_row, last_row}
+use Rattle.wi_ranges.proofs.Words.{IfOk-from_err, IsStrictlySortedBy, Piece, piece_cmp, has_piece, List, ap, subst, ◌≡◌, [], ◌+◌, ◌-◌, ◌^◌, sym, ◌∙◌, arith, refl, true, on_err, block, blocks_in, first_row, last_row}
 use Rattle.wi_ranges.proofs.BlockLemmas.{blocks_within-apart, blocks_within-row, halves_of}
 use Rattle.wi_ranges.proofs.Apart.{halves_apart}
 use Rattle.wi_ranges.proofs.PieceLemmas.{absent_here, absent_lower, absent_upper, gains_here, gains_both, gains_none, told_here, stays_told, kept_here, told_both, kept_both, kept_first, piece_of_none}
@@ -111,34 +111,22 @@ returns-in_err-put_in-2-clause-absent t c =
     c.put_in.ensures.kept (halves_apart c.args.block.now c.upper.result c.lower.result c.args.numbered.now c.upper.ensures.value c.lower.ensures.value) c.in_err-put_in-2.ensures.absent)
 
 pub returns-in_err-insert-clause-put : goal.returns-in_err-insert-clause-put
-returns-in_err-insert-clause-put t c =
-    let p = err_from_is_err_and c.from_residual.result c.from_residual.ensures.1 in
-    rw p.1 tt
+returns-in_err-insert-clause-put t c = IfOk-from_err c.from_residual.result _ c.from_residual.ensures.0
 
 pub returns-in_err-put_in-clause-put : goal.returns-in_err-put_in-clause-put
-returns-in_err-put_in-clause-put t c =
-    let p = err_from_is_err_and c.from_residual-in_err-put_in.result c.from_residual-in_err-put_in.ensures.1 in
-    rw p.1 tt
+returns-in_err-put_in-clause-put t c = IfOk-from_err c.from_residual-in_err-put_in.result _ c.from_residual-in_err-put_in.ensures.0
 
 pub returns-in_err-put_in-2-clause-put : goal.returns-in_err-put_in-2-clause-put
-returns-in_err-put_in-2-clause-put t c =
-    let p = err_from_is_err_and c.from_residual-in_err-put_in-2.result c.from_residual-in_err-put_in-2.ensures.1 in
-    rw p.1 tt
+returns-in_err-put_in-2-clause-put t c = IfOk-from_err c.from_residual-in_err-put_in-2.result _ c.from_residual-in_err-put_in-2.ensures.0
 
 pub returns-in_err-insert-clause-gains : goal.returns-in_err-insert-clause-gains
-returns-in_err-insert-clause-gains t c =
-    let p = err_from_is_err_and c.from_residual.result c.from_residual.ensures.1 in
-    rw p.1 tt
+returns-in_err-insert-clause-gains t c = IfOk-from_err c.from_residual.result _ c.from_residual.ensures.0
 
 pub returns-in_err-put_in-clause-gains : goal.returns-in_err-put_in-clause-gains
-returns-in_err-put_in-clause-gains t c =
-    let p = err_from_is_err_and c.from_residual-in_err-put_in.result c.from_residual-in_err-put_in.ensures.1 in
-    rw p.1 tt
+returns-in_err-put_in-clause-gains t c = IfOk-from_err c.from_residual-in_err-put_in.result _ c.from_residual-in_err-put_in.ensures.0
 
 pub returns-in_err-put_in-2-clause-gains : goal.returns-in_err-put_in-2-clause-gains
-returns-in_err-put_in-2-clause-gains t c =
-    let p = err_from_is_err_and c.from_residual-in_err-put_in-2.result c.from_residual-in_err-put_in-2.ensures.1 in
-    rw p.1 tt
+returns-in_err-put_in-2-clause-gains t c = IfOk-from_err c.from_residual-in_err-put_in-2.result _ c.from_residual-in_err-put_in-2.ensures.0
 
 pub returns-in_err-insert-clause-kept : goal.returns-in_err-insert-clause-kept
 returns-in_err-insert-clause-kept t c = λ q h. ap (λ (ks : List Piece). has_piece ks q) c.in_err-insert.ensures.err
