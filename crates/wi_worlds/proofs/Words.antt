@@ -9,7 +9,7 @@ pub use Rattle.std.proofs.lemmas.List.Edits.{get_or-insert_above, get_or-insert_
 pub use Rattle.std.proofs.lemmas.List.Kept.{IsStrictlyIncreasing-filter}
 pub use Rattle.std.proofs.lemmas.List.Sorted.{IsPermutation-insert, answers_always, list_any-IsPermutation, searched}
 pub use Rattle.std.proofs.lemmas.Map.Keys.{below_from_sorted, non_decreasing_from_sorted, sorted_from_strictly_increasing}
-pub use Rattle.std.proofs.lemmas.Result.{IfOk-weaker, err_from_is_err_and, on_err_weaker, on_ok_weaker}
+pub use Rattle.std.proofs.lemmas.Result.{IfOk-from_err, IfOk-weaker, err_from_is_err_and, on_err_weaker, on_ok_weaker}
 pub use Rattle.std.specs.BTreeMap.{BTreeMap, get}
 pub use Rattle.std.specs.BTreeSet.{BTreeSet}
 pub use Rattle.std.specs.List.{insert, list_all}
