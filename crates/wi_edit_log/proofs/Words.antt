@@ -7,7 +7,7 @@ pub use Rattle.std.proofs.lemmas.Grind.{common_steps}
 pub use Rattle.std.proofs.lemmas.List.{drop-append-le, drop-map, drop_all, drop_min, drop_more, get_or-take, get_or_append_left, get_or_default, get_or_push, length-append, length-take, length-take-le, length_push, take-append-drop, take-append-le, take_all, take_more, take_rest}
 pub use Rattle.std.proofs.lemmas.List.Folds.{list_any-append, list_any_more}
 pub use Rattle.std.proofs.lemmas.List.Sorted.{IsPartitionPoint-from_clause, IsPartitionedBy-ltb}
-pub use Rattle.std.proofs.lemmas.Result.{err_from_is_err_and}
+pub use Rattle.std.proofs.lemmas.Result.{IfOk-from_err, err_from_is_err_and}
 pub use Rattle.std.specs.Bool.{then_some}
 pub use Rattle.std.specs.Cmp.Derive.{one_truth}
 pub use Rattle.std.specs.List.{flat_map, fold, list_any, range_with_len, reduce}
