@@ -48,8 +48,7 @@ invariant_of-self-2 c =
 
 pub returns-clause-value : goal.returns-clause-value
 returns-clause-value c =
-    let i = c.self.inside in
-    let s = i.store.sheet in
+    let s = c.self.inside.store.sheet in
     let o = open_cells s c.args.formula_cell c.args.pairs.now c.entry_is_circular.result (c.entry_is_circular.ensures s c.self.invariant.1) c.if-entry_is_circular.false in
     subst (λ (x : KeptSheet). IfOk c.open_entry-result.result (λ v. v ≡ table_entry x.stored.sheet c.args.put.now c.args.formula_cell c.args.pairs.now)) c.self.view_is
     (IfOk-weaker c.open_entry-result.result _ _ (λ v e. entry_shown s c.in_ok-world.world c.args.put.now c.args.formula_cell c.args.pairs.now v o c.in_ok-world.ensures c.requires e) c.open_entry-result.ensures.value)
