@@ -25,8 +25,7 @@ returns-in-Ok-clause-same c =
 
 pub returns-in-Ok-clause-whole : goal.returns-in-Ok-clause-whole
 returns-in-Ok-clause-whole c =
-    let ks = c.args.pieces.now.keys in
-    let done = put c.args.numbered.now c.args.around.now ks c.put_in.new.pieces.keys c.requires.blocks c.requires.row c.requires.whole c.requires.number
+    let done = put c.args.numbered.now c.args.around.now c.args.pieces.now.keys c.put_in.new.pieces.keys c.requires.blocks c.requires.row c.requires.whole c.requires.number
     c.in-Ok.ensures.put c.put_in.ensures.kept c.put_in.ensures.stays c.put_in.ensures.order c.in-Ok.ensures.gains in
     done.whole
 

@@ -18,9 +18,7 @@ invariant_of-self-2 c =
     let bag = bag_of c.self.inside.pieces.keys in
     let new = bag_of c.add_pair.new.pieces.keys in
     let more : HasOneMore p bag new = search rules in
-    let own = c.with_area.ensures.area in
-    let others = c.with_area.ensures.others in
-    (c.add_pair.ensures.whole, around_more p bag new c.self.inside.around (Some c.with_area.result) more c.self.invariant.1 own others)
+    (c.add_pair.ensures.whole, around_more p bag new c.self.inside.around (Some c.with_area.result) more c.self.invariant.1 c.with_area.ensures.area c.with_area.ensures.others)
 
 pub returns-clause-ok : goal.returns-clause-ok
 returns-clause-ok c =
