@@ -26,8 +26,7 @@ returns-in-Ok-clause-adds g c = switched_adds _ _ _ _ _ (switched g c)
 
 pub returns-in-Ok-clause-others : goal.returns-in-Ok-clause-others
 returns-in-Ok-clause-others g c =
-    let made = c.make_room_for_current.ensures in
-    switched_others _ _ _ _ _ (switched g c) (λ j n. made.others j n ∙ c.requires.sound.full j)
+    switched_others _ _ _ _ _ (switched g c) (λ j n. c.make_room_for_current.ensures.others j n ∙ c.requires.sound.full j)
 
 pub returns-in-Ok-clause-sound : goal.returns-in-Ok-clause-sound
 returns-in-Ok-clause-sound g c = switched_sound _ _ _ _ _ (switched g c) c.requires.sound
