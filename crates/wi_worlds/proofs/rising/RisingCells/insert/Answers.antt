@@ -23,7 +23,6 @@ returns-in-Ok-clause-has c =
 
 pub returns-in_ok-insert-in-Err-clause-has : goal.returns-in_ok-insert-in-Err-clause-has
 returns-in_ok-insert-in-Err-clause-has c =
-    let xs = c.self.inside.cells.items in
     λ q. ap (λ (ys : List ℕ). is_one_of ys q) c.in_ok-insert-in-Err.ensures.items
-    ∙ has_more xs c.in-Err.place c.args.cell q
+    ∙ has_more c.self.inside.cells.items c.in-Err.place c.args.cell q
     ∙ ap (λ (ys : List ℕ). (c.args.cell == q) || is_one_of ys q) c.self.view_is
