@@ -7,8 +7,8 @@ pub use Rattle.std.proofs.lemmas.Grind.{common_steps}
 pub use Rattle.std.proofs.lemmas.List.{get_or-map, length-map, nil_from_length}
 pub use Rattle.std.proofs.lemmas.List.Edits.{get_or-insert_above, get_or-insert_at, get_or-insert_below, length-insert}
 pub use Rattle.std.proofs.lemmas.List.Kept.{IsStrictlyIncreasing-filter}
-pub use Rattle.std.proofs.lemmas.List.Sorted.{IsPermutation-insert, answers_always, list_any-IsPermutation, searched}
-pub use Rattle.std.proofs.lemmas.Map.Keys.{below_from_sorted, non_decreasing_from_sorted, sorted_from_strictly_increasing}
+pub use Rattle.std.proofs.lemmas.List.Sorted.{IsPermutation-insert, answers_always, list_any-IsPermutation}
+pub use Rattle.std.proofs.lemmas.Map.Keys.{below_from_sorted, sorted_from_strictly_increasing}
 pub use Rattle.std.proofs.lemmas.Result.{IfOk-from_err, IfOk-weaker, err_from_is_err_and, on_err_weaker, on_ok_weaker}
 pub use Rattle.std.specs.BTreeMap.{BTreeMap, get}
 pub use Rattle.std.specs.BTreeSet.{BTreeSet}
@@ -18,7 +18,6 @@ pub use Rattle.std.specs.Map.{lookup}
 pub use Rattle.std.specs.Option.{option_map, option_or, unwrap_or}
 pub use Rattle.std.specs.Ordering.{nat_cmp, ordering_index}
 pub use Rattle.std.specs.Prelude.{All, IsSome}
-pub use Rattle.std.specs.Result.{is_ok}
 pub use Rattle.wi_values.proofs.Lists.{keeps_few, one_less}
 pub use Rattle.wi_values.proofs.Order.{is_at-eq, is_itself, turn_test}
 pub use Rattle.wi_values.proofs.Replacements.Filtering.{order_of_filter, replaced-filter}
