@@ -29,7 +29,7 @@ pub use Rattle.wi_cache.specs.Entries.{Entries, HasOneEach, HasRoom, KeptValues,
 pub use Rattle.wi_cache.specs.Hashed.{same_key_means}
 pub use Rattle.wi_cache.specs.declared.key.Key.{Key}
 pub use Rattle.wi_engine.proofs.Ledger.{spends_err, spends_then, spends_weaken, where_then}
-pub use Rattle.wi_engine.proofs.Places.{has_found, known_still, known_then, none_went}
+pub use Rattle.wi_engine.proofs.Places.{known_still, known_then, none_went}
 pub use Rattle.wi_engine.specs.Inner.Frames.{MayBeRead}
 pub use Rattle.wi_engine.specs.Inner.Keeps.{HasFound, Keeps}
 pub use Rattle.wi_engine.specs.Inner.MemoState.{IsMemoOf, IsTold, MemoState}
