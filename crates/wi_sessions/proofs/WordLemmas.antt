@@ -216,23 +216,14 @@ taken : (t l w b s : Bool) → l ≡ (w && not b) → (t ≡ true → s ≡ w) �
 taken true l w b s e h = e ∙ sym (ap (λ x. x && not b) (h refl))
 taken false l w b s e h = sym (and-true s)
 
--- from one that does, where others are left
-pub has_cleared_some : (words less : Words) (at word left bits : ℕ) → lookup (is_at (nat_cmp at)) words ≡ Some word
-    → ((i : ℕ) → has_bit i left ≡ (has_bit i word && not (has_bit i bits)))
-    → ((q : ℕ) → lookup (is_at (nat_cmp q)) less ≡ cond (is_at (nat_cmp at) q) (Some left) (lookup (is_at (nat_cmp q)) words))
+-- from one that does, where others are left, or none is
+pub has_cleared_put : (words less : Words) (at word bits : ℕ) (o : Option ℕ) → lookup (is_at (nat_cmp at)) words ≡ Some word
+    → ((i : ℕ) → has_bit i (unwrap_or o 0) ≡ (has_bit i word && not (has_bit i bits)))
+    → ((q : ℕ) → lookup (is_at (nat_cmp q)) less ≡ cond (is_at (nat_cmp at) q) o (lookup (is_at (nat_cmp q)) words))
     → HasCleared (λ i c. (at == c) && has_bit i bits) words less
-has_cleared_some words less at word left bits there fresh put = λ i c.
-    bit_changed words less at (Some left) put i c
-    ∙ taken (at == c) (has_bit i left) (has_bit i word) (has_bit i bits) (is_in words i c) (fresh i) (bit_there words at (Some word) there i c)
-
--- and where none is
-pub has_cleared_all : (words less : Words) (at word left bits : ℕ) → lookup (is_at (nat_cmp at)) words ≡ Some word
-    → ((i : ℕ) → has_bit i left ≡ (has_bit i word && not (has_bit i bits))) → ((i : ℕ) → has_bit i left ≡ false)
-    → ((q : ℕ) → lookup (is_at (nat_cmp q)) less ≡ cond (is_at (nat_cmp at) q) None (lookup (is_at (nat_cmp q)) words))
-    → HasCleared (λ i c. (at == c) && has_bit i bits) words less
-has_cleared_all words less at word left bits there fresh bare put = λ i c.
-    bit_changed words less at None put i c
-    ∙ taken (at == c) (has_bit i 0) (has_bit i word) (has_bit i bits) (is_in words i c) (none_in_zero i ∙ sym (bare i) ∙ fresh i) (bit_there words at (Some word) there i c)
+has_cleared_put words less at word bits o there fresh put = λ i c.
+    bit_changed words less at o put i c
+    ∙ taken (at == c) (has_bit i (unwrap_or o 0)) (has_bit i word) (has_bit i bits) (is_in words i c) (fresh i) (bit_there words at (Some word) there i c)
 
 pub nothing_cleared : (words : Words) (bits : ℕ) → HasCleared (at_cells [] bits) words words
 nothing_cleared words bits = λ i c. sym (and-true (is_in words i c))
