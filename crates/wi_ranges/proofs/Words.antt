@@ -19,7 +19,7 @@ pub use Rattle.std.proofs.lemmas.Map.Steps.{set_value_same}
 pub use Rattle.std.proofs.lemmas.Map.Views.{btree_set_contains_iff, tells_apart}
 pub use Rattle.std.proofs.lemmas.Nat.{mul-le, pow_below, pow_pos}
 pub use Rattle.std.proofs.lemmas.Option.{same_Some}
-pub use Rattle.std.proofs.lemmas.Result.{IfOk-weaker, err_from_is_err_and, on_err_weaker, on_ok_weaker}
+pub use Rattle.std.proofs.lemmas.Result.{IfOk-from_err, IfOk-weaker, err_from_is_err_and, on_err_weaker, on_ok_weaker}
 pub use Rattle.std.specs.BTreeMap.{is_at}
 pub use Rattle.std.specs.BTreeMap.Range.{range_contains}
 pub use Rattle.std.specs.BTreeSet.{BTreeSet, IsKeyRangeOf, contains, insert_key}
@@ -33,6 +33,7 @@ pub use Rattle.std.specs.Map.{keys_of, lookup, remove_entry, set_value}
 pub use Rattle.std.specs.Option.{unwrap_or}
 pub use Rattle.std.specs.Ordering.{is_eq, is_gt, is_le, is_lt, match_ordering, nat_cmp, ordering_then}
 pub use Rattle.std.specs.Prelude.{if◌then◌else◌}
+pub use Rattle.std.specs.declared.alloc.AllocError.{AllocError}
 pub use Rattle.std.specs.Result.{is_ok}
 pub use Rattle.std.specs.Set.{remove_key}
 pub use Rattle.std.specs.declared.cmp.Ordering.{Ordering}
@@ -42,7 +43,7 @@ pub use Rattle.wi_ranges.specs.Bag.{Bag, HasOneLess, HasOneMore, IsReader, count
 pub use Rattle.wi_ranges.specs.Blocks.{block, blocks_in, blocks_of, first_row, half_with, last_row, lies_within, meets}
 unfoldable pub use Rattle.wi_ranges.specs.Blocks.{blocks_with, blocks_within}
 pub use Rattle.wi_ranges.specs.Inner.Around.{IsAround, has_cell}
-pub use Rattle.wi_ranges.specs.Inner.Index.{AreUpTo, AreWhole, Gains, HasPieces, IsIndexed, KeepsOtherPieces, LacksPieces, Piece, bag_of, block_cmp, has_piece, holds, is_among, is_at_block, is_one, is_piece, lowest, numbered_cmp, pair_reads, piece_cmp, piece_reads, reads_at, stands_first}
+pub use Rattle.wi_ranges.specs.Inner.Index.{AddsNumbered, AreUpTo, AreWhole, Gains, HasPieces, IsIndexed, KeepsOtherPieces, LacksPieces, MayAdd, Piece, PutsPieces, TakesPieces, bag_of, block_cmp, has_piece, holds, is_among, is_at_block, is_one, is_piece, lowest, numbered_cmp, pair_reads, piece_cmp, piece_reads, reads_at, stands_first}
 pub use Rattle.wi_ranges.specs.Inner.Rising.{StandApart, as_set, ends_before}
 pub use Rattle.wi_ranges.specs.Inner.Singles.{HasPairMore, blocks_in_all, pairs_at, pairs_of, single_pair, with_pairs}
 pub use Rattle.wi_ranges.specs.Laws.{BlocksAreFew, BlocksAreLargest, IsAligned, IsPartOf, RowsAreHeldOnce, times_held}
