@@ -16,39 +16,28 @@ index_mut-requires c =
     let l = within_unread c.self.inside.words.entries c.self.inside.staged.items (length c.self.inside.unread.items) c.args.i c.args.self.now c.self.view_is c.requires in
     omega (arith, l, c.self.inside.unread.ok.0)
 
-pub returns-in-Ok-clause-lists : goal.returns-in-Ok-clause-lists
-returns-in-Ok-clause-lists c =
-    let us = c.self.inside.unread.items in
-    let words = c.self.inside.words.entries in
-    let staged = c.self.inside.staged.items in
-    let more = c.stage_own.new.words.entries in
-    let rooms = c.stage_own.new.staged.items in
-    ap (λ (m : ℕ). map (cells_in more rooms) (range_with_len 0 m)) (length-set us c.args.i c.stage_own.new.own)
-    ∙ pending_same words staged more rooms (length us) c.self.invariant.order c.stage_own.ensures.order c.stage_own.ensures.pending ∙ ap (λ (p : AllPending). p.pending) c.self.view_is
-
-pub returns-in-Ok-clause-room : goal.returns-in-Ok-clause-room
-returns-in-Ok-clause-room c =
+pub returns-in-Ok : goal.returns-in-Ok
+returns-in-Ok c =
     let us = c.self.inside.unread.items in
     let words = c.self.inside.words.entries in
     let staged = c.self.inside.staged.items in
     let more = c.stage_own.new.words.entries in
     let rooms = c.stage_own.new.staged.items in
     let l : c.args.i < length c.self.inside.unread.items = within_unread words staged (length us) c.args.i c.args.self.now c.self.view_is c.requires in
-    λ q. ap (λ (m : ℕ). is_one_of (list_at (map (vacant_in more rooms) (range_with_len 0 m)) c.args.i) q) (length-set us c.args.i c.stage_own.new.own)
-    ∙ room_here words staged more rooms c.args.i (length us) c.bit_of-bit.result c.args.cells.now c.self.invariant.order c.stage_own.ensures.order l c.bit_of-bit.ensures c.in-Ok.ensures.room q
-    ∙ ap (λ (p : AllPending). is_one_of (list_at p.vacant c.args.i) q || (is_one_of c.args.cells.now q && not (is_one_of (list_at p.pending c.args.i) q))) c.self.view_is
-
-pub returns-in-Ok-clause-others : goal.returns-in-Ok-clause-others
-returns-in-Ok-clause-others c =
-    let us = c.self.inside.unread.items in
-    let words = c.self.inside.words.entries in
-    let staged = c.self.inside.staged.items in
-    let more = c.stage_own.new.words.entries in
-    let rooms = c.stage_own.new.staged.items in
-    let l : c.args.i < length c.self.inside.unread.items = within_unread words staged (length us) c.args.i c.args.self.now c.self.view_is c.requires in
-    λ j apart. ap (λ (m : ℕ). list_at (map (vacant_in more rooms) (range_with_len 0 m)) j) (length-set us c.args.i c.stage_own.new.own)
-    ∙ room_elsewhere words staged more rooms c.args.i (length us) c.bit_of-bit.result c.args.cells.now c.self.invariant.order c.stage_own.ensures.order l c.bit_of-bit.ensures c.in-Ok.ensures.room j apart
-    ∙ ap (λ (p : AllPending). list_at p.vacant j) c.self.view_is
+    let made = c.in-Ok.ensures.rooms in
+    let long = length-set us c.args.i c.stage_own.new.own in
+    record {
+      lists =
+          ap (λ (m : ℕ). map (cells_in more rooms) (range_with_len 0 m)) long
+          ∙ pending_same words staged more rooms (length us) c.self.invariant.order c.stage_own.ensures.order made.pending ∙ ap (λ (p : AllPending). p.pending) c.self.view_is;
+      room = λ q. ap (λ (m : ℕ). is_one_of (list_at (map (vacant_in more rooms) (range_with_len 0 m)) c.args.i) q) long
+          ∙ room_here words staged more rooms c.args.i (length us) c.bit_of-bit.result c.args.cells.now c.self.invariant.order c.stage_own.ensures.order l c.bit_of-bit.ensures made.room q
+          ∙ ap (λ (p : AllPending). is_one_of (list_at p.vacant c.args.i) q || (is_one_of c.args.cells.now q && not (is_one_of (list_at p.pending c.args.i) q))) c.self.view_is;
+      refused = tt;
+      others = λ j apart. ap (λ (m : ℕ). list_at (map (vacant_in more rooms) (range_with_len 0 m)) j) long
+          ∙ room_elsewhere words staged more rooms c.args.i (length us) c.bit_of-bit.result c.args.cells.now c.self.invariant.order c.stage_own.ensures.order l c.bit_of-bit.ensures made.room j apart
+          ∙ ap (λ (p : AllPending). list_at p.vacant j) c.self.view_is;
+    }
 
 pub invariant_of-self : goal.invariant_of-self
 invariant_of-self c =
@@ -60,14 +49,14 @@ invariant_of-self c =
     let l : c.args.i < length c.self.inside.unread.items = within_unread words staged (length us) c.args.i c.args.self.now c.self.view_is c.requires in
     let u = c.index_mut.result.now in
     let k = c.self.invariant in
-    kept_here words staged more rooms c.args.i (length us) c.bit_of-bit.result c.args.cells.now k.order c.stage_own.ensures.order l c.bit_of-bit.ensures c.in-Ok.ensures.room
+    kept_here words staged more rooms c.args.i (length us) c.bit_of-bit.result c.args.cells.now k.order c.stage_own.ensures.order l c.bit_of-bit.ensures c.in-Ok.ensures.rooms.room
     c.self.inside.changed.items us c.stage_own.new.own refl k
     (place_noted words c.self.inside.changed.items c.args.i u c.stage_own.new.own (place_read words c.self.inside.changed.items us c.args.i u k.places l c.index_mut.ensures.value)
     c.stage_own.ensures.from (c.stage_own.ensures.stay c.self.inside.changed.items))
     (c.in-Ok.ensures.own c.self.inside.changed.items)
 
-pub returns-in-Err-clause-lists : goal.returns-in-Err-clause-lists
-returns-in-Err-clause-lists c =
+pub returns-in-Err : goal.returns-in-Err
+returns-in-Err c =
     let us = c.self.inside.unread.items in
     let words = c.self.inside.words.entries in
     let staged = c.self.inside.staged.items in
@@ -75,35 +64,22 @@ returns-in-Err-clause-lists c =
     let rooms = c.stage_own.new.staged.items in
     let l : c.args.i < length c.self.inside.unread.items = within_unread words staged (length us) c.args.i c.args.self.now c.self.view_is c.requires in
     let less = c.drop_rooms.new.words.entries in
-    ap (λ (m : ℕ). map (cells_in less rooms) (range_with_len 0 m)) (length-set us c.args.i c.stage_own.new.own)
-    ∙ pending_same words staged less rooms (length us) c.self.invariant.order c.drop_rooms.ensures.order
-    (dropped_pending words staged more rooms less c.args.i (length us) c.bit_of-bit.result c.self.invariant.order c.drop_rooms.ensures.order l c.bit_of-bit.ensures c.stage_own.ensures.pending c.stage_own.ensures.others
-    (search rules)) ∙ ap (λ (p : AllPending). p.pending) c.self.view_is
-
-pub returns-in-Err-clause-refused : goal.returns-in-Err-clause-refused
-returns-in-Err-clause-refused c =
-    let us = c.self.inside.unread.items in
-    let words = c.self.inside.words.entries in
-    let staged = c.self.inside.staged.items in
-    let more = c.stage_own.new.words.entries in
-    let rooms = c.stage_own.new.staged.items in
-    let l : c.args.i < length c.self.inside.unread.items = within_unread words staged (length us) c.args.i c.args.self.now c.self.view_is c.requires in
-    let less = c.drop_rooms.new.words.entries in
-    ap (λ (m : ℕ). list_at (map (vacant_in less rooms) (range_with_len 0 m)) c.args.i) (length-set us c.args.i c.stage_own.new.own)
-    ∙ dropped_here words staged more rooms less c.args.i (length us) c.bit_of-bit.result c.self.invariant.order c.drop_rooms.ensures.order l c.bit_of-bit.ensures c.stage_own.ensures.pending c.stage_own.ensures.others (search rules)
-
-pub returns-in-Err-clause-others : goal.returns-in-Err-clause-others
-returns-in-Err-clause-others c =
-    let us = c.self.inside.unread.items in
-    let words = c.self.inside.words.entries in
-    let staged = c.self.inside.staged.items in
-    let more = c.stage_own.new.words.entries in
-    let rooms = c.stage_own.new.staged.items in
-    let l : c.args.i < length c.self.inside.unread.items = within_unread words staged (length us) c.args.i c.args.self.now c.self.view_is c.requires in
-    let less = c.drop_rooms.new.words.entries in
-    λ j apart. ap (λ (m : ℕ). list_at (map (vacant_in less rooms) (range_with_len 0 m)) j) (length-set us c.args.i c.stage_own.new.own)
-    ∙ dropped_elsewhere words staged more rooms less c.args.i (length us) c.bit_of-bit.result c.self.invariant.order c.drop_rooms.ensures.order l c.bit_of-bit.ensures c.stage_own.ensures.pending c.stage_own.ensures.others (search rules) j apart
-    ∙ ap (λ (p : AllPending). list_at p.vacant j) c.self.view_is
+    let part = c.in-Err.ensures.rooms in
+    let long = length-set us c.args.i c.stage_own.new.own in
+    record {
+      lists =
+          ap (λ (m : ℕ). map (cells_in less rooms) (range_with_len 0 m)) long
+          ∙ pending_same words staged less rooms (length us) c.self.invariant.order c.drop_rooms.ensures.order
+          (dropped_pending words staged more rooms less c.args.i (length us) c.bit_of-bit.result c.self.invariant.order c.drop_rooms.ensures.order l c.bit_of-bit.ensures part.pending part.others (search rules))
+          ∙ ap (λ (p : AllPending). p.pending) c.self.view_is;
+      room = tt;
+      refused =
+          ap (λ (m : ℕ). list_at (map (vacant_in less rooms) (range_with_len 0 m)) c.args.i) long
+          ∙ dropped_here words staged more rooms less c.args.i (length us) c.bit_of-bit.result c.self.invariant.order c.drop_rooms.ensures.order l c.bit_of-bit.ensures part.pending part.others (search rules);
+      others = λ j apart. ap (λ (m : ℕ). list_at (map (vacant_in less rooms) (range_with_len 0 m)) j) long
+          ∙ dropped_elsewhere words staged more rooms less c.args.i (length us) c.bit_of-bit.result c.self.invariant.order c.drop_rooms.ensures.order l c.bit_of-bit.ensures part.pending part.others (search rules) j apart
+          ∙ ap (λ (p : AllPending). list_at p.vacant j) c.self.view_is;
+    }
 
 pub invariant_of-self-in-Err : goal.invariant_of-self-in-Err
 invariant_of-self-in-Err c =
@@ -116,15 +92,10 @@ invariant_of-self-in-Err c =
     let less = c.drop_rooms.new.words.entries in
     let u = c.index_mut.result.now in
     let k = c.self.invariant in
-    kept_at less rooms c.self.inside.changed.items us
-    (dropped_kept words staged more rooms less c.args.i (length us) c.bit_of-bit.result k.order c.drop_rooms.ensures.order l c.bit_of-bit.ensures c.stage_own.ensures.pending c.stage_own.ensures.others (search rules)
-    c.self.inside.changed.items us refl k)
-    c.self.inside.changed.items _ (length-set us c.args.i c.stage_own.new.own)
-    (places_set less c.self.inside.changed.items us c.args.i c.stage_own.new.own l
-    (dropped_kept words staged more rooms less c.args.i (length us) c.bit_of-bit.result k.order c.drop_rooms.ensures.order l c.bit_of-bit.ensures c.stage_own.ensures.pending c.stage_own.ensures.others (search rules)
-    c.self.inside.changed.items us refl k).places
-    (place_noted less c.self.inside.changed.items c.args.i u c.stage_own.new.own
-    (place_read less c.self.inside.changed.items us c.args.i u
-    (dropped_kept words staged more rooms less c.args.i (length us) c.bit_of-bit.result k.order c.drop_rooms.ensures.order l c.bit_of-bit.ensures c.stage_own.ensures.pending c.stage_own.ensures.others (search rules)
-    c.self.inside.changed.items us refl k).places l c.index_mut.ensures.value)
+    let part = c.in-Err.ensures.rooms in
+    let dropped =
+    dropped_kept words staged more rooms less c.args.i (length us) c.bit_of-bit.result k.order c.drop_rooms.ensures.order l c.bit_of-bit.ensures part.pending part.others (search rules) c.self.inside.changed.items us refl k in
+    kept_at less rooms c.self.inside.changed.items us dropped c.self.inside.changed.items _ (length-set us c.args.i c.stage_own.new.own)
+    (places_set less c.self.inside.changed.items us c.args.i c.stage_own.new.own l dropped.places
+    (place_noted less c.self.inside.changed.items c.args.i u c.stage_own.new.own (place_read less c.self.inside.changed.items us c.args.i u dropped.places l c.index_mut.ensures.value)
     c.stage_own.ensures.from (c.stage_own.ensures.stay c.self.inside.changed.items)))
