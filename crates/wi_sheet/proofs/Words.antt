@@ -33,7 +33,7 @@ pub use Rattle.wi_graph.proofs.Cones.{agree_outside, cone_closed, cone_least, co
 pub use Rattle.wi_graph.proofs.EdgeLemmas.{content_of-with}
 pub use Rattle.wi_graph.proofs.Ends.{ends_open}
 pub use Rattle.wi_graph.proofs.Graphs.{stripped}
-pub use Rattle.wi_graph.proofs.Layers.{in_layer, layer_zero, walker_has_formula}
+pub use Rattle.wi_graph.proofs.Layers.{in_layer, is_key, layer_zero, walker_has_formula}
 pub use Rattle.wi_graph.proofs.ReachSteps.{reaches_here, reaches_on, reaches_read}
 pub use Rattle.wi_graph.proofs.ReachTest.{not_in_cone, true_reaches}
 pub use Rattle.wi_graph.proofs.Tests.{clash}

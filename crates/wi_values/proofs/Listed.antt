@@ -1,10 +1,32 @@
 -- Which numbers a list has.
-use Rattle.wi_values.proofs.Words.{◌≡◌, ◌∙◌, ◌==◌, ◌<◌, ◌+◌, ◌&&◌, ◌||◌, ℕ, Bool, true, List, [], ◌∷◌, length, get_or, take, drop, filter, refl, sym, ap, subst, Any-from_list_any, any-filter_same, list_any-append, list_any_at, list_any_more, take-append-drop, and_comm, eq-eqb, eqb-true, or_left, Contains, list_any, nat_cmp, is_at, is_one_of}
+use Rattle.wi_values.proofs.Words.{◌≡◌, ◌∙◌, ◌==◌, ◌<◌, ◌+◌, ◌&&◌, ◌||◌, ℕ, Bool, true, List, [], ◌∷◌, length, get_or, take, drop, filter, refl, sym, ap, subst, Any-from_list_any, any-filter_same, list_any-append, list_any_at, list_any_more, take-append-drop, and_comm, eq-eqb, eqb-true, or_left, Contains, list_any, nat_cmp, is_at, is_one_of, ◌≤◌, false, suc, Result, Ok, Err, MatchResult, ⊎_elim, arith, is_ok, cases_lt, ne_eqb, searched, non_decreasing_from_sorted, sorted_from_strictly_increasing, IsStrictlyIncreasing, IsBinarySearchResult}
 use Rattle.wi_values.proofs.Order.{is_at-eq, turn_test}
 
 -- that of the i-th
 pub has_at : (xs : List ℕ) (i c d : ℕ) → i < length xs → get_or xs i d ≡ c → is_one_of xs c ≡ true
 has_at xs i c d l e = list_any_at (λ (x : ℕ). x == c) xs i d l (eq-eqb _ c e)
+
+-- a number that stands nowhere
+pub has_nowhere : (xs : List ℕ) (c : ℕ) → ((k : ℕ) → k < length xs → get_or xs k 0 ≡ c → ⊥) → is_one_of xs c ≡ false
+has_nowhere [] c h = refl
+has_nowhere (x ∷ xs) c h =
+    ap (λ b. b || is_one_of xs c) (ne_eqb x c (h 0 (omega arith))) ∙ has_nowhere xs c (λ k l e. h (suc k) (omega (arith, l)) e)
+
+-- what a binary search says
+abbrev pub Searched : List ℕ → ℕ → Result ℕ ℕ → Type 0
+Searched xs c r = MatchResult r (λ i. (i < length xs) × (get_or xs i 0 ≡ c))
+    (λ i. (i ≤ length xs) × ((k : ℕ) → k < i → get_or xs k 0 < c) × ((k : ℕ) → i ≤ k → k < length xs → c < get_or xs k 0))
+
+pub searched_in : (xs : List ℕ) (c : ℕ) (r : Result ℕ ℕ) → IsStrictlyIncreasing xs → IsBinarySearchResult (λ y. nat_cmp y c) xs r → Searched xs c r
+searched_in xs c r order h =
+    searched xs c r h (λ i j l m. non_decreasing_from_sorted xs (sorted_from_strictly_increasing xs order) i j 0 l m)
+
+pub search_tells : (xs : List ℕ) (c : ℕ) (r : Result ℕ ℕ) → IsStrictlyIncreasing xs → IsBinarySearchResult (λ y. nat_cmp y c) xs r → is_ok r ≡ is_one_of xs c
+search_tells xs c r order h = by r (searched_in xs c r order h)
+  where
+    by : (s : Result ℕ ℕ) → Searched xs c s → is_ok s ≡ is_one_of xs c
+    by (Ok i) f = sym (has_at xs i c 0 f.0 f.1)
+    by (Err i) f = sym (has_nowhere xs c (λ k l e. ⊎_elim (λ m. omega (arith, f.1 k m, e)) (λ m. omega (arith, f.2 k m l, e)) (cases_lt k i)))
 
 -- those of the first i and of one more, as at a step of a loop
 pub has_one_more : (xs : List ℕ) (i x c : ℕ) → i < length xs → x ≡ get_or xs i x → is_one_of (take (i + 1) xs) c ≡ (is_one_of (take i xs) c || (x == c))

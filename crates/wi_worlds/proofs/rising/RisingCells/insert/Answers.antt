@@ -1,6 +1,7 @@
 use Rattle.wi_values.proofs.Listed.{has_at}
 use Rattle.wi_worlds.proofs.Words.{◌≡◌, ◌∙◌, ◌==◌, ◌||◌, ℕ, true, List, Ok, Err, sym, ap, subst, IsStrictlyIncreasing, is_one_of}
-use Rattle.wi_worlds.proofs.RisingSteps.{Searched, searched_in, has_still, has_more, rise_more}
+use Rattle.wi_values.proofs.Listed.{Searched, searched_in}
+use Rattle.wi_worlds.proofs.RisingSteps.{has_still, has_more, rise_more}
 use Rattle.wi_worlds.proofs.rising.RisingCells.insert.Goals as goal
 
 pub invariant_of-self-in-Err : goal.invariant_of-self-in-Err
