@@ -1,9 +1,9 @@
 //! Pairs put in and taken out at their blocks, equal ones by their numbers.
 
-ghost use Rattle.std.specs.Prelude.{◌≡◌, true, OnOk, OnErr};
+ghost use Rattle.std.specs.Prelude.{◌≡◌, true};
 ghost use Rattle.wi_ranges.specs.Blocks.{blocks_of};
-ghost use Rattle.wi_ranges.specs.Bag.{HasOneMore, HasOneLess, count_of};
-ghost use Rattle.wi_ranges.specs.Inner.Index.{AddsNumbered, AreWhole, MayAdd, bag_of, is_among, is_at_block};
+ghost use Rattle.wi_ranges.specs.Bag.{HasOneLess, count_of};
+ghost use Rattle.wi_ranges.specs.Inner.Index.{AddsNumbered, AddsPair, AreWhole, MayAdd, bag_of, is_among, is_at_block};
 
 use crate::block::Block;
 use crate::pair::{Numbered, RangePair};
@@ -63,10 +63,7 @@ fn add_numbered(
 /// Adds a pair. On an error all is as before.
 pub(crate) fn add_pair(pieces: &mut Pieces, pair: &RangePair) -> Result<(), AllocError>
     requires { AreWhole pieces.old.keys }
-    ensures more { OnOk result
-        (HasOneMore pair.now (bag_of pieces.old.keys) (bag_of pieces.new.keys)) }
-    ensures whole { AreWhole pieces.new.keys }
-    ensures err { OnErr result (bag_of pieces.new.keys ≡ bag_of pieces.old.keys) }
+    ensures { AddsPair pair.now result pieces.old.keys pieces.new.keys }
 {
     let around = Block::around(pair);
     let first = Numbered {

@@ -139,3 +139,9 @@ pub record AddsNumbered (m : Numbered) (result : Result Bool AllocError) (old ne
   pub same : IfOk result (λ added. added ≡ false → bag_of new ≡ bag_of old)
   pub whole : AreWhole new
   pub err : OnErr result (bag_of new ≡ bag_of old)
+
+-- one pair more was added, or all is as before
+pub record AddsPair (p : RangePair) (result : Result (Unit {0}) AllocError) (old new : List Piece) : Type 0 where
+  pub more : OnOk result (HasOneMore p (bag_of old) (bag_of new))
+  pub whole : AreWhole new
+  pub err : OnErr result (bag_of new ≡ bag_of old)

@@ -17,20 +17,13 @@ add_numbered-requires c =
     let row = row_there c.args.pair.now c.around-around.result 1048576 around.holds around.within in
     record { whole = c.requires; number = at_least_none _; blocks = around.blocks; on_sheet = around.within; row = row }
 
-pub returns-in_err-add_numbered-clause-more : goal.returns-in_err-add_numbered-clause-more
-returns-in_err-add_numbered-clause-more c = IfOk-from_err c.from_residual.result _ c.from_residual.ensures.0
+pub returns-in_err-add_numbered : goal.returns-in_err-add_numbered
+returns-in_err-add_numbered c =
+    let first = c.in_err-add_numbered.ensures in
+    record { more = IfOk-from_err c.from_residual.result _ c.from_residual.ensures.0; whole = first.whole; err = on_err c.from_residual.result first.err }
 
-pub returns-in_err-add_numbered-clause-whole : goal.returns-in_err-add_numbered-clause-whole
-returns-in_err-add_numbered-clause-whole c = c.in_err-add_numbered.ensures.whole
-
-pub returns-in_err-add_numbered-clause-err : goal.returns-in_err-add_numbered-clause-err
-returns-in_err-add_numbered-clause-err c = on_err c.from_residual.result c.in_err-add_numbered.ensures.err
-
-pub returns-then-branch-clause-more : goal.returns-then-branch-clause-more
-returns-then-branch-clause-more c = c.in_ok-add_numbered.ensures.more c.if-branch.true
-
-pub returns-then-branch-clause-whole : goal.returns-then-branch-clause-whole
-returns-then-branch-clause-whole c = c.in_ok-add_numbered.ensures.whole
+pub returns-then-branch : goal.returns-then-branch
+returns-then-branch c = let first = c.in_ok-add_numbered.ensures in record { more = first.more c.if-branch.true; whole = first.whole; err = tt }
 
 pub count_at-requires-clause-whole : goal.count_at-requires-clause-whole
 count_at-requires-clause-whole c = c.in_ok-add_numbered.ensures.whole
@@ -44,20 +37,22 @@ add_numbered-requires-2 c =
     let row = row_there c.args.pair.now c.around-around.result 1048576 around.holds around.within in
     record { whole = c.in_ok-add_numbered.ensures.whole; number = at_most_as_many c.count_at.result _ c.count_at.ensures; blocks = around.blocks; on_sheet = around.within; row = row }
 
-pub returns-in_err-add_numbered-2-clause-more : goal.returns-in_err-add_numbered-2-clause-more
-returns-in_err-add_numbered-2-clause-more c = IfOk-from_err c.from_residual-in_err-add_numbered-2.result _ c.from_residual-in_err-add_numbered-2.ensures.0
+pub returns-in_err-add_numbered-2 : goal.returns-in_err-add_numbered-2
+returns-in_err-add_numbered-2 c =
+    let next = c.in_err-add_numbered-2.ensures in
+    record {
+      more = IfOk-from_err c.from_residual-in_err-add_numbered-2.result _ c.from_residual-in_err-add_numbered-2.ensures.0;
+      whole = next.whole;
+      err = on_err c.from_residual-in_err-add_numbered-2.result (next.err ∙ c.in_ok-add_numbered.ensures.same c.if-branch.false);
+    }
 
-pub returns-in_err-add_numbered-2-clause-whole : goal.returns-in_err-add_numbered-2-clause-whole
-returns-in_err-add_numbered-2-clause-whole c = c.in_err-add_numbered-2.ensures.whole
-
-pub returns-in_err-add_numbered-2-clause-err : goal.returns-in_err-add_numbered-2-clause-err
-returns-in_err-add_numbered-2-clause-err c =
-    on_err c.from_residual-in_err-add_numbered-2.result (c.in_err-add_numbered-2.ensures.err ∙ c.in_ok-add_numbered.ensures.same c.if-branch.false)
-
-pub returns-clause-more : goal.returns-clause-more
-returns-clause-more c =
-    subst (λ (bag : Bag). HasOneMore c.args.pair.now bag (bag_of c.add_numbered-2.new.pieces.keys)) (c.in_ok-add_numbered.ensures.same c.if-branch.false)
-    (c.in_ok-add_numbered-2.ensures.more (c.in_ok-add_numbered-2.ensures.added ∙ no_fewer c.count_at.result _ c.count_at.ensures))
-
-pub returns-clause-whole : goal.returns-clause-whole
-returns-clause-whole c = c.in_ok-add_numbered-2.ensures.whole
+pub returns : goal.returns
+returns c =
+    let next = c.in_ok-add_numbered-2.ensures in
+    record {
+      more =
+          subst (λ (bag : Bag). HasOneMore c.args.pair.now bag (bag_of c.add_numbered-2.new.pieces.keys)) (c.in_ok-add_numbered.ensures.same c.if-branch.false)
+          (next.more (next.added ∙ no_fewer c.count_at.result _ c.count_at.ensures));
+      whole = next.whole;
+      err = tt;
+    }
