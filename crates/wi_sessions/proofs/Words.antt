@@ -36,7 +36,7 @@ pub use Rattle.std.specs.Result.{result_unwrap_or}
 pub use Rattle.std.specs.Str.{bytes_eq}
 pub use Rattle.std.specs.declared.cmp.Ordering.TheVariants.{Less}
 pub use Rattle.std.specs.declared.rc.RcStr.{RcStr}
-pub use Rattle.wi_sessions.specs.Inner.Cells.{GetsRoom, HasCleared, HasMade, MakesRooms, SamePending, at_cells, cells_in, cells_with, has_bit, is_in, is_staged, pending_in, vacant_in}
+pub use Rattle.wi_sessions.specs.Inner.Cells.{GetRooms, GetsRoom, HasCleared, HasMade, MakesRooms, SamePending, at_cells, cells_in, cells_with, has_bit, is_in, is_staged, pending_in, vacant_in}
 pub use Rattle.wi_sessions.specs.Inner.Held.{roster_in, session_in, with_name}
 pub use Rattle.wi_sessions.specs.Inner.Unread.{AreKept, AreLookedAt, HasPlace, HavePlaces, is_unread}
 pub use Rattle.wi_sessions.specs.Pending.{AllPending, list_at}

@@ -10,7 +10,7 @@ ghost use Rattle.std.specs.List.Sorted.{IsStrictlyIncreasing};
 ghost use Rattle.std.specs.Ordering.{nat_cmp};
 ghost use Rattle.wi_tiles.specs.Entries.{IsOrdered};
 ghost use Rattle.wi_sessions.specs.Roster.{SameCells};
-ghost use Rattle.wi_sessions.specs.Inner.Cells.{is_in, is_staged, cells_with, at_cells, SamePending, HasMade, HasCleared, MakesRooms, GetsRoom};
+ghost use Rattle.wi_sessions.specs.Inner.Cells.{is_in, is_staged, cells_with, at_cells, SamePending, HasMade, HasCleared, MakesRooms, GetsRoom, GetRooms};
 ghost use Rattle.wi_sessions.specs.Inner.Unread.{is_unread, HasPlace, HavePlaces, AreLookedAt};
 
 use crate::bits::{are_alike, bit_of, bits_of, without};
@@ -121,12 +121,7 @@ impl Pending {
 
     /// The same for each session, in one walk through the cells.
     pub(crate) fn make_room_all(&mut self, cells: &[Address]) -> Result<(), AllocError>
-        ensures pending { self.new.pending ≡ self.old.pending }
-        ensures room { OnOk result ((i a : ℕ) → i < length self.old.pending
-            → is_one_of (list_at self.new.vacant i) a
-            ≡ (is_one_of (list_at self.old.vacant i) a
-            || (is_one_of cells.now a && not (is_one_of (list_at self.old.pending i) a)))) }
-        ensures refused { OnErr result ((j : ℕ) → list_at self.new.vacant j ≡ []) }
+        ensures { GetRooms cells.now result self.old self.new }
     {
         let limit = self.words.len() / 2 + 64;
         match stage_all(

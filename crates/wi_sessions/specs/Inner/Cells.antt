@@ -1,5 +1,5 @@
 -- Cells with a bit for each session for which they are pending or have room only. Bits of rooms are listed once more.
-use Rattle.std.specs.Prelude.{◌≡◌, ◌≢◌, ℕ, ◌==◌, ◌&&◌, ◌||◌, Bool, false, not, List, [], map, filter, unwrap_or, Result, OnOk, OnErr}
+use Rattle.std.specs.Prelude.{◌≡◌, ◌≢◌, ◌<◌, ℕ, ◌==◌, ◌&&◌, ◌||◌, Bool, false, not, List, [], length, map, filter, unwrap_or, Result, OnOk, OnErr}
 use Rattle.std.specs.declared.alloc.AllocError.{AllocError}
 use Rattle.std.specs.Int.{bit_at}
 use Rattle.std.specs.List.{list_any, range_with_len}
@@ -75,3 +75,9 @@ pub record GetsRoom (cells : List ℕ) (i : ℕ) (result : Result (Unit {0}) All
   pub room : OnOk result ((a : ℕ) → is_one_of (list_at new.vacant i) a ≡ (is_one_of (list_at old.vacant i) a || (is_one_of cells a && not (is_one_of (list_at old.pending i) a))))
   pub refused : OnErr result (list_at new.vacant i ≡ [])
   pub others : (j : ℕ) → j ≢ i → list_at new.vacant j ≡ list_at old.vacant j
+
+-- for each session, where none is left at all if memory runs out
+pub record GetRooms (cells : List ℕ) (result : Result (Unit {0}) AllocError) (old new : AllPending) : Type 0 where
+  pub pending : new.pending ≡ old.pending
+  pub room : OnOk result ((i a : ℕ) → i < length old.pending → is_one_of (list_at new.vacant i) a ≡ (is_one_of (list_at old.vacant i) a || (is_one_of cells a && not (is_one_of (list_at old.pending i) a))))
+  pub refused : OnErr result ((j : ℕ) → list_at new.vacant j ≡ [])

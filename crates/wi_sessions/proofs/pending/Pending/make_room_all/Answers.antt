@@ -10,28 +10,23 @@ stage_all-requires-clause-order c = c.self.invariant.order
 pub stage_all-requires-clause-few : goal.stage_all-requires-clause-few
 stage_all-requires-clause-few c = c.self.invariant.few
 
-pub returns-in-Ok-clause-pending : goal.returns-in-Ok-clause-pending
-returns-in-Ok-clause-pending c =
+pub returns-in-Ok : goal.returns-in-Ok
+returns-in-Ok c =
     let words = c.self.inside.words.entries in
     let staged = c.self.inside.staged.items in
     let n = length c.self.inside.unread.items in
     let more = c.stage_all.new.words.entries in
     let rooms = c.stage_all.new.staged.items in
     let k = c.self.invariant in
-    ap (λ (m : ℕ). map (cells_in more rooms) (range_with_len 0 m)) c.stage_all.ensures.lists
-    ∙ pending_same words staged more rooms n k.order c.stage_all.ensures.order c.stage_all.ensures.pending ∙ ap (λ (p : AllPending). p.pending) c.self.view_is
-
-pub returns-in-Ok-clause-room : goal.returns-in-Ok-clause-room
-returns-in-Ok-clause-room c =
-    let words = c.self.inside.words.entries in
-    let staged = c.self.inside.staged.items in
-    let n = length c.self.inside.unread.items in
-    let more = c.stage_all.new.words.entries in
-    let rooms = c.stage_all.new.staged.items in
-    let k = c.self.invariant in
-    λ i q l. ap (λ (m : ℕ). is_one_of (list_at (map (vacant_in more rooms) (range_with_len 0 m)) i) q) c.stage_all.ensures.lists
-    ∙ room_each words staged more rooms n c.args.cells.now k.order c.stage_all.ensures.order c.in-Ok.ensures.room i q (within_unread words staged n i c.args.self.now c.self.view_is l)
-    ∙ ap (λ (p : AllPending). is_one_of (list_at p.vacant i) q || (is_one_of c.args.cells.now q && not (is_one_of (list_at p.pending i) q))) c.self.view_is
+    record {
+      pending =
+          ap (λ (m : ℕ). map (cells_in more rooms) (range_with_len 0 m)) c.stage_all.ensures.lists
+          ∙ pending_same words staged more rooms n k.order c.stage_all.ensures.order c.stage_all.ensures.pending ∙ ap (λ (p : AllPending). p.pending) c.self.view_is;
+      room = λ i q l. ap (λ (m : ℕ). is_one_of (list_at (map (vacant_in more rooms) (range_with_len 0 m)) i) q) c.stage_all.ensures.lists
+          ∙ room_each words staged more rooms n c.args.cells.now k.order c.stage_all.ensures.order c.in-Ok.ensures.room i q (within_unread words staged n i c.args.self.now c.self.view_is l)
+          ∙ ap (λ (p : AllPending). is_one_of (list_at p.vacant i) q || (is_one_of c.args.cells.now q && not (is_one_of (list_at p.pending i) q))) c.self.view_is;
+      refused = tt;
+    }
 
 pub invariant_of-self : goal.invariant_of-self
 invariant_of-self c =
@@ -48,22 +43,23 @@ invariant_of-self c =
 pub give_back-requires : goal.give_back-requires
 give_back-requires c = c.stage_all.ensures.order
 
-pub returns-in-Err-clause-pending : goal.returns-in-Err-clause-pending
-returns-in-Err-clause-pending c =
+pub returns-in-Err : goal.returns-in-Err
+returns-in-Err c =
     let words = c.self.inside.words.entries in
     let staged = c.self.inside.staged.items in
     let n = length c.self.inside.unread.items in
-    let more = c.stage_all.new.words.entries in
-    let rooms = c.stage_all.new.staged.items in
     let k = c.self.invariant in
     let less = c.give_back.new.words.entries in
     let none = c.give_back.new.staged.items in
-    ap (λ (m : ℕ). map (cells_in less none) (range_with_len 0 m)) c.stage_all.ensures.lists
-    ∙ pending_same words staged less none n k.order c.give_back.ensures.order (pending_then words staged more rooms less none c.stage_all.ensures.pending c.give_back.ensures.pending)
-    ∙ ap (λ (p : AllPending). p.pending) c.self.view_is
-
-pub returns-in-Err-clause-refused : goal.returns-in-Err-clause-refused
-returns-in-Err-clause-refused c = λ j. rooms_gone c.give_back.new.words.entries c.give_back.new.staged.items (length c.stage_all.new.unread.items) j c.give_back.ensures.none
+    record {
+      pending =
+          ap (λ (m : ℕ). map (cells_in less none) (range_with_len 0 m)) c.stage_all.ensures.lists
+          ∙ pending_same words staged less none n k.order c.give_back.ensures.order
+          (pending_then words staged c.stage_all.new.words.entries c.stage_all.new.staged.items less none c.stage_all.ensures.pending c.give_back.ensures.pending)
+          ∙ ap (λ (p : AllPending). p.pending) c.self.view_is;
+      room = tt;
+      refused = λ j. rooms_gone less none (length c.stage_all.new.unread.items) j c.give_back.ensures.none;
+    }
 
 pub invariant_of-self-in-Err : goal.invariant_of-self-in-Err
 invariant_of-self-in-Err c =
