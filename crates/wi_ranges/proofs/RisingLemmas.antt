@@ -1,5 +1,5 @@
 -- Laws of cells in row-major order in a list, and others beside it.
-use Rattle.wi_ranges.proofs.Words.{has_key, ◌≡◌, ◌==◌, ◌<◌, ◌-◌, ◌||◌, ◌++◌, ◌↔◌, ℕ, nat_lt, eqb, Bool, true, false, not, cond, List, [], ◌∷◌, Some, length, slice_get, refl, sym, ap, ◌∙◌, subst, arith, nat_cmp, Less, nat_cmp_total, AllByRecursion, Contains, dedup, IsStrictlyIncreasing, IsPermutation, is_at, BTreeSet, contains, append-nil, Contains-dedup_nat, Contains-from_dedup, exact_unsigned, btree_set_contains_iff, true≢false, or_right, ltb-true, false_from_ne_true, nat_tests, list_any-append, or-false, Contains-permutation, IsPermutation-sym, sorted_head, sorted_tail, sorted_from_strictly_increasing, IsStrictlyIncreasing-from_sorted, cmp_before, below_from_Less, less_from_both, at_earlier, at_same, is_at-eq, turn_test, is_one_of, as_set, ends_before, StandApart}
+use Rattle.wi_ranges.proofs.Words.{has_key, ◌≡◌, ◌==◌, ◌-◌, ◌||◌, ◌++◌, ◌↔◌, ℕ, nat_lt, eqb, Bool, true, false, not, cond, List, [], ◌∷◌, Some, length, slice_get, refl, sym, ap, ◌∙◌, subst, arith, nat_cmp, Less, nat_cmp_total, AllByRecursion, Contains, dedup, IsStrictlyIncreasing, IsPermutation, is_at, BTreeSet, contains, append-nil, Contains-dedup_nat, Contains-from_dedup, exact_unsigned, btree_set_contains_iff, true≢false, or_right, ltb-true, false_from_ne_true, nat_tests, list_any-append, or-false, Contains-permutation, IsPermutation-sym, sorted_head, sorted_tail, sorted_from_strictly_increasing, IsStrictlyIncreasing-from_sorted, cmp_before, below_from_Less, less_from_both, at_earlier, at_same, is_at-eq, turn_test, is_one_of, as_set, ends_before, StandApart}
 use Rattle.std.specs.List.Sorted.{IsStrictlySortedBy}
 
 -- ---- the last of a list

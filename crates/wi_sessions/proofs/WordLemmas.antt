@@ -206,8 +206,8 @@ made_rooms test bits words staged more rooms h =
     record { pending = pending_stay (λ i c. test c && has_bit i bits) words staged more rooms h; room = h; others = others_as_made bits test words staged more rooms h }
 
 -- memory ran out before any was made, and once some were
-pub no_rooms : {test : ℕ → Bool} {bits : ℕ} {words staged more rooms : Words} (r : Result (Unit {0}) AllocError) → IsErr r → more ≡ words → rooms ≡ staged → MakesRooms test bits r words staged more rooms
-no_rooms {test} {bits} {words} {staged} {more} {rooms} r k e f = record {
+pub nothing_staged : {test : ℕ → Bool} {bits : ℕ} {words staged more rooms : Words} (r : Result (Unit {0}) AllocError) → IsErr r → more ≡ words → rooms ≡ staged → MakesRooms test bits r words staged more rooms
+nothing_staged {test} {bits} {words} {staged} {more} {rooms} r k e f = record {
   pending = λ i c. ap (λ (ws : Words). is_in ws i c && not (is_staged rooms i c)) e ∙ ap (λ (rs : Words). is_in words i c && not (is_staged rs i c)) f;
   room = IfOk-from_err r _ k;
   others = λ i c n. (ap (λ (ws : Words). is_in ws i c) e, ap (λ (rs : Words). is_staged rs i c) f);

@@ -1,19 +1,19 @@
 use Rattle.wi_sessions.proofs.Words.{◌≡◌, ◌==◌, ◌∙◌, ◌++◌, ◌∷◌, [], ℕ, Option, Some, cond, refl, ap, sym, subst, arith, common_steps, unwrap_or, is_some, IsStrictlySortedBy, nat_cmp, lookup, keys_of, is_at, MakesRooms}
 use Rattle.wi_tiles.proofs.MapSteps.{found-with_new, nothing_put, nothing_there, order-with_new, something_there}
-use Rattle.wi_sessions.proofs.WordLemmas.{Words, has_made_new, made_rooms, no_rooms}
+use Rattle.wi_sessions.proofs.WordLemmas.{Words, has_made_new, made_rooms, nothing_staged}
 use Rattle.wi_sessions.proofs.cells.stage_one.Goals as goal
 
 pub unwrap-requires : goal.unwrap-requires
 unwrap-requires c = c.push.ensures.succeeds (grind (arith, common_steps))
 
 pub returns-in_err-reserve-clause-rooms : goal.returns-in_err-reserve-clause-rooms
-returns-in_err-reserve-clause-rooms c = no_rooms c.from_residual.result c.from_residual.ensures.0 refl c.reserve.ensures.items
+returns-in_err-reserve-clause-rooms c = nothing_staged c.from_residual.result c.from_residual.ensures.0 refl c.reserve.ensures.items
 
 pub returns-in_err-is_new-clause-order : goal.returns-in_err-is_new-clause-order
 returns-in_err-is_new-clause-order c = subst (λ m. IsStrictlySortedBy nat_cmp (keys_of m.entries)) (sym c.in_err-is_new.ensures.err) c.requires
 
 pub returns-in_err-is_new-clause-rooms : goal.returns-in_err-is_new-clause-rooms
-returns-in_err-is_new-clause-rooms c = no_rooms c.from_residual-in_err-is_new.result c.from_residual-in_err-is_new.ensures.0 (ap (λ m. m.entries) c.in_err-is_new.ensures.err) c.reserve.ensures.items
+returns-in_err-is_new-clause-rooms c = nothing_staged c.from_residual-in_err-is_new.result c.from_residual-in_err-is_new.ensures.0 (ap (λ m. m.entries) c.in_err-is_new.ensures.err) c.reserve.ensures.items
 
 pub stage_there-requires-clause-order : goal.stage_there-requires-clause-order
 stage_there-requires-clause-order c = order-with_new c.args.words.now.entries c.put_new.new.self.entries c.args.at c.args.bits c.in_ok-is_new.ensures.entries c.requires

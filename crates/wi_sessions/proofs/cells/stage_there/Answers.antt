@@ -1,6 +1,6 @@
 use Rattle.wi_sessions.proofs.Words.{◌≡◌, ◌==◌, ◌∙◌, ◌++◌, ◌∷◌, [], ℕ, List, Option, refl, sym, subst, arith, common_steps, IsSome, IsStrictlySortedBy, nat_cmp}
 use Rattle.wi_tiles.proofs.MapSteps.{found-replaced, keys-replaced}
-use Rattle.wi_sessions.proofs.WordLemmas.{has_made_none, has_made_there, made_rooms, no_rooms}
+use Rattle.wi_sessions.proofs.WordLemmas.{has_made_none, has_made_there, made_rooms, nothing_staged}
 use Rattle.wi_sessions.proofs.cells.stage_there.Goals as goal
 
 pub unwrap-word-requires : goal.unwrap-word-requires
@@ -16,7 +16,7 @@ returns-then-is_bare-clause-rooms c =
     (c.is_bare.ensures c.if-is_bare.true) refl)
 
 pub returns-in_err-reserve-clause-rooms : goal.returns-in_err-reserve-clause-rooms
-returns-in_err-reserve-clause-rooms c = no_rooms c.from_residual.result c.from_residual.ensures.0 refl c.reserve.ensures.items
+returns-in_err-reserve-clause-rooms c = nothing_staged c.from_residual.result c.from_residual.ensures.0 refl c.reserve.ensures.items
 
 pub returns-clause-order : goal.returns-clause-order
 returns-clause-order c =

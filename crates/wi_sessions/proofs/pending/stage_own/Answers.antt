@@ -1,9 +1,9 @@
 use Rattle.wi_sessions.proofs.Words.{refl, IfOk-from_err}
-use Rattle.wi_sessions.proofs.WordLemmas.{no_rooms}
+use Rattle.wi_sessions.proofs.WordLemmas.{nothing_staged}
 use Rattle.wi_sessions.proofs.pending.stage_own.Goals as goal
 
 pub returns-in_err-note-clause-rooms : goal.returns-in_err-note-clause-rooms
-returns-in_err-note-clause-rooms c = no_rooms c.from_residual.result c.from_residual.ensures.0 refl refl
+returns-in_err-note-clause-rooms c = nothing_staged c.from_residual.result c.from_residual.ensures.0 refl refl
 
 pub returns-in_err-stage_each-clause-rooms : goal.returns-in_err-stage_each-clause-rooms
 returns-in_err-stage_each-clause-rooms c =
