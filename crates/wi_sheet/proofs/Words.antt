@@ -81,7 +81,7 @@ pub use Rattle.wi_values.proofs.Replacements.Same.{same_replacements_Decides}
 pub use Rattle.wi_values.proofs.Small.{one_at_most}
 pub use Rattle.wi_values.proofs.Within.{column_of_place, fewer_places, places_left, row_of_place, within_between}
 pub use Rattle.wi_values.specs.Address.{Area, column_of, is_one_of, is_within, is_within_one, place, rect_of, row_of}
-pub use Rattle.wi_values.specs.Replacements.{IsInOrder, as_map, is_replaced, last_for, overridden, replaced, same_replacements}
+pub use Rattle.wi_values.specs.Replacements.{IsInOrder, as_map, last_for, overridden, replaced, same_replacements}
 unfoldable pub use Rattle.wi_values.specs.Value.{shown_text}
 pub use Rattle.wi_values.specs.declared.replacement.Replacement.{Replacement}
 pub use Rattle.wi_values.specs.declared.value.ErrorKind.TheVariants.{BadValue, Circular}
