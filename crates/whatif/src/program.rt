@@ -1,4 +1,4 @@
-//! What the program does with its words, files and streams.
+//! What the program does with its command-line arguments, files and streams.
 
 ghost use Rattle.std.specs.Prelude.{◌≤◌};
 

@@ -10,7 +10,6 @@ pub mod Sets
 pub mod Clears
 pub mod Fills
 pub mod ScenarioSteps
-pub mod TablesOfTwo
 pub mod Steps
 pub mod Lacks
 pub mod Wants

@@ -6,8 +6,6 @@ pub use Rattle.std.proofs.Math.Bool.{or-false, or-true}
 pub use Rattle.std.proofs.Math.Seq.{drop-append_seam, take-add, take-append-add, take-append_seam}
 pub use Rattle.std.proofs.lemmas.Bool.{and_parts, both_ways, cases_lt, eqb-true, false_from_ne_true, false≢true, le-leb, le-ltb, leb-true, lt-ltb, ltb-false, ltb-true, ne_eqb, not-false, or_cases, or_parts}
 pub use Rattle.std.proofs.lemmas.Bool.Decides.{nat_tests}
-pub use Rattle.std.proofs.lemmas.Iterator.{YieldsList-from_slice}
-pub use Rattle.std.proofs.lemmas.Iterator.Search.{all_from_yields_List}
 pub use Rattle.std.proofs.lemmas.List.{drop-take, drop_all, drop_more, get_or-take, length-drop, length-take, nil_from_length, take-append-drop, take-append-le, take_all, take_at, take_min, take_rest}
 pub use Rattle.std.proofs.lemmas.List.Elements.{filter-append, filter_map-append}
 pub use Rattle.std.proofs.lemmas.List.Folds.{Any-from_list_any, concat-append, length-prefix_len, list_all-append, list_any-append, list_any-from_Any}
@@ -59,7 +57,7 @@ pub use Rattle.wi_cli.specs.Inner.TableCommand.{table_command, table_of_one, tab
 pub use Rattle.wi_cli.specs.Inner.Taken.{AreBlocks, AreBlocksOf, AreWhole, BrokeLines, TookLines}
 pub use Rattle.wi_cli.specs.Inner.Told.{IsServed, RefusedAs, Told, told_bytes}
 pub use Rattle.wi_cli.specs.Inner.Turn.{BrokeBlock, IsReplied, Stopped, TookBlock, Turned}
-pub use Rattle.wi_cli.specs.Laws.{HasCommands, HasOneAnswer, SameAddr, SameCommands, SameLack, SameOutcome, SameRect, SameReply, SameRuns, SameStep, Splits, a_line, asked, before, block, cut_short, blocks_that_count, none, read_any, read_by, read_cell, read_area, was}
+pub use Rattle.wi_cli.specs.Laws.{HasCommands, HasOneAnswer, SameAddr, SameCommands, SameLack, SameOutcome, SameRect, SameReply, SameRuns, SameStep, Splits, a_line, asked, before, cut_short, blocks_that_count, line_block, none, read_any, read_by, read_cell, read_area, was}
 pub use Rattle.wi_cli.specs.Lines.{Bytes, after_word, first_word, is_space, is_whole, max_line, max_lines, onto_first, raw_lines, skip_spaces, without_cr, without_lf}
 pub use Rattle.wi_cli.specs.Operands.{ADDR, ANY, CONTENT, Cell, Corners, IsAddr, IsRect, IsSpelled, IsWritten, LINES, NAME, Operand, RECT, SESSION, SIDE, WORD, a_cell, addr, address, area, is_outside, two_cells}
 pub use Rattle.wi_cli.specs.Outcome.{IsRun, Outcome, Writes}
@@ -75,7 +73,6 @@ pub use Rattle.wi_cli.specs.declared.reply.Reply.{Reply}
 pub use Rattle.wi_cli.specs.declared.reply.Reply.TheVariants.{Done, Passed}
 pub use Rattle.wi_csv.specs.Records.{recs}
 pub use Rattle.wi_edit_log.specs.EditLog.{Entry}
-pub use Rattle.wi_fraction.proofs.Scanning.{digits_same}
 pub use Rattle.wi_import.proofs.ImportLemmas.{some_import}
 pub use Rattle.wi_import.specs.Fields.{Field, IsInside, areas_from, fields_at, fields_from, record_areas_at}
 pub use Rattle.wi_import.specs.Imports.{AreChanges, IsFault, IsImport, bad_field, out_of_sheet, too_long}
@@ -94,7 +91,6 @@ pub use Rattle.wi_propagate.specs.KeptSheet.{KeptSheet}
 pub use Rattle.wi_reports.specs.Changes.{change_records}
 pub use Rattle.wi_reports.specs.Compare.{cells_compared}
 pub use Rattle.wi_reports.specs.Contents.{content_record}
-pub use Rattle.wi_reports.specs.Inner.Shape.{entries}
 pub use Rattle.wi_reports.specs.Rows.{export_of, rows_shown}
 pub use Rattle.wi_reports.specs.Table.{table_of}
 pub use Rattle.wi_scenario_list.proofs.ChainsKept.{based_kept, dropped_kept, has_room, is_chain, no_scenarios, own_kept}
@@ -127,7 +123,7 @@ pub use Rattle.wi_values.proofs.Imports.{imported_exactly}
 pub use Rattle.wi_values.proofs.Letters.{letters_of_column}
 pub use Rattle.wi_values.proofs.Lists.{Any-weaker}
 pub use Rattle.wi_values.proofs.ReadsBack.{no_letters, scan}
-pub use Rattle.wi_values.proofs.Spelling.{digit_or_none, digits_step, letters_above_zero}
+pub use Rattle.wi_values.proofs.Spelling.{digits_step, letters_above_zero}
 pub use Rattle.wi_values.proofs.Within.{column_of_place, row_of_place}
 pub use Rattle.wi_values.specs.Address.{Area, cells_of, column_of, columns, is_column, is_row, is_row_number, is_within, letters_value, place, rect_of, row_of, rows, size_of}
 unfoldable pub use Rattle.wi_values.specs.Address.{address_text}

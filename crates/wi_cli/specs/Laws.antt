@@ -96,8 +96,8 @@ SameRuns s cs rs t = old_run.Runs s (map was cs) rs t ↔ Runs s cs rs t
 abbrev pub asked : Bytes → ℕ
 asked line = lines_of (csv_line (without_lf line))
 
-abbrev pub block : Bytes → List Bytes → Block
-block line taken = record { line = line; data_lines = taken; missing = asked line - length taken }
+abbrev pub line_block : Bytes → List Bytes → Block
+line_block line taken = record { line = line; data_lines = taken; missing = asked line - length taken }
 
 -- so many data lines stand behind a line; none where it asks for none
 abbrev pub Takes : Bytes → ℕ → Type 0
@@ -106,8 +106,8 @@ Takes line n = Asks line n ⊎ ((n ≡ 0) × ((k : ℕ) → Asks line k → ⊥)
 -- the rules by which `AreCommands` takes data lines, for the blocks of lines
 pub data Splits : List Bytes → List Block → Type 0 where
   none : Splits [] []
-  a_line : (line : Bytes) (taken lines : List Bytes) (bs : List Block) → asked line ≡ length taken → Splits lines bs → Splits (line ∷ taken ++ lines) (block line taken ∷ bs)
-  cut_short : (line : Bytes) (taken : List Bytes) → length taken < asked line → Splits (line ∷ taken) (block line taken ∷ [])
+  a_line : (line : Bytes) (taken lines : List Bytes) (bs : List Block) → asked line ≡ length taken → Splits lines bs → Splits (line ∷ taken ++ lines) (line_block line taken ∷ bs)
+  cut_short : (line : Bytes) (taken : List Bytes) → length taken < asked line → Splits (line ∷ taken) (line_block line taken ∷ [])
 
 -- of these blocks all count where the script has ended, else those of which no data line is missing
 abbrev pub blocks_that_count : Bool → List Block → List Block

@@ -1,6 +1,6 @@
 //! The line of the command `csv`, as it is read. It asks for data lines also where it isn't UTF-8.
 
-ghost use Rattle.std.specs.Prelude.{◌≡◌, true, min, IfSome};
+ghost use Rattle.std.specs.Prelude.{◌≡◌, true, min, Some, None, if◌then◌else◌, IfSome};
 ghost use Rattle.std.specs.Str.{all_ascii_digits};
 ghost use Rattle.std.specs.Str.Parse.{digits_value};
 ghost use Rattle.wi_cli.specs.Inner.CsvCommand.{read_lines, csv_operands, csv_named, csv_text};
@@ -21,32 +21,26 @@ pub struct CsvLine {
     pub lines: u32,
 }
 
-fn are_digits(bytes: &[u8]) -> bool
-    ensures { result ≡ all_ascii_digits bytes.now }
-{
-    bytes.iter().all(|byte| byte.is_ascii_digit())
-}
-
-/// The number of these digits, or one more than the greatest number of lines.
-fn number_of(digits: &[u8]) -> u32
-    ensures { result ≡ min (digits_value 10 digits.now) 1000001 }
+/// The number of these digits, or one more than the greatest number of lines, if all are digits.
+fn number_of(digits: &[u8]) -> Option<u32>
+    ensures { result ≡ if all_ascii_digits digits.now then Some (min (digits_value 10 digits.now) 1000001) else None }
 {
     let mut number = 0;
     for c in digits {
-        let digit = char::from(*c).to_digit(36).unwrap_or(36);
+        let digit = char::from(*c).to_digit(10)?;
         number = (number * 10 + digit).min(MAX_LINES + 1);
     }
-    number
+    Some(number)
 }
 
 /// The number of lines: 1 to 7 digits, and at most 1,000,000.
 fn read_lines(word: &[u8]) -> Option<u32>
     ensures { result ≡ read_lines word.now }
 {
-    if word.is_empty() || word.len() > 7 || !are_digits(word) {
+    if word.is_empty() || word.len() > 7 {
         return None;
     }
-    let lines = number_of(word);
+    let lines = number_of(word)?;
     if lines <= MAX_LINES {
         Some(lines)
     } else {

@@ -1,5 +1,5 @@
 -- The first cell that passes is the least of those that pass, as the definition has it.
-use Rattle.wi_edit_log.proofs.Words.{◌≡◌, ◌∙◌, ℕ, zero, suc, ◌+◌, ◌-◌, ◌==◌, ◌≤◌, ◌<◌, ◌⊎◌, inl, inr, Bool, true, false, cond, ◌||◌, ◌&&◌, not, List, [], ◌∷◌, length, drop, map, filter, min, Option, Some, refl, ap, sym, subst, arith, nat_le, list_any, flat_map, reduce, fold, range_with_len, drop_min, drop-map, list_any-append, and_parts, and_from, both_ways, cases_eq, eq-eqb, eqb-true, leb-true, le-leb, or_cases, or_left, or_right, one_truth, Area, columns, place, row_of, column_of, is_one_of, is_within, cells_of, cells_of_row, row_of_place, column_of_place, column_within, Entry, is_within_one, is_stale, first_stale, IsFirst, entries_in, entry_in, is_wanted_of_others, Edit}
+use Rattle.wi_edit_log.proofs.Words.{◌≡◌, ◌∙◌, ℕ, zero, suc, ◌+◌, ◌-◌, ◌==◌, ◌≤◌, ◌<◌, ◌⊎◌, inl, inr, true, false, ◌||◌, ◌&&◌, not, List, [], ◌∷◌, length, drop, map, filter, min, Option, Some, refl, ap, sym, subst, arith, nat_le, list_any, flat_map, reduce, fold, range_with_len, drop_min, drop-map, list_any-append, and_parts, and_from, both_ways, cases_eq, eq-eqb, eqb-true, leb-true, le-leb, or_cases, or_left, or_right, one_truth, Area, columns, place, row_of, column_of, is_one_of, is_within, cells_of, cells_of_row, row_of_place, column_of_place, column_within, Entry, is_within_one, is_stale, first_stale, IsFirst, entries_in, entry_in, is_wanted_of_others, Edit, has-filter}
 use Rattle.wi_edit_log.proofs.First.{only_first, same_first}
 
 -- ---- the cells of a rectangle are those within it
@@ -81,29 +81,6 @@ cells_are (r ∷ rs) a =
     ∙ ap (λ b. b || is_one_of (flat_map cells_of rs) a) (one_truth (is_one_of (cells_of r) a) (is_within r a) (within r a) (inside r a))
     ∙ ap (λ b. is_within r a || b) (cells_are rs a)
 
--- ---- those that pass
-
-none_of_false : (b c : Bool) → c ≡ false → (b && c) ≡ c
-none_of_false true c h = refl
-none_of_false false c h = sym h
-
-filtered_here : (test : ℕ → Bool) (x : ℕ) (xs : List ℕ) (a : ℕ) → is_one_of (filter test xs) a ≡ (is_one_of xs a && test a) → (q t : Bool) → test x ≡ q → (x == a) ≡ t
-    → is_one_of (filter test (x ∷ xs)) a ≡ (((x == a) || is_one_of xs a) && test a)
-filtered_here test x xs a rest true true e t =
-    let same : test a ≡ true = ap test (sym (eqb-true x a t)) ∙ e in
-    ap (λ b. is_one_of (cond b (x ∷ filter test xs) (filter test xs)) a) e ∙ ap (λ b. b || is_one_of (filter test xs) a) t ∙ sym (ap (λ b. (b || is_one_of xs a) && test a) t ∙ same)
-filtered_here test x xs a rest true false e t =
-    ap (λ b. is_one_of (cond b (x ∷ filter test xs) (filter test xs)) a) e ∙ ap (λ b. b || is_one_of (filter test xs) a) t ∙ rest ∙ sym (ap (λ b. (b || is_one_of xs a) && test a) t)
-filtered_here test x xs a rest false true e t =
-    let same : test a ≡ false = ap test (sym (eqb-true x a t)) ∙ e in
-    ap (λ b. is_one_of (cond b (x ∷ filter test xs) (filter test xs)) a) e ∙ rest ∙ none_of_false (is_one_of xs a) (test a) same ∙ sym (ap (λ b. (b || is_one_of xs a) && test a) t)
-filtered_here test x xs a rest false false e t =
-    ap (λ b. is_one_of (cond b (x ∷ filter test xs) (filter test xs)) a) e ∙ rest ∙ sym (ap (λ b. (b || is_one_of xs a) && test a) t)
-
-filtered : (test : ℕ → Bool) (xs : List ℕ) (a : ℕ) → is_one_of (filter test xs) a ≡ (is_one_of xs a && test a)
-filtered test [] a = refl
-filtered test (x ∷ xs) a = filtered_here test x xs a (filtered test xs a) (test x) (x == a) refl refl
-
 -- ---- the least of a list
 
 only_one : (x a : ℕ) → ((x == a) ≡ true) ⊎ (false ≡ true) → x ≤ a
@@ -162,5 +139,5 @@ stale_is_first log es session since k areas o v e h =
     ap (λ n. entries_in (drop n es)) e ∙ ap entries_in (drop_min since es) ∙ sym (drop-map entry_in since es) ∙ ap (drop since) v in
     let same : (a : ℕ) → is_wanted_of_others (drop k es) session areas a ≡ is_one_of (filter stale cells) a =
     λ a. ap (λ ys. is_within_one areas a && list_any (λ (x : Entry). not (x.session == session) && is_within_one x.cells a) ys) rest
-    ∙ sym (filtered stale cells a ∙ ap (λ b. b && stale a) (cells_are areas a)) in
+    ∙ sym (has-filter stale cells a ∙ ap (λ b. b && stale a) (cells_are areas a)) in
     only_first (is_one_of (filter stale cells)) o (reduce min (filter stale cells)) (same_first (is_wanted_of_others (drop k es) session areas) (is_one_of (filter stale cells)) o same h) (least (filter stale cells))

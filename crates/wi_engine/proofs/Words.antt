@@ -1,10 +1,9 @@
 -- The words of the library, of the crates below and of this crate's definitions that its proofs are written in.
-pub use Rattle.std.proofs.Common.{All, Bool, Contains, Err, IfNone, IfSome, IsErr, IsSome, List, MatchResult, None, Ok, OnErr, OnOk, Option, Result, Some, [], ap, append-nil, append_assoc, arith, cond, drop, drop-cons, eq-eqb, eqb-true, false, filter, get_or, if◌then◌else◌, inl, inr, is_ok, is_some, length, length-append, map, not, refl, rules, slice_get, subst, suc, sum_by, sym, take, take_all, true, true≢false, zero, ℕ, ◌&&◌, ◌*◌, ◌++◌, ◌+◌, ◌-◌, ◌<◌, ◌==◌, ◌^◌, ◌||◌, ◌∙◌, ◌∷◌, ◌≡◌, ◌≤◌, ◌⊎◌}
+pub use Rattle.std.proofs.Common.{All, Bool, Contains, Err, IfNone, IfOk, IfSome, IsErr, IsSome, List, MatchResult, None, Ok, OnErr, OnOk, Option, Result, Some, [], ap, append-nil, append_assoc, arith, cond, drop, drop-cons, eq-eqb, eqb-true, false, filter, get_or, if◌then◌else◌, inl, inr, is_ok, is_some, length, length-append, map, map-id, not, refl, rules, slice_get, subst, suc, sum_by, sym, take, take_all, true, true≢false, zero, ℕ, ◌&&◌, ◌*◌, ◌++◌, ◌+◌, ◌-◌, ◌<◌, ◌==◌, ◌^◌, ◌||◌, ◌∙◌, ◌∷◌, ◌≡◌, ◌≤◌, ◌⊎◌}
 pub use Rattle.std.proofs.Math.Bool.{or-false}
 pub use Rattle.std.proofs.Math.ListN.{drop_of_length-le}
 pub use Rattle.std.proofs.lemmas.Bool.{and_from, and_parts, cases_lt, false_from_ne_true, le-leb, leb-true, lt-leb, ltb-false, ltb-true, or_cases, or_from, or_left, or_parts, or_right}
 pub use Rattle.std.proofs.lemmas.Bool.Decides.{nat_tests}
-pub use Rattle.std.proofs.lemmas.Cmp.{ranked}
 pub use Rattle.std.proofs.lemmas.Grind.{common_steps}
 pub use Rattle.std.proofs.lemmas.List.{drop_all, get_or-map, length-map, take-append-drop, take_rest}
 pub use Rattle.std.proofs.lemmas.List.Elements.{All-cons, All-head, All-map, All-more, All-nil, All-tail}
@@ -13,7 +12,7 @@ pub use Rattle.std.proofs.lemmas.List.Sorted.{IsPartitionPoint-from_clause, IsPa
 pub use Rattle.std.proofs.lemmas.List.Sums.{sum_by-cons, sum_by-le-sum_by}
 pub use Rattle.std.proofs.lemmas.Map.Keys.{IsDistinct-cons, below_from_sorted, sorted_from_strictly_increasing}
 pub use Rattle.std.proofs.lemmas.Option.{IfSome_then}
-pub use Rattle.std.proofs.lemmas.Result.{IfOk-weaker}
+pub use Rattle.std.proofs.lemmas.Result.{IfOk-weaker, on_ok_weaker}
 pub use Rattle.std.specs.BTreeMap.{BTreeMap, IsEmpty, Updates, get, is_at}
 pub use Rattle.std.specs.BTreeSet.{BTreeSet, contains}
 pub use Rattle.std.specs.Borrow.{Bor}
@@ -23,7 +22,7 @@ pub use Rattle.std.specs.List.{find, list_any}
 pub use Rattle.std.specs.List.Sorted.{IsBinarySearchResult, IsNonDecreasingBy, IsPartitionPoint, IsSearchInRange, IsStrictlyIncreasing, IsStrictlySortedBy}
 pub use Rattle.std.specs.Map.{keys_of, lookup}
 pub use Rattle.std.specs.Option.{is_none, option_copied, option_or}
-pub use Rattle.std.specs.Ordering.{nat_cmp, ordering_index}
+pub use Rattle.std.specs.Ordering.{nat_cmp}
 pub use Rattle.std.specs.Prelude.{nat_le, nat_lt, option_map}
 pub use Rattle.std.specs.declared.alloc.AllocError.{AllocError}
 pub use Rattle.wi_arguments.proofs.Passing.{Passed, passed_on}
@@ -47,7 +46,7 @@ pub use Rattle.wi_engine.specs.Inner.Remembered.{AreCones, OneQuestion, key_of, 
 pub use Rattle.wi_engine.specs.Inner.Saving.{GivesUpWhenFull, IsValuedAnew, KeepsFound, NeedsNoEvaluation, TakesNoMore, TakesPlaces, WhereRoom, not_kept}
 pub use Rattle.wi_engine.specs.Inner.Seen.{content_seen}
 pub use Rattle.wi_engine.specs.Inner.SettledFrames.{AreFoundSettled, HasOneMeaning, IsFrameSettled}
-pub use Rattle.wi_engine.specs.Inner.Spends.{IsSameBeside, Saved, Spends}
+pub use Rattle.wi_engine.specs.Inner.Spends.{IsSameBeside, Saved, Spends, ValuesCell}
 pub use Rattle.wi_engine.specs.Inner.Steps.{FrameCounts, FrameSteps, FrameTakes, FrameWaits, IsFrameValue, IsShownNow, IsWorldWith}
 pub use Rattle.wi_engine.specs.Inner.Touched.{earlier}
 pub use Rattle.wi_engine.specs.Inner.Walk.{EachLeave, Enter, GoesOn, HasCycle, IsBelow, IsOpen, IsWalk, LeadsTo, Leave, Task, begun, cells_ahead, enters, has_leave, has_task, leaves, progress_of, task_cell, tasks_at, tasks_in, tasks_left, tasks_of, unread}
@@ -121,7 +120,7 @@ pub use Rattle.wi_sheet.specs.Inner.Spending.{HasCase, IsClosed, NeverFall, Rest
 pub use Rattle.wi_sheet.specs.Settled.{AgreesWhereSettled, IsSettled, IsWhatIfSettled, RestsOnKept}
 pub use Rattle.wi_store.proofs.NextRoom.{find_ahead}
 pub use Rattle.wi_store.specs.Store.{Stored, is_ahead}
-pub use Rattle.wi_values.proofs.Listed.{has-filter, has_one_more, has_taken}
+pub use Rattle.wi_values.proofs.Listed.{found_by_key, has-filter, has_one_more, has_taken}
 pub use Rattle.wi_values.proofs.Lists.{keeps_few}
 pub use Rattle.wi_values.proofs.Order.{Ascends, Ascends-from_order, ComeAfter, at_earlier, at_itself, at_same, come_after_earlier, is_at-eq, lookup_after, order-from_Ascends, turn_test}
 pub use Rattle.wi_values.proofs.Replacements.InOrder.{order_from_sorted, sorted_from_order}

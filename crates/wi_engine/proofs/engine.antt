@@ -10,7 +10,7 @@
 -- `Budgets`: what is counted stays within what was left to find.
 -- `FrameRuns`: what is so of a run of frames (`IsRunning`), and what its turns do to that.
 -- `SettledStacks`, `RunsWithRoom`: the same where there is room for all that is found (`IsSaving`), by what is kept in the place of
--- what was found; and what a question begins with.
+-- what was found; and what a question for a cell leaves (`ValuesCell`).
 -- `Ends`: all of it together (`IsGoing`), for the loop of `run`, and what was spent where it ends.
 pub mod NextCases
 pub mod Waits

@@ -1,17 +1,14 @@
 //! A question in progress.
 
-ghost use Rattle.std.specs.Prelude.{◌≡◌, ◌≤◌, true, Contains, IfOk, OnOk, is_ok};
-ghost use Rattle.wi_parser.specs.Sheet.{put_all};
+ghost use Rattle.std.specs.Prelude.{◌≡◌, ◌≤◌, true, Some, Contains, IfOk, OnOk, is_ok};
+ghost use Rattle.wi_parser.specs.Sheet.{content_of, put_all};
 ghost use Rattle.wi_sheet.specs.CellValue as values;
-ghost use Rattle.wi_sheet.specs.Demand.{reaching};
-ghost use Rattle.wi_sheet.specs.Settled.{IsSettled};
-ghost use Rattle.wi_sheet.specs.Inner.Spending.{HasCase};
 ghost use Rattle.wi_engine.specs.Inner.MemoState.{IsMemoOf};
 ghost use Rattle.wi_engine.specs.Inner.Frames.{MayBeRead, IsUnvaluedKey, StandsAt, case_at};
-ghost use Rattle.wi_engine.specs.Inner.Saving.{WhereRoom, NeedsNoEvaluation, IsValuedAnew};
-ghost use Rattle.wi_engine.specs.Inner.Spends.{Spends};
+ghost use Rattle.wi_engine.specs.Inner.Saving.{WhereRoom};
+ghost use Rattle.wi_engine.specs.Inner.Spends.{Spends, ValuesCell};
 
-use crate::asked::value_now;
+use crate::asked::{remembered_value, value_now};
 use crate::engine::{advance, take_in};
 use crate::frame::{Advance, Asked, Frame};
 use crate::memo::Memo;
@@ -20,7 +17,7 @@ use std::alloc::AllocError;
 use std::mem;
 use wi_cache::Key;
 use wi_functions::Meter;
-use wi_parser::Formula;
+use wi_parser::{Content, Formula};
 use wi_store::Store;
 use wi_values::{Address, Value};
 use wi_worlds::World;
@@ -41,31 +38,32 @@ impl<M: Memo + Drop> Question<M> {
     pub fn value(&mut self, store: &Store, world: &World, at: Address) -> Result<Value, AllocError>
         requires memo { IsMemoOf store.now.sheet (M.state self.old.memo) }
         requires read { MayBeRead store.now.sheet (M.state self.old.memo) at }
-        ensures value { IfOk result (λ v.
-            v ≡ values.cell_value (put_all store.now.sheet world.now) at) }
-
-        // What is remembered then is right, and no more is counted than the cases cost whose values were not,
-        // also where memory runs out.
-        ensures spends { Spends store.now.sheet (HasCase store.now.sheet world.now at)
-            (M.state self.old.memo) (M.state self.new.memo)
-            self.old.meter self.new.meter (is_ok result) }
-
-        // A value that is remembered, and one that no formula gives, is counted for nothing.
-        ensures uncounted { NeedsNoEvaluation store.now.sheet (M.state self.old.memo) world.now at
-            → self.new.meter ≡ self.old.meter }
-
-        // The value is kept where anything is. Where there is room for some closed list of cases that has this one, the
-        // cell is settled: which list that is makes no difference, so it is left out.
-        ensures kept { OnOk result (
-            IsValuedAnew store.now.sheet (M.state self.old.memo) world.now at
-            → 1 ≤ (M.state self.old.memo).capacity
-            → (M.state self.new.memo).kept at (reaching store.now.sheet at world.now) ≡ true) }
-        ensures settled { OnOk result (WhereRoom store.now.sheet
-            (HasCase store.now.sheet world.now at) (M.state self.old.memo)
-            (λ _. IsSettled store.now.sheet (M.state self.new.memo).kept world.now at)) }
+        ensures { ValuesCell store.now.sheet (M.state self.old.memo) (M.state self.new.memo)
+            world.now at self.old.meter self.new.meter result }
     {
         match value_now(self.pool.allocator(), store, world, at, &mut self.memo)? {
             Asked::Known(value) => Ok(value),
+            Asked::Unvalued(cell) => self.run(store, cell.key, cell.formula),
+        }
+    }
+
+    /// The same where the formula is at hand that the cell has under the replacements: what stands there isn't looked for once more.
+    pub fn formula_value(
+        &mut self,
+        store: &Store,
+        world: &World,
+        at: Address,
+        formula: &Formula,
+    ) -> Result<Value, AllocError>
+        requires memo { IsMemoOf store.now.sheet (M.state self.old.memo) }
+        requires read { MayBeRead store.now.sheet (M.state self.old.memo) at }
+        requires formula { content_of (put_all store.now.sheet world.now) at
+            ≡ Some (Content.Formula formula.now) }
+        ensures { ValuesCell store.now.sheet (M.state self.old.memo) (M.state self.new.memo)
+            world.now at self.old.meter self.new.meter result }
+    {
+        match remembered_value(self.pool.allocator(), world, at, formula, &mut self.memo)? {
+            Asked::Known(remembered) => Ok(remembered),
             Asked::Unvalued(cell) => self.run(store, cell.key, cell.formula),
         }
     }

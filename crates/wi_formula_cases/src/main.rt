@@ -42,7 +42,7 @@ fn is_case(line: &str) -> bool {
 fn push_of_text(alloc: Global, operation: &str, text: &str, line: &mut String) -> Option<()> {
     match operation {
         "longest" => longest::push(alloc, text, line),
-        "tokens" | "cell" | "reference" | "corners" | "unquoted" => {
+        "tokens" | "reference" | "corners" | "unquoted" => {
             tokens::push(alloc, operation, text, line)
         }
         "content" | "constant" | "field" | "imported" | "shown" => {

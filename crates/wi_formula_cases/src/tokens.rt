@@ -1,9 +1,12 @@
 //! Tokens, and what stands in those of cells and texts.
 
+ghost use Rattle.std.specs.Prelude.{IfSome};
+ghost use Rattle.wi_lexer.specs.Token.{IsToken};
+
 use crate::values::push_quoted;
 use std::alloc::{AllocError, Global};
 use std::str;
-use wi_lexer::{CellText, Kind, Lexer, Token, cell_of, rectangle_of, reference_of, text_content};
+use wi_lexer::{CellText, Kind, Lexer, Token, cell_in, cells_in, text_content};
 
 /// Whether a token is a mark that is spelled otherwise than its kind tells.
 fn is_misspelled(token: Token<'_>) -> bool {
@@ -41,6 +44,17 @@ fn push_tokens(alloc: Global, text: &str, line: &mut String) -> Result<(), Alloc
     line.push_str("end")
 }
 
+/// The token that a text is, where it is one.
+fn token_of(text: &str) -> Option<Token<'_>>
+    ensures { IfSome result (λ t. IsToken t.kind t.text.now) }
+{
+    let mut lexer = Lexer::new(text);
+    match lexer.next_token() {
+        Some(Ok(token)) if token.text.len() == text.len() => Some(token),
+        _ => None,
+    }
+}
+
 /// Appends the letters or the digits of a cell, after a `$` where they are absolute.
 fn push_part(is_absolute: bool, part: &[u8], line: &mut String) -> Option<()> {
     if is_absolute {
@@ -56,11 +70,28 @@ fn push_cell(cell: CellText<'_>, line: &mut String) -> Option<()> {
     push_part(cell.row_is_absolute, cell.digits, line)
 }
 
-fn push_corners(text: &str, line: &mut String) -> Option<()> {
-    let (one, other) = rectangle_of(text.as_bytes())?;
-    push_cell(one, line)?;
+fn push_reference(token: Token<'_>, line: &mut String) -> Option<()>
+    requires { IsToken token.kind token.text.now }
+{
+    match token.kind {
+        Kind::Reference => push_cell(cell_in(token.text.as_bytes()), line),
+        _ => None,
+    }
+}
+
+fn push_both(cells: (CellText<'_>, CellText<'_>), line: &mut String) -> Option<()> {
+    push_cell(cells.0, line)?;
     line.push_str(" : ").ok()?;
-    push_cell(other, line)
+    push_cell(cells.1, line)
+}
+
+fn push_corners(token: Token<'_>, line: &mut String) -> Option<()>
+    requires { IsToken token.kind token.text.now }
+{
+    match token.kind {
+        Kind::Rectangle => push_both(cells_in(token.text.as_bytes()), line),
+        _ => None,
+    }
 }
 
 fn push_unquoted(alloc: Global, text: &str, line: &mut String) -> Result<(), AllocError> {
@@ -71,9 +102,8 @@ fn push_unquoted(alloc: Global, text: &str, line: &mut String) -> Result<(), All
 pub fn push(alloc: Global, operation: &str, text: &str, line: &mut String) -> Option<()> {
     match operation {
         "tokens" => push_tokens(alloc, text, line).ok(),
-        "cell" => push_cell(cell_of(text.as_bytes())?, line),
-        "reference" => push_cell(reference_of(text.as_bytes())?, line),
-        "corners" => push_corners(text, line),
+        "reference" => push_reference(token_of(text)?, line),
+        "corners" => push_corners(token_of(text)?, line),
         _ => push_unquoted(alloc, text, line).ok(),
     }
 }

@@ -45,7 +45,6 @@ pub use Rattle.wi_standard_functions.specs.Functions.{call_value}
 pub use Rattle.wi_standard_functions.specs.Inner.Named.{argument_of}
 pub use Rattle.wi_standard_functions.specs.Lookup.{choose_value, chosen}
 pub use Rattle.wi_standard_functions.specs.Steps.{◌>>=◌}
-pub use Rattle.wi_value_functions.proofs.Constants.{number_of-hundred}
 pub use Rattle.wi_value_functions.proofs.ValuesAlone.{values_alone}
 pub use Rattle.wi_value_functions.specs.Applied.{applied_to_arguments, applied_to_values}
 pub use Rattle.wi_value_functions.specs.Endings.{IfMissing}

@@ -68,13 +68,11 @@ pub(crate) fn hundredth(value: &Value) -> Value
 }
 
 /// The number 100.
+#[tactic(auto, using(wi_fraction::specs::Number::Laws::same_number))]
 fn hundred() -> Fraction
     ensures { result ≡ hundred_number }
 {
-    match Fraction::new(100, 1) {
-        Ok(x) => x,
-        Err(_) => unreachable!(),
-    }
+    Fraction::small(100)
 }
 
 #[inline(always)]

@@ -1,5 +1,6 @@
--- Steps of a search over readers that stops at watched cells.
-use Rattle.wi_graph.proofs.Words.{◌≡◌, ◌==◌, ◌&&◌, ◌||◌, ◌⊎◌, inl, inr, not, ℕ, ◌+◌, ◌<◌, ◌↔◌, Bool, true, false, List, [], ◌∷◌, ◌++◌, length, take, get_or, ap, sym, ◌∙◌, subst, arith, or_cases, or_left, or_right, and_parts, and_from, cases_Bool, not-true, not_from_false, false_from_ne_true, length-append, any-filter_same, filter-append, list_any, Contains, nat_cmp, is_at, BTreeSet, contains, IsStrictlyIncreasing, one_truth, Sheet, content_of, content_reads, Bag, IsReader, IsRead, taken_more, is_one_of, in_cone, IsClosedUp, IsUnread, AreEdgesOf, Rooms, edges_in, IsGraph, HasAll, GoesToReaders, IsLeast, IsConeBeyond, IsListBeyond, beyond, as_set, missing, AreNoted, has_key, has-from_Contains, Contains-from_has}
+-- Steps of a search over readers: one that stops at watched cells, and one that stops nowhere.
+use Rattle.wi_graph.proofs.Words.{◌≡◌, ◌==◌, ◌&&◌, ◌||◌, ◌⊎◌, inl, inr, not, ℕ, ◌+◌, ◌<◌, ◌↔◌, Bool, true, false, List, [], ◌∷◌, ◌++◌, length, take, get_or, ap, sym, ◌∙◌, subst, arith, or_cases, or_left, or_right, and_parts, and_from, cases_Bool, not-true, not_from_false, false_from_ne_true, length-append, any-filter_same, filter-append, list_any, Contains, nat_cmp, is_at, BTreeSet, contains, IsStrictlyIncreasing, one_truth, Sheet, content_of, content_reads, Bag, IsReader, IsRead, taken_more, is_one_of, in_cone, IsClosedUp, IsUnread, AreEdgesOf, Rooms, edges_in, IsGraph, HasAll, GoesToReaders, IsLeast, IsConeBeyond, IsListBeyond, beyond, as_set, missing, AreNoted, has_key, has-from_Contains, Contains-from_has, refl, HasReaders}
+use Rattle.wi_values.proofs.Lists.{filter_all}
 use Rattle.wi_graph.proofs.Tests.{is_itself, clash}
 use Rattle.wi_graph.proofs.Walks.{same_cell}
 use Rattle.wi_graph.proofs.SetSteps.{in_last, in_front, in_back}
@@ -122,6 +123,34 @@ beyond_ends readers w found more work less after next noted cell e r q m =
     let f = n.fewer (all_readers readers) (λ c i. readers_there readers cell c ((r c).0 (Contains-from_has next c (in_beyond w next c i).0))) in
     let t : length work ≡ length less + 1 = ap (λ (xs : List ℕ). length xs) e ∙ length-append less (cell ∷ []) in
     omega (arith, f, t)
+
+-- ---- a search that stops nowhere is one where no cell is watched
+
+abbrev pub no_watch : ℕ → Bool
+no_watch c = false
+
+abbrev pub IsSearching : Bag → List ℕ → BTreeSet ℕ → List ℕ → Type 0
+IsSearching readers cells found work = IsSearchingBeyond readers no_watch cells found work
+
+all_beyond : (noted : List ℕ) (found more : BTreeSet ℕ) (less after : List ℕ) → AreNoted noted found more less after → AreNoted (beyond no_watch noted) found more less after
+all_beyond noted found more less after n = subst (λ (xs : List ℕ). AreNoted xs found more less after) (sym (filter_all noted)) n
+
+pub search_start : (readers : Bag) (cells : List ℕ) (none found : BTreeSet ℕ) (empty work : List ℕ) → none.keys ≡ [] → empty ≡ [] → AreNoted cells none found empty work → IsSearching readers cells found work
+search_start readers cells none found empty work e f n = beyond_start readers no_watch cells none found empty work e f (λ c i. refl) n
+
+pub search_step : (readers : Bag) (cells : List ℕ) (found more : BTreeSet ℕ) (work less after next noted : List ℕ) (cell : ℕ) → work ≡ less ++ cell ∷ [] → AreReaders readers cell next → noted ≡ next → AreNoted noted found more less after →
+    IsSearching readers cells found work → IsSearching readers cells more after
+search_step readers cells found more work less after next noted cell e r q m s = beyond_step readers no_watch cells found more work less after next noted cell e r q (all_beyond noted found more less after m) s
+
+pub search_ends : (readers : Bag) (found more : BTreeSet ℕ) (work less after next noted : List ℕ) (cell : ℕ) → work ≡ less ++ cell ∷ [] → AreReaders readers cell next → noted ≡ next → AreNoted noted found more less after →
+    length (missing more (all_readers readers)) + length after < length (missing found (all_readers readers)) + length work
+search_ends readers found more work less after next noted cell e r q m = beyond_ends readers no_watch found more work less after next noted cell e r q (all_beyond noted found more less after m)
+
+pub search_all : (readers : Bag) (cells : List ℕ) (found : BTreeSet ℕ) (work : List ℕ) → IsSearching readers cells found work → HasAll cells found
+search_all readers cells found work s = λ c h. s.all c (beyond_in no_watch cells c h refl)
+
+pub search_end : (readers : Bag) (cells : List ℕ) (found : BTreeSet ℕ) (work : List ℕ) → work ≡ [] → IsSearching readers cells found work → HasReaders readers found
+search_end readers cells found work e s = λ a r h i. (beyond_end readers no_watch cells found work e s).closed a r h i refl
 
 -- ---- what it finds
 

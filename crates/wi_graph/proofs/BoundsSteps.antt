@@ -1,5 +1,5 @@
 -- Cells that come and go, and the rectangle around them.
-use Rattle.wi_graph.proofs.Words.{◌≡◌, ◌==◌, ◌&&◌, ◌||◌, ◌⊎◌, inl, inr, ℕ, ◌+◌, ◌<◌, ◌≤◌, min, max, Bool, true, false, List, [], ◌∷◌, take, get_or, length, refl, ap, sym, ◌∙◌, arith, nat_cmp, list_any, is_at, BTreeSet, contains, btree_set_len, IsUnchanged, or_cases, and_parts, and_from, false_from_ne_true, one_truth, Area, columns, place, row_of, column_of, rect_of, is_within, row_of_place, column_of_place, within_parts, within_from, is_one_of, AreWithin, as_set, has_key, le_trans, max_at_most}
+use Rattle.wi_graph.proofs.Words.{◌≡◌, ◌==◌, ◌&&◌, ◌||◌, ◌⊎◌, inl, inr, ℕ, ◌+◌, ◌<◌, ◌≤◌, min, max, Bool, true, false, List, [], ◌∷◌, take, get_or, length, refl, ap, sym, ◌∙◌, arith, nat_cmp, list_any, is_at, BTreeSet, contains, btree_set_len, IsUnchanged, or_cases, and_parts, and_from, false_from_ne_true, one_truth, Area, columns, place, row_of, column_of, rect_of, is_within, row_of_place, column_of_place, within_parts, within_from, is_one_of, AreWithin, as_set, has_key, max_at_most}
 use Rattle.wi_graph.proofs.Walks.{same_cell}
 use Rattle.wi_graph.proofs.SetSteps.{Gains, Loses, gains_cases, loses_others, taken}
 
@@ -71,30 +71,6 @@ max_of m a b x y e f g = e ∙ ap (λ (z : ℕ). max z b) f ∙ ap (λ (z : ℕ)
 
 pub min_below : (m a b n : ℕ) → m ≡ min a b → a < n → m < n
 min_below m a b n e h = omega (arith, e, h)
-
--- the sides of the least rectangle that has another and a cell
-pub record IsGrown (area : Area) (cell first_row first_column last_row last_column : ℕ) : Type 0 where
-  pub top : first_row ≡ min (row_of area.first) (row_of cell)
-  pub left : first_column ≡ min (column_of area.first) (column_of cell)
-  pub bottom : last_row ≡ max (row_of area.last) (row_of cell)
-  pub right : last_column ≡ max (column_of area.last) (column_of cell)
-
-pub min_max : (m n a b c : ℕ) → m ≡ min a b → n ≡ max c b → m ≤ n
-min_max m n a b c e f = omega (arith, e, f)
-
-min_first : (m n a b : ℕ) → n ≡ m → m ≡ min a b → (n ≤ a) × (n ≤ b)
-min_first m n a b e f = (omega (arith, e, f), omega (arith, e, f))
-
-max_last : (m n a b : ℕ) → n ≡ m → m ≡ max a b → (a ≤ n) × (b ≤ n)
-max_last m n a b e f = (omega (arith, e, f), omega (arith, e, f))
-
-pub grown_cell : (area new : Area) (cell top left bottom right : ℕ) → IsGrown area cell top left bottom right → HasSides new top left bottom right → is_within new cell ≡ true
-grown_cell area new cell t l m n g s = within_from new cell (min_first _ _ _ _ s.top g.top).1 (max_last _ _ _ _ s.bottom g.bottom).1 (min_first _ _ _ _ s.left g.left).1 (max_last _ _ _ _ s.right g.right).1
-
-pub grown_others : (area new : Area) (cell top left bottom right : ℕ) → IsGrown area cell top left bottom right → HasSides new top left bottom right → (c : ℕ) → is_within area c ≡ true → is_within new c ≡ true
-grown_others area new cell t l m n g s c h =
-    let p = within_parts area c h in
-    within_from new c (le_trans (min_first _ _ _ _ s.top g.top).0 p.0) (le_trans p.1 (max_last _ _ _ _ s.bottom g.bottom).0) (le_trans (min_first _ _ _ _ s.left g.left).0 p.2) (le_trans p.3 (max_last _ _ _ _ s.right g.right).0)
 
 -- the sides of what two rectangles have in common
 pub record IsCommon (a b : Area) (first_row first_column last_row last_column : ℕ) : Type 0 where

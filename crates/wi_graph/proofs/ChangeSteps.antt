@@ -1,10 +1,10 @@
 -- What an edit brings, step by step, and a sheet that has it.
-use Rattle.wi_graph.proofs.Words.{◌≡◌, ◌==◌, ◌+◌, ◌<◌, ◌≤◌, ℕ, Bool, true, false, cond, List, [], ◌∷◌, ◌++◌, take, take_all, get_or, length, Option, Some, None, IfSome, refl, ap, sym, ◌∙◌, subst, arith, common_steps, or_parts, slice_eq-Decides, Decides, if◌then◌else◌, option_eq, is_none, pointwise, nat_cmp, keys_of, is_at, Area, get, IsOrdered, Empty, Content, Constant, Sheet, content_of, SameOff, Edges, areas_in, areas_at, with_areas, edges_after, Rooms, Coming, AreInOrder, brought_to, coming_at, items_of, in_room, room_at, put_over, room_over, edges_in, edges_over, areas_then, Brings, HasNoIdle, ReadsStay, Ascends-from_order, order-from_Ascends, taken_more, SmallVec}
+use Rattle.wi_graph.proofs.Words.{◌≡◌, ◌==◌, ◌+◌, ◌<◌, ◌≤◌, ℕ, Bool, true, false, cond, List, [], ◌∷◌, ◌++◌, take, take_all, get_or, length, Option, Some, None, IfSome, refl, ap, sym, ◌∙◌, subst, arith, common_steps, or_parts, slice_eq-Decides, Decides, if◌then◌else◌, option_eq, is_none, pointwise, nat_cmp, keys_of, is_at, Area, get, IsOrdered, Empty, Content, Constant, Sheet, content_of, SameOff, Edges, areas_in, areas_at, with_areas, edges_after, Rooms, Coming, AreInOrder, brought_to, coming_at, items_of, in_room, room_at, put_over, room_over, edges_in, edges_over, areas_then, Brings, HasNoIdle, ReadsStay, Ascends-from_order, order-from_Ascends, taken_more, SmallVec, same_entries}
 use Rattle.std.specs.Prelude.{◌&&◌}
 use Rattle.wi_values.specs.contracts.rect.RectPartialEq.TheImpl as rect
 use Rattle.wi_graph.proofs.Tests.{at_same, turn_test, is_at-eq}
 use Rattle.wi_graph.proofs.Walks.{same_cell}
-use Rattle.wi_graph.proofs.EdgeLemmas.{same_edges, areas_with, areas_over, areas_rooms, ascends_over, ascends_after, ascends_rooms}
+use Rattle.wi_graph.proofs.EdgeLemmas.{areas_with, areas_over, areas_rooms, ascends_over, ascends_after, ascends_rooms}
 
 then_more : (xs : List (ℕ × Option Content)) (x : ℕ × Option Content) (c : ℕ) (o : Option (List Area)) → areas_then (xs ++ x ∷ []) c o ≡ cond (c == x.0) (areas_in x.1) (areas_then xs c o)
 then_more [] x c o = refl
@@ -130,7 +130,7 @@ pub staged_edges : (rooms new : Rooms) (next later : Coming) (xs : List (ℕ × 
 staged_edges rooms new next later xs o p b e f =
     let s = Ascends-from_order rooms.entries o in
     let t = Ascends-from_order new.entries p in
-    same_edges (edges_over (edges_in new.entries) later) (edges_after (edges_in rooms.entries) xs) (ascends_over (edges_in new.entries) later (ascends_rooms new.entries t)) (ascends_after (edges_in rooms.entries) xs (ascends_rooms rooms.entries s))
+    same_entries (edges_over (edges_in new.entries) later) (edges_after (edges_in rooms.entries) xs) (ascends_over (edges_in new.entries) later (ascends_rooms new.entries t)) (ascends_after (edges_in rooms.entries) xs (ascends_rooms rooms.entries s))
     (λ q. areas_over (edges_in new.entries) later q ∙ ap (λ (z : Option (Option (SmallVec Area))). put_over z (areas_at (edges_in new.entries) q)) (f q)
     ∙ ap (put_over (brought_to next q)) (areas_rooms new.entries t q ∙ e q) ∙ b q ∙ ap (areas_then xs q) (sym (areas_rooms rooms.entries s q)) ∙ sym (then_edges (edges_in rooms.entries) xs q))
 
@@ -184,7 +184,7 @@ pub stay_edges : (rooms : Rooms) (next : Coming) → IsOrdered nat_cmp rooms →
 stay_edges rooms next o h =
     let a = Ascends-from_order rooms.entries o in
     let s = ascends_rooms rooms.entries a in
-    same_edges (edges_over (edges_in rooms.entries) next) (edges_in rooms.entries) (ascends_over (edges_in rooms.entries) next s) s
+    same_entries (edges_over (edges_in rooms.entries) next) (edges_in rooms.entries) (ascends_over (edges_in rooms.entries) next s) s
     (λ q. areas_over (edges_in rooms.entries) next q ∙ ap (put_over (brought_to next q)) (areas_rooms rooms.entries a q) ∙ h q ∙ sym (areas_rooms rooms.entries a q))
 
 pub edges_stay : (rooms : Rooms) (next : Coming) → IsOrdered nat_cmp rooms → edges_over (edges_in rooms.entries) next ≡ edges_in rooms.entries → ReadsStay rooms next

@@ -1,5 +1,5 @@
 -- Edges in order, and what is found in them.
-use Rattle.wi_graph.proofs.Words.{◌≡◌, ◌==◌, ◌<◌, ℕ, Bool, true, false, cond, not, List, [], ◌∷◌, Option, Some, None, refl, ap, sym, ◌∙◌, subst, inl, inr, ◌⊎◌, cases_order, nat_cmp, lookup, is_at, Area, IsOrdered, ComeAfter, Ascends, Ascends-from_order, Ascends-filter, Ascends-insert, come_after_earlier, lookup_after, is_at-eq, at_same, at_itself, found-insert, found-without, Value, Empty, Number, Text, Logical, Fault, Content, Constant, Formula, Sheet, constant, content_of, with_content, Edges, areas_in, areas_at, AreEdgesOf, with_areas, edges_after, brought, sheet_after, Rooms, Coming, brought_to, items_of, in_room, room_at, put_over, room_over, with_room, edges_in, edges_over, SmallVec}
+use Rattle.wi_graph.proofs.Words.{◌≡◌, ◌==◌, ◌<◌, ℕ, Bool, true, false, cond, not, List, [], ◌∷◌, Option, Some, None, refl, ap, sym, ◌∙◌, subst, nat_cmp, lookup, is_at, Area, IsOrdered, ComeAfter, Ascends, Ascends-from_order, Ascends-filter, Ascends-insert, lookup_after, is_at-eq, at_same, found-insert, found-without, Value, Empty, Number, Text, Logical, Fault, Content, Constant, Formula, Sheet, constant, content_of, with_content, Edges, areas_in, areas_at, AreEdgesOf, with_areas, edges_after, brought, sheet_after, Rooms, Coming, brought_to, items_of, in_room, room_at, put_over, room_over, with_room, edges_in, edges_over, SmallVec, same_entries}
 
 -- ---- what is found
 
@@ -17,44 +17,6 @@ areas_over es (x ∷ xs) q = areas_with (edges_over es xs) x.0 (items_of x.1) q 
     at false false e ih = ih
     at true false e ih = cc
     at false true e ih = cc
-
--- ---- edges in order are the same where the same is found in them
-
-tails : (k : ℕ) (x y : List Area) (es fs : Edges) → ComeAfter k es → ComeAfter k fs → ((q : ℕ) → areas_at ((k, x) ∷ es) q ≡ areas_at ((k, y) ∷ fs) q) → (q : ℕ) → areas_at es q ≡ areas_at fs q
-tails k x y es fs a b h q = at (is_at (nat_cmp q) k) refl (h q)
-  where
-    at : (d : Bool) → is_at (nat_cmp q) k ≡ d → cond d (Some x) (areas_at es q) ≡ cond d (Some y) (areas_at fs q) → areas_at es q ≡ areas_at fs q
-    at true t g =
-        let e = at_same q k t in
-        lookup_after q es (subst (λ (z : ℕ). ComeAfter z es) e a) ∙ sym (lookup_after q fs (subst (λ (z : ℕ). ComeAfter z fs) e b))
-    at false t g = g
-
-first_there : (e : ℕ × List Area) (es : Edges) → areas_at (e ∷ es) e.0 ≡ Some e.1
-first_there e es = rw (at_itself e.0)
-
-not_there : (a : ℕ) (x : List Area) (es fs : Edges) → areas_at es a ≡ Some x → ComeAfter a fs → ((q : ℕ) → areas_at es q ≡ areas_at fs q) → ⊥
-not_there a x es fs h b k = let z = sym h ∙ k a ∙ lookup_after a fs b in cc
-
-pub same_edges : (es fs : Edges) → Ascends es → Ascends fs → ((q : ℕ) → areas_at es q ≡ areas_at fs q) → es ≡ fs
-same_edges [] [] a b h = refl
-same_edges [] (f ∷ fs) a b h = absurd (not_there f.0 f.1 (f ∷ fs) [] (first_there f fs) tt (λ q. sym (h q)))
-same_edges (e ∷ es) [] a b h = absurd (not_there e.0 e.1 (e ∷ es) [] (first_there e es) tt h)
-same_edges (e ∷ es) (f ∷ fs) a b h = at (cases_order e.0 f.0) (same_edges es fs a.1 b.1)
-  where
-    alike : (k l : ℕ) (x y : List Area) → k ≡ l → ComeAfter k es → ComeAfter l fs → ((q : ℕ) → areas_at ((k, x) ∷ es) q ≡ areas_at ((l, y) ∷ fs) q) → (((q : ℕ) → areas_at es q ≡ areas_at fs q) → es ≡ fs) →
-        ◌≡◌ {A = Edges} ((k, x) ∷ es) ((l, y) ∷ fs)
-    alike k l x y s c d g ih =
-        let d' = subst (λ (z : ℕ). ComeAfter z fs) (sym s) d in
-        let g' = subst (λ (z : ℕ). (q : ℕ) → areas_at ((k, x) ∷ es) q ≡ areas_at ((z, y) ∷ fs) q) (sym s) g in
-        let t = ih (tails k x y es fs c d' g') in
-        let u : Some x ≡ Some y = sym (first_there (k, x) es) ∙ g' k ∙ first_there (k, y) fs in
-        let v : x ≡ y = cc in
-        ap (λ (z : ℕ). (z, x) ∷ es) s ∙ ap (λ (z : List Area). (l, z) ∷ es) v ∙ ap (λ (zs : Edges). (l, y) ∷ zs) t
-
-    at : (e.0 ≡ f.0) ⊎ ((e.0 < f.0) ⊎ (f.0 < e.0)) → (((q : ℕ) → areas_at es q ≡ areas_at fs q) → es ≡ fs) → e ∷ es ≡ f ∷ fs
-    at (inl s) ih = alike e.0 f.0 e.1 f.1 s a.0 b.0 h ih
-    at (inr (inl l)) ih = absurd (not_there e.0 e.1 (e ∷ es) (f ∷ fs) (first_there e es) (l, come_after_earlier e.0 f.0 fs l b.0) h)
-    at (inr (inr l)) ih = absurd (not_there f.0 f.1 (f ∷ fs) (e ∷ es) (first_there f fs) (l, come_after_earlier f.0 e.0 es l a.0) (λ q. sym (h q)))
 
 -- ---- what stays in order
 
@@ -103,14 +65,14 @@ pub rooms_over : (old new : Rooms) (next : Coming) → IsOrdered nat_cmp old →
 rooms_over old new next h k e =
     let a = Ascends-from_order old.entries h in
     let b = Ascends-from_order new.entries k in
-    same_edges (edges_in new.entries) (edges_over (edges_in old.entries) next) (ascends_rooms new.entries b) (ascends_over (edges_in old.entries) next (ascends_rooms old.entries a))
+    same_entries (edges_in new.entries) (edges_over (edges_in old.entries) next) (ascends_rooms new.entries b) (ascends_over (edges_in old.entries) next (ascends_rooms old.entries a))
     (λ q. areas_rooms new.entries b q ∙ e q ∙ ap (λ (o : Option (List Area)). put_over (brought_to next q) o) (sym (areas_rooms old.entries a q)) ∙ sym (areas_over (edges_in old.entries) next q))
 
 pub rooms_same : (old new : Rooms) → IsOrdered nat_cmp old → IsOrdered nat_cmp new → ((c : ℕ) → room_at new c ≡ room_at old c) → edges_in new.entries ≡ edges_in old.entries
 rooms_same old new h k e =
     let a = Ascends-from_order old.entries h in
     let b = Ascends-from_order new.entries k in
-    same_edges (edges_in new.entries) (edges_in old.entries) (ascends_rooms new.entries b) (ascends_rooms old.entries a) (λ q. areas_rooms new.entries b q ∙ e q ∙ sym (areas_rooms old.entries a q))
+    same_entries (edges_in new.entries) (edges_in old.entries) (ascends_rooms new.entries b) (ascends_rooms old.entries a) (λ q. areas_rooms new.entries b q ∙ e q ∙ sym (areas_rooms old.entries a q))
 
 -- ---- the edges are those of the edited sheet
 

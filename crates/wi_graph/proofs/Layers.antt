@@ -45,7 +45,7 @@ pub walker_has_formula : (n : ℕ) (s : Sheet) (c : ℕ) → has_walk n s c ≡ 
 walker_has_formula zero s c h = h
 walker_has_formula (suc n) s c h = reader_has_formula (content_of s c) (has_walk n s) (cells_with_formula s) h
 
-is_key : (s : Sheet) (a : ℕ) → has_formula (content_of s a) ≡ true → is_one_of (keys_of s) a ≡ true
+pub is_key : (s : Sheet) (a : ℕ) → has_formula (content_of s a) ≡ true → is_one_of (keys_of s) a ≡ true
 is_key [] a h = h
 is_key (e ∷ es) a h = at (is_at (nat_cmp a) e.0) (is_at-eq a e.0) h (is_key es a)
   where

@@ -1,5 +1,6 @@
 -- Steps of taking an edit, and of taking it back.
-use Rattle.wi_graph.proofs.Words.{◌≡◌, ◌==◌, ◌+◌, ◌-◌, ◌<◌, ℕ, zero, suc, Bool, true, false, cond, not, List, [], ◌∷◌, take, get_or, length, Option, Some, None, IsSome, refl, ap, sym, ◌∙◌, arith, add-one, if◌then◌else◌, option_flatten, unwrap_or, nat_cmp, is_at, SmallVec, Area, get, IsOrdered, RangePair, Bag, pair_for, is_same, count_of, HasOneLess, same_is, Rooms, Coming, items_of, in_room, room_at, brought_to, coming_at, put_over, room_over, areas_of, times, times_in, times_coming, AreInOrder, HasRooms, HasPairs, HasBoth, HoldsTheSame}
+use Rattle.wi_graph.proofs.Words.{◌≡◌, ◌==◌, ◌+◌, ◌-◌, ◌<◌, ℕ, zero, suc, Bool, true, false, cond, not, List, [], ◌∷◌, ◌++◌, take, get_or, length, Option, Some, None, IsSome, refl, ap, sym, ◌∙◌, arith, add-one, if◌then◌else◌, option_flatten, unwrap_or, nat_cmp, is_at, SmallVec, Area, get, IsOrdered, RangePair, Bag, pair_for, is_same, count_of, HasOneLess, same_is, Rooms, Coming, items_of, in_room, room_at, brought_to, coming_at, put_over, room_over, areas_of, times, times_in, times_coming, AreInOrder, HasRooms, HasPairs, HasBoth, HoldsTheSame}
+use Rattle.wi_graph.proofs.ComingSteps.{last_there, last_gone, order_left}
 use Rattle.std.specs.Option.{is_some}
 use Rattle.wi_graph.proofs.Tests.{is_at-eq, is_itself}
 use Rattle.wi_graph.proofs.Walks.{same_cell}
@@ -109,17 +110,23 @@ times_room rooms p o e = ap (λ (x : Option (List Area)). times p.reader (areas_
 pub times_brought : (next : Coming) (p : RangePair) (o : Option (List Area)) → coming_at next p.reader ≡ o → times_coming next p ≡ times p.reader (areas_of o) p
 times_brought next p o e = ap (λ (x : Option (List Area)). times p.reader (areas_of x) p) e
 
-pub taking_step : (first_next : Coming) (first : Rooms) (next later : Coming) (rooms new : Rooms) (readers fewer : Bag) (k : ℕ) (o stood : Option (SmallVec Area)) → brought_to next k ≡ Some o → Popped next later k → AreInOrder later → IsOrdered nat_cmp new →
+pub taking_step : (first_next : Coming) (first : Rooms) (next later : Coming) (rooms new : Rooms) (readers fewer : Bag) (k : ℕ) (o stood : Option (SmallVec Area)) → next ≡ later ++ (k, o) ∷ [] → IsOrdered nat_cmp new →
     ((c : ℕ) → room_at new c ≡ (if k == c then items_of o else room_at rooms c)) → ((c : ℕ) → (k == c) ≡ false → get nat_cmp new c ≡ get nat_cmp rooms c) → items_of stood ≡ room_at rooms k → Loses k (items_of stood) readers fewer →
     IsTaking first_next first next rooms readers → IsTaking first_next first later new fewer
-taking_step first_next first next later rooms new readers fewer k o stood g u r ord n nx s l t = record {
+taking_step first_next first next later rooms new readers fewer k o stood is ord n nx s l t = record {
   ordered = ord;
-  order = r;
+  order = order_left next later k o t.order is;
   has_rooms = λ c h. room c h (k == c) refl;
   pairs = λ p. counted p (k == p.reader) refl;
   over = λ c. over c (k == c) refl ∙ t.over c;
 }
   where
+    g : brought_to next k ≡ Some o
+    g = last_there next later k o t.order is
+
+    u : Popped next later k
+    u = last_gone next later k o t.order is
+
     here : (c : ℕ) → (k == c) ≡ true → room_at new c ≡ items_of o
     here c e = n c ∙ ap (λ (b : Bool). cond b (items_of o) (room_at rooms c)) e
 
@@ -156,15 +163,21 @@ taking_step first_next first next later rooms new readers fewer k o stood g u r 
         let h : times_in new p ≡ times_in rooms p = times_room new p (room_at rooms p.reader) (there p.reader e) in
         omega (arith, a, d, f, h, l p)
 
-pub taking_back_step : (first : Rooms) (next later : Coming) (rooms new : Rooms) (readers fewer : Bag) (k : ℕ) (o : Option (SmallVec Area)) → brought_to next k ≡ Some o → Popped next later k → AreInOrder later → Loses k (items_of o) readers fewer → IsOrdered nat_cmp new →
+pub taking_back_step : (first : Rooms) (next later : Coming) (rooms new : Rooms) (readers fewer : Bag) (k : ℕ) (o : Option (SmallVec Area)) → next ≡ later ++ (k, o) ∷ [] → Loses k (items_of o) readers fewer → IsOrdered nat_cmp new →
     ((c : ℕ) → room_at new c ≡ room_at rooms c) → IsTakingBack first next rooms readers → IsTakingBack first later new fewer
-taking_back_step first next later rooms new readers fewer k o g u r l ord n t = record {
+taking_back_step first next later rooms new readers fewer k o is l ord n t = record {
   ordered = ord;
-  order = r;
+  order = order_left next later k o t.order is;
   pairs = λ p. counted p (k == p.reader) refl;
   same = λ c. n c ∙ t.same c;
 }
   where
+    g : brought_to next k ≡ Some o
+    g = last_there next later k o t.order is
+
+    u : Popped next later k
+    u = last_gone next later k o t.order is
+
     counted : (p : RangePair) (b : Bool) → (k == p.reader) ≡ b → count_of fewer p ≡ times_in new p + times_coming later p
     counted p true e =
         let r : k ≡ p.reader = same_cell p.reader k e in

@@ -1,5 +1,5 @@
 -- Steps of a search over readers.
-use Rattle.wi_graph.proofs.Words.{◌≡◌, ◌==◌, ◌||◌, ◌⊎◌, inl, inr, not, ℕ, ◌+◌, ◌<◌, ◌↔◌, Bool, true, false, cond, List, [], ◌∷◌, ◌++◌, map, length, take, get_or, Some, Result, Ok, Err, IfOk, refl, ap, sym, ◌∙◌, subst, arith, or-false, or_assoc, list_any-append, or_cases, or_left, or_right, cases_Bool, not-true, not_from_false, length-append, Vec, list_any, Contains, lookup, unwrap_or, nat_cmp, is_at, BTreeSet, contains, IsStrictlyIncreasing, Sheet, content_of, content_reads, RangePair, Bag, IsReader, IsRead, is_same, count_of, same_is, is_one_of, in_cone, HasAll, HasReaders, GoesToReaders, IsLeast, IsConeOf, as_set, missing, AreNoted, one_truth, taken_more, has_key, has-from_Contains, Contains-from_has}
+use Rattle.wi_graph.proofs.Words.{◌≡◌, ◌==◌, ◌||◌, ◌⊎◌, inl, inr, not, ℕ, ◌+◌, ◌<◌, ◌↔◌, Bool, true, false, cond, List, [], ◌∷◌, ◌++◌, map, length, take, get_or, Some, Result, Ok, Err, IfOk, refl, ap, sym, ◌∙◌, subst, arith, or-false, or_assoc, list_any-append, or_cases, or_left, or_right, cases_Bool, not-true, not_from_false, length-append, Vec, Contains, lookup, unwrap_or, nat_cmp, BTreeSet, contains, IsStrictlyIncreasing, Sheet, content_of, content_reads, RangePair, Bag, IsReader, IsRead, is_same, count_of, same_is, is_one_of, in_cone, HasAll, HasReaders, IsLeast, IsConeOf, as_set, missing, AreNoted, one_truth, taken_more, has_key, has-from_Contains, Contains-from_has}
 use Rattle.wi_graph.proofs.Tests.{is_itself, clash}
 use Rattle.wi_graph.proofs.Walks.{same_cell, shrinks, Same}
 use Rattle.wi_graph.proofs.SetSteps.{in_last, in_front, in_back, Gains, gains, gains_stays, gains_one, gains_cases, taken}
@@ -100,83 +100,10 @@ pub noted_more : (cells : List ℕ) (i x : ℕ) (old mid new : BTreeSet ℕ) (be
     AreNoted (take (i + 1) cells) old new before more
 noted_more cells i x old mid new before work more l e m n = subst (λ (xs : List ℕ). AreNoted xs old new before more) (sym (taken_more cells i x l e)) (noted_both (take i cells) (x ∷ []) old mid new before work more m n)
 
--- ---- the search
-
-pub record IsSearching (readers : Bag) (cells : List ℕ) (found : BTreeSet ℕ) (work : List ℕ) : Type 0 where
-  pub all : HasAll cells found
-  pub opened : (a r : ℕ) → contains nat_cmp found a ≡ true → IsReader readers a r → (is_one_of work a ≡ true) ⊎ (contains nat_cmp found r ≡ true)
-  pub within : (c : ℕ) → is_one_of work c ≡ true → contains nat_cmp found c ≡ true
-  pub least : (p : ℕ → Bool) → ((c : ℕ) → is_one_of cells c ≡ true → p c ≡ true) → GoesToReaders readers p → (c : ℕ) → contains nat_cmp found c ≡ true → p c ≡ true
-
-pub search_start : (readers : Bag) (cells : List ℕ) (none found : BTreeSet ℕ) (empty work : List ℕ) → none.keys ≡ [] → empty ≡ [] → AreNoted cells none found empty work → IsSearching readers cells found work
-search_start readers cells none found empty work e f n = record {
-  all = λ c h. n.found c ∙ or_right (contains nat_cmp none c) _ h;
-  opened = λ a r h i. inl (n.fresh a h (nothing a));
-  within = λ c h. at c (n.within c h);
-  least = λ p h k c m. first p h c (or_cases (contains nat_cmp none c) _ (sym (n.found c) ∙ m));
-}
-  where
-    nothing : (c : ℕ) → contains nat_cmp none c ≡ false
-    nothing c = ap (λ (xs : List ℕ). list_any (is_at (nat_cmp c)) xs) e
-
-    at : (c : ℕ) → (is_one_of empty c ≡ true) ⊎ (contains nat_cmp found c ≡ true) → contains nat_cmp found c ≡ true
-    at c (inl k) = clash (is_one_of empty c) k (ap (λ (xs : List ℕ). is_one_of xs c) f)
-    at c (inr k) = k
-
-    first : (p : ℕ → Bool) → ((c : ℕ) → is_one_of cells c ≡ true → p c ≡ true) → (c : ℕ) → (contains nat_cmp none c ≡ true) ⊎ (is_one_of cells c ≡ true) → p c ≡ true
-    first p h c (inl k) = clash (contains nat_cmp none c) k (nothing c)
-    first p h c (inr k) = h c k
+-- ---- those that read a cell
 
 abbrev pub AreReaders : Bag → ℕ → List ℕ → Type 0
 AreReaders readers a next = (r : ℕ) → Contains next r ↔ IsReader readers a r
-
-step : (readers : Bag) (cells : List ℕ) (found more : BTreeSet ℕ) (work less after next : List ℕ) (cell : ℕ) → work ≡ less ++ cell ∷ [] → AreReaders readers cell next → AreNoted next found more less after →
-    IsSearching readers cells found work → IsSearching readers cells more after
-step readers cells found more work less after next cell e r n s = record {
-  all = λ c h. still c (s.all c h);
-  opened = λ a d h i. opened a d h i (cases_Bool (contains nat_cmp found a));
-  within = λ c h. within c (n.within c h);
-  least = λ p h k c m. first p h k c (or_cases (contains nat_cmp found c) _ (sym (n.found c) ∙ m));
-}
-  where
-    still : (c : ℕ) → contains nat_cmp found c ≡ true → contains nat_cmp more c ≡ true
-    still c h = n.found c ∙ or_left (contains nat_cmp found c) _ h
-
-    gone : (a d : ℕ) → IsReader readers a d → (is_one_of less a ≡ true) ⊎ (cell ≡ a) → (is_one_of after a ≡ true) ⊎ (contains nat_cmp more d ≡ true)
-    gone a d i (inl k) = inl (n.stays a k)
-    gone a d i (inr k) = inr (n.found d ∙ or_right (contains nat_cmp found d) _ (has-from_Contains next d ((r d).1 (subst (λ (x : ℕ). IsReader readers x d) (sym k) i))))
-
-    known : (a d : ℕ) → IsReader readers a d → (is_one_of work a ≡ true) ⊎ (contains nat_cmp found d ≡ true) → (is_one_of after a ≡ true) ⊎ (contains nat_cmp more d ≡ true)
-    known a d i (inl k) = gone a d i (in_last less cell a (ap (λ (xs : List ℕ). is_one_of xs a) (sym e) ∙ k))
-    known a d i (inr k) = inr (still d k)
-
-    opened : (a d : ℕ) → contains nat_cmp more a ≡ true → IsReader readers a d → (contains nat_cmp found a ≡ true) ⊎ (contains nat_cmp found a ≡ false) → (is_one_of after a ≡ true) ⊎ (contains nat_cmp more d ≡ true)
-    opened a d h i (inl k) = known a d i (s.opened a d k i)
-    opened a d h i (inr k) = inl (n.fresh a h k)
-
-    within : (c : ℕ) → (is_one_of less c ≡ true) ⊎ (contains nat_cmp more c ≡ true) → contains nat_cmp more c ≡ true
-    within c (inl k) = still c (s.within c (ap (λ (xs : List ℕ). is_one_of xs c) e ∙ in_front less (cell ∷ []) c k))
-    within c (inr k) = k
-
-    here : contains nat_cmp found cell ≡ true
-    here = s.within cell (ap (λ (xs : List ℕ). is_one_of xs cell) e ∙ in_back less (cell ∷ []) cell (or_left (cell == cell) false (is_itself cell)))
-
-    first : (p : ℕ → Bool) → ((c : ℕ) → is_one_of cells c ≡ true → p c ≡ true) → GoesToReaders readers p → (c : ℕ) → (contains nat_cmp found c ≡ true) ⊎ (is_one_of next c ≡ true) → p c ≡ true
-    first p h k c (inl m) = s.least p h k c m
-    first p h k c (inr m) = k cell c (s.least p h k cell here) ((r c).0 (Contains-from_has next c m))
-
-pub search_step : (readers : Bag) (cells : List ℕ) (found more : BTreeSet ℕ) (work less after next noted : List ℕ) (cell : ℕ) → work ≡ less ++ cell ∷ [] → AreReaders readers cell next → noted ≡ next → AreNoted noted found more less after →
-    IsSearching readers cells found work → IsSearching readers cells more after
-search_step readers cells found more work less after next noted cell e r k m s = step readers cells found more work less after next cell e r (subst (λ (xs : List ℕ). AreNoted xs found more less after) k m) s
-
-pub search_end : (readers : Bag) (cells : List ℕ) (found : BTreeSet ℕ) (work : List ℕ) → work ≡ [] → IsSearching readers cells found work → HasReaders readers found
-search_end readers cells found work e s a r h i = at (s.opened a r h i)
-  where
-    at : (is_one_of work a ≡ true) ⊎ (contains nat_cmp found r ≡ true) → contains nat_cmp found r ≡ true
-    at (inl k) = clash (is_one_of work a) k (ap (λ (xs : List ℕ). is_one_of xs a) e)
-    at (inr k) = k
-
--- ---- it ends
 
 abbrev pub all_readers : Bag → List ℕ
 all_readers bag = map (λ e. e.0.reader) bag
@@ -192,15 +119,7 @@ reader_there (e ∷ es) p h = at (is_same p e.0) refl h (reader_there es p)
 pub readers_there : (bag : Bag) (a r : ℕ) → IsReader bag a r → is_one_of (all_readers bag) r ≡ true
 readers_there bag a r i = ap (λ (x : ℕ). is_one_of (all_readers bag) x) (sym i.1) ∙ reader_there bag i.0 i.2
 
-pub search_ends : (readers : Bag) (found more : BTreeSet ℕ) (work less after next noted : List ℕ) (cell : ℕ) → work ≡ less ++ cell ∷ [] → AreReaders readers cell next → noted ≡ next → AreNoted noted found more less after →
-    length (missing more (all_readers readers)) + length after < length (missing found (all_readers readers)) + length work
-search_ends readers found more work less after next noted cell e r k m =
-    let n = subst (λ (xs : List ℕ). AreNoted xs found more less after) k m in
-    let f = n.fewer (all_readers readers) (λ c h. readers_there readers cell c ((r c).0 (Contains-from_has next c h))) in
-    let t : length work ≡ length less + 1 = ap (λ (xs : List ℕ). length xs) e ∙ length-append less (cell ∷ []) in
-    omega (arith, f, t)
-
--- ---- what it finds is the cone
+-- ---- what a search finds is the cone
 
 pub found_cone : (s : Sheet) (readers : Bag) (cells : List ℕ) (found : BTreeSet ℕ) → ((a r : ℕ) → (content_reads (content_of s r) a ≡ true) ↔ IsReader readers a r) → HasAll cells found → HasReaders readers found →
     IsLeast readers cells found →

@@ -5,7 +5,7 @@ pub use Rattle.std.proofs.Math.Arith.{lt_of_le-ne}
 pub use Rattle.std.proofs.Math.Bool.{and-false, and-true, or-false, or_assoc}
 pub use Rattle.std.proofs.Math.Nat.{le_trans}
 pub use Rattle.std.proofs.Math.Seq.{take-suc}
-pub use Rattle.std.proofs.lemmas.Bool.{and_from, and_parts, cases_Bool, cases_lt, cases_order, eqb-true, false_from_ne_true, le-leb, leb-true, not-true, not_from_false, or_cases, or_left, or_parts, or_right}
+pub use Rattle.std.proofs.lemmas.Bool.{and_from, and_parts, cases_Bool, cases_lt, eqb-true, false_from_ne_true, le-leb, leb-true, not-true, not_from_false, or_cases, or_left, or_parts, or_right}
 pub use Rattle.std.proofs.lemmas.Bool.Decides.{nat_tests}
 pub use Rattle.std.proofs.lemmas.Grind.{common_steps}
 pub use Rattle.std.proofs.lemmas.List.{drop_all, get_or_default, length-append, nil_from_length}
@@ -66,7 +66,7 @@ pub use Rattle.wi_values.proofs.Keys.{lone_key}
 pub use Rattle.wi_values.proofs.Listed.{Contains-from_has, has-from_Contains, has_key, has_taken}
 pub use Rattle.wi_values.proofs.Lists.{keeps_few, taken_more}
 pub use Rattle.wi_values.proofs.Lookups.{cond_apart, found-insert, found-without}
-pub use Rattle.wi_values.proofs.Order.{Ascends, Ascends-filter, Ascends-from_order, Ascends-insert, ComeAfter, at_earlier, at_itself, at_same, below_from_Less, come_after_earlier, is_at-eq, lookup_after, order-from_Ascends, turn_test}
+pub use Rattle.wi_values.proofs.Order.{Ascends, Ascends-filter, Ascends-from_order, Ascends-insert, ComeAfter, at_earlier, at_itself, at_same, below_from_Less, is_at-eq, lookup_after, order-from_Ascends, same_entries, turn_test}
 pub use Rattle.wi_values.proofs.Outcomes.{on_err}
 pub use Rattle.wi_values.proofs.Small.{max_at_most, max_below}
 pub use Rattle.wi_values.proofs.Within.{column_of_place, fewer_places, places_left, row_of_place, within_between, within_from, within_parts}

@@ -38,15 +38,7 @@ pub(crate) fn with_cell(area: Rect, cell: Address) -> Rect
     ensures cell { is_within result cell ≡ true }
     ensures others { (c : ℕ) → is_within area c ≡ true → is_within result c ≡ true }
 {
-    let first = area.first();
-    let last = area.last();
-    Rect::new(
-        Address::at(
-            first.row().min(cell.row()),
-            first.column().min(cell.column()),
-        ),
-        Address::at(last.row().max(cell.row()), last.column().max(cell.column())),
-    )
+    area.around(around_cell(cell))
 }
 
 /// What two rectangles have in common, if they meet.

@@ -4,6 +4,7 @@ use Rattle.wi_lexer.specs.declared.token.Mark as mark
 use Rattle.wi_lexer.proofs.RunLemmas.{run_stops, digits_all, digits_run}
 use Rattle.wi_lexer.proofs.DecimalLemmas.{decimal_some, no_point}
 use Rattle.wi_lexer.proofs.NumberLemmas.{number_cases, number_some, EndsNumber, number_exact}
+use Rattle.wi_lexer.proofs.FrontLemmas.{first_stays}
 use Rattle.wi_lexer.proofs.BracketLemmas.{bracketed}
 use Rattle.wi_lexer.proofs.ReferenceLemmas.{reference_complete}
 use Rattle.wi_lexer.proofs.RectangleLemmas.{beside, rectangle_is, rectangle_complete, no_reference_len}
@@ -25,11 +26,6 @@ run_start class (b ∷ text) run = (and_parts (class b) (list_all class text) ru
 digit_starts : (b : ℕ) → is_ascii_digit b ≡ true → is_number_start b ≡ true
 digit_starts b h = grind (arith, nat_tests)
 
--- what follows a text changes nothing of its first byte
-pub first_of_both : (text rest : List ℕ) → 0 < length text → slice_index (text ++ rest) 0 ≡ slice_index text 0
-first_of_both [] rest some = absurd (omega (arith, some))
-first_of_both (b ∷ text) rest some = refl
-
 decimal_start : (text ds es : List ℕ) → WritesDigits text ds es → is_number_start (slice_index text 0) ≡ true
 decimal_start text _ _ (plain ds h) = digit_starts (slice_index ds 0) (run_start is_ascii_digit ds (digits_run ds h))
 decimal_start text _ _ (point [] es h i) = refl
@@ -38,7 +34,7 @@ decimal_start text _ _ (point (d ∷ ds) es h i) = digit_starts d (and_parts (is
 pub number_start : (text : List ℕ) → IsDecimalText text → is_number_start (slice_index text 0) ≡ true
 number_start = number_cases (λ text. is_number_start (slice_index text 0) ≡ true) record {
   alone = decimal_start;
-  scaled = λ text ds es d exponent k e letter. ap is_number_start (first_of_both text exponent (decimal_some text ds es d)) ∙ decimal_start text ds es d;
+  scaled = λ text ds es d exponent k e letter. ap is_number_start (first_stays text exponent (decimal_some text ds es d)) ∙ decimal_start text ds es d;
 }
 
 number_no_blank : (b : ℕ) → is_number_start b ≡ true → is_blank b ≡ false

@@ -122,7 +122,8 @@ row_no_letter false (d ∷ ds) rest run =
     let no : is_ascii_alphabetic d ≡ false = grind (arith, nat_tests, p.0) in
     run_stops is_ascii_alphabetic d (ds ++ rest) no
 
-first_stays : (ds rest : List ℕ) → 0 < length ds → slice_index (ds ++ rest) 0 ≡ slice_index ds 0
+-- what follows a text changes nothing of its first byte
+pub first_stays : (ds rest : List ℕ) → 0 < length ds → slice_index (ds ++ rest) 0 ≡ slice_index ds 0
 first_stays [] rest some = absurd (omega (arith, some))
 first_stays (d ∷ ds) rest some = refl
 

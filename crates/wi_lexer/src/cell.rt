@@ -1,8 +1,6 @@
 //! The cells that references name.
 
-ghost use Rattle.std.specs.Prelude.{◌≡◌, ◌≤◌, length, option_map};
-ghost use Rattle.std.specs.List.{list_all};
-ghost use Rattle.std.specs.Char.{is_ascii_digit};
+ghost use Rattle.std.specs.Prelude.{◌≡◌, ◌≤◌, length};
 ghost use Rattle.wi_lexer.specs.Inner.Cell as spec;
 
 use crate::runs::{byte, digits_len, letters_len};
@@ -27,18 +25,6 @@ fn after_dollar(text: &[u8]) -> (bool, &[u8])
         return (true, &text[1..]);
     }
     (false, text)
-}
-
-fn all_digits(text: &[u8]) -> bool
-    ensures { result ≡ list_all is_ascii_digit text.now }
-{
-    text.iter().all(|b| b.is_ascii_digit())
-}
-
-fn is_row(digits: &[u8]) -> bool
-    ensures { result ≡ spec.is_row digits.now }
-{
-    byte(digits, 0) > b'0' && all_digits(digits)
 }
 
 // The text cut into the parts of a cell, which it may not be.
@@ -100,19 +86,4 @@ pub(crate) fn cell_len(text: &[u8]) -> usize
     }
     let row = row_len(&text[column..]);
     if row > 0 { column + row } else { 0 }
-}
-
-/// The parts of a cell, as `$A1`. None where the text is no cell.
-#[tactic(auto, unfolding(crate::specs::Inner::Cell::cell_of))]
-pub fn cell_of(text: &[u8]) -> Option<CellText<'_>>
-    ensures { option_map spec.parts result ≡ spec.cell_of text.now }
-{
-    let cell = cut(text);
-    if cell.letters.is_empty() {
-        return None;
-    }
-    if !is_row(cell.digits) {
-        return None;
-    }
-    Some(cell)
 }

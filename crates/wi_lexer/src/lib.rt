@@ -14,9 +14,9 @@ mod runs;
 mod text;
 mod token;
 
-pub use cell::{CellText, cell_of};
+pub use cell::CellText;
 pub use lexer::{BadToken, Lexer, Token};
-pub use rectangle::{cells_in, rectangle_of};
-pub use reference::{cell_in, reference_of};
+pub use rectangle::cells_in;
+pub use reference::cell_in;
 pub use text::text_content;
 pub use token::{Kind, Mark};

@@ -1,5 +1,5 @@
--- The cells of a rectangle by their places, and its first column and first row.
-use Rattle.wi_lookup_functions.proofs.Words.{◌≡◌, ℕ, zero, suc, ◌<◌, ◌+◌, ◌*◌, List, [], ◌∷◌, ◌++◌, map, length, Option, Some, refl, ap, ◌∙◌, arith, slice_get, unwrap_or, option_map, range_with_len, suc-mul, slice_get-map, length-map-range_with_len, Area, cells_of, place, row_of, column_of, Value, Fault, BadReference, block, run, region_of, cell_in, height, width}
+-- The cells of a rectangle by their places.
+use Rattle.wi_lookup_functions.proofs.Words.{◌≡◌, ℕ, zero, suc, ◌<◌, ◌+◌, ◌*◌, List, [], ◌∷◌, ◌++◌, map, length, Option, Some, refl, ap, ◌∙◌, arith, slice_get, unwrap_or, option_map, range_with_len, suc-mul, slice_get-map, length-append, length-map-range_with_len, Area, cells_of, place, row_of, column_of, Value, Fault, BadReference, block, run, region_of, cell_in, height, width}
 
 in_run : (row a n k : ℕ) → k < n → slice_get (run row a n) k ≡ Some (place row (a + k))
 in_run row a zero k h = absurd (omega (arith, h))
@@ -15,7 +15,7 @@ in_front [] ys k x h = cc
 in_front (z ∷ xs) ys zero x h = h
 in_front (z ∷ xs) ys (suc k) x h = in_front xs ys k x h
 
-in_block : (row h a n i k : ℕ) → i < h → k < n → slice_get (block row h a n) (i * n + k) ≡ Some (place (row + i) (a + k))
+pub in_block : (row h a n i k : ℕ) → i < h → k < n → slice_get (block row h a n) (i * n + k) ≡ Some (place (row + i) (a + k))
 in_block row zero a n i k l m = absurd (omega (arith, l))
 in_block row (suc h) a n zero k l m =
     let first : 0 * n + k ≡ k = omega arith in
@@ -37,18 +37,21 @@ pub cell_at : (cells : ℕ → Value) (r : Area) (i k : ℕ) → i < height r �
 cell_at cells r i k l m =
     ap (λ (o : Option Value). unwrap_or o (Fault BadReference)) (slice_get-map cells (cells_of r) (i * width r + k) ∙ ap (option_map cells) (in_block (row_of r.first) (height r) (column_of r.first) (width r) i k l m))
 
--- ---- the values of one column, and of one row
+-- ---- all of a list of cells
 
-pub column_cells : (cells : ℕ → Value) (f : ℕ → Value) (row a s n : ℕ) → ((i : ℕ) → i < s + n → f i ≡ cells (place (row + i) a)) → map f (range_with_len s n) ≡ map cells (block (row + s) n a 1)
-column_cells cells f row a s zero e = refl
-column_cells cells f row a s (suc n) e =
-    let next : row + (s + 1) ≡ (row + s) + 1 = omega arith in
-    ap (λ (v : Value). v ∷ map f (range_with_len (s + 1) n)) (e s (omega arith))
-    ∙ ap (λ (vs : List Value). cells (place (row + s) a) ∷ vs) (column_cells cells f row a (s + 1) n (λ i l. e i (omega (arith, l))) ∙ ap (λ (j : ℕ). map cells (block j n a 1)) next)
+pub length-block : (row h a n : ℕ) → length (block row h a n) ≡ h * n
+length-block row zero a n = let none : 0 ≡ 0 * n = omega arith in none
+length-block row (suc h) a n =
+    let front : length (run row a n) ≡ n = length-map-range_with_len (place row) a n in
+    let rest : length (block (row + 1) h a n) ≡ h * n = length-block (row + 1) h a n in
+    length-append (run row a n) (block (row + 1) h a n) ∙ omega (arith, suc-mul h n, front, rest)
 
-pub row_cells : (cells : ℕ → Value) (f : ℕ → Value) (row a s n : ℕ) → ((i : ℕ) → i < s + n → f i ≡ cells (place row (a + i))) → map f (range_with_len s n) ≡ map cells (run row (a + s) n)
-row_cells cells f row a s zero e = refl
-row_cells cells f row a s (suc n) e =
-    let next : a + (s + 1) ≡ (a + s) + 1 = omega arith in
-    ap (λ (v : Value). v ∷ map f (range_with_len (s + 1) n)) (e s (omega arith))
-    ∙ ap (λ (vs : List Value). cells (place row (a + s)) ∷ vs) (row_cells cells f row a (s + 1) n (λ i l. e i (omega (arith, l))) ∙ ap (λ (j : ℕ). map cells (run row j n)) next)
+-- the values of cells, counted from s
+pub counted_from : (cells f : ℕ → Value) (xs : List ℕ) (s : ℕ) → ((i : ℕ) → i < length xs → option_map cells (slice_get xs i) ≡ Some (f (s + i))) → map f (range_with_len s (length xs)) ≡ map cells xs
+counted_from cells f [] s e = refl
+counted_from cells f (x ∷ xs) s e =
+    let here : Some (cells x) ≡ Some (f (s + 0)) = e 0 (omega arith) in
+    let same : f (s + 0) ≡ cells x = cc in
+    let start : s ≡ s + 0 = omega arith in
+    ap (λ (v : Value). v ∷ map f (range_with_len (s + 1) (length xs))) (ap f start ∙ same)
+    ∙ ap (λ (vs : List Value). cells x ∷ vs) (counted_from cells f xs (s + 1) (λ i l. let next : s + suc i ≡ (s + 1) + i = omega arith in e (suc i) (omega (arith, l)) ∙ ap (λ (j : ℕ). Some (f j)) next))

@@ -8,17 +8,9 @@ use Rattle.wi_lookup_functions.proofs.CellsByPlace.{cell_at}
 
 -- ---- at the exit of a `?`
 
-pub gives_so : {A B : Type 0} (known : ℕ → Option Value) (P : ℕ → Type 0) (view : A → B) (asked : (ℕ → Value) → Result B ErrorKind) (r : Result A (Ending ℕ)) (h : Ending ℕ) → IsErrAnd r (λ y. y ≡ h) → Agrees {A = A} {B = B} known P view asked (Err h) → Agrees {A = A} {B = B} known P view asked r
-gives_so known P view asked (Ok x) h k g = absurd k
-gives_so {A} {B} known P view asked (Err y) h k g = subst (λ (z : Ending ℕ). Agrees {A = A} {B = B} known P view asked (Err z)) (sym k) g
-
-pub finds_so : (known : ℕ → Option Value) (args : List given.Argument) (f : List Argument → Value) (r : Result ℕ (Ending ℕ)) (h : Ending ℕ) → IsErrAnd r (λ y. y ≡ h) → Finds known args f (Err h) → Finds known args f r
-finds_so known args f (Ok x) h k g = absurd k
-finds_so known args f (Err y) h k g = subst (λ (z : Ending ℕ). Finds known args f (Err z)) (sym k) g
-
-pub places_so : (known : ℕ → Option Value) (args : List given.Argument) (f : List Argument → Value) (r : Result ℕ (Ending ℕ)) (h : Ending ℕ) → IsErrAnd r (λ y. y ≡ h) → Places known args f (Err h) → Places known args f r
-places_so known args f (Ok x) h k g = absurd k
-places_so known args f (Err y) h k g = subst (λ (z : Ending ℕ). Places known args f (Err z)) (sym k) g
+pub ends_so : {A : Type 0} (P : Result A (Ending ℕ) → Type 0) (r : Result A (Ending ℕ)) (h : Ending ℕ) → IsErrAnd r (λ y. y ≡ h) → P (Err h) → P r
+ends_so P (Ok x) h k g = absurd k
+ends_so P (Err y) h k g = subst (λ (z : Ending ℕ). P (Err z)) (sym k) g
 
 pub passes_on : {A B C D : Type 0} (known : ℕ → Option Value) (P : ℕ → Type 0) (view : A → B) (other : C → D) (asked : (ℕ → Value) → Result B ErrorKind) (asks : (ℕ → Value) → Result D ErrorKind) (h : Ending ℕ) →
     ((cells : ℕ → Value) (e : ErrorKind) → asked cells ≡ Err e → asks cells ≡ Err e) → Agrees {A = A} {B = B} known P view asked (Err h) → Agrees {A = C} {B = D} known P other asks (Err h)
@@ -60,7 +52,7 @@ pub taken_halts : {B : Type 0} (known : ℕ → Option Value) (args : List given
     ((e : ErrorKind) → convert (Fault e) ≡ Err e) → IsErrAnd r (λ y. y ≡ h) → Agrees {A = Bor Value} {B = Value} known (IsMissing known args) (λ v. v.now) (λ cells. no_error (value_or default (arguments_in cells args) i)) (Err h) →
     Agrees {A = B} {B = B} known (IsMissing known args) (λ x. x) (λ cells. convert (value_or default (arguments_in cells args) i)) r
 taken_halts {B} known args i default convert r h c k g =
-    gives_so {A = B} {B = B} known (IsMissing known args) (λ x. x) (λ cells. convert (value_or default (arguments_in cells args) i)) r h k
+    ends_so (Agrees {A = B} {B = B} known (IsMissing known args) (λ x. x) (λ cells. convert (value_or default (arguments_in cells args) i))) r h k
     (passes_on {A = Bor Value} {B = Value} {C = B} {D = B} known (IsMissing known args) (λ v. v.now) (λ x. x) (λ cells. no_error (value_or default (arguments_in cells args) i)) (λ cells. convert (value_or default (arguments_in cells args) i)) h
     (λ cells e q. ap convert (fault (value_or default (arguments_in cells args) i) e q) ∙ c e) g)
 
@@ -68,14 +60,14 @@ pub taken_fails : {B : Type 0} (known : ℕ → Option Value) (args : List given
     IsErrAnd r (λ y. y ≡ Error e) → WhateverHeld known (λ cells. no_error (value_or default (arguments_in cells args) i) ≡ Ok v) → Err e ≡ convert v →
     Agrees {A = B} {B = B} known (IsMissing known args) (λ x. x) (λ cells. convert (value_or default (arguments_in cells args) i)) r
 taken_fails {B} known args i default convert r v e k g t =
-    gives_so {A = B} {B = B} known (IsMissing known args) (λ x. x) (λ cells. convert (value_or default (arguments_in cells args) i)) r (Error e) k
+    ends_so (Agrees {A = B} {B = B} known (IsMissing known args) (λ x. x) (λ cells. convert (value_or default (arguments_in cells args) i))) r (Error e) k
     (λ cells a. ap convert (itself (value_or default (arguments_in cells args) i) v (g cells a)) ∙ sym t)
 
 pub sought_halts : (known : ℕ → Option Value) (args : List given.Argument) (i : ℕ) (zero : Value) (r : Result (Bor Value) (Ending ℕ)) (h : Ending ℕ) →
     zero ≡ Number zero_number → IsErrAnd r (λ y. y ≡ h) → Agrees {A = Bor Value} {B = Value} known (IsMissing known args) (λ v. v.now) (λ cells. no_error (value_or zero (arguments_in cells args) i)) (Err h) →
     Agrees {A = Bor Value} {B = Value} known (IsMissing known args) (λ v. v.now) (λ cells. and_then (λ v. Ok (sought_for v)) (no_error (value_at (arguments_in cells args) i))) r
 sought_halts known args i zero r h z k g =
-    gives_so {A = Bor Value} {B = Value} known (IsMissing known args) (λ v. v.now) (λ cells. and_then (λ v. Ok (sought_for v)) (no_error (value_at (arguments_in cells args) i))) r h k
+    ends_so (Agrees {A = Bor Value} {B = Value} known (IsMissing known args) (λ v. v.now) (λ cells. and_then (λ v. Ok (sought_for v)) (no_error (value_at (arguments_in cells args) i)))) r h k
     (passes_on {A = Bor Value} {B = Value} {C = Bor Value} {D = Value} known (IsMissing known args) (λ v. v.now) (λ v. v.now) (λ cells. no_error (value_or zero (arguments_in cells args) i)) (λ cells. and_then (λ v. Ok (sought_for v)) (no_error (value_at (arguments_in cells args) i))) h
     (λ cells e q.
     sought_or_zero (arguments_in cells args) i

@@ -1,8 +1,7 @@
 -- The first column and the first row of a rectangle.
-use Rattle.wi_lookup_functions.proofs.Words.{◌≡◌, ℕ, zero, suc, ◌<◌, ◌≤◌, ◌+◌, ◌==◌, true, List, length, map, min, max, refl, sym, ap, ◌∙◌, subst, arith, or_left, or_right, eq-eqb, length-map-range_with_len, Area, cells_of, place, row_of, column_of, is_within, rect_of, Value, within_parts, row_of_place, column_of_place, column_within, within_from, block, run, region_of, cell_in, Axis, Rows, Columns, line_count, line_width, first_cells, first_column, first_row, height, is_line, width}
-use Rattle.wi_lookup_functions.proofs.CellsByPlace.{cell_at, column_cells, row_cells}
+use Rattle.wi_lookup_functions.proofs.Words.{◌≡◌, ℕ, ◌<◌, ◌≤◌, ◌+◌, ◌*◌, ◌==◌, ◌||◌, true, List, length, map, min, max, Some, refl, sym, ap, ◌∙◌, subst, arith, or_left, or_right, option_map, slice_get, range_with_len, Area, cells_of, place, row_of, column_of, is_within, rect_of, Value, within_parts, row_of_place, column_of_place, column_within, within_from, block, region_of, cell_in, Axis, Rows, Columns, line_count, line_width, first_cells, height, is_line, width}
+use Rattle.wi_lookup_functions.proofs.CellsByPlace.{cell_at, counted_from, in_block, length-block}
 use Rattle.wi_lookup_functions.proofs.Chains.{first_cells_in}
-use Rattle.wi_lookup_functions.proofs.Lines.{one_row, one_column}
 
 -- the rows and the columns at which a rectangle begins and ends
 record Spans (r : Area) (top bottom left right : ℕ) : Type 0 where
@@ -33,16 +32,6 @@ spans_to a bottom right h k l =
     spans_rect a (place bottom right) (row_of a) bottom (column_of a) right
     (ap (min (row_of a)) row_is ∙ top) (ap (max (row_of a)) row_is ∙ low) (ap (min (column_of a)) column_is ∙ left) (ap (max (column_of a)) column_is ∙ far) (column_within a) l
 
-column_spans : (r l : Area) → l ≡ first_column r → 0 < height r → Spans l (row_of r.first) (row_of r.last) (column_of r.first) (column_of r.first)
-column_spans r l h some =
-    subst (λ (m : Area). Spans m (row_of r.first) (row_of r.last) (column_of r.first) (column_of r.first)) (sym h)
-    (spans_to r.first (row_of r.last) (column_of r.first) (omega (arith, some)) (omega arith) (column_within r.first))
-
-row_spans : (r l : Area) → l ≡ first_row r → 0 < width r → Spans l (row_of r.first) (row_of r.first) (column_of r.first) (column_of r.last)
-row_spans r l h some =
-    subst (λ (m : Area). Spans m (row_of r.first) (row_of r.first) (column_of r.first) (column_of r.last)) (sym h)
-    (spans_to r.first (row_of r.first) (column_of r.last) (omega arith) (omega (arith, some)) (column_within r.last))
-
 -- ---- their cells
 
 -- one of the two first lines of a rectangle, with the values of its cells and their count
@@ -52,46 +41,54 @@ pub record IsFirstLine (r l : Area) (values : (ℕ → Value) → List Value) (c
   pub count_is : length (cells_of l) ≡ count
   pub inside : (c : ℕ) → is_within l c ≡ true → is_within r c ≡ true
 
-length-block : (row n a : ℕ) → length (block row n a 1) ≡ n
-length-block row zero a = refl
-length-block row (suc n) a = ap suc (length-block (row + 1) n a)
+-- a line from the first cell of a rectangle: h cells high and w wide, the i-th one a i rows below it and b i columns to its right
+module _ (r l : Area) (bottom right h w n : ℕ) (a b : ℕ → ℕ)
+    (l_is : l ≡ rect_of r.first (place bottom right)) (h_is : row_of r.first + h ≡ bottom + 1) (w_is : column_of r.first + w ≡ right + 1)
+    (some_rows : 0 < h) (low : h ≤ height r) (some_columns : 0 < w) (far : w ≤ width r) (is_thin : ((h == 1) || (w == 1)) ≡ true)
+    (n_is : h * w ≡ n) (each : (i : ℕ) → i < n → (a i < h) × (b i < w) × (a i * w + b i ≡ i)) where
+  spans : Spans l (row_of r.first) bottom (column_of r.first) right
+  spans =
+      subst (λ (m : Area). Spans m (row_of r.first) bottom (column_of r.first) right) (sym l_is)
+      (spans_to r.first bottom right (omega (arith, h_is, some_rows)) (omega (arith, w_is, some_columns)) (omega (arith, w_is, some_columns, far, column_within r.last)))
 
-column_line : (r l : Area) → l ≡ first_column r → 0 < height r → 0 < width r → IsFirstLine r l (λ cells. first_cells_in Rows (region_of cells r)) (height r)
-column_line r l h some w =
-    let s : Spans l (row_of r.first) (row_of r.last) (column_of r.first) (column_of r.first) = column_spans r l h some in
-    let thin : width l ≡ 1 = omega (arith, s.left_is, s.right_is) in
-    let tall : height l ≡ height r = omega (arith, s.top_is, s.bottom_is) in
-    let cells_are : cells_of l ≡ block (row_of r.first) (height r) (column_of r.first) 1 = one_column l thin ∙ ap (λ (i : ℕ). block i (height l) (column_of l.first) 1) s.top_is ∙ ap (λ (n : ℕ). block (row_of r.first) n (column_of l.first) 1) tall ∙ ap (λ (a : ℕ). block (row_of r.first) (height r) a 1) s.left_is in
-    let top : row_of r.first + 0 ≡ row_of r.first = omega arith in
-    record {
-      line = or_right (height l == 1) (width l == 1) (eq-eqb (width l) 1 thin);
-      values_are = λ cells.
-          column_cells cells (λ i. cell_in (region_of cells r) i 0) (row_of r.first) (column_of r.first) 0 (height r) (λ i m. cell_at cells r i 0 (omega (arith, m)) w ∙ ap (λ (a : ℕ). cells (place (row_of r.first + i) a)) (omega arith))
-          ∙ ap (λ (i : ℕ). map cells (block i (height r) (column_of r.first) 1)) top
-          ∙ ap (map cells) (sym cells_are);
-      count_is = ap length cells_are ∙ length-block (row_of r.first) (height r) (column_of r.first);
-      inside = λ c k. let p = within_parts l c k in within_from r c (omega (arith, p.0, s.top_is)) (omega (arith, p.1, s.bottom_is)) (omega (arith, p.2, s.left_is)) (omega (arith, p.3, s.right_is, w));
-    }
+  tall : height l ≡ h
+  tall = let top = spans.top_is in let end = spans.bottom_is in omega (arith, top, end, h_is)
 
-row_line : (r l : Area) → l ≡ first_row r → 0 < width r → 0 < height r → IsFirstLine r l (λ cells. first_cells_in Columns (region_of cells r)) (width r)
-row_line r l h some w =
-    let s : Spans l (row_of r.first) (row_of r.first) (column_of r.first) (column_of r.last) = row_spans r l h some in
-    let flat : height l ≡ 1 = omega (arith, s.top_is, s.bottom_is) in
-    let wide : width l ≡ width r = omega (arith, s.left_is, s.right_is) in
-    let cells_are : cells_of l ≡ run (row_of r.first) (column_of r.first) (width r) = one_row l flat ∙ ap (λ (i : ℕ). run i (column_of l.first) (width l)) s.top_is ∙ ap (λ (a : ℕ). run (row_of r.first) a (width l)) s.left_is ∙ ap (λ (n : ℕ). run (row_of r.first) (column_of r.first) n) wide in
-    let left : column_of r.first + 0 ≡ column_of r.first = omega arith in
-    record {
-      line = or_left (height l == 1) (width l == 1) (eq-eqb (height l) 1 flat);
-      values_are = λ cells.
-          row_cells cells (λ i. cell_in (region_of cells r) 0 i) (row_of r.first) (column_of r.first) 0 (width r) (λ i m. cell_at cells r 0 i w (omega (arith, m)) ∙ ap (λ (j : ℕ). cells (place j (column_of r.first + i))) (omega arith))
-          ∙ ap (λ (a : ℕ). map cells (run (row_of r.first) a (width r))) left
-          ∙ ap (map cells) (sym cells_are);
-      count_is = ap length cells_are ∙ length-map-range_with_len (place (row_of r.first)) (column_of r.first) (width r);
-      inside = λ c k. let p = within_parts l c k in within_from r c (omega (arith, p.0, s.top_is)) (omega (arith, p.1, s.bottom_is, w)) (omega (arith, p.2, s.left_is)) (omega (arith, p.3, s.right_is));
-    }
+  wide : width l ≡ w
+  wide = let left = spans.left_is in let end = spans.right_is in omega (arith, left, end, w_is)
+
+  cells_are : cells_of l ≡ block (row_of r.first) h (column_of r.first) w
+  cells_are =
+      ap (λ (j : ℕ). block j (height l) (column_of l.first) (width l)) spans.top_is
+      ∙ ap (λ (j : ℕ). block (row_of r.first) j (column_of l.first) (width l)) tall
+      ∙ ap (λ (j : ℕ). block (row_of r.first) h j (width l)) spans.left_is
+      ∙ ap (λ (j : ℕ). block (row_of r.first) h (column_of r.first) j) wide
+
+  many : length (cells_of l) ≡ n
+  many = ap length cells_are ∙ length-block (row_of r.first) h (column_of r.first) w ∙ n_is
+
+  at_place : (cells : ℕ → Value) (i : ℕ) → i < n → option_map cells (slice_get (cells_of l) i) ≡ Some (cell_in (region_of cells r) (a i) (b i))
+  at_place cells i m =
+      let p = each i m in
+      ap (λ (xs : List ℕ). option_map cells (slice_get xs i)) cells_are
+      ∙ ap (λ (j : ℕ). option_map cells (slice_get (block (row_of r.first) h (column_of r.first) w) j)) (sym p.2)
+      ∙ ap (option_map cells) (in_block (row_of r.first) h (column_of r.first) w (a i) (b i) p.0 p.1)
+      ∙ ap (λ (v : Value). Some v) (sym (cell_at cells r (a i) (b i) (omega (arith, p.0, low)) (omega (arith, p.1, far))))
+
+  line_from : IsFirstLine r l (λ cells. map (λ i. cell_in (region_of cells r) (a i) (b i)) (range_with_len 0 n)) n
+  line_from = record {
+    line = ap (λ (j : ℕ). (j == 1) || (width l == 1)) tall ∙ ap (λ (j : ℕ). (h == 1) || (j == 1)) wide ∙ is_thin;
+    values_are = λ cells.
+        ap (λ (j : ℕ). map (λ i. cell_in (region_of cells r) (a i) (b i)) (range_with_len 0 j)) (sym many)
+        ∙ counted_from cells (λ i. cell_in (region_of cells r) (a i) (b i)) (cells_of l) 0 (λ i m. let same : i ≡ 0 + i = omega arith in at_place cells i (subst (λ (j : ℕ). i < j) many m) ∙ ap (λ (j : ℕ). Some (cell_in (region_of cells r) (a j) (b j))) same);
+    count_is = many;
+    inside = λ c k. let p = within_parts l c k in within_from r c (omega (arith, p.0, spans.top_is)) (omega (arith, p.1, spans.bottom_is, h_is, low)) (omega (arith, p.2, spans.left_is)) (omega (arith, p.3, spans.right_is, w_is, far));
+  }
 
 -- ---- by the axis
 
 pub first_line : (axis : Axis) (r l : Area) → l ≡ first_cells axis r → 0 < line_count axis r → 0 < line_width axis r → IsFirstLine r l (λ cells. first_cells_in axis (region_of cells r)) (line_count axis r)
-first_line Rows = column_line
-first_line Columns = row_line
+first_line Rows r l e some w =
+    line_from r l (row_of r.last) (column_of r.first) (height r) 1 (height r) (λ i. i) (λ i. 0) e (omega (arith, some)) (omega arith) some (omega arith) (omega arith) (omega (arith, w)) (or_right (height r == 1) true refl) (omega arith) (λ i m. (m, omega arith, omega arith))
+first_line Columns r l e some w =
+    line_from r l (row_of r.first) (column_of r.last) 1 (width r) (width r) (λ i. 0) (λ i. i) e (omega arith) (omega (arith, some)) (omega arith) (omega (arith, w)) some (omega arith) (or_left true (width r == 1) refl) (omega arith) (λ i m. (omega arith, m, omega arith))

@@ -17,10 +17,10 @@ column_numbered r row k (suc n) e =
     let column_is : column_of (place row (column_of r.first)) ≡ column_of r.first = omega (arith, narrow) in
     (omega (arith, row_is, column_is, e), column_numbered r (row + 1) (k + 1) n (omega (arith, e)))
 
-pub one_row : (r : Area) → height r ≡ 1 → cells_of r ≡ run (row_of r.first) (column_of r.first) (width r)
+one_row : (r : Area) → height r ≡ 1 → cells_of r ≡ run (row_of r.first) (column_of r.first) (width r)
 one_row r h = ap (λ (n : ℕ). block (row_of r.first) n (column_of r.first) (width r)) h ∙ append-nil (run (row_of r.first) (column_of r.first) (width r))
 
-pub one_column : (r : Area) → width r ≡ 1 → cells_of r ≡ block (row_of r.first) (height r) (column_of r.first) 1
+one_column : (r : Area) → width r ≡ 1 → cells_of r ≡ block (row_of r.first) (height r) (column_of r.first) 1
 one_column r h = ap (λ (n : ℕ). block (row_of r.first) (height r) (column_of r.first) n) h
 
 -- the cells of a row or of a column are numbered by their steps

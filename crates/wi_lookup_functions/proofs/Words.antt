@@ -6,7 +6,7 @@ pub use Rattle.std.proofs.lemmas.Bool.{and_from, and_parts, cases_lt, eq-eqb, eq
 pub use Rattle.std.proofs.lemmas.Bool.Decides.{Decides-eqb, nat_tests}
 pub use Rattle.std.proofs.lemmas.Grind.{common_steps}
 pub use Rattle.std.proofs.lemmas.Int.{ints, to_z-of_z}
-pub use Rattle.std.proofs.lemmas.List.{append-nil, append_assoc, drop_all, drop_more, length-map, map-append, take_all}
+pub use Rattle.std.proofs.lemmas.List.{append-nil, append_assoc, drop_all, drop_more, length-append, length-map, map-append, take_all}
 pub use Rattle.std.proofs.lemmas.List.Folds.{list_all-map, list_all_at, list_all_more, list_any_at}
 pub use Rattle.std.proofs.lemmas.List.FromFn.{length-map-range_with_len}
 pub use Rattle.std.proofs.lemmas.List.Sums.{sum_by-cons}
@@ -42,7 +42,7 @@ pub use Rattle.wi_lookup_functions.specs.Inner.Axis.{cell_along, cell_in_line, f
 pub use Rattle.wi_lookup_functions.specs.Inner.Finding.{Finds, IsMissingIn, IsPlacedIn, Places, WhateverHeld}
 pub use Rattle.wi_lookup_functions.specs.Inner.Giving.{Agrees, Gives, IsCriterionOf, criterion_argument}
 pub use Rattle.wi_lookup_functions.specs.Inner.Laws.{empty_meets_none}
-pub use Rattle.wi_lookup_functions.specs.Inner.Lines.{first_column, first_row, is_line, steps}
+pub use Rattle.wi_lookup_functions.specs.Inner.Lines.{is_line, steps}
 pub use Rattle.wi_lookup_functions.specs.Inner.Meeting.{IsRestAfter, criterion_held, holds, holds_between_kinds, is_met, relation_of}
 pub use Rattle.wi_lookup_functions.specs.Inner.Places.{ComesAfter, IsNextPlace}
 pub use Rattle.wi_lookup_functions.specs.Inner.Products.{IsAreaError, IsMissingInAny, areas_of, product_there, sum_over, sum_through, with_factor, with_place}

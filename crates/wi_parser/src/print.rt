@@ -15,7 +15,7 @@ ghost use Rattle.wi_parser.specs.Symbol.{written_as};
 ghost use Rattle.wi_parser.specs.Tree as tree;
 ghost use Rattle.wi_parser.specs.View.{tree_of, all_of, pair_of};
 ghost use Rattle.wi_parser.specs.Spelling.{spelling_of_all};
-ghost use Rattle.wi_parser.specs.Inner.PrintedParts.{pairs_text};
+ghost use Rattle.wi_parser.specs.Inner.PrintedParts.{AppendsText, pairs_text};
 
 use crate::expr::{Corners, Expr, Operator, Pair, Reference, Sign};
 use std::alloc::AllocError;
@@ -35,9 +35,8 @@ pub(crate) fn push_formula(expr: &Expr, out: &mut String) -> Result<(), AllocErr
 // Appends the text of a tree. On an error a part of it may be there.
 #[cycle(print)]
 fn push_tree(expr: &Expr, out: &mut String) -> Result<(), AllocError>
-    ensures ok { OnOk result
-        (string_bytes out.new ≡ string_bytes out.old ++ tree_text (tree_of expr.now)) }
-    ensures kept { StartsWith (string_bytes out.new) (string_bytes out.old) }
+    ensures { AppendsText result (string_bytes out.old) (string_bytes out.new)
+        (tree_text (tree_of expr.now)) }
 {
     match expr {
         Expr::Number(x) => push_number(*x, out),
@@ -59,9 +58,8 @@ fn push_tree(expr: &Expr, out: &mut String) -> Result<(), AllocError>
 // Appends a tree in parentheses. On an error a part of it may be there.
 #[cycle(print)]
 fn push_parenthesized(inner: &Expr, out: &mut String) -> Result<(), AllocError>
-    ensures ok { OnOk result (string_bytes out.new
-        ≡ string_bytes out.old ++ tree_text (tree.parenthesized (tree_of inner.now))) }
-    ensures kept { StartsWith (string_bytes out.new) (string_bytes out.old) }
+    ensures { AppendsText result (string_bytes out.old) (string_bytes out.new)
+        (tree_text (tree.parenthesized (tree_of inner.now))) }
 {
     out.push_str("(")?;
     push_tree(inner, out)?;
@@ -71,9 +69,8 @@ fn push_parenthesized(inner: &Expr, out: &mut String) -> Result<(), AllocError>
 // Appends a sign and its operand. On an error a part of them may be there.
 #[cycle(print)]
 fn push_signed(sign: Sign, operand: &Expr, out: &mut String) -> Result<(), AllocError>
-    ensures ok { OnOk result (string_bytes out.new
-        ≡ string_bytes out.old ++ tree_text (tree.signed sign (tree_of operand.now))) }
-    ensures kept { StartsWith (string_bytes out.new) (string_bytes out.old) }
+    ensures { AppendsText result (string_bytes out.old) (string_bytes out.new)
+        (tree_text (tree.signed sign (tree_of operand.now))) }
 {
     out.push_str(sign_text(sign))?;
     push_tree(operand, out)
@@ -82,9 +79,8 @@ fn push_signed(sign: Sign, operand: &Expr, out: &mut String) -> Result<(), Alloc
 // Appends an operand and its percent mark. On an error a part of them may be there.
 #[cycle(print)]
 fn push_percent(operand: &Expr, out: &mut String) -> Result<(), AllocError>
-    ensures ok { OnOk result (string_bytes out.new
-        ≡ string_bytes out.old ++ tree_text (tree.percent (tree_of operand.now))) }
-    ensures kept { StartsWith (string_bytes out.new) (string_bytes out.old) }
+    ensures { AppendsText result (string_bytes out.old) (string_bytes out.new)
+        (tree_text (tree.percent (tree_of operand.now))) }
 {
     push_tree(operand, out)?;
     out.push_str("%")
@@ -93,9 +89,8 @@ fn push_percent(operand: &Expr, out: &mut String) -> Result<(), AllocError>
 // Appends an operator and the operand after it. On an error a part of them may be there.
 #[cycle(print)]
 fn push_operation(op: Operator, operand: &Expr, out: &mut String) -> Result<(), AllocError>
-    ensures ok { OnOk result (string_bytes out.new
-        ≡ string_bytes out.old ++ (spec.operator_text op ++ tree_text (tree_of operand.now))) }
-    ensures kept { StartsWith (string_bytes out.new) (string_bytes out.old) }
+    ensures { AppendsText result (string_bytes out.old) (string_bytes out.new)
+        (spec.operator_text op ++ tree_text (tree_of operand.now)) }
 {
     out.push_str(operator_text(op))?;
     push_tree(operand, out)
@@ -104,9 +99,8 @@ fn push_operation(op: Operator, operand: &Expr, out: &mut String) -> Result<(), 
 // Appends a call. On an error a part of it may be there.
 #[cycle(print)]
 fn push_call(name: &Text, parameters: &[Expr], out: &mut String) -> Result<(), AllocError>
-    ensures ok { OnOk result (string_bytes out.new
-        ≡ string_bytes out.old ++ tree_text (tree.call name.now (all_of parameters.now))) }
-    ensures kept { StartsWith (string_bytes out.new) (string_bytes out.old) }
+    ensures { AppendsText result (string_bytes out.old) (string_bytes out.new)
+        (tree_text (tree.call name.now (all_of parameters.now))) }
 {
     out.push_str(name.as_str())?;
     out.push_str("(")?;
@@ -116,9 +110,8 @@ fn push_call(name: &Text, parameters: &[Expr], out: &mut String) -> Result<(), A
 // Appends parameters and the parenthesis that closes. On an error a part of them may be there.
 #[cycle(print)]
 fn push_parameters(parameters: &[Expr], out: &mut String) -> Result<(), AllocError>
-    ensures ok { OnOk result (string_bytes out.new
-        ≡ string_bytes out.old ++ symbols_text (spelling_of_all (all_of parameters.now))) }
-    ensures kept { StartsWith (string_bytes out.new) (string_bytes out.old) }
+    ensures { AppendsText result (string_bytes out.old) (string_bytes out.new)
+        (symbols_text (spelling_of_all (all_of parameters.now))) }
 {
     let mut separator = "";
     for parameter in parameters {
@@ -131,8 +124,7 @@ fn push_parameters(parameters: &[Expr], out: &mut String) -> Result<(), AllocErr
 
 // Appends a text in double quotes, a quote inside doubled. On an error a part of it may be there.
 fn push_quoted(content: &str, out: &mut String) -> Result<(), AllocError>
-    ensures ok { OnOk result (string_bytes out.new ≡ string_bytes out.old ++ quoted content.now) }
-    ensures kept { StartsWith (string_bytes out.new) (string_bytes out.old) }
+    ensures { AppendsText result (string_bytes out.old) (string_bytes out.new) (quoted content.now) }
 {
     out.push_str("\"")?;
     let mut rest = content;

@@ -1,19 +1,17 @@
 -- A value is kept in one question, and for longer.
-use Rattle.wi_propagate.proofs.Words.{◌≡◌, ◌==◌, ◌<◌, ◌≤◌, ◌-◌, ◌+◌, inl, inr, ◌||◌, ◌&&◌, ℕ, Bool, true, false, cond, min, List, length, Option, Some, None, IsSome, is_some, Result, Ok, Err, OnOk, OnErr, refl, ap, sym, ◌∙◌, subst, arith, if◌then◌else◌, eqb-true, or_left, update, AllocError, Value, Replacement, same_replacements, is_itself, Key, Entries, KeptValues, HasRoom, PutsIn, PutsForGoing, PutsForOne, same_key, value_for, len_after, holds_after_keep, Sheet, same_case, GivesUpWhenFull, IsKeptFor, AreRight, Generations, generation_in, key_in, keeping, state_in}
+use Rattle.wi_propagate.proofs.Words.{◌≡◌, ◌==◌, ◌<◌, ◌≤◌, ◌-◌, ◌+◌, inl, inr, ◌||◌, ◌&&◌, ℕ, Bool, true, false, cond, min, List, length, Option, Some, None, IsSome, is_some, refl, ap, sym, ◌∙◌, subst, arith, if◌then◌else◌, eqb-true, or_left, update, Value, Replacement, same_replacements, is_itself, Key, Entries, KeptValues, HasRoom, PutsIn, PutsForGoing, PutsForOne, same_key, value_for, len_after, holds_after_keep, Sheet, same_case, GivesUpWhenFull, IsKeptFor, AreRight, Generations, generation_in, key_in, keeping, state_in}
 
--- what an accepted `keep` of kept values ensures, and what a refused one does
-pub record KeepsIn (r : Result (Unit {0}) AllocError) (m n : KeptValues) (k : Key) (v : Value) : Type 0 where
-  pub found : OnOk r (value_for n.entries k ≡ Some v)
-  pub stays : OnOk r (HasRoom m k → PutsIn m.entries n.entries k v)
-  pub goes : OnOk r (value_for m.entries k ≡ None → m.capacity ≤ length m.entries → PutsForOne m.entries n.entries k v)
-  pub len : OnOk r (length n.entries ≡ len_after m k)
-  pub going : OnOk r (PutsForGoing m n k v)
+-- what an accepted `keep` of kept values ensures
+pub record KeepsIn (m n : KeptValues) (k : Key) (v : Value) : Type 0 where
+  pub found : value_for n.entries k ≡ Some v
+  pub stays : HasRoom m k → PutsIn m.entries n.entries k v
+  pub goes : value_for m.entries k ≡ None → m.capacity ≤ length m.entries → PutsForOne m.entries n.entries k v
+  pub len : length n.entries ≡ len_after m k
+  pub going : PutsForGoing m n k v
   pub capacity : n.capacity ≡ m.capacity
-  pub err : OnErr r (n ≡ m)
 
-pub right_after : (r : Result (Unit {0}) AllocError) (s : Sheet) (edits : ℕ) (g : ℕ → ℕ) (m n : KeptValues) (k : Key) (v : Value) → KeepsIn r m n k v → IsKeptFor s edits g k v → AreRight s edits g m.entries → AreRight s edits g n.entries
-right_after (Ok x) s edits g m n k v h i a = holds_after_keep (IsKeptFor s edits g) k v i m n h.stays h.goes a
-right_after (Err x) s edits g m n k v h i a = rw h.err a
+pub right_after : (s : Sheet) (edits : ℕ) (g : ℕ → ℕ) (m n : KeptValues) (k : Key) (v : Value) → KeepsIn m n k v → IsKeptFor s edits g k v → AreRight s edits g m.entries → AreRight s edits g n.entries
+right_after s edits g m n k v h i a = holds_after_keep (IsKeptFor s edits g) k v i m n h.stays h.goes a
 
 -- keys of the present generation are one where their cases are
 pub same_here : (g : Generations) (k : Key) (c : ℕ) (w : List Replacement) → k.generation ≡ generation_in g k.cell → same_key k (key_in g c w) ≡ same_case (k.cell, k.world) (c, w)
@@ -39,35 +37,30 @@ put_is_some g old new k v e p c w =
 has_room : (m : KeptValues) (k : Key) → 1 ≤ m.capacity - length m.entries → HasRoom m k
 has_room m k h = inr (omega arith)
 
-pub kept_after : (r : Result (Unit {0}) AllocError) (g : Generations) (m n : KeptValues) (k : Key) (v : Value) → KeepsIn r m n k v → k.generation ≡ generation_in g k.cell →
-    OnOk r (1 ≤ m.capacity - length m.entries → (c : ℕ) (w : List Replacement) → is_some (value_for n.entries (key_in g c w)) ≡ (is_some (value_for m.entries (key_in g c w)) || same_case (k.cell, k.world) (c, w)))
-kept_after (Ok x) g m n k v h e = λ l. put_is_some g (value_for m.entries) (value_for n.entries) k v e (h.stays (has_room m k l))
-kept_after (Err x) g m n k v h e = tt
+pub kept_after : (g : Generations) (m n : KeptValues) (k : Key) (v : Value) → KeepsIn m n k v → k.generation ≡ generation_in g k.cell →
+    1 ≤ m.capacity - length m.entries → (c : ℕ) (w : List Replacement) → is_some (value_for n.entries (key_in g c w)) ≡ (is_some (value_for m.entries (key_in g c w)) || same_case (k.cell, k.world) (c, w))
+kept_after g m n k v h e l = put_is_some g (value_for m.entries) (value_for n.entries) k v e (h.stays (has_room m k l))
 
 -- the key that is put in is there
-pub there_after : (r : Result (Unit {0}) AllocError) (g : Generations) (n : KeptValues) (k : Key) (v : Value) → k.generation ≡ generation_in g k.cell → OnOk r (value_for n.entries k ≡ Some v) →
-    OnOk r (is_some (value_for n.entries (key_in g k.cell k.world)) ≡ true)
-there_after (Ok x) g n k v e h = ap (λ (y : ℕ). is_some (value_for n.entries (record { cell = k.cell; generation = y; world = k.world }))) (sym e) ∙ ap (λ (o : Option Value). is_some o) h
-there_after (Err x) g n k v e h = tt
+pub there_after : (g : Generations) (n : KeptValues) (k : Key) (v : Value) → k.generation ≡ generation_in g k.cell → value_for n.entries k ≡ Some v → is_some (value_for n.entries (key_in g k.cell k.world)) ≡ true
+there_after g n k v e h = ap (λ (y : ℕ). is_some (value_for n.entries (record { cell = k.cell; generation = y; world = k.world }))) (sym e) ∙ ap (λ (o : Option Value). is_some o) h
 
 -- and takes one place if it wasn't there
-pub room_after : (r : Result (Unit {0}) AllocError) (g : Generations) (m n : KeptValues) (k : Key) (v : Value) → KeepsIn r m n k v → k.generation ≡ generation_in g k.cell →
-    OnOk r (is_some (value_for m.entries (key_in g k.cell k.world)) ≡ false → 1 ≤ m.capacity - length m.entries → (n.capacity - length n.entries) + 1 ≡ m.capacity - length m.entries)
-room_after (Ok x) g m n k v h e = λ a l.
+pub room_after : (g : Generations) (m n : KeptValues) (k : Key) (v : Value) → KeepsIn m n k v → k.generation ≡ generation_in g k.cell →
+    is_some (value_for m.entries (key_in g k.cell k.world)) ≡ false → 1 ≤ m.capacity - length m.entries → (n.capacity - length n.entries) + 1 ≡ m.capacity - length m.entries
+room_after g m n k v h e a l =
     let missing : is_some (value_for m.entries k) ≡ false = ap (λ (y : ℕ). is_some (value_for m.entries (record { cell = k.cell; generation = y; world = k.world }))) e ∙ a in
     let len : length n.entries ≡ min (length m.entries + 1) m.capacity = h.len ∙ ap (λ (b : Bool). if b then length m.entries else min (length m.entries + 1) m.capacity) missing in
     let cap = h.capacity in
     omega (arith, len, cap, l)
-room_after (Err x) g m n k v h e = tt
 
 -- a key that was there is there
 pub stays_put : (es fs : Entries) (k q : Key) (v : Value) → PutsIn es fs k v → is_some (value_for es q) ≡ true → is_some (value_for fs q) ≡ true
 stays_put es fs k q v p h = ap (λ (o : Option Value). is_some o) (p q) ∙ is_some_cond (same_key k q) v (value_for es q) ∙ or_left (is_some (value_for es q)) (same_key k q) h
 
 -- none goes but for a key that comes to a full list
-pub gives_up_after : (r : Result (Unit {0}) AllocError) (s : Sheet) (edits : ℕ) (g : Generations) (es fs : Entries) (m n : KeptValues) (k : Key) (v : Value) → KeepsIn r m n k v → GivesUpWhenFull (state_in (keeping s edits g es m)) (state_in (keeping s edits g fs n))
-gives_up_after (Err x) s edits g es fs m n k v h = subst (λ (y : KeptValues). GivesUpWhenFull (state_in (keeping s edits g es m)) (state_in (keeping s edits g fs y))) (sym h.err) (record { room = omega arith; stays = λ l q i. i })
-gives_up_after (Ok x) s edits g es fs m n k v h = by_old (value_for m.entries k) refl
+pub gives_up_after : (s : Sheet) (edits : ℕ) (g : Generations) (es fs : Entries) (m n : KeptValues) (k : Key) (v : Value) → KeepsIn m n k v → GivesUpWhenFull (state_in (keeping s edits g es m)) (state_in (keeping s edits g fs n))
+gives_up_after s edits g es fs m n k v h = by_old (value_for m.entries k) refl
   where
     Lens : Option Value → Type 0
     Lens o = length n.entries ≡ (if is_some o then length m.entries else min (length m.entries + 1) m.capacity)

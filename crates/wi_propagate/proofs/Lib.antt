@@ -3,11 +3,12 @@
 -- what is owed, and `SettlingSteps`, how what is owed is noted; `ReplacedCones`, `KeptCones`.
 -- Of what is kept:
 -- `RightValues`: values that are kept stay right, over an edit, where one is kept, and where a question begins.
--- `KeepSteps`: what is so where one value is kept; over it `ValuesAtHand`, what is kept or was given up in the question, and
--- `PlaceCounts`, each value takes one place; `PutAside`, one is found that takes none.
+-- `KeepSteps`: what is so where one value is kept; over it `PlaceCounts`, each value takes one place, and `ValuesAtHand`, what is kept or was
+-- given up in the question, and what is owed of a value that is remembered; `PutAside`, one is found that takes none.
 -- `Editing`: what is so of a calculator stays so over an edit, by generations and `RightValues`.
 -- Of a question:
--- `Questions`: how it begins (`Begins`), what is kept when it ends, and that it owes what its contract says (`Owes`).
+-- `Questions`: how it begins (`Begins`), what is kept when it ends, that what always holds of the calculator holds then (`AlwaysHolds`), and that
+-- it owes what its contract says (`Owes`).
 -- `EntryQuestions`: an entry of a data table.
 -- And `Words`: all that these proofs are written in and don't say themselves: names of the library, of the crates below and of the definitions.
 pub mod EmptyCells
@@ -18,8 +19,8 @@ pub mod ReplacedCones
 pub mod KeptCones
 pub mod RightValues
 pub mod KeepSteps
-pub mod ValuesAtHand
 pub mod PlaceCounts
+pub mod ValuesAtHand
 pub mod PutAside
 pub mod Editing
 pub mod Questions

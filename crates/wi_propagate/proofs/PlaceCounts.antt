@@ -1,5 +1,5 @@
 -- Each value that is kept takes one place: of the entries one goes at most.
-use Rattle.wi_propagate.proofs.Words.{◌≡◌, ◌≤◌, ◌+◌, inl, inr, ℕ, Bool, true, false, not, cond, min, List, [], ◌∷◌, filter, length, Option, Some, None, IsSome, is_some, Result, Ok, Err, refl, ap, sym, ◌∙◌, subst, arith, if◌then◌else◌, AllByRecursion, IsDistinct, keys_of, AllocError, cases_lt, true≢false, IsDistinct-head, IsDistinct-tail, Value, Key, Entries, KeptValues, PutsForOne, same_key, value_for, key_itself, same_key_means, Sheet, IsIn, TakesPlaces, Generations, keeping, state_in}
+use Rattle.wi_propagate.proofs.Words.{◌≡◌, ◌≤◌, ◌+◌, inl, inr, ℕ, Bool, true, false, not, cond, min, List, [], ◌∷◌, filter, length, Option, Some, None, IsSome, is_some, refl, ap, sym, ◌∙◌, subst, arith, if◌then◌else◌, AllByRecursion, IsDistinct, keys_of, cases_lt, true≢false, IsDistinct-head, IsDistinct-tail, Value, Key, Entries, KeptValues, PutsForOne, same_key, value_for, key_itself, same_key_means, Sheet, IsIn, TakesPlaces, Generations, keeping, state_in}
 use Rattle.wi_propagate.proofs.KeepSteps.{KeepsIn, stays_put}
 
 -- ---- where one key alone may go
@@ -86,9 +86,8 @@ stays_but es fs k v p q e h = at (same_key k q) (p.others q)
     at true i = ap (λ (o : Option Value). is_some o) i
     at false i = ap (λ (o : Option Value). is_some o) (i ∙ ap (λ (b : Bool). cond b None (value_for es q)) e) ∙ h
 
-pub one_place_after : (r : Result (Unit {0}) AllocError) (s : Sheet) (edits : ℕ) (g : Generations) (es fs : Entries) (m n : KeptValues) (k : Key) (v : Value) → KeepsIn r m n k v → TakesPlaces (state_in (keeping s edits g es m)) (state_in (keeping s edits g fs n)) 0 1
-one_place_after (Err x) s edits g es fs m n k v h = subst (λ (y : KeptValues). TakesPlaces (state_in (keeping s edits g es m)) (state_in (keeping s edits g fs y)) 0 1) (sym h.err) (λ ks d. omega arith)
-one_place_after (Ok x) s edits g es fs m n k v h = by_old (value_for m.entries k) refl
+pub one_place_after : (s : Sheet) (edits : ℕ) (g : Generations) (es fs : Entries) (m n : KeptValues) (k : Key) (v : Value) → KeepsIn m n k v → TakesPlaces (state_in (keeping s edits g es m)) (state_in (keeping s edits g fs n)) 0 1
+one_place_after s edits g es fs m n k v h = by_old (value_for m.entries k) refl
   where
     old : Key → Bool
     old q = is_some (value_for m.entries q)

@@ -1,8 +1,8 @@
 -- A value that is found in a question and takes no place in the list: it is put among those that were given up.
-use Rattle.wi_propagate.proofs.Words.{◌≡◌, ◌≤◌, ◌⊎◌, inl, ◌||◌, ℕ, Bool, true, false, cond, List, length, Option, Some, None, IfSome, is_some, Result, Ok, Err, OnOk, OnErr, refl, ap, sym, ◌∙◌, subst, arith, or_left, option_or, AllocError, Value, Replacement, Key, Entries, PutsIn, same_key, value_for, known_then, Keeps, HasFound, generation_in, key_in, Keeping, keeping, state_in, value_in}
+use Rattle.wi_propagate.proofs.Words.{◌≡◌, ◌≤◌, ◌⊎◌, inl, ◌||◌, ℕ, Bool, true, false, cond, List, length, Option, Some, None, IfSome, is_some, Result, Ok, Err, OnOk, OnErr, refl, ap, sym, ◌∙◌, subst, arith, or_left, option_or, AllocError, Value, Replacement, Key, Entries, PutsIn, same_key, value_for, known_then, HasFound, generation_in, key_in, Keeping, keeping, state_in, value_in}
 use Rattle.wi_propagate.proofs.KeepSteps.{same_here}
 use Rattle.wi_propagate.proofs.RightValues.{told_in}
-use Rattle.wi_propagate.proofs.ValuesAtHand.{keeps_nothing, stays_found}
+use Rattle.wi_propagate.proofs.ValuesAtHand.{Remembers, keeps_nothing}
 
 found_in : (b : Bool) (v : Value) (x y : Option Value) → is_some (option_or x (cond b (Some v) y)) ≡ (is_some (option_or x y) || b)
 found_in true v None None = refl
@@ -28,14 +28,17 @@ module _ (q : Keeping) (es : Entries) (k : Key) (v : Value) (puts : PutsIn q.giv
       ap (λ (o : Option Value). is_some (option_or (value_for q.values.entries (under c w)) o)) (puts (under c w))
       ∙ found_in (same_key k (under c w)) v (value_for q.values.entries (under c w)) (value_for q.given_up (under c w))
 
-  pub keeps_aside : Keeps (state_in q) (state_in aside) k v
-  keeps_aside = record {
-    sheet = refl;
-    same = record { covers = refl; generation = refl; capacity = refl; latest = refl };
-    known = λ c w. known_in (value_for q.values.entries (under c w)) (value_for q.given_up (under c w)) (value_for es (under c w)) k (under c w) v (puts (under c w));
-    told = told_in aside;
-    places = λ ks d. omega arith;
-    gives_up = record { room = omega arith; stays = λ r j i. i };
+  pub remembers_aside : Remembers q aside k v
+  remembers_aside = record {
+    keeps = record {
+      sheet = refl;
+      same = record { covers = refl; generation = refl; capacity = refl; latest = refl };
+      known = λ c w. known_in (value_for q.values.entries (under c w)) (value_for q.given_up (under c w)) (value_for es (under c w)) k (under c w) v (puts (under c w));
+      told = told_in aside;
+      places = λ ks d. omega arith;
+      gives_up = record { room = omega arith; stays = λ r j i. i };
+    };
+    stays = λ c w i. found_then c w ∙ or_left (is_some (value_in q (under c w))) (same_key k (under c w)) i;
   }
 
   -- where the list is full, that is all that is asked
@@ -46,16 +49,13 @@ module _ (q : Keeping) (es : Entries) (k : Key) (v : Value) (puts : PutsIn q.giv
     room = λ a l. absurd (omega (arith, l, full));
   }
 
-  pub stays_aside : (c : ℕ) (w : List Replacement) → is_some (value_in q (under c w)) ≡ true → is_some (value_in aside (under c w)) ≡ true
-  stays_aside c w i = found_then c w ∙ or_left (is_some (value_in q (under c w))) (same_key k (under c w)) i
-
 -- the same of a call that may run out of memory
 module _ (r : Result (Unit {0}) AllocError) (q s : Keeping) (k : Key) (v : Value) (puts : OnOk r (PutsIn q.given_up s.given_up k v)) (same : s ≡ keeping q.sheet q.edits q.generations s.given_up q.values) where
-  pub keeps_by : OnErr r (s ≡ q) → Keeps (state_in q) (state_in s) k v
-  keeps_by err = at r puts err
+  pub remembers_by : OnErr r (s ≡ q) → Remembers q s k v
+  remembers_by err = at r puts err
     where
-      at : (y : Result (Unit {0}) AllocError) → OnOk y (PutsIn q.given_up s.given_up k v) → OnErr y (s ≡ q) → Keeps (state_in q) (state_in s) k v
-      at (Ok x) p e = subst (λ (x : Keeping). Keeps (state_in q) (state_in x) k v) (sym same) (keeps_aside q s.given_up k v p)
+      at : (y : Result (Unit {0}) AllocError) → OnOk y (PutsIn q.given_up s.given_up k v) → OnErr y (s ≡ q) → Remembers q s k v
+      at (Ok x) p e = subst (λ (x : Keeping). Remembers q x k v) (sym same) (remembers_aside q s.given_up k v p)
       at (Err x) p e = keeps_nothing q s k v e
 
   pub found_by : k.generation ≡ generation_in q.generations k.cell → q.values.capacity ≤ length q.values.entries → OnOk r (HasFound (state_in q) (state_in s) k)
@@ -64,10 +64,3 @@ module _ (r : Result (Unit {0}) AllocError) (q s : Keeping) (k : Key) (v : Value
       at : (y : Result (Unit {0}) AllocError) → OnOk y (PutsIn q.given_up s.given_up k v) → OnOk y (HasFound (state_in q) (state_in s) k)
       at (Ok x) p = subst (λ (x : Keeping). HasFound (state_in q) (state_in x) k) (sym same) (found_aside q s.given_up k v p e full)
       at (Err x) p = tt
-
-  pub stays_by : OnErr r (s ≡ q) → (c : ℕ) (w : List Replacement) → is_some (value_in q (key_in q.generations c w)) ≡ true → is_some (value_in s (key_in s.generations c w)) ≡ true
-  stays_by err = at r puts err
-    where
-      at : (y : Result (Unit {0}) AllocError) → OnOk y (PutsIn q.given_up s.given_up k v) → OnErr y (s ≡ q) → (c : ℕ) (w : List Replacement) → is_some (value_in q (key_in q.generations c w)) ≡ true → is_some (value_in s (key_in s.generations c w)) ≡ true
-      at (Ok x) p e = subst (λ (x : Keeping). (c : ℕ) (w : List Replacement) → is_some (value_in q (key_in q.generations c w)) ≡ true → is_some (value_in x (key_in x.generations c w)) ≡ true) (sym same) (stays_aside q s.given_up k v p)
-      at (Err x) p e = stays_found q s e

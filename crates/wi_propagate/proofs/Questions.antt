@@ -1,6 +1,7 @@
 -- A question asked of a calculator that keeps values.
-use Rattle.wi_propagate.proofs.Words.{◌≡◌, ◌≤◌, ◌<◌, ◌+◌, ◌-◌, ◌^◌, inl, inr, length, All, filter, not, is_some, ℕ, Bool, true, false, List, [], Option, refl, ap, sym, ◌∙◌, subst, arith, keys_of, cases_lt, true≢false, Value, Fault, Circular, Replacement, Sheet, content_of, put_all, has_formula, Counts, Stored, Key, KeptValues, value_for, circular, clash, Case, reaching, asks_circular, table_entry, IsWhatIfSettled, IsClosed, SpentOn, left_is_unkept, sum_ones, never_fall-same, spent_price, spent_unkept, cells_open, entry_circular, none_circular, MayBeRead, KeepsFound, WhereRoom, TakesNoMore, GivesUpWhenFull, NeedsNoEvaluation, IsValuedAnew, IsSameBeside, Saved, Spends, what_if_more, rests_more, none_went, Generations, generation_in, KeptSheet, key_in, stands, is_kept, unkept, gone, IsAtHand, HasRoomFor, KeepsAll, KeepsNoMore, KeepsOld, KeepsWhileRoom, AreRight, AreKeptRight, Box, Held, kept_sheet, values_in, Keeping, keeping, begun, state_in, ArePlaced, IsKeepingRight, Owes, told, or_none}
+use Rattle.wi_propagate.proofs.Words.{◌≡◌, ◌≤◌, ◌<◌, ◌+◌, ◌-◌, ◌^◌, inl, inr, length, All, filter, not, is_some, ℕ, Bool, true, false, List, [], Option, refl, ap, sym, ◌∙◌, subst, arith, keys_of, cases_lt, true≢false, Value, Fault, Circular, Replacement, Sheet, content_of, put_all, has_formula, Counts, Stored, Key, KeptValues, value_for, circular, clash, Case, reaching, asks_circular, table_entry, IsWhatIfSettled, IsClosed, SpentOn, left_is_unkept, sum_ones, never_fall-same, spent_price, spent_unkept, cells_open, entry_circular, none_circular, MayBeRead, KeepsFound, WhereRoom, TakesNoMore, GivesUpWhenFull, NeedsNoEvaluation, IsValuedAnew, IsSameBeside, Saved, Spends, what_if_more, rests_more, none_went, Generations, generation_in, KeptSheet, key_in, stands, is_kept, unkept, gone, IsAtHand, HasRoomFor, KeepsAll, KeepsNoMore, KeepsOld, KeepsWhileRoom, AreRight, AreKeptRight, Box, Held, kept_sheet, values_in, Keeping, keeping, begun, state_in, ArePlaced, IsKeepingRight, Owes, told, or_none, Some, None, IsSome, Noted, noted_in, Staging, AreEdgesOf, AreOwed, AreHeldCones, AreKeptUp, AreAllCones}
 use Rattle.wi_engine.specs.Inner.Saving as saving
+use Rattle.wi_propagate.proofs.NotedSteps.{settled_up}
 use Rattle.wi_propagate.proofs.PlaceCounts.{all_stand}
 
 -- ---- what is owed is settled first
@@ -140,6 +141,21 @@ module _ {k : KeptSheet} {q : Keeping} (e : Begins k q) (last : Keeping) (values
     stays = λ few. stays_with_room h (omega (arith, few, room_after));
     fits = fits_places h t;
   }
+
+-- ---- what always holds of the calculator, by its parts
+
+abbrev pub AlwaysHolds : Option (Box Held) → Staging → Stored → Noted → Counts → Type 0
+AlwaysHolds o graph s g n = IsSome o × AreEdgesOf graph.now s.sheet × (graph.staged ≡ None) × AreKeptRight (kept_sheet s (told s.sheet g.named) o n) × AreHeldCones s.sheet o × AreKeptUp s.sheet s.edits g
+
+-- once what is owed is settled
+pub holds_settled : (o : Option (Box Held)) (graph : Staging) (s : Stored) (old new : Noted) (n : Counts) → new.named ≡ old.named → AreOwed s.sheet (generation_in new.named) new.owed (noted_in new.named new.noted) →
+    AlwaysHolds o graph s old n → AlwaysHolds o graph s new n
+holds_settled o graph s old new n e owed h = (h.0, h.1, h.2, settled_right {s = s} e o n h.3, h.4, settled_up s.sheet s.edits old new e owed h.5)
+
+-- and once a question is answered
+pub holds_asked : (o : Option (Box Held)) (graph : Staging) (s : Stored) (g : Noted) (n counts : Counts) (q last : Keeping) (b : Box Held) → Begins (kept_sheet s (told s.sheet g.named) o n) q →
+    IsSameBeside (state_in q) (state_in last) → b.value.kept ≡ last.values → last.sheet ≡ s.sheet → IsKeepingRight last → AreAllCones last.sheet b.value.cones → AlwaysHolds o graph s g n → AlwaysHolds (Some b) graph s g counts
+holds_asked o graph s g n counts q last b e beside same sheet right cones h = (refl, h.1, h.2, right_then e last b.value.kept counts beside same sheet h.3 right, subst (λ (x : Sheet). AreAllCones x b.value.cones) sheet cones, h.5)
 
 -- ---- the value of a cell
 

@@ -1,7 +1,8 @@
 -- What is kept or was given up in a question: a value comes, and none goes.
-use Rattle.wi_propagate.proofs.Words.{◌≡◌, ◌≤◌, ◌-◌, ◌⊎◌, inl, inr, ◌||◌, ℕ, Bool, true, false, cond, nat_lt, List, [], ◌∷◌, length, Option, Some, None, IfSome, IsSome, is_some, Result, Ok, Err, OnOk, refl, ap, sym, ◌∙◌, subst, arith, if◌then◌else◌, nat_tests, lookup_from_place, slice_get_cases, update, option_or, AllocError, Value, Replacement, Key, Entries, KeptValues, HasOneEach, PutsIn, going, same_key, value_for, last_entry, same_key_means, same_key_equiv, same_case, known_still, known_then, Keeps, Generations, generation_in, key_in, Keeping, TakesOver, state_in, value_in}
-use Rattle.wi_propagate.proofs.KeepSteps.{KeepsIn, put_is_some}
-use Rattle.wi_propagate.proofs.RightValues.{told_in}
+use Rattle.wi_propagate.proofs.Words.{◌≡◌, ◌≤◌, ◌-◌, ◌⊎◌, inl, inr, ◌||◌, ℕ, Bool, true, false, cond, nat_lt, List, [], ◌∷◌, length, Option, Some, None, IfSome, IsSome, is_some, refl, ap, sym, ◌∙◌, subst, arith, if◌then◌else◌, nat_tests, lookup_from_place, slice_get_cases, update, option_or, Value, Replacement, Key, Entries, KeptValues, HasOneEach, PutsIn, going, same_key, value_for, last_entry, same_key_means, same_key_equiv, same_case, known_still, known_then, Keeps, Generations, generation_in, key_in, Keeping, TakesOver, state_in, value_in, put_all, circular, cell_value, HasFound, AreRight, Held, IsKeepingRight, keeping, Sheet}
+use Rattle.wi_propagate.proofs.KeepSteps.{KeepsIn, put_is_some, right_after, kept_after, there_after, room_after, gives_up_after}
+use Rattle.wi_propagate.proofs.PlaceCounts.{one_place_after}
+use Rattle.wi_propagate.proofs.RightValues.{told_in, found_is_kept}
 
 -- ---- the entry that goes for a new value
 
@@ -30,7 +31,7 @@ none_stands [] q l h = let z = h in cc
 none_stands (e ∷ es) q l h = absurd (omega (arith, l))
 
 -- where none goes, all that stood stands beside the new one
-none_gone : (m n : KeptValues) (k : Key) (v : Value) → KeepsIn (Ok tt) m n k v → going m k ≡ None → PutsIn m.entries n.entries k v
+none_gone : (m n : KeptValues) (k : Key) (v : Value) → KeepsIn m n k v → going m k ≡ None → PutsIn m.entries n.entries k v
 none_gone m n k v h none = at (value_for m.entries k) (nat_lt (length m.entries) m.capacity) refl refl
   where
     goes : Option Value → Bool → Option (Key × Value)
@@ -46,10 +47,6 @@ none_gone m n k v h none = at (value_for m.entries k) (nat_lt (length m.entries)
         absurd (none_stands m.entries puts.gone (no_last m.entries empty) puts.stood)
 
 -- ---- what is at hand under a key: the value that is kept, or one that was given up
-
-moved : (d : Bool) (w : Value) (x y : Option Value) → (d ≡ true → x ≡ Some w) → option_or x (cond d (Some w) y) ≡ option_or x y
-moved true w x y h = ap (λ (o : Option Value). option_or o (Some w)) (h refl) ∙ sym (ap (λ (o : Option Value). option_or o y) (h refl))
-moved false w x y h = refl
 
 came : (b : Bool) (v : Value) (x y : Option Value) → option_or (cond b (Some v) x) y ≡ cond b (Some v) (option_or x y)
 came true v x y = refl
@@ -70,16 +67,8 @@ module _ (es fs : Entries) (m n : KeptValues) (k : Key) (v : Value) (one_each : 
   stood : (e : Key × Value) → going m k ≡ Some e → (q : Key) → same_key e.0 q ≡ true → value_for m.entries q ≡ Some e.1
   stood e h q t = ap (λ (x : Key). value_for m.entries x) (sym (same_key_means e.0 q t)) ∙ going_stands m k e one_each h
 
-  -- after a refusal nothing is lost, and nothing is new
-  refused : n ≡ m → (q : Key) → after q ≡ before q
-  refused same q = ap (λ (x : KeptValues). option_or (value_for x.entries q) (value_for fs q)) same ∙ at (going m k) refl takes
-    where
-      at : (o : Option (Key × Value)) → going m k ≡ o → TakesOver o es fs → option_or (value_for m.entries q) (value_for fs q) ≡ before q
-      at None e t = ap (λ (x : Entries). option_or (value_for m.entries q) (value_for x q)) t
-      at (Some x) e t = ap (option_or (value_for m.entries q)) (t q) ∙ moved (same_key x.0 q) x.1 (value_for m.entries q) (value_for es q) (stood x e q)
-
   -- the value that came is at hand, and under every other key what was
-  accepted : KeepsIn (Ok tt) m n k v → (q : Key) → after q ≡ update same_key before k (Some v) q
+  accepted : KeepsIn m n k v → (q : Key) → after q ≡ update same_key before k (Some v) q
   accepted h q = at (going m k) refl takes
     where
       at : (o : Option (Key × Value)) → going m k ≡ o → TakesOver o es fs → after q ≡ update same_key before k (Some v) q
@@ -92,38 +81,24 @@ module _ (es fs : Entries) (m n : KeptValues) (k : Key) (v : Value) (one_each : 
 
   -- ---- so for each cell under replacements
 
-  module _ (g : Generations) where
+  module _ (g : Generations) (h : KeepsIn m n k v) where
     -- what is at hand then was at hand before, or is the value that came
-    pub known_after : (r : Result (Unit {0}) AllocError) → KeepsIn r m n k v → (c : ℕ) (w : List Replacement) →
-        IfSome (after (key_in g c w)) (λ x. (before (key_in g c w) ≡ Some x) ⊎ ((c ≡ k.cell) × (w ≡ k.world) × (x ≡ v)))
-    known_after r h c w = by r h
-      where
-        q : Key
-        q = key_in g c w
-
-        by : (y : Result (Unit {0}) AllocError) → KeepsIn y m n k v → IfSome (after q) (λ x. (before q ≡ Some x) ⊎ ((c ≡ k.cell) × (w ≡ k.world) × (x ≡ v)))
-        by (Ok x) i = known_then (before q) (after q) k q v (same_key k q) refl (accepted i q)
-        by (Err x) i = known_still (before q) (after q) k q v (refused i.err q)
+    known_after : (c : ℕ) (w : List Replacement) → IfSome (after (key_in g c w)) (λ x. (before (key_in g c w) ≡ Some x) ⊎ ((c ≡ k.cell) × (w ≡ k.world) × (x ≡ v)))
+    known_after c w = known_then (before (key_in g c w)) (after (key_in g c w)) k (key_in g c w) v (same_key k (key_in g c w)) refl (accepted h (key_in g c w))
 
     stays_some : (b : Bool) (o : Option Value) → is_some o ≡ true → is_some (cond b (Some v) o) ≡ true
-    stays_some true o h = refl
-    stays_some false o h = h
+    stays_some true o i = refl
+    stays_some false o i = i
 
     -- none is lost
-    pub stays_after : (r : Result (Unit {0}) AllocError) → KeepsIn r m n k v → (c : ℕ) (w : List Replacement) → is_some (before (key_in g c w)) ≡ true → is_some (after (key_in g c w)) ≡ true
-    stays_after (Ok x) h c w i = ap (λ (o : Option Value). is_some o) (accepted h (key_in g c w)) ∙ stays_some (same_key k (key_in g c w)) (before (key_in g c w)) i
-    stays_after (Err x) h c w i = ap (λ (o : Option Value). is_some o) (refused h.err (key_in g c w)) ∙ i
+    stays_after : (c : ℕ) (w : List Replacement) → is_some (before (key_in g c w)) ≡ true → is_some (after (key_in g c w)) ≡ true
+    stays_after c w i = ap (λ (o : Option Value). is_some o) (accepted h (key_in g c w)) ∙ stays_some (same_key k (key_in g c w)) (before (key_in g c w)) i
 
     -- and the one that came is found
-    pub found_after : (r : Result (Unit {0}) AllocError) → KeepsIn r m n k v → k.generation ≡ generation_in g k.cell →
-        OnOk r ((c : ℕ) (w : List Replacement) → is_some (after (key_in g c w)) ≡ (is_some (before (key_in g c w)) || same_case (k.cell, k.world) (c, w)))
-    found_after (Ok x) h e = put_is_some g before after k v e (accepted h)
-    found_after (Err x) h e = tt
+    found_after : k.generation ≡ generation_in g k.cell → (c : ℕ) (w : List Replacement) → is_some (after (key_in g c w)) ≡ (is_some (before (key_in g c w)) || same_case (k.cell, k.world) (c, w))
+    found_after e = put_is_some g before after k v e (accepted h)
 
--- ---- what went is given up, and where memory runs out nothing is kept
-
-abbrev pub done : Result (Unit {0}) AllocError
-done = Ok tt
+-- ---- what went is given up
 
 -- there is room for what goes
 pub room_for : (o : Option (Key × Value)) (n : ℕ) → 1 ≤ n → IfSome o (λ _. 1 ≤ n)
@@ -133,15 +108,71 @@ room_for (Some e) n h = h
 pub given_over : {o p : Option (Key × Value)} {es fs : Entries} (gs : Entries) → p ≡ o → fs ≡ es → TakesOver p fs gs → TakesOver o es gs
 given_over {o} {p} {es} {fs} gs e f h = subst (λ (x : Option (Key × Value)). TakesOver x es gs) e (subst (λ (x : Entries). TakesOver p x gs) f h)
 
-pub keeps_nothing : (q r : Keeping) (k : Key) (v : Value) → r ≡ q → Keeps (state_in q) (state_in r) k v
-keeps_nothing q r k v e = subst (λ (x : Keeping). Keeps (state_in q) (state_in x) k v) (sym e) (record {
-  sheet = refl;
-  same = record { covers = refl; generation = refl; capacity = refl; latest = refl };
-  known = λ c w. known_still (value_in q (key_in q.generations c w)) (value_in q (key_in q.generations c w)) k (key_in q.generations c w) v refl;
-  told = told_in q;
-  places = λ ks d. omega arith;
-  gives_up = record { room = omega arith; stays = λ r j i. i };
+-- ---- what is owed of a value that is remembered
+
+-- it alone may be new, and none that was found is lost
+pub record Remembers (old new : Keeping) (k : Key) (v : Value) : Type 0 where
+  pub keeps : Keeps (state_in old) (state_in new) k v
+  pub stays : (c : ℕ) (w : List Replacement) → is_some (value_in old (key_in old.generations c w)) ≡ true → is_some (value_in new (key_in new.generations c w)) ≡ true
+
+-- where memory runs out nothing is kept
+pub keeps_nothing : (q r : Keeping) (k : Key) (v : Value) → r ≡ q → Remembers q r k v
+keeps_nothing q r k v e = subst (λ (x : Keeping). Remembers q x k v) (sym e) (record {
+  keeps = record {
+    sheet = refl;
+    same = record { covers = refl; generation = refl; capacity = refl; latest = refl };
+    known = λ c w. known_still (value_in q (key_in q.generations c w)) (value_in q (key_in q.generations c w)) k (key_in q.generations c w) v refl;
+    told = told_in q;
+    places = λ ks d. omega arith;
+    gives_up = record { room = omega arith; stays = λ r j i. i };
+  };
+  stays = λ c w i. i;
 })
 
-pub stays_found : (q r : Keeping) → r ≡ q → (c : ℕ) (w : List Replacement) → is_some (value_in q (key_in q.generations c w)) ≡ true → is_some (value_in r (key_in r.generations c w)) ≡ true
-stays_found q r e c w h = subst (λ (x : Keeping). is_some (value_in x (key_in x.generations c w)) ≡ true) (sym e) h
+-- what is owed of one that is kept, where the one that went for it is given up
+pub record KeptAtHand (old new : Keeping) (k : Key) (v : Value) : Type 0 where
+  pub remembers : Remembers old new k v
+  pub found : HasFound (state_in old) (state_in new) k
+  pub there : is_some (value_for new.values.entries (key_in new.generations k.cell k.world)) ≡ true
+
+-- what is held in a question, as the code reads it
+module _ (s : Sheet) (edits : ℕ) (g : Generations) (held was : Held) (q : Keeping) (read : held ≡ was) (view : keeping s edits g was.given_up.entries was.kept ≡ q) (k : Key) (v : Value) where
+  seen : keeping s edits g held.given_up.entries held.kept ≡ q
+  seen = ap (λ (x : Held). keeping s edits g x.given_up.entries x.kept) read ∙ view
+
+  -- memory ran out
+  pub out_of_memory : (fs : Entries) (n : KeptValues) → fs ≡ held.given_up.entries → n ≡ held.kept → Remembers q (keeping s edits g fs n) k v
+  out_of_memory fs n e f =
+      keeps_nothing q (keeping s edits g fs n) k v (ap (λ (x : KeptValues). keeping s edits g fs x) f ∙ ap (λ (x : Entries). keeping s edits g x held.kept) e ∙ seen)
+
+  -- the value is kept
+  module _ (n : KeptValues) (h : KeepsIn held.kept n k v) (generation : k.generation ≡ generation_in q.generations k.cell) where
+    present : k.generation ≡ generation_in g k.cell
+    present = generation ∙ ap (λ (x : Keeping). generation_in x.generations k.cell) (sym seen)
+
+    pub kept_at_hand : (fs : Entries) → HasOneEach held.kept.entries → TakesOver (going held.kept k) held.given_up.entries fs → KeptAtHand q (keeping s edits g fs n) k v
+    kept_at_hand fs one_each takes =
+        let es = held.given_up.entries in
+        let m = held.kept in
+        subst (λ (x : Keeping). KeptAtHand x (keeping s edits g fs n) k v) seen (record {
+          remembers = record {
+            keeps = record {
+              sheet = refl;
+              same = record { covers = refl; generation = refl; capacity = h.capacity; latest = refl };
+              known = known_after es fs m n k v one_each takes g h;
+              told = told_in (keeping s edits g fs n);
+              places = one_place_after s edits g es fs m n k v h;
+              gives_up = gives_up_after s edits g es fs m n k v h;
+            };
+            stays = stays_after es fs m n k v one_each takes g h;
+          };
+          found = record { found = found_after es fs m n k v one_each takes g h present; kept = kept_after g m n k v h present; room = room_after g m n k v h present };
+          there = there_after g n k v present h.found;
+        })
+
+    pub keeps_right : (fs : Entries) → IsKeepingRight (keeping s edits g was.given_up.entries was.kept) → circular q.sheet k.cell ≡ false → v ≡ cell_value (put_all q.sheet k.world) k.cell → IsKeepingRight (keeping s edits g fs n)
+    keeps_right fs r o e =
+        let leaf : circular s k.cell ≡ false = ap (λ (x : Keeping). circular x.sheet k.cell) seen ∙ o in
+        let is : v ≡ cell_value (put_all s k.world) k.cell = e ∙ ap (λ (x : Keeping). cell_value (put_all x.sheet k.world) k.cell) (sym seen) in
+        let right : AreRight s edits (generation_in g) held.kept.entries = subst (λ (x : Held). AreRight s edits (generation_in g) x.kept.entries) (sym read) r.right in
+        record { past = r.past; right = right_after s edits (generation_in g) held.kept n k v h (found_is_kept s edits (generation_in g) k v r.past leaf present is) right }

@@ -29,7 +29,7 @@ pub use Rattle.wi_cache.specs.Entries.{Entries, HasOneEach, HasRoom, KeptValues,
 pub use Rattle.wi_cache.specs.Hashed.{same_key_means}
 pub use Rattle.wi_cache.specs.declared.key.Key.{Key}
 pub use Rattle.wi_engine.proofs.Ledger.{spends_err, spends_then, spends_weaken, where_then}
-pub use Rattle.wi_engine.proofs.Places.{has_found, known_still, known_then, none_went}
+pub use Rattle.wi_engine.proofs.Places.{known_still, known_then, none_went}
 pub use Rattle.wi_engine.specs.Inner.Frames.{MayBeRead}
 pub use Rattle.wi_engine.specs.Inner.Keeps.{HasFound, Keeps}
 pub use Rattle.wi_engine.specs.Inner.MemoState.{IsMemoOf, IsTold, MemoState}
@@ -77,9 +77,11 @@ pub use Rattle.wi_sheet.proofs.Locality.{others_do_not_count, value_same}
 pub use Rattle.wi_sheet.proofs.Marks.{formulas_and_cells, others_unmoved}
 pub use Rattle.wi_sheet.proofs.Members.{IsIn}
 pub use Rattle.wi_sheet.proofs.Overrides.{or_none, put_alone, reaching_in_order, reaching_suffices, replaced_world, same_for_reached, what_if_in_order, with_what_if_value}
+pub use Rattle.wi_sheet.proofs.PlainCells.{plain_cell, put_cell}
+pub use Rattle.wi_sheet.proofs.PutOrders.{left_there, put_there}
+pub use Rattle.wi_sheet.proofs.Puts.{plain}
 pub use Rattle.wi_sheet.proofs.RestsUnder.{rests_stay}
 pub use Rattle.wi_sheet.proofs.SettledTables.{all_more, rests_more, what_if_more}
-pub use Rattle.wi_sheet.proofs.StandingCells.{found_where_replaced, no_formula_put, shows_content}
 pub use Rattle.wi_sheet.proofs.Steps.{put_circular_back, put_not_circular, reads_circular, shown_circular, shown_value, value_step}
 pub use Rattle.wi_sheet.proofs.TableEntries.{cells_open, entry_circular, entry_has, entry_shown, none_circular, table_closed, test_of_cells}
 pub use Rattle.wi_sheet.specs.CellValue.{cell_value, replacements}

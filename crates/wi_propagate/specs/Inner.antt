@@ -5,3 +5,4 @@ pub mod Keeping
 pub mod Owes
 pub mod Noted
 pub mod Settling
+pub mod Standing

@@ -26,7 +26,7 @@ use crate::generations::Generations;
 use crate::held::{Held, hold_over_edit, take_held};
 use crate::keeping::Keeping;
 use crate::last_worlds::LastWorlds;
-use crate::standing::standing_value;
+use crate::standing::{Standing, standing_value};
 use crate::table_entry::open_entry;
 use std::alloc::{AllocError, Global};
 use std::marker::Model;
@@ -185,9 +185,10 @@ impl KeptCalculator {
         if self.graph.is_circular(at) {
             return Ok(Value::Fault(ErrorKind::Circular));
         }
-        if let Some(value) = standing_value(self.alloc, &self.store, put, at)? {
-            return Ok(value);
-        }
+        let formula = match standing_value(self.alloc, &self.store, put, at)? {
+            Standing::Value(value) => return Ok(value),
+            Standing::Formula(formula) => formula,
+        };
         let world = self.worlds.world_for(self.alloc, put)?;
         self.generations.settle(&self.graph)?;
         self.widest = self.widest.max(put.len());
@@ -205,7 +206,7 @@ impl KeptCalculator {
             meter: self.meter,
             pool: mem::replace(&mut self.pool, Pool::new(self.alloc)),
         };
-        let result = question.value(&self.store, &world, at);
+        let result = question.formula_value(&self.store, &world, at, formula);
         self.meter = question.meter;
         self.pool = question.pool;
         self.held = Some(question.memo.into_held());

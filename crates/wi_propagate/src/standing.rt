@@ -1,46 +1,40 @@
-//! What a cell shows that neither a formula nor a replacement gives.
+//! What a cell shows that no formula gives.
 
-ghost use Rattle.std.specs.Prelude.{◌≡◌, false, IfOk, IfSome};
-ghost use Rattle.wi_values.specs.Replacements.{IsInOrder, is_replaced};
-ghost use Rattle.wi_parser.specs.Sheet.{content_of, has_formula, put_all};
-ghost use Rattle.wi_graph.specs.Circular.{circular};
-ghost use Rattle.wi_sheet.specs.Shown as show;
+ghost use Rattle.std.specs.Prelude.{IfOk};
+ghost use Rattle.wi_values.specs.Replacements.{IsInOrder};
+ghost use Rattle.wi_parser.specs.Sheet.{put_all};
+ghost use Rattle.wi_propagate.specs.Inner.Standing.{IsStandingOf};
 
 use std::alloc::{AllocError, Global};
-use wi_parser::Content;
+use wi_parser::{Content, Formula};
 use wi_store::Store;
 use wi_values::{Address, Replacement, Value};
 use wi_worlds::value_at;
 
-/// What a cell shows that has no formula and is not replaced, and of any other none. The work grows with the logarithms of the
-/// count of replacements and of the count of occupied cells.
-pub(crate) fn standing_value(
-    alloc: Global,
-    store: &Store,
-    put: &[Replacement],
-    at: Address,
-) -> Result<Option<Value>, AllocError>
-    requires order { IsInOrder put.now }
-    requires open_cell { circular store.now.sheet at ≡ false }
-    ensures value { IfOk result (λ o. IfSome o (λ v. v ≡ show.shown store.now.sheet put.now at)) }
-    ensures no_formula { IfOk result
-        (λ o. IfSome o (λ _.
-        has_formula (content_of (put_all store.now.sheet put.now) at) ≡ false)) }
-{
-    if is_replaced(put, at) {
-        return Ok(None);
-    }
-    match store.get(at) {
-        None => Ok(Some(Value::Empty)),
-        Some(Content::Constant(value)) => Ok(Some(value.copy(alloc)?)),
-        Some(Content::Formula(_)) => Ok(None),
-    }
+/// What a cell shows where no formula gives it, or else its formula.
+#[derive(Drop)]
+pub enum Standing<'a> {
+    Value(Value),
+    Formula(&'a Formula),
 }
 
-// Whether one of the replacements, which stand in order, is of a cell.
-fn is_replaced(put: &[Replacement], at: Address) -> bool
+/// What a cell shows under replacements where it is replaced or has no formula, and else its formula, so that what stands there
+/// is looked at once. The work grows with the logarithms of the count of replacements and of the count of occupied cells.
+pub(crate) fn standing_value<'a>(
+    alloc: Global,
+    store: &'a Store,
+    put: &[Replacement],
+    at: Address,
+) -> Result<Standing<'a>, AllocError>
     requires { IsInOrder put.now }
-    ensures { result ≡ is_replaced put.now at }
+    ensures { IfOk result (IsStandingOf (put_all store.now.sheet put.now) at) }
 {
-    value_at(put, at).is_some()
+    if let Some(value) = value_at(put, at) {
+        return Ok(Standing::Value(value.copy(alloc)?));
+    }
+    match store.get(at) {
+        None => Ok(Standing::Value(Value::Empty)),
+        Some(Content::Constant(value)) => Ok(Standing::Value(value.copy(alloc)?)),
+        Some(Content::Formula(formula)) => Ok(Standing::Formula(formula)),
+    }
 }

@@ -40,9 +40,9 @@ pub(crate) fn table_entry(
         (λ v. v ≡ table.table_entry store.now.sheet put.now formula_cell pairs.now) }
 
     // No more than what the entry demands is evaluated, also where memory runs out.
-    ensures within { let cases = entry_demanded store.now.sheet put.now formula_cell pairs.now in
-        NeverFall meter.new (plus meter.old (price store.now.sheet cases)) }
-    ensures counts { NeverFall meter.old meter.new }
+    ensures spends { let cases = entry_demanded store.now.sheet put.now formula_cell pairs.now in
+        NeverFall meter.old meter.new
+        × NeverFall meter.new (plus meter.old (price store.now.sheet cases)) }
 {
     let cells = valued_cells(alloc, formula_cell, pairs)?;
     let Some(order) = reached_from(alloc, store, &cells)? else {

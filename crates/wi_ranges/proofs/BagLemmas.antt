@@ -1,5 +1,5 @@
 -- Laws of the bag that the pieces tell, and of the pieces of a pair put in or taken out.
-use Rattle.wi_ranges.proofs.Words.{◌≡◌, ℕ, ◌+◌, ◌-◌, ◌<◌, ◌≤◌, Bool, true, false, ◌&&◌, cond, not, length, List, refl, sym, ap, subst, ◌∙◌, arith, nat_lt, if◌then◌else◌, nat_cmp, ordering_then, is_eq, Less, Equal, Greater, Ordering, is_at, and-true, IsStrictlySortedBy, true≢false, and_right, and_parts, cond-true, cond-false, ltb-false, lt-ltb, nat_tests, btree_set_from_contains, Block, RangePair, Numbered, blocks_in, blocks_of, first_row, Bag, pair_cmp, is_same, count_of, HasOneMore, HasOneLess, AreWhole, Gains, HasPieces, IsIndexed, KeepsOtherPieces, LacksPieces, Piece, bag_of, has_piece, is_among, is_one, is_piece, piece_cmp}
+use Rattle.wi_ranges.proofs.Words.{◌≡◌, ℕ, ◌+◌, ◌-◌, ◌<◌, ◌≤◌, Bool, true, false, ◌&&◌, cond, not, length, List, refl, sym, ap, subst, ◌∙◌, arith, nat_lt, if◌then◌else◌, nat_cmp, ordering_then, is_eq, Less, Equal, Greater, Ordering, is_at, and-true, IsStrictlySortedBy, true≢false, and_right, and_parts, cond-true, cond-false, ltb-false, lt-ltb, nat_tests, btree_set_from_contains, Block, RangePair, Numbered, blocks_in, blocks_of, first_row, Bag, pair_cmp, is_same, count_of, HasOneMore, HasOneLess, AreWhole, Gains, HasPieces, IsIndexed, KeepsOtherPieces, LacksPieces, Piece, bag_of, has_piece, is_among, is_one, is_piece, piece_cmp, Ok, Err, AllocError, MayAdd, PutsPieces, TakesPieces}
 use Rattle.wi_ranges.proofs.Exact.{same_is, same_self, one_is, exact_piece, piece_total}
 use Rattle.wi_ranges.proofs.Sums.{gains_count, gains_length, gains_pieces, has_block}
 
@@ -154,22 +154,21 @@ pub lost : (m : Numbered) (x : Block) (ks ls : List Piece) → blocks_in m.pair 
 lost m x ks ls e w n g =
     subst (λ (zs : List Block). Gains zs m ls ks) e (g (subst (λ (zs : List Block). HasPieces zs m ks) (sym e) (has_last m (bag_of ks) ks w.0 n)))
 
-pub whole_more : (m : Numbered) (x : Block) (ks ls : List Piece) → blocks_in m.pair x ≡ blocks_of m.pair → first_row m.pair < 1048576 → AreWhole ks → count_of (bag_of ks) m.pair ≡ m.number
-    → Gains (blocks_of m.pair) m ks ls → HasPieces (blocks_in m.pair x) m ls → ((q : Piece) → is_piece (blocks_in m.pair x) m q ≡ false → has_piece ls q ≡ has_piece ks q)
-    → (IsStrictlySortedBy piece_cmp ks → IsStrictlySortedBy piece_cmp ls) → AreWhole ls
-whole_more m x ks ls e l w n g put kept order =
+pub whole_more : {u : Unit {0}} (m : Numbered) (x : Block) (ks ls : List Piece) → blocks_in m.pair x ≡ blocks_of m.pair → first_row m.pair < 1048576 → AreWhole ks → count_of (bag_of ks) m.pair ≡ m.number
+    → Gains (blocks_of m.pair) m ks ls → PutsPieces (blocks_in m.pair x) m (Ok u) ks ls → AreWhole ls
+whole_more m x ks ls e l w n g p =
     let long = gains_length m (blocks_of m.pair) ks ls g in (
-      indexed_more m (bag_of ks) (bag_of ls) ks ls w.0 n (has_one_more m ks ls l g) (subst (λ (zs : List Block). HasPieces zs m ls) e put) (others_kept m x ks ls e kept),
-      (order w.1.0, omega (arith, w.1.1, long, gains_pieces m ks ls l g)),
+      indexed_more m (bag_of ks) (bag_of ls) ks ls w.0 n (has_one_more m ks ls l g) (subst (λ (zs : List Block). HasPieces zs m ls) e p.put) (others_kept m x ks ls e p.kept),
+      (p.order w.1.0, omega (arith, w.1.1, long, gains_pieces m ks ls l g)),
     )
 
 pub whole_less : (m : Numbered) (x : Block) (ks ls : List Piece) → blocks_in m.pair x ≡ blocks_of m.pair → first_row m.pair < 1048576 → AreWhole ks → count_of (bag_of ks) m.pair ≡ m.number + 1
-    → Gains (blocks_of m.pair) m ls ks → LacksPieces (blocks_in m.pair x) m ls → ((q : Piece) → is_piece (blocks_in m.pair x) m q ≡ false → has_piece ls q ≡ has_piece ks q)
-    → (IsStrictlySortedBy piece_cmp ks → IsStrictlySortedBy piece_cmp ls) → AreWhole ls
-whole_less m x ks ls e l w n g taken kept order =
+    → TakesPieces (blocks_in m.pair x) m ks ls → AreWhole ls
+whole_less m x ks ls e l w n t =
+    let g = lost m x ks ls e w n t.loses in
     let long = gains_length m (blocks_of m.pair) ls ks g in (
-      indexed_less m (bag_of ks) (bag_of ls) ks ls w.0 n (has_one_less m ks ls l g) (lacks_all m x ls e taken) (others_kept m x ks ls e kept),
-      (order w.1.0, omega (arith, w.1.1, long, gains_pieces m ls ks l g)),
+      indexed_less m (bag_of ks) (bag_of ls) ks ls w.0 n (has_one_less m ks ls l g) (lacks_all m x ls e t.taken) (others_kept m x ks ls e t.kept),
+      (t.order w.1.0, omega (arith, w.1.1, long, gains_pieces m ls ks l g)),
     )
 
 -- ---- a pair added by a number, where there may be one of this number
@@ -181,29 +180,26 @@ all_there : (m : Numbered) (x : Block) (ks : List Piece) → blocks_in m.pair x 
 all_there m x ks e w h = subst (λ (zs : List Block). HasPieces zs m ks) (sym e) (piece_of_m m (bag_of ks) ks true w.0 h)
 
 -- what is put in where it is already changes nothing
-stays : (m : Numbered) (x : Block) (ks ls : List Piece) → AreWhole ks → HasPieces (blocks_in m.pair x) m ks
-    → ((q : Piece) → is_piece (blocks_in m.pair x) m q ≡ false → has_piece ls q ≡ has_piece ks q) → ((q : Piece) → has_piece ks q ≡ true → has_piece ls q ≡ true)
-    → (IsStrictlySortedBy piece_cmp ks → IsStrictlySortedBy piece_cmp ls) → ls ≡ ks
-stays m x ks ls w has kept put order = btree_set_from_contains piece_total (record { keys = ls }) (record { keys = ks }) (order w.1.0) w.1.0 same exact_piece
+stays : {u : Unit {0}} (m : Numbered) (x : Block) (ks ls : List Piece) → AreWhole ks → HasPieces (blocks_in m.pair x) m ks → PutsPieces (blocks_in m.pair x) m (Ok u) ks ls → ls ≡ ks
+stays m x ks ls w has p = btree_set_from_contains piece_total (record { keys = ls }) (record { keys = ks }) (p.order w.1.0) w.1.0 same exact_piece
   where
     by : (q : Piece) (b : Bool) → is_piece (blocks_in m.pair x) m q ≡ b → has_piece ls q ≡ has_piece ks q
-    by q true h = put q (has q h) ∙ sym (has q h)
-    by q false h = kept q h
+    by q true h = p.stays q (has q h) ∙ sym (has q h)
+    by q false h = p.kept q h
 
     same : (q : Piece) → has_piece ls q ≡ has_piece ks q
     same q = by q (is_piece (blocks_in m.pair x) m q) refl
 
-pub refused : (m : Numbered) (x : Block) (ks ls us : List Piece) → blocks_in m.pair x ≡ blocks_of m.pair → AreWhole ks → m.number ≤ count_of (bag_of ks) m.pair
-    → (HasPieces (blocks_in m.pair x) m ks → ⊥) → ((q : Piece) → is_piece (blocks_in m.pair x) m q ≡ false → has_piece ls q ≡ has_piece ks q) → LacksPieces (blocks_in m.pair x) m us
-    → ((q : Piece) → is_piece (blocks_in m.pair x) m q ≡ false → has_piece us q ≡ has_piece ls q) → IsStrictlySortedBy piece_cmp us → us ≡ ks
-refused m x ks ls us e w l absent kept taken back order = by (nat_lt m.number (count_of (bag_of ks) m.pair)) refl
+pub refused : {y : AllocError} (m : Numbered) (x : Block) (ks ls us : List Piece) → MayAdd m x ks → PutsPieces (blocks_in m.pair x) m (Err y) ks ls → TakesPieces (blocks_in m.pair x) m ls us → us ≡ ks
+refused m x ks ls us may p t = by (nat_lt m.number (count_of (bag_of ks) m.pair)) refl
   where
     by : (b : Bool) → nat_lt m.number (count_of (bag_of ks) m.pair) ≡ b → us ≡ ks
-    by true h = absurd (absent (all_there m x ks e w h))
+    by true h = absurd (p.absent (all_there m x ks may.blocks may.whole h))
     by false h =
-        let n = next_count m.number (count_of (bag_of ks) m.pair) l h in
-        let i = indexed_back m (bag_of ks) ks us w.0 n (lacks_all m x us e taken) (λ q t. others_kept m x ls us e back q t ∙ others_kept m x ks ls e kept q t) in
-        sym (same_pieces (bag_of ks) ks us w.0 i w.1.0 order)
+        let w = may.whole in
+        let n = next_count m.number (count_of (bag_of ks) m.pair) may.number h in
+        let i = indexed_back m (bag_of ks) ks us w.0 n (lacks_all m x us may.blocks t.taken) (λ q o. others_kept m x ls us may.blocks t.kept q o ∙ others_kept m x ks ls may.blocks p.kept q o) in
+        sym (same_pieces (bag_of ks) ks us w.0 i w.1.0 (t.order (p.order w.1.0)))
 
 -- what is known once the pair m is put in: whether it was next, by the lengths, and what the bag is
 pub record IsPut (m : Numbered) (ks ls : List Piece) : Type 0 where
@@ -212,29 +208,27 @@ pub record IsPut (m : Numbered) (ks ls : List Piece) : Type 0 where
   pub same : nat_lt (length ks) (length ls) ≡ false → bag_of ls ≡ bag_of ks
   pub whole : AreWhole ls
 
-pub put : (m : Numbered) (x : Block) (ks ls : List Piece) → blocks_in m.pair x ≡ blocks_of m.pair → first_row m.pair < 1048576 → AreWhole ks → m.number ≤ count_of (bag_of ks) m.pair
-    → HasPieces (blocks_in m.pair x) m ls → ((q : Piece) → is_piece (blocks_in m.pair x) m q ≡ false → has_piece ls q ≡ has_piece ks q) → ((q : Piece) → has_piece ks q ≡ true → has_piece ls q ≡ true)
-    → (IsStrictlySortedBy piece_cmp ks → IsStrictlySortedBy piece_cmp ls) → (LacksPieces (blocks_in m.pair x) m ks → Gains (blocks_in m.pair x) m ks ls) → IsPut m ks ls
-put m x ks ls e r w l has kept grown order more = by (nat_lt m.number (count_of (bag_of ks) m.pair)) refl
+pub put : {u : Unit {0}} (m : Numbered) (x : Block) (ks ls : List Piece) → MayAdd m x ks → PutsPieces (blocks_in m.pair x) m (Ok u) ks ls → IsPut m ks ls
+put m x ks ls may p = by (nat_lt m.number (count_of (bag_of ks) m.pair)) refl
   where
     by : (b : Bool) → nat_lt m.number (count_of (bag_of ks) m.pair) ≡ b → IsPut m ks ls
     by true h =
-        let s = stays m x ks ls w (all_there m x ks e w h) kept grown order in
+        let s = stays m x ks ls may.whole (all_there m x ks may.blocks may.whole h) p in
         let short : nat_lt (length ks) (length ls) ≡ false = ap (λ (us : List Piece). nat_lt (length ks) (length us)) s ∙ never_below (length ks) in
         record {
           longer = short ∙ sym (ap not h);
           more = λ t. absurd (true≢false (sym t ∙ short));
           same = λ t. ap bag_of s;
-          whole = subst AreWhole (sym s) w;
+          whole = subst AreWhole (sym s) may.whole;
         }
     by false h =
-        let n = next_count m.number (count_of (bag_of ks) m.pair) l h in
-        let g = gained m x ks ls e w n more in
-        let long : length ks < length ls = omega (arith, gains_length m (blocks_of m.pair) ks ls g, has_block m.pair r) in
+        let n = next_count m.number (count_of (bag_of ks) m.pair) may.number h in
+        let g = gained m x ks ls may.blocks may.whole n p.gains in
+        let long : length ks < length ls = omega (arith, gains_length m (blocks_of m.pair) ks ls g, has_block m.pair may.row) in
         let grows : nat_lt (length ks) (length ls) ≡ true = lt-ltb (length ks) (length ls) long in
         record {
           longer = grows ∙ sym (ap not h);
-          more = λ t. has_one_more m ks ls r g;
+          more = λ t. has_one_more m ks ls may.row g;
           same = λ t. absurd (true≢false (sym grows ∙ t));
-          whole = whole_more m x ks ls e r w n g has kept order;
+          whole = whole_more m x ks ls may.blocks may.row may.whole n g p;
         }

@@ -1,6 +1,5 @@
 -- The readers of one cell: one more, one less, and whether a cell is among them.
-use Rattle.wi_ranges.proofs.Words.{◌≡◌, ◌↔◌, ◌==◌, ℕ, ◌<◌, ◌≤◌, ◌+◌, Bool, true, false, ◌||◌, cond, List, [], ◌∷◌, ◌++◌, length, take, get_or, Option, Some, None, refl, sym, ap, subst, ◌∙◌, arith, nat_lt, unwrap_or, position, position_or_len, swap_remove, IsPermutation, true≢false, or_from, ltb-false, ltb-true, eqb-true, eq-eqb, ne_eqb, list_any_more, passes_at_first, fails_before_first, IsPermutation-cons, IsPermutation-trans, IsPermutation-to_front, IsPermutation-middle, IsPermutation-swap_remove, or-false, or_assoc, turn_test, is_one_of}
-use Rattle.wi_ranges.proofs.RisingLemmas.{has_nowhere}
+use Rattle.wi_ranges.proofs.Words.{◌≡◌, ◌↔◌, ◌==◌, ℕ, ◌<◌, ◌≤◌, ◌+◌, Bool, true, false, ◌||◌, cond, List, [], ◌∷◌, ◌++◌, length, take, get_or, Option, Some, None, refl, sym, ap, subst, ◌∙◌, arith, nat_lt, unwrap_or, position, position_or_len, swap_remove, IsPermutation, true≢false, or_from, ltb-false, ltb-true, eqb-true, eq-eqb, ne_eqb, list_any_more, passes_at_first, fails_before_first, IsPermutation-cons, IsPermutation-trans, IsPermutation-to_front, IsPermutation-middle, IsPermutation-swap_remove, or-false, or_assoc, turn_test, is_one_of, has_nowhere}
 
 -- ---- where a cell stands
 

@@ -1,5 +1,5 @@
 -- Laws of cells in row-major order in a list, and others beside it.
-use Rattle.wi_ranges.proofs.Words.{has_key, ◌≡◌, ◌==◌, ◌<◌, ◌≤◌, ◌-◌, ◌||◌, ◌++◌, ◌↔◌, ℕ, zero, suc, nat_lt, eqb, Bool, true, false, not, cond, List, [], ◌∷◌, Some, Result, Ok, Err, MatchResult, ⊎_elim, length, get_or, slice_get, refl, sym, ap, ◌∙◌, subst, arith, nat_cmp, Less, nat_cmp_total, is_ok, AllByRecursion, Contains, dedup, IsStrictlyIncreasing, IsBinarySearchResult, IsPermutation, is_at, BTreeSet, contains, append-nil, Contains-dedup_nat, Contains-from_dedup, exact_unsigned, btree_set_contains_iff, true≢false, eq-eqb, ne_eqb, or_right, cases_lt, ltb-true, false_from_ne_true, nat_tests, list_any-append, or-false, searched, Contains-permutation, IsPermutation-sym, sorted_head, sorted_tail, sorted_from_strictly_increasing, IsStrictlyIncreasing-from_sorted, non_decreasing_from_sorted, cmp_before, below_from_Less, less_from_both, at_earlier, at_same, is_at-eq, turn_test, is_one_of, as_set, ends_before, StandApart}
+use Rattle.wi_ranges.proofs.Words.{has_key, ◌≡◌, ◌==◌, ◌-◌, ◌||◌, ◌++◌, ◌↔◌, ℕ, nat_lt, eqb, Bool, true, false, not, cond, List, [], ◌∷◌, Some, length, slice_get, refl, sym, ap, ◌∙◌, subst, arith, nat_cmp, Less, nat_cmp_total, AllByRecursion, Contains, dedup, IsStrictlyIncreasing, IsPermutation, is_at, BTreeSet, contains, append-nil, Contains-dedup_nat, Contains-from_dedup, exact_unsigned, btree_set_contains_iff, true≢false, or_right, ltb-true, false_from_ne_true, nat_tests, list_any-append, or-false, Contains-permutation, IsPermutation-sym, sorted_head, sorted_tail, sorted_from_strictly_increasing, IsStrictlyIncreasing-from_sorted, cmp_before, below_from_Less, less_from_both, at_earlier, at_same, is_at-eq, turn_test, is_one_of, as_set, ends_before, StandApart}
 use Rattle.std.specs.List.Sorted.{IsStrictlySortedBy}
 
 -- ---- the last of a list
@@ -13,26 +13,6 @@ last_tells [] x c h = cc
 last_tells (y ∷ ys) x c h =
     let count : length (y ∷ ys) - 1 ≡ length ys = omega arith in
     at_end y ys x c (sym (h ∙ ap (slice_get (y ∷ ys)) count))
-
--- ---- a search in a list
-
-has_from_place : (xs : List ℕ) (i c : ℕ) → i < length xs → get_or xs i 0 ≡ c → is_one_of xs c ≡ true
-has_from_place [] i c l e = absurd (omega (arith, l))
-has_from_place (x ∷ xs) zero c l e = ap (λ b. b || is_one_of xs c) (eq-eqb x c e)
-has_from_place (x ∷ xs) (suc i) c l e = or_right _ _ (has_from_place xs i c (omega (arith, l)) e)
-
-pub has_nowhere : (xs : List ℕ) (c : ℕ) → ((k : ℕ) → k < length xs → get_or xs k 0 ≡ c → ⊥) → is_one_of xs c ≡ false
-has_nowhere [] c h = refl
-has_nowhere (x ∷ xs) c h =
-    ap (λ b. b || is_one_of xs c) (ne_eqb x c (h 0 (omega arith))) ∙ has_nowhere xs c (λ k l e. h (suc k) (omega (arith, l)) e)
-
-pub search_tells : (xs : List ℕ) (c : ℕ) (r : Result ℕ ℕ) → IsStrictlyIncreasing xs → IsBinarySearchResult (λ y. nat_cmp y c) xs r → is_ok r ≡ is_one_of xs c
-search_tells xs c r order h = by r (searched xs c r h (λ i j l m. non_decreasing_from_sorted xs (sorted_from_strictly_increasing xs order) i j 0 l m))
-  where
-    by : (s : Result ℕ ℕ) → MatchResult s (λ i. (i < length xs) × (get_or xs i 0 ≡ c))
-        (λ i. (i ≤ length xs) × ((k : ℕ) → k < i → get_or xs k 0 < c) × ((k : ℕ) → i ≤ k → k < length xs → c < get_or xs k 0)) → is_ok s ≡ is_one_of xs c
-    by (Ok i) f = sym (has_from_place xs i c f.0 f.1)
-    by (Err i) f = sym (has_nowhere xs c (λ k l e. ⊎_elim (λ m. omega (arith, f.1 k m, e)) (λ m. omega (arith, f.2 k m l, e)) (cases_lt k i)))
 
 -- ---- a cell behind a list
 

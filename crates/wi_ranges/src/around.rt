@@ -12,28 +12,9 @@ pub(crate) fn with_area(around: &Option<Rect>, area: Rect) -> Rect
     ensures others { (a : ℕ) → has_cell around.now a ≡ true → is_within result a ≡ true }
 {
     match around {
-        Some(around) => joined(*around, area),
+        Some(around) => around.around(area),
         None => area,
     }
-}
-
-/// The least rectangle that has each cell of two.
-fn joined(one: Rect, other: Rect) -> Rect
-    ensures one { (a : ℕ) → is_within one a ≡ true → is_within result a ≡ true }
-    ensures other { (a : ℕ) → is_within other a ≡ true → is_within result a ≡ true }
-{
-    let first = one.first();
-    let last = one.last();
-    Rect::new(
-        Address::at(
-            first.row().min(other.first().row()),
-            first.column().min(other.first().column()),
-        ),
-        Address::at(
-            last.row().max(other.last().row()),
-            last.column().max(other.last().column()),
-        ),
-    )
 }
 
 /// Whether there is a rectangle, and it has the cell.

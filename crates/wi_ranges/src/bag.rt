@@ -1,10 +1,9 @@
 //! Pairs put in and taken out at their blocks, equal ones by their numbers.
 
-ghost use Rattle.std.specs.Prelude.{◌≡◌, ◌+◌, ◌^◌, ◌≤◌, ◌<◌, true, false, not, nat_lt, IsTrue, IfOk, OnOk, OnErr};
-ghost use Rattle.wi_values.specs.Address.{rows};
-ghost use Rattle.wi_ranges.specs.Blocks.{blocks_in, blocks_of, first_row};
-ghost use Rattle.wi_ranges.specs.Bag.{HasOneMore, HasOneLess, count_of};
-ghost use Rattle.wi_ranges.specs.Inner.Index.{AreWhole, bag_of, is_among, is_at_block};
+ghost use Rattle.std.specs.Prelude.{◌≡◌, true};
+ghost use Rattle.wi_ranges.specs.Blocks.{blocks_of};
+ghost use Rattle.wi_ranges.specs.Bag.{HasOneLess, count_of};
+ghost use Rattle.wi_ranges.specs.Inner.Index.{AddsNumbered, AddsPair, AreWhole, MayAdd, bag_of, is_among, is_at_block};
 
 use crate::block::Block;
 use crate::pair::{Numbered, RangePair};
@@ -48,19 +47,8 @@ fn add_numbered(
     numbered: &Numbered,
     around: &Block,
 ) -> Result<bool, AllocError>
-    requires whole { AreWhole pieces.old.keys }
-    requires number { numbered.now.number ≤ count_of (bag_of pieces.old.keys) numbered.now.pair }
-    requires blocks { blocks_in numbered.now.pair around.now ≡ blocks_of numbered.now.pair }
-    requires on_sheet { around.now.first + 2 ^ around.now.level ≤ rows }
-    requires row { first_row numbered.now.pair < rows }
-    ensures added { IfOk result (λ added. added
-        ≡ not (nat_lt numbered.now.number (count_of (bag_of pieces.old.keys) numbered.now.pair))) }
-    ensures more { IfOk result (λ added. IsTrue added
-        → HasOneMore numbered.now.pair (bag_of pieces.old.keys) (bag_of pieces.new.keys)) }
-    ensures same { IfOk result
-        (λ added. added ≡ false → bag_of pieces.new.keys ≡ bag_of pieces.old.keys) }
-    ensures whole { AreWhole pieces.new.keys }
-    ensures err { OnErr result (bag_of pieces.new.keys ≡ bag_of pieces.old.keys) }
+    requires { MayAdd numbered.now around.now pieces.old.keys }
+    ensures { AddsNumbered numbered.now result pieces.old.keys pieces.new.keys }
 {
     let before = pieces.len();
     match put_in(pieces, numbered, around) {
@@ -75,10 +63,7 @@ fn add_numbered(
 /// Adds a pair. On an error all is as before.
 pub(crate) fn add_pair(pieces: &mut Pieces, pair: &RangePair) -> Result<(), AllocError>
     requires { AreWhole pieces.old.keys }
-    ensures more { OnOk result
-        (HasOneMore pair.now (bag_of pieces.old.keys) (bag_of pieces.new.keys)) }
-    ensures whole { AreWhole pieces.new.keys }
-    ensures err { OnErr result (bag_of pieces.new.keys ≡ bag_of pieces.old.keys) }
+    ensures { AddsPair pair.now result pieces.old.keys pieces.new.keys }
 {
     let around = Block::around(pair);
     let first = Numbered {

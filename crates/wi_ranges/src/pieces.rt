@@ -1,10 +1,9 @@
 //! The pieces of pairs: a pair stands in the index at each of its blocks.
 
-ghost use Rattle.std.specs.Prelude.{◌≡◌, ◌+◌, ◌^◌, ◌≤◌, true, false, OnOk, OnErr};
-ghost use Rattle.std.specs.List.Sorted.{IsStrictlySortedBy};
+ghost use Rattle.std.specs.Prelude.{◌+◌, ◌^◌, ◌≤◌};
 ghost use Rattle.wi_values.specs.Address.{rows};
 ghost use Rattle.wi_ranges.specs.Blocks.{blocks_in};
-ghost use Rattle.wi_ranges.specs.Inner.Index.{Piece, Gains, HasPieces, LacksPieces, piece_cmp, has_piece, is_piece};
+ghost use Rattle.wi_ranges.specs.Inner.Index.{PutsPieces, TakesPieces};
 
 use crate::block::Block;
 use crate::pair::Numbered;
@@ -21,21 +20,8 @@ pub(crate) fn put_in(
     block: &Block,
 ) -> Result<(), AllocError>
     requires { block.now.first + 2 ^ block.now.level ≤ rows }
-    ensures put { OnOk result
-        (HasPieces (blocks_in numbered.now.pair block.now) numbered.now pieces.new.keys) }
-    ensures kept { (q : Piece)
-        → is_piece (blocks_in numbered.now.pair block.now) numbered.now q ≡ false
-        → has_piece pieces.new.keys q ≡ has_piece pieces.old.keys q }
-    ensures stays { (q : Piece) → has_piece pieces.old.keys q ≡ true
-        → has_piece pieces.new.keys q ≡ true }
-    ensures order { IsStrictlySortedBy piece_cmp pieces.old.keys
-        → IsStrictlySortedBy piece_cmp pieces.new.keys }
-    ensures absent { OnErr result
-        (HasPieces (blocks_in numbered.now.pair block.now) numbered.now pieces.old.keys → ⊥) }
-    ensures gains { OnOk result
-        (LacksPieces (blocks_in numbered.now.pair block.now) numbered.now pieces.old.keys
-        → Gains (blocks_in numbered.now.pair block.now) numbered.now
-        pieces.old.keys pieces.new.keys) }
+    ensures { PutsPieces (blocks_in numbered.now.pair block.now) numbered.now result
+        pieces.old.keys pieces.new.keys }
 {
     if block.lies_within(&numbered.pair) {
         pieces.insert((*block, *numbered))?;
@@ -49,18 +35,8 @@ pub(crate) fn put_in(
 /// Takes a pair out at each of its blocks within a block.
 pub(crate) fn take_out(pieces: &mut Pieces, numbered: &Numbered, block: &Block)
     requires { block.now.first + 2 ^ block.now.level ≤ rows }
-    ensures taken { LacksPieces
-        (blocks_in numbered.now.pair block.now) numbered.now pieces.new.keys }
-    ensures kept { (q : Piece)
-        → is_piece (blocks_in numbered.now.pair block.now) numbered.now q ≡ false
-        → has_piece pieces.new.keys q ≡ has_piece pieces.old.keys q }
-    ensures gone { (q : Piece) → has_piece pieces.old.keys q ≡ false
-        → has_piece pieces.new.keys q ≡ false }
-    ensures order { IsStrictlySortedBy piece_cmp pieces.old.keys
-        → IsStrictlySortedBy piece_cmp pieces.new.keys }
-    ensures loses { HasPieces (blocks_in numbered.now.pair block.now) numbered.now pieces.old.keys
-        → Gains (blocks_in numbered.now.pair block.now) numbered.now
-        pieces.new.keys pieces.old.keys }
+    ensures { TakesPieces (blocks_in numbered.now.pair block.now) numbered.now
+        pieces.old.keys pieces.new.keys }
 {
     if block.lies_within(&numbered.pair) {
         let _ = pieces.remove(&(*block, *numbered));

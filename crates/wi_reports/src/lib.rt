@@ -14,4 +14,4 @@ pub use compare::{Sides, push_comparison};
 pub use contents::push_content;
 pub use export::push_export;
 pub use rows::push_rows;
-pub use table::{DataTable, push_table};
+pub use table::{DataTable, SecondInput, push_table};

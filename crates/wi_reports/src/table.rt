@@ -13,6 +13,7 @@ ghost use Rattle.wi_reports.specs.Inner.Parts.{pairs_at, table_row};
 
 use crate::texts::{push_text_of, push_text_under, push_texts};
 use std::alloc::{AllocError, Global};
+use std::marker::Model;
 use wi_csv::push_record;
 use wi_propagate::Calculator;
 use wi_values::{Address, Rect, Replacement};
@@ -26,8 +27,38 @@ pub struct DataTable {
     pub input: Address,
     /// The cells whose values take the input's place, one below the other.
     pub column: Rect,
-    /// A second input, and the cells whose values take its place, side by side.
-    pub second: Option<(Address, Rect)>,
+    pub second: Option<SecondInput>,
+}
+
+/// A second input of a data table, seen as a pair with the cells whose values take its place.
+#[derive(Clone, Copy)]
+pub struct SecondInput {
+    input: Address,
+    /// These cells stand side by side.
+    row: Rect,
+}
+
+impl Model for SecondInput {
+    ghost use Rattle.std.specs.Prelude.{ℕ};
+    ghost use Rattle.wi_values.specs.Address.{Area};
+
+    ghost Value = { ℕ × Area };
+
+    ghost view = { λ s. (s.input, s.row) };
+
+    ghost inverse = { λ p. record { input = p.0; row = p.1 } };
+}
+
+impl SecondInput {
+    /// The one of a pair, where there is one.
+    pub fn from_pair(pair: Option<(Address, Rect)>) -> Option<SecondInput>
+        ensures { result ≡ pair }
+    {
+        match pair {
+            Some((input, row)) => Some(SecondInput { input, row }),
+            None => None,
+        }
+    }
 }
 
 impl DataTable {
@@ -54,7 +85,7 @@ impl DataTable {
     {
         match self.second {
             None => true,
-            Some((_, cells)) => cells.is_row(),
+            Some(second) => second.row.is_row(),
         }
     }
 
@@ -64,7 +95,7 @@ impl DataTable {
     {
         match self.second {
             None => 1,
-            Some((_, cells)) => cells.size(),
+            Some(second) => second.row.size(),
         }
     }
 }
@@ -114,8 +145,8 @@ fn push_all<C: Calculator>(
     ensures kept { StartsWith out.new.items out.old.items }
     ensures same { C.stored calculator.new ≡ C.stored calculator.old }
 {
-    if let Some((_, cells)) = table.second {
-        push_head(alloc, calculator, put, cells, out)?;
+    if let Some(second) = table.second {
+        push_head(alloc, calculator, put, second.row, out)?;
     }
     push_rows(alloc, calculator, put, table, out)
 }
@@ -214,14 +245,14 @@ fn push_entries<C: Calculator>(
             let pairs = [(table.input, x)];
             push_entry(alloc, calculator, put, table.formula_cell, &pairs, texts)
         }
-        Some((second, cells)) => {
+        Some(second) => {
             let given = TableRow {
                 formula_cell: table.formula_cell,
                 input: table.input,
                 x,
-                second,
+                second: second.input,
             };
-            push_row_entries(alloc, calculator, put, &given, cells, texts)
+            push_row_entries(alloc, calculator, put, &given, second.row, texts)
         }
     }
 }

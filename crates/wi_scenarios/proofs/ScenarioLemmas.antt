@@ -1,5 +1,5 @@
 -- What commands about scenarios answer.
-use Rattle.wi_scenarios.proofs.Words.{◌≡◌, ◌↔◌, ℕ, Bool, true, false, not, ◌||◌, List, [], ◌∷◌, length, Option, Some, None, Result, Ok, Err, refl, sym, ap, ◌∙◌, subst, arith, IsErrOf, is_some, IsErrAnd, err_from_is_err_and, Value, FieldFault, imported, imported_exactly, has_scenario, scenario_for, with_scenario, with_own, without_own, is_full, lacks, would_loop, based_on, Refusal, Memory, NoScenario, TooMany, TooLong, Loop, using_scenario, State, current_session, with_current, Answer, Serves, field_refusal, no_cause, when, answer, replacement_by, put_answer, take_away_step, IsScenarioStep, base_step, use_step}
+use Rattle.wi_scenarios.proofs.Words.{◌≡◌, ◌↔◌, ℕ, Bool, true, false, not, ◌||◌, List, [], ◌∷◌, length, Option, Some, None, Result, Ok, Err, refl, sym, ap, ◌∙◌, subst, arith, IsErrOf, is_some, IsErrAnd, err_from_is_err_and, Value, FieldFault, imported, imported_exactly, has_scenario, scenario_for, with_scenario, with_own, without_own, is_full, lacks, would_loop, based_on, Refusal, Memory, NoScenario, TooMany, TooLong, Loop, using_scenario, State, current_session, with_current, Answer, Serves, field_refusal, no_cause, when, answer, replacement_by, put_answer, take_away_step, IsScenarioStep, base_step, use_step, inl, on_err, Sheet, Stored, Desk, state_of, IsSound, ServesSound, MakesSound, AllocError}
 use Rattle.wi_values.specs.declared.import.FieldFault.TheVariants as field
 use Rattle.wi_scenarios.proofs.AnswerLemmas.{serves_as}
 
@@ -12,6 +12,35 @@ lacked step done r s t e k same =
     let found = err_from_is_err_and r k in
     subst (λ (x : Result (Unit {0}) Refusal). Serves (λ a. step ≡ a) x s t []) (sym found.1)
     (subst (λ (x : Refusal). Serves (λ a. step ≡ a) (Err x) s t []) (sym found.2) (record { answer = Ok done; is_answer = e; grows = refl }, same, refl))
+
+-- ---- what a command leaves
+
+-- a call that changed nothing
+pub nothing_done : {marked : Sheet → List ℕ → ℕ → Bool} {IsAnswer : Answer → Type 0} {stored : Stored} {d : Desk} (r : Result (Unit {0}) Refusal) → IsSound marked stored d
+    → Serves IsAnswer r (state_of stored d) (state_of stored d) [] → ServesSound marked IsAnswer r stored d d
+nothing_done r h e = record { step = e; adds = λ i a l k. inl k; refused = on_err r refl; sound = h }
+
+-- a call that ran out of memory before it changed anything, and one that did so in the call that makes the change
+pub lacked_first : {marked : Sheet → List ℕ → ℕ → Bool} {stored : Stored} {d : Desk} (step : Answer) (done : State × List ℕ) (r : Result (Unit {0}) Refusal) → IsSound marked stored d → step ≡ Ok done
+    → IsErrAnd r (λ e. e ≡ Memory) → ServesSound marked (λ a. step ≡ a) r stored d d
+lacked_first {marked} {stored} {d} step done r h e k = nothing_done r h (lacked step done r (state_of stored d) (state_of stored d) e k refl)
+
+pub lacked_last : {marked : Sheet → List ℕ → ℕ → Bool} {x : AllocError} {stored : Stored} {made : State} {old new : Desk} (step : Answer) (done : State × List ℕ) (r : Result (Unit {0}) Refusal) → step ≡ Ok done
+    → IsErrAnd r (λ e. e ≡ Memory) → MakesSound marked (Err x) stored made old new → ServesSound marked (λ a. step ≡ a) r stored old new
+lacked_last {marked} {x} {stored} {made} {old} {new} step done r e k w =
+    record { step = lacked step done r (state_of stored old) (state_of stored new) e k w.kept; adds = w.adds; refused = on_err r w.refused; sound = w.sound }
+
+-- a call that made the change
+pub done_with : {marked : Sheet → List ℕ → ℕ → Bool} {u : Unit {0}} {stored : Stored} {made : State} {old new : Desk} (step : Answer) (next : State) → step ≡ Ok (next, []) → made ≡ next
+    → MakesSound marked (Ok u) stored made old new → ServesSound marked (λ a. step ≡ a) (Ok tt) stored old new
+done_with step next e same w =
+    record { step = e ∙ ap (λ (t : State). Ok (t, [])) (sym (w.state ∙ same)); adds = w.adds; refused = tt; sound = w.sound }
+
+-- each answer to the one is an answer to the other
+pub served_as : {marked : Sheet → List ℕ → ℕ → Bool} {IsOne IsOther : Answer → Type 0} {r : Result (Unit {0}) Refusal} {stored : Stored} {old new : Desk} → ServesSound marked IsOne r stored old new
+    → ((a : Answer) → IsOne a → IsOther a) → ServesSound marked IsOther r stored old new
+served_as {marked} {IsOne} {IsOther} {r} {stored} {old} {new} h f =
+    record { step = serves_as IsOne IsOther f r (state_of stored old) (state_of stored new) [] h.step; adds = h.adds; refused = h.refused; sound = h.sound }
 
 -- ---- answers, by their causes
 
@@ -68,23 +97,13 @@ unread s t name at text got fault r e was long k same =
 
 -- ---- a text that isn't empty
 
-put_step : (s : State) (name : List ℕ) (at : ℕ) (text : List ℕ) (a : Answer) → (length text ≡ 0 → ⊥) → put_answer s name at (imported text) ≡ a → IsScenarioStep s name at text a
+pub put_step : (s : State) (name : List ℕ) (at : ℕ) (text : List ℕ) (a : Answer) → (length text ≡ 0 → ⊥) → put_answer s name at (imported text) ≡ a → IsScenarioStep s name at text a
 put_step s name at [] a h e = absurd (h refl)
 put_step s name at (b ∷ bs) a h e = record { value = imported (b ∷ bs); is_value = (imported_exactly (b ∷ bs) (imported (b ∷ bs))).1 refl; answered = e }
 
-empty_step : (s : State) (name : List ℕ) (at : ℕ) (text : List ℕ) (a : Answer) → length text ≡ 0 → take_away_step s name at ≡ a → IsScenarioStep s name at text a
+pub empty_step : (s : State) (name : List ℕ) (at : ℕ) (text : List ℕ) (a : Answer) → length text ≡ 0 → take_away_step s name at ≡ a → IsScenarioStep s name at text a
 empty_step s name at [] a h e = e
 empty_step s name at (b ∷ bs) a h e = absurd (omega (arith, h))
-
-pub put_served : (s t : State) (name : List ℕ) (at : ℕ) (text : List ℕ) (r : Result (Unit {0}) Refusal) → (length text ≡ 0 → ⊥)
-    → Serves (λ a. put_answer s name at (imported text) ≡ a) r s t [] → Serves (IsScenarioStep s name at text) r s t []
-put_served s t name at text r h k =
-    serves_as (λ a. put_answer s name at (imported text) ≡ a) (IsScenarioStep s name at text) (λ a e. put_step s name at text a h e) r s t [] k
-
-pub taken_served : (s t : State) (name : List ℕ) (at : ℕ) (text : List ℕ) (r : Result (Unit {0}) Refusal) → length text ≡ 0
-    → Serves (λ a. take_away_step s name at ≡ a) r s t [] → Serves (IsScenarioStep s name at text) r s t []
-taken_served s t name at text r h k =
-    serves_as (λ a. take_away_step s name at ≡ a) (IsScenarioStep s name at text) (λ a e. empty_step s name at text a h e) r s t [] k
 
 -- ---- bases, and which scenario is used
 

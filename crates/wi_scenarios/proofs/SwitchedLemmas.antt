@@ -1,5 +1,5 @@
 -- What holds after a session was switched: the pending cells that were added are marked, and of all others the picture is right.
-use Rattle.wi_scenarios.proofs.Words.{◌≡◌, ◌≢◌, ◌==◌, arith, ◌⊎◌, inl, inr, ℕ, ◌<◌, ◌≤◌, Bool, true, false, ◌||◌, List, [], length, Option, refl, sym, ap, ◌∙◌, subst, slice_index_or, slice_set, or-false, false≢true, or_left, or_parts, or_cases, nat_tests, get_or-set_same, get_or-set_other, length-set, Value, Replacement, Sheet, Stored, Scenario, effective, value_in, is_one_of, Session, new_session, max_sessions, using_scenario, Roster, session_at, pending_of, vacant_of, State, IsMarked, IsTouched, AddsOnly, SameForOthers, Desk, state_of, pending_in, AreCovered, AreClosed, IsSound, Differs, HasRoom, HasRoomFor}
+use Rattle.wi_scenarios.proofs.Words.{◌≡◌, ◌≢◌, ◌==◌, arith, ◌⊎◌, inl, inr, ℕ, ◌<◌, ◌≤◌, Bool, true, false, ◌||◌, List, [], length, Option, refl, sym, ap, ◌∙◌, subst, slice_index_or, slice_set, or-false, false≢true, or_left, or_parts, or_cases, nat_tests, get_or-set_same, get_or-set_other, length-set, Value, Replacement, Sheet, Stored, Scenario, effective, value_in, is_one_of, Session, new_session, max_sessions, using_scenario, Roster, session_at, pending_of, vacant_of, State, IsMarked, IsTouched, AddsOnly, SameForOthers, Desk, state_of, pending_in, AreCovered, AreClosed, IsSound, Differs, HasRoom, HasRoomFor, Ok, Err, AllocError, MakesSound}
 
 -- ---- nothing is switched
 
@@ -72,6 +72,17 @@ module _ (marked : Sheet → List ℕ → ℕ → Bool) (stored : Stored) (d e :
         | inl there ↦ inl there
         | inr new ↦ inr (marked_there i a ((w.room i l).marks a new))
       ]
+
+-- what a call leaves that made a switch, and one that made nothing
+pub made_switched : {marked : Sheet → List ℕ → ℕ → Bool} {u : Unit {0}} {stored : Stored} {d e : Desk} {vacant : ℕ → List ℕ} (made : State) → IsSwitch marked stored d e vacant → state_of stored e ≡ made
+    → IsSound marked stored d → MakesSound marked (Ok u) stored made d e
+made_switched {marked} {u} {stored} {d} {e} {vacant} made w is h =
+    record { state = is; kept = tt; adds = switched_adds marked stored d e vacant w; refused = tt; sound = switched_sound marked stored d e vacant w h }
+
+pub made_nothing : {marked : Sheet → List ℕ → ℕ → Bool} {x : AllocError} {stored : Stored} {d : Desk} (made : State) (e : Desk) → IsSound marked stored d → state_of stored e ≡ state_of stored d
+    → e.sessions.pending ≡ d.sessions.pending → ((i : ℕ) → vacant_of e.sessions i ≡ []) → MakesSound marked (Err x) stored made d e
+made_nothing {marked} {x} {stored} {d} made e h same pending none =
+    record { state = tt; kept = same; adds = adds_none marked (state_of stored d) (state_of stored e) (pending_in d) (pending_in e) pending; refused = pending; sound = sound_again stored d e h same pending none }
 
 -- where there is room for one session alone
 pub switched_others : (marked : Sheet → List ℕ → ℕ → Bool) (stored : Stored) (d e : Desk) (vacant : ℕ → List ℕ) → IsSwitch marked stored d e vacant

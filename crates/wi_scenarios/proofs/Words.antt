@@ -21,6 +21,7 @@ pub use Rattle.std.specs.Option.{option_copied, option_or}
 pub use Rattle.std.specs.Prelude.{IfOk, IfSome, IsErrOf, MatchResult, codes, filter, is_some, nat_le, nat_lt, option_map}
 pub use Rattle.std.specs.Result.{IsErrAnd}
 pub use Rattle.std.specs.Str.{bytes_eq}
+pub use Rattle.std.specs.declared.alloc.AllocError.{AllocError}
 pub use Rattle.wi_csv.proofs.ReadAgain.{read_again}
 pub use Rattle.wi_csv.specs.Records.{recs}
 pub use Rattle.wi_csv.specs.Row.{row}
@@ -73,7 +74,7 @@ pub use Rattle.wi_scenarios.specs.Fill.{columns_between, copied, copy_to, fill_e
 pub use Rattle.wi_scenarios.specs.Formula.{formula_step}
 pub use Rattle.wi_scenarios.specs.Inner.Copies.{AreCopies, CopiesAs, HasNoCopies}
 pub use Rattle.wi_scenarios.specs.Inner.Editing.{AreMarked, Commits, HasRooms, MayFail, SameBeside}
-pub use Rattle.wi_scenarios.specs.Inner.Held.{AreClosed, AreCovered, IsClosed, IsSound, IsUpToDate, pending_in, state_of}
+pub use Rattle.wi_scenarios.specs.Inner.Held.{AreClosed, AreCovered, IsClosed, IsSound, IsUpToDate, MakesSound, ServesSound, pending_in, state_of}
 pub use Rattle.wi_scenarios.specs.Inner.Switch.{AreDiffering, Differs, HasRoom, HasRoomFor, differing, same_option}
 pub use Rattle.wi_scenarios.specs.Inner.Told.{IsTold}
 pub use Rattle.wi_scenarios.specs.Laws.{HasScenarioChanged, IsEdited, Leaves, is_changes_call, is_forced_call, named_by_call}

@@ -1,13 +1,11 @@
 //! The command `base`: bases a scenario on another, or on none.
 
-ghost use Rattle.std.specs.Prelude.{◌≡◌, ◌||◌, true, not, [], IfOk, OnErr};
+ghost use Rattle.std.specs.Prelude.{◌≡◌, ◌||◌, true, not, IfOk};
 ghost use Rattle.std.specs.Option.{option_copied};
 ghost use Rattle.wi_scenario_list.specs.Scenarios.{has_scenario, scenario_for, with_scenario};
 ghost use Rattle.wi_scenario_list.specs.Bases.{lacks, would_loop, based_on};
-ghost use Rattle.wi_scenarios.specs.Answer.{Serves};
 ghost use Rattle.wi_scenarios.specs.Base.{base_step};
-ghost use Rattle.wi_scenarios.specs.Pending.{AddsOnly};
-ghost use Rattle.wi_scenarios.specs.Inner.Held.{state_of, pending_in, IsSound};
+ghost use Rattle.wi_scenarios.specs.Inner.Held.{state_of, IsSound, ServesSound};
 
 use crate::desk::Desk;
 use crate::refusal::Refusal;
@@ -26,13 +24,9 @@ pub(crate) fn base<C: Calculator>(
     other: Option<&str>,
 ) -> Result<(), Refusal>
     requires { IsSound C.marked (C.stored calculator.now) desk.old }
-    ensures step { let old = state_of (C.stored calculator.now) desk.old in
-        Serves (λ a. base_step old name.now (option_copied other.entry) ≡ a)
-        result old (state_of (C.stored calculator.now) desk.new) [] }
-    ensures adds { AddsOnly C.marked ([]) (state_of (C.stored calculator.now) desk.old)
-        (state_of (C.stored calculator.now) desk.new) (pending_in desk.old) (pending_in desk.new) }
-    ensures refused { OnErr result (pending_in desk.new ≡ pending_in desk.old) }
-    ensures sound { IsSound C.marked (C.stored calculator.now) desk.new }
+    ensures { let old = state_of (C.stored calculator.now) desk.old in
+        ServesSound C.marked (λ a. base_step old name.now (option_copied other.entry) ≡ a)
+        result (C.stored calculator.now) desk.old desk.new }
 {
     if is_any_missing(&desk.scenarios, name, other) {
         return Err(Refusal::NoScenario);

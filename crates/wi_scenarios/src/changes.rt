@@ -17,8 +17,9 @@ use wi_reports::{find_changes, push_changes};
 use wi_sessions::Change;
 
 /// Appends a record for each cell that has changed since the current session was last shown what has. Only its pending cells
-/// are looked at. The work is that of `Scenarios::effective`, of `value` for each of them, and of `Picture::apply` for those that have
-/// changed. Where no cell is pending, none of this is done, and no memory is taken.
+/// are looked at. The calculator is asked once for each of them; beside that the work grows with what the session's scenario puts in,
+/// with the length of the records, and with the changes, some look-ups in the picture for each. Where no cell is pending, none of
+/// this is done, and no memory is taken.
 pub(crate) fn changes<C: Calculator>(
     alloc: Global,
     calculator: &mut C,

@@ -26,7 +26,8 @@ pub(crate) struct Compared<'a> {
     pub second: Option<&'a str>,
 }
 
-/// Appends a record for each cell of a rectangle whose values under two scenarios differ. The work is that of `push_comparison`.
+/// Appends a record for each cell of a rectangle whose values under two scenarios differ. The calculator is asked twice for each cell;
+/// beside that the work grows with what both scenarios put in and with the length of the two texts of each cell.
 pub(crate) fn compare<C: Calculator>(
     alloc: Global,
     calculator: &mut C,

@@ -24,8 +24,9 @@ use wi_values::{Address, Rect};
 /// Edits the sheet, where each of some cells gets a content or none, and notes in the log which rectangles the edit names; the cells
 /// that may show something else then are pending for each session. The contents are taken out of their list. An edit that isn't forced
 /// is refused as `Stale` where it names a cell that another session has edited since the current one was last shown what has changed.
-/// The work is that of `catch_up`, of `first_stale`, of `mark_beyond` the cells that are pending for each session, of `apply`, and for
-/// each session of the rooms for marked cells.
+/// The work grows with the edits of others that the log hasn't noted or the current session hasn't seen yet, with the edited cells and
+/// those that read them, and with those that depend on the edited ones and aren't pending for each session; where several cells read
+/// something new, or a cycle may be closed or opened, with all that depend on them.
 pub(crate) fn apply_edit<C: Calculator>(
     alloc: Global,
     calculator: &mut C,
@@ -45,7 +46,8 @@ pub(crate) fn apply_edit<C: Calculator>(
     ensures refused { OnErr result (pending_in desk.new ≡ pending_in desk.old) }
     ensures sound { IsSound C.marked (C.stored calculator.new) desk.new }
 {
-    desk.log.catch_up(desk.current as u32)?;
+    let session = desk.session();
+    desk.log.catch_up(session)?;
     edit_caught_up(alloc, calculator, desk, named, contents, force)
 }
 
@@ -118,7 +120,7 @@ fn first_stale(desk: &Desk, named: &[Rect], force: bool) -> Option<Address>
         return None;
     }
     let seen = desk.sessions.seen(desk.current);
-    desk.log.first_stale(desk.current as u32, seen, named)
+    desk.log.first_stale(desk.session(), seen, named)
 }
 
 /// The cells that may show something else once some cells get these contents, of those that are pending for each session perhaps not
@@ -175,14 +177,9 @@ fn edit_with_rooms<C: Calculator>(
         (record { session = desk.old.current; cells = named })
         result (C.stored calculator.old) (C.stored calculator.new) desk.old.log desk.new.log }
 {
+    let session = desk.session();
     make_rooms(&mut desk.sessions, marked)?;
-    commit(
-        calculator,
-        &mut desk.log,
-        desk.current as u32,
-        named,
-        contents,
-    )
+    commit(calculator, &mut desk.log, session, named, contents)
 }
 
 /// Makes room for cells in the list of each session for which they aren't pending. On an error a part of the rooms may be there.

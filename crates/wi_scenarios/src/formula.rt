@@ -4,8 +4,8 @@ ghost use Rattle.std.specs.Prelude.{◌≡◌, ◌++◌, ℕ, List};
 ghost use Rattle.wi_scenarios.specs.Answer.{Serves};
 ghost use Rattle.wi_scenarios.specs.Formula.{formula_step};
 ghost use Rattle.wi_scenarios.specs.Inner.Held.{state_of};
+ghost use Rattle.wi_scenarios.specs.declared.desk.Desk.{Desk};
 
-use crate::desk::Desk;
 use crate::refusal::Refusal;
 use std::alloc::Global;
 use wi_propagate::Calculator;
@@ -16,15 +16,13 @@ use wi_values::Address;
 pub(crate) fn formula<C: Calculator>(
     alloc: Global,
     calculator: &C,
-    desk: &Desk,
     at: Address,
     out: &mut Vec<u8>,
 ) -> Result<(), Refusal>
-    ensures { let state = state_of (C.stored calculator.now) desk.now in
+    ensures { (desk : Desk) → let state = state_of (C.stored calculator.now) desk in
         (records : List ℕ) × (out.new.items ≡ out.old.items ++ records)
         × Serves (λ a. formula_step state at ≡ a) result state state records }
 {
-    let _ = desk;
     push_content(alloc, calculator, at, out)?;
     Ok(())
 }

@@ -1,12 +1,10 @@
 //! The command `scenario`: puts a replacement into a scenario, or takes it away.
 
-ghost use Rattle.std.specs.Prelude.{◌≡◌, true, false, [], Some, IfOk, OnErr};
+ghost use Rattle.std.specs.Prelude.{◌≡◌, true, false, Some, IfOk};
 ghost use Rattle.wi_values.specs.Inner.Import.{imported};
 ghost use Rattle.wi_scenario_list.specs.Scenarios.{has_scenario, scenario_for, with_scenario, with_own, without_own, is_full};
-ghost use Rattle.wi_scenarios.specs.Answer.{Serves};
 ghost use Rattle.wi_scenarios.specs.Scenario.{IsScenarioStep, replacement_by, put_answer, take_away_step};
-ghost use Rattle.wi_scenarios.specs.Pending.{AddsOnly};
-ghost use Rattle.wi_scenarios.specs.Inner.Held.{state_of, pending_in, IsSound};
+ghost use Rattle.wi_scenarios.specs.Inner.Held.{state_of, IsSound, ServesSound};
 
 use crate::desk::Desk;
 use crate::refusal::Refusal;
@@ -16,8 +14,8 @@ use wi_propagate::Calculator;
 use wi_scenario_list::{ScenarioFault, Scenarios};
 use wi_values::{Address, Value, imported_value};
 
-/// Puts a replacement into a scenario, which is made if need be. The work is that of `Scenarios::copy`, of `Scenarios::put` and of
-/// `switch_to`.
+/// Puts a replacement into a scenario, which is made if need be. The work grows with the count of scenarios, with the scenario's own
+/// replacements, for each session with all that its scenario puts in, and with what depends on the cell where the two differ.
 pub(crate) fn put<C: Calculator>(
     alloc: Global,
     calculator: &C,
@@ -27,13 +25,9 @@ pub(crate) fn put<C: Calculator>(
     content: &str,
 ) -> Result<(), Refusal>
     requires { IsSound C.marked (C.stored calculator.now) desk.old }
-    ensures step { let old = state_of (C.stored calculator.now) desk.old in
-        Serves (IsScenarioStep old name.now at content.now)
-        result old (state_of (C.stored calculator.now) desk.new) [] }
-    ensures adds { AddsOnly C.marked ([]) (state_of (C.stored calculator.now) desk.old)
-        (state_of (C.stored calculator.now) desk.new) (pending_in desk.old) (pending_in desk.new) }
-    ensures refused { OnErr result (pending_in desk.new ≡ pending_in desk.old) }
-    ensures sound { IsSound C.marked (C.stored calculator.now) desk.new }
+    ensures { let old = state_of (C.stored calculator.now) desk.old in
+        ServesSound C.marked (IsScenarioStep old name.now at content.now)
+        result (C.stored calculator.now) desk.old desk.new }
 {
     if content.is_empty() {
         return take_away(alloc, calculator, desk, name, at);
@@ -51,13 +45,9 @@ fn put_text<C: Calculator>(
     text: &str,
 ) -> Result<(), Refusal>
     requires { IsSound C.marked (C.stored calculator.now) desk.old }
-    ensures step { let old = state_of (C.stored calculator.now) desk.old in
-        Serves (λ a. put_answer old name.now at (imported text.now) ≡ a)
-        result old (state_of (C.stored calculator.now) desk.new) [] }
-    ensures adds { AddsOnly C.marked ([]) (state_of (C.stored calculator.now) desk.old)
-        (state_of (C.stored calculator.now) desk.new) (pending_in desk.old) (pending_in desk.new) }
-    ensures refused { OnErr result (pending_in desk.new ≡ pending_in desk.old) }
-    ensures sound { IsSound C.marked (C.stored calculator.now) desk.new }
+    ensures { let old = state_of (C.stored calculator.now) desk.old in
+        ServesSound C.marked (λ a. put_answer old name.now at (imported text.now) ≡ a)
+        result (C.stored calculator.now) desk.old desk.new }
 {
     if desk.scenarios.is_full(name, at) {
         return Err(Refusal::TooMany);
@@ -77,13 +67,9 @@ pub(crate) fn take_away<C: Calculator>(
     at: Address,
 ) -> Result<(), Refusal>
     requires { IsSound C.marked (C.stored calculator.now) desk.old }
-    ensures step { let old = state_of (C.stored calculator.now) desk.old in
-        Serves (λ a. take_away_step old name.now at ≡ a)
-        result old (state_of (C.stored calculator.now) desk.new) [] }
-    ensures adds { AddsOnly C.marked ([]) (state_of (C.stored calculator.now) desk.old)
-        (state_of (C.stored calculator.now) desk.new) (pending_in desk.old) (pending_in desk.new) }
-    ensures refused { OnErr result (pending_in desk.new ≡ pending_in desk.old) }
-    ensures sound { IsSound C.marked (C.stored calculator.now) desk.new }
+    ensures { let old = state_of (C.stored calculator.now) desk.old in
+        ServesSound C.marked (λ a. take_away_step old name.now at ≡ a)
+        result (C.stored calculator.now) desk.old desk.new }
 {
     if !desk.scenarios.contains(name) {
         return Err(Refusal::NoScenario);

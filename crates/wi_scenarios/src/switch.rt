@@ -1,10 +1,9 @@
 //! Scenarios that put in something else.
 
-ghost use Rattle.std.specs.Prelude.{◌≡◌, ◌≢◌, ◌<◌, ℕ, length, [], OnOk, OnErr};
+ghost use Rattle.std.specs.Prelude.{◌≡◌, ◌≢◌, ◌<◌, ℕ, length, [], OnOk};
 ghost use Rattle.wi_values.specs.Replacements.{IsInOrder};
 ghost use Rattle.wi_sessions.specs.Roster.{pending_of, vacant_of};
-ghost use Rattle.wi_scenarios.specs.Pending.{AddsOnly};
-ghost use Rattle.wi_scenarios.specs.Inner.Held.{state_of, pending_in, IsSound};
+ghost use Rattle.wi_scenarios.specs.Inner.Held.{state_of, IsSound, MakesSound};
 ghost use Rattle.wi_scenarios.specs.Inner.Switch.{HasRoom, HasRoomFor};
 
 use crate::desk::Desk;
@@ -16,8 +15,8 @@ use wi_sessions::Sessions;
 use wi_values::Replacement;
 
 /// Makes room among a session's pending cells for those that may show something else where the replacements are others. On an error
-/// some vacant rooms may be left. The work is that of `differing_cells`, of `mark` for the cells whose replacement is another, and of
-/// `Sessions::make_room`.
+/// some vacant rooms may be left. The work for each replacement grows with the logarithm of the count of all; beside that it grows with
+/// what depends on the cells whose replacement is another.
 pub(crate) fn make_room_between<C: Calculator>(
     alloc: Global,
     calculator: &C,
@@ -98,15 +97,9 @@ pub(crate) fn switch_to<C: Calculator>(
     next: Scenarios,
 ) -> Result<(), AllocError>
     requires { IsSound C.marked (C.stored calculator.now) desk.old }
-    ensures state { let old = state_of (C.stored calculator.now) desk.old in
-        OnOk result (state_of (C.stored calculator.now) desk.new
-        ≡ record old { scenarios = next }) }
-    ensures kept { OnErr result (state_of (C.stored calculator.now) desk.new
-        ≡ state_of (C.stored calculator.now) desk.old) }
-    ensures adds { AddsOnly C.marked ([]) (state_of (C.stored calculator.now) desk.old)
-        (state_of (C.stored calculator.now) desk.new) (pending_in desk.old) (pending_in desk.new) }
-    ensures refused { OnErr result (pending_in desk.new ≡ pending_in desk.old) }
-    ensures sound { IsSound C.marked (C.stored calculator.now) desk.new }
+    ensures { let old = state_of (C.stored calculator.now) desk.old in
+        MakesSound C.marked result (C.stored calculator.now) (record old { scenarios = next })
+        desk.old desk.new }
 {
     match make_room_for_each(
         alloc,

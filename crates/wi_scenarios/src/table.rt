@@ -13,7 +13,8 @@ use std::alloc::Global;
 use wi_propagate::Calculator;
 use wi_reports::{DataTable, push_table};
 
-/// Appends the records of a table. The work is that of `push_table`.
+/// Appends the records of a table. The calculator is asked once for each cell of the column and of the row, and once for each entry;
+/// beside that the work grows with what the session's scenario puts in and with the length of the records.
 pub(crate) fn table<C: Calculator>(
     alloc: Global,
     calculator: &mut C,

@@ -1,15 +1,14 @@
 //! The command `use`: the current session uses a scenario, or the sheet as it stands.
 
-ghost use Rattle.std.specs.Prelude.{◌≡◌, ◌≢◌, ◌<◌, ℕ, [], length, OnOk, OnErr, IfOk, string_bytes};
+ghost use Rattle.std.specs.Prelude.{◌≡◌, ◌≢◌, ◌<◌, ℕ, [], length, OnOk, IfOk, string_bytes};
 ghost use Rattle.std.specs.Option.{option_copied, option_map};
 ghost use Rattle.wi_scenario_list.specs.Inner.Chains.{effective};
 ghost use Rattle.wi_sessions.specs.Sessions.{using_scenario};
 ghost use Rattle.wi_sessions.specs.Roster.{pending_of, vacant_of};
-ghost use Rattle.wi_scenarios.specs.Answer.{Serves};
 ghost use Rattle.wi_scenarios.specs.Use.{use_step};
-ghost use Rattle.wi_scenarios.specs.Pending.{AddsOnly, SameForOthers};
+ghost use Rattle.wi_scenarios.specs.Pending.{SameForOthers};
 ghost use Rattle.wi_scenarios.specs.Views.{current_session, current_replacements, with_current};
-ghost use Rattle.wi_scenarios.specs.Inner.Held.{state_of, pending_in, IsSound};
+ghost use Rattle.wi_scenarios.specs.Inner.Held.{state_of, pending_in, IsSound, ServesSound, MakesSound};
 ghost use Rattle.wi_scenarios.specs.Inner.Switch.{HasRoom};
 
 use crate::desk::Desk;
@@ -19,8 +18,8 @@ use crate::views::is_missing;
 use std::alloc::{AllocError, Global};
 use wi_propagate::Calculator;
 
-/// The current session uses a scenario, or the sheet as it stands. The work is that of `Scenarios::effective` for the old and the new
-/// one, and of `make_room_between` for what they put in.
+/// The current session uses a scenario, or the sheet as it stands. The work grows with all that the old and the new one put in, and
+/// with what depends on the cells whose replacement is another.
 pub(crate) fn use_scenario<C: Calculator>(
     alloc: Global,
     calculator: &C,
@@ -28,14 +27,10 @@ pub(crate) fn use_scenario<C: Calculator>(
     name: Option<&str>,
 ) -> Result<(), Refusal>
     requires { IsSound C.marked (C.stored calculator.now) desk.old }
-    ensures step { let old = state_of (C.stored calculator.now) desk.old in
-        Serves (λ a. use_step old (option_copied name.entry) ≡ a)
-        result old (state_of (C.stored calculator.now) desk.new) [] }
-    ensures adds { AddsOnly C.marked ([]) (state_of (C.stored calculator.now) desk.old)
-        (state_of (C.stored calculator.now) desk.new) (pending_in desk.old) (pending_in desk.new) }
+    ensures served { let old = state_of (C.stored calculator.now) desk.old in
+        ServesSound C.marked (λ a. use_step old (option_copied name.entry) ≡ a)
+        result (C.stored calculator.now) desk.old desk.new }
     ensures others { SameForOthers desk.old.current (pending_in desk.old) (pending_in desk.new) }
-    ensures refused { OnErr result (pending_in desk.new ≡ pending_in desk.old) }
-    ensures sound { IsSound C.marked (C.stored calculator.now) desk.new }
 {
     if is_missing(&desk.scenarios, name) {
         return Err(Refusal::NoScenario);
@@ -55,16 +50,11 @@ fn use_in_current<C: Calculator>(
 ) -> Result<(), AllocError>
     requires sound { IsSound C.marked (C.stored calculator.now) desk.old }
     requires named { option_map string_bytes used ≡ option_copied name }
-    ensures state { let old = state_of (C.stored calculator.now) desk.old in
-        OnOk result (state_of (C.stored calculator.now) desk.new
-        ≡ with_current old (using_scenario (current_session old) (option_copied name.entry))) }
-    ensures kept { OnErr result (state_of (C.stored calculator.now) desk.new
-        ≡ state_of (C.stored calculator.now) desk.old) }
-    ensures adds { AddsOnly C.marked ([]) (state_of (C.stored calculator.now) desk.old)
-        (state_of (C.stored calculator.now) desk.new) (pending_in desk.old) (pending_in desk.new) }
+    ensures made { let old = state_of (C.stored calculator.now) desk.old in
+        MakesSound C.marked result (C.stored calculator.now)
+        (with_current old (using_scenario (current_session old) (option_copied name.entry)))
+        desk.old desk.new }
     ensures others { SameForOthers desk.old.current (pending_in desk.old) (pending_in desk.new) }
-    ensures refused { OnErr result (pending_in desk.new ≡ pending_in desk.old) }
-    ensures sound { IsSound C.marked (C.stored calculator.now) desk.new }
 {
     match make_room_for_current(alloc, calculator, desk, name) {
         Ok(()) => {

@@ -37,7 +37,7 @@ use crate::use_scenario::use_scenario;
 use std::alloc::{AllocError, Global};
 use std::marker::Model;
 use wi_propagate::Calculator;
-use wi_reports::DataTable;
+use wi_reports::{DataTable, SecondInput};
 use wi_values::{Address, Name, Rect};
 
 /// A sheet, and what is kept beside it: scenarios, sessions and the log of edits. It is seen as the definition's state, the cells
@@ -387,7 +387,7 @@ impl<C: Calculator> Workbook<C> {
             formula_cell,
             input,
             column,
-            second,
+            second: SecondInput::from_pair(second),
         };
         table(self.alloc, &mut self.calculator, &self.desk, &asked, out)
     }
@@ -400,6 +400,6 @@ impl<C: Calculator> Workbook<C> {
             × Serves (IsCallStep self.now.state (call.Formula at))
             result self.now.state self.now.state records }
     {
-        formula(self.alloc, &self.calculator, &self.desk, at, out)
+        formula(self.alloc, &self.calculator, at, out)
     }
 }

@@ -1,34 +1,28 @@
 -- Laws of lists of cells.
-use Rattle.wi_sessions.proofs.Words.{◌≡◌, ◌==◌, ◌<◌, ◌≤◌, ◌+◌, ◌||◌, ◌⊎◌, inl, inr, ℕ, eqb, Bool, true, false, cond, List, [], ◌∷◌, filter, refl, sym, ap, ◌∙◌, arith, ◌*◌, subst, All, AllByRecursion, Contains, dedup, IsPermutation, IsStrictlyIncreasing, nat_cmp, Less, both_ways, cases_order, eq-eqb, eqb-true, ne_eqb, All-head, All-tail, Contains-dedup_nat, Contains-from_dedup, Contains-permutation, IsPermutation-sym, sorted_from_strictly_increasing, sorted_head, sorted_tail, one_truth, below_from_Less, rows, columns, sheet_size, is_one_of, Rises, is_some, lookup, keys_of, is_some-lookup, is_at, has_key, has-from_Contains, Contains-from_has}
+use Rattle.wi_sessions.proofs.Words.{◌≡◌, ◌<◌, ◌≤◌, ◌+◌, ℕ, eqb, Bool, true, false, cond, List, [], ◌∷◌, filter, refl, sym, ap, ◌∙◌, arith, ◌*◌, subst, All, Contains, dedup, IsPermutation, IsStrictlyIncreasing, nat_cmp, All-head, All-tail, Contains-dedup_nat, Contains-from_dedup, Contains-permutation, IsPermutation-sym, sorted_from_strictly_increasing, one_truth, rows, columns, sheet_size, is_one_of, Rises, is_some, lookup, keys_of, is_some-lookup, is_at, has_key, has-from_Contains, Contains-from_has, map, Option, Some, None, Ascends, Ascends-from_order, ComeAfter, same_entries}
 use Rattle.std.specs.List.Sorted.{IsStrictlySortedBy}
 
 -- ---- lists of cells in order
 
-abbrev ComeAfter : ℕ → List ℕ → Type 0
-ComeAfter a [] = Unit {0}
-ComeAfter a (x ∷ xs) = (a < x) × ComeAfter a xs
+-- the cells as entries that have nothing beside
+abbrev pub bare : List ℕ → List (ℕ × Unit {0})
+bare xs = map (λ (x : ℕ). (x, tt)) xs
+
+keys-bare : (xs : List ℕ) → keys_of (bare xs) ≡ xs
+keys-bare [] = refl
+keys-bare (x ∷ xs) = ap (λ (ys : List ℕ). x ∷ ys) (keys-bare xs)
 
 abbrev pub Ascend : List ℕ → Type 0
-Ascend [] = Unit {0}
-Ascend (x ∷ xs) = ComeAfter x xs × Ascend xs
-
-come_after : (a : ℕ) (xs : List ℕ) → AllByRecursion (λ b. nat_cmp a b ≡ Less) xs → ComeAfter a xs
-come_after a [] h = tt
-come_after a (x ∷ xs) h = (below_from_Less a x h.0, come_after a xs h.1)
+Ascend xs = Ascends (bare xs)
 
 pub ascend : (xs : List ℕ) → IsStrictlySortedBy nat_cmp xs → Ascend xs
-ascend [] h = tt
-ascend (x ∷ xs) h = (come_after x xs (sorted_head nat_cmp x xs h), ascend xs (sorted_tail nat_cmp x xs h))
+ascend xs h = Ascends-from_order (bare xs) (subst (IsStrictlySortedBy nat_cmp) (sym (keys-bare xs)) h)
 
-come_after_earlier : (a b : ℕ) (xs : List ℕ) → a < b → ComeAfter b xs → ComeAfter a xs
-come_after_earlier a b [] l h = tt
-come_after_earlier a b (x ∷ xs) l h = (omega (arith, l, h.0), come_after_earlier a b xs l h.1)
-
-come_after_filter : (p : ℕ → Bool) (a : ℕ) (xs : List ℕ) → ComeAfter a xs → ComeAfter a (filter p xs)
+come_after_filter : (p : ℕ → Bool) (a : ℕ) (xs : List ℕ) → ComeAfter a (bare xs) → ComeAfter a (bare (filter p xs))
 come_after_filter p a [] h = tt
 come_after_filter p a (x ∷ xs) h = by (p x) (come_after_filter p a xs h.1)
   where
-    by : (b : Bool) → ComeAfter a (filter p xs) → ComeAfter a (cond b (x ∷ filter p xs) (filter p xs))
+    by : (b : Bool) → ComeAfter a (bare (filter p xs)) → ComeAfter a (bare (cond b (x ∷ filter p xs) (filter p xs)))
     by true ih = (h.0, ih)
     by false ih = ih
 
@@ -42,45 +36,24 @@ ascend_filter p (x ∷ xs) h = by (p x) (ascend_filter p xs h.1)
 
 -- ---- which cells are listed
 
--- none that comes no later than all of them
-unlisted : (a q : ℕ) (xs : List ℕ) → ComeAfter a xs → q ≤ a → is_one_of xs q ≡ false
-unlisted a q [] h l = refl
-unlisted a q (x ∷ xs) h l = ap (λ b. b || is_one_of xs q) (ne_eqb x q (apart x h.0)) ∙ unlisted a q xs h.1 l
-  where
-    apart : (x : ℕ) → a < x → x ≡ q → Prim.⊥
-    apart x m e = omega (arith, m, l, e)
-
-first_listed : (x : ℕ) (xs : List ℕ) → is_one_of (x ∷ xs) x ≡ true
-first_listed x xs = ap (λ b. b || is_one_of xs x) (eq-eqb x x refl)
-
-not_there : (x : ℕ) (xs ys : List ℕ) → is_one_of xs x ≡ true → is_one_of ys x ≡ false → ((q : ℕ) → is_one_of xs q ≡ is_one_of ys q) → Prim.⊥
-not_there x xs ys h k e = both_ways (is_one_of ys x) k (sym (e x) ∙ h)
-
-tails : (x : ℕ) (xs ys : List ℕ) → ComeAfter x xs → ComeAfter x ys → ((q : ℕ) → is_one_of (x ∷ xs) q ≡ is_one_of (x ∷ ys) q) → (q : ℕ) → is_one_of xs q ≡ is_one_of ys q
-tails x xs ys a b h q = by (x == q) refl (h q)
-  where
-    by : (d : Bool) → (x == q) ≡ d → (d || is_one_of xs q) ≡ (d || is_one_of ys q) → is_one_of xs q ≡ is_one_of ys q
-    by true t g = let e = eqb-true x q t in unlisted x q xs a (omega (arith, e)) ∙ sym (unlisted x q ys b (omega (arith, e)))
-    by false t g = g
-
--- lists in order that have the same cells are the same
-pub same_listed : (xs ys : List ℕ) → Ascend xs → Ascend ys → ((q : ℕ) → is_one_of xs q ≡ is_one_of ys q) → xs ≡ ys
-same_listed [] [] a b h = refl
-same_listed [] (y ∷ ys) a b h = absurd (not_there y (y ∷ ys) [] (first_listed y ys) refl (λ q. sym (h q)))
-same_listed (x ∷ xs) [] a b h = absurd (not_there x (x ∷ xs) [] (first_listed x xs) refl h)
-same_listed (x ∷ xs) (y ∷ ys) a b h = by (cases_order x y) (same_listed xs ys a.1 b.1)
-  where
-    by : (x ≡ y) ⊎ ((x < y) ⊎ (y < x)) → (((q : ℕ) → is_one_of xs q ≡ is_one_of ys q) → xs ≡ ys) → x ∷ xs ≡ y ∷ ys
-    by (inl e) ih =
-        let after : ComeAfter x ys = subst (λ (z : ℕ). ComeAfter z ys) (sym e) b.0 in
-        let same : (q : ℕ) → is_one_of (x ∷ xs) q ≡ is_one_of (x ∷ ys) q = subst (λ (z : ℕ). (q : ℕ) → is_one_of (x ∷ xs) q ≡ is_one_of (z ∷ ys) q) (sym e) h in
-        ap (λ (zs : List ℕ). x ∷ zs) (ih (tails x xs ys a.0 after same)) ∙ ap (λ (z : ℕ). z ∷ ys) e
-    by (inr (inl l)) ih = absurd (not_there x (x ∷ xs) (y ∷ ys) (first_listed x xs) (unlisted x x (y ∷ ys) (l, come_after_earlier x y ys l b.0) (omega arith)) h)
-    by (inr (inr l)) ih = absurd (not_there y (y ∷ ys) (x ∷ xs) (first_listed y ys) (unlisted y y (x ∷ xs) (l, come_after_earlier y x xs l a.0) (omega arith)) (λ q. sym (h q)))
-
 -- whether a cell has something, as a look-up tells it
 pub has_listed : {X : Type 0} (es : List (ℕ × X)) (q : ℕ) → is_some (lookup (is_at (nat_cmp q)) es) ≡ is_one_of (keys_of es) q
 has_listed es q = is_some-lookup (is_at (nat_cmp q)) es ∙ has_key (keys_of es) q
+
+nothing_beside : (o p : Option (Unit {0})) → is_some o ≡ is_some p → o ≡ p
+nothing_beside None None h = refl
+nothing_beside (Some u) (Some v) h = refl
+nothing_beside None (Some v) h = cc
+nothing_beside (Some u) None h = cc
+
+listed : (xs : List ℕ) (q : ℕ) → is_some (lookup (is_at (nat_cmp q)) (bare xs)) ≡ is_one_of xs q
+listed xs q = has_listed (bare xs) q ∙ ap (λ (ys : List ℕ). is_one_of ys q) (keys-bare xs)
+
+-- lists in order that have the same cells are the same
+pub same_listed : (xs ys : List ℕ) → Ascend xs → Ascend ys → ((q : ℕ) → is_one_of xs q ≡ is_one_of ys q) → xs ≡ ys
+same_listed xs ys a b h =
+    let same = same_entries (bare xs) (bare ys) a b (λ q. nothing_beside _ _ (listed xs q ∙ h q ∙ sym (listed ys q))) in
+    sym (keys-bare xs) ∙ ap keys_of same ∙ keys-bare ys
 
 pub none_in_order : (ks : List ℕ) → ks ≡ [] → IsStrictlySortedBy nat_cmp ks
 unfolding IsStrictlySortedBy
@@ -92,7 +65,7 @@ abbrev AtLeast : ℕ → List ℕ → Type 0
 AtLeast low [] = Unit {0}
 AtLeast low (x ∷ xs) = low ≤ x
 
-above : (a : ℕ) (xs : List ℕ) → ComeAfter a xs → AtLeast (a + 1) xs
+above : (a : ℕ) (xs : List ℕ) → ComeAfter a (bare xs) → AtLeast (a + 1) xs
 above a [] h = tt
 above a (x ∷ xs) h = omega (arith, h.0)
 

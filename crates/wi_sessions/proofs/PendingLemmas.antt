@@ -1,5 +1,5 @@
 -- Laws of what is pending for all sessions, for each call.
-use Rattle.wi_sessions.proofs.Words.{◌⊎◌, ◌≡◌, ◌≢◌, ◌==◌, ◌<◌, ◌≤◌, ◌+◌, ◌||◌, ◌&&◌, ◌∙◌, ℕ, Bool, true, false, not, List, [], ◌∷◌, ◌++◌, map, length, get_or, set, drop, filter, Result, Ok, Err, ◌*◌, refl, sym, ap, subst, arith, ⊎_elim, zero, suc, inl, inr, Option, None, and-false, and-true, or-false, nat_lt, unwrap_or, IfOk, All, list_all, range_with_len, IsStrictlySortedBy, nat_cmp, keys_of, lookup, is_at, and_parts, both_ways, cases_eq, cases_lt, eq-eqb, ne_eqb, le-ltb, lt-ltb, get_or-set_same, length-append, length-set, All-filter, All-map, list_any-append, one_truth, rows, columns, filter_all, sheet_size, is_one_of, Rises, AllPending, list_at, SameCells, Unread, has_bit, is_in, is_staged, cells_with, cells_in, vacant_in, pending_in, at_cells, SamePending, HasMade, HasCleared, is_unread, HasPlace, AreKept, AreLookedAt, has-filter}
+use Rattle.wi_sessions.proofs.Words.{◌⊎◌, ◌≡◌, ◌≢◌, ◌==◌, ◌<◌, ◌≤◌, ◌+◌, ◌||◌, ◌&&◌, ◌∙◌, ℕ, Bool, true, false, not, List, [], ◌∷◌, ◌++◌, map, length, get_or, set, drop, filter, Result, Ok, Err, ◌*◌, refl, sym, ap, subst, arith, ⊎_elim, zero, suc, inl, inr, Option, None, and-false, and-true, or-false, nat_lt, unwrap_or, IfOk, All, list_all, range_with_len, IsStrictlySortedBy, nat_cmp, keys_of, lookup, is_at, and_parts, both_ways, cases_eq, cases_lt, eq-eqb, ne_eqb, le-ltb, lt-ltb, get_or-set_same, length-append, length-set, All-filter, All-map, list_any-append, one_truth, rows, columns, filter_all, sheet_size, is_one_of, Rises, AllPending, list_at, SameCells, Unread, has_bit, is_in, is_staged, cells_with, cells_in, vacant_in, pending_in, at_cells, SamePending, HasMade, HasCleared, is_unread, HasPlace, AreKept, AreLookedAt, has-filter, AllocError, GetsRoom}
 use Rattle.wi_sessions.proofs.BitLemmas.{none_in_zero}
 use Rattle.wi_sessions.proofs.CellLemmas.{rises, same_listed}
 use Rattle.wi_sessions.proofs.WordLemmas.{Words, OthersStay}
@@ -58,7 +58,7 @@ module _ (words staged more rooms : Words) (i n bit : ℕ) (cells : List ℕ) (a
   not_elsewhere : (j c : ℕ) → j ≢ i → at_cells cells bit j c ≡ false
   not_elsewhere j c apart = ap (λ t. is_one_of cells c && t) (elsewhere j apart) ∙ and-false (is_one_of cells c)
 
-  pub room_here : (q : ℕ) → is_one_of (list_at (map (vacant_in more rooms) (range_with_len 0 n)) i) q
+  room_here : (q : ℕ) → is_one_of (list_at (map (vacant_in more rooms) (range_with_len 0 n)) i) q
       ≡ (is_one_of (list_at (map (vacant_in words staged) (range_with_len 0 n)) i) q
       || (is_one_of cells q && not (is_one_of (list_at (map (cells_in words staged) (range_with_len 0 n)) i) q)))
   room_here q =
@@ -67,10 +67,15 @@ module _ (words staged more rooms : Words) (i n bit : ℕ) (cells : List ℕ) (a
       ∙ ap (λ (xs : List ℕ). is_one_of xs q || (is_one_of cells q && not (is_one_of (cells_in words staged i) q))) (sym (list_there (vacant_in words staged) n i l))
       ∙ ap (λ (xs : List ℕ). is_one_of (list_at (map (vacant_in words staged) (range_with_len 0 n)) i) q || (is_one_of cells q && not (is_one_of xs q))) (sym (list_there (cells_in words staged) n i l))
 
-  pub room_elsewhere : (j : ℕ) → j ≢ i → list_at (map (vacant_in more rooms) (range_with_len 0 n)) j ≡ list_at (map (vacant_in words staged) (range_with_len 0 n)) j
+  room_elsewhere : (j : ℕ) → j ≢ i → list_at (map (vacant_in more rooms) (range_with_len 0 n)) j ≡ list_at (map (vacant_in words staged) (range_with_len 0 n)) j
   room_elsewhere j apart =
       list_same (vacant_in words staged) (vacant_in more rooms) n j
       (λ m. vacant_stays words staged more rooms a b (at_cells cells bit) h j (λ c. not_elsewhere j c apart))
+
+  pub more_room : {u : Unit {0}} (p : AllPending) (m : ℕ) → pending_in words staged n ≡ p → m ≡ n → SamePending words staged more rooms → GetsRoom cells i (Ok u) p (pending_in more rooms m)
+  more_room {u} p m view e same =
+      subst (λ (k : ℕ). GetsRoom cells i (Ok u) p (pending_in more rooms k)) (sym e)
+      (subst (λ (r : AllPending). GetsRoom cells i (Ok u) r (pending_in more rooms n)) view (record { lists = pending_same words staged more rooms n a b same; room = room_here; refused = tt; others = room_elsewhere }))
 
   -- where its cells are looked at
   pub kept_here : (changed : List ℕ) (unread : List Unread) (u : Unread) → length unread ≡ n → AreKept words staged changed unread → HasPlace words changed i u
@@ -120,7 +125,7 @@ module _ (words staged more rooms less : Words) (i n bit : ℕ) (a : Ordered wor
   rooms_elsewhere : (j c : ℕ) → j ≢ i → is_staged rooms j c ≡ is_staged staged j c
   rooms_elsewhere j c apart = (stay j c (alone j ∙ ne_eqb j i apart)).1
 
-  pub dropped_pending : SamePending words staged less rooms
+  dropped_pending : SamePending words staged less rooms
   dropped_pending = λ j c. ⊎_elim (at_i j c) (λ apart. ap (λ t. t && not (is_staged rooms j c)) (left_elsewhere j c apart) ∙ ap (λ t. is_in words j c && not t) (rooms_elsewhere j c apart)) (cases_eq j i)
     where
       at_i : (j c : ℕ) → j ≡ i → (is_in less j c && not (is_staged rooms j c)) ≡ (is_in words j c && not (is_staged staged j c))
@@ -128,16 +133,21 @@ module _ (words staged more rooms less : Words) (i n bit : ℕ) (a : Ordered wor
           subst (λ (k : ℕ). (is_in less k c && not (is_staged rooms k c)) ≡ (is_in words k c && not (is_staged staged k c))) (sym e)
           (ap (λ t. t && not (is_staged rooms i c)) (left_here c) ∙ twice (is_in more i c) (is_staged rooms i c) ∙ same i c)
 
-  pub dropped_here : list_at (map (vacant_in less rooms) (range_with_len 0 n)) i ≡ []
+  dropped_here : list_at (map (vacant_in less rooms) (range_with_len 0 n)) i ≡ []
   dropped_here =
       list_there (vacant_in less rooms) n i l
       ∙ same_listed (vacant_in less rooms i) [] (ascend_vacant less rooms i b) tt
       (λ q. listed_vacant less rooms i b q ∙ ap (λ t. t && is_staged rooms i q) (left_here q) ∙ never (is_in more i q) (is_staged rooms i q))
 
-  pub dropped_elsewhere : (j : ℕ) → j ≢ i → list_at (map (vacant_in less rooms) (range_with_len 0 n)) j ≡ list_at (map (vacant_in words staged) (range_with_len 0 n)) j
+  dropped_elsewhere : (j : ℕ) → j ≢ i → list_at (map (vacant_in less rooms) (range_with_len 0 n)) j ≡ list_at (map (vacant_in words staged) (range_with_len 0 n)) j
   dropped_elsewhere j apart =
       list_same (vacant_in words staged) (vacant_in less rooms) n j
       (λ m. same_vacant words staged less rooms a b j (λ c. left_elsewhere j c apart) (λ c. rooms_elsewhere j c apart))
+
+  pub no_room : {x : AllocError} (cells : List ℕ) (p : AllPending) (m : ℕ) → pending_in words staged n ≡ p → m ≡ n → GetsRoom cells i (Err x) p (pending_in less rooms m)
+  no_room {x} cells p m view e =
+      subst (λ (k : ℕ). GetsRoom cells i (Err x) p (pending_in less rooms k)) (sym e)
+      (subst (λ (r : AllPending). GetsRoom cells i (Err x) r (pending_in less rooms n)) view (record { lists = pending_same words staged less rooms n a b dropped_pending; room = tt; refused = dropped_here; others = dropped_elsewhere }))
 
   pub dropped_kept : (changed : List ℕ) (unread : List Unread) → length unread ≡ n → AreKept words staged changed unread → AreKept less rooms changed unread
   dropped_kept changed unread e k =
@@ -170,6 +180,13 @@ module _ (words staged more rooms : Words) (n : ℕ) (cells : List ℕ) (a : Ord
 
 -- ---- one session more
 
+-- where it comes last
+pub record HasOneMore (p : AllPending) (more staged : Words) (changed : List ℕ) (read : List Unread) (new cells : List ℕ) : Type 0 where
+  pub pending : map (cells_in more staged) (range_with_len 0 (length read)) ≡ p.pending ++ new ∷ []
+  pub vacant : map (vacant_in more staged) (range_with_len 0 (length read)) ≡ p.vacant ++ [] ∷ []
+  pub same : SameCells new cells
+  pub kept : AreKept more staged changed read
+
 module _ (words staged more : Words) (changed : List ℕ) (unread : List Unread) (u : Unread) (n bit : ℕ) (cells : List ℕ) (e : length unread ≡ n) (k : AreKept words staged changed unread) (b : Ordered more)
     (few : n < 64) (alone : (j : ℕ) → has_bit j bit ≡ (j == n)) (put : (j c : ℕ) → is_in more j c ≡ (is_in words j c || at_cells cells bit j c)) where
   as_before : (j c : ℕ) → j ≢ n → is_in more j c ≡ is_in words j c
@@ -187,18 +204,18 @@ module _ (words staged more : Words) (changed : List ℕ) (unread : List Unread)
   apart_below : (i : ℕ) → i < n → i ≡ n → Prim.⊥
   apart_below i l s = let none : Prim.⊥ = omega (arith, l, s) in none
 
-  pub pushed_pending : map (cells_in more staged) (range_with_len 0 (n + 1)) ≡ map (cells_in words staged) (range_with_len 0 n) ++ cells_in more staged n ∷ []
+  pushed_pending : map (cells_in more staged) (range_with_len 0 (n + 1)) ≡ map (cells_in words staged) (range_with_len 0 n) ++ cells_in more staged n ∷ []
   pushed_pending =
       one_list_more (cells_in more staged) n
       ∙ ap (λ (xss : List (List ℕ)). xss ++ cells_in more staged n ∷ []) (same_as (cells_in words staged) n (cells_in more staged) (λ i l.
       same_listed (cells_in more staged i) (cells_in words staged i) (ascend_in more staged i b) (ascend_in words staged i k.order)
       (λ q. listed_in more staged i b q ∙ ap (λ t. t && not (is_staged staged i q)) (as_before i q (apart_below i l)) ∙ sym (listed_in words staged i k.order q))))
 
-  pub pushed_cells : SameCells (cells_in more staged n) cells
+  pushed_cells : SameCells (cells_in more staged n) cells
   pushed_cells = λ q.
       listed_in more staged n b q ∙ ap (λ t. is_in more n q && not t) (k.bare n q (omega (arith, e))) ∙ and-true (is_in more n q) ∙ new_has q
 
-  pub pushed_vacant : map (vacant_in more staged) (range_with_len 0 (n + 1)) ≡ map (vacant_in words staged) (range_with_len 0 n) ++ [] ∷ []
+  pushed_vacant : map (vacant_in more staged) (range_with_len 0 (n + 1)) ≡ map (vacant_in words staged) (range_with_len 0 n) ++ [] ∷ []
   pushed_vacant =
       one_list_more (vacant_in more staged) n
       ∙ ap (λ (xss : List (List ℕ)). xss ++ vacant_in more staged n ∷ []) (same_as (vacant_in words staged) n (vacant_in more staged) (λ i l.
@@ -210,7 +227,7 @@ module _ (words staged more : Words) (changed : List ℕ) (unread : List Unread)
           same_listed (vacant_in more staged n) [] (ascend_vacant more staged n b) tt
           (λ q. listed_vacant more staged n b q ∙ ap (λ t. is_in more n q && t) (k.bare n q (omega (arith, e))) ∙ and-false (is_in more n q))
 
-  pub pushed_kept : u.from ≤ length changed → ((c : ℕ) → is_one_of cells c ≡ true → is_unread changed u c ≡ true) → AreKept more staged changed (unread ++ u ∷ [])
+  pushed_kept : u.from ≤ length changed → ((c : ℕ) → is_one_of cells c ≡ true → is_unread changed u c ≡ true) → AreKept more staged changed (unread ++ u ∷ [])
   pushed_kept within own = record {
     order = b;
     few = subst (λ (m : ℕ). m ≤ 64) (sym (length-append unread (u ∷ []))) (omega (arith, e, few));
@@ -222,6 +239,18 @@ module _ (words staged more : Words) (changed : List ℕ) (unread : List Unread)
     where
       beyond : (i : ℕ) → length (unread ++ u ∷ []) ≤ i → n < i
       beyond i l = let l' = subst (λ (m : ℕ). m ≤ i) (length-append unread (u ∷ [])) l in omega (arith, l', e)
+
+  pub one_more : (p : AllPending) (read : List Unread) → pending_in words staged n ≡ p → read ≡ unread ++ u ∷ [] → u.from ≤ length changed → ((c : ℕ) → is_one_of cells c ≡ true → is_unread changed u c ≡ true)
+      → HasOneMore p more staged changed read (cells_in more staged n) cells
+  one_more p read view pushed within own =
+      let long : length (unread ++ u ∷ []) ≡ n + 1 = length-append unread (u ∷ []) ∙ ap (λ (m : ℕ). m + 1) e in
+      subst (λ (us : List Unread). HasOneMore p more staged changed us (cells_in more staged n) cells) (sym pushed)
+      (subst (λ (r : AllPending). HasOneMore r more staged changed (unread ++ u ∷ []) (cells_in more staged n) cells) view (record {
+        pending = ap (λ (m : ℕ). map (cells_in more staged) (range_with_len 0 m)) long ∙ pushed_pending;
+        vacant = ap (λ (m : ℕ). map (vacant_in more staged) (range_with_len 0 m)) long ∙ pushed_vacant;
+        same = pushed_cells;
+        kept = pushed_kept within own;
+      }))
 
 -- where memory ran out all is as it was
 module _ (words staged more : Words) (a : Ordered words) (b : Ordered more) (bits_same : (i c : ℕ) → is_in more i c ≡ is_in words i c) where
@@ -324,6 +353,12 @@ all_forgotten words less all i count e one l is none = λ j c.
 pub cleared_same : (all : List ℕ) (bit i : ℕ) (words less : Words) → ((j : ℕ) → has_bit j bit ≡ (j == i)) → HasCleared (at_cells all bit) words less → HasCleared (λ j c. is_one_of all c && (j == i)) words less
 cleared_same all bit i words less e h = λ j c. h j c ∙ ap (λ t. is_in words j c && not (is_one_of all c && t)) (e j)
 
+-- its lists are empty then
+pub record HasForgotten (p : AllPending) (less staged : Words) (changed : List ℕ) (read : List Unread) (i : ℕ) : Type 0 where
+  pub pending : map (cells_in less staged) (range_with_len 0 (length read)) ≡ set p.pending i []
+  pub vacant : map (vacant_in less staged) (range_with_len 0 (length read)) ≡ set p.vacant i []
+  pub kept : AreKept less staged changed read
+
 -- what is left of it
 module _ (words less staged : Words) (changed : List ℕ) (unread : List Unread) (u : Unread) (all : List ℕ) (i : ℕ) (k : AreKept words staged changed unread) (b : Ordered less)
     (l : i < length unread) (is : (c : ℕ) → is_one_of all c ≡ is_in words i c) (h : HasCleared (λ j c. is_one_of all c && (j == i)) words less) where
@@ -336,17 +371,24 @@ module _ (words less staged : Words) (changed : List ℕ) (unread : List Unread)
   bit_gone : (c : ℕ) → is_in less i c ≡ false
   bit_gone c = h i c ∙ cleared (is_in words i c) (is_one_of all c && (i == i)) (test_here c)
 
-  pub forgotten_pending : map (cells_in less staged) (range_with_len 0 (length unread)) ≡ set (map (cells_in words staged) (range_with_len 0 (length unread))) i []
+  forgotten_pending : map (cells_in less staged) (range_with_len 0 (length unread)) ≡ set (map (cells_in words staged) (range_with_len 0 (length unread))) i []
   forgotten_pending = pending_cleared words less staged i (length unread) (λ j c. is_one_of all c && (j == i)) k.order b h l test_here test_elsewhere
 
-  pub forgotten_vacant : map (vacant_in less staged) (range_with_len 0 (length unread)) ≡ set (map (vacant_in words staged) (range_with_len 0 (length unread))) i []
+  forgotten_vacant : map (vacant_in less staged) (range_with_len 0 (length unread)) ≡ set (map (vacant_in words staged) (range_with_len 0 (length unread))) i []
   forgotten_vacant = vacant_cleared words less staged i (length unread) (λ j c. is_one_of all c && (j == i)) k.order b h l test_here test_elsewhere
 
-  pub forgotten_kept : u.from ≡ length changed → AreKept less staged changed (set unread i u)
+  forgotten_kept : u.from ≡ length changed → AreKept less staged changed (set unread i u)
   forgotten_kept e =
       let less_kept : AreKept less staged changed unread = kept_cleared words staged changed unread k (λ j c. is_one_of all c && (j == i)) less b h in
       kept_at less staged changed unread less_kept changed (set unread i u) (length-set unread i u)
       (places_set less changed unread i u l less_kept.places (record { within = omega (arith, e); found = λ c t. absurd (both_ways (is_in less i c) (bit_gone c) t) }))
+
+  pub forgotten : (p : AllPending) → pending_in words staged (length unread) ≡ p → u.from ≡ length changed → HasForgotten p less staged changed (set unread i u) i
+  forgotten p view e = subst (λ (r : AllPending). HasForgotten r less staged changed (set unread i u) i) view (record {
+    pending = ap (λ (m : ℕ). map (cells_in less staged) (range_with_len 0 m)) (length-set unread i u) ∙ forgotten_pending;
+    vacant = ap (λ (m : ℕ). map (vacant_in less staged) (range_with_len 0 m)) (length-set unread i u) ∙ forgotten_vacant;
+    kept = forgotten_kept e;
+  })
 
 -- all cells of a session, as its lists tell them
 pub listed_told : (words staged : Words) (n i : ℕ) (p : AllPending) → Ordered words → pending_in words staged n ≡ p → i < n

@@ -1,5 +1,5 @@
 -- Laws of cells with a bit for each session, and of rooms.
-use Rattle.wi_sessions.proofs.Words.{◌≡◌, ◌==◌, ◌<◌, ◌≤◌, ◌+◌, ◌||◌, ◌&&◌, ◌∙◌, ℕ, Bool, true, false, cond, not, List, [], ◌∷◌, ◌++◌, length, take, get_or, filter, Option, Some, None, refl, sym, ap, subst, arith, and-false, and-true, or-false, or-true, unwrap_or, is_some, IsStrictlySortedBy, nat_cmp, keys_of, lookup, is_at, eqb-true, both_ways, take_all, append_assoc, append-nil, list_any-append, list_any_more, Ascends-filter, Ascends-from_order, is_at-eq, order-from_Ascends, is_one_of, has_bit, is_in, is_staged, cells_with, at_cells, SamePending, HasMade, HasCleared, or_assoc, and-or_distrib_right, or_new}
+use Rattle.wi_sessions.proofs.Words.{◌≡◌, ◌==◌, ◌<◌, ◌≤◌, ◌+◌, ◌||◌, ◌&&◌, ◌∙◌, ℕ, Bool, true, false, cond, not, List, [], ◌∷◌, ◌++◌, length, take, get_or, filter, Option, Some, None, refl, sym, ap, subst, arith, and-false, and-true, or-false, or-true, unwrap_or, is_some, IsStrictlySortedBy, nat_cmp, keys_of, lookup, is_at, eqb-true, both_ways, take_all, append_assoc, append-nil, list_any-append, list_any_more, Ascends-filter, Ascends-from_order, is_at-eq, order-from_Ascends, is_one_of, has_bit, is_in, is_staged, cells_with, at_cells, SamePending, HasMade, HasCleared, or_assoc, and-or_distrib_right, or_new, Result, Ok, IsErr, AllocError, IfOk-from_err, MakesRooms}
 use Rattle.wi_sessions.proofs.BitLemmas.{none_in_zero}
 use Rattle.wi_sessions.proofs.CellLemmas.{Ascend, ascend, has_listed, same_listed}
 use Rattle.wi_tiles.proofs.RoomLemmas.{passing, room_of-filter}
@@ -196,11 +196,30 @@ others_as_made bits test words staged more rooms h = λ i c n.
       h.made i c ∙ ap (λ b. is_staged staged i c || (b && not (is_in words i c))) none ∙ or-false (is_staged staged i c),
     )
 
-pub others_stay : (bits : ℕ) (cells : List ℕ) (words staged more rooms : Words) → HasMade (at_cells cells bits) words staged more rooms → OthersStay bits words staged more rooms
-others_stay bits cells words staged more rooms h = others_as_made bits (is_one_of cells) words staged more rooms h
-
 pub others_then : (bits : ℕ) (words staged more rooms wider noted : Words) → OthersStay bits words staged more rooms → OthersStay bits more rooms wider noted → OthersStay bits words staged wider noted
 others_then bits words staged more rooms wider noted h k = λ i c n. ((k i c n).0 ∙ (h i c n).0, (k i c n).1 ∙ (h i c n).1)
+
+-- ---- rooms that one call makes
+
+pub made_rooms : {u : Unit {0}} (test : ℕ → Bool) (bits : ℕ) (words staged more rooms : Words) → HasMade (λ i c. test c && has_bit i bits) words staged more rooms → MakesRooms test bits (Ok u) words staged more rooms
+made_rooms test bits words staged more rooms h =
+    record { pending = pending_stay (λ i c. test c && has_bit i bits) words staged more rooms h; room = h; others = others_as_made bits test words staged more rooms h }
+
+-- memory ran out before any was made, and once some were
+pub nothing_staged : {test : ℕ → Bool} {bits : ℕ} {words staged more rooms : Words} (r : Result (Unit {0}) AllocError) → IsErr r → more ≡ words → rooms ≡ staged → MakesRooms test bits r words staged more rooms
+nothing_staged {test} {bits} {words} {staged} {more} {rooms} r k e f = record {
+  pending = λ i c. ap (λ (ws : Words). is_in ws i c && not (is_staged rooms i c)) e ∙ ap (λ (rs : Words). is_in words i c && not (is_staged rs i c)) f;
+  room = IfOk-from_err r _ k;
+  others = λ i c n. (ap (λ (ws : Words). is_in ws i c) e, ap (λ (rs : Words). is_staged rs i c) f);
+}
+
+pub some_rooms : {test one : ℕ → Bool} {bits : ℕ} {y : Result (Unit {0}) AllocError} {words staged more rooms wider noted : Words} (before : ℕ → Bool) (r : Result (Unit {0}) AllocError) → IsErr r
+    → HasMade (λ i c. before c && has_bit i bits) words staged more rooms → MakesRooms one bits y more rooms wider noted → MakesRooms test bits r words staged wider noted
+some_rooms {test} {one} {bits} {y} {words} {staged} {more} {rooms} {wider} {noted} before r k h m = record {
+  pending = pending_then words staged more rooms wider noted (pending_stay (λ i c. before c && has_bit i bits) words staged more rooms h) m.pending;
+  room = IfOk-from_err r _ k;
+  others = others_then bits words staged more rooms wider noted (others_as_made bits before words staged more rooms h) m.others;
+}
 
 -- ---- bits taken away
 
@@ -216,23 +235,14 @@ taken : (t l w b s : Bool) → l ≡ (w && not b) → (t ≡ true → s ≡ w) �
 taken true l w b s e h = e ∙ sym (ap (λ x. x && not b) (h refl))
 taken false l w b s e h = sym (and-true s)
 
--- from one that does, where others are left
-pub has_cleared_some : (words less : Words) (at word left bits : ℕ) → lookup (is_at (nat_cmp at)) words ≡ Some word
-    → ((i : ℕ) → has_bit i left ≡ (has_bit i word && not (has_bit i bits)))
-    → ((q : ℕ) → lookup (is_at (nat_cmp q)) less ≡ cond (is_at (nat_cmp at) q) (Some left) (lookup (is_at (nat_cmp q)) words))
+-- from one that does, where others are left, or none is
+pub has_cleared_put : (words less : Words) (at word bits : ℕ) (o : Option ℕ) → lookup (is_at (nat_cmp at)) words ≡ Some word
+    → ((i : ℕ) → has_bit i (unwrap_or o 0) ≡ (has_bit i word && not (has_bit i bits)))
+    → ((q : ℕ) → lookup (is_at (nat_cmp q)) less ≡ cond (is_at (nat_cmp at) q) o (lookup (is_at (nat_cmp q)) words))
     → HasCleared (λ i c. (at == c) && has_bit i bits) words less
-has_cleared_some words less at word left bits there fresh put = λ i c.
-    bit_changed words less at (Some left) put i c
-    ∙ taken (at == c) (has_bit i left) (has_bit i word) (has_bit i bits) (is_in words i c) (fresh i) (bit_there words at (Some word) there i c)
-
--- and where none is
-pub has_cleared_all : (words less : Words) (at word left bits : ℕ) → lookup (is_at (nat_cmp at)) words ≡ Some word
-    → ((i : ℕ) → has_bit i left ≡ (has_bit i word && not (has_bit i bits))) → ((i : ℕ) → has_bit i left ≡ false)
-    → ((q : ℕ) → lookup (is_at (nat_cmp q)) less ≡ cond (is_at (nat_cmp at) q) None (lookup (is_at (nat_cmp q)) words))
-    → HasCleared (λ i c. (at == c) && has_bit i bits) words less
-has_cleared_all words less at word left bits there fresh bare put = λ i c.
-    bit_changed words less at None put i c
-    ∙ taken (at == c) (has_bit i 0) (has_bit i word) (has_bit i bits) (is_in words i c) (none_in_zero i ∙ sym (bare i) ∙ fresh i) (bit_there words at (Some word) there i c)
+has_cleared_put words less at word bits o there fresh put = λ i c.
+    bit_changed words less at o put i c
+    ∙ taken (at == c) (has_bit i (unwrap_or o 0)) (has_bit i word) (has_bit i bits) (is_in words i c) (fresh i) (bit_there words at (Some word) there i c)
 
 pub nothing_cleared : (words : Words) (bits : ℕ) → HasCleared (at_cells [] bits) words words
 nothing_cleared words bits = λ i c. sym (and-true (is_in words i c))

@@ -18,7 +18,7 @@ pub use Rattle.std.proofs.lemmas.Map.Keys.{IsStrictlyIncreasing-dedup, sorted_fr
 pub use Rattle.std.proofs.lemmas.Map.Made.{is_some-lookup}
 pub use Rattle.std.proofs.lemmas.Nat.Bits.{bit_at-lt, bit_at-zero, bit_at_above, bit_at_and, bit_at_not, bit_at_ones, bit_at_ones_above, bit_at_or, bit_at_set_other, bit_at_set_same, ones_shr, same_from_bits, shr_and_one}
 pub use Rattle.std.proofs.lemmas.Option.{get_or_from_slice_get, slice_get-map}
-pub use Rattle.std.proofs.lemmas.Result.{IfOk-weaker, on_ok_weaker}
+pub use Rattle.std.proofs.lemmas.Result.{IfOk-from_err, IfOk-weaker, on_ok_weaker}
 pub use Rattle.std.specs.BTreeMap.{is_at}
 pub use Rattle.std.specs.Cmp.Derive.{one_truth}
 pub use Rattle.std.specs.Cmp.Lexicographic.{pointwise}
@@ -30,12 +30,13 @@ pub use Rattle.std.specs.Map.{keys_of, lookup, values_of}
 pub use Rattle.std.specs.Option.{is_some, option_map, option_to_list}
 pub use Rattle.std.specs.Ordering.{nat_cmp}
 pub use Rattle.std.specs.Prelude.{IfOk, IfSome, IsErr, IsSome, OnOk, bit_and, nat_lt, unwrap_or}
+pub use Rattle.std.specs.declared.alloc.AllocError.{AllocError}
 pub use Rattle.std.specs.Rc.{rc_str_bytes}
 pub use Rattle.std.specs.Result.{result_unwrap_or}
 pub use Rattle.std.specs.Str.{bytes_eq}
 pub use Rattle.std.specs.declared.cmp.Ordering.TheVariants.{Less}
 pub use Rattle.std.specs.declared.rc.RcStr.{RcStr}
-pub use Rattle.wi_sessions.specs.Inner.Cells.{HasCleared, HasMade, SamePending, at_cells, cells_in, cells_with, has_bit, is_in, is_staged, pending_in, vacant_in}
+pub use Rattle.wi_sessions.specs.Inner.Cells.{GetRooms, GetsRoom, HasCleared, HasMade, MakesRooms, SamePending, at_cells, cells_in, cells_with, has_bit, is_in, is_staged, pending_in, vacant_in}
 pub use Rattle.wi_sessions.specs.Inner.Held.{roster_in, session_in, with_name}
 pub use Rattle.wi_sessions.specs.Inner.Unread.{AreKept, AreLookedAt, HasPlace, HavePlaces, is_unread}
 pub use Rattle.wi_sessions.specs.Pending.{AllPending, list_at}
@@ -53,7 +54,7 @@ pub use Rattle.wi_tiles.specs.Rooms.{AreBetweenEdits, HasNoVacancy, HoldsTheSame
 pub use Rattle.wi_values.proofs.Listed.{Contains-from_has, has-filter, has-from_Contains, has_key}
 pub use Rattle.wi_values.proofs.Lists.{filter_all}
 pub use Rattle.wi_values.proofs.Lookups.{found-insert, found-without}
-pub use Rattle.wi_values.proofs.Order.{Ascends, Ascends-filter, Ascends-from_order, Ascends-insert, below_from_Less, is_at-eq, order-from_Ascends, turn_test}
+pub use Rattle.wi_values.proofs.Order.{Ascends, Ascends-filter, Ascends-from_order, Ascends-insert, ComeAfter, below_from_Less, is_at-eq, order-from_Ascends, same_entries, turn_test}
 pub use Rattle.wi_values.proofs.Outcomes.{on_err, on_ok}
 pub use Rattle.wi_values.proofs.Small.{or_new}
 pub use Rattle.wi_values.specs.Address.{columns, is_one_of, rows}

@@ -1,7 +1,7 @@
 //! Cells with a bit for each session for which they are pending or have room only. Bits of rooms stand in a list beside them
 //! too: as that is emptied the cells are pending, with no search and no memory.
 
-ghost use Rattle.std.specs.Prelude.{◌≡◌, true, false, ◌==◌, ◌<◌, ◌*◌, ℕ, Some, None, IfOk, OnOk, ◌++◌, ◌∷◌, ◌||◌, ◌&&◌, filter, [], OnErr};
+ghost use Rattle.std.specs.Prelude.{◌≡◌, true, ◌==◌, ◌<◌, ◌*◌, ℕ, Some, None, IfOk, OnOk, ◌++◌, ◌∷◌, ◌||◌, ◌&&◌, filter, [], OnErr};
 ghost use Rattle.std.specs.Option.{is_some};
 ghost use Rattle.std.specs.List.Sorted.{IsStrictlyIncreasing};
 ghost use Rattle.std.specs.Ordering.{nat_cmp};
@@ -9,7 +9,7 @@ ghost use Rattle.std.specs.Map.{lookup};
 ghost use Rattle.std.specs.BTreeMap.{is_at};
 ghost use Rattle.wi_tiles.specs.Entries.{IsOrdered};
 ghost use Rattle.wi_values.specs.Address.{is_one_of};
-ghost use Rattle.wi_sessions.specs.Inner.Cells.{has_bit, is_in, is_staged, cells_with, at_cells, SamePending, HasMade, HasCleared};
+ghost use Rattle.wi_sessions.specs.Inner.Cells.{has_bit, is_in, is_staged, cells_with, at_cells, SamePending, HasMade, HasCleared, MakesRooms};
 
 use crate::bits::{common, has, is_bare, joined, without};
 use std::alloc::{AllocError, Global};
@@ -49,13 +49,8 @@ fn stage_there(
     requires order { IsOrdered nat_cmp words.old }
     requires there { is_some (lookup (is_at (nat_cmp at)) words.old.entries) ≡ true }
     ensures order { IsOrdered nat_cmp words.new }
-    ensures pending { SamePending words.old.entries staged.old.items
-        words.new.entries staged.new.items }
-    ensures room { OnOk result (HasMade (λ i c. at == c && has_bit i bits)
-        words.old.entries staged.old.items words.new.entries staged.new.items) }
-    ensures others { (i c : ℕ) → has_bit i bits ≡ false
-        → (is_in words.new.entries i c ≡ is_in words.old.entries i c)
-        × (is_staged staged.new.items i c ≡ is_staged staged.old.items i c) }
+    ensures rooms { MakesRooms (λ c. at == c) bits result
+        words.old.entries staged.old.items words.new.entries staged.new.items }
 {
     let word = found(words, at).unwrap();
     let more = without(bits, word);
@@ -77,13 +72,8 @@ fn stage_one(
 ) -> Result<(), AllocError>
     requires { IsOrdered nat_cmp words.old }
     ensures order { IsOrdered nat_cmp words.new }
-    ensures pending { SamePending words.old.entries staged.old.items
-        words.new.entries staged.new.items }
-    ensures room { OnOk result (HasMade (λ i c. at == c && has_bit i bits)
-        words.old.entries staged.old.items words.new.entries staged.new.items) }
-    ensures others { (i c : ℕ) → has_bit i bits ≡ false
-        → (is_in words.new.entries i c ≡ is_in words.old.entries i c)
-        × (is_staged staged.new.items i c ≡ is_staged staged.old.items i c) }
+    ensures rooms { MakesRooms (λ c. at == c) bits result
+        words.old.entries staged.old.items words.new.entries staged.new.items }
 {
     staged.reserve(1)?;
     let is_new = words.put_new(at, bits)?;
@@ -104,13 +94,8 @@ pub(crate) fn stage_each(
 ) -> Result<(), AllocError>
     requires { IsOrdered nat_cmp words.old }
     ensures order { IsOrdered nat_cmp words.new }
-    ensures pending { SamePending words.old.entries staged.old.items
-        words.new.entries staged.new.items }
-    ensures room { OnOk result (HasMade (at_cells cells.now bits)
-        words.old.entries staged.old.items words.new.entries staged.new.items) }
-    ensures others { (i c : ℕ) → has_bit i bits ≡ false
-        → (is_in words.new.entries i c ≡ is_in words.old.entries i c)
-        × (is_staged staged.new.items i c ≡ is_staged staged.old.items i c) }
+    ensures rooms { MakesRooms (is_one_of cells.now) bits result
+        words.old.entries staged.old.items words.new.entries staged.new.items }
 {
     for at in cells {
         stage_one(words, staged, *at, bits)?;

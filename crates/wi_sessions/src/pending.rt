@@ -1,6 +1,6 @@
 //! Which cells may differ from which pictures.
 
-ghost use Rattle.std.specs.Prelude.{◌≡◌, ◌≢◌, ◌<◌, ◌≤◌, ◌||◌, ◌&&◌, ◌++◌, ◌∷◌, ℕ, List, not, length, [], IfOk, OnOk, OnErr, true, false, nat_lt, filter, ◌==◌};
+ghost use Rattle.std.specs.Prelude.{◌≡◌, ◌<◌, ◌≤◌, ◌||◌, ◌&&◌, ◌++◌, ◌∷◌, ℕ, List, not, length, [], IfOk, OnOk, OnErr, true, false, nat_lt, filter, ◌==◌};
 ghost use Rattle.std.specs.List.{list_all, slice_set};
 ghost use Rattle.wi_sessions.specs.Pictures.{sheet_size};
 ghost use Rattle.wi_values.specs.Address.{is_one_of};
@@ -10,7 +10,7 @@ ghost use Rattle.std.specs.List.Sorted.{IsStrictlyIncreasing};
 ghost use Rattle.std.specs.Ordering.{nat_cmp};
 ghost use Rattle.wi_tiles.specs.Entries.{IsOrdered};
 ghost use Rattle.wi_sessions.specs.Roster.{SameCells};
-ghost use Rattle.wi_sessions.specs.Inner.Cells.{has_bit, is_in, is_staged, cells_with, at_cells, SamePending, HasMade, HasCleared};
+ghost use Rattle.wi_sessions.specs.Inner.Cells.{is_in, is_staged, cells_with, at_cells, SamePending, HasMade, HasCleared, MakesRooms, GetsRoom, GetRooms};
 ghost use Rattle.wi_sessions.specs.Inner.Unread.{is_unread, HasPlace, HavePlaces, AreLookedAt};
 
 use crate::bits::{are_alike, bit_of, bits_of, without};
@@ -99,12 +99,7 @@ impl Pending {
     /// but for a search among the tiles of 16 rows.
     pub(crate) fn make_room(&mut self, i: usize, cells: &[Address]) -> Result<(), AllocError>
         requires { i < length self.old.pending }
-        ensures lists { self.new.pending ≡ self.old.pending }
-        ensures room { OnOk result ((a : ℕ) → is_one_of (list_at self.new.vacant i) a
-            ≡ (is_one_of (list_at self.old.vacant i) a
-            || (is_one_of cells.now a && not (is_one_of (list_at self.old.pending i) a)))) }
-        ensures refused { OnErr result (list_at self.new.vacant i ≡ []) }
-        ensures others { (j : ℕ) → j ≢ i → list_at self.new.vacant j ≡ list_at self.old.vacant j }
+        ensures { GetsRoom cells.now i result self.old self.new }
     {
         let limit = self.words.len() / 16 + 64;
         let bit = bit_of(i);
@@ -126,12 +121,7 @@ impl Pending {
 
     /// The same for each session, in one walk through the cells.
     pub(crate) fn make_room_all(&mut self, cells: &[Address]) -> Result<(), AllocError>
-        ensures pending { self.new.pending ≡ self.old.pending }
-        ensures room { OnOk result ((i a : ℕ) → i < length self.old.pending
-            → is_one_of (list_at self.new.vacant i) a
-            ≡ (is_one_of (list_at self.old.vacant i) a
-            || (is_one_of cells.now a && not (is_one_of (list_at self.old.pending i) a)))) }
-        ensures refused { OnErr result ((j : ℕ) → list_at self.new.vacant j ≡ []) }
+        ensures { GetRooms cells.now result self.old self.new }
     {
         let limit = self.words.len() / 2 + 64;
         match stage_all(
@@ -355,16 +345,11 @@ fn stage_own(
 ) -> Result<(), AllocError>
     requires { IsOrdered nat_cmp words.old }
     ensures order { IsOrdered nat_cmp words.new }
-    ensures pending { SamePending words.old.entries staged.old.items
-        words.new.entries staged.new.items }
-    ensures others { (i c : ℕ) → has_bit i bit ≡ false
-        → (is_in words.new.entries i c ≡ is_in words.old.entries i c)
-        × (is_staged staged.new.items i c ≡ is_staged staged.old.items i c) }
+    ensures rooms { MakesRooms (is_one_of cells.now) bit result
+        words.old.entries staged.old.items words.new.entries staged.new.items }
     ensures from { own.new.from ≡ own.old.from }
     ensures stay { (changed : List ℕ) (c : ℕ) → is_unread changed own.old c ≡ true
         → is_unread changed own.new c ≡ true }
-    ensures room { OnOk result (HasMade (at_cells cells.now bit)
-        words.old.entries staged.old.items words.new.entries staged.new.items) }
     ensures own { OnOk result ((changed : List ℕ) (c : ℕ) → is_one_of cells.now c ≡ true
         → is_unread changed own.new c ≡ true) }
 {

@@ -22,7 +22,6 @@ pub mod InOrder
 pub mod CellsAhead
 pub mod NextCells
 pub mod EmptyCells
-pub mod StandingCells
 pub mod Ranks
 pub mod SettledTables
 pub mod PlainCells

@@ -33,7 +33,7 @@ pub use Rattle.wi_graph.proofs.Cones.{agree_outside, cone_closed, cone_least, co
 pub use Rattle.wi_graph.proofs.EdgeLemmas.{content_of-with}
 pub use Rattle.wi_graph.proofs.Ends.{ends_open}
 pub use Rattle.wi_graph.proofs.Graphs.{stripped}
-pub use Rattle.wi_graph.proofs.Layers.{in_layer, layer_zero, walker_has_formula}
+pub use Rattle.wi_graph.proofs.Layers.{in_layer, is_key, layer_zero, walker_has_formula}
 pub use Rattle.wi_graph.proofs.ReachSteps.{reaches_here, reaches_on, reaches_read}
 pub use Rattle.wi_graph.proofs.ReachTest.{not_in_cone, true_reaches}
 pub use Rattle.wi_graph.proofs.Tests.{clash}
@@ -81,7 +81,7 @@ pub use Rattle.wi_values.proofs.Replacements.Same.{same_replacements_Decides}
 pub use Rattle.wi_values.proofs.Small.{one_at_most}
 pub use Rattle.wi_values.proofs.Within.{column_of_place, fewer_places, places_left, row_of_place, within_between}
 pub use Rattle.wi_values.specs.Address.{Area, column_of, is_one_of, is_within, is_within_one, place, rect_of, row_of}
-pub use Rattle.wi_values.specs.Replacements.{IsInOrder, as_map, is_replaced, last_for, overridden, replaced, same_replacements}
+pub use Rattle.wi_values.specs.Replacements.{IsInOrder, as_map, last_for, overridden, replaced, same_replacements}
 unfoldable pub use Rattle.wi_values.specs.Value.{shown_text}
 pub use Rattle.wi_values.specs.declared.replacement.Replacement.{Replacement}
 pub use Rattle.wi_values.specs.declared.value.ErrorKind.TheVariants.{BadValue, Circular}

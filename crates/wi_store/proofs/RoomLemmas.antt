@@ -1,5 +1,5 @@
 -- Laws of rooms and of the sheet in them.
-use Rattle.wi_store.proofs.Words.{◌≡◌, ℕ, ◌<◌, Bool, true, false, cond, List, [], ◌∷◌, filter, length, Option, Some, None, refl, sym, ap, ◌∙◌, subst, arith, ⊎_elim, unwrap_or, is_some, All, AllByRecursion, nat_cmp, lookup, keys_of, is_at, cases_order, All-cons, All-head, All-tail, at_itself, at_later, at_earlier, lookup_after, Sheet, content_of, cells_with_formula, has_formula, Content, Rooms, sheet_in, formula_cells, IsOccupied, HaveContents, tells_none, room_of, RoomsAreInOrder, taken, held_at, HoldsTheSame, HasNoVacancy, AreBetweenEdits, first_there, same_rooms, room_of-tail, no_rooms, all_taken}
+use Rattle.wi_store.proofs.Words.{◌≡◌, ℕ, ◌<◌, Bool, true, false, cond, List, [], ◌∷◌, filter, length, Option, Some, None, refl, sym, ap, ◌∙◌, subst, arith, ⊎_elim, unwrap_or, is_some, All, AllByRecursion, nat_cmp, lookup, keys_of, is_at, cases_order, All-cons, All-head, All-tail, at_itself, at_later, at_earlier, lookup_after, Sheet, content_of, cells_with_formula, has_formula, Content, Rooms, sheet_in, formula_cells, IsOccupied, HaveContents, tells_none, room_of, RoomsAreInOrder, taken, held_at, HoldsTheSame, HasNoVacancy, AreBetweenEdits, first_there, same_entries, room_of-tail, no_rooms, all_taken}
 pub use Rattle.wi_values.proofs.Order.{ComeAfter, Ascends, Ascends-from_order, order-from_Ascends}
 
 -- ---- the sheet in rooms
@@ -52,7 +52,7 @@ content_of-sheet_in a (e ∷ es) h =
 pub sheet_in-is : (rooms : Rooms) (s : Sheet) → RoomsAreInOrder rooms → Ascends s → ((q : ℕ) → held_at None rooms q ≡ content_of s q) → sheet_in rooms ≡ s
 sheet_in-is rooms s order up h =
     let asc : Ascends rooms = Ascends-from_order rooms order in
-    same_rooms (sheet_in rooms) s (Ascends-sheet_in rooms asc) up (λ q. content_of-sheet_in q rooms asc ∙ h q)
+    same_entries (sheet_in rooms) s (Ascends-sheet_in rooms asc) up (λ q. content_of-sheet_in q rooms asc ∙ h q)
 
 -- rooms with the same in each cell have the same sheet
 pub sheet_in-same : (old new : Rooms) → RoomsAreInOrder old → RoomsAreInOrder new → HoldsTheSame None old new → sheet_in new ≡ sheet_in old

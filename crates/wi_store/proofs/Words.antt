@@ -24,10 +24,10 @@ pub use Rattle.wi_store.specs.declared.fault.StoreFault.{StoreFault}
 pub use Rattle.wi_store.specs.declared.fault.StoreFault.TheVariants.{EditLimit, Full, Memory}
 pub use Rattle.wi_store.specs.declared.limits.Limits.{Limits}
 pub use Rattle.wi_tiles.proofs.RoomChanges.{same_all, same_back, taken_back}
-pub use Rattle.wi_tiles.proofs.RoomLemmas.{all_taken, first_there, no_rooms, room_of-tail, same_rooms}
+pub use Rattle.wi_tiles.proofs.RoomLemmas.{all_taken, no_rooms, room_of-tail}
 pub use Rattle.wi_tiles.specs.Rooms.{AreBetweenEdits, HasNoVacancy, HoldsTheSame, RoomsAreInOrder, held_at, room_of, stood, taken, tells_none, with_all, with_all_back, with_one}
 pub use Rattle.wi_values.proofs.Lookups.{found-insert, found-without}
-pub use Rattle.wi_values.proofs.Order.{Ascends, Ascends-filter, Ascends-from_order, Ascends-insert, at_earlier, at_itself, at_later, lookup_after}
+pub use Rattle.wi_values.proofs.Order.{Ascends, Ascends-filter, Ascends-from_order, Ascends-insert, at_earlier, at_itself, at_later, first_there, lookup_after, same_entries}
 pub use Rattle.wi_values.proofs.Outcomes.{on_err, on_ok}
 pub use Rattle.wi_values.proofs.Within.{within_between}
 pub use Rattle.wi_values.specs.Address.{Area, columns, is_within, rows}

@@ -1,47 +1,8 @@
 -- Laws of rooms, whatever stands in them.
-use Rattle.wi_tiles.proofs.Words.{◌≡◌, ◌==◌, ◌<◌, ◌≤◌, ◌+◌, ◌⊎◌, ◌↔◌, ℕ, Bool, true, false, cond, not, IsTrue, List, [], ◌∷◌, filter, length, Option, Some, None, refl, sym, ap, subst, arith, ◌∙◌, ⊎_elim, inl, inr, unwrap_or, is_some, from_bool, nat_cmp, keys_of, set_value, remove_entry, is_at, cases_eq, cases_order, eqb-true, list_any, is_some-lookup, keeps_few, Ascends, Ascends-from_order, ComeAfter, ComeAfter-filter, Ascends-filter, come_after_earlier, at_itself, at_same, at_other, is_at-eq, turn_test, lookup_after, room_of, RoomsAreInOrder, taken, with_one, held_at, HoldsTheSame, HasNoVacancy, HasRoomFor, AreBetweenEdits}
+use Rattle.wi_tiles.proofs.Words.{◌≡◌, ◌==◌, ◌≤◌, ◌+◌, ◌⊎◌, ◌↔◌, ℕ, Bool, true, false, cond, not, IsTrue, List, [], ◌∷◌, filter, length, Option, Some, None, refl, sym, ap, subst, arith, ◌∙◌, ⊎_elim, inl, inr, unwrap_or, is_some, from_bool, nat_cmp, keys_of, set_value, remove_entry, is_at, cases_eq, eqb-true, list_any, is_some-lookup, keeps_few, Ascends, Ascends-from_order, ComeAfter, ComeAfter-filter, Ascends-filter, at_itself, at_same, at_other, is_at-eq, turn_test, lookup_after, room_of, RoomsAreInOrder, taken, with_one, held_at, HoldsTheSame, HasNoVacancy, HasRoomFor, AreBetweenEdits, first_there, same_entries}
 use Rattle.wi_tiles.proofs.MapSteps.{with_new, found-with_new, found-replaced, replaced_nowhere, found-removed}
 
 module _ {X : Type 0} where
-  -- ---- rooms in order with the same in each are the same
-
-  tails : (k : ℕ) (x y : X) (es fs : List (ℕ × X)) → ComeAfter k es → ComeAfter k fs → ((q : ℕ) → room_of ((k, x) ∷ es) q ≡ room_of ((k, y) ∷ fs) q)
-      → (q : ℕ) → room_of es q ≡ room_of fs q
-  tails k x y es fs a b h q = by (is_at (nat_cmp q) k) refl (h q)
-    where
-      by : (d : Bool) → is_at (nat_cmp q) k ≡ d → cond d (Some x) (room_of es q) ≡ cond d (Some y) (room_of fs q) → room_of es q ≡ room_of fs q
-      by true t g =
-          let e = at_same q k t in
-          lookup_after q es (subst (λ (z : ℕ). ComeAfter z es) e a) ∙ sym (lookup_after q fs (subst (λ (z : ℕ). ComeAfter z fs) e b))
-      by false t g = g
-
-  pub first_there : (e : ℕ × X) (es : List (ℕ × X)) → room_of (e ∷ es) e.0 ≡ Some e.1
-  first_there e es = rw (at_itself e.0)
-
-  not_there : (a : ℕ) (x : X) (es fs : List (ℕ × X)) → room_of es a ≡ Some x → ComeAfter a fs → ((q : ℕ) → room_of es q ≡ room_of fs q) → ⊥
-  not_there a x es fs h b k = let z = sym h ∙ k a ∙ lookup_after a fs b in cc
-
-  pub same_rooms : (es fs : List (ℕ × X)) → Ascends es → Ascends fs → ((q : ℕ) → room_of es q ≡ room_of fs q) → es ≡ fs
-  same_rooms [] [] a b h = refl
-  same_rooms [] (f ∷ fs) a b h = absurd (not_there f.0 f.1 (f ∷ fs) [] (first_there f fs) tt (λ q. sym (h q)))
-  same_rooms (e ∷ es) [] a b h = absurd (not_there e.0 e.1 (e ∷ es) [] (first_there e es) tt h)
-  same_rooms (e ∷ es) (f ∷ fs) a b h = by (cases_order e.0 f.0) (same_rooms es fs a.1 b.1)
-    where
-      alike : (k l : ℕ) (x y : X) → k ≡ l → ComeAfter k es → ComeAfter l fs → ((q : ℕ) → room_of ((k, x) ∷ es) q ≡ room_of ((l, y) ∷ fs) q) → (((q : ℕ) → room_of es q ≡ room_of fs q) → es ≡ fs) →
-          ◌≡◌ {A = List (ℕ × X)} ((k, x) ∷ es) ((l, y) ∷ fs)
-      alike k l x y s c d g ih =
-          let d' = subst (λ (z : ℕ). ComeAfter z fs) (sym s) d in
-          let g' = subst (λ (z : ℕ). (q : ℕ) → room_of ((k, x) ∷ es) q ≡ room_of ((z, y) ∷ fs) q) (sym s) g in
-          let t = ih (tails k x y es fs c d' g') in
-          let u : Some x ≡ Some y = sym (first_there (k, x) es) ∙ g' k ∙ first_there (k, y) fs in
-          let v : x ≡ y = cc in
-          ap (λ (z : ℕ). (z, x) ∷ es) s ∙ ap (λ (z : X). (l, z) ∷ es) v ∙ ap (λ (zs : List (ℕ × X)). (l, y) ∷ zs) t
-
-      by : (e.0 ≡ f.0) ⊎ ((e.0 < f.0) ⊎ (f.0 < e.0)) → (((q : ℕ) → room_of es q ≡ room_of fs q) → es ≡ fs) → e ∷ es ≡ f ∷ fs
-      by (inl s) ih = alike e.0 f.0 e.1 f.1 s a.0 b.0 h ih
-      by (inr (inl l)) ih = absurd (not_there e.0 e.1 (e ∷ es) (f ∷ fs) (first_there e es) (l, come_after_earlier e.0 f.0 fs l b.0) h)
-      by (inr (inr l)) ih = absurd (not_there f.0 f.1 (f ∷ fs) (e ∷ es) (first_there f fs) (l, come_after_earlier f.0 e.0 es l a.0) (λ q. sym (h q)))
-
   -- ---- some of the rooms
 
   -- what passes the test, if it does
@@ -197,7 +158,7 @@ module _ {X : Type 0} (vacant : X) where
   told_by_held (Some v) (Some w) m n h = ap (λ (v : X). Some v) h
 
   pub same_filled : (es fs : List (ℕ × X)) → Ascends es → Ascends fs → HasNoVacancy vacant es → HasNoVacancy vacant fs → HoldsTheSame vacant es fs → es ≡ fs
-  same_filled es fs a b m n h = same_rooms es fs a b (λ q. told_by_held (room_of es q) (room_of fs q) (m q) (n q) (sym (h q)))
+  same_filled es fs a b m n h = same_entries es fs a b (λ q. told_by_held (room_of es q) (room_of fs q) (m q) (n q) (sym (h q)))
 
 -- ---- how many rooms have something
 
@@ -295,7 +256,7 @@ module _ {X : Type 0} (vacant : X) (is_taken : X → Bool) (tells : (x : X) → 
 
   pub same_taken : (old new : List (ℕ × X)) → Ascends old → Ascends new → HoldsTheSame vacant old new → taken is_taken new ≡ taken is_taken old
   same_taken old new a b h =
-      same_rooms (taken is_taken new) (taken is_taken old) (Ascends-filter (λ (e : ℕ × X). is_taken e.1) new b) (Ascends-filter (λ (e : ℕ × X). is_taken e.1) old a)
+      same_entries (taken is_taken new) (taken is_taken old) (Ascends-filter (λ (e : ℕ × X). is_taken e.1) new b) (Ascends-filter (λ (e : ℕ × X). is_taken e.1) old a)
       (λ q. room_of-filter is_taken new b q ∙ passing_held (room_of new q) ∙ ap (λ (x : X). cond (is_taken x) (Some x) None) (h q)
       ∙ sym (room_of-filter is_taken old a q ∙ passing_held (room_of old q)))
 

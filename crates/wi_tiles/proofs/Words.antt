@@ -1,6 +1,6 @@
 -- The words of the library, of the crates below and of this crate's definitions that its proofs are written in.
 pub use Rattle.std.proofs.Common.{Err, List, None, Ok, Option, Result, Some, [], ap, arith, cond, div-add-mod', drop, eqb, false, get_or, length, refl, rules, set, subst, suc, sym, take, true, zero, ℕ, ⊎_elim, ◌%◌, ◌*◌, ◌++◌, ◌+◌, ◌-◌, ◌/◌, ◌<◌, ◌^◌, ◌∙◌, ◌∷◌, ◌≡◌, ◌≤◌}
-pub use Rattle.std.proofs.lemmas.Bool.{and_from, and_parts, cases_eq, cases_lt, cases_order, false_from_ne_true, le-leb, leb-true, lt-ltb, or_cases, or_left, or_right, true≢false}
+pub use Rattle.std.proofs.lemmas.Bool.{and_from, and_parts, cases_eq, cases_lt, false_from_ne_true, le-leb, leb-true, lt-ltb, or_cases, or_left, or_right, true≢false}
 pub use Rattle.std.proofs.lemmas.Cmp.{eq_by_cmp_equiv, nat_cmp_total}
 pub use Rattle.std.proofs.lemmas.Grind.{common_steps}
 pub use Rattle.std.proofs.lemmas.List.{append_assoc, drop-set-lt, drop_all, drop_more, get_or-set_other, get_or-set_same, get_or_default, get_or_past, length-append, length-drop, length-map, length-set, take-set, take_more, take_more_set}
@@ -43,7 +43,7 @@ pub use Rattle.wi_values.proofs.Keys.{is_named, keys_of-set}
 pub use Rattle.wi_values.proofs.Lists.{got_in_front, keeps_few}
 pub use Rattle.wi_values.proofs.Lookups.{found-insert, found-without}
 pub use Rattle.wi_values.proofs.Outcomes.{on_err}
-pub use Rattle.wi_values.proofs.Order.{Ascends, Ascends-filter, Ascends-from_order, Ascends-insert, ComeAfter, ComeAfter-filter, at_itself, at_other, at_same, cmp_after, cmp_before, cmp_equal, come_after_earlier, is_at-eq, lookup_after, order-from_Ascends, turn_test}
+pub use Rattle.wi_values.proofs.Order.{Ascends, Ascends-filter, Ascends-from_order, Ascends-insert, ComeAfter, ComeAfter-filter, at_itself, at_other, at_same, cmp_after, cmp_before, cmp_equal, first_there, is_at-eq, lookup_after, order-from_Ascends, same_entries, turn_test}
 pub use Rattle.wi_values.proofs.Small.{one_at_most}
 pub use Rattle.wi_values.proofs.Within.{within_from, within_parts}
 pub use Rattle.wi_values.specs.Address.{Area, column_of, columns, is_one_of, is_within, place, row_of, rows}

@@ -1,4 +1,3 @@
-pub mod Constants
 pub mod Counts
 pub mod Cutting
 pub mod Places

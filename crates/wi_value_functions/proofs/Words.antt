@@ -30,17 +30,15 @@ pub use Rattle.wi_fraction.proofs.NearWholes.{of_parts}
 pub use Rattle.wi_fraction.proofs.Numbers.{number_at-too_large, number_of-whole}
 pub use Rattle.wi_fraction.proofs.Sizes.{same_nat_cmp}
 pub use Rattle.wi_fraction.proofs.Steps.{mul-one-int}
-unfoldable pub use Rattle.wi_fraction.specs.Gcd.{gcd}
 pub use Rattle.wi_fraction.specs.Number.{Number}
 unfoldable pub use Rattle.wi_fraction.specs.Number.{number_of}
-pub use Rattle.wi_fraction.specs.Number.Laws.{number_at-some}
 pub use Rattle.wi_fraction.specs.Rounding.{rounded}
 unfoldable pub use Rattle.wi_fraction.specs.Rounding.{round_to}
 pub use Rattle.wi_fraction.specs.declared.rounding.Mode.{Mode}
 pub use Rattle.wi_fraction.specs.declared.rounding.Mode.TheVariants.{Toward}
 pub use Rattle.wi_standard_functions.specs.Arguments.{Argument, value_or}
 pub use Rattle.wi_standard_functions.specs.Arithmetic.{fitting, limited_text, whole_number, whole_value}
-pub use Rattle.wi_standard_functions.specs.Convert.{hundred_number, one_number, to_text, to_whole, zero_number}
+pub use Rattle.wi_standard_functions.specs.Convert.{to_text, to_whole}
 pub use Rattle.wi_standard_functions.specs.Functions.{has_parameters, of_one, of_three_or, of_two_or, value_of_call}
 unfoldable pub use Rattle.wi_standard_functions.specs.Functions.{call_value, function_named, functions}
 pub use Rattle.wi_standard_functions.specs.Information.{value_value}

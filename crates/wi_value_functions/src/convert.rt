@@ -9,23 +9,19 @@ use wi_fraction::{Fraction, Mode};
 use wi_values::{ErrorKind, Value};
 
 /// The number 0.
+#[tactic(auto, using(wi_fraction::specs::Number::Laws::same_number))]
 pub fn zero() -> Fraction
     ensures { result ≡ zero_number }
 {
-    match Fraction::new(0, 1) {
-        Ok(x) => x,
-        Err(_) => unreachable!(),
-    }
+    Fraction::small(0)
 }
 
 /// The number 1.
+#[tactic(auto, using(wi_fraction::specs::Number::Laws::same_number))]
 pub fn one() -> Fraction
     ensures { result ≡ one_number }
 {
-    match Fraction::new(1, 1) {
-        Ok(x) => x,
-        Err(_) => unreachable!(),
-    }
+    Fraction::small(1)
 }
 
 /// A value taken for a number.

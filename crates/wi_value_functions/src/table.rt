@@ -23,62 +23,77 @@ use std::cmp::Ordering;
 use wi_fraction::Mode;
 use wi_values::ErrorKind;
 
-/// A function's name in capitals, how many parameters it has at least and at most, where `None` is any number, and the
-/// function.
-type Row = (&'static str, usize, Option<usize>, Function);
+/// A function, its name in capitals, and how many parameters it has at least and at most, where `None` is any number.
+struct Row {
+    name: &'static str,
+    least: usize,
+    greatest: Option<usize>,
+    function: Function,
+}
+
+macro_rules! row {
+    ($name:expr, $least:expr, $greatest:expr, $function:expr) => {
+        Row {
+            name: $name,
+            least: $least,
+            greatest: $greatest,
+            function: $function,
+        }
+    };
+}
 
 static ROWS: [Row; 51] = [
-    ("ABS", 1, Some(1), Values(Abs)),
-    ("AND", 1, None, References(Fold(And))),
-    ("AVERAGE", 1, None, References(Fold(Average))),
-    ("CHOOSE", 2, None, Lazy(Choose)),
-    ("CONCATENATE", 1, None, Values(Text(Concatenate))),
-    ("COUNT", 1, None, References(Fold(Count))),
-    ("COUNTA", 1, None, References(Fold(CountA))),
-    ("COUNTIF", 2, Some(2), References(Lookup(CountIf))),
-    ("EXACT", 2, Some(2), Values(Text(Exact))),
-    ("FALSE", 0, Some(0), Values(False)),
-    ("FIND", 2, Some(3), Values(Text(Find))),
-    ("HLOOKUP", 3, Some(4), References(Lookup(HLookup))),
-    ("IF", 1, Some(3), Lazy(If)),
-    ("IFERROR", 2, Some(2), Lazy(IfError)),
-    ("IFNA", 2, Some(2), Lazy(IfNa)),
-    ("INDEX", 2, Some(3), References(Lookup(Index))),
-    ("INT", 1, Some(1), Values(Int)),
-    ("ISBLANK", 1, Some(1), Values(Is(Test::Blank))),
-    ("ISERR", 1, Some(1), Values(Is(Test::Err))),
-    ("ISERROR", 1, Some(1), Values(Is(Test::Error))),
-    ("ISLOGICAL", 1, Some(1), Values(Is(Test::Logical))),
-    ("ISNA", 1, Some(1), Values(Is(Test::Na))),
-    ("ISNONTEXT", 1, Some(1), Values(Is(Test::NonText))),
-    ("ISNUMBER", 1, Some(1), Values(Is(Test::Number))),
-    ("ISTEXT", 1, Some(1), Values(Is(Test::Text))),
-    ("LEFT", 1, Some(2), Values(Text(Left))),
-    ("LEN", 1, Some(1), Values(Text(Len))),
-    ("MATCH", 2, Some(3), References(Lookup(Match))),
-    ("MAX", 1, None, References(Fold(Max))),
-    ("MID", 3, Some(3), Values(Text(Mid))),
-    ("MIN", 1, None, References(Fold(Min))),
-    ("MOD", 2, Some(2), Values(Mod)),
-    ("NA", 0, Some(0), Values(Na)),
-    ("NOT", 1, Some(1), Values(Not)),
-    ("OR", 1, None, References(Fold(Or))),
-    ("POWER", 2, Some(2), Values(Power)),
-    ("PRODUCT", 1, None, References(Fold(Product))),
-    ("QUOTIENT", 2, Some(2), Values(Quotient)),
-    ("REPT", 2, Some(2), Values(Text(Rept))),
-    ("RIGHT", 1, Some(2), Values(Text(Right))),
-    ("ROUND", 1, Some(2), Values(Round(Mode::HalfAway))),
-    ("ROUNDDOWN", 1, Some(2), Values(Round(Mode::Toward))),
-    ("ROUNDUP", 1, Some(2), Values(Round(Mode::Away))),
-    ("SIGN", 1, Some(1), Values(Sign)),
-    ("SUM", 1, None, References(Fold(Sum))),
-    ("SUMIF", 2, Some(3), References(Lookup(SumIf))),
-    ("SUMPRODUCT", 1, None, References(Lookup(SumProduct))),
-    ("TRUE", 0, Some(0), Values(True)),
-    ("TRUNC", 1, Some(2), Values(Round(Mode::Toward))),
-    ("VALUE", 1, Some(1), Values(Value)),
-    ("VLOOKUP", 3, Some(4), References(Lookup(VLookup))),
+    row!("ABS", 1, Some(1), Values(Abs)),
+    row!("AND", 1, None, References(Fold(And))),
+    row!("AVERAGE", 1, None, References(Fold(Average))),
+    row!("CHOOSE", 2, None, Lazy(Choose)),
+    row!("CONCATENATE", 1, None, Values(Text(Concatenate))),
+    row!("COUNT", 1, None, References(Fold(Count))),
+    row!("COUNTA", 1, None, References(Fold(CountA))),
+    row!("COUNTIF", 2, Some(2), References(Lookup(CountIf))),
+    row!("EXACT", 2, Some(2), Values(Text(Exact))),
+    row!("FALSE", 0, Some(0), Values(False)),
+    row!("FIND", 2, Some(3), Values(Text(Find))),
+    row!("HLOOKUP", 3, Some(4), References(Lookup(HLookup))),
+    row!("IF", 1, Some(3), Lazy(If)),
+    row!("IFERROR", 2, Some(2), Lazy(IfError)),
+    row!("IFNA", 2, Some(2), Lazy(IfNa)),
+    row!("INDEX", 2, Some(3), References(Lookup(Index))),
+    row!("INT", 1, Some(1), Values(Int)),
+    row!("ISBLANK", 1, Some(1), Values(Is(Test::Blank))),
+    row!("ISERR", 1, Some(1), Values(Is(Test::Err))),
+    row!("ISERROR", 1, Some(1), Values(Is(Test::Error))),
+    row!("ISLOGICAL", 1, Some(1), Values(Is(Test::Logical))),
+    row!("ISNA", 1, Some(1), Values(Is(Test::Na))),
+    row!("ISNONTEXT", 1, Some(1), Values(Is(Test::NonText))),
+    row!("ISNUMBER", 1, Some(1), Values(Is(Test::Number))),
+    row!("ISTEXT", 1, Some(1), Values(Is(Test::Text))),
+    row!("LEFT", 1, Some(2), Values(Text(Left))),
+    row!("LEN", 1, Some(1), Values(Text(Len))),
+    row!("MATCH", 2, Some(3), References(Lookup(Match))),
+    row!("MAX", 1, None, References(Fold(Max))),
+    row!("MID", 3, Some(3), Values(Text(Mid))),
+    row!("MIN", 1, None, References(Fold(Min))),
+    row!("MOD", 2, Some(2), Values(Mod)),
+    row!("NA", 0, Some(0), Values(Na)),
+    row!("NOT", 1, Some(1), Values(Not)),
+    row!("OR", 1, None, References(Fold(Or))),
+    row!("POWER", 2, Some(2), Values(Power)),
+    row!("PRODUCT", 1, None, References(Fold(Product))),
+    row!("QUOTIENT", 2, Some(2), Values(Quotient)),
+    row!("REPT", 2, Some(2), Values(Text(Rept))),
+    row!("RIGHT", 1, Some(2), Values(Text(Right))),
+    row!("ROUND", 1, Some(2), Values(Round(Mode::HalfAway))),
+    row!("ROUNDDOWN", 1, Some(2), Values(Round(Mode::Toward))),
+    row!("ROUNDUP", 1, Some(2), Values(Round(Mode::Away))),
+    row!("SIGN", 1, Some(1), Values(Sign)),
+    row!("SUM", 1, None, References(Fold(Sum))),
+    row!("SUMIF", 2, Some(3), References(Lookup(SumIf))),
+    row!("SUMPRODUCT", 1, None, References(Lookup(SumProduct))),
+    row!("TRUE", 0, Some(0), Values(True)),
+    row!("TRUNC", 1, Some(2), Values(Round(Mode::Toward))),
+    row!("VALUE", 1, Some(1), Values(Value)),
+    row!("VLOOKUP", 3, Some(4), References(Lookup(VLookup))),
 ];
 
 /// The function that a call with that name, in capitals, and so many parameters is a call of: `UnknownName` where none has
@@ -89,11 +104,11 @@ pub fn function_for(name: &str, count: usize) -> Result<Function, ErrorKind>
     ensures refused { IfErr result
         (λ e. (args : List Argument) → length args ≡ count → call_value name.now args ≡ Fault e) }
 {
-    let Some((_, least, greatest, function)) = row_of(name) else {
+    let Some(row) = row_of(name) else {
         return Err(ErrorKind::UnknownName);
     };
-    if is_between(count, *least, *greatest) {
-        Ok(*function)
+    if is_between(count, row.least, row.greatest) {
+        Ok(row.function)
     } else {
         Err(ErrorKind::BadValue)
     }
@@ -110,7 +125,7 @@ fn row_of(name: &str) -> Option<&'static Row>
     let mut to = rows.len();
     while from < to {
         let middle = (from + to) / 2;
-        match compare(rows[middle].0, name) {
+        match compare(rows[middle].name, name) {
             Ordering::Less => from = middle + 1,
             Ordering::Equal => return Some(&rows[middle]),
             Ordering::Greater => to = middle,

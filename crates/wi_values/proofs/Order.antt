@@ -1,5 +1,5 @@
 -- Numbers in order: their comparison, the test for a key, and entries whose keys ascend.
-use Rattle.wi_values.proofs.Words.{◌≡◌, ◌==◌, ◌<◌, ℕ, Bool, true, false, cond, List, [], ◌∷◌, filter, None, refl, arith, nat_tests, sorted_head, sorted_tail, AllByRecursion, nat_cmp, match_ordering, Ordering, Less, Equal, Greater, lookup, keys_of, is_at, insert_entry}
+use Rattle.wi_values.proofs.Words.{◌≡◌, ◌==◌, ◌<◌, ℕ, Bool, true, false, cond, List, [], ◌∷◌, filter, Option, Some, None, refl, sym, ap, ◌∙◌, subst, ◌⊎◌, inl, inr, cases_order, arith, nat_tests, sorted_head, sorted_tail, AllByRecursion, nat_cmp, match_ordering, Ordering, Less, Equal, Greater, lookup, keys_of, is_at, insert_entry}
 use Rattle.std.specs.List.Sorted.{IsStrictlySortedBy}
 
 -- ---- how two numbers compare
@@ -89,6 +89,48 @@ module _ {X : Type 0} where
   pub lookup_after : (a : ℕ) (es : List (ℕ × X)) → ComeAfter a es → lookup (is_at (nat_cmp a)) es ≡ None
   lookup_after a [] h = refl
   lookup_after a (e ∷ es) h = rw (at_later a e.0 h.0) (lookup_after a es h.1)
+
+  -- ---- lists whose keys ascend, and in which the same is found, are one
+
+  abbrev pub found : List (ℕ × X) → ℕ → Option X
+  found es a = lookup (is_at (nat_cmp a)) es
+
+  tails : (k : ℕ) (x y : X) (es fs : List (ℕ × X)) → ComeAfter k es → ComeAfter k fs → ((q : ℕ) → found ((k, x) ∷ es) q ≡ found ((k, y) ∷ fs) q)
+      → (q : ℕ) → found es q ≡ found fs q
+  tails k x y es fs a b h q = by (is_at (nat_cmp q) k) refl (h q)
+    where
+      by : (d : Bool) → is_at (nat_cmp q) k ≡ d → cond d (Some x) (found es q) ≡ cond d (Some y) (found fs q) → found es q ≡ found fs q
+      by true t g =
+          let e = at_same q k t in
+          lookup_after q es (subst (λ (z : ℕ). ComeAfter z es) e a) ∙ sym (lookup_after q fs (subst (λ (z : ℕ). ComeAfter z fs) e b))
+      by false t g = g
+
+  pub first_there : (e : ℕ × X) (es : List (ℕ × X)) → found (e ∷ es) e.0 ≡ Some e.1
+  first_there e es = rw (at_itself e.0)
+
+  not_there : (a : ℕ) (x : X) (es fs : List (ℕ × X)) → found es a ≡ Some x → ComeAfter a fs → ((q : ℕ) → found es q ≡ found fs q) → ⊥
+  not_there a x es fs h b k = let z = sym h ∙ k a ∙ lookup_after a fs b in cc
+
+  pub same_entries : (es fs : List (ℕ × X)) → Ascends es → Ascends fs → ((q : ℕ) → found es q ≡ found fs q) → es ≡ fs
+  same_entries [] [] a b h = refl
+  same_entries [] (f ∷ fs) a b h = absurd (not_there f.0 f.1 (f ∷ fs) [] (first_there f fs) tt (λ q. sym (h q)))
+  same_entries (e ∷ es) [] a b h = absurd (not_there e.0 e.1 (e ∷ es) [] (first_there e es) tt h)
+  same_entries (e ∷ es) (f ∷ fs) a b h = by (cases_order e.0 f.0) (same_entries es fs a.1 b.1)
+    where
+      alike : (k l : ℕ) (x y : X) → k ≡ l → ComeAfter k es → ComeAfter l fs → ((q : ℕ) → found ((k, x) ∷ es) q ≡ found ((l, y) ∷ fs) q) → (((q : ℕ) → found es q ≡ found fs q) → es ≡ fs) →
+          ◌≡◌ {A = List (ℕ × X)} ((k, x) ∷ es) ((l, y) ∷ fs)
+      alike k l x y s c d g ih =
+          let d' = subst (λ (z : ℕ). ComeAfter z fs) (sym s) d in
+          let g' = subst (λ (z : ℕ). (q : ℕ) → found ((k, x) ∷ es) q ≡ found ((z, y) ∷ fs) q) (sym s) g in
+          let t = ih (tails k x y es fs c d' g') in
+          let u : Some x ≡ Some y = sym (first_there (k, x) es) ∙ g' k ∙ first_there (k, y) fs in
+          let v : x ≡ y = cc in
+          ap (λ (z : ℕ). (z, x) ∷ es) s ∙ ap (λ (z : X). (l, z) ∷ es) v ∙ ap (λ (zs : List (ℕ × X)). (l, y) ∷ zs) t
+
+      by : (e.0 ≡ f.0) ⊎ ((e.0 < f.0) ⊎ (f.0 < e.0)) → (((q : ℕ) → found es q ≡ found fs q) → es ≡ fs) → e ∷ es ≡ f ∷ fs
+      by (inl s) ih = alike e.0 f.0 e.1 f.1 s a.0 b.0 h ih
+      by (inr (inl l)) ih = absurd (not_there e.0 e.1 (e ∷ es) (f ∷ fs) (first_there e es) (l, come_after_earlier e.0 f.0 fs l b.0) h)
+      by (inr (inr l)) ih = absurd (not_there f.0 f.1 (f ∷ fs) (e ∷ es) (first_there f fs) (l, come_after_earlier f.0 e.0 es l a.0) (λ q. sym (h q)))
 
   -- ---- what stays in order
 

@@ -3,29 +3,32 @@ pub use Rattle.std.proofs.Common.{All, Bool, Err, IfSome, List, None, Ok, OnErr,
 pub use Rattle.std.proofs.Math.Bool.{and_comm}
 pub use Rattle.std.proofs.Math.Nat.{add-mul, add_assoc, mul-pos, mul_assoc, mul_right_comm, pow-le-pow_right, pow-suc}
 pub use Rattle.std.proofs.Math.Seq.{drop-append_seam, map-set_same, take-append_seam}
-pub use Rattle.std.proofs.lemmas.Bool.{and_from, and_parts, cases_lt, cases_order, eqb-true, le-leb, leb-true, or_left, or_parts, or_right}
+pub use Rattle.std.proofs.lemmas.Bool.{and_from, and_parts, cases_lt, cases_order, eqb-true, le-leb, leb-true, ne_eqb, or_left, or_parts, or_right}
 pub use Rattle.std.proofs.lemmas.Bool.Decides.{nat_tests}
+pub use Rattle.std.proofs.lemmas.Cmp.{ranked}
 pub use Rattle.std.proofs.lemmas.Fmt.{decimal_is_IsNumeral, decimal_nonempty, first_decimal}
 pub use Rattle.std.proofs.lemmas.Grind.{common_steps}
 pub use Rattle.std.proofs.lemmas.Iterator.{YieldsList-from_slice}
 pub use Rattle.std.proofs.lemmas.Iterator.Search.{all_from_yields_List}
-pub use Rattle.std.proofs.lemmas.List.{at_drop_more, drop_more, map-append, take-append-drop, take_more}
+pub use Rattle.std.proofs.lemmas.List.{at_drop_more, drop_more, get_or-map, length-map, map-append, take-append-drop, take_more}
 pub use Rattle.std.proofs.lemmas.List.Folds.{Any-from_list_any, list_any-append, list_any_at, list_any_more}
 pub use Rattle.std.proofs.lemmas.List.Recursion.{and_push}
+pub use Rattle.std.proofs.lemmas.List.Sorted.{searched}
 pub use Rattle.std.proofs.lemmas.List.Sums.{sum_by-cons}
 pub use Rattle.std.proofs.lemmas.Map.Entries.{lookup-filter-keys}
-pub use Rattle.std.proofs.lemmas.Map.Keys.{IsStrictlyIncreasing-from_sorted, sorted_from_strictly_increasing, sorted_head, sorted_tail}
+pub use Rattle.std.proofs.lemmas.Map.Keys.{IsStrictlyIncreasing-from_sorted, below_from_sorted, non_decreasing_from_sorted, sorted_from_strictly_increasing, sorted_head, sorted_tail}
 pub use Rattle.std.proofs.lemmas.Map.Views.{any-filter_same}
 pub use Rattle.std.proofs.lemmas.Slice.Eq.{bytes_eq-Decides, slice_eq-Decides}
 pub use Rattle.std.specs.BTreeMap.{insert_entry, is_at}
 pub use Rattle.std.specs.Char.{digit_value, is_ascii_alphabetic, is_ascii_digit, to_ascii_uppercase}
 pub use Rattle.std.specs.Fmt.{decimal}
 pub use Rattle.std.specs.List.{AllByRecursion, Any, Contains, list_all, list_any, prefix_len}
-pub use Rattle.std.specs.List.Sorted.{IsStrictlyIncreasing, IsStrictlySortedBy}
+pub use Rattle.std.specs.List.Sorted.{IsBinarySearchResult, IsNonDecreasingBy, IsSearchInRange, IsStrictlyIncreasing, IsStrictlySortedBy}
 pub use Rattle.std.specs.Map.{keys_of, lookup, remove_entry}
 pub use Rattle.std.specs.Option.{SomeIff, option_or}
-pub use Rattle.std.specs.Ordering.{match_ordering, nat_cmp}
-pub use Rattle.std.specs.Prelude.{Decides, codes, slice_get, slice_index}
+pub use Rattle.std.specs.Ordering.{match_ordering, nat_cmp, ordering_index}
+pub use Rattle.std.specs.Prelude.{Decides, MatchResult, codes, slice_get, slice_index}
+pub use Rattle.std.specs.Result.{is_ok}
 pub use Rattle.std.specs.Str.{all_ascii_digits, bytes_eq}
 pub use Rattle.std.specs.Str.Parse.{digits_value, digits_value_after}
 pub use Rattle.std.specs.declared.cmp.Ordering.{Ordering}

@@ -1,6 +1,6 @@
 //! A rectangle of cells.
 
-ghost use Rattle.std.specs.Prelude.{◌≡◌, ◌==◌, ◌<◌, length, IfSome};
+ghost use Rattle.std.specs.Prelude.{◌≡◌, ◌==◌, ◌<◌, ℕ, true, length, IfSome};
 ghost use Rattle.std.specs.List.{position};
 ghost use Rattle.std.specs.Str.{byte};
 ghost use Rattle.wi_values.specs.Address.{rect_of, is_within, height, width, size_of, is_column, is_row};
@@ -76,6 +76,25 @@ impl Rect {
     {
         (self.first.row() <= at.row() && at.row() <= self.last.row())
             && (self.first.column() <= at.column() && at.column() <= self.last.column())
+    }
+
+    /// The least rectangle that has each cell of both.
+    pub fn around(self, other: Rect) -> Rect
+        ensures first { result.first ≡ (rect_of self.first other.first).first }
+        ensures last { result.last ≡ (rect_of self.last other.last).last }
+        ensures one { (a : ℕ) → is_within self a ≡ true → is_within result a ≡ true }
+        ensures other { (a : ℕ) → is_within other a ≡ true → is_within result a ≡ true }
+    {
+        Rect {
+            first: Address::at(
+                self.first.row().min(other.first.row()),
+                self.first.column().min(other.first.column()),
+            ),
+            last: Address::at(
+                self.last.row().max(other.last.row()),
+                self.last.column().max(other.last.column()),
+            ),
+        }
     }
 
     /// How many rows it has.

@@ -1,32 +1,5 @@
--- Cells in row-major order: a search among them, and one put in.
-use Rattle.wi_values.proofs.Listed.{has_at}
-use Rattle.wi_worlds.proofs.Words.{◌≡◌, ◌==◌, ◌<◌, ◌≤◌, ◌+◌, ◌-◌, ◌||◌, ℕ, suc, Bool, true, false, List, [], ◌∷◌, length, get_or, Result, Ok, Err, MatchResult, ⊎_elim, refl, sym, ap, ◌∙◌, subst, arith, nat_cmp, is_ok, insert, IsStrictlyIncreasing, IsBinarySearchResult, cases_lt, nat_tests, length-insert, get_or-insert_below, get_or-insert_at, get_or-insert_above, searched, IsPermutation-insert, list_any-IsPermutation, sorted_from_strictly_increasing, non_decreasing_from_sorted, is_one_of}
-
--- ---- a search
-
-other : (x c : ℕ) → (x ≡ c → ⊥) → (x == c) ≡ false
-other x c h = grind (arith, nat_tests, h)
-
-has_nowhere : (xs : List ℕ) (c : ℕ) → ((k : ℕ) → k < length xs → get_or xs k 0 ≡ c → ⊥) → is_one_of xs c ≡ false
-has_nowhere [] c h = refl
-has_nowhere (x ∷ xs) c h =
-    ap (λ b. b || is_one_of xs c) (other x c (h 0 (omega arith))) ∙ has_nowhere xs c (λ k l e. h (suc k) (omega (arith, l)) e)
-
--- what a binary search says
-abbrev pub Searched : List ℕ → ℕ → Result ℕ ℕ → Type 0
-Searched xs c r = MatchResult r (λ i. (i < length xs) × (get_or xs i 0 ≡ c))
-    (λ i. (i ≤ length xs) × ((k : ℕ) → k < i → get_or xs k 0 < c) × ((k : ℕ) → i ≤ k → k < length xs → c < get_or xs k 0))
-
-pub searched_in : (xs : List ℕ) (c : ℕ) (r : Result ℕ ℕ) → IsStrictlyIncreasing xs → IsBinarySearchResult (λ y. nat_cmp y c) xs r → Searched xs c r
-searched_in xs c r order h =
-    searched xs c r h (λ i j l m. non_decreasing_from_sorted xs (sorted_from_strictly_increasing xs order) i j 0 l m)
-
-pub search_tells : (xs : List ℕ) (c : ℕ) (r : Result ℕ ℕ) → IsStrictlyIncreasing xs → IsBinarySearchResult (λ y. nat_cmp y c) xs r → is_ok r ≡ is_one_of xs c
-search_tells xs c r order h = by r (searched_in xs c r order h)
-  where
-    by : (s : Result ℕ ℕ) → Searched xs c s → is_ok s ≡ is_one_of xs c
-    by (Ok i) f = sym (has_at xs i c 0 f.0 f.1)
-    by (Err i) f = sym (has_nowhere xs c (λ k l e. ⊎_elim (λ m. omega (arith, f.1 k m, e)) (λ m. omega (arith, f.2 k m l, e)) (cases_lt k i)))
+-- Cells in row-major order, and one put in.
+use Rattle.wi_worlds.proofs.Words.{◌≡◌, ◌==◌, ◌<◌, ◌≤◌, ◌+◌, ◌-◌, ◌||◌, ℕ, Bool, true, false, List, ◌∷◌, length, get_or, ⊎_elim, refl, sym, ap, ◌∙◌, subst, arith, insert, IsStrictlyIncreasing, cases_lt, nat_tests, length-insert, get_or-insert_below, get_or-insert_at, get_or-insert_above, IsPermutation-insert, list_any-IsPermutation, is_one_of}
 
 -- ---- one more
 

@@ -1,24 +1,24 @@
 -- The words of the library, of the crates below and of this crate's definitions that its proofs are written in.
-pub use Rattle.std.proofs.Common.{Bool, Err, IfOk, List, MatchResult, None, Ok, Option, Result, Some, [], ap, arith, cond, drop, false, filter, get_or, if◌then◌else◌, inl, inr, is_some, length, map, nat_eq, refl, rules, subst, suc, sym, take, true, zero, ℕ, ⊎_elim, ◌&&◌, ◌++◌, ◌+◌, ◌-◌, ◌<◌, ◌==◌, ◌||◌, ◌∙◌, ◌∷◌, ◌≡◌, ◌≤◌, ◌⊎◌}
+pub use Rattle.std.proofs.Common.{Bool, Err, IfOk, List, MatchResult, None, Ok, Option, Result, Some, [], ap, arith, cond, drop, false, filter, get_or, if◌then◌else◌, inl, inr, is_some, length, map, nat_eq, refl, rules, subst, suc, sym, take, true, ℕ, ⊎_elim, ◌&&◌, ◌++◌, ◌+◌, ◌-◌, ◌<◌, ◌==◌, ◌||◌, ◌∙◌, ◌∷◌, ◌≡◌, ◌≤◌, ◌⊎◌}
 pub use Rattle.std.proofs.lemmas.Bool.{and_parts, cases_lt, eqb-true, false≢true, ne_eqb, or_cases, or_left, or_right}
 pub use Rattle.std.proofs.lemmas.Bool.Decides.{nat_tests}
 pub use Rattle.std.proofs.lemmas.Cmp.{ranked}
 pub use Rattle.std.proofs.lemmas.Grind.{common_steps}
-pub use Rattle.std.proofs.lemmas.List.{get_or-map, length-map, nil_from_length}
+pub use Rattle.std.proofs.lemmas.List.{nil_from_length}
 pub use Rattle.std.proofs.lemmas.List.Edits.{get_or-insert_above, get_or-insert_at, get_or-insert_below, length-insert}
 pub use Rattle.std.proofs.lemmas.List.Kept.{IsStrictlyIncreasing-filter}
-pub use Rattle.std.proofs.lemmas.List.Sorted.{IsPermutation-insert, answers_always, list_any-IsPermutation, searched}
-pub use Rattle.std.proofs.lemmas.Map.Keys.{below_from_sorted, non_decreasing_from_sorted, sorted_from_strictly_increasing}
-pub use Rattle.std.proofs.lemmas.Result.{IfOk-weaker, err_from_is_err_and, on_err_weaker, on_ok_weaker}
+pub use Rattle.std.proofs.lemmas.List.Sorted.{IsPermutation-insert, answers_always, list_any-IsPermutation}
+pub use Rattle.std.proofs.lemmas.Map.Keys.{sorted_from_strictly_increasing}
+pub use Rattle.std.proofs.lemmas.Result.{IfOk-from_err, IfOk-weaker, err_from_is_err_and, on_err_weaker, on_ok_weaker}
 pub use Rattle.std.specs.BTreeMap.{BTreeMap, get}
 pub use Rattle.std.specs.BTreeSet.{BTreeSet}
 pub use Rattle.std.specs.List.{insert, list_all}
-pub use Rattle.std.specs.List.Sorted.{IsBinarySearchResult, IsNonDecreasingBy, IsSearchInRange, IsStrictlyIncreasing}
+pub use Rattle.std.specs.List.Sorted.{IsBinarySearchResult, IsSearchInRange, IsStrictlyIncreasing}
 pub use Rattle.std.specs.Map.{lookup}
-pub use Rattle.std.specs.Option.{option_map, option_or, unwrap_or}
-pub use Rattle.std.specs.Ordering.{nat_cmp, ordering_index}
+pub use Rattle.std.specs.Option.{option_copied, option_map, option_or, unwrap_or}
+pub use Rattle.std.specs.Ordering.{nat_cmp}
 pub use Rattle.std.specs.Prelude.{All, IsSome}
-pub use Rattle.std.specs.Result.{is_ok}
+pub use Rattle.wi_values.proofs.Listed.{found_by_key}
 pub use Rattle.wi_values.proofs.Lists.{keeps_few, one_less}
 pub use Rattle.wi_values.proofs.Order.{is_at-eq, is_itself, turn_test}
 pub use Rattle.wi_values.proofs.Replacements.Filtering.{order_of_filter, replaced-filter}

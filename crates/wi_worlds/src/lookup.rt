@@ -3,6 +3,7 @@
 ghost use Rattle.std.specs.Prelude.{◌≡◌};
 ghost use Rattle.std.specs.Option.{option_copied};
 ghost use Rattle.wi_values.specs.Replacements.{IsInOrder, replaced};
+ghost use Rattle.wi_worlds.specs.Inner.Picked.{replacement_at};
 
 use wi_values::{Address, Replacement, Value};
 
@@ -12,8 +13,19 @@ pub fn value_at(replacements: &[Replacement], at: Address) -> Option<&Value>
     requires { IsInOrder replacements.now }
     ensures { option_copied result ≡ replaced replacements.now at }
 {
-    match replacements.binary_search_by_key(&at, |replacement| replacement.at) {
-        Ok(place) => Some(&replacements[place].value),
+    match found_at(replacements, at) {
+        Some(replacement) => Some(&replacement.value),
+        None => None,
+    }
+}
+
+/// The replacement of a cell, if there is one. The work is that of `value_at`.
+pub(crate) fn found_at(replacements: &[Replacement], cell: Address) -> Option<&Replacement>
+    requires { IsInOrder replacements.now }
+    ensures { option_copied result ≡ replacement_at replacements.now cell }
+{
+    match replacements.binary_search_by_key(&cell, |replacement| replacement.at) {
+        Ok(place) => Some(&replacements[place]),
         Err(_) => None,
     }
 }

@@ -2,12 +2,12 @@
 
 ghost use Rattle.std.specs.Prelude.{◌≡◌, filter, IfOk, length};
 ghost use Rattle.std.specs.List.Sorted.{IsStrictlyIncreasing};
-ghost use Rattle.std.specs.Option.{option_copied};
 ghost use Rattle.wi_values.specs.Replacements.{IsInOrder, same_replacements};
 ghost use Rattle.wi_worlds.specs.Reached.{is_of};
-ghost use Rattle.wi_worlds.specs.Inner.Picked.{picked, replacement_at};
+ghost use Rattle.wi_worlds.specs.Inner.Picked.{picked};
 
 use crate::entries::copied;
+use crate::lookup::found_at;
 use crate::rising::has_next;
 use std::alloc::{AllocError, Global};
 use wi_values::{Address, Replacement};
@@ -149,15 +149,4 @@ fn copies_by_cells(
         }
     }
     Ok(kept)
-}
-
-/// The replacement of a cell, if there is one.
-fn found_at(replacements: &[Replacement], cell: Address) -> Option<&Replacement>
-    requires { IsInOrder replacements.now }
-    ensures { option_copied result ≡ replacement_at replacements.now cell }
-{
-    match replacements.binary_search_by_key(&cell, |replacement| replacement.at) {
-        Ok(place) => Some(&replacements[place]),
-        Err(_) => None,
-    }
 }

@@ -2,7 +2,7 @@
 use Rattle.wi_cli.proofs.Vocabulary.{◌||◌, Bool, false, not, inl, inr, List, [], ◌∷◌, Option, Ok, Err, refl, sym, ap, subst, list_any, false_from_ne_true, not-false, or_parts, Stored, has_scenario, scenario_for, with_own, without_own, is_full, HasChains, is_name_of, is_base, lacks, would_loop, no_scenarios, is_chain, has_room, own_kept, based_kept, dropped_kept, State, state_over, is_in_use, left_by, Cell, address, Bytes, Command, Set, Clear, Fill, Csv, Scenario, Drop, Base, Use, As, Show, Export, Compare, Table, Formula, Changes, Unknown, Unreadable, Cause, NoScenario, InUse, TooMany, Loop, Holds, Does, Answer, IsStep, Event, MayHappen, KeepsChains, GivesChain}
 use Rattle.wi_scenario_list.specs.Scenarios as list
 use Rattle.wi_scenarios.specs.declared.refusal.Refusal.TheVariants as refusal
-use Rattle.wi_cli.proofs.Ties.ScenarioSteps.{drop_yes, base_yes}
+use Rattle.wi_cli.proofs.Ties.ScenarioSteps.{drop_tested, base_tested}
 use Rattle.wi_cli.proofs.Ties.Events.{unlike}
 
 module _ (s : State) where
@@ -22,14 +22,14 @@ module _ (s : State) where
       → AreKept (list.with_scenario s.scenarios (record (scenario_for s.scenarios name) { base = other }))
   based_anew name other free k =
       let there = or_parts (not (has_scenario s.scenarios name)) (lacks s.scenarios other)
-      (false_from_ne_true (not (has_scenario s.scenarios name) || lacks s.scenarios other) (λ e. free NoScenario (base_yes s name other NoScenario e))) in
+      (false_from_ne_true (not (has_scenario s.scenarios name) || lacks s.scenarios other) (λ e. free NoScenario ((base_tested s name other NoScenario).0 e))) in
       based_kept s.scenarios name other k (not-false (has_scenario s.scenarios name) there.0) there.1
-      (false_from_ne_true (would_loop s.scenarios name other) (λ e. free Loop (base_yes s name other Loop e)))
+      (false_from_ne_true (would_loop s.scenarios name other) (λ e. free Loop ((base_tested s name other Loop).0 e)))
 
   dropped : (name : Bytes) → ((x : Cause) → Holds s x (Drop name) → ⊥) → AreKept (list.without_scenario s.scenarios name)
   dropped name free k =
       dropped_kept s.scenarios name k
-      (or_parts (list_any (λ x. is_name_of name x.scenario) s.sessions) (is_base s.scenarios name) (false_from_ne_true (is_in_use s name) (λ e. free InUse (drop_yes s name InUse e)))).1
+      (or_parts (list_any (λ x. is_name_of name x.scenario) s.sessions) (is_base s.scenarios name) (false_from_ne_true (is_in_use s name) (λ e. free InUse ((drop_tested s name InUse).0 e)))).1
 
   kept : (c : Command) (done : State × Bytes) → ((x : Cause) → Holds s x c → ⊥) → Does s c done → AreKept (scenarios_in done)
   kept (Set force at text) done free h k = subst HasChains (sym (ap scenarios_in h.2)) k

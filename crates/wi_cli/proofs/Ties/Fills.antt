@@ -4,7 +4,7 @@ use Rattle.wi_scenarios.specs.declared.refusal.Refusal.TheVariants as refusal
 use Rattle.wi_scenarios.specs.Step as old
 use Rattle.wi_cli.proofs.Ties.Uniqueness.{same_answers, outside_step}
 use Rattle.wi_cli.proofs.Ties.EditSteps.{last, edit_step}
-use Rattle.wi_cli.proofs.Ties.Tables.{too_large, not_large}
+use Rattle.wi_cli.proofs.Ties.Tests.{is_large}
 use Rattle.wi_cli.proofs.Ties.Looks.{large_once}
 
 -- ---- copies
@@ -97,10 +97,10 @@ module _ (s : State) (force : Bool) (c : Cell) (r : Corners) where
     inside h = both_ways _ (fill_outside force false false c r one two) h
 
     large : nat_lt max_area (size_of (area r) * 1) ≡ true → Holds s TooLarge fill
-    large e = subst (λ (n : ℕ). max_area < n) (sym (size_is force)) (too_large _ e)
+    large e = subst (λ (n : ℕ). max_area < n) (sym (size_is force)) ((is_large _).0 e)
 
     small : nat_lt max_area (size_of (area r) * 1) ≡ false → Holds s TooLarge fill → ⊥
-    small e h = not_large _ e (subst (λ (n : ℕ). max_area < n) (size_is force) h)
+    small e h = both_ways _ e ((is_large _).1 (subst (λ (n : ℕ). max_area < n) (size_is force) h))
 
     abbrev filled : Answer
     filled = edit_answer s force no_cause (record { named = area r ∷ []; contents = puts })

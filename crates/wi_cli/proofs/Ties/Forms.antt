@@ -6,7 +6,7 @@ use Rattle.wi_scenarios.specs.Step as old
 use Rattle.wi_cli.proofs.Ties.Addresses.{same_addr}
 use Rattle.wi_cli.proofs.Ties.Rects.{same_rect}
 use Rattle.wi_cli.proofs.Ties.OperandsRead.{no_addr, no_rect, addr_or, rect_or, name_read, name_or, no_name, side_read, side_or, no_word}
-use Rattle.wi_cli.proofs.Ties.TablesOfTwo.{is_shape, one_is_bad, two_is_bad}
+use Rattle.wi_cli.proofs.Ties.Tables.{is_shape, one_is_bad, two_is_bad}
 
 -- operands of this form are spelled, or none are and the command was refused
 abbrev pub Chosen : {X : Type 0} → Bytes → (X → List Operand) → old.Call → Type 0

@@ -1,5 +1,5 @@
 -- The commands of lines are those that they had.
-use Rattle.wi_cli.proofs.Vocabulary.{◌≡◌, ℕ, suc, zero, ◌-◌, ◌<◌, Bool, true, false, not, ◌==◌, ◌||◌, nat_lt, cond, List, [], ◌∷◌, ◌++◌, length, map, take, filter, filter_map, Option, Some, None, option_map, Result, ◌⊎◌, inl, inr, if◌then◌else◌, refl, sym, ap, ap₂, ◌∙◌, subst, arith, list_all, cons_option, byte, is_utf8, nat_tests, IsUtf8-from_is_utf8, is_utf8-from_IsUtf8, or_parts, not-false, ltb-false, le-ltb, both_ways, nil_from_length, or-true, or-false, read_address, AddressFault, raw_lines, onto_first, without_lf, is_whole, max_line, is_space, Bytes, is_all_spaces, CsvLine, csv_line, csv_command, Block, lines_of, blocks, is_complete, is_comment, text_command, line_command, command_with, block_command, spelled_command, whole_lines, Cell, IsWritten, Command, Csv, Unknown, Unreadable, form, line_text, IsWithin, IsGood, Asks, is_passed_over, IsCommand, was, read_any, asked, block, Splits, none, a_line, cut_short, before, HasCommands}
+use Rattle.wi_cli.proofs.Vocabulary.{◌≡◌, ℕ, suc, zero, ◌-◌, ◌<◌, Bool, true, false, not, ◌==◌, ◌||◌, nat_lt, cond, List, [], ◌∷◌, ◌++◌, length, map, take, filter, filter_map, Option, Some, None, option_map, Result, ◌⊎◌, inl, inr, if◌then◌else◌, refl, sym, ap, ap₂, ◌∙◌, subst, arith, list_all, cons_option, byte, is_utf8, nat_tests, IsUtf8-from_is_utf8, is_utf8-from_IsUtf8, or_parts, not-false, ltb-false, le-ltb, both_ways, nil_from_length, or-true, or-false, read_address, AddressFault, raw_lines, onto_first, without_lf, is_whole, max_line, is_space, Bytes, is_all_spaces, CsvLine, csv_line, csv_command, Block, lines_of, blocks, is_complete, is_comment, text_command, line_command, command_with, block_command, spelled_command, whole_lines, Cell, IsWritten, Command, Csv, Unknown, Unreadable, form, line_text, IsWithin, IsGood, Asks, is_passed_over, IsCommand, was, read_any, asked, line_block, Splits, none, a_line, cut_short, before, HasCommands}
 use Rattle.std.proofs.Common.{option_to_list}
 use Rattle.wi_scenarios.specs.declared.refusal.Refusal.TheVariants as refusal
 use Rattle.wi_scenarios.specs.Step as old
@@ -52,21 +52,21 @@ as_command line taken Unreadable p g h e = absurd (both_ways false refl p)
 as_command line taken c p g h e = (g, h, sym e)
 
 -- a line that asks for no data lines
-pub plain_line : (line : Bytes) (taken : List Bytes) → csv_line (without_lf line) ≡ None → block_command (block line taken) ≡ line_command (without_lf line)
-plain_line line taken e = ap (λ (x : Option CsvLine). command_with x (block line taken)) e
+pub plain_line : (line : Bytes) (taken : List Bytes) → csv_line (without_lf line) ≡ None → block_command (line_block line taken) ≡ line_command (without_lf line)
+plain_line line taken e = ap (λ (x : Option CsvLine). command_with x (line_block line taken)) e
 
 -- one that does, by what it was read as
 pub csv_line_is : (line : Bytes) (taken : List Bytes) (force : Bool) (o : Option Cell) (n : ℕ) → IsRead force o n (csv_line (without_lf line)) → (b : Bool) → is_utf8 (line_text line) ≡ b
-    → block_command (block line taken) ≡ Some (if b then csv_command force (read_any o) taken (n - length taken) else old.Refused refusal.BadLine)
+    → block_command (line_block line taken) ≡ Some (if b then csv_command force (read_any o) taken (n - length taken) else old.Refused refusal.BadLine)
 csv_line_is line taken force o n r b e =
     let many : asked line ≡ n = ap lines_of r.1 in
-    ap (λ (x : Option CsvLine). command_with x (block line taken)) r.1
+    ap (λ (x : Option CsvLine). command_with x (line_block line taken)) r.1
     ∙ ap (λ (v : Bool). Some (if v then csv_command force (read_address r.0) taken (asked line - length taken) else old.Refused refusal.BadLine)) e
     ∙ ap₂ (λ (a : Result ℕ AddressFault) (k : ℕ). Some (if b then csv_command force a taken (k - length taken) else old.Refused refusal.BadLine)) r.2 many
 
 -- a line with what it takes has a command by the new reading, which is the one that it had
 abbrev pub HasCommand : Bytes → List Bytes → Type 0
-HasCommand line taken = (o : Option Command) × IsCommand line taken o × (block_command (block line taken) ≡ option_map was o)
+HasCommand line taken = (o : Option Command) × IsCommand line taken o × (block_command (line_block line taken) ≡ option_map was o)
 
 module _ (line : Bytes) (taken : List Bytes) where
   -- a line that asks for data lines
@@ -85,7 +85,7 @@ module _ (line : Bytes) (taken : List Bytes) where
     no_form g p plain_none Unreadable h = both_ways _ p (spaces_pass (line_text line) h)
     no_form g p plain_none c h = plain_none c refl h
 
-    text_has : IsGood line → is_passed_over (line_text line) ≡ false → block_command (block line taken) ≡ Some (spelled_command (line_text line)) → Reads (line_text line) → HasCommand line taken
+    text_has : IsGood line → is_passed_over (line_text line) ≡ false → block_command (line_block line taken) ≡ Some (spelled_command (line_text line)) → Reads (line_text line) → HasCommand line taken
     text_has g p e (spells c is h) = (Some c, as_command line taken c is g h fits, e ∙ ap (λ (x : old.Call). Some x) (same_form (line_text line) c is h))
     text_has g p e (spells_none nothing bad) = (Some Unknown, (g, p, no_form g p (none_written (line_text line) nothing)), e ∙ ap (λ (x : old.Call). Some x) bad)
 
@@ -133,14 +133,14 @@ has_all lines bs (cut_short line taken short) =
     let k = has_command line taken (none_short line taken short) in
     (option_to_list k.0, line_cut line taken (asked line) k.0 (asks line (length taken) short) short k.1, last k.0 k.2)
   where
-    last : (o : Option Command) → block_command (block line taken) ≡ option_map was o → cons_option (block_command (block line taken)) [] ≡ map was (option_to_list o)
+    last : (o : Option Command) → block_command (line_block line taken) ≡ option_map was o → cons_option (block_command (line_block line taken)) [] ≡ map was (option_to_list o)
     last None e = ap (λ (x : Option old.Call). cons_option x []) e
     last (Some c) e = ap (λ (x : Option old.Call). cons_option x []) e
 
-pub complete : (line : Bytes) (taken : List Bytes) → asked line ≡ length taken → is_complete (block line taken) ≡ true
+pub complete : (line : Bytes) (taken : List Bytes) → asked line ≡ length taken → is_complete (line_block line taken) ≡ true
 complete line taken e = grind (arith, nat_tests)
 
-pub not_complete : (line : Bytes) (taken : List Bytes) → length taken < asked line → is_complete (block line taken) ≡ false
+pub not_complete : (line : Bytes) (taken : List Bytes) → length taken < asked line → is_complete (line_block line taken) ≡ false
 not_complete line taken h = grind (arith, nat_tests)
 
 pub has_whole : (lines : List Bytes) (bs : List Block) → Splits lines bs → HasCommands false lines (filter_map block_command (filter is_complete bs))
@@ -151,14 +151,14 @@ has_whole lines bs (a_line line taken more cs same rest) =
     let some : Takes line (length taken) = subst (λ (n : ℕ). Takes line n) same (takes line) in (
       option_to_list k.0 ++ r.0,
       line_with line taken more k.0 r.0 (taken_is line taken some) k.1 r.1,
-      ap (λ (b : Bool). filter_map block_command (cond b (block line taken ∷ filter is_complete cs) (filter is_complete cs))) (complete line taken same)
+      ap (λ (b : Bool). filter_map block_command (cond b (line_block line taken ∷ filter is_complete cs) (filter is_complete cs))) (complete line taken same)
           ∙ ap₂ cons_option k.2 r.2 ∙ onto_was k.0 r.0,
     )
 has_whole lines bs (cut_short line taken short) =
     let k = has_command line taken (none_short line taken short) in (
       [],
       line_cut line taken (asked line) k.0 (asks line (length taken) short) short k.1,
-      ap (λ (b : Bool). filter_map block_command (cond b (block line taken ∷ []) [])) (not_complete line taken short),
+      ap (λ (b : Bool). filter_map block_command (cond b (line_block line taken ∷ []) [])) (not_complete line taken short),
     )
 
 -- ---- of the lines of bytes only the last may lack its LF

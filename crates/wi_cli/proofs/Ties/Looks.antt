@@ -1,8 +1,8 @@
 -- The steps of the commands that look at cells: `show`, `export`, `compare`, `formula` and `changes`.
-use Rattle.wi_cli.proofs.Vocabulary.{◌≡◌, ◌*◌, ℕ, Bool, true, false, ◌||◌, nat_lt, length, Option, Some, None, refl, sym, ap, ◌∙◌, arith, list_any, or-false, both_ways, size_of, effective, lacks, rows_shown, export_of, cells_compared, content_record, change_records, told, State, max_area, current_session, with_current, current_replacements, change_list, Cell, Corners, is_outside, address, area, SIDE, Bytes, Command, Show, Export, Compare, Formula, Changes, form, Cause, Outside, TooLarge, NoScenario, Stale, Full, EditLimit, Holds, lies_outside, is_missing, size, causes, SameStep, was}
+use Rattle.wi_cli.proofs.Vocabulary.{◌≡◌, ◌*◌, ℕ, Bool, true, false, ◌||◌, nat_lt, [], ◌∷◌, length, Option, Some, None, Ok, Err, refl, sym, ap, ◌∙◌, arith, list_any, or-false, both_ways, Area, size_of, effective, lacks, rows_shown, export_of, cells_compared, content_record, change_records, told, State, max_area, current_session, with_current, current_replacements, change_list, of_operand, Cell, Corners, is_outside, address, area, RECT, SIDE, Bytes, Show, Export, Compare, Formula, Changes, form, Cause, Outside, TooLarge, NoScenario, lies_outside, is_missing, size, SameStep, read_area, was}
+use Rattle.wi_scenarios.specs.declared.refusal.Refusal.TheVariants as refusal
 use Rattle.wi_scenarios.specs.Step as old
-use Rattle.wi_cli.proofs.Ties.Tables.{too_large, not_large}
-use Rattle.wi_cli.proofs.Ties.Tests.{first_test, found, by_tests}
+use Rattle.wi_cli.proofs.Ties.Tests.{IsTested, never, is_large, is_small, Picked, by_tests}
 
 -- a number of cells, as a product
 pub once : (n : ℕ) → n ≡ n * 1
@@ -11,127 +11,85 @@ once n = omega arith
 pub large_once : (n : ℕ) (b : Bool) → nat_lt max_area (n * 1) ≡ b → nat_lt max_area n ≡ b
 large_once n b e = ap (nat_lt max_area) (once n) ∙ e
 
--- ---- an area
+-- ---- an area, of which scenarios may be shown
+
+module _ (r : Corners) (missing : Bool) where
+  abbrev area_test : Cause → Bool
+  area_test Outside = list_any lies_outside (RECT r ∷ [])
+  area_test TooLarge = nat_lt max_area (size (RECT r ∷ []))
+  area_test NoScenario = missing
+  area_test x = false
+
+  -- a call's answers to an area within the sheet
+  module _ (s : State) (done : State × Bytes) (call : Area → old.Call)
+      (large : nat_lt max_area (size_of (area r)) ≡ true → old.IsCallStep s (call (area r)) (Err refusal.TooLarge))
+      (lacking : nat_lt max_area (size_of (area r)) ≡ false → missing ≡ true → old.IsCallStep s (call (area r)) (Err refusal.NoScenario))
+      (answered : nat_lt max_area (size_of (area r)) ≡ false → missing ≡ false → old.IsCallStep s (call (area r)) (Ok done)) where
+    area_picked : Picked s area_test (of_operand (read_area r) call) done
+    area_picked = by (is_outside r.0 || is_outside r.1) (nat_lt max_area (size_of (area r) * 1)) missing refl refl refl
+      where
+        by : (out big lack : Bool) → (is_outside r.0 || is_outside r.1) ≡ out → nat_lt max_area (size_of (area r) * 1) ≡ big → missing ≡ lack
+            → Picked s area_test (of_operand (read_area r) call) done
+        by true big lack eo eb el = (Some Outside, rw eo refl, rw eo refl)
+        by false true lack eo eb el = (Some TooLarge, rw (eo, eb) refl, rw eo (large (large_once _ _ eb)))
+        by false false true eo eb el = (Some NoScenario, rw (eo, eb, el) refl, rw eo (lacking (large_once _ _ eb) el))
+        by false false false eo eb el = (None, rw (eo, eb, el) refl, rw eo (answered (large_once _ _ eb) el))
 
 module _ (s : State) (r : Corners) where
   abbrev shown : State × Bytes
   shown = (s, rows_shown s.stored.sheet (current_replacements s) (area r))
 
-  abbrev show_test : Cause → Bool
-  show_test Outside = list_any lies_outside (form (Show r))
-  show_test TooLarge = nat_lt max_area (size (form (Show r)))
-  show_test x = false
-
-  show_yes : (x : Cause) → show_test x ≡ true → Holds s x (Show r)
-  show_yes Outside e = e
-  show_yes TooLarge e = too_large _ e
-  show_yes x e = absurd (both_ways false refl e)
-
-  show_no : (x : Cause) → show_test x ≡ false → Holds s x (Show r) → ⊥
-  show_no Outside e h = both_ways _ e h
-  show_no TooLarge e h = not_large _ e h
-  show_no NoScenario e h = both_ways false refl h
-  show_no Stale e h = h.1 refl
-  show_no Full e h = h.1
-  show_no EditLimit e h = h.1
-  show_no x e h = h
-
-  show_picked : (out large : Bool) → (is_outside r.0 || is_outside r.1) ≡ out → nat_lt max_area (size_of (area r) * 1) ≡ large
-      → (o : Option Cause) × (first_test show_test causes ≡ o) × old.IsCallStep s (was (Show r)) (found shown o)
-  show_picked true large eo el = (Some Outside, rw eo refl, rw eo refl)
-  show_picked false true eo el = (Some TooLarge, rw (eo, el) refl, rw (eo, large_once _ _ el) refl)
-  show_picked false false eo el = (None, rw (eo, el) refl, rw (eo, large_once _ _ el) refl)
+  show_tested : (x : Cause) → IsTested s (Show r) (area_test r false) x
+  show_tested Outside = (λ e. e, λ h. h)
+  show_tested TooLarge = is_large _
+  show_tested NoScenario = (λ e. e, λ h. h)
+  show_tested x = never
 
   pub same_show : SameStep s (Show r)
-  same_show a =
-      let p = show_picked (is_outside r.0 || is_outside r.1) (nat_lt max_area (size_of (area r) * 1)) refl refl in
-      by_tests s (Show r) show_test show_yes show_no refl shown (λ e. refl) (λ x y h k. h ∙ sym k) (was (Show r)) p.0 p.1 p.2 a
+  same_show =
+      let p = area_picked r false s shown (λ at. old.Show at) (λ e. rw e refl) (λ e k. absurd (both_ways false refl k)) (λ e k. rw e refl) in
+      by_tests s (Show r) (area_test r false) show_tested refl (λ q h. h) shown (λ e. refl) (λ x y h k. h ∙ sym k) (was (Show r)) p
 
-module _ (s : State) (r : Corners) where
   abbrev exported : State × Bytes
   exported = (s, export_of (rows_shown s.stored.sheet (current_replacements s) (area r)))
 
-  abbrev export_test : Cause → Bool
-  export_test Outside = list_any lies_outside (form (Export r))
-  export_test TooLarge = nat_lt max_area (size (form (Export r)))
-  export_test x = false
-
-  export_yes : (x : Cause) → export_test x ≡ true → Holds s x (Export r)
-  export_yes Outside e = e
-  export_yes TooLarge e = too_large _ e
-  export_yes x e = absurd (both_ways false refl e)
-
-  export_no : (x : Cause) → export_test x ≡ false → Holds s x (Export r) → ⊥
-  export_no Outside e h = both_ways _ e h
-  export_no TooLarge e h = not_large _ e h
-  export_no NoScenario e h = both_ways false refl h
-  export_no Stale e h = h.1 refl
-  export_no Full e h = h.1
-  export_no EditLimit e h = h.1
-  export_no x e h = h
-
-  export_picked : (out large : Bool) → (is_outside r.0 || is_outside r.1) ≡ out → nat_lt max_area (size_of (area r) * 1) ≡ large
-      → (o : Option Cause) × (first_test export_test causes ≡ o) × old.IsCallStep s (was (Export r)) (found exported o)
-  export_picked true large eo el = (Some Outside, rw eo refl, rw eo refl)
-  export_picked false true eo el = (Some TooLarge, rw (eo, el) refl, rw (eo, large_once _ _ el) refl)
-  export_picked false false eo el = (None, rw (eo, el) refl, rw (eo, large_once _ _ el) refl)
+  export_tested : (x : Cause) → IsTested s (Export r) (area_test r false) x
+  export_tested Outside = (λ e. e, λ h. h)
+  export_tested TooLarge = is_large _
+  export_tested NoScenario = (λ e. e, λ h. h)
+  export_tested x = never
 
   pub same_export : SameStep s (Export r)
-  same_export a =
-      let p = export_picked (is_outside r.0 || is_outside r.1) (nat_lt max_area (size_of (area r) * 1)) refl refl in
-      by_tests s (Export r) export_test export_yes export_no refl exported (λ e. refl) (λ x y h k. h ∙ sym k) (was (Export r)) p.0 p.1 p.2 a
-
--- ---- two scenarios
+  same_export =
+      let p = area_picked r false s exported (λ at. old.Export at) (λ e. rw e refl) (λ e k. absurd (both_ways false refl k)) (λ e k. rw e refl) in
+      by_tests s (Export r) (area_test r false) export_tested refl (λ q h. h) exported (λ e. refl) (λ x y h k. h ∙ sym k) (was (Export r)) p
 
 side_missing : (s : State) (p : Option Bytes) → is_missing s (SIDE p) ≡ lacks s.scenarios p
 side_missing s None = refl
 side_missing s (Some name) = refl
 
 module _ (s : State) (p q : Option Bytes) (r : Corners) where
-  abbrev compare : Command
-  compare = Compare p q r
-
   abbrev compared : State × Bytes
   compared = (s, cells_compared s.stored.sheet (effective s.scenarios p) (effective s.scenarios q) (area r))
 
-  abbrev compare_test : Cause → Bool
-  compare_test Outside = list_any lies_outside (form (Compare p q r))
-  compare_test TooLarge = nat_lt max_area (size (form (Compare p q r)))
-  compare_test NoScenario = list_any (is_missing s) (form (Compare p q r))
-  compare_test x = false
+  abbrev no_side : Bool
+  no_side = lacks s.scenarios p || lacks s.scenarios q
 
-  compare_yes : (x : Cause) → compare_test x ≡ true → Holds s x compare
-  compare_yes Outside e = e
-  compare_yes TooLarge e = too_large _ e
-  compare_yes NoScenario e = e
-  compare_yes x e = absurd (both_ways false refl e)
-
-  compare_no : (x : Cause) → compare_test x ≡ false → Holds s x compare → ⊥
-  compare_no Outside e h = both_ways _ e h
-  compare_no TooLarge e h = not_large _ e h
-  compare_no NoScenario e h = both_ways _ e h
-  compare_no Stale e h = h.1 refl
-  compare_no Full e h = h.1
-  compare_no EditLimit e h = h.1
-  compare_no x e h = h
-
-  missing_is : list_any (is_missing s) (form (Compare p q r)) ≡ (lacks s.scenarios p || lacks s.scenarios q)
+  missing_is : list_any (is_missing s) (form (Compare p q r)) ≡ no_side
   missing_is =
       ap (λ (b : Bool). b || (is_missing s (SIDE q) || false)) (side_missing s p)
       ∙ ap (λ (b : Bool). lacks s.scenarios p || b) (or-false (is_missing s (SIDE q)) ∙ side_missing s q)
 
-  compare_picked : (out large missing : Bool) → (is_outside r.0 || is_outside r.1) ≡ out → nat_lt max_area (size_of (area r) * 1) ≡ large
-      → list_any (is_missing s) (form (Compare p q r)) ≡ missing → (lacks s.scenarios p || lacks s.scenarios q) ≡ missing
-      → (o : Option Cause) × (first_test compare_test causes ≡ o) × old.IsCallStep s (was compare) (found compared o)
-  compare_picked true large missing eo el em en = (Some Outside, rw eo refl, rw eo refl)
-  compare_picked false true missing eo el em en = (Some TooLarge, rw (eo, el) refl, rw (eo, large_once _ _ el) refl)
-  compare_picked false false true eo el em en = (Some NoScenario, rw (eo, el, em) refl, rw (eo, large_once _ _ el, en) refl)
-  compare_picked false false false eo el em en = (None, rw (eo, el, em) refl, rw (eo, large_once _ _ el, en) refl)
+  compare_tested : (x : Cause) → IsTested s (Compare p q r) (area_test r no_side) x
+  compare_tested Outside = (λ e. e, λ h. h)
+  compare_tested TooLarge = is_large _
+  compare_tested NoScenario = (λ e. missing_is ∙ e, λ h. sym missing_is ∙ h)
+  compare_tested x = never
 
-  pub same_compare : SameStep s compare
-  same_compare a =
-      let k = compare_picked (is_outside r.0 || is_outside r.1) (nat_lt max_area (size_of (area r) * 1)) (list_any (is_missing s) (form (Compare p q r))) refl refl refl (sym missing_is) in
-      by_tests s compare compare_test compare_yes compare_no refl compared (λ e. refl) (λ x y h k. h ∙ sym k) (was compare) k.0 k.1 k.2 a
+  pub same_compare : SameStep s (Compare p q r)
+  same_compare =
+      let k = area_picked r no_side s compared (λ at. old.Compare p q at) (λ e. rw e refl) (λ e k. rw (e, k) refl) (λ e k. rw (e, k) refl) in
+      by_tests s (Compare p q r) (area_test r no_side) compare_tested refl (λ q h. h) compared (λ e. refl) (λ x y h k. h ∙ sym k) (was (Compare p q r)) k
 
 -- ---- a cell
 
@@ -143,27 +101,19 @@ module _ (s : State) (c : Cell) where
   formula_test Outside = list_any lies_outside (form (Formula c))
   formula_test x = false
 
-  formula_yes : (x : Cause) → formula_test x ≡ true → Holds s x (Formula c)
-  formula_yes Outside e = e
-  formula_yes x e = absurd (both_ways false refl e)
+  formula_tested : (x : Cause) → IsTested s (Formula c) formula_test x
+  formula_tested Outside = (λ e. e, λ h. h)
+  formula_tested TooLarge = is_small
+  formula_tested NoScenario = (λ e. e, λ h. h)
+  formula_tested x = never
 
-  formula_no : (x : Cause) → formula_test x ≡ false → Holds s x (Formula c) → ⊥
-  formula_no Outside e h = both_ways _ e h
-  formula_no TooLarge e h = omega (arith, h)
-  formula_no NoScenario e h = both_ways false refl h
-  formula_no Stale e h = h.1 refl
-  formula_no Full e h = h.1
-  formula_no EditLimit e h = h.1
-  formula_no x e h = h
-
-  formula_picked : (out : Bool) → is_outside c ≡ out → (o : Option Cause) × (first_test formula_test causes ≡ o) × old.IsCallStep s (was (Formula c)) (found told_of o)
+  formula_picked : (out : Bool) → is_outside c ≡ out → Picked s formula_test (was (Formula c)) told_of
   formula_picked true eo = (Some Outside, rw eo refl, rw eo refl)
   formula_picked false eo = (None, rw eo refl, rw eo refl)
 
   pub same_formula : SameStep s (Formula c)
-  same_formula a =
-      let p = formula_picked (is_outside c) refl in
-      by_tests s (Formula c) formula_test formula_yes formula_no refl told_of (λ e. refl) (λ x y h k. h ∙ sym k) (was (Formula c)) p.0 p.1 p.2 a
+  same_formula =
+      by_tests s (Formula c) formula_test formula_tested refl (λ q h. h) told_of (λ e. refl) (λ x y h k. h ∙ sym k) (was (Formula c)) (formula_picked (is_outside c) refl)
 
 -- ---- no operand
 
@@ -174,14 +124,11 @@ module _ (s : State) where
   abbrev changes_test : Cause → Bool
   changes_test x = false
 
-  changes_no : (x : Cause) → changes_test x ≡ false → Holds s x Changes → ⊥
-  changes_no Outside e h = both_ways false refl h
-  changes_no TooLarge e h = omega (arith, h)
-  changes_no NoScenario e h = both_ways false refl h
-  changes_no Stale e h = h.1 refl
-  changes_no Full e h = h.1
-  changes_no EditLimit e h = h.1
-  changes_no x e h = h
+  changes_tested : (x : Cause) → IsTested s Changes changes_test x
+  changes_tested Outside = (λ e. e, λ h. h)
+  changes_tested TooLarge = is_small
+  changes_tested NoScenario = (λ e. e, λ h. h)
+  changes_tested x = never
 
   pub same_changes : SameStep s Changes
-  same_changes a = by_tests s Changes changes_test (λ x e. absurd (both_ways false refl e)) changes_no refl after_changes (λ e. refl) (λ x y h k. h ∙ sym k) (was Changes) None refl refl a
+  same_changes = by_tests s Changes changes_test changes_tested refl (λ q h. h) after_changes (λ e. refl) (λ x y h k. h ∙ sym k) (was Changes) (None, refl, refl)

@@ -1,5 +1,5 @@
 -- Lines have no other commands than those that they had.
-use Rattle.wi_cli.proofs.Vocabulary.{◌≡◌, ℕ, suc, ◌+◌, ◌-◌, ◌<◌, Bool, true, false, not, ◌==◌, ◌||◌, nat_lt, cond, List, [], ◌∷◌, ◌++◌, length, map, take, filter, filter_map, ◌⊎◌, inl, inr, Option, Some, None, option_map, if◌then◌else◌, refl, sym, ap, ap₂, ◌∙◌, subst, arith, codes, bytes_eq, append_assoc, append-nil, cons_option, prefix_len, before_first, byte, is_utf8, nat_tests, IsUtf8-from_is_utf8, is_utf8-from_IsUtf8, le-ltb, both_ways, without_lf, max_line, is_space, skip_spaces, first_word, after_word, Bytes, is_all_spaces, csv_text, csv_named, csv_command, Block, lines_of, blocks, blocks_from, is_complete, block_command, spelled_command, Cell, IsWritten, Command, Set, Clear, Fill, Csv, Scenario, Drop, Base, Use, As, Show, Export, Compare, Table, Formula, Changes, Unknown, Unreadable, form, line_text, IsGood, Asks, is_passed_over, IsCommand, was, read_any, asked, block, blocks_that_count, SameCommands}
+use Rattle.wi_cli.proofs.Vocabulary.{◌≡◌, ℕ, suc, ◌+◌, ◌-◌, ◌<◌, Bool, true, false, not, ◌==◌, ◌||◌, nat_lt, cond, List, [], ◌∷◌, ◌++◌, length, map, take, filter, filter_map, ◌⊎◌, inl, inr, Option, Some, None, option_map, if◌then◌else◌, refl, sym, ap, ap₂, ◌∙◌, subst, arith, codes, bytes_eq, append_assoc, append-nil, cons_option, prefix_len, before_first, byte, is_utf8, nat_tests, IsUtf8-from_is_utf8, is_utf8-from_IsUtf8, le-ltb, both_ways, without_lf, max_line, is_space, skip_spaces, first_word, after_word, Bytes, is_all_spaces, csv_text, csv_named, csv_command, Block, lines_of, blocks, blocks_from, is_complete, block_command, spelled_command, Cell, IsWritten, Command, Set, Clear, Fill, Csv, Scenario, Drop, Base, Use, As, Show, Export, Compare, Table, Formula, Changes, Unknown, Unreadable, form, line_text, IsGood, Asks, is_passed_over, IsCommand, was, read_any, asked, line_block, blocks_that_count, SameCommands}
 use Rattle.std.proofs.Common.{option_to_list}
 use Rattle.wi_scenarios.specs.declared.refusal.Refusal.TheVariants as refusal
 use Rattle.wi_scenarios.specs.Step as old
@@ -111,44 +111,44 @@ csv_apart text false o n h = not_passed text (codes "csv") h.0 refl
 module _ (line : Bytes) (taken : List Bytes) where
   -- one that asks for none, by whether it is passed over
   plain_is : IsGood line → csv_text (line_text line) ≡ None → (p : Bool) → is_passed_over (line_text line) ≡ p
-      → block_command (block line taken) ≡ (if p then None else Some (spelled_command (line_text line)))
+      → block_command (line_block line taken) ≡ (if p then None else Some (spelled_command (line_text line)))
   plain_is g e p f = plain_line line taken (short_line line (le-ltb _ _ g.0) ∙ e) ∙ line_is line false (good_is line g) ∙ text_is (line_text line) p f
 
-  is_none : IsGood line → is_passed_over (line_text line) ≡ true → TextReads (line_text line) → block_command (block line taken) ≡ None
+  is_none : IsGood line → is_passed_over (line_text line) ≡ true → TextReads (line_text line) → block_command (line_block line taken) ≡ None
   is_none g p (inl f) = absurd (both_ways _ (csv_apart (line_text line) f.0 f.1 f.2 f.3) p)
   is_none g p (inr bad) = plain_is g bad.1 true p
 
   is_unknown : IsGood line → is_passed_over (line_text line) ≡ false → ((c : Command) → IsWritten (line_text line) (form c) → ⊥) → TextReads (line_text line) → Reads (line_text line)
-      → block_command (block line taken) ≡ Some (old.Refused refusal.BadCommand)
+      → block_command (line_block line taken) ≡ Some (old.Refused refusal.BadCommand)
   is_unknown g p nothing (inl f) r = absurd (nothing (Csv f.0 f.1 f.2 []) f.3)
   is_unknown g p nothing (inr bad) (spells c is h) = absurd (nothing c h)
   is_unknown g p nothing (inr bad) (spells_none unread e) = plain_is g bad.1 false p ∙ ap (λ (x : old.Call). Some x) e
 
-  is_unreadable : (IsGood line → ⊥) → AsksOrNot line → block_command (block line taken) ≡ Some (old.Refused refusal.BadLine)
+  is_unreadable : (IsGood line → ⊥) → AsksOrNot line → block_command (line_block line taken) ≡ Some (old.Refused refusal.BadLine)
   is_unreadable bad (it_asks force o n within h r) = by (is_utf8 (line_text line)) refl
     where
-      by : (b : Bool) → is_utf8 (line_text line) ≡ b → block_command (block line taken) ≡ Some (old.Refused refusal.BadLine)
+      by : (b : Bool) → is_utf8 (line_text line) ≡ b → block_command (line_block line taken) ≡ Some (old.Refused refusal.BadLine)
       by true e = absurd (bad (within, IsUtf8-from_is_utf8 (line_text line) e))
       by false e = csv_line_is line taken force o n r false e
   is_unreadable bad (it_asks_none nothing e) = by (nat_lt max_line (length (without_lf line)) || not (is_utf8 (line_text line))) refl
     where
-      by : (b : Bool) → (nat_lt max_line (length (without_lf line)) || not (is_utf8 (line_text line))) ≡ b → block_command (block line taken) ≡ Some (old.Refused refusal.BadLine)
+      by : (b : Bool) → (nat_lt max_line (length (without_lf line)) || not (is_utf8 (line_text line))) ≡ b → block_command (line_block line taken) ≡ Some (old.Refused refusal.BadLine)
       by true f = plain_line line taken e ∙ line_is line true f
       by false f = absurd (bad (good line f))
 
   is_csv : (force : Bool) (o : Option Cell) (n : ℕ) (lines : List Bytes) → IsGood line → IsWritten (line_text line) (form (Csv force o n [])) → lines ≡ taken
-      → block_command (block line taken) ≡ Some (was (Csv force o n lines))
+      → block_command (line_block line taken) ≡ Some (was (Csv force o n lines))
   is_csv force o n lines g h e =
       let r = text_read (line_text line) force o n h in
       csv_line_is line taken force o n (r.0, short_line line (le-ltb _ _ g.0) ∙ r.1, r.2) true (is_utf8-from_IsUtf8 (line_text line) g.1)
       ∙ ap (λ (ls : List Bytes). Some (csv_command force (read_any o) ls (n - length ls))) (sym e)
 
-  is_plain_one : (c : Command) → is_plain c ≡ true → IsGood line → IsWritten (line_text line) (form c) → block_command (block line taken) ≡ Some (was c)
+  is_plain_one : (c : Command) → is_plain c ≡ true → IsGood line → IsWritten (line_text line) (form c) → block_command (line_block line taken) ≡ Some (was c)
   is_plain_one c p g h =
       let a = apart (line_text line) c p h in
       plain_is g a.no_csv false a.read ∙ ap (λ (x : old.Call). Some x) (same_form (line_text line) c p h)
 
-  pub one_command : (o : Option Command) → IsCommand line taken o → block_command (block line taken) ≡ option_map was o
+  pub one_command : (o : Option Command) → IsCommand line taken o → block_command (line_block line taken) ≡ option_map was o
   one_command None h = is_none h.0 h.1 (text_or (line_text line))
   one_command (Some Unreadable) h = is_unreadable h (asks_or_not line)
   one_command (Some Unknown) h = is_unknown h.0 h.1 h.2 (text_or (line_text line)) (reads (line_text line))
@@ -185,11 +185,11 @@ short_of line before (t ∷ ts) m h =
     ∙ short_of line (before ++ t ∷ []) ts (m - 1) less
     ∙ ap (λ (b : Block). b ∷ []) (same_blocks line ((before ++ t ∷ []) ++ ts) (before ++ t ∷ ts) ((m - 1) - length ts) (m - length (t ∷ ts)) (append_assoc before (t ∷ []) ts) same)
 
-block_filled : (line : Bytes) (taken lines : List Bytes) → asked line ≡ length taken → blocks (line ∷ (taken ++ lines)) ≡ block line taken ∷ blocks lines
+block_filled : (line : Bytes) (taken lines : List Bytes) → asked line ≡ length taken → blocks (line ∷ (taken ++ lines)) ≡ line_block line taken ∷ blocks lines
 block_filled line taken lines e =
     filled line [] taken lines (asked line) e ∙ ap (λ (b : Block). b ∷ blocks lines) (same_blocks line taken taken 0 (asked line - length taken) refl (omega (arith, e)))
 
-block_short : (line : Bytes) (taken : List Bytes) → length taken < asked line → blocks (line ∷ taken) ≡ block line taken ∷ []
+block_short : (line : Bytes) (taken : List Bytes) → length taken < asked line → blocks (line ∷ taken) ≡ line_block line taken ∷ []
 block_short line taken h = short_of line [] taken (asked line) h
 
 -- ---- lines
@@ -208,7 +208,7 @@ same_commands false lines cs no_commands = refl
 same_commands ended lines cs (line_with line taken more o ds takes is rest) =
     let many : asked line ≡ length taken = is_asked line (length taken) (are_taken line taken takes) in
     ap (λ (bs : List Block). filter_map block_command (blocks_that_count ended bs)) (block_filled line taken more many)
-    ∙ ap (filter_map block_command) (kept_one ended (block line taken) (blocks more) (complete line taken many))
+    ∙ ap (filter_map block_command) (kept_one ended (line_block line taken) (blocks more) (complete line taken many))
     ∙ ap₂ cons_option (one_command line taken o is) (same_commands ended more ds rest) ∙ onto_was o ds
 same_commands true lines cs (line_cut line taken n o asks short is) =
     let less : length taken < asked line = subst (λ (k : ℕ). length taken < k) (sym (asked_is line n asks)) short in
@@ -216,4 +216,4 @@ same_commands true lines cs (line_cut line taken n o asks short is) =
 same_commands false lines cs (line_cut line taken n o asks short is) =
     let less : length taken < asked line = subst (λ (k : ℕ). length taken < k) (sym (asked_is line n asks)) short in
     ap (λ (bs : List Block). filter_map block_command (filter is_complete bs)) (block_short line taken less)
-    ∙ ap (λ (v : Bool). filter_map block_command (cond v (block line taken ∷ []) [])) (not_complete line taken less)
+    ∙ ap (λ (v : Bool). filter_map block_command (cond v (line_block line taken ∷ []) [])) (not_complete line taken less)

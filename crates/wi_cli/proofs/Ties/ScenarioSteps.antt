@@ -1,8 +1,8 @@
 -- The steps of the commands of scenarios and sessions.
-use Rattle.wi_cli.proofs.Vocabulary.{◌≡◌, ℕ, Bool, true, false, not, ◌||◌, ◌&&◌, nat_le, List, [], ◌∷◌, length, ◌⊎◌, inl, inr, Option, Some, None, is_some, refl, sym, ap, ◌∙◌, subst, arith, list_any, Any, Any-from_list_any, list_any-from_Any, bytes_eq-Decides, or_parts, or_cases, both_ways, leb-true, le-leb, or-false, Value, IsImported, imported, imported_exactly, Any-weaker, is_named, has_scenario, scenario_for, without_scenario, with_own, without_own, is_full, chain, is_name_of, is_base, based_on, lacks, would_loop, Session, has_session, max_sessions, with_session, index_of, using_scenario, State, is_in_use, current_session, with_current, Cell, is_outside, address, Bytes, Command, Scenario, Drop, Base, Use, As, form, Cause, Outside, TooLarge, NoScenario, InUse, TooMany, TooLong, Stale, Loop, Full, EditLimit, Holds, lies_outside, is_missing, Does, state_with, causes, SameStep, was}
+use Rattle.wi_cli.proofs.Vocabulary.{◌≡◌, ◌↔◌, ℕ, Bool, true, false, not, ◌||◌, ◌&&◌, nat_le, List, [], ◌∷◌, length, ◌⊎◌, inl, inr, Option, Some, None, is_some, refl, sym, ap, ◌∙◌, subst, list_any, Any, Any-from_list_any, list_any-from_Any, bytes_eq-Decides, or_cases, both_ways, leb-true, le-leb, or-false, or-true, Value, IsImported, imported, imported_exactly, Any-weaker, is_named, has_scenario, scenario_for, without_scenario, with_own, without_own, is_full, chain, is_name_of, is_base, based_on, lacks, would_loop, Session, has_session, max_sessions, with_session, index_of, using_scenario, State, is_in_use, current_session, with_current, Cell, is_outside, address, Bytes, Command, Scenario, Drop, Base, Use, As, form, Cause, Outside, TooLarge, NoScenario, InUse, TooMany, TooLong, Loop, Holds, lies_outside, is_missing, Does, state_with, causes, SameStep, was}
 use Rattle.wi_scenario_list.specs.Scenarios.{Scenario as Kept}
 use Rattle.wi_scenarios.specs.Step as old
-use Rattle.wi_cli.proofs.Ties.Tests.{first_test, found, some_none, by_tests}
+use Rattle.wi_cli.proofs.Ties.Tests.{first_test, some_none, IsTested, never, is_small, Picked, by_tests}
 
 -- ---- names that are given
 
@@ -14,20 +14,18 @@ is_named_so : (name : Bytes) (o : Option Bytes) → o ≡ Some name → is_name_
 is_named_so name o e = ap (is_name_of name) e ∙ (bytes_eq-Decides name name).1 refl
 
 module _ {X : Type 0} (given : X → Option Bytes) (name : Bytes) (xs : List X) where
-  some_named : list_any (λ x. is_name_of name (given x)) xs ≡ true → Any (λ x. given x ≡ Some name) xs
-  some_named e =
-      Any-weaker (λ x. is_name_of name (given x) ≡ true) (λ x. given x ≡ Some name) xs (λ x h. named_is name (given x) h) (Any-from_list_any (λ x. is_name_of name (given x)) xs e)
-
-  none_named : list_any (λ x. is_name_of name (given x)) xs ≡ false → Any (λ x. given x ≡ Some name) xs → ⊥
-  none_named e h =
-      both_ways _ e (list_any-from_Any (λ x. is_name_of name (given x)) xs (Any-weaker (λ x. given x ≡ Some name) (λ x. is_name_of name (given x) ≡ true) xs (λ x k. is_named_so name (given x) k) h))
+  any_named : (list_any (λ x. is_name_of name (given x)) xs ≡ true) ↔ Any (λ x. given x ≡ Some name) xs
+  any_named = (
+    λ e. Any-weaker (λ x. is_name_of name (given x) ≡ true) (λ x. given x ≡ Some name) xs (λ x h. named_is name (given x) h) (Any-from_list_any (λ x. is_name_of name (given x)) xs e),
+    λ h. list_any-from_Any (λ x. is_name_of name (given x)) xs (Any-weaker (λ x. given x ≡ Some name) (λ x. is_name_of name (given x) ≡ true) xs (λ x k. is_named_so name (given x) k) h),
+  )
 
 module _ (name : Bytes) (xs : List Kept) where
-  in_chain : list_any (is_named name) xs ≡ true → Any (λ x. x.name ≡ name) xs
-  in_chain e = Any-weaker (λ x. is_named name x ≡ true) (λ x. x.name ≡ name) xs (λ x h. sym ((bytes_eq-Decides name x.name).0 h)) (Any-from_list_any (is_named name) xs e)
-
-  not_in_chain : list_any (is_named name) xs ≡ false → Any (λ x. x.name ≡ name) xs → ⊥
-  not_in_chain e h = both_ways _ e (list_any-from_Any (is_named name) xs (Any-weaker (λ x. x.name ≡ name) (λ x. is_named name x ≡ true) xs (λ x k. (bytes_eq-Decides name x.name).1 (sym k)) h))
+  in_chain : (list_any (is_named name) xs ≡ true) ↔ Any (λ x. x.name ≡ name) xs
+  in_chain = (
+    λ e. Any-weaker (λ x. is_named name x ≡ true) (λ x. x.name ≡ name) xs (λ x h. sym ((bytes_eq-Decides name x.name).0 h)) (Any-from_list_any (is_named name) xs e),
+    λ h. list_any-from_Any (is_named name) xs (Any-weaker (λ x. x.name ≡ name) (λ x. is_named name x ≡ true) xs (λ x k. (bytes_eq-Decides name x.name).1 (sym k)) h),
+  )
 
 -- ---- drop
 
@@ -40,38 +38,31 @@ module _ (s : State) (name : Bytes) where
   drop_test InUse = is_in_use s name
   drop_test x = false
 
-  pub drop_yes : (x : Cause) → drop_test x ≡ true → Holds s x (Drop name)
-  drop_yes NoScenario e = e
-  drop_yes InUse e = by (or_cases (list_any (λ x. is_name_of name x.scenario) s.sessions) (is_base s.scenarios name) e)
+  pub drop_tested : (x : Cause) → IsTested s (Drop name) drop_test x
+  drop_tested Outside = (λ e. e, λ h. h)
+  drop_tested TooLarge = is_small
+  drop_tested NoScenario = (λ e. e, λ h. h)
+  drop_tested InUse = (λ e. by (or_cases (list_any (λ x. is_name_of name x.scenario) s.sessions) (is_base s.scenarios name) e), back)
     where
       by : (list_any (λ x. is_name_of name x.scenario) s.sessions ≡ true) ⊎ (is_base s.scenarios name ≡ true) → Holds s InUse (Drop name)
-      by (inl h) = inl (some_named (λ (x : Session). x.scenario) name s.sessions h)
-      by (inr h) = inr (some_named (λ (x : Kept). x.base) name s.scenarios h)
-  drop_yes x e = absurd (both_ways false refl e)
+      by (inl h) = inl ((any_named (λ (x : Session). x.scenario) name s.sessions).0 h)
+      by (inr h) = inr ((any_named (λ (x : Kept). x.base) name s.scenarios).0 h)
 
-  drop_no : (x : Cause) → drop_test x ≡ false → Holds s x (Drop name) → ⊥
-  drop_no Outside e h = both_ways false refl h
-  drop_no TooLarge e h = omega (arith, h)
-  drop_no NoScenario e h = both_ways _ e h
-  drop_no InUse e (inl h) =
-      none_named (λ (x : Session). x.scenario) name s.sessions (or_parts (list_any (λ x. is_name_of name x.scenario) s.sessions) (is_base s.scenarios name) e).0 h
-  drop_no InUse e (inr h) =
-      none_named (λ (x : Kept). x.base) name s.scenarios (or_parts (list_any (λ x. is_name_of name x.scenario) s.sessions) (is_base s.scenarios name) e).1 h
-  drop_no Stale e h = h.1 refl
-  drop_no Full e h = h.1
-  drop_no EditLimit e h = h.1
-  drop_no x e h = h
+      back : Holds s InUse (Drop name) → is_in_use s name ≡ true
+      back (inl h) = ap (λ (b : Bool). b || is_base s.scenarios name) ((any_named (λ (x : Session). x.scenario) name s.sessions).1 h)
+      back (inr h) = ap (λ (b : Bool). list_any (λ x. is_name_of name x.scenario) s.sessions || b) ((any_named (λ (x : Kept). x.base) name s.scenarios).1 h) ∙ or-true _
+  drop_tested x = never
 
   drop_picked : (missing used : Bool) → not (has_scenario s.scenarios name) ≡ missing → is_in_use s name ≡ used
-      → (o : Option Cause) × (first_test drop_test causes ≡ o) × old.IsCallStep s (was (Drop name)) (found dropped o)
+      → Picked s drop_test (was (Drop name)) dropped
   drop_picked true used em eu = (Some NoScenario, rw em refl, rw em refl)
   drop_picked false true em eu = (Some InUse, rw (em, eu) refl, rw (em, eu) refl)
   drop_picked false false em eu = (None, rw (em, eu) refl, rw (em, eu) refl)
 
   pub same_drop : SameStep s (Drop name)
-  same_drop a =
-      let p = drop_picked (not (has_scenario s.scenarios name)) (is_in_use s name) refl refl in
-      by_tests s (Drop name) drop_test drop_yes drop_no refl dropped (λ e. refl) (λ x y h k. h ∙ sym k) (was (Drop name)) p.0 p.1 p.2 a
+  same_drop =
+      by_tests s (Drop name) drop_test drop_tested refl (λ q h. h) dropped (λ e. refl) (λ x y h k. h ∙ sym k) (was (Drop name))
+      (drop_picked (not (has_scenario s.scenarios name)) (is_in_use s name) refl refl)
 
 -- ---- use
 
@@ -83,32 +74,23 @@ module _ (s : State) (name : Option Bytes) where
   use_test NoScenario = lacks s.scenarios name
   use_test x = false
 
-use_yes : (s : State) (name : Option Bytes) (x : Cause) → use_test s name x ≡ true → Holds s x (Use name)
-use_yes s None NoScenario e = absurd (both_ways false refl e)
-use_yes s (Some name) NoScenario e = ap (λ (b : Bool). b || false) e
-use_yes s name x e = absurd (both_ways false refl e)
-
-use_no : (s : State) (name : Option Bytes) (x : Cause) → use_test s name x ≡ false → Holds s x (Use name) → ⊥
-use_no s None Outside e h = both_ways false refl h
-use_no s (Some name) Outside e h = both_ways false refl h
-use_no s None TooLarge e h = omega (arith, h)
-use_no s (Some name) TooLarge e h = omega (arith, h)
-use_no s None NoScenario e h = both_ways false refl h
-use_no s (Some name) NoScenario e h = both_ways _ (ap (λ (b : Bool). b || false) e) h
-use_no s name Stale e h = h.1 refl
-use_no s name Full e h = h.1
-use_no s name EditLimit e h = h.1
-use_no s name x e h = h
+use_tested : (s : State) (name : Option Bytes) (x : Cause) → IsTested s (Use name) (use_test s name) x
+use_tested s None Outside = (λ e. e, λ h. h)
+use_tested s (Some name) Outside = (λ e. e, λ h. h)
+use_tested s None TooLarge = is_small
+use_tested s (Some name) TooLarge = is_small
+use_tested s None NoScenario = (λ e. e, λ h. h)
+use_tested s (Some name) NoScenario = (λ e. or-false _ ∙ e, λ h. sym (or-false _) ∙ h)
+use_tested s name x = never
 
 module _ (s : State) (name : Option Bytes) where
-  use_picked : (missing : Bool) → lacks s.scenarios name ≡ missing → (o : Option Cause) × (first_test (use_test s name) causes ≡ o) × old.IsCallStep s (was (Use name)) (found (used s name) o)
+  use_picked : (missing : Bool) → lacks s.scenarios name ≡ missing → Picked s (use_test s name) (was (Use name)) (used s name)
   use_picked true em = (Some NoScenario, rw em refl, rw em refl)
   use_picked false em = (None, rw em refl, rw em refl)
 
   pub same_use : SameStep s (Use name)
-  same_use a =
-      let p = use_picked (lacks s.scenarios name) refl in
-      by_tests s (Use name) (use_test s name) (use_yes s name) (use_no s name) refl (used s name) (λ e. refl) (λ x y h k. h ∙ sym k) (was (Use name)) p.0 p.1 p.2 a
+  same_use =
+      by_tests s (Use name) (use_test s name) (use_tested s name) refl (λ q h. h) (used s name) (λ e. refl) (λ x y h k. h ∙ sym k) (was (Use name)) (use_picked (lacks s.scenarios name) refl)
 
 -- ---- as
 
@@ -130,34 +112,27 @@ module _ (s : State) (name : Bytes) where
   new_of_many true m e = absurd (both_ways false refl e)
   new_of_many false m e = (refl, e)
 
-  not_both : (t m : Bool) → (not t && m) ≡ false → t ≡ false → m ≡ true → ⊥
-  not_both true m e h k = both_ways true h refl
-  not_both false m e h k = both_ways m e k
+  both : (t m : Bool) → t ≡ false → m ≡ true → (not t && m) ≡ true
+  both true m h k = absurd (both_ways true h refl)
+  both false m h k = k
 
-  as_yes : (x : Cause) → as_test x ≡ true → Holds s x (As name)
-  as_yes TooMany e =
-      let p = new_of_many there many e in
-      (p.0, leb-true _ _ p.1)
-  as_yes x e = absurd (both_ways false refl e)
+  as_tested : (x : Cause) → IsTested s (As name) as_test x
+  as_tested Outside = (λ e. e, λ h. h)
+  as_tested TooLarge = is_small
+  as_tested NoScenario = (λ e. e, λ h. h)
+  as_tested TooMany = (
+    λ e. let p = new_of_many there many e in (p.0, leb-true _ _ p.1),
+    λ h. both there many h.0 (le-leb _ _ h.1),
+  )
+  as_tested x = never
 
-  as_no : (x : Cause) → as_test x ≡ false → Holds s x (As name) → ⊥
-  as_no Outside e h = both_ways false refl h
-  as_no TooLarge e h = omega (arith, h)
-  as_no NoScenario e h = both_ways false refl h
-  as_no TooMany e h = not_both there many e h.0 (le-leb _ _ h.1)
-  as_no Stale e h = h.1 refl
-  as_no Full e h = h.1
-  as_no EditLimit e h = h.1
-  as_no x e h = h
-
-  as_picked : (full : Bool) → (not there && many) ≡ full → (o : Option Cause) × (first_test as_test causes ≡ o) × old.IsCallStep s (was (As name)) (found made_current o)
+  as_picked : (full : Bool) → (not there && many) ≡ full → Picked s as_test (was (As name)) made_current
   as_picked true e = (Some TooMany, rw e refl, rw e refl)
   as_picked false e = (None, rw e refl, rw e refl)
 
   pub same_as : SameStep s (As name)
-  same_as a =
-      let p = as_picked (not there && many) refl in
-      by_tests s (As name) as_test as_yes as_no refl made_current (λ e. refl) (λ x y h k. h ∙ sym k) (was (As name)) p.0 p.1 p.2 a
+  same_as =
+      by_tests s (As name) as_test as_tested refl (λ q h. h) made_current (λ e. refl) (λ x y h k. h ∙ sym k) (was (As name)) (as_picked (not there && many) refl)
 
 -- ---- base
 
@@ -174,36 +149,27 @@ missing_base : (s : State) (name : Bytes) (other : Option Bytes) → list_any (i
 missing_base s name None = refl
 missing_base s name (Some other) = ap (λ (b : Bool). not (has_scenario s.scenarios name) || b) (or-false (not (has_scenario s.scenarios other)))
 
-pub base_yes : (s : State) (name : Bytes) (other : Option Bytes) (x : Cause) → base_test s name other x ≡ true → Holds s x (Base name other)
-base_yes s name other NoScenario e = missing_base s name other ∙ e
-base_yes s name None Loop e = absurd (both_ways false refl e)
-base_yes s name (Some other) Loop e = in_chain name (chain s.scenarios (Some other)) e
-base_yes s name other x e = absurd (both_ways false refl e)
-
-base_no : (s : State) (name : Bytes) (other : Option Bytes) (x : Cause) → base_test s name other x ≡ false → Holds s x (Base name other) → ⊥
-base_no s name None Outside e h = both_ways false refl h
-base_no s name (Some other) Outside e h = both_ways false refl h
-base_no s name None TooLarge e h = omega (arith, h)
-base_no s name (Some other) TooLarge e h = omega (arith, h)
-base_no s name other NoScenario e h = both_ways _ e (sym (missing_base s name other) ∙ h)
-base_no s name None Loop e h = h
-base_no s name (Some other) Loop e h = not_in_chain name (chain s.scenarios (Some other)) e h
-base_no s name other Stale e h = h.1 refl
-base_no s name other Full e h = h.1
-base_no s name other EditLimit e h = h.1
-base_no s name other x e h = h
+pub base_tested : (s : State) (name : Bytes) (other : Option Bytes) (x : Cause) → IsTested s (Base name other) (base_test s name other) x
+base_tested s name None Outside = (λ e. e, λ h. h)
+base_tested s name (Some other) Outside = (λ e. e, λ h. h)
+base_tested s name None TooLarge = is_small
+base_tested s name (Some other) TooLarge = is_small
+base_tested s name other NoScenario = (λ e. missing_base s name other ∙ e, λ h. sym (missing_base s name other) ∙ h)
+base_tested s name None Loop = never
+base_tested s name (Some other) Loop = in_chain name (chain s.scenarios (Some other))
+base_tested s name other x = never
 
 module _ (s : State) (name : Bytes) (other : Option Bytes) where
   base_picked : (missing loop : Bool) → (not (has_scenario s.scenarios name) || lacks s.scenarios other) ≡ missing → would_loop s.scenarios name other ≡ loop
-      → (o : Option Cause) × (first_test (base_test s name other) causes ≡ o) × old.IsCallStep s (was (Base name other)) (found (based s name other) o)
+      → Picked s (base_test s name other) (was (Base name other)) (based s name other)
   base_picked true loop em el = (Some NoScenario, rw em refl, rw em refl)
   base_picked false true em el = (Some Loop, rw (em, el) refl, rw (em, el) refl)
   base_picked false false em el = (None, rw (em, el) refl, rw (em, el) refl)
 
   pub same_base : SameStep s (Base name other)
-  same_base a =
-      let p = base_picked (not (has_scenario s.scenarios name) || lacks s.scenarios other) (would_loop s.scenarios name other) refl refl in
-      by_tests s (Base name other) (base_test s name other) (base_yes s name other) (base_no s name other) refl (based s name other) (λ e. refl) (λ x y h k. h ∙ sym k) (was (Base name other)) p.0 p.1 p.2 a
+  same_base =
+      by_tests s (Base name other) (base_test s name other) (base_tested s name other) refl (λ q h. h) (based s name other) (λ e. refl) (λ x y h k. h ∙ sym k) (was (Base name other))
+      (base_picked (not (has_scenario s.scenarios name) || lacks s.scenarios other) (would_loop s.scenarios name other) refl refl)
 
 -- ---- scenario
 
@@ -216,30 +182,22 @@ module _ (s : State) (name : Bytes) (at : Cell) where
   away_test NoScenario = not (has_scenario s.scenarios name) || false
   away_test x = false
 
-  away_yes : (x : Cause) → away_test x ≡ true → Holds s x (Scenario name at [])
-  away_yes Outside e = e
-  away_yes NoScenario e = e
-  away_yes x e = absurd (both_ways false refl e)
-
-  away_no : (x : Cause) → away_test x ≡ false → Holds s x (Scenario name at []) → ⊥
-  away_no Outside e h = both_ways _ e h
-  away_no TooLarge e h = omega (arith, h)
-  away_no NoScenario e h = both_ways _ e h
-  away_no Stale e h = h.1 refl
-  away_no Full e h = h.1
-  away_no EditLimit e h = h.1
-  away_no x e h = h
+  away_tested : (x : Cause) → IsTested s (Scenario name at []) away_test x
+  away_tested Outside = (λ e. e, λ h. h)
+  away_tested TooLarge = is_small
+  away_tested NoScenario = (λ e. e, λ h. h)
+  away_tested x = never
 
   away_picked : (out missing : Bool) → is_outside at ≡ out → not (has_scenario s.scenarios name) ≡ missing
-      → (o : Option Cause) × (first_test away_test causes ≡ o) × old.IsCallStep s (was (Scenario name at [])) (found taken_away o)
+      → Picked s away_test (was (Scenario name at [])) taken_away
   away_picked true missing eo em = (Some Outside, rw eo refl, rw eo refl)
   away_picked false true eo em = (Some NoScenario, rw (eo, em) refl, rw (eo, em) refl)
   away_picked false false eo em = (None, rw (eo, em) refl, rw (eo, em) refl)
 
   same_away : SameStep s (Scenario name at [])
-  same_away a =
-      let p = away_picked (is_outside at) (not (has_scenario s.scenarios name)) refl refl in
-      by_tests s (Scenario name at []) away_test away_yes away_no refl taken_away (λ e. refl) (λ x y h k. h ∙ sym k) (was (Scenario name at [])) p.0 p.1 p.2 a
+  same_away =
+      by_tests s (Scenario name at []) away_test away_tested refl (λ q h. h) taken_away (λ e. refl) (λ x y h k. h ∙ sym k) (was (Scenario name at []))
+      (away_picked (is_outside at) (not (has_scenario s.scenarios name)) refl refl)
 
 module _ (s : State) (name : Bytes) (at : Cell) (b : ℕ) (bs : Bytes) (value : Option Value) (is : IsImported (b ∷ bs) value) where
   abbrev put : Command
@@ -262,25 +220,16 @@ module _ (s : State) (name : Bytes) (at : Cell) (b : ℕ) (bs : Bytes) (value : 
   no_value None e = refl
   no_value (Some v) e = absurd (both_ways false refl e)
 
-  some_value : (o : Option Value) → o ≡ None → not (is_some o) ≡ false → ⊥
-  some_value None h e = both_ways true e refl
-  some_value (Some v) h e = cc
+  is_none : (o : Option Value) → o ≡ None → not (is_some o) ≡ true
+  is_none None h = refl
+  is_none (Some v) h = cc
 
-  put_yes : (x : Cause) → put_test x ≡ true → Holds s x put
-  put_yes Outside e = e
-  put_yes TooMany e = e
-  put_yes TooLong e = subst (IsImported (b ∷ bs)) (no_value value e) is
-  put_yes x e = absurd (both_ways false refl e)
-
-  put_no : (x : Cause) → put_test x ≡ false → Holds s x put → ⊥
-  put_no Outside e h = both_ways _ e h
-  put_no TooLarge e h = omega (arith, h)
-  put_no TooMany e h = both_ways _ e h
-  put_no TooLong e h = some_value value (one_value value None is h) e
-  put_no Stale e h = h.1 refl
-  put_no Full e h = h.1
-  put_no EditLimit e h = h.1
-  put_no x e h = h
+  put_tested : (x : Cause) → IsTested s put put_test x
+  put_tested Outside = (λ e. e, λ h. h)
+  put_tested TooLarge = is_small
+  put_tested TooMany = (λ e. e, λ h. h)
+  put_tested TooLong = (λ e. subst (IsImported (b ∷ bs)) (no_value value e) is, λ h. is_none value (one_value value None is h))
+  put_tested x = never
 
   same_value : {v w : Value} → ◌≡◌ {A = Option Value} (Some v) (Some w) → v ≡ w
   same_value e = cc
@@ -291,11 +240,8 @@ module _ (s : State) (name : Bytes) (at : Cell) (b : ℕ) (bs : Bytes) (value : 
 
 -- the step, where the text is imported as this
 module _ (s : State) (name : Bytes) (at : Cell) (b : ℕ) (bs : Bytes) where
-  abbrev Picked : (value : Option Value) → IsImported (b ∷ bs) value → Type 0
-  Picked value is =
-      (o : Option Cause) × (first_test (put_test s name at b bs value is) causes ≡ o) × old.IsCallStep s (was (Scenario name at (b ∷ bs))) (found (putting s name at b bs value is value) o)
-
-  put_picked : (value : Option Value) (is : IsImported (b ∷ bs) value) (out full : Bool) → is_outside at ≡ out → is_full s.scenarios name (address at) ≡ full → Picked value is
+  put_picked : (value : Option Value) (is : IsImported (b ∷ bs) value) (out full : Bool) → is_outside at ≡ out → is_full s.scenarios name (address at) ≡ full
+      → Picked s (put_test s name at b bs value is) (was (Scenario name at (b ∷ bs))) (putting s name at b bs value is value)
   put_picked value is true full eo ef = (Some Outside, rw eo refl, rw eo refl)
   put_picked value is false true eo ef = (Some TooMany, rw (eo, ef) refl, rw eo (record { value = value; is_value = is; answered = rw ef refl }))
   put_picked None is false false eo ef = (Some TooLong, rw (eo, ef) refl, rw eo (record { value = None; is_value = is; answered = rw ef refl }))
@@ -315,12 +261,11 @@ module _ (s : State) (name : Bytes) (at : Cell) (b : ℕ) (bs : Bytes) where
   does (Some v) is e = (v, is, refl)
 
   same_put : SameStep s (Scenario name at (b ∷ bs))
-  same_put a =
+  same_put =
       let value = imported (b ∷ bs) in
       let is : IsImported (b ∷ bs) value = (imported_exactly (b ∷ bs) value).1 refl in
-      let p = put_picked value is (is_outside at) (is_full s.scenarios name (address at)) refl refl in
-      by_tests s (Scenario name at (b ∷ bs)) (put_test s name at b bs value is) (put_yes s name at b bs value is) (put_no s name at b bs value is) refl (putting s name at b bs value is value)
-      (does value is) (one_put s name at b bs value is) (was (Scenario name at (b ∷ bs))) p.0 p.1 p.2 a
+      by_tests s (Scenario name at (b ∷ bs)) (put_test s name at b bs value is) (put_tested s name at b bs value is) refl (λ q h. h) (putting s name at b bs value is value)
+      (does value is) (one_put s name at b bs value is) (was (Scenario name at (b ∷ bs))) (put_picked value is (is_outside at) (is_full s.scenarios name (address at)) refl refl)
 
 pub same_scenario : (s : State) (name : Bytes) (at : Cell) (text : Bytes) → SameStep s (Scenario name at text)
 same_scenario s name at [] = same_away s name at

@@ -1,14 +1,14 @@
 -- The blocks of a script, by a relation.
-use Rattle.wi_cli.proofs.Vocabulary.{◌≡◌, ℕ, ◌+◌, ◌-◌, Bool, true, false, ◌==◌, List, [], ◌∷◌, ◌++◌, length, refl, sym, subst, arith, nat_tests, Block, blocks_from, blocks, begun, Bytes, Splits, none, a_line, cut_short, asked, block}
+use Rattle.wi_cli.proofs.Vocabulary.{◌≡◌, ℕ, ◌+◌, ◌-◌, Bool, true, false, ◌==◌, List, [], ◌∷◌, ◌++◌, length, refl, sym, subst, arith, nat_tests, Block, blocks_from, blocks, begun, Bytes, Splits, none, a_line, cut_short, asked, line_block}
 use Rattle.std.proofs.lemmas.List.{length-append, append-nil, append_assoc}
 
-same_block : (line : Bytes) (taken : List Bytes) (m : ℕ) → m ≡ asked line - length taken → ◌≡◌ {A = Block} (record { line = line; data_lines = taken; missing = m }) (block line taken)
+same_block : (line : Bytes) (taken : List Bytes) (m : ℕ) → m ≡ asked line - length taken → ◌≡◌ {A = Block} (record { line = line; data_lines = taken; missing = m }) (line_block line taken)
 same_block line taken m e = cc
 
 -- at the end of the lines
-ends : (line : Bytes) (taken : List Bytes) (m : ℕ) (b : Bool) → (m == 0) ≡ b → asked line ≡ length taken + m → Splits (line ∷ taken) (block line taken ∷ [])
+ends : (line : Bytes) (taken : List Bytes) (m : ℕ) (b : Bool) → (m == 0) ≡ b → asked line ≡ length taken + m → Splits (line ∷ taken) (line_block line taken ∷ [])
 ends line taken m true z e =
-    subst (λ (ls : List Bytes). Splits (line ∷ ls) (block line taken ∷ [])) (append-nil taken)
+    subst (λ (ls : List Bytes). Splits (line ∷ ls) (line_block line taken ∷ [])) (append-nil taken)
     (a_line line taken [] [] (grind (arith, nat_tests)) none)
 ends line taken m false z e = cut_short line taken (grind (arith, nat_tests))
 
@@ -16,7 +16,7 @@ from : (ls : List Bytes) (line : Bytes) (taken : List Bytes) (m : ℕ) → asked
 from [] line taken m e =
     let same = same_block line taken m (omega (arith, e)) in
     let split = ends line taken m (m == 0) refl e in
-    subst (λ (x : Block). Splits (line ∷ taken ++ []) (x ∷ [])) (sym same) (subst (λ (ls : List Bytes). Splits (line ∷ ls) (block line taken ∷ [])) (sym (append-nil taken)) split)
+    subst (λ (x : Block). Splits (line ∷ taken ++ []) (x ∷ [])) (sym same) (subst (λ (ls : List Bytes). Splits (line ∷ ls) (line_block line taken ∷ [])) (sym (append-nil taken)) split)
 from (l ∷ ls) line taken m e = by (m == 0) refl (from ls l [] (asked l) (omega arith)) (λ k f. from ls line (taken ++ l ∷ []) k f)
   where
     by : (b : Bool) → (m == 0) ≡ b → Splits (l ∷ [] ++ ls) (blocks_from (begun l) ls)

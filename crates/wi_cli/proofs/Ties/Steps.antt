@@ -8,8 +8,7 @@ use Rattle.wi_cli.proofs.Ties.Fills.{same_fill}
 use Rattle.wi_cli.proofs.Ties.CsvSteps.{same_csv}
 use Rattle.wi_cli.proofs.Ties.ScenarioSteps.{same_scenario, same_drop, same_base, same_use, same_as}
 use Rattle.wi_cli.proofs.Ties.Looks.{same_show, same_export, same_compare, same_formula, same_changes}
-use Rattle.wi_cli.proofs.Ties.Tables.{same_table}
-use Rattle.wi_cli.proofs.Ties.TablesOfTwo.{same_table_of_two}
+use Rattle.wi_cli.proofs.Ties.Tables.{same_table, same_table_of_two}
 
 unknown : (s : State) → SameStep s Unknown
 unknown s a = answers s Unknown (λ x y h k. absurd h.1) (Err refusal.BadCommand) (BadCommand, inr (λ h. h, inl (tt, refl)), refl) a

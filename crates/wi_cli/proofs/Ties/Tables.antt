@@ -1,122 +1,351 @@
--- The step of `table`.
-use Rattle.wi_cli.proofs.Vocabulary.{◌≡◌, ◌<◌, ℕ, min, max, Bool, true, false, not, ◌||◌, ◌&&◌, ◌==◌, nat_lt, inl, inr, None, Ok, Err, refl, sym, ap, ◌∙◌, subst, arith, nat_tests, or_parts, both_ways, Area, columns, column_of, column_of_place, State, max_area, current_replacements, table_of, is_column, entries, table_of_one, Cell, Corners, is_outside, address, area, Bytes, Command, Table, Cause, BadCommand, Outside, TooLarge, NoScenario, Stale, Full, EditLimit, Holds, Answer, IsStep, read_by, SameStep}
+-- The step of `table`, with one input and with two.
+use Rattle.wi_cli.proofs.Vocabulary.{◌≡◌, ◌<◌, ◌*◌, ℕ, min, max, Bool, true, false, not, ◌||◌, ◌&&◌, ◌==◌, nat_lt, List, [], ◌∷◌, Option, Some, None, Result, if◌then◌else◌, refl, sym, ap, ◌∙◌, subst, arith, nat_tests, list_any, result_err, or_parts, both_ways, or-false, Area, columns, row_of, column_of, size_of, AddressFault, Shape, row_of_place, column_of_place, State, max_area, current_replacements, table_of, is_column, is_row, of_operand, worse, line_fault, unless_refused, table_of_one, table_of_two, Cell, Corners, is_outside, address, area, Bytes, Command, Table, Cause, BadCommand, Outside, TooLarge, NoScenario, Answer, SameStep, read_by, read_cell, read_area, was}
+use Rattle.wi_values.specs.declared.address.AddressFault.TheVariants.{Outside as AtOutside}
 use Rattle.wi_scenarios.specs.declared.refusal.Refusal.TheVariants as refusal
 use Rattle.wi_scenarios.specs.Step as old
-use Rattle.wi_cli.proofs.Ties.Uniqueness.{answers}
+use Rattle.wi_cli.proofs.Ties.Looks.{once}
+use Rattle.wi_cli.proofs.Ties.Tests.{found, IsTested, never, is_large, Picked, by_tests}
 
--- the answer, by what is outside, what is a column and what is too large
-abbrev pub found : Bool → Bool → Bool → Bool → Bool → State × Bytes → Answer
-found false false f r big d = Err refusal.BadCommand
-found true column f r big d = Err refusal.OutOfSheet
-found false true true r big d = Err refusal.OutOfSheet
-found false true false true big d = Err refusal.OutOfSheet
-found false true false false true d = Err refusal.TooLarge
-found false true false false false d = Ok d
+-- ---- faults of operands, one after another
 
--- ---- as it was
+abbrev pub is_shape : Option AddressFault → Bool
+is_shape None = false
+is_shape (Some Shape) = true
+is_shape (Some AtOutside) = false
 
-module _ (s : State) (f r : ℕ) (xs : Area) where
-  abbrev done : State × Bytes
-  done = (s, table_of s.stored.sheet (current_replacements s) f r xs None)
+abbrev is_out : Option AddressFault → Bool
+is_out None = false
+is_out (Some Shape) = false
+is_out (Some AtOutside) = true
 
-  before : (ox column of or big : Bool) → (ox ≡ false → is_column xs ≡ column) → nat_lt max_area (entries xs None) ≡ big → (a : Answer)
-      → old.IsCallStep s (table_of_one (read_by of f) (read_by or r) (read_by ox xs)) a ≡ (found ox column of or big done ≡ a)
-  before false false false false big c b a = rw (c refl) refl
-  before false false false true big c b a = rw (c refl) refl
-  before false false true false big c b a = rw (c refl) refl
-  before false false true true big c b a = rw (c refl) refl
-  before true column false false big c b a = refl
-  before true column false true big c b a = refl
-  before true column true false big c b a = refl
-  before true column true true big c b a = refl
-  before false true true false big c b a = rw (c refl) refl
-  before false true true true big c b a = rw (c refl) refl
-  before false true false true big c b a = rw (c refl) refl
-  before false true false false true c b a = rw (c refl, b) (rw (c refl) refl)
-  before false true false false false c b a = rw (c refl, b) (rw (c refl) refl)
+abbrev worst : List (Option AddressFault) → Option AddressFault
+worst [] = None
+worst (o ∷ os) = worse o (worst os)
 
--- ---- as it is
+none_bad : (os : List (Option AddressFault)) → list_any is_shape os ≡ false → list_any is_out os ≡ false → worst os ≡ None
+none_bad [] h k = refl
+none_bad (None ∷ os) h k = none_bad os h k
+none_bad (Some Shape ∷ os) h k = absurd (both_ways true h refl)
+none_bad (Some AtOutside ∷ os) h k = absurd (both_ways true k refl)
 
-pub too_large : (n : ℕ) → nat_lt max_area n ≡ true → max_area < n
-too_large n e = grind (arith, nat_tests)
+shape_first : (os : List (Option AddressFault)) → list_any is_shape os ≡ true → worst os ≡ Some Shape
+shape_first [] h = absurd (both_ways false refl h)
+shape_first (None ∷ os) h = shape_first os h
+shape_first (Some Shape ∷ os) h = refl
+shape_first (Some AtOutside ∷ os) h = ap (worse (Some AtOutside)) (shape_first os h)
 
-pub not_large : (n : ℕ) → nat_lt max_area n ≡ false → max_area < n → ⊥
-not_large n e h = grind (arith, nat_tests)
+outside_next : (os : List (Option AddressFault)) → list_any is_shape os ≡ false → list_any is_out os ≡ true → worst os ≡ Some AtOutside
+outside_next [] h k = absurd (both_ways false refl k)
+outside_next (None ∷ os) h k = outside_next os h k
+outside_next (Some Shape ∷ os) h k = absurd (both_ways true h refl)
+outside_next (Some AtOutside ∷ os) h k = by (list_any is_out os) refl (λ j. outside_next os h j)
+  where
+    by : (b : Bool) → list_any is_out os ≡ b → (list_any is_out os ≡ true → worst os ≡ Some AtOutside) → worse (Some AtOutside) (worst os) ≡ Some AtOutside
+    by true e more = ap (worse (Some AtOutside)) (more e)
+    by false e more = ap (worse (Some AtOutside)) (none_bad os h e)
+
+last_one : (o : Option AddressFault) → o ≡ worse o None
+last_one None = refl
+last_one (Some Shape) = refl
+last_one (Some AtOutside) = refl
+
+cell_shape : (b : Bool) (a : ℕ) → is_shape (result_err (read_by b a)) ≡ false
+cell_shape true a = refl
+cell_shape false a = refl
+
+cell_out : (b : Bool) (a : ℕ) → is_out (result_err (read_by b a)) ≡ b
+cell_out true a = refl
+cell_out false a = refl
+
+line_shape : (is_line : Area → Bool) (b line : Bool) (a : Area) → (b ≡ false → is_line a ≡ line) → is_shape (line_fault is_line (read_by b a)) ≡ (not b && not line)
+line_shape is_line true line a e = refl
+line_shape is_line false true a e = rw (e refl) refl
+line_shape is_line false false a e = rw (e refl) refl
+
+shape_out : (v : Bool) → is_out (if v then None else Some Shape) ≡ false
+shape_out true = refl
+shape_out false = refl
+
+line_out : (is_line : Area → Bool) (b : Bool) (a : Area) → is_out (line_fault is_line (read_by b a)) ≡ b
+line_out is_line true a = refl
+line_out is_line false a = shape_out (is_line a)
+
+-- ---- columns and rows
 
 pub inside : (c : Cell) → is_outside c ≡ false → c.column < columns
 inside c e = grind (arith, nat_tests)
 
 -- the row and the column of a cell, and whether two columns are one
-pub min_max : (a b : ℕ) → (min a b == max a b) ≡ (a == b)
+min_max : (a b : ℕ) → (min a b == max a b) ≡ (a == b)
 min_max a b = grind (arith, nat_tests)
 
+-- within the sheet two corners are in one column where the rectangle is
+column_is : (xs : Corners) → (is_outside xs.0 || is_outside xs.1) ≡ false → is_column (area xs) ≡ (xs.0.column == xs.1.column)
+column_is xs ex =
+    let a : xs.0.column < columns = inside xs.0 (or_parts _ _ ex).0 in
+    let b : xs.1.column < columns = inside xs.1 (or_parts _ _ ex).1 in
+    let c : column_of (address xs.0) ≡ xs.0.column = column_of_place xs.0.row xs.0.column a in
+    let d : column_of (address xs.1) ≡ xs.1.column = column_of_place xs.1.row xs.1.column b in
+    let low : column_of (area xs).first ≡ min xs.0.column xs.1.column = column_of_place _ _ (rw (c, d) (omega arith)) ∙ rw (c, d) refl in
+    let high : column_of (area xs).last ≡ max xs.0.column xs.1.column = column_of_place _ _ (rw (c, d) (omega arith)) ∙ rw (c, d) refl in
+    ap (λ (n : ℕ). n == column_of (area xs).last) low ∙ ap (λ (n : ℕ). min xs.0.column xs.1.column == n) high ∙ min_max xs.0.column xs.1.column
+
+-- within the sheet two corners are in one row where the rectangle is
+row_is : (ys : Corners) → (is_outside ys.0 || is_outside ys.1) ≡ false → is_row (area ys) ≡ (ys.0.row == ys.1.row)
+row_is ys ey =
+    let a : ys.0.column < columns = inside ys.0 (or_parts _ _ ey).0 in
+    let b : ys.1.column < columns = inside ys.1 (or_parts _ _ ey).1 in
+    let c : column_of (address ys.0) ≡ ys.0.column = column_of_place ys.0.row ys.0.column a in
+    let d : column_of (address ys.1) ≡ ys.1.column = column_of_place ys.1.row ys.1.column b in
+    let e : row_of (address ys.0) ≡ ys.0.row = row_of_place ys.0.row ys.0.column a in
+    let f : row_of (address ys.1) ≡ ys.1.row = row_of_place ys.1.row ys.1.column b in
+    let low : row_of (area ys).first ≡ min ys.0.row ys.1.row = row_of_place _ _ (rw (c, d) (omega arith)) ∙ rw (e, f) refl in
+    let high : row_of (area ys).last ≡ max ys.0.row ys.1.row = row_of_place _ _ (rw (c, d) (omega arith)) ∙ rw (e, f) refl in
+    ap (λ (n : ℕ). n == row_of (area ys).last) low ∙ ap (λ (n : ℕ). min ys.0.row ys.1.row == n) high ∙ min_max ys.0.row ys.1.row
+
+straight : (o e : Bool) → (not o && not e) ≡ false → o ≡ false → e ≡ true
+straight true e h k = absurd (both_ways true k refl)
+straight false true h k = refl
+straight false false h k = absurd (both_ways true h refl)
+
+-- none of five holds
+none_of : (a b c d e : Bool) → (a || (b || (c || (d || (e || false))))) ≡ false → (a ≡ false) × (b ≡ false) × (c ≡ false) × (d ≡ false) × (e ≡ false)
+none_of true b c d e h = absurd (both_ways true h refl)
+none_of false true c d e h = absurd (both_ways true h refl)
+none_of false false true d e h = absurd (both_ways true h refl)
+none_of false false false true e h = absurd (both_ways true h refl)
+none_of false false false false e h = (refl, refl, refl, refl, (or_parts e false h).0)
+
+as_was : (s : State) (c : Command) (w : old.Call) (a : Answer) → was c ≡ w → old.IsCallStep s w a → old.IsCallStep s (was c) a
+as_was s c w a e h = subst (λ (x : old.Call). old.IsCallStep s x a) (sym e) h
+
+-- ---- the step
+
+module _ (s : State) (f r : Cell) (xs : Corners) (c : Cell) (ys : Corners) where
+  abbrev pub table : Command
+  table = Table f r xs (Some (c, ys))
+
+  abbrev done : State × Bytes
+  done = (s, table_of s.stored.sheet (current_replacements s) (address f) (address r) (area xs) (Some (address c, area ys)))
+
+  abbrev pub outside_xs : Bool
+  outside_xs = is_outside xs.0 || is_outside xs.1
+
+  abbrev pub outside_ys : Bool
+  outside_ys = is_outside ys.0 || is_outside ys.1
+
+  abbrev pub bent : Bool
+  bent = (not outside_xs && not (xs.0.column == xs.1.column)) || (not outside_ys && not (ys.0.row == ys.1.row))
+
+  abbrev pub out : Bool
+  out = is_outside f || (is_outside r || (outside_xs || (is_outside c || (outside_ys || false))))
+
+  abbrev cells : ℕ
+  cells = size_of (area xs) * (size_of (area ys) * 1)
+
+  abbrev faults : List (Option AddressFault)
+  faults = result_err (read_cell f) ∷ result_err (read_cell r) ∷ line_fault is_column (read_area xs) ∷ result_err (read_cell c) ∷ line_fault is_row (read_area ys) ∷ []
+
+  shapes : list_any is_shape faults ≡ bent
+  shapes =
+      let a = cell_shape (is_outside f) (address f) in
+      let b = cell_shape (is_outside r) (address r) in
+      let d = line_shape is_column outside_xs (xs.0.column == xs.1.column) (area xs) (column_is xs) in
+      let e = cell_shape (is_outside c) (address c) in
+      let g = line_shape is_row outside_ys (ys.0.row == ys.1.row) (area ys) (row_is ys) in
+      by _ _ _ _ _ _ _ a b d e g
+    where
+      by : (p q x y z u v : Bool) → p ≡ false → q ≡ false → x ≡ u → y ≡ false → z ≡ v → (p || (q || (x || (y || (z || false))))) ≡ (u || v)
+      by true q x y z u v a b d e g = absurd (both_ways true a refl)
+      by false true x y z u v a b d e g = absurd (both_ways true b refl)
+      by false false x true z u v a b d e g = absurd (both_ways true e refl)
+      by false false x false z u v a b d e g = ap (λ (k : Bool). x || k) (or-false z) ∙ ap (λ (k : Bool). k || z) d ∙ ap (λ (k : Bool). u || k) g
+
+  outs : list_any is_out faults ≡ out
+  outs =
+      by _ _ _ _ _ _ _ _ _ _ (cell_out (is_outside f) (address f)) (cell_out (is_outside r) (address r)) (line_out is_column outside_xs (area xs)) (cell_out (is_outside c) (address c))
+      (line_out is_row outside_ys (area ys))
+    where
+      by : (p q x y z p' q' x' y' z' : Bool) → p ≡ p' → q ≡ q' → x ≡ x' → y ≡ y' → z ≡ z' → (p || (q || (x || (y || (z || false))))) ≡ (p' || (q' || (x' || (y' || (z' || false)))))
+      by p q x y z p' q' x' y' z' a b d e g =
+          ap (λ (k : Bool). k || (q || (x || (y || (z || false))))) a ∙ ap (λ (k : Bool). p' || (k || (x || (y || (z || false))))) b
+          ∙ ap (λ (k : Bool). p' || (q' || (k || (y || (z || false))))) d ∙ ap (λ (k : Bool). p' || (q' || (x' || (k || (z || false))))) e
+          ∙ ap (λ (k : Bool). p' || (q' || (x' || (y' || (k || false))))) g
+
+  abbrev command : old.Call
+  command =
+      of_operand (read_cell f) (λ f. of_operand (read_cell r) (λ r. of_operand (read_area xs) (λ xs. of_operand (read_cell c) (λ c. of_operand (read_area ys) (λ ys. old.Table f r xs (Some (c, ys)))))))
+
+  was_is : (o : Option AddressFault) → worst faults ≡ o → was table ≡ unless_refused o command
+  was_is o e =
+      ap (λ (y : Option AddressFault). unless_refused (worse (result_err (read_cell f)) (worse (result_err (read_cell r)) (worse (line_fault is_column (read_area xs)) (worse (result_err (read_cell c)) y)))) command)
+      (last_one (line_fault is_row (read_area ys)))
+      ∙ ap (λ (w : Option AddressFault). unless_refused w command) e
+
+  abbrev table_test : Cause → Bool
+  table_test BadCommand = bent
+  table_test Outside = out
+  table_test TooLarge = nat_lt max_area cells
+  table_test x = false
+
+  table_tested : (x : Cause) → IsTested s table table_test x
+  table_tested BadCommand = (λ e. e, λ h. h)
+  table_tested Outside = (λ e. e, λ h. h)
+  table_tested TooLarge = is_large _
+  table_tested NoScenario = (λ e. e, λ h. h)
+  table_tested x = never
+
+  abbrev pub proper : old.Call
+  proper = old.Table (address f) (address r) (area xs) (Some (address c, area ys))
+
+  -- as it was, where nothing is outside
+  command_is : out ≡ false → command ≡ proper
+  command_is eo =
+      let k = none_of (is_outside f) (is_outside r) outside_xs (is_outside c) outside_ys eo in
+      by k.0 k.1 k.2 k.3 k.4
+    where
+      by : is_outside f ≡ false → is_outside r ≡ false → outside_xs ≡ false → is_outside c ≡ false → outside_ys ≡ false → command ≡ proper
+      by ef er ex ec ey = rw (ef, er, ex, ec, ey) refl
+
+  good : (large : Bool) → bent ≡ false → out ≡ false → nat_lt max_area (size_of (area xs) * size_of (area ys)) ≡ large → old.IsCallStep s proper (found done (if large then Some TooLarge else None))
+  good large eb eo el =
+      let k = none_of (is_outside f) (is_outside r) outside_xs (is_outside c) outside_ys eo in
+      let bent_xs : Bool = not outside_xs && not (xs.0.column == xs.1.column) in
+      let bent_ys : Bool = not outside_ys && not (ys.0.row == ys.1.row) in
+      by large el (column_is xs k.2 ∙ straight outside_xs (xs.0.column == xs.1.column) (or_parts bent_xs bent_ys eb).0 k.2)
+      (row_is ys k.4 ∙ straight outside_ys (ys.0.row == ys.1.row) (or_parts bent_xs bent_ys eb).1 k.4)
+    where
+      by : (large : Bool) → nat_lt max_area (size_of (area xs) * size_of (area ys)) ≡ large → is_column (area xs) ≡ true → is_row (area ys) ≡ true
+          → old.IsCallStep s proper (found done (if large then Some TooLarge else None))
+      by true el column row = rw (column, row, el) refl
+      by false el column row = rw (column, row, el) refl
+
+  twice : (b : Bool) → nat_lt max_area cells ≡ b → nat_lt max_area (size_of (area xs) * size_of (area ys)) ≡ b
+  twice b e = ap (λ (n : ℕ). nat_lt max_area (size_of (area xs) * n)) (once (size_of (area ys))) ∙ e
+
+  -- as it was, by what is bent and what is outside
+  pub was_bent : bent ≡ true → was table ≡ old.Refused refusal.BadCommand
+  was_bent eb = was_is (Some Shape) (shape_first faults (shapes ∙ eb))
+
+  pub was_outside : bent ≡ false → out ≡ true → was table ≡ old.Refused refusal.OutOfSheet
+  was_outside eb eo = was_is (Some AtOutside) (outside_next faults (shapes ∙ eb) (outs ∙ eo))
+
+  pub was_proper : bent ≡ false → out ≡ false → was table ≡ proper
+  was_proper eb eo = was_is None (none_bad faults (shapes ∙ eb) (outs ∙ eo)) ∙ command_is eo
+
+  picked : (b o large : Bool) → bent ≡ b → out ≡ o → nat_lt max_area cells ≡ large → Picked s table_test (was table) done
+  picked true o large eb eo el = (Some BadCommand, rw eb refl, as_was s table _ _ (was_bent eb) refl)
+  picked false true large eb eo el = (Some Outside, rw (eb, eo) refl, as_was s table _ _ (was_outside eb eo) refl)
+  picked false false true eb eo el = (Some TooLarge, rw (eb, eo, el) refl, as_was s table _ _ (was_proper eb eo) (good true eb eo (twice true el)))
+  picked false false false eb eo el = (None, rw (eb, eo, el) refl, as_was s table _ _ (was_proper eb eo) (good false eb eo (twice false el)))
+
+  pub same_table_of_two : SameStep s table
+  same_table_of_two =
+      by_tests s table table_test table_tested refl (λ q h. h) done (λ e. refl) (λ x y h k. h ∙ sym k) (was table) (picked bent out (nat_lt max_area cells) refl refl refl)
+
+-- ---- one input, as it was
+
 module _ (s : State) (f r : Cell) (xs : Corners) where
-  abbrev after : State × Bytes
-  after = done s (address f) (address r) (area xs)
+  abbrev one : Command
+  one = Table f r xs None
 
-  abbrev table : Command
-  table = Table f r xs None
+  abbrev pub one_bent : Bool
+  one_bent = not (is_outside xs.0 || is_outside xs.1) && not (xs.0.column == xs.1.column)
 
-  no_cause : is_outside f ≡ false → is_outside r ≡ false → (is_outside xs.0 || is_outside xs.1) ≡ false → (xs.0.column == xs.1.column) ≡ true
-      → nat_lt max_area (entries (area xs) None) ≡ false → (x : Cause) → Holds s x table → ⊥
-  no_cause ef er ex ec eb BadCommand h = both_ways _ (rw (ex, ec) refl) h
-  no_cause ef er ex ec eb Outside h = both_ways _ (rw (ef, er, ex) refl) h
-  no_cause ef er ex ec eb TooLarge h = not_large _ eb h
-  no_cause ef er ex ec eb NoScenario h = both_ways false refl h
-  no_cause ef er ex ec eb Stale h = h.1 refl
-  no_cause ef er ex ec eb Full h = h.1
-  no_cause ef er ex ec eb EditLimit h = h.1
-  no_cause ef er ex ec eb x h = h
+  abbrev pub one_out : Bool
+  one_out = is_outside f || (is_outside r || ((is_outside xs.0 || is_outside xs.1) || false))
 
-  -- a command that is refused for this cause
-  bad : (is_outside xs.0 || is_outside xs.1) ≡ false → (xs.0.column == xs.1.column) ≡ false → IsStep s table (Err refusal.BadCommand)
-  bad ex ec = (BadCommand, inr (λ h. h, inl (rw (ex, ec) refl, refl)), refl)
+  abbrev one_faults : List (Option AddressFault)
+  one_faults = result_err (read_cell f) ∷ result_err (read_cell r) ∷ line_fault is_column (read_area xs) ∷ []
 
-  outside : ((is_outside xs.0 || is_outside xs.1) ≡ false → (xs.0.column == xs.1.column) ≡ true)
-      → (is_outside f || (is_outside r || ((is_outside xs.0 || is_outside xs.1) || false))) ≡ true → IsStep s table (Err refusal.OutOfSheet)
-  outside ec e = (Outside, inr (λ h. h, inr (λ h. bent (is_outside xs.0 || is_outside xs.1) refl h, inr (λ h. h, inl (e, refl)))), refl)
+  one_shapes : list_any is_shape one_faults ≡ one_bent
+  one_shapes =
+      by _ _ _ _ (cell_shape (is_outside f) (address f)) (cell_shape (is_outside r) (address r))
+      (line_shape is_column (is_outside xs.0 || is_outside xs.1) (xs.0.column == xs.1.column) (area xs) (column_is xs))
     where
-      bent : (b : Bool) → (is_outside xs.0 || is_outside xs.1) ≡ b → (not b && not (xs.0.column == xs.1.column)) ≡ true → ⊥
-      bent true e h = both_ways false refl h
-      bent false e h = both_ways _ (rw (ec e) refl) h
+      by : (p q x u : Bool) → p ≡ false → q ≡ false → x ≡ u → (p || (q || (x || false))) ≡ u
+      by true q x u a b d = absurd (both_ways true a refl)
+      by false true x u a b d = absurd (both_ways true b refl)
+      by false false x u a b d = or-false x ∙ d
 
-  large : is_outside f ≡ false → is_outside r ≡ false → (is_outside xs.0 || is_outside xs.1) ≡ false → (xs.0.column == xs.1.column) ≡ true
-      → nat_lt max_area (entries (area xs) None) ≡ true → IsStep s table (Err refusal.TooLarge)
-  large ef er ex ec eb = (TooLarge, inr (λ h. h, inr (λ h. both_ways _ (rw (ex, ec) refl) h, inr (λ h. h, inr (λ h. both_ways _ (rw (ef, er, ex) refl) h, inl (too_large _ eb, refl))))), refl)
-
-  now : (ox column of or big : Bool) → (is_outside xs.0 || is_outside xs.1) ≡ ox → (xs.0.column == xs.1.column) ≡ column → is_outside f ≡ of → is_outside r ≡ or
-      → nat_lt max_area (entries (area xs) None) ≡ big → IsStep s table (found ox column of or big after)
-  now false false of or big ex ec ef er eb = bad ex ec
-  now true column of or big ex ec ef er eb = outside (λ e. absurd (both_ways _ e ex)) (any of or ef er)
+  one_outs : list_any is_out one_faults ≡ one_out
+  one_outs = by _ _ _ _ _ _ (cell_out (is_outside f) (address f)) (cell_out (is_outside r) (address r)) (line_out is_column (is_outside xs.0 || is_outside xs.1) (area xs))
     where
-      any : (of or : Bool) → is_outside f ≡ of → is_outside r ≡ or → (is_outside f || (is_outside r || ((is_outside xs.0 || is_outside xs.1) || false))) ≡ true
-      any true or ef er = rw ef refl
-      any false true ef er = rw (ef, er) refl
-      any false false ef er = rw (ef, er, ex) refl
-  now false true true or big ex ec ef er eb = outside (λ e. ec) (rw ef refl)
-  now false true false true big ex ec ef er eb = outside (λ e. ec) (rw (ef, er) refl)
-  now false true false false true ex ec ef er eb = large ef er ex ec eb
-  now false true false false false ex ec ef er eb = (no_cause ef er ex ec eb, refl)
+      by : (p q x p' q' x' : Bool) → p ≡ p' → q ≡ q' → x ≡ x' → (p || (q || (x || false))) ≡ (p' || (q' || (x' || false)))
+      by p q x p' q' x' a b d =
+          ap (λ (k : Bool). k || (q || (x || false))) a ∙ ap (λ (k : Bool). p' || (k || (x || false))) b ∙ ap (λ (k : Bool). p' || (q' || (k || false))) d
 
-  one_done : (x y : State × Bytes) → x ≡ after → y ≡ after → x ≡ y
-  one_done x y h k = h ∙ sym k
+  abbrev one_command : old.Call
+  one_command = of_operand (read_cell f) (λ f. of_operand (read_cell r) (λ r. of_operand (read_area xs) (λ xs. old.Table f r xs None)))
 
-  -- within the sheet two corners are in one column where the rectangle is
-  pub column_is : (is_outside xs.0 || is_outside xs.1) ≡ false → is_column (area xs) ≡ (xs.0.column == xs.1.column)
-  column_is ex =
-      let a : xs.0.column < columns = inside xs.0 (or_parts _ _ ex).0 in
-      let b : xs.1.column < columns = inside xs.1 (or_parts _ _ ex).1 in
-      let c : column_of (address xs.0) ≡ xs.0.column = column_of_place xs.0.row xs.0.column a in
-      let d : column_of (address xs.1) ≡ xs.1.column = column_of_place xs.1.row xs.1.column b in
-      let low : column_of (area xs).first ≡ min xs.0.column xs.1.column =
-      column_of_place _ _ (rw (c, d) (omega arith)) ∙ rw (c, d) refl in
-      let high : column_of (area xs).last ≡ max xs.0.column xs.1.column =
-      column_of_place _ _ (rw (c, d) (omega arith)) ∙ rw (c, d) refl in
-      ap (λ (n : ℕ). n == column_of (area xs).last) low ∙ ap (λ (n : ℕ). min xs.0.column xs.1.column == n) high ∙ min_max xs.0.column xs.1.column
+  one_was : (o : Option AddressFault) → worst one_faults ≡ o → was one ≡ unless_refused o one_command
+  one_was o e =
+      ap (λ (y : Option AddressFault). unless_refused (worse (result_err (read_cell f)) (worse (result_err (read_cell r)) y)) one_command) (last_one (line_fault is_column (read_area xs)))
+      ∙ ap (λ (w : Option AddressFault). unless_refused w one_command) e
 
-  pub same_table : SameStep s (Table f r xs None)
-  same_table a =
-      let was = before s (address f) (address r) (area xs) (is_outside xs.0 || is_outside xs.1) (xs.0.column == xs.1.column) (is_outside f) (is_outside r) (nat_lt max_area (entries (area xs) None)) column_is refl a in
-      let is = now (is_outside xs.0 || is_outside xs.1) (xs.0.column == xs.1.column) (is_outside f) (is_outside r) (nat_lt max_area (entries (area xs) None)) refl refl refl refl refl in
-      let same = answers s table one_done _ is a in
-      (λ h. same.0 (subst (λ (t : Type 0). t) was h), λ k. subst (λ (t : Type 0). t) (sym was) (same.1 k))
+  pub one_was_bent : one_bent ≡ true → was one ≡ old.Refused refusal.BadCommand
+  one_was_bent eb = one_was (Some Shape) (shape_first one_faults (one_shapes ∙ eb))
+
+  pub one_was_outside : one_bent ≡ false → one_out ≡ true → was one ≡ old.Refused refusal.OutOfSheet
+  one_was_outside eb eo = one_was (Some AtOutside) (outside_next one_faults (one_shapes ∙ eb) (one_outs ∙ eo))
+
+  pub one_was_proper : one_bent ≡ false → one_out ≡ false → was one ≡ old.Table (address f) (address r) (area xs) None
+  one_was_proper eb eo =
+      one_was None (none_bad one_faults (one_shapes ∙ eb) (one_outs ∙ eo))
+      ∙ by (or_parts _ _ eo).0 (or_parts _ _ (or_parts _ _ eo).1).0 (or_parts _ _ (or_parts _ _ (or_parts _ _ eo).1).1).0
+    where
+      by : is_outside f ≡ false → is_outside r ≡ false → (is_outside xs.0 || is_outside xs.1) ≡ false → one_command ≡ old.Table (address f) (address r) (area xs) None
+      by ef er ex = rw (ef, er, ex) refl
+
+  abbrev one_done : State × Bytes
+  one_done = (s, table_of s.stored.sheet (current_replacements s) (address f) (address r) (area xs) None)
+
+  abbrev one_test : Cause → Bool
+  one_test BadCommand = one_bent
+  one_test Outside = one_out
+  one_test TooLarge = nat_lt max_area (size_of (area xs) * 1)
+  one_test x = false
+
+  one_tested : (x : Cause) → IsTested s one one_test x
+  one_tested BadCommand = (λ e. e, λ h. h)
+  one_tested Outside = (λ e. e, λ h. h)
+  one_tested TooLarge = is_large _
+  one_tested NoScenario = (λ e. e, λ h. h)
+  one_tested x = never
+
+  one_good : (large : Bool) → one_bent ≡ false → one_out ≡ false → nat_lt max_area (size_of (area xs) * 1) ≡ large
+      → old.IsCallStep s (old.Table (address f) (address r) (area xs) None) (found one_done (if large then Some TooLarge else None))
+  one_good large eb eo el =
+      let inside : (is_outside xs.0 || is_outside xs.1) ≡ false = (or_parts _ _ (or_parts _ _ (or_parts _ _ eo).1).1).0 in
+      by large el (column_is xs inside ∙ straight (is_outside xs.0 || is_outside xs.1) (xs.0.column == xs.1.column) eb inside)
+    where
+      by : (large : Bool) → nat_lt max_area (size_of (area xs) * 1) ≡ large → is_column (area xs) ≡ true
+          → old.IsCallStep s (old.Table (address f) (address r) (area xs) None) (found one_done (if large then Some TooLarge else None))
+      by true el column = rw (column, el) refl
+      by false el column = rw (column, el) refl
+
+  one_picked : (b o large : Bool) → one_bent ≡ b → one_out ≡ o → nat_lt max_area (size_of (area xs) * 1) ≡ large → Picked s one_test (was one) one_done
+  one_picked true o large eb eo el = (Some BadCommand, rw eb refl, as_was s one _ _ (one_was_bent eb) refl)
+  one_picked false true large eb eo el = (Some Outside, rw (eb, eo) refl, as_was s one _ _ (one_was_outside eb eo) refl)
+  one_picked false false true eb eo el = (Some TooLarge, rw (eb, eo, el) refl, as_was s one _ _ (one_was_proper eb eo) (one_good true eb eo el))
+  one_picked false false false eb eo el = (None, rw (eb, eo, el) refl, as_was s one _ _ (one_was_proper eb eo) (one_good false eb eo el))
+
+  pub same_table : SameStep s one
+  same_table =
+      by_tests s one one_test one_tested refl (λ q h. h) one_done (λ e. refl) (λ x y h k. h ∙ sym k) (was one) (one_picked one_bent one_out (nat_lt max_area (size_of (area xs) * 1)) refl refl refl)
+
+-- ---- operands of the wrong shape
+
+pub one_is_bad : (f r : Result ℕ AddressFault) (xs : Result Area AddressFault) → list_any is_shape (result_err f ∷ result_err r ∷ line_fault is_column xs ∷ []) ≡ true
+    → table_of_one f r xs ≡ old.Refused refusal.BadCommand
+one_is_bad f r xs h =
+    let command : old.Call = of_operand f (λ f. of_operand r (λ r. of_operand xs (λ xs. old.Table f r xs None))) in
+    ap (λ (y : Option AddressFault). unless_refused (worse (result_err f) (worse (result_err r) y)) command) (last_one (line_fault is_column xs))
+    ∙ ap (λ (w : Option AddressFault). unless_refused w command) (shape_first (result_err f ∷ result_err r ∷ line_fault is_column xs ∷ []) h)
+
+pub two_is_bad : (f r : Result ℕ AddressFault) (xs : Result Area AddressFault) (c : Result ℕ AddressFault) (ys : Result Area AddressFault)
+    → list_any is_shape (result_err f ∷ result_err r ∷ line_fault is_column xs ∷ result_err c ∷ line_fault is_row ys ∷ []) ≡ true → table_of_two f r xs c ys ≡ old.Refused refusal.BadCommand
+two_is_bad f r xs c ys h =
+    let command : old.Call = of_operand f (λ f. of_operand r (λ r. of_operand xs (λ xs. of_operand c (λ c. of_operand ys (λ ys. old.Table f r xs (Some (c, ys))))))) in
+    ap (λ (y : Option AddressFault). unless_refused (worse (result_err f) (worse (result_err r) (worse (line_fault is_column xs) (worse (result_err c) y)))) command) (last_one (line_fault is_row ys))
+    ∙ ap (λ (w : Option AddressFault). unless_refused w command) (shape_first (result_err f ∷ result_err r ∷ line_fault is_column xs ∷ result_err c ∷ line_fault is_row ys ∷ []) h)

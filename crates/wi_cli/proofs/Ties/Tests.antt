@@ -1,5 +1,5 @@
 -- The answer of a command that is refused for causes which tests decide.
-use Rattle.wi_cli.proofs.Vocabulary.{◌≡◌, ◌↔◌, Bool, true, false, List, [], ◌∷◌, ◌⊎◌, inl, inr, Option, Some, None, Ok, Err, if◌then◌else◌, refl, sym, subst, both_ways, Refusal, State, Bytes, Command, Cause, BadLine, BadCommand, CutShort, Outside, TooLarge, NoScenario, InUse, TooMany, BadField, TooLong, OutOfSheet, NumberRange, TooDeep, Syntax, LeavesSheet, Stale, Loop, Full, EditLimit, Holds, Does, Answer, Tells, IsStep, causes, IsFirstOf}
+use Rattle.wi_cli.proofs.Vocabulary.{◌≡◌, ◌↔◌, ◌<◌, ℕ, nat_lt, Bool, true, false, List, [], ◌∷◌, ◌⊎◌, inl, inr, Option, Some, None, Ok, Err, if◌then◌else◌, refl, sym, subst, arith, both_ways, ltb-true, lt-ltb, Refusal, State, max_area, Bytes, Command, Put, Puts, Cause, BadLine, BadCommand, CutShort, Outside, TooLarge, NoScenario, InUse, TooMany, BadField, TooLong, OutOfSheet, NumberRange, TooDeep, Syntax, LeavesSheet, Stale, Loop, Full, EditLimit, Holds, stale_cell, Does, Answer, Tells, IsStep, causes, IsFirstOf}
 use Rattle.wi_scenarios.specs.declared.refusal.Refusal.TheVariants as refusal
 use Rattle.wi_scenarios.specs.Step as old
 use Rattle.wi_cli.proofs.Ties.Uniqueness.{DoesOne, same_answers}
@@ -69,12 +69,56 @@ some_none x e = cc
 same_some : (x y : Cause) → ◌≡◌ {A = Option Cause} (Some x) (Some y) → x ≡ y
 same_some x y e = cc
 
+-- ---- tests of a command that edits nothing
+
+-- a cause that holds for it, which is none of an edit's
+abbrev pub HoldsUnedited : State → Cause → Command → Type 0
+HoldsUnedited s Stale c = ⊥
+HoldsUnedited s Full c = ⊥
+HoldsUnedited s EditLimit c = ⊥
+HoldsUnedited s x c = Holds s x c
+
+-- the cause is found by its test
+abbrev pub IsTested : State → Command → (Cause → Bool) → Cause → Type 0
+IsTested s c test x = (test x ≡ true) ↔ HoldsUnedited s x c
+
+pub never : (false ≡ true) ↔ ⊥
+never = (λ e. both_ways false refl e, λ h. absurd h)
+
+pub is_large : (n : ℕ) → (nat_lt max_area n ≡ true) ↔ (max_area < n)
+is_large n = (λ e. ltb-true _ _ e, λ h. lt-ltb _ _ h)
+
+pub is_small : (false ≡ true) ↔ (max_area < 1)
+is_small = (λ e. absurd (both_ways false refl e), λ h. absurd (not_above h))
+  where
+    not_above : max_area < 1 → ⊥
+    not_above h = omega (arith, h)
+
+-- what it is answered by its tests, and what it was
+abbrev pub Picked : State → (Cause → Bool) → old.Call → State × Bytes → Type 0
+Picked s test before done = (o : Option Cause) × (first_test test causes ≡ o) × old.IsCallStep s before (found done o)
+
 -- ---- the step
 
-module _ (s : State) (c : Command) (test : Cause → Bool) (yes : (x : Cause) → test x ≡ true → Holds s x c) (no : (x : Cause) → test x ≡ false → Holds s x c → ⊥)
-    (fresh : test Stale ≡ false) (done : State × Bytes) (does : first_test test causes ≡ None → Does s c done) (one : DoesOne s c) where
+module _ (s : State) (c : Command) (test : Cause → Bool) (tested : (x : Cause) → IsTested s c test x) (unnamed : stale_cell s c ≡ None) (unput : (puts : List Put) → Puts s c puts → ⊥)
+    (done : State × Bytes) (does : first_test test causes ≡ None → Does s c done) (one : DoesOne s c) where
+  yes : (x : Cause) → test x ≡ true → Holds s x c
+  yes Stale t = absurd ((tested Stale).0 t)
+  yes Full t = absurd ((tested Full).0 t)
+  yes EditLimit t = absurd ((tested EditLimit).0 t)
+  yes x t = (tested x).0 t
+
+  unedited : (x : Cause) → Holds s x c → HoldsUnedited s x c
+  unedited Stale h = h.1 unnamed
+  unedited Full h = unput h.0 h.1
+  unedited EditLimit h = unput h.0 h.1
+  unedited x h = h
+
+  no : (x : Cause) → test x ≡ false → Holds s x c → ⊥
+  no x e h = both_ways _ e ((tested x).1 (unedited x h))
+
   tells : (x : Cause) → test x ≡ true → Tells s c x (refusal_for x)
-  tells Stale t = absurd (both_ways _ fresh t)
+  tells Stale t = absurd ((tested Stale).0 t)
   tells x t = refl
 
   first_is : (xs : List Cause) (x : Cause) → first_test test xs ≡ Some x → IsFirstOf s c xs x × (test x ≡ true)
@@ -106,5 +150,5 @@ module _ (s : State) (c : Command) (test : Cause → Bool) (yes : (x : Cause) �
       let p = first_is causes x e in
       (x, p.0, tells x p.1)
 
-  pub by_tests : (before : old.Call) (o : Option Cause) → first_test test causes ≡ o → old.IsCallStep s before (found done o) → (a : Answer) → old.IsCallStep s before a ↔ IsStep s c a
-  by_tests before o e h a = same_answers s c one before (found done o) h (step o e) a
+  pub by_tests : (before : old.Call) → Picked s test before done → (a : Answer) → old.IsCallStep s before a ↔ IsStep s c a
+  by_tests before p a = same_answers s c one before (found done p.0) p.2 (step p.0 p.1) a

@@ -6,7 +6,7 @@ use Rattle.wi_cli.proofs.Ties.Codes.{LateCoded, same_late}
 use Rattle.wi_cli.proofs.Ties.Lacks.{not_late, same_lack}
 use Rattle.wi_cli.proofs.Ties.Steps.{same_step}
 use Rattle.wi_cli.proofs.Ties.CsvSteps.{long_lines}
-use Rattle.wi_cli.proofs.Ties.TablesOfTwo.{bent, out, proper, was_bent, was_outside, was_proper, one_bent, one_out, one_was_bent, one_was_outside, one_was_proper}
+use Rattle.wi_cli.proofs.Ties.Tables.{bent, out, proper, was_bent, was_outside, was_proper, one_bent, one_out, one_was_bent, one_was_outside, one_was_proper}
 use Rattle.wi_cli.proofs.Ties.Clears.{clear_outside}
 use Rattle.wi_cli.proofs.Ties.Fills.{fill_outside}
 

@@ -1,6 +1,7 @@
 -- A run of frames while there is room for all that it finds.
-use Rattle.wi_engine.proofs.Words.{◌≡◌, ◌≤◌, ◌+◌, ◌⊎◌, inl, inr, ◌||◌, ℕ, Bool, true, false, List, [], ◌∷◌, ◌++◌, Contains, Option, Some, is_some, refl, ap, sym, ◌∙◌, subst, arith, or_cases, or_from, or_left, or_right, true≢false, Value, Replacement, Sheet, put_all, Counts, Key, cell_value, Case, case_of, reaching, same_case, Table, IsClosed, HasCase, SpentOn, IsSettled, RestsOnKept, same_case-refl, reaching_suffices, one_less_left, MemoState, IsTold, IsMemoOf, case_at, IsFormulaKey, IsUnvaluedKey, IsUnvalued, IsNext, not_kept, KeepsFound, WhereRoom, NeedsNoEvaluation, IsValuedAnew, Saved, FrameTakes, Keeps, Frame}
+use Rattle.wi_engine.proofs.Words.{◌≡◌, ◌≤◌, ◌+◌, ◌⊎◌, inl, inr, ◌||◌, ℕ, Bool, true, false, List, [], ◌∷◌, ◌++◌, Contains, Option, Some, is_some, Result, Ok, Err, IfOk, IsErr, OnOk, is_ok, IfOk-weaker, on_ok_weaker, refl, ap, sym, ◌∙◌, subst, arith, or_cases, or_from, or_left, or_right, true≢false, AllocError, Value, Replacement, Sheet, put_all, Counts, Key, cell_value, Case, case_of, reaching, same_case, Table, IsClosed, HasCase, SpentOn, IsSettled, RestsOnKept, same_case-refl, reaching_suffices, one_less_left, MemoState, IsTold, IsMemoOf, case_at, IsFormulaKey, IsUnvaluedKey, IsUnvalued, IsNext, not_kept, KeepsFound, WhereRoom, NeedsNoEvaluation, IsValuedAnew, Saved, Spends, ValuesCell, IsShownNow, FrameTakes, Keeps, Frame}
 use Rattle.wi_engine.proofs.Places.{none_went}
+use Rattle.wi_engine.proofs.Ledger.{spends_none, spends_weaken}
 use Rattle.wi_engine.proofs.engine.NextCases.{unvalued_case}
 use Rattle.wi_engine.proofs.engine.NextValues.{one_more_at_most}
 use Rattle.wi_engine.proofs.engine.SettledFindings.{settled_now}
@@ -190,7 +191,7 @@ saving_ends {s} {old} {m} {n} t closed top i = run_ends (by_kept n) (kept t clos
 -- ---- a cell under any replacements, where no formula has to be evaluated for it
 
 -- what needs no evaluation, and was not found, is kept
-pub kept_before : {s : Sheet} {m : MemoState} {w : List Replacement} {a : ℕ} (n : MemoState) → IsMemoOf s m → n ≡ m → NeedsNoEvaluation s m w a → IsValuedAnew s m w a → n.kept a (reaching s a w) ≡ true
+kept_before : {s : Sheet} {m : MemoState} {w : List Replacement} {a : ℕ} (n : MemoState) → IsMemoOf s m → n ≡ m → NeedsNoEvaluation s m w a → IsValuedAnew s m w a → n.kept a (reaching s a w) ≡ true
 kept_before n h e (inl k) v = let z = v.formula in cc
 kept_before {s} {m} {w} {a} n h e (inr k) v = rw e (sym (h.told a (reaching s a w) ∙ ap (λ (b : Bool). b || m.kept a (reaching s a w)) v.unfound) ∙ k)
 
@@ -202,8 +203,23 @@ found_easy s m n w a k v h en ec ew e =
     inr (ap (λ (u : List Replacement). is_some (m.known a u)) (sym world) ∙ ap (λ (c : ℕ). is_some (m.known c k.world)) (sym ec) ∙ ap (λ (o : Option Value). is_some o) (sym there))
 
 -- what needs no evaluation is settled where all that was found is kept
-pub settled_before : {s : Sheet} {m : MemoState} (n : MemoState) (w : List Replacement) (a : ℕ) (Has : List Case → Type 0) → IsMemoOf s m → n ≡ m → NeedsNoEvaluation s m w a → WhereRoom s Has m (λ ks. IsSettled s n.kept w a)
+settled_before : {s : Sheet} {m : MemoState} (n : MemoState) (w : List Replacement) (a : ℕ) (Has : List Case → Type 0) → IsMemoOf s m → n ≡ m → NeedsNoEvaluation s m w a → WhereRoom s Has m (λ ks. IsSettled s n.kept w a)
 settled_before {s} {m} n w a Has h e easy = λ ks closed top whole room. subst (λ (x : MemoState). IsSettled s x.kept w a) (sym e) (settled_now s m m w a h refl whole easy)
+
+-- so a question finds it there, and spends nothing
+pub values_known : {s : Sheet} {m n : MemoState} {w : List Replacement} {a : ℕ} {c : Counts} {v : Value} → IsMemoOf s m → n ≡ m → IsShownNow s m w a v → ValuesCell s m n w a c c (Ok v)
+values_known {s} {m} {n} {w} {a} h e shown = record {
+  value = shown.value;
+  spends = spends_none h e;
+  uncounted = λ easy. refl;
+  kept = λ anew room. kept_before n h e shown.easy anew;
+  settled = settled_before n w a (HasCase s w a) h e shown.easy;
+}
+
+-- and nothing was spent either where memory runs out before
+pub values_none : {s : Sheet} {m n : MemoState} {w : List Replacement} {a : ℕ} {c : Counts} (r : Result Value AllocError) → IsErr r → IsMemoOf s m → n ≡ m → ValuesCell s m n w a c c r
+values_none (Ok v) i h e = cc
+values_none (Err x) i h e = record { value = tt; spends = spends_none h e; uncounted = λ easy. refl; kept = tt; settled = tt }
 
 -- ---- and where its formula has to be valued
 
@@ -212,22 +228,33 @@ module _ {s : Sheet} {m : MemoState} {w : List Replacement} {a : ℕ} {k : Key} 
   here = unvalued_case s m w a k u
 
   -- a value under the key of a cell is the cell's
-  pub unvalued_value : (v : Value) → v ≡ cell_value (put_all s k.world) k.cell → v ≡ cell_value (put_all s w) a
+  unvalued_value : (v : Value) → v ≡ cell_value (put_all s k.world) k.cell → v ≡ cell_value (put_all s w) a
   unvalued_value v is = is ∙ ap (λ (j : Case). cell_value (put_all s j.1) j.0) (sym here) ∙ reaching_suffices s w a
 
-  pub unvalued_in : (ks : List Case) → HasCase s w a ks → Contains ks (case_at k)
+  unvalued_in : (ks : List Case) → HasCase s w a ks → Contains ks (case_at k)
   unvalued_in ks h = subst (λ (j : Case). Contains ks j) here (h u.formula)
 
-  pub not_easy : IsMemoOf s m → NeedsNoEvaluation s m w a → ⊥
+  not_easy : IsMemoOf s m → NeedsNoEvaluation s m w a → ⊥
   not_easy h (inl j) = let z = u.formula in cc
   not_easy h (inr j) =
       let at : (f : Table) → f k.cell k.world ≡ false → f a (reaching s a w) ≡ false = λ f e. ap (λ (i : Case). f i.0 i.1) here ∙ e in
       true≢false (sym j ∙ h.told a (reaching s a w) ∙ or_from (m.found a (reaching s a w)) (m.kept a (reaching s a w)) (at m.found u.to_find.unfound) (at m.kept u.to_find.unkept))
 
-  pub unvalued_settled : (n l : MemoState) → n ≡ m → WhereRoom s (λ ks. Contains ks (case_at k)) n (λ ks. l.kept k.cell k.world ≡ true) → WhereRoom s (HasCase s w a) m (λ ks. IsSettled s l.kept w a)
+  unvalued_settled : (n l : MemoState) → n ≡ m → WhereRoom s (λ ks. Contains ks (case_at k)) n (λ ks. l.kept k.cell k.world ≡ true) → WhereRoom s (HasCase s w a) m (λ ks. IsSettled s l.kept w a)
   unvalued_settled n l e h = λ ks closed top whole room.
       let before : WhereRoom s (λ ks. Contains ks (case_at k)) m (λ ks. l.kept k.cell k.world ≡ true) = rw e at h in
       inr (ap (λ (j : Case). l.kept j.0 j.1) here ∙ before ks closed (unvalued_in ks top) whole room)
 
-  pub unvalued_kept : (n l : MemoState) → n ≡ m → (1 ≤ n.capacity → l.kept k.cell k.world ≡ true) → 1 ≤ m.capacity → l.kept a (reaching s a w) ≡ true
+  unvalued_kept : (n l : MemoState) → n ≡ m → (1 ≤ n.capacity → l.kept k.cell k.world ≡ true) → 1 ≤ m.capacity → l.kept a (reaching s a w) ≡ true
   unvalued_kept n l e h r = ap (λ (j : Case). l.kept j.0 j.1) here ∙ h (let z = ap (λ (x : MemoState). x.capacity) e in omega (arith, r, z))
+
+  -- so a run for the key is a question for the cell
+  pub values_then : {n l : MemoState} {b c : Counts} (r : Result Value AllocError) → IsMemoOf s m → n ≡ m → IfOk r (λ v. v ≡ cell_value (put_all s k.world) k.cell) → Spends s (λ ks. Contains ks (case_at k)) n l b c (is_ok r) →
+      OnOk r (1 ≤ n.capacity → l.kept k.cell k.world ≡ true) → OnOk r (WhereRoom s (λ ks. Contains ks (case_at k)) n (λ ks. l.kept k.cell k.world ≡ true)) → ValuesCell s m l w a b c r
+  values_then {n} {l} r h e is spent there whole = record {
+    value = IfOk-weaker r _ _ unvalued_value is;
+    spends = spends_weaken e unvalued_in (λ d. d) spent;
+    uncounted = λ easy. absurd (not_easy h easy);
+    kept = on_ok_weaker r (λ j anew room. unvalued_kept n l e j room) there;
+    settled = on_ok_weaker r (unvalued_settled n l e) whole;
+  }

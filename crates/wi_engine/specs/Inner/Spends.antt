@@ -1,15 +1,18 @@
 -- What a question spends, and what it leaves. The counts are held against two tables: the values that were found, always, and
 -- those that are kept, where there is room.
-use Rattle.std.specs.Prelude.{◌≡◌, ◌+◌, ◌≤◌, ℕ, Bool, true, false, List}
+use Rattle.std.specs.Prelude.{◌≡◌, ◌+◌, ◌≤◌, ℕ, Bool, true, false, List, Result, IfOk, OnOk, is_ok}
+use Rattle.std.specs.declared.alloc.AllocError.{AllocError}
+use Rattle.wi_values.specs.declared.value.Value.{Value}
 use Rattle.wi_values.specs.declared.replacement.Replacement.{Replacement}
-use Rattle.wi_parser.specs.Sheet.{Sheet}
+use Rattle.wi_parser.specs.Sheet.{Sheet, put_all}
 use Rattle.wi_functions.specs.Counts.{Counts}
 use Rattle.wi_cache.specs.declared.key.Key.{Key}
-use Rattle.wi_sheet.specs.Demand.{Case}
-use Rattle.wi_sheet.specs.Settled.{RestsOnKept}
-use Rattle.wi_sheet.specs.Inner.Spending.{IsClosed, NeverFall, SpentOn}
+use Rattle.wi_sheet.specs.CellValue.{cell_value}
+use Rattle.wi_sheet.specs.Demand.{Case, reaching}
+use Rattle.wi_sheet.specs.Settled.{IsSettled, RestsOnKept}
+use Rattle.wi_sheet.specs.Inner.Spending.{HasCase, IsClosed, NeverFall, SpentOn}
 use Rattle.wi_engine.specs.Inner.MemoState.{MemoState, IsMemoOf}
-use Rattle.wi_engine.specs.Inner.Saving.{not_kept, KeepsFound, WhereRoom, TakesNoMore, GivesUpWhenFull}
+use Rattle.wi_engine.specs.Inner.Saving.{not_kept, IsValuedAnew, KeepsFound, NeedsNoEvaluation, WhereRoom, TakesNoMore, GivesUpWhenFull}
 
 -- At least as many free places were filled as values were evaluated. There is still room for the cases that are not kept, and no
 -- entry was evicted, stale ones included. The formula of each case that came to be kept means the same, whatever values stand for
@@ -42,3 +45,15 @@ pub record Spends (s : Sheet) (Has : List Case → Type 0) (old new : MemoState)
   pub on_found : (ks : List Case) → IsClosed s ks → Has ks → SpentOn s old.found new.found before after done ks
   pub on_kept : WhereRoom s Has old (λ ks. SpentOn s old.kept new.kept before after done ks)
   pub saved : done ≡ true → WhereRoom s Has old (λ ks. Saved s old new before after ks)
+
+-- What is so where a question has asked for the value of a cell under replacements: where it was found, and also where memory ran out.
+pub record ValuesCell (s : Sheet) (old new : MemoState) (w : List Replacement) (a : ℕ) (before after : Counts) (r : Result Value AllocError) : Type 0 where
+  pub value : IfOk r (λ v. v ≡ cell_value (put_all s w) a)
+  -- what is remembered then is right, and no more is counted than the cases cost whose values were not
+  pub spends : Spends s (HasCase s w a) old new before after (is_ok r)
+  -- a value that is remembered, and one that no formula gives, is counted for nothing
+  pub uncounted : NeedsNoEvaluation s old w a → after ≡ before
+  -- The value is kept where anything is. Where there is room for some closed list of cases that has this one, the cell is settled:
+  -- which list that is makes no difference, so it is left out.
+  pub kept : OnOk r (IsValuedAnew s old w a → 1 ≤ old.capacity → new.kept a (reaching s a w) ≡ true)
+  pub settled : OnOk r (WhereRoom s (HasCase s w a) old (λ ks. IsSettled s new.kept w a))

@@ -1,13 +1,14 @@
 -- The index by blocks: each pair stands at each of its blocks, and equal ones by their numbers.
-use Rattle.std.specs.Prelude.{◌≡◌, ℕ, ◌+◌, ◌^◌, ◌≤◌, All, ◌==◌, List, [], ◌∷◌, Bool, true, false, ◌&&◌, nat_lt, nat_le, length, if◌then◌else◌}
+use Rattle.std.specs.Prelude.{◌≡◌, ℕ, ◌+◌, ◌^◌, ◌<◌, ◌≤◌, All, ◌==◌, List, [], ◌∷◌, Bool, true, false, not, ◌&&◌, nat_lt, nat_le, length, if◌then◌else◌, IsTrue, Result, IfOk, OnOk, OnErr}
+use Rattle.std.specs.declared.alloc.AllocError.{AllocError}
 use Rattle.std.specs.Ordering.{nat_cmp, ordering_then}
 use Rattle.std.specs.declared.cmp.Ordering.{Ordering}
 use Rattle.std.specs.List.{list_any, sum_by}
 use Rattle.std.specs.List.Sorted.{IsStrictlySortedBy}
 use Rattle.std.specs.BTreeMap.{is_at}
-use Rattle.wi_values.specs.Address.{is_within}
-use Rattle.wi_ranges.specs.Blocks.{blocks_of, first_row}
-use Rattle.wi_ranges.specs.Bag.{Bag, lowest_pair, pair_cmp, is_same, pair_area, count_of, pieces_of, raise}
+use Rattle.wi_values.specs.Address.{is_within, rows}
+use Rattle.wi_ranges.specs.Blocks.{blocks_in, blocks_of, first_row}
+use Rattle.wi_ranges.specs.Bag.{Bag, HasOneMore, lowest_pair, pair_cmp, is_same, pair_area, count_of, pieces_of, raise}
 use Rattle.wi_ranges.specs.declared.block.Block.{Block}
 use Rattle.wi_ranges.specs.declared.pair.RangePair.{RangePair}
 use Rattle.wi_ranges.specs.declared.pair.Numbered.{Numbered}
@@ -105,3 +106,42 @@ KeepsOtherPieces m old new = (q : Piece) → is_piece (blocks_of m.pair) m q ≡
 -- the same pieces, and those of the pair m at some blocks: whatever is added up over them
 abbrev pub Gains : List Block → Numbered → List Piece → List Piece → Type 0
 Gains xs m old new = (f : Piece → ℕ) → sum_by f new ≡ sum_by f old + sum_by (λ x. f (x, m)) xs
+
+-- The pair m was put in at some blocks, or at a part of them where memory ran out, and not all of it was there then. No other piece came or went.
+pub record PutsPieces (xs : List Block) (m : Numbered) (result : Result (Unit {0}) AllocError) (old new : List Piece) : Type 0 where
+  pub put : OnOk result (HasPieces xs m new)
+  pub kept : (q : Piece) → is_piece xs m q ≡ false → has_piece new q ≡ has_piece old q
+  pub stays : (q : Piece) → has_piece old q ≡ true → has_piece new q ≡ true
+  pub order : IsStrictlySortedBy piece_cmp old → IsStrictlySortedBy piece_cmp new
+  pub absent : OnErr result (HasPieces xs m old → ⊥)
+  pub gains : OnOk result (LacksPieces xs m old → Gains xs m old new)
+
+-- the pair m was taken out at some blocks, and no other piece
+pub record TakesPieces (xs : List Block) (m : Numbered) (old new : List Piece) : Type 0 where
+  pub taken : LacksPieces xs m new
+  pub kept : (q : Piece) → is_piece xs m q ≡ false → has_piece new q ≡ has_piece old q
+  pub gone : (q : Piece) → has_piece old q ≡ false → has_piece new q ≡ false
+  pub order : IsStrictlySortedBy piece_cmp old → IsStrictlySortedBy piece_cmp new
+  pub loses : HasPieces xs m old → Gains xs m new old
+
+-- a pair may be added by its number, within a block that has all its blocks
+pub record MayAdd (m : Numbered) (around : Block) (pieces : List Piece) : Type 0 where
+  pub whole : AreWhole pieces
+  pub number : m.number ≤ count_of (bag_of pieces) m.pair
+  pub blocks : blocks_in m.pair around ≡ blocks_of m.pair
+  pub on_sheet : around.first + 2 ^ around.level ≤ rows
+  pub row : first_row m.pair < rows
+
+-- the pair was added if there was none of its number
+pub record AddsNumbered (m : Numbered) (result : Result Bool AllocError) (old new : List Piece) : Type 0 where
+  pub added : IfOk result (λ added. added ≡ not (nat_lt m.number (count_of (bag_of old) m.pair)))
+  pub more : IfOk result (λ added. IsTrue added → HasOneMore m.pair (bag_of old) (bag_of new))
+  pub same : IfOk result (λ added. added ≡ false → bag_of new ≡ bag_of old)
+  pub whole : AreWhole new
+  pub err : OnErr result (bag_of new ≡ bag_of old)
+
+-- one pair more was added, or all is as before
+pub record AddsPair (p : RangePair) (result : Result (Unit {0}) AllocError) (old new : List Piece) : Type 0 where
+  pub more : OnOk result (HasOneMore p (bag_of old) (bag_of new))
+  pub whole : AreWhole new
+  pub err : OnErr result (bag_of new ≡ bag_of old)

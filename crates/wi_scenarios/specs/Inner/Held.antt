@@ -1,14 +1,17 @@
 -- What the fields of a workbook stand for, and what holds of them between commands.
-use Rattle.std.specs.Prelude.{◌≡◌, ℕ, ◌<◌, ◌≤◌, Bool, true, false, List, [], ◌∷◌, length}
+use Rattle.std.specs.Prelude.{◌≡◌, ℕ, ◌<◌, ◌≤◌, Bool, true, false, List, [], ◌∷◌, length, Result, OnOk, OnErr}
+use Rattle.std.specs.declared.alloc.AllocError.{AllocError}
 use Rattle.wi_parser.specs.Sheet.{Sheet}
 use Rattle.wi_store.specs.Store.{Stored}
 use Rattle.wi_sessions.specs.Pictures.{value_in, sheet_size}
 use Rattle.wi_sessions.specs.Roster.{vacant_of}
 use Rattle.wi_sessions.specs.Sessions.{max_sessions}
 use Rattle.wi_scenarios.specs.State.{State}
+use Rattle.wi_scenarios.specs.Answer.{Answer, Serves}
 use Rattle.wi_scenarios.specs.Views.{session_at, shown_to}
-use Rattle.wi_scenarios.specs.Pending.{Book, is_pending}
+use Rattle.wi_scenarios.specs.Pending.{Book, AddsOnly, is_pending}
 use Rattle.wi_scenarios.specs.declared.desk.Desk.{Desk}
+use Rattle.wi_scenarios.specs.declared.refusal.Refusal.{Refusal}
 
 -- the state of a sheet and of what is kept beside it
 abbrev pub state_of : Stored → Desk → State
@@ -46,3 +49,19 @@ pub record IsSound (marked : Sheet → List ℕ → ℕ → Bool) (stored : Stor
   pub full : (i : ℕ) → vacant_of d.sessions i ≡ []
   pub closed : AreClosed marked (state_of stored d) (pending_in d)
   pub covered : AreCovered (state_of stored d) (pending_in d)
+
+-- What a command about scenarios leaves, by its answers: it edits no cell, so that what became pending is marked for replacements alone; where it refused, what is
+-- pending is as it was.
+pub record ServesSound (marked : Sheet → List ℕ → ℕ → Bool) (IsAnswer : Answer → Type 0) (result : Result (Unit {0}) Refusal) (stored : Stored) (old new : Desk) : Type 0 where
+  pub step : Serves IsAnswer result (state_of stored old) (state_of stored new) []
+  pub adds : AddsOnly marked [] (state_of stored old) (state_of stored new) (pending_in old) (pending_in new)
+  pub refused : OnErr result (pending_in new ≡ pending_in old)
+  pub sound : IsSound marked stored new
+
+-- what a call leaves that makes another state of a desk, or runs out of memory
+pub record MakesSound (marked : Sheet → List ℕ → ℕ → Bool) (result : Result (Unit {0}) AllocError) (stored : Stored) (made : State) (old new : Desk) : Type 0 where
+  pub state : OnOk result (state_of stored new ≡ made)
+  pub kept : OnErr result (state_of stored new ≡ state_of stored old)
+  pub adds : AddsOnly marked [] (state_of stored old) (state_of stored new) (pending_in old) (pending_in new)
+  pub refused : OnErr result (pending_in new ≡ pending_in old)
+  pub sound : IsSound marked stored new

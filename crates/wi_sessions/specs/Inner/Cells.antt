@@ -1,11 +1,12 @@
 -- Cells with a bit for each session for which they are pending or have room only. Bits of rooms are listed once more.
-use Rattle.std.specs.Prelude.{◌≡◌, ℕ, ◌==◌, ◌&&◌, ◌||◌, Bool, not, List, map, filter, unwrap_or}
+use Rattle.std.specs.Prelude.{◌≡◌, ◌≢◌, ◌<◌, ℕ, ◌==◌, ◌&&◌, ◌||◌, Bool, false, not, List, [], length, map, filter, unwrap_or, Result, OnOk, OnErr}
+use Rattle.std.specs.declared.alloc.AllocError.{AllocError}
 use Rattle.std.specs.Int.{bit_at}
 use Rattle.std.specs.List.{list_any, range_with_len}
 use Rattle.std.specs.Ordering.{nat_cmp}
 use Rattle.std.specs.Map.{keys_of, lookup}
 use Rattle.std.specs.BTreeMap.{is_at}
-use Rattle.wi_sessions.specs.Pending.{AllPending}
+use Rattle.wi_sessions.specs.Pending.{AllPending, list_at}
 use Rattle.wi_values.specs.Address.{is_one_of}
 
 -- the i-th session's bit stands in a word
@@ -60,3 +61,23 @@ HasCleared test words less = (i c : ℕ) → is_in less i c ≡ (is_in words i c
 -- the i-th session's bit for one of the cells
 abbrev pub at_cells : List ℕ → ℕ → ℕ → ℕ → Bool
 at_cells cells bits i c = is_one_of cells c && has_bit i bits
+
+-- Room was made for the cells that pass the test, for the sessions with a bit, or for a part of them where memory ran out. What is pending is the same, and so is all for
+-- sessions without a bit.
+pub record MakesRooms (test : ℕ → Bool) (bits : ℕ) (result : Result (Unit {0}) AllocError) (words staged more rooms : List (ℕ × ℕ)) : Type 0 where
+  pub pending : SamePending words staged more rooms
+  pub room : OnOk result (HasMade (λ i c. test c && has_bit i bits) words staged more rooms)
+  pub others : (i c : ℕ) → has_bit i bits ≡ false → (is_in more i c ≡ is_in words i c) × (is_staged rooms i c ≡ is_staged staged i c)
+
+-- the same of what is pending and of the rooms, for the i-th session alone, where no room of it is left if memory runs out
+pub record GetsRoom (cells : List ℕ) (i : ℕ) (result : Result (Unit {0}) AllocError) (old new : AllPending) : Type 0 where
+  pub lists : new.pending ≡ old.pending
+  pub room : OnOk result ((a : ℕ) → is_one_of (list_at new.vacant i) a ≡ (is_one_of (list_at old.vacant i) a || (is_one_of cells a && not (is_one_of (list_at old.pending i) a))))
+  pub refused : OnErr result (list_at new.vacant i ≡ [])
+  pub others : (j : ℕ) → j ≢ i → list_at new.vacant j ≡ list_at old.vacant j
+
+-- for each session, where none is left at all if memory runs out
+pub record GetRooms (cells : List ℕ) (result : Result (Unit {0}) AllocError) (old new : AllPending) : Type 0 where
+  pub pending : new.pending ≡ old.pending
+  pub room : OnOk result ((i a : ℕ) → i < length old.pending → is_one_of (list_at new.vacant i) a ≡ (is_one_of (list_at old.vacant i) a || (is_one_of cells a && not (is_one_of (list_at old.pending i) a))))
+  pub refused : OnErr result ((j : ℕ) → list_at new.vacant j ≡ [])

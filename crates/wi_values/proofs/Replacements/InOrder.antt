@@ -1,6 +1,6 @@
 -- Replacements in order, their entries, and what their entries tell.
-use Rattle.wi_values.proofs.Words.{◌≡◌, ℕ, Bool, true, false, cond, List, [], ◌∷◌, ◌++◌, map, Some, None, refl, sym, ap, ◌∙◌, subst, append-nil, append_assoc, ⊎_elim, nat_cmp, Less, AllByRecursion, IsStrictlySortedBy, IsStrictlyIncreasing, keys_of, is_at, cases_order, map-append, sorted_head, sorted_tail, sorted_from_strictly_increasing, IsStrictlyIncreasing-from_sorted, Value, Replacement, IsInOrder, as_map, replaced}
-use Rattle.wi_values.proofs.Order.{cmp_before, less_from_both, at_itself, at_same}
+use Rattle.wi_values.proofs.Words.{◌≡◌, ℕ, List, [], ◌∷◌, ◌++◌, map, refl, sym, ap, ◌∙◌, subst, append-nil, append_assoc, nat_cmp, IsStrictlySortedBy, IsStrictlyIncreasing, keys_of, map-append, sorted_from_strictly_increasing, IsStrictlyIncreasing-from_sorted, Value, Replacement, IsInOrder, as_map, replaced}
+use Rattle.wi_values.proofs.Order.{Ascends, Ascends-from_order, same_entries}
 
 keys_of-as_map : (rs : List Replacement) → keys_of (as_map rs) ≡ map (λ r. r.at) rs
 keys_of-as_map [] = refl
@@ -18,61 +18,19 @@ order_from_entries rs es e h = order_from_sorted rs (subst (λ (xs : List (ℕ �
 
 -- ---- worlds that have the same for each address
 
--- each replaced address comes after a
-abbrev pub ComeAfter : ℕ → List Replacement → Type 0
-ComeAfter a rs = AllByRecursion (λ b. nat_cmp a b ≡ Less) (keys_of (as_map rs))
+-- what the entries of replacements are made of again
+as_they_were : (rs : List Replacement) → map (λ (e : ℕ × Value). record { at = e.0; value = e.1 }) (as_map rs) ≡ rs
+as_they_were [] = refl
+as_they_were (r ∷ rs) = ap (λ (xs : List Replacement). r ∷ xs) (as_they_were rs)
 
-none_after : (a : ℕ) (rs : List Replacement) → ComeAfter a rs → replaced rs a ≡ None
-none_after a [] h = refl
-none_after a (r ∷ rs) h = rw h.0 (none_after a rs h.1)
-
-come_after_earlier : (a b : ℕ) (rs : List Replacement) → nat_cmp a b ≡ Less → ComeAfter b rs → ComeAfter a rs
-come_after_earlier a b [] l h = tt
-come_after_earlier a b (r ∷ rs) l h = (less_from_both a b r.at l h.0, come_after_earlier a b rs l h.1)
-
--- the first of two worlds has what the second lacks
-lacks : (r : Replacement) (vs ws : List Replacement) → ComeAfter r.at ws → ((a : ℕ) → replaced (r ∷ vs) a ≡ replaced ws a) → ⊥
-lacks r vs ws l h = let some : Some r.value ≡ replaced ws r.at = (rw (at_itself r.at) refl) ∙ h r.at in let none = none_after r.at ws l in cc
-
--- behind the same address the worlds have the same
-same_behind : (c : ℕ) (x y : Value) (vs ws : List Replacement) → ComeAfter c vs → ComeAfter c ws
-    → ((a : ℕ) → cond (is_at (nat_cmp a) c) (Some x) (replaced vs a) ≡ cond (is_at (nat_cmp a) c) (Some y) (replaced ws a))
-    → (a : ℕ) → replaced vs a ≡ replaced ws a
-same_behind c x y vs ws k l h a = by (is_at (nat_cmp a) c) refl (h a)
-  where
-    by : (b : Bool) → is_at (nat_cmp a) c ≡ b → cond b (Some x) (replaced vs a) ≡ cond b (Some y) (replaced ws a) → replaced vs a ≡ replaced ws a
-    by true e g =
-        subst (λ (q : ℕ). replaced vs q ≡ replaced ws q) (at_same a c e) (none_after c vs k ∙ sym (none_after c ws l))
-    by false e g = g
-
-same_front : (c : ℕ) (x y : Value) (vs ws : List Replacement) → ((a : ℕ) → cond (is_at (nat_cmp a) c) (Some x) (replaced vs a) ≡ cond (is_at (nat_cmp a) c) (Some y) (replaced ws a)) → x ≡ y
-same_front c x y vs ws h = let t = at_itself c in let e = h c in let g : Some x ≡ Some y = rw t at e in cc
-
-abbrev pub Rises : List Replacement → Type 0
-Rises rs = IsStrictlySortedBy nat_cmp (keys_of (as_map rs))
-
-one_from_replaced : (v w : List Replacement) → Rises v → Rises w → ((a : ℕ) → replaced v a ≡ replaced w a) → v ≡ w
-one_from_replaced [] [] p q h = refl
-one_from_replaced [] (s ∷ ws) p q h = absurd (lacks s ws [] tt (λ a. sym (h a)))
-one_from_replaced (r ∷ vs) [] p q h = absurd (lacks r vs [] tt h)
-one_from_replaced (r ∷ vs) (s ∷ ws) p q h =
-    let after_r = sorted_head nat_cmp r.at (keys_of (as_map vs)) p in
-    let after_s = sorted_head nat_cmp s.at (keys_of (as_map ws)) q in
-    ⊎_elim (λ e.
-    let g : (a : ℕ) → cond (is_at (nat_cmp a) r.at) (Some r.value) (replaced vs a) ≡ cond (is_at (nat_cmp a) r.at) (Some s.value) (replaced ws a) =
-    subst (λ (c : ℕ). (a : ℕ) → cond (is_at (nat_cmp a) r.at) (Some r.value) (replaced vs a) ≡ cond (is_at (nat_cmp a) c) (Some s.value) (replaced ws a)) (sym e) h in
-    let after_r_too : ComeAfter r.at ws = subst (λ (c : ℕ). ComeAfter c ws) (sym e) after_s in
-    let values = same_front r.at r.value s.value vs ws g in
-    let tails = one_from_replaced vs ws (sorted_tail nat_cmp r.at (keys_of (as_map vs)) p) (sorted_tail nat_cmp s.at (keys_of (as_map ws)) q)
-    (same_behind r.at r.value s.value vs ws after_r after_r_too g) in
-    λ i. (record { at = e i; value = values i }) ∷ tails i)
-    (⊎_elim (λ l. absurd (lacks r vs (s ∷ ws) (cmp_before r.at s.at l, come_after_earlier r.at s.at ws (cmp_before r.at s.at l) after_s) h))
-    (λ l. absurd (lacks s ws (r ∷ vs) (cmp_before s.at r.at l, come_after_earlier s.at r.at vs (cmp_before s.at r.at l) after_r) (λ a. sym (h a)))))
-    (cases_order r.at s.at)
+pub ascends_from_order : (rs : List Replacement) → IsInOrder rs → Ascends (as_map rs)
+ascends_from_order rs h = Ascends-from_order (as_map rs) (sorted_from_order rs h)
 
 -- two worlds that have the same for each address are one
 pub same_from_replaced : (v w : List Replacement) → IsInOrder v → IsInOrder w → ((a : ℕ) → replaced v a ≡ replaced w a) → v ≡ w
-same_from_replaced v w p q h = one_from_replaced v w (sorted_from_order v p) (sorted_from_order w q) h
+same_from_replaced v w p q h =
+    let same = same_entries (as_map v) (as_map w) (ascends_from_order v p) (ascends_from_order w q) h in
+    sym (as_they_were v) ∙ ap (λ (es : List (ℕ × Value)). map (λ (e : ℕ × Value). record { at = e.0; value = e.1 }) es) same ∙ as_they_were w
 
 -- ---- entries taken one after another
 

@@ -16,9 +16,8 @@ turns-init g c =
 pub turns-preserved : goal.turns-preserved
 turns-preserved g c =
     let turned = rw c.if-branch.true at c.in_ok-turn.ensures.done in
-    let old = c.turns.invariant in
     record {
-      going = going_on _ _ _ _ _ _ _ _ _ _ _ c.turns.buffers.script.lines _ old.going turned;
+      going = going_on _ _ _ _ _ _ _ _ _ _ _ c.turns.buffers.script.lines _ c.turns.invariant.going turned;
       few = still_few turned;
       reads = c.in_ok-turn.ensures.reads;
       writes = c.in_ok-turn.ensures.writes;
@@ -38,19 +37,17 @@ returns-in_default g c = record { runs = not_run _ _ _ _ _ _ _ _ }
 pub returns-in_err-turn : goal.returns-in_err-turn
 returns-in_err-turn g c =
     let p = err_from_is_err_and c.from_residual.result c.from_residual.ensures.1 in
-    let old = c.turns.invariant in
     record {
       runs =
-          run_is _ _ _ _ _ _ _ _ _ _ _ _ (rw (p.1, p.2) (ends_stopped _ _ _ _ _ _ _ _ _ _ _ _ c.turns.buffers.script.lines old.going c.in_err-turn.ensures.done))
+          run_is _ _ _ _ _ _ _ _ _ _ _ _ (rw (p.1, p.2) (ends_stopped _ _ _ _ _ _ _ _ _ _ _ _ c.turns.buffers.script.lines c.turns.invariant.going c.in_err-turn.ensures.done))
           (search rules) (search rules) (search rules) (search rules) (failed_unread _ _ _ p.1 p.2 c.in_err-turn.ensures.reads) (search rules) (search rules) (search rules);
     }
 
 pub returns : goal.returns
 returns g c =
     let turned = rw c.if-branch.false at c.in_ok-turn.ensures.done in
-    let old = c.turns.invariant in
     record {
       runs =
-          run_is _ _ _ _ _ _ _ _ _ _ _ _ (ends_sent _ _ _ _ _ _ _ _ _ _ _ _ _ c.turns.buffers.script.lines _ old.going turned c.send.ensures.bytes c.send.ensures.fault)
+          run_is _ _ _ _ _ _ _ _ _ _ _ _ (ends_sent _ _ _ _ _ _ _ _ _ _ _ _ _ c.turns.buffers.script.lines _ c.turns.invariant.going turned c.send.ensures.bytes c.send.ensures.fault)
           (all_read _ _ _ _ _ _ _ _ _ _ _ turned) (search rules) (search rules) (search rules) (search rules) (search rules) (search rules) (search rules);
     }

@@ -21,15 +21,13 @@ returns-in_err-whole-clause-no_memory g c =
 
 pub returns-in-Passed-clause-done : goal.returns-in-Passed-clause-done
 returns-in-Passed-clause-done g c =
-    let k = c.in_ok-whole.ensures.took.0 in
-    passed _ _ _ _ _ _ _ _ _ (asked_block _ _ _ _ _ _ _ _ _ None c.requires.few k c.in_ok-whole.ensures.took.1 c.deref.ensures.value c.in-Passed.ensures.0 c.in-Passed.ensures.1)
+    passed _ _ _ _ _ _ _ _ _ (asked_block _ _ _ _ _ _ _ _ _ None c.requires.few c.in_ok-whole.ensures.took.0 c.in_ok-whole.ensures.took.1 c.deref.ensures.value c.in-Passed.ensures.0 c.in-Passed.ensures.1)
 
 pub returns-in-Command-clause-done : goal.returns-in-Command-clause-done
 returns-in-Command-clause-done g c =
-    let k = c.in_ok-whole.ensures.took.0 in
     let a = c.in-Command.ensures in
     answered c.answer.result _ _ _ _ _ _ _ _ _ _ _ (Some a.1.0) c.serve-reply.result c.serve-reply.new.out.items
-    (asked_block _ _ _ _ _ _ _ _ _ (Some a.1.0) c.requires.few k c.in_ok-whole.ensures.took.1 c.deref.ensures.value a.0 a.1.1)
+    (asked_block _ _ _ _ _ _ _ _ _ (Some a.1.0) c.requires.few c.in_ok-whole.ensures.took.0 c.in_ok-whole.ensures.took.1 c.deref.ensures.value a.0 a.1.1)
     (c.serve-reply.ensures a.1.0 a.1.2) (rw c.deref-in-Command.ensures.value at c.answer.ensures.done)
 
 pub returns-in-Command-clause-reads : goal.returns-in-Command-clause-reads

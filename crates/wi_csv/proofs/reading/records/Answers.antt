@@ -35,11 +35,10 @@ loop-row-preserved c =
     let same = rw (c.in-Some.is, is) at all.3 in
     let rem : Bor (List ℕ) → _ = λ s. Some s.now in
     let text = strip_bom c.args.bytes.now in
-    let old = c.loop-row.row-iterator.rdr in
     let new = c.next.new.self.rdr in
     let fields = fields_of row in
     let rows = map (λ fields. map (λ f. f.items) fields.items) c.loop-row.rows.items in
-    let (z, rest, more) = rows-more rem old new fields default_config st.StartRecord text y rows config source reached read.0 in (
+    let (z, rest, more) = rows-more rem c.loop-row.row-iterator.rdr new fields default_config st.StartRecord text y rows config source reached read.0 in (
       read.0.3 ∙ trim,
       inl read.1,
       read.2,

@@ -8,13 +8,12 @@ returns-clause-outcome c =
     let stands = c.new-known.ensures in
     let s = c.args.store.now.sheet in
     let k = c.args.frame.now.key in
-    let f = c.args.frame.now.found in
     let cells =
     ap (λ (x : Sheet). cell_known x known.world.now known.found.now) (ap (λ (x : Stored). x.sheet) stands.store)
     ∙ ap (λ (x : List Replacement). cell_known s x known.found.now) stands.world
     ∙ ap (λ (x : Findings). cell_known s k.world x) stands.found in
     IfOk-weaker c.evaluate.result _ _
-    (λ o h. attempted (λ (x : Known). cell_known x.store.now.sheet x.world.now x.found.now) (λ (x : Known). what_if_found x.found.now) known s k f cells (ap what_if_found stands.found)
+    (λ o h. attempted (λ (x : Known). cell_known x.store.now.sheet x.world.now x.found.now) (λ (x : Known). what_if_found x.found.now) known s k c.args.frame.now.found cells (ap what_if_found stands.found)
     c.args.frame.now.formula.now o c.requires.open c.requires.formula c.requires.right h)
     c.evaluate.ensures.outcome
 

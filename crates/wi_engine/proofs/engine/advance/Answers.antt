@@ -58,9 +58,8 @@ returns-in-Some-clause-gives g c = (rw c.in-Some.is at c.in_ok-ahead.ensures.nex
 
 pub returns-in-Some-2-clause-gives : goal.returns-in-Some-2-clause-gives
 returns-in-Some-2-clause-gives g c =
-    let i = c.rounds.invariant in
-    let next = subst (λ (x : MemoState). IsWaitedFor c.args.store.now.sheet x c.settle.new.frame c.in-Some-2.first) i.steps.same (rw c.in-Some-2.is at c.in_ok-first.ensures.next) in
-    (next, i.evaluations)
+    let next = subst (λ (x : MemoState). IsWaitedFor c.args.store.now.sheet x c.settle.new.frame c.in-Some-2.first) c.rounds.invariant.steps.same (rw c.in-Some-2.is at c.in_ok-first.ensures.next) in
+    (next, c.rounds.invariant.evaluations)
 
 pub returns-in-Done-clause-gives : goal.returns-in-Done-clause-gives
 returns-in-Done-clause-gives g c =
@@ -118,14 +117,10 @@ pub returns-in-Some-clause-counts : goal.returns-in-Some-clause-counts
 returns-in-Some-clause-counts g c = counts_none
 
 pub returns-in_err-first-clause-counts : goal.returns-in_err-first-clause-counts
-returns-in_err-first-clause-counts g c =
-    let i = c.rounds.invariant in
-    counts_then i.steps i.counts i.evaluations counts_none
+returns-in_err-first-clause-counts g c = counts_then c.rounds.invariant.steps c.rounds.invariant.counts c.rounds.invariant.evaluations counts_none
 
 pub returns-in-Some-2-clause-counts : goal.returns-in-Some-2-clause-counts
-returns-in-Some-2-clause-counts g c =
-    let i = c.rounds.invariant in
-    counts_then i.steps i.counts i.evaluations counts_none
+returns-in-Some-2-clause-counts g c = counts_then c.rounds.invariant.steps c.rounds.invariant.counts c.rounds.invariant.evaluations counts_none
 
 pub returns-in_err-value-clause-counts : goal.returns-in_err-value-clause-counts
 returns-in_err-value-clause-counts g c =

@@ -11,5 +11,4 @@ returns-then-lt-clause-cell c =
 
 pub returns-then-contains-clause-value : goal.returns-then-contains-clause-value
 returns-then-contains-clause-value c =
-    let l = c.loop-replacement in
-    stands_at c.args.replacements.now l.replacement-index c.replacement-item.result c.requires c.loop-replacement-test.true c.replacement-item.is
+    stands_at c.args.replacements.now c.loop-replacement.replacement-index c.replacement-item.result c.requires c.loop-replacement-test.true c.replacement-item.is

@@ -1,4 +1,5 @@
-use Rattle.wi_graph.proofs.SearchSteps.{search_start, search_step, search_ends}
+use Rattle.wi_graph.proofs.Words.{rules}
+use Rattle.wi_graph.proofs.BeyondSteps.{search_start, search_step, search_all, search_end, search_ends}
 use Rattle.wi_graph.proofs.cone.cone_of.Goals as goal
 
 pub cells-init : goal.cells-init
@@ -15,7 +16,10 @@ cells-preserved c =
     c.in_ok-next.ensures.readers c.deref.ensures.value c.in_ok-note-2.ensures c.cells.invariant
 
 pub returns-clause-all : goal.returns-clause-all
-returns-clause-all c = c.cells.invariant.all
+returns-clause-all c = search_all c.args.readers.now c.args.cells.now c.cells.found c.cells.work.items c.cells.invariant
+
+pub returns-clause-closed : goal.returns-clause-closed
+returns-clause-closed c = search_end c.args.readers.now c.args.cells.now c.cells.found c.cells.work.items (search rules) c.cells.invariant
 
 pub returns-clause-least : goal.returns-clause-least
 returns-clause-least c = c.cells.invariant.least

@@ -1,5 +1,6 @@
 use Rattle.wi_graph.proofs.Words.{◌+◌, length, missing}
-use Rattle.wi_graph.proofs.SearchSteps.{IsSearching, all_readers}
+use Rattle.wi_graph.proofs.SearchSteps.{all_readers}
+use Rattle.wi_graph.proofs.BeyondSteps.{IsSearching}
 use Rattle.wi_graph.proofs.cone.cone_of.Given as goal
 
 abbrev pub invariant-cells : goal.invariant-cells

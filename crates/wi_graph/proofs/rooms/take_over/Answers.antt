@@ -1,5 +1,5 @@
 use Rattle.wi_graph.proofs.Words.{◌≡◌, [], rules, ap, sym, ◌∙◌, arith, common_steps, in_room}
-use Rattle.wi_graph.proofs.ComingSteps.{last_there, last_gone, order_left}
+use Rattle.wi_graph.proofs.ComingSteps.{last_there}
 use Rattle.wi_graph.proofs.RoomSteps.{taking_step, taking_end}
 use Rattle.wi_graph.proofs.rooms.take_over.Goals as goal
 
@@ -9,36 +9,18 @@ exchange-stood-requires-clause-room c h =
 
 pub cells-preserved-in-Some : goal.cells-preserved-in-Some
 cells-preserved-in-Some c =
-    let next = c.cells.next.items in
-    let later = c.pop.new.self.items in
-    let k = c.in-Some.entry.0 in
-    let o = c.in-Some.entry.1 in
-    let order = c.cells.invariant.order in
-    let is = c.in-Some.ensures.items in
-    taking_step c.args.next.now.items c.args.rooms.now next later c.cells.rooms c.exchange-stood.new.rooms c.cells.readers c.remove_room.new.readers k o c.exchange-stood.result (last_there next later k o order is) (last_gone next later k o order is) (order_left next later k o order is)
-    c.exchange-stood.ensures.ordered (search rules) c.exchange-stood.ensures.others c.exchange-stood.ensures.stood c.remove_room.ensures c.cells.invariant
+    taking_step c.args.next.now.items c.args.rooms.now c.cells.next.items c.pop.new.self.items c.cells.rooms c.exchange-stood.new.rooms c.cells.readers c.remove_room.new.readers c.in-Some.entry.0 c.in-Some.entry.1 c.exchange-stood.result
+    c.in-Some.ensures.items c.exchange-stood.ensures.ordered (search rules) c.exchange-stood.ensures.others c.exchange-stood.ensures.stood c.remove_room.ensures c.cells.invariant
 
 pub cells-preserved-in-Some-2 : goal.cells-preserved-in-Some-2
 cells-preserved-in-Some-2 c =
-    let next = c.cells.next.items in
-    let later = c.pop.new.self.items in
-    let k = c.in-Some.entry.0 in
-    let o = c.in-Some.entry.1 in
-    let order = c.cells.invariant.order in
-    let is = c.in-Some.ensures.items in
-    taking_step c.args.next.now.items c.args.rooms.now next later c.cells.rooms c.exchange-stood.new.rooms c.cells.readers c.remove_room.new.readers k o c.exchange-stood.result (last_there next later k o order is) (last_gone next later k o order is) (order_left next later k o order is)
-    c.exchange-stood.ensures.ordered (search rules) c.exchange-stood.ensures.others c.exchange-stood.ensures.stood c.remove_room.ensures c.cells.invariant
+    taking_step c.args.next.now.items c.args.rooms.now c.cells.next.items c.pop.new.self.items c.cells.rooms c.exchange-stood.new.rooms c.cells.readers c.remove_room.new.readers c.in-Some.entry.0 c.in-Some.entry.1 c.exchange-stood.result
+    c.in-Some.ensures.items c.exchange-stood.ensures.ordered (search rules) c.exchange-stood.ensures.others c.exchange-stood.ensures.stood c.remove_room.ensures c.cells.invariant
 
 pub cells-preserved : goal.cells-preserved
 cells-preserved c =
-    let next = c.cells.next.items in
-    let later = c.pop.new.self.items in
-    let k = c.in-Some.entry.0 in
-    let o = c.in-Some.entry.1 in
-    let order = c.cells.invariant.order in
-    let is = c.in-Some.ensures.items in
-    taking_step c.args.next.now.items c.args.rooms.now next later c.cells.rooms c.exchange-stood.new.rooms c.cells.readers c.remove_room.new.readers k o c.exchange-stood.result (last_there next later k o order is) (last_gone next later k o order is) (order_left next later k o order is)
-    c.exchange-stood.ensures.ordered (search rules) c.exchange-stood.ensures.others c.exchange-stood.ensures.stood c.remove_room.ensures c.cells.invariant
+    taking_step c.args.next.now.items c.args.rooms.now c.cells.next.items c.pop.new.self.items c.cells.rooms c.exchange-stood.new.rooms c.cells.readers c.remove_room.new.readers c.in-Some.entry.0 c.in-Some.entry.1 c.exchange-stood.result
+    c.in-Some.ensures.items c.exchange-stood.ensures.ordered (search rules) c.exchange-stood.ensures.others c.exchange-stood.ensures.stood c.remove_room.ensures c.cells.invariant
 
 pub returns-clause-rooms : goal.returns-clause-rooms
 returns-clause-rooms c =

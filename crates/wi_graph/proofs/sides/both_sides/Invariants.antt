@@ -1,5 +1,6 @@
 use Rattle.wi_graph.proofs.Words.{◌+◌, length, items_of, areas_of, missing, IsBelow}
-use Rattle.wi_graph.proofs.SearchSteps.{IsSearching, all_readers}
+use Rattle.wi_graph.proofs.SearchSteps.{all_readers}
+use Rattle.wi_graph.proofs.BeyondSteps.{IsSearching}
 use Rattle.wi_graph.proofs.sides.both_sides.Given as goal
 
 abbrev pub invariant-cells : goal.invariant-cells

@@ -1,7 +1,8 @@
 use Rattle.wi_lookup_functions.proofs.Words.{◌≡◌, ◌∙◌, ℕ, Some, None, length, refl, sym, ap, rules, slice_get, Bor, ltb-false, slice_get_read, slice_get_past, argument_in, arguments_in, value_lent, KnownAgrees, IsMissing, no_error, Value, Fault, Error, Stopped, refers_alone, value_absent, value_given}
 use Rattle.wi_standard_functions.specs.Arguments as given
+use Rattle.wi_lookup_functions.specs.Inner.Finding.{Agrees}
 use Rattle.wi_lookup_functions.proofs.Asked.{no_fault}
-use Rattle.wi_lookup_functions.proofs.Endings.{gives_so}
+use Rattle.wi_lookup_functions.proofs.Endings.{ends_so}
 use Rattle.wi_lookup_functions.proofs.arguments.value_or.Goals.{in-Some+in_ok-value-in-Some+in_ok-given-in-Some, in-None}
 use Rattle.wi_lookup_functions.proofs.arguments.value_or.Goals as goal
 
@@ -12,7 +13,7 @@ returns-in_err-value-in-Some g c =
     let one = c.in-Some.argument.now in
     let there : Some one ≡ slice_get args c.args.place = sym (slice_get_read args (length args) c.args.place one refl c.in-Some.ensures.lookup.3.0 c.in-Some.ensures.lookup.1) in
     let cell = c.in_err-value-in-Some.field-0.0 in
-    gives_so {A = Bor Value} {B = Value} known (IsMissing known args) (λ v. v.now) (λ cells. no_error (given.value_or c.args.default.now (arguments_in cells args) c.args.place)) c.from_residual.result (Stopped cell) c.from_residual.ensures.1
+    ends_so (Agrees {A = Bor Value} {B = Value} known (IsMissing known args) (λ v. v.now) (λ cells. no_error (given.value_or c.args.default.now (arguments_in cells args) c.args.place))) c.from_residual.result (Stopped cell) c.from_residual.ensures.1
     (c.in_err-value-in-Some.ensures.missing.0, refers_alone args c.args.place one cell there c.in_err-value-in-Some.ensures.missing.1)
 
 pub returns-in_err-given-in-Some : goal.returns-in_err-given-in-Some
@@ -22,7 +23,7 @@ returns-in_err-given-in-Some g c =
     let one = c.in-Some.argument.now in
     let there : Some one ≡ slice_get args c.args.place = sym (slice_get_read args (length args) c.args.place one refl c.in-Some.ensures.lookup.3.0 c.in-Some.ensures.lookup.1) in
     let e = c.in_err-given-in-Some.field-0.0 in
-    gives_so {A = Bor Value} {B = Value} known (IsMissing known args) (λ v. v.now) (λ cells. no_error (given.value_or c.args.default.now (arguments_in cells args) c.args.place)) c.from_residual-in_err-given-in-Some.result (Error e) c.from_residual-in_err-given-in-Some.ensures.1
+    ends_so (Agrees {A = Bor Value} {B = Value} known (IsMissing known args) (λ v. v.now) (λ cells. no_error (given.value_or c.args.default.now (arguments_in cells args) c.args.place))) c.from_residual-in_err-given-in-Some.result (Error e) c.from_residual-in_err-given-in-Some.ensures.1
     (λ cells a. let told : Fault e ≡ (argument_in cells one).value = search rules in ap no_error (value_given cells args c.args.place one c.args.default.now (Fault e) there told))
 
 pub returns-in_default : goal.returns-in_default

@@ -4,10 +4,8 @@ use Rattle.wi_lookup_functions.proofs.index.nth_cell.Goals as goal
 
 pub returns : goal.returns
 returns c =
-    let fits_j : FitsSigned w128 c.args.j = search rules in
-    let same_j = to_z-of_z w128 c.args.j fits_j in
-    let fits_k : FitsSigned w128 c.args.k = search rules in
-    let same_k = to_z-of_z w128 c.args.k fits_k in
+    let same_j = to_z-of_z w128 c.args.j (search rules) in
+    let same_k = to_z-of_z w128 c.args.k (search rules) in
     let r = c.args.area in
     let row_is : Ok c.in_ok-row.row ≡ position_among (height r) c.args.j = c.in_ok-row.ensures.place ∙ ap (λ (z : ℤ). position_among c.height.result z) same_j ∙ ap (λ (n : ℕ). position_among n c.args.j) c.height.ensures.value in
     let column_is : Ok c.in_ok-column.column ≡ position_among (width r) c.args.k = c.in_ok-column.ensures.place ∙ ap (λ (z : ℤ). position_among c.width.result z) same_k ∙ ap (λ (n : ℕ). position_among n c.args.k) c.width.ensures.value in
@@ -21,9 +19,8 @@ pub returns-in_err-row : goal.returns-in_err-row
 returns-in_err-row c =
     let fits : FitsSigned w128 c.args.j = search rules in
     let same = to_z-of_z w128 c.args.j fits in
-    let r = c.args.area in
     let above : (int_lt c.args.j (pos 1) || int_lt c.args.k (pos 1)) ≡ false = or_from (int_lt c.args.j (pos 1)) (int_lt c.args.k (pos 1)) (search rules) (search rules) in
-    nth_no_row r c.args.j c.args.k c.from_residual.result c.in_err-row.field-0.0 c.from_residual.ensures.1 above
+    nth_no_row c.args.area c.args.j c.args.k c.from_residual.result c.in_err-row.field-0.0 c.from_residual.ensures.1 above
     (c.in_err-row.ensures.place ∙ ap (λ (z : ℤ). position_among c.height.result z) same ∙ ap (λ (n : ℕ). position_among n c.args.j) c.height.ensures.value)
 
 pub returns-in_err-column : goal.returns-in_err-column

@@ -1,14 +1,14 @@
-use Rattle.wi_lookup_functions.proofs.Words.{Bor, Value, ◌≡◌, true, false, Ok, Err, map, subst, ok_or, arguments_in, IsMissing, region_of, value_or, to_number, match_value, cells_of, NotAvailable, Number, Error, IsMissingIn, is_line, position_by, is_referred, region_is}
+use Rattle.wi_lookup_functions.proofs.Words.{Bor, Value, ◌≡◌, true, false, Ok, Err, map, subst, ok_or, arguments_in, IsMissing, region_of, value_or, to_number, match_value, cells_of, NotAvailable, Number, Error, IsMissingIn, is_line, position_by, is_referred, region_is, Places}
 use Rattle.wi_fraction.specs.Number as numbers
 use Rattle.wi_lookup_functions.proofs.Chains.{match_no_area, match_no_sought, match_no_type, match_off_line, match_on_line, sought_in}
-use Rattle.wi_lookup_functions.proofs.Endings.{placed, places_so, placing_ended}
+use Rattle.wi_lookup_functions.proofs.Endings.{placed, ends_so, placing_ended}
 use Rattle.wi_lookup_functions.proofs.match_place.match_place.Goals as goal
 
 pub returns-in_err-sought : goal.returns-in_err-sought
 returns-in_err-sought g c =
     let known = g.L.Lookup.known_cell c.args.lookup.now in
     let args = c.args.arguments.now in
-    places_so known args match_value c.from_residual.result c.in_err-sought.field-0.0 c.from_residual.ensures.1
+    ends_so (Places known args match_value) c.from_residual.result c.in_err-sought.field-0.0 c.from_residual.ensures.1
     (placing_ended {A = Bor Value} {B = Value} known args match_value (IsMissing known args) (λ v. v.now) (λ cells. sought_in (arguments_in cells args)) c.in_err-sought.field-0.0 (λ a m. m)
     (λ cells a e q. match_no_sought (arguments_in cells args) e q) c.in_err-sought.ensures)
 
@@ -16,7 +16,7 @@ pub returns-in_err-area : goal.returns-in_err-area
 returns-in_err-area g c =
     let known = g.L.Lookup.known_cell c.args.lookup.now in
     let args = c.args.arguments.now in
-    places_so known args match_value c.from_residual-in_err-area.result (Error c.in_err-area.field-0.0) c.from_residual-in_err-area.ensures.1
+    ends_so (Places known args match_value) c.from_residual-in_err-area.result (Error c.in_err-area.field-0.0) c.from_residual-in_err-area.ensures.1
     (λ cells a. match_no_area (arguments_in cells args) c.in_ok-sought.sought.now c.in_err-area.field-0.0 (c.in_ok-sought.ensures cells a) (region_is args 1 (Err c.in_err-area.field-0.0) c.in_err-area.ensures cells))
 
 pub returns-in_err-match_type : goal.returns-in_err-match_type
@@ -24,7 +24,7 @@ returns-in_err-match_type g c =
     let known = g.L.Lookup.known_cell c.args.lookup.now in
     let args = c.args.arguments.now in
     let r = c.in_ok-area.area in
-    places_so known args match_value c.from_residual-in_err-match_type.result c.in_err-match_type.field-0.0 c.from_residual-in_err-match_type.ensures.1
+    ends_so (Places known args match_value) c.from_residual-in_err-match_type.result c.in_err-match_type.field-0.0 c.from_residual-in_err-match_type.ensures.1
     (placing_ended {A = numbers.Number} {B = numbers.Number} known args match_value (IsMissing known args) (λ x. x) (λ cells. to_number (value_or (Number c.one.result) (arguments_in cells args) 2)) c.in_err-match_type.field-0.0 (λ a m. m)
     (λ cells a e q. match_no_type (arguments_in cells args) c.in_ok-sought.sought.now (region_of cells r) e (c.in_ok-sought.ensures cells a) (region_is args 1 (Ok r) c.in_ok-area.ensures cells) (subst (λ (x : numbers.Number). to_number (value_or (Number x) (arguments_in cells args) 2) ≡ Err e) c.one.ensures q)) c.in_err-match_type.ensures)
 

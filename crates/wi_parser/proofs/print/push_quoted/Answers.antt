@@ -18,41 +18,29 @@ loop-piece-preserved c =
       kept = subst (λ x. StartsWith x old) (sym written) (starts_more (out ++ piece) (34 ∷ 34 ∷ []) old (starts_more out piece old l.invariant.kept));
     }
 
-pub returns-clause-ok : goal.returns-clause-ok
-returns-clause-ok c =
+pub returns : goal.returns
+returns c =
     let l = c.loop-piece in
     let plain = rest_doubled l.rest.now c.split_once.result c.split_once.ensures.cases c.in_default.is in
-    last_written c.push_str-3.result (string_bytes c.args.out.now) c.args.content.now l.rest.now _ _ _ l.invariant.written plain c.in_ok-push_str-4.ensures.bytes c.push_str-3.ensures.bytes
+    record {
+      ok = last_written c.push_str-3.result (string_bytes c.args.out.now) c.args.content.now l.rest.now _ _ _ l.invariant.written plain c.in_ok-push_str-4.ensures.bytes c.push_str-3.ensures.bytes;
+      kept = starts_pushed c.push_str-3.result _ _ _ _ c.push_str-3.ensures.bytes (starts_same _ _ _ c.in_ok-push_str-4.ensures.bytes (starts_more _ _ _ c.loop-piece.invariant.kept));
+    }
 
-pub returns-in_err-push_str-clause-kept : goal.returns-in_err-push_str-clause-kept
-returns-in_err-push_str-clause-kept c = starts_with_of_eq _ _ c.in_err-push_str.ensures.bytes
+pub returns-in_err-push_str : goal.returns-in_err-push_str
+returns-in_err-push_str c = record { ok = IfOk-from_err _ _ c.from_residual.ensures.0; kept = starts_with_of_eq _ _ c.in_err-push_str.ensures.bytes }
 
-pub returns-in_err-push_str-3-clause-kept : goal.returns-in_err-push_str-3-clause-kept
-returns-in_err-push_str-3-clause-kept c =
-    starts_same _ _ _ c.in_err-push_str-3.ensures.bytes (starts_same _ _ _ c.in_ok-push_str-2.ensures.bytes (starts_more _ _ _ c.loop-piece.invariant.kept))
-
-pub returns-clause-kept : goal.returns-clause-kept
-returns-clause-kept c =
-    starts_pushed c.push_str-3.result _ _ _ _ c.push_str-3.ensures.bytes
-    (starts_same _ _ _ c.in_ok-push_str-4.ensures.bytes (starts_more _ _ _ c.loop-piece.invariant.kept))
+pub returns-in_err-push_str-3 : goal.returns-in_err-push_str-3
+returns-in_err-push_str-3 c =
+    record { ok = IfOk-from_err _ _ c.from_residual-in_err-push_str-3.ensures.0; kept = starts_same _ _ _ c.in_err-push_str-3.ensures.bytes (starts_same _ _ _ c.in_ok-push_str-2.ensures.bytes (starts_more _ _ _ c.loop-piece.invariant.kept)) }
 
 pub loop-piece-init : goal.loop-piece-init
 loop-piece-init c = grind (arith, common_steps)
 
-pub returns-in_err-push_str-2-clause-kept : goal.returns-in_err-push_str-2-clause-kept
-returns-in_err-push_str-2-clause-kept c = starts_same _ _ _ c.in_err-push_str-2.ensures.bytes c.loop-piece.invariant.kept
+pub returns-in_err-push_str-2 : goal.returns-in_err-push_str-2
+returns-in_err-push_str-2 c =
+    record { ok = IfOk-from_err _ _ c.from_residual-in_err-push_str-2.ensures.0; kept = starts_same _ _ _ c.in_err-push_str-2.ensures.bytes c.loop-piece.invariant.kept }
 
-pub returns-in_err-push_str-4-clause-kept : goal.returns-in_err-push_str-4-clause-kept
-returns-in_err-push_str-4-clause-kept c = starts_same _ _ _ c.in_err-push_str-4.ensures.bytes c.loop-piece.invariant.kept
-
-pub returns-in_err-push_str-clause-ok : goal.returns-in_err-push_str-clause-ok
-returns-in_err-push_str-clause-ok c = IfOk-from_err _ _ c.from_residual.ensures.0
-
-pub returns-in_err-push_str-2-clause-ok : goal.returns-in_err-push_str-2-clause-ok
-returns-in_err-push_str-2-clause-ok c = IfOk-from_err _ _ c.from_residual-in_err-push_str-2.ensures.0
-
-pub returns-in_err-push_str-3-clause-ok : goal.returns-in_err-push_str-3-clause-ok
-returns-in_err-push_str-3-clause-ok c = IfOk-from_err _ _ c.from_residual-in_err-push_str-3.ensures.0
-
-pub returns-in_err-push_str-4-clause-ok : goal.returns-in_err-push_str-4-clause-ok
-returns-in_err-push_str-4-clause-ok c = IfOk-from_err _ _ c.from_residual-in_err-push_str-4.ensures.0
+pub returns-in_err-push_str-4 : goal.returns-in_err-push_str-4
+returns-in_err-push_str-4 c =
+    record { ok = IfOk-from_err _ _ c.from_residual-in_err-push_str-4.ensures.0; kept = starts_same _ _ _ c.in_err-push_str-4.ensures.bytes c.loop-piece.invariant.kept }

@@ -18,41 +18,35 @@ all_stay-returns-in-Text t c = text_passes _ _ _ c.in-Text.is
 pub all_stay-returns-in-Cell : goal.all_stay-returns-in-Cell
 all_stay-returns-in-Cell t c =
     let same = ap₂ stays (to_z-of_z w64 c.args.rows c.ranges.rows) (to_z-of_z w64 c.args.columns c.ranges.columns) in
-    let p = stays c.args.rows c.args.columns in
-    (c.stays.ensures ∙ ap (λ (q : Reference → Bool). q c.in-Cell.r) same) ∙ cell_passes p _ _ c.in-Cell.is
+    (c.stays.ensures ∙ ap (λ (q : Reference → Bool). q c.in-Cell.r) same) ∙ cell_passes (stays c.args.rows c.args.columns) _ _ c.in-Cell.is
 
 pub all_stay-returns-then-stays : goal.all_stay-returns-then-stays
 all_stay-returns-then-stays t c =
     let same = ap₂ stays (to_z-of_z w64 c.args.rows c.ranges.rows) (to_z-of_z w64 c.args.columns c.ranges.columns) in
-    let p = stays c.args.rows c.args.columns in
     first_holds _ _ _ _ (c.stays-in-Rectangle.ensures ∙ ap (λ (q : Reference → Bool). q c.in-Rectangle.corners.one) same) c.if-stays.true
     (c.stays-then-stays.ensures ∙ ap (λ (q : Reference → Bool). q c.in-Rectangle.corners.other) same)
-    ∙ rectangle_passes p _ _ c.in-Rectangle.is
+    ∙ rectangle_passes (stays c.args.rows c.args.columns) _ _ c.in-Rectangle.is
 
 pub all_stay-returns-else-stays : goal.all_stay-returns-else-stays
 all_stay-returns-else-stays t c =
     let same = ap₂ stays (to_z-of_z w64 c.args.rows c.ranges.rows) (to_z-of_z w64 c.args.columns c.ranges.columns) in
-    let p = stays c.args.rows c.args.columns in
-    first_fails _ _ _ (c.stays-in-Rectangle.ensures ∙ ap (λ (q : Reference → Bool). q c.in-Rectangle.corners.one) same) c.if-stays.false ∙ rectangle_passes p _ _ c.in-Rectangle.is
+    first_fails _ _ _ (c.stays-in-Rectangle.ensures ∙ ap (λ (q : Reference → Bool). q c.in-Rectangle.corners.one) same) c.if-stays.false ∙ rectangle_passes (stays c.args.rows c.args.columns) _ _ c.in-Rectangle.is
 
 pub all_stay-returns-in-Parenthesized : goal.all_stay-returns-in-Parenthesized
 all_stay-returns-in-Parenthesized t c =
     let same = ap₂ stays (to_z-of_z w64 c.args.rows c.ranges.rows) (to_z-of_z w64 c.args.columns c.ranges.columns) in
-    let p = stays c.args.rows c.args.columns in
-    (c.all_stay.ensures ∙ ap (λ (q : Reference → Bool). all_references q (tree_of c.deref.result.now)) same) ∙ same_pass p _ _ (parenthesized_leaves _ _ _ c.in-Parenthesized.is c.deref.ensures)
+    (c.all_stay.ensures ∙ ap (λ (q : Reference → Bool). all_references q (tree_of c.deref.result.now)) same) ∙ same_pass (stays c.args.rows c.args.columns) _ _ (parenthesized_leaves _ _ _ c.in-Parenthesized.is c.deref.ensures)
 
 pub all_stay-returns-in-Signed : goal.all_stay-returns-in-Signed
 all_stay-returns-in-Signed t c =
     let same = ap₂ stays (to_z-of_z w64 c.args.rows c.ranges.rows) (to_z-of_z w64 c.args.columns c.ranges.columns) in
-    let p = stays c.args.rows c.args.columns in
-    (c.all_stay-in-Signed.ensures ∙ ap (λ (q : Reference → Bool). all_references q (tree_of c.deref-in-Signed.result.now)) same) ∙ same_pass p _ _
+    (c.all_stay-in-Signed.ensures ∙ ap (λ (q : Reference → Bool). all_references q (tree_of c.deref-in-Signed.result.now)) same) ∙ same_pass (stays c.args.rows c.args.columns) _ _
     (signed_leaves _ _ _ _ c.in-Signed.is c.deref-in-Signed.ensures)
 
 pub all_stay-returns-in-Percent : goal.all_stay-returns-in-Percent
 all_stay-returns-in-Percent t c =
     let same = ap₂ stays (to_z-of_z w64 c.args.rows c.ranges.rows) (to_z-of_z w64 c.args.columns c.ranges.columns) in
-    let p = stays c.args.rows c.args.columns in
-    (c.all_stay-in-Percent.ensures ∙ ap (λ (q : Reference → Bool). all_references q (tree_of c.deref-in-Percent.result.now)) same) ∙ same_pass p _ _
+    (c.all_stay-in-Percent.ensures ∙ ap (λ (q : Reference → Bool). all_references q (tree_of c.deref-in-Percent.result.now)) same) ∙ same_pass (stays c.args.rows c.args.columns) _ _
     (percent_leaves _ _ _ c.in-Percent.is c.deref-in-Percent.ensures)
 
 pub all_stay-returns-then-all_stay : goal.all_stay-returns-then-all_stay
@@ -76,23 +70,20 @@ all_stay-returns-else-all_stay t c =
 pub all_stay-returns-then-stays-2 : goal.all_stay-returns-then-stays-2
 all_stay-returns-then-stays-2 t c =
     let same = ap₂ stays (to_z-of_z w64 c.args.rows c.ranges.rows) (to_z-of_z w64 c.args.columns c.ranges.columns) in
-    let p = stays c.args.rows c.args.columns in
     first_holds _ _ _ _ (c.stays-in-WhatIf.ensures ∙ ap (λ (q : Reference → Bool). q c.in-WhatIf.f) same) c.if-stays-2.true
     (c.pairs_stay.ensures ∙ ap (λ (q : Reference → Bool). list_all q (flat_map (λ (x : Reference × Reference). x.0 ∷ x.1 ∷ []) (map pair_of c.deref-then-stays-2.result.now))) same)
-    ∙ what_if_passes p _ _ _ (what_if_leaves _ _ _ _ c.in-WhatIf.is c.deref-then-stays-2.ensures.value)
+    ∙ what_if_passes (stays c.args.rows c.args.columns) _ _ _ (what_if_leaves _ _ _ _ c.in-WhatIf.is c.deref-then-stays-2.ensures.value)
 
 pub all_stay-returns-else-stays-2 : goal.all_stay-returns-else-stays-2
 all_stay-returns-else-stays-2 t c =
     let same = ap₂ stays (to_z-of_z w64 c.args.rows c.ranges.rows) (to_z-of_z w64 c.args.columns c.ranges.columns) in
-    let p = stays c.args.rows c.args.columns in
-    first_fails _ _ _ (c.stays-in-WhatIf.ensures ∙ ap (λ (q : Reference → Bool). q c.in-WhatIf.f) same) c.if-stays-2.false ∙ what_if_passes p _ _ _ (what_if_leaves _ _ _ _ c.in-WhatIf.is refl)
+    first_fails _ _ _ (c.stays-in-WhatIf.ensures ∙ ap (λ (q : Reference → Bool). q c.in-WhatIf.f) same) c.if-stays-2.false ∙ what_if_passes (stays c.args.rows c.args.columns) _ _ _ (what_if_leaves _ _ _ _ c.in-WhatIf.is refl)
 
 pub all_stay-returns-in-Call : goal.all_stay-returns-in-Call
 all_stay-returns-in-Call t c =
     let same = ap₂ stays (to_z-of_z w64 c.args.rows c.ranges.rows) (to_z-of_z w64 c.args.columns c.ranges.columns) in
-    let p = stays c.args.rows c.args.columns in
     c.each_stays.ensures ∙ ap (λ (q : Reference → Bool). list_all q (flat_map leaf_references (all_leaves (all_of c.deref-in-Call.result.now)))) same
-    ∙ same_pass p _ _ (call_leaves _ _ _ _ c.in-Call.is c.deref-in-Call.ensures.value)
+    ∙ same_pass (stays c.args.rows c.args.columns) _ _ (call_leaves _ _ _ _ c.in-Call.is c.deref-in-Call.ensures.value)
 
 pub each_stays-loop-expr-init : goal.each_stays-loop-expr-init
 each_stays-loop-expr-init t c = refl

@@ -7,8 +7,7 @@ returns-then-is_empty c = λ s t a b h. none_told t c.args.cones.now (c.is_empty
 
 pub returns-else-not-reads_stay : goal.returns-else-not-reads_stay
 returns-else-not-reads_stay c =
-    let g = c.args.graph.now in
-    λ s t a b h. cones_over g.now s t c.args.cones.now a (subst (λ (o : Option Edges). IfSome o (λ es. AreEdgesOf es t)) (c.reads_stay.ensures.0 c.if-not-reads_stay.false) b) h
+    λ s t a b h. cones_over c.args.graph.now.now s t c.args.cones.now a (subst (λ (o : Option Edges). IfSome o (λ es. AreEdgesOf es t)) (c.reads_stay.ensures.0 c.if-not-reads_stay.false) b) h
 
 pub returns-then-not-reads_stay : goal.returns-then-not-reads_stay
 returns-then-not-reads_stay c = λ s t a b h. none_told t c.new.result c.new.ensures

@@ -39,6 +39,5 @@ value-requires-clause-read g c =
 
 pub returns-clause-value : goal.returns-clause-value
 returns-clause-value g c =
-    let s = c.args.store.now.sheet in
     c.zero_for_empty.ensures ∙ ap (λ (v : Value). zero_for_empty v) c.in_ok-value.ensures.value
-    ∙ ap (λ (w : List Replacement). zero_for_empty (cell_value (put_all s w) c.args.formula_cell)) c.in_ok-replaced.ensures.world
+    ∙ ap (λ (w : List Replacement). zero_for_empty (cell_value (put_all c.args.store.now.sheet w) c.args.formula_cell)) c.in_ok-replaced.ensures.world

@@ -24,38 +24,27 @@ returns-clause-value c =
     let open_cells = open_cells_of s c.args.formula_cell c.args.pairs.now c.deref.result.now (c.deref.ensures.value ∙ c.in_ok-cells.ensures) clear in
     IfOk-weaker c.open_entry-result.result _ _ (λ v h. entry_shown s c.in_ok-world.world c.args.put.now c.args.formula_cell c.args.pairs.now v open_cells same c.requires h) c.open_entry-result.ensures.value
 
-pub returns-clause-within : goal.returns-clause-within
-returns-clause-within c =
+pub returns-clause-spends : goal.returns-clause-spends
+returns-clause-spends c =
     let s = c.args.store.now.sheet in
     let clear : list_any (circular s) c.deref.result.now ≡ false = sym (rw c.in-Some.is at c.in_ok-order.ensures.circular) in
     let same = put_alone c.in_ok-world.world c.new.result c.args.put.now c.requires c.new.ensures c.in_ok-world.ensures.list in
     let open_cells = open_cells_of s c.args.formula_cell c.args.pairs.now c.deref.result.now (c.deref.ensures.value ∙ c.in_ok-cells.ensures) clear in
     let has = entry_has s c.in_ok-world.world c.args.put.now c.args.formula_cell c.args.pairs.now open_cells same in
-    spent_price (c.open_entry-result.ensures.spends.on_found (entry_demanded s c.args.put.now c.args.formula_cell c.args.pairs.now) (table_closed s c.args.put.now c.args.formula_cell c.args.pairs.now) has)
+    let spends = c.open_entry-result.ensures.spends in
+    (spends.counts, spent_price (spends.on_found (entry_demanded s c.args.put.now c.args.formula_cell c.args.pairs.now) (table_closed s c.args.put.now c.args.formula_cell c.args.pairs.now) has))
 
-pub returns-in_err-cells-clause-within : goal.returns-in_err-cells-clause-within
-returns-in_err-cells-clause-within c = spent_nothing _ _
+pub returns-in_err-cells-clause-spends : goal.returns-in_err-cells-clause-spends
+returns-in_err-cells-clause-spends c = (never_fall-same c.args.meter.now, spent_nothing _ _)
 
-pub returns-in_err-cells-clause-counts : goal.returns-in_err-cells-clause-counts
-returns-in_err-cells-clause-counts c = never_fall-same c.args.meter.now
+pub returns-in_err-order-clause-spends : goal.returns-in_err-order-clause-spends
+returns-in_err-order-clause-spends c = (never_fall-same c.args.meter.now, spent_nothing _ _)
 
-pub returns-in_err-order-clause-within : goal.returns-in_err-order-clause-within
-returns-in_err-order-clause-within c = spent_nothing _ _
+pub returns-in_default-clause-spends : goal.returns-in_default-clause-spends
+returns-in_default-clause-spends c = (never_fall-same c.args.meter.now, spent_nothing _ _)
 
-pub returns-in_err-order-clause-counts : goal.returns-in_err-order-clause-counts
-returns-in_err-order-clause-counts c = never_fall-same c.args.meter.now
-
-pub returns-in_default-clause-within : goal.returns-in_default-clause-within
-returns-in_default-clause-within c = spent_nothing _ _
-
-pub returns-in_default-clause-counts : goal.returns-in_default-clause-counts
-returns-in_default-clause-counts c = never_fall-same c.args.meter.now
-
-pub returns-in_err-world-clause-within : goal.returns-in_err-world-clause-within
-returns-in_err-world-clause-within c = spent_nothing _ _
-
-pub returns-in_err-world-clause-counts : goal.returns-in_err-world-clause-counts
-returns-in_err-world-clause-counts c = never_fall-same c.args.meter.now
+pub returns-in_err-world-clause-spends : goal.returns-in_err-world-clause-spends
+returns-in_err-world-clause-spends c = (never_fall-same c.args.meter.now, spent_nothing _ _)
 
 pub new-memo-requires : goal.new-memo-requires
 new-memo-requires c = record { order = rw c.in-Some.is at c.in_ok-order.ensures.order }
@@ -69,6 +58,3 @@ open_entry-result-requires-clause-formula_cell c =
     let clear : list_any (circular s) c.deref.result.now ≡ false = sym (rw c.in-Some.is at c.in_ok-order.ensures.circular) in
     let roots = rw c.in-Some.is at c.in_ok-order.ensures.roots in
     formula_cell_readable s c.args.formula_cell c.args.pairs.now c.deref.result.now (c.deref.ensures.value ∙ c.in_ok-cells.ensures) clear c.in-Some.order.items c.new-memo.result c.new-memo.ensures.value roots
-
-pub returns-clause-counts : goal.returns-clause-counts
-returns-clause-counts c = c.open_entry-result.ensures.spends.counts

@@ -19,6 +19,9 @@ returns-clause-within c =
     let same = put_alone c.in_ok-world.world c.new.result c.args.put.now c.requires c.new.ensures c.in_ok-world.ensures.list in
     spent_price (c.value-result.ensures.spends.on_found (demanded s c.args.put.now c.args.at) (different_closed s (case_of s c.args.put.now c.args.at)) (demands_itself s c.in_ok-world.world c.args.put.now c.args.at leaf same))
 
+pub returns-clause-counts : goal.returns-clause-counts
+returns-clause-counts c = c.value-result.ensures.spends.counts
+
 pub returns-in_default-clause-within : goal.returns-in_default-clause-within
 returns-in_default-clause-within c = spent_nothing _ _
 

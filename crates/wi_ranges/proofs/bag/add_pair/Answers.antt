@@ -1,4 +1,4 @@
-use Rattle.wi_ranges.proofs.Words.{◌≡◌, ◌≤◌, ℕ, ◌∙◌, nat_lt, not, true, List, subst, arith, nat_tests, err_from_is_err_and, on_err, Bag, HasOneMore, bag_of, is_among, Block}
+use Rattle.wi_ranges.proofs.Words.{◌≡◌, ◌≤◌, ℕ, ◌∙◌, nat_lt, not, true, List, subst, arith, nat_tests, IfOk-from_err, on_err, Bag, HasOneMore, bag_of, is_among, Block}
 use Rattle.wi_ranges.proofs.First.{row_there}
 use Rattle.wi_ranges.proofs.bag.add_pair.Goals as goal
 
@@ -11,75 +11,48 @@ at_most_as_many m n e = omega arith
 no_fewer : (m n : ℕ) → m ≡ n → not (nat_lt m n) ≡ true
 no_fewer m n e = grind (arith, nat_tests)
 
-pub add_numbered-requires-clause-whole : goal.add_numbered-requires-clause-whole
-add_numbered-requires-clause-whole c = c.requires
+pub add_numbered-requires : goal.add_numbered-requires
+add_numbered-requires c =
+    let around = c.around-around.ensures in
+    let row = row_there c.args.pair.now c.around-around.result 1048576 around.holds around.within in
+    record { whole = c.requires; number = at_least_none _; blocks = around.blocks; on_sheet = around.within; row = row }
 
-pub add_numbered-requires-clause-blocks : goal.add_numbered-requires-clause-blocks
-add_numbered-requires-clause-blocks c = c.around-around.ensures.blocks
+pub returns-in_err-add_numbered : goal.returns-in_err-add_numbered
+returns-in_err-add_numbered c =
+    let first = c.in_err-add_numbered.ensures in
+    record { more = IfOk-from_err c.from_residual.result _ c.from_residual.ensures.0; whole = first.whole; err = on_err c.from_residual.result first.err }
 
-pub add_numbered-requires-clause-number : goal.add_numbered-requires-clause-number
-add_numbered-requires-clause-number c = at_least_none _
-
-pub add_numbered-requires-clause-on_sheet : goal.add_numbered-requires-clause-on_sheet
-add_numbered-requires-clause-on_sheet c = c.around-around.ensures.within
-
-pub add_numbered-requires-clause-row : goal.add_numbered-requires-clause-row
-add_numbered-requires-clause-row c = row_there c.args.pair.now c.around-around.result 1048576 c.around-around.ensures.holds c.around-around.ensures.within
-
-pub returns-in_err-add_numbered-clause-more : goal.returns-in_err-add_numbered-clause-more
-returns-in_err-add_numbered-clause-more c =
-    let p = err_from_is_err_and c.from_residual.result c.from_residual.ensures.1 in
-    rw p.1 tt
-
-pub returns-in_err-add_numbered-clause-whole : goal.returns-in_err-add_numbered-clause-whole
-returns-in_err-add_numbered-clause-whole c = c.add_numbered.ensures.whole
-
-pub returns-in_err-add_numbered-clause-err : goal.returns-in_err-add_numbered-clause-err
-returns-in_err-add_numbered-clause-err c = on_err c.from_residual.result c.in_err-add_numbered.ensures.err
-
-pub returns-then-branch-clause-more : goal.returns-then-branch-clause-more
-returns-then-branch-clause-more c = c.in_ok-add_numbered.ensures.more c.if-branch.true
-
-pub returns-then-branch-clause-whole : goal.returns-then-branch-clause-whole
-returns-then-branch-clause-whole c = c.add_numbered.ensures.whole
+pub returns-then-branch : goal.returns-then-branch
+returns-then-branch c = let first = c.in_ok-add_numbered.ensures in record { more = first.more c.if-branch.true; whole = first.whole; err = tt }
 
 pub count_at-requires-clause-whole : goal.count_at-requires-clause-whole
-count_at-requires-clause-whole c = c.add_numbered.ensures.whole
+count_at-requires-clause-whole c = c.in_ok-add_numbered.ensures.whole
 
 pub count_at-requires-clause-among : goal.count_at-requires-clause-among
 count_at-requires-clause-among c = subst (λ (xs : List Block). is_among c.first_of.result xs ≡ true) c.around-around.ensures.blocks c.first_of.ensures
 
-pub add_numbered-requires-2-clause-whole : goal.add_numbered-requires-2-clause-whole
-add_numbered-requires-2-clause-whole c = c.add_numbered.ensures.whole
+pub add_numbered-requires-2 : goal.add_numbered-requires-2
+add_numbered-requires-2 c =
+    let around = c.around-around.ensures in
+    let row = row_there c.args.pair.now c.around-around.result 1048576 around.holds around.within in
+    record { whole = c.in_ok-add_numbered.ensures.whole; number = at_most_as_many c.count_at.result _ c.count_at.ensures; blocks = around.blocks; on_sheet = around.within; row = row }
 
-pub add_numbered-requires-2-clause-blocks : goal.add_numbered-requires-2-clause-blocks
-add_numbered-requires-2-clause-blocks c = c.around-around.ensures.blocks
+pub returns-in_err-add_numbered-2 : goal.returns-in_err-add_numbered-2
+returns-in_err-add_numbered-2 c =
+    let next = c.in_err-add_numbered-2.ensures in
+    record {
+      more = IfOk-from_err c.from_residual-in_err-add_numbered-2.result _ c.from_residual-in_err-add_numbered-2.ensures.0;
+      whole = next.whole;
+      err = on_err c.from_residual-in_err-add_numbered-2.result (next.err ∙ c.in_ok-add_numbered.ensures.same c.if-branch.false);
+    }
 
-pub add_numbered-requires-2-clause-number : goal.add_numbered-requires-2-clause-number
-add_numbered-requires-2-clause-number c = at_most_as_many c.count_at.result _ c.count_at.ensures
-
-pub add_numbered-requires-2-clause-on_sheet : goal.add_numbered-requires-2-clause-on_sheet
-add_numbered-requires-2-clause-on_sheet c = c.around-around.ensures.within
-
-pub add_numbered-requires-2-clause-row : goal.add_numbered-requires-2-clause-row
-add_numbered-requires-2-clause-row c = row_there c.args.pair.now c.around-around.result 1048576 c.around-around.ensures.holds c.around-around.ensures.within
-
-pub returns-in_err-add_numbered-2-clause-more : goal.returns-in_err-add_numbered-2-clause-more
-returns-in_err-add_numbered-2-clause-more c =
-    let p = err_from_is_err_and c.from_residual-in_err-add_numbered-2.result c.from_residual-in_err-add_numbered-2.ensures.1 in
-    rw p.1 tt
-
-pub returns-in_err-add_numbered-2-clause-whole : goal.returns-in_err-add_numbered-2-clause-whole
-returns-in_err-add_numbered-2-clause-whole c = c.add_numbered-2.ensures.whole
-
-pub returns-in_err-add_numbered-2-clause-err : goal.returns-in_err-add_numbered-2-clause-err
-returns-in_err-add_numbered-2-clause-err c =
-    on_err c.from_residual-in_err-add_numbered-2.result (c.in_err-add_numbered-2.ensures.err ∙ c.in_ok-add_numbered.ensures.same c.if-branch.false)
-
-pub returns-clause-more : goal.returns-clause-more
-returns-clause-more c =
-    subst (λ (bag : Bag). HasOneMore c.args.pair.now bag (bag_of c.add_numbered-2.new.pieces.keys)) (c.in_ok-add_numbered.ensures.same c.if-branch.false)
-    (c.in_ok-add_numbered-2.ensures.more (c.in_ok-add_numbered-2.ensures.added ∙ no_fewer c.count_at.result _ c.count_at.ensures))
-
-pub returns-clause-whole : goal.returns-clause-whole
-returns-clause-whole c = c.add_numbered-2.ensures.whole
+pub returns : goal.returns
+returns c =
+    let next = c.in_ok-add_numbered-2.ensures in
+    record {
+      more =
+          subst (λ (bag : Bag). HasOneMore c.args.pair.now bag (bag_of c.add_numbered-2.new.pieces.keys)) (c.in_ok-add_numbered.ensures.same c.if-branch.false)
+          (next.more (next.added ∙ no_fewer c.count_at.result _ c.count_at.ensures));
+      whole = next.whole;
+      err = tt;
+    }

@@ -19,5 +19,4 @@ returns-then-count-gt0-clause-whole c =
     let ks = c.args.pieces.now.keys in
     let us = c.take_out.new.pieces.keys in
     let count : count_of (bag_of ks) m.pair ≡ (c.count_at-count.result - 1) + 1 = omega (arith, c.count_at-count.ensures, c.if-count-gt0.true) in
-    whole_less m x ks us c.around-around.ensures.blocks (row_there m.pair x 1048576 c.around-around.ensures.holds c.around-around.ensures.within) c.requires count
-    (lost m x ks us c.around-around.ensures.blocks c.requires count c.take_out.ensures.loses) c.take_out.ensures.taken c.take_out.ensures.kept c.take_out.ensures.order
+    whole_less m x ks us c.around-around.ensures.blocks (row_there m.pair x 1048576 c.around-around.ensures.holds c.around-around.ensures.within) c.requires count c.take_out.ensures

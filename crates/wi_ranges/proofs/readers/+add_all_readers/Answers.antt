@@ -6,10 +6,9 @@ use Rattle.wi_ranges.proofs.readers.+add_all_readers.Goals as goal
 pub returns-in_ok-add_all_readers : goal.returns-in_ok-add_all_readers
 returns-in_ok-add_all_readers t c =
     let x = c.args.block.now in
-    let a = c.args.at in
     let h = c.half_with.result in
     let next = half_of c.args.row x h c.half_with.ensures.value c.if-block-gt0.true in
-    λ r. readers_more x (blocks_with c.args.row h.level h.first) (blocks_with c.args.row x.level x.first) a r c.args.pieces.now.keys
+    λ r. readers_more x (blocks_with c.args.row h.level h.first) (blocks_with c.args.row x.level x.first) c.args.at r c.args.pieces.now.keys
     (contains nat_cmp c.args.readers.now r) (contains nat_cmp c.add_readers.new.readers r) (contains nat_cmp c.add_all_readers.new.readers r)
     next (c.in_ok-add_readers.ensures r) (c.in_ok-add_all_readers.ensures r)
 

@@ -1,4 +1,4 @@
-use Rattle.wi_ranges.proofs.Words.{◌||◌, ◌∷◌, [], ◌∙◌, ap, sym, subst, refl, filter, err_from_is_err_and, nat_cmp, contains, list_any, range_contains, Included, Unbounded, one_less, Numbered, piece_cmp, reads_at}
+use Rattle.wi_ranges.proofs.Words.{◌||◌, ◌∷◌, [], ◌∙◌, ap, sym, subst, refl, filter, IfOk-from_err, nat_cmp, contains, list_any, range_contains, Included, Unbounded, one_less, Numbered, piece_cmp, reads_at}
 use Rattle.wi_ranges.proofs.ReaderLemmas.{AreFirst, come_first, found_all, found_to_block, found_no_more, found_one_more, first_left}
 use Rattle.wi_ranges.proofs.readers.add_readers.Goals as goal
 
@@ -41,9 +41,7 @@ loop-place-preserved-in_ok-insert c =
     )
 
 pub returns-in_err-insert : goal.returns-in_err-insert
-returns-in_err-insert c =
-    let p = err_from_is_err_and c.from_residual.result c.from_residual.ensures.1 in
-    rw p.1 tt
+returns-in_err-insert c = IfOk-from_err c.from_residual.result _ c.from_residual.ensures.0
 
 pub loop-place-smaller : goal.loop-place-smaller
 loop-place-smaller c = one_less c.loop-place.place-iterator c.next.new.self c.in-Some.field-0.now c.in-Some.ensures.steps

@@ -12,9 +12,8 @@ pub returns-clause-read : goal.returns-clause-read
 returns-clause-read c =
     let a = c.args.at in
     let ks = c.args.pieces.now.keys in
-    let row = c.row-row.result in
     let around = c.highest_block-block.result in
-    let same : (r : ℕ) → list_any (reads_at (blocks_with row around.level around.first) a r) ks ≡ list_any (reads_at (blocks_with (row_of a) 20 0) a r) ks = λ r.
+    let same : (r : ℕ) → list_any (reads_at (blocks_with c.row-row.result around.level around.first) a r) ks ≡ list_any (reads_at (blocks_with (row_of a) 20 0) a r) ks = λ r.
     c.highest_block-block.ensures.all a r ∙ ap (λ (n : ℕ). list_any (reads_at (blocks_with n 20 0) a r) ks) c.row-row.ensures.value in (
       λ t. let one = c.has_readers_within.ensures.0 t in (one.0, sym (same one.0) ∙ one.1),
       λ h. c.has_readers_within.ensures.1 (h.0, same h.0 ∙ h.1),

@@ -1,5 +1,4 @@
-use Rattle.wi_ranges.proofs.Words.{◌∙◌}
-use Rattle.wi_ranges.proofs.RisingLemmas.{search_tells}
+use Rattle.wi_ranges.proofs.Words.{◌∙◌, search_tells}
 use Rattle.wi_ranges.proofs.rising_set.is_among.Goals as goal
 
 pub returns : goal.returns

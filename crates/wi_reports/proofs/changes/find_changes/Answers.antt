@@ -45,25 +45,15 @@ returns-in_err-value-clause-quiet g c = not_none c.args.cells.now c.loop-at.at-i
 
 pub returns-in_err-value-clause-evaluations : goal.returns-in_err-value-clause-evaluations
 returns-in_err-value-clause-evaluations g c =
-    let old = c.loop-at.invariant in
-    let put = c.args.put.now in
-    let cells = c.args.cells.now in
-    let whole = c.args.calculator.now in
-    let stored = g.C.Calculator.stored whole in
-    let bound = g.C.Calculator.evaluated whole + evaluations_for stored.sheet put cells in
-    all_counted (evaluations put) stored _ cells c.loop-at.at-index c.at-item.result _ _ bound
-    c.loop-at-test.true c.at-item.is old.same c.in_err-value.ensures.evaluations old.evaluations
+    let stored = g.C.Calculator.stored c.args.calculator.now in
+    let bound = g.C.Calculator.evaluated c.args.calculator.now + evaluations_for stored.sheet c.args.put.now c.args.cells.now in
+    all_counted (evaluations c.args.put.now) stored _ c.args.cells.now c.loop-at.at-index c.at-item.result _ _ bound c.loop-at-test.true c.at-item.is c.loop-at.invariant.same c.in_err-value.ensures.evaluations c.loop-at.invariant.evaluations
 
 pub returns-in_err-value-clause-restarts : goal.returns-in_err-value-clause-restarts
 returns-in_err-value-clause-restarts g c =
-    let old = c.loop-at.invariant in
-    let put = c.args.put.now in
-    let cells = c.args.cells.now in
-    let whole = c.args.calculator.now in
-    let stored = g.C.Calculator.stored whole in
-    let bound = g.C.Calculator.restarted whole + restarts_for stored.sheet put cells in
-    all_counted (restarts put) stored _ cells c.loop-at.at-index c.at-item.result _ _ bound
-    c.loop-at-test.true c.at-item.is old.same c.in_err-value.ensures.restarts old.restarts
+    let stored = g.C.Calculator.stored c.args.calculator.now in
+    let bound = g.C.Calculator.restarted c.args.calculator.now + restarts_for stored.sheet c.args.put.now c.args.cells.now in
+    all_counted (restarts c.args.put.now) stored _ c.args.cells.now c.loop-at.at-index c.at-item.result _ _ bound c.loop-at-test.true c.at-item.is c.loop-at.invariant.same c.in_err-value.ensures.restarts c.loop-at.invariant.restarts
 
 pub returns-in_err-push-clause-same : goal.returns-in_err-push-clause-same
 returns-in_err-push-clause-same g c = c.in_ok-value.ensures.same ∙ c.loop-at.invariant.same
@@ -73,22 +63,12 @@ returns-in_err-push-clause-quiet g c = not_none c.args.cells.now c.loop-at.at-in
 
 pub returns-in_err-push-clause-evaluations : goal.returns-in_err-push-clause-evaluations
 returns-in_err-push-clause-evaluations g c =
-    let old = c.loop-at.invariant in
-    let put = c.args.put.now in
-    let cells = c.args.cells.now in
-    let whole = c.args.calculator.now in
-    let stored = g.C.Calculator.stored whole in
-    let bound = g.C.Calculator.evaluated whole + evaluations_for stored.sheet put cells in
-    all_counted (evaluations put) stored _ cells c.loop-at.at-index c.at-item.result _ _ bound
-    c.loop-at-test.true c.at-item.is old.same c.in_ok-value.ensures.evaluations old.evaluations
+    let stored = g.C.Calculator.stored c.args.calculator.now in
+    let bound = g.C.Calculator.evaluated c.args.calculator.now + evaluations_for stored.sheet c.args.put.now c.args.cells.now in
+    all_counted (evaluations c.args.put.now) stored _ c.args.cells.now c.loop-at.at-index c.at-item.result _ _ bound c.loop-at-test.true c.at-item.is c.loop-at.invariant.same c.in_ok-value.ensures.evaluations c.loop-at.invariant.evaluations
 
 pub returns-in_err-push-clause-restarts : goal.returns-in_err-push-clause-restarts
 returns-in_err-push-clause-restarts g c =
-    let old = c.loop-at.invariant in
-    let put = c.args.put.now in
-    let cells = c.args.cells.now in
-    let whole = c.args.calculator.now in
-    let stored = g.C.Calculator.stored whole in
-    let bound = g.C.Calculator.restarted whole + restarts_for stored.sheet put cells in
-    all_counted (restarts put) stored _ cells c.loop-at.at-index c.at-item.result _ _ bound
-    c.loop-at-test.true c.at-item.is old.same c.in_ok-value.ensures.restarts old.restarts
+    let stored = g.C.Calculator.stored c.args.calculator.now in
+    let bound = g.C.Calculator.restarted c.args.calculator.now + restarts_for stored.sheet c.args.put.now c.args.cells.now in
+    all_counted (restarts c.args.put.now) stored _ c.args.cells.now c.loop-at.at-index c.at-item.result _ _ bound c.loop-at-test.true c.at-item.is c.loop-at.invariant.same c.in_ok-value.ensures.restarts c.loop-at.invariant.restarts

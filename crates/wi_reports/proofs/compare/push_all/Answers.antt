@@ -19,10 +19,8 @@ pub returns-clause-ok : goal.returns-clause-ok
 returns-clause-ok g c =
     let area = c.args.area in
     let top = c.row-top.result in
-    let last = c.row-row-end.result in
-    let row = c.loop-row.row in
     let compared = cell_compared (g.C.Calculator.stored c.args.calculator.now).sheet c.args.sides.now.first.now c.args.sides.now.second.now in
-    all_rows (λ rs. flat_map compared (flat_map (λ r. cells_of_row r area) rs)) area _ top _ last (row - top) _ _
+    all_rows (λ rs. flat_map compared (flat_map (λ r. cells_of_row r area) rs)) area _ top _ c.row-row-end.result (c.loop-row.row - top) _ _
     c.first.ensures c.row-top.ensures.value c.last.ensures c.row-row-end.ensures.value (omega arith) c.loop-row.invariant.written
 
 pub loop-row-init : goal.loop-row-init

@@ -18,8 +18,7 @@ pub returns-clause-ok : goal.returns-clause-ok
 returns-clause-ok g c =
     let left = c.column-left.result in
     let last = c.column-column-end.result in
-    let column = c.loop-column.column in
-    all_cells (cell_compared (g.C.Calculator.stored c.args.calculator.now).sheet c.args.sides.now.first.now c.args.sides.now.second.now) c.args.area c.args.row _ left _ last (column - left) _ _
+    all_cells (cell_compared (g.C.Calculator.stored c.args.calculator.now).sheet c.args.sides.now.first.now c.args.sides.now.second.now) c.args.area c.args.row _ left _ last (c.loop-column.column - left) _ _
     c.first.ensures c.column-left.ensures.value c.last.ensures c.column-column-end.ensures.value (omega arith) c.loop-column.invariant.written
 
 pub loop-column-init : goal.loop-column-init

@@ -17,9 +17,7 @@ loop-row-preserved g c =
 pub returns-clause-ok : goal.returns-clause-ok
 returns-clause-ok g c =
     let first = c.row-first.result in
-    let last = c.row-row-end.result in
-    let row = c.loop-row.row in
-    all_rows (flat_map (row_shown (g.C.Calculator.stored c.args.calculator.now).sheet c.args.put.now c.args.area)) c.args.area _ first _ last (row - first) _ _
+    all_rows (flat_map (row_shown (g.C.Calculator.stored c.args.calculator.now).sheet c.args.put.now c.args.area)) c.args.area _ first _ c.row-row-end.result (c.loop-row.row - first) _ _
     c.first.ensures c.row-first.ensures.value c.last.ensures c.row-row-end.ensures.value (omega arith) c.loop-row.invariant.written
 
 pub loop-row-init : goal.loop-row-init

@@ -10,9 +10,8 @@ push_entries-requires-clause-order g c = c.requires.order
 
 pub returns-clause-ok : goal.returns-clause-ok
 returns-clause-ok g c =
-    let put = c.args.put.now in
     let table = c.args.table.now in
-    row_written string_bytes c.push_record.result _ (λ s. entries_beside s.sheet put table.formula_cell table.input table.second c.args.x) (g.C.Calculator.stored c.args.calculator.now) _ _ _ _ _ _ _
+    row_written string_bytes c.push_record.result _ (λ s. entries_beside s.sheet c.args.put.now table.formula_cell table.input table.second c.args.x) (g.C.Calculator.stored c.args.calculator.now) _ _ _ _ _ _ _
     c.new-texts.ensures.items c.in_ok-push_text_under.ensures.text c.in_ok-push_text_under.ensures.same c.in_ok-push_entries.ensures.texts c.deref.ensures.value c.push_record.ensures.ok
 
 pub push_entries-requires-clause-row : goal.push_entries-requires-clause-row

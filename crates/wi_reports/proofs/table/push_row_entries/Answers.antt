@@ -21,9 +21,7 @@ returns-clause-texts g c =
     let sheet = (g.C.Calculator.stored c.args.calculator.now).sheet in
     let text : ℕ → List ℕ = λ y. entry_text sheet c.args.put.now given.formula_cell (pairs_at given.input given.x given.second y) in
     let first = c.column-first.result in
-    let last = c.column-column-end.result in
-    let column = c.loop-column.column in
-    all_texts text cells c.row-row.result _ first _ last (column - first) _ _
+    all_texts text cells c.row-row.result _ first _ c.column-column-end.result (c.loop-column.column - first) _ _
     c.first-2.ensures c.column-first.ensures.value c.last.ensures c.column-column-end.ensures.value (omega arith) c.loop-column.invariant.texts
     ∙ ap (λ r. map string_bytes c.args.texts.now.items ++ map text (cells_of_row r cells)) (c.row-row.ensures.value ∙ ap row_of c.first.ensures)
 

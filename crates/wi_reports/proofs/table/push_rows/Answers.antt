@@ -21,10 +21,8 @@ pub returns-clause-ok : goal.returns-clause-ok
 returns-clause-ok g c =
     let table = c.args.table.now in
     let first = c.row-first.result in
-    let last = c.row-row-end.result in
-    let row = c.loop-row.row in
     let record_of = table_row (g.C.Calculator.stored c.args.calculator.now).sheet c.args.put.now table.formula_cell table.input table.second in
-    all_rows (λ rs. flat_map record_of (flat_map (λ r. cells_of_row r table.column) rs)) table.column _ first _ last (row - first) _ _
+    all_rows (λ rs. flat_map record_of (flat_map (λ r. cells_of_row r table.column) rs)) table.column _ first _ c.row-row-end.result (c.loop-row.row - first) _ _
     c.first-2.ensures c.row-first.ensures.value c.last.ensures c.row-row-end.ensures.value (omega arith) c.loop-row.invariant.written
 
 pub loop-row-init : goal.loop-row-init

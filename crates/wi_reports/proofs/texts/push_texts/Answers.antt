@@ -17,9 +17,7 @@ loop-column-preserved g c =
 pub returns-clause-texts : goal.returns-clause-texts
 returns-clause-texts g c =
     let first = c.column-first.result in
-    let last = c.column-column-end.result in
-    let column = c.loop-column.column in
-    all_texts (text_under (g.C.Calculator.stored c.args.calculator.now).sheet c.args.put.now) c.args.area c.args.row _ first _ last (column - first) _ _
+    all_texts (text_under (g.C.Calculator.stored c.args.calculator.now).sheet c.args.put.now) c.args.area c.args.row _ first _ c.column-column-end.result (c.loop-column.column - first) _ _
     c.first.ensures c.column-first.ensures.value c.last.ensures c.column-column-end.ensures.value (omega arith) c.loop-column.invariant.texts
 
 pub push_text_under-requires : goal.push_text_under-requires

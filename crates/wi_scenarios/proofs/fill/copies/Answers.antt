@@ -8,12 +8,11 @@ returns-in_err-push_copies c =
     let content = option_copied c.args.content in
     let first = c.row-first.result in
     let end = c.row-row-end.result + 1 in
-    let row = c.loop-row.row in
     let fault = c.in_err-push_copies.field-0.0 in
     at_error _ _ _ c.from_residual.result c.from_residual.ensures.1
     (λ e same. subst (HasNoCopies content c.args.from (cells_of c.args.area)) (sym same)
     (subst (λ cells. HasNoCopies content c.args.from cells fault) (rows_are c.args.area _ first _ c.row-row-end.result (end - first) c.first.ensures c.row-first.ensures.value c.last.ensures c.row-row-end.ensures.value (omega arith))
-    (no_copy_in_rows content c.args.from c.args.area first (end - first) row fault (omega arith) (omega arith) c.in_err-push_copies.ensures)))
+    (no_copy_in_rows content c.args.from c.args.area first (end - first) c.loop-row.row fault (omega arith) (omega arith) c.in_err-push_copies.ensures)))
 
 pub loop-row-preserved : goal.loop-row-preserved
 loop-row-preserved c =
@@ -30,7 +29,6 @@ pub returns : goal.returns
 returns c =
     let content = option_copied c.args.content in
     let first = c.row-first.result in
-    let row = c.loop-row.row in
     subst (λ (cells : List ℕ). AreCopies content c.args.from cells c.loop-row.changes.items)
-    (rows_are c.args.area _ first _ c.row-row-end.result (row - first) c.first.ensures c.row-first.ensures.value c.last.ensures c.row-row-end.ensures.value (omega arith))
+    (rows_are c.args.area _ first _ c.row-row-end.result (c.loop-row.row - first) c.first.ensures c.row-first.ensures.value c.last.ensures c.row-row-end.ensures.value (omega arith))
     c.loop-row.invariant.copied

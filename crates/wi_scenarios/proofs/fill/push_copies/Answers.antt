@@ -8,12 +8,11 @@ returns-in_err-copy c =
     let content = option_copied c.args.content in
     let first = c.column-first.result in
     let end = c.column-column-end.result + 1 in
-    let column = c.loop-column.column in
     let fault = c.in_err-copy.field-0.0 in
     at_error _ _ _ c.from_residual.result c.from_residual.ensures.1
     (λ e same. subst (HasNoCopies content c.args.from (cells_of_row c.args.row c.args.area)) (sym same)
     (subst (λ cells. HasNoCopies content c.args.from cells fault) (row_is c.args.area c.args.row _ first _ c.column-column-end.result (end - first) c.first.ensures c.column-first.ensures.value c.last.ensures c.column-column-end.ensures.value (omega arith))
-    (no_copy_in_row content c.args.from c.args.row first (end - first) column c.at-to.result fault (omega arith) (omega arith) c.at-to.ensures c.in_err-copy.ensures)))
+    (no_copy_in_row content c.args.from c.args.row first (end - first) c.loop-column.column c.at-to.result fault (omega arith) (omega arith) c.at-to.ensures c.in_err-copy.ensures)))
 
 pub loop-column-preserved : goal.loop-column-preserved
 loop-column-preserved c =

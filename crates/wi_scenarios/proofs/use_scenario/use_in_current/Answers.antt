@@ -1,78 +1,39 @@
 use Rattle.wi_scenarios.proofs.Words.{◌∙◌, List, ap, slice_set, option_copied, Session, using_scenario, session_at, vacant_of, State, state_of}
-use Rattle.wi_scenarios.proofs.SwitchedLemmas.{sound_again, adds_none, switched_sound, switched_adds, switched_others, others_none, used_sessions, use_switched}
+use Rattle.wi_scenarios.proofs.SwitchedLemmas.{IsSwitch, made_switched, made_nothing, switched_others, others_none, used_sessions, use_switched}
 use Rattle.wi_scenarios.proofs.use_scenario.use_in_current.Goals as goal
 
-pub returns-in-Ok-clause-state : goal.returns-in-Ok-clause-state
-returns-in-Ok-clause-state g c =
+switched : (g : _) (c : goal.After-take_all g) → IsSwitch g.C.Calculator.marked (g.C.Calculator.stored c.args.calculator.now) c.args.desk.now (record c.make_room_for_current.new.desk { sessions = c.take_all.new.self }) (vacant_of c.make_room_for_current.new.desk.sessions)
+switched g c =
+    let made = c.make_room_for_current.ensures in
+    let used = c.use_scenario.ensures in
+    let took = c.take_all.ensures in
+    use_switched g.C.Calculator.marked (g.C.Calculator.stored c.args.calculator.now) c.args.desk.now c.make_room_for_current.new.desk c.use_scenario.new.self c.take_all.new.self _ (option_copied c.args.name) c.requires.sound
+    made.state made.pending made.others c.in-Ok.ensures.room used.sessions c.requires.named used.pending used.vacant took.sessions took.lists took.pending took.vacant
+
+pub returns-in-Ok-clause-made : goal.returns-in-Ok-clause-made
+returns-in-Ok-clause-made g c =
     let stored = g.C.Calculator.stored c.args.calculator.now in
     let d = c.args.desk.now in
     let r = c.make_room_for_current.new.desk in
     let same = c.make_room_for_current.ensures.state in
-    ap (λ (xs : List Session). record (state_of stored r) { sessions = xs })
+    made_switched _ (switched g c)
+    (ap (λ (xs : List Session). record (state_of stored r) { sessions = xs })
     (used_sessions stored d r c.use_scenario.new.self.sessions c.take_all.new.self.sessions _ (option_copied c.args.name) same c.use_scenario.ensures.sessions c.requires.named c.take_all.ensures.sessions)
-    ∙ ap (λ (s : State). record s { sessions = slice_set d.sessions.sessions d.current (using_scenario (session_at d.sessions d.current) (option_copied c.args.name)) }) same
-
-pub returns-in-Ok-clause-adds : goal.returns-in-Ok-clause-adds
-returns-in-Ok-clause-adds g c =
-    let stored = g.C.Calculator.stored c.args.calculator.now in
-    let d = c.args.desk.now in
-    let r = c.make_room_for_current.new.desk in
-    let made = c.make_room_for_current.ensures in
-    let used = c.use_scenario.ensures in
-    let took = c.take_all.ensures in
-    switched_adds g.C.Calculator.marked stored d (record r { sessions = c.take_all.new.self }) (vacant_of r.sessions)
-    (use_switched g.C.Calculator.marked stored d r c.use_scenario.new.self c.take_all.new.self _ (option_copied c.args.name) c.requires.sound
-    made.state made.pending made.others c.in-Ok.ensures.room used.sessions c.requires.named used.pending used.vacant took.sessions took.lists took.pending took.vacant)
+    ∙ ap (λ (s : State). record s { sessions = slice_set d.sessions.sessions d.current (using_scenario (session_at d.sessions d.current) (option_copied c.args.name)) }) same)
+    c.requires.sound
 
 pub returns-in-Ok-clause-others : goal.returns-in-Ok-clause-others
 returns-in-Ok-clause-others g c =
-    let stored = g.C.Calculator.stored c.args.calculator.now in
-    let d = c.args.desk.now in
-    let r = c.make_room_for_current.new.desk in
-    let made = c.make_room_for_current.ensures in
-    let used = c.use_scenario.ensures in
-    let took = c.take_all.ensures in
-    switched_others g.C.Calculator.marked stored d (record r { sessions = c.take_all.new.self }) (vacant_of r.sessions)
-    (use_switched g.C.Calculator.marked stored d r c.use_scenario.new.self c.take_all.new.self _ (option_copied c.args.name) c.requires.sound
-    made.state made.pending made.others c.in-Ok.ensures.room used.sessions c.requires.named used.pending used.vacant took.sessions took.lists took.pending took.vacant)
-    (λ j n. made.others j n ∙ c.requires.sound.full j)
+    switched_others _ _ _ _ _ (switched g c) (λ j n. c.make_room_for_current.ensures.others j n ∙ c.requires.sound.full j)
 
-pub returns-in-Ok-clause-sound : goal.returns-in-Ok-clause-sound
-returns-in-Ok-clause-sound g c =
+pub returns-in-Err-clause-made : goal.returns-in-Err-clause-made
+returns-in-Err-clause-made g c =
     let stored = g.C.Calculator.stored c.args.calculator.now in
-    let d = c.args.desk.now in
-    let r = c.make_room_for_current.new.desk in
-    let made = c.make_room_for_current.ensures in
-    let used = c.use_scenario.ensures in
-    let took = c.take_all.ensures in
-    switched_sound g.C.Calculator.marked stored d (record r { sessions = c.take_all.new.self }) (vacant_of r.sessions)
-    (use_switched g.C.Calculator.marked stored d r c.use_scenario.new.self c.take_all.new.self _ (option_copied c.args.name) c.requires.sound
-    made.state made.pending made.others c.in-Ok.ensures.room used.sessions c.requires.named used.pending used.vacant took.sessions took.lists took.pending took.vacant)
-    c.requires.sound
-
-pub returns-in-Err-clause-kept : goal.returns-in-Err-clause-kept
-returns-in-Err-clause-kept g c =
-    let stored = g.C.Calculator.stored c.args.calculator.now in
-    ap (λ (xs : List Session). record (state_of stored c.make_room_for_current.new.desk) { sessions = xs }) c.give_back_all.ensures.sessions ∙ c.make_room_for_current.ensures.state
-
-pub returns-in-Err-clause-adds : goal.returns-in-Err-clause-adds
-returns-in-Err-clause-adds g c =
-    let stored = g.C.Calculator.stored c.args.calculator.now in
-    adds_none g.C.Calculator.marked (state_of stored c.args.desk.now) (state_of stored (record c.make_room_for_current.new.desk { sessions = c.give_back_all.new.self }))
-    c.args.desk.now.sessions.pending c.give_back_all.new.self.pending
-    (c.give_back_all.ensures.pending ∙ c.make_room_for_current.ensures.pending)
+    made_nothing _ (record c.make_room_for_current.new.desk { sessions = c.give_back_all.new.self }) c.requires.sound
+    (ap (λ (xs : List Session). record (state_of stored c.make_room_for_current.new.desk) { sessions = xs }) c.give_back_all.ensures.sessions ∙ c.make_room_for_current.ensures.state)
+    (c.give_back_all.ensures.pending ∙ c.make_room_for_current.ensures.pending) c.give_back_all.ensures.vacant
 
 pub returns-in-Err-clause-others : goal.returns-in-Err-clause-others
 returns-in-Err-clause-others g c =
     others_none c.args.desk.now.current c.args.desk.now.sessions.pending c.give_back_all.new.self.pending
     (c.give_back_all.ensures.pending ∙ c.make_room_for_current.ensures.pending)
-
-pub returns-in-Err-clause-refused : goal.returns-in-Err-clause-refused
-returns-in-Err-clause-refused g c = c.give_back_all.ensures.pending ∙ c.make_room_for_current.ensures.pending
-
-pub returns-in-Err-clause-sound : goal.returns-in-Err-clause-sound
-returns-in-Err-clause-sound g c =
-    let stored = g.C.Calculator.stored c.args.calculator.now in
-    sound_again stored c.args.desk.now (record c.make_room_for_current.new.desk { sessions = c.give_back_all.new.self }) c.requires.sound
-    (ap (λ (xs : List Session). record (state_of stored c.make_room_for_current.new.desk) { sessions = xs }) c.give_back_all.ensures.sessions ∙ c.make_room_for_current.ensures.state)
-    (c.give_back_all.ensures.pending ∙ c.make_room_for_current.ensures.pending) c.give_back_all.ensures.vacant

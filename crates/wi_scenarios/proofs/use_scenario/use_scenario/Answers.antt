@@ -1,24 +1,24 @@
-use Rattle.wi_scenarios.proofs.Words.{◌∙◌, [], Ok, refl, sym, ap, option_copied, State, state_of}
-use Rattle.wi_scenarios.proofs.ScenarioLemmas.{lacked, use_done, use_missing}
+use Rattle.wi_scenarios.proofs.Words.{◌∙◌, Err, refl, sym, option_copied, NoScenario, state_of}
+use Rattle.wi_scenarios.proofs.ScenarioLemmas.{nothing_done, lacked_first, lacked_last, done_with, use_done, use_missing}
 use Rattle.wi_scenarios.proofs.use_scenario.use_scenario.Goals as goal
 
-pub returns-then-is_missing-clause-step : goal.returns-then-is_missing-clause-step
-returns-then-is_missing-clause-step g c =
+pub returns-then-is_missing-clause-served : goal.returns-then-is_missing-clause-served
+returns-then-is_missing-clause-served g c =
     let s = state_of (g.C.Calculator.stored c.args.calculator.now) c.args.desk.now in
-    (use_missing s (option_copied c.args.name) (sym c.is_missing.ensures ∙ c.if-is_missing.true), refl, refl)
+    nothing_done (Err NoScenario) c.requires (use_missing s (option_copied c.args.name) (sym c.is_missing.ensures ∙ c.if-is_missing.true), refl, refl)
 
-pub returns-in_err-used-clause-step : goal.returns-in_err-used-clause-step
-returns-in_err-used-clause-step g c =
+pub returns-in_err-used-clause-served : goal.returns-in_err-used-clause-served
+returns-in_err-used-clause-served g c =
     let s = state_of (g.C.Calculator.stored c.args.calculator.now) c.args.desk.now in
-    lacked _ _ c.from_residual.result s s (use_done s (option_copied c.args.name) (sym c.is_missing.ensures ∙ c.if-is_missing.false)) c.from_residual.ensures.1 refl
+    lacked_first _ _ c.from_residual.result c.requires (use_done s (option_copied c.args.name) (sym c.is_missing.ensures ∙ c.if-is_missing.false)) c.from_residual.ensures.1
 
-pub returns-in_err-use_in_current-clause-step : goal.returns-in_err-use_in_current-clause-step
-returns-in_err-use_in_current-clause-step g c =
+pub returns-in_err-use_in_current-clause-served : goal.returns-in_err-use_in_current-clause-served
+returns-in_err-use_in_current-clause-served g c =
     let s = state_of (g.C.Calculator.stored c.args.calculator.now) c.args.desk.now in
-    lacked _ _ c.from_residual-in_err-use_in_current.result s _ (use_done s (option_copied c.args.name) (sym c.is_missing.ensures ∙ c.if-is_missing.false)) c.from_residual-in_err-use_in_current.ensures.1 c.in_err-use_in_current.ensures.kept
+    lacked_last _ _ c.from_residual-in_err-use_in_current.result (use_done s (option_copied c.args.name) (sym c.is_missing.ensures ∙ c.if-is_missing.false))
+    c.from_residual-in_err-use_in_current.ensures.1 c.in_err-use_in_current.ensures.made
 
-pub returns-clause-step : goal.returns-clause-step
-returns-clause-step g c =
+pub returns-clause-served : goal.returns-clause-served
+returns-clause-served g c =
     let s = state_of (g.C.Calculator.stored c.args.calculator.now) c.args.desk.now in
-    use_done s (option_copied c.args.name) (sym c.is_missing.ensures ∙ c.if-is_missing.false)
-    ∙ ap (λ (t : State). Ok (t, [])) (sym c.in_ok-use_in_current.ensures.state)
+    done_with _ _ (use_done s (option_copied c.args.name) (sym c.is_missing.ensures ∙ c.if-is_missing.false)) refl c.in_ok-use_in_current.ensures.made

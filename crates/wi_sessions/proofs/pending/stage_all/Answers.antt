@@ -8,8 +8,14 @@ bits_of-bits-requires c = subst (λ (n : ℕ). n ≤ 64) (sym (c.len.ensures ∙
 pub returns-in_err-note-clause-pending : goal.returns-in_err-note-clause-pending
 returns-in_err-note-clause-pending c = λ i q. refl
 
+pub returns-in_err-stage_each-clause-pending : goal.returns-in_err-stage_each-clause-pending
+returns-in_err-stage_each-clause-pending c = c.in_err-stage_each.ensures.rooms.pending
+
 pub returns-in_err-stage_each-clause-places : goal.returns-in_err-stage_each-clause-places
 returns-in_err-stage_each-clause-places c = c.note.ensures.places
+
+pub returns-clause-pending : goal.returns-clause-pending
+returns-clause-pending c = c.in_ok-stage_each.ensures.rooms.pending
 
 pub returns-clause-places : goal.returns-clause-places
 returns-clause-places c = c.note.ensures.places
@@ -20,4 +26,4 @@ returns-clause-looked c = c.in_ok-note.ensures.looked
 pub returns-clause-room : goal.returns-clause-room
 returns-clause-room c =
     has_made_same c.args.cells.now c.bits_of-bits.result (λ i. nat_lt i (length c.args.unread.now.items)) c.args.words.now.entries c.args.staged.now.items c.stage_each.new.words.entries c.stage_each.new.staged.items
-    (λ i. c.bits_of-bits.ensures i ∙ ap (λ n. nat_lt i n) (c.len.ensures ∙ c.note.new.unread.ok.0 ∙ c.note.ensures.lists)) c.in_ok-stage_each.ensures.room
+    (λ i. c.bits_of-bits.ensures i ∙ ap (λ n. nat_lt i n) (c.len.ensures ∙ c.note.new.unread.ok.0 ∙ c.note.ensures.lists)) c.in_ok-stage_each.ensures.rooms.room

@@ -25,6 +25,5 @@ returns-else-is_vacant-clause-filled g c =
 pub returns-then-is_vacant-clause-kept : goal.returns-then-is_vacant-clause-kept
 returns-then-is_vacant-clause-kept g c =
     let items : c.remove.new.self.items ≡ remove c.args.parts.now.items c.args.place = search rules in
-    let read : c.index.result.now ≡ slice_index_or c.args.parts.now.items c.args.place c.index.result.now = search rules in
     let nothing : (p : ℕ) → slot c.index.result.now.1 p ≡ None = search rules in
-    λ p. ap (λ xs. at_sorted slot xs p) items ∙ sorted_less slot c.args.parts.now.items c.args.place c.index.result.now c.requires.rises c.requires.within read nothing p
+    λ p. ap (λ xs. at_sorted slot xs p) items ∙ sorted_less slot c.args.parts.now.items c.args.place c.index.result.now c.requires.rises c.requires.within (search rules) nothing p

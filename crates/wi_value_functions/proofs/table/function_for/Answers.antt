@@ -7,10 +7,10 @@ returns-in_default-clause-refused c = λ args many. call_unknown c.args.name.now
 
 pub returns-then-is_between-clause-found : goal.returns-then-is_between-clause-found
 returns-then-is_between-clause-found c =
-    let function = function_of c.in-Some.field-0.now in
+    let function = function_of c.in-Some.row.now in
     λ args many. call_taken c.args.name.now args function c.in-Some.ensures.some (ap (has_parameters function) many ∙ sym c.is_between.ensures ∙ c.if-is_between.true)
 
 pub returns-else-is_between-clause-refused : goal.returns-else-is_between-clause-refused
 returns-else-is_between-clause-refused c =
-    let function = function_of c.in-Some.field-0.now in
+    let function = function_of c.in-Some.row.now in
     λ args many. call_refused c.args.name.now args function c.in-Some.ensures.some (ap (has_parameters function) many ∙ sym c.is_between.ensures ∙ c.if-is_between.false)

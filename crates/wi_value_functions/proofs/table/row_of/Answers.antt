@@ -10,7 +10,7 @@ loop-from-preserved-in-Less c =
     let test = c.loop-from-test.true in
     let ascend = rows_ascend function_of rows c.rows-rows.ensures in
     let below = sym c.compare.ensures ∙ c.in-Less.is in
-    (l.invariant.0, behind (λ row. row.0.now) c.args.name.now rows l.from l.to l.invariant.1 ((l.from + l.to) / 2) _ ascend (omega arith) below)
+    (l.invariant.0, behind (λ row. row.name.now) c.args.name.now rows l.from l.to l.invariant.1 ((l.from + l.to) / 2) _ ascend (omega arith) below)
 
 pub loop-from-preserved : goal.loop-from-preserved
 loop-from-preserved c =
@@ -19,7 +19,7 @@ loop-from-preserved c =
     let test = c.loop-from-test.true in
     let ascend = rows_ascend function_of rows c.rows-rows.ensures in
     let above = sym c.compare.ensures ∙ c.in-Greater.is in
-    (omega arith, before (λ row. row.0.now) c.args.name.now rows l.from l.to l.invariant.1 ((l.from + l.to) / 2) _ ascend (omega arith) above)
+    (omega arith, before (λ row. row.name.now) c.args.name.now rows l.from l.to l.invariant.1 ((l.from + l.to) / 2) _ ascend (omega arith) above)
 
 pub returns-in-Equal-clause-some : goal.returns-in-Equal-clause-some
 returns-in-Equal-clause-some c =

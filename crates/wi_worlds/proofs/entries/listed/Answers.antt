@@ -1,4 +1,4 @@
-use Rattle.wi_worlds.proofs.Words.{◌++◌, ◌∙◌, List, ap, err_from_is_err_and, Replacement, as_map, order_from_entries, one_more_taken, all_taken, one_less}
+use Rattle.wi_worlds.proofs.Words.{◌++◌, ◌∙◌, List, ap, IfOk-from_err, Replacement, as_map, order_from_entries, one_more_taken, all_taken, one_less}
 use Rattle.wi_worlds.proofs.entries.listed.Goals as goal
 
 pub loop-at-init : goal.loop-at-init
@@ -13,24 +13,16 @@ pub loop-at-smaller : goal.loop-at-smaller
 loop-at-smaller c = one_less c.loop-at.at-iterator c.next.new.self (c.in-Some.at, c.in-Some.value) c.in-Some.ensures.steps
 
 pub returns-in_err-replacements-clause-value : goal.returns-in_err-replacements-clause-value
-returns-in_err-replacements-clause-value c =
-    let p = err_from_is_err_and c.from_residual.result c.from_residual.ensures.1 in
-    rw p.1 tt
+returns-in_err-replacements-clause-value c = IfOk-from_err c.from_residual.result _ c.from_residual.ensures.0
 
 pub returns-in_err-replacements-clause-order : goal.returns-in_err-replacements-clause-order
-returns-in_err-replacements-clause-order c =
-    let p = err_from_is_err_and c.from_residual.result c.from_residual.ensures.1 in
-    rw p.1 tt
+returns-in_err-replacements-clause-order c = IfOk-from_err c.from_residual.result _ c.from_residual.ensures.0
 
 pub returns-in_err-push-clause-value : goal.returns-in_err-push-clause-value
-returns-in_err-push-clause-value c =
-    let p = err_from_is_err_and c.from_residual-in_err-push.result c.from_residual-in_err-push.ensures.1 in
-    rw p.1 tt
+returns-in_err-push-clause-value c = IfOk-from_err c.from_residual-in_err-push.result _ c.from_residual-in_err-push.ensures.0
 
 pub returns-in_err-push-clause-order : goal.returns-in_err-push-clause-order
-returns-in_err-push-clause-order c =
-    let p = err_from_is_err_and c.from_residual-in_err-push.result c.from_residual-in_err-push.ensures.1 in
-    rw p.1 tt
+returns-in_err-push-clause-order c = IfOk-from_err c.from_residual-in_err-push.result _ c.from_residual-in_err-push.ensures.0
 
 pub returns-clause-value : goal.returns-clause-value
 returns-clause-value c = all_taken _ _ _ c.in-None.ensures.steps.0 c.loop-at.invariant ∙ c.into_iter-at-iterator.ensures.into_iter_gives.0

@@ -23,15 +23,13 @@ returns-in-Some-clause-err c =
 
 pub returns-clause-ok : goal.returns-clause-ok
 returns-clause-ok c =
-    let m = c.get_mut.follows.lender-at-none in
-    told_first c.args.cell c.args.at c.in_ok-cells.cells c.args.reached.now.entries m.entries c.insert-2.new.self.entries
+    told_first c.args.cell c.args.at c.in_ok-cells.cells c.args.reached.now.entries c.get_mut.follows.lender-at-none.entries c.insert-2.new.self.entries
     (ap (λ o. o.entries) c.get_mut.follows.holds-at-none) (sym c.in_default.ensures.value) c.in_ok-cells.ensures c.in_ok-insert.ensures.updates.0
 
 pub returns-in_err-cells-clause-err : goal.returns-in_err-cells-clause-err
 returns-in_err-cells-clause-err c =
-    let m = c.get_mut.follows.lender-at-none in
     let p = err_from_is_err_and c.from_residual.result c.from_residual.ensures.1 in
-    rw p.1 (told_as_before c.args.reached.now.entries m.entries (ap (λ o. o.entries) c.get_mut.follows.holds-at-none))
+    rw p.1 (told_as_before c.args.reached.now.entries c.get_mut.follows.lender-at-none.entries (ap (λ o. o.entries) c.get_mut.follows.holds-at-none))
 
 pub returns-in_err-insert-clause-err : goal.returns-in_err-insert-clause-err
 returns-in_err-insert-clause-err c =

@@ -1,5 +1,5 @@
 use Rattle.wi_worlds.proofs.Words.{Ok, Err}
-use Rattle.wi_worlds.proofs.RisingSteps.{search_tells}
+use Rattle.wi_values.proofs.Listed.{search_tells}
 use Rattle.wi_worlds.proofs.rising.has_next.Goals as goal
 
 pub returns-in-Ok : goal.returns-in-Ok

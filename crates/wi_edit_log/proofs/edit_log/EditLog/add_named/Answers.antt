@@ -1,4 +1,4 @@
-use Rattle.wi_edit_log.proofs.Words.{◌∙◌, List, ap, sym, subst, arith, rules, common_steps, err_from_is_err_and, entries_in, IsKept, Edit}
+use Rattle.wi_edit_log.proofs.Words.{◌∙◌, List, ap, sym, subst, arith, rules, common_steps, err_from_is_err_and, IfOk-from_err, entries_in, IsKept, Edit}
 use Rattle.wi_edit_log.proofs.Notes.{noted_before_more}
 use Rattle.wi_edit_log.proofs.Runs.{runs_of_more}
 use Rattle.wi_edit_log.proofs.edit_log.EditLog.add_named.Goals as goal
@@ -17,9 +17,7 @@ invariant_of-self-2 c =
     })
 
 pub returns-in_err-push_edit-clause-ok : goal.returns-in_err-push_edit-clause-ok
-returns-in_err-push_edit-clause-ok c =
-    let p = err_from_is_err_and c.from_residual.result c.from_residual.ensures.1 in
-    rw p.1 tt
+returns-in_err-push_edit-clause-ok c = IfOk-from_err c.from_residual.result _ c.from_residual.ensures.0
 
 pub returns-in_err-push_edit-clause-err : goal.returns-in_err-push_edit-clause-err
 returns-in_err-push_edit-clause-err c =

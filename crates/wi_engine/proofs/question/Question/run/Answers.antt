@@ -52,8 +52,7 @@ take_in-requires-clause-awaited g c = rw (c.retire-key.ensures, c.replace-in-Som
 
 pub take_in-requires-clause-right : goal.take_in-requires-clause-right
 take_in-requires-clause-right g c =
-    let a = c.in_ok-next.ensures in
-    rw (c.retire-key.ensures, c.replace-in-Some.ensures.value, a.steps.key) (rw c.in-Done.is at a.gives).0.value
+    rw (c.retire-key.ensures, c.replace-in-Some.ensures.value, c.in_ok-next.ensures.steps.key) (rw c.in-Done.is at c.in_ok-next.ensures.gives).0.value
 
 pub frames-smaller : goal.frames-smaller
 frames-smaller g c =
@@ -75,33 +74,27 @@ frames-preserved g c =
 
 pub keep-requires-clause-generation : goal.keep-requires-clause-generation
 keep-requires-clause-generation g c =
-    let a = c.in_ok-next.ensures in
-    rw (c.retire-root.ensures, a.steps.same) (a.steps.frame refl).key.generation
+    rw (c.retire-root.ensures, c.in_ok-next.ensures.steps.same) (c.in_ok-next.ensures.steps.frame refl).key.generation
 
 pub keep-requires-clause-open_cell : goal.keep-requires-clause-open_cell
 keep-requires-clause-open_cell g c =
-    let a = c.in_ok-next.ensures in
-    rw (c.retire-root.ensures, a.steps.same, c.frames.invariant.running.memo.sheet) (a.steps.frame refl).key.open_cell
+    rw (c.retire-root.ensures, c.in_ok-next.ensures.steps.same, c.frames.invariant.running.memo.sheet) (c.in_ok-next.ensures.steps.frame refl).key.open_cell
 
 pub keep-requires-clause-right : goal.keep-requires-clause-right
 keep-requires-clause-right g c =
-    let a = c.in_ok-next.ensures in
-    rw (c.retire-root.ensures, a.steps.key, a.steps.same, c.frames.invariant.running.memo.sheet) (rw c.in-Done.is at a.gives).0.value
+    rw (c.retire-root.ensures, c.in_ok-next.ensures.steps.key, c.in_ok-next.ensures.steps.same, c.frames.invariant.running.memo.sheet) (rw c.in-Done.is at c.in_ok-next.ensures.gives).0.value
 
 pub remember-requires-clause-generation : goal.remember-requires-clause-generation
 remember-requires-clause-generation g c =
-    let a = c.in_ok-next.ensures in
-    rw (c.retire-key.ensures, c.replace-in-Some.ensures.value, a.steps.same) (a.steps.frame refl).key.generation
+    rw (c.retire-key.ensures, c.replace-in-Some.ensures.value, c.in_ok-next.ensures.steps.same) (c.in_ok-next.ensures.steps.frame refl).key.generation
 
 pub remember-requires-clause-open_cell : goal.remember-requires-clause-open_cell
 remember-requires-clause-open_cell g c =
-    let a = c.in_ok-next.ensures in
-    rw (c.retire-key.ensures, c.replace-in-Some.ensures.value, a.steps.same, c.frames.invariant.running.memo.sheet) (a.steps.frame refl).key.open_cell
+    rw (c.retire-key.ensures, c.replace-in-Some.ensures.value, c.in_ok-next.ensures.steps.same, c.frames.invariant.running.memo.sheet) (c.in_ok-next.ensures.steps.frame refl).key.open_cell
 
 pub remember-requires-clause-right : goal.remember-requires-clause-right
 remember-requires-clause-right g c =
-    let a = c.in_ok-next.ensures in
-    rw (c.retire-key.ensures, c.replace-in-Some.ensures.value, a.steps.key, a.steps.same, c.frames.invariant.running.memo.sheet) (rw c.in-Done.is at a.gives).0.value
+    rw (c.retire-key.ensures, c.replace-in-Some.ensures.value, c.in_ok-next.ensures.steps.key, c.in_ok-next.ensures.steps.same, c.frames.invariant.running.memo.sheet) (rw c.in-Done.is at c.in_ok-next.ensures.gives).0.value
 
 -- ---- the end, where the root's value is kept
 
@@ -136,27 +129,19 @@ returns-in-None-clause-settled g c =
 
 pub returns-in_err-next-clause-spends : goal.returns-in_err-next-clause-spends
 returns-in_err-next-clause-spends g c =
-    let a = c.in_err-next.ensures in
-    let i = c.frames.invariant in
-    going_stops i (turn_same i.running.memo a.steps.same (counts_less a.counts)) c.from_residual.result c.from_residual.ensures.0
+    going_stops c.frames.invariant (turn_same c.frames.invariant.running.memo c.in_err-next.ensures.steps.same (counts_less c.in_err-next.ensures.counts)) c.from_residual.result c.from_residual.ensures.0
 
 pub returns-in_err-reserve-in-Unvalued-clause-spends : goal.returns-in_err-reserve-in-Unvalued-clause-spends
 returns-in_err-reserve-in-Unvalued-clause-spends g c =
-    let a = c.in_ok-next.ensures in
-    let i = c.frames.invariant in
-    going_stops i (turn_same i.running.memo a.steps.same a.counts) c.from_residual-in_err-reserve-in-Unvalued.result c.from_residual-in_err-reserve-in-Unvalued.ensures.0
+    going_stops c.frames.invariant (turn_same c.frames.invariant.running.memo c.in_ok-next.ensures.steps.same c.in_ok-next.ensures.counts) c.from_residual-in_err-reserve-in-Unvalued.result c.from_residual-in_err-reserve-in-Unvalued.ensures.0
 
 pub returns-in_err-shown-in-None-clause-spends : goal.returns-in_err-shown-in-None-clause-spends
 returns-in_err-shown-in-None-clause-spends g c =
-    let a = c.in_ok-next.ensures in
-    let i = c.frames.invariant in
-    going_stops i (turn_same i.running.memo a.steps.same a.counts) c.from_residual-in_err-shown-in-None.result c.from_residual-in_err-shown-in-None.ensures.0
+    going_stops c.frames.invariant (turn_same c.frames.invariant.running.memo c.in_ok-next.ensures.steps.same c.in_ok-next.ensures.counts) c.from_residual-in_err-shown-in-None.result c.from_residual-in_err-shown-in-None.ensures.0
 
 pub returns-in_err-take_in-in-Some-clause-spends : goal.returns-in_err-take_in-in-Some-clause-spends
 returns-in_err-take_in-in-Some-clause-spends g c =
-    let a = c.in_ok-next.ensures in
-    let i = c.frames.invariant in
-    going_stops i (turn_same i.running.memo a.steps.same a.counts) c.from_residual-in_err-take_in-in-Some.result c.from_residual-in_err-take_in-in-Some.ensures.0
+    going_stops c.frames.invariant (turn_same c.frames.invariant.running.memo c.in_ok-next.ensures.steps.same c.in_ok-next.ensures.counts) c.from_residual-in_err-take_in-in-Some.result c.from_residual-in_err-take_in-in-Some.ensures.0
 
 pub returns-in_err-remember-in-Some-clause-spends : goal.returns-in_err-remember-in-Some-clause-spends
 returns-in_err-remember-in-Some-clause-spends g c =

@@ -6,14 +6,12 @@ use Rattle.wi_engine.proofs.walk.Walk.go_on.Goals as goal
 
 pub returns-in_ok-push-in-Some-clause-cycle : goal.returns-in_ok-push-in-Some-clause-cycle
 returns-in_ok-push-in-Some-clause-cycle c =
-    let s = c.args.store.now.sheet in
-    let tasks = path-on s c.args.self.now.path.items c.push.new.self.items c.args.visit _ _ c.in-Some.ensures.some c.in-Some.ensures.same c.in_ok-push-in-Some.ensures.items in
+    let tasks = path-on c.args.store.now.sheet c.args.self.now.path.items c.push.new.self.items c.args.visit _ _ c.in-Some.ensures.some c.in-Some.ensures.same c.in_ok-push-in-Some.ensures.items in
     rw tasks c.enter.ensures.cycle
 
 pub returns-in_ok-push-in-Some-clause-walk : goal.returns-in_ok-push-in-Some-clause-walk
 returns-in_ok-push-in-Some-clause-walk c =
-    let s = c.args.store.now.sheet in
-    let tasks = path-on s c.args.self.now.path.items c.push.new.self.items c.args.visit _ _ c.in-Some.ensures.some c.in-Some.ensures.same c.in_ok-push-in-Some.ensures.items in
+    let tasks = path-on c.args.store.now.sheet c.args.self.now.path.items c.push.new.self.items c.args.visit _ _ c.in-Some.ensures.some c.in-Some.ensures.same c.in_ok-push-in-Some.ensures.items in
     rw tasks c.enter.ensures.walk
 
 pub returns-in_ok-leave-in-None-clause-walk : goal.returns-in_ok-leave-in-None-clause-walk

@@ -9,9 +9,8 @@ pub returns-then-not-take_separator-clause-finds : goal.returns-then-not-take_se
 returns-then-not-take_separator-clause-finds g c =
     let l = c.loop-symbols in
     let open_still = c.loop-symbols-test.ensures.no in
-    let none = c.if-not-take_separator.ensures.no in
     l.invariant.2 ∙ ap (put_before l.found.items)
-    (more_fail (expression c.args.self.now.depth) l.invariant.0 l.symbols open_still.0 (ap after_separator (sym open_still.1) ∙ none.0))
+    (more_fail (expression c.args.self.now.depth) l.invariant.0 l.symbols open_still.0 (ap after_separator (sym open_still.1) ∙ c.if-not-take_separator.ensures.no.0))
 
 pub returns-in_err-inner-clause-finds : goal.returns-in_err-inner-clause-finds
 returns-in_err-inner-clause-finds g c =

@@ -19,14 +19,12 @@ pub returns-clause-same : goal.returns-clause-same
 returns-clause-same c =
     let i = c.self.inside in
     let gs = told i.store.now.sheet i.generations.now.named in
-    let held = c.deref_mut-held.result.now in
     let view = ap (λ (x : Held). keeping i.store.now.sheet i.store.now.edits gs x.given_up.entries x.kept) c.deref_mut-held.ensures.value ∙ c.self.view_is in
-    ap state_in (ap (λ (es : Entries). keeping i.store.now.sheet i.store.now.edits gs es held.kept) c.catch_up.ensures ∙ view)
+    ap state_in (ap (λ (es : Entries). keeping i.store.now.sheet i.store.now.edits gs es c.deref_mut-held.result.now.kept) c.catch_up.ensures ∙ view)
 
 pub returns-in_err-catch_up-clause-same : goal.returns-in_err-catch_up-clause-same
 returns-in_err-catch_up-clause-same c =
     let i = c.self.inside in
     let gs = told i.store.now.sheet i.generations.now.named in
-    let held = c.deref_mut-held.result.now in
     let view = ap (λ (x : Held). keeping i.store.now.sheet i.store.now.edits gs x.given_up.entries x.kept) c.deref_mut-held.ensures.value ∙ c.self.view_is in
-    ap state_in (ap (λ (es : Entries). keeping i.store.now.sheet i.store.now.edits gs es held.kept) c.catch_up.ensures ∙ view)
+    ap state_in (ap (λ (es : Entries). keeping i.store.now.sheet i.store.now.edits gs es c.deref_mut-held.result.now.kept) c.catch_up.ensures ∙ view)

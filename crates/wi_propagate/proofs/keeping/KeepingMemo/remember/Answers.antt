@@ -1,5 +1,5 @@
 use Rattle.wi_propagate.proofs.Words.{◌≡◌, ◌≤◌, ℕ, true, List, length, is_some, subst, rules, Replacement, Keeps, HasFound, Keeping, key_in, state_in, value_in, OnOk}
-use Rattle.wi_propagate.proofs.PutAside.{keeps_by, found_by, stays_by}
+use Rattle.wi_propagate.proofs.PutAside.{remembers_by, found_by}
 use Rattle.wi_propagate.proofs.keeping.KeepingMemo.remember.Goals as goal
 
 pub returns-then-branch-clause-keeps : goal.returns-then-branch-clause-keeps
@@ -16,7 +16,7 @@ pub returns-clause-keeps : goal.returns-clause-keeps
 returns-clause-keeps c =
     let same = c.in_ok-has_place.ensures.same in
     let e = c.put_aside.ensures in
-    keeps_by c.put_aside.result c.args.self.now c.put_aside.new.self c.args.key c.args.value (rw same at e.puts) (rw same at e.same) (rw same at e.err)
+    (remembers_by c.put_aside.result c.args.self.now c.put_aside.new.self c.args.key c.args.value (rw same at e.puts) (rw same at e.same) (rw same at e.err)).keeps
 
 pub returns-clause-found : goal.returns-clause-found
 returns-clause-found c =
@@ -29,4 +29,4 @@ pub returns-clause-stays : goal.returns-clause-stays
 returns-clause-stays c =
     let same = c.in_ok-has_place.ensures.same in
     let e = c.put_aside.ensures in
-    stays_by c.put_aside.result c.args.self.now c.put_aside.new.self c.args.key c.args.value (rw same at e.puts) (rw same at e.same) (rw same at e.err)
+    (remembers_by c.put_aside.result c.args.self.now c.put_aside.new.self c.args.key c.args.value (rw same at e.puts) (rw same at e.same) (rw same at e.err)).stays

@@ -1,7 +1,7 @@
-use Rattle.wi_propagate.proofs.Words.{is_ok, ◌≡◌, ◌∙◌, inl, IfOk, OnOk, false, true, refl, ap, sym, subst, IfOk-weaker, Sheet, circular, shown, case_of, reaching, demanded, HasCase, demands_itself, different_closed, shown_circular, shown_value, KeptSheet, generation_in, IsAtHand, is_kept, AreAllCones, told, noted_in, Owes}
-use Rattle.wi_propagate.proofs.NotedSteps.{all_noted, settled_up}
+use Rattle.wi_propagate.proofs.Words.{is_ok, ◌≡◌, ◌∙◌, inl, inr, IfOk, OnOk, List, false, true, refl, ap, sym, subst, IfOk-weaker, Replacement, content_of, has_formula, put_all, circular, shown, case_of, reaching, demanded, HasCase, demands_itself, different_closed, shown_circular, shown_value, KeptSheet, generation_in, IsAtHand, is_kept, told, noted_in, Owes}
+use Rattle.wi_propagate.proofs.NotedSteps.{all_noted}
 use Rattle.wi_propagate.proofs.SettlingSteps.{owed_over}
-use Rattle.wi_propagate.proofs.Questions.{begins, begun_right, may_be_read, right_then, asked_kept, at_hand_is, owes_none, owes_settled, owes_spent, settled_view, settled_right}
+use Rattle.wi_propagate.proofs.Questions.{begins, begun_right, may_be_read, asked_kept, at_hand_is, owes_none, owes_settled, owes_spent, settled_view, settled_right, holds_asked, holds_settled}
 use Rattle.wi_propagate.proofs.kept.KeptCalculator.value_of.Goals as goal
 
 pub returns-then-is_circular-clause-value : goal.returns-then-is_circular-clause-value
@@ -14,15 +14,41 @@ returns-then-is_circular-clause-kept c =
     let is : circular c.self.inside.store.sheet c.args.at ≡ true = sym (c.is_circular.ensures c.self.inside.store.sheet c.self.invariant.1) ∙ c.if-is_circular.true in
     λ h. absurd (h (inl (ap (λ (k : KeptSheet). circular k.stored.sheet c.args.at) (sym c.self.view_is) ∙ is)))
 
-pub standing_value-requires-clause-open_cell : goal.standing_value-requires-clause-open_cell
-standing_value-requires-clause-open_cell c = sym (c.is_circular.ensures c.self.inside.store.sheet c.self.invariant.1) ∙ c.if-is_circular.false
+-- ---- what no formula gives
+
+pub returns-in-Value-clause-value : goal.returns-in-Value-clause-value
+returns-in-Value-clause-value c =
+    let s = c.self.inside.store.sheet in
+    let o : circular s c.args.at ≡ false = sym (c.is_circular.ensures s c.self.invariant.1) ∙ c.if-is_circular.false in
+    let there = rw c.in-Value.is at c.in_ok-value.ensures in
+    subst (λ (x : KeptSheet). c.in-Value.value ≡ shown x.stored.sheet c.args.put.now c.args.at) c.self.view_is
+    (shown_value s c.args.put.now c.args.put.now c.args.at c.in-Value.value o refl there.0)
+
+pub returns-in-Value-clause-easy : goal.returns-in-Value-clause-easy
+returns-in-Value-clause-easy c = λ h. refl
+
+pub returns-in-Value-clause-owes : goal.returns-in-Value-clause-owes
+returns-in-Value-clause-owes c = owes_none c.args.self.now _ _
+
+pub returns-in-Value-clause-kept : goal.returns-in-Value-clause-kept
+returns-in-Value-clause-kept c =
+    let there = rw c.in-Value.is at c.in_ok-value.ensures in
+    let none = ap (λ (k : KeptSheet). has_formula (content_of (put_all k.stored.sheet c.args.put.now) c.args.at)) (sym c.self.view_is) ∙ there.1 in
+    λ h. absurd (h (inr (inl none)))
+
+-- ---- what a formula gives
+
+pub formula_value-result-requires-clause-formula : goal.formula_value-result-requires-clause-formula
+formula_value-result-requires-clause-formula c =
+    let there = rw c.in-Formula.is at c.in_ok-value.ensures in
+    ap (λ (p : List Replacement). content_of (put_all c.self.inside.store.sheet p) c.args.at) c.in_ok-world.ensures ∙ there
 
 pub new-memo-requires-clause-right : goal.new-memo-requires-clause-right
 new-memo-requires-clause-right c =
     begun_right c.self.inside.store (told c.self.inside.store.sheet c.settle.new.self.named) c.self.inside.held c.self.inside.meter _ c.take_held-held.ensures.values (settled_right {s = c.self.inside.store} c.in_ok-settle.ensures.named c.self.inside.held c.self.inside.meter c.self.invariant.3)
 
-pub value-result-requires-clause-read : goal.value-result-requires-clause-read
-value-result-requires-clause-read c =
+pub formula_value-result-requires-clause-read : goal.formula_value-result-requires-clause-read
+formula_value-result-requires-clause-read c =
     let i = c.self.inside in
     let o : circular i.store.sheet c.args.at ≡ false = sym (c.is_circular.ensures i.store.sheet c.self.invariant.1) ∙ c.if-is_circular.false in
     let q = begins i.store (told i.store.sheet c.settle.new.self.named) i.held i.meter _ c.new-memo.result c.take_held-held.ensures.values c.new-memo.ensures.value c.new-memo.ensures.placed in
@@ -31,23 +57,18 @@ value-result-requires-clause-read c =
 pub invariant_of-self-2 : goal.invariant_of-self-2
 invariant_of-self-2 c =
     let i = c.self.inside in
-    let q = begins i.store (told i.store.sheet c.settle.new.self.named) i.held i.meter _ c.new-memo.result c.take_held-held.ensures.values c.new-memo.ensures.value c.new-memo.ensures.placed in
-    let e = c.value-result.ensures in
-    let h = c.self.invariant in (
-      refl,
-      h.1,
-      h.2,
-      right_then q c.value-result.new.self.memo c.into_held.result.value.kept c.value-result.new.self.meter e.spends.same c.into_held.ensures.kept e.spends.right.sheet (settled_right {s = i.store} c.in_ok-settle.ensures.named i.held i.meter c.self.invariant.3) c.into_held.ensures.right,
-      subst (λ (x : Sheet). AreAllCones x c.into_held.result.value.cones) e.spends.right.sheet c.into_held.ensures.cones,
-      settled_up i.store.sheet i.store.edits i.generations c.settle.new.self c.in_ok-settle.ensures.named (c.in_ok-settle.ensures.owed i.store.sheet h.1) h.5,
-    )
+    let e = c.formula_value-result.ensures in
+    holds_asked i.held i.graph i.store c.settle.new.self i.meter c.formula_value-result.new.self.meter c.new-memo.result c.formula_value-result.new.self.memo c.into_held.result
+    (begins i.store (told i.store.sheet c.settle.new.self.named) i.held i.meter _ c.new-memo.result c.take_held-held.ensures.values c.new-memo.ensures.value c.new-memo.ensures.placed)
+    e.spends.same c.into_held.ensures.kept e.spends.right.sheet c.into_held.ensures.right c.into_held.ensures.cones
+    (holds_settled i.held i.graph i.store i.generations c.settle.new.self i.meter c.in_ok-settle.ensures.named (c.in_ok-settle.ensures.owed i.store.sheet c.self.invariant.1) c.self.invariant)
 
 pub returns-clause-value : goal.returns-clause-value
 returns-clause-value c =
     let i = c.self.inside in
     let o : circular i.store.sheet c.args.at ≡ false = sym (c.is_circular.ensures i.store.sheet c.self.invariant.1) ∙ c.if-is_circular.false in
-    subst (λ (x : KeptSheet). IfOk c.value-result.result (λ v. v ≡ shown x.stored.sheet c.args.put.now c.args.at)) c.self.view_is
-    (IfOk-weaker c.value-result.result _ _ (λ v e. shown_value i.store.sheet c.in_ok-world.world c.args.put.now c.args.at v o c.in_ok-world.ensures e) c.value-result.ensures.value)
+    subst (λ (x : KeptSheet). IfOk c.formula_value-result.result (λ v. v ≡ shown x.stored.sheet c.args.put.now c.args.at)) c.self.view_is
+    (IfOk-weaker c.formula_value-result.result _ _ (λ v e. shown_value i.store.sheet c.in_ok-world.world c.args.put.now c.args.at v o c.in_ok-world.ensures e) c.formula_value-result.ensures.value)
 
 pub returns-clause-easy : goal.returns-clause-easy
 returns-clause-easy c =
@@ -55,8 +76,8 @@ returns-clause-easy c =
     let view = settled_view {s = i.store} c.in_ok-settle.ensures.named i.held i.meter c.args.self.now c.self.view_is in
     let o : circular i.store.sheet c.args.at ≡ false = sym (c.is_circular.ensures i.store.sheet c.self.invariant.1) ∙ c.if-is_circular.false in
     let q = begins i.store (told i.store.sheet c.settle.new.self.named) i.held i.meter _ c.new-memo.result c.take_held-held.ensures.values c.new-memo.ensures.value c.new-memo.ensures.placed in
-    subst (λ (x : KeptSheet). IsAtHand x c.args.put.now c.args.at → c.value-result.new.self.meter ≡ x.counts) view
-    (λ h. c.value-result.ensures.uncounted (at_hand_is q c.in_ok-world.world c.args.put.now c.args.at o c.in_ok-world.ensures h))
+    subst (λ (x : KeptSheet). IsAtHand x c.args.put.now c.args.at → c.formula_value-result.new.self.meter ≡ x.counts) view
+    (λ h. c.formula_value-result.ensures.uncounted (at_hand_is q c.in_ok-world.world c.args.put.now c.args.at o c.in_ok-world.ensures h))
 
 pub returns-clause-kept : goal.returns-clause-kept
 returns-clause-kept c =
@@ -64,10 +85,10 @@ returns-clause-kept c =
     let view = settled_view {s = i.store} c.in_ok-settle.ensures.named i.held i.meter c.args.self.now c.self.view_is in
     let o : circular i.store.sheet c.args.at ≡ false = sym (c.is_circular.ensures i.store.sheet c.self.invariant.1) ∙ c.if-is_circular.false in
     let q = begins i.store (told i.store.sheet c.settle.new.self.named) i.held i.meter _ c.new-memo.result c.take_held-held.ensures.values c.new-memo.ensures.value c.new-memo.ensures.placed in
-    let new : KeptSheet = record { stored = i.store; generations = told i.store.sheet c.settle.new.self.named; values = c.into_held.result.value.kept; counts = c.value-result.new.self.meter } in
-    let e = c.value-result.ensures in
-    subst (λ (x : KeptSheet). OnOk c.value-result.result ((IsAtHand x c.args.put.now c.args.at → ⊥) → is_kept new c.args.at (reaching x.stored.sheet c.args.at c.args.put.now) ≡ true)) view
-    (IfOk-weaker c.value-result.result _ _ (λ v h. asked_kept q c.in_ok-world.world c.args.put.now c.args.at o c.in_ok-world.ensures c.value-result.new.self.memo c.into_held.result.value.kept c.value-result.new.self.meter
+    let new : KeptSheet = record { stored = i.store; generations = told i.store.sheet c.settle.new.self.named; values = c.into_held.result.value.kept; counts = c.formula_value-result.new.self.meter } in
+    let e = c.formula_value-result.ensures in
+    subst (λ (x : KeptSheet). OnOk c.formula_value-result.result ((IsAtHand x c.args.put.now c.args.at → ⊥) → is_kept new c.args.at (reaching x.stored.sheet c.args.at c.args.put.now) ≡ true)) view
+    (IfOk-weaker c.formula_value-result.result _ _ (λ v h. asked_kept q c.in_ok-world.world c.args.put.now c.args.at o c.in_ok-world.ensures c.formula_value-result.new.self.memo c.into_held.result.value.kept c.formula_value-result.new.self.meter
     e.spends.same c.into_held.ensures.kept c.self.invariant.3.room h) e.kept)
 
 pub new-memo-requires-clause-cones : goal.new-memo-requires-clause-cones
@@ -79,23 +100,17 @@ returns-then-is_circular-clause-easy c = λ h. refl
 pub returns-in_err-value-clause-easy : goal.returns-in_err-value-clause-easy
 returns-in_err-value-clause-easy c = λ h. refl
 
-pub returns-in-Some-clause-easy : goal.returns-in-Some-clause-easy
-returns-in-Some-clause-easy c = λ h. refl
-
 pub returns-in_err-world-clause-easy : goal.returns-in_err-world-clause-easy
 returns-in_err-world-clause-easy c = λ h. refl
 
-pub value-result-requires-clause-memo : goal.value-result-requires-clause-memo
-value-result-requires-clause-memo c = c.new-memo.ensures.memo
+pub formula_value-result-requires-clause-memo : goal.formula_value-result-requires-clause-memo
+formula_value-result-requires-clause-memo c = c.new-memo.ensures.memo
 
 pub returns-then-is_circular-clause-owes : goal.returns-then-is_circular-clause-owes
 returns-then-is_circular-clause-owes c = owes_none c.args.self.now _ _
 
 pub returns-in_err-value-clause-owes : goal.returns-in_err-value-clause-owes
 returns-in_err-value-clause-owes c = owes_none c.args.self.now _ _
-
-pub returns-in-Some-clause-owes : goal.returns-in-Some-clause-owes
-returns-in-Some-clause-owes c = owes_none c.args.self.now _ _
 
 pub returns-in_err-world-clause-owes : goal.returns-in_err-world-clause-owes
 returns-in_err-world-clause-owes c = owes_none c.args.self.now _ _
@@ -109,9 +124,9 @@ returns-clause-owes c =
     let has = demands_itself i.store.sheet c.in_ok-world.world c.args.put.now c.args.at o c.in_ok-world.ensures in
     let closed = different_closed i.store.sheet (case_of i.store.sheet c.args.put.now c.args.at) in
     let Has = HasCase i.store.sheet c.in_ok-world.world c.args.at in
-    let new : KeptSheet = record { stored = i.store; generations = told i.store.sheet c.settle.new.self.named; values = c.into_held.result.value.kept; counts = c.value-result.new.self.meter } in
-    subst (λ (x : KeptSheet). Owes x new (demanded x.stored.sheet c.args.put.now c.args.at) (is_ok c.value-result.result)) view
-    (owes_spent q c.value-result.new.self.memo c.into_held.result.value.kept c.value-result.new.self.meter c.into_held.ensures.kept c.into_held.ensures.within Has (demanded i.store.sheet c.args.put.now c.args.at) closed has _ c.value-result.ensures.spends)
+    let new : KeptSheet = record { stored = i.store; generations = told i.store.sheet c.settle.new.self.named; values = c.into_held.result.value.kept; counts = c.formula_value-result.new.self.meter } in
+    subst (λ (x : KeptSheet). Owes x new (demanded x.stored.sheet c.args.put.now c.args.at) (is_ok c.formula_value-result.result)) view
+    (owes_spent q c.formula_value-result.new.self.memo c.into_held.result.value.kept c.formula_value-result.new.self.meter c.into_held.ensures.kept c.into_held.ensures.within Has (demanded i.store.sheet c.args.put.now c.args.at) closed has _ c.formula_value-result.ensures.spends)
 
 pub settle-requires-clause-owed : goal.settle-requires-clause-owed
 settle-requires-clause-owed c =
@@ -131,11 +146,4 @@ returns-in_err-settle-clause-easy c = λ h. ap (λ (k : KeptSheet). k.counts) c.
 pub invariant_of-self : goal.invariant_of-self
 invariant_of-self c =
     let i = c.self.inside in
-    let h = c.self.invariant in (
-      h.0,
-      h.1,
-      h.2,
-      settled_right {s = i.store} c.settle.ensures.named i.held i.meter h.3,
-      h.4,
-      settled_up i.store.sheet i.store.edits i.generations c.settle.new.self c.settle.ensures.named (c.settle.ensures.owed i.store.sheet h.1) h.5,
-    )
+    holds_settled i.held i.graph i.store i.generations c.settle.new.self i.meter c.settle.ensures.named (c.settle.ensures.owed i.store.sheet c.self.invariant.1) c.self.invariant

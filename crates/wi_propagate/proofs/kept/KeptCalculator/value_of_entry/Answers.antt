@@ -1,7 +1,7 @@
-use Rattle.wi_propagate.proofs.Words.{is_ok, get_or, ◌≡◌, All, IfOk, OnOk, false, ℕ, List, refl, ap, subst, IfOk-weaker, Sheet, circular, HasEntry, table_entry, entry_demanded, IsWhatIfSettled, table_closed, entry_has, entry_shown, KeptSheet, generation_in, HasRoomFor, is_kept, AreAllCones, told, noted_in, state_in, Owes}
-use Rattle.wi_propagate.proofs.NotedSteps.{all_noted, settled_up}
+use Rattle.wi_propagate.proofs.Words.{is_ok, get_or, ◌≡◌, All, IfOk, OnOk, false, ℕ, List, ap, subst, IfOk-weaker, circular, HasEntry, table_entry, entry_demanded, IsWhatIfSettled, table_closed, entry_has, entry_shown, KeptSheet, generation_in, HasRoomFor, is_kept, told, noted_in, state_in, Owes}
+use Rattle.wi_propagate.proofs.NotedSteps.{all_noted}
 use Rattle.wi_propagate.proofs.SettlingSteps.{owed_over}
-use Rattle.wi_propagate.proofs.Questions.{begins, begun_right, may_be_read, right_then, asked_where, asked_settled, circular_entry, circular_clash, open_cells, owes_none, owes_settled, owes_spent, settled_view, settled_right}
+use Rattle.wi_propagate.proofs.Questions.{begins, begun_right, may_be_read, asked_where, asked_settled, circular_entry, circular_clash, open_cells, owes_none, owes_settled, owes_spent, settled_view, settled_right, holds_asked, holds_settled}
 use Rattle.wi_propagate.proofs.kept.KeptCalculator.value_of_entry.Goals as goal
 
 pub returns-then-entry_is_circular-clause-value : goal.returns-then-entry_is_circular-clause-value
@@ -35,21 +35,15 @@ open_entry-result-requires-clause-replacing c =
 pub invariant_of-self-2 : goal.invariant_of-self-2
 invariant_of-self-2 c =
     let i = c.self.inside in
-    let q = begins i.store (told i.store.sheet c.settle.new.self.named) i.held i.meter _ c.new-memo.result c.take_held-held.ensures.values c.new-memo.ensures.value c.new-memo.ensures.placed in
     let e = c.open_entry-result.ensures in
-    let h = c.self.invariant in (
-      refl,
-      h.1,
-      h.2,
-      right_then q c.open_entry-result.new.question.memo c.into_held.result.value.kept c.open_entry-result.new.question.meter e.spends.same c.into_held.ensures.kept e.spends.right.sheet (settled_right {s = i.store} c.in_ok-settle.ensures.named i.held i.meter c.self.invariant.3) c.into_held.ensures.right,
-      subst (λ (x : Sheet). AreAllCones x c.into_held.result.value.cones) e.spends.right.sheet c.into_held.ensures.cones,
-      settled_up i.store.sheet i.store.edits i.generations c.settle.new.self c.in_ok-settle.ensures.named (c.in_ok-settle.ensures.owed i.store.sheet h.1) h.5,
-    )
+    holds_asked i.held i.graph i.store c.settle.new.self i.meter c.open_entry-result.new.question.meter c.new-memo.result c.open_entry-result.new.question.memo c.into_held.result
+    (begins i.store (told i.store.sheet c.settle.new.self.named) i.held i.meter _ c.new-memo.result c.take_held-held.ensures.values c.new-memo.ensures.value c.new-memo.ensures.placed)
+    e.spends.same c.into_held.ensures.kept e.spends.right.sheet c.into_held.ensures.right c.into_held.ensures.cones
+    (holds_settled i.held i.graph i.store i.generations c.settle.new.self i.meter c.in_ok-settle.ensures.named (c.in_ok-settle.ensures.owed i.store.sheet c.self.invariant.1) c.self.invariant)
 
 pub returns-clause-value : goal.returns-clause-value
 returns-clause-value c =
-    let i = c.self.inside in
-    let s = i.store.sheet in
+    let s = c.self.inside.store.sheet in
     let o = open_cells s c.args.formula_cell c.args.pairs.now c.entry_is_circular.result (c.entry_is_circular.ensures s c.self.invariant.1) c.if-entry_is_circular.false in
     subst (λ (x : KeptSheet). IfOk c.open_entry-result.result (λ v. v ≡ table_entry x.stored.sheet c.args.put.now c.args.formula_cell c.args.pairs.now)) c.self.view_is
     (IfOk-weaker c.open_entry-result.result _ _ (λ v e. entry_shown s c.in_ok-world.world c.args.put.now c.args.formula_cell c.args.pairs.now v o c.in_ok-world.ensures c.requires e) c.open_entry-result.ensures.value)
@@ -115,11 +109,4 @@ returns-in_err-settle-clause-owes c =
 pub invariant_of-self : goal.invariant_of-self
 invariant_of-self c =
     let i = c.self.inside in
-    let h = c.self.invariant in (
-      h.0,
-      h.1,
-      h.2,
-      settled_right {s = i.store} c.settle.ensures.named i.held i.meter h.3,
-      h.4,
-      settled_up i.store.sheet i.store.edits i.generations c.settle.new.self c.settle.ensures.named (c.settle.ensures.owed i.store.sheet h.1) h.5,
-    )
+    holds_settled i.held i.graph i.store i.generations c.settle.new.self i.meter c.settle.ensures.named (c.settle.ensures.owed i.store.sheet c.self.invariant.1) c.self.invariant

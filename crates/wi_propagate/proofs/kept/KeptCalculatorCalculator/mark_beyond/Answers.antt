@@ -9,11 +9,10 @@ cone_beyond-requires-clause-closed g c =
 
 pub returns-clause-exact : goal.returns-clause-exact
 returns-clause-exact g c =
-    let s = c.self.inside.store.sheet in
     let w = g.W.Watch.watched c.args.watch.now in
     let whole : IfOk c.cone_beyond.result (λ found. (d : ℕ) → is_one_of found.items d ≡ (in_cone c.args.self.now.stored.sheet c.args.cells.now d && not (w d))) =
     subst (λ (k : KeptSheet). IfOk c.cone_beyond.result (λ found. (d : ℕ) → is_one_of found.items d ≡ (in_cone k.stored.sheet c.args.cells.now d && not (w d)))) c.self.view_is
-    (IfOk-weaker c.cone_beyond.result _ _ (λ v h. h s c.self.invariant.1) c.cone_beyond.ensures.cells) in
+    (IfOk-weaker c.cone_beyond.result _ _ (λ v h. h c.self.inside.store.sheet c.self.invariant.1) c.cone_beyond.ensures.cells) in
     search whole
 
 pub returns-clause-marked : goal.returns-clause-marked

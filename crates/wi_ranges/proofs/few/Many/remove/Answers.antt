@@ -27,7 +27,6 @@ returns-in-Some-place_of-clause-less c =
 pub returns-in-None-place_of-clause-none : goal.returns-in-None-place_of-clause-none
 returns-in-None-place_of-clause-none c =
     let cell = c.args.cell in
-    let first = c.self.inside.first in
     let old = c.self.inside.others.items in
     let none : None ≡ position (λ y. y == cell) old = c.in-None-place_of.ensures.value ∙ ap (λ (xs : List ℕ). position (λ y. y == cell) xs) c.deref.ensures.value in
-    λ f. subst (λ (xs : List ℕ). is_one_of xs cell ≡ false) c.self.view_is (not_there first cell old (sym c.eq.ensures ∙ c.if-eq.false) (place_none old cell None none refl))
+    λ f. subst (λ (xs : List ℕ). is_one_of xs cell ≡ false) c.self.view_is (not_there c.self.inside.first cell old (sym c.eq.ensures ∙ c.if-eq.false) (place_none old cell None none refl))

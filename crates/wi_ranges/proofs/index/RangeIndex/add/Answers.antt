@@ -17,10 +17,8 @@ invariant_of-self-2 c =
     let p = pair_for c.args.area c.args.reader in
     let bag = bag_of c.self.inside.pieces.keys in
     let new = bag_of c.add_pair.new.pieces.keys in
-    let more : HasOneMore p bag new = search rules in
-    let own = c.with_area.ensures.area in
-    let others = c.with_area.ensures.others in
-    (c.add_pair.ensures.whole, around_more p bag new c.self.inside.around (Some c.with_area.result) more c.self.invariant.1 own others)
+    let more : HasOneMore p bag new = search (rules, c.in_ok-add_pair.ensures.more) in
+    (c.in_ok-add_pair.ensures.whole, around_more p bag new c.self.inside.around (Some c.with_area.result) more c.self.invariant.1 c.with_area.ensures.area c.with_area.ensures.others)
 
 pub returns-clause-ok : goal.returns-clause-ok
 returns-clause-ok c =
@@ -28,6 +26,6 @@ returns-clause-ok c =
     let singles = c.self.inside.singles in
     let bag = bag_of c.self.inside.pieces.keys in
     let new = bag_of c.add_pair.new.pieces.keys in
-    let more : HasOneMore p bag new = search rules in
+    let more : HasOneMore p bag new = search (rules, c.in_ok-add_pair.ensures.more) in
     subst (λ (ps : List RangePair). HasOneMore p c.args.self.now (with_pairs ps new)) (sym (c.in_ok-add.ensures.same c.if-branch.false))
     (subst (λ (b : Bag). HasOneMore p b (with_pairs singles new)) c.self.view_is (more_in_bag p singles bag new more))

@@ -11,14 +11,13 @@ returns-then-has_readers c =
 
 pub returns-then-not-has_cell : goal.returns-then-not-has_cell
 returns-then-not-has_cell c =
-    let singles = c.self.inside.singles in
     let bag = bag_of c.self.inside.pieces.keys in
     let around = c.self.inside.around in
     let a = c.args.at in
     let apart : has_cell around a ≡ false = search rules in (
       λ t. absurd (true≢false (sym t)),
       λ h. absurd (⊎_elim (λ e. true≢false (sym (c.has_readers.ensures.1 (h.0, e)) ∙ c.if-has_readers.false)) (λ e. true≢false (sym e ∙ apart))
-          (or_cases _ _ (reader_in_either singles bag a h.0 (has_cell around a) (λ g. c.self.invariant.1 g.0 a g.2 g.3)
+          (or_cases _ _ (reader_in_either c.self.inside.singles bag a h.0 (has_cell around a) (λ g. c.self.invariant.1 g.0 a g.2 g.3)
           (subst (λ (b : Bag). IsReader b a h.0) (sym c.self.view_is) h.1)))),
     )
 

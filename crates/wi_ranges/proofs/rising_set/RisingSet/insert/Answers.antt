@@ -1,4 +1,4 @@
-use Rattle.wi_ranges.proofs.Words.{◌∙◌, ℕ, List, ap, sym, subst, not, err_from_is_err_and, BTreeSet, IsStrictlyIncreasing, on_err, is_one_of, as_set, ends_before, StandApart}
+use Rattle.wi_ranges.proofs.Words.{◌∙◌, ℕ, List, ap, sym, subst, not, IfOk-from_err, BTreeSet, IsStrictlyIncreasing, on_err, is_one_of, as_set, ends_before, StandApart}
 use Rattle.wi_ranges.proofs.RisingLemmas.{apart_more, new_behind, apart_still, has_more, same_rising, same_others, has_behind, has_already, has_no_more, new_among_others}
 use Rattle.wi_ranges.proofs.rising_set.RisingSet.insert.Goals as goal
 
@@ -6,14 +6,10 @@ pub invariant_of-self : goal.invariant_of-self
 invariant_of-self c = subst (λ (xs : List ℕ). StandApart xs c.self.inside.others) (sym c.in_err-push.ensures.items) c.self.invariant
 
 pub returns-in_err-push-clause-added : goal.returns-in_err-push-clause-added
-returns-in_err-push-clause-added c =
-    let p = err_from_is_err_and c.from_residual.result c.from_residual.ensures.1 in
-    rw p.1 tt
+returns-in_err-push-clause-added c = IfOk-from_err c.from_residual.result _ c.from_residual.ensures.0
 
 pub returns-in_err-push-clause-has : goal.returns-in_err-push-clause-has
-returns-in_err-push-clause-has c =
-    let p = err_from_is_err_and c.from_residual.result c.from_residual.ensures.1 in
-    rw p.1 tt
+returns-in_err-push-clause-has c = IfOk-from_err c.from_residual.result _ c.from_residual.ensures.0
 
 pub returns-in_err-push-clause-err : goal.returns-in_err-push-clause-err
 returns-in_err-push-clause-err c =
@@ -50,14 +46,10 @@ pub invariant_of-self-in_err-insert : goal.invariant_of-self-in_err-insert
 invariant_of-self-in_err-insert c = subst (λ (ks : List ℕ). StandApart c.self.inside.rising.items (as_set ks)) (sym c.in_err-insert.ensures.err) c.self.invariant
 
 pub returns-in_err-insert-clause-added : goal.returns-in_err-insert-clause-added
-returns-in_err-insert-clause-added c =
-    let p = err_from_is_err_and c.from_residual-in_err-insert.result c.from_residual-in_err-insert.ensures.1 in
-    rw p.1 tt
+returns-in_err-insert-clause-added c = IfOk-from_err c.from_residual-in_err-insert.result _ c.from_residual-in_err-insert.ensures.0
 
 pub returns-in_err-insert-clause-has : goal.returns-in_err-insert-clause-has
-returns-in_err-insert-clause-has c =
-    let p = err_from_is_err_and c.from_residual-in_err-insert.result c.from_residual-in_err-insert.ensures.1 in
-    rw p.1 tt
+returns-in_err-insert-clause-has c = IfOk-from_err c.from_residual-in_err-insert.result _ c.from_residual-in_err-insert.ensures.0
 
 pub returns-in_err-insert-clause-err : goal.returns-in_err-insert-clause-err
 returns-in_err-insert-clause-err c =

@@ -7,8 +7,7 @@ use Rattle.wi_sessions.proofs.pending.Pending.all_have.Goals as goal
 pub returns-in-Some : goal.returns-in-Some
 returns-in-Some c =
     let words = c.self.inside.words.entries in
-    let staged = c.self.inside.staged.items in
-    each_has words staged c.self.inside.changed.items c.self.inside.unread.items c.args.at c.without-word.result c.bits_of.result (length c.self.inside.unread.items) c.are_alike.result
+    each_has words c.self.inside.staged.items c.self.inside.changed.items c.self.inside.unread.items c.args.at c.without-word.result c.bits_of.result (length c.self.inside.unread.items) c.are_alike.result
     refl c.self.invariant
     (λ j. c.without-word.ensures j ∙ ap (λ b. b && not (has_bit j c.staged_of.result)) (ap (λ (o : Option ℕ). has_bit j (unwrap_or o 0)) (sym c.in-Some.is ∙ c.found.ensures))
     ∙ ap (λ b. is_in words j c.args.at && not b) (c.staged_of.ensures j)

@@ -1,6 +1,6 @@
-use Rattle.wi_sessions.proofs.Words.{◌<◌, ◌||◌, ◌&&◌, ◌∙◌, ℕ, not, map, length, refl, ap, arith, rules, length-set, range_with_len, is_one_of, AllPending, list_at, cells_in, vacant_in}
+use Rattle.wi_sessions.proofs.Words.{◌<◌, length, refl, arith, rules, length-set, AreKept}
 use Rattle.wi_sessions.proofs.PlaceLemmas.{kept_at, place_noted, place_read, places_set}
-use Rattle.wi_sessions.proofs.PendingLemmas.{dropped_elsewhere, dropped_here, dropped_kept, dropped_pending, kept_here, pending_same, room_elsewhere, room_here, within_unread}
+use Rattle.wi_sessions.proofs.PendingLemmas.{dropped_kept, kept_here, more_room, no_room, within_unread}
 use Rattle.wi_sessions.proofs.pending.Pending.make_room.Goals as goal
 
 pub stage_own-requires : goal.stage_own-requires
@@ -16,115 +16,50 @@ index_mut-requires c =
     let l = within_unread c.self.inside.words.entries c.self.inside.staged.items (length c.self.inside.unread.items) c.args.i c.args.self.now c.self.view_is c.requires in
     omega (arith, l, c.self.inside.unread.ok.0)
 
-pub returns-in-Ok-clause-lists : goal.returns-in-Ok-clause-lists
-returns-in-Ok-clause-lists c =
-    let us = c.self.inside.unread.items in
-    let words = c.self.inside.words.entries in
-    let staged = c.self.inside.staged.items in
-    let more = c.stage_own.new.words.entries in
-    let rooms = c.stage_own.new.staged.items in
-    ap (λ (m : ℕ). map (cells_in more rooms) (range_with_len 0 m)) (length-set us c.args.i c.stage_own.new.own)
-    ∙ pending_same words staged more rooms (length us) c.self.invariant.order c.stage_own.ensures.order c.stage_own.ensures.pending ∙ ap (λ (p : AllPending). p.pending) c.self.view_is
+-- ---- room was made
 
-pub returns-in-Ok-clause-room : goal.returns-in-Ok-clause-room
-returns-in-Ok-clause-room c =
-    let us = c.self.inside.unread.items in
-    let words = c.self.inside.words.entries in
-    let staged = c.self.inside.staged.items in
-    let more = c.stage_own.new.words.entries in
-    let rooms = c.stage_own.new.staged.items in
-    let l : c.args.i < length c.self.inside.unread.items = within_unread words staged (length us) c.args.i c.args.self.now c.self.view_is c.requires in
-    λ q. ap (λ (m : ℕ). is_one_of (list_at (map (vacant_in more rooms) (range_with_len 0 m)) c.args.i) q) (length-set us c.args.i c.stage_own.new.own)
-    ∙ room_here words staged more rooms c.args.i (length us) c.bit_of-bit.result c.args.cells.now c.self.invariant.order c.stage_own.ensures.order l c.bit_of-bit.ensures c.in-Ok.ensures.room q
-    ∙ ap (λ (p : AllPending). is_one_of (list_at p.vacant c.args.i) q || (is_one_of c.args.cells.now q && not (is_one_of (list_at p.pending c.args.i) q))) c.self.view_is
-
-pub returns-in-Ok-clause-others : goal.returns-in-Ok-clause-others
-returns-in-Ok-clause-others c =
-    let us = c.self.inside.unread.items in
-    let words = c.self.inside.words.entries in
-    let staged = c.self.inside.staged.items in
-    let more = c.stage_own.new.words.entries in
-    let rooms = c.stage_own.new.staged.items in
-    let l : c.args.i < length c.self.inside.unread.items = within_unread words staged (length us) c.args.i c.args.self.now c.self.view_is c.requires in
-    λ j apart. ap (λ (m : ℕ). list_at (map (vacant_in more rooms) (range_with_len 0 m)) j) (length-set us c.args.i c.stage_own.new.own)
-    ∙ room_elsewhere words staged more rooms c.args.i (length us) c.bit_of-bit.result c.args.cells.now c.self.invariant.order c.stage_own.ensures.order l c.bit_of-bit.ensures c.in-Ok.ensures.room j apart
-    ∙ ap (λ (p : AllPending). list_at p.vacant j) c.self.view_is
+pub returns-in-Ok : goal.returns-in-Ok
+returns-in-Ok c =
+    let i = c.self.inside in
+    let n = length i.unread.items in
+    let l : c.args.i < n = within_unread i.words.entries i.staged.items n c.args.i c.args.self.now c.self.view_is c.requires in
+    let made = c.in-Ok.ensures.rooms in
+    more_room i.words.entries i.staged.items c.stage_own.new.words.entries c.stage_own.new.staged.items c.args.i n c.bit_of-bit.result c.args.cells.now c.self.invariant.order c.stage_own.ensures.order l c.bit_of-bit.ensures made.room
+    c.args.self.now _ c.self.view_is (length-set i.unread.items c.args.i c.stage_own.new.own) made.pending
 
 pub invariant_of-self : goal.invariant_of-self
 invariant_of-self c =
-    let us = c.self.inside.unread.items in
-    let words = c.self.inside.words.entries in
-    let staged = c.self.inside.staged.items in
-    let more = c.stage_own.new.words.entries in
-    let rooms = c.stage_own.new.staged.items in
-    let l : c.args.i < length c.self.inside.unread.items = within_unread words staged (length us) c.args.i c.args.self.now c.self.view_is c.requires in
-    let u = c.index_mut.result.now in
+    let i = c.self.inside in
+    let us = i.unread.items in
+    let l : c.args.i < length us = within_unread i.words.entries i.staged.items (length us) c.args.i c.args.self.now c.self.view_is c.requires in
     let k = c.self.invariant in
-    kept_here words staged more rooms c.args.i (length us) c.bit_of-bit.result c.args.cells.now k.order c.stage_own.ensures.order l c.bit_of-bit.ensures c.in-Ok.ensures.room
-    c.self.inside.changed.items us c.stage_own.new.own refl k
-    (place_noted words c.self.inside.changed.items c.args.i u c.stage_own.new.own (place_read words c.self.inside.changed.items us c.args.i u k.places l c.index_mut.ensures.value)
-    c.stage_own.ensures.from (c.stage_own.ensures.stay c.self.inside.changed.items))
-    (c.in-Ok.ensures.own c.self.inside.changed.items)
+    kept_here i.words.entries i.staged.items c.stage_own.new.words.entries c.stage_own.new.staged.items c.args.i (length us) c.bit_of-bit.result c.args.cells.now k.order c.stage_own.ensures.order l c.bit_of-bit.ensures
+    c.in-Ok.ensures.rooms.room i.changed.items us c.stage_own.new.own refl k
+    (place_noted i.words.entries i.changed.items c.args.i c.index_mut.result.now c.stage_own.new.own (place_read i.words.entries i.changed.items us c.args.i c.index_mut.result.now k.places l c.index_mut.ensures.value)
+    c.stage_own.ensures.from (c.stage_own.ensures.stay i.changed.items))
+    (c.in-Ok.ensures.own i.changed.items)
 
-pub returns-in-Err-clause-lists : goal.returns-in-Err-clause-lists
-returns-in-Err-clause-lists c =
-    let us = c.self.inside.unread.items in
-    let words = c.self.inside.words.entries in
-    let staged = c.self.inside.staged.items in
-    let more = c.stage_own.new.words.entries in
-    let rooms = c.stage_own.new.staged.items in
-    let l : c.args.i < length c.self.inside.unread.items = within_unread words staged (length us) c.args.i c.args.self.now c.self.view_is c.requires in
-    let less = c.drop_rooms.new.words.entries in
-    ap (λ (m : ℕ). map (cells_in less rooms) (range_with_len 0 m)) (length-set us c.args.i c.stage_own.new.own)
-    ∙ pending_same words staged less rooms (length us) c.self.invariant.order c.drop_rooms.ensures.order
-    (dropped_pending words staged more rooms less c.args.i (length us) c.bit_of-bit.result c.self.invariant.order c.drop_rooms.ensures.order l c.bit_of-bit.ensures c.stage_own.ensures.pending c.stage_own.ensures.others
-    (search rules)) ∙ ap (λ (p : AllPending). p.pending) c.self.view_is
+-- ---- memory ran out
 
-pub returns-in-Err-clause-refused : goal.returns-in-Err-clause-refused
-returns-in-Err-clause-refused c =
-    let us = c.self.inside.unread.items in
-    let words = c.self.inside.words.entries in
-    let staged = c.self.inside.staged.items in
-    let more = c.stage_own.new.words.entries in
-    let rooms = c.stage_own.new.staged.items in
-    let l : c.args.i < length c.self.inside.unread.items = within_unread words staged (length us) c.args.i c.args.self.now c.self.view_is c.requires in
-    let less = c.drop_rooms.new.words.entries in
-    ap (λ (m : ℕ). list_at (map (vacant_in less rooms) (range_with_len 0 m)) c.args.i) (length-set us c.args.i c.stage_own.new.own)
-    ∙ dropped_here words staged more rooms less c.args.i (length us) c.bit_of-bit.result c.self.invariant.order c.drop_rooms.ensures.order l c.bit_of-bit.ensures c.stage_own.ensures.pending c.stage_own.ensures.others (search rules)
-
-pub returns-in-Err-clause-others : goal.returns-in-Err-clause-others
-returns-in-Err-clause-others c =
-    let us = c.self.inside.unread.items in
-    let words = c.self.inside.words.entries in
-    let staged = c.self.inside.staged.items in
-    let more = c.stage_own.new.words.entries in
-    let rooms = c.stage_own.new.staged.items in
-    let l : c.args.i < length c.self.inside.unread.items = within_unread words staged (length us) c.args.i c.args.self.now c.self.view_is c.requires in
-    let less = c.drop_rooms.new.words.entries in
-    λ j apart. ap (λ (m : ℕ). list_at (map (vacant_in less rooms) (range_with_len 0 m)) j) (length-set us c.args.i c.stage_own.new.own)
-    ∙ dropped_elsewhere words staged more rooms less c.args.i (length us) c.bit_of-bit.result c.self.invariant.order c.drop_rooms.ensures.order l c.bit_of-bit.ensures c.stage_own.ensures.pending c.stage_own.ensures.others (search rules) j apart
-    ∙ ap (λ (p : AllPending). list_at p.vacant j) c.self.view_is
+pub returns-in-Err : goal.returns-in-Err
+returns-in-Err c =
+    let i = c.self.inside in
+    let n = length i.unread.items in
+    let l : c.args.i < n = within_unread i.words.entries i.staged.items n c.args.i c.args.self.now c.self.view_is c.requires in
+    let part = c.in-Err.ensures.rooms in
+    no_room i.words.entries i.staged.items c.stage_own.new.words.entries c.stage_own.new.staged.items c.drop_rooms.new.words.entries c.args.i n c.bit_of-bit.result c.self.invariant.order c.drop_rooms.ensures.order l c.bit_of-bit.ensures
+    part.pending part.others (search rules) c.args.cells.now c.args.self.now _ c.self.view_is (length-set i.unread.items c.args.i c.stage_own.new.own)
 
 pub invariant_of-self-in-Err : goal.invariant_of-self-in-Err
 invariant_of-self-in-Err c =
-    let us = c.self.inside.unread.items in
-    let words = c.self.inside.words.entries in
-    let staged = c.self.inside.staged.items in
-    let more = c.stage_own.new.words.entries in
-    let rooms = c.stage_own.new.staged.items in
-    let l : c.args.i < length c.self.inside.unread.items = within_unread words staged (length us) c.args.i c.args.self.now c.self.view_is c.requires in
+    let i = c.self.inside in
+    let us = i.unread.items in
     let less = c.drop_rooms.new.words.entries in
-    let u = c.index_mut.result.now in
-    let k = c.self.invariant in
-    kept_at less rooms c.self.inside.changed.items us
-    (dropped_kept words staged more rooms less c.args.i (length us) c.bit_of-bit.result k.order c.drop_rooms.ensures.order l c.bit_of-bit.ensures c.stage_own.ensures.pending c.stage_own.ensures.others (search rules)
-    c.self.inside.changed.items us refl k)
-    c.self.inside.changed.items _ (length-set us c.args.i c.stage_own.new.own)
-    (places_set less c.self.inside.changed.items us c.args.i c.stage_own.new.own l
-    (dropped_kept words staged more rooms less c.args.i (length us) c.bit_of-bit.result k.order c.drop_rooms.ensures.order l c.bit_of-bit.ensures c.stage_own.ensures.pending c.stage_own.ensures.others (search rules)
-    c.self.inside.changed.items us refl k).places
-    (place_noted less c.self.inside.changed.items c.args.i u c.stage_own.new.own
-    (place_read less c.self.inside.changed.items us c.args.i u
-    (dropped_kept words staged more rooms less c.args.i (length us) c.bit_of-bit.result k.order c.drop_rooms.ensures.order l c.bit_of-bit.ensures c.stage_own.ensures.pending c.stage_own.ensures.others (search rules)
-    c.self.inside.changed.items us refl k).places l c.index_mut.ensures.value)
-    c.stage_own.ensures.from (c.stage_own.ensures.stay c.self.inside.changed.items)))
+    let rooms = c.stage_own.new.staged.items in
+    let l : c.args.i < length us = within_unread i.words.entries i.staged.items (length us) c.args.i c.args.self.now c.self.view_is c.requires in
+    let part = c.in-Err.ensures.rooms in
+    let k : AreKept less rooms i.changed.items us = dropped_kept i.words.entries i.staged.items c.stage_own.new.words.entries rooms less c.args.i (length us) c.bit_of-bit.result c.self.invariant.order c.drop_rooms.ensures.order l c.bit_of-bit.ensures part.pending part.others (search rules) i.changed.items us refl c.self.invariant in
+    kept_at less rooms i.changed.items us k i.changed.items _ (length-set us c.args.i c.stage_own.new.own)
+    (places_set less i.changed.items us c.args.i c.stage_own.new.own l k.places
+    (place_noted less i.changed.items c.args.i c.index_mut.result.now c.stage_own.new.own (place_read less i.changed.items us c.args.i c.index_mut.result.now k.places l c.index_mut.ensures.value)
+    c.stage_own.ensures.from (c.stage_own.ensures.stay i.changed.items)))

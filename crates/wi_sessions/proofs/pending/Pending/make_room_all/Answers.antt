@@ -10,70 +10,60 @@ stage_all-requires-clause-order c = c.self.invariant.order
 pub stage_all-requires-clause-few : goal.stage_all-requires-clause-few
 stage_all-requires-clause-few c = c.self.invariant.few
 
-pub returns-in-Ok-clause-pending : goal.returns-in-Ok-clause-pending
-returns-in-Ok-clause-pending c =
-    let words = c.self.inside.words.entries in
-    let staged = c.self.inside.staged.items in
-    let n = length c.self.inside.unread.items in
-    let more = c.stage_all.new.words.entries in
-    let rooms = c.stage_all.new.staged.items in
-    let k = c.self.invariant in
-    ap (λ (m : ℕ). map (cells_in more rooms) (range_with_len 0 m)) c.stage_all.ensures.lists
-    ∙ pending_same words staged more rooms n k.order c.stage_all.ensures.order c.stage_all.ensures.pending ∙ ap (λ (p : AllPending). p.pending) c.self.view_is
+-- ---- room was made
 
-pub returns-in-Ok-clause-room : goal.returns-in-Ok-clause-room
-returns-in-Ok-clause-room c =
-    let words = c.self.inside.words.entries in
-    let staged = c.self.inside.staged.items in
-    let n = length c.self.inside.unread.items in
+pub returns-in-Ok : goal.returns-in-Ok
+returns-in-Ok c =
+    let i = c.self.inside in
+    let n = length i.unread.items in
     let more = c.stage_all.new.words.entries in
     let rooms = c.stage_all.new.staged.items in
-    let k = c.self.invariant in
-    λ i q l. ap (λ (m : ℕ). is_one_of (list_at (map (vacant_in more rooms) (range_with_len 0 m)) i) q) c.stage_all.ensures.lists
-    ∙ room_each words staged more rooms n c.args.cells.now k.order c.stage_all.ensures.order c.in-Ok.ensures.room i q (within_unread words staged n i c.args.self.now c.self.view_is l)
-    ∙ ap (λ (p : AllPending). is_one_of (list_at p.vacant i) q || (is_one_of c.args.cells.now q && not (is_one_of (list_at p.pending i) q))) c.self.view_is
+    let e = c.stage_all.ensures in
+    record {
+      pending = ap (λ (m : ℕ). map (cells_in more rooms) (range_with_len 0 m)) e.lists
+          ∙ pending_same i.words.entries i.staged.items more rooms n c.self.invariant.order e.order e.pending ∙ ap (λ (p : AllPending). p.pending) c.self.view_is;
+      room = λ j q l. ap (λ (m : ℕ). is_one_of (list_at (map (vacant_in more rooms) (range_with_len 0 m)) j) q) e.lists
+          ∙ room_each i.words.entries i.staged.items more rooms n c.args.cells.now c.self.invariant.order e.order c.in-Ok.ensures.room j q (within_unread i.words.entries i.staged.items n j c.args.self.now c.self.view_is l)
+          ∙ ap (λ (p : AllPending). is_one_of (list_at p.vacant j) q || (is_one_of c.args.cells.now q && not (is_one_of (list_at p.pending j) q))) c.self.view_is;
+      refused = tt;
+    }
 
 pub invariant_of-self : goal.invariant_of-self
 invariant_of-self c =
-    let words = c.self.inside.words.entries in
-    let staged = c.self.inside.staged.items in
-    let n = length c.self.inside.unread.items in
-    let more = c.stage_all.new.words.entries in
-    let rooms = c.stage_all.new.staged.items in
+    let i = c.self.inside in
+    let new = c.stage_all.new in
+    let e = c.stage_all.ensures in
     let k = c.self.invariant in
-    kept_each words staged more rooms n c.args.cells.now k.order c.stage_all.ensures.order c.in-Ok.ensures.room c.stage_all.new.changed.items c.stage_all.new.unread.items c.stage_all.ensures.lists
-    (kept_at words staged c.self.inside.changed.items c.self.inside.unread.items k c.stage_all.new.changed.items c.stage_all.new.unread.items c.stage_all.ensures.lists (c.stage_all.ensures.places words k.places))
-    (c.in-Ok.ensures.looked words k.places)
+    kept_each i.words.entries i.staged.items new.words.entries new.staged.items (length i.unread.items) c.args.cells.now k.order e.order c.in-Ok.ensures.room new.changed.items new.unread.items e.lists
+    (kept_at i.words.entries i.staged.items i.changed.items i.unread.items k new.changed.items new.unread.items e.lists (e.places i.words.entries k.places))
+    (c.in-Ok.ensures.looked i.words.entries k.places)
+
+-- ---- memory ran out
 
 pub give_back-requires : goal.give_back-requires
 give_back-requires c = c.stage_all.ensures.order
 
-pub returns-in-Err-clause-pending : goal.returns-in-Err-clause-pending
-returns-in-Err-clause-pending c =
-    let words = c.self.inside.words.entries in
-    let staged = c.self.inside.staged.items in
-    let n = length c.self.inside.unread.items in
-    let more = c.stage_all.new.words.entries in
-    let rooms = c.stage_all.new.staged.items in
-    let k = c.self.invariant in
+pub returns-in-Err : goal.returns-in-Err
+returns-in-Err c =
+    let i = c.self.inside in
     let less = c.give_back.new.words.entries in
     let none = c.give_back.new.staged.items in
-    ap (λ (m : ℕ). map (cells_in less none) (range_with_len 0 m)) c.stage_all.ensures.lists
-    ∙ pending_same words staged less none n k.order c.give_back.ensures.order (pending_then words staged more rooms less none c.stage_all.ensures.pending c.give_back.ensures.pending)
-    ∙ ap (λ (p : AllPending). p.pending) c.self.view_is
-
-pub returns-in-Err-clause-refused : goal.returns-in-Err-clause-refused
-returns-in-Err-clause-refused c = λ j. rooms_gone c.give_back.new.words.entries c.give_back.new.staged.items (length c.stage_all.new.unread.items) j c.give_back.ensures.none
+    record {
+      pending = ap (λ (m : ℕ). map (cells_in less none) (range_with_len 0 m)) c.stage_all.ensures.lists
+          ∙ pending_same i.words.entries i.staged.items less none (length i.unread.items) c.self.invariant.order c.give_back.ensures.order
+          (pending_then i.words.entries i.staged.items c.stage_all.new.words.entries c.stage_all.new.staged.items less none c.stage_all.ensures.pending c.give_back.ensures.pending)
+          ∙ ap (λ (p : AllPending). p.pending) c.self.view_is;
+      room = tt;
+      refused = λ j. rooms_gone less none (length c.stage_all.new.unread.items) j c.give_back.ensures.none;
+    }
 
 pub invariant_of-self-in-Err : goal.invariant_of-self-in-Err
 invariant_of-self-in-Err c =
-    let words = c.self.inside.words.entries in
-    let staged = c.self.inside.staged.items in
-    let n = length c.self.inside.unread.items in
-    let more = c.stage_all.new.words.entries in
-    let rooms = c.stage_all.new.staged.items in
-    let k = c.self.invariant in
-    kept_given words staged c.stage_all.new.changed.items c.stage_all.new.unread.items
-    (kept_at words staged c.self.inside.changed.items c.self.inside.unread.items k c.stage_all.new.changed.items c.stage_all.new.unread.items c.stage_all.ensures.lists (c.stage_all.ensures.places words k.places))
-    c.give_back.new.words.entries c.give_back.new.staged.items c.give_back.ensures.order
-    (pending_then words staged more rooms c.give_back.new.words.entries c.give_back.new.staged.items c.stage_all.ensures.pending c.give_back.ensures.pending) c.give_back.ensures.none
+    let i = c.self.inside in
+    let mid = c.stage_all.new in
+    let new = c.give_back.new in
+    let e = c.stage_all.ensures in
+    kept_given i.words.entries i.staged.items mid.changed.items mid.unread.items
+    (kept_at i.words.entries i.staged.items i.changed.items i.unread.items c.self.invariant mid.changed.items mid.unread.items e.lists (e.places i.words.entries c.self.invariant.places))
+    new.words.entries new.staged.items c.give_back.ensures.order
+    (pending_then i.words.entries i.staged.items mid.words.entries mid.staged.items new.words.entries new.staged.items e.pending c.give_back.ensures.pending) c.give_back.ensures.none

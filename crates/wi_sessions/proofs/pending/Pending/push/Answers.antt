@@ -1,5 +1,5 @@
-use Rattle.wi_sessions.proofs.Words.{◌≡◌, ◌+◌, ◌++◌, ◌∷◌, ◌∙◌, ℕ, List, [], map, length, refl, ap, sym, subst, arith, rules, common_steps, length-append, range_with_len, on_err, AllPending, Unread, cells_in, vacant_in, pending_in, AreKept}
-use Rattle.wi_sessions.proofs.PendingLemmas.{pushed_cells, pushed_kept, pushed_pending, pushed_vacant, refused_kept, refused_same}
+use Rattle.wi_sessions.proofs.Words.{◌≡◌, ◌++◌, ◌∷◌, ◌∙◌, List, [], length, refl, ap, sym, subst, arith, rules, common_steps, on_err, Unread, cells_in, pending_in, AreKept}
+use Rattle.wi_sessions.proofs.PendingLemmas.{HasOneMore, one_more, refused_kept, refused_same}
 use Rattle.wi_sessions.proofs.pending.Pending.push.Goals as goal
 
 pub bit_of-requires : goal.bit_of-requires
@@ -28,37 +28,23 @@ returns-in_err-put_in-clause-refused c =
     ∙ refused_same c.self.inside.words.entries c.self.inside.staged.items c.put_in.new.words.entries c.self.invariant.order c.put_in.ensures.order c.in_err-put_in.ensures.refused (length c.self.inside.unread.items)
     ∙ c.self.view_is)
 
+-- the session comes last
+pushed : (c : goal.After-unwrap) → HasOneMore c.args.self.now c.put_in.new.words.entries c.self.inside.staged.items c.self.inside.changed.items c.push.new.self.items (cells_in c.put_in.new.words.entries c.self.inside.staged.items (length c.self.inside.unread.items)) c.args.cells.now
+pushed c =
+    let i = c.self.inside in
+    let us = i.unread.items in
+    let last : c.push.new.self.items ≡ us ++ c.in_ok-unread.unread ∷ [] = grind (arith, common_steps) in
+    one_more i.words.entries i.staged.items c.put_in.new.words.entries i.changed.items us c.in_ok-unread.unread (length us) c.bit_of.result c.args.cells.now refl c.self.invariant c.put_in.ensures.order (search rules)
+    (search rules) c.in_ok-put_in.ensures.put c.args.self.now c.push.new.self.items c.self.view_is last (search rules) (c.in_ok-unread.ensures.own i.changed.items)
+
 pub returns-clause-pending : goal.returns-clause-pending
-returns-clause-pending c =
-    let words = c.self.inside.words.entries in
-    let staged = c.self.inside.staged.items in
-    let changed = c.self.inside.changed.items in
-    let n = length c.self.inside.unread.items in
-    let more = c.put_in.new.words.entries in
-    let pushed : c.push.new.self.items ≡ c.self.inside.unread.items ++ c.in_ok-unread.unread ∷ [] = grind (arith, common_steps) in
-    let long : length c.push.new.self.items ≡ length c.self.inside.unread.items + 1 = ap (λ (vs : List Unread). length vs) pushed ∙ length-append c.self.inside.unread.items (c.in_ok-unread.unread ∷ []) in (
-      cells_in more staged n,
-      ap (λ (m : ℕ). map (cells_in more staged) (range_with_len 0 m)) long
-          ∙ pushed_pending words staged more changed c.self.inside.unread.items c.in_ok-unread.unread n c.bit_of.result c.args.cells.now refl c.self.invariant c.put_in.ensures.order (search rules)
-          (search rules) c.in_ok-put_in.ensures.put
-          ∙ ap (λ (p : AllPending). p.pending ++ cells_in more staged n ∷ []) c.self.view_is,
-      pushed_cells words staged more changed c.self.inside.unread.items c.in_ok-unread.unread n c.bit_of.result c.args.cells.now refl c.self.invariant c.put_in.ensures.order (search rules)
-          (search rules) c.in_ok-put_in.ensures.put,
-    )
+returns-clause-pending c = (cells_in c.put_in.new.words.entries c.self.inside.staged.items (length c.self.inside.unread.items), (pushed c).pending, (pushed c).same)
 
 pub returns-clause-vacant : goal.returns-clause-vacant
-returns-clause-vacant c =
-    let words = c.self.inside.words.entries in
-    let staged = c.self.inside.staged.items in
-    let changed = c.self.inside.changed.items in
-    let n = length c.self.inside.unread.items in
-    let more = c.put_in.new.words.entries in
-    let pushed : c.push.new.self.items ≡ c.self.inside.unread.items ++ c.in_ok-unread.unread ∷ [] = grind (arith, common_steps) in
-    let long : length c.push.new.self.items ≡ length c.self.inside.unread.items + 1 = ap (λ (vs : List Unread). length vs) pushed ∙ length-append c.self.inside.unread.items (c.in_ok-unread.unread ∷ []) in
-    ap (λ (m : ℕ). map (vacant_in more staged) (range_with_len 0 m)) long
-    ∙ pushed_vacant words staged more changed c.self.inside.unread.items c.in_ok-unread.unread n c.bit_of.result c.args.cells.now refl c.self.invariant c.put_in.ensures.order (search rules)
-    (search rules) c.in_ok-put_in.ensures.put
-    ∙ ap (λ (p : AllPending). p.vacant ++ [] ∷ []) c.self.view_is
+returns-clause-vacant c = (pushed c).vacant
+
+pub invariant_of-self-2 : goal.invariant_of-self-2
+invariant_of-self-2 c = (pushed c).kept
 
 pub invariant_of-self : goal.invariant_of-self
 invariant_of-self c =
@@ -73,15 +59,3 @@ invariant_of-self-in_err-put_in c =
     subst (λ (us : List Unread). AreKept c.put_in.new.words.entries c.self.inside.staged.items c.self.inside.changed.items us) (sym c.reserve.ensures.items)
     (refused_kept c.self.inside.words.entries c.self.inside.staged.items c.put_in.new.words.entries c.self.invariant.order c.put_in.ensures.order c.in_err-put_in.ensures.refused
     c.self.inside.changed.items c.self.inside.unread.items c.self.invariant)
-
-pub invariant_of-self-2 : goal.invariant_of-self-2
-invariant_of-self-2 c =
-    let words = c.self.inside.words.entries in
-    let staged = c.self.inside.staged.items in
-    let changed = c.self.inside.changed.items in
-    let n = length c.self.inside.unread.items in
-    let more = c.put_in.new.words.entries in
-    let pushed : c.push.new.self.items ≡ c.self.inside.unread.items ++ c.in_ok-unread.unread ∷ [] = grind (arith, common_steps) in
-    subst (λ (vs : List Unread). AreKept more staged changed vs) (sym pushed)
-    (pushed_kept words staged more changed c.self.inside.unread.items c.in_ok-unread.unread n c.bit_of.result c.args.cells.now refl c.self.invariant c.put_in.ensures.order (search rules)
-    (search rules) c.in_ok-put_in.ensures.put (search rules) (c.in_ok-unread.ensures.own changed))

@@ -7,9 +7,8 @@ use Rattle.wi_tiles.proofs.sorted.BandPlaces.put_new.Goals as goal
 
 pub returns-in-Ok-clause-new : goal.returns-in-Ok-clause-new
 returns-in-Ok-clause-new g c =
-    let read : c.index_mut.result.now ≡ slice_index_or c.self.inside.parts.items c.in-Ok.place c.index_mut.result.now = search rules in
     let there : (c.in-Ok.place < length c.self.inside.parts.items) × (key c.self.inside.parts.items c.in-Ok.place ≡ c.args.path % groups) = search rules in
-    let stood : slot c.index_mut.result.now.1 (c.args.path / groups) ≡ at_sorted slot c.args.self.now c.args.path = ap (λ x. at_part slot x (c.args.path / groups)) (sym (part_at c.self.inside.parts.items c.in-Ok.place (c.args.path % groups) c.index_mut.result.now c.self.invariant.0 there.0 there.1 read)) ∙ ap (λ s. at_sorted slot s c.args.path) c.self.view_is in
+    let stood : slot c.index_mut.result.now.1 (c.args.path / groups) ≡ at_sorted slot c.args.self.now c.args.path = ap (λ x. at_part slot x (c.args.path / groups)) (sym (part_at c.self.inside.parts.items c.in-Ok.place (c.args.path % groups) c.index_mut.result.now c.self.invariant.0 there.0 there.1 (search rules))) ∙ ap (λ s. at_sorted slot s c.args.path) c.self.view_is in
     subst (λ o. IfOk c.put_new.result (λ new. new ≡ not (is_some o))) stood c.put_new.ensures.new
 
 pub invariant_of-self : goal.invariant_of-self

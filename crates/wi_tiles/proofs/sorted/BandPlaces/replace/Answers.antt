@@ -14,9 +14,8 @@ invariant_of-self g c =
 
 pub returns-in-Ok-clause-value : goal.returns-in-Ok-clause-value
 returns-in-Ok-clause-value g c =
-    let read : c.index_mut.result.now ≡ slice_index_or c.self.inside.parts.items c.in-Ok.place c.index_mut.result.now = search rules in
     let there : (c.in-Ok.place < length c.self.inside.parts.items) × (key c.self.inside.parts.items c.in-Ok.place ≡ c.args.path % groups) = search rules in
-    c.replace.ensures.value ∙ ap (λ x. at_part slot x (c.args.path / groups)) (sym (part_at c.self.inside.parts.items c.in-Ok.place (c.args.path % groups) c.index_mut.result.now c.self.invariant.0 there.0 there.1 read)) ∙ ap (λ s. at_sorted slot s c.args.path) c.self.view_is
+    c.replace.ensures.value ∙ ap (λ x. at_part slot x (c.args.path / groups)) (sym (part_at c.self.inside.parts.items c.in-Ok.place (c.args.path % groups) c.index_mut.result.now c.self.invariant.0 there.0 there.1 (search rules))) ∙ ap (λ s. at_sorted slot s c.args.path) c.self.view_is
 
 pub returns-in-Ok-clause-put : goal.returns-in-Ok-clause-put
 returns-in-Ok-clause-put g c =

@@ -15,19 +15,16 @@ remove-value-requires g c =
 
 pub invariant_of-self : goal.invariant_of-self
 invariant_of-self g c =
-    let below : c.self.inside.bits < 2 ^ 64 = search rules in
     let items : c.remove-value.new.self.items ≡ remove c.self.inside.values.items (rank c.self.inside.bits c.args.bit) = search rules in
-    ap length items ∙ cut_full c.self.inside.bits c.args.bit c.self.inside.values.items c.requires below c.self.invariant c.if-self-bit-eq0.false
+    ap length items ∙ cut_full c.self.inside.bits c.args.bit c.self.inside.values.items c.requires (search rules) c.self.invariant c.if-self-bit-eq0.false
 
 pub returns-clause-value : goal.returns-clause-value
 returns-clause-value g c =
-    let below : c.self.inside.bits < 2 ^ 64 = search rules in
-    let within : rank c.self.inside.bits c.args.bit < length c.self.inside.values.items = found_within c.self.inside.bits c.self.inside.values.items c.args.bit c.requires below c.self.invariant c.if-self-bit-eq0.false in
+    let within : rank c.self.inside.bits c.args.bit < length c.self.inside.values.items = found_within c.self.inside.bits c.self.inside.values.items c.args.bit c.requires (search rules) c.self.invariant c.if-self-bit-eq0.false in
     let given : c.remove-value.result ≡ slice_index_or c.self.inside.values.items (rank c.self.inside.bits c.args.bit) c.remove-value.result = search rules in
     sym (ap (λ s. slice_index_or s c.args.bit None) (sym c.self.view_is) ∙ one_found c.self.inside.bits c.self.inside.values.items c.args.bit c.requires c.if-self-bit-eq0.false ∙ slice_get_read c.self.inside.values.items (length c.self.inside.values.items) (rank c.self.inside.bits c.args.bit) c.remove-value.result (λ _. length c.self.inside.values.items) within given)
 
 pub returns-clause-slots : goal.returns-clause-slots
 returns-clause-slots g c =
-    let below : c.self.inside.bits < 2 ^ 64 = search rules in
     let items : c.remove-value.new.self.items ≡ remove c.self.inside.values.items (rank c.self.inside.bits c.args.bit) = search rules in
-    ap (λ vs. slots (bit_and c.self.inside.bits (bit_not w64 (1 * 2 ^ c.args.bit % 2 ^ 64))) vs) items ∙ slots_cut_made c.self.inside.bits c.args.bit c.self.inside.values.items c.requires below c.self.invariant c.if-self-bit-eq0.false ∙ ap (λ s. slice_set s c.args.bit None) c.self.view_is
+    ap (λ vs. slots (bit_and c.self.inside.bits (bit_not w64 (1 * 2 ^ c.args.bit % 2 ^ 64))) vs) items ∙ slots_cut_made c.self.inside.bits c.args.bit c.self.inside.values.items c.requires (search rules) c.self.invariant c.if-self-bit-eq0.false ∙ ap (λ s. slice_set s c.args.bit None) c.self.view_is

@@ -16,15 +16,11 @@ index_mut-requires g c =
 
 pub returns-clause-value : goal.returns-clause-value
 returns-clause-value g c =
-    let below : c.self.inside.bits < 2 ^ 64 = search rules in
-    let read : c.index_mut.result.now ≡ slice_index_or c.self.inside.values.items c.place_of-place.result c.index_mut.result.now = search rules in
     let stood : c.replace.result ≡ c.index_mut.result.now = search rules in
-    ap (λ v. Some v) stood ∙ sym (ap (λ s. slice_index_or s c.args.bit None) (sym c.self.view_is) ∙ replaced c.self.inside.bits c.args.bit c.self.inside.values.items c.place_of-place.result c.index_mut.result.now c.place_of-place.ensures c.requires below c.self.invariant c.if-self-bit-eq0.false read)
+    ap (λ v. Some v) stood ∙ sym (ap (λ s. slice_index_or s c.args.bit None) (sym c.self.view_is) ∙ replaced c.self.inside.bits c.args.bit c.self.inside.values.items c.place_of-place.result c.index_mut.result.now c.place_of-place.ensures c.requires (search rules) c.self.invariant c.if-self-bit-eq0.false (search rules))
 
 pub returns-clause-put : goal.returns-clause-put
 returns-clause-put g c =
-    let below : c.self.inside.bits < 2 ^ 64 = search rules in
-    let read : c.index_mut.result.now ≡ slice_index_or c.self.inside.values.items c.place_of-place.result c.index_mut.result.now = search rules in
     let put : c.replace.new.dest ≡ c.args.value = search rules in
     subst (λ w. (i : ℕ) → slice_index_or (slots c.self.inside.bits (slice_set c.self.inside.values.items c.place_of-place.result w)) i None ≡ (if i == c.args.bit then option_map (λ _. c.args.value) (slice_index_or c.args.self.now c.args.bit None) else slice_index_or c.args.self.now i None)) (sym put)
-    (subst (λ s. (i : ℕ) → slice_index_or (slots c.self.inside.bits (slice_set c.self.inside.values.items c.place_of-place.result c.args.value)) i None ≡ (if i == c.args.bit then option_map (λ _. c.args.value) (slice_index_or s c.args.bit None) else slice_index_or s i None)) c.self.view_is (after_replace c.self.inside.bits c.args.bit c.self.inside.values.items c.place_of-place.result c.index_mut.result.now c.args.value c.place_of-place.ensures c.requires below c.self.invariant c.if-self-bit-eq0.false read))
+    (subst (λ s. (i : ℕ) → slice_index_or (slots c.self.inside.bits (slice_set c.self.inside.values.items c.place_of-place.result c.args.value)) i None ≡ (if i == c.args.bit then option_map (λ _. c.args.value) (slice_index_or s c.args.bit None) else slice_index_or s i None)) c.self.view_is (after_replace c.self.inside.bits c.args.bit c.self.inside.values.items c.place_of-place.result c.index_mut.result.now c.args.value c.place_of-place.ensures c.requires (search rules) c.self.invariant c.if-self-bit-eq0.false (search rules)))

@@ -10,6 +10,5 @@ index-requires g c =
 
 pub returns : goal.returns
 returns g c =
-    let read : c.index.result.now ≡ slice_index_or c.self.inside.values.items c.args.place c.index.result.now = search rules in
     subst (λ s. (i : ℕ) → i < 64 → IsSome (slice_index_or s i None) → filled s i ≡ c.args.place → slice_index_or s i None ≡ Some c.index.result.now) c.self.view_is
-    (value_is c.self.inside.bits c.self.inside.values.items c.args.place c.index.result.now c.self.invariant read)
+    (value_is c.self.inside.bits c.self.inside.values.items c.args.place c.index.result.now c.self.invariant (search rules))

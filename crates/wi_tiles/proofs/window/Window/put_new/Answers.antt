@@ -7,9 +7,8 @@ use Rattle.wi_tiles.proofs.window.Window.put_new.Goals as goal
 
 pub returns-in-Some-clause-new : goal.returns-in-Some-clause-new
 returns-in-Some-clause-new g c =
-    let read : c.index_mut.result.now ≡ slice_index_or c.self.inside.parts.items c.in-Some.place c.index_mut.result.now = search rules in
     let there : (c.in-Some.place < length c.self.inside.parts.items) × (c.self.inside.first ≤ c.args.path % span) × (c.in-Some.place ≡ c.args.path % span - c.self.inside.first) = search rules in
-    let stood : g.T.Places.at c.index_mut.result.now (c.args.path / span) ≡ at_window g.T.Places.at c.args.self.now c.args.path = ap (λ x. at_part g.T.Places.at x (c.args.path / span)) (sym (part_read c.self.inside.first c.self.inside.parts.items (c.args.path % span) c.in-Some.place c.index_mut.result.now there.1 there.2 there.0 read)) ∙ ap (λ w. at_window g.T.Places.at w c.args.path) c.self.view_is in
+    let stood : g.T.Places.at c.index_mut.result.now (c.args.path / span) ≡ at_window g.T.Places.at c.args.self.now c.args.path = ap (λ x. at_part g.T.Places.at x (c.args.path / span)) (sym (part_read c.self.inside.first c.self.inside.parts.items (c.args.path % span) c.in-Some.place c.index_mut.result.now there.1 there.2 there.0 (search rules))) ∙ ap (λ w. at_window g.T.Places.at w c.args.path) c.self.view_is in
     subst (λ o. IfOk c.put_new.result (λ new. new ≡ not (is_some o))) stood c.put_new.ensures.new
 
 pub returns-in-Some-clause-ok : goal.returns-in-Some-clause-ok
@@ -29,9 +28,8 @@ returns-in-Some-clause-err g c =
 
 pub returns-in-Some-clause-trimmed : goal.returns-in-Some-clause-trimmed
 returns-in-Some-clause-trimmed g c = λ trimmed.
-    let read : c.index_mut.result.now ≡ slice_index_or c.self.inside.parts.items c.in-Some.place c.index_mut.result.now = search rules in
     let there : (c.in-Some.place < length c.self.inside.parts.items) × (c.self.inside.first ≤ c.args.path % span) × (c.in-Some.place ≡ c.args.path % span - c.self.inside.first) = search rules in
-    trimmed_set g.T.Places.at c.self.inside.parts.items c.in-Some.place c.index_mut.result.now c.put_new.new.self there.0 read
+    trimmed_set g.T.Places.at c.self.inside.parts.items c.in-Some.place c.index_mut.result.now c.put_new.new.self there.0 (search rules)
     (λ has. either_way c.put_new.result (λ put. filled_put g.T.Places.at c.index_mut.result.now c.put_new.new.self (c.args.path / span) c.args.value put) (λ kept. filled_kept g.T.Places.at c.index_mut.result.now c.put_new.new.self kept has) c.put_new.ensures.ok c.put_new.ensures.err)
     (subst (λ w. IsTrimmed g.T.Places.at w.1) (sym c.self.view_is) trimmed)
 

@@ -15,8 +15,7 @@ returns-in-Some-clause-put g c =
 
 pub returns-in-Some-clause-trimmed : goal.returns-in-Some-clause-trimmed
 returns-in-Some-clause-trimmed g c = λ trimmed.
-    let read : c.index_mut.result.now ≡ slice_index_or c.self.inside.parts.items c.in-Some.place c.index_mut.result.now = search rules in
     let there : (c.in-Some.place < length c.self.inside.parts.items) × (c.self.inside.first ≤ c.args.path % span) × (c.in-Some.place ≡ c.args.path % span - c.self.inside.first) = search rules in
-    trimmed_set g.T.Places.at c.self.inside.parts.items c.in-Some.place c.index_mut.result.now c.replace.new.self there.0 read
+    trimmed_set g.T.Places.at c.self.inside.parts.items c.in-Some.place c.index_mut.result.now c.replace.new.self there.0 (search rules)
     (λ has. filled_replaced g.T.Places.at c.index_mut.result.now c.replace.new.self (c.args.path / span) c.args.value c.replace.ensures.put has)
     (subst (λ w. IsTrimmed g.T.Places.at w.1) (sym c.self.view_is) trimmed)

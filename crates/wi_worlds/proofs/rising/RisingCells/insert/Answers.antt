@@ -1,6 +1,6 @@
-use Rattle.wi_values.proofs.Listed.{has_at}
+use Rattle.wi_values.proofs.Listed.{Searched, has_at, searched_in}
 use Rattle.wi_worlds.proofs.Words.{◌≡◌, ◌∙◌, ◌==◌, ◌||◌, ℕ, true, List, Ok, Err, sym, ap, subst, IsStrictlyIncreasing, is_one_of}
-use Rattle.wi_worlds.proofs.RisingSteps.{Searched, searched_in, has_still, has_more, rise_more}
+use Rattle.wi_worlds.proofs.RisingSteps.{has_still, has_more, rise_more}
 use Rattle.wi_worlds.proofs.rising.RisingCells.insert.Goals as goal
 
 pub invariant_of-self-in-Err : goal.invariant_of-self-in-Err
@@ -23,7 +23,6 @@ returns-in-Ok-clause-has c =
 
 pub returns-in_ok-insert-in-Err-clause-has : goal.returns-in_ok-insert-in-Err-clause-has
 returns-in_ok-insert-in-Err-clause-has c =
-    let xs = c.self.inside.cells.items in
     λ q. ap (λ (ys : List ℕ). is_one_of ys q) c.in_ok-insert-in-Err.ensures.items
-    ∙ has_more xs c.in-Err.place c.args.cell q
+    ∙ has_more c.self.inside.cells.items c.in-Err.place c.args.cell q
     ∙ ap (λ (ys : List ℕ). (c.args.cell == q) || is_one_of ys q) c.self.view_is

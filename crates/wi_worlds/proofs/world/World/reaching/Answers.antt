@@ -12,9 +12,8 @@ each_of cones at rs (Err e) h = tt
 pub returns-then-part-all-clause-list : goal.returns-then-part-all-clause-list
 returns-then-part-all-clause-list c =
     let p = is_reached c.args.cones.now c.args.at in
-    let same = c.replacements-all.ensures.value in
     made_of p c.args.self.now c.args.self.now c.copy.result c.copy.ensures
-    (sym (filter_whole p c.replacements-all.result.now c.args.self.now same (sym c.part_reached-part.ensures.count ∙ c.if-part-all.true)))
+    (sym (filter_whole p c.replacements-all.result.now c.args.self.now c.replacements-all.ensures.value (sym c.part_reached-part.ensures.count ∙ c.if-part-all.true)))
 
 pub returns-then-part-all-clause-each : goal.returns-then-part-all-clause-each
 returns-then-part-all-clause-each c = each_of c.args.cones.now c.args.at c.args.self.now c.copy.result (returns-then-part-all-clause-list c)
@@ -43,9 +42,7 @@ of-requires c = record {
 pub returns-then-part-clause-list : goal.returns-then-part-clause-list
 returns-then-part-clause-list c =
     let p = is_reached c.args.cones.now c.args.at in
-    let last = c.replacements.result.now in
-    let all = c.replacements-all.result.now in
-    let same = (same_replacements_Decides last (filter p all)).0 (sym c.part_reached-part.ensures.last ∙ c.if-part.true) in
+    let same = (same_replacements_Decides c.replacements.result.now (filter p c.replacements-all.result.now)).0 (sym c.part_reached-part.ensures.last ∙ c.if-part.true) in
     made_of p c.args.self.now c.args.last.now c.copy-then-part.result c.copy-then-part.ensures
     (sym c.replacements.ensures.value ∙ same ∙ ap (filter p) c.replacements-all.ensures.value)
 

@@ -77,10 +77,9 @@ pub returns-then-part-clause-list : goal.returns-then-part-clause-list
 returns-then-part-clause-list c =
     let t = c.args.reaches.now in
     let p = is_reached_by t c.args.at in
-    let last = c.replacements.result.now in
     let all = c.replacements-all.result.now in
     let cells = c.reached-cells.result.now in
-    let same = (same_replacements_Decides last (filter (is_of cells) all)).0 (sym c.part_of-part.ensures.last ∙ c.if-part.true) in
+    let same = (same_replacements_Decides c.replacements.result.now (filter (is_of cells) all)).0 (sym c.part_of-part.ensures.last ∙ c.if-part.true) in
     made_of p c.args.self.now c.args.last.now c.copy-then-part.result c.copy-then-part.ensures
     (sym c.replacements.ensures.value ∙ same ∙ as_told t c.args.at cells all c.args.self.now c.reached-cells.ensures.value c.replacements-all.ensures.value)
 

@@ -1,6 +1,6 @@
 use Rattle.wi_worlds.proofs.Words.{◌∙◌, Some, ap, rules, answers_always}
 use Rattle.wi_worlds.proofs.Searching.{found_of}
-use Rattle.wi_worlds.proofs.part.found_at.Goals as goal
+use Rattle.wi_worlds.proofs.lookup.found_at.Goals as goal
 
 pub returns-in-Ok : goal.returns-in-Ok
 returns-in-Ok c =

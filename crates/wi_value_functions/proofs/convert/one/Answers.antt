@@ -1,8 +1,0 @@
-use Rattle.wi_value_functions.proofs.Constants.{number_of-one}
-use Rattle.wi_value_functions.proofs.convert.one.Goals as goal
-
-pub unreachable-requires : goal.unreachable-requires
-unreachable-requires c = let made = rw number_of-one at c.new.ensures in cc
-
-pub returns : goal.returns
-returns c = let made = rw number_of-one at c.new.ensures in cc
