@@ -1,5 +1,5 @@
 -- The words of the library, of the crates below and of this crate's definitions that its proofs are written in.
-pub use Rattle.std.proofs.Common.{All, Any, Bool, Bor, Contains, IfNone, IfSome, List, None, Option, Some, [], add-one, ap, append-nil, append_assoc, ap₂, arith, codes, cond, eq-eqb, false, filter, get_or, if◌then◌else◌, inl, inr, is_some, length, map, max, min, not, option_map, refl, subst, suc, sum_by, sym, take, true, zero, ℕ, ◌&&◌, ◌*◌, ◌++◌, ◌+◌, ◌-◌, ◌<◌, ◌==◌, ◌||◌, ◌∙◌, ◌∷◌, ◌≡◌, ◌≤◌, ◌⊎◌}
+pub use Rattle.std.proofs.Common.{All, Any, Bool, Bor, Contains, IfNone, IfSome, List, None, Option, Some, [], add-one, ap, append-nil, append_assoc, ap₂, arith, codes, cond, eq-eqb, false, filter, get_or, if◌then◌else◌, inl, inr, is_some, length, map, not, option_map, refl, subst, suc, sum_by, sym, take, true, zero, ℕ, ◌&&◌, ◌*◌, ◌++◌, ◌+◌, ◌-◌, ◌<◌, ◌==◌, ◌||◌, ◌∙◌, ◌∷◌, ◌≡◌, ◌≤◌, ◌⊎◌}
 pub use Rattle.std.proofs.Math.Bool.{and-false, and-or_distrib_left, or-false}
 pub use Rattle.std.proofs.Math.Seq.{take-nil}
 pub use Rattle.std.proofs.lemmas.Bool.{and_from, and_parts, cases_Bool, eqb-true, false_from_ne_true, le-leb, le-ltb, leb-true, lt-ltb, or_cases, or_left, or_parts, or_right, true≢false}
@@ -29,6 +29,7 @@ pub use Rattle.wi_functions.specs.Operators.{operate, with_sign}
 pub use Rattle.wi_functions.specs.Wants.{LeafAsks, TreeAsks}
 pub use Rattle.wi_functions.specs.declared.evaluation.Want.TheVariants.{Cell, WhatIf}
 pub use Rattle.wi_graph.proofs.Agreement.{agree_here, agree_next, circular_same}
+pub use Rattle.wi_graph.proofs.BoundsSteps.{sides_of}
 pub use Rattle.wi_graph.proofs.Cones.{agree_outside, cone_closed, cone_least, cone_stays, outside_reaches}
 pub use Rattle.wi_graph.proofs.EdgeLemmas.{content_of-with}
 pub use Rattle.wi_graph.proofs.Ends.{ends_open}
@@ -79,7 +80,7 @@ pub use Rattle.wi_values.proofs.Replacements.InOrder.{order_from_entries, same_f
 pub use Rattle.wi_values.proofs.Replacements.Overriding.{lookup-overridden, overridden-nothing}
 pub use Rattle.wi_values.proofs.Replacements.Same.{same_replacements_Decides}
 pub use Rattle.wi_values.proofs.Small.{one_at_most}
-pub use Rattle.wi_values.proofs.Within.{column_of_place, fewer_places, places_left, row_of_place, within_between}
+pub use Rattle.wi_values.proofs.Within.{fewer_places, places_left, within_between, within_parts}
 pub use Rattle.wi_values.specs.Address.{Area, column_of, is_one_of, is_within, is_within_one, place, rect_of, row_of}
 pub use Rattle.wi_values.specs.Replacements.{IsInOrder, as_map, last_for, overridden, replaced, same_replacements}
 unfoldable pub use Rattle.wi_values.specs.Value.{shown_text}
