@@ -57,7 +57,7 @@ pub use Rattle.wi_parser.specs.declared.expr.Pair.{Pair}
 pub use Rattle.wi_parser.specs.declared.expr.Reference.{Reference}
 pub use Rattle.wi_sheet.specs.CellValue.{formula_in, replacements, value_of, what_if_in, what_if_value}
 unfoldable pub use Rattle.wi_sheet.specs.CellValue.{cell_value, value_within}
-pub use Rattle.wi_sheet.specs.Demand.{Case, case_of, demanded, different, formulas_read_here, leaf_reads_here, leaf_what_ifs, of_formula, precedent_cases, puts_of, reaching, reads_here, same_case, wants, what_if_case, what_ifs_of, with_what_if}
+pub use Rattle.wi_sheet.specs.Demand.{Case, case_of, demanded, different, formulas_read_here, leaf_reads_here, leaf_what_ifs, of_formula, precedent_cases, reaching, reads_here, same_case, wants, what_if_case, what_ifs_of, with_what_if}
 unfoldable pub use Rattle.wi_sheet.specs.Demand.{demand, demand_within}
 pub use Rattle.wi_sheet.specs.Inner.Rank.{lengths_below}
 unfoldable pub use Rattle.wi_sheet.specs.Inner.Rank.{reach_rank}
@@ -76,13 +76,13 @@ pub use Rattle.wi_values.proofs.Listed.{has-filter, has_key}
 pub use Rattle.wi_values.proofs.Lists.{each_fails, sum_ones}
 pub use Rattle.wi_values.proofs.Order.{Ascends, Ascends-from_order, Ascends-insert, order-from_Ascends, turn_test}
 pub use Rattle.wi_values.proofs.Replacements.Filtering.{order_of_filter, replaced-filter}
-pub use Rattle.wi_values.proofs.Replacements.InOrder.{order_from_entries, same_from_replaced, sorted_from_order}
+pub use Rattle.wi_values.proofs.Replacements.InOrder.{as_map-as_replacements, as_replacements-as_map, order_from_entries, same_from_replaced, sorted_from_order}
 pub use Rattle.wi_values.proofs.Replacements.Overriding.{lookup-overridden, overridden-nothing}
 pub use Rattle.wi_values.proofs.Replacements.Same.{same_replacements_Decides}
 pub use Rattle.wi_values.proofs.Small.{one_at_most}
 pub use Rattle.wi_values.proofs.Within.{fewer_places, places_left, within_between, within_parts}
 pub use Rattle.wi_values.specs.Address.{Area, column_of, is_one_of, is_within, is_within_one, place, rect_of, row_of}
-pub use Rattle.wi_values.specs.Replacements.{IsInOrder, as_map, last_for, overridden, replaced, same_replacements}
+pub use Rattle.wi_values.specs.Replacements.{IsInOrder, as_map, as_replacements, last_for, overridden, replaced, same_replacements}
 unfoldable pub use Rattle.wi_values.specs.Value.{shown_text}
 pub use Rattle.wi_values.specs.declared.replacement.Replacement.{Replacement}
 pub use Rattle.wi_values.specs.declared.value.ErrorKind.TheVariants.{BadValue, Circular}

@@ -50,7 +50,7 @@ unfoldable pub use Rattle.wi_values.specs.Inner.Import.{imported}
 unfoldable pub use Rattle.wi_values.specs.Inner.Letters.{letters_within}
 pub use Rattle.wi_values.specs.Inner.Same.{texts}
 pub use Rattle.wi_values.specs.Laws.{AddressesReadBack, CornersMayTurn, NumbersReadBack}
-pub use Rattle.wi_values.specs.Replacements.{IsInOrder, as_map, last_for, overridden, replaced, same_replacements}
+pub use Rattle.wi_values.specs.Replacements.{IsInOrder, as_map, as_replacements, last_for, overridden, replaced, same_replacements}
 pub use Rattle.wi_values.specs.Value.{logical_name}
 unfoldable pub use Rattle.wi_values.specs.Value.{shown_text}
 pub use Rattle.wi_values.specs.declared.address.AddressFault.TheVariants.{Outside}
