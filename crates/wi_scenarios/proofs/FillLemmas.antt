@@ -1,5 +1,5 @@
 -- What `fill` answers, and the copies that it makes.
-use Rattle.wi_scenarios.proofs.Words.{◌≡◌, ℕ, zero, suc, ◌+◌, Bool, true, false, not, ◌||◌, if◌then◌else◌, List, [], ◌∷◌, ◌++◌, map, Option, Some, Result, Err, refl, sym, ap, ◌∙◌, subst, arith, ◌≤◌, ◌<◌, ◌⊎◌, inl, inr, append_assoc, nat_lt, is_some, keys_of, list_any, flat_map, range_with_len, map-append, map-range_with_len_more, list_any-append, Area, place, size_of, cells_of, cells_of_row, Content, content_of, IsErrAnd, err_from_is_err_and, Refusal, Memory, TooLarge, LeavesSheet, State, max_area, Answer, may_grow, MayRefuse, Serves, no_cause, Edit, edit_answer, fill_edit, fill_step, shift_refusal, copy_to, has_no_copy, or_nothing, ShiftFault, AreCopies, CopiesAs, HasNoCopies, false≢true, eq-or-lt_of_le, cells_in}
+use Rattle.wi_scenarios.proofs.Words.{◌≡◌, ℕ, ◌+◌, Bool, true, false, not, ◌||◌, if◌then◌else◌, List, [], ◌∷◌, ◌++◌, map, Option, Some, Result, Err, refl, sym, ap, ◌∙◌, subst, ◌≤◌, ◌<◌, append_assoc, nat_lt, is_some, keys_of, list_any, flat_map, range_with_len, map-append, map-range_with_len_more, list_any-append, any_in_range, Area, place, size_of, cells_of, cells_of_row, Content, content_of, IsErrAnd, err_from_is_err_and, Refusal, Memory, TooLarge, LeavesSheet, State, max_area, Answer, may_grow, MayRefuse, Serves, no_cause, Edit, edit_answer, fill_edit, fill_step, shift_refusal, copy_to, has_no_copy, or_nothing, ShiftFault, AreCopies, CopiesAs, HasNoCopies, cells_in}
 use Rattle.wi_parser.specs.declared.shift.ShiftFault.TheVariants as shift
 use Rattle.wi_scenarios.proofs.EditLemmas.{edit_grows, same_edit}
 
@@ -50,19 +50,6 @@ one_copy content from to cells changes new copy e grown h = record {
 }
 
 -- ---- the cells of a rectangle, row after row
-
--- a search through the numbers of a range, one of which passes
-any_in_range : (passes : ℕ → Bool) (any : ℕ → ℕ → Bool) → ((a n : ℕ) → any a (suc n) ≡ (passes a || any (a + 1) n)) → (a n c : ℕ) → a ≤ c → c < a + n → passes c ≡ true → any a n ≡ true
-any_in_range passes any next a zero c l m h = absurd (omega arith)
-any_in_range passes any next a (suc n) c l m h = next a n ∙ by (passes a) refl (λ k. any_in_range passes any next (a + 1) n c k (omega arith) h)
-  where
-    above : (a ≡ c) ⊎ (a < c) → passes a ≡ false → a + 1 ≤ c
-    above (inl same) e = absurd (false≢true (sym e ∙ ap passes same ∙ h))
-    above (inr less) e = omega (arith, less)
-
-    by : (b : Bool) → passes a ≡ b → (a + 1 ≤ c → any (a + 1) n ≡ true) → (b || any (a + 1) n) ≡ true
-    by true e ih = refl
-    by false e ih = ih (above (eq-or-lt_of_le {n = a} {m = c} l) e)
 
 -- one more cell of a row gets its copy
 pub one_cell : (content : Option Content) (from row first n m column to : ℕ) (cells : List ℕ) (changes new : List (ℕ × Option Content)) (copy : Option Content) → first + n ≡ column → m ≡ n + 1 → to ≡ place row column
