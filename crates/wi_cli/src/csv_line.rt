@@ -21,9 +21,10 @@ pub struct CsvLine {
     pub lines: u32,
 }
 
-/// The number of these digits, or one more than the greatest number of lines, if all are digits.
+/// The number that these bytes write, at most one more than the greatest number of lines; none where one is no digit.
 fn number_of(digits: &[u8]) -> Option<u32>
-    ensures { result ≡ if all_ascii_digits digits.now then Some (min (digits_value 10 digits.now) 1000001) else None }
+    ensures { result ≡ if all_ascii_digits digits.now
+        then Some (min (digits_value 10 digits.now) 1000001) else None }
 {
     let mut number = 0;
     for c in digits {

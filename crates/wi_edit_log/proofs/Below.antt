@@ -1,14 +1,8 @@
 -- Rectangles of which each lies below the one before: where their cells are, and what a search through them may leave out.
-use Rattle.wi_edit_log.proofs.Words.{◌≡◌, ◌∙◌, ℕ, zero, suc, ◌+◌, ◌≤◌, ◌<◌, inl, inr, Bool, true, false, ◌||◌, ◌&&◌, List, [], ◌∷◌, length, drop, get_or, Option, Some, None, refl, ap, sym, subst, arith, nat_le, IsNonDecreasingBy, drop_more, drop_all, and_parts, and_from, and_left, both_ways, leb-true, le-leb, or_cases, Area, row_of, is_within, is_within_one, IsFirst, in_both, in_one, are_rising, begins_from, rise_from}
+use Rattle.wi_edit_log.proofs.Words.{◌≡◌, ◌∙◌, ℕ, zero, suc, ◌+◌, ◌≤◌, ◌<◌, inl, inr, Bool, true, false, ◌||◌, ◌&&◌, List, [], ◌∷◌, length, drop, get_or, Option, Some, None, refl, ap, sym, subst, arith, nat_le, IsNonDecreasingBy, drop_more, drop_all, and_parts, and_from, and_left, both_ways, leb-true, le-leb, or_cases, Area, row_of, is_within, is_within_one, within_parts, IsFirst, in_both, in_one, are_rising, begins_from, rise_from}
 use Rattle.wi_edit_log.proofs.First.{no_first, same_first}
 
 -- ---- where rows of rectangles are
-
-row_within : (r : Area) (a : ℕ) → is_within r a ≡ true → (row_of r.first ≤ row_of a) × (row_of a ≤ row_of r.last)
-row_within r a h =
-    let p = and_parts (nat_le (row_of r.first) (row_of a) && nat_le (row_of a) (row_of r.last)) _ h in
-    let q = and_parts (nat_le (row_of r.first) (row_of a)) _ p.0 in
-    (leb-true _ _ q.0, leb-true _ _ q.1)
 
 record Parts (n : ℕ) (x : Area) (xs : List Area) : Type 0 where
   below : n ≤ row_of x.first
@@ -51,7 +45,7 @@ below n [] a h t = absurd (both_ways (is_within_one [] a) refl t)
 below n (x ∷ xs) a h t =
     let p = parts_of n x xs h in
     elim (or_cases (is_within x a) (is_within_one xs a) t) [
-      | inl w ↦ let r = row_within x a w in omega (arith, r.0, p.below)
+      | inl w ↦ let r = within_parts x a w in omega (arith, r.0, p.below)
       | inr w ↦ let l = below (row_of x.last + 1) xs a p.rest w in omega (arith, l, p.below, p.ordered)
     ]
 
@@ -108,7 +102,7 @@ passed (x ∷ xs) (suc k) n a h l =
     ap (λ b. b || is_within_one xs a) out ∙ passed xs k n a (λ i d m o. h (suc i) d (omega (arith, m)) (omega (arith, o))) l
   where
     not_within : (b : Bool) → is_within x a ≡ b → row_of x.last < n → is_within x a ≡ false
-    not_within true e m = let r = row_within x a e in absurd (omega (arith, r.1, m, l))
+    not_within true e m = let r = within_parts x a e in absurd (omega (arith, r.1, m, l))
     not_within false e m = e
 
 -- ---- the first that a rectangle meets
@@ -131,7 +125,7 @@ module _ (r : Area) (xs : List Area) (i : ℕ) (x : Area) (l : i < length xs) (a
   none_left : (a : ℕ) → row_of r.last < row_of x.first → in_one r xs a ≡ true → Prim.⊥
   none_left a m t =
       let p = and_parts (is_within r a) (is_within_one xs a) t in
-      let rows = row_within r a p.0 in
+      let rows = within_parts r a p.0 in
       let low = below (row_of x.first) (x ∷ drop (i + 1) xs) a (rise_from_first 0 x (drop (i + 1) xs) rest_rises) (sym (in_rest a p.0) ∙ p.1) in
       omega (arith, rows.1, low, m)
 
@@ -148,7 +142,7 @@ module _ (r : Area) (xs : List Area) (i : ℕ) (x : Area) (l : i < length xs) (a
   met_least c a t h k =
       let p = and_parts (is_within r a) (is_within_one xs a) k in
       let q = and_parts (is_within r c) (is_within x c) t in
-      let rows = row_within x c q.1 in
+      let rows = within_parts x c q.1 in
       elim (or_cases (is_within x a) (is_within_one (drop (i + 1) xs) a) (sym (in_rest a p.0) ∙ p.1)) [
         | inl w ↦ h a (and_from (is_within r a) (is_within x a) p.0 w)
         | inr w ↦
@@ -186,5 +180,5 @@ pub first_of_rest : (r : Area) (xs ys : List Area) (k : ℕ) (o : Option ℕ) �
 first_of_rest r xs ys k o e h = same_first (in_one r ys) (in_one r xs) o (λ a. same a (is_within r a) refl)
   where
     same : (a : ℕ) (b : Bool) → is_within r a ≡ b → in_one r ys a ≡ in_one r xs a
-    same a true w = ap (λ c. is_within r a && c) (ap (λ zs. is_within_one zs a) e ∙ sym (h a (row_within r a w).0))
+    same a true w = ap (λ c. is_within r a && c) (ap (λ zs. is_within_one zs a) e ∙ sym (h a (within_parts r a w).0))
     same a false w = and_left (is_within r a) (is_within_one ys a) w ∙ sym (and_left (is_within r a) (is_within_one xs a) w)

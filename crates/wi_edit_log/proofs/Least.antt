@@ -1,5 +1,5 @@
 -- The first cell that passes is the least of those that pass, as the definition has it.
-use Rattle.wi_edit_log.proofs.Words.{◌≡◌, ◌∙◌, ℕ, zero, suc, ◌+◌, ◌-◌, ◌==◌, ◌≤◌, ◌<◌, ◌⊎◌, inl, inr, true, false, ◌||◌, ◌&&◌, not, List, [], ◌∷◌, length, drop, map, filter, min, Option, Some, refl, ap, sym, subst, arith, nat_le, list_any, flat_map, reduce, fold, range_with_len, drop_min, drop-map, list_any-append, and_parts, and_from, both_ways, cases_eq, eq-eqb, eqb-true, leb-true, le-leb, or_cases, or_left, or_right, one_truth, Area, columns, place, row_of, column_of, is_one_of, is_within, cells_of, cells_of_row, row_of_place, column_of_place, column_within, Entry, is_within_one, is_stale, first_stale, IsFirst, entries_in, entry_in, is_wanted_of_others, Edit, has-filter}
+use Rattle.wi_edit_log.proofs.Words.{◌≡◌, ◌∙◌, ℕ, zero, suc, ◌+◌, ◌-◌, ◌==◌, ◌≤◌, ◌<◌, ◌⊎◌, inl, inr, true, false, ◌||◌, ◌&&◌, not, List, [], ◌∷◌, length, drop, map, filter, min, Option, Some, refl, ap, sym, subst, arith, list_any, flat_map, reduce, fold, range_with_len, drop_min, drop-map, list_any-append, both_ways, cases_eq, eq-eqb, eqb-true, or_cases, or_left, or_right, one_truth, Area, columns, place, row_of, column_of, is_one_of, is_within, cells_of, cells_of_row, row_of_place, column_of_place, column_within, within_from, within_parts, any_in_range, Entry, is_within_one, is_stale, first_stale, IsFirst, entries_in, entry_in, is_wanted_of_others, Edit, has-filter}
 use Rattle.wi_edit_log.proofs.First.{only_first, same_first}
 
 -- ---- the cells of a rectangle are those within it
@@ -8,11 +8,8 @@ pub place_of : (a : ℕ) → a ≡ place (row_of a) (column_of a)
 place_of a = omega arith
 
 in_row : (row first n c : ℕ) → first ≤ c → c < first + n → is_one_of (map (place row) (range_with_len first n)) (place row c) ≡ true
-in_row row first zero c l m = absurd (omega (arith, l, m))
-in_row row first (suc n) c l m = elim (cases_eq c first) [
-  | inl e ↦ or_left (place row first == place row c) _ (eq-eqb (place row first) (place row c) (ap (place row) (sym e)))
-  | inr f ↦ or_right (place row first == place row c) _ (in_row row (first + 1) n c (omega (arith, l, f)) (omega (arith, m)))
-]
+in_row row first n c l m =
+    any_in_range (λ d. place row d == place row c) (λ a k. is_one_of (map (place row) (range_with_len a k)) (place row c)) (λ a k. refl) first n c l m (eq-eqb (place row c) (place row c) refl)
 
 of_row : (row first n a : ℕ) → is_one_of (map (place row) (range_with_len first n)) a ≡ true → (c : ℕ) × (first ≤ c) × (c < first + n) × (a ≡ place row c)
 of_row row first zero a h = absurd (both_ways false refl h)
@@ -22,13 +19,9 @@ of_row row first (suc n) a h = elim (or_cases (place row first == a) _ h) [
 ]
 
 in_rows : (r : Area) (first n row a : ℕ) → first ≤ row → row < first + n → is_one_of (cells_of_row row r) a ≡ true → is_one_of (flat_map (λ k. cells_of_row k r) (range_with_len first n)) a ≡ true
-in_rows r first zero row a l m h = absurd (omega (arith, l, m))
-in_rows r first (suc n) row a l m h =
-    list_any-append (λ x. x == a) (cells_of_row first r) (flat_map (λ k. cells_of_row k r) (range_with_len (first + 1) n))
-    ∙ elim (cases_eq row first) [
-      | inl e ↦ or_left (is_one_of (cells_of_row first r) a) _ (subst (λ k. is_one_of (cells_of_row k r) a ≡ true) e h)
-      | inr f ↦ or_right (is_one_of (cells_of_row first r) a) _ (in_rows r (first + 1) n row a (omega (arith, l, f)) (omega (arith, m)) h)
-    ]
+in_rows r first n row a l m h =
+    any_in_range (λ i. is_one_of (cells_of_row i r) a) (λ i k. is_one_of (flat_map (λ j. cells_of_row j r) (range_with_len i k)) a)
+    (λ i k. list_any-append (λ x. x == a) (cells_of_row i r) (flat_map (λ j. cells_of_row j r) (range_with_len (i + 1) k))) first n row l m h
 
 of_rows : (r : Area) (first n a : ℕ) → is_one_of (flat_map (λ k. cells_of_row k r) (range_with_len first n)) a ≡ true → (row : ℕ) × (first ≤ row) × (row < first + n) × (is_one_of (cells_of_row row r) a ≡ true)
 of_rows r first zero a h = absurd (both_ways false refl h)
@@ -41,15 +34,9 @@ of_rows r first (suc n) a h =
 
 inside : (r : Area) (a : ℕ) → is_within r a ≡ true → is_one_of (cells_of r) a ≡ true
 inside r a h =
-    let p = and_parts (nat_le (row_of r.first) (row_of a) && nat_le (row_of a) (row_of r.last)) _ h in
-    let rows = and_parts (nat_le (row_of r.first) (row_of a)) _ p.0 in
-    let cols = and_parts (nat_le (column_of r.first) (column_of a)) _ p.1 in
-    let above = leb-true _ _ rows.0 in
-    let low = leb-true _ _ rows.1 in
-    let left = leb-true _ _ cols.0 in
-    let right = leb-true _ _ cols.1 in
-    let there = in_row (row_of a) (column_of r.first) ((column_of r.last + 1) - column_of r.first) (column_of a) left (ends (column_of r.first) (column_of a) (column_of r.last) left right) in
-    in_rows r (row_of r.first) ((row_of r.last + 1) - row_of r.first) (row_of a) a above (ends (row_of r.first) (row_of a) (row_of r.last) above low)
+    let p = within_parts r a h in
+    let there = in_row (row_of a) (column_of r.first) ((column_of r.last + 1) - column_of r.first) (column_of a) p.2 (ends (column_of r.first) (column_of a) (column_of r.last) p.2 p.3) in
+    in_rows r (row_of r.first) ((row_of r.last + 1) - row_of r.first) (row_of a) a p.0 (ends (row_of r.first) (row_of a) (row_of r.last) p.0 p.1)
     (subst (λ b. is_one_of (cells_of_row (row_of a) r) b ≡ true) (sym (place_of a)) there)
   where
     ends : (f c l : ℕ) → f ≤ c → c ≤ l → c < f + ((l + 1) - f)
@@ -67,9 +54,8 @@ within r a h =
     let fits : col.0 < columns = fit col.0 (column_of r.last) right (column_within r.last) in
     let rows : row.0 ≡ row_of a = sym (ap row_of col.3 ∙ row_of_place row.0 col.0 fits) in
     let cols : col.0 ≡ column_of a = sym (ap column_of col.3 ∙ column_of_place row.0 col.0 fits) in
-    and_from (nat_le (row_of r.first) (row_of a) && nat_le (row_of a) (row_of r.last)) _
-    (and_from (nat_le (row_of r.first) (row_of a)) _ (le-leb _ _ (subst (λ k. row_of r.first ≤ k) rows row.1)) (le-leb _ _ (subst (λ k. k ≤ row_of r.last) rows low)))
-    (and_from (nat_le (column_of r.first) (column_of a)) _ (le-leb _ _ (subst (λ k. column_of r.first ≤ k) cols col.1)) (le-leb _ _ (subst (λ k. k ≤ column_of r.last) cols right)))
+    within_from r a (subst (λ k. row_of r.first ≤ k) rows row.1) (subst (λ k. k ≤ row_of r.last) rows low)
+    (subst (λ k. column_of r.first ≤ k) cols col.1) (subst (λ k. k ≤ column_of r.last) cols right)
   where
     fit : (c d : ℕ) → c ≤ d → d < columns → c < columns
     fit c d g h = omega (arith, g, h)

@@ -1,7 +1,7 @@
 -- The cells of a rectangle one after another, in row-major order.
-use Rattle.wi_edit_log.proofs.Words.{◌≡◌, ◌∙◌, ℕ, ◌+◌, ◌==◌, ◌≤◌, ◌<◌, ◌⊎◌, inl, inr, Bool, true, false, ◌||◌, ◌&&◌, Option, Some, None, IfSome, refl, ap, sym, subst, arith, nat_lt, then_some, and_from, and_parts, both_ways, cases_eq, cases_lt, eq-eqb, eqb-true, le-ltb, lt-ltb, or_cases, or_left, or_right, one_truth, Area, place, row_of, column_of, is_within, fewer_places, places_left, within_between, row_of_place, column_of_place, column_within, within_parts, IsAtOrBefore, IsFirst, is_after, le_trans}
+use Rattle.wi_edit_log.proofs.Words.{◌≡◌, ◌∙◌, ℕ, ◌==◌, ◌≤◌, ◌<◌, ◌⊎◌, inl, inr, Bool, true, false, ◌||◌, ◌&&◌, Option, Some, None, IfSome, refl, ap, sym, subst, arith, nat_lt, then_some, and_from, and_parts, both_ways, cases_eq, cases_lt, eq-eqb, eqb-true, le-ltb, lt-ltb, or_cases, or_left, or_right, one_truth, Area, row_of, column_of, is_within, fewer_places, places_left, within_between, within_parts, IsAtOrBefore, IsFirst, is_after}
 use Rattle.std.proofs.lemmas.Bool.{ltb-true}
-use Rattle.wi_edit_log.proofs.Shared.{no_sooner, within_from}
+use Rattle.wi_edit_log.proofs.Shared.{within_from}
 
 -- ---- the first
 
@@ -18,48 +18,6 @@ first_is r at x b o e f w t =
     by : (c : Bool) → is_within r r.first ≡ c → IsFirst (is_within r) (then_some c r.first)
     by true h = record { passes = h; least = λ a k. (within_between r a k).0 }
     by false h = record { passes = tt; least = λ a k. both_ways (is_within r r.first) h (first_within r a k) }
-
--- ---- the one after another
-
-later : (c d : ℕ) → c ≤ d → c ≤ d + 1
-later c d g = omega (arith, g)
-
-sooner : (c d : ℕ) → c < d → c + 1 ≤ d
-sooner c d g = omega (arith, g)
-
-lower : (at a : ℕ) → at < a → column_of a ≤ column_of at → row_of at + 1 ≤ row_of a
-lower at a l h = omega arith
-
--- the cells after the last of a row are below it
-below_row : (r : Area) (at a : ℕ) → column_of r.last ≤ column_of at → is_after r at a ≡ true → row_of at + 1 ≤ row_of a
-below_row r at a l h =
-    let q = and_parts (is_within r a) (nat_lt at a) h in
-    lower at a (ltb-true at a q.1) (le_trans (within_parts r a q.0).3 l)
-
-next_row : (at row column : ℕ) → row ≡ row_of at + 1 → at < place row column
-next_row at row column e = omega arith
-
-pub below : (r : Area) (at next : ℕ) → is_within r at ≡ true → column_of r.last ≤ column_of at → row_of at < row_of r.last → next ≡ place (row_of at + 1) (column_of r.first) → IsFirst (is_after r at) (Some next)
-below r at next w l m e =
-    let p = within_parts r at w in
-    let row : row_of next ≡ row_of at + 1 = ap row_of e ∙ row_of_place (row_of at + 1) (column_of r.first) (column_within r.first) in
-    let column : column_of next ≡ column_of r.first = ap column_of e ∙ column_of_place (row_of at + 1) (column_of r.first) (column_within r.first) in
-    let inside = within_from r next (row_of at + 1) (column_of r.first) row column (later _ _ p.0) (sooner _ _ m) (same _) (le_trans p.2 p.3) in record {
-      passes = and_from (is_within r next) (nat_lt at next) inside (lt-ltb at next (subst (λ n. at < n) (sym e) (next_row at (row_of at + 1) (column_of r.first) refl)));
-      least = λ a h. subst (λ n. n ≤ a) (sym e) (no_sooner (row_of at + 1) (column_of r.first) a (below_row r at a l h) (within_parts r a (and_parts (is_within r a) (nat_lt at a) h).0).2);
-    }
-  where
-    same : (c : ℕ) → c ≤ c
-    same c = omega arith
-
-pub none_after : (r : Area) (at : ℕ) → column_of r.last ≤ column_of at → row_of r.last ≤ row_of at → IsFirst (is_after r at) None
-none_after r at l m = record {
-  passes = tt;
-  least = λ a h. over (row_of a) (row_of r.last) (row_of at) (below_row r at a l h) (within_parts r a (and_parts (is_within r a) (nat_lt at a) h).0).1 m;
-}
-  where
-    over : (c d e : ℕ) → e + 1 ≤ c → c ≤ d → d ≤ e → Prim.⊥
-    over c d e f g h = omega (arith, f, g, h)
 
 -- ---- those before the one ahead
 

@@ -22,7 +22,7 @@ pub use Rattle.wi_edit_log.specs.Inner.Rising.{are_rising, begins_from, rise_fro
 pub use Rattle.wi_edit_log.specs.declared.edit.Edit.{Edit}
 pub use Rattle.wi_edit_log.specs.declared.noted.Last.{Last}
 pub use Rattle.wi_values.proofs.Listed.{has-filter}
-pub use Rattle.wi_values.proofs.Small.{max_at_most, max_below}
-pub use Rattle.wi_values.proofs.Within.{column_of_place, column_within, fewer_places, places_left, row_of_place, within_between, within_parts}
+pub use Rattle.wi_values.proofs.Small.{any_in_range, max_at_most, max_below}
+pub use Rattle.wi_values.proofs.Within.{column_of_place, column_within, fewer_places, places_left, row_of_place, within_between, within_from, within_parts}
 pub use Rattle.wi_values.specs.Address.{Area, cells_of, cells_of_row, column_of, columns, is_one_of, is_within, is_within_one, place, row_of, rows}
 pub use Rattle.wi_values.specs.Inner.Cells.{sooner}

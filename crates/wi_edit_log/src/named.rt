@@ -92,7 +92,8 @@ impl Named {
         }
     }
 
-    /// The first cell that they share with others, which may be told to rise. The work is that of `first_between`.
+    /// The first cell that they share with others, which may be told to rise. For each rectangle of the shorter list the work grows with
+    /// the longer's length, and with its logarithm alone where that rises.
     pub(crate) fn first_shared(&self, others: &[Rect], others_rise: bool) -> Option<Address>
         requires { others_rise ≡ true → are_rising others.now ≡ true }
         ensures { IsFirst (in_each self.now others.now) result }

@@ -106,7 +106,7 @@ pub use Rattle.wi_sheet.proofs.Puts.{plain}
 pub use Rattle.wi_sheet.proofs.Ranks.{measure_falls_at_keep, measure_falls_at_push, rests_rank}
 pub use Rattle.wi_sheet.proofs.ReadLists.{occupied_read, read_occupied}
 pub use Rattle.wi_sheet.proofs.ReadOrders.{no_order, order-push, order_clear}
-pub use Rattle.wi_sheet.proofs.Rectangles.{IsWhole, in_corners, in_one_of, is_inside, lies, rectangle_whole}
+pub use Rattle.wi_sheet.proofs.Rectangles.{IsWhole, in_corners, in_one_of, rectangle_whole}
 pub use Rattle.wi_sheet.proofs.SettledTables.{rests_more, settled_more, what_if_more}
 pub use Rattle.wi_sheet.proofs.SmallerWorlds.{content_below, reaching_below}
 pub use Rattle.wi_sheet.proofs.Steps.{put_not_circular, reads_not_circular, value_plain, value_step}
@@ -124,7 +124,7 @@ pub use Rattle.wi_values.proofs.Listed.{found_by_key, has-filter, has_one_more, 
 pub use Rattle.wi_values.proofs.Lists.{keeps_few}
 pub use Rattle.wi_values.proofs.Order.{Ascends, Ascends-from_order, ComeAfter, at_earlier, at_itself, at_same, come_after_earlier, is_at-eq, lookup_after, order-from_Ascends, turn_test}
 pub use Rattle.wi_values.proofs.Replacements.InOrder.{order_from_sorted, sorted_from_order}
-pub use Rattle.wi_values.proofs.Within.{column_within, places_left, within_between}
+pub use Rattle.wi_values.proofs.Within.{column_within, places_left, within_between, within_from, within_parts}
 pub use Rattle.wi_values.specs.Address.{Area, column_of, is_one_of, is_within, is_within_one, row_of, size_of}
 pub use Rattle.wi_values.specs.Replacements.{IsInOrder, as_map, replaced, same_replacements}
 pub use Rattle.wi_values.specs.declared.replacement.Replacement.{Replacement}

@@ -18,7 +18,8 @@ use wi_store::Store;
 
 /// Finds the value of a cell with a formula for which any evaluation of a frame's formula asks, so that this isn't evaluated in
 /// vain, where the frame waits for nothing and no value was found for it yet. A cell that has to be evaluated first is given, and
-/// the frame waits for it. The work is that of `first_cell`, of `formula_in` and of `remembered_value`.
+/// the frame waits for it. It takes mostly a step or two in the formula's tree, a look at the cell's content, and one at what is
+/// remembered of it.
 pub(crate) fn look_ahead<'a, M: Memo>(
     pool: &mut Pool,
     store: &'a Store,

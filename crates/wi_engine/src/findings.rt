@@ -102,7 +102,7 @@ impl Findings {
         }
     }
 
-    /// Puts the lists into a pool, if there are any. The work is that of `Pool::put`.
+    /// Puts the lists into a pool, if there are any. The work grows with the count of their values.
     #[inline(always)]
     pub(crate) fn give_back(self, pool: &mut Pool) {
         match self.lists {

@@ -86,7 +86,7 @@ impl<'a> Frame<'a> {
         Ok(())
     }
 
-    /// The key, where the frame is done. Its arrays are put into a pool, or go. The work is that of `Pool::put`.
+    /// The key, where the frame is done. Its arrays are put into a pool, or go. The work grows with the count of their values.
     #[inline(always)]
     pub(crate) fn retire(self, pool: &mut Pool) -> Key
         ensures { result ≡ self.entry.key }

@@ -82,7 +82,7 @@ impl<'a> Known<'a> {
     }
 
     /// Hands the occupied cells of a rectangle over, in row-major order, from one on up to the first that is replaced, until one
-    /// is missing. The work is that of `Store::contents_from`.
+    /// is missing. A step for each cell that is handed over, beside one search for each 16 rows.
     fn hand_stored<T: TakesCells>(
         &self,
         area: Rect,

@@ -28,7 +28,8 @@ pub(crate) fn content_in<'a>(store: &'a Store, world: &'a World, at: Address) ->
     }
 }
 
-/// The formula that a cell has under the replacements of a world, if it has one. The work is that of `content_in`.
+/// The formula that a cell has under the replacements of a world, if it has one. The work grows with the
+/// logarithms of the counts of replacements and of occupied cells.
 pub(crate) fn formula_in<'a>(store: &'a Store, world: &World, at: Address) -> Option<&'a Formula>
     ensures found { IfSome result (λ f. content_of (put_all store.now.sheet world.now) at
         ≡ Some (Content.Formula f.now)) }

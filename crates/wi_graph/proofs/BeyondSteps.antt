@@ -1,5 +1,5 @@
 -- Steps of a search over readers: one that stops at watched cells, and one that stops nowhere.
-use Rattle.wi_graph.proofs.Words.{◌≡◌, ◌==◌, ◌&&◌, ◌||◌, ◌⊎◌, inl, inr, not, ℕ, ◌+◌, ◌<◌, ◌↔◌, Bool, true, false, List, [], ◌∷◌, ◌++◌, length, take, get_or, ap, sym, ◌∙◌, subst, arith, or_cases, or_left, or_right, and_parts, and_from, cases_Bool, not-true, not_from_false, false_from_ne_true, length-append, any-filter_same, filter-append, list_any, Contains, nat_cmp, is_at, BTreeSet, contains, IsStrictlyIncreasing, one_truth, Sheet, content_of, content_reads, Bag, IsReader, IsRead, taken_more, is_one_of, in_cone, IsClosedUp, IsUnread, AreEdgesOf, Rooms, edges_in, IsGraph, HasAll, GoesToReaders, IsLeast, IsConeBeyond, IsListBeyond, beyond, as_set, missing, AreNoted, has_key, has-from_Contains, Contains-from_has, refl, HasReaders}
+use Rattle.wi_graph.proofs.Words.{◌≡◌, ◌==◌, ◌&&◌, ◌||◌, ◌⊎◌, inl, inr, not, ℕ, ◌+◌, ◌<◌, ◌↔◌, Bool, true, false, List, [], ◌∷◌, ◌++◌, length, take, get_or, ap, sym, ◌∙◌, subst, arith, or_cases, or_left, or_right, and_parts, and_from, cases_Bool, not-true, not_from_false, false_from_ne_true, length-append, any-filter_same, filter-append, list_any, Contains, nat_cmp, is_at, BTreeSet, contains, IsStrictlyIncreasing, one_truth, Sheet, content_of, content_reads, Bag, IsReader, IsRead, taken_more, is_one_of, in_cone, IsClosedUp, IsUnread, AreEdgesOf, Rooms, edges_in, IsGraph, HasAll, GoesToReaders, IsLeast, IsConeBeyond, IsListBeyond, beyond, as_set, missing, AreNoted, has_key, has-from_Contains, Contains-from_has, refl, IsConeSet}
 use Rattle.wi_values.proofs.Lists.{filter_all}
 use Rattle.wi_graph.proofs.Tests.{is_itself, clash}
 use Rattle.wi_graph.proofs.Walks.{same_cell}
@@ -146,11 +146,12 @@ pub search_ends : (readers : Bag) (found more : BTreeSet ℕ) (work less after n
     length (missing more (all_readers readers)) + length after < length (missing found (all_readers readers)) + length work
 search_ends readers found more work less after next noted cell e r q m = beyond_ends readers no_watch found more work less after next noted cell e r q (all_beyond noted found more less after m)
 
-pub search_all : (readers : Bag) (cells : List ℕ) (found : BTreeSet ℕ) (work : List ℕ) → IsSearching readers cells found work → HasAll cells found
-search_all readers cells found work s = λ c h. s.all c (beyond_in no_watch cells c h refl)
+-- what is found so is the cone
+pub whole_cone : (readers : Bag) (cells : List ℕ) (found : BTreeSet ℕ) → IsConeBeyond readers no_watch cells found → IsConeSet readers cells found
+whole_cone readers cells found k = (λ c h. k.all c (beyond_in no_watch cells c h refl), λ a r h i. k.closed a r h i refl, k.least)
 
-pub search_end : (readers : Bag) (cells : List ℕ) (found : BTreeSet ℕ) (work : List ℕ) → work ≡ [] → IsSearching readers cells found work → HasReaders readers found
-search_end readers cells found work e s = λ a r h i. (beyond_end readers no_watch cells found work e s).closed a r h i refl
+pub search_end : (readers : Bag) (cells : List ℕ) (found : BTreeSet ℕ) (work : List ℕ) → work ≡ [] → IsSearching readers cells found work → IsConeSet readers cells found
+search_end readers cells found work e s = whole_cone readers cells found (beyond_end readers no_watch cells found work e s)
 
 -- ---- what it finds
 

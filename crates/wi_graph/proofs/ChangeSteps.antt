@@ -85,11 +85,6 @@ brings_end rooms next xs i l h = subst (λ (ys : List (ℕ × Option Content)). 
 
 -- ---- an edit of one cell
 
-pub only_one : (xs : List (ℕ × Option Content)) (x : ℕ × Option Content) → length xs ≡ 1 → x ≡ get_or xs 0 x → x ∷ [] ≡ xs
-only_one [] x l e = absurd (omega (arith, l))
-only_one (y ∷ []) x l e = ap (λ (z : ℕ × Option Content). z ∷ []) e
-only_one (y ∷ z ∷ zs) x l e = absurd (omega (arith, l))
-
 pub brings_one : (rooms : Rooms) (k : ℕ) (o : Option Content) (r : Option (SmallVec Area)) (next : Coming) → next ≡ (k, r) ∷ [] → items_of r ≡ areas_in o → Brings rooms next ((k, o) ∷ [])
 brings_one rooms k o r next e i c = ap (λ (es : Coming). room_over es rooms c) e ∙ at (is_at (nat_cmp c) k) (c == k) (is_at-eq c k)
   where

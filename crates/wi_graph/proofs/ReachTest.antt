@@ -1,5 +1,5 @@
 -- To reach is decided by a test.
-use Rattle.wi_graph.proofs.Words.{◌≡◌, ◌==◌, ℕ, zero, suc, ◌<◌, ◌≤◌, Bool, true, false, ◌&&◌, ◌||◌, List, [], ◌∷◌, filter, length, refl, sym, subst, arith, inl, inr, ◌⊎◌, eq-eqb, and_parts, and_from, or_cases, or_left, or_right, cases_lt, cases_Bool, list_any, Sheet, content_of, has_formula, cells_with_formula, content_reads, keeps_few, Walks, Reaches, is_one_of, IsInCone, reaches_by, reaches, in_cone}
+use Rattle.wi_graph.proofs.Words.{◌≡◌, ◌==◌, ℕ, zero, suc, ◌<◌, ◌≤◌, Bool, true, false, ◌&&◌, ◌||◌, List, [], ◌∷◌, filter, length, refl, subst, arith, inl, inr, ◌⊎◌, eq-eqb, and_parts, and_from, or_cases, or_left, or_right, cases_lt, cases_Bool, list_any, Sheet, content_of, has_formula, cells_with_formula, content_reads, keeps_few, Walks, Reaches, is_one_of, IsInCone, reaches_by, reaches, in_cone}
 use Rattle.wi_graph.proofs.Walks.{same_cell, found, formula_cell, reader_formula, shrinks, Same}
 
 -- the element that passes is one of the list
@@ -98,29 +98,18 @@ all_stand s a = at (grows (length (cells_with_formula s)) s a)
     at (inl k) = k
     at (inr l) = from_formulas (length (cells_with_formula s)) s a (λ c m h. all_kept (λ x. reaches_by (length (cells_with_formula s)) s x a) (cells_with_formula s) l c m)
 
-back : (m n : ℕ) (s : Sheet) (a : ℕ) → n ≤ m → Stands n s a → Stands m s a × ((c : ℕ) → reaches_by m s c a ≡ true → reaches_by n s c a ≡ true)
-back zero n s a l k =
-    let e : n ≡ 0 = omega arith in
-    (subst (λ (i : ℕ). Stands i s a) e k, λ c h. subst (λ (i : ℕ). reaches_by i s c a ≡ true) (sym e) h)
-back (suc m) n s a l k = at (cases_lt m n) (λ g. back m n s a g k)
+-- what holds at n, and goes on by one, holds at m
+goes_on : (P : ℕ → Type 0) → ((k : ℕ) → P k → P (suc k)) → (m n : ℕ) → n ≤ m → P n → P m
+goes_on P next zero n l p = let e : n ≡ 0 = omega arith in subst P e p
+goes_on P next (suc m) n l p = at (cases_lt m n) (λ g. goes_on P next m n g p)
   where
-    at : (m < n) ⊎ (n ≤ m) → (n ≤ m → Stands m s a × ((c : ℕ) → reaches_by m s c a ≡ true → reaches_by n s c a ≡ true)) → Stands (suc m) s a × ((c : ℕ) → reaches_by (suc m) s c a ≡ true → reaches_by n s c a ≡ true)
-    at (inl g) ih =
-        let e : n ≡ suc m = omega arith in
-        (subst (λ (i : ℕ). Stands i s a) e k, λ c h. subst (λ (i : ℕ). reaches_by i s c a ≡ true) (sym e) h)
-    at (inr g) ih = let x = ih g in (stands_on m s a x.0, λ c h. x.1 c (x.0 c h))
+    at : (m < n) ⊎ (n ≤ m) → (n ≤ m → P m) → P (suc m)
+    at (inl g) ih = let e : n ≡ suc m = omega arith in subst P e p
+    at (inr g) ih = next m (ih g)
 
-up : (m n : ℕ) (s : Sheet) (c a : ℕ) → n ≤ m → reaches_by n s c a ≡ true → reaches_by m s c a ≡ true
-up zero n s c a l h =
-    let e : n ≡ 0 = omega arith in
-    subst (λ (i : ℕ). reaches_by i s c a ≡ true) e h
-up (suc m) n s c a l h = at (cases_lt m n) (λ g. up m n s c a g h)
-  where
-    at : (m < n) ⊎ (n ≤ m) → (n ≤ m → reaches_by m s c a ≡ true) → reaches_by (suc m) s c a ≡ true
-    at (inl g) ih =
-        let e : n ≡ suc m = omega arith in
-        subst (λ (i : ℕ). reaches_by i s c a ≡ true) e h
-    at (inr g) ih = by_one_more m s c a (ih g)
+back : (m n : ℕ) (s : Sheet) (a : ℕ) → n ≤ m → Stands n s a → Stands m s a × ((c : ℕ) → reaches_by m s c a ≡ true → reaches_by n s c a ≡ true)
+back m n s a l k =
+    goes_on (λ (i : ℕ). Stands i s a × ((c : ℕ) → reaches_by i s c a ≡ true → reaches_by n s c a ≡ true)) (λ i x. (stands_on i s a x.0, λ c h. x.1 c (x.0 c h))) m n l (k, λ c h. h)
 
 walk_reaches : (n : ℕ) (s : Sheet) (c a : ℕ) → Walks n s c a → reaches_by n s c a ≡ true
 walk_reaches zero s c a w = or_left (c == a) _ (eq-eqb c a w)
@@ -153,7 +142,7 @@ unfolding reaches
 true_reaches s c a w = at (cases_lt w.0 (length (cells_with_formula s)))
   where
     at : (w.0 < length (cells_with_formula s)) ⊎ (length (cells_with_formula s) ≤ w.0) → reaches_by (length (cells_with_formula s)) s c a ≡ true
-    at (inl l) = up (length (cells_with_formula s)) w.0 s c a (omega arith) (walk_reaches w.0 s c a w.1)
+    at (inl l) = goes_on (λ (i : ℕ). reaches_by i s c a ≡ true) (λ i k. by_one_more i s c a k) (length (cells_with_formula s)) w.0 (omega arith) (walk_reaches w.0 s c a w.1)
     at (inr l) = (back w.0 (length (cells_with_formula s)) s a l (all_stand s a)).1 c (walk_reaches w.0 s c a w.1)
 
 pub in_cone_true : (s : Sheet) (xs : List ℕ) (c : ℕ) → in_cone s xs c ≡ true → IsInCone s xs c

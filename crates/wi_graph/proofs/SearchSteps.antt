@@ -1,5 +1,5 @@
 -- Steps of a search over readers.
-use Rattle.wi_graph.proofs.Words.{◌≡◌, ◌==◌, ◌||◌, ◌⊎◌, inl, inr, not, ℕ, ◌+◌, ◌<◌, ◌↔◌, Bool, true, false, cond, List, [], ◌∷◌, ◌++◌, map, length, take, get_or, Some, Result, Ok, Err, IfOk, refl, ap, sym, ◌∙◌, subst, arith, or-false, or_assoc, list_any-append, or_cases, or_left, or_right, cases_Bool, not-true, not_from_false, length-append, Vec, Contains, lookup, unwrap_or, nat_cmp, BTreeSet, contains, IsStrictlyIncreasing, Sheet, content_of, content_reads, RangePair, Bag, IsReader, IsRead, is_same, count_of, same_is, is_one_of, in_cone, HasAll, HasReaders, IsLeast, IsConeOf, as_set, missing, AreNoted, one_truth, taken_more, has_key, has-from_Contains, Contains-from_has}
+use Rattle.wi_graph.proofs.Words.{◌≡◌, ◌==◌, ◌||◌, ◌⊎◌, inl, inr, not, ℕ, ◌+◌, ◌<◌, ◌↔◌, Bool, true, false, cond, List, [], ◌∷◌, ◌++◌, map, length, take, get_or, Some, Result, Ok, Err, IfOk, refl, ap, sym, ◌∙◌, subst, arith, or-false, or_assoc, list_any-append, or_cases, or_left, or_right, cases_Bool, not-true, not_from_false, length-append, Vec, Contains, lookup, unwrap_or, nat_cmp, BTreeSet, contains, IsStrictlyIncreasing, Sheet, content_of, content_reads, RangePair, Bag, IsReader, IsRead, is_same, count_of, same_is, is_one_of, in_cone, HasAll, HasReaders, IsLeast, IsConeOf, IsConeSet, as_set, missing, AreNoted, one_truth, taken_more, has_key, has-from_Contains, Contains-from_has}
 use Rattle.wi_graph.proofs.Tests.{is_itself, clash}
 use Rattle.wi_graph.proofs.Walks.{same_cell, shrinks, Same}
 use Rattle.wi_graph.proofs.SetSteps.{in_last, in_front, in_back, Gains, gains, gains_stays, gains_one, gains_cases, taken}
@@ -156,10 +156,10 @@ found_list readers cells list found o e a k l = record {
     same : (c : ℕ) → contains nat_cmp (as_set list) c ≡ contains nat_cmp found c
     same c = has_key list c ∙ one_truth (is_one_of list c) (contains nat_cmp found c) (λ h. (e c).0 (Contains-from_has list c h)) (λ h. has-from_Contains list c ((e c).1 h))
 
-pub found_listed : {E : Type 0} (readers : Bag) (cells : List ℕ) (found : BTreeSet ℕ) (r : Result (Vec ℕ) E) → HasAll cells found → HasReaders readers found → IsLeast readers cells found →
+pub found_listed : {E : Type 0} (readers : Bag) (cells : List ℕ) (found : BTreeSet ℕ) (r : Result (Vec ℕ) E) → IsConeSet readers cells found →
     IfOk r (λ list. IsStrictlyIncreasing list.items) → IfOk r (λ list. (c : ℕ) → Contains list.items c ↔ (contains nat_cmp found c ≡ true)) → IfOk r (λ list. IsConeOf readers cells list.items)
-found_listed readers cells found (Ok list) a k l o e = found_list readers cells list.items found o e a k l
-found_listed readers cells found (Err error) a k l o e = tt
+found_listed readers cells found (Ok list) k o e = found_list readers cells list.items found o e k.0 k.1 k.2
+found_listed readers cells found (Err error) k o e = tt
 
 -- nothing reads one more
 pub none_more : (readers : Bag) (cells : List ℕ) (i x : ℕ) (read : Bool) → i < length cells → x ≡ get_or cells i x → ((read ≡ true) ↔ IsRead readers x) → read ≡ false → ((a r : ℕ) → is_one_of (take i cells) a ≡ true → IsReader readers a r → ⊥) →

@@ -240,12 +240,6 @@ pub cells_read : (rest : BTreeSet ℕ) (first old less : List Area) (area : Area
 cells_read rest first old less area read e a k =
     sym (k read a.2) ∙ ap (λ (rs : List Area). is_within_one rs read) e ∙ last_area less area read ∙ or_right (is_within_one less read) _ a.1
 
-pub cells_none : (rest : BTreeSet ℕ) (first old : List Area) → old ≡ [] → KeepsCells rest first old → (d : ℕ) → is_within_one first d ≡ true → contains nat_cmp rest d ≡ false
-cells_none rest first old e k d i =
-    false_from_ne_true (contains nat_cmp rest d) (λ h.
-    let z : is_within_one [] d ≡ true = ap (λ (rs : List Area). is_within_one rs d) (sym e) ∙ k d h ∙ i in
-    cc)
-
 -- what one cell reads, among all
 pub kept_at : (rest : BTreeSet ℕ) (old new : BTreeMap ℕ (Vec Area)) (cell : ℕ) (v w : Vec Area) → get nat_cmp old cell ≡ Some v → ((q : ℕ) → get nat_cmp new q ≡ cond (is_at (nat_cmp cell) q) (Some w) (get nat_cmp old q)) → KeepsCells rest v.items w.items → KeepsReads rest old new
 kept_at rest old new cell v w e u k c d h = ap (λ (o : Option (Vec Area)). is_within_one (items_there o) d) (u c ∙ ap (λ (b : Bool). cond b (Some w) (get nat_cmp old c)) (is_at-eq cell c)) ∙ at (cell == c) refl

@@ -1,5 +1,5 @@
 -- Walks between formulas: one that is as long as there are formulas has no end.
-use Rattle.wi_graph.proofs.Words.{◌≡◌, ◌==◌, ℕ, zero, suc, ◌+◌, ◌<◌, ◌≤◌, Bool, true, false, ◌&&◌, ◌||◌, cond, List, [], ◌∷◌, filter, map, get_or, Option, Some, None, length, refl, ap, sym, ◌∙◌, subst, arith, inl, inr, ◌⊎◌, eq-eqb, and_parts, and_from, or_cases, or_left, or_right, cases_lt, eqb-true, nil_from_length, Any-from_list_any, list_any_at, list_any-append, AllPass-from_list_all, list_all-from_AllPass, list_any, list_all, one_truth, Content, Constant, Formula, Sheet, content_of, has_formula, cells_with_formula, content_reads, sublists, circular, has_walk}
+use Rattle.wi_graph.proofs.Words.{◌≡◌, ◌==◌, ℕ, zero, suc, ◌+◌, ◌<◌, ◌≤◌, Bool, true, false, ◌&&◌, ◌||◌, cond, List, [], ◌∷◌, filter, map, get_or, Option, Some, None, length, refl, ap, sym, ◌∙◌, arith, inl, inr, ◌⊎◌, eq-eqb, and_parts, and_from, or_cases, or_left, or_right, eqb-true, nil_from_length, Any-from_list_any, list_any_at, list_any-append, AllPass-from_list_all, list_all-from_AllPass, list_any, list_all, one_truth, Content, Constant, Formula, Sheet, content_of, has_formula, cells_with_formula, content_reads, sublists, circular, has_walk}
 use Rattle.wi_graph.proofs.Layers.{is_one_of, layer, layer_zero, in_layer, has_walk_more, walker_has_formula}
 
 pub same_cell : (a k : ℕ) → (k == a) ≡ true → k ≡ a
@@ -47,18 +47,6 @@ one_less (suc n) s c h =
     let f = first_step (suc n) s c h in
     step n s c f.0 f.1 (one_less n s f.0 f.2)
 
-pub fewer : (n m : ℕ) (s : Sheet) (c : ℕ) → m ≤ n → has_walk n s c ≡ true → has_walk m s c ≡ true
-fewer zero m s c l h =
-    let e : 0 ≡ m = omega arith in
-    subst (λ (k : ℕ). has_walk k s c ≡ true) e h
-fewer (suc n) m s c l h = at (cases_lt n m) (λ g. fewer n m s c g (one_less n s c h))
-  where
-    at : (n < m) ⊎ (m ≤ n) → (m ≤ n → has_walk m s c ≡ true) → has_walk m s c ≡ true
-    at (inl g) ih =
-        let e : suc n ≡ m = omega arith in
-        subst (λ (k : ℕ). has_walk k s c ≡ true) e h
-    at (inr g) ih = ih g
-
 -- what reads a cell has a formula
 pub reader_formula : (o : Option Content) (d : ℕ) → content_reads o d ≡ true → has_formula o ≡ true
 reader_formula None d h = cc
@@ -73,20 +61,6 @@ pub leads_on : (n : ℕ) (s : Sheet) → Leads n s → Leads (suc n) s
 leads_on n s l c h =
     let f = first_step n s c h in
     step (suc n) s c f.0 f.1 (l f.0 f.2)
-
-pub further : (m n : ℕ) (s : Sheet) → n ≤ m → Leads n s → (c : ℕ) → has_walk n s c ≡ true → (has_walk m s c ≡ true) × Leads m s
-further zero n s l k c h =
-    let e : n ≡ 0 = omega arith in
-    (subst (λ (i : ℕ). has_walk i s c ≡ true) e h, subst (λ (i : ℕ). Leads i s) e k)
-further (suc m) n s l k c h = at (cases_lt m n) (λ g. further m n s g k c h)
-  where
-    at : (m < n) ⊎ (n ≤ m) → (n ≤ m → (has_walk m s c ≡ true) × Leads m s) → (has_walk (suc m) s c ≡ true) × Leads (suc m) s
-    at (inl g) ih =
-        let e : n ≡ suc m = omega arith in
-        (subst (λ (i : ℕ). has_walk i s c ≡ true) e h, subst (λ (i : ℕ). Leads i s) e k)
-    at (inr g) ih =
-        let x = ih g in
-        (x.1 c x.0, leads_on m s x.1)
 
 -- ---- of two filters of one list, one of which keeps no more: it keeps fewer, or the same
 

@@ -1,6 +1,6 @@
 -- A search for the cells of a set, or of a list, in a rectangle.
-use Rattle.wi_graph.proofs.Words.{◌≡◌, ◌⊎◌, inl, inr, ◌&&◌, ℕ, zero, suc, ◌+◌, ◌-◌, ◌<◌, ◌≤◌, true, false, List, [], ◌∷◌, length, get_or, Option, Some, None, IfSome, ap, sym, ◌∙◌, subst, arith, ltb-true, ltb-false, lt_of_le-ne, or_cases, or_left, or_right, and_parts, and_from, cases_lt, nat_tests, get_or_default, IsNonDecreasingBy-from_default, list_any, IsStrictlyIncreasing, IsNonDecreasing, IsPartitionPoint, nat_lt, nat_cmp, is_at, IsLeBy, BTreeSet, contains, IsKeyRangeOf, Included, Area, is_within, within_between, AreWithin, as_set, IsAhead, IsBetween, IsFoundBy}
-use Rattle.wi_graph.proofs.Tests.{clash, at_same, at_itself}
+use Rattle.wi_graph.proofs.Words.{◌≡◌, ◌⊎◌, inl, inr, ◌&&◌, ℕ, zero, suc, ◌+◌, ◌-◌, ◌<◌, ◌≤◌, true, false, List, [], ◌∷◌, length, get_or, Option, Some, None, IfSome, ap, sym, ◌∙◌, subst, arith, ltb-true, lt_of_le-ne, or_cases, and_parts, and_from, cases_lt, nat_tests, get_or_default, IsNonDecreasingBy-from_default, list_any, IsStrictlyIncreasing, IsNonDecreasing, IsPartitionPoint, nat_lt, nat_cmp, is_at, IsLeBy, BTreeSet, contains, IsKeyRangeOf, Included, Area, is_within, within_between, AreWithin, as_set, IsAhead, IsBetween, IsFoundBy}
+use Rattle.wi_graph.proofs.Tests.{clash, at_same}
 
 -- ---- the first of a range
 
@@ -27,11 +27,6 @@ climbs xs h i (suc m) l = let on : i + m + 1 ≡ i + suc m = omega arith in omeg
 pub never_falls : (xs : List ℕ) → IsStrictlyIncreasing xs → IsNonDecreasing xs
 never_falls xs h = IsNonDecreasingBy-from_default (λ (x : ℕ). x) xs 0 (λ i j l m. let at : i + (j - i) ≡ j = omega arith in omega (arith, ap (λ (k : ℕ). get_or xs k 0) at, climbs xs h i (j - i) (omega arith)))
 
-at_place : (xs : List ℕ) (i : ℕ) → i < length xs → contains nat_cmp (as_set xs) (get_or xs i 0) ≡ true
-at_place [] i l = absurd (omega arith)
-at_place (x ∷ xs) zero l = or_left (is_at (nat_cmp x) x) _ (at_itself x)
-at_place (x ∷ xs) (suc i) l = or_right (is_at (nat_cmp (get_or xs i 0)) x) _ (at_place xs i (omega arith))
-
 place_of : (xs : List ℕ) (c : ℕ) → contains nat_cmp (as_set xs) c ≡ true → (i : ℕ) × (i < length xs) × (get_or xs i 0 ≡ c)
 place_of [] c h = cc
 place_of (x ∷ xs) c h = at (or_cases (is_at (nat_cmp c) x) _ h) (place_of xs c)
@@ -56,9 +51,6 @@ listed_later xs from k c s b l h = let x = place_of xs c h in at x.0 x.1 x.2 (ca
 -- the cell x stands at k
 standing : (xs : List ℕ) (k x : ℕ) → k < length xs → x ≡ get_or xs k x → get_or xs k 0 ≡ x
 standing xs k x l e = get_or_default xs k 0 x l ∙ sym e
-
-pub listed_found : (xs : List ℕ) (from to k x : ℕ) → Splits from xs k → k < length xs → x ≡ get_or xs k x → x ≤ to → IsBetween (as_set xs) from to x
-listed_found xs from to k x b l e m = let s = standing xs k x l e in let g = ltb-false _ _ (b.1 k 0 (omega arith) l) in (omega (arith, g, s), m, ap (contains nat_cmp (as_set xs)) (sym s) ∙ at_place xs k l)
 
 pub listed_first : (xs : List ℕ) (from to k x : ℕ) → IsStrictlyIncreasing xs → Splits from xs k → k < length xs → x ≡ get_or xs k x → (c : ℕ) → IsBetween (as_set xs) from to c → x ≤ c
 listed_first xs from to k x s b l e c h = let g = listed_later xs from k c s b h.0 h.2 in let f = standing xs k x l e in omega (arith, g.1, f)

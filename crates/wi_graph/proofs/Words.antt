@@ -39,7 +39,7 @@ pub use Rattle.wi_graph.specs.Inner.Below.{HasAreas, HasRest, IsBelow, IsLookedA
 pub use Rattle.wi_graph.specs.Inner.Bounds.{AreWithin}
 pub use Rattle.wi_graph.specs.Inner.Changes.{Brings, HasNoIdle, IsEditCone, ReadsStay, areas_then, went_from}
 pub use Rattle.wi_graph.specs.Inner.Rooms.{AreCircles, AreInOrder, Coming, HasBoth, HasPairs, HasRooms, IsGraph, IsStaged, Rooms, areas_of, brought_to, coming_at, edges_in, edges_over, in_room, items_of, less_these, put_over, room_at, room_over, times, times_coming, times_in, with_room}
-pub use Rattle.wi_graph.specs.Inner.Search.{AreNoted, GoesToReaders, HasAll, HasReaders, IsConeBeyond, IsConeOf, IsLeast, IsListBeyond, beyond, missing}
+pub use Rattle.wi_graph.specs.Inner.Search.{AreNoted, GoesToReaders, HasAll, HasReaders, IsConeBeyond, IsConeOf, IsConeSet, IsLeast, IsListBeyond, beyond, missing}
 pub use Rattle.wi_graph.specs.Inner.Staging.{HasThese, times_among}
 pub use Rattle.wi_graph.specs.Inner.Stripping.{AreStripped, EachReadsOne, IsFree, IsTracking, IsWithin, KeepsReads, ReadsOne, Waits, items_there, reads_in, waiting_for, waits_for}
 pub use Rattle.wi_graph.specs.Inner.Turning.{AreTurns, SettlesCone, StandsApart, has_circle_outside, has_one, has_room_in, meets_one_of, reads_cell, reads_one_of, reads_outside, turned_by}

@@ -36,7 +36,7 @@ pub(crate) fn listed_beyond<W: Watch>(
 }
 
 /// The same as a set, of cells that aren't watched.
-fn cone_beyond<W: Watch>(
+pub(crate) fn cone_beyond<W: Watch>(
     alloc: Global,
     readers: &RangeIndex,
     cells: &[Address],

@@ -66,8 +66,8 @@ fn has_one(area: Rect, cells: &[Address], bounds: Rect) -> bool
     first_listed(cells, bounds, area).is_some()
 }
 
-/// Whether what is next is for a circular cell, or reads one. The work is that of `next_within` for each rectangle that is read;
-/// where no cell is circular, it is constant.
+/// Whether what is next is for a circular cell, or reads one. It takes a search among the circular cells for each rectangle
+/// that is read; where no cell is circular, it is constant.
 #[inline(always)]
 pub(crate) fn meets_circle(next: &[Brought], circles: &CellSet) -> bool
     ensures { result ≡ meets_one_of next.now circles.now }
@@ -102,8 +102,8 @@ fn has_circle(area: Rect, circles: &CellSet) -> bool
     next_within(circles, area, area.first()).is_some()
 }
 
-/// Whether what is next is for one cell that isn't circular, and reads neither that cell nor a formula. The work is that of a search
-/// among the rooms for each rectangle that is read.
+/// Whether what is next is for one cell that isn't circular, and reads neither that cell nor a formula. It takes a search among the
+/// rooms for each rectangle that is read.
 pub(crate) fn stands_apart(rooms: &Rooms, circles: &CellSet, next: &[Brought]) -> bool
     ensures { IsTrue result → StandsApart rooms.now next.now circles.now }
 {

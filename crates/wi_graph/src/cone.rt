@@ -4,8 +4,10 @@ ghost use Rattle.std.specs.Prelude.{◌≡◌, ◌∷◌, ℕ, [], true, false, 
 ghost use Rattle.std.specs.List.Sorted.{IsStrictlyIncreasing};
 ghost use Rattle.wi_ranges.specs.Bag.{IsReader, IsRead};
 ghost use Rattle.wi_values.specs.Address.{is_one_of};
-ghost use Rattle.wi_graph.specs.Inner.Search.{HasAll, HasReaders, IsConeOf, IsLeast, AreNoted};
+ghost use Rattle.wi_graph.specs.Inner.Search.{IsConeOf, AreNoted};
 
+use crate::beyond::cone_beyond;
+use crate::watch::Unwatched;
 use std::alloc::{AllocError, Global};
 use wi_ranges::{RangeIndex, RisingSet};
 use wi_values::{Address, rise};
@@ -22,7 +24,7 @@ pub(crate) fn listed_cone(
     if are_alone(readers, cells) {
         return Vec::from_slice(alloc, cells);
     }
-    let found = cone_of(alloc, readers, cells)?;
+    let found = cone_beyond(alloc, readers, cells, &Unwatched)?;
     found.into_list()
 }
 
@@ -50,22 +52,6 @@ pub(crate) fn any_is_read(readers: &RangeIndex, cells: &[Address]) -> bool
         }
     }
     false
-}
-
-/// The cells that read one of these, at any remove, with themselves.
-fn cone_of(alloc: Global, readers: &RangeIndex, cells: &[Address]) -> Result<RisingSet, AllocError>
-    ensures all { IfOk result (HasAll cells.now) }
-    ensures closed { IfOk result (HasReaders readers.now) }
-    ensures least { IfOk result (IsLeast readers.now cells.now) }
-{
-    let mut found = RisingSet::new(alloc);
-    let mut work = Vec::new(alloc);
-    note(cells, &mut found, &mut work)?;
-    'cells: while let Some(cell) = work.pop() {
-        let next = readers.readers_of(cell)?;
-        note(&next, &mut found, &mut work)?;
-    }
-    Ok(found)
 }
 
 /// Puts cells into a set, and those that are new there at the end of a list.

@@ -83,8 +83,8 @@ impl Graph {
     /// Makes ready an edit, which gives each named cell a content or none; of two for one cell the later counts. If memory runs out, all
     /// is as before. The cone is searched for only where a cycle may be closed or opened: not where each
     /// cell reads what it read, nor where one cell that isn't circular gets something that reads neither it nor a formula. Where it reads
-    /// formulas, but no circular cell, what it reads at any remove is searched for it at the same time, so that the work is that of the
-    /// smaller search.
+    /// formulas, but no circular cell, what it reads at any remove is searched for it at the same time, so that the work grows with the
+    /// smaller of the two.
     #[inline(always)]
     pub fn stage(&mut self, changes: &[NewContent]) -> Result<(), AllocError>
         requires { self.old.staged ≡ None }

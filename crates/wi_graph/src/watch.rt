@@ -1,6 +1,6 @@
 //! Cells at which a search for a cone may stop.
 
-ghost use Rattle.std.specs.Prelude.{◌≡◌, ℕ, Bool};
+ghost use Rattle.std.specs.Prelude.{◌≡◌, ℕ, Bool, false};
 
 use wi_values::Address;
 
@@ -11,4 +11,15 @@ pub trait Watch {
     /// Whether a cell is watched.
     fn has(&self, at: Address) -> bool
         ensures { result ≡ watched self.now at };
+}
+
+/// No cell is watched.
+pub(crate) struct Unwatched;
+
+impl Watch for Unwatched {
+    ghost watched = { λ _ _. false };
+
+    fn has(&self, _at: Address) -> bool {
+        false
+    }
 }

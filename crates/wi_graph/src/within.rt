@@ -2,7 +2,7 @@
 
 ghost use Rattle.std.specs.Prelude.{◌≡◌, ◌<◌, ◌≤◌, ◌+◌, ◌&&◌, ℕ, true, false, nat_lt, nat_le, length, IfSome};
 ghost use Rattle.std.specs.List.Sorted.{IsStrictlyIncreasing, IsPartitionPoint};
-ghost use Rattle.std.specs.BTreeSet.{contains};
+ghost use Rattle.std.specs.BTreeSet.{BTreeSet, contains};
 ghost use Rattle.wi_values.specs.Address.{row_of, is_within};
 ghost use Rattle.wi_ranges.specs.Inner.Rising.{as_set};
 ghost use Rattle.wi_graph.specs.Inner.Bounds.{AreWithin};
@@ -25,14 +25,15 @@ pub(crate) fn next_within(cells: &CellSet, area: Rect, from: Address) -> Option<
     next_in_part(cells.set(), part, from)
 }
 
-/// The same, wherever the rectangle lies.
-fn next_in_part(cells: &BTreeSet<Address>, area: Rect, from: Address) -> Option<Address>
-    ensures found { IfSome result (IsAhead cells.now area from) }
-    ensures first { (c : ℕ) → IsAhead cells.now area from c → IsFoundBy result c }
+/// The same of a set or a list, wherever the rectangle lies.
+fn next_in_part<C: Between>(cells: &C, area: Rect, from: Address) -> Option<Address>
+    requires { C.is_in_order cells.now }
+    ensures found { IfSome result (IsAhead (C.cells cells.now) area from) }
+    ensures first { (c : ℕ) → IsAhead (C.cells cells.now) area from c → IsFoundBy result c }
 {
     let mut ahead = Some(from);
     while let Some(start) = ahead {
-        let cell = first_between(cells, start, area.last())?;
+        let cell = cells.first_between(start, area.last())?;
         if area.contains(cell) {
             return Some(cell);
         }
@@ -41,7 +42,7 @@ fn next_in_part(cells: &BTreeSet<Address>, area: Rect, from: Address) -> Option<
     None
 }
 
-/// The first cell of a set in a rectangle after one of the rectangle. The work is that of `next_within`.
+/// The first cell of a set in a rectangle after one of the rectangle, at the cost of `next_within`.
 pub(crate) fn next_after(cells: &CellSet, area: Rect, cell: Address) -> Option<Address>
     requires { cell ≤ area.last }
     ensures found { IfSome result (IsAhead cells.now area (cell + 1)) }
@@ -51,7 +52,8 @@ pub(crate) fn next_after(cells: &CellSet, area: Rect, cell: Address) -> Option<A
     next_within(cells, area, from)
 }
 
-/// The first cell of a list, which is in row-major order and within bounds, in a rectangle. The work is that of `next_within`.
+/// The first cell of a list, which is in row-major order and within bounds, in a rectangle, at the cost of
+/// `next_within`.
 pub(crate) fn first_listed(cells: &[Address], bounds: Rect, area: Rect) -> Option<Address>
     requires order { IsStrictlyIncreasing cells.now }
     requires within { AreWithin bounds (as_set cells.now) }
@@ -59,24 +61,7 @@ pub(crate) fn first_listed(cells: &[Address], bounds: Rect, area: Rect) -> Optio
     ensures first { (c : ℕ) → IsAhead (as_set cells.now) area area.first c → IsFoundBy result c }
 {
     let part = common(area, bounds)?;
-    next_listed(cells, part, area.first())
-}
-
-/// The same at a cell or after it, wherever the rectangle lies.
-fn next_listed(cells: &[Address], area: Rect, from: Address) -> Option<Address>
-    requires { IsStrictlyIncreasing cells.now }
-    ensures found { IfSome result (IsAhead (as_set cells.now) area from) }
-    ensures first { (c : ℕ) → IsAhead (as_set cells.now) area from c → IsFoundBy result c }
-{
-    let mut ahead = Some(from);
-    while let Some(start) = ahead {
-        let cell = listed_between(cells, start, area.last())?;
-        if area.contains(cell) {
-            return Some(cell);
-        }
-        ahead = place_after(area, cell);
-    }
-    None
+    next_in_part(&cells, part, area.first())
 }
 
 /// The rows of a rectangle from the row of one of its cells on.
@@ -87,38 +72,57 @@ pub(crate) fn rows_from(area: Rect, cell: Address) -> Rect
     Rect::new(Address::at(cell.row(), area.first().column()), area.last())
 }
 
-/// The first cell of a set from one cell to another.
-fn first_between(cells: &BTreeSet<Address>, from: Address, to: Address) -> Option<Address>
-    ensures found { IfSome result (IsBetween cells.now from to) }
-    ensures first { (c : ℕ) → IsBetween cells.now from to c → IsFoundBy result c }
-{
-    if to < from {
-        return None;
-    }
-    match cells
-        .range((Bound::Included(from), Bound::Included(to)))
-        .next()
-    {
-        Some(cell) => Some(*cell),
-        None => None,
+/// Cells of which the first from one to another can be found.
+trait Between {
+    /// The set of them.
+    ghost cells: { Self → BTreeSet ℕ };
+
+    /// They stand as the search needs them.
+    ghost is_in_order: { Self → Type 0 };
+
+    /// The first of them from one cell to another.
+    fn first_between(&self, from: Address, to: Address) -> Option<Address>
+        requires { is_in_order self.now }
+        ensures found { IfSome result (IsBetween (cells self.now) from to) }
+        ensures first { (c : ℕ) → IsBetween (cells self.now) from to c → IsFoundBy result c };
+}
+
+impl Between for BTreeSet<Address> {
+    ghost cells = { λ set. set };
+
+    ghost is_in_order = { λ set. ⊤ };
+
+    fn first_between(&self, from: Address, to: Address) -> Option<Address> {
+        if to < from {
+            return None;
+        }
+        match self
+            .range((Bound::Included(from), Bound::Included(to)))
+            .next()
+        {
+            Some(cell) => Some(*cell),
+            None => None,
+        }
     }
 }
 
-/// The first cell of a list from one cell to another.
-fn listed_between(cells: &[Address], from: Address, to: Address) -> Option<Address>
-    requires { IsStrictlyIncreasing cells.now }
-    ensures found { IfSome result (IsBetween (as_set cells.now) from to) }
-    ensures first { (c : ℕ) → IsBetween (as_set cells.now) from to c → IsFoundBy result c }
-{
-    let before = count_before(cells, from);
-    if before == cells.len() {
-        return None;
+impl Between for &[Address] {
+    ghost cells = { λ list. as_set list.now };
+
+    ghost is_in_order = { λ list. IsStrictlyIncreasing list.now };
+
+    fn first_between(&self, from: Address, to: Address) -> Option<Address> {
+        let cells = *self;
+        let before = count_before(cells, from);
+        if before == cells.len() {
+            return None;
+        }
+        let cell = cells[before];
+        if to < cell {
+            return None;
+        }
+        Some(cell)
     }
-    let cell = cells[before];
-    if to < cell {
-        return None;
-    }
-    Some(cell)
 }
 
 /// How many cells of a list come before a cell.

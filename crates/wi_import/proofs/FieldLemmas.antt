@@ -75,10 +75,6 @@ not_faulty f e =
 
 -- ---- one record, one field more
 
--- the first fields fail a test, and the rest
-pub apart : (p : Field → Bool) (xs ys : List Field) → list_any p (xs ++ ys) ≡ false → (list_any p xs ≡ false) × (list_any p ys ≡ false)
-apart p xs ys e = or_parts (list_any p xs) (list_any p ys) (sym (list_any-append p xs ys) ∙ e)
-
 -- the fields of what is left of the records, from this one on
 abbrev pub fields_left : ℕ → ℕ → ℕ → List (Vec (Vec ℕ Global) Global) → List Field
 fields_left row column i records = fields_from (row + i) column (all_bytes (drop i records))

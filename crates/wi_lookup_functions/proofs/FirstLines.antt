@@ -10,27 +10,21 @@ record Spans (r : Area) (top bottom left right : ℕ) : Type 0 where
   pub left_is : column_of r.first ≡ left
   pub right_is : column_of r.last ≡ right
 
-spans_rect : (a b top bottom left right : ℕ) → min (row_of a) (row_of b) ≡ top → max (row_of a) (row_of b) ≡ bottom → min (column_of a) (column_of b) ≡ left → max (column_of a) (column_of b) ≡ right → left < 16384 → right < 16384 → Spans (rect_of a b) top bottom left right
-spans_rect a b top bottom left right e f g h l m = record {
-  top_is = rw (e, g) (row_of_place top left l);
-  bottom_is = rw (f, h) (row_of_place bottom right m);
-  left_is = rw (e, g) (column_of_place top left l);
-  right_is = rw (f, h) (column_of_place bottom right m);
-}
-
--- ---- what the first column and the first row are
-
 -- a rectangle from a cell to one below it and to its right
 spans_to : (a bottom right : ℕ) → row_of a ≤ bottom → column_of a ≤ right → right < 16384 → Spans (rect_of a (place bottom right)) (row_of a) bottom (column_of a) right
 spans_to a bottom right h k l =
     let row_is = row_of_place bottom right l in
     let column_is = column_of_place bottom right l in
-    let top : min (row_of a) bottom ≡ row_of a = omega (arith, h) in
-    let low : max (row_of a) bottom ≡ bottom = omega (arith, h) in
-    let left : min (column_of a) right ≡ column_of a = omega (arith, k) in
-    let far : max (column_of a) right ≡ right = omega (arith, k) in
-    spans_rect a (place bottom right) (row_of a) bottom (column_of a) right
-    (ap (min (row_of a)) row_is ∙ top) (ap (max (row_of a)) row_is ∙ low) (ap (min (column_of a)) column_is ∙ left) (ap (max (column_of a)) column_is ∙ far) (column_within a) l
+    let top : min (row_of a) (row_of (place bottom right)) ≡ row_of a = ap (min (row_of a)) row_is ∙ omega (arith, h) in
+    let low : max (row_of a) (row_of (place bottom right)) ≡ bottom = ap (max (row_of a)) row_is ∙ omega (arith, h) in
+    let left : min (column_of a) (column_of (place bottom right)) ≡ column_of a = ap (min (column_of a)) column_is ∙ omega (arith, k) in
+    let far : max (column_of a) (column_of (place bottom right)) ≡ right = ap (max (column_of a)) column_is ∙ omega (arith, k) in
+    record {
+      top_is = rw (top, left) (row_of_place (row_of a) (column_of a) (column_within a));
+      bottom_is = rw (low, far) row_is;
+      left_is = rw (top, left) (column_of_place (row_of a) (column_of a) (column_within a));
+      right_is = rw (low, far) column_is;
+    }
 
 -- ---- their cells
 
@@ -58,11 +52,7 @@ module _ (r l : Area) (bottom right h w n : ℕ) (a b : ℕ → ℕ)
   wide = let left = spans.left_is in let end = spans.right_is in omega (arith, left, end, w_is)
 
   cells_are : cells_of l ≡ block (row_of r.first) h (column_of r.first) w
-  cells_are =
-      ap (λ (j : ℕ). block j (height l) (column_of l.first) (width l)) spans.top_is
-      ∙ ap (λ (j : ℕ). block (row_of r.first) j (column_of l.first) (width l)) tall
-      ∙ ap (λ (j : ℕ). block (row_of r.first) h j (width l)) spans.left_is
-      ∙ ap (λ (j : ℕ). block (row_of r.first) h (column_of r.first) j) wide
+  cells_are = rw (tall, wide, spans.top_is, spans.left_is) refl
 
   many : length (cells_of l) ≡ n
   many = ap length cells_are ∙ length-block (row_of r.first) h (column_of r.first) w ∙ n_is

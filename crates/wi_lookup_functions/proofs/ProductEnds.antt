@@ -1,5 +1,5 @@
 -- The sum over all places is SUMPRODUCT, and how SUMPRODUCT ends.
-use Rattle.wi_lookup_functions.proofs.Words.{◌≡◌, ℕ, suc, ◌<◌, ◌≤◌, ◌+◌, ◌-◌, ◌==◌, Bool, true, false, ◌&&◌, ◌||◌, List, [], ◌∷◌, ◌++◌, map, fold, drop, get_or, length, Option, Some, None, refl, sym, ap, ◌∙◌, subst, arith, Result, slice_get, unwrap_or, if◌then◌else◌, list_all, list_any, range_with_len, and_parts, and_from, eq-eqb, drop_more, drop_all, length-map, append_assoc, append-nil, list_all-map, slice_get-map, Area, cells_of, is_within, is_within_one, row_of, column_of, ErrorKind, BadValue, Value, Empty, Number, Region, region_of, region_referred, addition, multiplication, zero_number, one_number, same_size, of_one_size, factor, product_at, products, sum_of_items, sum_product_value, Item, scalar, number_of_item, with_number, ◌>>=◌, and_then, map_until_error, Missing, Memory, arguments_in, refers_to, area_referred, Stop, Ending, Error, Stopped, Agrees, Gives, areas_of, product_there, sum_over, sum_through, with_factor, with_place, IsAreaError, IsMissingInAny, same_extent, same_place}
+use Rattle.wi_lookup_functions.proofs.Words.{◌≡◌, ℕ, suc, ◌+◌, ◌-◌, ◌==◌, Bool, true, false, ◌&&◌, ◌||◌, List, [], ◌∷◌, ◌++◌, map, fold, length, Option, Some, None, refl, sym, ap, ◌∙◌, subst, arith, Result, slice_get, unwrap_or, if◌then◌else◌, list_all, list_any, range_with_len, and_parts, and_from, eq-eqb, length-map, list_all-map, slice_get-map, Area, cells_of, is_within, is_within_one, row_of, column_of, ErrorKind, BadValue, Value, Empty, Number, Region, region_of, region_referred, addition, multiplication, zero_number, one_number, same_size, of_one_size, factor, product_at, products, sum_of_items, sum_product_value, Item, scalar, number_of_item, with_number, ◌>>=◌, and_then, map_until_error, Missing, Memory, arguments_in, refers_to, Stop, Ending, Error, Stopped, Agrees, Gives, areas_of, product_there, sum_over, sum_through, with_factor, with_place, IsAreaError, IsMissingInAny, same_extent, same_place}
 use Rattle.std.proofs.Common.{option_map}
 use Rattle.std.specs.Prelude.{Ok, Err}
 use Rattle.wi_fraction.specs.Number as numbers
@@ -143,33 +143,6 @@ module _ (args : List given.Argument) where
   -- those that are still to be taken make of those that are taken all
   abbrev pub Taken : List Area → List given.Argument → Type 0
   Taken taken left = and_then (λ rs. Ok (taken ++ rs)) (areas_of left) ≡ areas_of args
-
-  pub none_taken : (taken : List Area) → taken ≡ [] → Taken taken args
-  none_taken taken e = ap (λ (ts : List Area). and_then (λ rs. Ok (ts ++ rs)) (areas_of args)) e ∙ at (areas_of args)
-    where
-      at : (o : Result (List Area) ErrorKind) → and_then (λ rs. Ok ([] ++ rs)) o ≡ o
-      at (Ok rs) = refl
-      at (Err e) = refl
-
-  next : (taken : List Area) (i : ℕ) (a : given.Argument) (o : Result Area ErrorKind) → i < length args → a ≡ get_or args i a → o ≡ area_referred a → Taken taken (drop i args) →
-      and_then (λ rs. Ok (taken ++ rs)) (and_then (λ y. and_then (λ ys. Ok (y ∷ ys)) (areas_of (drop (i + 1) args))) o) ≡ areas_of args
-  next taken i a o l is m h =
-      ap (λ (q : Result Area ErrorKind). and_then (λ rs. Ok (taken ++ rs)) (and_then (λ y. and_then (λ ys. Ok (y ∷ ys)) (areas_of (drop (i + 1) args))) q)) (m ∙ ap area_referred is)
-      ∙ ap (λ (xs : List given.Argument). and_then (λ rs. Ok (taken ++ rs)) (areas_of xs)) (sym (drop_more args i a l))
-      ∙ h
-
-  pub one_taken : (taken more : List Area) (i : ℕ) (a : given.Argument) (r : Area) → i < length args → a ≡ get_or args i a → Ok r ≡ area_referred a → more ≡ taken ++ r ∷ [] → Taken taken (drop i args) → Taken more (drop (i + 1) args)
-  one_taken taken more i a r l is m n h = ap (λ (ts : List Area). and_then (λ rs. Ok (ts ++ rs)) (areas_of (drop (i + 1) args))) n ∙ at (areas_of (drop (i + 1) args)) ∙ next taken i a (Ok r) l is m h
-    where
-      at : (o : Result (List Area) ErrorKind) → and_then (λ rs. Ok ((taken ++ r ∷ []) ++ rs)) o ≡ and_then (λ rs. Ok (taken ++ rs)) (and_then (λ ys. Ok (r ∷ ys)) o)
-      at (Ok rs) = ap Ok (append_assoc taken (r ∷ []) rs)
-      at (Err e) = refl
-
-  pub not_taken : (taken : List Area) (i : ℕ) (a : given.Argument) (e : ErrorKind) (x : Ending (Stop ℕ)) → x ≡ Error e → i < length args → a ≡ get_or args i a → Err e ≡ area_referred a → Taken taken (drop i args) → IsAreaError args x
-  not_taken taken i a e x n l is m h = subst (IsAreaError args) (sym n) (sym (next taken i a (Err e) l is m h))
-
-  pub all_taken : (taken : List Area) (i : ℕ) → length args ≤ i → Taken taken (drop i args) → areas_of args ≡ Ok taken
-  all_taken taken i l h = sym h ∙ ap (λ (xs : List given.Argument). and_then (λ rs. Ok (taken ++ rs)) (areas_of xs)) (drop_all i args l) ∙ ap Ok (append-nil taken)
 
   -- ---- the ends of SUMPRODUCT
 

@@ -21,8 +21,8 @@ use wi_arguments::{Argument, Lookup, TakesCells, take_cells};
 use wi_value_functions::{Ending, Stop, counted, settled, whole_value};
 use wi_values::{Address, Rect, Value};
 
-/// COUNTIF: how many cells of the first argument meet the criterion that the second is. The work is that of a walk through the
-/// filled cells, at each of which the criterion is tried.
+/// COUNTIF: how many cells of the first argument meet the criterion that the second is. It walks through the filled
+/// cells, and tries the criterion at each.
 pub(crate) fn count_if_value<L: Lookup>(
     alloc: Global,
     arguments: &[Argument],

@@ -22,7 +22,7 @@ use wi_values::{Address, ErrorKind, Rect, Value};
 
 /// SUMIF: the sum of the third argument's cells at the places where the first's meet the criterion that the second is; without a
 /// third it is the first. The first error met, from the left and the top, is the result, and `BadValue` where the two are not of
-/// one size. The work is that of a walk through the filled cells of the first, at each of which the criterion is tried.
+/// one size. It walks through the filled cells of the first, and tries the criterion at each.
 pub(crate) fn sum_if_value<L: Lookup>(
     alloc: Global,
     arguments: &[Argument],

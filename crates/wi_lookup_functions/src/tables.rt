@@ -33,7 +33,7 @@ pub(crate) fn v_lookup_value<L: Lookup>(
     value_found(alloc, look_up(Axis::Rows, arguments, lookup), lookup)
 }
 
-/// The value in a row of a rectangle, in the column whose first cell is found. The work is that of `v_lookup_value`, along the
+/// The value in a row of a rectangle, in the column whose first cell is found: as `v_lookup_value`, along the
 /// first row.
 pub(crate) fn h_lookup_value<L: Lookup>(
     alloc: Global,

@@ -1,5 +1,5 @@
 -- What is appended to a text that must stay at the front.
-use Rattle.wi_parser.proofs.Words.{◌≡◌, refl, ℕ, List, ◌++◌, sym, ap, ◌∙◌, [], ◌∷◌, append_assoc, map, codes, cond, Result, Ok, Err, is_ok, OnOk, append-nil, subst, starts_with_of_append, flat_map, StartsWith, reference_text, Expr, Operator, Pair, Reference, pair_symbols, spelling, spelling_of_all, spelling_of_more, Tree, Trees, parenthesized, percent, binary, what_if, no_trees, more_trees, Symbol, close_parenthesis, infix_mark, percent_mark, tree_of, all_of, pair_of, cell_named, operator_text, symbol_text, symbols_text, tree_text, pairs_text}
+use Rattle.wi_parser.proofs.Words.{◌≡◌, refl, ℕ, List, ◌++◌, sym, ap, ◌∙◌, [], ◌∷◌, append_assoc, map, codes, cond, Result, Ok, Err, is_ok, OnOk, append-nil, subst, starts_with_of_append, flat_map, StartsWith, reference_text, Expr, Operator, Pair, Reference, pair_symbols, spelling, spelling_of_more, Tree, Trees, parenthesized, percent, binary, what_if, no_trees, more_trees, Symbol, close_parenthesis, infix_mark, percent_mark, tree_of, all_of, pair_of, cell_named, operator_text, symbol_text, symbols_text, tree_text, pairs_text}
 pub use Rattle.std.proofs.Transfers.{starts_with_trans}
 use Rattle.std.proofs.lemmas.List.Concat.{flat_map-append}
 pub use Rattle.wi_fraction.proofs.Decimals.{starts_itself, starts_more, starts_pushed, cut_place}
@@ -40,10 +40,6 @@ what_if_written (Ok u) f pairs o a b c d h k l m =
 abbrev pub parameters_from : List ℕ → Trees → List ℕ
 parameters_from sep no_trees = codes ")"
 parameters_from sep (more_trees t ts) = sep ++ (tree_text t ++ symbols_text (spelling_of_more ts))
-
-pub from_first : (ts : Trees) → parameters_from [] ts ≡ symbols_text (spelling_of_all ts)
-from_first no_trees = refl
-from_first (more_trees t ts) = sym (symbols_more (spelling t) (spelling_of_more ts))
 
 pub from_other : (ts : Trees) → parameters_from (codes ";") ts ≡ symbols_text (spelling_of_more ts)
 from_other no_trees = refl

@@ -124,7 +124,8 @@ fn push_parameters(parameters: &[Expr], out: &mut String) -> Result<(), AllocErr
 
 // Appends a text in double quotes, a quote inside doubled. On an error a part of it may be there.
 fn push_quoted(content: &str, out: &mut String) -> Result<(), AllocError>
-    ensures { AppendsText result (string_bytes out.old) (string_bytes out.new) (quoted content.now) }
+    ensures { AppendsText
+        result (string_bytes out.old) (string_bytes out.new) (quoted content.now) }
 {
     out.push_str("\"")?;
     let mut rest = content;

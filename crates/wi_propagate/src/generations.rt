@@ -98,8 +98,8 @@ impl Generations {
         raise(&mut self.named, cells, edit);
     }
 
-    /// Notes what is owed. The work is that of the cone of what is owed, of a sort, and of a search for readers for each owed cell. If memory
-    /// runs out, all is owed still.
+    /// Notes what is owed. The work grows with the cone of what is owed, beside a sort and a search for the readers of each owed cell. If
+    /// memory runs out, all is owed still.
     pub(crate) fn settle(&mut self, graph: &Graph) -> Result<(), AllocError>
         requires staged { graph.now.staged ≡ None }
         requires owed { (s : Sheet) → AreEdgesOf graph.now.now s

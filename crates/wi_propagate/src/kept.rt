@@ -311,7 +311,7 @@ impl Calculator for KeptCalculator {
     }
 
     /// What a cell shows under replacements. A formula is evaluated where its value is not kept, and its value is kept then.
-    /// A cell that is circular takes no look at the replacements, and one without a formula that isn't replaced a search among
+    /// A cell that is circular takes no look at the replacements, and one that is replaced or has no formula a search among
     /// them, with work that grows with the logarithm of their count. For any other all are compared with those of the last two
     /// questions, and where they are others they are copied, put in order and hashed. The key of each formula that is asked for
     /// compares the replaced cells with those that are known, and finds the cone of one that isn't. Those that the formula reaches

@@ -1,4 +1,4 @@
-//! What a cell shows that no formula gives.
+//! A cell's value where no formula gives it.
 
 ghost use Rattle.std.specs.Prelude.{IfOk};
 ghost use Rattle.wi_values.specs.Replacements.{IsInOrder};
@@ -11,15 +11,15 @@ use wi_store::Store;
 use wi_values::{Address, Replacement, Value};
 use wi_worlds::value_at;
 
-/// What a cell shows where no formula gives it, or else its formula.
+/// A cell's value where no formula gives it, or else its formula.
 #[derive(Drop)]
 pub enum Standing<'a> {
     Value(Value),
     Formula(&'a Formula),
 }
 
-/// What a cell shows under replacements where it is replaced or has no formula, and else its formula, so that what stands there
-/// is looked at once. The work grows with the logarithms of the count of replacements and of the count of occupied cells.
+/// The value of a cell under replacements where it is replaced or has no formula, which it shows unless it is circular, and else
+/// its formula, so that what stands there is looked at once. The work grows with the logarithms of the count of replacements and of the count of occupied cells.
 pub(crate) fn standing_value<'a>(
     alloc: Global,
     store: &'a Store,

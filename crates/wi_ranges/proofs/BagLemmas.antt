@@ -34,16 +34,6 @@ has_one_more m ks ls l g = one_more m.pair (bag_of ks) (bag_of ls) (gains_count 
 pub has_one_less : (m : Numbered) (ks ls : List Piece) → first_row m.pair < 1048576 → Gains (blocks_of m.pair) m ls ks → HasOneLess m.pair (bag_of ks) (bag_of ls)
 has_one_less m ks ls l g = one_less m.pair (bag_of ks) (bag_of ls) (gains_count m ls ks l g)
 
--- nothing is there to take away
-pub has_none : (p : RangePair) (bag : Bag) → count_of bag p ≡ 0 → HasOneLess p bag bag
-has_none p bag e q = by (is_same p q) refl
-  where
-    by : (b : Bool) → is_same p q ≡ b → count_of bag q ≡ (if b then count_of bag q - 1 else count_of bag q)
-    by true h =
-        let z : count_of bag q ≡ 0 = ap (λ (x : RangePair). count_of bag x) (sym (same_is p q h)) ∙ e in
-        omega (arith, z)
-    by false h = refl
-
 -- ---- the index
 
 both_equal : (o p : Ordering) → is_eq (ordering_then o p) ≡ (is_eq o && is_eq p)

@@ -1,5 +1,5 @@
 -- The readers of one cell: one more, one less, and whether a cell is among them.
-use Rattle.wi_ranges.proofs.Words.{◌≡◌, ◌↔◌, ◌==◌, ℕ, ◌<◌, ◌≤◌, ◌+◌, Bool, true, false, ◌||◌, cond, List, [], ◌∷◌, ◌++◌, length, take, get_or, Option, Some, None, refl, sym, ap, subst, ◌∙◌, arith, nat_lt, unwrap_or, position, position_or_len, swap_remove, IsPermutation, true≢false, or_from, ltb-false, ltb-true, eqb-true, eq-eqb, ne_eqb, list_any_more, passes_at_first, fails_before_first, IsPermutation-cons, IsPermutation-trans, IsPermutation-to_front, IsPermutation-middle, IsPermutation-swap_remove, or-false, or_assoc, turn_test, is_one_of, has_nowhere}
+use Rattle.wi_ranges.proofs.Words.{◌≡◌, ◌==◌, ℕ, ◌<◌, ◌≤◌, ◌+◌, Bool, true, false, ◌||◌, cond, List, [], ◌∷◌, ◌++◌, length, take, get_or, Option, Some, None, refl, sym, ap, subst, ◌∙◌, arith, nat_lt, unwrap_or, position, position_or_len, swap_remove, IsPermutation, true≢false, or_from, ltb-false, ltb-true, eqb-true, eq-eqb, list_any_more, passes_at_first, fails_before_first, IsPermutation-cons, IsPermutation-trans, IsPermutation-to_front, IsPermutation-middle, IsPermutation-swap_remove, or_assoc, turn_test, is_one_of, has_nowhere}
 
 -- ---- where a cell stands
 
@@ -45,19 +45,3 @@ one_more_in cells i x r old mid new l e f g =
     f ∙ ap (λ b. b || r == x) g ∙ or_assoc old _ _
     ∙ ap (λ b. old || (is_one_of (take i cells) r || b)) (turn_test r x ∙ ap (λ (y : ℕ). y == r) e)
     ∙ ap (λ b. old || b) (sym (list_any_more (λ y. y == r) cells i x l))
-
-pub first_and_others : (first r : ℕ) (others : List ℕ) (old mid new : Bool) → mid ≡ (old || r == first) → new ≡ (mid || is_one_of others r) → new ≡ (old || is_one_of (first ∷ others) r)
-first_and_others first r others old mid new e f =
-    f ∙ ap (λ b. b || is_one_of others r) (e ∙ ap (λ b. old || b) (turn_test r first)) ∙ or_assoc old _ _
-
--- ---- one alone
-
-pub only_one : (x r : ℕ) (xs : List ℕ) (old new : Bool) → xs ≡ x ∷ [] → new ≡ (old || r == x) → new ≡ (old || is_one_of xs r)
-only_one x r xs old new e f = first_and_others x r [] old new new f (sym (or-false new)) ∙ ap (λ (ys : List ℕ). old || is_one_of ys r) (sym e)
-
-pub none_alone : (x c : ℕ) (xs : List ℕ) → xs ≡ x ∷ [] → (xs ≡ c ∷ [] → Prim.⊥) → is_one_of xs c ≡ false
-none_alone x c xs e h = ap (λ (ys : List ℕ). is_one_of ys c) e ∙ not_there x c [] (ne_eqb x c (λ f. h (e ∙ ap (λ (y : ℕ). y ∷ []) f))) refl
-
-pub is_alone : (x c : ℕ) (xs : List ℕ) (b : Bool) → xs ≡ x ∷ [] → b ≡ (x == c) → (b ≡ true) ↔ (xs ≡ c ∷ [])
-is_alone x c xs b e f =
-    (λ t. e ∙ ap (λ (y : ℕ). y ∷ []) (eqb-true x c (sym f ∙ t)), λ g. f ∙ eq-eqb x c (ap (λ (ys : List ℕ). get_or ys 0 0) (sym e ∙ g)))

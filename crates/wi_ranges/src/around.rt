@@ -12,7 +12,7 @@ pub(crate) fn with_area(around: &Option<Rect>, area: Rect) -> Rect
     ensures others { (a : ℕ) → has_cell around.now a ≡ true → is_within result a ≡ true }
 {
     match around {
-        Some(around) => around.around(area),
+        Some(first) => first.around(area),
         None => area,
     }
 }

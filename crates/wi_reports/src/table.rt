@@ -27,6 +27,7 @@ pub struct DataTable {
     pub input: Address,
     /// The cells whose values take the input's place, one below the other.
     pub column: Rect,
+    /// A second input, where there are two.
     pub second: Option<SecondInput>,
 }
 
@@ -50,14 +51,12 @@ impl Model for SecondInput {
 }
 
 impl SecondInput {
-    /// The one of a pair, where there is one.
+    /// The second input that a pair of it and its cells is, where there is a pair.
     pub fn from_pair(pair: Option<(Address, Rect)>) -> Option<SecondInput>
         ensures { result ≡ pair }
     {
-        match pair {
-            Some((input, row)) => Some(SecondInput { input, row }),
-            None => None,
-        }
+        let (input, row) = pair?;
+        Some(SecondInput { input, row })
     }
 }
 

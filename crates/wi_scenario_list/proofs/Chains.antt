@@ -1,6 +1,5 @@
 -- Steps along a chain of scenarios.
-use Rattle.wi_scenario_list.proofs.Words.{◌≡◌, ℕ, ◌-◌, ◌<◌, ◌≤◌, suc, zero, length, List, ◌∷◌, Option, Some, refl, sym, ap, ◌∙◌, arith, Value, Replacement, as_map, overridden, Scenario, scenario_of, IsChain, ended, based, IsChainOf, layered, chain, chain_within, effective, as_replacements}
-use Rattle.wi_scenario_list.proofs.Own.{as_map-as_replacements, as_replacements-as_map}
+use Rattle.wi_scenario_list.proofs.Words.{◌≡◌, ℕ, ◌-◌, ◌<◌, ◌≤◌, suc, zero, length, List, ◌∷◌, Option, Some, refl, sym, ap, ◌∙◌, arith, Value, Replacement, as_map, as_map-as_replacements, as_replacements-as_map, overridden, Scenario, scenario_of, IsChain, ended, based, IsChainOf, layered, chain, chain_within, effective, as_replacements}
 
 pub chain_some : (k : ℕ) (xs : List Scenario) (o : Option Scenario) (x : Scenario) → 0 < k → o ≡ Some x
     → chain_within k xs o ≡ x ∷ chain_within (k - 1) xs (scenario_of xs x.base)

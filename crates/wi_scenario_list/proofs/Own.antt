@@ -1,14 +1,6 @@
 -- A scenario's own replacements, held as entries of a map.
-use Rattle.wi_scenario_list.proofs.Words.{◌≡◌, ◌==◌, ◌&&◌, ℕ, Bool, false, not, nat_le, List, [], ◌∷◌, length, None, is_some, refl, sym, ap, ◌∙◌, IsStrictlySortedBy, nat_cmp, lookup, keys_of, remove_entry, is_at, insert_entry, length-map, Value, Replacement, IsInOrder, as_map, overridden, is_at-eq, turn_test, order_from_entries, overridden-nothing, with_replacements, max_replacements, is_replaced, as_replacements, without_replacement}
+use Rattle.wi_scenario_list.proofs.Words.{◌≡◌, ◌==◌, ◌&&◌, ℕ, Bool, false, not, nat_le, List, [], ◌∷◌, length, None, is_some, sym, ap, ◌∙◌, IsStrictlySortedBy, nat_cmp, lookup, keys_of, remove_entry, is_at, insert_entry, length-map, Value, Replacement, IsInOrder, overridden, is_at-eq, turn_test, as_map-as_replacements, order_from_entries, overridden-nothing, with_replacements, max_replacements, is_replaced, as_replacements, without_replacement}
 use Rattle.wi_scenario_list.proofs.Listed.{found-any, removed-filter}
-
-pub as_map-as_replacements : (es : List (ℕ × Value)) → as_map (as_replacements es) ≡ es
-as_map-as_replacements [] = refl
-as_map-as_replacements (e ∷ es) = ap (λ (rest : List (ℕ × Value)). e ∷ rest) (as_map-as_replacements es)
-
-pub as_replacements-as_map : (rs : List Replacement) → as_replacements (as_map rs) ≡ rs
-as_replacements-as_map [] = refl
-as_replacements-as_map (r ∷ rs) = ap (λ (rest : List Replacement). r ∷ rest) (as_replacements-as_map rs)
 
 pub order_of_entries : (es : List (ℕ × Value)) → IsStrictlySortedBy nat_cmp (keys_of es) → IsInOrder (as_replacements es)
 order_of_entries es h = order_from_entries (as_replacements es) es (as_map-as_replacements es) h

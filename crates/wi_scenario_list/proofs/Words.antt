@@ -25,15 +25,15 @@ pub use Rattle.wi_scenario_list.specs.Bases.{HasChains, based_on, is_base, is_na
 pub use Rattle.wi_scenario_list.specs.Inner.Chains.{chain_within, effective}
 unfoldable pub use Rattle.wi_scenario_list.specs.Inner.Chains.{chain}
 pub use Rattle.wi_scenario_list.specs.Inner.Held.{IsSame, base_of, held, own_of, scenario_in, with_name}
-pub use Rattle.wi_scenario_list.specs.Inner.Parts.{as_replacements, scenario_or_new, without_replacement}
+pub use Rattle.wi_scenario_list.specs.Inner.Parts.{scenario_or_new, without_replacement}
 pub use Rattle.wi_scenario_list.specs.Scenarios.{IsChain, IsChainOf, Scenario, based, ended, has_scenario, is_full, is_named, layered, max_replacements, max_scenarios, scenario_for, scenario_of, with_own, with_replacements, with_scenario, without_own, without_scenario}
 pub use Rattle.wi_scenario_list.specs.declared.layer.Layer.{Layer}
 pub use Rattle.wi_values.proofs.Order.{is_at-eq, turn_test}
-pub use Rattle.wi_values.proofs.Replacements.InOrder.{order_from_entries}
+pub use Rattle.wi_values.proofs.Replacements.InOrder.{as_map-as_replacements, as_replacements-as_map, order_from_entries}
 pub use Rattle.wi_values.proofs.Replacements.Overriding.{overridden-nothing}
 pub use Rattle.wi_values.specs.Address.{place}
 pub use Rattle.wi_values.specs.Inner.Same.{same_text_itself}
-pub use Rattle.wi_values.specs.Replacements.{IsInOrder, as_map, is_replaced, overridden}
+pub use Rattle.wi_values.specs.Replacements.{IsInOrder, as_map, as_replacements, is_replaced, overridden}
 pub use Rattle.wi_values.specs.declared.replacement.Replacement.{Replacement}
 pub use Rattle.wi_values.specs.declared.value.Value.{Value}
 pub use Rattle.wi_values.specs.declared.value.Value.TheVariants.{Logical}

@@ -1,8 +1,7 @@
 //! Replacements as entries of a map.
 
 ghost use Rattle.std.specs.Prelude.{◌≡◌, IfOk, OnOk};
-ghost use Rattle.wi_values.specs.Replacements.{IsInOrder, overridden};
-ghost use Rattle.wi_scenario_list.specs.Inner.Parts.{as_replacements};
+ghost use Rattle.wi_values.specs.Replacements.{IsInOrder, as_replacements, overridden};
 
 use std::alloc::{AllocError, Global};
 use std::collections::BTreeMap;

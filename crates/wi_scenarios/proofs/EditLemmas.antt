@@ -1,5 +1,5 @@
 -- What an edit is answered, and what is pending after it.
-use Rattle.wi_scenarios.proofs.Words.{◌≡◌, ◌==◌, ◌<◌, ◌≤◌, ◌-◌, ℕ, zero, suc, Bool, true, false, not, ◌&&◌, ◌||◌, ◌⊎◌, inl, inr, List, [], ◌∷◌, ◌++◌, length, map, take, ⊎_elim, Option, Some, None, Result, Ok, Err, refl, sym, ap, ◌∙◌, subst, arith, slice_index_or, IfOk, IsErrAnd, err_from_is_err_and, keys_of, take-append_seam, length-append, cases_lt, false_from_ne_true, false≢true, or_left, or_right, or_parts, or_cases, length-keys_of, nat_tests, Area, Replacement, Content, Sheet, StoreFault, Stored, edited, change_without_empty, applied, shown, IsMarking, same_off_edited, accepted_is, Entry, Scenario, effective, value_in, sheet_size, is_one_of, Session, new_session, Roster, pending_of, vacant_of, is_pending_for_all, all_have_so, one_of_all_has, Refusal, Memory, Stale, Desk, State, Answer, may_grow, MayRefuse, Serves, no_cause, answer, Edit, edit_refusal, limit_of, stale_in, with_stored, edit_answer, is_pending, AddsOnly, state_of, AreCovered, IsClosed, AreClosed, IsSound, AreMarked, HasRooms, SameBeside, MayFail, Commits, is_itself}
+use Rattle.wi_scenarios.proofs.Words.{◌≡◌, ◌==◌, ◌<◌, ◌≤◌, ℕ, zero, suc, Bool, true, false, not, ◌&&◌, ◌||◌, ◌⊎◌, inl, inr, List, [], ◌∷◌, ◌++◌, length, map, ⊎_elim, Option, Some, None, Result, Ok, Err, refl, sym, ap, ◌∙◌, subst, arith, slice_index_or, IfOk, IsErrAnd, err_from_is_err_and, keys_of, cases_lt, false_from_ne_true, false≢true, or_left, or_right, or_parts, or_cases, length-keys_of, nat_tests, Area, Replacement, Content, Sheet, StoreFault, Stored, edited, change_without_empty, applied, shown, IsMarking, same_off_edited, accepted_is, Entry, Scenario, effective, value_in, sheet_size, is_one_of, Session, new_session, Roster, pending_of, vacant_of, is_pending_for_all, all_have_so, one_of_all_has, Refusal, Memory, Stale, Desk, State, Answer, may_grow, MayRefuse, Serves, no_cause, answer, Edit, edit_refusal, limit_of, stale_in, with_stored, edit_answer, is_pending, AddsOnly, state_of, AreCovered, IsClosed, AreClosed, IsSound, AreMarked, HasRooms, SameBeside, MayFail, Commits, is_itself}
 use Rattle.wi_store.specs.declared.fault.StoreFault.TheVariants as store
 
 -- an edit of these
@@ -84,13 +84,6 @@ edit_served (Err refusal) s t force e fresh a b c h =
 -- a log that caught up is the same
 pub same_log : (d : Desk) (log : List Entry) → log ≡ d.log → ◌≡◌ {A = Desk} (record d { log = log }) d
 same_log d log e = ap (λ (es : List Entry). let held : Desk = record d { log = es } in held) e
-
--- an edit that was put at the end is taken back
-pub taken_back : (log more : List Entry) (x : Entry) → more ≡ log ++ x ∷ [] → take (length more - 1) more ≡ log
-taken_back log more x e = ap (λ (es : List Entry). take (length es - 1) es) e ∙ by log
-  where
-    by : (es : List Entry) → take (length (es ++ x ∷ []) - 1) (es ++ x ∷ []) ≡ es
-    by es = ap (λ (n : ℕ). take n (es ++ x ∷ [])) (omega (arith, length-append es (x ∷ []))) ∙ take-append_seam es (x ∷ [])
 
 -- ---- which cells are marked
 
@@ -311,19 +304,3 @@ module _ (marked : Sheet → List ℕ → ℕ → Bool) (law : IsMarking marked)
         (λ (f : is_one_of found a ≡ true). let o = are.only a f in
         inr (record { cells = keys_of contents; some = omega (arith, o.0, length-keys_of contents); touched = λ k e m. inl (listed_at (keys_of contents) k e m); has = o.1 }))
         (was_or_found i a l h)
-
-module _ (marked : Sheet → List ℕ → ℕ → Bool) (s t : Stored) (d n : Desk) (r : Roster) (sound : IsSound marked s d) (beside : SameBeside d n) (given : AreGivenBack n.sessions r) where
-  pub sound_given_back : t ≡ s → IsSound marked t (record n { sessions = r })
-  sound_given_back same =
-      let sessions : r.sessions ≡ d.sessions.sessions = given.sessions ∙ beside.sessions in
-      let pending : r.pending ≡ d.sessions.pending = given.pending ∙ beside.pending in
-      let many : length r.sessions ≡ length d.sessions.sessions = ap (λ (xs : List Session). length xs) sessions in
-      let at : n.current ≡ d.current = beside.current in
-      record {
-        within = omega (arith, many, at, sound.within);
-        few = omega (arith, many, sound.few);
-        each = ap (λ (xss : List (List ℕ)). length xss) pending ∙ sound.each ∙ sym many;
-        full = given.vacant;
-        closed = rw (same, sessions, pending) sound.closed;
-        covered = rw (same, sessions, pending, beside.scenarios) sound.covered;
-      }

@@ -1,5 +1,5 @@
 -- What `fill` answers, and the copies that it makes.
-use Rattle.wi_scenarios.proofs.Words.{◌≡◌, ℕ, zero, suc, ◌+◌, Bool, true, false, not, ◌||◌, if◌then◌else◌, List, [], ◌∷◌, ◌++◌, map, Option, Some, Result, Err, refl, sym, ap, ◌∙◌, subst, arith, ◌≤◌, ◌<◌, ◌⊎◌, inl, inr, append_assoc, nat_lt, is_some, keys_of, list_any, flat_map, range_with_len, map-append, map-range_with_len_more, list_any-append, Area, place, size_of, cells_of, cells_of_row, Content, content_of, IsErrAnd, err_from_is_err_and, Refusal, Memory, TooLarge, LeavesSheet, State, max_area, Answer, may_grow, MayRefuse, Serves, no_cause, Edit, edit_answer, fill_edit, fill_step, shift_refusal, copy_to, has_no_copy, or_nothing, ShiftFault, AreCopies, CopiesAs, HasNoCopies, false≢true, eq-or-lt_of_le, cells_in}
+use Rattle.wi_scenarios.proofs.Words.{◌≡◌, ℕ, ◌+◌, Bool, true, false, not, ◌||◌, if◌then◌else◌, List, [], ◌∷◌, ◌++◌, map, Option, Some, Result, Err, refl, sym, ap, ◌∙◌, subst, ◌≤◌, ◌<◌, append_assoc, nat_lt, is_some, keys_of, list_any, flat_map, range_with_len, map-append, map-range_with_len_more, list_any-append, any_in_range, Area, place, size_of, cells_of, cells_of_row, Content, content_of, IsErrAnd, err_from_is_err_and, Refusal, Memory, TooLarge, LeavesSheet, State, max_area, Answer, may_grow, MayRefuse, Serves, no_cause, Edit, edit_answer, fill_edit, fill_step, shift_refusal, copy_to, has_no_copy, or_nothing, ShiftFault, AreCopies, CopiesAs, HasNoCopies, cells_in}
 use Rattle.wi_parser.specs.declared.shift.ShiftFault.TheVariants as shift
 use Rattle.wi_scenarios.proofs.EditLemmas.{edit_grows, same_edit}
 
@@ -51,33 +51,6 @@ one_copy content from to cells changes new copy e grown h = record {
 
 -- ---- the cells of a rectangle, row after row
 
--- a test that a number of a range passes
-any_in_range : (p : ℕ → Bool) (f : ℕ → ℕ) (a n c : ℕ) → a ≤ c → c < a + n → p (f c) ≡ true → list_any p (map f (range_with_len a n)) ≡ true
-any_in_range p f a zero c l m h = absurd (omega arith)
-any_in_range p f a (suc n) c l m h = by (p (f a)) refl (λ k. any_in_range p f (a + 1) n c k (omega arith) h)
-  where
-    above : (a ≡ c) ⊎ (a < c) → p (f a) ≡ false → a + 1 ≤ c
-    above (inl same) e = absurd (false≢true (sym e ∙ ap (λ (x : ℕ). p (f x)) same ∙ h))
-    above (inr less) e = omega (arith, less)
-
-    by : (b : Bool) → p (f a) ≡ b → (a + 1 ≤ c → list_any p (map f (range_with_len (a + 1) n)) ≡ true) → (b || list_any p (map f (range_with_len (a + 1) n))) ≡ true
-    by true e ih = refl
-    by false e ih = ih (above (eq-or-lt_of_le {n = a} {m = c} l) e)
-
--- the same of lists, one for each number of a range
-any_in_lists : (p : ℕ → Bool) (g : ℕ → List ℕ) (a n c : ℕ) → a ≤ c → c < a + n → list_any p (g c) ≡ true → list_any p (flat_map g (range_with_len a n)) ≡ true
-any_in_lists p g a zero c l m h = absurd (omega arith)
-any_in_lists p g a (suc n) c l m h =
-    list_any-append p (g a) (flat_map g (range_with_len (a + 1) n)) ∙ by (list_any p (g a)) refl (λ k. any_in_lists p g (a + 1) n c k (omega arith) h)
-  where
-    above : (a ≡ c) ⊎ (a < c) → list_any p (g a) ≡ false → a + 1 ≤ c
-    above (inl same) e = absurd (false≢true (sym e ∙ ap (λ (x : ℕ). list_any p (g x)) same ∙ h))
-    above (inr less) e = omega (arith, less)
-
-    by : (b : Bool) → list_any p (g a) ≡ b → (a + 1 ≤ c → list_any p (flat_map g (range_with_len (a + 1) n)) ≡ true) → (b || list_any p (flat_map g (range_with_len (a + 1) n))) ≡ true
-    by true e ih = refl
-    by false e ih = ih (above (eq-or-lt_of_le {n = a} {m = c} l) e)
-
 -- one more cell of a row gets its copy
 pub one_cell : (content : Option Content) (from row first n m column to : ℕ) (cells : List ℕ) (changes new : List (ℕ × Option Content)) (copy : Option Content) → first + n ≡ column → m ≡ n + 1 → to ≡ place row column
     → copy_to content from to ≡ Some copy → new ≡ changes ++ (to, copy) ∷ [] → AreCopies content from (cells ++ cells_in row first n) changes → AreCopies content from (cells ++ cells_in row first m) new
@@ -92,14 +65,16 @@ one_cell content from row first n m column to cells changes new copy e more at f
 pub no_copy_in_row : (content : Option Content) (from row first n column to : ℕ) (fault : ShiftFault) → first ≤ column → column < first + n → to ≡ place row column
     → CopiesAs (copy_to content from to) (Err fault) → HasNoCopies content from (cells_in row first n) fault
 no_copy_in_row content from row first n column to shift.LeavesSheet l m at h =
-    any_in_range (has_no_copy content from) (place row) first n column l m
+    any_in_range (λ c. has_no_copy content from (place row c)) (λ a k. list_any (has_no_copy content from) (cells_in row a k)) (λ a k. refl) first n column l m
     (ap (λ (x : ℕ). has_no_copy content from x) (sym at) ∙ ap (λ o. not (is_some o)) h)
 no_copy_in_row content from row first n column to shift.Memory l m at h = tt
 
 -- a row has a cell that has no copy
 pub no_copy_in_rows : (content : Option Content) (from : ℕ) (area : Area) (first n row : ℕ) (fault : ShiftFault) → first ≤ row → row < first + n
     → HasNoCopies content from (cells_of_row row area) fault → HasNoCopies content from (flat_map (λ r. cells_of_row r area) (range_with_len first n)) fault
-no_copy_in_rows content from area first n row shift.LeavesSheet l m h = any_in_lists (has_no_copy content from) (λ r. cells_of_row r area) first n row l m h
+no_copy_in_rows content from area first n row shift.LeavesSheet l m h =
+    any_in_range (λ r. list_any (has_no_copy content from) (cells_of_row r area)) (λ a k. list_any (has_no_copy content from) (flat_map (λ r. cells_of_row r area) (range_with_len a k)))
+    (λ a k. list_any-append (has_no_copy content from) (cells_of_row a area) (flat_map (λ r. cells_of_row r area) (range_with_len (a + 1) k))) first n row l m h
 no_copy_in_rows content from area first n row shift.Memory l m h = tt
 
 -- ---- a fill that is refused

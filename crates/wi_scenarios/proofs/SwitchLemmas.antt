@@ -1,5 +1,5 @@
 -- Room for the cells that may show something else, and what is then shown.
-use Rattle.wi_scenarios.proofs.Words.{◌≡◌, ◌==◌, ℕ, ◌<◌, Bool, true, false, not, ◌||◌, ◌&&◌, List, [], ◌∷◌, length, get_or, refl, sym, ap, ◌∙◌, subst, arith, false≢true, nat_tests, list_any_at, Replacement, IsInOrder, replaced, Sheet, shown, IsMarking, outside_unmoved, last_in_order, Scenario, effective, is_one_of, slice_index_or, Session, new_session, Roster, session_at, pending_of, vacant_of, Differs, AreDiffering, HasRoom, HasRoomFor}
+use Rattle.wi_scenarios.proofs.Words.{◌≡◌, ◌==◌, ℕ, ◌<◌, Bool, true, false, not, ◌||◌, ◌&&◌, List, [], ◌∷◌, length, get_or, refl, sym, ap, ◌∙◌, subst, arith, false≢true, nat_tests, list_any_at, Replacement, IsInOrder, replaced, Sheet, shown, IsMarking, outside_unmoved, last_in_order, is_one_of, Differs, AreDiffering, HasRoom}
 
 -- ---- no replacement is another
 
@@ -76,17 +76,3 @@ room_marked marked law sheet before after cells lent found told pending vacant v
     some_differ marked law sheet before after lent told pending vacant vacant' first second
     (subst (AreDiffering before after) (sym e) differ) (subst (λ (xs : List ℕ). 0 < length xs) (sym e) some) empty
     (λ c. ap (λ (xs : List ℕ). is_one_of xs c) t ∙ marks c) room
-
--- ---- each session in turn
-
-module _ (marked : Sheet → List ℕ → ℕ → Bool) (sheet : Sheet) (before after : List Scenario) where
-  abbrev HasRoomBy : Session → List ℕ → List ℕ → Type 0
-  HasRoomBy x pending vacant = HasRoom marked sheet (effective before x.scenario) (effective after x.scenario) pending vacant
-
-  -- room stays as long as nothing of its session is changed
-  pub room_stays : (r s : Roster) (j : ℕ) → s.sessions ≡ r.sessions → s.pending ≡ r.pending → vacant_of s j ≡ vacant_of r j
-      → HasRoomFor marked sheet before after r j → HasRoomFor marked sheet before after s j
-  room_stays r s j e f g h =
-      subst (λ (x : Session). HasRoomBy x (pending_of s j) (vacant_of s j)) (sym (ap (λ (xs : List Session). slice_index_or xs j (new_session [])) e))
-      (subst (λ (cs : List ℕ). HasRoomBy (session_at r j) cs (vacant_of s j)) (sym (ap (λ (xs : List (List ℕ)). slice_index_or xs j []) f))
-      (subst (λ (cs : List ℕ). HasRoomBy (session_at r j) (pending_of r j) cs) (sym g) h))

@@ -1,7 +1,7 @@
 -- The words of the library, of the crates below and of this crate's definitions that its proofs are written in.
 pub use Rattle.std.proofs.Common.{Bool, Err, List, None, Ok, Option, Result, Some, [], ap, append_assoc, arith, cond, drop, false, get_or, if◌then◌else◌, inl, inr, length, map, max, min, not, refl, rules, set, subst, suc, sym, take, true, zero, ℕ, ⊎_elim, ◌%◌, ◌&&◌, ◌*◌, ◌++◌, ◌+◌, ◌-◌, ◌/◌, ◌<◌, ◌==◌, ◌||◌, ◌↔◌, ◌∙◌, ◌∷◌, ◌≡◌, ◌≢◌, ◌≤◌, ◌⊎◌}
 pub use Rattle.std.proofs.Math.Bool.{or-false}
-pub use Rattle.std.proofs.Math.Nat.{div-lt_iff_lt-mul, eq-or-lt_of_le, le-add_right, mod-lt}
+pub use Rattle.std.proofs.Math.Nat.{div-lt_iff_lt-mul, le-add_right, mod-lt}
 pub use Rattle.std.proofs.Math.Seq.{get_or-append_seam, take-append_seam}
 pub use Rattle.std.proofs.lemmas.Bool.{and_from, and_parts, both_ways, cases_eq, cases_lt, eqb-false, eqb-true, false_from_ne_true, false≢true, le-leb, leb-true, ne_eqb, or_cases, or_left, or_parts, or_right}
 pub use Rattle.std.proofs.lemmas.Bool.Decides.{nat_tests}
@@ -111,6 +111,7 @@ pub use Rattle.wi_values.proofs.Lists.{left_more}
 pub use Rattle.wi_values.proofs.Order.{is_itself}
 pub use Rattle.wi_values.proofs.Outcomes.{on_err}
 pub use Rattle.wi_values.proofs.ReadsBack.{addresses_read_back}
+pub use Rattle.wi_values.proofs.Small.{any_in_range}
 pub use Rattle.wi_values.proofs.Within.{within_between}
 pub use Rattle.wi_values.specs.Address.{Area, address_text, cells_of, cells_of_row, column_of, columns, is_column, is_one_of, is_within, is_within_one, place, rect_of, row_of, rows, size_of}
 pub use Rattle.wi_values.specs.AddressReading.{read_address}

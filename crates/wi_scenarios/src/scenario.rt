@@ -15,7 +15,8 @@ use wi_scenario_list::{ScenarioFault, Scenarios};
 use wi_values::{Address, Value, imported_value};
 
 /// Puts a replacement into a scenario, which is made if need be. The work grows with the count of scenarios, with the scenario's own
-/// replacements, for each session with all that its scenario puts in, and with what depends on the cell where the two differ.
+/// replacements, for each session with all that its scenario puts in, before and after, and with what depends on the cell where that
+/// is another.
 pub(crate) fn put<C: Calculator>(
     alloc: Global,
     calculator: &C,

@@ -3,32 +3,27 @@ use Rattle.wi_sessions.proofs.Words.{◌≡◌, ◌==◌, ◌<◌, ◌≤◌, �
 
 -- ---- numbers below two
 
+-- what is so of 0 and 1 is so of two numbers below 2
+below_two : (P : ℕ → ℕ → Type 0) → P zero zero → P zero (suc zero) → P (suc zero) zero → P (suc zero) (suc zero) → (a b : ℕ) → a < 2 → b < 2 → P a b
+below_two P none last first both zero zero l m = none
+below_two P none last first both zero (suc zero) l m = last
+below_two P none last first both (suc zero) zero l m = first
+below_two P none last first both (suc zero) (suc zero) l m = both
+below_two P none last first both zero (suc (suc b)) l m = absurd (omega (arith, m))
+below_two P none last first both (suc zero) (suc (suc b)) l m = absurd (omega (arith, m))
+below_two P none last first both (suc (suc a)) b l m = absurd (omega (arith, l))
+
 one_of_both : (a b : ℕ) → a < 2 → b < 2 → (max a b == 1) ≡ ((a == 1) || (b == 1))
-one_of_both zero zero l m = refl
-one_of_both zero (suc zero) l m = refl
-one_of_both (suc zero) zero l m = refl
-one_of_both (suc zero) (suc zero) l m = refl
-one_of_both zero (suc (suc b)) l m = absurd (omega (arith, m))
-one_of_both (suc zero) (suc (suc b)) l m = absurd (omega (arith, m))
-one_of_both (suc (suc a)) b l m = absurd (omega (arith, l))
+one_of_both = below_two (λ (a b : ℕ). (max a b == 1) ≡ ((a == 1) || (b == 1))) refl refl refl refl
+
+two_both : (a b : ℕ) → a < 2 → b < 2 → (min a b == 1) ≡ ((a == 1) && (b == 1))
+two_both = below_two (λ (a b : ℕ). (min a b == 1) ≡ ((a == 1) && (b == 1))) refl refl refl refl
 
 one_alone : (a b : ℕ) → a < 2 → b < 2 → (min a (1 - b) == 1) ≡ ((a == 1) && not (b == 1))
-one_alone zero zero l m = refl
-one_alone zero (suc zero) l m = refl
-one_alone (suc zero) zero l m = refl
-one_alone (suc zero) (suc zero) l m = refl
-one_alone zero (suc (suc b)) l m = absurd (omega (arith, m))
-one_alone (suc zero) (suc (suc b)) l m = absurd (omega (arith, m))
-one_alone (suc (suc a)) b l m = absurd (omega (arith, l))
+one_alone = below_two (λ (a b : ℕ). (min a (1 - b) == 1) ≡ ((a == 1) && not (b == 1))) refl refl refl refl
 
 same_below_two : (a b : ℕ) → a < 2 → b < 2 → (a == 1) ≡ (b == 1) → a ≡ b
-same_below_two zero zero l m h = refl
-same_below_two zero (suc zero) l m h = cc
-same_below_two (suc zero) zero l m h = cc
-same_below_two (suc zero) (suc zero) l m h = refl
-same_below_two zero (suc (suc b)) l m h = absurd (omega (arith, m))
-same_below_two (suc zero) (suc (suc b)) l m h = absurd (omega (arith, m))
-same_below_two (suc (suc a)) b l m h = absurd (omega (arith, l))
+same_below_two = below_two (λ (a b : ℕ). (a == 1) ≡ (b == 1) → a ≡ b) (λ h. refl) (λ h. cc) (λ h. cc) (λ h. refl)
 
 least : (n : ℕ) → min 0 n ≡ 0
 least zero = refl
@@ -45,15 +40,6 @@ none_in_zero i = ap (λ n. n == 1) (bit_at-zero i)
 
 pub has_or : (a b i : ℕ) → has_bit i (bit_or a b) ≡ (has_bit i a || has_bit i b)
 has_or a b i = ap (λ n. n == 1) (bit_at_or a b i) ∙ one_of_both (bit_at a i) (bit_at b i) (bit_at-lt a i) (bit_at-lt b i)
-
-two_both : (a b : ℕ) → a < 2 → b < 2 → (min a b == 1) ≡ ((a == 1) && (b == 1))
-two_both zero zero l m = refl
-two_both zero (suc zero) l m = refl
-two_both (suc zero) zero l m = refl
-two_both (suc zero) (suc zero) l m = refl
-two_both zero (suc (suc b)) l m = absurd (omega (arith, m))
-two_both (suc zero) (suc (suc b)) l m = absurd (omega (arith, m))
-two_both (suc (suc a)) b l m = absurd (omega (arith, l))
 
 pub has_and : (a b i : ℕ) → has_bit i (bit_and a b) ≡ (has_bit i a && has_bit i b)
 has_and a b i = ap (λ n. n == 1) (bit_at_and a b i) ∙ two_both (bit_at a i) (bit_at b i) (bit_at-lt a i) (bit_at-lt b i)

@@ -75,7 +75,7 @@ impl Pending {
     }
 
     /// One session more, for which these cells are pending. On an error all is as before. It is an error too where there are 64.
-    /// The work is that of `make_room`.
+    /// For each cell it takes two look-ups and putting it in.
     pub(crate) fn push(&mut self, cells: &[Address]) -> Result<(), AllocError>
         ensures pending { OnOk result ((new : List ℕ)
             × (self.new.pending ≡ self.old.pending ++ new ∷ []) × SameCells new cells.now) }
@@ -151,7 +151,7 @@ impl Pending {
         self.staged.clear();
     }
 
-    /// All rooms go. Takes no memory. The work is that of `make_room` for them.
+    /// All rooms go, at two look-ups each. Takes no memory.
     pub(crate) fn give_back(&mut self)
         ensures pending { self.new.pending ≡ self.old.pending }
         ensures vacant { (i : ℕ) → list_at self.new.vacant i ≡ [] }
@@ -172,7 +172,7 @@ impl Pending {
         }
     }
 
-    /// The cells that are pending for a session or have room only, in row-major order. The work is that of `cells`.
+    /// The cells that are pending for a session or have room only, in row-major order, at the cost of `cells`.
     pub(crate) fn all(&self, i: usize) -> Result<Vec<Address>, AllocError>
         requires { i < length self.now.pending }
         ensures { IfOk result (λ found.
@@ -182,9 +182,9 @@ impl Pending {
         all_of(self.alloc, &self.words, &self.changed, &self.unread[i], i)
     }
 
-    /// The cells that are pending for a session, in row-major order. The work is that of a look-up for each cell that was marked since it
-    /// was last told, and of a sort where they were marked by several edits; or of a step for each cell that is pending for any session,
-    /// where these are no more.
+    /// The cells that are pending for a session, in row-major order. It takes a look-up for each cell that was marked since it was
+    /// last told, and a sort where they were marked by several edits; or a step for each cell that is pending for any session, where
+    /// these are no more.
     pub(crate) fn cells(&self, i: usize) -> Result<Vec<Address>, AllocError>
         requires { i < length self.now.pending }
         ensures list { IfOk result (λ found. found.items ≡ list_at self.now.pending i) }
@@ -206,8 +206,8 @@ impl Pending {
         let _ = self.words.len();
     }
 
-    /// No cell is pending for a session any more, nor has room; these are all of them. Takes no memory. The work is that of a look-up
-    /// for each; where there is one session, that of dropping them.
+    /// No cell is pending for a session any more, nor has room; these are all of them. Takes no memory. Each is looked up;
+    /// where there is one session, all are dropped at once.
     pub(crate) fn clear(&mut self, i: usize, all: &[Address])
         requires within { i < length self.old.pending }
         requires all { (a : ℕ) → is_one_of all.now a ≡ (is_one_of (list_at self.old.pending i) a

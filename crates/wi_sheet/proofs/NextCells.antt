@@ -49,14 +49,6 @@ any_within s p [] = refl
 any_within s p (r ∷ rs) =
     list_any-append p (filter (is_within r) (keys_of s)) (occupied_within s rs) ∙ ap (λ (b : Bool). list_any p (filter (is_within r) (keys_of s)) || b) (any_within s p rs)
 
--- a cell that fails a test is passed over
-pub passed_over : (p : ℕ → Bool) (c : ℕ) (xs : List ℕ) → p c ≡ false → list_any p (c ∷ xs) ≡ list_any p xs
-passed_over p c xs h = ap (λ (b : Bool). b || list_any p xs) h
-
--- and one that passes it ends the search
-pub is_found : (p : ℕ → Bool) (c : ℕ) (xs : List ℕ) → p c ≡ true → list_any p (c ∷ xs) ≡ true
-is_found p c xs h = ap (λ (b : Bool). b || list_any p xs) h
-
 -- ---- those of them that pass a test
 
 -- after a cell

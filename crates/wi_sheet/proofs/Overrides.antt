@@ -1,5 +1,5 @@
 -- Replacements that others override.
-use Rattle.wi_sheet.proofs.Words.{◌≡◌, ℕ, List, [], ◌∷◌, Option, Some, None, refl, ap, sym, ◌∙◌, option_or, nat_cmp, lookup, is_at, insert_entry, Value, Replacement, IsInOrder, as_map, replaced, overridden, last_for, Ascends, Ascends-insert, Ascends-from_order, order-from_Ascends, sorted_from_order, order_from_entries, order_of_filter, overridden-nothing, lookup-overridden, Sheet, content_of, put_all, Reaches, reaches, true_reaches, replacements, cell_value, what_if_value, reaching, puts_of, with_what_if}
+use Rattle.wi_sheet.proofs.Words.{◌≡◌, ℕ, List, [], ◌∷◌, Option, Some, None, refl, ap, sym, ◌∙◌, option_or, nat_cmp, lookup, is_at, insert_entry, Value, Replacement, IsInOrder, as_map, replaced, overridden, last_for, Ascends, Ascends-insert, Ascends-from_order, order-from_Ascends, as_map-as_replacements, as_replacements-as_map, sorted_from_order, order_from_entries, order_of_filter, overridden-nothing, lookup-overridden, Sheet, content_of, put_all, Reaches, reaches, true_reaches, replacements, cell_value, what_if_value, reaching, as_replacements, with_what_if}
 use Rattle.wi_sheet.proofs.Last.{over, over_both, content_by_last}
 use Rattle.wi_sheet.proofs.Agreement.{agree_put_both}
 use Rattle.wi_sheet.proofs.Locality.{value_same, others_do_not_count}
@@ -25,23 +25,15 @@ ascends_overridden : (es : List (ℕ × Value)) (rs : List Replacement) → Asce
 ascends_overridden es [] h = h
 ascends_overridden es (r ∷ rs) h = ascends_overridden (insert_entry nat_cmp es r.at r.value) rs (Ascends-insert r.at r.value es h)
 
-as_map_puts : (es : List (ℕ × Value)) → as_map (puts_of es) ≡ es
-as_map_puts [] = refl
-as_map_puts (e ∷ es) = ap (λ (xs : List (ℕ × Value)). e ∷ xs) (as_map_puts es)
-
-pub puts_as_map : (w : List Replacement) → puts_of (as_map w) ≡ w
-puts_as_map [] = refl
-puts_as_map (r ∷ rs) = ap (λ (xs : List Replacement). r ∷ xs) (puts_as_map rs)
-
 -- replacements in order, put in where there are none
 pub put_alone : (w base put : List Replacement) → IsInOrder put → base ≡ [] → as_map w ≡ overridden (as_map base) put → w ≡ put
 put_alone w base put o b e =
     let none = ap (λ (x : List Replacement). overridden (as_map x) put) b in
-    sym (puts_as_map w) ∙ ap puts_of (e ∙ none ∙ overridden-nothing put o) ∙ puts_as_map put
+    sym (as_replacements-as_map w) ∙ ap as_replacements (e ∙ none ∙ overridden-nothing put o) ∙ as_replacements-as_map put
 
-pub override_in_order : (w rs : List Replacement) → IsInOrder w → IsInOrder (puts_of (overridden (as_map w) rs))
+pub override_in_order : (w rs : List Replacement) → IsInOrder w → IsInOrder (as_replacements (overridden (as_map w) rs))
 override_in_order w rs h =
-    order_from_entries (puts_of (overridden (as_map w) rs)) (overridden (as_map w) rs) (as_map_puts (overridden (as_map w) rs))
+    order_from_entries (as_replacements (overridden (as_map w) rs)) (overridden (as_map w) rs) (as_map-as_replacements (overridden (as_map w) rs))
     (order-from_Ascends (overridden (as_map w) rs) (ascends_overridden (as_map w) rs (Ascends-from_order (as_map w) (sorted_from_order w h))))
 
 pub what_if_in_order : (s : Sheet) (w : List Replacement) (pairs : List (ℕ × ℕ)) → IsInOrder w → IsInOrder (with_what_if s w pairs)
@@ -52,28 +44,28 @@ reaching_in_order s c w h = order_of_filter (λ r. reaches s c r.at) w h
 
 -- ---- what overrides, stands over what was there
 
-pub override_last : (w rs : List Replacement) → IsInOrder w → (a : ℕ) → last_for (puts_of (overridden (as_map w) rs)) a ≡ option_or (last_for rs a) (last_for w a)
+pub override_last : (w rs : List Replacement) → IsInOrder w → (a : ℕ) → last_for (as_replacements (overridden (as_map w) rs)) a ≡ option_or (last_for rs a) (last_for w a)
 override_last w rs h a =
-    last_in_order (puts_of (overridden (as_map w) rs)) (override_in_order w rs h) a
-    ∙ ap (λ (es : List (ℕ × Value)). lookup (is_at (nat_cmp a)) es) (as_map_puts (overridden (as_map w) rs))
+    last_in_order (as_replacements (overridden (as_map w) rs)) (override_in_order w rs h) a
+    ∙ ap (λ (es : List (ℕ × Value)). lookup (is_at (nat_cmp a)) es) (as_map-as_replacements (overridden (as_map w) rs))
     ∙ lookup-overridden a (as_map w) rs ∙ ap (option_or (last_for rs a)) (sym (last_in_order w h a))
 
-pub override_content : (s : Sheet) (w rs : List Replacement) → IsInOrder w → (a : ℕ) → content_of (put_all s (puts_of (overridden (as_map w) rs))) a ≡ content_of (put_all (put_all s w) rs) a
+pub override_content : (s : Sheet) (w rs : List Replacement) → IsInOrder w → (a : ℕ) → content_of (put_all s (as_replacements (overridden (as_map w) rs))) a ≡ content_of (put_all (put_all s w) rs) a
 override_content s w rs h a =
-    content_by_last s (puts_of (overridden (as_map w) rs)) a
+    content_by_last s (as_replacements (overridden (as_map w) rs)) a
     ∙ ap (λ (v : Option Value). over v (content_of s a)) (override_last w rs h a)
     ∙ over_both (last_for rs a) (last_for w a) (content_of s a)
     ∙ ap (over (last_for rs a)) (sym (content_by_last s w a)) ∙ sym (content_by_last (put_all s w) rs a)
 
 -- replacements whose entries are those of a what-if put in are those with the what-if
 pub replaced_world : (s : Sheet) (w v inputs : List Replacement) (pairs : List (ℕ × ℕ)) → inputs ≡ replacements (cell_value (put_all s w)) pairs → as_map v ≡ overridden (as_map w) inputs → v ≡ with_what_if s w pairs
-replaced_world s w v inputs pairs e k = sym (puts_as_map v) ∙ ap puts_of (k ∙ ap (overridden (as_map w)) e)
+replaced_world s w v inputs pairs e k = sym (as_replacements-as_map v) ∙ ap as_replacements (k ∙ ap (overridden (as_map w)) e)
 
 -- a what-if under replacements is its formula cell under those of its world
 pub with_what_if_value : (s : Sheet) (w : List Replacement) (f : ℕ) (pairs : List (ℕ × ℕ)) → IsInOrder w → cell_value (put_all s (with_what_if s w pairs)) f ≡ what_if_value (put_all s w) f pairs
 with_what_if_value s w f pairs h =
     let rs = replacements (cell_value (put_all s w)) pairs in
-    value_same (put_all s (puts_of (overridden (as_map w) rs))) (put_all (put_all s w) rs) f (λ d r. override_content s w rs h d)
+    value_same (put_all s (as_replacements (overridden (as_map w) rs))) (put_all (put_all s w) rs) f (λ d r. override_content s w rs h d)
 
 -- a cell's value under replacements is the one under those alone of cells that it reaches
 pub reaching_suffices : (s : Sheet) (w : List Replacement) (c : ℕ) → cell_value (put_all s (reaching s c w)) c ≡ cell_value (put_all s w) c

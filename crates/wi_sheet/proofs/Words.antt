@@ -1,5 +1,5 @@
 -- The words of the library, of the crates below and of this crate's definitions that its proofs are written in.
-pub use Rattle.std.proofs.Common.{All, Any, Bool, Bor, Contains, IfNone, IfSome, List, None, Option, Some, [], add-one, ap, append-nil, append_assoc, ap₂, arith, codes, cond, eq-eqb, false, filter, get_or, if◌then◌else◌, inl, inr, is_some, length, map, max, min, not, option_map, refl, subst, suc, sum_by, sym, take, true, zero, ℕ, ◌&&◌, ◌*◌, ◌++◌, ◌+◌, ◌-◌, ◌<◌, ◌==◌, ◌||◌, ◌∙◌, ◌∷◌, ◌≡◌, ◌≤◌, ◌⊎◌}
+pub use Rattle.std.proofs.Common.{All, Any, Bool, Bor, Contains, IfNone, IfSome, List, None, Option, Some, [], add-one, ap, append-nil, append_assoc, ap₂, arith, codes, cond, eq-eqb, false, filter, get_or, if◌then◌else◌, inl, inr, is_some, length, map, not, option_map, refl, subst, suc, sum_by, sym, take, true, zero, ℕ, ◌&&◌, ◌*◌, ◌++◌, ◌+◌, ◌-◌, ◌<◌, ◌==◌, ◌||◌, ◌∙◌, ◌∷◌, ◌≡◌, ◌≤◌, ◌⊎◌}
 pub use Rattle.std.proofs.Math.Bool.{and-false, and-or_distrib_left, or-false}
 pub use Rattle.std.proofs.Math.Seq.{take-nil}
 pub use Rattle.std.proofs.lemmas.Bool.{and_from, and_parts, cases_Bool, eqb-true, false_from_ne_true, le-leb, le-ltb, leb-true, lt-ltb, or_cases, or_left, or_parts, or_right, true≢false}
@@ -29,6 +29,7 @@ pub use Rattle.wi_functions.specs.Operators.{operate, with_sign}
 pub use Rattle.wi_functions.specs.Wants.{LeafAsks, TreeAsks}
 pub use Rattle.wi_functions.specs.declared.evaluation.Want.TheVariants.{Cell, WhatIf}
 pub use Rattle.wi_graph.proofs.Agreement.{agree_here, agree_next, circular_same}
+pub use Rattle.wi_graph.proofs.BoundsSteps.{sides_of}
 pub use Rattle.wi_graph.proofs.Cones.{agree_outside, cone_closed, cone_least, cone_stays, outside_reaches}
 pub use Rattle.wi_graph.proofs.EdgeLemmas.{content_of-with}
 pub use Rattle.wi_graph.proofs.Ends.{ends_open}
@@ -56,7 +57,7 @@ pub use Rattle.wi_parser.specs.declared.expr.Pair.{Pair}
 pub use Rattle.wi_parser.specs.declared.expr.Reference.{Reference}
 pub use Rattle.wi_sheet.specs.CellValue.{formula_in, replacements, value_of, what_if_in, what_if_value}
 unfoldable pub use Rattle.wi_sheet.specs.CellValue.{cell_value, value_within}
-pub use Rattle.wi_sheet.specs.Demand.{Case, case_of, demanded, different, formulas_read_here, leaf_reads_here, leaf_what_ifs, of_formula, precedent_cases, puts_of, reaching, reads_here, same_case, wants, what_if_case, what_ifs_of, with_what_if}
+pub use Rattle.wi_sheet.specs.Demand.{Case, case_of, demanded, different, formulas_read_here, leaf_reads_here, leaf_what_ifs, of_formula, precedent_cases, reaching, reads_here, same_case, wants, what_if_case, what_ifs_of, with_what_if}
 unfoldable pub use Rattle.wi_sheet.specs.Demand.{demand, demand_within}
 pub use Rattle.wi_sheet.specs.Inner.Rank.{lengths_below}
 unfoldable pub use Rattle.wi_sheet.specs.Inner.Rank.{reach_rank}
@@ -75,13 +76,13 @@ pub use Rattle.wi_values.proofs.Listed.{has-filter, has_key}
 pub use Rattle.wi_values.proofs.Lists.{each_fails, sum_ones}
 pub use Rattle.wi_values.proofs.Order.{Ascends, Ascends-from_order, Ascends-insert, order-from_Ascends, turn_test}
 pub use Rattle.wi_values.proofs.Replacements.Filtering.{order_of_filter, replaced-filter}
-pub use Rattle.wi_values.proofs.Replacements.InOrder.{order_from_entries, same_from_replaced, sorted_from_order}
+pub use Rattle.wi_values.proofs.Replacements.InOrder.{as_map-as_replacements, as_replacements-as_map, order_from_entries, same_from_replaced, sorted_from_order}
 pub use Rattle.wi_values.proofs.Replacements.Overriding.{lookup-overridden, overridden-nothing}
 pub use Rattle.wi_values.proofs.Replacements.Same.{same_replacements_Decides}
 pub use Rattle.wi_values.proofs.Small.{one_at_most}
-pub use Rattle.wi_values.proofs.Within.{column_of_place, fewer_places, places_left, row_of_place, within_between}
+pub use Rattle.wi_values.proofs.Within.{fewer_places, places_left, within_between, within_parts}
 pub use Rattle.wi_values.specs.Address.{Area, column_of, is_one_of, is_within, is_within_one, place, rect_of, row_of}
-pub use Rattle.wi_values.specs.Replacements.{IsInOrder, as_map, last_for, overridden, replaced, same_replacements}
+pub use Rattle.wi_values.specs.Replacements.{IsInOrder, as_map, as_replacements, last_for, overridden, replaced, same_replacements}
 unfoldable pub use Rattle.wi_values.specs.Value.{shown_text}
 pub use Rattle.wi_values.specs.declared.replacement.Replacement.{Replacement}
 pub use Rattle.wi_values.specs.declared.value.ErrorKind.TheVariants.{BadValue, Circular}

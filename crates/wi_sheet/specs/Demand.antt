@@ -1,9 +1,8 @@
 -- What the value of one cell demands.
 use Rattle.std.specs.Prelude.{◌==◌, ℕ, zero, suc, ◌+◌, Bool, ◌&&◌, if◌then◌else◌, List, [], ◌∷◌, ◌++◌, map, filter, length, Option, Some, None}
 use Rattle.std.specs.List.{list_any, flat_map}
-use Rattle.wi_values.specs.declared.value.Value.{Value}
 use Rattle.wi_values.specs.declared.replacement.Replacement.{Replacement}
-use Rattle.wi_values.specs.Replacements.{as_map, overridden, same_replacements}
+use Rattle.wi_values.specs.Replacements.{as_map, as_replacements, overridden, same_replacements}
 use Rattle.wi_parser.specs.Tree.{Tree}
 use Rattle.wi_parser.specs.Leaves.{Leaf, what_if_leaf, leaves}
 use Rattle.wi_parser.specs.declared.content.Content.{Content}
@@ -30,13 +29,9 @@ case_of s w c = (c, reaching s c w)
 abbrev pub same_case : Case → Case → Bool
 same_case k j = k.0 == j.0 && same_replacements k.1 j.1
 
--- entries of a map as replacements
-abbrev pub puts_of : List (ℕ × Value) → List Replacement
-puts_of es = map (λ e. record { at = e.0; value = e.1 }) es
-
 -- replacements with those of a what-if put in: each input has the value that its replacement cell has under the outer ones
 abbrev pub with_what_if : Sheet → List Replacement → List (ℕ × ℕ) → List Replacement
-with_what_if s w pairs = puts_of (overridden (as_map w) (replacements (cell_value (put_all s w)) pairs))
+with_what_if s w pairs = as_replacements (overridden (as_map w) (replacements (cell_value (put_all s w)) pairs))
 
 -- the case of a what-if's formula cell, with the what-if's replacements put in
 abbrev pub what_if_case : Sheet → List Replacement → ℕ × List (ℕ × ℕ) → Case

@@ -16,9 +16,6 @@ replaced_some v (Some w) some = refl
 
 -- a page's bits, after a change of one path
 module _ {V : Type 0} (old new : Page V) (columns path : ℕ) (has : HasColumns old columns) where
-  pub columns_same : ((p : ℕ) → in_bands new p ≡ in_bands old p) → HasColumns new columns
-  columns_same same p some = has p (subst (λ o. IsSome o) (same p) some)
-
   pub columns_changed : (o : Option V) → (IsSome o → IsSome (in_bands old path)) → ((p : ℕ) → in_bands new p ≡ (if p == path then o else in_bands old p)) → HasColumns new columns
   columns_changed o stood changed p some = has p (⊎_elim
       (λ e. ap (λ q. is_some (in_bands old q)) e ∙ stood (subst (λ x. IsSome x) (changed p ∙ ap (λ b. cond b o (in_bands old p)) (eq-eqb p path e)) some))

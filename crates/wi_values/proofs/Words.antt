@@ -3,7 +3,7 @@ pub use Rattle.std.proofs.Common.{All, Bool, Err, IfSome, List, None, Ok, OnErr,
 pub use Rattle.std.proofs.Math.Bool.{and_comm}
 pub use Rattle.std.proofs.Math.Nat.{add-mul, add_assoc, mul-pos, mul_assoc, mul_right_comm, pow-le-pow_right, pow-suc}
 pub use Rattle.std.proofs.Math.Seq.{drop-append_seam, map-set_same, take-append_seam}
-pub use Rattle.std.proofs.lemmas.Bool.{and_from, and_parts, cases_lt, cases_order, eqb-true, le-leb, leb-true, ne_eqb, or_left, or_parts, or_right}
+pub use Rattle.std.proofs.lemmas.Bool.{and_from, and_parts, cases_eq, cases_lt, cases_order, eqb-true, le-leb, leb-true, ne_eqb, or_left, or_parts, or_right}
 pub use Rattle.std.proofs.lemmas.Bool.Decides.{nat_tests}
 pub use Rattle.std.proofs.lemmas.Cmp.{ranked}
 pub use Rattle.std.proofs.lemmas.Fmt.{decimal_is_IsNumeral, decimal_nonempty, first_decimal}
@@ -50,7 +50,7 @@ unfoldable pub use Rattle.wi_values.specs.Inner.Import.{imported}
 unfoldable pub use Rattle.wi_values.specs.Inner.Letters.{letters_within}
 pub use Rattle.wi_values.specs.Inner.Same.{texts}
 pub use Rattle.wi_values.specs.Laws.{AddressesReadBack, CornersMayTurn, NumbersReadBack}
-pub use Rattle.wi_values.specs.Replacements.{IsInOrder, as_map, last_for, overridden, replaced, same_replacements}
+pub use Rattle.wi_values.specs.Replacements.{IsInOrder, as_map, as_replacements, last_for, overridden, replaced, same_replacements}
 pub use Rattle.wi_values.specs.Value.{logical_name}
 unfoldable pub use Rattle.wi_values.specs.Value.{shown_text}
 pub use Rattle.wi_values.specs.declared.address.AddressFault.TheVariants.{Outside}

@@ -18,6 +18,10 @@ IsInOrder rs = IsStrictlyIncreasing (map (λ r. r.at) rs)
 abbrev pub as_map : List Replacement → List (ℕ × Value)
 as_map rs = map (λ r. (r.at, r.value)) rs
 
+-- the entries of a map as replacements
+abbrev pub as_replacements : List (ℕ × Value) → List Replacement
+as_replacements es = map (λ e. record { at = e.0; value = e.1 }) es
+
 -- what stands in the place of an address's content, if anything does
 abbrev pub replaced : List Replacement → ℕ → Option Value
 replaced rs a = lookup (is_at (nat_cmp a)) (as_map rs)

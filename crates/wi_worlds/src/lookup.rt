@@ -13,13 +13,10 @@ pub fn value_at(replacements: &[Replacement], at: Address) -> Option<&Value>
     requires { IsInOrder replacements.now }
     ensures { option_copied result ≡ replaced replacements.now at }
 {
-    match found_at(replacements, at) {
-        Some(replacement) => Some(&replacement.value),
-        None => None,
-    }
+    Some(&found_at(replacements, at)?.value)
 }
 
-/// The replacement of a cell, if there is one. The work is that of `value_at`.
+/// The replacement of a cell, if there is one. The work grows with the logarithm of their count.
 pub(crate) fn found_at(replacements: &[Replacement], cell: Address) -> Option<&Replacement>
     requires { IsInOrder replacements.now }
     ensures { option_copied result ≡ replacement_at replacements.now cell }

@@ -104,15 +104,6 @@ module _ {S : Type 0} (after : S → ℕ → Value → S) (passes_empty : Passes
     pub rest : es ≡ ahead_in r start s
     pub taken : HasTaken after (cell_known s w f) r old (Some from) new (Some start)
 
-  pub at_first : (old : S) (es : Sheet) → IfSome limit (λ l. from ≤ l) → es ≡ ahead_in r from s → AreHanded old old es
-  at_first old es l h = record {
-    start = from;
-    begins = omega arith;
-    within = l;
-    rest = h;
-    taken = λ cells agrees. refl;
-  }
-
   empty_there : StandsBefore s w r from limit → (start a : ℕ) → from ≤ start → is_within r a ≡ true → start ≤ a → ComesBefore a limit → content_of s a ≡ None → is_known_empty (cell_known s w f a) ≡ true
   empty_there stays start a l i m b none = ap (λ (o : Option Content). is_known_empty (known_in o (found_value f a))) (stays a (ahead_is r from a i (omega (arith, l, m))) b ∙ none)
 

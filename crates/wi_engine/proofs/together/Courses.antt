@@ -1,5 +1,5 @@
 -- The cells that are found together with one, and the course that they make.
-use Rattle.wi_engine.proofs.Words.{◌≡◌, ◌==◌, ◌-◌, ◌≤◌, ◌*◌, ℕ, ◌||◌, Bool, true, false, List, ◌∷◌, filter, take, Some, Contains, refl, ap, sym, ◌∙◌, subst, inl, inr, ◌⊎◌, eq-eqb, arith, and_parts, or_left, keys_of, Area, row_of, column_of, is_within, Replacement, Tree, Sheet, content_of, has_formula, put_all, rectangles_of, one_cell, is_one_of, same_cell, reads_here, cells_after, is_after, put_formula, IsWhole, rectangle_whole, lies, is_inside, in_corners, lacks_cell, lacking_after, IsSmallestWith, AreTogether, IsCourseTo, is_next, part, Course, Way, Alone, Row, Column, Whole, Findings, Frame, column_within, has_taken, has-filter}
+use Rattle.wi_engine.proofs.Words.{◌≡◌, ◌==◌, ◌-◌, ◌≤◌, ◌*◌, ℕ, ◌||◌, Bool, true, false, List, ◌∷◌, filter, take, Some, Contains, refl, ap, sym, ◌∙◌, subst, inl, inr, ◌⊎◌, eq-eqb, arith, and_parts, or_left, keys_of, Area, row_of, column_of, is_within, Replacement, Tree, Sheet, content_of, has_formula, put_all, rectangles_of, one_cell, is_one_of, same_cell, reads_here, cells_after, is_after, put_formula, IsWhole, rectangle_whole, in_corners, lacks_cell, lacking_after, IsSmallestWith, AreTogether, IsCourseTo, is_next, part, Course, Way, Alone, Row, Column, Whole, Findings, Frame, column_within, within_from, within_parts, has_taken, has-filter}
 
 -- ---- the parts of a rectangle through which ways lead lie in it
 
@@ -7,13 +7,13 @@ use Rattle.wi_engine.proofs.Words.{◌≡◌, ◌==◌, ◌-◌, ◌≤◌, ◌*
 pub part_within : (r : Area) (way : Way) (a d : ℕ) → is_within r a ≡ true → is_within (part r way a) d ≡ true → is_within r d ≡ true
 part_within r Alone a d h m = ap (is_within r) (sym (same_cell d a (sym (one_cell a d) ∙ m))) ∙ h
 part_within r Row a d h m =
-    let at = lies r a h in
-    let b = in_corners (row_of a) (row_of a) (column_of r.first) (column_of r.last) d (column_within r.first) (column_within r.last) (omega arith) (omega (arith, at.after, at.before)) m in
-    is_inside r d (record { below = omega (arith, at.below, b.below); above = omega (arith, at.above, b.above); after = b.after; before = b.before })
+    let at = within_parts r a h in
+    let b = in_corners (row_of a) (row_of a) (column_of r.first) (column_of r.last) d (column_within r.first) (column_within r.last) (omega arith) (omega (arith, at.2, at.3)) m in
+    within_from r d (omega (arith, at.0, b.0)) (omega (arith, at.1, b.1)) b.2 b.3
 part_within r Column a d h m =
-    let at = lies r a h in
-    let b = in_corners (row_of r.first) (row_of r.last) (column_of a) (column_of a) d (column_within a) (column_within a) (omega (arith, at.below, at.above)) (omega arith) m in
-    is_inside r d (record { below = b.below; above = b.above; after = omega (arith, at.after, b.after); before = omega (arith, at.before, b.before) })
+    let at = within_parts r a h in
+    let b = in_corners (row_of r.first) (row_of r.last) (column_of a) (column_of a) d (column_within a) (column_within a) (omega (arith, at.0, at.1)) (omega arith) m in
+    within_from r d b.0 b.1 (omega (arith, at.2, b.2)) (omega (arith, at.3, b.3))
 part_within r Whole a d h m = m
 
 -- ---- a course that is led on with the next cell that is lacking

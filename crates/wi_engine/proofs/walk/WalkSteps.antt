@@ -330,14 +330,6 @@ walk-taken s roots c ts more old new order w n plain tasks progress = at (has_fo
     at true f = rw (tasks f) (walk-entered s roots c ts old new order w f n (progress f).0)
     at false f = rw ((plain f).0, (plain f).1) (walk-passed s roots c ts old order w (λ g. let z = f in cc))
 
--- what is below a single root
-pub below_one : (s : Sheet) (c d : ℕ) → IsBelow s (c ∷ []) d → Reaches s c d
-below_one s c d b = at (or_cases (c == b.0) false b.1)
-  where
-    at : ((c == b.0) ≡ true) ⊎ (false ≡ true) → Reaches s c d
-    at (inl k) = subst (λ (x : ℕ). Reaches s x d) (sym (same_cell b.0 c k)) b.2
-    at (inr k) = cc
-
 -- a walk with nothing before it has each of its roots that has a formula in its order
 pub walk-roots : (s : Sheet) (roots : List ℕ) (ts : List Task) (progress : BTreeMap ℕ Progress) (order : List ℕ) → IsWalk s roots ts progress order → length ts ≡ 0 → (c : ℕ) → is_one_of roots c ≡ true → has_formula (content_of s c) ≡ true → is_one_of order c ≡ true
 walk-roots s roots [] progress order w z c m f = sym (or-false (is_one_of order c)) ∙ w.rooted c m f

@@ -1,4 +1,4 @@
--- What a cell shows that no formula gives.
+-- A cell's value where no formula gives it.
 use Rattle.std.specs.Prelude.{◌≡◌, ℕ, false, Some}
 use Rattle.wi_parser.specs.declared.content.Content as content
 use Rattle.wi_parser.specs.Sheet.{Sheet, content_of, has_formula}

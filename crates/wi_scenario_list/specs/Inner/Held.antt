@@ -3,10 +3,10 @@ use Rattle.std.specs.Prelude.{◌≡◌, ℕ, List, map, Option}
 use Rattle.std.specs.Option.{option_map}
 use Rattle.std.specs.Rc.{rc_str_bytes}
 use Rattle.std.specs.declared.rc.RcStr.{RcStr}
+use Rattle.wi_values.specs.Replacements.{as_replacements}
 use Rattle.wi_values.specs.declared.replacement.Replacement.{Replacement}
 use Rattle.wi_scenario_list.specs.declared.layer.Layer.{Layer}
 use Rattle.wi_scenario_list.specs.Scenarios.{Scenario}
-use Rattle.wi_scenario_list.specs.Inner.Parts.{as_replacements}
 
 -- a scenario's own replacements
 abbrev pub own_of : Layer → List Replacement

@@ -1,12 +1,7 @@
 -- Parts of a scenario that is found, made or changed.
-use Rattle.std.specs.Prelude.{◌==◌, ℕ, not, List, [], filter, map, Option, None, unwrap_or}
-use Rattle.wi_values.specs.declared.value.Value.{Value}
+use Rattle.std.specs.Prelude.{◌==◌, ℕ, not, List, [], filter, Option, None, unwrap_or}
 use Rattle.wi_values.specs.declared.replacement.Replacement.{Replacement}
 use Rattle.wi_scenario_list.specs.Scenarios.{Scenario}
-
--- the entries of a map as replacements
-abbrev pub as_replacements : List (ℕ × Value) → List Replacement
-as_replacements es = map (λ e. record { at = e.0; value = e.1 }) es
 
 -- replacements without the one for an address
 abbrev pub without_replacement : List Replacement → ℕ → List Replacement

@@ -69,14 +69,15 @@ pub record MakesRooms (test : ℕ → Bool) (bits : ℕ) (result : Result (Unit 
   pub room : OnOk result (HasMade (λ i c. test c && has_bit i bits) words staged more rooms)
   pub others : (i c : ℕ) → has_bit i bits ≡ false → (is_in more i c ≡ is_in words i c) × (is_staged rooms i c ≡ is_staged staged i c)
 
--- the same of what is pending and of the rooms, for the i-th session alone, where no room of it is left if memory runs out
+-- Room was made for the i-th session: for each of the cells that isn't pending for it, beside the rooms that it had. If memory runs out, it has no room at all. What is
+-- pending, and the rooms of the others, are the same.
 pub record GetsRoom (cells : List ℕ) (i : ℕ) (result : Result (Unit {0}) AllocError) (old new : AllPending) : Type 0 where
   pub lists : new.pending ≡ old.pending
   pub room : OnOk result ((a : ℕ) → is_one_of (list_at new.vacant i) a ≡ (is_one_of (list_at old.vacant i) a || (is_one_of cells a && not (is_one_of (list_at old.pending i) a))))
   pub refused : OnErr result (list_at new.vacant i ≡ [])
   pub others : (j : ℕ) → j ≢ i → list_at new.vacant j ≡ list_at old.vacant j
 
--- for each session, where none is left at all if memory runs out
+-- Room was made for each session in this way. If memory runs out, none has room at all.
 pub record GetRooms (cells : List ℕ) (result : Result (Unit {0}) AllocError) (old new : AllPending) : Type 0 where
   pub pending : new.pending ≡ old.pending
   pub room : OnOk result ((i a : ℕ) → i < length old.pending → is_one_of (list_at new.vacant i) a ≡ (is_one_of (list_at old.vacant i) a || (is_one_of cells a && not (is_one_of (list_at old.pending i) a))))

@@ -1,6 +1,14 @@
 -- Replacements in order, their entries, and what their entries tell.
-use Rattle.wi_values.proofs.Words.{◌≡◌, ℕ, List, [], ◌∷◌, ◌++◌, map, refl, sym, ap, ◌∙◌, subst, append-nil, append_assoc, nat_cmp, IsStrictlySortedBy, IsStrictlyIncreasing, keys_of, map-append, sorted_from_strictly_increasing, IsStrictlyIncreasing-from_sorted, Value, Replacement, IsInOrder, as_map, replaced}
+use Rattle.wi_values.proofs.Words.{◌≡◌, ℕ, List, [], ◌∷◌, ◌++◌, map, refl, sym, ap, ◌∙◌, subst, append-nil, append_assoc, nat_cmp, IsStrictlySortedBy, IsStrictlyIncreasing, keys_of, map-append, sorted_from_strictly_increasing, IsStrictlyIncreasing-from_sorted, Value, Replacement, IsInOrder, as_map, as_replacements, replaced}
 use Rattle.wi_values.proofs.Order.{Ascends, Ascends-from_order, same_entries}
+
+pub as_map-as_replacements : (es : List (ℕ × Value)) → as_map (as_replacements es) ≡ es
+as_map-as_replacements [] = refl
+as_map-as_replacements (e ∷ es) = ap (λ (rest : List (ℕ × Value)). e ∷ rest) (as_map-as_replacements es)
+
+pub as_replacements-as_map : (rs : List Replacement) → as_replacements (as_map rs) ≡ rs
+as_replacements-as_map [] = refl
+as_replacements-as_map (r ∷ rs) = ap (λ (rest : List Replacement). r ∷ rest) (as_replacements-as_map rs)
 
 keys_of-as_map : (rs : List Replacement) → keys_of (as_map rs) ≡ map (λ r. r.at) rs
 keys_of-as_map [] = refl
@@ -18,11 +26,6 @@ order_from_entries rs es e h = order_from_sorted rs (subst (λ (xs : List (ℕ �
 
 -- ---- worlds that have the same for each address
 
--- what the entries of replacements are made of again
-as_they_were : (rs : List Replacement) → map (λ (e : ℕ × Value). record { at = e.0; value = e.1 }) (as_map rs) ≡ rs
-as_they_were [] = refl
-as_they_were (r ∷ rs) = ap (λ (xs : List Replacement). r ∷ xs) (as_they_were rs)
-
 pub ascends_from_order : (rs : List Replacement) → IsInOrder rs → Ascends (as_map rs)
 ascends_from_order rs h = Ascends-from_order (as_map rs) (sorted_from_order rs h)
 
@@ -30,7 +33,7 @@ ascends_from_order rs h = Ascends-from_order (as_map rs) (sorted_from_order rs h
 pub same_from_replaced : (v w : List Replacement) → IsInOrder v → IsInOrder w → ((a : ℕ) → replaced v a ≡ replaced w a) → v ≡ w
 same_from_replaced v w p q h =
     let same = same_entries (as_map v) (as_map w) (ascends_from_order v p) (ascends_from_order w q) h in
-    sym (as_they_were v) ∙ ap (λ (es : List (ℕ × Value)). map (λ (e : ℕ × Value). record { at = e.0; value = e.1 }) es) same ∙ as_they_were w
+    sym (as_replacements-as_map v) ∙ ap as_replacements same ∙ as_replacements-as_map w
 
 -- ---- entries taken one after another
 

@@ -1,5 +1,5 @@
 use Rattle.wi_graph.proofs.Words.{rules, items_of, areas_of, has_seen}
-use Rattle.wi_graph.proofs.BeyondSteps.{search_start, search_step, search_all, search_end, search_ends}
+use Rattle.wi_graph.proofs.BeyondSteps.{search_start, search_step, search_end, search_ends}
 use Rattle.wi_graph.proofs.BelowSteps.{none_seen, below_start, below_end}
 use Rattle.wi_graph.proofs.sides.both_sides.Goals as goal
 
@@ -28,7 +28,7 @@ returns-then-is_clear-clause-apart c =
     below_end c.args.rooms.now c.args.entry.now.0 (areas_of (items_of c.args.entry.now.1)) (has_seen on.seen) on.ahead.items (c.is_clear.ensures.done (search rules)) (c.in_ok-go_below.ensures (areas_of (items_of c.args.entry.now.1)) c.cells.invariant.1 (c.is_clear.ensures.clear (search rules)))
 
 pub returns-clause-cone : goal.returns-clause-cone
-returns-clause-cone c = (search_all c.args.readers.now c.args.cells.now c.cells.found c.cells.work.items c.cells.invariant.0, search_end c.args.readers.now c.args.cells.now c.cells.found c.cells.work.items (search rules) c.cells.invariant.0, c.cells.invariant.0.least)
+returns-clause-cone c = search_end c.args.readers.now c.args.cells.now c.cells.found c.cells.work.items (search rules) c.cells.invariant.0
 
 pub returns-clause-apart : goal.returns-clause-apart
 returns-clause-apart c = tt

@@ -3,37 +3,37 @@ use Rattle.wi_graph.proofs.WithinSteps.{none_ahead, seek_start, seek_first, seek
 use Rattle.wi_graph.proofs.within.next_in_part.Goals as goal
 
 pub loop-ahead-init : goal.loop-ahead-init
-loop-ahead-init c = seek_start c.args.cells.now c.args.area c.args.from
+loop-ahead-init g c = seek_start (g.C.Between.cells c.args.cells.now) c.args.area c.args.from
 
 pub returns-in_err-cell-clause-found : goal.returns-in_err-cell-clause-found
-returns-in_err-cell-clause-found c = none_ahead c.args.cells.now c.args.area c.args.from c.from_residual.result c.from_residual.ensures
+returns-in_err-cell-clause-found g c = none_ahead (g.C.Between.cells c.args.cells.now) c.args.area c.args.from c.from_residual.result c.from_residual.ensures
 
 pub returns-in_err-cell-clause-first : goal.returns-in_err-cell-clause-first
-returns-in_err-cell-clause-first c =
-    seek_none c.args.cells.now c.args.area c.args.from c.in-Some.start c.last.result c.from_residual.result c.last.ensures (rw c.in-Some.is at c.loop-ahead.invariant) c.in_err-cell.ensures.first
+returns-in_err-cell-clause-first g c =
+    seek_none (g.C.Between.cells c.args.cells.now) c.args.area c.args.from c.in-Some.start c.last.result c.from_residual.result c.last.ensures (rw c.in-Some.is at c.loop-ahead.invariant) c.in_err-cell.ensures.first
 
 pub returns-then-contains-clause-found : goal.returns-then-contains-clause-found
-returns-then-contains-clause-found c =
-    seek_found c.args.cells.now c.args.area c.args.from c.in-Some.start c.in_ok-cell.cell (rw c.in-Some.is at c.loop-ahead.invariant) (rw c.last.ensures at c.in_ok-cell.ensures.found) (sym c.contains.ensures ∙ c.if-contains.true)
+returns-then-contains-clause-found g c =
+    seek_found (g.C.Between.cells c.args.cells.now) c.args.area c.args.from c.in-Some.start c.in_ok-cell.cell (rw c.in-Some.is at c.loop-ahead.invariant) (rw c.last.ensures at c.in_ok-cell.ensures.found) (sym c.contains.ensures ∙ c.if-contains.true)
 
 pub returns-then-contains-clause-first : goal.returns-then-contains-clause-first
-returns-then-contains-clause-first c =
-    seek_first c.args.cells.now c.args.area c.args.from c.in-Some.start (Some c.in_ok-cell.cell) (rw c.in-Some.is at c.loop-ahead.invariant) (rw c.last.ensures at c.in_ok-cell.ensures.first)
+returns-then-contains-clause-first g c =
+    seek_first (g.C.Between.cells c.args.cells.now) c.args.area c.args.from c.in-Some.start (Some c.in_ok-cell.cell) (rw c.in-Some.is at c.loop-ahead.invariant) (rw c.last.ensures at c.in_ok-cell.ensures.first)
 
 pub place_after-ahead-requires : goal.place_after-ahead-requires
-place_after-ahead-requires c = (rw c.last.ensures at c.in_ok-cell.ensures.found).1
+place_after-ahead-requires g c = (rw c.last.ensures at c.in_ok-cell.ensures.found).1
 
 pub loop-ahead-smaller : goal.loop-ahead-smaller
-loop-ahead-smaller c =
+loop-ahead-smaller g c =
     let between = rw c.last.ensures at c.in_ok-cell.ensures.found in
     rw c.in-Some.is (fewer_places c.args.area c.in-Some.start c.in_ok-cell.cell c.place_after-ahead.result between.0 between.1 c.place_after-ahead.ensures.after)
 
 pub loop-ahead-preserved : goal.loop-ahead-preserved
-loop-ahead-preserved c =
+loop-ahead-preserved g c =
     let between = rw c.last.ensures at c.in_ok-cell.ensures.found in
     let first = rw c.last.ensures at c.in_ok-cell.ensures.first in
-    seek_on c.args.cells.now c.args.area c.args.from c.in-Some.start c.in_ok-cell.cell c.place_after-ahead.result (rw c.in-Some.is at c.loop-ahead.invariant) between first (sym c.contains.ensures ∙ c.if-contains.false)
+    seek_on (g.C.Between.cells c.args.cells.now) c.args.area c.args.from c.in-Some.start c.in_ok-cell.cell c.place_after-ahead.result (rw c.in-Some.is at c.loop-ahead.invariant) between first (sym c.contains.ensures ∙ c.if-contains.false)
     c.place_after-ahead.ensures.after c.place_after-ahead.ensures.first
 
 pub returns-clause-first : goal.returns-clause-first
-returns-clause-first c = (rw c.in_default.is at c.loop-ahead.invariant).0
+returns-clause-first g c = (rw c.in_default.is at c.loop-ahead.invariant).0

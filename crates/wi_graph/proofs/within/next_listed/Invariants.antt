@@ -1,9 +1,0 @@
-use Rattle.wi_graph.proofs.Words.{places_left, as_set}
-use Rattle.wi_graph.proofs.WithinSteps.{IsSeeking}
-use Rattle.wi_graph.proofs.within.next_listed.Given as goal
-
-abbrev pub invariant-loop-ahead : goal.invariant-loop-ahead
-invariant-loop-ahead l = IsSeeking (as_set l.cells) l.area l.fn.from l.ahead
-
-abbrev pub decreases-loop-ahead : goal.decreases-loop-ahead
-decreases-loop-ahead l = places_left l.area l.ahead
