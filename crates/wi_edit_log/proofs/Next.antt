@@ -1,14 +1,13 @@
 -- The cells of a rectangle one after another, in row-major order.
-use Rattle.wi_edit_log.proofs.Words.{◌≡◌, ◌∙◌, ℕ, ◌==◌, ◌≤◌, ◌<◌, ◌⊎◌, inl, inr, Bool, true, false, ◌||◌, ◌&&◌, Option, Some, None, IfSome, refl, ap, sym, subst, arith, nat_lt, then_some, and_from, and_parts, both_ways, cases_eq, cases_lt, eq-eqb, eqb-true, le-ltb, lt-ltb, or_cases, or_left, or_right, one_truth, Area, row_of, column_of, is_within, fewer_places, places_left, within_between, within_parts, IsAtOrBefore, IsFirst, is_after}
+use Rattle.wi_edit_log.proofs.Words.{◌≡◌, ◌∙◌, ℕ, ◌==◌, ◌≤◌, ◌<◌, ◌⊎◌, inl, inr, Bool, true, false, ◌||◌, ◌&&◌, Option, Some, None, IfSome, refl, ap, sym, subst, arith, nat_lt, then_some, and_from, and_parts, both_ways, cases_eq, cases_lt, eq-eqb, eqb-true, le-ltb, lt-ltb, or_cases, or_left, or_right, one_truth, Area, row_of, column_of, is_within, fewer_places, places_left, within_between, within_from, within_parts, IsAtOrBefore, IsFirst, is_after}
 use Rattle.std.proofs.lemmas.Bool.{ltb-true}
-use Rattle.wi_edit_log.proofs.Shared.{within_from}
 
 -- ---- the first
 
 first_within : (r : Area) (a : ℕ) → is_within r a ≡ true → is_within r r.first ≡ true
 first_within r a h =
     let p = within_parts r a h in
-    within_from r r.first (row_of r.first) (column_of r.first) refl refl (omega arith) (omega (arith, p.0, p.1)) (omega arith) (omega (arith, p.2, p.3))
+    within_from r r.first (omega arith) (omega (arith, p.0, p.1)) (omega arith) (omega (arith, p.2, p.3))
 
 pub first_is : (r : Area) (at x : ℕ) (b : Bool) (o : Option ℕ) → at ≡ r.first → x ≡ r.first → b ≡ is_within r at → o ≡ then_some b x → IsFirst (is_within r) o
 first_is r at x b o e f w t =

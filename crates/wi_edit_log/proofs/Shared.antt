@@ -48,13 +48,13 @@ turned areas others o = same_first (in_each areas others) (in_each others areas)
 
 -- ---- two rectangles: their first cell is at the later of their first rows and of their first columns
 
-pub within_from : (r : Area) (a row column : ℕ) → row_of a ≡ row → column_of a ≡ column → row_of r.first ≤ row → row ≤ row_of r.last → column_of r.first ≤ column → column ≤ column_of r.last → is_within r a ≡ true
-within_from r a row column e f l m n o =
+within_at : (r : Area) (a row column : ℕ) → row_of a ≡ row → column_of a ≡ column → row_of r.first ≤ row → row ≤ row_of r.last → column_of r.first ≤ column → column ≤ column_of r.last → is_within r a ≡ true
+within_at r a row column e f l m n o =
     rw (e, f) (and_from (nat_le (row_of r.first) row && nat_le row (row_of r.last)) (nat_le (column_of r.first) column && nat_le column (column_of r.last))
     (and_from (nat_le (row_of r.first) row) (nat_le row (row_of r.last)) (le-leb (row_of r.first) row l) (le-leb row (row_of r.last) m))
     (and_from (nat_le (column_of r.first) column) (nat_le column (column_of r.last)) (le-leb (column_of r.first) column n) (le-leb column (column_of r.last) o)))
 
-pub no_sooner : (row column a : ℕ) → row ≤ row_of a → column ≤ column_of a → place row column ≤ a
+no_sooner : (row column a : ℕ) → row ≤ row_of a → column ≤ column_of a → place row column ≤ a
 no_sooner row column a l m = omega arith
 
 from_left : (k l m : ℕ) → k ≡ max l m → l ≤ k
@@ -76,8 +76,8 @@ corner_shared r s row column a e f h =
     let at_column = column_of_place row column inside in (
       no_sooner row column a above left,
       and_from (is_within r (place row column)) (is_within s (place row column))
-          (within_from r (place row column) row column at_row at_column (from_left row _ _ e) (le_trans above p.1) (from_left column _ _ f) (le_trans left p.3))
-          (within_from s (place row column) row column at_row at_column (from_right row _ _ e) (le_trans above q.1) (from_right column _ _ f) (le_trans left q.3)),
+          (within_at r (place row column) row column at_row at_column (from_left row _ _ e) (le_trans above p.1) (from_left column _ _ f) (le_trans left p.3))
+          (within_at s (place row column) row column at_row at_column (from_right row _ _ e) (le_trans above q.1) (from_right column _ _ f) (le_trans left q.3)),
     )
 
 pub first_shared : (r s : Area) (row column at : ℕ) (shared : Bool) (found : Option ℕ) → row ≡ max (row_of r.first) (row_of s.first) → column ≡ max (column_of r.first) (column_of s.first)

@@ -93,7 +93,7 @@ impl Named {
     }
 
     /// The first cell that they share with others, which may be told to rise. For each rectangle of the shorter list the work grows with
-    /// the longer's length, and with its logarithm alone where that rises.
+    /// the longer's length; where that rises, with its logarithm and with how many of its rectangles meet the rows of this one.
     pub(crate) fn first_shared(&self, others: &[Rect], others_rise: bool) -> Option<Address>
         requires { others_rise ≡ true → are_rising others.now ≡ true }
         ensures { IsFirst (in_each self.now others.now) result }

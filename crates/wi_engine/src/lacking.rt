@@ -18,7 +18,7 @@ pub(crate) fn is_lacking(store: &Store, frame: &Frame, at: Address) -> bool
 }
 
 /// The first cell of a rectangle after another whose value a frame lacks. For each occupied cell passed it takes a search
-/// for the next one and a look at what the frame found.
+/// for the next one, a look at what stands there and, for a formula, one at what the frame found.
 pub(crate) fn next_lacking_in(
     store: &Store,
     frame: &Frame,

@@ -8,7 +8,8 @@ use wi_arguments::successor;
 use wi_store::Store;
 use wi_values::{Address, Rect};
 
-/// The first occupied cell of a rectangle after the one looked at last. It searches among the tiles of 16 rows up to it.
+/// The first occupied cell of a rectangle after the one looked at last. It takes a search among the tiles of each 16
+/// rows up to it in which something stands.
 pub(crate) fn next_within(store: &Store, area: Rect, after: Option<Address>) -> Option<Address>
     ensures some { IfSome result (λ c. cells_after store.now.sheet area after
         ≡ c ∷ cells_after store.now.sheet area (Some c)) }

@@ -1,6 +1,6 @@
 -- The words of the library, of the crates below and of this crate's definitions that its proofs are written in.
 pub use Rattle.smallvec.specs.SmallVec.{SmallVec}
-pub use Rattle.std.proofs.Common.{Bool, Err, IfNone, IfOk, IfSome, IsSome, List, None, Ok, Option, Result, Some, [], add-one, ap, arith, cond, drop, drop-cons, eq-eqb, false, filter, get_or, inl, inr, is_some, length, ltb-false, ltb-true, map, max, min, nat_le, not, option_map, refl, rules, subst, suc, sym, take, take_all, true, true≢false, zero, ℕ, ◌&&◌, ◌++◌, ◌+◌, ◌-◌, ◌<◌, ◌==◌, ◌||◌, ◌↔◌, ◌∙◌, ◌∷◌, ◌≡◌, ◌≤◌, ◌⊎◌}
+pub use Rattle.std.proofs.Common.{Bool, Err, IfNone, IfOk, IfSome, IsSome, List, None, Ok, Option, Result, Some, [], add-one, ap, arith, cond, drop, drop-cons, eq-eqb, false, filter, get_or, inl, inr, is_some, length, ltb-true, map, max, min, nat_le, not, option_map, refl, rules, subst, suc, sym, take, take_all, true, true≢false, zero, ℕ, ◌&&◌, ◌++◌, ◌+◌, ◌-◌, ◌<◌, ◌==◌, ◌||◌, ◌↔◌, ◌∙◌, ◌∷◌, ◌≡◌, ◌≤◌, ◌⊎◌}
 pub use Rattle.std.proofs.Math.Arith.{lt_of_le-ne}
 pub use Rattle.std.proofs.Math.Bool.{and-false, and-true, or-false, or_assoc}
 pub use Rattle.std.proofs.Math.Nat.{le_trans}

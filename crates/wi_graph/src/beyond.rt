@@ -35,7 +35,7 @@ pub(crate) fn listed_beyond<W: Watch>(
     Ok(Cells::from_vec(list))
 }
 
-/// The same as a set, of cells that aren't watched.
+/// The cells that read one of these, at any remove, with themselves, but for those that are watched. None of these is watched.
 pub(crate) fn cone_beyond<W: Watch>(
     alloc: Global,
     readers: &RangeIndex,

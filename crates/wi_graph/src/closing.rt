@@ -66,8 +66,8 @@ fn has_one(area: Rect, cells: &[Address], bounds: Rect) -> bool
     first_listed(cells, bounds, area).is_some()
 }
 
-/// Whether what is next is for a circular cell, or reads one. It takes a search among the circular cells for each rectangle
-/// that is read; where no cell is circular, it is constant.
+/// Whether what is next is for a circular cell, or reads one. The work for each rectangle that is read grows with the logarithm of the
+/// count of circular cells, once and for each of its rows beside which one of them stands; where no cell is circular, it is constant.
 #[inline(always)]
 pub(crate) fn meets_circle(next: &[Brought], circles: &CellSet) -> bool
     ensures { result ≡ meets_one_of next.now circles.now }

@@ -84,7 +84,7 @@ impl Graph {
     /// is as before. The cone is searched for only where a cycle may be closed or opened: not where each
     /// cell reads what it read, nor where one cell that isn't circular gets something that reads neither it nor a formula. Where it reads
     /// formulas, but no circular cell, what it reads at any remove is searched for it at the same time, so that the work grows with the
-    /// smaller of the two.
+    /// shorter of the two searches.
     #[inline(always)]
     pub fn stage(&mut self, changes: &[NewContent]) -> Result<(), AllocError>
         requires { self.old.staged ≡ None }

@@ -13,8 +13,8 @@ use crate::within::{next_after, next_within};
 use std::alloc::{AllocError, Global};
 use wi_values::{Address, Rect};
 
-/// The cells of a cone that read a circular cell outside it. For each rectangle that they read the work grows with the count
-/// of circular cells of the cone there.
+/// The cells of a cone that read a circular cell outside it. For each rectangle that a cell of the cone reads it takes at most
+/// a search among the circular cells for each that the cone and the rectangle have, and one more.
 pub(crate) fn held_set(
     alloc: Global,
     reads: &Areas,
@@ -58,8 +58,8 @@ fn is_held(reads: &Areas, cell: Address, circles: &CellSet, cells: &CellSet) -> 
     }
 }
 
-/// Whether a rectangle has a circular cell outside the cone. It takes a search among the circular cells for each that the
-/// cone and the rectangle have, and one more.
+/// Whether a rectangle has a circular cell outside the cone. It takes at most a search among the circular cells for each
+/// that the cone and the rectangle have, and one more.
 fn has_circle_outside(area: Rect, circles: &CellSet, cells: &CellSet) -> bool
     ensures { result ≡ has_circle_outside circles.now cells.now area }
 {

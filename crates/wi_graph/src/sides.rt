@@ -21,8 +21,8 @@ use wi_ranges::{RangeIndex, RisingSet};
 use wi_values::Address;
 
 /// The cone of an edit; none where one cell gets something and isn't circular, and what it is to read, at any remove, isn't circular
-/// and isn't the cell. For such an edit the work grows with the smaller of two counts, of the cells that depend on the cell and of those
-/// that it is to read, beside that of listing the readers of a cell.
+/// and isn't the cell. For such an edit two searches go side by side, among what depends on the cell and among what it is to read at
+/// any remove, and the work grows with the shorter one, beside that of listing the readers of a cell.
 pub(crate) fn cone_unless_apart(
     alloc: Global,
     rooms: &Rooms,

@@ -26,7 +26,7 @@ pub(crate) fn next_within(cells: &CellSet, area: Rect, from: Address) -> Option<
 }
 
 /// The same of a set or a list, wherever the rectangle lies.
-fn next_in_part<C: Between>(cells: &C, area: Rect, from: Address) -> Option<Address>
+fn next_in_part<C: FindsFirst>(cells: &C, area: Rect, from: Address) -> Option<Address>
     requires { C.is_in_order cells.now }
     ensures found { IfSome result (IsAhead (C.cells cells.now) area from) }
     ensures first { (c : ℕ) → IsAhead (C.cells cells.now) area from c → IsFoundBy result c }
@@ -73,11 +73,11 @@ pub(crate) fn rows_from(area: Rect, cell: Address) -> Rect
 }
 
 /// Cells of which the first from one to another can be found.
-trait Between {
+trait FindsFirst {
     /// The set of them.
     ghost cells: { Self → BTreeSet ℕ };
 
-    /// They stand as the search needs them.
+    /// They stand in row-major order, where their type doesn't see to that.
     ghost is_in_order: { Self → Type 0 };
 
     /// The first of them from one cell to another.
@@ -87,7 +87,7 @@ trait Between {
         ensures first { (c : ℕ) → IsBetween (cells self.now) from to c → IsFoundBy result c };
 }
 
-impl Between for BTreeSet<Address> {
+impl FindsFirst for BTreeSet<Address> {
     ghost cells = { λ set. set };
 
     ghost is_in_order = { λ set. ⊤ };
@@ -106,7 +106,7 @@ impl Between for BTreeSet<Address> {
     }
 }
 
-impl Between for &[Address] {
+impl FindsFirst for &[Address] {
     ghost cells = { λ list. as_set list.now };
 
     ghost is_in_order = { λ list. IsStrictlyIncreasing list.now };

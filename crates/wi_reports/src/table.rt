@@ -51,7 +51,7 @@ impl Model for SecondInput {
 }
 
 impl SecondInput {
-    /// The second input that a pair of it and its cells is, where there is a pair.
+    /// The second input of a pair, which has its cell and the cells whose values take its place; none where there is no pair.
     pub fn from_pair(pair: Option<(Address, Rect)>) -> Option<SecondInput>
         ensures { result ≡ pair }
     {

@@ -152,11 +152,6 @@ pub record AreTaken (old new : Roster) : Type 0 where
   pub pending : (i a : ℕ) → is_one_of (pending_of new i) a ≡ (is_one_of (pending_of old i) a || is_one_of (vacant_of old i) a)
   pub vacant : (i : ℕ) → vacant_of new i ≡ []
 
-pub record AreGivenBack (old new : Roster) : Type 0 where
-  pub sessions : new.sessions ≡ old.sessions
-  pub pending : new.pending ≡ old.pending
-  pub vacant : (i : ℕ) → vacant_of new i ≡ []
-
 not_found : (v f p : Bool) → v ≡ (f && not p) → p ≡ false → v ≡ false → f ≡ false
 not_found v true true e k h = cc
 not_found v true false e k h = sym e ∙ h

@@ -24,10 +24,10 @@ use wi_values::{Address, Rect};
 /// Edits the sheet, where each of some cells gets a content or none, and notes in the log which rectangles the edit names; the cells
 /// that may show something else then are pending for each session. The contents are taken out of their list. An edit that isn't forced
 /// is refused as `Stale` where it names a cell that another session has edited since the current one was last shown what has changed.
-/// The work grows with the edits of others that the log hasn't noted or the current session hasn't seen yet, and the rectangles that
-/// these name; with the edited cells, what they read and who reads them; with those that depend on the edited ones and aren't pending
-/// for each session; where several cells read something new, or a cycle may be closed or opened, with all that depend on them, what
-/// these read and who reads them.
+/// The work grows with the edits that the log hasn't noted, up to the last one of another session, with those of others that the
+/// current session hasn't seen yet, and with the rectangles that these name; with the edited cells, what they read and who reads them;
+/// with those that depend on the edited ones and aren't pending for each session; where several cells read something new, or a cycle
+/// may be closed or opened, with all that depend on them, what these read and who reads them.
 pub(crate) fn apply_edit<C: Calculator>(
     alloc: Global,
     calculator: &mut C,

@@ -15,8 +15,8 @@ use wi_scenario_list::{ScenarioFault, Scenarios};
 use wi_values::{Address, Value, imported_value};
 
 /// Puts a replacement into a scenario, which is made if need be. The work grows with the count of scenarios, with the scenario's own
-/// replacements, for each session with all that its scenario puts in, before and after, and with what depends on the cell where that
-/// is another.
+/// replacements, for each session with all that its scenario puts in, before and after, and, where it puts in something else for the
+/// cell then, with what depends on the cell.
 pub(crate) fn put<C: Calculator>(
     alloc: Global,
     calculator: &C,
@@ -59,7 +59,7 @@ fn put_text<C: Calculator>(
     Ok(())
 }
 
-/// Takes a scenario's own replacement away, if there is one; the scenario stays. The work is as of `put`.
+/// Takes a scenario's own replacement away, if there is one; the scenario stays. It costs what `put` does.
 pub(crate) fn take_away<C: Calculator>(
     alloc: Global,
     calculator: &C,

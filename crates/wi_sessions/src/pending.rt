@@ -75,7 +75,7 @@ impl Pending {
     }
 
     /// One session more, for which these cells are pending. On an error all is as before. It is an error too where there are 64.
-    /// For each cell it takes two look-ups and putting it in.
+    /// For each cell it takes two look-ups, and puts it in where it stands for no session.
     pub(crate) fn push(&mut self, cells: &[Address]) -> Result<(), AllocError>
         ensures pending { OnOk result ((new : List ℕ)
             × (self.new.pending ≡ self.old.pending ++ new ∷ []) × SameCells new cells.now) }
@@ -184,7 +184,7 @@ impl Pending {
 
     /// The cells that are pending for a session, in row-major order. It takes a look-up for each cell that was marked since it was
     /// last told, and a sort where they were marked by several edits; or a step for each cell that is pending for any session, where
-    /// these are no more.
+    /// these are no more, or where too many were marked to be listed.
     pub(crate) fn cells(&self, i: usize) -> Result<Vec<Address>, AllocError>
         requires { i < length self.now.pending }
         ensures list { IfOk result (λ found. found.items ≡ list_at self.now.pending i) }
@@ -207,7 +207,7 @@ impl Pending {
     }
 
     /// No cell is pending for a session any more, nor has room; these are all of them. Takes no memory. Each is looked up;
-    /// where there is one session, all are dropped at once.
+    /// where there is one session, each is dropped instead.
     pub(crate) fn clear(&mut self, i: usize, all: &[Address])
         requires within { i < length self.old.pending }
         requires all { (a : ℕ) → is_one_of all.now a ≡ (is_one_of (list_at self.old.pending i) a

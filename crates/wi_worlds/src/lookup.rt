@@ -16,7 +16,7 @@ pub fn value_at(replacements: &[Replacement], at: Address) -> Option<&Value>
     Some(&found_at(replacements, at)?.value)
 }
 
-/// The replacement of a cell, if there is one. The work grows with the logarithm of their count.
+/// The replacement of a cell, if one of the replacements is of it. The work grows with the logarithm of their count.
 pub(crate) fn found_at(replacements: &[Replacement], cell: Address) -> Option<&Replacement>
     requires { IsInOrder replacements.now }
     ensures { option_copied result ≡ replacement_at replacements.now cell }

@@ -1,5 +1,5 @@
 use Rattle.wi_graph.proofs.WithinSteps.{range_first, range_none}
-use Rattle.wi_graph.proofs.within.BTreeSetAddressBetween.first_between.Goals as goal
+use Rattle.wi_graph.proofs.within.BTreeSetAddressFindsFirst.first_between.Goals as goal
 
 pub returns-in-Some-clause-first : goal.returns-in-Some-clause-first
 returns-in-Some-clause-first c = range_first c.args.self.now c.args.from c.args.to c.in-Some.cell.now c.range.result _ (c.range.ensures.in_range tt) c.in-Some.ensures.steps

@@ -1,6 +1,6 @@
 use Rattle.wi_graph.proofs.Words.{◌<◌, length, arith, nat_tests}
 use Rattle.wi_graph.proofs.WithinSteps.{listed_later, listed_first}
-use Rattle.wi_graph.proofs.within.RefSliceAddressBetween.first_between.Goals as goal
+use Rattle.wi_graph.proofs.within.RefSliceAddressFindsFirst.first_between.Goals as goal
 
 pub returns-then-before-cells-clause-first : goal.returns-then-before-cells-clause-first
 returns-then-before-cells-clause-first c d h =
