@@ -1,6 +1,6 @@
 //! The cells of a set, or of a list, in a rectangle, one after another.
 
-ghost use Rattle.std.specs.Prelude.{◌≡◌, ◌<◌, ◌≤◌, ◌+◌, ◌&&◌, ℕ, true, false, nat_lt, nat_le, length, IfSome};
+ghost use Rattle.std.specs.Prelude.{⊤, ◌≡◌, ◌<◌, ◌≤◌, ◌+◌, ◌&&◌, ℕ, true, false, nat_lt, nat_le, length, IfSome};
 ghost use Rattle.std.specs.List.Sorted.{IsStrictlyIncreasing, IsPartitionPoint};
 ghost use Rattle.std.specs.BTreeSet.{BTreeSet, contains};
 ghost use Rattle.wi_values.specs.Address.{row_of, is_within};
