@@ -8,7 +8,7 @@ ghost use Rattle.wi_parser.specs.Leaves.{all_leaves};
 ghost use Rattle.wi_parser.specs.View.{tree_of, all_of, pair_of};
 ghost use Rattle.wi_parser.specs.Shift as shift;
 
-use crate::expr::{Corners, Expr, Operator, Pair, Reference, binary, call, text};
+use crate::expr::{Corners, Expr, Operator, Pair, Reference, WhatIf, binary, call, text};
 use std::alloc::{AllocError, AllocFailed, Global};
 use thiserror::Error;
 use wi_values::{Address, COLUMNS, ROWS};
@@ -60,8 +60,10 @@ pub(crate) fn all_stay(expr: &Expr, rows: i64, columns: i64) -> bool
         Expr::Binary(_, operands) => {
             all_stay(&operands.0, rows, columns) && all_stay(&operands.1, rows, columns)
         }
-        Expr::WhatIf(f, pairs) => stays(f, rows, columns) && pairs_stay(pairs, rows, columns),
-        Expr::Call(_, parameters) => each_stays(parameters, rows, columns),
+        Expr::WhatIf(w) => {
+            stays(&w.formula_cell, rows, columns) && pairs_stay(&w.pairs, rows, columns)
+        }
+        Expr::Call(c) => each_stays(&c.1, rows, columns),
     }
 }
 
@@ -110,10 +112,8 @@ pub(crate) fn shifted(
         Expr::Binary(op, operands) => {
             binary_shifted(alloc, *op, &operands.0, &operands.1, rows, columns)
         }
-        Expr::WhatIf(f, pairs) => what_if(alloc, f, pairs, rows, columns),
-        Expr::Call(f, parameters) => {
-            call(alloc, f, each_shifted(alloc, parameters, rows, columns)?)
-        }
+        Expr::WhatIf(w) => what_if(alloc, &w.formula_cell, &w.pairs, rows, columns),
+        Expr::Call(c) => call(alloc, &c.0, each_shifted(alloc, &c.1, rows, columns)?),
     }
 }
 
@@ -177,7 +177,11 @@ fn what_if(
 {
     let formula_cell = moved(f, rows, columns);
     let pairs = moved_pairs(alloc, pairs, rows, columns)?;
-    Ok(Expr::WhatIf(formula_cell, pairs))
+    let what_if = WhatIf {
+        formula_cell,
+        pairs,
+    };
+    Ok(Expr::WhatIf(Box::new(alloc, what_if)?))
 }
 
 fn moved_pairs(
