@@ -101,8 +101,8 @@ pub fn push_tree(tree: &Expr, text: &mut String) -> Result<(), AllocError> {
             push_between("{", &operands.0, mark_of(*operator), text)?;
             push_between("", &operands.1, "}", text)
         }
-        Expr::Call(name, parameters) => push_call(name, parameters, text),
+        Expr::Call(call) => push_call(&call.name, &call.parameters, text),
         Expr::Text(content) => push_content(content, text),
-        Expr::WhatIf(formula_cell, pairs) => push_what_if(*formula_cell, pairs, text),
+        Expr::WhatIf(what_if) => push_what_if(what_if.formula_cell, &what_if.pairs, text),
     }
 }

@@ -111,8 +111,10 @@ fn value_of<L: Lookup>(alloc: Global, expr: &Expr, lookup: &L) -> Result<Value, 
             }
             binary_value(alloc, *operator, &operands.0, &operands.1, lookup)
         }
-        Expr::WhatIf(formula_cell, pairs) => what_if_value(alloc, *formula_cell, pairs, lookup),
-        Expr::Call(name, parameters) => call_value(alloc, name, parameters, lookup),
+        Expr::WhatIf(what_if) => {
+            what_if_value(alloc, what_if.formula_cell, &what_if.pairs, lookup)
+        }
+        Expr::Call(call) => call_value(alloc, &call.name, &call.parameters, lookup),
     }
 }
 

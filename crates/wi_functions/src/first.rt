@@ -35,8 +35,8 @@ fn first_of(expr: &Expr) -> Option<Address>
             Some(at) => Some(at),
             None => first_of(&operands.1),
         },
-        Expr::WhatIf(_, _) => None,
-        Expr::Call(name, parameters) => first_of_call(name, parameters),
+        Expr::WhatIf(_) => None,
+        Expr::Call(call) => first_of_call(&call.name, &call.parameters),
     }
 }
 

@@ -65,7 +65,22 @@ pub struct Pair {
     pub replacement: Reference,
 }
 
-/// The tree of a formula, which keeps parentheses.
+/// A what-if: the value of a formula cell, if each input had the value of its replacement cell.
+#[derive(Drop)]
+pub struct WhatIf {
+    pub formula_cell: Reference,
+    pub pairs: Vec<Pair>,
+}
+
+/// A call of a function by its name in capitals.
+#[derive(Drop)]
+pub struct Call {
+    pub name: Text,
+    pub parameters: Vec<Expr>,
+}
+
+/// The tree of a formula, which keeps parentheses. What is larger than a number stands behind a box, since each operand has room for
+/// the largest of these.
 #[derive(Drop)]
 pub enum Expr {
     Number(Fraction),
@@ -78,10 +93,8 @@ pub enum Expr {
     Percent(Box<Expr>),
     /// Both operands stand behind one box.
     Binary(Operator, Box<(Expr, Expr)>),
-    /// The value of a formula cell, if each input had the value of its replacement cell.
-    WhatIf(Reference, Vec<Pair>),
-    /// A function by its name in capitals, with its parameters.
-    Call(Text, Vec<Expr>),
+    WhatIf(Box<WhatIf>),
+    Call(Box<Call>),
 }
 
 impl Expr {
@@ -99,8 +112,8 @@ impl Expr {
             Expr::Signed(sign, t) => Ok(Expr::Signed(*sign, copied(alloc, t)?)),
             Expr::Percent(t) => Ok(Expr::Percent(copied(alloc, t)?)),
             Expr::Binary(op, operands) => binary_copied(alloc, *op, &operands.0, &operands.1),
-            Expr::WhatIf(f, pairs) => what_if(alloc, *f, pairs),
-            Expr::Call(f, trees) => call(alloc, f, all_copied(alloc, trees)?),
+            Expr::WhatIf(w) => what_if(alloc, w.formula_cell, &w.pairs),
+            Expr::Call(c) => call_of(alloc, &c.name, all_copied(alloc, &c.parameters)?),
         }
     }
 }
@@ -164,12 +177,32 @@ pub(crate) fn what_if(
 ) -> Result<Expr, AllocError>
     ensures { IfOk result (λ e. tree_of e ≡ tree.what_if formula_cell (map pair_of pairs.now)) }
 {
-    Ok(Expr::WhatIf(formula_cell, Vec::from_slice(alloc, pairs)?))
+    what_if_with(alloc, formula_cell, Vec::from_slice(alloc, pairs)?)
+}
+
+/// The tree of a what-if with these inputs and replacement cells.
+pub(crate) fn what_if_with(
+    alloc: Global,
+    formula_cell: Reference,
+    pairs: Vec<Pair>,
+) -> Result<Expr, AllocError>
+    ensures { IfOk result (λ e. tree_of e ≡ tree.what_if formula_cell (map pair_of pairs.items)) }
+{
+    let what_if = WhatIf {
+        formula_cell,
+        pairs,
+    };
+    Ok(Expr::WhatIf(Box::new(alloc, what_if)?))
 }
 
 /// The tree of a call of the function with this name.
-pub(crate) fn call(alloc: Global, name: &Text, parameters: Vec<Expr>) -> Result<Expr, AllocError>
+pub(crate) fn call_of(
+    alloc: Global,
+    name: &Text,
+    parameters: Vec<Expr>,
+) -> Result<Expr, AllocError>
     ensures { IfOk result (λ e. tree_of e ≡ tree.call name.now (all_of parameters.items)) }
 {
-    Ok(Expr::Call(name.copy(alloc)?, parameters))
+    let name = name.copy(alloc)?;
+    Ok(Expr::Call(Box::new(alloc, Call { name, parameters })?))
 }

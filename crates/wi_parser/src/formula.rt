@@ -192,11 +192,11 @@ fn push_leaves(
             push_leaves(&operands.0, inputs, rectangles)?;
             push_leaves(&operands.1, inputs, rectangles)
         }
-        Expr::WhatIf(formula_cell, pairs) => {
-            push_area(rectangles, cell_area(formula_cell.at))?;
-            push_pairs(pairs, inputs, rectangles)
+        Expr::WhatIf(what_if) => {
+            push_area(rectangles, cell_area(what_if.formula_cell.at))?;
+            push_pairs(&what_if.pairs, inputs, rectangles)
         }
-        Expr::Call(_, parameters) => push_all_leaves(parameters, inputs, rectangles),
+        Expr::Call(call) => push_all_leaves(&call.parameters, inputs, rectangles),
     }
 }
 

@@ -50,8 +50,8 @@ fn push_tree(expr: &Expr, out: &mut String) -> Result<(), AllocError>
             push_tree(&operands.0, out)?;
             push_operation(*op, &operands.1, out)
         }
-        Expr::WhatIf(formula_cell, pairs) => push_what_if(*formula_cell, pairs, out),
-        Expr::Call(name, parameters) => push_call(name, parameters, out),
+        Expr::WhatIf(what_if) => push_what_if(what_if.formula_cell, &what_if.pairs, out),
+        Expr::Call(call) => push_call(&call.name, &call.parameters, out),
     }
 }
 

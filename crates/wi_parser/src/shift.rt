@@ -8,7 +8,9 @@ ghost use Rattle.wi_parser.specs.Leaves.{all_leaves};
 ghost use Rattle.wi_parser.specs.View.{tree_of, all_of, pair_of};
 ghost use Rattle.wi_parser.specs.Shift as shift;
 
-use crate::expr::{Corners, Expr, Operator, Pair, Reference, binary, call, text};
+use crate::expr::{
+    Corners, Expr, Operator, Pair, Reference, binary, call_of, text, what_if_with,
+};
 use std::alloc::{AllocError, AllocFailed, Global};
 use thiserror::Error;
 use wi_values::{Address, COLUMNS, ROWS};
@@ -60,8 +62,10 @@ pub(crate) fn all_stay(expr: &Expr, rows: i64, columns: i64) -> bool
         Expr::Binary(_, operands) => {
             all_stay(&operands.0, rows, columns) && all_stay(&operands.1, rows, columns)
         }
-        Expr::WhatIf(f, pairs) => stays(f, rows, columns) && pairs_stay(pairs, rows, columns),
-        Expr::Call(_, parameters) => each_stays(parameters, rows, columns),
+        Expr::WhatIf(w) => {
+            stays(&w.formula_cell, rows, columns) && pairs_stay(&w.pairs, rows, columns)
+        }
+        Expr::Call(call) => each_stays(&call.parameters, rows, columns),
     }
 }
 
@@ -110,9 +114,10 @@ pub(crate) fn shifted(
         Expr::Binary(op, operands) => {
             binary_shifted(alloc, *op, &operands.0, &operands.1, rows, columns)
         }
-        Expr::WhatIf(f, pairs) => what_if(alloc, f, pairs, rows, columns),
-        Expr::Call(f, parameters) => {
-            call(alloc, f, each_shifted(alloc, parameters, rows, columns)?)
+        Expr::WhatIf(w) => what_if(alloc, &w.formula_cell, &w.pairs, rows, columns),
+        Expr::Call(call) => {
+            let parameters = each_shifted(alloc, &call.parameters, rows, columns)?;
+            call_of(alloc, &call.name, parameters)
         }
     }
 }
@@ -177,7 +182,7 @@ fn what_if(
 {
     let formula_cell = moved(f, rows, columns);
     let pairs = moved_pairs(alloc, pairs, rows, columns)?;
-    Ok(Expr::WhatIf(formula_cell, pairs))
+    what_if_with(alloc, formula_cell, pairs)
 }
 
 fn moved_pairs(
