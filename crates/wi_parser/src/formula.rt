@@ -24,37 +24,31 @@ use wi_values::{Address, Rect};
 /// A formula, seen as its tree, which is one that a text can have.
 #[derive(Drop)]
 pub struct Formula {
-    /// Behind a box, so that a content without a formula stays small.
-    parts: Box<Parts>,
+    expr: Expr,
+    /// Behind a box, so that a content has room for it beside the tree.
+    lists: Box<Lists>,
 }
 
 /// Rectangles, of which one takes no memory of its own, as most formulas read one.
 type Rectangles = SmallVec<Rect, 1>;
 
 #[derive(Drop)]
-struct Parts {
-    expr: Expr,
+struct Lists {
     /// The inputs of its what-ifs.
     inputs: Vec<Address>,
     /// The rectangles of its precedents.
     rectangles: Rectangles,
 }
 
-impl Parts {
-    // The same parts once more.
-    fn copy(&self, alloc: Global) -> Result<Parts, AllocError>
-        ensures expr { IfOk result (λ p. tree_of p.expr ≡ tree_of self.now.expr) }
-        ensures inputs { IfOk result (λ p. p.inputs.items ≡ self.now.inputs.items) }
-        ensures rectangles { IfOk result (λ p. p.rectangles.items ≡ self.now.rectangles.items) }
+impl Lists {
+    // The same lists once more.
+    fn copy(&self, alloc: Global) -> Result<Lists, AllocError>
+        ensures inputs { IfOk result (λ l. l.inputs.items ≡ self.now.inputs.items) }
+        ensures rectangles { IfOk result (λ l. l.rectangles.items ≡ self.now.rectangles.items) }
     {
-        let expr = self.expr.copy(alloc)?;
         let inputs = Vec::from_slice(alloc, &self.inputs)?;
         let rectangles = Rectangles::from_slice(alloc, &self.rectangles)?;
-        Ok(Parts {
-            expr,
-            inputs,
-            rectangles,
-        })
+        Ok(Lists { inputs, rectangles })
     }
 }
 
@@ -68,7 +62,7 @@ impl Model for Formula {
 
     ghost use Rattle.wi_parser.specs.View.{tree_of};
 
-    ghost view = { λ f. tree_of f.parts.value.expr };
+    ghost view = { λ f. tree_of f.expr };
 
     ghost use Rattle.wi_parser.specs.Inner.Inside.{IsFormula};
 
@@ -85,28 +79,22 @@ impl Formula {
         let mut inputs = Vec::new(alloc);
         let mut rectangles = Rectangles::new(alloc);
         push_leaves(&expr, &mut inputs, &mut rectangles)?;
-        let parts = Parts {
-            expr,
-            inputs,
-            rectangles,
-        };
-        Ok(Formula {
-            parts: Box::new(alloc, parts)?,
-        })
+        let lists = Box::new(alloc, Lists { inputs, rectangles })?;
+        Ok(Formula { expr, lists })
     }
 
     /// Its tree.
     pub fn tree(&self) -> &Expr
         ensures { tree_of result.now ≡ self.now }
     {
-        &self.parts.expr
+        &self.expr
     }
 
     /// The inputs of its what-ifs, from the left: the cells that it names and does not read.
     pub fn inputs(&self) -> &[Address]
         ensures { result.now ≡ inputs_of self.now }
     {
-        &self.parts.inputs
+        &self.lists.inputs
     }
 
     /// The rectangles of its precedents, the cells that it reads, from the left; one cell is a rectangle too. The inputs of
@@ -114,17 +102,16 @@ impl Formula {
     pub fn rectangles(&self) -> &[Rect]
         ensures { result.now ≡ rectangles_of self.now }
     {
-        &self.parts.rectangles
+        &self.lists.rectangles
     }
 
     /// The same formula once more.
     pub fn copy(&self, alloc: Global) -> Result<Formula, AllocError>
         ensures { IfOk result (λ f. f ≡ self.now) }
     {
-        let parts = self.parts.copy(alloc)?;
-        Ok(Formula {
-            parts: Box::new(alloc, parts)?,
-        })
+        let expr = self.expr.copy(alloc)?;
+        let lists = Box::new(alloc, self.lists.copy(alloc)?)?;
+        Ok(Formula { expr, lists })
     }
 
     /// The formula for a cell so many rows below and columns to the right of the one that has it: the relative parts
@@ -133,11 +120,11 @@ impl Formula {
     pub fn shift(&self, rows: i64, columns: i64) -> Result<Formula, ShiftFault>
         ensures { ShiftsTo (shifted rows columns self.now) result }
     {
-        if !shift::all_stay(&self.parts.expr, rows, columns) {
+        if !shift::all_stay(&self.expr, rows, columns) {
             return Err(ShiftFault::LeavesSheet);
         }
-        let alloc = *self.parts.inputs.allocator();
-        let expr = shift::shifted(alloc, &self.parts.expr, rows, columns)?;
+        let alloc = *self.lists.inputs.allocator();
+        let expr = shift::shifted(alloc, &self.expr, rows, columns)?;
         Ok(Formula::new(alloc, expr)?)
     }
 
@@ -154,7 +141,7 @@ impl Formula {
             → parsed (printed self.now) ≡ Ok self.now }
     {
         let before = out.as_str().len();
-        let pushed = print::push_formula(&self.parts.expr, out);
+        let pushed = print::push_formula(&self.expr, out);
         if pushed.is_err() {
             out.truncate(before);
         }
