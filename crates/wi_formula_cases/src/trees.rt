@@ -101,7 +101,7 @@ pub fn push_tree(tree: &Expr, text: &mut String) -> Result<(), AllocError> {
             push_between("{", &operands.0, mark_of(*operator), text)?;
             push_between("", &operands.1, "}", text)
         }
-        Expr::Call(call) => push_call(&call.name, &call.parameters, text),
+        Expr::Call(call) => push_call(&call.0, &call.1, text),
         Expr::Text(content) => push_content(content, text),
         Expr::WhatIf(what_if) => push_what_if(what_if.formula_cell, &what_if.pairs, text),
     }

@@ -114,7 +114,7 @@ fn value_of<L: Lookup>(alloc: Global, expr: &Expr, lookup: &L) -> Result<Value, 
         Expr::WhatIf(what_if) => {
             what_if_value(alloc, what_if.formula_cell, &what_if.pairs, lookup)
         }
-        Expr::Call(call) => call_value(alloc, &call.name, &call.parameters, lookup),
+        Expr::Call(call) => call_value(alloc, &call.0, &call.1, lookup),
     }
 }
 

@@ -36,7 +36,7 @@ fn first_of(expr: &Expr) -> Option<Address>
             None => first_of(&operands.1),
         },
         Expr::WhatIf(_) => None,
-        Expr::Call(call) => first_of_call(&call.name, &call.parameters),
+        Expr::Call(call) => first_of_call(&call.0, &call.1),
     }
 }
 

@@ -20,8 +20,8 @@ layer_tree (Expr-F.Parenthesized t) = parenthesized t.value
 layer_tree (Expr-F.Signed s t) = signed s t.value
 layer_tree (Expr-F.Percent t) = percent t.value
 layer_tree (Expr-F.Binary op t) = binary op t.value.0 t.value.1
-layer_tree (Expr-F.WhatIf f v) = what_if f (map pair_of v.items)
-layer_tree (Expr-F.Call f v) = call f (trees_of v.items)
+layer_tree (Expr-F.WhatIf t) = what_if t.value.formula_cell (map pair_of t.value.pairs.items)
+layer_tree (Expr-F.Call t) = call t.value.0 (trees_of t.value.1.items)
 
 -- the tree of an expression
 abbrev pub tree_of : Expr → Tree

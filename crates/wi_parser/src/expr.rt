@@ -72,15 +72,8 @@ pub struct WhatIf {
     pub pairs: Vec<Pair>,
 }
 
-/// A call of a function by its name in capitals.
-#[derive(Drop)]
-pub struct Call {
-    pub name: Text,
-    pub parameters: Vec<Expr>,
-}
-
-/// The tree of a formula, which keeps parentheses. What is larger than a number stands behind a box, since each operand has room for
-/// the largest of these.
+/// The tree of a formula, which keeps parentheses. What takes more room than a number stands behind a box, since each tree
+/// has room for the largest kind.
 #[derive(Drop)]
 pub enum Expr {
     Number(Fraction),
@@ -94,7 +87,8 @@ pub enum Expr {
     /// Both operands stand behind one box.
     Binary(Operator, Box<(Expr, Expr)>),
     WhatIf(Box<WhatIf>),
-    Call(Box<Call>),
+    /// A function by its name in capitals, with its parameters.
+    Call(Box<(Text, Vec<Expr>)>),
 }
 
 impl Expr {
@@ -113,7 +107,7 @@ impl Expr {
             Expr::Percent(t) => Ok(Expr::Percent(copied(alloc, t)?)),
             Expr::Binary(op, operands) => binary_copied(alloc, *op, &operands.0, &operands.1),
             Expr::WhatIf(w) => what_if(alloc, w.formula_cell, &w.pairs),
-            Expr::Call(c) => call_of(alloc, &c.name, all_copied(alloc, &c.parameters)?),
+            Expr::Call(c) => call(alloc, &c.0, all_copied(alloc, &c.1)?),
         }
     }
 }
@@ -177,17 +171,7 @@ pub(crate) fn what_if(
 ) -> Result<Expr, AllocError>
     ensures { IfOk result (λ e. tree_of e ≡ tree.what_if formula_cell (map pair_of pairs.now)) }
 {
-    what_if_with(alloc, formula_cell, Vec::from_slice(alloc, pairs)?)
-}
-
-/// The tree of a what-if with these inputs and replacement cells.
-pub(crate) fn what_if_with(
-    alloc: Global,
-    formula_cell: Reference,
-    pairs: Vec<Pair>,
-) -> Result<Expr, AllocError>
-    ensures { IfOk result (λ e. tree_of e ≡ tree.what_if formula_cell (map pair_of pairs.items)) }
-{
+    let pairs = Vec::from_slice(alloc, pairs)?;
     let what_if = WhatIf {
         formula_cell,
         pairs,
@@ -196,13 +180,10 @@ pub(crate) fn what_if_with(
 }
 
 /// The tree of a call of the function with this name.
-pub(crate) fn call_of(
-    alloc: Global,
-    name: &Text,
-    parameters: Vec<Expr>,
-) -> Result<Expr, AllocError>
+pub(crate) fn call(alloc: Global, name: &Text, parameters: Vec<Expr>) -> Result<Expr, AllocError>
     ensures { IfOk result (λ e. tree_of e ≡ tree.call name.now (all_of parameters.items)) }
 {
     let name = name.copy(alloc)?;
-    Ok(Expr::Call(Box::new(alloc, Call { name, parameters })?))
+    let parts = Box::new(alloc, (name, parameters))?;
+    Ok(Expr::Call(parts))
 }

@@ -183,7 +183,7 @@ fn push_leaves(
             push_area(rectangles, cell_area(what_if.formula_cell.at))?;
             push_pairs(&what_if.pairs, inputs, rectangles)
         }
-        Expr::Call(call) => push_all_leaves(&call.parameters, inputs, rectangles),
+        Expr::Call(call) => push_all_leaves(&call.1, inputs, rectangles),
     }
 }
 

@@ -7,7 +7,7 @@ ghost use Rattle.wi_parser.specs.Inner.Nests.{Nests};
 ghost use Rattle.wi_parser.specs.View.{tree_of};
 ghost use Rattle.wi_parser.specs.Tree as tree;
 
-use crate::expr::{Corners, Expr, Reference, Sign, binary, call_of, text};
+use crate::expr::{Corners, Expr, Reference, Sign, binary, call, text};
 use crate::fault::ParseFault;
 use crate::symbol::Symbol;
 use crate::symbols::{Symbols, line_of};
@@ -96,7 +96,7 @@ impl<F: Fn(Global, &mut Symbols<'_>, usize) -> Result<Expr, ParseFault>> Grammar
         }
         let mut parameters = Vec::new(self.alloc);
         self.parameters(symbols, &mut parameters)?;
-        Ok(call_of(self.alloc, name, parameters)?)
+        Ok(call(self.alloc, name, parameters)?)
     }
 
     // A number, a text, a cell, a rectangle, an expression in parentheses, a what-if, or a call.

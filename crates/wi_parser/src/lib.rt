@@ -18,7 +18,7 @@ mod tokens;
 mod what_if;
 
 pub use content::{Content, NewContent};
-pub use expr::{Call, Corners, Expr, Operator, Pair, Reference, Sign, WhatIf};
+pub use expr::{Corners, Expr, Operator, Pair, Reference, Sign, WhatIf};
 pub use fault::ParseFault;
 pub use formula::Formula;
 pub use parser::{MAX_FORMULA, parse};

@@ -51,7 +51,7 @@ fn push_tree(expr: &Expr, out: &mut String) -> Result<(), AllocError>
             push_operation(*op, &operands.1, out)
         }
         Expr::WhatIf(what_if) => push_what_if(what_if.formula_cell, &what_if.pairs, out),
-        Expr::Call(call) => push_call(&call.name, &call.parameters, out),
+        Expr::Call(call) => push_call(&call.0, &call.1, out),
     }
 }
 

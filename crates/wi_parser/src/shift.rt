@@ -8,9 +8,7 @@ ghost use Rattle.wi_parser.specs.Leaves.{all_leaves};
 ghost use Rattle.wi_parser.specs.View.{tree_of, all_of, pair_of};
 ghost use Rattle.wi_parser.specs.Shift as shift;
 
-use crate::expr::{
-    Corners, Expr, Operator, Pair, Reference, binary, call_of, text, what_if_with,
-};
+use crate::expr::{Corners, Expr, Operator, Pair, Reference, WhatIf, binary, call, text};
 use std::alloc::{AllocError, AllocFailed, Global};
 use thiserror::Error;
 use wi_values::{Address, COLUMNS, ROWS};
@@ -65,7 +63,7 @@ pub(crate) fn all_stay(expr: &Expr, rows: i64, columns: i64) -> bool
         Expr::WhatIf(w) => {
             stays(&w.formula_cell, rows, columns) && pairs_stay(&w.pairs, rows, columns)
         }
-        Expr::Call(call) => each_stays(&call.parameters, rows, columns),
+        Expr::Call(c) => each_stays(&c.1, rows, columns),
     }
 }
 
@@ -115,10 +113,7 @@ pub(crate) fn shifted(
             binary_shifted(alloc, *op, &operands.0, &operands.1, rows, columns)
         }
         Expr::WhatIf(w) => what_if(alloc, &w.formula_cell, &w.pairs, rows, columns),
-        Expr::Call(call) => {
-            let parameters = each_shifted(alloc, &call.parameters, rows, columns)?;
-            call_of(alloc, &call.name, parameters)
-        }
+        Expr::Call(c) => call(alloc, &c.0, each_shifted(alloc, &c.1, rows, columns)?),
     }
 }
 
@@ -182,7 +177,11 @@ fn what_if(
 {
     let formula_cell = moved(f, rows, columns);
     let pairs = moved_pairs(alloc, pairs, rows, columns)?;
-    what_if_with(alloc, formula_cell, pairs)
+    let what_if = WhatIf {
+        formula_cell,
+        pairs,
+    };
+    Ok(Expr::WhatIf(Box::new(alloc, what_if)?))
 }
 
 fn moved_pairs(
