@@ -1,5 +1,5 @@
 -- The tree of each kind of expression.
-use Rattle.wi_parser.proofs.Words.{◌≡◌, ℕ, ◌+◌, ◌<◌, length, take, get_or, List, [], ◌∷◌, ◌++◌, map, Box, Vec, Global, Result, IfOk, ap, ap₂, sym, subst, ◌∙◌, map-append, take_more, Fraction, Corners, Expr, Expr-F, fold-roll-Expr, Operator, Pair, Reference, Sign, Tree, number, text, cell, rectangle, parenthesized, signed, percent, binary, what_if, call, leaves, all_leaves, cell_leaf, rectangle_leaf, what_if_leaf, layer_tree, tree_of, all_of, pair_of}
+use Rattle.wi_parser.proofs.Words.{◌≡◌, ℕ, ◌+◌, ◌<◌, length, take, get_or, List, [], ◌∷◌, ◌++◌, map, Box, Vec, Global, Result, IfOk, ap, ap₂, sym, subst, ◌∙◌, map-append, take_more, Fraction, Corners, Expr, Expr-F, fold-roll-Expr, Operator, Pair, Reference, Sign, WhatIf, Tree, number, text, cell, rectangle, parenthesized, signed, percent, binary, what_if, call, leaves, all_leaves, cell_leaf, rectangle_leaf, what_if_leaf, layer_tree, tree_of, all_of, pair_of}
 use Rattle.wi_values.specs.declared.text.Text.{Text}
 use Rattle.wi_parser.specs.declared.expr.Expr.TheVariants as code
 
@@ -27,21 +27,39 @@ percent_tree t = ap tree_of (sym (code.rolls-Percent t)) ∙ fold-roll-Expr Tree
 pub binary_tree : (op : Operator) (t : Box (Expr × Expr) Global) → tree_of (code.Binary op t) ≡ binary op (tree_of t.value.0) (tree_of t.value.1)
 binary_tree op t = ap tree_of (sym (code.rolls-Binary op t)) ∙ fold-roll-Expr Tree layer_tree (Expr-F.Binary op t)
 
-pub what_if_tree : (f : Reference) (v : Vec Pair Global) → tree_of (code.WhatIf f v) ≡ what_if f (map pair_of v.items)
-what_if_tree f v = ap tree_of (sym (code.rolls-WhatIf f v)) ∙ fold-roll-Expr Tree layer_tree (Expr-F.WhatIf f v)
+pub what_if_tree : (t : Box WhatIf Global) → tree_of (code.WhatIf t) ≡ what_if t.value.formula_cell (map pair_of t.value.pairs.items)
+what_if_tree t = ap tree_of (sym (code.rolls-WhatIf t)) ∙ fold-roll-Expr Tree layer_tree (Expr-F.WhatIf t)
 
-pub call_tree : (f : Text) (v : Vec Expr Global) → tree_of (code.Call f v) ≡ call f (all_of v.items)
-call_tree f v = ap tree_of (sym (code.rolls-Call f v)) ∙ fold-roll-Expr Tree layer_tree (Expr-F.Call f v)
+pub call_tree : (t : Box (Text × Vec Expr Global) Global) → tree_of (code.Call t) ≡ call t.value.0 (all_of t.value.1.items)
+call_tree t = ap tree_of (sym (code.rolls-Call t)) ∙ fold-roll-Expr Tree layer_tree (Expr-F.Call t)
 
--- the operands behind a box that was made of them
+-- the parts behind a box that was made of them
 pub binary_made : (op : Operator) (t : Box (Expr × Expr) Global) (q : Expr × Expr) → t.value ≡ q → tree_of (code.Binary op t) ≡ binary op (tree_of q.0) (tree_of q.1)
 binary_made op t q made = binary_tree op t ∙ ap (λ (p : Expr × Expr). binary op (tree_of p.0) (tree_of p.1)) made
 
--- the operands, each as a call sees it
+pub what_if_made : (t : Box WhatIf Global) (w : WhatIf) → t.value ≡ w → tree_of (code.WhatIf t) ≡ what_if w.formula_cell (map pair_of w.pairs.items)
+what_if_made t w made = what_if_tree t ∙ ap (λ (x : WhatIf). what_if x.formula_cell (map pair_of x.pairs.items)) made
+
+pub call_made : (t : Box (Text × Vec Expr Global) Global) (q : Text × Vec Expr Global) → t.value ≡ q → tree_of (code.Call t) ≡ call q.0 (all_of q.1.items)
+call_made t q made = call_tree t ∙ ap (λ (p : Text × Vec Expr Global). call p.0 (all_of p.1.items)) made
+
+-- the parts, each as a call sees it
 pub binary_seen : (e : Expr) (op : Operator) (t : Box (Expr × Expr) Global) (d b : Expr × Expr) → e ≡ code.Binary op t → d ≡ t.value → b ≡ t.value
     → tree_of e ≡ binary op (tree_of d.0) (tree_of b.1)
 binary_seen e op t d b is left right =
     ap tree_of is ∙ binary_tree op t ∙ ap₂ (λ (p q : Expr × Expr). binary op (tree_of p.0) (tree_of q.1)) (sym left) (sym right)
+
+pub what_if_seen : (e : Expr) (t : Box WhatIf Global) (d b : WhatIf) (ps : List Pair) → e ≡ code.WhatIf t → d ≡ t.value → b ≡ t.value → ps ≡ b.pairs.items
+    → tree_of e ≡ what_if d.formula_cell (map pair_of ps)
+what_if_seen e t d b ps is one other pairs =
+    ap tree_of is ∙ what_if_tree t ∙ ap₂ (λ (x y : WhatIf). what_if x.formula_cell (map pair_of y.pairs.items)) (sym one) (sym other)
+    ∙ ap (λ (xs : List Pair). what_if d.formula_cell (map pair_of xs)) (sym pairs)
+
+pub call_seen : (e : Expr) (t : Box (Text × Vec Expr Global) Global) (d b : Text × Vec Expr Global) (es : List Expr) → e ≡ code.Call t → d ≡ t.value → b ≡ t.value → es ≡ b.1.items
+    → tree_of e ≡ call d.0 (all_of es)
+call_seen e t d b es is one other trees =
+    ap tree_of is ∙ call_tree t ∙ ap₂ (λ (p q : Text × Vec Expr Global). call p.0 (all_of q.1.items)) (sym one) (sym other)
+    ∙ ap (λ (xs : List Expr). call d.0 (all_of xs)) (sym trees)
 
 -- an operator between two parts, of which each has the tree that is wanted
 pub binary_of_parts : {E : Type 0} (r : Result Expr E) (op : Operator) (a b : Expr) (t u : Tree) → tree_of a ≡ t → tree_of b ≡ u
@@ -63,10 +81,16 @@ pub binary_copied : {E : Type 0} (r : Result Expr E) (e : Expr) (op : Operator) 
     → IfOk r (λ x. tree_of x ≡ binary op (tree_of d.0) (tree_of b.1)) → IfOk r (λ x. tree_of x ≡ tree_of e)
 binary_copied r e op t d b is left right h = subst (λ v. IfOk r (λ x. tree_of x ≡ v)) (sym (binary_seen e op t d b is left right)) h
 
-pub call_copied : {E : Type 0} (r : Result Expr E) (e : Expr) (f : Text) (v : Vec Expr Global) (es us : List Expr) → e ≡ code.Call f v → es ≡ v.items → all_of us ≡ all_of es
-    → IfOk r (λ x. tree_of x ≡ call f (all_of us)) → IfOk r (λ x. tree_of x ≡ tree_of e)
-call_copied r e f v es us is parts all h =
-    subst (λ t. IfOk r (λ x. tree_of x ≡ t)) (ap (call f) (all ∙ ap all_of parts) ∙ sym (ap tree_of is ∙ call_tree f v)) h
+pub what_if_copied : {E : Type 0} (r : Result Expr E) (e : Expr) (t : Box WhatIf Global) (d b : WhatIf) (ps : List Pair)
+    → e ≡ code.WhatIf t → d ≡ t.value → b ≡ t.value → ps ≡ b.pairs.items
+    → IfOk r (λ x. tree_of x ≡ what_if d.formula_cell (map pair_of ps)) → IfOk r (λ x. tree_of x ≡ tree_of e)
+what_if_copied r e t d b ps is one other pairs h = subst (λ v. IfOk r (λ x. tree_of x ≡ v)) (sym (what_if_seen e t d b ps is one other pairs)) h
+
+pub call_copied : {E : Type 0} (r : Result Expr E) (e : Expr) (t : Box (Text × Vec Expr Global) Global) (d b : Text × Vec Expr Global) (es us : List Expr)
+    → e ≡ code.Call t → d ≡ t.value → b ≡ t.value → es ≡ b.1.items → all_of us ≡ all_of es
+    → IfOk r (λ x. tree_of x ≡ call d.0 (all_of us)) → IfOk r (λ x. tree_of x ≡ tree_of e)
+call_copied r e t d b es us is one other trees same h =
+    subst (λ v. IfOk r (λ x. tree_of x ≡ v)) (ap (call d.0) same ∙ sym (call_seen e t d b es is one other trees)) h
 
 -- one more of a list that is copied
 pub copied_more : (es cs new : List Expr) (e d : Expr) (i : ℕ) → i < length es → d ≡ get_or es i d → map tree_of cs ≡ map tree_of (take i es) → new ≡ cs ++ e ∷ []
@@ -102,9 +126,10 @@ pub binary_leaves : (e : Expr) (d b : Expr × Expr) (op : Operator) (t : Box (Ex
     → leaves (tree_of d.0) ++ leaves (tree_of b.1) ≡ leaves (tree_of e)
 binary_leaves e d b op t is left right = sym (ap leaves (binary_seen e op t d b is left right))
 
-pub what_if_leaves : (e : Expr) (f : Reference) (v : Vec Pair Global) (ps : List Pair) → e ≡ code.WhatIf f v → ps ≡ v.items
-    → leaves (tree_of e) ≡ what_if_leaf f (map pair_of ps) ∷ []
-what_if_leaves e f v ps is pairs = ap leaves (ap tree_of is ∙ what_if_tree f v) ∙ ap (λ x. what_if_leaf f (map pair_of x) ∷ []) (sym pairs)
+pub what_if_leaves : (e : Expr) (t : Box WhatIf Global) (d b : WhatIf) (ps : List Pair) → e ≡ code.WhatIf t → d ≡ t.value → b ≡ t.value → ps ≡ b.pairs.items
+    → leaves (tree_of e) ≡ what_if_leaf d.formula_cell (map pair_of ps) ∷ []
+what_if_leaves e t d b ps is one other pairs = ap leaves (what_if_seen e t d b ps is one other pairs)
 
-pub call_leaves : (e : Expr) (f : Text) (v : Vec Expr Global) (es : List Expr) → e ≡ code.Call f v → es ≡ v.items → all_leaves (all_of es) ≡ leaves (tree_of e)
-call_leaves e f v es is parts = ap (λ x. all_leaves (all_of x)) parts ∙ sym (ap leaves (ap tree_of is ∙ call_tree f v))
+pub call_leaves : (e : Expr) (t : Box (Text × Vec Expr Global) Global) (d : Text × Vec Expr Global) (es : List Expr) → e ≡ code.Call t → d ≡ t.value → es ≡ d.1.items
+    → all_leaves (all_of es) ≡ leaves (tree_of e)
+call_leaves e t d es is one trees = sym (ap leaves (call_seen e t d d es is one one trees))

@@ -120,9 +120,10 @@ pub use Rattle.wi_parser.specs.declared.expr.Pair.{Pair}
 pub use Rattle.wi_parser.specs.declared.expr.Reference.{Reference}
 pub use Rattle.wi_parser.specs.declared.expr.Sign.{Sign}
 pub use Rattle.wi_parser.specs.declared.expr.Sign.TheVariants.{Minus, Plus}
+pub use Rattle.wi_parser.specs.declared.expr.WhatIf.{WhatIf}
 pub use Rattle.wi_parser.specs.declared.fault.ParseFault.{ParseFault}
 pub use Rattle.wi_parser.specs.declared.fault.ParseFault.TheVariants.{Memory, NumberRange, OutOfSheet, Syntax, TooDeep, TooLong}
-pub use Rattle.wi_parser.specs.declared.formula.Parts.{Parts}
+pub use Rattle.wi_parser.specs.declared.formula.Lists.{Lists}
 pub use Rattle.wi_parser.specs.declared.front.Front.{Front}
 pub use Rattle.wi_values.proofs.Imports.{imported_exactly}
 pub use Rattle.wi_values.proofs.Lists.{one_less}

@@ -1,5 +1,5 @@
 use Rattle.wi_parser.proofs.Words.{ap, sym, ◌∙◌, tree_of}
-use Rattle.wi_parser.proofs.ExprTrees.{copied_more, call_copied, parenthesized_copied, signed_copied, percent_copied, binary_copied, binary_of_parts}
+use Rattle.wi_parser.proofs.ExprTrees.{copied_more, what_if_copied, call_copied, parenthesized_copied, signed_copied, percent_copied, binary_copied, binary_of_parts}
 use Rattle.wi_parser.proofs.expr.+copying.Goals as goal
 
 pub Expr::copy-returns-in-Rectangle : goal.Expr::copy-returns-in-Rectangle
@@ -32,9 +32,13 @@ binary_copied-returns t c = binary_of_parts _ _ _ _ _ _ c.in_ok-left.ensures c.i
 pub copied-returns : goal.copied-returns
 copied-returns t c = ap tree_of c.in_ok-new.ensures.ok ∙ c.in_ok-copy.ensures
 
+pub Expr::copy-returns-in-WhatIf : goal.Expr::copy-returns-in-WhatIf
+Expr::copy-returns-in-WhatIf t c =
+    what_if_copied _ _ _ _ _ _ c.in-WhatIf.is c.deref-in-WhatIf.ensures c.deref-in-WhatIf-2.ensures c.deref-in-WhatIf-3.ensures.value c.what_if.ensures
+
 pub Expr::copy-returns-in_ok-all_copied-in-Call : goal.Expr::copy-returns-in_ok-all_copied-in-Call
 Expr::copy-returns-in_ok-all_copied-in-Call t c =
-    call_copied _ _ _ _ _ _ c.in-Call.is c.deref-in-Call.ensures.value c.in_ok-all_copied-in-Call.ensures c.call.ensures
+    call_copied _ _ _ _ _ _ _ c.in-Call.is c.deref-in-Call.ensures c.deref-in-Call-2.ensures c.deref-in-Call-3.ensures.value c.in_ok-all_copied-in-Call.ensures c.call.ensures
 
 pub all_copied-loop-expr-preserved : goal.all_copied-loop-expr-preserved
 all_copied-loop-expr-preserved t c =

@@ -1,5 +1,5 @@
-use Rattle.wi_parser.proofs.Words.{rules, arith, ◌≡◌, ◌≤◌, suc, ◌+◌, List, [], ◌∷◌, length, map, ◌++◌, drop, drop-cons, codes, string_bytes, ap, sym, ◌∙◌, starts_with_of_eq, starts_with_trans, starts_with_of_append, drop_of_length-le, common_steps, IfOk-from_err, quoted, starts_joined, Expr, Pair, parenthesized, signed, percent, what_if, call, tree_of, all_of, pair_of, operator_text, symbols_text, tree_text, written_as, spelling_of_all}
-use Rattle.wi_parser.proofs.ExprTrees.{number_tree, text_tree, cell_tree, rectangle_tree, parenthesized_tree, signed_tree, percent_tree, binary_seen, what_if_tree, call_tree}
+use Rattle.wi_parser.proofs.Words.{rules, arith, ◌≡◌, ◌≤◌, suc, ◌+◌, [], ◌∷◌, length, ◌++◌, drop, drop-cons, codes, string_bytes, ap, sym, ◌∙◌, starts_with_of_eq, starts_with_trans, starts_with_of_append, drop_of_length-le, common_steps, IfOk-from_err, quoted, starts_joined, Expr, parenthesized, signed, percent, tree_of, all_of, operator_text, symbols_text, tree_text, written_as, spelling_of_all}
+use Rattle.wi_parser.proofs.ExprTrees.{number_tree, text_tree, cell_tree, rectangle_tree, parenthesized_tree, signed_tree, percent_tree, binary_seen, what_if_seen, call_seen}
 use Rattle.wi_parser.proofs.PrintLemmas.{after_written, parenthesized_written, parameter_written, parameters_from, parameters_closed, tree_written, symbol_written, binary_written, percent_written, starts_same, starts_on, starts_pushed}
 use Rattle.wi_parser.proofs.print.+print.Goals as goal
 
@@ -141,14 +141,14 @@ push_tree-returns-in-Percent t c =
 pub push_tree-returns-in-WhatIf : goal.push_tree-returns-in-WhatIf
 push_tree-returns-in-WhatIf t c =
     record {
-      ok = tree_written _ _ _ _ _ (ap tree_of c.in-WhatIf.is ∙ what_if_tree c.in-WhatIf.formula_cell c.in-WhatIf.pairs ∙ ap (λ (x : List Pair). what_if c.in-WhatIf.formula_cell (map pair_of x)) (sym c.deref-in-WhatIf.ensures.value)) c.push_what_if.ensures.ok;
+      ok = tree_written _ _ _ _ _ (what_if_seen _ _ _ _ _ c.in-WhatIf.is c.deref-in-WhatIf.ensures c.deref-in-WhatIf-2.ensures c.deref-in-WhatIf-3.ensures.value) c.push_what_if.ensures.ok;
       kept = c.push_what_if.ensures.kept;
     }
 
 pub push_tree-returns-in-Call : goal.push_tree-returns-in-Call
 push_tree-returns-in-Call t c =
     record {
-      ok = tree_written _ _ _ _ _ (ap tree_of c.in-Call.is ∙ call_tree c.in-Call.name c.in-Call.parameters ∙ ap (λ (x : List Expr). call c.in-Call.name (all_of x)) (sym c.deref-in-Call.ensures.value)) c.push_call.ensures.ok;
+      ok = tree_written _ _ _ _ _ (call_seen _ _ _ _ _ c.in-Call.is c.deref-in-Call.ensures c.deref-in-Call-2.ensures c.deref-in-Call-3.ensures.value) c.push_call.ensures.ok;
       kept = c.push_call.ensures.kept;
     }
 
