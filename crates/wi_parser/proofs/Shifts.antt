@@ -1,9 +1,9 @@
 -- Trees whose references move.
-use Rattle.wi_parser.proofs.Words.{◌≡◌, ℕ, ◌*◌, ◌<◌, pos, ◌+ℤ◌, Bool, true, false, ◌&&◌, nat_lt, if◌then◌else◌, List, [], ◌∷◌, ◌++◌, map, Some, None, is_some, unwrap_or, Result, IfOk, Box, Vec, Global, refl, ap, ap₂, sym, subst, ◌∙◌, arith, list_all, flat_map, and_parts, and_from, and-true, and_assoc, map-append, list_all-append, flat_map-append, nat_tests, ints, columns, rows, place, row_of, column_of, Fraction, Corners, Expr, Operator, Pair, Reference, Sign, tree_of, all_of, pair_of, Tree, Trees, number, text, cell, rectangle, parenthesized, signed, percent, binary, what_if, call, no_trees, more_trees, trees_of, Leaf, what_if_leaf, leaves, all_leaves, Symbol, Spells, SpellsAll, SpellsMore, a_number, a_text, a_cell, a_rectangle, in_parentheses, one_input, two_inputs, a_call, with_sign, with_percent, tighter, joined, no_parameter, parameters, last_parameter, another_parameter, spelling, spelling_of_all, spelling_of_more, within, part, stays, moved, in_sheet, leaf_references, all_references, map_references, map_references_in, shifted}
+use Rattle.wi_parser.proofs.Words.{◌≡◌, ℕ, ◌*◌, ◌<◌, pos, ◌+ℤ◌, Bool, true, false, ◌&&◌, nat_lt, if◌then◌else◌, List, [], ◌∷◌, ◌++◌, map, Some, None, is_some, unwrap_or, Result, IfOk, Box, Vec, Global, refl, ap, ap₂, sym, subst, ◌∙◌, arith, list_all, flat_map, and_parts, and_from, and-true, and_assoc, map-append, list_all-append, flat_map-append, nat_tests, ints, columns, rows, place, row_of, column_of, Fraction, Corners, Expr, Operator, Pair, Reference, Sign, WhatIf, tree_of, all_of, pair_of, Tree, Trees, number, text, cell, rectangle, parenthesized, signed, percent, binary, what_if, call, no_trees, more_trees, trees_of, Leaf, what_if_leaf, leaves, all_leaves, Symbol, Spells, SpellsAll, SpellsMore, a_number, a_text, a_cell, a_rectangle, in_parentheses, one_input, two_inputs, a_call, with_sign, with_percent, tighter, joined, no_parameter, parameters, last_parameter, another_parameter, spelling, spelling_of_all, spelling_of_more, within, part, stays, moved, in_sheet, leaf_references, all_references, map_references, map_references_in, shifted}
 use Rattle.std.proofs.lemmas.List.{append-nil}
 use Rattle.wi_values.specs.declared.text.Text.{Text}
 use Rattle.wi_parser.specs.declared.expr.Expr.TheVariants as code
-use Rattle.wi_parser.proofs.ExprTrees.{number_tree, text_tree, cell_tree, rectangle_tree, parenthesized_tree, signed_tree, percent_tree, binary_seen, what_if_tree, call_tree, number_leaves, text_leaves, cell_leaves, rectangle_leaves}
+use Rattle.wi_parser.proofs.ExprTrees.{number_tree, text_tree, cell_tree, rectangle_tree, parenthesized_tree, signed_tree, percent_tree, binary_seen, what_if_made, what_if_seen, call_seen, number_leaves, text_leaves, cell_leaves, rectangle_leaves}
 
 mutual
   -- a tree with other references is spelled where the tree is
@@ -200,20 +200,25 @@ binary_moved r g f e op t d b is left right same h =
     ap (λ k. map_references k (binary op (tree_of d.0) (tree_of b.1))) same ∙ ap (map_references f) (sym (binary_seen e op t d b is left right)) in
     subst (λ u. IfOk r (λ x. tree_of x ≡ u)) there h
 
-pub what_if_moved : {E : Type 0} (r : Result Expr E) (g f : Reference → Reference) (e : Expr) (a : Reference) (v : Vec Pair Global) (ps : List Pair)
-    → e ≡ code.WhatIf a v → ps ≡ v.items → g ≡ f → IfOk r (λ x. tree_of x ≡ what_if (g a) (map (λ q. (g q.0, g q.1)) (map pair_of ps)))
-    → IfOk r (λ x. tree_of x ≡ map_references f (tree_of e))
-what_if_moved r g f e a v ps is pairs same h =
-    let there : map_references g (what_if a (map pair_of ps)) ≡ map_references f (tree_of e) =
-    ap (λ k. map_references k (what_if a (map pair_of ps))) same ∙ ap (λ xs. map_references f (what_if a (map pair_of xs))) pairs
-    ∙ sym (ap (map_references f) (ap tree_of is ∙ what_if_tree a v)) in
-    subst (λ t. IfOk r (λ x. tree_of x ≡ t)) there h
+pub what_if_moved : {E : Type 0} (r : Result Expr E) (g f : Reference → Reference) (e : Expr) (t : Box WhatIf Global) (d b : WhatIf) (ps : List Pair)
+    → e ≡ code.WhatIf t → d ≡ t.value → b ≡ t.value → ps ≡ b.pairs.items → g ≡ f
+    → IfOk r (λ x. tree_of x ≡ what_if (g d.formula_cell) (map (λ q. (g q.0, g q.1)) (map pair_of ps))) → IfOk r (λ x. tree_of x ≡ map_references f (tree_of e))
+what_if_moved r g f e t d b ps is one other pairs same h =
+    let there : map_references g (what_if d.formula_cell (map pair_of ps)) ≡ map_references f (tree_of e) =
+    ap (λ k. map_references k (what_if d.formula_cell (map pair_of ps))) same ∙ ap (map_references f) (sym (what_if_seen e t d b ps is one other pairs)) in
+    subst (λ u. IfOk r (λ x. tree_of x ≡ u)) there h
 
-pub call_moved : {E : Type 0} (r : Result Expr E) (g f : Reference → Reference) (e : Expr) (n : Text) (v : Vec Expr Global) (es ds : List Expr)
-    → e ≡ code.Call n v → es ≡ v.items → g ≡ f → all_of ds ≡ map_references_in g (all_of es) → IfOk r (λ x. tree_of x ≡ call n (all_of ds))
+pub call_moved : {E : Type 0} (r : Result Expr E) (g f : Reference → Reference) (e : Expr) (t : Box (Text × Vec Expr Global) Global) (d b : Text × Vec Expr Global) (es ds : List Expr)
+    → e ≡ code.Call t → d ≡ t.value → b ≡ t.value → es ≡ b.1.items → g ≡ f → all_of ds ≡ map_references_in g (all_of es) → IfOk r (λ x. tree_of x ≡ call d.0 (all_of ds))
     → IfOk r (λ x. tree_of x ≡ map_references f (tree_of e))
-call_moved r g f e n v es ds is parts same k h =
-    let there : call n (all_of ds) ≡ map_references f (tree_of e) =
-    ap (call n) k ∙ ap (λ j. map_references j (call n (all_of es))) same ∙ ap (λ xs. map_references f (call n (all_of xs))) parts
-    ∙ sym (ap (map_references f) (ap tree_of is ∙ call_tree n v)) in
-    subst (λ t. IfOk r (λ x. tree_of x ≡ t)) there h
+call_moved r g f e t d b es ds is one other trees same k h =
+    let there : call d.0 (all_of ds) ≡ map_references f (tree_of e) =
+    ap (call d.0) k ∙ ap (λ j. map_references j (call d.0 (all_of es))) same ∙ ap (map_references f) (sym (call_seen e t d b es is one other trees)) in
+    subst (λ u. IfOk r (λ x. tree_of x ≡ u)) there h
+
+-- a what-if that was made of moved parts
+pub what_if_of_moved : (g f : Reference → Reference) (t : Box WhatIf Global) (w : WhatIf) (a : Reference) (qs : List (Reference × Reference))
+    → t.value ≡ w → w.formula_cell ≡ g a → map pair_of w.pairs.items ≡ map (λ (q : Reference × Reference). (g q.0, g q.1)) qs → g ≡ f
+    → tree_of (code.WhatIf t) ≡ what_if (f a) (map (λ (q : Reference × Reference). (f q.0, f q.1)) qs)
+what_if_of_moved g f t w a qs made one pairs same =
+    what_if_made t w made ∙ ap₂ what_if one pairs ∙ ap (λ (k : Reference → Reference). what_if (k a) (map (λ (q : Reference × Reference). (k q.0, k q.1)) qs)) same

@@ -71,20 +71,20 @@ push_leaves-returns-in_ok-push_leaves-in-Binary-clause-rectangles t c =
 
 pub push_leaves-returns-in_ok-push_area-in-WhatIf-clause-inputs : goal.push_leaves-returns-in_ok-push_area-in-WhatIf-clause-inputs
 push_leaves-returns-in_ok-push_area-in-WhatIf-clause-inputs t c =
-    what_if_inputs _ _ _ _ _ _ (what_if_leaves _ _ _ _ c.in-WhatIf.is c.deref-in-WhatIf.ensures.value) c.push_pairs.ensures.inputs
+    what_if_inputs _ _ _ _ _ _ (what_if_leaves _ _ _ _ _ c.in-WhatIf.is c.deref-in-WhatIf.ensures c.deref-in-WhatIf-2.ensures c.deref-in-WhatIf-3.ensures.value) c.push_pairs.ensures.inputs
 
 pub push_leaves-returns-in_ok-push_area-in-WhatIf-clause-rectangles : goal.push_leaves-returns-in_ok-push_area-in-WhatIf-clause-rectangles
 push_leaves-returns-in_ok-push_area-in-WhatIf-clause-rectangles t c =
-    what_if_rectangles _ _ _ _ _ _ _ (what_if_leaves _ _ _ _ c.in-WhatIf.is c.deref-in-WhatIf.ensures.value)
+    what_if_rectangles _ _ _ _ _ _ _ (what_if_leaves _ _ _ _ _ c.in-WhatIf.is c.deref-in-WhatIf.ensures c.deref-in-WhatIf-2.ensures c.deref-in-WhatIf-3.ensures.value)
     (c.in_ok-push_area-in-WhatIf.ensures ∙ ap (λ a. c.args.rectangles.now.items ++ a ∷ []) c.cell_area-in-WhatIf.ensures) c.push_pairs.ensures.rectangles
 
 pub push_leaves-returns-in-Call-clause-inputs : goal.push_leaves-returns-in-Call-clause-inputs
 push_leaves-returns-in-Call-clause-inputs t c =
-    same_appended leaf_inputs _ _ _ _ _ (call_leaves _ _ _ _ c.in-Call.is c.deref-in-Call.ensures.value) c.push_all_leaves.ensures.inputs
+    same_appended leaf_inputs _ _ _ _ _ (call_leaves _ _ _ _ c.in-Call.is c.deref-in-Call.ensures c.deref-in-Call-2.ensures.value) c.push_all_leaves.ensures.inputs
 
 pub push_leaves-returns-in-Call-clause-rectangles : goal.push_leaves-returns-in-Call-clause-rectangles
 push_leaves-returns-in-Call-clause-rectangles t c =
-    same_appended leaf_rectangles _ _ _ _ _ (call_leaves _ _ _ _ c.in-Call.is c.deref-in-Call.ensures.value) c.push_all_leaves.ensures.rectangles
+    same_appended leaf_rectangles _ _ _ _ _ (call_leaves _ _ _ _ c.in-Call.is c.deref-in-Call.ensures c.deref-in-Call-2.ensures.value) c.push_all_leaves.ensures.rectangles
 
 pub push_all_leaves-loop-tree-preserved : goal.push_all_leaves-loop-tree-preserved
 push_all_leaves-loop-tree-preserved t c = grind (arith, common_steps)

@@ -96,9 +96,9 @@ binary_shifted-returns t c =
 pub shifted-returns-in-WhatIf : goal.shifted-returns-in-WhatIf
 shifted-returns-in-WhatIf t c =
     let same = ap₂ moved (to_z-of_z w64 c.args.rows c.ranges.rows) (to_z-of_z w64 c.args.columns c.ranges.columns) in
-    what_if_moved _ _ _ _ _ _ _ c.in-WhatIf.is c.deref-in-WhatIf.ensures.value same c.what_if.ensures
+    what_if_moved _ _ _ _ _ _ _ _ c.in-WhatIf.is c.deref-in-WhatIf.ensures c.deref-in-WhatIf-2.ensures c.deref-in-WhatIf-3.ensures.value same c.what_if.ensures
 
 pub shifted-returns-in_ok-each_shifted-in-Call : goal.shifted-returns-in_ok-each_shifted-in-Call
 shifted-returns-in_ok-each_shifted-in-Call t c =
     let same = ap₂ moved (to_z-of_z w64 c.args.rows c.ranges.rows) (to_z-of_z w64 c.args.columns c.ranges.columns) in
-    call_moved _ _ _ _ _ _ _ _ c.in-Call.is c.deref-in-Call.ensures.value same c.in_ok-each_shifted-in-Call.ensures c.call.ensures
+    call_moved _ _ _ _ _ _ _ _ _ c.in-Call.is c.deref-in-Call.ensures c.deref-in-Call-2.ensures c.deref-in-Call-3.ensures.value same c.in_ok-each_shifted-in-Call.ensures c.call.ensures

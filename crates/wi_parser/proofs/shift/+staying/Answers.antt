@@ -70,20 +70,23 @@ all_stay-returns-else-all_stay t c =
 pub all_stay-returns-then-stays-2 : goal.all_stay-returns-then-stays-2
 all_stay-returns-then-stays-2 t c =
     let same = ap₂ stays (to_z-of_z w64 c.args.rows c.ranges.rows) (to_z-of_z w64 c.args.columns c.ranges.columns) in
-    first_holds _ _ _ _ (c.stays-in-WhatIf.ensures ∙ ap (λ (q : Reference → Bool). q c.in-WhatIf.f) same) c.if-stays-2.true
-    (c.pairs_stay.ensures ∙ ap (λ (q : Reference → Bool). list_all q (flat_map (λ (x : Reference × Reference). x.0 ∷ x.1 ∷ []) (map pair_of c.deref-then-stays-2.result.now))) same)
-    ∙ what_if_passes (stays c.args.rows c.args.columns) _ _ _ (what_if_leaves _ _ _ _ c.in-WhatIf.is c.deref-then-stays-2.ensures.value)
+    first_holds _ _ _ _ (c.stays-in-WhatIf.ensures ∙ ap (λ (q : Reference → Bool). q c.deref-in-WhatIf.result.now.formula_cell) same) c.if-stays-2.true
+    (c.pairs_stay.ensures ∙ ap (λ (q : Reference → Bool). list_all q (flat_map (λ (x : Reference × Reference). x.0 ∷ x.1 ∷ []) (map pair_of c.deref-then-stays-2-2.result.now))) same)
+    ∙ what_if_passes (stays c.args.rows c.args.columns) _ _ _
+    (what_if_leaves _ _ _ _ _ c.in-WhatIf.is c.deref-in-WhatIf.ensures c.deref-then-stays-2.ensures c.deref-then-stays-2-2.ensures.value)
 
 pub all_stay-returns-else-stays-2 : goal.all_stay-returns-else-stays-2
 all_stay-returns-else-stays-2 t c =
     let same = ap₂ stays (to_z-of_z w64 c.args.rows c.ranges.rows) (to_z-of_z w64 c.args.columns c.ranges.columns) in
-    first_fails _ _ _ (c.stays-in-WhatIf.ensures ∙ ap (λ (q : Reference → Bool). q c.in-WhatIf.f) same) c.if-stays-2.false ∙ what_if_passes (stays c.args.rows c.args.columns) _ _ _ (what_if_leaves _ _ _ _ c.in-WhatIf.is refl)
+    let w = c.in-WhatIf.w.value in
+    first_fails _ _ _ (c.stays-in-WhatIf.ensures ∙ ap (λ (q : Reference → Bool). q c.deref-in-WhatIf.result.now.formula_cell) same) c.if-stays-2.false
+    ∙ what_if_passes (stays c.args.rows c.args.columns) _ _ _ (what_if_leaves _ _ _ w w.pairs.items c.in-WhatIf.is c.deref-in-WhatIf.ensures refl refl)
 
 pub all_stay-returns-in-Call : goal.all_stay-returns-in-Call
 all_stay-returns-in-Call t c =
     let same = ap₂ stays (to_z-of_z w64 c.args.rows c.ranges.rows) (to_z-of_z w64 c.args.columns c.ranges.columns) in
-    c.each_stays.ensures ∙ ap (λ (q : Reference → Bool). list_all q (flat_map leaf_references (all_leaves (all_of c.deref-in-Call.result.now)))) same
-    ∙ same_pass (stays c.args.rows c.args.columns) _ _ (call_leaves _ _ _ _ c.in-Call.is c.deref-in-Call.ensures.value)
+    c.each_stays.ensures ∙ ap (λ (q : Reference → Bool). list_all q (flat_map leaf_references (all_leaves (all_of c.deref-in-Call-2.result.now)))) same
+    ∙ same_pass (stays c.args.rows c.args.columns) _ _ (call_leaves _ _ _ _ c.in-Call.is c.deref-in-Call.ensures c.deref-in-Call-2.ensures.value)
 
 pub each_stays-loop-expr-init : goal.each_stays-loop-expr-init
 each_stays-loop-expr-init t c = refl
