@@ -8,11 +8,10 @@ pub shifted_none : (down right : ℤ) (t w : Tree) → t ≡ w → false ≡ all
 shifted_none down right t w same h =
     ap (shifted down right) (sym same) ∙ ap (λ b. if b then Some (map_references (moved down right) t) else None) (sym h)
 
-pub shifted_found : (down right : ℤ) (t u w new f : Tree) → t ≡ w → u ≡ w → true ≡ all_references (stays down right) t → new ≡ map_references (moved down right) u → f ≡ new
+pub shifted_found : (down right : ℤ) (t w new f : Tree) → t ≡ w → true ≡ all_references (stays down right) t → new ≡ map_references (moved down right) t → f ≡ new
     → shifted down right w ≡ Some f
-shifted_found down right t u w new f same again h made is =
-    ap (shifted down right) (sym same) ∙ ap (λ b. if b then Some (map_references (moved down right) t) else None) (sym h)
-    ∙ ap (λ v. Some (map_references (moved down right) v)) (same ∙ sym again) ∙ ap Some (sym (is ∙ made))
+shifted_found down right t w new f same h made is =
+    ap (shifted down right) (sym same) ∙ ap (λ b. if b then Some (map_references (moved down right) t) else None) (sym h) ∙ ap Some (sym (is ∙ made))
 
 -- ---- contents
 

@@ -25,7 +25,7 @@ use wi_values::{Address, Rect};
 #[derive(Drop)]
 pub struct Formula {
     expr: Expr,
-    /// Behind a box, so that a content has room for it beside the tree.
+    /// Behind a box, so that a content stays small.
     lists: Box<Lists>,
 }
 
@@ -110,7 +110,8 @@ impl Formula {
         ensures { IfOk result (λ f. f ≡ self.now) }
     {
         let expr = self.expr.copy(alloc)?;
-        let lists = Box::new(alloc, self.lists.copy(alloc)?)?;
+        let copied = self.lists.copy(alloc)?;
+        let lists = Box::new(alloc, copied)?;
         Ok(Formula { expr, lists })
     }
 

@@ -14,13 +14,13 @@ pub returns-then-is_err-clause-err : goal.returns-then-is_err-clause-err
 returns-then-is_err-clause-err c = search rules
 
 pub returns-then-is_err-clause-spells : goal.returns-then-is_err-clause-spells
-returns-then-is_err-clause-spells c = printed_spells c.self.inside.parts.value.expr _ c.self.view_is c.self.invariant.tree
+returns-then-is_err-clause-spells c = printed_spells c.self.inside.expr _ c.self.view_is c.self.invariant.tree
 
 pub returns-then-is_err-clause-again : goal.returns-then-is_err-clause-again
-returns-then-is_err-clause-again c = printed_again c.self.inside.parts.value.expr _ c.self.view_is c.self.invariant.tree
+returns-then-is_err-clause-again c = printed_again c.self.inside.expr _ c.self.view_is c.self.invariant.tree
 
 pub returns-else-is_err-clause-spells : goal.returns-else-is_err-clause-spells
-returns-else-is_err-clause-spells c = printed_spells c.self.inside.parts.value.expr _ c.self.view_is c.self.invariant.tree
+returns-else-is_err-clause-spells c = printed_spells c.self.inside.expr _ c.self.view_is c.self.invariant.tree
 
 pub returns-else-is_err-clause-again : goal.returns-else-is_err-clause-again
-returns-else-is_err-clause-again c = printed_again c.self.inside.parts.value.expr _ c.self.view_is c.self.invariant.tree
+returns-else-is_err-clause-again c = printed_again c.self.inside.expr _ c.self.view_is c.self.invariant.tree

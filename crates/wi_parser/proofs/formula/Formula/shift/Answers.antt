@@ -1,19 +1,17 @@
-use Rattle.wi_parser.proofs.Words.{ap, sym, subst, ◌∙◌, to_z-of_z, Parts, tree_of, IsFormulaTree}
+use Rattle.wi_parser.proofs.Words.{sym, subst, to_z-of_z, IsFormulaTree}
 use Rattle.wi_parser.proofs.FormulaTrees.{moved_tree}
 use Rattle.wi_parser.proofs.Answered.{shifted_none, shifted_found}
 use Rattle.wi_parser.proofs.formula.Formula.shift.Goals as goal
 
 pub new-requires : goal.new-requires
-new-requires c =
-    let writable = subst (λ (p : Parts). IsFormulaTree (tree_of p.expr)) (sym c.deref-3.ensures) c.self.invariant.tree in
-    subst IsFormulaTree (sym c.in_ok-expr.ensures) (moved_tree _ _ _ writable)
+new-requires c = subst IsFormulaTree (sym c.in_ok-expr.ensures) (moved_tree _ _ _ c.self.invariant.tree)
 
 pub returns-then-not-all_stay : goal.returns-then-not-all_stay
 returns-then-not-all_stay c =
     let down = c.ranges.rows in
     let right = c.ranges.columns in
     let leaves_sheet = simp to_z-of_z at c.if-not-all_stay.ensures in
-    shifted_none _ _ _ _ (ap (λ (p : Parts). tree_of p.expr) c.deref.ensures ∙ c.self.view_is) leaves_sheet
+    shifted_none _ _ _ _ c.self.view_is leaves_sheet
 
 pub returns : goal.returns
 returns c =
@@ -21,6 +19,4 @@ returns c =
     let right = c.ranges.columns in
     let stay = simp to_z-of_z at c.if-not-all_stay.ensures in
     let made = simp to_z-of_z at c.in_ok-expr.ensures in
-    let same = ap (λ (p : Parts). tree_of p.expr) c.deref.ensures ∙ c.self.view_is in
-    let again = ap (λ (p : Parts). tree_of p.expr) c.deref-3.ensures ∙ c.self.view_is in
-    shifted_found _ _ _ _ _ _ _ same again stay made c.in_ok-new.ensures
+    shifted_found _ _ _ _ _ _ c.self.view_is stay made c.in_ok-new.ensures
