@@ -28,7 +28,7 @@ pub use Rattle.wi_functions.specs.Operators.{operate}
 pub use Rattle.wi_functions.specs.Wants.{AnyLeafAsks, AnyTreeAsks, LeafAsks, TreeAsks, WantsCell, WantsWithin}
 pub use Rattle.wi_functions.specs.declared.evaluation.Want.{Want}
 pub use Rattle.wi_functions.specs.declared.evaluation.Want.TheVariants.{Cell, WhatIf}
-pub use Rattle.wi_parser.proofs.ExprTrees.{binary_seen}
+pub use Rattle.wi_parser.proofs.ExprTrees.{binary_seen, call_seen, what_if_seen}
 pub use Rattle.wi_parser.proofs.Rectangles.{one_cell}
 pub use Rattle.wi_parser.proofs.expr.Expr.TheLaws.{the_size}
 pub use Rattle.wi_parser.specs.Leaves.{Leaf, all_leaves, cell_leaf, leaves, rectangle_leaf, what_if_leaf}

@@ -1,4 +1,4 @@
-use Rattle.wi_functions.proofs.Words.{◌≡◌, ℕ, List, refl, sym, ap, ◌∙◌, subst, arith, rules, err_from_is_err_and, MatchResult-weaker, Value, Expr, the_lemmas, Tree, text, binary, call, binary_seen, leaves, all_leaves, tree_of, all_of, value_or, call_value, applied_to_arguments, applied_to_values, Lazy, References, values_alone, arguments_in, operate, meaning, arguments, IsWanted, values_of, ReferInside, of_tree, of_parameters, mapped, Evaluates, IfMissing, Stop, Want}
+use Rattle.wi_functions.proofs.Words.{◌≡◌, ℕ, List, refl, sym, ap, ◌∙◌, subst, arith, rules, err_from_is_err_and, MatchResult-weaker, Value, Expr, the_lemmas, Tree, text, binary, call, binary_seen, call_seen, what_if_seen, leaves, all_leaves, tree_of, all_of, value_or, call_value, applied_to_arguments, applied_to_values, Lazy, References, values_alone, arguments_in, operate, meaning, arguments, IsWanted, values_of, ReferInside, of_tree, of_parameters, mapped, Evaluates, IfMissing, Stop, Want}
 use Rattle.wi_arguments.specs.declared.argument.Argument as given
 use Rattle.wi_functions.proofs.Asking.{left_asks, right_asks, memory_wants, wanted_too, evaluates_too, made_of, stop_wants}
 use Rattle.wi_functions.proofs.Parameters.{value_there, value_missing, asks_there, length_arguments, call_found, more_arguments, more_values, none_left, reference_is, value_is, reference_asks, value_asks, more_refer}
@@ -27,6 +27,16 @@ pub value_of-returns-in_default : goal.value_of-returns-in_default
 value_of-returns-in_default g t c =
     let is = binary_seen _ _ _ _ _ c.in-Binary.is c.deref-in-Binary-2.ensures c.deref-in-Binary-3.ensures in
     subst (λ (u : Tree). Evaluates g.L.Lookup.known_cell g.L.Lookup.known_what_if c.args.lookup.now c.binary_value.result (of_tree u)) (sym is) c.binary_value.ensures
+
+pub value_of-returns-in-WhatIf : goal.value_of-returns-in-WhatIf
+value_of-returns-in-WhatIf g t c =
+    let is = what_if_seen _ _ _ _ _ c.in-WhatIf.is c.deref-in-WhatIf.ensures c.deref-in-WhatIf-2.ensures c.deref-in-WhatIf-3.ensures.value in
+    subst (λ (u : Tree). Evaluates g.L.Lookup.known_cell g.L.Lookup.known_what_if c.args.lookup.now c.what_if_value.result (of_tree u)) (sym is) c.what_if_value.ensures
+
+pub value_of-returns-in-Call : goal.value_of-returns-in-Call
+value_of-returns-in-Call g t c =
+    let is = call_seen _ _ _ _ _ c.in-Call.is c.deref-in-Call.ensures c.deref-in-Call-2.ensures c.deref-in-Call-3.ensures.value in
+    subst (λ (u : Tree). Evaluates g.L.Lookup.known_cell g.L.Lookup.known_what_if c.args.lookup.now c.call_value.result (of_tree u)) (sym is) c.call_value.ensures
 
 -- ---- two operands
 

@@ -1,4 +1,4 @@
-use Rattle.wi_functions.proofs.Words.{◌≡◌, List, IfSome, refl, sym, subst, rules, IfSome_then, tree_of, all_of, cell_leaf, Tree, cell, call, binary_seen, Expr, the_lemmas, TreeAsks, AnyTreeAsks, Cell}
+use Rattle.wi_functions.proofs.Words.{◌≡◌, IfSome, refl, sym, subst, rules, IfSome_then, tree_of, cell_leaf, Tree, cell, binary_seen, call_seen, the_lemmas, TreeAsks, Cell}
 use Rattle.wi_functions.proofs.Asking.{leaf_asks, left_asks, right_asks}
 use Rattle.wi_functions.proofs.first.+looking.Goals as goal
 
@@ -27,6 +27,5 @@ first_of-returns-in-WhatIf t c = search rules
 
 pub first_of-returns-in-Call : goal.first_of-returns-in-Call
 first_of-returns-in-Call t c =
-    let is : tree_of c.args.expr.now ≡ call c.in-Call.name (all_of c.in-Call.parameters.items) = search (rules, the_lemmas) in
-    subst (λ (u : Tree). IfSome c.first_of_call.result (λ a. TreeAsks u (Cell a))) (sym is)
-    (subst (λ (es : List Expr). IfSome c.first_of_call.result (λ a. AnyTreeAsks (all_of es) (Cell a))) c.deref-in-Call.ensures.value c.first_of_call.ensures)
+    let is = call_seen _ _ _ _ _ c.in-Call.is c.deref-in-Call.ensures c.deref-in-Call-2.ensures c.deref-in-Call-3.ensures.value in
+    subst (λ (u : Tree). IfSome c.first_of_call.result (λ a. TreeAsks u (Cell a))) (sym is) c.first_of_call.ensures
