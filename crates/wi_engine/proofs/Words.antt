@@ -5,7 +5,7 @@ pub use Rattle.std.proofs.Math.ListN.{drop_of_length-le}
 pub use Rattle.std.proofs.lemmas.Bool.{and_from, and_parts, cases_lt, false_from_ne_true, le-leb, leb-true, lt-leb, ltb-false, ltb-true, or_cases, or_from, or_left, or_parts, or_right}
 pub use Rattle.std.proofs.lemmas.Bool.Decides.{nat_tests}
 pub use Rattle.std.proofs.lemmas.Grind.{common_steps}
-pub use Rattle.std.proofs.lemmas.List.{drop_all, get_or-map, length-map, take-append-drop, take_rest}
+pub use Rattle.std.proofs.lemmas.List.{drop_all, get_or-map, length-map, map-append, take-append-drop, take_rest}
 pub use Rattle.std.proofs.lemmas.List.Elements.{All-cons, All-head, All-map, All-more, All-nil, All-tail}
 pub use Rattle.std.proofs.lemmas.List.Folds.{list_any-append}
 pub use Rattle.std.proofs.lemmas.List.Sorted.{IsPartitionPoint-from_clause, IsPartitionedBy-ltb, answers_always}
@@ -23,7 +23,7 @@ pub use Rattle.std.specs.List.Sorted.{IsBinarySearchResult, IsNonDecreasingBy, I
 pub use Rattle.std.specs.Map.{keys_of, lookup}
 pub use Rattle.std.specs.Option.{is_none, option_copied, option_or}
 pub use Rattle.std.specs.Ordering.{nat_cmp}
-pub use Rattle.std.specs.Prelude.{nat_le, nat_lt, option_map}
+pub use Rattle.std.specs.Prelude.{MatchOption, nat_le, nat_lt, option_map, vec_capacity, vec_len}
 pub use Rattle.std.specs.declared.alloc.AllocError.{AllocError}
 pub use Rattle.wi_arguments.proofs.Passing.{Passed, passed_on}
 pub use Rattle.wi_arguments.proofs.Walking.{PassesEmpty, enough, joined, moves_on, successor_to_come}
@@ -47,6 +47,8 @@ pub use Rattle.wi_engine.specs.Inner.Saving.{GivesUpWhenFull, IsValuedAnew, Keep
 pub use Rattle.wi_engine.specs.Inner.Seen.{content_seen}
 pub use Rattle.wi_engine.specs.Inner.SettledFrames.{AreFoundSettled, HasOneMeaning, IsFrameSettled}
 pub use Rattle.wi_engine.specs.Inner.Spends.{IsSameBeside, Saved, Spends, ValuesCell}
+pub use Rattle.wi_engine.specs.Inner.StackLists.{HasLast, HaveRests, HaveRoom, IsWithFrame, count_more, frame_of, frames_in, rests_behind, stack_state, with_its_rest, with_rest}
+pub use Rattle.wi_engine.specs.Inner.Stacked.{HasRoomForOne, StackState, StackedFrame, cells_of, other_than_cells, seen_as, stacked, waits_for_one}
 pub use Rattle.wi_engine.specs.Inner.Steps.{FrameCounts, FrameSteps, FrameTakes, FrameWaits, IsFrameValue, IsShownNow, IsWorldWith}
 pub use Rattle.wi_engine.specs.Inner.Touched.{earlier}
 pub use Rattle.wi_engine.specs.Inner.Walk.{EachLeave, Enter, GoesOn, HasCycle, IsBelow, IsOpen, IsWalk, LeadsTo, Leave, Task, begun, cells_ahead, enters, has_leave, has_task, leaves, progress_of, task_cell, tasks_at, tasks_in, tasks_left, tasks_of, unread}
@@ -61,6 +63,10 @@ pub use Rattle.wi_engine.specs.declared.frame.Waiting.TheVariants.{Cells, Nothin
 pub use Rattle.wi_engine.specs.declared.known.Known.{Known}
 pub use Rattle.wi_engine.specs.declared.lists.FoundWhatIf.{FoundWhatIf}
 pub use Rattle.wi_engine.specs.declared.seen.Seen.{Seen}
+pub use Rattle.wi_engine.specs.declared.stack.Beside.{Beside}
+pub use Rattle.wi_engine.specs.declared.stack.Beside.TheVariants.{More, OneCell}
+pub use Rattle.wi_engine.specs.declared.stack.Entry.{Entry}
+pub use Rattle.wi_engine.specs.declared.stack.Rest.{Rest}
 pub use Rattle.wi_engine.specs.declared.walk.Progress.{Progress}
 pub use Rattle.wi_engine.specs.declared.walk.Progress.TheVariants.{Done, Open}
 pub use Rattle.wi_engine.specs.declared.walk.Visit.{Visit}

@@ -12,6 +12,8 @@ pub mod Saving
 pub mod Seen
 pub mod SettledFrames
 pub mod Spends
+pub mod StackLists
+pub mod Stacked
 pub mod Steps
 pub mod Touched
 pub mod Walk

@@ -20,6 +20,7 @@ mod question;
 mod remembered;
 mod rising;
 mod seen;
+mod stack;
 mod together;
 mod walk;
 

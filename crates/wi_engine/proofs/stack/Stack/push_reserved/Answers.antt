@@ -1,0 +1,18 @@
+use Rattle.wi_engine.proofs.Words.{◌++◌, ◌∷◌, [], ◌∙◌, ap, sym, subst, vec_capacity, vec_len, HasRoomForOne, StackState, stacked}
+use Rattle.wi_engine.proofs.stack.FramesOnTop.{room_there}
+use Rattle.wi_engine.proofs.stack.Stack.push_reserved.Goals as goal
+
+pub put_on-requires-clause-room : goal.put_on-requires-clause-room
+put_on-requires-clause-room c =
+    let es = c.self.inside.entries in
+    let rs = c.self.inside.rests in
+    room_there (vec_len es) (vec_capacity es) (vec_len rs) (vec_capacity rs) (subst (λ (s : StackState). HasRoomForOne s) (sym c.self.view_is) c.requires)
+
+pub put_on-requires-clause-rests : goal.put_on-requires-clause-rests
+put_on-requires-clause-rests c = c.self.invariant
+
+pub invariant_of-self : goal.invariant_of-self
+invariant_of-self c = c.put_on.ensures.rests
+
+pub returns : goal.returns
+returns c = c.put_on.ensures.frames ∙ ap (λ (s : StackState). s.frames ++ stacked c.args.frame ∷ []) c.self.view_is

@@ -1,0 +1,258 @@
+//! The frames that wait for one another.
+
+ghost use Rattle.std.specs.Prelude.{◌≡◌, ◌<◌, ◌++◌, ◌∷◌, [], true, None, IfSome, MatchOption, OnOk, vec_len, vec_capacity};
+ghost use Rattle.wi_engine.specs.Inner.Stacked.{HasRoomForOne, stacked, waits_for_one};
+ghost use Rattle.wi_engine.specs.Inner.StackLists.{HasLast, HaveRests, HaveRoom, IsWithFrame, count_more, frames_in};
+
+use crate::course::Course;
+use crate::findings::Findings;
+use crate::frame::{Frame, Waiting};
+use std::alloc::{AllocError, Global};
+use std::marker::Model;
+use wi_cache::Key;
+use wi_parser::Formula;
+use wi_values::Address;
+
+/// What a frame has beside its key and its formula.
+#[derive(Clone, Copy)]
+enum Beside {
+    /// The one cell that it waits for. Nothing was found for it.
+    OneCell(Address),
+    /// What stands for it in the second list.
+    More,
+}
+
+/// What the first list has of a frame.
+#[derive(Drop)]
+struct Entry<'a> {
+    key: Key,
+    formula: &'a Formula,
+    beside: Beside,
+}
+
+/// What the second list has of a frame that waits for more than a cell, or for which something was found.
+#[derive(Drop)]
+struct Rest {
+    found: Findings,
+    waiting: Waiting,
+    courses: Vec<Course>,
+}
+
+/// Frames of which each waits for the next one, and the last for one that isn't here. Those of a long chain all wait at once, and nearly
+/// all of them for one cell, with nothing found yet. So what only few have stands in a list of its own, and a frame takes 64 bytes, half
+/// of what it takes else. None has a block of memory for itself.
+#[derive(Drop)]
+pub struct Stack<'a> {
+    entries: Vec<Entry<'a>>,
+    // Those of the entries that have more, in the same order.
+    rests: Vec<Rest>,
+    alloc: Global,
+}
+
+impl<'a> Model for Stack<'a> {
+    ghost use Rattle.wi_engine.specs.Inner.Stacked.{StackState, frame_code, stack_code};
+    ghost use Rattle.wi_cache.specs.contracts.key.Key as key;
+    ghost use Rattle.wi_parser.specs.Inner.TreeCode.{tree_code};
+    ghost use Rattle.wi_engine.specs.contracts.findings.Findings as findings;
+    ghost use Rattle.wi_engine.specs.contracts.frame.Waiting as waiting;
+    ghost use Rattle.wi_engine.specs.contracts.course.Course as course;
+
+    ghost Value = { StackState };
+
+    ghost coded = { stack_code (frame_code key.the_row.coded tree_code findings.the_row.coded
+        waiting.the_row.coded course.the_row.coded) };
+
+    ghost use Rattle.wi_engine.specs.Inner.StackLists.{HaveRests, stack_state};
+
+    ghost view = { λ s. stack_state s.entries s.rests };
+
+    ghost invariant = { λ s. HaveRests s.entries.items s.rests.items };
+}
+
+impl<'a> Stack<'a> {
+    /// No frames. Takes no memory.
+    pub(crate) fn new(alloc: Global) -> Stack<'a>
+        ensures { result.frames ≡ [] }
+    {
+        Stack {
+            entries: Vec::new(alloc),
+            rests: Vec::new(alloc),
+            alloc,
+        }
+    }
+
+    /// Makes room for one frame more, whatever it has. If memory runs out, the frames are as before.
+    #[inline(always)]
+    pub(crate) fn reserve(&mut self) -> Result<(), AllocError>
+        ensures frames { self.new.frames ≡ self.old.frames }
+        ensures room { OnOk result (HasRoomForOne self.new) }
+    {
+        make_room(&mut self.entries, &mut self.rests)
+    }
+
+    /// Puts a frame on top. Takes no memory.
+    #[inline(always)]
+    pub(crate) fn push_reserved(&mut self, frame: Frame<'a>)
+        requires { HasRoomForOne self.old }
+        ensures { self.new.frames ≡ self.old.frames ++ stacked frame.entry ∷ [] }
+    {
+        put_on(&mut self.entries, &mut self.rests, frame);
+    }
+
+    /// Takes the frame on top off, if there is one.
+    #[inline(always)]
+    pub(crate) fn pop(&mut self) -> Option<Frame<'a>>
+        ensures { MatchOption result (self.old.frames ≡ [])
+            (λ f. self.old.frames ≡ self.new.frames ++ stacked f ∷ []) }
+    {
+        let alloc = self.alloc;
+        take_off(alloc, &mut self.entries, &mut self.rests)
+    }
+}
+
+/// Makes room for one more in both lists. If memory runs out, what they have is as before.
+#[inline(always)]
+fn make_room(entries: &mut Vec<Entry>, rests: &mut Vec<Rest>) -> Result<(), AllocError>
+    ensures entries { entries.new.items ≡ entries.old.items }
+    ensures rests { rests.new.items ≡ rests.old.items }
+    ensures room { OnOk result (HaveRoom entries.new rests.new) }
+{
+    entries.reserve(1)?;
+    rests.reserve(1)?;
+    Ok(())
+}
+
+/// Puts a frame on top: into the first list alone, where that has all of it.
+#[inline(always)]
+fn put_on<'a>(entries: &mut Vec<Entry<'a>>, rests: &mut Vec<Rest>, frame: Frame<'a>)
+    requires room { HaveRoom entries.old rests.old }
+    requires rests { HaveRests entries.old.items rests.old.items }
+    ensures rests { HaveRests entries.new.items rests.new.items }
+    ensures frames { frames_in entries.new.items rests.new.items
+        ≡ frames_in entries.old.items rests.old.items ++ stacked frame.entry ∷ [] }
+{
+    match only_cell(&frame) {
+        Some(at) => put_one_cell(entries, frame, at),
+        None => put_with_rest(entries, rests, frame),
+    }
+}
+
+/// The cell that a frame waits for, where that is all that it has beside its key and its formula.
+#[inline(always)]
+fn only_cell(frame: &Frame) -> Option<Address>
+    ensures { IfSome result (λ a.
+        stacked frame.now ≡ waits_for_one frame.now.key frame.now.formula.now a) }
+{
+    if !is_bare(frame) {
+        return None;
+    }
+    let Waiting::Cells(at, others) = &frame.waiting else {
+        return None;
+    };
+    if !others.is_empty() {
+        return None;
+    }
+    Some(*at)
+}
+
+/// Whether no value was found for a frame, and it keeps no course.
+#[inline(always)]
+fn is_bare(frame: &Frame) -> bool
+    ensures found { result ≡ true → frame.now.found.lists ≡ None }
+    ensures courses { result ≡ true → frame.now.courses.items ≡ [] }
+{
+    match frame.found.lists {
+        Some(_) => false,
+        None => frame.courses.is_empty(),
+    }
+}
+
+/// Puts a frame on top that has nothing but the cell that it waits for.
+#[inline(always)]
+fn put_one_cell<'a>(entries: &mut Vec<Entry<'a>>, frame: Frame<'a>, at: Address)
+    requires room { vec_len entries.old < vec_capacity entries.old }
+    requires alone { stacked frame ≡ waits_for_one frame.key frame.formula.now at }
+    ensures rests { count_more entries.new.items ≡ count_more entries.old.items }
+    ensures frames { IsWithFrame entries.old.items entries.new.items frame.entry }
+{
+    entries.push_reserved(Entry {
+        key: frame.key,
+        formula: frame.formula,
+        beside: Beside::OneCell(at),
+    });
+}
+
+/// Puts a frame on top that has more.
+#[inline(always)]
+fn put_with_rest<'a>(entries: &mut Vec<Entry<'a>>, rests: &mut Vec<Rest>, frame: Frame<'a>)
+    requires room { HaveRoom entries.old rests.old }
+    requires rests { HaveRests entries.old.items rests.old.items }
+    ensures rests { HaveRests entries.new.items rests.new.items }
+    ensures frames { frames_in entries.new.items rests.new.items
+        ≡ frames_in entries.old.items rests.old.items ++ stacked frame.entry ∷ [] }
+{
+    rests.push_reserved(Rest {
+        found: frame.found,
+        waiting: frame.waiting,
+        courses: frame.courses,
+    });
+    entries.push_reserved(Entry {
+        key: frame.key,
+        formula: frame.formula,
+        beside: Beside::More,
+    });
+}
+
+/// Takes the frame on top off, if there is one, with the last in the second list where it has more.
+#[inline(always)]
+fn take_off<'a>(
+    alloc: Global,
+    entries: &mut Vec<Entry<'a>>,
+    rests: &mut Vec<Rest>,
+) -> Option<Frame<'a>>
+    requires { HaveRests entries.old.items rests.old.items }
+    ensures rests { HaveRests entries.new.items rests.new.items }
+    ensures frames { MatchOption result (frames_in entries.old.items rests.old.items ≡ [])
+        (λ f. frames_in entries.old.items rests.old.items
+        ≡ frames_in entries.new.items rests.new.items ++ stacked f ∷ []) }
+{
+    match entries.pop() {
+        None => None,
+        Some(entry) => match entry.beside {
+            Beside::OneCell(at) => Some(of_one_cell(alloc, entry.key, entry.formula, at)),
+            Beside::More => Some(with_last(entry.key, entry.formula, rests)),
+        },
+    }
+}
+
+/// The frame that waits for one cell, with nothing found. Takes no memory.
+#[inline(always)]
+fn of_one_cell<'a>(alloc: Global, key: Key, formula: &'a Formula, at: Address) -> Frame<'a>
+    ensures { stacked result ≡ waits_for_one key formula.now at }
+{
+    Frame {
+        key,
+        formula,
+        found: Findings { lists: None },
+        waiting: Waiting::Cells(at, Vec::new(alloc)),
+        courses: Vec::new(alloc),
+    }
+}
+
+/// The frame with what stands last in the second list, which is taken away there.
+#[inline(always)]
+fn with_last<'a>(key: Key, formula: &'a Formula, rests: &mut Vec<Rest>) -> Frame<'a>
+    requires { 0 < vec_len rests.old }
+    ensures { HasLast rests.old.items rests.new.items key formula.now result }
+{
+    match rests.pop() {
+        Some(rest) => Frame {
+            key,
+            formula,
+            found: rest.found,
+            waiting: rest.waiting,
+            courses: rest.courses,
+        },
+        None => unreachable!(),
+    }
+}
