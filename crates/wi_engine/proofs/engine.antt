@@ -11,7 +11,8 @@
 -- `FrameRuns`: what is so of a run of frames (`IsRunning`), and what its turns do to that.
 -- `SettledStacks`, `RunsWithRoom`: the same where there is room for all that is found (`IsSaving`), by what is kept in the place of
 -- what was found; and what a question for a cell leaves (`ValuesCell`).
--- `Ends`: all of it together (`IsGoing`), for the loop of `run`, and what was spent where it ends.
+-- `Ends`: all of it together (`IsGoing`), and what was spent where it ends.
+-- `StackedRuns`: the same where the stack shows what each frame is (`IsGoingOver`), for the loop of `run`.
 pub mod NextCases
 pub mod Waits
 pub mod NextValues
@@ -24,3 +25,4 @@ pub mod FrameRuns
 pub mod SettledStacks
 pub mod RunsWithRoom
 pub mod Ends
+pub mod StackedRuns

@@ -13,6 +13,7 @@ use crate::engine::{advance, take_in};
 use crate::frame::{Advance, Asked, Frame};
 use crate::memo::Memo;
 use crate::pool::Pool;
+use crate::stack::Stack;
 use std::alloc::AllocError;
 use std::mem;
 use wi_cache::Key;
@@ -33,7 +34,7 @@ pub struct Question<M: Memo + Drop> {
 impl<M: Memo + Drop> Question<M> {
     /// The value of a cell under replacements, with what is remembered of others, and of it. A formula is evaluated where no
     /// value is remembered for its key, and each only once, however many rest on it. No formula calls for another on the
-    /// machine's stack: those that wait stand in a list, which grows as the references lead on. Each takes its arrays
+    /// machine's stack: those that wait stand in lists (`Stack`), which grow as the references lead on. Each takes its arrays
     /// from a pool when something is found for it, and they go back there when its value is there.
     pub fn value(&mut self, store: &Store, world: &World, at: Address) -> Result<Value, AllocError>
         requires memo { IsMemoOf store.now.sheet (M.state self.old.memo) }
@@ -85,7 +86,7 @@ impl<M: Memo + Drop> Question<M> {
             (M.state self.old.memo) (λ _. (M.state self.new.memo).kept key.cell key.world ≡ true)) }
     {
         let alloc = self.pool.allocator();
-        let mut stack = Vec::new(alloc);
+        let mut stack = Stack::new(alloc);
         let mut frame = Frame::new(alloc, key, formula);
         'frames: loop {
             match advance(
@@ -97,7 +98,7 @@ impl<M: Memo + Drop> Question<M> {
             )? {
                 Advance::Unvalued(next) => {
                     // Into room that is there a frame is moved once.
-                    stack.reserve(1)?;
+                    stack.reserve()?;
                     let above = Frame::new(alloc, next.key, next.formula);
                     stack.push_reserved(mem::replace(&mut frame, above));
                 }

@@ -1,13 +1,9 @@
-use Rattle.wi_engine.proofs.Words.{◌≡◌, ◌∙◌, ℕ, List, [], ◌∷◌, length, refl, ap, arith, Frame}
-use Rattle.wi_engine.proofs.engine.FrameRuns.{IsNew, GoesDeeper, deeper_smaller, back_smaller, next_before, run_below, run_value}
-use Rattle.wi_engine.proofs.engine.Ends.{turn_same, turn_kept, comes_back, going_start, going_deeper, going_awaited, going_back, going_stops, going_ends, root_kept, root_there}
+use Rattle.wi_engine.proofs.Words.{◌≡◌, ◌∙◌, List, [], ◌∷◌, ◌++◌, refl, ap, Frame, StackedFrame, stacked}
+use Rattle.wi_engine.proofs.engine.FrameRuns.{IsNew, GoesDeeper, deeper_smaller, back_smaller, next_before, run_value}
+use Rattle.wi_engine.proofs.engine.Ends.{turn_same, turn_kept, comes_back, going_stops, going_ends, root_kept, root_there}
+use Rattle.wi_engine.proofs.engine.StackedRuns.{over_start, over_deeper, over_below, below_awaits, below_awaited, over_back, over_root}
 use Rattle.wi_engine.proofs.engine.Steps.{counts_less}
 use Rattle.wi_engine.proofs.question.Question.run.Goals as goal
-
--- a stack of no frames
-no_frames : (fs : List Frame) (n : ℕ) → n ≡ length fs → n ≡ 0 → fs ≡ []
-no_frames [] n e z = refl
-no_frames (f ∷ fs) n e z = absurd (omega (arith, e, z))
 
 -- ---- the turns
 
@@ -15,18 +11,18 @@ pub frames-init : goal.frames-init
 frames-init g c =
     let n = c.new-frame.ensures in
     let new : IsNew c.args.store.now.sheet c.new-frame.result c.args.key = record { key = n.key; formula = rw n.formula c.requires.formula; cells = n.cells; what_ifs = n.what_ifs; waiting = n.waiting } in
-    rw c.new-stack.ensures.items (going_start c.args.self.now.meter c.requires.memo c.requires.key new)
+    over_start c.args.self.now.meter c.requires.memo c.requires.key new c.new-stack.ensures
 
 pub advance-requires-clause-memo : goal.advance-requires-clause-memo
-advance-requires-clause-memo g c = c.frames.invariant.running.memo
+advance-requires-clause-memo g c = c.frames.invariant.going.running.memo
 
 pub advance-requires-clause-frame : goal.advance-requires-clause-frame
-advance-requires-clause-frame g c = c.frames.invariant.running.begun.frame
+advance-requires-clause-frame g c = c.frames.invariant.going.running.begun.frame
 
 pub frames-smaller-in-Unvalued : goal.frames-smaller-in-Unvalued
 frames-smaller-in-Unvalued g c =
     let a = c.in_ok-next.ensures in
-    deeper_smaller c.frames.invariant.running (g.M.Memo.state c.advance.new.memo) c.replace.new.dest a.steps.same (next_before a.steps.key (rw c.in-Unvalued.is at a.gives).0) (ap (λ (f : Frame). f.key) c.replace.ensures.after ∙ c.new-above.ensures.key)
+    deeper_smaller c.frames.invariant.going.running (g.M.Memo.state c.advance.new.memo) c.replace.new.dest a.steps.same (next_before a.steps.key (rw c.in-Unvalued.is at a.gives).0) (ap (λ (f : Frame). f.key) c.replace.ensures.after ∙ c.new-above.ensures.key)
 
 pub frames-preserved-in-Unvalued : goal.frames-preserved-in-Unvalued
 frames-preserved-in-Unvalued g c =
@@ -42,13 +38,18 @@ frames-preserved-in-Unvalued g c =
       awaited = u.0.awaited;
       new = record { key = n.key; formula = rw n.formula u.0.next.stands; cells = n.cells; what_ifs = n.what_ifs; waiting = n.waiting };
     } in
-    rw (c.push_reserved.ensures.items, c.reserve.ensures.items, c.replace.ensures.value, c.replace.ensures.after, a.steps.same) (going_deeper c.frames.invariant turn)
+    let more : c.push_reserved.new.self.frames ≡ c.frames.stack.frames ++ stacked c.advance.new.frame ∷ [] =
+    c.push_reserved.ensures ∙ ap (λ (l : List StackedFrame). l ++ stacked c.replace.result ∷ []) c.reserve.ensures.frames ∙ ap (λ (f : Frame). c.frames.stack.frames ++ stacked f ∷ []) c.replace.ensures.value in
+    rw (c.replace.ensures.after, a.steps.same) (over_deeper c.frames.invariant turn more)
+
+pub push_reserved-requires : goal.push_reserved-requires
+push_reserved-requires g c = c.in_ok-reserve-in-Unvalued.ensures.room
 
 pub take_in-requires-clause-awaits : goal.take_in-requires-clause-awaits
-take_in-requires-clause-awaits g c = rw c.replace-in-Some.ensures.after (run_below _ (rw c.in-Some.ensures.items at c.frames.invariant).running).waiting
+take_in-requires-clause-awaits g c = rw c.replace-in-Some.ensures.after (below_awaits (over_below c.in-Some.below c.frames.invariant c.in-Some.ensures))
 
 pub take_in-requires-clause-awaited : goal.take_in-requires-clause-awaited
-take_in-requires-clause-awaited g c = rw (c.retire-key.ensures, c.replace-in-Some.ensures.value, c.replace-in-Some.ensures.after, c.in_ok-next.ensures.steps.key) (going_awaited _ _ (rw c.in-Some.ensures.items at c.frames.invariant))
+take_in-requires-clause-awaited g c = rw (c.retire-key.ensures, c.replace-in-Some.ensures.value, c.replace-in-Some.ensures.after, c.in_ok-next.ensures.steps.key) (below_awaited (over_below c.in-Some.below c.frames.invariant c.in-Some.ensures))
 
 pub take_in-requires-clause-right : goal.take_in-requires-clause-right
 take_in-requires-clause-right g c =
@@ -59,7 +60,7 @@ frames-smaller g c =
     let a = c.in_ok-next.ensures in
     let k = c.in_ok-remember-in-Some.ensures in
     let turn = comes_back a.steps.same (c.retire-key.ensures ∙ ap (λ (f : Frame). f.key) c.replace-in-Some.ensures.value ∙ a.steps.key) k.keeps k.found (rw c.in-Done.is at a.gives) a.counts in
-    back_smaller c.frames.invariant.running (g.M.Memo.state c.remember.new.self) c.take_in.new.frame turn.found.found c.requires.key.key.open_cell c.requires.key.key.formula
+    back_smaller c.frames.invariant.going.running (g.M.Memo.state c.remember.new.self) c.take_in.new.frame turn.found.found c.requires.key.key.open_cell c.requires.key.key.formula
 
 pub frames-preserved : goal.frames-preserved
 frames-preserved g c =
@@ -67,8 +68,7 @@ frames-preserved g c =
     let k = c.in_ok-remember-in-Some.ensures in
     let key = c.retire-key.ensures ∙ ap (λ (f : Frame). f.key) c.replace-in-Some.ensures.value ∙ a.steps.key in
     let turn = comes_back a.steps.same key k.keeps k.found (rw c.in-Done.is at a.gives) a.counts in
-    let going = rw c.in-Some.ensures.items at c.frames.invariant in
-    going_back going turn (rw (key, c.replace-in-Some.ensures.after) at c.in_ok-take_in-in-Some.ensures)
+    over_back (over_below c.in-Some.below c.frames.invariant c.in-Some.ensures) turn (rw (key, c.replace-in-Some.ensures.after) at c.in_ok-take_in-in-Some.ensures)
 
 -- ---- what is asked of the memory
 
@@ -78,11 +78,11 @@ keep-requires-clause-generation g c =
 
 pub keep-requires-clause-open_cell : goal.keep-requires-clause-open_cell
 keep-requires-clause-open_cell g c =
-    rw (c.retire-root.ensures, c.in_ok-next.ensures.steps.same, c.frames.invariant.running.memo.sheet) (c.in_ok-next.ensures.steps.frame refl).key.open_cell
+    rw (c.retire-root.ensures, c.in_ok-next.ensures.steps.same, c.frames.invariant.going.running.memo.sheet) (c.in_ok-next.ensures.steps.frame refl).key.open_cell
 
 pub keep-requires-clause-right : goal.keep-requires-clause-right
 keep-requires-clause-right g c =
-    rw (c.retire-root.ensures, c.in_ok-next.ensures.steps.key, c.in_ok-next.ensures.steps.same, c.frames.invariant.running.memo.sheet) (rw c.in-Done.is at c.in_ok-next.ensures.gives).0.value
+    rw (c.retire-root.ensures, c.in_ok-next.ensures.steps.key, c.in_ok-next.ensures.steps.same, c.frames.invariant.going.running.memo.sheet) (rw c.in-Done.is at c.in_ok-next.ensures.gives).0.value
 
 pub remember-requires-clause-generation : goal.remember-requires-clause-generation
 remember-requires-clause-generation g c =
@@ -90,17 +90,17 @@ remember-requires-clause-generation g c =
 
 pub remember-requires-clause-open_cell : goal.remember-requires-clause-open_cell
 remember-requires-clause-open_cell g c =
-    rw (c.retire-key.ensures, c.replace-in-Some.ensures.value, c.in_ok-next.ensures.steps.same, c.frames.invariant.running.memo.sheet) (c.in_ok-next.ensures.steps.frame refl).key.open_cell
+    rw (c.retire-key.ensures, c.replace-in-Some.ensures.value, c.in_ok-next.ensures.steps.same, c.frames.invariant.going.running.memo.sheet) (c.in_ok-next.ensures.steps.frame refl).key.open_cell
 
 pub remember-requires-clause-right : goal.remember-requires-clause-right
 remember-requires-clause-right g c =
-    rw (c.retire-key.ensures, c.replace-in-Some.ensures.value, c.in_ok-next.ensures.steps.key, c.in_ok-next.ensures.steps.same, c.frames.invariant.running.memo.sheet) (rw c.in-Done.is at c.in_ok-next.ensures.gives).0.value
+    rw (c.retire-key.ensures, c.replace-in-Some.ensures.value, c.in_ok-next.ensures.steps.key, c.in_ok-next.ensures.steps.same, c.frames.invariant.going.running.memo.sheet) (rw c.in-Done.is at c.in_ok-next.ensures.gives).0.value
 
 -- ---- the end, where the root's value is kept
 
 pub returns-in-None-clause-value : goal.returns-in-None-clause-value
 returns-in-None-clause-value g c =
-    let going = rw (no_frames c.frames.stack.items c.frames.stack.len c.frames.stack.ok.0 c.in-None.ensures.cases.0) at c.frames.invariant in
+    let going = over_root c.frames.invariant c.in-None.ensures in
     run_value c.args.key going.running (c.in_ok-shown-in-None.ensures ∙ (rw c.in-Done.is at c.in_ok-next.ensures.gives).0.value)
 
 pub returns-in-None-clause-spends : goal.returns-in-None-clause-spends
@@ -108,7 +108,7 @@ returns-in-None-clause-spends g c =
     let a = c.in_ok-next.ensures in
     let k = c.in_ok-keep-in-None.ensures in
     let turn = comes_back a.steps.same (c.retire-root.ensures ∙ a.steps.key) k.keeps k.found (rw c.in-Done.is at a.gives) a.counts in
-    going_ends (rw (no_frames c.frames.stack.items c.frames.stack.len c.frames.stack.ok.0 c.in-None.ensures.cases.0) at c.frames.invariant) turn
+    going_ends (over_root c.frames.invariant c.in-None.ensures) turn
 
 pub returns-in-None-clause-kept : goal.returns-in-None-clause-kept
 returns-in-None-clause-kept g c =
@@ -116,43 +116,43 @@ returns-in-None-clause-kept g c =
     let k = c.in_ok-keep-in-None.ensures in
     let turn = comes_back a.steps.same (c.retire-root.ensures ∙ a.steps.key) k.keeps k.found (rw c.in-Done.is at a.gives) a.counts in
     let key = c.retire-root.ensures ∙ a.steps.key in
-    root_there (rw (no_frames c.frames.stack.items c.frames.stack.len c.frames.stack.ok.0 c.in-None.ensures.cases.0) at c.frames.invariant) turn (rw (a.steps.same, key) at k.there)
+    root_there (over_root c.frames.invariant c.in-None.ensures) turn (rw (a.steps.same, key) at k.there)
 
 pub returns-in-None-clause-settled : goal.returns-in-None-clause-settled
 returns-in-None-clause-settled g c =
     let a = c.in_ok-next.ensures in
     let k = c.in_ok-keep-in-None.ensures in
     let turn = comes_back a.steps.same (c.retire-root.ensures ∙ a.steps.key) k.keeps k.found (rw c.in-Done.is at a.gives) a.counts in
-    root_kept (rw (no_frames c.frames.stack.items c.frames.stack.len c.frames.stack.ok.0 c.in-None.ensures.cases.0) at c.frames.invariant) turn
+    root_kept (over_root c.frames.invariant c.in-None.ensures) turn
 
 -- ---- where memory runs out
 
 pub returns-in_err-next-clause-spends : goal.returns-in_err-next-clause-spends
 returns-in_err-next-clause-spends g c =
-    going_stops c.frames.invariant (turn_same c.frames.invariant.running.memo c.in_err-next.ensures.steps.same (counts_less c.in_err-next.ensures.counts)) c.from_residual.result c.from_residual.ensures.0
+    going_stops c.frames.invariant.going (turn_same c.frames.invariant.going.running.memo c.in_err-next.ensures.steps.same (counts_less c.in_err-next.ensures.counts)) c.from_residual.result c.from_residual.ensures.0
 
 pub returns-in_err-reserve-in-Unvalued-clause-spends : goal.returns-in_err-reserve-in-Unvalued-clause-spends
 returns-in_err-reserve-in-Unvalued-clause-spends g c =
-    going_stops c.frames.invariant (turn_same c.frames.invariant.running.memo c.in_ok-next.ensures.steps.same c.in_ok-next.ensures.counts) c.from_residual-in_err-reserve-in-Unvalued.result c.from_residual-in_err-reserve-in-Unvalued.ensures.0
+    going_stops c.frames.invariant.going (turn_same c.frames.invariant.going.running.memo c.in_ok-next.ensures.steps.same c.in_ok-next.ensures.counts) c.from_residual-in_err-reserve-in-Unvalued.result c.from_residual-in_err-reserve-in-Unvalued.ensures.0
 
 pub returns-in_err-shown-in-None-clause-spends : goal.returns-in_err-shown-in-None-clause-spends
 returns-in_err-shown-in-None-clause-spends g c =
-    going_stops c.frames.invariant (turn_same c.frames.invariant.running.memo c.in_ok-next.ensures.steps.same c.in_ok-next.ensures.counts) c.from_residual-in_err-shown-in-None.result c.from_residual-in_err-shown-in-None.ensures.0
+    going_stops c.frames.invariant.going (turn_same c.frames.invariant.going.running.memo c.in_ok-next.ensures.steps.same c.in_ok-next.ensures.counts) c.from_residual-in_err-shown-in-None.result c.from_residual-in_err-shown-in-None.ensures.0
 
 pub returns-in_err-take_in-in-Some-clause-spends : goal.returns-in_err-take_in-in-Some-clause-spends
 returns-in_err-take_in-in-Some-clause-spends g c =
-    going_stops c.frames.invariant (turn_same c.frames.invariant.running.memo c.in_ok-next.ensures.steps.same c.in_ok-next.ensures.counts) c.from_residual-in_err-take_in-in-Some.result c.from_residual-in_err-take_in-in-Some.ensures.0
+    going_stops c.frames.invariant.going (turn_same c.frames.invariant.going.running.memo c.in_ok-next.ensures.steps.same c.in_ok-next.ensures.counts) c.from_residual-in_err-take_in-in-Some.result c.from_residual-in_err-take_in-in-Some.ensures.0
 
 pub returns-in_err-remember-in-Some-clause-spends : goal.returns-in_err-remember-in-Some-clause-spends
 returns-in_err-remember-in-Some-clause-spends g c =
     let a = c.in_ok-next.ensures in
-    let i = c.frames.invariant in
+    let i = c.frames.invariant.going in
     let turn = turn_kept i.running.memo a.steps.same (c.retire-key.ensures ∙ ap (λ (f : Frame). f.key) c.replace-in-Some.ensures.value ∙ a.steps.key) (rw c.in-Done.is at a.gives) c.in_err-remember-in-Some.ensures.keeps a.counts in
     going_stops i turn c.from_residual-in_err-remember-in-Some.result c.from_residual-in_err-remember-in-Some.ensures.0
 
 pub returns-in_err-keep-in-None-clause-spends : goal.returns-in_err-keep-in-None-clause-spends
 returns-in_err-keep-in-None-clause-spends g c =
     let a = c.in_ok-next.ensures in
-    let i = c.frames.invariant in
+    let i = c.frames.invariant.going in
     let turn = turn_kept i.running.memo a.steps.same (c.retire-root.ensures ∙ a.steps.key) (rw c.in-Done.is at a.gives) c.in_err-keep-in-None.ensures.keeps a.counts in
     going_stops i turn c.from_residual-in_err-keep-in-None.result c.from_residual-in_err-keep-in-None.ensures.0

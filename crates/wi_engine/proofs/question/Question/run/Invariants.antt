@@ -1,9 +1,9 @@
 use Rattle.wi_engine.proofs.Words.{◌+◌, ◌*◌, length, cells_with_formula, demand, left, reach_rank, case_at}
-use Rattle.wi_engine.proofs.engine.Ends.{IsGoing}
+use Rattle.wi_engine.proofs.engine.StackedRuns.{IsGoingOver}
 use Rattle.wi_engine.proofs.question.Question.run.Given as goal
 
 abbrev pub invariant-frames : goal.invariant-frames
-invariant-frames g l = IsGoing l.store.sheet (g.M.Memo.state l.fn.self.memo) (g.M.Memo.state l.self.memo) (case_at l.fn.key) l.fn.self.meter l.self.meter l.stack.items l.frame
+invariant-frames g l = IsGoingOver l.store.sheet (g.M.Memo.state l.fn.self.memo) (g.M.Memo.state l.self.memo) (case_at l.fn.key) l.fn.self.meter l.self.meter l.stack.frames l.frame
 
 -- the cases of the demand that are not found, and the rank of the frame at the top
 abbrev pub decreases-frames : goal.decreases-frames
