@@ -216,12 +216,14 @@ fn take_off<'a>(
         (λ f. frames_in entries.old.items rests.old.items
         ≡ frames_in entries.new.items rests.new.items ++ stacked f ∷ []) }
 {
-    match entries.pop() {
-        None => None,
-        Some(entry) => match entry.beside {
-            Beside::OneCell(at) => Some(of_one_cell(alloc, entry.key, entry.formula, at)),
-            Beside::More => Some(with_last(entry.key, entry.formula, rests)),
-        },
+    let Entry {
+        key,
+        formula,
+        beside,
+    } = entries.pop()?;
+    match beside {
+        Beside::OneCell(at) => Some(of_one_cell(alloc, key, formula, at)),
+        Beside::More => Some(with_last(key, formula, rests)),
     }
 }
 
