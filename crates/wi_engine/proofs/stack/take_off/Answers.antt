@@ -3,31 +3,31 @@ use Rattle.wi_engine.proofs.stack.FramesOnTop.{count_one, no_frames, none_off, n
 use Rattle.wi_engine.proofs.stack.take_off.Goals as goal
 
 pub with_last-requires : goal.with_last-requires
-with_last-requires c = some_rest c.pop.new.self.items c.in-Some.entry c.in-Some.ensures.items c.in-More.is c.args.rests.now c.requires
+with_last-requires c = some_rest c.pop.new.self.items c.in_ok-key.field-0 c.in_ok-key.ensures.items c.in-More.is c.args.rests.now c.requires
 
 -- ---- the second list has what stands for the entries that are left
 
-pub returns-in-None-clause-rests : goal.returns-in-None-clause-rests
-returns-in-None-clause-rests c = none_off c.args.entries.now.items c.pop.new.self.items c.args.rests.now.items c.in-None.ensures.items c.requires
+pub returns-in_err-key-clause-rests : goal.returns-in_err-key-clause-rests
+returns-in_err-key-clause-rests c = none_off c.args.entries.now.items c.pop.new.self.items c.args.rests.now.items c.in_err-key.ensures.items c.requires
 
 pub returns-in-OneCell-clause-rests : goal.returns-in-OneCell-clause-rests
-returns-in-OneCell-clause-rests c = sym (count_one c.pop.new.self.items c.in-Some.entry c.in-Some.ensures.items c.in-OneCell.is) ∙ c.requires
+returns-in-OneCell-clause-rests c = sym (count_one c.pop.new.self.items c.in_ok-key.field-0 c.in_ok-key.ensures.items c.in-OneCell.is) ∙ c.requires
 
 pub returns-in-More-clause-rests : goal.returns-in-More-clause-rests
 returns-in-More-clause-rests c =
     let last = c.with_last.ensures in
-    rests_popped c.pop.new.self.items c.in-Some.entry c.with_last.new.rests.items last.rest c.in-Some.ensures.items last.items c.in-More.is c.requires
+    rests_popped c.pop.new.self.items c.in_ok-key.field-0 c.with_last.new.rests.items last.rest c.in_ok-key.ensures.items last.items c.in-More.is c.requires
 
 -- ---- the frame that stood on top
 
-pub returns-in-None-clause-frames : goal.returns-in-None-clause-frames
-returns-in-None-clause-frames c = no_frames c.args.entries.now.items c.args.rests.now.items (none_there c.args.entries.now c.in-None.ensures.cases.0)
+pub returns-in_err-key-clause-frames : goal.returns-in_err-key-clause-frames
+returns-in_err-key-clause-frames c = rw c.from_residual.ensures (no_frames c.args.entries.now.items c.args.rests.now.items (none_there c.args.entries.now c.in_err-key.ensures.cases.0))
 
 pub returns-in-OneCell-clause-frames : goal.returns-in-OneCell-clause-frames
-returns-in-OneCell-clause-frames c = on_one_cell c.pop.new.self.items c.in-Some.entry c.in-Some.ensures.items c.in-OneCell.is c.of_one_cell.result (sym c.of_one_cell.ensures) c.args.rests.now.items
+returns-in-OneCell-clause-frames c = on_one_cell c.pop.new.self.items c.in_ok-key.field-0 c.in_ok-key.ensures.items c.in-OneCell.is c.of_one_cell.result (sym c.of_one_cell.ensures) c.args.rests.now.items
 
 pub returns-in-More-clause-frames : goal.returns-in-More-clause-frames
 returns-in-More-clause-frames c =
     let last = c.with_last.ensures in
-    let rests = rests_popped c.pop.new.self.items c.in-Some.entry c.with_last.new.rests.items last.rest c.in-Some.ensures.items last.items c.in-More.is c.requires in
-    on_rest c.pop.new.self.items c.in-Some.entry c.with_last.new.rests.items last.rest c.in-Some.ensures.items last.items c.in-More.is c.with_last.result last.frame rests
+    let rests = rests_popped c.pop.new.self.items c.in_ok-key.field-0 c.with_last.new.rests.items last.rest c.in_ok-key.ensures.items last.items c.in-More.is c.requires in
+    on_rest c.pop.new.self.items c.in_ok-key.field-0 c.with_last.new.rests.items last.rest c.in_ok-key.ensures.items last.items c.in-More.is c.with_last.result last.frame rests
