@@ -1,8 +1,7 @@
 //! A cell whose value is being found.
 
-ghost use Rattle.std.specs.Prelude.{◌≡◌, ℕ, [], None, Contains, IfSome};
-ghost use Rattle.wi_engine.specs.Inner.Findings.{found_value, found_what_ifs};
-ghost use Rattle.wi_engine.specs.declared.frame.Waiting.TheVariants.{Nothing};
+ghost use Rattle.std.specs.Prelude.{◌≡◌, Contains, IfSome};
+ghost use Rattle.wi_engine.specs.Inner.Frames.{IsNewFrame};
 
 use crate::course::Course;
 use crate::findings::Findings;
@@ -38,11 +37,7 @@ impl<'a> Frame<'a> {
     /// A frame with no values yet. Takes no memory.
     #[inline(always)]
     pub(crate) fn new(alloc: Global, key: Key, formula: &'a Formula) -> Frame<'a>
-        ensures key { result.key ≡ key }
-        ensures formula { result.formula.now ≡ formula.now }
-        ensures cells { (c : ℕ) → found_value result.found c ≡ None }
-        ensures what_ifs { found_what_ifs result.found ≡ [] }
-        ensures waiting { result.waiting ≡ Nothing }
+        ensures { IsNewFrame result key formula.now }
     {
         Frame {
             key,

@@ -15,7 +15,6 @@ use crate::memo::Memo;
 use crate::pool::Pool;
 use crate::stack::Stack;
 use std::alloc::AllocError;
-use std::mem;
 use wi_cache::Key;
 use wi_functions::Meter;
 use wi_parser::{Content, Formula};
@@ -97,20 +96,17 @@ impl<M: Memo + Drop> Question<M> {
                 &mut self.meter,
             )? {
                 Advance::Unvalued(next) => {
-                    // Into room that is there a frame is moved once.
                     stack.reserve()?;
-                    let above = Frame::new(alloc, next.key, next.formula);
-                    stack.push_reserved(mem::replace(&mut frame, above));
+                    stack.push_reserved(&mut frame, next);
                 }
-                Advance::Done(value) => match stack.pop() {
+                Advance::Done(value) => match stack.pop(&mut frame, &mut self.pool) {
                     None => {
                         let shown = value.copy(alloc)?;
                         let root = frame.retire(&mut self.pool);
                         self.memo.keep(root, value)?;
                         return Ok(shown);
                     }
-                    Some(below) => {
-                        let key = mem::replace(&mut frame, below).retire(&mut self.pool);
+                    Some(key) => {
                         take_in(&mut self.pool, store, &mut frame, &key, &value)?;
                         self.memo.remember(key, value)?;
                     }

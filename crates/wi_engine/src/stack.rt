@@ -1,14 +1,17 @@
 //! The frames that wait for one another.
 
 ghost use Rattle.std.specs.Prelude.{◌≡◌, ◌<◌, ◌++◌, ◌∷◌, [], true, None, IfSome, MatchOption, OnOk, vec_len, vec_capacity};
+ghost use Rattle.wi_engine.specs.Inner.Frames.{IsNewFrame};
 ghost use Rattle.wi_engine.specs.Inner.Stacked.{HasRoomForOne, stacked, waits_for_one};
 ghost use Rattle.wi_engine.specs.Inner.StackLists.{HasLast, HaveRests, HaveRoom, IsWithFrame, count_more, frames_in};
 
 use crate::course::Course;
 use crate::findings::Findings;
-use crate::frame::{Frame, Waiting};
+use crate::frame::{Frame, Unvalued, Waiting};
+use crate::pool::Pool;
 use std::alloc::{AllocError, Global};
 use std::marker::Model;
+use std::mem;
 use wi_cache::Key;
 use wi_parser::Formula;
 use wi_values::Address;
@@ -90,23 +93,26 @@ impl<'a> Stack<'a> {
         make_room(&mut self.entries, &mut self.rests)
     }
 
-    /// Puts a frame on top. Takes no memory.
+    /// Puts what a frame is on top, and lets the frame begin with another formula. Takes no memory.
     #[inline(always)]
-    pub(crate) fn push_reserved(&mut self, frame: Frame<'a>)
+    pub(crate) fn push_reserved(&mut self, frame: &mut Frame<'a>, next: Unvalued<'a>)
         requires { HasRoomForOne self.old }
-        ensures { self.new.frames ≡ self.old.frames ++ stacked frame.entry ∷ [] }
-    {
-        put_on(&mut self.entries, &mut self.rests, frame);
-    }
-
-    /// Takes the frame on top off, if there is one.
-    #[inline(always)]
-    pub(crate) fn pop(&mut self) -> Option<Frame<'a>>
-        ensures { MatchOption result (self.old.frames ≡ [])
-            (λ f. self.old.frames ≡ self.new.frames ++ stacked f ∷ []) }
+        ensures frames { self.new.frames ≡ self.old.frames ++ stacked frame.old ∷ [] }
+        ensures begins { IsNewFrame frame.new next.entry.key next.entry.formula.now }
     {
         let alloc = self.alloc;
-        take_off(alloc, &mut self.entries, &mut self.rests)
+        put_on(alloc, &mut self.entries, &mut self.rests, frame, next);
+    }
+
+    /// Takes what stands on top, if anything does, into a frame that is done, and gives the key that this had. Its arrays are put into
+    /// a pool, or go. The work grows with the count of their values.
+    #[inline(always)]
+    pub(crate) fn pop(&mut self, frame: &mut Frame<'a>, pool: &mut Pool) -> Option<Key>
+        ensures key { MatchOption result (frame.new ≡ frame.old) (λ k. k ≡ frame.old.key) }
+        ensures frames { MatchOption result (self.old.frames ≡ [])
+            (λ _. self.old.frames ≡ self.new.frames ++ stacked frame.new ∷ []) }
+    {
+        take_off(&mut self.entries, &mut self.rests, frame, pool)
     }
 }
 
@@ -122,18 +128,28 @@ fn make_room(entries: &mut Vec<Entry>, rests: &mut Vec<Rest>) -> Result<(), Allo
     Ok(())
 }
 
-/// Puts a frame on top: into the first list alone, where that has all of it.
+/// Puts what a frame is on top, into the first list alone where that has all of it, and lets the frame begin with another formula.
 #[inline(always)]
-fn put_on<'a>(entries: &mut Vec<Entry<'a>>, rests: &mut Vec<Rest>, frame: Frame<'a>)
+fn put_on<'a>(
+    alloc: Global,
+    entries: &mut Vec<Entry<'a>>,
+    rests: &mut Vec<Rest>,
+    frame: &mut Frame<'a>,
+    next: Unvalued<'a>,
+)
     requires room { HaveRoom entries.old rests.old }
     requires rests { HaveRests entries.old.items rests.old.items }
     ensures rests { HaveRests entries.new.items rests.new.items }
     ensures frames { frames_in entries.new.items rests.new.items
-        ≡ frames_in entries.old.items rests.old.items ++ stacked frame.entry ∷ [] }
+        ≡ frames_in entries.old.items rests.old.items ++ stacked frame.old ∷ [] }
+    ensures begins { IsNewFrame frame.new next.entry.key next.entry.formula.now }
 {
-    match only_cell(&frame) {
-        Some(at) => put_one_cell(entries, frame, at),
-        None => put_with_rest(entries, rests, frame),
+    match only_cell(frame) {
+        Some(at) => put_one_cell(entries, frame, at, next),
+        None => {
+            let above = Frame::new(alloc, next.key, next.formula);
+            put_with_rest(entries, rests, mem::replace(frame, above));
+        }
     }
 }
 
@@ -167,17 +183,26 @@ fn is_bare(frame: &Frame) -> bool
     }
 }
 
-/// Puts a frame on top that has nothing but the cell that it waits for.
+/// Puts what a frame is on top, which has nothing but the cell that it waits for. Its lists are empty, and stay for the other formula.
 #[inline(always)]
-fn put_one_cell<'a>(entries: &mut Vec<Entry<'a>>, frame: Frame<'a>, at: Address)
+fn put_one_cell<'a>(
+    entries: &mut Vec<Entry<'a>>,
+    frame: &mut Frame<'a>,
+    at: Address,
+    next: Unvalued<'a>,
+)
     requires room { vec_len entries.old < vec_capacity entries.old }
-    requires alone { stacked frame ≡ waits_for_one frame.key frame.formula.now at }
+    requires alone { stacked frame.old ≡ waits_for_one frame.old.key frame.old.formula.now at }
     ensures rests { count_more entries.new.items ≡ count_more entries.old.items }
-    ensures frames { IsWithFrame entries.old.items entries.new.items frame.entry }
+    ensures frames { IsWithFrame entries.old.items entries.new.items frame.old }
+    ensures begins { IsNewFrame frame.new next.entry.key next.entry.formula.now }
 {
+    let formula = frame.formula;
+    frame.formula = next.formula;
+    frame.waiting = Waiting::Nothing;
     entries.push_reserved(Entry {
-        key: frame.key,
-        formula: frame.formula,
+        key: mem::replace(&mut frame.key, next.key),
+        formula,
         beside: Beside::OneCell(at),
     });
 }
@@ -203,18 +228,20 @@ fn put_with_rest<'a>(entries: &mut Vec<Entry<'a>>, rests: &mut Vec<Rest>, frame:
     });
 }
 
-/// Takes the frame on top off, if there is one, with the last in the second list where it has more.
+/// Takes what stands on top, if anything does, into a frame that is done, and gives the key that this had.
 #[inline(always)]
 fn take_off<'a>(
-    alloc: Global,
     entries: &mut Vec<Entry<'a>>,
     rests: &mut Vec<Rest>,
-) -> Option<Frame<'a>>
+    frame: &mut Frame<'a>,
+    pool: &mut Pool,
+) -> Option<Key>
     requires { HaveRests entries.old.items rests.old.items }
     ensures rests { HaveRests entries.new.items rests.new.items }
+    ensures key { MatchOption result (frame.new ≡ frame.old) (λ k. k ≡ frame.old.key) }
     ensures frames { MatchOption result (frames_in entries.old.items rests.old.items ≡ [])
-        (λ f. frames_in entries.old.items rests.old.items
-        ≡ frames_in entries.new.items rests.new.items ++ stacked f ∷ []) }
+        (λ _. frames_in entries.old.items rests.old.items
+        ≡ frames_in entries.new.items rests.new.items ++ stacked frame.new ∷ []) }
 {
     let Entry {
         key,
@@ -222,23 +249,33 @@ fn take_off<'a>(
         beside,
     } = entries.pop()?;
     match beside {
-        Beside::OneCell(at) => Some(of_one_cell(alloc, key, formula, at)),
-        Beside::More => Some(with_last(key, formula, rests)),
+        Beside::OneCell(at) => Some(take_one_cell(frame, pool, key, formula, at)),
+        Beside::More => {
+            let below = with_last(key, formula, rests);
+            Some(mem::replace(frame, below).retire(pool))
+        }
     }
 }
 
-/// The frame that waits for one cell, with nothing found. Takes no memory.
+/// Lets a frame that is done be the one that waits for a cell, with nothing found, and gives the key that it had. Takes no memory but for
+/// the pool, into which its arrays are put.
 #[inline(always)]
-fn of_one_cell<'a>(alloc: Global, key: Key, formula: &'a Formula, at: Address) -> Frame<'a>
-    ensures { stacked result ≡ waits_for_one key formula.now at }
+fn take_one_cell<'a>(
+    frame: &mut Frame<'a>,
+    pool: &mut Pool,
+    key: Key,
+    formula: &'a Formula,
+    at: Address,
+) -> Key
+    ensures key { result ≡ frame.old.key }
+    ensures frame { stacked frame.new ≡ waits_for_one key formula.now at }
 {
-    Frame {
-        key,
-        formula,
-        found: Findings { lists: None },
-        waiting: Waiting::Cells(at, Vec::new(alloc)),
-        courses: Vec::new(alloc),
-    }
+    let alloc = pool.allocator();
+    mem::replace(&mut frame.found, Findings { lists: None }).give_back(pool);
+    pool.put_courses(mem::replace(&mut frame.courses, Vec::new(alloc)));
+    frame.waiting = Waiting::Cells(at, Vec::new(alloc));
+    frame.formula = formula;
+    mem::replace(&mut frame.key, key)
 }
 
 /// The frame with what stands last in the second list, which is taken away there.

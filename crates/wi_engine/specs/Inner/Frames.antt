@@ -1,5 +1,5 @@
 -- What is so of the frames: cases whose formulas are being valued, each resting on the next.
-use Rattle.std.specs.Prelude.{◌≡◌, ℕ, ◌-◌, ◌<◌, ◌||◌, Bool, true, false, if◌then◌else◌, List, [], ◌∷◌, Option, Some, Contains}
+use Rattle.std.specs.Prelude.{◌≡◌, ℕ, ◌-◌, ◌<◌, ◌||◌, Bool, true, false, if◌then◌else◌, List, [], ◌∷◌, Option, Some, None, Contains}
 use Rattle.wi_values.specs.declared.replacement.Replacement.{Replacement}
 use Rattle.wi_parser.specs.Tree.{Tree}
 use Rattle.wi_parser.specs.declared.content.Content.{Content}
@@ -15,7 +15,7 @@ use Rattle.wi_sheet.specs.Demand.{Case, same_case, reaching, reads_here, of_form
 use Rattle.wi_sheet.specs.Inner.Spending.{RestsOn, IsClosed, Table, cost, plus}
 use Rattle.wi_sheet.specs.Inner.Rank.{reach_rank}
 use Rattle.wi_engine.specs.Inner.MemoState.{MemoState}
-use Rattle.wi_engine.specs.Inner.Findings.{AreAllRight}
+use Rattle.wi_engine.specs.Inner.Findings.{AreAllRight, found_value, found_what_ifs}
 use Rattle.wi_engine.specs.Inner.Attempt.{AsksAt, IsLacking, lacking}
 use Rattle.wi_engine.specs.declared.findings.Findings.{Findings}
 use Rattle.wi_engine.specs.declared.frame.Frame.{Frame}
@@ -77,6 +77,14 @@ Awaits s k f Nothing = Unit {0}
 Awaits s k f (Cells a others) =
     IsLacking s k.1 f (want.TheVariants.Cell a) × (content_reads_here (content_of (put_all s k.1) k.0) a ≡ true) × (has_formula (content_of s a) ≡ true) × AreReadHere s k others.items
 Awaits s k f (WhatIf a pairs) = IsLacking s k.1 f (want.TheVariants.WhatIf a pairs) × AsksAt s k.1 k.0 (want.TheVariants.WhatIf a pairs)
+
+-- a frame of this key and this formula, with no values yet
+pub record IsNewFrame (f : Frame) (k : Key) (t : Tree) : Type 0 where
+  pub key : f.key ≡ k
+  pub formula : f.formula.now ≡ t
+  pub cells : (c : ℕ) → found_value f.found c ≡ None
+  pub what_ifs : found_what_ifs f.found ≡ []
+  pub waiting : f.waiting ≡ Nothing
 
 -- what is so of a frame by itself
 pub record IsFrame (s : Sheet) (m : MemoState) (f : Frame) : Type 0 where

@@ -23,4 +23,7 @@ pub returns-in-None-clause-rests : goal.returns-in-None-clause-rests
 returns-in-None-clause-rests c = c.put_with_rest.ensures.rests
 
 pub returns-in-None-clause-frames : goal.returns-in-None-clause-frames
-returns-in-None-clause-frames c = c.put_with_rest.ensures.frames
+returns-in-None-clause-frames c = rw c.replace.ensures.value at c.put_with_rest.ensures.frames
+
+pub returns-in-None-clause-begins : goal.returns-in-None-clause-begins
+returns-in-None-clause-begins c = rw c.replace.ensures.after c.new-above.ensures

@@ -7,7 +7,7 @@ take_off-requires c = c.self.invariant
 pub invariant_of-self : goal.invariant_of-self
 invariant_of-self c = c.take_off.ensures.rests
 
-pub returns : goal.returns
-returns c =
+pub returns-clause-frames : goal.returns-clause-frames
+returns-clause-frames c =
     let left = frames_in c.take_off.new.entries.items c.take_off.new.rests.items in
-    subst (λ (s : StackState). MatchOption c.take_off.result (s.frames ≡ []) (λ f. s.frames ≡ left ++ stacked f ∷ [])) c.self.view_is c.take_off.ensures.frames
+    subst (λ (s : StackState). MatchOption c.take_off.result (s.frames ≡ []) (λ _. s.frames ≡ left ++ stacked c.take_off.new.frame ∷ [])) c.self.view_is c.take_off.ensures.frames

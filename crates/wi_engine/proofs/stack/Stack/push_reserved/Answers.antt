@@ -14,5 +14,5 @@ put_on-requires-clause-rests c = c.self.invariant
 pub invariant_of-self : goal.invariant_of-self
 invariant_of-self c = c.put_on.ensures.rests
 
-pub returns : goal.returns
-returns c = c.put_on.ensures.frames ∙ ap (λ (s : StackState). s.frames ++ stacked c.args.frame ∷ []) c.self.view_is
+pub returns-clause-frames : goal.returns-clause-frames
+returns-clause-frames c = c.put_on.ensures.frames ∙ ap (λ (s : StackState). s.frames ++ stacked c.args.frame.now ∷ []) c.self.view_is
