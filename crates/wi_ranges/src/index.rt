@@ -55,9 +55,9 @@ impl RangeIndex {
         }
     }
 
-    /// Adds a pair. On an error all is as before. For a pair of one cell that few read the work is expected constant over many
-    /// calls. For others it grows with the pair's blocks, twice those where there is an equal pair, and the logarithm of the
-    /// count of pieces.
+    /// Adds a pair. On an error all is as before. A pair of one cell that few read takes some searches among the tiles of 16 rows,
+    /// as `CellMap::put_new` does; one that opens a tile is linear in these. For others the work grows with the pair's blocks, twice
+    /// those where there is an equal pair, and the logarithm of the count of pieces.
     pub fn add(&mut self, area: Rect, reader: Address) -> Result<(), AllocError>
         ensures ok { OnOk result (HasOneMore (pair_for area reader) self.old self.new) }
         ensures err { OnErr result (self.new ≡ self.old) }
@@ -71,8 +71,9 @@ impl RangeIndex {
         Ok(())
     }
 
-    /// Takes away one such pair if there is one. Takes no memory. For a pair of one cell that few read the work is expected
-    /// constant. For others it grows with the pair's blocks and the logarithm of the count of pieces.
+    /// Takes away one such pair if there is one. Takes no memory. A pair of one cell that few read takes some searches among the
+    /// tiles of 16 rows; the last reader of a cell goes at the cost of `CellMap::remove`. For others the work grows with the pair's
+    /// blocks and the logarithm of the count of pieces.
     pub fn remove(&mut self, area: Rect, reader: Address)
         ensures { HasOneLess (pair_for area reader) self.old self.new }
     {
@@ -84,7 +85,7 @@ impl RangeIndex {
     }
 
     /// The dependents of the cell, which read a rectangle with it, in row-major order, each once. Where each pair is of one cell
-    /// that few read, the work grows with the readers alone. Else it grows with the pairs, equal ones too, at the blocks that
+    /// that few read, the work grows with the readers, beside one `CellMap::get`. Else it grows with the pairs, equal ones too, at the blocks that
     /// hold the cell's row, and with the logarithms of their count and of that of all pieces. Such blocks are one for each level
     /// up to the highest at which a piece stands, at most 21.
     pub fn readers_of(&self, at: Address) -> Result<Vec<Address>, AllocError>

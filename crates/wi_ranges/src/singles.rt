@@ -1,10 +1,10 @@
 //! Pairs of one cell, by their cells.
 
-ghost use Rattle.std.specs.Prelude.{◌≡◌, ◌≤◌, ◌^◌, ◌||◌, ◌∷◌, ◌↔◌, ℕ, [], false, Some, IsTrue, IfOk, OnOk, OnErr, nat_eq, length};
+ghost use Rattle.std.specs.Prelude.{◌≡◌, ◌≤◌, ◌^◌, ◌||◌, ◌∷◌, ◌↔◌, ℕ, [], false, Some, IsTrue, IfOk, OnOk, OnErr, length};
 ghost use Rattle.std.specs.List.{list_any};
 ghost use Rattle.std.specs.Ordering.{nat_cmp};
 ghost use Rattle.std.specs.BTreeSet.{contains};
-ghost use Rattle.std.specs.HashMap.{get, IsUnique};
+ghost use Rattle.wi_tiles.specs.Entries.{get};
 ghost use Rattle.wi_ranges.specs.Blocks.{blocks_of};
 ghost use Rattle.wi_ranges.specs.Bag.{is_same};
 ghost use Rattle.wi_ranges.specs.Inner.Index.{pair_reads};
@@ -14,15 +14,15 @@ use crate::few::Few;
 use crate::pair::RangePair;
 use crate::rising_set::RisingSet;
 use std::alloc::{AllocError, Global};
-use std::collections::HashMap;
 use std::marker::Model;
+use wi_tiles::CellMap;
 use wi_values::Address;
 
 /// How many pairs there may be, so that their count and that of all pieces fit 64 bits together.
 const MOST_PAIRS: u64 = 1 << 62;
 
 /// The readers of cells, by the cell that they read. There is one or more of each.
-type Readers = HashMap<Address, Few>;
+type Readers = CellMap<Few>;
 
 /// Pairs of one cell, any number of each up to a limit.
 #[derive(Drop)]
@@ -50,7 +50,7 @@ impl Singles {
         ensures { result ≡ [] }
     {
         Singles {
-            readers: HashMap::new(alloc),
+            readers: CellMap::new(alloc),
             count: 0,
             alloc,
         }
@@ -92,7 +92,8 @@ impl Singles {
         ensures { OnOk result ((r : ℕ) → contains nat_cmp set.new r
             ≡ (contains nat_cmp set.old r || list_any (pair_reads at r) self.now)) }
     {
-        match self.readers.get(&at) {
+        let _ = self.readers.len();
+        match self.readers.get(at) {
             Some(few) => few.add_to(set),
             None => Ok(()),
         }
@@ -102,7 +103,8 @@ impl Singles {
     pub(crate) fn has_readers(&self, at: Address) -> bool
         ensures { IsTrue result ↔ HasPairOf at self.now }
     {
-        match self.readers.get(&at) {
+        let _ = self.readers.len();
+        match self.readers.get(at) {
             Some(few) => {
                 few.has_one();
                 true
@@ -123,54 +125,62 @@ impl Singles {
 /// Adds a pair if it is one of one cell and there is room for it by the cell, and answers whether it is. If memory runs out,
 /// all is as before.
 fn add_reader(alloc: Global, readers: &mut Readers, pair: &RangePair) -> Result<bool, AllocError>
-    requires { IsUnique nat_eq readers.old }
     ensures more { IfOk result (λ added. IsTrue added
         → HasPairMore pair.now (pairs_of readers.old.entries) (pairs_of readers.new.entries)) }
     ensures block { IfOk result (λ added. IsTrue added → length (blocks_of pair.now) ≡ 1) }
     ensures same { IfOk result
         (λ added. added ≡ false → pairs_of readers.new.entries ≡ pairs_of readers.old.entries) }
     ensures err { OnErr result (pairs_of readers.new.entries ≡ pairs_of readers.old.entries) }
-    ensures unique { IsUnique nat_eq readers.new }
 {
     if !pair.is_single() {
         return Ok(false);
     }
-    if let Some(few) = readers.get_mut(&pair.first) {
-        return few.add(alloc, pair.reader);
+    if readers.put_new(pair.first, Few::one(pair.reader))? {
+        return Ok(true);
     }
-    readers.insert(pair.first, Few::one(pair.reader))?;
-    Ok(true)
+    match readers.replace(pair.first, Few::one(pair.reader)) {
+        Some(mut few) => {
+            let added = few.add(alloc, pair.reader);
+            let _ = readers.replace(pair.first, few);
+            added
+        }
+        // This doesn't come, since the cell has readers.
+        None => Ok(false),
+    }
 }
 
 /// Takes one such pair away if there is one, and answers whether there was.
 fn remove_reader(readers: &mut Readers, pair: &RangePair) -> bool
-    requires { IsUnique nat_eq readers.old }
     ensures less { IsTrue result
         → HasPairMore pair.now (pairs_of readers.new.entries) (pairs_of readers.old.entries) }
     ensures block { IsTrue result → length (blocks_of pair.now) ≡ 1 }
     ensures none { result ≡ false
         → list_any (is_same pair.now) (pairs_of readers.old.entries) ≡ false }
     ensures same { result ≡ false → pairs_of readers.new.entries ≡ pairs_of readers.old.entries }
-    ensures unique { IsUnique nat_eq readers.new }
 {
     if !pair.is_single() {
         return false;
     }
+    let _ = readers.len();
     if is_only(readers, pair.first, pair.reader) {
-        let _ = readers.remove(&pair.first);
+        let _ = readers.remove(pair.first);
         return true;
     }
-    match readers.get_mut(&pair.first) {
-        Some(few) => few.remove(pair.reader),
+    match readers.replace(pair.first, Few::one(pair.reader)) {
+        Some(mut few) => {
+            let removed = few.remove(pair.reader);
+            let _ = readers.replace(pair.first, few);
+            removed
+        }
         None => false,
     }
 }
 
 /// Whether a cell has this reader alone.
 fn is_only(readers: &Readers, at: Address, reader: Address) -> bool
-    ensures { IsTrue result ↔ (get nat_eq readers.now at ≡ Some (reader ∷ [])) }
+    ensures { IsTrue result ↔ (get nat_cmp readers.now at ≡ Some (reader ∷ [])) }
 {
-    match readers.get(&at) {
+    match readers.get(at) {
         Some(few) => few.is_only(reader),
         None => false,
     }

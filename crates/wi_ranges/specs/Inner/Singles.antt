@@ -1,7 +1,6 @@
 -- The pairs of one cell, by their cells.
-use Rattle.std.specs.Prelude.{◌≡◌, ℕ, ◌+◌, ◌≤◌, ◌^◌, true, List, [], ◌∷◌, map, length, nat_eq}
-use Rattle.std.specs.List.{flat_map, list_any, sum_by, IsDistinct}
-use Rattle.std.specs.Map.{keys_of}
+use Rattle.std.specs.Prelude.{◌≡◌, ℕ, ◌+◌, ◌≤◌, ◌^◌, true, List, [], ◌∷◌, map, length}
+use Rattle.std.specs.List.{flat_map, list_any, sum_by}
 use Rattle.wi_ranges.specs.Blocks.{blocks_of}
 use Rattle.wi_ranges.specs.Bag.{Bag, raise}
 use Rattle.wi_ranges.specs.Inner.Index.{pair_reads}
@@ -35,6 +34,6 @@ abbrev pub with_pairs : List RangePair → Bag → Bag
 with_pairs [] bag = bag
 with_pairs (p ∷ ps) bag = raise p (with_pairs ps bag)
 
--- no cell stands twice, and the count is that of the blocks of all pairs, and fits
+-- the count is that of the blocks of all pairs, and fits
 abbrev pub AreByCell : ℕ → List (ℕ × List ℕ) → Type 0
-AreByCell count es = IsDistinct nat_eq (keys_of es) × (count ≡ blocks_in_all (pairs_of es)) × (count ≤ 2 ^ 62)
+AreByCell count es = (count ≡ blocks_in_all (pairs_of es)) × (count ≤ 2 ^ 62)
