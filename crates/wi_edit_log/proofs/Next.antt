@@ -1,5 +1,5 @@
 -- The cells of a rectangle one after another, in row-major order.
-use Rattle.wi_edit_log.proofs.Words.{◌≡◌, ◌∙◌, ℕ, ◌==◌, ◌≤◌, ◌<◌, ◌⊎◌, inl, inr, Bool, true, false, ◌||◌, ◌&&◌, Option, Some, None, IfSome, refl, ap, sym, subst, arith, nat_lt, then_some, and_from, and_parts, both_ways, cases_eq, cases_lt, eq-eqb, eqb-true, le-ltb, lt-ltb, or_cases, or_left, or_right, one_truth, Area, row_of, column_of, is_within, fewer_places, places_left, within_between, within_from, within_parts, IsAtOrBefore, IsFirst, is_after}
+use Rattle.wi_edit_log.proofs.Words.{◌≡◌, ◌∙◌, ℕ, ◌==◌, ◌≤◌, ◌<◌, ◌⊎◌, inl, inr, Bool, true, false, ◌||◌, ◌&&◌, Option, Some, None, IfSome, refl, ap, sym, subst, arith, nat_lt, then_some, and_from, and_parts, both_ways, cases_eq, cases_lt, eq-eqb, eqb-true, le-ltb, lt-ltb, or_cases, or_left, or_right, one_truth, Area, is_within, fewer_places, places_left, within_between, within_from, within_parts, IsAtOrBefore, IsFirst, is_after}
 use Rattle.std.proofs.lemmas.Bool.{ltb-true}
 
 -- ---- the first

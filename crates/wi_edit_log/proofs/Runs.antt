@@ -1,8 +1,8 @@
 -- Runs of edits of one session, and what a step of the search from the last edit to earlier ones does.
-use Rattle.wi_edit_log.proofs.Words.{◌≡◌, ◌∙◌, ℕ, zero, suc, ◌+◌, ◌-◌, ◌==◌, ◌≤◌, ◌<◌, ◌⊎◌, inl, inr, Bool, true, false, not, ◌||◌, ◌&&◌, List, [], ◌∷◌, ◌++◌, length, take, drop, get_or, max, Option, None, refl, ap, sym, subst, arith, and-false, drop_more, drop_all, get_or_append_left, get_or_default, get_or_push, get_or-take, length-take, length_push, cases_eq, cases_lt, eq-eqb, ne_eqb, Area, is_within_one, IsFirst, in_each, sooner, AreInRuns, IsInRun, is_named_by_others, is_wanted_of_others, are_narrow, Edit}
+use Rattle.wi_edit_log.proofs.Words.{◌≡◌, ◌∙◌, ℕ, zero, suc, ◌+◌, ◌-◌, ◌==◌, ◌≤◌, ◌<◌, ◌⊎◌, inl, inr, Bool, true, false, not, ◌||◌, ◌&&◌, List, [], ◌∷◌, ◌++◌, length, take, drop, get_or, max, Option, None, refl, ap, sym, subst, arith, and-false, drop_more, drop_all, get_or_append_left, get_or_default, get_or_push, get_or-take, length-take, length_push, cases_eq, cases_lt, eq-eqb, ne_eqb, Area, is_within_one, IsFirst, in_each, sooner, AreInRuns, IsInRun, is_named_by_others, is_wanted_of_others, Edit}
 use Rattle.wi_edit_log.proofs.First.{no_first, same_first, sooner_first}
 
-pub not_last : (i n : ℕ) → i < n + 1 → (i ≡ n → Prim.⊥) → i < n
+not_last : (i n : ℕ) → i < n + 1 → (i ≡ n → Prim.⊥) → i < n
 not_last i n l f = omega (arith, l, f)
 
 -- ---- a log with one edit more, or with fewer
@@ -10,10 +10,9 @@ not_last i n l f = omega (arith, l, f)
 module _ (es ys : List Edit) (i : ℕ) (e : Edit) (r : IsInRun es i e) (same : (k : ℕ) (d : Edit) → k < i → get_or ys k d ≡ get_or es k d) where
   in_run_of : IsInRun ys i e
   in_run_of = record {
-    begins = r.begins;
+    itself = r.itself;
+    within = r.within;
     one_session = λ k d l m. ap (λ (y : Edit). y.session) (same k d m) ∙ r.one_session k d l m;
-    narrow = r.narrow;
-    others_narrow = λ k d l m. ap (λ (y : Edit). are_narrow y.named) (same k d m) ∙ r.others_narrow k d l m;
   }
 
 pub runs_of_more : (es : List Edit) (x : Edit) → AreInRuns es → IsInRun es (length es) x → AreInRuns (es ++ x ∷ [])
@@ -59,28 +58,25 @@ stepped_over es d s a (suc n) j i e l h =
     ∙ stepped_over es d s a n (j + 1) i (omega (arith, e)) l (λ k c m o. h k c (omega (arith, m)) o)
 
 -- the run of the edit before the place i
-pub run_before : (es : List Edit) (x : Edit) (s i : ℕ) → AreInRuns es → i < length es → x ≡ get_or es i x → x.session ≡ s → (x.run ≤ i) × ((k : ℕ) (d : Edit) → x.run ≤ k → k < i + 1 → (get_or es k d).session ≡ s)
+pub run_before : (es : List Edit) (x : Edit) (s i : ℕ) → AreInRuns es → i < length es → x ≡ get_or es i x → x.session ≡ s → (0 < x.run) × ((k : ℕ) (d : Edit) → i + 1 ≤ k + x.run → k < i + 1 → (get_or es k d).session ≡ s)
 run_before es x s i runs l at own =
     let r : IsInRun es i x = subst (IsInRun es i) (sym at) (runs i x l) in
-    (r.begins, λ k d m o. in_run r k d m o (cases_eq k i))
+    (r.itself, λ k d m o. in_run r k d m o (cases_eq k i))
   where
-    in_run : IsInRun es i x → (k : ℕ) (d : Edit) → x.run ≤ k → k < i + 1 → (k ≡ i) ⊎ (k ≡ i → Prim.⊥) → (get_or es k d).session ≡ s
+    in_run : IsInRun es i x → (k : ℕ) (d : Edit) → i + 1 ≤ k + x.run → k < i + 1 → (k ≡ i) ⊎ (k ≡ i → Prim.⊥) → (get_or es k d).session ≡ s
     in_run r k d m o (inl e) =
         ap (λ n. (get_or es n d).session) e ∙ ap (λ (y : Edit). y.session) (get_or_default es i d x l ∙ sym at) ∙ own
     in_run r k d m o (inr f) = r.one_session k d m (not_last k i o f) ∙ own
-      where
-        not_last : (k i : ℕ) → k < i + 1 → (k ≡ i → Prim.⊥) → k < i
-        not_last k i o f = omega (arith, o, f)
 
 pub own_stepped_over : (es : List Edit) (x : Edit) (s from place next : ℕ) (wanted : List Area) (o : Option ℕ) → AreInRuns es → from < place → place ≤ length es
-    → x ≡ get_or es (place - 1) x → x.session ≡ s → next ≡ max x.run from
+    → x ≡ get_or es (place - 1) x → x.session ≡ s → next ≡ max (place - x.run) from
     → IsFirst (is_wanted_of_others (drop place es) s wanted) o → (next < place) × IsFirst (is_wanted_of_others (drop next es) s wanted) o
 own_stepped_over es x s from place next wanted o runs l m at own e h =
     let r = run_before es x s (place - 1) runs (omega (arith, l, m)) at own in
     let low : next < place = omega (arith, e, r.0, l) in (
       low,
       same_first (is_wanted_of_others (drop place es) s wanted) (is_wanted_of_others (drop next es) s wanted) o
-          (λ a. ap (λ b. is_within_one wanted a && b) (sym (stepped_over es x s a (place - next) next place (omega (arith, low)) m (λ k d p q. r.1 k d (omega (arith, e, p)) (omega (arith, q, l))))))
+          (λ a. ap (λ b. is_within_one wanted a && b) (sym (stepped_over es x s a (place - next) next place (omega (arith, low)) m (λ k d p q. r.1 k d (omega (arith, e, p, l)) (omega (arith, q, l))))))
           h,
     )
 

@@ -1,6 +1,6 @@
 -- The words of the library, of the crates below and of this crate's definitions that its proofs are written in.
 pub use Rattle.std.proofs.Common.{Bool, IfSome, List, None, Option, Some, [], ap, arith, drop, false, filter, get_or, inl, inr, length, ltb-true, map, max, min, not, refl, rules, subst, suc, sym, take, true, zero, ℕ, ◌&&◌, ◌++◌, ◌+◌, ◌-◌, ◌<◌, ◌==◌, ◌||◌, ◌∙◌, ◌∷◌, ◌≡◌, ◌≤◌, ◌⊎◌}
-pub use Rattle.std.proofs.Math.Bool.{and-false, and-or_distrib_left, and-or_distrib_right, and-true, and_comm, or-true}
+pub use Rattle.std.proofs.Math.Bool.{and-false, and-or_distrib_left, and-or_distrib_right, and-true, and_comm}
 pub use Rattle.std.proofs.Math.Nat.{le_trans}
 pub use Rattle.std.proofs.lemmas.Bool.{and_from, and_left, and_parts, both_ways, cases_eq, cases_lt, eq-eqb, eqb-true, le-leb, le-ltb, leb-true, lt-ltb, ne_eqb, or_cases, or_left, or_right}
 pub use Rattle.std.proofs.lemmas.Grind.{common_steps}
@@ -14,7 +14,7 @@ pub use Rattle.std.specs.List.{flat_map, fold, list_any, range_with_len, reduce}
 pub use Rattle.std.specs.List.Sorted.{IsNonDecreasingBy}
 pub use Rattle.std.specs.Prelude.{if◌then◌else◌, nat_le, nat_lt}
 pub use Rattle.wi_edit_log.specs.EditLog.{Entry, first_stale, is_stale}
-pub use Rattle.wi_edit_log.specs.Inner.Edits.{AreInRuns, IsInRun, entries_in, entry_in, is_named_by_others, is_wanted_of_others}
+pub use Rattle.wi_edit_log.specs.Inner.Edits.{AreCounted, AreInRuns, IsCount, IsInRun, entries_in, entry_in, is_named_by_others, is_wanted_of_others}
 pub use Rattle.wi_edit_log.specs.Inner.First.{IsAtOrBefore, IsFirst, in_both, in_each, in_one, is_after}
 pub use Rattle.wi_edit_log.specs.Inner.Narrow.{are_narrow}
 pub use Rattle.wi_edit_log.specs.Inner.Noted.{AreNoted, IsKept, NotesMore, before_of, is_named_narrowly, is_named_widely, is_told, is_wanted_narrowly, is_wanted_told, is_wanted_widely, last_after, last_of, names_for, names_narrowly, names_widely}

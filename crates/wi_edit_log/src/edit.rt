@@ -1,7 +1,7 @@
 //! One edit of the log.
 
-ghost use Rattle.std.specs.Prelude.{◌≡◌, ◌≤◌, ◌<◌, ◌+◌, ℕ, drop, length, nat_lt, slice_index_or, true};
-ghost use Rattle.wi_edit_log.specs.Inner.Edits.{AreInRuns, IsInRun, entry_in, is_wanted_of_others};
+ghost use Rattle.std.specs.Prelude.{◌≡◌, ◌≤◌, ◌<◌, ◌+◌, ℕ, drop, length, slice_index_or};
+ghost use Rattle.wi_edit_log.specs.Inner.Edits.{AreCounted, AreInRuns, IsInRun, entry_in, is_wanted_of_others};
 ghost use Rattle.wi_edit_log.specs.Inner.First.{IsFirst};
 ghost use Rattle.wi_edit_log.specs.Inner.Narrow.{are_narrow};
 ghost use Rattle.wi_edit_log.specs.Inner.Noted.{is_wanted_widely};
@@ -11,14 +11,13 @@ use crate::named::{Named, are_narrow};
 use crate::rising::are_rising;
 use wi_values::{Address, Rect, sooner};
 
-/// An edit: its session, what it named, and the place in the log where its run begins, from which on all edits up to it
-/// are that session's. Of the last edits up to it so many, or more, named narrow rectangles alone.
+/// An edit: its session, what it named, and its run: how many edits in a row, up to this one and with it, are its session's, as
+/// far as 32 bits count.
 #[derive(Drop)]
 pub(crate) struct Edit {
     named: Named,
-    run: usize,
     session: u32,
-    narrow: u32,
+    run: u32,
 }
 
 impl Edit {
@@ -28,13 +27,11 @@ impl Edit {
         ensures entry { entry_in result ≡ record { session = session; cells = named } }
         ensures run { IsInRun edits.now (length edits.now) result }
     {
-        let run = run_after(edits, session);
-        let narrow = narrow_after(edits, named.areas());
+        let run = own_before(edits, session).saturating_add(1);
         Edit {
             named,
-            run,
             session,
-            narrow,
+            run,
         }
     }
 
@@ -60,34 +57,27 @@ impl Edit {
     }
 }
 
-/// Where the run of an edit of the session after those begins.
+/// How many of the last edits, one after another, are the session's, as far as 32 bits count.
+fn own_before(edits: &[Edit], session: u32) -> u32
+    requires { AreInRuns edits.now }
+    ensures within { result ≤ length edits.now }
+    ensures one_session { (k : ℕ) (d : Edit) → length edits.now ≤ k + result
+        → k < length edits.now → (slice_index_or edits.now k d).session ≡ session }
+{
+    match edits.last() {
+        Some(last) if last.session == session => last.run,
+        _ => 0,
+    }
+}
+
+/// Where the run of an edit of the session after those begins, or later where it is longer than 32 bits count.
 pub(crate) fn run_after(edits: &[Edit], session: u32) -> usize
     requires { AreInRuns edits.now }
     ensures within { result ≤ length edits.now }
     ensures one_session { (k : ℕ) (d : Edit) → result ≤ k
         → k < length edits.now → (slice_index_or edits.now k d).session ≡ session }
 {
-    match edits.last() {
-        Some(last) if last.session == session => last.run,
-        _ => edits.len(),
-    }
-}
-
-/// Of the last edits up to one that names these cells after those, how many named narrow rectangles alone, as far as 32 bits
-/// count.
-fn narrow_after(edits: &[Edit], cells: &[Rect]) -> u32
-    requires { AreInRuns edits.now }
-    ensures last { are_narrow cells.now ≡ nat_lt 0 result }
-    ensures others { (k : ℕ) (d : Edit) → length edits.now + 1 ≤ k + result
-        → k < length edits.now → are_narrow (slice_index_or edits.now k d).named ≡ true }
-{
-    if !are_narrow(cells) {
-        return 0;
-    }
-    match edits.last() {
-        Some(last) => last.narrow.saturating_add(1),
-        None => 1,
-    }
+    edits.len() - own_before(edits, session) as usize
 }
 
 /// The first of the wanted cells that an edit of another session, from a place on, names. It goes from the last edit to
@@ -108,7 +98,7 @@ pub(crate) fn first_of_others(
     while from < place {
         let edit = &edits[place - 1];
         if edit.session == session {
-            place = edit.run.max(from);
+            place = (place - edit.run as usize).max(from);
         } else {
             place -= 1;
             first = sooner(first, edit.named.first_shared(wanted, they_rise));
@@ -117,14 +107,17 @@ pub(crate) fn first_of_others(
     first
 }
 
-/// The same of the edits that name a wider rectangle. Each row of the others is one step too.
+/// The same of the edits that name a wider rectangle. The counts tell for each edit how many in a row, up to it and with it, named
+/// narrow rectangles alone; such a row is one step too.
 pub(crate) fn first_of_wide(
     edits: &[Edit],
+    counts: &[u32],
     session: u32,
     from: usize,
     wanted: &[Rect],
 ) -> Option<Address>
     requires runs { AreInRuns edits.now }
+    requires counts { AreCounted edits.now counts.now }
     requires from { from ≤ length edits.now }
     ensures { IsFirst (is_wanted_widely (drop from edits.now) session wanted.now) result }
 {
@@ -133,10 +126,11 @@ pub(crate) fn first_of_wide(
     let mut place = edits.len();
     while from < place {
         let edit = &edits[place - 1];
-        if edit.narrow > 0 {
-            place = place.saturating_sub(edit.narrow as usize).max(from);
+        let narrow = counts[place - 1];
+        if narrow > 0 {
+            place = place.saturating_sub(narrow as usize).max(from);
         } else if edit.session == session {
-            place = edit.run.max(from);
+            place = (place - edit.run as usize).max(from);
         } else {
             place -= 1;
             first = sooner(first, edit.named.first_shared(wanted, wanted_rise));

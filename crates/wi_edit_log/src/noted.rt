@@ -1,11 +1,10 @@
 //! Who edited a cell: one look tells whether others did.
 
-ghost use Rattle.std.specs.Prelude.{◌≡◌, ◌==◌, ◌&&◌, ◌<◌, ◌≤◌, ◌+◌, ℕ, List, [], OnOk, Some, drop, if◌then◌else◌, length, take};
+ghost use Rattle.std.specs.Prelude.{◌≡◌, ◌==◌, ◌<◌, ◌≤◌, ◌+◌, ◌++◌, ◌∷◌, ℕ, List, [], OnOk, Some, drop, if◌then◌else◌, length, take};
 ghost use Rattle.wi_values.specs.Address.{is_within, is_within_one};
-ghost use Rattle.wi_edit_log.specs.Inner.Edits.{AreInRuns, is_wanted_of_others};
+ghost use Rattle.wi_edit_log.specs.Inner.Edits.{AreCounted, AreInRuns, IsCount, is_wanted_of_others};
 ghost use Rattle.wi_edit_log.specs.Inner.First.{IsFirst};
-ghost use Rattle.wi_edit_log.specs.Inner.Narrow.{are_narrow};
-ghost use Rattle.wi_edit_log.specs.Inner.Noted.{AreNoted, NotesMore, after_others, is_told_in, is_wanted_told, last_after, last_of, tells};
+ghost use Rattle.wi_edit_log.specs.Inner.Noted.{AreNoted, NotesEdit, NotesMore, after_others, is_told_in, is_wanted_told, last_after, last_of, tells};
 ghost use Rattle.wi_edit_log.specs.declared.edit.Edit.{Edit};
 
 use crate::cells::{cell_after, first_cell};
@@ -25,41 +24,42 @@ pub(crate) struct Last {
 
 type Notes = HashMap<Address, Last>;
 
-/// Of the first `known` edits of a log, those that named narrow rectangles alone: for each cell that they named, the last that
-/// did.
+/// What is noted of the first edits of a log, as many as `narrow` has entries. `notes`: for each cell that an edit of narrow
+/// rectangles alone named, the last one that did. `narrow`: for each edit, how many in a row, up to it and with it, named narrow
+/// rectangles alone.
 #[derive(Drop)]
 pub(crate) struct Noted {
     notes: Notes,
-    known: u32,
+    narrow: Vec<u32>,
 }
 
 impl Noted {
     /// Nothing noted. Takes no memory.
     pub(crate) fn new(alloc: Global) -> Noted
         ensures notes { result.notes.entries ≡ [] }
-        ensures known { result.known ≡ 0 }
+        ensures narrow { result.narrow.items ≡ [] }
     {
         Noted {
             notes: HashMap::new(alloc),
-            known: 0,
+            narrow: Vec::new(alloc),
         }
     }
 
     /// Forgets all.
     fn forget(&mut self)
         ensures notes { self.new.notes.entries ≡ [] }
-        ensures known { self.new.known ≡ 0 }
+        ensures narrow { self.new.narrow.items ≡ [] }
     {
         self.notes.clear();
-        self.known = 0;
+        self.narrow.clear();
     }
 
     /// Forgets all if more edits are noted than are left.
     pub(crate) fn forget_beyond(&mut self, left: usize)
-        ensures { (es : List Edit) → AreNoted es self.old.known self.old.notes.entries
-            → AreNoted (take left es) self.new.known self.new.notes.entries }
+        ensures { (es : List Edit) → AreNoted es self.old.narrow.items self.old.notes.entries
+            → AreNoted (take left es) self.new.narrow.items self.new.notes.entries }
     {
-        if left < self.known as usize {
+        if left < self.narrow.len() {
             self.forget();
         }
     }
@@ -67,30 +67,41 @@ impl Noted {
     /// Notes edits until all that are left are the session's own. If memory runs out, nothing is noted any more.
     pub(crate) fn catch_up(&mut self, edits: &[Edit], session: u32) -> Result<(), AllocError>
         requires runs { AreInRuns edits.now }
-        requires noted { AreNoted edits.now self.old.known self.old.notes.entries }
-        ensures { AreNoted edits.now self.new.known self.new.notes.entries }
+        requires noted { AreNoted edits.now self.old.narrow.items self.old.notes.entries }
+        ensures { AreNoted edits.now self.new.narrow.items self.new.notes.entries }
     {
-        let end = run_after(edits, session).min(u32::MAX as usize) as u32;
-        for known in self.known..end {
-            self.note_next(edits, known + 1)?;
+        let end = run_after(edits, session).min(u32::MAX as usize);
+        for place in self.narrow.len()..end {
+            self.note_next(edits, place)?;
         }
         Ok(())
     }
 
-    /// Notes one edit more, so that this count of edits is noted. If memory runs out, nothing is noted any more.
-    fn note_next(&mut self, edits: &[Edit], count: u32) -> Result<(), AllocError>
-        requires within { self.old.known < length edits.now }
-        requires next { count ≡ self.old.known + 1 }
-        requires noted { AreNoted edits.now self.old.known self.old.notes.entries }
-        ensures noted { AreNoted edits.now self.new.known self.new.notes.entries }
-        ensures known { OnOk result (self.new.known ≡ self.old.known + 1) }
+    /// Notes the edit at this place, the first that isn't noted. If memory runs out, nothing is noted any more.
+    fn note_next(&mut self, edits: &[Edit], place: usize) -> Result<(), AllocError>
+        requires within { place < length edits.now }
+        requires counts { place < 4294967295 }
+        requires next { place ≡ length self.old.narrow.items }
+        requires noted { AreNoted edits.now self.old.narrow.items self.old.notes.entries }
+        ensures noted { AreNoted edits.now self.new.narrow.items self.new.notes.entries }
+        ensures next { OnOk result (length self.new.narrow.items ≡ place + 1) }
     {
-        let edit = &edits[self.known as usize];
-        if let Err(refused) = note_edit(&mut self.notes, edit, count) {
+        if let Err(refused) = self.note_counted(&edits[place], place as u32 + 1) {
             self.forget();
             return Err(refused);
         }
-        self.known = count;
+        Ok(())
+    }
+
+    /// Notes an edit after which the log had so many, and counts it. If memory runs out, a part of it may be noted.
+    fn note_counted(&mut self, edit: &Edit, count: u32) -> Result<(), AllocError>
+        ensures notes { OnOk result
+            (NotesEdit edit.now count self.old.notes.entries self.new.notes.entries) }
+        ensures narrow { OnOk result ((es : List Edit) → AreCounted es self.old.narrow.items
+            → AreCounted (es ++ edit.now ∷ []) self.new.narrow.items) }
+    {
+        note_edit(&mut self.notes, edit, count)?;
+        self.narrow.push(narrow_after(&self.narrow, edit))?;
         Ok(())
     }
 
@@ -141,12 +152,13 @@ impl Noted {
     ) -> Option<Address>
         requires runs { AreInRuns edits.now }
         requires from { from ≤ length edits.now }
-        requires noted { AreNoted edits.now self.now.known self.now.notes.entries }
+        requires noted { AreNoted edits.now self.now.narrow.items self.now.notes.entries }
         ensures { IsFirst (is_wanted_of_others (drop from edits.now) session wanted.now) result }
     {
+        let noted = &edits[..self.narrow.len()];
         let told = self.first_told(wanted, session, from);
-        let wide = first_of_wide(edits, session, from, wanted);
-        let left = first_of_others(edits, session, from.max(self.known as usize), wanted);
+        let wide = first_of_wide(noted, &self.narrow, session, from.min(noted.len()), wanted);
+        let left = first_of_others(edits, session, from.max(noted.len()), wanted);
         sooner(sooner(told, wide), left)
     }
 }
@@ -214,12 +226,25 @@ fn note_areas(notes: &mut Notes, areas: &[Rect], session: u32, count: u32) -> Re
 
 /// The same of each cell that an edit of narrow rectangles named; of another it notes nothing.
 fn note_edit(notes: &mut Notes, edit: &Edit, count: u32) -> Result<(), AllocError>
-    ensures { OnOk result (NotesMore
-        (λ a. are_narrow edit.now.named && is_within_one edit.now.named a)
-        edit.now.session count notes.old.entries notes.new.entries) }
+    ensures { OnOk result (NotesEdit edit.now count notes.old.entries notes.new.entries) }
 {
     if edit.is_narrow() {
         note_areas(notes, edit.areas(), edit.session(), count)?;
     }
     Ok(())
+}
+
+/// The count of an edit that comes after those that are counted: how many in a row, up to it and with it, named narrow rectangles
+/// alone.
+fn narrow_after(counts: &[u32], edit: &Edit) -> u32
+    ensures { (es : List Edit) → AreCounted es counts.now
+        → IsCount (es ++ edit.now ∷ []) (length es) result }
+{
+    if !edit.is_narrow() {
+        return 0;
+    }
+    match counts.last() {
+        Some(last) => last.saturating_add(1),
+        None => 1,
+    }
 }

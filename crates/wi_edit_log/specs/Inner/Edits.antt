@@ -1,5 +1,5 @@
 -- What the code keeps of an edit.
-use Rattle.std.specs.Prelude.{◌≡◌, ℕ, ◌+◌, ◌≤◌, ◌<◌, Bool, true, ◌==◌, ◌&&◌, not, nat_lt, List, length, map, slice_index_or}
+use Rattle.std.specs.Prelude.{◌≡◌, ℕ, ◌+◌, ◌≤◌, ◌<◌, Bool, true, false, ◌==◌, ◌&&◌, not, List, length, map, slice_index_or}
 use Rattle.std.specs.List.{list_any}
 use Rattle.wi_values.specs.Address.{Area, is_within_one}
 use Rattle.wi_edit_log.specs.EditLog.{Entry}
@@ -21,14 +21,23 @@ is_named_by_others es session a = list_any (λ e. not (e.session == session) && 
 abbrev pub is_wanted_of_others : List Edit → ℕ → List Area → ℕ → Bool
 is_wanted_of_others es session wanted a = is_within_one wanted a && is_named_by_others es session a
 
--- The run begins at the edit's place i or before, and all from there on to it are its session's. Of the edits up to it the last
--- ones that are counted named narrow rectangles alone.
+-- The last edits up to the place i, as many as its run tells, e there among them, are of the session of e.
 pub record IsInRun (es : List Edit) (i : ℕ) (e : Edit) : Type 0 where
-  pub begins : e.run ≤ i
-  pub one_session : (k : ℕ) (d : Edit) → e.run ≤ k → k < i → (slice_index_or es k d).session ≡ e.session
-  pub narrow : are_narrow e.named ≡ nat_lt 0 e.narrow
-  pub others_narrow : (k : ℕ) (d : Edit) → i + 1 ≤ k + e.narrow → k < i → are_narrow (slice_index_or es k d).named ≡ true
+  pub itself : 0 < e.run
+  pub within : e.run ≤ i + 1
+  pub one_session : (k : ℕ) (d : Edit) → i + 1 ≤ k + e.run → k < i → (slice_index_or es k d).session ≡ e.session
 
 -- each edit is in its run
 abbrev pub AreInRuns : List Edit → Type 0
 AreInRuns es = (i : ℕ) (d : Edit) → i < length es → IsInRun es i (slice_index_or es i d)
+
+-- The last n edits up to the place i, the one there among them, named narrow rectangles alone. If n is 0, the one there named a
+-- wider one.
+pub record IsCount (es : List Edit) (i n : ℕ) : Type 0 where
+  pub narrow : (k : ℕ) (d : Edit) → i + 1 ≤ k + n → k < i + 1 → are_narrow (slice_index_or es k d).named ≡ true
+  pub wide : (d : Edit) → n ≡ 0 → are_narrow (slice_index_or es i d).named ≡ false
+
+-- each edit has such a count, and there are no more counts
+pub record AreCounted (es : List Edit) (counts : List ℕ) : Type 0 where
+  pub each : (i c : ℕ) → i < length es → IsCount es i (slice_index_or counts i c)
+  pub whole : length counts ≡ length es

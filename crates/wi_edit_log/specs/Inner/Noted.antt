@@ -3,7 +3,7 @@ use Rattle.std.specs.Prelude.{◌≡◌, ℕ, ◌≤◌, Bool, ◌==◌, ◌&&�
 use Rattle.std.specs.List.{list_any}
 use Rattle.std.specs.Map.{lookup}
 use Rattle.wi_values.specs.Address.{Area, is_within, is_within_one}
-use Rattle.wi_edit_log.specs.Inner.Edits.{AreInRuns}
+use Rattle.wi_edit_log.specs.Inner.Edits.{AreCounted, AreInRuns}
 use Rattle.wi_edit_log.specs.Inner.Narrow.{are_narrow}
 use Rattle.wi_edit_log.specs.declared.edit.Edit.{Edit}
 use Rattle.wi_edit_log.specs.declared.noted.Last.{Last}
@@ -69,12 +69,18 @@ is_wanted_told wanted notes session since a = is_within_one wanted a && is_told 
 abbrev pub NotesMore : (ℕ → Bool) → ℕ → ℕ → List (ℕ × Last) → List (ℕ × Last) → Type 0
 NotesMore test session n old new = (a : ℕ) → last_of new a ≡ (if test a then Some (last_after (last_of old a) session n) else last_of old a)
 
--- the notes tell of the first edits, so many, which cells those of narrow rectangles by others than a session named
-pub record AreNoted (es : List Edit) (known : ℕ) (notes : List (ℕ × Last)) : Type 0 where
-  pub within : known ≤ length es
-  pub told : (a session since : ℕ) → is_named_narrowly (drop since (take known es)) session a ≡ tells (last_of notes a) session since
+-- the edit e is noted, after which the log is n long: of each cell that it names if all its rectangles are narrow, else of none
+abbrev pub NotesEdit : Edit → ℕ → List (ℕ × Last) → List (ℕ × Last) → Type 0
+NotesEdit e n old new = NotesMore (λ a. are_narrow e.named && is_within_one e.named a) e.session n old new
+
+-- The notes tell of the first edits, as many as are counted, which cells those of narrow rectangles by others than a session
+-- named. The counts are those of these edits.
+pub record AreNoted (es : List Edit) (counts : List ℕ) (notes : List (ℕ × Last)) : Type 0 where
+  pub within : length counts ≤ length es
+  pub told : (a session since : ℕ) → is_named_narrowly (drop since (take (length counts) es)) session a ≡ tells (last_of notes a) session since
+  pub counted : AreCounted (take (length counts) es) counts
 
 -- what holds of a log between calls
-pub record IsKept (es : List Edit) (known : ℕ) (notes : List (ℕ × Last)) : Type 0 where
+pub record IsKept (es : List Edit) (counts : List ℕ) (notes : List (ℕ × Last)) : Type 0 where
   pub runs : AreInRuns es
-  pub noted : AreNoted es known notes
+  pub noted : AreNoted es counts notes

@@ -5,15 +5,15 @@ use Rattle.wi_edit_log.proofs.edit_log.EditLog.add_named.Goals as goal
 
 pub invariant_of-self : goal.invariant_of-self
 invariant_of-self c =
-    subst (λ (es : List Edit). IsKept es c.self.inside.noted.known c.self.inside.noted.notes.entries) (sym c.in_err-push_edit.ensures.err) c.self.invariant
+    subst (λ (es : List Edit). IsKept es c.self.inside.noted.narrow.items c.self.inside.noted.notes.entries) (sym c.in_err-push_edit.ensures.err) c.self.invariant
 
 pub invariant_of-self-2 : goal.invariant_of-self-2
 invariant_of-self-2 c =
     let old = c.self.inside.edits.items in
     let edit = c.after-edit.result in
-    subst (λ (es : List Edit). IsKept es c.self.inside.noted.known c.self.inside.noted.notes.entries) (search rules) (record {
+    subst (λ (es : List Edit). IsKept es c.self.inside.noted.narrow.items c.self.inside.noted.notes.entries) (search rules) (record {
       runs = runs_of_more old edit c.self.invariant.runs (search rules);
-      noted = noted_before_more old c.self.inside.noted.known c.self.inside.noted.notes.entries edit c.self.invariant.noted;
+      noted = noted_before_more old c.self.inside.noted.narrow.items c.self.inside.noted.notes.entries edit c.self.invariant.noted;
     })
 
 pub returns-in_err-push_edit-clause-ok : goal.returns-in_err-push_edit-clause-ok

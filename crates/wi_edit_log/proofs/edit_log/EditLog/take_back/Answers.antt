@@ -11,5 +11,5 @@ invariant_of-self c =
     let new = c.pop.new.self.items in
     let rest : new ≡ take (length old - 1) old = grind (arith, common_steps) in
     let left : c.len.result ≡ length new = grind (arith, common_steps) in
-    kept_of_fewer old new c.self.inside.noted.known c.forget_beyond.new.self.known c.len.result
+    kept_of_fewer old new c.self.inside.noted.narrow.items c.forget_beyond.new.self.narrow.items c.len.result
     c.self.inside.noted.notes.entries c.forget_beyond.new.self.notes.entries c.self.invariant rest left c.forget_beyond.ensures
