@@ -1,8 +1,7 @@
 -- What an edit brings, step by step, and a sheet that has it.
-use Rattle.wi_graph.proofs.Words.{◌≡◌, ◌==◌, ◌+◌, ◌<◌, ◌≤◌, ℕ, Bool, true, false, cond, List, [], ◌∷◌, ◌++◌, take, take_all, get_or, length, Option, Some, None, IfSome, refl, ap, sym, ◌∙◌, subst, arith, common_steps, or_parts, slice_eq-Decides, Decides, if◌then◌else◌, option_eq, is_none, pointwise, nat_cmp, keys_of, is_at, Area, get, IsOrdered, Empty, Content, Constant, Sheet, content_of, SameOff, Edges, areas_in, areas_at, with_areas, edges_after, Rooms, Coming, AreInOrder, brought_to, coming_at, items_of, in_room, room_at, put_over, room_over, edges_in, edges_over, areas_then, Brings, HasNoIdle, ReadsStay, Ascends-from_order, order-from_Ascends, taken_more, SmallVec, same_entries}
-use Rattle.std.specs.Prelude.{◌&&◌}
+use Rattle.wi_graph.proofs.Words.{◌≡◌, ◌==◌, ◌+◌, ◌<◌, ◌≤◌, ℕ, Bool, true, false, cond, List, [], ◌∷◌, ◌++◌, take, take_all, get_or, length, Option, Some, None, refl, ap, sym, ◌∙◌, subst, arith, common_steps, or_parts, slice_eq-Decides, Decides, if◌then◌else◌, option_eq, is_none, pointwise, nat_cmp, keys_of, is_at, Area, get, IsOrdered, Empty, Content, Constant, Sheet, content_of, SameOff, Edges, areas_in, areas_at, with_areas, edges_after, Rooms, Coming, AreInOrder, brought_to, coming_at, items_of, in_room, room_at, put_over, room_over, edges_in, edges_over, areas_then, Brings, HasNoIdle, ReadsStay, Ascends-from_order, order-from_Ascends, taken_more, SmallVec, same_entries}
 use Rattle.wi_values.specs.contracts.rect.RectPartialEq.TheImpl as rect
-use Rattle.wi_graph.proofs.Tests.{at_same, turn_test, is_at-eq}
+use Rattle.wi_graph.proofs.Tests.{at_itself, at_same, turn_test, is_at-eq}
 use Rattle.wi_graph.proofs.Walks.{same_cell}
 use Rattle.wi_graph.proofs.EdgeLemmas.{areas_with, areas_over, areas_rooms, ascends_over, ascends_after, ascends_rooms}
 
@@ -36,34 +35,24 @@ next_step rooms old new k x o e u c = ap (λ (z : Option (Option (SmallVec Area)
 pub next_put : (rooms : Rooms) (old new : Coming) (k : ℕ) (r : Option (SmallVec Area)) → Updates k (Some r) old new → Puts rooms k (items_of r) old new
 next_put rooms old new k r u = next_step rooms old new k (Some r) (items_of r) refl u
 
-none_both : (o p : Option (List Area)) → (is_none o && is_none p) ≡ true → o ≡ p
-none_both None None h = refl
-none_both None (Some x) h = cc
-none_both (Some x) p h = cc
-
-pub next_out : (rooms : Rooms) (old new : Coming) (k : ℕ) (r : Option (SmallVec Area)) → (is_none (items_of r) && is_none (room_at rooms k)) ≡ true → Updates k None old new → Puts rooms k (items_of r) old new
-next_out rooms old new k r h u = next_step rooms old new k None (items_of r) (sym (none_both (items_of r) (room_at rooms k) h)) u
+pub next_out : (rooms : Rooms) (old new : Coming) (k : ℕ) (r : Option (SmallVec Area)) → items_of r ≡ room_at rooms k → Updates k None old new → Puts rooms k (items_of r) old new
+next_out rooms old new k r h u = next_step rooms old new k None (items_of r) (sym h) u
 
 -- nothing idle is next after it either
-no_idle_step : (rooms : Rooms) (old new : Coming) (k : ℕ) (x : Option (Option (SmallVec Area))) → (room_at rooms k ≡ None → in_room x ≡ None → x ≡ None) → Updates k x old new → HasNoIdle rooms old → HasNoIdle rooms new
-no_idle_step rooms old new k x e u h c n m = u c ∙ at (is_at (nat_cmp k) c) (k == c) (is_at-eq k c) refl (ap in_room (sym (u c)) ∙ m)
+no_idle_step : (rooms : Rooms) (old new : Coming) (k : ℕ) (x : Option (Option (SmallVec Area))) → (in_room x ≡ room_at rooms k → x ≡ None) → Updates k x old new → HasNoIdle rooms old → HasNoIdle rooms new
+no_idle_step rooms old new k x e u h c m = u c ∙ at (is_at (nat_cmp k) c) (k == c) (is_at-eq k c) refl (ap in_room (sym (u c)) ∙ m)
   where
-    at : (b d : Bool) → b ≡ d → (k == c) ≡ d → in_room (cond b x (brought_to old c)) ≡ None → cond b x (brought_to old c) ≡ None
-    at true true s f i = e (ap (room_at rooms) (same_cell c k f) ∙ n) i
-    at false false s f i = h c n i
+    at : (b d : Bool) → b ≡ d → (k == c) ≡ d → in_room (cond b x (brought_to old c)) ≡ room_at rooms c → cond b x (brought_to old c) ≡ None
+    at true true s f i = e (i ∙ sym (ap (room_at rooms) (same_cell c k f)))
+    at false false s f i = h c i
     at true false s f i = cc
     at false true s f i = cc
 
 pub out_idle : (rooms : Rooms) (old new : Coming) (k : ℕ) → Updates k None old new → HasNoIdle rooms old → HasNoIdle rooms new
-out_idle rooms old new k u = no_idle_step rooms old new k None (λ n i. refl) u
+out_idle rooms old new k u = no_idle_step rooms old new k None (λ i. refl) u
 
-not_both : (o p : Option (List Area)) → o ≡ None → p ≡ None → (is_none o && is_none p) ≡ true
-not_both None None e f = refl
-not_both None (Some x) e f = cc
-not_both (Some x) p e f = cc
-
-pub put_idle : (rooms : Rooms) (old new : Coming) (k : ℕ) (r : Option (SmallVec Area)) → (is_none (items_of r) && is_none (room_at rooms k)) ≡ false → Updates k (Some r) old new → HasNoIdle rooms old → HasNoIdle rooms new
-put_idle rooms old new k r h u = no_idle_step rooms old new k (Some r) (λ n i. let z : true ≡ false = sym (not_both (items_of r) (room_at rooms k) i n) ∙ h in cc) u
+pub put_idle : (rooms : Rooms) (old new : Coming) (k : ℕ) (r : Option (SmallVec Area)) → (items_of r ≡ room_at rooms k → Prim.⊥) → Updates k (Some r) old new → HasNoIdle rooms old → HasNoIdle rooms new
+put_idle rooms old new k r h u = no_idle_step rooms old new k (Some r) (λ i. absurd (h i)) u
 
 pub brings_step : (xs : List (ℕ × Option Content)) (i : ℕ) (x : ℕ × Option Content) (rooms : Rooms) (old new : Coming) (o : Option (List Area)) → i < length xs → x ≡ get_or xs i x → o ≡ areas_in x.1 → Puts rooms x.0 o old new → Brings rooms old (take i xs) → Brings rooms new (take (i + 1) xs)
 brings_step xs i x rooms old new o l e g u h c =
@@ -75,7 +64,7 @@ brings_step xs i x rooms old new o l e g u h c =
     at false = h c
 
 pub brings_start : (rooms : Rooms) (next : Coming) → next ≡ [] → Brings rooms next [] × HasNoIdle rooms next
-brings_start rooms next e = (λ c. ap (λ (o : Option (Option (SmallVec Area))). put_over o (room_at rooms c)) (none c), λ c h k. none c)
+brings_start rooms next e = (λ c. ap (λ (o : Option (Option (SmallVec Area))). put_over o (room_at rooms c)) (none c), λ c h. none c)
   where
     none : (c : ℕ) → brought_to next c ≡ None
     none c = ap (λ (es : Coming). brought_to es c) e
@@ -94,18 +83,18 @@ brings_one rooms k o r next e i c = ap (λ (es : Coming). room_over es rooms c) 
     at true false s = cc
     at false true s = cc
 
-pub brings_none : (rooms : Rooms) (k : ℕ) (o : Option Content) (r : Option (SmallVec Area)) (next : Coming) → next ≡ [] → items_of r ≡ areas_in o → (is_none (items_of r) && is_none (room_at rooms k)) ≡ true → Brings rooms next ((k, o) ∷ [])
+pub brings_none : (rooms : Rooms) (k : ℕ) (o : Option Content) (r : Option (SmallVec Area)) (next : Coming) → next ≡ [] → items_of r ≡ areas_in o → items_of r ≡ room_at rooms k → Brings rooms next ((k, o) ∷ [])
 brings_none rooms k o r next e i n c = ap (λ (es : Coming). room_over es rooms c) e ∙ at (c == k) refl
   where
     at : (d : Bool) → (c == k) ≡ d → room_at rooms c ≡ cond d (areas_in o) (room_at rooms c)
-    at true s = ap (room_at rooms) (same_cell k c s) ∙ sym (none_both (items_of r) (room_at rooms k) n) ∙ i
+    at true s = ap (room_at rooms) (same_cell k c s) ∙ sym n ∙ i
     at false s = refl
 
-pub one_idle : (rooms : Rooms) (k : ℕ) (r : Option (SmallVec Area)) (next : Coming) → next ≡ (k, r) ∷ [] → (is_none (items_of r) && is_none (room_at rooms k)) ≡ false → HasNoIdle rooms next
-one_idle rooms k r next e n c h i = ap (λ (es : Coming). brought_to es c) e ∙ at (is_at (nat_cmp c) k) refl (ap (λ (es : Coming). coming_at es c) (sym e) ∙ i)
+pub one_idle : (rooms : Rooms) (k : ℕ) (r : Option (SmallVec Area)) (next : Coming) → next ≡ (k, r) ∷ [] → (items_of r ≡ room_at rooms k → Prim.⊥) → HasNoIdle rooms next
+one_idle rooms k r next e n c i = ap (λ (es : Coming). brought_to es c) e ∙ at (is_at (nat_cmp c) k) refl (ap (λ (es : Coming). coming_at es c) (sym e) ∙ i)
   where
-    at : (b : Bool) → is_at (nat_cmp c) k ≡ b → in_room (cond b (Some r) None) ≡ None → cond b (Some r) None ≡ None
-    at true s j = let z : true ≡ false = sym (not_both (items_of r) (room_at rooms k) j (ap (room_at rooms) (at_same c k s) ∙ h)) ∙ n in cc
+    at : (b : Bool) → is_at (nat_cmp c) k ≡ b → in_room (cond b (Some r) None) ≡ room_at rooms c → cond b (Some r) None ≡ None
+    at true s j = absurd (n (j ∙ sym (ap (room_at rooms) (at_same c k s))))
     at false s j = refl
 
 pub one_order : (k : ℕ) (r : Option (SmallVec Area)) (next : Coming) → next ≡ (k, r) ∷ [] → AreInOrder next
@@ -144,35 +133,17 @@ pub no_room : (rooms : Rooms) (c : ℕ) (r : Bool) (o : Option (SmallVec Area)) 
 no_room rooms c r None e f = (λ h. sym (ap in_room e), λ h. f)
 no_room rooms c r (Some v) e f = (λ h. cc, λ h. let z : Some v.items ≡ None = h ∙ ap in_room e in cc)
 
--- these rooms are as those that stand
-abbrev pub AreAsBefore : Rooms → Coming → Type 0
-AreAsBefore rooms es = (c : ℕ) → IfSome (brought_to es c) (λ r. items_of r ≡ room_at rooms c)
+-- each cell goes on reading what it reads only where nothing is next
+pub nothing_next : (rooms : Rooms) (next : Coming) → next ≡ [] → ReadsStay rooms next
+nothing_next rooms next e c = ap (λ (es : Coming). room_over es rooms c) e
 
-one_more : (rooms : Rooms) (c : ℕ) (x : ℕ × Option (SmallVec Area)) (front : Coming) → items_of x.1 ≡ room_at rooms x.0 → IfSome (brought_to front c) (λ r. items_of r ≡ room_at rooms c) → IfSome (brought_to (front ++ x ∷ []) c) (λ r. items_of r ≡ room_at rooms c)
-one_more rooms c x [] k h = at (is_at (nat_cmp c) x.0) refl
-  where
-    at : (b : Bool) → is_at (nat_cmp c) x.0 ≡ b → IfSome (cond {A = Option (Option (SmallVec Area))} b (Some x.1) None) (λ r. items_of r ≡ room_at rooms c)
-    at true f = k ∙ ap (room_at rooms) (at_same c x.0 f)
-    at false f = tt
-one_more rooms c x (y ∷ ys) k h = at (is_at (nat_cmp c) y.0) h (one_more rooms c x ys k)
-  where
-    at : (b : Bool) → IfSome (cond b (Some y.1) (brought_to ys c)) (λ r. items_of r ≡ room_at rooms c) → (IfSome (brought_to ys c) (λ r. items_of r ≡ room_at rooms c) → IfSome (brought_to (ys ++ x ∷ []) c) (λ r. items_of r ≡ room_at rooms c)) →
-        IfSome (cond b (Some y.1) (brought_to (ys ++ x ∷ []) c)) (λ r. items_of r ≡ room_at rooms c)
-    at true g ih = g
-    at false g ih = ih g
-
-pub more_as_before : (rooms : Rooms) (xs : Coming) (i : ℕ) (x : ℕ × Option (SmallVec Area)) → i < length xs → x ≡ get_or xs i x → items_of x.1 ≡ room_at rooms x.0 → AreAsBefore rooms (take i xs) → AreAsBefore rooms (take (i + 1) xs)
-more_as_before rooms xs i x l e k h = subst (AreAsBefore rooms) (sym (taken_more xs i x l e)) (λ c. one_more rooms c x (take i xs) k (h c))
-
-pub all_as_before : (rooms : Rooms) (next : Coming) → AreAsBefore rooms next → ReadsStay rooms next
-all_as_before rooms next h c = at (brought_to next c) (h c)
-  where
-    at : (o : Option (Option (SmallVec Area))) → IfSome o (λ r. items_of r ≡ room_at rooms c) → put_over o (room_at rooms c) ≡ room_at rooms c
-    at None k = refl
-    at (Some r) k = k
-
-pub one_stays : (rooms : Rooms) (next : Coming) (c : ℕ) (r : Option (SmallVec Area)) → brought_to next c ≡ Some r → ReadsStay rooms next → items_of r ≡ room_at rooms c
-one_stays rooms next c r e h = ap (λ (o : Option (Option (SmallVec Area))). put_over o (room_at rooms c)) (sym e) ∙ h c
+pub next_nothing : (rooms : Rooms) (next : Coming) → HasNoIdle rooms next → ReadsStay rooms next → next ≡ []
+next_nothing rooms [] n s = refl
+next_nothing rooms (e ∷ es) n s =
+    let here : brought_to (e ∷ es) e.0 ≡ Some e.1 = ap (λ (b : Bool). cond b (Some e.1) (brought_to es e.0)) (at_itself e.0) in
+    let same : items_of e.1 ≡ room_at rooms e.0 = ap (λ (o : Option (Option (SmallVec Area))). put_over o (room_at rooms e.0)) (sym here) ∙ s e.0 in
+    let none : Some e.1 ≡ None = sym here ∙ n e.0 (ap in_room here ∙ same) in
+    cc
 
 -- so are the edges
 pub stay_edges : (rooms : Rooms) (next : Coming) → IsOrdered nat_cmp rooms → ReadsStay rooms next → edges_over (edges_in rooms.entries) next ≡ edges_in rooms.entries

@@ -1,16 +1,17 @@
 -- An edit is staged, or refused.
-use Rattle.wi_graph.proofs.Words.{◌≡◌, ℕ, Bool, ◌&&◌, ◌||◌, List, not, Option, Some, None, option_map, IfSome, IfNone, refl, ap, sym, ◌∙◌, nat_cmp, BTreeSet, contains, IsOrdered, Content, Bag, is_one_of, Edges, Staging, staging, edges_after, Staged, Turns, Rooms, Coming, brought_to, room_at, put_over, room_over, edges_in, edges_over, AreInOrder, HasRooms, HasPairs, HasBoth, less_these, IsGraph, IsStaged, ReadsStay, turned_by, AreTurns}
+use Rattle.wi_graph.proofs.Words.{◌≡◌, ℕ, Bool, ◌&&◌, ◌||◌, List, not, Option, Some, None, option_map, IfSome, IfNone, refl, ap, sym, ◌∙◌, nat_cmp, BTreeSet, contains, IsOrdered, Content, Bag, is_one_of, Edges, Staging, staging, edges_after, Staged, Turns, Rooms, Coming, brought_to, room_at, put_over, room_over, edges_in, edges_over, AreInOrder, HasNoIdle, HasRooms, HasPairs, HasBoth, less_these, IsGraph, IsStaged, ReadsStay, turned_by, AreTurns}
 use Rattle.wi_graph.proofs.ChangeSteps.{stay_edges, edges_stay}
 use Rattle.wi_graph.proofs.SetSteps.{AreNew, came_before}
 use Rattle.wi_graph.proofs.GraphEnds.{view_of, circles_over}
 
 -- the edit is staged
-pub staged_graph : (rooms new : Rooms) (next : Coming) (readers more : Bag) (circles has : BTreeSet ℕ) (turns : Turns) → IsGraph rooms readers circles → AreInOrder next → IsOrdered nat_cmp new → HasRooms new next → HasBoth more new next →
+pub staged_graph : (rooms new : Rooms) (next : Coming) (readers more : Bag) (circles has : BTreeSet ℕ) (turns : Turns) → IsGraph rooms readers circles → AreInOrder next → HasNoIdle rooms next → IsOrdered nat_cmp new → HasRooms new next → HasBoth more new next →
     ((c : ℕ) → room_at new c ≡ room_at rooms c) → AreTurns rooms next circles turns →
     ((c : ℕ) → contains nat_cmp has c ≡ (contains nat_cmp circles c || is_one_of turns.came.items c)) → IsStaged new next more has turns
-staged_graph rooms new next readers more circles has turns g r o hr hb e t h = record {
+staged_graph rooms new next readers more circles has turns g r n o hr hb e t h = record {
   ordered = o;
   order = r;
+  no_idle = λ c i. n c (i ∙ e c);
   has_rooms = hr;
   pairs = hb;
   before = circles_over (room_at new) (room_at rooms) (less_these has turns.came.items) (contains nat_cmp circles) e (came_before circles has turns.came.items t.fresh h) g.circular;

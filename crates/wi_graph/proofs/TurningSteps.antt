@@ -1,5 +1,5 @@
 -- Steps to the cells of a cone that are circular after an edit.
-use Rattle.wi_graph.proofs.Words.{◌≡◌, ◌==◌, ◌+◌, ◌<◌, ℕ, Bool, true, false, ◌&&◌, ◌||◌, cond, not, List, [], filter, take, get_or, length, Option, Some, refl, ap, sym, ◌∙◌, and_parts, and_from, not-true, any-filter_same, keys_of, nat_cmp, Vec, SmallVec, BTreeMap, is_at, BTreeSet, contains, difference, Area, is_within_one, IsOrdered, Sheet, content_of, content_reads, Bag, circular, is_one_of, in_cone, AreEdgesOf, areas_in, Turns, areas_then, ReadsStay, IsEditCone, went_from, Rooms, Coming, AreInOrder, brought_to, put_over, items_of, room_at, room_over, edges_in, areas_of, HasPairs, AreCircles, IsGraph, as_set, IsConeOf, items_there, reads_in, EachReadsOne, AreStripped, IsWithin, reads_outside, turned_by, AreTurns, SettlesCone, Ascends-from_order, has_key}
+use Rattle.wi_graph.proofs.Words.{◌≡◌, ◌==◌, ◌+◌, ◌<◌, ℕ, Bool, true, false, ◌&&◌, ◌||◌, cond, not, List, [], filter, take, get_or, length, Option, Some, refl, ap, sym, ◌∙◌, and_parts, and_from, not-true, any-filter_same, keys_of, nat_cmp, Vec, SmallVec, BTreeMap, is_at, BTreeSet, contains, difference, Area, is_within_one, IsOrdered, Sheet, content_of, content_reads, Bag, circular, is_one_of, in_cone, AreEdgesOf, areas_in, Turns, areas_then, IsEditCone, went_from, Rooms, Coming, AreInOrder, brought_to, put_over, items_of, room_at, room_over, edges_in, areas_of, HasPairs, AreCircles, IsGraph, as_set, IsConeOf, items_there, reads_in, EachReadsOne, AreStripped, IsWithin, reads_outside, turned_by, AreTurns, SettlesCone, Ascends-from_order, has_key}
 use Rattle.std.specs.BTreeMap.{get}
 use Rattle.wi_graph.proofs.Tests.{is_at-eq, clash}
 use Rattle.wi_graph.proofs.Walks.{same_cell}
@@ -146,13 +146,9 @@ none_turned circles turns f h c =
     at true = refl
     at false = refl
 
--- where each cell reads what it read before
-pub same_turns : (rooms : Rooms) (next : Coming) (circles : BTreeSet ℕ) (turns : Turns) → AreCircles (room_at rooms) (contains nat_cmp circles) → ReadsStay rooms next → turns.came.items ≡ [] → turns.went.items ≡ [] → AreTurns rooms next circles turns
-same_turns rooms next circles turns g e f h = record {
-  fresh = none_came circles turns f;
-  after = circles_over (room_over next rooms) (room_at rooms) (turned_by circles turns) (contains nat_cmp circles) e (none_turned circles turns f h) g;
-}
-
 -- where nothing is next
 pub nothing_turns : (rooms : Rooms) (next : Coming) (circles : BTreeSet ℕ) (turns : Turns) → AreCircles (room_at rooms) (contains nat_cmp circles) → next ≡ [] → turns.came.items ≡ [] → turns.went.items ≡ [] → AreTurns rooms next circles turns
-nothing_turns rooms next circles turns g e f h = same_turns rooms next circles turns g (λ c. ap (λ (es : Coming). room_over es rooms c) e) f h
+nothing_turns rooms next circles turns g e f h = record {
+  fresh = none_came circles turns f;
+  after = circles_over (room_over next rooms) (room_at rooms) (turned_by circles turns) (contains nat_cmp circles) (λ c. ap (λ (es : Coming). room_over es rooms c) e) (none_turned circles turns f h) g;
+}

@@ -1,13 +1,12 @@
 //! What an edit brings, by its cells.
 
-ghost use Rattle.std.specs.Prelude.{◌≡◌, ◌↔◌, ◌==◌, ◌&&◌, ◌∷◌, ℕ, [], if◌then◌else◌, IsTrue, IfSome, IfOk, OnOk};
+ghost use Rattle.std.specs.Prelude.{◌≡◌, ◌↔◌, ◌==◌, ◌∷◌, ℕ, [], if◌then◌else◌, IsTrue, IfSome, IfOk, OnOk};
 ghost use Rattle.std.specs.Map.{keys_of};
-ghost use Rattle.std.specs.Option.{is_none};
 ghost use Rattle.wi_graph.specs.Edges.{areas_in};
-ghost use Rattle.wi_graph.specs.Inner.Rooms.{items_of, room_at, room_over, AreInOrder};
-ghost use Rattle.wi_graph.specs.Inner.Changes.{cells_in, Brings, HasNoIdle, ReadsStay};
+ghost use Rattle.wi_graph.specs.Inner.Rooms.{items_of, room_at, room_over, AreInOrder, HasNoIdle};
+ghost use Rattle.wi_graph.specs.Inner.Changes.{cells_in, Brings};
 
-use crate::rooms::{Brought, Coming, Rectangles, Rooms, is_vacant};
+use crate::rooms::{Coming, Rectangles, Rooms};
 use std::alloc::{AllocError, Global};
 use std::collections::BTreeMap;
 use wi_parser::{Content, NewContent};
@@ -72,8 +71,8 @@ pub(crate) fn changed_cells(
     Ok(cells)
 }
 
-/// What an edit brings beside what stands in the rooms; of two for one cell the later counts. A cell without a formula that
-/// gets none takes no memory.
+/// What an edit brings beside what stands in the rooms; of two for one cell the later counts. A cell that goes on reading what it
+/// reads isn't named. The work grows with what the edited cells are to read, and their count times its logarithm.
 pub(crate) fn rooms_of(
     alloc: Global,
     rooms: &Rooms,
@@ -103,7 +102,7 @@ fn room_of(
     ensures order { IfOk result (λ next. AreInOrder next.items) }
 {
     let room = room_for(alloc, content)?;
-    if stays_vacant(rooms, cell, &room) {
+    if reads_this(rooms, cell, &room) {
         return Ok(Coming::new(alloc));
     }
     Ok(Coming::from_buf(alloc, [(cell, room)]))
@@ -122,7 +121,7 @@ fn sorted_rooms(alloc: Global, rooms: &Rooms, changes: &[NewContent]) -> Result<
     Ok(next)
 }
 
-/// Puts what a cell gets into what is next. Where there is no formula and none comes, nothing is next for the cell.
+/// Puts what a cell is to read into what is next. Where it reads that already, nothing is next for it.
 fn put_next(
     rooms: &Rooms,
     next: &mut Sorted,
@@ -134,19 +133,12 @@ fn put_next(
     ensures no_idle { HasNoIdle rooms.now next.old.entries
         → OnOk result (HasNoIdle rooms.now next.new.entries) }
 {
-    if stays_vacant(rooms, cell, &room) {
+    if reads_this(rooms, cell, &room) {
         let _ = next.remove(&cell);
         return Ok(());
     }
     next.insert(cell, room)?;
     Ok(())
-}
-
-/// Whether a cell has no formula and gets none.
-fn stays_vacant(rooms: &Rooms, cell: Address, room: &Option<Rectangles>) -> bool
-    ensures { result ≡ (is_none (items_of room.now) && is_none (room_at rooms.now cell)) }
-{
-    room.is_none() && is_vacant(rooms, cell)
 }
 
 /// What a content reads.
@@ -160,19 +152,6 @@ fn room_for(alloc: Global, content: &Option<Content>) -> Result<Option<Rectangle
         }
         _ => Ok(None),
     }
-}
-
-/// Whether each cell reads what it read before once what is next is put in. The work grows with what that reads.
-pub(crate) fn reads_stay(rooms: &Rooms, next: &[Brought]) -> bool
-    requires { AreInOrder next.now }
-    ensures { IsTrue result ↔ ReadsStay rooms.now next.now }
-{
-    for entry in next {
-        if !reads_this(rooms, entry.0, &entry.1) {
-            return false;
-        }
-    }
-    true
 }
 
 /// Whether these are the rectangles that a cell reads, if it has a formula.

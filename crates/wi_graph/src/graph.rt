@@ -14,12 +14,12 @@ ghost use Rattle.wi_graph.specs.Watched.{IsClosedUp};
 ghost use Rattle.wi_graph.specs.Latest.{IsUnread};
 ghost use Rattle.wi_graph.specs.Edges.{AreEdgesOf, edges_after, staging};
 ghost use Rattle.wi_graph.specs.Inner.Changes.{Brings};
-ghost use Rattle.wi_graph.specs.Inner.Rooms.{room_at, AreInOrder, IsGraph, IsStaged};
+ghost use Rattle.wi_graph.specs.Inner.Rooms.{room_at, AreInOrder, HasNoIdle, IsGraph, IsStaged};
 ghost use Rattle.wi_graph.specs.Inner.Turning.{AreTurns};
 
 use crate::beyond::{Cells, listed_beyond};
 use crate::cell_set::CellSet;
-use crate::changes::{reads_stay, rooms_of};
+use crate::changes::rooms_of;
 use crate::cone::{any_is_read, listed_cone};
 use crate::rooms::{Coming, Rooms, take_back, take_over};
 use crate::sets::take_away;
@@ -103,13 +103,12 @@ impl Graph {
         Ok(())
     }
 
-    /// Whether an edit is staged after which each cell reads what it read before. The work grows with what the edited cells
-    /// read.
+    /// Whether an edit is staged after which each cell reads what it read before.
     pub fn reads_stay(&self) -> bool
         ensures { IsTrue result ↔ (self.now.staged ≡ Some self.now.now) }
     {
         match &self.staged {
-            Some(staged) => reads_stay(&self.rooms, &staged.next),
+            Some(staged) => staged.next.is_empty(),
             None => false,
         }
     }
@@ -215,6 +214,7 @@ fn bring(
 ) -> Result<Staged, AllocError>
     requires graph { IsGraph rooms.old readers.old circles.old }
     requires order { AreInOrder next.items }
+    requires no_idle { HasNoIdle rooms.old next.items }
     requires turns { AreTurns rooms.old next.items circles.old turns }
     ensures ordered { IsOrdered nat_cmp rooms.new }
     ensures rooms { (c : ℕ) → room_at rooms.new c ≡ room_at rooms.old c }

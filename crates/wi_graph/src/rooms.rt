@@ -4,7 +4,6 @@
 ghost use Rattle.std.specs.Prelude.{◌≡◌, ◌==◌, ◌-◌, ℕ, None, false, if◌then◌else◌};
 ghost use Rattle.std.specs.Ordering.{nat_cmp};
 ghost use Rattle.wi_tiles.specs.Entries.{get, IsOrdered};
-ghost use Rattle.std.specs.Option.{is_none};
 ghost use Rattle.wi_ranges.specs.declared.pair.RangePair.{RangePair};
 ghost use Rattle.wi_ranges.specs.Bag.{count_of};
 ghost use Rattle.wi_graph.specs.Inner.Rooms.{items_of, room_at, room_over, areas_of, times, AreInOrder, HasRooms, HasPairs, HasBoth};
@@ -98,16 +97,6 @@ fn take_room(rooms: &mut Rooms, at: Address) -> Option<Rectangles>
     ensures stood { items_of result ≡ room_at rooms.old at }
 {
     rooms.remove(at).flatten()
-}
-
-/// Whether nothing stands in a cell.
-pub(crate) fn is_vacant(rooms: &Rooms, at: Address) -> bool
-    ensures { result ≡ is_none (room_at rooms.now at) }
-{
-    match rooms.get(at) {
-        Some(room) => room.is_none(),
-        None => true,
-    }
 }
 
 /// Takes the pairs of what stood in a cell out of the index.

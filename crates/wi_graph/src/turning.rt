@@ -13,7 +13,6 @@ ghost use Rattle.wi_graph.specs.Inner.Stripping.{IsWithin};
 ghost use Rattle.wi_graph.specs.Inner.Turning.{AreTurns, SettlesCone};
 
 use crate::cell_set::CellSet;
-use crate::changes::reads_stay;
 use crate::closing::{closes_cycle, meets_circle, stands_apart};
 use crate::held::held_set;
 use crate::reads::reads_of;
@@ -34,8 +33,8 @@ pub(crate) struct Turns {
 }
 
 /// The cells that turn, circular or no longer so, once what is next is put in. Where nothing is next there are none. Of one cell that no
-/// formula reads, only what it is to read is looked at. Else the cone is searched for only if it is needed: not where each
-/// cell reads what it read before, nor where one cell gets something else that reads neither it nor a formula, and isn't circular. Where it
+/// formula reads, only what it is to read is looked at. Else the cone is searched for only if it is needed: not where
+/// one cell gets something else that reads neither it nor a formula, and isn't circular. Where it
 /// reads formulas, none of them circular, the work grows with the shorter of two searches, among what depends on the cell and among
 /// what it is to read at any remove.
 pub(crate) fn turns_of(
@@ -89,9 +88,6 @@ fn turns_sought(
     requires brings { Brings rooms.now next.now changes.now }
     ensures { IfOk result (AreTurns rooms.now next.now circles.now) }
 {
-    if reads_stay(rooms, next) {
-        return Ok(no_turns(alloc));
-    }
     if stands_apart(rooms, circles, next) {
         return Ok(no_turns(alloc));
     }

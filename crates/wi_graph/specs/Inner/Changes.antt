@@ -1,5 +1,5 @@
 -- What an edit brings.
-use Rattle.std.specs.Prelude.{◌≡◌, ◌==◌, ◌&&◌, ℕ, Bool, cond, not, List, [], ◌∷◌, Option, None, filter}
+use Rattle.std.specs.Prelude.{◌≡◌, ◌==◌, ◌&&◌, ℕ, Bool, cond, not, List, [], ◌∷◌, Option, filter}
 use Rattle.std.specs.Ordering.{nat_cmp}
 use Rattle.std.specs.Map.{keys_of}
 use Rattle.std.specs.BTreeSet.{BTreeSet, contains}
@@ -10,7 +10,7 @@ use Rattle.wi_graph.specs.declared.changes.EditedCells.{EditedCells}
 use Rattle.wi_graph.specs.declared.changes.EditedCells.TheVariants.{One, More}
 use Rattle.wi_graph.specs.Reach.{in_cone}
 use Rattle.wi_graph.specs.Edges.{areas_in}
-use Rattle.wi_graph.specs.Inner.Rooms.{Rooms, Coming, brought_to, coming_at, room_at, room_over, AreInOrder}
+use Rattle.wi_graph.specs.Inner.Rooms.{Rooms, Coming, room_at, room_over, AreInOrder}
 
 -- the cells of an edit, one after another
 abbrev pub cells_in : EditedCells → List ℕ
@@ -25,10 +25,6 @@ areas_then (x ∷ xs) c o = areas_then xs c (cond (c == x.0) (areas_in x.1) o)
 -- once the next are put in, each cell reads what it reads after the changes
 abbrev pub Brings : Rooms → Coming → List (ℕ × Option Content) → Type 0
 Brings rooms next changes = (c : ℕ) → room_over next rooms c ≡ areas_then changes c (room_at rooms c)
-
--- nothing is next for a cell that has no formula and gets none
-abbrev pub HasNoIdle : Rooms → Coming → Type 0
-HasNoIdle rooms next = (c : ℕ) → room_at rooms c ≡ None → coming_at next c ≡ None → brought_to next c ≡ None
 
 -- each cell reads once the next are put in what it read before
 abbrev pub ReadsStay : Rooms → Coming → Type 0

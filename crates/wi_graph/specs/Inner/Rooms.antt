@@ -71,6 +71,10 @@ abbrev pub edges_over : Edges → Coming → Edges
 edges_over es [] = es
 edges_over es (x ∷ xs) = with_areas (edges_over es xs) x.0 (items_of x.1)
 
+-- nothing is next for a cell that goes on reading what it reads
+abbrev pub HasNoIdle : Rooms → Coming → Type 0
+HasNoIdle rooms next = (c : ℕ) → coming_at next c ≡ room_at rooms c → brought_to next c ≡ None
+
 -- no rectangles where there is no formula
 abbrev pub areas_of : Option (List Area) → List Area
 areas_of None = []
@@ -121,6 +125,7 @@ pub record IsGraph (rooms : Rooms) (readers : Bag) (circles : BTreeSet ℕ) : Ty
 pub record IsStaged (rooms : Rooms) (next : Coming) (readers : Bag) (circles : BTreeSet ℕ) (turns : Turns) : Type 0 where
   pub ordered : IsOrdered nat_cmp rooms
   pub order : AreInOrder next
+  pub no_idle : HasNoIdle rooms next
   pub has_rooms : HasRooms rooms next
   pub pairs : HasBoth readers rooms next
   pub before : AreCircles (room_at rooms) (less_these circles turns.came.items)

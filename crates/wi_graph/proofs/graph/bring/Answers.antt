@@ -4,7 +4,7 @@ use Rattle.wi_graph.proofs.graph.bring.Goals as goal
 
 pub returns-in-Ok-clause-staged : goal.returns-in-Ok-clause-staged
 returns-in-Ok-clause-staged c =
-    staged_graph c.args.rooms.now c.bring_in.new.rooms c.args.next.items c.args.readers.now c.bring_in.new.readers c.args.circles.now c.bring_circles.new.circles c.args.turns c.requires.graph c.requires.order c.bring_in.ensures.ordered
+    staged_graph c.args.rooms.now c.bring_in.new.rooms c.args.next.items c.args.readers.now c.bring_in.new.readers c.args.circles.now c.bring_circles.new.circles c.args.turns c.requires.graph c.requires.order c.requires.no_idle c.bring_in.ensures.ordered
     (rw c.deref-2.ensures at c.in-Ok.ensures.has_rooms) (rw c.deref-2.ensures at c.in-Ok.ensures.pairs) c.bring_in.ensures.rooms c.requires.turns (rw c.deref.ensures.value at c.in_ok-bring_circles.ensures.ok)
 
 pub returns-in_err-bring_circles-clause-err : goal.returns-in_err-bring_circles-clause-err

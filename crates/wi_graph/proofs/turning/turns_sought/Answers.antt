@@ -1,15 +1,12 @@
-use Rattle.wi_graph.proofs.Words.{rules, keys_of}
-use Rattle.wi_graph.proofs.TurningSteps.{same_turns, cone_is}
+use Rattle.wi_graph.proofs.Words.{keys_of}
+use Rattle.wi_graph.proofs.TurningSteps.{cone_is}
 use Rattle.wi_graph.proofs.ClosingSteps.{apart_turn, reach_turn}
 use Rattle.wi_graph.proofs.turning.turns_sought.Goals as goal
 
-pub returns-then-reads_stay : goal.returns-then-reads_stay
-returns-then-reads_stay c = same_turns c.args.rooms.now c.args.next.now c.args.circles.now c.no_turns.result c.requires.graph.circular (search rules) c.no_turns.ensures.came c.no_turns.ensures.went
-
 pub returns-then-stands_apart : goal.returns-then-stands_apart
 returns-then-stands_apart c =
-    apart_turn c.args.rooms.now c.args.next.now c.args.circles.now c.args.changes.now c.no_turns-then-stands_apart.result c.requires.graph.circular c.requires.brings (c.stands_apart.ensures c.if-stands_apart.true)
-    c.no_turns-then-stands_apart.ensures.came c.no_turns-then-stands_apart.ensures.went
+    apart_turn c.args.rooms.now c.args.next.now c.args.circles.now c.args.changes.now c.no_turns.result c.requires.graph.circular c.requires.brings (c.stands_apart.ensures c.if-stands_apart.true)
+    c.no_turns.ensures.came c.no_turns.ensures.went
 
 pub returns-in-None : goal.returns-in-None
 returns-in-None c =
