@@ -1,8 +1,13 @@
-"""The exit status where memory is refused before anything of a script was read, and what `--keep` does to requests for memory."""
+"""The exit status where memory is refused before anything of a script was read, what `--keep` does to requests for memory, and how much a
+cell takes."""
 
+import re
+import subprocess
 import unittest
+from collections.abc import Callable
+from pathlib import Path
 
-from calls import MEMORY, PROGRAM, WELL, DeviceTest
+from calls import MEMORY, PROGRAM, WELL, DeviceTest, exactly
 from program import Program, Refusal, compiled, compiler
 
 LOADED = b"set A1 5\nshow A1\n"
@@ -61,3 +66,49 @@ class RefusedMemory(DeviceTest):
         self.assertEqual(counts[:5], sorted(set(counts[:5]), reverse=True), requests)
         self.assertEqual(requests[65_536], requests[1000])
         self.assertLess(self.program.run(script, ()).requests, requests[1000])
+
+
+def numbers(count: int) -> list[str]:
+    return [f"set A{row} {row}" for row in range(1, count + 1)]
+
+
+def chain(count: int) -> list[str]:
+    """Formulas that each add one to the cell above, below a number."""
+    return ["set A1 1"] + [f"set A{row} =[.A{row - 1}]+1" for row in range(2, count + 1)]
+
+
+class MemoryOfCells(DeviceTest):
+    """The bounds are those that were asked of the program: docs/BENCH.md has what it takes."""
+
+    FEW, MANY = 60_000, 120_000
+
+    def greatest_memory(self, script: list[str], more: str, reply: str) -> int:
+        """The most bytes that a run had once it replied to a script and to a command more."""
+        plan = self.file("plan", "".join(f"{line}\n" for line in script).encode())
+        pipe = subprocess.PIPE
+        with subprocess.Popen([PROGRAM, "--load", str(plan)], stdin=pipe, stdout=pipe, bufsize=0) as process:
+            assert process.stdin and process.stdout
+            process.stdin.write(f"{more}\n".encode())
+            replies = b"ok\n" * len(script) + reply.encode()
+            self.assertEqual(exactly(process.stdout, len(replies)), replies)
+            peak = re.search(r"^VmHWM:\s*(\d+) kB$", Path(f"/proc/{process.pid}/status").read_text(), re.MULTILINE)
+            assert peak
+            process.stdin.close()
+        return int(peak[1]) * 1024
+
+    def bytes_of_one(self, script: Callable[[int], list[str]], is_last_shown: bool) -> float:
+        """What each of some cells more takes."""
+        few, many = (
+            self.greatest_memory(script(count), f"show A{count if is_last_shown else 1}", f'"{count if is_last_shown else 1}"\r\nok\n')
+            for count in (self.FEW, self.MANY)
+        )
+        return (many - few) / (self.MANY - self.FEW)
+
+    def test_a_number_takes_150_bytes_at_most(self) -> None:
+        self.assertLessEqual(self.bytes_of_one(numbers, is_last_shown=False), 150)
+
+    def test_a_formula_takes_600_bytes_at_most(self) -> None:
+        self.assertLessEqual(self.bytes_of_one(chain, is_last_shown=False), 600)
+
+    def test_a_formula_with_its_value_takes_850_bytes_at_most(self) -> None:
+        self.assertLessEqual(self.bytes_of_one(chain, is_last_shown=True), 850)
