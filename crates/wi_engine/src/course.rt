@@ -1,7 +1,7 @@
 //! Which cells of a rectangle a formula wanted one after another, and in which direction they go on.
 
-ghost use Rattle.std.specs.Prelude.{◌≡◌, ◌≤◌, ◌*◌, ◌⊎◌};
-ghost use Rattle.wi_engine.specs.Inner.Courses.{max_breaks, part};
+ghost use Rattle.std.specs.Prelude.{◌≡◌, ◌≤◌, ◌*◌, ◌⊎◌, nat_lt, if◌then◌else◌};
+ghost use Rattle.wi_engine.specs.Inner.Courses.{leaves_line, max_breaks, part, twice_as_many};
 
 use wi_values::{Address, Rect};
 
@@ -32,7 +32,9 @@ impl Way {
     }
 
     /// Whether a course leaves a line of the rectangle for those beside it, where it goes on in another way.
-    fn leaves_line(self, way: Way) -> bool {
+    fn leaves_line(self, way: Way) -> bool
+        ensures { result ≡ leaves_line self way }
+    {
         matches!(self, Way::Row | Way::Column) && matches!(way, Way::Whole)
     }
 }
@@ -71,6 +73,8 @@ impl Course {
         ensures rectangle { result.rectangle ≡ self.rectangle }
         ensures way { result.way ≡ way }
         ensures count { (result.count ≤ 1) ⊎ (result.count ≤ 2 * self.count) }
+        ensures grows { result.count
+            ≡ (if leaves_line self.way way then 1 else twice_as_many self.count) }
     {
         let count = if self.way.leaves_line(way) {
             1
@@ -85,6 +89,8 @@ impl Course {
         ensures rectangle { result.rectangle ≡ self.rectangle }
         ensures count { (result.count ≤ 1)
             ⊎ ((max_breaks ≤ self.breaks) × (result.count ≤ 2 * self.count)) }
+        ensures grows { result.count
+            ≡ (if nat_lt self.breaks max_breaks then 1 else twice_as_many self.count) }
     {
         if self.breaks < MAX_BREAKS {
             Course {

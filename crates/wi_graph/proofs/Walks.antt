@@ -1,5 +1,5 @@
 -- Walks between formulas: one that is as long as there are formulas has no end.
-use Rattle.wi_graph.proofs.Words.{◌≡◌, ◌==◌, ℕ, zero, suc, ◌+◌, ◌<◌, ◌≤◌, Bool, true, false, ◌&&◌, ◌||◌, cond, List, [], ◌∷◌, filter, map, get_or, Option, Some, None, length, refl, ap, sym, ◌∙◌, arith, inl, inr, ◌⊎◌, eq-eqb, and_parts, and_from, or_cases, or_left, or_right, eqb-true, nil_from_length, Any-from_list_any, list_any_at, list_any-append, AllPass-from_list_all, list_all-from_AllPass, list_any, list_all, one_truth, Content, Constant, Formula, Sheet, content_of, has_formula, cells_with_formula, content_reads, sublists, circular, has_walk}
+use Rattle.wi_graph.proofs.Words.{◌≡◌, ◌==◌, ℕ, zero, suc, ◌+◌, ◌<◌, ◌≤◌, Bool, true, false, ◌&&◌, ◌||◌, ◌↔◌, cond, List, [], ◌∷◌, filter, map, get_or, Option, Some, None, length, refl, ap, sym, ◌∙◌, arith, inl, inr, ◌⊎◌, eq-eqb, and_parts, and_from, or_cases, or_left, or_right, eqb-true, nil_from_length, Any-from_list_any, list_any_at, list_any-append, AllPass-from_list_all, list_all-from_AllPass, list_any, list_all, one_truth, Content, Constant, Formula, Sheet, content_of, has_formula, cells_with_formula, content_reads, sublists, circular, Walks, has_walk}
 use Rattle.wi_graph.proofs.Layers.{is_one_of, layer, layer_zero, in_layer, has_walk_more, walker_has_formula}
 
 pub same_cell : (a k : ℕ) → (k == a) ≡ true → k ≡ a
@@ -188,3 +188,32 @@ circular_is s c = one_truth (circular s c) (has_walk (length (cells_with_formula
 -- and so exactly where walks of every length do
 pub walks_circular : (s : Sheet) (c : ℕ) → ((n : ℕ) → has_walk n s c ≡ true) → circular s c ≡ true
 walks_circular s c h = long_walk s c (h (length (cells_with_formula s)))
+
+-- ---- walks of references
+
+-- steps that lead to a formula lead from formula to formula
+walked : (n : ℕ) (s : Sheet) (c d : ℕ) → Walks n s c d → has_formula (content_of s d) ≡ true → has_walk n s c ≡ true
+walked zero s c d w f = ap (λ (a : ℕ). has_formula (content_of s a)) w ∙ f
+walked (suc n) s c d w f = step n s c w.0 w.1 (walked n s w.0 d w.2 f)
+
+walks : (n : ℕ) (s : Sheet) (c : ℕ) → has_walk n s c ≡ true → (d : ℕ) × Walks n s c d × (has_formula (content_of s d) ≡ true)
+walks zero s c h = (c, refl, h)
+walks (suc n) s c h =
+    let f = first_step n s c h in
+    let w = walks n s f.0 f.2 in
+    (w.0, (f.0, f.1, w.1), w.2)
+
+-- what is one step short of leading to a cell leads to a formula
+one_short : (n : ℕ) (s : Sheet) (c d : ℕ) → Walks (suc n) s c d → has_walk n s c ≡ true
+one_short zero s c d w = reader_formula (content_of s c) w.0 w.1
+one_short (suc n) s c d w = step n s c w.0 w.1 (one_short n s w.0 d w.2)
+
+-- a cell is circular exactly where steps of every number lead from it
+pub every_length : (s : Sheet) (c : ℕ) → (circular s c ≡ true) ↔ ((n : ℕ) → (d : ℕ) × Walks n s c d)
+every_length s c = (λ h n. let w = walks n s c (circular_walks s c h n) in (w.0, w.1), λ h. walks_circular s c (λ n. let w = h (suc n) in one_short n s c w.0 w.1))
+
+-- and exactly where as many as there are formulas lead to one
+pub longest : (s : Sheet) (c : ℕ) → (circular s c ≡ true) ↔ ((d : ℕ) × Walks (length (cells_with_formula s)) s c d × (has_formula (content_of s d) ≡ true))
+longest s c =
+    let n = length (cells_with_formula s) in
+    (λ h. walks n s c (sym (circular_is s c) ∙ h), λ w. circular_is s c ∙ walked n s c w.0 w.1 w.2)

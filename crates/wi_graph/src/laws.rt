@@ -1,10 +1,22 @@
 //! Laws of the definitions. Each is the contract of a function that does nothing.
 
-ghost use Rattle.std.specs.Prelude.{ℕ, List, Option};
+ghost use Rattle.std.specs.Prelude.{◌≡◌, ◌↔◌, ℕ, true, List, length, Option};
 ghost use Rattle.wi_parser.specs.declared.content.Content.{Content};
-ghost use Rattle.wi_parser.specs.Sheet.{Sheet};
+ghost use Rattle.wi_parser.specs.Sheet.{Sheet, content_of, has_formula, cells_with_formula};
+ghost use Rattle.wi_graph.specs.Circular.{circular};
+ghost use Rattle.wi_graph.specs.Reach.{Walks};
 ghost use Rattle.wi_graph.specs.Edges.{Edges, AreEdgesOf, edges_after, sheet_after};
 ghost use Rattle.wi_graph.specs.Latest.{LatestOfCone, OneIsLatest, LatestRises, LatestByStep, LatestIsAmong, EditOwes, NoneIsOwed, OwedStays, SettlingBegins, SettlesOne};
+
+/// A cell is circular exactly where walks of references of every length begin with it, and exactly where one does that has as many
+/// steps as there are formulas and ends with a formula.
+pub fn circular_cells_begin_long_walks()
+    ensures every_length { (s : Sheet) (c : ℕ)
+        → (circular s c ≡ true) ↔ ((n : ℕ) → (d : ℕ) × Walks n s c d) }
+    ensures longest { (s : Sheet) (c : ℕ) → (circular s c ≡ true)
+        ↔ ((d : ℕ) × Walks (length (cells_with_formula s)) s c d
+        × (has_formula (content_of s d) ≡ true)) }
+{}
 
 /// The edges after an edit are those of the edited sheet. So what is staged and then taken is the graph of that sheet.
 pub fn edges_follow_edits()

@@ -1,5 +1,5 @@
 -- What is so of a calculator that keeps values stays so over an edit.
-use Rattle.wi_propagate.proofs.Words.{◌≡◌, ◌==◌, ◌⊎◌, ◌≤◌, ◌+◌, ℕ, Bool, true, false, cond, nat_lt, nat_le, List, [], ◌∷◌, map, Option, Some, None, IfSome, Result, Ok, Err, refl, ap, sym, ◌∙◌, subst, arith, or_parts, keys_of, turn_test, Content, Constant, Formula, Sheet, content_of, with_content, Stored, edited, without_empty, change_without_empty, accepted, applied, Applies, StoreFault, Full, EditLimit, Memory, Counts, KeptValues, kept, value_for, is_one_of, SameOff, in_cone, Edges, AreEdgesOf, brought, edges_after, sheet_after, edges_follow, Generations, generation_in, IsKeptFor, AreKeptRight, content_of-with, Value, Key, numbered, IsUnread, Box, Held, kept_sheet, Noted, told, AreKeptUp}
+use Rattle.wi_propagate.proofs.Words.{◌≡◌, ◌==◌, ◌⊎◌, ◌≤◌, ◌+◌, ℕ, Bool, true, false, cond, nat_lt, nat_le, List, [], ◌∷◌, map, Option, Some, None, IfSome, Result, Ok, Err, refl, ap, sym, ◌∙◌, subst, arith, or_parts, keys_of, turn_test, Content, Constant, Formula, Sheet, content_of, with_content, Stored, edited, without_empty, change_without_empty, accepted, applied, Applies, StoreFault, Full, EditLimit, Memory, Counts, KeptValues, kept, value_for, is_one_of, SameOff, in_cone, Edges, AreEdgesOf, brought, edges_after, sheet_after, edges_follow, Generations, IsEdit, KeptSheet, generation_in, IsKeptFor, AreKeptRight, content_of-with, Value, Key, numbered, IsUnread, Box, Held, kept_sheet, Noted, told, AreKeptUp}
 use Rattle.wi_propagate.proofs.RightValues.{AreRaised, kept_over_edit}
 use Rattle.wi_propagate.proofs.NotedSteps.{told_after, told_same, kept_up_after, no_numbers, told_none}
 
@@ -57,6 +57,12 @@ pub refused_same : (answer : Result Stored StoreFault) (fault : StoreFault) (old
 refused_same answer Full old new h = h.1
 refused_same answer EditLimit old new h = h.1
 refused_same answer Memory old new h = h
+
+-- an edit that is refused leaves all as it was
+pub refused_edit : (old new : KeptSheet) (cells : List ℕ) (accepted : Bool) → accepted ≡ false → new.counts ≡ old.counts → new.values ≡ old.values
+    → ((c : ℕ) → generation_in new.generations c ≡ generation_in old.generations c) → IsEdit old new cells accepted
+refused_edit old new cells true refused counts values same = cc
+refused_edit old new cells false refused counts values same = record { same_counts = counts; same_values = values; generations = same }
 
 -- ---- generations
 

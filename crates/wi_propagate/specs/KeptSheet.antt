@@ -1,5 +1,5 @@
 -- A sheet whose values are kept from one question to the next, and what that saves.
-use Rattle.std.specs.Prelude.{◌≡◌, ◌⊎◌, ◌<◌, ◌≤◌, ◌+◌, ◌-◌, ◌^◌, ℕ, Bool, true, false, not, List, filter, length, is_some}
+use Rattle.std.specs.Prelude.{◌≡◌, ◌⊎◌, ◌<◌, ◌≤◌, ◌+◌, ◌-◌, ◌^◌, ◌&&◌, if◌then◌else◌, ℕ, Bool, true, false, not, List, filter, length, is_some}
 use Rattle.std.specs.Option.{unwrap_or}
 use Rattle.std.specs.Ordering.{nat_cmp}
 use Rattle.std.specs.Map.{keys_of, lookup}
@@ -11,6 +11,7 @@ use Rattle.wi_store.specs.Store.{Stored}
 use Rattle.wi_cache.specs.declared.key.Key.{Key}
 use Rattle.wi_cache.specs.Entries.{KeptValues, value_for}
 use Rattle.wi_graph.specs.Circular.{circular}
+use Rattle.wi_graph.specs.Reach.{in_cone}
 use Rattle.wi_sheet.specs.Demand.{Case, reaching}
 use Rattle.wi_sheet.specs.Settled.{RestsOnKept}
 
@@ -56,6 +57,15 @@ gone old new = filter (λ q. not (stands new q)) (keys_of old.values.entries)
 -- each entry that stood stands, of whatever generation
 abbrev pub KeepsOld : KeptSheet → KeptSheet → Type 0
 KeepsOld old new = (q : Key) → stands old q ≡ true → stands new q ≡ true
+
+-- ---- what an edit makes of it
+
+-- An edit of these cells counts nothing and takes no value out. An accepted one is the new generation of each cell of their cone, and
+-- of no other; after a refused one each cell has the generation that it had.
+pub record IsEdit (old new : KeptSheet) (cells : List ℕ) (accepted : Bool) : Type 0 where
+  pub same_counts : new.counts ≡ old.counts
+  pub same_values : new.values ≡ old.values
+  pub generations : (c : ℕ) → generation_in new.generations c ≡ (if accepted && in_cone old.stored.sheet cells c then new.stored.edits else generation_in old.generations c)
 
 -- ---- what a question counts, and what it keeps
 

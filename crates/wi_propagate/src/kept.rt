@@ -18,7 +18,7 @@ ghost use Rattle.wi_sheet.specs.Demand.{reaching, demanded, wants};
 ghost use Rattle.wi_sheet.specs.Settled.{IsWhatIfSettled};
 ghost use Rattle.wi_sheet.specs.Unmoved.{IsUnmoved};
 ghost use Rattle.wi_propagate.specs.Inner.Owes.{Owes};
-ghost use Rattle.wi_propagate.specs.KeptSheet.{generation_in, is_kept, unkept, IsAtHand, HasRoomFor, KeepsAll, KeepsNoMore, KeepsWhileRoom};
+ghost use Rattle.wi_propagate.specs.KeptSheet.{IsEdit, generation_in, is_kept, unkept, IsAtHand, HasRoomFor, KeepsAll, KeepsNoMore, KeepsWhileRoom};
 ghost use Rattle.wi_propagate.specs.Right.{AreKeptRight};
 
 use crate::calculator::Calculator;
@@ -124,14 +124,7 @@ impl KeptCalculator {
     fn edit(&mut self, changes: &mut [NewContent]) -> Result<(), StoreFault>
         ensures applied { Applies
             (applied self.old.stored changes.old) result self.old.stored self.new.stored }
-        ensures same_counts { self.new.counts ≡ self.old.counts }
-        ensures same_values { self.new.values ≡ self.old.values }
-        ensures generations { let cells = keys_of changes.old in
-            OnOk result ((c : ℕ) → generation_in self.new.generations c
-            ≡ (if in_cone self.old.stored.sheet cells c then self.new.stored.edits
-            else generation_in self.old.generations c)) }
-        ensures same_generations { OnErr result ((c : ℕ)
-            → generation_in self.new.generations c ≡ generation_in self.old.generations c) }
+        ensures edited { IsEdit self.old self.new (keys_of changes.old) (is_ok result) }
     {
         let cells = edited_cells(self.alloc, changes)?;
         self.edit_cells(changes, cells.as_slice())
@@ -146,14 +139,7 @@ impl KeptCalculator {
         requires { cells.now ≡ keys_of changes.old }
         ensures applied { Applies
             (applied self.old.stored changes.old) result self.old.stored self.new.stored }
-        ensures same_counts { self.new.counts ≡ self.old.counts }
-        ensures same_values { self.new.values ≡ self.old.values }
-        ensures generations { let cells = keys_of changes.old in
-            OnOk result ((c : ℕ) → generation_in self.new.generations c
-            ≡ (if in_cone self.old.stored.sheet cells c then self.new.stored.edits
-            else generation_in self.old.generations c)) }
-        ensures same_generations { OnErr result ((c : ℕ)
-            → generation_in self.new.generations c ≡ generation_in self.old.generations c) }
+        ensures edited { IsEdit self.old self.new (keys_of changes.old) (is_ok result) }
     {
         self.generations.owe(&self.graph, cells)?;
         self.graph.stage(changes)?;
@@ -293,20 +279,17 @@ impl Calculator for KeptCalculator {
     fn apply(&mut self, mut changes: Vec<NewContent>) -> Result<(), StoreFault>
         ensures applied { Applies
             (applied self.old.stored changes.items) result self.old.stored self.new.stored }
-        ensures same_counts { self.new.counts ≡ self.old.counts }
-        ensures same_values { self.new.values ≡ self.old.values }
-        ensures generations { let cells = keys_of changes.items in
-            OnOk result ((c : ℕ) → generation_in self.new.generations c
-            ≡ (if in_cone self.old.stored.sheet cells c then self.new.stored.edits
-            else generation_in self.old.generations c)) }
-        ensures same_generations { OnErr result ((c : ℕ)
-            → generation_in self.new.generations c ≡ generation_in self.old.generations c) }
+        ensures edited { IsEdit self.old self.new (keys_of changes.items) (is_ok result) }
     {
         self.edit(&mut changes)
     }
 
     /// The same. The contents are taken out of the list.
-    fn apply_slice(&mut self, changes: &mut [NewContent]) -> Result<(), StoreFault> {
+    fn apply_slice(&mut self, changes: &mut [NewContent]) -> Result<(), StoreFault>
+        ensures applied { Applies
+            (applied self.old.stored changes.old) result self.old.stored self.new.stored }
+        ensures edited { IsEdit self.old self.new (keys_of changes.old) (is_ok result) }
+    {
         self.edit(changes)
     }
 

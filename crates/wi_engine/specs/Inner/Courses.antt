@@ -1,5 +1,5 @@
 -- Which cells are found together with one that a formula lacks.
-use Rattle.std.specs.Prelude.{◌≡◌, ◌==◌, ◌≤◌, ◌*◌, ◌-◌, ◌⊎◌, ℕ, Bool, true, false, ◌&&◌, nat_lt, List, [], ◌∷◌, take, Contains}
+use Rattle.std.specs.Prelude.{◌≡◌, ◌==◌, ◌≤◌, ◌*◌, ◌-◌, ◌^◌, ◌⊎◌, min, ℕ, Bool, true, false, ◌&&◌, nat_lt, List, [], ◌∷◌, take, Contains}
 use Rattle.wi_values.specs.Address.{Area, place, row_of, column_of, rect_of, is_within, size_of}
 use Rattle.wi_parser.specs.Tree.{Tree}
 use Rattle.wi_parser.specs.Sheet.{Sheet}
@@ -20,6 +20,16 @@ part r Alone a = cell_area a
 part r Row a = rect_of (place (row_of a) (column_of r.first)) (place (row_of a) (column_of r.last))
 part r Column a = rect_of (place (row_of r.first) (column_of a)) (place (row_of r.last) (column_of a))
 part r Whole a = r
+
+-- a course leaves a line of the rectangle for those beside it
+abbrev pub leaves_line : Way → Way → Bool
+leaves_line Row Whole = true
+leaves_line Column Whole = true
+leaves_line v w = false
+
+-- twice as many, as far as that can be counted
+abbrev pub twice_as_many : ℕ → ℕ
+twice_as_many n = min (n * 2) (2 ^ 64 - 1)
 
 abbrev pub is_first : ℕ → List ℕ → Bool
 is_first a [] = false

@@ -1,12 +1,7 @@
-use Rattle.wi_propagate.proofs.Words.{◌≡◌, ◌∙◌, ℕ, Some, None, Ok, IfSome, ap, sym, subst, if◌then◌else◌, keys_of, unwrap_or, Stored, applied, in_cone, AreEdgesOf, Staging, staging, edges_after, KeptValues, KeptSheet, generation_in, AreKeptRight, AreHeldCones, kept_sheet, values_in, told, AreKeptUp, on_err}
-use Rattle.wi_propagate.proofs.Editing.{edges_applied, refused_same, right_after_edit, right_unnamed, edit_told, edit_keeps_up}
+use Rattle.wi_propagate.proofs.Words.{◌≡◌, ◌∙◌, ℕ, Some, None, Ok, IfSome, ap, sym, subst, if◌then◌else◌, keys_of, unwrap_or, Stored, applied, in_cone, AreEdgesOf, Staging, staging, edges_after, KeptValues, KeptSheet, generation_in, AreKeptRight, AreHeldCones, kept_sheet, values_in, told, AreKeptUp, rules}
+use Rattle.wi_propagate.proofs.Editing.{edges_applied, refused_edit, refused_same, right_after_edit, right_unnamed, edit_told, edit_keeps_up}
 use Rattle.wi_propagate.proofs.NotedSteps.{told_same, kept_up_more}
 use Rattle.wi_propagate.proofs.kept.KeptCalculator.edit_cells.Goals as goal
-
-pub returns-in-Ok-clause-same_values : goal.returns-in-Ok-clause-same_values
-returns-in-Ok-clause-same_values c =
-    let whole : values_in c.hold_over_edit.new.held ≡ c.args.self.now.values = c.hold_over_edit.ensures.values ∙ ap (λ (k : KeptSheet). k.values) c.self.view_is in
-    search whole
 
 pub invariant_of-self-in-Ok : goal.invariant_of-self-in-Ok
 invariant_of-self-in-Ok c =
@@ -30,14 +25,20 @@ invariant_of-self-in-Ok c =
           (λ x m. c.in_ok-owe.ensures.owed i.store.sheet h.1 x m) c.name.ensures.noted c.name.ensures.owed,
     )
 
-pub returns-in-Ok-clause-generations : goal.returns-in-Ok-clause-generations
-returns-in-Ok-clause-generations c =
+pub returns-in-Ok-clause-edited : goal.returns-in-Ok-clause-edited
+returns-in-Ok-clause-edited c =
     let i = c.self.inside in
     let ch = c.args.changes.now in
     let new = c.apply_slice.new.self in
-    subst (λ (k : KeptSheet). (d : ℕ) → generation_in (told new.sheet c.name.new.self.named) d ≡ (if in_cone k.stored.sheet (keys_of ch) d then new.edits else generation_in k.generations d)) c.self.view_is
-    (λ d. edit_told i.store new ch i.generations c.owe.new.self c.name.new.self c.args.cells.now c.edits.result c.in-Ok.ensures c.requires c.edits.ensures c.in_ok-owe.ensures.named c.name.ensures.named c.self.invariant.5 d
-    ∙ ap (λ (n : ℕ). if in_cone i.store.sheet (keys_of ch) d then n else generation_in (told i.store.sheet i.generations.named) d) c.edits.ensures)
+    let values_are : values_in c.hold_over_edit.new.held ≡ c.args.self.now.values = c.hold_over_edit.ensures.values ∙ ap (λ (k : KeptSheet). k.values) c.self.view_is in
+    record {
+      same_counts = ap (λ (k : KeptSheet). k.counts) c.self.view_is;
+      same_values = search values_are;
+      generations = subst
+          (λ (k : KeptSheet). (d : ℕ) → generation_in (told new.sheet c.name.new.self.named) d ≡ (if in_cone k.stored.sheet (keys_of ch) d then new.edits else generation_in k.generations d)) c.self.view_is
+          (λ d. edit_told i.store new ch i.generations c.owe.new.self c.name.new.self c.args.cells.now c.edits.result c.in-Ok.ensures c.requires c.edits.ensures c.in_ok-owe.ensures.named c.name.ensures.named c.self.invariant.5 d
+          ∙ ap (λ (n : ℕ). if in_cone i.store.sheet (keys_of ch) d then n else generation_in (told i.store.sheet i.generations.named) d) c.edits.ensures);
+    }
 
 pub name-requires : goal.name-requires
 name-requires c = c.in_ok-owe.ensures.there
@@ -54,10 +55,11 @@ invariant_of-self c =
       kept_up_more i.store.sheet i.generations c.owe.new.self i.store.edits c.owe.ensures.named c.owe.ensures.noted c.owe.ensures.stays h.5,
     )
 
-pub returns-in_err-owe-clause-same_generations : goal.returns-in_err-owe-clause-same_generations
-returns-in_err-owe-clause-same_generations c =
+pub returns-in_err-owe-clause-edited : goal.returns-in_err-owe-clause-edited
+returns-in_err-owe-clause-edited c =
     let i = c.self.inside in
-    on_err c.from_residual.result (λ d. told_same i.store.sheet i.generations.named c.owe.new.self.named c.owe.ensures.named d ∙ ap (λ (k : KeptSheet). generation_in k.generations d) c.self.view_is)
+    refused_edit c.args.self.now _ _ _ (search rules) (ap (λ (k : KeptSheet). k.counts) c.self.view_is) (ap (λ (k : KeptSheet). k.values) c.self.view_is)
+    (λ d. told_same i.store.sheet i.generations.named c.owe.new.self.named c.owe.ensures.named d ∙ ap (λ (k : KeptSheet). generation_in k.generations d) c.self.view_is)
 
 pub invariant_of-self-in_err-stage : goal.invariant_of-self-in_err-stage
 invariant_of-self-in_err-stage c =
@@ -71,10 +73,11 @@ invariant_of-self-in_err-stage c =
       kept_up_more i.store.sheet i.generations c.owe.new.self i.store.edits c.owe.ensures.named c.owe.ensures.noted c.owe.ensures.stays h.5,
     )
 
-pub returns-in_err-stage-clause-same_generations : goal.returns-in_err-stage-clause-same_generations
-returns-in_err-stage-clause-same_generations c =
+pub returns-in_err-stage-clause-edited : goal.returns-in_err-stage-clause-edited
+returns-in_err-stage-clause-edited c =
     let i = c.self.inside in
-    on_err c.from_residual-in_err-stage.result (λ d. told_same i.store.sheet i.generations.named c.owe.new.self.named c.owe.ensures.named d ∙ ap (λ (k : KeptSheet). generation_in k.generations d) c.self.view_is)
+    refused_edit c.args.self.now _ _ _ (search rules) (ap (λ (k : KeptSheet). k.counts) c.self.view_is) (ap (λ (k : KeptSheet). k.values) c.self.view_is)
+    (λ d. told_same i.store.sheet i.generations.named c.owe.new.self.named c.owe.ensures.named d ∙ ap (λ (k : KeptSheet). generation_in k.generations d) c.self.view_is)
 
 pub invariant_of-self-in-Err : goal.invariant_of-self-in-Err
 invariant_of-self-in-Err c =
@@ -91,12 +94,16 @@ invariant_of-self-in-Err c =
       subst (λ (x : Stored). AreKeptUp x.sheet x.edits c.owe.new.self) (sym store_is) (kept_up_more i.store.sheet i.generations c.owe.new.self i.store.edits c.owe.ensures.named c.owe.ensures.noted c.owe.ensures.stays h.5),
     )
 
-pub returns-in-Err-clause-same_generations : goal.returns-in-Err-clause-same_generations
-returns-in-Err-clause-same_generations c =
+pub returns-in-Err-clause-edited : goal.returns-in-Err-clause-edited
+returns-in-Err-clause-edited c =
     let i = c.self.inside in
     let store_is : c.apply_slice.new.self ≡ i.store = refused_same (applied i.store c.args.changes.now) c.in-Err.fault i.store c.apply_slice.new.self c.in-Err.ensures in
-    let whole : (d : ℕ) → generation_in (told c.apply_slice.new.self.sheet c.owe.new.self.named) d ≡ generation_in c.args.self.now.generations d = λ d.
+    let stays : (d : ℕ) → generation_in (told c.apply_slice.new.self.sheet c.owe.new.self.named) d ≡ generation_in c.args.self.now.generations d = λ d.
     ap (λ (x : Stored). generation_in (told x.sheet c.owe.new.self.named) d) store_is
     ∙ told_same i.store.sheet i.generations.named c.owe.new.self.named c.owe.ensures.named d
     ∙ ap (λ (k : KeptSheet). generation_in k.generations d) c.self.view_is in
-    search whole
+    record {
+      same_counts = ap (λ (k : KeptSheet). k.counts) c.self.view_is;
+      same_values = ap (λ (k : KeptSheet). k.values) c.self.view_is;
+      generations = search stays;
+    }
