@@ -1,9 +1,9 @@
 -- What has changed, as a walk through cells collects it.
-use Rattle.wi_reports.proofs.Words.{◌≡◌, ℕ, ◌+◌, ◌<◌, ◌≤◌, Bool, true, false, not, cond, List, [], ◌∷◌, ◌++◌, map, filter, length, drop, get_or, refl, sym, ap, ◌∙◌, subst, append_assoc, arith, sum_by, sum_by-cons, Value, left_more, Stored, same_value, value_in, changes_among}
+use Rattle.wi_reports.proofs.Words.{◌≡◌, ℕ, ◌+◌, ◌<◌, Bool, true, false, not, cond, List, [], ◌∷◌, ◌++◌, map, filter, length, drop, get_or, refl, sym, ap, ◌∙◌, subst, append_assoc, arith, Value, left_more, same_value, value_in, changes_among}
 
 -- where there is a cell there is no end
-pub not_none : {X : Type 0} (cells : List ℕ) (i : ℕ) → i < length cells → cells ≡ [] → X
-not_none cells i l e = absurd (let none : i < 0 = subst (λ (xs : List ℕ). i < length xs) e l in omega (arith, none))
+pub not_none : {X Y : Type 0} (cells : List Y) (i : ℕ) → i < length cells → cells ≡ [] → X
+not_none {Y = Y} cells i l e = absurd (let none : i < 0 = subst (λ (xs : List Y). i < length xs) e l in omega (arith, none))
 
 -- ---- what is found
 
@@ -26,20 +26,3 @@ one_looked cells picture shown i a v found next whole l e is k h =
     ap (λ (xs : List (ℕ × Value)). xs ++ rest) (k ∙ ap (λ (w : Value). cond (same_value (value_in picture a) w) found (found ++ (a, w) ∷ [])) is)
     ∙ joined same found (a, shown a) rest
     ∙ ap (λ (xs : List (ℕ × Value)). found ++ xs) (sym (ap (λ (xs : List ℕ). changes_among xs picture shown) (left_more cells i a l e) ∙ chosen (λ x. (x, shown x)) same a after)) ∙ h
-
--- ---- what it costs
-
--- what is counted with what the cells from here on may cost stays within a bound
-pub one_counted : (cost : Stored → ℕ → ℕ) (stored stored' : Stored) (cells : List ℕ) (i a was now bound : ℕ) → i < length cells → a ≡ get_or cells i a → stored' ≡ stored → now ≤ was + cost stored' a
-    → was + sum_by (cost stored) (drop i cells) ≤ bound → now + sum_by (cost stored) (drop (i + 1) cells) ≤ bound
-one_counted cost stored stored' cells i a was now bound l e same k h =
-    let here : cost stored' a ≡ cost stored a = ap (λ (s : Stored). cost s a) same in
-    let all : sum_by (cost stored) (drop i cells) ≡ cost stored a + sum_by (cost stored) (drop (i + 1) cells) =
-    ap (sum_by (cost stored)) (left_more cells i a l e) ∙ sum_by-cons (cost stored) a (drop (i + 1) cells) in
-    omega (arith, all, k, here, h)
-
--- and so does what is counted
-pub all_counted : (cost : Stored → ℕ → ℕ) (stored stored' : Stored) (cells : List ℕ) (i a was now bound : ℕ) → i < length cells → a ≡ get_or cells i a → stored' ≡ stored → now ≤ was + cost stored' a
-    → was + sum_by (cost stored) (drop i cells) ≤ bound → now ≤ bound
-all_counted cost stored stored' cells i a was now bound l e same k h =
-    let within = one_counted cost stored stored' cells i a was now bound l e same k h in omega (arith, within)

@@ -4,4 +4,5 @@ pub mod TableLemmas
 pub mod CompareLemmas
 pub mod ChangeLemmas
 pub mod Differences
+pub mod CostLemmas
 pub mod Words

@@ -1,5 +1,5 @@
 -- The record of a row, and the records of rows, as they grow.
-use Rattle.wi_reports.proofs.Words.{◌≡◌, ℕ, zero, suc, add-one, ◌+◌, ◌-◌, List, [], ◌∷◌, ◌++◌, map, sym, ap, ◌∙◌, arith, Result, Ok, Err, OnOk, flat_map, range_with_len, flat_map_more, Area, place, row_of, column_of, rows_in, cells_of, cells_of_row, Replacement, Stored, row_shown}
+use Rattle.wi_reports.proofs.Words.{◌≡◌, ℕ, zero, suc, true, add-one, ◌+◌, ◌-◌, List, [], ◌∷◌, ◌++◌, map, sym, ap, ◌∙◌, arith, Result, Ok, Err, OnOk, flat_map, range_with_len, flat_map_more, append-nil, eqb-true, Area, place, row_of, column_of, is_column, is_row, rows_in, cells_of, cells_of_row, Replacement, Stored, row_shown}
 use Rattle.wi_csv.specs.Row as csv
 
 -- one more number of a range
@@ -63,3 +63,17 @@ row_is area row upper first lower last n u_is first_is l_is last_is e =
     let b : last ≡ column_of area.last = last_is ∙ ap column_of l_is in
     let all : n ≡ (column_of area.last + 1) - column_of area.first = e ∙ ap (λ x. (x + 1) - first) b ∙ ap (λ x. (column_of area.last + 1) - x) a in
     ap (λ x. cells_in row x n) a ∙ ap (cells_in row (column_of area.first)) all
+
+-- the one cell that a row of a column has
+pub row_of_column : (area : Area) (r c at : ℕ) → is_column area ≡ true → c ≡ column_of area.first → at ≡ place r c → cells_of_row r area ≡ at ∷ []
+row_of_column area r c at one is place_is =
+    let same : column_of area.last ≡ column_of area.first = sym (eqb-true (column_of area.first) (column_of area.last) one) in
+    let width : (column_of area.last + 1) - column_of area.first ≡ 1 = omega (arith, same) in
+    ap (λ k. map (place r) (range_with_len (column_of area.first) k)) width ∙ ap (λ x. place r x ∷ []) (sym is) ∙ ap (λ x. x ∷ []) (sym place_is)
+
+-- the cells of a rectangle that is a row
+pub cells_of_one_row : (area : Area) → is_row area ≡ true → cells_of_row (row_of area.first) area ≡ cells_of area
+cells_of_one_row area one =
+    let same : row_of area.last ≡ row_of area.first = sym (eqb-true (row_of area.first) (row_of area.last) one) in
+    let height : (row_of area.last + 1) - row_of area.first ≡ 1 = omega (arith, same) in
+    sym (append-nil (cells_of_row (row_of area.first) area)) ∙ ap (λ k. flat_map (λ r. cells_of_row r area) (range_with_len (row_of area.first) k)) (sym height)

@@ -1,6 +1,6 @@
 -- The records of a table, as they grow.
 use Rattle.wi_reports.proofs.Words.{◌≡◌, ℕ, ◌+◌, ◌-◌, true, List, [], ◌∷◌, ◌++◌, map, Option, Result, Ok, Err, OnOk, sym, ap, ◌∙◌, arith, flat_map, range_with_len, flat_map_more, eqb-true, Area, place, column_of, cells_of_row, Replacement, Stored, row, is_column, table_row}
-use Rattle.wi_reports.proofs.RowLemmas.{rows_from, one_row}
+use Rattle.wi_reports.proofs.RowLemmas.{rows_from, one_row, row_of_column}
 
 -- ---- records
 
@@ -29,11 +29,7 @@ row_written bytes r one more stored stored' none firsts written lent before next
 -- one more cell of a column
 column_more : (area : Area) (first n m r c at : ℕ) → is_column area ≡ true → c ≡ column_of area.first → first + n ≡ r → m ≡ n + 1 → at ≡ place r c → rows_from area first m ≡ rows_from area first n ++ at ∷ []
 column_more area first n m r c at one is e more place_is =
-    let same : column_of area.last ≡ column_of area.first = sym (eqb-true (column_of area.first) (column_of area.last) one) in
-    let width : (column_of area.last + 1) - column_of area.first ≡ 1 = omega (arith, same) in
-    let cells : cells_of_row r area ≡ at ∷ [] =
-    ap (λ k. map (place r) (range_with_len (column_of area.first) k)) width ∙ ap (λ x. place r x ∷ []) (sym is) ∙ ap (λ x. x ∷ []) (sym place_is) in
-    one_row area first n m r e more ∙ ap (λ xs. rows_from area first n ++ xs) cells
+    one_row area first n m r e more ∙ ap (λ xs. rows_from area first n ++ xs) (row_of_column area r c at one is place_is)
 
 pub rows_more : (put : List Replacement) (stored stored' : Stored) (f input : ℕ) (second : Option (ℕ × Area)) (area : Area) (first n m r c at : ℕ) (out before next : List ℕ) → is_column area ≡ true → c ≡ column_of area.first
     → first + n ≡ r → m ≡ n + 1 → at ≡ place r c → stored' ≡ stored → out ≡ before ++ flat_map (table_row stored.sheet put f input second) (rows_from area first n)

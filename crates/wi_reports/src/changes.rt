@@ -1,11 +1,11 @@
 //! What has changed since a picture, and a record for each change.
 
-ghost use Rattle.std.specs.Prelude.{◌≡◌, ◌≤◌, ◌+◌, ◌++◌, [], IfOk, OnOk, OnErr};
+ghost use Rattle.std.specs.Prelude.{◌≡◌, ◌≢◌, ◌++◌, [], IfOk, OnOk, OnErr};
 ghost use Rattle.std.specs.Io.{StartsWith};
 ghost use Rattle.wi_values.specs.Replacements.{IsInOrder};
 ghost use Rattle.wi_sheet.specs.Shown as show;
 ghost use Rattle.wi_sessions.specs.Pictures.Laws.{changes_among};
-ghost use Rattle.wi_reports.specs.Looks.{evaluations_for, restarts_for};
+ghost use Rattle.wi_reports.specs.Looks.{Costs, cells_cases};
 ghost use Rattle.wi_reports.specs.Changes.{kind_text, change_records};
 ghost use Rattle.wi_reports.specs.Inner.Parts.{change_record};
 
@@ -35,12 +35,10 @@ pub fn find_changes<C: Calculator>(
         × (C.restarted calculator.new ≡ C.restarted calculator.old) }
 
     // No more is evaluated than what these cells demand, also where memory runs out.
-    ensures evaluations { let sheet = (C.stored calculator.old).sheet in
-        C.evaluated calculator.new
-        ≤ C.evaluated calculator.old + evaluations_for sheet put.now cells.now }
-    ensures restarts { let sheet = (C.stored calculator.old).sheet in
-        C.restarted calculator.new
-        ≤ C.restarted calculator.old + restarts_for sheet put.now cells.now }
+    ensures cost { let sheet = (C.stored calculator.old).sheet in
+        Costs sheet (cells_cases sheet put.now cells.now)
+        (C.evaluated calculator.old, C.restarted calculator.old)
+        (C.evaluated calculator.new, C.restarted calculator.new) }
 {
     let mut found = Vec::new(alloc);
     for at in cells {
@@ -53,10 +51,11 @@ pub fn find_changes<C: Calculator>(
 }
 
 /// Appends the records of changes, in their order: the address, the letter of the value's kind, and the text that it shows. On
-/// an error the bytes are as before. The work grows with the length of the records.
+/// an error the bytes are as before. The work grows with the length of the records; without changes no memory is taken.
 pub fn push_changes(alloc: Global, changes: &[Change], out: &mut Vec<u8>) -> Result<(), AllocError>
     ensures ok { OnOk result (out.new.items ≡ out.old.items ++ change_records changes.now) }
     ensures err { OnErr result (out.new.items ≡ out.old.items) }
+    ensures some { OnErr result (changes.now ≢ []) }
 {
     let before = out.len();
     let pushed = push_all(alloc, changes, out);
@@ -70,6 +69,7 @@ pub fn push_changes(alloc: Global, changes: &[Change], out: &mut Vec<u8>) -> Res
 fn push_all(alloc: Global, changes: &[Change], out: &mut Vec<u8>) -> Result<(), AllocError>
     ensures ok { OnOk result (out.new.items ≡ out.old.items ++ change_records changes.now) }
     ensures kept { StartsWith out.new.items out.old.items }
+    ensures some { OnErr result (changes.now ≢ []) }
 {
     for change in changes {
         push_change(alloc, change, out)?;

@@ -10,6 +10,8 @@ ghost use Rattle.wi_values.specs.Value.{shown_text};
 ghost use Rattle.wi_sheet.specs.Shown as show;
 ghost use Rattle.wi_csv.specs.Row.{row};
 ghost use Rattle.wi_reports.specs.Compare.{number_text, difference_text, difference_record, cells_compared};
+ghost use Rattle.wi_sheet.specs.Demand.{demanded};
+ghost use Rattle.wi_reports.specs.Looks.{Costs, both_cases, comparison_cases};
 ghost use Rattle.wi_reports.specs.Inner.Parts.{cell_compared};
 
 use crate::texts::address_text;
@@ -44,6 +46,10 @@ pub fn push_comparison<C: Calculator>(
         OnOk result (out.new.items ≡ out.old.items ++ records) }
     ensures err { OnErr result (out.new.items ≡ out.old.items) }
     ensures same { C.stored calculator.new ≡ C.stored calculator.old }
+    ensures cost { let sheet = (C.stored calculator.old).sheet in
+        Costs sheet (comparison_cases sheet sides.now.first.now sides.now.second.now area)
+        (C.evaluated calculator.old, C.restarted calculator.old)
+        (C.evaluated calculator.new, C.restarted calculator.new) }
 {
     let before = out.len();
     let pushed = push_all(alloc, calculator, sides, area, out);
@@ -67,6 +73,10 @@ fn push_all<C: Calculator>(
         OnOk result (out.new.items ≡ out.old.items ++ records) }
     ensures kept { StartsWith out.new.items out.old.items }
     ensures same { C.stored calculator.new ≡ C.stored calculator.old }
+    ensures cost { let sheet = (C.stored calculator.old).sheet in
+        Costs sheet (comparison_cases sheet sides.now.first.now sides.now.second.now area)
+        (C.evaluated calculator.old, C.restarted calculator.old)
+        (C.evaluated calculator.new, C.restarted calculator.new) }
 {
     let top = area.first().row();
     for row in top..area.last().row() + 1 {
@@ -91,6 +101,11 @@ fn push_row<C: Calculator>(
         OnOk result (out.new.items ≡ out.old.items ++ flat_map compared (cells_of_row row area)) }
     ensures kept { StartsWith out.new.items out.old.items }
     ensures same { C.stored calculator.new ≡ C.stored calculator.old }
+    ensures cost { let sheet = (C.stored calculator.old).sheet in
+        let cases = both_cases sheet sides.now.first.now sides.now.second.now in
+        Costs sheet (flat_map cases (cells_of_row row area))
+        (C.evaluated calculator.old, C.restarted calculator.old)
+        (C.evaluated calculator.new, C.restarted calculator.new) }
 {
     let left = area.first().column();
     for column in left..area.last().column() + 1 {
@@ -114,6 +129,10 @@ fn push_cell<C: Calculator>(
         OnOk result (out.new.items ≡ out.old.items ++ compared) }
     ensures kept { StartsWith out.new.items out.old.items }
     ensures same { C.stored calculator.new ≡ C.stored calculator.old }
+    ensures cost { let sheet = (C.stored calculator.old).sheet in
+        Costs sheet (both_cases sheet sides.now.first.now sides.now.second.now at)
+        (C.evaluated calculator.old, C.restarted calculator.old)
+        (C.evaluated calculator.new, C.restarted calculator.new) }
 {
     let before = calculator.value(sides.first, at)?;
     push_compared(alloc, calculator, &before, sides.second, at, out)
@@ -134,6 +153,10 @@ fn push_compared<C: Calculator>(
         OnOk result (out.new.items ≡ out.old.items ++ difference_record at before.now after) }
     ensures err { OnErr result (out.new.items ≡ out.old.items) }
     ensures same { C.stored calculator.new ≡ C.stored calculator.old }
+    ensures cost { let sheet = (C.stored calculator.old).sheet in
+        Costs sheet (demanded sheet second.now at)
+        (C.evaluated calculator.old, C.restarted calculator.old)
+        (C.evaluated calculator.new, C.restarted calculator.new) }
 {
     let after = calculator.value(second, at)?;
     push_difference(alloc, at, before, &after, out)

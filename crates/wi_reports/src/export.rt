@@ -4,6 +4,7 @@ ghost use Rattle.std.specs.Prelude.{◌≡◌, ◌++◌, OnOk, OnErr};
 ghost use Rattle.std.specs.Io.{StartsWith};
 ghost use Rattle.wi_values.specs.Replacements.{IsInOrder};
 ghost use Rattle.wi_reports.specs.Rows.{rows_shown, export_of};
+ghost use Rattle.wi_reports.specs.Looks.{Costs, rows_cases};
 ghost use Rattle.wi_reports.specs.Inner.Parts.{lines_in};
 
 use crate::rows::push_rows;
@@ -26,6 +27,10 @@ pub fn push_export<C: Calculator>(
         OnOk result (out.new.items ≡ out.old.items ++ export_of records) }
     ensures err { OnErr result (out.new.items ≡ out.old.items) }
     ensures same { C.stored calculator.new ≡ C.stored calculator.old }
+    ensures cost { let sheet = (C.stored calculator.old).sheet in
+        Costs sheet (rows_cases sheet put.now area)
+        (C.evaluated calculator.old, C.restarted calculator.old)
+        (C.evaluated calculator.new, C.restarted calculator.new) }
 {
     let mut records = Vec::new(alloc);
     push_rows(alloc, calculator, put, area, &mut records)?;

@@ -2,9 +2,10 @@
 
 ghost use Rattle.std.specs.Prelude.{◌≡◌, ◌++◌, ◌<◌, OnOk, OnErr};
 ghost use Rattle.std.specs.Io.{StartsWith};
-ghost use Rattle.wi_values.specs.Address.{rows};
+ghost use Rattle.wi_values.specs.Address.{rows, cells_of_row};
 ghost use Rattle.wi_values.specs.Replacements.{IsInOrder};
 ghost use Rattle.wi_reports.specs.Rows.{rows_shown};
+ghost use Rattle.wi_reports.specs.Looks.{Costs, cells_cases, rows_cases};
 ghost use Rattle.wi_reports.specs.Inner.Parts.{row_shown};
 
 use crate::texts::push_texts;
@@ -28,6 +29,10 @@ pub fn push_rows<C: Calculator>(
         ≡ out.old.items ++ rows_shown (C.stored calculator.old).sheet put.now area) }
     ensures err { OnErr result (out.new.items ≡ out.old.items) }
     ensures same { C.stored calculator.new ≡ C.stored calculator.old }
+    ensures cost { let sheet = (C.stored calculator.old).sheet in
+        Costs sheet (rows_cases sheet put.now area)
+        (C.evaluated calculator.old, C.restarted calculator.old)
+        (C.evaluated calculator.new, C.restarted calculator.new) }
 {
     let before = out.len();
     let pushed = push_all(alloc, calculator, put, area, out);
@@ -50,6 +55,10 @@ fn push_all<C: Calculator>(
         ≡ out.old.items ++ rows_shown (C.stored calculator.old).sheet put.now area) }
     ensures kept { StartsWith out.new.items out.old.items }
     ensures same { C.stored calculator.new ≡ C.stored calculator.old }
+    ensures cost { let sheet = (C.stored calculator.old).sheet in
+        Costs sheet (rows_cases sheet put.now area)
+        (C.evaluated calculator.old, C.restarted calculator.old)
+        (C.evaluated calculator.new, C.restarted calculator.new) }
 {
     let first = area.first().row();
     for row in first..area.last().row() + 1 {
@@ -73,6 +82,10 @@ fn push_row<C: Calculator>(
         ≡ out.old.items ++ row_shown (C.stored calculator.old).sheet put.now area row) }
     ensures kept { StartsWith out.new.items out.old.items }
     ensures same { C.stored calculator.new ≡ C.stored calculator.old }
+    ensures cost { let sheet = (C.stored calculator.old).sheet in
+        Costs sheet (cells_cases sheet put.now (cells_of_row row area))
+        (C.evaluated calculator.old, C.restarted calculator.old)
+        (C.evaluated calculator.new, C.restarted calculator.new) }
 {
     let mut texts = Vec::new(alloc);
     push_texts(alloc, calculator, put, row, area, &mut texts)?;

@@ -9,6 +9,8 @@ ghost use Rattle.wi_csv.specs.Row.{row};
 ghost use Rattle.wi_reports.specs.Rows.{text_under};
 ghost use Rattle.wi_reports.specs.Inner.Shape as shape;
 ghost use Rattle.wi_reports.specs.Table as spec;
+ghost use Rattle.wi_sheet.specs.TableEntry.{entry_demanded};
+ghost use Rattle.wi_reports.specs.Looks.{Costs, cells_cases, entries_cases, beside_cases, table_cases};
 ghost use Rattle.wi_reports.specs.Inner.Parts.{pairs_at, table_row};
 
 use crate::texts::{push_text_of, push_text_under, push_texts};
@@ -118,6 +120,11 @@ pub fn push_table<C: Calculator>(
         OnOk result (out.new.items ≡ out.old.items ++ records) }
     ensures err { OnErr result (out.new.items ≡ out.old.items) }
     ensures same { C.stored calculator.new ≡ C.stored calculator.old }
+    ensures cost { let sheet = (C.stored calculator.old).sheet in
+        Costs sheet (table_cases sheet put.now table.now.formula_cell table.now.input
+        table.now.column table.now.second)
+        (C.evaluated calculator.old, C.restarted calculator.old)
+        (C.evaluated calculator.new, C.restarted calculator.new) }
 {
     let before = out.len();
     let pushed = push_all(alloc, calculator, put, table, out);
@@ -143,6 +150,11 @@ fn push_all<C: Calculator>(
         OnOk result (out.new.items ≡ out.old.items ++ records) }
     ensures kept { StartsWith out.new.items out.old.items }
     ensures same { C.stored calculator.new ≡ C.stored calculator.old }
+    ensures cost { let sheet = (C.stored calculator.old).sheet in
+        Costs sheet (table_cases sheet put.now table.now.formula_cell table.now.input
+        table.now.column table.now.second)
+        (C.evaluated calculator.old, C.restarted calculator.old)
+        (C.evaluated calculator.new, C.restarted calculator.new) }
 {
     if let Some(second) = table.second {
         push_head(alloc, calculator, put, second.row, out)?;
@@ -165,6 +177,10 @@ fn push_head<C: Calculator>(
         ≡ out.old.items ++ row ([] ∷ map text (cells_of_row (row_of cells.first) cells))) }
     ensures kept { StartsWith out.new.items out.old.items }
     ensures same { C.stored calculator.new ≡ C.stored calculator.old }
+    ensures cost { let sheet = (C.stored calculator.old).sheet in
+        Costs sheet (cells_cases sheet put.now (cells_of_row (row_of cells.first) cells))
+        (C.evaluated calculator.old, C.restarted calculator.old)
+        (C.evaluated calculator.new, C.restarted calculator.new) }
 {
     let row = cells.first().row();
     let mut texts = Vec::new(alloc);
@@ -189,6 +205,11 @@ fn push_rows<C: Calculator>(
         OnOk result (out.new.items ≡ out.old.items ++ flat_map row (cells_of table.now.column)) }
     ensures kept { StartsWith out.new.items out.old.items }
     ensures same { C.stored calculator.new ≡ C.stored calculator.old }
+    ensures cost { let sheet = (C.stored calculator.old).sheet in
+        let cases = beside_cases sheet put.now table.now.formula_cell table.now.input table.now.second in
+        Costs sheet (flat_map cases (cells_of table.now.column))
+        (C.evaluated calculator.old, C.restarted calculator.old)
+        (C.evaluated calculator.new, C.restarted calculator.new) }
 {
     let column = table.column.first().column();
     let first = table.column.first().row();
@@ -214,6 +235,10 @@ fn push_row<C: Calculator>(
         ++ table_row sheet put.now table.now.formula_cell table.now.input table.now.second x) }
     ensures kept { StartsWith out.new.items out.old.items }
     ensures same { C.stored calculator.new ≡ C.stored calculator.old }
+    ensures cost { let sheet = (C.stored calculator.old).sheet in
+        Costs sheet (beside_cases sheet put.now table.now.formula_cell table.now.input table.now.second x)
+        (C.evaluated calculator.old, C.restarted calculator.old)
+        (C.evaluated calculator.new, C.restarted calculator.new) }
 {
     let mut texts = Vec::new(alloc);
     push_text_under(alloc, calculator, put, x, &mut texts)?;
@@ -238,6 +263,10 @@ fn push_entries<C: Calculator>(
         OnOk result (map string_bytes texts.new.items
         ≡ map string_bytes texts.old.items ++ entries) }
     ensures same { C.stored calculator.new ≡ C.stored calculator.old }
+    ensures cost { let sheet = (C.stored calculator.old).sheet in
+        Costs sheet (entries_cases sheet put.now table.now.formula_cell table.now.input table.now.second x)
+        (C.evaluated calculator.old, C.restarted calculator.old)
+        (C.evaluated calculator.new, C.restarted calculator.new) }
 {
     match table.second {
         None => {
@@ -282,6 +311,12 @@ fn push_row_entries<C: Calculator>(
         OnOk result (map string_bytes texts.new.items
         ≡ map string_bytes texts.old.items ++ map text (cells_of_row (row_of cells.first) cells)) }
     ensures same { C.stored calculator.new ≡ C.stored calculator.old }
+    ensures cost { let sheet = (C.stored calculator.old).sheet in
+        let cases = λ (y : ℕ). entry_demanded sheet put.now given.now.formula_cell
+        (pairs_at given.now.input given.now.x given.now.second y) in
+        Costs sheet (flat_map cases (cells_of_row (row_of cells.first) cells))
+        (C.evaluated calculator.old, C.restarted calculator.old)
+        (C.evaluated calculator.new, C.restarted calculator.new) }
 {
     let row = cells.first().row();
     let first = cells.first().column();
@@ -308,6 +343,11 @@ fn push_entry_at<C: Calculator>(
         OnOk result (map string_bytes texts.new.items
         ≡ map string_bytes texts.old.items ++ text ∷ []) }
     ensures same { C.stored calculator.new ≡ C.stored calculator.old }
+    ensures cost { let sheet = (C.stored calculator.old).sheet in
+        Costs sheet (entry_demanded sheet put.now given.now.formula_cell
+        (pairs_at given.now.input given.now.x given.now.second y))
+        (C.evaluated calculator.old, C.restarted calculator.old)
+        (C.evaluated calculator.new, C.restarted calculator.new) }
 {
     let pairs = [(given.input, given.x), (given.second, y)];
     push_entry(alloc, calculator, put, given.formula_cell, &pairs, texts)
@@ -328,6 +368,10 @@ fn push_entry<C: Calculator>(
         OnOk result (map string_bytes texts.new.items
         ≡ map string_bytes texts.old.items ++ text ∷ []) }
     ensures same { C.stored calculator.new ≡ C.stored calculator.old }
+    ensures cost { let sheet = (C.stored calculator.old).sheet in
+        Costs sheet (entry_demanded sheet put.now formula_cell pairs.now)
+        (C.evaluated calculator.old, C.restarted calculator.old)
+        (C.evaluated calculator.new, C.restarted calculator.new) }
 {
     let value = calculator.what_if_value(put, formula_cell, pairs)?;
     push_text_of(alloc, &value, texts)

@@ -5,6 +5,8 @@ ghost use Rattle.wi_values.specs.Address.{rows, cells_of_row, address_text};
 ghost use Rattle.wi_values.specs.Value.{shown_text};
 ghost use Rattle.wi_values.specs.Replacements.{IsInOrder};
 ghost use Rattle.wi_reports.specs.Rows.{text_under};
+ghost use Rattle.wi_sheet.specs.Demand.{demanded};
+ghost use Rattle.wi_reports.specs.Looks.{Costs, cells_cases};
 
 use std::alloc::{AllocError, Global};
 use wi_propagate::Calculator;
@@ -45,6 +47,10 @@ pub(crate) fn push_text_under<C: Calculator>(
         OnOk result (map string_bytes texts.new.items
         ≡ map string_bytes texts.old.items ++ text ∷ []) }
     ensures same { C.stored calculator.new ≡ C.stored calculator.old }
+    ensures cost { let sheet = (C.stored calculator.old).sheet in
+        Costs sheet (demanded sheet put.now at)
+        (C.evaluated calculator.old, C.restarted calculator.old)
+        (C.evaluated calculator.new, C.restarted calculator.new) }
 {
     let value = calculator.value(put, at)?;
     push_text_of(alloc, &value, texts)
@@ -64,6 +70,10 @@ pub(crate) fn push_texts<C: Calculator>(
     ensures texts { OnOk result (map string_bytes texts.new.items ≡ map string_bytes texts.old.items
         ++ map (text_under (C.stored calculator.old).sheet put.now) (cells_of_row row area)) }
     ensures same { C.stored calculator.new ≡ C.stored calculator.old }
+    ensures cost { let sheet = (C.stored calculator.old).sheet in
+        Costs sheet (cells_cases sheet put.now (cells_of_row row area))
+        (C.evaluated calculator.old, C.restarted calculator.old)
+        (C.evaluated calculator.new, C.restarted calculator.new) }
 {
     let first = area.first().column();
     for column in first..area.last().column() + 1 {

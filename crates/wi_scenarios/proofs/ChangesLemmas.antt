@@ -1,5 +1,5 @@
 -- What `changes` answers, and that pictures are right after it.
-use Rattle.wi_scenarios.proofs.Words.{◌≡◌, ◌≢◌, ◌<◌, ◌≤◌, ◌+◌, ℕ, zero, suc, Bool, true, false, List, [], ◌∷◌, length, get_or, set, refl, sym, ap, subst, ◌∙◌, ⊎_elim, cases_eq, false≢true, get_or-set_same, get_or-set_other, length-set, nil_from_length, Value, Replacement, Sheet, Stored, shown, effective, value_in, sheet_size, is_one_of, Rises, changes_among, Session, new_session, told, session_at, pending_of, any_cells, picture_is_shown, Scenario, evaluations_for, restarts_for, shown_to, change_list, pending_evaluations, pending_restarts, Desk, state_of, pending_in, IsUpToDate, AreCovered, AreClosed, IsSound, IsTold}
+use Rattle.wi_scenarios.proofs.Words.{◌≡◌, ◌≢◌, ◌<◌, ◌≤◌, ◌+◌, ℕ, zero, suc, Bool, true, false, List, [], ◌∷◌, length, get_or, set, refl, sym, ap, subst, ◌∙◌, ⊎_elim, cases_eq, false≢true, get_or-set_same, get_or-set_other, length-set, nil_from_length, Value, Replacement, Sheet, Stored, shown, effective, value_in, sheet_size, is_one_of, Rises, changes_among, Session, new_session, told, session_at, pending_of, any_cells, picture_is_shown, Scenario, shown_to, change_list, Desk, state_of, pending_in, IsUpToDate, AreCovered, AreClosed, IsSound, IsTold}
 
 -- what has changed is found among the pending cells
 pub changes_found : {marked : Sheet → List ℕ → ℕ → Bool} (stored : Stored) (d : Desk) (own cells : List ℕ) (put : List Replacement) (picture found : List (ℕ × Value)) → IsSound marked stored d → Rises 0 sheet_size own
@@ -22,18 +22,6 @@ nothing_found stored d own cells found sound rises own_is cells_is none is =
     let x = session_at d.sessions d.current in
     let no_own : [] ≡ own = sym (nil_from_length cells none) ∙ cells_is in
     changes_found stored d own [] (effective d.scenarios x.scenario) x.picture found sound rises own_is no_own refl refl is
-
-pub looked : (stored : Stored) (d : Desk) (own cells : List ℕ) (put : List Replacement) (x y : ℕ) → own ≡ pending_of d.sessions d.current → cells ≡ own
-    → put ≡ effective d.scenarios (session_at d.sessions d.current).scenario → x ≤ y + evaluations_for stored.sheet put cells → x ≤ y + pending_evaluations (state_of stored d) (pending_in d)
-looked stored d own cells put x y own_is cells_is put_is h =
-    subst (λ (rs : List Replacement). x ≤ y + evaluations_for stored.sheet rs (pending_of d.sessions d.current)) put_is
-    (subst (λ (cs : List ℕ). x ≤ y + evaluations_for stored.sheet put cs) (cells_is ∙ own_is) h)
-
-pub begun_again : (stored : Stored) (d : Desk) (own cells : List ℕ) (put : List Replacement) (x y : ℕ) → own ≡ pending_of d.sessions d.current → cells ≡ own
-    → put ≡ effective d.scenarios (session_at d.sessions d.current).scenario → x ≤ y + restarts_for stored.sheet put cells → x ≤ y + pending_restarts (state_of stored d) (pending_in d)
-begun_again stored d own cells put x y own_is cells_is put_is h =
-    subst (λ (rs : List Replacement). x ≤ y + restarts_for stored.sheet rs (pending_of d.sessions d.current)) put_is
-    (subst (λ (cs : List ℕ). x ≤ y + restarts_for stored.sheet put cs) (cells_is ∙ own_is) h)
 
 -- ---- lists with another element
 

@@ -1,7 +1,7 @@
 -- The words of the library, of the crates below and of this crate's definitions that its proofs are written in.
 pub use Rattle.std.proofs.Common.{Bool, Err, List, None, Ok, Option, Result, Some, [], ap, append_assoc, arith, cond, drop, false, get_or, if◌then◌else◌, inl, inr, length, map, max, min, not, refl, rules, set, subst, suc, sym, true, zero, ℕ, ⊎_elim, ◌%◌, ◌&&◌, ◌*◌, ◌++◌, ◌+◌, ◌-◌, ◌/◌, ◌<◌, ◌==◌, ◌||◌, ◌↔◌, ◌∙◌, ◌∷◌, ◌≡◌, ◌≢◌, ◌≤◌, ◌⊎◌}
 pub use Rattle.std.proofs.Math.Bool.{or-false}
-pub use Rattle.std.proofs.Math.Nat.{div-lt_iff_lt-mul, le-add_right, mod-lt}
+pub use Rattle.std.proofs.Math.Nat.{div-lt_iff_lt-mul, mod-lt}
 pub use Rattle.std.proofs.Math.Seq.{get_or-append_seam}
 pub use Rattle.std.proofs.lemmas.Bool.{and_from, and_parts, both_ways, cases_eq, cases_lt, eqb-false, eqb-true, false_from_ne_true, false≢true, le-leb, leb-true, ne_eqb, or_cases, or_left, or_parts, or_right}
 pub use Rattle.std.proofs.lemmas.Bool.Decides.{nat_tests}
@@ -44,12 +44,13 @@ pub use Rattle.wi_parser.specs.declared.fault.ParseFault.{ParseFault}
 pub use Rattle.wi_parser.specs.declared.shift.ShiftFault.{ShiftFault}
 pub use Rattle.wi_propagate.proofs.Editing.{accepted_is, same_off_edited}
 pub use Rattle.wi_propagate.proofs.EmptyCells.{has_none, shows_nothing}
+pub use Rattle.wi_reports.proofs.CostLemmas.{asked_same, nothing_asked}
 pub use Rattle.wi_reports.proofs.RowLemmas.{cells_in, one_row, row_is, rows_are, rows_from}
 pub use Rattle.wi_reports.specs.Changes.{change_records, kind_text}
 pub use Rattle.wi_reports.specs.Compare.{cells_compared}
 pub use Rattle.wi_reports.specs.Contents.{content_record}
 pub use Rattle.wi_reports.specs.Inner.Shape.{entries, has_row}
-pub use Rattle.wi_reports.specs.Looks.{evaluations_for, restarts_for}
+pub use Rattle.wi_reports.specs.Looks.{Costs, cells_cases, comparison_cases, rows_cases, table_cases}
 pub use Rattle.wi_reports.specs.Rows.{export_of, rows_shown}
 pub use Rattle.wi_reports.specs.Table.{table_of}
 pub use Rattle.wi_scenario_list.proofs.Named.{found_with, found_without, not_based, scenario_without}
@@ -60,6 +61,7 @@ pub use Rattle.wi_scenario_list.specs.Inner.Parts.{scenario_or_new}
 pub use Rattle.wi_scenario_list.specs.Scenarios.{Scenario, has_scenario, is_full, is_named, layered, max_scenarios, scenario_for, scenario_of, with_own, with_scenario, without_own, without_scenario}
 pub use Rattle.wi_scenarios.specs.Answer.{Answer, MayRefuse, MayRefuseData, Serves, ServesData, field_refusal, import_refusal, may_grow, parse_refusal}
 pub use Rattle.wi_scenarios.specs.As.{as_step}
+pub use Rattle.wi_scenarios.specs.Asked.{asked_by_changes, asked_by_compare, asked_by_show, asked_by_table}
 pub use Rattle.wi_scenarios.specs.Base.{base_step}
 pub use Rattle.wi_scenarios.specs.Causes.{answer, first_cause, no_cause, unless, when}
 pub use Rattle.wi_scenarios.specs.Changes.{change_list, changes_step}
@@ -78,7 +80,7 @@ pub use Rattle.wi_scenarios.specs.Inner.Held.{AreClosed, AreCovered, IsClosed, I
 pub use Rattle.wi_scenarios.specs.Inner.Switch.{AreDiffering, Differs, HasRoom, HasRoomFor, differing, same_option}
 pub use Rattle.wi_scenarios.specs.Inner.Told.{IsTold}
 pub use Rattle.wi_scenarios.specs.Laws.{HasScenarioChanged, IsEdited, Leaves, is_changes_call, is_forced_call, named_by_call}
-pub use Rattle.wi_scenarios.specs.Pending.{AddsOnly, Book, IsMarked, IsTouched, SameForOthers, is_pending, occupied_cells, pending_evaluations, pending_restarts}
+pub use Rattle.wi_scenarios.specs.Pending.{AddsOnly, Book, IsMarked, IsTouched, SameForOthers, is_pending, counts, occupied_cells}
 pub use Rattle.wi_scenarios.specs.Scenario.{IsScenarioStep, put_answer, replacement_by, take_away_step}
 pub use Rattle.wi_scenarios.specs.Set.{IsSetStep, content_in, fault_in, set_answer, set_edit}
 pub use Rattle.wi_scenarios.specs.Show.{show_step}

@@ -22,4 +22,5 @@ pub mod Step
 pub mod Events
 pub mod Laws
 pub mod Pending
+pub mod Asked
 pub mod Inner

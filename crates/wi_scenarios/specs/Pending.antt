@@ -7,9 +7,8 @@ use Rattle.wi_values.specs.Replacements.{replaced}
 use Rattle.wi_parser.specs.Sheet.{Sheet}
 use Rattle.wi_sessions.specs.Pictures.{sheet_size}
 use Rattle.wi_sessions.specs.Roster.{SameCells}
-use Rattle.wi_reports.specs.Looks.{evaluations_for, restarts_for}
 use Rattle.wi_scenarios.specs.State.{State}
-use Rattle.wi_scenarios.specs.Views.{session_at, replacements_for, current_replacements}
+use Rattle.wi_scenarios.specs.Views.{session_at, replacements_for}
 
 -- The state, the pending cells of each session in the order of making, and the counts that the calculator tells.
 pub record Book : Type 0 where
@@ -48,6 +47,10 @@ AddsOnly marked edited old new before after =
     (i a : ℕ) → i < length old.sessions → is_pending after i a ≡ true →
     (is_pending before i a ≡ true) ⊎ IsMarked marked old.stored.sheet (IsTouched edited old new i) a
 
+-- how many evaluations there were, and how many were begun again
+abbrev pub counts : Book → ℕ × ℕ
+counts b = (b.evaluated, b.restarted)
+
 -- neither count was raised
 abbrev pub SameCounts : Book → Book → Type 0
 SameCounts old new = (new.evaluated ≡ old.evaluated) × (new.restarted ≡ old.restarted)
@@ -59,14 +62,6 @@ Emptied i before after = after ≡ slice_set before i []
 -- each session but the i-th has the pending cells that it had
 abbrev pub SameForOthers : ℕ → List (List ℕ) → List (List ℕ) → Type 0
 SameForOthers i before after = (j a : ℕ) → j ≢ i → is_pending after j a ≡ is_pending before j a
-
--- how often a formula may be evaluated, and how often one may be begun again, where each cell is valued once that is pending for the
--- current session
-abbrev pub pending_evaluations : State → List (List ℕ) → ℕ
-pending_evaluations s pending = evaluations_for s.stored.sheet (current_replacements s) (pending_for pending s.current)
-
-abbrev pub pending_restarts : State → List (List ℕ) → ℕ
-pending_restarts s pending = restarts_for s.stored.sheet (current_replacements s) (pending_for pending s.current)
 
 -- the occupied cells of a sheet
 abbrev pub occupied_cells : Sheet → List ℕ

@@ -1,10 +1,13 @@
 //! The command `changes`: what has changed since the current session was last shown it.
 
-ghost use Rattle.std.specs.Prelude.{◌≡◌, ◌<◌, ◌≤◌, ◌+◌, ◌++◌, ℕ, List, [], length, IfOk, OnOk, OnErr};
+ghost use Rattle.std.specs.Prelude.{◌≡◌, ◌<◌, ◌++◌, ℕ, List, [], true, length, is_ok, IfOk, MatchResult, OnOk, OnErr};
+ghost use Rattle.wi_sessions.specs.Roster.{pending_of, vacant_of};
 ghost use Rattle.wi_reports.specs.Changes.{change_records};
+ghost use Rattle.wi_reports.specs.Looks.{Costs};
 ghost use Rattle.wi_scenarios.specs.Answer.{Serves};
 ghost use Rattle.wi_scenarios.specs.Changes.{change_list, changes_step};
-ghost use Rattle.wi_scenarios.specs.Pending.{Emptied, pending_for, pending_evaluations, pending_restarts};
+ghost use Rattle.wi_scenarios.specs.Pending.{Emptied, pending_for};
+ghost use Rattle.wi_scenarios.specs.Asked.{asked_by_changes};
 ghost use Rattle.wi_scenarios.specs.Inner.Held.{state_of, pending_in, IsSound};
 ghost use Rattle.wi_scenarios.specs.Inner.Told.{IsTold};
 
@@ -39,14 +42,14 @@ pub(crate) fn changes<C: Calculator>(
         → (C.evaluated calculator.new ≡ C.evaluated calculator.old)
         × (C.restarted calculator.new ≡ C.restarted calculator.old)
         × (out.new.items ≡ out.old.items) }
+    ensures quiet_ok { pending_for (pending_in desk.old) desk.old.current ≡ []
+        → is_ok result ≡ true }
 
     // No more is evaluated than what its pending cells demand, also where memory runs out.
-    ensures evaluations { let old = state_of (C.stored calculator.old) desk.old in
-        C.evaluated calculator.new
-        ≤ C.evaluated calculator.old + pending_evaluations old (pending_in desk.old) }
-    ensures restarts { let old = state_of (C.stored calculator.old) desk.old in
-        C.restarted calculator.new
-        ≤ C.restarted calculator.old + pending_restarts old (pending_in desk.old) }
+    ensures cost { let old = state_of (C.stored calculator.old) desk.old in
+        Costs old.stored.sheet (asked_by_changes old (pending_in desk.old))
+        (C.evaluated calculator.old, C.restarted calculator.old)
+        (C.evaluated calculator.new, C.restarted calculator.new) }
     ensures sound { IsSound C.marked (C.stored calculator.new) desk.new }
 {
     let found = find(alloc, calculator, desk)?;
@@ -68,14 +71,12 @@ fn find<C: Calculator>(
     ensures quiet { pending_for (pending_in desk.now) desk.now.current ≡ []
         → (C.evaluated calculator.new ≡ C.evaluated calculator.old)
         × (C.restarted calculator.new ≡ C.restarted calculator.old) }
-    ensures evaluations { let state = state_of (C.stored calculator.old) desk.now in
-        C.evaluated calculator.new
-        ≤ C.evaluated calculator.old + pending_evaluations state (pending_in desk.now) }
-    ensures restarts { let state = state_of (C.stored calculator.old) desk.now in
-        C.restarted calculator.new
-        ≤ C.restarted calculator.old + pending_restarts state (pending_in desk.now) }
+    ensures cost { let old = state_of (C.stored calculator.old) desk.now in
+        Costs old.stored.sheet (asked_by_changes old (pending_in desk.now))
+        (C.evaluated calculator.old, C.restarted calculator.old)
+        (C.evaluated calculator.new, C.restarted calculator.new) }
     ensures none { pending_for (pending_in desk.now) desk.now.current ≡ []
-        → IfOk result (λ found. found.items ≡ []) }
+        → MatchResult result (λ found. found.items ≡ []) (λ error. ⊥) }
 {
     let cells = desk.sessions.pending_cells(desk.current)?;
     if cells.is_empty() {
@@ -98,6 +99,9 @@ fn tell(
     ensures records { OnOk result (out.new.items ≡ out.old.items ++ change_records changes.items) }
     ensures refused { OnErr result (desk.new ≡ desk.old) }
     ensures unwritten { OnErr result (out.new.items ≡ out.old.items) }
+    ensures none { let current = desk.old.current in
+        pending_of desk.old.sessions current ≡ [] → vacant_of desk.old.sessions current ≡ []
+        → changes.items ≡ [] → is_ok result ≡ true }
 {
     let before = out.len();
     push_changes(alloc, &changes, out)?;

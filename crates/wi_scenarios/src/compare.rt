@@ -5,8 +5,10 @@ ghost use Rattle.std.specs.Option.{option_copied};
 ghost use Rattle.wi_scenario_list.specs.Inner.Chains.{effective};
 ghost use Rattle.wi_scenario_list.specs.Bases.{lacks};
 ghost use Rattle.wi_reports.specs.Compare.{cells_compared};
+ghost use Rattle.wi_reports.specs.Looks.{Costs, comparison_cases};
 ghost use Rattle.wi_scenarios.specs.Answer.{Serves};
 ghost use Rattle.wi_scenarios.specs.Compare.{compare_step};
+ghost use Rattle.wi_scenarios.specs.Asked.{asked_by_compare};
 ghost use Rattle.wi_scenarios.specs.Inner.Held.{state_of, IsSound};
 
 use crate::areas::is_too_large;
@@ -43,6 +45,11 @@ pub(crate) fn compare<C: Calculator>(
         (option_copied compared.now.second) area ≡ a)
         result old (state_of (C.stored calculator.new) desk.now) records }
     ensures same { C.stored calculator.new ≡ C.stored calculator.old }
+    ensures cost { let old = state_of (C.stored calculator.old) desk.now in
+        Costs old.stored.sheet (asked_by_compare old (option_copied compared.now.first)
+        (option_copied compared.now.second) area)
+        (C.evaluated calculator.old, C.restarted calculator.old)
+        (C.evaluated calculator.new, C.restarted calculator.new) }
 {
     if is_too_large(area) {
         return Err(Refusal::TooLarge);
@@ -69,6 +76,12 @@ fn push_differences<C: Calculator>(
         (under (option_copied compared.now.second)) area) }
     ensures err { OnErr result (out.new.items ≡ out.old.items) }
     ensures same { C.stored calculator.new ≡ C.stored calculator.old }
+    ensures cost { let sheet = (C.stored calculator.old).sheet in
+        let under = effective desk.now.scenarios in
+        Costs sheet (comparison_cases sheet (under (option_copied compared.now.first))
+        (under (option_copied compared.now.second)) area)
+        (C.evaluated calculator.old, C.restarted calculator.old)
+        (C.evaluated calculator.new, C.restarted calculator.new) }
 {
     let before = desk.scenarios.effective(compared.first)?;
     let after = desk.scenarios.effective(compared.second)?;

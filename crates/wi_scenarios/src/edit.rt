@@ -46,6 +46,8 @@ pub(crate) fn apply_edit<C: Calculator>(
         (state_of (C.stored calculator.new) desk.new) (pending_in desk.old) (pending_in desk.new) }
     ensures refused { OnErr result (pending_in desk.new ≡ pending_in desk.old) }
     ensures sound { IsSound C.marked (C.stored calculator.new) desk.new }
+    ensures counts { (C.evaluated calculator.new ≡ C.evaluated calculator.old)
+        × (C.restarted calculator.new ≡ C.restarted calculator.old) }
 {
     let session = desk.session();
     desk.log.catch_up(session)?;
@@ -71,6 +73,8 @@ fn edit_caught_up<C: Calculator>(
         (state_of (C.stored calculator.new) desk.new) (pending_in desk.old) (pending_in desk.new) }
     ensures refused { OnErr result (pending_in desk.new ≡ pending_in desk.old) }
     ensures sound { IsSound C.marked (C.stored calculator.new) desk.new }
+    ensures counts { (C.evaluated calculator.new ≡ C.evaluated calculator.old)
+        × (C.restarted calculator.new ≡ C.restarted calculator.old) }
 {
     if let Some(at) = first_stale(desk, named.areas(), force) {
         return Err(Refusal::Stale(at));
@@ -107,6 +111,8 @@ pub(crate) fn edit_area<C: Calculator>(
         (state_of (C.stored calculator.new) desk.new) (pending_in desk.old) (pending_in desk.new) }
     ensures refused { OnErr result (pending_in desk.new ≡ pending_in desk.old) }
     ensures sound { IsSound C.marked (C.stored calculator.new) desk.new }
+    ensures counts { (C.evaluated calculator.new ≡ C.evaluated calculator.old)
+        × (C.restarted calculator.new ≡ C.restarted calculator.old) }
 {
     apply_edit(alloc, calculator, desk, Named::one(area), contents, force)
 }
@@ -177,6 +183,8 @@ fn edit_with_rooms<C: Calculator>(
     ensures edit { Commits (applied (C.stored calculator.old) contents.old)
         (record { session = desk.old.current; cells = named })
         result (C.stored calculator.old) (C.stored calculator.new) desk.old.log desk.new.log }
+    ensures counts { (C.evaluated calculator.new ≡ C.evaluated calculator.old)
+        × (C.restarted calculator.new ≡ C.restarted calculator.old) }
 {
     let session = desk.session();
     make_rooms(&mut desk.sessions, marked)?;
@@ -201,9 +209,11 @@ fn commit<C: Calculator>(
     named: Named,
     contents: &mut [NewContent],
 ) -> Result<(), Refusal>
-    ensures { Commits (applied (C.stored calculator.old) contents.old)
+    ensures edit { Commits (applied (C.stored calculator.old) contents.old)
         (record { session = session; cells = named })
         result (C.stored calculator.old) (C.stored calculator.new) log.old log.new }
+    ensures counts { (C.evaluated calculator.new ≡ C.evaluated calculator.old)
+        × (C.restarted calculator.new ≡ C.restarted calculator.old) }
 {
     log.add_named(session, named)?;
     let done = calculator.apply_slice(contents);

@@ -31,6 +31,8 @@ pub(crate) fn set<C: Calculator>(
         (state_of (C.stored calculator.new) desk.new) (pending_in desk.old) (pending_in desk.new) }
     ensures refused { OnErr result (pending_in desk.new ≡ pending_in desk.old) }
     ensures sound { IsSound C.marked (C.stored calculator.new) desk.new }
+    ensures counts { (C.evaluated calculator.new ≡ C.evaluated calculator.old)
+        × (C.restarted calculator.new ≡ C.restarted calculator.old) }
 {
     if content.is_empty() {
         return Err(Refusal::BadCommand);

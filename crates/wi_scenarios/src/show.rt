@@ -1,8 +1,10 @@
 //! The command `show`: the shown texts of a rectangle, a record for each row.
 
 ghost use Rattle.std.specs.Prelude.{◌≡◌, ◌++◌, ℕ, List};
+ghost use Rattle.wi_reports.specs.Looks.{Costs};
 ghost use Rattle.wi_scenarios.specs.Answer.{Serves};
 ghost use Rattle.wi_scenarios.specs.Show.{show_step};
+ghost use Rattle.wi_scenarios.specs.Asked.{asked_by_show};
 ghost use Rattle.wi_scenarios.specs.Inner.Held.{state_of, IsSound};
 
 use crate::areas::is_too_large;
@@ -29,6 +31,10 @@ pub(crate) fn show<C: Calculator>(
         × Serves (λ a. show_step old area ≡ a)
         result old (state_of (C.stored calculator.new) desk.now) records }
     ensures same { C.stored calculator.new ≡ C.stored calculator.old }
+    ensures cost { let old = state_of (C.stored calculator.old) desk.now in
+        Costs old.stored.sheet (asked_by_show old area)
+        (C.evaluated calculator.old, C.restarted calculator.old)
+        (C.evaluated calculator.new, C.restarted calculator.new) }
 {
     if is_too_large(area) {
         return Err(Refusal::TooLarge);

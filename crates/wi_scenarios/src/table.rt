@@ -1,8 +1,10 @@
 //! The command `table`: the value of a formula cell for each cell of a column, or of a column and a row, in the place of inputs.
 
 ghost use Rattle.std.specs.Prelude.{◌≡◌, ◌++◌, ℕ, List};
+ghost use Rattle.wi_reports.specs.Looks.{Costs};
 ghost use Rattle.wi_scenarios.specs.Answer.{Serves};
 ghost use Rattle.wi_scenarios.specs.Table.{table_step};
+ghost use Rattle.wi_scenarios.specs.Asked.{asked_by_table};
 ghost use Rattle.wi_scenarios.specs.Inner.Held.{state_of, IsSound};
 
 use crate::areas::MAX_AREA;
@@ -28,6 +30,11 @@ pub(crate) fn table<C: Calculator>(
         × Serves (λ a. table_step old table.now.formula_cell table.now.input table.now.column
         table.now.second ≡ a) result old (state_of (C.stored calculator.new) desk.now) records }
     ensures same { C.stored calculator.new ≡ C.stored calculator.old }
+    ensures cost { let old = state_of (C.stored calculator.old) desk.now in
+        Costs old.stored.sheet (asked_by_table old table.now.formula_cell table.now.input
+        table.now.column table.now.second)
+        (C.evaluated calculator.old, C.restarted calculator.old)
+        (C.evaluated calculator.new, C.restarted calculator.new) }
 {
     if !table.is_shaped() {
         return Err(Refusal::BadCommand);

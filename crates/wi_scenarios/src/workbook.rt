@@ -1,12 +1,13 @@
 //! A workbook.
 
-ghost use Rattle.std.specs.Prelude.{◌≡◌, ◌≢◌, ◌≤◌, ◌+◌, ◌++◌, ◌∷◌, ℕ, List, [], true, false, option_map, Err, IfOk, OnOk, OnErr};
+ghost use Rattle.std.specs.Prelude.{◌≡◌, ◌≢◌, ◌++◌, ◌∷◌, ℕ, List, [], true, false, is_ok, option_map, Err, IfOk, OnOk, OnErr};
 ghost use Rattle.std.specs.Option.{option_copied};
 ghost use Rattle.std.specs.Map.{keys_of};
 ghost use Rattle.wi_values.specs.Address.{cells_of};
 ghost use Rattle.wi_values.specs.Name.{bytes_of};
 ghost use Rattle.wi_sessions.specs.Sessions.{has_session};
 ghost use Rattle.wi_sessions.specs.Roster.{SameCells};
+ghost use Rattle.wi_reports.specs.Looks.{Costs};
 ghost use Rattle.wi_scenarios.specs.declared.refusal.Refusal.TheVariants.{Memory};
 ghost use Rattle.wi_scenarios.specs.State.{state_over};
 ghost use Rattle.wi_scenarios.specs.Answer.{Serves, ServesData};
@@ -15,7 +16,8 @@ ghost use Rattle.wi_scenarios.specs.Csv.{imported_cells};
 ghost use Rattle.wi_scenarios.specs.Scenario.{take_away_step};
 ghost use Rattle.wi_scenarios.specs.Step as call;
 ghost use Rattle.wi_scenarios.specs.Step.{IsCallStep};
-ghost use Rattle.wi_scenarios.specs.Pending.{AddsOnly, SameForOthers, SameCounts, Emptied, HasNewSession, pending_for, pending_evaluations, pending_restarts, occupied_cells};
+ghost use Rattle.wi_scenarios.specs.Asked.{asked_by_show, asked_by_changes, asked_by_compare, asked_by_table};
+ghost use Rattle.wi_scenarios.specs.Pending.{AddsOnly, SameForOthers, SameCounts, counts, Emptied, HasNewSession, pending_for, occupied_cells};
 
 use crate::base::base;
 use crate::changes::changes;
@@ -88,6 +90,8 @@ impl<C: Calculator> Workbook<C> {
         ensures state { IfOk result (λ w. w.state ≡ state_over (C.stored calculator)) }
         ensures pending { IfOk result (λ w. (cells : List ℕ) × (w.pending ≡ cells ∷ [])
             × SameCells cells (occupied_cells (C.stored calculator).sheet)) }
+        ensures counts { IfOk result (λ w. (w.evaluated ≡ C.evaluated calculator)
+            × (w.restarted ≡ C.restarted calculator)) }
     {
         let desk = new_desk(alloc, &calculator)?;
         Ok(Workbook {
@@ -117,6 +121,7 @@ impl<C: Calculator> Workbook<C> {
         ensures adds { AddsOnly C.marked (at ∷ [])
             self.old.state self.new.state self.old.pending self.new.pending }
         ensures refused { OnErr result (self.new.pending ≡ self.old.pending) }
+        ensures counts { SameCounts self.old self.new }
     {
         set(
             self.alloc,
@@ -137,6 +142,7 @@ impl<C: Calculator> Workbook<C> {
             (keys_of (clear_edit self.old.state.stored.sheet area).contents)
             self.old.state self.new.state self.old.pending self.new.pending }
         ensures refused { OnErr result (self.new.pending ≡ self.old.pending) }
+        ensures counts { SameCounts self.old self.new }
     {
         clear(
             self.alloc,
@@ -156,6 +162,7 @@ impl<C: Calculator> Workbook<C> {
         ensures adds { AddsOnly C.marked (cells_of area)
             self.old.state self.new.state self.old.pending self.new.pending }
         ensures refused { OnErr result (self.new.pending ≡ self.old.pending) }
+        ensures counts { SameCounts self.old self.new }
     {
         fill(
             self.alloc,
@@ -176,6 +183,7 @@ impl<C: Calculator> Workbook<C> {
         ensures adds { AddsOnly C.marked (imported_cells at text.now)
             self.old.state self.new.state self.old.pending self.new.pending }
         ensures refused { OnErr result (self.new.pending ≡ self.old.pending) }
+        ensures counts { SameCounts self.old self.new }
     {
         import(
             self.alloc,
@@ -203,6 +211,7 @@ impl<C: Calculator> Workbook<C> {
         ensures adds { AddsOnly C.marked ([])
             self.old.state self.new.state self.old.pending self.new.pending }
         ensures refused { OnErr result (self.new.pending ≡ self.old.pending) }
+        ensures counts { SameCounts self.old self.new }
     {
         put(
             self.alloc,
@@ -222,6 +231,7 @@ impl<C: Calculator> Workbook<C> {
         ensures adds { AddsOnly C.marked ([])
             self.old.state self.new.state self.old.pending self.new.pending }
         ensures refused { OnErr result (self.new.pending ≡ self.old.pending) }
+        ensures counts { SameCounts self.old self.new }
     {
         take_away(
             self.alloc,
@@ -241,6 +251,7 @@ impl<C: Calculator> Workbook<C> {
         ensures adds { AddsOnly C.marked ([])
             self.old.state self.new.state self.old.pending self.new.pending }
         ensures refused { OnErr result (self.new.pending ≡ self.old.pending) }
+        ensures counts { SameCounts self.old self.new }
     {
         base(
             self.alloc,
@@ -257,6 +268,7 @@ impl<C: Calculator> Workbook<C> {
         ensures step { Serves (IsCallStep self.old.state (call.Drop (bytes_of name.entry)))
             result self.old.state self.new.state [] }
         ensures pending { self.new.pending ≡ self.old.pending }
+        ensures counts { SameCounts self.old self.new }
         ensures no_memory { result ≢ Err Memory }
     {
         drop(&self.calculator, &mut self.desk, name.as_str())
@@ -272,6 +284,7 @@ impl<C: Calculator> Workbook<C> {
             self.old.state self.new.state self.old.pending self.new.pending }
         ensures others { SameForOthers self.old.state.current self.old.pending self.new.pending }
         ensures refused { OnErr result (self.new.pending ≡ self.old.pending) }
+        ensures counts { SameCounts self.old self.new }
     {
         use_scenario(self.alloc, &self.calculator, &mut self.desk, as_text(name))
     }
@@ -287,6 +300,7 @@ impl<C: Calculator> Workbook<C> {
             → OnOk result
             (HasNewSession self.old.state.stored.sheet self.old.pending self.new.pending) }
         ensures refused { OnErr result (self.new.pending ≡ self.old.pending) }
+        ensures counts { SameCounts self.old self.new }
         ensures no_memory { has_session self.old.state.sessions (bytes_of name.entry) ≡ true
             → result ≢ Err Memory }
     {
@@ -300,6 +314,9 @@ impl<C: Calculator> Workbook<C> {
             × Serves (IsCallStep self.old.state (call.Show area))
             result self.old.state self.new.state records }
         ensures pending { self.new.pending ≡ self.old.pending }
+        ensures cost { let old = self.old.state in
+            Costs old.stored.sheet (asked_by_show old area)
+            (counts self.old) (counts self.new) }
     {
         show(self.alloc, &mut self.calculator, &self.desk, area, out)
     }
@@ -311,6 +328,9 @@ impl<C: Calculator> Workbook<C> {
             × Serves (IsCallStep self.old.state (call.Export area))
             result self.old.state self.new.state records }
         ensures pending { self.new.pending ≡ self.old.pending }
+        ensures cost { let old = self.old.state in
+            Costs old.stored.sheet (asked_by_show old area)
+            (counts self.old) (counts self.new) }
     {
         export(self.alloc, &mut self.calculator, &self.desk, area, out)
     }
@@ -328,10 +348,11 @@ impl<C: Calculator> Workbook<C> {
         ensures refused { OnErr result (self.new.pending ≡ self.old.pending) }
         ensures quiet { pending_for self.old.pending self.old.state.current ≡ []
             → SameCounts self.old self.new × (out.new.items ≡ out.old.items) }
-        ensures evaluations { self.new.evaluated
-            ≤ self.old.evaluated + pending_evaluations self.old.state self.old.pending }
-        ensures restarts { self.new.restarted
-            ≤ self.old.restarted + pending_restarts self.old.state self.old.pending }
+        ensures quiet_ok { pending_for self.old.pending self.old.state.current ≡ []
+            → is_ok result ≡ true }
+        ensures cost { let old = self.old.state in
+            Costs old.stored.sheet (asked_by_changes old self.old.pending)
+            (counts self.old) (counts self.new) }
     {
         changes(self.alloc, &mut self.calculator, &mut self.desk, out)
     }
@@ -350,6 +371,10 @@ impl<C: Calculator> Workbook<C> {
             × Serves (IsCallStep self.old.state (call.Compare (option_map bytes_of first.entry)
             (option_map bytes_of second.entry) area)) result self.old.state self.new.state records }
         ensures pending { self.new.pending ≡ self.old.pending }
+        ensures cost { let old = self.old.state in
+            Costs old.stored.sheet (asked_by_compare old (option_map bytes_of first.entry)
+            (option_map bytes_of second.entry) area)
+            (counts self.old) (counts self.new) }
     {
         let compared = Compared {
             first: as_text(first),
@@ -382,6 +407,9 @@ impl<C: Calculator> Workbook<C> {
             × Serves (IsCallStep self.old.state (call.Table formula_cell input column second))
             result self.old.state self.new.state records }
         ensures pending { self.new.pending ≡ self.old.pending }
+        ensures cost { let old = self.old.state in
+            Costs old.stored.sheet (asked_by_table old formula_cell input column second)
+            (counts self.old) (counts self.new) }
     {
         let asked = DataTable {
             formula_cell,

@@ -8,3 +8,4 @@ pub mod ViewLemmas
 pub mod PlaceLemmas
 pub mod PendingLemmas
 pub mod Words
+pub mod NoneLemmas

@@ -7,7 +7,7 @@ pub use Rattle.std.proofs.lemmas.Bool.{and_parts, both_ways, cases_eq, cases_lt,
 pub use Rattle.std.proofs.lemmas.Bool.Decides.{nat_tests}
 pub use Rattle.std.proofs.lemmas.Grind.{common_steps}
 pub use Rattle.std.proofs.lemmas.Iterator.Adapters.{position_from-zero}
-pub use Rattle.std.proofs.lemmas.List.{append-nil, append_assoc, drop-append-le, drop_all, get_or-set_other, get_or-set_same, get_or_append_left, get_or_past, get_or_push, length-append, length-drop, length-map, length-set, map-append, map-set, take_all}
+pub use Rattle.std.proofs.lemmas.List.{append-nil, append_assoc, drop-append-le, drop_all, get_or-set_other, get_or-set_same, get_or_append_left, get_or_past, get_or_push, length-append, length-drop, length-map, length-set, map-append, map-set, nil_from_length, take_all}
 pub use Rattle.std.proofs.lemmas.List.Elements.{All-filter, All-head, All-map, All-tail}
 pub use Rattle.std.proofs.lemmas.List.Filters.{dedup_is}
 pub use Rattle.std.proofs.lemmas.List.Folds.{list_all_at, list_any-append, list_any_more}
@@ -29,10 +29,10 @@ pub use Rattle.std.specs.List.Sorted.{IsPermutation, IsStrictlyIncreasing, IsStr
 pub use Rattle.std.specs.Map.{keys_of, lookup, values_of}
 pub use Rattle.std.specs.Option.{is_some, option_map, option_to_list}
 pub use Rattle.std.specs.Ordering.{nat_cmp}
-pub use Rattle.std.specs.Prelude.{IfOk, IfSome, IsErr, IsSome, OnOk, bit_and, nat_lt, unwrap_or}
+pub use Rattle.std.specs.Prelude.{IfOk, IfSome, IsErr, IsSome, MatchResult, OnErr, OnOk, bit_and, is_ok, nat_lt, unwrap_or}
 pub use Rattle.std.specs.declared.alloc.AllocError.{AllocError}
 pub use Rattle.std.specs.Rc.{rc_str_bytes}
-pub use Rattle.std.specs.Result.{result_unwrap_or}
+pub use Rattle.std.specs.Result.{IsErrAnd, result_unwrap_or}
 pub use Rattle.std.specs.Str.{bytes_eq}
 pub use Rattle.std.specs.declared.cmp.Ordering.TheVariants.{Less}
 pub use Rattle.std.specs.declared.rc.RcStr.{RcStr}

@@ -1,7 +1,7 @@
 //! Cells with a bit for each session for which they are pending or have room only. Bits of rooms stand in a list beside them
 //! too: as that is emptied the cells are pending, with no search and no memory.
 
-ghost use Rattle.std.specs.Prelude.{◌≡◌, true, ◌==◌, ◌<◌, ◌*◌, ℕ, Some, None, IfOk, OnOk, ◌++◌, ◌∷◌, ◌||◌, ◌&&◌, filter, [], OnErr};
+ghost use Rattle.std.specs.Prelude.{◌≡◌, ◌≢◌, true, ◌==◌, ◌<◌, ◌*◌, ℕ, Some, None, MatchResult, OnOk, ◌++◌, ◌∷◌, ◌||◌, ◌&&◌, filter, [], OnErr};
 ghost use Rattle.std.specs.Option.{is_some};
 ghost use Rattle.std.specs.List.Sorted.{IsStrictlyIncreasing};
 ghost use Rattle.std.specs.Ordering.{nat_cmp};
@@ -242,7 +242,9 @@ fn is_in(words: &Words, i: usize, at: Address) -> bool
 /// Appends a cell if a session's bit stands in its word.
 fn push_with(found: &mut Vec<Address>, at: Address, word: u64, i: usize) -> Result<(), AllocError>
     requires { i < 64 }
-    ensures { OnOk result (found.new.items ≡ found.old.items ++ cells_with ((at, word) ∷ []) i) }
+    ensures { MatchResult result
+        (λ done. found.new.items ≡ found.old.items ++ cells_with ((at, word) ∷ []) i)
+        (λ error. has_bit i word ≡ true) }
 {
     if has(word, i) {
         found.push(at)?;
@@ -250,10 +252,11 @@ fn push_with(found: &mut Vec<Address>, at: Address, word: u64, i: usize) -> Resu
     Ok(())
 }
 
-/// The cells with a session's bit, by a walk through all.
+/// The cells with a session's bit, by a walk through all. Where there are none, it takes no memory.
 pub(crate) fn walked(alloc: Global, words: &Words, i: usize) -> Result<Vec<Address>, AllocError>
     requires { i < 64 }
-    ensures { IfOk result (λ found. found.items ≡ cells_with words.now.entries i) }
+    ensures { MatchResult result (λ found. found.items ≡ cells_with words.now.entries i)
+        (λ error. cells_with words.now.entries i ≢ []) }
 {
     let mut found = Vec::new(alloc);
     let mut rest = words.iter();
@@ -267,7 +270,7 @@ pub(crate) fn walked(alloc: Global, words: &Words, i: usize) -> Result<Vec<Addre
     Ok(found)
 }
 
-/// Appends those of some cells that have a session's bit.
+/// Appends those of some cells that have a session's bit. Where there are none, it takes no memory.
 pub(crate) fn push_those(
     found: &mut Vec<Address>,
     words: &Words,
@@ -275,8 +278,10 @@ pub(crate) fn push_those(
     i: usize,
 ) -> Result<(), AllocError>
     requires { i < 64 }
-    ensures { OnOk result (found.new.items
-        ≡ found.old.items ++ filter (is_in words.now.entries i) cells.now) }
+    ensures { MatchResult result
+        (λ done. found.new.items
+        ≡ found.old.items ++ filter (is_in words.now.entries i) cells.now)
+        (λ error. filter (is_in words.now.entries i) cells.now ≢ []) }
 {
     for at in cells {
         if is_in(words, i, *at) {

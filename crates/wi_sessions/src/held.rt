@@ -1,6 +1,6 @@
 //! What a session holds beside its name.
 
-ghost use Rattle.std.specs.Prelude.{◌≡◌, ℕ, List, OnOk, OnErr, string_bytes};
+ghost use Rattle.std.specs.Prelude.{◌≡◌, ◌≢◌, ℕ, List, [], OnOk, OnErr, string_bytes};
 ghost use Rattle.std.specs.Option.{option_map};
 ghost use Rattle.wi_sessions.specs.Sessions.{new_session, told, using_scenario};
 ghost use Rattle.wi_sessions.specs.Inner.Held.{with_name};
@@ -41,6 +41,7 @@ impl Held {
         ensures told { OnOk result ((name : List ℕ) → with_name name self.new
             ≡ told (with_name name self.old) changes.items seen) }
         ensures refused { OnErr result (self.new ≡ self.old) }
+        ensures some { OnErr result (changes.items ≢ []) }
     {
         self.picture.apply(changes)?;
         self.seen = seen;

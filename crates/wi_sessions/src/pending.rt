@@ -1,6 +1,6 @@
 //! Which cells may differ from which pictures.
 
-ghost use Rattle.std.specs.Prelude.{◌≡◌, ◌<◌, ◌≤◌, ◌||◌, ◌&&◌, ◌++◌, ◌∷◌, ℕ, List, not, length, [], IfOk, OnOk, OnErr, true, false, nat_lt, filter, ◌==◌};
+ghost use Rattle.std.specs.Prelude.{◌≡◌, ◌≢◌, ◌<◌, ◌≤◌, ◌||◌, ◌&&◌, ◌++◌, ◌∷◌, ℕ, List, not, length, [], IfOk, MatchResult, OnOk, OnErr, true, false, nat_lt, filter, ◌==◌};
 ghost use Rattle.std.specs.List.{list_all, slice_set};
 ghost use Rattle.wi_sessions.specs.Pictures.{sheet_size};
 ghost use Rattle.wi_values.specs.Address.{is_one_of};
@@ -172,23 +172,27 @@ impl Pending {
         }
     }
 
-    /// The cells that are pending for a session or have room only, in row-major order, at the cost of `cells`.
+    /// The cells that are pending for a session or have room only, in row-major order, at the cost of `cells`. Where there are none,
+    /// it takes no memory.
     pub(crate) fn all(&self, i: usize) -> Result<Vec<Address>, AllocError>
         requires { i < length self.now.pending }
-        ensures { IfOk result (λ found.
+        ensures { MatchResult result (λ found.
             (a : ℕ) → is_one_of found.items a ≡ (is_one_of (list_at self.now.pending i) a
-            || is_one_of (list_at self.now.vacant i) a)) }
+            || is_one_of (list_at self.now.vacant i) a))
+            (λ error. (list_at self.now.pending i ++ list_at self.now.vacant i) ≢ []) }
     {
         all_of(self.alloc, &self.words, &self.changed, &self.unread[i], i)
     }
 
     /// The cells that are pending for a session, in row-major order. It takes a look-up for each cell that was marked since it was
     /// last told, and a sort where they were marked by several edits; or a step for each cell that is pending for any session, where
-    /// these are no more, or where too many were marked to be listed.
+    /// these are no more, or where too many were marked to be listed. Where there are none, it takes no memory.
     pub(crate) fn cells(&self, i: usize) -> Result<Vec<Address>, AllocError>
         requires { i < length self.now.pending }
         ensures list { IfOk result (λ found. found.items ≡ list_at self.now.pending i) }
         ensures order { OnOk result (Rises 0 sheet_size (list_at self.now.pending i)) }
+        ensures some { OnErr result
+            ((list_at self.now.pending i ++ list_at self.now.vacant i) ≢ []) }
     {
         self.cells_rise(i);
         let all = all_of(self.alloc, &self.words, &self.changed, &self.unread[i], i)?;
@@ -221,7 +225,7 @@ impl Pending {
     }
 }
 
-/// The cells with a session's bit, where they stand.
+/// The cells with a session's bit, where they stand. Where there are none, it takes no memory.
 fn all_of(
     alloc: Global,
     words: &Words,
@@ -232,7 +236,8 @@ fn all_of(
     requires order { IsOrdered nat_cmp words.now }
     requires few { i < 64 }
     requires place { HasPlace words.now.entries changed.now i unread.now }
-    ensures { IfOk result (λ found. found.items ≡ cells_with words.now.entries i) }
+    ensures { MatchResult result (λ found. found.items ≡ cells_with words.now.entries i)
+        (λ error. cells_with words.now.entries i ≢ []) }
 {
     let behind = &changed[unread.from..];
     if looks_anywhere(words, behind, unread) {
@@ -261,6 +266,8 @@ fn looked_up(
     ensures same { IfOk result (λ found. (c : ℕ) → is_one_of found.items c
         ≡ is_one_of (filter (is_in words.now.entries i) behind.now
         ++ filter (is_in words.now.entries i) own.now) c) }
+    ensures some { OnErr result ((filter (is_in words.now.entries i) behind.now
+        ++ filter (is_in words.now.entries i) own.now) ≢ []) }
 {
     let mut found = Vec::new(alloc);
     push_those(&mut found, words, behind, i)?;
@@ -277,8 +284,9 @@ fn without_rooms(
     i: usize,
 ) -> Result<Vec<Address>, AllocError>
     requires { i < 64 }
-    ensures { IfOk result (λ found.
-        found.items ≡ filter (λ c. not (is_staged staged.now i c)) cells.now) }
+    ensures { MatchResult result
+        (λ found. found.items ≡ filter (λ c. not (is_staged staged.now i c)) cells.now)
+        (λ error. cells.now ≢ []) }
 {
     let mut found = Vec::new(alloc);
     for at in cells {

@@ -1,6 +1,6 @@
 //! What a session was last shown.
 
-ghost use Rattle.std.specs.Prelude.{◌≡◌, [], ℕ, OnOk, OnErr, length, unwrap_or};
+ghost use Rattle.std.specs.Prelude.{◌≡◌, ◌≢◌, [], ℕ, OnOk, OnErr, length, unwrap_or};
 ghost use Rattle.std.specs.Map.{keys_of};
 ghost use Rattle.std.specs.Option.{option_copied};
 ghost use Rattle.std.specs.Result.{result_unwrap_or};
@@ -77,10 +77,11 @@ impl Picture {
 
     /// Puts changes in, one after another: cells and the values that they have now. On an error all is as before. The work
     /// for each change is that of two look-ups, of one more where a value is taken away or memory runs out, and of putting a value in
-    /// where none stands or taking it away.
+    /// where none stands or taking it away. Without changes it takes no memory.
     pub fn apply(&mut self, mut changes: Vec<Change>) -> Result<(), AllocError>
         ensures done { OnOk result (self.new ≡ with_changes self.old changes.items) }
         ensures refused { OnErr result (self.new ≡ self.old) }
+        ensures some { OnErr result (changes.items ≢ []) }
     {
         put_changes(&mut self.values, &mut changes)
     }
@@ -92,7 +93,11 @@ fn put_changes(values: &mut CellMap<Value>, changes: &mut [Change]) -> Result<()
     ensures done { OnOk result (values.new.entries ≡ with_changes values.old.entries changes.old) }
     ensures refused { OnErr result (values.new.entries ≡ values.old.entries) }
     ensures between { AreBetweenEdits Empty values.new.entries }
+    ensures some { OnErr result (changes.old ≢ []) }
 {
+    if changes.is_empty() {
+        return Ok(());
+    }
     let before = values.len() as u64;
     let answer = put_in(values, before, changes);
     release(values, changes, answer.unwrap_or(before));

@@ -1,6 +1,6 @@
 //! All sessions.
 
-ghost use Rattle.std.specs.Prelude.{◌≡◌, ◌≢◌, ◌<◌, ◌||◌, ◌&&◌, ◌++◌, ◌∷◌, ℕ, List, not, length, false, [], IfOk, IfSome, OnOk, OnErr, string_bytes};
+ghost use Rattle.std.specs.Prelude.{◌≡◌, ◌≢◌, ◌<◌, ◌||◌, ◌&&◌, ◌++◌, ◌∷◌, ℕ, List, not, length, true, false, is_ok, [], IfOk, IfSome, OnOk, OnErr, string_bytes};
 ghost use Rattle.std.specs.Option.{is_some, option_map};
 ghost use Rattle.std.specs.List.{slice_set};
 ghost use Rattle.std.specs.Map.{lookup};
@@ -153,6 +153,10 @@ impl Sessions {
         requires { i < length self.now.sessions }
         ensures list { IfOk result (λ found. found.items ≡ pending_of self.now i) }
         ensures order { OnOk result (Rises 0 sheet_size (pending_of self.now i)) }
+
+        // No memory is taken where there is no cell, neither pending nor with room only.
+        ensures none { pending_of self.now i ≡ [] → vacant_of self.now i ≡ []
+            → is_ok result ≡ true }
     {
         self.pending.cells(i)
     }
@@ -185,6 +189,10 @@ impl Sessions {
         ensures pending { OnOk result (self.new.pending ≡ slice_set self.old.pending i []) }
         ensures vacant { OnOk result (self.new.vacant ≡ slice_set self.old.vacant i []) }
         ensures refused { OnErr result (self.new ≡ self.old) }
+
+        // No memory is taken where there is nothing to tell either.
+        ensures none { pending_of self.old i ≡ [] → vacant_of self.old i ≡ []
+            → changes.items ≡ [] → is_ok result ≡ true }
     {
         let all = self.pending.all(i)?;
         self.held[i].tell(changes, seen)?;

@@ -1,16 +1,10 @@
-use Rattle.wi_reports.proofs.Words.{ℕ, ◌+◌, List, ◌∙◌, length, ap, rules, arith, common_steps, sum_by, Replacement, Stored, shown, demanded, wants, changes_among, evaluations_for, restarts_for}
-use Rattle.wi_reports.proofs.ChangeLemmas.{not_none, one_looked, one_counted, all_counted}
+use Rattle.wi_reports.proofs.Words.{◌+◌, ◌∙◌, drop, ap, rules, arith, common_steps, left_more, Stored, demanded, shown, changes_among}
+use Rattle.wi_reports.proofs.ChangeLemmas.{not_none, one_looked}
+use Rattle.wi_reports.proofs.CostLemmas.{asked, within_all, cell_asked}
 use Rattle.wi_reports.proofs.changes.find_changes.Goals as goal
 
 pub value-requires : goal.value-requires
 value-requires g c = c.requires
-
--- what a cell may cost
-abbrev evaluations : List Replacement → Stored → ℕ → ℕ
-evaluations put s x = length (demanded s.sheet put x)
-
-abbrev restarts : List Replacement → Stored → ℕ → ℕ
-restarts put s x = sum_by (wants s.sheet) (demanded s.sheet put x)
 
 pub loop-at-preserved : goal.loop-at-preserved
 loop-at-preserved g c =
@@ -19,23 +13,22 @@ loop-at-preserved g c =
     let cells = c.args.cells.now in
     let i = c.loop-at.at-index in
     let a = c.at-item.result in
-    let whole = c.args.calculator.now in
-    let stored = g.C.Calculator.stored whole in
+    let stored = g.C.Calculator.stored c.args.calculator.now in
     let picture = c.args.picture.now in
     let shown_now = shown stored.sheet put in
-    let most_evaluated = g.C.Calculator.evaluated whole + evaluations_for stored.sheet put cells in
-    let most_restarted = g.C.Calculator.restarted whole + restarts_for stored.sheet put cells in
     record {
       same = c.in_ok-value.ensures.same ∙ old.same;
       found = one_looked cells picture shown_now i a c.in_ok-value.value c.loop-at.found.items _ (changes_among cells picture shown_now) c.loop-at-test.true c.at-item.is
           (c.in_ok-value.ensures.value ∙ ap (λ (s : Stored). shown s.sheet put a) old.same) (grind rules) old.found;
       quiet = not_none cells i c.loop-at-test.true;
-      evaluations = one_counted (evaluations put) stored _ cells i a _ _ most_evaluated c.loop-at-test.true c.at-item.is old.same c.in_ok-value.ensures.evaluations old.evaluations;
-      restarts = one_counted (restarts put) stored _ cells i a _ _ most_restarted c.loop-at-test.true c.at-item.is old.same c.in_ok-value.ensures.restarts old.restarts;
+      cost = cell_asked (λ s. demanded s.sheet put) stored _ a (drop (i + 1) cells) old.same (left_more cells i a c.loop-at-test.true c.at-item.is) old.cost (asked _ _ c.in_ok-value.ensures.evaluations c.in_ok-value.ensures.restarts);
     }
 
 pub returns-clause-found : goal.returns-clause-found
 returns-clause-found g c = grind (arith, common_steps)
+
+pub returns-clause-cost : goal.returns-clause-cost
+returns-clause-cost g c = within_all c.loop-at.invariant.cost
 
 pub returns-in_err-value-clause-same : goal.returns-in_err-value-clause-same
 returns-in_err-value-clause-same g c = c.in_err-value.ensures.same ∙ c.loop-at.invariant.same
@@ -43,17 +36,12 @@ returns-in_err-value-clause-same g c = c.in_err-value.ensures.same ∙ c.loop-at
 pub returns-in_err-value-clause-quiet : goal.returns-in_err-value-clause-quiet
 returns-in_err-value-clause-quiet g c = not_none c.args.cells.now c.loop-at.at-index c.loop-at-test.true
 
-pub returns-in_err-value-clause-evaluations : goal.returns-in_err-value-clause-evaluations
-returns-in_err-value-clause-evaluations g c =
-    let stored = g.C.Calculator.stored c.args.calculator.now in
-    let bound = g.C.Calculator.evaluated c.args.calculator.now + evaluations_for stored.sheet c.args.put.now c.args.cells.now in
-    all_counted (evaluations c.args.put.now) stored _ c.args.cells.now c.loop-at.at-index c.at-item.result _ _ bound c.loop-at-test.true c.at-item.is c.loop-at.invariant.same c.in_err-value.ensures.evaluations c.loop-at.invariant.evaluations
-
-pub returns-in_err-value-clause-restarts : goal.returns-in_err-value-clause-restarts
-returns-in_err-value-clause-restarts g c =
-    let stored = g.C.Calculator.stored c.args.calculator.now in
-    let bound = g.C.Calculator.restarted c.args.calculator.now + restarts_for stored.sheet c.args.put.now c.args.cells.now in
-    all_counted (restarts c.args.put.now) stored _ c.args.cells.now c.loop-at.at-index c.at-item.result _ _ bound c.loop-at-test.true c.at-item.is c.loop-at.invariant.same c.in_err-value.ensures.restarts c.loop-at.invariant.restarts
+pub returns-in_err-value-clause-cost : goal.returns-in_err-value-clause-cost
+returns-in_err-value-clause-cost g c =
+    let cells = c.args.cells.now in
+    let i = c.loop-at.at-index in
+    within_all (cell_asked (λ s. demanded s.sheet c.args.put.now) _ _ c.at-item.result (drop (i + 1) cells) c.loop-at.invariant.same (left_more cells i c.at-item.result c.loop-at-test.true c.at-item.is) c.loop-at.invariant.cost
+    (asked _ _ c.in_err-value.ensures.evaluations c.in_err-value.ensures.restarts))
 
 pub returns-in_err-push-clause-same : goal.returns-in_err-push-clause-same
 returns-in_err-push-clause-same g c = c.in_ok-value.ensures.same ∙ c.loop-at.invariant.same
@@ -61,14 +49,9 @@ returns-in_err-push-clause-same g c = c.in_ok-value.ensures.same ∙ c.loop-at.i
 pub returns-in_err-push-clause-quiet : goal.returns-in_err-push-clause-quiet
 returns-in_err-push-clause-quiet g c = not_none c.args.cells.now c.loop-at.at-index c.loop-at-test.true
 
-pub returns-in_err-push-clause-evaluations : goal.returns-in_err-push-clause-evaluations
-returns-in_err-push-clause-evaluations g c =
-    let stored = g.C.Calculator.stored c.args.calculator.now in
-    let bound = g.C.Calculator.evaluated c.args.calculator.now + evaluations_for stored.sheet c.args.put.now c.args.cells.now in
-    all_counted (evaluations c.args.put.now) stored _ c.args.cells.now c.loop-at.at-index c.at-item.result _ _ bound c.loop-at-test.true c.at-item.is c.loop-at.invariant.same c.in_ok-value.ensures.evaluations c.loop-at.invariant.evaluations
-
-pub returns-in_err-push-clause-restarts : goal.returns-in_err-push-clause-restarts
-returns-in_err-push-clause-restarts g c =
-    let stored = g.C.Calculator.stored c.args.calculator.now in
-    let bound = g.C.Calculator.restarted c.args.calculator.now + restarts_for stored.sheet c.args.put.now c.args.cells.now in
-    all_counted (restarts c.args.put.now) stored _ c.args.cells.now c.loop-at.at-index c.at-item.result _ _ bound c.loop-at-test.true c.at-item.is c.loop-at.invariant.same c.in_ok-value.ensures.restarts c.loop-at.invariant.restarts
+pub returns-in_err-push-clause-cost : goal.returns-in_err-push-clause-cost
+returns-in_err-push-clause-cost g c =
+    let cells = c.args.cells.now in
+    let i = c.loop-at.at-index in
+    within_all (cell_asked (λ s. demanded s.sheet c.args.put.now) _ _ c.at-item.result (drop (i + 1) cells) c.loop-at.invariant.same (left_more cells i c.at-item.result c.loop-at-test.true c.at-item.is) c.loop-at.invariant.cost
+    (asked _ _ c.in_ok-value.ensures.evaluations c.in_ok-value.ensures.restarts))

@@ -1,4 +1,5 @@
-use Rattle.wi_reports.proofs.Words.{◌≡◌, ◌≤◌, ◌+◌, ◌++◌, [], drop, shown, changes_among, evaluations_for, restarts_for}
+use Rattle.wi_reports.proofs.Words.{◌≡◌, ◌++◌, [], drop, shown, changes_among, cells_cases}
+use Rattle.wi_reports.proofs.CostLemmas.{Leaves}
 use Rattle.wi_reports.proofs.changes.find_changes.Given as goal
 
 -- what was found, with what is still to come, is all
@@ -13,6 +14,5 @@ invariant-loop-at g l =
       same : stored l.calculator ≡ stored l.fn.calculator;
       found : l.found.items ++ changes_among (drop l.at-index l.cells) l.picture shown_now ≡ changes_among l.cells l.picture shown_now;
       quiet : l.cells ≡ [] → (evaluated l.calculator ≡ evaluated l.fn.calculator) × (restarted l.calculator ≡ restarted l.fn.calculator);
-      evaluations : evaluated l.calculator + evaluations_for sheet l.put (drop l.at-index l.cells) ≤ evaluated l.fn.calculator + evaluations_for sheet l.put l.cells;
-      restarts : restarted l.calculator + restarts_for sheet l.put (drop l.at-index l.cells) ≤ restarted l.fn.calculator + restarts_for sheet l.put l.cells;
+      cost : Leaves sheet (cells_cases sheet l.put (drop l.at-index l.cells)) (cells_cases sheet l.put l.cells) (evaluated l.fn.calculator, restarted l.fn.calculator) (evaluated l.calculator, restarted l.calculator);
     }

@@ -1,6 +1,7 @@
-use Rattle.wi_reports.proofs.Words.{◌+◌, ◌-◌, ◌∙◌, arith, common_steps, flat_map, starts_with_trans, cells_of_row, cell_compared}
-use Rattle.wi_reports.proofs.RowLemmas.{all_rows}
+use Rattle.wi_reports.proofs.Words.{◌+◌, ◌-◌, ◌∙◌, arith, common_steps, flat_map, starts_with_trans, cells_of_row, cell_compared, refl, ap, starts_itself, both_cases}
+use Rattle.wi_reports.proofs.RowLemmas.{all_rows, rows_from, rows_are}
 use Rattle.wi_reports.proofs.CompareLemmas.{one_more_row}
+use Rattle.wi_reports.proofs.CostLemmas.{all_left, within_all, cells_asked, rows_left}
 use Rattle.wi_reports.proofs.compare.push_all.Goals as goal
 
 pub loop-row-preserved : goal.loop-row-preserved
@@ -13,6 +14,7 @@ loop-row-preserved g c =
       same = c.in_ok-push_row.ensures.same ∙ old.same;
       written = one_more_row (λ s. cell_compared s.sheet c.args.sides.now.first.now c.args.sides.now.second.now) _ _ c.args.area top (row - top) (row + 1 - top) row _ _ _ (omega arith) (omega arith) old.same old.written c.in_ok-push_row.ensures.ok;
       kept = starts_with_trans _ _ _ c.in_ok-push_row.ensures.kept old.kept;
+      cost = cells_asked (λ s. both_cases s.sheet c.args.sides.now.first.now c.args.sides.now.second.now) _ _ (cells_of_row row c.args.area) (rows_from c.args.area (row + 1) ((c.row-row-end.result + 1) - (row + 1))) old.same (rows_left c.args.area row (c.row-row-end.result + 1) c.loop-row-test.true) old.cost c.in_ok-push_row.ensures.cost;
     }
 
 pub returns-clause-ok : goal.returns-clause-ok
@@ -24,10 +26,29 @@ returns-clause-ok g c =
     c.first.ensures c.row-top.ensures.value c.last.ensures c.row-row-end.ensures.value (omega arith) c.loop-row.invariant.written
 
 pub loop-row-init : goal.loop-row-init
-loop-row-init g c = grind (arith, common_steps)
+loop-row-init g c =
+    let stored = g.C.Calculator.stored c.args.calculator.now in
+    let first = c.row-top.result in
+    record {
+      within = omega arith;
+      same = refl;
+      written = grind (arith, common_steps);
+      kept = starts_itself _;
+      cost = all_left stored.sheet _ (ap (flat_map (both_cases stored.sheet c.args.sides.now.first.now c.args.sides.now.second.now))
+          (rows_are c.args.area _ first _ c.row-row-end.result _ c.first.ensures c.row-top.ensures.value c.last.ensures c.row-row-end.ensures.value (omega arith)));
+    }
 
 pub push_row-requires-clause-order : goal.push_row-requires-clause-order
 push_row-requires-clause-order g c = c.requires
 
 pub returns-in_err-push_row-clause-kept : goal.returns-in_err-push_row-clause-kept
 returns-in_err-push_row-clause-kept g c = starts_with_trans _ _ _ c.in_err-push_row.ensures.kept c.loop-row.invariant.kept
+
+pub returns-clause-cost : goal.returns-clause-cost
+returns-clause-cost g c = within_all c.loop-row.invariant.cost
+
+pub returns-in_err-push_row-clause-cost : goal.returns-in_err-push_row-clause-cost
+returns-in_err-push_row-clause-cost g c =
+    let row = c.loop-row.row in
+    within_all (cells_asked (λ s. both_cases s.sheet c.args.sides.now.first.now c.args.sides.now.second.now) _ _ (cells_of_row row c.args.area) (rows_from c.args.area (row + 1) ((c.row-row-end.result + 1) - (row + 1))) c.loop-row.invariant.same
+    (rows_left c.args.area row (c.row-row-end.result + 1) c.loop-row-test.true) c.loop-row.invariant.cost c.in_err-push_row.ensures.cost)

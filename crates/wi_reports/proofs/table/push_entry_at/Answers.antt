@@ -5,3 +5,6 @@ push_entry-requires g c = c.requires
 
 pub returns-clause-text : goal.returns-clause-text
 returns-clause-text g c = c.push_entry.ensures.text
+
+pub returns-clause-cost : goal.returns-clause-cost
+returns-clause-cost g c = c.push_entry.ensures.cost

@@ -1,5 +1,6 @@
-use Rattle.wi_reports.proofs.Words.{[], ◌∷◌, ◌++◌, map, ap, ◌∙◌, string_bytes, row_of, cells_of_row, starts_itself, starts_joined, text_under}
+use Rattle.wi_reports.proofs.Words.{[], ◌∷◌, ◌++◌, map, ap, ◌∙◌, string_bytes, row_of, cells_of_row, starts_itself, starts_joined, text_under, cells_cases}
 use Rattle.wi_reports.proofs.TableLemmas.{after_first, written_as}
+use Rattle.wi_reports.proofs.CostLemmas.{nothing_asked, asked_same}
 use Rattle.wi_reports.proofs.table.push_head.Goals as goal
 
 pub push_texts-requires-clause-order : goal.push_texts-requires-clause-order
@@ -22,3 +23,12 @@ returns-in_err-push-clause-kept g c = starts_itself _
 
 pub returns-in_err-push_texts-clause-kept : goal.returns-in_err-push_texts-clause-kept
 returns-in_err-push_texts-clause-kept g c = starts_itself _
+
+pub returns-clause-cost : goal.returns-clause-cost
+returns-clause-cost g c = asked_same (ap (λ r. cells_cases (g.C.Calculator.stored c.args.calculator.now).sheet c.args.put.now (cells_of_row r c.args.cells)) (c.row-row.ensures.value ∙ ap row_of c.first.ensures)) c.in_ok-push_texts.ensures.cost
+
+pub returns-in_err-push_texts-clause-cost : goal.returns-in_err-push_texts-clause-cost
+returns-in_err-push_texts-clause-cost g c = asked_same (ap (λ r. cells_cases (g.C.Calculator.stored c.args.calculator.now).sheet c.args.put.now (cells_of_row r c.args.cells)) (c.row-row.ensures.value ∙ ap row_of c.first.ensures)) c.in_err-push_texts.ensures.cost
+
+pub returns-in_err-push-clause-cost : goal.returns-in_err-push-clause-cost
+returns-in_err-push-clause-cost g c = nothing_asked _ _ _

@@ -1,5 +1,6 @@
-use Rattle.wi_reports.proofs.Words.{◌∙◌, string_bytes, starts_itself, starts_joined, entries_beside}
+use Rattle.wi_reports.proofs.Words.{◌∙◌, string_bytes, starts_itself, starts_joined, entries_beside, entries_cases}
 use Rattle.wi_reports.proofs.TableLemmas.{row_written}
+use Rattle.wi_reports.proofs.CostLemmas.{asked_of, both_asked, front_asked}
 use Rattle.wi_reports.proofs.table.push_row.Goals as goal
 
 pub push_text_under-requires : goal.push_text_under-requires
@@ -28,3 +29,14 @@ returns-in_err-push_text_under-clause-kept g c = starts_itself _
 
 pub returns-in_err-push_entries-clause-kept : goal.returns-in_err-push_entries-clause-kept
 returns-in_err-push_entries-clause-kept g c = starts_itself _
+
+pub returns-clause-cost : goal.returns-clause-cost
+returns-clause-cost g c =
+    both_asked c.in_ok-push_text_under.ensures.cost (asked_of (λ s. entries_cases s.sheet c.args.put.now c.args.table.now.formula_cell c.args.table.now.input c.args.table.now.second c.args.x) _ _ c.in_ok-push_text_under.ensures.same c.in_ok-push_entries.ensures.cost)
+
+pub returns-in_err-push_text_under-clause-cost : goal.returns-in_err-push_text_under-clause-cost
+returns-in_err-push_text_under-clause-cost g c = front_asked _ c.in_err-push_text_under.ensures.cost
+
+pub returns-in_err-push_entries-clause-cost : goal.returns-in_err-push_entries-clause-cost
+returns-in_err-push_entries-clause-cost g c =
+    both_asked c.in_ok-push_text_under.ensures.cost (asked_of (λ s. entries_cases s.sheet c.args.put.now c.args.table.now.formula_cell c.args.table.now.input c.args.table.now.second c.args.x) _ _ c.in_ok-push_text_under.ensures.same c.in_err-push_entries.ensures.cost)

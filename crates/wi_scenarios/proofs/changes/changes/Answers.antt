@@ -1,4 +1,4 @@
-use Rattle.wi_scenarios.proofs.Words.{refl, rules, arith, common_steps}
+use Rattle.wi_scenarios.proofs.Words.{refl, rules, arith, common_steps, false≢true}
 use Rattle.wi_scenarios.proofs.ChangesLemmas.{sound_after}
 use Rattle.wi_scenarios.proofs.changes.changes.Goals as goal
 
@@ -18,3 +18,12 @@ pub returns-clause-sound : goal.returns-clause-sound
 returns-clause-sound g c =
     sound_after (g.C.Calculator.stored c.args.calculator.now) _ c.args.desk.now c.tell.new.desk c.in_ok-found.found.items
     (search rules) c.in_ok-found.ensures.list c.requires c.in_ok-tell.ensures.told
+
+pub returns-in_err-found-clause-quiet_ok : goal.returns-in_err-found-clause-quiet_ok
+returns-in_err-found-clause-quiet_ok g c = λ none. absurd (c.in_err-found.ensures.none none)
+
+pub returns-in_err-tell-clause-quiet_ok : goal.returns-in_err-tell-clause-quiet_ok
+returns-in_err-tell-clause-quiet_ok g c = λ none. absurd (false≢true (c.in_err-tell.ensures.none none (c.requires.full c.args.desk.now.current) (c.in_ok-found.ensures.none none)))
+
+pub returns-clause-quiet_ok : goal.returns-clause-quiet_ok
+returns-clause-quiet_ok g c = λ none. refl

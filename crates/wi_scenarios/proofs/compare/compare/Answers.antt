@@ -1,4 +1,4 @@
-use Rattle.wi_scenarios.proofs.Words.{refl, ap, rules, option_copied, effective, state_of}
+use Rattle.wi_scenarios.proofs.Words.{refl, ap, rules, option_copied, effective, state_of, nothing_asked}
 use Rattle.wi_scenarios.proofs.LookLemmas.{compare_lacked, compare_done}
 use Rattle.wi_scenarios.proofs.compare.compare.Goals as goal
 
@@ -20,3 +20,9 @@ returns-clause-step g c =
     c.args.out.now.items c.push_differences.new.out.items (under (option_copied c.args.compared.now.first)) (under (option_copied c.args.compared.now.second))
     c.is_too_large.ensures c.if-is_too_large.false c.lacks_either.ensures c.if-lacks_either.false refl refl
     c.in_ok-push_differences.ensures.ok (ap (λ x. state_of x c.args.desk.now) c.in_ok-push_differences.ensures.same)
+
+pub returns-then-is_too_large-clause-cost : goal.returns-then-is_too_large-clause-cost
+returns-then-is_too_large-clause-cost g c = nothing_asked _ _ _
+
+pub returns-then-lacks_either-clause-cost : goal.returns-then-lacks_either-clause-cost
+returns-then-lacks_either-clause-cost g c = nothing_asked _ _ _

@@ -19,10 +19,11 @@ loop-column-preserved c =
     let content = option_copied c.args.content in
     let first = c.column-first.result in
     let column = c.loop-column.column in
+    let copied = c.in_ok-copy.ensures in
     record {
       within = omega arith;
       copied = λ cells h. one_cell content c.args.from c.args.row first (column - first) (column + 1 - first) column c.at-to.result cells c.loop-column.changes.items c.push.new.self.items c.in_ok-copy.copy
-          (omega arith) (omega arith) c.at-to.ensures c.in_ok-copy.ensures c.in_ok-push.ensures.items (c.loop-column.invariant.copied cells h);
+          (omega arith) (omega arith) c.at-to.ensures (search (copied)) c.in_ok-push.ensures.items (c.loop-column.invariant.copied cells h);
     }
 
 pub returns : goal.returns

@@ -1,4 +1,4 @@
-use Rattle.wi_scenarios.proofs.Words.{refl, ap, rules, state_of}
+use Rattle.wi_scenarios.proofs.Words.{refl, ap, rules, state_of, ◌∙◌, List, asked_same, nothing_asked, rows_cases, Replacement}
 use Rattle.wi_scenarios.proofs.LookLemmas.{show_lacked}
 use Rattle.wi_scenarios.proofs.show.show.Goals as goal
 
@@ -21,3 +21,15 @@ returns-in_err-push_rows-clause-step g c =
 
 pub returns-clause-step : goal.returns-clause-step
 returns-clause-step g c = search rules
+
+pub returns-then-is_too_large-clause-cost : goal.returns-then-is_too_large-clause-cost
+returns-then-is_too_large-clause-cost g c = nothing_asked _ _ _
+
+pub returns-in_err-put-clause-cost : goal.returns-in_err-put-clause-cost
+returns-in_err-put-clause-cost g c = nothing_asked _ _ _
+
+pub returns-in_err-push_rows-clause-cost : goal.returns-in_err-push_rows-clause-cost
+returns-in_err-push_rows-clause-cost g c = asked_same (ap (λ (rs : List Replacement). rows_cases (g.C.Calculator.stored c.args.calculator.now).sheet rs c.args.area) (c.deref.ensures.value ∙ c.in_ok-put.ensures.value)) c.in_err-push_rows.ensures.cost
+
+pub returns-clause-cost : goal.returns-clause-cost
+returns-clause-cost g c = asked_same (ap (λ (rs : List Replacement). rows_cases (g.C.Calculator.stored c.args.calculator.now).sheet rs c.args.area) (c.deref.ensures.value ∙ c.in_ok-put.ensures.value)) c.in_ok-push_rows.ensures.cost

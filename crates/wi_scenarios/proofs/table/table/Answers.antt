@@ -1,4 +1,4 @@
-use Rattle.wi_scenarios.proofs.Words.{refl, ap, rules, state_of}
+use Rattle.wi_scenarios.proofs.Words.{refl, ap, rules, state_of, ◌∙◌, List, asked_same, nothing_asked, table_cases, Replacement}
 use Rattle.wi_scenarios.proofs.LookLemmas.{table_lacked}
 use Rattle.wi_scenarios.proofs.table.table.Goals as goal
 
@@ -20,3 +20,12 @@ returns-in_err-push_table-clause-step g c =
 
 pub returns-clause-step : goal.returns-clause-step
 returns-clause-step g c = search rules
+
+pub returns-in_err-put-clause-cost : goal.returns-in_err-put-clause-cost
+returns-in_err-put-clause-cost g c = nothing_asked _ _ _
+
+pub returns-in_err-push_table-clause-cost : goal.returns-in_err-push_table-clause-cost
+returns-in_err-push_table-clause-cost g c = asked_same (ap (λ (rs : List Replacement). table_cases (g.C.Calculator.stored c.args.calculator.now).sheet rs c.args.table.now.formula_cell c.args.table.now.input c.args.table.now.column c.args.table.now.second) (c.deref.ensures.value ∙ c.in_ok-put.ensures.value)) c.in_err-push_table.ensures.cost
+
+pub returns-clause-cost : goal.returns-clause-cost
+returns-clause-cost g c = asked_same (ap (λ (rs : List Replacement). table_cases (g.C.Calculator.stored c.args.calculator.now).sheet rs c.args.table.now.formula_cell c.args.table.now.input c.args.table.now.column c.args.table.now.second) (c.deref.ensures.value ∙ c.in_ok-put.ensures.value)) c.in_ok-push_table.ensures.cost

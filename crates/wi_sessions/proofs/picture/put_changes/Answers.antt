@@ -1,4 +1,4 @@
-use Rattle.wi_sessions.proofs.Words.{◌∙◌, on_err}
+use Rattle.wi_sessions.proofs.Words.{◌∙◌, on_err, ◌≡◌, ◌<◌, length, sym, ap, arith, common_steps, nil_from_length, with_changes}
 use Rattle.wi_sessions.proofs.PictureLemmas.{all_put, none_put}
 use Rattle.wi_sessions.proofs.picture.put_changes.Goals as goal
 
@@ -17,3 +17,14 @@ pub returns-clause-done : goal.returns-clause-done
 returns-clause-done c =
     all_put c.args.values.now.entries c.put_in-answer.new.values.entries c.release.new.rooms.entries c.requires c.release.ensures.between c.release.ensures.same
     c.args.changes.now c.in_ok-answer.ensures.done
+
+pub returns-then-is_empty-clause-done : goal.returns-then-is_empty-clause-done
+returns-then-is_empty-clause-done c = ap (with_changes c.args.values.now.entries) (sym (nil_from_length c.args.changes.now (grind (arith, common_steps))))
+
+pub returns-then-is_empty-clause-between : goal.returns-then-is_empty-clause-between
+returns-then-is_empty-clause-between c = c.requires
+
+pub returns-in_err-answer-clause-some : goal.returns-in_err-answer-clause-some
+returns-in_err-answer-clause-some c =
+    let some : 0 < length c.args.changes.now = grind (arith, common_steps) in
+    on_err c.from_residual.result (λ none. let l : length c.args.changes.now ≡ 0 = ap length none in omega (arith, some, l))

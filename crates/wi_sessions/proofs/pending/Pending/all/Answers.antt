@@ -1,7 +1,8 @@
-use Rattle.wi_sessions.proofs.Words.{◌≡◌, ◌∙◌, ℕ, List, ap, length, sym, subst, arith, IfOk-weaker, is_one_of, cells_with, HasPlace}
+use Rattle.wi_sessions.proofs.Words.{◌≡◌, ◌∙◌, ℕ, List, ap, length, sym, subst, arith, is_one_of, HasPlace}
 use Rattle.wi_sessions.proofs.PlaceLemmas.{place_read}
 use Rattle.wi_sessions.proofs.WordLemmas.{listed_with}
 use Rattle.wi_sessions.proofs.PendingLemmas.{listed_told, within_unread}
+use Rattle.wi_sessions.proofs.NoneLemmas.{match_weaker, some_told}
 use Rattle.wi_sessions.proofs.pending.Pending.all.Goals as goal
 
 pub index-requires : goal.index-requires
@@ -29,6 +30,6 @@ returns c =
     let staged = c.self.inside.staged.items in
     let n = length c.self.inside.unread.items in
     let l = within_unread words staged n c.args.i c.args.self.now c.self.view_is c.requires in
-    IfOk-weaker c.all_of.result (λ found. found.items ≡ cells_with words c.args.i) _
+    match_weaker c.all_of.result
     (λ found is q. ap (λ (ys : List ℕ). is_one_of ys q) is ∙ listed_with words c.args.i c.self.invariant.order q
-    ∙ sym (listed_told words staged n c.args.i c.args.self.now c.self.invariant.order c.self.view_is l q)) c.all_of.ensures
+    ∙ sym (listed_told words staged n c.args.i c.args.self.now c.self.invariant.order c.self.view_is l q)) (some_told words staged n c.args.i c.args.self.now c.self.view_is l) c.all_of.ensures

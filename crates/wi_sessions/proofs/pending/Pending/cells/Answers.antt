@@ -1,7 +1,8 @@
-use Rattle.wi_sessions.proofs.Words.{◌≡◌, ℕ, List, length, not, sym, subst, arith, common_steps, IfOk-weaker, on_ok, is_staged, HasPlace}
+use Rattle.wi_sessions.proofs.Words.{◌≡◌, ℕ, List, length, not, sym, subst, arith, common_steps, IfOk-weaker, on_ok, is_staged, HasPlace, ◌∙◌, on_err}
 use Rattle.std.specs.Prelude.{filter}
 use Rattle.wi_sessions.proofs.PlaceLemmas.{place_read}
 use Rattle.wi_sessions.proofs.PendingLemmas.{all_told, cells_told, within_unread}
+use Rattle.wi_sessions.proofs.NoneLemmas.{match_ok, match_err, some_told}
 use Rattle.wi_sessions.proofs.pending.Pending.cells.Goals as goal
 
 pub index-requires : goal.index-requires
@@ -39,7 +40,23 @@ returns-clause-list c =
     let l = within_unread c.self.inside.words.entries c.self.inside.staged.items (length c.self.inside.unread.items) c.args.i c.args.self.now c.self.view_is c.requires in
     IfOk-weaker c.without_rooms.result (λ found. found.items ≡ filter (λ q. not (is_staged c.deref-2.result.now c.args.i q)) c.deref-3.result.now) _
     (λ found is. cells_told c.self.inside.words.entries c.self.inside.staged.items c.deref-2.result.now (length c.self.inside.unread.items) c.args.i c.args.self.now c.in_ok-all.all.items c.deref-3.result.now found.items
-    c.self.view_is l c.in_ok-all.ensures c.deref-3.ensures.value c.deref-2.ensures.value is) c.without_rooms.ensures
+    c.self.view_is l c.in_ok-all.ensures c.deref-3.ensures.value c.deref-2.ensures.value is) (match_ok _ _ c.without_rooms.result c.without_rooms.ensures)
 
 pub returns-clause-order : goal.returns-clause-order
 returns-clause-order c = on_ok c.without_rooms.result c.cells_rise.ensures
+
+pub returns-in_err-all-clause-some : goal.returns-in_err-all-clause-some
+returns-in_err-all-clause-some c =
+    let words = c.self.inside.words.entries in
+    let staged = c.self.inside.staged.items in
+    let n = length c.self.inside.unread.items in
+    let l = within_unread words staged n c.args.i c.args.self.now c.self.view_is c.requires in
+    on_err c.from_residual.result (some_told words staged n c.args.i c.args.self.now c.self.view_is l c.in_err-all.ensures)
+
+pub returns-clause-some : goal.returns-clause-some
+returns-clause-some c =
+    let words = c.self.inside.words.entries in
+    let staged = c.self.inside.staged.items in
+    let n = length c.self.inside.unread.items in
+    let l = within_unread words staged n c.args.i c.args.self.now c.self.view_is c.requires in
+    match_err _ c.without_rooms.result (λ some. some_told words staged n c.args.i c.args.self.now c.self.view_is l (λ none. some (c.deref-3.ensures.value ∙ c.in_ok-all.ensures ∙ none))) c.without_rooms.ensures

@@ -1,5 +1,6 @@
-use Rattle.wi_sessions.proofs.Words.{[], ℕ, List, sym, ap, ◌∙◌, length, rc_str_bytes, slice_set, length-set, set_value_at, index_map_len-with_value_at, on_err, Session, new_session, told, Roster, roster_in, session_in, Held}
+use Rattle.wi_sessions.proofs.Words.{[], ℕ, List, sym, ap, ◌∙◌, length, rc_str_bytes, slice_set, length-set, set_value_at, index_map_len-with_value_at, on_err, Session, new_session, told, Roster, roster_in, session_in, Held, refl, pending_of, vacant_of}
 use Rattle.wi_sessions.proofs.RosterLemmas.{entry_at, part_at, part_set, put_back, within_lists}
+use Rattle.wi_sessions.proofs.NoneLemmas.{nil_both}
 use Rattle.wi_sessions.proofs.sessions.Sessions.tell.Goals as goal
 
 pub all-requires : goal.all-requires
@@ -35,3 +36,14 @@ pub invariant_of-self-2 : goal.invariant_of-self-2
 invariant_of-self-2 c =
     ap (λ (xss : List (List ℕ)). length xss) c.clear.ensures.pending ∙ length-set c.self.inside.pending.pending c.args.i [] ∙ c.self.invariant
     ∙ sym (index_map_len-with_value_at c.self.inside.held c.args.i _)
+
+pub returns-in_err-all-clause-none : goal.returns-in_err-all-clause-none
+returns-in_err-all-clause-none c =
+    λ none bare untold.
+    absurd (c.in_err-all.ensures (nil_both _ _ (ap (λ (r : Roster). pending_of r c.args.i) c.self.view_is ∙ none) (ap (λ (r : Roster). vacant_of r c.args.i) c.self.view_is ∙ bare)))
+
+pub returns-in_err-tell-clause-none : goal.returns-in_err-tell-clause-none
+returns-in_err-tell-clause-none c = λ none bare untold. absurd (c.in_err-tell.ensures.some untold)
+
+pub returns-clause-none : goal.returns-clause-none
+returns-clause-none c = λ none bare untold. refl
