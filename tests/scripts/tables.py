@@ -83,14 +83,16 @@ def numbered(numbers: bytes, line: bytes) -> Iterator[bytes]:
     match = NUMBERS.fullmatch(numbers)
     if not match:
         raise ValueError(f"{numbers!r} are no numbers")
+    *fronts, last = re.split(rb"#(?:[+-]1)?", line)
+    steps = [int(step or 0) for step in PLACE.findall(line)]
     for number in range(int(match[1]), int(match[2]) + 1):
-        yield PLACE.sub(lambda place: b"%d" % (number + int(place[1] or 0)), line)
+        yield b"".join(b"%s%d" % (front, number + step) for front, step in zip(fronts, steps)) + last
 
 
 def replied(times: bytes, text: bytes) -> bytes:
     """The lines of a reply that one line of a table tells: one, so many equal ones, or one for each number."""
     if b"." in times:
-        return b"".join(b"%s\n" % spelled(line) for line in numbered(times, text))
+        return b"".join(b"%s\n" % line for line in numbered(times, spelled(text)))
     return b"%s\n" % spelled(text) * int(times or 1)
 
 
