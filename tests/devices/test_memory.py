@@ -29,7 +29,7 @@ class RefusedMemory(DeviceTest):
     def test_without_memory_nothing_is_read_and_nothing_written(self) -> None:
         run = self.program.run(GIVEN, (), Refusal(1, is_lasting=True))
         self.assertEqual((run.status, run.written), (MEMORY, b""))
-        self.assertRegex(run.told, rb"\Awhatif: [^\n]+; [^\n]+\n\Z")
+        self.assertRegex(run.told, rb"\Awhatif: out of memory; [^\n]+\n\Z")
 
     def test_each_request_of_two_scripts_refused_in_turn(self) -> None:
         words = ("--load", str(self.file("plan", LOADED)))

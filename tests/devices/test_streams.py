@@ -15,13 +15,20 @@ from calls import (DEVICE, PROGRAM, SECONDS, USAGE, WELL, DeviceTest, Ended, cal
 SCRIPT = b"set A1 5\nset A2 =[.A1]*2\nshow A1:A2\nfrob\nexport A1:A2\n"
 REPLIES = b'ok\nok\n"5"\r\n"10"\r\nok\nrefused E02\nlines 2\n"5"\r\n"10"\r\nok\n'
 MANY = 20_000
+FITTED = (
+    (SCRIPT, REPLIES),
+    (b"set A1 1\nset A2 2\nshow A1:A2\n", b'ok\nok\n"1"\r\n"2"\r\nok\n'),
+    (b"set A1 =-2^2\nset A2 =2^3^2\nshow A1:A2\n", b'ok\nok\n"4"\r\n"64"\r\nok\n'),
+)
 
 
 class FullDisk(DeviceTest):
     @unittest.skipUnless(Path("/dev/full").exists(), "no /dev/full")
     def test_a_full_disk_is_a_fault_of_writing(self) -> None:
         with open("/dev/full", "wb") as full:
-            self.assert_ended(call(given=SCRIPT, stdout=full), DEVICE, b"")
+            ended = call(given=SCRIPT, stdout=full)
+            self.assert_ended(ended, DEVICE, b"")
+            self.assertTrue(ended.told.startswith(b"whatif: the replies can't be written; "), ended.told)
 
     @unittest.skipUnless(Path("/dev/full").exists(), "no /dev/full")
     def test_where_nothing_is_written_a_full_disk_is_no_fault(self) -> None:
@@ -30,16 +37,17 @@ class FullDisk(DeviceTest):
 
     def test_what_fits_on_a_disk_is_the_beginning_of_the_replies(self) -> None:
         path = self.folder / "replies"
-        for room in range(len(REPLIES) + 1):
+        for script, replies in FITTED:
+            for room in range(len(replies) + 1):
 
-            def limit() -> None:
-                signal.signal(signal.SIGXFSZ, signal.SIG_IGN)
-                resource.setrlimit(resource.RLIMIT_FSIZE, (room, room))
+                def limit() -> None:
+                    signal.signal(signal.SIGXFSZ, signal.SIG_IGN)
+                    resource.setrlimit(resource.RLIMIT_FSIZE, (room, room))
 
-            with self.subTest(room=room), path.open("wb") as disk:
-                ended = call(given=SCRIPT, stdout=disk, before=limit)
-                self.assert_ended(ended, WELL if room == len(REPLIES) else DEVICE, b"")
-                self.assertEqual(path.read_bytes(), REPLIES[:room])
+                with self.subTest(script=script, room=room), path.open("wb") as disk:
+                    ended = call(given=script, stdout=disk, before=limit)
+                    self.assert_ended(ended, WELL if room == len(replies) else DEVICE, b"")
+                    self.assertEqual(path.read_bytes(), replies[:room])
 
 
 class BrokenPipe(DeviceTest):
@@ -127,7 +135,9 @@ class UnreadableInput(DeviceTest):
     def test_a_folder_as_standard_input_is_a_fault_of_reading(self) -> None:
         folder = os.open(self.folder, os.O_RDONLY)
         self.addCleanup(os.close, folder)
-        self.assert_ended(call(stdin=folder), DEVICE, b"")
+        ended = call(stdin=folder)
+        self.assert_ended(ended, DEVICE, b"")
+        self.assertTrue(ended.told.startswith(b"whatif: the script can't be read; "), ended.told)
 
     @unittest.skipUnless(Path("/proc/self/mem").exists(), "no /proc/self/mem")
     def test_a_read_that_fails_is_a_fault(self) -> None:
@@ -140,9 +150,12 @@ class UnreadableInput(DeviceTest):
 
     def test_a_read_that_fails_within_a_command_leaves_the_replies_before(self) -> None:
         for script, replies in (
+            (b"", b""),
             (b"set A1 5\nsho", b"ok\n"),
             (b"set A1 5\nshow A1\ncsv A1 2\n7\n", b'ok\n"5"\r\nok\n'),
-            (b"set A1 5\ncsv A0 2\n7\n8", b"ok\n"),
+            (b"set A1 5\ncsv A1 2\n1\n", b"ok\n"),
+            (b"set A1 5\ncsv A0 2\n1\n2", b"ok\n"),
+            (b"csv A1 0\ncsv A1 1", b"ok\n"),
         ):
             with self.subTest(script=script):
                 self.assert_ended(cut_off(script, replies), DEVICE, replies)

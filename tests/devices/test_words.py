@@ -97,8 +97,9 @@ class LoadedFile(DeviceTest):
         self.assert_ended(call(["--load", str(plan)], given=b" 6\nshow A1:A2\n"), WELL, b'ok\nrefused E02\nrefused E02\n"5"\r\n""\r\nok\n')
 
     def test_data_lines_that_it_lacks_are_not_looked_for_in_standard_input(self) -> None:
-        plan = self.file("plan", b"csv A1 2\n7\n")
-        self.assert_ended(call(["--load", str(plan)], given=b"show A1\n"), WELL, b'refused E13\n""\r\nok\n')
+        for lacking, replies in ((b"csv A1 2\n7\n", b'refused E13\n"",""\r\nok\n'), (b"set A1 9\ncsv A1 2\n7,8", b'ok\nrefused E13\n"9",""\r\nok\n')):
+            plan = self.file("plan", lacking)
+            self.assert_ended(call(["--load", str(plan)], given=b"show A1:B1\n"), WELL, replies)
 
     def test_after_a_fault_in_it_standard_input_is_not_read(self) -> None:
         plan = self.file("plan", b"show A1" + b"\n" * 1_000_001)

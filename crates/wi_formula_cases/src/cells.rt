@@ -10,7 +10,7 @@ use wi_values::{Address, Rect, Value};
 
 /// Knows the values of A1 and B1, and that each what-if of A1 has that of A1 and each of B1 is Empty.
 #[derive(Drop)]
-pub struct Cells {
+struct Cells {
     a1: Value,
     b1: Value,
     empty: Value,
@@ -68,7 +68,7 @@ fn push_want(want: &Want, line: &mut String) -> Result<(), AllocError> {
 }
 
 /// What is known where A1 and B1 have these values.
-pub fn known(a1: Value, b1: Value) -> Cells {
+fn known(a1: Value, b1: Value) -> Cells {
     Cells {
         a1,
         b1,
@@ -77,7 +77,7 @@ pub fn known(a1: Value, b1: Value) -> Cells {
 }
 
 /// Appends the value of a formula, or what it asks for.
-pub fn push_value_of(
+fn push_value_of(
     alloc: Global,
     formula: &Formula,
     known: &Cells,

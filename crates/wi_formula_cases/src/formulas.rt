@@ -6,7 +6,7 @@ use crate::trees::push_tree;
 use std::alloc::{AllocError, Global};
 use wi_parser::{Expr, Formula, MAX_FORMULA, parse};
 
-pub fn printed(alloc: Global, formula: &Formula) -> Result<String, AllocError> {
+fn printed(alloc: Global, formula: &Formula) -> Result<String, AllocError> {
     let mut text = String::new(alloc);
     formula.print(&mut text)?;
     Ok(text)

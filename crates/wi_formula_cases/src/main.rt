@@ -7,7 +7,6 @@ mod areas;
 mod cells;
 mod contents;
 mod formulas;
-mod longest;
 mod numbers;
 mod text_spelling;
 mod tokens;
@@ -41,7 +40,6 @@ fn is_case(line: &str) -> bool {
 /// Appends the answer to a case of formulas whose operand is one text.
 fn push_of_text(alloc: Global, operation: &str, text: &str, line: &mut String) -> Option<()> {
     match operation {
-        "longest" => longest::push(alloc, text, line),
         "tokens" | "reference" | "corners" | "unquoted" => {
             tokens::push(alloc, operation, text, line)
         }

@@ -1,9 +1,8 @@
-//! Fractions: what they are made of, arithmetic, rounding, order, and their texts. A fraction is written as `n/d`, both
-//! parts whole numbers.
+//! Fractions: what they are made of, powers, and their texts. A fraction is written as `n/d`, both parts whole numbers.
 
 use crate::text_spelling::unquoted;
 use std::alloc::AllocError;
-use wi_fraction::{Fraction, FractionError, Mode};
+use wi_fraction::{Fraction, FractionError};
 
 type Calculated = Result<Fraction, FractionError>;
 
@@ -17,69 +16,19 @@ fn number(text: &str) -> Option<Fraction> {
     of_parts(text)?.ok()
 }
 
-/// What two numbers give.
-fn of_numbers(operation: &str, x: Fraction, y: Fraction) -> Option<Calculated> {
-    match operation {
-        "sum" => Some(x.checked_add(y)),
-        "difference" => Some(x.checked_sub(y)),
-        "product" => Some(x.checked_mul(y)),
-        "quotient" => Some(x.checked_div(y)),
-        _ => None,
-    }
-}
-
-/// A number rounded to so many places.
-fn rounded(operation: &str, x: Fraction, places: i32) -> Calculated {
-    match operation {
-        "nearest" => x.round_to(places, Mode::HalfAway),
-        "away" => x.round_to(places, Mode::Away),
-        _ => x.round_to(places, Mode::Toward),
-    }
-}
-
-/// What a number and another operand give.
-fn of_two(operation: &str, x: Fraction, other: &str) -> Option<Calculated> {
-    match operation {
-        "power" => Some(x.checked_pow(other.parse::<i128>().ok()?)),
-        "nearest" | "away" | "toward" => Some(rounded(operation, x, other.parse::<i32>().ok()?)),
-        _ => of_numbers(operation, x, number(other)?),
-    }
-}
-
-/// The number that a text in quotes, or a number, gives alone.
-fn of_one(operation: &str, operand: &str) -> Option<Fraction> {
-    match operation {
-        "read" => Fraction::read(unquoted(operand)?.as_bytes()),
-        "token" => Fraction::read_decimal(unquoted(operand)?.as_bytes()),
-        "negated" => Some(number(operand)?.neg()),
-        _ => Some(number(operand)?.floor()),
-    }
-}
-
-/// The number that an operation on a number and another operand gives.
-fn of_pair(operation: &str, operands: &str) -> Option<Calculated> {
-    let (left, other) = operands.split_once(' ')?;
-    of_two(operation, number(left)?, other)
+/// A number raised to a whole one.
+fn powered(operands: &str) -> Option<Calculated> {
+    let (base, exponent) = operands.split_once(' ')?;
+    Some(number(base)?.checked_pow(exponent.parse::<i128>().ok()?))
 }
 
 /// The number that an operation gives.
 fn calculated(operation: &str, operands: &str) -> Option<Calculated> {
     match operation {
         "number" => of_parts(operands),
-        "read" | "token" | "negated" | "floor" => Some(Ok(of_one(operation, operands)?)),
-        _ => of_pair(operation, operands),
+        "token" => Some(Ok(Fraction::read_decimal(unquoted(operands)?.as_bytes())?)),
+        _ => powered(operands),
     }
-}
-
-fn two(operands: &str) -> Option<(Fraction, Fraction)> {
-    let (left, right) = operands.split_once(' ')?;
-    Some((number(left)?, number(right)?))
-}
-
-/// Appends the order of two numbers.
-fn push_order(operands: &str, line: &mut String) -> Option<()> {
-    let (one, other) = two(operands)?;
-    write!(line, "{:?}", one.cmp(&other)).ok()
 }
 
 fn push_parts(number: Fraction, line: &mut String) -> Result<(), AllocError> {
@@ -93,11 +42,9 @@ fn push_calculated(number: Calculated, line: &mut String) -> Result<(), AllocErr
     }
 }
 
-/// Appends what an operation on numbers or their texts gives.
+/// Appends what an operation on a number or its text gives.
 pub fn push(operation: &str, operands: &str, line: &mut String) -> Option<()> {
     match operation {
-        "order" => push_order(operands, line),
-        "shown" => number(operands)?.push_text(line).ok(),
         "decimal" => number(operands)?.push_decimal(line).ok(),
         _ => push_calculated(calculated(operation, operands)?, line).ok(),
     }

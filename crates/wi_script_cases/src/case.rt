@@ -1,6 +1,6 @@
 //! A case as standard input spells it.
 
-use crate::byte_spelling::{misspelled, number, parts, push_spelled};
+use crate::byte_spelling::{number, parts, push_spelled};
 use std::alloc::{AllocError, Global};
 use std::io::Write;
 use std::{io, mem};
@@ -15,26 +15,8 @@ pub struct Case {
     /// The script, or what of it follows the last count.
     pub script: Vec<u8>,
     pub limits: Limits,
-    /// How many bytes of replies can be written.
-    pub room: usize,
-    /// How often each write is interrupted first.
-    pub interruptions: usize,
-    /// Whether the read after the script fails.
-    pub torn: bool,
-    /// Whether the lines are told too, each before the replies to it.
-    pub in_turns: bool,
-    /// Whether the number of evaluations is told.
-    pub evaluations: bool,
     /// Whether the number of restarts is told.
     pub restarts: bool,
-    /// Whether the replies are told by their number and the last of them.
-    pub in_short: bool,
-    /// Whether runs in pieces are left out.
-    pub whole: bool,
-    /// Whether the calculator that keeps nothing is left out, and pieces are.
-    pub keeping: bool,
-    /// Whether it is run once, on the calculator that keeps as much as the program.
-    pub once: bool,
 }
 
 impl Case {
@@ -45,37 +27,18 @@ impl Case {
             counted: Vec::new(alloc),
             script: Vec::new(alloc),
             limits: Limits::standard(),
-            room: usize::MAX,
-            interruptions: 0,
-            torn: false,
-            in_turns: false,
-            evaluations: false,
             restarts: false,
-            in_short: false,
-            whole: false,
-            keeping: false,
-            once: false,
         })
     }
 
     /// Takes a line of the case.
     pub fn take(&mut self, alloc: Global, line: &str) -> io::Result<()> {
         match line.split_once(' ') {
-            Some(("@bytes", text)) => push_spelled(text, &mut self.script),
-            Some(("@rows", text)) => push_rows(text, &mut self.script),
-            Some((word, count)) if word.starts_with('@') => self.set(word, number(count)?),
-            _ => self.take_word(alloc, line),
-        }
-    }
-
-    /// Sets what a word names to a number.
-    fn set(&mut self, word: &str, count: u64) -> io::Result<()> {
-        match word {
-            "@cells" => self.limits.cells = count,
-            "@edits" => self.limits.edits = count,
-            "@room" => self.room = size(count),
-            "@interrupted" => self.interruptions = size(count),
-            _ => return Err(misspelled()),
+            Some(("@bytes", text)) => push_spelled(text, &mut self.script)?,
+            Some(("@rows", text)) => push_rows(text, &mut self.script)?,
+            Some(("@cells", count)) => self.limits.cells = number(count)?,
+            Some(("@edits", count)) => self.limits.edits = number(count)?,
+            _ => self.take_word(alloc, line)?,
         }
         Ok(())
     }
@@ -83,18 +46,11 @@ impl Case {
     /// Takes a line that is a word of its own, or a line of the script.
     fn take_word(&mut self, alloc: Global, line: &str) -> io::Result<()> {
         match line {
-            "@torn" => self.torn = true,
-            "@turns" => self.in_turns = true,
             "@count" => {
                 let part = mem::replace(&mut self.script, Vec::new(alloc));
                 self.counted.push(part)?;
             }
-            "@evaluations" => self.evaluations = true,
             "@restarts" => self.restarts = true,
-            "@short" => self.in_short = true,
-            "@whole" => self.whole = true,
-            "@keeping" => self.keeping = true,
-            "@once" => self.once = true,
             _ => {
                 self.script.extend_from_slice(line.as_bytes())?;
                 self.script.push(b'\n')?;
@@ -102,10 +58,6 @@ impl Case {
         }
         Ok(())
     }
-}
-
-fn size(count: u64) -> usize {
-    usize::try_from(count).unwrap_or(usize::MAX)
 }
 
 /// Appends a line for each of some numbers: `2..4 set A# =[.A#-1]` for A2 to A4.

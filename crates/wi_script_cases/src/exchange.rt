@@ -18,7 +18,7 @@ pub struct Turn {
 pub struct Exchange {
     pub title: String,
     pub script: Vec<u8>,
-    pub replies: Vec<u8>,
+    replies: Vec<u8>,
     /// The commands, one after another.
     turns: Vec<Turn>,
 }
@@ -65,6 +65,13 @@ impl Exchange {
             }
         }
         due
+    }
+
+    /// Whether these are all replies, and behind them these bytes.
+    pub fn are_all(&self, written: &[u8], behind: &[u8]) -> bool {
+        written.len() == self.replies.len().saturating_add(behind.len())
+            && written.starts_with(&self.replies)
+            && written.ends_with(behind)
     }
 
     /// Whether these are the replies to the commands that are complete in so many bytes of the script.
