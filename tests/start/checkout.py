@@ -20,7 +20,7 @@ SCRIPTS = ("whatif", "prove", "test", "start/programs", "start/build-unproved")
 RUNNER = """echo "$*" > "$STUB_ROOT/words"
 echo '2 skipped: 2 of a part; install it'
 echo '10 passed, 0 failed, 2 skipped'"""
-STUBS = (("rt", "bin"), ("rattle-link", "bin"), ("clang", "toolchain/bin"))
+STUBS = (("rt", "bin"), ("rattle", "bin"), ("rattle-link", "bin"), ("clang", "toolchain/bin"))
 
 
 class Amiss(Exception):

@@ -18,6 +18,7 @@ def first_call_answers_without_a_proof(place: Checkout) -> None:
                               f"whatif: not proved yet; {place.root}/prove proves and builds it, in some 40 minutes on 4 cores"])
     expect("calls of rt", place.calls(), ["try"])
     expect("input of rt", (place.root / "given").exists() and (place.root / "given").read_text(), "")
+    expect("asks the prover for a hint", (place.root / "hints").exists(), False)
 
 
 def later_calls_answer_at_once_and_say_one_line(place: Checkout) -> None:
@@ -83,6 +84,15 @@ def newer_source_is_built_anew(place: Checkout) -> None:
     place.call()
     place.source.write_text("edited\n")
     expect_program(place.call(), "-O0 of edited")
+
+
+def source_that_changed_while_it_was_built_is_newer(place: Checkout) -> None:
+    process = place.begin(STUB_SECONDS="1")
+    wait_for(lambda: place.calls() == ["try"])
+    place.source.touch()
+    expect_program(ended(process), QUICK)
+    expect_program(place.call(), QUICK)
+    expect("calls of rt", place.calls(), ["try", "try"])
 
 
 def a_file_that_went_is_a_newer_source(place: Checkout) -> None:
@@ -191,7 +201,7 @@ def proved_program_goes_before_an_unproved_one(place: Checkout) -> None:
 TESTS = [
     first_call_answers_without_a_proof, later_calls_answer_at_once_and_say_one_line, a_faster_program_takes_its_place,
     a_faster_program_that_was_not_ended_is_begun_again, a_faster_program_of_older_sources_is_not_taken, lines_are_answered_one_by_one,
-    signals_are_the_programs, newer_source_is_built_anew, a_file_that_went_is_a_newer_source, what_the_program_does_not_rest_on_may_be_newer,
+    signals_are_the_programs, newer_source_is_built_anew, source_that_changed_while_it_was_built_is_newer, a_file_that_went_is_a_newer_source, what_the_program_does_not_rest_on_may_be_newer,
     two_first_calls_build_once, missing_toolchain_is_said, failed_first_call_shows_the_end_of_the_log, link_from_another_folder_serves,
     stopped_first_call_leaves_nothing, no_link_is_made_below_the_top_folder, another_layout_is_told_and_each_script_is_tried,
     a_module_that_does_not_come_is_another_layout, proved_program_goes_before_an_unproved_one,
