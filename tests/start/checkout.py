@@ -96,8 +96,8 @@ class Checkout:
     def call(self, *words: str, has_rt: bool = True, by: str = "whatif", **more: str) -> Answer:
         return ended(self.begin(*words, has_rt=has_rt, by=by, **more))
 
-    def prove(self, **more: str) -> Answer:
-        return self.call(by="prove", **more)
+    def prove(self, has_rt: bool = True, **more: str) -> Answer:
+        return self.call(has_rt=has_rt, by="prove", **more)
 
 
 def ended(process: "subprocess.Popen[str]") -> Answer:

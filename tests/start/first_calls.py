@@ -148,11 +148,11 @@ def link_from_another_folder_serves(place: Checkout) -> None:
 
 def stopped_first_call_leaves_nothing(place: Checkout) -> None:
     # Ctrl-C goes to all processes of the terminal, TERM to the script alone.
-    for send in (lambda it: os.killpg(it.pid, signal.SIGINT), lambda it: it.send_signal(signal.SIGTERM)):
+    for send, told in ((os.killpg, signal.SIGINT), (os.kill, signal.SIGTERM)):
         called = len(place.calls())
         process = place.begin(STUB_SECONDS="4")
         wait_for(lambda: len(place.calls()) > called)
-        send(process)
+        send(process.pid, told)
         expect("status", ended(process).status, FAILED)
         expect("left", left(place), ["build.log", "lock"])
         expect("left in the folder for scratch files", list((place.root / "tmp").iterdir()), [])

@@ -7,7 +7,8 @@ import subprocess
 import unittest
 from pathlib import Path
 
-from packing import DEB, ROOT, Scratch, proved_program
+from packing import DEB, Scratch, proved_program
+from whatif_tools.program import ROOT
 
 ROOTED = [] if os.geteuid() == 0 else ["unshare", "--map-root-user"]
 DPKG = ("--force-depends", "--force-script-chrootless", "--log=/dev/null")

@@ -6,10 +6,10 @@ import subprocess
 import unittest
 from pathlib import Path
 
-from packing import ROOT, VERSION
+from packing import VERSION
 from release_tools import pages
 from release_tools.licences import copyright_of
-from whatif_tools.program import call, program
+from whatif_tools.program import ROOT, call, program
 
 
 class Pages(unittest.TestCase):
