@@ -201,8 +201,9 @@ def proved_program_goes_before_an_unproved_one(place: Checkout) -> None:
 TESTS = [
     first_call_answers_without_a_proof, later_calls_answer_at_once_and_say_one_line, a_faster_program_takes_its_place,
     a_faster_program_that_was_not_ended_is_begun_again, a_faster_program_of_older_sources_is_not_taken, lines_are_answered_one_by_one,
-    signals_are_the_programs, newer_source_is_built_anew, source_that_changed_while_it_was_built_is_newer, a_file_that_went_is_a_newer_source, what_the_program_does_not_rest_on_may_be_newer,
-    two_first_calls_build_once, missing_toolchain_is_said, failed_first_call_shows_the_end_of_the_log, link_from_another_folder_serves,
-    stopped_first_call_leaves_nothing, no_link_is_made_below_the_top_folder, another_layout_is_told_and_each_script_is_tried,
-    a_module_that_does_not_come_is_another_layout, proved_program_goes_before_an_unproved_one,
+    signals_are_the_programs, newer_source_is_built_anew, source_that_changed_while_it_was_built_is_newer, a_file_that_went_is_a_newer_source,
+    what_the_program_does_not_rest_on_may_be_newer, two_first_calls_build_once, missing_toolchain_is_said,
+    failed_first_call_shows_the_end_of_the_log, link_from_another_folder_serves, stopped_first_call_leaves_nothing,
+    no_link_is_made_below_the_top_folder, another_layout_is_told_and_each_script_is_tried, a_module_that_does_not_come_is_another_layout,
+    proved_program_goes_before_an_unproved_one,
 ]
