@@ -36,7 +36,7 @@ PACKAGES: dict[str, Callable[[], bool]] = {
     "gnumeric": command("ssconvert"),
     "parallel": command("parallel"),
     "python3-pandas": lambda: importlib.util.find_spec("pandas") is not None,
-    "man-db": command("man"),
+    "man-db": lambda: succeeds(["sh", "-c", "man --version | grep -q '^man [0-9]'"]),
     "dpkg": command("dpkg-deb"),
 }
 

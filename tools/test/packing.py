@@ -14,6 +14,7 @@ from whatif_tools.program import ROOT, program
 
 sys.path.append(str(ROOT / "tests"))
 
+from packages import PACKAGES  # noqa: E402
 from release_tools.elf import logic  # noqa: E402
 from release_tools.licences import own_crates  # noqa: E402
 from stub_elf import write  # noqa: E402
@@ -88,6 +89,10 @@ def toolchain(made: Place) -> None:
     rt.parent.mkdir()
     rt.write_text(f"#!/bin/sh\ncase $1 in version) echo a-kit logic {LOGIC} ;; doc) echo '{kit}/START-HERE.md' ;; *) exit 1 ;; esac\n")
     rt.chmod(0o755)
+
+
+def has_man() -> bool:
+    return PACKAGES["man-db"]()
 
 
 def proved_program() -> Optional[Path]:
