@@ -47,17 +47,14 @@ def a_faster_program_that_was_not_ended_is_begun_again(place: Checkout) -> None:
 
 
 def a_faster_program_of_older_sources_is_not_taken(place: Checkout) -> None:
-    place.call(STUB_SLOW="3")
+    place.call(STUB_SLOW="6")
     place.source.write_text("edited\n")
-    place.edit("src")
-    (place.root / "crates" / "low" / "src" / "file").unlink()
-    os.utime(place.root / "crates" / "low" / "src")
     expect_program(place.call(), "-O0 of edited")
-    wait_for(lambda: (place.unproved / "faster.log").exists())
     wait_for(lambda: not any("build-" in it.name for it in (place.root / "tmp").iterdir()))
-    expect_program(place.call(), "-O0 of edited")
+    expect("made of what was edited", " of edited;" in place.call().out, True)
     wait_for(lambda: "module.bc" not in left(place))
     expect_program(place.call(), "-O1 of edited")
+    expect("calls of rt", place.calls(), ["try", "try"])
 
 
 def lines_are_answered_one_by_one(place: Checkout) -> None:
@@ -113,7 +110,7 @@ def what_the_program_does_not_rest_on_may_be_newer(place: Checkout) -> None:
 
 
 def two_first_calls_build_once(place: Checkout) -> None:
-    processes = [place.begin(STUB_SECONDS="2", STUB_SLOW="5") for _ in range(2)]
+    processes = [place.begin(STUB_SECONDS="4", STUB_SLOW="5") for _ in range(2)]
     answers = [ended(it) for it in processes]
     for it in answers:
         expect_program(it, QUICK)
