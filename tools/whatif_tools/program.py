@@ -7,7 +7,11 @@ from dataclasses import dataclass
 from pathlib import Path
 
 ROOT = Path(__file__).resolve().parents[2]
-BUILT = ROOT / "crates" / "whatif" / "out" / "whatif"
+BUILT = [ROOT / place for place in ("out/proved/whatif", "crates/whatif/out/whatif", "out/unproved/whatif")]
+"""Where this repository's scripts leave the program: the newest is that of its files as they are."""
+
+INSTALLED = ROOT.parent / "bin" / "whatif"
+"""Where it is if these tools lie in a folder share beside the folder bin."""
 
 REPLY_LINE = re.compile(rb'(?:"[^"]*"|[^"\n])*\n')
 """A line of a reply; a line break between quotes is inside a record."""
@@ -22,8 +26,15 @@ class NoProgram(Exception):
 
 
 def program() -> str:
-    """The program's path: what the environment variable WHATIF says, else the built one of this repository."""
-    return os.environ.get("WHATIF") or str(BUILT)
+    """The program's path: what the environment variable WHATIF says, else the newest of this repository, else the one installed with these tools,
+    else the one on the path."""
+    named = os.environ.get("WHATIF")
+    if named:
+        return named
+    built = [it for it in BUILT if it.is_file()]
+    if built:
+        return str(max(built, key=lambda it: it.stat().st_mtime_ns))
+    return str(INSTALLED) if ROOT.name == "share" and INSTALLED.is_file() else "whatif"
 
 
 @dataclass(frozen=True)
