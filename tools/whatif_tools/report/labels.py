@@ -1,0 +1,45 @@
+"""The names of cells: the text at the left, and the head of the column."""
+
+from collections.abc import Mapping
+from dataclasses import dataclass
+
+from ..sheet import Address
+
+Cells = Mapping[Address, tuple[str, str]]
+"""What each cell that isn't empty shows: its kind and its text."""
+
+FARTHEST = 8
+LONGEST = 60
+MOST_ROWS = 10_000
+
+
+@dataclass(frozen=True)
+class Labels:
+    """The names of cells by what stands around them."""
+
+    cells: Cells
+
+    def text(self, at: Address) -> str | None:
+        kind, text = self.cells.get(at, ("-", ""))
+        return " ".join(text.split()) or None if kind == "T" else None
+
+    def of(self, at: Address) -> str:
+        """The nearest text at the left, and the head of the column if the cell stands in a list; else nothing."""
+        parts = (self.left(at), self.head(at))
+        name = " \u00b7 ".join(part for part in parts if part)
+        return name if len(name) <= LONGEST else name[: LONGEST - 1] + "\u2026"
+
+    def left(self, at: Address) -> str | None:
+        columns = range(at.column - 1, max(0, at.column - 1 - FARTHEST), -1)
+        return next((text for column in columns if (text := self.text(Address(at.row, column))) is not None), None)
+
+    def head(self, at: Address) -> str | None:
+        """The first text above, if each cell up to it shows something."""
+        for row in range(at.row - 1, max(0, at.row - 1 - MOST_ROWS), -1):
+            above = Address(row, at.column)
+            if above not in self.cells:
+                return None
+            text = self.text(above)
+            if text is not None:
+                return text
+        return None
