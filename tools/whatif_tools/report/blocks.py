@@ -54,7 +54,9 @@ class Blocks:
         seen = self.survey.seen.get(question.at, Seen())
         told = joined(tag("p", finding.message, class_="e") for finding in self.findings.get(question.command.line - self.skipped, []))
         if question.is_refused:
-            return Part(question.heading or "Refused", told or tag("p", question.reply.end, class_="e"), self.about(question), "findings")
+            is_meant = not told
+            body = tag("p", f"{question.reply.end}, as it is meant") if is_meant else told
+            return Part(question.heading or "Refused", body, self.about(question), "" if is_meant else "findings")
         body = joined([told, BODIES[question.command.name](self, question, seen), self.tornados(seen)])
         return Part(question.heading or self.title(question, seen), body, self.about(question))
 
@@ -115,7 +117,7 @@ class Blocks:
         looked = survey.course.looked
         assert looked is not None
         body = scenarios_html(survey.states, list(survey.side_by_side), labels=survey.side_by_side, places=self.places)
-        about = joined(["as of ", line_link(looked.command.line - self.skipped), "; the cells of which a table or a comparison has told"])
+        about = joined(["as of ", line_link(looked.command.line - self.skipped), ", the cells of which a table or a comparison tells"])
         limit = tag("p", f"Only the first {MOST_SIDE_BY_SIDE} of these cells.", class_="soft") if len(survey.side_by_side) == MOST_SIDE_BY_SIDE else ""
         return Part("Scenarios side by side", joined([body, limit]), about)
 
@@ -148,5 +150,5 @@ def findings_part(in_script: Sequence[Finding], in_model: Sequence[Finding]) -> 
 
 
 def item(finding: Finding, link: Markup) -> Markup:
-    line = joined([tag("br"), tag("code", finding.shown[:LONGEST_COMMAND])]) if finding.shown else ""
+    line = tag("div", tag("code", finding.shown[:LONGEST_COMMAND])) if finding.shown else ""
     return tag("li", link, ": ", finding.message, line)

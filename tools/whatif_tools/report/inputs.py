@@ -15,7 +15,7 @@ RATE_OF_A_YEAR = re.compile(r"\b(?:of|per|a|each|every|in|for) (?:(?:a|the|each|
 YEAR = re.compile(r"\b(?:year|date|jahr|datum|ann[eé]e|a[nñ]o)\b", re.IGNORECASE)
 IDENTIFIER = re.compile(r"\b(?:id|code|zip|postcode|phone|account number|seed|version)\b", re.IGNORECASE)
 LEFT_OUT = (
-    "Left out are texts, truth values and 0; whole numbers from 1900 to 2100 that are named a year or a date;"
+    "What is no quantity isn't tried: texts, truth values and 0; whole numbers from 1900 to 2100 that are named a year or a date;"
     " and what is named an id, code, postcode, phone, seed or version."
 )
 

@@ -30,8 +30,17 @@ class Labels:
         return name if len(name) <= LONGEST else name[: LONGEST - 1] + "\u2026"
 
     def left(self, at: Address) -> str | None:
-        columns = range(at.column - 1, max(0, at.column - 1 - FARTHEST), -1)
-        return next((text for column in columns if (text := self.text(Address(at.row, column))) is not None), None)
+        """The nearest text at the left, behind other values or behind a gap but not behind both: that is another block's."""
+        has_value = has_gap = False
+        for column in range(at.column - 1, max(0, at.column - 1 - FARTHEST), -1):
+            before = Address(at.row, column)
+            text = self.text(before)
+            if text is not None:
+                return text
+            has_value, has_gap = has_value or before in self.cells, has_gap or before not in self.cells
+            if has_value and has_gap:
+                return None
+        return None
 
     def head(self, at: Address) -> str | None:
         """The first text above, if each cell up to it shows something."""

@@ -19,7 +19,7 @@ from .probes import Source
 from .questions import course_of, title_of
 from .survey import Survey
 
-ABOUT = "Numbers are exact; they are drawn rounded, \u2248 where that isn't seen otherwise. A cell's exact number is its title, and what is copied."
+ABOUT = "All numbers are exact. Where one is drawn rounded, the exact one is shown under the pointer, and copied by \u201ccopy exact\u201d."
 
 
 @dataclass(frozen=True)

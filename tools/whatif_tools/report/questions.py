@@ -53,7 +53,7 @@ def course_of(script: bytes, commands: Sequence[Command], replies: Sequence[Repl
     """What a script asks, from the command of a number on."""
     known, edits = Scenarios(), 0
     course = Course([], None, {"main"}, {}, None)
-    comments = headings(script, commands)
+    comments = headings(script, commands, replies)
     for at, (command, reply) in enumerate(zip(commands, replies)):
         if reply.code is None:
             known.accept(command)
@@ -83,26 +83,28 @@ def replaced_in(known: Scenarios, name: str | None) -> frozenset[str]:
     return frozenset(found)
 
 
-def headings(script: bytes, commands: Sequence[Command]) -> list[str]:
-    """For each command the last comment since the question before it, if there is one."""
+def headings(script: bytes, commands: Sequence[Command], replies: Sequence[Reply]) -> list[str]:
+    """For each command the last comment since the question before it, if there is one and it isn't the title."""
     lines = lines_of(script)
     found: list[str] = []
-    waiting, end = "", 0
-    for command in commands:
+    title, waiting, end = title_of(script), "", 0
+    for command, reply in zip(commands, replies):
         waiting = last_comment(lines[end : command.line - 1]) or waiting
-        found.append(waiting)
-        if command.name in SHOWING:
+        found.append("" if waiting == title else waiting)
+        if command.name in SHOWING or reply.code is not None:
             waiting = ""
         end = command.line + len(command.data)
     return found
 
 
 def last_comment(lines: Sequence[bytes]) -> str:
-    """The last comment, whose lines stand behind one another."""
+    """The last comment, whose lines stand behind one another; `#!` is a mark for programs."""
     words: list[str] = []
     for line in reversed(lines):
+        if line.startswith(b"#!"):
+            continue
         if line.startswith(b"#"):
-            words.append(line.decode(errors="replace").lstrip("#!").strip())
+            words.append(line.decode(errors="replace").lstrip("#").strip())
         elif words:
             break
     return " ".join(word for word in reversed(words) if word)
@@ -114,7 +116,7 @@ def title_of(script: bytes) -> str:
         text = line.decode(errors="replace").removeprefix("\ufeff").strip()
         if text and not text.startswith("#"):
             return ""
-        words = text.lstrip("#!").strip()
+        words = "" if text.startswith("#!") else text.lstrip("#").strip()
         if words:
             return words
     return ""

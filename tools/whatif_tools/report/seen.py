@@ -11,6 +11,13 @@ from .questions import Question
 from .sensitivity import Plan
 
 Formulas = dict[Address, str]
+Changes = list[tuple[Address, str, str]]
+
+
+def changes_in(reply: Reply) -> Changes:
+    """The records of a `changes`."""
+    found = ((Address.parse(address), kind, text) for address, kind, text in reply.records())
+    return [(at, kind, text) for at, kind, text in found if at is not None]
 
 
 @dataclass
@@ -19,10 +26,8 @@ class Picture:
 
     cells: dict[Address, tuple[str, str]] = field(default_factory=dict)
 
-    def take(self, reply: Reply) -> None:
-        for address, kind, text in reply.records():
-            at = Address.parse(address)
-            assert at is not None
+    def take(self, changes: Changes) -> None:
+        for at, kind, text in changes:
             if kind == "-":
                 self.cells.pop(at, None)
             else:
@@ -71,8 +76,10 @@ def seen_at(question: Question, picture: Picture, formulas: Formulas) -> Seen:
         return seen
     if name == "table":
         addresses = [words[1], words[2], *words[4:5]]
-    elif name in ("compare", "changes"):
+    elif name == "compare":
         addresses = [record[0] for record in question.reply.records()]
+    elif name == "changes":
+        addresses = [address for address, kind, _ in question.reply.records() if kind != "T"]
     elif name in ("show", "export"):
         inside = picture.inside(words)
         seen.texts = {str(at) for at in inside if picture.cells[at][0] == "T"}

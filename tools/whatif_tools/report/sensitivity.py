@@ -78,5 +78,5 @@ def plan(sheet: Sheet, goal: Label, by: Fraction, replaced: frozenset[str]) -> P
             inputs.append(Input(str(cell), name, value, value * (1 - by), value * (1 + by)))
     remarks = [f"The nearest {MOST_INPUTS:,} of {len(inputs):,} inputs were tried."] if len(inputs) > MOST_INPUTS else []
     if left_out:
-        remarks.append(f"{left_out:,} constant{'s' if left_out > 1 else ''} left out. {LEFT_OUT}")
+        remarks.append(f"{left_out:,} constant{'s are' if left_out > 1 else ' is'} left out. {LEFT_OUT}")
     return Plan(goal, base, inputs[:MOST_INPUTS], remarks) if inputs else None

@@ -5,12 +5,11 @@ from fractions import Fraction
 
 from whatif.drawing import Label, State
 
-from ..program import Reply
 from ..sheet import Address
 from .inputs import Sheet
 from .probes import Source
 from .questions import Course, Question
-from .seen import Formulas, Picture, Seen, seen_at
+from .seen import Changes, Formulas, Picture, Seen, changes_in, seen_at
 from .sensitivity import plan
 
 MOST_SESSIONS = 64
@@ -50,12 +49,12 @@ class Survey:
             self.ask_plans()
             self.ask_scenarios()
 
-    def pictures(self) -> dict[int, Reply]:
+    def pictures(self) -> dict[int, Changes]:
         """For each place what differs from the one before."""
         replies = self.source.ask({place.at: place.behind_use(self.name, ["changes"]) for place in self.places})
-        return {at: lines[2] for at, lines in replies.items()}
+        return {at: changes_in(lines[2]) for at, lines in replies.items()}
 
-    def walk(self, changes: dict[int, Reply]) -> Iterator[tuple[Question, Picture]]:
+    def walk(self, changes: dict[int, Changes]) -> Iterator[tuple[Question, Picture]]:
         """The places in order, each with what all cells show there."""
         picture = Picture()
         for place in self.places:
@@ -72,7 +71,7 @@ class Survey:
         left = [goal for goal in self.goals if goal not in asked] if place is self.places[-1] else []
         return [goal for goal in found if goal in self.goals] + left
 
-    def formulas(self, changes: dict[int, Reply]) -> dict[int, Formulas]:
+    def formulas(self, changes: dict[int, Changes]) -> dict[int, Formulas]:
         """The formulas by the number of edits before: all where a tornado needs them, else those of the cells that are shown."""
         whole = {place.edits for place in self.places if self.goals_at(place)}
         wanted: dict[int, list[Address]] = {}
@@ -94,7 +93,7 @@ class Survey:
             found.setdefault(edits[at], {}).update({cell: content for cell, content in contents if content.startswith(("=", "of:="))})
         return found
 
-    def read(self, changes: dict[int, Reply], formulas: dict[int, Formulas]) -> None:
+    def read(self, changes: dict[int, Changes], formulas: dict[int, Formulas]) -> None:
         looks: dict[str, dict[str, str]] = {}
         planned: set[tuple[str, str | None]] = set()
         for place, picture in self.walk(changes):

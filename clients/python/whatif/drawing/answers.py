@@ -6,6 +6,7 @@ import re
 from collections.abc import Sequence
 from dataclasses import dataclass, field
 from fractions import Fraction
+from functools import cached_property
 from typing import Any
 
 from .label import Label, Named, label
@@ -33,8 +34,14 @@ class Answers:
     places: int | None = None
     numbers: list[list[Fraction | None]] = field(default_factory=list)
 
+    @cached_property
     def known(self) -> list[Fraction]:
         return [number for line in self.numbers for number in line if number is not None]
+
+    @cached_property
+    def ends(self) -> tuple[Fraction, Fraction]:
+        """The lowest and the highest number, if there is one."""
+        return (min(self.known), max(self.known)) if self.known else (Fraction(0), Fraction(0))
 
     def are_alike(self) -> bool:
         """Whether all of several entries show the same."""
@@ -46,7 +53,7 @@ class Answers:
         return [(i, j) for i, line in enumerate(self.entries) for j, text in enumerate(line) if is_error(text)]
 
     def drawn_places(self) -> int:
-        return places_for(self.known(), self.places)
+        return places_for(self.known, self.places)
 
     def is_now(self, i: int, j: int) -> bool:
         """Whether the inputs have the values of an entry."""

@@ -34,11 +34,11 @@ def comparison_html(
     for (address, one, other, by), part in zip(rows, parts):
         digits = common_places([one, other, by], places)
         name = tag("th", named(address, labels).html(), scope="row")
-        cells = (entry(one, digits), entry(other, digits), entry(by, digits, plus=True), percent(part), tag("td", bar(part, longest), class_="bar"))
+        cells = (entry(one, digits), entry(other, digits), change(by, part, digits), tag("td", bar(part, longest), class_="bar"))
         body.append(row(name, *cells))
-    heads = [column_head("cell"), *(column_head(text, class_="n") for text in (state(before), state(after), "difference", "%"))]
+    heads = [column_head("cell"), *(column_head(text, class_="n") for text in (state(before), state(after), "change"))]
     caption = joined([state(before), " and ", state(after)])
-    return table(caption, [row(*heads, column_head("", class_="bar", aria_label="difference as a bar"))], body)
+    return table(caption, [row(*heads, column_head("", class_="bar", aria_label="change as a bar"))], body)
 
 
 def state(name: str) -> str:
@@ -59,11 +59,17 @@ def part_of(before: str, by: str) -> Fraction | None:
     return None if not one or difference is None else difference / abs(one)
 
 
-def percent(part: Fraction | None) -> Markup:
+def change(by: str, part: Fraction | None, places: int) -> Markup:
+    """A difference, with its percent."""
+    number = exact(by)
+    if number is None or part is None:
+        return entry(by, places, plus=True)
+    return tag("td", in_figures(number, places, plus=True), percent(part), class_="n", title=by)
+
+
+def percent(part: Fraction) -> Markup:
     """A part as percent at one decimal, with the exact percent as its title."""
-    if part is None:
-        return tag("td", class_="n")
-    return tag("td", drawn(part * 100, 1, plus=True).text, class_="n soft", title=f"{shown(part * 100)}\u202f%")
+    return tag("small", f"{drawn(part * 100, 1, plus=True).text}\u202f%", class_="part", title=f"{shown(part * 100)}\u202f%")
 
 
 def bar(part: Fraction | None, longest: Fraction) -> Markup:
@@ -95,8 +101,7 @@ def scenarios_html(states: Sequence[State], cells: Sequence[str], *, labels: Map
         part = part_of(first.values.get(at, ""), difference(first.values.get(at, ""), text))
         if part is None or known is first or part == 0:
             return entry(text, digits[at])
-        by = tag("small", " ", drawn(part * 100, 1, plus=True).text, "\u202f%")
-        return tag("td", in_figures(exact(text) or Fraction(0), digits[at]), by, class_="n", title=f"{shown(part * 100)}\u202f%: {text}")
+        return tag("td", in_figures(exact(text) or Fraction(0), digits[at]), percent(part), class_="n", title=text)
 
     def head(known: State, scope: str) -> Markup:
         based = tag("small", f" on {known.base}") if known.base else NOTHING
@@ -109,7 +114,7 @@ def scenarios_html(states: Sequence[State], cells: Sequence[str], *, labels: Map
     else:
         heads = [column_head("cell"), *(head(known, "col") for known in states)]
         rows = [row(tag("th", names[at], scope="row"), *(value(known, at) for known in states)) for at in cells]
-    return table("values, and by how many percent they differ from the sheet as it is", [row(*heads)], rows)
+    return joined([table("all scenarios", [row(*heads)], rows), note("The percents say by how much a value differs from the sheet as it is.")])
 
 
 def difference(before: str, after: str) -> str:

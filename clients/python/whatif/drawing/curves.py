@@ -5,6 +5,7 @@ from __future__ import annotations
 from collections.abc import Iterator
 from dataclasses import dataclass
 from fractions import Fraction
+from functools import cached_property
 
 from .answers import Answers
 from .colours import LINES
@@ -17,6 +18,9 @@ WIDTH, HEIGHT, TOP, BOTTOM = 440, 280, 30, 44
 MOST_LABEL = 120.0
 MOST_DOTS = 40
 MOST_TICKS = 6
+ROOM_BELOW = Fraction(1, 7)
+"""Of what is above 0, so much is left below it for the places where lines cross it."""
+
 MOST_CROSSINGS = 8
 """So many are marked of a line, and told."""
 
@@ -43,24 +47,31 @@ class Line:
         if piece:
             yield piece
 
+    @cached_property
     def crossings(self) -> list[tuple[Fraction, bool]]:
         """Where the line crosses 0 or is 0, and whether an entry says so; between two entries it is taken to be straight."""
         found: dict[Fraction, bool] = {}
         for piece in self.pieces():
-            if all(y == 0 for _, y in piece):
+            signs = [y.numerator for _, y in piece]
+            if not any(signs):
                 continue
-            found.update({x: True for x, y in piece if y == 0})
-            for (x, y), (after, then) in zip(piece, piece[1:]):
-                if y * then < 0:
-                    found[x + (after - x) * y / (y - then)] = False
+            found.update({piece[at][0]: True for at, sign in enumerate(signs) if sign == 0})
+            for at, (sign, then) in enumerate(zip(signs, signs[1:])):
+                if sign < 0 < then or then < 0 < sign:
+                    found[zero_between(*piece[at], *piece[at + 1])] = False
         return sorted(found.items())
+
+
+def zero_between(x: Fraction, y: Fraction, after: Fraction, then: Fraction) -> Fraction:
+    """Where a straight line between two points is 0."""
+    return x + (after - x) * y / (y - then)
 
 
 def lines_of(answers: Answers) -> list[Line]:
     """The columns as lines, at most six: the first, the last, today's and some between; none where x isn't a number all along."""
     xs = [exact(text) for text in answers.xs]
     known = [x for x in xs if x is not None]
-    if len(known) < len(xs) or len(set(known)) < 2 or not answers.known():
+    if len(known) < len(xs) or len(set(known)) < 2 or not answers.known:
         return []
     order = sorted(range(len(known)), key=lambda i: known[i])
     columns = chosen(answers)
@@ -93,6 +104,8 @@ class Curves:
         self.answers, self.lines = answers, lines
         known = [y for line in lines for y in line.ys if y is not None]
         low, high = widened(min(known), max(known))
+        if any(line.crossings for line in lines):
+            low = min(low, -high * ROOM_BELOW)
         self.y_ticks = ticks(low, high, 5)
         self.y_texts = tick_texts(self.y_ticks)
         left = max(map(width, self.y_texts), default=0) + 8
@@ -100,7 +113,7 @@ class Curves:
         xs = lines[0].xs
         self.x = Scale(xs[0], xs[-1], left, WIDTH - right)
         self.y = Scale(low, high, HEIGHT - BOTTOM, TOP)
-        self.room = Room(Box(left, 0, WIDTH - right, HEIGHT - BOTTOM + SIZE))
+        self.room = Room(Box(left, 0, WIDTH - right, HEIGHT - BOTTOM))
 
     def svg(self) -> Markup:
         title = f"{self.answers.result.text} by {self.answers.first.text}"
@@ -162,7 +175,7 @@ class Curves:
     def zeros(self) -> Iterator[Markup]:
         """Rings where lines cross 0, and their x as far as there is room."""
         for count, line in enumerate(self.lines):
-            for at, is_entry in line.crossings()[:MOST_CROSSINGS]:
+            for at, is_entry in line.crossings[:MOST_CROSSINGS]:
                 x, y = self.x.at(at), self.y.at(Fraction(0))
                 yield tag("circle", cx=decimal(x), cy=decimal(y), r=5, class_=f"ring line{count}")
                 text = crossing_text(at, is_entry)
@@ -186,13 +199,15 @@ def thinned(piece: list[Point], scale: Scale) -> list[Point]:
     """The points of a line; of very many, those that are first, last, lowest and highest at each place of the scale."""
     if len(piece) <= 4 * WIDTH:
         return piece
-    groups: dict[int, list[Point]] = {}
-    for point in piece:
-        groups.setdefault(int(scale.at(point[0])), []).append(point)
+    low, unit = float(scale.low), float(scale.high - scale.low) / (scale.end - scale.start)
+    heights = [float(y) for _, y in piece]
+    groups: dict[int, list[int]] = {}
+    for at, (x, _) in enumerate(piece):
+        groups.setdefault(int((float(x) - low) / unit), []).append(at)
     kept: list[Point] = []
     for group in groups.values():
-        wanted = {group[0], group[-1], min(group, key=lambda point: point[1]), max(group, key=lambda point: point[1])}
-        kept += [point for point in group if point in wanted]
+        wanted = {group[0], group[-1], min(group, key=heights.__getitem__), max(group, key=heights.__getitem__)}
+        kept += [piece[at] for at in sorted(wanted)]
     return kept
 
 
@@ -205,7 +220,7 @@ def crossings_html(answers: Answers, lines: list[Line]) -> Markup:
     """The places where lines cross 0, in words."""
     told = []
     for line in lines:
-        found = line.crossings()
+        found = line.crossings
         places = [tag("span", crossing_text(at, is_entry), title=str(at)) for at, is_entry in found[:MOST_CROSSINGS]]
         if places:
             more = f" and {len(found) - MOST_CROSSINGS} more" if len(found) > MOST_CROSSINGS else ""

@@ -34,7 +34,7 @@ def sheet_html(
             cells.append(sheet_cell(shown(value), known.get(address, ""), address in texts))
         rows.append(row(tag("th", str(first + i), scope="row", class_="soft"), *cells))
     heads = [row(tag("td"), *(column_head(column, class_="soft") for column in columns))]
-    parts = [folded(caption or f"cells {area.upper()}", heads, rows[: MOST_ROWS + MOST_FOLDED], "grid")]
+    parts = [folded(caption or area.upper() + ("; formulas are shaded" if known else ""), heads, rows[: MOST_ROWS + MOST_FOLDED], "grid")]
     if len(rows) > MOST_ROWS + MOST_FOLDED:
         texts_of = [[shown(value) for value in record] for record in records]
         parts.append(download(texts_of, f"all {len(rows):,} rows as CSV", "cells.csv"))

@@ -11,19 +11,20 @@ from .markup import NOTHING, Markup, joined, tag
 from .style import style
 
 COPY = """
+const exact = cell => cell.title.split(" ").pop() || cell.textContent.trim();
 for (const table of document.querySelectorAll("table")) {
   const button = document.createElement("button");
   button.type = "button";
   button.textContent = "copy exact";
   button.addEventListener("click", async () => {
-    const text = cell => cell.dataset.exact ?? cell.title.match(/[^ ]*$/)[0] || cell.textContent.trim();
-    const rows = [...table.rows].map(row => [...row.cells].filter(cell => !cell.classList.contains("bar")).map(text).join("\\t"));
+    const rows = [...table.rows].map(row => [...row.cells].filter(cell => !cell.classList.contains("bar")).map(exact).join("\\t"));
     await navigator.clipboard.writeText(rows.join("\\n"));
     button.textContent = "copied";
   });
-  table.caption?.append(button);
+  if (table.rows.length > 2) table.caption.append(button);
 }
 """
+"""A button in each table that copies what it shows, its numbers exactly: the last word of a title is the exact number."""
 
 
 @dataclass(frozen=True)

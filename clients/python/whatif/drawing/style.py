@@ -28,6 +28,10 @@ body.whatif{background:var(--paper);margin:0}
 .whatif .wide{overflow-x:auto;max-width:100%;position:relative;scrollbar-width:thin}
 .whatif .side{display:flex;flex-wrap:wrap;gap:12px 28px;align-items:flex-start}
 .whatif .side>*{max-width:100%}
+.whatif .side>figure{width:480px}
+.whatif .least{width:min-content;min-width:260px}
+
+.whatif .wide table{min-width:min(240px,100%)}
 .whatif table{border-collapse:separate;border-spacing:2px;font-variant-numeric:tabular-nums;color:inherit;margin:0}
 .whatif caption{text-align:left;padding:2px 0 6px;color:var(--soft);font-size:13px}
 .whatif td,.whatif th{padding:3px 9px;text-align:left;font-weight:400;white-space:nowrap;border-radius:3px;background:none}
@@ -37,15 +41,18 @@ body.whatif{background:var(--paper);margin:0}
 .whatif tbody th{white-space:normal;min-width:92px;max-width:340px;overflow-wrap:anywhere}
 .whatif .heat tbody th{min-width:0}
 .whatif .heat thead th{white-space:normal}
+.whatif .heat thead th:first-child{min-width:100px}
 .whatif .n,.whatif table .n{text-align:right}
+.whatif .part{display:inline-block;min-width:5.6em;text-align:right}
 .whatif .over{color:var(--soft);text-align:center;font-weight:400}
 .whatif th.now{text-decoration:underline;text-decoration-thickness:2px;text-underline-offset:4px}
 .whatif .here{outline:2px solid var(--ink);outline-offset:-1px;font-weight:700}
 .whatif .grid td{border-bottom:1px solid var(--rule);border-radius:0;white-space:pre-wrap;min-width:30px;max-width:340px;overflow-wrap:anywhere}
 .whatif .grid td.n{white-space:nowrap}
+.whatif .grid thead td{border:none}
 .whatif .grid tbody th{min-width:0}
 .whatif .formula{background:var(--paper)}
-.whatif .legend span.key{border-radius:3px;padding:1px 8px;margin-right:8px;font-size:13px}
+.whatif .legend span.key{display:inline-block;white-space:nowrap;border-radius:3px;padding:1px 8px;margin-right:8px;font-size:13px}
 .whatif .legend span.here{margin:0 2px;font-weight:400}
 .whatif figure{margin:0;max-width:100%}
 .whatif figcaption{font-size:13px}
@@ -81,15 +88,17 @@ body.whatif{background:var(--paper);margin:0}
 .whatif dl{margin:0;font-size:13px;color:var(--soft)}
 .whatif dt{font-weight:600}
 .whatif dd{margin:0 0 6px;overflow-wrap:anywhere}
-.whatif button{font:inherit;font-size:12px;color:var(--link);background:none;border:1px solid var(--rule);border-radius:6px;padding:1px 8px;margin-left:8px;cursor:pointer}
+.whatif button{white-space:nowrap;font:inherit;font-size:12px;color:var(--link);background:none;border:1px solid var(--rule);border-radius:6px;padding:1px 8px;margin-left:8px;cursor:pointer}
 @media(max-width:560px){
 .whatif main{padding:14px 8px 32px}
 .whatif section{padding:10px 10px}
 .whatif h1{font-size:22px}
-.whatif td,.whatif th{padding:3px 5px;font-size:13.5px}
+.whatif td,.whatif th{padding:3px 4px;font-size:13.5px}
+.whatif tbody th{min-width:76px}
 .whatif .heat td,.whatif .heat th{padding:3px 4px}
 .whatif table:not(.tornado) .bar{display:none}
 .whatif .tornado td.bar{width:auto}
+.whatif .part{display:block;min-width:0}
 .whatif pre span{padding-left:3.2em;text-indent:-3.2em}
 .whatif pre i{min-width:2.4em;margin-right:.8em}
 }
@@ -103,7 +112,7 @@ body.whatif{background:#fff}
 .whatif h2,.whatif .meta,.whatif caption{break-after:avoid}
 .whatif .wide{overflow:visible}
 .whatif .curves{width:330px}
-.whatif button{display:none}
+.whatif button{white-space:nowrap;display:none}
 }
 """
 

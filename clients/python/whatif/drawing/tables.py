@@ -9,7 +9,7 @@ from typing import Any
 from .answers import Answers, answers
 from .cells import column_head, download, entry, figures, head, note, row, table
 from .curves import curves_html
-from .heat import heat_svg, step_of
+from .heat import Steps, heat_svg
 from .label import Named
 from .markup import NOTHING, Markup, joined, separated, tag
 from .values import drawn_alone, exact, places_for, shown
@@ -45,7 +45,7 @@ def table_html(
         return note("The table has no entry.")
     is_large = len(known.xs) > MOST_SIDE or len(known.ys) > MOST_SIDE
     drawn = large(known, file_name) if is_large else listed(known)
-    return joined([warnings(known), tag("div", drawn, curves_html(known), class_="side"), legend(known)])
+    return joined([warnings(known), tag("div", tag("div", drawn, legend(known), class_="least"), curves_html(known), class_="side")])
 
 
 def caption(known: Answers) -> Markup:
@@ -75,12 +75,11 @@ def told_error(known: Answers, i: int, j: int) -> str:
 
 def listed(known: Answers) -> Markup:
     """All entries as a table, coloured."""
-    numbers, places = known.known(), known.drawn_places()
-    low, high = (min(numbers), max(numbers)) if numbers else (Fraction(0), Fraction(0))
+    places, steps_of = known.drawn_places(), Steps.of(known.ends)
     x_places, y_places = (places_for(number for number in map(exact, texts) if number is not None) for texts in (known.xs, known.ys))
     rows = []
     for i, (x, line) in enumerate(zip(known.xs, known.entries)):
-        steps = [step_of(number, low, high) for number in known.numbers[i]]
+        steps = [steps_of.name(number) for number in known.numbers[i]]
         cells = [entry(text, places, classes=f"{name} here" if known.is_now(i, j) else name) for j, (text, name) in enumerate(zip(line, steps))]
         rows.append(row(head(x, x_places, "now" if x == known.now[0] != "" else ""), *cells))
     if known.second is None:
@@ -102,10 +101,11 @@ def large(known: Answers, file_name: str) -> Markup:
 def ends(known: Answers) -> Markup:
     listed_numbers = [number for line in known.numbers[:ENDS] + known.numbers[-ENDS:] for number in line if number is not None]
     places = places_for(listed_numbers, known.places)
-    rows = [row(head(x), *(entry(text, places) for text in line)) for x, line in zip(known.xs, known.entries)]
-    between = row(tag("td", f"{len(rows) - 2 * ENDS:,} more", colspan=2, class_="soft"))
+    lines = list(zip(known.xs, known.entries))
+    first, last = ([row(head(x), *(entry(text, places) for text in line)) for x, line in part] for part in (lines[:ENDS], lines[-ENDS:]))
+    between = row(tag("td", f"{len(lines) - 2 * ENDS:,} more", colspan=2, class_="soft"))
     heads = [row(column_head(known.first.text), column_head(known.result.text, class_="n"))]
-    return table(caption(known), heads, [*rows[:ENDS], between, *rows[-ENDS:]])
+    return table(caption(known), heads, [*first, between, *last])
 
 
 def mapped(known: Answers) -> Markup:
@@ -113,11 +113,10 @@ def mapped(known: Answers) -> Markup:
     now = next(((i, j) for i in range(len(known.xs)) if known.xs[i] == known.now[0] for j in range(len(known.ys)) if known.is_now(i, j)), None)
     title = f"{known.result.text} by {known.first.text} and {known.second.text}, without numbers"
     ranges = [span(known.second.text, known.ys, "to the right"), span(known.first.text, known.xs, "downwards")]
-    numbers = known.known()
-    if numbers:
-        low, high = told_number(min(numbers)), told_number(max(numbers))
+    if known.known:
+        low, high = map(told_number, known.ends)
         ranges.append(joined([f"{known.result.text}: from ", low, " to ", high]))
-    return tag("figure", heat_svg(known.numbers, now, title), tag("figcaption", separated(ranges, "; "), class_="soft"))
+    return tag("figure", heat_svg(known.numbers, known.ends, now, title), tag("figcaption", separated(ranges, "; "), class_="soft"))
 
 
 def told_number(number: Fraction) -> Markup:
@@ -130,11 +129,11 @@ def span(name: str, texts: list[str], way: str) -> str:
 
 def legend(known: Answers) -> Markup:
     """What the colours say."""
-    numbers = known.known()
+    low, high = known.ends
     is_list = known.second is None and len(known.xs) > MOST_SIDE
-    if is_list or not numbers or min(numbers) == max(numbers):
+    if is_list or low == high:
         return NOTHING
-    if min(numbers) < 0 < max(numbers):
+    if low < 0 < high:
         parts = [tag("span", "below 0", class_="key b7"), tag("span", "above 0", class_="key a7")]
     else:
         parts = [tag("span", "lowest", class_="key a1"), tag("span", "highest", class_="key a9")]

@@ -25,7 +25,12 @@ def exact(text: str) -> Fraction | None:
     >>> exact("2.5"), exact("-1/3"), exact("007"), exact("2.50"), exact("#NUM!")
     (Fraction(5, 2), Fraction(-1, 3), None, None, None)
     """
-    return Fraction(text) if len(text) <= LONGEST_NUMBER and NUMBER.fullmatch(text) else None
+    if len(text) > LONGEST_NUMBER or NUMBER.fullmatch(text) is None:
+        return None
+    whole, point, places = text.partition(".")
+    if point:
+        return Fraction(int(whole + places), 10 ** len(places))
+    return Fraction(text) if "/" in text else Fraction(int(text))
 
 
 def is_error(text: str) -> bool:
@@ -131,7 +136,8 @@ def places_to_see(number: Fraction) -> int:
 def places_for(numbers: Iterable[Fraction], places: int | None = None) -> int:
     """How many decimals are drawn of numbers that stand together, if that isn't said.
 
-    All that they have, if these are at most two. Else as few as tell neighbours apart, with four figures of the largest.
+    All that they have, if these are at most two or give the largest no more than four figures. Else as few as tell neighbours apart,
+    with four figures of the largest.
 
     >>> places_for([Fraction(5, 2), Fraction(3)]), places_for([Fraction(1, 3), Fraction(2, 3)]), places_for([Fraction(10001, 3), Fraction(10002, 3)])
     (1, 4, 1)
@@ -139,12 +145,14 @@ def places_for(numbers: Iterable[Fraction], places: int | None = None) -> int:
     if places is not None:
         return places
     known = sorted(set(numbers))
+    largest = max((abs(number) for number in known), default=Fraction(0))
+    if largest == 0:
+        return 0
+    least = max(0, FIGURES - 1 - magnitude(largest))
     needed = [decimal_places(number) for number in known]
     exact_places = [count for count in needed if count is not None]
-    if len(exact_places) == len(needed) and max(exact_places, default=0) <= MONEY:
-        return max(exact_places, default=0)
-    largest = max(abs(known[0]), abs(known[-1]))
-    least = max(0, FIGURES - 1 - magnitude(largest))
+    if len(exact_places) == len(needed) and max(exact_places) <= max(MONEY, least):
+        return max(exact_places)
     gap = min((after - before for before, after in zip(known, known[1:])), default=largest)
     first = max(least, -magnitude(gap) - 1)
     return next((count for count in range(first, MOST_PLACES) if tell_apart(known, count)), MOST_PLACES)
