@@ -28,11 +28,11 @@ class Browser:
     def __init__(self, path: str) -> None:
         self.folder = tempfile.TemporaryDirectory()
         words = ["--headless=new", "--no-sandbox", "--disable-gpu", "--disable-dev-shm-usage", "--no-first-run", "--disable-extensions"]
-        words += ["--disable-background-networking", "--hide-scrollbars", "--remote-debugging-pipe", f"--user-data-dir={self.folder.name}", "about:blank"]
+        words += ["--disable-background-networking", "--hide-scrollbars", "--remote-debugging-pipe", f"--user-data-dir={self.folder.name}"]
         theirs_in, self.commands = os.pipe()
         self.replies, theirs_out = os.pipe()
         self.process = subprocess.Popen(
-            ["/bin/sh", "-c", f'exec "$0" "$@" 3<&{theirs_in} 4>&{theirs_out}', path, *words],
+            ["/bin/sh", "-c", f'exec "$0" "$@" 3<&{theirs_in} 4>&{theirs_out}', path, *words, "about:blank"],
             pass_fds=(theirs_in, theirs_out),
             stdin=subprocess.DEVNULL,
             stdout=subprocess.DEVNULL,
@@ -129,8 +129,8 @@ class Browser:
         parameters: dict[str, object] = {"captureBeyondViewport": True, "format": "png"}
         if clip is None:
             size = self.send("Page.getLayoutMetrics")["cssContentSize"]
-            clip = {"x": 0, "y": 0, "width": size["width"], "height": size["height"]}
-        parameters["clip"] = {**clip, "scale": 1}
+            clip = {"x": 0.0, "y": 0.0, "width": size["width"], "height": size["height"]}
+        parameters["clip"] = {**clip, "scale": 1.0}
         return base64.b64decode(self.send("Page.captureScreenshot", **parameters)["data"])
 
     def pdf(self) -> bytes:

@@ -78,7 +78,7 @@ class Blocks:
             return f"{seen.label(words[1]).text} by {seen.label(words[2]).text}{second}"
         if name == "compare":
             return " and ".join("as it is" if word == "-" else word for word in words[1:3])
-        return {"changes": f"What {question.session} hasn't seen", "formula": "A formula"}.get(name, f"Cells {words[1].upper()}" if len(words) > 1 else name)
+        return {"changes": f"What {question.session} hasn't seen", "formula": "A formula"}.get(name) or f"Cells {words[1].upper()}"
 
     def table(self, question: Question, seen: Seen) -> Markup:
         words = question.command.words
@@ -94,11 +94,11 @@ class Blocks:
         return comparison_html(question.reply.records(), words[1], words[2], labels=seen.labels, places=self.places)
 
     def show(self, question: Question, seen: Seen) -> Markup:
-        return sheet_html(question.reply.records(), question.command.words[1], formulas=seen.formulas, texts=seen.texts)
+        return sheet_html(question.reply.records(), question.command.words[1], formulas=seen.formulas, texts=seen.texts, places=self.places)
 
     def changes(self, question: Question, seen: Seen) -> Markup:
         rows = [[address, seen.before.get(address, ""), now] for address, _, now in question.reply.records()]
-        return changes_html(rows, labels=seen.labels)
+        return changes_html(rows, labels=seen.labels, places=self.places)
 
     def formula(self, question: Question, _: Seen) -> Markup:
         return records_html(question.reply.records(), "the content of a cell")
@@ -118,7 +118,8 @@ class Blocks:
         assert looked is not None
         body = scenarios_html(survey.states, list(survey.side_by_side), labels=survey.side_by_side, places=self.places)
         about = joined(["as of ", line_link(looked.command.line - self.skipped), ", the cells of which a table or a comparison tells"])
-        limit = tag("p", f"Only the first {MOST_SIDE_BY_SIDE} of these cells.", class_="soft") if len(survey.side_by_side) == MOST_SIDE_BY_SIDE else ""
+        is_cut = len(survey.side_by_side) == MOST_SIDE_BY_SIDE
+        limit = tag("p", f"Only the first {MOST_SIDE_BY_SIDE} of these cells.", class_="soft") if is_cut else ""
         return Part("Scenarios side by side", joined([body, limit]), about)
 
     def remarks(self) -> list[str]:

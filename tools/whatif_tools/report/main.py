@@ -46,7 +46,8 @@ def arguments(words: list[str]) -> argparse.Namespace:
     parser.add_argument("--load", metavar="MODEL", type=Path, help="run this script first, on the same workbook")
     parser.add_argument("-o", "--output", metavar="FILE", type=Path, help="the page; without it SCRIPT with .html for its ending, in this folder")
     parser.add_argument("--by", metavar="PERCENT", type=percentage, default="10", help="so much lower and higher each input is tried [default: 10]")
-    parser.add_argument("--tornado", metavar="CELL", type=cell, action="append", help="what moves this cell, in the place of the cells that tables ask for")
+    tornado = "what moves this cell, in the place of the cells that tables ask for"
+    parser.add_argument("--tornado", metavar="CELL", type=cell, action="append", help=tornado)
     parser.add_argument("--places", metavar="N", type=decimals, help="so many decimals; without it as few as tell neighbours apart")
     parser.add_argument("--date", metavar="TEXT", default="", help="a date for the foot of the page; without it the same script gives the same bytes")
     parser.add_argument("--open", action="store_true", help="show the page in the browser")

@@ -122,10 +122,13 @@ def difference(before: str, after: str) -> str:
     return "" if one is None or other is None else shown(other - one)
 
 
-def changes_html(changes: Sequence[Sequence[Any]], *, labels: Mapping[str, str] | None = None) -> Markup:
+def changes_html(
+    changes: Sequence[Sequence[Any]], *, labels: Mapping[str, str] | None = None, places: int | None = None
+) -> Markup:
     """What `changes` has answered: each cell with its value before, if the session had seen one, and now."""
     if not changes:
         return note("Nothing has changed since.")
     heads = row(column_head("cell"), column_head("before", class_="n"), column_head("now", class_="n"))
-    rows = [row(tag("th", named(at, labels).html(), scope="row"), entry(shown(before)), entry(shown(now))) for at, before, now in changes]
+    names = [tag("th", named(change[0], labels).html(), scope="row") for change in changes]
+    rows = [row(name, *(entry(shown(value), places) for value in change[1:])) for name, change in zip(names, changes)]
     return table("what has changed since the session looked last", [heads], rows)

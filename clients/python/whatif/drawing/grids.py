@@ -16,7 +16,13 @@ MOST_FOLDED = 400
 
 
 def sheet_html(
-    records: Sequence[Sequence[Any]], area: str, *, formulas: Mapping[str, str] | None = None, texts: Collection[str] = (), caption: str = ""
+    records: Sequence[Sequence[Any]],
+    area: str,
+    *,
+    formulas: Mapping[str, str] | None = None,
+    texts: Collection[str] = (),
+    caption: str = "",
+    places: int | None = None,
 ) -> Markup:
     """What `show` and `export` have answered of an area; `formulas` has those of its cells, and `texts` the cells whose value is a text.
 
@@ -31,7 +37,7 @@ def sheet_html(
         cells = []
         for column, value in zip(columns, record):
             address = f"{column}{first + i}"
-            cells.append(sheet_cell(shown(value), known.get(address, ""), address in texts))
+            cells.append(sheet_cell(shown(value), known.get(address, ""), address in texts, places))
         rows.append(row(tag("th", str(first + i), scope="row", class_="soft"), *cells))
     heads = [row(tag("td"), *(column_head(column, class_="soft") for column in columns))]
     parts = [folded(caption or area.upper() + ("; formulas are shaded" if known else ""), heads, rows[: MOST_ROWS + MOST_FOLDED], "grid")]
@@ -41,11 +47,11 @@ def sheet_html(
     return joined(parts)
 
 
-def sheet_cell(text: str, formula: str, is_text: bool) -> Markup:
+def sheet_cell(text: str, formula: str, is_text: bool, places: int | None) -> Markup:
     title = f"{formula} \u2192 " if formula else ""
     if is_text:
         return tag("td", text, class_="formula" if formula else None, title=title or None)
-    return entry(text, classes="formula" if formula else "", title=title)
+    return entry(text, places, classes="formula" if formula else "", title=title)
 
 
 def folded(caption: str, heads: list[Markup], rows: list[Markup], classes: str = "") -> Markup:

@@ -30,7 +30,7 @@ def escaped(text: str) -> Markup:
 
 def attribute(name: str, value: object) -> str:
     name = name.rstrip("_").replace("_", "-")
-    return f" {name}" if value is True else f' {name}="{escaped(str(value))}"'
+    return f' {name}="{escaped(name if value is True else str(value))}"'
 
 
 def tag(name: str, *contents: str, **attributes: object) -> Markup:
@@ -40,7 +40,8 @@ def tag(name: str, *contents: str, **attributes: object) -> Markup:
     '<td class="n">1 &lt; 2</td>'
     """
     inside = "".join(map(escaped, contents))
-    return Markup(f"<{name}{''.join(attribute(key, value) for key, value in attributes.items() if value is not None and value is not False)}>{inside}</{name}>")
+    given = (attribute(key, value) for key, value in attributes.items() if value is not None and value is not False)
+    return Markup(f"<{name}{''.join(given)}>{inside}</{name}>")
 
 
 def joined(parts: Iterable[str]) -> Markup:

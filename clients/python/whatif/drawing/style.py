@@ -5,7 +5,8 @@ from __future__ import annotations
 from .colours import DARK, LIGHT, LINES, rules
 
 LAYOUT = """
-.whatif{color:var(--ink);background:var(--card);font:15px/1.5 system-ui,-apple-system,"Segoe UI","DejaVu Sans",sans-serif;-webkit-text-size-adjust:100%}
+.whatif{color:var(--ink);background:var(--card);font:15px/1.5 system-ui,-apple-system,"Segoe UI","DejaVu Sans",sans-serif}
+.whatif{-webkit-text-size-adjust:100%}
 body.whatif{background:var(--paper);margin:0}
 .whatif main{max-width:1100px;margin:0 auto;padding:24px 16px 48px}
 .whatif *{box-sizing:border-box}
@@ -38,7 +39,7 @@ body.whatif{background:var(--paper);margin:0}
 .whatif tbody tr:nth-child(n){background:none}
 .whatif th{font-weight:600}
 .whatif thead th{vertical-align:bottom}
-.whatif tbody th{white-space:normal;min-width:92px;max-width:340px;overflow-wrap:anywhere}
+.whatif tbody th{white-space:normal;min-width:92px;max-width:340px;overflow-wrap:break-word}
 .whatif .heat tbody th{min-width:0}
 .whatif .heat thead th{white-space:normal}
 .whatif .heat thead th:first-child{min-width:100px}
@@ -56,7 +57,7 @@ body.whatif{background:var(--paper);margin:0}
 .whatif .legend span.here{margin:0 2px;font-weight:400}
 .whatif figure{margin:0;max-width:100%}
 .whatif figcaption{font-size:13px}
-.whatif .curves{display:block;width:480px;max-width:100%;height:auto;font-size:12px;fill:var(--ink);font-variant-numeric:tabular-nums}
+.whatif .curves{display:block;width:480px;max-width:100%;height:auto;font-size:12px;fill:var(--ink)}
 .whatif .curves .end{text-anchor:end}
 .whatif .curves .middle{text-anchor:middle}
 .whatif .curves .name,.whatif .curves .tick{fill:var(--soft)}
@@ -81,20 +82,23 @@ body.whatif{background:var(--paper);margin:0}
 .whatif code{overflow-wrap:anywhere}
 .whatif pre{white-space:pre-wrap;overflow-wrap:anywhere;margin:8px 0 0}
 .whatif pre span{display:block;padding-left:4.6em;text-indent:-4.6em}
-.whatif pre i{color:var(--soft);font-style:normal;display:inline-block;min-width:3.6em;margin-right:1em;text-align:right;text-indent:0;user-select:none}
+.whatif pre i{display:inline-block;min-width:3.6em;margin-right:1em;text-align:right;text-indent:0;color:var(--soft)}
+.whatif pre i{font-style:normal;user-select:none}
 .whatif pre .bad{background:var(--warning)}
 .whatif pre b{display:block;text-indent:0}
 .whatif summary{cursor:pointer;padding:2px 0}
 .whatif dl{margin:0;font-size:13px;color:var(--soft)}
 .whatif dt{font-weight:600}
 .whatif dd{margin:0 0 6px;overflow-wrap:anywhere}
-.whatif button{white-space:nowrap;font:inherit;font-size:12px;color:var(--link);background:none;border:1px solid var(--rule);border-radius:6px;padding:1px 8px;margin-left:8px;cursor:pointer}
+.whatif button{font:inherit;font-size:12px;white-space:nowrap;color:var(--link);background:none;cursor:pointer}
+.whatif button{border:1px solid var(--rule);border-radius:6px;padding:1px 8px;margin-left:8px}
 @media(max-width:560px){
 .whatif main{padding:14px 8px 32px}
 .whatif section{padding:10px 10px}
 .whatif h1{font-size:22px}
 .whatif td,.whatif th{padding:3px 4px;font-size:13.5px}
-.whatif tbody th{min-width:76px}
+.whatif tbody th{min-width:72px}
+.whatif .heat thead th:first-child{min-width:72px}
 .whatif .heat td,.whatif .heat th{padding:3px 4px}
 .whatif table:not(.tornado) .bar{display:none}
 .whatif .tornado td.bar{width:auto}
@@ -121,6 +125,7 @@ def style() -> str:
     """All rules, in light and, where the reader's screen is dark, in dark."""
     lines = [f".whatif .line{count}{{stroke:var(--line{count})}}" for count in range(LINES)]
     lines += [f".whatif .dot.line{count}{{fill:var(--line{count});stroke:none}}" for count in range(LINES)]
-    lines += [f".whatif text.line{count}{{fill:var(--line{count});stroke:none}}.whatif text.halo.line{count}{{stroke:var(--card)}}" for count in range(LINES)]
+    lines += [f".whatif text.line{count}{{fill:var(--line{count});stroke:none}}" for count in range(LINES)]
+    lines += [f".whatif text.halo.line{count}{{stroke:var(--card)}}" for count in range(LINES)]
     layout = LAYOUT.replace("\n", "")
     return f"{rules(LIGHT)}@media screen and (prefers-color-scheme:dark){{{rules(DARK)}}}.whatif{{color-scheme:light dark}}{layout}{''.join(lines)}"

@@ -38,7 +38,7 @@ def table_html(
 
     `result`, `first` and `second` are the cells that it names, `now` what the inputs show, `cells` the column and the row that have their values.
 
-    table_html([["", "0.32"], ["250", "92"]], Label("B4", "bill"), Label("B1", "kWh"), Label("B2", "price"), now=["250", "0.32"], cells=["D2:D2", "E1:E1"])
+    table_html([["", "0.32"], ["250", "92"]], "B4", Label("B1", "kWh"), Label("B2", "price"), now=["250", "0.32"], cells=["D2:D2", "E1:E1"])
     """
     known = answers(records, result, first, second, now, cells, places)
     if not known.entries:

@@ -13,6 +13,7 @@ from .values import drawn_alone, exact, places_for, shown
 
 REACH = 1000
 MOST_BARS = 12
+MOST_FAULTS = 4
 
 
 @dataclass(frozen=True)
@@ -36,7 +37,9 @@ class Bar:
         return Fraction(0) if known is None else max(*known, base) - min(*known, base)
 
 
-def tornado_html(result: Named, base: Fraction, bars: Sequence[Bar], by: Fraction, *, places: int | None = None, remarks: Sequence[str] = ()) -> Markup:
+def tornado_html(
+    result: Named, base: Fraction, bars: Sequence[Bar], by: Fraction, *, places: int | None = None, remarks: Sequence[str] = ()
+) -> Markup:
     """The inputs of a result by how far they move it. `by` is the part, `base` the result as it is.
 
     tornado_html("B4", Fraction(92), [Bar(Label("B1", "kWh"), Fraction(250), Fraction(225), Fraction(275), "84", "100")], Fraction(1, 10))
@@ -45,15 +48,14 @@ def tornado_html(result: Named, base: Fraction, bars: Sequence[Bar], by: Fractio
     moving = sorted((known for known in bars if known.swing(base)), key=lambda known: -known.swing(base))
     faults = [known for known in bars if known.results() is None]
     still = len(bars) - len(moving) - len(faults)
-    told = [*([f"{counted(still, 'more input', 'more inputs')} in reach {'doesn’t' if still == 1 else 'don’t'} move it."] if still else []), *remarks]
-    notes = [*(note(fault_text(known), classes="e") for known in faults[:4]), *(note(text) for text in told)]
+    told = [counted(still, "more input in reach doesn\u2019t move it.", "more inputs in reach don\u2019t move it.")] if still else []
+    notes = [*(note(fault_text(known), classes="e") for known in faults[:MOST_FAULTS]), *(note(text) for text in [*told, *remarks])]
     if not moving:
         return joined([note(f"No input moves {goal.text}."), *notes])
     drawn_bars = moving[:MOST_BARS]
     part = shown(by * 100)
-    intro = note(
-        "Each input alone, ", tag("b", f"{part} % lower", class_="low"), " and ", tag("b", f"{part} % higher", class_="high"), f"; now {drawn_alone(base).marked}."
-    )
+    lower, higher = tag("b", f"{part} % lower", class_="low"), tag("b", f"{part} % higher", class_="high")
+    intro = note("Each input alone, ", lower, " and ", higher, "; now ", tag("span", drawn_alone(base).marked, title=shown(base)), ".")
     rest = more_html(moving[MOST_BARS:], base, places)
     return joined([intro, chart(goal, base, drawn_bars, by, places), *notes, rest])
 
@@ -73,18 +75,17 @@ def chart(goal: Label, base: Fraction, bars: Sequence[Bar], by: Fraction, places
     low, high = min(*ends, base), max(*ends, base)
     digits = places_for([*ends, base], places)
     part = shown(by * 100)
-    heads = row(column_head("input"), column_head(f"\u2212{part}\u202f%", class_="n"), column_head("", class_="bar"), column_head(f"+{part}\u202f%", class_="n"))
+    lower, higher = (column_head(f"{sign}{part}\u202f%", class_="n") for sign in "\u2212+")
+    heads = row(column_head("input"), lower, column_head("", class_="bar", aria_label="the results as bars"), higher)
     rows = [bar_row(known, base, low, high, digits) for known in bars]
     return table(joined([goal.html(), " by input"]), [heads], rows, "tornado")
 
 
 def bar_row(known: Bar, base: Fraction, low: Fraction, high: Fraction, digits: int) -> Markup:
     value = tag("small", f" {drawn_alone(known.value).marked}", title=shown(known.value))
-    cells = [
-        entry(text, digits, title=f"{known.input.address} {shown(of)}: ") for of, text in ((known.low, known.low_result), (known.high, known.high_result))
-    ]
+    low_cell, high_cell = both(known, digits)
     name = tag("th", known.input.html(), value, scope="row")
-    return row(name, cells[0], tag("td", bar_svg(known, base, low, high), class_="bar"), cells[1])
+    return row(name, low_cell, tag("td", bar_svg(known, base, low, high), class_="bar"), high_cell)
 
 
 def bar_svg(known: Bar, base: Fraction, low: Fraction, high: Fraction) -> Markup:
@@ -103,16 +104,20 @@ def bar_svg(known: Bar, base: Fraction, low: Fraction, high: Fraction) -> Markup
     return tag("svg", *rects, axis, viewBox=f"0 0 {REACH} 18", class_="bar", preserveAspectRatio="none", aria_hidden="true")
 
 
+def both(known: Bar, digits: int) -> tuple[Markup, Markup]:
+    """The lower and the higher result, each titled with the value of the input that gives it."""
+    at = known.input.address
+    low = entry(known.low_result, digits, title=f"{at} {shown(known.low)}: ")
+    return low, entry(known.high_result, digits, title=f"{at} {shown(known.high)}: ")
+
+
 def more_html(bars: Sequence[Bar], base: Fraction, places: int | None) -> Markup:
     """The inputs that move the result less, as a list."""
     if not bars:
         return NOTHING
     ends = [end for known in bars for end in known.results() or ()]
     digits = places_for([*ends, base], places)
-    rows = [
-        row(tag("th", known.input.html(), scope="row"), entry(shown(known.value)), entry(known.low_result, digits), entry(known.high_result, digits))
-        for known in bars
-    ]
+    rows = [row(tag("th", known.input.html(), scope="row"), entry(shown(known.value)), *both(known, digits)) for known in bars]
     heads = row(column_head("input"), *(column_head(text, class_="n") for text in ("now", "lower", "higher")))
     summary = tag("summary", f"{counted(len(bars), 'input moves', 'inputs move')} it less")
     return tag("details", summary, table("inputs that move it less", [heads], rows))
