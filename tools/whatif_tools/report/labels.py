@@ -1,7 +1,7 @@
 """The names of cells: the text at the left, and the head of the column."""
 
 from collections.abc import Mapping
-from dataclasses import dataclass
+from dataclasses import dataclass, field
 
 from ..sheet import Address
 
@@ -10,7 +10,6 @@ Cells = Mapping[Address, tuple[str, str]]
 
 FARTHEST = 8
 LONGEST = 60
-MOST_ROWS = 10_000
 
 
 @dataclass(frozen=True)
@@ -18,6 +17,8 @@ class Labels:
     """The names of cells by what stands around them."""
 
     cells: Cells
+    heads: dict[Address, tuple[str | None, bool]] = field(default_factory=dict)
+    """The head of each cell that was looked at, and whether all cells up to it are texts."""
 
     def text(self, at: Address) -> str | None:
         kind, text = self.cells.get(at, ("-", ""))
@@ -43,12 +44,15 @@ class Labels:
         return None
 
     def head(self, at: Address) -> str | None:
-        """The first text above, if each cell up to it shows something."""
-        for row in range(at.row - 1, max(0, at.row - 1 - MOST_ROWS), -1):
-            above = Address(row, at.column)
-            if above not in self.cells:
-                return None
-            text = self.text(above)
-            if text is not None:
-                return text
-        return None
+        """The text with which the list begins in which the cell stands: the last of the texts at its top."""
+        rows: list[Address] = []
+        known = Address(at.row - 1, at.column)
+        while known in self.cells and known not in self.heads:
+            rows.append(known)
+            known = Address(known.row - 1, known.column)
+        found, is_top = self.heads.get(known, (None, True))
+        for below in reversed(rows):
+            text = self.text(below) if is_top else None
+            found, is_top = (text, True) if text is not None else (found, False)
+            self.heads[below] = found, is_top
+        return found

@@ -12,6 +12,7 @@ from .questions import Course, Question
 from .seen import Changes, Formulas, Picture, Seen, changes_in, seen_at
 from .sensitivity import plan
 
+NAME = "whatif_report"
 MOST_SESSIONS = 64
 MOST_QUESTIONS = 400
 """So many are drawn."""
@@ -158,5 +159,7 @@ def is_table(place: Question) -> bool:
 
 def free_name(script: bytes) -> str:
     """A name that stands nowhere in the script."""
-    text = script.decode(errors="replace")
-    return next(name for name in ("whatif_report", *(f"whatif_report_{n}" for n in range(1, 1 << 20))) if name not in text)
+    name, count = NAME, 1
+    while name.encode() in script:
+        name, count = f"{NAME}_{count}", count + 1
+    return name
