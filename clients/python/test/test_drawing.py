@@ -209,6 +209,9 @@ class Others(unittest.TestCase):
                 self.assertAlmostEqual(wide, float(abs(part) / Fraction(1, 2)) * 100, delta=0.01)
                 self.assertAlmostEqual(x + wide if part < 0 else x, 100, delta=0.02)
         self.assertIn("Nothing differs", comparison_html([]))
+        long = comparison_html([[f"A{n}", "1", "2", "1"] for n in range(1, 1000)])
+        self.assertEqual([len(list(table.iter("tr"))) for table in tree(long).iter("table")], [41, 401])
+        self.assertIn("559 more aren't drawn", words(tree(long)))
 
     def test_scenarios(self) -> None:
         """64 of them, each beside the sheet as it is."""

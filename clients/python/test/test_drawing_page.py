@@ -74,7 +74,8 @@ def body(page: str) -> Node:
 
 class Pages(unittest.TestCase):
     PARTS = [
-        Part("The bill", table_html([["1", "-1"], ["2", "3"]], "B4", "B1"), "line 3"),
+        Part("The bill", table_html([["1", "-1"], ["2", "3"]], "B4", Label("B1", "a & b")), "line 3"),
+        Part("Many", comparison_html([[f"A{n}", "1", "2", "1"] for n in range(1, 50)], "a", "b")),
         Part(NASTY, comparison_html([]), NASTY, "findings", NASTY),
     ]
 
@@ -93,6 +94,9 @@ class Pages(unittest.TestCase):
 
     def test_tables_have_captions_and_heads(self) -> None:
         found = body(report("A tariff", self.PARTS))
+        for box in found.iter("div"):
+            if box.get("role") == "region":
+                self.assertEqual(box.get("aria-label"), words(next(box.iter("caption"))))
         for table in found.iter("table"):
             self.assertTrue(words(next(table.iter("caption"))))
             heads = list(table.iter("th"))

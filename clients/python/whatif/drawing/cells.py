@@ -6,8 +6,12 @@ from collections.abc import Iterable, Sequence
 from fractions import Fraction
 from urllib.parse import quote
 
-from .markup import Markup, tag
+from .markup import Markup, joined, plain, tag
 from .values import drawn, drawn_alone, exact, is_error
+
+MOST_ROWS = 40
+MOST_DRAWN = 440
+"""So many rows are shown at once, and drawn at all."""
 
 
 def entry(text: str, places: int | None = None, plus: bool = False, classes: str = "", title: str = "") -> Markup:
@@ -49,7 +53,17 @@ def row(*cells: Markup) -> Markup:
 def table(caption: str, heads: list[Markup], rows: list[Markup], classes: str = "") -> Markup:
     """A table in a box of its own, which scrolls where the page is narrow."""
     parts = [tag("caption", caption), tag("thead", *heads), tag("tbody", *rows)]
-    return tag("div", tag("table", *parts, class_=classes or None), class_="wide", tabindex="0", role="region", aria_label=str(caption))
+    return tag("div", tag("table", *parts, class_=classes or None), class_="wide", tabindex="0", role="region", aria_label=plain(caption))
+
+
+def folded(caption: str, heads: list[Markup], rows: list[Markup], classes: str = "") -> Markup:
+    """A table; what is behind its fortieth row is shown when it is asked for."""
+    shown_rows, rest = rows[:MOST_ROWS], rows[MOST_ROWS:]
+    first = table(caption, heads, shown_rows, classes)
+    if not rest:
+        return first
+    summary = tag("summary", f"{len(rest):,} more rows")
+    return joined([first, tag("details", summary, table(joined([caption, ", the rest"]), heads, rest, classes))])
 
 
 def note(*contents: str, classes: str = "soft") -> Markup:

@@ -7,7 +7,7 @@ from dataclasses import dataclass
 from fractions import Fraction
 from typing import Any
 
-from .cells import column_head, entry, in_figures, note, row, table
+from .cells import MOST_DRAWN, column_head, entry, folded, in_figures, note, row, table
 from .label import Label
 from .markup import NOTHING, Markup, decimal, joined, tag
 from .values import drawn, exact, places_for, shown
@@ -27,7 +27,7 @@ def comparison_html(
     """
     if not records:
         return note("Nothing differs.")
-    rows = [[shown(value) for value in record] for record in records]
+    rows = [[shown(value) for value in record] for record in records[:MOST_DRAWN]]
     parts = [part_of(line[1], line[3]) for line in rows]
     longest = max((abs(part) for part in parts if part is not None), default=Fraction(0)) or Fraction(1)
     body = []
@@ -38,7 +38,12 @@ def comparison_html(
         body.append(row(name, *cells))
     heads = [column_head("cell"), *(column_head(text, class_="n") for text in (state(before), state(after), "change"))]
     caption = joined([state(before), " and ", state(after)])
-    return table(caption, [row(*heads, column_head("", class_="bar", aria_label="change as a bar"))], body)
+    drawn_rows = folded(caption, [row(*heads, column_head("", class_="bar", aria_label="change as a bar"))], body)
+    return joined([drawn_rows, left_out(records)])
+
+
+def left_out(records: Sequence[Sequence[Any]]) -> Markup:
+    return note(f"{len(records) - MOST_DRAWN:,} more aren't drawn.") if len(records) > MOST_DRAWN else NOTHING
 
 
 def state(name: str) -> str:
@@ -129,6 +134,6 @@ def changes_html(
     if not changes:
         return note("Nothing has changed since.")
     heads = row(column_head("cell"), column_head("before", class_="n"), column_head("now", class_="n"))
-    names = [tag("th", named(change[0], labels).html(), scope="row") for change in changes]
+    names = [tag("th", named(change[0], labels).html(), scope="row") for change in changes[:MOST_DRAWN]]
     rows = [row(name, *(entry(shown(value), places) for value in change[1:])) for name, change in zip(names, changes)]
-    return table("what has changed since the session looked last", [heads], rows)
+    return joined([folded("what has changed since the session looked last", [heads], rows), left_out(changes)])

@@ -174,16 +174,19 @@ class Curves:
 
     def zeros(self) -> Iterator[Markup]:
         """Rings where lines cross 0, and their x as far as there is room."""
-        for count, line in enumerate(self.lines):
-            for at, is_entry in line.crossings[:MOST_CROSSINGS]:
-                x, y = self.x.at(at), self.y.at(Fraction(0))
-                yield tag("circle", cx=decimal(x), cy=decimal(y), r=5, class_=f"ring line{count}")
-                text = crossing_text(at, is_entry)
-                places = ((x + side, y + down, anchor) for down in (18, -9, 32, -23) for side, anchor in ((6, "start"), (-6, "end")))
-                free = next((place for place in places if self.room.take(text_box(place[0], place[1], text, place[2]))), None)
-                if free is not None:
-                    title = tag("title", str(at))
-                    yield tag("text", text, title, x=decimal(free[0]), y=decimal(free[1]), class_=f"crossing halo line{count} {free[2]}")
+        y = self.y.at(Fraction(0))
+        found = [(count, at, is_entry) for count, line in enumerate(self.lines) for at, is_entry in line.crossings[:MOST_CROSSINGS]]
+        for count, at, _ in found:
+            x = self.x.at(at)
+            self.room.taken.append(Box(x - 5, y - 5, x + 5, y + 5))
+            yield tag("circle", cx=decimal(x), cy=decimal(y), r=5, class_=f"ring line{count}")
+        for count, at, is_entry in found:
+            x, text = self.x.at(at), crossing_text(at, is_entry)
+            places = ((x + side, y + down, anchor) for down in (18, -9, 32, -23) for side, anchor in ((6, "start"), (-6, "end")))
+            free = next((place for place in places if self.room.take(text_box(place[0], place[1], text, place[2]))), None)
+            if free is not None:
+                title = tag("title", str(at))
+                yield tag("text", text, title, x=decimal(free[0]), y=decimal(free[1]), class_=f"crossing halo line{count} {free[2]}")
 
     def heads(self) -> Iterator[Markup]:
         """At the end of each of several lines its value of the second input."""
@@ -230,8 +233,8 @@ def crossings_html(answers: Answers, lines: list[Line]) -> Markup:
 
 
 def curves_html(answers: Answers) -> Markup:
-    """The drawing and its crossings; nothing where there is no line."""
-    lines = lines_of(answers)
+    """The drawing and its crossings; nothing where there is no line, or nothing to see on it."""
+    lines = [] if answers.are_alike() else lines_of(answers)
     if not lines:
         return NOTHING
     many = "" if answers.second is None or len(lines) == 1 else f"Each line is a value of {answers.second.text}"

@@ -6,13 +6,9 @@ from collections.abc import Collection, Mapping, Sequence
 from typing import Any
 
 from .answers import CORNER, letters_behind
-from .cells import column_head, download, entry, row, table
+from .cells import MOST_DRAWN, column_head, download, entry, folded, row
 from .markup import Markup, joined, tag
 from .values import shown
-
-MOST_ROWS = 40
-MOST_FOLDED = 400
-"""More rows than these are only in a file."""
 
 
 def sheet_html(
@@ -40,8 +36,8 @@ def sheet_html(
             cells.append(sheet_cell(shown(value), known.get(address, ""), address in texts, places))
         rows.append(row(tag("th", str(first + i), scope="row", class_="soft"), *cells))
     heads = [row(tag("td"), *(column_head(column, class_="soft") for column in columns))]
-    parts = [folded(caption or area.upper() + ("; formulas are shaded" if known else ""), heads, rows[: MOST_ROWS + MOST_FOLDED], "grid")]
-    if len(rows) > MOST_ROWS + MOST_FOLDED:
+    parts = [folded(caption or area.upper() + ("; formulas are shaded" if known else ""), heads, rows[: MOST_DRAWN], "grid")]
+    if len(rows) > MOST_DRAWN:
         texts_of = [[shown(value) for value in record] for record in records]
         parts.append(download(texts_of, f"all {len(rows):,} rows as CSV", "cells.csv"))
     return joined(parts)
@@ -54,16 +50,6 @@ def sheet_cell(text: str, formula: str, is_text: bool, places: int | None) -> Ma
     return entry(text, places, classes="formula" if formula else "", title=title)
 
 
-def folded(caption: str, heads: list[Markup], rows: list[Markup], classes: str = "") -> Markup:
-    """A table; what is behind its fortieth row is shown when it is asked for."""
-    shown_rows, rest = rows[:MOST_ROWS], rows[MOST_ROWS:]
-    first = table(caption, heads, shown_rows, classes)
-    if not rest:
-        return first
-    summary = tag("summary", f"{len(rest):,} more rows")
-    return joined([first, tag("details", summary, table(f"{caption}, the rest", heads, rest, classes))])
-
-
 def records_html(records: Sequence[Sequence[Any]], caption: str) -> Markup:
     """Records of whatever command."""
-    return folded(caption, [], [row(*(entry(shown(value)) for value in record)) for record in records[: MOST_ROWS + MOST_FOLDED]])
+    return folded(caption, [], [row(*(entry(shown(value)) for value in record)) for record in records[: MOST_DRAWN]])

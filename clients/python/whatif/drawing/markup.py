@@ -44,6 +44,15 @@ def tag(name: str, *contents: str, **attributes: object) -> Markup:
     return Markup(f"<{name}{''.join(given)}>{inside}</{name}>")
 
 
+def plain(text: str) -> str:
+    """The text of markup, without its tags.
+
+    >>> plain(tag("b", "1 < 2", tag("small", "B1"))), plain("<b>")
+    ('1 < 2B1', '<b>')
+    """
+    return html.unescape(re.sub("<[^>]*>", "", text)) if isinstance(text, Markup) else text
+
+
 def joined(parts: Iterable[str]) -> Markup:
     return Markup("".join(map(escaped, parts)))
 

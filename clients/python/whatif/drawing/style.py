@@ -30,6 +30,7 @@ body.whatif{background:var(--paper);margin:0}
 .whatif .side{display:flex;flex-wrap:wrap;gap:12px 28px;align-items:flex-start}
 .whatif .side>*{max-width:100%}
 .whatif .side>figure{width:480px}
+.whatif .most{width:480px}
 .whatif .least{width:min-content;min-width:260px}
 
 .whatif .wide table{min-width:min(240px,100%)}
@@ -44,7 +45,8 @@ body.whatif{background:var(--paper);margin:0}
 .whatif .heat thead th{white-space:normal}
 .whatif .heat thead th:first-child{min-width:100px}
 .whatif .n,.whatif table .n{text-align:right}
-.whatif .part{display:inline-block;min-width:5.6em;text-align:right}
+.whatif .part{display:inline-block;min-width:5.6em;padding-left:.6em;text-align:right}
+.whatif .heat td.e{text-align:right}
 .whatif .over{color:var(--soft);text-align:center;font-weight:400}
 .whatif th.now{text-decoration:underline;text-decoration-thickness:2px;text-underline-offset:4px}
 .whatif .here{outline:2px solid var(--ink);outline-offset:-1px;font-weight:700}
@@ -70,7 +72,7 @@ body.whatif{background:var(--paper);margin:0}
 .whatif .ring{fill:none;stroke-width:2}
 .whatif .map{display:block;width:480px;max-width:100%;height:360px;border:1px solid var(--rule)}
 .whatif .map .none{fill:var(--error)}
-.whatif .map .here{fill:none;stroke:var(--ink);stroke-width:2px;vector-effect:non-scaling-stroke}
+.whatif .map .here{outline:none;fill:none;stroke:var(--ink);stroke-width:2px;vector-effect:non-scaling-stroke}
 .whatif svg.bar{display:block;width:100%;min-width:70px;height:18px}
 .whatif td.bar{width:280px;padding:3px 0}
 .whatif .tornado td.bar{width:420px}
@@ -102,7 +104,7 @@ body.whatif{background:var(--paper);margin:0}
 .whatif .heat td,.whatif .heat th{padding:3px 4px}
 .whatif table:not(.tornado) .bar{display:none}
 .whatif .tornado td.bar{width:auto}
-.whatif .part{display:block;min-width:0}
+.whatif .part{display:block;min-width:0;padding:0}
 .whatif pre span{padding-left:3.2em;text-indent:-3.2em}
 .whatif pre i{min-width:2.4em;margin-right:.8em}
 }

@@ -45,7 +45,8 @@ def table_html(
         return note("The table has no entry.")
     is_large = len(known.xs) > MOST_SIDE or len(known.ys) > MOST_SIDE
     drawn = large(known, file_name) if is_large else listed(known)
-    return joined([warnings(known), tag("div", tag("div", drawn, legend(known), class_="least"), curves_html(known), class_="side")])
+    both = tag("div", drawn, legend(known), class_="most" if is_large else "least")
+    return joined([warnings(known), tag("div", both, curves_html(known), class_="side")])
 
 
 def caption(known: Answers) -> Markup:
@@ -116,7 +117,8 @@ def mapped(known: Answers) -> Markup:
     if known.known:
         low, high = map(told_number, known.ends)
         ranges.append(joined([f"{known.result.text}: from ", low, " to ", high]))
-    return tag("figure", heat_svg(known.numbers, known.ends, now, title), tag("figcaption", separated(ranges, "; "), class_="soft"))
+    words = joined([caption(known), ": ", separated(ranges, "; ")])
+    return tag("figure", heat_svg(known.numbers, known.ends, now, title), tag("figcaption", words, class_="soft"))
 
 
 def told_number(number: Fraction) -> Markup:
