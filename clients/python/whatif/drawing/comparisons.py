@@ -67,13 +67,15 @@ def part_of(before: str, by: str) -> Fraction | None:
 def change(by: str, part: Fraction | None, places: int) -> Markup:
     """A difference, with its percent."""
     number = exact(by)
-    if number is None or part is None:
+    if number is None:
         return entry(by, places, plus=True)
     return tag("td", in_figures(number, places, plus=True), percent(part), class_="n", title=by)
 
 
-def percent(part: Fraction) -> Markup:
-    """A part as percent at one decimal, with the exact percent as its title."""
+def percent(part: Fraction | None) -> Markup:
+    """A part as percent at one decimal, with the exact percent as its title; only the room for it where there is none."""
+    if not part:
+        return tag("small", class_="part")
     return tag("small", f"{drawn(part * 100, 1, plus=True).text}\u202f%", class_="part", title=f"{shown(part * 100)}\u202f%")
 
 
@@ -104,9 +106,10 @@ def scenarios_html(states: Sequence[State], cells: Sequence[str], *, labels: Map
     def value(known: State, at: str) -> Markup:
         text = known.values.get(at, "")
         part = part_of(first.values.get(at, ""), difference(first.values.get(at, ""), text))
-        if part is None or known is first or part == 0:
+        number = exact(text)
+        if known is first or number is None:
             return entry(text, digits[at])
-        return tag("td", in_figures(exact(text) or Fraction(0), digits[at]), percent(part), class_="n", title=text)
+        return tag("td", in_figures(number, digits[at]), percent(part), class_="n", title=text)
 
     def head(known: State, scope: str) -> Markup:
         based = tag("small", f" on {known.base}") if known.base else NOTHING

@@ -173,7 +173,7 @@ class Curves:
             yield tag("circle", told, cx=decimal(self.x.at(x)), cy=decimal(self.y.at(y)), r=2.5, class_=f"dot line{count}")
 
     def zeros(self) -> Iterator[Markup]:
-        """Rings where lines cross 0, and their x as far as there is room."""
+        """Rings where lines cross 0, and their x where there is room and no other ring is beside it."""
         y = self.y.at(Fraction(0))
         found = [(count, at, is_entry) for count, line in enumerate(self.lines) for at, is_entry in line.crossings[:MOST_CROSSINGS]]
         for count, at, _ in found:
@@ -182,11 +182,13 @@ class Curves:
             yield tag("circle", cx=decimal(x), cy=decimal(y), r=5, class_=f"ring line{count}")
         for count, at, is_entry in found:
             x, text = self.x.at(at), crossing_text(at, is_entry)
-            places = ((x + side, y + down, anchor) for down in (18, -9, 32, -23) for side, anchor in ((6, "start"), (-6, "end")))
-            free = next((place for place in places if self.room.take(text_box(place[0], place[1], text, place[2]))), None)
-            if free is not None:
-                title = tag("title", str(at))
-                yield tag("text", text, title, x=decimal(free[0]), y=decimal(free[1]), class_=f"crossing halo line{count} {free[2]}")
+            others = [self.x.at(other) for _, other, _ in found if other != at]
+            for right, baseline, anchor in ((x + side, y + down, anchor) for down in (18, -9) for side, anchor in ((6, "start"), (-6, "end"))):
+                box = text_box(right, baseline, text, anchor)
+                if not any(box.left < other < box.right for other in others) and self.room.take(box):
+                    title = tag("title", str(at))
+                    yield tag("text", text, title, x=decimal(right), y=decimal(baseline), class_=f"crossing halo line{count} {anchor}")
+                    break
 
     def heads(self) -> Iterator[Markup]:
         """At the end of each of several lines its value of the second input."""
