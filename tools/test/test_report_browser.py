@@ -8,6 +8,7 @@ import re
 import tempfile
 import unittest
 from fractions import Fraction
+from itertools import product
 from pathlib import Path
 
 import browser
@@ -16,7 +17,7 @@ from whatif.drawing.colours import NEEDED, contrast
 from whatif.drawing.values import shown
 from whatif_tools.report.main import main
 
-SCRIPT = Path(__file__).resolve().parent / "report.whatif"
+FOLDER = Path(__file__).resolve().parent
 WIDTHS = (1200, 360)
 A4_WIDTH, A4_HEIGHT = 688, 1017
 """The space inside of the margins of 14 mm, at 96 pixels an inch."""
@@ -53,10 +54,15 @@ class InBrowser(unittest.TestCase):
     @classmethod
     def setUpClass(cls) -> None:
         cls.folder = tempfile.TemporaryDirectory()
-        cls.path = Path(cls.folder.name) / "page.html"
-        with contextlib.redirect_stderr(io.StringIO()):
-            main([str(SCRIPT), "-o", str(cls.path)])
+        cls.path, cls.odd = (cls.page_of(FOLDER / name) for name in ("report.whatif", "report_odd.whatif"))
         cls.browser = Browser(browser.found() or "")
+
+    @classmethod
+    def page_of(cls, script: Path) -> Path:
+        page = Path(cls.folder.name) / f"{script.stem}.html"
+        with contextlib.redirect_stderr(io.StringIO()):
+            main([str(script), "-o", str(page)])
+        return page
 
     @classmethod
     def tearDownClass(cls) -> None:
@@ -64,17 +70,17 @@ class InBrowser(unittest.TestCase):
         cls.folder.cleanup()
 
     def test_widths(self) -> None:
-        """Nothing sticks out, no label covers another, nothing is complained of or fetched."""
-        for width in WIDTHS:
-            with self.subTest(width):
-                self.browser.open(self.path, width)
+        """Nothing sticks out, no label covers another, nothing is complained of or fetched; so with long names, huge and tiny numbers."""
+        for page, width in product((self.path, self.odd), WIDTHS):
+            with self.subTest(page=page.name, width=width):
+                self.browser.open(page, width)
                 self.assertEqual(self.browser.ask("innerWidth"), width)
                 self.assertEqual(self.browser.ask("document.documentElement.scrollWidth"), width)
                 self.assertGreater(self.browser.ask('document.querySelectorAll("svg.curves text").length'), 40)
                 for script in (OVERLAPS, OUTSIDE, STICKING_OUT):
                     self.assertEqual(self.browser.ask(script), [])
                 self.assertEqual(self.browser.faults(), [])
-                self.assertEqual(self.browser.requests(), [self.path.resolve().as_uri()])
+                self.assertEqual(self.browser.requests(), [page.resolve().as_uri()])
 
     def test_labels_can_be_read(self) -> None:
         """Letters are 9 pixels high at least where the page is narrow."""
@@ -116,12 +122,10 @@ class InBrowser(unittest.TestCase):
     def test_texts_that_are_markup(self) -> None:
         """Nothing of a cell, a name or a comment is run."""
         nasty = '<img src=x onerror="window.hit=1"><script>window.hit=1</script>"\'>'
-        script, page = Path(self.folder.name) / "nasty.whatif", Path(self.folder.name) / "nasty.html"
+        script = Path(self.folder.name) / "nasty.whatif"
         cells = f"set A1 '{nasty}\nset B1 5\nset B2 =[.B1]*2\nset A2 '{nasty}\n"
         script.write_text(f"# {nasty}\n{cells}# so {nasty}\nshow A1:B2\ntable B2 B1 B1\n{nasty}\n")
-        with contextlib.redirect_stderr(io.StringIO()):
-            main([str(script), "-o", str(page)])
-        self.browser.open(page, 1200)
+        self.browser.open(self.page_of(script), 1200)
         self.assertIsNone(self.browser.ask("window.hit"))
         self.assertEqual(self.browser.ask('document.querySelectorAll("img, script").length'), 1)
         self.assertEqual(self.browser.ask("document.title"), nasty)

@@ -6,12 +6,15 @@ import contextlib
 import hashlib
 import io
 import os
+import re
 import resource
 import subprocess
+import sys
 import tempfile
 import unittest
 from pathlib import Path
 
+from pages import codes, page_of
 from report_page import blocks
 from reports import STALL, TABLE, Reports
 from whatif_tools.check import Check
@@ -150,6 +153,28 @@ class Limits(Reports):
 def processor_seconds() -> float:
     usages = (resource.getrusage(who) for who in (resource.RUSAGE_SELF, resource.RUSAGE_CHILDREN))
     return sum(usage.ru_utime + usage.ru_stime for usage in usages)
+
+
+class Documented(unittest.TestCase):
+    """What docs/REPORT.md says."""
+
+    def test_python(self) -> None:
+        """Its example runs beside a script like that of START, and makes the page."""
+        source = next(block.text for block in page_of(ROOT / "docs" / "REPORT.md").blocks if block.language == "python")
+        with tempfile.TemporaryDirectory() as folder:
+            script = "set B7 0\nset B8 =195-[.B7]*454\ncsv G1 5\n,\n0\n0.05\n0.1\n0.2\n"
+            Path(folder, "plan.whatif").write_text(script)
+            environment = {**os.environ, "WHATIF": str(Path(program()).resolve()), "PYTHONPATH": str(ROOT / "clients" / "python")}
+            subprocess.run([sys.executable, "-B", "-c", source], cwd=folder, env=environment, check=True)
+            (block,) = blocks(Path(folder, "plan.html").read_text(encoding="utf-8"))
+        self.assertEqual(block.tables()[0][1:], [["0.00", "195"], ["0.05", "172.3"], ["0.10", "149.6"], ["0.20", "104.2"]])
+
+    def test_options(self) -> None:
+        """Each option of the help stands on the page, and no other one."""
+        done = subprocess.run([str(ROOT / "tools" / "whatif-report"), "--help"], capture_output=True, text=True, check=True)
+        told = {code.split(" ")[0] for row in page_of(ROOT / "docs" / "REPORT.md").tables["Options"] for code in codes(row[0])}
+        options = {option for line in done.stdout.splitlines() if line.startswith("  -") for option in re.findall("--[a-z]+", line)}
+        self.assertEqual(options - {"--help", "--output"}, told - {"-o"})
 
 
 class Command(unittest.TestCase):

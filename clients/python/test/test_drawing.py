@@ -134,7 +134,8 @@ class Tables(unittest.TestCase):
 
     def test_alike(self) -> None:
         self.assertIn("All answers are alike: does B5 depend on B1?", table_html([["1", "7"], ["2", "7"]], GOAL, PIECES))
-        self.assertNotIn("alike", table_html([["1", "7"], ["2", "8"]], GOAL, PIECES))
+        for other in ([["1", "7"], ["2", "8"]], [["1", "7"]], [["1", "#N/A"], ["2", "#N/A"]]):
+            self.assertNotIn("alike", table_html(other, GOAL, PIECES))
 
     def test_rounded_numbers_are_marked(self) -> None:
         """Each number in a drawing's text is exact, or has a sign; each in a table has the exact one as its title."""
@@ -251,7 +252,9 @@ class Others(unittest.TestCase):
                 self.assertAlmostEqual(wide, float(abs(value - base) / (high - low)) * 1000, delta=0.01)
             titles = [line[n].get("title", "") for n in (1, 3)]
             self.assertEqual(titles, [f"{at} {shown(inputs[at] * f)}: {shown(cases[at](inputs[at] * f))}" for f in (1 - by, 1 + by)])
-        self.assertIn("1 more input in reach", words(found))
+        self.assertIn("1 more input in reach doesn\u2019t move it.", words(found))
+        still = tornado_html(GOAL, base, [bars[-2]] * 2, by)
+        self.assertEqual(words(tree(still)), "2 inputs in reach don\u2019t move it.")
         self.assertIn("Not drawn: rows (B8), since 10 gives #REF!.", words(found))
         self.assertIn("Years are left out.", words(found))
         many = [Bar(Label(f"C{n}"), Fraction(n), Fraction(n), Fraction(n), str(3000 - n), str(3000 + n)) for n in range(1, 21)]

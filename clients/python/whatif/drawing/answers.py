@@ -44,9 +44,10 @@ class Answers:
         return (min(self.known), max(self.known)) if self.known else (Fraction(0), Fraction(0))
 
     def are_alike(self) -> bool:
-        """Whether all of several entries show the same."""
+        """Whether all of several entries show the same, which is no error."""
         first = self.entries[0][0] if self.entries and self.entries[0] else ""
-        return sum(map(len, self.entries)) > 1 and all(text == first for line in self.entries for text in line)
+        is_same = all(text == first for line in self.entries for text in line)
+        return is_same and not is_error(first) and sum(map(len, self.entries)) > 1
 
     def errors(self) -> list[tuple[int, int]]:
         """The row and the column of each entry that shows an error."""

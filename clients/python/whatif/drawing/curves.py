@@ -12,7 +12,7 @@ from .colours import LINES
 from .markup import NOTHING, Markup, decimal, joined, separated, tag
 from .places import SIZE, Box, Room, fitting, spread, text_box, width
 from .scale import Scale, tick_texts, ticks, widened
-from .values import drawn_alone, exact
+from .values import FIGURES, NEARLY, THIN, drawn_alone, exact, magnitude, rounded
 
 WIDTH, HEIGHT, TOP, BOTTOM = 440, 280, 30, 44
 MOST_LABEL = 120.0
@@ -108,9 +108,10 @@ class Curves:
             low = min(low, -high * ROOM_BELOW)
         self.y_ticks = ticks(low, high, 5)
         self.y_texts = tick_texts(self.y_ticks)
-        left = max(map(width, self.y_texts), default=0) + 8
-        right = min(MOST_LABEL, max(width(line.head) for line in lines) + 12) if len(lines) > 1 else 16.0
+        left = max(map(width, self.y_texts)) + 8
         xs = lines[0].xs
+        half = max(map(width, tick_texts(ticks(xs[0], xs[-1], MOST_TICKS)))) / 2
+        right = max(half, min(MOST_LABEL, max(width(line.head) for line in lines) + 12) if len(lines) > 1 else 0.0)
         self.x = Scale(xs[0], xs[-1], left, WIDTH - right)
         self.y = Scale(low, high, HEIGHT - BOTTOM, TOP)
         self.room = Room(Box(left, 0, WIDTH - right, HEIGHT - BOTTOM))
@@ -181,7 +182,7 @@ class Curves:
             self.room.taken.append(Box(x - 5, y - 5, x + 5, y + 5))
             yield tag("circle", cx=decimal(x), cy=decimal(y), r=5, class_=f"ring line{count}")
         for count, at, is_entry in found:
-            x, text = self.x.at(at), crossing_text(at, is_entry)
+            x, text = self.x.at(at), crossing_text(at, is_entry, self.lines[count])
             others = [self.x.at(other) for _, other, _ in found if other != at]
             for right, baseline, anchor in ((x + side, y + down, anchor) for down in (18, -9) for side, anchor in ((6, "start"), (-6, "end"))):
                 box = text_box(right, baseline, text, anchor)
@@ -216,9 +217,11 @@ def thinned(piece: list[Point], scale: Scale) -> list[Point]:
     return kept
 
 
-def crossing_text(at: Fraction, is_entry: bool) -> str:
-    told = drawn_alone(at)
-    return told.text if is_entry and told.is_exact else f"\u2248\u202f{told.text}"
+def crossing_text(at: Fraction, is_entry: bool, line: Line) -> str:
+    """A place as it is told: with four figures of how far the line goes, and with a sign unless an entry says so exactly."""
+    near = rounded(at, max(0, FIGURES - magnitude(line.xs[-1] - line.xs[0])))
+    text = drawn_alone(near).text
+    return text if is_entry and near == at else NEARLY + THIN + text
 
 
 def crossings_html(answers: Answers, lines: list[Line]) -> Markup:
@@ -226,7 +229,7 @@ def crossings_html(answers: Answers, lines: list[Line]) -> Markup:
     told = []
     for line in lines:
         found = line.crossings
-        places = [tag("span", crossing_text(at, is_entry), title=str(at)) for at, is_entry in found[:MOST_CROSSINGS]]
+        places = [tag("span", crossing_text(at, is_entry, line), title=str(at)) for at, is_entry in found[:MOST_CROSSINGS]]
         if places:
             more = f" and {len(found) - MOST_CROSSINGS} more" if len(found) > MOST_CROSSINGS else ""
             of = f" ({answers.second.text} {line.head})" if answers.second is not None else ""

@@ -43,7 +43,7 @@ body.whatif{background:var(--paper);margin:0}
 .whatif tbody th{white-space:normal;min-width:92px;max-width:340px;overflow-wrap:break-word}
 .whatif .heat tbody th{min-width:0}
 .whatif .heat thead th{white-space:normal}
-.whatif .heat thead th:first-child{min-width:100px}
+.whatif .heat thead th:first-child{min-width:120px}
 .whatif .n,.whatif table .n{text-align:right}
 .whatif .part{display:inline-block;min-width:5.6em;padding-left:.6em;text-align:right}
 .whatif .heat td.e{text-align:right}

@@ -48,10 +48,11 @@ def tornado_html(
     moving = sorted((known for known in bars if known.swing(base)), key=lambda known: -known.swing(base))
     faults = [known for known in bars if known.results() is None]
     still = len(bars) - len(moving) - len(faults)
-    told = [counted(still, "more input in reach doesn\u2019t move it.", "more inputs in reach don\u2019t move it.")] if still else []
+    other = "more " if moving else ""
+    told = [counted(still, f"{other}input in reach doesn\u2019t move it.", f"{other}inputs in reach don\u2019t move it.")] if still else []
     notes = [*(note(fault_text(known), classes="e") for known in faults[:MOST_FAULTS]), *(note(text) for text in [*told, *remarks])]
     if not moving:
-        return joined([note(f"No input moves {goal.text}."), *notes])
+        return joined(notes)
     drawn_bars = moving[:MOST_BARS]
     part = shown(by * 100)
     lower, higher = tag("b", f"{part} % lower", class_="low"), tag("b", f"{part} % higher", class_="high")
