@@ -8,6 +8,7 @@ import io
 import os
 import re
 import resource
+import shutil
 import subprocess
 import sys
 import tempfile
@@ -177,16 +178,28 @@ class Documented(unittest.TestCase):
         self.assertEqual(options - {"--help", "--output"}, told - {"-o"})
 
 
-class Command(unittest.TestCase):
-    def test_called(self) -> None:
-        """As a command: the page beside, named by the script, and the status."""
-        with tempfile.TemporaryDirectory() as folder:
-            Path(folder, "plan.whatif").write_text("set A1 5\nshow A1\n")
-            words = [str(ROOT / "tools" / "whatif-report"), "plan.whatif"]
-            environment = {**os.environ, "WHATIF": str(Path(program()).resolve())}
-            done = subprocess.run(words, cwd=folder, env=environment, capture_output=True, text=True)
-            self.assertEqual((done.returncode, done.stdout, done.stderr), (0, "", ""))
-            self.assertIn("<title>plan</title>", Path(folder, "plan.html").read_text())
+class Command(Reports):
+    def called_in_folder(self, tool: Path) -> None:
+        """The page lies beside, named by the script."""
+        (self.place / "plan.whatif").write_text("set A1 5\nshow A1\n")
+        environment = {**os.environ, "WHATIF": str(Path(program()).resolve())}
+        done = subprocess.run([str(tool), "plan.whatif"], cwd=self.place, env=environment, capture_output=True, text=True)
+        self.assertEqual((done.returncode, done.stdout, done.stderr), (0, "", ""))
+        self.assertIn("<title>plan</title>", (self.place / "plan.html").read_text())
+
+    def test_in_the_repository(self) -> None:
+        self.called_in_folder(ROOT / "tools" / "whatif-report")
+
+    def test_installed(self) -> None:
+        """The tool below share, called by a link in bin, and the client where Python packages are."""
+        share, packages = self.place / "usr" / "share" / "whatif", self.place / "usr" / "lib" / "python3" / "dist-packages"
+        leave = shutil.ignore_patterns("__pycache__")
+        shutil.copytree(ROOT / "tools" / "whatif_tools", share / "whatif_tools", ignore=leave)
+        shutil.copytree(ROOT / "clients" / "python" / "whatif", packages / "whatif", ignore=leave)
+        shutil.copy(ROOT / "tools" / "whatif-report", share)
+        (self.place / "usr" / "bin").mkdir()
+        (self.place / "usr" / "bin" / "whatif-report").symlink_to("../share/whatif/whatif-report")
+        self.called_in_folder(self.place / "usr" / "bin" / "whatif-report")
 
 
 if __name__ == "__main__":
