@@ -64,6 +64,24 @@ class Questions(Reports):
         self.assertEqual(now, [["180"], ["80"], ["300"]])
         self.assertIn("scenario fair", found[2].about)
 
+    def test_heads_of_lists(self) -> None:
+        """A cell of a list has its head, until the list has a gap; what is beside another block is none of its names."""
+        script = "csv A1 4\nkind,jars,cost\nplum,40,1.9\nquince,25,2.4\nbramble,30,2.1\nset D4 =[.B4]*[.C4]\nset G1 7\nset G2 8\n"
+        script += "table D4 B4 G1:G2\nclear B3\ntable D4 B4 G1:G2\ntable D4 G1 G1:G2\n"
+        captions = [block.captions()[0] for block in self.blocks(script)]
+        self.assertEqual(captions, ["bramble D4 by bramble \u00b7 jars B4", "bramble D4 by bramble B4", "bramble D4 by G1"])
+
+    def test_sessions_are_left_as_they_are(self) -> None:
+        """Two tables of a session in a scenario, behind one another: the page's own questions don't take it to another one."""
+        script = STALL + TABLE + "scenario dear B2 6\nas bo\nuse dear\ntable B4 B1 D2:D4\ntable B4 B1 D2:D4\nshow B4\n"
+        found = self.blocks(script)
+        wanted = [shown(profit(Fraction(n), Fraction(6), Fraction(120))) for n in (80, 180, 300)]
+        for block in found[:2]:
+            self.assertEqual(block.captions()[0], "profit B4 by customers B1")
+            self.assertEqual([row[1] for row in block.tables()[0][1:]], wanted)
+        self.assertEqual([block.heads() for block in found[:2]], [["What moves profit B4 most"], []])
+        self.assertEqual(found[2].tables()[0][1], ["4", wanted[1]])
+
     def test_compare(self) -> None:
         block = self.blocks(STALL + "scenario rain B1 95\ncompare - rain B1:B4\n")[0]
         before, after = (profit(Fraction(n), Fraction(48, 10), Fraction(120)) for n in (180, 95))
@@ -124,6 +142,13 @@ class Tornados(Reports):
             rows[name] = ends
         order = sorted(rows, key=lambda name: -abs(rows[name][1] - rows[name][0]))
         self.assertEqual(block.tables()[1][1:], [[name, *map(shown, rows[name])] for name in order])
+
+    def test_a_replaced_formula_is_an_input(self) -> None:
+        """What it reads doesn't move the result in that scenario, and isn't tried."""
+        script = STALL + "set B5 =[.B3]*2\nset A5 'twice\nset B6 =[.B5]+[.B1]\nset A6 'sum\n" + TABLE
+        block = self.blocks(script + "scenario s B5 50\nuse s\ntable B6 B1 D2:D4\n")[0]
+        self.assertEqual(block.tables()[1][1:], [["customers B1 180", "212", "248"], ["twice B5 50", "225", "235"]])
+        self.assertNotIn("reach", block.text)
 
     def test_by_and_goal(self) -> None:
         """Another part, and a cell of which no table asks; the state is that of the end."""

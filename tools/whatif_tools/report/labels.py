@@ -9,6 +9,7 @@ Cells = Mapping[Address, tuple[str, str]]
 """What each cell that isn't empty shows: its kind and its text."""
 
 FARTHEST = 8
+WIDEST_GAP = 2
 LONGEST = 60
 
 
@@ -31,15 +32,15 @@ class Labels:
         return name if len(name) <= LONGEST else name[: LONGEST - 1] + "\u2026"
 
     def left(self, at: Address) -> str | None:
-        """The nearest text at the left, behind other values or behind a gap but not behind both: that is another block's."""
-        has_value = has_gap = False
+        """The nearest text at the left, behind other values or behind a gap of a cell or two; behind both it is another block's."""
+        has_value, gap = False, 0
         for column in range(at.column - 1, max(0, at.column - 1 - FARTHEST), -1):
             before = Address(at.row, column)
             text = self.text(before)
             if text is not None:
                 return text
-            has_value, has_gap = has_value or before in self.cells, has_gap or before not in self.cells
-            if has_value and has_gap:
+            has_value, gap = has_value or before in self.cells, gap + (before not in self.cells)
+            if gap > WIDEST_GAP or has_value and gap:
                 return None
         return None
 

@@ -116,8 +116,15 @@ body.whatif{background:#fff}
 .whatif section{border:none;border-top:1px solid var(--rule);border-radius:0;padding:8px 0;margin:8px 0}
 .whatif tr,.whatif figure,.whatif h2,.whatif .meta{break-inside:avoid}
 .whatif h2,.whatif .meta,.whatif caption{break-after:avoid}
+.whatif h1{font-size:20px}
+.whatif h2,.whatif h3{font-size:13px}
+.whatif .meta,.whatif caption,.whatif figcaption,.whatif .legend span.key,.whatif code,.whatif pre,.whatif dl{font-size:10px}
+.whatif td,.whatif th{padding:2px 6px}
 .whatif .wide{overflow:visible}
-.whatif .curves{width:330px}
+.whatif .side{gap:8px 16px}
+.whatif .side>figure,.whatif .curves{width:310px}
+.whatif .most,.whatif .map{width:330px}
+.whatif .map{height:250px}
 .whatif button{white-space:nowrap;display:none}
 }
 """
