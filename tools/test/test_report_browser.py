@@ -3,9 +3,11 @@
 from __future__ import annotations
 
 import contextlib
+import csv
 import io
 import re
 import tempfile
+import time
 import unittest
 from fractions import Fraction
 from itertools import product
@@ -118,6 +120,19 @@ class InBrowser(unittest.TestCase):
         wanted = ["customers of a day\tprofit of a customer", "0\t#DIV/0!", *(f"{n}\t{profit}" for n, profit in zip(customers, profits))]
         self.assertEqual(copied.split("\n"), wanted)
         self.assertIn("483/275", profits)
+
+    def test_file_in_the_page(self) -> None:
+        """The numbers of a large table are saved by their link, without a network."""
+        self.browser.open(self.path, 1200)
+        self.browser.send("Page.setDownloadBehavior", behavior="allow", downloadPath=self.folder.name)
+        self.browser.ask('document.querySelector("a[download]").click(), 1')
+        saved = Path(self.folder.name) / "B9_line_42.csv"
+        limit = time.monotonic() + 30
+        while not saved.exists() and time.monotonic() < limit:
+            time.sleep(0.1)
+        head, first, *rows = list(csv.reader(saved.read_text(encoding="utf-8").splitlines()))
+        self.assertEqual((head[:3], first[:3], len(rows)), (["customers of a day", "0.1", "0.2"], ["0", "-282", "-282"], 60))
+        self.assertEqual(rows[-1][-1], shown(Fraction(16, 10) * 360 * (Fraction(62, 10) - Fraction(21, 10)) - 282))
 
     def test_texts_that_are_markup(self) -> None:
         """Nothing of a cell, a name or a comment is run."""

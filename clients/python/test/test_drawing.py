@@ -12,7 +12,7 @@ from fractions import Fraction
 from urllib.parse import unquote
 
 from drawings import Node, Scales, classes, map_classes, number, of_class, rows, tree, words
-from whatif.drawing import Bar, Label, State, changes_html, comparison_html, scenarios_html, sheet_html, table_html, tornado_html
+from whatif.drawing import Bar, Label, Names, State, changes_html, comparison_html, scenarios_html, sheet_html, table_html, tornado_html
 from whatif.drawing.colours import LEVELS
 from whatif.drawing.values import drawn, exact, places_for, shown
 
@@ -151,6 +151,23 @@ class Tables(unittest.TestCase):
     def test_empty(self) -> None:
         self.assertIn("no entry", table_html([], GOAL, PIECES))
         self.assertNotIn("<svg", table_html([["", "1"], ["a", "x"]], GOAL, PIECES, PRICE))
+
+
+class NamesOfCells(unittest.TestCase):
+    def test_names(self) -> None:
+        """The text at the left, with values or a gap between but not both; and the last text at the top of the list."""
+        cells = {"A1": "Q1", "B1": "2026", "C1": "cost", "A2": "kind", "C2": "EUR", "A3": "plum", "B3": 1, "C3": 2, "D3": 3}
+        cells.update({"A4": "fig", "C4": 8, "D4": 4, "A5": "nut", "B5": 5, "C5": "n/a", "D5": 6, "E5": "a  long\nname", "F5": 7})
+        cells.update({"C6": 9, "A9": "far", "E9": 1})
+        places = {(int(at[1:]), ord(at[0]) - 64): value for at, value in cells.items()}
+        names = Names(lambda row, column: text_of(places.get((row, column))), lambda row, column: (row, column) in places)
+        wanted = {"C3": "plum \u00b7 EUR", "D3": "plum", "B3": "plum", "C4": "fig \u00b7 EUR", "C6": "EUR", "D5": "n/a", "F5": "a long name", "B9": "far"}
+        wanted.update(dict.fromkeys(("D4", "E9", "Z1", "x"), ""))
+        self.assertEqual({at: names.at(at) for at in wanted}, wanted)
+
+
+def text_of(value: object) -> str | None:
+    return value if isinstance(value, str) else None
 
 
 class LargeTables(unittest.TestCase):

@@ -88,7 +88,7 @@ class Pages(unittest.TestCase):
         self.assertEqual(page, report(NASTY, self.PARTS, about=NASTY, sources=[(NASTY, NASTY)]))
 
     def test_nothing_is_fetched(self) -> None:
-        page = report("A tariff", self.PARTS) + style()
+        page = re.sub("'sha256-[^']*'", "", report("A tariff", self.PARTS)) + style()
         self.assertIsNone(re.search(r"(?:src|href)=.(?!#|data:)|url\(|@import|https?:|//[a-z]", page))
         self.assertIn("default-src 'none'", page)
 

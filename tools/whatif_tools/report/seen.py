@@ -6,7 +6,7 @@ from whatif.drawing import Bar, Label
 
 from ..program import Reply
 from ..sheet import Address, Rectangle
-from .labels import Labels
+from .labels import names_in
 from .questions import Question
 from .sensitivity import Plan
 
@@ -34,8 +34,7 @@ class Picture:
                 self.cells[at] = (kind, text)
 
     def label(self, address: str) -> str:
-        at = Address.parse(address)
-        return "" if at is None else Labels(self.cells).of(at)
+        return names_in(self.cells).at(address)
 
     def text(self, address: str) -> str:
         at = Address.parse(address)

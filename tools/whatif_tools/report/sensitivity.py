@@ -11,7 +11,7 @@ from ..formula import fits
 from ..program import Reply
 from ..sheet import Address
 from .inputs import LEFT_OUT, Sheet, is_quantity
-from .labels import Labels
+from .labels import names_in
 
 MOST_INPUTS = 1_000
 
@@ -67,11 +67,11 @@ def plan(sheet: Sheet, goal: Label, by: Fraction, replaced: frozenset[str]) -> P
     if at is None or base is None:
         return None
     places = frozenset(cell for cell in map(Address.parse, replaced) if cell is not None)
-    labels = Labels(sheet.cells)
+    names = names_in(sheet.cells)
     inputs: list[Input] = []
     left_out = 0
     for cell in sheet.inputs(at, places):
-        value, name = exact(sheet.cells[cell][1]), labels.of(cell)
+        value, name = exact(sheet.cells[cell][1]), names.of(cell.row, cell.column)
         if value is None or not is_quantity(value, name):
             left_out += 1
         elif fits(value * (1 - by)) and fits(value * (1 + by)):

@@ -12,6 +12,7 @@ from .comparisons import State, changes_html, comparison_html, scenarios_html
 from .grids import records_html, sheet_html
 from .label import Label
 from .markup import Markup, escaped, joined, tag
+from .names import Names
 from .page import Part, fragment, report
 from .tables import table_html
 from .tornado import Bar, tornado_html
@@ -20,6 +21,7 @@ __all__ = [
     "Bar",
     "Label",
     "Markup",
+    "Names",
     "Part",
     "State",
     "changes_html",

@@ -72,16 +72,25 @@ class Answers:
         return [heads, *([x, *line] for x, line in zip(self.xs, self.entries))]
 
 
+def letters_value(letters: str) -> int:
+    """The number of a column.
+
+    >>> letters_value("A"), letters_value("aa")
+    (1, 27)
+    """
+    number = 0
+    for letter in letters.upper():
+        number = number * 26 + ord(letter) - ord("A") + 1
+    return number
+
+
 def letters_behind(letters: str, count: int) -> str:
     """The letters of the column that is so many behind one.
 
     >>> letters_behind("Z", 1)
     'AA'
     """
-    number = count
-    for place, letter in enumerate(reversed(letters.upper())):
-        number += (ord(letter) - ord("A") + 1) * 26**place
-    found = ""
+    number, found = letters_value(letters) + count, ""
     while number > 0:
         number, rest = divmod(number - 1, 26)
         found = chr(ord("A") + rest) + found

@@ -12,7 +12,7 @@ from .style import style
 
 COPY = """
 const exact = cell => cell.title.split(" ").pop() || cell.textContent.trim();
-for (const table of document.querySelectorAll("table")) {
+for (const table of navigator.clipboard ? document.querySelectorAll("table") : []) {
   const button = document.createElement("button");
   button.type = "button";
   button.textContent = "copy exact";
