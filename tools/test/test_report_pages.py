@@ -126,6 +126,29 @@ class Limits(Reports):
         self.assertIn("The script has made 64 sessions", page)
         self.assertEqual(blocks(page)[1].captions(), ["B4 by B1"])
 
+    def test_seven_results(self) -> None:
+        """What moves each of six is drawn, and that it isn't of the seventh is said; seven tables of one result are drawn alike."""
+        script = STALL + TABLE + "".join(f"set C{n} =[.B1]*{n}\n" for n in range(1, 8))
+        page = self.page(script + "".join(f"table C{n} B1 D2:D4\n" for n in range(1, 8)))
+        self.assertEqual([len(block.heads()) for block in blocks(page)[1:8]], [1] * 6 + [0])
+        self.assertIn("told of the first 6 alone", page)
+        page = self.page(script + "table C1 B1 D2:D4\n" * 7)
+        self.assertEqual([len(block.heads()) for block in blocks(page)[1:8]], [1] + [0] * 6)
+        self.assertNotIn("alone.", page)
+
+    def test_large_sheet(self) -> None:
+        page = self.page(STALL + "set F1 1\nfill F1 F2:F20001\n" + TABLE + "table B4 B1 D2:D4\n")
+        self.assertIn("more than 20,000 cells, so what moves a result isn", page)
+        self.assertEqual(blocks(page)[1].captions(), ["profit B4 by customers B1"])
+
+    def test_findings_in_long_data(self) -> None:
+        """The middle of long data is left out of the listing, but for lines in which something is found."""
+        lines = [f"{n}" for n in range(1, 101)]
+        lines[49] = "50 %"
+        listing = blocks(self.page("csv A1 100\n" + "\n".join(lines) + "\nshow A1\n"))[-1]
+        shown_lines = [node.get("id") for node in listing.node.iter("span") if node.get("id")]
+        self.assertEqual(shown_lines, [f"L{n}" for n in [*range(1, 14), 51, *range(90, 103)]])
+
     def test_nothing_to_draw(self) -> None:
         for script in ("", "# only a comment\n", "set A1 5", "csv A1 3\n1\n", "\ufeffset A1 1\n", "set A1 1\n" * 500):
             self.assertIn("</html>", self.page(script))

@@ -161,7 +161,8 @@ class NamesOfCells(unittest.TestCase):
         cells.update({"C6": 9, "A9": "far", "E9": 1})
         places = {(int(at[1:]), ord(at[0]) - 64): value for at, value in cells.items()}
         names = Names(lambda row, column: text_of(places.get((row, column))), lambda row, column: (row, column) in places)
-        wanted = {"C3": "plum \u00b7 EUR", "D3": "plum", "B3": "plum", "C4": "fig \u00b7 EUR", "C6": "EUR", "D5": "n/a", "F5": "a long name", "B9": "far"}
+        wanted = {"C3": "plum \u00b7 EUR", "D3": "plum", "B3": "plum", "C4": "fig \u00b7 EUR", "C6": "EUR", "D5": "n/a"}
+        wanted.update({"F5": "a long name", "B9": "far"})
         wanted.update(dict.fromkeys(("D4", "E9", "Z1", "x"), ""))
         self.assertEqual({at: names.at(at) for at in wanted}, wanted)
 

@@ -20,7 +20,7 @@ from whatif.drawing import (
 from ..finding import Finding
 from .questions import Question
 from .seen import Seen
-from .survey import MOST_QUESTIONS, MOST_SIDE_BY_SIDE, MOST_TORNADOS, Survey
+from .survey import MOST_QUESTIONS, MOST_SIDE_BY_SIDE, Survey
 
 LONGEST_COMMAND = 200
 
@@ -121,13 +121,6 @@ class Blocks:
         is_cut = len(survey.side_by_side) == MOST_SIDE_BY_SIDE
         limit = tag("p", f"Only the first {MOST_SIDE_BY_SIDE} of these cells.", class_="soft") if is_cut else ""
         return Part("Scenarios side by side", joined([body, limit]), about)
-
-    def remarks(self) -> list[str]:
-        """What the page can't show."""
-        if not self.survey.has_room:
-            return ["The script has made 64 sessions, so no other one could ask for names, inputs and scenarios."]
-        tornados = sum(len(seen.plans) for seen in self.survey.seen.values())
-        return [f"Only the first {MOST_TORNADOS} tornados are drawn."] if tornados == MOST_TORNADOS else []
 
 
 BODIES: dict[str, Callable[[Blocks, Question, Seen], Markup]] = {

@@ -90,7 +90,7 @@ def page(asked: Asked) -> tuple[str, int]:
         model = asked.model.read_bytes()
         listings.append(listing(model, list(commands(lines_of(model))), run.in_model, f"The model {asked.model.name}", "M"))
     parts = [findings_part(run.in_script, run.in_model), *blocks.parts(), Part("", joined(listings))]
-    about = " ".join([ABOUT, *blocks.remarks()])
+    about = " ".join([ABOUT, *survey.remarks])
     return report(title_of(script) or asked.script.stem, parts, about=about, sources=sources(asked)), len(run.in_script) + len(run.in_model)
 
 

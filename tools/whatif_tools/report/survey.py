@@ -41,14 +41,17 @@ class Survey:
         self.side_by_side: dict[str, str] = {}
         """The cells that are shown in all scenarios, with their names."""
 
-        self.has_room = len(course.sessions) < MOST_SESSIONS
+        self.remarks: dict[str, None] = {}
+        """What can't be shown, each said once."""
 
     def take(self) -> None:
-        if self.has_room:
-            changes = self.pictures()
-            self.read(changes, self.formulas(changes))
-            self.ask_plans()
-            self.ask_scenarios()
+        if len(self.course.sessions) >= MOST_SESSIONS:
+            self.remarks["The script has made 64 sessions, so no other one could ask for names, inputs and scenarios."] = None
+            return
+        changes = self.pictures()
+        self.read(changes, self.formulas(changes))
+        self.ask_plans()
+        self.ask_scenarios()
 
     def pictures(self) -> dict[int, Changes]:
         """For each place what differs from the one before."""
@@ -107,7 +110,11 @@ class Survey:
                 seen.before = dict(shown)
                 shown.update({record[0]: record[2] for record in place.reply.records()})
             for goal in self.goals_at(place):
-                if (goal, place.scenario) not in planned and len(planned) < MOST_TORNADOS:
+                if len(picture.cells) > MOST_FORMULAS:
+                    self.remarks[f"The sheet has more than {MOST_FORMULAS:,} cells, so what moves a result isn't asked."] = None
+                elif (goal, place.scenario) not in planned and len(planned) == MOST_TORNADOS:
+                    self.remarks[f"What moves a result is told of the first {MOST_TORNADOS} alone."] = None
+                elif (goal, place.scenario) not in planned:
                     planned.add((goal, place.scenario))
                     found = plan(Sheet(picture.cells, known), Label(goal, picture.label(goal)), self.by, place.replaced)
                     seen.plans += [found] if found else []
