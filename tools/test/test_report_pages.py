@@ -112,9 +112,11 @@ class Pages(Reports):
 
 class Limits(Reports):
     def test_64_scenarios(self) -> None:
-        """All are shown; no other one can be made, so nothing is asked by one, and the page says nothing wrong."""
+        """All are shown; no other one can be made, so what moves a result isn't told, and the page says so."""
         script = STALL + "".join(f"scenario s{n} B1 {n}\n" for n in range(1, 65)) + "compare - s1 B1:B4\n" + TABLE + "table B4 B1 D2:D4\n"
-        found = self.blocks(script)
+        page = self.page(script)
+        found = blocks(page)[1:-1]
+        self.assertIn("the script leaves no room for another scenario", page)
         self.assertEqual(len(found[-1].tables()[0]), 66)
         self.assertEqual(found[1].heads(), [])
         self.assertEqual(self.status, 0)

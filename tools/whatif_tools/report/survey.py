@@ -129,7 +129,10 @@ class Survey:
             start = 2
             for known in self.seen[at].plans:
                 end = start + len(known.lines(self.name, places[at].scenario))
-                self.seen[at].bars.append(known.bars(replies[start:end]) or [])
+                bars = known.bars(replies[start:end])
+                if bars is None:
+                    self.remarks["What moves a result couldn't be asked: the script leaves no room for another scenario."] = None
+                self.seen[at].bars.append(bars or [])
                 start = end
 
     def ask_scenarios(self) -> None:
