@@ -166,6 +166,12 @@ class Tornados(Reports):
         self.assertEqual(sorted(names), ["days B7 30", "fixed costs of a year B2 2 000", "planned pieces B8 2 026"])
         self.assertIn("3 constants are left out. What is no quantity isn't tried", block.text)
 
+    def test_a_counter_is_left_out(self) -> None:
+        """A 1 from which formulas go on below isn't tried; any other first value is, and so is a 1 without them."""
+        script = "set A1 1\nset A2 =[.A1]+1\nset B1 500\nset B2 =[.B1]*2\nset C1 1\nset D2 =[.A2]+[.B2]+[.C1]\nset E1 1\nset E2 2\n"
+        block = self.blocks(script + "table D2 B1 E1:E2\n")[0]
+        self.assertEqual([row[0] for row in block.tables()[1][1:]], ["B1 500", "C1 1"])
+
     def test_inputs_behind_ranges_and_formulas(self) -> None:
         """A column of 300 by way of a sum: all are tried, twelve are drawn, and the rest is a list."""
         numbers = "".join(f"{n}\n" for n in range(1, 301))

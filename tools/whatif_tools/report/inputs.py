@@ -15,8 +15,8 @@ RATE_OF_A_YEAR = re.compile(r"\b(?:of|per|a|each|every|in|for) (?:(?:a|the|each|
 YEAR = re.compile(r"\b(?:year|date|jahr|datum|ann[eé]e|a[nñ]o)\b", re.IGNORECASE)
 IDENTIFIER = re.compile(r"\b(?:id|code|zip|postcode|phone|account number|seed|version)\b", re.IGNORECASE)
 LEFT_OUT = (
-    "What is no quantity isn't tried: texts, truth values and 0; whole numbers from 1900 to 2100 that are named a year or a date;"
-    " and what is named an id, code, postcode, phone, seed or version."
+    "What is no quantity isn't tried: texts, truth values and 0; a 1 with which a column of formulas begins; whole numbers from 1900 to 2100"
+    " that are named a year or a date; and what is named an id, code, postcode, phone, seed or version."
 )
 
 
@@ -35,6 +35,11 @@ class Sheet:
             if area.first.column <= column <= area.last.column:
                 first, last = bisect_left(rows, area.first.row), bisect_right(rows, area.last.row)
                 yield from (Address(row, column) for row in rows[first:last])
+
+    def begins_a_column(self, at: Address) -> bool:
+        """Whether the formula below reads this cell, as it does where a counter or a power goes on from its first value."""
+        below = self.formulas.get(Address(at.row + 1, at.column), "")
+        return any(at in area for area in references(below))
 
     def inputs(self, goal: Address, replaced: frozenset[Address] = frozenset()) -> list[Address]:
         """The constant numbers on which a cell rests, the nearest first; a replaced cell is one too."""

@@ -72,7 +72,7 @@ def plan(sheet: Sheet, goal: Label, by: Fraction, replaced: frozenset[str]) -> P
     left_out = 0
     for cell in sheet.inputs(at, places):
         value, name = exact(sheet.cells[cell][1]), names.of(cell.row, cell.column)
-        if value is None or not is_quantity(value, name):
+        if value is None or not is_quantity(value, name) or value == 1 and sheet.begins_a_column(cell):
             left_out += 1
         elif fits(value * (1 - by)) and fits(value * (1 + by)):
             inputs.append(Input(str(cell), name, value, value * (1 - by), value * (1 + by)))

@@ -52,4 +52,5 @@ def sheet_cell(text: str, formula: str, is_text: bool, places: int | None) -> Ma
 
 def records_html(records: Sequence[Sequence[Any]], caption: str) -> Markup:
     """Records of whatever command."""
-    return folded(caption, [], [row(*(entry(shown(value)) for value in record)) for record in records[: MOST_DRAWN]])
+    rows = [row(*(entry(shown(value)) for value in record)) for record in records[:MOST_DRAWN]]
+    return folded(caption, [], rows, "grid")

@@ -50,7 +50,7 @@ body.whatif{background:var(--paper);margin:0}
 .whatif .over{color:var(--soft);text-align:center;font-weight:400}
 .whatif th.now{text-decoration:underline;text-decoration-thickness:2px;text-underline-offset:4px}
 .whatif .here{outline:2px solid var(--ink);outline-offset:-1px;font-weight:700}
-.whatif .grid td{border-bottom:1px solid var(--rule);border-radius:0;white-space:pre-wrap;min-width:30px;max-width:340px;overflow-wrap:anywhere}
+.whatif .grid td{border-bottom:1px solid var(--rule);border-radius:0;white-space:pre-wrap;min-width:30px;max-width:340px;overflow-wrap:break-word}
 .whatif .grid td.n{white-space:nowrap}
 .whatif .grid thead td{border:none}
 .whatif .grid tbody th{min-width:0}
