@@ -7,7 +7,7 @@ import unittest
 from pathlib import Path
 
 FOLDER = Path(__file__).resolve().parent
-sys.path[:0] = [str(FOLDER), str(FOLDER.parent)]
+sys.path[:0] = [str(FOLDER), str(FOLDER.parent), str(FOLDER.parent.parent / "clients" / "python")]
 sys.dont_write_bytecode = True
 
 import test_formula  # noqa: E402

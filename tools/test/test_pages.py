@@ -1,7 +1,6 @@
 """The examples of docs/TROUBLE.md and docs/FROM.md, run on the program."""
 
 import os
-import shutil
 import subprocess
 import tempfile
 import unittest
@@ -9,6 +8,7 @@ from fractions import Fraction
 from pathlib import Path
 
 from pages import Block, Page, codes, page_of
+from report_page import blocks
 from whatif_tools.check import Check
 from whatif_tools.errors import ASK
 from whatif_tools.finding import Kind
@@ -230,14 +230,13 @@ class Start(unittest.TestCase):
         self.write("questions.whatif", "".join(script for script, _ in questions))
         answers = self.shell("(csvin A1 stall.csv; cat stall.whatif questions.whatif)")
         self.assertTrue(answers.endswith("".join(replies for _, replies in questions)), answers)
-        table, replies = questions[1]
-        self.write("questions.whatif", table)
-        self.assertEqual(self.shell("(csvin A1 stall.csv; cat stall.whatif questions.whatif)", 1), "")
-        self.assertEqual((self.place / "table.csv").read_text(), replies.replace("ok\n", ""))
-        if shutil.which("gnuplot"):
-            self.write("stall.gp", "".join(line + "\n" for line in self.lines if line.startswith(("set ", "plot "))))
-            subprocess.run(["gnuplot", "stall.gp"], cwd=self.place, check=True)
-            self.assertIn("<svg", (self.place / "stall.svg").read_text())
+        self.assertEqual(self.shell("(csvin A1 stall.csv; cat stall.whatif questions.whatif) >") + self.shell("whatif-report plan.whatif"), "")
+        page = blocks((self.place / "plan.html").read_text(encoding="utf-8"))
+        table, moving = page[3].tables()
+        answers = parted(questions[1][1].encode())[1].records()[1:]
+        self.assertEqual([row[1:] for row in table[2:]], [record[1:] for record in answers])
+        self.assertEqual([cell.get("title") for cell in page[3].node.iter("td") if "here" in cell.get("class", "")], ["195"])
+        self.assertEqual(moving[1], ["plum \u00b7 price D2 4.5", "177", "213"])
 
     def test_mistakes_are_found(self) -> None:
         """Both mistakes that are made on purpose."""
@@ -251,5 +250,5 @@ class Start(unittest.TestCase):
         """The folders of the page's line for the path have the program and its tools."""
         line = next(line for line in self.lines if line.startswith("export PATH=$PATH:"))
         folders = [ROOT / folder.partition("/path/to/whatif")[2].lstrip("/") for folder in line.split(":")[1:]]
-        for command in ("whatif", "whatif-check", "ods2whatif"):
+        for command in ("whatif", "whatif-check", "whatif-report", "ods2whatif"):
             self.assertTrue(any(os.access(folder / command, os.X_OK) and (folder / command).is_file() for folder in folders), command)

@@ -1,0 +1,1 @@
+"""The page that whatif-report makes of a script."""
