@@ -15,7 +15,7 @@ from .errors import ASK, ErrorCell, advice, error_cells, starts, values_in
 from .finding import Finding, Kind
 from .grid import Content, Grid
 from .marks import as_meant
-from .program import Answer, Help, program_help, run
+from .program import Answer, Help, Reply, program_help, run
 from .refusals import refused
 from .reply_errors import reply_findings
 from .scenarios import Scenarios, hidden, names_asked_for, new_names
@@ -62,17 +62,19 @@ class Check:
         return bool(self.answer.replies) and self.answer.replies[-1].code == "E13"
 
     @cached_property
-    def values(self) -> Values:
+    def shown(self) -> Reply:
         """What cells show at the end, in no scenario; nothing where the program has ended before."""
-        if self.answer.status != 0:
-            return {}
-        answer = self.asked(ASK)
-        return values_in(answer.replies[-1]) if answer.status == 0 and answer.replies else {}
+        answer = self.asked(ASK) if self.answer.status == 0 else self.answer
+        return answer.replies[-1] if answer.status == 0 and answer.replies else Reply((), "ok")
+
+    @cached_property
+    def values(self) -> Values:
+        return values_in(self.shown)
 
     @cached_property
     def errors(self) -> dict[Address, ErrorCell]:
         """The cells that show an error at the end, in no scenario."""
-        return error_cells(self.values, lambda further: self.asked(further).replies)
+        return error_cells(self.shown, lambda further: self.asked(further).replies)
 
     def findings(self) -> list[Finding]:
         """All that is found, by lines."""

@@ -33,9 +33,9 @@ def references(formula: str) -> tuple[Rectangle, ...]:
     return tuple(known for known in found if known is not None)
 
 
-def error_cells(values: Values, ask: Callable[[bytes], list[Reply]]) -> dict[Address, ErrorCell]:
-    """The cells among these that show an error; `ask` gives the replies to further commands."""
-    errors = {address: text for address, (kind, text) in values.items() if kind == "E"}
+def error_cells(shown: Reply, ask: Callable[[bytes], list[Reply]]) -> dict[Address, ErrorCell]:
+    """The cells in a reply to `changes` that show an error; `ask` gives the replies to further commands."""
+    errors = {address: text for address, (kind, text) in values_in(shown, only="E").items()}
     if not errors:
         return {}
     replies = ask("".join(f"formula {address}\n" for address in errors).encode())[-len(errors) :]
@@ -43,9 +43,10 @@ def error_cells(values: Values, ask: Callable[[bytes], list[Reply]]) -> dict[Add
     return {known.address: known for known in cells}
 
 
-def values_in(reply: Reply) -> Values:
-    """What a reply to `changes` says: the kind and the text of each cell."""
-    read = ((Address.parse(record[0]), record[1], record[2]) for record in reply.records() if len(record) == 3)
+def values_in(reply: Reply, only: str = "") -> Values:
+    """What a reply to `changes` says: the kind and the text of each cell, or of those of one kind."""
+    records = reply.records() if not only or any(f'","{only}","'.encode() in line for line in reply.lines) else []
+    read = ((Address.parse(record[0]), record[1], record[2]) for record in records if len(record) == 3 and only in ("", record[1]))
     return {address: (kind, text) for address, kind, text in read if address is not None}
 
 

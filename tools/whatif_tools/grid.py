@@ -31,8 +31,7 @@ class Corner:
 
     def moved(self, rows: int, columns: int) -> Address:
         row = self.row if self.is_row_absolute else self.row + rows
-        column = self.column if self.is_column_absolute else self.column + columns
-        return Address(min(max(row, 1), ROWS), min(max(column, 1), COLUMNS))
+        return Address(row, self.column if self.is_column_absolute else self.column + columns)
 
 
 @dataclass(frozen=True)
@@ -43,7 +42,10 @@ class Area:
     last: Corner
 
     def moved(self, rows: int, columns: int) -> Rectangle:
-        one, two = self.first.moved(rows, columns), self.last.moved(rows, columns)
+        one = self.first.moved(rows, columns)
+        if self.first is self.last:
+            return Rectangle(one, one)
+        two = self.last.moved(rows, columns)
         return Rectangle(Address(min(one.row, two.row), min(one.column, two.column)), Address(max(one.row, two.row), max(one.column, two.column)))
 
 

@@ -20,7 +20,8 @@ PI = "3.14159265358979"
 
 def choices(book: Translator, call: Call) -> str:
     """IFS: the value behind the first condition that holds."""
-    parts = one_value(book, call, 2, 254)
+    one_value(book, call, 2, 254)
+    parts = [book.text(parameter).strip() for parameter in call.parameters]
     if len(parts) % 2:
         raise CannotGoOver("IFS with a condition that has no value")
     said = "NA()"
@@ -31,13 +32,14 @@ def choices(book: Translator, call: Call) -> str:
 
 def switch(book: Translator, call: Call) -> str:
     """SWITCH: the value behind the first that is equal, else the last one."""
-    value, *parts = one_value(book, call, 3, 254)
-    said = parts.pop() if len(parts) % 2 else "NA()"
-    are_plain = [is_literal(parameter) for parameter in call.parameters[1::2]]
-    for other, then, is_plain in reversed(list(zip(parts[::2], parts[1::2], are_plain))):
+    value, *others = one_value(book, call, 3, 254)
+    results = [book.text(parameter).strip() for parameter in call.parameters[1:]]
+    said = results.pop() if len(results) % 2 else "NA()"
+    are_plain = [is_literal(parameter) for parameter in call.parameters[1::2]][: len(results) // 2]
+    for other, then, is_plain in reversed(list(zip(others[::2], results[1::2], are_plain))):
         is_equal = f"{value}={other}" if is_plain else f"IFERROR({value}={other};FALSE())"
         said = f"IF({is_equal};{then};{said})"
-    return said if all(are_plain[: len(parts) // 2]) else f"IF(ISERROR({value});{value};{said})"
+    return said if all(are_plain) else f"IF(ISERROR({value});{value};{said})"
 
 
 def x_lookup(book: Translator, call: Call) -> str:
