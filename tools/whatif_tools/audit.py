@@ -2,10 +2,12 @@
 
 from dataclasses import dataclass, replace
 from fractions import Fraction
+from functools import cached_property
 
 from .carry import Carried, Carrier
 from .causes import Audited, cause_of
 from .constants import FLOAT, days
+from .cures import Values
 from .document import NUMBERS
 from .errors import ASK, values_in
 from .pieces import CannotGoOver
@@ -33,10 +35,12 @@ class Compared:
         """Whether a value is saved; LibreOffice saves none for an empty text."""
         return self.cell.cell.has_value or self.shown == ""
 
-    @property
+    @cached_property
     def agrees(self) -> bool:
         if not self.cell.cell.has_value:
             return self.shown == ""
+        if self.kind == "N" and self.shown == self.saved and self.cell.cell.kind == "float":
+            return True
         if self.kind == "N" and self.cell.cell.kind in (*NUMBERS, "date", "time"):
             return is_number(self.saved) and near(Fraction(self.shown), Fraction(self.saved))
         if self.kind == "E" and self.cell.cell.is_error and self.saved.startswith(NUMBERED_ERROR):
@@ -64,19 +68,19 @@ def kind_of(cell: Carried, saved: str) -> str:
     return {"boolean": "L", "string": "T"}.get(cell.cell.kind, "N")
 
 
-def audit(carrier: Carrier) -> list[Compared]:
-    """Every formula cell but those whose values were put in, since those agree by themselves."""
-    answer = run((carrier.script() + ASK.decode()).encode())
-    shown = {str(address): known for address, known in values_in(answer.replies[-1]).items()}
+def audit(carrier: Carrier, script: str | None = None) -> list[Compared]:
+    """Every formula cell but those whose values were put in, since those agree by themselves; the script may be there already."""
+    answer = run((carrier.script() if script is None else script).encode() + ASK)
+    shown = values_in(answer.replies[-1])
     formulas = (cell for cell in carrier.cells() if cell.cell.formula is not None and cell.place not in carrier.frozen)
     compared = [saved_beside(cell, shown, carrier) for cell in formulas]
-    differing = {one.cell.place: (one.kind, one.shown) for one in compared if not one.agrees}
-    audited = Audited(carrier, {one.cell.place: one.shown for one in compared}, set(differing), values_in(answer.replies[-1]))
+    differing = {one.cell.place for one in compared if not one.agrees}
+    audited = Audited(carrier, differing, shown)
     return [one if one.agrees else replace(one, cause=cause_of(one.cell, one.kind, one.shown, one.saved, audited)) for one in compared]
 
 
-def saved_beside(cell: Carried, shown: dict[str, tuple[str, str]], carrier: Carrier) -> Compared:
-    kind, text = shown.get(str(cell.place), ("-", ""))
+def saved_beside(cell: Carried, shown: Values, carrier: Carrier) -> Compared:
+    kind, text = shown.get(cell.place, ("-", ""))
     saved = cell.cell.value
     if cell.cell.kind in ("date", "time"):
         try:

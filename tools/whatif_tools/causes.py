@@ -25,7 +25,6 @@ class Audited:
     """What is known of all formula cells when they have been compared."""
 
     carrier: Carrier
-    shown: dict[Address, str]
     differing: set[Address]
     values: Values
 

@@ -74,7 +74,7 @@ def carried(asked: argparse.Namespace) -> int:
     carrier = Carrier.of(document, chosen(document, asked.sheet), asked.all, asked.expand_loans)
     script = carrier.script()
     try:
-        compared = audit(carrier)
+        compared = audit(carrier, script)
     except NoProgram as error:
         if asked.audit:
             raise

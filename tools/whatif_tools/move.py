@@ -89,7 +89,7 @@ class Places:
 
     def sheets_in(self, formula: str, sheet: Sheet, depth: int = 0) -> Iterator[str]:
         has_names = bool(sheet.names or self.document.names)
-        if not is_formula(formula) or not has_names and OTHER_SHEET.search(formula) is None:
+        if not is_formula(formula) or not has_names and OTHER_SHEET.search(formula, formula.index("=")) is None:
             return
         try:
             found = list(leaves(tree_of(formula)))
