@@ -85,7 +85,7 @@ class AtATerminal(unittest.TestCase):
             ("scenario winter A1 400", "ok\nmain> "),
             ("use winter", "ok\nmain/winter> "),
             ("as ana", "ok\nana> "),
-            ("compare - winter A1:A2", "cell  -    winter  difference\nA1    250     400         150\nA2    500     800         300\nana> "),
+            ("compare - winter A1:A2", "cell    -  winter  difference\nA1    250     400         150\nA2    500     800         300\nana> "),
             ("undo", "taken back: as ana\nmain/winter> "),
             ("set B1 12,5", "ok\na text, no number: '12,5'; decimals have a point: write 12.5\nmain/winter> "),
         ):
