@@ -285,6 +285,22 @@ class Spreadsheets(unittest.TestCase):
         self.assertIn("not audited: /nowhere/whatif", told)
 
 
+class Page(unittest.TestCase):
+    def test_the_run_on_the_page(self) -> None:
+        """docs/FROM.md shows the audit of recipe.ods as it is."""
+        _, written, told = called("--audit", str(SPREADSHEETS / "recipe.ods"))
+        page = (ROOT / "docs" / "FROM.md").read_text()
+        self.assertIn("".join(f"    {line}\n" for line in written.splitlines()), page)
+        self.assertIn(f"    {told}", page)
+
+    def test_what_is_said_otherwise(self) -> None:
+        """tools/README.md names each function that is."""
+        page = (ROOT / "tools" / "README.md").read_text()
+        table = page[page.index("| Said otherwise |") : page.index("The audit compares")]
+        for name in RULES:
+            self.assertRegex(table, rf"\b{name.rpartition('.')[2]}\b")
+
+
 class Made(unittest.TestCase):
     def carry(self, table: str) -> Carrier:
         with tempfile.TemporaryDirectory() as folder:
