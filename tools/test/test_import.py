@@ -190,10 +190,10 @@ class Spreadsheets(unittest.TestCase):
         """All formulas that are said otherwise show what LibreOffice has."""
         carrier = carrier_of(SPREADSHEETS / "rewrites.ods")
         compared = audit(carrier)
-        self.assertGreater(len(compared), 700)
+        self.assertGreater(len(compared), 780)
         self.assertEqual([one.record() for one in compared if not one.agrees], [])
         self.assertEqual((carrier.frozen, carrier.left_empty), ({}, set()))
-        self.assertGreater(len(carrier.rewritten), 650)
+        self.assertGreater(len(carrier.rewritten), 740)
 
     def test_marks_in_the_script(self) -> None:
         script = carrier_of(SPREADSHEETS / "sink.ods").script()
@@ -335,7 +335,7 @@ class Made(unittest.TestCase):
 
     def test_whole_rows(self) -> None:
         cell = '<table:table-row><table:table-cell table:formula="of:=SUM([.2:.3])" office:value-type="float" office:value="0"/></table:table-row>'
-        self.assertIn("set A1 =SUM([.$A2:.$XFD3])\n", self.carry(f'<table:table table:name="S">{cell}</table:table>').script())
+        self.assertIn("set A1 =SUM([.$A2:.$A3])\n", self.carry(f'<table:table table:name="S">{cell}</table:table>').script())
 
 
 class Parts(unittest.TestCase):

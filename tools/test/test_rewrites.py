@@ -23,6 +23,9 @@ SAID = {
     "DATE(2026;11;30)": "=46356",
     "COM.MICROSOFT.SWITCH([.A1];1;2+3;\"a\";[.B1];9)": '=IF([.A1]=1;2+3;IF([.A1]="a";[.B1];9))',
     "COM.MICROSOFT.SWITCH([.A1];[.B1];2)": "=IF(ISERROR([.A1]);[.A1];IF(IFERROR([.A1]=[.B1];FALSE());2;NA()))",
+    "MROUND([.A1];5)": "=(ROUND([.A1]/5)*5)",
+    "SUMPRODUCT([.A1:.A3];[.B1:.B3])": "=SUMPRODUCT([.A1:.A3];[.B1:.B3])",
+    'SUMPRODUCT(([.A1:.A3]="x")*[.B1:.B3])': "=SUM([.AA1:.AA3])",
     "margin*2": "=0.35*2",
     "2^sum": "=2^(1+2)",
     "-sum%": "=-(1+2)%",
@@ -42,7 +45,8 @@ KEPT_BACK = (
     "SUMIFS([.C1:.C9];[.A1:.A8];\"a\")", "SUMIFS([.C1:.C9];[.A1:.A9])", "SUMIFS([.C1:.C9];[.A1:.A9];[.B1:.B2])", "COUNTIFS([.A1:.A9];\"\")",
     "COUNTIFS([.A1:.A1048576];\"<>a\")", "SUMIFS([.C1:.C9]+1;[.A1:.A9];1)", "XLOOKUP([.A1];[.B1:.B9];[.C1:.C9];\"\";2)", "XLOOKUP([.A1];[.B1:.B9];[.C1:.D9])",
     "XLOOKUP([.A1];[.B1:.B9];[.C1:.C9];\"\";0;-1)", "PI(1)", "COUNTBLANK([.A1]+1)", "SUMSQ(1;2)", "CONCAT([.A1:.A3])", "ISODD([.A1:.A2])", "MEDIAN([.A1:.A3])",
-    "PMT(0.01;60;1000)", "nothing+1", "moves", "itself", "{1;2}", "MAXIFS([.C1:.C200000];[.A1:.A200000];1)", "[Other.A1]", "#REF!+1", "SUM([.A1:.A2]~[.B1])",
+    "SUMPRODUCT([.A1:.A3]&\"x\")", "SUMPRODUCT(([.A1:.A3]>1)*[.B1:.B4])", "SUMPRODUCT(([.A:.A]=1)*[.B:.B])", "SUMPRODUCT(SUM([.A1:.A3])*[.A1:.A3])", "SUMPRODUCT([.A1]*2)",
+    "MROUND([.A1];[.B1])", "PMT(0.01;60;1000)", "nothing+1", "moves", "itself", "{1;2}", "MAXIFS([.C1:.C200000];[.A1:.A200000];1)", "[Other.A1]", "#REF!+1", "SUM([.A1:.A2]~[.B1])",
 )
 """What stays out, since it isn't the same for every input or isn't there."""
 

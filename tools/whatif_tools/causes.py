@@ -74,7 +74,10 @@ def error_here(error: str, cell: Carried, audited: Audited) -> str:
     if error == "#N/A" and SEARCHES.search(cell.cell.formula or ""):
         return "texts match only where every letter is the same, capitals too"
     if error == "#VALUE!":
-        return "a text where a number is needed: texts are never numbers here"
+        reads_text = any(kind == "T" for at, (kind, _) in audited.values.items() if any(at in area for area in areas_read(cell, audited)))
+        if reads_text or '"' in (cell.cell.formula or ""):
+            return "a text where a number is needed: texts are never numbers here"
+        return "several cells for one value" if ":" in audited.carrier.formula_at.get(cell.place, "") else "an error in whatif only"
     return "an error in whatif only"
 
 

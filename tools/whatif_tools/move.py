@@ -128,8 +128,8 @@ class Places:
         return f"[{':'.join(shifted(corner, self.moved[found.sheet]) for corner in corners)}]"
 
     def own_width(self, sheet: Sheet) -> int:
-        """How many columns a whole row of a sheet has, where others may stand beside it."""
-        return max(sheet.width(), 1) if len(self.moved) > 1 else COLUMNS
+        """How many columns a whole row of a sheet has: those in use, since other sheets and help stand beside it."""
+        return max(sheet.width(), 1)
 
 
 def expression_of(name: Name) -> str:

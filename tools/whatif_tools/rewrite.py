@@ -9,6 +9,7 @@ from .loans import LOANS
 from .move import referred
 from .parameters import is_literal, is_positive, one_value, operand, operands, range_of, shape, trimmed
 from .pieces import REFERENCE, Call, CannotGoOver, Piece
+from .products import PRODUCTS
 from .translate import Rule, Translator
 
 LAST_YEAR = 9956
@@ -197,6 +198,14 @@ def to_even(book: Translator, call: Call) -> str:
     return f"(ROUNDUP({one_value(book, call, 1, 1)[0]}/2)*2)"
 
 
+def to_multiple(book: Translator, call: Call) -> str:
+    """MROUND to a step that is a positive number: to the nearest multiple, halves away from zero."""
+    number, step = one_value(book, call, 2, 2)
+    if not is_positive(call.parameters[1]):
+        raise CannotGoOver("MROUND to a step that is no positive number")
+    return f"(ROUND({number}/{step})*{step})"
+
+
 def constant(text: str) -> Rule:
     def rule(book: Translator, call: Call) -> str:
         if call.parameters:
@@ -231,6 +240,8 @@ RULES: dict[str, Rule] = {
     "N": as_number,
     "EVEN": to_even,
     "PI": constant(PI),
+    "MROUND": to_multiple,
     **CONDITIONS,
     **LOANS,
+    **PRODUCTS,
 }

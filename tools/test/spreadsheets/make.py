@@ -48,6 +48,16 @@ EXPRESSIONS = (
     "SUMSQ([$Data.E1:.E8])", "SUMSQ([$Data.F1:.F8])", "SUMSQ([$Data.C1:.C8])", "SUMSQ([$Data.G1:.G4])",
     "IF(1=1;;5)", "IF(1=2;5;)", "ROUND(2.6;)", "VLOOKUP(\"nut\";[$Data.D1:.E8];2;)", "IF([$Data.A7]>0;)",
 )
+PRODUCTS = (
+    '([$Data.C1:.C8]="north")*[$Data.E1:.E8]', '([$Data.C1:.C8]="north")*([$Data.D1:.D8]="bolt")*[$Data.E1:.E8]', '([$Data.E1:.E8]>50)*1', '--([$Data.E1:.E8]>50)',
+    '[$Data.E1:.E8]>50', '([$Data.E1:.E8]>0)*([$Data.E1:.E8]<500);[$Data.F1:.F8]', '([$Data.C1:.C8]="north");[$Data.E1:.E8]', '[$Data.E1:.E8]^2', '[$Data.E1:.E8]*2+1',
+    'ABS([$Data.E1:.E8]);[$Data.E1:.E8]', 'IF([$Data.E1:.E8]>50;1;0)', '([$Data.C1:.C8]=[$Data.C6])*[$Data.E1:.E8]', 'ISNUMBER([$Data.F1:.F8])*1', '[$Data.F1:.F8]*2',
+    'pieces*2', '(pieces>[$Data.E5])*margin', '([$Data.C1:.D4]="north")*([$Data.E1:.F4]>1)', '1/[$Data.E1:.E3]', '[$Data.I1:.I3]*2', 'MOD([$Data.A1:.A3];2)*[$Data.A4:.A6]',
+    '([$Data.A1:.A17]>1)*1', 'NOT([$Data.A6:.A9])*1', '[$Data.A15:.A16]*1', 'LEN([$Data.C1:.C8])', '[$Data.F1:.F8];[$Data.E1:.E8]',
+)
+"""What SUMPRODUCT works out place by place."""
+
+MULTIPLES = ("MROUND([$Data.A{};2)", "MROUND([$Data.A{};0.5)", "MROUND([$Data.A{};3)")
 CRITERIA = ('"north"', '"south"', '"west"', '"<>north"', '[$Data.C6]')
 SECOND = ('"bolt"', '"<>bolt"', '"gear"')
 NUMERIC = ('">0"', '"<=60"', '"<>0"', '"=15"', '0', '[$Data.A12]', '"<"&[$Data.E2]')
@@ -73,7 +83,8 @@ def formulas() -> list[str]:
     found += ["COUNTIFS([$Data.I1:.I3];\"<>5\")", "COUNTIF([$Data.I1:.I3];\"<>5\")", "SUMIF([$Data.E1:.E8];\"<>0\")", "COUNTIFS([$Data.E1:.E9];[$Data.K1])"]
     found += ["SUMIFS([$Data.F1:.F8];[$Data.E1:.E8];[$Data.K1];[$Data.C1:.C8];[$Data.K2])", "COUNTIF([$Data.H1:.H4];\"<>x\")", "COUNTIFS([$Data.H1:.H4];\"<>x\")"]
     found += ["SUMIFS([$Data.C8:.F8];[$Data.C6:.F6];\"<>north\")", "SUMIFS([$Data.E1:.E1048576];[$Data.C1:.C1048576];\"north\")", "AVERAGEIFS([$Data.I1:.I3];[$Data.J1:.J3];\"c\")"]
-    return [*found, *EXPRESSIONS]
+    found += [text.format(f"{row}]") for text, row in product(MULTIPLES, range(1, len(NUMBERS) + 1))]
+    return [*found, *(f"SUMPRODUCT({inside})" for inside in PRODUCTS), *EXPRESSIONS]
 
 
 def data_rows() -> list[list[str]]:
