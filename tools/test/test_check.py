@@ -2,11 +2,13 @@
 
 import contextlib
 import io
+import subprocess
 import tempfile
 import unittest
 from pathlib import Path
 
-from whatif_tools.check import Check, main
+from whatif_tools.check import Check
+from whatif_tools.check_command import main
 from whatif_tools.finding import Finding, Kind, excerpt
 from whatif_tools.numbers import is_number, meant_as_number
 from whatif_tools.program import ROOT, parted
@@ -68,17 +70,6 @@ class Lines(Scripts):
         self.assertEqual(replies[0].records(), [["a\nok\nrefused E02\n", '"x']])
         self.assertEqual([reply.code for reply in replies], [None, None, "E18"])
 
-    def test_worked_scripts(self) -> None:
-        """There are as many replies as commands, and each refusal is found."""
-        scripts = sorted((ROOT / "tests" / "scripts").glob("*.whatif"))
-        self.assertGreater(len(scripts), 50)
-        for path in scripts:
-            with self.subTest(path.name):
-                check = Check.of(path)
-                self.assertEqual(len(check.answer.replies), len(check.commands))
-                refused = [found for found in check.findings() if found.kind is Kind.REFUSED]
-                self.assertEqual(len(refused), sum(reply.code is not None for reply in check.answer.replies))
-
     def test_end_of_the_program(self) -> None:
         found = self.findings(b"#\n" * 1_000_000 + b"show A1\n")
         self.assertEqual([(one.line, one.kind) for one in found], [(1_000_001, Kind.NO_REPLY)])
@@ -93,7 +84,7 @@ class Errors(Scripts):
 
     def test_an_error_that_goes_on(self) -> None:
         script = "set A1 =1/0\nset A2 =[.A1]+1\nset A3 =SUM([.A1:.A2])\nset A4 =VALUE([.A3])\nset A5 =[.A3]&[.A4]\n"
-        self.assertEqual(self.starts(script), [(1, "A1 shows #DIV/0!: =1/0")])
+        self.assertEqual(self.starts(script), [(1, "A1 shows #DIV/0!: =1/0; a divisor is 0")])
 
     def test_two_errors(self) -> None:
         script = "set A1 =NA()\nset A2 =IFERROR([.A1];1/0)\n"
@@ -101,11 +92,13 @@ class Errors(Scripts):
 
     def test_a_filled_column(self) -> None:
         script = "set A1 x\nset B2 =[.A$1]*2\nfill B2 B3:B9\n"
-        self.assertEqual(self.starts(script), [(2, "B2 shows #VALUE!: =[.A$1]*2; 7 more of the column like it")])
+        cure = "; [.A$1] shows a text, 'x', and a text is never taken as a number"
+        self.assertEqual(self.starts(script), [(2, "B2 shows #VALUE!: =[.A$1]*2; 7 more of the column like it" + cure)])
 
     def test_a_fill_is_where_it_starts(self) -> None:
         script = "set B2 =1/[.A2]\nset A2 1\nfill B2 B2:B4\n"
-        self.assertEqual(self.starts(script), [(3, "B3 shows #DIV/0!: =1/[.A3]; 1 more of the column like it")])
+        cure = "; [.A3] is empty, and counts as 0: =IF([.A3]=0;0;..) asks first"
+        self.assertEqual(self.starts(script), [(3, "B3 shows #DIV/0!: =1/[.A3]; 1 more of the column like it" + cure)])
 
     def test_cycles(self) -> None:
         script = "set A1 =[.B1]\nset B1 =[.A1]\nset C1 =[.B1]\nset D1 =SUM([.A1:.C1])\nset E1 =[.E1]\n"
@@ -114,11 +107,11 @@ class Errors(Scripts):
     def test_another_session_and_scenario(self) -> None:
         """What the script's last session uses hides no error of the sheet."""
         script = "set A1 =1/0\nscenario s A1 1\nas bo\nuse s\nchanges\n"
-        self.assertEqual(self.starts(script), [(1, "A1 shows #DIV/0!: =1/0")])
+        self.assertEqual(self.starts(script), [(1, "A1 shows #DIV/0!: =1/0; a divisor is 0")])
 
     def test_no_room_for_a_session(self) -> None:
         script = "".join(f"as s{number}\n" for number in range(1, 64)) + "set A1 =1/0\n"
-        self.assertEqual(self.starts(script), [(64, "A1 shows #DIV/0!: =1/0")])
+        self.assertEqual(self.starts(script), [(64, "A1 shows #DIV/0!: =1/0; a divisor is 0")])
 
     def test_data_that_lack_lines(self) -> None:
         found = self.findings(b"set A1 =1/0\ncsv B1 9\n1\n")
@@ -165,6 +158,127 @@ class Command(Scripts):
         self.assertEqual(excerpt("\tset", 1), "    \tset\n    \t^\n")
 
 
+class Loaded(Scripts):
+    """A script that is run behind another one."""
+
+    def questions(self, model: str, questions: str, *words: str) -> tuple[int, str]:
+        load = self.path.with_name("m.whatif")
+        load.write_text(model)
+        status, written = self.called(questions.encode(), *words, "--load", str(load))
+        return status, written.replace(str(load), "m.whatif")
+
+    def test_both_are_looked_at(self) -> None:
+        status, written = self.questions("set A1 5\nset A2 12%\n", "show A1\nshwo A1\n")
+        heads = [line.partition(";")[0] for line in written.splitlines() if not line.startswith("    ")]
+        self.assertEqual((status, heads), (1, ["m.whatif:2:8: a text, no number: '12%'", "s.whatif:2:1: refused E02: no such command, or wrong words"]))
+
+    def test_cells_and_names_of_the_model(self) -> None:
+        model = "set A1 5\nset A2 =[.A1]*2\nset B1 1\nscenario low A1 4\n"
+        self.assertEqual(self.questions(model, "table A2 A1 B1\nuse low\n"), (0, ""))
+        for questions, said in (
+            ("table A1 A2 B1\n", "s.whatif:1:10: A1 has no formula"),
+            ("set A2 7\n", "s.whatif:1:1: A2 had a formula, =[.A1]*2"),
+            ("use lwo\n", "s.whatif:1:5: refused E10: no such scenario; is low meant?"),
+            ("set A1 x\n", "s.whatif:1:1: A2 shows #VALUE!: =[.A1]*2; [.A1] shows a text"),
+        ):
+            with self.subTest(questions):
+                status, written = self.questions(model, questions)
+                self.assertEqual(status, 1)
+                self.assertTrue(written.startswith(said), written)
+
+    def test_an_error_of_the_model_is_told_once(self) -> None:
+        _, written = self.questions("set A1 =1/0\n", "show A1\n")
+        self.assertEqual(written, "m.whatif:1:1: A1 shows #DIV/0!: =1/0; a divisor is 0\n")
+
+    def test_transcript(self) -> None:
+        self.assertEqual(self.questions("set A1 5\n", "show A1\n", "-t"), (0, '     1  set A1 5\nok\n     1  show A1\n"5"\nok\n'))
+
+    def test_standard_input(self) -> None:
+        program = str(ROOT / "tools" / "whatif-check")
+        done = subprocess.run([program, "-"], input=b"set A1 5\nset A2 =2,5\n", capture_output=True)
+        self.assertEqual((done.returncode, done.stdout.partition(b";")[0]), (1, b"-:2:10: refused E05: the formula's syntax"))
+        self.assertEqual(subprocess.run([program, "-"], input=b"set A1 5\n", capture_output=True).returncode, 0)
+
+    def test_no_model(self) -> None:
+        with contextlib.redirect_stderr(io.StringIO()):
+            self.assertEqual(main(["--load", "nowhere.whatif", str(self.path)]), 2)
+
+
+class Meant(Scripts):
+    """Comments that say what is meant."""
+
+    def test_what_is_meant_is_no_finding(self) -> None:
+        for script in (
+            "scenario a A1 1\nuse a\n#! E12\ndrop a\n",
+            "#! #DIV/0!\nset A1 =1/0\n",
+            "#! E05\nset A1 =1+\n",
+            "#! meant\nset A1 12%\n",
+            "#! meant\ncsv A1 2\n1;2\n3;4\n",
+            "#!/usr/bin/whatif\nset A1 1\n",
+            "#! a heading\nset A1 1\n",
+        ):
+            self.assertEqual(self.findings(script.encode()), [], script)
+
+    def test_only_the_next_line_counts(self) -> None:
+        for script in ("#! E12\n\ndrop a\n", "#! E10\n# why\ndrop a\n", "#! E10\nset A1 1\ndrop a\n"):
+            self.assertIn(Kind.REFUSED, [found.kind for found in self.findings(script.encode())], script)
+
+    def test_what_is_meant_must_come(self) -> None:
+        found = self.findings(b"#! meant\nset A1 1\n#! E10 #NUM!\ndrop a\n")
+        self.assertEqual([(one.line, one.kind) for one in found], [(2, Kind.NOT_AS_MEANT), (4, Kind.NOT_AS_MEANT)])
+
+
+class WhatIfs(Scripts):
+    """Which cells rest on which."""
+
+    def unread(self, script: str) -> list[int]:
+        return [found.line for found in self.findings(script.encode()) if found.kind is Kind.UNREAD_INPUT]
+
+    def test_inputs_that_are_read(self) -> None:
+        for script in (
+            "set A1 1\nset A2 =[.A1]\nset A3 =[.A2]\nset D1 5\ntable A3 A1 D1\n",
+            "set A1 1\nset A9 =SUM([.A1:.B8])\nset D1 5\ntable A9 B7 D1\n",
+            "set A1 1\nset B1 =[.A1]\nfill B1 C1:F1\nset D9 5\ntable F1 A1 D9\n",
+            "set A1 1\nset B2 =[.$A1]*2\nfill B2 B3:C4\nset D9 5\ntable C4 A3 D9\n",
+            "set A1 1\nset B1 =[.A1]\nfill B1 B2:B6000\nset C1 =SUM([.B1:.B6000])\nset D9 5\ntable C1 A5999 D9\n",
+            "set A1 1\nset C1 =IF([.A1]>0;[.A2];[.A3])\nset D9 5\ntable C1 A3 D9\n",
+            "set A1 1\nset A2 =[.A1]*2\nset B1 =MULTIPLE.OPERATIONS([.A2];[.A1];[.B9])\nset B2 =[.B1]\nset D9 5\ntable B2 A1 D9\n",
+            "set D9 5\ntable D9 D9 D9\n",
+        ):
+            self.assertEqual(self.unread(script), [], script)
+
+    def test_inputs_that_are_not(self) -> None:
+        for script, line in (
+            ("set B2 =[.$A1]*2\nfill B2 B3:C4\nset D9 5\ntable C4 A4 D9\n", 4),
+            ("set A1 1\nset B1 =[.A1]\nset B1 =[.A2]\nset D9 5\ntable B1 A1 D9\n", 5),
+            ("set A1 1\nset B1 =[.A1]\nclear B1\nset D9 5\ntable B1 A1 D9\n", 5),
+            ("set A1 1\nset B1 =[.A1]\nclear A1:Z9000\nset D9 5\ntable B1 A1 D9\n", 5),
+            ("set A1 1\nset B1 =[.A1]\ncsv B1 1\n7\nset D9 5\ntable B1 A1 D9\n", 6),
+            ("set A1 =[.A2]\nset A2 =[.A1]\nset D9 5\ntable A1 A3 D9\n", 4),
+        ):
+            self.assertEqual(self.unread(script), [line], script)
+
+    def test_over_formulas(self) -> None:
+        for script, count in (
+            ("set A1 =1+1\nset A1 2\n", 1),
+            ("set A1 =1+1\nset A1 2\nset A1 =1+2\n", 0),
+            ("set A1 =1+1\nset A1 2\nclear A1\n", 0),
+            ("set A1 =1+1\nclear A1\nset A1 2\n", 0),
+            ("set A1 =1+1\nset A1 =2\n", 0),
+            ("set A1 =[.B1]\nset B1 =[.A1]\nset B1 3\n", 0),
+            ("set A1 =1+1\nfill A1 A2:A3\ncsv A1 3\n4\n5\n6\n", 1),
+            ("set A1 =1+1\nset A1 x\nset A2 =1+1\nset A2 y\n", 2),
+        ):
+            found = [one for one in self.findings(script.encode()) if one.kind is Kind.OVER_FORMULA]
+            self.assertEqual(len(found), count, script)
+
+    def test_names(self) -> None:
+        """Names that aren't slips of another."""
+        for first, second in (("case1", "case2"), ("plan_a", "plan_b"), ("low", "slow"), ("cost", "costs"), ("winter", "summer"), ("price_1", "price_10")):
+            script = f"scenario {first} A1 1\nscenario {second} A1 2\nuse {first}\n"
+            self.assertEqual(self.findings(script.encode()), [], script)
+
+
 class Numbers(unittest.TestCase):
     GREATEST = "170141183460469231731687303715884105727"
 
@@ -194,5 +308,5 @@ class Numbers(unittest.TestCase):
             self.assertIn(advice, meant_as_number(text) or "", text)
 
     def test_texts(self) -> None:
-        for text in ("a", "", "12 apples", "1.2.3", "1-2", "A1", "e5", "-", "%", "1,2,3", "12:30", "+"):
+        for text in ("a", "", "12 apples", "1.2.3", "1-2", "A1", "e5", "-", "%", "1,2,3", "12:75", "5-10", "+"):
             self.assertIsNone(meant_as_number(text), text)

@@ -11,7 +11,7 @@ from pathlib import Path
 from typing import Any
 
 from textmate import Grammar
-from whatif_tools.hints import WORDS
+from whatif_tools.line_hints import WORDS
 from whatif_tools.program import ROOT, program
 
 EDITORS = ROOT / "editors"

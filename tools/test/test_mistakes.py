@@ -10,7 +10,7 @@ from pages import codes, page_of
 from whatif_tools.check import Check
 from whatif_tools.finding import Finding, Kind
 from whatif_tools.functions import ENGLISH, FUNCTIONS, IN_FROM
-from whatif_tools.hints import BY_CODE, WORDS
+from whatif_tools.line_hints import BY_CODE, WORDS
 from whatif_tools.program import ROOT, program_help
 
 TROUBLE = ROOT / "docs" / "TROUBLE.md"
@@ -85,35 +85,35 @@ FORMULAS = (
 LINES = (
     line("Set A1 2", "lower case: write set"),
     line("A1 = 2", "write set A1 2"),
-    line("set A1=2", "write set A1 2"),
+    line("set A1=2", "write set A1 2", 5),
     line("set\tA1 2", "spaces, not by tabs"),
-    line("set A1 ", "clear A1 empties"),
-    line("show A:A", "A1:A9"),
-    line("show A1 B2", "write show A1:B2"),
-    line("set [.A1] 5", "no brackets"),
+    line("set A1 ", "clear A1 empties", 7),
+    line("show A:A", "A1:A9", 6),
+    line("show A1 B2", "write show A1:B2", 9),
+    line("set [.A1] 5", "no brackets", 5),
     line("show A1:XFE1", "columns are A to XFD", 6),
     line("set A1048577 5", "rows 1 to 1048576", 5),
     line("quit", "Ctrl-D"),
-    line("show A1 # the total", "a comment has a line of its own"),
-    line("csv A1", "the number of data lines"),
-    line("set B1:B3 5", "write set B1 5 and fill B1 B2:B3; its form is set ADDR CONTENT"),
-    line("force set A1:B2 =[.C1]", "write set A1 =[.C1] and fill A1 A1:B2"),
-    line("fill A1:A3 A1", "write fill A1 A2:A3; its form is fill ADDR RECT"),
-    line("fill A1:C1", "write fill A1 B1:C1"),
-    line("fill A1:A3 B1", "write fill B1 A1:A3"),
-    line("table B4 B1 D2:D3 B2", "YROW one of one row, and F, R and C are cells; its form is table F R XCOLUMN, or table F R XCOLUMN C YROW"),
-    line("table B4 B1 D2:E3", "XCOLUMN is a rectangle of one column"),
-    line("compare wet B1:B4", "write compare - wet B1:B4; its form is compare S T RECT"),
-    line("compare - winter", "its form is compare S T RECT"),
-    line("scenario wet year B1 5", "write scenario wet_year B1 5; its form is scenario NAME ADDR CONTENT, or scenario NAME ADDR"),
-    line("use wet year", "write use wet_year; its form is use NAME, or use"),
-    line("export A1:B3 > out.csv", "csvout in docs/FROM.md"),
+    line("show A1 # the total", "a comment has a line of its own", 9),
+    line("csv A1", "the number of data lines", 7),
+    line("set B1:B3 5", "write set B1 5 and fill B1 B2:B3; its form is set ADDR CONTENT", 5),
+    line("force set A1:B2 =[.C1]", "write set A1 =[.C1] and fill A1 A1:B2", 11),
+    line("fill A1:A3 A1", "write fill A1 A2:A3; its form is fill ADDR RECT", 6),
+    line("fill A1:C1", "write fill A1 B1:C1", 6),
+    line("fill A1:A3 B1", "write fill B1 A1:A3", 6),
+    line("table B4 B1 D2:D3 B2", "YROW one of one row, and F, R and C are cells; its form is table F R XCOLUMN, or table F R XCOLUMN C YROW", 21),
+    line("table B4 B1 D2:E3", "XCOLUMN is a rectangle of one column", 13),
+    line("compare wet B1:B4", "write compare - wet B1:B4; its form is compare S T RECT", 13),
+    line("compare - winter", "its form is compare S T RECT", 17),
+    line("scenario wet year B1 5", "write scenario wet_year B1 5; its form is scenario NAME ADDR CONTENT, or scenario NAME ADDR", 14),
+    line("use wet year", "write use wet_year; its form is use NAME, or use", 9),
+    line("export A1:B3 > out.csv", "csvout in docs/FROM.md", 14),
     line("save", "docs/FROM.md"),
     line("undo", "docs/FROM.md"),
-    line("show", "its form is show RECT"),
+    line("show", "its form is show RECT", 5),
     line("sett B1 3", "is set meant?"),
-    line("force fil A1 A2", "is fill meant?"),
-    line("force show A1", "force stands before set, clear, fill, csv alone; its form is force COMMAND"),
+    line("force fil A1 A2", "is fill meant?", 7),
+    line("force show A1", "force stands before set, clear, fill, csv alone; its form is force COMMAND", 7),
     line("tabel B4 B1 D2:D3", "is table meant?"),
     Mistake("scenario winter B1 5\nuse wintr", Kind.REFUSED, (2, 5), "is winter meant? the scenarios so far: winter"),
     Mistake("scenario winter B1 5\nscenario dear B2 1\ncompare - Winter B1", Kind.REFUSED, (3, 11), "capitals count: is winter meant? the scenarios so far: dear, winter"),
@@ -123,6 +123,8 @@ LINES = (
     Mistake("set B1 =[.A1]\nset D1 3\ntable B1 A1 D1:D2", Kind.EMPTY_INPUT, (3, 13), "1 of the 2 cells of XCOLUMN"),
     Mistake("\ufeffset A1 2", Kind.ENCODING, (1, 1), "byte order mark"),
     Mistake("set A1 2\nshow A1", Kind.ENCODING, (1, 1), "UTF-16", "utf-16"),
+    Mistake("set A1 2\nshow A1", Kind.ENCODING, (1, 1), "UTF-16", "utf-16-le"),
+    Mistake("set A1 2\nshow A1", Kind.ENCODING, (1, 1), "UTF-16", "utf-16-be"),
     Mistake("set A1 Müller", Kind.REFUSED, (1, 9), "save the script as UTF-8", "latin-1"),
     Mistake("csv A1 1\nMüller", Kind.REFUSED, (1, 1), "save the CSV as UTF-8", "latin-1"),
     Mistake("set A1 1\nas ana\nset A1 2", Kind.REFUSED, (3, 1), "changes"),
@@ -204,8 +206,8 @@ GOOD = (
     "csv A1 3\nPrices\nname,price\na,5\n",
     'csv A1 3\n"a ""b"" c",1\n"two\nlines",2\n',
     'csv A1 2\n5" pipe,1\n"6" pipe,2\n',
-    "set B1 =[.A1]\nset D1 3\nset D2 0\nset E1 2\ntable B1 A1 D1:D2\ntable B1 A1 D1:D2 A2 E1\n",
-    "set A1 =IFERROR(NA();0)\nscenario s A1 2\nset A1 3\nuse s\nuse\nset A1 4\n",
+    "set B1 =[.A1]+[.A2]\nset D1 3\nset D2 0\nset E1 2\ntable B1 A1 D1:D2\ntable B1 A1 D1:D2 A2 E1\n",
+    "set A1 3\nset B1 =IFERROR(NA();0)\nscenario s A1 2\nuse s\nuse\nset A1 4\n",
 )
 
 
@@ -271,7 +273,7 @@ class Mistakes(unittest.TestCase):
         for path in examples:
             for found in Check.of(path).findings():
                 with self.subTest(f"{path.name}:{found.line}"):
-                    self.assertTrue(found.kind is Kind.ERROR_STARTS or found.message.startswith(MEANT), found.message)
+                    self.assertTrue(found.kind in (Kind.ERROR_STARTS, Kind.ERROR_IN_REPLY) or found.message.startswith(MEANT), found.message)
 
     def test_good_scripts(self) -> None:
         for script in GOOD:

@@ -250,5 +250,5 @@ class Start(unittest.TestCase):
         """The folders of the page's line for the path have the program and its tools."""
         line = next(line for line in self.lines if line.startswith("export PATH=$PATH:"))
         folders = [ROOT / folder.partition("/path/to/whatif")[2].lstrip("/") for folder in line.split(":")[1:]]
-        for command in ("whatif", "whatif-check", "whatif-report", "ods2whatif"):
+        for command in ("whatif", "whatif-check", "whatif-report", "whatif-import", "whatif-shell", "ods2whatif"):
             self.assertTrue(any(os.access(folder / command, os.X_OK) and (folder / command).is_file() for folder in folders), command)

@@ -1,28 +1,22 @@
 """A spreadsheet's cells as a script, and what can't go over."""
 
 import re
-from collections.abc import Callable, Iterator
+from collections.abc import Iterator
 from dataclasses import dataclass, field
-from datetime import datetime
-from decimal import Decimal, InvalidOperation
-from fractions import Fraction
 
-from .formula import Kind, fault, fits, tokens_of
-from .functions import FUNCTIONS
-from .move import CannotGoOver, Places
-from .ods import NUMBERS, Cell, Document, Sheet
-from .sheet import Address
+from .constants import content, put
+from .document import Cell, Document, Sheet
+from .formula import fault, is_formula
+from .helpers import Helpers
+from .move import Places
+from .pieces import CannotGoOver
+from .rewrite import RULES
+from .settings import told_settings
+from .sheet import Address, column_letters
+from .translate import Translator, UnknownFunction
 
-DIGITS = 15
-"""Numbers of a spreadsheet are floating-point: what stands behind the 15th digit is noise."""
-
-EXACT_UP_TO = 2**53
-LONGEST_TEXT = 32_767
-SECONDS_OF_DAY = 86_400
-Noted = Callable[[str], None]
-"""Takes down why a cell didn't go over as it was."""
-
-DURATION = re.compile(r"(-?)P(?:([0-9]+)D)?T?(?:([0-9]+)H)?(?:([0-9]+)M)?(?:([0-9.]+)S)?")
+LONGEST_COMMENT = 300
+MOST_CELLS = 200_000
 
 
 @dataclass(frozen=True)
@@ -34,7 +28,7 @@ class Note:
     why: str
 
     def __str__(self) -> str:
-        return f"{self.sheet}.{self.address}: {self.why}"
+        return f"{one_line(self.sheet)}.{self.address}: {self.why}"
 
 
 @dataclass(frozen=True)
@@ -53,137 +47,156 @@ class Carrier:
 
     document: Document
     places: Places
+    expands_loans: bool = False
     notes: list[Note] = field(default_factory=list)
-    given_up: set[Address] = field(default_factory=set)
+    dates: list[Address] = field(default_factory=list)
+    frozen: dict[Address, Note] = field(default_factory=dict)
     """The places in the script of formulas whose values are put in instead."""
 
+    left_empty: set[Address] = field(default_factory=set)
+    """The places of cells that have neither a formula nor a value here."""
+
+    rewritten: dict[Address, str] = field(default_factory=dict)
+    """The places of formulas that are said otherwise, and what they were."""
+
+    formula_at: dict[Address, str] = field(default_factory=dict)
+    """The formulas of the script, by their places."""
+
+    helpers: Helpers = field(default_factory=lambda: Helpers(0))
+
     @classmethod
-    def of(cls, document: Document, first: Sheet) -> "Carrier":
-        return cls(document, Places.of(document, first))
+    def of(cls, document: Document, first: Sheet, takes_all: bool = False, expands_loans: bool = False) -> "Carrier":
+        places = Places.of(document, first, takes_all)
+        count = sum(len(sheet.cells) for sheet in places.sheets())
+        if count > MOST_CELLS:
+            raise CannotGoOver(f"{count} cells, and whatif has room for {MOST_CELLS}")
+        return cls(document, places, expands_loans, helpers=Helpers(places.width))
 
     def script(self) -> str:
         return "".join(self.lines())
 
     def lines(self) -> Iterator[str]:
+        self.notes, self.dates, self.helpers = [], [], Helpers(self.places.width)
+        yield from (f"# {line}\n" for line in self.head())
         for sheet in self.places.sheets():
             moved = self.places.moved[sheet.name]
-            yield f"# the sheet {' '.join(sheet.name.split())}" + (f", from column {Address(1, moved + 1)}"[:-1] if moved else "") + "\n"
+            yield f"# the sheet {one_line(sheet.name)}" + (f", from column {column_letters(moved + 1)} on" if moved else "") + "\n"
+            arrays = array_members(sheet)
             for address, cell in sorted(sheet.cells.items()):
-                yield self.command(sheet, address, cell)
+                yield self.command(sheet, address, cell, arrays)
+        for block in self.helpers.blocks.values():
+            yield block.lines()
+
+    def head(self) -> Iterator[str]:
+        """What a reader of the script should know: sheets that are left out, settings, names."""
+        left = [one_line(sheet.name) for sheet in self.places.left_out()]
+        if left:
+            yield f"not taken: {', '.join(left)[:LONGEST_COMMENT]} (whatif-import FILE SHEET takes one and what it reads, --all takes all)"
+        yield from told_settings(self.document, self.places)
+        for sheet in [None, *self.places.sheets()]:
+            for name in (self.document if sheet is None else sheet).names.values():
+                place = self.named(name.range, sheet or self.places.sheets()[0])
+                if place is not None:
+                    yield f"name {one_line(name.spelled)} {place}"
+
+    def named(self, range_: str | None, sheet: Sheet) -> str | None:
+        """The rectangle of a named range in the script; None where it lies elsewhere."""
+        try:
+            return None if range_ is None else re.sub(r"[\[\].$]", "", self.places.reference(f"[{range_}]", sheet))
+        except CannotGoOver:
+            return None
 
     def cells(self) -> Iterator[Carried]:
         for sheet in self.places.sheets():
             for address, cell in sorted(sheet.cells.items()):
                 yield Carried(sheet.name, address, self.places.place(sheet, address), cell)
 
-    def command(self, sheet: Sheet, address: Address, cell: Cell) -> str:
-        """The command that puts a cell, or nothing where none can."""
-
-        def note(why: str) -> None:
-            self.notes.append(Note(sheet.name, address, why))
-
+    def command(self, sheet: Sheet, address: Address, cell: Cell, arrays: dict[Address, Address]) -> str:
+        """The command that puts a cell, below a comment where it isn't what it was; nothing where none can."""
         place = self.places.place(sheet, address)
+        why = None
         if cell.formula is not None:
             try:
-                return f"set {place} {self.formula(sheet, cell, note)}\n"
+                return self.formula(sheet, address, cell)
             except CannotGoOver as error:
-                note(f"{error}: its value is put in instead")
-                self.given_up.add(place)
+                why = str(error)
+        elif address in arrays:
+            why = f"a part of the array formula of {arrays[address]}"
         try:
-            return put(place, self.value(cell, note))
+            if not cell.has_value:
+                raise CannotGoOver("no value is saved")
+            text = content(cell, self.document.start_of_days)
         except CannotGoOver as error:
-            note(f"{error}: nothing is put in")
-            return ""
+            self.left_empty.add(place)
+            self.note(sheet, address, f"{why or error}: nothing is put in")
+            return f"# {place} is left empty: {why or error}\n"
+        if cell.kind in ("date", "time") and why is None:
+            self.dates.append(place)
+        return self.freeze(sheet, address, cell, text, why) if why is not None else put(place, text)
 
-    def formula(self, sheet: Sheet, cell: Cell, note: Noted) -> str:
-        if cell.is_array:
+    def freeze(self, sheet: Sheet, address: Address, cell: Cell, text: str, why: str) -> str:
+        """A value that stands for a formula, below a comment that says so."""
+        place = self.places.place(sheet, address)
+        self.frozen[place] = Note(sheet.name, address, f"{why}: its value is put in instead")
+        self.notes.append(self.frozen[place])
+        was = f"; it was {one_line(cell.formula.removeprefix('of:'))}" if cell.formula is not None else ""
+        return f"# {place} is frozen at {one_line(text)}{was} ({one_line(why)})\n{put(place, text)}"
+
+    def formula(self, sheet: Sheet, address: Address, cell: Cell) -> str:
+        """The command for a formula, or why there is none."""
+        text = cell.formula or ""
+        if cell.array is not None:
             raise CannotGoOver("an array formula")
-        formula = without_noise(self.places.formula(cell.formula or "", sheet))
-        wrong = fault(formula)
-        if wrong is not None:
-            raise CannotGoOver(f"the formula is {wrong.code} from {formula[wrong.place :][:20]!r} on: {formula}")
-        for name in unknown_functions(formula):
-            note(f"{name} isn't a function of whatif, so it shows #NAME?: {formula}")
-        return formula
+        if not is_formula(text):
+            raise CannotGoOver(f"a formula of another kind: {one_line(text)}")
+        place, mark = self.places.place(sheet, address), self.helpers.mark()
+        book = Translator(self.places, sheet, address, self.helpers, RULES, self.expands_loans)
+        try:
+            formula = checked(book.formula(text))
+        except UnknownFunction as error:
+            self.helpers.back_to(mark)
+            return self.unknown(place, sheet, address, cell, error)
+        except CannotGoOver:
+            self.helpers.back_to(mark)
+            raise
+        self.formula_at[place] = formula
+        if not book.rewritten:
+            return f"set {place} {formula}\n"
+        self.rewritten[place] = ", ".join(dict.fromkeys(book.rewritten))
+        return f"# {place} was {one_line(text.removeprefix('of:'))}\nset {place} {formula}\n"
 
-    def value(self, cell: Cell, note: Noted) -> str:
-        """The content that a constant is put in as."""
-        if cell.kind in NUMBERS:
-            return number(cell.value)
-        if cell.kind in ("date", "time"):
-            days = self.days(cell)
-            note(f"there are no dates: {cell.value} is put in as {days}, the number of days")
-            return days
-        if cell.kind == "boolean":
-            return cell.value.upper()
-        if len(cell.value.encode()) > LONGEST_TEXT:
-            raise CannotGoOver("a text of more than 32,767 bytes")
-        return f"'{cell.value}"
+    def unknown(self, place: Address, sheet: Sheet, address: Address, cell: Cell, error: UnknownFunction) -> str:
+        """A formula with a function that isn't there stays as it is where no value is saved that could stand for it."""
+        if cell.has_value and not cell.is_error:
+            raise error
+        keeps_all = Translator(self.places, sheet, address, self.helpers, RULES, keeps_unknown=True)
+        self.note(sheet, address, f"{error}, so it shows #NAME?")
+        return f"# {place} shows #NAME?: {error}\nset {place} {checked(keeps_all.formula(cell.formula or ''))}\n"
 
-    def days(self, cell: Cell) -> str:
-        """A date or a time of day as a number of days, as spreadsheets count them."""
-        days = duration(cell.value) if cell.kind == "time" else since(self.document.start_of_days, cell.value)
-        return exact(days)
-
-
-def unknown_functions(formula: str) -> list[str]:
-    tokens = tokens_of(formula, 1).tokens
-    calls = [name.text.upper() for name, behind in zip(tokens, tokens[1:]) if name.kind is Kind.NAME and behind.kind is Kind.OPEN]
-    return [name for name in dict.fromkeys(calls) if name not in FUNCTIONS]
+    def note(self, sheet: Sheet, address: Address, why: str) -> None:
+        self.notes.append(Note(sheet.name, address, why))
 
 
-def without_noise(formula: str) -> str:
-    """The formula with its decimals at 15 digits: Gnumeric writes 1.04999999999999999996 for 1.05."""
-    rounded, end = "", 0
-    for token in tokens_of(formula, 1).tokens:
-        is_decimal = token.kind is Kind.NUMBER and "." in token.text and len(token.text) > DIGITS
-        rounded += formula[end : token.place] + (number(token.text) if is_decimal else token.text)
-        end = token.place + len(token.text)
-    return rounded + formula[end:]
+def checked(formula: str) -> str:
+    """A formula that whatif takes."""
+    wrong = fault(formula)
+    if wrong is not None:
+        raise CannotGoOver(f"the formula is {wrong.code} from {one_line(formula[wrong.place :][:20])!r} on")
+    return formula
 
 
-def put(place: Address, content: str) -> str:
-    """A text with a line break goes in by CSV, since a command is one line."""
-    if "\n" not in content and "\r" not in content:
-        return f"set {place} {content}\n"
-    quoted = content.removeprefix("'").replace('"', '""')
-    return f"csv {place} {quoted.count(chr(10)) + 1}\n\"{quoted}\"\n"
+def one_line(text: str) -> str:
+    """A text for a comment: one line, and not too long."""
+    plain = re.sub(r"[\s\x00-\x1f\x7f-\x9f\u2028\u2029]+", " ", text[: 4 * LONGEST_COMMENT]).strip()
+    return plain if len(plain) <= LONGEST_COMMENT else f"{plain[:LONGEST_COMMENT]} .."
 
 
-def number(text: str) -> str:
-    """A saved number at 15 digits; a whole one below 2^53 is exact and stays."""
-    try:
-        saved = Decimal(text)
-    except InvalidOperation as error:
-        raise CannotGoOver(f"the number {text}") from error
-    if not saved.is_finite():
-        raise CannotGoOver(f"the number {text}")
-    if saved == saved.to_integral_value() and abs(saved) < EXACT_UP_TO:
-        return f"{saved.to_integral_value():f}"
-    rounded = Decimal(f"{saved:.{DIGITS - 1}e}").normalize()
-    return exact(Fraction(rounded))
-
-
-def exact(value: Fraction) -> str:
-    """A number as it is read: a decimal if it is one, else a quotient."""
-    if not fits(value):
-        raise CannotGoOver("a number that doesn't fit in 128 bits")
-    decimal = Decimal(value.numerator) / Decimal(value.denominator)
-    return f"{decimal.normalize():f}" if Fraction(decimal) == value else f"{value.numerator}/{value.denominator}"
-
-
-def since(start: str, date: str) -> Fraction:
-    try:
-        passed = datetime.fromisoformat(date) - datetime.fromisoformat(start)
-    except ValueError as error:
-        raise CannotGoOver(f"the date {date}") from error
-    return Fraction(passed.days) + Fraction(passed.seconds, SECONDS_OF_DAY) + Fraction(passed.microseconds, SECONDS_OF_DAY * 10**6)
-
-
-def duration(time: str) -> Fraction:
-    found = DURATION.fullmatch(time)
-    if found is None:
-        raise CannotGoOver(f"the time {time}")
-    sign, days, hours, minutes, seconds = (part or "0" for part in found.groups())
-    total = Fraction(days) + (Fraction(hours) * 3600 + Fraction(minutes) * 60 + Fraction(seconds)) / SECONDS_OF_DAY
-    return -total if sign == "-" else total
+def array_members(sheet: Sheet) -> dict[Address, Address]:
+    """The cells of array formulas besides the first of each, which has the formula."""
+    found: dict[Address, Address] = {}
+    for address, cell in sheet.cells.items():
+        if cell.array is not None:
+            rows, columns = (min(count, 1_000) for count in cell.array)
+            members = (Address(address.row + down, address.column + right) for down in range(rows) for right in range(columns))
+            found.update((member, address) for member in members if member != address and member in sheet.cells)
+    return found

@@ -3,7 +3,6 @@
 import csv
 import io
 import re
-from collections.abc import Iterator
 from dataclasses import dataclass
 from itertools import accumulate
 
@@ -42,12 +41,6 @@ def records(command: Command) -> list[Record]:
     except csv.Error:
         pass
     return found
-
-
-def fields(command: Command) -> Iterator[tuple[int, int, str]]:
-    """The fields of the data lines: the line in which the record of each begins, its column from 1, and its text."""
-    for record in records(command):
-        yield from ((record.line, column, text) for column, text in enumerate(record.fields, 1))
 
 
 def opened(command: Command) -> tuple[int, int] | None:

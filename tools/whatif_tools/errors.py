@@ -1,13 +1,12 @@
 """The cells in which an error starts: what they read doesn't show that error."""
 
-from collections.abc import Iterable, Iterator
+from collections.abc import Callable, Iterable, Iterator
 from dataclasses import dataclass
 from itertools import pairwise
-from pathlib import Path
 
+from .cures import Values, cure
 from .formula import Kind, is_formula, rectangle, tokens_of
-from .functions import FUNCTIONS, instead_of
-from .program import run
+from .program import Reply
 from .sheet import Address, Rectangle
 
 SESSION = "whatif_check"
@@ -34,22 +33,25 @@ def references(formula: str) -> tuple[Rectangle, ...]:
     return tuple(known for known in found if known is not None)
 
 
-def error_cells(script: Path) -> dict[Address, ErrorCell]:
-    """The cells that show an error at the end of a script, in no scenario."""
-    shown = run(ASK, script).replies[-1].records()
-    errors = {address: text for address, kind, text in (record for record in shown if len(record) == 3) if kind == "E"}
+def error_cells(shown: Reply, ask: Callable[[bytes], list[Reply]]) -> dict[Address, ErrorCell]:
+    """The cells in a reply to `changes` that show an error; `ask` gives the replies to further commands."""
+    errors = {address: text for address, (kind, text) in values_in(shown, only="E").items()}
     if not errors:
         return {}
-    asked = "".join(f"formula {address}\n" for address in errors).encode()
-    replies = run(asked, script).replies[-len(errors) :]
+    replies = ask("".join(f"formula {address}\n" for address in errors).encode())[-len(errors) :]
     cells = (cell(address, error, reply.records()[0][1]) for (address, error), reply in zip(errors.items(), replies))
     return {known.address: known for known in cells}
 
 
-def cell(address: str, error: str, formula: str) -> ErrorCell:
-    place = Address.parse(address)
-    assert place is not None
-    return ErrorCell(place, error, formula, references(formula))
+def values_in(reply: Reply, only: str = "") -> Values:
+    """What a reply to `changes` says: the kind and the text of each cell, or of those of one kind."""
+    records = reply.records() if not only or any(f'","{only}","'.encode() in line for line in reply.lines) else []
+    read = ((Address.parse(record[0]), record[1], record[2]) for record in records if len(record) == 3 and only in ("", record[1]))
+    return {address: (kind, text) for address, kind, text in read if address is not None}
+
+
+def cell(address: Address, error: str, formula: str) -> ErrorCell:
+    return ErrorCell(address, error, formula, references(formula))
 
 
 def within(areas: Iterable[Rectangle], cells: dict[Address, ErrorCell]) -> Iterator[ErrorCell]:
@@ -89,12 +91,11 @@ def on_cycles(circular: dict[Address, ErrorCell]) -> list[ErrorCell]:
     return [circular[address] for address in reads]
 
 
-def advice(cell: ErrorCell, cells: dict[Address, ErrorCell]) -> str | None:
-    """What helps where an error starts, if its formula tells."""
-    if cell.error == "#NAME?":
-        names = (token.text.upper() for token in tokens_of(cell.formula, cell.formula.index("=") + 1).tokens if token.kind is Kind.NAME)
-        return next((instead_of(name) for name in names if name not in FUNCTIONS), None)
-    return circle(cell, cells) if cell.error == CIRCULAR else None
+def advice(cell: ErrorCell, cells: dict[Address, ErrorCell], values: Values) -> str | None:
+    """What helps where an error starts."""
+    if cell.error == CIRCULAR:
+        return circle(cell, cells)
+    return cure(cell.error, cell.formula, values) if is_formula(cell.formula) else None
 
 
 def circle(cell: ErrorCell, cells: dict[Address, ErrorCell]) -> str | None:
@@ -105,7 +106,8 @@ def circle(cell: ErrorCell, cells: dict[Address, ErrorCell]) -> str | None:
     for path in paths:
         for read in within(circular[path[-1]].reads, circular):
             if read.address == cell.address:
-                return f"{told([*path, read.address])}: take one of these references out, or put the steps into a column, each reading the one above it"
+                cycle = told([*path, read.address])
+                return f"{cycle}: take one of these references out, or put the steps into a column, each reading the one above it"
             if read.address not in reached:
                 reached.add(read.address)
                 paths.append([*path, read.address])

@@ -22,6 +22,12 @@ class Kind(Enum):
     MORE_FIELDS = "a data line has more fields than the first one"
     EMPTY_INPUT = "a table is asked for empty cells"
     SEMICOLONS = "data lines are parted by semicolons"
+    TABS = "data lines are parted by tabs"
+    UNREAD_INPUT = "a what-if replaces an input that its formula cell doesn't rest on"
+    OVER_FORMULA = "a number or a text was put over a formula"
+    NEW_NAME = "a scenario or a session is new, and its name is nearly that of another"
+    ERROR_IN_REPLY = "a reply has an error that the sheet hasn't"
+    NOT_AS_MEANT = "a comment says that a refusal or an error is meant, and there is none"
     REPLACED = "an edit of a cell that the scenario in use replaces doesn't show"
     ERROR_STARTS = "an error starts in a cell"
     NO_REPLY = "the program ended before a command"
@@ -37,6 +43,9 @@ class Finding:
     message: str
     shown: str | None = None
     """The line, where it helps to see it."""
+
+    code: str | None = None
+    """The code of the refusal or the name of the error, as a comment `#! ..` has it."""
 
     def text(self, name: str) -> str:
         head = f"{name}:{self.line}:{self.column}: {self.message}\n"

@@ -1,5 +1,6 @@
 """The functions that whatif has, as in docs/FUNCTIONS.md, and what to write for others."""
 
+import re
 from difflib import get_close_matches
 
 FUNCTIONS = frozenset(
@@ -41,12 +42,25 @@ ENGLISH = {
 """The commonest functions by their German, French, Spanish and Italian names."""
 
 
+DATES = frozenset(
+    "DATE DATEDIF DATEVALUE DAY DAYS DAYS360 EASTERSUNDAY EDATE EOMONTH HOUR ISOWEEKNUM MINUTE MONTH NETWORKDAYS NOW SECOND TIME TIMEVALUE TODAY WEEKDAY"
+    " WEEKNUM WORKDAY YEAR YEARFRAC".split()
+)
+PREFIX = re.compile(r"(?:COM\.MICROSOFT|ORG\.(?:GNUMERIC|OPENOFFICE|LIBREOFFICE)|_XLFN|_XLWS)\.")
+
+
 def instead_of(name: str) -> str:
     """What to write for a function that isn't there."""
-    name = name.upper()
-    if name in IN_FROM:
-        return f"{name} isn't there: docs/FROM.md has what to write instead"
-    if name in ENGLISH:
-        return f"functions have their English names: write {ENGLISH[name]} for {name}"
-    near = get_close_matches(name, FUNCTIONS, 1)
-    return f"{name} isn't there: is {near[0]} meant?" if near else f"{name} isn't there: docs/FUNCTIONS.md has those that are"
+    plain = PREFIX.sub("", name.upper())
+    if plain in DATES:
+        return f"there are no dates, and no {plain}: count days or months in whole numbers"
+    if plain == "TABLE":
+        return "Excel's TABLE(R;C) is MULTIPLE.OPERATIONS(F;R;X;C;Y) here: docs/MANUAL.md, \"What if\""
+    if plain in FUNCTIONS:
+        return f"write {plain} for {name}"
+    if plain in IN_FROM:
+        return f"{plain} isn't there: docs/FROM.md has what to write instead"
+    if plain in ENGLISH:
+        return f"functions have their English names: write {ENGLISH[plain]} for {plain}"
+    near = get_close_matches(plain, FUNCTIONS, 1)
+    return f"{plain} isn't there: is {near[0]} meant?" if near else f"{plain} isn't there: docs/FUNCTIONS.md has those that are"

@@ -1,12 +1,10 @@
-"""What to write instead of a line that was refused."""
+"""What to write instead of a formula that was refused; hints by patterns."""
 
 import re
-from collections.abc import Callable, Collection, Iterable
-from dataclasses import dataclass, replace
-from difflib import get_close_matches
+from collections.abc import Callable, Iterable
+from dataclasses import dataclass
 
-from .script import Command
-from .sheet import Rectangle
+from .sheet import COLUMNS, column_letters
 
 CELL = r"\$?[A-Za-z]{1,3}\$?[1-9][0-9]*"
 BARE = rf"({CELL})(?::({CELL}))?"
@@ -47,15 +45,58 @@ def pair(found: re.Match[str]) -> str:
     return "a rectangle has one pair of brackets: write " + (f"[.{first[1]}:.{found[1]}]" if first else "[.A1:.A3]")
 
 
+def name_or_text(found: re.Match[str]) -> str:
+    """What to write for a word: the cell's address where it stands beside an operator, else a text perhaps."""
+    name, text = found[1], found.string
+    before, behind = text[: found.start()].rstrip()[-1:], text[found.end() :].lstrip()[:1]
+    is_joined = before in tuple("+-*/^<>&") or behind in tuple("+-*/^<>%")
+    cell, quoted = "there are no names: a cell is written by its address, as [.B4]", f'a text is written in quotes: "{name}"'
+    return f"{cell}; {quoted}" if is_joined else f"{quoted}; {cell}; behind a function's name comes a ("
+
+
+def row_and_column(found: re.Match[str]) -> str:
+    """What to write for R2C3."""
+    row, column = found[1] or "", found[2] or ""
+    is_place = row.isdigit() and column.isdigit() and 0 < int(column) <= COLUMNS
+    example = f"[.{column_letters(int(column))}{row}]" if is_place else "[.A1]"
+    return f"a cell is written by its column's letters and its row: write {example}"
+
+
 WHAT_IF = "MULTIPLE.OPERATIONS has three or five parameters, each a cell, parted by ; as in MULTIPLE.OPERATIONS([.B5];[.B1];[.D2])"
 ONE_SHEET = "there is one sheet: a cell is written [.A1], without a sheet's name"
+NAMELESS = "there are no names of ranges and no tables with columns: a cell is written [.B4]"
 BEHIND_VALUE = (
+    hint(r"(?i)(AND|OR|XOR)\b", lambda found: f"it is a function: write {'AND' if found[1].upper() == 'AND' else 'OR'}(a;b)"),
+    hint(r"(?<=&)&", "the function is AND: write AND(a;b)"),
+    hint(r"\|", "the function is OR: write OR(a;b); texts are joined by &"),
+    hint(r"(?i)(?:MOD|DIV)\b|\\|%\s*(?=[\d(\[])", "the remainder is MOD(n;m), and the whole quotient QUOTIENT(n;m)"),
+    hint(r"(?i)(?:THEN|ELSE)\b|\?", "a choice is IF(condition;then;else)"),
+    hint(r"!=|=!", "unequal is written <>"),
+    hint(r"(?<=[ 0-9])[0-9]{3}\b", "thousands aren't parted: write the number without spaces; or an operator is missing"),
+    hint(r"\[", "an operator is missing before this"),
+    hint(r'(?<=")[A-Za-z_0-9]', "the text ends at the quote before this: one inside a text is doubled, and & joins two texts"),
     hint(r"[xX](?=\s*[-+0-9.(\[])", "a product is written with *"),
     hint(rf":\s*\[\.({CELL})\]", pair),
 )
 """Hints for what stands behind a value."""
 
 FORMULA_HINTS = (
+    hint(r"(?<==)>", "at least is written >="),
+    hint(r"(?<==)<", "at most is written <="),
+    hint(r"(?<=[<>] )=", "the two signs have no space between them: >= and <="),
+    hint(r"""(?<=[\w\])"%]=)=|(?<=[\w\])"%] =)=""", "equal is written with one ="),
+    hint(r"(?<=\*)\*", "a power is written with ^"),
+    hint(r"!=", "unequal is written <>"),
+    hint(r"!", "not is a function: write NOT(a)"),
+    hint(r"(?i)(AND|OR|NOT)\b(?!\()", lambda found: f"it is a function: write {found[1].upper()}({'a' if found[1].upper() == 'NOT' else 'a;b'})"),
+    hint(r"#(?:REF|NAME|VALUE|NUM|N/A|DIV|NULL)", "an error isn't written in a formula: write the cell that was meant; NA() gives #N/A"),
+    hint(r"\[[@#]|@", NAMELESS),
+    hint(r"R(\d+|\[-?\d+\])?C(\d+|\[-?\d+\])?(?![\w(.\[])", row_and_column),
+    hint(r"\$?[A-Za-z]{1,3}:\$?[A-Za-z]{1,3}(?![\w(])", "a whole column is written [.A1:.A1048576]"),
+    hint(r"\[\.?\$?[A-Za-z]{1,3}:\.?\$?[A-Za-z]{1,3}\]", "a whole column is written [.A1:.A1048576]"),
+    hint(r"(?:[$€£¥]|EUR|USD|GBP|CHF)\s*[0-9]", "a number has no currency"),
+    hint(r"[²³]", lambda found: f"a power is written with ^: write ^{'2' if found[0] == '²' else '3'}"),
+    hint(r"√", "there is no root: docs/FROM.md, \"Roots and other steps\", has it in steps"),
     hint(r"(?i)(TRUE|FALSE)\b(?!\()", lambda found: f"in a formula it is a function: write {found[1].upper()}()"),
     hint(r"(?i)MULTIPLE\.OPERATIONS", WHAT_IF),
     hint(rf"{BARE}(?![\w.!(])", bare),
@@ -64,17 +105,17 @@ FORMULA_HINTS = (
     hint(r"\[\$?(?:'[^']*'|[A-Za-z_][\w ]*)\.", ONE_SHEET),
     hint(rf"\[\.?{CELL}", "a cell is written [.A1], and ends with ]"),
     hint(r"\[", "a cell is written [.A1], a rectangle [.A1:.A3]"),
-    hint(rf"(?:'[^']*'|[A-Za-z_]\w*)[.!]{CELL}", ONE_SHEET),
+    hint(rf"\$?(?:'[^']*'|[A-Za-z_]\w*)[.!]{CELL}", ONE_SHEET),
     hint(r",", "parameters are parted by ; and decimals have a point"),
     hint(rf"[{QUOTES}]", 'a text is written in plain double quotes: "like this"'),
     hint(r'"', "the text isn't closed: a quote is missing, or one inside it isn't doubled"),
     hint(r"[;)]", 'a parameter or a value is missing before this: write 0 or ""; or a ) is too many'),
     hint(r"[A-Za-z_][\w.]*\s*\(", "an operator is missing before the function"),
-    hint(r"([A-Za-z_][\w.]*)", lambda found: f'a text is written in quotes: "{found[1]}"; behind a function\'s name comes a ('),
+    hint(r"([A-Za-z_][\w.]*)", name_or_text),
     hint(r"[=*/^&<>%]", "a value is missing before the operator"),
     hint(r"[0-9(]", "an operator is missing before this"),
     hint(r"[{}]", "there are no lists in a formula: put the values into cells"),
-    hint(r"[−–×÷≤≥≠]", "operators are written + - * / ^ & = <> < <= > >="),
+    hint(r"[−–×÷≤≥≠·]", "operators are written + - * / ^ & = <> < <= > >="),
     hint(r"[\u00a0\u2007\u2009\u202f]", "a space from a word processor: write a plain one"),
     hint(r"\s*$", "something is missing at the end: a value, or a ) for each ("),
 )
@@ -91,7 +132,9 @@ def formula_hint(formula: str, place: int) -> str:
     """What to write where the formula is wrong at a place."""
     if is_in_what_if(formula, place):
         return WHAT_IF
-    is_behind_value = re.search(r"[\])0-9\"]\s*$", formula[:place]) is not None
+    if re.match(r"(?i)(?:of:)?=\s*\{?=?TABLE\s*\(", formula):
+        return f"Excel's TABLE is MULTIPLE.OPERATIONS here: {WHAT_IF.partition(' ')[2]}"
+    is_behind_value = re.search(r"[\])0-9\"%&]\s*$", formula[:place]) is not None
     hints = (*BEHIND_VALUE, *FORMULA_HINTS) if is_behind_value else FORMULA_HINTS
     return first_advice(hints, formula, place) or "this can't be here"
 
@@ -100,109 +143,3 @@ def is_in_what_if(formula: str, place: int) -> bool:
     """Whether the place is inside the parentheses of MULTIPLE.OPERATIONS."""
     before = re.sub(r'"[^"]*"', "", formula[:place])
     return re.search(r"(?i)MULTIPLE\.OPERATIONS\s*\([^()]*$", before) is not None
-
-
-BY_CODE = {
-    "E01": "nothing has changed: give the program more memory, or fewer cells",
-    "E03": "save the script as UTF-8, its lines at most 65,536 bytes long: iconv -f LATIN1 -t UTF-8",
-    "E04": "columns are A to XFD, rows 1 to 1048576",
-    "E06": "at most 64 parentheses are open at once: take parts into cells of their own",
-    "E07": "a number is at most 2^127 - 1; any 38 digits fit",
-    "E08": "a formula has at most 4,096 bytes and a text 32,767: take parts into cells of their own",
-    "E09": "at most 200,000 cells are filled: clear what isn't needed",
-    "E10": "no line before this made the scenario: scenario NAME ADDR CONTENT does",
-    "E11": "there are at most 64 scenarios, 256 replacements in each, and 64 sessions: drop a scenario that isn't needed",
-    "E12": "a session uses it, or another scenario is based on it: use without a name, or base NAME, ends that",
-    "E13": "the number behind csv counts lines, and there are fewer: awk 'END { print NR }' counts them",
-    "E14": "save the CSV as UTF-8: iconv -f LATIN1 -t UTF-8",
-    "E15": "at most 65,536 cells or entries at once: ask for parts",
-    "E16": "fill a smaller area, or write $ before what mustn't move",
-    "E17": "start anew, with the cells as they are now",
-    "E18": "changes shows what the others did, and the edit is accepted behind it; or write force before it",
-    "E19": "the other scenario is based on this one, itself or by a third: base NAME takes a base away",
-}
-
-
-WORDS = "set|clear|fill|csv|show|export|table|scenario|base|drop|use|as|changes|compare|force|formula"
-EDITS = ("set", "clear", "fill", "csv")
-ADDRESS = "[A-Za-z]+[1-9][0-9]*"
-
-
-def first_and_rest(area: str) -> tuple[str, str]:
-    """The first cell of a rectangle, and the others where they are a rectangle too, else all."""
-    known = Rectangle.parse(area)
-    if known is None or (known.first.row < known.last.row) == (known.first.column < known.last.column):
-        return area.partition(":")[0], area
-    first, last = known.first, known.last
-    second = replace(first, row=first.row + 1) if first.row < last.row else replace(first, column=first.column + 1)
-    return str(first), str(second) if second == last else f"{second}:{last}"
-
-
-def one_cell(found: re.Match[str]) -> str:
-    first, rest = first_and_rest(found[1])
-    return f"set puts one cell, and fill copies it: write set {first} {found[2]} and fill {first} {rest}"
-
-
-def source_first(found: re.Match[str]) -> str:
-    first, rest = first_and_rest(found[1])
-    source = (found[2] or first).upper()
-    return f"the cell that is copied comes first: write fill {source} {rest if source == first else found[1]}"
-
-
-def one_word(found: re.Match[str]) -> str:
-    return f"a name is one word: write {found[1]} {found[2]}_{found[3]}{found[4]}"
-
-
-def nearest(found: re.Match[str]) -> str | None:
-    """The command that is spelled most like a word that is none."""
-    near = get_close_matches(found[1].lower(), WORDS.split("|"), 1)
-    return None if found[1] in WORDS.split("|") or not near else f"is {near[0]} meant?"
-
-
-NO_FILES = 'whatif writes no files: the replies go to standard output, and csvout in docs/FROM.md, "The command line", cuts an export out of them'
-NOT_HERE = 'there is none: docs/FROM.md, "What a program does", says what to do instead'
-LINE_HINTS = (
-    hint("\ufeff", "the line begins with a byte order mark: save the script as UTF-8 without one"),
-    hint(r"[^\t]*\t", "words are parted by spaces, not by tabs"),
-    hint(rf" *(?i:force +)?(?=(?i:{WORDS})\b)(?!(?:{WORDS})\b)(?P<word>\w+)", lambda found: f"commands are in lower case: write {found['word'].lower()}"),
-    hint(rf" *(?:set +)?({CELL}) *= *(.*)", lambda found: f"write set {found[1]} {found[2]}, or set {found[1]} ={found[2]} for a formula"),
-    hint(r" *(?i:quit|exit|bye|q)\b", "there is no quit: the program ends with its input, at a terminal by Ctrl-D"),
-    hint(r" *(?i:help|\?)", "whatif --help lists the commands"),
-    hint(r" *(?i:save|open|load|undo|redo)\b", NOT_HERE),
-    hint(r" *(?:export|show|changes|table|compare)\b.* >", NO_FILES),
-    hint(rf" *(?:force +)?set +({ADDRESS}:{ADDRESS}) (.+)", one_cell),
-    hint(rf" *(?:force +)?fill +({ADDRESS}:{ADDRESS})(?: +({ADDRESS}))? *$", source_first),
-    hint(rf" *compare +(\w+) +({ADDRESS}(?::{ADDRESS})?) *$", lambda found: f"it compares two, and - is the sheet as it is: write compare - {found[1]} {found[2]}"),
-    hint(rf" *(scenario) +(\w+) +(\w+)( +{ADDRESS} .*)", one_word),
-    hint(r" *(use|drop|as) +(\w+) +(\w+)() *$", one_word),
-    hint(r" *(?:force +)?(?:set|scenario +\S+) +\S+ *$", "no content behind the address: clear A1 empties a cell, and set A1 ' puts an empty text"),
-    hint(r" *(?:show|export|clear) +\$?[A-Za-z]+:\$?[A-Za-z]+", "a rectangle has rows too: A1:A9"),
-    hint(r" *(show|export|clear) +(\w+) +(\w+) *$", lambda found: f"write {found[1]} {found[2]}:{found[3]}"),
-    hint(rf" *(?:force +)?(?:{WORDS}) +\[", "an address in a command has no brackets: write A1"),
-    hint(r" *csv +\S+ *$", "behind the address comes the number of data lines: csv A1 3"),
-    hint(r" *(?:force +)?([A-Za-z]+)(?= |$)", nearest),
-    hint(rf" *force\b(?! +(?:{'|'.join(EDITS)})\b)", f"force stands before {', '.join(EDITS)} alone"),
-    hint(r"[^#]* #", "a comment has a line of its own, which begins with #"),
-    hint(r".* \$?[A-Za-z]+\$[0-9]", "addresses in commands have no $"),
-    hint(r" *table\b", "XCOLUMN is a rectangle of one column, YROW one of one row, and F, R and C are cells"),
-    hint(r'[^"]*"', "is it a line of CSV? A field with a line break takes several of the lines that csv counts"),
-    hint(r".*,", "is it a line of CSV? csv ADDR LINES before it says how many lines are data"),
-)
-
-
-def line_hint(command: Command, forms: dict[str, list[str]]) -> str | None:
-    """What to write instead of a line that is no command, and the forms of the command whose name it has."""
-    first = command.text.split()[:1]
-    name = "force" if first == ["force"] and command.name not in EDITS else command.name
-    form = f"its form is {', or '.join(forms[name])}" if name in forms else None
-    said = [part for part in (first_advice(LINE_HINTS, command.text), form) if part is not None]
-    return "; ".join(said) or None
-
-
-def name_hint(name: str, made: Collection[str]) -> str:
-    """What to write instead of the name of a scenario that isn't there."""
-    if not made:
-        return BY_CODE["E10"]
-    same = [f"capitals count: is {known} meant? " for known in made if known.lower() == name.lower()]
-    near = [f"is {known} meant? " for known in get_close_matches(name, made, 1)]
-    return f"{''.join((same or near)[:1])}the scenarios so far: {', '.join(sorted(made))}"

@@ -64,7 +64,38 @@ def spelling(pattern: str, advice: Callable[[re.Match[str]], str]) -> Spelling:
     return Spelling(re.compile(pattern), advice)
 
 
-DATE = spelling(r"[0-9]{4}-[0-9]{1,2}-[0-9]{1,2}|[0-9]{1,2}([./-])[0-9]{1,2}\1[0-9]{2,4}", no_date)
+def no_time(found: re.Match[str]) -> str:
+    hours = Decimal(found[1]) + Decimal(found[2]) / 60 + Decimal(found[3] or 0) / 3600
+    written = f"{found[1].lstrip('0') or '0'}:{found[2]} is {hours:f} hours; " if Fraction(hours) * 100 % 1 == 0 else ""
+    return f"there are no times: {written}count hours or minutes as numbers; behind an apostrophe it is a text that is meant"
+
+
+def thousands(found: re.Match[str]) -> str:
+    """A number with a letter or a word behind it for thousands or more."""
+    number = Fraction(found[1].replace(",", ".")) * 1000 ** THOUSANDS[found[2].lower().rstrip(".")]
+    return write(plain(str(Decimal(number.numerator) / Decimal(number.denominator))))
+
+
+def accounting(found: re.Match[str]) -> str:
+    return f"parentheses make no negative number: {write('-' + figures(found[1]))}"
+
+
+def figures(text: str) -> str:
+    """The digits and the point of a number, without what parts thousands."""
+    plainly = re.sub(r"[^-+0-9.]", "", text)
+    return f"0{plainly}" if plainly.startswith(".") else plainly
+
+
+MONTH = r"(?i:jan|feb|mar|apr|may|jun|jul|aug|sep|oct|nov|dec)[a-zA-Z]*\.?"
+THOUSANDS = {"k": 1, "thousand": 1, "mio": 2, "million": 2, "millions": 2, "bn": 3, "billion": 3, "billions": 3}
+CURRENCIES = "EUR|USD|GBP|CHF|JPY|SEK|NOK|DKK|PLN|CZK|CAD|AUD|Euro|Fr|Rs"
+PARTED = rf"[0-9]{{1,3}}(?:[,'’_{SPACES}][0-9]{{3}})*(?:\.[0-9]+)?|[0-9]+(?:\.[0-9]+)?"
+DATE = spelling(
+    r"[0-9]{4}([-/.])[0-9]{1,2}\1[0-9]{1,2}|[0-9]{1,2}([./-])[0-9]{1,2}\2[0-9]{2,4}"
+    rf"|[0-9]{{1,2}}\.?[ -]{MONTH}[ -][0-9]{{2,4}}|{MONTH} [0-9]{{1,2}},? [0-9]{{4}}",
+    no_date,
+)
+TIME = spelling(r"([0-9]{1,2}):([0-5][0-9])(?::([0-5][0-9]))?", no_time)
 SPELLINGS = (
     spelling(rf"([-+]?{FIGURES}|[-+]?[0-9]+,[0-9]+)[{SPACES}]*%", percent),
     spelling(r"([-+]?[0-9]+),([0-9]+)", decimal_comma),
@@ -74,7 +105,13 @@ SPELLINGS = (
     spelling(r"([-+]?)(\.[0-9]+)", lambda found: write(f"{found[1]}0{found[2]}")),
     spelling(r"([-+]?[0-9]+)\.", lambda found: write(found[1])),
     DATE,
-    spelling(rf"[-+]?[$€£¥][{SPACES}]*[-+]?{FIGURES}|[-+]?{FIGURES}[{SPACES}]*[$€£¥]", lambda found: write(re.sub(rf"[$€£¥{SPACES}]", "", found[0]))),
+    TIME,
+    spelling(rf"\(((?:[$€£¥]\s*)?(?:{PARTED}))\)", accounting),
+    spelling(rf"([-+]?(?:{FIGURES}|[0-9]+,[0-9]+))[{SPACES}]*(k|(?i:thousand|mio\.?|millions?|bn|billions?))", thousands),
+    spelling(rf"(?:{CURRENCIES})\.?[{SPACES}]*([-+]?(?:{PARTED}))(?:\.?[-–—]+)?", lambda found: write(figures(found[1]))),
+    spelling(rf"({PARTED})\.[-–—]+", lambda found: write(figures(found[1]))),
+    spelling(rf"[~≈][{SPACES}]*([-+]?{FIGURES})", lambda found: write(found[1])),
+    spelling(rf"[-+]?[$€£¥][{SPACES}]*[-+]?(?:{PARTED}|\.[0-9]+)|[-+]?(?:{PARTED}|\.[0-9]+)[{SPACES}]*[$€£¥]", lambda found: write(figures(found[0]))),
     spelling(r"(?i:true|false)", lambda found: write(found[0].upper())),
     spelling(r"[-+]?(?i:nan|inf|infinity)", lambda _: "no number is like that: leave it out"),
     spelling(r"[-+]?[0-9]+(?:\.[0-9]+)?(?:/[0-9]+)?", lambda _: "it doesn't fit in 128 bits, or its denominator is 0"),
@@ -92,7 +129,7 @@ def without_unit(found: re.Match[str]) -> str:
     return f"{write('0' * number.startswith('.') + number)}, and the unit, {found[2]}, into another cell"
 
 
-WITH_UNIT = spelling(rf"([-+]?(?:{FIGURES}|[0-9]+,[0-9]+|[0-9]+/[0-9]+))[{SPACES}]*({UNITS})", without_unit)
+WITH_UNIT = spelling(rf"([-+]?(?:{FIGURES}|[0-9]+,[0-9]+|[0-9]+/[0-9]+))[{SPACES}]*[(\[]?({UNITS})[)\]]?", without_unit)
 
 
 def is_value(text: str) -> bool:
@@ -118,4 +155,5 @@ def meant_as_number(text: str, has_unit: bool = True) -> str | None:
 
 
 def is_date(text: str) -> bool:
-    return DATE.pattern.fullmatch(text.strip(SPACES)) is not None
+    """Whether it is a date or a time."""
+    return any(known.pattern.fullmatch(text.strip(SPACES)) is not None for known in (DATE, TIME))

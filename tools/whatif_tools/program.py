@@ -4,6 +4,7 @@ import os
 import re
 import subprocess
 from dataclasses import dataclass
+from functools import lru_cache
 from pathlib import Path
 
 ROOT = Path(__file__).resolve().parents[2]
@@ -104,6 +105,12 @@ class Help:
 
 
 def program_help() -> Help:
+    return help_of(program())
+
+
+@lru_cache
+def help_of(path: str) -> Help:
+    """The help of the program at a path; it is asked once."""
     text = call(["--help"], b"").stdout.decode()
     forms: dict[str, list[str]] = {}
     for form in FORM.findall(text):

@@ -9,6 +9,7 @@ from .sheet import Address, Rectangle
 LONGEST_LINE = 65_536
 MOST_DATA_LINES = 1_000_000
 BYTE_ORDER_MARK = b"\xef\xbb\xbf"
+MARK = b"#!"
 
 CONTENT = re.compile(r" *(?:force +)?(?:set +[^ ]+|scenario +[^ ]+ +[^ ]+) (.+)", re.DOTALL)
 COMMAND = re.compile(
@@ -24,6 +25,12 @@ class Command:
     line: int
     raw: bytes
     data: tuple[bytes, ...]
+    mark: str = ""
+    """What a comment `#! ..` right above it says."""
+
+    @property
+    def last_line(self) -> int:
+        return self.line + len(self.data)
 
     @property
     def text(self) -> str:
@@ -95,15 +102,16 @@ def data_lines(line: bytes) -> int:
 
 def commands(lines: list[bytes]) -> Iterator[Command]:
     """The lines that are answered, in order."""
-    at = 0
+    at, mark = 0, ""
     while at < len(lines):
         line = lines[at]
         at += 1
         if is_passed_over(line):
+            mark = line.removeprefix(MARK).decode().strip() if line.startswith(MARK) else ""
             continue
         data = tuple(lines[at : at + data_lines(line)])
-        yield Command(at, line.removesuffix(b"\r"), data)
-        at += len(data)
+        yield Command(at, line.removesuffix(b"\r"), data, mark)
+        at, mark = at + len(data), ""
 
 
 def looks_like_command(line: str) -> bool:

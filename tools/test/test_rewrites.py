@@ -1,0 +1,112 @@
+"""Functions that are said otherwise: where they are, and where they aren't because the meaning would be another one."""
+
+import unittest
+
+from whatif_tools.carry import checked
+from whatif_tools.document import Document, Name, Sheet
+from whatif_tools.errors import ASK
+from whatif_tools.helpers import Helpers
+from whatif_tools.move import Places
+from whatif_tools.pieces import CannotGoOver
+from whatif_tools.program import run
+from whatif_tools.rewrite import RULES
+from whatif_tools.sheet import Address
+from whatif_tools.translate import Translator
+
+SAID = {
+    "COM.MICROSOFT.IFS([.A1]>1;2;TRUE();3)": "=IF([.A1]>1;2;IF(TRUE();3;NA()))",
+    "_xlfn.IFS([.A1]>1;2)": "=IF([.A1]>1;2;NA())",
+    "ROWS([.A2:.B9])*2": "=8*2",
+    "COLUMN()+ROW()": "=3+7",
+    "CEILING([.A1]+1;0.5)": '=IF(([.A1]+1)<0;VALUE("");ROUNDUP(([.A1]+1)/0.5)*0.5)',
+    "ISEVEN(7)": "=(MOD(TRUNC(7);2)=0)",
+    "DATE(2026;11;30)": "=46356",
+    "COM.MICROSOFT.SWITCH([.A1];1;2+3;\"a\";[.B1];9)": '=IF([.A1]=1;2+3;IF([.A1]="a";[.B1];9))',
+    "COM.MICROSOFT.SWITCH([.A1];[.B1];2)": "=IF(ISERROR([.A1]);[.A1];IF(IFERROR([.A1]=[.B1];FALSE());2;NA()))",
+    "MROUND([.A1];5)": "=(ROUND([.A1]/5)*5)",
+    "SUMPRODUCT([.A1:.A3];[.B1:.B3])": "=SUMPRODUCT([.A1:.A3];[.B1:.B3])",
+    'SUMPRODUCT(([.A1:.A3]="x")*[.B1:.B3])': "=SUM([.AA1:.AA3])",
+    "margin*2": "=0.35*2",
+    "2^sum": "=2^(1+2)",
+    "-sum%": "=-(1+2)%",
+    "twice": "=((1+2)*2)",
+    "rate": "=[.$B$1]",
+    "LARGE([.A1:.A9];1)": '=IF(COUNT([.A1:.A9])=0;MAX([.A1:.A9])+VALUE("");MAX([.A1:.A9]))',
+    "ORG.LIBREOFFICE.ROUND(2.5)": "=ROUND(2.5)",
+    "COUNTIF([.A1:.A9];\"<5\")": '=COUNTIF([.A1:.A9];"<5")',
+    "SUMIFS([.C1:.C9];[.A1:.A9];\"a\";[.B1:.B9];[.D1])": "=(SUMIF([.AA1:.AA9];1;[.C1:.C9])+0*[.AA1])",
+}
+"""Formulas of a file in its cell C7, and what they are here; the first free column is Z."""
+
+KEPT_BACK = (
+    "CEILING([.A1];2;1)", "COM.MICROSOFT.CEILING([.A1];[.B1])", "COM.MICROSOFT.FLOOR([.A1];-2)", "CEILING([.A1:.A3];2)",
+    "COM.MICROSOFT.IFS([.A1]>1;2;3)", "COM.MICROSOFT.IFS([.A1:.A3];2)", "COM.MICROSOFT.SWITCH([.A1:.A3];1;2)", "COM.MICROSOFT.SWITCH([.A1];1)",
+    "DATE([.A1];1;1)", "DATE(26;1;1)", "DATE(2026;1)", "DATE(9999;1;1)", "LARGE([.A1:.A9];2)", "LARGE(5;1)", "ROW([.A1:.A3])", "ROWS(5)", "ROWS()",
+    "SUMIFS([.C1:.C9];[.A1:.A8];\"a\")", "SUMIFS([.C1:.C9];[.A1:.A9])", "SUMIFS([.C1:.C9];[.A1:.A9];[.B1:.B2])", "COUNTIFS([.A1:.A9];\"\")",
+    "COUNTIFS([.A1:.A1048576];\"<>a\")", "SUMIFS([.C1:.C9]+1;[.A1:.A9];1)", "XLOOKUP([.A1];[.B1:.B9];[.C1:.C9];\"\";2)", "XLOOKUP([.A1];[.B1:.B9];[.C1:.D9])",
+    "XLOOKUP([.A1];[.B1:.B9];[.C1:.C9];\"\";0;-1)", "PI(1)", "COUNTBLANK([.A1]+1)", "SUMSQ(1;2)", "CONCAT([.A1:.A3])", "ISODD([.A1:.A2])", "MEDIAN([.A1:.A3])",
+    "SUMPRODUCT([.A1:.A3]&\"x\")", "SUMPRODUCT(([.A1:.A3]>1)*[.B1:.B4])", "SUMPRODUCT(([.A:.A]=1)*[.B:.B])", "SUMPRODUCT(SUM([.A1:.A3])*[.A1:.A3])", "SUMPRODUCT([.A1]*2)",
+    "MROUND([.A1];[.B1])", "PMT(0.01;60;1000)", "nothing+1", "moves", "itself", "{1;2}", "MAXIFS([.C1:.C200000];[.A1:.A200000];1)", "[Other.A1]", "#REF!+1", "SUM([.A1:.A2]~[.B1])",
+)
+"""What stays out, since it isn't the same for every input or isn't there."""
+
+LOOK_UPS = (
+    ('XLOOKUP("b";[.A1:.A3];[.B1:.B3])', "20"),
+    ('XLOOKUP("x";[.A1:.A3];[.B1:.B3])', "#N/A"),
+    ('XLOOKUP("x";[.A1:.A3];[.B1:.B3];"none")', "none"),
+    ('XLOOKUP("c";[.A1:.A3];[.B1:.B3];"none")', "#N/A"),
+    ('XLOOKUP(1/0;[.A1:.A3];[.B1:.B3];"none")', "#DIV/0!"),
+    ('XLOOKUP(NA();[.A1:.A3];[.B1:.B3];"none")', "#N/A"),
+    ('_xlfn.XLOOKUP("a";[.A1:.A3];[.B1:.B3];"none";0;1)', "10"),
+    ('XLOOKUP(2;[.D1:.F1];[.D2:.F2])', "8"),
+    ('XLOOKUP("a";[.A1:.A3];[.B1:.B3])+1', "11"),
+)
+"""XLOOKUP as Microsoft's page of it says, since LibreOffice 7.4 has none; the sheet has a, b, c beside 10, 20 and #N/A, and 1, 2, 2 above 7, 8, 9."""
+
+SHEET = "csv A1 3\na,10\nb,20\nc,\nset B3 =NA()\ncsv D1 2\n1,2,2\n7,8,9\n"
+
+
+def translator() -> Translator:
+    sheet = Sheet("S")
+    names = [Name("margin", expression="0.35"), Name("sum", expression="1+2"), Name("twice", expression="of:=sum*2"), Name("rate", range="$S.$B$1")]
+    names += [Name("moves", expression="[.B1]*2"), Name("itself", expression="itself+1"), Name("Unused", range="$S.$B$1]+[.C1")]
+    document = Document([sheet], {name.spelled.upper(): name for name in names})
+    return Translator(Places(document, {"S": 0}), sheet, Address(7, 3), Helpers(26), RULES)
+
+
+class Rewrites(unittest.TestCase):
+    def test_what_is_said(self) -> None:
+        for formula, said in SAID.items():
+            self.assertEqual(translator().formula(f"of:={formula}"), said)
+
+    def test_what_is_kept_back(self) -> None:
+        for formula in KEPT_BACK:
+            with self.subTest(formula):
+                with self.assertRaises(CannotGoOver):
+                    checked(translator().formula(f"of:={formula}"))
+
+    def test_look_ups(self) -> None:
+        script = SHEET + "".join(f"set H{at} {translator().formula('=' + formula)}\n" for at, (formula, _) in enumerate(LOOK_UPS, 1))
+        shown = {address: text for address, _, text in run(script.encode() + ASK).replies[-1].records()}
+        self.assertEqual([shown[f"H{at}"] for at in range(1, len(LOOK_UPS) + 1)], [text for _, text in LOOK_UPS])
+
+    def test_help(self) -> None:
+        """A column of help is made once for the conditions that are the same."""
+        book = translator()
+        formulas = ["SUMIFS([.C1:.C3];[.A1:.A3];\"a\";[.B1:.B3];[.D1])", "COUNTIFS([.A1:.A3];\"a\";[.B1:.B3];[.D1])", "COUNTIFS([.A1:.C1];1)"]
+        said = [book.formula(f"={formula}") for formula in formulas]
+        self.assertEqual(said, ["=(SUMIF([.AA1:.AA3];1;[.C1:.C3])+0*[.AA1])", "=SUM([.AA1:.AA3])", "=SUM([.AC1:.AE1])"])
+        criterion = 'COUNTIF([.B1];[.$D$1])+(ISBLANK([.B1])+ISERROR([.B1]))*(LEFT([.$D$1];2)="<>")*(LEN([.$D$1])>2)'
+        lines = [
+            '# AA1:AA3: 1 where A1:A3 meets "a" and B1:B3 meets [.D1]\n',
+            f'set AA1 =COUNTIF([.A1];"a")*({criterion})\nfill AA1 AA2:AA3\n',
+            "# AC1:AE1: 1 where A1:C1 meets 1\nset AC1 =COUNTIF([.A1];1)\nfill AC1 AC1:AE1\n",
+        ]
+        self.assertEqual("".join(block.lines() for block in book.helpers.blocks.values()), "".join(lines))
+
+    def test_help_that_was_in_vain(self) -> None:
+        helpers = Helpers(3)
+        mark = helpers.mark()
+        helpers.block(1, 5, 2, "=1", "nothing")
+        helpers.back_to(mark)
+        self.assertEqual((helpers.blocks, helpers.column, helpers.cells), ({}, 3, 0))
