@@ -4,7 +4,8 @@ import unittest
 from decimal import Decimal
 from fractions import Fraction
 
-from whatif import CellError, Change, Difference, Refused, Session, Text, Workbook
+from whatif import CellError, Change, Difference, Formula, Refused, Session, Text, Workbook
+from whatif.addresses import column_name
 
 
 class WorkbookTest(unittest.TestCase):
@@ -87,8 +88,6 @@ class CellsTest(WorkbookTest):
 
     @staticmethod
     def column(number: int) -> str:
-        from whatif.values import column_name
-
         return column_name(number)
 
     def test_floats_are_the_decimals_that_they_print_as(self) -> None:
@@ -113,6 +112,56 @@ class CellsTest(WorkbookTest):
                 self.book.set_formula("A1", formula)
                 self.assert_same(self.book.value("A1"), wanted)
                 self.assertEqual(self.book.formula("A1"), formula)
+
+    def test_cells_by_brackets(self) -> None:
+        self.book["B1"] = 5
+        self.book["B2"] = Formula("=[.B1]*2")
+        self.assertEqual((self.book["B1"], self.book["b2"]), (5, 10))
+        self.assertEqual(self.book["A1:B2"], [[None, 5], [None, 10]])
+        del self.book["B1"]
+        self.assertEqual(self.book["B1:B2"], [[None], [0]])
+        self.book["B1"] = None
+        self.assertIsNone(self.book["B1"])
+
+    def test_rectangles_by_brackets(self) -> None:
+        self.book["A1:B2"] = 7
+        self.assertEqual(self.book["A1:B2"], [[7, 7], [7, 7]])
+        self.book["A1:A2"] = [1, 2]
+        self.book["B1:B2"] = [[3], ["x"]]
+        self.assertEqual(self.book["A1:B2"], [[1, 3], [2, "x"]])
+        self.book["C1"] = [8, 9]
+        self.book["C2"] = [[True, None]]
+        self.assertEqual(self.book["C1:D2"], [[8, 9], [True, None]])
+        del self.book["A1:D1"]
+        self.assertEqual(self.book["A1:D1"], [[None] * 4])
+
+    def test_what_no_brackets_take(self) -> None:
+        for wrong, error in (("price", ValueError), (1, TypeError), (("A1", "B1"), TypeError), (slice(1, 2), TypeError)):
+            with self.assertRaises(error):
+                self.book[wrong]
+            with self.assertRaises(error):
+                self.book[wrong] = 1
+        with self.assertRaisesRegex(ValueError, "2 rows of 1 are to be filled"):
+            self.book["A1:A2"] = [[1], [2], [3]]
+        with self.assertRaisesRegex(ValueError, r"Formula\(..\) is one"):
+            self.book["A1"] = "=[.B1]"
+        with self.assertRaises(TypeError):
+            list(self.book)
+        self.assertEqual(self.book["A1:A3"], [[None]] * 3)
+
+    def test_flat_lists_and_other_rows(self) -> None:
+        self.book.put("A1", [1, 2, "x"])
+        self.book.put("A2", ((4, 5), (row for row in (6, 7))))
+        self.assertEqual(self.book["A1:C3"], [[1, 2, "x"], [4, 5, None], [6, 7, None]])
+        for wrong in ("text", {"a": 1}, 5):
+            with self.assertRaises(TypeError):
+                self.book.put("A1", wrong)
+        with self.assertRaisesRegex(TypeError, "row 2 is no list"):
+            self.book.put("A1", [[1], 2])
+
+    def test_formulas_among_rows(self) -> None:
+        self.book["A1"] = [["a", 2], ["b", Formula("=[.B1]*21")], ["c", "007"]]
+        self.assertEqual(self.book["B1:B3"], [[2], [42], ["007"]])
 
     def test_a_bad_value_in_a_table_changes_nothing(self) -> None:
         self.book.set("A1", "before")
@@ -180,6 +229,37 @@ class WhatIfTest(WorkbookTest):
         self.tariff()
         self.assertEqual(self.book.what_if("B4", {"B1": 400, "B2": 0.28}), 400 * Fraction(28, 100) + 12)
         self.assertEqual(self.book.value("B4"), 92)
+
+    def test_what_if_of_several(self) -> None:
+        self.tariff()
+        self.book["B5"] = Formula("=[.B4]/[.B1]")
+        self.assertEqual(self.book.what_if(["B4", "B5"], {"B1": 400}), [140, Fraction(140, 400)])
+        self.assertEqual(self.book.what_if([], {"B1": 400}), [])
+        self.assertIsNone(self.book.scenario_in_use)
+
+    def test_sensitivity(self) -> None:
+        """A tenth more or less of 250, of 0.32 and of 12, worked out by hand."""
+        self.tariff()
+        found = self.book.sensitivity("B4", by=10)
+        wanted = [("B1", 84, 100, 16), ("B2", 84, 100, 16), ("B3", Fraction("90.8"), Fraction("93.2"), Fraction("2.4"))]
+        self.assertEqual([(it.address, it.low, it.high, it.spread) for it in found], wanted)
+        self.assertEqual((found.result, found.by, found.labels["B2"]), ("B4", 10, "price"))
+        self.assertEqual([it.address for it in self.book.sensitivity("B4", by=1, inputs=["B3"])], ["B3"])
+        with self.assertRaisesRegex(ValueError, "A1 shows consumption: no number"):
+            self.book.sensitivity("B4", inputs=["A1"])
+
+    def test_inputs_are_found_through_formulas_and_rectangles(self) -> None:
+        self.book["A1"] = [[1], [2], ["x"], [Formula("=SUM([.A1:.A3])")], [5]]
+        self.book["B1"] = Formula("=[.$A$4]*[.A5]&\"[.A9]\"")
+        self.assertEqual({it.address for it in self.book.sensitivity("B1")}, {"A5", "A1", "A2"})
+
+    def test_labels(self) -> None:
+        self.tariff()
+        self.book["C5"] = "above"
+        self.book["B6"] = [1, 2]
+        wanted = {"B1": "consumption", "C6": "above"}
+        self.assertEqual(self.book.labels(["B1", "B4", "C6"]), wanted)
+        self.assertEqual(self.book.labels(["B1", "ZZ9999"]), {})
 
     def test_table_over_cells(self) -> None:
         self.tariff()
@@ -282,6 +362,18 @@ class ScenariosTest(WorkbookTest):
         with self.refused("E10"):
             self.book.use("winter")
 
+    def test_side_by_side(self) -> None:
+        self.tariff()
+        winter = self.book.scenario("winter", {"B1": 400})
+        self.book.scenario("saver", {"B2": 0.28}, base=winter)
+        found = self.book.scenarios("B1:B4")
+        wanted = [[250, 400, 400], [Fraction(8, 25), Fraction(8, 25), Fraction(7, 25)], [12, 12, 12], [92, 140, 124]]
+        self.assertEqual((found, found.names, found.cells), (wanted, ["sheet", "winter", "saver"], ["B1", "B2", "B3", "B4"]))
+        self.assertEqual(self.book.scenarios("B4", [winter]), [[140]])
+        self.book.command("drop saver")
+        self.assertEqual(self.book.scenarios("B4"), [[92, 140]])
+        self.assertIsNone(self.book.scenario_in_use)
+
     def test_one_without_a_replacement(self) -> None:
         with self.assertRaises(ValueError):
             self.book.scenario("empty", {})
@@ -337,46 +429,6 @@ class SessionsTest(WorkbookTest):
         ana = self.book.session("ana")
         self.assertEqual((ana.scenario_in_use, self.book.scenario_in_use), ("winter", None))
         self.assertEqual((self.book.value("B4"), ana.value("B4")), (92, 140))
-
-
-try:
-    import numpy
-    import pandas
-except ImportError:
-    pandas = None
-
-
-@unittest.skipIf(pandas is None, "pandas isn't installed")
-class PandasTest(WorkbookTest):
-    def test_frame_in_and_out(self) -> None:
-        frame = pandas.DataFrame(
-            {"item": ["bolt, M6", "007"], "price": [0.12, 1e-7], "pieces": [400, 3], "in stock": [True, False]}
-        )
-        self.book.put("B2", frame)
-        self.assertEqual(self.book.values("B3:E3"), [["bolt, M6", Fraction(3, 25), 400, True]])
-        self.assertEqual(self.book.values("B4:E4"), [["007", Fraction(1, 10**7), 3, False]])
-        back = self.book.frame("B2:E4")
-        self.assertEqual(list(back.columns), list(frame.columns))
-        self.assertEqual(back.values.tolist(), frame.values.tolist())
-        exact = self.book.frame("B2:E4", exact=True)
-        self.assertEqual(exact["price"][0], Fraction(3, 25))
-
-    def test_missing_values_are_refused_with_their_place(self) -> None:
-        for missing in (float("nan"), pandas.NA, pandas.NaT, numpy.inf):
-            frame = pandas.DataFrame({"a": [1, 2], "b": pandas.Series([1, missing], dtype=object)})
-            with self.assertRaisesRegex((TypeError, ValueError), "^B3: "):
-                self.book.put("A1", frame)
-
-    def test_numbers_of_numpy(self) -> None:
-        for value, wanted in (
-            (numpy.int64(7), 7),
-            (numpy.uint8(255), 255),
-            (numpy.float64(0.1), Fraction(1, 10)),
-            (numpy.float32(0.5), Fraction(1, 2)),
-            (numpy.bool_(True), True),
-        ):
-            self.book.set("A1", value)
-            self.assertEqual(self.book.value("A1"), wanted)
 
 
 if __name__ == "__main__":

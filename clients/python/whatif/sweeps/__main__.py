@@ -1,0 +1,5 @@
+"""`python3 -m whatif.sweeps` is whatif-sweep."""
+
+from .command import command
+
+command()
