@@ -32,8 +32,9 @@ def hint_for(code: str, line: str, scenarios: Collection[str]) -> Optional[str]:
         found = fault(content)
         return str(formula_hint(content, found.place)) if found else None
     if code == "E02":
-        return line_hint(command, {}) or None
+        return str(line_hint(command, {}) or "") or None
     if code == "E10":
         unknown = next((word for word in command.words[1:] if word.isidentifier() and word not in scenarios), "")
         return str(name_hint(unknown, scenarios))
-    return BY_CODE.get(code)
+    known: Optional[str] = BY_CODE.get(code)
+    return known

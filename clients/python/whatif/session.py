@@ -14,6 +14,8 @@ from .scenario import MaybeScenario, Trial, name_of, told
 from .sheet import Sheet
 from .values import Value, read
 
+Several = Union[list[str], tuple[str, ...]]
+
 
 class Session(Sheet):
     """A person's view of the workbook: edits, looks and what-ifs, and the scenario in use.
@@ -65,9 +67,9 @@ class Session(Sheet):
     def what_if(self, result: str, cells: Mapping[str, Any]) -> Value: ...
 
     @overload
-    def what_if(self, result: Sequence[str], cells: Mapping[str, Any]) -> list[Value]: ...
+    def what_if(self, result: Several, cells: Mapping[str, Any]) -> list[Value]: ...
 
-    def what_if(self, result: Union[str, Sequence[str]], cells: Mapping[str, Any]) -> Union[Value, list[Value]]:
+    def what_if(self, result: Union[str, Several], cells: Mapping[str, Any]) -> Union[Value, list[Value]]:
         """What a cell would show if these cells had these values, under the scenario in use; or what several cells would.
 
         book.what_if("B4", {"B1": 400, "B2": 0.28})

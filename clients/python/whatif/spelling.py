@@ -67,7 +67,8 @@ class Spelling:
         if isinstance(moment, datetime):
             seconds = moment.hour * 3600 + moment.minute * 60 + moment.second
             nanoseconds = (seconds * 10**6 + moment.microsecond) * 1000 + int(getattr(moment, "nanosecond", 0))
-        return moment.toordinal() - date.toordinal(self.epoch) + Fraction(nanoseconds, DAY)
+        days: int = moment.toordinal() - self.epoch.toordinal()
+        return days + Fraction(nanoseconds, DAY)
 
     def plain(self, value: Any) -> str:
         """A number, a date or a truth value as the program reads it; a TypeError for what a cell can't hold.

@@ -35,7 +35,7 @@ class CellError:
 
 
 Value = Union[Fraction, bool, str, CellError, None]
-Numbers = Callable[[Fraction], Any]
+Numbers = Union[type[float], type[Decimal], type[Fraction], Callable[[Fraction], Any]]
 """What numbers are given as: float, Decimal, Fraction, or a function of your own."""
 
 
@@ -89,7 +89,8 @@ def as_numbers(value: Value, numbers: Numbers) -> Any:
     """
     if not isinstance(value, Fraction):
         return value
-    return decimal(value) if numbers is Decimal else numbers(value)
+    make: Any = decimal if numbers is Decimal else numbers
+    return make(value)
 
 
 def shown(value: Value) -> str:

@@ -29,7 +29,7 @@ class Workbook(Session):
     """
 
     def __init__(self, program: Optional[str] = None, keep: Optional[int] = None, digits: int = 15, epoch: Optional[date] = None) -> None:
-        words = [program or os.environ.get("WHATIF", "whatif")]
+        words = [program or os.environ.get("WHATIF") or "whatif"]
         process = Process(words if keep is None else [*words, "--keep", str(keep)])
         super().__init__(process, Reader(process), Spelling(digits, epoch), "main")
 

@@ -79,7 +79,7 @@ class Dask(Clients):
         if not address:
             raise WrongSweep("--engine dask needs --scheduler ADDRESS, such as tcp://host:8786")
         try:
-            client = Client(address, timeout=20)
+            client: Any = Client(address, timeout=20)
         except (OSError, ValueError) as error:
             raise WrongSweep(f"no Dask scheduler at {address}: {error}") from None
         super().__init__(client)

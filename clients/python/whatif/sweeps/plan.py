@@ -57,7 +57,7 @@ def next_of(address: str) -> str:
 
 def found_program(named: Optional[str] = None) -> str:
     """The program's path: the one given, what the environment variable WHATIF names, else whatif on the path."""
-    name = named or os.environ.get("WHATIF", "whatif")
+    name = named or os.environ.get("WHATIF") or "whatif"
     path = which(name)
     if not path:
         raise WrongSweep(f"{name}: no such program; the environment variable WHATIF names it")

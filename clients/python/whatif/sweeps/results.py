@@ -41,8 +41,9 @@ def failures_place(words: argparse.Namespace) -> Path:
     """Where the failures go: beside the results, or into the folder of the sweep, if there is one to stay."""
     if words.failures or words.output:
         place: Path = words.failures or words.output.with_suffix(".failures.csv")
-        return place
-    return words.resume / "failures.csv" if words.resume else UNASKED
+    else:
+        place = words.resume / "failures.csv" if words.resume else UNASKED
+    return place
 
 
 def gathered(output: Optional[Path], failures: Path, folder: Folder) -> dict[str, Any]:

@@ -71,8 +71,9 @@ def understood(arguments: Sequence[str]) -> argparse.Namespace:
         raise WrongSweep("the model is missing: whatif-sweep MODEL --out CELLS")
     if words.model and not words.out:
         raise WrongSweep("--out says which cells are wanted: --out B10,B11")
-    for path in filter(None, (words.output, words.failures)):
-        check_place(path)
+    places: list[Path] = [it for it in (words.output, words.failures) if it]
+    for place in places:
+        check_place(place)
     return words
 
 
