@@ -112,6 +112,11 @@ class SweepTest(unittest.TestCase):
                 status = ended.code
         return Ran(words, status, out.getvalue().decode(errors="replace"), said.getvalue().decode(errors="replace"))
 
+    def run_apart(self, *words: object, program: object = PROGRAM) -> "Ran[str]":
+        """Runs the tool with these words, in a process of its own."""
+        environment = self.environment(program)
+        return subprocess.run(self.words(*words), stdin=subprocess.DEVNULL, capture_output=True, text=True, cwd=self.folder, env=environment, timeout=180)
+
     def swept(self, sets: str, *words: object, model: object = None, out: str = "B4", program: object = PROGRAM) -> "Ran[str]":
         return self.run_tool(model or self.model, "--out", out, "--jobs", "2", *words, sets=sets, program=program)
 
@@ -125,9 +130,14 @@ class SweepTest(unittest.TestCase):
         path.chmod(path.stat().st_mode | stat.S_IXUSR)
         return path
 
-    def slow(self) -> Path:
-        """The program, but each run takes as many seconds at least as SLOW says."""
-        return self.script("slow", f"#!/bin/sh\nsleep ${{SLOW:-0}}\nexec {PROGRAM} \"$@\"\n")
+    def slow(self, seconds: float) -> Path:
+        """The program, but each run takes so long at least, wherever it runs, until `quicken`."""
+        told = self.folder / "seconds"
+        told.write_text(str(seconds))
+        return self.script("slow", f"#!/bin/sh\n[ -e '{told}' ] && sleep $(cat '{told}')\nexec {PROGRAM} \"$@\"\n")
+
+    def quicken(self) -> None:
+        (self.folder / "seconds").unlink()
 
     def dying(self, at: str, times: int = 1000) -> Path:
         """The program, but it is killed at a command, so many times; what comes before is answered."""

@@ -110,7 +110,7 @@ class ResultsTest(SweepTest):
         sets = self.folder / "sets.csv"
         sets.write_text(text_of(["name,B1", *(f"{it},{it}" for it in range(1, 200))]))
         words = self.words(self.model, "--out", "B4", "--sets", sets, "--jobs", "2", "-o", "r.csv")
-        running = subprocess.Popen(words, cwd=self.folder, stdin=theirs, stderr=theirs, env=self.environment(self.slow(), SLOW="0.1"))
+        running = subprocess.Popen(words, cwd=self.folder, stdin=theirs, stderr=theirs, env=self.environment(self.slow(0.1)))
         os.close(theirs)
         shown = b""
         while select.select([ours], [], [], 30)[0]:
@@ -242,7 +242,7 @@ class WrongSweepTest(SweepTest):
         self.swept("name,B1\na,1\n", "--resume", "work")
         self.assertIn("differs in the sets", self.wrong("name,B1\na,2\n", "--resume", "work"))
         self.assertIn("differs in the model, the outputs", self.wrong("name,B1\na,1\n", "--resume", "work", out="B7"))
-        self.assertIn("differs in the program", self.wrong("name,B1\na,1\n", "--resume", "work", program=self.slow()))
+        self.assertIn("differs in the program", self.wrong("name,B1\na,1\n", "--resume", "work", program=self.slow(0)))
         self.assertEqual(self.swept("name,B1\na,1\n", "--resume", "work").stdout, "name,B4\na,0.32\n")
 
 

@@ -61,7 +61,7 @@ class StoppedTest(SweepTest):
         """The tool, running, with some chunks done."""
         (self.folder / "sets.csv").write_text(SETS)
         line = self.words(self.model, "--out", "B4", "--sets", "sets.csv", "--jobs", "2", "--resume", "work", "-o", "results.csv")
-        environment = self.environment(self.slow(), SLOW=str(seconds))
+        environment = self.environment(self.slow(seconds))
         running = subprocess.Popen(line, cwd=self.folder, env=environment, stdin=subprocess.DEVNULL, stderr=subprocess.PIPE, start_new_session=True)
         self.addCleanup(running.stderr.close)
         end = time.monotonic() + 60
@@ -78,6 +78,7 @@ class StoppedTest(SweepTest):
     def goes_on(self) -> None:
         """What was done is kept, what lacks is done, and the results are right."""
         self.assertFalse((self.folder / "results.csv").exists())
+        self.quicken()
         before = self.done_files()
         self.assertTrue(2 <= len(before) < 20, len(before))
         ran = self.run_tool("--resume", "work", "--jobs", "2", "-o", "results.csv", program=self.folder / "slow")

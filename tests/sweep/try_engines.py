@@ -9,10 +9,11 @@ import sys
 import time
 import unittest
 from importlib.util import find_spec
+from unittest import mock
 
 from sweeping import PROGRAM, ROOT, SOLAR, TOOL, SweepTest, solar_sets, text_of
 
-SETS = text_of(solar_sets(1200))
+SETS = text_of(solar_sets(300))
 CLIENT = str(ROOT / "clients" / "python")
 
 
@@ -32,19 +33,19 @@ class EngineTest(SweepTest):
     def setUp(self) -> None:
         super().setUp()
         (self.folder / "sets.csv").write_text(SETS)
-        self.wanted = self.run_tool(SOLAR, "--out", "B10", "--jobs", "1", "--sets", "sets.csv").stdout
-        self.assertEqual(len(self.wanted.splitlines()), 1201)
+        self.wanted = self.run_apart(SOLAR, "--out", "B10", "--jobs", "1", "--sets", "sets.csv").stdout
+        self.assertEqual(len(self.wanted.splitlines()), 301)
 
     def arguments(self, *words: object) -> list[object]:
         return [SOLAR, "--out", "B10", "--sets", "sets.csv", *words]
 
-    def wait_for_chunks(self, count: int) -> None:
+    def wait_for_chunks(self, count: int, running: "subprocess.Popen[bytes]") -> None:
         end = time.monotonic() + 90
-        while time.monotonic() < end:
+        while time.monotonic() < end and running.poll() is None:
             if (self.folder / "work" / "done").exists() and len(self.done_files()) >= count:
                 return
             time.sleep(0.05)
-        self.fail(f"no {count} chunks in 90 seconds")
+        self.fail(f"no {count} chunks in 90 seconds, or the tool has ended: {running.poll()}")
 
     def begin(self, *words: object, program: object = PROGRAM) -> "subprocess.Popen[bytes]":
         running = subprocess.Popen(self.words(*self.arguments(*words)), cwd=self.folder, env=self.environment(program), stdin=subprocess.DEVNULL, stderr=subprocess.PIPE)
@@ -89,44 +90,48 @@ class DaskTest(EngineTest):
         return ["--engine", "dask", "--scheduler", self.address]
 
     def test_the_same_bytes(self) -> None:
-        ran = self.run_tool(*self.arguments(*self.dask()))
+        ran = self.run_apart(*self.arguments(*self.dask()))
         self.assertEqual((ran.returncode, ran.stdout), (0, self.wanted), ran.stderr)
 
     def test_a_worker_is_killed_and_another_comes(self) -> None:
         running = self.begin(*self.dask(), "--resume", "work", "-o", "results.csv", program=self.slow(0.3))
-        self.wait_for_chunks(3)
+        self.wait_for_chunks(3, running)
         self.workers[0].kill()
-        self.wait_for_chunks(7)
+        self.wait_for_chunks(7, running)
         self.worker()
+        self.quicken()
         _, said = running.communicate(timeout=120)
         self.assertEqual((running.returncode, self.results()), (0, self.wanted), said.decode())
 
     def test_the_tool_is_killed_and_goes_on_by_itself(self) -> None:
         running = self.begin(*self.dask(), "--resume", "work", "-o", "results.csv", program=self.slow(0.3))
-        self.wait_for_chunks(3)
+        self.wait_for_chunks(3, running)
         running.kill()
         running.wait()
         before = self.done_files()
-        ran = self.run_tool("--resume", "work", "--jobs", "2", "-o", "results.csv", program=self.folder / "slow")
+        self.quicken()
+        ran = self.run_apart("--resume", "work", "--jobs", "2", "-o", "results.csv", program=self.folder / "slow")
         self.assertEqual((ran.returncode, self.results()), (0, self.wanted), ran.stderr)
         after = self.done_files()
         self.assertEqual({it: after[it] for it in before}, before)
 
     def test_ctrl_c(self) -> None:
         running = self.begin(*self.dask(), "--resume", "work", "-o", "results.csv", program=self.slow(0.3))
-        self.wait_for_chunks(3)
+        self.wait_for_chunks(3, running)
         running.send_signal(signal.SIGINT)
         _, said = running.communicate(timeout=60)
         self.assertEqual(running.returncode, 130, said.decode())
         self.assertIn("--engine=dask", said.decode())
-        ran = self.run_tool("--resume", "work", *self.dask(), "-o", "results.csv", program=self.folder / "slow")
+        self.quicken()
+        ran = self.run_apart("--resume", "work", *self.dask(), "-o", "results.csv", program=self.folder / "slow")
         self.assertEqual((ran.returncode, self.results()), (0, self.wanted), ran.stderr)
 
     def test_no_scheduler(self) -> None:
         with socket.socket() as free:
             free.bind(("127.0.0.1", 0))
             address = f"tcp://127.0.0.1:{free.getsockname()[1]}"
-        ran = self.run_tool(*self.arguments("--engine", "dask", "--scheduler", address))
+        with mock.patch.dict(os.environ, DASK_DISTRIBUTED__COMM__TIMEOUTS__CONNECT="1s"):
+            ran = self.run_apart(*self.arguments("--engine", "dask", "--scheduler", address))
         self.assertEqual((ran.returncode, ran.stdout), (2, ""))
         self.assertIn("no Dask scheduler at", ran.stderr)
 
@@ -137,12 +142,12 @@ class SlurmTest(EngineTest):
         return ["--engine", "slurm", "--parts", "8", "--sbatch=--mem=100M", "--resume", "work", "-o", "results.csv"]
 
     def test_the_same_bytes(self) -> None:
-        ran = self.run_tool(*self.arguments(*self.slurm()))
+        ran = self.run_apart(*self.arguments(*self.slurm()))
         self.assertEqual((ran.returncode, self.results()), (0, self.wanted), ran.stderr)
 
     def test_parts_are_cancelled_and_only_these_are_done_again(self) -> None:
         running = self.begin(*self.slurm(), program=self.slow(1))
-        self.wait_for_chunks(5)
+        self.wait_for_chunks(5, running)
         job = (self.folder / "work" / "slurm.job").read_text()
         states = subprocess.run(["squeue", "--noheader", "--array", "--jobs", job, "--states=RUNNING", "--format=%i"], capture_output=True, text=True)
         cancelled = states.stdout.split()
@@ -151,7 +156,8 @@ class SlurmTest(EngineTest):
         self.assertEqual(running.returncode, 3, said.decode())
         self.assertFalse((self.folder / "results.csv").exists())
         before = self.done_files()
-        ran = self.run_tool("--resume", "work", *self.slurm()[:-4], "-o", "results.csv", program=self.folder / "slow")
+        self.quicken()
+        ran = self.run_apart("--resume", "work", *self.slurm()[:-4], "-o", "results.csv", program=self.folder / "slow")
         self.assertEqual((ran.returncode, self.results()), (0, self.wanted), ran.stderr)
         after = self.done_files()
         self.assertEqual({it: after[it] for it in before}, before)
@@ -163,17 +169,17 @@ class SlurmTest(EngineTest):
 
     def test_the_tool_is_stopped_and_comes_back_to_the_job(self) -> None:
         running = self.begin(*self.slurm(), program=self.slow(1))
-        self.wait_for_chunks(2)
+        self.wait_for_chunks(2, running)
         running.send_signal(signal.SIGINT)
         _, said = running.communicate(timeout=60)
         self.assertEqual(running.returncode, 130)
         self.assertRegex(said.decode(), "job [0-9]+ goes on without this program; scancel [0-9]+ ends it")
-        ran = self.run_tool("--resume", "work", *self.slurm()[:-4], "-o", "results.csv", program=self.folder / "slow")
+        ran = self.run_apart("--resume", "work", *self.slurm()[:-4], "-o", "results.csv", program=self.folder / "slow")
         self.assertEqual((ran.returncode, self.results()), (0, self.wanted), ran.stderr)
         self.assertRegex(ran.stderr, "job [0-9]+ goes on\n")
 
     def test_options_that_sbatch_doesnt_take(self) -> None:
-        ran = self.run_tool(*self.arguments(*self.slurm(), "--sbatch=--partition=none"))
+        ran = self.run_apart(*self.arguments(*self.slurm(), "--sbatch=--partition=none"))
         self.assertEqual(ran.returncode, 2)
         self.assertIn("sbatch: ", ran.stderr)
 
@@ -194,30 +200,30 @@ class MpiTest(EngineTest):
 @unittest.skipUnless(has("joblib"), "loky isn't installed")
 class LokyTest(EngineTest):
     def test_the_same_bytes(self) -> None:
-        ran = self.run_tool(*self.arguments("--executor", "joblib.externals.loky:get_reusable_executor"))
+        ran = self.run_apart(*self.arguments("--executor", "joblib.externals.loky:get_reusable_executor"))
         self.assertEqual((ran.returncode, ran.stdout), (0, self.wanted), ran.stderr)
 
 
 @unittest.skipUnless(shutil.which("parallel"), "GNU parallel isn't installed")
 class ParallelTest(EngineTest):
     def test_parts(self) -> None:
-        self.run_tool(*self.arguments("--resume", "work", "--plan"))
+        self.run_apart(*self.arguments("--resume", "work", "--plan"))
         line = ["parallel", "--will-cite", "-j2", *self.words("--resume", "work", "--jobs", "1", "--part", "{}/6"), ":::", *map(str, range(6))]
         ran = subprocess.run(line, cwd=self.folder, env=self.environment(HOME=str(self.folder)), capture_output=True, text=True, timeout=120)
         self.assertEqual((ran.returncode, ran.stdout), (0, ""), ran.stderr)
         before = self.done_files()
-        ran = self.run_tool("--resume", "work")
+        ran = self.run_apart("--resume", "work")
         self.assertEqual((ran.stdout, self.done_files()), (self.wanted, before))
 
 
 class NamedExecutorTest(EngineTest):
     def test_threads_by_their_name(self) -> None:
-        ran = self.run_tool(*self.arguments("--executor", "concurrent.futures:ThreadPoolExecutor"))
+        ran = self.run_apart(*self.arguments("--executor", "concurrent.futures:ThreadPoolExecutor"))
         self.assertEqual((ran.returncode, ran.stdout), (0, self.wanted))
 
     def test_names_that_arent_there(self) -> None:
         for name in ("none:Executor", "concurrent.futures:None_", "concurrent.futures", ""):
-            ran = self.run_tool(*self.arguments("--executor", name or ":"))
+            ran = self.run_apart(*self.arguments("--executor", name or ":"))
             self.assertEqual((ran.returncode, ran.stdout), (2, ""), name)
 
 

@@ -5,6 +5,7 @@ from __future__ import annotations
 import csv
 import io
 import numbers
+import re
 from collections.abc import Iterable, Sequence
 from dataclasses import dataclass
 from datetime import date, datetime
@@ -18,6 +19,7 @@ LARGEST = 2**127 - 1
 WHOLE_FLOAT = 2**53
 ALL_DIGITS = 17
 READABLE = 20
+PLAIN = re.compile(r"-?[0-9]+(\.[0-9]+)?")
 DAY = 24 * 60 * 60 * 10**9
 """A day in nanoseconds."""
 
@@ -76,11 +78,15 @@ class Spelling:
         >>> Spelling().plain(True), Spelling().plain(Fraction(1, 3)), Spelling().plain(1e-7)
         ('TRUE', '1/3', '0.0000001')
         """
+        if isinstance(value, float) and self.digits < ALL_DIGITS and value:
+            text = f"{value:.{self.digits}g}"
+            if PLAIN.fullmatch(text):
+                return text  # as most floats are; it is what the way below gives
         if is_truth_value(value):
             return "TRUE" if value else "FALSE"
         if isinstance(value, (numbers.Real, Decimal)) or is_date(value):
             number = self.exact(value)
-            text = shown(number)
+            text = str(number) if number.denominator == 1 else shown(number)
             return text if len(text) <= READABLE else str(number)
         raise TypeError(f"a cell can't hold {value!r} of type {type(value).__name__}: give a number, a bool, a str or None")
 

@@ -3,6 +3,7 @@
 from __future__ import annotations
 
 import importlib
+import sys
 import time
 from collections.abc import Callable
 from typing import Any, Optional
@@ -79,7 +80,7 @@ class Dask(Clients):
         if not address:
             raise WrongSweep("--engine dask needs --scheduler ADDRESS, such as tcp://host:8786")
         try:
-            client: Any = Client(address, timeout=20)
+            client: Any = Client(address)
         except (OSError, ValueError) as error:
             raise WrongSweep(f"no Dask scheduler at {address}: {error}") from None
         super().__init__(client)
@@ -96,10 +97,11 @@ def carry_along() -> None:
     """Lets cloudpickle carry the modules of a chunk to workers that don't have them."""
     try:
         import cloudpickle
-
-        cloudpickle.register_pickle_by_value(chunk)
     except ImportError:
-        pass
+        return
+    for name, module in list(sys.modules.items()):
+        if name == chunk.__name__ or name.startswith(f"{chunk.__name__}."):
+            cloudpickle.register_pickle_by_value(module)  # each by its name, as Dask looks for it
 
 
 def of(executor: Any, jobs: Optional[int]) -> Engine:
