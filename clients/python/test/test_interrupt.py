@@ -22,7 +22,7 @@ import subprocess, sys, time
 running = subprocess.Popen([{os.environ["WHATIF"]!r}], stdin=subprocess.PIPE, bufsize=0)
 for line in iter(sys.stdin.buffer.readline, b""):
     if line.startswith((b"show B9", b"changes", b"scenario whatif_py_trial B7")):
-        time.sleep(0.6)
+        time.sleep(0.4)
     running.stdin.write(line)
 running.stdin.close()
 sys.exit(running.wait())
@@ -41,14 +41,14 @@ class InterruptTest(unittest.TestCase):
         self.book["B1"] = 250
         self.book["B9"] = Formula("=[.B1]+[.B2]+[.B7]")
 
-    def interrupted(self, question: object, after: float = 0.2) -> None:
+    def interrupted(self, question: object, after: float = 0.1) -> None:
         """Asks, and interrupts."""
         timer = threading.Timer(after, lambda: os.kill(os.getpid(), signal.SIGINT))
         timer.start()
         try:
             with self.assertRaises(KeyboardInterrupt):
                 question()
-                time.sleep(2)
+                time.sleep(5)
         finally:
             timer.join()
 

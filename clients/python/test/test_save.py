@@ -1,5 +1,6 @@
 """`save` and `open`: the script of what was accepted makes the same workbook."""
 
+import sys
 import tempfile
 import unittest
 from fractions import Fraction
@@ -58,11 +59,8 @@ class HintsTest(unittest.TestCase):
         self.assertIn(caught.exception.hint or "-", str(caught.exception))
         return caught.exception.hint or ""
 
+    @unittest.skipIf(sys.version_info < (3, 10), "hints need Python 3.10")
     def test_hints(self) -> None:
-        from whatif import hints
-
-        if not hints.ARE_THERE:
-            self.skipTest("hints need Python 3.10")
         for line, part in (
             ("set C1 =B1*2", "write [.B1]"),
             ("set C1 =SUM([.B1],2)", "parted by ;"),

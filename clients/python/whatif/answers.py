@@ -9,7 +9,7 @@ from typing import Any
 
 from .addresses import columns_of, corners_of
 from .html import html_table
-from .values import Numbers, Value, as_numbers
+from .values import Numbers, Value, as_numbers, shown
 
 
 @dataclass(frozen=True)
@@ -181,8 +181,9 @@ class Sensitivity(Answer):
 
     def axes(self) -> Axes:
         name = self.labels.get(self.result, self.result)
-        heads = ["value", f"{name} at -{self.by}%", f"{name} at +{self.by}%", "spread"]
-        return Axes(f"{name} ({self.result}), each input {self.by}% lower and higher", "", named(self.cells, self.labels), "", heads, self.rows)
+        by = shown(self.by)
+        heads = ["value", f"{name} at -{by}%", f"{name} at +{by}%", "spread"]
+        return Axes(f"{name} ({self.result}), each input {by}% lower and higher", "", named(self.cells, self.labels), "", heads, self.rows)
 
 
 def named(cells: Sequence[str], labels: Mapping[str, str]) -> list[Value]:

@@ -2,39 +2,38 @@
 
 from __future__ import annotations
 
+import importlib
 import sys
 from collections.abc import Collection
 from pathlib import Path
-from typing import Optional
+from typing import Any, Optional
 
-PARENTS = Path(__file__).resolve().parents
-CHECKOUT = PARENTS[min(3, len(PARENTS) - 1)] / "tools"
+TOOLS = "whatif_tools"
+CHECKOUT = Path(__file__).resolve().parent.parent.parent.parent / "tools"
 
-try:
-    if (CHECKOUT / "whatif_tools" / "hints.py").exists():
+
+def tool(name: str) -> Any:
+    """A module of the tools: the installed one, or that of the repository."""
+    if (CHECKOUT / TOOLS).is_dir() and str(CHECKOUT) not in sys.path:
         sys.path.append(str(CHECKOUT))
-    from whatif_tools.formula import fault, is_formula
-    from whatif_tools.hints import BY_CODE, formula_hint, line_hint, name_hint
-    from whatif_tools.script import Command
-
-    ARE_THERE = True
-except (ImportError, TypeError):  # not installed, or a Python before 3.10
-    ARE_THERE = False
+    return importlib.import_module(f"{TOOLS}.{name}")
 
 
 def hint_for(code: str, line: str, scenarios: Collection[str]) -> Optional[str]:
     """What to write instead of a line that was refused so, if that is known; `scenarios` are those that were made."""
-    if not ARE_THERE:
+    try:
+        hints, formula, script = tool("hints"), tool("formula"), tool("script")
+    except (ImportError, TypeError):  # not installed, or a Python before 3.10
         return None
-    command = Command(1, line.encode(errors="replace"), ())
-    content = command.content
-    if code == "E05" and content is not None and is_formula(content):
-        found = fault(content)
-        return str(formula_hint(content, found.place)) if found else None
-    if code == "E02":
-        return str(line_hint(command, {}) or "") or None
-    if code == "E10":
+    command = script.Command(1, line.encode(errors="replace"), ())
+    if code == "E05" and command.content is not None and formula.is_formula(command.content):
+        found = formula.fault(command.content)
+        hint = found and hints.formula_hint(command.content, found.place)
+    elif code == "E02":
+        hint = hints.line_hint(command, {})
+    elif code == "E10":
         unknown = next((word for word in command.words[1:] if word.isidentifier() and word not in scenarios), "")
-        return str(name_hint(unknown, scenarios))
-    known: Optional[str] = BY_CODE.get(code)
-    return known
+        hint = hints.name_hint(unknown, scenarios)
+    else:
+        hint = hints.BY_CODE.get(code)
+    return str(hint) if hint else None
