@@ -114,8 +114,8 @@ class SweepTest(unittest.TestCase):
 
     def run_apart(self, *words: object, program: object = PROGRAM) -> "Ran[str]":
         """Runs the tool with these words, in a process of its own."""
-        environment = self.environment(program)
-        return subprocess.run(self.words(*words), stdin=subprocess.DEVNULL, capture_output=True, text=True, cwd=self.folder, env=environment, timeout=180)
+        streams = {"stdin": subprocess.DEVNULL, "capture_output": True, "text": True}
+        return subprocess.run(self.words(*words), cwd=self.folder, env=self.environment(program), timeout=180, **streams)
 
     def swept(self, sets: str, *words: object, model: object = None, out: str = "B4", program: object = PROGRAM) -> "Ran[str]":
         return self.run_tool(model or self.model, "--out", out, "--jobs", "2", *words, sets=sets, program=program)

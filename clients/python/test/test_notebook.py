@@ -29,7 +29,8 @@ def bill(consumption: int, third: str, tax: str = "0.19") -> Fraction:
 def beside_the_model() -> "Iterator[Path]":
     """A folder with the model, as the current one."""
     before = os.getcwd()
-    with tempfile.TemporaryDirectory() as folder, mock.patch.dict(os.environ, PYTHONPATH=str(CLIENT), MPLBACKEND="agg", PYDEVD_DISABLE_FILE_VALIDATION="1"):
+    settings = {"PYTHONPATH": str(CLIENT), "MPLBACKEND": "agg", "PYDEVD_DISABLE_FILE_VALIDATION": "1"}
+    with tempfile.TemporaryDirectory() as folder, mock.patch.dict(os.environ, settings):
         shutil.copy(EXAMPLES / "tariff.whatif", folder)
         os.chdir(folder)
         try:

@@ -8,21 +8,22 @@ RESERVED = "whatif_py_"
 
 
 class Journal:
-    """Follows the accepted commands."""
+    """Follows the accepted commands. Of the edits of a cell in a row of `set`s only the last is kept."""
 
     def __init__(self) -> None:
         self.session = "main"
         self.in_use: dict[str, str | None] = {}
         self.scenarios: dict[str, None] = {}
-        self.edits: list[tuple[str, bytes]] = []
+        self._edits: dict[tuple[int, str], tuple[str, bytes]] = {}
+        self._row = 0
 
     def accept(self, line: str, data: bytes) -> None:
         """Takes note of a command that was answered by `ok`.
 
         >>> journal = Journal()
-        >>> journal.accept("force set A1 5", b""); journal.accept("show A1", b""); journal.accept("scenario s A1 7", b"")
+        >>> for line in ("set A1 4", "force set B1 5", "set A1 6", "show A1", "scenario s A1 7", "set A1 8"): journal.accept(line, b"")
         >>> journal.script(), list(journal.scenarios)
-        ('set A1 5\\nscenario s A1 7\\n', ['s'])
+        ('set A1 6\\nset B1 5\\nscenario s A1 7\\nset A1 8\\n', ['s'])
         """
         words = line.split(None, 2)
         name = words[1] if len(words) > 1 else None
@@ -38,7 +39,9 @@ class Journal:
     def _edit(self, verb: str, name: str, line: str, data: bytes) -> None:
         if name.startswith(RESERVED):
             return
-        self.edits.append((line, data))
+        if verb != "set":
+            self._row += 2
+        self._edits[(self._row, name.upper()) if verb == "set" else (self._row - 1, "")] = line, data
         if verb == "scenario":
             self.scenarios[name] = None
         elif verb == "drop":
@@ -46,4 +49,4 @@ class Journal:
 
     def script(self) -> str:
         """The script of the accepted edits."""
-        return "".join(f"{line}\n{data.decode()}" for line, data in self.edits)
+        return "".join(f"{line}\n{data.decode()}" for line, data in self._edits.values())

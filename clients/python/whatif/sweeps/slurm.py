@@ -51,7 +51,8 @@ class Slurm:
         script = "\n".join(["#!/bin/sh", *lines, f"exec {shlex.join(tool)} --part $SLURM_ARRAY_TASK_ID/{self.parts}", ""])
         logs = self.folder.path / "logs"
         logs.mkdir(exist_ok=True)
-        asked = ["sbatch", "--parsable", "--job-name=whatif-sweep", f"--array={','.join(map(str, parts))}", "--cpus-per-task=1", f"--output={logs.resolve()}/%A_%a.log"]
+        wanted = [f"--array={','.join(map(str, parts))}", "--cpus-per-task=1", f"--output={logs.resolve()}/%A_%a.log"]
+        asked = ["sbatch", "--parsable", "--job-name=whatif-sweep", *wanted]
         try:
             sent = subprocess.run([*asked, *self.options], input=script, capture_output=True, text=True)
         except OSError as error:

@@ -85,8 +85,8 @@ def fields_of(line: bytes) -> list[str]:
         raise ValueError("a line break inside a field")
     try:
         return next(csv.reader([text], strict=True)) or [""]
-    except csv.Error:
-        raise ValueError("a quote that isn't closed, or has something behind it") from None
+    except csv.Error as error:
+        raise ValueError(f"no CSV: {error}") from None
 
 
 def line_of(fields: Iterable[str]) -> bytes:

@@ -59,7 +59,8 @@ def asked(job: Job, program: str, sets: list[Set]) -> tuple[list[bytes | Failure
         raise RuntimeError(f"the program was stopped: {died.how}")
     before = answer[: job.answered]
     if hashlib.sha256(before).hexdigest() != job.answer_sha256:
-        raise RuntimeError(f"the program ended before the first set: {died.how}" if died else "the model is answered otherwise than when the sweep was planned")
+        other = "the model is answered otherwise than when the sweep was planned"
+        raise RuntimeError(f"the program ended before the first set: {died.how}" if died else other)
     answers = list(Answers.of(job).read(answer, sets))
     if len(answers) < len(sets) and not died:
         raise RuntimeError(f"the program answered {len(answers)} of {len(sets)} sets, and ended with status 0")

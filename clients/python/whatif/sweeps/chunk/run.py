@@ -1,4 +1,4 @@
-"""The sets of a chunk, run: what it gives checks itself, wherever it travels. It is the SHA-256 of what follows, a line of JSON, the results, the failures."""
+"""The sets of a chunk, run. What it gives checks itself, wherever it travels: the SHA-256 of what follows, a line of JSON, results, failures."""
 
 from __future__ import annotations
 
