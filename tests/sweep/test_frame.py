@@ -1,13 +1,16 @@
 """`whatif.sweep`: a DataFrame or a list of rows in, the same out."""
 
+import os
 import random
 import unittest
 from concurrent.futures import Future, ThreadPoolExecutor
+from datetime import date
 from fractions import Fraction
 from importlib.util import find_spec
+from unittest import mock
 
 import whatif
-from sweeping import SOLAR, SOLAR_CELLS, SweepTest, left, solar_sets
+from sweeping import PROGRAM, SOLAR, SOLAR_CELLS, SweepTest, left, solar_sets
 
 
 def rows(count: int) -> list[dict[str, object]]:
@@ -44,6 +47,15 @@ class RowsTest(SweepTest):
             for executor in (None, threads, here):
                 self.assertEqual(whatif.sweep(self.model, given, ["B4", "B7"], executor), wanted)
         self.assertGreater(here.calls, 30)
+
+    def test_a_workbook_as_the_model(self) -> None:
+        with mock.patch.dict(os.environ, WHATIF="/none"), whatif.Workbook(PROGRAM, epoch=date(2026, 1, 1)) as book:
+            book.load(self.model)
+            book["B2"] = 2
+            found = whatif.sweep(book, [{"B1": 3}, {"B1": 0.1 + 0.2}, {"B1": date(2026, 1, 11)}], ["B4"], jobs=1, numbers=Fraction)
+        self.assertEqual(found, [{"B4": 6}, {"B4": Fraction(6, 10)}, {"B4": 20}])
+        with self.assertRaisesRegex(whatif.WrongSweep, "B1: row 0: .*is a date"):
+            whatif.sweep(self.model, [{"B1": date(2026, 1, 11)}], ["B4"])
 
     def test_kinds(self) -> None:
         given = [{"B1": 1, "B3": "=[.B1]", "C1": False}, {"B1": 2, "B3": '007 "x", y', "C1": True}]

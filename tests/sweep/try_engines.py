@@ -11,7 +11,7 @@ import unittest
 from importlib.util import find_spec
 from unittest import mock
 
-from sweeping import PROGRAM, ROOT, SOLAR, TOOL, SweepTest, solar_sets, text_of
+from sweeping import PROGRAM, ROOT, SOLAR, SweepTest, solar_sets, text_of
 
 SETS = text_of(solar_sets(300))
 CLIENT = str(ROOT / "clients" / "python")
@@ -127,6 +127,9 @@ class DaskTest(EngineTest):
         ran = self.run_apart("--resume", "work", *self.dask(), "-o", "results.csv", program=self.folder / "slow")
         self.assertEqual((ran.returncode, self.results()), (0, self.wanted), ran.stderr)
 
+
+@unittest.skipUnless(has("distributed"), "Dask isn't installed")
+class NoSchedulerTest(EngineTest):
     def test_no_scheduler(self) -> None:
         with socket.socket() as free:
             free.bind(("127.0.0.1", 0))
@@ -189,7 +192,7 @@ class SlurmTest(EngineTest):
 class MpiTest(EngineTest):
     def mpi(self, *words: object) -> list[str]:
         root = ["--allow-run-as-root"] if os.geteuid() == 0 else []
-        line = ["mpiexec", *root, "--oversubscribe", "-n", "3", sys.executable, "-m", "mpi4py.futures", TOOL]
+        line = ["mpiexec", *root, "--oversubscribe", "-n", "3", sys.executable, "-m", "mpi4py.futures", "-m", "whatif.sweeps"]
         return [str(it) for it in [*line, *self.arguments("--executor", "mpi4py.futures:MPIPoolExecutor", *words)]]
 
     def test_the_same_bytes(self) -> None:

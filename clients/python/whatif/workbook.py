@@ -29,9 +29,10 @@ class Workbook(Session):
     """
 
     def __init__(self, program: Optional[str] = None, keep: Optional[int] = None, digits: int = 15, epoch: Optional[date] = None) -> None:
-        words = [program or os.environ.get("WHATIF") or "whatif"]
-        process = Process(words if keep is None else [*words, "--keep", str(keep)])
-        super().__init__(process, Reader(process), Spelling(digits, epoch), "main")
+        self.program = program or os.environ.get("WHATIF") or "whatif"
+        self.spelling = Spelling(digits, epoch)
+        process = Process([self.program] if keep is None else [self.program, "--keep", str(keep)])
+        super().__init__(process, Reader(process), self.spelling, "main")
 
     @staticmethod
     def open(path: str | Path, program: Optional[str] = None, **more: Any) -> Workbook:

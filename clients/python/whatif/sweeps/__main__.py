@@ -1,5 +1,6 @@
-"""`python3 -m whatif.sweeps` is whatif-sweep."""
+"""`python3 -m whatif.sweeps` is whatif-sweep. Workers of MPI import this module, and must not run it."""
 
 from .command import command
 
-command()
+if __name__ == "__main__":
+    command()

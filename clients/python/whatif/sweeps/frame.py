@@ -42,7 +42,7 @@ def sweep(
     jobs: Optional[int] = None,
     numbers: Numbers = float,
     errors: str = "raise",
-    digits: int = 15,
+    digits: Optional[int] = None,
     epoch: Optional[date] = None,
 ) -> Any:
     """What the outputs show for each row of a frame, whose columns have the addresses of the cells that they are put into as names.
@@ -50,13 +50,15 @@ def sweep(
     The model is a script's path, or a workbook: what it has accepted. The frame is a DataFrame, and the answer one with the same index,
     the labels and the outputs; or it is a list of dicts, and the answer one too. Numbers are floats, or what `numbers` makes of a
     Fraction. The executor is any with the `submit` of concurrent.futures, or a Client of Dask; without one, `jobs` processes of this
-    machine. Rows without a result raise `SetsFailed`, or are left out if `errors` is "drop". Floats and dates go in as by `Workbook`.
+    machine. Rows without a result raise `SetsFailed`, or are left out if `errors` is "drop". Floats and dates go in as by `Workbook`, or
+    as by the workbook that is the model.
 
     whatif.sweep("solar.whatif", frame, ["B10", "B11"])
     """
     if errors not in ("raise", "drop"):
         raise ValueError('errors is "raise" or "drop"')
-    inputs = Inputs.of(frame, labels, Spelling(digits, epoch))
+    known = model.spelling if isinstance(model, Workbook) else Spelling()
+    inputs = Inputs.of(frame, labels, Spelling(digits or known.digits, epoch or known.epoch))
     plan = planned_for(model, inputs, outputs, scenario, program)
     answers, failures = ran_over(plan, inputs.lines, executor, jobs)
     if failures and errors == "raise":
@@ -67,10 +69,11 @@ def sweep(
 
 def planned_for(model: Union[str, Path, Workbook], inputs: Inputs, outputs: Sequence[str], scenario: Optional[str], program: Optional[str]) -> Plan:
     """The plan, if each column has what the model has in its cell."""
-    is_book = isinstance(model, Workbook)
-    script = model.script().encode() if isinstance(model, Workbook) else Path(model).read_bytes()
-    asked = Asked("workbook" if is_book else str(model), script, 0, list(inputs.kinds), outputs, scenario)
-    plan = planned(found_program(program), asked)
+    if isinstance(model, Workbook):
+        name, script, program = "workbook", model.script().encode(), program or model.program
+    else:
+        name, script = str(model), Path(model).read_bytes()
+    plan = planned(found_program(program), Asked(name, script, 0, list(inputs.kinds), outputs, scenario))
     for column in plan.job.columns:
         given = inputs.kinds[column.address]
         if column.kind not in ("-", given):
