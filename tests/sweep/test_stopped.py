@@ -130,14 +130,7 @@ class StoppedTest(SweepTest):
         self.assertEqual([pid for pid in workers if Path(f"/proc/{pid}").exists()], [])
         self.goes_on()
 
-    def test_a_worker_is_killed(self) -> None:
-        running = self.begun(0.2)
-        os.kill(children_of(running.pid)[0], signal.SIGKILL)
-        status, said = self.ended(running)
-        self.assertEqual(status, 0, said)
-        self.assertEqual((self.folder / "results.csv").read_text(), WANTED)
-
-    def test_workers_are_killed_again_and_again(self) -> None:
+    def test_workers_are_killed(self) -> None:
         running = self.begun(0.2)
         for _ in range(3):
             workers = children_of(running.pid)

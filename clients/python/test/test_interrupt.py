@@ -36,6 +36,7 @@ class InterruptTest(unittest.TestCase):
     def setUp(self) -> None:
         kept = tempfile.TemporaryDirectory()
         self.addCleanup(kept.cleanup)
+        self.folder = kept.name
         self.book = Workbook(slow_program(kept.name))
         self.addCleanup(self.book.close)
         self.book["B1"] = 250
@@ -90,6 +91,24 @@ class InterruptTest(unittest.TestCase):
         self.interrupted(lambda: self.book.show("B9"))
         self.book["B3"] = 5
         self.assertEqual(self.book.script(), "set B1 250\nset B9 =[.B1]+[.B2]+[.B7]\nset B3 5\n")
+
+
+    def test_a_script_goes_on_in_its_session(self) -> None:
+        ana = self.book.session("ana")
+        self.interrupted(lambda: ana.what_if("B9", {"B1": 400}))
+        self.assertEqual((ana.scenario_in_use, self.book.scenario_in_use), (None, None))
+        self.assertEqual(self.book.run("use\nshow B1\n"), [[], [["250"]]])
+        self.assertEqual(self.book._process.journal.session, "main")
+
+    def test_a_busy_program_is_ended_by_closing(self) -> None:
+        path = Path(self.folder, "busy")
+        path.write_text("#!/bin/sh\nread line\nexec sleep 60\n")
+        path.chmod(0o755)
+        book = Workbook(str(path))
+        self.interrupted(lambda: book.show("B9"))
+        began = time.monotonic()
+        self.assertEqual(book.close(), -signal.SIGTERM)
+        self.assertLess(time.monotonic() - began, 30)
 
 
 class TerminalTest(unittest.TestCase):

@@ -157,6 +157,13 @@ class ScenariosTest(WorkbookTest):
         self.assertEqual(self.book.scenarios("B4"), [[92, 140]])
         self.assertIsNone(self.book.scenario_in_use)
 
+    def test_scenarios_that_arent_there(self) -> None:
+        self.tariff()
+        for _ in range(70):
+            with self.refused("E10"):
+                self.book.scenarios("B4", ["wintr"])
+        self.assertEqual(self.book["B4"], 92)
+
     def test_one_without_a_replacement(self) -> None:
         with self.assertRaises(ValueError):
             self.book.scenario("empty", {})

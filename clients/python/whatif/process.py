@@ -72,8 +72,10 @@ class Process:
         self._late: list[tuple[str, str]] = []
 
     def close(self) -> int:
-        """Ends the input and waits for the program; the exit status."""
+        """Ends the input and waits for the program; the exit status. A program that is busy with what was interrupted is ended."""
         if self._state is not State.CLOSED:
+            if self._state is not State.READY:
+                self._program.terminate()
             self._state = State.CLOSED
             try:
                 self._commands.close()

@@ -4,6 +4,7 @@ from __future__ import annotations
 
 from .journal import RESERVED
 from .process import Process
+from .refusals import Refused
 from .values import Value, read_kind
 
 
@@ -26,6 +27,9 @@ class Reader:
                 self._values[address] = read_kind(kind, text)
             if scenario:
                 self._process.run(session, "use")
+        except Refused:
+            self._process.run(session, "use")
+            raise
         except BaseException:
             self._lost += 1
             self._values = {}

@@ -77,6 +77,7 @@ class Trial:
         end = (f"use {self._before}", f"drop {TRIAL}")
         if kind is not None and not issubclass(kind, Exception):
             self._process.later(self._session.name, *end)  # an interrupt: the last question isn't answered yet
+            self._process.journal.in_use[self._session.name] = self._before or None
             return
         for line in end:
             with suppress(Refused):

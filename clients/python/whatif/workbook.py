@@ -88,6 +88,7 @@ class Workbook(Session):
 
         book.run("set A1 1\\nshow A1\\n")   # [[], [["1"]]]
         """
+        self._process.make_ready()
         if self._process.journal.session != self.name:
             self._process.send(f"as {self.name}")
         answers = []
