@@ -15,6 +15,7 @@ from pathlib import Path
 from unittest import mock
 
 from whatif.sweeps.command import main
+from whatif.values import shown
 
 ROOT = Path(__file__).resolve().parents[2]
 TOOL = ROOT / "tools" / "whatif-sweep"
@@ -58,6 +59,12 @@ def left(size: str, part: str, price: str, cost: str) -> Fraction:
         income += rounded(Fraction(size) * 950 * output * kilowatt_hour, 2)
         output = rounded(output * Fraction("0.995"), 6)
     return income - Fraction(size) * Fraction(cost)
+
+
+def solar_result(line: str) -> str:
+    """The name in a line of sets, and what is left."""
+    name, *values = line.split(",")
+    return f"{name},{shown(left(*values))}"
 
 
 def text_of(lines: list[str]) -> str:

@@ -6,14 +6,17 @@ import signal
 import socket
 import subprocess
 import sys
+import tempfile
 import time
 import unittest
 from importlib.util import find_spec
 from unittest import mock
 
-from sweeping import PROGRAM, ROOT, SOLAR, SweepTest, solar_sets, text_of
+from sweeping import PROGRAM, ROOT, SOLAR, SweepTest, solar_result, solar_sets, text_of
 
 SETS = text_of(solar_sets(300))
+WANTED = text_of(["name,B10", *map(solar_result, SETS.splitlines()[1:])])
+"""What must come out, by Python's fractions."""
 CLIENT = str(ROOT / "clients" / "python")
 
 
@@ -33,8 +36,7 @@ class EngineTest(SweepTest):
     def setUp(self) -> None:
         super().setUp()
         (self.folder / "sets.csv").write_text(SETS)
-        self.wanted = self.run_apart(SOLAR, "--out", "B10", "--jobs", "1", "--sets", "sets.csv").stdout
-        self.assertEqual(len(self.wanted.splitlines()), 301)
+        self.wanted = WANTED
 
     def arguments(self, *words: object) -> list[object]:
         return [SOLAR, "--out", "B10", "--sets", "sets.csv", *words]
@@ -61,31 +63,35 @@ class EngineTest(SweepTest):
 class DaskTest(EngineTest):
     """A scheduler and workers, each a process of its own, on the loopback. The workers don't find this package."""
 
-    def setUp(self) -> None:
-        super().setUp()
+    @classmethod
+    def setUpClass(cls) -> None:
+        kept = tempfile.TemporaryDirectory()
+        cls.addClassCleanup(kept.cleanup)
+        cls.away = kept.name
         with socket.socket() as free:
             free.bind(("127.0.0.1", 0))
             port = free.getsockname()[1]
-        self.address = f"tcp://127.0.0.1:{port}"
-        self.scheduler = self.daemon("dask_scheduler", "--host", "127.0.0.1", "--port", str(port))
-        self.workers = [self.worker() for _ in range(2)]
+        cls.address = f"tcp://127.0.0.1:{port}"
+        cls.daemon("dask_scheduler", "--host", "127.0.0.1", "--port", str(port))
+        cls.workers = [cls.worker(), cls.worker()]
 
-    def daemon(self, name: str, *words: str) -> "subprocess.Popen[bytes]":
+    @classmethod
+    def daemon(cls, name: str, *words: str) -> "subprocess.Popen[bytes]":
         line = [sys.executable, "-m", f"distributed.cli.{name}", *words, "--no-dashboard"]
         environment = {name: value for name, value in os.environ.items() if name not in ("WHATIF", "PYTHONPATH")}
-        away = self.folder / "away"
-        away.mkdir(exist_ok=True)
-        running = subprocess.Popen(line, cwd=away, env=environment, stdin=subprocess.DEVNULL, stdout=subprocess.DEVNULL, stderr=subprocess.DEVNULL)
+        streams = dict.fromkeys(("stdin", "stdout", "stderr"), subprocess.DEVNULL)
+        running = subprocess.Popen(line, cwd=cls.away, env=environment, **streams)
 
         def end() -> None:
             running.kill()
             running.wait()
 
-        self.addCleanup(end)
+        cls.addClassCleanup(end)
         return running
 
-    def worker(self) -> "subprocess.Popen[bytes]":
-        return self.daemon("dask_worker", self.address, "--nthreads", "1", "--no-nanny", "--local-directory", str(self.folder / "away"))
+    @classmethod
+    def worker(cls) -> "subprocess.Popen[bytes]":
+        return cls.daemon("dask_worker", cls.address, "--nthreads", "1", "--no-nanny", "--local-directory", cls.away)
 
     def dask(self) -> list[object]:
         return ["--engine", "dask", "--scheduler", self.address]
@@ -97,9 +103,9 @@ class DaskTest(EngineTest):
     def test_a_worker_is_killed_and_another_comes(self) -> None:
         running = self.begin(*self.dask(), "--resume", "work", "-o", "results.csv", program=self.slow(0.3))
         self.wait_for_chunks(3, running)
-        self.workers[0].kill()
+        self.workers.pop().kill()
         self.wait_for_chunks(7, running)
-        self.worker()
+        self.workers.append(self.worker())
         self.quicken()
         _, said = running.communicate(timeout=120)
         self.assertEqual((running.returncode, self.results()), (0, self.wanted), said.decode())
