@@ -74,6 +74,26 @@ class SweepTest(unittest.TestCase):
         good = run("chunk", given=f"{self.lines[0]}\n{self.lines[1]}\n")
         self.assertEqual((ran.stdout, good.returncode), (good.stdout, 0))
 
+    def test_a_set_with_other_than_five_fields_has_no_result(self) -> None:
+        ran = run("chunk", given=f"{self.lines[0]}\nmany,80,10.9,0.20,0.24,1743\nfew,5,0.3,0.2\n{self.lines[1]}\n")
+        self.assertEqual((ran.returncode, ran.stderr), (1, "many: 6 fields, not 5\nfew: 4 fields, not 5\n"))
+        self.assertEqual(ran.stdout, run("chunk", given=f"{self.lines[0]}\n{self.lines[1]}\n").stdout)
+
+    def test_the_tool_gives_what_a_chunk_gives(self) -> None:
+        """The commands of README.md, on fewer sets."""
+        page = (SWEEP / "README.md").read_text()
+        made, swept = re.search(r"^    (\(echo .*> sets.csv)\n    (.*whatif-sweep .*> results.csv)$", page, re.MULTILINE).groups()
+        with tempfile.TemporaryDirectory() as folder:
+            script = f"set -e\n{made.replace('100000', '300').replace('./sets', str(SWEEP / 'sets'))}\n{swept}\n"
+            script = script.replace("../../tools", str(EXAMPLES.parent / "tools")).replace("model.whatif", str(SWEEP / "model.whatif"))
+            environment = {**os.environ, "WHATIF": PROGRAM}
+            subprocess.run(["bash", "-c", script], cwd=folder, env=environment, capture_output=True, check=True, timeout=60)
+            head, *results = Path(folder, "results.csv").read_text().splitlines()
+        whole = run("chunk", given="\n".join(run("sets", "300").stdout.splitlines()) + "\n")
+        self.assertEqual((head, results), ("name,B10", whole.stdout.splitlines()))
+        self.assertEqual(len(results), 300)
+        self.assertTrue(all(line in page for line in ["name,B10", *results[:2]]))
+
     @unittest.skipUnless(shutil.which("parallel"), "GNU parallel isn't installed")
     def test_chunks_by_gnu_parallel(self) -> None:
         """The command of README.md, on as many sets as make several chunks."""

@@ -7,7 +7,8 @@ import unittest
 from pathlib import Path
 
 from whatif import Ended, Refused, Workbook
-from whatif.process import MEANINGS, commands_of
+from whatif.refusals import MEANINGS
+from whatif.script import commands_of
 
 
 def stand_in(folder: str, script: str) -> str:
@@ -38,8 +39,16 @@ class EndedTest(unittest.TestCase):
             self.assertEqual(caught.exception.status, 3)
 
     def test_a_program_that_is_not_there(self) -> None:
-        with self.assertRaises(FileNotFoundError):
+        with self.assertRaisesRegex(FileNotFoundError, "/nowhere/whatif: no such program.*WHATIF"):
             Workbook("/nowhere/whatif")
+
+    def test_a_closed_book(self) -> None:
+        with Workbook() as book:
+            book["A1"] = 1
+        for use in (lambda: book["A1"], lambda: book.set("A1", 1), lambda: book.what_if("A1", {"A1": 2})):
+            with self.assertRaisesRegex(RuntimeError, "this workbook is closed"):
+                use()
+        self.assertEqual(book.close(), 0)
 
     def test_a_program_that_was_killed(self) -> None:
         book = Workbook()
@@ -72,12 +81,6 @@ class EndedTest(unittest.TestCase):
         book = Workbook()
         book.set("A1", 1)
         self.assertEqual(book.close(), 0)
-
-    def test_an_interrupted_command_leaves_no_wrong_replies(self) -> None:
-        with Workbook() as book:
-            book._process._is_waiting = True
-            with self.assertRaisesRegex(RuntimeError, "interrupted"):
-                book.show("A1")
 
 
 class LargeTest(unittest.TestCase):

@@ -1,178 +1,10 @@
-"""Cells, what-ifs, scenarios and sessions, on the program. Numbers are worked out by hand or by Python's fractions."""
+"""What-ifs, scenarios and sessions, on the program. Numbers are worked out by hand or by Python's fractions."""
 
 import unittest
-from decimal import Decimal
 from fractions import Fraction
 
-from whatif import CellError, Change, Difference, Refused, Session, Text, Workbook
-
-
-class WorkbookTest(unittest.TestCase):
-    def setUp(self) -> None:
-        self.book = Workbook()
-        self.addCleanup(self.book.close)
-
-    def tariff(self) -> None:
-        """A bill in B4: consumption B1 times price B2, and a fee B3."""
-        self.book.put("A1", [["consumption", 250], ["price", Decimal("0.32")], ["fee", 12]])
-        self.book.set_formula("B4", "=[.B1]*[.B2]+[.B3]")
-
-    def refused(self, code: str, place: object = None) -> object:
-        """Expects a refusal of that code, and of that place if it is given."""
-        test = self
-
-        class Expected:
-            def __enter__(self) -> None:
-                pass
-
-            def __exit__(self, kind: object, error: object, trace: object) -> bool:
-                test.assertIsInstance(error, Refused)
-                test.assertEqual(error.code, code)
-                if place:
-                    test.assertEqual(error.place, place)
-                return True
-
-        return Expected()
-
-
-class CellsTest(WorkbookTest):
-    VALUES = [
-        3,
-        Fraction(1, 3),
-        Fraction(-5, 2),
-        True,
-        False,
-        None,
-        "rent",
-        "5",
-        "007",
-        "TRUE",
-        "#N/A",
-        "",
-        "'tis",
-        " two  spaces ",
-        'a "quoted" word',
-        "a,b;c",
-        "two\nlines",
-        "a\r\nb\r",
-        "end\r",
-        "ok\n",
-        'refused E05\n"',
-        "\ufeffmark",
-        "# no comment",
-        Text("=1+1"),
-        Text("of:=1"),
-        "gr\u00fc\u00dfe \U0001f35e",
-    ]
-
-    def test_set_and_value(self) -> None:
-        for value in self.VALUES:
-            with self.subTest(value):
-                self.book.set("C3", value)
-                self.assert_same(self.book.value("C3"), value)
-
-    def test_put_and_values(self) -> None:
-        self.book.put("B2", [self.VALUES, self.VALUES[::-1]])
-        columns = len(self.VALUES)
-        shown = self.book.values(f"B2:{self.column(columns + 1)}3")
-        for row, wanted in zip(shown, (self.VALUES, self.VALUES[::-1])):
-            for value, other in zip(row, wanted):
-                self.assert_same(value, other)
-
-    def assert_same(self, value: object, wanted: object) -> None:
-        """Equal, and of one kind: True isn't 1."""
-        self.assertEqual(value, wanted)
-        self.assertEqual(isinstance(value, bool), isinstance(wanted, bool))
-        self.assertEqual(isinstance(value, str), isinstance(wanted, str))
-
-    @staticmethod
-    def column(number: int) -> str:
-        from whatif.values import column_name
-
-        return column_name(number)
-
-    def test_floats_are_the_decimals_that_they_print_as(self) -> None:
-        self.book.put("A1", [[0.1, 0.2, 1e-7]])
-        self.book.set_formula("A2", "=[.A1]+[.B1]")
-        self.assertEqual(self.book.show("A1:C1"), [["0.1", "0.2", "0.0000001"]])
-        self.assertEqual(self.book.value("A2"), Fraction(3, 10))
-
-    def test_kinds_of_formulas(self) -> None:
-        formulas = {
-            '="5"&""': "5",
-            "=2+3": Fraction(5),
-            "=1=1": True,
-            '="TRUE"&""': "TRUE",
-            "=NA()": CellError("#N/A"),
-            '="#N/A"&""': "#N/A",
-            '=""&""': "",
-            "=1/0": CellError("#DIV/0!"),
-        }
-        for formula, wanted in formulas.items():
-            with self.subTest(formula):
-                self.book.set_formula("A1", formula)
-                self.assert_same(self.book.value("A1"), wanted)
-                self.assertEqual(self.book.formula("A1"), formula)
-
-    def test_a_bad_value_in_a_table_changes_nothing(self) -> None:
-        self.book.set("A1", "before")
-        for bad in (float("nan"), 2**127, object(), "=1+1", CellError("#N/A"), "\ud800"):
-            with self.subTest(bad), self.assertRaises((TypeError, ValueError)) as caught:
-                self.book.put("A1", [["after", 1], [2, bad]])
-            if bad != "\ud800":
-                self.assertIn("B2", str(caught.exception))
-        self.assertEqual(self.book.show("A1:B2"), [["before", ""], ["", ""]])
-
-    def test_a_bad_value_in_a_cell(self) -> None:
-        for bad in (float("inf"), Fraction(1, 2**127), "=A1"):
-            with self.subTest(bad), self.assertRaises(ValueError):
-                self.book.set("A1", bad)
-        self.assertIsNone(self.book.value("A1"))
-
-    def test_a_row_without_values_is_refused(self) -> None:
-        with self.assertRaisesRegex(ValueError, "row 2"):
-            self.book.put("A1", [[1], [], [3]])
-        self.book.put("A1", [[1], [None], [3]])
-        self.assertEqual(self.book.show("A1:A3"), [["1"], [""], ["3"]])
-
-    def test_nothing_to_put(self) -> None:
-        self.book.put("A1", [])
-        self.assertEqual(self.book.show("A1"), [[""]])
-
-    def test_clear_and_fill(self) -> None:
-        self.book.put("A1", [[1], [2], [3]])
-        self.book.set_formula("B1", "=[.A1]*10")
-        self.book.fill("B1", "B2:B3")
-        self.assertEqual(self.book.values("B1:B3"), [[10], [20], [30]])
-        self.book.clear("A2")
-        self.assertEqual(self.book.values("A2:B2"), [[None, 0]])
-
-    def test_a_refused_command_among_many(self) -> None:
-        for row in range(1, 101):
-            if row == 50:
-                with self.refused("E05", "A50"):
-                    self.book.set_formula("A50", "=A1+1")
-            else:
-                self.book.set(f"A{row}", row)
-        self.book.set_formula("B1", "=SUM([.A1:.A100])")
-        self.assertEqual(self.book.value("B1"), 5050 - 50)
-
-    def test_refusals_say_what_and_where(self) -> None:
-        with self.refused("E04", "ZZZ1"):
-            self.book.set("ZZZ1", 1)
-        with self.refused("E15", "A1:Z9999"):
-            self.book.show("A1:Z9999")
-        with self.refused("E02"):
-            self.book.command("sett A1 1")
-
-    def test_one_command_is_one_line(self) -> None:
-        for line in ("show A1\nclear A1", "csv A1 2", "csv A1 2\n1\n2"):
-            with self.assertRaises(ValueError):
-                self.book.command(line)
-        self.assertEqual(self.book.command("# a comment"), [])
-        self.assertEqual(self.book.command("  "), [])
-        with self.assertRaises(ValueError):
-            self.book.set_formula("A1", "=1\nclear A1")
+from books import WorkbookTest
+from whatif import Change, Difference, Formula, Session
 
 
 class WhatIfTest(WorkbookTest):
@@ -180,6 +12,37 @@ class WhatIfTest(WorkbookTest):
         self.tariff()
         self.assertEqual(self.book.what_if("B4", {"B1": 400, "B2": 0.28}), 400 * Fraction(28, 100) + 12)
         self.assertEqual(self.book.value("B4"), 92)
+
+    def test_what_if_of_several(self) -> None:
+        self.tariff()
+        self.book["B5"] = Formula("=[.B4]/[.B1]")
+        self.assertEqual(self.book.what_if(["B4", "B5"], {"B1": 400}), [140, Fraction(140, 400)])
+        self.assertEqual(self.book.what_if([], {"B1": 400}), [])
+        self.assertIsNone(self.book.scenario_in_use)
+
+    def test_sensitivity(self) -> None:
+        """A tenth more or less of 250, of 0.32 and of 12, worked out by hand."""
+        self.tariff()
+        found = self.book.sensitivity("B4", by=10)
+        wanted = [("B1", 84, 100, 16), ("B2", 84, 100, 16), ("B3", Fraction("90.8"), Fraction("93.2"), Fraction("2.4"))]
+        self.assertEqual([(it.address, it.low, it.high, it.spread) for it in found], wanted)
+        self.assertEqual((found.result, found.by, found.labels["B2"]), ("B4", 10, "price"))
+        self.assertEqual([it.address for it in self.book.sensitivity("B4", by=1, inputs=["B3"])], ["B3"])
+        with self.assertRaisesRegex(ValueError, "A1 shows consumption: no number"):
+            self.book.sensitivity("B4", inputs=["A1"])
+
+    def test_inputs_are_found_through_formulas_and_rectangles(self) -> None:
+        self.book["A1"] = [[1], [2], ["x"], [Formula("=SUM([.A1:.A3])")], [5]]
+        self.book["B1"] = Formula("=[.$A$4]*[.A5]&\"[.A9]\"")
+        self.assertEqual({it.address for it in self.book.sensitivity("B1")}, {"A5", "A1", "A2"})
+
+    def test_labels(self) -> None:
+        self.tariff()
+        self.book["C5"] = "above"
+        self.book["B6"] = [1, 2]
+        wanted = {"B1": "consumption", "C6": "above"}
+        self.assertEqual(self.book.labels(["B1", "B4", "C6"]), wanted)
+        self.assertEqual(self.book.labels(["B1", "ZZ9999"]), {})
 
     def test_table_over_cells(self) -> None:
         self.tariff()
@@ -282,6 +145,25 @@ class ScenariosTest(WorkbookTest):
         with self.refused("E10"):
             self.book.use("winter")
 
+    def test_side_by_side(self) -> None:
+        self.tariff()
+        winter = self.book.scenario("winter", {"B1": 400})
+        self.book.scenario("saver", {"B2": 0.28}, base=winter)
+        found = self.book.scenarios("B1:B4")
+        wanted = [[250, 400, 400], [Fraction(8, 25), Fraction(8, 25), Fraction(7, 25)], [12, 12, 12], [92, 140, 124]]
+        self.assertEqual((found, found.names, found.cells), (wanted, ["sheet", "winter", "saver"], ["B1", "B2", "B3", "B4"]))
+        self.assertEqual(self.book.scenarios("B4", [winter]), [[140]])
+        self.book.command("drop saver")
+        self.assertEqual(self.book.scenarios("B4"), [[92, 140]])
+        self.assertIsNone(self.book.scenario_in_use)
+
+    def test_scenarios_that_arent_there(self) -> None:
+        self.tariff()
+        for _ in range(70):
+            with self.refused("E10"):
+                self.book.scenarios("B4", ["wintr"])
+        self.assertEqual(self.book["B4"], 92)
+
     def test_one_without_a_replacement(self) -> None:
         with self.assertRaises(ValueError):
             self.book.scenario("empty", {})
@@ -337,46 +219,6 @@ class SessionsTest(WorkbookTest):
         ana = self.book.session("ana")
         self.assertEqual((ana.scenario_in_use, self.book.scenario_in_use), ("winter", None))
         self.assertEqual((self.book.value("B4"), ana.value("B4")), (92, 140))
-
-
-try:
-    import numpy
-    import pandas
-except ImportError:
-    pandas = None
-
-
-@unittest.skipIf(pandas is None, "pandas isn't installed")
-class PandasTest(WorkbookTest):
-    def test_frame_in_and_out(self) -> None:
-        frame = pandas.DataFrame(
-            {"item": ["bolt, M6", "007"], "price": [0.12, 1e-7], "pieces": [400, 3], "in stock": [True, False]}
-        )
-        self.book.put("B2", frame)
-        self.assertEqual(self.book.values("B3:E3"), [["bolt, M6", Fraction(3, 25), 400, True]])
-        self.assertEqual(self.book.values("B4:E4"), [["007", Fraction(1, 10**7), 3, False]])
-        back = self.book.frame("B2:E4")
-        self.assertEqual(list(back.columns), list(frame.columns))
-        self.assertEqual(back.values.tolist(), frame.values.tolist())
-        exact = self.book.frame("B2:E4", exact=True)
-        self.assertEqual(exact["price"][0], Fraction(3, 25))
-
-    def test_missing_values_are_refused_with_their_place(self) -> None:
-        for missing in (float("nan"), pandas.NA, pandas.NaT, numpy.inf):
-            frame = pandas.DataFrame({"a": [1, 2], "b": pandas.Series([1, missing], dtype=object)})
-            with self.assertRaisesRegex((TypeError, ValueError), "^B3: "):
-                self.book.put("A1", frame)
-
-    def test_numbers_of_numpy(self) -> None:
-        for value, wanted in (
-            (numpy.int64(7), 7),
-            (numpy.uint8(255), 255),
-            (numpy.float64(0.1), Fraction(1, 10)),
-            (numpy.float32(0.5), Fraction(1, 2)),
-            (numpy.bool_(True), True),
-        ):
-            self.book.set("A1", value)
-            self.assertEqual(self.book.value("A1"), wanted)
 
 
 if __name__ == "__main__":

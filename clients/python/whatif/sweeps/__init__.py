@@ -1,0 +1,1 @@
+"""Sweeps: many sets of parameters through one model, on any engine."""

@@ -1,0 +1,114 @@
+"""A sweep over a DataFrame, or over a list of rows."""
+
+from __future__ import annotations
+
+import csv
+import io
+from collections.abc import Sequence
+from datetime import date
+from pathlib import Path
+from typing import Any, Optional, Union
+
+from ..spelling import Spelling
+from ..values import Numbers, as_numbers, read
+from ..workbook import Workbook
+from . import executors
+from .chunk.run import checked, key_of, run_chunk
+from .drive import Executor, Run
+from .folder import LARGEST_CHUNK, LEAST_CHUNKS
+from .head import WrongSweep
+from .inputs import KINDS, Inputs
+from .plan import Asked, Plan, found_program, planned
+
+
+class SetsFailed(Exception):
+    """Rows without a result: `failures` has the place of each in the frame, counted from 0, and the reason."""
+
+    def __init__(self, failures: dict[int, str]) -> None:
+        self.failures = failures
+        place, reason = next(iter(failures.items()))
+        super().__init__(f"{len(failures)} rows have no result; the first is row {place}: {reason}")
+
+
+def sweep(
+    model: Union[str, Path, Workbook],
+    frame: Any,
+    outputs: Sequence[str],
+    executor: Optional[Executor] = None,
+    *,
+    labels: Sequence[str] = (),
+    scenario: Optional[str] = None,
+    program: Optional[str] = None,
+    jobs: Optional[int] = None,
+    numbers: Numbers = float,
+    errors: str = "raise",
+    digits: Optional[int] = None,
+    epoch: Optional[date] = None,
+) -> Any:
+    """What the outputs show for each row of a frame, whose columns have the addresses of the cells that they are put into as names.
+
+    The model is a script's path, or a workbook: what it has accepted. The frame is a DataFrame, and the answer one with the same index,
+    the labels and the outputs; or it is a list of dicts, and the answer one too. Numbers are floats, or what `numbers` makes of a
+    Fraction. The executor is any with the `submit` of concurrent.futures, or a Client of Dask; without one, `jobs` processes of this
+    machine. Rows without a result raise `SetsFailed`, or are left out if `errors` is "drop". Floats and dates go in as by `Workbook`, or
+    as by the workbook that is the model.
+
+    whatif.sweep("solar.whatif", frame, ["B10", "B11"])
+    """
+    if errors not in ("raise", "drop"):
+        raise ValueError('errors is "raise" or "drop"')
+    known = model.spelling if isinstance(model, Workbook) else Spelling()
+    inputs = Inputs.of(frame, labels, Spelling(digits or known.digits, epoch or known.epoch))
+    plan = planned_for(model, inputs, outputs, scenario, program)
+    answers, failures = ran_over(plan, inputs.lines, executor, jobs)
+    if failures and errors == "raise":
+        raise SetsFailed(dict(sorted(failures.items())))
+    places = sorted(answers)
+    return inputs.answer(places, plan.outputs, [[as_numbers(read(text), numbers) for text in answers[it]] for it in places])
+
+
+def planned_for(model: Union[str, Path, Workbook], inputs: Inputs, outputs: Sequence[str], scenario: Optional[str], program: Optional[str]) -> Plan:
+    """The plan, if each column has what the model has in its cell."""
+    if isinstance(model, Workbook):
+        name, script, program = "workbook", model.script().encode(), program or model.program
+    else:
+        name, script = str(model), Path(model).read_bytes()
+    plan = planned(found_program(program), Asked(name, script, 0, list(inputs.kinds), outputs, scenario))
+    for column in plan.job.columns:
+        given = inputs.kinds[column.address]
+        if column.kind not in ("-", given):
+            raise WrongSweep(f"{column.address}: the frame has {KINDS[given]}, and the model {KINDS[column.kind]}")
+    return plan.of_kinds(inputs.kinds)
+
+
+def ran_over(plan: Plan, lines: Sequence[str], executor: Optional[Executor], jobs: Optional[int]) -> tuple[dict[int, list[str]], dict[int, str]]:
+    """What the outputs show for each line, and why a line has no result."""
+    job = plan.job.to_bytes()
+    size = max(1, min(LARGEST_CHUNK, plan.most_sets(), len(lines) // LEAST_CHUNKS))
+    answers: dict[int, list[str]] = {}
+    failures: dict[int, str] = {}
+
+    def data(at: int) -> bytes:
+        return "".join(lines[at : at + size]).encode()
+
+    def keep(at: int, given: bytes) -> None:
+        done = checked(key_of(job, at, data(at)), given)
+        if done is None:
+            raise RuntimeError("the results came damaged")
+        failed = {int(place): reason for place, _, reason in records(done.failures)}
+        failures.update(failed)
+        places = (it for it in range(at, at + size) if it not in failed)
+        answers.update(zip(places, records(done.results)))
+
+    engine = executors.of(executor, jobs)
+    try:
+        given_up = Run(engine, lambda at: (run_chunk, job, plan.program, at, data(at)), keep).all(range(0, len(lines), size))
+    finally:
+        engine.close()
+    if given_up:
+        raise RuntimeError(f"{len(given_up)} chunks have no results; the first is that of row {given_up[0][0]}: {given_up[0][1]}")
+    return answers, failures
+
+
+def records(written: bytes) -> list[list[str]]:
+    return list(csv.reader(io.StringIO(written.decode(), newline="")))
