@@ -80,7 +80,10 @@ def put(top: Path, names: list[str], at: str, to: Path) -> None:
 def help_of(program: Path) -> str:
     """What a program says when it is asked for help, as on a terminal of 80 columns."""
     environment = {**os.environ, "COLUMNS": "80", "LC_ALL": "C.UTF-8"}
-    asked = subprocess.run([str(program), "--help"], capture_output=True, text=True, env=environment, stdin=subprocess.DEVNULL, timeout=SECONDS)
+    try:
+        asked = subprocess.run([str(program), "--help"], capture_output=True, text=True, env=environment, stdin=subprocess.DEVNULL, timeout=SECONDS)
+    except (OSError, subprocess.TimeoutExpired) as error:
+        raise NoHelp(f"{program} --help: {error}") from error
     if asked.returncode or not asked.stdout:
         raise NoHelp(f"{program} --help gives no help, of which its manual page is made: {asked.stderr.strip()}")
     return asked.stdout

@@ -74,7 +74,9 @@ what it does
         words = [str(ROOT / "tools" / "release"), "--program", program(), "--man"]
         shown = subprocess.run([*words, "whatif-check"], capture_output=True, text=True)
         self.assertTrue(shown.stdout.startswith('.TH WHATIF\\-CHECK 1 "'), shown.stderr)
-        self.assertEqual(subprocess.run([*words, "nothing"], capture_output=True, text=True).returncode, 1)
+        for other in ([*words, "nothing"], [words[0], "--program", "/no/program", "--man", "whatif-check"]):
+            refused = subprocess.run(other, capture_output=True, text=True)
+            self.assertEqual((refused.returncode, refused.stderr[:9], refused.stderr.count("\n")), (1, "release: ", 1))
 
 
 class TheRepository(unittest.TestCase):
