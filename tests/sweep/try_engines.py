@@ -10,8 +10,10 @@ import tempfile
 import time
 import unittest
 from importlib.util import find_spec
+from pathlib import Path
 from unittest import mock
 
+import slurm_node
 from sweeping import PROGRAM, ROOT, SOLAR, SweepTest, solar_result, solar_sets, text_of
 
 SETS = text_of(solar_sets(300))
@@ -22,14 +24,6 @@ CLIENT = str(ROOT / "clients" / "python")
 
 def has(*modules: str) -> bool:
     return all(find_spec(it) for it in modules)
-
-
-def slurm_answers() -> bool:
-    """Whether there is a Slurm with a node that takes jobs."""
-    if not shutil.which("sbatch"):
-        return False
-    asked = subprocess.run(["sinfo", "--noheader", "--format=%t"], capture_output=True, text=True)
-    return asked.returncode == 0 and any(it in asked.stdout for it in ("idle", "mix", "alloc"))
 
 
 class EngineTest(SweepTest):
@@ -146,8 +140,26 @@ class NoSchedulerTest(EngineTest):
         self.assertIn("no Dask scheduler at", ran.stderr)
 
 
-@unittest.skipUnless(slurm_answers(), "no Slurm answers")
+@unittest.skipUnless(slurm_node.answers() or slurm_node.is_installed(), "Slurm isn't installed")
 class SlurmTest(EngineTest):
+    """The Slurm that is there, or else one of our own on the loopback."""
+
+    @classmethod
+    def setUpClass(cls) -> None:
+        if slurm_node.answers():
+            return
+        kept = tempfile.TemporaryDirectory()
+        cls.addClassCleanup(kept.cleanup)
+        node = slurm_node.Node(Path(kept.name))
+        environment = mock.patch.dict(os.environ)
+        environment.start()
+        cls.addClassCleanup(environment.stop)
+        cls.addClassCleanup(node.end)
+        try:
+            node.begin()
+        except RuntimeError as error:
+            raise unittest.SkipTest(f"Slurm doesn't begin here: {error}") from None
+
     def slurm(self) -> list[object]:
         return ["--engine", "slurm", "--parts", "8", "--sbatch=--mem=100M", "--resume", "work", "-o", "results.csv"]
 
