@@ -1,5 +1,5 @@
 -- What questions cost, one after another, and on a walk through cells.
-use Rattle.wi_reports.proofs.Words.{◌≡◌, ℕ, ◌+◌, ◌-◌, ◌<◌, ◌≤◌, suc, add-one, List, [], ◌∷◌, ◌++◌, length, map, sym, ap, ◌∙◌, subst, arith, sum_by, sum_by-append, length-append, flat_map, flat_map-append, range_with_len, Area, place, column_of, cells_of_row, is_column, true, Sheet, Case, wants, Stored, Costs}
+use Rattle.wi_reports.proofs.Words.{◌≡◌, ℕ, ◌+◌, ◌-◌, ◌<◌, ◌≤◌, add-one, List, ◌∷◌, ◌++◌, length, map, sym, ap, ◌∙◌, subst, arith, sum_by, sum_by-append, length-append, flat_map, flat_map-append, range_with_len, Area, place, column_of, cells_of_row, is_column, true, Sheet, Case, wants, Stored, Costs}
 use Rattle.wi_reports.proofs.RowLemmas.{rows_from, cells_in, row_of_column}
 
 -- one question is asked

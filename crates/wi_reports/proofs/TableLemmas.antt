@@ -1,5 +1,5 @@
 -- The records of a table, as they grow.
-use Rattle.wi_reports.proofs.Words.{◌≡◌, ℕ, ◌+◌, ◌-◌, true, List, [], ◌∷◌, ◌++◌, map, Option, Result, Ok, Err, OnOk, sym, ap, ◌∙◌, arith, flat_map, range_with_len, flat_map_more, eqb-true, Area, place, column_of, cells_of_row, Replacement, Stored, row, is_column, table_row}
+use Rattle.wi_reports.proofs.Words.{◌≡◌, ℕ, ◌+◌, true, List, [], ◌∷◌, ◌++◌, map, Option, Result, Ok, Err, OnOk, sym, ap, ◌∙◌, flat_map, flat_map_more, Area, place, column_of, Replacement, Stored, row, is_column, table_row}
 use Rattle.wi_reports.proofs.RowLemmas.{rows_from, one_row, row_of_column}
 
 -- ---- records

@@ -1,5 +1,5 @@
 -- What `changes` answers, and that pictures are right after it.
-use Rattle.wi_scenarios.proofs.Words.{◌≡◌, ◌≢◌, ◌<◌, ◌≤◌, ◌+◌, ℕ, zero, suc, Bool, true, false, List, [], ◌∷◌, length, get_or, set, refl, sym, ap, subst, ◌∙◌, ⊎_elim, cases_eq, false≢true, get_or-set_same, get_or-set_other, length-set, nil_from_length, Value, Replacement, Sheet, Stored, shown, effective, value_in, sheet_size, is_one_of, Rises, changes_among, Session, new_session, told, session_at, pending_of, any_cells, picture_is_shown, Scenario, shown_to, change_list, Desk, state_of, pending_in, IsUpToDate, AreCovered, AreClosed, IsSound, IsTold}
+use Rattle.wi_scenarios.proofs.Words.{◌≡◌, ◌≢◌, ◌<◌, ◌≤◌, ℕ, zero, suc, Bool, true, false, List, [], ◌∷◌, length, get_or, set, refl, sym, ap, subst, ◌∙◌, ⊎_elim, cases_eq, false≢true, get_or-set_same, get_or-set_other, length-set, nil_from_length, Value, Replacement, Sheet, Stored, shown, effective, value_in, sheet_size, is_one_of, Rises, changes_among, Session, new_session, told, session_at, pending_of, any_cells, picture_is_shown, Scenario, shown_to, change_list, Desk, state_of, pending_in, IsUpToDate, AreCovered, AreClosed, IsSound, IsTold}
 
 -- what has changed is found among the pending cells
 pub changes_found : {marked : Sheet → List ℕ → ℕ → Bool} (stored : Stored) (d : Desk) (own cells : List ℕ) (put : List Replacement) (picture found : List (ℕ × Value)) → IsSound marked stored d → Rises 0 sheet_size own

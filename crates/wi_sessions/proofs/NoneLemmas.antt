@@ -1,5 +1,5 @@
 -- Where there is nothing to find no memory is taken: an error tells that there is something.
-use Rattle.wi_sessions.proofs.Words.{◌≡◌, ◌≢◌, ◌<◌, ◌+◌, ◌∙◌, ℕ, zero, suc, Bool, true, false, cond, not, List, [], ◌∷◌, ◌++◌, length, get_or, filter, refl, sym, ap, arith, Result, Ok, Err, IfOk, OnErr, MatchResult, IsErrAnd, is_ok, keys_of, IsStrictlySortedBy, nat_cmp, range_with_len, is_one_of, AllPending, list_at, has_bit, is_in, is_staged, cells_with, cells_in, vacant_in, pending_in}
+use Rattle.wi_sessions.proofs.Words.{◌≡◌, ◌≢◌, ◌<◌, ◌+◌, ◌∙◌, ℕ, zero, suc, Bool, true, false, cond, not, List, [], ◌∷◌, ◌++◌, length, get_or, filter, refl, sym, ap, arith, Result, Ok, Err, IfOk, OnErr, MatchResult, IsErrAnd, is_ok, keys_of, IsStrictlySortedBy, nat_cmp, is_one_of, AllPending, list_at, has_bit, is_in, is_staged, cells_with, cells_in, vacant_in, pending_in}
 use Rattle.wi_sessions.proofs.WordLemmas.{Words, listed_with}
 use Rattle.wi_sessions.proofs.ViewLemmas.{list_there}
 

@@ -29,3 +29,9 @@ returns-in_err-push_table-clause-cost g c = asked_same (ap (λ (rs : List Replac
 
 pub returns-clause-cost : goal.returns-clause-cost
 returns-clause-cost g c = asked_same (ap (λ (rs : List Replacement). table_cases (g.C.Calculator.stored c.args.calculator.now).sheet rs c.args.table.now.formula_cell c.args.table.now.input c.args.table.now.column c.args.table.now.second) (c.deref.ensures.value ∙ c.in_ok-put.ensures.value)) c.in_ok-push_table.ensures.cost
+
+pub returns-then-not-is_shaped-clause-cost : goal.returns-then-not-is_shaped-clause-cost
+returns-then-not-is_shaped-clause-cost g c = nothing_asked _ _ _
+
+pub returns-then-not-is_within-clause-cost : goal.returns-then-not-is_within-clause-cost
+returns-then-not-is_within-clause-cost g c = nothing_asked _ _ _

@@ -1,4 +1,4 @@
-use Rattle.wi_sessions.proofs.Words.{◌≡◌, ◌∙◌, ℕ, List, ap, length, sym, subst, arith, is_one_of, HasPlace}
+use Rattle.wi_sessions.proofs.Words.{◌∙◌, ℕ, List, ap, length, sym, subst, arith, is_one_of, HasPlace}
 use Rattle.wi_sessions.proofs.PlaceLemmas.{place_read}
 use Rattle.wi_sessions.proofs.WordLemmas.{listed_with}
 use Rattle.wi_sessions.proofs.PendingLemmas.{listed_told, within_unread}
