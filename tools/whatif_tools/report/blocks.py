@@ -17,7 +17,7 @@ from whatif.drawing import (
     tornado_html,
 )
 
-from ..finding import Finding
+from ..finding import Finding, Kind
 from .questions import Question
 from .seen import Seen
 from .survey import MOST_QUESTIONS, MOST_SIDE_BY_SIDE, Survey
@@ -87,7 +87,9 @@ class Blocks:
         name = f"{words[1]}_line_{question.command.line - self.skipped}.csv"
         cells = [words[3], *words[5:6]]
         records = question.reply.records()
-        return table_html(records, seen.label(words[1]), seen.label(words[2]), second, now=now, cells=cells, places=self.places, file_name=name)
+        told = any(finding.kind is Kind.UNREAD_INPUT for finding in self.findings.get(question.command.line - self.skipped, []))
+        labels = seen.label(words[1]), seen.label(words[2]), second
+        return table_html(records, *labels, now=now, cells=cells, places=self.places, file_name=name, is_alike_told=told)
 
     def compare(self, question: Question, seen: Seen) -> Markup:
         words = question.command.words

@@ -33,10 +33,12 @@ def table_html(
     cells: Sequence[str] = (),
     places: int | None = None,
     file_name: str = "table.csv",
+    is_alike_told: bool = False,
 ) -> Markup:
     """What `table` has answered: `records` as it writes them, as texts or as values.
 
     `result`, `first` and `second` are the cells that it names, `now` what the inputs show, `cells` the column and the row that have their values.
+    Entries that are all alike are a question, unless it is told elsewhere why they are.
 
     table_html([["", "0.32"], ["250", "92"]], "B4", Label("B1", "kWh"), Label("B2", "price"), now=["250", "0.32"], cells=["D2:D2", "E1:E1"])
     """
@@ -46,7 +48,7 @@ def table_html(
     is_large = len(known.xs) > MOST_SIDE or len(known.ys) > MOST_SIDE
     drawn = large(known, file_name) if is_large else listed(known)
     both = tag("div", drawn, legend(known), class_="most" if is_large else "least")
-    return joined([warnings(known), tag("div", both, curves_html(known), class_="side")])
+    return joined([warnings(known, is_alike_told), tag("div", both, curves_html(known), class_="side")])
 
 
 def caption(known: Answers) -> Markup:
@@ -54,10 +56,10 @@ def caption(known: Answers) -> Markup:
     return joined([known.result.html(), " by ", known.first.html(), by])
 
 
-def warnings(known: Answers) -> Markup:
+def warnings(known: Answers, is_alike_told: bool) -> Markup:
     """What is to be said before the answers are read."""
     said = []
-    if known.are_alike():
+    if known.are_alike() and not is_alike_told:
         inputs = known.first.address + (f" and {known.second.address}" if known.second else "")
         said.append(note(f"All answers are alike: does {known.result.address} depend on {inputs}?", classes="e"))
     wrong = known.errors()
