@@ -2,6 +2,7 @@
 //! and writes the replies to standard output.
 #![tactic(auto)]
 
+mod own;
 mod program;
 mod tell;
 

@@ -2,8 +2,9 @@
 
 ghost use Rattle.std.specs.Prelude.{◌≤◌};
 
-use crate::tell::{tell_ending, tell_fault, tell_unopened, tell_unread};
+use crate::tell::{tell_ending, tell_fault, tell_folder, tell_unopened, tell_unread};
 use std::env::{Env, args};
+use std::fs;
 use std::fs::{File, Files};
 use std::io;
 use std::io::{Eprint, Input, Print};
@@ -35,6 +36,10 @@ fn run_loaded<R: AllocGlobal + Files + Input + Print + Eprint>(
         Ok(file) => file,
         Err(error) => return tell_unopened(rt, path, &error),
     };
+    // A folder can be opened, and fails at the first read, where its name isn't known.
+    if fs::metadata(rt, path).is_ok_and(|it| it.is_dir()) {
+        return tell_folder(rt, path);
+    }
     let mut load = ReadFrom::new(file);
     let mut reader = ReadFrom::new(rt.reader());
     let mut writer = WriteTo::new(io::writer(rt));

@@ -1,5 +1,7 @@
 //! What is told of faults, and with which exit status.
 
+use crate::own::is_proved;
+use std::fs::Files;
 use std::io;
 use std::io::{Eprint, ErrorKind, Print};
 use wi_cli::{Ending, OptionsFault, RunFault, fault_status, options_status};
@@ -37,17 +39,34 @@ pub fn tell_unopened<R: Eprint>(rt: &R, path: &str, error: &io::Error) -> u8 {
     fault_status(&fault)
 }
 
+/// Tells that a path is a folder's.
+pub fn tell_folder<R: Eprint>(rt: &R, path: &str) -> u8 {
+    let fault = RunFault::Read;
+    let _ = eprintln!(rt; "whatif: {path} is a folder; {}", advice(&fault));
+    fault_status(&fault)
+}
+
+/// Tells whether the program is proved, behind its version.
+fn tell_proof<R: AllocGlobal + Files + Print>(rt: &R) -> io::Result<()> {
+    match is_proved(rt) {
+        Some(true) => println!(rt; "proved"),
+        Some(false) => println!(rt; "not proved"),
+        None => Ok(()),
+    }
+}
+
 /// Tells why words are no options, or help.
-pub fn tell_fault<R: Print + Eprint>(rt: &R, fault: &OptionsFault) -> u8 {
+pub fn tell_fault<R: AllocGlobal + Files + Print + Eprint>(rt: &R, fault: &OptionsFault) -> u8 {
     let _ = match fault {
         OptionsFault::Help(text) | OptionsFault::Usage(text) => text.print(rt),
+        OptionsFault::Version(text) => text.print(rt).and_then(|()| tell_proof(rt)),
         OptionsFault::Memory => eprintln!(rt; "whatif: {fault}; {}", advice(&RunFault::Memory)),
     };
     options_status(fault)
 }
 
 /// Tells why the words can't be read.
-pub fn tell_unread<R: Print + Eprint>(rt: &R, error: &io::Error) -> u8 {
+pub fn tell_unread<R: AllocGlobal + Files + Print + Eprint>(rt: &R, error: &io::Error) -> u8 {
     if error.kind() == ErrorKind::OutOfMemory {
         return tell_fault(rt, &OptionsFault::Memory);
     }

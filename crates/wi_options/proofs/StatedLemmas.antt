@@ -6,7 +6,7 @@ use Rattle.clap.specs.Words.{App, HasKind, HasMatchesOf, Text, fault_of, first_o
 use Rattle.clap.specs.Words.{is_simple_and_free, kind_of, matches_of, takes}
 use Rattle.clap.specs.declared.error.Error.{Error}
 use Rattle.clap.specs.declared.error.kind.ErrorKind.{ErrorKind}
-use Rattle.clap.specs.declared.error.kind.ErrorKind.TheVariants.{DisplayHelp, OutOfMemory}
+use Rattle.clap.specs.declared.error.kind.ErrorKind.TheVariants.{DisplayHelp, DisplayVersion, OutOfMemory}
 use Rattle.clap.specs.declared.parser.matches.ArgMatches.{ArgMatches}
 use Rattle.clap.proofs.OnLiterals.{clap_on_literals}
 use Rattle.clap.proofs.WalkLemmas.{first_value-rows}
@@ -36,8 +36,11 @@ by_kind : (words : List (String Global)) (e : Error) (k : ErrorKind) → kind_of
 by_kind words e OutOfMemory is has = tt
 by_kind words e DisplayHelp is (inl short) = let bad : DisplayHelp ≡ OutOfMemory = sym is ∙ short in cc
 by_kind words e DisplayHelp is (inr among) = (is, among)
+by_kind words e DisplayVersion is (inl short) = let bad : DisplayVersion ≡ OutOfMemory = sym is ∙ short in cc
+by_kind words e DisplayVersion is (inr among) = (is, among)
 by_kind words e k is (inl short) = let bad : k ≡ OutOfMemory = sym is ∙ short in cc
-by_kind words e k is (inr among) = (λ help. let bad : k ≡ DisplayHelp = sym is ∙ help in cc, among)
+by_kind words e k is (inr among) =
+    (λ help. let bad : k ≡ DisplayHelp = sym is ∙ help in cc, λ version. let bad : k ≡ DisplayVersion = sym is ∙ version in cc, among)
 
 pub is_fault : (a : App) (words : List (String Global)) (e : Error) → a ≡ whatif
     → (is_simple_and_free a ≡ true → HasKind (fault_of a (spelled words)) e)

@@ -4,10 +4,10 @@ use Rattle.std.specs.Global.{Global}
 use Rattle.clap.specs.Words.{IsAmong, Kinds, fault_of, kind_of, takes}
 use Rattle.clap.specs.declared.error.Error.{Error}
 use Rattle.clap.specs.declared.error.kind.ErrorKind.{ErrorKind}
-use Rattle.clap.specs.declared.error.kind.ErrorKind.TheVariants.{DisplayHelp, OutOfMemory}
+use Rattle.clap.specs.declared.error.kind.ErrorKind.TheVariants.{DisplayHelp, DisplayVersion, OutOfMemory}
 use Rattle.wi_options.specs.Stated.{spelled, whatif}
 use Rattle.wi_options.specs.declared.fault.OptionsFault.{OptionsFault}
-use Rattle.wi_options.specs.declared.fault.OptionsFault.TheVariants.{Help, Usage, Memory}
+use Rattle.wi_options.specs.declared.fault.OptionsFault.TheVariants.{Help, Version, Usage, Memory}
 
 -- whether clap takes the words
 unfoldable pub is_taken : List (String Global) → Bool
@@ -21,6 +21,7 @@ found_amiss words = fault_of whatif (spelled words)
 abbrev pub fault_by : ErrorKind → Error → OptionsFault
 fault_by OutOfMemory error = Memory
 fault_by DisplayHelp error = Help error
+fault_by DisplayVersion error = Version error
 fault_by _ error = Usage error
 
 -- the words are refused for this fault: memory may always be short, and else it is what clap finds amiss,
@@ -28,4 +29,5 @@ fault_by _ error = Usage error
 abbrev pub AreRefusedFor : List (String Global) → OptionsFault → Type 0
 AreRefusedFor words Memory = ⊤
 AreRefusedFor words (Help error) = (kind_of error ≡ DisplayHelp) × IsAmong (kind_of error) (found_amiss words)
-AreRefusedFor words (Usage error) = (kind_of error ≡ DisplayHelp → ⊥) × IsAmong (kind_of error) (found_amiss words)
+AreRefusedFor words (Version error) = (kind_of error ≡ DisplayVersion) × IsAmong (kind_of error) (found_amiss words)
+AreRefusedFor words (Usage error) = (kind_of error ≡ DisplayHelp → ⊥) × (kind_of error ≡ DisplayVersion → ⊥) × IsAmong (kind_of error) (found_amiss words)

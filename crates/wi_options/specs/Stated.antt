@@ -1,5 +1,5 @@
 -- What the words of the program state.
-use Rattle.std.specs.Prelude.{ℕ, List, map, Option, Some, None, String, string_bytes, codes, pos}
+use Rattle.std.specs.Prelude.{ℕ, true, List, map, Option, Some, None, String, string_bytes, codes, pos}
 use Rattle.std.specs.Global.{Global}
 use Rattle.std.specs.Str.Parse.{digits_value, without_leading_plus}
 use Rattle.clap.specs.Words.{App, Row, Rule, Text, first_of, matches_of, new_app, new_rule}
@@ -32,8 +32,12 @@ load_option = option (codes "load")
 abbrev pub keep_option : Rule
 keep_option = record (option (codes "keep")) { parser = Some (Signed (pos 1) (pos most_kept)) }
 
+-- a command that tells its version
+abbrev pub with_version : App → App
+with_version app = record app { top = record app.top { has_version = true } }
+
 abbrev pub whatif : App
-whatif = with_rule (with_rule (new_app (codes "whatif")) load_option) keep_option
+whatif = with_rule (with_rule (with_version (new_app (codes "whatif"))) load_option) keep_option
 
 -- ---- what clap states
 

@@ -8,7 +8,7 @@ ghost use Rattle.wi_options.specs.Stated.{keep_option, load_option, most_kept, n
 ghost use Rattle.wi_options.specs.Stated.{usual_kept, whatif};
 ghost use Rattle.wi_options.specs.Inner.Reads.{IsBare, IsPlainly, ReadsKeep};
 
-use crate::help::{ABOUT, COMMANDS_AND_REFUSALS, USAGE};
+use crate::help::{ABOUT, COMMANDS_AND_REFUSALS, USAGE, VERSION};
 use clap::{Arg, ArgAction, ArgMatches, Command, value_parser};
 use std::alloc::{AllocError, Global};
 
@@ -41,6 +41,7 @@ fn bare_command<'a>(alloc: Global) -> Command<'a>
     ensures { IsBare result }
 {
     Command::new(alloc, "whatif")
+        .version(VERSION)
         .override_usage(USAGE)
         .about(ABOUT)
         .after_help(COMMANDS_AND_REFUSALS)

@@ -7,12 +7,15 @@ use clap::error::ErrorKind;
 use std::alloc::AllocError;
 use thiserror::Error;
 
-/// Why words give no options. The text of the first two is that of `clap`.
+/// Why words give no options. The text of all but the last is that of `clap`.
 #[derive(Debug, Drop, Error)]
 pub enum OptionsFault {
     /// Help was asked for. Its text is for standard output.
     #[error(transparent)]
     Help(clap::Error),
+    /// The version was asked for. Its text is for standard output.
+    #[error(transparent)]
+    Version(clap::Error),
     /// The words are no options. The text says which, and how the program is called; it is for standard error.
     #[error(transparent)]
     Usage(clap::Error),
@@ -40,6 +43,7 @@ impl From<clap::Error> for OptionsFault {
         match error.kind() {
             ErrorKind::OutOfMemory => OptionsFault::Memory,
             ErrorKind::DisplayHelp => OptionsFault::Help(error),
+            ErrorKind::DisplayVersion => OptionsFault::Version(error),
             _ => OptionsFault::Usage(error),
         }
     }
@@ -50,7 +54,7 @@ pub fn options_status(fault: &OptionsFault) -> u8
     ensures { result ≡ options_status fault.now }
 {
     match fault {
-        OptionsFault::Help(_) => 0,
+        OptionsFault::Help(_) | OptionsFault::Version(_) => 0,
         OptionsFault::Usage(_) => 2,
         OptionsFault::Memory => 5,
     }

@@ -1,7 +1,12 @@
 //! What `--help` tells beside the options.
 
+/// The program's version, as the file VERSION of the repository has it.
+pub(crate) const VERSION: &str = "0.1.0";
+
 /// How the program is called.
-pub(crate) const USAGE: &str = "whatif [--load FILE] [--keep N]";
+pub(crate) const USAGE: &str = "\
+whatif [--load FILE] [--keep N]
+       a script comes on standard input: whatif < FILE";
 
 /// What the program does.
 pub(crate) const ABOUT: &str =

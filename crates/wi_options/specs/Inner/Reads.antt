@@ -8,7 +8,7 @@ use Rattle.clap.specs.declared.builder.command.Command.{Command}
 use Rattle.clap.specs.declared.builder.command.Command.TheViews.{out-Command as fields_of}
 use Rattle.clap.specs.declared.parser.matches.ArgMatches.{ArgMatches}
 use Rattle.clap.specs.declared.parser.matches.Found.{Found}
-use Rattle.wi_options.specs.Stated.{most_kept}
+use Rattle.wi_options.specs.Stated.{most_kept, with_version}
 
 -- the first value under this id is a number in the range, and is read without a minus
 abbrev pub ReadsNumber : Found → Text → Type 0
@@ -26,7 +26,7 @@ IsPlainly rule option = (rule_of option ≡ rule) × IsPlainArg option × (optio
 
 -- the program, without options
 pub record IsBare (command : Command) : Type 0 where
-  pub app : app_of command ≡ new_app (codes "whatif")
+  pub app : app_of command ≡ with_version (new_app (codes "whatif"))
   pub args : args_of command ≡ []
   pub groups : groups_of command ≡ []
   pub globals : (fields_of command).has_globals ≡ false
