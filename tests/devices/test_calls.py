@@ -11,7 +11,11 @@ from program import Program, compiled, compiler
 
 TABLE = Path(__file__).resolve().parent / "words.cases"
 OPTIONS = re.compile(r"(?:no load|load (.*)), keep ([0-9]+)")
-FAULT = re.compile(r"(usage|help), status ([0-9])")
+FAULT = re.compile(r"(usage|help|version), status ([0-9])")
+NOTE = re.compile(rb"\0rattle logic=[0-9a-f]+\0")
+"""What the toolchain writes into the file of a program that is proved."""
+
+VERSION = (Path(__file__).resolve().parents[2] / "VERSION").read_text().strip()
 TEXTS = 20
 CHAIN = "".join(["set A1 text, longer than a word\n", *(f'set A{row + 1} =[.A{row}]&"x"\n' for row in range(1, TEXTS + 1))])
 THE_LAST_FIRST = "".join(f"show A{row + 1}\n" for row in range(TEXTS, 0, -1)) * 2
@@ -63,11 +67,11 @@ class Calls(DeviceTest):
         self.assertTrue(ended.told.startswith(f"whatif: {path} can't be opened, ".encode()), ended.told)
 
     def assert_refused(self, call: Call, kind: str, status: int) -> None:
-        """Nothing but the text is written, help on standard output and else on standard error."""
+        """Nothing but the text is written, that of wrong words on standard error and else on standard output."""
         ended = self.called(call.words)
-        text, other = (ended.written, ended.told) if kind == "help" else (ended.told, ended.written)
-        self.assertEqual((ended.status, other, status), (status, b"", WELL if kind == "help" else USAGE))
-        self.assertRegex(text.decode(), r"\A(Runs|error: ).*\n")
+        text, other = (ended.told, ended.written) if kind == "usage" else (ended.written, ended.told)
+        self.assertEqual((ended.status, other, status), (status, b"", USAGE if kind == "usage" else WELL))
+        self.assertRegex(text.decode(), {"usage": r"\Aerror: .*\n", "help": r"\ARuns .*\n", "version": r"\Awhatif [0-9]"}[kind])
         if call.text:
             self.assertEqual(text.decode().splitlines(), call.text)
 
@@ -82,6 +86,10 @@ class Calls(DeviceTest):
                 else:
                     self.assertTrue(options)
                     self.assert_ended(self.called(call.words), WELL, b'""\r\nok\n')
+
+    def test_the_version_and_whether_its_file_says_that_it_is_proved(self) -> None:
+        proved = "proved" if NOTE.search(Path(PROGRAM).read_bytes()) else "not proved"
+        self.assert_ended(self.called(["whatif", "--version"]), WELL, f"whatif {VERSION}\n{proved}\n".encode())
 
     @unittest.skipUnless(compiler(), "no C compiler")
     def test_as_many_values_are_kept_as_the_words_say(self) -> None:

@@ -77,7 +77,9 @@ class LoadedFile(DeviceTest):
 
     def test_a_folder_in_its_place_is_a_fault_of_reading(self) -> None:
         with self.file("script", SHOW).open("rb") as script:
-            self.assert_ended(call(["--load", str(self.folder)], stdin=script), DEVICE, b"")
+            ended = call(["--load", str(self.folder)], stdin=script)
+            self.assert_ended(ended, DEVICE, b"")
+            self.assertTrue(ended.told.startswith(f"whatif: {self.folder} is a folder; ".encode()), ended.told)
             self.assert_unread(script)
 
     def test_a_path_is_taken_as_it_is_given(self) -> None:

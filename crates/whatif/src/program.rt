@@ -4,10 +4,9 @@ ghost use Rattle.std.specs.Prelude.{◌≤◌};
 
 use crate::tell::{tell_ending, tell_fault, tell_folder, tell_unopened, tell_unread};
 use std::env::{Env, args};
-use std::fs;
 use std::fs::{File, Files};
-use std::io;
 use std::io::{Eprint, Input, Print};
+use std::{fs, io};
 use wi_cli::{ReadFrom, WriteTo, options, run_new, run_new_in_turn};
 
 /// The words with which the program is called, its name first.
