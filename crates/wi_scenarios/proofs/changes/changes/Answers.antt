@@ -27,3 +27,12 @@ returns-in_err-tell-clause-quiet_ok g c = λ none. absurd (false≢true (c.in_er
 
 pub returns-clause-quiet_ok : goal.returns-clause-quiet_ok
 returns-clause-quiet_ok g c = λ none. refl
+
+pub returns-in_err-found-clause-cost : goal.returns-in_err-found-clause-cost
+returns-in_err-found-clause-cost g c = c.find.ensures.cost
+
+pub returns-in_err-tell-clause-cost : goal.returns-in_err-tell-clause-cost
+returns-in_err-tell-clause-cost g c = c.find.ensures.cost
+
+pub returns-clause-cost : goal.returns-clause-cost
+returns-clause-cost g c = c.find.ensures.cost
