@@ -173,14 +173,16 @@ class Tornados(Reports):
         self.assertEqual([row[0] for row in block.tables()[1][1:]], ["B1 500", "C1 1"])
 
     def test_inputs_behind_ranges_and_formulas(self) -> None:
-        """A column of 300 by way of a sum: all are tried, twelve are drawn, and the rest is a list."""
+        """A column of 300 by way of a sum: all are tried, twelve are drawn, and a hundred of the rest are a list."""
         numbers = "".join(f"{n}\n" for n in range(1, 301))
         block = self.blocks(f"csv A1 300\n{numbers}set C1 =SUM([.A1:.A300])\nset C2 =[.C1]*2\nset D1 5\nset D2 6\ntable C2 A1 D1:D2\n")[0]
         drawn, rest = block.tables()[1:]
         base = 2 * sum(range(1, 301))
         self.assertEqual(drawn[1], ["A300 300", str(base - 60), str(base + 60)])
-        self.assertEqual((len(drawn), len(rest)), (13, 289))
-        self.assertEqual(rest[-1], ["A1", "1", shown(base - Fraction(1, 5)), shown(base + Fraction(1, 5))])
+        self.assertEqual((len(drawn), len(rest)), (13, 101))
+        self.assertEqual(rest[1], ["A288", "288", shown(base - Fraction(288, 5)), shown(base + Fraction(288, 5))])
+        self.assertIn("288 inputs move it less", block.text)
+        self.assertIn("188 more aren't listed", block.text)
 
     def test_an_error_is_told(self) -> None:
         script = "set A1 'months\nset B1 10\nset B2 =INDEX([.C1:.C10];[.B1])+[.B3]\nset B3 4\ncsv C1 10\n" + "1\n" * 10

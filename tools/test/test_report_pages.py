@@ -139,7 +139,11 @@ class Limits(Reports):
         self.assertNotIn("alone.", page)
 
     def test_large_sheet(self) -> None:
-        page = self.page(STALL + "set F1 1\nfill F1 F2:F20001\n" + TABLE + "table B4 B1 D2:D4\n")
+        """It is drawn in a time that grows as it does, and not with its square."""
+        before = processor_seconds()
+        page = self.page(STALL + "set F1 1\nfill F1 F2:F20001\n" + TABLE + "table B4 B1 D2:D4\nas bo\nchanges\nshow F1:F20000\n")
+        self.assertLess(processor_seconds() - before, 20)
+        self.assertLess(len(page), 500_000)
         self.assertIn("more than 20,000 cells, so what moves a result isn", page)
         self.assertEqual(blocks(page)[1].captions(), ["profit B4 by customers B1"])
 

@@ -3,6 +3,7 @@
 from dataclasses import dataclass, field
 
 from whatif.drawing import Bar, Label
+from whatif.drawing.cells import MOST_DRAWN
 
 from ..program import Reply
 from ..sheet import Address, Rectangle
@@ -69,7 +70,7 @@ class Seen:
 def seen_at(question: Question, picture: Picture, formulas: Formulas) -> Seen:
     """The names and values of the cells that a question names, and of those in its reply."""
     words, name = question.command.words, question.command.name
-    seen = Seen()
+    seen, names = Seen(), names_in(picture.cells)
     addresses: list[str] = []
     if question.is_refused:
         return seen
@@ -83,7 +84,7 @@ def seen_at(question: Question, picture: Picture, formulas: Formulas) -> Seen:
         inside = picture.inside(words)
         seen.texts = {str(at) for at in inside if picture.cells[at][0] == "T"}
         seen.formulas = {str(at): formulas[at] for at in inside if at in formulas}
-    for address in map(str.upper, addresses):
-        seen.labels[address] = picture.label(address)
+    for address in map(str.upper, addresses[:MOST_DRAWN]):
+        seen.labels[address] = names.at(address)
         seen.values[address] = picture.text(address)
     return seen
