@@ -3,6 +3,7 @@
 from __future__ import annotations
 
 import unittest
+import unittest.mock
 from fractions import Fraction
 
 from report_page import blocks
@@ -13,7 +14,7 @@ from whatif_tools.program import run
 from whatif_tools.report.blocks import Blocks
 from whatif_tools.report.probes import Source
 from whatif_tools.report.questions import course_of
-from whatif_tools.report.survey import Survey
+from whatif_tools.report.survey import Survey, free_name
 from whatif_tools.script import commands, lines_of
 
 
@@ -209,6 +210,17 @@ class Asking(unittest.TestCase):
         source = Source(script, list(commands(lines_of(script))), run(script).replies)
         self.assertEqual(source.ask({0: ["set A1 6"]}), {})
         self.assertEqual(len(source.ask({0: ["show A1"]})), 1)
+
+    def test_long_scripts(self) -> None:
+        """Nothing is asked where the lines would be more than the program reads."""
+        script = b"set A1 5\n" * 20
+        source = Source(script, list(commands(lines_of(script))), run(script).replies)
+        with unittest.mock.patch("whatif_tools.report.probes.MOST_LINES", 21):
+            self.assertEqual([len(source.ask({3: lines})) for lines in (["show A1"], ["show A1"] * 2)], [1, 0])
+
+    def test_names_are_free(self) -> None:
+        """A session and a scenario of a script that are named as the page's own are left alone."""
+        self.assertEqual(free_name(b"as whatif_report\nscenario whatif_report_1 A1 5\n"), "whatif_report_2")
 
     def test_missing_data(self) -> None:
         """Nothing is asked where it would be taken for data."""

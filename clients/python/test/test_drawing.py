@@ -275,6 +275,8 @@ class Others(unittest.TestCase):
         self.assertEqual(words(tree(still)), "2 inputs in reach don\u2019t move it.")
         self.assertIn("Not drawn: rows (B8), since 10 gives #REF!.", words(found))
         self.assertIn("Years are left out.", words(found))
+        both_less = Bar(Label("B9"), Fraction(9), Fraction(8), Fraction(10), "-9000", "-8000")
+        self.assertEqual(words(next(tree(tornado_html(GOAL, base, [*bars, both_less], by)).iter("tbody"))[0][0]), "B9 9")
         many = [Bar(Label(f"C{n}"), Fraction(n), Fraction(n), Fraction(n), str(3000 - n), str(3000 + n)) for n in range(1, 21)]
         self.assertEqual([len(list(table.iter("tr"))) for table in tree(tornado_html(GOAL, base, many, by)).iter("table")], [13, 9])
 

@@ -2,12 +2,16 @@
 
 from __future__ import annotations
 
+import doctest
+import importlib
+import pkgutil
 import re
 import unittest
 from fractions import Fraction
 from xml.etree import ElementTree
 
 from drawings import Node, tree, words
+from whatif import drawing
 from whatif.drawing import (
     Bar,
     Label,
@@ -25,6 +29,14 @@ from whatif.drawing import (
 )
 from whatif.drawing.colours import DARK, LEVELS, LIGHT, NEEDED, Theme, contrast, step
 from whatif.drawing.style import style
+
+def load_tests(loader: unittest.TestLoader, tests: unittest.TestSuite, pattern: object) -> unittest.TestSuite:
+    """The examples in the modules' own words are tests too."""
+    for module in pkgutil.iter_modules(drawing.__path__, drawing.__name__ + "."):
+        found = doctest.DocTestFinder(exclude_empty=True).find(importlib.import_module(module.name))
+        tests.addTests(doctest.DocTestCase(known) for known in found if known.examples)
+    return tests
+
 
 NASTY = "<script>alert(1)</script>\"'&</td></svg>\u202e\x00"
 

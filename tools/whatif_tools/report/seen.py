@@ -44,7 +44,12 @@ class Picture:
     def inside(self, words: list[str]) -> list[Address]:
         """The cells of an area that show something."""
         area = Rectangle.parse(words[1])
-        return [] if area is None else [at for at in self.cells if at in area]
+        if area is None:
+            return []
+        if area.cells() > len(self.cells):
+            return [at for at in self.cells if at in area]
+        rows, columns = range(area.first.row, area.last.row + 1), range(area.first.column, area.last.column + 1)
+        return [at for at in (Address(row, column) for row in rows for column in columns) if at in self.cells]
 
 
 @dataclass
