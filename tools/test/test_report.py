@@ -121,7 +121,8 @@ class Questions(Reports):
         script = b"# it isn't there\nuse no\n"
         source = Source(script, list(commands(lines_of(script))), run(script).replies)
         survey = Survey(source, course_of(script, source.commands, source.replies), Fraction(1, 10), None)
-        for findings, kind in (([], ""), ([Finding(2, 1, Kind.REFUSED, "no such scenario")], "findings")):
+        cases: list[tuple[list[Finding], str]] = [([], ""), ([Finding(2, 1, Kind.REFUSED, "no such scenario")], "findings")]
+        for findings, kind in cases:
             part = Blocks(survey, findings, Fraction(1, 10), None).parts()[0]
             self.assertEqual((part.kind, "as it is meant" in part.body), (kind, not kind))
 

@@ -53,6 +53,11 @@ def hexadecimal(colour: str) -> str:
 
 @unittest.skipUnless(browser.found(), "no Chromium: apt-get install chromium")
 class InBrowser(unittest.TestCase):
+    folder: tempfile.TemporaryDirectory[str]
+    browser: Browser
+    path: Path
+    odd: Path
+
     @classmethod
     def setUpClass(cls) -> None:
         cls.folder = tempfile.TemporaryDirectory()

@@ -104,7 +104,8 @@ class Pages(Reports):
         self.assertEqual(cells, [("0.33", "1/3"), ("0.67", "2/3")])
 
     def test_wrong_words(self) -> None:
-        for words in (["--by", "0"], ["--by", "x"], ["--tornado", "B0"], ["--places", "-1"], []):
+        cases: list[list[str]] = [["--by", "0"], ["--by", "x"], ["--tornado", "B0"], ["--places", "-1"], []]
+        for words in cases:
             with self.assertRaises(SystemExit) as ended, contextlib.redirect_stderr(io.StringIO()):
                 main([*words, *(["s.whatif"] if words else [])])
             self.assertEqual(ended.exception.code, 2)
