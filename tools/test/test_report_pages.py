@@ -13,6 +13,7 @@ import subprocess
 import sys
 import tempfile
 import unittest
+import unittest.mock
 from pathlib import Path
 
 from pages import codes, page_of
@@ -102,6 +103,14 @@ class Pages(Reports):
         block = self.blocks("set A1 1\nset A2 =[.A1]/3\nset B1 1\nset B2 2\ntable A2 A1 B1:B2\n", "--places", "2")[0]
         cells = [(cell.text, cell.get("title")) for cell in block.node.iter("td")][:2]
         self.assertEqual(cells, [("0.33", "1/3"), ("0.67", "2/3")])
+
+    def test_open(self) -> None:
+        """The page is shown where that is asked for, and not else."""
+        with unittest.mock.patch("webbrowser.open") as opened:
+            self.page("set A1 1\nshow A1\n")
+            opened.assert_not_called()
+            self.page("set A1 1\nshow A1\n", "--open")
+            opened.assert_called_once_with((self.place / "page.html").resolve().as_uri())
 
     def test_wrong_words(self) -> None:
         cases: list[list[str]] = [["--by", "0"], ["--by", "x"], ["--tornado", "B0"], ["--places", "-1"], []]

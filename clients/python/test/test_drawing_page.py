@@ -99,6 +99,11 @@ class Pages(unittest.TestCase):
         self.assertTrue(page.startswith('<!doctype html>\n<html lang="en"><head><meta charset="utf-8">'))
         self.assertEqual(page, report(NASTY, self.PARTS, about=NASTY, sources=[(NASTY, NASTY)]))
 
+    def test_bodies_that_are_no_markup(self) -> None:
+        """A text is a text also where a drawing is expected."""
+        self.assertIn("&lt;script&gt;", fragment("<script>"))
+        self.assertEqual(report("x", [Part("x", "<script>")]).count("<script"), 1)
+
     def test_nothing_is_fetched(self) -> None:
         page = re.sub("'sha256-[^']*'", "", report("A tariff", self.PARTS)) + style()
         self.assertIsNone(re.search(r"(?:src|href)=.(?!#|data:)|url\(|@import|https?:|//[a-z]", page))
