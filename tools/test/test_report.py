@@ -40,9 +40,12 @@ class Questions(Reports):
         self.assertEqual(self.status, 1)
         self.assertIn("A market stall", blocks(self.page(script))[0].text + self.page(script)[:300])
 
+    def test_a_cell_is_named(self) -> None:
+        self.assertEqual([block.head for block in self.blocks(STALL + "show B4\nshow E9\nexport A1:B1\n")], ["profit", "Cell E9", "Cells A1:B1"])
+
     def test_comments_among_data_are_data(self) -> None:
         found = self.blocks("csv A1 2\n# no comment\n2\nshow A1\n")
-        self.assertEqual([block.head for block in found], ["Cells A1"])
+        self.assertEqual([block.head for block in found], ["Cell A1"])
 
     def test_table(self) -> None:
         """The entries are the program's, exactly, and labels name the inputs."""

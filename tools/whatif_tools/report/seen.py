@@ -89,6 +89,7 @@ def seen_at(question: Question, picture: Picture, formulas: Formulas) -> Seen:
         inside = picture.inside(words)
         seen.texts = {str(at) for at in inside if picture.cells[at][0] == "T"}
         seen.formulas = {str(at): formulas[at] for at in inside if at in formulas}
+        addresses = [] if ":" in words[1] else [words[1]]
     for address in map(str.upper, addresses[:MOST_DRAWN]):
         seen.labels[address] = names.at(address)
         seen.values[address] = picture.text(address)

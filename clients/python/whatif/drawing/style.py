@@ -19,6 +19,7 @@ body.whatif{background:var(--paper);margin:0}
 .whatif section{background:var(--card);border:1px solid var(--rule);border-radius:10px;padding:14px 18px;margin:14px 0}
 .whatif section:target,.whatif pre span:target{outline:2px solid var(--link)}
 .whatif .soft{color:var(--soft);font-weight:400}
+.whatif p.soft{font-size:14px}
 .whatif .e{color:var(--error);font-weight:600}
 .whatif .findings{background:var(--warning)}
 .whatif .good{background:var(--good)}
