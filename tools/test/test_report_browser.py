@@ -62,7 +62,11 @@ class InBrowser(unittest.TestCase):
     def setUpClass(cls) -> None:
         cls.folder = tempfile.TemporaryDirectory()
         cls.path, cls.odd = (cls.page_of(FOLDER / name) for name in ("report.whatif", "report_odd.whatif"))
-        cls.browser = Browser(browser.found() or "")
+        try:
+            cls.browser = Browser(browser.found() or "")
+        except (OSError, TimeoutError) as error:
+            cls.folder.cleanup()
+            raise unittest.SkipTest(f"Chromium doesn't start: {error}") from error
 
     @classmethod
     def page_of(cls, script: Path) -> Path:

@@ -125,9 +125,8 @@ class Pages(unittest.TestCase):
     def test_fragment(self) -> None:
         """A part brings its style, which holds inside of it alone."""
         self.assertTrue(fragment(table_html([["1", "2"]], "B4", "B1")).startswith('<div class="whatif"'))
-        flat = re.sub(r"@(?:media|page)[^{]*", "", style())
-        for selectors in re.findall(r"([^{}]+)\{", flat):
-            for selector in selectors.split(","):
+        for selectors in re.findall(r"([^{}]+)\{", style()):
+            for selector in [] if selectors.startswith("@media") else selectors.split(","):
                 self.assertRegex(selector.strip(), r"^(?:body)?\.whatif\b")
 
 

@@ -8,7 +8,7 @@ from collections.abc import Iterable, Sequence
 from dataclasses import dataclass
 
 from .markup import NOTHING, Markup, joined, tag
-from .style import style
+from .style import PAPER, style
 
 COPY = """
 const exact = cell => cell.title.split(" ").pop() || cell.textContent.trim();
@@ -61,7 +61,7 @@ def report(title: str, parts: Iterable[Part], *, about: str = "", sources: Seque
             tag("title", title),
             Markup('<meta name="viewport" content="width=device-width,initial-scale=1">'),
             Markup(f'<meta http-equiv="Content-Security-Policy" content="{policy}">'),
-            tag("style", Markup(style())),
+            tag("style", Markup(style() + PAPER)),
         ]
     )
     body = tag("body", tag("main", *main), tag("script", Markup(COPY)), class_="whatif")

@@ -110,7 +110,6 @@ body.whatif{background:var(--paper);margin:0}
 .whatif pre i{min-width:2.4em;margin-right:.8em}
 }
 @media print{
-@page{size:A4;margin:14mm}
 body.whatif{background:#fff}
 .whatif main{max-width:none;padding:0}
 .whatif{font-size:11px;-webkit-print-color-adjust:exact;print-color-adjust:exact}
@@ -129,6 +128,10 @@ body.whatif{background:#fff}
 .whatif button{white-space:nowrap;display:none}
 }
 """
+
+
+PAPER = "@page{size:A4;margin:14mm}"
+"""For whole pages alone: it would hold for all of a notebook."""
 
 
 def style() -> str:
