@@ -14,7 +14,7 @@ from pathlib import Path
 from typing import Any
 
 NAMES = ("chromium", "chromium-browser", "google-chrome", "chrome")
-SECONDS = 60
+SECONDS = 120
 
 
 def found() -> str | None:
@@ -44,6 +44,14 @@ class Browser:
         self.waiting = b""
         self.session = ""
         self.events: list[dict[str, Any]] = []
+        try:
+            self.attach()
+        except (OSError, TimeoutError):
+            self.close()
+            raise
+
+    def attach(self) -> None:
+        """Makes the page, and lets it tell what happens."""
         target = self.send("Target.createTarget", url="about:blank")["targetId"]
         self.session = self.send("Target.attachToTarget", targetId=target, flatten=True)["sessionId"]
         for domain in ("Page", "Runtime", "Log", "Network"):

@@ -3,6 +3,7 @@
 from __future__ import annotations
 
 import unittest
+import unittest.mock
 from fractions import Fraction
 
 from report_page import blocks
@@ -13,7 +14,7 @@ from whatif_tools.program import run
 from whatif_tools.report.blocks import Blocks
 from whatif_tools.report.probes import Source
 from whatif_tools.report.questions import course_of
-from whatif_tools.report.survey import Survey
+from whatif_tools.report.survey import Survey, free_name
 from whatif_tools.script import commands, lines_of
 
 
@@ -39,9 +40,12 @@ class Questions(Reports):
         self.assertEqual(self.status, 1)
         self.assertIn("A market stall", blocks(self.page(script))[0].text + self.page(script)[:300])
 
+    def test_a_cell_is_named(self) -> None:
+        self.assertEqual([block.head for block in self.blocks(STALL + "show B4\nshow E9\nexport A1:B1\n")], ["profit", "Cell E9", "Cells A1:B1"])
+
     def test_comments_among_data_are_data(self) -> None:
         found = self.blocks("csv A1 2\n# no comment\n2\nshow A1\n")
-        self.assertEqual([block.head for block in found], ["Cells A1"])
+        self.assertEqual([block.head for block in found], ["Cell A1"])
 
     def test_table(self) -> None:
         """The entries are the program's, exactly, and labels name the inputs."""
@@ -120,7 +124,8 @@ class Questions(Reports):
         script = b"# it isn't there\nuse no\n"
         source = Source(script, list(commands(lines_of(script))), run(script).replies)
         survey = Survey(source, course_of(script, source.commands, source.replies), Fraction(1, 10), None)
-        for findings, kind in (([], ""), ([Finding(2, 1, Kind.REFUSED, "no such scenario")], "findings")):
+        cases: list[tuple[list[Finding], str]] = [([], ""), ([Finding(2, 1, Kind.REFUSED, "no such scenario")], "findings")]
+        for findings, kind in cases:
             part = Blocks(survey, findings, Fraction(1, 10), None).parts()[0]
             self.assertEqual((part.kind, "as it is meant" in part.body), (kind, not kind))
 
@@ -173,14 +178,16 @@ class Tornados(Reports):
         self.assertEqual([row[0] for row in block.tables()[1][1:]], ["B1 500", "C1 1"])
 
     def test_inputs_behind_ranges_and_formulas(self) -> None:
-        """A column of 300 by way of a sum: all are tried, twelve are drawn, and the rest is a list."""
+        """A column of 300 by way of a sum: all are tried, twelve are drawn, and a hundred of the rest are a list."""
         numbers = "".join(f"{n}\n" for n in range(1, 301))
         block = self.blocks(f"csv A1 300\n{numbers}set C1 =SUM([.A1:.A300])\nset C2 =[.C1]*2\nset D1 5\nset D2 6\ntable C2 A1 D1:D2\n")[0]
         drawn, rest = block.tables()[1:]
         base = 2 * sum(range(1, 301))
         self.assertEqual(drawn[1], ["A300 300", str(base - 60), str(base + 60)])
-        self.assertEqual((len(drawn), len(rest)), (13, 289))
-        self.assertEqual(rest[-1], ["A1", "1", shown(base - Fraction(1, 5)), shown(base + Fraction(1, 5))])
+        self.assertEqual((len(drawn), len(rest)), (13, 101))
+        self.assertEqual(rest[1], ["A288", "288", shown(base - Fraction(288, 5)), shown(base + Fraction(288, 5))])
+        self.assertIn("288 inputs move it less", block.text)
+        self.assertIn("188 more aren't listed", block.text)
 
     def test_an_error_is_told(self) -> None:
         script = "set A1 'months\nset B1 10\nset B2 =INDEX([.C1:.C10];[.B1])+[.B3]\nset B3 4\ncsv C1 10\n" + "1\n" * 10
@@ -208,6 +215,17 @@ class Asking(unittest.TestCase):
         source = Source(script, list(commands(lines_of(script))), run(script).replies)
         self.assertEqual(source.ask({0: ["set A1 6"]}), {})
         self.assertEqual(len(source.ask({0: ["show A1"]})), 1)
+
+    def test_long_scripts(self) -> None:
+        """Nothing is asked where the lines would be more than the program reads."""
+        script = b"set A1 5\n" * 20
+        source = Source(script, list(commands(lines_of(script))), run(script).replies)
+        with unittest.mock.patch("whatif_tools.report.probes.MOST_LINES", 21):
+            self.assertEqual([len(source.ask({3: lines})) for lines in (["show A1"], ["show A1"] * 2)], [1, 0])
+
+    def test_names_are_free(self) -> None:
+        """A session and a scenario of a script that are named as the page's own are left alone."""
+        self.assertEqual(free_name(b"as whatif_report\nscenario whatif_report_1 A1 5\n"), "whatif_report_2")
 
     def test_missing_data(self) -> None:
         """Nothing is asked where it would be taken for data."""

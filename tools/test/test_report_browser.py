@@ -53,11 +53,20 @@ def hexadecimal(colour: str) -> str:
 
 @unittest.skipUnless(browser.found(), "no Chromium: apt-get install chromium")
 class InBrowser(unittest.TestCase):
+    folder: tempfile.TemporaryDirectory[str]
+    browser: Browser
+    path: Path
+    odd: Path
+
     @classmethod
     def setUpClass(cls) -> None:
         cls.folder = tempfile.TemporaryDirectory()
         cls.path, cls.odd = (cls.page_of(FOLDER / name) for name in ("report.whatif", "report_odd.whatif"))
-        cls.browser = Browser(browser.found() or "")
+        try:
+            cls.browser = Browser(browser.found() or "")
+        except (OSError, TimeoutError) as error:
+            cls.folder.cleanup()
+            raise unittest.SkipTest(f"Chromium doesn't start: {error}") from error
 
     @classmethod
     def page_of(cls, script: Path) -> Path:

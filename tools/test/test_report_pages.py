@@ -13,6 +13,7 @@ import subprocess
 import sys
 import tempfile
 import unittest
+import unittest.mock
 from pathlib import Path
 
 from pages import codes, page_of
@@ -103,8 +104,17 @@ class Pages(Reports):
         cells = [(cell.text, cell.get("title")) for cell in block.node.iter("td")][:2]
         self.assertEqual(cells, [("0.33", "1/3"), ("0.67", "2/3")])
 
+    def test_open(self) -> None:
+        """The page is shown where that is asked for, and not else."""
+        with unittest.mock.patch("webbrowser.open") as opened:
+            self.page("set A1 1\nshow A1\n")
+            opened.assert_not_called()
+            self.page("set A1 1\nshow A1\n", "--open")
+            opened.assert_called_once_with((self.place / "page.html").resolve().as_uri())
+
     def test_wrong_words(self) -> None:
-        for words in (["--by", "0"], ["--by", "x"], ["--tornado", "B0"], ["--places", "-1"], []):
+        cases: list[list[str]] = [["--by", "0"], ["--by", "x"], ["--tornado", "B0"], ["--places", "-1"], []]
+        for words in cases:
             with self.assertRaises(SystemExit) as ended, contextlib.redirect_stderr(io.StringIO()):
                 main([*words, *(["s.whatif"] if words else [])])
             self.assertEqual(ended.exception.code, 2)
@@ -139,7 +149,11 @@ class Limits(Reports):
         self.assertNotIn("alone.", page)
 
     def test_large_sheet(self) -> None:
-        page = self.page(STALL + "set F1 1\nfill F1 F2:F20001\n" + TABLE + "table B4 B1 D2:D4\n")
+        """It is drawn in a time that grows as it does, and not with its square."""
+        before = processor_seconds()
+        page = self.page(STALL + "set F1 1\nfill F1 F2:F20001\n" + TABLE + "table B4 B1 D2:D4\nas bo\nchanges\nshow F1:F20000\n")
+        self.assertLess(processor_seconds() - before, 20)
+        self.assertLess(len(page), 500_000)
         self.assertIn("more than 20,000 cells, so what moves a result isn", page)
         self.assertEqual(blocks(page)[1].captions(), ["profit B4 by customers B1"])
 
@@ -150,6 +164,13 @@ class Limits(Reports):
         listing = blocks(self.page("csv A1 100\n" + "\n".join(lines) + "\nshow A1\n"))[-1]
         shown_lines = [node.get("id") for node in listing.node.iter("span") if node.get("id")]
         self.assertEqual(shown_lines, [f"L{n}" for n in [*range(1, 14), 51, *range(90, 103)]])
+
+    def test_long_listing(self) -> None:
+        """The lines behind 3,000 others are left out, but for questions and findings."""
+        page = self.page("set A1 1\n" * 3000 + "set A2 2\n" * 4_000 + "show A1\nset A3 5 %\nset A4 4\n")
+        listed = [node.get("id") for node in blocks(page)[-1].node.iter("span") if node.get("id")]
+        self.assertEqual(listed, [f"L{n}" for n in [*range(1, 3001), 7_001, 7_002]])
+        self.assertLess(len(page), 400_000)
 
     def test_nothing_to_draw(self) -> None:
         for script in ("", "# only a comment\n", "set A1 5", "csv A1 3\n1\n", "\ufeffset A1 1\n", "set A1 1\n" * 500):

@@ -2,12 +2,16 @@
 
 from __future__ import annotations
 
+import doctest
+import importlib
+import pkgutil
 import re
 import unittest
 from fractions import Fraction
 from xml.etree import ElementTree
 
 from drawings import Node, tree, words
+from whatif import drawing
 from whatif.drawing import (
     Bar,
     Label,
@@ -25,6 +29,14 @@ from whatif.drawing import (
 )
 from whatif.drawing.colours import DARK, LEVELS, LIGHT, NEEDED, Theme, contrast, step
 from whatif.drawing.style import style
+
+def load_tests(loader: unittest.TestLoader, tests: unittest.TestSuite, pattern: object) -> unittest.TestSuite:
+    """The examples in the modules' own words are tests too."""
+    for module in pkgutil.iter_modules(drawing.__path__, drawing.__name__ + "."):
+        found = doctest.DocTestFinder(exclude_empty=True).find(importlib.import_module(module.name))
+        tests.addTests(doctest.DocTestCase(known) for known in found if known.examples)
+    return tests
+
 
 NASTY = "<script>alert(1)</script>\"'&</td></svg>\u202e\x00"
 
@@ -87,6 +99,11 @@ class Pages(unittest.TestCase):
         self.assertTrue(page.startswith('<!doctype html>\n<html lang="en"><head><meta charset="utf-8">'))
         self.assertEqual(page, report(NASTY, self.PARTS, about=NASTY, sources=[(NASTY, NASTY)]))
 
+    def test_bodies_that_are_no_markup(self) -> None:
+        """A text is a text also where a drawing is expected."""
+        self.assertIn("&lt;script&gt;", fragment("<script>"))
+        self.assertEqual(report("x", [Part("x", "<script>")]).count("<script"), 1)
+
     def test_nothing_is_fetched(self) -> None:
         page = re.sub("'sha256-[^']*'", "", report("A tariff", self.PARTS)) + style()
         self.assertIsNone(re.search(r"(?:src|href)=.(?!#|data:)|url\(|@import|https?:|//[a-z]", page))
@@ -108,9 +125,8 @@ class Pages(unittest.TestCase):
     def test_fragment(self) -> None:
         """A part brings its style, which holds inside of it alone."""
         self.assertTrue(fragment(table_html([["1", "2"]], "B4", "B1")).startswith('<div class="whatif"'))
-        flat = re.sub(r"@(?:media|page)[^{]*", "", style())
-        for selectors in re.findall(r"([^{}]+)\{", flat):
-            for selector in selectors.split(","):
+        for selectors in re.findall(r"([^{}]+)\{", style()):
+            for selector in [] if selectors.startswith("@media") else selectors.split(","):
                 self.assertRegex(selector.strip(), r"^(?:body)?\.whatif\b")
 
 

@@ -78,7 +78,9 @@ class Blocks:
             return f"{seen.label(words[1]).text} by {seen.label(words[2]).text}{second}"
         if name == "compare":
             return " and ".join("as it is" if word == "-" else word for word in words[1:3])
-        return {"changes": f"What {question.session} hasn't seen", "formula": "A formula"}.get(name) or f"Cells {words[1].upper()}"
+        if name in ("show", "export"):
+            return f"Cells {words[1].upper()}" if ":" in words[1] else seen.label(words[1]).words or f"Cell {words[1].upper()}"
+        return f"What {question.session} hasn't seen" if name == "changes" else "A formula"
 
     def table(self, question: Question, seen: Seen) -> Markup:
         words = question.command.words

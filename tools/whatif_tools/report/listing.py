@@ -6,21 +6,26 @@ from whatif.drawing import Markup, joined, tag
 
 from ..finding import Finding
 from ..script import Command, lines_of
+from .questions import SHOWING
 
 MOST_OPEN = 80
 """A longer script is shown when it is asked for."""
+
+MOST_LISTED = 3_000
+"""Of the lines behind these only those are shown that ask something, or in which something is found."""
 
 DATA_SHOWN = 12
 LONGEST = 400
 
 
 def listing(script: bytes, commands: Sequence[Command], findings: Sequence[Finding], name: str = "The script", anchor: str = "L") -> Markup:
-    """All lines but those in the middle of long data, which have no finding."""
+    """All lines but those in the middle of long data and those behind many others, unless something is found or asked there."""
     lines = lines_of(script)
     by_line: dict[int, list[str]] = {}
     for finding in findings:
         by_line.setdefault(finding.line, []).append(finding.message)
-    left_out = set(data_left_out(commands)) - set(by_line)
+    asked = {command.line for command in commands if command.name in SHOWING}
+    left_out = {*data_left_out(commands), *range(MOST_LISTED + 1, len(lines) + 1)} - set(by_line) - asked
     shown: list[Markup] = []
     skipped = 0
     for number, line in enumerate(lines, 1):
@@ -45,7 +50,7 @@ def data_left_out(commands: Sequence[Command]) -> list[int]:
 
 
 def gap(count: int) -> Markup:
-    return tag("span", tag("i", "\u2026"), f"{count:,} more lines of data", class_="soft")
+    return tag("span", tag("i", "\u2026"), f"{count:,} more lines", class_="soft")
 
 
 def numbered(anchor: str, line: str, messages: Sequence[str]) -> Markup:

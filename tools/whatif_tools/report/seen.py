@@ -3,6 +3,7 @@
 from dataclasses import dataclass, field
 
 from whatif.drawing import Bar, Label
+from whatif.drawing.cells import MOST_DRAWN
 
 from ..program import Reply
 from ..sheet import Address, Rectangle
@@ -43,7 +44,12 @@ class Picture:
     def inside(self, words: list[str]) -> list[Address]:
         """The cells of an area that show something."""
         area = Rectangle.parse(words[1])
-        return [] if area is None else [at for at in self.cells if at in area]
+        if area is None:
+            return []
+        if area.cells() > len(self.cells):
+            return [at for at in self.cells if at in area]
+        rows, columns = range(area.first.row, area.last.row + 1), range(area.first.column, area.last.column + 1)
+        return [at for at in (Address(row, column) for row in rows for column in columns) if at in self.cells]
 
 
 @dataclass
@@ -69,7 +75,7 @@ class Seen:
 def seen_at(question: Question, picture: Picture, formulas: Formulas) -> Seen:
     """The names and values of the cells that a question names, and of those in its reply."""
     words, name = question.command.words, question.command.name
-    seen = Seen()
+    seen, names = Seen(), names_in(picture.cells)
     addresses: list[str] = []
     if question.is_refused:
         return seen
@@ -83,7 +89,8 @@ def seen_at(question: Question, picture: Picture, formulas: Formulas) -> Seen:
         inside = picture.inside(words)
         seen.texts = {str(at) for at in inside if picture.cells[at][0] == "T"}
         seen.formulas = {str(at): formulas[at] for at in inside if at in formulas}
-    for address in map(str.upper, addresses):
-        seen.labels[address] = picture.label(address)
+        addresses = [] if ":" in words[1] else [words[1]]
+    for address in map(str.upper, addresses[:MOST_DRAWN]):
+        seen.labels[address] = names.at(address)
         seen.values[address] = picture.text(address)
     return seen

@@ -29,17 +29,17 @@ def sheet_html(
     columns = [letters_behind(letters, j) for j in range(max(map(len, records), default=0))]
     known = formulas or {}
     rows = []
-    for i, record in enumerate(records):
+    for i, record in enumerate(records[:MOST_DRAWN]):
         cells = []
         for column, value in zip(columns, record):
             address = f"{column}{first + i}"
             cells.append(sheet_cell(shown(value), known.get(address, ""), address in texts, places))
         rows.append(row(tag("th", str(first + i), scope="row", class_="soft"), *cells))
     heads = [row(tag("td"), *(column_head(column, class_="soft") for column in columns))]
-    parts = [folded(caption or area.upper() + ("; formulas are shaded" if known else ""), heads, rows[: MOST_DRAWN], "grid")]
-    if len(rows) > MOST_DRAWN:
+    parts = [folded(caption or area.upper() + ("; formulas are shaded" if known else ""), heads, rows, "grid")]
+    if len(records) > MOST_DRAWN:
         texts_of = [[shown(value) for value in record] for record in records]
-        parts.append(download(texts_of, f"all {len(rows):,} rows as CSV", "cells.csv"))
+        parts.append(download(texts_of, f"all {len(records):,} rows as CSV", "cells.csv"))
     return joined(parts)
 
 

@@ -8,7 +8,7 @@ from collections.abc import Iterable, Sequence
 from dataclasses import dataclass
 
 from .markup import NOTHING, Markup, joined, tag
-from .style import style
+from .style import PAPER, style
 
 COPY = """
 const exact = cell => cell.title.split(" ").pop() || cell.textContent.trim();
@@ -43,11 +43,11 @@ class Part:
 def part_html(part: Part) -> Markup:
     head = tag("h2", part.title) if part.title else NOTHING
     about = tag("p", part.about, class_="meta") if part.about else NOTHING
-    return tag("section", head, about, Markup(part.body), class_=part.kind or None, id=part.anchor or None)
+    return tag("section", head, about, part.body, class_=part.kind or None, id=part.anchor or None)
 
 
 def report(title: str, parts: Iterable[Part], *, about: str = "", sources: Sequence[tuple[str, str]] = ()) -> str:
-    """A page of its own, with all that it needs in it. Bodies are markup, as the functions `.._html` make it; any other text is escaped.
+    """A page of its own, with all that it needs in it. Bodies are what the functions `.._html` make; any other text is escaped, also as a body.
 
     Path("report.html").write_text(report("A tariff", [Part("The bill", table_html(..))]), encoding="utf-8")
     """
@@ -61,7 +61,7 @@ def report(title: str, parts: Iterable[Part], *, about: str = "", sources: Seque
             tag("title", title),
             Markup('<meta name="viewport" content="width=device-width,initial-scale=1">'),
             Markup(f'<meta http-equiv="Content-Security-Policy" content="{policy}">'),
-            tag("style", Markup(style())),
+            tag("style", Markup(style() + PAPER)),
         ]
     )
     body = tag("body", tag("main", *main), tag("script", Markup(COPY)), class_="whatif")
@@ -70,4 +70,4 @@ def report(title: str, parts: Iterable[Part], *, about: str = "", sources: Seque
 
 def fragment(body: str) -> Markup:
     """A part with its style, as `_repr_html_` gives it to a notebook."""
-    return tag("div", tag("style", Markup(style())), Markup(body), class_="whatif", style="padding:8px 10px;max-width:1100px")
+    return tag("div", tag("style", Markup(style())), body, class_="whatif", style="padding:8px 10px;max-width:1100px")

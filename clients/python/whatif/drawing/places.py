@@ -56,8 +56,8 @@ def text_box(x: float, baseline: float, text: str, anchor: str = "start") -> Box
 def spread(wanted: list[float], apart: float, low: float, high: float) -> list[float]:
     """Places near the wanted ones, at least so far apart and between low and high, in the same order.
 
-    >>> spread([10, 12, 50], 10, 0, 100)
-    [10, 20, 50]
+    >>> spread([10, 12, 50], 10, 0, 100), spread([99, 98, 97], 10, 0, 100)
+    ([10, 20, 50], [100, 90, 80])
     """
     order = sorted(range(len(wanted)), key=lambda at: wanted[at])
     found = [0.0] * len(wanted)

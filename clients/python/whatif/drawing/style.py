@@ -19,6 +19,7 @@ body.whatif{background:var(--paper);margin:0}
 .whatif section{background:var(--card);border:1px solid var(--rule);border-radius:10px;padding:14px 18px;margin:14px 0}
 .whatif section:target,.whatif pre span:target{outline:2px solid var(--link)}
 .whatif .soft{color:var(--soft);font-weight:400}
+.whatif p.soft{font-size:14px}
 .whatif .e{color:var(--error);font-weight:600}
 .whatif .findings{background:var(--warning)}
 .whatif .good{background:var(--good)}
@@ -109,7 +110,6 @@ body.whatif{background:var(--paper);margin:0}
 .whatif pre i{min-width:2.4em;margin-right:.8em}
 }
 @media print{
-@page{size:A4;margin:14mm}
 body.whatif{background:#fff}
 .whatif main{max-width:none;padding:0}
 .whatif{font-size:11px;-webkit-print-color-adjust:exact;print-color-adjust:exact}
@@ -128,6 +128,10 @@ body.whatif{background:#fff}
 .whatif button{white-space:nowrap;display:none}
 }
 """
+
+
+PAPER = "@page{size:A4;margin:14mm}"
+"""For whole pages alone: it would hold for all of a notebook."""
 
 
 def style() -> str:

@@ -14,6 +14,7 @@ from .values import drawn_alone, exact, places_for, shown
 REACH = 1000
 MOST_BARS = 12
 MOST_FAULTS = 4
+MOST_LISTED = 100
 
 
 @dataclass(frozen=True)
@@ -113,12 +114,14 @@ def both(known: Bar, digits: int) -> tuple[Markup, Markup]:
 
 
 def more_html(bars: Sequence[Bar], base: Fraction, places: int | None) -> Markup:
-    """The inputs that move the result less, as a list."""
+    """The inputs that move the result less, as a list of at most a hundred."""
     if not bars:
         return NOTHING
+    count, bars = len(bars), bars[:MOST_LISTED]
     ends = [end for known in bars for end in known.results() or ()]
     digits = places_for([*ends, base], places)
     rows = [row(tag("th", known.input.html(), scope="row"), entry(shown(known.value)), *both(known, digits)) for known in bars]
     heads = row(column_head("input"), *(column_head(text, class_="n") for text in ("now", "lower", "higher")))
-    summary = tag("summary", f"{counted(len(bars), 'input moves', 'inputs move')} it less")
-    return tag("details", summary, table("inputs that move it less", [heads], rows))
+    summary = tag("summary", f"{counted(count, 'input moves', 'inputs move')} it less")
+    left_out = note(f"{count - MOST_LISTED:,} more aren't listed.") if count > MOST_LISTED else NOTHING
+    return tag("details", summary, table("inputs that move it less", [heads], rows), left_out)
