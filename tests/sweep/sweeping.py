@@ -125,7 +125,7 @@ class SweepTest(unittest.TestCase):
         return subprocess.run(self.words(*words), cwd=self.folder, env=self.environment(program), timeout=180, **streams)
 
     def swept(self, sets: str, *words: object, model: object = None, out: str = "B4", program: object = PROGRAM) -> "Ran[str]":
-        return self.run_tool(model or self.model, "--out", out, "--jobs", "2", *words, sets=sets, program=program)
+        return self.run_tool(model or self.model, "--out", out, "--jobs", "1", *words, sets=sets, program=program)
 
     def failures(self, path: str = "whatif-sweep.failures.csv") -> list[str]:
         return (self.folder / path).read_text().splitlines()[1:]

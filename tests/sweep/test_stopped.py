@@ -32,7 +32,7 @@ class ProgramTest(SweepTest):
         self.assertEqual((ran.returncode, ran.stdout), (0, WANTED))
 
     def test_a_set_that_kills_the_program_each_time(self) -> None:
-        ran = self.swept(SETS, "--chunk", "50", program=self.dying("force set B1 77"))
+        ran = self.swept(SETS, "--chunk", "50", "--jobs", "2", program=self.dying("force set B1 77"))
         self.assertEqual((ran.returncode, ran.stdout), (1, WANTED.replace("n77,24.64\n", "")))
         self.assertEqual(self.failures(), ["78,n77,the program ends at this set: killed by signal 9"])
 
