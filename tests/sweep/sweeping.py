@@ -146,8 +146,8 @@ class SweepTest(unittest.TestCase):
     def quicken(self) -> None:
         (self.folder / "seconds").unlink()
 
-    def dying(self, at: str, times: int = 1000) -> Path:
-        """The program, but it is killed at a command, so many times; what comes before is answered."""
+    def dying(self, at: str, times: int = 1000, by: int = 9) -> Path:
+        """The program, but it is killed at a command by a signal, so many times; what comes before is answered."""
         return self.script(
             "dying",
             f"""#!{sys.executable}
@@ -163,7 +163,7 @@ if not found or deaths >= {times}:
 with count.open("ab") as file:
     file.write(b".")
 subprocess.run([{PROGRAM!r}], input=before)
-os.kill(os.getpid(), 9)
+os.kill(os.getpid(), {by})
 """,
         )
 
