@@ -125,7 +125,7 @@ class SweepTest(unittest.TestCase):
         return subprocess.run(self.words(*words), cwd=self.folder, env=self.environment(program), timeout=180, **streams)
 
     def swept(self, sets: str, *words: object, model: object = None, out: str = "B4", program: object = PROGRAM) -> "Ran[str]":
-        return self.run_tool(model or self.model, "--out", out, "--jobs", "2", *words, sets=sets, program=program)
+        return self.run_tool(model or self.model, "--out", out, "--jobs", "1", *words, sets=sets, program=program)
 
     def failures(self, path: str = "whatif-sweep.failures.csv") -> list[str]:
         return (self.folder / path).read_text().splitlines()[1:]
@@ -146,8 +146,8 @@ class SweepTest(unittest.TestCase):
     def quicken(self) -> None:
         (self.folder / "seconds").unlink()
 
-    def dying(self, at: str, times: int = 1000) -> Path:
-        """The program, but it is killed at a command, so many times; what comes before is answered."""
+    def dying(self, at: str, times: int = 1000, by: int = 9) -> Path:
+        """The program, but it is killed at a command by a signal, so many times; what comes before is answered."""
         return self.script(
             "dying",
             f"""#!{sys.executable}
@@ -163,7 +163,7 @@ if not found or deaths >= {times}:
 with count.open("ab") as file:
     file.write(b".")
 subprocess.run([{PROGRAM!r}], input=before)
-os.kill(os.getpid(), 9)
+os.kill(os.getpid(), {by})
 """,
         )
 

@@ -24,7 +24,7 @@ class ResultsTest(SweepTest):
     def test_two_hundred_sets_are_exactly_as_pythons_fractions(self) -> None:
         head, *lines = solar_sets(100_000)
         some = random.Random(7).sample(lines, 200)
-        ran = self.swept(text_of([head, *some]), model=SOLAR, out="B10")
+        ran = self.swept(text_of([head, *some]), "--jobs", "2", model=SOLAR, out="B10")
         wanted = [(line.split(",")[0], left(*line.split(",")[1:])) for line in some]
         given = [line.split(",") for line in ran.stdout.splitlines()[1:]]
         self.assertEqual([(name, Fraction(result)) for name, result in given], wanted)
@@ -32,7 +32,7 @@ class ResultsTest(SweepTest):
     def test_chunks_are_one_process(self) -> None:
         sets = text_of(solar_sets(1500))
         one = self.swept(sets, "--chunk", "1500", "--jobs", "1", model=SOLAR, out="B10")
-        many = self.swept(sets, "--chunk", "70", model=SOLAR, out="B10")
+        many = self.swept(sets, "--chunk", "70", "--jobs", "3", model=SOLAR, out="B10")
         self.assertEqual((one.returncode, one.stdout), (many.returncode, many.stdout))
         self.assertEqual(len(one.stdout.splitlines()), 1501)
 

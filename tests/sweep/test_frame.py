@@ -32,6 +32,17 @@ class Here:
         return future
 
 
+class Stops(Here):
+    """It runs three calls, and then none."""
+
+    def submit(self, function: object, *arguments: object) -> "Future[object]":
+        if self.calls < 3:
+            return super().submit(function, *arguments)
+        future: Future[object] = Future()
+        future.set_exception(OSError("no more"))
+        return future
+
+
 class RowsTest(SweepTest):
     def test_fractions_as_python_has_them(self) -> None:
         given = rows(200)
@@ -45,8 +56,20 @@ class RowsTest(SweepTest):
             given = [{"B1": it, "B2": 0.5} for it in range(1, 100)]
             wanted = [{"B4": it / 2, "B7": 100 / it} for it in range(1, 100)]
             for executor in (None, threads, here):
-                self.assertEqual(whatif.sweep(self.model, given, ["B4", "B7"], executor), wanted)
-        self.assertGreater(here.calls, 30)
+                self.assertEqual(whatif.sweep(self.model, given, ["B4", "B7"], executor, chunk=3), wanted)
+        self.assertEqual(here.calls, 33)
+
+    def test_what_was_done_is_kept(self) -> None:
+        given = [{"B1": it, "B3": f"n{it}"} for it in range(1, 100)]
+        wanted = [{"B5": f"n{it} {it}", "B4": Fraction(it * 32, 100)} for it in range(1, 100)]
+        more = {"numbers": Fraction, "resume": self.folder / "work", "chunk": 10}
+        with self.assertRaisesRegex(RuntimeError, "7 chunks have no results; the first is that of row 30: no more"):
+            whatif.sweep(self.model, given, ["B5", "B4"], Stops(), **more)
+        here = Here()
+        self.assertEqual(whatif.sweep(self.model, given, ["B5", "B4"], here, **more), wanted)
+        self.assertEqual(here.calls, 7)
+        with self.assertRaisesRegex(whatif.WrongSweep, "is another sweep: it differs in the sets"):
+            whatif.sweep(self.model, given[:50], ["B5", "B4"], here, **more)
 
     def test_a_workbook_as_the_model(self) -> None:
         with mock.patch.dict(os.environ, WHATIF="/none"), whatif.Workbook(PROGRAM, epoch=date(2026, 1, 1)) as book:

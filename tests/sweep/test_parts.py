@@ -11,7 +11,7 @@ from whatif.sweeps import drive, folder, names, plan
 from whatif.sweeps.chunk import lines, program, replies, run
 from whatif.sweeps.chunk.job import Job
 
-MODULES = ["chunk.job", "chunk.lines", "head", "names", "plan", "progress"]
+MODULES = ["chunk.job", "chunk.lines", "copying", "head", "names", "plan", "progress"]
 
 
 def load_tests(_loader: unittest.TestLoader, tests: unittest.TestSuite, _pattern: str) -> unittest.TestSuite:
@@ -71,10 +71,10 @@ class ChunkTest(SweepTest):
 
 class FolderTest(unittest.TestCase):
     def test_lines_a_chunk(self) -> None:
-        for count, lines in ((0, 10), (100, 10), (3200, 100), (100_000, 3120), (1_000_000, 4000), (100_000_000, 20_000)):
+        for count, lines in ((0, 10), (100, 10), (3200, 100), (100_000, 3125), (1_000_000, 4000), (100_000_000, 20_000)):
             self.assertEqual(folder.lines_a_chunk(count, 199_995, None), lines)
-        self.assertEqual(folder.lines_a_chunk(100_000, 1234, None), 1230)
-        self.assertEqual(folder.lines_a_chunk(100_000, 199_995, 57), 50)
+        self.assertEqual(folder.lines_a_chunk(100_000, 1234, None), 1234)
+        self.assertEqual(folder.lines_a_chunk(100_000, 199_995, 1), 1)
 
     def test_first_fields(self) -> None:
         for line, field in ((b"a,1\n", b"a"), (b'"a, b",1\n', b"a, b"), (b'"a",1\n', b"a"), (b'"a\n', b'"a'), (b",1\n", b"")):

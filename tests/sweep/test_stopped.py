@@ -32,9 +32,14 @@ class ProgramTest(SweepTest):
         self.assertEqual((ran.returncode, ran.stdout), (0, WANTED))
 
     def test_a_set_that_kills_the_program_each_time(self) -> None:
-        ran = self.swept(SETS, "--chunk", "50", program=self.dying("force set B1 77"))
+        ran = self.swept(SETS, "--chunk", "50", "--jobs", "2", program=self.dying("force set B1 77"))
         self.assertEqual((ran.returncode, ran.stdout), (1, WANTED.replace("n77,24.64\n", "")))
         self.assertEqual(self.failures(), ["78,n77,the program ends at this set: killed by signal 9"])
+
+    def test_a_program_that_somebody_stops_is_no_fault_of_a_set(self) -> None:
+        ran = self.swept(SETS, "--chunk", "50", program=self.dying("force set B1 77", by=15))
+        self.assertEqual((ran.returncode, ran.stdout), (3, ""))
+        self.assertIn("the program was stopped: killed by signal 15", ran.stderr)
 
     def test_a_program_that_ends_at_each_set(self) -> None:
         dying = self.script("dying", f"#!/bin/sh\n[ -p /dev/stdin ] && exec {PROGRAM}\nif grep -q '^show B4'; then exit 7; fi\n"

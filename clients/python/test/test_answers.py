@@ -74,6 +74,16 @@ class AnswersTest(unittest.TestCase):
         self.assertEqual(self.read(self.book.scenarios("B4")).rows, [["", "sheet", "winter"], ["bill", "92", "140"]])
         self.assertEqual(self.read(self.book.sensitivity("B4")).rows[3], ["fee", "12", "90.8", "93.2", "2.4"])
 
+    def test_a_workbook(self) -> None:
+        self.book["C9"] = self.book["ZZ100"] = 1
+        del self.book["ZZ100"]
+        read = self.read(self.book)
+        self.assertEqual((read.caption, read.rows[0], read.rows[4]), ("A1:C9", ["", "A", "B", "C"], ["4", "bill", "92", ""]))
+        self.book["ZZ100"] = 1
+        self.assertEqual(self.read(self.book).caption, "A1:P40")
+        with Workbook() as empty:
+            self.assertEqual(self.read(empty).rows, [["", "A"], ["1", ""]])
+
     def test_texts_are_escaped(self) -> None:
         for text in ("<script>alert(1)</script>", '"&amp;', "</td>"):
             self.book["A1"] = text

@@ -39,8 +39,9 @@ class InTest(PandasTest):
             self.book["B2:B3"] = 7
             self.book["A1"] = pandas.DataFrame({"a": [1, 2], "b": pandas.Series([1, missing], dtype=object)})
             self.assertEqual(self.book["A2:B3"], [[1, 1], [2, None]])
-        with self.assertRaisesRegex(ValueError, "no number that a cell can hold; None is an empty cell"):
-            self.book["A1"] = float("nan")
+        for missing in (float("nan"), pandas.NA, pandas.NaT, numpy.datetime64("NaT"), numpy.float32("nan")):
+            with self.assertRaisesRegex(ValueError, "no value that a cell can hold; None is an empty cell"):
+                self.book["A1"] = missing
         with self.assertRaisesRegex(ValueError, "^B3: "):
             self.book["A1"] = pandas.DataFrame({"a": [1, 2], "b": [1, numpy.inf]})
 

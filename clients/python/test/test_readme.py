@@ -56,7 +56,7 @@ class ReadmeTest(unittest.TestCase):
             answers = [it.partition("  ")[0] for it in source.splitlines()[1:]]
             known = {"pandas": pandas, "whatif": whatif, "book": book, "Fraction": Fraction, "dask_client": ThreadPoolExecutor(1)}
             exec(source.splitlines()[0], known)
-            found = [eval(it.replace("tariff.whatif", str(model)), known) for it in answers]
+            found = [eval(it.replace("tariff.whatif", str(model)).replace('"work"', repr(f"{folder}/work")), known) for it in answers]
             known["dask_client"].shutdown()
         self.assertEqual([found[0]["B4"].tolist(), list(found[0].index), found[1]["B4"].tolist()], [[92, 124], ["now", "winter"], [92, 124]])
         self.assertEqual(found[2], [{"B4": 92}, {"B4": 140}])

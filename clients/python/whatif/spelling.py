@@ -55,7 +55,7 @@ class Spelling:
         else:
             exact = Decimal(f"{value:.{self.digits}g}" if self.digits < ALL_DIGITS else repr(float(value)))
         if isinstance(exact, Decimal) and not exact.is_finite():
-            raise ValueError(f"{value!r} is no number that a cell can hold; None is an empty cell")
+            raise ValueError(f"{value!r} is no value that a cell can hold; None is an empty cell")
         return exact
 
     def days(self, value: Any) -> Fraction:
@@ -84,6 +84,8 @@ class Spelling:
                 return text  # as most floats are; it is what the way below gives
         if is_truth_value(value):
             return "TRUE" if value else "FALSE"
+        if is_missing(value):
+            raise ValueError(f"{value!r} is no value that a cell can hold; None is an empty cell")
         if isinstance(value, (numbers.Real, Decimal)) or is_date(value):
             number = self.exact(value)
             text = str(number) if number.denominator == 1 else shown(number)
@@ -123,6 +125,11 @@ def is_truth_value(value: Any) -> bool:
 def is_date(value: Any) -> bool:
     """Whether it is a date of Python, pandas or NumPy."""
     return isinstance(value, date) or (type(value).__module__ == "numpy" and type(value).__name__ == "datetime64")
+
+
+def is_missing(value: Any) -> bool:
+    """Whether it stands for no value: NA, NaT."""
+    return type(value).__name__ in ("NAType", "NaTType") or (type(value).__name__ == "datetime64" and value != value)
 
 
 def spells_another(text: str) -> bool:

@@ -3,7 +3,6 @@
 from __future__ import annotations
 
 import hashlib
-from array import array
 from collections.abc import Iterable
 from dataclasses import dataclass
 from pathlib import Path
@@ -12,15 +11,12 @@ from typing import BinaryIO, Optional
 from .head import WrongSweep
 from .names import Names, twice
 
-GRAIN = 10
-
 
 @dataclass(frozen=True)
 class Sets:
-    """What was found on the way through the sets: how many there are, and where every tenth line begins."""
+    """What was found on the way through the sets: how many there are, how many bytes they take with their head, and their SHA-256."""
 
     count: int
-    starts: array[int]
     end: int
     sha256: str
 
@@ -36,19 +32,16 @@ def parted_from_head(sets: BinaryIO) -> bytes:
 def copied(head: bytes, sets: Iterable[bytes], to: BinaryIO, names: Optional[Names]) -> Sets:
     """Writes the sets into a file, and notes their names, if there are names."""
     digest = hashlib.sha256(head)
-    starts = array("Q")
-    at, count = to.write(head), 0
-    for number, line in enumerate(sets):
-        if number % GRAIN == 0:
-            starts.append(at)
+    end, count = to.write(head), 0
+    for line in sets:
         if line.strip(b"\r\n"):
             count += 1
             if names:
                 names.add(line)
         digest.update(line)
-        at += to.write(line)
+        end += to.write(line)
     to.flush()
-    return Sets(count, starts, at, digest.hexdigest())
+    return Sets(count, end, digest.hexdigest())
 
 
 def copied_once(head: bytes, sets: Iterable[bytes], path: Path, is_named: bool) -> Sets:
@@ -63,3 +56,18 @@ def copied_once(head: bytes, sets: Iterable[bytes], path: Path, is_named: bool) 
         if told:
             raise WrongSweep(f"a name stands twice: {', '.join(told)}; --repeated takes such sets")
     return found
+
+
+def starts_of(lines: Iterable[bytes], size: int) -> list[int]:
+    """Where each chunk of so many lines begins; the first line is the head.
+
+    >>> starts_of([b"name,B1\\n", b"a,1\\n", b"b,10\\n", b"c,1\\n"], 2)
+    [8, 17]
+    """
+    starts = []
+    at = 0
+    for number, line in enumerate(lines, -1):
+        if number >= 0 and number % size == 0:
+            starts.append(at)
+        at += len(line)
+    return starts

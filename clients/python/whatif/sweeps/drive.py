@@ -50,7 +50,7 @@ class Run:
 
     engine: Engine
     call: Callable[[Any], tuple[Any, ...]]
-    keep: Callable[[Any, Any], None]
+    keep: Callable[[Any, Any], object]
     tell: Callable[[str], None] = lambda text: None
     running: dict[Future[Any], tuple[Any, int]] = field(default_factory=dict)
     again: deque[tuple[Any, int]] = field(default_factory=deque)

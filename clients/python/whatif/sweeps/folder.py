@@ -18,19 +18,20 @@ from typing import IO, Any, BinaryIO, Optional
 
 from .chunk.lines import line_of
 from .chunk.run import Done, checked, key_of
-from .copying import GRAIN, copied_once
+from .copying import copied_once, starts_of
 from .head import Head, WrongSweep
 from .plan import Plan
 from ..whole import write_whole
 
 VERSION = 1
 LARGEST_CHUNK = 4000
+SMALLEST_CHUNK = 10
 LEAST_CHUNKS = 32
 MOST_CHUNKS = 5000
 FAILURES_HEAD = b"line,name,reason\n"
 
 
-@dataclass(frozen=True)
+@dataclass(frozen=True, order=True)
 class Chunk:
     """Some lines of the sets: the chunk's number, the number of its first line, and where it is in the file."""
 
@@ -41,9 +42,9 @@ class Chunk:
 
 
 def lines_a_chunk(count: int, most: int, wanted: Optional[int]) -> int:
-    """How many lines a chunk has: a multiple of ten, such that there are some chunks for each core, and not too many in all."""
-    size = wanted or min(max(LARGEST_CHUNK, count // MOST_CHUNKS), count // LEAST_CHUNKS)
-    return max(GRAIN, min(size, most) // GRAIN * GRAIN)
+    """How many lines a chunk has: as many as are wanted, or such that there are some chunks for each core, and not too many in all."""
+    size = wanted or max(SMALLEST_CHUNK, min(max(LARGEST_CHUNK, count // MOST_CHUNKS), count // LEAST_CHUNKS))
+    return min(size, most)
 
 
 class Folder:
@@ -76,8 +77,10 @@ class Folder:
         (path / "done").mkdir(parents=True, exist_ok=True)
         found = copied_once(head.line, sets, path / "sets.csv", is_named)
         size = lines_a_chunk(found.count, plan.most_sets(), lines)
-        if size > plan.most_sets():
-            raise WrongSweep(f"a process reads a million lines at most, and {size} sets of this model take more")
+        if size < 1:
+            raise WrongSweep("a process reads a million lines at most, and one set of this model takes more; or --chunk isn't positive")
+        with (path / "sets.csv").open("rb") as file:
+            starts = starts_of(file, size)
         write_whole(path / "job.json", plan.job.to_bytes())
         says = {
             "version": VERSION,
@@ -86,7 +89,7 @@ class Folder:
             "program": {"path": plan.program, "sha256": plan.job.program_sha256},
             "head": line_of([*head.labels, *plan.outputs]).decode(),
             "lines": size,
-            "starts": list(found.starts[:: size // GRAIN]),
+            "starts": starts,
         }
         write_whole(path / "sweep.json", json.dumps(says, indent=1).encode())
         return Folder(path)

@@ -7,18 +7,22 @@ import io
 from collections.abc import Sequence
 from datetime import date
 from pathlib import Path
+from tempfile import TemporaryDirectory
 from typing import Any, Optional, Union
 
 from ..spelling import Spelling
 from ..values import Numbers, as_numbers, read
 from ..workbook import Workbook
 from . import executors
-from .chunk.run import checked, key_of, run_chunk
+from .chunk.run import run_chunk
 from .drive import Executor, Run
-from .folder import LARGEST_CHUNK, LEAST_CHUNKS
-from .head import WrongSweep
+from .folder import Chunk, Folder
+from .head import Head, WrongSweep
 from .inputs import KINDS, Inputs
 from .plan import Asked, Plan, found_program, planned
+
+FIRST_LINE = 2
+"""Of the sets; the head is the first."""
 
 
 class SetsFailed(Exception):
@@ -44,6 +48,8 @@ def sweep(
     errors: str = "raise",
     digits: Optional[int] = None,
     epoch: Optional[date] = None,
+    resume: Union[str, Path, None] = None,
+    chunk: Optional[int] = None,
 ) -> Any:
     """What the outputs show for each row of a frame, whose columns have the addresses of the cells that they are put into as names.
 
@@ -51,7 +57,8 @@ def sweep(
     the labels and the outputs; or it is a list of dicts, and the answer one too. Numbers are floats, or what `numbers` makes of a
     Fraction. The executor is any with the `submit` of concurrent.futures, or a Client of Dask; without one, `jobs` processes of this
     machine. Rows without a result raise `SetsFailed`, or are left out if `errors` is "drop". Floats and dates go in as by `Workbook`, or
-    as by the workbook that is the model.
+    as by the workbook that is the model. With a folder as `resume` what is done is kept there, and the same call again does only what lacks.
+    A process of the program takes so many rows as `chunk` says.
 
     whatif.sweep("solar.whatif", frame, ["B10", "B11"])
     """
@@ -60,7 +67,8 @@ def sweep(
     known = model.spelling if isinstance(model, Workbook) else Spelling()
     inputs = Inputs.of(frame, labels, Spelling(digits or known.digits, epoch or known.epoch))
     plan = planned_for(model, inputs, outputs, scenario, program)
-    answers, failures = ran_over(plan, inputs.lines, executor, jobs)
+    with TemporaryDirectory(prefix="whatif-sweep-") as own:
+        answers, failures = ran_in(folder_of(Path(resume or own), plan, inputs, chunk), executor, jobs)
     if failures and errors == "raise":
         raise SetsFailed(dict(sorted(failures.items())))
     places = sorted(answers)
@@ -81,33 +89,38 @@ def planned_for(model: Union[str, Path, Workbook], inputs: Inputs, outputs: Sequ
     return plan.of_kinds(inputs.kinds)
 
 
-def ran_over(plan: Plan, lines: Sequence[str], executor: Optional[Executor], jobs: Optional[int]) -> tuple[dict[int, list[str]], dict[int, str]]:
-    """What the outputs show for each line, and why a line has no result."""
-    job = plan.job.to_bytes()
-    size = max(1, min(LARGEST_CHUNK, plan.most_sets(), len(lines) // LEAST_CHUNKS))
-    answers: dict[int, list[str]] = {}
-    failures: dict[int, str] = {}
+def folder_of(path: Path, plan: Plan, inputs: Inputs, lines: Optional[int]) -> Folder:
+    """The folder of this sweep, made if it isn't there."""
+    head = Head(",".join(inputs.kinds).encode() + b"\n", (), tuple(inputs.kinds))
+    sets = io.BytesIO("".join(inputs.lines).encode())
+    if not Folder.is_there(path):
+        return Folder.made(path, plan, head, sets, False, lines)
+    folder = Folder(path)
+    other = folder.differs(plan, head, sets)
+    if other:
+        raise WrongSweep(f"{path} is another sweep: it differs in {other}. Name another folder, or remove this one")
+    return folder
 
-    def data(at: int) -> bytes:
-        return "".join(lines[at : at + size]).encode()
 
-    def keep(at: int, given: bytes) -> None:
-        done = checked(key_of(job, at, data(at)), given)
-        if done is None:
-            raise RuntimeError("the results came damaged")
-        failed = {int(place): reason for place, _, reason in records(done.failures)}
-        failures.update(failed)
-        places = (it for it in range(at, at + size) if it not in failed)
-        answers.update(zip(places, records(done.results)))
+def ran_in(folder: Folder, executor: Optional[Executor], jobs: Optional[int]) -> tuple[dict[int, list[str]], dict[int, str]]:
+    """What the outputs show for each row, and why a row has no result. What is done already isn't done again."""
+
+    def call(chunk: Chunk) -> tuple[Any, ...]:
+        return run_chunk, folder.job, folder.program, chunk.first, folder.data(chunk)
 
     engine = executors.of(executor, jobs)
     try:
-        given_up = Run(engine, lambda at: (run_chunk, job, plan.program, at, data(at)), keep).all(range(0, len(lines), size))
+        given_up = Run(engine, call, folder.keep).all(folder.lacking())
     finally:
         engine.close()
     if given_up:
-        raise RuntimeError(f"{len(given_up)} chunks have no results; the first is that of row {given_up[0][0]}: {given_up[0][1]}")
-    return answers, failures
+        chunk, reason = min(given_up)
+        raise RuntimeError(f"{len(given_up)} chunks have no results; the first is that of row {chunk.first - FIRST_LINE}: {reason}")
+    results, failed = io.BytesIO(), io.BytesIO()
+    folder.gather(results, failed)
+    failures = {int(line) - FIRST_LINE: reason for line, _, reason in records(failed.getvalue())[1:]}
+    places = (row for row in range(folder.count) if row not in failures)
+    return dict(zip(places, records(results.getvalue())[1:])), failures
 
 
 def records(written: bytes) -> list[list[str]]:

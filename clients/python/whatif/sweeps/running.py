@@ -46,7 +46,7 @@ def run_here(words: argparse.Namespace, folder: Folder, lacking: list[Chunk], pr
         raise NotWhole(f"no chunk succeeds: {error}") from None
     finally:
         engine.close()
-    for chunk, reason in given_up[:SHOWN]:
+    for chunk, reason in sorted(given_up)[:SHOWN]:
         say(f"chunk {chunk.number} (from line {chunk.first}): {reason}")
 
 

@@ -46,7 +46,7 @@ def parser() -> argparse.ArgumentParser:
     sweep.add_argument("--labels", type=int, default=1, metavar="N", help="how many columns are labels, the first of which is the name (1)")
     sweep.add_argument("--text", default="", metavar="CELLS", help="inputs that are texts, whatever they look like")
     sweep.add_argument("--repeated", action="store_true", help="names may stand twice")
-    sweep.add_argument("--chunk", type=int, metavar="N", help="lines for a process, in tens (at most 4000, and 32 chunks or more)")
+    sweep.add_argument("--chunk", type=int, metavar="N", help="lines for a process (10 to 4000, so that there are 32 chunks or more)")
 
     engines = words.add_argument_group("who runs it")
     engines.add_argument("--engine", choices=["local", "dask", "slurm"], default="local")
