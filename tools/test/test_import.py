@@ -256,7 +256,8 @@ class Spreadsheets(unittest.TestCase):
         path = str(SPREADSHEETS / "libreoffice.ods")
         status, written, told = called("--audit", path)
         self.assertEqual(status, 1)
-        self.assertEqual(told.splitlines()[-1], "18 of 19 formulas agree with the saved values; 1 differs: see --audit; 3 cells are frozen at what was saved")
+        line = "18 of 19 formulas agree with the saved values; 1 differs: see --audit; 3 cells are frozen at what was saved"
+        self.assertEqual(told.splitlines()[-1], line)
         self.assertTrue(written.startswith('"Model.C12","=1.05^40","#NUM!","7.03998871212466","#NUM!: the exact number'))
         self.assertEqual(written.count("\n"), 1)
         self.assertEqual(told.splitlines()[-2], "2 dates or times are numbers of days here, from B14 on")
@@ -389,7 +390,8 @@ class Parts(unittest.TestCase):
         self.assertEqual(put(Address(1, 2), "'a \"b\"\nc"), 'csv B1 2\n"a ""b""\nc"\n')
 
     def test_noise_in_formulas(self) -> None:
-        self.assertEqual([without_noise(text) for text in ("1.04999999999999999996", "12345678901234567", "2.5")], ["1.05", "12345678901234567", "2.5"])
+        for text, plain in (("1.04999999999999999996", "1.05"), ("12345678901234567", "12345678901234567"), ("2.5", "2.5")):
+            self.assertEqual(without_noise(text), plain)
 
     def test_near(self) -> None:
         self.assertTrue(near(Fraction("0.3"), Fraction("0.30000000000000004")))

@@ -93,11 +93,12 @@ class Carrier:
         if left:
             yield f"not taken: {', '.join(left)[:LONGEST_COMMENT]} (whatif-import FILE SHEET takes one and what it reads, --all takes all)"
         yield from told_settings(self.document, self.places)
-        for sheet in [None, *self.places.sheets()]:
-            for name in (self.document if sheet is None else sheet).names.values():
-                place = self.named(name.range, sheet or self.places.sheets()[0])
-                if place is not None:
-                    yield f"name {one_line(name.spelled)} {place}"
+        sheets = self.places.sheets()
+        names = [(name, sheets[0]) for name in self.document.names.values()]
+        for name, sheet in [*names, *((name, sheet) for sheet in sheets for name in sheet.names.values())]:
+            place = self.named(name.range, sheet)
+            if place is not None:
+                yield f"name {one_line(name.spelled)} {place}"
 
     def named(self, range_: str | None, sheet: Sheet) -> str | None:
         """The rectangle of a named range in the script; None where it lies elsewhere."""

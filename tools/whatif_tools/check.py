@@ -85,7 +85,8 @@ class Check:
 
     def marks(self) -> Iterator[Finding]:
         if self.script.startswith(BYTE_ORDER_MARK):
-            yield Finding(1, 1, Kind.ENCODING, "the script begins with a byte order mark: save it as UTF-8 without one, or sed -i '1s/^\\xEF\\xBB\\xBF//'")
+            message = "the script begins with a byte order mark: save it as UTF-8 without one, or sed -i '1s/^\\xEF\\xBB\\xBF//'"
+            yield Finding(1, 1, Kind.ENCODING, message)
 
     def of_commands(self) -> Iterator[Finding]:
         scenarios, grid = self.state_before()

@@ -89,7 +89,8 @@ def limited(read: Iterator[bytes], path: Path) -> Iterator[bytes]:
     for part in read:
         size += len(part)
         if size > MOST_BYTES:
-            raise NotASpreadsheet(f"{path} has more than {MOST_BYTES // 1_000_000} MB of XML: take the sheets that are needed into a file of their own")
+            most = MOST_BYTES // 1_000_000
+            raise NotASpreadsheet(f"{path} has more than {most} MB of XML: take the sheets that are needed into a file of their own")
         yield part
 
 
@@ -98,7 +99,8 @@ def converted(path: Path) -> Iterator[bytes]:
     program = shutil.which(CONVERTER)
     if program is None:
         command = f"{CONVERTER} --headless --convert-to ods {path}"
-        raise NotASpreadsheet(f"{path} is an Excel workbook, and {CONVERTER} of LibreOffice, which converts it, isn't on the path: install it, or run {command} elsewhere")
+        lacks = f"{CONVERTER} of LibreOffice, which converts it, isn't on the path"
+        raise NotASpreadsheet(f"{path} is an Excel workbook, and {lacks}: install it, or run {command} elsewhere")
     with tempfile.TemporaryDirectory() as folder:
         profile = Path(folder, "profile").as_uri()
         words = [program, f"-env:UserInstallation={profile}", "--headless", "--convert-to", "ods", "--outdir", folder, str(path.resolve())]

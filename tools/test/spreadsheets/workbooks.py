@@ -28,7 +28,8 @@ def cell(text: str) -> str:
     if text == "":
         return "<table:table-cell/>"
     if text.startswith("{="):
-        return f'<table:table-cell table:number-matrix-columns-spanned="1" table:number-matrix-rows-spanned="3" table:formula={quoteattr("of:" + text[1:-1])}/>'
+        spans = 'table:number-matrix-columns-spanned="1" table:number-matrix-rows-spanned="3"'
+        return f'<table:table-cell {spans} table:formula={quoteattr("of:" + text[1:-1])}/>'
     if text.startswith("="):
         return f"<table:table-cell{style} table:formula={quoteattr('of:' + text)}/>"
     if text.startswith("day "):
@@ -56,9 +57,13 @@ def workbook(*sheets: str, settings: str = "", names: str = "") -> str:
 def named(**found: str) -> str:
     """Names: a range begins with `$`, another text is an expression."""
     base = 'table:base-cell-address="$Recipe.$A$1"'
-    ranges = [f'<table:named-range table:name="{name}" {base} table:cell-range-address="{text}"/>' for name, text in found.items() if text.startswith("$")]
-    others = [f'<table:named-expression table:name="{name}" {base} table:expression="{text}"/>' for name, text in found.items() if not text.startswith("$")]
-    return f"<table:named-expressions>{''.join(ranges + others)}</table:named-expressions>"
+    kinds = {True: ("named-range", "cell-range-address"), False: ("named-expression", "expression")}
+    written = [
+        f'<table:{kind} table:name="{name}" {base} table:{attribute}="{text}"/>'
+        for name, text in found.items()
+        for kind, attribute in (kinds[text.startswith("$")],)
+    ]
+    return f"<table:named-expressions>{''.join(written)}</table:named-expressions>"
 
 
 def tariff() -> str:
@@ -98,8 +103,9 @@ def loan() -> str:
 
 def break_even() -> str:
     """A data table of one input, and `""` in a column."""
-    rows = [["'jars", "120", "", "50", "=MULTIPLE.OPERATIONS([.$B$4];[.$B$1];[.D1])"], ["'cost", "2.35", "", "100", "=MULTIPLE.OPERATIONS([.$B$4];[.$B$1];[.D2])"]]
-    rows += [["'fixed", "240", "", "200", "=MULTIPLE.OPERATIONS([.$B$4];[.$B$1];[.D3])"], ["'profit", "=[.B1]*(4.5-[.B2])-[.B3]"]]
+    inputs = (("'jars", "120", "50"), ("'cost", "2.35", "100"), ("'fixed", "240", "200"))
+    rows = [[name, text, "", x, f"=MULTIPLE.OPERATIONS([.$B$4];[.$B$1];[.D{at}])"] for at, (name, text, x) in enumerate(inputs, 1)]
+    rows += [["'profit", "=[.B1]*(4.5-[.B2])-[.B3]"]]
     rows += [["", f'=IF([.E{at}]<0;"";[.E{at}])', f'=IF([.B{at + 4}]="";"loss";"profit")'] for at in (1, 2, 3)]
     return workbook(sheet("Jars", rows))
 
@@ -117,7 +123,8 @@ def sink() -> str:
         ["", "=[.A8]+1"],
         ["", "=[.A9]+1"],
     ]
-    return workbook(sheet("Sink", rows), settings='<table:calculation-settings table:use-wildcards="true" table:use-regular-expressions="false" table:case-sensitive="false"/>')
+    told = 'table:use-wildcards="true" table:use-regular-expressions="false" table:case-sensitive="false"'
+    return workbook(sheet("Sink", rows), settings=f"<table:calculation-settings {told}/>")
 
 
 def settings() -> str:
@@ -135,8 +142,9 @@ def data() -> str:
     """A longer list, and sums of it on a sheet of its own."""
     regions = ("north", "south", "east")
     rows = [[f"'{regions[at % 3]}", str(at * 7 % 101), f"=[.B{at}]*1.07"] for at in range(1, 121)]
-    sums = [[f"'{region}", f"=SUMIF([$List.A1:.A120];[.A{at}];[$List.C1:.C120])", f'=SUMIFS([$List.B1:.B120];[$List.A1:.A120];[.A{at}];[$List.B1:.B120];">50")']
-            for at, region in enumerate(regions, 1)]
+    by_region = "=SUMIF([$List.A1:.A120];[.A{}];[$List.C1:.C120])"
+    by_both = '=SUMIFS([$List.B1:.B120];[$List.A1:.A120];[.A{}];[$List.B1:.B120];">50")'
+    sums = [[f"'{region}", by_region.format(at), by_both.format(at)] for at, region in enumerate(regions, 1)]
     return workbook(sheet("Sums", sums), sheet("List", rows))
 
 
@@ -169,10 +177,11 @@ def excel() -> dict[str, str]:
     overrides = (("/xl/workbook.xml", "sheet.main"), ("/xl/worksheets/sheet1.xml", "worksheet"))
     parts = "".join(f'<Override PartName="{name}" ContentType="{TYPES}.{kind}+xml"/>' for name, kind in overrides)
     return {
-        "[Content_Types].xml": '<?xml version="1.0"?><Types xmlns="http://schemas.openxmlformats.org/package/2006/content-types"><Default Extension="rels"'
-        f' ContentType="application/vnd.openxmlformats-package.relationships+xml"/>{parts}</Types>',
+        "[Content_Types].xml": '<?xml version="1.0"?><Types xmlns="http://schemas.openxmlformats.org/package/2006/content-types">'
+        f'<Default Extension="rels" ContentType="application/vnd.openxmlformats-package.relationships+xml"/>{parts}</Types>',
         "_rels/.rels": RELATIONS.format(f'<Relationship Id="r1" Type="{OFFICE}/officeDocument" Target="xl/workbook.xml"/>'),
-        "xl/workbook.xml": f'<?xml version="1.0"?><workbook xmlns="{MAIN}" xmlns:r="{OFFICE}"><sheets><sheet name="Tables" sheetId="1" r:id="r1"/></sheets></workbook>',
+        "xl/workbook.xml": f'<?xml version="1.0"?><workbook xmlns="{MAIN}" xmlns:r="{OFFICE}"><sheets>'
+        '<sheet name="Tables" sheetId="1" r:id="r1"/></sheets></workbook>',
         "xl/_rels/workbook.xml.rels": RELATIONS.format(f'<Relationship Id="r1" Type="{OFFICE}/worksheet" Target="worksheets/sheet1.xml"/>'),
         "xl/worksheets/sheet1.xml": f'<?xml version="1.0"?><worksheet xmlns="{MAIN}"><sheetData>{EXCEL_CELLS}</sheetData></worksheet>',
     }
