@@ -93,6 +93,8 @@ HARMLESS = {
     "a command in a text with CR": (row(text("a&#13;set A9 5")), "a\rset A9 5"),
     "a command in a formula's text": (row(formula("&quot;x&#10;set A9 666&#10;&quot;")), "1"),
     "a command in a formula": (row(formula("1+&#10;set A9 666&#10;(1)")), "1"),
+    "a command in a reference": (row('<table:table-cell table:formula="of:=[$S&#10;set A9 5&#10;.#REF!]"/>'), None),
+    "a command in a function": (row('<table:table-cell table:formula="of:=A&#10;set A9 5&#10;B(1)"/>'), None),
     "a line break in a formula": (row(formula("1+&#13;&#10;2")), "3"),
     "a command in a truth value": (row(of_kind("boolean", "true&#10;set A9 666")), None),
     "a command in a date": (row(of_kind("date", "2020-01-01&#10;set A9 5")), None),

@@ -223,6 +223,14 @@ class Spreadsheets(unittest.TestCase):
         self.assertIn("# B4 was =-PMT([.B1]/12;[.B2];[.B3])\n", written)
         self.assertIn("rounded to 12 places\n", written)
         self.assertEqual(round(Fraction(values(written)["B4"]), 2), round(Fraction("370.591105097"), 2))
+        document = read(SPREADSHEETS / "loans.ods")
+        carrier = Carrier.of(document, document.sheets[0], expands_loans=True)
+        compared = audit(carrier)
+        self.assertEqual((len(compared), carrier.frozen), (14, {}))
+        for one in compared:
+            self.assertEqual(one.kind, "N", one.record())
+            self.assertLess(abs(Fraction(one.shown) - Fraction(one.saved)), Fraction(1, 10**5), one.record())
+            self.assertTrue(one.agrees or one.cause.startswith("a loan in rounded steps"), one.record())
 
     def test_excel(self) -> None:
         """Both data tables of a workbook of Excel's, by way of LibreOffice."""
@@ -260,8 +268,9 @@ class Spreadsheets(unittest.TestCase):
         self.assertEqual(told.splitlines()[-1], line)
         self.assertTrue(written.startswith('"Model.C12","=1.05^40","#NUM!","7.03998871212466","#NUM!: the exact number'))
         self.assertEqual(written.count("\n"), 1)
-        self.assertEqual(told.splitlines()[-2], "2 dates or times are numbers of days here, from B14 on")
-        self.assertEqual(len(told.splitlines()), len(NOTES) + 2)
+        self.assertEqual(told.splitlines()[-3], "2 dates or times are numbers of days here, from B14 on")
+        self.assertTrue(told.splitlines()[-2].startswith("Model.C12 shows #NUM!: the exact number doesn't fit; round what it reads"))
+        self.assertEqual(len(told.splitlines()), len(NOTES) + 3)
         self.assertEqual(called("--check", path)[1], written)
         self.assertEqual(called(path, "Nowhere")[0], 2)
         self.assertEqual(called("nowhere.ods")[0], 2)
@@ -333,6 +342,12 @@ class Made(unittest.TestCase):
         self.assertEqual(lines[5], "# A3 is frozen at 8; it was =['file:///a.ods'#$S.A1] (the reference ['file:///a.ods'#$S.A1])")
         self.assertTrue(all(line.startswith(f"# A{row} is frozen at 8; it was ") for row, line in enumerate(lines[1::2], 1)))
         self.assertEqual(len(carrier.notes), 6)
+
+    def test_help_that_is_no_formula(self) -> None:
+        """A formula whose column of help would be refused is frozen, and the help isn't made."""
+        cell = '<table:table-cell table:formula="of:=SUMPRODUCT([.B1:.B3]1e5&gt;50)" office:value-type="float" office:value="8"/>'
+        script = self.carry(f'<table:table table:name="S"><table:table-row>{cell}</table:table-row></table:table>').script()
+        self.assertEqual(script.splitlines()[2:], ["set A1 8"])
 
     def test_whole_rows(self) -> None:
         cell = '<table:table-row><table:table-cell table:formula="of:=SUM([.2:.3])" office:value-type="float" office:value="0"/></table:table-row>'

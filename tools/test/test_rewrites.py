@@ -107,7 +107,8 @@ class Rewrites(unittest.TestCase):
             f'set AA1 =COUNTIF([.A1];"a")*({criterion})\nfill AA1 AA2:AA3\n',
             "# AC1:AE1: 1 where A1:C1 meets 1\nset AC1 =COUNTIF([.A1];1)\nfill AC1 AC1:AE1\n",
         ]
-        self.assertEqual("".join(block.lines() for block in book.helpers.blocks.values()), "".join(lines))
+        written = (f"# {block.told()}\n{block.lines()}" for block in book.helpers.blocks.values())
+        self.assertEqual("".join(written), "".join(lines))
 
     def test_help_that_was_in_vain(self) -> None:
         helpers = Helpers(3)

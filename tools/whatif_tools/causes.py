@@ -10,6 +10,7 @@ from .cures import Values
 from .errors import references
 from .formula import Kind, tokens_of
 from .grid import cells_of
+from .loans import LOANS
 from .settings import PATTERN, SEARCHES
 from .sheet import Address, Rectangle
 
@@ -36,6 +37,8 @@ def cause_of(cell: Carried, kind: str, shown: str, saved: str, audited: Audited)
         return "no saved value"
     if shown == "#CIRC!":
         return "iteration: a circle" if audited.carrier.document.settings.has_iterations else "a circle"
+    if kind == "N" and set(audited.carrier.rewritten.get(cell.place, "").split(", ")) & set(LOANS):
+        return "a loan in rounded steps, which is another model than the closed form"
     earlier = reads_differing(cell, audited)
     if earlier is not None:
         return f"it reads {earlier}, which differs"

@@ -71,6 +71,14 @@ def notes(carrier: Carrier) -> str:
     return "".join(f"{line}\n" for line in lines)
 
 
+def too_long(differing: list[Compared]) -> str:
+    """The cells from which on numbers are too long, each with its cure."""
+    found = [one for one in differing if one.cause.startswith("#NUM!")]
+    lines = [f"{one.cell.sheet}.{one.cell.address} shows {one.cause}" for one in found[:MOST_NOTES]]
+    more = [f"and {len(found) - MOST_NOTES} more that are too long"] if len(found) > MOST_NOTES else []
+    return "".join(f"{one_line(line)}\n" for line in lines + more)
+
+
 def carried(asked: argparse.Namespace) -> int:
     document = read(asked.file)
     carrier = Carrier.of(document, chosen(document, asked.sheet), asked.all, asked.expand_loans)
@@ -85,7 +93,7 @@ def carried(asked: argparse.Namespace) -> int:
         return 1
     differing = [one for one in compared if one.is_saved and not one.agrees]
     sys.stdout.write("".join(one.record() for one in differing) if asked.audit else script)
-    sys.stderr.write(f"{notes(carrier)}{told(compared, carrier)}\n")
+    sys.stderr.write(f"{notes(carrier)}{too_long(differing)}{told(compared, carrier)}\n")
     return 1 if differing or carrier.frozen or carrier.left_empty else 0
 
 

@@ -153,7 +153,18 @@ def cover() -> str:
     return workbook(sheet("Cover", [["'Plan of 2027"]]), sheet("Plan", [["5", "=[.A1]*[$Rates.A1]"]]), sheet("Rates", [["1.5"]]))
 
 
-WORKBOOKS = {made.__name__: made for made in (tariff, recipe, loan, break_even, sink, settings, data, cover)}
+def loans() -> str:
+    """PMT, FV and PV: with all parameters, without interest, with a count of periods in a cell and in the formula."""
+    formulas = (
+        *("PMT([.B1]/12;[.B2];[.B3])", "PMT([.B1]/12;60;[.B3];-500;1)", "PMT(0;[.B2];[.B3])", "PMT(0.05;10;1000;0;0)", "PMT([.B1];[.B2]/12;[.B3];100)"),
+        *("FV([.B1]/12;[.B2];-100)", "FV(0.03;10;-100;-1000;1)", "FV(0;12;-50;10)", "FV([.B1];1;-100)", "PV([.B1]/12;[.B2];-370.59)"),
+        *("PV(0.04;20;-250;1000;1)", "PV(0;12;-50;10)", "ROUND(PMT([.B1]/12;[.B2];[.B3]);2)*[.B2]", "PMT(-0.01;12;1000)"),
+    )
+    inputs = [["'rate", "0.0425"], ["'months", "60"], ["'loan", "20000"]]
+    return workbook(sheet("Loans", [*inputs, *([f"'{at}", f"={text}"] for at, text in enumerate(formulas, 1))]))
+
+
+WORKBOOKS = {made.__name__: made for made in (tariff, recipe, loan, break_even, sink, settings, data, cover, loans)}
 
 RELATIONS = '<?xml version="1.0"?><Relationships xmlns="http://schemas.openxmlformats.org/package/2006/relationships">{}</Relationships>'
 OFFICE = "http://schemas.openxmlformats.org/officeDocument/2006/relationships"
