@@ -2,9 +2,11 @@
 
 import contextlib
 import io
+import os
 import resource
 import subprocess
 import tempfile
+import time
 import unittest
 import unittest.mock
 import zipfile
@@ -225,6 +227,18 @@ class Hostile(unittest.TestCase):
             self.assertEqual(len(read(self.path).sheets), 1)
             with unittest.mock.patch(f"whatif_tools.{bound[0]}", bound[1]), self.assertRaises(NotASpreadsheet):
                 read(self.path)
+
+    def test_a_converter_that_hangs(self) -> None:
+        """It is ended with what it has started, and that is said."""
+        folder = Path(self.folder.name)
+        (folder / "soffice").write_text(f"#!/bin/sh\n(sleep 4; touch {folder}/late) &\nwait\n")
+        (folder / "soffice").chmod(0o755)
+        self.path.write_bytes(b"\xd0\xcf\x11\xe0")
+        environment = {"PATH": f"{folder}{os.pathsep}{os.environ['PATH']}"}
+        with unittest.mock.patch.dict(os.environ, environment), unittest.mock.patch("whatif_tools.spreadsheet_file.SECONDS", 2):
+            self.refused()
+        time.sleep(3)
+        self.assertFalse((folder / "late").exists())
 
     def test_what_is_no_file(self) -> None:
         for path in (Path(self.folder.name), self.path, Path("/dev/null")):

@@ -4,7 +4,7 @@ import argparse
 import sys
 from pathlib import Path
 
-from .check import Check
+from .check import STANDARD_INPUT, Check
 from .program import NoProgram
 
 EPILOG = (
@@ -21,7 +21,10 @@ def arguments(words: list[str]) -> argparse.Namespace:
     load = "run this script before each of the others, as whatif --load does, and look at it too"
     parser.add_argument("--load", metavar="MODEL", type=Path, help=load)
     parser.add_argument("scripts", nargs="+", metavar="SCRIPT", type=Path)
-    return parser.parse_args(words)
+    asked = parser.parse_args(words)
+    if asked.load == STANDARD_INPUT:
+        parser.error("--load takes a file")
+    return asked
 
 
 def told(check: Check, has_transcript: bool) -> bool:

@@ -1,6 +1,8 @@
 """Opening a spreadsheet's file: its kind, and the bytes of its XML; an Excel workbook goes through LibreOffice first."""
 
+import os
 import shutil
+import signal
 import subprocess
 import tempfile
 import zipfile
@@ -94,6 +96,19 @@ def limited(read: Iterator[bytes], path: Path) -> Iterator[bytes]:
         yield part
 
 
+def run_alone(words: list[str]) -> None:
+    """Runs a program that may start others, and ends all of them where it takes too long."""
+    process = subprocess.Popen(
+        words, stdin=subprocess.DEVNULL, stdout=subprocess.DEVNULL, stderr=subprocess.DEVNULL, start_new_session=True
+    )
+    try:
+        process.wait(SECONDS)
+    except BaseException:
+        os.killpg(process.pid, signal.SIGKILL)
+        process.wait()
+        raise
+
+
 def converted(path: Path) -> Iterator[bytes]:
     """The XML of an Excel workbook that LibreOffice has converted."""
     program = shutil.which(CONVERTER)
@@ -105,7 +120,7 @@ def converted(path: Path) -> Iterator[bytes]:
         profile = Path(folder, "profile").as_uri()
         words = [program, f"-env:UserInstallation={profile}", "--headless", "--convert-to", "ods", "--outdir", folder, str(path.resolve())]
         try:
-            subprocess.run(words, stdin=subprocess.DEVNULL, stdout=subprocess.DEVNULL, stderr=subprocess.DEVNULL, timeout=SECONDS)
+            run_alone(words)
         except subprocess.TimeoutExpired as error:
             raise NotASpreadsheet(f"{path}: {CONVERTER} hasn't converted it in {SECONDS} seconds") from error
         except OSError as error:
