@@ -23,6 +23,7 @@ SAID = {
     "DATE(2026;11;30)": "=46356",
     "COM.MICROSOFT.SWITCH([.A1];1;2+3;\"a\";[.B1];9)": '=IF([.A1]=1;2+3;IF([.A1]="a";[.B1];9))',
     "COM.MICROSOFT.SWITCH([.A1];[.B1];2)": "=IF(ISERROR([.A1]);[.A1];IF(IFERROR([.A1]=[.B1];FALSE());2;NA()))",
+    "COM.MICROSOFT.CEILING.MATH([.A1])": "=(-INT(-[.A1]/1)*1)",
     "MROUND([.A1];5)": "=(ROUND([.A1]/5)*5)",
     "SUMPRODUCT([.A1:.A3];[.B1:.B3])": "=SUMPRODUCT([.A1:.A3];[.B1:.B3])",
     'SUMPRODUCT(([.A1:.A3]="x")*[.B1:.B3])': "=SUM([.AA1:.AA3])",
@@ -39,7 +40,7 @@ SAID = {
 """Formulas of a file in its cell C7, and what they are here; the first free column is Z."""
 
 KEPT_BACK = (
-    "CEILING([.A1];2;1)", "COM.MICROSOFT.CEILING([.A1];[.B1])", "COM.MICROSOFT.FLOOR([.A1];-2)", "CEILING([.A1:.A3];2)",
+    "CEILING([.A1];2;1)", "COM.MICROSOFT.FLOOR.MATH([.A1];2;1)", "COM.MICROSOFT.CEILING([.A1];[.B1])", "COM.MICROSOFT.FLOOR([.A1];-2)", "CEILING([.A1:.A3];2)",
     "COM.MICROSOFT.IFS([.A1]>1;2;3)", "COM.MICROSOFT.IFS([.A1:.A3];2)", "COM.MICROSOFT.SWITCH([.A1:.A3];1;2)", "COM.MICROSOFT.SWITCH([.A1];1)",
     "DATE([.A1];1;1)", "DATE(26;1;1)", "DATE(2026;1)", "DATE(9999;1;1)", "LARGE([.A1:.A9];2)", "LARGE(5;1)", "ROW([.A1:.A3])", "ROWS(5)",
     "ROWS()",

@@ -96,6 +96,8 @@ def formulas() -> list[str]:
     found = [f"{name}([$Data.A{row}])" for name, row in product(ONE_NUMBER, range(1, len(NUMBERS) + 1))]
     found += [f"{name}([$Data.A{row}];{step})" for name, step, row in product(("CEILING", "FLOOR"), STEPS, range(1, len(NUMBERS) + 1))]
     found += [f"COM.MICROSOFT.{name}([$Data.A{row}];{step})" for name, step, row in product(("CEILING", "FLOOR"), STEPS, range(1, len(NUMBERS) + 1))]
+    for name, row in product(("CEILING.MATH", "FLOOR.MATH"), range(1, len(NUMBERS) + 1)):
+        found += [f"COM.MICROSOFT.{name}([$Data.A{row}]{more})" for more in ("", ";2", ";0.5", ";3;0")]
     by_cells = product(("CEILING", "FLOOR"), (3, 6, 9, 10), range(1, len(NUMBERS) + 1, 2))
     found += [f"{name}([$Data.A{row}];[$Data.A{step}])" for name, step, row in by_cells]
     regions, items, pieces, prices = ("[$Data.C1:.C8]", "[$Data.D1:.D8]", "[$Data.E1:.E8]", "[$Data.F1:.F8]")
