@@ -221,7 +221,7 @@ class Spreadsheets(unittest.TestCase):
         """The payment by a column of rounded factors is LibreOffice's to the cent, and told as another model."""
         _, written, _ = called("--expand-loans", str(SPREADSHEETS / "loan.ods"))
         self.assertIn("# B4 was =-PMT([.B1]/12;[.B2];[.B3])\n", written)
-        self.assertIn("rounded to 12 places\n", written)
+        self.assertIn("rounded to 12 places: steps, no closed form\n", written)
         self.assertEqual(round(Fraction(values(written)["B4"]), 2), round(Fraction("370.591105097"), 2))
         document = read(SPREADSHEETS / "loans.ods")
         carrier = Carrier.of(document, document.sheets[0], expands_loans=True)
