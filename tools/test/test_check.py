@@ -90,6 +90,11 @@ class Errors(Scripts):
         script = "set A1 =NA()\nset A2 =IFERROR([.A1];1/0)\n"
         self.assertEqual([line for line, _ in self.starts(script)], [1, 2])
 
+    def test_names(self) -> None:
+        """A cell that a comment names is told by its name too."""
+        script = "# name rate A1\n# name list B1:B9\nset A1 =1/0\n"
+        self.assertEqual(self.starts(script), [(3, "A1 (rate) shows #DIV/0!: =1/0; a divisor is 0")])
+
     def test_a_filled_column(self) -> None:
         script = "set A1 x\nset B2 =[.A$1]*2\nfill B2 B3:B9\n"
         cure = "; [.A$1] shows a text, 'x', and a text is never taken as a number"

@@ -16,7 +16,10 @@ GOES_ON = PAGES[:2]
 
 ABOUT = {
     "docs/START.md": {"[.B8]", "'12,5'", "#VALUE!"},
-    "docs/TROUBLE.md": {"E18", "goes on showing", "'85%'", "B1 shows #CIRC!", "B3 shows #NUM!", "B201 shows #NUM!", "A3 shows #NUM!", "1 of the 2 cells of XCOLUMN"},
+    "docs/TROUBLE.md": {
+        *("E18", "goes on showing", "'85%'", "1 of the 2 cells of XCOLUMN"),
+        *("B1 shows #CIRC!", "B3 shows #NUM!", "B201 shows #NUM!", "A3 shows #NUM!"),
+    },
 }
 """What the scripts of pages show on purpose."""
 

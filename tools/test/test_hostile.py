@@ -2,9 +2,11 @@
 
 import contextlib
 import io
+import os
 import resource
 import subprocess
 import tempfile
+import time
 import unittest
 import unittest.mock
 import zipfile
@@ -56,6 +58,7 @@ def entities(declared: str, used: str) -> str:
     return f'<?xml version="1.0"?><!DOCTYPE x [{declared}]>' + HEAD.partition("?>")[2] + sheet(row(text(used))) + TAIL
 
 
+FULL = cell("1", repeated("columns", "16384"))
 LAUGHS = '<!ENTITY a0 "lol">' + "".join(f'<!ENTITY a{at} "{f"&a{at - 1};" * 10}">' for at in range(1, 12))
 REFUSED = {
     "rows below none": HEAD + sheet(row(cell("1"), repeated("rows", "-1"))) + TAIL,
@@ -67,7 +70,7 @@ REFUSED = {
     "too many columns": HEAD + sheet(row(cell("1", repeated("columns", "16385")))) + TAIL,
     "more columns than fit in a number": HEAD + sheet(row(cell("1", repeated("columns", "9" * 5000)))) + TAIL,
     "a cell behind the last row": HEAD + sheet(row("", repeated("rows", "9" * 30)) + row(cell("1"))) + TAIL,
-    "many full sheets": HEAD + "".join(sheet(row(cell("1", repeated("columns", "16384")), repeated("rows", "12")), f"S{at}") for at in range(4)) + TAIL,
+    "many full sheets": HEAD + "".join(sheet(row(FULL, repeated("rows", "12")), f"S{at}") for at in range(4)) + TAIL,
     "many sheets": HEAD + "".join(sheet("", f"S{at}") for at in range(1001)) + TAIL,
     "two sheets of one name": HEAD + sheet("") + sheet("") + TAIL,
     "spaces below none": HEAD + sheet(row(text('<text:s text:c="-5"/>'))) + TAIL,
@@ -88,10 +91,12 @@ REFUSED = {
 """What is refused as a whole."""
 
 HARMLESS = {
-    "a command in a text": (row('<table:table-cell office:value-type="string"><text:p>a</text:p><text:p>set A9 5</text:p></table:table-cell>'), "a\nset A9 5"),
+    "a command in a text": (row(text("a</text:p><text:p>set A9 5")), "a\nset A9 5"),
     "a command in a text with CR": (row(text("a&#13;set A9 5")), "a\rset A9 5"),
     "a command in a formula's text": (row(formula("&quot;x&#10;set A9 666&#10;&quot;")), "1"),
     "a command in a formula": (row(formula("1+&#10;set A9 666&#10;(1)")), "1"),
+    "a command in a reference": (row('<table:table-cell table:formula="of:=[$S&#10;set A9 5&#10;.#REF!]"/>'), None),
+    "a command in a function": (row('<table:table-cell table:formula="of:=A&#10;set A9 5&#10;B(1)"/>'), None),
     "a line break in a formula": (row(formula("1+&#13;&#10;2")), "3"),
     "a command in a truth value": (row(of_kind("boolean", "true&#10;set A9 666")), None),
     "a command in a date": (row(of_kind("date", "2020-01-01&#10;set A9 5")), None),
@@ -211,7 +216,9 @@ class Hostile(unittest.TestCase):
 
     def test_bombs(self) -> None:
         """3 MB of spaces in 3 kB where 2 MB is the most, and 40,000 elements where 30,000 are."""
-        for part, count, bound in ((b" " * 1_000_000, 3, ("spreadsheet_file.MOST_BYTES", 2_000_000)), (b"<a/>" * 10_000, 4, ("ods.MOST_ELEMENTS", 30_000))):
+        spaces = (b" " * 1_000_000, 3, ("spreadsheet_file.MOST_BYTES", 2_000_000))
+        elements = (b"<a/>" * 10_000, 4, ("ods.MOST_ELEMENTS", 30_000))
+        for part, count, bound in (spaces, elements):
             with zipfile.ZipFile(self.path, "w", zipfile.ZIP_DEFLATED) as archive, archive.open("content.xml", "w") as file:
                 file.write(HEAD.encode())
                 for _ in range(count):
@@ -220,6 +227,18 @@ class Hostile(unittest.TestCase):
             self.assertEqual(len(read(self.path).sheets), 1)
             with unittest.mock.patch(f"whatif_tools.{bound[0]}", bound[1]), self.assertRaises(NotASpreadsheet):
                 read(self.path)
+
+    def test_a_converter_that_hangs(self) -> None:
+        """It is ended with what it has started, and that is said."""
+        folder = Path(self.folder.name)
+        (folder / "soffice").write_text(f"#!/bin/sh\n(sleep 4; touch {folder}/late) &\nwait\n")
+        (folder / "soffice").chmod(0o755)
+        self.path.write_bytes(b"\xd0\xcf\x11\xe0")
+        environment = {"PATH": f"{folder}{os.pathsep}{os.environ['PATH']}"}
+        with unittest.mock.patch.dict(os.environ, environment), unittest.mock.patch("whatif_tools.spreadsheet_file.SECONDS", 2):
+            self.refused()
+        time.sleep(3)
+        self.assertFalse((folder / "late").exists())
 
     def test_what_is_no_file(self) -> None:
         for path in (Path(self.folder.name), self.path, Path("/dev/null")):

@@ -23,6 +23,7 @@ SAID = {
     "DATE(2026;11;30)": "=46356",
     "COM.MICROSOFT.SWITCH([.A1];1;2+3;\"a\";[.B1];9)": '=IF([.A1]=1;2+3;IF([.A1]="a";[.B1];9))',
     "COM.MICROSOFT.SWITCH([.A1];[.B1];2)": "=IF(ISERROR([.A1]);[.A1];IF(IFERROR([.A1]=[.B1];FALSE());2;NA()))",
+    "COM.MICROSOFT.CEILING.MATH([.A1])": "=(-INT(-[.A1]/1)*1)",
     "MROUND([.A1];5)": "=(ROUND([.A1]/5)*5)",
     "SUMPRODUCT([.A1:.A3];[.B1:.B3])": "=SUMPRODUCT([.A1:.A3];[.B1:.B3])",
     'SUMPRODUCT(([.A1:.A3]="x")*[.B1:.B3])': "=SUM([.AA1:.AA3])",
@@ -39,14 +40,19 @@ SAID = {
 """Formulas of a file in its cell C7, and what they are here; the first free column is Z."""
 
 KEPT_BACK = (
-    "CEILING([.A1];2;1)", "COM.MICROSOFT.CEILING([.A1];[.B1])", "COM.MICROSOFT.FLOOR([.A1];-2)", "CEILING([.A1:.A3];2)",
+    "CEILING([.A1];2;1)", "COM.MICROSOFT.FLOOR.MATH([.A1];2;1)", "COM.MICROSOFT.CEILING([.A1];[.B1])", "COM.MICROSOFT.FLOOR([.A1];-2)", "CEILING([.A1:.A3];2)",
     "COM.MICROSOFT.IFS([.A1]>1;2;3)", "COM.MICROSOFT.IFS([.A1:.A3];2)", "COM.MICROSOFT.SWITCH([.A1:.A3];1;2)", "COM.MICROSOFT.SWITCH([.A1];1)",
-    "DATE([.A1];1;1)", "DATE(26;1;1)", "DATE(2026;1)", "DATE(9999;1;1)", "LARGE([.A1:.A9];2)", "LARGE(5;1)", "ROW([.A1:.A3])", "ROWS(5)", "ROWS()",
+    "DATE([.A1];1;1)", "DATE(26;1;1)", "DATE(2026;1)", "DATE(9999;1;1)", "LARGE([.A1:.A9];2)", "LARGE(5;1)", "ROW([.A1:.A3])", "ROWS(5)",
+    "ROWS()",
     "SUMIFS([.C1:.C9];[.A1:.A8];\"a\")", "SUMIFS([.C1:.C9];[.A1:.A9])", "SUMIFS([.C1:.C9];[.A1:.A9];[.B1:.B2])", "COUNTIFS([.A1:.A9];\"\")",
-    "COUNTIFS([.A1:.A1048576];\"<>a\")", "SUMIFS([.C1:.C9]+1;[.A1:.A9];1)", "XLOOKUP([.A1];[.B1:.B9];[.C1:.C9];\"\";2)", "XLOOKUP([.A1];[.B1:.B9];[.C1:.D9])",
-    "XLOOKUP([.A1];[.B1:.B9];[.C1:.C9];\"\";0;-1)", "PI(1)", "COUNTBLANK([.A1]+1)", "SUMSQ(1;2)", "CONCAT([.A1:.A3])", "ISODD([.A1:.A2])", "MEDIAN([.A1:.A3])",
-    "SUMPRODUCT([.A1:.A3]&\"x\")", "SUMPRODUCT(([.A1:.A3]>1)*[.B1:.B4])", "SUMPRODUCT(([.A:.A]=1)*[.B:.B])", "SUMPRODUCT(SUM([.A1:.A3])*[.A1:.A3])", "SUMPRODUCT([.A1]*2)",
-    "MROUND([.A1];[.B1])", "PMT(0.01;60;1000)", "nothing+1", "moves", "itself", "{1;2}", "MAXIFS([.C1:.C200000];[.A1:.A200000];1)", "[Other.A1]", "#REF!+1", "SUM([.A1:.A2]~[.B1])",
+    "COUNTIFS([.A1:.A1048576];\"<>a\")", "SUMIFS([.C1:.C9]+1;[.A1:.A9];1)", "XLOOKUP([.A1];[.B1:.B9];[.C1:.C9];\"\";2)",
+    "XLOOKUP([.A1];[.B1:.B9];[.C1:.D9])",
+    "XLOOKUP([.A1];[.B1:.B9];[.C1:.C9];\"\";0;-1)", "PI(1)", "COUNTBLANK([.A1]+1)", "SUMSQ(1;2)", "CONCAT([.A1:.A3])", "ISODD([.A1:.A2])",
+    "MEDIAN([.A1:.A3])",
+    "SUMPRODUCT([.A1:.A3]&\"x\")", "SUMPRODUCT(([.A1:.A3]>1)*[.B1:.B4])", "SUMPRODUCT(([.A:.A]=1)*[.B:.B])",
+    "SUMPRODUCT(SUM([.A1:.A3])*[.A1:.A3])", "SUMPRODUCT([.A1]*2)",
+    "MROUND([.A1];[.B1])", "PMT(0.01;60;1000)", "nothing+1", "moves", "itself", "{1;2}", "MAXIFS([.C1:.C200000];[.A1:.A200000];1)",
+    "[Other.A1]", "#REF!+1", "SUM([.A1:.A2]~[.B1])",
 )
 """What stays out, since it isn't the same for every input or isn't there."""
 
@@ -102,7 +108,8 @@ class Rewrites(unittest.TestCase):
             f'set AA1 =COUNTIF([.A1];"a")*({criterion})\nfill AA1 AA2:AA3\n',
             "# AC1:AE1: 1 where A1:C1 meets 1\nset AC1 =COUNTIF([.A1];1)\nfill AC1 AC1:AE1\n",
         ]
-        self.assertEqual("".join(block.lines() for block in book.helpers.blocks.values()), "".join(lines))
+        written = (f"# {block.told()}\n{block.lines()}" for block in book.helpers.blocks.values())
+        self.assertEqual("".join(written), "".join(lines))
 
     def test_help_that_was_in_vain(self) -> None:
         helpers = Helpers(3)

@@ -45,11 +45,19 @@ class Terminal:
                 break
             if not part:
                 break
-            written += re.sub(r"\x1b\[[?0-9;]*[a-zA-Z]|[\r\x07]", "", part.decode())
+            written = re.sub(r"\x1b\[[?0-9;]*[a-zA-Z]|[\r\x07]", "", written + part.decode())
         return written
 
     def type(self, text: str) -> str:
         os.write(self.terminal, text.encode())
+        return self.read()
+
+    def interrupt(self) -> str:
+        """Ctrl-C, again where it came before the library waited for a key: then it is noticed with the next one alone."""
+        for _ in range(SECONDS):
+            os.write(self.terminal, b"\x03")
+            if select.select([self.terminal], [], [], 1)[0]:
+                break
         return self.read()
 
     def close(self) -> int:
@@ -107,7 +115,7 @@ class AtATerminal(unittest.TestCase):
         """Ctrl-C takes back what is begun, and the workbook goes on."""
         self.typed("set A1 5")
         self.assertTrue(self.terminal.type("csv B1 3\n").endswith("3 lines more> "))
-        self.assertTrue(self.terminal.type("\x03").endswith("main> "))
+        self.assertTrue(self.terminal.interrupt().endswith("main> "))
         self.assertTrue(self.typed("show A1").endswith("1  5\nmain> "))
 
     def test_end(self) -> None:

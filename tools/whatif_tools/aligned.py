@@ -24,9 +24,10 @@ def table_of(command: Command, records: list[list[str]]) -> str:
         return aligned([head, *([str(area.first.row + down), *record] for down, record in enumerate(records))])
     if command.name == "compare":
         return aligned([["cell", words[1], words[2], "difference"], *records])
-    if command.name == "table":
-        return aligned(records if len(words) > 4 else [[words[2], words[1]], *records])
-    return aligned([HEADS[command.name], *records] if command.name in HEADS else records)
+    if command.name == "table" and len(words) == 4:
+        return aligned([[words[2], words[1]], *records])
+    head = [HEADS[command.name]] if command.name in HEADS else []
+    return aligned(head + records)
 
 
 def aligned(rows: Sequence[Sequence[str]]) -> str:

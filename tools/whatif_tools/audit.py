@@ -37,6 +37,7 @@ class Compared:
 
     @cached_property
     def agrees(self) -> bool:
+        """Whether the values are the same; a truth value may be saved as 1 or 0."""
         if not self.cell.cell.has_value:
             return self.shown == ""
         if self.kind == "N" and self.shown == self.saved and self.cell.cell.kind == "float":
@@ -45,6 +46,8 @@ class Compared:
             return is_number(self.saved) and near(Fraction(self.shown), Fraction(self.saved))
         if self.kind == "E" and self.cell.cell.is_error and self.saved.startswith(NUMBERED_ERROR):
             return True
+        if self.kind == "L" and self.cell.cell.kind in NUMBERS:
+            return self.saved == {"TRUE": "1", "FALSE": "0"}[self.shown]
         return self.shown == self.saved and self.kind == kind_of(self.cell, self.saved)
 
     def record(self) -> str:

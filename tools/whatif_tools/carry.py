@@ -28,7 +28,7 @@ class Note:
     why: str
 
     def __str__(self) -> str:
-        return f"{one_line(self.sheet)}.{self.address}: {self.why}"
+        return one_line(f"{self.sheet}.{self.address}: {self.why}")
 
 
 @dataclass(frozen=True)
@@ -77,15 +77,15 @@ class Carrier:
 
     def lines(self) -> Iterator[str]:
         self.notes, self.dates, self.helpers = [], [], Helpers(self.places.width)
-        yield from (f"# {line}\n" for line in self.head())
+        yield from map(comment, self.head())
         for sheet in self.places.sheets():
             moved = self.places.moved[sheet.name]
-            yield f"# the sheet {one_line(sheet.name)}" + (f", from column {column_letters(moved + 1)} on" if moved else "") + "\n"
+            yield comment(f"the sheet {one_line(sheet.name)}" + (f", from column {column_letters(moved + 1)} on" if moved else ""))
             arrays = array_members(sheet)
             for address, cell in sorted(sheet.cells.items()):
                 yield self.command(sheet, address, cell, arrays)
         for block in self.helpers.blocks.values():
-            yield block.lines()
+            yield comment(block.told()) + block.lines()
 
     def head(self) -> Iterator[str]:
         """What a reader of the script should know: sheets that are left out, settings, names."""
@@ -93,11 +93,12 @@ class Carrier:
         if left:
             yield f"not taken: {', '.join(left)[:LONGEST_COMMENT]} (whatif-import FILE SHEET takes one and what it reads, --all takes all)"
         yield from told_settings(self.document, self.places)
-        for sheet in [None, *self.places.sheets()]:
-            for name in (self.document if sheet is None else sheet).names.values():
-                place = self.named(name.range, sheet or self.places.sheets()[0])
-                if place is not None:
-                    yield f"name {one_line(name.spelled)} {place}"
+        sheets = self.places.sheets()
+        names = [(name, sheets[0]) for name in self.document.names.values()]
+        for name, sheet in [*names, *((name, sheet) for sheet in sheets for name in sheet.names.values())]:
+            place = self.named(name.range, sheet)
+            if place is not None:
+                yield f"name {one_line(name.spelled)} {place}"
 
     def named(self, range_: str | None, sheet: Sheet) -> str | None:
         """The rectangle of a named range in the script; None where it lies elsewhere."""
@@ -129,7 +130,7 @@ class Carrier:
         except CannotGoOver as error:
             self.left_empty.add(place)
             self.note(sheet, address, f"{why or error}: nothing is put in")
-            return f"# {place} is left empty: {why or error}\n"
+            return comment(f"{place} is left empty: {why or error}")
         if cell.kind in ("date", "time") and why is None:
             self.dates.append(place)
         return self.freeze(sheet, address, cell, text, why) if why is not None else put(place, text)
@@ -140,7 +141,7 @@ class Carrier:
         self.frozen[place] = Note(sheet.name, address, f"{why}: its value is put in instead")
         self.notes.append(self.frozen[place])
         was = f"; it was {one_line(cell.formula.removeprefix('of:'))}" if cell.formula is not None else ""
-        return f"# {place} is frozen at {one_line(text)}{was} ({one_line(why)})\n{put(place, text)}"
+        return comment(f"{place} is frozen at {one_line(text)}{was} ({one_line(why)})") + put(place, text)
 
     def formula(self, sheet: Sheet, address: Address, cell: Cell) -> str:
         """The command for a formula, or why there is none."""
@@ -153,6 +154,9 @@ class Carrier:
         book = Translator(self.places, sheet, address, self.helpers, RULES, self.expands_loans)
         try:
             formula = checked(book.formula(text))
+            for block in self.helpers.since(mark):
+                checked(block.first)
+                checked(block.rest)
         except UnknownFunction as error:
             self.helpers.back_to(mark)
             return self.unknown(place, sheet, address, cell, error)
@@ -163,7 +167,7 @@ class Carrier:
         if not book.rewritten:
             return f"set {place} {formula}\n"
         self.rewritten[place] = ", ".join(dict.fromkeys(book.rewritten))
-        return f"# {place} was {one_line(text.removeprefix('of:'))}\nset {place} {formula}\n"
+        return comment(f"{place} was {text.removeprefix('of:')}") + f"set {place} {formula}\n"
 
     def unknown(self, place: Address, sheet: Sheet, address: Address, cell: Cell, error: UnknownFunction) -> str:
         """A formula with a function that isn't there stays as it is where no value is saved that could stand for it."""
@@ -171,7 +175,7 @@ class Carrier:
             raise error
         keeps_all = Translator(self.places, sheet, address, self.helpers, RULES, keeps_unknown=True)
         self.note(sheet, address, f"{error}, so it shows #NAME?")
-        return f"# {place} shows #NAME?: {error}\nset {place} {checked(keeps_all.formula(cell.formula or ''))}\n"
+        return comment(f"{place} shows #NAME?: {error}") + f"set {place} {checked(keeps_all.formula(cell.formula or ''))}\n"
 
     def note(self, sheet: Sheet, address: Address, why: str) -> None:
         self.notes.append(Note(sheet.name, address, why))
@@ -185,10 +189,15 @@ def checked(formula: str) -> str:
     return formula
 
 
-def one_line(text: str) -> str:
+def comment(text: str) -> str:
+    """A comment of a script; whatever is in the text, it is one line."""
+    return f"# {one_line(text, 3 * LONGEST_COMMENT)}\n"
+
+
+def one_line(text: str, longest: int = LONGEST_COMMENT) -> str:
     """A text for a comment: one line, and not too long."""
-    plain = re.sub(r"[\s\x00-\x1f\x7f-\x9f\u2028\u2029]+", " ", text[: 4 * LONGEST_COMMENT]).strip()
-    return plain if len(plain) <= LONGEST_COMMENT else f"{plain[:LONGEST_COMMENT]} .."
+    plain = re.sub(r"[\s\x00-\x1f\x7f-\x9f\u2028\u2029]+", " ", text[: 4 * longest]).strip()
+    return plain if len(plain) <= longest else f"{plain[:longest]} .."
 
 
 def array_members(sheet: Sheet) -> dict[Address, Address]:

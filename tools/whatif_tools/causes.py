@@ -9,7 +9,9 @@ from .constants import FLOAT
 from .cures import Values
 from .errors import references
 from .formula import Kind, tokens_of
-from .settings import SEARCHES, PATTERN
+from .grid import cells_of
+from .loans import LOANS
+from .settings import PATTERN, SEARCHES
 from .sheet import Address, Rectangle
 
 NOISE = Fraction(1, 10**13)
@@ -35,6 +37,8 @@ def cause_of(cell: Carried, kind: str, shown: str, saved: str, audited: Audited)
         return "no saved value"
     if shown == "#CIRC!":
         return "iteration: a circle" if audited.carrier.document.settings.has_iterations else "a circle"
+    if kind == "N" and set(audited.carrier.rewritten.get(cell.place, "").split(", ")) & set(LOANS):
+        return "a loan in rounded steps, which is another model than the closed form"
     earlier = reads_differing(cell, audited)
     if earlier is not None:
         return f"it reads {earlier}, which differs"
@@ -112,8 +116,8 @@ def numbers_read(cell: Carried, audited: Audited) -> list[Fraction]:
     found = [Fraction(token.text) for token in tokens if token.kind is Kind.NUMBER]
     for area in areas_read(cell, audited):
         if area.cells() <= MOST_CELLS_LOOKED_AT:
-            places = (Address(row, column) for row in range(area.first.row, area.last.row + 1) for column in range(area.first.column, area.last.column + 1))
-            found += [Fraction(text) for at in places for kind, text in (audited.values.get(at, ("-", "")),) if kind == "N"]
+            known = (audited.values.get(at, ("-", "")) for at in cells_of(area))
+            found += [Fraction(text) for kind, text in known if kind == "N"]
     return found
 
 

@@ -14,6 +14,7 @@ from .cures import Values
 from .errors import ASK, ErrorCell, advice, error_cells, starts, values_in
 from .finding import Finding, Kind
 from .grid import Content, Grid
+from .labels import labelled, names_in
 from .marks import as_meant
 from .program import Answer, Help, Reply, program_help, run
 from .refusals import refused
@@ -68,6 +69,11 @@ class Check:
         return answer.replies[-1] if answer.status == 0 and answer.replies else Reply((), "ok")
 
     @cached_property
+    def names(self) -> dict[Address, str]:
+        """The names of cells that comments have, of the loaded script too."""
+        return {**({} if self.loaded is None else self.loaded.names), **names_in(self.script)}
+
+    @cached_property
     def values(self) -> Values:
         return values_in(self.shown)
 
@@ -85,7 +91,8 @@ class Check:
 
     def marks(self) -> Iterator[Finding]:
         if self.script.startswith(BYTE_ORDER_MARK):
-            yield Finding(1, 1, Kind.ENCODING, "the script begins with a byte order mark: save it as UTF-8 without one, or sed -i '1s/^\\xEF\\xBB\\xBF//'")
+            message = "the script begins with a byte order mark: save it as UTF-8 without one, or sed -i '1s/^\\xEF\\xBB\\xBF//'"
+            yield Finding(1, 1, Kind.ENCODING, message)
 
     def of_commands(self) -> Iterator[Finding]:
         scenarios, grid = self.state_before()
@@ -103,7 +110,7 @@ class Check:
                 scenarios.accept(command)
                 covered.update((address, (command, content)) for address, content in grid.accept(command))
             yield from data_findings(command)
-        yield from over_formulas(covered, grid)
+        yield from over_formulas(covered, grid, self.names)
         yield from what_if_findings(grid)
 
     def state_before(self) -> tuple[Scenarios, Grid]:
@@ -131,7 +138,7 @@ class Check:
             first, *others = group
             more = f"; {len(others)} more of the column like it" if others else ""
             cure = advice(first, self.errors, self.values)
-            said = f"{first.address} shows {first.error}: {first.formula}{more}"
+            said = f"{labelled(first.address, self.names)} shows {first.error}: {first.formula}{more}"
             yield Finding(self.line_of(first), 1, Kind.ERROR_STARTS, said if cure is None else f"{said}; {cure}", code=first.error)
 
     def line_of(self, cell: ErrorCell) -> int:
@@ -153,13 +160,13 @@ def is_wide(script: bytes) -> bool:
     return len(start) > 3 and any(len(part) * 3 > len(start) and part.count(0) * 10 > 9 * len(part) for part in (start[::2], start[1::2]))
 
 
-def over_formulas(covered: dict[Address, tuple[Command, Content]], grid: Grid) -> Iterator[Finding]:
+def over_formulas(covered: dict[Address, tuple[Command, Content]], grid: Grid, names: dict[Address, str]) -> Iterator[Finding]:
     """Constants that were put over formulas and still stand there at the end, those of one command at once."""
     left = {address: known for address, known in covered.items() if grid.at(address).formula is None and not grid.at(address).is_empty}
     for _, group in groupby(left.items(), key=lambda item: item[1][0].line):
         (address, (command, content)), *others = group
         more = f", and {len(others)} more" if others else ""
-        message = f"{address}{more} had a formula, {content.formula}, which is gone: scenario and table try values, and keep it"
+        message = f"{labelled(address, names)}{more} had a formula, {content.formula}, which is gone: scenario and table try values, and keep it"
         yield Finding(command.line, 1, Kind.OVER_FORMULA, message, command.text)
 
 

@@ -4,22 +4,27 @@ import argparse
 import sys
 from pathlib import Path
 
-from .check import Check
+from .check import STANDARD_INPUT, Check
 from .program import NoProgram
 
 EPILOG = (
-    "A script - is standard input. Each finding begins with FILE:LINE:COLUMN. A comment #! E12 right above a command says that this refusal is meant,"
-    " #! #NUM! that this error is, #! meant that whatever is found there is. Exit status: 0 nothing was found, 1 something was, 2 a script or the program"
-    " can't be opened. The environment variable WHATIF says where whatif is; else it is the one built in this repository."
+    "A script - is standard input. Each finding begins with FILE:LINE:COLUMN. A comment #! E12 right above a command says that this"
+    " refusal is meant, #! #NUM! that this error is, #! meant that whatever is found there is. Exit status: 0 nothing was found, 1 something"
+    " was, 2 a script or the program can't be opened. The environment variable WHATIF says where whatif is; else it is the one built in this"
+    " repository."
 )
 
 
 def arguments(words: list[str]) -> argparse.Namespace:
     parser = argparse.ArgumentParser(prog="whatif-check", description=__doc__, epilog=EPILOG)
     parser.add_argument("-t", "--transcript", action="store_true", help="write each command with its line number and its reply first")
-    parser.add_argument("--load", metavar="MODEL", type=Path, help="run this script before each of the others, as whatif --load does, and look at it too")
+    load = "run this script before each of the others, as whatif --load does, and look at it too"
+    parser.add_argument("--load", metavar="MODEL", type=Path, help=load)
     parser.add_argument("scripts", nargs="+", metavar="SCRIPT", type=Path)
-    return parser.parse_args(words)
+    asked = parser.parse_args(words)
+    if asked.load == STANDARD_INPUT:
+        parser.error("--load takes a file")
+    return asked
 
 
 def told(check: Check, has_transcript: bool) -> bool:

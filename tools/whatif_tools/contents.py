@@ -26,9 +26,9 @@ def content_findings(command: Command) -> Iterator[Finding]:
         if sign in content:
             message = "no comment, but a part of the content: a comment has a line of its own, which begins with #"
             yield found(Kind.COMMENT_KEPT, place + content.index(sign) + 1, message)
-    message = formula_advice(command, content)
-    if message is not None:
-        yield found(Kind.FORMULA_AS_TEXT, place, f"a text, no formula: {message}")
+    instead = formula_advice(command, content)
+    if instead is not None:
+        yield found(Kind.FORMULA_AS_TEXT, place, f"a text, no formula: {instead}")
 
 
 def formula_advice(command: Command, content: str) -> str | None:

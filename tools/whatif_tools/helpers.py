@@ -27,15 +27,19 @@ class Block:
         return reference(self.place)
 
     def lines(self) -> str:
-        first, last = self.place.first, self.place.last
+        first = self.place.first
         filled = [f"set {first} {self.first}\n"]
         rest = self.others()
         if rest is not None and self.rest != self.first:
             filled.append(f"set {rest.first} {self.rest}\n")
         if rest is not None and rest.cells() > (1 if self.rest != self.first else 0):
             filled.append(f"fill {rest.first if self.rest != self.first else first} {rest.first}:{rest.last}\n")
-        name = str(first) if first == last else f"{first}:{last}"
-        return f"# {name}: {self.why}\n{''.join(filled)}"
+        return "".join(filled)
+
+    def told(self) -> str:
+        """Where it is, and what for."""
+        first, last = self.place.first, self.place.last
+        return f"{first if first == last else f'{first}:{last}'}: {self.why}"
 
     def others(self) -> Rectangle | None:
         """The cells that are filled: all where the block is wide, those below the first where it is a column."""
@@ -71,6 +75,10 @@ class Helpers:
 
     def mark(self) -> tuple[int, int, int]:
         return self.column, self.cells, len(self.blocks)
+
+    def since(self, mark: tuple[int, int, int]) -> list[Block]:
+        """The blocks that came behind a mark."""
+        return list(self.blocks.values())[mark[2] :]
 
     def back_to(self, mark: tuple[int, int, int]) -> None:
         """Takes the blocks away that came behind a mark."""

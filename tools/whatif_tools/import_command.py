@@ -13,9 +13,9 @@ from .program import NoProgram
 from .spreadsheet_file import NotASpreadsheet
 
 EPILOG = (
-    "It takes .ods and .fods, and .xlsx and .xls where soffice of LibreOffice is on the path. The audit is told on standard error: how many formulas agree"
-    " with the values that the file has saved. What can't go over is frozen at its saved value, which a comment in the script says. Exit status: 0 all"
-    " agree and nothing is frozen, 1 values differ or cells are frozen, 2 the file can't be read or has no such sheet."
+    "It takes .ods and .fods, and .xlsx and .xls where soffice of LibreOffice is on the path. The audit is told on standard error: how many"
+    " formulas agree with the values that the file has saved. What can't go over is frozen at its saved value, which a comment in the script"
+    " says. Exit status: 0 all agree and nothing is frozen, 1 values differ or cells are frozen, 2 the file can't be read or has no such sheet."
 )
 MOST_NOTES = 20
 OLD_NAME = "ods2whatif"
@@ -23,9 +23,11 @@ OLD_NAME = "ods2whatif"
 
 def arguments(words: list[str], name: str) -> argparse.Namespace:
     parser = argparse.ArgumentParser(prog=name, description=__doc__, epilog=EPILOG)
-    parser.add_argument("--audit", "--check", action="store_true", help="write no script, but a CSV record for each formula whose value differs, with its cause")
+    audited = "write no script, but a CSV record for each formula whose value differs, with its cause"
+    parser.add_argument("--audit", "--check", action="store_true", help=audited)
     parser.add_argument("--all", action="store_true", help="take all sheets, whether the first one reads them or not")
-    parser.add_argument("--expand-loans", action="store_true", help="PMT, FV and PV by a column of rounded factors: another model than theirs, told in the script")
+    loans = "PMT, FV and PV by a column of rounded factors: another model than theirs, told in the script"
+    parser.add_argument("--expand-loans", action="store_true", help=loans)
     parser.add_argument("file", metavar="FILE", type=Path)
     parser.add_argument("sheet", metavar="SHEET", nargs="?", help="the first one if it is left out")
     return parser.parse_args(words)
@@ -69,6 +71,14 @@ def notes(carrier: Carrier) -> str:
     return "".join(f"{line}\n" for line in lines)
 
 
+def too_long(differing: list[Compared]) -> str:
+    """The cells from which on numbers are too long, each with its cure."""
+    found = [one for one in differing if one.cause.startswith("#NUM!")]
+    lines = [f"{one.cell.sheet}.{one.cell.address} shows {one.cause}" for one in found[:MOST_NOTES]]
+    more = [f"and {len(found) - MOST_NOTES} more that are too long"] if len(found) > MOST_NOTES else []
+    return "".join(f"{one_line(line)}\n" for line in lines + more)
+
+
 def carried(asked: argparse.Namespace) -> int:
     document = read(asked.file)
     carrier = Carrier.of(document, chosen(document, asked.sheet), asked.all, asked.expand_loans)
@@ -83,7 +93,7 @@ def carried(asked: argparse.Namespace) -> int:
         return 1
     differing = [one for one in compared if one.is_saved and not one.agrees]
     sys.stdout.write("".join(one.record() for one in differing) if asked.audit else script)
-    sys.stderr.write(f"{notes(carrier)}{told(compared, carrier)}\n")
+    sys.stderr.write(f"{notes(carrier)}{too_long(differing)}{told(compared, carrier)}\n")
     return 1 if differing or carrier.frozen or carrier.left_empty else 0
 
 

@@ -66,23 +66,39 @@ def nearest(found: re.Match[str]) -> str | None:
     return None if found[1] in WORDS.split("|") or not near else f"is {near[0]} meant?"
 
 
+def words(text: str, instead: str) -> dict[str, str]:
+    return dict.fromkeys(text.split(), instead)
+
+
 OTHER_WORDS = {
-    **dict.fromkeys(("print", "get", "display", "view", "list", "see", "value", "read"), "show RECT writes what cells show"),
-    **dict.fromkeys(("let", "put", "input", "write", "enter", "assign", "cell", "name", "define", "number", "text", "setformula"), "set ADDR CONTENT puts something into a cell"),
-    **dict.fromkeys(("delete", "del", "remove", "erase", "empty", "rm"), "clear RECT empties cells, and drop NAME removes a scenario"),
-    **dict.fromkeys(("copy", "paste", "filldown", "fillright", "drag"), "fill ADDR RECT copies a cell"),
-    **dict.fromkeys(("import", "insert", "append"), "csv ADDR LINES takes the table on the next lines"),
-    **dict.fromkeys(("whatif", "what", "try"), "table F R XCOLUMN asks what F shows with other values in R; scenario NAME ADDR CONTENT keeps some"),
-    **dict.fromkeys(("seek", "goal", "goalseek", "solve", "solver", "find", "optimize"), 'there is none: docs/FROM.md, "Roots and other steps", halves in cells'),
-    **dict.fromkeys(("chart", "plot", "graph", "draw", "sort", "filter", "format", "round", "rename"), 'there is none: docs/FROM.md, "What a program does"'),
-    **dict.fromkeys(("recalc", "calculate", "calc", "run", "refresh"), "cells are calculated when they are asked for: show RECT"),
-    **dict.fromkeys(("diff", "difference"), "compare S T RECT writes the cells that differ in two scenarios"),
+    **words("print get display view list see value read", "show RECT writes what cells show"),
+    **words("let put input write enter assign cell name define number text setformula", "set ADDR CONTENT puts something into a cell"),
+    **words("delete del remove erase empty rm", "clear RECT empties cells, and drop NAME removes a scenario"),
+    **words("copy paste filldown fillright drag", "fill ADDR RECT copies a cell"),
+    **words("import insert append", "csv ADDR LINES takes the table on the next lines"),
+    **words("whatif what try", "table F R XCOLUMN asks what F shows with other values in R; scenario NAME ADDR CONTENT keeps some"),
+    **words("seek goal goalseek solve solver find optimize", 'there is none: docs/FROM.md, "Roots and other steps", halves in cells'),
+    **words("chart plot graph draw sort filter format round rename", 'there is none: docs/FROM.md, "What a program does"'),
+    **words("recalc calculate calc run refresh", "cells are calculated when they are asked for: show RECT"),
+    **words("diff difference", "compare S T RECT writes the cells that differ in two scenarios"),
 }
 """Commands that others have, and what is here instead."""
 
 
 def other_word(found: re.Match[str]) -> str | None:
     return OTHER_WORDS.get(found[1].lower())
+
+
+def in_lower_case(found: re.Match[str]) -> str:
+    return f"commands are in lower case: write {found['word'].lower()}"
+
+
+def of_two(found: re.Match[str]) -> str:
+    return f"it compares two, and - is the sheet as it is: write compare - {found[1]} {found[2]}"
+
+
+def letters_first(found: re.Match[str]) -> str:
+    return f"a cell is written by its column's letters and then its row: write {found[2].upper()}{found[1]}"
 
 
 NO_FILES = 'whatif writes no files: the replies go to standard output, and csvout in docs/FROM.md, "The command line", cuts an export out of them'
@@ -94,7 +110,7 @@ LINE_HINTS = (
     hint(r"[^=']*[\u00a0\u2007\u2009\u202f]", "a space from a word processor parts no words: write a plain one"),
     hint(r" *(?://|;|--|/\*|%|REM\b|rem\b|!)", COMMENT),
     hint(r" +#", COMMENT),
-    hint(rf" *(?i:force +)?(?=(?i:{WORDS})\b)(?!(?:{WORDS})\b)(?P<word>\w+)", lambda found: f"commands are in lower case: write {found['word'].lower()}"),
+    hint(rf" *(?i:force +)?(?=(?i:{WORDS})\b)(?!(?:{WORDS})\b)(?P<word>\w+)", in_lower_case),
     hint(rf" *(?:set +)?({CELL}) *= *(.*)", lambda found: f"write set {found[1]} {found[2]}, or set {found[1]} ={found[2]} for a formula"),
     hint(r" *(?i:quit|exit|bye|q)\b", "there is no quit: the program ends with its input, at a terminal by Ctrl-D"),
     hint(r" *(?i:help|\?)", "whatif --help lists the commands"),
@@ -103,12 +119,12 @@ LINE_HINTS = (
     hint(r" *(?:export|show|changes|table|compare)\b.* (?:>|\S+\.[a-z]{2,4} *$)", NO_FILES),
     hint(rf" *(?:force +)?set +({ADDRESS}:{ADDRESS}) (.+)", one_cell),
     hint(rf" *(?:force +)?fill +({ADDRESS}:{ADDRESS})(?: +({ADDRESS}))? *$", source_first),
-    hint(rf" *compare +(\w+) +({ADDRESS}(?::{ADDRESS})?) *$", lambda found: f"it compares two, and - is the sheet as it is: write compare - {found[1]} {found[2]}"),
+    hint(rf" *compare +(\w+) +({ADDRESS}(?::{ADDRESS})?) *$", of_two),
     hint(rf" *(scenario) +(\w+) +(\w+)( +{ADDRESS} .*)", one_word),
     hint(r" *(use|drop|as) +(\w+) +(\w+)() *$", one_word),
     hint(r" *(?:force +)?(?:set|scenario +\S+) +\S+ *$", "no content behind the address: clear A1 empties a cell, and set A1 ' puts an empty text"),
     hint(r" *(?:[a-z]+ +)+(?:[A-Z]+[1-9][0-9]*:)?R[0-9]+C[0-9]+", "a cell is written by its column's letters and its row: R2C3 is C2"),
-    hint(r" *(?:[a-z]+ +)+([0-9]+)([A-Za-z]{1,3})(?= |$)", lambda found: f"a cell is written by its column's letters and then its row: write {found[2].upper()}{found[1]}"),
+    hint(r" *(?:[a-z]+ +)+([0-9]+)([A-Za-z]{1,3})(?= |$)", letters_first),
     hint(r" *(?:as|use|drop|base|scenario) +[^ ]*[^A-Za-z0-9_ ]", "a name is 1 to 32 of A-Z, a-z, 0-9 and _"),
     hint(r" *(?:show|export|clear) +\$?[A-Za-z]+:\$?[A-Za-z]+", "a rectangle has rows too: A1:A9"),
     hint(r" *(show|export|clear) +(\w+) +(\w+) *$", lambda found: f"write {found[1]} {found[2]}:{found[3]}"),

@@ -21,7 +21,7 @@ def growth(book: Translator, rate: str, periods: str) -> str:
     fixed = pinned(rate)
     first = Address(1, book.helpers.column + 1)
     above = reference(Rectangle(first, first))
-    why = f"what 1 has grown to at {rate}, a period in each row, rounded to {PLACES} places"
+    why = f"what 1 has grown to at {rate}, a period in each row, rounded to {PLACES} places: steps, no closed form"
     block = book.helpers.block(1, steps + 1, 1, f"=1+0*{fixed}", why, f"=ROUND({above}*(1+{fixed});{PLACES})")
     return f"INDEX({block.text};{periods}+1)"
 

@@ -24,9 +24,9 @@ def as_meant(found: list[Finding], commands: list[Command], replies: list[Reply]
     meant = {line: (command, words) for command, words in marked if words for line in range(command.line, command.last_line + 1)}
     met: set[tuple[int, str]] = set()
     for finding in found:
-        command, words = meant.get(finding.line, (None, set()))
-        if command is not None and (finding.code in words or ALL in words):
-            met |= {(command.line, finding.code or ALL), (command.line, ALL)}
+        marked_here = meant.get(finding.line)
+        if marked_here is not None and (finding.code in marked_here[1] or ALL in marked_here[1]):
+            met |= {(marked_here[0].line, finding.code or ALL), (marked_here[0].line, ALL)}
         else:
             yield finding
     ends = {command.line: reply.end for command, reply in zip(commands, replies)}

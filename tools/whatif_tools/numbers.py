@@ -111,7 +111,8 @@ SPELLINGS = (
     spelling(rf"(?:{CURRENCIES})\.?[{SPACES}]*([-+]?(?:{PARTED}))(?:\.?[-–—]+)?", lambda found: write(figures(found[1]))),
     spelling(rf"({PARTED})\.[-–—]+", lambda found: write(figures(found[1]))),
     spelling(rf"[~≈][{SPACES}]*([-+]?{FIGURES})", lambda found: write(found[1])),
-    spelling(rf"[-+]?[$€£¥][{SPACES}]*[-+]?(?:{PARTED}|\.[0-9]+)|[-+]?(?:{PARTED}|\.[0-9]+)[{SPACES}]*[$€£¥]", lambda found: write(figures(found[0]))),
+    spelling(rf"[-+]?[$€£¥][{SPACES}]*[-+]?(?:{PARTED}|\.[0-9]+)", lambda found: write(figures(found[0]))),
+    spelling(rf"[-+]?(?:{PARTED}|\.[0-9]+)[{SPACES}]*[$€£¥]", lambda found: write(figures(found[0]))),
     spelling(r"(?i:true|false)", lambda found: write(found[0].upper())),
     spelling(r"[-+]?(?i:nan|inf|infinity)", lambda _: "no number is like that: leave it out"),
     spelling(r"[-+]?[0-9]+(?:\.[0-9]+)?(?:/[0-9]+)?", lambda _: "it doesn't fit in 128 bits, or its denominator is 0"),
@@ -119,8 +120,8 @@ SPELLINGS = (
 
 
 UNITS = (
-    "kWh|Wh|MWh|GWh|kW|W|MW|V|A|m|m2|m3|m²|m³|cm|mm|km|km/h|g|kg|mg|t|l|L|ml|cl|s|sec|min|h|hrs?|hours?|days?|weeks?|months?|years?|EUR|USD|GBP|CHF|ct"
-    "|cents?|pcs|pieces|°C|K|kB|MB|GB|TB"
+    "kWh|Wh|MWh|GWh|kW|W|MW|V|A|m|m2|m3|m²|m³|cm|mm|km|km/h|g|kg|mg|t|l|L|ml|cl|s|sec|min|h|hrs?|hours?|days?"
+    "|weeks?|months?|years?|EUR|USD|GBP|CHF|ct|cents?|pcs|pieces|°C|K|kB|MB|GB|TB"
 )
 
 

@@ -108,12 +108,12 @@ def round_to(up: bool) -> Rule:
 
 
 def round_to_as_excel(up: bool) -> Rule:
-    """CEILING or FLOOR of Excel, by a step that is a positive number."""
+    """CEILING, CEILING.MATH and their like of Excel, by a step that is a positive number: up or down, below 0 too."""
 
     def rule(book: Translator, call: Call) -> str:
-        number, step = one_value(book, call, 2, 2)
-        if not is_positive(call.parameters[1]):
-            raise CannotGoOver(f"{call.name} by a step that is no positive number")
+        number, step, mode = [*one_value(book, call, 1, 3), "1", "0"][:3] if len(call.parameters) != 2 else [*one_value(book, call, 2, 2), "0"]
+        if mode != "0" or len(call.parameters) > 1 and not is_positive(call.parameters[1]):
+            raise CannotGoOver(f"{call.name} by a step that is no positive number, or away from 0")
         return f"(-INT(-{number}/{step})*{step})" if up else f"(INT({number}/{step})*{step})"
 
     return rule
@@ -227,6 +227,8 @@ RULES: dict[str, Rule] = {
     "FLOOR": round_to(False),
     "COM.MICROSOFT.CEILING": round_to_as_excel(True),
     "COM.MICROSOFT.FLOOR": round_to_as_excel(False),
+    "CEILING.MATH": round_to_as_excel(True),
+    "FLOOR.MATH": round_to_as_excel(False),
     "LARGE": extreme("MAX"),
     "SMALL": extreme("MIN"),
     "ISEVEN": parity(0),

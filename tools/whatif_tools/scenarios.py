@@ -84,7 +84,10 @@ def hidden(command: Command, scenarios: Scenarios) -> Iterator[Finding]:
 
 
 def new_names(command: Command, scenarios: Scenarios, asked_for: set[str]) -> Iterator[Finding]:
-    """A scenario or a session that a command makes, though its name is nearly that of another; `asked_for` are the scenarios that are looked at."""
+    """A scenario or a session that a command makes, though its name is nearly that of another.
+
+    `asked_for` are the scenarios that a command looks at: these aren't slips.
+    """
     if command.name not in ("scenario", "as"):
         return
     name = command.words[1]
@@ -96,7 +99,8 @@ def new_names(command: Command, scenarios: Scenarios, asked_for: set[str]) -> It
     near = [] if command.name == "as" or name in asked_for else sorted(other for other in known if is_slip(name, other))
     for other in (same or near)[:1]:
         why = "capitals count, and this makes another one" if same else "this makes a new one, which nothing asks for"
-        yield Finding(command.line, command.word_place(name) + 1, Kind.NEW_NAME, f"there is a {what} {other}, and {why}: is {other} meant?", command.text)
+        message = f"there is a {what} {other}, and {why}: is {other} meant?"
+        yield Finding(command.line, command.word_place(name) + 1, Kind.NEW_NAME, message, command.text)
 
 
 def is_slip(name: str, other: str) -> bool:

@@ -12,9 +12,11 @@ BYTE_ORDER_MARK = b"\xef\xbb\xbf"
 MARK = b"#!"
 
 CONTENT = re.compile(r" *(?:force +)?(?:set +[^ ]+|scenario +[^ ]+ +[^ ]+) (.+)", re.DOTALL)
+CELL_BEGINS = "[A-Za-z]+[1-9]"
+CELL = f"{CELL_BEGINS}[0-9]*"
 COMMAND = re.compile(
-    r"(?:force )?(?:set [A-Za-z]+[1-9][0-9]* .|clear [A-Za-z]+[1-9]|fill [A-Za-z]+[1-9][0-9]* [A-Za-z]|csv [A-Za-z]+[1-9][0-9]* [0-9]|show [A-Za-z]+[1-9]"
-    r"|export [A-Za-z]+[1-9]|table [A-Za-z]+[1-9][0-9]* [A-Za-z]|scenario \w+ [A-Za-z]+[1-9]|base \w+|drop \w+$|use \w+$|as \w+$|compare |formula [A-Za-z]+[1-9]|changes$|use$)"
+    rf"(?:force )?(?:set {CELL} .|clear {CELL_BEGINS}|fill {CELL} [A-Za-z]|csv {CELL} [0-9]|show {CELL_BEGINS}|export {CELL_BEGINS}"
+    rf"|table {CELL} [A-Za-z]|scenario \w+ {CELL_BEGINS}|base \w+|drop \w+$|use \w+$|as \w+$|compare |formula {CELL_BEGINS}|changes$|use$)"
 )
 
 

@@ -79,8 +79,13 @@ class Shell:
 
     def own_words(self) -> dict[str, Callable[[list[str]], None]]:
         """What the shell does itself, by the first word of a line."""
-        leave = dict.fromkeys(("quit", "exit"), self.do_quit)
-        return {"help": self.do_help, "?": self.do_help, "load": self.do_load, "undo": self.do_undo, **dict.fromkeys(("save", "save!"), self.do_save), **leave}
+        return {
+            **dict.fromkeys(("help", "?"), self.do_help),
+            **dict.fromkeys(("save", "save!"), self.do_save),
+            **dict.fromkeys(("quit", "exit"), self.do_quit),
+            "load": self.do_load,
+            "undo": self.do_undo,
+        }
 
     def run(self, command: Command, is_quiet: bool = False) -> bool:
         """Sends a command; whether it was accepted. A quiet one is heard of only where it is refused."""

@@ -1,6 +1,8 @@
 """Opening a spreadsheet's file: its kind, and the bytes of its XML; an Excel workbook goes through LibreOffice first."""
 
+import os
 import shutil
+import signal
 import subprocess
 import tempfile
 import zipfile
@@ -89,8 +91,22 @@ def limited(read: Iterator[bytes], path: Path) -> Iterator[bytes]:
     for part in read:
         size += len(part)
         if size > MOST_BYTES:
-            raise NotASpreadsheet(f"{path} has more than {MOST_BYTES // 1_000_000} MB of XML: take the sheets that are needed into a file of their own")
+            most = MOST_BYTES // 1_000_000
+            raise NotASpreadsheet(f"{path} has more than {most} MB of XML: take the sheets that are needed into a file of their own")
         yield part
+
+
+def run_alone(words: list[str]) -> None:
+    """Runs a program that may start others, and ends all of them where it takes too long."""
+    process = subprocess.Popen(
+        words, stdin=subprocess.DEVNULL, stdout=subprocess.DEVNULL, stderr=subprocess.DEVNULL, start_new_session=True
+    )
+    try:
+        process.wait(SECONDS)
+    except BaseException:
+        os.killpg(process.pid, signal.SIGKILL)
+        process.wait()
+        raise
 
 
 def converted(path: Path) -> Iterator[bytes]:
@@ -98,12 +114,13 @@ def converted(path: Path) -> Iterator[bytes]:
     program = shutil.which(CONVERTER)
     if program is None:
         command = f"{CONVERTER} --headless --convert-to ods {path}"
-        raise NotASpreadsheet(f"{path} is an Excel workbook, and {CONVERTER} of LibreOffice, which converts it, isn't on the path: install it, or run {command} elsewhere")
+        lacks = f"{CONVERTER} of LibreOffice, which converts it, isn't on the path"
+        raise NotASpreadsheet(f"{path} is an Excel workbook, and {lacks}: install it, or run {command} elsewhere")
     with tempfile.TemporaryDirectory() as folder:
         profile = Path(folder, "profile").as_uri()
         words = [program, f"-env:UserInstallation={profile}", "--headless", "--convert-to", "ods", "--outdir", folder, str(path.resolve())]
         try:
-            subprocess.run(words, stdin=subprocess.DEVNULL, stdout=subprocess.DEVNULL, stderr=subprocess.DEVNULL, timeout=SECONDS)
+            run_alone(words)
         except subprocess.TimeoutExpired as error:
             raise NotASpreadsheet(f"{path}: {CONVERTER} hasn't converted it in {SECONDS} seconds") from error
         except OSError as error:

@@ -75,5 +75,6 @@ def empty_inputs(command: Command, reply: Reply) -> Iterator[Finding]:
     row = written[0][1:] if is_wide else []
     for name, at, texts in (("XCOLUMN", 3, column), ("YROW", len(words) - 1, row)):
         if "" in texts:
-            message = f"{texts.count('')} of the {len(texts)} cells of {name} show nothing: an empty one empties the input there, which then counts as 0"
+            empty = f"{texts.count('')} of the {len(texts)} cells of {name} show nothing"
+            message = f"{empty}: an empty one empties the input there, which then counts as 0"
             yield Finding(command.line, word_place(command, at) + 1, Kind.EMPTY_INPUT, message, command.text)

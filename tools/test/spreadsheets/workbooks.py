@@ -28,7 +28,8 @@ def cell(text: str) -> str:
     if text == "":
         return "<table:table-cell/>"
     if text.startswith("{="):
-        return f'<table:table-cell table:number-matrix-columns-spanned="1" table:number-matrix-rows-spanned="3" table:formula={quoteattr("of:" + text[1:-1])}/>'
+        spans = 'table:number-matrix-columns-spanned="1" table:number-matrix-rows-spanned="3"'
+        return f'<table:table-cell {spans} table:formula={quoteattr("of:" + text[1:-1])}/>'
     if text.startswith("="):
         return f"<table:table-cell{style} table:formula={quoteattr('of:' + text)}/>"
     if text.startswith("day "):
@@ -56,9 +57,13 @@ def workbook(*sheets: str, settings: str = "", names: str = "") -> str:
 def named(**found: str) -> str:
     """Names: a range begins with `$`, another text is an expression."""
     base = 'table:base-cell-address="$Recipe.$A$1"'
-    ranges = [f'<table:named-range table:name="{name}" {base} table:cell-range-address="{text}"/>' for name, text in found.items() if text.startswith("$")]
-    others = [f'<table:named-expression table:name="{name}" {base} table:expression="{text}"/>' for name, text in found.items() if not text.startswith("$")]
-    return f"<table:named-expressions>{''.join(ranges + others)}</table:named-expressions>"
+    kinds = {True: ("named-range", "cell-range-address"), False: ("named-expression", "expression")}
+    written = [
+        f'<table:{kind} table:name="{name}" {base} table:{attribute}="{text}"/>'
+        for name, text in found.items()
+        for kind, attribute in (kinds[text.startswith("$")],)
+    ]
+    return f"<table:named-expressions>{''.join(written)}</table:named-expressions>"
 
 
 def tariff() -> str:
@@ -98,8 +103,9 @@ def loan() -> str:
 
 def break_even() -> str:
     """A data table of one input, and `""` in a column."""
-    rows = [["'jars", "120", "", "50", "=MULTIPLE.OPERATIONS([.$B$4];[.$B$1];[.D1])"], ["'cost", "2.35", "", "100", "=MULTIPLE.OPERATIONS([.$B$4];[.$B$1];[.D2])"]]
-    rows += [["'fixed", "240", "", "200", "=MULTIPLE.OPERATIONS([.$B$4];[.$B$1];[.D3])"], ["'profit", "=[.B1]*(4.5-[.B2])-[.B3]"]]
+    inputs = (("'jars", "120", "50"), ("'cost", "2.35", "100"), ("'fixed", "240", "200"))
+    rows = [[name, text, "", x, f"=MULTIPLE.OPERATIONS([.$B$4];[.$B$1];[.D{at}])"] for at, (name, text, x) in enumerate(inputs, 1)]
+    rows += [["'profit", "=[.B1]*(4.5-[.B2])-[.B3]"]]
     rows += [["", f'=IF([.E{at}]<0;"";[.E{at}])', f'=IF([.B{at + 4}]="";"loss";"profit")'] for at in (1, 2, 3)]
     return workbook(sheet("Jars", rows))
 
@@ -117,7 +123,8 @@ def sink() -> str:
         ["", "=[.A8]+1"],
         ["", "=[.A9]+1"],
     ]
-    return workbook(sheet("Sink", rows), settings='<table:calculation-settings table:use-wildcards="true" table:use-regular-expressions="false" table:case-sensitive="false"/>')
+    told = 'table:use-wildcards="true" table:use-regular-expressions="false" table:case-sensitive="false"'
+    return workbook(sheet("Sink", rows), settings=f"<table:calculation-settings {told}/>")
 
 
 def settings() -> str:
@@ -135,8 +142,9 @@ def data() -> str:
     """A longer list, and sums of it on a sheet of its own."""
     regions = ("north", "south", "east")
     rows = [[f"'{regions[at % 3]}", str(at * 7 % 101), f"=[.B{at}]*1.07"] for at in range(1, 121)]
-    sums = [[f"'{region}", f"=SUMIF([$List.A1:.A120];[.A{at}];[$List.C1:.C120])", f'=SUMIFS([$List.B1:.B120];[$List.A1:.A120];[.A{at}];[$List.B1:.B120];">50")']
-            for at, region in enumerate(regions, 1)]
+    by_region = "=SUMIF([$List.A1:.A120];[.A{}];[$List.C1:.C120])"
+    by_both = '=SUMIFS([$List.B1:.B120];[$List.A1:.A120];[.A{}];[$List.B1:.B120];">50")'
+    sums = [[f"'{region}", by_region.format(at), by_both.format(at)] for at, region in enumerate(regions, 1)]
     return workbook(sheet("Sums", sums), sheet("List", rows))
 
 
@@ -145,7 +153,18 @@ def cover() -> str:
     return workbook(sheet("Cover", [["'Plan of 2027"]]), sheet("Plan", [["5", "=[.A1]*[$Rates.A1]"]]), sheet("Rates", [["1.5"]]))
 
 
-WORKBOOKS = {made.__name__: made for made in (tariff, recipe, loan, break_even, sink, settings, data, cover)}
+def loans() -> str:
+    """PMT, FV and PV: with all parameters, without interest, with a count of periods in a cell and in the formula."""
+    formulas = (
+        *("PMT([.B1]/12;[.B2];[.B3])", "PMT([.B1]/12;60;[.B3];-500;1)", "PMT(0;[.B2];[.B3])", "PMT(0.05;10;1000;0;0)", "PMT([.B1];[.B2]/12;[.B3];100)"),
+        *("FV([.B1]/12;[.B2];-100)", "FV(0.03;10;-100;-1000;1)", "FV(0;12;-50;10)", "FV([.B1];1;-100)", "PV([.B1]/12;[.B2];-370.59)"),
+        *("PV(0.04;20;-250;1000;1)", "PV(0;12;-50;10)", "ROUND(PMT([.B1]/12;[.B2];[.B3]);2)*[.B2]", "PMT(-0.01;12;1000)"),
+    )
+    inputs = [["'rate", "0.0425"], ["'months", "60"], ["'loan", "20000"]]
+    return workbook(sheet("Loans", [*inputs, *([f"'{at}", f"={text}"] for at, text in enumerate(formulas, 1))]))
+
+
+WORKBOOKS = {made.__name__: made for made in (tariff, recipe, loan, break_even, sink, settings, data, cover, loans)}
 
 RELATIONS = '<?xml version="1.0"?><Relationships xmlns="http://schemas.openxmlformats.org/package/2006/relationships">{}</Relationships>'
 OFFICE = "http://schemas.openxmlformats.org/officeDocument/2006/relationships"
@@ -169,10 +188,11 @@ def excel() -> dict[str, str]:
     overrides = (("/xl/workbook.xml", "sheet.main"), ("/xl/worksheets/sheet1.xml", "worksheet"))
     parts = "".join(f'<Override PartName="{name}" ContentType="{TYPES}.{kind}+xml"/>' for name, kind in overrides)
     return {
-        "[Content_Types].xml": '<?xml version="1.0"?><Types xmlns="http://schemas.openxmlformats.org/package/2006/content-types"><Default Extension="rels"'
-        f' ContentType="application/vnd.openxmlformats-package.relationships+xml"/>{parts}</Types>',
+        "[Content_Types].xml": '<?xml version="1.0"?><Types xmlns="http://schemas.openxmlformats.org/package/2006/content-types">'
+        f'<Default Extension="rels" ContentType="application/vnd.openxmlformats-package.relationships+xml"/>{parts}</Types>',
         "_rels/.rels": RELATIONS.format(f'<Relationship Id="r1" Type="{OFFICE}/officeDocument" Target="xl/workbook.xml"/>'),
-        "xl/workbook.xml": f'<?xml version="1.0"?><workbook xmlns="{MAIN}" xmlns:r="{OFFICE}"><sheets><sheet name="Tables" sheetId="1" r:id="r1"/></sheets></workbook>',
+        "xl/workbook.xml": f'<?xml version="1.0"?><workbook xmlns="{MAIN}" xmlns:r="{OFFICE}"><sheets>'
+        '<sheet name="Tables" sheetId="1" r:id="r1"/></sheets></workbook>',
         "xl/_rels/workbook.xml.rels": RELATIONS.format(f'<Relationship Id="r1" Type="{OFFICE}/worksheet" Target="worksheets/sheet1.xml"/>'),
         "xl/worksheets/sheet1.xml": f'<?xml version="1.0"?><worksheet xmlns="{MAIN}"><sheetData>{EXCEL_CELLS}</sheetData></worksheet>',
     }
