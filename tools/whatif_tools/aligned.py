@@ -26,8 +26,8 @@ def table_of(command: Command, records: list[list[str]]) -> str:
         return aligned([["cell", words[1], words[2], "difference"], *records])
     if command.name == "table" and len(words) == 4:
         return aligned([[words[2], words[1]], *records])
-    head = [HEADS[command.name]] if command.name in HEADS else []
-    return aligned(head + records)
+    titles = [HEADS[command.name]] if command.name in HEADS else []
+    return aligned(titles + records)
 
 
 def aligned(rows: Sequence[Sequence[str]]) -> str:

@@ -4,6 +4,7 @@ import re
 from collections.abc import Callable, Iterable
 from dataclasses import dataclass
 
+from .functions import FUNCTIONS
 from .sheet import COLUMNS, column_letters
 
 CELL = r"\$?[A-Za-z]{1,3}\$?[1-9][0-9]*"
@@ -62,6 +63,11 @@ def row_and_column(found: re.Match[str]) -> str:
     return f"a cell is written by its column's letters and its row: write {example}"
 
 
+def in_parentheses(found: re.Match[str]) -> str | None:
+    """What to write for a function with brackets behind its name."""
+    return f"parameters are in parentheses: write {found[1]}([.A1:.A3])" if found[1].upper() in FUNCTIONS else None
+
+
 WHAT_IF = "MULTIPLE.OPERATIONS has three or five parameters, each a cell, parted by ; as in MULTIPLE.OPERATIONS([.B5];[.B1];[.D2])"
 ONE_SHEET = "there is one sheet: a cell is written [.A1], without a sheet's name"
 NAMELESS = "there are no names of ranges and no tables with columns: a cell is written [.B4]"
@@ -81,6 +87,10 @@ BEHIND_VALUE = (
 """Hints for what stands behind a value."""
 
 FORMULA_HINTS = (
+    hint(r"#(?![A-Z])", "a comment has a line of its own, which begins with #"),
+    hint(r"(?<=/)/", "a whole quotient is QUOTIENT(n;m)"),
+    hint(r"(?<=[0-9])\.[0-9]", "a number has one point, and thousands aren't parted"),
+    hint(r"([A-Za-z_][\w.]*)(?=\[)", in_parentheses),
     hint(r"(?<==)>", "at least is written >="),
     hint(r"(?<==)<", "at most is written <="),
     hint(r"(?<=[<>] )=", "the two signs have no space between them: >= and <="),

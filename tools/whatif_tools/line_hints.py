@@ -101,6 +101,16 @@ def letters_first(found: re.Match[str]) -> str:
     return f"a cell is written by its column's letters and then its row: write {found[2].upper()}{found[1]}"
 
 
+def rectangle(found: re.Match[str]) -> str:
+    return f"a rectangle is written with a colon: write {found[1]} {found[2]}:{found[3]}"
+
+
+def called(found: re.Match[str]) -> str:
+    """What to write for a command with parentheses."""
+    instead = OTHER_WORDS.get(found[1].lower(), "whatif --help lists the commands")
+    return f"a command has no parentheses, and spaces between its words; {instead}"
+
+
 NO_FILES = 'whatif writes no files: the replies go to standard output, and csvout in docs/FROM.md, "The command line", cuts an export out of them'
 NOT_HERE = 'there is none: docs/FROM.md, "What a program does", says what to do instead'
 COMMENT = "a comment begins with #, at the start of its line"
@@ -112,6 +122,14 @@ LINE_HINTS = (
     hint(r" +#", COMMENT),
     hint(rf" *(?i:force +)?(?=(?i:{WORDS})\b)(?!(?:{WORDS})\b)(?P<word>\w+)", in_lower_case),
     hint(rf" *(?:set +)?({CELL}) *= *(.*)", lambda found: f"write set {found[1]} {found[2]}, or set {found[1]} ={found[2]} for a formula"),
+    hint(r" *(=.+)", lambda found: f"a formula goes into a cell: set A1 {found[1]}"),
+    hint(rf" *({CELL})(?::({CELL}))? *$", lambda found: f"write show {found[0].strip()} to see it"),
+    hint(rf" *(?:force +)?set +({CELL}):([^A-Za-z].*)", lambda found: f"write set {found[1]} {found[2]}"),
+    hint(rf" *scenario +(\w+) +({CELL}) *= *(.+)", lambda found: f"write scenario {found[1]} {found[2]} {found[3]}"),
+    hint(r" *scenario +(\w+) +=", lambda found: f"the cell stands before its value: scenario {found[1]} B1 5"),
+    hint(rf" *(show|export|clear) +({CELL})(?:\.\.+|[-;,]| to )({CELL}) *$", rectangle),
+    hint(r" *(show|export|clear) +(?:all|sheet|everything|\*) *$", lambda found: f"{found[1]} takes a rectangle: {found[1]} A1:H40"),
+    hint(r" *(?i:new|reset|restart|close)\b", "there is none: each run begins with an empty sheet"),
     hint(r" *(?i:quit|exit|bye|q)\b", "there is no quit: the program ends with its input, at a terminal by Ctrl-D"),
     hint(r" *(?i:help|\?)", "whatif --help lists the commands"),
     hint(r" *(?:force +)?([A-Za-z]+)(?= |$)", other_word),
@@ -132,6 +150,7 @@ LINE_HINTS = (
     hint(r" *csv +\S+ *$", "behind the address comes the number of data lines: csv A1 3"),
     hint(r" *(?:force +)?([A-Za-z]+)(?= |$)", nearest),
     hint(rf" *force\b(?! +(?:{'|'.join(EDITS)})\b)", f"force stands before {', '.join(EDITS)} alone"),
+    hint(r" *([A-Za-z]+) *\(", called),
     hint(r"[^#]* #", "a comment has a line of its own, which begins with #"),
     hint(r".* \$?[A-Za-z]+\$[0-9]", "addresses in commands have no $"),
     hint(r" *table\b", "XCOLUMN is a rectangle of one column, YROW one of one row, and F, R and C are cells"),

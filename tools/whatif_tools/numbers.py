@@ -80,6 +80,11 @@ def accounting(found: re.Match[str]) -> str:
     return f"parentheses make no negative number: {write('-' + figures(found[1]))}"
 
 
+def mixed(found: re.Match[str]) -> str:
+    whole, above, below = map(int, found.groups())
+    return write(str(whole + Fraction(above, below)))
+
+
 def figures(text: str) -> str:
     """The digits and the point of a number, without what parts thousands."""
     plainly = re.sub(r"[^-+0-9.]", "", text)
@@ -113,6 +118,9 @@ SPELLINGS = (
     spelling(rf"[~≈][{SPACES}]*([-+]?{FIGURES})", lambda found: write(found[1])),
     spelling(rf"[-+]?[$€£¥][{SPACES}]*[-+]?(?:{PARTED}|\.[0-9]+)", lambda found: write(figures(found[0]))),
     spelling(rf"[-+]?(?:{PARTED}|\.[0-9]+)[{SPACES}]*[$€£¥]", lambda found: write(figures(found[0]))),
+    spelling(rf"([-+]?{FIGURES})[;,]", lambda found: write(found[1])),
+    spelling(rf"([-+])[{SPACES}]+({FIGURES})", lambda found: write(found[1].replace("+", "") + found[2])),
+    spelling(r"([0-9]+) ([0-9]+)/([1-9][0-9]*)", mixed),
     spelling(r"(?i:true|false)", lambda found: write(found[0].upper())),
     spelling(r"[-+]?(?i:nan|inf|infinity)", lambda _: "no number is like that: leave it out"),
     spelling(r"[-+]?[0-9]+(?:\.[0-9]+)?(?:/[0-9]+)?", lambda _: "it doesn't fit in 128 bits, or its denominator is 0"),

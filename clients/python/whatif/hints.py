@@ -3,7 +3,6 @@
 from __future__ import annotations
 
 import importlib
-import importlib.util
 import sys
 from collections.abc import Collection
 from pathlib import Path
@@ -20,27 +19,21 @@ def tool(name: str) -> Any:
     return importlib.import_module(f"{TOOLS}.{name}")
 
 
-def tables() -> dict[str, Any]:
-    """What the modules of hints have, by name."""
-    names = [it for it in ("hints", "line_hints") if importlib.util.find_spec(f"{tool('hints').__package__}.{it}")]
-    return {name: value for module in names for name, value in vars(tool(module)).items()}
-
-
 def hint_for(code: str, line: str, scenarios: Collection[str]) -> Optional[str]:
     """What to write instead of a line that was refused so, if that is known; `scenarios` are those that were made."""
     try:
-        hints, formula, script = tables(), tool("formula"), tool("script")
+        hints, lines, formula, script = tool("hints"), tool("line_hints"), tool("formula"), tool("script")
     except (ImportError, TypeError):  # not installed, or a Python before 3.10
         return None
     command = script.Command(1, line.encode(errors="replace"), ())
     if code == "E05" and command.content is not None and formula.is_formula(command.content):
         found = formula.fault(command.content)
-        hint = found and hints["formula_hint"](command.content, found.place)
+        hint = found and hints.formula_hint(command.content, found.place)
     elif code == "E02":
-        hint = hints["line_hint"](command, {})
+        hint = lines.line_hint(command, {})
     elif code == "E10":
         unknown = next((word for word in command.words[1:] if word.isidentifier() and word not in scenarios), "")
-        hint = hints["name_hint"](unknown, scenarios)
+        hint = lines.name_hint(unknown, scenarios)
     else:
-        hint = hints["BY_CODE"].get(code)
+        hint = lines.BY_CODE.get(code)
     return str(hint) if hint else None
