@@ -1,7 +1,11 @@
 """Answers: lists with what was asked, and HTML that stands by itself."""
 
 import html.parser
+import re
+import tempfile
 import unittest
+from html import escape
+from pathlib import Path
 
 from whatif import Change, Difference, Formula, Workbook
 
@@ -50,10 +54,12 @@ class AnswersTest(unittest.TestCase):
         table = self.book.table("B4", "B1", [250, 400], "B2", [0.32, 0.28])
         self.assertEqual((table.result, table.inputs, table.labels["B4"]), ("B4", ["B1", "B2"], "bill"))
         self.assertEqual((table.heads, table.rows), ([[250, 400], [self.book["B2"], table.heads[1][1]]], [[92, 82], [140, 124]]))
+        self.assertEqual(table.axes().caption, "bill (B4) by consumption (B1) and price (B2)")
         read = self.read(table)
-        self.assertEqual(read.caption, "bill (B4) by consumption (B1) and price (B2)")
-        self.assertEqual(read.rows, [["consumption \\ price", "0.32", "0.28"], ["250", "92", "82"], ["400", "140", "124"]])
-        self.assertEqual(read.scopes, ["col"] * 3 + ["row"] * 2)
+        self.assertEqual(read.caption.split(), ["bill", "by", "consumption", "and", "price"])
+        self.assertEqual(read.rows, [["", "price"], ["consumption", "0.32", "0.28"], ["250", "92", "82"], ["400", "140", "124"]])
+        self.assertEqual(read.scopes, ["colgroup"] + ["col"] * 3 + ["row"] * 2)
+        self.assertIn("<svg", table._repr_html_())
 
     def test_a_table_over_cells_knows_its_heads(self) -> None:
         self.book["D1"] = [[None, 0.32, 0.28], [250], [400]]
@@ -67,7 +73,8 @@ class AnswersTest(unittest.TestCase):
         compared = self.book.compare(None, "winter", "B1:B4")
         self.assertEqual((compared.before, compared.after, compared.cells, compared.rows[1]), ("sheet", "winter", ["B1", "B4"], [92, 140, 48]))
         self.assertIsInstance(compared[0], Difference)
-        self.assertEqual(self.read(compared).rows[2], ["bill", "92", "140", "48"])
+        self.assertEqual(self.read(compared).rows[2][:3], ["bill B4", "92", "140"])
+        self.assertTrue(self.read(compared).rows[2][3].startswith("+48+52.2"))
         changes = self.book.changes()
         self.assertIsInstance(changes[0], Change)
         self.assertEqual(self.read(changes).rows[2], ["B1", "250"])
@@ -88,7 +95,24 @@ class AnswersTest(unittest.TestCase):
         for text in ("<script>alert(1)</script>", '"&amp;', "</td>"):
             self.book["A1"] = text
             self.assertEqual(self.read(self.book["A1:B1"]).rows[1], ["1", text, "250"])
-            self.assertIn(text, self.read(self.book.table("B4", "B1", [1])).caption)
+            table = self.book.table("B4", "B1", [1])
+            self.assertIn(text, table.axes().caption)
+            self.assertIn(text, self.read(table).caption)
+
+    def test_a_report(self) -> None:
+        """One page with a part for each answer, in order, and the sheet; nothing of it is markup but its own."""
+        self.book["A4"] = "<b>bill"
+        self.book.scenario("winter", {"B1": 400})
+        asked = [self.book.table("B4", "B1", [250, 400]), self.book.compare(None, "winter", "B1:B4"), self.book.sensitivity("B4")]
+        with tempfile.TemporaryDirectory() as folder:
+            path = Path(folder) / "page.html"
+            self.book.report(path, *asked, title="A & B")
+            page = path.read_text()
+        self.assertIn("<title>A &amp; B</title>", page)
+        self.assertNotIn("<b>bill", page)
+        heads = re.findall("<h2>(.*?)</h2>", page)
+        self.assertEqual(heads, [escape(it.axes().caption) for it in asked] + ["A1:B4"])
+        self.assertEqual((page.count("<table"), page.count("<svg") > 0, page.count("http://") + page.count("https://")), (4, True, 0))
 
     def test_long_numbers_are_rounded_and_say_so(self) -> None:
         self.book["B1"] = Formula("=1000*1035^9/1000^9")

@@ -8,6 +8,7 @@ from dataclasses import dataclass
 from typing import Any
 
 from .addresses import columns_of, corners_of
+from .drawing import Label, Markup, comparison_html, fragment, table_html
 from .html import html_table
 from .values import Numbers, Value, as_numbers, shown
 
@@ -50,8 +51,12 @@ class Answer(list[Any]):
         """
         return self.axes().frame(numbers)
 
+    def drawn(self) -> Markup:
+        """What `Workbook.report` shows of it."""
+        return Markup(self.axes().html())
+
     def _repr_html_(self) -> str:
-        return self.axes().html()
+        return self.drawn()
 
 
 class Grid(Answer):
@@ -98,6 +103,14 @@ class Table(Answer):
         asked = " and ".join(f"{self.labels.get(it, it)} ({it})" for it in self.inputs)
         return Axes(f"{names[0]} ({self.result}) by {asked}", names[1], self.heads[0], across, columns, self.rows)
 
+    def drawn(self) -> Markup:
+        """A list and a curve, or a heat map and curves."""
+        result, *inputs = (Label(cell, self.labels.get(cell, "")) for cell in (self.result, *self.inputs))
+        return table_html(self, result, *inputs)
+
+    def _repr_html_(self) -> str:
+        return fragment(self.drawn())
+
 
 @dataclass(frozen=True)
 class Difference:
@@ -122,6 +135,13 @@ class Comparison(Answer):
     def axes(self) -> Axes:
         heads = [self.before, self.after, "difference"]
         return Axes(f"{self.after} beside {self.before}", "", named(self.cells, self.labels), "", heads, self.rows)
+
+    def drawn(self) -> Markup:
+        """Both values, the difference, its percent and a bar."""
+        return comparison_html([[it.address, it.before, it.after, it.by] for it in self], self.before, self.after, labels=self.labels)
+
+    def _repr_html_(self) -> str:
+        return fragment(self.drawn())
 
 
 @dataclass(frozen=True)

@@ -31,11 +31,14 @@ class Sheet:
         return f"<{type(self).__name__} {self.name}: {self._process.lines} lines, scenario {self.scenario_in_use}>"
 
     def _repr_html_(self) -> str:
+        return self.page()._repr_html_()
+
+    def page(self) -> Grid:
         """The part of the sheet that shows something, from A1 on, as far as it fits on a page."""
         known = self._reader.look(self.scenario_in_use)
         cells = [cell for cell, value in known.items() if value is not None]
         right, bottom = corners_of(rect_of(cells))[2:] if cells else (1, 1)
-        return self.values(f"A1:{address_of(min(right, MOST_COLUMNS), min(bottom, MOST_ROWS))}")._repr_html_()
+        return self.values(f"A1:{address_of(min(right, MOST_COLUMNS), min(bottom, MOST_ROWS))}")
 
     def command(self, line: str, data: bytes = b"") -> list[list[str]]:
         """The records that a command is answered, as this session. The data lines of a csv are `data`.

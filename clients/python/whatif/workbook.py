@@ -8,6 +8,8 @@ from datetime import date
 from pathlib import Path
 from typing import Any, Optional
 
+from .answers import Answer
+from .drawing import Part, report
 from .process import Process
 from .reader import Reader
 from .refusals import Refused
@@ -111,3 +113,11 @@ class Workbook(Session):
     def save(self, path: str | Path) -> None:
         """Writes `script()` into a file, which is there when it is whole."""
         write_whole(Path(path), self.script().encode())
+
+    def report(self, path: str | Path, *answers: Answer, title: str = "A workbook") -> None:
+        """Writes a page to look at, in one file: what was answered, in this order, and then the sheet as it is.
+
+        book.report("bill.html", book.table("B4", "B1", [250, 400]), book.compare(None, "winter", "B1:B4"), title="A tariff")
+        """
+        parts = [Part(answer.axes().caption, answer.drawn()) for answer in (*answers, self.page())]
+        write_whole(Path(path), report(title, parts).encode())
