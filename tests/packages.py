@@ -27,6 +27,14 @@ def command(name: str) -> Callable[[], bool]:
     return lambda: shutil.which(name) is not None
 
 
+def has_module(name: str) -> bool:
+    return importlib.util.find_spec(name) is not None
+
+
+def module(name: str) -> Callable[[], bool]:
+    return lambda: has_module(name)
+
+
 # By their names, how to see that they are there.
 PACKAGES: dict[str, Callable[[], bool]] = {
     "gcc libc6-dev": compiles("#include <stdlib.h>\n"),
@@ -35,7 +43,12 @@ PACKAGES: dict[str, Callable[[], bool]] = {
     "gnuplot-nox": command("gnuplot"),
     "gnumeric": command("ssconvert"),
     "parallel": command("parallel"),
-    "python3-pandas": lambda: importlib.util.find_spec("pandas") is not None,
+    "python3-pandas": module("pandas"),
+    "python3-pip": module("pip"),
+    "python3-nbclient python3-ipykernel python3-matplotlib": lambda: all(map(has_module, ("nbclient", "ipykernel", "matplotlib"))),
+    "mypy": command("mypy"),
+    "libreoffice-calc": command("soffice"),
+    "chromium": command("chromium"),
     "man-db": lambda: succeeds(["sh", "-c", "man --version | grep -q '^man [0-9]'"]),
     "dpkg": command("dpkg-deb"),
 }
