@@ -25,6 +25,7 @@ COMMITTER = {f"GIT_{who}_{what}": text for who in ("AUTHOR", "COMMITTER")
              for what, text in (("NAME", "a maintainer"), ("EMAIL", "maintainer@example.org"), ("DATE", "2026-02-03T04:05:06Z"))}
 VERSION = (ROOT / "VERSION").read_text().strip()
 TARBALL, DEB = f"whatif-{VERSION}-x86_64-linux.tar.gz", f"whatif_{VERSION}_amd64.deb"
+WHEEL = f"whatif_client-{VERSION}-py3-none-any.whl"
 
 
 @dataclass(frozen=True)
