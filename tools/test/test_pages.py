@@ -3,6 +3,7 @@
 import os
 import subprocess
 import tempfile
+import textwrap
 import unittest
 from fractions import Fraction
 from pathlib import Path
@@ -12,7 +13,8 @@ from report_page import blocks
 from whatif_tools.check import Check
 from whatif_tools.errors import ASK
 from whatif_tools.finding import Kind
-from whatif_tools.program import ROOT, Reply, parted, program, run
+from whatif_tools.program import ROOT, Reply, parted, program, program_help, run
+from whatif_tools.shell import Shell
 
 TROUBLE = page_of(ROOT / "docs" / "TROUBLE.md")
 FROM = page_of(ROOT / "docs" / "FROM.md")
@@ -237,6 +239,18 @@ class Start(unittest.TestCase):
         self.assertEqual([row[1:] for row in table[2:]], [record[1:] for record in answers])
         self.assertEqual([cell.get("title") for cell in page[3].node.iter("td") if "here" in cell.get("class", "")], ["195"])
         self.assertEqual(moving[1], ["plum \u00b7 price D2 4.5", "177", "213"])
+
+    def test_the_shell(self) -> None:
+        """What the shell answers to what is typed into it."""
+        page = (ROOT / "docs" / "START.md").read_text()
+        typed = next(part for part in page.split("\n\n") if part.startswith("    main> "))
+        first, *parts = (part.partition("\n") for part in f"\n{textwrap.dedent(typed)}\n".split("\nmain> "))
+        self.assertEqual(("".join(first), len(parts)), ("", 3))
+        shell = Shell(program(), program_help())
+        self.addCleanup(lambda: shell.close(shell.book))
+        for command, _, answer in parts:
+            shell.take(command)
+            self.assertEqual(shell.told().rstrip("\n"), answer.rstrip("\n"), command)
 
     def test_mistakes_are_found(self) -> None:
         """Both mistakes that are made on purpose."""
