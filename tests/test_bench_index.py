@@ -78,7 +78,7 @@ class Index(unittest.TestCase):
         ):
             with self.subTest(new):
                 self.change(name, old, new)
-                for words in ([], ["--check"]):
+                for words in ((), ("--check",)):
                     refused = index(self.root, *words)
                     self.assertEqual((refused.returncode, refused.stdout), (1, f"{said}\n"))
                 self.assertFalse((self.root / "docs/index.txt").exists())
