@@ -1,13 +1,19 @@
 """Tests of bench/index: what it makes of a small made repository, what it refuses, and that docs/index.txt is of today."""
 
-import subprocess
+import io
 import sys
 import tempfile
 import unittest
+from contextlib import redirect_stdout
+from importlib.machinery import ModuleSpec, SourceFileLoader
+from importlib.util import module_from_spec
 from pathlib import Path
+from types import ModuleType
 
 ROOT = Path(__file__).resolve().parent.parent
 MAP = """# Map
+
+A walk: `low/part/grammar::line`, then `tell`, `crates/no` and `no/place`.
 
 | Word | What it is |
 |---|---|
@@ -40,8 +46,26 @@ WANTED = [
 ]
 
 
-def index(root: Path, *words: str) -> subprocess.CompletedProcess[str]:
-    return subprocess.run([sys.executable, ROOT / "bench/index", "--root", root, *words], capture_output=True, text=True, check=False)
+def loaded() -> ModuleType:
+    """The tool as a module. Dataclasses look for theirs by its name."""
+    sys.dont_write_bytecode = True
+    loader = SourceFileLoader("bench_index", str(ROOT / "bench/index"))
+    module = module_from_spec(ModuleSpec("bench_index", loader, origin=loader.path))
+    module.__file__ = loader.path
+    sys.modules["bench_index"] = module
+    loader.exec_module(module)
+    return module
+
+
+TOOL = loaded()
+
+
+def index(root: Path, *words: str) -> tuple[int, str]:
+    """Its status, and what it says."""
+    said = io.StringIO()
+    with redirect_stdout(said):
+        status = TOOL.main(["--root", str(root), *words])
+    return status, said.getvalue()
 
 
 class Index(unittest.TestCase):
@@ -60,15 +84,15 @@ class Index(unittest.TestCase):
         (self.root / name).write_text(text.replace(old, new))
 
     def test_a_line_for_each_rule(self) -> None:
-        made = index(self.root)
-        self.assertEqual((made.returncode, made.stdout), (0, ""))
+        self.assertEqual(index(self.root), (0, ""))
         lines = (self.root / "docs/index.txt").read_text().splitlines()
         self.assertEqual([it for it in lines if not it.startswith("#")], WANTED)
 
     def test_what_is_refused(self) -> None:
         for name, old, new, said in (
             ("docs/MAP.md", "Grammar.line_of", "Grammar.line", "Grammar.line: no line in crates/wi_low/specs/Grammar.antt"),
-            ("docs/MAP.md", "part/grammar", "grammar", "grammar::line: no file crates/wi_low/src/grammar.rt"),
+            ("docs/MAP.md", "| part/grammar", "| grammar", "grammar::line: no file crates/wi_low/src/grammar.rt"),
+            ("docs/MAP.md", "`low/part/grammar::line`", "`low/part/grammar::gone`", "low/part/grammar::gone: no gone in crates/wi_low/src/part/grammar.rt"),
             ("docs/MAP.md", "signs before `^`", "signs", "no row: signs before ^"),
             ("docs/MAP.md", "messages", "signs before ^", "two rows: signs before ^"),
             ("docs/MAP.md", "| messages | none |", "| messages |", "no row of three cells: | messages | high/main::tell |"),
@@ -79,23 +103,20 @@ class Index(unittest.TestCase):
             with self.subTest(new):
                 self.change(name, old, new)
                 for words in ((), ("--check",)):
-                    refused = index(self.root, *words)
-                    self.assertEqual((refused.returncode, refused.stdout), (1, f"{said}\n"))
+                    self.assertEqual(index(self.root, *words), (1, f"{said}\n"))
                 self.assertFalse((self.root / "docs/index.txt").exists())
                 (self.root / name).write_text(FILES[name])
 
     def test_one_of_yesterday(self) -> None:
         index(self.root)
-        self.assertEqual(index(self.root, "--check").returncode, 0)
+        self.assertEqual(index(self.root, "--check"), (0, ""))
         before = (self.root / "docs/index.txt").read_text()
         self.change("bench/rules.txt", "unary\n", "binary\n")
-        stale = index(self.root, "--check")
-        self.assertEqual((stale.returncode, stale.stdout), (1, "docs/index.txt isn't of today: bench/index writes it\n"))
+        self.assertEqual(index(self.root, "--check"), (1, "docs/index.txt isn't of today: bench/index writes it\n"))
         self.assertEqual((self.root / "docs/index.txt").read_text(), before)
 
     def test_that_of_this_repository_is_of_today(self) -> None:
-        checked = index(ROOT, "--check")
-        self.assertEqual((checked.returncode, checked.stdout), (0, ""))
+        self.assertEqual(index(ROOT, "--check"), (0, ""))
 
 
 if __name__ == "__main__":
