@@ -1,11 +1,15 @@
-"""Tests of bench/pages, which counts the bytes, long lines and long sentences of the pages, over a small made repository."""
+"""Tests of bench/pages, which counts the bytes, long lines and long sentences of the pages, over a small made repository; and of bench/history.csv."""
 
+import csv
 import subprocess
 import tempfile
 import unittest
+from datetime import date
+from decimal import Decimal
 from pathlib import Path
 
-PAGES = Path(__file__).resolve().parent.parent / "bench" / "pages"
+BENCH = Path(__file__).resolve().parent.parent / "bench"
+PAGES = BENCH / "pages"
 ABOVE = "above its aim"
 
 
@@ -93,6 +97,23 @@ class PagesOfDocs(unittest.TestCase):
         ran = subprocess.run([PAGES], capture_output=True, text=True, check=False)
         self.assertEqual(ran.stderr, "")
         self.assertIn("docs/PROVING.md", [it.split()[0] for it in ran.stdout.splitlines()])
+
+
+class History(unittest.TestCase):
+    def test_each_row_is_a_dated_figure(self) -> None:
+        with (BENCH / "history.csv").open(newline="") as lines:
+            head, *rows = csv.reader(lines)
+        self.assertEqual(head, ["date", "commit", "what", "figure", "unit"])
+        for row in rows:
+            with self.subTest(row=row):
+                day, commit, what, figure, unit = row
+                self.assertEqual(date.fromisoformat(day).isoformat(), day)
+                self.assertRegex(commit, r"^[0-9a-f]{8,40}$")
+                self.assertTrue(what and unit)
+                self.assertGreaterEqual(Decimal(figure), 0)
+        days = [row[0] for row in rows]
+        self.assertEqual(days, sorted(days))
+        self.assertEqual(len({tuple(row) for row in rows}), len(rows))
 
 
 if __name__ == "__main__":
