@@ -7,6 +7,7 @@ ghost use Rattle.wi_cli.specs.Lines.{max_lines};
 ghost use Rattle.wi_cli.specs.Inner.Reading.{raw, line_front, CanRead, ReadsOn};
 ghost use Rattle.wi_cli.specs.Inner.Data.{wants, Holds, HoldsLines, AddedTo, TookData, BrokeData};
 
+use crate::again::give_back;
 use crate::csv_line::CsvLine;
 use crate::fault::RunFault;
 use crate::lines::{LineReader, MAX_LINE, next_line};
@@ -51,7 +52,7 @@ fn append(bytes: &mut Vec<u8>, line: &[u8], whole: bool) -> Result<(), AllocErro
     Ok(())
 }
 
-/// Holds one more line, if lines are wanted and it is not too long.
+/// Holds one more line, if lines are wanted and it is not too long. Where memory runs out, that of the lines before is given back.
 fn hold(bytes: &mut Vec<u8>, wanted: bool, line: &[u8], whole: bool) -> Held
     ensures { (content : List ℕ) → is_whole content ≡ false → line.now ≡ line_front content
         → (before : List (List ℕ)) → Holds wanted Held.All bytes.old.items before
@@ -65,7 +66,10 @@ fn hold(bytes: &mut Vec<u8>, wanted: bool, line: &[u8], whole: bool) -> Held
     }
     match append(bytes, line, whole) {
         Ok(()) => Held::All,
-        Err(_) => Held::Lacking,
+        Err(_) => {
+            give_back(bytes);
+            Held::Lacking
+        }
     }
 }
 

@@ -79,7 +79,8 @@ fn turn<R: Source, W: Sink, C: Calculator>(
     match read_line(&buffers.script.line) {
         Line::Passed => Ok(whole),
         Line::Command(command) => {
-            let reply = serve(&command, book, &mut buffers.records);
+            let spare = &mut buffers.data_lines.bytes;
+            let reply = serve(&command, book, &mut buffers.records, spare);
             answer(writer, reply, &buffers.records, whole)
         }
         Line::Csv(csv) => {
@@ -89,7 +90,8 @@ fn turn<R: Source, W: Sink, C: Calculator>(
                 // What a fault cuts is not answered.
                 Err(fault) => return Err(fault),
             };
-            let reply = serve_csv(book, &csv, &buffers.data_lines);
+            let spare = &mut buffers.records;
+            let reply = serve_csv(book, &csv, &buffers.data_lines, spare);
             answer(writer, reply, b"", end)
         }
     }
