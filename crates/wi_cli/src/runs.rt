@@ -85,13 +85,14 @@ fn turn<R: Source, W: Sink, C: Calculator>(
         }
         Line::Csv(csv) => {
             let script = &mut buffers.script;
-            let end = match read_data(script, reader, &mut buffers.data_lines, &csv, whole) {
+            let data_lines = &mut buffers.data_lines;
+            let spare = &mut buffers.records;
+            let end = match read_data(script, reader, data_lines, &csv, whole, book, spare) {
                 Ok(end) => end,
                 // What a fault cuts is not answered.
                 Err(fault) => return Err(fault),
             };
-            let spare = &mut buffers.records;
-            let reply = serve_csv(book, &csv, &buffers.data_lines, spare);
+            let reply = serve_csv(book, &csv, &buffers.data_lines, &mut buffers.records);
             answer(writer, reply, b"", end)
         }
     }

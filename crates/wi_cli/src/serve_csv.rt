@@ -63,17 +63,8 @@ fn import_twice<C: Calculator>(
     done
 }
 
-/// Gives memory back where it ran out for data lines.
-fn forget_for<C: Calculator>(refusal: Refusal, book: &mut Workbook<C>, spare: &mut Vec<u8>)
-    ensures { book.new ≡ book.old }
-{
-    if let Refusal::Memory = refusal {
-        forget(book, spare);
-    }
-}
-
 /// Serves a line that asks for data lines. Where memory runs out, all that can be found again is given back, with the memory of bytes that aren't
-/// used any more; and the lines are imported once more, if they are all there.
+/// used any more, and the lines are imported once more.
 pub(crate) fn serve_csv<C: Calculator>(
     book: &mut Workbook<C>,
     csv: &CsvLine,
@@ -90,9 +81,6 @@ pub(crate) fn serve_csv<C: Calculator>(
             Ok(()) => Reply::Done,
             Err(refusal) => Reply::Refused(refusal),
         },
-        Err(refusal) => {
-            forget_for(refusal, book, spare);
-            Reply::Refused(refusal)
-        }
+        Err(refusal) => Reply::Refused(refusal),
     }
 }
