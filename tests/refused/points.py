@@ -128,7 +128,7 @@ class Trial:
 
     def refused_some(self, refusal: Refusal, tally: Tally) -> None:
         """Refuses a request alone, or with the next one: one command at most is answered E01, and that is as if it hadn't been given. A command
-        is done once more where memory ran out, so one request that is refused alone is felt by data lines at most, which can't be read again."""
+        is done once more where memory ran out, so no reply tells of a request that is refused alone."""
         run = self.run(self.script, refusal)
         if not 1 <= run.refused <= refusal.count:
             raise Amiss(f"{run.refused} requests were refused in place of {refusal.count}; status {run.status}")
@@ -143,7 +143,7 @@ class Trial:
         if place not in self.places:
             raise Amiss(f"E01 isn't where a reply of the script begins, but at byte {place + 1}: {run.written[:SHOWN]!r}")
         at = self.places[place]
-        if refusal.count == 1 and not self.commands[at].data():
+        if refusal.count == 1:
             raise Amiss(f"{self.commands[at].text[:SHOWN]!r} isn't done once more")
         self.expect_lack([at])
         tally.out_of_memory += 1

@@ -34,10 +34,6 @@ class Command:
     is_cut: bool = False
     """Whether the input ends before its last data line, so that no command can follow it."""
 
-    def data(self) -> bytes:
-        """Its data lines."""
-        return self.text.partition(b"\n")[2]
-
 
 def data_lines(line: bytes) -> int:
     """How many of the lines behind this one are its data."""
@@ -92,9 +88,10 @@ def replies(written: bytes) -> list[bytes]:
 
 def may_lack_memory(command: Command, reply: bytes, is_first: bool) -> bool:
     """Whether E01 may stand in place of a reply of the script: in a run where none stood before it, or any."""
-    if command.text.split()[:1] == [b"drop"]:
+    line, _, data = command.text.partition(b"\n")
+    if line.split()[:1] == [b"drop"]:
         return False
-    return bool(command.data()) or not (FOUND_BEFORE_MEMORY if is_first else FOUND_IN_WORDS).fullmatch(reply)
+    return bool(data) or not (FOUND_BEFORE_MEMORY if is_first else FOUND_IN_WORDS).fullmatch(reply)
 
 
 def column_number(letters: bytes) -> int:
