@@ -75,8 +75,8 @@ class RefusedMemory(DeviceTest):
 
 
 @dataclass(frozen=True)
-class Commands:
-    """Commands with their replies."""
+class Exchange:
+    """Exchange with their replies."""
 
     script: str
     replies: str
@@ -92,20 +92,20 @@ class MemoryThatEnds(DeviceTest):
     SPACE = 64 << 20
     TEXTS = 3_000
 
-    def replies(self, parts: list[Commands]) -> str:
+    def replies(self, parts: list[Exchange]) -> str:
         """What is written where the program may have so much."""
         ended = call(given="".join(part.script for part in parts).encode(), before=lambda: resource.setrlimit(resource.RLIMIT_AS, (self.SPACE, self.SPACE)))
         self.assertEqual((ended.status, ended.told), (WELL, b""))
         return ended.written.decode()
 
-    def filled(self) -> list[Commands]:
+    def filled(self) -> list[Exchange]:
         """Questions for the lengths of many texts, whose values are cached with the texts."""
         self.assertGreater(self.TEXTS * LONGEST, self.SPACE)
         texts = f'set A1 =REPT("x";{LONGEST})\nfill A1 A1:A{self.TEXTS}\nset B1 =LEN([.A1])\nfill B1 B1:B{self.TEXTS}\n'
-        lengths = (Commands(f"show B{row}\n", f'"{LONGEST}"\r\nok\n') for row in range(1, self.TEXTS + 1))
-        return [Commands(texts, "ok\n" * 4), *lengths]
+        lengths = (Exchange(f"show B{row}\n", f'"{LONGEST}"\r\nok\n') for row in range(1, self.TEXTS + 1))
+        return [Exchange(texts, "ok\n" * 4), *lengths]
 
-    def assert_replies(self, parts: list[Commands]) -> None:
+    def assert_replies(self, parts: list[Exchange]) -> None:
         wanted = "".join(part.replies for part in parts)
         self.assertTrue(self.replies(parts) == wanted, "other replies than are wanted")
 
@@ -113,14 +113,14 @@ class MemoryThatEnds(DeviceTest):
         self.assert_replies(self.filled())
 
     def test_a_command_that_is_too_large_is_refused_and_those_behind_it_are_done(self) -> None:
-        too_large = Commands(f"show A1:A{self.TEXTS}\n", "refused E01\n")
+        too_large = Exchange(f"show A1:A{self.TEXTS}\n", "refused E01\n")
         text = "y" * LONGEST
         more = [
-            Commands("set C1 7\nfill C1 C1:C5000\nshow C5000\n", 'ok\nok\n"7"\r\nok\n'),
-            Commands(f"csv D1 2\n{text},1\n2,3\nshow D1:E2\n", f'ok\n"{text}","1"\r\n"2","3"\r\nok\n'),
-            Commands("as other\nscenario dear A1 z\nuse dear\nshow B1:B2\n", f'ok\nok\nok\n"1"\r\n"{LONGEST}"\r\nok\n'),
+            Exchange("set C1 7\nfill C1 C1:C5000\nshow C5000\n", 'ok\nok\n"7"\r\nok\n'),
+            Exchange(f"csv D1 2\n{text},1\n2,3\nshow D1:E2\n", f'ok\n"{text}","1"\r\n"2","3"\r\nok\n'),
+            Exchange("scenario dear A1 z\nuse dear\nshow B1:B2\n", f'ok\nok\n"1"\r\n"{LONGEST}"\r\nok\n'),
         ]
-        self.assert_replies([*self.filled(), too_large, *more, too_large, *more[:2]])
+        self.assert_replies([*self.filled(), too_large, *more, too_large, *more])
 
 
 def numbers(count: int) -> list[str]:
