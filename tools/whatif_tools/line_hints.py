@@ -2,7 +2,6 @@
 
 import re
 from collections.abc import Collection
-from dataclasses import replace
 from difflib import get_close_matches
 
 from .hints import CELL, first_advice, hint
@@ -41,7 +40,7 @@ def first_and_rest(area: str) -> tuple[str, str]:
     if known is None or (known.first.row < known.last.row) == (known.first.column < known.last.column):
         return area.partition(":")[0], area
     first, last = known.first, known.last
-    second = replace(first, row=first.row + 1) if first.row < last.row else replace(first, column=first.column + 1)
+    second = first._replace(row=first.row + 1) if first.row < last.row else first._replace(column=first.column + 1)
     return str(first), str(second) if second == last else f"{second}:{last}"
 
 

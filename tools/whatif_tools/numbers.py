@@ -8,6 +8,9 @@ from fractions import Fraction
 
 from .formula import GREATEST, fits
 
+DIGITS = 38
+"""Whatever so many digits spell fits."""
+
 SPELLED = re.compile(r"[-+]?[0-9]+(?:\.[0-9]+|/[0-9]+)?")
 SPACES = " \t\u00a0\u2007\u2009\u202f"
 FIGURES = r"(?:[0-9]+(?:\.[0-9]*)?|\.[0-9]+)"
@@ -19,7 +22,7 @@ def is_number(text: str) -> bool:
         return False
     above, is_quotient, below = text.partition("/")
     if not is_quotient:
-        return fits(Fraction(text))
+        return len(text) <= DIGITS or fits(Fraction(text))
     return 0 < int(below) <= GREATEST and abs(int(above)) <= GREATEST
 
 
