@@ -10,7 +10,7 @@ from functools import cached_property
 from typing import Any
 
 from .label import Label, Named, label
-from .values import exact, is_error, places_for, shown
+from .values import exact, extremes, is_error, places_for, shown
 
 CORNER = re.compile("([A-Za-z]+)([0-9]+)")
 
@@ -41,7 +41,7 @@ class Answers:
     @cached_property
     def ends(self) -> tuple[Fraction, Fraction]:
         """The lowest and the highest number, if there is one."""
-        return (min(self.known), max(self.known)) if self.known else (Fraction(0), Fraction(0))
+        return extremes(self.known) if self.known else (Fraction(0), Fraction(0))
 
     def are_alike(self) -> bool:
         """Whether all of several entries show the same, which is no error."""
