@@ -21,9 +21,9 @@ class Tally:
     """What was tried, and what was amiss."""
 
     tried: int = 0
-    """How many requests were refused alone, and as many with all later ones."""
+    """How many requests were refused alone, as many with the next one, and as many with all later ones."""
     out_of_memory: int = 0
-    """Of the runs with one refused request: those with a command that was answered E01."""
+    """Of the runs with two refused requests: those with a command that was answered E01."""
     silent: int = 0
     """Those that ended with the status for memory, and nothing written."""
     unfelt: int = 0
@@ -126,11 +126,12 @@ class Trial:
             if not may_lack_memory(command, reply, is_first=at == places[0]):
                 raise Amiss(f"E01 in place of {reply!r} to {command.text[:SHOWN]!r}")
 
-    def refused_once(self, refusal: Refusal, tally: Tally) -> None:
-        """Refuses one request: one command at most is answered E01, and that is as if it hadn't been given."""
+    def refused_some(self, refusal: Refusal, tally: Tally) -> None:
+        """Refuses a request alone, or with the next one: one command at most is answered E01, and that is as if it hadn't been given. A command
+        is done once more where memory ran out, so no reply tells of a request that is refused alone."""
         run = self.run(self.script, refusal)
-        if run.refused != 1:
-            raise Amiss(f"{run.refused} requests were refused in place of one; status {run.status}")
+        if not 1 <= run.refused <= refusal.count:
+            raise Amiss(f"{run.refused} requests were refused in place of {refusal.count}; status {run.status}")
         if is_silent(run):
             tally.silent += 1
             return
@@ -142,6 +143,8 @@ class Trial:
         if place not in self.places:
             raise Amiss(f"E01 isn't where a reply of the script begins, but at byte {place + 1}: {run.written[:SHOWN]!r}")
         at = self.places[place]
+        if refusal.count == 1:
+            raise Amiss(f"{self.commands[at].text[:SHOWN]!r} isn't done once more")
         self.expect_lack([at])
         tally.out_of_memory += 1
         if at not in self.sequels:
@@ -195,11 +198,12 @@ def amiss(look: Callable[[Refusal], None], refusal: Refusal) -> str:
 
 
 def tried(trial: Trial, requests: range) -> Tally:
-    """Refuses each of some requests of a script, alone and with all later ones."""
+    """Refuses each of some requests of a script, alone, with the next one, and with all later ones."""
     tally = Tally(tried=len(requests))
     for request in requests:
         found = [
-            amiss(lambda refusal: trial.refused_once(refusal, tally), Refusal(request)),
+            amiss(lambda refusal: trial.refused_some(refusal, Tally()), Refusal(request)),
+            amiss(lambda refusal: trial.refused_some(refusal, tally), Refusal(request, count=2)),
             amiss(trial.refused_from, Refusal(request, is_lasting=True)),
         ]
         tally.faults += [fault for fault in found if fault]

@@ -28,16 +28,18 @@ VALGRIND = [
 
 @dataclass(frozen=True)
 class Refusal:
-    """Which requests are refused, counted from 1: the first one alone, or all from it on."""
+    """Which requests are refused, counted from 1: so many from the first on, or all from it on."""
 
     first: int
     is_lasting: bool = False
+    count: int = 1
 
     def settings(self) -> dict[str, str]:
-        return {"REFUSE_FIRST": str(self.first)} | ({} if self.is_lasting else {"REFUSE_LAST": str(self.first)})
+        return {"REFUSE_FIRST": str(self.first)} | ({} if self.is_lasting else {"REFUSE_LAST": str(self.first + self.count - 1)})
 
     def __str__(self) -> str:
-        return f"request {self.first}{' and all later ones' if self.is_lasting else ''} refused"
+        more = "all later ones" if self.is_lasting else f"{self.count - 1} more"
+        return f"request {self.first}{f' and {more}' if self.is_lasting or self.count > 1 else ''} refused"
 
 
 @dataclass(frozen=True)

@@ -1,7 +1,9 @@
 """How whatif-check pairs lines and replies, finds where errors start, and prints what it has found."""
 
 import contextlib
+import csv
 import io
+import random
 import subprocess
 import tempfile
 import unittest
@@ -9,9 +11,10 @@ from pathlib import Path
 
 from whatif_tools.check import Check
 from whatif_tools.check_command import main
+from whatif_tools.data import records
 from whatif_tools.finding import Finding, Kind, excerpt
 from whatif_tools.numbers import is_number, meant_as_number
-from whatif_tools.program import ROOT, parted
+from whatif_tools.program import ROOT, fields, parted
 from whatif_tools.script import commands, lines_of
 
 
@@ -70,6 +73,25 @@ class Lines(Scripts):
         self.assertEqual([reply.end for reply in replies], ["ok", "ok", "refused E18 A1"])
         self.assertEqual(replies[0].records(), [["a\nok\nrefused E02\n", '"x']])
         self.assertEqual([reply.code for reply in replies], [None, None, "E18"])
+
+    def test_records(self) -> None:
+        """Fields come back as they were, whatever quotes, commas and line breaks stand in them."""
+        random.seed(80)
+        for _ in range(2000):
+            record = ["".join(random.choices('",;a\n\r', k=random.randint(0, 3))) for _ in range(random.randint(1, 4))]
+            written = ",".join('"' + field.replace('"', '""') + '"' for field in record) + "\r\n"
+            self.assertEqual(fields(written), record)
+
+    def test_data(self) -> None:
+        """Data lines are read as the csv module does, with quotes and without; an empty line is none."""
+        random.seed(82)
+        for _ in range(500):
+            lines = ["".join(random.choices(random.choice((",a1 ", ',a"')), k=random.randint(0, 5))) for _ in range(4)]
+            found = records(next(commands([b"csv A1 4", *(line.encode() for line in lines)])))
+            expected = csv.reader(io.StringIO("\n".join(lines), newline=""))
+            self.assertEqual([record.fields for record in found], [record for record in expected if record], lines)
+            if '"' not in "".join(lines):
+                self.assertEqual([record.line for record in found], [number for number, line in enumerate(lines, 2) if line])
 
     def test_end_of_the_program(self) -> None:
         found = self.findings(b"#\n" * 1_000_000 + b"show A1\n")

@@ -3,6 +3,7 @@
 from __future__ import annotations
 
 import contextlib
+import csv
 import hashlib
 import io
 import os
@@ -14,10 +15,12 @@ import sys
 import tempfile
 import unittest
 import unittest.mock
+from fractions import Fraction
 from pathlib import Path
+from urllib.parse import unquote
 
 from pages import codes, page_of
-from report_page import blocks
+from report_page import blocks, words
 from reports import STALL, TABLE, Reports
 from whatif_tools.check import Check
 from whatif_tools.program import ROOT, program
@@ -114,9 +117,9 @@ class Pages(Reports):
 
     def test_wrong_words(self) -> None:
         cases: list[list[str]] = [["--by", "0"], ["--by", "x"], ["--tornado", "B0"], ["--places", "-1"], []]
-        for words in cases:
+        for given in cases:
             with self.assertRaises(SystemExit) as ended, contextlib.redirect_stderr(io.StringIO()):
-                main([*words, *(["s.whatif"] if words else [])])
+                main([*given, *(["s.whatif"] if given else [])])
             self.assertEqual(ended.exception.code, 2)
 
 
@@ -196,10 +199,41 @@ class Limits(Reports):
         self.assertLess(len(page), 5_000_000)
         self.assertIn("256 \u00d7 256 exact numbers as CSV", page)
 
+    def test_list_of_65536_rows(self) -> None:
+        """It takes less than 5 seconds of the processor, or on a slow one what so many readings of as many fractions take there."""
+        script = f"set B1 3\nset B3 =[.B1]*4/7-20\ncsv D1 {ROWS}\n" + "".join(f"{n}\n" for n in range(1, ROWS + 1)) + f"table B3 B1 D1:D{ROWS}\n"
+        for _ in range(2):
+            reading = reading_seconds()
+            before = processor_seconds()
+            page = self.page(script)
+            seconds = processor_seconds() - before
+            limit = max(5, MOST_READINGS * max(reading, reading_seconds()))
+            if seconds < limit:
+                break
+        self.assertLess(seconds, limit)
+        self.assertLess(len(page), 5_000_000)
+        link = next(node for node in blocks(page)[1].node.iter("a") if node.get("download"))
+        head, *rows = csv.reader(io.StringIO(unquote(link.get("href", "").partition(",")[2]), newline=""))
+        self.assertEqual((words(link), head), ("65,536 exact numbers as CSV", ["B1", "B3"]))
+        self.assertEqual([(x, Fraction(y)) for x, y in rows], [(str(n), Fraction(4 * n, 7) - 20) for n in range(1, ROWS + 1)])
+
+
+ROWS = 65_536
+MOST_READINGS = 20
+
 
 def processor_seconds() -> float:
     usages = (resource.getrusage(who) for who in (resource.RUSAGE_SELF, resource.RUSAGE_CHILDREN))
     return sum(usage.ru_utime + usage.ru_stime for usage in usages)
+
+
+def reading_seconds() -> float:
+    """What reading so many fractions takes now: how fast this machine is, while others work beside."""
+    texts = [f"{n}/7" for n in range(1, ROWS + 1)]
+    before = processor_seconds()
+    numbers = [Fraction(text) for text in texts]
+    assert len(numbers) == ROWS
+    return processor_seconds() - before
 
 
 class Documented(unittest.TestCase):

@@ -1,11 +1,15 @@
 """What an accepted content was perhaps meant to be."""
 
+import re
 from collections.abc import Iterator
 
 from .finding import Finding, Kind
 from .formula import formula_meant, is_formula
+from .functions import instead_of
 from .numbers import meant_as_number
 from .script import Command
+
+NO_ARRAYS = 'there are no formulas of arrays, which others show in braces: docs/FROM.md, "Conditions on several columns", has a column for them'
 
 
 def content_findings(command: Command) -> Iterator[Finding]:
@@ -38,6 +42,9 @@ def formula_advice(command: Command, content: str) -> str | None:
         return None if formula is None else f"a scenario replaces by values; show the value of {formula} first"
     if is_formula(content):
         return None
+    in_braces = re.fullmatch(r"\{(=.*)\}", content)
+    if in_braces is not None:
+        return instead_of("TABLE") if in_braces[1].upper().startswith("=TABLE(") else NO_ARRAYS
     trimmed = content.strip(" \t\u00a0")
     if is_formula(trimmed) and trimmed not in ("=", "of:="):
         return f"one space stands before a content, and each further one is a part of it: write {trimmed}"

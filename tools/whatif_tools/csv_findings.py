@@ -15,6 +15,7 @@ def data_findings(command: Command) -> Iterator[Finding]:
     if not lines:
         return
     found_records = records(command)
+    texts = list(texts_of(found_records))
 
     def found(kind: Kind, line: int, message: str, column: int = 1) -> Finding:
         return Finding(line, column, kind, message, lines[line - command.line - 1])
@@ -34,10 +35,10 @@ def data_findings(command: Command) -> Iterator[Finding]:
         yield found(Kind.OPEN_QUOTE, quote[0], message, quote[1])
     for at, message in wider(command, found_records)[:1]:
         yield found(Kind.MORE_FIELDS, at, message)
-    for column, known in sorted(suspects(command, found_records).items()):
+    for column, known in sorted(suspects(command, found_records, texts).items()):
         what = "is a text, no number" if known.count == 1 else f"and {known.count - 1} more below are texts, no numbers"
         yield found(Kind.COLUMN_OF_TEXTS, known.line, f"field {column}: {known.field!r} {what}; {known.advice}")
-    for at, formula in formulas(found_records)[:1]:
+    for at, formula in formulas(texts)[:1]:
         yield found(Kind.FORMULA_AS_TEXT, at, f"a text, no formula: CSV puts values in; write set for {formula}")
 
 
@@ -59,45 +60,54 @@ class Suspects:
     count: int = 1
 
 
-def fields(found_records: list[Record]) -> Iterator[tuple[int, int, str]]:
-    """The line in which the record of each field begins, its column from 1, and its text."""
+Text = tuple[Record, int, str]
+"""A field that is no value: its record, its column from 1, and what is in it."""
+
+
+def texts_of(found_records: list[Record]) -> Iterator[Text]:
     for record in found_records:
-        yield from ((record.line, column, text) for column, text in enumerate(record.fields, 1))
+        for column, text in enumerate(record.fields, 1):
+            if text and not is_value(text):
+                yield record, column, text
 
 
-def suspects(command: Command, found_records: list[Record]) -> dict[int, Suspects]:
+def suspects(command: Command, found_records: list[Record], texts: list[Text]) -> dict[int, Suspects]:
     """The fields that were meant as numbers, by column.
 
     A date in CSV is taken for a label, and so is a number with a unit in the first of several lines.
     """
     found: dict[int, Suspects] = {}
-    among_numbers = texts_among_numbers(found_records)
-    for line, column, text in fields(found_records):
-        is_head = line == command.line + 1 and len(command.data) > 1
+    among_numbers = texts_among_numbers(found_records, texts)
+    for record, column, text in texts:
+        is_head = record.line == command.line + 1 and len(command.data) > 1
         advice = None if is_date(text) else meant_as_number(text, has_unit=not is_head)
-        if advice is None and (line, column) in among_numbers:
+        if advice is None and (record.line, column) in among_numbers:
             advice = "the other fields of this column are numbers"
         if advice is not None and column in found:
             found[column].count += 1
         elif advice is not None:
-            found[column] = Suspects(line, text, advice)
+            found[column] = Suspects(record.line, text, advice)
     return found
 
 
-def texts_among_numbers(found_records: list[Record]) -> set[tuple[int, int]]:
+def texts_among_numbers(found_records: list[Record], texts: list[Text]) -> set[tuple[int, int]]:
     """The lines and columns of texts in columns of which at least two thirds are numbers.
 
     The first record is taken for a head, and the first field of several for a label.
     """
-    columns: dict[int, list[tuple[int, str]]] = {}
-    for record in found_records[1:]:
-        for column, text in enumerate(record.fields, 1):
-            if text and (column > 1 or len(record.fields) == 1):
-                columns.setdefault(column, []).append((record.line, text))
-    texts = {column: [line for line, text in known if not is_value(text)] for column, known in columns.items()}
-    return {(line, column) for column, lines in texts.items() if 3 * len(lines) <= len(columns[column]) for line in lines}
+    columns: dict[int, list[int]] = {}
+    for record, column, _ in texts:
+        if record is not found_records[0] and may_be_a_number(record, column):
+            columns.setdefault(column, []).append(record.line)
+    counts = {column: sum(may_be_a_number(record, column) for record in found_records[1:]) for column in columns}
+    return {(line, column) for column, lines in columns.items() if 3 * len(lines) <= counts[column] for line in lines}
 
 
-def formulas(found_records: list[Record]) -> list[tuple[int, str]]:
-    meant = ((line, text if is_formula(text) and len(text) > 1 else formula_meant(text)) for line, _, text in fields(found_records))
+def may_be_a_number(record: Record, column: int) -> bool:
+    """Whether a record has a field in a column, which isn't empty, and isn't the first of several."""
+    return column <= len(record.fields) and record.fields[column - 1] != "" and (column > 1 or len(record.fields) == 1)
+
+
+def formulas(texts: list[Text]) -> list[tuple[int, str]]:
+    meant = ((record.line, text if is_formula(text) and len(text) > 1 else formula_meant(text)) for record, _, text in texts)
     return [(line, formula) for line, formula in meant if formula is not None]

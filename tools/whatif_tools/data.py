@@ -4,6 +4,7 @@ import csv
 import io
 import re
 from dataclasses import dataclass
+from functools import lru_cache
 from itertools import accumulate
 
 from .script import Command
@@ -25,10 +26,14 @@ def text_of(command: Command) -> str:
     return "\n".join(line.decode(errors="replace") for line in command.data).removeprefix("\ufeff")
 
 
+@lru_cache(maxsize=1)
 def records(command: Command) -> list[Record]:
-    """The records of the data lines; an empty line is none."""
+    """The records of the data lines; an empty line is none. Those of the last command are kept, since they are looked at twice."""
+    text = text_of(command)
+    if '"' not in text and "\r" not in text:
+        return [Record(at, line.split(",")) for at, line in enumerate(text.split("\n"), command.line + 1) if line]
     csv.field_size_limit(LONGEST_FIELD)
-    parts = list(io.StringIO(text_of(command), newline=""))
+    parts = list(io.StringIO(text, newline=""))
     ends = [0, *accumulate(part.count("\n") for part in parts)]
     reader = csv.reader(parts)
     found: list[Record] = []
@@ -46,6 +51,8 @@ def records(command: Command) -> list[Record]:
 def opened(command: Command) -> tuple[int, int] | None:
     """The line and the column of a quote that no other one closes."""
     text, place = text_of(command), 0
+    if '"' not in text:
+        return None
     while place < len(text):
         found = QUOTED.match(text, place)
         if found is not None and not found[1]:

@@ -103,6 +103,7 @@ FORMULA_HINTS = (
     hint(r"\[[@#]|@", NAMELESS),
     hint(r"R(\d+|\[-?\d+\])?C(\d+|\[-?\d+\])?(?![\w(.\[])", row_and_column),
     hint(r"\$?[A-Za-z]{1,3}:\$?[A-Za-z]{1,3}(?![\w(])", "a whole column is written [.A1:.A1048576]"),
+    hint(r"[0-9]+:[0-9]+|(?<=[0-9]):[0-9]+", "a whole row is written [.A1:.XFD1]"),
     hint(r"\[\.?\$?[A-Za-z]{1,3}:\.?\$?[A-Za-z]{1,3}\]", "a whole column is written [.A1:.A1048576]"),
     hint(r"(?:[$€£¥]|EUR|USD|GBP|CHF)\s*[0-9]", "a number has no currency"),
     hint(r"[²³]", lambda found: f"a power is written with ^: write ^{'2' if found[0] == '²' else '3'}"),

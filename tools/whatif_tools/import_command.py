@@ -26,7 +26,7 @@ def arguments(words: list[str], name: str) -> argparse.Namespace:
     audited = "write no script, but a CSV record for each formula whose value differs, with its cause"
     parser.add_argument("--audit", "--check", action="store_true", help=audited)
     parser.add_argument("--all", action="store_true", help="take all sheets, whether the first one reads them or not")
-    loans = "PMT, FV and PV by a column of rounded factors: another model than theirs, told in the script"
+    loans = "PMT, FV, PV and NPER by columns of rounded steps: another model than theirs, told in the script"
     parser.add_argument("--expand-loans", action="store_true", help=loans)
     parser.add_argument("file", metavar="FILE", type=Path)
     parser.add_argument("sheet", metavar="SHEET", nargs="?", help="the first one if it is left out")

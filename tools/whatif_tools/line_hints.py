@@ -2,7 +2,6 @@
 
 import re
 from collections.abc import Collection
-from dataclasses import replace
 from difflib import get_close_matches
 
 from .hints import CELL, first_advice, hint
@@ -41,7 +40,7 @@ def first_and_rest(area: str) -> tuple[str, str]:
     if known is None or (known.first.row < known.last.row) == (known.first.column < known.last.column):
         return area.partition(":")[0], area
     first, last = known.first, known.last
-    second = replace(first, row=first.row + 1) if first.row < last.row else replace(first, column=first.column + 1)
+    second = first._replace(row=first.row + 1) if first.row < last.row else first._replace(column=first.column + 1)
     return str(first), str(second) if second == last else f"{second}:{last}"
 
 
@@ -105,6 +104,14 @@ def rectangle(found: re.Match[str]) -> str:
     return f"a rectangle is written with a colon: write {found[1]} {found[2]}:{found[3]}"
 
 
+def rectangle_wanted(found: re.Match[str]) -> str | None:
+    """What to write for a name, or nothing, where a rectangle is wanted; an address with a wrong row has other hints."""
+    if re.fullmatch(r"[A-Za-z]{0,3}[0-9]+(?:[A-Za-z]+[0-9]*)?", found[2] or ""):
+        return None
+    names = "" if found[2] in (None, "all", "sheet", "everything", "*") else "there are no names; "
+    return f"{names}{found[1]} takes a rectangle: {found[1]} A1:H40" + (f"; {NO_FILES}" if found[1] == "export" and names else "")
+
+
 def called(found: re.Match[str]) -> str:
     """What to write for a command with parentheses."""
     instead = OTHER_WORDS.get(found[1].lower(), "whatif --help lists the commands")
@@ -128,7 +135,7 @@ LINE_HINTS = (
     hint(rf" *scenario +(\w+) +({CELL}) *= *(.+)", lambda found: f"write scenario {found[1]} {found[2]} {found[3]}"),
     hint(r" *scenario +(\w+) +=", lambda found: f"the cell stands before its value: scenario {found[1]} B1 5"),
     hint(rf" *(show|export|clear) +({CELL})(?:\.\.+|[-;,]| to )({CELL}) *$", rectangle),
-    hint(r" *(show|export|clear) +(?:all|sheet|everything|\*) *$", lambda found: f"{found[1]} takes a rectangle: {found[1]} A1:H40"),
+    hint(r" *(show|export|clear)(?: +([A-Za-z_]\w*|\*))? *$", rectangle_wanted),
     hint(r" *(?i:new|reset|restart|close)\b", "there is none: each run begins with an empty sheet"),
     hint(r" *(?i:quit|exit|bye|q)\b", "there is no quit: the program ends with its input, at a terminal by Ctrl-D"),
     hint(r" *(?i:help|\?)", "whatif --help lists the commands"),
@@ -153,6 +160,7 @@ LINE_HINTS = (
     hint(r" *([A-Za-z]+) *\(", called),
     hint(r"[^#]* #", "a comment has a line of its own, which begins with #"),
     hint(r".* \$?[A-Za-z]+\$[0-9]", "addresses in commands have no $"),
+    hint(r" *table +\w*[a-zA-Z_] +\w*[a-zA-Z_] *$", "table asks of cells, as table B4 B1 D2:D9; compare S T RECT compares two scenarios"),
     hint(r" *table\b", "XCOLUMN is a rectangle of one column, YROW one of one row, and F, R and C are cells"),
     hint(r'[^"]*"', "is it a line of CSV? A field with a line break takes several of the lines that csv counts"),
     hint(r".*,", "is it a line of CSV? csv ADDR LINES before it says how many lines are data"),

@@ -8,6 +8,9 @@ from fractions import Fraction
 
 from .formula import GREATEST, fits
 
+DIGITS = 38
+"""Whatever so many digits spell fits."""
+
 SPELLED = re.compile(r"[-+]?[0-9]+(?:\.[0-9]+|/[0-9]+)?")
 SPACES = " \t\u00a0\u2007\u2009\u202f"
 FIGURES = r"(?:[0-9]+(?:\.[0-9]*)?|\.[0-9]+)"
@@ -19,7 +22,7 @@ def is_number(text: str) -> bool:
         return False
     above, is_quotient, below = text.partition("/")
     if not is_quotient:
-        return fits(Fraction(text))
+        return len(text) <= DIGITS or fits(Fraction(text))
     return 0 < int(below) <= GREATEST and abs(int(above)) <= GREATEST
 
 
@@ -65,8 +68,10 @@ def spelling(pattern: str, advice: Callable[[re.Match[str]], str]) -> Spelling:
 
 
 def no_time(found: re.Match[str]) -> str:
-    hours = Decimal(found[1]) + Decimal(found[2]) / 60 + Decimal(found[3] or 0) / 3600
-    written = f"{found[1].lstrip('0') or '0'}:{found[2]} is {hours:f} hours; " if Fraction(hours) * 100 % 1 == 0 else ""
+    """What to write for a time of day, at a clock of 12 hours too."""
+    half = (found[4] or "").lower()
+    hours = Decimal(found[1]) % (12 if half else 100) + (12 if half == "p" else 0) + Decimal(found[2]) / 60 + Decimal(found[3] or 0) / 3600
+    written = f"{found[1].lstrip('0') or '0'}:{found[2]}{f' {half}m' if half else ''} is {hours:f} hours; " if Fraction(hours) * 100 % 1 == 0 else ""
     return f"there are no times: {written}count hours or minutes as numbers; behind an apostrophe it is a text that is meant"
 
 
@@ -86,26 +91,40 @@ def mixed(found: re.Match[str]) -> str:
 
 
 def figures(text: str) -> str:
-    """The digits and the point of a number, without what parts thousands."""
+    """The digits and the point of a number, without what parts thousands; a comma before one or two last digits is its point."""
+    whole, comma, places = text.rpartition(",")
+    if comma and re.fullmatch("[0-9]{1,2}[^0-9]*", places):
+        return f"{re.sub('[^-+0-9]', '', whole)}.{re.sub('[^0-9]', '', places)}"
     plainly = re.sub(r"[^-+0-9.]", "", text)
     return f"0{plainly}" if plainly.startswith(".") else plainly
+
+
+def amount(text: str) -> str:
+    """What to write for an amount of money; three digits behind a point may be thousands."""
+    plainly = figures(text)
+    other = f", or {plainly.replace('.', '')} if the point parts thousands" if re.fullmatch(r"[-+]?[1-9][0-9]{0,2}\.[0-9]{3}", plainly) else ""
+    return write(plainly) + other
 
 
 MONTH = r"(?i:jan|feb|mar|apr|may|jun|jul|aug|sep|oct|nov|dec)[a-zA-Z]*\.?"
 THOUSANDS = {"k": 1, "thousand": 1, "mio": 2, "million": 2, "millions": 2, "bn": 3, "billion": 3, "billions": 3}
 CURRENCIES = "EUR|USD|GBP|CHF|JPY|SEK|NOK|DKK|PLN|CZK|CAD|AUD|Euro|Fr|Rs"
-PARTED = rf"[0-9]{{1,3}}(?:[,'’_{SPACES}][0-9]{{3}})*(?:\.[0-9]+)?|[0-9]+(?:\.[0-9]+)?"
+PARTED = (
+    rf"[0-9]{{1,3}}(?:[,'’_{SPACES}][0-9]{{3}})*(?:\.[0-9]+)?|[0-9]+(?:\.[0-9]+)?"
+    rf"|[0-9]{{1,3}}(?:[.'’_{SPACES}][0-9]{{3}})*,[0-9]{{1,2}}|[0-9]+,[0-9]{{1,2}}"
+)
 DATE = spelling(
     r"[0-9]{4}([-/.])[0-9]{1,2}\1[0-9]{1,2}|[0-9]{1,2}([./-])[0-9]{1,2}\2[0-9]{2,4}"
     rf"|[0-9]{{1,2}}\.?[ -]{MONTH}[ -][0-9]{{2,4}}|{MONTH} [0-9]{{1,2}},? [0-9]{{4}}",
     no_date,
 )
-TIME = spelling(r"([0-9]{1,2}):([0-5][0-9])(?::([0-5][0-9]))?", no_time)
+TIME = spelling(r"([0-9]{1,2})[:h]([0-5][0-9])(?::([0-5][0-9]))?(?: ?([AaPp])\.?[Mm]\.?)?", no_time)
 SPELLINGS = (
     spelling(rf"([-+]?{FIGURES}|[-+]?[0-9]+,[0-9]+)[{SPACES}]*%", percent),
     spelling(r"([-+]?[0-9]+),([0-9]+)", decimal_comma),
     spelling(rf"[-+]?[0-9]{{1,3}}(?:[,'’_{SPACES}][0-9]{{3}})+(?:\.[0-9]+)?", lambda found: write(re.sub(r"[^-+0-9.]", "", found[0]))),
-    spelling(r"([-+]?[0-9]{1,3}(?:\.[0-9]{3})+),([0-9]+)", lambda found: write(f"{found[1].replace('.', '')}.{found[2]}")),
+    spelling(rf"([-+]?[0-9]{{1,3}}(?:[.'’_{SPACES}][0-9]{{3}})+),([0-9]+)", lambda found: write(f"{re.sub('[^-+0-9]', '', found[1])}.{found[2]}")),
+    spelling(r"[-+]?[0-9]{1,3}(?:\.[0-9]{3}){2,}", lambda found: write(found[0].replace(".", ""))),
     spelling(rf"[-+]?{FIGURES}[eE][-+]?[0-9]{{1,9}}", exponent),
     spelling(r"([-+]?)(\.[0-9]+)", lambda found: write(f"{found[1]}0{found[2]}")),
     spelling(r"([-+]?[0-9]+)\.", lambda found: write(found[1])),
@@ -113,11 +132,11 @@ SPELLINGS = (
     TIME,
     spelling(rf"\(((?:[$€£¥]\s*)?(?:{PARTED}))\)", accounting),
     spelling(rf"([-+]?(?:{FIGURES}|[0-9]+,[0-9]+))[{SPACES}]*(k|(?i:thousand|mio\.?|millions?|bn|billions?))", thousands),
-    spelling(rf"(?:{CURRENCIES})\.?[{SPACES}]*([-+]?(?:{PARTED}))(?:\.?[-–—]+)?", lambda found: write(figures(found[1]))),
-    spelling(rf"({PARTED})\.[-–—]+", lambda found: write(figures(found[1]))),
-    spelling(rf"[~≈][{SPACES}]*([-+]?{FIGURES})", lambda found: write(found[1])),
-    spelling(rf"[-+]?[$€£¥][{SPACES}]*[-+]?(?:{PARTED}|\.[0-9]+)", lambda found: write(figures(found[0]))),
-    spelling(rf"[-+]?(?:{PARTED}|\.[0-9]+)[{SPACES}]*[$€£¥]", lambda found: write(figures(found[0]))),
+    spelling(rf"(?:{CURRENCIES})\.?[{SPACES}]*([-+]?(?:{PARTED}))(?:\.?[-–—]+)?", lambda found: amount(found[1])),
+    spelling(rf"({PARTED})[.,][-–—]+", lambda found: write(figures(found[1]))),
+    spelling(rf"(?:[~≈]|(?i:ca\.?|circa|about|approx\.?))[{SPACES}]*([-+]?{FIGURES})", lambda found: write(found[1])),
+    spelling(rf"[-+]?[$€£¥][{SPACES}]*[-+]?(?:{PARTED}|\.[0-9]+)", lambda found: amount(found[0])),
+    spelling(rf"[-+]?(?:{PARTED}|\.[0-9]+)[{SPACES}]*[$€£¥]", lambda found: amount(found[0])),
     spelling(rf"([-+]?{FIGURES})[;,]", lambda found: write(found[1])),
     spelling(rf"([-+])[{SPACES}]+({FIGURES})", lambda found: write(found[1].replace("+", "") + found[2])),
     spelling(r"([0-9]+) ([0-9]+)/([1-9][0-9]*)", mixed),
@@ -138,7 +157,8 @@ def without_unit(found: re.Match[str]) -> str:
     return f"{write('0' * number.startswith('.') + number)}, and the unit, {found[2]}, into another cell"
 
 
-WITH_UNIT = spelling(rf"([-+]?(?:{FIGURES}|[0-9]+,[0-9]+|[0-9]+/[0-9]+))[{SPACES}]*[(\[]?({UNITS})[)\]]?", without_unit)
+UNIT = rf"(?:{UNITS})\.?|(?:{UNITS}|[$€£¥])/(?:{UNITS})"
+WITH_UNIT = spelling(rf"([-+]?(?:{FIGURES}|[0-9]+,[0-9]+|[0-9]+/[0-9]+))[{SPACES}]*[(\[]?({UNIT})[)\]]?", without_unit)
 
 
 def is_value(text: str) -> bool:

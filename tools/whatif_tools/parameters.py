@@ -4,6 +4,9 @@ from .helpers import rectangle_of
 from .pieces import REFERENCE, Call, CannotGoOver, Items, Piece, PieceKind
 from .translate import Translator
 
+NO_VALUE = 'VALUE("")'
+"""What shows #VALUE!."""
+
 
 def trimmed(items: Items) -> Items:
     """Items without the blanks around them."""

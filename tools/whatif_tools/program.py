@@ -59,7 +59,7 @@ class Reply:
         return self.end.split(" ")[1] if self.end.startswith("refused ") else None
 
     def records(self) -> list[list[str]]:
-        return [fields(line.decode()) for line in self.lines if line.startswith(b'"')]
+        return records_of(self.lines)
 
     def text(self) -> str:
         return "".join(line.decode().replace("\r\n", "\n") for line in self.lines) + self.end + "\n"
@@ -74,7 +74,18 @@ class Answer:
     fault: str
 
 
+@lru_cache(maxsize=1)
+def records_of(lines: tuple[bytes, ...]) -> list[list[str]]:
+    """The records among the lines of a reply. Those of the last reply are kept, since it is looked at several times."""
+    return [fields(line.decode()) for line in lines if line.startswith(b'"')]
+
+
 def fields(record: str) -> list[str]:
+    """The fields of a record; where all quotes are those around fields, it is cut between them."""
+    inside = record[1:-3]
+    parts = inside.split('","')
+    if record.endswith('"\r\n') and inside.count('"') == 2 * (len(parts) - 1):
+        return parts
     return [field.replace('""', '"') for field in FIELD.findall(record)]
 
 

@@ -7,15 +7,13 @@ from .constants import exact, since
 from .helpers import rectangle_of
 from .loans import LOANS
 from .move import referred
-from .parameters import is_literal, is_positive, one_value, operand, operands, range_of, shape, trimmed
+from .parameters import NO_VALUE, is_literal, is_positive, one_value, operand, range_of, shape, trimmed
 from .pieces import REFERENCE, Call, CannotGoOver, Piece
 from .products import PRODUCTS
+from .ranks import RANKS
 from .translate import Rule, Translator
 
 LAST_YEAR = 9956
-NO_VALUE = 'VALUE("")'
-"""What shows #VALUE!."""
-
 PI = "3.14159265358979"
 
 
@@ -119,18 +117,6 @@ def round_to_as_excel(up: bool) -> Rule:
     return rule
 
 
-def extreme(function: str) -> Rule:
-    """LARGE or SMALL, the first of them: of no number an error, which MAX and MIN aren't."""
-
-    def rule(book: Translator, call: Call) -> str:
-        values, which = operands(book, call, 2, 2)
-        if which != "1" or range_of(call.parameters[0], book) is None:
-            raise CannotGoOver(f"{call.name} but the first of a range")
-        return f"IF(COUNT({values})=0;{function}({values})+{NO_VALUE};{function}({values}))"
-
-    return rule
-
-
 def parity(rest: int) -> Rule:
     def rule(book: Translator, call: Call) -> str:
         value = one_value(book, call, 1, 1)[0]
@@ -229,8 +215,6 @@ RULES: dict[str, Rule] = {
     "COM.MICROSOFT.FLOOR": round_to_as_excel(False),
     "CEILING.MATH": round_to_as_excel(True),
     "FLOOR.MATH": round_to_as_excel(False),
-    "LARGE": extreme("MAX"),
-    "SMALL": extreme("MIN"),
     "ISEVEN": parity(0),
     "ISODD": parity(1),
     "DATE": day,
@@ -246,4 +230,5 @@ RULES: dict[str, Rule] = {
     **CONDITIONS,
     **LOANS,
     **PRODUCTS,
+    **RANKS,
 }

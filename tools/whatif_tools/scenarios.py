@@ -86,7 +86,7 @@ def hidden(command: Command, scenarios: Scenarios) -> Iterator[Finding]:
 def new_names(command: Command, scenarios: Scenarios, asked_for: set[str]) -> Iterator[Finding]:
     """A scenario or a session that a command makes, though its name is nearly that of another.
 
-    `asked_for` are the scenarios that a command looks at: these aren't slips.
+    `asked_for` are the scenarios that a command looks at: two of these aren't slips of one another.
     """
     if command.name not in ("scenario", "as"):
         return
@@ -96,9 +96,11 @@ def new_names(command: Command, scenarios: Scenarios, asked_for: set[str]) -> It
         return
     what = "session" if command.name == "as" else "scenario"
     same = sorted(other for other in known if other.lower() == name.lower())
-    near = [] if command.name == "as" or name in asked_for else sorted(other for other in known if is_slip(name, other))
+    unasked = known if name not in asked_for else known - asked_for
+    near = [] if command.name == "as" else sorted(other for other in unasked if is_slip(name, other))
     for other in (same or near)[:1]:
-        why = "capitals count, and this makes another one" if same else "this makes a new one, which nothing asks for"
+        left = f"and nothing asks for {other}" if name in asked_for else "which nothing asks for"
+        why = "capitals count, and this makes another one" if same else f"this makes a new one, {left}"
         message = f"there is a {what} {other}, and {why}: is {other} meant?"
         yield Finding(command.line, command.word_place(name) + 1, Kind.NEW_NAME, message, command.text)
 

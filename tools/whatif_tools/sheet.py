@@ -2,6 +2,8 @@
 
 import re
 from dataclasses import dataclass
+from functools import lru_cache
+from typing import NamedTuple
 
 COLUMNS = 16_384
 ROWS = 1_048_576
@@ -9,6 +11,7 @@ ADDRESS = re.compile(r"([A-Za-z]+)([1-9][0-9]*)")
 AREA = re.compile(rf"{ADDRESS.pattern}(?::{ADDRESS.pattern})?")
 
 
+@lru_cache
 def column_number(letters: str) -> int:
     """A is 1, Z is 26, AA is 27."""
     number = 0
@@ -25,9 +28,8 @@ def column_letters(number: int) -> str:
     return letters
 
 
-@dataclass(frozen=True, order=True)
-class Address:
-    """A cell's place; rows and columns are counted from 1."""
+class Address(NamedTuple):
+    """A cell's place; rows and columns are counted from 1. Lists of many cells are kept by it, so it is a tuple."""
 
     row: int
     column: int

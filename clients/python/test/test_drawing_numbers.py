@@ -8,7 +8,7 @@ from fractions import Fraction
 
 from drawings import number
 from whatif.drawing import Names
-from whatif.drawing.values import drawn, exact, places_for, shown
+from whatif.drawing.values import drawn, exact, extremes, places_for, shown
 
 
 class Numbers(unittest.TestCase):
@@ -55,6 +55,14 @@ class Numbers(unittest.TestCase):
             self.assertEqual(shown(exact(text)), text)
         for text in ("007", "1.50", "+5", "1e6", ".5", "5.", "1/0", "1/07", "\u0665", "--1", "", "TRUE", "1 000"):
             self.assertIsNone(exact(text), text)
+
+    def test_extremes(self) -> None:
+        """They are exact, also of numbers that are one in floating point."""
+        random.seed(82)
+        for _ in range(500):
+            base = random.choice((Fraction(0), Fraction(1, 3), Fraction(-(10**30), 7), Fraction(2**60)))
+            numbers = [base + Fraction(random.randint(-3, 3), random.choice((1, 7, 10**20))) for _ in range(random.randint(1, 6))]
+            self.assertEqual(extremes(numbers), (min(numbers), max(numbers)))
 
 
 class NamesOfCells(unittest.TestCase):

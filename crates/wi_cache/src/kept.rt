@@ -90,6 +90,14 @@ impl Kept {
         Ok(None)
     }
 
+    /// Takes the values away, and gives their memory back, and that of the list. Takes none.
+    pub fn forget(&mut self, alloc: Global)
+        ensures { self.new ≡ kept [] self.old.capacity }
+    {
+        self.entries = IndexMap::new(alloc);
+        self.oldest = 0;
+    }
+
     /// How many values are kept.
     pub fn len(&self) -> usize
         ensures len { result ≡ length self.now.entries }

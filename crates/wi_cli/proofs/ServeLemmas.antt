@@ -62,10 +62,25 @@ served_with d e r s t out out' same h k =
 
 -- ---- of a command
 
-pub told_done : (d c : Call) (s t : State) (out out' records : List ℕ) → d ≡ c → out ≡ [] → out' ≡ out ++ records
-    → IsServed c (Ok tt) s t records → Told (Some d) Done s t out'
-told_done d c s t out out' records e none grown h =
-    subst (λ x. IsCallStep s x (Ok (t, out'))) (sym e) (subst (λ x. IsCallStep s c (Ok (t, x))) (sym (grown ∙ ap (λ x. x ++ records) none)) h)
+-- whose records were appended to none
+pub served_from : (c : Call) (r : Ended) (s m t : State) (out out' records : List ℕ) → m ≡ s → out ≡ [] → out' ≡ out ++ records → IsServed c r m t records → IsServed c r s t out'
+served_from c r s m t out out' records same none grown h =
+    subst (λ (x : State). IsServed c r x t out') same (subst (λ (x : List ℕ). IsServed c r m t x) (sym (grown ∙ ap (λ (x : List ℕ). x ++ records) none)) h)
+
+-- for which memory ran out, and which was done once more
+pub served_again : (c : Call) (first again : Ended) (s m t : State) (records out : List ℕ) → first ≡ Err Memory → IsServed c first s m records → IsServed c again m t out → IsServed c again s t out
+served_again c first again s m t records out lacks h k =
+    let same : (m ≡ s) × RefusedAs Memory s c = subst (λ (r : Ended). IsServed c r s m records) lacks h in
+    subst (λ (x : State). IsServed c again x t out) same.0 k
+
+-- the same of one with data lines
+pub imported_again : (c : Call) (first again : Ended) (s m n t : State) → first ≡ Err Memory → answer.ServesData (IsCallStep s c) first s m → n ≡ m → answer.ServesData (IsCallStep n c) again n t → answer.ServesData (IsCallStep s c) again s t
+imported_again c first again s m n t lacks h same k =
+    let left : Unit {0} × (m ≡ s) = subst (λ (r : Ended). answer.ServesData (IsCallStep s c) r s m) lacks h in
+    subst (λ (x : State). answer.ServesData (IsCallStep x c) again x t) (same ∙ left.1) k
+
+pub told_done : (d c : Call) (s t : State) (out : List ℕ) → d ≡ c → IsServed c (Ok tt) s t out → Told (Some d) Done s t out
+told_done d c s t out same h = subst (λ (x : Call). Told (Some x) Done s t out) (sym same) h
 
 pub told_refused : (d c : Call) (e : Refusal) (s t : State) (out records : List ℕ) → d ≡ c
     → IsServed c (Err e) s t records → Told (Some d) (Refused e) s t out

@@ -7,11 +7,14 @@ ghost use Rattle.wi_cli.specs.Lines.{max_lines};
 ghost use Rattle.wi_cli.specs.Inner.Reading.{raw, line_front, CanRead, ReadsOn};
 ghost use Rattle.wi_cli.specs.Inner.Data.{wants, Holds, HoldsLines, AddedTo, TookData, BrokeData};
 
+use crate::again::{forget, give_back};
 use crate::csv_line::CsvLine;
 use crate::fault::RunFault;
 use crate::lines::{LineReader, MAX_LINE, next_line};
 use std::alloc::{AllocError, Global};
 use wi_devices::Source;
+use wi_propagate::Calculator;
+use wi_scenarios::Workbook;
 
 /// What became of the data lines that were taken.
 #[derive(Clone, Copy)]
@@ -51,11 +54,36 @@ fn append(bytes: &mut Vec<u8>, line: &[u8], whole: bool) -> Result<(), AllocErro
     Ok(())
 }
 
-/// Holds one more line, if lines are wanted and it is not too long.
-fn hold(bytes: &mut Vec<u8>, wanted: bool, line: &[u8], whole: bool) -> Held
-    ensures { (content : List ℕ) → is_whole content ≡ false → line.now ≡ line_front content
+/// Makes room for so many bytes more. Where memory runs out, what can be found again is given back, and memory is asked for once more when they
+/// are appended.
+fn make_room<C: Calculator>(
+    bytes: &mut Vec<u8>,
+    count: usize,
+    book: &mut Workbook<C>,
+    spare: &mut Vec<u8>,
+)
+    ensures items { bytes.new.items ≡ bytes.old.items }
+    ensures book { book.new ≡ book.old }
+{
+    if bytes.reserve(count).is_err() {
+        forget(book, spare);
+    }
+}
+
+/// Holds one more line, if lines are wanted and it is not too long. Where memory runs out, what can be found again is given back; where it runs
+/// out still, the lines before go too.
+fn hold<C: Calculator>(
+    bytes: &mut Vec<u8>,
+    wanted: bool,
+    line: &[u8],
+    whole: bool,
+    book: &mut Workbook<C>,
+    spare: &mut Vec<u8>,
+) -> Held
+    ensures held { (content : List ℕ) → is_whole content ≡ false → line.now ≡ line_front content
         → (before : List (List ℕ)) → Holds wanted Held.All bytes.old.items before
         → Holds wanted result bytes.new.items (before ++ raw whole content ∷ []) }
+    ensures book { book.new ≡ book.old }
 {
     if line.len() > MAX_LINE {
         return Held::TooLong;
@@ -63,9 +91,13 @@ fn hold(bytes: &mut Vec<u8>, wanted: bool, line: &[u8], whole: bool) -> Held
     if !wanted {
         return Held::All;
     }
+    make_room(bytes, line.len() + 1, book, spare);
     match append(bytes, line, whole) {
         Ok(()) => Held::All,
-        Err(_) => Held::Lacking,
+        Err(_) => {
+            give_back(bytes);
+            Held::Lacking
+        }
     }
 }
 
@@ -100,17 +132,25 @@ impl DataLines {
     }
 
     /// Adds a line, if these are the bytes of one.
-    fn add(&mut self, line: &[u8], whole: bool)
+    fn add<C: Calculator>(
+        &mut self,
+        line: &[u8],
+        whole: bool,
+        book: &mut Workbook<C>,
+        spare: &mut Vec<u8>,
+    )
         requires { 0 < self.old.missing }
-        ensures { (content : List ℕ) → is_whole content ≡ false → line.now ≡ line_front content
+        ensures added { (content : List ℕ) → is_whole content ≡ false
+            → line.now ≡ line_front content
             → AddedTo self.old self.new (raw_lines (raw whole content)) }
+        ensures book { book.new ≡ book.old }
     {
         if !is_line(line, whole) {
             return;
         }
         self.missing -= 1;
         if let Held::All = self.held {
-            self.held = hold(&mut self.bytes, self.wanted, line, whole);
+            self.held = hold(&mut self.bytes, self.wanted, line, whole, book, spare);
         }
     }
 
@@ -123,13 +163,15 @@ impl DataLines {
 }
 
 /// Takes the data lines that a line asks for, as far as there are any, and tells whether the last LF came. The line's own is
-/// told by `whole`.
-pub(crate) fn read_data<R: Source>(
+/// told by `whole`. Where memory runs out for them, all that can be found again is given back, with the memory of bytes that aren't used any more.
+pub(crate) fn read_data<R: Source, C: Calculator>(
     script: &mut LineReader,
     source: &mut R,
     data_lines: &mut DataLines,
     csv: &CsvLine,
     mut whole: bool,
+    book: &mut Workbook<C>,
+    spare: &mut Vec<u8>,
 ) -> Result<bool, RunFault>
     requires reads { CanRead (R.has_failed source.old) (vec_capacity script.old.line) }
     requires few { script.old.lines ≤ max_lines }
@@ -144,12 +186,13 @@ pub(crate) fn read_data<R: Source>(
         script.new.chunk (R.remaining source.new) script.old.lines) }
     ensures all { IfOk result (λ end. end ≡ true → data_lines.new.missing ≡ 0) }
     ensures wanted { OnOk result (data_lines.new.wanted ≡ wants csv.now) }
+    ensures book { book.new ≡ book.old }
     ensures reads { ReadsOn result (R.has_failed source.new) (vec_capacity script.new.line) }
 {
     data_lines.begin(csv);
     'taking: while data_lines.goes_on(whole) {
         whole = next_line(script, source)?;
-        data_lines.add(&script.line, whole);
+        data_lines.add(&script.line, whole, book, spare);
     }
     Ok(whole)
 }

@@ -1,6 +1,7 @@
 //! The lines of a script and the commands that they spell, and the run of a script on a workbook.
 #![tactic(auto)]
 
+mod again;
 mod chunk;
 mod command;
 mod csv_line;

@@ -79,17 +79,20 @@ fn turn<R: Source, W: Sink, C: Calculator>(
     match read_line(&buffers.script.line) {
         Line::Passed => Ok(whole),
         Line::Command(command) => {
-            let reply = serve(&command, book, &mut buffers.records);
+            let spare = &mut buffers.data_lines.bytes;
+            let reply = serve(&command, book, &mut buffers.records, spare);
             answer(writer, reply, &buffers.records, whole)
         }
         Line::Csv(csv) => {
             let script = &mut buffers.script;
-            let end = match read_data(script, reader, &mut buffers.data_lines, &csv, whole) {
+            let data_lines = &mut buffers.data_lines;
+            let spare = &mut buffers.records;
+            let end = match read_data(script, reader, data_lines, &csv, whole, book, spare) {
                 Ok(end) => end,
                 // What a fault cuts is not answered.
                 Err(fault) => return Err(fault),
             };
-            let reply = serve_csv(book, &csv, &buffers.data_lines);
+            let reply = serve_csv(book, &csv, &buffers.data_lines, &mut buffers.records);
             answer(writer, reply, b"", end)
         }
     }

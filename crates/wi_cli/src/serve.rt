@@ -5,6 +5,7 @@ ghost use Rattle.wi_scenarios.specs.Step as spell;
 ghost use Rattle.wi_cli.specs.Inner.Spelling.{command_of, IsCommandOf};
 ghost use Rattle.wi_cli.specs.Inner.Told.{IsServed, Told};
 
+use crate::again::{forget, give_back, lacks_memory};
 use crate::command::Command;
 use crate::reply::Reply;
 use wi_propagate::Calculator;
@@ -53,18 +54,55 @@ fn execute<C: Calculator>(
     }
 }
 
-/// Serves a command that was read, or refused so, and leaves its records in `out`.
+/// Does a command for which memory ran out once more, after memory was given back, and leaves its records in `out`.
+#[cold]
+#[inline(never)]
+fn execute_again<C: Calculator>(
+    command: &Command<'_>,
+    book: &mut Workbook<C>,
+    out: &mut Vec<u8>,
+    spare: &mut Vec<u8>,
+) -> Result<(), Refusal>
+    ensures { IsServed (command_of command.now) result
+        book.old.state book.new.state out.new.items }
+{
+    give_back(out);
+    forget(book, spare);
+    execute(command, book, out)
+}
+
+/// Does a command, and leaves its records in `out`. Where memory runs out it is done once more, after memory was given back.
+#[inline(always)]
+fn execute_twice<C: Calculator>(
+    command: &Command<'_>,
+    book: &mut Workbook<C>,
+    out: &mut Vec<u8>,
+    spare: &mut Vec<u8>,
+) -> Result<(), Refusal>
+    ensures { IsServed (command_of command.now) result
+        book.old.state book.new.state out.new.items }
+{
+    out.clear();
+    let done = execute(command, book, out);
+    if lacks_memory(&done) {
+        return execute_again(command, book, out, spare);
+    }
+    done
+}
+
+/// Serves a command that was read, or refused so, and leaves its records in `out`. Where memory runs out, all that can be found again is given
+/// back, with the memory of bytes that aren't used any more, and the command is done once more.
 pub(crate) fn serve<C: Calculator>(
     command: &Result<Command<'_>, Refusal>,
     book: &mut Workbook<C>,
     out: &mut Vec<u8>,
+    spare: &mut Vec<u8>,
 ) -> Reply
     ensures { (spelled : spell.Call) → IsCommandOf spelled command.now
         → Told (Some spelled) result book.old.state book.new.state out.new.items }
 {
-    out.clear();
     match command {
-        Ok(command) => match execute(command, book, out) {
+        Ok(command) => match execute_twice(command, book, out, spare) {
             Ok(()) => Reply::Done,
             Err(refusal) => Reply::Refused(refusal),
         },

@@ -1,9 +1,13 @@
 //! What a line with its data lines is answered.
 
 ghost use Rattle.std.specs.Prelude.{◌≡◌, [], List, ℕ, Some};
+ghost use Rattle.wi_scenarios.specs.Answer.{ServesData};
+ghost use Rattle.wi_scenarios.specs.Step as call;
+ghost use Rattle.wi_scenarios.specs.Step.{IsCallStep};
 ghost use Rattle.wi_cli.specs.Inner.Data.{wants, HoldsLines, command_of_csv, target_of, IsTarget};
 ghost use Rattle.wi_cli.specs.Inner.Told.{Told};
 
+use crate::again::{forget, lacks_memory};
 use crate::csv_line::CsvLine;
 use crate::data_lines::{DataLines, Held};
 use crate::reply::Reply;
@@ -40,11 +44,32 @@ fn target(csv: &CsvLine, data_lines: &DataLines) -> Result<Address, Refusal>
     }
 }
 
-/// Serves a line that asks for data lines.
+/// Imports data lines, and once more where memory runs out, after memory was given back.
+fn import_twice<C: Calculator>(
+    book: &mut Workbook<C>,
+    at: Address,
+    text: &[u8],
+    force: bool,
+    spare: &mut Vec<u8>,
+) -> Result<(), Refusal>
+    ensures { ServesData (IsCallStep book.old.state (call.Csv force at text.now))
+        result book.old.state book.new.state }
+{
+    let done = book.import(at, text, force);
+    if lacks_memory(&done) {
+        forget(book, spare);
+        return book.import(at, text, force);
+    }
+    done
+}
+
+/// Serves a line that asks for data lines. Where memory runs out, all that can be found again is given back, with the memory of bytes that aren't
+/// used any more, and the lines are imported once more.
 pub(crate) fn serve_csv<C: Calculator>(
     book: &mut Workbook<C>,
     csv: &CsvLine,
     data_lines: &DataLines,
+    spare: &mut Vec<u8>,
 ) -> Reply
     ensures { (lines : List (List ℕ)) → data_lines.now.wanted ≡ wants csv.now
         → HoldsLines data_lines.now lines
@@ -52,7 +77,7 @@ pub(crate) fn serve_csv<C: Calculator>(
         result book.old.state book.new.state [] }
 {
     match target(csv, data_lines) {
-        Ok(at) => match book.import(at, &data_lines.bytes, csv.force) {
+        Ok(at) => match import_twice(book, at, &data_lines.bytes, csv.force, spare) {
             Ok(()) => Reply::Done,
             Err(refusal) => Reply::Refused(refusal),
         },

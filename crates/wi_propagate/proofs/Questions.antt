@@ -1,5 +1,5 @@
 -- A question asked of a calculator that keeps values.
-use Rattle.wi_propagate.proofs.Words.{◌≡◌, ◌≤◌, ◌<◌, ◌+◌, ◌-◌, ◌^◌, inl, inr, length, All, filter, not, is_some, ℕ, Bool, true, false, List, [], Option, refl, ap, sym, ◌∙◌, subst, arith, keys_of, cases_lt, true≢false, Value, Fault, Circular, Replacement, Sheet, content_of, put_all, has_formula, Counts, Stored, Key, KeptValues, value_for, circular, clash, Case, reaching, asks_circular, table_entry, IsWhatIfSettled, IsClosed, SpentOn, left_is_unkept, sum_ones, never_fall-same, spent_price, spent_unkept, cells_open, entry_circular, none_circular, MayBeRead, KeepsFound, WhereRoom, TakesNoMore, GivesUpWhenFull, NeedsNoEvaluation, IsValuedAnew, IsSameBeside, Saved, Spends, what_if_more, rests_more, none_went, Generations, generation_in, KeptSheet, key_in, stands, is_kept, unkept, gone, IsAtHand, HasRoomFor, KeepsAll, KeepsNoMore, KeepsOld, KeepsWhileRoom, AreRight, AreKeptRight, Box, Held, kept_sheet, values_in, Keeping, keeping, begun, state_in, ArePlaced, IsKeepingRight, Owes, told, or_none, Some, None, IsSome, Noted, noted_in, Staging, AreEdgesOf, AreOwed, AreHeldCones, AreKeptUp, AreAllCones}
+use Rattle.wi_propagate.proofs.Words.{◌≡◌, ◌≤◌, ◌<◌, ◌+◌, ◌-◌, ◌^◌, inl, inr, length, All, filter, not, is_some, ℕ, Bool, true, false, List, [], Option, refl, ap, sym, ◌∙◌, subst, arith, keys_of, cases_lt, true≢false, Value, Fault, Circular, Replacement, Sheet, content_of, put_all, has_formula, Counts, Stored, Key, KeptValues, kept, value_for, IfSome, circular, clash, Case, reaching, asks_circular, table_entry, IsWhatIfSettled, IsClosed, SpentOn, left_is_unkept, sum_ones, never_fall-same, spent_price, spent_unkept, cells_open, entry_circular, none_circular, MayBeRead, KeepsFound, WhereRoom, TakesNoMore, GivesUpWhenFull, NeedsNoEvaluation, IsValuedAnew, IsSameBeside, Saved, Spends, what_if_more, rests_more, none_went, Generations, generation_in, KeptSheet, key_in, stands, is_kept, unkept, gone, IsAtHand, HasRoomFor, KeepsAll, KeepsNoMore, KeepsOld, KeepsWhileRoom, emptied, AreRight, IsKeptFor, AreKeptRight, Box, Held, kept_sheet, values_in, Keeping, keeping, begun, state_in, ArePlaced, IsKeepingRight, Owes, told, or_none, Some, None, IsSome, Noted, noted_in, Staging, AreEdgesOf, AreOwed, AreHeldCones, AreKeptUp, AreAllCones}
 use Rattle.wi_engine.specs.Inner.Saving as saving
 use Rattle.wi_propagate.proofs.NotedSteps.{settled_up}
 use Rattle.wi_propagate.proofs.PlaceCounts.{all_stand}
@@ -156,6 +156,22 @@ holds_settled o graph s old new n e owed h = (h.0, h.1, h.2, settled_right {s = 
 pub holds_asked : (o : Option (Box Held)) (graph : Staging) (s : Stored) (g : Noted) (n counts : Counts) (q last : Keeping) (b : Box Held) → Begins (kept_sheet s (told s.sheet g.named) o n) q →
     IsSameBeside (state_in q) (state_in last) → b.value.kept ≡ last.values → last.sheet ≡ s.sheet → IsKeepingRight last → AreAllCones last.sheet b.value.cones → AlwaysHolds o graph s g n → AlwaysHolds (Some b) graph s g counts
 holds_asked o graph s g n counts q last b e beside same sheet right cones h = (refl, h.1, h.2, right_then e last b.value.kept counts beside same sheet h.3 right, subst (λ (x : Sheet). AreAllCones x b.value.cones) sheet cones, h.5)
+
+-- ---- what is held goes
+
+module _ (o p : Option (Box Held)) (none : values_in p ≡ kept [] (values_in o).capacity) (s : Stored) (n : Counts) where
+  pub emptied_view : (gs : Generations) → kept_sheet s gs p n ≡ emptied (kept_sheet s gs o n)
+  emptied_view gs = λ i. record { stored = s; generations = gs; values = none i; counts = n }
+
+  pub holds_emptied : (graph : Staging) (g : Noted) → (IsSome o → IsSome p) → AreHeldCones s.sheet p → AlwaysHolds o graph s g n → AlwaysHolds p graph s g n
+  holds_emptied graph g there cones h = (there h.0, h.1, h.2, right (told s.sheet g.named) h.3, cones, h.5)
+    where
+      right : (gs : Generations) → AreKeptRight (kept_sheet s gs o n) → AreKeptRight (kept_sheet s gs p n)
+      right gs k = record {
+        room = subst (λ (x : KeptValues). 1 ≤ x.capacity) (sym none) k.room;
+        past = k.past;
+        right = λ q. subst (λ (x : KeptValues). IfSome (value_for x.entries q) (IsKeptFor s.sheet s.edits (generation_in gs) q)) (sym none) tt;
+      }
 
 -- ---- the value of a cell
 

@@ -64,7 +64,7 @@ pub use Rattle.wi_propagate.specs.Inner.Noted.{AreAllNoted, AreKeptUp, Noted, no
 unfoldable pub use Rattle.wi_propagate.specs.Inner.Noted.{told}
 pub use Rattle.wi_propagate.specs.Inner.Owes.{Owes}
 pub use Rattle.wi_propagate.specs.Inner.Settling.{second_cells}
-pub use Rattle.wi_propagate.specs.KeptSheet.{Generations, HasRoomFor, IsAtHand, IsEdit, KeepsAll, KeepsNoMore, KeepsOld, KeepsWhileRoom, KeptSheet, generation_in, gone, is_kept, key_in, stands, unkept}
+pub use Rattle.wi_propagate.specs.KeptSheet.{Generations, HasRoomFor, IsAtHand, emptied, IsEdit, KeepsAll, KeepsNoMore, KeepsOld, KeepsWhileRoom, KeptSheet, generation_in, gone, is_kept, key_in, stands, unkept}
 pub use Rattle.wi_propagate.specs.Right.{AreKeptRight, AreRight, IsKeptFor, IsRight}
 pub use Rattle.wi_propagate.specs.declared.held.Held.{Held}
 pub use Rattle.wi_sheet.proofs.Bounds.{bound_not_felt}

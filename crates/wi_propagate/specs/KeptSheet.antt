@@ -1,5 +1,5 @@
 -- A sheet whose values are kept from one question to the next, and what that saves.
-use Rattle.std.specs.Prelude.{◌≡◌, ◌⊎◌, ◌<◌, ◌≤◌, ◌+◌, ◌-◌, ◌^◌, ◌&&◌, if◌then◌else◌, ℕ, Bool, true, false, not, List, filter, length, is_some}
+use Rattle.std.specs.Prelude.{◌≡◌, ◌⊎◌, ◌<◌, ◌≤◌, ◌+◌, ◌-◌, ◌^◌, ◌&&◌, if◌then◌else◌, ℕ, Bool, true, false, not, List, [], filter, length, is_some}
 use Rattle.std.specs.Option.{unwrap_or}
 use Rattle.std.specs.Ordering.{nat_cmp}
 use Rattle.std.specs.Map.{keys_of, lookup}
@@ -9,7 +9,7 @@ use Rattle.wi_parser.specs.Sheet.{content_of, put_all, has_formula}
 use Rattle.wi_functions.specs.Counts.{Counts}
 use Rattle.wi_store.specs.Store.{Stored}
 use Rattle.wi_cache.specs.declared.key.Key.{Key}
-use Rattle.wi_cache.specs.Entries.{KeptValues, value_for}
+use Rattle.wi_cache.specs.Entries.{KeptValues, kept, value_for}
 use Rattle.wi_graph.specs.Circular.{circular}
 use Rattle.wi_graph.specs.Reach.{in_cone}
 use Rattle.wi_sheet.specs.Demand.{Case, reaching}
@@ -57,6 +57,10 @@ gone old new = filter (λ q. not (stands new q)) (keys_of old.values.entries)
 -- each entry that stood stands, of whatever generation
 abbrev pub KeepsOld : KeptSheet → KeptSheet → Type 0
 KeepsOld old new = (q : Key) → stands old q ≡ true → stands new q ≡ true
+
+-- all values go that are kept, and there is room for as many as before
+abbrev pub emptied : KeptSheet → KeptSheet
+emptied k = record k { values = kept [] k.values.capacity }
 
 -- ---- what an edit makes of it
 

@@ -128,6 +128,13 @@ pub trait Calculator {
         Ok(Cells::from_vec(found))
     }
 
+    /// Gives back the memory of all that it can find again. Takes none.
+    fn forget(&mut self)
+        ensures same { stored self.new ≡ stored self.old }
+        ensures same_evaluations { evaluated self.new ≡ evaluated self.old }
+        ensures same_restarts { restarted self.new ≡ restarted self.old }
+    {}
+
     fn evaluations(&self) -> u64
         ensures { result ≡ evaluated self.now };
 

@@ -43,6 +43,30 @@ impl Held {
         };
         Ok(Box::new(alloc, held)?)
     }
+
+    /// Nothing any more, and room for as many kept values as before. Takes no memory.
+    #[tactic(auto, using(crate::proofs::KeptCones::none_told))]
+    fn forget(&mut self, alloc: Global)
+        ensures values { self.new.kept ≡ kept [] self.old.kept.capacity }
+        ensures cones { (s : Sheet) → AreAllCones s self.new.cones }
+    {
+        self.kept.forget(alloc);
+        self.cones = Reaches::new(alloc);
+        self.given_up = GivenUp::new(alloc);
+        self.recurring.forget();
+    }
+}
+
+/// Gives back the memory of all that is held. Takes none.
+pub(crate) fn forget_held(alloc: Global, held: &mut Option<Box<Held>>)
+    ensures there { IsSome held.old → IsSome held.new }
+    ensures values { values_in held.new ≡ kept [] (values_in held.old).capacity }
+    ensures cones { (s : Sheet) → AreHeldCones s held.new }
+{
+    match held {
+        Some(held) => held.forget(alloc),
+        None => {}
+    }
 }
 
 /// Takes out what is held, for a question, where questions have had at most so many replaced cells: without the cones where they

@@ -18,12 +18,12 @@ ghost use Rattle.wi_sheet.specs.Demand.{reaching, demanded, wants};
 ghost use Rattle.wi_sheet.specs.Settled.{IsWhatIfSettled};
 ghost use Rattle.wi_sheet.specs.Unmoved.{IsUnmoved};
 ghost use Rattle.wi_propagate.specs.Inner.Owes.{Owes};
-ghost use Rattle.wi_propagate.specs.KeptSheet.{IsEdit, generation_in, is_kept, unkept, IsAtHand, HasRoomFor, KeepsAll, KeepsNoMore, KeepsWhileRoom};
+ghost use Rattle.wi_propagate.specs.KeptSheet.{IsEdit, emptied, generation_in, is_kept, unkept, IsAtHand, HasRoomFor, KeepsAll, KeepsNoMore, KeepsWhileRoom};
 ghost use Rattle.wi_propagate.specs.Right.{AreKeptRight};
 
 use crate::calculator::Calculator;
 use crate::generations::Generations;
-use crate::held::{Held, hold_over_edit, take_held};
+use crate::held::{Held, forget_held, hold_over_edit, take_held};
 use crate::keeping::Keeping;
 use crate::last_worlds::LastWorlds;
 use crate::standing::{Standing, standing_value};
@@ -418,6 +418,16 @@ impl Calculator for KeptCalculator {
             → (is_one_of found.items c ≡ true) ⊎ (W.watched watch.now c ≡ true)) }
     {
         self.graph.cone_beyond(cells, watch)
+    }
+
+    /// All kept values go, and with them the cones that are known, the replacements of the last questions and the arrays for the next. The
+    /// work grows with what goes.
+    fn forget(&mut self)
+        ensures { self.new ≡ emptied self.old }
+    {
+        forget_held(self.alloc, &mut self.held);
+        self.worlds = LastWorlds::new(self.alloc);
+        self.pool = Pool::new(self.alloc);
     }
 
     fn evaluations(&self) -> u64 {

@@ -44,6 +44,12 @@ impl Recurring {
         }
     }
 
+    /// Gives back the memory of the notes. Takes none.
+    pub(crate) fn forget(&mut self) {
+        self.notes.clear();
+        self.notes.shrink_to_fit();
+    }
+
     /// Goes on to the next question.
     pub(crate) fn begin(&mut self) {
         self.question = self.question.wrapping_add(1);

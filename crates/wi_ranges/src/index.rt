@@ -85,7 +85,8 @@ impl RangeIndex {
     }
 
     /// The dependents of the cell, which read a rectangle with it, in row-major order, each once. Where each pair is of one cell
-    /// that few read, the work grows with the readers, beside one `CellMap::get`. Else it grows with the pairs, equal ones too, at the blocks that
+    /// that few read, and for a cell apart from the rectangle around all that is read by rectangles, the work grows with the readers,
+    /// beside one `CellMap::get`. Else it grows with the pairs, equal ones too, at the blocks that
     /// hold the cell's row, and with the logarithms of their count and of that of all pieces. Such blocks are one for each level
     /// up to the highest at which a piece stands, at most 21.
     pub fn readers_of(&self, at: Address) -> Result<Vec<Address>, AllocError>
@@ -95,6 +96,9 @@ impl RangeIndex {
     {
         let mut readers = RisingSet::new(self.alloc);
         self.singles.add_readers(at, &mut readers)?;
+        if !has_cell(&self.around, at) {
+            return readers.into_list();
+        }
         add_readers_of(&self.pieces, at, &mut readers)?;
         readers.into_list()
     }

@@ -420,6 +420,14 @@ impl<C: Calculator> Workbook<C> {
         table(self.alloc, &mut self.calculator, &self.desk, &asked, out)
     }
 
+    /// Gives back the memory of all that the calculator can find again. Takes none. The work grows with what goes; later questions find it
+    /// again.
+    pub fn forget(&mut self)
+        ensures { self.new ≡ self.old }
+    {
+        self.calculator.forget();
+    }
+
     /// Appends a record: a cell's address and its content, which is a formula as printed, a text after an apostrophe,
     /// another constant as shown, and empty where there is none. One look-up in the sheet; beside that the work grows with the length of
     /// the record.

@@ -29,7 +29,7 @@ class Source:
         It is empty where the run is too long, or where the script itself was answered otherwise than without them.
         """
         places = sorted(at for at in behind if at < len(self.replies) and self.may_have_behind(at))
-        lines, count = self.with_lines(behind, places)
+        lines, count = self.with_lines(behind, places) if places else (b"", 0)
         if not places or count > MOST_LINES:
             return {}
         replies = run(lines).replies

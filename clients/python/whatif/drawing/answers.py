@@ -8,7 +8,7 @@ from fractions import Fraction
 from functools import cached_property
 
 from .label import Label
-from .values import is_error, places_for
+from .values import extremes, is_error, places_for
 
 CORNER = re.compile("([A-Za-z]+)([0-9]+)")
 
@@ -39,7 +39,7 @@ class Answers:
     @cached_property
     def ends(self) -> tuple[Fraction, Fraction]:
         """The lowest and the highest number, if there is one."""
-        return (min(self.known), max(self.known)) if self.known else (Fraction(0), Fraction(0))
+        return extremes(self.known) if self.known else (Fraction(0), Fraction(0))
 
     def are_alike(self) -> bool:
         """Whether all of several entries show the same, which is no error."""

@@ -2,12 +2,17 @@
 
 from __future__ import annotations
 
+import re
 from collections.abc import Iterable, Sequence
 from fractions import Fraction
 from urllib.parse import quote
 
 from .markup import Markup, joined, plain, tag
 from .values import drawn, drawn_alone, exact, is_error
+
+QUOTED = re.compile('[,"\r\n]')
+PLAIN = re.compile("[-0-9A-Za-z,./]*")
+"""What stands in an address as it is."""
 
 MOST_ROWS = 40
 MOST_DRAWN = 440
@@ -76,10 +81,10 @@ def csv_of(rows: Iterable[Sequence[str]]) -> str:
 
 
 def csv_field(text: str) -> str:
-    return '"' + text.replace('"', '""') + '"' if any(mark in text for mark in ',"\r\n') else text
+    return '"' + text.replace('"', '""') + '"' if QUOTED.search(text) else text
 
 
 def download(rows: Iterable[Sequence[str]], words: str, file_name: str) -> Markup:
     """A link to rows that are in the page, as a file of CSV."""
-    data = "data:text/csv;charset=utf-8," + quote(csv_of(rows), safe=",/-")
-    return tag("p", tag("a", words, href=data, download=file_name))
+    data = "%0D%0A".join(line if PLAIN.fullmatch(line) else quote(line, safe=",/-") for line in csv_of(rows).split("\r\n"))
+    return tag("p", tag("a", words, href=f"data:text/csv;charset=utf-8,{data}", download=file_name))

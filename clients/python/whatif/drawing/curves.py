@@ -12,7 +12,7 @@ from .colours import LINES
 from .markup import NOTHING, Markup, decimal, joined, separated, tag
 from .places import SIZE, Box, Room, fitting, spread, text_box, width
 from .scale import Scale, tick_texts, ticks, widened
-from .values import FIGURES, NEARLY, THIN, drawn_alone, exact, magnitude, rounded
+from .values import FIGURES, NEARLY, THIN, drawn_alone, exact, extremes, floating, magnitude, rounded
 
 WIDTH, HEIGHT, TOP, BOTTOM = 440, 280, 30, 44
 MOST_LABEL = 120.0
@@ -71,9 +71,9 @@ def lines_of(answers: Answers) -> list[Line]:
     """The columns as lines, at most six: the first, the last, today's and some between; none where x isn't a number all along."""
     xs = [exact(text) for text in answers.xs]
     known = [x for x in xs if x is not None]
-    if len(known) < len(xs) or len(set(known)) < 2 or not answers.known:
+    if len(known) < len(xs) or all(x == known[0] for x in known) or not answers.known:
         return []
-    order = sorted(range(len(known)), key=lambda i: known[i])
+    order = sorted(range(len(known)), key=lambda i: (floating(known[i]), known[i]))
     columns = chosen(answers)
     heads = [short_head(answers.ys[j]) for j in columns]
     found = [Line(head, [known[i] for i in order], [answers.numbers[i][j] for i in order]) for head, j in zip(heads, columns)]
@@ -102,8 +102,8 @@ class Curves:
 
     def __init__(self, answers: Answers, lines: list[Line]) -> None:
         self.answers, self.lines = answers, lines
-        known = [y for line in lines for y in line.ys if y is not None]
-        low, high = widened(min(known), max(known))
+        is_all = len(answers.ys) <= LINES
+        low, high = widened(*(answers.ends if is_all else extremes([y for line in lines for y in line.ys if y is not None])))
         if any(line.crossings for line in lines):
             low = min(low, -high * ROOM_BELOW)
         self.y_ticks = ticks(low, high, 5)
@@ -205,11 +205,11 @@ def thinned(piece: list[Point], scale: Scale) -> list[Point]:
     """The points of a line; of very many, those that are first, last, lowest and highest at each place of the scale."""
     if len(piece) <= 4 * WIDTH:
         return piece
-    low, unit = float(scale.low), float(scale.high - scale.low) / (scale.end - scale.start)
-    heights = [float(y) for _, y in piece]
+    low, unit = floating(scale.low), floating(scale.high - scale.low) / (scale.end - scale.start)
+    heights = [floating(y) for _, y in piece]
     groups: dict[int, list[int]] = {}
     for at, (x, _) in enumerate(piece):
-        groups.setdefault(int((float(x) - low) / unit), []).append(at)
+        groups.setdefault(int((floating(x) - low) / unit), []).append(at)
     kept: list[Point] = []
     for group in groups.values():
         wanted = {group[0], group[-1], min(group, key=heights.__getitem__), max(group, key=heights.__getitem__)}
@@ -219,9 +219,9 @@ def thinned(piece: list[Point], scale: Scale) -> list[Point]:
 
 def crossing_text(at: Fraction, is_entry: bool, line: Line) -> str:
     """A place as it is told: with four figures of how far the line goes, and with a sign unless an entry says so exactly."""
-    near = rounded(at, max(0, FIGURES - magnitude(line.xs[-1] - line.xs[0])))
-    text = drawn_alone(near).text
-    return text if is_entry and near == at else NEARLY + THIN + text
+    told = rounded(at, max(0, FIGURES - magnitude(line.xs[-1] - line.xs[0])))
+    text = drawn_alone(told).text
+    return text if is_entry and told == at else NEARLY + THIN + text
 
 
 def crossings_html(answers: Answers, lines: list[Line]) -> Markup:

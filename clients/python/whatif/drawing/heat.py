@@ -9,6 +9,7 @@ from fractions import Fraction
 
 from .colours import LEVELS
 from .markup import Markup, tag
+from .values import floating
 
 NOISE = 1e-9
 """Of floating point: a number on the border of two steps is in the lower one."""
@@ -34,7 +35,7 @@ class Steps:
         """
         if number is None or self.low == self.high:
             return ""
-        value = float(number)
+        value = floating(number)
         if not self.low < 0 < self.high:
             return f"a{level((value - self.low) / (self.high - self.low))}"
         if value == 0:

@@ -3,7 +3,7 @@
 from __future__ import annotations
 
 import re
-from collections.abc import Iterable
+from collections.abc import Iterable, Sequence
 from dataclasses import dataclass
 from fractions import Fraction
 from typing import Any
@@ -30,7 +30,25 @@ def exact(text: str) -> Fraction | None:
     whole, point, places = text.partition(".")
     if point:
         return Fraction(int(whole + places), 10 ** len(places))
-    return Fraction(text) if "/" in text else Fraction(int(text))
+    above, is_quotient, below = text.partition("/")
+    return Fraction(int(above), int(below)) if is_quotient else Fraction(int(text))
+
+
+def floating(number: Fraction) -> float:
+    """The nearest floating-point number; of two numbers the greater has none that is less."""
+    return number.numerator / number.denominator
+
+
+def extremes(numbers: Sequence[Fraction]) -> tuple[Fraction, Fraction]:
+    """The lowest and the highest of some numbers, exactly: those that are alike in floating point are compared.
+
+    >>> extremes([Fraction(1, 3), Fraction(10**30 + 1, 3 * 10**30), Fraction(10**30 - 1, 3 * 10**30)])[1] - Fraction(1, 3)
+    Fraction(1, 3000000000000000000000000000000)
+    """
+    places = [floating(number) for number in numbers]
+    low, high = min(places), max(places)
+    lowest = min(number for number, place in zip(numbers, places) if place == low)
+    return lowest, max(number for number, place in zip(numbers, places) if place == high)
 
 
 def is_error(text: str) -> bool:
@@ -43,6 +61,8 @@ def shown(value: Any) -> str:
     >>> shown(Fraction(5, 2)), shown(Fraction(1, 3)), shown(True), shown(None), shown("rent")
     ('2.5', '1/3', 'TRUE', '', 'rent')
     """
+    if isinstance(value, str):
+        return value
     if value is None:
         return ""
     if isinstance(value, bool):

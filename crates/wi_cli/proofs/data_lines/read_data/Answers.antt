@@ -1,4 +1,4 @@
-use Rattle.wi_cli.proofs.Vocabulary.{◌∙◌, sym, err_from_is_err_and}
+use Rattle.wi_cli.proofs.Vocabulary.{◌∙◌, refl, sym, err_from_is_err_and}
 use Rattle.wi_cli.proofs.DataLemmas.{data_begun, data_more, data_stopped, goes_on_whole, goes_on_some, still_few, fewer}
 use Rattle.wi_cli.proofs.data_lines.read_data.Goals as goal
 
@@ -9,6 +9,7 @@ taking-init g c =
       wanted = c.begin.ensures.wanted;
       few = c.requires.few;
       reads = c.requires.reads;
+      book = refl;
     }
 
 pub returns-in_err-whole-clause-took : goal.returns-in_err-whole-clause-took
@@ -27,7 +28,7 @@ returns-in_err-whole-clause-reads g c =
 pub taking-smaller : goal.taking-smaller
 taking-smaller g c =
     let k = c.in_ok-whole.ensures.took.0 in
-    let more = c.add.ensures k.content k.no_lf (c.deref.ensures.value ∙ k.kept) in
+    let more = c.add.ensures.added k.content k.no_lf (c.deref.ensures.value ∙ k.kept) in
     fewer c.taking.whole c.in_ok-whole.whole _ _ k.content k.no_lf (sym c.goes_on.ensures ∙ c.taking-test.true) more.missing
 
 pub taking-preserved : goal.taking-preserved
@@ -35,7 +36,7 @@ taking-preserved g c =
     let old = c.taking.invariant in
     let on = sym c.goes_on.ensures ∙ c.taking-test.true in
     let k = c.in_ok-whole.ensures.took.0 in
-    let more = c.add.ensures k.content k.no_lf (c.deref.ensures.value ∙ k.kept) in
+    let more = c.add.ensures.added k.content k.no_lf (c.deref.ensures.value ∙ k.kept) in
     let taken = data_more _ _ c.add.new.self c.args.whole c.in_ok-whole.whole _ _ _ _ _ _ c.next_line.new.script.line.items _ c.taking.script.lines _ old.few
     (rw (goes_on_whole c.taking.whole _ on) at old.taken) k c.in_ok-whole.ensures.took.1 more in
     record {
@@ -43,4 +44,5 @@ taking-preserved g c =
       wanted = more.wanted ∙ old.wanted;
       few = still_few taken;
       reads = c.in_ok-whole.ensures.reads;
+      book = c.add.ensures.book ∙ old.book;
     }

@@ -9,6 +9,7 @@ invariant-taking g l =
       wanted : l.data_lines.wanted ≡ wants l.csv;
       few : l.script.lines ≤ 1000000;
       reads : CanRead (g.R.Source.has_failed l.source) (vec_capacity l.script.line);
+      book : l.book ≡ l.fn.book;
     }
 
 abbrev pub decreases-taking : goal.decreases-taking
