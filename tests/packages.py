@@ -47,6 +47,8 @@ PACKAGES: dict[str, Callable[[], bool]] = {
     "python3-pip": module("pip"),
     "python3-nbclient python3-ipykernel python3-matplotlib": lambda: all(map(has_module, ("nbclient", "ipykernel", "matplotlib"))),
     "mypy": command("mypy"),
+    "pyflakes3": command("pyflakes3"),
+    "pycodestyle": command("pycodestyle"),
     "libreoffice-calc": command("soffice"),
     "chromium": command("chromium"),
     "man-db": lambda: succeeds(["sh", "-c", "man --version | grep -q '^man [0-9]'"]),

@@ -1,16 +1,14 @@
 """Tests of bench/index: what it makes of a small made repository, what it refuses, and that docs/index.txt is of today."""
 
 import io
-import sys
-import tempfile
 import unittest
 from contextlib import redirect_stdout
-from importlib.machinery import ModuleSpec, SourceFileLoader
-from importlib.util import module_from_spec
 from pathlib import Path
-from types import ModuleType
 
-ROOT = Path(__file__).resolve().parent.parent
+from tests import ROOT
+from tests.support.loading import loaded
+from tests.support.scratch import ScratchTest
+
 MAP = """# Map
 
 A walk: `low/part/grammar::line`, then `tell`, `crates/no` and `no/place`.
@@ -46,18 +44,7 @@ WANTED = [
 ]
 
 
-def loaded() -> ModuleType:
-    """The tool as a module. Dataclasses look for theirs by its name."""
-    sys.dont_write_bytecode = True
-    loader = SourceFileLoader("bench_index", str(ROOT / "bench/index"))
-    module = module_from_spec(ModuleSpec("bench_index", loader, origin=loader.path))
-    module.__file__ = loader.path
-    sys.modules["bench_index"] = module
-    loader.exec_module(module)
-    return module
-
-
-TOOL = loaded()
+TOOL = loaded(ROOT / "bench/index")
 
 
 def index(root: Path, *words: str) -> tuple[int, str]:
@@ -68,11 +55,10 @@ def index(root: Path, *words: str) -> tuple[int, str]:
     return status, said.getvalue()
 
 
-class Index(unittest.TestCase):
+class Index(ScratchTest):
     def setUp(self) -> None:
-        folder = tempfile.TemporaryDirectory(prefix="whatif-index-")
-        self.addCleanup(folder.cleanup)
-        self.root = Path(folder.name).resolve()
+        super().setUp()
+        self.root = self.folder.resolve()
         for name, text in FILES.items():
             file = self.root / name
             file.parent.mkdir(parents=True, exist_ok=True)

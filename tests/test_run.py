@@ -1,50 +1,23 @@
 """Tests of tests/run, which runs the parts, and of ./test, which runs it behind `rt ci`."""
 
-import importlib.util
 import os
 import shutil
 import subprocess
-import sys
-import tempfile
 import unittest
-from importlib.machinery import SourceFileLoader
 from pathlib import Path
-from types import ModuleType
 from unittest import mock
 
-import packages
+from tests import packages
+from tests.support.loading import loaded
+from tests.support.scratch import ScratchTest, made_script
 
 FOLDER = Path(__file__).resolve().parent
 
 
-def module(path: Path) -> ModuleType:
-    """A program whose name doesn't end in .py, as a module."""
-    loader = SourceFileLoader("runner", str(path))
-    spec = importlib.util.spec_from_loader("runner", loader)
-    assert spec
-    made = importlib.util.module_from_spec(spec)
-    sys.modules["runner"] = made
-    loader.exec_module(made)
-    return made
+runner = loaded(FOLDER / "run")
 
 
-runner = module(FOLDER / "run")
-
-
-def script(path: Path, text: str) -> None:
-    path.parent.mkdir(parents=True, exist_ok=True)
-    path.write_text(f"#!/bin/sh\n{text}\n")
-    path.chmod(0o755)
-
-
-class Scratch(unittest.TestCase):
-    def setUp(self) -> None:
-        scratch = tempfile.TemporaryDirectory()
-        self.addCleanup(scratch.cleanup)
-        self.folder = Path(scratch.name)
-
-
-class Parts(Scratch):
+class Parts(ScratchTest):
     def test_the_counts_of_a_part(self) -> None:
         for written, status, counts in (
             ("3 passed, 0 failed\n", 0, "3 passed, 0 failed"),
@@ -63,9 +36,9 @@ class Parts(Scratch):
                 self.assertEqual(str(runner.Part("part", written, status, 0).counts()), counts)
 
     def test_parts_are_run_and_counted_together(self) -> None:
-        script(self.folder / "well", "echo $WHATIF; echo '3 passed, 0 failed, 1 skipped'")
-        script(self.folder / "amiss", "echo 2 is no 3; echo '1 passed, 1 failed'; exit 1")
-        script(self.folder / "crash", "kill -SEGV $$")
+        made_script(self.folder / "well", "echo $WHATIF; echo '3 passed, 0 failed, 1 skipped'")
+        made_script(self.folder / "amiss", "echo 2 is no 3; echo '1 passed, 1 failed'; exit 1")
+        made_script(self.folder / "crash", "kill -SEGV $$")
         parts = [str(self.folder / name) for name in ("well", "amiss", "crash", "missing")]
         ran = subprocess.run([str(FOLDER / "run"), *parts], capture_output=True, text=True, env={**os.environ, "WHATIF": "/bin/true"})
         self.assertEqual((ran.returncode, ran.stdout.splitlines()[-1]), (1, "4 passed, 3 failed, 1 skipped"))
@@ -78,8 +51,8 @@ class Parts(Scratch):
 
     def skipping(self, *words: str) -> tuple[int, list[str]]:
         """The exit status and the last two lines of tests/run over two parts, of which one skips."""
-        script(self.folder / "well", "echo '3 passed, 0 failed'")
-        script(self.folder / "lacks", "echo '4 passed, 0 failed, 2 skipped'")
+        made_script(self.folder / "well", "echo '3 passed, 0 failed'")
+        made_script(self.folder / "lacks", "echo '4 passed, 0 failed, 2 skipped'")
         parts = [str(self.folder / name) for name in ("well", "lacks")]
         ran = subprocess.run([str(FOLDER / "run"), *words, *parts], capture_output=True, text=True, env={**os.environ, "WHATIF": "/bin/true"})
         return ran.returncode, ran.stdout.splitlines()[-2:]
@@ -119,12 +92,12 @@ class Parts(Scratch):
             os.environ.pop("WHATIF", None)
             for newer in places:
                 for it in places:
-                    script(it, "")
+                    made_script(it, "")
                     os.utime(it, (2, 2) if it == newer else (1, 1))
                 self.assertEqual(runner.program(), str(newer))
             for it in places:
                 it.unlink()
-            script(self.folder / "prove", f"echo > '{places[1]}'")
+            made_script(self.folder / "prove", f"echo > '{places[1]}'")
             self.assertEqual(runner.program(), str(places[1]))
             self.assertTrue(places[1].exists())
 
@@ -133,14 +106,14 @@ class Parts(Scratch):
         self.assertEqual((ran.returncode, ran.stdout.splitlines()[-1]), (1, "0 passed, 1 failed"))
 
 
-class TestCommand(Scratch):
+class TestCommand(ScratchTest):
     def called(self, gate: str, parts: str) -> tuple[int, list[str]]:
         """The exit status of ./test and its last two lines, where `rt` and tests/run do this."""
         for name in ("test", "start/programs"):
             (self.folder / name).parent.mkdir(exist_ok=True)
             shutil.copy(FOLDER.parent / name, self.folder / name)
-        script(self.folder / "bin/rt", gate)
-        script(self.folder / "tests/run", parts)
+        made_script(self.folder / "bin/rt", gate)
+        made_script(self.folder / "tests/run", parts)
         path = f"{self.folder / 'bin'}:{os.environ['PATH']}"
         ran = subprocess.run([str(self.folder / "test")], capture_output=True, text=True, env={**os.environ, "PATH": path})
         return ran.returncode, ran.stdout.splitlines()[-2:]
@@ -158,7 +131,7 @@ class TestCommand(Scratch):
     def test_where_all_is_there_a_skip_fails_the_gate(self) -> None:
         (self.folder / ".ci").mkdir()
         shutil.copy(FOLDER.parent / ".ci/run", self.folder / ".ci/run")
-        script(self.folder / "test", 'echo "words: $*"')
+        made_script(self.folder / "test", 'echo "words: $*"')
         (self.folder / "tests").mkdir()
         for status, words in ((0, "words: --all\n"), (1, "words: \n")):
             (self.folder / "tests/packages.py").write_text(f"print('a package'); raise SystemExit({status})")

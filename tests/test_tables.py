@@ -1,17 +1,12 @@
 """Tests of tests/scripts: how a table is read, and that a reply that is another, or comes at another time, is seen."""
 
 import os
-import shutil
 import subprocess
 import sys
-import tempfile
-import unittest
-from pathlib import Path
 
-SCRIPTS = Path(__file__).resolve().parent / "scripts"
-sys.path.insert(0, str(SCRIPTS))
-
-from tables import Script, Turn, scripts
+from tests import ROOT
+from tests.scripts.tables import Script, Turn, scripts
+from tests.support.scratch import ScratchTest, made_program
 
 # Answers each line by `ok`.
 STUB = f"""#!{sys.executable}
@@ -36,12 +31,7 @@ show A1
 """
 
 
-class Tables(unittest.TestCase):
-    def setUp(self) -> None:
-        scratch = tempfile.TemporaryDirectory()
-        self.addCleanup(scratch.cleanup)
-        self.folder = Path(scratch.name)
-
+class Tables(ScratchTest):
     def read(self, table: bytes) -> list[Script]:
         path = self.folder / "some.cases"
         path.write_bytes(table)
@@ -66,16 +56,12 @@ class Tables(unittest.TestCase):
 
     def failures(self, table: bytes, patience: str = "60") -> tuple[int, list[str]]:
         """The status of the part on a table, and which runs fail, where each line is answered by `ok`."""
-        text = (SCRIPTS / "run").read_text()
-        self.assertIn("\nPATIENCE = 60\n", text)
-        shutil.copy(SCRIPTS / "tables.py", self.folder)
-        for name, program in (("run", text.replace("PATIENCE = 60", f"PATIENCE = {patience}")), ("stub", STUB)):
-            (self.folder / name).write_text(program)
-            (self.folder / name).chmod(0o755)
+        stub = made_program(self.folder / "stub", STUB)
         (self.folder / "pair.whatif").write_bytes(b"set A1 1\n")
         (self.folder / "pair.out").write_bytes(b"ok\n")
         (self.folder / "some.cases").write_bytes(table)
-        ran = subprocess.run([str(self.folder / "run")], env={**os.environ, "WHATIF": str(self.folder / "stub")}, capture_output=True, text=True)
+        words = [str(ROOT / "tests/scripts/run"), "--patience", patience, str(self.folder)]
+        ran = subprocess.run(words, env={**os.environ, "WHATIF": str(stub)}, capture_output=True, text=True)
         return ran.returncode, [line.partition(":")[0] for line in ran.stdout.splitlines() if ":" in line]
 
     def test_what_is_amiss_is_seen(self) -> None:

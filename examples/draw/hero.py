@@ -5,13 +5,15 @@
     draw/hero.py -    writes the picture to standard output
 """
 
-import csv
 import html
 import sys
 from dataclasses import dataclass
 from pathlib import Path
 
-EXAMPLES = Path(__file__).resolve().parents[1]
+sys.path.insert(0, str(Path(__file__).resolve().parents[2]))
+
+from examples.tests.replies import EXAMPLES, Example
+
 WIDTH, HEIGHT = 980, 540
 INK, QUIET, RISE, FALL, EVEN = "#1b2733", "#5a6b7b", "#1f5f99", "#c55a11", "#8a949e"
 
@@ -28,14 +30,12 @@ class Replies:
 
 def read_replies() -> Replies:
     """The script with its stored replies. The labels are those of column A."""
-    script = (EXAMPLES / "hero.whatif").read_text().splitlines()
-    lines = (EXAMPLES / "hero.out").read_text().splitlines()
-    records = list(csv.reader(line for line in lines if line.startswith('"')))
+    example = Example("hero")
+    script = example.script.splitlines()
     first = script.index("csv A1 4") + 1
     labels = [line.partition(",")[0] for line in script[first : first + 4]]
     labels.append(next(line for line in script if line.startswith("set A5 ")).removeprefix("set A5 '"))
-    table = [record for record in records if len(record) == 5]
-    compared = [record for record in records if len(record) == 4]
+    table, compared = (next(reply.records for reply in example.replies if reply.command.startswith(word)) for word in ("table ", "compare "))
     return Replies(script, table, compared, {f"B{row}": label for row, label in enumerate(labels, 1)})
 
 

@@ -5,14 +5,13 @@ import sys
 import tempfile
 from pathlib import Path
 
-EXAMPLES = Path(__file__).resolve().parents[1]
-ROOT = EXAMPLES.parent
-sys.dont_write_bytecode = True
-sys.path[:0] = [str(ROOT / "tools"), str(ROOT / "tools" / "test"), str(ROOT / "clients" / "python")]
+sys.path.insert(0, str(Path(__file__).resolve().parents[2]))
 
-from browser import Browser, found  # noqa: E402
-from whatif_tools.report.main import main as report  # noqa: E402
+from tests import ROOT
+from tests.support.browser import Browser, found
+from whatif_tools.report.main import main as report
 
+EXAMPLES = ROOT / "examples"
 WIDTH = 1000
 PARTS = (1, 2)
 """The table with what moves its cell, and the comparison."""

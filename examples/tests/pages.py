@@ -7,8 +7,8 @@ script writes. A record in the prose after a script, or a refusal, is one of its
 import re
 from dataclasses import dataclass, field
 
-FENCE = re.compile(r"^```(.*)$")
-HEADING = re.compile(r"^#+ (.*)$")
+from tests.support.pages import PROSE, blocks_of
+
 SPAN = re.compile(r"`([^`]+)`")
 NUMBERS = "no one two three four five six seven eight nine ten".split()
 RECORD = re.compile(r'"[^"]*"(,"[^"]*")+|"[0-9./-]+"')
@@ -24,39 +24,6 @@ class Script:
     replies: list[str] = field(default_factory=list)
     lines: list[str] = field(default_factory=list)
     oks: int | None = None
-
-
-@dataclass(frozen=True)
-class Block:
-    """A fenced block: the words after its fence, its heading and its text. Prose has the word `prose`."""
-
-    words: str
-    heading: str
-    text: str
-
-
-def blocks_of(page: str) -> list[Block]:
-    """The fenced blocks of a page and the prose between them, in order; prose ends at a heading."""
-    blocks: list[Block] = []
-    heading, words, lines = "", "prose", []
-
-    def end() -> None:
-        if lines:
-            blocks.append(Block(words, heading, "\n".join(lines) + "\n"))
-            lines.clear()
-
-    for line in page.splitlines():
-        fence, title = FENCE.match(line), HEADING.match(line) if words == "prose" else None
-        if fence or title:
-            end()
-        if fence:
-            words = (fence[1] or "plain") if words == "prose" else "prose"
-        elif title:
-            heading = title[1]
-        else:
-            lines.append(line)
-    end()
-    return blocks
 
 
 def said_lines(prose: str) -> list[str]:
@@ -81,7 +48,7 @@ def scripts_of(page: str) -> list[Script]:
             scripts.append(Script(block.heading, block.text, scripts[-1].before + scripts[-1].text))
         elif block.words == "replies":
             scripts[-1].replies.append(block.text)
-        elif block.words == "prose" and scripts and scripts[-1].heading == block.heading:
+        elif block.words == PROSE and scripts and scripts[-1].heading == block.heading:
             scripts[-1].lines += said_lines(block.text)
             scripts[-1].oks = scripts[-1].oks or said_oks(block.text)
     return scripts

@@ -3,7 +3,7 @@
 import unittest
 from dataclasses import dataclass, replace
 
-from replies import Example
+from examples.tests.replies import Example
 
 
 @dataclass(frozen=True)

@@ -3,8 +3,8 @@
 import unittest
 from fractions import Fraction
 
-from replies import Example
-from rounding import rounded, shown
+from examples.tests.replies import Example
+from tests.support.rounding import rounded, shown
 
 CENT = Fraction(1, 100)
 

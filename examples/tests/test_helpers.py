@@ -3,8 +3,8 @@
 import doctest
 import unittest
 
-import replies
-import rounding
+from examples.tests import replies
+from tests.support import rounding
 
 
 def load_tests(loader: unittest.TestLoader, tests: unittest.TestSuite, pattern: str | None) -> unittest.TestSuite:

@@ -4,7 +4,7 @@ import subprocess
 import sys
 import unittest
 
-from replies import EXAMPLES, Example
+from examples.tests.replies import EXAMPLES, Example
 
 
 def profit(pieces: int, price: int, costs: float, fixed: int) -> str:

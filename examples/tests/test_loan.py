@@ -9,7 +9,7 @@ from dataclasses import dataclass
 from decimal import ROUND_HALF_UP, Decimal, localcontext
 from pathlib import Path
 
-from replies import Example
+from examples.tests.replies import Example
 
 CENT = Decimal("0.01")
 

@@ -8,8 +8,10 @@ import tempfile
 import unittest
 from pathlib import Path
 
-from pages import Script, blocks_of, said_lines, scripts_of
-from program import PROGRAM, ROOT, written
+from examples.tests.pages import Script, said_lines, scripts_of
+from tests import ROOT
+from tests.support.pages import blocks_of
+from tests.support.program import PROGRAM, written
 
 MANUAL = (ROOT / "docs" / "MANUAL.md").read_text()
 FUNCTIONS = (ROOT / "docs" / "FUNCTIONS.md").read_text()
@@ -80,14 +82,16 @@ class PagesTest(unittest.TestCase):
     def test_python_of_the_manual(self) -> None:
         (source,) = [block.text for block in blocks_of(MANUAL) if block.words == "python"]
         said = re.search(r"print\(.*\) +# (.*)\n", source)
+        assert said
         ran = in_folder([sys.executable, "-c", source])
         self.assertEqual((ran.stdout, ran.returncode), (said[1] + "\n", 0))
 
     def test_contents_that_become_texts(self) -> None:
         """The contents that the manual calls texts are texts, and those that it calls others aren't."""
         row = re.search(r"^\| (`set A1 12,5`.*) \| \*\*texts\*\*", MANUAL, re.MULTILINE)
-        texts = [span.removeprefix("set A1 ") for span in re.findall(r"`([^`]*)`", row[1])]
         driving = re.search(r"\*\*What isn't spelled as a number becomes a text, with `ok`\*\*:(.*?)and `5` with a", MANUAL, re.DOTALL)
+        assert row and driving
+        texts = [span.removeprefix("set A1 ") for span in re.findall(r"`([^`]*)`", row[1])]
         texts += [*re.findall(r"`([^`]*)`", driving[1]), "5 "]
         self.assertEqual(len(texts), 13)
         for text in texts:

@@ -3,8 +3,9 @@
 import subprocess
 import unittest
 
-from program import PROGRAM, ROOT, written
-from replies import EXAMPLES
+from tests import ROOT
+from tests.support.program import PROGRAM, written
+from examples.tests.replies import EXAMPLES
 
 CRATE = ROOT / "crates" / "whatif"
 

@@ -3,7 +3,7 @@
 import re
 import unittest
 
-from replies import EXAMPLES
+from examples.tests.replies import EXAMPLES
 
 README = (EXAMPLES / "README.md").read_text()
 

@@ -6,8 +6,8 @@ import unittest
 from dataclasses import dataclass
 from fractions import Fraction
 
-from replies import Example
-from rounding import LARGEST, rounded, shown, shown_rows
+from examples.tests.replies import Example
+from tests.support.rounding import LARGEST, rounded, shown, shown_rows
 
 
 @dataclass(frozen=True)

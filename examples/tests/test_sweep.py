@@ -6,12 +6,13 @@ import shutil
 import subprocess
 import tempfile
 import unittest
-from fractions import Fraction
 from pathlib import Path
 
-from program import PROGRAM, written
-from replies import EXAMPLES, commands_of, records_of
-from rounding import rounded, shown
+from tests.support.program import PROGRAM, written
+from examples.tests.replies import EXAMPLES, commands_of
+from tests.support.rounding import shown
+from tests.support.solar import left
+from whatif_tools.program import parted
 
 SWEEP = EXAMPLES / "sweep"
 CELLS = ("B1", "B3", "B4", "B6")
@@ -24,22 +25,12 @@ def run(name: str, *words: str, given: str = "") -> subprocess.CompletedProcess[
     return subprocess.run(words, input=given, capture_output=True, text=True, env=environment, timeout=60)
 
 
-def left(size: str, part: str, price: str, cost: str) -> Fraction:
-    """What is left of 20 years' income when the roof is paid for."""
-    output, income = Fraction(1), Fraction(0)
-    kilowatt_hour = Fraction(part) * Fraction(price) + (1 - Fraction(part)) * Fraction("0.08")
-    for _ in range(20):
-        income += rounded(Fraction(size) * 950 * output * kilowatt_hour, 2)
-        output = rounded(output * Fraction("0.995"), 6)
-    return income - Fraction(size) * Fraction(cost)
-
-
 def by_a_process_of_its_own(line: str) -> str:
     """The result of one set of parameters."""
     name, *values = line.split(",")
     questions = "".join(f"set {cell} {value}\n" for cell, value in zip(CELLS, values))
-    replies = written((SWEEP / "model.whatif").read_bytes() + f"{questions}show B10\n".encode()).decode()
-    ((result,),) = records_of([text + "\n" for text in replies.split("\n") if text.startswith('"')])
+    *_, last = parted(written((SWEEP / "model.whatif").read_bytes() + f"{questions}show B10\n".encode()))
+    ((result,),) = last.records()
     return f"{name},{result}"
 
 
@@ -82,7 +73,9 @@ class SweepTest(unittest.TestCase):
     def test_the_tool_gives_what_a_chunk_gives(self) -> None:
         """The commands of README.md, on fewer sets."""
         page = (SWEEP / "README.md").read_text()
-        made, swept = re.search(r"^    (\(echo .*> sets.csv)\n    (.*whatif-sweep .*> results.csv)$", page, re.MULTILINE).groups()
+        found = re.search(r"^    (\(echo .*> sets.csv)\n    (.*whatif-sweep .*> results.csv)$", page, re.MULTILINE)
+        assert found
+        made, swept = found.groups()
         with tempfile.TemporaryDirectory() as folder:
             script = f"set -e\n{made.replace('100000', '300').replace('./sets', str(SWEEP / 'sets'))}\n{swept}\n"
             script = script.replace("../../tools", str(EXAMPLES.parent / "tools")).replace("model.whatif", str(SWEEP / "model.whatif"))
@@ -98,11 +91,12 @@ class SweepTest(unittest.TestCase):
     def test_chunks_by_gnu_parallel(self) -> None:
         """The command of README.md, on as many sets as make several chunks."""
         sets = self.lines[:400]
-        command = re.search(r"^    parallel (--pipepart .*) > results.csv$", (SWEEP / "README.md").read_text(), re.MULTILINE)[1]
+        command = re.search(r"^    parallel (--pipepart .*) > results.csv$", (SWEEP / "README.md").read_text(), re.MULTILINE)
+        assert command
         with tempfile.TemporaryDirectory() as folder:
             Path(folder, "sets.csv").write_text("\n".join(sets) + "\n")
             Path(folder, "chunk").symlink_to(SWEEP / "chunk")
-            words = ["parallel", "--will-cite", *command.split()]
+            words = ["parallel", "--will-cite", *command[1].split()]
             environment = {**os.environ, "WHATIF": PROGRAM, "HOME": folder}
             ran = subprocess.run(words, cwd=folder, capture_output=True, text=True, env=environment, timeout=60)
         whole = run("chunk", given="\n".join(sets) + "\n")

@@ -4,8 +4,8 @@ import unittest
 from dataclasses import dataclass, replace
 from fractions import Fraction
 
-from replies import Example
-from rounding import rounded, shown
+from examples.tests.replies import Example
+from tests.support.rounding import rounded, shown
 
 
 @dataclass(frozen=True)

@@ -3,7 +3,7 @@
 import unittest
 from dataclasses import dataclass, field
 
-from replies import Example
+from examples.tests.replies import Example
 
 LABELS = {"A1": "item", "B1": "cost of a month", "A2": "rent", "A3": "heating", "A4": "food", "A5": "total"}
 WINTER = {"B3": 240}

@@ -1,32 +1,20 @@
 """Calls of the program, and what is looked at after each."""
 
 import os
-import select
 import signal
 import subprocess
-import tempfile
-import unittest
 from collections.abc import Callable, Sequence
-from dataclasses import dataclass
 from pathlib import Path
 from typing import IO, Any
 
-ROOT = Path(__file__).resolve().parents[2]
-PROGRAM = os.environ.get("WHATIF") or str(ROOT / "crates/whatif/out/whatif")
+from tests.support.program import PROGRAM, Ended, awaited
+from tests.support.scratch import ScratchTest
+
 SECONDS = 60
 PATIENCE = 10
 
 # Exit statuses, as the manual has them.
 WELL, USAGE, DEVICE, SCRIPT_LIMIT, MEMORY = 0, 2, 3, 4, 5
-
-
-@dataclass(frozen=True)
-class Ended:
-    """How a call ended."""
-
-    status: int
-    written: bytes
-    told: bytes
 
 
 def call(words: Sequence[str | bytes] = (), given: bytes | None = None, before: Callable[[], None] | None = None, **streams: Any) -> Ended:
@@ -36,7 +24,8 @@ def call(words: Sequence[str | bytes] = (), given: bytes | None = None, before: 
         streams.setdefault("stdin", subprocess.DEVNULL)
     else:
         streams["input"] = given
-    ran = subprocess.run([PROGRAM, *words], **{"stdout": subprocess.PIPE, "stderr": subprocess.PIPE} | streams, preexec_fn=before, timeout=SECONDS)
+    pipes: dict[str, Any] = {"stdout": subprocess.PIPE, "stderr": subprocess.PIPE}
+    ran: subprocess.CompletedProcess[bytes] = subprocess.run([PROGRAM, *words], **pipes | streams, preexec_fn=before, timeout=SECONDS)
     return Ended(ran.returncode, ran.stdout or b"", ran.stderr or b"")
 
 
@@ -47,10 +36,7 @@ def started(before: Callable[[], None] | None = None) -> "subprocess.Popen[bytes
 
 def exactly(stream: IO[bytes], count: int) -> bytes:
     """The next bytes of a pipe that isn't buffered, or fewer where it ends or they don't come."""
-    read = b""
-    while len(read) < count and select.select([stream], [], [], PATIENCE)[0] and (more := stream.read(count - len(read))):
-        read += more
-    return read
+    return awaited(stream, count, PATIENCE)
 
 
 def ignore_broken_pipes() -> None:
@@ -61,15 +47,10 @@ def die_of_broken_pipes() -> None:
     signal.signal(signal.SIGPIPE, signal.SIG_DFL)
 
 
-class DeviceTest(unittest.TestCase):
-    """A test in a folder of its own."""
+class DeviceTest(ScratchTest):
+    """A test of a call in a folder of its own."""
 
     maxDiff = 2_000
-
-    def setUp(self) -> None:
-        scratch = tempfile.TemporaryDirectory()
-        self.addCleanup(scratch.cleanup)
-        self.folder = Path(scratch.name)
 
     def file(self, name: str, contents: bytes) -> Path:
         path = self.folder / name

@@ -6,8 +6,9 @@ import unittest
 from dataclasses import dataclass
 from pathlib import Path
 
-from calls import DEVICE, PROGRAM, SECONDS, USAGE, WELL, DeviceTest, Ended
-from program import Program, compiled, compiler
+from tests.devices.calls import DEVICE, SECONDS, USAGE, WELL, DeviceTest
+from tests.refused.program import Program, compiled, compiler
+from tests.support.program import PROGRAM, Ended
 
 TABLE = Path(__file__).resolve().parent / "words.cases"
 OPTIONS = re.compile(r"(?:no load|load (.*)), keep ([0-9]+)")

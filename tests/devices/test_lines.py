@@ -4,7 +4,8 @@ import select
 import time
 from pathlib import Path
 
-from calls import ROOT, SCRIPT_LIMIT, SECONDS, WELL, DeviceTest, call, exactly, started
+from tests import ROOT
+from tests.devices.calls import SCRIPT_LIMIT, SECONDS, WELL, DeviceTest, call, exactly, started
 
 MOST = 1_000_000
 PAUSE = 0.002

@@ -9,8 +9,9 @@ from collections.abc import Callable
 from dataclasses import dataclass
 from pathlib import Path
 
-from calls import MEMORY, PROGRAM, WELL, DeviceTest, call, exactly
-from program import Program, Refusal, compiled, compiler
+from tests.devices.calls import MEMORY, WELL, DeviceTest, call, exactly
+from tests.refused.program import Program, Refusal, compiled, compiler
+from tests.support.program import PROGRAM
 
 LOADED = b"set A1 5\nshow A1\n"
 LOADED_REPLIES = b'ok\n"5"\r\nok\n'

@@ -7,10 +7,11 @@ import socket
 import subprocess
 import time
 import unittest
+from collections.abc import Callable
 from pathlib import Path
 
-from calls import (DEVICE, PROGRAM, SECONDS, USAGE, WELL, DeviceTest, Ended, call, die_of_broken_pipes, exactly, ignore_broken_pipes,
-                   started)
+from tests.devices.calls import DEVICE, SECONDS, USAGE, WELL, DeviceTest, call, die_of_broken_pipes, exactly, ignore_broken_pipes, started
+from tests.support.program import PROGRAM, Ended
 
 SCRIPT = b"set A1 5\nset A2 =[.A1]*2\nshow A1:A2\nfrob\nexport A1:A2\n"
 REPLIES = b'ok\nok\n"5"\r\n"10"\r\nok\nrefused E02\nlines 2\n"5"\r\n"10"\r\nok\n'
@@ -51,7 +52,7 @@ class FullDisk(DeviceTest):
 
 
 class BrokenPipe(DeviceTest):
-    def written_to_nobody(self, before: object) -> None:
+    def written_to_nobody(self, before: Callable[[], None]) -> None:
         reader, writer = os.pipe()
         os.close(reader)
         with os.fdopen(writer, "wb") as nobody:
@@ -115,7 +116,9 @@ class ClosedStreams(DeviceTest):
         self.assert_ended(call(given=SCRIPT, before=lambda: os.close(1)), DEVICE, b"")
 
     def test_closed_standard_error_changes_no_reply_and_no_status(self) -> None:
-        close = lambda: os.close(2)
+        def close() -> None:
+            os.close(2)
+
         self.assertEqual(call(given=SCRIPT, before=close).written, REPLIES)
         self.assertEqual(call(given=SCRIPT, before=close).status, WELL)
         self.assertEqual(call(["--frob"], before=close).status, USAGE)
@@ -166,7 +169,7 @@ def cut_off(script: bytes, replies: bytes) -> Ended:
     closed with a byte in it that wasn't read, which the other one feels as a failed read."""
     ours, theirs = socket.socketpair()
     theirs.send(b"x")
-    process = subprocess.Popen([PROGRAM], stdin=theirs, stdout=subprocess.PIPE, stderr=subprocess.PIPE, bufsize=0)
+    process = subprocess.Popen([PROGRAM], stdin=theirs.fileno(), stdout=subprocess.PIPE, stderr=subprocess.PIPE, bufsize=0)
     theirs.close()
     with process:
         assert process.stdout and process.stderr

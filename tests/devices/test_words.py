@@ -3,7 +3,7 @@
 import os
 import re
 
-from calls import DEVICE, SCRIPT_LIMIT, USAGE, WELL, DeviceTest, call
+from tests.devices.calls import DEVICE, SCRIPT_LIMIT, USAGE, WELL, DeviceTest, call
 
 SHOW = b"show A1\n"
 WRONG_WORDS: list[tuple[list[str | bytes], bytes]] = [

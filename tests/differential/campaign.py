@@ -1,19 +1,18 @@
 """Many random scripts, on several processes: each given to the program and to the reference."""
 
 import argparse
-import os
 import time
 from collections.abc import Iterator
-from concurrent.futures import ProcessPoolExecutor
+from concurrent.futures import Future, ProcessPoolExecutor
 from dataclasses import dataclass, field
-from pathlib import Path
 
-from compare import Answer, Difference, difference, programs
-from generate import script
-from shrink import shrunk
-from whatif import commands_of, in_deep_thread
+from tests.differential.compare import Answer, Difference, difference, programs
+from tests.differential.generate import script
+from tests.differential.shrink import shrunk
+from tests.reference.whatif import commands_of, in_deep_thread
+from tests.support.closing import Counts, close
+from tests.support.program import PROGRAM
 
-PROGRAM = os.environ.get("WHATIF") or str(Path(__file__).resolve().parents[2] / "crates/whatif/out/whatif")
 SCRIPTS_AT_ONCE = 20
 MOST_SHRUNK = 2
 MOST_PRINTED = 5
@@ -112,7 +111,7 @@ def run(options: Options) -> int:
     total, began = Result(), time.monotonic()
     with ProcessPoolExecutor(options.processes) as pool:
         left = batches(options)
-        running = []
+        running: list[Future[Result]] = []
         printed = 500
         while True:
             is_late = options.seconds and time.monotonic() - began > options.seconds
@@ -134,8 +133,7 @@ def run(options: Options) -> int:
         print(f"scripts that differ: {' '.join(str(number) for number, _ in total.differences[:100])}")
     print(f"{total.commands} commands")
     failed = len(total.differences)
-    print(f"{total.scripts - failed} passed, {failed} failed")
-    return 1 if failed or not total.scripts else 0
+    return close(Counts(total.scripts - failed, failed))
 
 
 def options_of(words: list[str]) -> tuple[Options, bool]:

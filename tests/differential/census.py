@@ -6,13 +6,12 @@ from contextlib import contextmanager
 from dataclasses import dataclass, field
 from unittest import mock
 
-import compare  # noqa: F401  (finds the reference)
-import functions
-import whatif
-from generate import script
-from sheet import Formula, Sheet
-from values import Error
-from workbook import Workbook
+from tests.differential.generate import script
+from tests.reference import functions, whatif
+from tests.reference.grammar import Tree
+from tests.reference.sheet import Cell, Formula, Sheet
+from tests.reference.values import Error, Value
+from tests.reference.workbook import Workbook
 
 COMMANDS = ["set", "clear", "fill", "csv", "show", "export", "table", "scenario", "base", "drop", "use", "as", "changes", "compare", "force", "formula"]
 CODES = ["E02", "E03", "E04", "E05", "E06", "E07", "E08", "E10", "E11", "E12", "E13", "E14", "E15", "E16", "E18", "E19"]
@@ -49,19 +48,19 @@ class Census:
         """Counts the calls and the shown values of what the reference does meanwhile."""
         called, shown_in, what_if = functions.called, Workbook.shown_in, Sheet.what_if
 
-        def counted_call(sheet, name, trees):
+        def counted_call(sheet: Sheet, name: str, trees: tuple[Tree, ...]) -> Value:
             self.calls[name] += 1
             value = called(sheet, name, trees)
             self.good_calls[name] += not isinstance(value, Error)
             return value
 
-        def counted_shown(book, scenario, cell):
+        def counted_shown(book: Workbook, scenario: str | None, cell: Cell) -> Value:
             value = shown_in(book, scenario, cell)
             if isinstance(book.sheet.contents.get(cell), Formula):
                 self.shown[value.name if isinstance(value, Error) else "no error"] += 1
             return value
 
-        def counted_what_if(sheet, cell, pairs):
+        def counted_what_if(sheet: Sheet, cell: Cell, pairs: list[tuple[Cell, Cell]]) -> Value:
             self.what_ifs += 1
             return what_if(sheet, cell, pairs)
 

@@ -1,15 +1,12 @@
 """The replies of the program and of the reference to one script, and where they differ."""
 
 import subprocess
-import sys
 import traceback
 from collections.abc import Callable
 from dataclasses import dataclass
-from pathlib import Path
 
-sys.path.insert(0, str(Path(__file__).resolve().parents[1] / "reference"))
-
-from whatif import replies_to  # noqa: E402
+from tests.reference.whatif import replies_to
+from tests.support.program import run
 
 SECONDS = 60
 KEEPS: tuple[tuple[str, ...], ...] = (("--keep", "1"), ("--keep", "2"), ())
@@ -48,11 +45,11 @@ def program(path: str, words: tuple[str, ...]) -> Subject:
 
     def answer(script: bytes) -> Answer:
         try:
-            ran = subprocess.run([path, *words], input=script, capture_output=True, timeout=SECONDS)
+            ran = run(script, words, SECONDS, path)
         except subprocess.TimeoutExpired:
             return Answer(b"", f"not ended after {SECONDS} seconds")
-        fault = f"status {ran.returncode}, on standard error {ran.stderr[:200]!r}" if ran.returncode or ran.stderr else ""
-        return Answer(ran.stdout, fault)
+        fault = f"status {ran.status}, on standard error {ran.told[:200]!r}" if ran.status or ran.told else ""
+        return Answer(ran.written, fault)
 
     return answer
 

@@ -1,6 +1,6 @@
 """Constants as scripts spell them: numbers, texts and truth values, plain ones mostly and the odd ones at the limits."""
 
-from draft import Draft, Kind
+from tests.differential.draft import Draft, Kind
 
 MAX = 2**127 - 1
 SMALL = [str(number) for number in range(-4, 13)]

@@ -1,9 +1,11 @@
 """What a script has so far, as far as its generator has to know it so that most lines make sense."""
 
-from collections.abc import Sequence
+from collections.abc import Mapping, Sequence
 from dataclasses import dataclass, field
 from random import Random
 from typing import TypeVar
+
+from whatif_tools.sheet import COLUMNS, ROWS, column_letters
 
 Cell = tuple[int, int]
 """A row and a column, counted from 0."""
@@ -11,17 +13,11 @@ Cell = tuple[int, int]
 Kind = str
 """`number`, `text` or `truth`: what a cell most probably shows."""
 
-COLUMNS = 16_384
-ROWS = 1_048_576
 Choice = TypeVar("Choice")
 
 
 def letters(column: int) -> str:
-    text, left = "", column + 1
-    while left:
-        left, digit = divmod(left - 1, 26)
-        text = chr(65 + digit) + text
-    return text
+    return column_letters(column + 1)
 
 
 def word(cell: Cell) -> str:
@@ -79,7 +75,7 @@ class Draft:
     def chance(self, percent: float) -> bool:
         return self.random.random() * 100 < percent
 
-    def pick(self, weights: dict[Choice, float]) -> Choice:
+    def pick(self, weights: Mapping[Choice, float]) -> Choice:
         return self.random.choices(list(weights), list(weights.values()))[0]
 
     def one(self, choices: Sequence[Choice]) -> Choice:

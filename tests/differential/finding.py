@@ -3,10 +3,10 @@
 import sys
 from collections.abc import Iterator
 
-from compare import Answer, Subject, reference
-from generate import script
-from planted import PLANTED, Planted
-from whatif import in_deep_thread
+from tests.differential.compare import Answer, Subject, reference
+from tests.differential.generate import script
+from tests.differential.planted import PLANTED, Planted
+from tests.reference.whatif import in_deep_thread
 
 MOST = 2_000
 

@@ -2,16 +2,19 @@
 
 import re
 
-import contents
-from draft import COLUMNS, ROWS, Area, Cell, Draft, Kind, letters
+from tests.differential import contents
+from tests.differential.draft import Area, Cell, Draft, Kind, letters
+from whatif_tools.sheet import COLUMNS, ROWS
 
 # A placeholder is {n} a number, {z} one that isn't zero, {e} a small whole number, {d} a number of places, {p} a place, {t} a text,
 # {l} a truth value, {v} any value, {r} a range, {s} another of the same size, {w} one of one row or column, {i} items, {q} a criterion,
 # {x} the greatest number, {m} a what-if.
 TEMPLATES: dict[Kind, dict[str, float]] = {
     "number": {
-        "{n}+{n}": 6, "{n}-{n}": 5, "{n}*{n}": 5, "{n}/{z}": 4, "{n}^{e}": 2, "{n}%": 2, "(100/{x})%*{x}": 0.4, "-{n}": 2, "+{n}": 1, "({n})": 2, "{n}*({n}+{n})": 3,
-        "{m}": 10, "{m}+{n}": 3, "ABS({n})": 1, "SIGN({n})": 1, "INT({n})": 1.5, "ROUND({n};{d})": 3, "ROUND({n})": 1.5, "ROUND({n}/{z};{d})": 1, "ROUND({n}/2)": 1.5, "ROUND({n}/20;1)": 0.7,
+        "{n}+{n}": 6, "{n}-{n}": 5, "{n}*{n}": 5, "{n}/{z}": 4, "{n}^{e}": 2, "{n}%": 2, "(100/{x})%*{x}": 0.4, "-{n}": 2, "+{n}": 1, "({n})": 2,
+        "{n}*({n}+{n})": 3,
+        "{m}": 10, "{m}+{n}": 3, "ABS({n})": 1, "SIGN({n})": 1, "INT({n})": 1.5, "ROUND({n};{d})": 3, "ROUND({n})": 1.5, "ROUND({n}/{z};{d})": 1,
+        "ROUND({n}/2)": 1.5, "ROUND({n}/20;1)": 0.7,
         "ROUNDUP({n};{d})": 1, "ROUNDUP({n})": 0.5, "ROUNDDOWN({n};{d})": 1, "ROUNDDOWN({n})": 0.5, "TRUNC({n};{d})": 1, "TRUNC({n})": 0.5,
         "QUOTIENT({n};{z})": 1, "MOD({n};{z})": 1.5, "POWER({n};{e})": 1, "SUM({i})": 5, "PRODUCT({i})": 1.5, "MIN({i})": 1.5, "MAX({i})": 1.5,
         "AVERAGE({i})": 1.5, "COUNT({i})": 1.5, "COUNTA({i})": 1.5, "SUMPRODUCT({r};{s})": 1.5, "SUMPRODUCT({r})": 0.5, "SUMPRODUCT({r};{s};{s})": 0.5,
@@ -53,7 +56,8 @@ UNUSUAL = [
     "=2^-1%", "=50%%", "=1e100*0", "=0^0", "=0^-1", "=0^-0.5", "=2^0.5", "=-1^9999999", "=2^127", "=2^126-1+2^126", "=ROUND(0;39)", "=ROUND(5;-38)",
     "=MOD(-7;3)", "=MOD(7;-3)", "=1/3*3=1", "=0.1+0.2=0.3", "=\"a\"\"b\"", "=1<2<3", "=\"é\"<\"z\"", "=\"\ud7ff\"<\"😀\"", "=\"\uffee\"<\"😀\"",
     "=LEN(\"😀a\u0301\")", "=SUM(TRUE();\"1\")", "=COUNT(1;\"2\";1/0)", "=IF(1;2;1/0)", "=_x.y(1)", "= SUM ( 1 ; 2 )", "=sum(1;2)", "=Sum(1;\t2)",
-    "=(1/170141183460469231731687303715884105727)%", "=(100/170141183460469231731687303715884105727)%", "=(50/170141183460469231731687303715884105727)%", "=(200/170141183460469231731687303715884105726)%",
+    "=(1/170141183460469231731687303715884105727)%", "=(100/170141183460469231731687303715884105727)%", "=(50/170141183460469231731687303715884105727)%",
+    "=(200/170141183460469231731687303715884105726)%",
     "=REPT(\"x\";32767)&\"y\"", "=REPT(\"é\";16384)",
     "=CONCATENATE(REPT(\"x\";32767);\"y\";1/0)", "=REPT(\"\";1e30)", "=" + "1+" * 2_040 + "1", "=SUM(" + ";".join("1" for _ in range(300)) + ")",
     "=1e" + "0" * 50 + "1", "=0." + "0" * 200 + "1e201", "=1" + "0" * 100 + "e-100", "=INDEX([.A1:.B2];0;9)", "=CHOOSE(0;1/0)", "=CHOOSE(3;1;2)",
@@ -287,4 +291,3 @@ class Formulas:
         weights = {"number": 60, "filled": 10, "any": 8, "depending": 30, "far": 8}
         usable = {name: weight for name, weight in weights.items() if pools[name]}
         return input_cell, draft.one(pools[draft.pick(usable)])
-

@@ -6,9 +6,10 @@ A script is drawn from a random number generator that its seed and number begin,
 from collections.abc import Callable
 from random import Random
 
-import contents
-from draft import COLUMNS, ROWS, Area, Cell, Draft, Kind, letters, word
-from formulas import Formulas
+from tests.differential import contents
+from tests.differential.draft import Area, Cell, Draft, Kind, letters, word
+from tests.differential.formulas import Formulas
+from whatif_tools.sheet import COLUMNS, ROWS
 
 NAMES = ["s", "t", "u", "v"]
 SESSIONS = ["main", "ana", "bo"]
@@ -31,7 +32,8 @@ THEMES: dict[str, tuple[float, dict[str, float]]] = {
 }
 ODD_ADDRESSES = ["A0", "a01", "1A", "A", "7", "A1:B", ":A1", "A1:", "A-1", "$A$1", "A1:B2:C3", "XFE1", "A1048577", "XFE1048577", "ZZZZ1", "A99999999999", "é1"]
 ODD_LINES = [
-    b"frob", b"SHOW A1", b"set", b"set A1", b"set A1 ", b"set  A1 5", b"set A1  5", b" set A1 5", b"show", b"show A1 B1", b"clear", b"fill A1", b"fill A1 B1 C1",
+    b"frob", b"SHOW A1", b"set", b"set A1", b"set A1 ", b"set  A1 5", b"set A1  5", b" set A1 5", b"show", b"show A1 B1", b"clear", b"fill A1",
+    b"fill A1 B1 C1",
     b"csv", b"csv A1", b"csv A1 x", b"csv A1 1000001", b"csv A1 00000001", b"csv A1 0", b"force", b"force show A1", b"force  set A2 1", b" force set A2 1",
     b"force force set A1 1", b"force set A1", b"force clear", b"changes A1", b"changes ", b"use s t", b"use  ", b"as", b"as a b", b"as a-b",
     b"as 123456789012345678901234567890123", b"as _", b"scenario", b"scenario s", b"scenario s-t A1 1", b"scenario s A1", b"scenario s A1 ",
@@ -330,7 +332,8 @@ class Commands:
             case "address":
                 return self.line(*draft.one([("show",), ("clear",), ("formula",), ("fill", "A1"), ("table", "A1", "A1")]), draft.one(ODD_ADDRESSES))
             case "long":
-                return draft.one([b"#" + b"x" * 65_535, b"#" + b"x" * 65_536, b" " * 65_535 + b"\r", b" " * 65_536 + b"\r", b"csv A1 1" + b" " * 65_530]) + b"\n"
+                longest = [b"#" + b"x" * 65_535, b"#" + b"x" * 65_536, b" " * 65_535 + b"\r", b" " * 65_536 + b"\r", b"csv A1 1" + b" " * 65_530]
+                return draft.one(longest) + b"\n"
         line = self.make(draft.one(["constant", "clear", "fill", "show", "compare", "table", "scenario", "base", "use", "session", "export", "print"]))
         return self.changed(line.split(b"\n")[0]) + b"\n"
 
@@ -394,7 +397,8 @@ class ScriptMaker:
     def area(self) -> Area:
         """The upper left corner of the sheet mostly, or any other place, also at its far end."""
         rows, columns = self.random.randint(4, 8), self.random.randint(3, 6)
-        top, left = self.random.choices([(0, 0), (7, 24), (99, 700), (ROWS - rows, 0), (0, COLUMNS - columns), (ROWS - rows, COLUMNS - columns)], [40, 2, 2, 1, 1, 1])[0]
+        corners = [(0, 0), (7, 24), (99, 700), (ROWS - rows, 0), (0, COLUMNS - columns), (ROWS - rows, COLUMNS - columns)]
+        top, left = self.random.choices(corners, [40, 2, 2, 1, 1, 1])[0]
         return Area(top, left, rows, columns)
 
     def script(self) -> bytes:

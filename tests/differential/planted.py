@@ -1,19 +1,15 @@
 """Wrong references: each has one mistake that is easily made, planted into the reference for a while."""
 
-from collections.abc import Callable, Iterator
+from collections.abc import Callable, Iterable, Iterator, Mapping
 from contextlib import AbstractContextManager, ExitStack, contextmanager
 from fractions import Fraction
 from unittest import mock
 
-import compare  # noqa: F401  (finds the reference)
-import csv_reader
-import exact
-import functions
-import values
-import workbook
-from grammar import reads
-from sheet import Formula, Sheet, cells_of, is_within, size
-from workbook import Workbook
+from tests.reference import csv_reader, exact, functions, values, workbook
+from tests.reference.grammar import reads
+from tests.reference.sheet import Cell, Content, Formula, Rectangle, Sheet, cells_of, is_within, size
+from tests.reference.values import Value
+from tests.reference.workbook import Workbook
 
 Planted = AbstractContextManager[object]
 
@@ -39,7 +35,7 @@ def stale_value_after_an_edit() -> Planted:
     """An edit raises the formulas that read the edited cells themselves, and not those further on."""
     edit = Workbook.edit
 
-    def edited(book, force, named, puts):
+    def edited(book: Workbook, force: bool, named: list[Rectangle], puts: Mapping[Cell, Content]) -> str:
         before = book.sheet
         edit(book, force, named, puts)
         for old in before.copies.values():
@@ -53,22 +49,22 @@ def stale_value_after_an_edit() -> Planted:
     return mock.patch.object(Workbook, "edit", edited)
 
 
-def reads_one_of(formula: Formula, cells) -> bool:
+def reads_one_of(formula: Formula, cells: Iterable[Cell]) -> bool:
     return any(is_within(cell, rectangle) for rectangle in reads(formula.tree) for cell in cells)
 
 
 def circular_only_on_a_cycle() -> Planted:
     """What only reads a cycle isn't taken to be circular."""
 
-    def find(sheet: Sheet) -> set:
+    def find(sheet: Sheet) -> set[Cell]:
         formulas = [cell for cell, content in sheet.contents.items() if isinstance(content, Formula)]
         return {cell for cell in formulas if comes_back(sheet, cell)}
 
     return mock.patch.object(Sheet, "find_circular", find)
 
 
-def comes_back(sheet: Sheet, cell) -> bool:
-    found: set = set()
+def comes_back(sheet: Sheet, cell: Cell) -> bool:
+    found: set[Cell] = set()
     left = [cell]
     while left:
         for read in sheet.formulas_read(left.pop()):
@@ -81,7 +77,7 @@ def comes_back(sheet: Sheet, cell) -> bool:
 def empty_value_is_forgotten() -> Planted:
     """An Empty value doesn't empty the input."""
 
-    def what_if(sheet: Sheet, cell, pairs):
+    def what_if(sheet: Sheet, cell: Cell, pairs: list[tuple[Cell, Cell]]) -> Value:
         put = {at: sheet.value(source) for at, source in pairs}
         return sheet.with_values({at: value for at, value in put.items() if value is not None}).value(cell)
 
@@ -89,7 +85,7 @@ def empty_value_is_forgotten() -> Planted:
 
 
 def second_value_after_the_first_put() -> Planted:
-    def what_if(sheet: Sheet, cell, pairs):
+    def what_if(sheet: Sheet, cell: Cell, pairs: list[tuple[Cell, Cell]]) -> Value:
         for at, source in pairs:
             sheet = sheet.with_values({at: sheet.value(source)})
         return sheet.value(cell)
@@ -98,7 +94,7 @@ def second_value_after_the_first_put() -> Planted:
 
 
 def scenario_cuts_a_cycle() -> Planted:
-    def shown_in(book, scenario, cell):
+    def shown_in(book: Workbook, scenario: str | None, cell: Cell) -> Value:
         return book.sheet.with_values(book.effective(scenario)).value(cell)
 
     return mock.patch.object(Workbook, "shown_in", shown_in)
@@ -108,8 +104,8 @@ def scenario_cuts_a_cycle() -> Planted:
 
 
 def base_overrides_own() -> Planted:
-    def effective(book, name):
-        put: dict = {}
+    def effective(book: Workbook, name: str | None) -> dict[Cell, Value]:
+        put: dict[Cell, Value] = {}
         for scenario in book.chain(name):
             put |= book.scenarios[scenario].own
         return put
@@ -120,7 +116,7 @@ def base_overrides_own() -> Planted:
 def own_edits_are_stale() -> Planted:
     stale = Workbook.stale
 
-    def own_too(book, named):
+    def own_too(book: Workbook, named: list[Rectangle]) -> Cell | None:
         current, book.current = book.current, -1
         try:
             book.sessions.append(book.sessions[current])
@@ -135,7 +131,7 @@ def own_edits_are_stale() -> Planted:
 def changes_compare_texts() -> Planted:
     changes = Workbook.changes
 
-    def by_text(book):
+    def by_text(book: Workbook) -> str:
         with mock.patch.object(workbook, "same", lambda left, right: values.shown(left) == values.shown(right)):
             return changes(book)
 
@@ -156,8 +152,8 @@ def rounds_half_to_even() -> Planted:
 def match_takes_less_alone() -> Planted:
     position = functions.position
 
-    def less_alone(a, sought, rectangle, order):
-        def compared(left, right):
+    def less_alone(a: functions.Arguments, sought: Value, rectangle: Rectangle, order: Fraction) -> int:
+        def compared(left: Value, right: Value) -> int:
             found = values.compare(left, right)
             return 1 if found == 0 and order > 0 else found
 
@@ -170,12 +166,12 @@ def match_takes_less_alone() -> Planted:
 def empty_cells_are_unequal() -> Planted:
     """An Empty cell meets a criterion of `<>`."""
 
-    def meeting(a, rectangle, criterion):
+    def meeting(a: functions.Arguments, rectangle: Rectangle, criterion: Value) -> list[Cell]:
         rows, columns = size(rectangle)
         cells = cells_of(rectangle) if rows * columns < 1_000 else a.sheet.occupied_in(rectangle)
         return [cell for cell in cells if meets(a.sheet.value(cell), criterion)]
 
-    def meets(cell, criterion) -> bool:
+    def meets(cell: Value, criterion: Value) -> bool:
         if cell is None:
             return isinstance(criterion, str) and criterion.startswith("<>")
         return values.meets(cell, criterion)

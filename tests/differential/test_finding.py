@@ -2,22 +2,20 @@
 
 import os
 import re
-import stat
 import subprocess
 import sys
-import tempfile
 import unittest
 from collections.abc import Callable
-from pathlib import Path
 
-from compare import Answer, difference, reference
-from finding import MOST, Answers, found_after, planted_subject
-from generate import script
-from planted import PLANTED
-from shrink import lines_of, shrunk
-from whatif import in_deep_thread
+from tests import ROOT
+from tests.differential.compare import Answer, difference, reference
+from tests.differential.finding import MOST, Answers, found_after, planted_subject
+from tests.differential.generate import script
+from tests.differential.planted import PLANTED
+from tests.differential.shrink import lines_of, shrunk
+from tests.reference.whatif import in_deep_thread
+from tests.support.scratch import ScratchTest, made_script
 
-FOLDER = Path(__file__).resolve().parent
 SEED = 7
 
 
@@ -38,11 +36,11 @@ def deep(work: Callable[[], None]) -> None:
 
 class Generating(unittest.TestCase):
     def test_the_same_seed_draws_the_same_scripts(self) -> None:
-        words = "import sys; from generate import script; sys.stdout.buffer.write(b''.join(script(3, n) for n in range(50)))"
+        words = "import sys; from tests.differential.generate import script; sys.stdout.buffer.write(b''.join(script(3, n) for n in range(50)))"
         drawn = []
         for hashing in ("1", "2"):
             environment = {**os.environ, "PYTHONHASHSEED": hashing}
-            drawn.append(subprocess.run([sys.executable, "-c", words], cwd=FOLDER, env=environment, capture_output=True, check=True).stdout)
+            drawn.append(subprocess.run([sys.executable, "-c", words], cwd=ROOT, env=environment, capture_output=True, check=True).stdout)
         self.assertEqual(drawn[0], drawn[1])
         self.assertEqual(drawn[0], b"".join(script(3, number) for number in range(50)))
 
@@ -69,7 +67,11 @@ class Finding(unittest.TestCase):
         deep(find)
 
     def test_the_reference_agrees_with_itself(self) -> None:
-        deep(lambda: [self.assertIsNone(difference(script(SEED, number), {"itself": reference})) for number in range(20)] and None)
+        def compare() -> None:
+            for number in range(20):
+                self.assertIsNone(difference(script(SEED, number), {"itself": reference}))
+
+        deep(compare)
 
     def test_a_fault_is_a_difference(self) -> None:
         found = difference(b"show A1\n", {"ended": lambda made: Answer(reference(made).replies, "status 1")})
@@ -106,14 +108,10 @@ class Shrinking(unittest.TestCase):
         self.assertEqual(shrunk(made, lambda smaller: re.search(rb"csv B1 [0-9]\n.*4\n", smaller, re.DOTALL) is not None), b"csv B1 1\n4\n")
 
 
-class Running(unittest.TestCase):
+class Running(ScratchTest):
     def test_a_wrong_program(self) -> None:
-        with tempfile.TemporaryDirectory() as scratch:
-            wrong = Path(scratch) / "wrong"
-            wrong.write_text("#!/bin/sh\ncat > /dev/null\necho wrong\n")
-            wrong.chmod(wrong.stat().st_mode | stat.S_IXUSR)
-            environment = {**os.environ, "WHATIF": str(wrong)}
-            ran = subprocess.run([FOLDER / "run", "--seed", "5", "--scripts", "3"], env=environment, capture_output=True, text=True)
+        environment = {**os.environ, "WHATIF": str(made_script(self.folder / "wrong", "cat > /dev/null\necho wrong"))}
+        ran = subprocess.run([ROOT / "tests/differential/run", "--seed", "5", "--scripts", "3"], env=environment, capture_output=True, text=True)
         self.assertEqual(ran.returncode, 1)
         self.assertTrue(ran.stdout.startswith("seed 5\n"), ran.stdout)
         self.assertTrue(ran.stdout.endswith("0 passed, 3 failed\n"), ran.stdout)

@@ -2,7 +2,6 @@
 
 import os
 import re
-import runpy
 import shutil
 import subprocess
 import sys
@@ -10,14 +9,14 @@ import tempfile
 import unittest
 from pathlib import Path
 
-ROOT = Path(__file__).resolve().parents[2]
+from tests import ROOT
+from tests.support.loading import loaded
+from tests.support.program import PROGRAM
+from tests.support.scratch import made_script
+
 PEERS = ROOT / "bench/peers"
-PROGRAM = os.environ.get("WHATIF", str(ROOT / "crates/whatif/out/whatif"))
 ROW = re.compile(r"\| ([^|]+) \| \d+\.\d{3} \| \d+\.\d{3} \| [\d.]+ \| [\d.]* \|")
-STUB = """#!/bin/sh
-for file; do :; done
-echo 5 > "$file"
-"""
+STUB = 'for file; do :; done\necho 5 > "$file"'
 
 
 def called(path: str | None = None) -> tuple[int, list[str]]:
@@ -39,15 +38,13 @@ class Peers(unittest.TestCase):
 
     def test_another_answer_is_told(self) -> None:
         with tempfile.TemporaryDirectory() as folder:
-            stub = Path(folder) / "ssconvert"
-            stub.write_text(STUB)
-            stub.chmod(0o755)
+            made_script(Path(folder) / "ssconvert", STUB)
             status, lines = called(f"{folder}:{os.environ['PATH']}")
         self.assertEqual(status, 1)
         self.assertIn("chain of 50, its end shown: record 1 is 50 for the program, and 5 for Gnumeric", lines)
 
     def test_numbers_are_compared_to_15_digits(self) -> None:
-        difference = runpy.run_path(str(PEERS))["difference"]
+        difference = loaded(PEERS).difference
         for ours, theirs, told in (
             ([["1/3", "a"]], [["0.33333333333333333334", "a"]], False),
             ([["0.3"]], [["0.30000000000000004"]], False),

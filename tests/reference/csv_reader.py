@@ -13,7 +13,7 @@ class Reader:
         self.at = 0
 
     def records(self) -> list[list[bytes]]:
-        found = []
+        found: list[list[bytes]] = []
         while True:
             while self.at < len(self.data) and self.data[self.at] in b"\r\n":
                 self.at += 1
@@ -38,7 +38,7 @@ class Reader:
 
     def quoted(self) -> bytes:
         """What stands between quotes, doubled ones once; an unclosed quote runs to the end."""
-        parts = []
+        parts: list[bytes] = []
         start = self.at + 1
         while True:
             end = self.data.find(b'"', start)

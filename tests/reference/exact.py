@@ -2,6 +2,7 @@
 
 import re
 import sys
+from collections.abc import Callable
 from fractions import Fraction
 from math import lcm
 
@@ -74,7 +75,7 @@ def half_away(x: Fraction) -> int:
     return size if x >= 0 else -size
 
 
-def round_to(x: Fraction, places: int, whole) -> Fraction:
+def round_to(x: Fraction, places: int, whole: Callable[[Fraction], int]) -> Fraction:
     """x times a power of ten, made whole, times the reciprocal of that power; both products may overflow."""
     if not -38 <= places <= 38:
         raise Overflow

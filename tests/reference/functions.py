@@ -3,10 +3,10 @@
 from collections.abc import Callable, Iterator
 from fractions import Fraction
 
-import exact
-from grammar import Binary, Call, Number, Parenthesised, Percent, Reference, Signed, Text, Tree, WhatIf
-from sheet import Cell, Rectangle, Sheet, size, what_if_of
-from values import (
+from tests.reference import exact
+from tests.reference.grammar import Binary, Call, Number, Parenthesised, Percent, Reference, Signed, Text, Tree, WhatIf
+from tests.reference.sheet import Cell, Rectangle, Sheet, size, what_if_of
+from tests.reference.values import (
     HOLDS,
     NAME,
     NOT_AVAILABLE,
@@ -44,8 +44,10 @@ def meaning(sheet: Sheet, tree: Tree) -> Value:
 
 def evaluated(sheet: Sheet, tree: Tree) -> Value:
     match tree:
-        case Number(value) | Text(value):
-            return value
+        case Number():
+            return tree.value
+        case Text():
+            return tree.value
         case Reference():
             return scalar(sheet, tree.rectangle())
         case Parenthesised(inner):
@@ -211,7 +213,7 @@ def modulo(a: Arguments) -> Value:
 function("POWER", 2)(lambda a: raised(a.number(0), a.number(1)))
 
 
-def folded(a: Arguments, operation, first: Fraction) -> Fraction:
+def folded(a: Arguments, operation: Callable[[Fraction, Fraction], Fraction], first: Fraction) -> Fraction:
     total = first
     for x in a.numbers():
         total = calculated(operation, total, x)
@@ -459,4 +461,3 @@ def repeated(a: Arguments) -> Value:
     part, count = a.text(0), a.whole(1)
     not_below(0, count)
     return bounded(part * min(count, 40_000 // max(1, len(part)) + 1))
-

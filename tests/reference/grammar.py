@@ -1,10 +1,11 @@
 """Formulas of the reference: tokens, trees, and the texts of trees."""
 
 import re
+from collections.abc import Callable
 from dataclasses import dataclass
 from fractions import Fraction
 
-from exact import Overflow, decimal_text, scaled
+from tests.reference.exact import Overflow, decimal_text, scaled
 
 COLUMNS = 16_384
 ROWS = 1_048_576
@@ -144,7 +145,8 @@ class Token:
 
 def tokens_of(body: str) -> tuple[list[Token], bool]:
     """The tokens up to the first bad one or the end, and whether the end was reached."""
-    tokens, at = [], 0
+    tokens: list[Token] = []
+    at = 0
     while True:
         while at < len(body) and body[at] in BLANKS:
             at += 1
@@ -229,7 +231,7 @@ class Parser:
             raise Refused("E05")
         self.at += 1
 
-    def chain(self, operators: tuple[str, ...], part) -> Tree:
+    def chain(self, operators: tuple[str, ...], part: Callable[[], Tree]) -> Tree:
         tree = part()
         while self.mark() in operators:
             operator = self.take().text
@@ -325,14 +327,18 @@ def reads(tree: Tree) -> list[tuple[int, int, int, int]]:
     return [rectangle for part in parts_of(tree) for rectangle in reads(part)]
 
 
+def moved_reference(reference: Reference, down: int, right: int) -> Reference:
+    return Reference(reference.corner.moved(down, right), reference.other and reference.other.moved(down, right))
+
+
 def moved(tree: Tree, down: int, right: int) -> Tree:
     match tree:
-        case Reference(corner, other):
-            return Reference(corner.moved(down, right), other and other.moved(down, right))
+        case Reference():
+            return moved_reference(tree, down, right)
         case Call(name, arguments):
             return Call(name, tuple(moved(a, down, right) for a in arguments))
         case WhatIf(references):
-            return WhatIf(tuple(moved(r, down, right) for r in references))  # type: ignore[misc]
+            return WhatIf(tuple(moved_reference(r, down, right) for r in references))
         case Parenthesised(inner):
             return Parenthesised(moved(inner, down, right))
         case Signed(sign, inner):

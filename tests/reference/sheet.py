@@ -2,8 +2,8 @@
 
 from dataclasses import dataclass, field
 
-from grammar import Tree, WhatIf, reads
-from values import CIRCULAR, Value, kind
+from tests.reference.grammar import Tree, WhatIf, reads
+from tests.reference.values import CIRCULAR, Value, kind
 
 Cell = tuple[int, int]
 """A row and a column, counted from 0, so that cells are ordered row by row."""
@@ -41,7 +41,7 @@ class Sheet:
 
     contents: dict[Cell, Content]
     known: dict[Cell, Value] = field(default_factory=dict)
-    copies: dict[frozenset, "Sheet"] = field(default_factory=dict)
+    copies: dict[frozenset[tuple[Cell, str, Value]], "Sheet"] = field(default_factory=dict)
     """Edited copies by all that was put into the first sheet, with its kinds (TRUE equals 1), so that one copy isn't made twice."""
     put: dict[Cell, Value] = field(default_factory=dict)
     circular_cells: set[Cell] | None = None
@@ -58,8 +58,8 @@ class Sheet:
         put = {**self.put, **values}
         every = frozenset((cell, kind(value), value) for cell, value in put.items())
         if every not in self.copies:
-            contents = {**self.contents, **values}
-            kept = {cell: content for cell, content in contents.items() if content is not None}
+            contents: dict[Cell, Content] = {**self.contents, **values}
+            kept: dict[Cell, Content] = {cell: content for cell, content in contents.items() if content is not None}
             self.copies[every] = Sheet(kept, copies=self.copies, put=put)
         return self.copies[every]
 
@@ -106,7 +106,7 @@ class Sheet:
         return self.known[cell]
 
     def value_of_formula(self, cell: Cell, tree: Tree) -> Value:
-        from functions import result
+        from tests.reference.functions import result
 
         return CIRCULAR if self.circular(cell) else result(self, tree)
 
@@ -118,5 +118,3 @@ class Sheet:
 def what_if_of(sheet: Sheet, node: WhatIf) -> Value:
     cells = [reference.corner.cell for reference in node.references]
     return sheet.what_if(cells[0], list(zip(cells[1::2], cells[2::2])))
-
-

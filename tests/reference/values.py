@@ -1,9 +1,11 @@
 """Values of the reference: Empty is None, a Number a Fraction, a Text a str, a Logical a bool, an error an Error."""
 
+from collections.abc import Callable
 from dataclasses import dataclass
 from fractions import Fraction
+from typing import Any
 
-import exact
+from tests.reference import exact
 
 LONGEST_TEXT = 32_767
 
@@ -100,7 +102,7 @@ def whole(value: Value) -> int:
     return exact.truncate(number(value))
 
 
-def calculated(operation, *operands):
+def calculated(operation: Callable[..., Fraction], *operands: object) -> Fraction:
     """The result of an operation on numbers, or its error."""
     try:
         return operation(*operands)
@@ -127,7 +129,7 @@ def bounded(result: str) -> str:
 RANK = {"N": 0, "T": 1, "L": 2}
 
 
-def key(value: Value):
+def key(value: Value) -> Any:
     """What values of one kind are ordered by."""
     return value.encode() if isinstance(value, str) else value
 
@@ -136,15 +138,15 @@ def compare(left: Value, right: Value) -> int:
     """-1, 0 or 1 for two values that aren't errors. An Empty one becomes what the other needs."""
     if left is None and right is None:
         return 0
-    blank = {"N": Fraction(0), "T": "", "L": False}
+    blank: dict[str, Value] = {"N": Fraction(0), "T": "", "L": False}
     left = blank[kind(right)] if left is None else left
     right = blank[kind(left)] if right is None else right
     if kind(left) != kind(right):
         return -1 if RANK[kind(left)] < RANK[kind(right)] else 1
-    return (key(left) > key(right)) - (key(left) < key(right))
+    return int(key(left) > key(right)) - int(key(left) < key(right))
 
 
-HOLDS = {
+HOLDS: dict[str, Callable[[int], bool]] = {
     "=": lambda order: order == 0,
     "<>": lambda order: order != 0,
     "<": lambda order: order < 0,
@@ -156,7 +158,8 @@ HOLDS = {
 
 def meets(cell: Value, criterion: Value) -> bool:
     """Whether a cell meets a criterion, which is no error."""
-    operator, operand = "=", Fraction(0) if criterion is None else criterion
+    operator = "="
+    operand: Value = Fraction(0) if criterion is None else criterion
     if isinstance(criterion, str):
         operator = next((o for o in ("<>", "<=", ">=", "=", "<", ">") if criterion.startswith(o)), "")
         operand = imported(criterion[len(operator) :])

@@ -1,4 +1,3 @@
-#!/usr/bin/env python3
 """A plain, slow `whatif`: reads a script on standard input and writes the replies, with every value found from nothing.
 
 It was written from the definition in words, apart from the engine, and shares no code with it.
@@ -7,11 +6,12 @@ It was written from the definition in words, apart from the engine, and shares n
 import re
 import sys
 import threading
+from collections.abc import Callable
 from dataclasses import dataclass
 
-from grammar import COLUMNS, ROWS, Refused, column_number
-from sheet import Cell, Rectangle
-from workbook import Workbook
+from tests.reference.grammar import COLUMNS, ROWS, Refused, column_number
+from tests.reference.sheet import Cell, Rectangle
+from tests.reference.workbook import Workbook
 
 LONGEST_LINE = 65_536
 MOST_DATA_LINES = 1_000_000
@@ -34,10 +34,9 @@ def without_end(line: bytes) -> bytes:
     return line.removesuffix(b"\n")
 
 
-def split_word(text):
+def split_word(text: str) -> tuple[str, str]:
     """The first word, and everything behind the one space that follows it."""
-    blank = b" " if isinstance(text, bytes) else " "
-    word, _, rest = text.lstrip(blank).partition(blank)
+    word, _, rest = text.lstrip(" ").partition(" ")
     return word, rest
 
 
@@ -198,7 +197,7 @@ class Script:
             "scenario": self.scenario,
             "drop": lambda rest: self.book.drop(name(words(rest, 1)[0])),
             "base": self.base,
-            "use": lambda rest: self.book.use(*[name(w) for w in words(rest, 0, 1)] or [None]),
+            "use": self.use,
             "as": lambda rest: self.book.as_session(name(words(rest, 1)[0])),
             "show": lambda rest: self.book.show(self.area(rest)),
             "export": lambda rest: self.book.export(self.area(rest)),
@@ -210,6 +209,10 @@ class Script:
         if served is None:
             raise Refused("E02")
         return served(rest)
+
+    def use(self, rest: str) -> str:
+        named = words(rest, 0, 1)
+        return self.book.use(name(named[0]) if named else None)
 
     def area(self, rest: str) -> Rectangle:
         area = rectangle(words(rest, 1)[0])
@@ -260,7 +263,7 @@ def replies_to(script: bytes) -> list[bytes]:
     return Script().replies(script)
 
 
-def in_deep_thread(work) -> None:
+def in_deep_thread(work: Callable[[], None]) -> None:
     """Runs a function where a long chain of references may be followed."""
     sys.setrecursionlimit(10_000_000)
     threading.stack_size(512 * 1024 * 1024)

@@ -3,14 +3,15 @@
 A command first looks for the causes for which it is refused, in their order, and then changes the workbook.
 """
 
+from collections.abc import Mapping
 from dataclasses import dataclass, field
 from fractions import Fraction
 
-from csv_reader import records, row
-from exact import Overflow, subtract
-from grammar import COLUMNS, ROWS, Refused, column_letters, moved, parse, printed
-from sheet import Cell, Content, Formula, Rectangle, Sheet, cells_of, size
-from values import CIRCULAR, NUM, Value, imported, is_too_long, kind, same, shown
+from tests.reference.csv_reader import records, row
+from tests.reference.exact import Overflow, subtract
+from tests.reference.grammar import COLUMNS, ROWS, Refused, column_letters, moved, parse, printed
+from tests.reference.sheet import Cell, Content, Formula, Rectangle, Sheet, cells_of, size
+from tests.reference.values import CIRCULAR, NUM, Value, imported, is_too_long, kind, same, shown
 
 MOST_CELLS = 200_000
 MOST_EDITS = 1_000_000_000
@@ -136,11 +137,11 @@ class Workbook:
 
     # ---- edits
 
-    def edit(self, force: bool, named: list[Rectangle], puts: dict[Cell, Content]) -> str:
+    def edit(self, force: bool, named: list[Rectangle], puts: Mapping[Cell, Content]) -> str:
         """Does an edit that names these cells, unless it is stale or goes beyond a limit."""
         stale = None if force else self.stale(named)
         refuse_if(stale is not None, f"E18 {cell_text(stale)}" if stale else "")
-        contents = {cell: content for cell, content in {**self.sheet.contents, **puts}.items() if content is not None}
+        contents: dict[Cell, Content] = {cell: content for cell, content in {**self.sheet.contents, **puts}.items() if content is not None}
         refuse_if(len(contents) > MOST_CELLS, "E09")
         refuse_if(self.edits >= MOST_EDITS, "E17")
         self.sheet = Sheet(contents)
@@ -291,5 +292,3 @@ class Workbook:
             case _:
                 text = shown(content)
         return row([cell_text(cell), text])
-
-

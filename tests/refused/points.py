@@ -4,8 +4,8 @@ import os
 from collections.abc import Callable
 from dataclasses import dataclass, field
 
-from program import MEMORY_STATUS, Program, Refusal, Run
-from script import OUT_OF_MEMORY, BadReplies, Command, commands, inspection, joined, may_lack_memory, replies
+from tests.refused.program import MEMORY_STATUS, Program, Refusal, Run
+from tests.refused.script import OUT_OF_MEMORY, BadReplies, Command, commands, inspection, joined, may_lack_memory, replies
 
 CHANGES = Command(b"changes\n")
 MEMORY_TEXT = b"whatif: out of memory"

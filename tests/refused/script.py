@@ -3,17 +3,13 @@
 import re
 from dataclasses import dataclass
 
-LONGEST_LINE = 65_536
-MOST_LINES = 1_000_000
-LARGEST_LISTED_AREA = 512
+from whatif_tools import script as lines_of_script
+from whatif_tools.program import whole_replies
+from whatif_tools.sheet import COLUMNS, ROWS, column_letters, column_number
 
-FIELD = rb'"[^"]*(?:""[^"]*)*"'
-RECORD = FIELD + rb"(?:," + FIELD + rb")*\r\n"
-REPLY = re.compile(rb"(?:lines [0-9]+\n)?(?:" + RECORD + rb")*ok\n|refused E[0-9]{2}(?: [A-Z]+[0-9]+)?\n")
-DATA_COMMAND = re.compile(rb" *(?:force +)?csv +[^ ]+ +([0-9]{1,7}) *")
+LARGEST_LISTED_AREA = 512
 ADDRESS = re.compile(rb"\$?([A-Za-z]{1,3})\$?([1-9][0-9]{0,6})(?![0-9A-Za-z_])")
 AREA = re.compile(ADDRESS.pattern + rb"(?::\.?" + ADDRESS.pattern + rb")?")
-LAST_COLUMN, LAST_ROW = 16_384, 1_048_576
 
 OUT_OF_MEMORY = b"refused E01\n"
 FOUND_IN_WORDS = re.compile(rb"refused E(02|03|15)\n")
@@ -35,38 +31,10 @@ class Command:
     """Whether the input ends before its last data line, so that no command can follow it."""
 
 
-def data_lines(line: bytes) -> int:
-    """How many of the lines behind this one are its data."""
-    found = DATA_COMMAND.fullmatch(line.removesuffix(b"\r"))
-    if len(line) > LONGEST_LINE or not found:
-        return 0
-    count = int(found.group(1))
-    return count if count <= MOST_LINES else 0
-
-
-def is_passed_over(line: bytes) -> bool:
-    """Whether the line is a comment or blank. One that is too long, or isn't UTF-8, is answered."""
-    if len(line) > LONGEST_LINE:
-        return False
-    try:
-        line.decode()
-    except UnicodeDecodeError:
-        return False
-    text = line.removesuffix(b"\r")
-    return text.startswith(b"#") or not text.strip(b" ")
-
-
 def commands(script: bytes) -> list[Command]:
     """The commands of a script, without the lines that are passed over. A last line gets its LF where it lacks it."""
-    lines = [line + b"\n" for line in script.removesuffix(b"\n").split(b"\n")] if script else []
-    found, at = [], 0
-    while at < len(lines):
-        line = lines[at].removesuffix(b"\n")
-        taken = lines[at : at + 1 + data_lines(line)]
-        if not is_passed_over(line):
-            found.append(Command(b"".join(taken), len(taken) < 1 + data_lines(line)))
-        at += len(taken)
-    return found
+    lines = lines_of_script.lines_of(script)
+    return [Command(b"".join(line + b"\n" for line in lines[one.line - 1 : one.last_line]), one.is_cut) for one in lines_of_script.commands(lines)]
 
 
 def joined(parts: list[Command]) -> bytes:
@@ -76,13 +44,9 @@ def joined(parts: list[Command]) -> bytes:
 
 def replies(written: bytes) -> list[bytes]:
     """The replies that were written."""
-    found, at = [], 0
-    while at < len(written):
-        reply = REPLY.match(written, at)
-        if not reply:
-            raise BadReplies(f"no reply at byte {at}: {written[at : at + 40]!r}")
-        found.append(reply.group())
-        at = reply.end()
+    found, rest = whole_replies(written)
+    if rest:
+        raise BadReplies(f"no reply at byte {len(written) - len(rest)}: {rest[:40]!r}")
     return found
 
 
@@ -92,21 +56,6 @@ def may_lack_memory(command: Command, reply: bytes, is_first: bool) -> bool:
     if line.split()[:1] == [b"drop"]:
         return False
     return bool(data) or not (FOUND_BEFORE_MEMORY if is_first else FOUND_IN_WORDS).fullmatch(reply)
-
-
-def column_number(letters: bytes) -> int:
-    number = 0
-    for letter in letters.upper():
-        number = 26 * number + letter - ord("A") + 1
-    return number
-
-
-def column_name(number: int) -> str:
-    name = ""
-    while number:
-        number, digit = divmod(number - 1, 26)
-        name = chr(ord("A") + digit) + name
-    return name
 
 
 def area_cells(first: tuple[int, int], last: tuple[int, int]) -> list[tuple[int, int]]:
@@ -124,8 +73,8 @@ def named_areas(command: Command) -> list[tuple[tuple[int, int], tuple[int, int]
     areas = []
     for found in AREA.finditer(line):
         columns, rows, last_columns, last_rows = found.groups()
-        first = int(rows), column_number(columns)
-        areas.append((first, (int(last_rows), column_number(last_columns)) if last_columns else first))
+        first = int(rows), column_number(columns.decode())
+        areas.append((first, (int(last_rows), column_number(last_columns.decode())) if last_columns else first))
     if data and areas:
         row, column = areas[0][0]
         fields = 1 + max(one.count(b",") for one in data.split(b"\n"))
@@ -139,7 +88,7 @@ def named_cells(parts: list[Command]) -> list[str]:
     for part in parts:
         for first, last in named_areas(part):
             cells.update(area_cells(first, last))
-    return [f"{column_name(column)}{row}" for row, column in sorted(cells) if column <= LAST_COLUMN and row <= LAST_ROW]
+    return [f"{column_letters(column)}{row}" for row, column in sorted(cells) if column <= COLUMNS and row <= ROWS]
 
 
 def inspection(parts: list[Command]) -> list[Command]:

@@ -1,18 +1,17 @@
 """Planted faults of the program, each of which must be found, and none where nothing is planted."""
 
-import os
 import shutil
-import tempfile
 import unittest
 from collections.abc import Callable
 from dataclasses import replace
 from pathlib import Path
 
-from points import Amiss, Tally, Trial, amiss, tried
-from program import Program, Refusal, Run, compiled, compiler
-from script import OUT_OF_MEMORY, replies
+from tests.refused.points import Amiss, Tally, Trial, amiss, tried
+from tests.refused.program import Program, Refusal, Run, compiled, compiler
+from tests.refused.script import OUT_OF_MEMORY, replies
+from tests.support.program import PROGRAM
+from tests.support.scratch import ScratchTest
 
-PROGRAM = os.environ.get("WHATIF") or str(Path(__file__).resolve().parents[2] / "crates/whatif/out/whatif")
 SCRIPT = b"""set A1 5
 set A2 =[.A1]*2
 changes
@@ -139,12 +138,7 @@ class Refused(Program):
 
 
 @unittest.skipUnless(compiler(), "no C compiler")
-class Faults(unittest.TestCase):
-    def setUp(self) -> None:
-        scratch = tempfile.TemporaryDirectory()
-        self.addCleanup(scratch.cleanup)
-        self.folder = Path(scratch.name)
-
+class Faults(ScratchTest):
     def compiled(self, name: str, *flags: str) -> Path:
         made = compiled(name, self.folder, flags)
         assert made, f"{name}.c can't be compiled"

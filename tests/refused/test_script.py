@@ -2,7 +2,7 @@
 
 import unittest
 
-from script import BadReplies, Command, commands, inspection, may_lack_memory, named_cells, replies
+from tests.refused.script import BadReplies, Command, commands, inspection, may_lack_memory, named_cells, replies
 
 
 def texts(script: bytes) -> list[bytes]:

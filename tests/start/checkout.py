@@ -9,8 +9,10 @@ from collections.abc import Callable
 from dataclasses import dataclass
 from pathlib import Path
 
-FOLDER = Path(__file__).resolve().parent
-TOP = FOLDER.parent.parent
+from tests import ROOT
+from tests.support.scratch import ScratchTest, made_script
+
+FOLDER = ROOT / "tests/start"
 CRATES = "# the crates\nlow:\n# not of the program\nother: low\nhigh status=1: low\nwhatif: high low\n"
 PROGRAM_STATUS = 7
 FAILED = 1
@@ -23,20 +25,11 @@ echo '10 passed, 0 failed, 2 skipped'"""
 STUBS = (("rt", "bin"), ("rattle", "bin"), ("rattle-link", "bin"), ("clang", "toolchain/bin"))
 
 
-class Amiss(Exception):
-    """A script did something else."""
-
-
-def expect(what: str, got: object, wanted: object) -> None:
-    if got != wanted:
-        raise Amiss(f"{what}: {got!r}, and {wanted!r} is wanted")
-
-
 def wait_for(is_so: Callable[[], bool]) -> None:
     until = time.monotonic() + SECONDS
     while not is_so():
         if time.monotonic() > until:
-            raise Amiss("nothing came within so many seconds")
+            raise AssertionError("nothing came within so many seconds")
         time.sleep(0.05)
 
 
@@ -86,7 +79,7 @@ class Checkout:
     def environment(self, has_rt: bool, **more: str) -> dict[str, str]:
         rt = [f"{self.root}/bin"] if has_rt else []
         path = ":".join([*rt, f"{self.root}/python", "/usr/bin", "/bin"])
-        return {"PATH": path, "STUB_ROOT": str(self.root), "STUB_ELF": str(TOP / "tests" / "stub_elf.py"), "TMPDIR": str(self.root / "tmp"), **more}
+        return {"PATH": path, "STUB_ROOT": str(self.root), "STUB_ELF": str(ROOT / "tests/support/stub_elf.py"), "TMPDIR": str(self.root / "tmp"), **more}
 
     def begin(self, *words: str, has_rt: bool = True, by: str = "whatif", **more: str) -> "subprocess.Popen[str]":
         pipe = subprocess.PIPE
@@ -105,17 +98,6 @@ def ended(process: "subprocess.Popen[str]") -> Answer:
     return Answer(process.returncode, out, messages)
 
 
-def expect_program(answer: Answer, made: str, words: str = "") -> None:
-    expect("output", answer.out, f"made: {made}; words: {words}; folder: work\nline: set A1 1\n")
-    expect("status", answer.status, PROGRAM_STATUS)
-    expect("says that it is unproved", "not proved yet; " in answer.messages, made != PROVED)
-
-
-def script(file: Path, text: str) -> None:
-    file.write_text(f"#!/bin/sh\n{text}\n")
-    file.chmod(0o755)
-
-
 def checkout(root: Path) -> Checkout:
     place = Checkout(root)
     for name in ("bin", "python", "work", "start", "tests", "tmp", "crates/other/src", *(f"crates/{crate}/src" for crate in ("whatif", "high"))):
@@ -125,7 +107,7 @@ def checkout(root: Path) -> Checkout:
     for name in ("bin", "toolchain/bin", "toolchain/lib", "c"):
         (place.kit / name).mkdir(parents=True)
     for name in SCRIPTS:
-        shutil.copy(TOP / name, root / name)
+        shutil.copy(ROOT / name, root / name)
     for name, to in STUBS:
         shutil.copy(FOLDER / name, place.kit / to / name)
     shutil.copy(FOLDER / "make", root / "make")
@@ -133,7 +115,25 @@ def checkout(root: Path) -> Checkout:
         (place.kit / name).touch()
     (root / "bin" / "rt").symlink_to(place.kit / "bin" / "rt")
     (root / "python" / "python3").symlink_to(sys.executable)
-    script(root / "tests" / "run", RUNNER)
+    made_script(root / "tests" / "run", RUNNER)
     (root / "crates.txt").write_text(CRATES)
     place.source.write_text("main\n")
     return place
+
+
+class StartTest(ScratchTest):
+    """A test on a checkout of its own, in a folder whose name has a blank and a quote in it."""
+
+    is_written_until_the_end = True
+
+    def setUp(self) -> None:
+        super().setUp()
+        self.place = checkout(self.folder.resolve() / "it's a checkout")
+
+    def expect(self, what: str, got: object, wanted: object) -> None:
+        self.assertEqual(got, wanted, what)
+
+    def expect_program(self, answer: Answer, made: str, words: str = "") -> None:
+        self.expect("output", answer.out, f"made: {made}; words: {words}; folder: work\nline: set A1 1\n")
+        self.expect("status", answer.status, PROGRAM_STATUS)
+        self.expect("says that it is unproved", "not proved yet; " in answer.messages, made != PROVED)

@@ -5,6 +5,7 @@ import shutil
 import socket
 import subprocess
 import time
+from collections.abc import Callable
 from getpass import getuser
 from pathlib import Path
 
@@ -52,7 +53,7 @@ def found(name: str) -> "str | None":
 def free_port() -> int:
     with socket.socket() as free:
         free.bind(("127.0.0.1", 0))
-        return free.getsockname()[1]
+        return int(free.getsockname()[1])
 
 
 class Node:
@@ -86,7 +87,7 @@ class Node:
             environment = {**os.environ, **self.settings}
             self.running.append(subprocess.Popen(line, env=environment, stdin=subprocess.DEVNULL, stdout=log, stderr=log))
 
-    def wait_for(self, holds: object) -> None:
+    def wait_for(self, holds: Callable[[], bool]) -> None:
         end = time.monotonic() + 60
         while not holds():
             if time.monotonic() > end or any(it.poll() is not None for it in self.running):

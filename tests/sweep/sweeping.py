@@ -3,26 +3,24 @@
 import io
 import os
 import signal
-import stat
 import subprocess
 import sys
-import tempfile
-import unittest
 from collections.abc import Iterator
 from contextlib import contextmanager
-from fractions import Fraction
 from pathlib import Path
 from unittest import mock
 
+from tests import ROOT
+from tests.support.program import PROGRAM
+from tests.support.scratch import ScratchTest, made_program
+from tests.support.solar import left
 from whatif.sweeps.command import main
 from whatif.values import shown
 
-ROOT = Path(__file__).resolve().parents[2]
 TOOL = ROOT / "tools" / "whatif-sweep"
 SWEEP = ROOT / "examples" / "sweep"
 SOLAR = SWEEP / "model.whatif"
 SOLAR_CELLS = ("B1", "B3", "B4", "B6")
-PROGRAM = os.environ.get("WHATIF", str(ROOT / "crates" / "whatif" / "out" / "whatif"))
 
 TARIFF = """\
 set B1 250
@@ -43,22 +41,6 @@ def solar_sets(count: int) -> list[str]:
     """So many lines of sets for the solar roof, below their head."""
     made = subprocess.run([str(SWEEP / "sets"), str(count)], capture_output=True, text=True, check=True).stdout
     return [f"name,{','.join(SOLAR_CELLS)}", *made.splitlines()]
-
-
-def rounded(number: Fraction, places: int) -> Fraction:
-    """Half away from zero, as ROUND does."""
-    scaled = abs(number) * 10**places
-    return Fraction((2 * scaled.numerator + scaled.denominator) // (2 * scaled.denominator), 10**places) * (1 if number >= 0 else -1)
-
-
-def left(size: str, part: str, price: str, cost: str) -> Fraction:
-    """What is left of 20 years' income when the roof is paid for."""
-    output, income = Fraction(1), Fraction(0)
-    kilowatt_hour = Fraction(part) * Fraction(price) + (1 - Fraction(part)) * Fraction("0.08")
-    for _ in range(20):
-        income += rounded(Fraction(size) * 950 * output * kilowatt_hour, 2)
-        output = rounded(output * Fraction("0.995"), 6)
-    return income - Fraction(size) * Fraction(cost)
 
 
 def solar_result(line: str) -> str:
@@ -94,13 +76,11 @@ def in_folder(path: Path) -> "Iterator[None]":
         signal.signal(signal.SIGTERM, handler)
 
 
-class SweepTest(unittest.TestCase):
+class SweepTest(ScratchTest):
     """A test with a folder of its own, in which the tool runs."""
 
     def setUp(self) -> None:
-        kept = tempfile.TemporaryDirectory()
-        self.addCleanup(kept.cleanup)
-        self.folder = Path(kept.name)
+        super().setUp()
         self.model = self.folder / "model.whatif"
         self.model.write_text(TARIFF)
 
@@ -116,13 +96,13 @@ class SweepTest(unittest.TestCase):
             try:
                 status = main([str(it) for it in words])
             except SystemExit as ended:
-                status = ended.code
-        return Ran(words, status, out.getvalue().decode(errors="replace"), said.getvalue().decode(errors="replace"))
+                status = ended.code if isinstance(ended.code, int) else 1
+        return Ran([str(it) for it in words], status, out.getvalue().decode(errors="replace"), said.getvalue().decode(errors="replace"))
 
     def run_apart(self, *words: object, program: object = PROGRAM) -> "Ran[str]":
         """Runs the tool with these words, in a process of its own."""
-        streams = {"stdin": subprocess.DEVNULL, "capture_output": True, "text": True}
-        return subprocess.run(self.words(*words), cwd=self.folder, env=self.environment(program), timeout=180, **streams)
+        return subprocess.run(self.words(*words), stdin=subprocess.DEVNULL, capture_output=True, text=True, cwd=self.folder,
+                              env=self.environment(program), timeout=180)
 
     def swept(self, sets: str, *words: object, model: object = None, out: str = "B4", program: object = PROGRAM) -> "Ran[str]":
         return self.run_tool(model or self.model, "--out", out, "--jobs", "1", *words, sets=sets, program=program)
@@ -132,10 +112,7 @@ class SweepTest(unittest.TestCase):
 
     def script(self, name: str, text: str) -> Path:
         """A program to run in place of whatif."""
-        path = self.folder / name
-        path.write_text(text)
-        path.chmod(path.stat().st_mode | stat.S_IXUSR)
-        return path
+        return made_program(self.folder / name, text)
 
     def slow(self, seconds: float) -> Path:
         """The program, but each run takes so long at least, wherever it runs, until `quicken`."""

@@ -7,11 +7,12 @@ import random
 import resource
 import select
 import subprocess
-import sys
 import unittest
 from fractions import Fraction
+from typing import Any
 
-from sweeping import PROGRAM, SOLAR, SOLAR_CELLS, SweepTest, left, solar_sets, text_of
+from tests.sweep.sweeping import SOLAR, SweepTest, solar_sets, text_of
+from tests.support.solar import left
 
 
 class ResultsTest(SweepTest):
@@ -182,7 +183,7 @@ class FailedSetsTest(SweepTest):
 
 
 class WrongSweepTest(SweepTest):
-    def wrong(self, sets: str, *words: object, **more: object) -> str:
+    def wrong(self, sets: str, *words: object, **more: Any) -> str:
         ran = self.swept(sets, *words, **more)
         self.assertEqual((ran.returncode, ran.stdout), (2, ""))
         self.assertEqual([it.name for it in self.folder.iterdir() if it.name.startswith("whatif-sweep")], [])
@@ -252,8 +253,7 @@ class FullDiskTest(SweepTest):
     def test_standard_output(self) -> None:
         with open("/dev/full", "w") as full:
             words = self.words(self.model, "--out", "B4", "--jobs", "2", "--chunk", "500")
-            streams = {"stdout": full, "stderr": subprocess.PIPE, "text": True}
-            ran = subprocess.run(words, input=self.sets, cwd=self.folder, env=self.environment(), **streams)
+            ran = subprocess.run(words, input=self.sets, stdout=full, stderr=subprocess.PIPE, text=True, cwd=self.folder, env=self.environment())
         self.assertEqual(ran.returncode, 3)
         self.assertRegex(ran.stderr, "the results can't be written: No space left on device. what is done is kept: whatif-sweep --resume .*whatif-")
         (kept,) = self.folder.glob("whatif-sweep-*")

@@ -3,17 +3,21 @@
 import os
 import random
 import unittest
+from collections.abc import Callable
 from concurrent.futures import Future, ThreadPoolExecutor
 from datetime import date
 from fractions import Fraction
 from importlib.util import find_spec
+from typing import Any
 from unittest import mock
 
 import whatif
-from sweeping import PROGRAM, SOLAR, SOLAR_CELLS, SweepTest, left, solar_sets
+from tests.sweep.sweeping import SOLAR, SOLAR_CELLS, SweepTest, solar_sets
+from tests.support.program import PROGRAM
+from tests.support.solar import left
 
 
-def rows(count: int) -> list[dict[str, object]]:
+def rows(count: int) -> list[dict[str, str]]:
     _, *lines = solar_sets(100_000)
     some = random.Random(3).sample(lines, count)
     return [dict(zip(("name", *SOLAR_CELLS), line.split(","))) for line in some]
@@ -25,7 +29,7 @@ class Here:
     def __init__(self) -> None:
         self.calls = 0
 
-    def submit(self, function: object, *arguments: object) -> "Future[object]":
+    def submit(self, function: Callable[..., object], *arguments: object) -> "Future[object]":
         self.calls += 1
         future: Future[object] = Future()
         future.set_result(function(*arguments))
@@ -35,7 +39,7 @@ class Here:
 class Stops(Here):
     """It runs three calls, and then none."""
 
-    def submit(self, function: object, *arguments: object) -> "Future[object]":
+    def submit(self, function: Callable[..., object], *arguments: object) -> "Future[object]":
         if self.calls < 3:
             return super().submit(function, *arguments)
         future: Future[object] = Future()
@@ -46,7 +50,7 @@ class Stops(Here):
 class RowsTest(SweepTest):
     def test_fractions_as_python_has_them(self) -> None:
         given = rows(200)
-        typed = [{**{cell: Fraction(row[cell]) for cell in SOLAR_CELLS}, "name": row["name"]} for row in given]
+        typed: list[dict[str, object]] = [{**{cell: Fraction(row[cell]) for cell in SOLAR_CELLS}, "name": row["name"]} for row in given]
         found = whatif.sweep(SOLAR, typed, ["B10"], labels=["name"], numbers=Fraction, jobs=2)
         self.assertEqual(found, [{"name": row["name"], "B10": left(*(row[cell] for cell in SOLAR_CELLS))} for row in given])
 
@@ -62,7 +66,7 @@ class RowsTest(SweepTest):
     def test_what_was_done_is_kept(self) -> None:
         given = [{"B1": it, "B3": f"n{it}"} for it in range(1, 100)]
         wanted = [{"B5": f"n{it} {it}", "B4": Fraction(it * 32, 100)} for it in range(1, 100)]
-        more = {"numbers": Fraction, "resume": self.folder / "work", "chunk": 10}
+        more: dict[str, Any] = {"numbers": Fraction, "resume": self.folder / "work", "chunk": 10}
         with self.assertRaisesRegex(RuntimeError, "7 chunks have no results; the first is that of row 30: no more"):
             whatif.sweep(self.model, given, ["B5", "B4"], Stops(), **more)
         here = Here()
@@ -96,7 +100,7 @@ class RowsTest(SweepTest):
         self.assertIn("refused E08", caught.exception.failures[1])
         self.assertEqual(whatif.sweep(self.model, given, ["B5"], jobs=1, errors="drop"), [{"B5": "a 250"}, {"B5": "c 250"}])
 
-    def wrong(self, given: object, *words: object, **more: object) -> str:
+    def wrong(self, given: object, *words: Any, **more: Any) -> str:
         with self.assertRaises(whatif.WrongSweep) as caught:
             whatif.sweep(self.model, given, *(words or (["B4"],)), jobs=1, **more)
         return str(caught.exception)

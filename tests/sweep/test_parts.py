@@ -6,7 +6,8 @@ import importlib
 import unittest
 from concurrent.futures import BrokenExecutor, Future
 
-from sweeping import PROGRAM, SOLAR, SweepTest, solar_sets
+from tests.sweep.sweeping import SOLAR, SweepTest, solar_sets
+from tests.support.program import PROGRAM
 from whatif.sweeps import drive, folder, names, plan
 from whatif.sweeps.chunk import lines, program, replies, run
 from whatif.sweeps.chunk.job import Job
@@ -30,7 +31,9 @@ class ChunkTest(SweepTest):
     def test_what_a_chunk_gives_checks_itself(self) -> None:
         given = run.run_chunk(self.job, PROGRAM, 2, self.data)
         key = run.key_of(self.job, 2, self.data)
-        self.assertEqual(run.checked(key, given).count, 50)
+        done = run.checked(key, given)
+        assert done
+        self.assertEqual(done.count, 50)
         for at in range(0, len(given), 97):
             harmed = given[:at] + bytes([given[at] ^ 4]) + given[at + 1 :]
             self.assertIsNone(run.checked(key, harmed), at)
@@ -45,7 +48,9 @@ class ChunkTest(SweepTest):
     def test_replies_cut_anywhere(self) -> None:
         """Whatever part of the replies came before the program died, the sets that are answered have their own results."""
         reader = lines.Reader.of(self.plan.job)
-        sets = [reader.read(number, line) for number, line in lines.lines_of(self.data, 2)][:6]
+        read = [reader.read(number, line) for number, line in lines.lines_of(self.data, 2)][:6]
+        sets = [it for it in read if isinstance(it, lines.Set)]
+        self.assertEqual(sets, read)
         whole, _ = program.ran(PROGRAM, self.plan.job.before() + b"".join(it.script for it in sets))
         answers = replies.Answers.of(self.plan.job)
         wanted = list(answers.read(whole, sets))
@@ -65,14 +70,15 @@ class ChunkTest(SweepTest):
         texts = ["ok", '"ok"', "refused E05", 'a"\nok', "lines 3", "\u2028", "x" * 30_000]
         data = "".join('n,"{}"\n'.format(it.replace('"', '""').replace("\n", " ")) for it in texts).encode()
         done = run.checked(run.key_of(job, 2, data), run.run_chunk(job, PROGRAM, 2, data))
+        assert done
         wanted = "".join(f'n,"{it}"\n' if '"' in it else f"n,{it}\n" for it in (text.replace("\n", " ").replace('"', '""') for text in texts))
         self.assertEqual((done.results.decode(), done.failed), (wanted, 0))
 
 
 class FolderTest(unittest.TestCase):
     def test_lines_a_chunk(self) -> None:
-        for count, lines in ((0, 10), (100, 10), (3200, 100), (100_000, 3125), (1_000_000, 4000), (100_000_000, 20_000)):
-            self.assertEqual(folder.lines_a_chunk(count, 199_995, None), lines)
+        for count, most in ((0, 10), (100, 10), (3200, 100), (100_000, 3125), (1_000_000, 4000), (100_000_000, 20_000)):
+            self.assertEqual(folder.lines_a_chunk(count, 199_995, None), most)
         self.assertEqual(folder.lines_a_chunk(100_000, 1234, None), 1234)
         self.assertEqual(folder.lines_a_chunk(100_000, 199_995, 1), 1)
 

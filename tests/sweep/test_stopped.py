@@ -7,7 +7,8 @@ import time
 import unittest
 from pathlib import Path
 
-from sweeping import PROGRAM, SweepTest, text_of
+from tests.sweep.sweeping import SweepTest, text_of
+from tests.support.program import PROGRAM
 
 SETS = text_of(["name,B1", *(f"n{it},{it}" for it in range(1, 201))])
 WANTED = text_of(["name,B4", *(f"n{it},{it * 32 / 100:.2f}".rstrip("0").rstrip(".") for it in range(1, 201))])
@@ -68,6 +69,7 @@ class StoppedTest(SweepTest):
         line = self.words(self.model, "--out", "B4", "--sets", "sets.csv", "--jobs", "2", "--resume", "work", "-o", "results.csv")
         environment = self.environment(self.slow(seconds))
         running = subprocess.Popen(line, cwd=self.folder, env=environment, stdin=subprocess.DEVNULL, stderr=subprocess.PIPE, start_new_session=True)
+        assert running.stderr
         self.addCleanup(running.stderr.close)
         end = time.monotonic() + 60
         while time.monotonic() < end:

@@ -13,8 +13,10 @@ from importlib.util import find_spec
 from pathlib import Path
 from unittest import mock
 
-import slurm_node
-from sweeping import PROGRAM, ROOT, SOLAR, SweepTest, solar_result, solar_sets, text_of
+from tests import ROOT
+from tests.sweep import slurm_node
+from tests.sweep.sweeping import SOLAR, SweepTest, solar_result, solar_sets, text_of
+from tests.support.program import PROGRAM
 
 SETS = text_of(solar_sets(300))
 WANTED = text_of(["name,B10", *map(solar_result, SETS.splitlines()[1:])])
@@ -46,6 +48,7 @@ class EngineTest(SweepTest):
     def begin(self, *words: object, program: object = PROGRAM) -> "subprocess.Popen[bytes]":
         line, environment = self.words(*self.arguments(*words)), self.environment(program)
         running = subprocess.Popen(line, cwd=self.folder, env=environment, stdin=subprocess.DEVNULL, stderr=subprocess.PIPE)
+        assert running.stderr
         self.addCleanup(running.stderr.close)
         return running
 
@@ -56,6 +59,10 @@ class EngineTest(SweepTest):
 @unittest.skipUnless(has("distributed"), "Dask isn't installed")
 class DaskTest(EngineTest):
     """A scheduler and workers, each a process of its own, on the loopback. The workers don't find this package."""
+
+    away: str
+    address: str
+    workers: "list[subprocess.Popen[bytes]]"
 
     @classmethod
     def setUpClass(cls) -> None:
@@ -73,8 +80,8 @@ class DaskTest(EngineTest):
     def daemon(cls, name: str, *words: str) -> "subprocess.Popen[bytes]":
         line = [sys.executable, "-m", f"distributed.cli.{name}", *words, "--no-dashboard"]
         environment = {name: value for name, value in os.environ.items() if name not in ("WHATIF", "PYTHONPATH")}
-        streams = dict.fromkeys(("stdin", "stdout", "stderr"), subprocess.DEVNULL)
-        running = subprocess.Popen(line, cwd=cls.away, env=environment, **streams)
+        away = subprocess.DEVNULL
+        running = subprocess.Popen(line, stdin=away, stdout=away, stderr=away, cwd=cls.away, env=environment)
 
         def end() -> None:
             running.kill()

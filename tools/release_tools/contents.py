@@ -12,7 +12,8 @@ from release_tools.packages import compressed
 
 # Pages for who works on the repository itself, and what tests and draws the examples there.
 FOR_DEVELOPERS = ("BENCH", "DECISIONS", "DEFINITIONS", "GATE", "MAP", "PROVING", "index")
-OF_THE_REPOSITORY = ("examples/tests/", "examples/draw/", "examples/run", "examples/stored_run", "examples/.gitignore", "clients/python/test/")
+OF_THE_REPOSITORY = ("examples/__init__.py", "examples/tests/", "examples/draw/", "examples/run", "examples/stored_run", "examples/.gitignore",
+                     "clients/python/test/")
 OWN_TOOL = "release"
 SECONDS = 60
 BUILD = """whatif {version}, of commit {commit}

@@ -10,14 +10,12 @@ from dataclasses import dataclass
 from pathlib import Path
 from typing import Optional
 
+from release_tools.elf import logic
+from release_tools.licences import own_crates
+from tests.packages import PACKAGES
+from tests.support.stub_elf import write
 from whatif_tools.program import ROOT, program
 
-sys.path.append(str(ROOT / "tests"))
-
-from packages import PACKAGES  # noqa: E402
-from release_tools.elf import logic  # noqa: E402
-from release_tools.licences import own_crates  # noqa: E402
-from stub_elf import write  # noqa: E402
 
 LOGIC = "0123456789abcdef"
 PACKED = ("README.md", "CHANGELOG.md", "VERSION", "Containerfile", "crates.txt", "start", "docs", "tools", "clients", "examples", "editors")

@@ -60,7 +60,8 @@ class Lines(Scripts):
 
     def test_data_lines(self) -> None:
         """No reply is taken for that of another line where a csv is wrong, too long, or not UTF-8."""
-        for line in (b"csv A1 1000001", b"csv a", b"csv 1 1 1", b"Csv A1 1", b"csv\tA1 1", b"csv A1 +1", b"csv A1" + b" " * 65_536 + b"1", b"csv ZZZZ1 1", b"csv \xff 1"):
+        for line in (b"csv A1 1000001", b"csv a", b"csv 1 1 1", b"Csv A1 1", b"csv\tA1 1", b"csv A1 +1", b"csv A1" + b" " * 65_536 + b"1", b"csv ZZZZ1 1",
+                     b"csv \xff 1"):
             self.path.write_bytes(line + b"\nquit\nset A1 1\n")
             check = Check.of(self.path)
             self.assertEqual(len(check.answer.replies), len(check.commands), line[:20])

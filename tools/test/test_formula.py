@@ -1,5 +1,6 @@
 """The place of a syntax error, and the program's own verdict on the same formulas."""
 
+import os
 import unittest
 from collections import Counter
 
@@ -7,7 +8,7 @@ from formulas import Formulas
 from whatif_tools.formula import TOKEN, Kind, fault
 from whatif_tools.program import run
 
-FORMULAS = 2_000
+FORMULAS = int(os.environ.get("WHATIF_FORMULAS") or 2_000)
 SEED = 20_261_127
 
 PLACES = (

@@ -116,7 +116,8 @@ LINES = (
     line("force show A1", "force stands before set, clear, fill, csv alone; its form is force COMMAND", 7),
     line("tabel B4 B1 D2:D3", "is table meant?"),
     Mistake("scenario winter B1 5\nuse wintr", Kind.REFUSED, (2, 5), "is winter meant? the scenarios so far: winter"),
-    Mistake("scenario winter B1 5\nscenario dear B2 1\ncompare - Winter B1", Kind.REFUSED, (3, 11), "capitals count: is winter meant? the scenarios so far: dear, winter"),
+    Mistake("scenario winter B1 5\nscenario dear B2 1\ncompare - Winter B1", Kind.REFUSED, (3, 11),
+            "capitals count: is winter meant? the scenarios so far: dear, winter"),
     Mistake("use winter", Kind.REFUSED, (1, 5), "scenario NAME ADDR CONTENT does"),
     Mistake("set B1 =[.A1]\nset D1 3\ntable B1 A1 D1:D3 A2 E1:G1", Kind.EMPTY_INPUT, (3, 13), "2 of the 3 cells of XCOLUMN show nothing"),
     Mistake("set B1 =[.A1]\nset D1 3\ntable B1 A1 D1:D3 A2 E1:G1", Kind.EMPTY_INPUT, (3, 22), "3 of the 3 cells of YROW show nothing"),
@@ -173,7 +174,8 @@ DATA = (
     Mistake('csv A1 9\n"a\nb', Kind.OPEN_QUOTE, (2, 1), "close it"),
     Mistake("csv A1 3\nname,price\nplum,4,50\nfig,2", Kind.MORE_FIELDS, (3, 1), "3 fields, where the first line of the data has 2: a decimal has a point"),
     Mistake("csv A1 3\nwater,price\n30 m3,5\n31 m3,6", Kind.COLUMN_OF_TEXTS, (3, 1), "field 1: '30 m3' and 1 more below are texts"),
-    Mistake("csv A1 4\nname,price\na,5\nb,n/a\nc,6", Kind.COLUMN_OF_TEXTS, (4, 1), "field 2: 'n/a' is a text, no number; the other fields of this column are numbers"),
+    Mistake("csv A1 4\nname,price\na,5\nb,n/a\nc,6", Kind.COLUMN_OF_TEXTS, (4, 1),
+            "field 2: 'n/a' is a text, no number; the other fields of this column are numbers"),
     Mistake("csv A1 2\na\r12%\r13%\n7", Kind.COLUMN_OF_TEXTS, (2, 1), "field 1: '12%' and 1 more below are texts"),
     Mistake('csv A1 3\r\nname,price\r\nfig,2\r\n"plum,4.50\r\n', Kind.OPEN_QUOTE, (4, 1), "close it"),
     Mistake("csv A1 4\n4\n5\nx\n6", Kind.COLUMN_OF_TEXTS, (4, 1), "field 1: 'x' is a text"),
@@ -193,7 +195,8 @@ SEARCHED = (
 MEANT = ("refused E12", "refused E18")
 """The examples show what it is like to be refused; other findings there are errors in cells, which they show too."""
 
-LABELS = ("m3 in block", "2026 plan", "12 apples", "kWh", "A1", "A1-B2", "10-12", "1/2/3", "+49 30 1234", "see [.A1]", "SUM", "B2 (old)", "C++", "x * y", "Max (night)")
+LABELS = ("m3 in block", "2026 plan", "12 apples", "kWh", "A1", "A1-B2", "10-12", "1/2/3", "+49 30 1234", "see [.A1]", "SUM", "B2 (old)", "C++",
+          "x * y", "Max (night)")
 """Texts that are meant as such."""
 
 GOOD = (

@@ -75,5 +75,6 @@ class Installed(Scratch):
         for it in libraries:
             (root / it.relative_to("/")).unlink()
 
+
 if __name__ == "__main__":
     unittest.main()

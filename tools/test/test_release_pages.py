@@ -94,5 +94,6 @@ class TheRepository(unittest.TestCase):
             self.assertRegex(said, rf"== {name}: (UN)?LICENSE")
         self.assertIn("\n== std: ", said)
 
+
 if __name__ == "__main__":
     unittest.main()

@@ -13,8 +13,8 @@ from fractions import Fraction
 from itertools import product
 from pathlib import Path
 
-import browser
-from browser import Browser
+from tests.support import browser
+from tests.support.browser import Browser
 from whatif.drawing.colours import NEEDED, contrast
 from whatif.drawing.values import shown
 from whatif_tools.report.main import main

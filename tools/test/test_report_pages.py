@@ -117,9 +117,9 @@ class Pages(Reports):
 
     def test_wrong_words(self) -> None:
         cases: list[list[str]] = [["--by", "0"], ["--by", "x"], ["--tornado", "B0"], ["--places", "-1"], []]
-        for words in cases:
+        for given in cases:
             with self.assertRaises(SystemExit) as ended, contextlib.redirect_stderr(io.StringIO()):
-                main([*words, *(["s.whatif"] if words else [])])
+                main([*given, *(["s.whatif"] if given else [])])
             self.assertEqual(ended.exception.code, 2)
 
 

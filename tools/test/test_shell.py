@@ -14,10 +14,8 @@ from pathlib import Path
 
 from whatif_tools.program import ROOT, program, program_help
 
-sys.path.insert(0, str(ROOT / "clients" / "python"))
-
-from whatif_tools.shell import Leave, Shell  # noqa: E402
-from whatif_tools.terminal import completed  # noqa: E402
+from whatif_tools.shell import Leave, Shell
+from whatif_tools.terminal import completed
 
 TOOL = str(ROOT / "tools" / "whatif-shell")
 SECONDS = 60

@@ -16,6 +16,9 @@ EXPONENT_IN_DOUBT = 3 * LONGEST
 """A number of at most 4,096 digits with a larger exponent, of either sign, doesn't fit unless it is 0."""
 
 BLANK = " \t\r\n"
+QUOTED = r'"(?:[^"]|"")*"(?!")'
+"""A text in quotes, here and in the formulas of spreadsheets."""
+
 CELL = r"\$?[A-Za-z]+\$?[1-9][0-9]*"
 WHAT_IF = "MULTIPLE.OPERATIONS"
 
@@ -24,7 +27,7 @@ class Kind(Enum):
     """The kinds of tokens. The longest token is taken: `<=` is one."""
 
     NUMBER = r"(?:[0-9]+(?:\.[0-9]+)?|\.[0-9]+)(?:[eE][-+]?[0-9]+)?"
-    TEXT = r'"(?:[^"]|"")*"(?!")'
+    TEXT = QUOTED
     REFERENCE = rf"\[\.{CELL}(?::\.{CELL})?\]"
     NAME = r"[A-Za-z_][A-Za-z0-9_.]*"
     SIGN = r"[-+]"

@@ -6,10 +6,11 @@ from dataclasses import dataclass
 from enum import Enum
 from typing import Union
 
+from .formula import BLANK as BLANKS
+from .formula import DEEPEST, QUOTED
+
 LONGEST = 8_192
 """A longer formula can't be one of at most 4,096 bytes."""
-
-DEEPEST = 64
 
 
 class CannotGoOver(Exception):
@@ -17,10 +18,12 @@ class CannotGoOver(Exception):
 
 
 class PieceKind(Enum):
-    TEXT = r'"(?:[^"]|"")*"(?!")'
+    """Pieces of any formula, whatever whatif makes of them, and with what stands between them. So they are others than the tokens of `formula`."""
+
+    TEXT = QUOTED
     NUMBER = r"(?:[0-9]+(?:\.[0-9]*)?|\.[0-9]+)(?:[eE][-+]?[0-9]+)?"
     NAME = r"[^\W\d][\w.]*"
-    BLANK = r"[ \t\r\n]+"
+    BLANK = f"[{BLANKS}]+"
     OTHER = r"<=|>=|<>|."
 
 

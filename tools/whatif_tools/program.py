@@ -3,20 +3,22 @@
 import os
 import re
 import subprocess
+from collections.abc import Sequence
 from dataclasses import dataclass
 from functools import lru_cache
 from pathlib import Path
 
 ROOT = Path(__file__).resolve().parents[2]
-BUILT = [ROOT / place for place in ("out/proved/whatif", "crates/whatif/out/whatif", "out/unproved/whatif")]
+BUILT = tuple(ROOT / place for place in ("out/proved/whatif", "crates/whatif/out/whatif", "out/unproved/whatif"))
 """Where this repository's scripts leave the program: the newest is that of its files as they are."""
 
 INSTALLED = ROOT.parent / "bin" / "whatif"
 """Where it is if these tools lie in a folder share beside the folder bin."""
 
-REPLY_LINE = re.compile(rb'(?:"[^"]*"|[^"\n])*\n')
-"""A line of a reply; a line break between quotes is inside a record."""
+RECORD = rb'"[^"]*(?:""[^"]*)*"(?:,"[^"]*(?:""[^"]*)*")*\r\n'
+"""Fields in quotes; a line break between quotes is inside a field."""
 
+REPLY = re.compile(rb"(?:lines [0-9]+\n)?(?:" + RECORD + rb")*ok\n|refused E[0-9]{2}(?: [A-Z]+[0-9]+)?\n")
 FIELD = re.compile(r'"((?:[^"]|"")*)"')
 MEANING = re.compile(r"^  (E[0-9][0-9])  (.*)$", re.MULTILINE)
 FORM = re.compile(r"^  ([a-z]+(?: [A-Z]+)*)  ", re.MULTILINE)
@@ -26,16 +28,22 @@ class NoProgram(Exception):
     """whatif isn't where it is looked for."""
 
 
+def named() -> str | None:
+    """What the environment variable WHATIF names. An empty one names nothing."""
+    return os.environ.get("WHATIF") or None
+
+
+def newest(places: Sequence[Path] = BUILT) -> Path | None:
+    """The newest program in some places: those where this repository's scripts leave it, unless others are given."""
+    built = [it for it in places if it.is_file()]
+    return max(built, key=lambda it: it.stat().st_mtime_ns) if built else None
+
+
 def program() -> str:
     """The program's path: what the environment variable WHATIF says, else the newest of this repository, else the one installed with these tools,
     else the one on the path."""
-    named = os.environ.get("WHATIF")
-    if named:
-        return named
-    built = [it for it in BUILT if it.is_file()]
-    if built:
-        return str(max(built, key=lambda it: it.stat().st_mtime_ns))
-    return str(INSTALLED) if ROOT.name == "share" and INSTALLED.is_file() else "whatif"
+    installed = INSTALLED if ROOT.name == "share" and INSTALLED.is_file() else None
+    return named() or str(newest() or installed or "whatif")
 
 
 @dataclass(frozen=True)
@@ -81,24 +89,35 @@ def fields(record: str) -> list[str]:
     return [field.replace('""', '"') for field in FIELD.findall(record)]
 
 
+def whole_replies(written: bytes) -> tuple[list[bytes], bytes]:
+    """The whole replies at the beginning of what a run wrote, and the rest, which is none."""
+    replies, at = [], 0
+    while found := REPLY.match(written, at):
+        replies.append(found[0])
+        at = found.end()
+    return replies, written[at:]
+
+
+def reply_of(written: bytes) -> Reply:
+    """A whole reply with its records apart."""
+    if written.startswith(b"refused "):
+        return Reply((), written.decode().rstrip("\n"))
+    lines = re.findall(rb"lines [0-9]+\n|" + RECORD, written.removesuffix(b"ok\n"))
+    return Reply(tuple(lines), "ok")
+
+
 def parted(written: bytes) -> list[Reply]:
     """The replies in the bytes that a run wrote."""
-    replies: list[Reply] = []
-    lines: list[bytes] = []
-    for line in REPLY_LINE.findall(written):
-        if line == b"ok\n" or line.startswith(b"refused "):
-            replies.append(Reply(tuple(lines), line.decode().rstrip("\n")))
-            lines = []
-        else:
-            lines.append(line)
-    return replies
+    return [reply_of(reply) for reply in whole_replies(written)[0]]
 
 
-def call(words: list[str], script: bytes) -> subprocess.CompletedProcess[bytes]:
+def call(words: Sequence[str], script: bytes, path: str | None = None, seconds: float | None = None) -> subprocess.CompletedProcess[bytes]:
+    """Calls the program, or the one at a path, on a script. It has as long as it takes, unless it is told how long."""
+    path = path or program()
     try:
-        return subprocess.run([program(), *words], input=script, capture_output=True)
+        return subprocess.run([path, *words], input=script, capture_output=True, timeout=seconds)
     except OSError as error:
-        raise NoProgram(f"{program()}: {error.strerror}; ./whatif builds it, and the environment variable WHATIF may name another") from error
+        raise NoProgram(f"{path}: {error.strerror}; ./whatif builds it, and the environment variable WHATIF may name another") from error
 
 
 def run(script: bytes, loaded: Path | None = None) -> Answer:

@@ -30,6 +30,9 @@ class Command:
     mark: str = ""
     """What a comment `#! ..` right above it says."""
 
+    is_cut: bool = False
+    """Whether the script ends before its last data line."""
+
     @property
     def last_line(self) -> int:
         return self.line + len(self.data)
@@ -112,7 +115,7 @@ def commands(lines: list[bytes]) -> Iterator[Command]:
             mark = line.removeprefix(MARK).decode().strip() if line.startswith(MARK) else ""
             continue
         data = tuple(lines[at : at + data_lines(line)])
-        yield Command(at, line.removesuffix(b"\r"), data, mark)
+        yield Command(at, line.removesuffix(b"\r"), data, mark, len(data) < data_lines(line))
         at, mark = at + len(data), ""
 
 

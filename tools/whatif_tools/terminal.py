@@ -12,7 +12,7 @@ from .shell import OWN_WORDS, Leave, Shell
 try:
     import readline
 except ImportError:
-    readline = None  # type: ignore[assignment]
+    readline = None  # type: ignore[assignment]  # Python is built without it where its library is missing
 
 GREETING = "whatif: a command a line, as set A1 5 or show A1:B9; help lists them, Ctrl-D ends\n"
 NAMED = ("use", "drop", "base", "compare", "scenario")

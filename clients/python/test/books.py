@@ -1,9 +1,13 @@
 """What the tests of workbooks share: a workbook, a tariff in it, and refusals that are expected."""
 
 import unittest
+from collections.abc import Iterator
+from contextlib import contextmanager
 from decimal import Decimal
+from fractions import Fraction
+from typing import Optional
 
-from whatif import Refused, Workbook
+from whatif import Difference, Refused, Workbook
 
 
 class WorkbookTest(unittest.TestCase):
@@ -16,19 +20,16 @@ class WorkbookTest(unittest.TestCase):
         self.book.put("A1", [["consumption", 250], ["price", Decimal("0.32")], ["fee", 12]])
         self.book.set_formula("B4", "=[.B1]*[.B2]+[.B3]")
 
-    def refused(self, code: str, place: object = None) -> object:
+    @contextmanager
+    def refused(self, code: str, place: Optional[str] = None) -> Iterator[None]:
         """Expects a refusal of that code, and of that place if it is given."""
-        test = self
+        with self.assertRaises(Refused) as caught:
+            yield
+        self.assertEqual(caught.exception.code, code)
+        if place:
+            self.assertEqual(caught.exception.place, place)
 
-        class Expected:
-            def __enter__(self) -> None:
-                pass
 
-            def __exit__(self, kind: object, error: object, trace: object) -> bool:
-                test.assertIsInstance(error, Refused)
-                test.assertEqual(error.code, code)
-                if place:
-                    test.assertEqual(error.place, place)
-                return True
-
-        return Expected()
+def difference(address: str, before: int, after: int, by: int) -> Difference:
+    """A difference of whole numbers."""
+    return Difference(address, Fraction(before), Fraction(after), Fraction(by))

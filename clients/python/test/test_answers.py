@@ -6,8 +6,10 @@ import tempfile
 import unittest
 from html import escape
 from pathlib import Path
+from typing import Optional, Union
 
 from whatif import Change, Difference, Formula, Workbook
+from whatif.answers import Answer
 
 
 class Reader(html.parser.HTMLParser):
@@ -20,7 +22,7 @@ class Reader(html.parser.HTMLParser):
         self.caption = ""
         self.scopes: list[str] = []
 
-    def handle_starttag(self, tag: str, attrs: list[tuple[str, object]]) -> None:
+    def handle_starttag(self, tag: str, attrs: list[tuple[str, Optional[str]]]) -> None:
         self.opened.append(tag)
         if tag == "tr":
             self.rows.append([])
@@ -44,7 +46,7 @@ class AnswersTest(unittest.TestCase):
         self.addCleanup(self.book.close)
         self.book["A1"] = [["consumption", 250], ["price", 0.32], ["fee", 12], ["bill", Formula("=[.B1]*[.B2]+[.B3]")]]
 
-    def read(self, answer: object) -> Reader:
+    def read(self, answer: Union[Answer, Workbook]) -> Reader:
         reader = Reader()
         reader.feed(answer._repr_html_())
         self.assertEqual(reader.opened, [])

@@ -2,6 +2,7 @@
 
 import unittest
 from fractions import Fraction
+from typing import Any
 
 from books import WorkbookTest
 from whatif import CellError, Formula, Text
@@ -108,7 +109,8 @@ class CellsTest(WorkbookTest):
         self.assertEqual(self.book["A1:D1"], [[None] * 4])
 
     def test_what_no_brackets_take(self) -> None:
-        for wrong, error in (("price", ValueError), (1, TypeError), (("A1", "B1"), TypeError), (slice(1, 2), TypeError)):
+        wrongs: list[tuple[Any, type[Exception]]] = [("price", ValueError), (1, TypeError), (("A1", "B1"), TypeError), (slice(1, 2), TypeError)]
+        for wrong, error in wrongs:
             with self.assertRaises(error):
                 self.book[wrong]
             with self.assertRaises(error):
@@ -117,8 +119,9 @@ class CellsTest(WorkbookTest):
             self.book["A1:A2"] = [[1], [2], [3]]
         with self.assertRaisesRegex(ValueError, r"Formula\(..\) is one"):
             self.book["A1"] = "=[.B1]"
+        book: Any = self.book
         with self.assertRaises(TypeError):
-            list(self.book)
+            list(book)
         self.assertEqual(self.book["A1:A3"], [[None]] * 3)
 
     def test_flat_lists_and_other_rows(self) -> None:

@@ -56,7 +56,6 @@ class Numbers(unittest.TestCase):
         for text in ("007", "1.50", "+5", "1e6", ".5", "5.", "1/0", "1/07", "\u0665", "--1", "", "TRUE", "1 000"):
             self.assertIsNone(exact(text), text)
 
-
     def test_extremes(self) -> None:
         """They are exact, also of numbers that are one in floating point."""
         random.seed(82)

@@ -30,6 +30,7 @@ from whatif.drawing import (
 from whatif.drawing.colours import DARK, LEVELS, LIGHT, NEEDED, Theme, contrast, step
 from whatif.drawing.style import style
 
+
 def load_tests(loader: unittest.TestLoader, tests: unittest.TestSuite, pattern: object) -> unittest.TestSuite:
     """The examples in the modules' own words are tests too."""
     for module in pkgutil.iter_modules(drawing.__path__, drawing.__name__ + "."):

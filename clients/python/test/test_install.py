@@ -22,7 +22,7 @@ class InstallTest(unittest.TestCase):
 
     @unittest.skipUnless(find_spec("pip"), "pip isn't installed")
     def test_pip_without_a_network(self) -> None:
-        words = [sys.executable, "-m", "pip", "install", "--no-index", "--disable-pip-version-check", "-q", "--target", self.folder, CLIENT]
+        words = [sys.executable, "-m", "pip", "install", "--no-index", "--disable-pip-version-check", "-q", "--target", str(self.folder), str(CLIENT)]
         ran = subprocess.run(words, capture_output=True, text=True, timeout=300)
         self.assertEqual(ran.returncode, 0, ran.stderr)
         script = (

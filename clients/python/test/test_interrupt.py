@@ -8,6 +8,7 @@ import tempfile
 import threading
 import time
 import unittest
+from collections.abc import Callable
 from pathlib import Path
 
 from whatif import Formula, Workbook
@@ -42,7 +43,7 @@ class InterruptTest(unittest.TestCase):
         self.book["B1"] = 250
         self.book["B9"] = Formula("=[.B1]+[.B2]+[.B7]")
 
-    def interrupted(self, question: object, after: float = 0.1) -> None:
+    def interrupted(self, question: Callable[[], object], after: float = 0.1) -> None:
         """Asks, and interrupts."""
         timer = threading.Timer(after, lambda: os.kill(os.getpid(), signal.SIGINT))
         timer.start()
@@ -91,7 +92,6 @@ class InterruptTest(unittest.TestCase):
         self.interrupted(lambda: self.book.show("B9"))
         self.book["B3"] = 5
         self.assertEqual(self.book.script(), "set B1 250\nset B9 =[.B1]+[.B2]+[.B7]\nset B3 5\n")
-
 
     def test_a_script_goes_on_in_its_session(self) -> None:
         ana = self.book.session("ana")

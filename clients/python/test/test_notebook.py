@@ -11,6 +11,7 @@ from contextlib import contextmanager
 from fractions import Fraction
 from importlib.util import find_spec
 from pathlib import Path
+from typing import Any
 from unittest import mock
 
 CLIENT = Path(__file__).resolve().parents[1]
@@ -45,7 +46,7 @@ class NotebookTest(unittest.TestCase):
         self.cells = [it for it in json.loads(NOTEBOOK.read_text())["cells"] if it["cell_type"] == "code"]
 
     def test_what_it_says(self) -> None:
-        known: dict[str, object] = {}
+        known: dict[str, Any] = {}
         with beside_the_model() as folder:
             for cell in self.cells:
                 source = "".join(cell["source"])
@@ -82,7 +83,7 @@ class NotebookTest(unittest.TestCase):
         self.assertTrue(any(stored))
 
 
-def numbers(cell: dict[str, object]) -> list[str]:
+def numbers(cell: dict[str, Any]) -> list[str]:
     """The numbers that a cell shows as text, in order of size: lines may break elsewhere in another pandas."""
     texts = ["".join(it["data"].get("text/plain", "")) for it in cell.get("outputs", []) if "image/png" not in it["data"]]
     return sorted(re.findall(r"[0-9]+\.?[0-9]*", " ".join(texts)))

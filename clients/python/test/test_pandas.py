@@ -5,7 +5,8 @@ from datetime import date
 from decimal import Decimal
 from fractions import Fraction
 
-from whatif import CellError, Difference, Formula, Workbook
+from books import difference
+from whatif import CellError, Formula, Workbook
 
 try:
     import numpy
@@ -134,7 +135,7 @@ class OutTest(PandasTest):
         self.tariff()
         self.book.scenario("winter", {"B1": 400})
         compared = self.book.compare(None, "winter", "A1:B4")
-        self.assertEqual(compared[1], Difference("B4", 92, 140, 48))
+        self.assertEqual(compared[1], difference("B4", 92, 140, 48))
         frame = compared.frame()
         self.assertEqual((list(frame.index), list(frame.columns)), (["consumption", "bill"], ["sheet", "winter", "difference"]))
         self.assertEqual(frame.loc["bill"].tolist(), [92, 140, 48])

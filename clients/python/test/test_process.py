@@ -1,9 +1,12 @@
 """What happens when the program ends, is not there, or writes much."""
 
 import os
+import re
 import stat
+import subprocess
 import tempfile
 import unittest
+from collections.abc import Callable
 from pathlib import Path
 
 from whatif import Ended, Refused, Workbook
@@ -45,7 +48,8 @@ class EndedTest(unittest.TestCase):
     def test_a_closed_book(self) -> None:
         with Workbook() as book:
             book["A1"] = 1
-        for use in (lambda: book["A1"], lambda: book.set("A1", 1), lambda: book.what_if("A1", {"A1": 2})):
+        uses: list[Callable[[], object]] = [lambda: book["A1"], lambda: book.set("A1", 1), lambda: book.what_if("A1", {"A1": 2})]
+        for use in uses:
             with self.assertRaisesRegex(RuntimeError, "this workbook is closed"):
                 use()
         self.assertEqual(book.close(), 0)
@@ -144,13 +148,9 @@ class ScriptTest(unittest.TestCase):
 
 
 class MeaningsTest(unittest.TestCase):
-    def test_each_refusal_of_the_help_is_known(self) -> None:
-        import re
-        import subprocess
-
+    def test_refusals_mean_what_the_help_says(self) -> None:
         told = subprocess.run([os.environ["WHATIF"], "--help"], capture_output=True, text=True, check=True).stdout
-        codes = re.findall(r"^  (E\d\d)  ", told, re.MULTILINE)
-        self.assertEqual(codes, list(MEANINGS))
+        self.assertEqual(re.findall(r"^  (E\d\d)  (.*)$", told, re.MULTILINE), list(MEANINGS.items()))
 
 
 if __name__ == "__main__":

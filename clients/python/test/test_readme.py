@@ -25,7 +25,9 @@ def checked(source: str) -> str:
 
 class ReadmeTest(unittest.TestCase):
     def test_example(self) -> None:
-        source = re.search(r"```python\n(.*?)```", README.read_text(), re.DOTALL)[1]
+        found = re.search(r"```python\n(.*?)```", README.read_text(), re.DOTALL)
+        assert found
+        source = found[1]
         if not find_spec("pandas"):
             source = source.replace(".frame()", "")
         ast.parse(source)

@@ -1,9 +1,10 @@
 """What-ifs, scenarios and sessions, on the program. Numbers are worked out by hand or by Python's fractions."""
 
 import unittest
+from collections.abc import Callable
 from fractions import Fraction
 
-from books import WorkbookTest
+from books import WorkbookTest, difference
 from whatif import Change, Difference, Formula, Session
 
 
@@ -115,14 +116,14 @@ class ScenariosTest(WorkbookTest):
         winter = self.book.scenario("winter", {"B1": 400})
         saver = self.book.scenario("saver", {"B2": 0.28, "B3": 15}, base=winter)
         self.assertEqual(
-            self.book.compare(None, winter, "B1:B4"), [Difference("B1", 250, 400, 150), Difference("B4", 92, 140, 48)]
+            self.book.compare(None, winter, "B1:B4"), [difference("B1", 250, 400, 150), difference("B4", 92, 140, 48)]
         )
         self.assertEqual(
             self.book.compare("winter", saver, "B2:B4"),
             [
                 Difference("B2", Fraction(8, 25), Fraction(7, 25), Fraction(-1, 25)),
-                Difference("B3", 12, 15, 3),
-                Difference("B4", 140, 127, -13),
+                difference("B3", 12, 15, 3),
+                difference("B4", 140, 127, -13),
             ],
         )
 
@@ -187,12 +188,13 @@ class SessionsTest(WorkbookTest):
     def test_forced_edits(self) -> None:
         ana, bo = self.two()
         ana.put("A1", [[1, 2], [3, 4]])
-        for edit in (
+        edits: list[Callable[[bool], object]] = [
             lambda force: bo.put("A1", [["007"]], force=force),
             lambda force: bo.set("A2", "two\nlines", force=force),
             lambda force: bo.set_formula("B1", "=1", force=force),
             lambda force: bo.fill("B1", "B2", force=force),
-        ):
+        ]
+        for edit in edits:
             with self.refused("E18"):
                 edit(False)
             edit(True)

@@ -7,7 +7,7 @@ from collections.abc import Collection
 
 from .hints import hint_for
 
-MEANINGS = {
+MEANINGS = {  # in the words of `whatif --help`
     "E01": "memory is short",
     "E02": "no such command, or wrong words",
     "E03": "the line is too long or no UTF-8",
@@ -25,7 +25,7 @@ MEANINGS = {
     "E15": "the area is too large",
     "E16": "a reference would leave the sheet",
     "E17": "too many edits",
-    "E18": "another session changed the cell",
+    "E18": "another session changed the cell that is named behind the number",
     "E19": "a scenario would be based on itself",
 }
 AREA = re.compile(r"[A-Za-z]{1,3}[1-9][0-9]*(:[A-Za-z]{1,3}[1-9][0-9]*)?$")

@@ -3,14 +3,12 @@
 from __future__ import annotations
 
 import re
-from collections.abc import Sequence
 from dataclasses import dataclass, field
 from fractions import Fraction
 from functools import cached_property
-from typing import Any
 
-from .label import Label, Named, label
-from .values import exact, extremes, is_error, places_for, shown
+from .label import Label
+from .values import extremes, is_error, places_for
 
 CORNER = re.compile("([A-Za-z]+)([0-9]+)")
 
@@ -95,23 +93,3 @@ def letters_behind(letters: str, count: int) -> str:
         number, rest = divmod(number - 1, 26)
         found = chr(ord("A") + rest) + found
     return found
-
-
-def answers(
-    records: Sequence[Sequence[Any]],
-    result: Named,
-    first: Named,
-    second: Named | None = None,
-    now: Sequence[Any] = (),
-    cells: Sequence[str] = (),
-    places: int | None = None,
-) -> Answers:
-    """What `table` writes, as texts or as the client's values: rows of x and entries, with two inputs below a row of ys."""
-    rows = [[shown(value) for value in record] for record in records]
-    ys, rows = (rows[0][1:], rows[1:]) if second is not None else ([""], rows)
-    entries = [line[1:] for line in rows]
-    present = [shown(value) for value in now] + ["", ""]
-    areas = [*cells, "", ""]
-    numbers = [[exact(text) for text in line] for line in entries]
-    names = label(result), label(first), None if second is None else label(second)
-    return Answers(*names, [line[0] for line in rows], ys, entries, (present[0], present[1]), (areas[0], areas[1]), places, numbers)

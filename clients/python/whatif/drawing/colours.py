@@ -13,8 +13,6 @@ NEEDED = 4.5
 """The contrast of a text and what is behind it, at least."""
 
 
-
-
 @dataclass(frozen=True)
 class Theme:
     paper: str

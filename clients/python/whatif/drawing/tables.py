@@ -6,11 +6,11 @@ from collections.abc import Sequence
 from fractions import Fraction
 from typing import Any
 
-from .answers import Answers, answers
+from .answers import Answers
 from .cells import column_head, download, entry, figures, head, note, row, table
 from .curves import curves_html
 from .heat import Steps, heat_svg
-from .label import Named
+from .label import Named, label
 from .markup import NOTHING, Markup, joined, separated, tag
 from .values import drawn_alone, exact, places_for, shown
 
@@ -42,7 +42,13 @@ def table_html(
 
     table_html([["", "0.32"], ["250", "92"]], "B4", Label("B1", "kWh"), Label("B2", "price"), now=["250", "0.32"], cells=["D2:D2", "E1:E1"])
     """
-    known = answers(records, result, first, second, now, cells, places)
+    rows = [[shown(value) for value in record] for record in records]
+    ys, rows = (rows[0][1:], rows[1:]) if second is not None else ([""], rows)
+    entries = [line[1:] for line in rows]
+    present, areas = [*map(shown, now), "", ""], [*cells, "", ""]
+    numbers = [[exact(text) for text in line] for line in entries]
+    names = label(result), label(first), None if second is None else label(second)
+    known = Answers(*names, [line[0] for line in rows], ys, entries, (present[0], present[1]), (areas[0], areas[1]), places, numbers)
     if not known.entries:
         return note("The table has no entry.")
     is_large = len(known.xs) > MOST_SIDE or len(known.ys) > MOST_SIDE

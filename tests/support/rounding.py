@@ -1,5 +1,6 @@
 """Exact numbers as the program shows them, worked out by Python's fractions."""
 
+from collections.abc import Sequence
 from fractions import Fraction
 
 LARGEST = 2**127 - 1
@@ -34,6 +35,6 @@ def shown(number: Fraction | int) -> str:
     return "-" + text if top < 0 else text
 
 
-def shown_rows(rows: list[list[Fraction | int]]) -> list[list[str]]:
+def shown_rows(rows: Sequence[Sequence[Fraction | int]]) -> list[list[str]]:
     """Rows of numbers as shown texts."""
     return [[shown(number) for number in row] for row in rows]

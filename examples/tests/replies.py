@@ -1,21 +1,20 @@
 """Reads a script and its replies, and pairs each command with what was answered."""
 
-import csv
-import io
-import re
-from dataclasses import dataclass, field
-from pathlib import Path
+from dataclasses import dataclass
 
-EXAMPLES = Path(__file__).resolve().parent
-DATA = re.compile(r"(?:force +)?csv +\S+ +(\d{1,7})")
+from tests import ROOT
+from whatif_tools.program import parted, whole_replies
+from whatif_tools.script import commands, lines_of
+
+EXAMPLES = ROOT / "examples"
 
 
-@dataclass
+@dataclass(frozen=True)
 class Reply:
     """What one command was answered: its records, and the refusal or None."""
 
     command: str
-    records: list[list[str]] = field(default_factory=list)
+    records: list[list[str]]
     refusal: str | None = None
 
 
@@ -25,38 +24,16 @@ def commands_of(script: str) -> list[str]:
     >>> commands_of("# a table\\ncsv A1 1\\n1,2\\nshow A1")
     ['csv A1 1', 'show A1']
     """
-    commands, data = [], 0
-    for line in script.splitlines():
-        if data:
-            data -= 1
-        elif line.strip(" ") and not line.startswith("#"):
-            commands.append(line)
-            found = DATA.fullmatch(line)
-            data = int(found[1]) if found else 0
-    return commands
-
-
-def records_of(lines: list[str]) -> list[list[str]]:
-    """The fields of CSV records, which may have line breaks in them."""
-    return list(csv.reader(io.StringIO("".join(lines), newline="")))
+    return [command.text for command in commands(lines_of(script.encode()))]
 
 
 def replies_of(script: str, written: str) -> list[Reply]:
     """Each command of a script with its reply. A count of replies that isn't that of the commands is an error."""
-    replies, lines = [], []
-    waiting = iter(commands_of(script))
-    for line in written.split("\n")[:-1]:
-        open_field = "".join(lines).count('"') % 2 == 1
-        if not open_field and (line == "ok" or line.startswith("refused ")):
-            refusal = None if line == "ok" else line.removeprefix("refused ")
-            replies.append(Reply(next(waiting), records_of(lines), refusal))
-            lines = []
-        elif open_field or not re.fullmatch(r"lines \d+", line):
-            lines.append(line + "\n")
-    left = list(waiting)
-    if left or lines:
-        raise ValueError(f"no reply to {left[:1]}, or no end of {lines[:1]}")
-    return replies
+    asked, rest = commands_of(script), whole_replies(written.encode())[1]
+    replies = parted(written.encode())
+    if len(asked) != len(replies) or rest:
+        raise ValueError(f"{len(asked)} commands and {len(replies)} replies, and behind these {rest[:40]!r}")
+    return [Reply(command, reply.records(), None if reply.end == "ok" else reply.end.removeprefix("refused ")) for command, reply in zip(asked, replies)]
 
 
 class Example:

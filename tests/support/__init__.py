@@ -1,0 +1,1 @@
+"""What tests, examples and benchmarks share. What the tools need too is in tools/whatif_tools."""
