@@ -1,6 +1,7 @@
 pub mod State
 pub mod Views
 pub mod Answer
+pub mod Commands
 pub mod Causes
 pub mod Edits
 pub mod Set
