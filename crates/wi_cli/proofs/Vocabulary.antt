@@ -107,7 +107,6 @@ pub use Rattle.wi_scenarios.specs.Commands.Edits.{Put, Puts, after_edit, copy_in
 pub use Rattle.wi_scenarios.specs.Commands.Operands.{ADDR, ANY, CONTENT, Cell, Corners, LINES, NAME, Operand, RECT, SESSION, SIDE, WORD, address, area, is_outside}
 pub use Rattle.wi_scenarios.specs.Commands.Step.{IsFirstOf, IsStep, Tells, causes}
 pub use Rattle.wi_scenarios.specs.Csv.{ImportOutcome, csv_answer}
-pub use Rattle.wi_scenarios.specs.Drop.{is_in_use}
 pub use Rattle.wi_scenarios.specs.Edits.{edit_answer, stale_in}
 pub use Rattle.wi_scenarios.specs.Events.{Event, ForcedIsNotStale, IsCoherent, IsFirstNewer, KeepsApart, ListsAddUp, LogGrows, MayFollow, MayHappen, RecordsTellList, StaleIsNewer, StaysCoherent, counts_before, edits_since, is_accepted_changes, is_refused_before, is_told, left_by, logged, state_after, unseen, with_lists}
 pub use Rattle.wi_scenarios.specs.Fill.{copy_to, has_no_copy, or_nothing}

@@ -6,6 +6,10 @@ pub mod FillLemmas
 pub mod LookLemmas
 pub mod ChangesLemmas
 pub mod CsvLemmas
+pub mod CommandWords
+pub mod FirstCause
+pub mod CauseTests
+pub mod ScenarioSteps
 pub mod StepLemmas
 pub mod DifferingLemmas
 pub mod SwitchLemmas

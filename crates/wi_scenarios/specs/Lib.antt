@@ -9,7 +9,6 @@ pub mod Clear
 pub mod Fill
 pub mod Csv
 pub mod Scenario
-pub mod Drop
 pub mod Base
 pub mod Use
 pub mod As

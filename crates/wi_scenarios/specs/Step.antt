@@ -5,12 +5,13 @@ use Rattle.wi_sessions.specs.Sessions.{has_session}
 use Rattle.wi_scenarios.specs.declared.refusal.Refusal.{Refusal}
 use Rattle.wi_scenarios.specs.State.{State}
 use Rattle.wi_scenarios.specs.Answer.{Answer, MayGrow}
+use Rattle.wi_scenarios.specs.Commands.Command as command
+use Rattle.wi_scenarios.specs.Commands.Step.{IsStep}
 use Rattle.wi_scenarios.specs.Set.{IsSetStep}
 use Rattle.wi_scenarios.specs.Clear.{clear_step}
 use Rattle.wi_scenarios.specs.Fill.{fill_step}
 use Rattle.wi_scenarios.specs.Csv.{IsCsvStep}
 use Rattle.wi_scenarios.specs.Scenario.{IsScenarioStep}
-use Rattle.wi_scenarios.specs.Drop.{drop_step}
 use Rattle.wi_scenarios.specs.Base.{base_step}
 use Rattle.wi_scenarios.specs.Use.{use_step}
 use Rattle.wi_scenarios.specs.As.{as_step}
@@ -49,7 +50,7 @@ IsCallStep s (Clear force area) a = clear_step s force area ≡ a
 IsCallStep s (Fill force from area) a = fill_step s force from area ≡ a
 IsCallStep s (Csv force at text) a = IsCsvStep s force at text a
 IsCallStep s (Scenario name at content) a = IsScenarioStep s name at content a
-IsCallStep s (Drop name) a = drop_step s name ≡ a
+IsCallStep s (Drop name) a = IsStep s (command.Drop name) a
 IsCallStep s (Base name other) a = base_step s name other ≡ a
 IsCallStep s (Use name) a = use_step s name ≡ a
 IsCallStep s (As name) a = as_step s name ≡ a

@@ -11,6 +11,8 @@ ghost use Rattle.wi_reports.specs.Looks.{Costs};
 ghost use Rattle.wi_scenarios.specs.declared.refusal.Refusal.TheVariants.{Memory};
 ghost use Rattle.wi_scenarios.specs.State.{state_over};
 ghost use Rattle.wi_scenarios.specs.Answer.{Serves, ServesData};
+ghost use Rattle.wi_scenarios.specs.Commands.Command as command;
+ghost use Rattle.wi_scenarios.specs.Commands.Step.{IsStep};
 ghost use Rattle.wi_scenarios.specs.Clear.{clear_edit};
 ghost use Rattle.wi_scenarios.specs.Csv.{imported_cells};
 ghost use Rattle.wi_scenarios.specs.Scenario.{take_away_step};
@@ -265,7 +267,7 @@ impl<C: Calculator> Workbook<C> {
     /// Removes a scenario that no session uses, and on which none is based. Takes no memory. The work grows with the counts of
     /// scenarios and sessions.
     pub fn scenario_drop(&mut self, name: Name<'_>) -> Result<(), Refusal>
-        ensures step { Serves (IsCallStep self.old.state (call.Drop (bytes_of name.entry)))
+        ensures step { Serves (IsStep self.old.state (command.Drop (bytes_of name.entry)))
             result self.old.state self.new.state [] }
         ensures pending { self.new.pending ≡ self.old.pending }
         ensures counts { SameCounts self.old self.new }

@@ -2,7 +2,8 @@
 use Rattle.wi_cli.proofs.Vocabulary.{◌≡◌, ◌*◌, ℕ, Bool, true, false, ◌||◌, nat_lt, [], ◌∷◌, length, Option, Some, None, Ok, Err, refl, sym, ap, ◌∙◌, arith, list_any, or-false, both_ways, Area, size_of, effective, lacks, rows_shown, export_of, cells_compared, content_record, change_records, told, State, max_area, current_session, with_current, current_replacements, change_list, of_operand, Cell, Corners, is_outside, address, area, RECT, SIDE, Bytes, Show, Export, Compare, Formula, Changes, form, Cause, Outside, TooLarge, NoScenario, lies_outside, is_missing, size, SameStep, read_area, was}
 use Rattle.wi_scenarios.specs.declared.refusal.Refusal.TheVariants as refusal
 use Rattle.wi_scenarios.specs.Step as old
-use Rattle.wi_cli.proofs.Ties.Tests.{IsTested, never, is_large, is_small, Picked, by_tests}
+use Rattle.wi_scenarios.proofs.CauseTests.{IsTested, never, is_large, is_small}
+use Rattle.wi_cli.proofs.Ties.Tests.{Picked, by_tests}
 
 -- a number of cells, as a product
 pub once : (n : ℕ) → n ≡ n * 1

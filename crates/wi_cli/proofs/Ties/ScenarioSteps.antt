@@ -1,24 +1,11 @@
 -- The steps of the commands of scenarios and sessions.
-use Rattle.wi_cli.proofs.Vocabulary.{◌≡◌, ◌↔◌, ℕ, Bool, true, false, not, ◌||◌, ◌&&◌, nat_le, List, [], ◌∷◌, length, ◌⊎◌, inl, inr, Option, Some, None, is_some, refl, sym, ap, ◌∙◌, subst, list_any, Any, Any-from_list_any, list_any-from_Any, bytes_eq-Decides, or_cases, both_ways, leb-true, le-leb, or-false, or-true, Value, IsImported, imported, imported_exactly, Any-weaker, is_named, has_scenario, scenario_for, without_scenario, with_own, without_own, is_full, chain, is_name_of, is_base, based_on, lacks, would_loop, Session, has_session, max_sessions, with_session, index_of, using_scenario, State, is_in_use, current_session, with_current, Cell, is_outside, address, Bytes, Command, Scenario, Drop, Base, Use, As, form, Cause, Outside, TooLarge, NoScenario, InUse, TooMany, TooLong, Loop, Holds, lies_outside, is_missing, Does, state_with, causes, SameStep, was}
+use Rattle.wi_cli.proofs.Vocabulary.{◌≡◌, ◌↔◌, ℕ, Bool, true, false, not, ◌||◌, ◌&&◌, nat_le, List, [], ◌∷◌, length, Option, Some, None, is_some, refl, sym, ap, ◌∙◌, subst, list_any, Any, Any-from_list_any, list_any-from_Any, bytes_eq-Decides, both_ways, leb-true, le-leb, or-false, Value, IsImported, imported, imported_exactly, Any-weaker, is_named, has_scenario, scenario_for, with_own, without_own, is_full, chain, based_on, lacks, would_loop, has_session, max_sessions, with_session, index_of, using_scenario, State, current_session, with_current, Cell, is_outside, address, Bytes, Command, Scenario, Base, Use, As, form, Cause, Outside, TooLarge, NoScenario, TooMany, TooLong, Loop, lies_outside, is_missing, Does, state_with, causes, SameStep, was}
 use Rattle.wi_scenario_list.specs.Scenarios.{Scenario as Kept}
 use Rattle.wi_scenarios.specs.Step as old
-use Rattle.wi_cli.proofs.Ties.Tests.{first_test, some_none, IsTested, never, is_small, Picked, by_tests}
+use Rattle.wi_scenarios.proofs.CauseTests.{first_test, some_none, IsTested, never, is_small}
+use Rattle.wi_cli.proofs.Ties.Tests.{Picked, by_tests}
 
--- ---- names that are given
-
-named_is : (name : Bytes) (o : Option Bytes) → is_name_of name o ≡ true → o ≡ Some name
-named_is name None e = absurd (both_ways false refl e)
-named_is name (Some other) e = ap (λ (x : Bytes). Some x) (sym ((bytes_eq-Decides name other).0 e))
-
-is_named_so : (name : Bytes) (o : Option Bytes) → o ≡ Some name → is_name_of name o ≡ true
-is_named_so name o e = ap (is_name_of name) e ∙ (bytes_eq-Decides name name).1 refl
-
-module _ {X : Type 0} (given : X → Option Bytes) (name : Bytes) (xs : List X) where
-  any_named : (list_any (λ x. is_name_of name (given x)) xs ≡ true) ↔ Any (λ x. given x ≡ Some name) xs
-  any_named = (
-    λ e. Any-weaker (λ x. is_name_of name (given x) ≡ true) (λ x. given x ≡ Some name) xs (λ x h. named_is name (given x) h) (Any-from_list_any (λ x. is_name_of name (given x)) xs e),
-    λ h. list_any-from_Any (λ x. is_name_of name (given x)) xs (Any-weaker (λ x. given x ≡ Some name) (λ x. is_name_of name (given x) ≡ true) xs (λ x k. is_named_so name (given x) k) h),
-  )
+-- ---- chains
 
 module _ (name : Bytes) (xs : List Kept) where
   in_chain : (list_any (is_named name) xs ≡ true) ↔ Any (λ x. x.name ≡ name) xs
@@ -26,43 +13,6 @@ module _ (name : Bytes) (xs : List Kept) where
     λ e. Any-weaker (λ x. is_named name x ≡ true) (λ x. x.name ≡ name) xs (λ x h. sym ((bytes_eq-Decides name x.name).0 h)) (Any-from_list_any (is_named name) xs e),
     λ h. list_any-from_Any (is_named name) xs (Any-weaker (λ x. x.name ≡ name) (λ x. is_named name x ≡ true) xs (λ x k. (bytes_eq-Decides name x.name).1 (sym k)) h),
   )
-
--- ---- drop
-
-module _ (s : State) (name : Bytes) where
-  abbrev dropped : State × Bytes
-  dropped = (record s { scenarios = without_scenario s.scenarios name }, [])
-
-  abbrev drop_test : Cause → Bool
-  drop_test NoScenario = not (has_scenario s.scenarios name) || false
-  drop_test InUse = is_in_use s name
-  drop_test x = false
-
-  pub drop_tested : (x : Cause) → IsTested s (Drop name) drop_test x
-  drop_tested Outside = (λ e. e, λ h. h)
-  drop_tested TooLarge = is_small
-  drop_tested NoScenario = (λ e. e, λ h. h)
-  drop_tested InUse = (λ e. by (or_cases (list_any (λ x. is_name_of name x.scenario) s.sessions) (is_base s.scenarios name) e), back)
-    where
-      by : (list_any (λ x. is_name_of name x.scenario) s.sessions ≡ true) ⊎ (is_base s.scenarios name ≡ true) → Holds s InUse (Drop name)
-      by (inl h) = inl ((any_named (λ (x : Session). x.scenario) name s.sessions).0 h)
-      by (inr h) = inr ((any_named (λ (x : Kept). x.base) name s.scenarios).0 h)
-
-      back : Holds s InUse (Drop name) → is_in_use s name ≡ true
-      back (inl h) = ap (λ (b : Bool). b || is_base s.scenarios name) ((any_named (λ (x : Session). x.scenario) name s.sessions).1 h)
-      back (inr h) = ap (λ (b : Bool). list_any (λ x. is_name_of name x.scenario) s.sessions || b) ((any_named (λ (x : Kept). x.base) name s.scenarios).1 h) ∙ or-true _
-  drop_tested x = never
-
-  drop_picked : (missing used : Bool) → not (has_scenario s.scenarios name) ≡ missing → is_in_use s name ≡ used
-      → Picked s drop_test (was (Drop name)) dropped
-  drop_picked true used em eu = (Some NoScenario, rw em refl, rw em refl)
-  drop_picked false true em eu = (Some InUse, rw (em, eu) refl, rw (em, eu) refl)
-  drop_picked false false em eu = (None, rw (em, eu) refl, rw (em, eu) refl)
-
-  pub same_drop : SameStep s (Drop name)
-  same_drop =
-      by_tests s (Drop name) drop_test drop_tested refl (λ q h. h) dropped (λ e. refl) (λ x y h k. h ∙ sym k) (was (Drop name))
-      (drop_picked (not (has_scenario s.scenarios name)) (is_in_use s name) refl refl)
 
 -- ---- use
 
