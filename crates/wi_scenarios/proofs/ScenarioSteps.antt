@@ -1,8 +1,8 @@
 -- The steps of the commands of scenarios, by what their bodies find.
-use Rattle.wi_scenarios.proofs.Words.{◌≡◌, ◌↔◌, ◌∙◌, Bool, true, false, not, ◌||◌, List, [], ◌⊎◌, inl, inr, Option, Some, None, Ok, Err, refl, sym, ap, subst, Any, Any-weaker, Any-from_list_any, list_any, list_any-from_Any, or_cases, or-true, both_ways, bytes_eq-Decides, Scenario, has_scenario, without_scenario, is_name_of, is_base, Session, State, Answer}
+use Rattle.wi_scenarios.proofs.Words.{◌≡◌, ◌↔◌, ◌∙◌, Bool, true, false, not, ◌||◌, List, [], ◌⊎◌, inl, inr, Option, Some, None, Ok, Err, refl, sym, ap, subst, Any, Any-weaker, Any-from_list_any, list_any, list_any-from_Any, or_cases, or-false, or-true, both_ways, bytes_eq-Decides, Scenario, is_named, has_scenario, scenario_for, with_scenario, without_scenario, chain, is_name_of, is_base, lacks, based_on, would_loop, Session, using_scenario, State, current_session, with_current, Answer}
 use Rattle.std.specs.Prelude.{ℕ}
 use Rattle.wi_scenarios.specs.declared.refusal.Refusal.TheVariants as refusal
-use Rattle.wi_scenarios.proofs.CommandWords.{Drop, Cause, Outside, TooLarge, NoScenario, InUse, Holds, IsStep, causes}
+use Rattle.wi_scenarios.proofs.CommandWords.{Drop, Base, Use, form, Cause, Outside, TooLarge, NoScenario, InUse, Loop, Holds, is_missing, IsStep, causes}
 use Rattle.wi_scenarios.proofs.CauseTests.{first_test, found, IsTested, never, is_small, tested_step}
 
 -- ---- names that are given
@@ -74,3 +74,81 @@ module _ (s : State) (name : List ℕ) where
   drop_done next e there unused free =
       subst (λ (xs : List Scenario). IsStep s (Drop name) (Ok (record s { scenarios = xs }, []))) (sym e)
       (drop_step true false there (neither (list_any (λ x. is_name_of name x.scenario) s.sessions) (is_base s.scenarios name) unused free))
+
+-- ---- use
+
+abbrev pub used : State → Option (List ℕ) → State
+used s name = with_current s (using_scenario (current_session s) name)
+
+abbrev pub use_test : State → Option (List ℕ) → Cause → Bool
+use_test s name NoScenario = lacks s.scenarios name
+use_test s name x = false
+
+use_tested : (s : State) (name : Option (List ℕ)) (x : Cause) → IsTested s (Use name) (use_test s name) x
+use_tested s None Outside = (λ e. e, λ h. h)
+use_tested s (Some name) Outside = (λ e. e, λ h. h)
+use_tested s None TooLarge = is_small
+use_tested s (Some name) TooLarge = is_small
+use_tested s None NoScenario = (λ e. e, λ h. h)
+use_tested s (Some name) NoScenario = (λ e. or-false _ ∙ e, λ h. sym (or-false _) ∙ h)
+use_tested s name x = never
+
+module _ (s : State) (name : Option (List ℕ)) where
+  use_answered : (o : Option Cause) → first_test (use_test s name) causes ≡ o → IsStep s (Use name) (found (used s name, []) o)
+  use_answered o e = tested_step s (Use name) (use_test s name) (use_tested s name) refl (λ q h. h) (used s name, []) (λ e. refl) o e
+
+  abbrev pub use_answer : Bool → Answer
+  use_answer true = Err refusal.NoScenario
+  use_answer false = Ok (used s name, [])
+
+  pub use_step : (missing : Bool) → lacks s.scenarios name ≡ missing → IsStep s (Use name) (use_answer missing)
+  use_step true em = use_answered (Some NoScenario) (rw em refl)
+  use_step false em = use_answered None (rw em refl)
+
+-- ---- base
+
+module _ (name : List ℕ) (xs : List Scenario) where
+  in_chain : (list_any (is_named name) xs ≡ true) ↔ Any (λ x. x.name ≡ name) xs
+  in_chain = (
+    λ e. Any-weaker (λ x. is_named name x ≡ true) (λ x. x.name ≡ name) xs (λ x h. sym ((bytes_eq-Decides name x.name).0 h)) (Any-from_list_any (is_named name) xs e),
+    λ h. list_any-from_Any (is_named name) xs (Any-weaker (λ x. x.name ≡ name) (λ x. is_named name x ≡ true) xs (λ x k. (bytes_eq-Decides name x.name).1 (sym k)) h),
+  )
+
+module _ (s : State) (name : List ℕ) (other : Option (List ℕ)) where
+  abbrev pub rebased : State
+  rebased = record s { scenarios = with_scenario s.scenarios (based_on (scenario_for s.scenarios name) other) }
+
+  abbrev pub base_test : Cause → Bool
+  base_test NoScenario = not (has_scenario s.scenarios name) || lacks s.scenarios other
+  base_test Loop = would_loop s.scenarios name other
+  base_test x = false
+
+missing_base : (s : State) (name : List ℕ) (other : Option (List ℕ)) → list_any (is_missing s) (form (Base name other)) ≡ (not (has_scenario s.scenarios name) || lacks s.scenarios other)
+missing_base s name None = refl
+missing_base s name (Some other) = ap (λ (b : Bool). not (has_scenario s.scenarios name) || b) (or-false (not (has_scenario s.scenarios other)))
+
+pub base_tested : (s : State) (name : List ℕ) (other : Option (List ℕ)) (x : Cause) → IsTested s (Base name other) (base_test s name other) x
+base_tested s name None Outside = (λ e. e, λ h. h)
+base_tested s name (Some other) Outside = (λ e. e, λ h. h)
+base_tested s name None TooLarge = is_small
+base_tested s name (Some other) TooLarge = is_small
+base_tested s name other NoScenario = (λ e. missing_base s name other ∙ e, λ h. sym (missing_base s name other) ∙ h)
+base_tested s name None Loop = never
+base_tested s name (Some other) Loop = in_chain name (chain s.scenarios (Some other))
+base_tested s name other x = never
+
+module _ (s : State) (name : List ℕ) (other : Option (List ℕ)) where
+  base_answered : (o : Option Cause) → first_test (base_test s name other) causes ≡ o → IsStep s (Base name other) (found (rebased s name other, []) o)
+  base_answered o e =
+      tested_step s (Base name other) (base_test s name other) (base_tested s name other) refl (λ q h. h) (rebased s name other, []) (λ e. refl) o e
+
+  abbrev pub base_answer : Bool → Bool → Answer
+  base_answer true loop = Err refusal.NoScenario
+  base_answer false true = Err refusal.Loop
+  base_answer false false = Ok (rebased s name other, [])
+
+  pub base_step : (missing loop : Bool) → (not (has_scenario s.scenarios name) || lacks s.scenarios other) ≡ missing → would_loop s.scenarios name other ≡ loop
+      → IsStep s (Base name other) (base_answer missing loop)
+  base_step true loop em el = base_answered (Some NoScenario) (rw em refl)
+  base_step false true em el = base_answered (Some Loop) (rw (em, el) refl)
+  base_step false false em el = base_answered None (rw (em, el) refl)

@@ -1,9 +1,9 @@
 -- A call has one answer.
-use Rattle.wi_scenarios.proofs.Words.{◌≡◌, [], ◌∷◌, Err, refl, sym, ap, ◌∙◌, imported, imported_exactly, content_read, content_is_one, fields_at, some_import, no_other as no_other_import, has_scenario, State, Answer, set_answer, clear_step, fill_step, csv_answer, put_answer, take_away_step, base_step, use_step, as_step, show_step, export_step, changes_step, compare_step, table_step, formula_step, Call, Set, Clear, Fill, Csv, Drop, Base, Use, As, Show, Export, Changes, Compare, Table, Formula, Refused, RefusedData, IsCallStep}
+use Rattle.wi_scenarios.proofs.Words.{◌≡◌, not, ◌||◌, [], ◌∷◌, Err, refl, sym, ap, ◌∙◌, imported, imported_exactly, content_read, content_is_one, fields_at, some_import, no_other as no_other_import, has_scenario, lacks, would_loop, State, Answer, set_answer, clear_step, fill_step, csv_answer, put_answer, take_away_step, as_step, show_step, export_step, changes_step, compare_step, table_step, formula_step, Call, Set, Clear, Fill, Csv, Drop, Base, Use, As, Show, Export, Changes, Compare, Table, Formula, Refused, RefusedData, IsCallStep}
 use Rattle.wi_scenarios.specs.Commands.Command as command
 use Rattle.wi_scenarios.specs.Step.{Scenario}
 use Rattle.wi_scenarios.proofs.FirstCause.{one_answer}
-use Rattle.wi_scenarios.proofs.ScenarioSteps.{is_in_use, drop_answer, drop_step}
+use Rattle.wi_scenarios.proofs.ScenarioSteps.{is_in_use, drop_answer, drop_step, use_answer, use_step, base_answer, base_step}
 
 pub an_answer : (s : State) (c : Call) → (a : Answer) × IsCallStep s c a
 an_answer s (Set force at text) =
@@ -20,8 +20,11 @@ an_answer s (Scenario name at (b ∷ bs)) =
     (put_answer s name at value, record { value = value; is_value = (imported_exactly (b ∷ bs) value).1 refl; answered = refl })
 an_answer s (Drop name) =
     (drop_answer s name (has_scenario s.scenarios name) (is_in_use s name), drop_step s name (has_scenario s.scenarios name) (is_in_use s name) refl refl)
-an_answer s (Base name other) = (base_step s name other, refl)
-an_answer s (Use name) = (use_step s name, refl)
+an_answer s (Base name other) =
+    let missing = not (has_scenario s.scenarios name) || lacks s.scenarios other in
+    let loop = would_loop s.scenarios name other in
+    (base_answer s name other missing loop, base_step s name other missing loop refl refl)
+an_answer s (Use name) = (use_answer s name (lacks s.scenarios name), use_step s name (lacks s.scenarios name) refl)
 an_answer s (As name) = (as_step s name, refl)
 an_answer s (Show area) = (show_step s area, refl)
 an_answer s (Export area) = (export_step s area, refl)
@@ -46,8 +49,8 @@ no_other s (Scenario name at (x ∷ xs)) a b h k =
     let same : h.value ≡ k.value = sym ((imported_exactly (x ∷ xs) h.value).0 h.is_value) ∙ (imported_exactly (x ∷ xs) k.value).0 k.is_value in
     sym h.answered ∙ ap (put_answer s name at) same ∙ k.answered
 no_other s (Drop name) a b h k = one_answer s (command.Drop name) (λ x y d e. d ∙ sym e) a b h k
-no_other s (Base name other) a b h k = sym h ∙ k
-no_other s (Use name) a b h k = sym h ∙ k
+no_other s (Base name other) a b h k = one_answer s (command.Base name other) (λ x y d e. d ∙ sym e) a b h k
+no_other s (Use name) a b h k = one_answer s (command.Use name) (λ x y d e. d ∙ sym e) a b h k
 no_other s (As name) a b h k = sym h ∙ k
 no_other s (Show area) a b h k = sym h ∙ k
 no_other s (Export area) a b h k = sym h ∙ k

@@ -62,7 +62,6 @@ pub use Rattle.wi_scenario_list.specs.Scenarios.{Scenario, has_scenario, is_full
 pub use Rattle.wi_scenarios.specs.Answer.{Answer, MayRefuse, MayRefuseData, Serves, ServesData, field_refusal, import_refusal, may_grow, parse_refusal}
 pub use Rattle.wi_scenarios.specs.As.{as_step}
 pub use Rattle.wi_scenarios.specs.Asked.{asked_by_changes, asked_by_compare, asked_by_show, asked_by_table}
-pub use Rattle.wi_scenarios.specs.Base.{base_step}
 pub use Rattle.wi_scenarios.specs.Causes.{answer, first_cause, no_cause, unless, when}
 pub use Rattle.wi_scenarios.specs.Changes.{change_list, changes_step}
 pub use Rattle.wi_scenarios.specs.Clear.{clear_edit, clear_step}
@@ -86,7 +85,6 @@ pub use Rattle.wi_scenarios.specs.Show.{show_step}
 pub use Rattle.wi_scenarios.specs.State.{State, max_area, state_over}
 pub use Rattle.wi_scenarios.specs.Step.{As, Base, Call, Changes, Clear, Compare, Csv, Drop, Export, Fill, Formula, IsCallStep, Refused, RefusedData, Set, Show, Table, Use}
 pub use Rattle.wi_scenarios.specs.Table.{table_step}
-pub use Rattle.wi_scenarios.specs.Use.{use_step}
 pub use Rattle.wi_scenarios.specs.Views.{current_replacements, current_session, shown_to, with_current}
 pub use Rattle.wi_scenarios.specs.declared.desk.Desk.{Desk}
 pub use Rattle.wi_scenarios.specs.declared.refusal.Refusal.{Refusal}

@@ -9,8 +9,6 @@ pub mod Clear
 pub mod Fill
 pub mod Csv
 pub mod Scenario
-pub mod Base
-pub mod Use
 pub mod As
 pub mod Show
 pub mod Export

@@ -12,8 +12,6 @@ use Rattle.wi_scenarios.specs.Clear.{clear_step}
 use Rattle.wi_scenarios.specs.Fill.{fill_step}
 use Rattle.wi_scenarios.specs.Csv.{IsCsvStep}
 use Rattle.wi_scenarios.specs.Scenario.{IsScenarioStep}
-use Rattle.wi_scenarios.specs.Base.{base_step}
-use Rattle.wi_scenarios.specs.Use.{use_step}
 use Rattle.wi_scenarios.specs.As.{as_step}
 use Rattle.wi_scenarios.specs.Show.{show_step}
 use Rattle.wi_scenarios.specs.Export.{export_step}
@@ -51,8 +49,8 @@ IsCallStep s (Fill force from area) a = fill_step s force from area ≡ a
 IsCallStep s (Csv force at text) a = IsCsvStep s force at text a
 IsCallStep s (Scenario name at content) a = IsScenarioStep s name at content a
 IsCallStep s (Drop name) a = IsStep s (command.Drop name) a
-IsCallStep s (Base name other) a = base_step s name other ≡ a
-IsCallStep s (Use name) a = use_step s name ≡ a
+IsCallStep s (Base name other) a = IsStep s (command.Base name other) a
+IsCallStep s (Use name) a = IsStep s (command.Use name) a
 IsCallStep s (As name) a = as_step s name ≡ a
 IsCallStep s (Show area) a = show_step s area ≡ a
 IsCallStep s (Export area) a = export_step s area ≡ a

@@ -248,7 +248,7 @@ impl<C: Calculator> Workbook<C> {
     /// `scenario_set` does: the work grows with the count of scenarios, the scenario's own replacements, all that the sessions' scenarios
     /// put in, and what depends on the cells whose replacement changes.
     pub fn scenario_base(&mut self, name: Name<'_>, other: Option<Name<'_>>) -> Result<(), Refusal>
-        ensures step { Serves (IsCallStep self.old.state (call.Base (bytes_of name.entry)
+        ensures step { Serves (IsStep self.old.state (command.Base (bytes_of name.entry)
             (option_map bytes_of other.entry))) result self.old.state self.new.state [] }
         ensures adds { AddsOnly C.marked ([])
             self.old.state self.new.state self.old.pending self.new.pending }
@@ -280,7 +280,7 @@ impl<C: Calculator> Workbook<C> {
     /// in, and with what depends on the cells whose replacement changes.
     pub fn use_scenario(&mut self, name: Option<Name<'_>>) -> Result<(), Refusal>
         ensures step { Serves
-            (IsCallStep self.old.state (call.Use (option_map bytes_of name.entry)))
+            (IsStep self.old.state (command.Use (option_map bytes_of name.entry)))
             result self.old.state self.new.state [] }
         ensures adds { AddsOnly C.marked ([])
             self.old.state self.new.state self.old.pending self.new.pending }

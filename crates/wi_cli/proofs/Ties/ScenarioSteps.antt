@@ -1,46 +1,8 @@
 -- The steps of the commands of scenarios and sessions.
-use Rattle.wi_cli.proofs.Vocabulary.{◌≡◌, ◌↔◌, ℕ, Bool, true, false, not, ◌||◌, ◌&&◌, nat_le, List, [], ◌∷◌, length, Option, Some, None, is_some, refl, sym, ap, ◌∙◌, subst, list_any, Any, Any-from_list_any, list_any-from_Any, bytes_eq-Decides, both_ways, leb-true, le-leb, or-false, Value, IsImported, imported, imported_exactly, Any-weaker, is_named, has_scenario, scenario_for, with_own, without_own, is_full, chain, based_on, lacks, would_loop, has_session, max_sessions, with_session, index_of, using_scenario, State, current_session, with_current, Cell, is_outside, address, Bytes, Command, Scenario, Base, Use, As, form, Cause, Outside, TooLarge, NoScenario, TooMany, TooLong, Loop, lies_outside, is_missing, Does, state_with, causes, SameStep, was}
-use Rattle.wi_scenario_list.specs.Scenarios.{Scenario as Kept}
+use Rattle.wi_cli.proofs.Vocabulary.{◌≡◌, ℕ, Bool, true, false, not, ◌||◌, ◌&&◌, nat_le, [], ◌∷◌, length, Option, Some, None, is_some, refl, sym, ap, ◌∙◌, subst, list_any, both_ways, leb-true, le-leb, Value, IsImported, imported, imported_exactly, has_scenario, scenario_for, with_own, without_own, is_full, has_session, max_sessions, with_session, index_of, State, Cell, is_outside, address, Bytes, Command, Scenario, As, form, Cause, Outside, TooLarge, NoScenario, TooMany, TooLong, lies_outside, Does, state_with, causes, SameStep, was}
 use Rattle.wi_scenarios.specs.Step as old
 use Rattle.wi_scenarios.proofs.CauseTests.{first_test, some_none, IsTested, never, is_small}
 use Rattle.wi_cli.proofs.Ties.Tests.{Picked, by_tests}
-
--- ---- chains
-
-module _ (name : Bytes) (xs : List Kept) where
-  in_chain : (list_any (is_named name) xs ≡ true) ↔ Any (λ x. x.name ≡ name) xs
-  in_chain = (
-    λ e. Any-weaker (λ x. is_named name x ≡ true) (λ x. x.name ≡ name) xs (λ x h. sym ((bytes_eq-Decides name x.name).0 h)) (Any-from_list_any (is_named name) xs e),
-    λ h. list_any-from_Any (is_named name) xs (Any-weaker (λ x. x.name ≡ name) (λ x. is_named name x ≡ true) xs (λ x k. (bytes_eq-Decides name x.name).1 (sym k)) h),
-  )
-
--- ---- use
-
-module _ (s : State) (name : Option Bytes) where
-  abbrev used : State × Bytes
-  used = (with_current s (using_scenario (current_session s) name), [])
-
-  abbrev use_test : Cause → Bool
-  use_test NoScenario = lacks s.scenarios name
-  use_test x = false
-
-use_tested : (s : State) (name : Option Bytes) (x : Cause) → IsTested s (Use name) (use_test s name) x
-use_tested s None Outside = (λ e. e, λ h. h)
-use_tested s (Some name) Outside = (λ e. e, λ h. h)
-use_tested s None TooLarge = is_small
-use_tested s (Some name) TooLarge = is_small
-use_tested s None NoScenario = (λ e. e, λ h. h)
-use_tested s (Some name) NoScenario = (λ e. or-false _ ∙ e, λ h. sym (or-false _) ∙ h)
-use_tested s name x = never
-
-module _ (s : State) (name : Option Bytes) where
-  use_picked : (missing : Bool) → lacks s.scenarios name ≡ missing → Picked s (use_test s name) (was (Use name)) (used s name)
-  use_picked true em = (Some NoScenario, rw em refl, rw em refl)
-  use_picked false em = (None, rw em refl, rw em refl)
-
-  pub same_use : SameStep s (Use name)
-  same_use =
-      by_tests s (Use name) (use_test s name) (use_tested s name) refl (λ q h. h) (used s name) (λ e. refl) (λ x y h k. h ∙ sym k) (was (Use name)) (use_picked (lacks s.scenarios name) refl)
 
 -- ---- as
 
@@ -83,43 +45,6 @@ module _ (s : State) (name : Bytes) where
   pub same_as : SameStep s (As name)
   same_as =
       by_tests s (As name) as_test as_tested refl (λ q h. h) made_current (λ e. refl) (λ x y h k. h ∙ sym k) (was (As name)) (as_picked (not there && many) refl)
-
--- ---- base
-
-module _ (s : State) (name : Bytes) (other : Option Bytes) where
-  abbrev based : State × Bytes
-  based = (state_with s (based_on (scenario_for s.scenarios name) other), [])
-
-  abbrev base_test : Cause → Bool
-  base_test NoScenario = not (has_scenario s.scenarios name) || lacks s.scenarios other
-  base_test Loop = would_loop s.scenarios name other
-  base_test x = false
-
-missing_base : (s : State) (name : Bytes) (other : Option Bytes) → list_any (is_missing s) (form (Base name other)) ≡ (not (has_scenario s.scenarios name) || lacks s.scenarios other)
-missing_base s name None = refl
-missing_base s name (Some other) = ap (λ (b : Bool). not (has_scenario s.scenarios name) || b) (or-false (not (has_scenario s.scenarios other)))
-
-pub base_tested : (s : State) (name : Bytes) (other : Option Bytes) (x : Cause) → IsTested s (Base name other) (base_test s name other) x
-base_tested s name None Outside = (λ e. e, λ h. h)
-base_tested s name (Some other) Outside = (λ e. e, λ h. h)
-base_tested s name None TooLarge = is_small
-base_tested s name (Some other) TooLarge = is_small
-base_tested s name other NoScenario = (λ e. missing_base s name other ∙ e, λ h. sym (missing_base s name other) ∙ h)
-base_tested s name None Loop = never
-base_tested s name (Some other) Loop = in_chain name (chain s.scenarios (Some other))
-base_tested s name other x = never
-
-module _ (s : State) (name : Bytes) (other : Option Bytes) where
-  base_picked : (missing loop : Bool) → (not (has_scenario s.scenarios name) || lacks s.scenarios other) ≡ missing → would_loop s.scenarios name other ≡ loop
-      → Picked s (base_test s name other) (was (Base name other)) (based s name other)
-  base_picked true loop em el = (Some NoScenario, rw em refl, rw em refl)
-  base_picked false true em el = (Some Loop, rw (em, el) refl, rw (em, el) refl)
-  base_picked false false em el = (None, rw (em, el) refl, rw (em, el) refl)
-
-  pub same_base : SameStep s (Base name other)
-  same_base =
-      by_tests s (Base name other) (base_test s name other) (base_tested s name other) refl (λ q h. h) (based s name other) (λ e. refl) (λ x y h k. h ∙ sym k) (was (Base name other))
-      (base_picked (not (has_scenario s.scenarios name) || lacks s.scenarios other) (would_loop s.scenarios name other) refl refl)
 
 -- ---- scenario
 

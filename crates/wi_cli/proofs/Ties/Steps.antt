@@ -6,7 +6,7 @@ use Rattle.wi_cli.proofs.Ties.Sets.{same_set}
 use Rattle.wi_cli.proofs.Ties.Clears.{same_clear}
 use Rattle.wi_cli.proofs.Ties.Fills.{same_fill}
 use Rattle.wi_cli.proofs.Ties.CsvSteps.{same_csv}
-use Rattle.wi_cli.proofs.Ties.ScenarioSteps.{same_scenario, same_base, same_use, same_as}
+use Rattle.wi_cli.proofs.Ties.ScenarioSteps.{same_scenario, same_as}
 use Rattle.wi_cli.proofs.Ties.Looks.{same_show, same_export, same_compare, same_formula, same_changes}
 use Rattle.wi_cli.proofs.Ties.Tables.{same_table, same_table_of_two}
 
@@ -23,8 +23,8 @@ same_step s (Fill force at rect) = same_fill s force at rect
 same_step s (Csv force at n lines) = same_csv s force at n lines
 same_step s (Scenario name at text) = same_scenario s name at text
 same_step s (Drop name) = λ a. (λ h. h, λ h. h)
-same_step s (Base name other) = same_base s name other
-same_step s (Use name) = same_use s name
+same_step s (Base name other) = λ a. (λ h. h, λ h. h)
+same_step s (Use name) = λ a. (λ h. h, λ h. h)
 same_step s (As name) = same_as s name
 same_step s (Show rect) = same_show s rect
 same_step s (Export rect) = same_export s rect
