@@ -10,6 +10,7 @@ pub mod CommandWords
 pub mod FirstCause
 pub mod CauseTests
 pub mod ScenarioSteps
+pub mod LookSteps
 pub mod StepLemmas
 pub mod DifferingLemmas
 pub mod SwitchLemmas

@@ -1,8 +1,9 @@
 -- A call has one answer.
-use Rattle.wi_scenarios.proofs.Words.{◌≡◌, not, ◌||◌, [], ◌∷◌, Err, refl, sym, ap, ◌∙◌, imported, imported_exactly, content_read, content_is_one, fields_at, some_import, no_other as no_other_import, has_scenario, lacks, would_loop, State, Answer, set_answer, clear_step, fill_step, csv_answer, put_answer, take_away_step, as_step, show_step, export_step, changes_step, compare_step, table_step, formula_step, Call, Set, Clear, Fill, Csv, Drop, Base, Use, As, Show, Export, Changes, Compare, Table, Formula, Refused, RefusedData, IsCallStep}
+use Rattle.wi_scenarios.proofs.Words.{◌≡◌, not, ◌||◌, [], ◌∷◌, Ok, Err, refl, sym, ap, ◌∙◌, imported, imported_exactly, content_read, content_is_one, fields_at, some_import, no_other as no_other_import, has_scenario, lacks, would_loop, State, Answer, set_answer, clear_step, fill_step, csv_answer, put_answer, take_away_step, as_step, show_step, export_step, compare_step, table_step, formula_step, Call, Set, Clear, Fill, Csv, Drop, Base, Use, As, Show, Export, Changes, Compare, Table, Formula, Refused, RefusedData, IsCallStep}
 use Rattle.wi_scenarios.specs.Commands.Command as command
 use Rattle.wi_scenarios.specs.Step.{Scenario}
 use Rattle.wi_scenarios.proofs.FirstCause.{one_answer}
+use Rattle.wi_scenarios.proofs.LookSteps.{after_changes, changes_step}
 use Rattle.wi_scenarios.proofs.ScenarioSteps.{is_in_use, drop_answer, drop_step, use_answer, use_step, base_answer, base_step}
 
 pub an_answer : (s : State) (c : Call) → (a : Answer) × IsCallStep s c a
@@ -28,7 +29,7 @@ an_answer s (Use name) = (use_answer s name (lacks s.scenarios name), use_step s
 an_answer s (As name) = (as_step s name, refl)
 an_answer s (Show area) = (show_step s area, refl)
 an_answer s (Export area) = (export_step s area, refl)
-an_answer s Changes = (changes_step s, refl)
+an_answer s Changes = (Ok (after_changes s), changes_step s)
 an_answer s (Compare first second area) = (compare_step s first second area, refl)
 an_answer s (Table f r xs second) = (table_step s f r xs second, refl)
 an_answer s (Formula at) = (formula_step s at, refl)
@@ -54,7 +55,7 @@ no_other s (Use name) a b h k = one_answer s (command.Use name) (λ x y d e. d �
 no_other s (As name) a b h k = sym h ∙ k
 no_other s (Show area) a b h k = sym h ∙ k
 no_other s (Export area) a b h k = sym h ∙ k
-no_other s Changes a b h k = sym h ∙ k
+no_other s Changes a b h k = one_answer s command.Changes (λ x y d e. d ∙ sym e) a b h k
 no_other s (Compare first second area) a b h k = sym h ∙ k
 no_other s (Table f r xs second) a b h k = sym h ∙ k
 no_other s (Formula at) a b h k = sym h ∙ k

@@ -63,7 +63,7 @@ pub use Rattle.wi_scenarios.specs.Answer.{Answer, MayRefuse, MayRefuseData, Serv
 pub use Rattle.wi_scenarios.specs.As.{as_step}
 pub use Rattle.wi_scenarios.specs.Asked.{asked_by_changes, asked_by_compare, asked_by_show, asked_by_table}
 pub use Rattle.wi_scenarios.specs.Causes.{answer, first_cause, no_cause, unless, when}
-pub use Rattle.wi_scenarios.specs.Changes.{change_list, changes_step}
+pub use Rattle.wi_scenarios.specs.Changes.{change_list}
 pub use Rattle.wi_scenarios.specs.Clear.{clear_edit, clear_step}
 pub use Rattle.wi_scenarios.specs.Compare.{compare_step}
 pub use Rattle.wi_scenarios.specs.Csv.{ImportOutcome, IsCsvStep, contents_in, csv_answer, field_fault, has_bad_field, imported_cells}

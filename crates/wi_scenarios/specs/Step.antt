@@ -15,7 +15,6 @@ use Rattle.wi_scenarios.specs.Scenario.{IsScenarioStep}
 use Rattle.wi_scenarios.specs.As.{as_step}
 use Rattle.wi_scenarios.specs.Show.{show_step}
 use Rattle.wi_scenarios.specs.Export.{export_step}
-use Rattle.wi_scenarios.specs.Changes.{changes_step}
 use Rattle.wi_scenarios.specs.Compare.{compare_step}
 use Rattle.wi_scenarios.specs.Table.{table_step}
 use Rattle.wi_scenarios.specs.Formula.{formula_step}
@@ -54,7 +53,7 @@ IsCallStep s (Use name) a = IsStep s (command.Use name) a
 IsCallStep s (As name) a = as_step s name ≡ a
 IsCallStep s (Show area) a = show_step s area ≡ a
 IsCallStep s (Export area) a = export_step s area ≡ a
-IsCallStep s Changes a = changes_step s ≡ a
+IsCallStep s Changes a = IsStep s command.Changes a
 IsCallStep s (Compare first second area) a = compare_step s first second area ≡ a
 IsCallStep s (Table f r xs second) a = table_step s f r xs second ≡ a
 IsCallStep s (Formula at) a = formula_step s at ≡ a

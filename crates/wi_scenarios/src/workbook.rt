@@ -343,7 +343,7 @@ impl<C: Calculator> Workbook<C> {
     /// length of the records, and with the changes, some look-ups in the session's snapshot for each.
     pub fn changes(&mut self, out: &mut Vec<u8>) -> Result<(), Refusal>
         ensures step { (records : List ℕ) × (out.new.items ≡ out.old.items ++ records)
-            × Serves (IsCallStep self.old.state call.Changes)
+            × Serves (IsStep self.old.state command.Changes)
             result self.old.state self.new.state records }
         ensures emptied { OnOk result
             (Emptied self.old.state.current self.old.pending self.new.pending) }

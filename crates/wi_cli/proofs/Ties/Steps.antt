@@ -7,7 +7,7 @@ use Rattle.wi_cli.proofs.Ties.Clears.{same_clear}
 use Rattle.wi_cli.proofs.Ties.Fills.{same_fill}
 use Rattle.wi_cli.proofs.Ties.CsvSteps.{same_csv}
 use Rattle.wi_cli.proofs.Ties.ScenarioSteps.{same_scenario, same_as}
-use Rattle.wi_cli.proofs.Ties.Looks.{same_show, same_export, same_compare, same_formula, same_changes}
+use Rattle.wi_cli.proofs.Ties.Looks.{same_show, same_export, same_compare, same_formula}
 use Rattle.wi_cli.proofs.Ties.Tables.{same_table, same_table_of_two}
 
 unknown : (s : State) → SameStep s Unknown
@@ -32,7 +32,7 @@ same_step s (Compare p q rect) = same_compare s p q rect
 same_step s (Table f r xs None) = same_table s f r xs
 same_step s (Table f r xs (Some y)) = same_table_of_two s f r xs y.0 y.1
 same_step s (Formula at) = same_formula s at
-same_step s Changes = same_changes s
+same_step s Changes = λ a. (λ h. h, λ h. h)
 same_step s Unknown = unknown s
 same_step s Unreadable = unreadable s
 
