@@ -19,6 +19,7 @@ use crate::frame::{Advance, Asked, Frame, Inputs, Unvalued, Waiting};
 use crate::lacking::is_lacking;
 use crate::lists::FoundWhatIf;
 use crate::memo::Memo;
+use crate::plan::planned;
 use crate::pool::Pool;
 use crate::together::together;
 use std::alloc::{AllocError, Global};
@@ -131,6 +132,7 @@ fn settle_what_if<'a, M: Memo>(
     at: Address,
     pairs: Vec<Pair>,
     memo: &mut M,
+    meter: &mut Meter,
 ) -> Result<Option<Unvalued<'a>>, AllocError>
     requires memo { IsMemoOf store.now.sheet (M.state memo.old) }
     requires frame { IsFrame store.now.sheet (M.state memo.old) frame.old }
@@ -151,6 +153,13 @@ fn settle_what_if<'a, M: Memo>(
         }
         Inputs::Known(world) => match value_now(alloc, store, &world, at, memo)? {
             Asked::Unvalued(first) => {
+                if let Some(value) = planned(&mut pool.plans, alloc, store, &world, at, memo, meter)? {
+                    memo.remember(first.key, value.copy(alloc)?)?;
+                    frame
+                        .found
+                        .add_what_if(FoundWhatIf { at, pairs, value }, pool)?;
+                    return Ok(None);
+                }
                 frame.waiting = Waiting::WhatIf(at, pairs);
                 Ok(Some(first))
             }
@@ -170,6 +179,7 @@ fn settle<'a, M: Memo>(
     store: &'a Store,
     frame: &mut Frame<'a>,
     memo: &mut M,
+    meter: &mut Meter,
 ) -> Result<Option<Unvalued<'a>>, AllocError>
     requires memo { IsMemoOf store.now.sheet (M.state memo.old) }
     requires frame { IsFrame store.now.sheet (M.state memo.old) frame.old }
@@ -182,7 +192,7 @@ fn settle<'a, M: Memo>(
     match mem::replace(&mut frame.waiting, Waiting::Nothing) {
         Waiting::Nothing => Ok(None),
         Waiting::Cells(at, others) => settle_cells(pool, store, frame, at, others, memo),
-        Waiting::WhatIf(at, pairs) => settle_what_if(pool, store, frame, at, pairs, memo),
+        Waiting::WhatIf(at, pairs) => settle_what_if(pool, store, frame, at, pairs, memo, meter),
     }
 }
 
@@ -228,7 +238,7 @@ pub(crate) fn advance<'a, M: Memo>(
         return Ok(Advance::Unvalued(ahead));
     }
     'rounds: loop {
-        if let Some(first) = settle(pool, store, frame, memo)? {
+        if let Some(first) = settle(pool, store, frame, memo, meter)? {
             return Ok(Advance::Unvalued(first));
         }
         match attempt(pool.allocator(), store, frame, meter)? {

@@ -15,6 +15,7 @@ mod lacking;
 mod lists;
 mod memo;
 mod occupied;
+mod plan;
 mod pool;
 mod question;
 mod remembered;

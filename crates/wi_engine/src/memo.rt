@@ -29,6 +29,16 @@ pub trait Memo {
         ensures generation { IfOk result (λ k. k.generation ≡ (state self.old).generation at) }
         ensures same { state self.new ≡ state self.old };
 
+    /// Whether a value under these replacements would have no place among those that are kept for longer.
+    fn has_no_place(&mut self, world: &World) -> Result<bool, AllocError> {
+        Ok(false)
+    }
+
+    /// Whether a cell reaches one of the replaced cells for which a key was made.
+    fn reaches_some(&self, at: Address) -> bool {
+        false
+    }
+
     /// The value that is remembered for a key.
     fn look(&self, key: &Key) -> Option<&Value>
         requires generation { key.now.generation ≡ (state self.now).generation key.now.cell }

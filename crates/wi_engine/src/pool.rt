@@ -5,6 +5,7 @@ ghost use Rattle.wi_engine.specs.Inner.Lists.{listed_value};
 
 use crate::course::Course;
 use crate::lists::Lists;
+use crate::plan::Plan;
 use std::alloc::{AllocError, Global};
 
 /// How many lists of values are kept, and of courses. Formulas that are evaluated one after another seldom stand deeper in one another.
@@ -18,6 +19,7 @@ const MAX_FILLED: usize = 64;
 pub struct Pool {
     lists: Vec<Box<Lists>>,
     courses: Vec<Vec<Course>>,
+    pub(crate) plans: Vec<Plan>,
     alloc: Global,
 }
 
@@ -27,6 +29,7 @@ impl Pool {
         Pool {
             lists: Vec::new(alloc),
             courses: Vec::new(alloc),
+            plans: Vec::new(alloc),
             alloc,
         }
     }

@@ -12,6 +12,7 @@ use crate::asked::{remembered_value, value_now};
 use crate::engine::{advance, take_in};
 use crate::frame::{Advance, Asked, Frame};
 use crate::memo::Memo;
+use crate::plan::planned;
 use crate::pool::Pool;
 use crate::stack::Stack;
 use std::alloc::AllocError;
@@ -41,9 +42,16 @@ impl<M: Memo + Drop> Question<M> {
         ensures { ValuesCell store.now.sheet (M.state self.old.memo) (M.state self.new.memo)
             world.now at self.old.meter self.new.meter result }
     {
-        match value_now(self.pool.allocator(), store, world, at, &mut self.memo)? {
+        let alloc = self.pool.allocator();
+        match value_now(alloc, store, world, at, &mut self.memo)? {
             Asked::Known(value) => Ok(value),
-            Asked::Unvalued(cell) => self.run(store, cell.key, cell.formula),
+            Asked::Unvalued(cell) => {
+                if let Some(value) = planned(&mut self.pool.plans, alloc, store, world, at, &mut self.memo, &mut self.meter)? {
+                    self.memo.remember(cell.key, value.copy(alloc)?)?;
+                    return Ok(value);
+                }
+                self.run(store, cell.key, cell.formula)
+            }
         }
     }
 

@@ -2,12 +2,14 @@
 #![tactic(auto)]
 
 mod choice;
+mod compiled;
 mod evaluation;
 mod first;
 mod meter;
 mod operators;
 mod references;
 
+pub use compiled::{Compiled, Op};
 pub use evaluation::{Outcome, Want, evaluate, zero_for_empty};
 pub use first::first_cell;
 pub use meter::Meter;

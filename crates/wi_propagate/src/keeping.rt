@@ -171,6 +171,14 @@ impl<'a> Memo for Keeping<'a> {
         Ok(key)
     }
 
+    fn has_no_place(&mut self, world: &World) -> Result<bool, AllocError> {
+        Ok(!self.has_place(world)?)
+    }
+
+    fn reaches_some(&self, at: Address) -> bool {
+        self.held.cones.reaches_some(at)
+    }
+
     fn look(&self, key: &Key) -> Option<&Value> {
         match self.held.kept.look(key) {
             Some(value) => Some(value),

@@ -92,6 +92,11 @@ impl Reaches {
         self.known.insert(at)
     }
 
+    /// Whether a cell is told to reach one.
+    pub fn reaches_some(&self, at: Address) -> bool {
+        !self.reached(at).is_empty()
+    }
+
     /// The cells that a cell is told to reach, in row-major order. One look-up.
     pub(crate) fn reached(&self, at: Address) -> &[Address]
         ensures value { result.now ≡ reached_cells self.now at }

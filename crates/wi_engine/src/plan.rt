@@ -1,0 +1,200 @@
+//! A plan: what a formula cell rests on where some cells are replaced, in an order in which each formula comes after those that it reads.
+
+use crate::asked::value_now;
+use crate::frame::Asked;
+use crate::memo::Memo;
+use crate::seen::{Seen, stored};
+use std::alloc::{AllocError, Global};
+use wi_functions::{Compiled, Meter};
+use wi_parser::Formula;
+use wi_store::Store;
+use wi_values::{Address, Value};
+use wi_worlds::World;
+
+/// How many plans are kept.
+const MAX_PLANS: usize = 4;
+
+/// The most formulas of a plan.
+const MAX_FORMULAS: usize = 100_000;
+
+/// A plan for a formula cell where some cells are replaced, as long as the sheet stays.
+#[derive(Drop)]
+pub struct Plan {
+    edits: u64,
+    formula_cell: Address,
+    // The replaced cells stand in the first places.
+    inputs: Vec<Address>,
+    compiled: Compiled,
+    // Where the value of the formula cell comes to stand.
+    root: usize,
+    formulas: u64,
+    // Whether it could be made; how often it was asked for before.
+    stands: bool,
+    asked: u32,
+}
+
+impl Plan {
+    fn is_for(&self, edits: u64, formula_cell: Address, world: &World) -> bool {
+        if self.edits != edits || self.formula_cell != formula_cell || self.inputs.len() != world.replacements().len() {
+            return false;
+        }
+        for (input, replacement) in self.inputs.iter().zip(world.replacements()) {
+            if *input != replacement.at {
+                return false;
+            }
+        }
+        true
+    }
+
+    /// The value of the formula cell under these replacements.
+    fn value(&mut self, alloc: Global, world: &World, meter: &mut Meter) -> Result<Value, AllocError> {
+        let mut place = 0;
+        for replacement in world.replacements() {
+            self.compiled.places[place] = replacement.value.copy(alloc)?;
+            place += 1;
+        }
+        self.compiled.run()?;
+        meter.count_evaluations(self.formulas);
+        self.compiled.places[self.root].copy(alloc)
+    }
+}
+
+/// The value of a formula cell under replacements by a plan, where one stands for it, or is made for it: it is when it is asked for the third time.
+pub(crate) fn planned<M: Memo>(
+    plans: &mut Vec<Plan>,
+    alloc: Global,
+    store: &Store,
+    world: &World,
+    formula_cell: Address,
+    memo: &mut M,
+    meter: &mut Meter,
+) -> Result<Option<Value>, AllocError> {
+    if !memo.has_no_place(world)? {
+        return Ok(None);
+    }
+    let edits = store.edits();
+    for plan in plans.iter_mut() {
+        if plan.is_for(edits, formula_cell, world) {
+            if plan.stands {
+                return Ok(Some(plan.value(alloc, world, meter)?));
+            }
+            plan.asked += 1;
+            if plan.asked == 3 {
+                plan.make(alloc, store, world, memo)?;
+                if plan.stands {
+                    return Ok(Some(plan.value(alloc, world, meter)?));
+                }
+            }
+            return Ok(None);
+        }
+    }
+    if plans.len() == MAX_PLANS {
+        let _ = plans.remove(0);
+    }
+    let mut inputs = Vec::new(alloc);
+    for replacement in world.replacements() {
+        inputs.push(replacement.at)?;
+    }
+    plans.push(Plan {
+        edits,
+        formula_cell,
+        inputs,
+        compiled: Compiled::new(alloc),
+        root: 0,
+        formulas: 0,
+        stands: false,
+        asked: 1,
+    })?;
+    Ok(None)
+}
+
+/// A formula whose precedents are being planned: so many of its rectangles are.
+#[derive(Drop)]
+struct Open<'a> {
+    cell: Address,
+    formula: &'a Formula,
+    next: usize,
+}
+
+impl Plan {
+    /// Makes the plan, where it can be made.
+    fn make<M: Memo>(
+        &mut self,
+        alloc: Global,
+        store: &Store,
+        world: &World,
+        memo: &mut M,
+    ) -> Result<(), AllocError> {
+        let mut compiled = Compiled::new(alloc);
+        for replacement in world.replacements() {
+            let place = compiled.place(Value::Empty)?;
+            let _ = compiled.cells.insert(replacement.at, place)?;
+        }
+        let Seen::Formula(formula) = stored(store, self.formula_cell) else {
+            return Ok(());
+        };
+        let mut open = Vec::new(alloc);
+        open.push(Open {
+            cell: self.formula_cell,
+            formula,
+            next: 0,
+        })?;
+        let mut formulas = 0;
+        let mut root = 0;
+        'open: while let Some(top) = open.last_mut() {
+            let rectangles = top.formula.rectangles();
+            if top.next < rectangles.len() {
+                let rectangle = rectangles[top.next];
+                top.next += 1;
+                if rectangle.size() != 1 {
+                    return Ok(());
+                }
+                let cell = rectangle.first();
+                if compiled.cells.get(&cell).is_some() {
+                    continue 'open;
+                }
+                let Seen::Formula(formula) = stored(store, cell) else {
+                    let Asked::Known(value) = value_now(alloc, store, world, cell, memo)? else {
+                        return Ok(());
+                    };
+                    let place = compiled.place(value)?;
+                    let _ = compiled.cells.insert(cell, place)?;
+                    continue 'open;
+                };
+                if memo.reaches_some(cell) {
+                    if MAX_FORMULAS <= open.len() {
+                        return Ok(());
+                    }
+                    open.push(Open {
+                        cell,
+                        formula,
+                        next: 0,
+                    })?;
+                    continue 'open;
+                }
+                let Asked::Known(value) = value_now(alloc, store, world, cell, memo)? else {
+                    return Ok(());
+                };
+                let place = compiled.place(value)?;
+                let _ = compiled.cells.insert(cell, place)?;
+                continue 'open;
+            }
+            let (cell, formula) = (top.cell, top.formula);
+            let _ = open.pop();
+            if compiled.cells.get(&cell).is_some() {
+                continue 'open;
+            }
+            let Some(place) = compiled.formula(formula.tree())? else {
+                return Ok(());
+            };
+            let _ = compiled.cells.insert(cell, place)?;
+            root = place;
+            formulas += 1;
+        }
+        self.compiled = compiled;
+        self.root = root;
+        self.formulas = formulas;
+        self.stands = true;
+        Ok(())
+    }
+}
