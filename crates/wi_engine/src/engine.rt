@@ -154,7 +154,6 @@ fn settle_what_if<'a, M: Memo>(
         Inputs::Known(world) => match value_now(alloc, store, &world, at, memo)? {
             Asked::Unvalued(first) => {
                 if let Some(value) = planned(&mut pool.plans, alloc, store, &world, at, memo, meter)? {
-                    memo.remember(first.key, value.copy(alloc)?)?;
                     frame
                         .found
                         .add_what_if(FoundWhatIf { at, pairs, value }, pool)?;

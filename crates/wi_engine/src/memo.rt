@@ -34,6 +34,21 @@ pub trait Memo {
         Ok(false)
     }
 
+    /// Whether plans may be made.
+    fn can_plan(&self) -> bool {
+        false
+    }
+
+    /// The generation of a cell.
+    fn generation_of(&self, at: Address) -> u64 {
+        0
+    }
+
+    /// How many of the cells that are known a cell reaches.
+    fn reaches_count(&self, at: Address) -> usize {
+        0
+    }
+
     /// Whether a cell reaches one of the replaced cells for which a key was made.
     fn reaches_some(&self, at: Address) -> bool {
         false

@@ -5,6 +5,7 @@ use crate::frame::Asked;
 use crate::memo::Memo;
 use crate::seen::{Seen, stored};
 use std::alloc::{AllocError, Global};
+use wi_cache::Key;
 use wi_functions::{Compiled, Meter};
 use wi_parser::Formula;
 use wi_store::Store;
@@ -27,7 +28,9 @@ pub struct Plan {
     compiled: Compiled,
     // Where the value of the formula cell comes to stand.
     root: usize,
-    formulas: u64,
+    steps: Vec<Step>,
+    // Whether each formula's cell reaches all replaced ones.
+    uniform: bool,
     // Whether it could be made; how often it was asked for before.
     stands: bool,
     asked: u32,
@@ -53,8 +56,52 @@ impl Plan {
             self.compiled.places[place] = replacement.value.copy(alloc)?;
             place += 1;
         }
-        self.compiled.run()?;
-        meter.count_evaluations(self.formulas);
+        let end = self.compiled.ops.len();
+        self.compiled.run(0, end)?;
+        meter.count_evaluations(self.steps.len() as u64);
+        self.compiled.places[self.root].copy(alloc)
+    }
+}
+
+/// A formula of a plan.
+#[derive(Clone, Copy)]
+struct Step {
+    cell: Address,
+    generation: u64,
+    from: usize,
+    end: usize,
+    place: usize,
+}
+
+impl Plan {
+    /// The same, where values have a place among those that are kept: none that is there is evaluated, and those that are evaluated are kept.
+    fn kept_value<M: Memo>(
+        &mut self,
+        alloc: Global,
+        world: &World,
+        memo: &mut M,
+        meter: &mut Meter,
+    ) -> Result<Value, AllocError> {
+        let mut place = 0;
+        for replacement in world.replacements() {
+            self.compiled.places[place] = replacement.value.copy(alloc)?;
+            place += 1;
+        }
+        for step in &self.steps {
+            let key = Key {
+                cell: step.cell,
+                generation: step.generation,
+                world: world.copy()?,
+            };
+            if let Some(value) = memo.look(&key) {
+                self.compiled.places[step.place] = value.copy(alloc)?;
+                continue;
+            }
+            self.compiled.run(step.from, step.end)?;
+            meter.count_evaluations(1);
+            let value = self.compiled.places[step.place].copy(alloc)?;
+            memo.remember(key, value)?;
+        }
         self.compiled.places[self.root].copy(alloc)
     }
 }
@@ -69,21 +116,33 @@ pub(crate) fn planned<M: Memo>(
     memo: &mut M,
     meter: &mut Meter,
 ) -> Result<Option<Value>, AllocError> {
-    if !memo.has_no_place(world)? {
+    if world.replacements().is_empty() || !memo.can_plan() {
         return Ok(None);
     }
+    let keeps = !memo.has_no_place(world)?;
     let edits = store.edits();
     for plan in plans.iter_mut() {
         if plan.is_for(edits, formula_cell, world) {
             if plan.stands {
-                return Ok(Some(plan.value(alloc, world, meter)?));
+                if keeps {
+                    if plan.uniform {
+                        return Ok(Some(plan.kept_value(alloc, world, memo, meter)?));
+                    }
+                    return Ok(None);
+                }
+                let value = plan.value(alloc, world, meter)?;
+                let last = plan.steps[plan.steps.len() - 1];
+                let key = Key {
+                    cell: last.cell,
+                    generation: last.generation,
+                    world: world.copy()?,
+                };
+                memo.remember(key, value.copy(alloc)?)?;
+                return Ok(Some(value));
             }
             plan.asked += 1;
             if plan.asked == 3 {
                 plan.make(alloc, store, world, memo)?;
-                if plan.stands {
-                    return Ok(Some(plan.value(alloc, world, meter)?));
-                }
             }
             return Ok(None);
         }
@@ -101,7 +160,8 @@ pub(crate) fn planned<M: Memo>(
         inputs,
         compiled: Compiled::new(alloc),
         root: 0,
-        formulas: 0,
+        steps: Vec::new(alloc),
+        uniform: true,
         stands: false,
         asked: 1,
     })?;
@@ -139,7 +199,8 @@ impl Plan {
             formula,
             next: 0,
         })?;
-        let mut formulas = 0;
+        let mut steps = Vec::new(alloc);
+        let mut uniform = true;
         let mut root = 0;
         'open: while let Some(top) = open.last_mut() {
             let rectangles = top.formula.rectangles();
@@ -184,16 +245,26 @@ impl Plan {
             if compiled.cells.get(&cell).is_some() {
                 continue 'open;
             }
+            let from = compiled.ops.len();
             let Some(place) = compiled.formula(formula.tree())? else {
                 return Ok(());
             };
             let _ = compiled.cells.insert(cell, place)?;
+            let _ = compiled.inner.insert(cell, place)?;
             root = place;
-            formulas += 1;
+            uniform = uniform && memo.reaches_count(cell) == world.replacements().len();
+            steps.push(Step {
+                cell,
+                generation: memo.generation_of(cell),
+                from,
+                end: compiled.ops.len(),
+                place,
+            })?;
         }
         self.compiled = compiled;
         self.root = root;
-        self.formulas = formulas;
+        self.steps = steps;
+        self.uniform = uniform;
         self.stands = true;
         Ok(())
     }

@@ -47,7 +47,6 @@ impl<M: Memo + Drop> Question<M> {
             Asked::Known(value) => Ok(value),
             Asked::Unvalued(cell) => {
                 if let Some(value) = planned(&mut self.pool.plans, alloc, store, world, at, &mut self.memo, &mut self.meter)? {
-                    self.memo.remember(cell.key, value.copy(alloc)?)?;
                     return Ok(value);
                 }
                 self.run(store, cell.key, cell.formula)

@@ -30,6 +30,8 @@ pub struct Compiled {
     pub ops: Vec<Op>,
     pub places: Vec<Value>,
     pub cells: BTreeMap<Address, usize>,
+    // Those of the cells that have a formula here.
+    pub inner: BTreeMap<Address, usize>,
     // The cells that the formula which is compiled asks for in any case so far.
     sure: Vec<Address>,
     alloc: Global,
@@ -42,6 +44,7 @@ impl Compiled {
             ops: Vec::new(alloc),
             places: Vec::new(alloc),
             cells: BTreeMap::new(alloc),
+            inner: BTreeMap::new(alloc),
             sure: Vec::new(alloc),
             alloc,
         }
@@ -85,7 +88,7 @@ impl Compiled {
             Expr::Cell(reference) => {
                 if sure {
                     self.sure.push(reference.at)?;
-                } else if !self.sure.contains(&reference.at) {
+                } else if self.inner.get(&reference.at).is_some() && !self.sure.contains(&reference.at) {
                     return Ok(None);
                 }
                 Ok(self.cells.get(&reference.at).copied())
@@ -167,12 +170,12 @@ impl Compiled {
         Ok(Some(to))
     }
 
-    /// Takes all steps.
-    pub fn run(&mut self) -> Result<(), AllocError> {
+    /// Takes the steps from one up to another.
+    pub fn run(&mut self, from: usize, end: usize) -> Result<(), AllocError> {
         let alloc = self.alloc;
         let places = &mut self.places;
-        let mut at = 0;
-        'steps: while at < self.ops.len() {
+        let mut at = from;
+        'steps: while at < end {
             match self.ops[at] {
                 Op::Binary(operator, left, right, to) => {
                     if let (Operator::Add, Value::Number(x), Value::Number(y)) = (operator, &places[left], &places[right]) {

@@ -175,6 +175,18 @@ impl<'a> Memo for Keeping<'a> {
         Ok(!self.has_place(world)?)
     }
 
+    fn can_plan(&self) -> bool {
+        true
+    }
+
+    fn generation_of(&self, at: Address) -> u64 {
+        self.generations.generation_of(at)
+    }
+
+    fn reaches_count(&self, at: Address) -> usize {
+        self.held.cones.reaches_count(at)
+    }
+
     fn reaches_some(&self, at: Address) -> bool {
         self.held.cones.reaches_some(at)
     }

@@ -92,6 +92,11 @@ impl Reaches {
         self.known.insert(at)
     }
 
+    /// How many cells a cell is told to reach.
+    pub fn reaches_count(&self, at: Address) -> usize {
+        self.reached(at).len()
+    }
+
     /// Whether a cell is told to reach one.
     pub fn reaches_some(&self, at: Address) -> bool {
         !self.reached(at).is_empty()
