@@ -44,14 +44,9 @@ pub trait Memo {
         0
     }
 
-    /// How many of the cells that are known a cell reaches.
-    fn reaches_count(&self, at: Address) -> usize {
+    /// How many of the replaced cells, for which a key was made, a cell reaches.
+    fn reaches_count(&self, at: Address, world: &World) -> usize {
         0
-    }
-
-    /// Whether a cell reaches one of the replaced cells for which a key was made.
-    fn reaches_some(&self, at: Address) -> bool {
-        false
     }
 
     /// The value that is remembered for a key.

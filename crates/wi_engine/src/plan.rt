@@ -222,7 +222,7 @@ impl Plan {
                     let _ = compiled.cells.insert(cell, place)?;
                     continue 'open;
                 };
-                if memo.reaches_some(cell) {
+                if memo.reaches_count(cell, world) > 0 {
                     if MAX_FORMULAS <= open.len() {
                         return Ok(());
                     }
@@ -252,7 +252,7 @@ impl Plan {
             let _ = compiled.cells.insert(cell, place)?;
             let _ = compiled.inner.insert(cell, place)?;
             root = place;
-            uniform = uniform && memo.reaches_count(cell) == world.replacements().len();
+            uniform = uniform && memo.reaches_count(cell, world) == world.replacements().len();
             steps.push(Step {
                 cell,
                 generation: memo.generation_of(cell),

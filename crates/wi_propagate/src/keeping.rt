@@ -183,12 +183,8 @@ impl<'a> Memo for Keeping<'a> {
         self.generations.generation_of(at)
     }
 
-    fn reaches_count(&self, at: Address) -> usize {
-        self.held.cones.reaches_count(at)
-    }
-
-    fn reaches_some(&self, at: Address) -> bool {
-        self.held.cones.reaches_some(at)
+    fn reaches_count(&self, at: Address, world: &World) -> usize {
+        self.held.cones.reaches_count(at, world)
     }
 
     fn look(&self, key: &Key) -> Option<&Value> {

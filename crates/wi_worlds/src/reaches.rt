@@ -92,14 +92,16 @@ impl Reaches {
         self.known.insert(at)
     }
 
-    /// How many cells a cell is told to reach.
-    pub fn reaches_count(&self, at: Address) -> usize {
-        self.reached(at).len()
-    }
-
-    /// Whether a cell is told to reach one.
-    pub fn reaches_some(&self, at: Address) -> bool {
-        !self.reached(at).is_empty()
+    /// How many of the replaced cells a cell is told to reach.
+    pub fn reaches_count(&self, at: Address, world: &World) -> usize {
+        let cells = self.reached(at);
+        let mut count = 0;
+        for replacement in world.replacements() {
+            if cells.contains(&replacement.at) {
+                count += 1;
+            }
+        }
+        count
     }
 
     /// The cells that a cell is told to reach, in row-major order. One look-up.
