@@ -6,6 +6,7 @@ use crate::operators::{hundredth, operate, with_sign};
 use std::alloc::{AllocError, Global};
 use std::collections::BTreeMap;
 use std::mem;
+use wi_fraction::Fraction;
 use wi_parser::{Expr, Operator, Sign};
 use wi_value_functions::{Function, LazyFunction, function_for, zero};
 use wi_values::{Address, Value};
@@ -59,22 +60,44 @@ impl Compiled {
     /// Compiles a formula whose value goes to a new place, which is given; none where it has what can't be compiled.
     pub fn formula(&mut self, tree: &Expr) -> Result<Option<usize>, AllocError> {
         self.sure.clear();
-        if let Expr::Binary(operator, operands) = tree {
-            let Some(left) = self.compile(&operands.0, true)? else {
-                return Ok(None);
-            };
-            let Some(right) = self.compile(&operands.1, true)? else {
-                return Ok(None);
-            };
-            let to = self.place(Value::Empty)?;
-            self.ops.push(Op::Binary(*operator, left, right, to))?;
-            return Ok(Some(to));
+        let to = self.place(Value::Empty)?;
+        self.into_place(tree, true, to)
+    }
+
+    /// Compiles an expression whose value, with 0 for Empty, goes to a place.
+    fn into_place(&mut self, tree: &Expr, sure: bool, to: usize) -> Result<Option<usize>, AllocError> {
+        match tree {
+            Expr::Parenthesized(inner) => self.into_place(inner, sure, to),
+            Expr::Binary(operator, operands) => self.compile_binary(*operator, &operands.0, &operands.1, sure, to),
+            Expr::Call(call) => match function_for(call.0.as_str(), call.1.len()) {
+                Ok(Function::Lazy(LazyFunction::If)) => self.compile_if(&call.1, sure, true, to),
+                _ => Ok(None),
+            },
+            _ => {
+                let Some(from) = self.compile(tree, sure)? else {
+                    return Ok(None);
+                };
+                self.ops.push(Op::Finish(from, to))?;
+                Ok(Some(to))
+            }
         }
-        let Some(from) = self.compile(tree, true)? else {
+    }
+
+    fn compile_binary(
+        &mut self,
+        operator: Operator,
+        left: &Expr,
+        right: &Expr,
+        sure: bool,
+        to: usize,
+    ) -> Result<Option<usize>, AllocError> {
+        let Some(left) = self.compile(left, sure)? else {
             return Ok(None);
         };
-        let to = self.place(Value::Empty)?;
-        self.ops.push(Op::Finish(from, to))?;
+        let Some(right) = self.compile(right, sure)? else {
+            return Ok(None);
+        };
+        self.ops.push(Op::Binary(operator, left, right, to))?;
         Ok(Some(to))
     }
 
@@ -112,57 +135,64 @@ impl Compiled {
                 Ok(Some(to))
             }
             Expr::Binary(operator, operands) => {
-                let Some(left) = self.compile(&operands.0, sure)? else {
-                    return Ok(None);
-                };
-                let Some(right) = self.compile(&operands.1, sure)? else {
-                    return Ok(None);
-                };
                 let to = self.place(Value::Empty)?;
-                self.ops.push(Op::Binary(*operator, left, right, to))?;
-                Ok(Some(to))
+                self.compile_binary(*operator, &operands.0, &operands.1, sure, to)
             }
             Expr::WhatIf(_) => Ok(None),
             Expr::Call(call) => match function_for(call.0.as_str(), call.1.len()) {
-                Ok(Function::Lazy(LazyFunction::If)) => self.compile_if(&call.1, sure),
+                Ok(Function::Lazy(LazyFunction::If)) => {
+                    let to = self.place(Value::Empty)?;
+                    self.compile_if(&call.1, sure, false, to)
+                }
                 _ => Ok(None),
             },
         }
     }
 
-    fn compile_if(&mut self, parameters: &[Expr], sure: bool) -> Result<Option<usize>, AllocError> {
+    // A branch of IF, whose value goes to a place.
+    fn branch(
+        &mut self,
+        parameter: Option<&Expr>,
+        default: bool,
+        finish: bool,
+        to: usize,
+    ) -> Result<bool, AllocError> {
+        match parameter {
+            Some(parameter) => {
+                if finish {
+                    return Ok(self.into_place(parameter, false, to)?.is_some());
+                }
+                if let Expr::Binary(operator, operands) = parameter {
+                    return Ok(self.compile_binary(*operator, &operands.0, &operands.1, false, to)?.is_some());
+                }
+                let Some(from) = self.compile(parameter, false)? else {
+                    return Ok(false);
+                };
+                self.ops.push(Op::Copy(from, to))?;
+                Ok(true)
+            }
+            None => {
+                let from = self.place(Value::Logical(default))?;
+                self.ops.push(Op::Copy(from, to))?;
+                Ok(true)
+            }
+        }
+    }
+
+    fn compile_if(&mut self, parameters: &[Expr], sure: bool, finish: bool, to: usize) -> Result<Option<usize>, AllocError> {
         let Some(condition) = self.compile(&parameters[0], sure)? else {
             return Ok(None);
         };
-        let to = self.place(Value::Empty)?;
         let test = self.ops.len();
         self.ops.push(Op::Go(0))?;
-        match parameters.get(1) {
-            Some(parameter) => {
-                let Some(from) = self.compile(parameter, false)? else {
-                    return Ok(None);
-                };
-                self.ops.push(Op::Copy(from, to))?;
-            }
-            None => {
-                let from = self.place(Value::Logical(true))?;
-                self.ops.push(Op::Copy(from, to))?;
-            }
+        if !self.branch(parameters.get(1), true, finish, to)? {
+            return Ok(None);
         }
         let go = self.ops.len();
         self.ops.push(Op::Go(0))?;
         let otherwise = self.ops.len();
-        match parameters.get(2) {
-            Some(parameter) => {
-                let Some(from) = self.compile(parameter, false)? else {
-                    return Ok(None);
-                };
-                self.ops.push(Op::Copy(from, to))?;
-            }
-            None => {
-                let from = self.place(Value::Logical(false))?;
-                self.ops.push(Op::Copy(from, to))?;
-            }
+        if !self.branch(parameters.get(2), false, finish, to)? {
+            return Ok(None);
         }
         let end = self.ops.len();
         self.ops[test] = Op::Choose(condition, otherwise, end, to);
@@ -178,9 +208,9 @@ impl Compiled {
         'steps: while at < end {
             match self.ops[at] {
                 Op::Binary(operator, left, right, to) => {
-                    if let (Operator::Add, Value::Number(x), Value::Number(y)) = (operator, &places[left], &places[right]) {
-                        if let Some(sum) = x.whole_sum(y) {
-                            places[to] = Value::Number(sum);
+                    if let (Value::Number(x), Value::Number(y)) = (&places[left], &places[right]) {
+                        if let Some(value) = of_whole(operator, x, y) {
+                            places[to] = value;
                             at += 1;
                             continue 'steps;
                         }
@@ -199,6 +229,10 @@ impl Compiled {
                     places[to] = value;
                 }
                 Op::Choose(condition, otherwise, end, to) => {
+                    if let Value::Logical(holds) = places[condition] {
+                        at = if holds { at + 1 } else { otherwise };
+                        continue 'steps;
+                    }
                     let first = places[condition].copy(alloc)?;
                     match choose(LazyFunction::If, first, 3) {
                         Choice::Value(value) => {
@@ -230,5 +264,22 @@ impl Compiled {
             at += 1;
         }
         Ok(())
+    }
+}
+
+/// What some operators give for whole numbers, where it fits.
+#[inline(always)]
+fn of_whole(operator: Operator, x: &Fraction, y: &Fraction) -> Option<Value> {
+    match operator {
+        Operator::Add => Some(Value::Number(x.whole_sum(y)?)),
+        Operator::Subtract => Some(Value::Number(x.whole_difference(y)?)),
+        Operator::Multiply => Some(Value::Number(x.whole_product(y)?)),
+        Operator::Less => Some(Value::Logical(x < y)),
+        Operator::LessOrEqual => Some(Value::Logical(x <= y)),
+        Operator::Greater => Some(Value::Logical(y < x)),
+        Operator::GreaterOrEqual => Some(Value::Logical(y <= x)),
+        Operator::Equal => Some(Value::Logical(x == y)),
+        Operator::NotEqual => Some(Value::Logical(x != y)),
+        _ => None,
     }
 }
