@@ -1,15 +1,19 @@
 //! A plan: what a formula cell rests on where some cells are replaced, in an order in which each formula comes after those that it reads.
 
+ghost use Rattle.std.specs.Prelude.{None};
+
 use crate::asked::value_now;
 use crate::frame::Asked;
 use crate::memo::Memo;
 use crate::seen::{Seen, stored};
 use std::alloc::{AllocError, Global};
 use wi_cache::Key;
-use wi_functions::{Compiled, Meter};
-use wi_parser::Formula;
+use std::collections::BTreeMap;
+use wi_arguments::{LookedUp, Lookup};
+use wi_functions::{Meter, Outcome, evaluate};
+use wi_parser::{Formula, Pair};
 use wi_store::Store;
-use wi_values::{Address, Value};
+use wi_values::{Address, Rect, Value};
 use wi_worlds::World;
 
 /// How many plans are kept.
@@ -25,7 +29,8 @@ pub struct Plan {
     formula_cell: Address,
     // The replaced cells stand in the first places.
     inputs: Vec<Address>,
-    compiled: Compiled,
+    places: Vec<Value>,
+    reads: Vec<Read>,
     // Where the value of the formula cell comes to stand.
     root: usize,
     steps: Vec<Step>,
@@ -53,20 +58,66 @@ impl Plan {
     fn value(&mut self, alloc: Global, world: &World, meter: &mut Meter) -> Result<Value, AllocError> {
         let mut place = 0;
         for replacement in world.replacements() {
-            self.compiled.places[place] = replacement.value.copy(alloc)?;
+            self.places[place] = replacement.value.copy(alloc)?;
             place += 1;
         }
-        let end = self.compiled.ops.len();
-        self.compiled.run(0, end)?;
-        meter.count_evaluations(self.steps.len() as u64);
-        self.compiled.places[self.root].copy(alloc)
+        for step in &self.steps {
+            let value = run_step(alloc, step, &self.reads, &self.places, meter)?;
+            self.places[step.place] = value;
+        }
+        self.places[self.root].copy(alloc)
+    }
+}
+
+/// A cell that a formula reads, and where its value stands.
+#[derive(Clone, Copy)]
+struct Read {
+    cell: Address,
+    place: usize,
+}
+
+#[derive(Drop)]
+struct Places<'a> {
+    reads: &'a [Read],
+    places: &'a [Value],
+}
+
+impl<'a> Lookup for Places<'a> {
+    ghost known_cell = { λ _ _. None };
+    ghost known_what_if = { λ _ _ _. None };
+
+    #[inline(always)]
+    fn cell(&self, at: Address) -> LookedUp<'_> {
+        for read in self.reads {
+            if read.cell == at {
+                return LookedUp::Known(&self.places[read.place]);
+            }
+        }
+        LookedUp::Missing
+    }
+
+    fn what_if(&self, _formula_cell: Address, _pairs: &[Pair]) -> LookedUp<'_> {
+        LookedUp::Missing
+    }
+
+    fn next_value(&self, _area: Rect, from: Address) -> Option<(Address, LookedUp<'_>)> {
+        Some((from, LookedUp::Missing))
+    }
+}
+
+fn run_step(alloc: Global, step: &Step, reads: &[Read], places: &[Value], meter: &mut Meter) -> Result<Value, AllocError> {
+    let lookup = Places { reads: &reads[step.from..step.end], places };
+    match evaluate(alloc, &step.formula, &lookup, meter)? {
+        Outcome::Done(value) => Ok(value),
+        Outcome::Needs(_) => Err(AllocError),
     }
 }
 
 /// A formula of a plan.
-#[derive(Clone, Copy)]
+#[derive(Drop)]
 struct Step {
     cell: Address,
+    formula: Formula,
     generation: u64,
     from: usize,
     end: usize,
@@ -84,7 +135,7 @@ impl Plan {
     ) -> Result<Value, AllocError> {
         let mut place = 0;
         for replacement in world.replacements() {
-            self.compiled.places[place] = replacement.value.copy(alloc)?;
+            self.places[place] = replacement.value.copy(alloc)?;
             place += 1;
         }
         for step in &self.steps {
@@ -94,15 +145,14 @@ impl Plan {
                 world: world.copy()?,
             };
             if let Some(value) = memo.look(&key) {
-                self.compiled.places[step.place] = value.copy(alloc)?;
+                self.places[step.place] = value.copy(alloc)?;
                 continue;
             }
-            self.compiled.run(step.from, step.end)?;
-            meter.count_evaluations(1);
-            let value = self.compiled.places[step.place].copy(alloc)?;
+            let value = run_step(alloc, step, &self.reads, &self.places, meter)?;
+            self.places[step.place] = value.copy(alloc)?;
             memo.remember(key, value)?;
         }
-        self.compiled.places[self.root].copy(alloc)
+        self.places[self.root].copy(alloc)
     }
 }
 
@@ -131,7 +181,7 @@ pub(crate) fn planned<M: Memo>(
                     return Ok(None);
                 }
                 let value = plan.value(alloc, world, meter)?;
-                let last = plan.steps[plan.steps.len() - 1];
+                let last = &plan.steps[plan.steps.len() - 1];
                 let key = Key {
                     cell: last.cell,
                     generation: last.generation,
@@ -158,7 +208,8 @@ pub(crate) fn planned<M: Memo>(
         edits,
         formula_cell,
         inputs,
-        compiled: Compiled::new(alloc),
+        places: Vec::new(alloc),
+        reads: Vec::new(alloc),
         root: 0,
         steps: Vec::new(alloc),
         uniform: true,
@@ -185,10 +236,12 @@ impl Plan {
         world: &World,
         memo: &mut M,
     ) -> Result<(), AllocError> {
-        let mut compiled = Compiled::new(alloc);
+        let mut places: Vec<Value> = Vec::new(alloc);
+        let mut cells: BTreeMap<Address, usize> = BTreeMap::new(alloc);
+        let mut reads = Vec::new(alloc);
         for replacement in world.replacements() {
-            let place = compiled.place(Value::Empty)?;
-            let _ = compiled.cells.insert(replacement.at, place)?;
+            places.push(Value::Empty)?;
+            let _ = cells.insert(replacement.at, places.len() - 1)?;
         }
         let Seen::Formula(formula) = stored(store, self.formula_cell) else {
             return Ok(());
@@ -211,15 +264,15 @@ impl Plan {
                     return Ok(());
                 }
                 let cell = rectangle.first();
-                if compiled.cells.get(&cell).is_some() {
+                if cells.get(&cell).is_some() {
                     continue 'open;
                 }
                 let Seen::Formula(formula) = stored(store, cell) else {
                     let Asked::Known(value) = value_now(alloc, store, world, cell, memo)? else {
                         return Ok(());
                     };
-                    let place = compiled.place(value)?;
-                    let _ = compiled.cells.insert(cell, place)?;
+                    places.push(value)?;
+                    let _ = cells.insert(cell, places.len() - 1)?;
                     continue 'open;
                 };
                 if memo.reaches_count(cell, world) > 0 {
@@ -236,32 +289,40 @@ impl Plan {
                 let Asked::Known(value) = value_now(alloc, store, world, cell, memo)? else {
                     return Ok(());
                 };
-                let place = compiled.place(value)?;
-                let _ = compiled.cells.insert(cell, place)?;
+                places.push(value)?;
+                let _ = cells.insert(cell, places.len() - 1)?;
                 continue 'open;
             }
             let (cell, formula) = (top.cell, top.formula);
             let _ = open.pop();
-            if compiled.cells.get(&cell).is_some() {
+            if cells.get(&cell).is_some() {
                 continue 'open;
             }
-            let from = compiled.ops.len();
-            let Some(place) = compiled.formula(formula.tree())? else {
-                return Ok(());
-            };
-            let _ = compiled.cells.insert(cell, place)?;
-            let _ = compiled.inner.insert(cell, place)?;
+            let from = reads.len();
+            for rectangle in formula.rectangles() {
+                let read = rectangle.first();
+                let Some(place) = cells.get(&read) else {
+                    return Ok(());
+                };
+                reads.push(Read { cell: read, place: *place })?;
+            }
+            let end = reads.len();
+            places.push(Value::Empty)?;
+            let place = places.len() - 1;
+            let _ = cells.insert(cell, place)?;
             root = place;
             uniform = uniform && memo.reaches_count(cell, world) == world.replacements().len();
             steps.push(Step {
                 cell,
                 generation: memo.generation_of(cell),
+                formula: formula.copy(alloc)?,
                 from,
-                end: compiled.ops.len(),
+                end,
                 place,
             })?;
         }
-        self.compiled = compiled;
+        self.places = places;
+        self.reads = reads;
         self.root = root;
         self.steps = steps;
         self.uniform = uniform;
