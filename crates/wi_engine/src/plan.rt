@@ -1,7 +1,5 @@
 //! A plan: what a formula cell rests on where some cells are replaced, in an order in which each formula comes after those that it reads.
 
-ghost use Rattle.std.specs.Prelude.{None};
-
 use crate::asked::value_now;
 use crate::frame::Asked;
 use crate::memo::Memo;
@@ -9,11 +7,10 @@ use crate::seen::{Seen, stored};
 use std::alloc::{AllocError, Global};
 use wi_cache::Key;
 use std::collections::BTreeMap;
-use wi_arguments::{LookedUp, Lookup};
-use wi_functions::{Meter, Outcome, evaluate};
-use wi_parser::{Formula, Pair};
+use wi_functions::{Meter, Placed, placed, placed_value, zero_for_empty};
+use wi_parser::Formula;
 use wi_store::Store;
-use wi_values::{Address, Rect, Value};
+use wi_values::{Address, Value};
 use wi_worlds::World;
 
 /// How many plans are kept.
@@ -30,7 +27,6 @@ pub struct Plan {
     // The replaced cells stand in the first places.
     inputs: Vec<Address>,
     places: Vec<Value>,
-    reads: Vec<Read>,
     // Where the value of the formula cell comes to stand.
     root: usize,
     steps: Vec<Step>,
@@ -62,54 +58,11 @@ impl Plan {
             place += 1;
         }
         for step in &self.steps {
-            let value = run_step(alloc, step, &self.reads, &self.places, meter)?;
+            let value = zero_for_empty(placed_value(alloc, &step.formula, &self.places)?);
+            meter.count_evaluations(1);
             self.places[step.place] = value;
         }
         self.places[self.root].copy(alloc)
-    }
-}
-
-/// A cell that a formula reads, and where its value stands.
-#[derive(Clone, Copy)]
-struct Read {
-    cell: Address,
-    place: usize,
-}
-
-#[derive(Drop)]
-struct Places<'a> {
-    reads: &'a [Read],
-    places: &'a [Value],
-}
-
-impl<'a> Lookup for Places<'a> {
-    ghost known_cell = { λ _ _. None };
-    ghost known_what_if = { λ _ _ _. None };
-
-    #[inline(always)]
-    fn cell(&self, at: Address) -> LookedUp<'_> {
-        for read in self.reads {
-            if read.cell == at {
-                return LookedUp::Known(&self.places[read.place]);
-            }
-        }
-        LookedUp::Missing
-    }
-
-    fn what_if(&self, _formula_cell: Address, _pairs: &[Pair]) -> LookedUp<'_> {
-        LookedUp::Missing
-    }
-
-    fn next_value(&self, _area: Rect, from: Address) -> Option<(Address, LookedUp<'_>)> {
-        Some((from, LookedUp::Missing))
-    }
-}
-
-fn run_step(alloc: Global, step: &Step, reads: &[Read], places: &[Value], meter: &mut Meter) -> Result<Value, AllocError> {
-    let lookup = Places { reads: &reads[step.from..step.end], places };
-    match evaluate(alloc, &step.formula, &lookup, meter)? {
-        Outcome::Done(value) => Ok(value),
-        Outcome::Needs(_) => Err(AllocError),
     }
 }
 
@@ -117,10 +70,8 @@ fn run_step(alloc: Global, step: &Step, reads: &[Read], places: &[Value], meter:
 #[derive(Drop)]
 struct Step {
     cell: Address,
-    formula: Formula,
+    formula: Placed,
     generation: u64,
-    from: usize,
-    end: usize,
     place: usize,
 }
 
@@ -148,7 +99,8 @@ impl Plan {
                 self.places[step.place] = value.copy(alloc)?;
                 continue;
             }
-            let value = run_step(alloc, step, &self.reads, &self.places, meter)?;
+            let value = zero_for_empty(placed_value(alloc, &step.formula, &self.places)?);
+            meter.count_evaluations(1);
             self.places[step.place] = value.copy(alloc)?;
             memo.remember(key, value)?;
         }
@@ -209,7 +161,6 @@ pub(crate) fn planned<M: Memo>(
         formula_cell,
         inputs,
         places: Vec::new(alloc),
-        reads: Vec::new(alloc),
         root: 0,
         steps: Vec::new(alloc),
         uniform: true,
@@ -238,7 +189,6 @@ impl Plan {
     ) -> Result<(), AllocError> {
         let mut places: Vec<Value> = Vec::new(alloc);
         let mut cells: BTreeMap<Address, usize> = BTreeMap::new(alloc);
-        let mut reads = Vec::new(alloc);
         for replacement in world.replacements() {
             places.push(Value::Empty)?;
             let _ = cells.insert(replacement.at, places.len() - 1)?;
@@ -298,15 +248,9 @@ impl Plan {
             if cells.get(&cell).is_some() {
                 continue 'open;
             }
-            let from = reads.len();
-            for rectangle in formula.rectangles() {
-                let read = rectangle.first();
-                let Some(place) = cells.get(&read) else {
-                    return Ok(());
-                };
-                reads.push(Read { cell: read, place: *place })?;
-            }
-            let end = reads.len();
+            let Some(expr) = placed(alloc, formula.tree(), &cells)? else {
+                return Ok(());
+            };
             places.push(Value::Empty)?;
             let place = places.len() - 1;
             let _ = cells.insert(cell, place)?;
@@ -315,14 +259,11 @@ impl Plan {
             steps.push(Step {
                 cell,
                 generation: memo.generation_of(cell),
-                formula: formula.copy(alloc)?,
-                from,
-                end,
+                formula: expr,
                 place,
             })?;
         }
         self.places = places;
-        self.reads = reads;
         self.root = root;
         self.steps = steps;
         self.uniform = uniform;

@@ -7,10 +7,12 @@ mod evaluation;
 mod first;
 mod meter;
 mod operators;
+mod placed;
 mod references;
 
 pub use compiled::{Compiled, Op};
 pub use evaluation::{Outcome, Want, evaluate, zero_for_empty};
 pub use first::first_cell;
 pub use meter::Meter;
+pub use placed::{Placed, placed, placed_value};
 pub use wi_arguments::{LookedUp, Lookup};
