@@ -154,7 +154,7 @@ class Watch(CountsTest):
         for words in (["init", "-q"], ["add", "crates", "bench"], ["commit", "-qm", "one"]):
             subprocess.run([*git, *words], check=True)
         head = subprocess.run([*git, "rev-parse", "HEAD"], capture_output=True, text=True, check=True).stdout[:8]
-        watched = loaded(BENCH / "watch")
+        watched: Any = loaded(BENCH / "watch")
         watched.ROOT, watched.CRATES, watched.RUNS, look = self.root, self.root / "crates", self.root / "bench/runs.csv", watched.look
 
         def look_and_tell(gate: int, crates: Path, costs: dict[tuple[str, str], object]) -> None:
