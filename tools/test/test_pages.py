@@ -235,7 +235,8 @@ class Start(unittest.TestCase):
         self.assertEqual(self.shell("(csvin A1 stall.csv; cat stall.whatif questions.whatif) >") + self.shell("whatif-report plan.whatif"), "")
         page = blocks((self.place / "plan.html").read_text(encoding="utf-8"))
         table, moving = page[3].tables()
-        records = parted(questions[1][1].encode())[1].records()[1:]
+        # A page's lines end with LF, records with CR LF.
+        records = parted(questions[1][1].replace('"\n', '"\r\n').encode())[1].records()[1:]
         self.assertEqual([row[1:] for row in table[2:]], [record[1:] for record in records])
         self.assertEqual([cell.get("title") for cell in page[3].node.iter("td") if "here" in cell.get("class", "")], ["195"])
         self.assertEqual(moving[1], ["plum \u00b7 price D2 4.5", "177", "213"])
