@@ -154,7 +154,7 @@ class FirstCalls(StartTest):
         (self.place.kit / "bin" / "rattle-link").unlink()
         (self.place.root / "work" / "x").write_text("the file")
         answer = self.place.call("--load", "x", "--keep", "5")
-        wanted = f"tried, words: --data loaded={self.place.root}/work/x -- --load loaded --keep 5; given: set A1 1\n"
+        wanted = f"tried, words: --data loaded={self.place.root / 'work' / 'x'} -- --load loaded --keep 5; given: set A1 1\n"
         self.expect("output", answer.out, wanted)
         self.expect("status", answer.status, PROGRAM_STATUS)
         self.expect("says that it is unproved", "not proved yet; " in answer.messages, True)

@@ -78,16 +78,16 @@ class Tables(unittest.TestCase):
             self.assertAlmostEqual(ring, at, delta=0.4)
 
     def test_one_input(self) -> None:
-        found = tree(table_html([["1", "1/3"], ["2", "2/3"], ["4", "#DIV/0!"], ["3", "1"]], GOAL, PIECES, cells=["D2:D5"], now=["2"]))
+        found = tree(table_html([["1", "1/3"], ["2", "2/3"], ["4", "#DIV/0!"], ["3", "1"]], GOAL, PIECES, cells=["H2:H5"], now=["2"]))
         self.assertEqual(rows(next(found.iter("table")))[1:], [["1", "1/3"], ["2", "2/3"], ["4", "#DIV/0!"], ["3", "1"]])
-        self.assertIn("One entry shows an error: #DIV/0! at pieces sold 4 (D4)", words(found))
+        self.assertIn("One entry shows an error: #DIV/0! at pieces sold 4 (H4)", words(found))
         svg = next(found.iter("svg"))
         self.assertEqual([round(y, 2) for _, y in Scales(svg).points(of_class(svg, "polyline", "line")[0])], [0.33, 0.67, 1.0])
 
     def test_errors_are_named_by_their_cells(self) -> None:
         """Columns are counted on behind Z."""
-        found = table_html([["", "1", "2"], ["10", "5", "#N/A"]], "B9", "B1", "B2", cells=["D2:D2", "Z1:AA1"])
-        self.assertIn("One entry shows an error: #N/A at B1 10 (D2), B2 2 (AA1)", words(tree(found)))
+        found = table_html([["", "1", "2"], ["10", "5", "#N/A"]], "B9", "B1", "B2", cells=["H2:H2", "Z1:AA1"])
+        self.assertIn("One entry shows an error: #N/A at B1 10 (H2), B2 2 (AA1)", words(tree(found)))
 
     def test_alike(self) -> None:
         self.assertIn("All answers are alike: does B5 depend on B1?", table_html([["1", "7"], ["2", "7"]], GOAL, PIECES))
