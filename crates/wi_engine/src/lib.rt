@@ -15,6 +15,7 @@ mod lacking;
 mod lists;
 mod memo;
 mod occupied;
+mod plan;
 mod pool;
 mod question;
 mod remembered;
@@ -25,6 +26,7 @@ mod together;
 mod walk;
 
 pub use memo::Memo;
+pub use plan::{Plan, Planned};
 pub use pool::Pool;
 pub use question::Question;
 pub use remembered::Remembered;
