@@ -1,30 +1,27 @@
-//! Values that are found before they are asked for, in an order that was found once.
+//! The value of a cell where some are replaced, by the formulas between them one after another.
 
-ghost use Rattle.std.specs.Prelude.{◌≡◌, true, false, List, map, Some, Contains, IfOk, OnErr, is_some, is_ok};
-ghost use Rattle.wi_values.specs.declared.replacement.Replacement.{Replacement as Replacements};
+ghost use Rattle.std.specs.Prelude.{◌≡◌, ◌≤◌, true, false, map, Some, None, Ok, IfOk, IfSome, OnErr, is_ok};
+ghost use Rattle.std.specs.Bool.{OnTrue};
 ghost use Rattle.wi_parser.specs.Sheet.{content_of, has_formula, put_all};
 ghost use Rattle.wi_graph.specs.Circular.{circular};
-ghost use Rattle.wi_functions.specs.Counts.{one_more};
 ghost use Rattle.wi_sheet.specs.CellValue as values;
-ghost use Rattle.wi_sheet.specs.Demand.{case_of};
-ghost use Rattle.wi_sheet.specs.Inner.Spending.{NeverFall};
-ghost use Rattle.wi_engine.specs.Inner.Attempts.{IsValueAt};
-ghost use Rattle.wi_engine.specs.Inner.Findings.{AreAllRight};
-ghost use Rattle.wi_engine.specs.Inner.Frames.{MayBeRead, IsUnvaluedFormula};
+ghost use Rattle.wi_sheet.specs.Demand.{reaching};
+ghost use Rattle.wi_sheet.specs.Inner.Spending.{HasCase};
+ghost use Rattle.wi_engine.specs.Inner.Frames.{MayBeRead};
 ghost use Rattle.wi_engine.specs.Inner.MemoState.{IsMemoOf};
-ghost use Rattle.wi_engine.specs.Inner.Plans.{FindsCell, FindsKept, IsPlan, IsReady, LacksNothing};
-ghost use Rattle.wi_engine.specs.Inner.Remembered.{key_of};
-ghost use Rattle.wi_engine.specs.Inner.Spends.{Spends, ValuesCell};
+ghost use Rattle.wi_engine.specs.Inner.Plans.{AreGiven, CountsCell, CountsOne, Follows, IsReady, IsWholePlan};
+ghost use Rattle.wi_engine.specs.Inner.Saving.{NeedsNoEvaluation};
+ghost use Rattle.wi_engine.specs.Inner.Spends.{SpendsAtMost};
 
 use crate::asked::value_now;
 use crate::findings::Findings;
-use crate::frame::{Asked, Frame, Unvalued};
+use crate::frame::Asked;
 use crate::known::Known;
 use crate::memo::Memo;
 use crate::question::Question;
+use crate::seen::formula_in;
 use std::alloc::{AllocError, Global};
 use wi_functions::{Meter, Outcome, evaluate};
-use wi_parser::{Content, Formula};
 use wi_store::Store;
 use wi_values::{Address, Value};
 use wi_worlds::World;
@@ -47,161 +44,181 @@ pub struct Plan {
 }
 
 impl<M: Memo + Drop> Question<M> {
-    /// As `value`, of a plan's root where its inputs are replaced: what that rests on is found in the order of the plan first, so
-    /// that no formula of it waits for another. Each cell of the plan takes a look at what stands there and, for a formula, its key
-    /// and a look at what is remembered; each that is evaluated one evaluation.
+    /// The value of a plan's root where its inputs are replaced, in a question that ends with it and where no place is free for a
+    /// value: that of the root is kept, and no other. None where the root's value is remembered, or one that is to be given isn't.
+    /// Each other cell of the plan takes a look at what stands there, one evaluation, and what it takes to add its value to those
+    /// found.
     pub fn planned_value(
         &mut self,
         store: &Store,
         world: &World,
         plan: &Plan,
-    ) -> Result<Value, AllocError>
+    ) -> Result<Option<Value>, AllocError>
         requires memo { IsMemoOf store.now.sheet (M.state self.old.memo) }
-        requires kept { FindsKept (M.state self.old.memo) }
+        requires full { (M.state self.old.memo).room ≡ 0 }
         requires read { MayBeRead store.now.sheet (M.state self.old.memo) plan.now.root }
-        requires plan { IsPlan store.now.sheet plan.now.inputs.items plan.now.root plan.now.cells.items }
+        requires plan { IsWholePlan store.now.sheet plan.now.inputs.items plan.now.root
+            plan.now.cells.items }
         requires inputs { map (λ r. r.at) world.now ≡ plan.now.inputs.items }
-        ensures { ValuesCell store.now.sheet (M.state self.old.memo) (M.state self.new.memo)
-            world.now plan.now.root self.old.meter self.new.meter result }
-    {
-        match value_now(
-            self.pool.allocator(),
-            store,
-            world,
-            plan.root,
-            &mut self.memo,
-        )? {
-            Asked::Known(value) => Ok(value),
-            Asked::Unvalued(cell) => {
-                self.follow(store, world, plan)?;
-                self.run(store, cell.key, cell.formula)
-            }
-        }
-    }
-
-    /// Finds the values of a plan's cells, up to one that is to be there already and isn't.
-    fn follow(&mut self, store: &Store, world: &World, plan: &Plan) -> Result<(), AllocError>
-        requires memo { IsMemoOf store.now.sheet (M.state self.old.memo) }
-        requires kept { FindsKept (M.state self.old.memo) }
-        requires read { MayBeRead store.now.sheet (M.state self.old.memo) plan.now.root }
-        requires plan { IsPlan store.now.sheet plan.now.inputs.items plan.now.root plan.now.cells.items }
-        requires inputs { map (λ r. r.at) world.now ≡ plan.now.inputs.items }
-        requires formula { has_formula (content_of (put_all store.now.sheet world.now) plan.now.root)
-            ≡ true }
-        ensures spends { Spends store.now.sheet
-            (λ ks. Contains ks (case_of store.now.sheet world.now plan.now.root))
+        ensures value { IfOk result (λ o. IfSome o (λ v.
+            v ≡ values.cell_value (put_all store.now.sheet world.now) plan.now.root)) }
+        ensures none { result ≡ Ok None → (M.state self.new.memo ≡ M.state self.old.memo)
+            × (self.new.meter ≡ self.old.meter) }
+        ensures spends { SpendsAtMost store.now.sheet
+            (HasCase store.now.sheet world.now plan.now.root)
             (M.state self.old.memo) (M.state self.new.memo)
             self.old.meter self.new.meter (is_ok result) }
-        ensures root { IfOk result (λ _. (w : List Replacements)
-            → is_some ((M.state self.new.memo).known plan.now.root w) ≡ true
-            → is_some ((M.state self.old.memo).known plan.now.root w) ≡ true) }
+        ensures kept { IfOk result (λ o. IfSome o (λ _. 1 ≤ (M.state self.old.memo).capacity
+            → (M.state self.new.memo).kept plan.now.root
+            (reaching store.now.sheet plan.now.root world.now) ≡ true)) }
     {
-        let mut found = Findings::new();
-        for planned in &plan.cells {
-            match self.find(store, world, *planned, &found)? {
-                Some(value) => found.add_cell(planned.at, value, &mut self.pool)?,
-                None => return Ok(()),
-            }
-        }
-        found.give_back(&mut self.pool);
-        Ok(())
+        let alloc = self.pool.allocator();
+        let Asked::Unvalued(cell) = value_now(alloc, store, world, plan.root, &mut self.memo)?
+        else {
+            return Ok(None);
+        };
+        let Some(value) = self.follow(store, world, plan)? else {
+            return Ok(None);
+        };
+        let shown = value.copy(alloc)?;
+        self.memo.keep(cell.key, value)?;
+        Ok(Some(shown))
     }
 
-    /// The value of a plan's cell. None where it is to be there already and isn't.
-    fn find(
+    /// The value of a plan's root, after those of its cells. None where one that is to be given isn't there.
+    fn follow(
+        &mut self,
+        store: &Store,
+        world: &World,
+        plan: &Plan,
+    ) -> Result<Option<Value>, AllocError>
+        requires memo { IsMemoOf store.now.sheet (M.state self.old.memo) }
+        requires read { MayBeRead store.now.sheet (M.state self.old.memo) plan.now.root }
+        requires formula { has_formula (content_of (put_all store.now.sheet world.now) plan.now.root)
+            ≡ true }
+        requires plan { IsWholePlan store.now.sheet plan.now.inputs.items plan.now.root
+            plan.now.cells.items }
+        requires inputs { map (λ r. r.at) world.now ≡ plan.now.inputs.items }
+        ensures follows { Follows store.now.sheet world.now plan.now.root
+            self.old.meter self.new.meter result }
+        ensures same { M.state self.new.memo ≡ M.state self.old.memo }
+    {
+        if !self.are_given(store, world, plan)? {
+            return Ok(None);
+        }
+        let mut found = Findings::new();
+        for planned in &plan.cells {
+            let value = self.planned_cell(store, world, *planned, &found)?;
+            found.add_cell(planned.at, value, &mut self.pool)?;
+        }
+        let alloc = self.pool.allocator();
+        let value = ready_value(alloc, store, world, plan.root, &found, &mut self.meter)?;
+        found.give_back(&mut self.pool);
+        Ok(Some(value))
+    }
+
+    /// Whether the values are there that a plan is to be given.
+    fn are_given(&mut self, store: &Store, world: &World, plan: &Plan) -> Result<bool, AllocError>
+        requires memo { IsMemoOf store.now.sheet (M.state self.old.memo) }
+        requires read { MayBeRead store.now.sheet (M.state self.old.memo) plan.now.root }
+        requires formula { has_formula (content_of (put_all store.now.sheet world.now) plan.now.root)
+            ≡ true }
+        requires plan { IsWholePlan store.now.sheet plan.now.inputs.items plan.now.root
+            plan.now.cells.items }
+        requires inputs { map (λ r. r.at) world.now ≡ plan.now.inputs.items }
+        ensures given { IfOk result (λ b. OnTrue b (AreGiven store.now.sheet
+            (M.state self.old.memo) world.now plan.now.cells.items)) }
+        ensures same { M.state self.new.memo ≡ M.state self.old.memo }
+        ensures counts { self.new.meter ≡ self.old.meter }
+    {
+        for planned in &plan.cells {
+            if !self.is_there(store, world, *planned)? {
+                return Ok(false);
+            }
+        }
+        Ok(true)
+    }
+
+    /// Whether the value of a plan's cell is there, if it is to be given.
+    fn is_there(
+        &mut self,
+        store: &Store,
+        world: &World,
+        planned: Planned,
+    ) -> Result<bool, AllocError>
+        requires memo { IsMemoOf store.now.sheet (M.state self.old.memo) }
+        requires read { MayBeRead store.now.sheet (M.state self.old.memo) planned.at }
+        ensures given { IfOk result (λ b. OnTrue b (planned.is_given ≡ true
+            → NeedsNoEvaluation store.now.sheet (M.state self.old.memo) world.now planned.at)) }
+        ensures same { M.state self.new.memo ≡ M.state self.old.memo }
+        ensures counts { self.new.meter ≡ self.old.meter }
+    {
+        if !planned.is_given {
+            return Ok(true);
+        }
+        match value_now(self.pool.allocator(), store, world, planned.at, &mut self.memo)? {
+            Asked::Known(_) => Ok(true),
+            Asked::Unvalued(_) => Ok(false),
+        }
+    }
+
+    /// The value of a plan's cell: one that is to be given is there, and the formula of any other rests on what was found.
+    fn planned_cell(
         &mut self,
         store: &Store,
         world: &World,
         planned: Planned,
         found: &Findings,
-    ) -> Result<Option<Value>, AllocError>
+    ) -> Result<Value, AllocError>
         requires memo { IsMemoOf store.now.sheet (M.state self.old.memo) }
-        requires kept { FindsKept (M.state self.old.memo) }
         requires read { MayBeRead store.now.sheet (M.state self.old.memo) planned.at }
         requires formula { has_formula (content_of (put_all store.now.sheet world.now) planned.at)
             ≡ true }
+        requires given { planned.is_given ≡ true
+            → NeedsNoEvaluation store.now.sheet (M.state self.old.memo) world.now planned.at }
         requires ready { planned.is_given ≡ false
-            → IsReady store.now.sheet (M.state self.old.memo) world.now planned.at found.now }
-        ensures { FindsCell store.now.sheet (M.state self.old.memo) (M.state self.new.memo)
-            world.now planned.entry.at self.old.meter self.new.meter result }
-    {
-        match value_now(
-            self.pool.allocator(),
-            store,
-            world,
-            planned.at,
-            &mut self.memo,
-        )? {
-            Asked::Known(value) => Ok(Some(value)),
-            Asked::Unvalued(cell) => {
-                if planned.is_given {
-                    return Ok(None);
-                }
-                self.evaluated(store, world, planned.at, cell, found)
-            }
-        }
-    }
-
-    /// The value of a formula whose precedents are found. It is counted and remembered.
-    fn evaluated(
-        &mut self,
-        store: &Store,
-        world: &World,
-        at: Address,
-        cell: Unvalued,
-        found: &Findings,
-    ) -> Result<Option<Value>, AllocError>
-        requires memo { IsMemoOf store.now.sheet (M.state self.old.memo) }
-        requires kept { FindsKept (M.state self.old.memo) }
-        requires unvalued { IsUnvaluedFormula store.now.sheet (M.state self.old.memo) world.now at cell }
-        requires ready { IsReady store.now.sheet (M.state self.old.memo) world.now at found.now }
-        ensures { FindsCell store.now.sheet (M.state self.old.memo) (M.state self.new.memo)
-            world.now at self.old.meter self.new.meter result }
+            → IsReady store.now.sheet world.now planned.at found.now }
+        ensures value { IfOk result (λ v.
+            v ≡ values.cell_value (put_all store.now.sheet world.now) planned.at) }
+        ensures same { M.state self.new.memo ≡ M.state self.old.memo }
+        ensures counts { IfOk result (λ _.
+            CountsCell planned.is_given self.old.meter self.new.meter) }
+        ensures err { OnErr result (self.new.meter ≡ self.old.meter) }
     {
         let alloc = self.pool.allocator();
-        let frame = Frame::new(alloc, cell.key, cell.formula);
-        let value = ready_value(
-            alloc,
-            store,
-            world,
-            at,
-            frame.formula,
-            found,
-            &mut self.meter,
-        )?;
-        let shown = value.copy(alloc)?;
-        let key = frame.retire(&mut self.pool);
-        self.memo.remember(key, value)?;
-        Ok(Some(shown))
+        if !planned.is_given {
+            return ready_value(alloc, store, world, planned.at, found, &mut self.meter);
+        }
+        match value_now(alloc, store, world, planned.at, &mut self.memo)? {
+            Asked::Known(value) => Ok(value),
+            Asked::Unvalued(_) => unreachable!(),
+        }
     }
 }
 
-/// The value of a formula whose precedents are found. It is counted; where memory runs out nothing is.
+/// The value of a formula that rests on what was found. It is counted; where memory runs out nothing is.
 fn ready_value(
     alloc: Global,
     store: &Store,
     world: &World,
     at: Address,
-    formula: &Formula,
     found: &Findings,
     meter: &mut Meter,
 ) -> Result<Value, AllocError>
     requires open { circular store.now.sheet at ≡ false }
-    requires formula { content_of (put_all store.now.sheet world.now) at
-        ≡ Some (Content.Formula formula.now) }
-    requires right { AreAllRight (values.cell_value (put_all store.now.sheet world.now))
-        (values.what_if_value (put_all store.now.sheet world.now)) found.now }
-    requires found { LacksNothing store.now.sheet world.now at found.now }
-    ensures value { IfOk result (IsValueAt store.now.sheet (key_of at world.now) found.now) }
-    ensures counted { IfOk result (λ _. meter.new
-        ≡ record meter.old { evaluations = one_more meter.old.evaluations }) }
-    ensures counts { NeverFall meter.old meter.new }
+    requires formula { has_formula (content_of (put_all store.now.sheet world.now) at) ≡ true }
+    requires ready { IsReady store.now.sheet world.now at found.now }
+    ensures value { IfOk result (λ v. v ≡ values.cell_value (put_all store.now.sheet world.now) at) }
+    ensures counts { IfOk result (λ _. CountsOne meter.old meter.new) }
     ensures err { OnErr result (meter.new ≡ meter.old) }
 {
+    let Some(formula) = formula_in(store, world, at) else {
+        unreachable!()
+    };
+    let known = Known::new(store, world, found);
     // Each count is at most the greatest number, so one more is no less.
     let _ = meter.evaluations();
     let _ = meter.restarts();
-    let known = Known::new(store, world, found);
     match evaluate(alloc, formula, &known, meter)? {
         Outcome::Done(value) => Ok(value),
         Outcome::Needs(_) => unreachable!(),

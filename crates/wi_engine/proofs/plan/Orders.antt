@@ -51,7 +51,7 @@ module _ {s : Sheet} {m : MemoState} {w : List Replacement} {root : ℕ} (h : Is
   root_reader : IsReader s m w root root
   root_reader = record {
     same = content_below s root w ∙ stays_formula s w root form;
-    needed = record { formula = form; demanded = λ ks closed top. top; open_cell = read.open_cell; covered = read.covered (put_formula s w root form) };
+    needed = record { formula = form; demanded = λ ks closed top. top; readable = read };
   }
 
   -- what a cell reads that isn't replaced is needed where the cell is
@@ -68,8 +68,10 @@ module _ {s : Sheet} {m : MemoState} {w : List Replacement} {root : ℕ} (h : Is
         needed = record {
           formula = ap has_formula e ∙ f;
           demanded = λ ks closed top. closed (case_of s w d) (case_of s w c) (i.needed.demanded ks closed top) rests;
-          open_cell = reads_not_circular s d c reads i.needed.open_cell;
-          covered = h.closed d c i.needed.covered reads f;
+          readable = record {
+            open_cell = reads_not_circular s d c reads i.needed.readable.open_cell;
+            covered = λ k. h.closed d c (i.needed.readable.covered (put_formula s w d i.needed.formula)) reads k;
+          };
         };
       }
 

@@ -1,6 +1,6 @@
 -- In what order the values of cells are found before that of a cell, the root, which rests on them where some cells, the inputs,
 -- are replaced.
-use Rattle.std.specs.Prelude.{◌≡◌, ◌==◌, ℕ, true, false, List, [], ◌∷◌, ◌++◌, map, Option, Some, is_some, Result, IfOk, IfSome, ◌⊎◌, is_ok, Contains}
+use Rattle.std.specs.Prelude.{◌≡◌, ◌==◌, ℕ, ◌+◌, ◌-◌, ◌^◌, ◌≤◌, Bool, true, false, List, [], ◌∷◌, ◌++◌, map, All, Option, Some, None, is_some, Result, Ok, IfOk, IfSome, ◌⊎◌, Contains}
 use Rattle.std.specs.List.{list_any}
 use Rattle.std.specs.declared.alloc.AllocError.{AllocError}
 use Rattle.wi_values.specs.Address.{is_one_of}
@@ -10,16 +10,14 @@ use Rattle.wi_parser.specs.Tree.{Tree}
 use Rattle.wi_parser.specs.declared.content.Content.TheVariants.{Formula}
 use Rattle.wi_parser.specs.Sheet.{Sheet, content_of, has_formula, put_all}
 use Rattle.wi_parser.specs.Reads.{content_reads}
-use Rattle.wi_functions.specs.Counts.{Counts}
-use Rattle.wi_functions.specs.declared.evaluation.Want.{Want}
+use Rattle.wi_functions.specs.Counts.{Counts, one_more}
 use Rattle.wi_sheet.specs.CellValue.{cell_value, what_if_value}
-use Rattle.wi_sheet.specs.Demand.{case_of, reaching, what_ifs_of}
-use Rattle.wi_graph.specs.Circular.{circular}
-use Rattle.wi_engine.specs.Inner.Attempt.{AsksAt, IsLacking}
+use Rattle.wi_sheet.specs.Demand.{Case, case_of, what_ifs_of}
+use Rattle.wi_sheet.specs.Inner.Spending.{IsClosed, NeverFall, plus, price}
 use Rattle.wi_engine.specs.Inner.MemoState.{MemoState}
 use Rattle.wi_engine.specs.Inner.Findings.{AreAllRight, found_value, found_what_ifs}
-use Rattle.wi_engine.specs.Inner.Frames.{IsDemanded, content_reads_here}
-use Rattle.wi_engine.specs.Inner.Spends.{Spends}
+use Rattle.wi_engine.specs.Inner.Frames.{IsDemanded, MayBeRead, content_reads_here}
+use Rattle.wi_engine.specs.Inner.Saving.{NeedsNoEvaluation}
 use Rattle.wi_engine.specs.declared.findings.Findings.{Findings}
 use Rattle.wi_engine.specs.declared.plan.Planned.{Planned}
 
@@ -46,44 +44,49 @@ pub record MayBePlanned (s : Sheet) (inputs : List ℕ) (root : ℕ) (front : Li
 abbrev pub IsPlan : Sheet → List ℕ → ℕ → List Planned → Type 0
 IsPlan s inputs root ps = (front back : List Planned) (p : Planned) → ps ≡ front ++ p ∷ back → MayBePlanned s inputs root (planned_cells front) p (planned_cells back)
 
--- ---- what is so while a plan is followed
+-- and the root's formula rests on inputs and on these cells
+pub record IsWholePlan (s : Sheet) (inputs : List ℕ) (root : ℕ) (ps : List Planned) : Type 0 where
+  pub cells : IsPlan s inputs root ps
+  pub rests : RestsOnEarlier s inputs (planned_cells ps) root
 
--- what is kept is found
-abbrev pub FindsKept : MemoState → Type 0
-FindsKept m = (c : ℕ) (w : List Replacement) → m.kept c w ≡ true → m.found c w ≡ true
+-- ---- what is so while a plan is followed
 
 -- The value of the root demands that of a cell with a formula, which may be read.
 pub record IsNeeded (s : Sheet) (m : MemoState) (w : List Replacement) (root c : ℕ) : Type 0 where
   pub formula : has_formula (content_of (put_all s w) c) ≡ true
   pub demanded : IsDemanded s (case_of s w root) (case_of s w c)
-  pub open_cell : circular s c ≡ false
-  pub covered : m.covers c ≡ true
+  pub readable : MayBeRead s m c
 
 -- the values of just these cells were found
-pub record AreFound (s : Sheet) (m : MemoState) (w : List Replacement) (cells : List ℕ) (f : Findings) : Type 0 where
+pub record AreFound (s : Sheet) (w : List Replacement) (cells : List ℕ) (f : Findings) : Type 0 where
   pub right : AreAllRight (cell_value (put_all s w)) (what_if_value (put_all s w)) f
   pub known : (c : ℕ) → is_some (found_value f c) ≡ is_one_of cells c
   pub what_ifs : found_what_ifs f ≡ []
-  pub there : (c : ℕ) → is_one_of cells c ≡ true → m.found c (reaching s c w) ≡ true
 
--- What a formula reads is found, and it has no what-ifs.
-pub record IsReady (s : Sheet) (m : MemoState) (w : List Replacement) (c : ℕ) (f : Findings) : Type 0 where
+-- what a formula reads is found, and it has no what-ifs
+pub record IsReady (s : Sheet) (w : List Replacement) (c : ℕ) (f : Findings) : Type 0 where
   pub right : AreAllRight (cell_value (put_all s w)) (what_if_value (put_all s w)) f
-  pub none : found_what_ifs f ≡ []
-  pub there : (d : ℕ) → is_some (found_value f d) ≡ true → m.found d (reaching s d w) ≡ true
   pub cells : (d : ℕ) → content_reads (content_of s c) d ≡ true → has_formula (content_of (put_all s w) d) ≡ true → is_some (found_value f d) ≡ true
   pub what_ifs : (t : Tree) → content_of (put_all s w) c ≡ Some (Formula t) → what_ifs_of t ≡ []
 
--- nothing that a cell's formula asks for is lacking
-abbrev pub LacksNothing : Sheet → List Replacement → ℕ → Findings → Type 0
-LacksNothing s w c f = (want : Want) → AsksAt s w c want → IsLacking s w f want → ⊥
+-- the values that a plan is to be given are there
+abbrev pub AreGiven : Sheet → MemoState → List Replacement → List Planned → Type 0
+AreGiven s m w ps = All (λ p. p.is_given ≡ true → NeedsNoEvaluation s m w p.at) ps
 
--- What is so after a cell's value was found, or was to be given and isn't there: what was spent, and of which cases values are
--- remembered then.
-pub record FindsCell (s : Sheet) (old new : MemoState) (w : List Replacement) (c : ℕ) (before after : Counts) (r : Result (Option Value) AllocError) : Type 0 where
-  pub spends : Spends s (λ ks. Contains ks (case_of s w c)) old new before after (is_ok r)
-  pub value : IfOk r (λ o. IfSome o (λ v. v ≡ cell_value (put_all s w) c))
-  pub found : IfOk r (λ o. IfSome o (λ v. new.found c (reaching s c w) ≡ true))
-  pub stays : (d : ℕ) (v : List Replacement) → old.found d v ≡ true → new.found d v ≡ true
-  pub kept : IfOk r (λ o. FindsKept new)
-  pub others : (d : ℕ) (v : List Replacement) → is_some (new.known d v) ≡ true → (is_some (old.known d v) ≡ true) ⊎ (d ≡ c)
+-- an evaluation was counted, and no restart
+abbrev pub CountsOne : Counts → Counts → Type 0
+CountsOne before after = NeverFall before after × (after ≡ record before { evaluations = one_more before.evaluations })
+
+-- none for a value that is given, and one for any other
+abbrev pub CountsCell : Bool → Counts → Counts → Type 0
+CountsCell true before after = after ≡ before
+CountsCell false before after = CountsOne before after
+
+-- What is so where a plan was followed under replacements, as far as memory sufficed: its root's value was found by one evaluation or
+-- more, or a value that was to be given wasn't there. No more was counted than the cases cost that the root demands.
+pub record Follows (s : Sheet) (w : List Replacement) (root : ℕ) (before after : Counts) (r : Result (Option Value) AllocError) : Type 0 where
+  pub value : IfOk r (λ o. IfSome o (λ v. v ≡ cell_value (put_all s w) root))
+  pub none : r ≡ Ok None → after ≡ before
+  pub counts : NeverFall before after
+  pub one : IfOk r (λ o. IfSome o (λ v. (before.evaluations + 1 ≤ after.evaluations) ⊎ (2 ^ 64 - 1 ≤ after.evaluations)))
+  pub at_most : (ks : List Case) → IsClosed s ks → Contains ks (case_of s w root) → NeverFall after (plus before (price s ks))

@@ -10,7 +10,7 @@ use Rattle.wi_cache.specs.declared.key.Key.{Key}
 use Rattle.wi_sheet.specs.CellValue.{cell_value}
 use Rattle.wi_sheet.specs.Demand.{Case, reaching}
 use Rattle.wi_sheet.specs.Settled.{IsSettled, RestsOnKept}
-use Rattle.wi_sheet.specs.Inner.Spending.{HasCase, IsClosed, NeverFall, SpentOn}
+use Rattle.wi_sheet.specs.Inner.Spending.{HasCase, IsClosed, NeverFall, SpentOn, plus, price}
 use Rattle.wi_engine.specs.Inner.MemoState.{MemoState, IsMemoOf}
 use Rattle.wi_engine.specs.Inner.Saving.{not_kept, IsValuedAnew, KeepsFound, NeedsNoEvaluation, WhereRoom, TakesNoMore, GivesUpWhenFull}
 
@@ -43,6 +43,18 @@ pub record Spends (s : Sheet) (Has : List Case → Type 0) (old new : MemoState)
   pub places : TakesNoMore old new before.evaluations after.evaluations
   pub gives_up : GivesUpWhenFull old new
   pub on_found : (ks : List Case) → IsClosed s ks → Has ks → SpentOn s old.found new.found before after done ks
+  pub on_kept : WhereRoom s Has old (λ ks. SpentOn s old.kept new.kept before after done ks)
+  pub saved : done ≡ true → WhereRoom s Has old (λ ks. Saved s old new before after ks)
+
+-- What is so after a whole question: of what it evaluates it needn't remember all where there is no room. So each closed list that
+-- has what it is to have bounds the counts by what all its cases cost, those too that were found.
+pub record SpendsAtMost (s : Sheet) (Has : List Case → Type 0) (old new : MemoState) (before after : Counts) (done : Bool) : Type 0 where
+  pub right : IsMemoOf s new
+  pub same : IsSameBeside old new
+  pub counts : NeverFall before after
+  pub places : TakesNoMore old new before.evaluations after.evaluations
+  pub gives_up : GivesUpWhenFull old new
+  pub at_most : (ks : List Case) → IsClosed s ks → Has ks → NeverFall after (plus before (price s ks))
   pub on_kept : WhereRoom s Has old (λ ks. SpentOn s old.kept new.kept before after done ks)
   pub saved : done ≡ true → WhereRoom s Has old (λ ks. Saved s old new before after ks)
 
