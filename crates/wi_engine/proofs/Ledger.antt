@@ -1,5 +1,5 @@
 -- What one question after another spends.
-use Rattle.wi_engine.proofs.Words.{◌≡◌, ℕ, Bool, true, false, List, Result, Ok, Err, IsErr, is_ok, refl, sym, ◌∙◌, subst, arith, true≢false, Replacement, Sheet, Counts, Case, RestsOnKept, SpentOn, never_fall-same, never_fall-then, spent_none, spent_then, spent_weaken, MemoState, IsMemoOf, WhereRoom, IsSameBeside, Saved, Spends, rests_more}
+use Rattle.wi_engine.proofs.Words.{◌≡◌, ℕ, Bool, true, false, List, Result, Ok, Err, IsErr, is_ok, refl, sym, ◌∙◌, subst, arith, true≢false, Replacement, Sheet, Counts, Case, RestsOnKept, SpentOn, never_fall-same, never_fall-then, spent_none, spent_price, spent_then, spent_weaken, MemoState, IsMemoOf, WhereRoom, IsSameBeside, Saved, Spends, SpendsAtMost, rests_more}
 use Rattle.wi_engine.proofs.Places.{takes_none, takes_then, gives_up_none, gives_up_then}
 
 -- ---- of what is kept
@@ -86,3 +86,16 @@ spends_weaken {s} {Has} {Less} {m} {old} {new} {a} {b} {done} {less} e has d g =
 pub spends_err : {X E : Type 0} {s : Sheet} {Has : List Case → Type 0} {old new : MemoState} {a b : Counts} {done : Bool} (r : Result X E) → IsErr r → Spends s Has old new a b done → Spends s Has old new a b (is_ok r)
 spends_err (Ok x) e h = cc
 spends_err (Err x) e h = spends_weaken refl (λ ks top. top) (λ d. absurd (true≢false (sym d))) h
+
+-- what a question spends is at most what its cases cost
+pub spends_at_most : {s : Sheet} {Has : List Case → Type 0} {old new : MemoState} {a b : Counts} {done : Bool} → Spends s Has old new a b done → SpendsAtMost s Has old new a b done
+spends_at_most h = record {
+  right = h.right;
+  same = h.same;
+  counts = h.counts;
+  places = h.places;
+  gives_up = h.gives_up;
+  at_most = λ ks closed top. spent_price (h.on_found ks closed top);
+  on_kept = h.on_kept;
+  saved = h.saved;
+}

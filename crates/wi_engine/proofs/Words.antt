@@ -46,7 +46,7 @@ pub use Rattle.wi_engine.specs.Inner.Remembered.{AreCones, OneQuestion, key_of, 
 pub use Rattle.wi_engine.specs.Inner.Saving.{GivesUpWhenFull, IsValuedAnew, KeepsFound, NeedsNoEvaluation, TakesNoMore, TakesPlaces, WhereRoom, not_kept}
 pub use Rattle.wi_engine.specs.Inner.Seen.{content_seen}
 pub use Rattle.wi_engine.specs.Inner.SettledFrames.{AreFoundSettled, HasOneMeaning, IsFrameSettled}
-pub use Rattle.wi_engine.specs.Inner.Spends.{IsSameBeside, Saved, Spends, ValuesCell}
+pub use Rattle.wi_engine.specs.Inner.Spends.{IsSameBeside, Saved, Spends, SpendsAtMost, ValuesCell}
 pub use Rattle.wi_engine.specs.Inner.StackLists.{HasLast, HaveRests, HaveRoom, IsWithFrame, count_more, frame_of, frames_in, rests_behind, stack_state, with_its_rest, with_rest}
 pub use Rattle.wi_engine.specs.Inner.Stacked.{HasRoomForOne, StackState, StackedFrame, cells_of, other_than_cells, seen_as, stacked, waits_for_one}
 pub use Rattle.wi_engine.specs.Inner.Steps.{FrameCounts, FrameSteps, FrameTakes, FrameWaits, IsFrameValue, IsShownNow, IsWorldWith}
@@ -96,7 +96,7 @@ pub use Rattle.wi_parser.specs.declared.content.Content.{Content}
 pub use Rattle.wi_parser.specs.declared.content.Content.TheVariants.{Constant, Formula}
 pub use Rattle.wi_parser.specs.declared.expr.Pair.{Pair}
 pub use Rattle.wi_sheet.proofs.Bounds.{put_formula, put_reads, tree_reads}
-pub use Rattle.wi_sheet.proofs.CaseCosts.{left_at_keep, left_falls, never_fall-same, never_fall-then, one_less_left, spent_all, spent_none, spent_then, spent_weaken}
+pub use Rattle.wi_sheet.proofs.CaseCosts.{left_at_keep, left_falls, never_fall-same, never_fall-then, one_less_left, spent_all, spent_none, spent_nothing, spent_price, spent_then, spent_weaken}
 pub use Rattle.wi_sheet.proofs.Cases.{one_case, pair_path, same_case-refl}
 pub use Rattle.wi_sheet.proofs.Demands.{demand_closed, demand_has_itself, here_reads, same_tree, what_if_reads}
 pub use Rattle.wi_sheet.proofs.Filters.{PassesToo, fewer, no_more}
