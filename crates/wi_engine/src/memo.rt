@@ -38,6 +38,13 @@ pub trait Memo {
         ensures unkept { result ≡ None
             → (state self.now).kept key.now.cell key.now.world ≡ false };
 
+    /// Whether no place is free for a value that is kept for longer, as far as that is known.
+    fn is_full(&self) -> bool
+        ensures { result ≡ true → (state self.now).room ≡ 0 }
+    {
+        false
+    }
+
     /// Remembers a value for a key, which is found from then on, and keeps it for longer where the capacity allows any. Another that was
     /// kept may be evicted for it; of those found none is forgotten. If memory runs out, the value may be remembered or not.
     fn keep(&mut self, key: Key, value: Value) -> Result<(), AllocError>

@@ -156,7 +156,13 @@ impl<M: Memo + Drop> Question<M> {
         if !planned.is_given {
             return Ok(true);
         }
-        match value_now(self.pool.allocator(), store, world, planned.at, &mut self.memo)? {
+        match value_now(
+            self.pool.allocator(),
+            store,
+            world,
+            planned.at,
+            &mut self.memo,
+        )? {
             Asked::Known(_) => Ok(true),
             Asked::Unvalued(_) => Ok(false),
         }

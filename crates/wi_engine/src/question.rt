@@ -1,6 +1,6 @@
 //! A question in progress.
 
-ghost use Rattle.std.specs.Prelude.{◌≡◌, ◌≤◌, true, Some, Contains, IfOk, OnOk, is_ok};
+ghost use Rattle.std.specs.Prelude.{◌≡◌, ◌≤◌, true, Some, Contains, IfOk, IfSome, OnOk, is_ok};
 ghost use Rattle.wi_parser.specs.Sheet.{content_of, put_all};
 ghost use Rattle.wi_sheet.specs.CellValue as values;
 ghost use Rattle.wi_engine.specs.Inner.MemoState.{IsMemoOf};
@@ -47,7 +47,27 @@ impl<M: Memo + Drop> Question<M> {
         }
     }
 
-    /// The same where the formula is at hand that the cell has under the replacements: what stands there isn't looked for once more.
+    /// The value of a cell under replacements, where no formula has to be evaluated for it.
+    pub fn value_at_hand(
+        &mut self,
+        store: &Store,
+        world: &World,
+        at: Address,
+    ) -> Result<Option<Value>, AllocError>
+        requires memo { IsMemoOf store.now.sheet (M.state self.old.memo) }
+        requires read { MayBeRead store.now.sheet (M.state self.old.memo) at }
+        ensures value { IfOk result (λ o. IfSome o (λ v.
+            v ≡ values.cell_value (put_all store.now.sheet world.now) at)) }
+        ensures same { M.state self.new.memo ≡ M.state self.old.memo }
+        ensures counts { self.new.meter ≡ self.old.meter }
+    {
+        match value_now(self.pool.allocator(), store, world, at, &mut self.memo)? {
+            Asked::Known(value) => Ok(Some(value)),
+            Asked::Unvalued(_) => Ok(None),
+        }
+    }
+
+    /// As `value`, where the formula is at hand that the cell has under the replacements: what stands there isn't looked for once more.
     pub fn formula_value(
         &mut self,
         store: &Store,
