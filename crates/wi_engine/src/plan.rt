@@ -9,7 +9,7 @@ ghost use Rattle.wi_sheet.specs.Demand.{reaching};
 ghost use Rattle.wi_sheet.specs.Inner.Spending.{HasCase};
 ghost use Rattle.wi_engine.specs.Inner.Frames.{MayBeRead};
 ghost use Rattle.wi_engine.specs.Inner.MemoState.{IsMemoOf};
-ghost use Rattle.wi_engine.specs.Inner.Plans.{AreGiven, CountsCell, CountsOne, Follows, IsReady, IsWholePlan};
+ghost use Rattle.wi_engine.specs.Inner.Plans.{AreGiven, CountsCell, CountsOne, Follows, IsReady, IsUnkept, IsWholePlan};
 ghost use Rattle.wi_engine.specs.Inner.Saving.{NeedsNoEvaluation};
 ghost use Rattle.wi_engine.specs.Inner.Spends.{SpendsAtMost};
 
@@ -64,6 +64,8 @@ impl<M: Memo + Drop> Question<M> {
             v ≡ values.cell_value (put_all store.now.sheet world.now) plan.now.root)) }
         ensures none { result ≡ Ok None → (M.state self.new.memo ≡ M.state self.old.memo)
             × (self.new.meter ≡ self.old.meter) }
+        ensures unkept { IfOk result (λ o. IfSome o (λ _. IsUnkept store.now.sheet
+            (M.state self.old.memo) world.now plan.now.root)) }
         ensures spends { SpendsAtMost store.now.sheet
             (HasCase store.now.sheet world.now plan.now.root)
             (M.state self.old.memo) (M.state self.new.memo)

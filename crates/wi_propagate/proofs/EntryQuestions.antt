@@ -1,5 +1,5 @@
 -- An entry of a data table that is asked for: which cells may be read, and what is kept for longer.
-use Rattle.wi_propagate.proofs.Words.{◌≡◌, ◌==◌, ◌<◌, ◌+◌, ℕ, zero, suc, true, false, List, [], ◌∷◌, map, take, get_or, length, All, refl, sym, ap, ◌∙◌, subst, arith, eq-eqb, or_left, or_right, All-more, list_any, Replacement, Sheet, content_of, has_formula, Counts, circular, is_one_of, Case, with_what_if, IsSettled, IsWhatIfSettled, HasCase, HasReplacing, HasEntry, all_more, test_of_cells, cells_open, MemoState, MayBeRead, OneQuestion, remembered, question_state, WhereRoom, Saved, Spends, where_then}
+use Rattle.wi_propagate.proofs.Words.{◌≡◌, ◌==◌, ◌<◌, ◌+◌, ◌||◌, ℕ, zero, suc, Bool, true, false, List, [], ◌∷◌, map, take, get_or, length, All, refl, sym, ap, ◌∙◌, subst, arith, eq-eqb, or_left, or_right, All-more, list_any, Replacement, Sheet, content_of, has_formula, Counts, circular, is_one_of, Case, case_of, same_case, one_less_left, with_what_if, IsSettled, IsWhatIfSettled, HasCase, HasReplacing, HasEntry, all_more, test_of_cells, cells_open, MemoState, MayBeRead, OneQuestion, remembered, question_state, WhereRoom, IsUnkept, Saved, Spends, SpendsAtMost, spends_at_most, where_then}
 
 -- ---- the cells whose values it asks for
 
@@ -65,3 +65,38 @@ module _ (s : Sheet) (w : List Replacement) (f : ℕ) (pairs : List (ℕ × ℕ)
         replacing = all_more s mid.kept new.kept stays w pairs (before ks closed top.0 whole room);
         formula_cell = subst (λ (v : List Replacement). IsSettled s new.kept v f) is one;
       }
+
+-- ---- an entry by a plan
+
+-- the same of fewer lists, from the same beginning
+at_most_weaken : {s : Sheet} {Has Less : List Case → Type 0} {m old new : MemoState} {a b : Counts} {done : Bool} → m ≡ old → ((ks : List Case) → Less ks → Has ks) → SpendsAtMost s Has m new a b done → SpendsAtMost s Less old new a b done
+at_most_weaken {s} {Has} {Less} {m} {old} {new} {a} {b} {done} e has g =
+    let h : SpendsAtMost s Has old new a b done = subst (λ (x : MemoState). SpendsAtMost s Has x new a b done) e g in
+    record {
+      right = h.right;
+      same = h.same;
+      counts = h.counts;
+      places = h.places;
+      gives_up = h.gives_up;
+      at_most = λ ks closed top. h.at_most ks closed (has ks top);
+      on_kept = λ ks closed top whole room. h.on_kept ks closed (has ks top) whole room;
+      saved = λ d ks closed top whole room. h.saved d ks closed (has ks top) whole room;
+    }
+
+-- what a question spends from the same beginning
+pub spends_from : {s : Sheet} {Has : List Case → Type 0} {m old new : MemoState} {a b c : Counts} {done : Bool} → m ≡ old → a ≡ b → Spends s Has m new a c done → SpendsAtMost s Has old new b c done
+spends_from {s} {Has} {m} {old} {new} {a} {b} {c} {done} em ea h = at_most_weaken em (λ ks top. top) (subst (λ (x : Counts). SpendsAtMost s Has m new x c done) ea (spends_at_most h))
+
+module _ (s : Sheet) (w : List Replacement) (f : ℕ) (pairs : List (ℕ × ℕ)) where
+  -- what its formula cell spends, the entry spends
+  pub entry_spends : {root : ℕ} {r : List Replacement} {m old new : MemoState} {a b c : Counts} {done : Bool} → r ≡ with_what_if s w pairs → root ≡ f → m ≡ old → a ≡ b → SpendsAtMost s (HasCase s r root) m new a c done → SpendsAtMost s (HasEntry s w f pairs) old new b c done
+  entry_spends {root} {r} {m} {old} {new} {a} {b} {c} {done} is er em ea g =
+      let here : SpendsAtMost s (HasCase s r f) m new b c done = subst (λ (x : ℕ). SpendsAtMost s (HasCase s r x) m new b c done) er (subst (λ (x : Counts). SpendsAtMost s (HasCase s r root) m new x c done) ea g) in
+      at_most_weaken em (has_formula_cell s w f pairs r is) here
+
+  -- there is no room for what it demands where its formula cell isn't kept
+  pub entry_no_room : {m : MemoState} (P : List Case → Type 0) → m.room ≡ 0 → IsUnkept s m (with_what_if s w pairs) f → WhereRoom s (HasEntry s w f pairs) m P
+  entry_no_room {m} P full none ks closed has whole room =
+      let there = has.1 none.formula in
+      let less = one_less_left m.kept (λ c v. m.kept c v || same_case (case_of s (with_what_if s w pairs) f) (c, v)) (case_of s (with_what_if s w pairs) f) ks (λ c v. refl) none.none there in
+      absurd (omega (arith, less, room, full))

@@ -1,6 +1,7 @@
 -- A question asked of a calculator that keeps values.
-use Rattle.wi_propagate.proofs.Words.{◌≡◌, ◌≤◌, ◌<◌, ◌+◌, ◌-◌, ◌^◌, inl, inr, length, All, filter, not, is_some, ℕ, Bool, true, false, List, [], Option, refl, ap, sym, ◌∙◌, subst, arith, keys_of, cases_lt, true≢false, Value, Fault, Circular, Replacement, Sheet, content_of, put_all, has_formula, Counts, Stored, Key, KeptValues, kept, value_for, IfSome, circular, clash, Case, reaching, asks_circular, table_entry, IsWhatIfSettled, IsClosed, SpentOn, left_is_unkept, sum_ones, never_fall-same, spent_price, spent_unkept, cells_open, entry_circular, none_circular, MayBeRead, KeepsFound, WhereRoom, TakesNoMore, GivesUpWhenFull, NeedsNoEvaluation, IsValuedAnew, IsSameBeside, Saved, Spends, what_if_more, rests_more, none_went, Generations, generation_in, KeptSheet, key_in, stands, is_kept, unkept, gone, IsAtHand, HasRoomFor, KeepsAll, KeepsNoMore, KeepsOld, KeepsWhileRoom, emptied, AreRight, IsKeptFor, AreKeptRight, Box, Held, kept_sheet, values_in, Keeping, keeping, begun, state_in, ArePlaced, IsKeepingRight, Owes, told, or_none, Some, None, IsSome, Noted, noted_in, Staging, AreEdgesOf, AreOwed, AreHeldCones, AreKeptUp, AreAllCones}
+use Rattle.wi_propagate.proofs.Words.{◌≡◌, ◌≤◌, ◌<◌, ◌+◌, ◌-◌, ◌^◌, inl, inr, length, All, filter, not, is_some, ℕ, Bool, true, false, List, [], Option, refl, ap, sym, ◌∙◌, subst, arith, keys_of, cases_lt, true≢false, Value, Fault, Circular, Replacement, Sheet, content_of, put_all, has_formula, Counts, Stored, Key, KeptValues, kept, value_for, IfSome, circular, clash, Case, reaching, asks_circular, table_entry, IsWhatIfSettled, IsClosed, SpentOn, left_is_unkept, sum_ones, never_fall-same, spent_unkept, cells_open, entry_circular, none_circular, MayBeRead, KeepsFound, WhereRoom, TakesNoMore, GivesUpWhenFull, NeedsNoEvaluation, IsValuedAnew, IsSameBeside, Saved, SpendsAtMost, what_if_more, rests_more, none_went, Generations, generation_in, KeptSheet, key_in, stands, is_kept, unkept, gone, IsAtHand, HasRoomFor, KeepsAll, KeepsNoMore, KeepsOld, KeepsWhileRoom, emptied, AreRight, IsKeptFor, AreKeptRight, Box, Held, kept_sheet, values_in, Keeping, keeping, begun, state_in, ArePlaced, IsKeepingRight, Owes, told, or_none, Some, None, IsSome, Noted, noted_in, Staging, AreEdgesOf, AreOwed, AreHeldCones, AreKeptUp, AreAllCones, ArePlans}
 use Rattle.wi_engine.specs.Inner.Saving as saving
+use Rattle.wi_propagate.specs.declared.plans.Plans.{Plans}
 use Rattle.wi_propagate.proofs.NotedSteps.{settled_up}
 use Rattle.wi_propagate.proofs.PlaceCounts.{all_stand}
 
@@ -157,6 +158,16 @@ pub holds_asked : (o : Option (Box Held)) (graph : Staging) (s : Stored) (g : No
     IsSameBeside (state_in q) (state_in last) → b.value.kept ≡ last.values → last.sheet ≡ s.sheet → IsKeepingRight last → AreAllCones last.sheet b.value.cones → AlwaysHolds o graph s g n → AlwaysHolds (Some b) graph s g counts
 holds_asked o graph s g n counts q last b e beside same sheet right cones h = (refl, h.1, h.2, right_then e last b.value.kept counts beside same sheet h.3 right, subst (λ (x : Sheet). AreAllCones x b.value.cones) sheet cones, h.5)
 
+-- its plans too
+abbrev pub AlwaysPlans : Option (Box Held) → Staging → Stored → Noted → Counts → Plans → Type 0
+AlwaysPlans o graph s g n ps = IsSome o × AreEdgesOf graph.now s.sheet × (graph.staged ≡ None) × AreKeptRight (kept_sheet s (told s.sheet g.named) o n) × AreHeldCones s.sheet o × AreKeptUp s.sheet s.edits g × ArePlans s.sheet ps
+
+pub with_plans : {o : Option (Box Held)} {graph : Staging} {s : Stored} {g : Noted} {n : Counts} {ps : Plans} → AlwaysHolds o graph s g n → ArePlans s.sheet ps → AlwaysPlans o graph s g n ps
+with_plans h k = (h.0, h.1, h.2, h.3, h.4, h.5, k)
+
+pub but_plans : {o : Option (Box Held)} {graph : Staging} {s : Stored} {g : Noted} {n : Counts} {ps : Plans} → AlwaysPlans o graph s g n ps → AlwaysHolds o graph s g n
+but_plans h = (h.0, h.1, h.2, h.3, h.4, h.5)
+
 -- ---- what is held goes
 
 module _ (o p : Option (Box Held)) (none : values_in p ≡ kept [] (values_in o).capacity) (s : Stored) (n : Counts) where
@@ -239,13 +250,13 @@ owes_settled old new cases done e = subst (λ (k : KeptSheet). Owes k new cases 
 
 module _ {k : KeptSheet} {q : Keeping} (e : Begins k q) (last : Keeping) (values : KeptValues) (counts : Counts) (same : values ≡ last.values) (within : length values.entries ≤ values.capacity) (Has : List Case → Type 0) (cases : List Case) (closed : IsClosed k.stored.sheet cases) (has : Has cases) where
   -- of each closed list that has what it is to have, so of the cases that are demanded
-  pub owes_spent : (done : Bool) → Spends k.stored.sheet Has (state_in q) (state_in last) k.counts counts done → Owes k (record { stored = k.stored; generations = k.generations; values = values; counts = counts }) cases done
+  pub owes_spent : (done : Bool) → SpendsAtMost k.stored.sheet Has (state_in q) (state_in last) k.counts counts done → Owes k (record { stored = k.stored; generations = k.generations; values = values; counts = counts }) cases done
   owes_spent done h = record {
     same = refl;
     same_generations = refl;
     same_room = same_capacity e last values counts h.same same;
     counts = h.counts;
-    demanded = spent_price (h.on_found cases closed has);
+    demanded = h.at_most cases closed has;
     not_kept = λ room.
         let spent = asked_where e (λ ks. SpentOn k.stored.sheet (state_in q).kept (state_in last).kept k.counts counts done ks) cases Has h.on_kept closed has room in
         spent_unkept (subst (λ (x : Keeping). SpentOn k.stored.sheet (state_in x).kept (state_in last).kept k.counts counts done cases) e.is spent);

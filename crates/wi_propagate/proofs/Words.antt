@@ -28,14 +28,15 @@ pub use Rattle.wi_cache.proofs.Keys.{key_itself, same_key_equiv}
 pub use Rattle.wi_cache.specs.Entries.{Entries, HasOneEach, HasRoom, KeptValues, PutsIn, PutsForGoing, PutsForOne, going, kept, last_entry, len_after, same_key, value_for}
 pub use Rattle.wi_cache.specs.Hashed.{same_key_means}
 pub use Rattle.wi_cache.specs.declared.key.Key.{Key}
-pub use Rattle.wi_engine.proofs.Ledger.{spends_err, spends_then, spends_weaken, where_then}
+pub use Rattle.wi_engine.proofs.Ledger.{spends_at_most, spends_err, spends_then, spends_weaken, where_then}
 pub use Rattle.wi_engine.proofs.Places.{known_still, known_then, none_went}
 pub use Rattle.wi_engine.specs.Inner.Frames.{MayBeRead}
 pub use Rattle.wi_engine.specs.Inner.Keeps.{HasFound, Keeps}
 pub use Rattle.wi_engine.specs.Inner.MemoState.{IsMemoOf, IsTold, MemoState}
 pub use Rattle.wi_engine.specs.Inner.Remembered.{OneQuestion, question_state, remembered}
 pub use Rattle.wi_engine.specs.Inner.Saving.{GivesUpWhenFull, IsValuedAnew, KeepsFound, NeedsNoEvaluation, TakesNoMore, TakesPlaces, WhereRoom}
-pub use Rattle.wi_engine.specs.Inner.Spends.{IsSameBeside, Saved, Spends}
+pub use Rattle.wi_engine.specs.Inner.Plans.{IsUnkept, IsWholePlan}
+pub use Rattle.wi_engine.specs.Inner.Spends.{IsSameBeside, Saved, Spends, SpendsAtMost}
 pub use Rattle.wi_functions.specs.Counts.{Counts}
 pub use Rattle.wi_functions.specs.Meaning.{zero_for_empty}
 pub use Rattle.wi_graph.proofs.Agreement.{circular_same}
@@ -62,13 +63,14 @@ pub use Rattle.wi_propagate.specs.Inner.Cones.{AreAllCones}
 pub use Rattle.wi_propagate.specs.Inner.Keeping.{AreHeldCones, ArePlaced, HasGeneration, IsKeepingRight, Keeping, TakesOver, begun, keeping, kept_sheet, state_in, value_in, values_in}
 pub use Rattle.wi_propagate.specs.Inner.Noted.{AreAllNoted, AreKeptUp, Noted, noted_in}
 unfoldable pub use Rattle.wi_propagate.specs.Inner.Noted.{told}
+pub use Rattle.wi_propagate.specs.Inner.Planned.{ArePlans}
 pub use Rattle.wi_propagate.specs.Inner.Owes.{Owes}
 pub use Rattle.wi_propagate.specs.Inner.Settling.{second_cells}
 pub use Rattle.wi_propagate.specs.KeptSheet.{Generations, HasRoomFor, IsAtHand, emptied, IsEdit, KeepsAll, KeepsNoMore, KeepsOld, KeepsWhileRoom, KeptSheet, generation_in, gone, is_kept, key_in, stands, unkept}
 pub use Rattle.wi_propagate.specs.Right.{AreKeptRight, AreRight, IsKeptFor, IsRight}
 pub use Rattle.wi_propagate.specs.declared.held.Held.{Held}
 pub use Rattle.wi_sheet.proofs.Bounds.{bound_not_felt}
-pub use Rattle.wi_sheet.proofs.CaseCosts.{left_is_unkept, never_fall-same, spent_nothing, spent_price, spent_unkept}
+pub use Rattle.wi_sheet.proofs.CaseCosts.{left_is_unkept, never_fall-same, one_less_left, spent_nothing, spent_price, spent_unkept}
 pub use Rattle.wi_sheet.proofs.Cases.{demands_itself, different_closed}
 pub use Rattle.wi_sheet.proofs.CellsAhead.{all_ahead, cells_ahead, fewer, none_ahead, occupied, one_ahead}
 pub use Rattle.wi_sheet.proofs.Cones.{outside_shown, outside_shown_same, outside_unmoved, outside_value}

@@ -3,6 +3,7 @@ pub mod Plain
 pub mod Cones
 pub mod Keeping
 pub mod Owes
+pub mod Planned
 pub mod Noted
 pub mod Settling
 pub mod Standing

@@ -171,6 +171,11 @@ impl<'a> Memo for Keeping<'a> {
         Ok(key)
     }
 
+    fn is_full(&self) -> bool {
+        let _ = self.held.kept.len();
+        self.held.kept.is_full()
+    }
+
     fn look(&self, key: &Key) -> Option<&Value> {
         match self.held.kept.look(key) {
             Some(value) => Some(value),

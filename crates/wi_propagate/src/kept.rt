@@ -26,8 +26,9 @@ use crate::generations::Generations;
 use crate::held::{Held, forget_held, hold_over_edit, take_held};
 use crate::keeping::Keeping;
 use crate::last_worlds::LastWorlds;
+use crate::plans::Plans;
 use crate::standing::{Standing, standing_value};
-use crate::table_entry::open_entry;
+use crate::table_entry::planned_entry;
 use std::alloc::{AllocError, Global};
 use std::marker::Model;
 use std::mem;
@@ -52,6 +53,8 @@ pub struct KeptCalculator {
     // The most replaced cells that a question had.
     widest: usize,
     meter: Meter,
+    // Plans for formula cells of table entries.
+    plans: Plans,
     // Arrays for the formulas of the next questions.
     pool: Pool,
     alloc: Global,
@@ -75,6 +78,7 @@ impl Model for KeptCalculator {
     ghost use Rattle.wi_propagate.specs.Right.{AreKeptRight};
     ghost use Rattle.wi_propagate.specs.Inner.Keeping.{kept_sheet, AreHeldCones};
     ghost use Rattle.wi_propagate.specs.Inner.Noted.{told, AreKeptUp};
+    ghost use Rattle.wi_propagate.specs.Inner.Planned.{ArePlans};
 
     ghost view = { λ k. kept_sheet k.store
         (told k.store.sheet k.generations.named) k.held k.meter };
@@ -84,7 +88,8 @@ impl Model for KeptCalculator {
         × (k.graph.staged ≡ None)
         × AreKeptRight (kept_sheet k.store (told k.store.sheet k.generations.named) k.held k.meter)
         × AreHeldCones k.store.sheet k.held
-        × AreKeptUp k.store.sheet k.store.edits k.generations };
+        × AreKeptUp k.store.sheet k.store.edits k.generations
+        × ArePlans k.store.sheet k.plans };
 }
 
 impl KeptCalculator {
@@ -107,6 +112,7 @@ impl KeptCalculator {
             worlds: LastWorlds::new(alloc),
             widest: 0,
             meter: Meter::new(),
+            plans: Plans::new(alloc),
             pool: Pool::new(alloc),
             alloc,
         })
@@ -148,6 +154,7 @@ impl KeptCalculator {
                 hold_over_edit(self.alloc, &self.graph, &mut self.held);
                 self.graph.commit();
                 self.generations.name(cells, self.store.edits());
+                self.plans.clear();
                 Ok(())
             }
             Err(fault) => {
@@ -239,7 +246,14 @@ impl KeptCalculator {
             meter: self.meter,
             pool: mem::replace(&mut self.pool, Pool::new(self.alloc)),
         };
-        let result = open_entry(&mut question, &self.store, &world, formula_cell, pairs);
+        let result = planned_entry(
+            &mut question,
+            &self.store,
+            &world,
+            formula_cell,
+            pairs,
+            &mut self.plans,
+        );
         self.meter = question.meter;
         self.pool = question.pool;
         self.held = Some(question.memo.into_held());
@@ -427,6 +441,7 @@ impl Calculator for KeptCalculator {
     {
         forget_held(self.alloc, &mut self.held);
         self.worlds = LastWorlds::new(self.alloc);
+        self.plans = Plans::new(self.alloc);
         self.pool = Pool::new(self.alloc);
     }
 

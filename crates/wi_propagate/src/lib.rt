@@ -11,6 +11,7 @@ mod last_worlds;
 pub mod laws;
 mod occupied;
 mod plain;
+mod plans;
 mod recurring;
 mod settling;
 mod standing;

@@ -1,6 +1,6 @@
 //! What an entry of a data table shows.
 
-ghost use Rattle.std.specs.Prelude.{◌≡◌, ◌∷◌, map, All, IfOk, OnOk, is_ok};
+ghost use Rattle.std.specs.Prelude.{◌≡◌, ◌∷◌, map, None, Ok, All, IfOk, IfSome, OnOk, is_ok};
 ghost use Rattle.wi_values.specs.Replacements.{IsInOrder};
 ghost use Rattle.wi_parser.specs.Sheet.{put_all};
 ghost use Rattle.wi_functions.specs.Meaning as formulas;
@@ -13,8 +13,11 @@ ghost use Rattle.wi_sheet.specs.Inner.Spending.{HasReplacing, HasEntry, NeverFal
 ghost use Rattle.wi_engine.specs.Inner.MemoState.{IsMemoOf};
 ghost use Rattle.wi_engine.specs.Inner.Frames.{MayBeRead};
 ghost use Rattle.wi_engine.specs.Inner.Saving.{WhereRoom};
-ghost use Rattle.wi_engine.specs.Inner.Spends.{Spends};
+ghost use Rattle.wi_engine.specs.Inner.Plans.{IsUnkept};
+ghost use Rattle.wi_engine.specs.Inner.Spends.{Spends, SpendsAtMost};
+ghost use Rattle.wi_propagate.specs.Inner.Planned.{ArePlans};
 
+use crate::plans::Plans;
 use std::alloc::{AllocError, Global};
 use wi_engine::{Memo, Pool, Question, Remembered, reached_from};
 use wi_functions::{Meter, zero_for_empty};
@@ -106,6 +109,117 @@ pub(crate) fn open_entry<M: Memo + Drop>(
     let replaced = with_inputs(question, store, world, pairs)?;
     let value = question.value(store, &replaced, formula_cell)?;
     Ok(zero_for_empty(value))
+}
+
+/// As `open_entry`, in a question that ends with it: where no place is free for a value, and there is a plan for the formula cell, its
+/// value is found by that.
+pub(crate) fn planned_entry<M: Memo + Drop>(
+    question: &mut Question<M>,
+    store: &Store,
+    world: &World,
+    formula_cell: Address,
+    pairs: &[(Address, Address)],
+    plans: &mut Plans,
+) -> Result<Value, AllocError>
+    requires memo { IsMemoOf store.now.sheet (M.state question.old.memo) }
+    requires formula_cell { MayBeRead store.now.sheet (M.state question.old.memo) formula_cell }
+    requires replacing { All (λ x.
+        MayBeRead store.now.sheet (M.state question.old.memo) x.1) pairs.now }
+    requires plans { ArePlans store.now.sheet plans.old }
+    ensures value { let inside = with_what_if store.now.sheet world.now pairs.now in
+        IfOk result (λ v. v ≡ formulas.zero_for_empty
+        (values.cell_value (put_all store.now.sheet inside) formula_cell)) }
+    ensures spends { let sheet = store.now.sheet in
+        SpendsAtMost sheet (HasEntry sheet world.now formula_cell pairs.now)
+        (M.state question.old.memo) (M.state question.new.memo)
+        question.old.meter question.new.meter (is_ok result) }
+    ensures settled { let sheet = store.now.sheet in
+        OnOk result (WhereRoom sheet (HasEntry sheet world.now formula_cell pairs.now)
+        (M.state question.old.memo)
+        (λ _. IsWhatIfSettled sheet (M.state question.new.memo).kept
+        world.now (formula_cell, pairs.now))) }
+    ensures plans { ArePlans store.now.sheet plans.new }
+{
+    match entry_by_plan(question, store, world, formula_cell, pairs, plans)? {
+        Some(value) => Ok(zero_for_empty(value)),
+        None => {
+            let before = question.meter.evaluations();
+            let result = open_entry(question, store, world, formula_cell, pairs);
+            let count = question.meter.evaluations().saturating_sub(before);
+            plans.evaluated(formula_cell, count);
+            result
+        }
+    }
+}
+
+/// The value of the formula cell with the inputs put in, by a plan. None where a place is free, there is no plan, or a value isn't there
+/// that it is to be given.
+fn entry_by_plan<M: Memo + Drop>(
+    question: &mut Question<M>,
+    store: &Store,
+    world: &World,
+    formula_cell: Address,
+    pairs: &[(Address, Address)],
+    plans: &mut Plans,
+) -> Result<Option<Value>, AllocError>
+    requires memo { IsMemoOf store.now.sheet (M.state question.old.memo) }
+    requires formula_cell { MayBeRead store.now.sheet (M.state question.old.memo) formula_cell }
+    requires replacing { All (λ x.
+        MayBeRead store.now.sheet (M.state question.old.memo) x.1) pairs.now }
+    requires plans { ArePlans store.now.sheet plans.old }
+    ensures value { let inside = with_what_if store.now.sheet world.now pairs.now in
+        IfOk result (λ o. IfSome o (λ v.
+        v ≡ values.cell_value (put_all store.now.sheet inside) formula_cell)) }
+    ensures none { result ≡ Ok None
+        → (M.state question.new.memo ≡ M.state question.old.memo)
+        × (question.new.meter ≡ question.old.meter) }
+    ensures unkept { let inside = with_what_if store.now.sheet world.now pairs.now in
+        IfOk result (λ o. IfSome o (λ _. ((M.state question.old.memo).room ≡ 0)
+        × IsUnkept store.now.sheet (M.state question.old.memo) inside formula_cell)) }
+    ensures spends { let sheet = store.now.sheet in
+        SpendsAtMost sheet (HasEntry sheet world.now formula_cell pairs.now)
+        (M.state question.old.memo) (M.state question.new.memo)
+        question.old.meter question.new.meter (is_ok result) }
+    ensures plans { ArePlans store.now.sheet plans.new }
+{
+    if !question.memo.is_full() {
+        return Ok(None);
+    }
+    let Some(inside) = inputs_at_hand(question, store, world, pairs)? else {
+        return Ok(None);
+    };
+    match plans.find(formula_cell, &inside) {
+        Some(plan) => question.planned_value(store, &inside, plan),
+        None => {
+            plans.note(question, store, &inside, formula_cell);
+            Ok(None)
+        }
+    }
+}
+
+/// Replacements with the inputs of an entry put in, where the values of the replacement cells are there.
+fn inputs_at_hand<M: Memo + Drop>(
+    question: &mut Question<M>,
+    store: &Store,
+    world: &World,
+    pairs: &[(Address, Address)],
+) -> Result<Option<World>, AllocError>
+    requires memo { IsMemoOf store.now.sheet (M.state question.old.memo) }
+    requires replacing { All (λ x.
+        MayBeRead store.now.sheet (M.state question.old.memo) x.1) pairs.now }
+    ensures world { IfOk result (λ o. IfSome o (λ w.
+        w ≡ with_what_if store.now.sheet world.now pairs.now)) }
+    ensures same { M.state question.new.memo ≡ M.state question.old.memo }
+    ensures counts { question.new.meter ≡ question.old.meter }
+{
+    let mut inputs = Vec::new(question.pool.allocator());
+    for pair in pairs {
+        let Some(value) = question.value_at_hand(store, world, pair.1)? else {
+            return Ok(None);
+        };
+        inputs.push(Replacement { at: pair.0, value })?;
+    }
+    Ok(Some(world.with(&inputs)?))
 }
 
 /// Replacements with the inputs of an entry put in, each with the value of its replacement cell. All these values are taken

@@ -1,6 +1,6 @@
 -- A question that ends with a plan where no place is free.
 use Rattle.wi_engine.proofs.Words.{◌≡◌, ◌⊎◌, inl, inr, ◌||◌, ◌+◌, ◌-◌, ◌^◌, ◌≤◌, ℕ, Bool, true, false, List, Contains, Option, Some, None, Result, Ok, Err, IsErr, IfOk, is_ok, refl, ap, sym, ◌∙◌, subst, arith, true≢false, AllocError, Value, Replacement, Sheet, content_of, put_all, has_formula, Counts, Key, cell_value, Case, case_of, reaching, same_case, reaching_suffices, HasCase, one_less_left, MemoState, IsMemoOf, case_at, IsUnvalued, KeepsFound, WhereRoom, not_kept, TakesNoMore, TakesPlaces, Keeps, SpendsAtMost}
-use Rattle.wi_engine.specs.Inner.Plans.{Follows}
+use Rattle.wi_engine.specs.Inner.Plans.{Follows, IsUnkept}
 use Rattle.wi_engine.proofs.Places.{gives_up_none}
 use Rattle.wi_engine.proofs.Ledger.{same_itself, spends_none, spends_at_most}
 use Rattle.wi_engine.proofs.engine.NextCases.{unvalued_case}
@@ -17,6 +17,9 @@ module _ {s : Sheet} {m : MemoState} {w : List Replacement} {root : ℕ} {k : Ke
   -- the root's value is that of its key
   pub root_value : (v : Value) → v ≡ cell_value (put_all s w) root → v ≡ cell_value (put_all s k.world) k.cell
   root_value v is = is ∙ sym (reaching_suffices s w root) ∙ ap (λ (j : Case). cell_value (put_all s j.1) j.0) here
+
+  pub is_unkept : IsUnkept s m w root
+  is_unkept = record { formula = u.formula; none = ap (λ (j : Case). m.kept j.0 j.1) here ∙ u.to_find.unkept }
 
   module _ (full : m.room ≡ 0) where
     -- there is no room for what the root demands, since its value isn't kept

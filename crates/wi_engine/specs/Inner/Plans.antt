@@ -12,7 +12,7 @@ use Rattle.wi_parser.specs.Sheet.{Sheet, content_of, has_formula, put_all}
 use Rattle.wi_parser.specs.Reads.{content_reads}
 use Rattle.wi_functions.specs.Counts.{Counts, one_more}
 use Rattle.wi_sheet.specs.CellValue.{cell_value, what_if_value}
-use Rattle.wi_sheet.specs.Demand.{Case, case_of, what_ifs_of}
+use Rattle.wi_sheet.specs.Demand.{Case, case_of, reaching, what_ifs_of}
 use Rattle.wi_sheet.specs.Inner.Spending.{IsClosed, NeverFall, plus, price}
 use Rattle.wi_engine.specs.Inner.MemoState.{MemoState}
 use Rattle.wi_engine.specs.Inner.Findings.{AreAllRight, found_value, found_what_ifs}
@@ -90,3 +90,8 @@ pub record Follows (s : Sheet) (w : List Replacement) (root : ℕ) (before after
   pub counts : NeverFall before after
   pub one : IfOk r (λ o. IfSome o (λ v. (before.evaluations + 1 ≤ after.evaluations) ⊎ (2 ^ 64 - 1 ≤ after.evaluations)))
   pub at_most : (ks : List Case) → IsClosed s ks → Contains ks (case_of s w root) → NeverFall after (plus before (price s ks))
+
+-- the cell has a formula under the replacements, and its value isn't kept
+pub record IsUnkept (s : Sheet) (m : MemoState) (w : List Replacement) (c : ℕ) : Type 0 where
+  pub formula : has_formula (content_of (put_all s w) c) ≡ true
+  pub none : m.kept c (reaching s c w) ≡ false

@@ -1,5 +1,5 @@
 use Rattle.wi_engine.proofs.Words.{◌∙◌, ap, MemoState}
-use Rattle.wi_engine.proofs.plan.FullLists.{full_stopped, full_kept, root_value}
+use Rattle.wi_engine.proofs.plan.FullLists.{full_stopped, full_kept, is_unkept, root_value}
 use Rattle.wi_engine.proofs.question.Question.planned_value.Goals as goal
 
 -- ---- where memory runs out before the root's value is kept
@@ -35,3 +35,6 @@ returns-clause-spends g c =
     let u = (rw c.in-Unvalued.is at c.in_ok-cell.ensures.asked).unvalued in
     let f = c.in_ok-value.ensures.follows in
     full_kept u c.requires.full c.requires.memo f (c.in_ok-value.ensures.same ∙ c.in_ok-cell.ensures.same) c.in_ok-keep.ensures.keeps (rw c.in-Some.is at f.value) (rw c.in-Some.is at f.one)
+
+pub returns-clause-unkept : goal.returns-clause-unkept
+returns-clause-unkept g c = is_unkept (rw c.in-Unvalued.is at c.in_ok-cell.ensures.asked).unvalued

@@ -1,4 +1,4 @@
-use Rattle.wi_propagate.proofs.Words.{◌≡◌, ◌∙◌, ℕ, Some, None, Ok, IfSome, ap, sym, subst, if◌then◌else◌, keys_of, unwrap_or, Stored, applied, in_cone, AreEdgesOf, Staging, staging, edges_after, KeptValues, KeptSheet, generation_in, AreKeptRight, AreHeldCones, kept_sheet, values_in, told, AreKeptUp, rules}
+use Rattle.wi_propagate.proofs.Words.{◌≡◌, ◌∙◌, ℕ, Some, None, Ok, IfSome, ap, sym, subst, if◌then◌else◌, keys_of, unwrap_or, Stored, applied, in_cone, AreEdgesOf, Staging, staging, edges_after, KeptValues, KeptSheet, generation_in, AreKeptRight, AreHeldCones, kept_sheet, values_in, told, AreKeptUp, ArePlans, rules}
 use Rattle.wi_propagate.proofs.Editing.{edges_applied, refused_edit, refused_same, right_after_edit, right_unnamed, edit_told, edit_keeps_up}
 use Rattle.wi_propagate.proofs.NotedSteps.{told_same, kept_up_more}
 use Rattle.wi_propagate.proofs.kept.KeptCalculator.edit_cells.Goals as goal
@@ -23,6 +23,7 @@ invariant_of-self-in-Ok c =
           (subst (λ (x : Staging). IfSome x.staged (λ es. AreEdgesOf es new.sheet)) (sym staged_is) edges) h.4,
       edit_keeps_up i.store new ch i.generations c.owe.new.self c.name.new.self c.args.cells.now c.edits.result accepted c.requires c.edits.ensures c.in_ok-owe.ensures.named c.name.ensures.named h.5 c.in_ok-owe.ensures.noted c.in_ok-owe.ensures.stays
           (λ x m. c.in_ok-owe.ensures.owed i.store.sheet h.1 x m) c.name.ensures.noted c.name.ensures.owed,
+      c.clear.ensures new.sheet,
     )
 
 pub returns-in-Ok-clause-edited : goal.returns-in-Ok-clause-edited
@@ -53,6 +54,7 @@ invariant_of-self c =
       right_unnamed i.store i.generations c.owe.new.self c.owe.ensures.named _ i.meter h.3,
       h.4,
       kept_up_more i.store.sheet i.generations c.owe.new.self i.store.edits c.owe.ensures.named c.owe.ensures.noted c.owe.ensures.stays h.5,
+      h.6,
     )
 
 pub returns-in_err-owe-clause-edited : goal.returns-in_err-owe-clause-edited
@@ -71,6 +73,7 @@ invariant_of-self-in_err-stage c =
       right_unnamed i.store i.generations c.owe.new.self c.owe.ensures.named _ i.meter h.3,
       h.4,
       kept_up_more i.store.sheet i.generations c.owe.new.self i.store.edits c.owe.ensures.named c.owe.ensures.noted c.owe.ensures.stays h.5,
+      h.6,
     )
 
 pub returns-in_err-stage-clause-edited : goal.returns-in_err-stage-clause-edited
@@ -92,6 +95,7 @@ invariant_of-self-in-Err c =
       subst (λ (x : Stored). AreKeptRight (kept_sheet x (told x.sheet c.owe.new.self.named) i.held i.meter)) (sym store_is) (right_unnamed i.store i.generations c.owe.new.self c.owe.ensures.named _ i.meter h.3),
       subst (λ (x : Stored). AreHeldCones x.sheet i.held) (sym store_is) h.4,
       subst (λ (x : Stored). AreKeptUp x.sheet x.edits c.owe.new.self) (sym store_is) (kept_up_more i.store.sheet i.generations c.owe.new.self i.store.edits c.owe.ensures.named c.owe.ensures.noted c.owe.ensures.stays h.5),
+      subst (λ (x : Stored). ArePlans x.sheet i.plans) (sym store_is) h.6,
     )
 
 pub returns-in-Err-clause-edited : goal.returns-in-Err-clause-edited

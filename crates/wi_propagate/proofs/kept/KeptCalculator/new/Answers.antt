@@ -18,4 +18,5 @@ invariant_of-result c =
       begins_right s c.new-4.result c.in_ok-held.held _ c.args.keep c.new-4.ensures c.in_ok-held.ensures.values c.requires,
       c.in_ok-held.ensures.cones s.sheet,
       none_kept_up s.sheet s.edits c.new-4.result c.new-4.ensures,
+      c.new-7.ensures s.sheet,
     )

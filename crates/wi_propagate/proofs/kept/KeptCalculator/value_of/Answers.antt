@@ -1,7 +1,7 @@
-use Rattle.wi_propagate.proofs.Words.{is_ok, ◌≡◌, ◌∙◌, inl, inr, IfOk, OnOk, List, false, true, refl, ap, sym, subst, IfOk-weaker, Replacement, content_of, has_formula, put_all, circular, shown, case_of, reaching, demanded, HasCase, demands_itself, different_closed, shown_circular, shown_value, KeptSheet, generation_in, IsAtHand, is_kept, told, noted_in, Owes}
+use Rattle.wi_propagate.proofs.Words.{spends_at_most, is_ok, ◌≡◌, ◌∙◌, inl, inr, IfOk, OnOk, List, false, true, refl, ap, sym, subst, IfOk-weaker, Replacement, content_of, has_formula, put_all, circular, shown, case_of, reaching, demanded, HasCase, demands_itself, different_closed, shown_circular, shown_value, KeptSheet, generation_in, IsAtHand, is_kept, told, noted_in, Owes}
 use Rattle.wi_propagate.proofs.NotedSteps.{all_noted}
 use Rattle.wi_propagate.proofs.SettlingSteps.{owed_over}
-use Rattle.wi_propagate.proofs.Questions.{begins, begun_right, may_be_read, asked_kept, at_hand_is, owes_none, owes_settled, owes_spent, settled_view, settled_right, holds_asked, holds_settled}
+use Rattle.wi_propagate.proofs.Questions.{but_plans, with_plans, begins, begun_right, may_be_read, asked_kept, at_hand_is, owes_none, owes_settled, owes_spent, settled_view, settled_right, holds_asked, holds_settled}
 use Rattle.wi_propagate.proofs.kept.KeptCalculator.value_of.Goals as goal
 
 pub returns-then-is_circular-clause-value : goal.returns-then-is_circular-clause-value
@@ -58,10 +58,10 @@ pub invariant_of-self-2 : goal.invariant_of-self-2
 invariant_of-self-2 c =
     let i = c.self.inside in
     let e = c.formula_value-result.ensures in
-    holds_asked i.held i.graph i.store c.settle.new.self i.meter c.formula_value-result.new.self.meter c.new-memo.result c.formula_value-result.new.self.memo c.into_held.result
+    with_plans (holds_asked i.held i.graph i.store c.settle.new.self i.meter c.formula_value-result.new.self.meter c.new-memo.result c.formula_value-result.new.self.memo c.into_held.result
     (begins i.store (told i.store.sheet c.settle.new.self.named) i.held i.meter _ c.new-memo.result c.take_held-held.ensures.values c.new-memo.ensures.value c.new-memo.ensures.placed)
     e.spends.same c.into_held.ensures.kept e.spends.right.sheet c.into_held.ensures.right c.into_held.ensures.cones
-    (holds_settled i.held i.graph i.store i.generations c.settle.new.self i.meter c.in_ok-settle.ensures.named (c.in_ok-settle.ensures.owed i.store.sheet c.self.invariant.1) c.self.invariant)
+    (holds_settled i.held i.graph i.store i.generations c.settle.new.self i.meter c.in_ok-settle.ensures.named (c.in_ok-settle.ensures.owed i.store.sheet c.self.invariant.1) (but_plans c.self.invariant))) c.self.invariant.6
 
 pub returns-clause-value : goal.returns-clause-value
 returns-clause-value c =
@@ -126,7 +126,7 @@ returns-clause-owes c =
     let Has = HasCase i.store.sheet c.in_ok-world.world c.args.at in
     let new : KeptSheet = record { stored = i.store; generations = told i.store.sheet c.settle.new.self.named; values = c.into_held.result.value.kept; counts = c.formula_value-result.new.self.meter } in
     subst (λ (x : KeptSheet). Owes x new (demanded x.stored.sheet c.args.put.now c.args.at) (is_ok c.formula_value-result.result)) view
-    (owes_spent q c.formula_value-result.new.self.memo c.into_held.result.value.kept c.formula_value-result.new.self.meter c.into_held.ensures.kept c.into_held.ensures.within Has (demanded i.store.sheet c.args.put.now c.args.at) closed has _ c.formula_value-result.ensures.spends)
+    (owes_spent q c.formula_value-result.new.self.memo c.into_held.result.value.kept c.formula_value-result.new.self.meter c.into_held.ensures.kept c.into_held.ensures.within Has (demanded i.store.sheet c.args.put.now c.args.at) closed has _ (spends_at_most c.formula_value-result.ensures.spends))
 
 pub settle-requires-clause-owed : goal.settle-requires-clause-owed
 settle-requires-clause-owed c =
@@ -146,4 +146,4 @@ returns-in_err-settle-clause-easy c = λ h. ap (λ (k : KeptSheet). k.counts) c.
 pub invariant_of-self : goal.invariant_of-self
 invariant_of-self c =
     let i = c.self.inside in
-    holds_settled i.held i.graph i.store i.generations c.settle.new.self i.meter c.settle.ensures.named (c.settle.ensures.owed i.store.sheet c.self.invariant.1) c.self.invariant
+    with_plans (holds_settled i.held i.graph i.store i.generations c.settle.new.self i.meter c.settle.ensures.named (c.settle.ensures.owed i.store.sheet c.self.invariant.1) (but_plans c.self.invariant)) c.self.invariant.6

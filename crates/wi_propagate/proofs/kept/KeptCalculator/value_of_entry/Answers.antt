@@ -1,7 +1,7 @@
 use Rattle.wi_propagate.proofs.Words.{is_ok, get_or, ◌≡◌, All, IfOk, OnOk, false, ℕ, List, ap, subst, IfOk-weaker, circular, HasEntry, table_entry, entry_demanded, IsWhatIfSettled, table_closed, entry_has, entry_shown, KeptSheet, generation_in, HasRoomFor, is_kept, told, noted_in, state_in, Owes}
 use Rattle.wi_propagate.proofs.NotedSteps.{all_noted}
 use Rattle.wi_propagate.proofs.SettlingSteps.{owed_over}
-use Rattle.wi_propagate.proofs.Questions.{begins, begun_right, may_be_read, asked_where, asked_settled, circular_entry, circular_clash, open_cells, owes_none, owes_settled, owes_spent, settled_view, settled_right, holds_asked, holds_settled}
+use Rattle.wi_propagate.proofs.Questions.{but_plans, with_plans, begins, begun_right, may_be_read, asked_where, asked_settled, circular_entry, circular_clash, open_cells, owes_none, owes_settled, owes_spent, settled_view, settled_right, holds_asked, holds_settled}
 use Rattle.wi_propagate.proofs.kept.KeptCalculator.value_of_entry.Goals as goal
 
 pub returns-then-entry_is_circular-clause-value : goal.returns-then-entry_is_circular-clause-value
@@ -16,16 +16,16 @@ pub new-memo-requires-clause-right : goal.new-memo-requires-clause-right
 new-memo-requires-clause-right c =
     begun_right c.self.inside.store (told c.self.inside.store.sheet c.settle.new.self.named) c.self.inside.held c.self.inside.meter _ c.take_held-held.ensures.values (settled_right {s = c.self.inside.store} c.in_ok-settle.ensures.named c.self.inside.held c.self.inside.meter c.self.invariant.3)
 
-pub open_entry-result-requires-clause-formula_cell : goal.open_entry-result-requires-clause-formula_cell
-open_entry-result-requires-clause-formula_cell c =
+pub planned_entry-result-requires-clause-formula_cell : goal.planned_entry-result-requires-clause-formula_cell
+planned_entry-result-requires-clause-formula_cell c =
     let i = c.self.inside in
     let q = begins i.store (told i.store.sheet c.settle.new.self.named) i.held i.meter _ c.new-memo.result c.take_held-held.ensures.values c.new-memo.ensures.value c.new-memo.ensures.placed in
     let s = i.store.sheet in
     let o = open_cells s c.args.formula_cell c.args.pairs.now c.entry_is_circular.result (c.entry_is_circular.ensures s c.self.invariant.1) c.if-entry_is_circular.false in
     may_be_read q c.args.formula_cell o.0
 
-pub open_entry-result-requires-clause-replacing : goal.open_entry-result-requires-clause-replacing
-open_entry-result-requires-clause-replacing c =
+pub planned_entry-result-requires-clause-replacing : goal.planned_entry-result-requires-clause-replacing
+planned_entry-result-requires-clause-replacing c =
     let i = c.self.inside in
     let q = begins i.store (told i.store.sheet c.settle.new.self.named) i.held i.meter _ c.new-memo.result c.take_held-held.ensures.values c.new-memo.ensures.value c.new-memo.ensures.placed in
     let s = i.store.sheet in
@@ -35,18 +35,18 @@ open_entry-result-requires-clause-replacing c =
 pub invariant_of-self-2 : goal.invariant_of-self-2
 invariant_of-self-2 c =
     let i = c.self.inside in
-    let e = c.open_entry-result.ensures in
-    holds_asked i.held i.graph i.store c.settle.new.self i.meter c.open_entry-result.new.question.meter c.new-memo.result c.open_entry-result.new.question.memo c.into_held.result
+    let e = c.planned_entry-result.ensures in
+    with_plans (holds_asked i.held i.graph i.store c.settle.new.self i.meter c.planned_entry-result.new.question.meter c.new-memo.result c.planned_entry-result.new.question.memo c.into_held.result
     (begins i.store (told i.store.sheet c.settle.new.self.named) i.held i.meter _ c.new-memo.result c.take_held-held.ensures.values c.new-memo.ensures.value c.new-memo.ensures.placed)
     e.spends.same c.into_held.ensures.kept e.spends.right.sheet c.into_held.ensures.right c.into_held.ensures.cones
-    (holds_settled i.held i.graph i.store i.generations c.settle.new.self i.meter c.in_ok-settle.ensures.named (c.in_ok-settle.ensures.owed i.store.sheet c.self.invariant.1) c.self.invariant)
+    (holds_settled i.held i.graph i.store i.generations c.settle.new.self i.meter c.in_ok-settle.ensures.named (c.in_ok-settle.ensures.owed i.store.sheet c.self.invariant.1) (but_plans c.self.invariant))) c.planned_entry-result.ensures.plans
 
 pub returns-clause-value : goal.returns-clause-value
 returns-clause-value c =
     let s = c.self.inside.store.sheet in
     let o = open_cells s c.args.formula_cell c.args.pairs.now c.entry_is_circular.result (c.entry_is_circular.ensures s c.self.invariant.1) c.if-entry_is_circular.false in
-    subst (λ (x : KeptSheet). IfOk c.open_entry-result.result (λ v. v ≡ table_entry x.stored.sheet c.args.put.now c.args.formula_cell c.args.pairs.now)) c.self.view_is
-    (IfOk-weaker c.open_entry-result.result _ _ (λ v e. entry_shown s c.in_ok-world.world c.args.put.now c.args.formula_cell c.args.pairs.now v o c.in_ok-world.ensures c.requires e) c.open_entry-result.ensures.value)
+    subst (λ (x : KeptSheet). IfOk c.planned_entry-result.result (λ v. v ≡ table_entry x.stored.sheet c.args.put.now c.args.formula_cell c.args.pairs.now)) c.self.view_is
+    (IfOk-weaker c.planned_entry-result.result _ _ (λ v e. entry_shown s c.in_ok-world.world c.args.put.now c.args.formula_cell c.args.pairs.now v o c.in_ok-world.ensures c.requires e) c.planned_entry-result.ensures.value)
 
 pub returns-clause-settled : goal.returns-clause-settled
 returns-clause-settled c =
@@ -59,19 +59,19 @@ returns-clause-settled c =
     let has = entry_has s c.in_ok-world.world c.args.put.now c.args.formula_cell c.args.pairs.now o c.in_ok-world.ensures in
     let closed = table_closed s c.args.put.now c.args.formula_cell c.args.pairs.now in
     let Has = HasEntry s c.in_ok-world.world c.args.formula_cell c.args.pairs.now in
-    let new : KeptSheet = record { stored = i.store; generations = told i.store.sheet c.settle.new.self.named; values = c.into_held.result.value.kept; counts = c.open_entry-result.new.question.meter } in
-    let e = c.open_entry-result.ensures in
+    let new : KeptSheet = record { stored = i.store; generations = told i.store.sheet c.settle.new.self.named; values = c.into_held.result.value.kept; counts = c.planned_entry-result.new.question.meter } in
+    let e = c.planned_entry-result.ensures in
     let x : ℕ × List (ℕ × ℕ) = (c.args.formula_cell, c.args.pairs.now) in
-    subst (λ (y : KeptSheet). OnOk c.open_entry-result.result (HasRoomFor y (entry_demanded y.stored.sheet c.args.put.now c.args.formula_cell c.args.pairs.now) → circular y.stored.sheet c.args.formula_cell ≡ false → All (λ p. circular y.stored.sheet p.1 ≡ false) c.args.pairs.now
+    subst (λ (y : KeptSheet). OnOk c.planned_entry-result.result (HasRoomFor y (entry_demanded y.stored.sheet c.args.put.now c.args.formula_cell c.args.pairs.now) → circular y.stored.sheet c.args.formula_cell ≡ false → All (λ p. circular y.stored.sheet p.1 ≡ false) c.args.pairs.now
     → IsWhatIfSettled y.stored.sheet (is_kept new) c.args.put.now x)) view
-    (IfOk-weaker c.open_entry-result.result _ _ (λ v g room a b. asked_settled q c.open_entry-result.new.question.memo c.into_held.result.value.kept c.open_entry-result.new.question.meter e.spends.same c.into_held.ensures.kept c.in_ok-world.world c.args.put.now x c.in_ok-world.ensures
-    (asked_where q (λ ks. IsWhatIfSettled s (state_in c.open_entry-result.new.question.memo).kept c.in_ok-world.world x) cases Has g closed has room)) e.settled)
+    (IfOk-weaker c.planned_entry-result.result _ _ (λ v g room a b. asked_settled q c.planned_entry-result.new.question.memo c.into_held.result.value.kept c.planned_entry-result.new.question.meter e.spends.same c.into_held.ensures.kept c.in_ok-world.world c.args.put.now x c.in_ok-world.ensures
+    (asked_where q (λ ks. IsWhatIfSettled s (state_in c.planned_entry-result.new.question.memo).kept c.in_ok-world.world x) cases Has g closed has room)) e.settled)
 
 pub new-memo-requires-clause-cones : goal.new-memo-requires-clause-cones
 new-memo-requires-clause-cones c = c.take_held-held.ensures.cones c.self.inside.store.sheet c.self.invariant.4
 
-pub open_entry-result-requires-clause-memo : goal.open_entry-result-requires-clause-memo
-open_entry-result-requires-clause-memo c = c.new-memo.ensures.memo
+pub planned_entry-result-requires-clause-memo : goal.planned_entry-result-requires-clause-memo
+planned_entry-result-requires-clause-memo c = c.new-memo.ensures.memo
 
 pub returns-then-entry_is_circular-clause-owes : goal.returns-then-entry_is_circular-clause-owes
 returns-then-entry_is_circular-clause-owes c = owes_none c.args.self.now _ _
@@ -90,9 +90,9 @@ returns-clause-owes c =
     let has = entry_has s c.in_ok-world.world c.args.put.now c.args.formula_cell c.args.pairs.now o c.in_ok-world.ensures in
     let closed = table_closed s c.args.put.now c.args.formula_cell c.args.pairs.now in
     let Has = HasEntry s c.in_ok-world.world c.args.formula_cell c.args.pairs.now in
-    let new : KeptSheet = record { stored = i.store; generations = told i.store.sheet c.settle.new.self.named; values = c.into_held.result.value.kept; counts = c.open_entry-result.new.question.meter } in
-    subst (λ (x : KeptSheet). Owes x new (entry_demanded x.stored.sheet c.args.put.now c.args.formula_cell c.args.pairs.now) (is_ok c.open_entry-result.result)) view
-    (owes_spent q c.open_entry-result.new.question.memo c.into_held.result.value.kept c.open_entry-result.new.question.meter c.into_held.ensures.kept c.into_held.ensures.within Has cases closed has _ c.open_entry-result.ensures.spends)
+    let new : KeptSheet = record { stored = i.store; generations = told i.store.sheet c.settle.new.self.named; values = c.into_held.result.value.kept; counts = c.planned_entry-result.new.question.meter } in
+    subst (λ (x : KeptSheet). Owes x new (entry_demanded x.stored.sheet c.args.put.now c.args.formula_cell c.args.pairs.now) (is_ok c.planned_entry-result.result)) view
+    (owes_spent q c.planned_entry-result.new.question.memo c.into_held.result.value.kept c.planned_entry-result.new.question.meter c.into_held.ensures.kept c.into_held.ensures.within Has cases closed has _ c.planned_entry-result.ensures.spends)
 
 pub settle-requires-clause-owed : goal.settle-requires-clause-owed
 settle-requires-clause-owed c =
@@ -109,4 +109,7 @@ returns-in_err-settle-clause-owes c =
 pub invariant_of-self : goal.invariant_of-self
 invariant_of-self c =
     let i = c.self.inside in
-    holds_settled i.held i.graph i.store i.generations c.settle.new.self i.meter c.settle.ensures.named (c.settle.ensures.owed i.store.sheet c.self.invariant.1) c.self.invariant
+    with_plans (holds_settled i.held i.graph i.store i.generations c.settle.new.self i.meter c.settle.ensures.named (c.settle.ensures.owed i.store.sheet c.self.invariant.1) (but_plans c.self.invariant)) c.self.invariant.6
+
+pub planned_entry-result-requires-clause-plans : goal.planned_entry-result-requires-clause-plans
+planned_entry-result-requires-clause-plans c = c.self.invariant.6

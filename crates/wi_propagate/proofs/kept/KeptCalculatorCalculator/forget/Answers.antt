@@ -1,12 +1,12 @@
 use Rattle.wi_propagate.proofs.Words.{◌∙◌, ap, told, emptied}
-use Rattle.wi_propagate.proofs.Questions.{emptied_view, holds_emptied}
+use Rattle.wi_propagate.proofs.Questions.{but_plans, emptied_view, holds_emptied, with_plans}
 use Rattle.wi_propagate.proofs.kept.KeptCalculatorCalculator.forget.Goals as goal
 
 pub invariant_of-self : goal.invariant_of-self
 invariant_of-self c =
     let i = c.self.inside in
     let e = c.forget_held.ensures in
-    holds_emptied i.held c.forget_held.new.held e.values i.store i.meter i.graph i.generations e.there (e.cones i.store.sheet) c.self.invariant
+    with_plans (holds_emptied i.held c.forget_held.new.held e.values i.store i.meter i.graph i.generations e.there (e.cones i.store.sheet) (but_plans c.self.invariant)) (c.new-2.ensures i.store.sheet)
 
 pub returns : goal.returns
 returns c =

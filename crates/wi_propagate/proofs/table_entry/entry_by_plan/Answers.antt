@@ -1,0 +1,9 @@
+use Rattle.wi_propagate.proofs.EntryQuestions.{entry_spends}
+use Rattle.wi_propagate.proofs.table_entry.entry_by_plan.Goals as goal
+
+pub planned_value-requires-clause-plan : goal.planned_value-requires-clause-plan
+planned_value-requires-clause-plan g c = c.in-Some-find.ensures.plan c.args.store.now.sheet c.requires.plans
+
+pub returns-in-Some-find-clause-spends : goal.returns-in-Some-find-clause-spends
+returns-in-Some-find-clause-spends g c =
+    entry_spends c.args.store.now.sheet c.args.world.now c.args.formula_cell c.args.pairs.now (rw c.in-Some.is at c.in_ok-inside.ensures.world) c.in-Some-find.ensures.root c.in_ok-inside.ensures.same c.in_ok-inside.ensures.counts c.planned_value.ensures.spends
