@@ -162,11 +162,11 @@ holds_asked o graph s g n counts q last b e beside same sheet right cones h = (r
 abbrev pub AlwaysPlans : Option (Box Held) → Staging → Stored → Noted → Counts → Plans → Type 0
 AlwaysPlans o graph s g n ps = IsSome o × AreEdgesOf graph.now s.sheet × (graph.staged ≡ None) × AreKeptRight (kept_sheet s (told s.sheet g.named) o n) × AreHeldCones s.sheet o × AreKeptUp s.sheet s.edits g × ArePlans s.sheet ps
 
-pub with_plans : {o : Option (Box Held)} {graph : Staging} {s : Stored} {g : Noted} {n : Counts} {ps : Plans} → AlwaysHolds o graph s g n → ArePlans s.sheet ps → AlwaysPlans o graph s g n ps
-with_plans h k = (h.0, h.1, h.2, h.3, h.4, h.5, k)
+pub with_plans : (o : Option (Box Held)) (graph : Staging) (s : Stored) (g : Noted) (n : Counts) (ps : Plans) → AlwaysHolds o graph s g n → ArePlans s.sheet ps → AlwaysPlans o graph s g n ps
+with_plans o graph s g n ps h k = (h.0, h.1, h.2, h.3, h.4, h.5, k)
 
-pub but_plans : {o : Option (Box Held)} {graph : Staging} {s : Stored} {g : Noted} {n : Counts} {ps : Plans} → AlwaysPlans o graph s g n ps → AlwaysHolds o graph s g n
-but_plans h = (h.0, h.1, h.2, h.3, h.4, h.5)
+pub but_plans : (o : Option (Box Held)) (graph : Staging) (s : Stored) (g : Noted) (n : Counts) (ps : Plans) → AlwaysPlans o graph s g n ps → AlwaysHolds o graph s g n
+but_plans o graph s g n ps h = (h.0, h.1, h.2, h.3, h.4, h.5)
 
 -- ---- what is held goes
 

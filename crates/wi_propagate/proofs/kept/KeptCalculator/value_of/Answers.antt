@@ -1,4 +1,4 @@
-use Rattle.wi_propagate.proofs.Words.{spends_at_most, is_ok, ◌≡◌, ◌∙◌, inl, inr, IfOk, OnOk, List, false, true, refl, ap, sym, subst, IfOk-weaker, Replacement, content_of, has_formula, put_all, circular, shown, case_of, reaching, demanded, HasCase, demands_itself, different_closed, shown_circular, shown_value, KeptSheet, generation_in, IsAtHand, is_kept, told, noted_in, Owes}
+use Rattle.wi_propagate.proofs.Words.{Some, spends_at_most, is_ok, ◌≡◌, ◌∙◌, inl, inr, IfOk, OnOk, List, false, true, refl, ap, sym, subst, IfOk-weaker, Replacement, content_of, has_formula, put_all, circular, shown, case_of, reaching, demanded, HasCase, demands_itself, different_closed, shown_circular, shown_value, KeptSheet, generation_in, IsAtHand, is_kept, told, noted_in, Owes}
 use Rattle.wi_propagate.proofs.NotedSteps.{all_noted}
 use Rattle.wi_propagate.proofs.SettlingSteps.{owed_over}
 use Rattle.wi_propagate.proofs.Questions.{but_plans, with_plans, begins, begun_right, may_be_read, asked_kept, at_hand_is, owes_none, owes_settled, owes_spent, settled_view, settled_right, holds_asked, holds_settled}
@@ -58,10 +58,10 @@ pub invariant_of-self-2 : goal.invariant_of-self-2
 invariant_of-self-2 c =
     let i = c.self.inside in
     let e = c.formula_value-result.ensures in
-    with_plans (holds_asked i.held i.graph i.store c.settle.new.self i.meter c.formula_value-result.new.self.meter c.new-memo.result c.formula_value-result.new.self.memo c.into_held.result
+    with_plans (Some c.into_held.result) i.graph i.store c.settle.new.self c.formula_value-result.new.self.meter i.plans (holds_asked i.held i.graph i.store c.settle.new.self i.meter c.formula_value-result.new.self.meter c.new-memo.result c.formula_value-result.new.self.memo c.into_held.result
     (begins i.store (told i.store.sheet c.settle.new.self.named) i.held i.meter _ c.new-memo.result c.take_held-held.ensures.values c.new-memo.ensures.value c.new-memo.ensures.placed)
     e.spends.same c.into_held.ensures.kept e.spends.right.sheet c.into_held.ensures.right c.into_held.ensures.cones
-    (holds_settled i.held i.graph i.store i.generations c.settle.new.self i.meter c.in_ok-settle.ensures.named (c.in_ok-settle.ensures.owed i.store.sheet c.self.invariant.1) (but_plans c.self.invariant))) c.self.invariant.6
+    (holds_settled i.held i.graph i.store i.generations c.settle.new.self i.meter c.in_ok-settle.ensures.named (c.in_ok-settle.ensures.owed i.store.sheet c.self.invariant.1) (but_plans i.held i.graph i.store i.generations i.meter i.plans c.self.invariant))) c.self.invariant.6
 
 pub returns-clause-value : goal.returns-clause-value
 returns-clause-value c =
@@ -146,4 +146,4 @@ returns-in_err-settle-clause-easy c = λ h. ap (λ (k : KeptSheet). k.counts) c.
 pub invariant_of-self : goal.invariant_of-self
 invariant_of-self c =
     let i = c.self.inside in
-    with_plans (holds_settled i.held i.graph i.store i.generations c.settle.new.self i.meter c.settle.ensures.named (c.settle.ensures.owed i.store.sheet c.self.invariant.1) (but_plans c.self.invariant)) c.self.invariant.6
+    with_plans i.held i.graph i.store c.settle.new.self i.meter i.plans (holds_settled i.held i.graph i.store i.generations c.settle.new.self i.meter c.settle.ensures.named (c.settle.ensures.owed i.store.sheet c.self.invariant.1) (but_plans i.held i.graph i.store i.generations i.meter i.plans c.self.invariant)) c.self.invariant.6

@@ -1,4 +1,4 @@
-use Rattle.wi_propagate.proofs.Words.{is_ok, get_or, ◌≡◌, All, IfOk, OnOk, false, ℕ, List, ap, subst, IfOk-weaker, circular, HasEntry, table_entry, entry_demanded, IsWhatIfSettled, table_closed, entry_has, entry_shown, KeptSheet, generation_in, HasRoomFor, is_kept, told, noted_in, state_in, Owes}
+use Rattle.wi_propagate.proofs.Words.{Some, is_ok, get_or, ◌≡◌, All, IfOk, OnOk, false, ℕ, List, ap, subst, IfOk-weaker, circular, HasEntry, table_entry, entry_demanded, IsWhatIfSettled, table_closed, entry_has, entry_shown, KeptSheet, generation_in, HasRoomFor, is_kept, told, noted_in, state_in, Owes}
 use Rattle.wi_propagate.proofs.NotedSteps.{all_noted}
 use Rattle.wi_propagate.proofs.SettlingSteps.{owed_over}
 use Rattle.wi_propagate.proofs.Questions.{but_plans, with_plans, begins, begun_right, may_be_read, asked_where, asked_settled, circular_entry, circular_clash, open_cells, owes_none, owes_settled, owes_spent, settled_view, settled_right, holds_asked, holds_settled}
@@ -36,10 +36,10 @@ pub invariant_of-self-2 : goal.invariant_of-self-2
 invariant_of-self-2 c =
     let i = c.self.inside in
     let e = c.planned_entry-result.ensures in
-    with_plans (holds_asked i.held i.graph i.store c.settle.new.self i.meter c.planned_entry-result.new.question.meter c.new-memo.result c.planned_entry-result.new.question.memo c.into_held.result
+    with_plans (Some c.into_held.result) i.graph i.store c.settle.new.self c.planned_entry-result.new.question.meter c.planned_entry-result.new.plans (holds_asked i.held i.graph i.store c.settle.new.self i.meter c.planned_entry-result.new.question.meter c.new-memo.result c.planned_entry-result.new.question.memo c.into_held.result
     (begins i.store (told i.store.sheet c.settle.new.self.named) i.held i.meter _ c.new-memo.result c.take_held-held.ensures.values c.new-memo.ensures.value c.new-memo.ensures.placed)
     e.spends.same c.into_held.ensures.kept e.spends.right.sheet c.into_held.ensures.right c.into_held.ensures.cones
-    (holds_settled i.held i.graph i.store i.generations c.settle.new.self i.meter c.in_ok-settle.ensures.named (c.in_ok-settle.ensures.owed i.store.sheet c.self.invariant.1) (but_plans c.self.invariant))) c.planned_entry-result.ensures.plans
+    (holds_settled i.held i.graph i.store i.generations c.settle.new.self i.meter c.in_ok-settle.ensures.named (c.in_ok-settle.ensures.owed i.store.sheet c.self.invariant.1) (but_plans i.held i.graph i.store i.generations i.meter i.plans c.self.invariant))) c.planned_entry-result.ensures.plans
 
 pub returns-clause-value : goal.returns-clause-value
 returns-clause-value c =
@@ -109,7 +109,7 @@ returns-in_err-settle-clause-owes c =
 pub invariant_of-self : goal.invariant_of-self
 invariant_of-self c =
     let i = c.self.inside in
-    with_plans (holds_settled i.held i.graph i.store i.generations c.settle.new.self i.meter c.settle.ensures.named (c.settle.ensures.owed i.store.sheet c.self.invariant.1) (but_plans c.self.invariant)) c.self.invariant.6
+    with_plans i.held i.graph i.store c.settle.new.self i.meter i.plans (holds_settled i.held i.graph i.store i.generations c.settle.new.self i.meter c.settle.ensures.named (c.settle.ensures.owed i.store.sheet c.self.invariant.1) (but_plans i.held i.graph i.store i.generations i.meter i.plans c.self.invariant)) c.self.invariant.6
 
 pub planned_entry-result-requires-clause-plans : goal.planned_entry-result-requires-clause-plans
 planned_entry-result-requires-clause-plans c = c.self.invariant.6
