@@ -16,6 +16,7 @@ mod lists;
 mod memo;
 mod occupied;
 mod plan;
+mod planning;
 mod pool;
 mod question;
 mod remembered;
@@ -27,6 +28,7 @@ mod walk;
 
 pub use memo::Memo;
 pub use plan::{Plan, Planned};
+pub use planning::make_plan;
 pub use pool::Pool;
 pub use question::Question;
 pub use remembered::Remembered;
