@@ -30,8 +30,8 @@ use wi_worlds::World;
 /// How many cells a plan has at most.
 const MAX_CELLS: usize = 10_000;
 
-/// How many steps a walk takes at most, about two for each cell that a formula reads.
-const MAX_STEPS: usize = 4_000_000;
+/// How many steps the walk to them takes at most, one for each cell that a formula reads and one at its end.
+const MAX_STEPS: usize = 1_000_000;
 
 /// How far a formula has been gone through.
 #[derive(Clone, Copy)]
@@ -53,10 +53,11 @@ struct Draft {
     cells: Vec<Planned>,
 }
 
-/// A plan for a cell's value where the inputs of a world are replaced. None where it has no more than some thousands of
-/// cells, or where a formula of it has a what-if. The work is that of a key and of a look-up for each cell with a formula that
-/// the cells of the plan read, and for all cells that they read, each as often as it is read, twice that of
-/// `Store::next_occupied`: at most some millions of steps.
+/// A plan for a cell's value where the inputs of a world are replaced, if there is one with no more than `MAX_CELLS` cells.
+/// There is none where a formula that is to be evaluated has a what-if. Each formula below the cell is gone through twice, up to
+/// those that reach no input: for each occupied cell that it reads the work is twice that of `Store::next_occupied`, and for each
+/// such cell with a formula that of a key, the first time, and some look-ups. That is at most `MAX_STEPS`, also where no plan is
+/// found. The memory is that of a few sets of the plan's cells.
 pub fn make_plan<M: Memo>(
     alloc: Global,
     store: &Store,
@@ -319,8 +320,8 @@ fn have_what_if(trees: &[Expr]) -> bool
 
 // ---- the draft
 
-/// The cells that rest on the replaced ones below a root, with those that they read beside. None where they are too many, or
-/// the walk to them too long.
+/// The cells below a root that reach replaced ones, with those beside them that they read, in an order in which each comes
+/// after those that it reads. None where they or the steps of the walk are too many, and where one of them has a what-if.
 fn drafted<M: Memo>(
     alloc: Global,
     store: &Store,
@@ -332,6 +333,12 @@ fn drafted<M: Memo>(
     requires read { MayBeRead store.now.sheet (M.state memo.old) root }
     ensures same { M.state memo.new ≡ M.state memo.old }
 {
+    let Some(formula) = formula_in(store, world, root) else {
+        return Ok(None);
+    };
+    if !formula.inputs().is_empty() {
+        return Ok(None);
+    }
     let mut draft = Draft {
         path: Vec::new(alloc),
         readers: BTreeMap::new(alloc),
@@ -342,8 +349,7 @@ fn drafted<M: Memo>(
         let Some(reading) = draft.path.pop() else {
             return Ok(Some(draft));
         };
-        draft.go_on(store, world, reading, memo)?;
-        if draft.cells.len() > MAX_CELLS {
+        if !draft.go_on(store, world, reading, memo)? || draft.cells.len() > MAX_CELLS {
             return Ok(None);
         }
     }
@@ -351,14 +357,15 @@ fn drafted<M: Memo>(
 }
 
 impl Draft {
-    /// Goes on from the last formula of the path, which was taken off: to the next cell that it reads, or back.
+    /// Goes on from the last formula of the path, which was taken off: to the next cell that it reads, or back. Answers whether
+    /// the cells may still become a plan.
     fn go_on<M: Memo>(
         &mut self,
         store: &Store,
         world: &World,
         reading: Reading,
         memo: &mut M,
-    ) -> Result<(), AllocError>
+    ) -> Result<bool, AllocError>
         requires memo { IsMemoOf store.now.sheet (M.state memo.old) }
         requires path { All (λ r. MayBeRead store.now.sheet (M.state memo.old) r.cell)
             self.old.path.items }
@@ -373,12 +380,16 @@ impl Draft {
                 self.path.push(ahead)?;
                 self.meet(store, world, reader, cell, memo)
             }
-            None => self.leave(reader),
+            None => {
+                self.leave(reader)?;
+                Ok(true)
+            }
         }
     }
 
     /// Comes upon a cell that another one reads. Where it was not met before, has a formula and isn't replaced, it comes onto the
-    /// path if it reaches a replaced cell, and else into the plan as one that is given.
+    /// path if it reaches a replaced cell, and else into the plan as one that is given. Answers whether the cells may still become
+    /// a plan.
     fn meet<M: Memo>(
         &mut self,
         store: &Store,
@@ -386,7 +397,7 @@ impl Draft {
         reader: Address,
         cell: Address,
         memo: &mut M,
-    ) -> Result<(), AllocError>
+    ) -> Result<bool, AllocError>
         requires path { All (λ r. MayBeRead store.now.sheet (M.state memo.old) r.cell)
             self.old.path.items }
         requires read { MayBeRead store.now.sheet (M.state memo.old) cell }
@@ -395,20 +406,21 @@ impl Draft {
         ensures same { M.state memo.new ≡ M.state memo.old }
     {
         if self.readers.contains_key(&cell) {
-            return Ok(());
+            return Ok(true);
         }
-        let Some(_) = formula_in(store, world, cell) else {
-            return Ok(());
+        let Some(formula) = formula_in(store, world, cell) else {
+            return Ok(true);
         };
         self.readers.insert(cell, reader)?;
         if reaches_replaced(world, cell, memo)? {
-            return self.go_into(cell);
+            self.go_into(cell)?;
+            return Ok(formula.inputs().is_empty());
         }
         self.cells.push(Planned {
             at: cell,
             is_given: true,
         })?;
-        Ok(())
+        Ok(true)
     }
 
     /// Begins with a cell's formula.

@@ -1,10 +1,8 @@
 -- Formulas without what-ifs.
-use Rattle.wi_engine.proofs.Words.{◌≡◌, ◌==◌, ◌||◌, ◌&&◌, ◌<◌, ◌+◌, not, ℕ, suc, Bool, true, false, List, [], ◌∷◌, filter, length, get_or, drop, drop-cons, arith, list_any-append, Option, Some, refl, ap, sym, ◌∙◌, subst, true≢false, eq-eqb, or_left, and_parts, has-filter, is_one_of, is_after, cells_after, list_any, keys_of, Area, is_within, is_within_one, Tree, Content, Formula, Sheet, content_of, has_formula, content_reads, rectangles_of, reads_within, content_reads_here, what_ifs_of, found, any_within, occupied_within, rectangles_in, read_occupied, same_tree}
+use Rattle.wi_engine.proofs.Words.{◌≡◌, ◌==◌, ◌||◌, ◌&&◌, ◌<◌, ℕ, Bool, true, false, List, [], ◌∷◌, filter, length, get_or, Option, Some, refl, ap, sym, ◌∙◌, subst, true≢false, eq-eqb, or_left, and_parts, has-filter, is_one_of, is_after, cells_after, list_any, keys_of, Area, is_within, is_within_one, Tree, Content, Formula, Sheet, content_of, has_formula, content_reads, rectangles_of, reads_within, content_reads_here, what_ifs_of, found, any_within, occupied_within, rectangles_in, read_occupied, same_tree}
 use Rattle.std.specs.List.{flat_map}
 use Rattle.std.proofs.lemmas.List.Folds.{list_any_at}
-use Rattle.wi_parser.specs.declared.expr.Expr.{Expr}
-use Rattle.wi_parser.specs.View.{tree_of, all_of}
-use Rattle.wi_parser.specs.Leaves.{Leaf, cell_leaf, rectangle_leaf, what_if_leaf, leaves, all_leaves}
+use Rattle.wi_parser.specs.Leaves.{Leaf, cell_leaf, rectangle_leaf, what_if_leaf, leaves}
 use Rattle.wi_parser.specs.Reads.{leaf_reads, area_of}
 use Rattle.wi_sheet.specs.Demand.{leaf_what_ifs, leaf_reads_here}
 use Rattle.wi_engine.specs.Inner.Plans.{RestsOnSettled, is_unsettled, is_what_if}
@@ -57,24 +55,3 @@ next_is_read s c t rs i r o d e f l g h =
     let inside = and_parts (is_one_of (keys_of s) d) _ (sym (has-filter (is_within r) (keys_of s) d) ∙ after.0) in
     let one : is_within_one rs d ≡ true = list_any_at (λ (x : Area). is_within x d) rs i r l (ap (λ (x : Area). is_within x d) (sym g) ∙ inside.1) in
     ap (λ (x : Option Content). content_reads x d) e ∙ reads_within t d ∙ ap (λ (xs : List Area). is_within_one xs d) (sym f) ∙ one
-
--- ---- trees one after another
-
-abbrev pub have_one : List Expr → Bool
-have_one es = list_any is_what_if (all_leaves (all_of es))
-
-cut : (es : List Expr) (i : ℕ) (e : Expr) → i < length es → e ≡ get_or es i e → have_one (drop i es) ≡ (list_any is_what_if (leaves (tree_of e)) || have_one (drop (suc i) es))
-cut es i e l h =
-    ap have_one (drop-cons es i e l)
-    ∙ list_any-append is_what_if (leaves (tree_of (get_or es i e))) (all_leaves (all_of (drop (suc i) es)))
-    ∙ ap (λ (x : Expr). list_any is_what_if (leaves (tree_of x)) || have_one (drop (suc i) es)) (sym h)
-
--- one of them has a what-if
-pub have_found : (es : List Expr) (i : ℕ) (e : Expr) → i < length es → e ≡ get_or es i e → have_one (drop i es) ≡ have_one es → list_any is_what_if (leaves (tree_of e)) ≡ true → have_one es ≡ true
-have_found es i e l h inv k = sym inv ∙ cut es i e l h ∙ or_left (list_any is_what_if (leaves (tree_of e))) _ k
-
--- it has none, and the search goes on behind it
-pub have_beyond : (es : List Expr) (i : ℕ) (e : Expr) → i < length es → e ≡ get_or es i e → have_one (drop i es) ≡ have_one es → list_any is_what_if (leaves (tree_of e)) ≡ false → have_one (drop (i + 1) es) ≡ have_one es
-have_beyond es i e l h inv k =
-    let one : i + 1 ≡ suc i = omega arith in
-    ap (λ (n : ℕ). have_one (drop n es)) one ∙ sym (cut es i e l h ∙ ap (λ (b : Bool). b || have_one (drop (suc i) es)) k) ∙ inv
