@@ -53,11 +53,11 @@ struct Draft {
     cells: Vec<Planned>,
 }
 
-/// A plan for a cell's value where the inputs of a world are replaced, if there is one with no more than `MAX_CELLS` cells.
-/// There is none where a formula that is to be evaluated has a what-if. Each formula below the cell is gone through twice, up to
-/// those that reach no input: for each occupied cell that it reads the work is twice that of `Store::next_occupied`, and for each
-/// such cell with a formula that of a key, the first time, and some look-ups. That is at most `MAX_STEPS`, also where no plan is
-/// found. The memory is that of a few sets of the plan's cells.
+/// A plan for a cell's value where the inputs of a world are replaced, if there is one. There is none for a cell that
+/// reaches no input, none of more than `MAX_CELLS` cells, and none where a formula that reaches an input has a
+/// what-if. The formulas that reach an input are gone through twice: for each occupied cell that they read the work
+/// is twice that of `Store::next_occupied`, and where it has a formula a few look-ups, and once that of a key. A walk
+/// of more than `MAX_STEPS` finds no plan. The memory grows with the count of the cells with a formula that are read.
 pub fn make_plan<M: Memo>(
     alloc: Global,
     store: &Store,
@@ -166,8 +166,8 @@ fn set_of_planned(alloc: Global, cells: &[Planned]) -> Result<BTreeSet<Address>,
     Ok(set)
 }
 
-/// Whether a cell may be the next of a plan, where this one reads it. `all` are the cells of the plan, and `settled` the
-/// inputs and those of these cells that stand before.
+/// Whether a cell may be the next of a plan, where this one reads it. `all` are the cells of the plan, and `settled`
+/// the inputs and those of these cells that stand before.
 fn may_be_next(
     store: &Store,
     root: Address,
@@ -217,8 +217,8 @@ fn is_read(store: &Store, reader: Address, cell: Address) -> bool
     }
 }
 
-/// Whether the formula of a cell has no what-if, and each cell with a formula that it reads is one of these. The work is one
-/// pass over the occupied cells that it reads.
+/// Whether the formula of a cell has no what-if, and each cell with a formula that it reads is one of these. The work
+/// is one pass over the occupied cells that it reads.
 fn rests_on(store: &Store, cell: Address, settled: &BTreeSet<Address>) -> bool
     ensures { OnTrue result (RestsOnSettled store.now.sheet (contains nat_cmp settled.now) cell) }
 {
@@ -320,8 +320,9 @@ fn have_what_if(trees: &[Expr]) -> bool
 
 // ---- the draft
 
-/// The cells below a root that reach replaced ones, with those beside them that they read, in an order in which each comes
-/// after those that it reads. None where they or the steps of the walk are too many, and where one of them has a what-if.
+/// The cells below a root that reach replaced ones, with those beside them that they read, in an order in which each
+/// comes after those that it reads. None where they or the steps of the walk are too many, and where one of them has
+/// a what-if.
 fn drafted<M: Memo>(
     alloc: Global,
     store: &Store,
@@ -337,6 +338,9 @@ fn drafted<M: Memo>(
         return Ok(None);
     };
     if !formula.inputs().is_empty() {
+        return Ok(None);
+    }
+    if !reaches_replaced(world, root, memo)? {
         return Ok(None);
     }
     let mut draft = Draft {
@@ -357,8 +361,8 @@ fn drafted<M: Memo>(
 }
 
 impl Draft {
-    /// Goes on from the last formula of the path, which was taken off: to the next cell that it reads, or back. Answers whether
-    /// the cells may still become a plan.
+    /// Goes on from the last formula of the path, which was taken off: to the next cell that it reads, or back.
+    /// Answers whether the cells may still become a plan.
     fn go_on<M: Memo>(
         &mut self,
         store: &Store,
@@ -387,9 +391,9 @@ impl Draft {
         }
     }
 
-    /// Comes upon a cell that another one reads. Where it was not met before, has a formula and isn't replaced, it comes onto the
-    /// path if it reaches a replaced cell, and else into the plan as one that is given. Answers whether the cells may still become
-    /// a plan.
+    /// Comes upon a cell that another one reads. Where it was not met before, has a formula and isn't replaced, it
+    /// comes onto the path if it reaches a replaced cell, and else into the plan as one that is given. Answers
+    /// whether the cells may still become a plan.
     fn meet<M: Memo>(
         &mut self,
         store: &Store,

@@ -1,9 +1,9 @@
 -- The cells of a plan, one after another.
-use Rattle.wi_engine.proofs.Words.{◌≡◌, ◌==◌, ◌||◌, ◌&&◌, not, ◌⊎◌, inl, inr, ℕ, suc, ◌+◌, ◌<◌, ◌≤◌, Bool, true, false, cond, List, [], ◌∷◌, ◌++◌, map, take, length, get_or, refl, ap, sym, ◌∙◌, subst, arith, true≢false, or-false, or_cases, or_left, or_right, or_parts, and_parts, cases_lt, length-map, length-append, map-append, get_or-map, list_any, list_any-append, nat_cmp, is_at, is_at-eq, is_one_of, has_one_more, found, same_cell, Sheet, content_of, has_formula, content_reads, content_reads_here}
+use Rattle.wi_engine.proofs.Words.{◌≡◌, ◌==◌, ◌||◌, ◌&&◌, not, ◌⊎◌, inl, inr, ℕ, suc, ◌+◌, ◌<◌, ◌≤◌, Bool, true, false, cond, List, ◌∷◌, ◌++◌, take, length, get_or, refl, ap, sym, ◌∙◌, subst, arith, or-false, or_cases, or_left, or_right, or_parts, and_parts, cases_lt, length-map, map-append, get_or-map, list_any, list_any-append, nat_cmp, is_at, is_at-eq, is_one_of, has_one_more, found, same_cell, Sheet, content_of, content_reads_here}
 use Rattle.std.proofs.lemmas.Bool.{not-true}
 use Rattle.std.proofs.Math.Seq.{take-append_seam, get_or-append_seam}
 use Rattle.wi_engine.specs.declared.plan.Planned.{Planned}
-use Rattle.wi_engine.specs.Inner.Plans.{IsPlan, MayBeNext, MayBePlanned, RestsOnEarlier, RestsOnSettled, comes_later, planned_cells}
+use Rattle.wi_engine.specs.Inner.Plans.{MayBeNext, MayBePlanned, comes_later, planned_cells}
 
 -- ---- cells that go into a set
 
@@ -76,9 +76,6 @@ is_next_planned {s} {root} {all} {settled} {p} {inputs} {front} {back} next whol
 abbrev pub ArePlannedTo : Sheet → List ℕ → ℕ → List Planned → ℕ → Type 0
 ArePlannedTo s inputs root ps i = (front back : List Planned) (p : Planned) → ps ≡ front ++ p ∷ back → length front < i → MayBePlanned s inputs root (planned_cells front) p (planned_cells back)
 
-pub none_planned : {s : Sheet} {inputs : List ℕ} {root : ℕ} {ps : List Planned} → ArePlannedTo s inputs root ps 0
-none_planned front back p e l = absurd (omega (arith, l))
-
 -- and one more
 pub planned_on : (s : Sheet) (inputs : List ℕ) (root : ℕ) (all settled : ℕ → Bool) (ps : List Planned) (i : ℕ) (x : Planned) → i < length ps → x ≡ get_or ps i x → ((c : ℕ) → all c ≡ is_one_of (planned_cells ps) c) →
     ((c : ℕ) → settled c ≡ (is_one_of inputs c || is_one_of (take i (planned_cells ps)) c)) → MayBeNext s root all settled x → ArePlannedTo s inputs root ps i → ArePlannedTo s inputs root ps (i + 1)
@@ -99,9 +96,3 @@ planned_on s inputs root all settled ps i x l e whole before next h front back p
         is_next_planned (subst (λ (q : Planned). MayBeNext s root all settled q) here next)
         (λ c. whole c ∙ ap (λ (cs : List ℕ). is_one_of cs c) cells)
         (λ c. before c ∙ ap (λ (cs : List ℕ). is_one_of inputs c || is_one_of cs c) earlier)
-
--- all of them are a plan
-pub all_planned : (s : Sheet) (inputs : List ℕ) (root : ℕ) (ps : List Planned) (i : ℕ) → length ps ≤ i → ArePlannedTo s inputs root ps i → IsPlan s inputs root ps
-all_planned s inputs root ps i l h front back p e =
-    let total : length ps ≡ length front + suc (length back) = ap length e ∙ length-append front (p ∷ back) in
-    h front back p e (omega (arith, l, total))

@@ -1,5 +1,5 @@
 -- Formulas without what-ifs.
-use Rattle.wi_engine.proofs.Words.{◌≡◌, ◌==◌, ◌||◌, ◌&&◌, ◌<◌, ℕ, Bool, true, false, List, [], ◌∷◌, filter, length, get_or, Option, Some, refl, ap, sym, ◌∙◌, subst, true≢false, eq-eqb, or_left, and_parts, has-filter, is_one_of, is_after, cells_after, list_any, keys_of, Area, is_within, is_within_one, Tree, Content, Formula, Sheet, content_of, has_formula, content_reads, rectangles_of, reads_within, content_reads_here, what_ifs_of, found, any_within, occupied_within, rectangles_in, read_occupied, same_tree}
+use Rattle.wi_engine.proofs.Words.{◌≡◌, ◌==◌, ◌||◌, ◌<◌, ℕ, Bool, true, false, List, [], ◌∷◌, filter, length, get_or, Option, Some, refl, ap, sym, ◌∙◌, subst, true≢false, eq-eqb, or_left, and_parts, has-filter, is_one_of, is_after, cells_after, list_any, keys_of, Area, is_within, is_within_one, Tree, Content, Formula, Sheet, content_of, has_formula, content_reads, rectangles_of, reads_within, content_reads_here, what_ifs_of, found, any_within, occupied_within, rectangles_in, read_occupied, same_tree}
 use Rattle.std.specs.List.{flat_map}
 use Rattle.std.proofs.lemmas.List.Folds.{list_any_at}
 use Rattle.wi_parser.specs.Leaves.{Leaf, cell_leaf, rectangle_leaf, what_if_leaf, leaves}

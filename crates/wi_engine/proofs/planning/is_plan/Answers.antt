@@ -1,4 +1,4 @@
-use Rattle.wi_engine.proofs.Words.{sym, ◌∙◌, nat_cmp, contains, is_one_of}
+use Rattle.wi_engine.proofs.Words.{nat_cmp, contains, is_one_of}
 use Rattle.wi_engine.proofs.planning.NextPlanned.{one_more_planned, planned_on}
 use Rattle.wi_engine.proofs.planning.is_plan.Goals as goal
 

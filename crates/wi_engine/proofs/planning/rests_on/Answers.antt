@@ -1,4 +1,4 @@
-use Rattle.wi_engine.proofs.Words.{List, Area, ap, sym, ◌∙◌, not, filter, list_any, keys_of, nat_cmp, contains, is_within}
+use Rattle.wi_engine.proofs.Words.{Area, ap, sym, ◌∙◌, not, filter, list_any, keys_of, nat_cmp, contains, is_within}
 use Rattle.std.proofs.lemmas.Bool.{not-true}
 use Rattle.wi_engine.specs.Inner.Plans.{is_unsettled}
 use Rattle.std.proofs.lemmas.Bool.{OnTrue_from}

@@ -1,4 +1,3 @@
-use Rattle.wi_engine.proofs.Words.{ap, sym, ◌∙◌}
 use Rattle.wi_engine.proofs.planning.PlainFormulas.{next_is_read}
 use Rattle.wi_engine.proofs.planning.Reading.next.Goals as goal
 
