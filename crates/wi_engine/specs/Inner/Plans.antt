@@ -1,11 +1,12 @@
 -- In what order the values of cells are found before that of a cell, the root, which rests on them where some cells, the inputs,
 -- are replaced.
-use Rattle.std.specs.Prelude.{◌≡◌, ◌==◌, ℕ, ◌+◌, ◌-◌, ◌^◌, ◌≤◌, Bool, true, false, List, [], ◌∷◌, ◌++◌, map, All, Option, Some, None, is_some, Result, Ok, IfOk, IfSome, ◌⊎◌, Contains}
+use Rattle.std.specs.Prelude.{◌≡◌, ◌==◌, ◌&&◌, ◌||◌, ℕ, ◌+◌, ◌-◌, ◌^◌, ◌≤◌, Bool, not, true, false, List, [], ◌∷◌, ◌++◌, map, All, Option, Some, None, is_some, Result, Ok, IfOk, IfSome, ◌⊎◌, Contains}
 use Rattle.std.specs.List.{list_any}
 use Rattle.std.specs.declared.alloc.AllocError.{AllocError}
 use Rattle.wi_values.specs.Address.{is_one_of}
 use Rattle.wi_values.specs.declared.value.Value.{Value}
 use Rattle.wi_values.specs.declared.replacement.Replacement.{Replacement}
+use Rattle.wi_parser.specs.Leaves.{Leaf, what_if_leaf}
 use Rattle.wi_parser.specs.Tree.{Tree}
 use Rattle.wi_parser.specs.declared.content.Content.TheVariants.{Formula}
 use Rattle.wi_parser.specs.Sheet.{Sheet, content_of, has_formula, put_all}
@@ -20,6 +21,7 @@ use Rattle.wi_engine.specs.Inner.Frames.{IsDemanded, MayBeRead, content_reads_he
 use Rattle.wi_engine.specs.Inner.Saving.{NeedsNoEvaluation}
 use Rattle.wi_engine.specs.declared.findings.Findings.{Findings}
 use Rattle.wi_engine.specs.declared.plan.Planned.{Planned}
+use Rattle.wi_engine.specs.declared.planning.Reading.{Reading}
 
 abbrev pub planned_cells : List Planned → List ℕ
 planned_cells ps = map (λ p. p.at) ps
@@ -95,3 +97,35 @@ pub record Follows (s : Sheet) (w : List Replacement) (root : ℕ) (before after
 pub record IsUnkept (s : Sheet) (m : MemoState) (w : List Replacement) (c : ℕ) : Type 0 where
   pub formula : has_formula (content_of (put_all s w) c) ≡ true
   pub none : m.kept c (reaching s c w) ≡ false
+
+-- ---- how a plan is made
+
+-- the leaf of a what-if
+abbrev pub is_what_if : Leaf → Bool
+is_what_if (what_if_leaf f pairs) = true
+is_what_if l = false
+
+-- a cell with a formula that is none of these
+abbrev pub is_unsettled : Sheet → (ℕ → Bool) → ℕ → Bool
+is_unsettled s settled c = has_formula (content_of s c) && not (settled c)
+
+-- A cell's formula rests on these cells: each with a formula that it reads is one of them, and it has no what-ifs.
+pub record RestsOnSettled (s : Sheet) (settled : ℕ → Bool) (c : ℕ) : Type 0 where
+  pub cells : (d : ℕ) → content_reads (content_of s c) d ≡ true → has_formula (content_of s d) ≡ true → settled d ≡ true
+  pub what_ifs : (t : Tree) → content_of s c ≡ Some (Formula t) → what_ifs_of t ≡ []
+
+-- a cell is the root, or stands behind another one in a plan: it is one of all cells, is another and doesn't stand before
+abbrev pub comes_later : ℕ → (ℕ → Bool) → (ℕ → Bool) → ℕ → ℕ → Bool
+comes_later root all settled c reader = reader == root || (all reader && not (settled reader) && not (c == reader))
+
+-- A cell may be the next of a plan, by all its cells, and by those that are settled then: the inputs, and the cells before it.
+pub record MayBeNext (s : Sheet) (root : ℕ) (all settled : ℕ → Bool) (p : Planned) : Type 0 where
+  pub formula : has_formula (content_of s p.at) ≡ true
+  pub once : settled p.at ≡ false
+  pub below : (p.at == root) ≡ false
+  pub read : (r : ℕ) × (comes_later root all settled p.at r ≡ true) × (content_reads_here (content_of s r) p.at ≡ true)
+  pub rests : p.is_given ≡ false → RestsOnSettled s settled p.at
+
+-- a formula that isn't gone through yet
+abbrev pub begun_reading : ℕ → Reading
+begun_reading c = record { cell = c; rectangle = 0; after = None }
