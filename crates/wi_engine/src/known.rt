@@ -5,7 +5,7 @@ ghost use Rattle.std.specs.Option.{option_copied};
 ghost use Rattle.std.proofs.Props.{props};
 ghost use Rattle.wi_values.specs.Address.{is_within};
 ghost use Rattle.wi_values.specs.declared.value.Value.TheVariants.{Empty};
-ghost use Rattle.wi_parser.specs.Sheet.{content_of, put_all};
+ghost use Rattle.wi_parser.specs.Sheet.{Sheet, content_of, put_all};
 ghost use Rattle.wi_store.specs.Store.{is_ahead};
 ghost use Rattle.wi_arguments.specs.Assignment.{value_if_known};
 ghost use Rattle.wi_arguments.specs.Filled.{ComesBefore};
@@ -17,7 +17,7 @@ ghost use Rattle.wi_engine.specs.Inner.Seen.{content_seen};
 
 use crate::filled::{next_replaced, next_touched};
 use crate::findings::Findings;
-use crate::seen::{Seen, as_seen, content_in};
+use crate::seen::{Seen, as_seen, constant, replaced, stored};
 use wi_arguments::{LookedUp, Lookup, TakesCells, successor};
 use wi_parser::Pair;
 use wi_store::Store;
@@ -81,6 +81,19 @@ impl<'a> Known<'a> {
         }
     }
 
+    /// What is known of a cell that isn't replaced.
+    #[inline(always)]
+    fn unreplaced(&self, at: Address) -> LookedUp<'_>
+        requires { (s : Sheet) → content_of (put_all s self.now.world.now) at ≡ content_of s at }
+        ensures { value_if_known result
+            ≡ cell_known self.now.store.now.sheet self.now.world.now self.now.found.now at }
+    {
+        match self.found.cell(at) {
+            Some(value) => LookedUp::Known(value),
+            None => self.standing(stored(self.store, at)),
+        }
+    }
+
     /// Hands the occupied cells of a rectangle over, in row-major order, from one on up to the first that is replaced, until one
     /// is missing. It takes a step for each cell, and for a formula a look at what was found; beside that a search for each 16
     /// rows, and where more than one of their tiles lie in the rectangle, a step for each tile of each row.
@@ -129,9 +142,9 @@ impl<'a> Lookup for Known<'a> {
     ghost known_what_if = { λ k. what_if_found k.found.now };
 
     fn cell(&self, at: Address) -> LookedUp<'_> {
-        match self.found.cell(at) {
-            Some(value) => LookedUp::Known(value),
-            None => self.standing(content_in(self.store, self.world, at)),
+        match replaced(self.world, at) {
+            Some(value) => self.standing(constant(value)),
+            None => self.unreplaced(at),
         }
     }
 

@@ -1,6 +1,6 @@
 //! Values of cells in row-major order.
 
-ghost use Rattle.std.specs.Prelude.{◌≡◌, ◌<◌, ◌++◌, ◌∷◌, [], true, All, OnOk, OnErr};
+ghost use Rattle.std.specs.Prelude.{◌≡◌, ◌<◌, ◌++◌, ◌∷◌, [], true, Some, All, IfSome, OnOk, OnErr};
 ghost use Rattle.std.specs.List.Sorted.{IsStrictlySortedBy};
 ghost use Rattle.std.specs.Map.{keys_of, lookup};
 ghost use Rattle.std.specs.BTreeMap.{is_at};
@@ -53,8 +53,31 @@ impl Rising {
         self.cells.as_slice()
     }
 
-    /// The value of a cell. The work grows with the logarithm of the count of values.
+    /// The value of a cell. The work grows with the logarithm of the count of values; of the last cell it is constant.
     pub(crate) fn value(&self, at: Address) -> Option<&Value>
+        ensures { option_copied result ≡ lookup (is_at (nat_cmp at)) self.now }
+    {
+        match self.last_value(at) {
+            Some(value) => Some(value),
+            None => self.searched_value(at),
+        }
+    }
+
+    /// The value of a cell, if that is the last.
+    #[inline(always)]
+    fn last_value(&self, at: Address) -> Option<&Value>
+        ensures { IfSome result (λ v. Some v.now ≡ lookup (is_at (nat_cmp at)) self.now) }
+    {
+        let all = self.cells();
+        let last = all.last()?;
+        if last.0 != at {
+            return None;
+        }
+        Some(&last.1)
+    }
+
+    /// The value of a cell, by a binary search.
+    fn searched_value(&self, at: Address) -> Option<&Value>
         ensures { option_copied result ≡ lookup (is_at (nat_cmp at)) self.now }
     {
         let all = self.cells();

@@ -1,5 +1,5 @@
 -- A formula's value, by what is known.
-use Rattle.wi_engine.proofs.Words.{◌≡◌, ℕ, true, false, List, Option, Some, None, IfSome, refl, ap, sym, ◌∙◌, subst, Value, Empty, Replacement, Tree, Sheet, content_of, put_all, has_formula, Content, Constant, Formula, Assignment, AgreesWith, meaning, IsUnknown, IsOutcomeOf, Want, Cell, WhatIf, Outcome, Needs, value_by_all, same_by_all, Key, circular, ends_open, value_of, cell_value, what_if_value, value_step, value_plain, put_not_circular, same_tree, found_value, what_if_found, AreAllRight, known_in, cell_known, IsLacking, IsAttemptOf, Findings}
+use Rattle.wi_engine.proofs.Words.{◌≡◌, ℕ, true, false, List, Option, Some, None, IfSome, refl, ap, sym, ◌∙◌, subst, Value, Empty, Number, Text, Logical, Fault, constant, Replacement, Tree, Sheet, content_of, put_all, has_formula, Content, Constant, Formula, Assignment, AgreesWith, meaning, IsUnknown, IsOutcomeOf, Want, Cell, WhatIf, Outcome, Needs, value_by_all, same_by_all, Key, circular, ends_open, value_of, cell_value, what_if_value, value_step, value_plain, put_not_circular, same_tree, found_value, what_if_found, AreAllRight, known_in, cell_known, IsLacking, IsAttemptOf, Findings}
 use Rattle.wi_functions.specs.declared.evaluation.Outcome.TheVariants.{Done}
 
 -- the values of a sheet's cells and what-ifs
@@ -14,6 +14,14 @@ known_cell_right : (s : Sheet) (c : ℕ) (o : Option Content) (found : Option Va
 known_cell_right s c None found e r = sym (plain s c (ap has_formula e) ∙ ap (λ (o : Option Content). value_of o (λ t. Empty)) e)
 known_cell_right s c (Some (Constant v)) found e r = sym (plain s c (ap has_formula e) ∙ ap (λ (o : Option Content). value_of o (λ t. Empty)) e)
 known_cell_right s c (Some (Formula t)) found e r = r
+
+-- of a cell with a constant it makes no difference what was found
+pub known_constant : (v : Value) (o p : Option Value) → known_in (constant v) o ≡ known_in (constant v) p
+known_constant Empty o p = refl
+known_constant (Number x) o p = refl
+known_constant (Text s) o p = refl
+known_constant (Logical b) o p = refl
+known_constant (Fault e) o p = refl
 
 -- a value that was found, and is right, is what is known
 pub found_known : (s : Sheet) (c : ℕ) (o : Option Content) (v : Value) → content_of s c ≡ o → v ≡ cell_value s c → known_in o (Some v) ≡ Some v

@@ -1,6 +1,6 @@
 use Rattle.wi_engine.proofs.Words.{ℕ, rules, answers_always, Value}
 use Rattle.wi_engine.proofs.rising.BinarySearch.{searched_of}
-use Rattle.wi_engine.proofs.rising.Rising.value.Goals as goal
+use Rattle.wi_engine.proofs.rising.Rising.searched_value.Goals as goal
 
 pub returns-in-Ok : goal.returns-in-Ok
 returns-in-Ok c =
