@@ -1,5 +1,6 @@
 -- What a binary search among cells in row-major order finds, and how the order is kept.
 use Rattle.std.proofs.lemmas.Option.{get_or_from_slice_get}
+use Rattle.wi_values.proofs.Order.{cmp_equal}
 use Rattle.wi_engine.proofs.Words.{◌≡◌, ◌++◌, ℕ, ◌<◌, ◌-◌, List, [], ◌∷◌, Some, None, Ok, refl, Result, MatchResult, All, length, get_or, map-id, found_by_key, slice_get, sym, ap, ◌∙◌, subst, arith, nat_cmp, IsSearchInRange, IsBinarySearchResult, IsStrictlySortedBy, lookup, keys_of, is_at, All-nil, All-cons, All-head, All-tail, Value, ComeAfter, Ascends, Ascends-from_order, order-from_Ascends}
 
 -- the keys ascend
@@ -24,10 +25,10 @@ within_last : (es : List (ℕ × Value)) (x : ℕ × Value) → Some x ≡ slice
 within_last [] x is = cc
 within_last (e ∷ es) x is = omega arith
 
-pub last_found : (v seen : List (ℕ × Value)) (x : ℕ × Value) → Rises seen → seen ≡ v → Some x ≡ slice_get seen (length seen - 1) → Some x.1 ≡ lookup (is_at (nat_cmp x.0)) v
+pub last_found : (v seen : List (ℕ × Value)) (x : ℕ × Value) → Rises v → seen ≡ v → Some x ≡ slice_get seen (length seen - 1) → Some x.1 ≡ lookup (is_at (nat_cmp x.0)) v
 last_found v seen x order same is =
     let here : (d : ℕ × Value) → get_or seen (length seen - 1) d ≡ x = λ d. get_or_from_slice_get seen (length seen - 1) x d (sym is) in
-    let found = found_by_key (λ (e : ℕ × Value). e.0) (λ (e : ℕ × Value). e.1) seen order x.0 (Ok (length seen - 1)) (Ok (length seen - 1)) refl (within_last seen x is) (λ d. ap (λ (e : ℕ × Value). nat_cmp e.0 x.0) (here d) ∙ nat_cmp_refl x.0) in
+    let found = found_by_key (λ (e : ℕ × Value). e.0) (λ (e : ℕ × Value). e.1) seen (subst Rises (sym same) order) x.0 (Ok (length seen - 1)) (Ok (length seen - 1)) refl (within_last seen x is) (λ d. ap (λ (e : ℕ × Value). nat_cmp e.0 x.0) (here d) ∙ cmp_equal x.0 x.0 refl) in
     subst (λ (es : List (ℕ × Value)). Some x.1 ≡ lookup (is_at (nat_cmp x.0)) es) (map-id seen ∙ same) (ap (λ (e : ℕ × Value). Some e.1) (sym (here x)) ∙ found x)
 
 -- ---- the order
