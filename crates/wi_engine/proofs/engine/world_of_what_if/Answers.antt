@@ -12,7 +12,7 @@ loop-pair-preserved g c =
     let shown = rw c.in-Known.is at c.in_ok-value.ensures.asked in
     let P : Pair → Type 0 = λ p. IsSettled s m.kept w p.replacement.at in
     record {
-      inputs = one_more_input s w c.args.pairs.now c.loop-pair.pair-index c.pair-item.result c.in-Known.value c.loop-pair.inputs.items _ c.loop-pair-test.true c.pair-item.is i.inputs shown.value (search rules);
+      inputs = one_more_input s w c.args.pairs.now c.loop-pair.pair-index c.pair-item.result c.in-Known.value c.loop-pair.inputs.items _ c.loop-pair-test.true c.pair-item.is i.inputs (search shown.value) (search rules);
       settled = λ whole. All-more P c.args.pairs.now c.loop-pair.pair-index c.pair-item.result c.loop-pair-test.true (i.settled whole) (subst P c.pair-item.is (settled_now s m (g.M.Memo.state c.loop-pair.memo) w c.pair-item.result.replacement.at c.requires.memo i.same whole shown.easy));
       same = c.in_ok-value.ensures.same ∙ i.same;
     }
@@ -29,6 +29,6 @@ returns-clause-inputs g c =
     let all : take c.loop-pair.pair-index c.args.pairs.now ≡ c.args.pairs.now = take_all c.loop-pair.pair-index c.args.pairs.now (omega (arith, c.loop-pair-test.false)) in
     let inputs = c.deref.ensures.value ∙ c.loop-pair.invariant.inputs ∙ ap (λ (ps : List Pair). replacements (cell_value (put_all s w)) (map addresses (map pair_of ps))) all in
     record {
-      world = replaced_world s w c.in_ok-with.field-0 c.deref.result.now (map addresses (map pair_of c.args.pairs.now)) inputs c.in_ok-with.ensures.list;
+      world = replaced_world s w c.in_ok-with.field-0 c.deref.result.now (map addresses (map pair_of c.args.pairs.now)) inputs (search c.in_ok-with.ensures.list);
       settled = λ whole. subst (All (λ p. IsSettled s (g.M.Memo.state c.args.memo.now).kept w p.replacement.at)) all (c.loop-pair.invariant.settled whole);
     }

@@ -22,7 +22,7 @@ pub loop-pair-preserved : goal.loop-pair-preserved
 loop-pair-preserved g c =
     let i = c.loop-pair.invariant in
     let v = c.in_ok-value.ensures in
-    let shown : c.in_ok-value.value ≡ cell_value (put_all c.args.store.now.sheet c.args.world.now) c.pair-item.result.1 = v.value in
+    let shown : c.in_ok-value.value ≡ cell_value (put_all c.args.store.now.sheet c.args.world.now) c.pair-item.result.1 = search v.value in
     let less = c.loop-pair-test.true in
     record {
       inputs = grind (arith, common_steps);

@@ -38,7 +38,7 @@ pub returns-in_err-put-clause-quiet : goal.returns-in_err-put-clause-quiet
 returns-in_err-put-clause-quiet g c = λ none. (refl, refl)
 
 pub returns-then-is_empty-clause-none : goal.returns-then-is_empty-clause-none
-returns-then-is_empty-clause-none g c = λ none. c.new.ensures.items
+returns-then-is_empty-clause-none g c = λ none. search c.new.ensures.items
 
 pub returns-in_err-cells-clause-list : goal.returns-in_err-cells-clause-list
 returns-in_err-cells-clause-list g c = IfOk-from_err c.from_residual.result _ c.from_residual.ensures.0

@@ -7,8 +7,9 @@ pub returns-clause-world : goal.returns-clause-world
 returns-clause-world c =
     let s = c.self.inside.store.now.sheet in
     let h = c.self.invariant in
-    c.in_ok-world.ensures.list ∙ worlds_all s c.add_cones.new.cones c.args.at (c.in_ok-add_cones.ensures.cones s h.0 (subst (λ (x : Held). AreAllCones s x.cones) (sym c.deref_mut-held.ensures.value) h.2)) c.args.world.now c.in_ok-add_cones.ensures.all
-    ∙ ap (λ (q : Keeping). reaching q.sheet c.args.at c.args.world.now) c.self.view_is
+    let part = c.in_ok-world.ensures.list ∙ worlds_all s c.add_cones.new.cones c.args.at (c.in_ok-add_cones.ensures.cones s h.0 (subst (λ (x : Held). AreAllCones s x.cones) (sym c.deref_mut-held.ensures.value) h.2)) c.args.world.now c.in_ok-add_cones.ensures.all
+    ∙ ap (λ (q : Keeping). reaching q.sheet c.args.at c.args.world.now) c.self.view_is in
+    search part
 
 pub returns-clause-generation : goal.returns-clause-generation
 returns-clause-generation c =

@@ -5,7 +5,7 @@ pub returns-clause-value : goal.returns-clause-value
 returns-clause-value c = search rules
 
 pub returns-clause-evaluations : goal.returns-clause-evaluations
-returns-clause-evaluations c = c.shown.ensures.within.0
+returns-clause-evaluations c = search c.shown.ensures.within.0
 
 pub returns-clause-restarts : goal.returns-clause-restarts
-returns-clause-restarts c = c.shown.ensures.within.1
+returns-clause-restarts c = search c.shown.ensures.within.1
