@@ -154,7 +154,7 @@ impl KeptCalculator {
                 hold_over_edit(self.alloc, &self.graph, &mut self.held);
                 self.graph.commit();
                 self.generations.name(cells, self.store.edits());
-                self.plans.clear();
+                self.plans.forget(self.alloc);
                 Ok(())
             }
             Err(fault) => {
@@ -441,7 +441,7 @@ impl Calculator for KeptCalculator {
     {
         forget_held(self.alloc, &mut self.held);
         self.worlds = LastWorlds::new(self.alloc);
-        self.plans = Plans::new(self.alloc);
+        self.plans.forget(self.alloc);
         self.pool = Pool::new(self.alloc);
     }
 

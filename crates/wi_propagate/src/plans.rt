@@ -53,11 +53,10 @@ impl Plans {
     }
 
     /// All go. Their memory is given back.
-    pub(crate) fn clear(&mut self)
+    pub(crate) fn forget(&mut self, alloc: Global)
         ensures { (s : Sheet) → ArePlans s self.new }
     {
-        self.plans.clear();
-        self.notes.clear();
+        *self = Plans::new(alloc);
     }
 
     /// The plan for a cell where a world's cells are replaced, if there is one. The work grows with their count.

@@ -212,14 +212,14 @@ fn inputs_at_hand<M: Memo + Drop>(
     ensures same { M.state question.new.memo ≡ M.state question.old.memo }
     ensures counts { question.new.meter ≡ question.old.meter }
 {
-    let mut inputs = Vec::new(question.pool.allocator());
+    let mut replaced = Vec::new(question.pool.allocator());
     for pair in pairs {
         let Some(value) = question.value_at_hand(store, world, pair.1)? else {
             return Ok(None);
         };
-        inputs.push(Replacement { at: pair.0, value })?;
+        replaced.push(Replacement { at: pair.0, value })?;
     }
-    Ok(Some(world.with(&inputs)?))
+    Ok(Some(world.with(&replaced)?))
 }
 
 /// Replacements with the inputs of an entry put in, each with the value of its replacement cell. All these values are taken

@@ -1,4 +1,4 @@
-use Rattle.wi_engine.proofs.Words.{◌≡◌, List, ap, refl, Replacement, Sheet, Stored, cell_known, key_of, what_if_found, Findings, Known}
+use Rattle.wi_engine.proofs.Words.{◌≡◌, List, ap, refl, rules, Replacement, Sheet, Stored, cell_known, key_of, what_if_found, Findings, Known}
 use Rattle.wi_engine.proofs.attempt.KnownValues.{attempted}
 use Rattle.wi_engine.proofs.plan.ReadyValues.{nothing_lacks}
 use Rattle.wi_engine.proofs.plan.ready_value.Goals as goal
@@ -29,3 +29,6 @@ returns-clause-value c =
     let cells = known_cells known (ap (λ (x : Stored). x.sheet) stands.store) stands.world stands.found in
     let attempt = attempted (λ (x : Known). cell_known x.store.now.sheet x.world.now x.found.now) (λ (x : Known). what_if_found x.found.now) known s (key_of c.args.at w) f cells (ap what_if_found stands.found) c.in-Some.formula.now c.in_ok-value.field-0 c.requires.open c.in-Some.ensures.found c.requires.ready.right c.in_ok-value.ensures.outcome in
     (rw c.in-Done.is at attempt).value
+
+pub returns-clause-counts : goal.returns-clause-counts
+returns-clause-counts c = search rules

@@ -1,3 +1,4 @@
+use Rattle.wi_propagate.proofs.Words.{rules}
 use Rattle.wi_propagate.proofs.EntryQuestions.{entry_spends}
 use Rattle.wi_propagate.proofs.table_entry.entry_by_plan.Goals as goal
 
@@ -7,3 +8,6 @@ planned_value-requires-clause-plan g c = c.in-Some-find.ensures.plan c.args.stor
 pub returns-in-Some-find-clause-spends : goal.returns-in-Some-find-clause-spends
 returns-in-Some-find-clause-spends g c =
     entry_spends c.args.store.now.sheet c.args.world.now c.args.formula_cell c.args.pairs.now (rw c.in-Some.is at c.in_ok-inside.ensures.world) c.in-Some-find.ensures.root c.in_ok-inside.ensures.same c.in_ok-inside.ensures.counts c.planned_value.ensures.spends
+
+pub planned_value-requires-clause-full : goal.planned_value-requires-clause-full
+planned_value-requires-clause-full g c = search rules

@@ -3,7 +3,7 @@ use Rattle.wi_propagate.proofs.table_entry.inputs_at_hand.Given as goal
 
 abbrev pub invariant-loop-pair : goal.invariant-loop-pair
 invariant-loop-pair g l = record {
-  inputs : l.inputs.items ≡ replacements (cell_value (put_all l.store.sheet l.world)) (take l.pair-index l.pairs);
+  inputs : l.replaced.items ≡ replacements (cell_value (put_all l.store.sheet l.world)) (take l.pair-index l.pairs);
   same : g.M.Memo.state l.question.memo ≡ g.M.Memo.state l.fn.question.memo;
   counts : l.question.meter ≡ l.fn.question.meter;
 }

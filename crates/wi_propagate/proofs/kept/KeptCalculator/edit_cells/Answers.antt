@@ -23,7 +23,7 @@ invariant_of-self-in-Ok c =
           (subst (λ (x : Staging). IfSome x.staged (λ es. AreEdgesOf es new.sheet)) (sym staged_is) edges) h.4,
       edit_keeps_up i.store new ch i.generations c.owe.new.self c.name.new.self c.args.cells.now c.edits.result accepted c.requires c.edits.ensures c.in_ok-owe.ensures.named c.name.ensures.named h.5 c.in_ok-owe.ensures.noted c.in_ok-owe.ensures.stays
           (λ x m. c.in_ok-owe.ensures.owed i.store.sheet h.1 x m) c.name.ensures.noted c.name.ensures.owed,
-      c.clear.ensures new.sheet,
+      c.forget.ensures new.sheet,
     )
 
 pub returns-in-Ok-clause-edited : goal.returns-in-Ok-clause-edited

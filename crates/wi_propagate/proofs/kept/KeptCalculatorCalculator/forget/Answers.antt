@@ -6,7 +6,7 @@ pub invariant_of-self : goal.invariant_of-self
 invariant_of-self c =
     let i = c.self.inside in
     let e = c.forget_held.ensures in
-    with_plans c.forget_held.new.held i.graph i.store i.generations i.meter c.new-2.result (holds_emptied i.held c.forget_held.new.held e.values i.store i.meter i.graph i.generations e.there (e.cones i.store.sheet) (but_plans i.held i.graph i.store i.generations i.meter i.plans c.self.invariant)) (c.new-2.ensures i.store.sheet)
+    with_plans c.forget_held.new.held i.graph i.store i.generations i.meter c.forget.new.self (holds_emptied i.held c.forget_held.new.held e.values i.store i.meter i.graph i.generations e.there (e.cones i.store.sheet) (but_plans i.held i.graph i.store i.generations i.meter i.plans c.self.invariant)) (c.forget.ensures i.store.sheet)
 
 pub returns : goal.returns
 returns c =
