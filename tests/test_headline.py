@@ -237,7 +237,7 @@ class Pages(unittest.TestCase):
         said = headline()[1]
         counts = re.search(r"^all: (\d+) definitions, (\d+) files, \d+ lines, (\d+) words$", said, re.MULTILINE)
         left = {what: number for number, what in re.findall(r"^not counted: (\d+) (names of std|types)", said, re.MULTILINE)}
-        assert counts
+        assert counts, said
         page = " ".join((ROOT / PAGE_NAME).read_text().split())
         self.assertIn(f"Part 1: {counts[1]} definitions in {counts[2]} files, {int(counts[3]):,} words", page)
         self.assertIn(f"{left['names of std']} names of std and {left['types']} types and variants that code declares", page)
