@@ -199,6 +199,8 @@ class Made(ScratchTest):
             ("module _ (n : ℕ) where\n", "module _ (n : ℕ) where\n    is_other : ℕ\n", "8: of no definition: is_other : ℕ"),
             ("        is_n 0", "        pub other : ℕ", "22: of no definition: pub other : ℕ"),
             ("        is_n 0", "        abbrev other : ℕ", "22: of no definition: abbrev other : ℕ"),
+            ("pub after : ℕ", "pub values : ℕ", "24: a second definition of this name: unfoldable pub values : ℕ"),
+            ("use Rattle.std.specs.Prelude.{ℕ, Bool", "use Rattle.std.specs.Prelude.{\n  ℕ, Bool", "3: of no definition: ℕ, Bool, ◌==◌, zero}"),
         ):
             with self.subTest(new=new):
                 self.change(VALUES, old, new)
