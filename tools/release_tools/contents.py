@@ -11,7 +11,7 @@ from release_tools.elf import glibc, logic
 from release_tools.packages import compressed
 
 # Pages for who works on the repository itself, and what tests and draws the examples there.
-FOR_DEVELOPERS = ("BENCH", "DECISIONS", "DEFINITIONS", "FOLLOWED", "GATE", "MAP", "PROVING", "index")
+FOR_DEVELOPERS = ("BENCH", "DECISIONS", "DEFINITIONS", "FOLLOWED", "GATE", "MAP", "PLANS", "PROVING", "index")
 OF_THE_REPOSITORY = ("examples/__init__.py", "examples/tests/", "examples/draw/", "examples/run", "examples/stored_run", "examples/.gitignore",
                      "clients/python/test/")
 OWN_TOOL = "release"
