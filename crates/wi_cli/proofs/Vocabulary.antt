@@ -26,11 +26,7 @@ pub use Rattle.std.specs.Result.{result_err}
 pub use Rattle.std.specs.Str.{IsCharBoundary, IsUtf8, all_ascii_digits, byte, is_utf8}
 pub use Rattle.std.specs.Str.Parse.{digits_value, digits_value_after}
 pub use Rattle.std.specs.Str.Pattern.{CutsPrefixes, FindsCharPrefix, IsTrimStartMatches}
-pub use Rattle.wi_cli.specs.Causes.{BadCommand, BadField, BadLine, Cause, CutShort, EditLimit, Full, Holds, InUse, IsFirst, LeavesSheet, Loop, NoScenario, NumberRange, OutOfSheet, Outside, Stale, Syntax, TooDeep, TooLarge, TooLong, TooMany, is_missing, lies_outside, order, size, stale_cell}
-pub use Rattle.wi_cli.specs.Command.{As, Base, Changes, Clear, Command, Compare, Csv, Drop, Export, Fill, Formula, Scenario, Set, Show, Table, Unknown, Unreadable, Use, form}
-pub use Rattle.wi_cli.specs.Does.{Does, state_with}
-pub use Rattle.wi_cli.specs.Edits.{Put, Puts, after_edit, copy_in, fields, is_forced, named, sheet_with}
-pub use Rattle.wi_cli.specs.Events.{AreEvents, GivesChain, KeepsChains, is_changes, named_by}
+pub use Rattle.wi_cli.specs.Events.{AreEvents, GivesChain, KeepsChains, Runs, is_changes, named_by}
 pub use Rattle.wi_cli.specs.InTurn.{RunInTurn}
 pub use Rattle.wi_cli.specs.Inner.Ahead.{Takes, budget}
 pub use Rattle.wi_cli.specs.Inner.Asked.{IsAsked}
@@ -59,11 +55,10 @@ pub use Rattle.wi_cli.specs.Inner.Told.{IsServed, RefusedAs, Told, told_bytes}
 pub use Rattle.wi_cli.specs.Inner.Turn.{BrokeBlock, IsReplied, Stopped, TookBlock, Turned}
 pub use Rattle.wi_cli.specs.Laws.{HasCommands, HasOneAnswer, SameAddr, SameCommands, SameLack, SameOutcome, SameRect, SameReply, SameRuns, SameStep, Splits, a_line, asked, before, cut_short, blocks_that_count, line_block, none, read_any, read_by, read_cell, read_area, was}
 pub use Rattle.wi_cli.specs.Lines.{Bytes, after_word, first_word, is_space, is_whole, max_line, max_lines, onto_first, raw_lines, skip_spaces, without_cr, without_lf}
-pub use Rattle.wi_cli.specs.Operands.{ADDR, ANY, CONTENT, Cell, Corners, IsAddr, IsRect, IsSpelled, IsWritten, LINES, NAME, Operand, RECT, SESSION, SIDE, WORD, a_cell, addr, address, area, is_outside, two_cells}
 pub use Rattle.wi_cli.specs.Outcome.{IsRun, Outcome, Writes}
 pub use Rattle.wi_cli.specs.Reply.{Replies, accepted, cell_told, late, unserved}
 pub use Rattle.wi_cli.specs.Script.{AreCommands, Asks, IsCommand, IsGood, IsWithin, is_passed_over, line_text}
-pub use Rattle.wi_cli.specs.Step.{Answer, IsFirstOf, IsStep, Runs, Tells, causes}
+pub use Rattle.wi_cli.specs.Spelled.{IsAddr, IsRect, IsSpelled, IsWritten, a_cell, addr, two_cells}
 pub use Rattle.wi_cli.specs.declared.data_lines.DataLines.{DataLines}
 pub use Rattle.wi_cli.specs.declared.data_lines.Held.{Held}
 pub use Rattle.wi_cli.specs.declared.data_lines.Held.TheVariants.{Lacking}
@@ -102,11 +97,16 @@ pub use Rattle.wi_scenarios.proofs.RecordLemmas.{records_tell_list}
 pub use Rattle.wi_scenarios.proofs.RunLemmas.{new_is_coherent}
 pub use Rattle.wi_scenarios.proofs.StaleLemmas.{refused_so, stale_since}
 pub use Rattle.wi_scenarios.proofs.StepLemmas.{an_answer, no_other}
-pub use Rattle.wi_scenarios.specs.Answer.{MayGrow, may_grow}
+pub use Rattle.wi_scenarios.specs.Answer.{Answer, MayGrow, may_grow}
 pub use Rattle.wi_scenarios.specs.Causes.{no_cause}
 pub use Rattle.wi_scenarios.specs.Changes.{change_list}
+pub use Rattle.wi_scenarios.specs.Commands.Causes.{BadCommand, BadField, BadLine, Cause, CutShort, EditLimit, Full, Holds, InUse, IsFirst, LeavesSheet, Loop, NoScenario, NumberRange, OutOfSheet, Outside, Stale, Syntax, TooDeep, TooLarge, TooLong, TooMany, is_missing, lies_outside, order, size, stale_cell}
+pub use Rattle.wi_scenarios.specs.Commands.Command.{As, Base, Changes, Clear, Command, Compare, Csv, Drop, Export, Fill, Formula, Scenario, Set, Show, Table, Unknown, Unreadable, Use, form}
+pub use Rattle.wi_scenarios.specs.Commands.Does.{Does, state_with}
+pub use Rattle.wi_scenarios.specs.Commands.Edits.{Put, Puts, after_edit, copy_in, fields, is_forced, named, sheet_with}
+pub use Rattle.wi_scenarios.specs.Commands.Operands.{ADDR, ANY, CONTENT, Cell, Corners, LINES, NAME, Operand, RECT, SESSION, SIDE, WORD, address, area, is_outside}
+pub use Rattle.wi_scenarios.specs.Commands.Step.{IsFirstOf, IsStep, Tells, causes}
 pub use Rattle.wi_scenarios.specs.Csv.{ImportOutcome, csv_answer}
-pub use Rattle.wi_scenarios.specs.Drop.{is_in_use}
 pub use Rattle.wi_scenarios.specs.Edits.{edit_answer, stale_in}
 pub use Rattle.wi_scenarios.specs.Events.{Event, ForcedIsNotStale, IsCoherent, IsFirstNewer, KeepsApart, ListsAddUp, LogGrows, MayFollow, MayHappen, RecordsTellList, StaleIsNewer, StaysCoherent, counts_before, edits_since, is_accepted_changes, is_refused_before, is_told, left_by, logged, state_after, unseen, with_lists}
 pub use Rattle.wi_scenarios.specs.Fill.{copy_to, has_no_copy, or_nothing}

@@ -1,5 +1,5 @@
 -- A script's commands one after another: what the laws for these are told of them, a run as events, and each scenario's chain.
-use Rattle.std.specs.Prelude.{◌≡◌, Bool, true, false, if◌then◌else◌, List, map, Option, Some, None}
+use Rattle.std.specs.Prelude.{◌≡◌, Bool, true, false, if◌then◌else◌, List, [], ◌∷◌, map, Option, Some, None}
 use Rattle.std.specs.List.{flat_map}
 use Rattle.wi_values.specs.Address.{Area}
 use Rattle.wi_scenario_list.specs.Scenarios.{IsChain, scenario_of}
@@ -7,11 +7,12 @@ use Rattle.wi_scenario_list.specs.Bases.{HasChains}
 use Rattle.wi_scenarios.specs.State.{State}
 use Rattle.wi_scenarios.specs.Views.{chain_of}
 use Rattle.wi_scenarios.specs.Events.{Event, MayFollow, state_after}
+use Rattle.wi_scenarios.specs.Commands.Command.{Command, Set, Clear, Fill, Csv, Changes}
+use Rattle.wi_scenarios.specs.Commands.Edits.{named}
+use Rattle.wi_scenarios.specs.Commands.Step.{IsStep}
 use Rattle.wi_cli.specs.Inner.Reply.{reply}
 use Rattle.wi_cli.specs.Lines.{Bytes}
-use Rattle.wi_cli.specs.Command.{Command, Set, Clear, Fill, Csv, Changes}
-use Rattle.wi_cli.specs.Edits.{named}
-use Rattle.wi_cli.specs.Step.{IsStep}
+use Rattle.wi_cli.specs.Reply.{Replies}
 
 -- ---- what the laws are told of commands
 
@@ -32,6 +33,13 @@ abbrev pub named_by : Command → Option (List Area)
 named_by c = if is_edit c then Some (named c) else None
 
 -- ---- runs
+
+-- the commands have these replies, one after another, and leave this state at the end
+abbrev pub Runs : State → List Command → List Bytes → State → Type 0
+Runs s [] [] t = t ≡ s
+Runs s (c ∷ cs) (r ∷ rs) t = (mid : State) × Replies s c r mid × Runs mid cs rs t
+Runs s [] (r ∷ rs) t = ⊥
+Runs s (c ∷ cs) [] t = ⊥
 
 -- Events of these commands may follow one another from s; their replies are these bytes, and they leave this state.
 pub record AreEvents (s : State) (cs : List Command) (out : Bytes) (t : State) : Type 0 where

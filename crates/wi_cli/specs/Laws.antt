@@ -7,6 +7,10 @@ use Rattle.wi_values.specs.declared.address.AddressFault.TheVariants.{Shape, Out
 use Rattle.wi_scenarios.specs.declared.refusal.Refusal.TheVariants as refusal
 use Rattle.wi_scenarios.specs.State.{State}
 use Rattle.wi_scenarios.specs.Step as old
+use Rattle.wi_scenarios.specs.Commands.Operands.{Cell, Corners, is_outside, address, area}
+use Rattle.wi_scenarios.specs.Commands.Command.{Command, Set, Clear, Fill, Csv, Scenario, Drop, Base, Use, As, Show, Export, Compare, Table, Formula, Changes, Unknown, Unreadable}
+use Rattle.wi_scenarios.specs.Answer.{Answer}
+use Rattle.wi_scenarios.specs.Commands.Step.{IsStep}
 use Rattle.wi_cli.specs.declared.fault.RunFault.{RunFault}
 use Rattle.wi_cli.specs.Lines.{without_lf, Bytes}
 use Rattle.wi_cli.specs.Inner.Operands.{of_operand}
@@ -17,11 +21,10 @@ use Rattle.wi_cli.specs.Inner.Blocks.{Block, lines_of, blocks, is_complete}
 use Rattle.wi_cli.specs.Inner.Script.{block_command}
 use Rattle.wi_cli.specs.Inner.Run as old_run
 use Rattle.wi_cli.specs.Inner.RunOutcome.{RunOutcome}
-use Rattle.wi_cli.specs.Operands.{Cell, Corners, is_outside, address, area, IsAddr, IsRect}
-use Rattle.wi_cli.specs.Command.{Command, Set, Clear, Fill, Csv, Scenario, Drop, Base, Use, As, Show, Export, Compare, Table, Formula, Changes, Unknown, Unreadable}
+use Rattle.wi_cli.specs.Spelled.{IsAddr, IsRect}
 use Rattle.wi_cli.specs.Reply.{MayLackMemory, Replies}
 use Rattle.wi_cli.specs.Script.{Asks, AreCommands}
-use Rattle.wi_cli.specs.Step.{Answer, IsStep, Runs}
+use Rattle.wi_cli.specs.Events.{Runs}
 use Rattle.wi_cli.specs.Outcome.{Outcome}
 
 -- ---- what operands were read as

@@ -1,13 +1,8 @@
 pub mod Lines
-pub mod Operands
-pub mod Command
-pub mod Edits
-pub mod Causes
-pub mod Does
+pub mod Spelled
 pub mod Reply
 pub mod Script
 pub mod Outcome
-pub mod Step
 pub mod Laws
 pub mod Events
 pub mod InTurn

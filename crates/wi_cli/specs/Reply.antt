@@ -4,11 +4,11 @@ use Rattle.std.specs.List.{Contains}
 use Rattle.wi_values.specs.Address.{address_text}
 use Rattle.wi_sessions.specs.Sessions.{has_session}
 use Rattle.wi_scenarios.specs.State.{State}
-use Rattle.wi_cli.specs.Operands.{is_outside}
+use Rattle.wi_scenarios.specs.Commands.Operands.{is_outside}
+use Rattle.wi_scenarios.specs.Commands.Command.{Command, Csv, Drop, As}
+use Rattle.wi_scenarios.specs.Commands.Causes.{Cause, OutOfSheet, NumberRange, TooDeep, Syntax, LeavesSheet, Stale, Full, EditLimit, order, Holds, IsFirst, stale_cell}
+use Rattle.wi_scenarios.specs.Commands.Does.{Does}
 use Rattle.wi_cli.specs.Lines.{Bytes}
-use Rattle.wi_cli.specs.Command.{Command, Csv, Drop, As}
-use Rattle.wi_cli.specs.Causes.{Cause, OutOfSheet, NumberRange, TooDeep, Syntax, LeavesSheet, Stale, Full, EditLimit, order, Holds, IsFirst, stale_cell}
-use Rattle.wi_cli.specs.Does.{Does}
 
 -- behind the code of a stale edit a space and the cell
 abbrev pub cell_told : Cause → Option ℕ → Bytes

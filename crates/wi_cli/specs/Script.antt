@@ -3,9 +3,10 @@ use Rattle.std.specs.Prelude.{◌≡◌, ◌<◌, ◌≤◌, ◌⊎◌, ℕ, Boo
 use Rattle.std.specs.List.{list_all}
 use Rattle.std.specs.Option.{option_to_list}
 use Rattle.std.specs.Str.{byte, IsUtf8}
+use Rattle.wi_scenarios.specs.Commands.Operands.{Cell}
+use Rattle.wi_scenarios.specs.Commands.Command.{Command, Csv, Unknown, Unreadable, form, data_of}
 use Rattle.wi_cli.specs.Lines.{without_lf, without_cr, max_line, is_space, Bytes}
-use Rattle.wi_cli.specs.Operands.{Cell, IsWritten}
-use Rattle.wi_cli.specs.Command.{Command, Csv, Unknown, Unreadable, form, data_of}
+use Rattle.wi_cli.specs.Spelled.{IsWritten}
 
 -- without its LF, and then without a CR at its end
 abbrev pub line_text : Bytes → Bytes

@@ -1,4 +1,4 @@
--- What `drop` answers, and that no session is shown anything else after it.
+-- That no session is shown anything else after `drop`.
 use Rattle.wi_scenarios.proofs.Words.{◌≡◌, ℕ, zero, suc, ◌<◌, Bool, true, false, List, [], ◌∷◌, length, Option, Some, None, refl, sym, ap, ◌∙◌, list_any, slice_index_or, list_any_at, Replacement, Sheet, shown, Stored, Scenario, scenario_of, layered, max_scenarios, without_scenario, effective, chain, chain_within, is_name_of, is_base, scenario_without, not_based, Session, new_session, Desk, IsSound}
 
 -- ---- what the others put in

@@ -6,6 +6,11 @@ pub mod FillLemmas
 pub mod LookLemmas
 pub mod ChangesLemmas
 pub mod CsvLemmas
+pub mod CommandWords
+pub mod FirstCause
+pub mod CauseTests
+pub mod ScenarioSteps
+pub mod LookSteps
 pub mod StepLemmas
 pub mod DifferingLemmas
 pub mod SwitchLemmas

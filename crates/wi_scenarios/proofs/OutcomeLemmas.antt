@@ -1,8 +1,7 @@
 -- What each call leaves.
-use Rattle.wi_scenarios.proofs.Words.{nat_le, nat_lt, option_map, ◌≡◌, ◌∙◌, ℕ, ◌==◌, inl, inr, Bool, true, false, not, ◌&&◌, ◌||◌, cond, List, [], ◌∷◌, length, Option, Some, None, Result, Ok, Err, refl, sym, subst, list_any, find, option_or, bytes_eq, bytes_eq-Decides, Area, size_of, cells_of, content_of, Stored, applied, StoreFault, record_areas_at, is_named, has_scenario, scenario_for, with_scenario, without_scenario, with_own, without_own, is_full, scenario_or_new, lacks, would_loop, based_on, found_with, found_without, max_sessions, has_session, with_session, index_of, using_scenario, told, table_of, is_column, has_row, entries, rows_shown, export_of, cells_compared, change_records, content_record, effective, Refusal, BadCommand, TooLarge, NoScenario, InUse, TooMany, BadField, LeavesSheet, Stale, TooLong, State, max_area, current_session, with_current, current_replacements, Answer, when, unless, no_cause, first_cause, limit_of, edit_refusal, stale_in, with_stored, change_list, cell_area, fault_in, content_in, clear_edit, fill_edit, has_no_copy, has_bad_field, field_fault, contents_in, replacement_by, is_in_use, Call, Set, Clear, Fill, Csv, Drop, Base, Use, As, Show, Export, Changes, Compare, Table, Formula, Refused, RefusedData, IsCallStep, Event, MayHappen, IsEdited, HasScenarioChanged, Leaves}
+use Rattle.wi_scenarios.proofs.Words.{nat_lt, option_map, ◌≡◌, ◌∙◌, ℕ, ◌==◌, inl, inr, Bool, true, false, not, ◌||◌, cond, List, [], ◌∷◌, length, Option, Some, None, Result, Ok, Err, refl, sym, ap, subst, list_any, find, option_or, bytes_eq, bytes_eq-Decides, Area, size_of, cells_of, content_of, Stored, applied, StoreFault, record_areas_at, is_named, has_scenario, scenario_for, with_scenario, without_scenario, with_own, without_own, is_full, scenario_or_new, lacks, based_on, found_with, found_without, table_of, is_column, has_row, entries, rows_shown, export_of, cells_compared, content_record, effective, Refusal, BadCommand, TooLarge, NoScenario, TooMany, BadField, LeavesSheet, Stale, TooLong, State, max_area, current_replacements, Answer, when, unless, limit_of, edit_refusal, stale_in, with_stored, cell_area, fault_in, content_in, clear_edit, fill_edit, has_no_copy, has_bad_field, field_fault, contents_in, replacement_by, Call, Set, Clear, Fill, Csv, Drop, Base, Use, As, Show, Export, Changes, Compare, Table, Formula, Refused, RefusedData, IsCallStep, Event, MayHappen, IsEdited, HasScenarioChanged, Leaves}
 use Rattle.std.proofs.Common.{is_some}
 use Rattle.wi_scenario_list.specs.Scenarios as list
-use Rattle.wi_scenarios.specs.declared.refusal.Refusal.TheVariants as refusal
 use Rattle.wi_scenarios.specs.Step.{Scenario}
 
 -- what an answer says of the state that it leaves
@@ -110,27 +109,36 @@ outcome s (Scenario name at (b ∷ bs)) a h =
     (option_or (when (is_full s.scenarios name at) TooMany) (option_or (when (not (is_some h.value)) TooLong) None))
     (record s { scenarios = with_scenario s.scenarios (with_own (scenario_for s.scenarios name) (replacement_by at h.value)) }, []) a h.answered
     (put_in s name (with_own (scenario_for s.scenarios name) (replacement_by at h.value)) (name_found name s.scenarios))
-outcome s (Drop name) a h =
-    done_so s (Drop name) (option_or (when (not (has_scenario s.scenarios name)) NoScenario) (option_or (when (is_in_use s name) InUse) None))
-    (record s { scenarios = without_scenario s.scenarios name }, []) a h
-    (taken_out s name)
-outcome s (Base name other) a h =
-    done_so s (Base name other)
-    (option_or (when (not (has_scenario s.scenarios name) || lacks s.scenarios other) NoScenario) (option_or (when (would_loop s.scenarios name other) refusal.Loop) None))
-    (record s { scenarios = with_scenario s.scenarios (based_on (scenario_for s.scenarios name) other) }, []) a h
-    (put_in s name (based_on (scenario_for s.scenarios name) other) (name_found name s.scenarios))
-outcome s (Use name) a h =
-    done_so s (Use name) (option_or (when (lacks s.scenarios name) NoScenario) None) (with_current s (using_scenario (current_session s) name), []) a h refl
-outcome s (As name) a h =
-    done_so s (As name)
-    (first_cause (record no_cause { too_many = not (has_session s.sessions name) && nat_le max_sessions (length s.sessions) }))
-    (record s { sessions = with_session s.sessions name; current = index_of s.sessions name }, []) a h refl
+outcome s (Drop name) a h = by a h
+  where
+    by : (b : Answer) → IsCallStep s (Drop name) b → Outcome s (Drop name) b
+    by (Ok done) k = subst (λ (d : State × List ℕ). HasScenarioChanged name s d.0) (sym k.1) (taken_out s name)
+    by (Err e) k = tt
+outcome s (Base name other) a h = by a h
+  where
+    by : (b : Answer) → IsCallStep s (Base name other) b → Outcome s (Base name other) b
+    by (Ok done) k =
+        subst (λ (d : State × List ℕ). HasScenarioChanged name s d.0) (sym k.1) (put_in s name (based_on (scenario_for s.scenarios name) other) (name_found name s.scenarios))
+    by (Err e) k = tt
+outcome s (Use name) a h = by a h
+  where
+    by : (b : Answer) → IsCallStep s (Use name) b → Outcome s (Use name) b
+    by (Ok done) k = ap (λ (d : State × List ℕ). d.0) k.1
+    by (Err e) k = tt
+outcome s (As name) a h = by a h
+  where
+    by : (b : Answer) → IsCallStep s (As name) b → Outcome s (As name) b
+    by (Ok done) k = ap (λ (d : State × List ℕ). d.0) k.1
+    by (Err e) k = tt
 outcome s (Show area) a h =
     done_so s (Show area) (option_or (when (nat_lt max_area (size_of area)) TooLarge) None) (s, rows_shown s.stored.sheet (current_replacements s) area) a h refl
 outcome s (Export area) a h =
     done_so s (Export area) (option_or (when (nat_lt max_area (size_of area)) TooLarge) None) (s, export_of (rows_shown s.stored.sheet (current_replacements s) area)) a h refl
-outcome s Changes a h =
-    done_so s Changes None (with_current s (told (current_session s) (change_list s) (length s.log)), change_records (change_list s)) a h refl
+outcome s Changes a h = by a h
+  where
+    by : (b : Answer) → IsCallStep s Changes b → Outcome s Changes b
+    by (Ok done) k = ap (λ (d : State × List ℕ). d.0) k.1
+    by (Err e) k = tt
 outcome s (Compare first second area) a h =
     done_so s (Compare first second area)
     (option_or (when (nat_lt max_area (size_of area)) TooLarge) (option_or (when (lacks s.scenarios first || lacks s.scenarios second) NoScenario) None))

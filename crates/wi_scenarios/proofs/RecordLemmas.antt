@@ -1,5 +1,5 @@
 -- The records of a change list tell it.
-use Rattle.wi_scenarios.proofs.Words.{◌≡◌, ◌≢◌, ◌∙◌, ℕ, zero, suc, ◌+◌, ◌<◌, ◌≤◌, Bool, true, false, not, cond, List, [], ◌∷◌, map, get_or, Result, Ok, Err, refl, sym, ap, arith, bytes_eq, both_ways, same_Some, bytes_eq-Decides, AllByRecursion, range_with_len, All-map, flat_map-map, address_text, read_address, imported, error_name, logical_name, shown_text, AddressFault, ErrorKind, NotAvailable, DivisionByZero, UnknownName, BadNumber, BadReference, BadValue, Circular, Value, Empty, Number, Text, Logical, Fault, numbers_read_back, addresses_read_back, recs, row, read_again, sheet_size, value_in, same_value, kind_text, change_records, State, current_session, shown_to, Answer, change_list, Changes, IsCallStep, change_fields, RecordsTellList}
+use Rattle.wi_scenarios.proofs.Words.{◌≡◌, ◌≢◌, ◌∙◌, ℕ, zero, suc, ◌+◌, ◌<◌, ◌≤◌, Bool, true, false, not, cond, List, [], ◌∷◌, map, get_or, Result, Ok, refl, sym, ap, arith, bytes_eq, both_ways, same_Some, bytes_eq-Decides, AllByRecursion, range_with_len, All-map, flat_map-map, address_text, read_address, imported, error_name, logical_name, shown_text, AddressFault, ErrorKind, NotAvailable, DivisionByZero, UnknownName, BadNumber, BadReference, BadValue, Circular, Value, Empty, Number, Text, Logical, Fault, numbers_read_back, addresses_read_back, recs, row, read_again, sheet_size, value_in, same_value, kind_text, change_records, State, current_session, shown_to, change_list, Changes, IsCallStep, change_fields, RecordsTellList}
 use Rattle.std.proofs.Common.{filter}
 
 -- ---- one change
@@ -94,18 +94,13 @@ records_read es =
     some : (e : ℕ × Value) → change_fields e ≢ []
     some e h = cc
 
-records_in : Answer → List ℕ
-records_in (Ok done) = done.1
-records_in (Err e) = []
-
 pub records_tell_list : (s t : State) (records : List ℕ) → IsCallStep s Changes (Ok (t, records)) → RecordsTellList IsCallStep Changes s records
-unfolding records_in
 records_tell_list s t records h =
-    let same : change_records (change_list s) ≡ records = ap records_in h in
+    let same : change_records (change_list s) ≡ records = sym (ap (λ (d : State × List ℕ). d.1) h.1) in
     record {
       read = ap recs (sym same) ∙ records_read (change_list s);
       one = λ r u k.
-          let other : change_records (change_list r) ≡ records = ap records_in k in
+          let other : change_records (change_list r) ≡ records = sym (ap (λ (d : State × List ℕ). d.1) k.1) in
           one_list (change_list r) (change_list s) (in_sheet r) (in_sheet s)
           (sym (records_read (change_list r)) ∙ ap recs (other ∙ sym same) ∙ records_read (change_list s));
     }

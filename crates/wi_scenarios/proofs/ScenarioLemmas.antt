@@ -1,17 +1,17 @@
 -- What commands about scenarios answer.
-use Rattle.wi_scenarios.proofs.Words.{◌≡◌, ◌↔◌, ℕ, Bool, true, false, not, ◌||◌, List, [], ◌∷◌, length, Option, Some, None, Result, Ok, Err, refl, sym, ap, ◌∙◌, subst, arith, IsErrOf, is_some, IsErrAnd, err_from_is_err_and, Value, FieldFault, imported, imported_exactly, has_scenario, scenario_for, with_scenario, with_own, without_own, is_full, lacks, would_loop, based_on, Refusal, Memory, NoScenario, TooMany, TooLong, Loop, using_scenario, State, current_session, with_current, Answer, Serves, field_refusal, no_cause, when, answer, replacement_by, put_answer, take_away_step, IsScenarioStep, base_step, use_step, inl, on_err, Sheet, Stored, Desk, state_of, IsSound, ServesSound, MakesSound, AllocError}
+use Rattle.wi_scenarios.proofs.Words.{◌≡◌, ◌↔◌, ℕ, Bool, true, false, not, ◌||◌, List, [], ◌∷◌, length, Option, Some, None, Result, Ok, Err, refl, sym, ap, ◌∙◌, subst, arith, IsErrOf, is_some, IsErrAnd, err_from_is_err_and, Value, FieldFault, imported, imported_exactly, has_scenario, scenario_for, with_scenario, with_own, without_own, is_full, lacks, Refusal, Memory, NoScenario, TooMany, TooLong, State, Answer, Serves, field_refusal, no_cause, when, answer, replacement_by, put_answer, take_away_step, IsScenarioStep, inl, on_err, Sheet, Stored, Desk, state_of, IsSound, ServesSound, MakesSound, AllocError}
 use Rattle.wi_values.specs.declared.import.FieldFault.TheVariants as field
 use Rattle.wi_scenarios.proofs.AnswerLemmas.{serves_as}
 
 -- ---- calls that run out of memory
 
 -- it may stand in place of an answer that does something
-pub lacked : (step : Answer) (done : State × List ℕ) (r : Result (Unit {0}) Refusal) (s t : State) → step ≡ Ok done → IsErrAnd r (λ e. e ≡ Memory) → t ≡ s
-    → Serves (λ a. step ≡ a) r s t []
-lacked step done r s t e k same =
+pub lacked : (IsAnswer : Answer → Type 0) (done : State × List ℕ) (r : Result (Unit {0}) Refusal) (s t : State) → IsAnswer (Ok done) → IsErrAnd r (λ e. e ≡ Memory) → t ≡ s
+    → Serves IsAnswer r s t []
+lacked IsAnswer done r s t e k same =
     let found = err_from_is_err_and r k in
-    subst (λ (x : Result (Unit {0}) Refusal). Serves (λ a. step ≡ a) x s t []) (sym found.1)
-    (subst (λ (x : Refusal). Serves (λ a. step ≡ a) (Err x) s t []) (sym found.2) (record { answer = Ok done; is_answer = e; grows = refl }, same, refl))
+    subst (λ (x : Result (Unit {0}) Refusal). Serves IsAnswer x s t []) (sym found.1)
+    (subst (λ (x : Refusal). Serves IsAnswer (Err x) s t []) (sym found.2) (record { answer = Ok done; is_answer = e; grows = refl }, same, refl))
 
 -- ---- what a command leaves
 
@@ -21,20 +21,20 @@ pub nothing_done : {marked : Sheet → List ℕ → ℕ → Bool} {IsAnswer : An
 nothing_done r h e = record { step = e; adds = λ i a l k. inl k; refused = on_err r refl; sound = h }
 
 -- a call that ran out of memory before it changed anything, and one that did so in the call that makes the change
-pub lacked_first : {marked : Sheet → List ℕ → ℕ → Bool} {stored : Stored} {d : Desk} (step : Answer) (done : State × List ℕ) (r : Result (Unit {0}) Refusal) → IsSound marked stored d → step ≡ Ok done
-    → IsErrAnd r (λ e. e ≡ Memory) → ServesSound marked (λ a. step ≡ a) r stored d d
-lacked_first {marked} {stored} {d} step done r h e k = nothing_done r h (lacked step done r (state_of stored d) (state_of stored d) e k refl)
+pub lacked_first : {marked : Sheet → List ℕ → ℕ → Bool} {IsAnswer : Answer → Type 0} {stored : Stored} {d : Desk} (done : State × List ℕ) (r : Result (Unit {0}) Refusal) → IsSound marked stored d
+    → IsAnswer (Ok done) → IsErrAnd r (λ e. e ≡ Memory) → ServesSound marked IsAnswer r stored d d
+lacked_first {marked} {IsAnswer} {stored} {d} done r h e k = nothing_done r h (lacked IsAnswer done r (state_of stored d) (state_of stored d) e k refl)
 
-pub lacked_last : {marked : Sheet → List ℕ → ℕ → Bool} {x : AllocError} {stored : Stored} {made : State} {old new : Desk} (step : Answer) (done : State × List ℕ) (r : Result (Unit {0}) Refusal) → step ≡ Ok done
-    → IsErrAnd r (λ e. e ≡ Memory) → MakesSound marked (Err x) stored made old new → ServesSound marked (λ a. step ≡ a) r stored old new
-lacked_last {marked} {x} {stored} {made} {old} {new} step done r e k w =
-    record { step = lacked step done r (state_of stored old) (state_of stored new) e k w.kept; adds = w.adds; refused = on_err r w.refused; sound = w.sound }
+pub lacked_last : {marked : Sheet → List ℕ → ℕ → Bool} {IsAnswer : Answer → Type 0} {x : AllocError} {stored : Stored} {made : State} {old new : Desk} (done : State × List ℕ) (r : Result (Unit {0}) Refusal)
+    → IsAnswer (Ok done) → IsErrAnd r (λ e. e ≡ Memory) → MakesSound marked (Err x) stored made old new → ServesSound marked IsAnswer r stored old new
+lacked_last {marked} {IsAnswer} {x} {stored} {made} {old} {new} done r e k w =
+    record { step = lacked IsAnswer done r (state_of stored old) (state_of stored new) e k w.kept; adds = w.adds; refused = on_err r w.refused; sound = w.sound }
 
 -- a call that made the change
-pub done_with : {marked : Sheet → List ℕ → ℕ → Bool} {u : Unit {0}} {stored : Stored} {made : State} {old new : Desk} (step : Answer) (next : State) → step ≡ Ok (next, []) → made ≡ next
-    → MakesSound marked (Ok u) stored made old new → ServesSound marked (λ a. step ≡ a) (Ok tt) stored old new
-done_with step next e same w =
-    record { step = e ∙ ap (λ (t : State). Ok (t, [])) (sym (w.state ∙ same)); adds = w.adds; refused = tt; sound = w.sound }
+pub done_with : {marked : Sheet → List ℕ → ℕ → Bool} {IsAnswer : Answer → Type 0} {u : Unit {0}} {stored : Stored} {made : State} {old new : Desk} (next : State) → IsAnswer (Ok (next, [])) → made ≡ next
+    → MakesSound marked (Ok u) stored made old new → ServesSound marked IsAnswer (Ok tt) stored old new
+done_with {marked} {IsAnswer} next e same w =
+    record { step = subst (λ (t : State). IsAnswer (Ok (t, []))) (sym (w.state ∙ same)) e; adds = w.adds; refused = tt; sound = w.sound }
 
 -- each answer to the one is an answer to the other
 pub served_as : {marked : Sheet → List ℕ → ℕ → Bool} {IsOne IsOther : Answer → Type 0} {r : Result (Unit {0}) Refusal} {stored : Stored} {old new : Desk} → ServesSound marked IsOne r stored old new
@@ -105,34 +105,7 @@ pub empty_step : (s : State) (name : List ℕ) (at : ℕ) (text : List ℕ) (a :
 empty_step s name at [] a h e = e
 empty_step s name at (b ∷ bs) a h e = absurd (omega (arith, h))
 
--- ---- bases, and which scenario is used
-
-base_by : (missing loop : Bool) (done : State × List ℕ) → missing ≡ false → loop ≡ false → answer (record no_cause { no_scenario = missing; loop = loop }) done ≡ Ok done
-base_by missing loop done e f = ap (λ (b : Bool). answer (record no_cause { no_scenario = b; loop = loop }) done) e ∙ ap (λ (b : Bool). answer (record no_cause { loop = b }) done) f
-
-abbrev pub rebased : State → List ℕ → Option (List ℕ) → State
-rebased s name other = record s { scenarios = with_scenario s.scenarios (based_on (scenario_for s.scenarios name) other) }
-
-pub base_done : (s : State) (name : List ℕ) (other : Option (List ℕ)) → (not (has_scenario s.scenarios name) || lacks s.scenarios other) ≡ false
-    → would_loop s.scenarios name other ≡ false → base_step s name other ≡ Ok (rebased s name other, [])
-base_done s name other e f =
-    base_by (not (has_scenario s.scenarios name) || lacks s.scenarios other) (would_loop s.scenarios name other) (rebased s name other, []) e f
-
-base_missing_by : (missing loop : Bool) (done : State × List ℕ) → missing ≡ true → answer (record no_cause { no_scenario = missing; loop = loop }) done ≡ Err NoScenario
-base_missing_by missing loop done e = ap (λ (b : Bool). answer (record no_cause { no_scenario = b; loop = loop }) done) e
-
-pub base_missing : (s : State) (name : List ℕ) (other : Option (List ℕ)) → (not (has_scenario s.scenarios name) || lacks s.scenarios other) ≡ true
-    → base_step s name other ≡ Err NoScenario
-base_missing s name other e =
-    base_missing_by (not (has_scenario s.scenarios name) || lacks s.scenarios other) (would_loop s.scenarios name other) (rebased s name other, []) e
-
-base_loop_by : (missing loop : Bool) (done : State × List ℕ) → missing ≡ false → loop ≡ true → answer (record no_cause { no_scenario = missing; loop = loop }) done ≡ Err Loop
-base_loop_by missing loop done e f = ap (λ (b : Bool). answer (record no_cause { no_scenario = b; loop = loop }) done) e ∙ ap (λ (b : Bool). answer (record no_cause { loop = b }) done) f
-
-pub base_loop : (s : State) (name : List ℕ) (other : Option (List ℕ)) → (not (has_scenario s.scenarios name) || lacks s.scenarios other) ≡ false
-    → would_loop s.scenarios name other ≡ true → base_step s name other ≡ Err Loop
-base_loop s name other e f =
-    base_loop_by (not (has_scenario s.scenarios name) || lacks s.scenarios other) (would_loop s.scenarios name other) (rebased s name other, []) e f
+-- ---- bases
 
 there_left : (b c : Bool) → (not b || c) ≡ false → b ≡ true
 there_left true c h = refl
@@ -140,12 +113,3 @@ there_left false c h = cc
 
 pub is_there : (s : State) (name : List ℕ) (other : Option (List ℕ)) → (not (has_scenario s.scenarios name) || lacks s.scenarios other) ≡ false → has_scenario s.scenarios name ≡ true
 is_there s name other e = there_left (has_scenario s.scenarios name) (lacks s.scenarios other) e
-
-abbrev pub used : State → Option (List ℕ) → State
-used s name = with_current s (using_scenario (current_session s) name)
-
-pub use_done : (s : State) (name : Option (List ℕ)) → lacks s.scenarios name ≡ false → use_step s name ≡ Ok (used s name, [])
-use_done s name e = ap (λ (b : Bool). answer (record no_cause { no_scenario = b }) (used s name, [])) e
-
-pub use_missing : (s : State) (name : Option (List ℕ)) → lacks s.scenarios name ≡ true → use_step s name ≡ Err NoScenario
-use_missing s name e = ap (λ (b : Bool). answer (record no_cause { no_scenario = b }) (used s name, [])) e

@@ -1,5 +1,5 @@
--- What `session` answers.
-use Rattle.wi_scenarios.proofs.Words.{◌≡◌, ℕ, suc, ◌+◌, ◌-◌, ◌*◌, ◌/◌, ◌%◌, ◌<◌, ◌≤◌, Bool, true, false, not, ◌&&◌, ◌||◌, ◌==◌, List, [], ◌∷◌, ◌++◌, length, None, Ok, Err, if◌then◌else◌, refl, sym, ap, ◌∙◌, subst, arith, ◌⊎◌, inl, inr, nat_le, codes, All, list_any, slice_index_or, position_or_len, bytes_eq, keys_of, div-lt_iff_lt-mul, mod-lt, eqb-true, leb-true, le-leb, cases_lt, false≢true, or_cases, get_or_append_left, length-append, All-head, All-tail, get_or-append_seam, any-filter_same, Area, is_within, row_of, column_of, rect_of, rows, columns, Sheet, content_of, has_formula, shown, IsMarking, shows_nothing, has_none, Stored, sheet_size, value_in, is_one_of, Replacement, Scenario, effective, chain, Session, new_session, max_sessions, has_session, index_of, Roster, vacant_of, SameCells, Entry, TooMany, Desk, State, state_over, Answer, no_cause, answer, as_step, occupied_cells, IsClosed, IsSound, state_of}
+-- That a desk is sound with a session more.
+use Rattle.wi_scenarios.proofs.Words.{◌≡◌, ℕ, suc, ◌+◌, ◌-◌, ◌*◌, ◌/◌, ◌%◌, ◌<◌, ◌≤◌, Bool, true, false, ◌&&◌, ◌||◌, ◌==◌, List, [], ◌∷◌, ◌++◌, length, None, refl, sym, ap, ◌∙◌, subst, arith, ◌⊎◌, inl, inr, codes, All, list_any, slice_index_or, position_or_len, keys_of, div-lt_iff_lt-mul, mod-lt, eqb-true, le-leb, cases_lt, false≢true, or_cases, get_or_append_left, length-append, All-head, All-tail, get_or-append_seam, any-filter_same, Area, is_within, row_of, column_of, rect_of, rows, columns, Sheet, content_of, has_formula, shown, IsMarking, shows_nothing, has_none, Stored, sheet_size, value_in, is_one_of, Replacement, Scenario, effective, chain, Session, new_session, max_sessions, Roster, vacant_of, SameCells, Entry, Desk, State, state_over, occupied_cells, IsClosed, IsSound, state_of}
 
 -- ---- cells of the sheet
 
@@ -76,30 +76,8 @@ occupied_closed marked law s within a c h m = at (or_cases (has_formula (content
     at (inl f) = formula_occupied s c within f
     at (inr e) = itself (a == c) refl e
 
--- ---- what `session` answers
-
--- the step, where the session is there or not, and there are as many as may be or not
-abbrev step_by : State → List ℕ → Bool → Bool → Answer
-step_by s name there full =
-    answer (record no_cause { too_many = not there && full })
-    (record s { sessions = if there then s.sessions else s.sessions ++ new_session name ∷ []; current = index_of s.sessions name }, [])
-
--- the answer that is found
-abbrev pub session_by : State → List ℕ → Bool → Bool → Answer
-session_by s name there full =
-    if there then Ok (record s { current = index_of s.sessions name }, [])
-    else (if full then Err TooMany else Ok (record s { sessions = s.sessions ++ new_session name ∷ []; current = index_of s.sessions name }, []))
-
-abbrev pub session_found : State → List ℕ → Answer
-session_found s name = session_by s name (has_session s.sessions name) (nat_le max_sessions (length s.sessions))
-
-step_is : (s : State) (name : List ℕ) (there full : Bool) → step_by s name there full ≡ session_by s name there full
-step_is s name true full = refl
-step_is s name false true = refl
-step_is s name false false = refl
-
 -- a session that is none has the place behind all
-no_place : (p : Session → Bool) (xs : List Session) → list_any p xs ≡ false → position_or_len p xs ≡ length xs
+pub no_place : (p : Session → Bool) (xs : List Session) → list_any p xs ≡ false → position_or_len p xs ≡ length xs
 no_place p [] h = refl
 no_place p (x ∷ xs) h = by (p x) refl (no_place p xs)
   where
@@ -108,23 +86,6 @@ no_place p (x ∷ xs) h = by (p x) refl (no_place p xs)
     by false e rest =
         let m : position_or_len p xs ≡ length xs = rest (sym (ap (λ (c : Bool). c || list_any p xs) e) ∙ h) in
         rw e (omega (arith, m))
-
--- a new one
-pub new_answer : (s : State) (name : List ℕ) (place : ℕ) → has_session s.sessions name ≡ false → length s.sessions < max_sessions → place ≡ length s.sessions
-    → session_found s name ≡ Ok (record s { sessions = s.sessions ++ new_session name ∷ []; current = place }, [])
-new_answer s name place h l e =
-    ap (λ b. session_by s name b (nat_le max_sessions (length s.sessions))) h ∙ ap (λ b. session_by s name false b) (not_below (length s.sessions) l)
-    ∙ ap (λ (p : ℕ). ok_of p) (no_place (λ x. bytes_eq name x.name) s.sessions h ∙ sym e)
-  where
-    ok_of : ℕ → Answer
-    ok_of p = Ok (record s { sessions = s.sessions ++ new_session name ∷ []; current = p }, [])
-
-    not_below : (n : ℕ) → n < max_sessions → nat_le max_sessions n ≡ false
-    not_below n l = by (nat_le max_sessions n) refl
-      where
-        by : (b : Bool) → nat_le max_sessions n ≡ b → b ≡ false
-        by false k = refl
-        by true k = absurd (let m = leb-true max_sessions n k in omega (arith, l, m))
 
 -- ---- what holds of the desk
 
@@ -193,11 +154,6 @@ sound_new {marked} stored d r place name cells new few at grown more same are ma
         → value_in (slice_index_or r.sessions i (new_session [])).picture a ≡ shown stored.sheet (effective d.scenarios (slice_index_or r.sessions i (new_session [])).scenario) a
     by i a m (inl l) n k = before i a m l k
     by i a m (inr g) n k = last i a m (omega (arith, g, n)) k
-
-pub new_step : (s t : State) (name : List ℕ) → has_session s.sessions name ≡ false → length s.sessions < max_sessions
-    → t ≡ record s { sessions = s.sessions ++ new_session name ∷ []; current = length s.sessions } → as_step s name ≡ Ok (t, [])
-new_step s t name h l e =
-    step_is s name (has_session s.sessions name) (nat_le max_sessions (length s.sessions)) ∙ new_answer s name (length s.sessions) h l refl ∙ ap (λ (x : State). Ok (x, [])) (sym e)
 
 -- the whole sheet as a rectangle
 pub whole_area : (first last : ℕ) (r : Area) → first ≡ 0 → last ≡ 17179869183 → r ≡ rect_of first last → r ≡ record { first = 0; last = sheet_size - 1 }

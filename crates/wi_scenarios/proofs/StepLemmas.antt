@@ -1,6 +1,10 @@
 -- A call has one answer.
-use Rattle.wi_scenarios.proofs.Words.{◌≡◌, [], ◌∷◌, Err, refl, sym, ap, ◌∙◌, imported, imported_exactly, content_read, content_is_one, fields_at, some_import, no_other as no_other_import, State, Answer, set_answer, clear_step, fill_step, csv_answer, put_answer, take_away_step, drop_step, base_step, use_step, as_step, show_step, export_step, changes_step, compare_step, table_step, formula_step, Call, Set, Clear, Fill, Csv, Drop, Base, Use, As, Show, Export, Changes, Compare, Table, Formula, Refused, RefusedData, IsCallStep}
+use Rattle.wi_scenarios.proofs.Words.{◌≡◌, not, ◌||◌, ◌&&◌, nat_le, [], ◌∷◌, length, Ok, Err, refl, sym, ap, ◌∙◌, imported, imported_exactly, content_read, content_is_one, fields_at, some_import, no_other as no_other_import, has_scenario, has_session, max_sessions, lacks, would_loop, State, Answer, set_answer, clear_step, fill_step, csv_answer, put_answer, take_away_step, show_step, export_step, compare_step, table_step, formula_step, Call, Set, Clear, Fill, Csv, Drop, Base, Use, As, Show, Export, Changes, Compare, Table, Formula, Refused, RefusedData, IsCallStep}
+use Rattle.wi_scenarios.specs.Commands.Command as command
 use Rattle.wi_scenarios.specs.Step.{Scenario}
+use Rattle.wi_scenarios.proofs.FirstCause.{one_answer}
+use Rattle.wi_scenarios.proofs.LookSteps.{after_changes, changes_step}
+use Rattle.wi_scenarios.proofs.ScenarioSteps.{is_in_use, drop_answer, drop_step, use_answer, use_step, base_answer, base_step, as_answer, as_step}
 
 pub an_answer : (s : State) (c : Call) → (a : Answer) × IsCallStep s c a
 an_answer s (Set force at text) =
@@ -15,13 +19,19 @@ an_answer s (Scenario name at []) = (take_away_step s name at, refl)
 an_answer s (Scenario name at (b ∷ bs)) =
     let value = imported (b ∷ bs) in
     (put_answer s name at value, record { value = value; is_value = (imported_exactly (b ∷ bs) value).1 refl; answered = refl })
-an_answer s (Drop name) = (drop_step s name, refl)
-an_answer s (Base name other) = (base_step s name other, refl)
-an_answer s (Use name) = (use_step s name, refl)
-an_answer s (As name) = (as_step s name, refl)
+an_answer s (Drop name) =
+    (drop_answer s name (has_scenario s.scenarios name) (is_in_use s name), drop_step s name (has_scenario s.scenarios name) (is_in_use s name) refl refl)
+an_answer s (Base name other) =
+    let missing = not (has_scenario s.scenarios name) || lacks s.scenarios other in
+    let loop = would_loop s.scenarios name other in
+    (base_answer s name other missing loop, base_step s name other missing loop refl refl)
+an_answer s (Use name) = (use_answer s name (lacks s.scenarios name), use_step s name (lacks s.scenarios name) refl)
+an_answer s (As name) =
+    let full = not (has_session s.sessions name) && nat_le max_sessions (length s.sessions) in
+    (as_answer s name full, as_step s name full refl)
 an_answer s (Show area) = (show_step s area, refl)
 an_answer s (Export area) = (export_step s area, refl)
-an_answer s Changes = (changes_step s, refl)
+an_answer s Changes = (Ok (after_changes s), changes_step s)
 an_answer s (Compare first second area) = (compare_step s first second area, refl)
 an_answer s (Table f r xs second) = (table_step s f r xs second, refl)
 an_answer s (Formula at) = (formula_step s at, refl)
@@ -41,13 +51,13 @@ no_other s (Scenario name at []) a b h k = sym h ∙ k
 no_other s (Scenario name at (x ∷ xs)) a b h k =
     let same : h.value ≡ k.value = sym ((imported_exactly (x ∷ xs) h.value).0 h.is_value) ∙ (imported_exactly (x ∷ xs) k.value).0 k.is_value in
     sym h.answered ∙ ap (put_answer s name at) same ∙ k.answered
-no_other s (Drop name) a b h k = sym h ∙ k
-no_other s (Base name other) a b h k = sym h ∙ k
-no_other s (Use name) a b h k = sym h ∙ k
-no_other s (As name) a b h k = sym h ∙ k
+no_other s (Drop name) a b h k = one_answer s (command.Drop name) (λ x y d e. d ∙ sym e) a b h k
+no_other s (Base name other) a b h k = one_answer s (command.Base name other) (λ x y d e. d ∙ sym e) a b h k
+no_other s (Use name) a b h k = one_answer s (command.Use name) (λ x y d e. d ∙ sym e) a b h k
+no_other s (As name) a b h k = one_answer s (command.As name) (λ x y d e. d ∙ sym e) a b h k
 no_other s (Show area) a b h k = sym h ∙ k
 no_other s (Export area) a b h k = sym h ∙ k
-no_other s Changes a b h k = sym h ∙ k
+no_other s Changes a b h k = one_answer s command.Changes (λ x y d e. d ∙ sym e) a b h k
 no_other s (Compare first second area) a b h k = sym h ∙ k
 no_other s (Table f r xs second) a b h k = sym h ∙ k
 no_other s (Formula at) a b h k = sym h ∙ k

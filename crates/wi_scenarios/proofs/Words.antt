@@ -1,21 +1,21 @@
 -- The words of the library, of the crates below and of this crate's definitions that its proofs are written in.
 pub use Rattle.std.proofs.Common.{Bool, Err, List, None, Ok, Option, Result, Some, [], ap, append_assoc, arith, cond, drop, false, get_or, if◌then◌else◌, inl, inr, length, map, max, min, not, refl, rules, set, subst, suc, sym, true, zero, ℕ, ⊎_elim, ◌%◌, ◌&&◌, ◌*◌, ◌++◌, ◌+◌, ◌-◌, ◌/◌, ◌<◌, ◌==◌, ◌||◌, ◌↔◌, ◌∙◌, ◌∷◌, ◌≡◌, ◌≢◌, ◌≤◌, ◌⊎◌}
-pub use Rattle.std.proofs.Math.Bool.{or-false}
+pub use Rattle.std.proofs.Math.Bool.{or-false, or-true}
 pub use Rattle.std.proofs.Math.Nat.{div-lt_iff_lt-mul, mod-lt}
 pub use Rattle.std.proofs.Math.Seq.{get_or-append_seam}
-pub use Rattle.std.proofs.lemmas.Bool.{and_from, and_parts, both_ways, cases_eq, cases_lt, eqb-false, eqb-true, false_from_ne_true, false≢true, le-leb, leb-true, ne_eqb, or_cases, or_left, or_parts, or_right}
+pub use Rattle.std.proofs.lemmas.Bool.{and_from, and_parts, both_ways, cases_eq, cases_lt, eqb-false, eqb-true, false_from_ne_true, false≢true, le-leb, leb-true, lt-ltb, ltb-true, ne_eqb, or_cases, or_left, or_parts, or_right}
 pub use Rattle.std.proofs.lemmas.Bool.Decides.{nat_tests}
 pub use Rattle.std.proofs.lemmas.Grind.{common_steps}
 pub use Rattle.std.proofs.lemmas.List.{append-nil, drop-append-le, drop_all, get_or-set_other, get_or-set_same, get_or_append_left, length-append, length-set, map-append, nil_from_length}
 pub use Rattle.std.proofs.lemmas.List.Elements.{All-head, All-map, All-tail}
-pub use Rattle.std.proofs.lemmas.List.Folds.{flat_map-map, list_any-append, list_any_at}
+pub use Rattle.std.proofs.lemmas.List.Folds.{Any-from_list_any, flat_map-map, list_any-append, list_any-from_Any, list_any_at}
 pub use Rattle.std.proofs.lemmas.List.FromFn.{map-range_with_len_more}
 pub use Rattle.std.proofs.lemmas.Map.Entries.{length-keys_of}
 pub use Rattle.std.proofs.lemmas.Map.Views.{any-filter_same}
 pub use Rattle.std.proofs.lemmas.Option.{none-some, same_Some}
 pub use Rattle.std.proofs.lemmas.Result.{IfOk-from_err, IfOk-weaker, err_from_is_err_and, on_ok_weaker}
 pub use Rattle.std.proofs.lemmas.Slice.Eq.{bytes_eq-Decides}
-pub use Rattle.std.specs.List.{All, AllByRecursion, AllZip, find, flat_map, list_any, position_or_len, range_with_len, slice_index_or, slice_set}
+pub use Rattle.std.specs.List.{All, AllByRecursion, AllZip, Any, find, flat_map, list_any, position_or_len, range_with_len, slice_index_or, slice_set}
 pub use Rattle.std.specs.Map.{keys_of}
 pub use Rattle.std.specs.Option.{option_copied, option_or}
 pub use Rattle.std.specs.Prelude.{IfOk, IfSome, IsErrOf, MatchResult, codes, filter, is_some, nat_le, nat_lt, option_map}
@@ -60,15 +60,12 @@ unfoldable pub use Rattle.wi_scenario_list.specs.Inner.Chains.{chain}
 pub use Rattle.wi_scenario_list.specs.Inner.Parts.{scenario_or_new}
 pub use Rattle.wi_scenario_list.specs.Scenarios.{Scenario, has_scenario, is_full, is_named, layered, max_scenarios, scenario_for, scenario_of, with_own, with_scenario, without_own, without_scenario}
 pub use Rattle.wi_scenarios.specs.Answer.{Answer, MayRefuse, MayRefuseData, Serves, ServesData, field_refusal, import_refusal, may_grow, parse_refusal}
-pub use Rattle.wi_scenarios.specs.As.{as_step}
 pub use Rattle.wi_scenarios.specs.Asked.{asked_by_changes, asked_by_compare, asked_by_show, asked_by_table}
-pub use Rattle.wi_scenarios.specs.Base.{base_step}
 pub use Rattle.wi_scenarios.specs.Causes.{answer, first_cause, no_cause, unless, when}
-pub use Rattle.wi_scenarios.specs.Changes.{change_list, changes_step}
+pub use Rattle.wi_scenarios.specs.Changes.{change_list}
 pub use Rattle.wi_scenarios.specs.Clear.{clear_edit, clear_step}
 pub use Rattle.wi_scenarios.specs.Compare.{compare_step}
 pub use Rattle.wi_scenarios.specs.Csv.{ImportOutcome, IsCsvStep, contents_in, csv_answer, field_fault, has_bad_field, imported_cells}
-pub use Rattle.wi_scenarios.specs.Drop.{drop_step, is_in_use}
 pub use Rattle.wi_scenarios.specs.Edits.{Edit, edit_answer, edit_refusal, limit_of, stale_in, with_stored}
 pub use Rattle.wi_scenarios.specs.Events.{Event, ForcedIsNotStale, IsCoherent, IsFirstNewer, KeepsApart, ListsAddUp, LogGrows, MayFollow, MayHappen, RecordsTellList, StaleIsNewer, StaysCoherent, change_fields, counts_before, edits_in, edits_since, is_accepted_changes, is_newer, is_refused_before, is_told, last_shown, left_by, lists_told, logged, logged_by, state_after, unseen, with_lists}
 pub use Rattle.wi_scenarios.specs.Export.{export_step}
@@ -87,11 +84,10 @@ pub use Rattle.wi_scenarios.specs.Show.{show_step}
 pub use Rattle.wi_scenarios.specs.State.{State, max_area, state_over}
 pub use Rattle.wi_scenarios.specs.Step.{As, Base, Call, Changes, Clear, Compare, Csv, Drop, Export, Fill, Formula, IsCallStep, Refused, RefusedData, Set, Show, Table, Use}
 pub use Rattle.wi_scenarios.specs.Table.{table_step}
-pub use Rattle.wi_scenarios.specs.Use.{use_step}
 pub use Rattle.wi_scenarios.specs.Views.{current_replacements, current_session, shown_to, with_current}
 pub use Rattle.wi_scenarios.specs.declared.desk.Desk.{Desk}
 pub use Rattle.wi_scenarios.specs.declared.refusal.Refusal.{Refusal}
-pub use Rattle.wi_scenarios.specs.declared.refusal.Refusal.TheVariants.{BadCommand, BadField, InUse, LeavesSheet, Loop, Memory, NoScenario, Stale, TooLarge, TooLong, TooMany}
+pub use Rattle.wi_scenarios.specs.declared.refusal.Refusal.TheVariants.{BadCommand, BadField, LeavesSheet, Loop, Memory, NoScenario, Stale, TooLarge, TooLong, TooMany}
 pub use Rattle.wi_sessions.proofs.ChangeLists.{any_cells, picture_is_shown}
 pub use Rattle.wi_sessions.proofs.RosterLemmas.{all_have_so, one_of_all_has}
 pub use Rattle.wi_sessions.specs.Pictures.{same_value, value_in, with_changes}
@@ -109,7 +105,7 @@ pub use Rattle.wi_values.proofs.Equal.{same_replacement_Decides}
 pub use Rattle.wi_values.proofs.Fields.{numbers_read_back}
 pub use Rattle.wi_values.proofs.Imports.{imported_exactly}
 pub use Rattle.wi_values.proofs.Listed.{has-filter}
-pub use Rattle.wi_values.proofs.Lists.{left_more}
+pub use Rattle.wi_values.proofs.Lists.{Any-weaker, left_more}
 pub use Rattle.wi_values.proofs.Order.{is_itself}
 pub use Rattle.wi_values.proofs.Outcomes.{on_err}
 pub use Rattle.wi_values.proofs.ReadsBack.{addresses_read_back}

@@ -1,6 +1,7 @@
 pub mod State
 pub mod Views
 pub mod Answer
+pub mod Commands
 pub mod Causes
 pub mod Edits
 pub mod Set
@@ -8,10 +9,6 @@ pub mod Clear
 pub mod Fill
 pub mod Csv
 pub mod Scenario
-pub mod Drop
-pub mod Base
-pub mod Use
-pub mod As
 pub mod Show
 pub mod Export
 pub mod Changes

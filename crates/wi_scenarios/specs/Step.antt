@@ -5,18 +5,15 @@ use Rattle.wi_sessions.specs.Sessions.{has_session}
 use Rattle.wi_scenarios.specs.declared.refusal.Refusal.{Refusal}
 use Rattle.wi_scenarios.specs.State.{State}
 use Rattle.wi_scenarios.specs.Answer.{Answer, MayGrow}
+use Rattle.wi_scenarios.specs.Commands.Command as command
+use Rattle.wi_scenarios.specs.Commands.Step.{IsStep}
 use Rattle.wi_scenarios.specs.Set.{IsSetStep}
 use Rattle.wi_scenarios.specs.Clear.{clear_step}
 use Rattle.wi_scenarios.specs.Fill.{fill_step}
 use Rattle.wi_scenarios.specs.Csv.{IsCsvStep}
 use Rattle.wi_scenarios.specs.Scenario.{IsScenarioStep}
-use Rattle.wi_scenarios.specs.Drop.{drop_step}
-use Rattle.wi_scenarios.specs.Base.{base_step}
-use Rattle.wi_scenarios.specs.Use.{use_step}
-use Rattle.wi_scenarios.specs.As.{as_step}
 use Rattle.wi_scenarios.specs.Show.{show_step}
 use Rattle.wi_scenarios.specs.Export.{export_step}
-use Rattle.wi_scenarios.specs.Changes.{changes_step}
 use Rattle.wi_scenarios.specs.Compare.{compare_step}
 use Rattle.wi_scenarios.specs.Table.{table_step}
 use Rattle.wi_scenarios.specs.Formula.{formula_step}
@@ -49,13 +46,13 @@ IsCallStep s (Clear force area) a = clear_step s force area ≡ a
 IsCallStep s (Fill force from area) a = fill_step s force from area ≡ a
 IsCallStep s (Csv force at text) a = IsCsvStep s force at text a
 IsCallStep s (Scenario name at content) a = IsScenarioStep s name at content a
-IsCallStep s (Drop name) a = drop_step s name ≡ a
-IsCallStep s (Base name other) a = base_step s name other ≡ a
-IsCallStep s (Use name) a = use_step s name ≡ a
-IsCallStep s (As name) a = as_step s name ≡ a
+IsCallStep s (Drop name) a = IsStep s (command.Drop name) a
+IsCallStep s (Base name other) a = IsStep s (command.Base name other) a
+IsCallStep s (Use name) a = IsStep s (command.Use name) a
+IsCallStep s (As name) a = IsStep s (command.As name) a
 IsCallStep s (Show area) a = show_step s area ≡ a
 IsCallStep s (Export area) a = export_step s area ≡ a
-IsCallStep s Changes a = changes_step s ≡ a
+IsCallStep s Changes a = IsStep s command.Changes a
 IsCallStep s (Compare first second area) a = compare_step s first second area ≡ a
 IsCallStep s (Table f r xs second) a = table_step s f r xs second ≡ a
 IsCallStep s (Formula at) a = formula_step s at ≡ a

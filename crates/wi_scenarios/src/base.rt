@@ -4,7 +4,8 @@ ghost use Rattle.std.specs.Prelude.{◌≡◌, ◌||◌, true, not, IfOk};
 ghost use Rattle.std.specs.Option.{option_copied};
 ghost use Rattle.wi_scenario_list.specs.Scenarios.{has_scenario, scenario_for, with_scenario};
 ghost use Rattle.wi_scenario_list.specs.Bases.{lacks, would_loop, based_on};
-ghost use Rattle.wi_scenarios.specs.Base.{base_step};
+ghost use Rattle.wi_scenarios.specs.Commands.Command as command;
+ghost use Rattle.wi_scenarios.specs.Commands.Step.{IsStep};
 ghost use Rattle.wi_scenarios.specs.Inner.Held.{state_of, IsSound, ServesSound};
 
 use crate::desk::Desk;
@@ -26,7 +27,7 @@ pub(crate) fn base<C: Calculator>(
 ) -> Result<(), Refusal>
     requires { IsSound C.marked (C.stored calculator.now) desk.old }
     ensures { let old = state_of (C.stored calculator.now) desk.old in
-        ServesSound C.marked (λ a. base_step old name.now (option_copied other.entry) ≡ a)
+        ServesSound C.marked (IsStep old (command.Base name.now (option_copied other.entry)))
         result (C.stored calculator.now) desk.old desk.new }
 {
     if is_any_missing(&desk.scenarios, name, other) {

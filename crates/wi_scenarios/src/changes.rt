@@ -5,7 +5,9 @@ ghost use Rattle.wi_sessions.specs.Roster.{pending_of, vacant_of};
 ghost use Rattle.wi_reports.specs.Changes.{change_records};
 ghost use Rattle.wi_reports.specs.Looks.{Costs};
 ghost use Rattle.wi_scenarios.specs.Answer.{Serves};
-ghost use Rattle.wi_scenarios.specs.Changes.{change_list, changes_step};
+ghost use Rattle.wi_scenarios.specs.Changes.{change_list};
+ghost use Rattle.wi_scenarios.specs.Commands.Command as command;
+ghost use Rattle.wi_scenarios.specs.Commands.Step.{IsStep};
 ghost use Rattle.wi_scenarios.specs.Pending.{Emptied, pending_for};
 ghost use Rattle.wi_scenarios.specs.Asked.{asked_by_changes};
 ghost use Rattle.wi_scenarios.specs.Inner.Held.{state_of, pending_in, IsSound};
@@ -32,7 +34,7 @@ pub(crate) fn changes<C: Calculator>(
     requires { IsSound C.marked (C.stored calculator.old) desk.old }
     ensures step { let old = state_of (C.stored calculator.old) desk.old in
         (records : List ℕ) × (out.new.items ≡ out.old.items ++ records)
-        × Serves (λ a. changes_step old ≡ a)
+        × Serves (IsStep old command.Changes)
         result old (state_of (C.stored calculator.new) desk.new) records }
     ensures same { C.stored calculator.new ≡ C.stored calculator.old }
     ensures emptied { OnOk result

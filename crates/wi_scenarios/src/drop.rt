@@ -6,7 +6,8 @@ ghost use Rattle.wi_scenario_list.specs.Bases.{is_name_of};
 ghost use Rattle.wi_sessions.specs.Roster.{session_at};
 ghost use Rattle.wi_scenarios.specs.declared.refusal.Refusal.TheVariants.{Memory};
 ghost use Rattle.wi_scenarios.specs.Answer.{Serves};
-ghost use Rattle.wi_scenarios.specs.Drop.{drop_step};
+ghost use Rattle.wi_scenarios.specs.Commands.Command as command;
+ghost use Rattle.wi_scenarios.specs.Commands.Step.{IsStep};
 ghost use Rattle.wi_scenarios.specs.Inner.Held.{state_of, pending_in, IsSound};
 
 use crate::desk::Desk;
@@ -23,7 +24,7 @@ pub(crate) fn drop<C: Calculator>(
 ) -> Result<(), Refusal>
     requires { IsSound C.marked (C.stored calculator.now) desk.old }
     ensures step { let old = state_of (C.stored calculator.now) desk.old in
-        Serves (λ a. drop_step old name.now ≡ a)
+        Serves (IsStep old (command.Drop name.now))
         result old (state_of (C.stored calculator.now) desk.new) [] }
     ensures sound { IsSound C.marked (C.stored calculator.now) desk.new }
     ensures pending { pending_in desk.new ≡ pending_in desk.old }

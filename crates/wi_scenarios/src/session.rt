@@ -6,7 +6,8 @@ ghost use Rattle.wi_sessions.specs.Sessions.{has_session, new_session, max_sessi
 ghost use Rattle.wi_sessions.specs.Roster.{SameCells};
 ghost use Rattle.wi_scenarios.specs.declared.refusal.Refusal.TheVariants.{Memory};
 ghost use Rattle.wi_scenarios.specs.Answer.{Serves};
-ghost use Rattle.wi_scenarios.specs.As.{as_step};
+ghost use Rattle.wi_scenarios.specs.Commands.Command as command;
+ghost use Rattle.wi_scenarios.specs.Commands.Step.{IsStep};
 ghost use Rattle.wi_scenarios.specs.State.{state_over};
 ghost use Rattle.wi_scenarios.specs.Pending.{HasNewSession, occupied_cells};
 ghost use Rattle.wi_scenarios.specs.Inner.Held.{state_of, pending_in, IsClosed, IsSound};
@@ -30,7 +31,7 @@ pub(crate) fn session<C: Calculator>(
 ) -> Result<(), Refusal>
     requires { IsSound C.marked (C.stored calculator.now) desk.old }
     ensures step { let old = state_of (C.stored calculator.now) desk.old in
-        Serves (λ a. as_step old name.now ≡ a)
+        Serves (IsStep old (command.As name.now))
         result old (state_of (C.stored calculator.now) desk.new) [] }
     ensures sound { IsSound C.marked (C.stored calculator.now) desk.new }
     ensures there { has_session desk.old.sessions.sessions name.now ≡ true

@@ -11,6 +11,8 @@ ghost use Rattle.wi_reports.specs.Looks.{Costs};
 ghost use Rattle.wi_scenarios.specs.declared.refusal.Refusal.TheVariants.{Memory};
 ghost use Rattle.wi_scenarios.specs.State.{state_over};
 ghost use Rattle.wi_scenarios.specs.Answer.{Serves, ServesData};
+ghost use Rattle.wi_scenarios.specs.Commands.Command as command;
+ghost use Rattle.wi_scenarios.specs.Commands.Step.{IsStep};
 ghost use Rattle.wi_scenarios.specs.Clear.{clear_edit};
 ghost use Rattle.wi_scenarios.specs.Csv.{imported_cells};
 ghost use Rattle.wi_scenarios.specs.Scenario.{take_away_step};
@@ -246,7 +248,7 @@ impl<C: Calculator> Workbook<C> {
     /// `scenario_set` does: the work grows with the count of scenarios, the scenario's own replacements, all that the sessions' scenarios
     /// put in, and what depends on the cells whose replacement changes.
     pub fn scenario_base(&mut self, name: Name<'_>, other: Option<Name<'_>>) -> Result<(), Refusal>
-        ensures step { Serves (IsCallStep self.old.state (call.Base (bytes_of name.entry)
+        ensures step { Serves (IsStep self.old.state (command.Base (bytes_of name.entry)
             (option_map bytes_of other.entry))) result self.old.state self.new.state [] }
         ensures adds { AddsOnly C.marked ([])
             self.old.state self.new.state self.old.pending self.new.pending }
@@ -265,7 +267,7 @@ impl<C: Calculator> Workbook<C> {
     /// Removes a scenario that no session uses, and on which none is based. Takes no memory. The work grows with the counts of
     /// scenarios and sessions.
     pub fn scenario_drop(&mut self, name: Name<'_>) -> Result<(), Refusal>
-        ensures step { Serves (IsCallStep self.old.state (call.Drop (bytes_of name.entry)))
+        ensures step { Serves (IsStep self.old.state (command.Drop (bytes_of name.entry)))
             result self.old.state self.new.state [] }
         ensures pending { self.new.pending ≡ self.old.pending }
         ensures counts { SameCounts self.old self.new }
@@ -278,7 +280,7 @@ impl<C: Calculator> Workbook<C> {
     /// in, and with what depends on the cells whose replacement changes.
     pub fn use_scenario(&mut self, name: Option<Name<'_>>) -> Result<(), Refusal>
         ensures step { Serves
-            (IsCallStep self.old.state (call.Use (option_map bytes_of name.entry)))
+            (IsStep self.old.state (command.Use (option_map bytes_of name.entry)))
             result self.old.state self.new.state [] }
         ensures adds { AddsOnly C.marked ([])
             self.old.state self.new.state self.old.pending self.new.pending }
@@ -292,7 +294,7 @@ impl<C: Calculator> Workbook<C> {
     /// Makes a session current, a new one if need be, which uses the sheet as it stands and was shown nothing. Takes no memory
     /// where the session is there; for a new one the work grows with the occupied cells.
     pub fn session(&mut self, name: Name<'_>) -> Result<(), Refusal>
-        ensures step { Serves (IsCallStep self.old.state (call.As (bytes_of name.entry)))
+        ensures step { Serves (IsStep self.old.state (command.As (bytes_of name.entry)))
             result self.old.state self.new.state [] }
         ensures there { has_session self.old.state.sessions (bytes_of name.entry) ≡ true
             → self.new.pending ≡ self.old.pending }
@@ -341,7 +343,7 @@ impl<C: Calculator> Workbook<C> {
     /// length of the records, and with the changes, some look-ups in the session's snapshot for each.
     pub fn changes(&mut self, out: &mut Vec<u8>) -> Result<(), Refusal>
         ensures step { (records : List ℕ) × (out.new.items ≡ out.old.items ++ records)
-            × Serves (IsCallStep self.old.state call.Changes)
+            × Serves (IsStep self.old.state command.Changes)
             result self.old.state self.new.state records }
         ensures emptied { OnOk result
             (Emptied self.old.state.current self.old.pending self.new.pending) }

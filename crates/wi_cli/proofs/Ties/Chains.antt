@@ -1,8 +1,8 @@
 -- That each scenario has a chain after every run.
-use Rattle.wi_cli.proofs.Vocabulary.{◌||◌, Bool, false, not, inl, inr, List, [], ◌∷◌, Option, Ok, Err, refl, sym, ap, subst, list_any, false_from_ne_true, not-false, or_parts, Stored, has_scenario, scenario_for, with_own, without_own, is_full, HasChains, is_name_of, is_base, lacks, would_loop, no_scenarios, is_chain, has_room, own_kept, based_kept, dropped_kept, State, state_over, is_in_use, left_by, Cell, address, Bytes, Command, Set, Clear, Fill, Csv, Scenario, Drop, Base, Use, As, Show, Export, Compare, Table, Formula, Changes, Unknown, Unreadable, Cause, NoScenario, InUse, TooMany, Loop, Holds, Does, Answer, IsStep, Event, MayHappen, KeepsChains, GivesChain}
+use Rattle.wi_cli.proofs.Vocabulary.{◌||◌, Bool, false, not, inl, inr, List, [], ◌∷◌, Option, Ok, Err, refl, sym, ap, subst, list_any, false_from_ne_true, not-false, or_parts, Stored, has_scenario, scenario_for, with_own, without_own, is_full, HasChains, is_name_of, is_base, lacks, would_loop, no_scenarios, is_chain, has_room, own_kept, based_kept, dropped_kept, State, state_over, left_by, Cell, address, Bytes, Command, Set, Clear, Fill, Csv, Scenario, Drop, Base, Use, As, Show, Export, Compare, Table, Formula, Changes, Unknown, Unreadable, Cause, NoScenario, InUse, TooMany, Loop, Holds, Does, Answer, IsStep, Event, MayHappen, KeepsChains, GivesChain}
 use Rattle.wi_scenario_list.specs.Scenarios as list
 use Rattle.wi_scenarios.specs.declared.refusal.Refusal.TheVariants as refusal
-use Rattle.wi_cli.proofs.Ties.ScenarioSteps.{drop_tested, base_tested}
+use Rattle.wi_scenarios.proofs.ScenarioSteps.{is_in_use, drop_tested, base_tested}
 use Rattle.wi_cli.proofs.Ties.Events.{unlike}
 
 module _ (s : State) where

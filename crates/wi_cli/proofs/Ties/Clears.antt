@@ -1,7 +1,8 @@
 -- The step of `clear`.
 use Rattle.wi_cli.proofs.Vocabulary.{◌≡◌, ◌↔◌, Bool, true, false, ◌||◌, List, [], ◌∷◌, map, filter, ◌⊎◌, inl, inr, None, refl, sym, ap, ◌∙◌, list_any, keys_of, both_ways, is_within, State, edit_answer, no_cause, of_operand, Corners, is_outside, area, Bytes, Command, Clear, form, Put, after_edit, Cause, Outside, TooLarge, NoScenario, Stale, Full, EditLimit, Holds, lies_outside, is_missing, Does, Answer, IsStep, causes, IsFirstOf, SameStep, read_by}
 use Rattle.wi_scenarios.specs.Step as old
-use Rattle.wi_cli.proofs.Ties.Uniqueness.{answers, outside_step}
+use Rattle.wi_scenarios.proofs.FirstCause.{answers}
+use Rattle.wi_cli.proofs.Ties.Uniqueness.{outside_step}
 use Rattle.wi_cli.proofs.Ties.EditSteps.{last, edit_step}
 
 -- an edit may be forced: its form has a word more

@@ -6,7 +6,7 @@ use Rattle.wi_scenarios.specs.Step as old
 use Rattle.wi_scenarios.specs.Laws.{is_changes_call}
 use Rattle.wi_scenarios.proofs.EventLemmas as events
 use Rattle.wi_scenarios.proofs.RunLemmas as runs
-use Rattle.wi_cli.proofs.Ties.Uniqueness.{first_holds}
+use Rattle.wi_scenarios.proofs.FirstCause.{first_holds}
 use Rattle.wi_cli.proofs.Ties.Steps.{same_step}
 
 -- ---- an event as one of the calls of a workbook

@@ -2,9 +2,9 @@
 use Rattle.wi_cli.proofs.Vocabulary.{◌≡◌, ◌↔◌, ◌<◌, ◌*◌, ℕ, Bool, true, false, not, ◌||◌, nat_lt, List, [], ◌∷◌, map, ◌⊎◌, inl, inr, Option, Some, None, is_some, Err, refl, sym, ap, ap₂, ◌∙◌, subst, list_any, AllZip, Any-from_list_any, list_any-from_Any, both_ways, size_of, cells_of, Any-weaker, Content, content_of, State, max_area, edit_answer, no_cause, copy_to, has_no_copy, or_nothing, fill_command_of, Cell, Corners, is_outside, address, area, Bytes, Command, Fill, form, Put, Puts, copy_in, after_edit, Cause, Outside, TooLarge, NoScenario, LeavesSheet, Stale, Full, EditLimit, Holds, lies_outside, is_missing, size, Does, Answer, IsStep, causes, IsFirstOf, SameStep, read_by}
 use Rattle.wi_scenarios.specs.declared.refusal.Refusal.TheVariants as refusal
 use Rattle.wi_scenarios.specs.Step as old
+use Rattle.wi_scenarios.proofs.CauseTests.{is_large}
 use Rattle.wi_cli.proofs.Ties.Uniqueness.{same_answers, outside_step}
 use Rattle.wi_cli.proofs.Ties.EditSteps.{last, edit_step}
-use Rattle.wi_cli.proofs.Ties.Tests.{is_large}
 use Rattle.wi_cli.proofs.Ties.Looks.{large_once}
 
 -- ---- copies

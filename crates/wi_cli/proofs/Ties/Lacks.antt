@@ -1,7 +1,7 @@
 -- Where memory may be lacking.
 use Rattle.wi_cli.proofs.Vocabulary.{◌≡◌, ◌↔◌, ◌<◌, ℕ, zero, suc, true, false, List, [], ◌∷◌, length, ◌⊎◌, inl, inr, Ok, Err, refl, sym, ap, ◌∙◌, subst, arith, Contains, slice_index_or, both_ways, Refusal, State, may_grow, MayGrow, an_answer, Command, Cause, BadLine, BadCommand, CutShort, Outside, TooLarge, NoScenario, InUse, TooMany, BadField, TooLong, OutOfSheet, NumberRange, TooDeep, Syntax, LeavesSheet, Stale, Loop, Full, EditLimit, Holds, late, Answer, Tells, IsStep, causes, IsFirstOf}
 use Rattle.wi_scenarios.specs.Step as old
-use Rattle.wi_cli.proofs.Ties.Uniqueness.{first_holds, one_first}
+use Rattle.wi_scenarios.proofs.FirstCause.{first_holds, one_first}
 
 -- what is in a list is its first, or in the others
 split : {X : Type 0} (y : X) (ys : List X) (x : X) → Contains (y ∷ ys) x → (y ≡ x) ⊎ Contains ys x

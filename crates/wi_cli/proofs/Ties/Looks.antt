@@ -1,8 +1,9 @@
--- The steps of the commands that look at cells: `show`, `export`, `compare`, `formula` and `changes`.
-use Rattle.wi_cli.proofs.Vocabulary.{◌≡◌, ◌*◌, ℕ, Bool, true, false, ◌||◌, nat_lt, [], ◌∷◌, length, Option, Some, None, Ok, Err, refl, sym, ap, ◌∙◌, arith, list_any, or-false, both_ways, Area, size_of, effective, lacks, rows_shown, export_of, cells_compared, content_record, change_records, told, State, max_area, current_session, with_current, current_replacements, change_list, of_operand, Cell, Corners, is_outside, address, area, RECT, SIDE, Bytes, Show, Export, Compare, Formula, Changes, form, Cause, Outside, TooLarge, NoScenario, lies_outside, is_missing, size, SameStep, read_area, was}
+-- The steps of the commands that look at cells: `show`, `export`, `compare` and `formula`.
+use Rattle.wi_cli.proofs.Vocabulary.{◌≡◌, ◌*◌, ℕ, Bool, true, false, ◌||◌, nat_lt, [], ◌∷◌, Option, Some, None, Ok, Err, refl, sym, ap, ◌∙◌, arith, list_any, or-false, both_ways, Area, size_of, effective, lacks, rows_shown, export_of, cells_compared, content_record, State, max_area, current_replacements, of_operand, Cell, Corners, is_outside, address, area, RECT, SIDE, Bytes, Show, Export, Compare, Formula, form, Cause, Outside, TooLarge, NoScenario, lies_outside, is_missing, size, SameStep, read_area, was}
 use Rattle.wi_scenarios.specs.declared.refusal.Refusal.TheVariants as refusal
 use Rattle.wi_scenarios.specs.Step as old
-use Rattle.wi_cli.proofs.Ties.Tests.{IsTested, never, is_large, is_small, Picked, by_tests}
+use Rattle.wi_scenarios.proofs.CauseTests.{IsTested, never, is_large, is_small}
+use Rattle.wi_cli.proofs.Ties.Tests.{Picked, by_tests}
 
 -- a number of cells, as a product
 pub once : (n : ℕ) → n ≡ n * 1
@@ -114,21 +115,3 @@ module _ (s : State) (c : Cell) where
   pub same_formula : SameStep s (Formula c)
   same_formula =
       by_tests s (Formula c) formula_test formula_tested refl (λ q h. h) told_of (λ e. refl) (λ x y h k. h ∙ sym k) (was (Formula c)) (formula_picked (is_outside c) refl)
-
--- ---- no operand
-
-module _ (s : State) where
-  abbrev after_changes : State × Bytes
-  after_changes = (with_current s (told (current_session s) (change_list s) (length s.log)), change_records (change_list s))
-
-  abbrev changes_test : Cause → Bool
-  changes_test x = false
-
-  changes_tested : (x : Cause) → IsTested s Changes changes_test x
-  changes_tested Outside = (λ e. e, λ h. h)
-  changes_tested TooLarge = is_small
-  changes_tested NoScenario = (λ e. e, λ h. h)
-  changes_tested x = never
-
-  pub same_changes : SameStep s Changes
-  same_changes = by_tests s Changes changes_test changes_tested refl (λ q h. h) after_changes (λ e. refl) (λ x y h k. h ∙ sym k) (was Changes) (None, refl, refl)

@@ -3,9 +3,9 @@ use Rattle.wi_cli.proofs.Vocabulary.{◌≡◌, List, [], ◌∷◌, ◌++◌, m
 use Rattle.wi_scenarios.specs.declared.refusal.Refusal.TheVariants as refusal
 use Rattle.wi_cli.specs.Inner.Run as old_run
 use Rattle.wi_cli.specs.Reply.{refused}
-use Rattle.wi_cli.proofs.Ties.Uniqueness.{first_holds}
+use Rattle.wi_scenarios.proofs.FirstCause.{first_holds}
+use Rattle.wi_scenarios.proofs.CauseTests.{refusal_for}
 use Rattle.wi_cli.proofs.Ties.Codes.{code, first_coded, first_of}
-use Rattle.wi_cli.proofs.Ties.Tests.{refusal_for}
 use Rattle.wi_cli.proofs.Ties.Steps.{same_step}
 use Rattle.wi_cli.proofs.Ties.Wants.{same_want}
 

@@ -4,7 +4,8 @@ use Rattle.wi_parser.specs.declared.fault.ParseFault.TheVariants as parse
 use Rattle.wi_parser.specs.Contents.{too_long}
 use Rattle.wi_scenarios.specs.declared.refusal.Refusal.TheVariants as refusal
 use Rattle.wi_scenarios.specs.Step as old
-use Rattle.wi_cli.proofs.Ties.Uniqueness.{answers, same_answers, outside_step}
+use Rattle.wi_scenarios.proofs.FirstCause.{answers}
+use Rattle.wi_cli.proofs.Ties.Uniqueness.{same_answers, outside_step}
 use Rattle.wi_cli.proofs.Ties.EditSteps.{last, edit_step}
 
 -- ---- contents

@@ -1,13 +1,13 @@
 -- The step of each command is what it was, and it has one answer.
 use Rattle.wi_cli.proofs.Vocabulary.{inl, inr, Some, None, Err, refl, State, an_answer, no_other, Command, Set, Clear, Fill, Csv, Scenario, Drop, Base, Use, As, Show, Export, Compare, Table, Formula, Changes, Unknown, Unreadable, BadLine, BadCommand, was, SameStep, HasOneAnswer}
 use Rattle.wi_scenarios.specs.declared.refusal.Refusal.TheVariants as refusal
-use Rattle.wi_cli.proofs.Ties.Uniqueness.{answers}
+use Rattle.wi_scenarios.proofs.FirstCause.{answers}
 use Rattle.wi_cli.proofs.Ties.Sets.{same_set}
 use Rattle.wi_cli.proofs.Ties.Clears.{same_clear}
 use Rattle.wi_cli.proofs.Ties.Fills.{same_fill}
 use Rattle.wi_cli.proofs.Ties.CsvSteps.{same_csv}
-use Rattle.wi_cli.proofs.Ties.ScenarioSteps.{same_scenario, same_drop, same_base, same_use, same_as}
-use Rattle.wi_cli.proofs.Ties.Looks.{same_show, same_export, same_compare, same_formula, same_changes}
+use Rattle.wi_cli.proofs.Ties.ScenarioSteps.{same_scenario}
+use Rattle.wi_cli.proofs.Ties.Looks.{same_show, same_export, same_compare, same_formula}
 use Rattle.wi_cli.proofs.Ties.Tables.{same_table, same_table_of_two}
 
 unknown : (s : State) → SameStep s Unknown
@@ -22,17 +22,17 @@ same_step s (Clear force rect) = same_clear s force rect
 same_step s (Fill force at rect) = same_fill s force at rect
 same_step s (Csv force at n lines) = same_csv s force at n lines
 same_step s (Scenario name at text) = same_scenario s name at text
-same_step s (Drop name) = same_drop s name
-same_step s (Base name other) = same_base s name other
-same_step s (Use name) = same_use s name
-same_step s (As name) = same_as s name
+same_step s (Drop name) = λ a. (λ h. h, λ h. h)
+same_step s (Base name other) = λ a. (λ h. h, λ h. h)
+same_step s (Use name) = λ a. (λ h. h, λ h. h)
+same_step s (As name) = λ a. (λ h. h, λ h. h)
 same_step s (Show rect) = same_show s rect
 same_step s (Export rect) = same_export s rect
 same_step s (Compare p q rect) = same_compare s p q rect
 same_step s (Table f r xs None) = same_table s f r xs
 same_step s (Table f r xs (Some y)) = same_table_of_two s f r xs y.0 y.1
 same_step s (Formula at) = same_formula s at
-same_step s Changes = same_changes s
+same_step s Changes = λ a. (λ h. h, λ h. h)
 same_step s Unknown = unknown s
 same_step s Unreadable = unreadable s
 

@@ -3,8 +3,9 @@ use Rattle.wi_cli.proofs.Vocabulary.{◌≡◌, ◌<◌, ◌*◌, ℕ, min, max,
 use Rattle.wi_values.specs.declared.address.AddressFault.TheVariants.{Outside as AtOutside}
 use Rattle.wi_scenarios.specs.declared.refusal.Refusal.TheVariants as refusal
 use Rattle.wi_scenarios.specs.Step as old
+use Rattle.wi_scenarios.proofs.CauseTests.{found, IsTested, never, is_large}
 use Rattle.wi_cli.proofs.Ties.Looks.{once}
-use Rattle.wi_cli.proofs.Ties.Tests.{found, IsTested, never, is_large, Picked, by_tests}
+use Rattle.wi_cli.proofs.Ties.Tests.{Picked, by_tests}
 
 -- ---- faults of operands, one after another
 

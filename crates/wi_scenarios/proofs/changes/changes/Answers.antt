@@ -1,9 +1,23 @@
-use Rattle.wi_scenarios.proofs.Words.{refl, rules, arith, common_steps, false≢true}
+use Rattle.wi_scenarios.proofs.Words.{Ok, refl, rules, arith, common_steps, false≢true, state_of}
 use Rattle.wi_scenarios.proofs.ChangesLemmas.{sound_after}
+use Rattle.wi_scenarios.proofs.LookSteps.{changes_served}
 use Rattle.wi_scenarios.proofs.changes.changes.Goals as goal
 
+pub returns-in_err-found-clause-step : goal.returns-in_err-found-clause-step
+returns-in_err-found-clause-step g c =
+    let s = state_of (g.C.Calculator.stored c.args.calculator.now) c.args.desk.now in
+    changes_served s c.from_residual.result (state_of (g.C.Calculator.stored c.find.new.calculator) c.args.desk.now) c.args.out.now.items c.args.out.now.items (search rules)
+
 pub returns-in_err-tell-clause-step : goal.returns-in_err-tell-clause-step
-returns-in_err-tell-clause-step g c = grind (arith, common_steps)
+returns-in_err-tell-clause-step g c =
+    let s = state_of (g.C.Calculator.stored c.args.calculator.now) c.args.desk.now in
+    changes_served s c.from_residual-in_err-tell.result (state_of (g.C.Calculator.stored c.find.new.calculator) c.tell.new.desk)
+    c.args.out.now.items c.tell.new.out.items (grind (arith, common_steps))
+
+pub returns-clause-step : goal.returns-clause-step
+returns-clause-step g c =
+    let s = state_of (g.C.Calculator.stored c.args.calculator.now) c.args.desk.now in
+    changes_served s (Ok tt) (state_of (g.C.Calculator.stored c.find.new.calculator) c.tell.new.desk) c.args.out.now.items c.tell.new.out.items (search rules)
 
 pub returns-in_err-found-clause-quiet : goal.returns-in_err-found-clause-quiet
 returns-in_err-found-clause-quiet g c = λ none. let same = c.find.ensures.quiet none in (same.0, same.1, refl)

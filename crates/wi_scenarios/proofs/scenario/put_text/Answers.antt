@@ -17,19 +17,19 @@ returns-in_err-value g c =
 pub returns-in_err-next : goal.returns-in_err-next
 returns-in_err-next g c =
     let s = state_of (g.C.Calculator.stored c.args.calculator.now) c.args.desk.now in
-    lacked_first _ _ c.from_residual-in_err-next.result c.requires
+    lacked_first _ c.from_residual-in_err-next.result c.requires
     (put_there s c.args.name.now c.args.at (imported c.args.text.now) c.in_ok-value.value (sym c.is_full.ensures ∙ c.if-is_full.false) c.in_ok-value.ensures.value)
     c.from_residual-in_err-next.ensures.1
 
 pub returns-in_err-switch_to : goal.returns-in_err-switch_to
 returns-in_err-switch_to g c =
     let s = state_of (g.C.Calculator.stored c.args.calculator.now) c.args.desk.now in
-    lacked_last _ _ c.from_residual-in_err-switch_to.result
+    lacked_last _ c.from_residual-in_err-switch_to.result
     (put_there s c.args.name.now c.args.at (imported c.args.text.now) c.in_ok-value.value (sym c.is_full.ensures ∙ c.if-is_full.false) c.in_ok-value.ensures.value)
     c.from_residual-in_err-switch_to.ensures.1 c.in_err-switch_to.ensures
 
 pub returns : goal.returns
 returns g c =
     let s = state_of (g.C.Calculator.stored c.args.calculator.now) c.args.desk.now in
-    done_with _ _ (put_there s c.args.name.now c.args.at (imported c.args.text.now) c.in_ok-value.value (sym c.is_full.ensures ∙ c.if-is_full.false) c.in_ok-value.ensures.value)
+    done_with _ (put_there s c.args.name.now c.args.at (imported c.args.text.now) c.in_ok-value.value (sym c.is_full.ensures ∙ c.if-is_full.false) c.in_ok-value.ensures.value)
     (ap (λ (xs : List Scenario). record s { scenarios = xs }) c.in_ok-next.ensures) c.in_ok-switch_to.ensures

@@ -10,16 +10,16 @@ returns-then-not-contains g c =
 pub returns-in_err-next : goal.returns-in_err-next
 returns-in_err-next g c =
     let s = state_of (g.C.Calculator.stored c.args.calculator.now) c.args.desk.now in
-    lacked_first _ _ c.from_residual.result c.requires (taken s c.args.name.now c.args.at (sym c.contains.ensures ∙ c.if-not-contains.false)) c.from_residual.ensures.1
+    lacked_first _ c.from_residual.result c.requires (taken s c.args.name.now c.args.at (sym c.contains.ensures ∙ c.if-not-contains.false)) c.from_residual.ensures.1
 
 pub returns-in_err-switch_to : goal.returns-in_err-switch_to
 returns-in_err-switch_to g c =
     let s = state_of (g.C.Calculator.stored c.args.calculator.now) c.args.desk.now in
-    lacked_last _ _ c.from_residual-in_err-switch_to.result (taken s c.args.name.now c.args.at (sym c.contains.ensures ∙ c.if-not-contains.false))
+    lacked_last _ c.from_residual-in_err-switch_to.result (taken s c.args.name.now c.args.at (sym c.contains.ensures ∙ c.if-not-contains.false))
     c.from_residual-in_err-switch_to.ensures.1 c.in_err-switch_to.ensures
 
 pub returns : goal.returns
 returns g c =
     let s = state_of (g.C.Calculator.stored c.args.calculator.now) c.args.desk.now in
-    done_with _ _ (taken s c.args.name.now c.args.at (sym c.contains.ensures ∙ c.if-not-contains.false))
+    done_with _ (taken s c.args.name.now c.args.at (sym c.contains.ensures ∙ c.if-not-contains.false))
     (ap (λ (xs : List Scenario). record s { scenarios = xs }) c.in_ok-next.ensures) c.in_ok-switch_to.ensures

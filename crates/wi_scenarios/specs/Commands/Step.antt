@@ -1,14 +1,12 @@
--- A step as the calls of a workbook tell it, which refuse by `Refusal`, and commands with their replies one after another.
+-- A step as the calls of a workbook tell it, which refuse by `Refusal`.
 use Rattle.std.specs.Prelude.{◌≡◌, ◌⊎◌, ℕ, List, [], ◌∷◌, map, Some, Ok, Err}
 use Rattle.wi_scenarios.specs.declared.refusal.Refusal.{Refusal}
 use Rattle.wi_scenarios.specs.declared.refusal.Refusal.TheVariants as refusal
 use Rattle.wi_scenarios.specs.State.{State}
-pub use Rattle.wi_scenarios.specs.Answer.{Answer}
-use Rattle.wi_cli.specs.Lines.{Bytes}
-use Rattle.wi_cli.specs.Command.{Command}
-use Rattle.wi_cli.specs.Causes.{Cause, BadLine, BadCommand, CutShort, Outside, TooLarge, NoScenario, InUse, TooMany, BadField, TooLong, OutOfSheet, NumberRange, TooDeep, Syntax, LeavesSheet, Stale, Loop, Full, EditLimit, order, Holds, stale_cell}
-use Rattle.wi_cli.specs.Does.{Does}
-use Rattle.wi_cli.specs.Reply.{Replies}
+use Rattle.wi_scenarios.specs.Answer.{Answer}
+use Rattle.wi_scenarios.specs.Commands.Command.{Command}
+use Rattle.wi_scenarios.specs.Commands.Causes.{Cause, BadLine, BadCommand, CutShort, Outside, TooLarge, NoScenario, InUse, TooMany, BadField, TooLong, OutOfSheet, NumberRange, TooDeep, Syntax, LeavesSheet, Stale, Loop, Full, EditLimit, order, Holds, stale_cell}
+use Rattle.wi_scenarios.specs.Commands.Does.{Does}
 
 -- the refusal for a cause, which for a stale edit names the first stale cell
 abbrev pub Tells : State → Command → Cause → Refusal → Type 0
@@ -43,10 +41,3 @@ IsFirstOf s c (x ∷ xs) cause = (Holds s x c × (cause ≡ x)) ⊎ ((Holds s x 
 abbrev pub IsStep : State → Command → Answer → Type 0
 IsStep s c (Err e) = (cause : Cause) × IsFirstOf s c causes cause × Tells s c cause e
 IsStep s c (Ok done) = ((cause : Cause) → Holds s cause c → ⊥) × Does s c done
-
--- the commands have these replies, one after another, and leave this state at the end
-abbrev pub Runs : State → List Command → List Bytes → State → Type 0
-Runs s [] [] t = t ≡ s
-Runs s (c ∷ cs) (r ∷ rs) t = (mid : State) × Replies s c r mid × Runs mid cs rs t
-Runs s [] (r ∷ rs) t = ⊥
-Runs s (c ∷ cs) [] t = ⊥

@@ -1,5 +1,6 @@
 -- What a command does that is accepted.
 use Rattle.std.specs.Prelude.{◌≡◌, length, List, [], ◌∷◌, Some, option_map}
+use Rattle.wi_fraction.specs.Text.{Bytes}
 use Rattle.wi_values.specs.declared.value.Value.{Value}
 use Rattle.wi_values.specs.Imported.{IsImported}
 use Rattle.wi_scenario_list.specs.Scenarios.{scenario_for, with_scenario, without_scenario, with_own, without_own, layered}
@@ -13,10 +14,9 @@ use Rattle.wi_reports.specs.Contents.{content_record}
 use Rattle.wi_scenarios.specs.State.{State}
 use Rattle.wi_scenarios.specs.Views.{current_session, with_current, current_replacements, chain_of}
 use Rattle.wi_scenarios.specs.Changes.{change_list}
-use Rattle.wi_cli.specs.Operands.{address, area}
-use Rattle.wi_cli.specs.Lines.{Bytes}
-use Rattle.wi_cli.specs.Command.{Command, Scenario, Drop, Base, Use, As, Show, Export, Changes, Compare, Table, Formula}
-use Rattle.wi_cli.specs.Edits.{after_edit, Put, Puts}
+use Rattle.wi_scenarios.specs.Commands.Operands.{address, area}
+use Rattle.wi_scenarios.specs.Commands.Command.{Command, Scenario, Drop, Base, Use, As, Show, Export, Changes, Compare, Table, Formula}
+use Rattle.wi_scenarios.specs.Commands.Edits.{after_edit, Put, Puts}
 
 module _ (s : State) where
   -- the state with a scenario made or changed

@@ -2,6 +2,7 @@
 use Rattle.std.specs.Prelude.{◌≡◌, ◌+◌, ℕ, pos, ◌-ℤ◌, Bool, false, List, [], ◌∷◌, ◌++◌, map, filter, Option, Some, None, Ok}
 use Rattle.std.specs.List.{AllZip, concat}
 use Rattle.std.specs.Map.{keys_of}
+use Rattle.wi_fraction.specs.Text.{Bytes}
 use Rattle.wi_values.specs.Address.{Area, is_within, cells_of, row_of, column_of}
 use Rattle.wi_parser.specs.declared.content.Content.{Content}
 use Rattle.wi_parser.specs.Contents.{IsContent}
@@ -12,9 +13,8 @@ use Rattle.wi_import.specs.Imports.{AreChanges}
 use Rattle.wi_store.specs.Store.{edited, without_empty}
 use Rattle.wi_scenarios.specs.State.{State}
 use Rattle.wi_scenarios.specs.Fill.{copied}
-use Rattle.wi_cli.specs.Operands.{Cell, address, area}
-use Rattle.wi_cli.specs.Lines.{Bytes}
-use Rattle.wi_cli.specs.Command.{Command, Set, Clear, Fill, Csv}
+use Rattle.wi_scenarios.specs.Commands.Operands.{Cell, address, area}
+use Rattle.wi_scenarios.specs.Commands.Command.{Command, Set, Clear, Fill, Csv}
 
 abbrev pub is_forced : Command → Bool
 is_forced (Set force at text) = force

@@ -1,42 +1,13 @@
--- The operands of commands, and the words that spell them, whether the sheet has the cells or not.
-use Rattle.std.specs.Prelude.{◌≡◌, ◌≢◌, ◌+◌, ◌<◌, ◌≤◌, ℕ, Bool, ◌||◌, nat_le, List, [], ◌∷◌, ◌++◌, length, Option, Some, None, IsTrue, codes}
+-- The words that spell the operands of commands, whether the sheet has the cells or not.
+use Rattle.std.specs.Prelude.{◌≡◌, ◌≢◌, ◌+◌, ◌<◌, ◌≤◌, List, [], ◌∷◌, ◌++◌, length, Some, None, IsTrue, codes}
 use Rattle.std.specs.List.{list_all}
 use Rattle.std.specs.Char.{is_ascii_alphabetic}
 use Rattle.std.specs.Str.{all_ascii_digits}
 use Rattle.std.specs.Str.Parse.{digits_value}
-use Rattle.wi_values.specs.Address.{Area, rows, columns, place, rect_of, letters_value, is_row_number}
+use Rattle.wi_values.specs.Address.{letters_value, is_row_number}
 use Rattle.wi_values.specs.Name.{is_name}
+use Rattle.wi_scenarios.specs.Commands.Operands.{Cell, Corners, Operand, WORD, CONTENT, NAME, SESSION, ADDR, RECT, LINES, SIDE, ANY}
 use Rattle.wi_cli.specs.Lines.{Bytes, is_space, first_word, after_word}
-
--- a cell by its row and its column, counted from 0, of any size
-pub record Cell : Type 0 where
-  pub row : ℕ
-  pub column : ℕ
-
--- two opposite corners of a rectangle, in any order
-abbrev pub Corners : Type 0
-Corners = Cell × Cell
-
--- the sheet doesn't have the cell
-abbrev pub is_outside : Cell → Bool
-is_outside c = nat_le rows c.row || nat_le columns c.column
-
--- the address of a cell, and the rectangle of two corners, where the sheet has them
-abbrev pub address : Cell → ℕ
-address c = place c.row c.column
-
-abbrev pub area : Corners → Area
-area r = rect_of (address r.0) (address r.1)
-
-pub data Operand : Type 0 where
-  WORD CONTENT NAME SESSION : Bytes → Operand
-  ADDR : Cell → Operand
-  RECT : Corners → Operand
-  LINES : ℕ → Operand
-  -- a scenario, or `-` for the base
-  SIDE : Option Bytes → Operand
-  -- any word, which spells this cell, or none
-  ANY : Option Cell → Operand
 
 -- ADDR is ASCII letters of either case and then digits, the first not `0`.
 pub data IsAddr : Bytes → Cell → Type 0 where

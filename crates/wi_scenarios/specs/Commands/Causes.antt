@@ -2,6 +2,7 @@
 use Rattle.std.specs.Prelude.{◌≡◌, ◌≢◌, ◌*◌, ◌<◌, ◌≤◌, ◌⊎◌, ℕ, Bool, false, not, IsTrue, ◌||◌, ◌&&◌, ◌==◌, List, [], ◌∷◌, length, Option, Some, None, Err, codes}
 use Rattle.std.specs.List.{Any, list_any}
 use Rattle.std.specs.Str.{IsUtf8}
+use Rattle.wi_fraction.specs.Text.{Bytes}
 use Rattle.wi_values.specs.Address.{size_of, cells_of}
 use Rattle.wi_values.specs.Imported.{IsImported}
 use Rattle.wi_parser.specs.declared.fault.ParseFault.TheVariants as parse
@@ -12,10 +13,10 @@ use Rattle.wi_scenario_list.specs.Scenarios.{has_scenario, is_full}
 use Rattle.wi_sessions.specs.Sessions.{has_session, max_sessions}
 use Rattle.wi_scenarios.specs.State.{State, max_area}
 use Rattle.wi_scenarios.specs.Views.{current_session, chain_of}
-use Rattle.wi_cli.specs.Lines.{max_line, without_lf, Bytes}
-use Rattle.wi_cli.specs.Operands.{Cell, Corners, is_outside, address, area, Operand, ADDR, RECT, NAME, SIDE, ANY}
-use Rattle.wi_cli.specs.Command.{Command, Set, Clear, Fill, Csv, Scenario, Drop, Base, As, Table, Unknown, Unreadable, form}
-use Rattle.wi_cli.specs.Edits.{is_forced, named, fields, copy_in, Put, Puts, sheet_with}
+use Rattle.wi_scenarios.specs.Commands.DataLines.{max_line, without_lf}
+use Rattle.wi_scenarios.specs.Commands.Operands.{Cell, Corners, is_outside, address, area, Operand, ADDR, RECT, NAME, SIDE, ANY}
+use Rattle.wi_scenarios.specs.Commands.Command.{Command, Set, Clear, Fill, Csv, Scenario, Drop, Base, As, Table, Unknown, Unreadable, form}
+use Rattle.wi_scenarios.specs.Commands.Edits.{is_forced, named, fields, copy_in, Put, Puts, sheet_with}
 
 pub data Cause : Type 0 where
   BadLine BadCommand CutShort Outside TooLarge NoScenario InUse TooMany BadField TooLong OutOfSheet NumberRange TooDeep Syntax

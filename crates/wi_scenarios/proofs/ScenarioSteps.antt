@@ -1,0 +1,237 @@
+-- The steps of the commands of scenarios, by what their bodies find.
+use Rattle.wi_scenarios.proofs.Words.{◌≡◌, ◌↔◌, ◌∙◌, ◌<◌, ◌≤◌, Bool, true, false, not, ◌||◌, ◌&&◌, nat_le, List, [], ◌∷◌, ◌++◌, length, ◌⊎◌, inl, inr, Option, Some, None, Ok, Err, if◌then◌else◌, refl, sym, ap, subst, arith, leb-true, le-leb, Any, Any-weaker, Any-from_list_any, list_any, list_any-from_Any, or_cases, or-false, or-true, both_ways, bytes_eq, bytes_eq-Decides, Scenario, is_named, has_scenario, scenario_for, with_scenario, without_scenario, chain, is_name_of, is_base, lacks, based_on, would_loop, Session, new_session, max_sessions, has_session, with_session, index_of, using_scenario, State, current_session, with_current, Answer}
+use Rattle.std.specs.Prelude.{ℕ}
+use Rattle.wi_scenarios.specs.declared.refusal.Refusal.TheVariants as refusal
+use Rattle.wi_scenarios.proofs.CommandWords.{Drop, Base, Use, As, form, Cause, Outside, TooLarge, NoScenario, InUse, TooMany, Loop, Holds, is_missing, IsStep, causes}
+use Rattle.wi_scenarios.proofs.SessionLemmas.{no_place}
+use Rattle.wi_scenarios.proofs.CauseTests.{first_test, found, IsTested, never, is_small, tested_step}
+
+-- ---- names that are given
+
+named_is : (name : List ℕ) (o : Option (List ℕ)) → is_name_of name o ≡ true → o ≡ Some name
+named_is name None e = absurd (both_ways false refl e)
+named_is name (Some other) e = ap (λ (x : List ℕ). Some x) (sym ((bytes_eq-Decides name other).0 e))
+
+is_named_so : (name : List ℕ) (o : Option (List ℕ)) → o ≡ Some name → is_name_of name o ≡ true
+is_named_so name o e = ap (is_name_of name) e ∙ (bytes_eq-Decides name name).1 refl
+
+module _ {X : Type 0} (given : X → Option (List ℕ)) (name : List ℕ) (xs : List X) where
+  any_named : (list_any (λ x. is_name_of name (given x)) xs ≡ true) ↔ Any (λ x. given x ≡ Some name) xs
+  any_named = (
+    λ e. Any-weaker (λ x. is_name_of name (given x) ≡ true) (λ x. given x ≡ Some name) xs (λ x h. named_is name (given x) h) (Any-from_list_any (λ x. is_name_of name (given x)) xs e),
+    λ h. list_any-from_Any (λ x. is_name_of name (given x)) xs (Any-weaker (λ x. given x ≡ Some name) (λ x. is_name_of name (given x) ≡ true) xs (λ x k. is_named_so name (given x) k) h),
+  )
+
+-- ---- drop
+
+neither : (a b : Bool) → a ≡ false → b ≡ false → (a || b) ≡ false
+neither false b h k = k
+neither true b h k = h
+
+module _ (s : State) (name : List ℕ) where
+  -- a session uses it, or a scenario is based on it
+  abbrev pub is_in_use : Bool
+  is_in_use = list_any (λ x. is_name_of name x.scenario) s.sessions || is_base s.scenarios name
+
+  abbrev pub dropped : State × List ℕ
+  dropped = (record s { scenarios = without_scenario s.scenarios name }, [])
+
+  abbrev pub drop_test : Cause → Bool
+  drop_test NoScenario = not (has_scenario s.scenarios name) || false
+  drop_test InUse = is_in_use
+  drop_test x = false
+
+  pub drop_tested : (x : Cause) → IsTested s (Drop name) drop_test x
+  drop_tested Outside = (λ e. e, λ h. h)
+  drop_tested TooLarge = is_small
+  drop_tested NoScenario = (λ e. e, λ h. h)
+  drop_tested InUse = (λ e. by (or_cases (list_any (λ x. is_name_of name x.scenario) s.sessions) (is_base s.scenarios name) e), back)
+    where
+      by : (list_any (λ x. is_name_of name x.scenario) s.sessions ≡ true) ⊎ (is_base s.scenarios name ≡ true) → Holds s InUse (Drop name)
+      by (inl h) = inl ((any_named (λ (x : Session). x.scenario) name s.sessions).0 h)
+      by (inr h) = inr ((any_named (λ (x : Scenario). x.base) name s.scenarios).0 h)
+
+      back : Holds s InUse (Drop name) → is_in_use ≡ true
+      back (inl h) = ap (λ (b : Bool). b || is_base s.scenarios name) ((any_named (λ (x : Session). x.scenario) name s.sessions).1 h)
+      back (inr h) = ap (λ (b : Bool). list_any (λ x. is_name_of name x.scenario) s.sessions || b) ((any_named (λ (x : Scenario). x.base) name s.scenarios).1 h) ∙ or-true _
+  drop_tested x = never
+
+  answered : (o : Option Cause) → first_test drop_test causes ≡ o → IsStep s (Drop name) (found dropped o)
+  answered o e = tested_step s (Drop name) drop_test drop_tested refl (λ q h. h) dropped (λ e. refl) o e
+
+  -- the answer, and that it is the step's
+  abbrev pub drop_answer : Bool → Bool → Answer
+  drop_answer false used = Err refusal.NoScenario
+  drop_answer true true = Err refusal.InUse
+  drop_answer true false = Ok dropped
+
+  pub drop_step : (there used : Bool) → has_scenario s.scenarios name ≡ there → is_in_use ≡ used → IsStep s (Drop name) (drop_answer there used)
+  drop_step false used em eu = answered (Some NoScenario) (rw em refl)
+  drop_step true true em eu = answered (Some InUse) (rw (em, eu) refl)
+  drop_step true false em eu = answered None (rw (em, eu) refl)
+
+  pub drop_done : (next : List Scenario) → next ≡ without_scenario s.scenarios name → has_scenario s.scenarios name ≡ true → list_any (λ x. is_name_of name x.scenario) s.sessions ≡ false
+      → is_base s.scenarios name ≡ false → IsStep s (Drop name) (Ok (record s { scenarios = next }, []))
+  drop_done next e there unused free =
+      subst (λ (xs : List Scenario). IsStep s (Drop name) (Ok (record s { scenarios = xs }, []))) (sym e)
+      (drop_step true false there (neither (list_any (λ x. is_name_of name x.scenario) s.sessions) (is_base s.scenarios name) unused free))
+
+-- ---- use
+
+abbrev pub used : State → Option (List ℕ) → State
+used s name = with_current s (using_scenario (current_session s) name)
+
+abbrev pub use_test : State → Option (List ℕ) → Cause → Bool
+use_test s name NoScenario = lacks s.scenarios name
+use_test s name x = false
+
+use_tested : (s : State) (name : Option (List ℕ)) (x : Cause) → IsTested s (Use name) (use_test s name) x
+use_tested s None Outside = (λ e. e, λ h. h)
+use_tested s (Some name) Outside = (λ e. e, λ h. h)
+use_tested s None TooLarge = is_small
+use_tested s (Some name) TooLarge = is_small
+use_tested s None NoScenario = (λ e. e, λ h. h)
+use_tested s (Some name) NoScenario = (λ e. or-false _ ∙ e, λ h. sym (or-false _) ∙ h)
+use_tested s name x = never
+
+module _ (s : State) (name : Option (List ℕ)) where
+  use_answered : (o : Option Cause) → first_test (use_test s name) causes ≡ o → IsStep s (Use name) (found (used s name, []) o)
+  use_answered o e = tested_step s (Use name) (use_test s name) (use_tested s name) refl (λ q h. h) (used s name, []) (λ e. refl) o e
+
+  abbrev pub use_answer : Bool → Answer
+  use_answer true = Err refusal.NoScenario
+  use_answer false = Ok (used s name, [])
+
+  pub use_step : (missing : Bool) → lacks s.scenarios name ≡ missing → IsStep s (Use name) (use_answer missing)
+  use_step true em = use_answered (Some NoScenario) (rw em refl)
+  use_step false em = use_answered None (rw em refl)
+
+-- ---- base
+
+module _ (name : List ℕ) (xs : List Scenario) where
+  in_chain : (list_any (is_named name) xs ≡ true) ↔ Any (λ x. x.name ≡ name) xs
+  in_chain = (
+    λ e. Any-weaker (λ x. is_named name x ≡ true) (λ x. x.name ≡ name) xs (λ x h. sym ((bytes_eq-Decides name x.name).0 h)) (Any-from_list_any (is_named name) xs e),
+    λ h. list_any-from_Any (is_named name) xs (Any-weaker (λ x. x.name ≡ name) (λ x. is_named name x ≡ true) xs (λ x k. (bytes_eq-Decides name x.name).1 (sym k)) h),
+  )
+
+module _ (s : State) (name : List ℕ) (other : Option (List ℕ)) where
+  abbrev pub rebased : State
+  rebased = record s { scenarios = with_scenario s.scenarios (based_on (scenario_for s.scenarios name) other) }
+
+  abbrev pub base_test : Cause → Bool
+  base_test NoScenario = not (has_scenario s.scenarios name) || lacks s.scenarios other
+  base_test Loop = would_loop s.scenarios name other
+  base_test x = false
+
+missing_base : (s : State) (name : List ℕ) (other : Option (List ℕ)) → list_any (is_missing s) (form (Base name other)) ≡ (not (has_scenario s.scenarios name) || lacks s.scenarios other)
+missing_base s name None = refl
+missing_base s name (Some other) = ap (λ (b : Bool). not (has_scenario s.scenarios name) || b) (or-false (not (has_scenario s.scenarios other)))
+
+pub base_tested : (s : State) (name : List ℕ) (other : Option (List ℕ)) (x : Cause) → IsTested s (Base name other) (base_test s name other) x
+base_tested s name None Outside = (λ e. e, λ h. h)
+base_tested s name (Some other) Outside = (λ e. e, λ h. h)
+base_tested s name None TooLarge = is_small
+base_tested s name (Some other) TooLarge = is_small
+base_tested s name other NoScenario = (λ e. missing_base s name other ∙ e, λ h. sym (missing_base s name other) ∙ h)
+base_tested s name None Loop = never
+base_tested s name (Some other) Loop = in_chain name (chain s.scenarios (Some other))
+base_tested s name other x = never
+
+module _ (s : State) (name : List ℕ) (other : Option (List ℕ)) where
+  base_answered : (o : Option Cause) → first_test (base_test s name other) causes ≡ o → IsStep s (Base name other) (found (rebased s name other, []) o)
+  base_answered o e =
+      tested_step s (Base name other) (base_test s name other) (base_tested s name other) refl (λ q h. h) (rebased s name other, []) (λ e. refl) o e
+
+  abbrev pub base_answer : Bool → Bool → Answer
+  base_answer true loop = Err refusal.NoScenario
+  base_answer false true = Err refusal.Loop
+  base_answer false false = Ok (rebased s name other, [])
+
+  pub base_step : (missing loop : Bool) → (not (has_scenario s.scenarios name) || lacks s.scenarios other) ≡ missing → would_loop s.scenarios name other ≡ loop
+      → IsStep s (Base name other) (base_answer missing loop)
+  base_step true loop em el = base_answered (Some NoScenario) (rw em refl)
+  base_step false true em el = base_answered (Some Loop) (rw (em, el) refl)
+  base_step false false em el = base_answered None (rw (em, el) refl)
+
+-- ---- as
+
+new_of_many : (there many : Bool) → (not there && many) ≡ true → (there ≡ false) × (many ≡ true)
+new_of_many true many e = absurd (both_ways false refl e)
+new_of_many false many e = (refl, e)
+
+both : (there many : Bool) → there ≡ false → many ≡ true → (not there && many) ≡ true
+both true many h k = absurd (both_ways true h refl)
+both false many h k = k
+
+few : (n : ℕ) → n < max_sessions → nat_le max_sessions n ≡ false
+few n l = by (nat_le max_sessions n) refl
+  where
+    by : (b : Bool) → nat_le max_sessions n ≡ b → b ≡ false
+    by false k = refl
+    by true k = absurd (let m = leb-true max_sessions n k in omega (arith, l, m))
+
+module _ (s : State) (name : List ℕ) where
+  abbrev made_current : State × List ℕ
+  made_current = (record s { sessions = with_session s.sessions name; current = index_of s.sessions name }, [])
+
+  abbrev there : Bool
+  there = has_session s.sessions name
+
+  abbrev many : Bool
+  many = nat_le max_sessions (length s.sessions)
+
+  abbrev as_test : Cause → Bool
+  as_test TooMany = not there && many
+  as_test x = false
+
+  as_tested : (x : Cause) → IsTested s (As name) as_test x
+  as_tested Outside = (λ e. e, λ h. h)
+  as_tested TooLarge = is_small
+  as_tested NoScenario = (λ e. e, λ h. h)
+  as_tested TooMany = (
+    λ e. let p = new_of_many there many e in (p.0, leb-true _ _ p.1),
+    λ h. both there many h.0 (le-leb _ _ h.1),
+  )
+  as_tested x = never
+
+  as_answered : (o : Option Cause) → first_test as_test causes ≡ o → IsStep s (As name) (found made_current o)
+  as_answered o e = tested_step s (As name) as_test as_tested refl (λ q h. h) made_current (λ e. refl) o e
+
+  abbrev pub as_answer : Bool → Answer
+  as_answer true = Err refusal.TooMany
+  as_answer false = Ok made_current
+
+  pub as_step : (full : Bool) → (not (has_session s.sessions name) && nat_le max_sessions (length s.sessions)) ≡ full → IsStep s (As name) (as_answer full)
+  as_step true e = as_answered (Some TooMany) (rw e refl)
+  as_step false e = as_answered None (rw e refl)
+
+  -- with so many sessions, and none of the name
+  pub as_full : has_session s.sessions name ≡ false → max_sessions ≤ length s.sessions → IsStep s (As name) (Err refusal.TooMany)
+  as_full h l = as_step true (both there many h (le-leb _ _ l))
+
+  -- with the session, which is found there
+  pub as_there : (place : ℕ) → has_session s.sessions name ≡ true → place ≡ index_of s.sessions name → IsStep s (As name) (Ok (record s { current = place }, []))
+  as_there place h e = subst (λ (t : State). IsStep s (As name) (Ok (t, []))) same (as_step false (ap (λ (b : Bool). not b && many) h))
+    where
+      same : made_current.0 ≡ record s { current = place }
+      same =
+          ap (λ (b : Bool). record s { sessions = if b then s.sessions else s.sessions ++ new_session name ∷ []; current = index_of s.sessions name }) h
+          ∙ ap (λ (n : ℕ). record s { current = n }) (sym e)
+
+  -- with a new one behind the others
+  abbrev pub grown : State
+  grown = record s { sessions = s.sessions ++ new_session name ∷ []; current = length s.sessions }
+
+  pub as_new : (t : State) → has_session s.sessions name ≡ false → length s.sessions < max_sessions
+      → t ≡ grown → IsStep s (As name) (Ok (t, []))
+  as_new t h l e = subst (λ (u : State). IsStep s (As name) (Ok (u, []))) (same ∙ sym e) (as_step false (ap (λ (b : Bool). not there && b) (few (length s.sessions) l) ∙ and-false (not there)))
+    where
+      and-false : (b : Bool) → (b && false) ≡ false
+      and-false true = refl
+      and-false false = refl
+
+      same : made_current.0 ≡ grown
+      same =
+          ap (λ (b : Bool). record s { sessions = if b then s.sessions else s.sessions ++ new_session name ∷ []; current = index_of s.sessions name }) h
+          ∙ ap (λ (n : ℕ). record s { sessions = s.sessions ++ new_session name ∷ []; current = n }) (no_place (λ x. bytes_eq name x.name) s.sessions h)

@@ -1,0 +1,34 @@
+-- The operands of commands, whether the sheet has the cells or not.
+use Rattle.std.specs.Prelude.{ℕ, Bool, ◌||◌, nat_le, Option}
+use Rattle.wi_fraction.specs.Text.{Bytes}
+use Rattle.wi_values.specs.Address.{Area, rows, columns, place, rect_of}
+
+-- a cell by its row and its column, counted from 0, of any size
+pub record Cell : Type 0 where
+  pub row : ℕ
+  pub column : ℕ
+
+-- two opposite corners of a rectangle, in any order
+abbrev pub Corners : Type 0
+Corners = Cell × Cell
+
+-- the sheet doesn't have the cell
+abbrev pub is_outside : Cell → Bool
+is_outside c = nat_le rows c.row || nat_le columns c.column
+
+-- the address of a cell, and the rectangle of two corners, where the sheet has them
+abbrev pub address : Cell → ℕ
+address c = place c.row c.column
+
+abbrev pub area : Corners → Area
+area r = rect_of (address r.0) (address r.1)
+
+pub data Operand : Type 0 where
+  WORD CONTENT NAME SESSION : Bytes → Operand
+  ADDR : Cell → Operand
+  RECT : Corners → Operand
+  LINES : ℕ → Operand
+  -- a scenario, or `-` for the base
+  SIDE : Option Bytes → Operand
+  -- any word, which spells this cell, or none
+  ANY : Option Cell → Operand
