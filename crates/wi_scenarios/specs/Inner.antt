@@ -1,6 +1,6 @@
 -- Words of the code's own contracts. Nothing here needs belief.
 pub mod Copies
 pub mod Editing
-pub mod Held
+pub mod Sound
 pub mod Switch
 pub mod Told

@@ -5,7 +5,7 @@ ghost use Rattle.std.specs.Option.{option_copied};
 ghost use Rattle.wi_scenario_list.specs.Scenarios.{has_scenario, scenario_for, with_scenario};
 ghost use Rattle.wi_scenario_list.specs.Bases.{lacks, would_loop, based_on};
 ghost use Rattle.wi_scenarios.specs.Base.{base_step};
-ghost use Rattle.wi_scenarios.specs.Inner.Held.{state_of, IsSound, ServesSound};
+ghost use Rattle.wi_scenarios.specs.Inner.Sound.{state_of, IsSound, ServesSound};
 
 use crate::desk::Desk;
 use crate::refusal::Refusal;

@@ -8,7 +8,7 @@ ghost use Rattle.wi_scenarios.specs.Answer.{Serves};
 ghost use Rattle.wi_scenarios.specs.Changes.{change_list, changes_step};
 ghost use Rattle.wi_scenarios.specs.Pending.{Emptied, pending_for};
 ghost use Rattle.wi_scenarios.specs.Asked.{asked_by_changes};
-ghost use Rattle.wi_scenarios.specs.Inner.Held.{state_of, pending_in, IsSound};
+ghost use Rattle.wi_scenarios.specs.Inner.Sound.{state_of, pending_in, IsSound};
 ghost use Rattle.wi_scenarios.specs.Inner.Told.{IsTold};
 
 use crate::desk::Desk;

@@ -3,7 +3,7 @@
 ghost use Rattle.std.specs.Prelude.{◌≡◌, ◌++◌, ℕ, List};
 ghost use Rattle.wi_scenarios.specs.Answer.{Serves};
 ghost use Rattle.wi_scenarios.specs.Formula.{formula_step};
-ghost use Rattle.wi_scenarios.specs.Inner.Held.{state_of};
+ghost use Rattle.wi_scenarios.specs.Inner.Sound.{state_of};
 ghost use Rattle.wi_scenarios.specs.declared.desk.Desk.{Desk};
 
 use crate::refusal::Refusal;

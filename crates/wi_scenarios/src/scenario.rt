@@ -4,7 +4,7 @@ ghost use Rattle.std.specs.Prelude.{◌≡◌, true, false, Some, IfOk};
 ghost use Rattle.wi_values.specs.Inner.Import.{imported};
 ghost use Rattle.wi_scenario_list.specs.Scenarios.{has_scenario, scenario_for, with_scenario, with_own, without_own, is_full};
 ghost use Rattle.wi_scenarios.specs.Scenario.{IsScenarioStep, replacement_by, put_answer, take_away_step};
-ghost use Rattle.wi_scenarios.specs.Inner.Held.{state_of, IsSound, ServesSound};
+ghost use Rattle.wi_scenarios.specs.Inner.Sound.{state_of, IsSound, ServesSound};
 
 use crate::desk::Desk;
 use crate::refusal::Refusal;

@@ -9,7 +9,7 @@ ghost use Rattle.wi_scenarios.specs.Answer.{Serves};
 ghost use Rattle.wi_scenarios.specs.As.{as_step};
 ghost use Rattle.wi_scenarios.specs.State.{state_over};
 ghost use Rattle.wi_scenarios.specs.Pending.{HasNewSession, occupied_cells};
-ghost use Rattle.wi_scenarios.specs.Inner.Held.{state_of, pending_in, IsClosed, IsSound};
+ghost use Rattle.wi_scenarios.specs.Inner.Sound.{state_of, pending_in, IsClosed, IsSound};
 
 use crate::desk::Desk;
 use crate::refusal::Refusal;

@@ -5,7 +5,7 @@ ghost use Rattle.wi_reports.specs.Looks.{Costs};
 ghost use Rattle.wi_scenarios.specs.Answer.{Serves};
 ghost use Rattle.wi_scenarios.specs.Show.{show_step};
 ghost use Rattle.wi_scenarios.specs.Asked.{asked_by_show};
-ghost use Rattle.wi_scenarios.specs.Inner.Held.{state_of, IsSound};
+ghost use Rattle.wi_scenarios.specs.Inner.Sound.{state_of, IsSound};
 
 use crate::areas::is_too_large;
 use crate::desk::Desk;

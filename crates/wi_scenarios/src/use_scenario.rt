@@ -8,7 +8,7 @@ ghost use Rattle.wi_sessions.specs.Roster.{pending_of, vacant_of};
 ghost use Rattle.wi_scenarios.specs.Use.{use_step};
 ghost use Rattle.wi_scenarios.specs.Pending.{SameForOthers};
 ghost use Rattle.wi_scenarios.specs.Views.{current_session, current_replacements, with_current};
-ghost use Rattle.wi_scenarios.specs.Inner.Held.{state_of, pending_in, IsSound, ServesSound, MakesSound};
+ghost use Rattle.wi_scenarios.specs.Inner.Sound.{state_of, pending_in, IsSound, ServesSound, MakesSound};
 ghost use Rattle.wi_scenarios.specs.Inner.Switch.{HasRoom};
 
 use crate::desk::Desk;

@@ -53,7 +53,7 @@ pub struct Workbook<C: Calculator> {
 
 impl<C: Calculator> Model for Workbook<C> {
     ghost use Rattle.wi_scenarios.specs.Pending.{Book};
-    ghost use Rattle.wi_scenarios.specs.Inner.Held.{book_of, IsSound};
+    ghost use Rattle.wi_scenarios.specs.Inner.Sound.{book_of, IsSound};
 
     ghost Value = { Book };
 
