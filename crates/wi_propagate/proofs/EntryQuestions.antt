@@ -1,5 +1,5 @@
 -- An entry of a data table that is asked for: which cells may be read, and what is kept for longer.
-use Rattle.wi_propagate.proofs.Words.{◌≡◌, ◌==◌, ◌<◌, ◌+◌, ℕ, zero, suc, true, false, List, [], ◌∷◌, map, take, get_or, length, All, refl, sym, ap, ◌∙◌, subst, arith, eq-eqb, or_left, or_right, All-more, list_any, Replacement, Sheet, content_of, has_formula, Counts, circular, is_one_of, Case, with_what_if, IsSettled, IsWhatIfSettled, HasCase, HasReplacing, HasEntry, all_more, test_of_cells, cells_open, MemoState, MayBeRead, OneQuestion, remembered, question_state, WhereRoom, Saved, Spends, where_then}
+use Rattle.wi_propagate.proofs.Words.{◌≡◌, ◌==◌, ◌<◌, ◌+◌, ℕ, zero, suc, true, false, List, [], ◌∷◌, map, take, get_or, length, All, refl, sym, ap, ◌∙◌, subst, arith, eq-eqb, or_left, or_right, All-more, list_any, Replacement, Sheet, content_of, has_formula, Counts, circular, is_one_of, Case, with_what_if, IsSettled, IsWhatIfSettled, HasCase, HasReplacing, HasEntry, all_more, test_of_cells, cells_open, MemoState, MayBeRead, OneQuestion, remembered, question_state, WhereSpace, Saved, Spends, where_then}
 
 -- ---- the cells whose values it asks for
 
@@ -41,13 +41,13 @@ has_pair s w pairs i x less is ks h = subst (λ (p : ℕ × ℕ). HasCase s w p.
 
 module _ (s : Sheet) (w : List Replacement) (pairs : List (ℕ × ℕ)) (i : ℕ) (x : ℕ × ℕ) (less : i < length pairs) (is : x ≡ get_or pairs i x) (old mid new : MemoState) (a b c : Counts)
     (h : Spends s (HasReplacing s w pairs) old mid a b true) (k : Spends s (HasCase s w x.1) mid new b c true) where
-  pub more_settled : WhereRoom s (HasReplacing s w pairs) old (λ ks. All (λ p. IsSettled s mid.kept w p.1) (take i pairs)) → WhereRoom s (HasCase s w x.1) mid (λ ks. IsSettled s new.kept w x.1) →
-      WhereRoom s (HasReplacing s w pairs) old (λ ks. All (λ p. IsSettled s new.kept w p.1) (take (i + 1) pairs))
-  more_settled before there = λ ks closed top whole room.
-      let stays = (where_then (λ qs q. q) (has_pair s w pairs i x less is) h {P = λ qs. Saved s mid new b c qs} (k.saved refl) ks closed top whole room).stays in
-      let one = where_then (λ qs q. q) (has_pair s w pairs i x less is) h {P = λ qs. IsSettled s new.kept w x.1} there ks closed top whole room in
+  pub more_settled : WhereSpace s (HasReplacing s w pairs) old (λ ks. All (λ p. IsSettled s mid.kept w p.1) (take i pairs)) → WhereSpace s (HasCase s w x.1) mid (λ ks. IsSettled s new.kept w x.1) →
+      WhereSpace s (HasReplacing s w pairs) old (λ ks. All (λ p. IsSettled s new.kept w p.1) (take (i + 1) pairs))
+  more_settled before there = λ ks closed top whole space.
+      let stays = (where_then (λ qs q. q) (has_pair s w pairs i x less is) h {P = λ qs. Saved s mid new b c qs} (k.saved refl) ks closed top whole space).stays in
+      let one = where_then (λ qs q. q) (has_pair s w pairs i x less is) h {P = λ qs. IsSettled s new.kept w x.1} there ks closed top whole space in
       let P : ℕ × ℕ → Type 0 = λ p. IsSettled s new.kept w p.1 in
-      All-more P pairs i x less (all_more s mid.kept new.kept stays w (take i pairs) (before ks closed top whole room)) (subst P is one)
+      All-more P pairs i x less (all_more s mid.kept new.kept stays w (take i pairs) (before ks closed top whole space)) (subst P is one)
 
 -- ---- the formula cell
 
@@ -56,12 +56,12 @@ has_formula_cell s w f pairs r is ks h = subst (λ (v : List Replacement). HasCa
 
 module _ (s : Sheet) (w : List Replacement) (f : ℕ) (pairs : List (ℕ × ℕ)) (r : List Replacement) (is : r ≡ with_what_if s w pairs) (old mid new : MemoState) (a b c : Counts)
     (h : Spends s (HasReplacing s w pairs) old mid a b true) (k : Spends s (HasCase s r f) mid new b c true) where
-  pub entry_settled : WhereRoom s (HasReplacing s w pairs) old (λ ks. All (λ p. IsSettled s mid.kept w p.1) pairs) → WhereRoom s (HasCase s r f) mid (λ ks. IsSettled s new.kept r f) →
-      WhereRoom s (HasEntry s w f pairs) old (λ ks. IsWhatIfSettled s new.kept w (f, pairs))
-  entry_settled before there = λ ks closed top whole room.
-      let stays = (where_then (λ qs (q : HasEntry s w f pairs qs). q.0) (has_formula_cell s w f pairs r is) h {P = λ qs. Saved s mid new b c qs} (k.saved refl) ks closed top whole room).stays in
-      let one = where_then (λ qs (q : HasEntry s w f pairs qs). q.0) (has_formula_cell s w f pairs r is) h {P = λ qs. IsSettled s new.kept r f} there ks closed top whole room in
+  pub entry_settled : WhereSpace s (HasReplacing s w pairs) old (λ ks. All (λ p. IsSettled s mid.kept w p.1) pairs) → WhereSpace s (HasCase s r f) mid (λ ks. IsSettled s new.kept r f) →
+      WhereSpace s (HasEntry s w f pairs) old (λ ks. IsWhatIfSettled s new.kept w (f, pairs))
+  entry_settled before there = λ ks closed top whole space.
+      let stays = (where_then (λ qs (q : HasEntry s w f pairs qs). q.0) (has_formula_cell s w f pairs r is) h {P = λ qs. Saved s mid new b c qs} (k.saved refl) ks closed top whole space).stays in
+      let one = where_then (λ qs (q : HasEntry s w f pairs qs). q.0) (has_formula_cell s w f pairs r is) h {P = λ qs. IsSettled s new.kept r f} there ks closed top whole space in
       record {
-        replacing = all_more s mid.kept new.kept stays w pairs (before ks closed top.0 whole room);
+        replacing = all_more s mid.kept new.kept stays w pairs (before ks closed top.0 whole space);
         formula_cell = subst (λ (v : List Replacement). IsSettled s new.kept v f) is one;
       }

@@ -12,7 +12,7 @@ ghost use Rattle.wi_sheet.specs.Settled.{IsSettled, IsWhatIfSettled};
 ghost use Rattle.wi_sheet.specs.Inner.Spending.{HasReplacing, HasEntry, NeverFall, plus, price};
 ghost use Rattle.wi_engine.specs.Inner.MemoState.{IsMemoOf};
 ghost use Rattle.wi_engine.specs.Inner.Frames.{MayBeRead};
-ghost use Rattle.wi_engine.specs.Inner.Saving.{WhereRoom};
+ghost use Rattle.wi_engine.specs.Inner.Saving.{WhereSpace};
 ghost use Rattle.wi_engine.specs.Inner.Spends.{Spends};
 
 use std::alloc::{AllocError, Global};
@@ -98,7 +98,7 @@ pub(crate) fn open_entry<M: Memo + Drop>(
         (M.state question.old.memo) (M.state question.new.memo)
         question.old.meter question.new.meter (is_ok result) }
     ensures settled { let sheet = store.now.sheet in
-        OnOk result (WhereRoom sheet (HasEntry sheet world.now formula_cell pairs.now)
+        OnOk result (WhereSpace sheet (HasEntry sheet world.now formula_cell pairs.now)
         (M.state question.old.memo)
         (λ _. IsWhatIfSettled sheet (M.state question.new.memo).kept
         world.now (formula_cell, pairs.now))) }
@@ -125,7 +125,7 @@ fn with_inputs<M: Memo + Drop>(
         (M.state question.old.memo) (M.state question.new.memo)
         question.old.meter question.new.meter (is_ok result) }
     ensures settled { let sheet = store.now.sheet in
-        OnOk result (WhereRoom sheet (HasReplacing sheet world.now pairs.now)
+        OnOk result (WhereSpace sheet (HasReplacing sheet world.now pairs.now)
         (M.state question.old.memo)
         (λ _. All (λ x.
         IsSettled sheet (M.state question.new.memo).kept world.now x.1) pairs.now)) }
