@@ -4,5 +4,5 @@ pub mod Cones
 pub mod Keeping
 pub mod Owes
 pub mod Noted
-pub mod Settling
+pub mod Flushing
 pub mod Standing

@@ -82,7 +82,8 @@ impl Model for KeptCalculator {
     ghost invariant = { λ k. IsSome k.carried
         × AreEdgesOf k.graph.now k.store.sheet
         × (k.graph.staged ≡ None)
-        × AreKeptRight (kept_sheet k.store (told k.store.sheet k.generations.named) k.carried k.meter)
+        × AreKeptRight (kept_sheet k.store
+        (told k.store.sheet k.generations.named) k.carried k.meter)
         × AreCarriedCones k.store.sheet k.carried
         × AreKeptUp k.store.sheet k.store.edits k.generations };
 }
@@ -176,7 +177,7 @@ impl KeptCalculator {
             Standing::Formula(formula) => formula,
         };
         let world = self.worlds.world_for(self.alloc, put)?;
-        self.generations.settle(&self.graph)?;
+        self.generations.flush(&self.graph)?;
         self.widest = self.widest.max(put.len());
         let carried = take_carried(self.alloc, self.widest, &mut self.carried);
         let memo = Keeping::new(
@@ -223,7 +224,7 @@ impl KeptCalculator {
             return Ok(Value::Fault(ErrorKind::Circular));
         }
         let world = self.worlds.world_for(self.alloc, put)?;
-        self.generations.settle(&self.graph)?;
+        self.generations.flush(&self.graph)?;
         self.widest = self.widest.max(put.len());
         let carried = take_carried(self.alloc, self.widest, &mut self.carried);
         let memo = Keeping::new(

@@ -4,6 +4,7 @@
 mod calculator;
 mod carried;
 mod cones;
+mod flushing;
 mod generations;
 mod keeping;
 mod kept;
@@ -12,7 +13,6 @@ pub mod laws;
 mod occupied;
 mod plain;
 mod recurring;
-mod settling;
 mod standing;
 mod table_entry;
 mod value;
