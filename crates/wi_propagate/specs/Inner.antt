@@ -3,6 +3,6 @@ pub mod Plain
 pub mod Cones
 pub mod Keeping
 pub mod Owes
-pub mod Noted
+pub mod Stamps
 pub mod Flushing
 pub mod Standing
