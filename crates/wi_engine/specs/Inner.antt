@@ -9,7 +9,7 @@ pub mod Lists
 pub mod MemoState
 pub mod Remembered
 pub mod Saving
-pub mod Seen
+pub mod ContentRef
 pub mod SettledFrames
 pub mod Spends
 pub mod StackLists
