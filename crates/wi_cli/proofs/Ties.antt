@@ -14,8 +14,6 @@ pub mod Steps
 pub mod Lacks
 pub mod Wants
 pub mod Replies
-pub mod Events
-pub mod Chains
 pub mod Written
 pub mod Addresses
 pub mod Rects

@@ -24,4 +24,5 @@ pub mod EventLemmas
 pub mod RunLemmas
 pub mod RecordLemmas
 pub mod StaleLemmas
+pub mod ChainLemmas
 pub mod Words
