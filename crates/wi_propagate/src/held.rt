@@ -8,6 +8,7 @@ ghost use Rattle.wi_propagate.specs.Inner.Cones.{AreAllCones};
 ghost use Rattle.wi_propagate.specs.Inner.Keeping.{values_in, AreHeldCones};
 
 use crate::cones::{keep_if_few, keep_over_edit};
+use crate::plan::{Plan, begin};
 use crate::recurring::Recurring;
 use std::alloc::{AllocError, Global};
 use wi_cache::{GivenUp, Kept};
@@ -24,6 +25,8 @@ pub struct Held {
     pub given_up: GivenUp,
     /// Which replacements come back, by which values have a place in a full list.
     pub recurring: Recurring,
+    /// Plans, of which none outlives an accepted edit.
+    pub plans: Vec<Plan>,
 }
 
 impl Held {
@@ -40,6 +43,7 @@ impl Held {
             cones: Reaches::new(alloc),
             given_up: GivenUp::new(alloc),
             recurring: Recurring::new(alloc, keep),
+            plans: Vec::new(alloc),
         };
         Ok(Box::new(alloc, held)?)
     }
@@ -54,6 +58,7 @@ impl Held {
         self.cones = Reaches::new(alloc);
         self.given_up = GivenUp::new(alloc);
         self.recurring.forget();
+        self.plans = Vec::new(alloc);
     }
 }
 
@@ -83,6 +88,7 @@ pub(crate) fn take_held(alloc: Global, widest: usize, held: &mut Option<Box<Held
     let inner = &mut *taken;
     keep_if_few(alloc, widest, &mut inner.cones);
     inner.recurring.begin();
+    begin(&mut inner.plans);
     taken
 }
 
@@ -95,7 +101,10 @@ pub(crate) fn hold_over_edit(alloc: Global, graph: &Graph, held: &mut Option<Box
         → AreHeldCones s held.old → AreHeldCones t held.new }
 {
     match held {
-        Some(held) => keep_over_edit(alloc, graph, &mut held.cones),
+        Some(held) => {
+            keep_over_edit(alloc, graph, &mut held.cones);
+            held.plans.clear();
+        }
         None => {}
     }
 }

@@ -14,8 +14,11 @@ use crate::generations::Generations;
 use crate::held::Held;
 use std::alloc::{AllocError, Global};
 use std::marker::Model;
+use crate::plan::{find_by, ready_value};
+use std::mem;
 use wi_cache::{GivenUp, Kept, Key};
 use wi_engine::Memo;
+use wi_functions::Meter;
 use wi_graph::Graph;
 use wi_store::Store;
 use wi_values::{Address, Value};
@@ -25,12 +28,12 @@ use wi_worlds::World;
 /// before it ends.
 #[derive(Drop)]
 pub struct Keeping<'a> {
-    alloc: Global,
-    store: &'a Store,
-    graph: &'a Graph,
-    generations: &'a Generations,
+    pub(crate) alloc: Global,
+    pub(crate) store: &'a Store,
+    pub(crate) graph: &'a Graph,
+    pub(crate) generations: &'a Generations,
     // With the cones of the replaced cells so far, and of some before, and the values that were given up in this question.
-    held: Box<Held>,
+    pub(crate) held: Box<Held>,
     // The replacements of the last key that had some of them, and not all.
     last: World,
     // How many replacements the question came with.
@@ -121,10 +124,24 @@ impl<'a> Keeping<'a> {
 }
 
 impl<'a> Keeping<'a> {
+    /// Finds the values on which a cell rests under replacements in advance, where there is a plan for it.
+    #[inline(never)]
+    pub(crate) fn find_ahead(&mut self, at: Address, world: &World, meter: &mut Meter) -> Result<(), AllocError> {
+        if world.replacements().is_empty() {
+            return Ok(());
+        }
+        let mut plans = mem::replace(&mut self.held.plans, Vec::new(self.alloc));
+        let result = find_by(&mut plans, self, at, world, meter);
+        self.held.plans = plans;
+        result
+    }
+}
+
+impl<'a> Keeping<'a> {
     /// Whether a value under replacements has a place in the list: always where one is free or the question came with as many replacements, and
     /// in a full list where they come back. If memory runs out, all stays as it was.
     #[inline(always)]
-    fn has_place(&mut self, world: &World) -> Result<bool, AllocError>
+    pub(crate) fn has_place(&mut self, world: &World) -> Result<bool, AllocError>
         ensures same { self.new ≡ self.old }
         ensures full { result ≡ Ok false
             → self.old.values.capacity ≤ length self.old.values.entries }
@@ -174,7 +191,10 @@ impl<'a> Memo for Keeping<'a> {
     fn look(&self, key: &Key) -> Option<&Value> {
         match self.held.kept.look(key) {
             Some(value) => Some(value),
-            None => self.held.given_up.look(key),
+            None => match self.held.given_up.look(key) {
+                Some(value) => Some(value),
+                None => ready_value(&self.held.plans, key),
+            },
         }
     }
 

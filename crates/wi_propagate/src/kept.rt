@@ -27,7 +27,7 @@ use crate::held::{Held, forget_held, hold_over_edit, take_held};
 use crate::keeping::Keeping;
 use crate::last_worlds::LastWorlds;
 use crate::standing::{Standing, standing_value};
-use crate::table_entry::open_entry;
+use crate::ahead::{open_planned_entry, planned_value};
 use std::alloc::{AllocError, Global};
 use std::marker::Model;
 use std::mem;
@@ -192,7 +192,7 @@ impl KeptCalculator {
             meter: self.meter,
             pool: mem::replace(&mut self.pool, Pool::new(self.alloc)),
         };
-        let result = question.formula_value(&self.store, &world, at, formula);
+        let result = planned_value(self.alloc, &mut question, &self.store, &world, at, formula);
         self.meter = question.meter;
         self.pool = question.pool;
         self.held = Some(question.memo.into_held());
@@ -239,7 +239,7 @@ impl KeptCalculator {
             meter: self.meter,
             pool: mem::replace(&mut self.pool, Pool::new(self.alloc)),
         };
-        let result = open_entry(&mut question, &self.store, &world, formula_cell, pairs);
+        let result = open_planned_entry(&mut question, &self.store, &world, formula_cell, pairs);
         self.meter = question.meter;
         self.pool = question.pool;
         self.held = Some(question.memo.into_held());

@@ -1,6 +1,7 @@
 //! Calculators: what the cells of a sheet show, and what entries of data tables show.
 #![tactic(auto)]
 
+mod ahead;
 mod calculator;
 mod cones;
 mod generations;
@@ -11,6 +12,7 @@ mod last_worlds;
 pub mod laws;
 mod occupied;
 mod plain;
+mod plan;
 mod recurring;
 mod settling;
 mod standing;

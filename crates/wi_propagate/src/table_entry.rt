@@ -110,7 +110,7 @@ pub(crate) fn open_entry<M: Memo + Drop>(
 
 /// Replacements with the inputs of an entry put in, each with the value of its replacement cell. All these values are taken
 /// before any is put.
-fn with_inputs<M: Memo + Drop>(
+pub(crate) fn with_inputs<M: Memo + Drop>(
     question: &mut Question<M>,
     store: &Store,
     world: &World,

@@ -92,6 +92,18 @@ impl Reaches {
         self.known.insert(at)
     }
 
+    /// How many of the replaced cells a cell is told to reach.
+    pub fn reaches_count(&self, at: Address, world: &World) -> usize {
+        let cells = self.reached(at);
+        let mut count = 0;
+        for replacement in world.replacements() {
+            if cells.contains(&replacement.at) {
+                count += 1;
+            }
+        }
+        count
+    }
+
     /// The cells that a cell is told to reach, in row-major order. One look-up.
     pub(crate) fn reached(&self, at: Address) -> &[Address]
         ensures value { result.now ≡ reached_cells self.now at }
