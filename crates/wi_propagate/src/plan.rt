@@ -22,7 +22,7 @@ const MAX_PLANS: usize = 4;
 const MAX_FORMULAS: usize = 100_000;
 
 /// Whether values that have no place in a full list stay in the plan's places.
-const STAY_IN_PLACES: bool = false;
+const STAY_IN_PLACES: bool = true;
 
 /// A plan for a formula cell where some cells are replaced, as long as the sheet stays.
 #[derive(Drop)]
