@@ -24,6 +24,38 @@ impl Fraction {
         self.sum(other).ok_or(FractionError::Overflow)
     }
 
+    /// The sum of two whole numbers, where it fits; none where one isn't whole.
+    #[inline(always)]
+    pub fn whole_sum(&self, other: &Fraction) -> Option<Fraction>
+    {
+        if self.denominator.get() == 1 && other.denominator.get() == 1 {
+            return Some(integer(total(self.numerator.get(), other.numerator.get())?));
+        }
+        None
+    }
+
+    /// The difference of two whole numbers, as `whole_sum`.
+    #[inline(always)]
+    pub fn whole_difference(&self, other: &Fraction) -> Option<Fraction>
+    {
+        if self.denominator.get() == 1 && other.denominator.get() == 1 {
+            return Some(integer(total(self.numerator.get(), -other.numerator.get())?));
+        }
+        None
+    }
+
+    /// The product of two whole numbers of one word, as `whole_sum`.
+    #[inline(always)]
+    pub fn whole_product(&self, other: &Fraction) -> Option<Fraction>
+    {
+        if self.denominator.get() == 1 && other.denominator.get() == 1 {
+            let x = i64::try_from(self.numerator.get()).ok()?;
+            let y = i64::try_from(other.numerator.get()).ok()?;
+            return Some(integer(i128::from(x) * i128::from(y)));
+        }
+        None
+    }
+
     /// The difference, which overflows where the sum with the second negated does.
     #[tactic(auto, using(crate::proofs::Values::difference_value))]
     pub fn checked_sub(self, other: Fraction) -> Result<Fraction, FractionError>

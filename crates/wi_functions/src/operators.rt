@@ -34,6 +34,11 @@ pub(crate) fn operate(
     ensures { MatchResult result (λ v. v ≡ operate operator left.now right.now)
         (λ s. s ≡ Stop.Memory) }
 {
+    if let (Value::Number(x), Value::Number(y)) = (left, right) {
+        if let Some(value) = of_whole(operator, x, y) {
+            return Ok(value);
+        }
+    }
     match operator {
         Operator::Add => Ok(number_value(sum(left, right))),
         Operator::Subtract => Ok(number_value(difference(left, right))),
@@ -145,5 +150,22 @@ fn truth(left: &Value, right: &Value, holds: bool) -> Value
     match both(no_error(left), no_error(right)) {
         Ok(_) => Value::Logical(holds),
         Err(e) => Value::Fault(e),
+    }
+}
+
+/// What some operators give for whole numbers, where it fits.
+#[inline(always)]
+pub(crate) fn of_whole(operator: Operator, x: &Fraction, y: &Fraction) -> Option<Value> {
+    match operator {
+        Operator::Add => Some(Value::Number(x.whole_sum(y)?)),
+        Operator::Subtract => Some(Value::Number(x.whole_difference(y)?)),
+        Operator::Multiply => Some(Value::Number(x.whole_product(y)?)),
+        Operator::Less => Some(Value::Logical(x < y)),
+        Operator::LessOrEqual => Some(Value::Logical(x <= y)),
+        Operator::Greater => Some(Value::Logical(y < x)),
+        Operator::GreaterOrEqual => Some(Value::Logical(y <= x)),
+        Operator::Equal => Some(Value::Logical(x == y)),
+        Operator::NotEqual => Some(Value::Logical(x != y)),
+        _ => None,
     }
 }
