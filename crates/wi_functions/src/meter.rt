@@ -48,6 +48,12 @@ impl Meter {
         self.restarts
     }
 
+    /// Counts so many evaluations that are done.
+    pub fn count_evaluations(&mut self, count: u64)
+    {
+        self.evaluations = self.evaluations.saturating_add(count);
+    }
+
     /// Counts an evaluation that is done.
     pub(crate) fn count_evaluation(&mut self)
         ensures { self.new ≡ record self.old { evaluations = one_more self.old.evaluations } }

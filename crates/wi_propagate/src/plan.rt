@@ -9,7 +9,7 @@ use std::collections::{BTreeMap, HashMap};
 use wi_arguments::{LookedUp, Lookup};
 use wi_cache::Key;
 use wi_engine::Memo;
-use wi_functions::{Meter, Outcome, evaluate};
+use wi_functions::{Meter, Outcome, Placed, evaluate, placed, placed_value, zero_for_empty};
 use wi_parser::{Content, Formula, Pair};
 use wi_store::Store;
 use wi_values::{Address, Rect, Value};
@@ -63,6 +63,8 @@ struct Outside {
 struct Step {
     cell: Address,
     formula: Formula,
+    // The same over places, where it has that form.
+    placed: Option<Placed>,
     generation: u64,
     from: usize,
     end: usize,
@@ -110,6 +112,11 @@ fn run_step(
     places: &[Value],
     meter: &mut Meter,
 ) -> Result<Option<Value>, AllocError> {
+    if let Some(expr) = &step.placed {
+        let value = zero_for_empty(placed_value(alloc, expr, places)?);
+        meter.count_evaluations(1);
+        return Ok(Some(value));
+    }
     let lookup = Places { reads: &reads[step.from..step.end], places };
     match evaluate(alloc, &step.formula, &lookup, meter)? {
         Outcome::Done(value) => Ok(Some(value)),
@@ -386,6 +393,7 @@ impl Plan {
                 reads.push(Read { cell: read, place: *place })?;
             }
             let end = reads.len();
+            let form = placed(alloc, formula.tree(), &cells)?;
             places.push(Value::Empty)?;
             let place = places.len() - 1;
             let _ = cells.insert(cell, place)?;
@@ -394,6 +402,7 @@ impl Plan {
                 cell,
                 generation: generations.generation_of(cell),
                 formula: formula.copy(alloc)?,
+                placed: form,
                 from,
                 end,
                 place,
