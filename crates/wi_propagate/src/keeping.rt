@@ -124,6 +124,13 @@ impl<'a> Keeping<'a> {
 }
 
 impl<'a> Keeping<'a> {
+    /// The replacements that a cell reaches.
+    pub(crate) fn part_of(&mut self, at: Address, world: &World) -> Result<World, AllocError> {
+        let held = &mut *self.held;
+        add_cones(self.graph, world, &mut held.cones)?;
+        world.reaching_by(at, &held.cones, &mut self.last)
+    }
+
     /// Finds the values on which a cell rests under replacements in advance, where there is a plan for it.
     #[inline(never)]
     pub(crate) fn find_ahead(&mut self, at: Address, world: &World, meter: &mut Meter) -> Result<(), AllocError> {

@@ -6,7 +6,7 @@ use crate::cones::add_cones;
 use crate::keeping::Keeping;
 use std::alloc::{AllocError, Global};
 use std::collections::{BTreeMap, HashMap};
-use wi_arguments::{LookedUp, Lookup};
+use wi_arguments::{LookedUp, Lookup, successor};
 use wi_cache::Key;
 use wi_engine::Memo;
 use wi_functions::{Meter, Outcome, Placed, evaluate, placed, placed_value, zero_for_empty};
@@ -37,9 +37,13 @@ pub struct Plan {
     outside: Vec<Outside>,
     // All but that of the formula cell.
     steps: Vec<Step>,
-    place_of: HashMap<Address, usize>,
-    // Under what the values stand in the places that were found in this question.
-    ready: Option<World>,
+    place_of: HashMap<Address, Stand>,
+    // Which of the inputs steps reach: each set once, as bits, with a cell that reaches it.
+    parts: Vec<PartOf>,
+    // Under what the values of each part stand in the places that were found in this question; nothing where none do.
+    ready: Vec<World>,
+    // A place of nothing.
+    empty: usize,
     stands: bool,
     asked: u32,
 }
@@ -49,6 +53,25 @@ pub struct Plan {
 struct Read {
     cell: Address,
     place: usize,
+}
+
+#[derive(Clone, Copy)]
+struct Stand {
+    place: usize,
+    part: usize,
+}
+
+#[derive(Clone, Copy)]
+struct PartOf {
+    bits: u64,
+    member: Address,
+}
+
+/// The replacements of a part, and whether values under them have a place among those that are kept.
+#[derive(Drop)]
+struct Reached {
+    world: World,
+    keeps: bool,
 }
 
 #[derive(Clone, Copy)]
@@ -69,12 +92,35 @@ struct Step {
     from: usize,
     end: usize,
     place: usize,
+    part: usize,
 }
 
 #[derive(Drop)]
 struct Places<'a> {
+    // In row-major order.
     reads: &'a [Read],
     places: &'a [Value],
+    empty: &'a Value,
+}
+
+/// So few reads are looked through in turn.
+const FEW: usize = 6;
+
+impl<'a> Places<'a> {
+    fn after(&self, at: Address) -> usize {
+        match self.reads.binary_search_by_key(&at, |read| read.cell) {
+            Ok(place) => place,
+            Err(place) => place,
+        }
+    }
+
+    #[inline(never)]
+    fn searched(&self, at: Address) -> LookedUp<'_> {
+        match self.reads.binary_search_by_key(&at, |read| read.cell) {
+            Ok(place) => LookedUp::Known(&self.places[self.reads[place].place]),
+            Err(_) => LookedUp::Known(self.empty),
+        }
+    }
 }
 
 impl<'a> Lookup for Places<'a> {
@@ -83,24 +129,33 @@ impl<'a> Lookup for Places<'a> {
 
     #[inline(always)]
     fn cell(&self, at: Address) -> LookedUp<'_> {
+        if self.reads.len() > FEW {
+            return self.searched(at);
+        }
         for read in self.reads {
             if read.cell == at {
                 return LookedUp::Known(&self.places[read.place]);
             }
         }
-        LookedUp::Missing
+        LookedUp::Known(self.empty)
     }
 
     fn what_if(&self, _formula_cell: Address, _pairs: &[Pair]) -> LookedUp<'_> {
         LookedUp::Missing
     }
 
-    fn next_value(&self, _area: Rect, from: Address) -> Option<(Address, LookedUp<'_>)> {
-        let known = self.cell(from);
-        if known.is_known_empty() {
-            return None;
+    fn next_value(&self, area: Rect, from: Address) -> Option<(Address, LookedUp<'_>)> {
+        for place in self.after(from)..self.reads.len() {
+            let read = self.reads[place];
+            if area.last() < read.cell {
+                return None;
+            }
+            let known = LookedUp::Known(&self.places[read.place]);
+            if area.contains(read.cell) && !known.is_known_empty() {
+                return Some((read.cell, known));
+            }
         }
-        Some((from, known))
+        None
     }
 }
 
@@ -110,6 +165,7 @@ fn run_step(
     step: &Step,
     reads: &[Read],
     places: &[Value],
+    empty: usize,
     meter: &mut Meter,
 ) -> Result<Option<Value>, AllocError> {
     if let Some(expr) = &step.placed {
@@ -117,7 +173,7 @@ fn run_step(
         meter.count_evaluations(1);
         return Ok(Some(value));
     }
-    let lookup = Places { reads: &reads[step.from..step.end], places };
+    let lookup = Places { reads: &reads[step.from..step.end], places, empty: &places[empty] };
     match evaluate(alloc, &step.formula, &lookup, meter)? {
         Outcome::Done(value) => Ok(Some(value)),
         Outcome::Needs(_) => Ok(None),
@@ -127,10 +183,10 @@ fn run_step(
 /// The value that a plan found in this question for a key.
 pub(crate) fn ready_value<'a>(plans: &'a [Plan], key: &Key) -> Option<&'a Value> {
     for plan in plans {
-        if let Some(world) = &plan.ready {
-            if *world == key.world {
-                if let Some(place) = plan.place_of.get(&key.cell) {
-                    return Some(&plan.places[*place]);
+        if !plan.ready.is_empty() {
+            if let Some(stand) = plan.place_of.get(&key.cell) {
+                if plan.ready[stand.part] == key.world {
+                    return Some(&plan.places[stand.place]);
                 }
             }
         }
@@ -141,7 +197,9 @@ pub(crate) fn ready_value<'a>(plans: &'a [Plan], key: &Key) -> Option<&'a Value>
 /// Nothing stands in places for the next question.
 pub(crate) fn begin(plans: &mut Vec<Plan>) {
     for plan in plans.iter_mut() {
-        plan.ready = None;
+        if !plan.ready.is_empty() {
+            plan.ready.clear();
+        }
     }
 }
 
@@ -160,14 +218,14 @@ impl Plan {
 
     /// Finds the values on which the formula cell rests, which then are remembered.
     fn run(&mut self, memo: &mut Keeping, world: &World, meter: &mut Meter) -> Result<(), AllocError> {
-        if self.ready.is_some() {
+        if !self.ready.is_empty() {
             return Ok(());
         }
         let alloc = memo.alloc;
         let mut key = Key {
             cell: self.formula_cell,
             generation: self.generation,
-            world: world.copy()?,
+            world: memo.part_of(self.formula_cell, world)?,
         };
         memo.held.given_up.catch_up(&key)?;
         if memo.look(&key).is_some() {
@@ -189,52 +247,47 @@ impl Plan {
             self.places[place] = replacement.value.copy(alloc)?;
             place += 1;
         }
-        if STAY_IN_PLACES {
-            let keeps = memo.has_place(world)?;
-            for step in &self.steps {
-                key.cell = step.cell;
-                key.generation = step.generation;
-                memo.held.given_up.catch_up(&key)?;
-                if let Some(value) = memo.look(&key) {
-                    self.places[step.place] = value.copy(alloc)?;
-                    continue;
-                }
-                let Some(value) = run_step(alloc, step, &self.reads, &self.places, meter)? else {
-                    return Ok(());
-                };
-                if keeps {
-                    self.places[step.place] = value.copy(alloc)?;
-                    let key = Key {
-                        cell: step.cell,
-                        generation: step.generation,
-                        world: world.copy()?,
-                    };
-                    memo.keep(key, value)?;
-                } else {
-                    self.places[step.place] = value;
-                }
-            }
-            if !keeps {
-                self.ready = Some(key.world);
-            }
-            return Ok(());
+        let mut reached = Vec::with_capacity(alloc, self.parts.len())?;
+        for part in &self.parts {
+            let inside = memo.part_of(part.member, world)?;
+            let keeps = memo.has_place(&inside)?;
+            reached.push(Reached { world: inside, keeps })?;
         }
+        let mut last = 0;
+        key.world = reached[last].world.copy()?;
+        let mut all_kept = true;
         for step in &self.steps {
-            let key = Key {
-                cell: step.cell,
-                generation: step.generation,
-                world: world.copy()?,
-            };
+            key.cell = step.cell;
+            key.generation = step.generation;
+            if step.part != last {
+                last = step.part;
+                key.world = reached[last].world.copy()?;
+            }
             memo.held.given_up.catch_up(&key)?;
             if let Some(value) = memo.look(&key) {
                 self.places[step.place] = value.copy(alloc)?;
                 continue;
             }
-            let Some(value) = run_step(alloc, step, &self.reads, &self.places, meter)? else {
+            let Some(value) = run_step(alloc, step, &self.reads, &self.places, self.empty, meter)? else {
                 return Ok(());
             };
-            self.places[step.place] = value.copy(alloc)?;
-            memo.remember(key, value)?;
+            if reached[last].keeps || !STAY_IN_PLACES {
+                self.places[step.place] = value.copy(alloc)?;
+                let key = Key {
+                    cell: step.cell,
+                    generation: step.generation,
+                    world: reached[last].world.copy()?,
+                };
+                memo.remember(key, value)?;
+            } else {
+                all_kept = false;
+                self.places[step.place] = value;
+            }
+        }
+        if !all_kept {
+            for part in reached {
+                self.ready.push(part.world)?;
+            }
         }
         Ok(())
     }
@@ -281,18 +334,21 @@ pub(crate) fn find_by(
         outside: Vec::new(alloc),
         steps: Vec::new(alloc),
         place_of: HashMap::new(alloc),
-        ready: None,
+        parts: Vec::new(alloc),
+        ready: Vec::new(alloc),
+        empty: 0,
         stands: false,
         asked: 1,
     })?;
     Ok(())
 }
 
-/// A formula whose precedents are being planned: so many of its rectangles are.
+/// A formula whose precedents are being planned: so many of the cells that it reads are.
 #[derive(Drop)]
 struct Open<'a> {
     cell: Address,
     formula: &'a Formula,
+    reads: Vec<Address>,
     next: usize,
 }
 
@@ -303,6 +359,57 @@ fn formula_in(store: &Store, at: Address) -> Option<&Formula> {
     }
 }
 
+/// The cells that a formula reads, in row-major order, each once: of larger rectangles those that are occupied or replaced.
+fn opened<'a>(
+    alloc: Global,
+    store: &Store,
+    world: &World,
+    cell: Address,
+    formula: &'a Formula,
+) -> Result<Open<'a>, AllocError> {
+    let mut found: BTreeMap<Address, bool> = BTreeMap::new(alloc);
+    for rectangle in formula.rectangles() {
+        let area = *rectangle;
+        if area.size() == 1 {
+            let _ = found.insert(area.first(), true)?;
+            continue;
+        }
+        for replacement in world.replacements() {
+            if area.contains(replacement.at) {
+                let _ = found.insert(replacement.at, true)?;
+            }
+        }
+        let mut ahead = Some(area.first());
+        while let Some(from) = ahead {
+            match store.next_occupied(area, from) {
+                Some(at) => {
+                    let _ = found.insert(at, true)?;
+                    ahead = successor(at, area.last());
+                }
+                None => ahead = None,
+            }
+        }
+    }
+    let mut reads = Vec::with_capacity(alloc, found.len())?;
+    for (at, _) in found {
+        reads.push(at)?;
+    }
+    Ok(Open { cell, formula, reads, next: 0 })
+}
+
+/// The place of a part among the parts, where it comes last if it is new.
+fn place_of_part(parts: &mut Vec<PartOf>, bits: u64, member: Address) -> Result<usize, AllocError> {
+    let mut place = 0;
+    for part in parts.iter() {
+        if part.bits == bits {
+            return Ok(place);
+        }
+        place += 1;
+    }
+    parts.push(PartOf { bits, member })?;
+    Ok(place)
+}
+
 impl Plan {
     /// Makes the plan, where it can be made.
     fn make(&mut self, memo: &mut Keeping, world: &World) -> Result<(), AllocError> {
@@ -311,12 +418,15 @@ impl Plan {
         let generations = memo.generations;
         add_cones(memo.graph, world, &mut memo.held.cones)?;
         let cones = &memo.held.cones;
-        let count = world.replacements().len();
+        if world.replacements().len() > 64 {
+            return Ok(());
+        }
         let mut places: Vec<Value> = Vec::new(alloc);
         let mut cells: BTreeMap<Address, usize> = BTreeMap::new(alloc);
-        let mut reads = Vec::new(alloc);
+        let mut reads: Vec<Read> = Vec::new(alloc);
         let mut outside = Vec::new(alloc);
         let mut place_of = HashMap::new(alloc);
+        let mut parts = Vec::new(alloc);
         for replacement in world.replacements() {
             places.push(Value::Empty)?;
             let _ = cells.insert(replacement.at, places.len() - 1)?;
@@ -328,21 +438,12 @@ impl Plan {
             return Ok(());
         }
         let mut open = Vec::new(alloc);
-        open.push(Open {
-            cell: self.formula_cell,
-            formula: root,
-            next: 0,
-        })?;
+        open.push(opened(alloc, store, world, self.formula_cell, root)?)?;
         let mut steps = Vec::new(alloc);
         'open: while let Some(top) = open.last_mut() {
-            let rectangles = top.formula.rectangles();
-            if top.next < rectangles.len() {
-                let rectangle = rectangles[top.next];
+            if top.next < top.reads.len() {
+                let cell = top.reads[top.next];
                 top.next += 1;
-                if rectangle.size() != 1 {
-                    return Ok(());
-                }
-                let cell = rectangle.first();
                 if cells.get(&cell).is_some() {
                     continue 'open;
                 }
@@ -356,8 +457,8 @@ impl Plan {
                         let _ = cells.insert(cell, places.len() - 1)?;
                     }
                     Some(Content::Formula(formula)) => {
-                        let reached = cones.reaches_count(cell, world);
-                        if reached == 0 {
+                        if cones.reached_bits(cell, world) == 0 {
+                            // What only the formula cell reads apart from the inputs is the engine's.
                             places.push(Value::Empty)?;
                             let _ = cells.insert(cell, places.len() - 1)?;
                             outside.push(Outside {
@@ -367,47 +468,47 @@ impl Plan {
                             })?;
                             continue 'open;
                         }
-                        if reached != count || !formula.inputs().is_empty() || MAX_FORMULAS <= open.len() {
+                        if !formula.inputs().is_empty() || MAX_FORMULAS <= open.len() {
                             return Ok(());
                         }
-                        open.push(Open {
-                            cell,
-                            formula,
-                            next: 0,
-                        })?;
+                        open.push(opened(alloc, store, world, cell, formula)?)?;
                     }
                 }
                 continue 'open;
             }
-            let (cell, formula) = (top.cell, top.formula);
-            let _ = open.pop();
-            if cells.get(&cell).is_some() || open.is_empty() {
+            let Some(done) = open.pop() else {
+                return Ok(());
+            };
+            if cells.get(&done.cell).is_some() || open.is_empty() {
                 continue 'open;
             }
             let from = reads.len();
-            for rectangle in formula.rectangles() {
-                let read = rectangle.first();
-                let Some(place) = cells.get(&read) else {
+            for read in &done.reads {
+                let Some(place) = cells.get(read) else {
                     return Ok(());
                 };
-                reads.push(Read { cell: read, place: *place })?;
+                reads.push(Read { cell: *read, place: *place })?;
             }
             let end = reads.len();
-            let form = placed(alloc, formula.tree(), &cells)?;
+            let form = placed(alloc, done.formula.tree(), &cells)?;
             places.push(Value::Empty)?;
             let place = places.len() - 1;
-            let _ = cells.insert(cell, place)?;
-            let _ = place_of.insert(cell, place)?;
+            let part = place_of_part(&mut parts, cones.reached_bits(done.cell, world), done.cell)?;
+            let _ = cells.insert(done.cell, place)?;
+            let _ = place_of.insert(done.cell, Stand { place, part })?;
             steps.push(Step {
-                cell,
-                generation: generations.generation_of(cell),
-                formula: formula.copy(alloc)?,
+                cell: done.cell,
+                generation: generations.generation_of(done.cell),
+                formula: done.formula.copy(alloc)?,
                 placed: form,
                 from,
                 end,
                 place,
+                part,
             })?;
         }
+        places.push(Value::Empty)?;
+        self.empty = places.len() - 1;
         self.generation = generations.generation_of(self.formula_cell);
         self.stands = !steps.is_empty();
         self.places = places;
@@ -415,6 +516,7 @@ impl Plan {
         self.outside = outside;
         self.steps = steps;
         self.place_of = place_of;
+        self.parts = parts;
         Ok(())
     }
 }

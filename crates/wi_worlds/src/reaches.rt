@@ -92,6 +92,20 @@ impl Reaches {
         self.known.insert(at)
     }
 
+    /// Which of the first 64 replaced cells a cell is told to reach, as bits.
+    pub fn reached_bits(&self, at: Address, world: &World) -> u64 {
+        let cells = self.reached(at);
+        let mut bits = 0;
+        let mut bit = 1;
+        for replacement in world.replacements() {
+            if cells.contains(&replacement.at) {
+                bits |= bit;
+            }
+            bit <<= 1;
+        }
+        bits
+    }
+
     /// How many of the replaced cells a cell is told to reach.
     pub fn reaches_count(&self, at: Address, world: &World) -> usize {
         let cells = self.reached(at);
