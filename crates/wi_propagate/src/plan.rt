@@ -459,6 +459,9 @@ impl Plan {
                     Some(Content::Formula(formula)) => {
                         if cones.reached_bits(cell, world) == 0 {
                             // What only the formula cell reads apart from the inputs is the engine's.
+                            if open.len() == 1 {
+                                continue 'open;
+                            }
                             places.push(Value::Empty)?;
                             let _ = cells.insert(cell, places.len() - 1)?;
                             outside.push(Outside {
