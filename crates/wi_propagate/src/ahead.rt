@@ -36,7 +36,7 @@ pub(crate) fn planned_value(
     if !world.replacements().is_empty() {
         question.memo.find_ahead(at, world, &mut question.meter)?;
     }
-    if !formula.inputs().is_empty() {
+    if !formula.inputs().is_empty() && question.memo.held.form.plans {
         let key = question.memo.key(at, world)?;
         if let Some(value) = question.memo.look(&key) {
             return value.copy(alloc);

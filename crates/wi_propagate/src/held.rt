@@ -8,7 +8,7 @@ ghost use Rattle.wi_propagate.specs.Inner.Cones.{AreAllCones};
 ghost use Rattle.wi_propagate.specs.Inner.Keeping.{values_in, AreHeldCones};
 
 use crate::cones::{keep_if_few, keep_over_edit};
-use crate::plan::{Plan, begin};
+use crate::plan::{Form, Plan, begin};
 use crate::recurring::Recurring;
 use std::alloc::{AllocError, Global};
 use wi_cache::{GivenUp, Kept};
@@ -27,6 +27,7 @@ pub struct Held {
     pub recurring: Recurring,
     /// Plans, of which none outlives an accepted edit.
     pub plans: Vec<Plan>,
+    pub form: Form,
 }
 
 impl Held {
@@ -44,6 +45,7 @@ impl Held {
             given_up: GivenUp::new(alloc),
             recurring: Recurring::new(alloc, keep),
             plans: Vec::new(alloc),
+            form: Form::of(keep),
         };
         Ok(Box::new(alloc, held)?)
     }

@@ -134,7 +134,7 @@ impl<'a> Keeping<'a> {
     /// Finds the values on which a cell rests under replacements in advance, where there is a plan for it.
     #[inline(never)]
     pub(crate) fn find_ahead(&mut self, at: Address, world: &World, meter: &mut Meter) -> Result<(), AllocError> {
-        if world.replacements().is_empty() {
+        if world.replacements().is_empty() || !self.held.form.plans {
             return Ok(());
         }
         let mut plans = mem::replace(&mut self.held.plans, Vec::new(self.alloc));

@@ -21,8 +21,27 @@ const MAX_PLANS: usize = 4;
 /// The most formulas of a plan.
 const MAX_FORMULAS: usize = 100_000;
 
-/// Whether values that have no place in a full list stay in the plan's places.
-const STAY_IN_PLACES: bool = true;
+/// Which form of plans is tried, chosen by the last digit of `--keep`: 0 none; 1 all values are remembered; 2 those that have no place in a full
+/// list stay in the plan's places; else that with trees over places. 7 to 9 are 1 to 3 without rectangles and parts of the inputs.
+#[derive(Clone, Copy)]
+pub struct Form {
+    pub plans: bool,
+    pub stay: bool,
+    pub placed: bool,
+    pub plain: bool,
+}
+
+impl Form {
+    pub(crate) fn of(keep: usize) -> Form {
+        let digit = keep % 10;
+        Form {
+            plans: digit != 0,
+            stay: digit != 1 && digit != 7,
+            placed: digit != 1 && digit != 2 && digit != 7 && digit != 8,
+            plain: digit > 6,
+        }
+    }
+}
 
 /// A plan for a formula cell where some cells are replaced, as long as the sheet stays.
 #[derive(Drop)]
@@ -247,6 +266,7 @@ impl Plan {
             self.places[place] = replacement.value.copy(alloc)?;
             place += 1;
         }
+        let stays = memo.held.form.stay;
         let mut reached = Vec::with_capacity(alloc, self.parts.len())?;
         for part in &self.parts {
             let inside = memo.part_of(part.member, world)?;
@@ -271,7 +291,7 @@ impl Plan {
             let Some(value) = run_step(alloc, step, &self.reads, &self.places, self.empty, meter)? else {
                 return Ok(());
             };
-            if reached[last].keeps || !STAY_IN_PLACES {
+            if reached[last].keeps || !stays {
                 self.places[step.place] = value.copy(alloc)?;
                 let key = Key {
                     cell: step.cell,
@@ -397,6 +417,24 @@ fn opened<'a>(
     Ok(Open { cell, formula, reads, next: 0 })
 }
 
+fn has_range(formula: &Formula) -> bool {
+    for rectangle in formula.rectangles() {
+        if rectangle.size() != 1 {
+            return true;
+        }
+    }
+    false
+}
+
+/// Whether all steps reach all inputs, and none reads a rectangle.
+fn is_plain(parts: &[PartOf], world: &World, ranges: bool) -> bool {
+    let count = world.replacements().len();
+    if ranges || parts.len() != 1 || count > 63 {
+        return false;
+    }
+    parts[0].bits == (1 << count) - 1
+}
+
 /// The place of a part among the parts, where it comes last if it is new.
 fn place_of_part(parts: &mut Vec<PartOf>, bits: u64, member: Address) -> Result<usize, AllocError> {
     let mut place = 0;
@@ -440,6 +478,7 @@ impl Plan {
         let mut open = Vec::new(alloc);
         open.push(opened(alloc, store, world, self.formula_cell, root)?)?;
         let mut steps = Vec::new(alloc);
+        let mut ranges = has_range(root);
         'open: while let Some(top) = open.last_mut() {
             if top.next < top.reads.len() {
                 let cell = top.reads[top.next];
@@ -485,6 +524,7 @@ impl Plan {
             if cells.get(&done.cell).is_some() || open.is_empty() {
                 continue 'open;
             }
+            ranges = ranges || has_range(done.formula);
             let from = reads.len();
             for read in &done.reads {
                 let Some(place) = cells.get(read) else {
@@ -493,7 +533,11 @@ impl Plan {
                 reads.push(Read { cell: *read, place: *place })?;
             }
             let end = reads.len();
-            let form = placed(alloc, done.formula.tree(), &cells)?;
+            let form = if memo.held.form.placed {
+                placed(alloc, done.formula.tree(), &cells)?
+            } else {
+                None
+            };
             places.push(Value::Empty)?;
             let place = places.len() - 1;
             let part = place_of_part(&mut parts, cones.reached_bits(done.cell, world), done.cell)?;
@@ -509,6 +553,9 @@ impl Plan {
                 place,
                 part,
             })?;
+        }
+        if memo.held.form.plain && !is_plain(&parts, world, ranges) {
+            return Ok(());
         }
         places.push(Value::Empty)?;
         self.empty = places.len() - 1;
