@@ -27,7 +27,7 @@ use wi_store::Store;
 use wi_values::{Address, Rect};
 use wi_worlds::World;
 
-/// How many cells a plan has at most.
+/// How many cells a plan has at most, with those that are given.
 const MAX_CELLS: usize = 10_000;
 
 /// How many steps the walk to them takes at most, one for each cell that a formula reads and one at its end.
@@ -118,7 +118,8 @@ fn inputs_of(alloc: Global, world: &World) -> Result<Vec<Address>, AllocError>
 
 // ---- the check
 
-/// Whether these cells are a plan. `true` is right whichever readers are noted.
+/// Whether these cells are a plan. `true` is right whichever readers are noted. The work is that of `rests_on` for each
+/// cell that isn't given, and a few look-ups for each; the memory is that of two sets of them.
 fn is_plan(
     alloc: Global,
     store: &Store,
