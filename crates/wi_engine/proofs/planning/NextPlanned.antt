@@ -1,5 +1,5 @@
 -- The cells of a plan, one after another.
-use Rattle.wi_engine.proofs.Words.{◌≡◌, ◌==◌, ◌||◌, ◌&&◌, not, ◌⊎◌, inl, inr, ℕ, suc, ◌+◌, ◌<◌, ◌≤◌, Bool, true, false, cond, List, ◌∷◌, ◌++◌, take, length, get_or, refl, ap, sym, ◌∙◌, subst, arith, or-false, or_cases, or_left, or_right, or_parts, and_parts, cases_lt, length-map, map-append, get_or-map, list_any, list_any-append, nat_cmp, is_at, is_at-eq, is_one_of, has_one_more, found, same_cell, Sheet, content_of, content_reads_here}
+use Rattle.wi_engine.proofs.Words.{◌≡◌, ◌==◌, ◌||◌, ◌&&◌, not, ◌⊎◌, inl, inr, ℕ, ◌+◌, ◌<◌, ◌≤◌, Bool, true, false, cond, List, ◌∷◌, ◌++◌, take, length, get_or, refl, ap, sym, ◌∙◌, subst, arith, or-false, or_cases, or_left, or_right, or_parts, and_parts, cases_lt, length-map, map-append, get_or-map, list_any, list_any-append, nat_cmp, is_at, is_at-eq, is_one_of, has_one_more, found, same_cell, Sheet, content_of, content_reads_here}
 use Rattle.std.proofs.lemmas.Bool.{not-true}
 use Rattle.std.proofs.Math.Seq.{take-append_seam, get_or-append_seam}
 use Rattle.wi_engine.specs.declared.plan.Planned.{Planned}
