@@ -26,6 +26,8 @@ mod keys;
 #[cfg(test)]
 mod plain;
 #[cfg(test)]
+mod planned;
+#[cfg(test)]
 mod range_index;
 #[cfg(test)]
 mod refused_calls;
