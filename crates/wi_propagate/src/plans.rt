@@ -9,7 +9,7 @@ ghost use Rattle.wi_propagate.specs.Inner.Planned.{ArePlans};
 
 use std::alloc::Global;
 use std::hash::{FoldHasher, Hash, Hasher};
-use wi_engine::{Memo, Plan, Question, make_plan};
+use wi_engine::{Memo, Plan, Planned, Question, make_plan};
 use wi_store::Store;
 use wi_values::{Address, Replacement};
 use wi_worlds::World;
@@ -20,8 +20,8 @@ const MOST: usize = 4;
 /// How often a cell is asked for before a plan is made for it.
 const TIMES: u32 = 3;
 
-/// How many cells a plan has at least: for fewer it takes more than it spares.
-const LEAST: usize = 8;
+/// How many cells a plan evaluates at least: for fewer it takes more than it spares.
+const LEAST: u64 = 8;
 
 /// A cell that was asked for where some cells are replaced.
 #[derive(Clone, Copy)]
@@ -74,8 +74,23 @@ impl Plans {
         None
     }
 
-    /// Makes a plan for a cell where a world's cells are replaced, if it was asked for so once more of several times. Where memory
-    /// runs out, or a plan would evaluate more than was evaluated without it, none is made.
+    /// Whether a cell may have a plan: one is there, or it wasn't asked for so often yet that one would be.
+    pub(crate) fn may_serve(&self, root: Address) -> bool {
+        for plan in &self.plans {
+            if plan.root == root {
+                return true;
+            }
+        }
+        for note in &self.notes {
+            if note.root == root && note.times >= TIMES {
+                return false;
+            }
+        }
+        true
+    }
+
+    /// Notes that a cell is asked for where a world's cells are replaced, and makes a plan for it the third time. Where memory runs
+    /// out, or a plan would evaluate more than was evaluated without it, none is made.
     pub(crate) fn note<M: Memo + Drop>(
         &mut self,
         question: &mut Question<M>,
@@ -165,8 +180,19 @@ fn inputs_of(world: &World) -> u64 {
 
 /// Whether a plan spares more than it takes: it evaluates hardly more than was evaluated without it.
 fn pays(plan: &Plan, evaluations: u64) -> bool {
-    let count = plan.cells.len() as u64;
-    plan.cells.len() >= LEAST && count <= evaluations.saturating_add(evaluations / 8)
+    let count = evaluated_cells(&plan.cells);
+    count >= LEAST && count <= evaluations.saturating_add(evaluations / 8)
+}
+
+/// How many of these cells a plan evaluates.
+fn evaluated_cells(cells: &[Planned]) -> u64 {
+    let mut count: u64 = 0;
+    for cell in cells {
+        if !cell.is_given {
+            count = count.saturating_add(1);
+        }
+    }
+    count
 }
 
 /// Whether a plan is for a cell where a world's cells are replaced.

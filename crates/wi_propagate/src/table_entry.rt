@@ -185,6 +185,9 @@ fn entry_by_plan<M: Memo + Drop>(
     if !question.memo.is_full() {
         return Ok(None);
     }
+    if !plans.may_serve(formula_cell) {
+        return Ok(None);
+    }
     let Some(inside) = inputs_at_hand(question, store, world, pairs)? else {
         return Ok(None);
     };
