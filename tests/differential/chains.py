@@ -17,16 +17,22 @@ FAR = ["B5", "B6", "F1", "G2"]
 """Cells that no formula of the chain reads, but for B5 and B6, which those of D read."""
 
 # {p} is the cell above, {q} one further up, {b} an input, {d} a cell of D or E, {r} a range, {n} a small number, {k} one from 1 to 4.
-LINKS: dict[str, float] = {
+WHOLE: dict[str, float] = {
     "MOD({p}*3+{b};97)": 6, "{p}+{b}": 5, "{p}-{q}": 3, "({p}+{q})/2": 2, "MOD({p};7)*{b}": 3, "{p}*0.5": 3, "-{p}": 1, "{p}/{b}": 1, "{p}/({q}-{n})": 1,
-    "IF({p}>{b};{p}-{b};{q}+{n})": 6, "IF({q}<{n};{p};{p}+{d})": 4, "IF({b}={n};{d};{p})": 3, "IF({b}>{n};{p};{q})": 3, "IF({p}={p};{q})": 1,
-    "IFERROR({p};{n})": 4, "IFERROR({p}/{b};{q}+{n})": 2, "IFERROR({p}+{d};{b})": 2, "IF(ISERROR({p});{n};{p})": 2, "IFNA({p};{b})": 1,
-    "CHOOSE({k};{p};{q};{d};{b})": 1, "CHOOSE(MOD({b};3)+1;{p};{q};{d})": 1, "MIN({p};{b};50)+MAX({q};{d})": 2, "ROUND({p}/7;2)": 3, "INT({p})": 2,
-    "SUM({r})-{p}": 3, "MOD(SUM({r};{p});1000)": 3, "{p}+COUNT({r})": 2, "COUNTIF({r};\">\"&{b})+{p}": 2, "SUMIF({r};\">\"&{n})+MOD({p};10)": 1,
-    "SUMPRODUCT({r};{r})/({p}+1)": 0.5, "IFNA(MATCH({b};[.C1:.C14];0);{p})": 2, "IFNA(VLOOKUP({b};[.C1:.D14];2;FALSE());{p})": 2,
-    "INDEX([.B1:.B4];{k})+{p}": 2, "INDEX({r};1)+{p}": 1, "MATCH({n};{r})+MOD({p};5)": 0.5, "VLOOKUP({n};[.C1:.C14];1)+{p}": 0.5,
-    "LEN({p})+{b}": 1, "{p}&\"\"": 0.5, "VALUE(\"0\"&{n})+{p}": 0.5, "ISNUMBER({p})+{q}": 0.5, "NA()": 0.1,
+    "IF({p}>{b};{p}-{b};{q}+{n})": 6, "IF({p}<{n};{q};{p}+{b})": 5, "IF({p}={p};{q})": 1, "IF(MOD({p};2)=0;{p}/2;{p}*3+1)": 3, "IF(ISERROR({p});{n};{p})": 2,
+    "IFERROR({p};{n})": 4, "IFERROR({p}/{b};{q}+{n})": 2, "IFERROR({p}+{b};{b})": 2, "IFNA({p};{b})": 1, "CHOOSE(MOD({p};3)+1;{p};{q};{b})": 1,
+    "MIN({p};{b};50)+MAX({q};{n})": 2, "ROUND({p}/7;2)": 3, "INT({p})": 2, "SUM({r})-{p}": 3, "MOD(SUM({r};{p});1000)": 3, "{p}+COUNT({r})": 2,
+    "COUNTIF({r};\">\"&{b})+{p}": 2, "SUMIF({r};\">\"&{n})+MOD({p};10)": 1, "SUMPRODUCT({r};{r})/({p}+1)": 0.5, "{p}+IFNA(MATCH({b};[.C1:.C14];0);1)": 2,
+    "IFNA(VLOOKUP({p};[.B1:.C14];2;FALSE());{p})": 2, "INDEX([.B1:.B4];{k})+{p}": 2, "INDEX({r};1)+{p}": 1, "MATCH({n};{r})+MOD({p};5)": 0.5,
+    "VLOOKUP({n};[.C1:.C14];1)+{p}": 0.5, "LEN({p})+{b}": 1, "{p}&\"\"": 0.5, "VALUE(\"0\"&{n})+{p}": 0.5, "ISNUMBER({p})+{q}": 0.5,
 }  # fmt: skip
+"""Formulas that evaluate the one above, whatever it shows, and so the whole chain: a plan takes no more evaluations than what is done without it."""
+PARTED: dict[str, float] = {
+    "IF({q}<{n};{p};{p}+{d})": 4, "IF({b}={n};{d};{p})": 3, "IF({b}>{n};{p};{q})": 3, "IFERROR({d};{p})": 1, "CHOOSE({k};{p};{q};{d};{b})": 1,
+    "CHOOSE(MOD({b};3)+1;{p};{q};{d})": 1, "{p}+{d}": 6, "MAX({p};{d})": 2, "IFNA(MATCH({b};[.C1:.C14];0);{p})": 1, "NA()": 0.2, "{p}+SUM([.C1:.E2])": 1,
+    "IFNA(VLOOKUP({b};[.C1:.D14];2;FALSE());{p})": 1,
+}  # fmt: skip
+"""Those that evaluate the one above at times alone, or read what stands beside the chain."""
 WHAT_IFS = ["MULTIPLE.OPERATIONS({p};{i};{c})", "{p}+MULTIPLE.OPERATIONS({q};{i};{c})", "IF({b}>{n};{p};MULTIPLE.OPERATIONS({q};{i};{c};{j};{c}))"]
 CONSTANTS = ["0", "1", "2", "3", "5", "8", "-4", "0.5", "2.75", "10", "1/3", "40", "true", "text", "'5", "#N/A"]
 STEPS: dict[str, float] = {
@@ -41,12 +47,14 @@ class ChainMaker:
     def __init__(self, random: Random) -> None:
         self.random = random
         self.length = random.randint(10, 40)
+        self.parted, self.side = random.choices([(0.0, 1), (0.03, 1), (0.06, 2), (0.3, SIDE)], [3, 3, 2, 1])[0]
+        """How many of the chain's formulas are parted, and how far down in D and E they read."""
         self.tables: list[str] = []
         self.scenarios: list[str] = []
         self.sessions = ["main"]
         self.makers: dict[str, Callable[[], list[str]]] = {
             "table": self.table, "table_again": self.table_again, "table_of_two": self.table_of_two, "input": self.input, "link": self.link,
-            "side": self.side, "far": self.far, "given": self.given, "scenario": self.scenario, "use": self.use, "session": self.session,
+            "side": self.beside, "far": self.far, "given": self.given, "scenario": self.scenario, "use": self.use, "session": self.session,
             "cycle": self.cycle, "what_if": self.what_if, "clear": self.clear, "show": self.show, "fill": self.fill, "what_ifs": self.what_ifs,
         }  # fmt: skip
 
@@ -72,13 +80,13 @@ class ChainMaker:
         """A rectangle above a row, or of constants."""
         first = self.random.randint(max(1, row - 6), row - 1)
         last = self.random.randint(first, row - 1)
-        return self.random.choices([f"[.A{first}:.A{last}]", f"[.A{first}:.B{last}]", "[.B1:.B4]", "[.C1:.C14]", "[.C1:.E6]"], [6, 3, 2, 1, 1])[0]
+        return self.random.choices([f"[.A{first}:.A{last}]", f"[.A{first}:.B{last}]", "[.B1:.B4]", "[.C1:.C14]"], [6, 3, 2, 1])[0]
 
     def formula(self, template: str, row: int) -> str:
         """A formula of the chain that stands in this row."""
-        above = row - 1
+        above, beside = row - 1, f"{self.one(['D', 'E'])}{self.random.randint(1, self.side)}"
         return "=" + template.format(
-            p=f"[.A{above}]", q=f"[.A{max(1, above - self.random.randint(0, 4))}]", b=f"[.{self.input_cell()}]", d=f"[.{self.one(['D', 'E'])}{self.random.randint(1, SIDE)}]",
+            p=f"[.A{above}]", q=f"[.A{max(1, above - self.random.randint(0, 4))}]", b=f"[.{self.input_cell()}]", d=f"[.{beside}]",
             r=self.area(row), n=self.random.randint(0, 9), k=self.random.randint(1, 4), i=f"[.{self.one(INPUTS[:2])}]", j=f"[.{self.one(INPUTS[2:])}]",
             c=f"[.C{self.random.randint(1, GIVEN)}]",
         )  # fmt: skip
@@ -87,7 +95,7 @@ class ChainMaker:
         """The formula of the chain in a row."""
         if row == 1:
             return self.one(["=[.B1]", "=[.B1]*2+1", "=[.B1]+[.B2]", "=IF([.B1]>3;[.B1];[.B2])"])
-        return self.formula(self.pick(LINKS), row)
+        return self.formula(self.pick(PARTED if self.random.random() < self.parted else WHOLE), row)
 
     def side_formula(self, column: str, row: int) -> str:
         """A formula of D, which no input reaches, or of E, which the second alone does."""
@@ -129,7 +137,7 @@ class ChainMaker:
         row = self.random.randint(1, self.length)
         return [self.put(f"A{row}", self.chained(row))]
 
-    def side(self) -> list[str]:
+    def beside(self) -> list[str]:
         column, row = self.one(["D", "E"]), self.random.randint(1, SIDE)
         return [self.put(f"{column}{row}", self.side_formula(column, row))]
 
