@@ -37,8 +37,8 @@ def deep(work: Callable[[], None]) -> None:
 
 class Generating(unittest.TestCase):
     def test_the_same_seed_draws_the_same_scripts(self) -> None:
-        for module, draw in (("generate", script), ("chains", chain_script)):
-            name = draw.__name__
+        drawers: list[tuple[str, str, Callable[[int, int], bytes]]] = [("generate", "script", script), ("chains", "chain_script", chain_script)]
+        for module, name, draw in drawers:
             words = f"import sys; from tests.differential.{module} import {name} as draw; sys.stdout.buffer.write(b''.join(draw(3, n) for n in range(50)))"
             drawn = []
             for hashing in ("1", "2"):
@@ -54,7 +54,8 @@ class Generating(unittest.TestCase):
             self.assertGreater(others[-1] - first, len(others))
 
     def test_other_seeds_and_numbers_draw_other_scripts(self) -> None:
-        for draw in (script, chain_script):
+        drawers: list[Callable[[int, int], bytes]] = [script, chain_script]
+        for draw in drawers:
             drawn = {draw(seed, number) for seed in range(10) for number in range(10)}
             self.assertEqual(len(drawn), 100)
 
