@@ -6,7 +6,8 @@ from collections.abc import Iterator
 from concurrent.futures import Future, ProcessPoolExecutor
 from dataclasses import dataclass, field
 
-from tests.differential.compare import Answer, Difference, difference, programs
+from tests.differential.chains import chain_script
+from tests.differential.compare import CHAIN_KEEPS, KEEPS, Answer, Difference, Subject, difference, programs
 from tests.differential.generate import script
 from tests.differential.shrink import shrunk
 from tests.reference.whatif import commands_of, in_deep_thread
@@ -27,6 +28,7 @@ class Options:
     seconds: float
     processes: int
     progress: bool
+    chains: bool = False
 
 
 @dataclass(frozen=True)
@@ -36,6 +38,15 @@ class Work:
     seed: int
     numbers: range
     lines: int
+    chains: bool
+
+    def script(self, number: int) -> bytes:
+        return chain_script(self.seed, number) if self.chains else script(self.seed, number, self.lines)
+
+
+def subjects(chains: bool) -> dict[str, Subject]:
+    """What is compared with the reference."""
+    return programs(PROGRAM, CHAIN_KEEPS if chains else KEEPS)
 
 
 @dataclass
@@ -58,8 +69,8 @@ def compared(work: Work) -> Result:
 
     def compare_all() -> None:
         for number in work.numbers:
-            made = script(work.seed, number, work.lines)
-            found = difference(made, programs(PROGRAM))
+            made = work.script(number)
+            found = difference(made, subjects(work.chains))
             result.scripts += 1
             result.commands += len(commands_of(made))
             if found:
@@ -73,12 +84,12 @@ def compared(work: Work) -> Result:
 
 def batches(options: Options) -> Iterator[Work]:
     for first in range(0, options.scripts, SCRIPTS_AT_ONCE):
-        yield Work(options.seed, range(first, min(first + SCRIPTS_AT_ONCE, options.scripts)), options.lines)
+        yield Work(options.seed, range(first, min(first + SCRIPTS_AT_ONCE, options.scripts)), options.lines, options.chains)
 
 
-def smaller(found: Difference) -> Difference:
+def smaller(found: Difference, chains: bool) -> Difference:
     """The same difference on a script that was made smaller."""
-    subject = {found.subject: programs(PROGRAM)[found.subject]}
+    subject = {found.subject: subjects(chains)[found.subject]}
     kept = [found]
 
     def shrink() -> None:
@@ -124,7 +135,8 @@ def run(options: Options) -> int:
                 break
             result = running.pop(0).result()
             for number, found in result.differences[: max(0, MOST_PRINTED - len(total.differences))]:
-                print(report(options.seed, number, smaller(found) if len(total.differences) < MOST_SHRUNK else found), flush=True)
+                told_of = smaller(found, options.chains) if len(total.differences) < MOST_SHRUNK else found
+                print(report(options.seed, number, told_of), flush=True)
             total.add(result)
             if options.progress and total.scripts >= printed:
                 print(f"{total.scripts} scripts, {total.commands} commands, {len(total.differences)} differences, seed {options.seed}", flush=True)
@@ -144,7 +156,8 @@ def options_of(words: list[str]) -> tuple[Options, bool]:
     parser.add_argument("--seconds", type=float, default=0, help="ends after so many seconds")
     parser.add_argument("--processes", type=int, default=2, help="how many processes")
     parser.add_argument("--progress", action="store_true", help="writes a line after each 500 scripts")
+    parser.add_argument("--chains", action="store_true", help="scripts of tables over chains of formulas, with other numbers of kept values")
     parser.add_argument("--census", action="store_true", help="counts what the scripts meet, by the reference alone")
     found = parser.parse_args(words)
     seed = time.time_ns() // 1_000_000 % 1_000_000_000 if found.seed is None else found.seed
-    return Options(found.scripts, seed, found.lines, found.seconds, found.processes, found.progress), found.census
+    return Options(found.scripts, seed, found.lines, found.seconds, found.processes, found.progress, found.chains), found.census

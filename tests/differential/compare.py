@@ -10,6 +10,8 @@ from tests.support.program import run
 
 SECONDS = 60
 KEEPS: tuple[tuple[str, ...], ...] = (("--keep", "1"), ("--keep", "2"), ())
+CHAIN_KEEPS: tuple[tuple[str, ...], ...] = (("--keep", "1"), ("--keep", "7"), ("--keep", "24"), ("--keep", "60"), ())
+"""With the smaller ones the list of kept values is full in a script of `chains.py`, so that there are plans; with none it isn't."""
 
 
 @dataclass(frozen=True)
@@ -54,9 +56,9 @@ def program(path: str, words: tuple[str, ...]) -> Subject:
     return answer
 
 
-def programs(path: str) -> dict[str, Subject]:
+def programs(path: str, keeps: tuple[tuple[str, ...], ...] = KEEPS) -> dict[str, Subject]:
     """The program with each number of kept values."""
-    return {" ".join(("whatif", *words)): program(path, words) for words in KEEPS}
+    return {" ".join(("whatif", *words)): program(path, words) for words in keeps}
 
 
 def difference(script: bytes, subjects: dict[str, Subject]) -> Difference | None:

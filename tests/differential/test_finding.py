@@ -8,6 +8,7 @@ import unittest
 from collections.abc import Callable
 
 from tests import ROOT
+from tests.differential.chains import chain_script
 from tests.differential.compare import Answer, difference, reference
 from tests.differential.finding import MOST, Answers, found_after, planted_subject
 from tests.differential.generate import script
@@ -36,17 +37,27 @@ def deep(work: Callable[[], None]) -> None:
 
 class Generating(unittest.TestCase):
     def test_the_same_seed_draws_the_same_scripts(self) -> None:
-        words = "import sys; from tests.differential.generate import script; sys.stdout.buffer.write(b''.join(script(3, n) for n in range(50)))"
-        drawn = []
-        for hashing in ("1", "2"):
-            environment = {**os.environ, "PYTHONHASHSEED": hashing}
-            drawn.append(subprocess.run([sys.executable, "-c", words], cwd=ROOT, env=environment, capture_output=True, check=True).stdout)
-        self.assertEqual(drawn[0], drawn[1])
-        self.assertEqual(drawn[0], b"".join(script(3, number) for number in range(50)))
+        drawers: list[tuple[str, str, Callable[[int, int], bytes]]] = [("generate", "script", script), ("chains", "chain_script", chain_script)]
+        for module, name, draw in drawers:
+            words = f"import sys; from tests.differential.{module} import {name} as draw; sys.stdout.buffer.write(b''.join(draw(3, n) for n in range(50)))"
+            drawn = []
+            for hashing in ("1", "2"):
+                environment = {**os.environ, "PYTHONHASHSEED": hashing}
+                drawn.append(subprocess.run([sys.executable, "-c", words], cwd=ROOT, env=environment, capture_output=True, check=True).stdout)
+            self.assertEqual(drawn[0], drawn[1])
+            self.assertEqual(drawn[0], b"".join(draw(3, number) for number in range(50)))
+
+    def test_a_chain_has_tables_with_edits_between(self) -> None:
+        for number in range(50):
+            first, *others = [at for at, line in enumerate(lines_of(chain_script(1, number))) if line.startswith(b"table ")]
+            self.assertGreater(len(others), 2)
+            self.assertGreater(others[-1] - first, len(others))
 
     def test_other_seeds_and_numbers_draw_other_scripts(self) -> None:
-        drawn = {script(seed, number) for seed in range(10) for number in range(10)}
-        self.assertEqual(len(drawn), 100)
+        drawers: list[Callable[[int, int], bytes]] = [script, chain_script]
+        for draw in drawers:
+            drawn = {draw(seed, number) for seed in range(10) for number in range(10)}
+            self.assertEqual(len(drawn), 100)
 
     def test_a_script_is_about_as_long_as_asked(self) -> None:
         for lines in (20, 60):
