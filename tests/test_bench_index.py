@@ -1,13 +1,11 @@
 """Tests of bench/index: what it makes of a small made repository, what it refuses, and that docs/index.txt is of today."""
 
-import io
 import unittest
-from contextlib import redirect_stdout
 from pathlib import Path
 
 from tests import ROOT
-from tests.support.loading import loaded
-from tests.support.scratch import ScratchTest
+from tests.support.loading import loaded, result_of
+from tests.support.scratch import ScratchTest, write_files
 
 MAP = """# Map
 
@@ -49,20 +47,14 @@ TOOL = loaded(ROOT / "bench/index")
 
 def index(root: Path, *words: str) -> tuple[int, str]:
     """Its status, and what it says."""
-    said = io.StringIO()
-    with redirect_stdout(said):
-        status = TOOL.main(["--root", str(root), *words])
-    return status, said.getvalue()
+    return result_of(TOOL, "--root", str(root), *words)
 
 
 class Index(ScratchTest):
     def setUp(self) -> None:
         super().setUp()
         self.root = self.folder.resolve()
-        for name, text in FILES.items():
-            file = self.root / name
-            file.parent.mkdir(parents=True, exist_ok=True)
-            file.write_text(text)
+        write_files(self.root, FILES)
 
     def change(self, name: str, old: str, new: str) -> None:
         text = (self.root / name).read_text()

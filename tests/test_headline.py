@@ -1,16 +1,14 @@
 """Tests of bench/headline: what it counts and refuses in a small made repository, and what the pages say of the headline of this one."""
 
-import io
 import os
 import re
 import unittest
-from contextlib import redirect_stdout
 from unittest import mock
 
 from tests import ROOT
-from tests.support.loading import loaded
+from tests.support.loading import loaded, result_of
 from tests.support.pages import blocks_of
-from tests.support.scratch import ScratchTest, made_script
+from tests.support.scratch import ScratchTest, made_script, write_files
 
 CODE = """ghost use Rattle.std.specs.Prelude.{◌≡◌, true};
 ghost use Rattle.wi_cli.specs.Outcome.{IsRun};
@@ -136,20 +134,14 @@ VALUES = "crates/wi_low/specs/Value.antt"
 
 def headline(*words: str) -> tuple[int, str]:
     """Its status, and what it says."""
-    said = io.StringIO()
-    with redirect_stdout(said):
-        status = TOOL.main(list(words))
-    return status, said.getvalue()
+    return result_of(TOOL, *words)
 
 
 class Made(ScratchTest):
     def setUp(self) -> None:
         super().setUp()
         self.root = self.folder.resolve()
-        for name, text in FILES.items():
-            file = self.root / name
-            file.parent.mkdir(parents=True, exist_ok=True)
-            file.write_text(text)
+        write_files(self.root, FILES)
         # the kit has what `records` is
         kit = self.root / "kit"
         (kit / "rattle/csv/specs").mkdir(parents=True)

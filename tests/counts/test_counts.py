@@ -11,7 +11,7 @@ from typing import Any
 
 from tests import ROOT
 from tests.support.loading import loaded
-from tests.support.scratch import ScratchTest
+from tests.support.scratch import ScratchTest, write_files
 
 BENCH = ROOT / "bench"
 watch = loaded(BENCH / "watch")
@@ -29,10 +29,7 @@ def repository(root: Path) -> None:
         "crates/low/must-fail/a.edit": "", "crates/low/must-fail/b.edit": "", "crates/low/must-fail/README.md": "",
         "crates/high/src/main.rt": CODE, "bench/crates.csv": TABLE,
     }
-    for name, text in files.items():
-        file = root / name
-        file.parent.mkdir(parents=True, exist_ok=True)
-        file.write_text(text)
+    write_files(root, files)
 
 
 def count(root: Path, *words: str) -> subprocess.CompletedProcess[str]:
@@ -68,19 +65,24 @@ class Count(CountsTest):
 
 
 class Watch(CountsTest):
-    def test_sees_provers_in_crates_alone(self) -> None:
-        prover = self.root / "rattle"
-        shutil.copy("/usr/bin/sleep", prover)
+    def seen(self, processes: list[subprocess.Popen[bytes]]) -> dict[tuple[str, str], Any]:
+        """What is seen of these processes, which end then."""
         costs: dict[tuple[str, str], Any] = {}
-        places = [self.root / "crates" / "low", self.root / "crates" / "low", self.root]
-        processes = [subprocess.Popen([prover, "20"], cwd=it) for it in places]
         try:
             time.sleep(0.2)
             watch.look(os.getpid(), self.root / "crates", costs)
         finally:
             for it in processes:
                 it.kill()
-                it.wait()
+                it.communicate()
+        return costs
+
+    def test_sees_provers_in_crates_alone(self) -> None:
+        prover = self.root / "rattle"
+        shutil.copy("/usr/bin/sleep", prover)
+        places = [self.root / "crates" / "low", self.root / "crates" / "low", self.root]
+        processes = [subprocess.Popen([prover, "20"], cwd=it) for it in places]
+        costs = self.seen(processes)
         self.assertEqual(list(costs), [("low", "")])
         self.assertEqual(sorted(costs["low", ""].seconds), sorted(it.pid for it in processes[:2]))
         self.assertTrue(0 < costs["low", ""].memory < 50_000_000, costs)
@@ -108,17 +110,10 @@ class Watch(CountsTest):
         prover, room = self.root / "rattle", self.root / "rt-edit-1-x"
         shutil.copy("/bin/bash", prover)
         room.mkdir()
-        costs: dict[tuple[str, str], Any] = {}
         begins = [str(prover), "-c", "read _", "check", "--crate-name", "low"]
         tries: list[list[str]] = [["--incremental", "/kept/seed"], ["--incremental", "/kept/1"], []]
         processes = [subprocess.Popen([*begins, *it], cwd=room, stdin=subprocess.PIPE) for it in tries]
-        try:
-            time.sleep(0.2)
-            watch.look(os.getpid(), self.root / "crates", costs)
-        finally:
-            for it in processes:
-                it.kill()
-                it.communicate()
+        costs = self.seen(processes)
         self.assertEqual(sorted(costs), [("low", "b"), ("low", "from nothing"), ("low", "seed")])
 
     def test_tells_the_speed_and_the_status(self) -> None:

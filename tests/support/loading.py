@@ -1,6 +1,8 @@
 """Programs whose names don't end in .py, as modules."""
 
+import io
 import sys
+from contextlib import redirect_stdout
 from importlib.machinery import SourceFileLoader
 from importlib.util import module_from_spec, spec_from_loader
 from pathlib import Path
@@ -17,3 +19,11 @@ def loaded(path: Path) -> ModuleType:
     sys.modules[name] = module
     loader.exec_module(module)
     return module
+
+
+def result_of(tool: ModuleType, *words: str) -> tuple[int, str]:
+    """The status of a tool that was loaded, given these words, and what it says."""
+    out = io.StringIO()
+    with redirect_stdout(out):
+        status = tool.main(list(words))
+    return status, out.getvalue()

@@ -2,6 +2,7 @@
 
 import tempfile
 import unittest
+from collections.abc import Mapping
 from pathlib import Path
 
 
@@ -15,6 +16,14 @@ class ScratchTest(unittest.TestCase):
         scratch = tempfile.TemporaryDirectory(ignore_cleanup_errors=self.is_written_until_the_end)
         self.addCleanup(scratch.cleanup)
         self.folder = Path(scratch.name)
+
+
+def write_files(root: Path, files: Mapping[str, str]) -> None:
+    """Texts as files below a folder."""
+    for name, text in files.items():
+        file = root / name
+        file.parent.mkdir(parents=True, exist_ok=True)
+        file.write_text(text)
 
 
 def made_program(path: Path, text: str) -> Path:
