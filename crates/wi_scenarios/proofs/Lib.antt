@@ -7,6 +7,7 @@ pub mod LookLemmas
 pub mod ChangesLemmas
 pub mod CsvLemmas
 pub mod CommandWords
+pub mod OperandLemmas
 pub mod FirstCause
 pub mod CauseTests
 pub mod ScenarioSteps

@@ -1,5 +1,5 @@
 -- What each call leaves.
-use Rattle.wi_scenarios.proofs.Words.{nat_lt, option_map, ◌≡◌, ◌∙◌, ℕ, ◌==◌, inl, inr, Bool, true, false, not, ◌||◌, cond, List, [], ◌∷◌, length, Option, Some, None, Result, Ok, Err, refl, sym, ap, subst, list_any, find, option_or, bytes_eq, bytes_eq-Decides, Area, size_of, cells_of, content_of, Stored, applied, StoreFault, record_areas_at, is_named, has_scenario, scenario_for, with_scenario, without_scenario, with_own, without_own, is_full, scenario_or_new, lacks, based_on, found_with, found_without, table_of, is_column, has_row, entries, rows_shown, export_of, cells_compared, content_record, effective, Refusal, BadCommand, TooLarge, NoScenario, TooMany, BadField, LeavesSheet, Stale, TooLong, State, max_area, current_replacements, Answer, when, unless, limit_of, edit_refusal, stale_in, with_stored, cell_area, fault_in, content_in, clear_edit, fill_edit, has_no_copy, has_bad_field, field_fault, contents_in, replacement_by, Call, Set, Clear, Fill, Csv, Drop, Base, Use, As, Show, Export, Changes, Compare, Table, Formula, Refused, RefusedData, IsCallStep, Event, MayHappen, IsEdited, HasScenarioChanged, Leaves}
+use Rattle.wi_scenarios.proofs.Words.{nat_lt, option_map, ◌≡◌, ◌∙◌, ℕ, ◌==◌, inl, inr, Bool, true, false, not, ◌||◌, cond, List, [], ◌∷◌, length, Option, Some, None, Result, Ok, Err, refl, sym, ap, subst, list_any, find, option_or, bytes_eq, bytes_eq-Decides, Area, size_of, cells_of, content_of, Stored, applied, StoreFault, record_areas_at, is_named, has_scenario, scenario_for, with_scenario, without_scenario, with_own, without_own, is_full, scenario_or_new, based_on, found_with, found_without, table_of, is_column, has_row, entries, Refusal, BadCommand, TooLarge, NoScenario, TooMany, BadField, LeavesSheet, Stale, TooLong, State, max_area, current_replacements, Answer, when, unless, limit_of, edit_refusal, stale_in, with_stored, cell_area, fault_in, content_in, clear_edit, fill_edit, has_no_copy, has_bad_field, field_fault, contents_in, replacement_by, Call, Set, Clear, Fill, Csv, Drop, Base, Use, As, Show, Export, Changes, Compare, Table, Formula, Refused, RefusedData, IsCallStep, Event, MayHappen, IsEdited, HasScenarioChanged, Leaves}
 use Rattle.std.proofs.Common.{is_some}
 use Rattle.wi_scenario_list.specs.Scenarios as list
 use Rattle.wi_scenarios.specs.Step.{Scenario}
@@ -130,24 +130,35 @@ outcome s (As name) a h = by a h
     by : (b : Answer) → IsCallStep s (As name) b → Outcome s (As name) b
     by (Ok done) k = ap (λ (d : State × List ℕ). d.0) k.1
     by (Err e) k = tt
-outcome s (Show area) a h =
-    done_so s (Show area) (option_or (when (nat_lt max_area (size_of area)) TooLarge) None) (s, rows_shown s.stored.sheet (current_replacements s) area) a h refl
-outcome s (Export area) a h =
-    done_so s (Export area) (option_or (when (nat_lt max_area (size_of area)) TooLarge) None) (s, export_of (rows_shown s.stored.sheet (current_replacements s) area)) a h refl
+outcome s (Show area) a h = by a h
+  where
+    by : (b : Answer) → IsCallStep s (Show area) b → Outcome s (Show area) b
+    by (Ok done) k = ap (λ (d : State × List ℕ). d.0) k.1
+    by (Err e) k = tt
+outcome s (Export area) a h = by a h
+  where
+    by : (b : Answer) → IsCallStep s (Export area) b → Outcome s (Export area) b
+    by (Ok done) k = ap (λ (d : State × List ℕ). d.0) k.1
+    by (Err e) k = tt
 outcome s Changes a h = by a h
   where
     by : (b : Answer) → IsCallStep s Changes b → Outcome s Changes b
     by (Ok done) k = ap (λ (d : State × List ℕ). d.0) k.1
     by (Err e) k = tt
-outcome s (Compare first second area) a h =
-    done_so s (Compare first second area)
-    (option_or (when (nat_lt max_area (size_of area)) TooLarge) (option_or (when (lacks s.scenarios first || lacks s.scenarios second) NoScenario) None))
-    (s, cells_compared s.stored.sheet (effective s.scenarios first) (effective s.scenarios second) area) a h refl
+outcome s (Compare first second area) a h = by a h
+  where
+    by : (b : Answer) → IsCallStep s (Compare first second area) b → Outcome s (Compare first second area) b
+    by (Ok done) k = ap (λ (d : State × List ℕ). d.0) k.1
+    by (Err e) k = tt
 outcome s (Table f r xs second) a h =
     done_so s (Table f r xs second)
     (option_or (when (not (is_column xs) || not (has_row second)) BadCommand) (option_or (when (nat_lt max_area (entries xs second)) TooLarge) None))
     (s, table_of s.stored.sheet (current_replacements s) f r xs second) a h refl
-outcome s (Formula at) a h = done_so s (Formula at) None (s, content_record s.stored.sheet at) a h refl
+outcome s (Formula at) a h = by a h
+  where
+    by : (b : Answer) → IsCallStep s (Formula at) b → Outcome s (Formula at) b
+    by (Ok done) k = ap (λ (d : State × List ℕ). d.0) k.1
+    by (Err e) k = tt
 outcome s (Refused e) a h = refused s (Refused e) e a h
 outcome s (RefusedData e) a h = refused s (RefusedData e) e a h
 

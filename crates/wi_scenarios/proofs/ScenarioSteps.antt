@@ -4,6 +4,7 @@ use Rattle.std.specs.Prelude.{ℕ}
 use Rattle.wi_scenarios.specs.declared.refusal.Refusal.TheVariants as refusal
 use Rattle.wi_scenarios.proofs.CommandWords.{Drop, Base, Use, As, form, Cause, Outside, TooLarge, NoScenario, InUse, TooMany, Loop, Holds, is_missing, IsStep, causes}
 use Rattle.wi_scenarios.proofs.SessionLemmas.{no_place}
+use Rattle.wi_scenarios.proofs.OperandLemmas.{neither}
 use Rattle.wi_scenarios.proofs.CauseTests.{first_test, found, IsTested, never, is_small, tested_step}
 
 -- ---- names that are given
@@ -23,10 +24,6 @@ module _ {X : Type 0} (given : X → Option (List ℕ)) (name : List ℕ) (xs : 
   )
 
 -- ---- drop
-
-neither : (a b : Bool) → a ≡ false → b ≡ false → (a || b) ≡ false
-neither false b h k = k
-neither true b h k = h
 
 module _ (s : State) (name : List ℕ) where
   -- a session uses it, or a scenario is based on it

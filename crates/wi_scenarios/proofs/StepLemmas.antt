@@ -1,9 +1,10 @@
 -- A call has one answer.
-use Rattle.wi_scenarios.proofs.Words.{◌≡◌, not, ◌||◌, ◌&&◌, nat_le, [], ◌∷◌, length, Ok, Err, refl, sym, ap, ◌∙◌, imported, imported_exactly, content_read, content_is_one, fields_at, some_import, no_other as no_other_import, has_scenario, has_session, max_sessions, lacks, would_loop, State, Answer, set_answer, clear_step, fill_step, csv_answer, put_answer, take_away_step, show_step, export_step, compare_step, table_step, formula_step, Call, Set, Clear, Fill, Csv, Drop, Base, Use, As, Show, Export, Changes, Compare, Table, Formula, Refused, RefusedData, IsCallStep}
+use Rattle.wi_scenarios.proofs.Words.{◌≡◌, false, not, ◌||◌, ◌&&◌, nat_le, nat_lt, [], ◌∷◌, length, Ok, Err, refl, sym, ap, ◌∙◌, imported, imported_exactly, content_read, content_is_one, fields_at, some_import, no_other as no_other_import, has_scenario, has_session, max_sessions, max_area, size_of, lacks, would_loop, State, Answer, set_answer, clear_step, fill_step, csv_answer, put_answer, take_away_step, table_step, Call, Set, Clear, Fill, Csv, Drop, Base, Use, As, Show, Export, Changes, Compare, Table, Formula, Refused, RefusedData, IsCallStep}
 use Rattle.wi_scenarios.specs.Commands.Command as command
 use Rattle.wi_scenarios.specs.Step.{Scenario}
 use Rattle.wi_scenarios.proofs.FirstCause.{one_answer}
-use Rattle.wi_scenarios.proofs.LookSteps.{after_changes, changes_step}
+use Rattle.wi_scenarios.specs.Commands.Operands.{is_outside, area, cell, corners}
+use Rattle.wi_scenarios.proofs.LookSteps.{area_answer, shown_in, show_step, exported_in, export_step, compared_in, compare_step, formula_answer, formula_step, after_changes, changes_step}
 use Rattle.wi_scenarios.proofs.ScenarioSteps.{is_in_use, drop_answer, drop_step, use_answer, use_step, base_answer, base_step, as_answer, as_step}
 
 pub an_answer : (s : State) (c : Call) → (a : Answer) × IsCallStep s c a
@@ -29,12 +30,25 @@ an_answer s (Use name) = (use_answer s name (lacks s.scenarios name), use_step s
 an_answer s (As name) =
     let full = not (has_session s.sessions name) && nat_le max_sessions (length s.sessions) in
     (as_answer s name full, as_step s name full refl)
-an_answer s (Show area) = (show_step s area, refl)
-an_answer s (Export area) = (export_step s area, refl)
+an_answer s (Show a) =
+    let r = corners a in
+    let out = is_outside r.0 || is_outside r.1 in
+    let large = nat_lt max_area (size_of (area r)) in
+    (area_answer out large false (shown_in s r (area r)), show_step s r out large refl refl)
+an_answer s (Export a) =
+    let r = corners a in
+    let out = is_outside r.0 || is_outside r.1 in
+    let large = nat_lt max_area (size_of (area r)) in
+    (area_answer out large false (exported_in s r (area r)), export_step s r out large refl refl)
 an_answer s Changes = (Ok (after_changes s), changes_step s)
-an_answer s (Compare first second area) = (compare_step s first second area, refl)
+an_answer s (Compare p q a) =
+    let r = corners a in
+    let out = is_outside r.0 || is_outside r.1 in
+    let large = nat_lt max_area (size_of (area r)) in
+    let lacking = lacks s.scenarios p || lacks s.scenarios q in
+    (area_answer out large lacking (compared_in s p q r (area r)), compare_step s p q r out large lacking refl refl refl)
 an_answer s (Table f r xs second) = (table_step s f r xs second, refl)
-an_answer s (Formula at) = (formula_step s at, refl)
+an_answer s (Formula at) = (formula_answer s (cell at) (is_outside (cell at)), formula_step s (cell at) (is_outside (cell at)) refl)
 an_answer s (Refused e) = (Err e, refl)
 an_answer s (RefusedData e) = (Err e, refl)
 
@@ -55,11 +69,11 @@ no_other s (Drop name) a b h k = one_answer s (command.Drop name) (λ x y d e. d
 no_other s (Base name other) a b h k = one_answer s (command.Base name other) (λ x y d e. d ∙ sym e) a b h k
 no_other s (Use name) a b h k = one_answer s (command.Use name) (λ x y d e. d ∙ sym e) a b h k
 no_other s (As name) a b h k = one_answer s (command.As name) (λ x y d e. d ∙ sym e) a b h k
-no_other s (Show area) a b h k = sym h ∙ k
-no_other s (Export area) a b h k = sym h ∙ k
+no_other s (Show r) a b h k = one_answer s (command.Show (corners r)) (λ x y d e. d ∙ sym e) a b h k
+no_other s (Export r) a b h k = one_answer s (command.Export (corners r)) (λ x y d e. d ∙ sym e) a b h k
 no_other s Changes a b h k = one_answer s command.Changes (λ x y d e. d ∙ sym e) a b h k
-no_other s (Compare first second area) a b h k = sym h ∙ k
+no_other s (Compare p q r) a b h k = one_answer s (command.Compare p q (corners r)) (λ x y d e. d ∙ sym e) a b h k
 no_other s (Table f r xs second) a b h k = sym h ∙ k
-no_other s (Formula at) a b h k = sym h ∙ k
+no_other s (Formula at) a b h k = one_answer s (command.Formula (cell at)) (λ x y d e. d ∙ sym e) a b h k
 no_other s (Refused e) a b h k = sym h ∙ k
 no_other s (RefusedData e) a b h k = sym h ∙ k

@@ -64,13 +64,10 @@ pub use Rattle.wi_scenarios.specs.Asked.{asked_by_changes, asked_by_compare, ask
 pub use Rattle.wi_scenarios.specs.Causes.{answer, first_cause, no_cause, unless, when}
 pub use Rattle.wi_scenarios.specs.Changes.{change_list}
 pub use Rattle.wi_scenarios.specs.Clear.{clear_edit, clear_step}
-pub use Rattle.wi_scenarios.specs.Compare.{compare_step}
 pub use Rattle.wi_scenarios.specs.Csv.{ImportOutcome, IsCsvStep, contents_in, csv_answer, field_fault, has_bad_field, imported_cells}
 pub use Rattle.wi_scenarios.specs.Edits.{Edit, edit_answer, edit_refusal, limit_of, stale_in, with_stored}
 pub use Rattle.wi_scenarios.specs.Events.{Event, ForcedIsNotStale, IsCoherent, IsFirstNewer, KeepsApart, ListsAddUp, LogGrows, MayFollow, MayHappen, RecordsTellList, StaleIsNewer, StaysCoherent, change_fields, counts_before, edits_in, edits_since, is_accepted_changes, is_newer, is_refused_before, is_told, last_shown, left_by, lists_told, logged, logged_by, state_after, unseen, with_lists}
-pub use Rattle.wi_scenarios.specs.Export.{export_step}
 pub use Rattle.wi_scenarios.specs.Fill.{columns_between, copied, copy_to, fill_edit, fill_step, has_no_copy, or_nothing, rows_between, shift_refusal}
-pub use Rattle.wi_scenarios.specs.Formula.{formula_step}
 pub use Rattle.wi_scenarios.specs.Inner.Copies.{AreCopies, CopiesAs, HasNoCopies}
 pub use Rattle.wi_scenarios.specs.Inner.Editing.{AreMarked, Commits, HasRooms, MayFail, SameBeside}
 pub use Rattle.wi_scenarios.specs.Inner.Held.{AreClosed, AreCovered, IsClosed, IsSound, IsUpToDate, MakesSound, ServesSound, pending_in, state_of}
@@ -80,7 +77,6 @@ pub use Rattle.wi_scenarios.specs.Laws.{HasScenarioChanged, IsEdited, Leaves, is
 pub use Rattle.wi_scenarios.specs.Pending.{AddsOnly, Book, IsMarked, IsTouched, SameForOthers, is_pending, counts, occupied_cells}
 pub use Rattle.wi_scenarios.specs.Scenario.{IsScenarioStep, put_answer, replacement_by, take_away_step}
 pub use Rattle.wi_scenarios.specs.Set.{IsSetStep, content_in, fault_in, set_answer, set_edit}
-pub use Rattle.wi_scenarios.specs.Show.{show_step}
 pub use Rattle.wi_scenarios.specs.State.{State, max_area, state_over}
 pub use Rattle.wi_scenarios.specs.Step.{As, Base, Call, Changes, Clear, Compare, Csv, Drop, Export, Fill, Formula, IsCallStep, Refused, RefusedData, Set, Show, Table, Use}
 pub use Rattle.wi_scenarios.specs.Table.{table_step}

@@ -4,3 +4,4 @@ pub mod Editing
 pub mod Held
 pub mod Switch
 pub mod Told
+pub mod Placed

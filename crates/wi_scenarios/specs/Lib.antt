@@ -9,12 +9,8 @@ pub mod Clear
 pub mod Fill
 pub mod Csv
 pub mod Scenario
-pub mod Show
-pub mod Export
 pub mod Changes
-pub mod Compare
 pub mod Table
-pub mod Formula
 pub mod Step
 pub mod Events
 pub mod Laws

@@ -6,17 +6,14 @@ use Rattle.wi_scenarios.specs.declared.refusal.Refusal.{Refusal}
 use Rattle.wi_scenarios.specs.State.{State}
 use Rattle.wi_scenarios.specs.Answer.{Answer, MayGrow}
 use Rattle.wi_scenarios.specs.Commands.Command as command
+use Rattle.wi_scenarios.specs.Commands.Operands.{cell, corners}
 use Rattle.wi_scenarios.specs.Commands.Step.{IsStep}
 use Rattle.wi_scenarios.specs.Set.{IsSetStep}
 use Rattle.wi_scenarios.specs.Clear.{clear_step}
 use Rattle.wi_scenarios.specs.Fill.{fill_step}
 use Rattle.wi_scenarios.specs.Csv.{IsCsvStep}
 use Rattle.wi_scenarios.specs.Scenario.{IsScenarioStep}
-use Rattle.wi_scenarios.specs.Show.{show_step}
-use Rattle.wi_scenarios.specs.Export.{export_step}
-use Rattle.wi_scenarios.specs.Compare.{compare_step}
 use Rattle.wi_scenarios.specs.Table.{table_step}
-use Rattle.wi_scenarios.specs.Formula.{formula_step}
 
 -- A call, or a line that is refused whatever the state is: `Refused` before anything grows, `RefusedData` once its data lines
 -- are there. Edits say whether they are forced; scenarios and sessions are given by name, and no name is the sheet as it stands.
@@ -50,12 +47,12 @@ IsCallStep s (Drop name) a = IsStep s (command.Drop name) a
 IsCallStep s (Base name other) a = IsStep s (command.Base name other) a
 IsCallStep s (Use name) a = IsStep s (command.Use name) a
 IsCallStep s (As name) a = IsStep s (command.As name) a
-IsCallStep s (Show area) a = show_step s area ≡ a
-IsCallStep s (Export area) a = export_step s area ≡ a
+IsCallStep s (Show area) a = IsStep s (command.Show (corners area)) a
+IsCallStep s (Export area) a = IsStep s (command.Export (corners area)) a
 IsCallStep s Changes a = IsStep s command.Changes a
-IsCallStep s (Compare first second area) a = compare_step s first second area ≡ a
+IsCallStep s (Compare first second area) a = IsStep s (command.Compare first second (corners area)) a
 IsCallStep s (Table f r xs second) a = table_step s f r xs second ≡ a
-IsCallStep s (Formula at) a = formula_step s at ≡ a
+IsCallStep s (Formula at) a = IsStep s (command.Formula (cell at)) a
 IsCallStep s (Refused e) a = Err e ≡ a
 IsCallStep s (RefusedData e) a = Err e ≡ a
 

@@ -1,10 +1,11 @@
-//! How large an area may be.
+//! How large an area may be, and that operands are of the sheet.
 
 ghost use Rattle.std.specs.Prelude.{◌≡◌, nat_lt};
 ghost use Rattle.wi_values.specs.Address.{size_of};
 ghost use Rattle.wi_scenarios.specs.State.{max_area};
+ghost use Rattle.wi_scenarios.specs.Inner.Placed.{IsPlaced, IsSpanned};
 
-use wi_values::Rect;
+use wi_values::{Address, Rect};
 
 /// How many cells, or entries of a table, may be asked for at once, or filled.
 pub const MAX_AREA: u64 = 65_536;
@@ -14,4 +15,23 @@ pub(crate) fn is_too_large(area: Rect) -> bool
     ensures { result ≡ nat_lt max_area (size_of area) }
 {
     area.size() > MAX_AREA
+}
+
+/// An address is that of a cell of the sheet. This does nothing.
+#[inline(always)]
+pub(crate) fn is_placed(at: Address)
+    ensures { IsPlaced at }
+{
+    let _ = at.row();
+}
+
+/// A rectangle is one of the sheet. This does nothing.
+#[inline(always)]
+pub(crate) fn is_spanned(area: Rect)
+    ensures { IsSpanned area }
+{
+    let _ = area.first().row();
+    let _ = area.last().row();
+    let _ = area.height();
+    let _ = area.width();
 }

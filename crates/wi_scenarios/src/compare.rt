@@ -7,11 +7,13 @@ ghost use Rattle.wi_scenario_list.specs.Bases.{lacks};
 ghost use Rattle.wi_reports.specs.Compare.{cells_compared};
 ghost use Rattle.wi_reports.specs.Looks.{Costs, comparison_cases};
 ghost use Rattle.wi_scenarios.specs.Answer.{Serves};
-ghost use Rattle.wi_scenarios.specs.Compare.{compare_step};
+ghost use Rattle.wi_scenarios.specs.Commands.Command as command;
+ghost use Rattle.wi_scenarios.specs.Commands.Operands.{corners};
+ghost use Rattle.wi_scenarios.specs.Commands.Step.{IsStep};
 ghost use Rattle.wi_scenarios.specs.Asked.{asked_by_compare};
 ghost use Rattle.wi_scenarios.specs.Inner.Held.{state_of, IsSound};
 
-use crate::areas::is_too_large;
+use crate::areas::{is_spanned, is_too_large};
 use crate::desk::Desk;
 use crate::refusal::Refusal;
 use crate::views::is_missing;
@@ -41,8 +43,8 @@ pub(crate) fn compare<C: Calculator>(
     requires { IsSound C.marked (C.stored calculator.old) desk.now }
     ensures step { let old = state_of (C.stored calculator.old) desk.now in
         (records : List ℕ) × (out.new.items ≡ out.old.items ++ records)
-        × Serves (λ a. compare_step old (option_copied compared.now.first)
-        (option_copied compared.now.second) area ≡ a)
+        × Serves (IsStep old (command.Compare (option_copied compared.now.first)
+        (option_copied compared.now.second) (corners area)))
         result old (state_of (C.stored calculator.new) desk.now) records }
     ensures same { C.stored calculator.new ≡ C.stored calculator.old }
     ensures cost { let old = state_of (C.stored calculator.old) desk.now in
@@ -51,6 +53,7 @@ pub(crate) fn compare<C: Calculator>(
         (C.evaluated calculator.old, C.restarted calculator.old)
         (C.evaluated calculator.new, C.restarted calculator.new) }
 {
+    is_spanned(area);
     if is_too_large(area) {
         return Err(Refusal::TooLarge);
     }

@@ -3,11 +3,13 @@
 ghost use Rattle.std.specs.Prelude.{◌≡◌, ◌++◌, ℕ, List};
 ghost use Rattle.wi_reports.specs.Looks.{Costs};
 ghost use Rattle.wi_scenarios.specs.Answer.{Serves};
-ghost use Rattle.wi_scenarios.specs.Export.{export_step};
+ghost use Rattle.wi_scenarios.specs.Commands.Command as command;
+ghost use Rattle.wi_scenarios.specs.Commands.Operands.{corners};
+ghost use Rattle.wi_scenarios.specs.Commands.Step.{IsStep};
 ghost use Rattle.wi_scenarios.specs.Asked.{asked_by_show};
 ghost use Rattle.wi_scenarios.specs.Inner.Held.{state_of, IsSound};
 
-use crate::areas::is_too_large;
+use crate::areas::{is_spanned, is_too_large};
 use crate::desk::Desk;
 use crate::refusal::Refusal;
 use crate::views::replacements_for;
@@ -28,7 +30,7 @@ pub(crate) fn export<C: Calculator>(
     requires { IsSound C.marked (C.stored calculator.old) desk.now }
     ensures step { let old = state_of (C.stored calculator.old) desk.now in
         (records : List ℕ) × (out.new.items ≡ out.old.items ++ records)
-        × Serves (λ a. export_step old area ≡ a)
+        × Serves (IsStep old (command.Export (corners area)))
         result old (state_of (C.stored calculator.new) desk.now) records }
     ensures same { C.stored calculator.new ≡ C.stored calculator.old }
     ensures cost { let old = state_of (C.stored calculator.old) desk.now in
@@ -36,6 +38,7 @@ pub(crate) fn export<C: Calculator>(
         (C.evaluated calculator.old, C.restarted calculator.old)
         (C.evaluated calculator.new, C.restarted calculator.new) }
 {
+    is_spanned(area);
     if is_too_large(area) {
         return Err(Refusal::TooLarge);
     }

@@ -2,10 +2,13 @@
 
 ghost use Rattle.std.specs.Prelude.{◌≡◌, ◌++◌, ℕ, List};
 ghost use Rattle.wi_scenarios.specs.Answer.{Serves};
-ghost use Rattle.wi_scenarios.specs.Formula.{formula_step};
+ghost use Rattle.wi_scenarios.specs.Commands.Command as command;
+ghost use Rattle.wi_scenarios.specs.Commands.Operands.{cell};
+ghost use Rattle.wi_scenarios.specs.Commands.Step.{IsStep};
 ghost use Rattle.wi_scenarios.specs.Inner.Held.{state_of};
 ghost use Rattle.wi_scenarios.specs.declared.desk.Desk.{Desk};
 
+use crate::areas::is_placed;
 use crate::refusal::Refusal;
 use std::alloc::Global;
 use wi_propagate::Calculator;
@@ -21,8 +24,9 @@ pub(crate) fn formula<C: Calculator>(
 ) -> Result<(), Refusal>
     ensures { (desk : Desk) → let state = state_of (C.stored calculator.now) desk in
         (records : List ℕ) × (out.new.items ≡ out.old.items ++ records)
-        × Serves (λ a. formula_step state at ≡ a) result state state records }
+        × Serves (IsStep state (command.Formula (cell at))) result state state records }
 {
+    is_placed(at);
     push_content(alloc, calculator, at, out)?;
     Ok(())
 }

@@ -12,6 +12,7 @@ ghost use Rattle.wi_scenarios.specs.declared.refusal.Refusal.TheVariants.{Memory
 ghost use Rattle.wi_scenarios.specs.State.{state_over};
 ghost use Rattle.wi_scenarios.specs.Answer.{Serves, ServesData};
 ghost use Rattle.wi_scenarios.specs.Commands.Command as command;
+ghost use Rattle.wi_scenarios.specs.Commands.Operands.{cell, corners};
 ghost use Rattle.wi_scenarios.specs.Commands.Step.{IsStep};
 ghost use Rattle.wi_scenarios.specs.Clear.{clear_edit};
 ghost use Rattle.wi_scenarios.specs.Csv.{imported_cells};
@@ -313,7 +314,7 @@ impl<C: Calculator> Workbook<C> {
     /// each cell; beside that the work grows with what the session's scenario puts in and with the length of the records.
     pub fn show(&mut self, area: Rect, out: &mut Vec<u8>) -> Result<(), Refusal>
         ensures step { (records : List ℕ) × (out.new.items ≡ out.old.items ++ records)
-            × Serves (IsCallStep self.old.state (call.Show area))
+            × Serves (IsStep self.old.state (command.Show (corners area)))
             result self.old.state self.new.state records }
         ensures pending { self.new.pending ≡ self.old.pending }
         ensures cost { let old = self.old.state in
@@ -327,7 +328,7 @@ impl<C: Calculator> Workbook<C> {
     /// LF bytes. It costs what `show` does, and is linear in the length of the records beside.
     pub fn export(&mut self, area: Rect, out: &mut Vec<u8>) -> Result<(), Refusal>
         ensures step { (records : List ℕ) × (out.new.items ≡ out.old.items ++ records)
-            × Serves (IsCallStep self.old.state (call.Export area))
+            × Serves (IsStep self.old.state (command.Export (corners area)))
             result self.old.state self.new.state records }
         ensures pending { self.new.pending ≡ self.old.pending }
         ensures cost { let old = self.old.state in
@@ -370,8 +371,9 @@ impl<C: Calculator> Workbook<C> {
         out: &mut Vec<u8>,
     ) -> Result<(), Refusal>
         ensures step { (records : List ℕ) × (out.new.items ≡ out.old.items ++ records)
-            × Serves (IsCallStep self.old.state (call.Compare (option_map bytes_of first.entry)
-            (option_map bytes_of second.entry) area)) result self.old.state self.new.state records }
+            × Serves (IsStep self.old.state (command.Compare (option_map bytes_of first.entry)
+            (option_map bytes_of second.entry) (corners area)))
+            result self.old.state self.new.state records }
         ensures pending { self.new.pending ≡ self.old.pending }
         ensures cost { let old = self.old.state in
             Costs old.stored.sheet (asked_by_compare old (option_map bytes_of first.entry)
@@ -435,7 +437,7 @@ impl<C: Calculator> Workbook<C> {
     /// the record.
     pub fn formula_text(&self, at: Address, out: &mut Vec<u8>) -> Result<(), Refusal>
         ensures { (records : List ℕ) × (out.new.items ≡ out.old.items ++ records)
-            × Serves (IsCallStep self.now.state (call.Formula at))
+            × Serves (IsStep self.now.state (command.Formula (cell at)))
             result self.now.state self.now.state records }
     {
         formula(self.alloc, &self.calculator, at, out)

@@ -1,9 +1,12 @@
 -- The steps of the commands that look at cells: `show`, `export`, `compare` and `formula`.
-use Rattle.wi_cli.proofs.Vocabulary.{◌≡◌, ◌*◌, ℕ, Bool, true, false, ◌||◌, nat_lt, [], ◌∷◌, Option, Some, None, Ok, Err, refl, sym, ap, ◌∙◌, arith, list_any, or-false, both_ways, Area, size_of, effective, lacks, rows_shown, export_of, cells_compared, content_record, State, max_area, current_replacements, of_operand, Cell, Corners, is_outside, address, area, RECT, SIDE, Bytes, Show, Export, Compare, Formula, form, Cause, Outside, TooLarge, NoScenario, lies_outside, is_missing, size, SameStep, read_area, was}
+use Rattle.wi_cli.proofs.Vocabulary.{◌≡◌, ◌↔◌, ◌*◌, ℕ, Bool, true, false, ◌||◌, nat_lt, Option, Ok, Err, refl, sym, ap, ◌∙◌, arith, Area, size_of, lacks, State, max_area, of_operand, Cell, Corners, is_outside, address, area, Bytes, Command, Show, Export, Compare, Formula, Answer, IsStep, SameStep, read_area, was}
 use Rattle.wi_scenarios.specs.declared.refusal.Refusal.TheVariants as refusal
 use Rattle.wi_scenarios.specs.Step as old
-use Rattle.wi_scenarios.proofs.CauseTests.{IsTested, never, is_large, is_small}
-use Rattle.wi_cli.proofs.Ties.Tests.{Picked, by_tests}
+use Rattle.wi_scenarios.specs.Inner.Placed.{IsSpanned}
+use Rattle.wi_scenarios.proofs.FirstCause.{DoesOne}
+use Rattle.wi_scenarios.proofs.OperandLemmas.{placed_again, spanned_again}
+use Rattle.wi_scenarios.proofs.LookSteps.{area_answer, shown_in, show_step, show_of, exported_in, export_step, export_of_area, compared_in, compare_step, compare_of, told_of, formula_step, formula_of}
+use Rattle.wi_cli.proofs.Ties.Uniqueness.{same_answers}
 
 -- a number of cells, as a product
 pub once : (n : ℕ) → n ≡ n * 1
@@ -12,106 +15,48 @@ once n = omega arith
 pub large_once : (n : ℕ) (b : Bool) → nat_lt max_area (n * 1) ≡ b → nat_lt max_area n ≡ b
 large_once n b e = ap (nat_lt max_area) (once n) ∙ e
 
--- ---- an area, of which scenarios may be shown
+-- ---- an area
 
-module _ (r : Corners) (missing : Bool) where
-  abbrev area_test : Cause → Bool
-  area_test Outside = list_any lies_outside (RECT r ∷ [])
-  area_test TooLarge = nat_lt max_area (size (RECT r ∷ []))
-  area_test NoScenario = missing
-  area_test x = false
+abbrev is_large : Corners → Bool
+is_large r = nat_lt max_area (size_of (area r))
 
-  -- a call's answers to an area within the sheet
-  module _ (s : State) (done : State × Bytes) (call : Area → old.Call)
-      (large : nat_lt max_area (size_of (area r)) ≡ true → old.IsCallStep s (call (area r)) (Err refusal.TooLarge))
-      (lacking : nat_lt max_area (size_of (area r)) ≡ false → missing ≡ true → old.IsCallStep s (call (area r)) (Err refusal.NoScenario))
-      (answered : nat_lt max_area (size_of (area r)) ≡ false → missing ≡ false → old.IsCallStep s (call (area r)) (Ok done)) where
-    area_picked : Picked s area_test (of_operand (read_area r) call) done
-    area_picked = by (is_outside r.0 || is_outside r.1) (nat_lt max_area (size_of (area r) * 1)) missing refl refl refl
-      where
-        by : (out big lack : Bool) → (is_outside r.0 || is_outside r.1) ≡ out → nat_lt max_area (size_of (area r) * 1) ≡ big → missing ≡ lack
-            → Picked s area_test (of_operand (read_area r) call) done
-        by true big lack eo eb el = (Some Outside, rw eo refl, rw eo refl)
-        by false true lack eo eb el = (Some TooLarge, rw (eo, eb) refl, rw eo (large (large_once _ _ eb)))
-        by false false true eo eb el = (Some NoScenario, rw (eo, eb, el) refl, rw eo (lacking (large_once _ _ eb) el))
-        by false false false eo eb el = (None, rw (eo, eb, el) refl, rw eo (answered (large_once _ _ eb) el))
+abbrev lies_out : Corners → Bool
+lies_out r = is_outside r.0 || is_outside r.1
+
+module _ (s : State) (r : Corners) (c : Command) (one : DoesOne s c) (call : Area → old.Call) (answer : Answer) (outside : lies_out r ≡ true → IsStep s c (Err refusal.OutOfSheet))
+    (inside : lies_out r ≡ false → IsStep s c answer) (called : IsSpanned (area r) → old.IsCallStep s (call (area r)) answer) where
+  same_by : (out : Bool) → lies_out r ≡ out → (a : Answer) → old.IsCallStep s (of_operand (read_area r) call) a ↔ IsStep s c a
+  same_by true eo a = same_answers s c one (of_operand (read_area r) call) (Err refusal.OutOfSheet) (rw eo refl) (outside eo) a
+  same_by false eo a = same_answers s c one (of_operand (read_area r) call) answer (rw eo (called (spanned_again r eo))) (inside eo) a
 
 module _ (s : State) (r : Corners) where
-  abbrev shown : State × Bytes
-  shown = (s, rows_shown s.stored.sheet (current_replacements s) (area r))
-
-  show_tested : (x : Cause) → IsTested s (Show r) (area_test r false) x
-  show_tested Outside = (λ e. e, λ h. h)
-  show_tested TooLarge = is_large _
-  show_tested NoScenario = (λ e. e, λ h. h)
-  show_tested x = never
-
   pub same_show : SameStep s (Show r)
   same_show =
-      let p = area_picked r false s shown (λ at. old.Show at) (λ e. rw e refl) (λ e k. absurd (both_ways false refl k)) (λ e k. rw e refl) in
-      by_tests s (Show r) (area_test r false) show_tested refl (λ q h. h) shown (λ e. refl) (λ x y h k. h ∙ sym k) (was (Show r)) p
-
-  abbrev exported : State × Bytes
-  exported = (s, export_of (rows_shown s.stored.sheet (current_replacements s) (area r)))
-
-  export_tested : (x : Cause) → IsTested s (Export r) (area_test r false) x
-  export_tested Outside = (λ e. e, λ h. h)
-  export_tested TooLarge = is_large _
-  export_tested NoScenario = (λ e. e, λ h. h)
-  export_tested x = never
+      same_by s r (Show r) (λ x y h k. h ∙ sym k) (λ a. old.Show a) (area_answer false (is_large r) false (shown_in s r (area r)))
+      (λ eo. show_step s r true (is_large r) eo refl) (λ eo. show_step s r false (is_large r) eo refl) (λ k. show_of s (area r) k (is_large r) refl) (lies_out r) refl
 
   pub same_export : SameStep s (Export r)
   same_export =
-      let p = area_picked r false s exported (λ at. old.Export at) (λ e. rw e refl) (λ e k. absurd (both_ways false refl k)) (λ e k. rw e refl) in
-      by_tests s (Export r) (area_test r false) export_tested refl (λ q h. h) exported (λ e. refl) (λ x y h k. h ∙ sym k) (was (Export r)) p
-
-side_missing : (s : State) (p : Option Bytes) → is_missing s (SIDE p) ≡ lacks s.scenarios p
-side_missing s None = refl
-side_missing s (Some name) = refl
+      same_by s r (Export r) (λ x y h k. h ∙ sym k) (λ a. old.Export a) (area_answer false (is_large r) false (exported_in s r (area r)))
+      (λ eo. export_step s r true (is_large r) eo refl) (λ eo. export_step s r false (is_large r) eo refl) (λ k. export_of_area s (area r) k (is_large r) refl) (lies_out r) refl
 
 module _ (s : State) (p q : Option Bytes) (r : Corners) where
-  abbrev compared : State × Bytes
-  compared = (s, cells_compared s.stored.sheet (effective s.scenarios p) (effective s.scenarios q) (area r))
-
   abbrev no_side : Bool
   no_side = lacks s.scenarios p || lacks s.scenarios q
 
-  missing_is : list_any (is_missing s) (form (Compare p q r)) ≡ no_side
-  missing_is =
-      ap (λ (b : Bool). b || (is_missing s (SIDE q) || false)) (side_missing s p)
-      ∙ ap (λ (b : Bool). lacks s.scenarios p || b) (or-false (is_missing s (SIDE q)) ∙ side_missing s q)
-
-  compare_tested : (x : Cause) → IsTested s (Compare p q r) (area_test r no_side) x
-  compare_tested Outside = (λ e. e, λ h. h)
-  compare_tested TooLarge = is_large _
-  compare_tested NoScenario = (λ e. missing_is ∙ e, λ h. sym missing_is ∙ h)
-  compare_tested x = never
-
   pub same_compare : SameStep s (Compare p q r)
   same_compare =
-      let k = area_picked r no_side s compared (λ at. old.Compare p q at) (λ e. rw e refl) (λ e k. rw (e, k) refl) (λ e k. rw (e, k) refl) in
-      by_tests s (Compare p q r) (area_test r no_side) compare_tested refl (λ q h. h) compared (λ e. refl) (λ x y h k. h ∙ sym k) (was (Compare p q r)) k
+      same_by s r (Compare p q r) (λ x y h k. h ∙ sym k) (λ a. old.Compare p q a) (area_answer false (is_large r) no_side (compared_in s p q r (area r)))
+      (λ eo. compare_step s p q r true (is_large r) no_side eo refl refl) (λ eo. compare_step s p q r false (is_large r) no_side eo refl refl)
+      (λ k. compare_of s (area r) k (is_large r) refl p q no_side refl) (lies_out r) refl
 
 -- ---- a cell
 
 module _ (s : State) (c : Cell) where
-  abbrev told_of : State × Bytes
-  told_of = (s, content_record s.stored.sheet (address c))
-
-  abbrev formula_test : Cause → Bool
-  formula_test Outside = list_any lies_outside (form (Formula c))
-  formula_test x = false
-
-  formula_tested : (x : Cause) → IsTested s (Formula c) formula_test x
-  formula_tested Outside = (λ e. e, λ h. h)
-  formula_tested TooLarge = is_small
-  formula_tested NoScenario = (λ e. e, λ h. h)
-  formula_tested x = never
-
-  formula_picked : (out : Bool) → is_outside c ≡ out → Picked s formula_test (was (Formula c)) told_of
-  formula_picked true eo = (Some Outside, rw eo refl, rw eo refl)
-  formula_picked false eo = (None, rw eo refl, rw eo refl)
+  formula_by : (out : Bool) → is_outside c ≡ out → SameStep s (Formula c)
+  formula_by true eo a = same_answers s (Formula c) (λ x y h k. h ∙ sym k) (was (Formula c)) (Err refusal.OutOfSheet) (rw eo refl) (formula_step s c true eo) a
+  formula_by false eo a =
+      same_answers s (Formula c) (λ x y h k. h ∙ sym k) (was (Formula c)) (Ok (told_of s c (address c))) (rw eo (formula_of s (address c) (placed_again c eo))) (formula_step s c false eo) a
 
   pub same_formula : SameStep s (Formula c)
-  same_formula =
-      by_tests s (Formula c) formula_test formula_tested refl (λ q h. h) told_of (λ e. refl) (λ x y h k. h ∙ sym k) (was (Formula c)) (formula_picked (is_outside c) refl)
+  same_formula = formula_by (is_outside c) refl

@@ -1,7 +1,7 @@
 -- The operands of commands, whether the sheet has the cells or not.
 use Rattle.std.specs.Prelude.{ℕ, Bool, ◌||◌, nat_le, Option}
 use Rattle.wi_fraction.specs.Text.{Bytes}
-use Rattle.wi_values.specs.Address.{Area, rows, columns, place, rect_of}
+use Rattle.wi_values.specs.Address.{Area, rows, columns, place, row_of, column_of, rect_of}
 
 -- a cell by its row and its column, counted from 0, of any size
 pub record Cell : Type 0 where
@@ -22,6 +22,13 @@ address c = place c.row c.column
 
 abbrev pub area : Corners → Area
 area r = rect_of (address r.0) (address r.1)
+
+-- the operands of an address and of a rectangle of the sheet
+abbrev pub cell : ℕ → Cell
+cell a = record { row = row_of a; column = column_of a }
+
+abbrev pub corners : Area → Corners
+corners r = (cell r.first, cell r.last)
 
 pub data Operand : Type 0 where
   WORD CONTENT NAME SESSION : Bytes → Operand

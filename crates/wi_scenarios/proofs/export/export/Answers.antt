@@ -1,26 +1,35 @@
-use Rattle.wi_scenarios.proofs.Words.{refl, ap, rules, state_of, ◌∙◌, List, asked_same, nothing_asked, rows_cases, Replacement}
-use Rattle.wi_scenarios.proofs.LookLemmas.{export_lacked}
+use Rattle.wi_scenarios.proofs.Words.{◌∙◌, ◌++◌, [], true, false, List, Ok, refl, sym, ap, append-nil, state_of, export_of, rows_shown, asked_same, nothing_asked, rows_cases, Replacement}
+use Rattle.wi_scenarios.proofs.CommandWords.{Export, corners, IsStep}
+use Rattle.wi_scenarios.proofs.LookLemmas.{look_lacked, look_done}
+use Rattle.wi_scenarios.proofs.LookSteps.{export_of_area, exported_in}
 use Rattle.wi_scenarios.proofs.export.export.Goals as goal
 
 pub returns-then-is_too_large-clause-step : goal.returns-then-is_too_large-clause-step
-returns-then-is_too_large-clause-step g c = search rules
+returns-then-is_too_large-clause-step g c =
+    let s = state_of (g.C.Calculator.stored c.args.calculator.now) c.args.desk.now in
+    ([], sym (append-nil c.args.out.now.items), (export_of_area s c.args.area c.is_spanned.ensures true (sym c.is_too_large.ensures ∙ c.if-is_too_large.true), refl, refl))
 
 pub returns-in_err-put-clause-step : goal.returns-in_err-put-clause-step
 returns-in_err-put-clause-step g c =
     let s = state_of (g.C.Calculator.stored c.args.calculator.now) c.args.desk.now in
-    export_lacked s s c.args.area c.is_too_large.result c.args.out.now.items c.args.out.now.items c.from_residual.result
-    c.is_too_large.ensures c.if-is_too_large.false c.from_residual.ensures.1 refl refl
+    look_lacked (IsStep s (Export (corners c.args.area))) (Ok (exported_in s (corners c.args.area) c.args.area)) (export_of_area s c.args.area c.is_spanned.ensures false (sym c.is_too_large.ensures ∙ c.if-is_too_large.false)) refl
+    c.from_residual.result s s c.args.out.now.items c.args.out.now.items c.from_residual.ensures.1 refl refl
 
 pub returns-in_err-push_export-clause-step : goal.returns-in_err-push_export-clause-step
 returns-in_err-push_export-clause-step g c =
     let s = state_of (g.C.Calculator.stored c.args.calculator.now) c.args.desk.now in
-    export_lacked s (state_of (g.C.Calculator.stored c.push_export.new.calculator) c.args.desk.now) c.args.area c.is_too_large.result
-    c.args.out.now.items c.push_export.new.out.items c.from_residual-in_err-push_export.result
-    c.is_too_large.ensures c.if-is_too_large.false c.from_residual-in_err-push_export.ensures.1
-    (ap (λ x. state_of x c.args.desk.now) c.in_err-push_export.ensures.same) c.in_err-push_export.ensures.err
+    look_lacked (IsStep s (Export (corners c.args.area))) (Ok (exported_in s (corners c.args.area) c.args.area)) (export_of_area s c.args.area c.is_spanned.ensures false (sym c.is_too_large.ensures ∙ c.if-is_too_large.false)) refl
+    c.from_residual-in_err-push_export.result s (state_of (g.C.Calculator.stored c.push_export.new.calculator) c.args.desk.now) c.args.out.now.items c.push_export.new.out.items
+    c.from_residual-in_err-push_export.ensures.1 (ap (λ x. state_of x c.args.desk.now) c.in_err-push_export.ensures.same) c.in_err-push_export.ensures.err
 
 pub returns-clause-step : goal.returns-clause-step
-returns-clause-step g c = search rules
+returns-clause-step g c =
+    let s = state_of (g.C.Calculator.stored c.args.calculator.now) c.args.desk.now in
+    look_done (IsStep s (Export (corners c.args.area))) s (state_of (g.C.Calculator.stored c.push_export.new.calculator) c.args.desk.now) c.args.out.now.items c.push_export.new.out.items
+    (exported_in s (corners c.args.area) c.args.area).1
+    (export_of_area s c.args.area c.is_spanned.ensures false (sym c.is_too_large.ensures ∙ c.if-is_too_large.false))
+    (c.in_ok-push_export.ensures.ok ∙ ap (λ (rs : List Replacement). c.args.out.now.items ++ export_of (rows_shown (g.C.Calculator.stored c.args.calculator.now).sheet rs c.args.area)) (c.deref.ensures.value ∙ c.in_ok-put.ensures.value))
+    (ap (λ x. state_of x c.args.desk.now) c.in_ok-push_export.ensures.same)
 
 pub returns-then-is_too_large-clause-cost : goal.returns-then-is_too_large-clause-cost
 returns-then-is_too_large-clause-cost g c = nothing_asked _ _ _
