@@ -1,8 +1,8 @@
 -- What each call leaves.
-use Rattle.wi_scenarios.proofs.Words.{nat_lt, option_map, ◌≡◌, ◌∙◌, ℕ, ◌==◌, inl, inr, Bool, true, false, not, ◌||◌, cond, List, [], ◌∷◌, length, Option, Some, None, Result, Ok, Err, refl, sym, ap, subst, list_any, find, option_or, bytes_eq, bytes_eq-Decides, Area, size_of, cells_of, content_of, Stored, applied, StoreFault, record_areas_at, is_named, has_scenario, scenario_for, with_scenario, without_scenario, with_own, without_own, is_full, scenario_or_new, based_on, found_with, found_without, table_of, is_column, has_row, entries, Refusal, BadCommand, TooLarge, NoScenario, TooMany, BadField, LeavesSheet, Stale, TooLong, State, max_area, current_replacements, Answer, when, unless, limit_of, edit_refusal, stale_in, with_stored, cell_area, fault_in, content_in, clear_edit, fill_edit, has_no_copy, has_bad_field, field_fault, contents_in, replacement_by, Call, Set, Clear, Fill, Csv, Drop, Base, Use, As, Show, Export, Changes, Compare, Table, Formula, Refused, RefusedData, IsCallStep, Event, MayHappen, IsEdited, HasScenarioChanged, Leaves}
-use Rattle.std.proofs.Common.{is_some}
+use Rattle.wi_scenarios.proofs.Words.{nat_lt, option_map, ◌≡◌, ◌∙◌, ℕ, ◌==◌, inl, inr, Bool, true, false, not, ◌||◌, cond, List, [], ◌∷◌, length, Option, Some, None, Result, Ok, Err, refl, sym, ap, subst, list_any, find, option_or, bytes_eq, bytes_eq-Decides, Area, size_of, cells_of, content_of, Stored, applied, StoreFault, record_areas_at, is_named, scenario_for, with_scenario, without_scenario, with_own, without_own, scenario_or_new, based_on, found_with, found_without, table_of, is_column, has_row, entries, Refusal, BadCommand, TooLarge, BadField, LeavesSheet, Stale, State, max_area, current_replacements, Answer, when, unless, limit_of, edit_refusal, stale_in, with_stored, cell_area, fault_in, content_in, clear_edit, fill_edit, has_no_copy, has_bad_field, field_fault, contents_in, Call, Set, Clear, Fill, Csv, Drop, Base, Use, As, Show, Export, Changes, Compare, Table, Formula, Refused, RefusedData, IsCallStep, Event, MayHappen, IsEdited, HasScenarioChanged, Leaves}
 use Rattle.wi_scenario_list.specs.Scenarios as list
 use Rattle.wi_scenarios.specs.Step.{Scenario}
+use Rattle.wi_scenarios.specs.Commands.Operands.{address, cell}
 
 -- what an answer says of the state that it leaves
 abbrev pub Outcome : State → Call → Answer → Type 0
@@ -100,15 +100,20 @@ outcome s (Csv force at text) a h =
     as_edit : (b : Answer) → EditOutcome (record_areas_at at text) s b → Outcome s (Csv force at text) b
     as_edit (Ok done) k = k
     as_edit (Err e) k = tt
-outcome s (Scenario name at []) a h =
-    done_so s (Scenario name at []) (option_or (when (not (has_scenario s.scenarios name)) NoScenario) None)
-    (record s { scenarios = with_scenario s.scenarios (without_own (scenario_for s.scenarios name) at) }, []) a h
-    (put_in s name (without_own (scenario_for s.scenarios name) at) (name_found name s.scenarios))
-outcome s (Scenario name at (b ∷ bs)) a h =
-    done_so s (Scenario name at (b ∷ bs))
-    (option_or (when (is_full s.scenarios name at) TooMany) (option_or (when (not (is_some h.value)) TooLong) None))
-    (record s { scenarios = with_scenario s.scenarios (with_own (scenario_for s.scenarios name) (replacement_by at h.value)) }, []) a h.answered
-    (put_in s name (with_own (scenario_for s.scenarios name) (replacement_by at h.value)) (name_found name s.scenarios))
+outcome s (Scenario name at []) a h = by a h
+  where
+    by : (b : Answer) → IsCallStep s (Scenario name at []) b → Outcome s (Scenario name at []) b
+    by (Ok done) k =
+        subst (λ (d : State × List ℕ). HasScenarioChanged name s d.0) (sym k.1)
+        (put_in s name (without_own (scenario_for s.scenarios name) (address (cell at))) (name_found name s.scenarios))
+    by (Err e) k = tt
+outcome s (Scenario name at (b ∷ bs)) a h = by a h
+  where
+    by : (d : Answer) → IsCallStep s (Scenario name at (b ∷ bs)) d → Outcome s (Scenario name at (b ∷ bs)) d
+    by (Ok done) k =
+        subst (λ (d : State × List ℕ). HasScenarioChanged name s d.0) (sym k.1.2)
+        (put_in s name (with_own (scenario_for s.scenarios name) (record { at = address (cell at); value = k.1.0 } ∷ [])) (name_found name s.scenarios))
+    by (Err e) k = tt
 outcome s (Drop name) a h = by a h
   where
     by : (b : Answer) → IsCallStep s (Drop name) b → Outcome s (Drop name) b

@@ -1,11 +1,13 @@
 -- The steps of the commands of scenarios, by what their bodies find.
-use Rattle.wi_scenarios.proofs.Words.{◌≡◌, ◌↔◌, ◌∙◌, ◌<◌, ◌≤◌, Bool, true, false, not, ◌||◌, ◌&&◌, nat_le, List, [], ◌∷◌, ◌++◌, length, ◌⊎◌, inl, inr, Option, Some, None, Ok, Err, if◌then◌else◌, refl, sym, ap, subst, arith, leb-true, le-leb, Any, Any-weaker, Any-from_list_any, list_any, list_any-from_Any, or_cases, or-false, or-true, both_ways, bytes_eq, bytes_eq-Decides, Scenario, is_named, has_scenario, scenario_for, with_scenario, without_scenario, chain, is_name_of, is_base, lacks, based_on, would_loop, Session, new_session, max_sessions, has_session, with_session, index_of, using_scenario, State, current_session, with_current, Answer}
+use Rattle.wi_scenarios.proofs.Words.{◌≡◌, ◌≢◌, ◌↔◌, ◌∙◌, ◌<◌, ◌≤◌, Bool, true, false, not, ◌||◌, ◌&&◌, nat_le, List, [], ◌∷◌, ◌++◌, length, ◌⊎◌, inl, inr, Option, Some, None, Ok, Err, if◌then◌else◌, refl, sym, ap, subst, arith, leb-true, le-leb, Any, Any-weaker, Any-from_list_any, list_any, list_any-from_Any, or_cases, or-false, or-true, both_ways, bytes_eq, bytes_eq-Decides, Value, IsImported, imported_exactly, is_some, is_named, has_scenario, scenario_for, with_scenario, without_scenario, with_own, without_own, is_full, chain, is_name_of, is_base, lacks, based_on, would_loop, Session, new_session, max_sessions, has_session, with_session, index_of, using_scenario, State, current_session, with_current, Answer}
 use Rattle.std.specs.Prelude.{ℕ}
 use Rattle.wi_scenarios.specs.declared.refusal.Refusal.TheVariants as refusal
-use Rattle.wi_scenarios.proofs.CommandWords.{Drop, Base, Use, As, form, Cause, Outside, TooLarge, NoScenario, InUse, TooMany, Loop, Holds, is_missing, IsStep, causes}
+use Rattle.wi_scenario_list.specs.Scenarios.{Scenario as Kept}
+use Rattle.wi_scenarios.specs.Inner.Placed.{IsPlaced}
+use Rattle.wi_scenarios.proofs.CommandWords.{Scenario, Drop, Base, Use, As, form, Cell, is_outside, address, cell, Cause, Outside, TooLarge, NoScenario, InUse, TooMany, TooLong, Loop, Holds, lies_outside, is_missing, Does, state_with, IsStep, causes}
 use Rattle.wi_scenarios.proofs.SessionLemmas.{no_place}
 use Rattle.wi_scenarios.proofs.OperandLemmas.{neither}
-use Rattle.wi_scenarios.proofs.CauseTests.{first_test, found, IsTested, never, is_small, tested_step}
+use Rattle.wi_scenarios.proofs.CauseTests.{first_test, found, some_none, IsTested, never, is_small, tested_step}
 
 -- ---- names that are given
 
@@ -46,11 +48,11 @@ module _ (s : State) (name : List ℕ) where
     where
       by : (list_any (λ x. is_name_of name x.scenario) s.sessions ≡ true) ⊎ (is_base s.scenarios name ≡ true) → Holds s InUse (Drop name)
       by (inl h) = inl ((any_named (λ (x : Session). x.scenario) name s.sessions).0 h)
-      by (inr h) = inr ((any_named (λ (x : Scenario). x.base) name s.scenarios).0 h)
+      by (inr h) = inr ((any_named (λ (x : Kept). x.base) name s.scenarios).0 h)
 
       back : Holds s InUse (Drop name) → is_in_use ≡ true
       back (inl h) = ap (λ (b : Bool). b || is_base s.scenarios name) ((any_named (λ (x : Session). x.scenario) name s.sessions).1 h)
-      back (inr h) = ap (λ (b : Bool). list_any (λ x. is_name_of name x.scenario) s.sessions || b) ((any_named (λ (x : Scenario). x.base) name s.scenarios).1 h) ∙ or-true _
+      back (inr h) = ap (λ (b : Bool). list_any (λ x. is_name_of name x.scenario) s.sessions || b) ((any_named (λ (x : Kept). x.base) name s.scenarios).1 h) ∙ or-true _
   drop_tested x = never
 
   answered : (o : Option Cause) → first_test drop_test causes ≡ o → IsStep s (Drop name) (found dropped o)
@@ -67,10 +69,10 @@ module _ (s : State) (name : List ℕ) where
   drop_step true true em eu = answered (Some InUse) (rw (em, eu) refl)
   drop_step true false em eu = answered None (rw (em, eu) refl)
 
-  pub drop_done : (next : List Scenario) → next ≡ without_scenario s.scenarios name → has_scenario s.scenarios name ≡ true → list_any (λ x. is_name_of name x.scenario) s.sessions ≡ false
+  pub drop_done : (next : List Kept) → next ≡ without_scenario s.scenarios name → has_scenario s.scenarios name ≡ true → list_any (λ x. is_name_of name x.scenario) s.sessions ≡ false
       → is_base s.scenarios name ≡ false → IsStep s (Drop name) (Ok (record s { scenarios = next }, []))
   drop_done next e there unused free =
-      subst (λ (xs : List Scenario). IsStep s (Drop name) (Ok (record s { scenarios = xs }, []))) (sym e)
+      subst (λ (xs : List Kept). IsStep s (Drop name) (Ok (record s { scenarios = xs }, []))) (sym e)
       (drop_step true false there (neither (list_any (λ x. is_name_of name x.scenario) s.sessions) (is_base s.scenarios name) unused free))
 
 -- ---- use
@@ -105,7 +107,7 @@ module _ (s : State) (name : Option (List ℕ)) where
 
 -- ---- base
 
-module _ (name : List ℕ) (xs : List Scenario) where
+module _ (name : List ℕ) (xs : List Kept) where
   in_chain : (list_any (is_named name) xs ≡ true) ↔ Any (λ x. x.name ≡ name) xs
   in_chain = (
     λ e. Any-weaker (λ x. is_named name x ≡ true) (λ x. x.name ≡ name) xs (λ x h. sym ((bytes_eq-Decides name x.name).0 h)) (Any-from_list_any (is_named name) xs e),
@@ -232,3 +234,118 @@ module _ (s : State) (name : List ℕ) where
       same =
           ap (λ (b : Bool). record s { sessions = if b then s.sessions else s.sessions ++ new_session name ∷ []; current = index_of s.sessions name }) h
           ∙ ap (λ (n : ℕ). record s { sessions = s.sessions ++ new_session name ∷ []; current = n }) (no_place (λ x. bytes_eq name x.name) s.sessions h)
+
+-- ---- scenario: a replacement is taken away
+
+module _ (s : State) (name : List ℕ) (at : Cell) where
+  abbrev pub taken_from : ℕ → State × List ℕ
+  taken_from a = (state_with s (without_own (scenario_for s.scenarios name) a), [])
+
+  abbrev away_test : Cause → Bool
+  away_test Outside = list_any lies_outside (form (Scenario name at []))
+  away_test NoScenario = not (has_scenario s.scenarios name) || false
+  away_test x = false
+
+  away_tested : (x : Cause) → IsTested s (Scenario name at []) away_test x
+  away_tested Outside = (λ e. e, λ h. h)
+  away_tested TooLarge = is_small
+  away_tested NoScenario = (λ e. e, λ h. h)
+  away_tested x = never
+
+  away_found : (o : Option Cause) → first_test away_test causes ≡ o → IsStep s (Scenario name at []) (found (taken_from (address at)) o)
+  away_found o e = tested_step s (Scenario name at []) away_test away_tested refl (λ q h. h) (taken_from (address at)) (λ e. refl) o e
+
+  abbrev pub away_answer : Bool → Bool → ℕ → Answer
+  away_answer true known a = Err refusal.OutOfSheet
+  away_answer false false a = Err refusal.NoScenario
+  away_answer false true a = Ok (taken_from a)
+
+  pub away_step : (out known : Bool) → is_outside at ≡ out → has_scenario s.scenarios name ≡ known → IsStep s (Scenario name at []) (away_answer out known (address at))
+  away_step true known eo et = away_found (Some Outside) (rw eo refl)
+  away_step false false eo et = away_found (Some NoScenario) (rw (eo, et) refl)
+  away_step false true eo et = away_found None (rw (eo, et) refl)
+
+pub away_of : (s : State) (name : List ℕ) (a : ℕ) → IsPlaced a → (known : Bool) → has_scenario s.scenarios name ≡ known → IsStep s (Scenario name (cell a) []) (away_answer s name (cell a) false known a)
+away_of s name a h known et =
+    subst (λ (x : ℕ). IsStep s (Scenario name (cell a) []) (away_answer s name (cell a) false known x)) h.again (away_step s name (cell a) false known h.inside et)
+
+-- ---- scenario: a replacement is put in
+
+abbrev pub put_state : State → List ℕ → ℕ → Value → State × List ℕ
+put_state s name a v = (state_with s (with_own (scenario_for s.scenarios name) (record { at = a; value = v } ∷ [])), [])
+
+-- the answer, where the text stands for this value, or is too long
+abbrev pub put_answer : State → List ℕ → ℕ → Bool → Bool → Option Value → Answer
+put_answer s name a true full value = Err refusal.OutOfSheet
+put_answer s name a false true value = Err refusal.TooMany
+put_answer s name a false false None = Err refusal.TooLong
+put_answer s name a false false (Some v) = Ok (put_state s name a v)
+
+pub one_value : (text : List ℕ) (v w : Option Value) → IsImported text v → IsImported text w → v ≡ w
+one_value text v w h k = sym ((imported_exactly text v).0 h) ∙ (imported_exactly text w).0 k
+
+no_value : (o : Option Value) → not (is_some o) ≡ true → o ≡ None
+no_value None e = refl
+no_value (Some v) e = absurd (both_ways false refl e)
+
+is_none : (o : Option Value) → o ≡ None → not (is_some o) ≡ true
+is_none None h = refl
+is_none (Some v) h = cc
+
+module _ (s : State) (name : List ℕ) (at : Cell) (b : ℕ) (bs : List ℕ) (value : Option Value) (is : IsImported (b ∷ bs) value) where
+  abbrev putting : Option Value → State × List ℕ
+  putting (Some v) = put_state s name (address at) v
+  putting None = (s, [])
+
+  abbrev put_test : Cause → Bool
+  put_test Outside = list_any lies_outside (form (Scenario name at (b ∷ bs)))
+  put_test TooMany = is_full s.scenarios name (address at)
+  put_test TooLong = not (is_some value)
+  put_test x = false
+
+  put_tested : (x : Cause) → IsTested s (Scenario name at (b ∷ bs)) put_test x
+  put_tested Outside = (λ e. e, λ h. h)
+  put_tested TooLarge = is_small
+  put_tested TooMany = (λ e. e, λ h. h)
+  put_tested TooLong = (λ e. subst (IsImported (b ∷ bs)) (no_value value e) is, λ h. is_none value (one_value (b ∷ bs) value None is h))
+  put_tested x = never
+
+  put_found : (does : first_test put_test causes ≡ None → Does s (Scenario name at (b ∷ bs)) (putting value)) (o : Option Cause) → first_test put_test causes ≡ o
+      → IsStep s (Scenario name at (b ∷ bs)) (found (putting value) o)
+  put_found does o e = tested_step s (Scenario name at (b ∷ bs)) put_test put_tested refl (λ q h. h) (putting value) does o e
+
+module _ (s : State) (name : List ℕ) (at : Cell) (b : ℕ) (bs : List ℕ) where
+  -- some cause holds of a text that is too long
+  long_refused : (is : IsImported (b ∷ bs) None) (out full : Bool) → is_outside at ≡ out → is_full s.scenarios name (address at) ≡ full
+      → (x : Cause) × (first_test (put_test s name at b bs None is) causes ≡ Some x)
+  long_refused is true full eo ef = (Outside, rw eo refl)
+  long_refused is false true eo ef = (TooMany, rw (eo, ef) refl)
+  long_refused is false false eo ef = (TooLong, rw (eo, ef) refl)
+
+  put_does : (value : Option Value) (is : IsImported (b ∷ bs) value) → first_test (put_test s name at b bs value is) causes ≡ None
+      → Does s (Scenario name at (b ∷ bs)) (putting s name at b bs value is value)
+  put_does None is e =
+      let r = long_refused is (is_outside at) (is_full s.scenarios name (address at)) refl refl in
+      absurd (some_none r.0 (sym r.1 ∙ e))
+  put_does (Some v) is e = (v, is, refl)
+
+  pub put_step : (value : Option Value) (is : IsImported (b ∷ bs) value) (out full : Bool) → is_outside at ≡ out → is_full s.scenarios name (address at) ≡ full
+      → IsStep s (Scenario name at (b ∷ bs)) (put_answer s name (address at) out full value)
+  put_step value is true full eo ef = put_found s name at b bs value is (put_does value is) (Some Outside) (rw eo refl)
+  put_step value is false true eo ef = put_found s name at b bs value is (put_does value is) (Some TooMany) (rw (eo, ef) refl)
+  put_step None is false false eo ef = put_found s name at b bs None is (put_does None is) (Some TooLong) (rw (eo, ef) refl)
+  put_step (Some v) is false false eo ef = put_found s name at b bs (Some v) is (put_does (Some v) is) None (rw (eo, ef) refl)
+
+pub put_of : (s : State) (name : List ℕ) (a : ℕ) (text : List ℕ) → IsPlaced a → text ≢ [] → (value : Option Value) → IsImported text value → (full : Bool) → is_full s.scenarios name a ≡ full
+    → IsStep s (Scenario name (cell a) text) (put_answer s name a false full value)
+put_of s name a [] h some value is full ef = absurd (some refl)
+put_of s name a (b ∷ bs) h some value is full ef =
+    subst (λ (x : ℕ). IsStep s (Scenario name (cell a) (b ∷ bs)) (put_answer s name x false full value)) h.again
+    (put_step s name (cell a) b bs value is false full h.inside (ap (is_full s.scenarios name) h.again ∙ ef))
+
+same_value : {v w : Value} → ◌≡◌ {A = Option Value} (Some v) (Some w) → v ≡ w
+same_value e = cc
+
+pub one_put : (s : State) (name : List ℕ) (at : Cell) (b : ℕ) (bs : List ℕ) (x y : State × List ℕ) → Does s (Scenario name at (b ∷ bs)) x → Does s (Scenario name at (b ∷ bs)) y → x ≡ y
+one_put s name at b bs x y h k =
+    h.2 ∙ ap (λ (v : Value). put_state s name (address at) v) (same_value (one_value (b ∷ bs) (Some h.0) (Some k.0) h.1 k.1)) ∙ sym k.2

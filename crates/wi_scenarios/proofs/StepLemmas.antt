@@ -1,11 +1,11 @@
 -- A call has one answer.
-use Rattle.wi_scenarios.proofs.Words.{◌≡◌, false, not, ◌||◌, ◌&&◌, nat_le, nat_lt, [], ◌∷◌, length, Ok, Err, refl, sym, ap, ◌∙◌, imported, imported_exactly, content_read, content_is_one, fields_at, some_import, no_other as no_other_import, has_scenario, has_session, max_sessions, max_area, size_of, lacks, would_loop, State, Answer, set_answer, clear_step, fill_step, csv_answer, put_answer, take_away_step, table_step, Call, Set, Clear, Fill, Csv, Drop, Base, Use, As, Show, Export, Changes, Compare, Table, Formula, Refused, RefusedData, IsCallStep}
+use Rattle.wi_scenarios.proofs.Words.{◌≡◌, false, not, ◌||◌, ◌&&◌, nat_le, nat_lt, [], ◌∷◌, length, Ok, Err, refl, sym, ap, ◌∙◌, imported, imported_exactly, content_read, content_is_one, fields_at, some_import, no_other as no_other_import, has_scenario, is_full, has_session, max_sessions, max_area, size_of, lacks, would_loop, State, Answer, set_answer, clear_step, fill_step, csv_answer, table_step, Call, Set, Clear, Fill, Csv, Drop, Base, Use, As, Show, Export, Changes, Compare, Table, Formula, Refused, RefusedData, IsCallStep}
 use Rattle.wi_scenarios.specs.Commands.Command as command
 use Rattle.wi_scenarios.specs.Step.{Scenario}
 use Rattle.wi_scenarios.proofs.FirstCause.{one_answer}
-use Rattle.wi_scenarios.specs.Commands.Operands.{is_outside, area, cell, corners}
+use Rattle.wi_scenarios.specs.Commands.Operands.{is_outside, address, area, cell, corners}
 use Rattle.wi_scenarios.proofs.LookSteps.{area_answer, shown_in, show_step, exported_in, export_step, compared_in, compare_step, formula_answer, formula_step, after_changes, changes_step}
-use Rattle.wi_scenarios.proofs.ScenarioSteps.{is_in_use, drop_answer, drop_step, use_answer, use_step, base_answer, base_step, as_answer, as_step}
+use Rattle.wi_scenarios.proofs.ScenarioSteps.{is_in_use, drop_answer, drop_step, use_answer, use_step, base_answer, base_step, as_answer, as_step, away_answer, away_step, put_answer, put_step, one_put}
 
 pub an_answer : (s : State) (c : Call) → (a : Answer) × IsCallStep s c a
 an_answer s (Set force at text) =
@@ -16,10 +16,14 @@ an_answer s (Fill force from area) = (fill_step s force from area, refl)
 an_answer s (Csv force at text) =
     let some = some_import (fields_at at text) in
     (csv_answer s force at text some.0, record { read = some.0; is_read = some.1; answered = refl })
-an_answer s (Scenario name at []) = (take_away_step s name at, refl)
+an_answer s (Scenario name at []) =
+    let c = cell at in
+    (away_answer s name c (is_outside c) (has_scenario s.scenarios name) (address c), away_step s name c (is_outside c) (has_scenario s.scenarios name) refl refl)
 an_answer s (Scenario name at (b ∷ bs)) =
+    let c = cell at in
     let value = imported (b ∷ bs) in
-    (put_answer s name at value, record { value = value; is_value = (imported_exactly (b ∷ bs) value).1 refl; answered = refl })
+    let full = is_full s.scenarios name (address c) in
+    (put_answer s name (address c) (is_outside c) full value, put_step s name c b bs value ((imported_exactly (b ∷ bs) value).1 refl) (is_outside c) full refl refl)
 an_answer s (Drop name) =
     (drop_answer s name (has_scenario s.scenarios name) (is_in_use s name), drop_step s name (has_scenario s.scenarios name) (is_in_use s name) refl refl)
 an_answer s (Base name other) =
@@ -61,10 +65,8 @@ no_other s (Fill force from area) a b h k = sym h ∙ k
 no_other s (Csv force at text) a b h k =
     let same : h.read ≡ k.read = no_other_import (fields_at at text) h.read k.read h.is_read k.is_read in
     sym h.answered ∙ ap (csv_answer s force at text) same ∙ k.answered
-no_other s (Scenario name at []) a b h k = sym h ∙ k
-no_other s (Scenario name at (x ∷ xs)) a b h k =
-    let same : h.value ≡ k.value = sym ((imported_exactly (x ∷ xs) h.value).0 h.is_value) ∙ (imported_exactly (x ∷ xs) k.value).0 k.is_value in
-    sym h.answered ∙ ap (put_answer s name at) same ∙ k.answered
+no_other s (Scenario name at []) a b h k = one_answer s (command.Scenario name (cell at) []) (λ x y d e. d ∙ sym e) a b h k
+no_other s (Scenario name at (x ∷ xs)) a b h k = one_answer s (command.Scenario name (cell at) (x ∷ xs)) (one_put s name (cell at) x xs) a b h k
 no_other s (Drop name) a b h k = one_answer s (command.Drop name) (λ x y d e. d ∙ sym e) a b h k
 no_other s (Base name other) a b h k = one_answer s (command.Base name other) (λ x y d e. d ∙ sym e) a b h k
 no_other s (Use name) a b h k = one_answer s (command.Use name) (λ x y d e. d ∙ sym e) a b h k

@@ -75,7 +75,6 @@ pub use Rattle.wi_scenarios.specs.Inner.Switch.{AreDiffering, Differs, HasRoom, 
 pub use Rattle.wi_scenarios.specs.Inner.Told.{IsTold}
 pub use Rattle.wi_scenarios.specs.Laws.{HasScenarioChanged, IsEdited, Leaves, is_changes_call, is_forced_call, named_by_call}
 pub use Rattle.wi_scenarios.specs.Pending.{AddsOnly, Book, IsMarked, IsTouched, SameForOthers, is_pending, counts, occupied_cells}
-pub use Rattle.wi_scenarios.specs.Scenario.{IsScenarioStep, put_answer, replacement_by, take_away_step}
 pub use Rattle.wi_scenarios.specs.Set.{IsSetStep, content_in, fault_in, set_answer, set_edit}
 pub use Rattle.wi_scenarios.specs.State.{State, max_area, state_over}
 pub use Rattle.wi_scenarios.specs.Step.{As, Base, Call, Changes, Clear, Compare, Csv, Drop, Export, Fill, Formula, IsCallStep, Refused, RefusedData, Set, Show, Table, Use}
@@ -109,6 +108,7 @@ pub use Rattle.wi_values.proofs.Small.{any_in_range}
 pub use Rattle.wi_values.proofs.Within.{within_between}
 pub use Rattle.wi_values.specs.Address.{Area, address_text, cells_of, cells_of_row, column_of, columns, is_column, is_one_of, is_within, is_within_one, place, rect_of, row_of, rows, size_of}
 pub use Rattle.wi_values.specs.AddressReading.{read_address}
+pub use Rattle.wi_values.specs.Imported.{IsImported}
 pub use Rattle.wi_values.specs.Inner.Import.{imported}
 pub use Rattle.wi_values.specs.Replacements.{IsInOrder, replaced}
 pub use Rattle.wi_values.specs.Value.{error_name, logical_name}

@@ -8,7 +8,6 @@ pub mod Set
 pub mod Clear
 pub mod Fill
 pub mod Csv
-pub mod Scenario
 pub mod Changes
 pub mod Table
 pub mod Step

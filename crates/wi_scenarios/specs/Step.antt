@@ -12,7 +12,6 @@ use Rattle.wi_scenarios.specs.Set.{IsSetStep}
 use Rattle.wi_scenarios.specs.Clear.{clear_step}
 use Rattle.wi_scenarios.specs.Fill.{fill_step}
 use Rattle.wi_scenarios.specs.Csv.{IsCsvStep}
-use Rattle.wi_scenarios.specs.Scenario.{IsScenarioStep}
 use Rattle.wi_scenarios.specs.Table.{table_step}
 
 -- A call, or a line that is refused whatever the state is: `Refused` before anything grows, `RefusedData` once its data lines
@@ -42,7 +41,7 @@ IsCallStep s (Set force at content) a = IsSetStep s force at content a
 IsCallStep s (Clear force area) a = clear_step s force area ≡ a
 IsCallStep s (Fill force from area) a = fill_step s force from area ≡ a
 IsCallStep s (Csv force at text) a = IsCsvStep s force at text a
-IsCallStep s (Scenario name at content) a = IsScenarioStep s name at content a
+IsCallStep s (Scenario name at content) a = IsStep s (command.Scenario name (cell at) content) a
 IsCallStep s (Drop name) a = IsStep s (command.Drop name) a
 IsCallStep s (Base name other) a = IsStep s (command.Base name other) a
 IsCallStep s (Use name) a = IsStep s (command.Use name) a

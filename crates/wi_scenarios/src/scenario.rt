@@ -1,11 +1,13 @@
 //! The command `scenario`: puts a replacement into a scenario, or takes it away.
 
-ghost use Rattle.std.specs.Prelude.{◌≡◌, true, false, Some, IfOk};
-ghost use Rattle.wi_values.specs.Inner.Import.{imported};
+ghost use Rattle.std.specs.Prelude.{◌≡◌, ◌≢◌, ◌∷◌, [], true, false, IfOk};
 ghost use Rattle.wi_scenario_list.specs.Scenarios.{has_scenario, scenario_for, with_scenario, with_own, without_own, is_full};
-ghost use Rattle.wi_scenarios.specs.Scenario.{IsScenarioStep, replacement_by, put_answer, take_away_step};
+ghost use Rattle.wi_scenarios.specs.Commands.Command as command;
+ghost use Rattle.wi_scenarios.specs.Commands.Operands.{cell};
+ghost use Rattle.wi_scenarios.specs.Commands.Step.{IsStep};
 ghost use Rattle.wi_scenarios.specs.Inner.Held.{state_of, IsSound, ServesSound};
 
+use crate::areas::is_placed;
 use crate::desk::Desk;
 use crate::refusal::Refusal;
 use crate::switch::switch_to;
@@ -27,7 +29,7 @@ pub(crate) fn put<C: Calculator>(
 ) -> Result<(), Refusal>
     requires { IsSound C.marked (C.stored calculator.now) desk.old }
     ensures { let old = state_of (C.stored calculator.now) desk.old in
-        ServesSound C.marked (IsScenarioStep old name.now at content.now)
+        ServesSound C.marked (IsStep old (command.Scenario name.now (cell at) content.now))
         result (C.stored calculator.now) desk.old desk.new }
 {
     if content.is_empty() {
@@ -36,7 +38,7 @@ pub(crate) fn put<C: Calculator>(
     put_text(alloc, calculator, desk, name, at, content)
 }
 
-/// Puts the value for which a text is taken into a scenario.
+/// Puts the value for which a text that isn't empty is taken into a scenario.
 fn put_text<C: Calculator>(
     alloc: Global,
     calculator: &C,
@@ -45,11 +47,13 @@ fn put_text<C: Calculator>(
     at: Address,
     text: &str,
 ) -> Result<(), Refusal>
-    requires { IsSound C.marked (C.stored calculator.now) desk.old }
+    requires sound { IsSound C.marked (C.stored calculator.now) desk.old }
+    requires some { text.now ≢ [] }
     ensures { let old = state_of (C.stored calculator.now) desk.old in
-        ServesSound C.marked (λ a. put_answer old name.now at (imported text.now) ≡ a)
+        ServesSound C.marked (IsStep old (command.Scenario name.now (cell at) text.now))
         result (C.stored calculator.now) desk.old desk.new }
 {
+    is_placed(at);
     if desk.scenarios.is_full(name, at) {
         return Err(Refusal::TooMany);
     }
@@ -69,9 +73,10 @@ pub(crate) fn take_away<C: Calculator>(
 ) -> Result<(), Refusal>
     requires { IsSound C.marked (C.stored calculator.now) desk.old }
     ensures { let old = state_of (C.stored calculator.now) desk.old in
-        ServesSound C.marked (λ a. take_away_step old name.now at ≡ a)
+        ServesSound C.marked (IsStep old (command.Scenario name.now (cell at) []))
         result (C.stored calculator.now) desk.old desk.new }
 {
+    is_placed(at);
     if !desk.scenarios.contains(name) {
         return Err(Refusal::NoScenario);
     }
@@ -89,7 +94,8 @@ fn with_replacement(
 ) -> Result<Scenarios, AllocError>
     requires { is_full scenarios.now name.now at ≡ false }
     ensures { IfOk result (λ next. next ≡ with_scenario scenarios.now
-        (with_own (scenario_for scenarios.now name.now) (replacement_by at (Some value)))) }
+        (with_own (scenario_for scenarios.now name.now)
+        (record { at = at; value = value } ∷ []))) }
 {
     let mut next = scenarios.copy()?;
     match next.put(name, at, value) {

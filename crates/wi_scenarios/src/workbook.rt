@@ -16,7 +16,6 @@ ghost use Rattle.wi_scenarios.specs.Commands.Operands.{cell, corners};
 ghost use Rattle.wi_scenarios.specs.Commands.Step.{IsStep};
 ghost use Rattle.wi_scenarios.specs.Clear.{clear_edit};
 ghost use Rattle.wi_scenarios.specs.Csv.{imported_cells};
-ghost use Rattle.wi_scenarios.specs.Scenario.{take_away_step};
 ghost use Rattle.wi_scenarios.specs.Step as call;
 ghost use Rattle.wi_scenarios.specs.Step.{IsCallStep};
 ghost use Rattle.wi_scenarios.specs.Asked.{asked_by_show, asked_by_changes, asked_by_compare, asked_by_table};
@@ -209,7 +208,7 @@ impl<C: Calculator> Workbook<C> {
         content: &str,
     ) -> Result<(), Refusal>
         ensures step { Serves
-            (IsCallStep self.old.state (call.Scenario (bytes_of name.entry) at content.now))
+            (IsStep self.old.state (command.Scenario (bytes_of name.entry) (cell at) content.now))
             result self.old.state self.new.state [] }
         ensures adds { AddsOnly C.marked ([])
             self.old.state self.new.state self.old.pending self.new.pending }
@@ -229,7 +228,7 @@ impl<C: Calculator> Workbook<C> {
     /// Takes a scenario's own replacement away, if there is one; the scenario stays. It costs what `scenario_set` does: the work grows
     /// with the count of scenarios, the scenario's own replacements, all that the sessions' scenarios put in, and what depends on the cell.
     pub fn scenario_clear(&mut self, name: Name<'_>, at: Address) -> Result<(), Refusal>
-        ensures step { Serves (λ a. take_away_step self.old.state (bytes_of name.entry) at ≡ a)
+        ensures step { Serves (IsStep self.old.state (command.Scenario (bytes_of name.entry) (cell at) []))
             result self.old.state self.new.state [] }
         ensures adds { AddsOnly C.marked ([])
             self.old.state self.new.state self.old.pending self.new.pending }

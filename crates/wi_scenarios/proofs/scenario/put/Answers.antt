@@ -1,15 +1,17 @@
-use Rattle.wi_scenarios.proofs.Words.{◌≡◌, length, arith, common_steps, state_of}
-use Rattle.wi_scenarios.proofs.ScenarioLemmas.{served_as, put_step, empty_step}
+use Rattle.wi_scenarios.proofs.Words.{◌≡◌, List, ℕ, length, sym, ap, subst, arith, common_steps, nil_from_length, state_of}
+use Rattle.wi_scenarios.specs.Inner.Held.{ServesSound}
+use Rattle.wi_scenarios.proofs.CommandWords.{Scenario, cell, IsStep}
 use Rattle.wi_scenarios.proofs.scenario.put.Goals as goal
+
+pub put_text-requires-clause-some : goal.put_text-requires-clause-some
+put_text-requires-clause-some g c = λ e. let some : length c.args.content.now ≡ 0 → ⊥ = grind (arith, common_steps) in some (ap length e)
 
 pub returns-then-is_empty : goal.returns-then-is_empty
 returns-then-is_empty g c =
     let s = state_of (g.C.Calculator.stored c.args.calculator.now) c.args.desk.now in
     let none : length c.args.content.now ≡ 0 = grind (arith, common_steps) in
-    served_as c.take_away.ensures (λ a e. empty_step s c.args.name.now c.args.at c.args.content.now a none e)
+    subst (λ (text : List ℕ). ServesSound g.C.Calculator.marked (IsStep s (Scenario c.args.name.now (cell c.args.at) text)) c.take_away.result (g.C.Calculator.stored c.args.calculator.now) c.args.desk.now c.take_away.new.desk)
+    (sym (nil_from_length c.args.content.now none)) c.take_away.ensures
 
 pub returns : goal.returns
-returns g c =
-    let s = state_of (g.C.Calculator.stored c.args.calculator.now) c.args.desk.now in
-    let some : length c.args.content.now ≡ 0 → ⊥ = grind (arith, common_steps) in
-    served_as c.put_text.ensures (λ a e. put_step s c.args.name.now c.args.at c.args.content.now a some e)
+returns g c = c.put_text.ensures
