@@ -10,7 +10,7 @@ pub mod Cones
 pub mod SetSteps
 pub mod WithinSteps
 pub mod BoundsSteps
-pub mod HeldSteps
+pub mod PinnedSteps
 pub mod CircularAfter
 pub mod StripSteps
 pub mod SearchSteps

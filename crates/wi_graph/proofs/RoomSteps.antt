@@ -68,13 +68,13 @@ had_room o r s e f = ap items_of f ∙ ap (λ (x : Option (Option (SmallVec Area
     at None = refl
     at (Some y) = refl
 
-in_room-held : (o : Option (Option (SmallVec Area))) → in_room o ≡ items_of (unwrap_or o None)
-in_room-held None = refl
-in_room-held (Some x) = refl
+in_room-pinned : (o : Option (Option (SmallVec Area))) → in_room o ≡ items_of (unwrap_or o None)
+in_room-pinned None = refl
+in_room-pinned (Some x) = refl
 
 -- where each cell holds the same, it reads the same
 pub reads_same : (old new : Rooms) → HoldsTheSame None old.entries new.entries → (c : ℕ) → room_at new c ≡ room_at old c
-reads_same old new h c = in_room-held (get nat_cmp new c) ∙ ap items_of (h c) ∙ sym (in_room-held (get nat_cmp old c))
+reads_same old new h c = in_room-pinned (get nat_cmp new c) ∙ ap items_of (h c) ∙ sym (in_room-pinned (get nat_cmp old c))
 
 -- ---- an edit is taken, cell by cell
 

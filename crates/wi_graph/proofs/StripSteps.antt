@@ -12,19 +12,19 @@ no_waiting waiting d c e h =
     let z : is_one_of [] c ≡ true = ap (λ (es : List (ℕ × Vec ℕ)). is_one_of (items_there (lookup (is_at (nat_cmp d)) es)) c) (sym e) ∙ h in
     cc
 
-pub track_start : (areas : BTreeMap ℕ (Vec Area)) (held rest : BTreeSet ℕ) (work : List ℕ) (waiting : BTreeMap ℕ (Vec ℕ)) → work ≡ difference nat_cmp rest held → waiting.entries ≡ [] →
-    IsTracking areas held rest work waiting None
-track_start areas held rest work waiting e n = record {
-  each = λ c h u. inr (inl (ap (λ (xs : List ℕ). is_one_of xs c) e ∙ in_difference rest held c ∙ and_from (not (contains nat_cmp held c)) _ (not_from_false (contains nat_cmp held c) u) h));
-  work_unheld = λ c h. not-true (contains nat_cmp held c) (and_parts (not (contains nat_cmp held c)) _ (sym (in_difference rest held c) ∙ ap (λ (xs : List ℕ). is_one_of xs c) (sym e) ∙ h)).0;
+pub track_start : (areas : BTreeMap ℕ (Vec Area)) (pinned rest : BTreeSet ℕ) (work : List ℕ) (waiting : BTreeMap ℕ (Vec ℕ)) → work ≡ difference nat_cmp rest pinned → waiting.entries ≡ [] →
+    IsTracking areas pinned rest work waiting None
+track_start areas pinned rest work waiting e n = record {
+  each = λ c h u. inr (inl (ap (λ (xs : List ℕ). is_one_of xs c) e ∙ in_difference rest pinned c ∙ and_from (not (contains nat_cmp pinned c)) _ (not_from_false (contains nat_cmp pinned c) u) h));
+  work_unheld = λ c h. not-true (contains nat_cmp pinned c) (and_parts (not (contains nat_cmp pinned c)) _ (sym (in_difference rest pinned c) ∙ ap (λ (xs : List ℕ). is_one_of xs c) (sym e) ∙ h)).0;
   waiting_unheld = λ d c h. absurd (no_waiting waiting d c n h);
 }
 
 -- ---- the next is taken
 
-pub track_pop : (areas : BTreeMap ℕ (Vec Area)) (held rest : BTreeSet ℕ) (work less : List ℕ) (waiting : BTreeMap ℕ (Vec ℕ)) (cell : ℕ) → work ≡ less ++ cell ∷ [] → IsTracking areas held rest work waiting None →
-    IsTracking areas held rest less waiting (Some cell) × (contains nat_cmp held cell ≡ false)
-track_pop areas held rest work less waiting cell e t = (
+pub track_pop : (areas : BTreeMap ℕ (Vec Area)) (pinned rest : BTreeSet ℕ) (work less : List ℕ) (waiting : BTreeMap ℕ (Vec ℕ)) (cell : ℕ) → work ≡ less ++ cell ∷ [] → IsTracking areas pinned rest work waiting None →
+    IsTracking areas pinned rest less waiting (Some cell) × (contains nat_cmp pinned cell ≡ false)
+track_pop areas pinned rest work less waiting cell e t = (
   record {
     each = λ c h u. at c (t.each c h u);
     work_unheld = λ c h. t.work_unheld c (ap (λ (xs : List ℕ). is_one_of xs c) e ∙ in_front less (cell ∷ []) c h);
@@ -43,8 +43,8 @@ track_pop areas held rest work less waiting cell e t = (
     at c (inr (inr k)) = inr (inr k)
 
 -- some of what cells read is forgotten
-pub track_kept : (areas now : BTreeMap ℕ (Vec Area)) (held rest : BTreeSet ℕ) (work : List ℕ) (waiting : BTreeMap ℕ (Vec ℕ)) (o : Option ℕ) → KeepsReads rest areas now → IsTracking areas held rest work waiting o → IsTracking now held rest work waiting o
-track_kept areas now held rest work waiting o k t = record {
+pub track_kept : (areas now : BTreeMap ℕ (Vec Area)) (pinned rest : BTreeSet ℕ) (work : List ℕ) (waiting : BTreeMap ℕ (Vec ℕ)) (o : Option ℕ) → KeepsReads rest areas now → IsTracking areas pinned rest work waiting o → IsTracking now pinned rest work waiting o
+track_kept areas now pinned rest work waiting o k t = record {
   each = λ c h u. at c (t.each c h u);
   work_unheld = t.work_unheld;
   waiting_unheld = t.waiting_unheld;
@@ -56,8 +56,8 @@ track_kept areas now held rest work waiting o k t = record {
     at c (inr (inr i)) = inr (inr (record { cell = i.cell; waits = i.waits; read = k c i.cell i.there ∙ i.read; there = i.there }))
 
 -- it is gone already
-pub track_gone : (areas : BTreeMap ℕ (Vec Area)) (held rest : BTreeSet ℕ) (work : List ℕ) (waiting : BTreeMap ℕ (Vec ℕ)) (cell : ℕ) → contains nat_cmp rest cell ≡ false → IsTracking areas held rest work waiting (Some cell) → IsTracking areas held rest work waiting None
-track_gone areas held rest work waiting cell n t = record {
+pub track_gone : (areas : BTreeMap ℕ (Vec Area)) (pinned rest : BTreeSet ℕ) (work : List ℕ) (waiting : BTreeMap ℕ (Vec ℕ)) (cell : ℕ) → contains nat_cmp rest cell ≡ false → IsTracking areas pinned rest work waiting (Some cell) → IsTracking areas pinned rest work waiting None
+track_gone areas pinned rest work waiting cell n t = record {
   each = λ c h u. at c h (t.each c h u);
   work_unheld = t.work_unheld;
   waiting_unheld = t.waiting_unheld;
@@ -68,20 +68,20 @@ track_gone areas held rest work waiting cell n t = record {
     at c h (inr k) = inr k
 
 -- it waits
-pub track_park : (areas : BTreeMap ℕ (Vec Area)) (held rest : BTreeSet ℕ) (work : List ℕ) (waiting next : BTreeMap ℕ (Vec ℕ)) (cell read : ℕ) →
-    ((d : ℕ) → waiting_for next d ≡ cond (read == d) (waiting_for waiting d ++ cell ∷ []) (waiting_for waiting d)) → reads_in areas cell read ≡ true → contains nat_cmp rest read ≡ true → contains nat_cmp held cell ≡ false →
-    IsTracking areas held rest work waiting (Some cell) → IsTracking areas held rest work next None
-track_park areas held rest work waiting next cell read p r there unheld t = record {
+pub track_park : (areas : BTreeMap ℕ (Vec Area)) (pinned rest : BTreeSet ℕ) (work : List ℕ) (waiting next : BTreeMap ℕ (Vec ℕ)) (cell read : ℕ) →
+    ((d : ℕ) → waiting_for next d ≡ cond (read == d) (waiting_for waiting d ++ cell ∷ []) (waiting_for waiting d)) → reads_in areas cell read ≡ true → contains nat_cmp rest read ≡ true → contains nat_cmp pinned cell ≡ false →
+    IsTracking areas pinned rest work waiting (Some cell) → IsTracking areas pinned rest work next None
+track_park areas pinned rest work waiting next cell read p r there unheld t = record {
   each = λ c h u. at c (t.each c h u);
   work_unheld = t.work_unheld;
   waiting_unheld = λ d c h. waiter d c (read == d) (ap (λ (xs : List ℕ). is_one_of xs c) (sym (p d)) ∙ h);
 }
   where
-    split : (d c : ℕ) → (waits_for waiting d c ≡ true) ⊎ (cell ≡ c) → contains nat_cmp held c ≡ false
+    split : (d c : ℕ) → (waits_for waiting d c ≡ true) ⊎ (cell ≡ c) → contains nat_cmp pinned c ≡ false
     split d c (inl k) = t.waiting_unheld d c k
-    split d c (inr k) = ap (λ (x : ℕ). contains nat_cmp held x) (sym k) ∙ unheld
+    split d c (inr k) = ap (λ (x : ℕ). contains nat_cmp pinned x) (sym k) ∙ unheld
 
-    waiter : (d c : ℕ) (b : Bool) → is_one_of (cond b (waiting_for waiting d ++ cell ∷ []) (waiting_for waiting d)) c ≡ true → contains nat_cmp held c ≡ false
+    waiter : (d c : ℕ) (b : Bool) → is_one_of (cond b (waiting_for waiting d ++ cell ∷ []) (waiting_for waiting d)) c ≡ true → contains nat_cmp pinned c ≡ false
     waiter d c true h = split d c (in_last (waiting_for waiting d) cell c h)
     waiter d c false h = t.waiting_unheld d c h
 
@@ -106,34 +106,34 @@ track_park areas held rest work waiting next cell read p r there unheld t = reco
 -- ---- a cell goes
 
 -- what cells read at first, and what is left of that
-pub record IsStripping (first areas : BTreeMap ℕ (Vec Area)) (held all rest : BTreeSet ℕ) (work : List ℕ) (waiting : BTreeMap ℕ (Vec ℕ)) : Type 0 where
+pub record IsStripping (first areas : BTreeMap ℕ (Vec Area)) (pinned all rest : BTreeSet ℕ) (work : List ℕ) (waiting : BTreeMap ℕ (Vec ℕ)) : Type 0 where
   pub kept : KeepsReads rest first areas
-  pub tracking : IsTracking areas held rest work waiting None
+  pub tracking : IsTracking areas pinned rest work waiting None
   pub within : IsWithin rest all
-  pub stripped : AreStripped first held all rest
+  pub stripped : AreStripped first pinned all rest
 
-pub strip_start : (areas : BTreeMap ℕ (Vec Area)) (held rest : BTreeSet ℕ) (work : List ℕ) (waiting : BTreeMap ℕ (Vec ℕ)) → work ≡ difference nat_cmp rest held → waiting.entries ≡ [] →
-    IsStripping areas areas held rest rest work waiting
-strip_start areas held rest work waiting e n = record {
+pub strip_start : (areas : BTreeMap ℕ (Vec Area)) (pinned rest : BTreeSet ℕ) (work : List ℕ) (waiting : BTreeMap ℕ (Vec ℕ)) → work ≡ difference nat_cmp rest pinned → waiting.entries ≡ [] →
+    IsStripping areas areas pinned rest rest work waiting
+strip_start areas pinned rest work waiting e n = record {
   kept = λ c d h. refl;
-  tracking = track_start areas held rest work waiting e n;
+  tracking = track_start areas pinned rest work waiting e n;
   within = λ c h. h;
   stripped = λ p up c h k. clash (contains nat_cmp rest c) h k;
 }
 
-pub track_strip : (areas : BTreeMap ℕ (Vec Area)) (held rest less : BTreeSet ℕ) (work more : List ℕ) (waiting next : BTreeMap ℕ (Vec ℕ)) (cell : ℕ) → Loses rest less cell → more ≡ work ++ waiting_for waiting cell →
-    ((d : ℕ) → waiting_for next d ≡ cond (cell == d) [] (waiting_for waiting d)) → IsTracking areas held rest work waiting (Some cell) → IsTracking areas held less more next None
-track_strip areas held rest less work more waiting next cell l m n t = record {
+pub track_strip : (areas : BTreeMap ℕ (Vec Area)) (pinned rest less : BTreeSet ℕ) (work more : List ℕ) (waiting next : BTreeMap ℕ (Vec ℕ)) (cell : ℕ) → Loses rest less cell → more ≡ work ++ waiting_for waiting cell →
+    ((d : ℕ) → waiting_for next d ≡ cond (cell == d) [] (waiting_for waiting d)) → IsTracking areas pinned rest work waiting (Some cell) → IsTracking areas pinned less more next None
+track_strip areas pinned rest less work more waiting next cell l m n t = record {
   each = λ c h u. let o = loses_others rest less cell l c h in at c o.1 (t.each c o.0 u);
   work_unheld = λ c h. looked c (or_cases (is_one_of work c) (is_one_of (waiting_for waiting cell) c) (sym (list_any-append (λ (y : ℕ). y == c) work (waiting_for waiting cell)) ∙ ap (λ (xs : List ℕ). is_one_of xs c) (sym m) ∙ h));
   waiting_unheld = λ d c h. waiter d c (cell == d) (ap (λ (xs : List ℕ). is_one_of xs c) (sym (n d)) ∙ h);
 }
   where
-    looked : (c : ℕ) → (is_one_of work c ≡ true) ⊎ (is_one_of (waiting_for waiting cell) c ≡ true) → contains nat_cmp held c ≡ false
+    looked : (c : ℕ) → (is_one_of work c ≡ true) ⊎ (is_one_of (waiting_for waiting cell) c ≡ true) → contains nat_cmp pinned c ≡ false
     looked c (inl k) = t.work_unheld c k
     looked c (inr k) = t.waiting_unheld cell c k
 
-    waiter : (d c : ℕ) (b : Bool) → is_one_of (cond b [] (waiting_for waiting d)) c ≡ true → contains nat_cmp held c ≡ false
+    waiter : (d c : ℕ) (b : Bool) → is_one_of (cond b [] (waiting_for waiting d)) c ≡ true → contains nat_cmp pinned c ≡ false
     waiter d c true h = cc
     waiter d c false h = t.waiting_unheld d c h
 
@@ -154,36 +154,36 @@ pub loses_within : (rest less all : BTreeSet ℕ) (cell : ℕ) → Loses rest le
 loses_within rest less all cell l w c h = w c (loses_others rest less cell l c h).0
 
 -- a cell that reads none of the set by what is left read none at first
-pub first_free : (first areas : BTreeMap ℕ (Vec Area)) (held rest : BTreeSet ℕ) (cell : ℕ) → KeepsReads rest first areas → IsFree areas held rest cell → IsFree first held rest cell
-first_free first areas held rest cell k f = record {
+pub first_free : (first areas : BTreeMap ℕ (Vec Area)) (pinned rest : BTreeSet ℕ) (cell : ℕ) → KeepsReads rest first areas → IsFree areas pinned rest cell → IsFree first pinned rest cell
+first_free first areas pinned rest cell k f = record {
   there = f.there;
   unheld = f.unheld;
   none = λ d r. false_from_ne_true (contains nat_cmp rest d) (λ i. clash (contains nat_cmp rest d) i (f.none d (k cell d i ∙ r)));
 }
 
-pub strip_gone : (areas : BTreeMap ℕ (Vec Area)) (held all rest less : BTreeSet ℕ) (cell : ℕ) → Loses rest less cell → IsFree areas held rest cell → AreStripped areas held all rest → AreStripped areas held all less
-strip_gone areas held all rest less cell l f s p up c h g = at (loses_one rest less cell l c g)
+pub strip_gone : (areas : BTreeMap ℕ (Vec Area)) (pinned all rest less : BTreeSet ℕ) (cell : ℕ) → Loses rest less cell → IsFree areas pinned rest cell → AreStripped areas pinned all rest → AreStripped areas pinned all less
+strip_gone areas pinned all rest less cell l f s p up c h g = at (loses_one rest less cell l c g)
   where
     at : (contains nat_cmp rest c ≡ false) ⊎ (cell ≡ c) → p c ≡ true
     at (inl k) = s p up c h k
     at (inr k) =
-        up c h (ap (λ (x : ℕ). contains nat_cmp held x) (sym k) ∙ f.unheld) (λ d r i. s p up d i (f.none d (ap (λ (x : ℕ). reads_in areas x d) k ∙ r)))
+        up c h (ap (λ (x : ℕ). contains nat_cmp pinned x) (sym k) ∙ f.unheld) (λ d r i. s p up d i (f.none d (ap (λ (x : ℕ). reads_in areas x d) k ∙ r)))
 
-pub strip_step : (first areas now : BTreeMap ℕ (Vec Area)) (held all rest less : BTreeSet ℕ) (work more : List ℕ) (waiting next : BTreeMap ℕ (Vec ℕ)) (cell : ℕ) → Loses rest less cell → more ≡ work ++ waiting_for waiting cell →
-    ((d : ℕ) → waiting_for next d ≡ cond (cell == d) [] (waiting_for waiting d)) → IsFree areas held rest cell → KeepsReads rest first areas → KeepsReads rest areas now → IsTracking now held rest work waiting (Some cell) → IsWithin rest all →
-    AreStripped first held all rest → IsStripping first now held all less more next
-strip_step first areas now held all rest less work more waiting next cell l m n f k j t w s = record {
+pub strip_step : (first areas now : BTreeMap ℕ (Vec Area)) (pinned all rest less : BTreeSet ℕ) (work more : List ℕ) (waiting next : BTreeMap ℕ (Vec ℕ)) (cell : ℕ) → Loses rest less cell → more ≡ work ++ waiting_for waiting cell →
+    ((d : ℕ) → waiting_for next d ≡ cond (cell == d) [] (waiting_for waiting d)) → IsFree areas pinned rest cell → KeepsReads rest first areas → KeepsReads rest areas now → IsTracking now pinned rest work waiting (Some cell) → IsWithin rest all →
+    AreStripped first pinned all rest → IsStripping first now pinned all less more next
+strip_step first areas now pinned all rest less work more waiting next cell l m n f k j t w s = record {
   kept = λ c d h. let i = (loses_others rest less cell l d h).0 in j c d i ∙ k c d i;
-  tracking = track_strip now held rest less work more waiting next cell l m n t;
+  tracking = track_strip now pinned rest less work more waiting next cell l m n t;
   within = loses_within rest less all cell l w;
-  stripped = strip_gone first held all rest less cell l (first_free first areas held rest cell k f) s;
+  stripped = strip_gone first pinned all rest less cell l (first_free first areas pinned rest cell k f) s;
 }
 
 -- ---- the end
 
-pub strip_end : (first areas now : BTreeMap ℕ (Vec Area)) (held rest : BTreeSet ℕ) (work : List ℕ) (waiting : BTreeMap ℕ (Vec ℕ)) → KeepsReads rest first areas → KeepsReads rest areas now → IsTracking now held rest work waiting None → work ≡ [] →
-    EachReadsOne first held rest
-strip_end first areas now held rest work waiting k j t e c h u = at (t.each c h u)
+pub strip_end : (first areas now : BTreeMap ℕ (Vec Area)) (pinned rest : BTreeSet ℕ) (work : List ℕ) (waiting : BTreeMap ℕ (Vec ℕ)) → KeepsReads rest first areas → KeepsReads rest areas now → IsTracking now pinned rest work waiting None → work ≡ [] →
+    EachReadsOne first pinned rest
+strip_end first areas now pinned rest work waiting k j t e c h u = at (t.each c h u)
   where
     at : (None ≡ Some c) ⊎ ((is_one_of work c ≡ true) ⊎ Waits now rest waiting c) → ReadsOne first rest c
     at (inl i) = cc

@@ -5,7 +5,7 @@ use Rattle.wi_graph.proofs.Tests.{is_at-eq, clash}
 use Rattle.wi_graph.proofs.Walks.{same_cell}
 use Rattle.wi_graph.proofs.SetSteps.{in_difference, taken}
 use Rattle.wi_graph.proofs.SearchSteps.{found_cone}
-use Rattle.wi_graph.proofs.HeldSteps.{held_finds, finds_held, held_test}
+use Rattle.wi_graph.proofs.PinnedSteps.{pinned_finds, finds_pinned, pinned_test}
 use Rattle.wi_graph.proofs.EdgeLemmas.{areas_rooms}
 use Rattle.wi_graph.proofs.ComingSteps.{found_longer}
 use Rattle.wi_graph.proofs.ChangeSteps.{then_sheet, then_contents, then_same}
@@ -38,11 +38,11 @@ brought_step rooms next i x old new v o l e g u c h =
     at true = g
     at false = h
 
-pub settles : (rooms : Rooms) (next : Coming) (circles cells held all rest : BTreeSet ℕ) (list outer : List ℕ) (reads : BTreeMap ℕ (Vec Area)) → list ≡ cells.keys → ((c : ℕ) → is_one_of list c ≡ true → items_there (get nat_cmp reads c) ≡ areas_of (room_over next rooms c)) →
-    outer ≡ filter (reads_outside reads circles cells) cells.keys → ((c : ℕ) → contains nat_cmp held c ≡ is_one_of outer c) → ((c : ℕ) → contains nat_cmp all c ≡ is_one_of list c) →
-    IsWithin rest all → AreStripped reads held all rest → EachReadsOne reads held rest → SettlesCone rooms next circles cells rest
-settles rooms next circles cells held all rest list outer reads e g o h a w st left s t xs same are circ cone c =
-    circular_after s t xs (contains nat_cmp held) (contains nat_cmp rest) same (record {
+pub settles : (rooms : Rooms) (next : Coming) (circles cells pinned all rest : BTreeSet ℕ) (list outer : List ℕ) (reads : BTreeMap ℕ (Vec Area)) → list ≡ cells.keys → ((c : ℕ) → is_one_of list c ≡ true → items_there (get nat_cmp reads c) ≡ areas_of (room_over next rooms c)) →
+    outer ≡ filter (reads_outside reads circles cells) cells.keys → ((c : ℕ) → contains nat_cmp pinned c ≡ is_one_of outer c) → ((c : ℕ) → contains nat_cmp all c ≡ is_one_of list c) →
+    IsWithin rest all → AreStripped reads pinned all rest → EachReadsOne reads pinned rest → SettlesCone rooms next circles cells rest
+settles rooms next circles cells pinned all rest list outer reads e g o h a w st left s t xs same are circ cone c =
+    circular_after s t xs (contains nat_cmp pinned) (contains nat_cmp rest) same (record {
       holds = λ d i k. holds d i k;
       frees = λ d i k f r n. frees d i k f r n (contains nat_cmp circles f) refl;
       within = λ d k. sym (cone d) ∙ in_cells d (w d k);
@@ -63,16 +63,16 @@ settles rooms next circles cells held all rest list outer reads e g o h a w st l
     as_read : (d : ℕ) → contains nat_cmp cells d ≡ true → (q : ℕ) → reads_in reads d q ≡ content_reads (content_of t d) q
     as_read d k q = ap (λ (rs : List Area). is_within_one rs q) (g d (sym (in_list d) ∙ k) ∙ ap areas_of (are d)) ∙ sym (reads_areas (content_of t d) q)
 
-    holds : (d : ℕ) → in_cone s xs d ≡ true → contains nat_cmp held d ≡ true → (f : ℕ) × (content_reads (content_of t d) f ≡ true) × (in_cone s xs f ≡ false) × (circular s f ≡ true)
+    holds : (d : ℕ) → in_cone s xs d ≡ true → contains nat_cmp pinned d ≡ true → (f : ℕ) × (content_reads (content_of t d) f ≡ true) × (in_cone s xs f ≡ false) × (circular s f ≡ true)
     holds d i k =
-        let p = and_parts (reads_outside reads circles cells d) _ (sym (held_test reads circles cells outer held o h d) ∙ k) in
-        let x = held_finds circles cells (items_there (get nat_cmp reads d)) p.0 in
+        let p = and_parts (reads_outside reads circles cells d) _ (sym (pinned_test reads circles cells outer pinned o h d) ∙ k) in
+        let x = pinned_finds circles cells (items_there (get nat_cmp reads d)) p.0 in
         (x.0, sym (as_read d (cone d ∙ i) x.0) ∙ x.2, sym (cone x.0) ∙ x.3, sym (circ x.0) ∙ has_key circles.keys x.0 ∙ x.1)
 
-    frees : (d : ℕ) → in_cone s xs d ≡ true → contains nat_cmp held d ≡ false → (f : ℕ) → content_reads (content_of t d) f ≡ true → in_cone s xs f ≡ false → (b : Bool) → contains nat_cmp circles f ≡ b → circular s f ≡ false
+    frees : (d : ℕ) → in_cone s xs d ≡ true → contains nat_cmp pinned d ≡ false → (f : ℕ) → content_reads (content_of t d) f ≡ true → in_cone s xs f ≡ false → (b : Bool) → contains nat_cmp circles f ≡ b → circular s f ≡ false
     frees d i k f r n true m =
-        let y = finds_held circles cells (items_there (get nat_cmp reads d)) f (sym (has_key circles.keys f) ∙ m) (as_read d (cone d ∙ i) f ∙ r) (cone f ∙ n) in
-        clash (contains nat_cmp held d) (held_test reads circles cells outer held o h d ∙ and_from (reads_outside reads circles cells d) _ y (cone d ∙ i)) k
+        let y = finds_pinned circles cells (items_there (get nat_cmp reads d)) f (sym (has_key circles.keys f) ∙ m) (as_read d (cone d ∙ i) f ∙ r) (cone f ∙ n) in
+        clash (contains nat_cmp pinned d) (pinned_test reads circles cells outer pinned o h d ∙ and_from (reads_outside reads circles cells d) _ y (cone d ∙ i)) k
     frees d i k f r n false m = sym (circ f) ∙ m
 
 pub rest_within : (cells all rest : BTreeSet ℕ) (list : List ℕ) → list ≡ cells.keys → ((c : ℕ) → contains nat_cmp all c ≡ is_one_of list c) → IsWithin rest all → IsWithin rest cells

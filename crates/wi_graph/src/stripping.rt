@@ -19,26 +19,26 @@ pub(crate) type Areas = BTreeMap<Address, Vec<Rect>>;
 /// Cells that wait, by a cell that they read.
 type Waiters = BTreeMap<Address, Vec<Address>>;
 
-/// Takes away from a set, again and again, each cell that reads none of the set; the cells of `held` stay, whatever they read. The work grows
+/// Takes away from a set, again and again, each cell that reads none of the set; the cells of `pinned` stay, whatever they read. The work grows
 /// with the count of the cells, of the rectangles that they read, of the cells of the set in each of these, and, where the
 /// rectangle around the set meets it, of its rows where a cell of the set stands beside it, times logarithms. If memory runs
 /// out, some that could go stay.
 pub(crate) fn strip(
     alloc: Global,
     mut areas: Areas,
-    held: &CellSet,
+    pinned: &CellSet,
     rest: &mut CellSet,
 ) -> Result<(), AllocError>
     ensures within { IsWithin rest.new rest.old }
-    ensures gone { AreStripped areas held.now rest.old rest.new }
-    ensures left { OnOk result (EachReadsOne areas held.now rest.new) }
+    ensures gone { AreStripped areas pinned.now rest.old rest.new }
+    ensures left { OnOk result (EachReadsOne areas pinned.now rest.new) }
 {
-    let mut work = without(alloc, rest, held)?;
+    let mut work = without(alloc, rest, pinned)?;
     let mut waiting = BTreeMap::new(alloc);
     'cells: while let Some(cell) = next_free(
         alloc,
         &mut areas,
-        held,
+        pinned,
         rest,
         &mut work,
         &mut waiting,
@@ -53,16 +53,16 @@ pub(crate) fn strip(
 fn next_free(
     alloc: Global,
     areas: &mut Areas,
-    held: &CellSet,
+    pinned: &CellSet,
     rest: &CellSet,
     work: &mut Vec<Address>,
     waiting: &mut Waiters,
 ) -> Result<Option<Address>, AllocError>
-    requires { IsTracking areas.old held.now rest.now work.old.items waiting.old None }
+    requires { IsTracking areas.old pinned.now rest.now work.old.items waiting.old None }
     ensures kept { OnOk result (KeepsReads rest.now areas.old areas.new) }
     ensures tracking { IfOk result
-        (IsTracking areas.new held.now rest.now work.new.items waiting.new) }
-    ensures some { IfOk result (λ o. IfSome o (IsFree areas.old held.now rest.now)) }
+        (IsTracking areas.new pinned.now rest.now work.new.items waiting.new) }
+    ensures some { IfOk result (λ o. IfSome o (IsFree areas.old pinned.now rest.now)) }
     ensures none { IfOk result (λ o. IfNone o (work.new.items ≡ [])) }
 {
     'cells: while let Some(cell) = work.pop() {

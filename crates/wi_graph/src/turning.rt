@@ -14,7 +14,7 @@ ghost use Rattle.wi_graph.specs.Inner.Turning.{AreTurns, SettlesCone};
 
 use crate::cell_set::CellSet;
 use crate::closing::{closes_cycle, meets_circle, stands_apart};
-use crate::held::held_set;
+use crate::pinned::pinned_set;
 use crate::reads::reads_of;
 use crate::rooms::{Brought, Rooms};
 use crate::sets::{insert_all, listed, set_of, take_away, without};
@@ -182,9 +182,9 @@ fn circular_in_cone(
 {
     let list = listed(alloc, cells.set())?;
     let reads = reads_of(alloc, rooms, next, &list)?;
-    let held = held_set(alloc, &reads, circles, cells)?;
+    let pinned = pinned_set(alloc, &reads, circles, cells)?;
     let mut rest = set_of(alloc, &list)?;
-    strip(alloc, reads, &held, &mut rest)?;
+    strip(alloc, reads, &pinned, &mut rest)?;
     Ok(rest)
 }
 

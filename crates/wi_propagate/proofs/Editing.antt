@@ -1,11 +1,11 @@
 -- What is so of a calculator that keeps values stays so over an edit.
-use Rattle.wi_propagate.proofs.Words.{◌≡◌, ◌==◌, ◌⊎◌, ◌≤◌, ◌+◌, ℕ, Bool, true, false, cond, nat_lt, nat_le, List, [], ◌∷◌, map, Option, Some, None, IfSome, Result, Ok, Err, refl, ap, sym, ◌∙◌, subst, arith, or_parts, keys_of, turn_test, Content, Constant, Formula, Sheet, content_of, with_content, Stored, edited, without_empty, change_without_empty, accepted, applied, Applies, StoreFault, Full, EditLimit, Memory, Counts, KeptValues, kept, value_for, is_one_of, SameOff, in_cone, Edges, AreEdgesOf, brought, edges_after, sheet_after, edges_follow, Generations, IsEdit, KeptSheet, generation_in, IsKeptFor, AreKeptRight, content_of-with, Value, Key, numbered, IsUnread, Box, Held, kept_sheet, Noted, told, AreKeptUp}
+use Rattle.wi_propagate.proofs.Words.{◌≡◌, ◌==◌, ◌⊎◌, ◌≤◌, ◌+◌, ℕ, Bool, true, false, cond, nat_lt, nat_le, List, [], ◌∷◌, map, Option, Some, None, IfSome, Result, Ok, Err, refl, ap, sym, ◌∙◌, subst, arith, or_parts, keys_of, turn_test, Content, Constant, Formula, Sheet, content_of, with_content, Stored, edited, without_empty, change_without_empty, accepted, applied, Applies, StoreFault, Full, EditLimit, Memory, Counts, KeptValues, kept, value_for, is_one_of, SameOff, in_cone, Edges, AreEdgesOf, brought, edges_after, sheet_after, edges_follow, Generations, IsEdit, KeptSheet, generation_in, IsKeptFor, AreKeptRight, content_of-with, Value, Key, numbered, IsUnread, Box, Carried, kept_sheet, Noted, told, AreKeptUp}
 use Rattle.wi_propagate.proofs.RightValues.{AreRaised, kept_over_edit}
 use Rattle.wi_propagate.proofs.NotedSteps.{told_after, told_same, kept_up_after, no_numbers, told_none}
 
 -- ---- where nothing was edited, and nothing is kept
 
-pub begins_right : (s : Stored) (g : Noted) (h : Box Held) (n : Counts) (keep : ℕ) → g ≡ no_numbers → h.value.kept ≡ kept [] keep → 1 ≤ keep → AreKeptRight (kept_sheet s (told s.sheet g.named) (Some h) n)
+pub begins_right : (s : Stored) (g : Noted) (h : Box Carried) (n : Counts) (keep : ℕ) → g ≡ no_numbers → h.value.kept ≡ kept [] keep → 1 ≤ keep → AreKeptRight (kept_sheet s (told s.sheet g.named) (Some h) n)
 begins_right s g h n keep e v one = record {
   room = subst (λ (x : KeptValues). 1 ≤ x.capacity) (sym v) one;
   past = λ c. let z = told_none s.sheet g c e in omega (arith, z);

@@ -1,5 +1,5 @@
 -- A question asked of a calculator that keeps values.
-use Rattle.wi_propagate.proofs.Words.{◌≡◌, ◌≤◌, ◌<◌, ◌+◌, ◌-◌, ◌^◌, inl, inr, length, All, filter, not, is_some, ℕ, Bool, true, false, List, [], Option, refl, ap, sym, ◌∙◌, subst, arith, keys_of, cases_lt, true≢false, Value, Fault, Circular, Replacement, Sheet, content_of, put_all, has_formula, Counts, Stored, Key, KeptValues, kept, value_for, IfSome, circular, clash, Case, reaching, asks_circular, table_entry, IsWhatIfSettled, IsClosed, SpentOn, left_is_unkept, sum_ones, never_fall-same, spent_unkept, cells_open, entry_circular, none_circular, MayBeRead, KeepsFound, WhereRoom, TakesNoMore, GivesUpWhenFull, NeedsNoEvaluation, IsValuedAnew, IsSameBeside, Saved, SpendsAtMost, what_if_more, rests_more, none_went, Generations, generation_in, KeptSheet, key_in, stands, is_kept, unkept, gone, IsAtHand, HasRoomFor, KeepsAll, KeepsNoMore, KeepsOld, KeepsWhileRoom, emptied, AreRight, IsKeptFor, AreKeptRight, Box, Held, kept_sheet, values_in, Keeping, keeping, begun, state_in, ArePlaced, IsKeepingRight, Owes, told, or_none, Some, None, IsSome, Noted, noted_in, Staging, AreEdgesOf, AreOwed, AreHeldCones, AreKeptUp, AreAllCones, ArePlans}
+use Rattle.wi_propagate.proofs.Words.{◌≡◌, ◌≤◌, ◌<◌, ◌+◌, ◌-◌, ◌^◌, inl, inr, length, All, filter, not, is_some, ℕ, Bool, true, false, List, [], Option, refl, ap, sym, ◌∙◌, subst, arith, keys_of, cases_lt, true≢false, Value, Fault, Circular, Replacement, Sheet, content_of, put_all, has_formula, Counts, Stored, Key, KeptValues, kept, value_for, IfSome, circular, clash, Case, reaching, asks_circular, table_entry, IsWhatIfSettled, IsClosed, SpentOn, left_is_unkept, sum_ones, never_fall-same, spent_unkept, cells_open, entry_circular, none_circular, MayBeRead, KeepsFound, WhereRoom, TakesNoMore, GivesUpWhenFull, NeedsNoEvaluation, IsValuedAnew, IsSameBeside, Saved, SpendsAtMost, what_if_more, rests_more, none_went, Generations, generation_in, KeptSheet, key_in, stands, is_kept, unkept, gone, IsAtHand, HasRoomFor, KeepsAll, KeepsNoMore, KeepsOld, KeepsWhileRoom, emptied, AreRight, IsKeptFor, AreKeptRight, Box, Carried, kept_sheet, values_in, Keeping, keeping, begun, state_in, ArePlaced, IsKeepingRight, Owes, told, or_none, Some, None, IsSome, Noted, noted_in, Staging, AreEdgesOf, AreOwed, AreCarriedCones, AreKeptUp, AreAllCones, ArePlans}
 use Rattle.wi_engine.specs.Inner.Saving as saving
 use Rattle.wi_propagate.specs.declared.plans.Plans.{Plans}
 use Rattle.wi_propagate.proofs.NotedSteps.{settled_up}
@@ -8,7 +8,7 @@ use Rattle.wi_propagate.proofs.PlaceCounts.{all_stand}
 -- ---- what is owed is settled first
 
 -- where the numbers of edits are the same, so is the calculator
-module _ {s : Stored} {old new : Generations} (e : new ≡ old) (o : Option (Box Held)) (n : Counts) where
+module _ {s : Stored} {old new : Generations} (e : new ≡ old) (o : Option (Box Carried)) (n : Counts) where
   pub settled_view : (k : KeptSheet) → kept_sheet s (told s.sheet old) o n ≡ k → kept_sheet s (told s.sheet new) o n ≡ k
   settled_view k h = ap (λ (ns : Generations). kept_sheet s (told s.sheet ns) o n) e ∙ h
 
@@ -22,14 +22,14 @@ pub record Begins (k : KeptSheet) (q : Keeping) : Type 0 where
   pub is : q ≡ begun k
   pub placed : ArePlaced k.values
 
-pub begins : (s : Stored) (gs : Generations) (o : Option (Box Held)) (n : Counts) (v : KeptValues) (q : Keeping) → v ≡ values_in o → q ≡ keeping s.sheet s.edits gs [] v → ArePlaced v → Begins (kept_sheet s gs o n) q
+pub begins : (s : Stored) (gs : Generations) (o : Option (Box Carried)) (n : Counts) (v : KeptValues) (q : Keeping) → v ≡ values_in o → q ≡ keeping s.sheet s.edits gs [] v → ArePlaced v → Begins (kept_sheet s gs o n) q
 begins s gs o n v q f e placed = record {
   is = e ∙ ap (λ (x : KeptValues). keeping s.sheet s.edits gs [] x) f;
   placed = subst (λ (x : KeptValues). ArePlaced x) f placed;
 }
 
 -- and what was kept is right
-pub begun_right : (s : Stored) (gs : Generations) (o : Option (Box Held)) (n : Counts) (v : KeptValues) → v ≡ values_in o → AreKeptRight (kept_sheet s gs o n) → IsKeepingRight (keeping s.sheet s.edits gs [] v)
+pub begun_right : (s : Stored) (gs : Generations) (o : Option (Box Carried)) (n : Counts) (v : KeptValues) → v ≡ values_in o → AreKeptRight (kept_sheet s gs o n) → IsKeepingRight (keeping s.sheet s.edits gs [] v)
 begun_right s gs o n v f h = record {
   past = h.past;
   right = subst (λ (x : KeptValues). AreRight s.sheet s.edits (generation_in gs) x.entries) (sym f) h.right;
@@ -145,36 +145,36 @@ module _ {k : KeptSheet} {q : Keeping} (e : Begins k q) (last : Keeping) (values
 
 -- ---- what always holds of the calculator, by its parts
 
-abbrev pub AlwaysHolds : Option (Box Held) → Staging → Stored → Noted → Counts → Type 0
-AlwaysHolds o graph s g n = IsSome o × AreEdgesOf graph.now s.sheet × (graph.staged ≡ None) × AreKeptRight (kept_sheet s (told s.sheet g.named) o n) × AreHeldCones s.sheet o × AreKeptUp s.sheet s.edits g
+abbrev pub AlwaysHolds : Option (Box Carried) → Staging → Stored → Noted → Counts → Type 0
+AlwaysHolds o graph s g n = IsSome o × AreEdgesOf graph.now s.sheet × (graph.staged ≡ None) × AreKeptRight (kept_sheet s (told s.sheet g.named) o n) × AreCarriedCones s.sheet o × AreKeptUp s.sheet s.edits g
 
 -- once what is owed is settled
-pub holds_settled : (o : Option (Box Held)) (graph : Staging) (s : Stored) (old new : Noted) (n : Counts) → new.named ≡ old.named → AreOwed s.sheet (generation_in new.named) new.owed (noted_in new.named new.noted) →
+pub holds_settled : (o : Option (Box Carried)) (graph : Staging) (s : Stored) (old new : Noted) (n : Counts) → new.named ≡ old.named → AreOwed s.sheet (generation_in new.named) new.owed (noted_in new.named new.noted) →
     AlwaysHolds o graph s old n → AlwaysHolds o graph s new n
 holds_settled o graph s old new n e owed h = (h.0, h.1, h.2, settled_right {s = s} e o n h.3, h.4, settled_up s.sheet s.edits old new e owed h.5)
 
 -- and once a question is answered
-pub holds_asked : (o : Option (Box Held)) (graph : Staging) (s : Stored) (g : Noted) (n counts : Counts) (q last : Keeping) (b : Box Held) → Begins (kept_sheet s (told s.sheet g.named) o n) q →
+pub holds_asked : (o : Option (Box Carried)) (graph : Staging) (s : Stored) (g : Noted) (n counts : Counts) (q last : Keeping) (b : Box Carried) → Begins (kept_sheet s (told s.sheet g.named) o n) q →
     IsSameBeside (state_in q) (state_in last) → b.value.kept ≡ last.values → last.sheet ≡ s.sheet → IsKeepingRight last → AreAllCones last.sheet b.value.cones → AlwaysHolds o graph s g n → AlwaysHolds (Some b) graph s g counts
 holds_asked o graph s g n counts q last b e beside same sheet right cones h = (refl, h.1, h.2, right_then e last b.value.kept counts beside same sheet h.3 right, subst (λ (x : Sheet). AreAllCones x b.value.cones) sheet cones, h.5)
 
 -- its plans too
-abbrev pub AlwaysPlans : Option (Box Held) → Staging → Stored → Noted → Counts → Plans → Type 0
-AlwaysPlans o graph s g n ps = IsSome o × AreEdgesOf graph.now s.sheet × (graph.staged ≡ None) × AreKeptRight (kept_sheet s (told s.sheet g.named) o n) × AreHeldCones s.sheet o × AreKeptUp s.sheet s.edits g × ArePlans s.sheet ps
+abbrev pub AlwaysPlans : Option (Box Carried) → Staging → Stored → Noted → Counts → Plans → Type 0
+AlwaysPlans o graph s g n ps = IsSome o × AreEdgesOf graph.now s.sheet × (graph.staged ≡ None) × AreKeptRight (kept_sheet s (told s.sheet g.named) o n) × AreCarriedCones s.sheet o × AreKeptUp s.sheet s.edits g × ArePlans s.sheet ps
 
-pub with_plans : (o : Option (Box Held)) (graph : Staging) (s : Stored) (g : Noted) (n : Counts) (ps : Plans) → AlwaysHolds o graph s g n → ArePlans s.sheet ps → AlwaysPlans o graph s g n ps
+pub with_plans : (o : Option (Box Carried)) (graph : Staging) (s : Stored) (g : Noted) (n : Counts) (ps : Plans) → AlwaysHolds o graph s g n → ArePlans s.sheet ps → AlwaysPlans o graph s g n ps
 with_plans o graph s g n ps h k = (h.0, h.1, h.2, h.3, h.4, h.5, k)
 
-pub but_plans : (o : Option (Box Held)) (graph : Staging) (s : Stored) (g : Noted) (n : Counts) (ps : Plans) → AlwaysPlans o graph s g n ps → AlwaysHolds o graph s g n
+pub but_plans : (o : Option (Box Carried)) (graph : Staging) (s : Stored) (g : Noted) (n : Counts) (ps : Plans) → AlwaysPlans o graph s g n ps → AlwaysHolds o graph s g n
 but_plans o graph s g n ps h = (h.0, h.1, h.2, h.3, h.4, h.5)
 
--- ---- what is held goes
+-- ---- what is carried goes
 
-module _ (o p : Option (Box Held)) (none : values_in p ≡ kept [] (values_in o).capacity) (s : Stored) (n : Counts) where
+module _ (o p : Option (Box Carried)) (none : values_in p ≡ kept [] (values_in o).capacity) (s : Stored) (n : Counts) where
   pub emptied_view : (gs : Generations) → kept_sheet s gs p n ≡ emptied (kept_sheet s gs o n)
   emptied_view gs = λ i. record { stored = s; generations = gs; values = none i; counts = n }
 
-  pub holds_emptied : (graph : Staging) (g : Noted) → (IsSome o → IsSome p) → AreHeldCones s.sheet p → AlwaysHolds o graph s g n → AlwaysHolds p graph s g n
+  pub holds_emptied : (graph : Staging) (g : Noted) → (IsSome o → IsSome p) → AreCarriedCones s.sheet p → AlwaysHolds o graph s g n → AlwaysHolds p graph s g n
   holds_emptied graph g there cones h = (there h.0, h.1, h.2, right (told s.sheet g.named) h.3, cones, h.5)
     where
       right : (gs : Generations) → AreKeptRight (kept_sheet s gs o n) → AreKeptRight (kept_sheet s gs p n)

@@ -1,5 +1,5 @@
 -- What is kept or was given up in a question: a value comes, and none goes.
-use Rattle.wi_propagate.proofs.Words.{◌≡◌, ◌≤◌, ◌-◌, ◌⊎◌, inl, inr, ◌||◌, ℕ, Bool, true, false, cond, nat_lt, List, [], ◌∷◌, length, Option, Some, None, IfSome, IsSome, is_some, refl, ap, sym, ◌∙◌, subst, arith, if◌then◌else◌, nat_tests, lookup_from_place, slice_get_cases, update, option_or, Value, Replacement, Key, Entries, KeptValues, HasOneEach, PutsIn, going, same_key, value_for, last_entry, same_key_means, same_key_equiv, same_case, known_still, known_then, Keeps, Generations, generation_in, key_in, Keeping, TakesOver, state_in, value_in, put_all, circular, cell_value, HasFound, AreRight, Held, IsKeepingRight, keeping, Sheet}
+use Rattle.wi_propagate.proofs.Words.{◌≡◌, ◌≤◌, ◌-◌, ◌⊎◌, inl, inr, ◌||◌, ℕ, Bool, true, false, cond, nat_lt, List, [], ◌∷◌, length, Option, Some, None, IfSome, IsSome, is_some, refl, ap, sym, ◌∙◌, subst, arith, if◌then◌else◌, nat_tests, lookup_from_place, slice_get_cases, update, option_or, Value, Replacement, Key, Entries, KeptValues, HasOneEach, PutsIn, going, same_key, value_for, last_entry, same_key_means, same_key_equiv, same_case, known_still, known_then, Keeps, Generations, generation_in, key_in, Keeping, TakesOver, state_in, value_in, put_all, circular, cell_value, HasFound, AreRight, Carried, IsKeepingRight, keeping, Sheet}
 use Rattle.wi_propagate.proofs.KeepSteps.{KeepsIn, put_is_some, right_after, kept_after, there_after, room_after, gives_up_after}
 use Rattle.wi_propagate.proofs.PlaceCounts.{one_place_after}
 use Rattle.wi_propagate.proofs.RightValues.{told_in, found_is_kept}
@@ -135,25 +135,25 @@ pub record KeptAtHand (old new : Keeping) (k : Key) (v : Value) : Type 0 where
   pub found : HasFound (state_in old) (state_in new) k
   pub there : is_some (value_for new.values.entries (key_in new.generations k.cell k.world)) ≡ true
 
--- what is held in a question, as the code reads it
-module _ (s : Sheet) (edits : ℕ) (g : Generations) (held was : Held) (q : Keeping) (read : held ≡ was) (view : keeping s edits g was.given_up.entries was.kept ≡ q) (k : Key) (v : Value) where
-  seen : keeping s edits g held.given_up.entries held.kept ≡ q
-  seen = ap (λ (x : Held). keeping s edits g x.given_up.entries x.kept) read ∙ view
+-- what is carried into a question, as the code reads it
+module _ (s : Sheet) (edits : ℕ) (g : Generations) (carried was : Carried) (q : Keeping) (read : carried ≡ was) (view : keeping s edits g was.given_up.entries was.kept ≡ q) (k : Key) (v : Value) where
+  seen : keeping s edits g carried.given_up.entries carried.kept ≡ q
+  seen = ap (λ (x : Carried). keeping s edits g x.given_up.entries x.kept) read ∙ view
 
   -- memory ran out
-  pub out_of_memory : (fs : Entries) (n : KeptValues) → fs ≡ held.given_up.entries → n ≡ held.kept → Remembers q (keeping s edits g fs n) k v
+  pub out_of_memory : (fs : Entries) (n : KeptValues) → fs ≡ carried.given_up.entries → n ≡ carried.kept → Remembers q (keeping s edits g fs n) k v
   out_of_memory fs n e f =
-      keeps_nothing q (keeping s edits g fs n) k v (ap (λ (x : KeptValues). keeping s edits g fs x) f ∙ ap (λ (x : Entries). keeping s edits g x held.kept) e ∙ seen)
+      keeps_nothing q (keeping s edits g fs n) k v (ap (λ (x : KeptValues). keeping s edits g fs x) f ∙ ap (λ (x : Entries). keeping s edits g x carried.kept) e ∙ seen)
 
   -- the value is kept
-  module _ (n : KeptValues) (h : KeepsIn held.kept n k v) (generation : k.generation ≡ generation_in q.generations k.cell) where
+  module _ (n : KeptValues) (h : KeepsIn carried.kept n k v) (generation : k.generation ≡ generation_in q.generations k.cell) where
     present : k.generation ≡ generation_in g k.cell
     present = generation ∙ ap (λ (x : Keeping). generation_in x.generations k.cell) (sym seen)
 
-    pub kept_at_hand : (fs : Entries) → HasOneEach held.kept.entries → TakesOver (going held.kept k) held.given_up.entries fs → KeptAtHand q (keeping s edits g fs n) k v
+    pub kept_at_hand : (fs : Entries) → HasOneEach carried.kept.entries → TakesOver (going carried.kept k) carried.given_up.entries fs → KeptAtHand q (keeping s edits g fs n) k v
     kept_at_hand fs one_each takes =
-        let es = held.given_up.entries in
-        let m = held.kept in
+        let es = carried.given_up.entries in
+        let m = carried.kept in
         subst (λ (x : Keeping). KeptAtHand x (keeping s edits g fs n) k v) seen (record {
           remembers = record {
             keeps = record {
@@ -174,5 +174,5 @@ module _ (s : Sheet) (edits : ℕ) (g : Generations) (held was : Held) (q : Keep
     keeps_right fs r o e =
         let leaf : circular s k.cell ≡ false = ap (λ (x : Keeping). circular x.sheet k.cell) seen ∙ o in
         let is : v ≡ cell_value (put_all s k.world) k.cell = e ∙ ap (λ (x : Keeping). cell_value (put_all x.sheet k.world) k.cell) (sym seen) in
-        let right : AreRight s edits (generation_in g) held.kept.entries = subst (λ (x : Held). AreRight s edits (generation_in g) x.kept.entries) (sym read) r.right in
-        record { past = r.past; right = right_after s edits (generation_in g) held.kept n k v h (found_is_kept s edits (generation_in g) k v r.past leaf present is) right }
+        let right : AreRight s edits (generation_in g) carried.kept.entries = subst (λ (x : Carried). AreRight s edits (generation_in g) x.kept.entries) (sym read) r.right in
+        record { past = r.past; right = right_after s edits (generation_in g) carried.kept n k v h (found_is_kept s edits (generation_in g) k v r.past leaf present is) right }

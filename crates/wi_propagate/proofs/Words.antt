@@ -60,7 +60,7 @@ pub use Rattle.wi_parser.specs.Sheet.{Sheet, cells_with_formula, content_of, has
 pub use Rattle.wi_parser.specs.declared.content.Content.{Content}
 pub use Rattle.wi_parser.specs.declared.content.Content.TheVariants.{Constant, Formula}
 pub use Rattle.wi_propagate.specs.Inner.Cones.{AreAllCones}
-pub use Rattle.wi_propagate.specs.Inner.Keeping.{AreHeldCones, ArePlaced, HasGeneration, IsKeepingRight, Keeping, TakesOver, begun, keeping, kept_sheet, state_in, value_in, values_in}
+pub use Rattle.wi_propagate.specs.Inner.Keeping.{AreCarriedCones, ArePlaced, HasGeneration, IsKeepingRight, Keeping, TakesOver, begun, keeping, kept_sheet, state_in, value_in, values_in}
 pub use Rattle.wi_propagate.specs.Inner.Noted.{AreAllNoted, AreKeptUp, Noted, noted_in}
 unfoldable pub use Rattle.wi_propagate.specs.Inner.Noted.{told}
 pub use Rattle.wi_propagate.specs.Inner.Planned.{ArePlans}
@@ -68,7 +68,7 @@ pub use Rattle.wi_propagate.specs.Inner.Owes.{Owes}
 pub use Rattle.wi_propagate.specs.Inner.Settling.{second_cells}
 pub use Rattle.wi_propagate.specs.KeptSheet.{Generations, HasRoomFor, IsAtHand, emptied, IsEdit, KeepsAll, KeepsNoMore, KeepsOld, KeepsWhileRoom, KeptSheet, generation_in, gone, is_kept, key_in, stands, unkept}
 pub use Rattle.wi_propagate.specs.Right.{AreKeptRight, AreRight, IsKeptFor, IsRight}
-pub use Rattle.wi_propagate.specs.declared.held.Held.{Held}
+pub use Rattle.wi_propagate.specs.declared.carried.Carried.{Carried}
 pub use Rattle.wi_sheet.proofs.Bounds.{bound_not_felt}
 pub use Rattle.wi_sheet.proofs.CaseCosts.{left_is_unkept, never_fall-same, one_less_left, spent_nothing, spent_price, spent_unkept}
 pub use Rattle.wi_sheet.proofs.Cases.{demands_itself, different_closed}

@@ -9,9 +9,9 @@ ghost use Rattle.wi_propagate.specs.Inner.Cones.{AreAllCones};
 ghost use Rattle.wi_propagate.specs.Inner.Keeping.{keeping, state_in, ArePlaced, IsKeepingRight, TakesOver};
 ghost use Rattle.wi_propagate.specs.Inner.Noted.{told, AreAllNoted};
 
+use crate::carried::Carried;
 use crate::cones::add_cones;
 use crate::generations::Generations;
-use crate::held::Held;
 use std::alloc::{AllocError, Global};
 use std::marker::Model;
 use wi_cache::{GivenUp, Kept, Key};
@@ -30,7 +30,7 @@ pub struct Keeping<'a> {
     graph: &'a Graph,
     generations: &'a Generations,
     // With the cones of the replaced cells so far, and of some before, and the values that were given up in this question.
-    held: Box<Held>,
+    carried: Box<Carried>,
     // The replacements of the last key that had some of them, and not all.
     last: World,
     // How many replacements the question came with.
@@ -57,66 +57,68 @@ impl<'a> Model for Keeping<'a> {
     ghost use Rattle.wi_propagate.specs.Inner.Noted.{told, AreAllNoted};
 
     ghost view = { λ m. keeping m.store.now.sheet m.store.now.edits
-        (told m.store.now.sheet m.generations.now.named) m.held.value.given_up.entries m.held.value.kept };
+        (told m.store.now.sheet m.generations.now.named) m.carried.value.given_up.entries
+        m.carried.value.kept };
 
     ghost invariant = { λ m. AreEdgesOf m.graph.now.now m.store.now.sheet
         × (m.graph.now.staged ≡ None)
-        × AreAllCones m.store.now.sheet m.held.value.cones
+        × AreAllCones m.store.now.sheet m.carried.value.cones
         × IsKeepingRight (keeping m.store.now.sheet m.store.now.edits
-        (told m.store.now.sheet m.generations.now.named) m.held.value.given_up.entries m.held.value.kept)
+        (told m.store.now.sheet m.generations.now.named) m.carried.value.given_up.entries
+        m.carried.value.kept)
         × AreAllNoted m.store.now.sheet m.store.now.edits m.generations.now };
 }
 
 impl<'a> Keeping<'a> {
-    /// What is held, with nothing given up yet, for a question that comes with so many replacements. Takes no memory. Values that were given
+    /// What is carried, with nothing given up yet, for a question that comes with so many replacements. Takes no memory. Values that were given
     /// up before go.
     pub(crate) fn new(
         alloc: Global,
         store: &'a Store,
         graph: &'a Graph,
         generations: &'a Generations,
-        mut held: Box<Held>,
+        mut carried: Box<Carried>,
         own: usize,
     ) -> Keeping<'a>
         requires edges { AreEdgesOf graph.now.now store.now.sheet }
         requires staged { graph.now.staged ≡ None }
-        requires cones { AreAllCones store.now.sheet held.value.cones }
+        requires cones { AreAllCones store.now.sheet carried.value.cones }
         requires right { IsKeepingRight
             (keeping store.now.sheet store.now.edits
-            (told store.now.sheet generations.now.named) [] held.value.kept) }
+            (told store.now.sheet generations.now.named) [] carried.value.kept) }
         requires noted { AreAllNoted store.now.sheet store.now.edits generations.now }
         ensures value { result
             ≡ keeping store.now.sheet store.now.edits
-            (told store.now.sheet generations.now.named) [] held.value.kept }
+            (told store.now.sheet generations.now.named) [] carried.value.kept }
         ensures memo { IsMemoOf store.now.sheet (state_in result) }
-        ensures placed { ArePlaced held.value.kept }
+        ensures placed { ArePlaced carried.value.kept }
     {
-        let _ = held.kept.len();
-        held.given_up.clear(alloc);
+        let _ = carried.kept.len();
+        carried.given_up.clear(alloc);
         Keeping {
             alloc,
             store,
             graph,
             generations,
-            held,
+            carried,
             last: World::new(alloc),
             own,
         }
     }
 
-    /// What is held for the next question: the values that are kept, which are no more than there is room for, the cones that are
+    /// What is carried to the next question: the values that are kept, which are no more than there is room for, the cones that are
     /// known, and the memory for values that are given up, without them.
-    pub(crate) fn into_held(self) -> Box<Held>
+    pub(crate) fn into_carried(self) -> Box<Carried>
         ensures kept { result.value.kept ≡ self.entry.values }
         ensures within { length result.value.kept.entries ≤ result.value.kept.capacity }
         ensures right { IsKeepingRight self.entry }
         ensures cones { AreAllCones self.entry.sheet result.value.cones }
     {
         let _ = &self.store;
-        let _ = self.held.kept.len();
-        let mut held = self.held;
-        held.given_up.clear(self.alloc);
-        held
+        let _ = self.carried.kept.len();
+        let mut carried = self.carried;
+        carried.given_up.clear(self.alloc);
+        carried
     }
 }
 
@@ -129,9 +131,9 @@ impl<'a> Keeping<'a> {
         ensures full { result ≡ Ok false
             → self.old.values.capacity ≤ length self.old.values.entries }
     {
-        let held = &mut *self.held;
-        if held.kept.is_full() && self.own < world.replacements().len() {
-            return held.recurring.comes_back(world);
+        let carried = &mut *self.carried;
+        if carried.kept.is_full() && self.own < world.replacements().len() {
+            return carried.recurring.comes_back(world);
         }
         Ok(true)
     }
@@ -144,9 +146,9 @@ impl<'a> Keeping<'a> {
             self.old.generations self.new.given_up self.old.values }
         ensures err { OnErr result (self.new ≡ self.old) }
     {
-        let held = &mut *self.held;
-        held.given_up.make_room()?;
-        held.given_up.put((key, value));
+        let carried = &mut *self.carried;
+        carried.given_up.make_room()?;
+        carried.given_up.put((key, value));
         Ok(())
     }
 }
@@ -159,27 +161,27 @@ impl<'a> Memo for Keeping<'a> {
     /// replacements share it. Values that were given up, and may have this part, are prepared for a look by `GivenUp::catch_up`.
     #[inline(always)]
     fn key(&mut self, at: Address, world: &World) -> Result<Key, AllocError> {
-        let held = &mut *self.held;
-        add_cones(self.graph, world, &mut held.cones)?;
-        let world = world.reaching_by(at, &held.cones, &mut self.last)?;
+        let carried = &mut *self.carried;
+        add_cones(self.graph, world, &mut carried.cones)?;
+        let world = world.reaching_by(at, &carried.cones, &mut self.last)?;
         let key = Key {
             cell: at,
             generation: self.generations.generation_of(at),
             world,
         };
-        held.given_up.catch_up(&key)?;
+        carried.given_up.catch_up(&key)?;
         Ok(key)
     }
 
     fn is_full(&self) -> bool {
-        let _ = self.held.kept.len();
-        self.held.kept.is_full()
+        let _ = self.carried.kept.len();
+        self.carried.kept.is_full()
     }
 
     fn look(&self, key: &Key) -> Option<&Value> {
-        match self.held.kept.look(key) {
+        match self.carried.kept.look(key) {
             Some(value) => Some(value),
-            None => self.held.given_up.look(key),
+            None => self.carried.given_up.look(key),
         }
     }
 
@@ -187,11 +189,11 @@ impl<'a> Memo for Keeping<'a> {
     /// if memory runs out.
     #[inline(always)]
     fn keep(&mut self, key: Key, value: Value) -> Result<(), AllocError> {
-        let held = &mut *self.held;
-        let _ = held.kept.len();
-        make_room(&held.kept, &mut held.given_up)?;
-        let gone = held.kept.keep(key, value)?;
-        give_up(gone, &mut held.given_up);
+        let carried = &mut *self.carried;
+        let _ = carried.kept.len();
+        make_room(&carried.kept, &mut carried.given_up)?;
+        let gone = carried.kept.keep(key, value)?;
+        give_up(gone, &mut carried.given_up);
         Ok(())
     }
 

@@ -22,8 +22,8 @@ ghost use Rattle.wi_propagate.specs.KeptSheet.{IsEdit, emptied, generation_in, i
 ghost use Rattle.wi_propagate.specs.Right.{AreKeptRight};
 
 use crate::calculator::Calculator;
+use crate::carried::{Carried, carry_over_edit, forget_carried, take_carried};
 use crate::generations::Generations;
-use crate::held::{Held, forget_held, hold_over_edit, take_held};
 use crate::keeping::Keeping;
 use crate::last_worlds::LastWorlds;
 use crate::plans::Plans;
@@ -47,7 +47,7 @@ pub struct KeptCalculator {
     graph: Graph,
     generations: Generations,
     // There but while a question is answered.
-    held: Option<Box<Held>>,
+    carried: Option<Box<Carried>>,
     // What the last questions replaced, for one that replaces the same.
     worlds: LastWorlds,
     // The most replaced cells that a question had.
@@ -76,18 +76,19 @@ impl Model for KeptCalculator {
     ghost use Rattle.std.specs.Prelude.{◌≡◌, [], None, IsSome};
     ghost use Rattle.wi_graph.specs.Edges.{AreEdgesOf};
     ghost use Rattle.wi_propagate.specs.Right.{AreKeptRight};
-    ghost use Rattle.wi_propagate.specs.Inner.Keeping.{kept_sheet, AreHeldCones};
+    ghost use Rattle.wi_propagate.specs.Inner.Keeping.{kept_sheet, AreCarriedCones};
     ghost use Rattle.wi_propagate.specs.Inner.Noted.{told, AreKeptUp};
     ghost use Rattle.wi_propagate.specs.Inner.Planned.{ArePlans};
 
     ghost view = { λ k. kept_sheet k.store
-        (told k.store.sheet k.generations.named) k.held k.meter };
+        (told k.store.sheet k.generations.named) k.carried k.meter };
 
-    ghost invariant = { λ k. IsSome k.held
+    ghost invariant = { λ k. IsSome k.carried
         × AreEdgesOf k.graph.now k.store.sheet
         × (k.graph.staged ≡ None)
-        × AreKeptRight (kept_sheet k.store (told k.store.sheet k.generations.named) k.held k.meter)
-        × AreHeldCones k.store.sheet k.held
+        × AreKeptRight (kept_sheet k.store
+        (told k.store.sheet k.generations.named) k.carried k.meter)
+        × AreCarriedCones k.store.sheet k.carried
         × AreKeptUp k.store.sheet k.store.edits k.generations
         × ArePlans k.store.sheet k.plans };
 }
@@ -103,12 +104,12 @@ impl KeptCalculator {
         ensures generations { IfOk result (λ k. (c : ℕ) → generation_in k.generations c ≡ 0) }
         ensures values { IfOk result (λ k. k.values ≡ kept [] keep) }
     {
-        let held = Held::new(alloc, keep)?;
+        let carried = Carried::new(alloc, keep)?;
         Ok(KeptCalculator {
             store: Store::new(alloc, limits),
             graph: Graph::new(alloc),
             generations: Generations::new(alloc),
-            held: Some(held),
+            carried: Some(carried),
             worlds: LastWorlds::new(alloc),
             widest: 0,
             meter: Meter::new(),
@@ -151,7 +152,7 @@ impl KeptCalculator {
         self.graph.stage(changes)?;
         match self.store.apply_slice(changes) {
             Ok(()) => {
-                hold_over_edit(self.alloc, &self.graph, &mut self.held);
+                carry_over_edit(self.alloc, &self.graph, &mut self.carried);
                 self.graph.commit();
                 self.generations.name(cells, self.store.edits());
                 self.plans.forget(self.alloc);
@@ -185,13 +186,13 @@ impl KeptCalculator {
         let world = self.worlds.world_for(self.alloc, put)?;
         self.generations.settle(&self.graph)?;
         self.widest = self.widest.max(put.len());
-        let held = take_held(self.alloc, self.widest, &mut self.held);
+        let carried = take_carried(self.alloc, self.widest, &mut self.carried);
         let memo = Keeping::new(
             self.alloc,
             &self.store,
             &self.graph,
             &self.generations,
-            held,
+            carried,
             put.len(),
         );
         let mut question = Question {
@@ -202,7 +203,7 @@ impl KeptCalculator {
         let result = question.formula_value(&self.store, &world, at, formula);
         self.meter = question.meter;
         self.pool = question.pool;
-        self.held = Some(question.memo.into_held());
+        self.carried = Some(question.memo.into_carried());
         self.worlds.keep(world);
         result
     }
@@ -232,13 +233,13 @@ impl KeptCalculator {
         let world = self.worlds.world_for(self.alloc, put)?;
         self.generations.settle(&self.graph)?;
         self.widest = self.widest.max(put.len());
-        let held = take_held(self.alloc, self.widest, &mut self.held);
+        let carried = take_carried(self.alloc, self.widest, &mut self.carried);
         let memo = Keeping::new(
             self.alloc,
             &self.store,
             &self.graph,
             &self.generations,
-            held,
+            carried,
             put.len(),
         );
         let mut question = Question {
@@ -256,7 +257,7 @@ impl KeptCalculator {
         );
         self.meter = question.meter;
         self.pool = question.pool;
-        self.held = Some(question.memo.into_held());
+        self.carried = Some(question.memo.into_carried());
         self.worlds.keep(world);
         result
     }
@@ -439,7 +440,7 @@ impl Calculator for KeptCalculator {
     fn forget(&mut self)
         ensures { self.new ≡ emptied self.old }
     {
-        forget_held(self.alloc, &mut self.held);
+        forget_carried(self.alloc, &mut self.carried);
         self.worlds = LastWorlds::new(self.alloc);
         self.plans.forget(self.alloc);
         self.pool = Pool::new(self.alloc);

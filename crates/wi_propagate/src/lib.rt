@@ -2,9 +2,9 @@
 #![tactic(auto)]
 
 mod calculator;
+mod carried;
 mod cones;
 mod generations;
-mod held;
 mod keeping;
 mod kept;
 mod last_worlds;

@@ -31,8 +31,8 @@ cut a b k f =
 
 -- ---- how often a row is held
 
-held : (r k f : ℕ) → f ≤ r → r < f + 2 ^ k → times_held r (block k f ∷ []) ≡ 1
-held r k f h l = ap (λ (b : Bool). cond b 1 0 + 0) (and_from _ _ (le-leb f r h) (lt-ltb r (f + 2 ^ k) l))
+repr : (r k f : ℕ) → f ≤ r → r < f + 2 ^ k → times_held r (block k f ∷ []) ≡ 1
+repr r k f h l = ap (λ (b : Bool). cond b 1 0 + 0) (and_from _ _ (le-leb f r h) (lt-ltb r (f + 2 ^ k) l))
 
 not_held : (r k f : ℕ) → (r < f) ⊎ (f + 2 ^ k ≤ r) → times_held r (block k f ∷ []) ≡ 0
 not_held r k f (inl h) = ap (λ (b : Bool). cond b 1 0 + 0) (and_left (nat_le f r) _ (lt-leb f r h))
@@ -75,11 +75,11 @@ none_held a b r (suc k) f o =
 
 once_held : (a b r k f : ℕ) → a ≤ r → r ≤ b → f ≤ r → r < f + 2 ^ k → times_held r (blocks_within a b k f) ≡ 1
 once_held a b r zero f h i j l =
-    ap (times_held r) (blocks_within-here a b 0 f (bounds_within a b 0 f (omega (arith, h, l)) (omega (arith, i, j)))) ∙ held r 0 f j l
+    ap (times_held r) (blocks_within-here a b 0 f (bounds_within a b 0 f (omega (arith, h, l)) (omega (arith, i, j)))) ∙ repr r 0 f j l
 once_held a b r (suc k) f h i j l =
     let twice = pow-succ' 2 k in
     let m : meets a b (block (suc k) f) ≡ true = and_from _ _ (lt-ltb a (f + 2 ^ suc k) (omega (arith, h, l))) (le-leb f b (omega (arith, i, j))) in
-    ⊎_elim (λ t. ap (times_held r) (blocks_within-here a b (suc k) f t) ∙ held r (suc k) f j l)
+    ⊎_elim (λ t. ap (times_held r) (blocks_within-here a b (suc k) f t) ∙ repr r (suc k) f j l)
     (λ t. let both = ap (times_held r) (halves a b k f t m) ∙ held_in_both r (blocks_within a b k f) (blocks_within a b k (f + 2 ^ k)) in
     ⊎_elim (λ u. let one = once_held a b r k f h i j u in let none = none_held a b r k (f + 2 ^ k) (inl (inl u)) in omega (arith, both, one, none))
     (λ u. let none = none_held a b r k f (inl (inr u)) in let one = once_held a b r k (f + 2 ^ k) h i u (omega (arith, l, twice)) in omega (arith, both, one, none))

@@ -1,5 +1,5 @@
 -- Words of the code's own contracts, and readers that laws tie to the definitions. Nothing here needs belief.
-pub mod Held
+pub mod Repr
 pub mod Around
 pub mod Index
 pub mod Rising

@@ -18,12 +18,12 @@ const MOST_OTHERS: usize = 64;
 /// A cell or more, each any number of times.
 #[derive(Drop)]
 pub struct Few {
-    held: Held,
+    repr: Repr,
 }
 
 /// Cells as they are kept.
 #[derive(Drop)]
-enum Held {
+enum Repr {
     /// One takes no memory of its own.
     One(Address),
     More(Box<Many>),
@@ -34,9 +34,9 @@ impl Model for Few {
 
     ghost Value = { List ℕ };
 
-    ghost use Rattle.wi_ranges.specs.Inner.Held.{cells_in};
+    ghost use Rattle.wi_ranges.specs.Inner.Repr.{cells_in};
 
-    ghost view = { λ f. cells_in f.held };
+    ghost view = { λ f. cells_in f.repr };
 }
 
 impl Few {
@@ -45,7 +45,7 @@ impl Few {
         ensures { result ≡ cell ∷ [] }
     {
         Few {
-            held: Held::One(cell),
+            repr: Repr::One(cell),
         }
     }
 
@@ -53,9 +53,9 @@ impl Few {
     pub(crate) fn has_one(&self)
         ensures { (c : ℕ) × (is_one_of self.now c ≡ true) }
     {
-        match &self.held {
-            Held::One(_) => {}
-            Held::More(many) => many.has_one(),
+        match &self.repr {
+            Repr::One(_) => {}
+            Repr::More(many) => many.has_one(),
         }
     }
 
@@ -65,14 +65,14 @@ impl Few {
         ensures same { IfOk result (λ added. added ≡ false → self.new ≡ self.old) }
         ensures err { OnErr result (self.new ≡ self.old) }
     {
-        match &mut self.held {
-            Held::One(first) => {
+        match &mut self.repr {
+            Repr::One(first) => {
                 let many = Many::two(alloc, *first, cell)?;
                 let more = Box::new(alloc, many)?;
-                self.held = Held::More(more);
+                self.repr = Repr::More(more);
                 Ok(true)
             }
-            Held::More(many) => many.add(cell),
+            Repr::More(many) => many.add(cell),
         }
     }
 
@@ -80,9 +80,9 @@ impl Few {
     pub(crate) fn is_only(&self, cell: Address) -> bool
         ensures { IsTrue result ↔ (self.now ≡ cell ∷ []) }
     {
-        match &self.held {
-            Held::One(first) => *first == cell,
-            Held::More(many) => many.is_only(cell),
+        match &self.repr {
+            Repr::One(first) => *first == cell,
+            Repr::More(many) => many.is_only(cell),
         }
     }
 
@@ -93,9 +93,9 @@ impl Few {
         ensures none { result ≡ false → is_one_of self.old cell ≡ false }
         ensures same { result ≡ false → self.new ≡ self.old }
     {
-        match &mut self.held {
-            Held::One(_) => false,
-            Held::More(many) => many.remove(cell),
+        match &mut self.repr {
+            Repr::One(_) => false,
+            Repr::More(many) => many.remove(cell),
         }
     }
 
@@ -104,12 +104,12 @@ impl Few {
         ensures { OnOk result ((r : ℕ) → contains nat_cmp set.new r
             ≡ (contains nat_cmp set.old r || is_one_of self.now r)) }
     {
-        match &self.held {
-            Held::One(first) => {
+        match &self.repr {
+            Repr::One(first) => {
                 set.insert(*first)?;
                 Ok(())
             }
-            Held::More(many) => many.add_to(set),
+            Repr::More(many) => many.add_to(set),
         }
     }
 }

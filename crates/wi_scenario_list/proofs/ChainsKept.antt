@@ -2,7 +2,7 @@
 use Rattle.wi_scenario_list.proofs.Words.{◌≡◌, ◌≢◌, ◌∙◌, ℕ, ◌+◌, suc, ◌<◌, ◌≤◌, nat_le, Bool, true, false, not, ◌||◌, ◌&&◌, cond, List, [], ◌∷◌, map, length, ◌==◌, Option, Some, None, is_some, refl, sym, ap, subst, arith, AllByRecursion, list_any, is_member, bytes_eq, both_ways, false≢true, not-false, not_from_true, or_from, or_parts, leb-false, nat_list_eq_equiv, length-map, length-filter, count_by-le-length, length-le_from_is_member, none-some, same_Some, bytes_eq-Decides, is_replaced, Scenario, is_named, scenario_of, has_scenario, scenario_for, with_scenario, without_scenario, is_full, max_scenarios, max_replacements, IsChain, ended, based, HasChains, based_on, is_name_of, is_base, lacks, would_loop, chain, scenario_or_new}
 use Rattle.std.specs.List.{IsDistinct}
 use Rattle.wi_scenario_list.proofs.Chains.{ends_within, one_chain}
-use Rattle.wi_scenario_list.proofs.Held.{has-found, not_found}
+use Rattle.wi_scenario_list.proofs.Stored.{has-found, not_found}
 use Rattle.wi_scenario_list.proofs.Named.{name_differs, found_named, found_itself, found_fails, found_put, none_found, found_with, found_without}
 
 -- ---- a chain is no longer than the list

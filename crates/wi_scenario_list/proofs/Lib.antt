@@ -1,5 +1,5 @@
 mod Listed
-mod Held
+mod Stored
 mod Own
 pub mod Chains
 pub mod Named

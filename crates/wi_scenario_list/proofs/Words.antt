@@ -24,7 +24,7 @@ pub use Rattle.std.specs.declared.rc.RcStr.{RcStr}
 pub use Rattle.wi_scenario_list.specs.Bases.{HasChains, based_on, is_base, is_name_of, lacks, would_loop}
 pub use Rattle.wi_scenario_list.specs.Inner.Chains.{chain_within, effective}
 unfoldable pub use Rattle.wi_scenario_list.specs.Inner.Chains.{chain}
-pub use Rattle.wi_scenario_list.specs.Inner.Held.{IsSame, base_of, held, own_of, scenario_in, with_name}
+pub use Rattle.wi_scenario_list.specs.Inner.Stored.{IsSame, base_of, stored, own_of, scenario_in, with_name}
 pub use Rattle.wi_scenario_list.specs.Inner.Parts.{scenario_or_new, without_replacement}
 pub use Rattle.wi_scenario_list.specs.Scenarios.{IsChain, IsChainOf, Scenario, based, ended, has_scenario, is_full, is_named, layered, max_replacements, max_scenarios, scenario_for, scenario_of, with_own, with_replacements, with_scenario, without_own, without_scenario}
 pub use Rattle.wi_scenario_list.specs.declared.layer.Layer.{Layer}

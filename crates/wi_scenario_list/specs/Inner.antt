@@ -1,4 +1,4 @@
 -- Words of the code's own contracts. Nothing here needs belief.
 pub mod Parts
 pub mod Chains
-pub mod Held
+pub mod Stored

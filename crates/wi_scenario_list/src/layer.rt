@@ -6,7 +6,7 @@ ghost use Rattle.wi_values.specs.Replacements.{is_replaced};
 ghost use Rattle.wi_scenario_list.specs.Scenarios.{max_replacements, with_replacements};
 ghost use Rattle.wi_scenario_list.specs.Inner.Parts.{without_replacement};
 ghost use Rattle.wi_scenario_list.specs.Bases.{is_name_of};
-ghost use Rattle.wi_scenario_list.specs.Inner.Held.{base_of, own_of};
+ghost use Rattle.wi_scenario_list.specs.Inner.Stored.{base_of, own_of};
 
 use crate::entries::{ValueMap, copied};
 use std::alloc::{AllocError, Global};
@@ -27,7 +27,7 @@ pub(crate) struct Layer {
 }
 
 impl Clone for Layer {
-    ghost use Rattle.wi_scenario_list.specs.Inner.Held.{IsSame};
+    ghost use Rattle.wi_scenario_list.specs.Inner.Stored.{IsSame};
 
     ghost is_clone = { IsSame };
 

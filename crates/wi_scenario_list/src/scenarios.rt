@@ -9,7 +9,7 @@ ghost use Rattle.wi_values.specs.Replacements.{IsInOrder, as_map};
 ghost use Rattle.wi_scenario_list.specs.Scenarios.{scenario_of, has_scenario, layered, with_scenario, without_scenario, scenario_for, with_own, without_own, is_full};
 ghost use Rattle.wi_scenario_list.specs.Inner.Chains.{chain_within, effective, is_in_chain};
 ghost use Rattle.wi_scenario_list.specs.Bases.{rests_on, is_base, is_name_of, based_on};
-ghost use Rattle.wi_scenario_list.specs.Inner.Held.{base_of, held, with_name};
+ghost use Rattle.wi_scenario_list.specs.Inner.Stored.{base_of, stored, with_name};
 ghost use Rattle.wi_scenario_list.specs.declared.fault.ScenarioFault.TheVariants.{TooMany};
 
 use crate::entries::{ValueMap, with_entries};
@@ -45,9 +45,9 @@ impl Model for Scenarios {
 
     ghost coded = { Prim.hlevel (codes, replacement.the_row.coded) };
 
-    ghost use Rattle.wi_scenario_list.specs.Inner.Held.{held};
+    ghost use Rattle.wi_scenario_list.specs.Inner.Stored.{stored};
 
-    ghost view = { λ s. held s.layers.entries };
+    ghost view = { λ s. stored s.layers.entries };
 }
 
 impl Scenarios {
@@ -255,8 +255,8 @@ impl Scenarios {
 
 /// Puts a layer in the place of the one of its name, or at the end.
 fn insert(layers: &mut IndexMap<RcStr, Layer>, name: RcStr, layer: Layer) -> Result<(), AllocError>
-    ensures ok { OnOk result (held layers.new.entries
-        ≡ with_scenario (held layers.old.entries) (with_name (rc_str_bytes name) layer)) }
+    ensures ok { OnOk result (stored layers.new.entries
+        ≡ with_scenario (stored layers.old.entries) (with_name (rc_str_bytes name) layer)) }
     ensures err { OnErr result (layers.new.entries ≡ layers.old.entries) }
 {
     layers.insert(name, layer)?;

@@ -1,7 +1,7 @@
 -- Words of the code's own contracts. Nothing here needs belief.
 pub mod Copies
 pub mod Editing
-pub mod Held
+pub mod Sound
 pub mod Switch
 pub mod Told
 pub mod Placed

@@ -6,7 +6,7 @@ ghost use Rattle.wi_scenario_list.specs.Scenarios.{has_scenario, scenario_for, w
 ghost use Rattle.wi_scenario_list.specs.Bases.{lacks, would_loop, based_on};
 ghost use Rattle.wi_scenarios.specs.Commands.Command as command;
 ghost use Rattle.wi_scenarios.specs.Commands.Step.{IsStep};
-ghost use Rattle.wi_scenarios.specs.Inner.Held.{state_of, IsSound, ServesSound};
+ghost use Rattle.wi_scenarios.specs.Inner.Sound.{state_of, IsSound, ServesSound};
 
 use crate::desk::Desk;
 use crate::refusal::Refusal;

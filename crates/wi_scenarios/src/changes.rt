@@ -10,7 +10,7 @@ ghost use Rattle.wi_scenarios.specs.Commands.Command as command;
 ghost use Rattle.wi_scenarios.specs.Commands.Step.{IsStep};
 ghost use Rattle.wi_scenarios.specs.Pending.{Emptied, pending_for};
 ghost use Rattle.wi_scenarios.specs.Asked.{asked_by_changes};
-ghost use Rattle.wi_scenarios.specs.Inner.Held.{state_of, pending_in, IsSound};
+ghost use Rattle.wi_scenarios.specs.Inner.Sound.{state_of, pending_in, IsSound};
 ghost use Rattle.wi_scenarios.specs.Inner.Told.{IsTold};
 
 use crate::desk::Desk;

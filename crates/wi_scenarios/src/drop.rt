@@ -8,7 +8,7 @@ ghost use Rattle.wi_scenarios.specs.declared.refusal.Refusal.TheVariants.{Memory
 ghost use Rattle.wi_scenarios.specs.Answer.{Serves};
 ghost use Rattle.wi_scenarios.specs.Commands.Command as command;
 ghost use Rattle.wi_scenarios.specs.Commands.Step.{IsStep};
-ghost use Rattle.wi_scenarios.specs.Inner.Held.{state_of, pending_in, IsSound};
+ghost use Rattle.wi_scenarios.specs.Inner.Sound.{state_of, pending_in, IsSound};
 
 use crate::desk::Desk;
 use crate::refusal::Refusal;

@@ -7,7 +7,7 @@ ghost use Rattle.wi_scenarios.specs.Commands.Command as command;
 ghost use Rattle.wi_scenarios.specs.Commands.Operands.{corners};
 ghost use Rattle.wi_scenarios.specs.Commands.Step.{IsStep};
 ghost use Rattle.wi_scenarios.specs.Asked.{asked_by_show};
-ghost use Rattle.wi_scenarios.specs.Inner.Held.{state_of, IsSound};
+ghost use Rattle.wi_scenarios.specs.Inner.Sound.{state_of, IsSound};
 
 use crate::areas::{is_spanned, is_too_large};
 use crate::desk::Desk;

@@ -7,7 +7,7 @@ ghost use Rattle.wi_scenarios.specs.Answer.{Serves};
 ghost use Rattle.wi_scenarios.specs.Fill.{rows_between, columns_between, copied, fill_step};
 ghost use Rattle.wi_scenarios.specs.Pending.{AddsOnly};
 ghost use Rattle.wi_scenarios.specs.Inner.Copies.{CopiesAs, AreCopies, HasNoCopies};
-ghost use Rattle.wi_scenarios.specs.Inner.Held.{state_of, pending_in, IsSound};
+ghost use Rattle.wi_scenarios.specs.Inner.Sound.{state_of, pending_in, IsSound};
 
 use crate::areas::is_too_large;
 use crate::desk::Desk;

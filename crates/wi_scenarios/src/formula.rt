@@ -5,7 +5,7 @@ ghost use Rattle.wi_scenarios.specs.Answer.{Serves};
 ghost use Rattle.wi_scenarios.specs.Commands.Command as command;
 ghost use Rattle.wi_scenarios.specs.Commands.Operands.{cell};
 ghost use Rattle.wi_scenarios.specs.Commands.Step.{IsStep};
-ghost use Rattle.wi_scenarios.specs.Inner.Held.{state_of};
+ghost use Rattle.wi_scenarios.specs.Inner.Sound.{state_of};
 ghost use Rattle.wi_scenarios.specs.declared.desk.Desk.{Desk};
 
 use crate::areas::is_placed;

@@ -5,7 +5,7 @@ ghost use Rattle.wi_scenario_list.specs.Scenarios.{has_scenario, scenario_for, w
 ghost use Rattle.wi_scenarios.specs.Commands.Command as command;
 ghost use Rattle.wi_scenarios.specs.Commands.Operands.{cell};
 ghost use Rattle.wi_scenarios.specs.Commands.Step.{IsStep};
-ghost use Rattle.wi_scenarios.specs.Inner.Held.{state_of, IsSound, ServesSound};
+ghost use Rattle.wi_scenarios.specs.Inner.Sound.{state_of, IsSound, ServesSound};
 
 use crate::areas::is_placed;
 use crate::desk::Desk;

@@ -10,7 +10,7 @@ ghost use Rattle.wi_scenarios.specs.Commands.Command as command;
 ghost use Rattle.wi_scenarios.specs.Commands.Step.{IsStep};
 ghost use Rattle.wi_scenarios.specs.State.{state_over};
 ghost use Rattle.wi_scenarios.specs.Pending.{HasNewSession, occupied_cells};
-ghost use Rattle.wi_scenarios.specs.Inner.Held.{state_of, pending_in, IsClosed, IsSound};
+ghost use Rattle.wi_scenarios.specs.Inner.Sound.{state_of, pending_in, IsClosed, IsSound};
 
 use crate::desk::Desk;
 use crate::refusal::Refusal;

@@ -3,7 +3,7 @@
 ghost use Rattle.std.specs.Prelude.{◌≡◌, ◌≢◌, ◌<◌, ℕ, length, [], OnOk};
 ghost use Rattle.wi_values.specs.Replacements.{IsInOrder};
 ghost use Rattle.wi_sessions.specs.Roster.{pending_of, vacant_of};
-ghost use Rattle.wi_scenarios.specs.Inner.Held.{state_of, IsSound, MakesSound};
+ghost use Rattle.wi_scenarios.specs.Inner.Sound.{state_of, IsSound, MakesSound};
 ghost use Rattle.wi_scenarios.specs.Inner.Switch.{HasRoom, HasRoomFor};
 
 use crate::desk::Desk;

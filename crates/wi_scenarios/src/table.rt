@@ -5,7 +5,7 @@ ghost use Rattle.wi_reports.specs.Looks.{Costs};
 ghost use Rattle.wi_scenarios.specs.Answer.{Serves};
 ghost use Rattle.wi_scenarios.specs.Table.{table_step};
 ghost use Rattle.wi_scenarios.specs.Asked.{asked_by_table};
-ghost use Rattle.wi_scenarios.specs.Inner.Held.{state_of, IsSound};
+ghost use Rattle.wi_scenarios.specs.Inner.Sound.{state_of, IsSound};
 
 use crate::areas::MAX_AREA;
 use crate::desk::Desk;

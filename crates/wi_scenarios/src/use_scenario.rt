@@ -9,7 +9,7 @@ ghost use Rattle.wi_scenarios.specs.Commands.Command as command;
 ghost use Rattle.wi_scenarios.specs.Commands.Step.{IsStep};
 ghost use Rattle.wi_scenarios.specs.Pending.{SameForOthers};
 ghost use Rattle.wi_scenarios.specs.Views.{current_session, current_replacements, with_current};
-ghost use Rattle.wi_scenarios.specs.Inner.Held.{state_of, pending_in, IsSound, ServesSound, MakesSound};
+ghost use Rattle.wi_scenarios.specs.Inner.Sound.{state_of, pending_in, IsSound, ServesSound, MakesSound};
 ghost use Rattle.wi_scenarios.specs.Inner.Switch.{HasRoom};
 
 use crate::desk::Desk;

@@ -55,7 +55,7 @@ pub struct Workbook<C: Calculator> {
 
 impl<C: Calculator> Model for Workbook<C> {
     ghost use Rattle.wi_scenarios.specs.Pending.{Book};
-    ghost use Rattle.wi_scenarios.specs.Inner.Held.{book_of, IsSound};
+    ghost use Rattle.wi_scenarios.specs.Inner.Sound.{book_of, IsSound};
 
     ghost Value = { Book };
 
@@ -228,7 +228,8 @@ impl<C: Calculator> Workbook<C> {
     /// Takes a scenario's own replacement away, if there is one; the scenario stays. It costs what `scenario_set` does: the work grows
     /// with the count of scenarios, the scenario's own replacements, all that the sessions' scenarios put in, and what depends on the cell.
     pub fn scenario_clear(&mut self, name: Name<'_>, at: Address) -> Result<(), Refusal>
-        ensures step { Serves (IsStep self.old.state (command.Scenario (bytes_of name.entry) (cell at) []))
+        ensures step { Serves (IsStep self.old.state (command.Scenario (bytes_of name.entry)
+            (cell at) []))
             result self.old.state self.new.state [] }
         ensures adds { AddsOnly C.marked ([])
             self.old.state self.new.state self.old.pending self.new.pending }

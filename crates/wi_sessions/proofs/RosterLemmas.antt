@@ -1,10 +1,10 @@
 -- Laws of sessions and their pending cells, as lists of parts of each.
-use Rattle.wi_sessions.proofs.Words.{◌≡◌, ◌<◌, ◌+◌, zero, suc, ◌||◌, ◌&&◌, ◌∙◌, ℕ, Bool, true, false, cond, not, List, [], ◌∷◌, ◌++◌, map, length, get_or, set, slice_get, nat_eq, Option, Some, None, refl, sym, ap, subst, arith, IfSome, nat_lt, is_some, option_map, option_to_list, list_all, list_any, position, position_or_len, position_from, pointwise, keys_of, values_of, lookup, rc_str_bytes, bytes_eq, RcStr, length-map, map-append, map-set, list_all_at, get_or_from_slice_get, slice_get-map, position_from-zero, IndexMap, insert_entry, set_value_at, insert_entry-new, has_session, index_of, AllPending, Roster, roster_in, session_in, Held}
+use Rattle.wi_sessions.proofs.Words.{◌≡◌, ◌<◌, ◌+◌, zero, suc, ◌||◌, ◌&&◌, ◌∙◌, ℕ, Bool, true, false, cond, not, List, [], ◌∷◌, ◌++◌, map, length, get_or, set, slice_get, nat_eq, Option, Some, None, refl, sym, ap, subst, arith, IfSome, nat_lt, is_some, option_map, option_to_list, list_all, list_any, position, position_or_len, position_from, pointwise, keys_of, values_of, lookup, rc_str_bytes, bytes_eq, RcStr, length-map, map-append, map-set, list_all_at, get_or_from_slice_get, slice_get-map, position_from-zero, IndexMap, insert_entry, set_value_at, insert_entry-new, has_session, index_of, AllPending, Roster, roster_in, session_in, Details}
 use Rattle.std.proofs.Common.{true≢false}
 
 -- a name, and what is held under it
 abbrev pub Entry : Type 0 → Type 0
-Entry Z = RcStr Z × Held
+Entry Z = RcStr Z × Details
 
 -- ---- a session found by its name
 
@@ -43,13 +43,13 @@ module _ {Z : Type 0} (name : List ℕ) where
 
 module _ {Z : Type 0} where
   -- what is held at a place is held under a name
-  pub entry_at : (es : List (Entry Z)) (i : ℕ) (x : Held) → slice_get (values_of es) i ≡ Some x → (k : RcStr Z) × (slice_get es i ≡ Some (k, x))
+  pub entry_at : (es : List (Entry Z)) (i : ℕ) (x : Details) → slice_get (values_of es) i ≡ Some x → (k : RcStr Z) × (slice_get es i ≡ Some (k, x))
   entry_at [] i x h = cc
-  entry_at (e ∷ es) zero x h = (e.0, ap (option_map (λ (y : Held). (e.0, y))) h)
+  entry_at (e ∷ es) zero x h = (e.0, ap (option_map (λ (y : Details). (e.0, y))) h)
   entry_at (e ∷ es) (suc i) x h = entry_at es i x h
 
   -- another in its place stands under the same name
-  pub set_entry : (es : List (Entry Z)) (i : ℕ) (k : RcStr Z) (x y : Held) → slice_get es i ≡ Some (k, x) → set_value_at es i y ≡ set es i (k, y)
+  pub set_entry : (es : List (Entry Z)) (i : ℕ) (k : RcStr Z) (x y : Details) → slice_get es i ≡ Some (k, x) → set_value_at es i y ≡ set es i (k, y)
   set_entry [] i k x y h = refl
   set_entry (e ∷ es) zero k x y h =
       let same : e ≡ (k, x) = cc in
@@ -57,23 +57,23 @@ module _ {Z : Type 0} where
   set_entry (e ∷ es) (suc i) k x y h = ap (λ (ds : List (Entry Z)). e ∷ ds) (set_entry es i k x y h)
 
   -- put back in its place, nothing has changed
-  pub put_back : (es : List (Entry Z)) (i : ℕ) (x : Held) → slice_get (values_of es) i ≡ Some x → set_value_at es i x ≡ es
+  pub put_back : (es : List (Entry Z)) (i : ℕ) (x : Details) → slice_get (values_of es) i ≡ Some x → set_value_at es i x ≡ es
   put_back [] i x h = refl
   put_back (e ∷ es) zero x h =
       let same : x ≡ e.1 = cc in
-      ap (λ (y : Held). set_value_at (e ∷ es) 0 y) same
+      ap (λ (y : Details). set_value_at (e ∷ es) 0 y) same
   put_back (e ∷ es) (suc i) x h = ap (λ (ds : List (Entry Z)). e ∷ ds) (put_back es i x h)
 
-module _ {Z Y : Type 0} (f : Entry Z → Y) (es : List (Entry Z)) (i : ℕ) (k : RcStr Z) (x : Held) (ys : List Y) (at : slice_get es i ≡ Some (k, x)) (v : map f es ≡ ys) where
+module _ {Z Y : Type 0} (f : Entry Z → Y) (es : List (Entry Z)) (i : ℕ) (k : RcStr Z) (x : Details) (ys : List Y) (at : slice_get es i ≡ Some (k, x)) (v : map f es ≡ ys) where
   -- what is told of the i-th session
   pub part_at : (d : Y) → get_or ys i d ≡ f (k, x)
   part_at d = get_or_from_slice_get ys i (f (k, x)) d (ap (λ (zs : List Y). slice_get zs i) (sym v) ∙ slice_get-map f es i ∙ ap (option_map f) at)
 
-  set_told : (y : Held) → map f (set_value_at es i y) ≡ set (map f es) i (f (k, y))
+  set_told : (y : Details) → map f (set_value_at es i y) ≡ set (map f es) i (f (k, y))
   set_told y = ap (λ (ds : List (Entry Z)). map f ds) (set_entry es i k x y at) ∙ map-set f es i (k, y)
 
   -- another in its place, of which w is told
-  pub part_set : (y : Held) (w : Y) → f (k, y) ≡ w → map f (set_value_at es i y) ≡ set ys i w
+  pub part_set : (y : Details) (w : Y) → f (k, y) ≡ w → map f (set_value_at es i y) ≡ set ys i w
   part_set y w e = set_told y ∙ ap (λ (z : Y). set (map f es) i z) e ∙ ap (λ (zs : List Y). set zs i w) v
 
 -- it has its list
@@ -83,18 +83,18 @@ within_lists es p r i v e l = subst (λ (n : ℕ). i < n) (ap (λ (q : Roster). 
 -- ---- a session added
 
 -- one of a new name stands at the end
-pub added : {Z S : Type 0} (m : IndexMap (RcStr Z) Held S) (k : RcStr Z) (x : Held) (name : List ℕ) → rc_str_bytes k ≡ name → is_some (lookup (key_is name) m.entries) ≡ false
+pub added : {Z S : Type 0} (m : IndexMap (RcStr Z) Details S) (k : RcStr Z) (x : Details) (name : List ℕ) → rc_str_bytes k ≡ name → is_some (lookup (key_is name) m.entries) ≡ false
     → insert_entry (λ a b. pointwise nat_eq (rc_str_bytes a) (rc_str_bytes b)) m.entries k x ≡ m.entries ++ (k, x) ∷ []
 added m k x name e h =
     let absent = ap (λ (bs : List ℕ). lookup (key_is bs) m.entries) e ∙ none_from (lookup (key_is name) m.entries) h in
     insert_entry-new (λ a b. pointwise nat_eq (rc_str_bytes a) (rc_str_bytes b)) m k x absent
   where
-    none_from : (o : Option Held) → is_some o ≡ false → o ≡ None
+    none_from : (o : Option Details) → is_some o ≡ false → o ≡ None
     none_from None h = refl
     none_from (Some y) h = absurd (true≢false h)
 
 -- what is told of all sessions once one was added
-pub told_more : {Z Y : Type 0} (f : Entry Z → Y) (es new : List (Entry Z)) (k : RcStr Z) (x : Held) (ys : List Y) (y : Y) → new ≡ es ++ (k, x) ∷ []
+pub told_more : {Z Y : Type 0} (f : Entry Z → Y) (es new : List (Entry Z)) (k : RcStr Z) (x : Details) (ys : List Y) (y : Y) → new ≡ es ++ (k, x) ∷ []
     → map f es ≡ ys → f (k, x) ≡ y → map f new ≡ ys ++ y ∷ []
 told_more {Z} {Y} f es new k x ys y h v g =
     ap (λ (ds : List (Entry Z)). map f ds) h ∙ map-append f es ((k, x) ∷ []) ∙ ap (λ (zs : List Y). zs ++ f (k, x) ∷ []) v ∙ ap (λ (z : Y). ys ++ z ∷ []) g

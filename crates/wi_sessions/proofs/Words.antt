@@ -37,7 +37,7 @@ pub use Rattle.std.specs.Str.{bytes_eq}
 pub use Rattle.std.specs.declared.cmp.Ordering.TheVariants.{Less}
 pub use Rattle.std.specs.declared.rc.RcStr.{RcStr}
 pub use Rattle.wi_sessions.specs.Inner.Cells.{GetRooms, GetsRoom, HasCleared, HasMade, MakesRooms, SamePending, at_cells, cells_in, cells_with, has_bit, is_in, is_staged, pending_in, vacant_in}
-pub use Rattle.wi_sessions.specs.Inner.Held.{roster_in, session_in, with_name}
+pub use Rattle.wi_sessions.specs.Inner.Details.{roster_in, session_in, with_name}
 pub use Rattle.wi_sessions.specs.Inner.Unread.{AreKept, AreLookedAt, HasPlace, HavePlaces, is_unread}
 pub use Rattle.wi_sessions.specs.Pending.{AllPending, list_at}
 pub use Rattle.wi_sessions.specs.Pictures.{equality, same_value, value_in, with_changes, with_value}
@@ -45,7 +45,7 @@ unfoldable pub use Rattle.wi_sessions.specs.Pictures.{sheet_size}
 pub use Rattle.wi_sessions.specs.Pictures.Laws.{AnyCells, PictureIsShown, Rises, every_cell}
 pub use Rattle.wi_sessions.specs.Roster.{Roster, SameCells, is_pending_for_all, pending_of, vacant_of}
 pub use Rattle.wi_sessions.specs.Sessions.{Session, has_session, index_of, new_session, told, using_scenario}
-pub use Rattle.wi_sessions.specs.declared.held.Held.{Held}
+pub use Rattle.wi_sessions.specs.declared.details.Details.{Details}
 pub use Rattle.wi_sessions.specs.declared.unread.Unread.{Unread}
 pub use Rattle.wi_tiles.proofs.RoomChanges.{same_all}
 pub use Rattle.wi_tiles.proofs.RoomLemmas.{no_rooms, same_filled}

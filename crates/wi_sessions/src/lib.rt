@@ -3,7 +3,7 @@
 
 mod bits;
 mod cells;
-mod held;
+mod details;
 pub mod laws;
 mod pending;
 mod picture;

@@ -11,9 +11,9 @@ ghost use Rattle.wi_values.specs.Address.{is_one_of};
 ghost use Rattle.wi_sessions.specs.Pictures.Laws.{Rises};
 ghost use Rattle.wi_sessions.specs.Sessions.{new_session, told, using_scenario, has_session, index_of};
 ghost use Rattle.wi_sessions.specs.Roster.{session_at, pending_of, vacant_of, is_pending_for_all, SameCells};
-ghost use Rattle.wi_sessions.specs.Inner.Held.{with_name};
+ghost use Rattle.wi_sessions.specs.Inner.Details.{with_name};
 
-use crate::held::Held;
+use crate::details::Details;
 use crate::pending::Pending;
 use crate::picture::{Change, Picture};
 use indexmap::IndexMap;
@@ -26,12 +26,12 @@ use wi_values::Address;
 pub const MAX_SESSIONS: usize = 64;
 
 /// What sessions hold beside their names, by these names.
-type SessionMap = IndexMap<RcStr, Held>;
+type SessionMap = IndexMap<RcStr, Details>;
 
 /// Sessions in order of making. A session is named by its index in that order, which never changes.
 #[derive(Drop)]
 pub struct Sessions {
-    held: SessionMap,
+    details: SessionMap,
     pending: Pending,
     alloc: Global,
 }
@@ -41,15 +41,15 @@ impl Model for Sessions {
     ghost use Rattle.std.specs.Coded.{codes};
     ghost use Rattle.wi_values.specs.contracts.value.Value as value;
     ghost use Rattle.std.specs.Prelude.{◌≡◌, length};
-    ghost use Rattle.wi_sessions.specs.Inner.Held.{roster_in};
+    ghost use Rattle.wi_sessions.specs.Inner.Details.{roster_in};
 
     ghost Value = { Roster };
 
     ghost coded = { Prim.hlevel (codes, value.the_row.coded) };
 
-    ghost view = { λ s. roster_in s.held.entries s.pending };
+    ghost view = { λ s. roster_in s.details.entries s.pending };
 
-    ghost invariant = { λ s. length s.pending.pending ≡ length s.held.entries };
+    ghost invariant = { λ s. length s.pending.pending ≡ length s.details.entries };
 }
 
 impl Sessions {
@@ -59,10 +59,10 @@ impl Sessions {
         ensures pending { IfOk result (λ s. SameCells (pending_of s 0) cells.now) }
         ensures vacant { IfOk result (λ s. (i : ℕ) → vacant_of s i ≡ []) }
     {
-        let held = IndexMap::new(alloc);
+        let details = IndexMap::new(alloc);
         let pending = Pending::new(alloc);
         let mut sessions = Sessions {
-            held,
+            details,
             pending,
             alloc,
         };
@@ -81,15 +81,15 @@ impl Sessions {
         ensures vacant { OnOk result ((i : ℕ) → vacant_of self.new i ≡ vacant_of self.old i) }
         ensures refused { OnErr result (self.new ≡ self.old) }
     {
-        if self.held.contains_key(name) {
+        if self.details.contains_key(name) {
             return Err(AllocError);
         }
         let name = RcStr::from_str(self.alloc, name)?;
-        add(&mut self.held, name, Held::new(self.alloc))?;
+        add(&mut self.details, name, Details::new(self.alloc))?;
         match self.pending.push(cells) {
             Ok(()) => Ok(()),
             Err(error) => {
-                let _ = self.held.pop();
+                let _ = self.details.pop();
                 Err(error)
             }
         }
@@ -99,7 +99,7 @@ impl Sessions {
     pub fn len(&self) -> usize
         ensures { result ≡ length self.now.sessions }
     {
-        self.held.len()
+        self.details.len()
     }
 
     /// The index of the session of this name, if there is one. One look-up in a map, however many sessions there are.
@@ -108,7 +108,7 @@ impl Sessions {
         ensures place { IfSome result (λ i. i ≡ index_of self.now.sessions name.now) }
         ensures within { IfSome result (λ i. i < length self.now.sessions) }
     {
-        self.held.get_index_of(name)
+        self.details.get_index_of(name)
     }
 
     /// The name of a session.
@@ -116,7 +116,7 @@ impl Sessions {
         requires { i < length self.now.sessions }
         ensures { result.now ≡ (session_at self.now i).name }
     {
-        let (name, _) = self.held.get_index(i).unwrap();
+        let (name, _) = self.details.get_index(i).unwrap();
         name.as_str()
     }
 
@@ -176,7 +176,7 @@ impl Sessions {
         ensures pending { self.new.pending ≡ self.old.pending }
         ensures vacant { self.new.vacant ≡ self.old.vacant }
     {
-        self.held[i].use_scenario(scenario);
+        self.details[i].use_scenario(scenario);
     }
 
     /// Puts a change list into a session's picture, when the log has this length; no cell is pending for it then. On an error
@@ -195,7 +195,7 @@ impl Sessions {
             → changes.items ≡ [] → is_ok result ≡ true }
     {
         let all = self.pending.all(i)?;
-        self.held[i].tell(changes, seen)?;
+        self.details[i].tell(changes, seen)?;
         self.pending.clear(i, &all);
         Ok(())
     }
@@ -253,25 +253,26 @@ impl Sessions {
     pub fn each_has_pending_cells(&self)
         ensures { length self.now.pending ≡ length self.now.sessions }
     {
-        let _ = &self.held;
+        let _ = &self.details;
     }
 
     /// What a session holds beside its name.
-    fn at(&self, i: usize) -> &Held
+    fn at(&self, i: usize) -> &Details
         requires { i < length self.now.sessions }
         ensures { with_name (session_at self.now i).name result.now ≡ session_at self.now i }
     {
-        &self.held[i]
+        &self.details[i]
     }
 }
 
 // Adds a session at the end, under a name that none has. If memory runs out, all is as before.
-fn add(sessions: &mut SessionMap, name: RcStr, held: Held) -> Result<(), AllocError>
+fn add(sessions: &mut SessionMap, name: RcStr, details: Details) -> Result<(), AllocError>
     requires { is_some
         (lookup (λ k. bytes_eq (rc_str_bytes name) (rc_str_bytes k)) sessions.old.entries) ≡ false }
-    ensures added { OnOk result (sessions.new.entries ≡ sessions.old.entries ++ (name, held) ∷ []) }
+    ensures added { OnOk result (sessions.new.entries
+        ≡ sessions.old.entries ++ (name, details) ∷ []) }
     ensures refused { OnErr result (sessions.new.entries ≡ sessions.old.entries) }
 {
-    sessions.insert(name, held)?;
+    sessions.insert(name, details)?;
     Ok(())
 }

@@ -13,15 +13,15 @@ sheet_in-filter t (e ∷ es) = by e.1 (sheet_in-filter t es)
     vacant true ih = ih
     vacant false ih = ih
 
-    held : (b : Bool) (x : Content) → sheet_in (filter (λ e. t e.0) es) ≡ filter (λ e. t e.0) (sheet_in es)
+    boxed : (b : Bool) (x : Content) → sheet_in (filter (λ e. t e.0) es) ≡ filter (λ e. t e.0) (sheet_in es)
         → sheet_in (cond b ((e.0, Some x) ∷ filter (λ e. t e.0) es) (filter (λ e. t e.0) es)) ≡ cond b ((e.0, x) ∷ filter (λ e. t e.0) (sheet_in es)) (filter (λ e. t e.0) (sheet_in es))
-    held true x ih = ap (λ (s : Sheet). (e.0, x) ∷ s) ih
-    held false x ih = ih
+    boxed true x ih = ap (λ (s : Sheet). (e.0, x) ∷ s) ih
+    boxed false x ih = ih
 
     by : (o : Option Content) → sheet_in (filter (λ e. t e.0) es) ≡ filter (λ e. t e.0) (sheet_in es)
         → sheet_in (filter (λ e. t e.0) ((e.0, o) ∷ es)) ≡ filter (λ e. t e.0) (sheet_in ((e.0, o) ∷ es))
     by None ih = vacant (t e.0) ih
-    by (Some x) ih = held (t e.0) x ih
+    by (Some x) ih = boxed (t e.0) x ih
 
 have_filter : (t : ℕ → Bool) (rooms : Rooms) → HaveContents rooms → HaveContents (filter (λ e. t e.0) rooms)
 have_filter t [] h = tt

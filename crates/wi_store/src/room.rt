@@ -14,7 +14,7 @@ use wi_values::Value;
 #[derive(Drop)]
 pub(crate) struct Room {
     /// Behind a box, since a tile has rooms to spare.
-    held: Option<Box<Content>>,
+    boxed: Option<Box<Content>>,
 }
 
 impl Model for Room {
@@ -30,7 +30,7 @@ impl Model for Room {
 
     ghost use Rattle.std.specs.Prelude.{option_map};
 
-    ghost view = { λ r. option_map (λ b. b.value) r.held };
+    ghost view = { λ r. option_map (λ b. b.value) r.boxed };
 }
 
 impl Room {
@@ -42,7 +42,7 @@ impl Room {
             None => Ok(Room::vacant()),
             Some(Content::Constant(Value::Empty)) => Ok(Room::vacant()),
             Some(content) => Ok(Room {
-                held: Some(Box::new(alloc, content)?),
+                boxed: Some(Box::new(alloc, content)?),
             }),
         }
     }
@@ -51,7 +51,7 @@ impl Room {
     pub(crate) fn content(&self) -> Option<&Content>
         ensures { option_copied result ≡ self.now }
     {
-        match &self.held {
+        match &self.boxed {
             Some(content) => Some(&**content),
             None => None,
         }
@@ -68,11 +68,11 @@ impl MayBeVacant for Room {
     ghost is_taken = { is_some };
 
     fn vacant() -> Room {
-        Room { held: None }
+        Room { boxed: None }
     }
 
     fn is_taken(&self) -> bool {
-        self.held.is_some()
+        self.boxed.is_some()
     }
 
     ghost tells = { tells_none };

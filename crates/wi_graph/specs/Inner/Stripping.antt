@@ -37,18 +37,18 @@ pub record ReadsOne (areas : BTreeMap ℕ (Vec Area)) (rest : BTreeSet ℕ) (c :
   pub read : reads_in areas c cell ≡ true
   pub there : contains nat_cmp rest cell ≡ true
 
--- each cell of the set that is not held reads one of the set
+-- each cell of the set that is not pinned reads one of the set
 abbrev pub EachReadsOne : BTreeMap ℕ (Vec Area) → BTreeSet ℕ → BTreeSet ℕ → Type 0
-EachReadsOne areas held rest = (c : ℕ) → contains nat_cmp rest c ≡ true → contains nat_cmp held c ≡ false → ReadsOne areas rest c
+EachReadsOne areas pinned rest = (c : ℕ) → contains nat_cmp rest c ≡ true → contains nat_cmp pinned c ≡ false → ReadsOne areas rest c
 
--- this goes over from what a cell reads to the cell, for each of these cells that is not held
+-- this goes over from what a cell reads to the cell, for each of these cells that is not pinned
 abbrev pub GoesUp : BTreeMap ℕ (Vec Area) → BTreeSet ℕ → BTreeSet ℕ → (ℕ → Bool) → Type 0
-GoesUp areas held all p = (c : ℕ) → contains nat_cmp all c ≡ true → contains nat_cmp held c ≡ false →
+GoesUp areas pinned all p = (c : ℕ) → contains nat_cmp all c ≡ true → contains nat_cmp pinned c ≡ false →
     ((d : ℕ) → reads_in areas c d ≡ true → contains nat_cmp all d ≡ true → p d ≡ true) → p c ≡ true
 
 -- what goes over so holds of each of these cells that is gone
 abbrev pub AreStripped : BTreeMap ℕ (Vec Area) → BTreeSet ℕ → BTreeSet ℕ → BTreeSet ℕ → Type 0
-AreStripped areas held all rest = (p : ℕ → Bool) → GoesUp areas held all p → (c : ℕ) → contains nat_cmp all c ≡ true → contains nat_cmp rest c ≡ false → p c ≡ true
+AreStripped areas pinned all rest = (p : ℕ → Bool) → GoesUp areas pinned all p → (c : ℕ) → contains nat_cmp all c ≡ true → contains nat_cmp rest c ≡ false → p c ≡ true
 
 -- each cell of rest is one of all
 abbrev pub IsWithin : BTreeSet ℕ → BTreeSet ℕ → Type 0
@@ -63,14 +63,14 @@ pub record Waits (areas : BTreeMap ℕ (Vec Area)) (rest : BTreeSet ℕ) (waitin
   pub read : reads_in areas c cell ≡ true
   pub there : contains nat_cmp rest cell ≡ true
 
--- each cell of the set that is not held, but for one, is still to be looked at, or waits for one of the set
-pub record IsTracking (areas : BTreeMap ℕ (Vec Area)) (held rest : BTreeSet ℕ) (work : List ℕ) (waiting : BTreeMap ℕ (Vec ℕ)) (apart : Option ℕ) : Type 0 where
-  pub each : (c : ℕ) → contains nat_cmp rest c ≡ true → contains nat_cmp held c ≡ false → (apart ≡ Some c) ⊎ ((is_one_of work c ≡ true) ⊎ Waits areas rest waiting c)
-  pub work_unheld : (c : ℕ) → is_one_of work c ≡ true → contains nat_cmp held c ≡ false
-  pub waiting_unheld : (d c : ℕ) → waits_for waiting d c ≡ true → contains nat_cmp held c ≡ false
+-- each cell of the set that is not pinned, but for one, is still to be looked at, or waits for one of the set
+pub record IsTracking (areas : BTreeMap ℕ (Vec Area)) (pinned rest : BTreeSet ℕ) (work : List ℕ) (waiting : BTreeMap ℕ (Vec ℕ)) (apart : Option ℕ) : Type 0 where
+  pub each : (c : ℕ) → contains nat_cmp rest c ≡ true → contains nat_cmp pinned c ≡ false → (apart ≡ Some c) ⊎ ((is_one_of work c ≡ true) ⊎ Waits areas rest waiting c)
+  pub work_unheld : (c : ℕ) → is_one_of work c ≡ true → contains nat_cmp pinned c ≡ false
+  pub waiting_unheld : (d c : ℕ) → waits_for waiting d c ≡ true → contains nat_cmp pinned c ≡ false
 
--- a cell of the set that is not held and reads none of it
-pub record IsFree (areas : BTreeMap ℕ (Vec Area)) (held rest : BTreeSet ℕ) (c : ℕ) : Type 0 where
+-- a cell of the set that is not pinned and reads none of it
+pub record IsFree (areas : BTreeMap ℕ (Vec Area)) (pinned rest : BTreeSet ℕ) (c : ℕ) : Type 0 where
   pub there : contains nat_cmp rest c ≡ true
-  pub unheld : contains nat_cmp held c ≡ false
+  pub unheld : contains nat_cmp pinned c ≡ false
   pub none : ReadsNone areas rest c

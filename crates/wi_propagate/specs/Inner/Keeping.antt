@@ -15,23 +15,23 @@ use Rattle.wi_engine.specs.Inner.MemoState.{MemoState}
 use Rattle.wi_propagate.specs.KeptSheet.{Generations, KeptSheet, generation_in, key_in}
 use Rattle.wi_propagate.specs.Right.{AreRight}
 use Rattle.wi_propagate.specs.Inner.Cones.{AreAllCones}
-use Rattle.wi_propagate.specs.declared.held.Held.{Held}
+use Rattle.wi_propagate.specs.declared.carried.Carried.{Carried}
 
 -- the cell has a generation
 abbrev pub HasGeneration : Generations → ℕ → Type 0
 HasGeneration gs c = IsSome (lookup (is_at (nat_cmp c)) gs)
 
--- what is kept of what is held, which is there but while a question is answered
-abbrev pub values_in : Option (Box Held) → KeptValues
+-- what is kept of what is carried, which is there but while a question is answered
+abbrev pub values_in : Option (Box Carried) → KeptValues
 values_in None = kept [] 1
 values_in (Some h) = h.value.kept
 
--- the cones that are held are those of the sheet
-abbrev pub AreHeldCones : Sheet → Option (Box Held) → Type 0
-AreHeldCones s o = IfSome o (λ h. AreAllCones s h.value.cones)
+-- the cones that are carried are those of the sheet
+abbrev pub AreCarriedCones : Sheet → Option (Box Carried) → Type 0
+AreCarriedCones s o = IfSome o (λ h. AreAllCones s h.value.cones)
 
 -- what a calculator is seen as that keeps values
-abbrev pub kept_sheet : Stored → Generations → Option (Box Held) → Counts → KeptSheet
+abbrev pub kept_sheet : Stored → Generations → Option (Box Carried) → Counts → KeptSheet
 kept_sheet s gs o n = record { stored = s; generations = gs; values = values_in o; counts = n }
 
 -- a sheet with its count of edits and its generations, the values that were given up in a question, and those kept

@@ -1,5 +1,5 @@
 use Rattle.wi_scenarios.proofs.Words.{◌≡◌, List, ℕ, length, sym, ap, subst, arith, common_steps, nil_from_length, state_of}
-use Rattle.wi_scenarios.specs.Inner.Held.{ServesSound}
+use Rattle.wi_scenarios.specs.Inner.Sound.{ServesSound}
 use Rattle.wi_scenarios.proofs.CommandWords.{Scenario, cell, IsStep}
 use Rattle.wi_scenarios.proofs.scenario.put.Goals as goal
 

@@ -1,11 +1,11 @@
-use Rattle.wi_propagate.proofs.Words.{◌≤◌, Option, IfSome, sym, subst, Value, Key, going, AreAllCones, Held, TakesOver, keeping, told, refl}
+use Rattle.wi_propagate.proofs.Words.{◌≤◌, Option, IfSome, sym, subst, Value, Key, going, AreAllCones, Carried, TakesOver, keeping, told, refl}
 use Rattle.wi_propagate.proofs.KeepSteps.{KeepsIn}
 use Rattle.wi_propagate.proofs.ValuesAtHand.{KeptAtHand, Remembers, given_over, kept_at_hand, keeps_right, out_of_memory}
 use Rattle.wi_propagate.proofs.keeping.KeepingMemo.keep.Goals as goal
 
 -- ---- the value is kept
 
-keeps : (c : goal.After-self-2-1) → KeepsIn c.deref_mut-held.result.now.kept c.keep.new.self c.args.key c.args.value
+keeps : (c : goal.After-self-2-1) → KeepsIn c.deref_mut-carried.result.now.kept c.keep.new.self c.args.key c.args.value
 keeps c =
     let e = c.in_ok-gone.ensures in
     record { found = e.found; stays = e.stays; goes = e.one_goes; len = e.len; going = e.going; capacity = e.capacity }
@@ -13,9 +13,9 @@ keeps c =
 kept : (c : goal.After-self-2-1) → KeptAtHand c.args.self.now (keeping c.self.inside.store.now.sheet c.self.inside.store.now.edits (told c.self.inside.store.now.sheet c.self.inside.generations.now.named) c.give_up.new.given_up.entries c.keep.new.self) c.args.key c.args.value
 kept c =
     let i = c.self.inside in
-    let held = c.deref_mut-held.result.now in
-    let takes : TakesOver (going held.kept c.args.key) held.given_up.entries c.give_up.new.given_up.entries = given_over c.give_up.new.given_up.entries c.in_ok-gone.ensures.gone c.make_room.ensures.entries c.give_up.ensures in
-    kept_at_hand i.store.now.sheet i.store.now.edits (told i.store.now.sheet i.generations.now.named) held i.held.value c.args.self.now c.deref_mut-held.ensures.value c.self.view_is c.args.key c.args.value c.keep.new.self (keeps c) c.requires.generation c.give_up.new.given_up.entries c.len.ensures.one_each takes
+    let carried = c.deref_mut-carried.result.now in
+    let takes : TakesOver (going carried.kept c.args.key) carried.given_up.entries c.give_up.new.given_up.entries = given_over c.give_up.new.given_up.entries c.in_ok-gone.ensures.gone c.make_room.ensures.entries c.give_up.ensures in
+    kept_at_hand i.store.now.sheet i.store.now.edits (told i.store.now.sheet i.generations.now.named) carried i.carried.value c.args.self.now c.deref_mut-carried.ensures.value c.self.view_is c.args.key c.args.value c.keep.new.self (keeps c) c.requires.generation c.give_up.new.given_up.entries c.len.ensures.one_each takes
 
 pub returns-clause-keeps : goal.returns-clause-keeps
 returns-clause-keeps c = (kept c).remembers.keeps
@@ -38,22 +38,22 @@ pub invariant_of-self-2 : goal.invariant_of-self-2
 invariant_of-self-2 c =
     let i = c.self.inside in
     let s = i.store.now in
-    let held = c.deref_mut-held.result.now in
+    let carried = c.deref_mut-carried.result.now in
     let h = c.self.invariant in (
       h.0,
       h.1,
-      subst (λ (x : Held). AreAllCones s.sheet x.cones) (sym c.deref_mut-held.ensures.value) h.2,
-      keeps_right s.sheet s.edits (told s.sheet i.generations.now.named) held i.held.value c.args.self.now c.deref_mut-held.ensures.value c.self.view_is c.args.key c.args.value c.keep.new.self (keeps c) c.requires.generation c.give_up.new.given_up.entries h.3 c.requires.open_cell c.requires.right,
+      subst (λ (x : Carried). AreAllCones s.sheet x.cones) (sym c.deref_mut-carried.ensures.value) h.2,
+      keeps_right s.sheet s.edits (told s.sheet i.generations.now.named) carried i.carried.value c.args.self.now c.deref_mut-carried.ensures.value c.self.view_is c.args.key c.args.value c.keep.new.self (keeps c) c.requires.generation c.give_up.new.given_up.entries h.3 c.requires.open_cell c.requires.right,
       h.4,
     )
 
 -- ---- memory ran out
 
-no_room : (c : goal.Joined-key) → Remembers c.args.self.now (keeping c.self.inside.store.now.sheet c.self.inside.store.now.edits (told c.self.inside.store.now.sheet c.self.inside.generations.now.named) c.make_room.new.given_up.entries c.deref_mut-held.result.now.kept) c.args.key c.args.value
+no_room : (c : goal.Joined-key) → Remembers c.args.self.now (keeping c.self.inside.store.now.sheet c.self.inside.store.now.edits (told c.self.inside.store.now.sheet c.self.inside.generations.now.named) c.make_room.new.given_up.entries c.deref_mut-carried.result.now.kept) c.args.key c.args.value
 no_room c =
     let i = c.self.inside in
-    let held = c.deref_mut-held.result.now in
-    out_of_memory i.store.now.sheet i.store.now.edits (told i.store.now.sheet i.generations.now.named) held i.held.value c.args.self.now c.deref_mut-held.ensures.value c.self.view_is c.args.key c.args.value c.make_room.new.given_up.entries held.kept c.make_room.ensures.entries refl
+    let carried = c.deref_mut-carried.result.now in
+    out_of_memory i.store.now.sheet i.store.now.edits (told i.store.now.sheet i.generations.now.named) carried i.carried.value c.args.self.now c.deref_mut-carried.ensures.value c.self.view_is c.args.key c.args.value c.make_room.new.given_up.entries carried.kept c.make_room.ensures.entries refl
 
 pub returns-in_err-make_room-clause-keeps : goal.returns-in_err-make_room-clause-keeps
 returns-in_err-make_room-clause-keeps c = (no_room c).keeps
@@ -64,8 +64,8 @@ returns-in_err-make_room-clause-stays c = (no_room c).stays
 not_kept : (c : goal.After-from_residual-in_err-gone) → Remembers c.args.self.now (keeping c.self.inside.store.now.sheet c.self.inside.store.now.edits (told c.self.inside.store.now.sheet c.self.inside.generations.now.named) c.make_room.new.given_up.entries c.keep.new.self) c.args.key c.args.value
 not_kept c =
     let i = c.self.inside in
-    let held = c.deref_mut-held.result.now in
-    out_of_memory i.store.now.sheet i.store.now.edits (told i.store.now.sheet i.generations.now.named) held i.held.value c.args.self.now c.deref_mut-held.ensures.value c.self.view_is c.args.key c.args.value c.make_room.new.given_up.entries c.keep.new.self c.make_room.ensures.entries c.in_err-gone.ensures.err
+    let carried = c.deref_mut-carried.result.now in
+    out_of_memory i.store.now.sheet i.store.now.edits (told i.store.now.sheet i.generations.now.named) carried i.carried.value c.args.self.now c.deref_mut-carried.ensures.value c.self.view_is c.args.key c.args.value c.make_room.new.given_up.entries c.keep.new.self c.make_room.ensures.entries c.in_err-gone.ensures.err
 
 pub returns-in_err-gone-clause-keeps : goal.returns-in_err-gone-clause-keeps
 returns-in_err-gone-clause-keeps c = (not_kept c).keeps

@@ -1,4 +1,4 @@
-use Rattle.wi_propagate.proofs.Words.{◌∙◌, ap, sym, subst, reaching, AreAllCones, Entries, Held, Keeping, generation_in, keeping, state_in, told}
+use Rattle.wi_propagate.proofs.Words.{◌∙◌, ap, sym, subst, reaching, AreAllCones, Entries, Carried, Keeping, generation_in, keeping, state_in, told}
 use Rattle.wi_propagate.proofs.ReplacedCones.{worlds_all}
 use Rattle.wi_propagate.proofs.NotedSteps.{noted_is_told}
 use Rattle.wi_propagate.proofs.keeping.KeepingMemo.key.Goals as goal
@@ -7,7 +7,7 @@ pub returns-clause-world : goal.returns-clause-world
 returns-clause-world c =
     let s = c.self.inside.store.now.sheet in
     let h = c.self.invariant in
-    let part = c.in_ok-world.ensures.list ∙ worlds_all s c.add_cones.new.cones c.args.at (c.in_ok-add_cones.ensures.cones s h.0 (subst (λ (x : Held). AreAllCones s x.cones) (sym c.deref_mut-held.ensures.value) h.2)) c.args.world.now c.in_ok-add_cones.ensures.all
+    let part = c.in_ok-world.ensures.list ∙ worlds_all s c.add_cones.new.cones c.args.at (c.in_ok-add_cones.ensures.cones s h.0 (subst (λ (x : Carried). AreAllCones s x.cones) (sym c.deref_mut-carried.ensures.value) h.2)) c.args.world.now c.in_ok-add_cones.ensures.all
     ∙ ap (λ (q : Keeping). reaching q.sheet c.args.at c.args.world.now) c.self.view_is in
     search part
 
@@ -20,12 +20,12 @@ pub returns-clause-same : goal.returns-clause-same
 returns-clause-same c =
     let i = c.self.inside in
     let gs = told i.store.now.sheet i.generations.now.named in
-    let view = ap (λ (x : Held). keeping i.store.now.sheet i.store.now.edits gs x.given_up.entries x.kept) c.deref_mut-held.ensures.value ∙ c.self.view_is in
-    ap state_in (ap (λ (es : Entries). keeping i.store.now.sheet i.store.now.edits gs es c.deref_mut-held.result.now.kept) c.catch_up.ensures ∙ view)
+    let view = ap (λ (x : Carried). keeping i.store.now.sheet i.store.now.edits gs x.given_up.entries x.kept) c.deref_mut-carried.ensures.value ∙ c.self.view_is in
+    ap state_in (ap (λ (es : Entries). keeping i.store.now.sheet i.store.now.edits gs es c.deref_mut-carried.result.now.kept) c.catch_up.ensures ∙ view)
 
 pub returns-in_err-catch_up-clause-same : goal.returns-in_err-catch_up-clause-same
 returns-in_err-catch_up-clause-same c =
     let i = c.self.inside in
     let gs = told i.store.now.sheet i.generations.now.named in
-    let view = ap (λ (x : Held). keeping i.store.now.sheet i.store.now.edits gs x.given_up.entries x.kept) c.deref_mut-held.ensures.value ∙ c.self.view_is in
-    ap state_in (ap (λ (es : Entries). keeping i.store.now.sheet i.store.now.edits gs es c.deref_mut-held.result.now.kept) c.catch_up.ensures ∙ view)
+    let view = ap (λ (x : Carried). keeping i.store.now.sheet i.store.now.edits gs x.given_up.entries x.kept) c.deref_mut-carried.ensures.value ∙ c.self.view_is in
+    ap state_in (ap (λ (es : Entries). keeping i.store.now.sheet i.store.now.edits gs es c.deref_mut-carried.result.now.kept) c.catch_up.ensures ∙ view)

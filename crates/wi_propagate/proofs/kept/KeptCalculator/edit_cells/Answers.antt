@@ -1,4 +1,4 @@
-use Rattle.wi_propagate.proofs.Words.{◌≡◌, ◌∙◌, ℕ, Some, None, Ok, IfSome, ap, sym, subst, if◌then◌else◌, keys_of, unwrap_or, Stored, applied, in_cone, AreEdgesOf, Staging, staging, edges_after, KeptValues, KeptSheet, generation_in, AreKeptRight, AreHeldCones, kept_sheet, values_in, told, AreKeptUp, ArePlans, rules}
+use Rattle.wi_propagate.proofs.Words.{◌≡◌, ◌∙◌, ℕ, Some, None, Ok, IfSome, ap, sym, subst, if◌then◌else◌, keys_of, unwrap_or, Stored, applied, in_cone, AreEdgesOf, Staging, staging, edges_after, KeptValues, KeptSheet, generation_in, AreKeptRight, AreCarriedCones, kept_sheet, values_in, told, AreKeptUp, ArePlans, rules}
 use Rattle.wi_propagate.proofs.Editing.{edges_applied, refused_edit, refused_same, right_after_edit, right_unnamed, edit_told, edit_keeps_up}
 use Rattle.wi_propagate.proofs.NotedSteps.{told_same, kept_up_more}
 use Rattle.wi_propagate.proofs.kept.KeptCalculator.edit_cells.Goals as goal
@@ -13,13 +13,13 @@ invariant_of-self-in-Ok c =
     let graph_is : c.commit.new.self ≡ staging (edges_after i.graph.now ch) None = c.commit.ensures ∙ ap (λ (x : Staging). staging (unwrap_or x.staged x.now) None) staged_is in
     let accepted : applied i.store ch ≡ Ok new = c.in-Ok.ensures in
     let edges = edges_applied i.graph.now i.store new ch h.1 accepted in
-    let right = subst (λ (v : KeptValues). AreKeptRight (record { stored = i.store; generations = told i.store.sheet i.generations.named; values = v; counts = i.meter })) (sym c.hold_over_edit.ensures.values) h.3 in
+    let right = subst (λ (v : KeptValues). AreKeptRight (record { stored = i.store; generations = told i.store.sheet i.generations.named; values = v; counts = i.meter })) (sym c.carry_over_edit.ensures.values) h.3 in
     let told_is = edit_told i.store new ch i.generations c.owe.new.self c.name.new.self c.args.cells.now c.edits.result accepted c.requires c.edits.ensures c.in_ok-owe.ensures.named c.name.ensures.named h.5 in (
-      c.hold_over_edit.ensures.there h.0,
+      c.carry_over_edit.ensures.there h.0,
       subst (λ (x : Staging). AreEdgesOf x.now new.sheet) (sym graph_is) edges,
       ap (λ (x : Staging). x.staged) graph_is,
       right_after_edit i.store new ch c.edits.result (told i.store.sheet i.generations.named) (told new.sheet c.name.new.self.named) _ i.meter i.meter accepted told_is c.edits.ensures right,
-      c.hold_over_edit.ensures.cones i.store.sheet new.sheet (subst (λ (x : Staging). AreEdgesOf x.now i.store.sheet) (sym staged_is) h.1)
+      c.carry_over_edit.ensures.cones i.store.sheet new.sheet (subst (λ (x : Staging). AreEdgesOf x.now i.store.sheet) (sym staged_is) h.1)
           (subst (λ (x : Staging). IfSome x.staged (λ es. AreEdgesOf es new.sheet)) (sym staged_is) edges) h.4,
       edit_keeps_up i.store new ch i.generations c.owe.new.self c.name.new.self c.args.cells.now c.edits.result accepted c.requires c.edits.ensures c.in_ok-owe.ensures.named c.name.ensures.named h.5 c.in_ok-owe.ensures.noted c.in_ok-owe.ensures.stays
           (λ x m. c.in_ok-owe.ensures.owed i.store.sheet h.1 x m) c.name.ensures.noted c.name.ensures.owed,
@@ -31,7 +31,7 @@ returns-in-Ok-clause-edited c =
     let i = c.self.inside in
     let ch = c.args.changes.now in
     let new = c.apply_slice.new.self in
-    let values_are : values_in c.hold_over_edit.new.held ≡ c.args.self.now.values = c.hold_over_edit.ensures.values ∙ ap (λ (k : KeptSheet). k.values) c.self.view_is in
+    let values_are : values_in c.carry_over_edit.new.carried ≡ c.args.self.now.values = c.carry_over_edit.ensures.values ∙ ap (λ (k : KeptSheet). k.values) c.self.view_is in
     record {
       same_counts = ap (λ (k : KeptSheet). k.counts) c.self.view_is;
       same_values = search values_are;
@@ -92,8 +92,8 @@ invariant_of-self-in-Err c =
       h.0,
       subst (λ (x : Staging). AreEdgesOf x.now c.apply_slice.new.self.sheet) (sym graph_is) (subst (λ (x : Stored). AreEdgesOf i.graph.now x.sheet) (sym store_is) h.1),
       ap (λ (x : Staging). x.staged) graph_is,
-      subst (λ (x : Stored). AreKeptRight (kept_sheet x (told x.sheet c.owe.new.self.named) i.held i.meter)) (sym store_is) (right_unnamed i.store i.generations c.owe.new.self c.owe.ensures.named _ i.meter h.3),
-      subst (λ (x : Stored). AreHeldCones x.sheet i.held) (sym store_is) h.4,
+      subst (λ (x : Stored). AreKeptRight (kept_sheet x (told x.sheet c.owe.new.self.named) i.carried i.meter)) (sym store_is) (right_unnamed i.store i.generations c.owe.new.self c.owe.ensures.named _ i.meter h.3),
+      subst (λ (x : Stored). AreCarriedCones x.sheet i.carried) (sym store_is) h.4,
       subst (λ (x : Stored). AreKeptUp x.sheet x.edits c.owe.new.self) (sym store_is) (kept_up_more i.store.sheet i.generations c.owe.new.self i.store.edits c.owe.ensures.named c.owe.ensures.noted c.owe.ensures.stays h.5),
       subst (λ (x : Stored). ArePlans x.sheet i.plans) (sym store_is) h.6,
     )

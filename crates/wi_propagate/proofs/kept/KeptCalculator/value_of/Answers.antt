@@ -45,23 +45,23 @@ formula_value-result-requires-clause-formula c =
 
 pub new-memo-requires-clause-right : goal.new-memo-requires-clause-right
 new-memo-requires-clause-right c =
-    begun_right c.self.inside.store (told c.self.inside.store.sheet c.settle.new.self.named) c.self.inside.held c.self.inside.meter _ c.take_held-held.ensures.values (settled_right {s = c.self.inside.store} c.in_ok-settle.ensures.named c.self.inside.held c.self.inside.meter c.self.invariant.3)
+    begun_right c.self.inside.store (told c.self.inside.store.sheet c.settle.new.self.named) c.self.inside.carried c.self.inside.meter _ c.take_carried-carried.ensures.values (settled_right {s = c.self.inside.store} c.in_ok-settle.ensures.named c.self.inside.carried c.self.inside.meter c.self.invariant.3)
 
 pub formula_value-result-requires-clause-read : goal.formula_value-result-requires-clause-read
 formula_value-result-requires-clause-read c =
     let i = c.self.inside in
     let o : circular i.store.sheet c.args.at ≡ false = sym (c.is_circular.ensures i.store.sheet c.self.invariant.1) ∙ c.if-is_circular.false in
-    let q = begins i.store (told i.store.sheet c.settle.new.self.named) i.held i.meter _ c.new-memo.result c.take_held-held.ensures.values c.new-memo.ensures.value c.new-memo.ensures.placed in
+    let q = begins i.store (told i.store.sheet c.settle.new.self.named) i.carried i.meter _ c.new-memo.result c.take_carried-carried.ensures.values c.new-memo.ensures.value c.new-memo.ensures.placed in
     may_be_read q c.args.at o
 
 pub invariant_of-self-2 : goal.invariant_of-self-2
 invariant_of-self-2 c =
     let i = c.self.inside in
     let e = c.formula_value-result.ensures in
-    with_plans (Some c.into_held.result) i.graph i.store c.settle.new.self c.formula_value-result.new.self.meter i.plans (holds_asked i.held i.graph i.store c.settle.new.self i.meter c.formula_value-result.new.self.meter c.new-memo.result c.formula_value-result.new.self.memo c.into_held.result
-    (begins i.store (told i.store.sheet c.settle.new.self.named) i.held i.meter _ c.new-memo.result c.take_held-held.ensures.values c.new-memo.ensures.value c.new-memo.ensures.placed)
-    e.spends.same c.into_held.ensures.kept e.spends.right.sheet c.into_held.ensures.right c.into_held.ensures.cones
-    (holds_settled i.held i.graph i.store i.generations c.settle.new.self i.meter c.in_ok-settle.ensures.named (c.in_ok-settle.ensures.owed i.store.sheet c.self.invariant.1) (but_plans i.held i.graph i.store i.generations i.meter i.plans c.self.invariant))) c.self.invariant.6
+    with_plans (Some c.into_carried.result) i.graph i.store c.settle.new.self c.formula_value-result.new.self.meter i.plans (holds_asked i.carried i.graph i.store c.settle.new.self i.meter c.formula_value-result.new.self.meter c.new-memo.result c.formula_value-result.new.self.memo c.into_carried.result
+    (begins i.store (told i.store.sheet c.settle.new.self.named) i.carried i.meter _ c.new-memo.result c.take_carried-carried.ensures.values c.new-memo.ensures.value c.new-memo.ensures.placed)
+    e.spends.same c.into_carried.ensures.kept e.spends.right.sheet c.into_carried.ensures.right c.into_carried.ensures.cones
+    (holds_settled i.carried i.graph i.store i.generations c.settle.new.self i.meter c.in_ok-settle.ensures.named (c.in_ok-settle.ensures.owed i.store.sheet c.self.invariant.1) (but_plans i.carried i.graph i.store i.generations i.meter i.plans c.self.invariant))) c.self.invariant.6
 
 pub returns-clause-value : goal.returns-clause-value
 returns-clause-value c =
@@ -73,26 +73,26 @@ returns-clause-value c =
 pub returns-clause-easy : goal.returns-clause-easy
 returns-clause-easy c =
     let i = c.self.inside in
-    let view = settled_view {s = i.store} c.in_ok-settle.ensures.named i.held i.meter c.args.self.now c.self.view_is in
+    let view = settled_view {s = i.store} c.in_ok-settle.ensures.named i.carried i.meter c.args.self.now c.self.view_is in
     let o : circular i.store.sheet c.args.at ≡ false = sym (c.is_circular.ensures i.store.sheet c.self.invariant.1) ∙ c.if-is_circular.false in
-    let q = begins i.store (told i.store.sheet c.settle.new.self.named) i.held i.meter _ c.new-memo.result c.take_held-held.ensures.values c.new-memo.ensures.value c.new-memo.ensures.placed in
+    let q = begins i.store (told i.store.sheet c.settle.new.self.named) i.carried i.meter _ c.new-memo.result c.take_carried-carried.ensures.values c.new-memo.ensures.value c.new-memo.ensures.placed in
     subst (λ (x : KeptSheet). IsAtHand x c.args.put.now c.args.at → c.formula_value-result.new.self.meter ≡ x.counts) view
     (λ h. c.formula_value-result.ensures.uncounted (at_hand_is q c.in_ok-world.world c.args.put.now c.args.at o c.in_ok-world.ensures h))
 
 pub returns-clause-kept : goal.returns-clause-kept
 returns-clause-kept c =
     let i = c.self.inside in
-    let view = settled_view {s = i.store} c.in_ok-settle.ensures.named i.held i.meter c.args.self.now c.self.view_is in
+    let view = settled_view {s = i.store} c.in_ok-settle.ensures.named i.carried i.meter c.args.self.now c.self.view_is in
     let o : circular i.store.sheet c.args.at ≡ false = sym (c.is_circular.ensures i.store.sheet c.self.invariant.1) ∙ c.if-is_circular.false in
-    let q = begins i.store (told i.store.sheet c.settle.new.self.named) i.held i.meter _ c.new-memo.result c.take_held-held.ensures.values c.new-memo.ensures.value c.new-memo.ensures.placed in
-    let new : KeptSheet = record { stored = i.store; generations = told i.store.sheet c.settle.new.self.named; values = c.into_held.result.value.kept; counts = c.formula_value-result.new.self.meter } in
+    let q = begins i.store (told i.store.sheet c.settle.new.self.named) i.carried i.meter _ c.new-memo.result c.take_carried-carried.ensures.values c.new-memo.ensures.value c.new-memo.ensures.placed in
+    let new : KeptSheet = record { stored = i.store; generations = told i.store.sheet c.settle.new.self.named; values = c.into_carried.result.value.kept; counts = c.formula_value-result.new.self.meter } in
     let e = c.formula_value-result.ensures in
     subst (λ (x : KeptSheet). OnOk c.formula_value-result.result ((IsAtHand x c.args.put.now c.args.at → ⊥) → is_kept new c.args.at (reaching x.stored.sheet c.args.at c.args.put.now) ≡ true)) view
-    (IfOk-weaker c.formula_value-result.result _ _ (λ v h. asked_kept q c.in_ok-world.world c.args.put.now c.args.at o c.in_ok-world.ensures c.formula_value-result.new.self.memo c.into_held.result.value.kept c.formula_value-result.new.self.meter
-    e.spends.same c.into_held.ensures.kept c.self.invariant.3.room h) e.kept)
+    (IfOk-weaker c.formula_value-result.result _ _ (λ v h. asked_kept q c.in_ok-world.world c.args.put.now c.args.at o c.in_ok-world.ensures c.formula_value-result.new.self.memo c.into_carried.result.value.kept c.formula_value-result.new.self.meter
+    e.spends.same c.into_carried.ensures.kept c.self.invariant.3.room h) e.kept)
 
 pub new-memo-requires-clause-cones : goal.new-memo-requires-clause-cones
-new-memo-requires-clause-cones c = c.take_held-held.ensures.cones c.self.inside.store.sheet c.self.invariant.4
+new-memo-requires-clause-cones c = c.take_carried-carried.ensures.cones c.self.inside.store.sheet c.self.invariant.4
 
 pub returns-then-is_circular-clause-easy : goal.returns-then-is_circular-clause-easy
 returns-then-is_circular-clause-easy c = λ h. refl
@@ -118,15 +118,15 @@ returns-in_err-world-clause-owes c = owes_none c.args.self.now _ _
 pub returns-clause-owes : goal.returns-clause-owes
 returns-clause-owes c =
     let i = c.self.inside in
-    let view = settled_view {s = i.store} c.in_ok-settle.ensures.named i.held i.meter c.args.self.now c.self.view_is in
+    let view = settled_view {s = i.store} c.in_ok-settle.ensures.named i.carried i.meter c.args.self.now c.self.view_is in
     let o : circular i.store.sheet c.args.at ≡ false = sym (c.is_circular.ensures i.store.sheet c.self.invariant.1) ∙ c.if-is_circular.false in
-    let q = begins i.store (told i.store.sheet c.settle.new.self.named) i.held i.meter _ c.new-memo.result c.take_held-held.ensures.values c.new-memo.ensures.value c.new-memo.ensures.placed in
+    let q = begins i.store (told i.store.sheet c.settle.new.self.named) i.carried i.meter _ c.new-memo.result c.take_carried-carried.ensures.values c.new-memo.ensures.value c.new-memo.ensures.placed in
     let has = demands_itself i.store.sheet c.in_ok-world.world c.args.put.now c.args.at o c.in_ok-world.ensures in
     let closed = different_closed i.store.sheet (case_of i.store.sheet c.args.put.now c.args.at) in
     let Has = HasCase i.store.sheet c.in_ok-world.world c.args.at in
-    let new : KeptSheet = record { stored = i.store; generations = told i.store.sheet c.settle.new.self.named; values = c.into_held.result.value.kept; counts = c.formula_value-result.new.self.meter } in
+    let new : KeptSheet = record { stored = i.store; generations = told i.store.sheet c.settle.new.self.named; values = c.into_carried.result.value.kept; counts = c.formula_value-result.new.self.meter } in
     subst (λ (x : KeptSheet). Owes x new (demanded x.stored.sheet c.args.put.now c.args.at) (is_ok c.formula_value-result.result)) view
-    (owes_spent q c.formula_value-result.new.self.memo c.into_held.result.value.kept c.formula_value-result.new.self.meter c.into_held.ensures.kept c.into_held.ensures.within Has (demanded i.store.sheet c.args.put.now c.args.at) closed has _ (spends_at_most c.formula_value-result.ensures.spends))
+    (owes_spent q c.formula_value-result.new.self.memo c.into_carried.result.value.kept c.formula_value-result.new.self.meter c.into_carried.ensures.kept c.into_carried.ensures.within Has (demanded i.store.sheet c.args.put.now c.args.at) closed has _ (spends_at_most c.formula_value-result.ensures.spends))
 
 pub settle-requires-clause-owed : goal.settle-requires-clause-owed
 settle-requires-clause-owed c =
@@ -138,7 +138,7 @@ new-memo-requires-clause-noted c =
 
 pub returns-in_err-settle-clause-owes : goal.returns-in_err-settle-clause-owes
 returns-in_err-settle-clause-owes c =
-    owes_settled c.args.self.now _ _ _ (settled_view {s = c.self.inside.store} c.settle.ensures.named c.self.inside.held c.self.inside.meter c.args.self.now c.self.view_is)
+    owes_settled c.args.self.now _ _ _ (settled_view {s = c.self.inside.store} c.settle.ensures.named c.self.inside.carried c.self.inside.meter c.args.self.now c.self.view_is)
 
 pub returns-in_err-settle-clause-easy : goal.returns-in_err-settle-clause-easy
 returns-in_err-settle-clause-easy c = λ h. ap (λ (k : KeptSheet). k.counts) c.self.view_is
@@ -146,4 +146,4 @@ returns-in_err-settle-clause-easy c = λ h. ap (λ (k : KeptSheet). k.counts) c.
 pub invariant_of-self : goal.invariant_of-self
 invariant_of-self c =
     let i = c.self.inside in
-    with_plans i.held i.graph i.store c.settle.new.self i.meter i.plans (holds_settled i.held i.graph i.store i.generations c.settle.new.self i.meter c.settle.ensures.named (c.settle.ensures.owed i.store.sheet c.self.invariant.1) (but_plans i.held i.graph i.store i.generations i.meter i.plans c.self.invariant)) c.self.invariant.6
+    with_plans i.carried i.graph i.store c.settle.new.self i.meter i.plans (holds_settled i.carried i.graph i.store i.generations c.settle.new.self i.meter c.settle.ensures.named (c.settle.ensures.owed i.store.sheet c.self.invariant.1) (but_plans i.carried i.graph i.store i.generations i.meter i.plans c.self.invariant)) c.self.invariant.6

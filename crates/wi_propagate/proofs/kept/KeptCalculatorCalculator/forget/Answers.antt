@@ -5,10 +5,10 @@ use Rattle.wi_propagate.proofs.kept.KeptCalculatorCalculator.forget.Goals as goa
 pub invariant_of-self : goal.invariant_of-self
 invariant_of-self c =
     let i = c.self.inside in
-    let e = c.forget_held.ensures in
-    with_plans c.forget_held.new.held i.graph i.store i.generations i.meter c.forget.new.self (holds_emptied i.held c.forget_held.new.held e.values i.store i.meter i.graph i.generations e.there (e.cones i.store.sheet) (but_plans i.held i.graph i.store i.generations i.meter i.plans c.self.invariant)) (c.forget.ensures i.store.sheet)
+    let e = c.forget_carried.ensures in
+    with_plans c.forget_carried.new.carried i.graph i.store i.generations i.meter c.forget.new.self (holds_emptied i.carried c.forget_carried.new.carried e.values i.store i.meter i.graph i.generations e.there (e.cones i.store.sheet) (but_plans i.carried i.graph i.store i.generations i.meter i.plans c.self.invariant)) (c.forget.ensures i.store.sheet)
 
 pub returns : goal.returns
 returns c =
     let i = c.self.inside in
-    emptied_view i.held c.forget_held.new.held c.forget_held.ensures.values i.store i.meter (told i.store.sheet i.generations.named) ∙ ap emptied c.self.view_is
+    emptied_view i.carried c.forget_carried.new.carried c.forget_carried.ensures.values i.store i.meter (told i.store.sheet i.generations.named) ∙ ap emptied c.self.view_is

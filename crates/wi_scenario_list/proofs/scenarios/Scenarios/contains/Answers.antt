@@ -1,5 +1,5 @@
 use Rattle.wi_scenario_list.proofs.Words.{rules}
-use Rattle.wi_scenario_list.proofs.Held.{found-has}
+use Rattle.wi_scenario_list.proofs.Stored.{found-has}
 use Rattle.wi_scenario_list.proofs.scenarios.Scenarios.contains.Goals as goal
 
 pub returns : goal.returns

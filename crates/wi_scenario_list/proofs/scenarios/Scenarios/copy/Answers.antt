@@ -1,5 +1,5 @@
 use Rattle.wi_scenario_list.proofs.Words.{◌∙◌}
-use Rattle.wi_scenario_list.proofs.Held.{cloned}
+use Rattle.wi_scenario_list.proofs.Stored.{cloned}
 use Rattle.wi_scenario_list.proofs.scenarios.Scenarios.copy.Goals as goal
 
 pub returns : goal.returns

@@ -1,5 +1,5 @@
 use Rattle.wi_scenario_list.proofs.Words.{◌∙◌, List, ap, find, option_map, Scenario, is_named, with_name}
-use Rattle.wi_scenario_list.proofs.Held.{behind, found-scenario}
+use Rattle.wi_scenario_list.proofs.Stored.{behind, found-scenario}
 use Rattle.wi_scenario_list.proofs.scenarios.Scenarios.find.Goals as goal
 
 pub returns : goal.returns

@@ -1,5 +1,5 @@
 use Rattle.wi_scenario_list.proofs.Words.{rules}
-use Rattle.wi_scenario_list.proofs.Held.{any_based}
+use Rattle.wi_scenario_list.proofs.Stored.{any_based}
 use Rattle.wi_scenario_list.proofs.scenarios.Scenarios.is_base.Goals as goal
 
 pub returns : goal.returns

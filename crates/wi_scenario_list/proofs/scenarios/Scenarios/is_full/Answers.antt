@@ -1,5 +1,5 @@
 use Rattle.wi_scenario_list.proofs.Words.{◌∙◌, List, rules, length, sym, ap, length-map, Scenario, scenario_in, with_name}
-use Rattle.wi_scenario_list.proofs.Held.{full_where_there, full_where_none}
+use Rattle.wi_scenario_list.proofs.Stored.{full_where_there, full_where_none}
 use Rattle.wi_scenario_list.proofs.scenarios.Scenarios.is_full.Goals as goal
 
 pub returns-in-Some : goal.returns-in-Some

@@ -1,5 +1,5 @@
-use Rattle.wi_scenario_list.proofs.Held.{none_held}
+use Rattle.wi_scenario_list.proofs.Stored.{none_stored}
 use Rattle.wi_scenario_list.proofs.scenarios.Scenarios.new.Goals as goal
 
 pub returns : goal.returns
-returns c = none_held _ (search)
+returns c = none_stored _ (search)

@@ -1,5 +1,5 @@
 use Rattle.wi_scenario_list.proofs.Words.{rules}
-use Rattle.wi_scenario_list.proofs.Held.{removed}
+use Rattle.wi_scenario_list.proofs.Stored.{removed}
 use Rattle.wi_scenario_list.proofs.scenarios.Scenarios.remove.Goals as goal
 
 pub returns : goal.returns

@@ -1,5 +1,5 @@
 use Rattle.wi_scenario_list.proofs.Words.{◌≡◌, Option, ap, ◌∙◌, rules, option_copied, on_ok_weaker, Scenario, with_scenario, scenario_or_new, based_on, with_name}
-use Rattle.wi_scenario_list.proofs.Held.{not_found, found_there}
+use Rattle.wi_scenario_list.proofs.Stored.{not_found, found_there}
 use Rattle.wi_scenario_list.proofs.scenarios.Scenarios.set_base.Goals as goal
 
 pub returns-in_default-clause-ok : goal.returns-in_default-clause-ok

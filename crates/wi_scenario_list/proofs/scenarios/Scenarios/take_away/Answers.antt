@@ -1,5 +1,5 @@
 use Rattle.wi_scenario_list.proofs.Words.{◌≡◌, Option, ap, ◌∙◌, rules, on_ok_weaker, Scenario, with_scenario, without_own, scenario_or_new, without_replacement, with_name, own_of, base_of}
-use Rattle.wi_scenario_list.proofs.Held.{not_found, found_there}
+use Rattle.wi_scenario_list.proofs.Stored.{not_found, found_there}
 use Rattle.wi_scenario_list.proofs.scenarios.Scenarios.take_away.Goals as goal
 
 pub returns-in_default-clause-ok : goal.returns-in_default-clause-ok

@@ -4,7 +4,7 @@ use Rattle.wi_sessions.proofs.sessions.Sessions.at.Goals as goal
 
 pub returns : goal.returns
 returns c =
-    let items = c.self.inside.held.entries in
+    let items = c.self.inside.details.entries in
     let x = c.index.result.now in
     let e = entry_at items c.args.i x c.index.ensures in
     let there = part_at session_in items c.args.i e.0 x c.args.self.now.sessions e.1 (ap (λ (r : Roster). r.sessions) c.self.view_is) (new_session []) in
@@ -12,4 +12,4 @@ returns c =
 
 pub index-requires : goal.index-requires
 index-requires c =
-    subst (λ (n : ℕ). c.args.i < n) (ap (λ (r : Roster). length r.sessions) (sym c.self.view_is) ∙ length-map c.self.inside.held.entries session_in) c.requires
+    subst (λ (n : ℕ). c.args.i < n) (ap (λ (r : Roster). length r.sessions) (sym c.self.view_is) ∙ length-map c.self.inside.details.entries session_in) c.requires

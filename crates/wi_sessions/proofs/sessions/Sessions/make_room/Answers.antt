@@ -3,7 +3,7 @@ use Rattle.wi_sessions.proofs.RosterLemmas.{within_lists}
 use Rattle.wi_sessions.proofs.sessions.Sessions.make_room.Goals as goal
 
 pub make_room-requires : goal.make_room-requires
-make_room-requires c = within_lists c.self.inside.held.entries c.self.inside.pending c.args.self.now c.args.i c.self.view_is c.self.invariant c.requires
+make_room-requires c = within_lists c.self.inside.details.entries c.self.inside.pending c.args.self.now c.args.i c.self.view_is c.self.invariant c.requires
 
 pub returns-clause-sessions : goal.returns-clause-sessions
 returns-clause-sessions c = ap (λ (r : Roster). r.sessions) c.self.view_is

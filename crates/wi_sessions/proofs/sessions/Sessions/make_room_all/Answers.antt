@@ -11,7 +11,7 @@ returns-clause-pending c = c.make_room_all.ensures.pending ∙ ap (λ (r : Roste
 pub returns-clause-room : goal.returns-clause-room
 returns-clause-room c =
     on_ok_weaker c.make_room_all.result
-    (λ h i q l. h i q (within_lists c.self.inside.held.entries c.self.inside.pending c.args.self.now i c.self.view_is c.self.invariant l)
+    (λ h i q l. h i q (within_lists c.self.inside.details.entries c.self.inside.pending c.args.self.now i c.self.view_is c.self.invariant l)
     ∙ ap (λ (r : Roster). is_one_of (vacant_of r i) q || (is_one_of c.args.cells.now q && not (is_one_of (pending_of r i) q))) c.self.view_is)
     c.make_room_all.ensures.room
 

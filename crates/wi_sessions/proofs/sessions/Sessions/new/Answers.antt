@@ -1,12 +1,12 @@
-use Rattle.wi_sessions.proofs.Words.{◌≡◌, ℕ, List, [], ◌∷◌, ◌++◌, map, get_or, length, ap, sym, ◌∙◌, Global, RcStr, is_one_of, new_session, session_in, Held}
+use Rattle.wi_sessions.proofs.Words.{◌≡◌, ℕ, List, [], ◌∷◌, ◌++◌, map, get_or, length, ap, sym, ◌∙◌, Global, RcStr, is_one_of, new_session, session_in, Details}
 use Rattle.wi_sessions.proofs.sessions.Sessions.new.Goals as goal
 
 pub invariant_of-sessions : goal.invariant_of-sessions
-invariant_of-sessions c = ap (λ (xss : List (List ℕ)). length xss) c.new-pending.ensures.pending ∙ sym (ap (λ (es : List (RcStr Global × Held)). length es) c.new-held.ensures.empty)
+invariant_of-sessions c = ap (λ (xss : List (List ℕ)). length xss) c.new-pending.ensures.pending ∙ sym (ap (λ (es : List (RcStr Global × Details)). length es) c.new-details.ensures.empty)
 
 pub returns-clause-sessions : goal.returns-clause-sessions
 returns-clause-sessions c =
-    c.in_ok-push.ensures.sessions ∙ ap (λ (es : List (RcStr Global × Held)). map session_in es ++ new_session c.args.name.now ∷ []) c.new-held.ensures.empty
+    c.in_ok-push.ensures.sessions ∙ ap (λ (es : List (RcStr Global × Details)). map session_in es ++ new_session c.args.name.now ∷ []) c.new-details.ensures.empty
 
 pub returns-clause-pending : goal.returns-clause-pending
 returns-clause-pending c =

@@ -4,7 +4,7 @@ use Rattle.wi_sessions.proofs.NoneLemmas.{nil_both, ok_where_not}
 use Rattle.wi_sessions.proofs.sessions.Sessions.pending_cells.Goals as goal
 
 pub cells-requires : goal.cells-requires
-cells-requires c = within_lists c.self.inside.held.entries c.self.inside.pending c.args.self.now c.args.i c.self.view_is c.self.invariant c.requires
+cells-requires c = within_lists c.self.inside.details.entries c.self.inside.pending c.args.self.now c.args.i c.self.view_is c.self.invariant c.requires
 
 pub returns-clause-list : goal.returns-clause-list
 returns-clause-list c = subst (λ (r : Roster). IfOk c.cells.result (λ found. found.items ≡ pending_of r c.args.i)) c.self.view_is c.cells.ensures.list

@@ -4,7 +4,7 @@ use Rattle.wi_sessions.proofs.sessions.Sessions.push.Goals as goal
 
 pub returns-in-Ok-clause-sessions : goal.returns-in-Ok-clause-sessions
 returns-in-Ok-clause-sessions c =
-    told_more session_in c.self.inside.held.entries _ c.in_ok-name.name c.new.result c.args.self.now.sessions (new_session c.args.name.now) c.in_ok-add.ensures.added
+    told_more session_in c.self.inside.details.entries _ c.in_ok-name.name c.new.result c.args.self.now.sessions (new_session c.args.name.now) c.in_ok-add.ensures.added
     (ap (λ (r : Roster). r.sessions) c.self.view_is) (c.new.ensures _ ∙ ap (λ (bs : List ℕ). new_session bs) c.in_ok-name.ensures.ok)
 
 pub returns-in-Ok-clause-pending : goal.returns-in-Ok-clause-pending
@@ -20,16 +20,16 @@ pub invariant_of-self-in-Ok : goal.invariant_of-self-in-Ok
 invariant_of-self-in-Ok c =
     let p = c.in-Ok.ensures.pending in
     ap (λ (xss : List (List ℕ)). length xss) p.1 ∙ length-append c.self.inside.pending.pending (p.0 ∷ []) ∙ ap (λ (n : ℕ). n + 1) c.self.invariant
-    ∙ sym (ap (λ es. length es) c.in_ok-add.ensures.added ∙ length-append c.self.inside.held.entries ((c.in_ok-name.name, c.new.result) ∷ []))
+    ∙ sym (ap (λ es. length es) c.in_ok-add.ensures.added ∙ length-append c.self.inside.details.entries ((c.in_ok-name.name, c.new.result) ∷ []))
 
 pub returns-in-Err-clause-refused : goal.returns-in-Err-clause-refused
 returns-in-Err-clause-refused c =
-    let long : length c.add.new.sessions.entries ≡ length c.self.inside.held.entries + 1 = ap (λ es. length es) c.in_ok-add.ensures.added ∙ length-append c.self.inside.held.entries ((c.in_ok-name.name, c.new.result) ∷ []) in
-    ap (λ es. roster_in es c.push.new.self) (popped_again c.self.inside.held.entries _ c.pop.new.self.entries _ c.pop.result c.in_ok-add.ensures.added c.pop.ensures.entries (c.pop.ensures.found.1 (omega (arith, long))))
-    ∙ ap (λ (p : AllPending). roster_in c.self.inside.held.entries p) c.in-Err.ensures.refused ∙ c.self.view_is
+    let long : length c.add.new.sessions.entries ≡ length c.self.inside.details.entries + 1 = ap (λ es. length es) c.in_ok-add.ensures.added ∙ length-append c.self.inside.details.entries ((c.in_ok-name.name, c.new.result) ∷ []) in
+    ap (λ es. roster_in es c.push.new.self) (popped_again c.self.inside.details.entries _ c.pop.new.self.entries _ c.pop.result c.in_ok-add.ensures.added c.pop.ensures.entries (c.pop.ensures.found.1 (omega (arith, long))))
+    ∙ ap (λ (p : AllPending). roster_in c.self.inside.details.entries p) c.in-Err.ensures.refused ∙ c.self.view_is
 
 pub invariant_of-self-in-Err : goal.invariant_of-self-in-Err
 invariant_of-self-in-Err c =
-    let long : length c.add.new.sessions.entries ≡ length c.self.inside.held.entries + 1 = ap (λ es. length es) c.in_ok-add.ensures.added ∙ length-append c.self.inside.held.entries ((c.in_ok-name.name, c.new.result) ∷ []) in
+    let long : length c.add.new.sessions.entries ≡ length c.self.inside.details.entries + 1 = ap (λ es. length es) c.in_ok-add.ensures.added ∙ length-append c.self.inside.details.entries ((c.in_ok-name.name, c.new.result) ∷ []) in
     ap (λ (p : AllPending). length p.pending) c.in-Err.ensures.refused ∙ c.self.invariant
-    ∙ sym (ap (λ es. length es) (popped_again c.self.inside.held.entries _ c.pop.new.self.entries _ c.pop.result c.in_ok-add.ensures.added c.pop.ensures.entries (c.pop.ensures.found.1 (omega (arith, long)))))
+    ∙ sym (ap (λ es. length es) (popped_again c.self.inside.details.entries _ c.pop.new.self.entries _ c.pop.result c.in_ok-add.ensures.added c.pop.ensures.entries (c.pop.ensures.found.1 (omega (arith, long)))))

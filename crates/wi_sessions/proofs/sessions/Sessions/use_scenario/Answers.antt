@@ -4,7 +4,7 @@ use Rattle.wi_sessions.proofs.sessions.Sessions.use_scenario.Goals as goal
 
 pub returns-clause-sessions : goal.returns-clause-sessions
 returns-clause-sessions c =
-    let items = c.self.inside.held.entries in
+    let items = c.self.inside.details.entries in
     let x = c.index_mut.result.now in
     let e = entry_at items c.args.i x c.index_mut.ensures.value in
     part_set session_in items c.args.i e.0 x c.args.self.now.sessions e.1 (ap (λ (r : Roster). r.sessions) c.self.view_is) c.use_scenario.new.self _
@@ -19,4 +19,4 @@ pub returns-clause-vacant : goal.returns-clause-vacant
 returns-clause-vacant c = ap (λ (r : Roster). r.vacant) c.self.view_is
 
 pub invariant_of-self : goal.invariant_of-self
-invariant_of-self c = c.self.invariant ∙ sym (index_map_len-with_value_at c.self.inside.held c.args.i _)
+invariant_of-self c = c.self.invariant ∙ sym (index_map_len-with_value_at c.self.inside.details c.args.i _)

@@ -1,6 +1,6 @@
 use Rattle.wi_graph.proofs.Words.{◌∙◌, sym, within_between}
-use Rattle.wi_graph.proofs.HeldSteps.{searched_start, searched_on, searched_found, searched_none, fewer_circles}
-use Rattle.wi_graph.proofs.held.has_circle_outside.Goals as goal
+use Rattle.wi_graph.proofs.PinnedSteps.{searched_start, searched_on, searched_found, searched_none, fewer_circles}
+use Rattle.wi_graph.proofs.pinned.has_circle_outside.Goals as goal
 
 pub loop-ahead-init : goal.loop-ahead-init
 loop-ahead-init c =

@@ -15,21 +15,21 @@ use wi_values::{Address, Rect};
 
 /// The cells of a cone that read a circular cell outside it. For each rectangle that a cell of the cone reads it takes at most
 /// a search among the circular cells for each that the cone and the rectangle have, and one more.
-pub(crate) fn held_set(
+pub(crate) fn pinned_set(
     alloc: Global,
     reads: &Areas,
     circles: &CellSet,
     cells: &CellSet,
 ) -> Result<CellSet, AllocError>
-    ensures { IfOk result (λ held. (c : ℕ) → contains nat_cmp held c
+    ensures { IfOk result (λ pinned. (c : ℕ) → contains nat_cmp pinned c
         ≡ is_one_of (filter (reads_outside reads.now circles.now cells.now) cells.now.keys) c) }
 {
-    let held = held_cells(alloc, reads, circles, cells)?;
-    set_of(alloc, &held)
+    let pinned = pinned_cells(alloc, reads, circles, cells)?;
+    set_of(alloc, &pinned)
 }
 
 /// The same as a list.
-fn held_cells(
+fn pinned_cells(
     alloc: Global,
     reads: &Areas,
     circles: &CellSet,
@@ -41,13 +41,13 @@ fn held_cells(
     cells
         .set()
         .iter()
-        .filter(|cell| is_held(reads, **cell, circles, cells))
+        .filter(|cell| is_pinned(reads, **cell, circles, cells))
         .copied()
         .collect(alloc)
 }
 
 /// Whether a cell reads a circular cell outside the cone.
-fn is_held(reads: &Areas, cell: Address, circles: &CellSet, cells: &CellSet) -> bool
+fn is_pinned(reads: &Areas, cell: Address, circles: &CellSet, cells: &CellSet) -> bool
     ensures { result ≡ reads_outside reads.now circles.now cells.now cell }
 {
     match reads.get(&cell) {

@@ -5,7 +5,7 @@ ghost use Rattle.wi_parser.specs.Sheet.{Sheet};
 ghost use Rattle.wi_cache.specs.Entries.{kept};
 ghost use Rattle.wi_graph.specs.Edges.{AreEdgesOf};
 ghost use Rattle.wi_propagate.specs.Inner.Cones.{AreAllCones};
-ghost use Rattle.wi_propagate.specs.Inner.Keeping.{values_in, AreHeldCones};
+ghost use Rattle.wi_propagate.specs.Inner.Keeping.{values_in, AreCarriedCones};
 
 use crate::cones::{keep_if_few, keep_over_edit};
 use crate::recurring::Recurring;
@@ -16,7 +16,7 @@ use wi_worlds::Reaches;
 
 /// What a question takes over from the one before, and leaves to the next. It stands in a box, so that each question moves a pointer.
 #[derive(Drop)]
-pub struct Held {
+pub struct Carried {
     pub kept: Kept,
     /// Of some cells that were replaced since the last accepted edit: which cells reach them.
     pub cones: Reaches,
@@ -26,22 +26,22 @@ pub struct Held {
     pub recurring: Recurring,
 }
 
-impl Held {
+impl Carried {
     /// Nothing yet, and room for so many kept values. Memory for them is taken as they come.
     #[tactic(auto, using(crate::proofs::KeptCones::none_told))]
-    pub(crate) fn new(alloc: Global, keep: usize) -> Result<Box<Held>, AllocError>
+    pub(crate) fn new(alloc: Global, keep: usize) -> Result<Box<Carried>, AllocError>
         requires { 1 ≤ keep }
         ensures values { IfOk result (λ h. h.value.kept ≡ kept [] keep) }
         ensures cones { IfOk result (λ h. (s : Sheet) → AreAllCones s h.value.cones) }
     {
         let kept = Kept::new(alloc, keep)?;
-        let held = Held {
+        let carried = Carried {
             kept,
             cones: Reaches::new(alloc),
             given_up: GivenUp::new(alloc),
             recurring: Recurring::new(alloc, keep),
         };
-        Ok(Box::new(alloc, held)?)
+        Ok(Box::new(alloc, carried)?)
     }
 
     /// Nothing any more, and room for as many kept values as before. Takes no memory.
@@ -57,27 +57,31 @@ impl Held {
     }
 }
 
-/// Gives back the memory of all that is held. Takes none.
-pub(crate) fn forget_held(alloc: Global, held: &mut Option<Box<Held>>)
-    ensures there { IsSome held.old → IsSome held.new }
-    ensures values { values_in held.new ≡ kept [] (values_in held.old).capacity }
-    ensures cones { (s : Sheet) → AreHeldCones s held.new }
+/// Frees the memory of all that is carried. Takes none.
+pub(crate) fn forget_carried(alloc: Global, carried: &mut Option<Box<Carried>>)
+    ensures there { IsSome carried.old → IsSome carried.new }
+    ensures values { values_in carried.new ≡ kept [] (values_in carried.old).capacity }
+    ensures cones { (s : Sheet) → AreCarriedCones s carried.new }
 {
-    match held {
-        Some(held) => held.forget(alloc),
+    match carried {
+        Some(carried) => carried.forget(alloc),
         None => {}
     }
 }
 
-/// Takes out what is held, for a question, where questions have had at most so many replaced cells: without the cones where they
+/// Takes out what is carried, for a question, where questions have had at most so many replaced cells: without the cones where they
 /// are more than it takes over. Takes no memory.
 #[inline(always)]
-pub(crate) fn take_held(alloc: Global, widest: usize, held: &mut Option<Box<Held>>) -> Box<Held>
-    requires { IsSome held.old }
-    ensures values { result.value.kept ≡ values_in held.old }
-    ensures cones { (s : Sheet) → AreHeldCones s held.old → AreAllCones s result.value.cones }
+pub(crate) fn take_carried(
+    alloc: Global,
+    widest: usize,
+    carried: &mut Option<Box<Carried>>,
+) -> Box<Carried>
+    requires { IsSome carried.old }
+    ensures values { result.value.kept ≡ values_in carried.old }
+    ensures cones { (s : Sheet) → AreCarriedCones s carried.old → AreAllCones s result.value.cones }
 {
-    let Some(mut taken) = held.take() else {
+    let Some(mut taken) = carried.take() else {
         unreachable!()
     };
     let inner = &mut *taken;
@@ -86,16 +90,16 @@ pub(crate) fn take_held(alloc: Global, widest: usize, held: &mut Option<Box<Held
     taken
 }
 
-/// Lets the cones that are held go over the edit that is staged, as `keep_over_edit` does. Takes no memory.
-pub(crate) fn hold_over_edit(alloc: Global, graph: &Graph, held: &mut Option<Box<Held>>)
-    ensures there { IsSome held.old → IsSome held.new }
-    ensures values { values_in held.new ≡ values_in held.old }
+/// Carries the cones over the edit that is staged, as `keep_over_edit` does. Takes no memory.
+pub(crate) fn carry_over_edit(alloc: Global, graph: &Graph, carried: &mut Option<Box<Carried>>)
+    ensures there { IsSome carried.old → IsSome carried.new }
+    ensures values { values_in carried.new ≡ values_in carried.old }
     ensures cones { (s t : Sheet) → AreEdgesOf graph.now.now s
         → IfSome graph.now.staged (λ es. AreEdgesOf es t)
-        → AreHeldCones s held.old → AreHeldCones t held.new }
+        → AreCarriedCones s carried.old → AreCarriedCones t carried.new }
 {
-    match held {
-        Some(held) => keep_over_edit(alloc, graph, &mut held.cones),
+    match carried {
+        Some(carried) => keep_over_edit(alloc, graph, &mut carried.cones),
         None => {}
     }
 }

@@ -3,25 +3,25 @@
 ghost use Rattle.std.specs.Prelude.{◌≡◌, ◌≢◌, ℕ, List, [], OnOk, OnErr, string_bytes};
 ghost use Rattle.std.specs.Option.{option_map};
 ghost use Rattle.wi_sessions.specs.Sessions.{new_session, told, using_scenario};
-ghost use Rattle.wi_sessions.specs.Inner.Held.{with_name};
+ghost use Rattle.wi_sessions.specs.Inner.Details.{with_name};
 
 use crate::picture::{Change, Picture};
 use std::alloc::{AllocError, Global};
 
 /// What a session holds beside its name.
 #[derive(Drop)]
-pub(crate) struct Held {
+pub(crate) struct Details {
     pub(crate) scenario: Option<String>,
     pub(crate) picture: Picture,
     pub(crate) seen: u64,
 }
 
-impl Held {
+impl Details {
     /// What a new session holds. Takes no memory.
-    pub(crate) fn new(alloc: Global) -> Held
+    pub(crate) fn new(alloc: Global) -> Details
         ensures { (name : List ℕ) → with_name name result ≡ new_session name }
     {
-        Held {
+        Details {
             scenario: None,
             picture: Picture::new(alloc),
             seen: 0,

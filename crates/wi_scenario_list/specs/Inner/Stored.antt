@@ -28,5 +28,5 @@ abbrev pub scenario_in : {Z : Type 0} → RcStr Z × Layer → Scenario
 scenario_in e = with_name (rc_str_bytes e.0) e.1
 
 -- the scenarios that stand as entries of a map by their names
-abbrev pub held : {Z : Type 0} → List (RcStr Z × Layer) → List Scenario
-held es = map scenario_in es
+abbrev pub stored : {Z : Type 0} → List (RcStr Z × Layer) → List Scenario
+stored es = map scenario_in es

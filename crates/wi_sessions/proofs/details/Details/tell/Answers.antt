@@ -1,5 +1,5 @@
 use Rattle.wi_sessions.proofs.Words.{ℕ, List, ap, Value, with_name, on_err}
-use Rattle.wi_sessions.proofs.held.Held.tell.Goals as goal
+use Rattle.wi_sessions.proofs.details.Details.tell.Goals as goal
 
 pub returns-clause-told : goal.returns-clause-told
 returns-clause-told c =

@@ -1,6 +1,6 @@
-use Rattle.wi_graph.proofs.HeldSteps.{IsSearched}
+use Rattle.wi_graph.proofs.PinnedSteps.{IsSearched}
 use Rattle.wi_graph.proofs.Words.{places_left}
-use Rattle.wi_graph.proofs.held.has_circle_outside.Given as goal
+use Rattle.wi_graph.proofs.pinned.has_circle_outside.Given as goal
 
 abbrev pub invariant-loop-ahead : goal.invariant-loop-ahead
 invariant-loop-ahead l = IsSearched l.circles l.cells l.area l.ahead

@@ -13,26 +13,26 @@ outside_finds cells (k ∷ ks) r h = at (or_cases (is_within r k && not (contain
     at (inl m) ih = let x = and_parts (is_within r k) (not (contains nat_cmp cells k)) m in (k, or_left (k == k) _ (is_itself k), x.0, not-true (contains nat_cmp cells k) x.1)
     at (inr m) ih = let x = ih m in (x.0, or_right (k == x.0) _ x.1, x.2, x.3)
 
-pub held_finds : (circles cells : BTreeSet ℕ) (rs : List Area) → list_any (has_circle_outside circles cells) rs ≡ true → (d : ℕ) × (is_one_of circles.keys d ≡ true) × (is_within_one rs d ≡ true) × (contains nat_cmp cells d ≡ false)
-held_finds circles cells [] h = cc
-held_finds circles cells (r ∷ rs) h = at (or_cases (has_circle_outside circles cells r) _ h) (held_finds circles cells rs)
+pub pinned_finds : (circles cells : BTreeSet ℕ) (rs : List Area) → list_any (has_circle_outside circles cells) rs ≡ true → (d : ℕ) × (is_one_of circles.keys d ≡ true) × (is_within_one rs d ≡ true) × (contains nat_cmp cells d ≡ false)
+pinned_finds circles cells [] h = cc
+pinned_finds circles cells (r ∷ rs) h = at (or_cases (has_circle_outside circles cells r) _ h) (pinned_finds circles cells rs)
   where
     at : (has_circle_outside circles cells r ≡ true) ⊎ (list_any (has_circle_outside circles cells) rs ≡ true) → (list_any (has_circle_outside circles cells) rs ≡ true → (d : ℕ) × (is_one_of circles.keys d ≡ true) × (is_within_one rs d ≡ true) × (contains nat_cmp cells d ≡ false)) →
         (d : ℕ) × (is_one_of circles.keys d ≡ true) × (is_within_one (r ∷ rs) d ≡ true) × (contains nat_cmp cells d ≡ false)
     at (inl m) ih = let x = outside_finds cells circles.keys r m in (x.0, x.1, or_left (is_within r x.0) _ x.2, x.3)
     at (inr m) ih = let x = ih m in (x.0, x.1, or_right (is_within r x.0) _ x.2, x.3)
 
-pub finds_held : (circles cells : BTreeSet ℕ) (rs : List Area) (d : ℕ) → is_one_of circles.keys d ≡ true → is_within_one rs d ≡ true → contains nat_cmp cells d ≡ false → list_any (has_circle_outside circles cells) rs ≡ true
-finds_held circles cells [] d m w n = cc
-finds_held circles cells (r ∷ rs) d m w n = at (or_cases (is_within r d) _ w) (λ k. finds_held circles cells rs d m k n)
+pub finds_pinned : (circles cells : BTreeSet ℕ) (rs : List Area) (d : ℕ) → is_one_of circles.keys d ≡ true → is_within_one rs d ≡ true → contains nat_cmp cells d ≡ false → list_any (has_circle_outside circles cells) rs ≡ true
+finds_pinned circles cells [] d m w n = cc
+finds_pinned circles cells (r ∷ rs) d m w n = at (or_cases (is_within r d) _ w) (λ k. finds_pinned circles cells rs d m k n)
   where
     at : (is_within r d ≡ true) ⊎ (is_within_one rs d ≡ true) → (is_within_one rs d ≡ true → list_any (has_circle_outside circles cells) rs ≡ true) → (has_circle_outside circles cells r || list_any (has_circle_outside circles cells) rs) ≡ true
     at (inl k) ih = or_left (has_circle_outside circles cells r) _ (found (λ x. is_within r x && not (contains nat_cmp cells x)) circles.keys d m (and_from (is_within r d) _ k (not_from_false (contains nat_cmp cells d) n)))
     at (inr k) ih = or_right (has_circle_outside circles cells r) _ (ih k)
 
-pub held_test : (reads : BTreeMap ℕ (Vec Area)) (circles cells : BTreeSet ℕ) (outer : List ℕ) (held : BTreeSet ℕ) → outer ≡ filter (reads_outside reads circles cells) cells.keys → ((c : ℕ) → contains nat_cmp held c ≡ is_one_of outer c) →
-    (c : ℕ) → contains nat_cmp held c ≡ (reads_outside reads circles cells c && contains nat_cmp cells c)
-held_test reads circles cells outer held e h c =
+pub pinned_test : (reads : BTreeMap ℕ (Vec Area)) (circles cells : BTreeSet ℕ) (outer : List ℕ) (pinned : BTreeSet ℕ) → outer ≡ filter (reads_outside reads circles cells) cells.keys → ((c : ℕ) → contains nat_cmp pinned c ≡ is_one_of outer c) →
+    (c : ℕ) → contains nat_cmp pinned c ≡ (reads_outside reads circles cells c && contains nat_cmp cells c)
+pinned_test reads circles cells outer pinned e h c =
     h c ∙ ap (λ (xs : List ℕ). is_one_of xs c) e
     ∙ any-filter_same (λ x. x == c) (reads_outside reads circles cells) (reads_outside reads circles cells c) (λ k m. ap (reads_outside reads circles cells) (same_cell c k m)) cells.keys
     ∙ ap (λ (b : Bool). reads_outside reads circles cells c && b) (sym (has_key cells.keys c))
