@@ -5,7 +5,7 @@ use Rattle.std.proofs.lemmas.Bool.{cases_lt}
 use Rattle.std.proofs.lemmas.Bool.Decides.{nat_tests}
 use Rattle.wi_values.specs.declared.value.Value.{Value}
 use Rattle.wi_cache.specs.declared.key.Key.{Key}
-use Rattle.wi_cache.specs.Entries.{Entries, KeptValues, HasRoom, PutsIn, PutsForOne, going, last_entry, same_key, value_for}
+use Rattle.wi_cache.specs.Entries.{Entries, KeptValues, HasSpace, PutsIn, PutsForOne, going, last_entry, same_key, value_for}
 use Rattle.wi_cache.proofs.Keys.{same_key_Decides}
 
 module _ (P : Key → Value → Type 0) where
@@ -33,7 +33,7 @@ module _ (P : Key → Value → Type 0) where
     holds_after_one_goes : (es fs : Entries) → HoldsOfEach es → PutsForOne es fs k v → HoldsOfEach fs
     holds_after_one_goes es fs old puts q = subst (λ o. IfSome o (P q)) (sym (puts.others q)) (put_holds (update same_key (value_for es) puts.gone None) (gone_holds (value_for es) puts.gone old) q)
 
-    module _ (m n : KeptValues) (stays : HasRoom m k → PutsIn m.entries n.entries k v) (one_goes : value_for m.entries k ≡ None → m.capacity ≤ length m.entries → PutsForOne m.entries n.entries k v) where
+    module _ (m n : KeptValues) (stays : HasSpace m k → PutsIn m.entries n.entries k v) (one_goes : value_for m.entries k ≡ None → m.capacity ≤ length m.entries → PutsForOne m.entries n.entries k v) where
       -- the same of an accepted `keep`, whose clauses are taken as they stand
       pub holds_after_keep : HoldsOfEach m.entries → HoldsOfEach n.entries
       holds_after_keep old = by_old (value_for m.entries k) refl

@@ -17,7 +17,7 @@ use Rattle.indexmap.proofs.MapLemmas.{absent_from_lookup, insert_entry-absent, l
 use Rattle.wi_values.specs.declared.value.Value.{Value}
 use Rattle.wi_values.proofs.Lists.{got_in_front}
 use Rattle.wi_cache.specs.declared.key.Key.{Key}
-use Rattle.wi_cache.specs.Entries.{Entries, HasOneEach, HasRoom, IsLine, KeptValues, PutsIn, PutsFor, PutsForGoing, PutsForOne, going, kept, keys_after, last_entry, latest, len_after, place_after, same_key, value_for}
+use Rattle.wi_cache.specs.Entries.{Entries, HasOneEach, HasSpace, IsLine, KeptValues, PutsIn, PutsFor, PutsForGoing, PutsForOne, going, kept, keys_after, last_entry, latest, len_after, place_after, same_key, value_for}
 use Rattle.wi_cache.specs.Hashed.{same_key_means}
 use Rattle.wi_cache.proofs.Keys.{same_key_equiv}
 
@@ -144,7 +144,7 @@ module _ (es : Entries) (n cap : ℕ) (k : Key) where
 -- all that `keep` promises of what was kept and what is kept then, and of the entry that went
 pub record Keeps (m m' : KeptValues) (k : Key) (v : Value) (out : Option (Key × Value)) : Type 0 where
   pub found : value_for m'.entries k ≡ Some v
-  pub stays : HasRoom m k → PutsIn m.entries m'.entries k v
+  pub stays : HasSpace m k → PutsIn m.entries m'.entries k v
   pub one_goes : value_for m.entries k ≡ None → m.capacity ≤ length m.entries → PutsForOne m.entries m'.entries k v
   pub goes : PutsForGoing m m' k v
   pub is_gone : out ≡ going m k
@@ -219,7 +219,7 @@ module _ {S : Type 0} (em fm : IndexMap Key Value S) (k : Key) (v : Value) (put 
               ∙ ap (λ (y : Option Value). if is_some y then keys_of (latest n es) else k ∷ take (cap - 1) (keys_of (latest n es))) (sym e)
 
       pub keeps_put : fs ≡ insert_entry same_key es k v → Keeps (kept (latest n es) cap) (kept (latest n fs) cap) k v None
-      keeps_put entries = record { found = found_put; stays = λ room. puts_latest; one_goes = none_went; goes = none_goes; is_gone = none_is_gone; order = order_put entries; len = len_put }
+      keeps_put entries = record { found = found_put; stays = λ space. puts_latest; one_goes = none_went; goes = none_goes; is_gone = none_is_gone; order = order_put entries; len = len_put }
 
       pub line_put : IsLine fs n cap
       line_put = (each, fits, line.2, λ few. line.3 (omega (arith, few, len)))
@@ -286,9 +286,9 @@ module _ {S : Type 0} (em fm : IndexMap Key Value S) (k : Key) (v : Value) (put 
       pub one_went : (m : ℕ) → PutsForOne (latest n es) (latest m gs) k v
       one_went m = record { gone = e.0; stood = subst (λ (y : Option Value). IsSome y) (sym (latest_finds n es line.0 e.0 ∙ stood)) refl; others = others m }
 
-      pub no_room : {A : Type 0} → HasRoom (kept (latest n es) cap) k → A
-      no_room (inl known) = absurd (none_is_some (value_for (latest n es) k) (latest_finds n es line.0 k ∙ new) known)
-      no_room (inr few) = absurd (omega (arith, few, latest_len n es, full))
+      pub no_space : {A : Type 0} → HasSpace (kept (latest n es) cap) k → A
+      no_space (inl known) = absurd (none_is_some (value_for (latest n es) k) (latest_finds n es line.0 k ∙ new) known)
+      no_space (inr few) = absurd (omega (arith, few, latest_len n es, full))
 
       pub gone_is : r ≡ going (kept (latest n es) cap) k
       gone_is = entry ∙ there.1 ∙ sym at_place ∙ oldest_goes es n cap k line (ap (λ (o : Option Value). is_some o) new) (omega (arith, full))
@@ -314,7 +314,7 @@ module _ {S : Type 0} (em fm : IndexMap Key Value S) (k : Key) (v : Value) (put 
       pub keeps_gone : IfSome r (λ p. gs ≡ swap_remove fs n p) → (m : ℕ) → m ≡ place_after n cap → Keeps (kept (latest n es) cap) (kept (latest m gs) cap) k v r
       keeps_gone is_out m is = record {
         found = found_gone m;
-        stays = no_room;
+        stays = no_space;
         one_goes = λ new full. one_went m;
         goes = oldest_went m;
         is_gone = gone_is;

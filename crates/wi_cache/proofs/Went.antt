@@ -59,8 +59,8 @@ pub one_popped : (xs ys : Entries) (e : Key × Value) → xs ≡ ys ++ e ∷ [] 
 one_popped xs ys e is = ap (λ (l : Entries). length l) is ∙ length-append ys (e ∷ [])
 
 -- where one more fits there is room for it
-pub room_left : (len capacity : ℕ) → len + 1 ≤ capacity → 1 ≤ capacity - len
-room_left len capacity fits = omega (arith, fits)
+pub space_left : (len capacity : ℕ) → len + 1 ≤ capacity → 1 ≤ capacity - len
+space_left len capacity fits = omega (arith, fits)
 
 -- ---- a search from the last back
 

@@ -65,8 +65,8 @@ abbrev pub IsLine : Entries → ℕ → ℕ → Type 0
 IsLine es oldest n = HasOneEach es × (length es ≤ n) × (oldest < n) × (length es < n → oldest ≡ 0)
 
 -- a value for k asks for none to go: k has one, or the list isn't full
-abbrev pub HasRoom : KeptValues → Key → Type 0
-HasRoom m k = IsSome (value_for m.entries k) ⊎ (length m.entries < m.capacity)
+abbrev pub HasSpace : KeptValues → Key → Type 0
+HasSpace m k = IsSome (value_for m.entries k) ⊎ (length m.entries < m.capacity)
 
 -- the entry that came first
 abbrev pub last_entry : Entries → Option (Key × Value)
@@ -89,15 +89,15 @@ abbrev pub PutsForGoing : KeptValues → KeptValues → Key → Value → Type 0
 PutsForGoing m n k v = (e : Key × Value) → going m k ≡ Some e → PutsFor m.entries n.entries k v e.0
 
 -- values, and how many more there is room for
-pub record WithRoom : Type 0 where
+pub record WithSpace : Type 0 where
   pub entries : Entries
-  pub room : ℕ
+  pub space : ℕ
 
-abbrev pub with_room : Entries → ℕ → WithRoom
-with_room es n = record { entries = es; room = n }
+abbrev pub with_space : Entries → ℕ → WithSpace
+with_space es n = record { entries = es; space = n }
 
-abbrev pub with_room_code : Coded Key → Coded Value → Coded WithRoom
-with_room_code k v = code_by (Entries × ℕ) (coded× (coded_list (coded× k v)) coded_ℕ) (λ m. (m.entries, m.room)) (λ p. with_room p.0 p.1) (λ _. refl)
+abbrev pub with_space_code : Coded Key → Coded Value → Coded WithSpace
+with_space_code k v = code_by (Entries × ℕ) (coded× (coded_list (coded× k v)) coded_ℕ) (λ m. (m.entries, m.space)) (λ p. with_space p.0 p.1) (λ _. refl)
 
 -- what stands after others were put in one after another, each in the place of an earlier one for its key
 abbrev pub all_put : Entries → Entries → Entries

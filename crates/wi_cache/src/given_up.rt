@@ -34,15 +34,15 @@ pub struct GivenUp {
 impl Model for GivenUp {
     ghost use Rattle.std.specs.Prelude.{◌-◌};
     ghost use Rattle.std.specs.Vec.{vec_capacity, vec_len};
-    ghost use Rattle.wi_cache.specs.Entries.{HasBits, WithRoom, all_put, with_room, with_room_code};
+    ghost use Rattle.wi_cache.specs.Entries.{HasBits, WithSpace, all_put, with_space, with_space_code};
     ghost use Rattle.wi_cache.specs.contracts.key.Key as key;
     ghost use Rattle.wi_values.specs.contracts.value.Value as value;
 
-    ghost Value = { WithRoom };
+    ghost Value = { WithSpace };
 
-    ghost coded = { with_room_code key.the_row.coded value.the_row.coded };
+    ghost coded = { with_space_code key.the_row.coded value.the_row.coded };
 
-    ghost view = { λ g. with_room (all_put g.table.entries g.list.items)
+    ghost view = { λ g. with_space (all_put g.table.entries g.list.items)
         (vec_capacity g.list - vec_len g.list) };
 
     ghost invariant = { λ g. HasBits (all_put g.table.entries g.list.items) g.worlds };
@@ -88,9 +88,9 @@ impl GivenUp {
 
     /// Makes room for one more. If memory runs out, all is as before.
     #[inline(always)]
-    pub fn make_room(&mut self) -> Result<(), AllocError>
+    pub fn make_space(&mut self) -> Result<(), AllocError>
         ensures entries { self.new.entries ≡ self.old.entries }
-        ensures room { OnOk result (1 ≤ self.new.room) }
+        ensures space { OnOk result (1 ≤ self.new.space) }
     {
         self.list.reserve(1)
     }
@@ -98,7 +98,7 @@ impl GivenUp {
     /// Puts a value in for its key, in the place of an earlier one. Takes no memory. Constant time.
     #[inline(always)]
     pub fn put(&mut self, gone: (Key, Value))
-        requires { 1 ≤ self.old.room }
+        requires { 1 ≤ self.old.space }
         ensures { PutsIn self.old.entries self.new.entries gone.0 gone.1 }
     {
         self.worlds |= 1 << world_bit(&gone.0.world);
@@ -204,7 +204,7 @@ fn move_all(
 fn put_in(table: &mut IndexMap<Key, Value>, key: Key, value: Value)
     requires { 1 ≤ spare table.old }
     ensures entries { table.new.entries ≡ insert_entry same_key table.old.entries key value }
-    ensures room { spare table.old ≤ spare table.new + 1 }
+    ensures space { spare table.old ≤ spare table.new + 1 }
 {
     match table.insert(key, value) {
         Ok(_) => {}

@@ -3,7 +3,7 @@
 ghost use Rattle.std.specs.Prelude.{◌≡◌, ◌<◌, ◌≤◌, [], nat_le, length, Some, None, IfOk, OnOk, OnErr};
 ghost use Rattle.std.specs.Map.{keys_of};
 ghost use Rattle.std.specs.Option.{option_copied};
-ghost use Rattle.wi_cache.specs.Entries.{HasOneEach, HasRoom, PutsIn, PutsForGoing, PutsForOne, going, kept, keys_after, len_after, place_after, value_for};
+ghost use Rattle.wi_cache.specs.Entries.{HasOneEach, HasSpace, PutsIn, PutsForGoing, PutsForOne, going, kept, keys_after, len_after, place_after, value_for};
 
 use crate::key::Key;
 use indexmap::IndexMap;
@@ -69,7 +69,7 @@ impl Kept {
     #[inline(always)]
     pub fn keep(&mut self, key: Key, value: Value) -> Result<Option<(Key, Value)>, AllocError>
         ensures found { OnOk result (value_for self.new.entries key ≡ Some value) }
-        ensures stays { OnOk result (HasRoom self.old key
+        ensures stays { OnOk result (HasSpace self.old key
             → PutsIn self.old.entries self.new.entries key value) }
         ensures one_goes { OnOk result (value_for self.old.entries key ≡ None
             → self.old.capacity ≤ length self.old.entries

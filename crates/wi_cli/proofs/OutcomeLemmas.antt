@@ -239,10 +239,10 @@ ends_limit left b p c q s m t w x y count h k same kept =
 cut_said : (ls : List (List ℕ)) (bs : List Block) (c : List ℕ) (k : ℕ) → AreWhole ls → AreBlocks ls bs → length ls + k ≡ 1000000
     → complete_commands (limited (raw_lines (concat ls ++ c))) ≡ filter_map block_command bs ++ complete_commands (take k (raw_lines c))
 unfolding complete_commands
-cut_said ls bs c k are_whole are_blocks room =
+cut_said ls bs c k are_whole are_blocks headroom =
     let more = take k (raw_lines c) in
     ap (λ z. filter_map block_command (filter is_complete (blocks z)))
-    (ap (λ z. whole_lines (limited z)) (are_whole.first c) ∙ ap whole_lines (limited_more ls (raw_lines c) k room) ∙ are_whole.whole more)
+    (ap (λ z. whole_lines (limited z)) (are_whole.first c) ∙ ap whole_lines (limited_more ls (raw_lines c) k headroom) ∙ are_whole.whole more)
     ∙ ap (λ z. filter_map block_command (filter is_complete z)) (are_blocks.first (whole_lines more))
     ∙ ap (filter_map block_command) (filter-append is_complete bs (blocks (whole_lines more)) ∙ ap (λ z. z ++ filter is_complete (blocks (whole_lines more))) are_blocks.complete)
     ∙ filter_map-append block_command bs (filter is_complete (blocks (whole_lines more)))
@@ -277,7 +277,7 @@ ends_write left b p c q s m t w x y count h k = go k.whole k.block where
       let took = block.took in
       let none = took.none_last refl in
       let ls : List (List ℕ) = h.lines ++ took.lines in
-      let room : ℕ = 1000000 - k.count' in
+      let headroom : ℕ = 1000000 - k.count' in
       let are_blocks = AreBlocks-append h.lines took.lines h.done block.taken h.are_blocks (subst (λ z. AreBlocks z block.taken) (no_last took.lines took.last none) block.are_blocks) in
       let said = cut_said (h.lines ++ took.lines) (h.done ++ block.taken) c (1000000 - k.count') (AreWhole-append h.lines took.lines h.are_whole took.are_whole) are_blocks
       (let few = took.few in omega (arith, few, length-append h.lines took.lines, h.counted, took.counted)) in (

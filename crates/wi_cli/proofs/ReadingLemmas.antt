@@ -84,15 +84,15 @@ limited allowed a p (x ∷ xs) q c h l e no_more =
 
 -- the source can't be read
 pub stops_unread : {fault : RunFault} {has_failed : Bool} {capacity : ℕ} → 65537 ≤ capacity → has_failed ≡ true → HasStopped fault has_failed capacity
-stops_unread room failed = record { room = room; failed = λ _. failed }
+stops_unread headroom failed = record { headroom = headroom; failed = λ _. failed }
 
 -- there are too many lines
 pub stops_limited : {has_failed : Bool} {capacity : ℕ} → 65537 ≤ capacity → HasStopped ScriptLimit has_failed capacity
-stops_limited room = record { room = room; failed = λ (e : ScriptLimit ≡ Read). cc }
+stops_limited headroom = record { headroom = headroom; failed = λ (e : ScriptLimit ≡ Read). cc }
 
 -- a reply can't be written
 pub stops_unwritten : {has_failed : Bool} {capacity : ℕ} → CanRead has_failed capacity → HasStopped Write has_failed capacity
-stops_unwritten h = record { room = h.room; failed = λ (e : Write ≡ Read). cc }
+stops_unwritten h = record { headroom = h.headroom; failed = λ (e : Write ≡ Read). cc }
 
 -- where a run can't be read, its source has failed
 pub failed_unread : {has_failed : Bool} {capacity : ℕ} (r : Result (Unit {0}) RunFault) (e fault : RunFault) → r ≡ Err e → e ≡ fault → HasStopped fault has_failed capacity → r ≡ Err Read → has_failed ≡ true

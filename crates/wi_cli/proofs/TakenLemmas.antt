@@ -45,7 +45,7 @@ one_taken true b l b' l' line count count' most k e = record {
   counted = e;
   few =
       let n : length (raw_lines []) ≡ 0 = refl in
-      let room : count < 1000000 = ltb-true count 1000000 (k.may (omega (arith, length-append k.content (10 ∷ [])))) in
+      let headroom : count < 1000000 = ltb-true count 1000000 (k.may (omega (arith, length-append k.content (10 ∷ [])))) in
       omega arith;
 }
 one_taken false b l b' l' line count count' most k e = record {

@@ -88,7 +88,7 @@ pub use Rattle.wi_reports.specs.Compare.{cells_compared}
 pub use Rattle.wi_reports.specs.Contents.{content_record}
 pub use Rattle.wi_reports.specs.Rows.{export_of, rows_shown}
 pub use Rattle.wi_reports.specs.Table.{table_of}
-pub use Rattle.wi_scenario_list.proofs.ChainsKept.{based_kept, dropped_kept, has_room, is_chain, no_scenarios, own_kept}
+pub use Rattle.wi_scenario_list.proofs.ChainsKept.{based_kept, dropped_kept, has_space, is_chain, no_scenarios, own_kept}
 pub use Rattle.wi_scenario_list.specs.Bases.{HasChains, based_on, is_base, is_name_of, lacks, would_loop}
 pub use Rattle.wi_scenario_list.specs.Inner.Chains.{chain, effective}
 pub use Rattle.wi_scenario_list.specs.Scenarios.{has_scenario, is_full, is_named, scenario_for, with_own, without_own, without_scenario}

@@ -56,7 +56,7 @@ fn append(bytes: &mut Vec<u8>, line: &[u8], whole: bool) -> Result<(), AllocErro
 
 /// Makes room for so many bytes more. Where memory runs out, what can be found again is given back, and memory is asked for once more when they
 /// are appended.
-fn make_room<C: Calculator>(
+fn reserve_bytes<C: Calculator>(
     bytes: &mut Vec<u8>,
     count: usize,
     book: &mut Workbook<C>,
@@ -91,7 +91,7 @@ fn hold<C: Calculator>(
     if !wanted {
         return Held::All;
     }
-    make_room(bytes, line.len() + 1, book, spare);
+    reserve_bytes(bytes, line.len() + 1, book, spare);
     match append(bytes, line, whole) {
         Ok(()) => Held::All,
         Err(_) => {

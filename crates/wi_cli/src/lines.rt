@@ -63,7 +63,7 @@ fn take_line<R: Source>(
 fn take_part(chunk: &mut Chunk, line: &mut Vec<u8>) -> bool
     requires { MAX_LINE + 1 ≤ vec_capacity line.old }
     ensures took { TookPart result chunk.old chunk.new line.old.items line.new.items }
-    ensures room { MAX_LINE + 1 ≤ vec_capacity line.new }
+    ensures headroom { MAX_LINE + 1 ≤ vec_capacity line.new }
 {
     let rest = chunk.rest();
     match memchr(b'\n', rest) {
@@ -86,10 +86,10 @@ fn keep(line: &mut Vec<u8>, bytes: &[u8])
     requires { MAX_LINE + 1 ≤ vec_capacity line.old }
     ensures kept { (content : List ℕ) → line.old.items ≡ line_front content
         → line.new.items ≡ line_front (content ++ bytes.now) }
-    ensures room { MAX_LINE + 1 ≤ vec_capacity line.new }
+    ensures headroom { MAX_LINE + 1 ≤ vec_capacity line.new }
 {
-    let room = (MAX_LINE + 1).saturating_sub(line.len());
-    let count = room.min(bytes.len());
+    let headroom = (MAX_LINE + 1).saturating_sub(line.len());
+    let count = headroom.min(bytes.len());
     let _ = line.extend_from_slice(&bytes[..count]);
 }
 

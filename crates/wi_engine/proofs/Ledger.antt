@@ -1,5 +1,5 @@
 -- What one question after another spends.
-use Rattle.wi_engine.proofs.Words.{◌≡◌, ℕ, Bool, true, false, List, Result, Ok, Err, IsErr, is_ok, refl, sym, ◌∙◌, subst, arith, true≢false, Replacement, Sheet, Counts, Case, RestsOnKept, SpentOn, never_fall-same, never_fall-then, spent_none, spent_price, spent_then, spent_weaken, MemoState, IsMemoOf, WhereRoom, IsSameBeside, Saved, Spends, SpendsAtMost, rests_more}
+use Rattle.wi_engine.proofs.Words.{◌≡◌, ℕ, Bool, true, false, List, Result, Ok, Err, IsErr, is_ok, refl, sym, ◌∙◌, subst, arith, true≢false, Replacement, Sheet, Counts, Case, RestsOnKept, SpentOn, never_fall-same, never_fall-then, spent_none, spent_price, spent_then, spent_weaken, MemoState, IsMemoOf, WhereSpace, IsSameBeside, Saved, Spends, SpendsAtMost, rests_more}
 use Rattle.wi_engine.proofs.Places.{takes_none, takes_then, gives_up_none, gives_up_then}
 
 -- ---- of what is kept
@@ -10,7 +10,7 @@ saved_then s old mid new a b c ks h k =
     let v = k.added in
     record {
       added = omega (arith, u, v);
-      room = k.room;
+      space = k.space;
       stays = λ d w i. k.stays d w (h.stays d w i);
       stand = λ j i. k.stand j (h.stand j i);
       found = k.found;
@@ -37,8 +37,8 @@ none_alone s Has m a done h = record {
   places = takes_none m m a.evaluations refl;
   gives_up = gives_up_none m m refl;
   on_found = λ ks closed top. spent_none s m.found a done ks;
-  on_kept = λ ks closed top whole room. spent_none s m.kept a done ks;
-  saved = λ d ks closed top whole room. record { added = omega arith; room = room; stays = λ c v i. i; stand = λ j i. i; found = whole; rests = λ c v i o. absurd (true≢false (sym i ∙ o)) };
+  on_kept = λ ks closed top whole space. spent_none s m.kept a done ks;
+  saved = λ d ks closed top whole space. record { added = omega arith; space = space; stays = λ c v i. i; stand = λ j i. i; found = whole; rests = λ c v i o. absurd (true≢false (sym i ∙ o)) };
 }
 
 -- where nothing is done nothing is spent
@@ -47,10 +47,10 @@ spends_none {s} {Has} {m} {n} {a} {done} h e = subst (λ (x : MemoState). Spends
 
 module _ {s : Sheet} {First Second Both : List Case → Type 0} {old mid : MemoState} {a b : Counts} (first : (ks : List Case) → Both ks → First ks) (second : (ks : List Case) → Both ks → Second ks) (h : Spends s First old mid a b true) where
   -- what is so where there is room after a question is so where there was room before it
-  pub where_then : {P : List Case → Type 0} → WhereRoom s Second mid P → WhereRoom s Both old P
-  where_then k = λ ks closed top whole room.
-      let one = h.saved refl ks closed (first ks top) whole room in
-      k ks closed (second ks top) one.found one.room
+  pub where_then : {P : List Case → Type 0} → WhereSpace s Second mid P → WhereSpace s Both old P
+  where_then k = λ ks closed top whole space.
+      let one = h.saved refl ks closed (first ks top) whole space in
+      k ks closed (second ks top) one.found one.space
 
   -- one question after another
   pub spends_then : {new : MemoState} {c : Counts} {done : Bool} → Spends s Second mid new b c done → Spends s Both old new a c done
@@ -61,10 +61,10 @@ module _ {s : Sheet} {First Second Both : List Case → Type 0} {old mid : MemoS
     places = takes_then old mid new a.evaluations b.evaluations c.evaluations h.places k.places k.counts.0;
     gives_up = gives_up_then old mid new h.gives_up k.gives_up;
     on_found = λ ks closed top. spent_then (h.on_found ks closed (first ks top)) (k.on_found ks closed (second ks top));
-    on_kept = λ ks closed top whole room.
-        spent_then (h.on_kept ks closed (first ks top) whole room) (where_then {P = λ qs. SpentOn s mid.kept new.kept b c done qs} k.on_kept ks closed top whole room);
-    saved = λ d ks closed top whole room.
-        saved_then s old mid new a b c ks (h.saved refl ks closed (first ks top) whole room) (where_then {P = λ qs. Saved s mid new b c qs} (k.saved d) ks closed top whole room);
+    on_kept = λ ks closed top whole space.
+        spent_then (h.on_kept ks closed (first ks top) whole space) (where_then {P = λ qs. SpentOn s mid.kept new.kept b c done qs} k.on_kept ks closed top whole space);
+    saved = λ d ks closed top whole space.
+        saved_then s old mid new a b c ks (h.saved refl ks closed (first ks top) whole space) (where_then {P = λ qs. Saved s mid new b c qs} (k.saved d) ks closed top whole space);
   }
 
 -- of fewer lists, from the same beginning, and where less is done
@@ -78,8 +78,8 @@ spends_weaken {s} {Has} {Less} {m} {old} {new} {a} {b} {done} {less} e has d g =
       places = h.places;
       gives_up = h.gives_up;
       on_found = λ ks closed top. spent_weaken d (h.on_found ks closed (has ks top));
-      on_kept = λ ks closed top whole room. spent_weaken d (h.on_kept ks closed (has ks top) whole room);
-      saved = λ i ks closed top whole room. h.saved (d i) ks closed (has ks top) whole room;
+      on_kept = λ ks closed top whole space. spent_weaken d (h.on_kept ks closed (has ks top) whole space);
+      saved = λ i ks closed top whole space. h.saved (d i) ks closed (has ks top) whole space;
     }
 
 -- whatever was done, where memory runs out

@@ -11,15 +11,15 @@ pub takes_none : (m n : MemoState) (a : ℕ) → n ≡ m → TakesNoMore m n a a
 takes_none m n a e = subst (λ (x : MemoState). TakesNoMore m x a a) (sym e) (inl (λ ks d. omega arith))
 
 pub gives_up_none : (m n : MemoState) → n ≡ m → GivesUpWhenFull m n
-gives_up_none m n e = subst (GivesUpWhenFull m) (sym e) (record { room = omega arith; stays = λ r k i. i })
+gives_up_none m n e = subst (GivesUpWhenFull m) (sym e) (record { space = omega arith; stays = λ r k i. i })
 
 -- where no room was left half way, none is left at the end
 pub gives_up_then : (old mid new : MemoState) → GivesUpWhenFull old mid → GivesUpWhenFull mid new → GivesUpWhenFull old new
 gives_up_then old mid new h k =
-    let x = h.room in
-    let y = k.room in
+    let x = h.space in
+    let y = k.space in
     record {
-      room = omega (arith, x, y);
+      space = omega (arith, x, y);
       stays = λ r j i. k.stays r j (h.stays (omega (arith, y, r)) j i);
     }
 
@@ -31,10 +31,10 @@ one_differs : (k : Key) → IsDistinct same_key (k ∷ [])
 one_differs k = IsDistinct-cons same_key k [] tt none_differ
 
 -- where all that was counted took free places, each value that stood stands
-pub none_went : (old new : MemoState) (a b : ℕ) (k : Key) → TakesPlaces old new a b → b + new.room ≤ a + old.room → old.stands k ≡ true → new.stands k ≡ true
+pub none_went : (old new : MemoState) (a b : ℕ) (k : Key) → TakesPlaces old new a b → b + new.space ≤ a + old.space → old.stands k ≡ true → new.stands k ≡ true
 none_went old new a b k t l = at (old.stands k) (new.stands k) (t (k ∷ []) (one_differs k))
   where
-    at : (x y : Bool) → length (cond (not y) (k ∷ []) []) + (old.room + a) ≤ length (cond (not x) (k ∷ []) []) + (new.room + b) → x ≡ true → y ≡ true
+    at : (x y : Bool) → length (cond (not y) (k ∷ []) []) + (old.space + a) ≤ length (cond (not x) (k ∷ []) []) + (new.space + b) → x ≡ true → y ≡ true
     at true true c h = refl
     at true false c h = absurd (omega (arith, c, l))
     at false y c h = absurd (true≢false (sym h))
@@ -42,9 +42,9 @@ none_went old new a b k t l = at (old.stands k) (new.stands k) (t (k ∷ []) (on
 -- ---- what is so where a value was remembered, from what is so of each of its parts
 
 pub has_found : {X E : Type 0} (r : Result X E) (old new : MemoState) (k : Key) → OnOk r ((c : ℕ) (w : List Replacement) → new.found c w ≡ (old.found c w || same_case (k.cell, k.world) (c, w))) →
-    OnOk r (1 ≤ old.room → (c : ℕ) (w : List Replacement) → new.kept c w ≡ (old.kept c w || same_case (k.cell, k.world) (c, w))) → OnOk r (old.kept k.cell k.world ≡ false → 1 ≤ old.room → new.room + 1 ≡ old.room) → OnOk r (HasFound old new k)
-has_found (Ok x) old new k found kept room = record { found = found; kept = kept; room = room }
-has_found (Err x) old new k found kept room = tt
+    OnOk r (1 ≤ old.space → (c : ℕ) (w : List Replacement) → new.kept c w ≡ (old.kept c w || same_case (k.cell, k.world) (c, w))) → OnOk r (old.kept k.cell k.world ≡ false → 1 ≤ old.space → new.space + 1 ≡ old.space) → OnOk r (HasFound old new k)
+has_found (Ok x) old new k found kept space = record { found = found; kept = kept; space = space }
+has_found (Err x) old new k found kept space = tt
 
 -- under a key is then what was there before, or the value that came
 pub known_still : (old new : Option Value) (k q : Key) (v : Value) → new ≡ old → IfSome new (λ u. (old ≡ Some u) ⊎ ((q.cell ≡ k.cell) × (q.world ≡ k.world) × (u ≡ v)))

@@ -43,12 +43,12 @@ pub use Rattle.wi_engine.specs.Inner.Keeps.{HasFound, Keeps}
 pub use Rattle.wi_engine.specs.Inner.Lists.{first_for, first_of, pairs_of, same_pairs}
 pub use Rattle.wi_engine.specs.Inner.MemoState.{AreKnownRight, IsClosedUnderReads, IsMemoOf, IsTold, MemoState}
 pub use Rattle.wi_engine.specs.Inner.Remembered.{AreCones, OneQuestion, key_of, question_state, remembered}
-pub use Rattle.wi_engine.specs.Inner.Saving.{GivesUpWhenFull, IsValuedAnew, KeepsFound, NeedsNoEvaluation, TakesNoMore, TakesPlaces, WhereRoom, not_kept}
+pub use Rattle.wi_engine.specs.Inner.Saving.{GivesUpWhenFull, IsValuedAnew, KeepsFound, NeedsNoEvaluation, TakesNoMore, TakesPlaces, WhereSpace, not_kept}
 pub use Rattle.wi_engine.specs.Inner.Seen.{content_seen}
 pub use Rattle.wi_engine.specs.Inner.SettledFrames.{AreFoundSettled, HasOneMeaning, IsFrameSettled}
 pub use Rattle.wi_engine.specs.Inner.Spends.{IsSameBeside, Saved, Spends, SpendsAtMost, ValuesCell}
-pub use Rattle.wi_engine.specs.Inner.StackLists.{HasLast, HaveRests, HaveRoom, IsWithFrame, count_more, frame_of, frames_in, rests_behind, stack_state, with_its_rest, with_rest}
-pub use Rattle.wi_engine.specs.Inner.Stacked.{HasRoomForOne, StackState, StackedFrame, cells_of, other_than_cells, seen_as, stacked, waits_for_one}
+pub use Rattle.wi_engine.specs.Inner.StackLists.{HasLast, HaveRests, HaveSpace, IsWithFrame, count_more, frame_of, frames_in, rests_behind, stack_state, with_its_rest, with_rest}
+pub use Rattle.wi_engine.specs.Inner.Stacked.{HasSpaceForOne, StackState, StackedFrame, cells_of, other_than_cells, seen_as, stacked, waits_for_one}
 pub use Rattle.wi_engine.specs.Inner.Steps.{FrameCounts, FrameSteps, FrameTakes, FrameWaits, IsFrameValue, IsShownNow, IsWorldWith}
 pub use Rattle.wi_engine.specs.Inner.Touched.{earlier}
 pub use Rattle.wi_engine.specs.Inner.Walk.{EachLeave, Enter, GoesOn, HasCycle, IsBelow, IsOpen, IsWalk, LeadsTo, Leave, Task, begun, cells_ahead, enters, has_leave, has_task, leaves, progress_of, task_cell, tasks_at, tasks_in, tasks_left, tasks_of, unread}

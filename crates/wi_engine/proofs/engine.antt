@@ -9,7 +9,7 @@
 -- `Stacks`: a push and a pop, where ranks fall from the lowest frame to the one on top.
 -- `Budgets`: what is counted stays within what was left to find.
 -- `FrameRuns`: what is so of a run of frames (`IsRunning`), and what its turns do to that.
--- `SettledStacks`, `RunsWithRoom`: the same where there is room for all that is found (`IsSaving`), by what is kept in the place of
+-- `SettledStacks`, `RunsWithSpace`: the same where there is room for all that is found (`IsSaving`), by what is kept in the place of
 -- what was found; and what a question for a cell leaves (`ValuesCell`).
 -- `Ends`: all of it together (`IsGoing`), and what was spent where it ends.
 -- `StackedRuns`: the same where the stack shows what each frame is (`IsGoingOver`), for the loop of `run`.
@@ -23,6 +23,6 @@ pub mod Stacks
 pub mod Budgets
 pub mod FrameRuns
 pub mod SettledStacks
-pub mod RunsWithRoom
+pub mod RunsWithSpace
 pub mod Ends
 pub mod StackedRuns

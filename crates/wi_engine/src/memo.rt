@@ -40,7 +40,7 @@ pub trait Memo {
 
     /// Whether no place is free for a value that is kept for longer, as far as that is known.
     fn is_full(&self) -> bool
-        ensures { result ≡ true → (state self.now).room ≡ 0 }
+        ensures { result ≡ true → (state self.now).space ≡ 0 }
     {
         false
     }

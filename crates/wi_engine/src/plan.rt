@@ -55,7 +55,7 @@ impl<M: Memo + Drop> Question<M> {
         plan: &Plan,
     ) -> Result<Option<Value>, AllocError>
         requires memo { IsMemoOf store.now.sheet (M.state self.old.memo) }
-        requires full { (M.state self.old.memo).room ≡ 0 }
+        requires full { (M.state self.old.memo).space ≡ 0 }
         requires read { MayBeRead store.now.sheet (M.state self.old.memo) plan.now.root }
         requires plan { IsWholePlan store.now.sheet plan.now.inputs.items plan.now.root
             plan.now.cells.items }
@@ -96,7 +96,8 @@ impl<M: Memo + Drop> Question<M> {
     ) -> Result<Option<Value>, AllocError>
         requires memo { IsMemoOf store.now.sheet (M.state self.old.memo) }
         requires read { MayBeRead store.now.sheet (M.state self.old.memo) plan.now.root }
-        requires formula { has_formula (content_of (put_all store.now.sheet world.now) plan.now.root)
+        requires formula { has_formula (content_of
+            (put_all store.now.sheet world.now) plan.now.root)
             ≡ true }
         requires plan { IsWholePlan store.now.sheet plan.now.inputs.items plan.now.root
             plan.now.cells.items }
@@ -123,7 +124,8 @@ impl<M: Memo + Drop> Question<M> {
     fn are_given(&mut self, store: &Store, world: &World, plan: &Plan) -> Result<bool, AllocError>
         requires memo { IsMemoOf store.now.sheet (M.state self.old.memo) }
         requires read { MayBeRead store.now.sheet (M.state self.old.memo) plan.now.root }
-        requires formula { has_formula (content_of (put_all store.now.sheet world.now) plan.now.root)
+        requires formula { has_formula (content_of
+            (put_all store.now.sheet world.now) plan.now.root)
             ≡ true }
         requires plan { IsWholePlan store.now.sheet plan.now.inputs.items plan.now.root
             plan.now.cells.items }
@@ -216,7 +218,8 @@ fn ready_value(
     requires open { circular store.now.sheet at ≡ false }
     requires formula { has_formula (content_of (put_all store.now.sheet world.now) at) ≡ true }
     requires ready { IsReady store.now.sheet world.now at found.now }
-    ensures value { IfOk result (λ v. v ≡ values.cell_value (put_all store.now.sheet world.now) at) }
+    ensures value { IfOk result (λ v. v
+        ≡ values.cell_value (put_all store.now.sheet world.now) at) }
     ensures counts { IfOk result (λ _. CountsOne meter.old meter.new) }
     ensures err { OnErr result (meter.new ≡ meter.old) }
 {

@@ -5,7 +5,7 @@ ghost use Rattle.wi_parser.specs.Sheet.{content_of, put_all};
 ghost use Rattle.wi_sheet.specs.CellValue as values;
 ghost use Rattle.wi_engine.specs.Inner.MemoState.{IsMemoOf};
 ghost use Rattle.wi_engine.specs.Inner.Frames.{MayBeRead, IsUnvaluedKey, StandsAt, case_at};
-ghost use Rattle.wi_engine.specs.Inner.Saving.{WhereRoom};
+ghost use Rattle.wi_engine.specs.Inner.Saving.{WhereSpace};
 ghost use Rattle.wi_engine.specs.Inner.Spends.{Spends, ValuesCell};
 
 use crate::asked::{remembered_value, value_now};
@@ -101,7 +101,7 @@ impl<M: Memo + Drop> Question<M> {
             self.old.meter self.new.meter (is_ok result) }
         ensures kept { OnOk result (1 ≤ (M.state self.old.memo).capacity
             → (M.state self.new.memo).kept key.cell key.world ≡ true) }
-        ensures settled { OnOk result (WhereRoom store.now.sheet (λ ks. Contains ks (case_at key))
+        ensures settled { OnOk result (WhereSpace store.now.sheet (λ ks. Contains ks (case_at key))
             (M.state self.old.memo) (λ _. (M.state self.new.memo).kept key.cell key.world ≡ true)) }
     {
         let alloc = self.pool.allocator();

@@ -2,8 +2,8 @@
 
 ghost use Rattle.std.specs.Prelude.{◌≡◌, ◌<◌, ◌++◌, ◌∷◌, [], true, None, IfSome, MatchOption, OnOk, vec_len, vec_capacity};
 ghost use Rattle.wi_engine.specs.Inner.Frames.{IsNewFrame};
-ghost use Rattle.wi_engine.specs.Inner.Stacked.{HasRoomForOne, stacked, waits_for_one};
-ghost use Rattle.wi_engine.specs.Inner.StackLists.{HasLast, HaveRests, HaveRoom, IsWithFrame, count_more, frames_in};
+ghost use Rattle.wi_engine.specs.Inner.Stacked.{HasSpaceForOne, stacked, waits_for_one};
+ghost use Rattle.wi_engine.specs.Inner.StackLists.{HasLast, HaveRests, HaveSpace, IsWithFrame, count_more, frames_in};
 
 use crate::course::Course;
 use crate::findings::Findings;
@@ -88,15 +88,15 @@ impl<'a> Stack<'a> {
     #[inline(always)]
     pub(crate) fn reserve(&mut self) -> Result<(), AllocError>
         ensures frames { self.new.frames ≡ self.old.frames }
-        ensures room { OnOk result (HasRoomForOne self.new) }
+        ensures space { OnOk result (HasSpaceForOne self.new) }
     {
-        make_room(&mut self.entries, &mut self.rests)
+        make_space(&mut self.entries, &mut self.rests)
     }
 
     /// Puts what a frame is on top, and lets the frame begin with another formula. Takes no memory.
     #[inline(always)]
     pub(crate) fn push_reserved(&mut self, frame: &mut Frame<'a>, next: Unvalued<'a>)
-        requires { HasRoomForOne self.old }
+        requires { HasSpaceForOne self.old }
         ensures frames { self.new.frames ≡ self.old.frames ++ stacked frame.old ∷ [] }
         ensures begins { IsNewFrame frame.new next.entry.key next.entry.formula.now }
     {
@@ -118,10 +118,10 @@ impl<'a> Stack<'a> {
 
 /// Makes room for one more in both lists. If memory runs out, what they have is as before.
 #[inline(always)]
-fn make_room(entries: &mut Vec<Entry>, rests: &mut Vec<Rest>) -> Result<(), AllocError>
+fn make_space(entries: &mut Vec<Entry>, rests: &mut Vec<Rest>) -> Result<(), AllocError>
     ensures entries { entries.new.items ≡ entries.old.items }
     ensures rests { rests.new.items ≡ rests.old.items }
-    ensures room { OnOk result (HaveRoom entries.new rests.new) }
+    ensures space { OnOk result (HaveSpace entries.new rests.new) }
 {
     entries.reserve(1)?;
     rests.reserve(1)?;
@@ -137,7 +137,7 @@ fn put_on<'a>(
     frame: &mut Frame<'a>,
     next: Unvalued<'a>,
 )
-    requires room { HaveRoom entries.old rests.old }
+    requires space { HaveSpace entries.old rests.old }
     requires rests { HaveRests entries.old.items rests.old.items }
     ensures rests { HaveRests entries.new.items rests.new.items }
     ensures frames { frames_in entries.new.items rests.new.items
@@ -191,7 +191,7 @@ fn put_one_cell<'a>(
     at: Address,
     next: Unvalued<'a>,
 )
-    requires room { vec_len entries.old < vec_capacity entries.old }
+    requires space { vec_len entries.old < vec_capacity entries.old }
     requires alone { stacked frame.old ≡ waits_for_one frame.old.key frame.old.formula.now at }
     ensures rests { count_more entries.new.items ≡ count_more entries.old.items }
     ensures frames { IsWithFrame entries.old.items entries.new.items frame.old }
@@ -210,7 +210,7 @@ fn put_one_cell<'a>(
 /// Puts a frame on top that has more.
 #[inline(always)]
 fn put_with_rest<'a>(entries: &mut Vec<Entry<'a>>, rests: &mut Vec<Rest>, frame: Frame<'a>)
-    requires room { HaveRoom entries.old rests.old }
+    requires space { HaveSpace entries.old rests.old }
     requires rests { HaveRests entries.old.items rests.old.items }
     ensures rests { HaveRests entries.new.items rests.new.items }
     ensures frames { frames_in entries.new.items rests.new.items

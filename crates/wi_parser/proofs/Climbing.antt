@@ -32,12 +32,12 @@ line_shortens d k ts t rest h =
     omega (arith, parts)
 
 -- turns above the number of symbols change nothing
-chain_room : (next : Parse) → Shortens next → (k n m : ℕ) (left : Tree) (ts : List Symbol) → length ts ≤ n → length ts ≤ m → chain next k n left ts ≡ chain next k m left ts
+chain_space : (next : Parse) → Shortens next → (k n m : ℕ) (left : Tree) (ts : List Symbol) → length ts ≤ n → length ts ≤ m → chain next k n left ts ≡ chain next k m left ts
 unfolding chain
-chain_room next short k n m left [] h e = chain_stop next k n left [] refl ∙ sym (chain_stop next k m left [] refl)
-chain_room next short k zero m left (x ∷ ts) h e = absurd (omega arith)
-chain_room next short k (suc n) zero left (x ∷ ts) h e = absurd (omega arith)
-chain_room next short k (suc n) (suc m) left (x ∷ ts) h e = at_operator (λ t rest less least. chain_room next short k n m t rest less least) (operator_at k (x ∷ ts)) refl
+chain_space next short k n m left [] h e = chain_stop next k n left [] refl ∙ sym (chain_stop next k m left [] refl)
+chain_space next short k zero m left (x ∷ ts) h e = absurd (omega arith)
+chain_space next short k (suc n) zero left (x ∷ ts) h e = absurd (omega arith)
+chain_space next short k (suc n) (suc m) left (x ∷ ts) h e = at_operator (λ t rest less least. chain_space next short k n m t rest less least) (operator_at k (x ∷ ts)) refl
   where
     at_operator : ((t : Tree) (rest : List Symbol) → length rest ≤ n → length rest ≤ m → chain next k n t rest ≡ chain next k m t rest) → (o : Option (Operator × List Symbol)) → operator_at k (x ∷ ts) ≡ o
         → chain_step next (chain next k n) left (x ∷ ts) o ≡ chain_step next (chain next k m) left (x ∷ ts) o
@@ -132,7 +132,7 @@ module _ (d : ℕ) (op : Operator) (left : Tree) (us : List Symbol) where
       let short = line_shortens d (suc (suc k)) us right rest same in
       ap (read_then next) (here (suc (suc k)) above)
       ∙ chain_more tighter (suc (suc (suc k))) (length ts) left right ts us rest op (omega arith) (operator_here (suc (suc (suc k))) op us at_it) same
-      ∙ chain_room tighter (line_shortens d (suc (suc k))) (suc (suc (suc k))) (length ts - 1) (length rest) whole rest (omega arith) (omega arith)
+      ∙ chain_space tighter (line_shortens d (suc (suc k))) (suc (suc (suc k))) (length ts - 1) (length rest) whole rest (omega arith) (omega arith)
       ∙ ap (read_then next) (sym (loops_stop (expression d) (line_of op - 1) (suc (suc k)) whole rest (omega arith) ended)))
       (λ within. ap (read_then next) (loops_more (suc (suc k)) right rest within found ended))
       (cases_lt (suc (suc k)) (line_of op))

@@ -62,7 +62,7 @@ record Turns (d k n : ℕ) (t : Tree) (us rest : List Symbol) : Type 0 where
   after : List Symbol
   found : line (expression d) k (us ++ rest) ≡ Some (first, after)
   led : (m : ℕ) → chain (line (expression d) k) (suc k) (m + n) first after ≡ chain (line (expression d) k) (suc k) m t rest
-  room : length rest + n ≤ length after
+  space : length rest + n ≤ length after
 
 abbrev Spine : ℕ → ℕ → Tree → List Symbol → Type 0
 Spine d k t us = (n : ℕ) × ((rest : List Symbol) → Stops k rest → Turns d k n t us rest)
@@ -84,7 +84,7 @@ led_on d k n t us rest turns h =
     let next = line (expression d) (suc (suc k)) in
     let looser = suc (suc (suc k)) in
     let m = length turns.after - n in
-    let all_turns : length turns.after ≡ m + n = omega (arith, turns.room) in
+    let all_turns : length turns.after ≡ m + n = omega (arith, turns.space) in
     ap (read_then (λ t rest. chain next looser (length rest) t rest)) turns.found
     ∙ ap (λ j. chain next looser j turns.first turns.after) all_turns ∙ turns.led m ∙ chain_stop next looser m t rest h
 
@@ -109,7 +109,7 @@ one_operand d k t us c = (
     after = rest;
     found = c rest stops;
     led = λ m. let same : m + 0 ≡ m = omega arith in ap (λ j. chain (line (expression d) k) (suc k) j t rest) same;
-    room = omega arith;
+    space = omega arith;
   },
 )
 
@@ -137,7 +137,7 @@ one_more d k op l r ls rs e left right = (
             ap (λ j. chain next (suc k) j before.first before.after) shift ∙ before.led (suc m)
             ∙ chain_more next (suc k) (suc m) l r tail (rs ++ rest) rest op (omega arith) (operator_here (suc k) op (rs ++ rest) e) (right rest stops)
             ∙ ap (λ j. chain next (suc k) j (binary op l r) rest) less;
-        room = let longer = length-append rs rest in omega (arith, before.room);
+        space = let longer = length-append rs rest in omega (arith, before.space);
       },
 )
 
@@ -202,7 +202,7 @@ unfolding parameters_at
 none_taken d rest = refl
 
 last_taken : (d : ℕ) → MoreTaken d no_trees (close_parenthesis ∷ [])
-last_taken d n rest room = more_last (expression d) n (close_parenthesis ∷ rest) rest (omega arith) refl
+last_taken d n rest space = more_last (expression d) n (close_parenthesis ∷ rest) rest (omega arith) refl
 
 first_taken : (d : ℕ) (t : Tree) (all : Trees) (ts us : List Symbol) → Spells loosest t ts → SpellsMore all us → Taken d loosest t ts → MoreTaken (suc d) all us → AllTaken (suc d) (more_trees t all) (ts ++ us)
 first_taken d t all ts us s u one others rest =
@@ -212,7 +212,7 @@ first_taken d t all ts us s u one others rest =
     ∙ ap (put_first t) (others (length tail) rest (omega (arith, length-append us rest)))
 
 another_taken : (d : ℕ) (t : Tree) (all : Trees) (ts us : List Symbol) → SpellsMore all us → Taken d loosest t ts → MoreTaken (suc d) all us → MoreTaken (suc d) (more_trees t all) (separator ∷ ts ++ us)
-another_taken d t all ts us u one others n rest room =
+another_taken d t all ts us u one others n rest space =
     let tail = us ++ rest in
     let some : 0 < n = omega arith in
     let least = length-append ts us in

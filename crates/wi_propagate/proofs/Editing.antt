@@ -7,7 +7,7 @@ use Rattle.wi_propagate.proofs.NotedSteps.{told_after, told_same, kept_up_after,
 
 pub begins_right : (s : Stored) (g : Noted) (h : Box Carried) (n : Counts) (keep : ℕ) → g ≡ no_numbers → h.value.kept ≡ kept [] keep → 1 ≤ keep → AreKeptRight (kept_sheet s (told s.sheet g.named) (Some h) n)
 begins_right s g h n keep e v one = record {
-  room = subst (λ (x : KeptValues). 1 ≤ x.capacity) (sym v) one;
+  space = subst (λ (x : KeptValues). 1 ≤ x.capacity) (sym v) one;
   past = λ c. let z = told_none s.sheet g c e in omega (arith, z);
   right = λ q. subst (λ (x : KeptValues). IfSome (value_for x.entries q) (IsKeptFor s.sheet s.edits (generation_in (told s.sheet g.named)) q)) (sym v) tt;
 }
@@ -75,7 +75,7 @@ right_after_edit old new changes n g r values before after h up e k =
     let number : n ≡ old.edits + 1 = e ∙ a.1 in
     let right = kept_over_edit old.sheet (edited old.sheet (map change_without_empty changes)) (keys_of changes) old.edits (generation_in g) (generation_in r) values.entries (same_off_edited old.sheet changes) (raised number) k.right in
     record {
-      room = k.room;
+      space = k.space;
       past = λ c. let z = past c number (in_cone old.sheet (keys_of changes) c) (up c) in let y = a.1 in omega (arith, z, y);
       right = rw (a.0, a.1) right;
     }
@@ -94,7 +94,7 @@ right_after_edit old new changes n g r values before after h up e k =
 pub right_same : (s : Stored) (values : KeptValues) (g r : Generations) (counts : Counts) → ((c : ℕ) → generation_in r c ≡ generation_in g c) → AreKeptRight (record { stored = s; values = values; generations = g; counts = counts }) →
     AreKeptRight (record { stored = s; values = values; generations = r; counts = counts })
 right_same s values g r counts e k = record {
-  room = k.room;
+  space = k.space;
   past = λ c. subst (λ (m : ℕ). m ≤ s.edits) (sym (e c)) (k.past c);
   right = λ q. at (value_for values.entries q) q (k.right q);
 }
@@ -110,20 +110,20 @@ right_unnamed s first mid e values counts k = right_same s values (told s.sheet 
 
 -- what an edit tells, and what it owes
 module _ (old new : Stored) (changes : List (ℕ × Option Content)) (first mid last : Noted) (cells : List ℕ) (n : ℕ) (h : applied old changes ≡ Ok new) (are : cells ≡ keys_of changes) (number : n ≡ new.edits)
-    (room : (c : ℕ) → generation_in mid.named c ≡ generation_in first.named c) (named : (c : ℕ) → generation_in last.named c ≡ cond (is_one_of cells c) n (generation_in mid.named c)) (k : AreKeptUp old.sheet old.edits first) where
+    (space : (c : ℕ) → generation_in mid.named c ≡ generation_in first.named c) (named : (c : ℕ) → generation_in last.named c ≡ cond (is_one_of cells c) n (generation_in mid.named c)) (k : AreKeptUp old.sheet old.edits first) where
   numbers : (c : ℕ) → generation_in last.named c ≡ numbered (keys_of changes) n (generation_in mid.named) c
   numbers c = named c ∙ ap (λ (xs : List ℕ). cond (is_one_of xs c) n (generation_in mid.named c)) are
 
   pub edit_told : (c : ℕ) → generation_in (told new.sheet last.named) c ≡ cond (in_cone old.sheet (keys_of changes) c) n (generation_in (told old.sheet first.named) c)
   edit_told c =
       told_after old.sheet new.sheet (keys_of changes) mid.named last.named n (same_off_applied old new changes h) below numbers c
-      ∙ ap (λ (m : ℕ). cond (in_cone old.sheet (keys_of changes) c) n m) (told_same old.sheet first.named mid.named room c)
+      ∙ ap (λ (m : ℕ). cond (in_cone old.sheet (keys_of changes) c) n m) (told_same old.sheet first.named mid.named space c)
     where
       below : (d : ℕ) → generation_in mid.named d ≤ n
-      below d = let a = k.past d in let b = room d in let m = number_applied old new changes h in omega (arith, a, b, m, number)
+      below d = let a = k.past d in let b = space d in let m = number_applied old new changes h in omega (arith, a, b, m, number)
 
   pub edit_keeps_up : mid.noted ≡ first.noted → ((x : ℕ) → is_one_of first.owed x ≡ true → is_one_of mid.owed x ≡ true) → ((x : ℕ) → is_one_of cells x ≡ true → (is_one_of mid.owed x ≡ true) ⊎ IsUnread old.sheet x) → last.noted ≡ mid.noted → last.owed ≡ mid.owed → AreKeptUp new.sheet new.edits last
-  edit_keeps_up noted stays owed again still = subst (λ (m : ℕ). AreKeptUp new.sheet m last) number (kept_up_after old.sheet new.sheet (keys_of changes) first mid last old.edits n (same_off_applied old new changes h) (number ∙ number_applied old new changes h) room noted stays
+  edit_keeps_up noted stays owed again still = subst (λ (m : ℕ). AreKeptUp new.sheet m last) number (kept_up_after old.sheet new.sheet (keys_of changes) first mid last old.edits n (same_off_applied old new changes h) (number ∙ number_applied old new changes h) space noted stays
       (λ x m. owed x (ap (λ (xs : List ℕ). is_one_of xs x) are ∙ m)) numbers again still k)
 
 pub edges_applied : (es : Edges) (old new : Stored) (changes : List (ℕ × Option Content)) → AreEdgesOf es old.sheet → applied old changes ≡ Ok new → AreEdgesOf (edges_after es changes) new.sheet

@@ -1,5 +1,5 @@
 -- An entry of a data table that is asked for: which cells may be read, and what is kept for longer.
-use Rattle.wi_propagate.proofs.Words.{◌≡◌, ◌==◌, ◌<◌, ◌+◌, ◌||◌, ℕ, zero, suc, Bool, true, false, List, [], ◌∷◌, map, take, get_or, length, All, refl, sym, ap, ◌∙◌, subst, arith, eq-eqb, or_left, or_right, All-more, list_any, Replacement, Sheet, content_of, has_formula, Counts, circular, is_one_of, Case, case_of, same_case, one_less_left, with_what_if, IsSettled, IsWhatIfSettled, HasCase, HasReplacing, HasEntry, all_more, test_of_cells, cells_open, MemoState, MayBeRead, OneQuestion, remembered, question_state, WhereRoom, IsUnkept, Saved, Spends, SpendsAtMost, spends_at_most, where_then}
+use Rattle.wi_propagate.proofs.Words.{◌≡◌, ◌==◌, ◌<◌, ◌+◌, ◌||◌, ℕ, zero, suc, Bool, true, false, List, [], ◌∷◌, map, take, get_or, length, All, refl, sym, ap, ◌∙◌, subst, arith, eq-eqb, or_left, or_right, All-more, list_any, Replacement, Sheet, content_of, has_formula, Counts, circular, is_one_of, Case, case_of, same_case, one_less_left, with_what_if, IsSettled, IsWhatIfSettled, HasCase, HasReplacing, HasEntry, all_more, test_of_cells, cells_open, MemoState, MayBeRead, OneQuestion, remembered, question_state, WhereSpace, IsUnkept, Saved, Spends, SpendsAtMost, spends_at_most, where_then}
 
 -- ---- the cells whose values it asks for
 
@@ -41,13 +41,13 @@ has_pair s w pairs i x less is ks h = subst (λ (p : ℕ × ℕ). HasCase s w p.
 
 module _ (s : Sheet) (w : List Replacement) (pairs : List (ℕ × ℕ)) (i : ℕ) (x : ℕ × ℕ) (less : i < length pairs) (is : x ≡ get_or pairs i x) (old mid new : MemoState) (a b c : Counts)
     (h : Spends s (HasReplacing s w pairs) old mid a b true) (k : Spends s (HasCase s w x.1) mid new b c true) where
-  pub more_settled : WhereRoom s (HasReplacing s w pairs) old (λ ks. All (λ p. IsSettled s mid.kept w p.1) (take i pairs)) → WhereRoom s (HasCase s w x.1) mid (λ ks. IsSettled s new.kept w x.1) →
-      WhereRoom s (HasReplacing s w pairs) old (λ ks. All (λ p. IsSettled s new.kept w p.1) (take (i + 1) pairs))
-  more_settled before there = λ ks closed top whole room.
-      let stays = (where_then (λ qs q. q) (has_pair s w pairs i x less is) h {P = λ qs. Saved s mid new b c qs} (k.saved refl) ks closed top whole room).stays in
-      let one = where_then (λ qs q. q) (has_pair s w pairs i x less is) h {P = λ qs. IsSettled s new.kept w x.1} there ks closed top whole room in
+  pub more_settled : WhereSpace s (HasReplacing s w pairs) old (λ ks. All (λ p. IsSettled s mid.kept w p.1) (take i pairs)) → WhereSpace s (HasCase s w x.1) mid (λ ks. IsSettled s new.kept w x.1) →
+      WhereSpace s (HasReplacing s w pairs) old (λ ks. All (λ p. IsSettled s new.kept w p.1) (take (i + 1) pairs))
+  more_settled before there = λ ks closed top whole space.
+      let stays = (where_then (λ qs q. q) (has_pair s w pairs i x less is) h {P = λ qs. Saved s mid new b c qs} (k.saved refl) ks closed top whole space).stays in
+      let one = where_then (λ qs q. q) (has_pair s w pairs i x less is) h {P = λ qs. IsSettled s new.kept w x.1} there ks closed top whole space in
       let P : ℕ × ℕ → Type 0 = λ p. IsSettled s new.kept w p.1 in
-      All-more P pairs i x less (all_more s mid.kept new.kept stays w (take i pairs) (before ks closed top whole room)) (subst P is one)
+      All-more P pairs i x less (all_more s mid.kept new.kept stays w (take i pairs) (before ks closed top whole space)) (subst P is one)
 
 -- ---- the formula cell
 
@@ -56,13 +56,13 @@ has_formula_cell s w f pairs r is ks h = subst (λ (v : List Replacement). HasCa
 
 module _ (s : Sheet) (w : List Replacement) (f : ℕ) (pairs : List (ℕ × ℕ)) (r : List Replacement) (is : r ≡ with_what_if s w pairs) (old mid new : MemoState) (a b c : Counts)
     (h : Spends s (HasReplacing s w pairs) old mid a b true) (k : Spends s (HasCase s r f) mid new b c true) where
-  pub entry_settled : WhereRoom s (HasReplacing s w pairs) old (λ ks. All (λ p. IsSettled s mid.kept w p.1) pairs) → WhereRoom s (HasCase s r f) mid (λ ks. IsSettled s new.kept r f) →
-      WhereRoom s (HasEntry s w f pairs) old (λ ks. IsWhatIfSettled s new.kept w (f, pairs))
-  entry_settled before there = λ ks closed top whole room.
-      let stays = (where_then (λ qs (q : HasEntry s w f pairs qs). q.0) (has_formula_cell s w f pairs r is) h {P = λ qs. Saved s mid new b c qs} (k.saved refl) ks closed top whole room).stays in
-      let one = where_then (λ qs (q : HasEntry s w f pairs qs). q.0) (has_formula_cell s w f pairs r is) h {P = λ qs. IsSettled s new.kept r f} there ks closed top whole room in
+  pub entry_settled : WhereSpace s (HasReplacing s w pairs) old (λ ks. All (λ p. IsSettled s mid.kept w p.1) pairs) → WhereSpace s (HasCase s r f) mid (λ ks. IsSettled s new.kept r f) →
+      WhereSpace s (HasEntry s w f pairs) old (λ ks. IsWhatIfSettled s new.kept w (f, pairs))
+  entry_settled before there = λ ks closed top whole space.
+      let stays = (where_then (λ qs (q : HasEntry s w f pairs qs). q.0) (has_formula_cell s w f pairs r is) h {P = λ qs. Saved s mid new b c qs} (k.saved refl) ks closed top whole space).stays in
+      let one = where_then (λ qs (q : HasEntry s w f pairs qs). q.0) (has_formula_cell s w f pairs r is) h {P = λ qs. IsSettled s new.kept r f} there ks closed top whole space in
       record {
-        replacing = all_more s mid.kept new.kept stays w pairs (before ks closed top.0 whole room);
+        replacing = all_more s mid.kept new.kept stays w pairs (before ks closed top.0 whole space);
         formula_cell = subst (λ (v : List Replacement). IsSettled s new.kept v f) is one;
       }
 
@@ -79,8 +79,8 @@ at_most_weaken {s} {Has} {Less} {m} {old} {new} {a} {b} {done} e has g =
       places = h.places;
       gives_up = h.gives_up;
       at_most = λ ks closed top. h.at_most ks closed (has ks top);
-      on_kept = λ ks closed top whole room. h.on_kept ks closed (has ks top) whole room;
-      saved = λ d ks closed top whole room. h.saved d ks closed (has ks top) whole room;
+      on_kept = λ ks closed top whole space. h.on_kept ks closed (has ks top) whole space;
+      saved = λ d ks closed top whole space. h.saved d ks closed (has ks top) whole space;
     }
 
 -- what a question spends from the same beginning
@@ -95,8 +95,8 @@ module _ (s : Sheet) (w : List Replacement) (f : ℕ) (pairs : List (ℕ × ℕ)
       at_most_weaken em (has_formula_cell s w f pairs r is) here
 
   -- there is no room for what it demands where its formula cell isn't kept
-  pub entry_no_room : {m : MemoState} (P : List Case → Type 0) → m.room ≡ 0 → IsUnkept s m (with_what_if s w pairs) f → WhereRoom s (HasEntry s w f pairs) m P
-  entry_no_room {m} P full none ks closed has whole room =
+  pub entry_no_space : {m : MemoState} (P : List Case → Type 0) → m.space ≡ 0 → IsUnkept s m (with_what_if s w pairs) f → WhereSpace s (HasEntry s w f pairs) m P
+  entry_no_space {m} P full none ks closed has whole space =
       let there = has.1 none.formula in
       let less = one_less_left m.kept (λ c v. m.kept c v || same_case (case_of s (with_what_if s w pairs) f) (c, v)) (case_of s (with_what_if s w pairs) f) ks (λ c v. refl) none.none there in
-      absurd (omega (arith, less, room, full))
+      absurd (omega (arith, less, space, full))

@@ -16,14 +16,14 @@ still_there old new a w u c h = subst (λ (o : Option ℕ). IsSome o) (sym (u c)
 -- ---- room is made
 
 -- for the generation of a cell
-pub record MakesRoom (old new : Generations) (a : ℕ) : Type 0 where
+pub record MakesSpace (old new : Generations) (a : ℕ) : Type 0 where
   pub same : (c : ℕ) → generation_in new c ≡ generation_in old c
   pub stay : (c : ℕ) → HasGeneration old c → HasGeneration new c
   pub there : HasGeneration new a
 
 -- by 0, where the cell had none
-room_given : (old new : Generations) (a : ℕ) → generation_in old a ≡ 0 → IsGiven old new a 0 → MakesRoom old new a
-room_given old new a none u = record {
+space_given : (old new : Generations) (a : ℕ) → generation_in old a ≡ 0 → IsGiven old new a 0 → MakesSpace old new a
+space_given old new a none u = record {
   same = λ c. ap (λ (o : Option ℕ). unwrap_or o 0) (u c) ∙ at c (a == c) refl;
   stay = still_there old new a 0 u;
   there = subst (λ (o : Option ℕ). IsSome o) (sym (u a ∙ ap (λ (b : Bool). cond b (Some 0) (lookup (is_at (nat_cmp a)) old)) (is_itself a))) refl;
@@ -33,16 +33,16 @@ room_given old new a none u = record {
     at c true t = sym none ∙ ap (generation_in old) (eqb-true a c t)
     at c false t = refl
 
-pub room_made : (old new : Generations) (a : ℕ) → new ≡ cond (is_some (lookup (is_at (nat_cmp a)) old)) old (insert_entry nat_cmp old a 0) → MakesRoom old new a
-room_made old new a e = at (lookup (is_at (nat_cmp a)) old) refl e
+pub space_made : (old new : Generations) (a : ℕ) → new ≡ cond (is_some (lookup (is_at (nat_cmp a)) old)) old (insert_entry nat_cmp old a 0) → MakesSpace old new a
+space_made old new a e = at (lookup (is_at (nat_cmp a)) old) refl e
   where
-    at : (o : Option ℕ) → lookup (is_at (nat_cmp a)) old ≡ o → new ≡ cond (is_some o) old (insert_entry nat_cmp old a 0) → MakesRoom old new a
-    at (Some w) h k = subst (λ (x : Generations). MakesRoom old x a) (sym k) (record { same = λ c. refl; stay = λ c g. g; there = subst (λ (o : Option ℕ). IsSome o) (sym h) refl })
+    at : (o : Option ℕ) → lookup (is_at (nat_cmp a)) old ≡ o → new ≡ cond (is_some o) old (insert_entry nat_cmp old a 0) → MakesSpace old new a
+    at (Some w) h k = subst (λ (x : Generations). MakesSpace old x a) (sym k) (record { same = λ c. refl; stay = λ c g. g; there = subst (λ (o : Option ℕ). IsSome o) (sym h) refl })
     at None h k =
-        room_given old new a (ap (λ (o : Option ℕ). unwrap_or o 0) h)
+        space_given old new a (ap (λ (o : Option ℕ). unwrap_or o 0) h)
         (λ c. ap (lookup (is_at (nat_cmp c))) k ∙ found-insert old a 0 c ∙ ap (λ (b : Bool). cond b (Some 0) (lookup (is_at (nat_cmp c)) old)) (turn_test c a))
 
-pub there_more : (old new : Generations) (xs : List ℕ) (i a : ℕ) → i < length xs → a ≡ get_or xs i a → MakesRoom old new a → ((c : ℕ) → is_one_of (take i xs) c ≡ true → HasGeneration old c) → (c : ℕ) → is_one_of (take (i + 1) xs) c ≡ true → HasGeneration new c
+pub there_more : (old new : Generations) (xs : List ℕ) (i a : ℕ) → i < length xs → a ≡ get_or xs i a → MakesSpace old new a → ((c : ℕ) → is_one_of (take i xs) c ≡ true → HasGeneration old c) → (c : ℕ) → is_one_of (take (i + 1) xs) c ≡ true → HasGeneration new c
 there_more old new xs i a l e made k c m = at (or_cases (is_one_of (take i xs) c) (a == c) (sym (has_one_more xs i a c l e) ∙ m))
   where
     at : (is_one_of (take i xs) c ≡ true) ⊎ ((a == c) ≡ true) → HasGeneration new c

@@ -1,10 +1,10 @@
 -- A value is kept in one question, and for longer.
-use Rattle.wi_propagate.proofs.Words.{◌≡◌, ◌==◌, ◌<◌, ◌≤◌, ◌-◌, ◌+◌, inl, inr, ◌||◌, ◌&&◌, ℕ, Bool, true, false, cond, min, List, length, Option, Some, None, IsSome, is_some, refl, ap, sym, ◌∙◌, subst, arith, if◌then◌else◌, eqb-true, or_left, update, Value, Replacement, same_replacements, is_itself, Key, Entries, KeptValues, HasRoom, PutsIn, PutsForGoing, PutsForOne, same_key, value_for, len_after, holds_after_keep, Sheet, same_case, GivesUpWhenFull, IsKeptFor, AreRight, Generations, generation_in, key_in, keeping, state_in}
+use Rattle.wi_propagate.proofs.Words.{◌≡◌, ◌==◌, ◌<◌, ◌≤◌, ◌-◌, ◌+◌, inl, inr, ◌||◌, ◌&&◌, ℕ, Bool, true, false, cond, min, List, length, Option, Some, None, IsSome, is_some, refl, ap, sym, ◌∙◌, subst, arith, if◌then◌else◌, eqb-true, or_left, update, Value, Replacement, same_replacements, is_itself, Key, Entries, KeptValues, HasSpace, PutsIn, PutsForGoing, PutsForOne, same_key, value_for, len_after, holds_after_keep, Sheet, same_case, GivesUpWhenFull, IsKeptFor, AreRight, Generations, generation_in, key_in, keeping, state_in}
 
 -- what an accepted `keep` of kept values ensures
 pub record KeepsIn (m n : KeptValues) (k : Key) (v : Value) : Type 0 where
   pub found : value_for n.entries k ≡ Some v
-  pub stays : HasRoom m k → PutsIn m.entries n.entries k v
+  pub stays : HasSpace m k → PutsIn m.entries n.entries k v
   pub goes : value_for m.entries k ≡ None → m.capacity ≤ length m.entries → PutsForOne m.entries n.entries k v
   pub len : length n.entries ≡ len_after m k
   pub going : PutsForGoing m n k v
@@ -34,21 +34,21 @@ put_is_some g old new k v e p c w =
     ap (λ (o : Option Value). is_some o) (p (key_in g c w)) ∙ is_some_cond (same_key k (key_in g c w)) v (old (key_in g c w))
     ∙ ap (λ (b : Bool). is_some (old (key_in g c w)) || b) (same_here g k c w e)
 
-has_room : (m : KeptValues) (k : Key) → 1 ≤ m.capacity - length m.entries → HasRoom m k
-has_room m k h = inr (omega arith)
+has_space : (m : KeptValues) (k : Key) → 1 ≤ m.capacity - length m.entries → HasSpace m k
+has_space m k h = inr (omega arith)
 
 pub kept_after : (g : Generations) (m n : KeptValues) (k : Key) (v : Value) → KeepsIn m n k v → k.generation ≡ generation_in g k.cell →
     1 ≤ m.capacity - length m.entries → (c : ℕ) (w : List Replacement) → is_some (value_for n.entries (key_in g c w)) ≡ (is_some (value_for m.entries (key_in g c w)) || same_case (k.cell, k.world) (c, w))
-kept_after g m n k v h e l = put_is_some g (value_for m.entries) (value_for n.entries) k v e (h.stays (has_room m k l))
+kept_after g m n k v h e l = put_is_some g (value_for m.entries) (value_for n.entries) k v e (h.stays (has_space m k l))
 
 -- the key that is put in is there
 pub there_after : (g : Generations) (n : KeptValues) (k : Key) (v : Value) → k.generation ≡ generation_in g k.cell → value_for n.entries k ≡ Some v → is_some (value_for n.entries (key_in g k.cell k.world)) ≡ true
 there_after g n k v e h = ap (λ (y : ℕ). is_some (value_for n.entries (record { cell = k.cell; generation = y; world = k.world }))) (sym e) ∙ ap (λ (o : Option Value). is_some o) h
 
 -- and takes one place if it wasn't there
-pub room_after : (g : Generations) (m n : KeptValues) (k : Key) (v : Value) → KeepsIn m n k v → k.generation ≡ generation_in g k.cell →
+pub space_after : (g : Generations) (m n : KeptValues) (k : Key) (v : Value) → KeepsIn m n k v → k.generation ≡ generation_in g k.cell →
     is_some (value_for m.entries (key_in g k.cell k.world)) ≡ false → 1 ≤ m.capacity - length m.entries → (n.capacity - length n.entries) + 1 ≡ m.capacity - length m.entries
-room_after g m n k v h e a l =
+space_after g m n k v h e a l =
     let missing : is_some (value_for m.entries k) ≡ false = ap (λ (y : ℕ). is_some (value_for m.entries (record { cell = k.cell; generation = y; world = k.world }))) e ∙ a in
     let len : length n.entries ≡ min (length m.entries + 1) m.capacity = h.len ∙ ap (λ (b : Bool). if b then length m.entries else min (length m.entries + 1) m.capacity) missing in
     let cap = h.capacity in
@@ -70,13 +70,13 @@ gives_up_after s edits g es fs m n k v h = by_old (value_for m.entries k) refl
         let len : length n.entries ≡ length m.entries = subst Lens e h.len in
         let cap = h.capacity in
         record {
-          room = omega (arith, len, cap);
+          space = omega (arith, len, cap);
           stays = λ l q i. stays_put m.entries n.entries k q v (h.stays (inl (subst (λ (y : Option Value). IsSome y) (sym e) refl))) i;
         }
     by_old None e =
         let len : length n.entries ≡ min (length m.entries + 1) m.capacity = subst Lens e h.len in
         let cap = h.capacity in
         record {
-          room = omega (arith, len, cap);
+          space = omega (arith, len, cap);
           stays = λ l q i. let few : length m.entries < m.capacity = omega (arith, len, cap, l) in stays_put m.entries n.entries k q v (h.stays (inr few)) i;
         }

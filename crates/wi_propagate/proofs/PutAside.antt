@@ -36,7 +36,7 @@ module _ (q : Keeping) (es : Entries) (k : Key) (v : Value) (puts : PutsIn q.giv
       known = λ c w. known_in (value_for q.values.entries (under c w)) (value_for q.given_up (under c w)) (value_for es (under c w)) k (under c w) v (puts (under c w));
       told = told_in aside;
       places = λ ks d. omega arith;
-      gives_up = record { room = omega arith; stays = λ r j i. i };
+      gives_up = record { space = omega arith; stays = λ r j i. i };
     };
     stays = λ c w i. found_then c w ∙ or_left (is_some (value_in q (under c w))) (same_key k (under c w)) i;
   }
@@ -46,7 +46,7 @@ module _ (q : Keeping) (es : Entries) (k : Key) (v : Value) (puts : PutsIn q.giv
   found_aside e full = record {
     found = λ c w. found_then c w ∙ ap (λ (b : Bool). is_some (value_in q (under c w)) || b) (same_here q.generations k c w e);
     kept = λ l. absurd (omega (arith, l, full));
-    room = λ a l. absurd (omega (arith, l, full));
+    space = λ a l. absurd (omega (arith, l, full));
   }
 
 -- the same of a call that may run out of memory

@@ -1,5 +1,5 @@
 -- A question asked of a calculator that keeps values.
-use Rattle.wi_propagate.proofs.Words.{◌≡◌, ◌≤◌, ◌<◌, ◌+◌, ◌-◌, ◌^◌, inl, inr, length, All, filter, not, is_some, ℕ, Bool, true, false, List, [], Option, refl, ap, sym, ◌∙◌, subst, arith, keys_of, cases_lt, true≢false, Value, Fault, Circular, Replacement, Sheet, content_of, put_all, has_formula, Counts, Stored, Key, KeptValues, kept, value_for, IfSome, circular, clash, Case, reaching, asks_circular, table_entry, IsWhatIfSettled, IsClosed, SpentOn, left_is_unkept, sum_ones, never_fall-same, spent_unkept, cells_open, entry_circular, none_circular, MayBeRead, KeepsFound, WhereRoom, TakesNoMore, GivesUpWhenFull, NeedsNoEvaluation, IsValuedAnew, IsSameBeside, Saved, SpendsAtMost, what_if_more, rests_more, none_went, Generations, generation_in, KeptSheet, key_in, stands, is_kept, unkept, gone, IsAtHand, HasRoomFor, KeepsAll, KeepsNoMore, KeepsOld, KeepsWhileRoom, emptied, AreRight, IsKeptFor, AreKeptRight, Box, Carried, kept_sheet, values_in, Keeping, keeping, begun, state_in, ArePlaced, IsKeepingRight, Owes, told, or_none, Some, None, IsSome, Noted, noted_in, Staging, AreEdgesOf, AreOwed, AreCarriedCones, AreKeptUp, AreAllCones, ArePlans}
+use Rattle.wi_propagate.proofs.Words.{◌≡◌, ◌≤◌, ◌<◌, ◌+◌, ◌-◌, ◌^◌, inl, inr, length, All, filter, not, is_some, ℕ, Bool, true, false, List, [], Option, refl, ap, sym, ◌∙◌, subst, arith, keys_of, cases_lt, true≢false, Value, Fault, Circular, Replacement, Sheet, content_of, put_all, has_formula, Counts, Stored, Key, KeptValues, kept, value_for, IfSome, circular, clash, Case, reaching, asks_circular, table_entry, IsWhatIfSettled, IsClosed, SpentOn, left_is_unkept, sum_ones, never_fall-same, spent_unkept, cells_open, entry_circular, none_circular, MayBeRead, KeepsFound, WhereSpace, TakesNoMore, GivesUpWhenFull, NeedsNoEvaluation, IsValuedAnew, IsSameBeside, Saved, SpendsAtMost, what_if_more, rests_more, none_went, Generations, generation_in, KeptSheet, key_in, stands, is_kept, unkept, gone, IsAtHand, HasSpaceFor, KeepsAll, KeepsNoMore, KeepsOld, KeepsWhileSpace, emptied, AreRight, IsKeptFor, AreKeptRight, Box, Carried, kept_sheet, values_in, Keeping, keeping, begun, state_in, ArePlaced, IsKeepingRight, Owes, told, or_none, Some, None, IsSome, Noted, noted_in, Staging, AreEdgesOf, AreOwed, AreCarriedCones, AreKeptUp, AreAllCones, ArePlans}
 use Rattle.wi_engine.specs.Inner.Saving as saving
 use Rattle.wi_propagate.specs.declared.plans.Plans.{Plans}
 use Rattle.wi_propagate.proofs.NotedSteps.{settled_up}
@@ -43,18 +43,18 @@ module _ {k : KeptSheet} {q : Keeping} (e : Begins k q) where
   keeps_found : KeepsFound (state_in q)
   keeps_found c w h = ap (λ (x : Keeping). (state_in x).kept c w) e.is ∙ sym (begun_found c w) ∙ h
 
-  room_left : (ks : List Case) → HasRoomFor k ks → saving.not_kept (state_in q) ks ≤ (state_in q).room
-  room_left ks h =
+  space_left : (ks : List Case) → HasSpaceFor k ks → saving.not_kept (state_in q) ks ≤ (state_in q).space
+  space_left ks h =
       let same = ap (λ (x : Keeping). saving.not_kept (state_in x) ks) e.is ∙ left_is_unkept (λ c. 1) (is_kept k) ks ∙ sum_ones (unkept k ks) in
-      omega (arith, h, same, ap (λ (x : Keeping). (state_in x).room) e.is)
+      omega (arith, h, same, ap (λ (x : Keeping). (state_in x).space) e.is)
 
   -- its cell may be valued
   pub may_be_read : (a : ℕ) → circular k.stored.sheet a ≡ false → MayBeRead k.stored.sheet (state_in q) a
   may_be_read a o = subst (λ (x : Keeping). MayBeRead k.stored.sheet (state_in x) a) (sym e.is) (record { open_cell = o; covered = λ h. refl })
 
   -- what is so where there is room, for each closed list of cases that has what it is to have, is so of the cases, where there is room for them
-  pub asked_where : (P : List Case → Type 0) (cases : List Case) (Has : List Case → Type 0) → WhereRoom k.stored.sheet Has (state_in q) P → IsClosed k.stored.sheet cases → Has cases → HasRoomFor k cases → P cases
-  asked_where P cases Has h closed has room = h cases closed has keeps_found (room_left cases room)
+  pub asked_where : (P : List Case → Type 0) (cases : List Case) (Has : List Case → Type 0) → WhereSpace k.stored.sheet Has (state_in q) P → IsClosed k.stored.sheet cases → Has cases → HasSpaceFor k cases → P cases
+  asked_where P cases Has h closed has space = h cases closed has keeps_found (space_left cases space)
 
 -- ---- what is kept when it ends
 
@@ -62,11 +62,11 @@ module _ {k : KeptSheet} {q : Keeping} (e : Begins k q) (last : Keeping) (values
   abbrev pub after : KeptSheet
   after = record { stored = k.stored; generations = k.generations; values = values; counts = counts }
 
-  room_before : (state_in q).room ≡ k.values.capacity - length k.values.entries
-  room_before = ap (λ (x : Keeping). (state_in x).room) e.is
+  space_before : (state_in q).space ≡ k.values.capacity - length k.values.entries
+  space_before = ap (λ (x : Keeping). (state_in x).space) e.is
 
-  room_after : (state_in last).room ≡ values.capacity - length values.entries
-  room_after = ap (λ (v : KeptValues). v.capacity - length v.entries) (sym same)
+  space_after : (state_in last).space ≡ values.capacity - length values.entries
+  space_after = ap (λ (v : KeptValues). v.capacity - length v.entries) (sym same)
 
   pub same_capacity : values.capacity ≡ k.values.capacity
   same_capacity = ap (λ (v : KeptValues). v.capacity) same ∙ beside.capacity ∙ ap (λ (x : Keeping). x.values.capacity) e.is
@@ -95,14 +95,14 @@ module _ {k : KeptSheet} {q : Keeping} (e : Begins k q) (last : Keeping) (values
       let now = subst (λ (m : ℕ). AreRight k.stored.sheet m (generation_in last.generations) last.values.entries) edits here in
       let then = subst (λ (f : ℕ → ℕ). AreRight k.stored.sheet k.stored.edits f last.values.entries) same_generations now in
       record {
-        room = omega (arith, same_capacity, before.room);
+        space = omega (arith, same_capacity, before.space);
         past = before.past;
         right = subst (λ (v : KeptValues). AreRight k.stored.sheet k.stored.edits (generation_in k.generations) v.entries) (sym same) then;
       }
 
-  pub asked_keeps : (ks : List Case) → HasRoomFor k ks → Saved k.stored.sheet (state_in q) (state_in last) k.counts counts ks → KeepsAll k after
-  asked_keeps ks room h = record {
-    added = omega (arith, h.added, room_before, room_after, same_capacity, room);
+  pub asked_keeps : (ks : List Case) → HasSpaceFor k ks → Saved k.stored.sheet (state_in q) (state_in last) k.counts counts ks → KeepsAll k after
+  asked_keeps ks space h = record {
+    added = omega (arith, h.added, space_before, space_after, same_capacity, space);
     stays = λ j i. stands_now j ∙ h.stand j (sym (stood j) ∙ i);
     settled = λ c w i o. rests_more k.stored.sheet (state_in last).kept (is_kept after) (λ d v j. kept_after_is d v ∙ j) (c, w) (h.rests c w (sym (kept_after_is c w) ∙ i) (sym (kept_before_is c w) ∙ o));
   }
@@ -120,26 +120,26 @@ module _ {k : KeptSheet} {q : Keeping} (e : Begins k q) (last : Keeping) (values
   pub asked_no_more : length values.entries ≤ values.capacity → TakesNoMore (state_in q) (state_in last) k.counts.evaluations counts.evaluations → KeepsNoMore k after
   asked_no_more within (inl h) =
       let counted = h (keys_of k.values.entries) e.placed.one_each in
-      inl (omega (arith, counted, gone_is, none_gone_before, room_before, room_after, same_capacity, within))
+      inl (omega (arith, counted, gone_is, none_gone_before, space_before, space_after, same_capacity, within))
   asked_no_more within (inr h) = inr h
 
   -- and nothing went while there was room
-  stays_with_room : GivesUpWhenFull (state_in q) (state_in last) → 1 ≤ (state_in last).room → KeepsOld k after
-  stays_with_room h room j i = stands_now j ∙ h.stays room j (sym (stood j) ∙ i)
+  stays_with_space : GivesUpWhenFull (state_in q) (state_in last) → 1 ≤ (state_in last).space → KeepsOld k after
+  stays_with_space h space j i = stands_now j ∙ h.stays space j (sym (stood j) ∙ i)
 
   fits_places : GivesUpWhenFull (state_in q) (state_in last) → TakesNoMore (state_in q) (state_in last) k.counts.evaluations counts.evaluations → length k.values.entries + counts.evaluations ≤ k.counts.evaluations + values.capacity → counts.evaluations < 2 ^ 64 - 1 → KeepsOld k after
   fits_places gives (inr t) few short j i = absurd (omega (arith, t, short))
-  fits_places gives (inl t) few short j i = elim (cases_lt 0 (state_in last).room) [
-    | inl room ↦ stays_with_room gives room j i
+  fits_places gives (inl t) few short j i = elim (cases_lt 0 (state_in last).space) [
+    | inl space ↦ stays_with_space gives space j i
     | inr full ↦ (
-        let fits : counts.evaluations + (state_in last).room ≤ k.counts.evaluations + (state_in q).room = omega (arith, full, room_before, same_capacity, e.placed.within, few) in
+        let fits : counts.evaluations + (state_in last).space ≤ k.counts.evaluations + (state_in q).space = omega (arith, full, space_before, same_capacity, e.placed.within, few) in
         stands_now j ∙ none_went (state_in q) (state_in last) k.counts.evaluations counts.evaluations j t fits (sym (stood j) ∙ i))
   ]
 
-  pub asked_while_room : GivesUpWhenFull (state_in q) (state_in last) → TakesNoMore (state_in q) (state_in last) k.counts.evaluations counts.evaluations → KeepsWhileRoom k after
-  asked_while_room h t = record {
-    count = omega (arith, h.room, room_before, room_after, same_capacity, e.placed.within);
-    stays = λ few. stays_with_room h (omega (arith, few, room_after));
+  pub asked_while_space : GivesUpWhenFull (state_in q) (state_in last) → TakesNoMore (state_in q) (state_in last) k.counts.evaluations counts.evaluations → KeepsWhileSpace k after
+  asked_while_space h t = record {
+    count = omega (arith, h.space, space_before, space_after, same_capacity, e.placed.within);
+    stays = λ few. stays_with_space h (omega (arith, few, space_after));
     fits = fits_places h t;
   }
 
@@ -179,7 +179,7 @@ module _ (o p : Option (Box Carried)) (none : values_in p ≡ kept [] (values_in
     where
       right : (gs : Generations) → AreKeptRight (kept_sheet s gs o n) → AreKeptRight (kept_sheet s gs p n)
       right gs k = record {
-        room = subst (λ (x : KeptValues). 1 ≤ x.capacity) (sym none) k.room;
+        space = subst (λ (x : KeptValues). 1 ≤ x.capacity) (sym none) k.space;
         past = k.past;
         right = λ q. subst (λ (x : KeptValues). IfSome (value_for x.entries q) (IsKeptFor s.sheet s.edits (generation_in gs) q)) (sym none) tt;
       }
@@ -213,8 +213,8 @@ module _ {k : KeptSheet} {q : Keeping} (e : Begins k q) (w put : List Replacemen
             begun_found e a (reaching k.stored.sheet a w) ∙ ap (λ (p : List Replacement). is_kept k a (reaching k.stored.sheet a p)) same
             ∙ unkept_of (is_kept k a (reaching k.stored.sheet a put)) refl hard;
       } in
-      let room : 1 ≤ (state_in q).capacity = omega (arith, ap (λ (x : Keeping). (state_in x).capacity) e.is, one) in
-      kept_after_is e last values counts beside there a (reaching k.stored.sheet a put) ∙ ap (λ (p : List Replacement). (state_in last).kept a (reaching k.stored.sheet a p)) (sym same) ∙ h anew room
+      let space : 1 ≤ (state_in q).capacity = omega (arith, ap (λ (x : Keeping). (state_in x).capacity) e.is, one) in
+      kept_after_is e last values counts beside there a (reaching k.stored.sheet a put) ∙ ap (λ (p : List Replacement). (state_in last).kept a (reaching k.stored.sheet a p)) (sym same) ∙ h anew space
 
 -- ---- an entry
 
@@ -235,13 +235,13 @@ pub owes_none : (k : KeptSheet) (cases : List Case) (done : Bool) → Owes k k c
 owes_none k cases done = record {
   same = refl;
   same_generations = refl;
-  same_room = refl;
+  same_space = refl;
   counts = never_fall-same k.counts;
   demanded = (omega arith, omega arith);
-  not_kept = λ room. (omega arith, omega arith);
+  not_kept = λ space. (omega arith, omega arith);
   no_more = let none = all_stand k.values.entries in inl (omega (arith, none));
-  while_room = record { count = omega arith; stays = λ few j i. i; fits = λ few short j i. i };
-  keeps = λ d room. record { added = omega arith; stays = λ j i. i; settled = λ c w i o. absurd (true≢false (sym i ∙ o)) };
+  while_space = record { count = omega arith; stays = λ few j i. i; fits = λ few short j i. i };
+  keeps = λ d space. record { added = omega arith; stays = λ j i. i; settled = λ c w i o. absurd (true≢false (sym i ∙ o)) };
 }
 
 -- and where it was settled alone
@@ -254,15 +254,15 @@ module _ {k : KeptSheet} {q : Keeping} (e : Begins k q) (last : Keeping) (values
   owes_spent done h = record {
     same = refl;
     same_generations = refl;
-    same_room = same_capacity e last values counts h.same same;
+    same_space = same_capacity e last values counts h.same same;
     counts = h.counts;
     demanded = h.at_most cases closed has;
-    not_kept = λ room.
-        let spent = asked_where e (λ ks. SpentOn k.stored.sheet (state_in q).kept (state_in last).kept k.counts counts done ks) cases Has h.on_kept closed has room in
+    not_kept = λ space.
+        let spent = asked_where e (λ ks. SpentOn k.stored.sheet (state_in q).kept (state_in last).kept k.counts counts done ks) cases Has h.on_kept closed has space in
         spent_unkept (subst (λ (x : Keeping). SpentOn k.stored.sheet (state_in x).kept (state_in last).kept k.counts counts done cases) e.is spent);
     no_more = asked_no_more e last values counts h.same same within h.places;
-    while_room = asked_while_room e last values counts h.same same h.gives_up h.places;
-    keeps = λ d room.
-        let saved = asked_where e (λ ks. Saved k.stored.sheet (state_in q) (state_in last) k.counts counts ks) cases Has (h.saved d) closed has room in
-        asked_keeps e last values counts h.same same cases room saved;
+    while_space = asked_while_space e last values counts h.same same h.gives_up h.places;
+    keeps = λ d space.
+        let saved = asked_where e (λ ks. Saved k.stored.sheet (state_in q) (state_in last) k.counts counts ks) cases Has (h.saved d) closed has space in
+        asked_keeps e last values counts h.same same cases space saved;
   }

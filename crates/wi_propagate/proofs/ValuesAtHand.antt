@@ -1,6 +1,6 @@
 -- What is kept or was given up in a question: a value comes, and none goes.
 use Rattle.wi_propagate.proofs.Words.{◌≡◌, ◌≤◌, ◌-◌, ◌⊎◌, inl, inr, ◌||◌, ℕ, Bool, true, false, cond, nat_lt, List, [], ◌∷◌, length, Option, Some, None, IfSome, IsSome, is_some, refl, ap, sym, ◌∙◌, subst, arith, if◌then◌else◌, nat_tests, lookup_from_place, slice_get_cases, update, option_or, Value, Replacement, Key, Entries, KeptValues, HasOneEach, PutsIn, going, same_key, value_for, last_entry, same_key_means, same_key_equiv, same_case, known_still, known_then, Keeps, Generations, generation_in, key_in, Keeping, TakesOver, state_in, value_in, put_all, circular, cell_value, HasFound, AreRight, Carried, IsKeepingRight, keeping, Sheet}
-use Rattle.wi_propagate.proofs.KeepSteps.{KeepsIn, put_is_some, right_after, kept_after, there_after, room_after, gives_up_after}
+use Rattle.wi_propagate.proofs.KeepSteps.{KeepsIn, put_is_some, right_after, kept_after, there_after, space_after, gives_up_after}
 use Rattle.wi_propagate.proofs.PlaceCounts.{one_place_after}
 use Rattle.wi_propagate.proofs.RightValues.{told_in, found_is_kept}
 
@@ -101,9 +101,9 @@ module _ (es fs : Entries) (m n : KeptValues) (k : Key) (v : Value) (one_each : 
 -- ---- what went is given up
 
 -- there is room for what goes
-pub room_for : (o : Option (Key × Value)) (n : ℕ) → 1 ≤ n → IfSome o (λ _. 1 ≤ n)
-room_for None n h = tt
-room_for (Some e) n h = h
+pub space_for : (o : Option (Key × Value)) (n : ℕ) → 1 ≤ n → IfSome o (λ _. 1 ≤ n)
+space_for None n h = tt
+space_for (Some e) n h = h
 
 pub given_over : {o p : Option (Key × Value)} {es fs : Entries} (gs : Entries) → p ≡ o → fs ≡ es → TakesOver p fs gs → TakesOver o es gs
 given_over {o} {p} {es} {fs} gs e f h = subst (λ (x : Option (Key × Value)). TakesOver x es gs) e (subst (λ (x : Entries). TakesOver p x gs) f h)
@@ -124,7 +124,7 @@ keeps_nothing q r k v e = subst (λ (x : Keeping). Remembers q x k v) (sym e) (r
     known = λ c w. known_still (value_in q (key_in q.generations c w)) (value_in q (key_in q.generations c w)) k (key_in q.generations c w) v refl;
     told = told_in q;
     places = λ ks d. omega arith;
-    gives_up = record { room = omega arith; stays = λ r j i. i };
+    gives_up = record { space = omega arith; stays = λ r j i. i };
   };
   stays = λ c w i. i;
 })
@@ -166,7 +166,7 @@ module _ (s : Sheet) (edits : ℕ) (g : Generations) (carried was : Carried) (q 
             };
             stays = stays_after es fs m n k v one_each takes g h;
           };
-          found = record { found = found_after es fs m n k v one_each takes g h present; kept = kept_after g m n k v h present; room = room_after g m n k v h present };
+          found = record { found = found_after es fs m n k v one_each takes g h present; kept = kept_after g m n k v h present; space = space_after g m n k v h present };
           there = there_after g n k v present h.found;
         })
 

@@ -25,7 +25,7 @@ pub use Rattle.std.specs.Ordering.{eq_by_cmp, nat_cmp}
 pub use Rattle.std.specs.declared.alloc.AllocError.{AllocError}
 pub use Rattle.wi_cache.proofs.Callers.{holds_after_keep, none_goes_before}
 pub use Rattle.wi_cache.proofs.Keys.{key_itself, same_key_equiv}
-pub use Rattle.wi_cache.specs.Entries.{Entries, HasOneEach, HasRoom, KeptValues, PutsIn, PutsForGoing, PutsForOne, going, kept, last_entry, len_after, same_key, value_for}
+pub use Rattle.wi_cache.specs.Entries.{Entries, HasOneEach, HasSpace, KeptValues, PutsIn, PutsForGoing, PutsForOne, going, kept, last_entry, len_after, same_key, value_for}
 pub use Rattle.wi_cache.specs.Hashed.{same_key_means}
 pub use Rattle.wi_cache.specs.declared.key.Key.{Key}
 pub use Rattle.wi_engine.proofs.Ledger.{spends_at_most, spends_err, spends_then, spends_weaken, where_then}
@@ -34,7 +34,7 @@ pub use Rattle.wi_engine.specs.Inner.Frames.{MayBeRead}
 pub use Rattle.wi_engine.specs.Inner.Keeps.{HasFound, Keeps}
 pub use Rattle.wi_engine.specs.Inner.MemoState.{IsMemoOf, IsTold, MemoState}
 pub use Rattle.wi_engine.specs.Inner.Remembered.{OneQuestion, question_state, remembered}
-pub use Rattle.wi_engine.specs.Inner.Saving.{GivesUpWhenFull, IsValuedAnew, KeepsFound, NeedsNoEvaluation, TakesNoMore, TakesPlaces, WhereRoom}
+pub use Rattle.wi_engine.specs.Inner.Saving.{GivesUpWhenFull, IsValuedAnew, KeepsFound, NeedsNoEvaluation, TakesNoMore, TakesPlaces, WhereSpace}
 pub use Rattle.wi_engine.specs.Inner.Plans.{IsUnkept, IsWholePlan}
 pub use Rattle.wi_engine.specs.Inner.Spends.{IsSameBeside, Saved, Spends, SpendsAtMost}
 pub use Rattle.wi_functions.specs.Counts.{Counts}
@@ -66,7 +66,7 @@ unfoldable pub use Rattle.wi_propagate.specs.Inner.Noted.{told}
 pub use Rattle.wi_propagate.specs.Inner.Planned.{ArePlans}
 pub use Rattle.wi_propagate.specs.Inner.Owes.{Owes}
 pub use Rattle.wi_propagate.specs.Inner.Settling.{second_cells}
-pub use Rattle.wi_propagate.specs.KeptSheet.{Generations, HasRoomFor, IsAtHand, emptied, IsEdit, KeepsAll, KeepsNoMore, KeepsOld, KeepsWhileRoom, KeptSheet, generation_in, gone, is_kept, key_in, stands, unkept}
+pub use Rattle.wi_propagate.specs.KeptSheet.{Generations, HasSpaceFor, IsAtHand, emptied, IsEdit, KeepsAll, KeepsNoMore, KeepsOld, KeepsWhileSpace, KeptSheet, generation_in, gone, is_kept, key_in, stands, unkept}
 pub use Rattle.wi_propagate.specs.Right.{AreKeptRight, AreRight, IsKeptFor, IsRight}
 pub use Rattle.wi_propagate.specs.declared.carried.Carried.{Carried}
 pub use Rattle.wi_sheet.proofs.Bounds.{bound_not_felt}

@@ -78,8 +78,8 @@ abbrev pub IsAtHand : KeptSheet → List Replacement → ℕ → Type 0
 IsAtHand k w c = (circular k.stored.sheet c ≡ true) ⊎ ((has_formula (content_of (put_all k.stored.sheet w) c) ≡ false) ⊎ (is_kept k c (reaching k.stored.sheet c w) ≡ true))
 
 -- there is room for what is kept and these cases together
-abbrev pub HasRoomFor : KeptSheet → List Case → Type 0
-HasRoomFor k ks = length k.values.entries + length (unkept k ks) ≤ k.values.capacity
+abbrev pub HasSpaceFor : KeptSheet → List Case → Type 0
+HasSpaceFor k ks = length k.values.entries + length (unkept k ks) ≤ k.values.capacity
 
 -- as many values came to be kept as were counted, none went, and each that came rests on kept ones
 pub record KeepsAll (old new : KeptSheet) : Type 0 where
@@ -94,7 +94,7 @@ KeepsNoMore old new = (length new.values.entries + (length (gone old new) + old.
 
 -- No fewer values are kept than before. Each entry stays where the list isn't full then, and where what was kept and what was
 -- evaluated fill it at most, short of the greatest count.
-pub record KeepsWhileRoom (old new : KeptSheet) : Type 0 where
+pub record KeepsWhileSpace (old new : KeptSheet) : Type 0 where
   pub count : length old.values.entries ≤ length new.values.entries
   pub stays : length new.values.entries < new.values.capacity → KeepsOld old new
   pub fits : length old.values.entries + new.counts.evaluations ≤ old.counts.evaluations + new.values.capacity → new.counts.evaluations < 2 ^ 64 - 1 → KeepsOld old new

@@ -30,6 +30,6 @@ AreRight s edits generation es = (k : Key) → IfSome (value_for es k) (IsKeptFo
 
 -- generations are of edits that were accepted, there is room for a value, and each value of a present generation is right
 pub record AreKeptRight (k : KeptSheet) : Type 0 where
-  pub room : 1 ≤ k.values.capacity
+  pub space : 1 ≤ k.values.capacity
   pub past : (c : ℕ) → generation_in k.generations c ≤ k.stored.edits
   pub right : AreRight k.stored.sheet k.stored.edits (generation_in k.generations) k.values.entries

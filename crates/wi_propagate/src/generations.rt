@@ -84,7 +84,7 @@ impl Generations {
             → (is_one_of self.new.owed x ≡ true) ⊎ IsUnread s x) }
     {
         owe_read(&mut self.owed, graph, cells)?;
-        make_room(&mut self.named, cells)
+        reserve(&mut self.named, cells)
     }
 
     /// An edit of this number named these cells. Takes no memory.
@@ -136,7 +136,7 @@ fn owe_read(generations: &mut Numbers, graph: &Graph, cells: &[Address]) -> Resu
     if !graph.any_is_read(cells) {
         return Ok(());
     }
-    make_room(generations, cells)
+    reserve(generations, cells)
 }
 
 /// The number of a cell.
@@ -156,7 +156,7 @@ pub(crate) fn greater(a: u64, b: u64) -> u64
 
 /// Makes room for the numbers of these cells: each that has none gets 0. If memory runs out, the rooms made so far stay.
 #[inline(always)]
-pub(crate) fn make_room(generations: &mut Numbers, cells: &[Address]) -> Result<(), AllocError>
+pub(crate) fn reserve(generations: &mut Numbers, cells: &[Address]) -> Result<(), AllocError>
     ensures same { (c : ℕ)
         → generation_in generations.new.entries c ≡ generation_in generations.old.entries c }
     ensures stay { (c : ℕ) → HasGeneration generations.old.entries c

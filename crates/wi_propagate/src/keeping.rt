@@ -147,7 +147,7 @@ impl<'a> Keeping<'a> {
         ensures err { OnErr result (self.new ≡ self.old) }
     {
         let carried = &mut *self.carried;
-        carried.given_up.make_room()?;
+        carried.given_up.make_space()?;
         carried.given_up.put((key, value));
         Ok(())
     }
@@ -191,7 +191,7 @@ impl<'a> Memo for Keeping<'a> {
     fn keep(&mut self, key: Key, value: Value) -> Result<(), AllocError> {
         let carried = &mut *self.carried;
         let _ = carried.kept.len();
-        make_room(&carried.kept, &mut carried.given_up)?;
+        make_space(&carried.kept, &mut carried.given_up)?;
         let gone = carried.kept.keep(key, value)?;
         give_up(gone, &mut carried.given_up);
         Ok(())
@@ -208,13 +208,13 @@ impl<'a> Memo for Keeping<'a> {
 }
 
 // Makes room for the value that goes for a new one, if one does. If memory runs out, all is as before.
-fn make_room(kept: &Kept, given_up: &mut GivenUp) -> Result<(), AllocError>
+fn make_space(kept: &Kept, given_up: &mut GivenUp) -> Result<(), AllocError>
     ensures entries { given_up.new.entries ≡ given_up.old.entries }
-    ensures room { OnOk result ((k : Keys)
-        → IfSome (going kept.now k) (λ _. 1 ≤ given_up.new.room)) }
+    ensures space { OnOk result ((k : Keys)
+        → IfSome (going kept.now k) (λ _. 1 ≤ given_up.new.space)) }
 {
     if kept.is_full() {
-        return given_up.make_room();
+        return given_up.make_space();
     }
     Ok(())
 }
@@ -222,7 +222,7 @@ fn make_room(kept: &Kept, given_up: &mut GivenUp) -> Result<(), AllocError>
 // Puts the value that went, if one did, among those given up. Takes no memory.
 #[inline(always)]
 fn give_up(gone: Option<(Key, Value)>, given_up: &mut GivenUp)
-    requires { IfSome gone (λ _. 1 ≤ given_up.old.room) }
+    requires { IfSome gone (λ _. 1 ≤ given_up.old.space) }
     ensures { TakesOver gone given_up.old.entries given_up.new.entries }
 {
     if let Some(entry) = gone {

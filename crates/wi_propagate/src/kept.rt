@@ -18,7 +18,7 @@ ghost use Rattle.wi_sheet.specs.Demand.{reaching, demanded, wants};
 ghost use Rattle.wi_sheet.specs.Settled.{IsWhatIfSettled};
 ghost use Rattle.wi_sheet.specs.Unmoved.{IsUnmoved};
 ghost use Rattle.wi_propagate.specs.Inner.Owes.{Owes};
-ghost use Rattle.wi_propagate.specs.KeptSheet.{IsEdit, emptied, generation_in, is_kept, unkept, IsAtHand, HasRoomFor, KeepsAll, KeepsNoMore, KeepsWhileRoom};
+ghost use Rattle.wi_propagate.specs.KeptSheet.{IsEdit, emptied, generation_in, is_kept, unkept, IsAtHand, HasSpaceFor, KeepsAll, KeepsNoMore, KeepsWhileSpace};
 ghost use Rattle.wi_propagate.specs.Right.{AreKeptRight};
 
 use crate::calculator::Calculator;
@@ -223,7 +223,7 @@ impl KeptCalculator {
             Owes self.old self.new cases (is_ok result) }
         ensures settled { let sheet = self.old.stored.sheet in
             let cases = entry_demanded sheet put.now formula_cell pairs.now in
-            OnOk result (HasRoomFor self.old cases
+            OnOk result (HasSpaceFor self.old cases
             → circular sheet formula_cell ≡ false → All (λ x. circular sheet x.1 ≡ false) pairs.now
             → IsWhatIfSettled sheet (is_kept self.new) put.now (formula_cell, pairs.now)) }
     {
@@ -321,7 +321,7 @@ impl Calculator for KeptCalculator {
         ensures value { IfOk result (λ v. v ≡ show.shown self.old.stored.sheet put.now at) }
         ensures same { self.new.stored ≡ self.old.stored }
         ensures same_generations { self.new.generations ≡ self.old.generations }
-        ensures same_room { self.new.values.capacity ≡ self.old.values.capacity }
+        ensures same_space { self.new.values.capacity ≡ self.old.values.capacity }
 
         // No more is evaluated than what the value demands, and where there is room no more than what of that is not kept, also
         // where memory runs out.
@@ -333,11 +333,11 @@ impl Calculator for KeptCalculator {
         ensures evaluations_never_fall { self.old.counts.evaluations ≤ self.new.counts.evaluations }
         ensures restarts_never_fall { self.old.counts.restarts ≤ self.new.counts.restarts }
         ensures unkept_evaluations { let cases = demanded self.old.stored.sheet put.now at in
-            HasRoomFor self.old cases → self.new.counts.evaluations
+            HasSpaceFor self.old cases → self.new.counts.evaluations
             ≤ self.old.counts.evaluations + length (unkept self.old cases) }
         ensures unkept_restarts { let sheet = self.old.stored.sheet in
             let cases = demanded sheet put.now at in
-            HasRoomFor self.old cases → self.new.counts.restarts
+            HasSpaceFor self.old cases → self.new.counts.restarts
             ≤ self.old.counts.restarts + sum_by (wants sheet) (unkept self.old cases) }
 
         // What is kept, what comes to be kept, and that nothing goes while there is room, also where memory runs out.
@@ -346,9 +346,9 @@ impl Calculator for KeptCalculator {
             OnOk result ((IsAtHand self.old put.now at → ⊥)
             → is_kept self.new at (reaching sheet at put.now) ≡ true) }
         ensures no_more { KeepsNoMore self.old self.new }
-        ensures while_room { KeepsWhileRoom self.old self.new }
+        ensures while_space { KeepsWhileSpace self.old self.new }
         ensures keeps { let cases = demanded self.old.stored.sheet put.now at in
-            OnOk result (HasRoomFor self.old cases → KeepsAll self.old self.new) }
+            OnOk result (HasSpaceFor self.old cases → KeepsAll self.old self.new) }
     {
         self.value_of(put, at)
     }
@@ -367,7 +367,7 @@ impl Calculator for KeptCalculator {
             IfOk result (λ v. v ≡ table_entry sheet put.now formula_cell pairs.now) }
         ensures same { self.new.stored ≡ self.old.stored }
         ensures same_generations { self.new.generations ≡ self.old.generations }
-        ensures same_room { self.new.values.capacity ≡ self.old.values.capacity }
+        ensures same_space { self.new.values.capacity ≡ self.old.values.capacity }
 
         // No more is evaluated than what the entry demands, and where there is room no more than what of that is not kept, also
         // where memory runs out.
@@ -381,22 +381,22 @@ impl Calculator for KeptCalculator {
         ensures restarts_never_fall { self.old.counts.restarts ≤ self.new.counts.restarts }
         ensures unkept_evaluations { let cases =
             entry_demanded self.old.stored.sheet put.now formula_cell pairs.now in
-            HasRoomFor self.old cases → self.new.counts.evaluations
+            HasSpaceFor self.old cases → self.new.counts.evaluations
             ≤ self.old.counts.evaluations + length (unkept self.old cases) }
         ensures unkept_restarts { let sheet = self.old.stored.sheet in
             let cases = entry_demanded sheet put.now formula_cell pairs.now in
-            HasRoomFor self.old cases → self.new.counts.restarts
+            HasSpaceFor self.old cases → self.new.counts.restarts
             ≤ self.old.counts.restarts + sum_by (wants sheet) (unkept self.old cases) }
 
         // What comes to be kept, and that nothing goes while there is room, also where memory runs out.
         ensures no_more { KeepsNoMore self.old self.new }
-        ensures while_room { KeepsWhileRoom self.old self.new }
+        ensures while_space { KeepsWhileSpace self.old self.new }
         ensures keeps { let cases =
             entry_demanded self.old.stored.sheet put.now formula_cell pairs.now in
-            OnOk result (HasRoomFor self.old cases → KeepsAll self.old self.new) }
+            OnOk result (HasSpaceFor self.old cases → KeepsAll self.old self.new) }
         ensures settled { let sheet = self.old.stored.sheet in
             let cases = entry_demanded sheet put.now formula_cell pairs.now in
-            OnOk result (HasRoomFor self.old cases
+            OnOk result (HasSpaceFor self.old cases
             → circular sheet formula_cell ≡ false → All (λ x. circular sheet x.1 ≡ false) pairs.now
             → IsWhatIfSettled sheet (is_kept self.new) put.now (formula_cell, pairs.now)) }
     {

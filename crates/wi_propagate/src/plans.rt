@@ -120,14 +120,14 @@ impl Plans {
         ensures { (s : Sheet) → ArePlans s self.old
             → IsWholePlan s plan.inputs.items plan.root plan.cells.items → ArePlans s self.new }
     {
-        self.make_room();
+        self.make_space();
         if self.plans.reserve(1).is_ok() {
             self.plans.push_reserved(plan);
         }
     }
 
     /// Lets all plans go where there are many.
-    fn make_room(&mut self)
+    fn make_space(&mut self)
         ensures { (s : Sheet) → ArePlans s self.old → ArePlans s self.new }
     {
         if self.plans.len() >= MOST {

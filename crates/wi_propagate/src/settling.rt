@@ -14,7 +14,7 @@ ghost use Rattle.wi_propagate.specs.Inner.Keeping.{HasGeneration};
 ghost use Rattle.wi_propagate.specs.Inner.Noted.{noted_in};
 ghost use Rattle.wi_propagate.specs.Inner.Settling.{second_cells};
 
-use crate::generations::{Numbers, greater, make_room, number_at};
+use crate::generations::{Numbers, greater, number_at, reserve};
 use std::alloc::{AllocError, Global};
 use wi_graph::{Cells, Graph, Watch};
 use wi_tiles::CellMap;
@@ -122,7 +122,7 @@ fn settle_one(
 {
     let cone = beyond_seen(graph, seen, at)?;
     see(seen, &cone)?;
-    make_room(noted, &cone)?;
+    reserve(noted, &cone)?;
     lift(noted, &cone, number);
     Ok(())
 }

@@ -12,7 +12,7 @@ ghost use Rattle.wi_sheet.specs.Settled.{IsSettled, IsWhatIfSettled};
 ghost use Rattle.wi_sheet.specs.Inner.Spending.{HasReplacing, HasEntry, NeverFall, plus, price};
 ghost use Rattle.wi_engine.specs.Inner.MemoState.{IsMemoOf};
 ghost use Rattle.wi_engine.specs.Inner.Frames.{MayBeRead};
-ghost use Rattle.wi_engine.specs.Inner.Saving.{WhereRoom};
+ghost use Rattle.wi_engine.specs.Inner.Saving.{WhereSpace};
 ghost use Rattle.wi_engine.specs.Inner.Plans.{IsUnkept};
 ghost use Rattle.wi_engine.specs.Inner.Spends.{Spends, SpendsAtMost};
 ghost use Rattle.wi_propagate.specs.Inner.Planned.{ArePlans};
@@ -101,7 +101,7 @@ pub(crate) fn open_entry<M: Memo + Drop>(
         (M.state question.old.memo) (M.state question.new.memo)
         question.old.meter question.new.meter (is_ok result) }
     ensures settled { let sheet = store.now.sheet in
-        OnOk result (WhereRoom sheet (HasEntry sheet world.now formula_cell pairs.now)
+        OnOk result (WhereSpace sheet (HasEntry sheet world.now formula_cell pairs.now)
         (M.state question.old.memo)
         (λ _. IsWhatIfSettled sheet (M.state question.new.memo).kept
         world.now (formula_cell, pairs.now))) }
@@ -134,7 +134,7 @@ pub(crate) fn planned_entry<M: Memo + Drop>(
         (M.state question.old.memo) (M.state question.new.memo)
         question.old.meter question.new.meter (is_ok result) }
     ensures settled { let sheet = store.now.sheet in
-        OnOk result (WhereRoom sheet (HasEntry sheet world.now formula_cell pairs.now)
+        OnOk result (WhereSpace sheet (HasEntry sheet world.now formula_cell pairs.now)
         (M.state question.old.memo)
         (λ _. IsWhatIfSettled sheet (M.state question.new.memo).kept
         world.now (formula_cell, pairs.now))) }
@@ -174,7 +174,7 @@ fn entry_by_plan<M: Memo + Drop>(
         → (M.state question.new.memo ≡ M.state question.old.memo)
         × (question.new.meter ≡ question.old.meter) }
     ensures unkept { let inside = with_what_if store.now.sheet world.now pairs.now in
-        IfOk result (λ o. IfSome o (λ _. ((M.state question.old.memo).room ≡ 0)
+        IfOk result (λ o. IfSome o (λ _. ((M.state question.old.memo).space ≡ 0)
         × IsUnkept store.now.sheet (M.state question.old.memo) inside formula_cell)) }
     ensures spends { let sheet = store.now.sheet in
         SpendsAtMost sheet (HasEntry sheet world.now formula_cell pairs.now)
@@ -242,7 +242,7 @@ fn with_inputs<M: Memo + Drop>(
         (M.state question.old.memo) (M.state question.new.memo)
         question.old.meter question.new.meter (is_ok result) }
     ensures settled { let sheet = store.now.sheet in
-        OnOk result (WhereRoom sheet (HasReplacing sheet world.now pairs.now)
+        OnOk result (WhereSpace sheet (HasReplacing sheet world.now pairs.now)
         (M.state question.old.memo)
         (λ _. All (λ x.
         IsSettled sheet (M.state question.new.memo).kept world.now x.1) pairs.now)) }

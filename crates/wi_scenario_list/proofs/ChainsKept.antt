@@ -160,8 +160,8 @@ one_more x (y ∷ ys) = by (bytes_eq x.name y.name) (one_more x ys)
     by false l = omega (arith, l)
 
 -- there is room for one that isn't there, where it wouldn't be one too many
-pub has_room : (xs : List Scenario) (name : List ℕ) (at : ℕ) → is_full xs name at ≡ false → has_scenario xs name ≡ false → length xs < max_scenarios
-has_room xs name at e missing =
+pub has_space : (xs : List Scenario) (name : List ℕ) (at : ℕ) → is_full xs name at ≡ false → has_scenario xs name ≡ false → length xs < max_scenarios
+has_space xs name at e missing =
     let new : (not (has_scenario xs name) && nat_le max_scenarios (length xs)) ≡ false =
     (or_parts (not (has_scenario xs name) && nat_le max_scenarios (length xs))
     (not (is_replaced (scenario_for xs name).own at) && nat_le max_replacements (length (scenario_for xs name).own)) e).0 in
@@ -263,19 +263,19 @@ put_there xs y x ys h e c apart there =
         omega (arith, same, h.few)
 
 put_new : (xs : List Scenario) (y : Scenario) → HasChains xs → length xs < max_scenarios → y.base ≡ None → HasChains (with_scenario xs y)
-put_new xs y h room none_given =
+put_new xs y h space none_given =
     put_in xs y [] h few (subst (λ (o : Option (List ℕ)). IsChain (with_scenario xs y) (scenario_of (with_scenario xs y) o) []) (sym none_given) ended) (ap (lacks xs) none_given)
   where
     few : length (with_scenario xs y) ≤ max_scenarios
-    few = let l : length (with_scenario xs y) ≤ suc (length xs) = one_more y xs in omega (arith, l, room)
+    few = let l : length (with_scenario xs y) ≤ suc (length xs) = one_more y xs in omega (arith, l, space)
 
 -- with other replacements, or made where there was none
 pub own_kept : (xs : List Scenario) (name : List ℕ) (y : Scenario) → HasChains xs → y.name ≡ (scenario_for xs name).name → y.base ≡ (scenario_for xs name).base
     → (has_scenario xs name ≡ false → length xs < max_scenarios) → HasChains (with_scenario xs y)
-own_kept xs name y h n b room = by (scenario_of xs (Some name)) refl n b
+own_kept xs name y h n b space = by (scenario_of xs (Some name)) refl n b
   where
     by : (o : Option Scenario) → scenario_of xs (Some name) ≡ o → y.name ≡ (scenario_or_new name o).name → y.base ≡ (scenario_or_new name o).base → HasChains (with_scenario xs y)
-    by None e n b = put_new xs y h (room (has-found name xs ∙ ap is_some e)) b
+    by None e n b = put_new xs y h (space (has-found name xs ∙ ap is_some e)) b
     by (Some x) e n b =
         let there : scenario_of xs (Some x.name) ≡ Some x = found_itself xs (Some name) x e in
         let c = h.chains y.base in

@@ -20,7 +20,7 @@ use wi_values::{Address, rise};
 pub(crate) type Words = CellMap<u64>;
 
 /// A cell, and the bits of sessions for which it has room only.
-pub(crate) type Room = (Address, u64);
+pub(crate) type StagedBits = (Address, u64);
 
 /// The bits of a cell, if it stands there.
 pub(crate) fn found(words: &Words, at: Address) -> Option<u64>
@@ -42,7 +42,7 @@ fn word_of(words: &Words, at: Address) -> u64
 /// Makes room for a cell that has bits.
 fn stage_there(
     words: &mut Words,
-    staged: &mut Vec<Room>,
+    staged: &mut Vec<StagedBits>,
     at: Address,
     bits: u64,
 ) -> Result<(), AllocError>
@@ -66,7 +66,7 @@ fn stage_there(
 /// Makes room for a cell in the lists of these sessions.
 fn stage_one(
     words: &mut Words,
-    staged: &mut Vec<Room>,
+    staged: &mut Vec<StagedBits>,
     at: Address,
     bits: u64,
 ) -> Result<(), AllocError>
@@ -88,7 +88,7 @@ fn stage_one(
 #[inline(always)]
 pub(crate) fn stage_each(
     words: &mut Words,
-    staged: &mut Vec<Room>,
+    staged: &mut Vec<StagedBits>,
     cells: &[Address],
     bits: u64,
 ) -> Result<(), AllocError>
@@ -106,7 +106,7 @@ pub(crate) fn stage_each(
 /// Makes room for cells in the lists of these sessions. If memory runs out, all rooms go, those that were there too.
 pub(crate) fn stage(
     words: &mut Words,
-    staged: &mut Vec<Room>,
+    staged: &mut Vec<StagedBits>,
     cells: &[Address],
     bits: u64,
 ) -> Result<(), AllocError>
@@ -168,7 +168,7 @@ pub(crate) fn clear_each(words: &mut Words, cells: &[Address], bits: u64)
 }
 
 /// The rooms of a session go. They stay listed, which tells nothing where its bit is gone.
-pub(crate) fn drop_rooms(words: &mut Words, staged: &[Room], bit: u64)
+pub(crate) fn drop_rooms(words: &mut Words, staged: &[StagedBits], bit: u64)
     requires { IsOrdered nat_cmp words.old }
     ensures order { IsOrdered nat_cmp words.new }
     ensures less { HasCleared (λ i c. is_staged staged.now i c && has_bit i bit)
@@ -180,7 +180,7 @@ pub(crate) fn drop_rooms(words: &mut Words, staged: &[Room], bit: u64)
 }
 
 /// Takes the bits of rooms away.
-fn clear_staged(words: &mut Words, staged: &[Room])
+fn clear_staged(words: &mut Words, staged: &[StagedBits])
     requires { IsOrdered nat_cmp words.old }
     ensures order { IsOrdered nat_cmp words.new }
     ensures less { HasCleared (is_staged staged.now) words.old.entries words.new.entries }
@@ -191,7 +191,7 @@ fn clear_staged(words: &mut Words, staged: &[Room])
 }
 
 /// All rooms go.
-pub(crate) fn give_back(words: &mut Words, staged: &mut Vec<Room>)
+pub(crate) fn give_back(words: &mut Words, staged: &mut Vec<StagedBits>)
     requires { IsOrdered nat_cmp words.old }
     ensures order { IsOrdered nat_cmp words.new }
     ensures pending { SamePending words.old.entries staged.old.items
@@ -203,7 +203,7 @@ pub(crate) fn give_back(words: &mut Words, staged: &mut Vec<Room>)
 }
 
 /// The bits of rooms that a cell has. The work grows with the rooms, of which there are none but within an edit.
-pub(crate) fn staged_of(staged: &[Room], at: Address) -> u64
+pub(crate) fn staged_of(staged: &[StagedBits], at: Address) -> u64
     ensures { (i : ℕ) → has_bit i result ≡ is_staged staged.now i at }
 {
     let mut bits = 0;
@@ -224,7 +224,7 @@ fn with_room(bits: u64, cell: Address, more: u64, at: Address) -> u64
 }
 
 /// Whether a cell has room only, in the list of a session.
-pub(crate) fn is_staged(staged: &[Room], i: usize, at: Address) -> bool
+pub(crate) fn is_staged(staged: &[StagedBits], i: usize, at: Address) -> bool
     requires { i < 64 }
     ensures { result ≡ is_staged staged.now i at }
 {

@@ -15,8 +15,8 @@ ghost use Rattle.wi_sessions.specs.Inner.Unread.{is_unread, HasPlace, HavePlaces
 
 use crate::bits::{are_alike, bit_of, bits_of, without};
 use crate::cells::{
-    Room, Words, clear_each, drop_rooms, found, give_back, is_staged, push_those, put_in_order,
-    stage, stage_each, staged_of, walked,
+    StagedBits, Words, clear_each, drop_rooms, found, give_back, is_staged, push_those,
+    put_in_order, stage, stage_each, staged_of, walked,
 };
 use crate::unread::{Unread, note};
 use std::alloc::{AllocError, Global};
@@ -30,7 +30,7 @@ use wi_values::Address;
 pub(crate) struct Pending {
     words: Words,
     // Rooms only.
-    staged: Vec<Room>,
+    staged: Vec<StagedBits>,
     // Cells that edits changed, in turn, as far as a session may have to look for them here.
     changed: Vec<Address>,
     // Where the cells of each session stand.
@@ -279,7 +279,7 @@ fn looked_up(
 /// Cells but for those with room only.
 fn without_rooms(
     alloc: Global,
-    staged: &[Room],
+    staged: &[StagedBits],
     cells: &[Address],
     i: usize,
 ) -> Result<Vec<Address>, AllocError>
@@ -345,7 +345,7 @@ fn put_in(alloc: Global, words: &mut Words, cells: &[Address], bits: u64) -> Res
 /// Notes cells as a session's own, and makes room for them. If memory runs out, there is room for a part of them.
 fn stage_own(
     words: &mut Words,
-    staged: &mut Vec<Room>,
+    staged: &mut Vec<StagedBits>,
     own: &mut Unread,
     cells: &[Address],
     bit: u64,
@@ -369,7 +369,7 @@ fn stage_own(
 /// Notes cells that an edit may change, and makes room for them for each session. If memory runs out, there is room for a part of them.
 fn stage_all(
     words: &mut Words,
-    staged: &mut Vec<Room>,
+    staged: &mut Vec<StagedBits>,
     changed: &mut Vec<Address>,
     unread: &mut Vec<Unread>,
     cells: &[Address],

@@ -143,7 +143,7 @@ fn expect_many(rt: &impl Abort, alloc: Global, kept: &mut Kept) {
 }
 
 #[test]
-fn a_list_keeps_as_many_as_it_has_room_for(rt: HostRuntime) {
+fn a_list_keeps_as_many_as_it_has_space_for(rt: HostRuntime) {
     let mut kept = Kept::new(rt.alloc(), 2_000).expect(&rt, "a list");
     expect_many(&rt, rt.alloc(), &mut kept);
     drop(kept);

@@ -1,5 +1,5 @@
 -- That each scenario has a chain after every run.
-use Rattle.wi_cli.proofs.Vocabulary.{◌||◌, Bool, false, not, inl, inr, List, [], ◌∷◌, Option, Ok, Err, refl, sym, ap, subst, list_any, false_from_ne_true, not-false, or_parts, Stored, has_scenario, scenario_for, with_own, without_own, is_full, HasChains, is_name_of, is_base, lacks, would_loop, no_scenarios, is_chain, has_room, own_kept, based_kept, dropped_kept, State, state_over, left_by, Cell, address, Bytes, Command, Set, Clear, Fill, Csv, Scenario, Drop, Base, Use, As, Show, Export, Compare, Table, Formula, Changes, Unknown, Unreadable, Cause, NoScenario, InUse, TooMany, Loop, Holds, Does, Answer, IsStep, Event, MayHappen, KeepsChains, GivesChain}
+use Rattle.wi_cli.proofs.Vocabulary.{◌||◌, Bool, false, not, inl, inr, List, [], ◌∷◌, Option, Ok, Err, refl, sym, ap, subst, list_any, false_from_ne_true, not-false, or_parts, Stored, has_scenario, scenario_for, with_own, without_own, is_full, HasChains, is_name_of, is_base, lacks, would_loop, no_scenarios, is_chain, has_space, own_kept, based_kept, dropped_kept, State, state_over, left_by, Cell, address, Bytes, Command, Set, Clear, Fill, Csv, Scenario, Drop, Base, Use, As, Show, Export, Compare, Table, Formula, Changes, Unknown, Unreadable, Cause, NoScenario, InUse, TooMany, Loop, Holds, Does, Answer, IsStep, Event, MayHappen, KeepsChains, GivesChain}
 use Rattle.wi_scenario_list.specs.Scenarios as list
 use Rattle.wi_scenarios.specs.declared.refusal.Refusal.TheVariants as refusal
 use Rattle.wi_scenarios.proofs.ScenarioSteps.{is_in_use, drop_tested, base_tested}
@@ -40,7 +40,7 @@ module _ (s : State) where
   kept (Scenario name at (b ∷ bs)) done free h k =
       subst HasChains (sym (ap scenarios_in h.2))
       (own_kept s.scenarios name (with_own (scenario_for s.scenarios name) (record { at = address at; value = h.0 } ∷ [])) k refl refl
-      (has_room s.scenarios name (address at) (false_from_ne_true (is_full s.scenarios name (address at)) (λ e. free TooMany e))))
+      (has_space s.scenarios name (address at) (false_from_ne_true (is_full s.scenarios name (address at)) (λ e. free TooMany e))))
   kept (Drop name) done free h k = subst HasChains (sym (ap scenarios_in h)) (dropped name free k)
   kept (Base name other) done free h k = subst HasChains (sym (ap scenarios_in h)) (based_anew name other free k)
   kept (Use name) done free h k = subst HasChains (sym (ap scenarios_in h)) k

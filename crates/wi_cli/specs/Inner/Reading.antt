@@ -17,11 +17,11 @@ raw whole content = content ++ (if whole then codes "\n" else [])
 -- What the reader of lines needs: a source that hasn't failed, and room for a line and one byte more.
 pub record CanRead (has_failed : Bool) (capacity : ℕ) : Type 0 where
   pub works : has_failed ≡ false
-  pub room : max_line + 1 ≤ capacity
+  pub headroom : max_line + 1 ≤ capacity
 
 -- It stopped. The room is there still, and a source that can't be read has failed.
 pub record HasStopped (fault : RunFault) (has_failed : Bool) (capacity : ℕ) : Type 0 where
-  pub room : max_line + 1 ≤ capacity
+  pub headroom : max_line + 1 ≤ capacity
   pub failed : fault ≡ Read → has_failed ≡ true
 
 -- how a call leaves it: it can read on, or it has stopped

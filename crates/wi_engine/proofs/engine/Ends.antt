@@ -1,10 +1,10 @@
 -- A question in progress: what is so all the way, and what it has spent where it ends.
-use Rattle.wi_engine.proofs.Words.{◌≡◌, ◌<◌, ◌≤◌, ◌+◌, ◌-◌, ◌^◌, ◌⊎◌, inl, inr, ℕ, true, false, List, [], ◌∷◌, ◌++◌, Contains, Result, is_ok, IsErr, refl, sym, subst, arith, cases_lt, true≢false, Value, Sheet, Counts, one_more, Key, Case, NeverFall, never_fall-same, never_fall-then, MemoState, IsMemoOf, case_at, AreLinked, IsAwaited, IsUnvaluedKey, WhereRoom, TakesPlaces, TakesNoMore, GivesUpWhenFull, Keeps, HasFound, IsSameBeside, Spends, FrameCounts, FrameTakes, IsFrameValue, Frame}
+use Rattle.wi_engine.proofs.Words.{◌≡◌, ◌<◌, ◌≤◌, ◌+◌, ◌-◌, ◌^◌, ◌⊎◌, inl, inr, ℕ, true, false, List, [], ◌∷◌, ◌++◌, Contains, Result, is_ok, IsErr, refl, sym, subst, arith, cases_lt, true≢false, Value, Sheet, Counts, one_more, Key, Case, NeverFall, never_fall-same, never_fall-then, MemoState, IsMemoOf, case_at, AreLinked, IsAwaited, IsUnvaluedKey, WhereSpace, TakesPlaces, TakesNoMore, GivesUpWhenFull, Keeps, HasFound, IsSameBeside, Spends, FrameCounts, FrameTakes, IsFrameValue, Frame}
 use Rattle.wi_engine.proofs.Places.{takes_then, gives_up_none, gives_up_then}
 use Rattle.wi_engine.proofs.Ledger.{same_itself, same_then, spends_err}
 use Rattle.wi_engine.proofs.engine.Stacks.{pop_linked, push_linked, run_keeps}
 use Rattle.wi_engine.proofs.engine.FrameRuns.{IsRunning, IsNew, GoesDeeper, ComesBack, run_start, run_deeper, run_back, run_take, run_stops, run_ends}
-use Rattle.wi_engine.proofs.engine.RunsWithRoom.{IsSaving, by_kept, saving_start, saving_deeper, saving_back, saving_take, saving_kept, saving_saved, saving_ends}
+use Rattle.wi_engine.proofs.engine.RunsWithSpace.{IsSaving, by_kept, saving_start, saving_deeper, saving_back, saving_take, saving_kept, saving_saved, saving_ends}
 
 -- what is so all the way
 pub record IsGoing (s : Sheet) (old m : MemoState) (root : Case) (start now : Counts) (fs : List Frame) (f : Frame) : Type 0 where
@@ -14,7 +14,7 @@ pub record IsGoing (s : Sheet) (old m : MemoState) (root : Case) (start now : Co
   pub counts : NeverFall start now
   pub places : TakesNoMore old m start.evaluations now.evaluations
   pub gives_up : GivesUpWhenFull old m
-  pub saving : WhereRoom s (λ ks. Contains ks root) old (λ ks. IsSaving s old m root start now fs f ks)
+  pub saving : WhereSpace s (λ ks. Contains ks root) old (λ ks. IsSaving s old m root start now fs f ks)
 
 takes_one : (m n : MemoState) (now next : ℕ) → TakesPlaces m n 0 1 → next ≡ one_more now → TakesNoMore m n now next
 takes_one m n now next l e = at (cases_lt now (2 ^ 64 - 1))
@@ -65,7 +65,7 @@ going_start {s} {m} {k} {f} now h key new = record {
   counts = never_fall-same now;
   places = inl (λ ks d. omega arith);
   gives_up = gives_up_none m m refl;
-  saving = λ ks closed top whole room. saving_start s m k f now ks h key new whole room;
+  saving = λ ks closed top whole space. saving_start s m k f now ks h key new whole space;
 }
 
 pub going_deeper : {s : Sheet} {old m : MemoState} {root : Case} {start now next : Counts} {fs : List Frame} {f h g : Frame} {k : Key} → IsGoing s old m root start now fs f → GoesDeeper s m now next f h g k → IsGoing s old m root start next (fs ++ h ∷ []) g
@@ -76,7 +76,7 @@ going_deeper {s} {old} {m} {root} {start} {now} {next} {fs} {f} {h} {g} {k} i t 
   counts = never_fall-then start now next i.counts t.rises;
   places = rw t.evaluations i.places;
   gives_up = i.gives_up;
-  saving = λ ks closed top whole room. saving_deeper t (i.saving ks closed top whole room);
+  saving = λ ks closed top whole space. saving_deeper t (i.saving ks closed top whole space);
 }
 
 -- back to the frame below, which takes in the value
@@ -90,8 +90,8 @@ going_back {s} {old} {m} {n} {root} {start} {now} {next} {fs} {f} {b} {g} {v} i 
       counts = never_fall-then start now next i.counts t.counts.rises;
       places = takes_then old m n start.evaluations now.evaluations next.evaluations i.places (takes_one m n now.evaluations next.evaluations t.keeps.places t.evaluations) t.counts.rises.0;
       gives_up = gives_up_then old m n i.gives_up t.keeps.gives_up;
-      saving = λ ks closed top whole room.
-          let saving = i.saving ks closed top whole room in
+      saving = λ ks closed top whole space.
+          let saving = i.saving ks closed top whole space in
           saving_take takes (saving_kept t closed top saving) (saving_back t closed top saving);
     }
 
@@ -111,7 +111,7 @@ going_stops {X} {E} {s} {old} {m} {n} {root} {start} {now} {next} {fs} {f} i t r
       places = takes_then old m n start.evaluations now.evaluations next.evaluations i.places t.places t.counts.rises.0;
       gives_up = gives_up_then old m n i.gives_up t.gives_up;
       on_found = run_stops i.running n t.counts;
-      on_kept = λ ks closed top whole room. run_stops (i.saving ks closed top whole room).running (by_kept n) t.counts ks closed top;
+      on_kept = λ ks closed top whole space. run_stops (i.saving ks closed top whole space).running (by_kept n) t.counts ks closed top;
       saved = λ d. absurd (true≢false (sym d));
     } in
     spends_err r e stops
@@ -126,13 +126,13 @@ module _ {s : Sheet} {old m n : MemoState} {root : Case} {start now next : Count
     places = takes_then old m n start.evaluations now.evaluations next.evaluations i.places (takes_one m n now.evaluations next.evaluations t.keeps.places t.evaluations) t.counts.rises.0;
     gives_up = gives_up_then old m n i.gives_up t.keeps.gives_up;
     on_found = run_ends n t.found.found t.counts i.running;
-    on_kept = λ ks closed top whole room. saving_ends t closed top (i.saving ks closed top whole room);
-    saved = λ d ks closed top whole room. saving_saved t closed top (i.saving ks closed top whole room);
+    on_kept = λ ks closed top whole space. saving_ends t closed top (i.saving ks closed top whole space);
+    saved = λ d ks closed top whole space. saving_saved t closed top (i.saving ks closed top whole space);
   }
 
   -- it is kept where there is room for all, and where any value is
-  pub root_kept : WhereRoom s (λ ks. Contains ks root) old (λ ks. n.kept root.0 root.1 ≡ true)
-  root_kept = λ ks closed top whole room. subst (λ (j : Case). n.kept j.0 j.1 ≡ true) i.running.bottom (saving_kept t closed top (i.saving ks closed top whole room))
+  pub root_kept : WhereSpace s (λ ks. Contains ks root) old (λ ks. n.kept root.0 root.1 ≡ true)
+  root_kept = λ ks closed top whole space. subst (λ (j : Case). n.kept j.0 j.1 ≡ true) i.running.bottom (saving_kept t closed top (i.saving ks closed top whole space))
 
   pub root_there : (1 ≤ m.capacity → n.kept f.key.cell f.key.world ≡ true) → 1 ≤ old.capacity → n.kept root.0 root.1 ≡ true
   root_there there some = subst (λ (j : Case). n.kept j.0 j.1 ≡ true) i.running.bottom (there (rw i.same.capacity some))

@@ -1,5 +1,5 @@
 -- A question that ends with a plan where no place is free.
-use Rattle.wi_engine.proofs.Words.{◌≡◌, ◌⊎◌, inl, inr, ◌||◌, ◌+◌, ◌-◌, ◌^◌, ◌≤◌, ℕ, Bool, true, false, List, Contains, Option, Some, None, Result, Ok, Err, IsErr, IfOk, is_ok, refl, ap, sym, ◌∙◌, subst, arith, true≢false, AllocError, Value, Replacement, Sheet, content_of, put_all, has_formula, Counts, Key, cell_value, Case, case_of, reaching, same_case, reaching_suffices, HasCase, one_less_left, MemoState, IsMemoOf, case_at, IsUnvalued, KeepsFound, WhereRoom, not_kept, TakesNoMore, TakesPlaces, Keeps, SpendsAtMost}
+use Rattle.wi_engine.proofs.Words.{◌≡◌, ◌⊎◌, inl, inr, ◌||◌, ◌+◌, ◌-◌, ◌^◌, ◌≤◌, ℕ, Bool, true, false, List, Contains, Option, Some, None, Result, Ok, Err, IsErr, IfOk, is_ok, refl, ap, sym, ◌∙◌, subst, arith, true≢false, AllocError, Value, Replacement, Sheet, content_of, put_all, has_formula, Counts, Key, cell_value, Case, case_of, reaching, same_case, reaching_suffices, HasCase, one_less_left, MemoState, IsMemoOf, case_at, IsUnvalued, KeepsFound, WhereSpace, not_kept, TakesNoMore, TakesPlaces, Keeps, SpendsAtMost}
 use Rattle.wi_engine.specs.Inner.Plans.{Follows, IsUnkept}
 use Rattle.wi_engine.proofs.Places.{gives_up_none}
 use Rattle.wi_engine.proofs.Ledger.{same_itself, spends_none, spends_at_most}
@@ -21,13 +21,13 @@ module _ {s : Sheet} {m : MemoState} {w : List Replacement} {root : ℕ} {k : Ke
   pub is_unkept : IsUnkept s m w root
   is_unkept = record { formula = u.formula; none = ap (λ (j : Case). m.kept j.0 j.1) here ∙ u.to_find.unkept }
 
-  module _ (full : m.room ≡ 0) where
+  module _ (full : m.space ≡ 0) where
     -- there is no room for what the root demands, since its value isn't kept
-    no_room : (P : List Case → Type 0) → WhereRoom s (HasCase s w root) m P
-    no_room P ks closed has whole room =
+    no_space : (P : List Case → Type 0) → WhereSpace s (HasCase s w root) m P
+    no_space P ks closed has whole space =
         let there : Contains ks (case_at k) = subst (λ (j : Case). Contains ks j) here (has u.formula) in
         let less = one_less_left m.kept (λ c v. m.kept c v || same_case (case_at k) (c, v)) (case_at k) ks (λ c v. refl) u.to_find.unkept there in
-        absurd (omega (arith, less, room, full))
+        absurd (omega (arith, less, space, full))
 
     module _ (h : IsMemoOf s m) {start next : Counts} {r : Result (Option Value) AllocError} (follows : Follows s w root start next r) where
       -- where memory ran out before the root's value was kept
@@ -41,8 +41,8 @@ module _ {s : Sheet} {m : MemoState} {w : List Replacement} {root : ℕ} {k : Ke
             places = inl (λ ks d. omega (arith, up));
             gives_up = gives_up_none m m refl;
             at_most = λ ks closed has. follows.at_most ks closed (has u.formula);
-            on_kept = no_room _;
-            saved = λ d. no_room _;
+            on_kept = no_space _;
+            saved = λ d. no_space _;
           } in
           subst (λ (x : MemoState). SpendsAtMost s (HasCase s w root) m x start next done) (sym e) alone
 
@@ -57,8 +57,8 @@ module _ {s : Sheet} {m : MemoState} {w : List Replacement} {root : ℕ} {k : Ke
             places = places there.places one;
             gives_up = there.gives_up;
             at_most = λ ks closed has. follows.at_most ks closed (has u.formula);
-            on_kept = no_room _;
-            saved = λ d. no_room _;
+            on_kept = no_space _;
+            saved = λ d. no_space _;
           }
         where
           places : TakesPlaces m n 0 1 → (start.evaluations + 1 ≤ next.evaluations) ⊎ (2 ^ 64 - 1 ≤ next.evaluations) → TakesNoMore m n start.evaluations next.evaluations

@@ -143,8 +143,8 @@ none_off es fs rs e h = ap count_more (sym (append-nil fs)) ∙ ap count_more (s
 
 -- ---- room
 
-pub room_left : (len most others more : ℕ) → (len < most) × (others < more) → (1 ≤ most - len) × (1 ≤ more - others)
-room_left len most others more h = (omega (arith, h.0), omega (arith, h.1))
+pub space_left : (len most others more : ℕ) → (len < most) × (others < more) → (1 ≤ most - len) × (1 ≤ more - others)
+space_left len most others more h = (omega (arith, h.0), omega (arith, h.1))
 
-pub room_there : (len most others more : ℕ) → (1 ≤ most - len) × (1 ≤ more - others) → (len < most) × (others < more)
-room_there len most others more h = (omega (arith, h.0), omega (arith, h.1))
+pub space_there : (len most others more : ℕ) → (1 ≤ most - len) × (1 ≤ more - others) → (len < most) × (others < more)
+space_there len most others more h = (omega (arith, h.0), omega (arith, h.1))

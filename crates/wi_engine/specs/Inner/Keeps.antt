@@ -22,5 +22,5 @@ pub record Keeps (old new : MemoState) (k : Key) (v : Value) : Type 0 where
 -- unless it was kept already.
 pub record HasFound (old new : MemoState) (k : Key) : Type 0 where
   pub found : (c : ℕ) (w : List Replacement) → new.found c w ≡ (old.found c w || same_case (k.cell, k.world) (c, w))
-  pub kept : 1 ≤ old.room → (c : ℕ) (w : List Replacement) → new.kept c w ≡ (old.kept c w || same_case (k.cell, k.world) (c, w))
-  pub room : old.kept k.cell k.world ≡ false → 1 ≤ old.room → new.room + 1 ≡ old.room
+  pub kept : 1 ≤ old.space → (c : ℕ) (w : List Replacement) → new.kept c w ≡ (old.kept c w || same_case (k.cell, k.world) (c, w))
+  pub space : old.kept k.cell k.world ≡ false → 1 ≤ old.space → new.space + 1 ≡ old.space

@@ -24,7 +24,7 @@ pub record MemoState : Type 0 where
   -- whether an entry stands under a key, also under a stale one, which takes up a place and is never looked up
   pub stands : Key → Bool
   -- how many places for values that are kept are free
-  pub room : ℕ
+  pub space : ℕ
   -- and how many there are in all
   pub capacity : ℕ
   -- The number of the last edit. That no generation is past it says who makes the memory (`past` of `IsKeepingRight`, in

@@ -33,7 +33,7 @@ question_state q = record {
   found = λ c w. is_some (value_for q.values (key_of c w));
   kept = λ c w. false;
   stands = λ k. false;
-  room = 0;
+  space = 0;
   capacity = 0;
   latest = 0;
 }

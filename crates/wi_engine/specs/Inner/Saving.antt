@@ -19,8 +19,8 @@ KeepsFound m = (c : ℕ) (w : List Replacement) → m.found c w ≡ true → m.k
 
 -- This holds of each closed list of cases that has what it is to have, where all that was found is kept and there is room
 -- for those of the list that are not. Where `P` leaves its list out, one such list is enough: it only says that there is room.
-abbrev pub WhereRoom : Sheet → (List Case → Type 0) → MemoState → (List Case → Type 0) → Type 0
-WhereRoom s Has m P = (ks : List Case) → IsClosed s ks → Has ks → KeepsFound m → not_kept m ks ≤ m.room → P ks
+abbrev pub WhereSpace : Sheet → (List Case → Type 0) → MemoState → (List Case → Type 0) → Type 0
+WhereSpace s Has m P = (ks : List Case) → IsClosed s ks → Has ks → KeepsFound m → not_kept m ks ≤ m.space → P ks
 
 -- those of these keys under which no entry stands
 abbrev pub vacant : MemoState → List Key → List Key
@@ -28,9 +28,9 @@ vacant m ks = filter (λ k. not (m.stands k)) ks
 
 -- Each value that was counted took one place at most: a free one, or that of an evicted entry, stale ones included. So where e
 -- values were counted and f free places filled, at most e - f entries were evicted. It is said of any keys without repetition,
--- by how many of them are vacant before and after: `vacant` counts keys, and `room` places of the memory.
+-- by how many of them are vacant before and after: `vacant` counts keys, and `space` places of the memory.
 abbrev pub TakesPlaces : MemoState → MemoState → ℕ → ℕ → Type 0
-TakesPlaces old new before after = (ks : List Key) → IsDistinct same_key ks → length (vacant new ks) + (old.room + before) ≤ length (vacant old ks) + (new.room + after)
+TakesPlaces old new before after = (ks : List Key) → IsDistinct same_key ks → length (vacant new ks) + (old.space + before) ≤ length (vacant old ks) + (new.space + after)
 
 -- this, unless the count has come to its greatest value, from which it no longer rises
 abbrev pub TakesNoMore : MemoState → MemoState → ℕ → ℕ → Type 0
@@ -39,8 +39,8 @@ TakesNoMore old new before after = TakesPlaces old new before after ⊎ (2 ^ 64 
 -- Nothing was evicted while there was room: no more room is left than before, and where some is left, each entry still stands,
 -- stale ones too.
 pub record GivesUpWhenFull (old new : MemoState) : Type 0 where
-  pub room : new.room ≤ old.room
-  pub stays : 1 ≤ new.room → (k : Key) → old.stands k ≡ true → new.stands k ≡ true
+  pub space : new.space ≤ old.space
+  pub stays : 1 ≤ new.space → (k : Key) → old.stands k ≡ true → new.stands k ≡ true
 
 -- a cell's value needs no evaluation: it has no formula under the replacements, or its value is remembered
 abbrev pub NeedsNoEvaluation : Sheet → MemoState → List Replacement → ℕ → Type 0

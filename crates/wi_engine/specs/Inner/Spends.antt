@@ -12,15 +12,15 @@ use Rattle.wi_sheet.specs.Demand.{Case, reaching}
 use Rattle.wi_sheet.specs.Settled.{IsSettled, RestsOnKept}
 use Rattle.wi_sheet.specs.Inner.Spending.{HasCase, IsClosed, NeverFall, SpentOn, plus, price}
 use Rattle.wi_engine.specs.Inner.MemoState.{MemoState, IsMemoOf}
-use Rattle.wi_engine.specs.Inner.Saving.{not_kept, IsValuedAnew, KeepsFound, NeedsNoEvaluation, WhereRoom, TakesNoMore, GivesUpWhenFull}
+use Rattle.wi_engine.specs.Inner.Saving.{not_kept, IsValuedAnew, KeepsFound, NeedsNoEvaluation, WhereSpace, TakesNoMore, GivesUpWhenFull}
 
 -- At least as many free places were filled as values were evaluated. There is still room for the cases that are not kept, and no
 -- entry was evicted, stale ones included. The formula of each case that came to be kept means the same, whatever values stand for
 -- what isn't settled: that is `RestsOnKept`. (`RestsOn`, by which a list is closed, is another relation: one case's formula asks
 -- for the other.)
 pub record Saved (s : Sheet) (old new : MemoState) (before after : Counts) (ks : List Case) : Type 0 where
-  pub added : after.evaluations + new.room ≤ before.evaluations + old.room
-  pub room : not_kept new ks ≤ new.room
+  pub added : after.evaluations + new.space ≤ before.evaluations + old.space
+  pub space : not_kept new ks ≤ new.space
   pub stays : (c : ℕ) (w : List Replacement) → old.kept c w ≡ true → new.kept c w ≡ true
   pub stand : (k : Key) → old.stands k ≡ true → new.stands k ≡ true
   pub found : KeepsFound new
@@ -43,8 +43,8 @@ pub record Spends (s : Sheet) (Has : List Case → Type 0) (old new : MemoState)
   pub places : TakesNoMore old new before.evaluations after.evaluations
   pub gives_up : GivesUpWhenFull old new
   pub on_found : (ks : List Case) → IsClosed s ks → Has ks → SpentOn s old.found new.found before after done ks
-  pub on_kept : WhereRoom s Has old (λ ks. SpentOn s old.kept new.kept before after done ks)
-  pub saved : done ≡ true → WhereRoom s Has old (λ ks. Saved s old new before after ks)
+  pub on_kept : WhereSpace s Has old (λ ks. SpentOn s old.kept new.kept before after done ks)
+  pub saved : done ≡ true → WhereSpace s Has old (λ ks. Saved s old new before after ks)
 
 -- What is so after a whole question: of what it evaluates it needn't remember all where there is no room. So each closed list that
 -- has what it is to have bounds the counts by what all its cases cost, those too that were found.
@@ -55,8 +55,8 @@ pub record SpendsAtMost (s : Sheet) (Has : List Case → Type 0) (old new : Memo
   pub places : TakesNoMore old new before.evaluations after.evaluations
   pub gives_up : GivesUpWhenFull old new
   pub at_most : (ks : List Case) → IsClosed s ks → Has ks → NeverFall after (plus before (price s ks))
-  pub on_kept : WhereRoom s Has old (λ ks. SpentOn s old.kept new.kept before after done ks)
-  pub saved : done ≡ true → WhereRoom s Has old (λ ks. Saved s old new before after ks)
+  pub on_kept : WhereSpace s Has old (λ ks. SpentOn s old.kept new.kept before after done ks)
+  pub saved : done ≡ true → WhereSpace s Has old (λ ks. Saved s old new before after ks)
 
 -- What is so where a question has asked for the value of a cell under replacements: where it was found, and also where memory ran out.
 pub record ValuesCell (s : Sheet) (old new : MemoState) (w : List Replacement) (a : ℕ) (before after : Counts) (r : Result Value AllocError) : Type 0 where
@@ -68,4 +68,4 @@ pub record ValuesCell (s : Sheet) (old new : MemoState) (w : List Replacement) (
   -- The value is kept where anything is. Where there is room for some closed list of cases that has this one, the cell is settled:
   -- which list that is makes no difference, so it is left out.
   pub kept : OnOk r (IsValuedAnew s old w a → 1 ≤ old.capacity → new.kept a (reaching s a w) ≡ true)
-  pub settled : OnOk r (WhereRoom s (HasCase s w a) old (λ ks. IsSettled s new.kept w a))
+  pub settled : OnOk r (WhereSpace s (HasCase s w a) old (λ ks. IsSettled s new.kept w a))

@@ -53,10 +53,10 @@ HaveRests es rs = count_more es ≡ length rs
 -- ---- what the lists are seen as
 
 abbrev pub stack_state : Vec Entry → Vec Rest → StackState
-stack_state es rs = record { frames = frames_in es.items rs.items; room = vec_capacity es - vec_len es; more_room = vec_capacity rs - vec_len rs }
+stack_state es rs = record { frames = frames_in es.items rs.items; space = vec_capacity es - vec_len es; more_space = vec_capacity rs - vec_len rs }
 
-abbrev pub HaveRoom : Vec Entry → Vec Rest → Type 0
-HaveRoom es rs = (vec_len es < vec_capacity es) × (vec_len rs < vec_capacity rs)
+abbrev pub HaveSpace : Vec Entry → Vec Rest → Type 0
+HaveSpace es rs = (vec_len es < vec_capacity es) × (vec_len rs < vec_capacity rs)
 
 -- ---- one more, and one less
 

@@ -46,11 +46,11 @@ waits_for_one k t a = seen_as k t (record { lists = None }) (Some (a, [])) Nothi
 -- the frames, the lowest first; for how many more there is room, and for how many of those that have more than a cell
 pub record StackState : Type 0 where
   pub frames : List StackedFrame
-  pub room : ℕ
-  pub more_room : ℕ
+  pub space : ℕ
+  pub more_space : ℕ
 
-abbrev pub HasRoomForOne : StackState → Type 0
-HasRoomForOne s = (1 ≤ s.room) × (1 ≤ s.more_room)
+abbrev pub HasSpaceForOne : StackState → Type 0
+HasSpaceForOne s = (1 ≤ s.space) × (1 ≤ s.more_space)
 
 -- ---- their codes
 
@@ -64,4 +64,4 @@ frame_code k t f w c =
 abbrev pub stack_code : Coded StackedFrame → Coded StackState
 stack_code f =
     code_by (List StackedFrame × (ℕ × ℕ)) (coded× (coded_list f) (coded× coded_ℕ coded_ℕ))
-    (λ s. (s.frames, (s.room, s.more_room))) (λ p. record { frames = p.0; room = p.1.0; more_room = p.1.1 }) (λ _. refl)
+    (λ s. (s.frames, (s.space, s.more_space))) (λ p. record { frames = p.0; space = p.1.0; more_space = p.1.1 }) (λ _. refl)

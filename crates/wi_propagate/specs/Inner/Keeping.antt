@@ -62,7 +62,7 @@ state_in q = record {
   found = λ c w. is_some (value_in q (key_in q.generations c w));
   kept = λ c w. is_some (value_for q.values.entries (key_in q.generations c w));
   stands = λ k. is_some (value_for q.values.entries k);
-  room = q.values.capacity - length q.values.entries;
+  space = q.values.capacity - length q.values.entries;
   capacity = q.values.capacity;
   latest = q.edits;
 }

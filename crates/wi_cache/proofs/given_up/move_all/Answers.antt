@@ -13,16 +13,16 @@ moved-init c =
     let counted : vec_len c.args.list.now ≡ length items = grind (arith, common_steps) in
     let turned : c.reverse.new.self.items ≡ reverse items = c.reverse.ensures.items in
     let long : length c.reverse.new.self.items ≡ length items = ap (λ (l : Entries). length l) turned ∙ length-reverse items in
-    let room = c.in_ok-reserve.ensures.ok in
+    let space = c.in_ok-reserve.ensures.ok in
     record {
       whole = ap (λ (l : Entries). all_put c.reserve.new.self.entries (reverse l)) turned ∙ ap (all_put c.reserve.new.self.entries) (reverse-reverse items)
           ∙ ap (λ (es : Entries). all_put es items) c.reserve.ensures.entries;
-      room = omega (arith, long, counted, c.len.ensures, room);
+      space = omega (arith, long, counted, c.len.ensures, space);
     }
 
 pub put_in-requires : goal.put_in-requires
 put_in-requires c =
-    omega (arith, c.moved.invariant.room, one_popped c.moved.list.items c.pop.new.self.items c.in-Some.entry c.in-Some.ensures.items)
+    omega (arith, c.moved.invariant.space, one_popped c.moved.list.items c.pop.new.self.items c.in-Some.entry c.in-Some.ensures.items)
 
 pub moved-preserved : goal.moved-preserved
 moved-preserved c =
@@ -30,7 +30,7 @@ moved-preserved c =
     let put : c.put_in.new.table.entries ≡ insert_entry same_key c.moved.table.entries c.in-Some.entry.0 c.in-Some.entry.1 = search rules in
     record {
       whole = next_moved c.moved.table.entries c.put_in.new.table.entries c.moved.list.items c.pop.new.self.items c.in-Some.entry _ c.in-Some.ensures.items put c.moved.invariant.whole;
-      room = omega (arith, c.moved.invariant.room, popped, c.put_in.ensures.room);
+      space = omega (arith, c.moved.invariant.space, popped, c.put_in.ensures.space);
     }
 
 pub returns-in_err-reserve : goal.returns-in_err-reserve

@@ -7,7 +7,7 @@ use Rattle.wi_cache.proofs.given_up.move_all.Given as goal
 abbrev pub invariant-moved : goal.invariant-moved
 invariant-moved l = record {
   whole : all_put l.table.entries (reverse l.list.items) ≡ all_put l.fn.table.entries l.fn.list.items;
-  room : length l.list.items ≤ spare l.table;
+  space : length l.list.items ≤ spare l.table;
 }
 
 abbrev pub decreases-moved : goal.decreases-moved

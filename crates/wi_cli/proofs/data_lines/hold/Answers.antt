@@ -13,5 +13,5 @@ returns-then-not-wanted-clause-held g c = λ content no_lf e before h.
 pub returns-in-Ok-clause-held : goal.returns-in-Ok-clause-held
 returns-in-Ok-clause-held g c = λ content no_lf e before h. (
   added_short c.args.whole c.args.line.now content before no_lf e (omega arith) h.0,
-  λ w. added_bytes c.args.whole c.args.line.now content c.args.bytes.now.items c.append.new.bytes.items before e (omega arith) (c.in-Ok.ensures ∙ ap (λ (xs : List ℕ). xs ++ raw c.args.whole c.args.line.now) c.make_room.ensures.items) (h.1 w),
+  λ w. added_bytes c.args.whole c.args.line.now content c.args.bytes.now.items c.append.new.bytes.items before e (omega arith) (c.in-Ok.ensures ∙ ap (λ (xs : List ℕ). xs ++ raw c.args.whole c.args.line.now) c.reserve_bytes.ensures.items) (h.1 w),
 )

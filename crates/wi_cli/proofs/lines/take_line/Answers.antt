@@ -8,7 +8,7 @@ returns-in_err-fill-clause-reads g c =
     rw (p.1, p.2) (stops_unread (search rules) c.in_err-fill.ensures.failed)
 
 pub returns-then-not-branch-clause-reads : goal.returns-then-not-branch-clause-reads
-returns-then-not-branch-clause-reads g c = record { works = c.in_ok-fill.ensures.failed; room = search rules }
+returns-then-not-branch-clause-reads g c = record { works = c.in_ok-fill.ensures.failed; headroom = search rules }
 
 pub returns-then-not-allowed-clause-reads : goal.returns-then-not-allowed-clause-reads
 returns-then-not-allowed-clause-reads g c = search (rules, stops_limited)
@@ -29,7 +29,7 @@ loop-chunk-init g c =
       within = begun _ _ _ _ _ _ c.clear.ensures.items c.fill.ensures.kept;
       some = c.in_ok-fill.ensures.some c.if-not-branch.false;
       works = c.in_ok-fill.ensures.failed;
-      room = search rules;
+      headroom = search rules;
       may = search rules;
     }
 
@@ -40,7 +40,7 @@ loop-chunk-preserved g c =
       within = went_on _ _ _ _ _ _ _ _ _ _ old.within c.loop-chunk-test.ensures.took old.may c.fill-in-loop-chunk.ensures.kept;
       some = c.in_ok-fill-2.ensures.some c.if-not-branch-2.false;
       works = c.in_ok-fill-2.ensures.failed;
-      room = c.take_part.ensures.room;
+      headroom = c.take_part.ensures.headroom;
       may = old.may;
     }
 
@@ -60,15 +60,15 @@ returns-in_err-fill-2-clause-took g c =
     (went_on _ _ _ _ _ _ _ _ _ _ old.within c.loop-chunk-test.ensures.took old.may c.fill-in-loop-chunk.ensures.kept) c.in_err-fill-2.ensures.empty)
 
 pub returns-then-not-branch-2-clause-reads : goal.returns-then-not-branch-2-clause-reads
-returns-then-not-branch-2-clause-reads g c = record { works = c.in_ok-fill-2.ensures.failed; room = c.take_part.ensures.room }
+returns-then-not-branch-2-clause-reads g c = record { works = c.in_ok-fill-2.ensures.failed; headroom = c.take_part.ensures.headroom }
 
 pub returns-in_err-fill-2-clause-reads : goal.returns-in_err-fill-2-clause-reads
 returns-in_err-fill-2-clause-reads g c =
     let p = err_from_is_err_and c.from_residual-in_err-fill-2.result c.from_residual-in_err-fill-2.ensures.1 in
-    rw (p.1, p.2) (stops_unread c.take_part.ensures.room c.in_err-fill-2.ensures.failed)
+    rw (p.1, p.2) (stops_unread c.take_part.ensures.headroom c.in_err-fill-2.ensures.failed)
 
 pub returns-clause-reads : goal.returns-clause-reads
-returns-clause-reads g c = record { works = c.loop-chunk.invariant.works; room = search rules }
+returns-clause-reads g c = record { works = c.loop-chunk.invariant.works; headroom = search rules }
 
 pub returns-clause-took : goal.returns-clause-took
 returns-clause-took g c =

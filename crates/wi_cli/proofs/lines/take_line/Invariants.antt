@@ -9,7 +9,7 @@ invariant-loop-chunk g l =
       within : IsWithin l.allowed l.fn.chunk (left l.fn.source) l.chunk (left l.source) l.line.items;
       some : 0 < length l.chunk;
       works : g.R.Source.has_failed l.source ≡ false;
-      room : 65537 ≤ vec_capacity l.line;
+      headroom : 65537 ≤ vec_capacity l.line;
       may : l.allowed ≡ true;
     }
 

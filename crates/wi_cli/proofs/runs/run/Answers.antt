@@ -9,7 +9,7 @@ turns-init g c =
     record {
       going = rw c.new-chunk.ensures (going_none _ _ _);
       few = omega arith;
-      reads = record { works = c.requires.reads; room = search rules };
+      reads = record { works = c.requires.reads; headroom = search rules };
       writes = c.requires.writes;
     }
 

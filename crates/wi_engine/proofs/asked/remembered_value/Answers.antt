@@ -1,6 +1,6 @@
 use Rattle.wi_engine.proofs.Words.{refl, ap, ◌∙◌, has_formula, put_formula}
 use Rattle.wi_engine.proofs.engine.NextCases.{known_value, unvalued, stands_below}
-use Rattle.wi_engine.proofs.engine.RunsWithRoom.{found_easy}
+use Rattle.wi_engine.proofs.engine.RunsWithSpace.{found_easy}
 use Rattle.wi_engine.proofs.asked.remembered_value.Goals as goal
 
 pub key-requires : goal.key-requires

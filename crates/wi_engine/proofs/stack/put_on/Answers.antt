@@ -1,8 +1,8 @@
 use Rattle.wi_engine.proofs.Words.{◌∙◌}
 use Rattle.wi_engine.proofs.stack.put_on.Goals as goal
 
-pub put_one_cell-requires-clause-room : goal.put_one_cell-requires-clause-room
-put_one_cell-requires-clause-room c = c.requires.room.0
+pub put_one_cell-requires-clause-space : goal.put_one_cell-requires-clause-space
+put_one_cell-requires-clause-space c = c.requires.space.0
 
 pub put_one_cell-requires-clause-alone : goal.put_one_cell-requires-clause-alone
 put_one_cell-requires-clause-alone c = c.in-Some.ensures
@@ -13,8 +13,8 @@ returns-in-Some-clause-rests c = c.put_one_cell.ensures.rests ∙ c.requires.res
 pub returns-in-Some-clause-frames : goal.returns-in-Some-clause-frames
 returns-in-Some-clause-frames c = c.put_one_cell.ensures.frames c.args.rests.now.items
 
-pub put_with_rest-requires-clause-room : goal.put_with_rest-requires-clause-room
-put_with_rest-requires-clause-room c = c.requires.room
+pub put_with_rest-requires-clause-space : goal.put_with_rest-requires-clause-space
+put_with_rest-requires-clause-space c = c.requires.space
 
 pub put_with_rest-requires-clause-rests : goal.put_with_rest-requires-clause-rests
 put_with_rest-requires-clause-rests c = c.requires.rests

@@ -2,14 +2,14 @@ use Rattle.wi_propagate.proofs.Words.{◌∙◌, ◌&&◌, ◌||◌, not, [], �
 use Rattle.wi_propagate.proofs.settling.settle_one.Goals as goal
 
 pub lift-requires : goal.lift-requires
-lift-requires c = λ d m. c.in_ok-make_room.ensures.there d (ap (λ (xs : List ℕ). is_one_of xs d) (c.deref-2.ensures ∙ sym c.deref-3.ensures) ∙ m)
+lift-requires c = λ d m. c.in_ok-reserve.ensures.there d (ap (λ (xs : List ℕ). is_one_of xs d) (c.deref-2.ensures ∙ sym c.deref-3.ensures) ∙ m)
 
 pub returns-clause-noted : goal.returns-clause-noted
 returns-clause-noted c = λ s a d.
-    let made = c.make_room.new.generations.entries in
+    let made = c.reserve.new.generations.entries in
     c.lift.ensures d ∙ ap (λ (xs : List ℕ). if is_one_of xs d then max (generation_in made d) c.args.number else generation_in made d) c.deref-3.ensures
     ∙ ap (λ (b : Bool). if b then max (generation_in made d) c.args.number else generation_in made d) (c.in_ok-cone.ensures s a d)
-    ∙ ap (λ (m : ℕ). if in_cone s (c.args.at ∷ []) d && not (has_seen c.args.seen.now d) then max m c.args.number else m) (c.in_ok-make_room.ensures.same d)
+    ∙ ap (λ (m : ℕ). if in_cone s (c.args.at ∷ []) d && not (has_seen c.args.seen.now d) then max m c.args.number else m) (c.in_ok-reserve.ensures.same d)
 
 pub returns-clause-seen : goal.returns-clause-seen
 returns-clause-seen c = λ s a d.

@@ -1,5 +1,5 @@
-use Rattle.wi_propagate.proofs.Words.{List, Option, Ok, OnOk, Case, ap, subst, Value, HasEntry, IsWhatIfSettled, MemoState, WhereRoom}
-use Rattle.wi_propagate.proofs.EntryQuestions.{entry_no_room, spends_from}
+use Rattle.wi_propagate.proofs.Words.{List, Option, Ok, OnOk, Case, ap, subst, Value, HasEntry, IsWhatIfSettled, MemoState, WhereSpace}
+use Rattle.wi_propagate.proofs.EntryQuestions.{entry_no_space, spends_from}
 use Rattle.wi_propagate.proofs.table_entry.planned_entry.Goals as goal
 
 -- ---- by a plan
@@ -9,7 +9,7 @@ returns-in-Some-clause-settled g c =
     let s = c.args.store.now.sheet in
     let w = c.args.world.now in
     let full = rw c.in-Some.is at c.in_ok-value.ensures.unkept in
-    entry_no_room s w c.args.formula_cell c.args.pairs.now (λ ks. IsWhatIfSettled s (g.M.Memo.state c.entry_by_plan.new.question.memo).kept w (c.args.formula_cell, c.args.pairs.now)) full.0 full.1
+    entry_no_space s w c.args.formula_cell c.args.pairs.now (λ ks. IsWhatIfSettled s (g.M.Memo.state c.entry_by_plan.new.question.memo).kept w (c.args.formula_cell, c.args.pairs.now)) full.0 full.1
 
 -- ---- without one
 
@@ -23,4 +23,4 @@ returns-in-None-clause-settled g c =
     let s = c.args.store.now.sheet in
     let w = c.args.world.now in
     let none = c.in_ok-value.ensures.none (ap (λ (o : Option Value). Ok o) c.in-None.is) in
-    subst (λ (x : MemoState). OnOk c.open_entry-result.result (WhereRoom s (HasEntry s w c.args.formula_cell c.args.pairs.now) x (λ ks. IsWhatIfSettled s (g.M.Memo.state c.open_entry-result.new.question.memo).kept w (c.args.formula_cell, c.args.pairs.now)))) none.0 c.open_entry-result.ensures.settled
+    subst (λ (x : MemoState). OnOk c.open_entry-result.result (WhereSpace s (HasEntry s w c.args.formula_cell c.args.pairs.now) x (λ ks. IsWhatIfSettled s (g.M.Memo.state c.open_entry-result.new.question.memo).kept w (c.args.formula_cell, c.args.pairs.now)))) none.0 c.open_entry-result.ensures.settled

@@ -1,4 +1,4 @@
-use Rattle.wi_propagate.proofs.Words.{◌≡◌, All, List, ℕ, Bool, take, ap, sym, refl, subst, ◌∙◌, arith, common_steps, IfOk-weaker, put_all, replacements, cell_value, IsSettled, HasReplacing, replaced_world, MayBeRead, WhereRoom, spends_then, spends_weaken, spends_err}
+use Rattle.wi_propagate.proofs.Words.{◌≡◌, All, List, ℕ, Bool, take, ap, sym, refl, subst, ◌∙◌, arith, common_steps, IfOk-weaker, put_all, replacements, cell_value, IsSettled, HasReplacing, replaced_world, MayBeRead, WhereSpace, spends_then, spends_weaken, spends_err}
 use Rattle.wi_propagate.proofs.EntryQuestions.{has_pair, more_settled}
 use Rattle.wi_propagate.proofs.table_entry.with_inputs.Goals as goal
 
@@ -15,7 +15,7 @@ returns-clause-settled g c =
     let s = c.args.store.now.sheet in
     let w = c.args.world.now in
     let whole : take c.loop-pair.pair-index c.args.pairs.now ≡ c.args.pairs.now = grind (arith, common_steps) in
-    let there = subst (λ (ps : List (ℕ × ℕ)). WhereRoom s (HasReplacing s w c.args.pairs.now) (g.M.Memo.state c.args.question.now.memo) (λ ks. All (λ p. IsSettled s (g.M.Memo.state c.loop-pair.question.memo).kept w p.1) ps)) whole c.loop-pair.invariant.settled in
+    let there = subst (λ (ps : List (ℕ × ℕ)). WhereSpace s (HasReplacing s w c.args.pairs.now) (g.M.Memo.state c.args.question.now.memo) (λ ks. All (λ p. IsSettled s (g.M.Memo.state c.loop-pair.question.memo).kept w p.1) ps)) whole c.loop-pair.invariant.settled in
     IfOk-weaker c.with.result _ _ (λ v h. there) c.with.ensures.list
 
 pub loop-pair-preserved : goal.loop-pair-preserved

@@ -8,5 +8,5 @@ invariant-loop-cell l =
       counted : l.count + length left ≡ length (picked l.replacements l.cells);
       within : l.count ≤ l.cell-index;
       ahead : (l.is_last && same_replacements (drop l.count l.last) left) ≡ same_replacements l.last (picked l.replacements l.cells);
-      room : l.is_last ≡ true → l.count ≤ length l.last;
+      space : l.is_last ≡ true → l.count ≤ length l.last;
     }

@@ -8,5 +8,5 @@ invariant-loop-replacement l =
       counted : l.count ≡ length (filter p (take l.replacement-index l.replacements));
       within : l.count ≤ l.replacement-index;
       ahead : (l.is_last && same_replacements (drop l.count l.last) (filter p (drop l.replacement-index l.replacements))) ≡ same_replacements l.last (filter p l.replacements);
-      room : l.is_last ≡ true → l.count ≤ length l.last;
+      space : l.is_last ≡ true → l.count ≤ length l.last;
     }

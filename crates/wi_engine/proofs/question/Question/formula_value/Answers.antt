@@ -1,5 +1,5 @@
 use Rattle.wi_engine.proofs.Words.{◌∙◌, ap, sym, subst, Sheet, content_of, put_all, MemoState, IsMemoOf, MayBeRead, IsUnvaluedKey}
-use Rattle.wi_engine.proofs.engine.RunsWithRoom.{values_known, values_none, values_then}
+use Rattle.wi_engine.proofs.engine.RunsWithSpace.{values_known, values_none, values_then}
 use Rattle.wi_engine.proofs.question.Question.formula_value.Goals as goal
 
 -- ---- what is asked of the memory, whose sheet is the store's, and of the run

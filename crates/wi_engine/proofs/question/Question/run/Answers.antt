@@ -42,7 +42,7 @@ frames-preserved-in-Unvalued g c =
     rw a.steps.same (over_deeper c.frames.invariant turn more)
 
 pub push_reserved-requires : goal.push_reserved-requires
-push_reserved-requires g c = c.in_ok-reserve-in-Unvalued.ensures.room
+push_reserved-requires g c = c.in_ok-reserve-in-Unvalued.ensures.space
 
 pub take_in-requires-clause-awaits : goal.take_in-requires-clause-awaits
 take_in-requires-clause-awaits g c = below_awaits (over_below c.pop.new.frame c.frames.invariant c.in-Some.ensures.frames)

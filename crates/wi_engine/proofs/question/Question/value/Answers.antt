@@ -1,5 +1,5 @@
 use Rattle.wi_engine.proofs.Words.{subst, sym, MemoState, IsMemoOf, IsUnvaluedKey}
-use Rattle.wi_engine.proofs.engine.RunsWithRoom.{values_known, values_none, values_then}
+use Rattle.wi_engine.proofs.engine.RunsWithSpace.{values_known, values_none, values_then}
 use Rattle.wi_engine.proofs.question.Question.value.Goals as goal
 
 -- ---- what is asked of the memory, and of the run

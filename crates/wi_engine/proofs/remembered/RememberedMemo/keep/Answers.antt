@@ -12,7 +12,7 @@ returns-clause-keeps c =
       known = rw (← same) (known_kept c.keep.result c.self.inside.table c.keep.new.self c.args.key c.args.value c.keep.ensures.ok c.keep.ensures.err);
       told = search rules;
       places = λ ks d. omega arith;
-      gives_up = record { room = omega arith; stays = λ r k i. i };
+      gives_up = record { space = omega arith; stays = λ r k i. i };
     }
 
 pub returns-clause-found : goal.returns-clause-found

@@ -1,12 +1,12 @@
-use Rattle.wi_engine.proofs.Words.{◌++◌, ◌∷◌, [], ◌∙◌, ap, sym, subst, vec_capacity, vec_len, HasRoomForOne, StackState, stacked}
-use Rattle.wi_engine.proofs.stack.FramesOnTop.{room_there}
+use Rattle.wi_engine.proofs.Words.{◌++◌, ◌∷◌, [], ◌∙◌, ap, sym, subst, vec_capacity, vec_len, HasSpaceForOne, StackState, stacked}
+use Rattle.wi_engine.proofs.stack.FramesOnTop.{space_there}
 use Rattle.wi_engine.proofs.stack.Stack.push_reserved.Goals as goal
 
-pub put_on-requires-clause-room : goal.put_on-requires-clause-room
-put_on-requires-clause-room c =
+pub put_on-requires-clause-space : goal.put_on-requires-clause-space
+put_on-requires-clause-space c =
     let es = c.self.inside.entries in
     let rs = c.self.inside.rests in
-    room_there (vec_len es) (vec_capacity es) (vec_len rs) (vec_capacity rs) (subst (λ (s : StackState). HasRoomForOne s) (sym c.self.view_is) c.requires)
+    space_there (vec_len es) (vec_capacity es) (vec_len rs) (vec_capacity rs) (subst (λ (s : StackState). HasSpaceForOne s) (sym c.self.view_is) c.requires)
 
 pub put_on-requires-clause-rests : goal.put_on-requires-clause-rests
 put_on-requires-clause-rests c = c.self.invariant

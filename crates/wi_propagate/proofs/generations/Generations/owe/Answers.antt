@@ -11,4 +11,4 @@ returns-clause-stays c = λ d h.
     key_there c.owe_read.new.generations.entries d (c.in_ok-owe_read.ensures.stay d (there_key c.self.inside.owed.entries d (ap (λ (g : Noted). is_one_of g.owed d) c.self.view_is ∙ h)))
 
 pub returns-clause-owed : goal.returns-clause-owed
-returns-clause-owed c = on_ok c.make_room.result (λ s a x m. owed_key c.owe_read.new.generations.entries x (c.in_ok-owe_read.ensures.owed s a x m))
+returns-clause-owed c = on_ok c.reserve.result (λ s a x m. owed_key c.owe_read.new.generations.entries x (c.in_ok-owe_read.ensures.owed s a x m))

@@ -14,7 +14,7 @@ kept : (c : goal.After-self-2-1) → KeptAtHand c.args.self.now (keeping c.self.
 kept c =
     let i = c.self.inside in
     let carried = c.deref_mut-carried.result.now in
-    let takes : TakesOver (going carried.kept c.args.key) carried.given_up.entries c.give_up.new.given_up.entries = given_over c.give_up.new.given_up.entries c.in_ok-gone.ensures.gone c.make_room.ensures.entries c.give_up.ensures in
+    let takes : TakesOver (going carried.kept c.args.key) carried.given_up.entries c.give_up.new.given_up.entries = given_over c.give_up.new.given_up.entries c.in_ok-gone.ensures.gone c.make_space.ensures.entries c.give_up.ensures in
     kept_at_hand i.store.now.sheet i.store.now.edits (told i.store.now.sheet i.generations.now.named) carried i.carried.value c.args.self.now c.deref_mut-carried.ensures.value c.self.view_is c.args.key c.args.value c.keep.new.self (keeps c) c.requires.generation c.give_up.new.given_up.entries c.len.ensures.one_each takes
 
 pub returns-clause-keeps : goal.returns-clause-keeps
@@ -31,8 +31,8 @@ returns-clause-stays c = (kept c).remembers.stays
 
 pub give_up-requires : goal.give_up-requires
 give_up-requires c =
-    let room = c.in_ok-make_room.ensures.room c.args.key in
-    subst (λ (o : Option (Key × Value)). IfSome o (λ _. 1 ≤ c.make_room.new.given_up.room)) (sym c.in_ok-gone.ensures.gone) room
+    let space = c.in_ok-make_space.ensures.space c.args.key in
+    subst (λ (o : Option (Key × Value)). IfSome o (λ _. 1 ≤ c.make_space.new.given_up.space)) (sym c.in_ok-gone.ensures.gone) space
 
 pub invariant_of-self-2 : goal.invariant_of-self-2
 invariant_of-self-2 c =
@@ -49,23 +49,23 @@ invariant_of-self-2 c =
 
 -- ---- memory ran out
 
-no_room : (c : goal.Joined-key) → Remembers c.args.self.now (keeping c.self.inside.store.now.sheet c.self.inside.store.now.edits (told c.self.inside.store.now.sheet c.self.inside.generations.now.named) c.make_room.new.given_up.entries c.deref_mut-carried.result.now.kept) c.args.key c.args.value
-no_room c =
+no_space : (c : goal.Joined-key) → Remembers c.args.self.now (keeping c.self.inside.store.now.sheet c.self.inside.store.now.edits (told c.self.inside.store.now.sheet c.self.inside.generations.now.named) c.make_space.new.given_up.entries c.deref_mut-carried.result.now.kept) c.args.key c.args.value
+no_space c =
     let i = c.self.inside in
     let carried = c.deref_mut-carried.result.now in
-    out_of_memory i.store.now.sheet i.store.now.edits (told i.store.now.sheet i.generations.now.named) carried i.carried.value c.args.self.now c.deref_mut-carried.ensures.value c.self.view_is c.args.key c.args.value c.make_room.new.given_up.entries carried.kept c.make_room.ensures.entries refl
+    out_of_memory i.store.now.sheet i.store.now.edits (told i.store.now.sheet i.generations.now.named) carried i.carried.value c.args.self.now c.deref_mut-carried.ensures.value c.self.view_is c.args.key c.args.value c.make_space.new.given_up.entries carried.kept c.make_space.ensures.entries refl
 
-pub returns-in_err-make_room-clause-keeps : goal.returns-in_err-make_room-clause-keeps
-returns-in_err-make_room-clause-keeps c = (no_room c).keeps
+pub returns-in_err-make_space-clause-keeps : goal.returns-in_err-make_space-clause-keeps
+returns-in_err-make_space-clause-keeps c = (no_space c).keeps
 
-pub returns-in_err-make_room-clause-stays : goal.returns-in_err-make_room-clause-stays
-returns-in_err-make_room-clause-stays c = (no_room c).stays
+pub returns-in_err-make_space-clause-stays : goal.returns-in_err-make_space-clause-stays
+returns-in_err-make_space-clause-stays c = (no_space c).stays
 
-not_kept : (c : goal.After-from_residual-in_err-gone) → Remembers c.args.self.now (keeping c.self.inside.store.now.sheet c.self.inside.store.now.edits (told c.self.inside.store.now.sheet c.self.inside.generations.now.named) c.make_room.new.given_up.entries c.keep.new.self) c.args.key c.args.value
+not_kept : (c : goal.After-from_residual-in_err-gone) → Remembers c.args.self.now (keeping c.self.inside.store.now.sheet c.self.inside.store.now.edits (told c.self.inside.store.now.sheet c.self.inside.generations.now.named) c.make_space.new.given_up.entries c.keep.new.self) c.args.key c.args.value
 not_kept c =
     let i = c.self.inside in
     let carried = c.deref_mut-carried.result.now in
-    out_of_memory i.store.now.sheet i.store.now.edits (told i.store.now.sheet i.generations.now.named) carried i.carried.value c.args.self.now c.deref_mut-carried.ensures.value c.self.view_is c.args.key c.args.value c.make_room.new.given_up.entries c.keep.new.self c.make_room.ensures.entries c.in_err-gone.ensures.err
+    out_of_memory i.store.now.sheet i.store.now.edits (told i.store.now.sheet i.generations.now.named) carried i.carried.value c.args.self.now c.deref_mut-carried.ensures.value c.self.view_is c.args.key c.args.value c.make_space.new.given_up.entries c.keep.new.self c.make_space.ensures.entries c.in_err-gone.ensures.err
 
 pub returns-in_err-gone-clause-keeps : goal.returns-in_err-gone-clause-keeps
 returns-in_err-gone-clause-keeps c = (not_kept c).keeps

@@ -89,7 +89,7 @@ returns-clause-kept c =
     let e = c.formula_value-result.ensures in
     subst (λ (x : KeptSheet). OnOk c.formula_value-result.result ((IsAtHand x c.args.put.now c.args.at → ⊥) → is_kept new c.args.at (reaching x.stored.sheet c.args.at c.args.put.now) ≡ true)) view
     (IfOk-weaker c.formula_value-result.result _ _ (λ v h. asked_kept q c.in_ok-world.world c.args.put.now c.args.at o c.in_ok-world.ensures c.formula_value-result.new.self.memo c.into_carried.result.value.kept c.formula_value-result.new.self.meter
-    e.spends.same c.into_carried.ensures.kept c.self.invariant.3.room h) e.kept)
+    e.spends.same c.into_carried.ensures.kept c.self.invariant.3.space h) e.kept)
 
 pub new-memo-requires-clause-cones : goal.new-memo-requires-clause-cones
 new-memo-requires-clause-cones c = c.take_carried-carried.ensures.cones c.self.inside.store.sheet c.self.invariant.4

@@ -1,4 +1,4 @@
-use Rattle.wi_propagate.proofs.Words.{Some, is_ok, get_or, ◌≡◌, All, IfOk, OnOk, false, ℕ, List, ap, subst, IfOk-weaker, circular, HasEntry, table_entry, entry_demanded, IsWhatIfSettled, table_closed, entry_has, entry_shown, KeptSheet, generation_in, HasRoomFor, is_kept, told, noted_in, state_in, Owes}
+use Rattle.wi_propagate.proofs.Words.{Some, is_ok, get_or, ◌≡◌, All, IfOk, OnOk, false, ℕ, List, ap, subst, IfOk-weaker, circular, HasEntry, table_entry, entry_demanded, IsWhatIfSettled, table_closed, entry_has, entry_shown, KeptSheet, generation_in, HasSpaceFor, is_kept, told, noted_in, state_in, Owes}
 use Rattle.wi_propagate.proofs.NotedSteps.{all_noted}
 use Rattle.wi_propagate.proofs.SettlingSteps.{owed_over}
 use Rattle.wi_propagate.proofs.Questions.{but_plans, with_plans, begins, begun_right, may_be_read, asked_where, asked_settled, circular_entry, circular_clash, open_cells, owes_none, owes_settled, owes_spent, settled_view, settled_right, holds_asked, holds_settled}
@@ -9,7 +9,7 @@ returns-then-entry_is_circular-clause-value c =
     circular_entry c.self.inside.store.sheet c.args.self.now.stored.sheet c.args.put.now c.args.formula_cell c.args.pairs.now c.entry_is_circular.result (ap (λ (x : KeptSheet). x.stored.sheet) c.self.view_is) (c.entry_is_circular.ensures c.self.inside.store.sheet c.self.invariant.1) c.if-entry_is_circular.true
 
 pub returns-then-entry_is_circular-clause-settled : goal.returns-then-entry_is_circular-clause-settled
-returns-then-entry_is_circular-clause-settled c = λ room one all.
+returns-then-entry_is_circular-clause-settled c = λ space one all.
     circular_clash c.self.inside.store.sheet c.args.self.now.stored.sheet c.args.formula_cell c.args.pairs.now c.entry_is_circular.result (ap (λ (x : KeptSheet). x.stored.sheet) c.self.view_is) (c.entry_is_circular.ensures c.self.inside.store.sheet c.self.invariant.1) c.if-entry_is_circular.true one all
 
 pub new-memo-requires-clause-right : goal.new-memo-requires-clause-right
@@ -62,10 +62,10 @@ returns-clause-settled c =
     let new : KeptSheet = record { stored = i.store; generations = told i.store.sheet c.settle.new.self.named; values = c.into_carried.result.value.kept; counts = c.planned_entry-result.new.question.meter } in
     let e = c.planned_entry-result.ensures in
     let x : ℕ × List (ℕ × ℕ) = (c.args.formula_cell, c.args.pairs.now) in
-    subst (λ (y : KeptSheet). OnOk c.planned_entry-result.result (HasRoomFor y (entry_demanded y.stored.sheet c.args.put.now c.args.formula_cell c.args.pairs.now) → circular y.stored.sheet c.args.formula_cell ≡ false → All (λ p. circular y.stored.sheet p.1 ≡ false) c.args.pairs.now
+    subst (λ (y : KeptSheet). OnOk c.planned_entry-result.result (HasSpaceFor y (entry_demanded y.stored.sheet c.args.put.now c.args.formula_cell c.args.pairs.now) → circular y.stored.sheet c.args.formula_cell ≡ false → All (λ p. circular y.stored.sheet p.1 ≡ false) c.args.pairs.now
     → IsWhatIfSettled y.stored.sheet (is_kept new) c.args.put.now x)) view
-    (IfOk-weaker c.planned_entry-result.result _ _ (λ v g room a b. asked_settled q c.planned_entry-result.new.question.memo c.into_carried.result.value.kept c.planned_entry-result.new.question.meter e.spends.same c.into_carried.ensures.kept c.in_ok-world.world c.args.put.now x c.in_ok-world.ensures
-    (asked_where q (λ ks. IsWhatIfSettled s (state_in c.planned_entry-result.new.question.memo).kept c.in_ok-world.world x) cases Has g closed has room)) e.settled)
+    (IfOk-weaker c.planned_entry-result.result _ _ (λ v g space a b. asked_settled q c.planned_entry-result.new.question.memo c.into_carried.result.value.kept c.planned_entry-result.new.question.meter e.spends.same c.into_carried.ensures.kept c.in_ok-world.world c.args.put.now x c.in_ok-world.ensures
+    (asked_where q (λ ks. IsWhatIfSettled s (state_in c.planned_entry-result.new.question.memo).kept c.in_ok-world.world x) cases Has g closed has space)) e.settled)
 
 pub new-memo-requires-clause-cones : goal.new-memo-requires-clause-cones
 new-memo-requires-clause-cones c = c.take_carried-carried.ensures.cones c.self.inside.store.sheet c.self.invariant.4

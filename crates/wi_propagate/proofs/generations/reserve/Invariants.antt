@@ -1,5 +1,5 @@
 use Rattle.wi_propagate.proofs.Words.{◌≡◌, ℕ, true, take, is_one_of, generation_in, HasGeneration}
-use Rattle.wi_propagate.proofs.generations.make_room.Given as goal
+use Rattle.wi_propagate.proofs.generations.reserve.Given as goal
 
 abbrev pub invariant-loop-cell : goal.invariant-loop-cell
 invariant-loop-cell l = record {

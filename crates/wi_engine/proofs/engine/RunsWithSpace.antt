@@ -1,5 +1,5 @@
 -- A run of frames while there is room for all that it finds.
-use Rattle.wi_engine.proofs.Words.{◌≡◌, ◌≤◌, ◌+◌, ◌⊎◌, inl, inr, ◌||◌, ℕ, Bool, true, false, List, [], ◌∷◌, ◌++◌, Contains, Option, Some, is_some, Result, Ok, Err, IfOk, IsErr, OnOk, is_ok, IfOk-weaker, on_ok_weaker, refl, ap, sym, ◌∙◌, subst, arith, or_cases, or_from, or_left, or_right, true≢false, AllocError, Value, Replacement, Sheet, put_all, Counts, Key, cell_value, Case, case_of, reaching, same_case, Table, IsClosed, HasCase, SpentOn, IsSettled, RestsOnKept, same_case-refl, reaching_suffices, one_less_left, MemoState, IsTold, IsMemoOf, case_at, IsFormulaKey, IsUnvaluedKey, IsUnvalued, IsNext, not_kept, KeepsFound, WhereRoom, NeedsNoEvaluation, IsValuedAnew, Saved, Spends, ValuesCell, IsShownNow, FrameTakes, Keeps, Frame}
+use Rattle.wi_engine.proofs.Words.{◌≡◌, ◌≤◌, ◌+◌, ◌⊎◌, inl, inr, ◌||◌, ℕ, Bool, true, false, List, [], ◌∷◌, ◌++◌, Contains, Option, Some, is_some, Result, Ok, Err, IfOk, IsErr, OnOk, is_ok, IfOk-weaker, on_ok_weaker, refl, ap, sym, ◌∙◌, subst, arith, or_cases, or_from, or_left, or_right, true≢false, AllocError, Value, Replacement, Sheet, put_all, Counts, Key, cell_value, Case, case_of, reaching, same_case, Table, IsClosed, HasCase, SpentOn, IsSettled, RestsOnKept, same_case-refl, reaching_suffices, one_less_left, MemoState, IsTold, IsMemoOf, case_at, IsFormulaKey, IsUnvaluedKey, IsUnvalued, IsNext, not_kept, KeepsFound, WhereSpace, NeedsNoEvaluation, IsValuedAnew, Saved, Spends, ValuesCell, IsShownNow, FrameTakes, Keeps, Frame}
 use Rattle.wi_engine.proofs.Places.{none_went}
 use Rattle.wi_engine.proofs.Ledger.{spends_none, spends_weaken}
 use Rattle.wi_engine.proofs.engine.NextCases.{unvalued_case}
@@ -11,7 +11,7 @@ use Rattle.wi_engine.proofs.engine.FrameRuns.{IsRunning, IsNew, Finds, GoesDeepe
 
 -- a memory, seen as if what is kept were what was found
 abbrev pub by_kept : MemoState → MemoState
-by_kept m = record { sheet = m.sheet; covers = m.covers; generation = m.generation; known = m.known; found = m.kept; kept = m.kept; stands = m.stands; room = m.room; capacity = m.capacity; latest = m.latest }
+by_kept m = record { sheet = m.sheet; covers = m.covers; generation = m.generation; known = m.known; found = m.kept; kept = m.kept; stands = m.stands; space = m.space; capacity = m.capacity; latest = m.latest }
 
 once : (a b c : Bool) → a ≡ (b || c) → (b ≡ true → c ≡ true) → a ≡ (c || c)
 once a true true e h = e
@@ -43,7 +43,7 @@ kept_keeps m n k v w h = record {
   known = h.known;
   told = kept_told n h.told w;
   places = h.places;
-  gives_up = record { room = h.gives_up.room; stays = h.gives_up.stays };
+  gives_up = record { space = h.gives_up.space; stays = h.gives_up.stays };
 }
 
 -- a turn, seen so
@@ -67,18 +67,18 @@ kept_deeper {s} {m} {now} {next} {f} {h} {g} {k} whole t = record {
 pub record IsSaving (s : Sheet) (old m : MemoState) (root : Case) (start now : Counts) (fs : List Frame) (f : Frame) (ks : List Case) : Type 0 where
   pub running : IsRunning s (by_kept old) (by_kept m) root start now fs f
   pub whole : KeepsFound m
-  pub added : now.evaluations + m.room ≤ start.evaluations + old.room
-  pub room : not_kept m ks ≤ m.room
+  pub added : now.evaluations + m.space ≤ start.evaluations + old.space
+  pub space : not_kept m ks ≤ m.space
   pub stays : (c : ℕ) (w : List Replacement) → old.kept c w ≡ true → m.kept c w ≡ true
   pub stand : (k : Key) → old.stands k ≡ true → m.stands k ≡ true
   pub settling : IsSettling s old m fs f
 
-pub saving_start : (s : Sheet) (m : MemoState) (k : Key) (f : Frame) (now : Counts) (ks : List Case) → IsMemoOf s m → IsUnvaluedKey s m k → IsNew s f k → KeepsFound m → not_kept m ks ≤ m.room → IsSaving s m m (case_at k) now now [] f ks
-saving_start s m k f now ks h key n whole room = record {
+pub saving_start : (s : Sheet) (m : MemoState) (k : Key) (f : Frame) (now : Counts) (ks : List Case) → IsMemoOf s m → IsUnvaluedKey s m k → IsNew s f k → KeepsFound m → not_kept m ks ≤ m.space → IsSaving s m m (case_at k) now now [] f ks
+saving_start s m k f now ks h key n whole space = record {
   running = run_start s (by_kept m) k f now (kept_memory_of s m h whole) (kept_to_value s m k key.key) key.unkept n;
   whole = whole;
   added = omega arith;
-  room = room;
+  space = space;
   stays = λ c v i. i;
   stand = λ j i. i;
   settling = settling_start s m f k n;
@@ -89,7 +89,7 @@ saving_deeper {s} {old} {m} {root} {start} {now} {next} {fs} {f} {h} {g} {k} {ks
   running = run_deeper i.running (kept_deeper i.whole t);
   whole = i.whole;
   added = let a = i.added in let e = t.evaluations in omega (arith, a, e);
-  room = i.room;
+  space = i.space;
   stays = i.stays;
   stand = i.stand;
   settling = settling_push s old m fs f h g k i.settling (t.steps.settled refl i.whole i.settling.top) t.new;
@@ -100,7 +100,7 @@ saving_take {s} {old} {m} {root} {start} {now} {fs} {f} {g} {ks} {k} t there i =
   running = run_take i.running t.key (t.frame refl (by_kept m) i.running.begun.frame) (t.fewer refl);
   whole = i.whole;
   added = i.added;
-  room = i.room;
+  space = i.space;
   stays = i.stays;
   stand = i.stand;
   settling = record { top = t.settled refl m.kept there i.settling.top; below = i.settling.below; rests = i.settling.rests };
@@ -118,30 +118,30 @@ module _ {s : Sheet} {old m n : MemoState} {root : Case} {start now next : Count
   demanded = i.running.begun.demanded ks closed top
 
   -- there is a place for the value
-  place : 1 ≤ m.room
+  place : 1 ≤ m.space
   place =
       let some = one_less_left m.kept (λ c w. m.kept c w || same_case (case_at f.key) (c, w)) (case_at f.key) ks (λ c w. refl) i.running.begun.unfound demanded in
-      let r = i.room in
+      let r = i.space in
       omega (arith, some, r)
 
   kept : (c : ℕ) (w : List Replacement) → n.kept c w ≡ (m.kept c w || same_case (case_at f.key) (c, w))
   kept = t.found.kept place
 
   -- which it takes
-  takes : n.room + 1 ≡ m.room
-  takes = t.found.room i.running.begun.unfound place
+  takes : n.space + 1 ≡ m.space
+  takes = t.found.space i.running.begun.unfound place
 
-  still : not_kept n ks ≤ n.room
+  still : not_kept n ks ≤ n.space
   still =
       let less = one_less_left m.kept n.kept (case_at f.key) ks kept i.running.begun.unfound demanded in
-      let r = i.room in
+      let r = i.space in
       let taken = takes in
       omega (arith, less, r, taken)
 
   whole_then : KeepsFound n
   whole_then = whole_after m n f.key t.found.found kept i.whole
 
-  added_then : next.evaluations + n.room ≤ start.evaluations + old.room
+  added_then : next.evaluations + n.space ≤ start.evaluations + old.space
   added_then =
       let added = i.added in
       let taken = takes in
@@ -166,7 +166,7 @@ module _ {s : Sheet} {old m n : MemoState} {root : Case} {start now next : Count
   pub saving_saved : Saved s old n start next ks
   saving_saved = record {
     added = added_then;
-    room = still;
+    space = still;
     stays = stays_then;
     stand = stand_then;
     found = whole_then;
@@ -179,7 +179,7 @@ saving_back {s} {old} {m} {n} {root} {start} {now} {next} {fs} {f} {b} {v} {ks} 
   running = run_back (kept t closed top i) t.counts i.running (kept_keeps m n f.key v (whole_then t closed top i) t.keeps) t.value.value;
   whole = whole_then t closed top i;
   added = added_then t closed top i;
-  room = still t closed top i;
+  space = still t closed top i;
   stays = stays_then t closed top i;
   stand = stand_then t closed top i;
   settling = settling_pop s m n (case_at f.key) (kept t closed top i) old fs f b i.settling (rests_then t closed top i);
@@ -203,8 +203,8 @@ found_easy s m n w a k v h en ec ew e =
     inr (ap (λ (u : List Replacement). is_some (m.known a u)) (sym world) ∙ ap (λ (c : ℕ). is_some (m.known c k.world)) (sym ec) ∙ ap (λ (o : Option Value). is_some o) (sym there))
 
 -- what needs no evaluation is settled where all that was found is kept
-settled_before : {s : Sheet} {m : MemoState} (n : MemoState) (w : List Replacement) (a : ℕ) (Has : List Case → Type 0) → IsMemoOf s m → n ≡ m → NeedsNoEvaluation s m w a → WhereRoom s Has m (λ ks. IsSettled s n.kept w a)
-settled_before {s} {m} n w a Has h e easy = λ ks closed top whole room. subst (λ (x : MemoState). IsSettled s x.kept w a) (sym e) (settled_now s m m w a h refl whole easy)
+settled_before : {s : Sheet} {m : MemoState} (n : MemoState) (w : List Replacement) (a : ℕ) (Has : List Case → Type 0) → IsMemoOf s m → n ≡ m → NeedsNoEvaluation s m w a → WhereSpace s Has m (λ ks. IsSettled s n.kept w a)
+settled_before {s} {m} n w a Has h e easy = λ ks closed top whole space. subst (λ (x : MemoState). IsSettled s x.kept w a) (sym e) (settled_now s m m w a h refl whole easy)
 
 -- so a question finds it there, and spends nothing
 pub values_known : {s : Sheet} {m n : MemoState} {w : List Replacement} {a : ℕ} {c : Counts} {v : Value} → IsMemoOf s m → n ≡ m → IsShownNow s m w a v → ValuesCell s m n w a c c (Ok v)
@@ -212,7 +212,7 @@ values_known {s} {m} {n} {w} {a} h e shown = record {
   value = shown.value;
   spends = spends_none h e;
   uncounted = λ easy. refl;
-  kept = λ anew room. kept_before n h e shown.easy anew;
+  kept = λ anew space. kept_before n h e shown.easy anew;
   settled = settled_before n w a (HasCase s w a) h e shown.easy;
 }
 
@@ -240,21 +240,21 @@ module _ {s : Sheet} {m : MemoState} {w : List Replacement} {a : ℕ} {k : Key} 
       let at : (f : Table) → f k.cell k.world ≡ false → f a (reaching s a w) ≡ false = λ f e. ap (λ (i : Case). f i.0 i.1) here ∙ e in
       true≢false (sym j ∙ h.told a (reaching s a w) ∙ or_from (m.found a (reaching s a w)) (m.kept a (reaching s a w)) (at m.found u.to_find.unfound) (at m.kept u.to_find.unkept))
 
-  unvalued_settled : (n l : MemoState) → n ≡ m → WhereRoom s (λ ks. Contains ks (case_at k)) n (λ ks. l.kept k.cell k.world ≡ true) → WhereRoom s (HasCase s w a) m (λ ks. IsSettled s l.kept w a)
-  unvalued_settled n l e h = λ ks closed top whole room.
-      let before : WhereRoom s (λ ks. Contains ks (case_at k)) m (λ ks. l.kept k.cell k.world ≡ true) = rw e at h in
-      inr (ap (λ (j : Case). l.kept j.0 j.1) here ∙ before ks closed (unvalued_in ks top) whole room)
+  unvalued_settled : (n l : MemoState) → n ≡ m → WhereSpace s (λ ks. Contains ks (case_at k)) n (λ ks. l.kept k.cell k.world ≡ true) → WhereSpace s (HasCase s w a) m (λ ks. IsSettled s l.kept w a)
+  unvalued_settled n l e h = λ ks closed top whole space.
+      let before : WhereSpace s (λ ks. Contains ks (case_at k)) m (λ ks. l.kept k.cell k.world ≡ true) = rw e at h in
+      inr (ap (λ (j : Case). l.kept j.0 j.1) here ∙ before ks closed (unvalued_in ks top) whole space)
 
   unvalued_kept : (n l : MemoState) → n ≡ m → (1 ≤ n.capacity → l.kept k.cell k.world ≡ true) → 1 ≤ m.capacity → l.kept a (reaching s a w) ≡ true
   unvalued_kept n l e h r = ap (λ (j : Case). l.kept j.0 j.1) here ∙ h (let z = ap (λ (x : MemoState). x.capacity) e in omega (arith, r, z))
 
   -- so a run for the key is a question for the cell
   pub values_then : {n l : MemoState} {b c : Counts} (r : Result Value AllocError) → IsMemoOf s m → n ≡ m → IfOk r (λ v. v ≡ cell_value (put_all s k.world) k.cell) → Spends s (λ ks. Contains ks (case_at k)) n l b c (is_ok r) →
-      OnOk r (1 ≤ n.capacity → l.kept k.cell k.world ≡ true) → OnOk r (WhereRoom s (λ ks. Contains ks (case_at k)) n (λ ks. l.kept k.cell k.world ≡ true)) → ValuesCell s m l w a b c r
+      OnOk r (1 ≤ n.capacity → l.kept k.cell k.world ≡ true) → OnOk r (WhereSpace s (λ ks. Contains ks (case_at k)) n (λ ks. l.kept k.cell k.world ≡ true)) → ValuesCell s m l w a b c r
   values_then {n} {l} r h e is spent there whole = record {
     value = IfOk-weaker r _ _ unvalued_value is;
     spends = spends_weaken e unvalued_in (λ d. d) spent;
     uncounted = λ easy. absurd (not_easy h easy);
-    kept = on_ok_weaker r (λ j anew room. unvalued_kept n l e j room) there;
+    kept = on_ok_weaker r (λ j anew space. unvalued_kept n l e j space) there;
     settled = on_ok_weaker r (unvalued_settled n l e) whole;
   }

@@ -1,12 +1,12 @@
 use Rattle.wi_propagate.proofs.Words.{◌∙◌}
-use Rattle.wi_propagate.proofs.GenerationSteps.{room_made, there_more}
-use Rattle.wi_propagate.proofs.generations.make_room.Goals as goal
+use Rattle.wi_propagate.proofs.GenerationSteps.{space_made, there_more}
+use Rattle.wi_propagate.proofs.generations.reserve.Goals as goal
 
 pub loop-cell-preserved : goal.loop-cell-preserved
 loop-cell-preserved c =
     let old = c.loop-cell.generations.entries in
     let new = c.put_new.new.self.entries in
-    let made = room_made old new c.cell-item.result c.in_ok-put_new.ensures.entries in
+    let made = space_made old new c.cell-item.result c.in_ok-put_new.ensures.entries in
     record {
       stay = λ q h. made.stay q (c.loop-cell.invariant.stay q h);
       same = λ q. made.same q ∙ c.loop-cell.invariant.same q;
