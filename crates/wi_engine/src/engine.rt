@@ -83,7 +83,7 @@ fn next_lacking(store: &Store, frame: &Frame, cells: &mut Vec<Address>) -> Optio
 
 /// Finds the values of cells for a frame that waits for nothing else, so that it lacks none of them, or gives one that has
 /// to be evaluated first.
-fn settle_cells<'a, M: Memo>(
+fn resolve_cells<'a, M: Memo>(
     pool: &mut Pool,
     store: &'a Store,
     frame: &mut Frame<'a>,
@@ -124,7 +124,7 @@ fn settle_cells<'a, M: Memo>(
 
 /// Finds the value of a what-if for a frame that waits for nothing else, or gives a cell that has to be evaluated first: that of
 /// an input's value, and else its formula cell.
-fn settle_what_if<'a, M: Memo>(
+fn resolve_what_if<'a, M: Memo>(
     pool: &mut Pool,
     store: &'a Store,
     frame: &mut Frame<'a>,
@@ -165,7 +165,7 @@ fn settle_what_if<'a, M: Memo>(
 }
 
 /// Finds what a frame waits for, or gives a cell that has to be evaluated first.
-fn settle<'a, M: Memo>(
+fn resolve<'a, M: Memo>(
     pool: &mut Pool,
     store: &'a Store,
     frame: &mut Frame<'a>,
@@ -181,8 +181,8 @@ fn settle<'a, M: Memo>(
 {
     match mem::replace(&mut frame.waiting, Waiting::Nothing) {
         Waiting::Nothing => Ok(None),
-        Waiting::Cells(at, others) => settle_cells(pool, store, frame, at, others, memo),
-        Waiting::WhatIf(at, pairs) => settle_what_if(pool, store, frame, at, pairs, memo),
+        Waiting::Cells(at, others) => resolve_cells(pool, store, frame, at, others, memo),
+        Waiting::WhatIf(at, pairs) => resolve_what_if(pool, store, frame, at, pairs, memo),
     }
 }
 
@@ -228,7 +228,7 @@ pub(crate) fn advance<'a, M: Memo>(
         return Ok(Advance::Unvalued(ahead));
     }
     'rounds: loop {
-        if let Some(first) = settle(pool, store, frame, memo)? {
+        if let Some(first) = resolve(pool, store, frame, memo)? {
             return Ok(Advance::Unvalued(first));
         }
         match attempt(pool.allocator(), store, frame, meter)? {

@@ -1,5 +1,5 @@
 -- Laws of the latest edit that a cell's value may rest on.
-use Rattle.wi_graph.proofs.Words.{◌≡◌, ◌⊎◌, inl, inr, ◌<◌, ◌≤◌, ◌==◌, ◌&&◌, ◌||◌, not, max, ℕ, zero, suc, Bool, true, false, cond, List, [], ◌∷◌, Option, ap, sym, ◌∙◌, refl, subst, arith, Content, Sheet, content_of, content_reads, Walks, Reaches, is_one_of, SameOff, reaches, in_cone, numbered, IsLatest, LatestOfCone, OneIsLatest, LatestRises, LatestByStep, IsOwed, IsUnread, EditOwes, NoneIsOwed, SettlesOne, SettlingBegins, OwedStays, latest_among, LatestIsAmong, false_from_ne_true, cases_Bool, cases_lt, or_cases, or_left, or_right, or-false}
+use Rattle.wi_graph.proofs.Words.{◌≡◌, ◌⊎◌, inl, inr, ◌<◌, ◌≤◌, ◌==◌, ◌&&◌, ◌||◌, not, max, ℕ, zero, suc, Bool, true, false, cond, List, [], ◌∷◌, Option, ap, sym, ◌∙◌, refl, subst, arith, Content, Sheet, content_of, content_reads, Walks, Reaches, is_one_of, SameOff, reaches, in_cone, numbered, IsLatest, LatestOfCone, OneIsLatest, LatestRises, LatestByStep, IsOwed, IsUnread, EditOwes, NoneIsOwed, FlushesOne, FlushingBegins, OwedStays, latest_among, LatestIsAmong, false_from_ne_true, cases_Bool, cases_lt, or_cases, or_left, or_right, or-false}
 use Rattle.wi_graph.proofs.Tests.{clash, is_itself}
 use Rattle.wi_graph.proofs.Walks.{same_cell}
 use Rattle.wi_graph.proofs.ReachTest.{reaches_true, true_reaches, in_cone_true, true_in_cone, not_in_cone}
@@ -173,8 +173,8 @@ reaches_one s x c i =
 one_reached : (s : Sheet) (x c : ℕ) → Reaches s c x → in_cone s (x ∷ []) c ≡ true
 one_reached s x c w = true_in_cone s (x ∷ []) c (x, or_left (x == x) false (is_itself x), w)
 
-pub settles_one : SettlesOne
-settles_one s number noted after rest less x last seen now part falls shown raised k = record {
+pub flushes_one : FlushesOne
+flushes_one s number noted after rest less x last seen now part falls shown raised k = record {
   owed = λ c n l. owed c n l;
   closed = λ c d r h. shown c ∙ up c d r (or_cases (seen d) (in_cone s (x ∷ []) d) (sym (shown d) ∙ h));
   high = λ c h. high c (or_cases (seen c) (in_cone s (x ∷ []) c) (sym (shown c) ∙ h));
@@ -233,8 +233,8 @@ settles_one s number noted after rest less x last seen now part falls shown rais
         at (inl e) = let a = no_less c in let b = no_more c n l in inl (omega (arith, a, b, e))
         at (inr y) = by y.0 y.2 y.3 (part y.0 y.1)
 
-pub settling_begins : SettlingBegins
-settling_begins s number noted rest seen last none o = record {
+pub flushing_begins : FlushingBegins
+flushing_begins s number noted rest seen last none o = record {
   owed = o;
   closed = λ c d r h. clash (seen d) h (none d);
   high = λ c h. clash (seen c) h (none c);

@@ -1,5 +1,5 @@
 -- Steps to the cells of a cone that are circular after an edit.
-use Rattle.wi_graph.proofs.Words.{◌≡◌, ◌==◌, ◌+◌, ◌<◌, ℕ, Bool, true, false, ◌&&◌, ◌||◌, cond, not, List, [], filter, take, get_or, length, Option, Some, refl, ap, sym, ◌∙◌, and_parts, and_from, not-true, any-filter_same, keys_of, nat_cmp, Vec, SmallVec, BTreeMap, is_at, BTreeSet, contains, difference, Area, is_within_one, IsOrdered, Sheet, content_of, content_reads, Bag, circular, is_one_of, in_cone, AreEdgesOf, areas_in, Turns, areas_then, IsEditCone, went_from, Rooms, Coming, AreInOrder, brought_to, put_over, items_of, room_at, room_over, edges_in, areas_of, HasPairs, AreCircles, IsGraph, as_set, IsConeOf, items_there, reads_in, EachReadsOne, AreStripped, IsWithin, reads_outside, turned_by, AreTurns, SettlesCone, Ascends-from_order, has_key}
+use Rattle.wi_graph.proofs.Words.{◌≡◌, ◌==◌, ◌+◌, ◌<◌, ℕ, Bool, true, false, ◌&&◌, ◌||◌, cond, not, List, [], filter, take, get_or, length, Option, Some, refl, ap, sym, ◌∙◌, and_parts, and_from, not-true, any-filter_same, keys_of, nat_cmp, Vec, SmallVec, BTreeMap, is_at, BTreeSet, contains, difference, Area, is_within_one, IsOrdered, Sheet, content_of, content_reads, Bag, circular, is_one_of, in_cone, AreEdgesOf, areas_in, Turns, areas_then, IsEditCone, went_from, Rooms, Coming, AreInOrder, brought_to, put_over, items_of, room_at, room_over, edges_in, areas_of, HasPairs, AreCircles, IsGraph, as_set, IsConeOf, items_there, reads_in, EachReadsOne, AreStripped, IsWithin, reads_outside, turned_by, AreTurns, FindsCyclic, Ascends-from_order, has_key}
 use Rattle.std.specs.BTreeMap.{get}
 use Rattle.wi_graph.proofs.Tests.{is_at-eq, clash}
 use Rattle.wi_graph.proofs.Walks.{same_cell}
@@ -38,10 +38,10 @@ brought_step rooms next i x old new v o l e g u c h =
     at true = g
     at false = h
 
-pub settles : (rooms : Rooms) (next : Coming) (circles cells pinned all rest : BTreeSet ℕ) (list outer : List ℕ) (reads : BTreeMap ℕ (Vec Area)) → list ≡ cells.keys → ((c : ℕ) → is_one_of list c ≡ true → items_there (get nat_cmp reads c) ≡ areas_of (room_over next rooms c)) →
+pub found_cyclic : (rooms : Rooms) (next : Coming) (circles cells pinned all rest : BTreeSet ℕ) (list outer : List ℕ) (reads : BTreeMap ℕ (Vec Area)) → list ≡ cells.keys → ((c : ℕ) → is_one_of list c ≡ true → items_there (get nat_cmp reads c) ≡ areas_of (room_over next rooms c)) →
     outer ≡ filter (reads_outside reads circles cells) cells.keys → ((c : ℕ) → contains nat_cmp pinned c ≡ is_one_of outer c) → ((c : ℕ) → contains nat_cmp all c ≡ is_one_of list c) →
-    IsWithin rest all → AreStripped reads pinned all rest → EachReadsOne reads pinned rest → SettlesCone rooms next circles cells rest
-settles rooms next circles cells pinned all rest list outer reads e g o h a w st left s t xs same are circ cone c =
+    IsWithin rest all → AreStripped reads pinned all rest → EachReadsOne reads pinned rest → FindsCyclic rooms next circles cells rest
+found_cyclic rooms next circles cells pinned all rest list outer reads e g o h a w st left s t xs same are circ cone c =
     circular_after s t xs (contains nat_cmp pinned) (contains nat_cmp rest) same (record {
       holds = λ d i k. holds d i k;
       frees = λ d i k f r n. frees d i k f r n (contains nat_cmp circles f) refl;
@@ -120,7 +120,7 @@ listed_cone rooms readers circles cells list g k s h = found_cone s readers cell
 pub brought : (rooms : Rooms) (next : Coming) (circles cone : BTreeSet ℕ) (g : AreCircles (room_at rooms) (contains nat_cmp circles)) (k : IsEditCone rooms next (contains nat_cmp cone)) → (c : ℕ) → room_over next rooms c ≡ areas_in (content_of (then_sheet g.sheet k.changes) c)
 brought rooms next circles cone g k c = k.brings c ∙ ap (areas_then k.changes c) (g.are c) ∙ sym (then_contents g.sheet k.changes c)
 
-pub cone_turns : (rooms : Rooms) (next : Coming) (circles cells rest : BTreeSet ℕ) (turns : Turns) → AreCircles (room_at rooms) (contains nat_cmp circles) → IsEditCone rooms next (contains nat_cmp cells) → SettlesCone rooms next circles cells rest → IsWithin rest cells → AreOf circles cells rest turns →
+pub cone_turns : (rooms : Rooms) (next : Coming) (circles cells rest : BTreeSet ℕ) (turns : Turns) → AreCircles (room_at rooms) (contains nat_cmp circles) → IsEditCone rooms next (contains nat_cmp cells) → FindsCyclic rooms next circles cells rest → IsWithin rest cells → AreOf circles cells rest turns →
     AreTurns rooms next circles turns
 cone_turns rooms next circles cells rest turns g k st w e = record {
   fresh = λ c h. not-true (contains nat_cmp circles c) (and_parts (not (contains nat_cmp circles c)) _ (sym (in_difference rest circles c) ∙ ap (λ (ys : List ℕ). is_one_of ys c) (sym e.0) ∙ h)).0;

@@ -60,21 +60,21 @@ abbrev pub NoneIsOwed : Type 0
 NoneIsOwed = (s : Sheet) (number noted : ℕ → ℕ) (owed : List ℕ) (c n : ℕ) → ((x : ℕ) → is_one_of owed x ≡ false) → AreOwed s number owed noted → IsLatest s number c n → noted c ≡ n
 
 -- The rest owe what isn't noted, and of the cells that were seen no earlier edit than this is noted.
-pub record IsSettling (s : Sheet) (number noted : ℕ → ℕ) (rest : List ℕ) (seen : ℕ → Bool) (last : ℕ) : Type 0 where
+pub record IsFlushing (s : Sheet) (number noted : ℕ → ℕ) (rest : List ℕ) (seen : ℕ → Bool) (last : ℕ) : Type 0 where
   pub owed : AreOwed s number rest noted
   pub closed : IsClosedUp s seen
   pub high : (c : ℕ) → seen c ≡ true → last ≤ noted c
 
 -- So the cells are settled one after another, later edits first: the number of each is noted of those cells of its cone that weren't seen.
-abbrev pub SettlesOne : Type 0
-SettlesOne = (s : Sheet) (number noted after : ℕ → ℕ) (rest less : List ℕ) (x last : ℕ) (seen now : ℕ → Bool) →
+abbrev pub FlushesOne : Type 0
+FlushesOne = (s : Sheet) (number noted after : ℕ → ℕ) (rest less : List ℕ) (x last : ℕ) (seen now : ℕ → Bool) →
     ((y : ℕ) → is_one_of rest y ≡ true → (x ≡ y) ⊎ (is_one_of less y ≡ true)) → number x ≤ last →
     ((c : ℕ) → now c ≡ (seen c || in_cone s (x ∷ []) c)) → ((c : ℕ) → after c ≡ cond (in_cone s (x ∷ []) c && not (seen c)) (max (noted c) (number x)) (noted c)) →
-    IsSettling s number noted rest seen last → IsSettling s number after less now (number x)
+    IsFlushing s number noted rest seen last → IsFlushing s number after less now (number x)
 
 -- Before the first, nothing was seen. So it may begin again where a later edit comes behind an earlier one.
-abbrev pub SettlingBegins : Type 0
-SettlingBegins = (s : Sheet) (number noted : ℕ → ℕ) (rest : List ℕ) (seen : ℕ → Bool) (last : ℕ) → ((c : ℕ) → seen c ≡ false) → AreOwed s number rest noted → IsSettling s number noted rest seen last
+abbrev pub FlushingBegins : Type 0
+FlushingBegins = (s : Sheet) (number noted : ℕ → ℕ) (rest : List ℕ) (seen : ℕ → Bool) (last : ℕ) → ((c : ℕ) → seen c ≡ false) → AreOwed s number rest noted → IsFlushing s number noted rest seen last
 
 -- What is owed stays so where more is noted, but nothing later than the latest, and more cells are owed: also where memory ran out half way.
 abbrev pub OwedStays : Type 0

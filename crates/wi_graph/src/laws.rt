@@ -6,7 +6,7 @@ ghost use Rattle.wi_parser.specs.Sheet.{Sheet, content_of, has_formula, cells_wi
 ghost use Rattle.wi_graph.specs.Circular.{circular};
 ghost use Rattle.wi_graph.specs.Reach.{Walks};
 ghost use Rattle.wi_graph.specs.Edges.{Edges, AreEdgesOf, edges_after, sheet_after};
-ghost use Rattle.wi_graph.specs.Latest.{LatestOfCone, OneIsLatest, LatestRises, LatestByStep, LatestIsAmong, EditOwes, NoneIsOwed, OwedStays, SettlingBegins, SettlesOne};
+ghost use Rattle.wi_graph.specs.Latest.{LatestOfCone, OneIsLatest, LatestRises, LatestByStep, LatestIsAmong, EditOwes, NoneIsOwed, OwedStays, FlushingBegins, FlushesOne};
 
 /// A cell is circular exactly where walks of references of every length begin with it, and exactly where one does that has as many
 /// steps as there are formulas and ends with a formula.
@@ -38,6 +38,6 @@ pub fn latest_may_be_owed()
     ensures edit { EditOwes }
     ensures none { NoneIsOwed }
     ensures stays { OwedStays }
-    ensures begins { SettlingBegins }
-    ensures settles { SettlesOne }
+    ensures begins { FlushingBegins }
+    ensures flushes { FlushesOne }
 {}

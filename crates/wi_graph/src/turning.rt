@@ -10,7 +10,7 @@ ghost use Rattle.wi_values.specs.Address.{is_one_of};
 ghost use Rattle.wi_graph.specs.Inner.Changes.{Brings, IsEditCone, went_from};
 ghost use Rattle.wi_graph.specs.Inner.Rooms.{room_at, AreCircles, AreInOrder, IsGraph};
 ghost use Rattle.wi_graph.specs.Inner.Stripping.{IsWithin};
-ghost use Rattle.wi_graph.specs.Inner.Turning.{AreTurns, SettlesCone};
+ghost use Rattle.wi_graph.specs.Inner.Turning.{AreTurns, FindsCyclic};
 
 use crate::cell_set::CellSet;
 use crate::closing::{closes_cycle, meets_circle, stands_apart};
@@ -178,7 +178,7 @@ fn circular_in_cone(
 ) -> Result<CellSet, AllocError>
     requires { AreInOrder next.now }
     ensures within { IfOk result (λ rest. IsWithin rest cells.now) }
-    ensures settles { IfOk result (SettlesCone rooms.now next.now circles.now cells.now) }
+    ensures found_cyclic { IfOk result (FindsCyclic rooms.now next.now circles.now cells.now) }
 {
     let list = listed(alloc, cells.set())?;
     let reads = reads_of(alloc, rooms, next, &list)?;

@@ -11,7 +11,7 @@ pub mod Endings
 pub mod Axes
 pub mod AllPlaces
 pub mod Counts
-pub mod Settling
+pub mod AsValue
 pub mod Extents
 pub mod InOrder
 pub mod ProductEnds

@@ -71,7 +71,7 @@ pub use Rattle.wi_standard_functions.specs.Mathematical.{chosen_cells, factor, o
 pub use Rattle.wi_standard_functions.specs.Sequence.{Item, from_cell, number_of_item, scalar, with_number}
 pub use Rattle.wi_standard_functions.specs.Steps.{and_then, map_until_error, ◌>>=◌}
 pub use Rattle.wi_value_functions.proofs.Counts.{cut_counted, cut_value}
-pub use Rattle.wi_value_functions.specs.Endings.{IfMissing, settled}
+pub use Rattle.wi_value_functions.specs.Endings.{IfMissing, as_value}
 pub use Rattle.wi_value_functions.specs.Inner.Counts.{IsCut, counted}
 pub use Rattle.wi_value_functions.specs.declared.ending.Ending.{Ending}
 pub use Rattle.wi_value_functions.specs.declared.ending.Ending.TheVariants.{Error, Stopped}

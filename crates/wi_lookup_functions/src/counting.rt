@@ -18,7 +18,7 @@ use crate::criterion::Criterion;
 use std::alloc::Global;
 use std::ops::ControlFlow;
 use wi_arguments::{Argument, Lookup, TakesCells, take_cells};
-use wi_value_functions::{Ending, Stop, counted, settled, whole_value};
+use wi_value_functions::{Ending, Stop, as_value, counted, whole_value};
 use wi_values::{Address, Rect, Value};
 
 /// COUNTIF: how many cells of the first argument meet the criterion that the second is. It walks through the filled
@@ -33,7 +33,7 @@ pub(crate) fn count_if_value<L: Lookup>(
     ensures missing { IfErr result
         (λ s. IfMissing s (IsMissing (L.known_cell lookup.now) arguments.now)) }
 {
-    settled(count_if(alloc, arguments, lookup))
+    as_value(count_if(alloc, arguments, lookup))
 }
 
 fn count_if<L: Lookup>(

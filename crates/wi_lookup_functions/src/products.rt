@@ -17,7 +17,7 @@ use crate::places::{have_one_size, next_place};
 use std::alloc::Global;
 use wi_arguments::{Argument, Lookup};
 use wi_fraction::Fraction;
-use wi_value_functions::{Ending, Stop, add, multiply, one, settled, zero};
+use wi_value_functions::{Ending, Stop, add, as_value, multiply, one, zero};
 use wi_values::{Address, ErrorKind, Rect, Value};
 
 /// SUMPRODUCT: the sum, over the places of rectangles of one size, of the products of the cells that stand there; a cell that isn't
@@ -34,7 +34,7 @@ pub(crate) fn sum_product_value<L: Lookup>(
     ensures missing { IfErr result
         (λ s. IfMissing s (IsMissing (L.known_cell lookup.now) arguments.now)) }
 {
-    settled(sum_product(alloc, arguments, lookup))
+    as_value(sum_product(alloc, arguments, lookup))
 }
 
 fn sum_product<L: Lookup>(

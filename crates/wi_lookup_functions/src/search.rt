@@ -6,7 +6,7 @@ ghost use Rattle.wi_values.specs.declared.value.ErrorKind.TheVariants.{NotAvaila
 ghost use Rattle.wi_standard_functions.specs.Matching.{is_match};
 ghost use Rattle.wi_lookup_functions.specs.Inner.Finding.{Agrees, IsMissingIn};
 ghost use Rattle.wi_lookup_functions.specs.Inner.Lines.{is_line};
-ghost use Rattle.wi_lookup_functions.specs.Inner.Search.{is_settled, passes, position_by};
+ghost use Rattle.wi_lookup_functions.specs.Inner.Search.{is_decided, passes, position_by};
 
 use crate::matching::match_order;
 use crate::region::steps;
@@ -26,8 +26,8 @@ struct Search<'a> {
 
 impl<'a> Search<'a> {
     /// Whether nothing that follows is found instead.
-    fn is_settled(&self) -> bool
-        ensures { result ≡ is_settled self.now.rule self.now.found }
+    fn is_decided(&self) -> bool
+        ensures { result ≡ is_decided self.now.rule self.now.found }
     {
         match self.rule {
             Rule::FirstEqual => self.found.is_some(),
@@ -44,10 +44,10 @@ impl<'a> TakesCells for Search<'a> {
     ghost after = { λ s c v. record s { found = found_after s.rule s.sought.now s.found c v } };
 
     fn take(&mut self, at: Address, value: &Value) -> ControlFlow<()> {
-        if is_match(self.rule, value, self.sought) && !self.is_settled() {
+        if is_match(self.rule, value, self.sought) && !self.is_decided() {
             self.found = Some(at);
         }
-        if self.is_settled() {
+        if self.is_decided() {
             ControlFlow::Break(())
         } else {
             ControlFlow::Continue(())

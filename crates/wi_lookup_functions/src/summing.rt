@@ -17,7 +17,7 @@ use crate::extent::{same_extent, same_place};
 use std::alloc::Global;
 use wi_arguments::{Argument, Lookup};
 use wi_fraction::Fraction;
-use wi_value_functions::{Ending, Stop, add, settled, zero};
+use wi_value_functions::{Ending, Stop, add, as_value, zero};
 use wi_values::{Address, ErrorKind, Rect, Value};
 
 /// SUMIF: the sum of the third argument's cells at the places where the first's meet the criterion that the second is; without a
@@ -33,7 +33,7 @@ pub(crate) fn sum_if_value<L: Lookup>(
     ensures missing { IfErr result
         (λ s. IfMissing s (IsMissing (L.known_cell lookup.now) arguments.now)) }
 {
-    settled(sum_if(alloc, arguments, lookup))
+    as_value(sum_if(alloc, arguments, lookup))
 }
 
 fn sum_if<L: Lookup>(

@@ -144,11 +144,11 @@ kept_up_more s old new edits named noted stays k = record {
         at (inr x) = inr (x.0, stays x.0 x.1, x.2, named x.0 ∙ x.3)
 
 -- and where it was settled
-pub settled_up : (s : Sheet) (edits : ℕ) (old new : Noted) → new.named ≡ old.named → AreOwed s (generation_in new.named) new.owed (noted_in new.named new.noted) → AreKeptUp s edits old → AreKeptUp s edits new
-settled_up s edits old new e o k = record { past = λ c. subst (λ (ns : Generations). generation_in ns c ≤ edits) (sym e) (k.past c); owed = o }
+pub flushed_up : (s : Sheet) (edits : ℕ) (old new : Noted) → new.named ≡ old.named → AreOwed s (generation_in new.named) new.owed (noted_in new.named new.noted) → AreKeptUp s edits old → AreKeptUp s edits new
+flushed_up s edits old new e o k = record { past = λ c. subst (λ (ns : Generations). generation_in ns c ≤ edits) (sym e) (k.past c); owed = o }
 
 pub all_noted : (s : Sheet) (edits : ℕ) (old new : Noted) → new.named ≡ old.named → AreOwed s (generation_in new.named) new.owed (noted_in new.named new.noted) → new.owed ≡ [] → AreKeptUp s edits old → AreAllNoted s edits new
-all_noted s edits old new e o none k = record { kept_up = settled_up s edits old new e o k; none_owed = none }
+all_noted s edits old new e o none k = record { kept_up = flushed_up s edits old new e o k; none_owed = none }
 
 -- ---- a cell of a map of numbers is one of its keys, and the other way round
 

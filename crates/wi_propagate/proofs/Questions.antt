@@ -2,15 +2,15 @@
 use Rattle.wi_propagate.proofs.Words.{◌≡◌, ◌≤◌, ◌<◌, ◌+◌, ◌-◌, ◌^◌, inl, inr, length, All, filter, not, is_some, ℕ, Bool, true, false, List, [], Option, refl, ap, sym, ◌∙◌, subst, arith, keys_of, cases_lt, true≢false, Value, Fault, Circular, Replacement, Sheet, content_of, put_all, has_formula, Counts, Stored, Key, KeptValues, kept, value_for, IfSome, circular, clash, Case, reaching, asks_circular, table_entry, IsWhatIfSettled, IsClosed, SpentOn, left_is_unkept, sum_ones, never_fall-same, spent_unkept, cells_open, entry_circular, none_circular, MayBeRead, KeepsFound, WhereSpace, TakesNoMore, GivesUpWhenFull, NeedsNoEvaluation, IsValuedAnew, IsSameBeside, Saved, SpendsAtMost, what_if_more, rests_more, none_went, Generations, generation_in, KeptSheet, key_in, stands, is_kept, unkept, gone, IsAtHand, HasSpaceFor, KeepsAll, KeepsNoMore, KeepsOld, KeepsWhileSpace, emptied, AreRight, IsKeptFor, AreKeptRight, Box, Carried, kept_sheet, values_in, Keeping, keeping, begun, state_in, ArePlaced, IsKeepingRight, Owes, told, or_none, Some, None, IsSome, Noted, noted_in, Staging, AreEdgesOf, AreOwed, AreCarriedCones, AreKeptUp, AreAllCones, ArePlans}
 use Rattle.wi_engine.specs.Inner.Saving as saving
 use Rattle.wi_propagate.specs.declared.plans.Plans.{Plans}
-use Rattle.wi_propagate.proofs.NotedSteps.{settled_up}
+use Rattle.wi_propagate.proofs.NotedSteps.{flushed_up}
 use Rattle.wi_propagate.proofs.PlaceCounts.{all_stand}
 
 -- ---- what is owed is settled first
 
 -- where the numbers of edits are the same, so is the calculator
 module _ {s : Stored} {old new : Generations} (e : new ≡ old) (o : Option (Box Carried)) (n : Counts) where
-  pub settled_view : (k : KeptSheet) → kept_sheet s (told s.sheet old) o n ≡ k → kept_sheet s (told s.sheet new) o n ≡ k
-  settled_view k h = ap (λ (ns : Generations). kept_sheet s (told s.sheet ns) o n) e ∙ h
+  pub flushed_view : (k : KeptSheet) → kept_sheet s (told s.sheet old) o n ≡ k → kept_sheet s (told s.sheet new) o n ≡ k
+  flushed_view k h = ap (λ (ns : Generations). kept_sheet s (told s.sheet ns) o n) e ∙ h
 
   pub settled_right : AreKeptRight (kept_sheet s (told s.sheet old) o n) → AreKeptRight (kept_sheet s (told s.sheet new) o n)
   settled_right h = subst (λ (ns : Generations). AreKeptRight (kept_sheet s (told s.sheet ns) o n)) (sym e) h
@@ -151,7 +151,7 @@ AlwaysHolds o graph s g n = IsSome o × AreEdgesOf graph.now s.sheet × (graph.s
 -- once what is owed is settled
 pub holds_settled : (o : Option (Box Carried)) (graph : Staging) (s : Stored) (old new : Noted) (n : Counts) → new.named ≡ old.named → AreOwed s.sheet (generation_in new.named) new.owed (noted_in new.named new.noted) →
     AlwaysHolds o graph s old n → AlwaysHolds o graph s new n
-holds_settled o graph s old new n e owed h = (h.0, h.1, h.2, settled_right {s = s} e o n h.3, h.4, settled_up s.sheet s.edits old new e owed h.5)
+holds_settled o graph s old new n e owed h = (h.0, h.1, h.2, settled_right {s = s} e o n h.3, h.4, flushed_up s.sheet s.edits old new e owed h.5)
 
 -- and once a question is answered
 pub holds_asked : (o : Option (Box Carried)) (graph : Staging) (s : Stored) (g : Noted) (n counts : Counts) (q last : Keeping) (b : Box Carried) → Begins (kept_sheet s (told s.sheet g.named) o n) q →
@@ -245,8 +245,8 @@ owes_none k cases done = record {
 }
 
 -- and where it was settled alone
-pub owes_settled : (old new : KeptSheet) (cases : List Case) (done : Bool) → new ≡ old → Owes old new cases done
-owes_settled old new cases done e = subst (λ (k : KeptSheet). Owes k new cases done) e (owes_none new cases done)
+pub owes_flushed : (old new : KeptSheet) (cases : List Case) (done : Bool) → new ≡ old → Owes old new cases done
+owes_flushed old new cases done e = subst (λ (k : KeptSheet). Owes k new cases done) e (owes_none new cases done)
 
 module _ {k : KeptSheet} {q : Keeping} (e : Begins k q) (last : Keeping) (values : KeptValues) (counts : Counts) (same : values ≡ last.values) (within : length values.entries ≤ values.capacity) (Has : List Case → Type 0) (cases : List Case) (closed : IsClosed k.stored.sheet cases) (has : Has cases) where
   -- of each closed list that has what it is to have, so of the cases that are demanded

@@ -5,5 +5,5 @@ pub mod Keeping
 pub mod Owes
 pub mod Planned
 pub mod Noted
-pub mod Settling
+pub mod Flushing
 pub mod Standing

@@ -10,7 +10,7 @@ ghost use Rattle.wi_propagate.specs.KeptSheet.{generation_in};
 ghost use Rattle.wi_propagate.specs.Inner.Keeping.{HasGeneration};
 ghost use Rattle.wi_propagate.specs.Inner.Noted.{noted_in};
 
-use crate::settling::settle_all;
+use crate::flushing::flush_all;
 use std::alloc::{AllocError, Global};
 use std::marker::Model;
 use wi_graph::Graph;
@@ -100,7 +100,7 @@ impl Generations {
 
     /// Notes what is owed. The work grows with the cone of what is owed, beside a sort and a search for the readers of each owed cell. If
     /// memory runs out, all is owed still.
-    pub(crate) fn settle(&mut self, graph: &Graph) -> Result<(), AllocError>
+    pub(crate) fn flush(&mut self, graph: &Graph) -> Result<(), AllocError>
         requires staged { graph.now.staged ≡ None }
         requires owed { (s : Sheet) → AreEdgesOf graph.now.now s
             → AreOwed s (generation_in self.old.named)
@@ -109,12 +109,12 @@ impl Generations {
         ensures owed { (s : Sheet) → AreEdgesOf graph.now.now s
             → AreOwed s (generation_in self.new.named)
             self.new.owed (noted_in self.new.named self.new.noted) }
-        ensures settled { OnOk result (self.new.owed ≡ []) }
+        ensures clean { OnOk result (self.new.owed ≡ []) }
     {
         if self.owed.is_empty() {
             return Ok(());
         }
-        settle_all(
+        flush_all(
             self.alloc,
             graph,
             &self.named,

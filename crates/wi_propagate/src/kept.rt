@@ -184,7 +184,7 @@ impl KeptCalculator {
             Standing::Formula(formula) => formula,
         };
         let world = self.worlds.world_for(self.alloc, put)?;
-        self.generations.settle(&self.graph)?;
+        self.generations.flush(&self.graph)?;
         self.widest = self.widest.max(put.len());
         let carried = take_carried(self.alloc, self.widest, &mut self.carried);
         let memo = Keeping::new(
@@ -231,7 +231,7 @@ impl KeptCalculator {
             return Ok(Value::Fault(ErrorKind::Circular));
         }
         let world = self.worlds.world_for(self.alloc, put)?;
-        self.generations.settle(&self.graph)?;
+        self.generations.flush(&self.graph)?;
         self.widest = self.widest.max(put.len());
         let carried = take_carried(self.alloc, self.widest, &mut self.carried);
         let memo = Keeping::new(

@@ -4,6 +4,7 @@
 mod calculator;
 mod carried;
 mod cones;
+mod flushing;
 mod generations;
 mod keeping;
 mod kept;
@@ -13,7 +14,6 @@ mod occupied;
 mod plain;
 mod plans;
 mod recurring;
-mod settling;
 mod standing;
 mod table_entry;
 mod value;

@@ -8,10 +8,10 @@ use Rattle.wi_value_functions.specs.declared.ending.Stop.{Stop}
 use Rattle.wi_value_functions.specs.declared.ending.Stop.TheVariants.{Missing, Memory}
 
 -- the value, which an error is too
-abbrev pub settled : {S : Type 0} → Result Value (Ending S) → Result Value S
-settled (Ok v) = Ok v
-settled (Err (Error e)) = Ok (Fault e)
-settled (Err (Stopped s)) = Err s
+abbrev pub as_value : {S : Type 0} → Result Value (Ending S) → Result Value S
+as_value (Ok v) = Ok v
+as_value (Err (Error e)) = Ok (Fault e)
+as_value (Err (Stopped s)) = Err s
 
 -- the value, unless the function is stopped
 abbrev pub Gives : {S : Type 0} → Result Value (Ending S) → Value → Type 0

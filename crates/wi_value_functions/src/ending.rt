@@ -2,7 +2,7 @@
 
 ghost use Rattle.std.specs.Prelude.{◌≡◌, IfOk};
 ghost use Rattle.wi_values.specs.declared.value.Value.{Value as AnyValue};
-ghost use Rattle.wi_value_functions.specs.Endings.{settled, Gives};
+ghost use Rattle.wi_value_functions.specs.Endings.{as_value, Gives};
 
 use std::alloc::{AllocError, AllocFailed};
 use wi_values::{Address, ErrorKind, Value};
@@ -105,8 +105,8 @@ impl<T: Drop, W: Drop> From<AllocFailed<T>> for Stop<W> {
 }
 
 /// The value of a function, which an error is too.
-pub fn settled<S: Drop>(outcome: Result<Value, Ending<S>>) -> Result<Value, S>
-    ensures ends { result ≡ settled outcome }
+pub fn as_value<S: Drop>(outcome: Result<Value, Ending<S>>) -> Result<Value, S>
+    ensures ends { result ≡ as_value outcome }
     ensures value { (v : AnyValue) → Gives outcome v → IfOk result (λ w. w ≡ v) }
 {
     match outcome {

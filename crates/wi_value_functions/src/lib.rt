@@ -19,7 +19,7 @@ mod value;
 pub use arithmetic::{add, divide, multiply, number_value, subtract};
 pub use convert::{one, to_logical, to_number, to_whole, zero};
 pub use count::{counted, whole_number, whole_value};
-pub use ending::{Ending, Stop, settled};
+pub use ending::{Ending, Stop, as_value};
 pub use first_error::{both, no_error};
 pub use function::{
     FoldFunction, Function, LazyFunction, LookupFunction, ReferenceFunction, Test, TextFunction,

@@ -58,8 +58,8 @@ pub record AreTurns (rooms : Rooms) (next : Coming) (circles : BTreeSet ℕ) (tu
   pub after : AreCircles (room_over next rooms) (turned_by circles turns)
 
 -- of each edit that brings what is next, the cells of the cone that are left are circular after it
-abbrev pub SettlesCone : Rooms → Coming → BTreeSet ℕ → BTreeSet ℕ → BTreeSet ℕ → Type 0
-SettlesCone rooms next circles cells rest = (s t : Sheet) (xs : List ℕ) → SameOff s t xs →
+abbrev pub FindsCyclic : Rooms → Coming → BTreeSet ℕ → BTreeSet ℕ → BTreeSet ℕ → Type 0
+FindsCyclic rooms next circles cells rest = (s t : Sheet) (xs : List ℕ) → SameOff s t xs →
     ((c : ℕ) → room_over next rooms c ≡ areas_in (content_of t c)) →
     ((c : ℕ) → contains nat_cmp circles c ≡ circular s c) →
     ((c : ℕ) → contains nat_cmp cells c ≡ in_cone s xs c) →

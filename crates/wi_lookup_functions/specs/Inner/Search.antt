@@ -15,15 +15,15 @@ passes LastAtMost = is_le
 passes LastAtLeast = is_ge
 
 -- nothing that follows is found instead
-abbrev pub is_settled : Rule → Option ℕ → Bool
-is_settled FirstEqual None = false
-is_settled FirstEqual (Some c) = true
-is_settled LastAtMost o = false
-is_settled LastAtLeast o = false
+abbrev pub is_decided : Rule → Option ℕ → Bool
+is_decided FirstEqual None = false
+is_decided FirstEqual (Some c) = true
+is_decided LastAtMost o = false
+is_decided LastAtLeast o = false
 
 -- what is found after a cell with this value
 abbrev pub found_after : Rule → Value → Option ℕ → ℕ → Value → Option ℕ
-found_after rule sought o c v = if is_match (passes rule) sought v && not (is_settled rule o) then Some c else o
+found_after rule sought o c v = if is_match (passes rule) sought v && not (is_decided rule o) then Some c else o
 
 -- the place that is found in a list, from 0
 abbrev pub position_by : Rule → Value → List Value → Option ℕ

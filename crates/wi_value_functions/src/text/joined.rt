@@ -9,7 +9,7 @@ ghost use Rattle.wi_standard_functions.specs.Text.{concatenate_value, rept_value
 ghost use Rattle.wi_value_functions.specs.Endings.{Gives};
 ghost use Rattle.wi_value_functions.specs.Inner.Gives.{Agrees};
 
-use crate::ending::{Ending, settled};
+use crate::ending::{Ending, as_value};
 use crate::text::convert::{at_least, to_text, to_whole};
 use crate::text::limited_text;
 use std::alloc::{AllocError, Global};
@@ -19,14 +19,14 @@ use wi_values::{ErrorKind, MAX_TEXT, Text, Value};
 pub(crate) fn concatenate_value(alloc: Global, values: &[Value]) -> Result<Value, AllocError>
     ensures { IfOk result (λ v. v ≡ concatenate_value values.now) }
 {
-    settled(concatenate(alloc, values))
+    as_value(concatenate(alloc, values))
 }
 
 /// A text so many times. What would be too long is refused before anything of it is made; else linear in the result.
 pub(crate) fn rept_value(alloc: Global, text: &Value, number: &Value) -> Result<Value, AllocError>
     ensures { IfOk result (λ v. v ≡ rept_value text.now number.now) }
 {
-    settled(rept(alloc, text, number))
+    as_value(rept(alloc, text, number))
 }
 
 fn concatenate(alloc: Global, values: &[Value]) -> Result<Value, Ending<AllocError>>

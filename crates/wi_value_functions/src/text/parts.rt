@@ -5,7 +5,7 @@ ghost use Rattle.wi_standard_functions.specs.Text.{len_value, left_value, right_
 ghost use Rattle.wi_value_functions.specs.Endings.{Gives};
 
 use crate::count::whole_value;
-use crate::ending::{Ending, settled};
+use crate::ending::{Ending, as_value};
 use crate::text::characters::{after, before, count};
 use crate::text::convert::{at_least, to_text, to_whole};
 use crate::text::limited::limited_copy;
@@ -16,21 +16,21 @@ use wi_values::Value;
 pub(crate) fn len_value(alloc: Global, text: &Value) -> Result<Value, AllocError>
     ensures { IfOk result (λ v. v ≡ len_value text.now) }
 {
-    settled(len(alloc, text))
+    as_value(len(alloc, text))
 }
 
 /// The first characters of a text, or all where it has no more. Linear in the text.
 pub(crate) fn left_value(alloc: Global, text: &Value, number: &Value) -> Result<Value, AllocError>
     ensures { IfOk result (λ v. v ≡ left_value text.now number.now) }
 {
-    settled(left(alloc, text, number))
+    as_value(left(alloc, text, number))
 }
 
 /// The last characters of a text, or all where it has no more. Linear in the text.
 pub(crate) fn right_value(alloc: Global, text: &Value, number: &Value) -> Result<Value, AllocError>
     ensures { IfOk result (λ v. v ≡ right_value text.now number.now) }
 {
-    settled(right(alloc, text, number))
+    as_value(right(alloc, text, number))
 }
 
 /// So many characters of a text from a place on, counted from 1, or those that are there. Linear in the text.
@@ -42,7 +42,7 @@ pub(crate) fn mid_value(
 ) -> Result<Value, AllocError>
     ensures { IfOk result (λ v. v ≡ mid_value text.now start.now number.now) }
 {
-    settled(mid(alloc, text, start, number))
+    as_value(mid(alloc, text, start, number))
 }
 
 fn len(alloc: Global, text: &Value) -> Result<Value, Ending<AllocError>>

@@ -5,7 +5,7 @@ ghost use Rattle.wi_standard_functions.specs.Text.{exact_value, find_value, firs
 ghost use Rattle.wi_value_functions.specs.Endings.{Gives};
 
 use crate::count::whole_value;
-use crate::ending::{Ending, settled};
+use crate::ending::{Ending, as_value};
 use crate::text::characters::{after, count};
 use crate::text::convert::{at_least, to_text, to_whole};
 use std::alloc::{AllocError, Global};
@@ -15,7 +15,7 @@ use wi_values::{ErrorKind, Value};
 pub(crate) fn exact_value(alloc: Global, left: &Value, right: &Value) -> Result<Value, AllocError>
     ensures { IfOk result (λ v. v ≡ exact_value left.now right.now) }
 {
-    settled(exact(alloc, left, right))
+    as_value(exact(alloc, left, right))
 }
 
 fn exact(alloc: Global, left: &Value, right: &Value) -> Result<Value, Ending<AllocError>>
@@ -35,7 +35,7 @@ pub(crate) fn find_value(
 ) -> Result<Value, AllocError>
     ensures { IfOk result (λ v. v ≡ find_value sought.now text.now start.now) }
 {
-    settled(find(alloc, sought, text, start))
+    as_value(find(alloc, sought, text, start))
 }
 
 fn find(

@@ -9,11 +9,11 @@ use Rattle.wi_engine.proofs.engine.advance.Goals as goal
 pub rounds-init : goal.rounds-init
 rounds-init g c = record { steps = steps_less (omega arith) c.in_ok-ahead.ensures.steps; evaluations = refl; counts = never_fall-same c.args.meter.now }
 
-pub settle-requires-clause-memo : goal.settle-requires-clause-memo
-settle-requires-clause-memo g c = subst (λ (x : MemoState). IsMemoOf c.args.store.now.sheet x) (sym c.rounds.invariant.steps.same) c.requires.memo
+pub resolve-requires-clause-memo : goal.resolve-requires-clause-memo
+resolve-requires-clause-memo g c = subst (λ (x : MemoState). IsMemoOf c.args.store.now.sheet x) (sym c.rounds.invariant.steps.same) c.requires.memo
 
-pub settle-requires-clause-frame : goal.settle-requires-clause-frame
-settle-requires-clause-frame g c = subst (λ (x : MemoState). IsFrame c.args.store.now.sheet x c.rounds.frame) (sym c.rounds.invariant.steps.same) (c.rounds.invariant.steps.frame refl)
+pub resolve-requires-clause-frame : goal.resolve-requires-clause-frame
+resolve-requires-clause-frame g c = subst (λ (x : MemoState). IsFrame c.args.store.now.sheet x c.rounds.frame) (sym c.rounds.invariant.steps.same) (c.rounds.invariant.steps.frame refl)
 
 pub attempt-requires-clause-open : goal.attempt-requires-clause-open
 attempt-requires-clause-open g c = (c.in_ok-first.ensures.steps.frame refl).key.open_cell
@@ -58,7 +58,7 @@ returns-in-Some-clause-gives g c = (rw c.in-Some.is at c.in_ok-ahead.ensures.nex
 
 pub returns-in-Some-2-clause-gives : goal.returns-in-Some-2-clause-gives
 returns-in-Some-2-clause-gives g c =
-    let next = subst (λ (x : MemoState). IsWaitedFor c.args.store.now.sheet x c.settle.new.frame c.in-Some-2.first) c.rounds.invariant.steps.same (rw c.in-Some-2.is at c.in_ok-first.ensures.next) in
+    let next = subst (λ (x : MemoState). IsWaitedFor c.args.store.now.sheet x c.resolve.new.frame c.in-Some-2.first) c.rounds.invariant.steps.same (rw c.in-Some-2.is at c.in_ok-first.ensures.next) in
     (next, c.rounds.invariant.evaluations)
 
 pub returns-in-Done-clause-gives : goal.returns-in-Done-clause-gives
@@ -69,7 +69,7 @@ returns-in-Done-clause-gives g c =
     let counted = rw c.in-Done.is at c.in_ok-value.ensures.counted in
     let value : IsFrameValue s (g.M.Memo.state c.args.memo.now) c.args.frame.now c.in-Done.value = record {
       value = found.value ∙ ap (λ (k : Key). cell_value (put_all s k.world) k.cell) steps.key;
-      rests = done_settled s (g.M.Memo.state c.args.memo.now) c.args.frame.now c.settle.new.frame steps.key (steps.frame refl).found found.one_meaning (steps.settled refl);
+      rests = done_settled s (g.M.Memo.state c.args.memo.now) c.args.frame.now c.resolve.new.frame steps.key (steps.frame refl).found found.one_meaning (steps.settled refl);
     } in
     (value, search (ap (λ (m : Counts). m.evaluations) counted ∙ ap one_more c.rounds.invariant.evaluations))
 
@@ -84,7 +84,7 @@ returns-in-Some-clause-steps g c = steps_less (omega arith) c.in_ok-ahead.ensure
 pub returns-in_err-first-clause-steps : goal.returns-in_err-first-clause-steps
 returns-in_err-first-clause-steps g c =
     let i = c.rounds.invariant.steps in
-    let first = c.settle.ensures.steps in
+    let first = c.resolve.ensures.steps in
     steps_err c.from_residual-in_err-first.result c.from_residual-in_err-first.ensures.0 (first.same ∙ i.same) (first.key ∙ i.key)
 
 pub returns-in-Some-2-clause-steps : goal.returns-in-Some-2-clause-steps
@@ -93,7 +93,7 @@ returns-in-Some-2-clause-steps g c = steps_then (omega arith) c.rounds.invariant
 pub returns-in_err-value-clause-steps : goal.returns-in_err-value-clause-steps
 returns-in_err-value-clause-steps g c =
     let i = c.rounds.invariant.steps in
-    let first = c.settle.ensures.steps in
+    let first = c.resolve.ensures.steps in
     steps_err c.from_residual-in_err-value.result c.from_residual-in_err-value.ensures.0 (first.same ∙ i.same) (first.key ∙ i.key)
 
 pub returns-in-Done-clause-steps : goal.returns-in-Done-clause-steps
@@ -105,7 +105,7 @@ returns-in-Done-clause-steps g c =
 pub returns-in_err-wait_for-in-Needs-clause-steps : goal.returns-in_err-wait_for-in-Needs-clause-steps
 returns-in_err-wait_for-in-Needs-clause-steps g c =
     let i = c.rounds.invariant.steps in
-    let first = c.settle.ensures.steps in
+    let first = c.resolve.ensures.steps in
     steps_err c.from_residual-in_err-wait_for-in-Needs.result c.from_residual-in_err-wait_for-in-Needs.ensures.0 (first.same ∙ i.same) (c.wait_for.ensures.awaits.key ∙ first.key ∙ i.key)
 
 -- ---- what it counts

@@ -1,4 +1,4 @@
-use Rattle.wi_graph.proofs.LatestLaws.{edit_owes, none_is_owed, owed_stays, settling_begins, settles_one}
+use Rattle.wi_graph.proofs.LatestLaws.{edit_owes, none_is_owed, owed_stays, flushing_begins, flushes_one}
 use Rattle.wi_graph.proofs.laws.latest_may_be_owed.Goals as goal
 
 pub returns-clause-edit : goal.returns-clause-edit
@@ -7,11 +7,11 @@ returns-clause-edit c = edit_owes
 pub returns-clause-none : goal.returns-clause-none
 returns-clause-none c = none_is_owed
 
-pub returns-clause-settles : goal.returns-clause-settles
-returns-clause-settles c = settles_one
+pub returns-clause-flushes : goal.returns-clause-flushes
+returns-clause-flushes c = flushes_one
 
 pub returns-clause-stays : goal.returns-clause-stays
 returns-clause-stays c = owed_stays
 
 pub returns-clause-begins : goal.returns-clause-begins
-returns-clause-begins c = settling_begins
+returns-clause-begins c = flushing_begins

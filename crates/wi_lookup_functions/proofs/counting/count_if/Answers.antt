@@ -1,7 +1,7 @@
 use Rattle.wi_lookup_functions.proofs.Words.{err_from_is_err_and, is_referred, region_is, count_if_value}
 use Rattle.std.specs.Prelude.{Ok, Err}
 use Rattle.wi_lookup_functions.proofs.Counts.{ends_at_area, ends_at_criterion, ends_counted}
-use Rattle.wi_lookup_functions.proofs.Settling.{stopped_inside}
+use Rattle.wi_lookup_functions.proofs.AsValue.{stopped_inside}
 use Rattle.wi_lookup_functions.proofs.counting.count_if.Goals as goal
 
 pub returns-in_err-area : goal.returns-in_err-area

@@ -1,5 +1,5 @@
 -- What is owed is noted, one edit after another.
-use Rattle.wi_propagate.proofs.Words.{◌≡◌, ◌==◌, ◌||◌, ◌&&◌, ◌⊎◌, inl, inr, not, ◌≤◌, ◌<◌, ◌+◌, max, ℕ, Bool, true, false, cond, List, [], ◌∷◌, length, take, get_or, ◌++◌, nat_lt, Option, Some, is_some, refl, ap, sym, ◌∙◌, subst, arith, eqb-true, or-false, map-append, list_any-IsPermutation, IsPermutation-map, IsPermutation, unwrap_or, nat_cmp, keys_of, lookup, is_at, insert_entry, CellEntries, get, Sheet, Reaches, is_one_of, reaches, in_cone, Edges, AreEdgesOf, IsLatest, IsOwed, AreOwed, IsSettling, reaches_true, true_reaches, same_reaches, in_last, in_front, settles_one, settling_begins, owed_stays, Generations, generation_in, noted_in, second_cells, has_seen, ltb-false, seen_one, has_one_more, or_assoc, or_new}
+use Rattle.wi_propagate.proofs.Words.{◌≡◌, ◌==◌, ◌||◌, ◌&&◌, ◌⊎◌, inl, inr, not, ◌≤◌, ◌<◌, ◌+◌, max, ℕ, Bool, true, false, cond, List, [], ◌∷◌, length, take, get_or, ◌++◌, nat_lt, Option, Some, is_some, refl, ap, sym, ◌∙◌, subst, arith, eqb-true, or-false, map-append, list_any-IsPermutation, IsPermutation-map, IsPermutation, unwrap_or, nat_cmp, keys_of, lookup, is_at, insert_entry, CellEntries, get, Sheet, Reaches, is_one_of, reaches, in_cone, Edges, AreEdgesOf, IsLatest, IsOwed, AreOwed, IsFlushing, reaches_true, true_reaches, same_reaches, in_last, in_front, flushes_one, flushing_begins, owed_stays, Generations, generation_in, noted_in, second_cells, has_seen, ltb-false, seen_one, has_one_more, or_assoc, or_new}
 use Rattle.wi_propagate.proofs.GenerationSteps.{IsGiven}
 
 -- ---- one cell more is seen
@@ -31,14 +31,14 @@ lifted_more old new first xs i a number lifted l e w u h c =
 -- ---- one edit more is settled
 
 -- of each sheet with these edges
-abbrev pub IsSettlingOver : Edges → Generations → Generations → List ℕ → (ℕ → Bool) → ℕ → Type 0
-IsSettlingOver es named noted rest seen last = (s : Sheet) → AreEdgesOf es s → IsSettling s (generation_in named) (noted_in named noted) rest seen last
+abbrev pub IsFlushingOver : Edges → Generations → Generations → List ℕ → (ℕ → Bool) → ℕ → Type 0
+IsFlushingOver es named noted rest seen last = (s : Sheet) → AreEdgesOf es s → IsFlushing s (generation_in named) (noted_in named noted) rest seen last
 
-pub settling_more : (es : Edges) (named old new : Generations) (rest less : List ℕ) (x number last : ℕ) (seen now : ℕ → Bool) → ((y : ℕ) → is_one_of rest y ≡ true → (x ≡ y) ⊎ (is_one_of less y ≡ true)) → number ≡ generation_in named x → number ≤ last →
+pub flushing_more : (es : Edges) (named old new : Generations) (rest less : List ℕ) (x number last : ℕ) (seen now : ℕ → Bool) → ((y : ℕ) → is_one_of rest y ≡ true → (x ≡ y) ⊎ (is_one_of less y ≡ true)) → number ≡ generation_in named x → number ≤ last →
     ((s : Sheet) → AreEdgesOf es s → (c : ℕ) → generation_in new c ≡ cond (in_cone s (x ∷ []) c && not (seen c)) (max (generation_in old c) number) (generation_in old c)) →
-    ((s : Sheet) → AreEdgesOf es s → (c : ℕ) → now c ≡ (seen c || (in_cone s (x ∷ []) c && not (seen c)))) → IsSettlingOver es named old rest seen last → IsSettlingOver es named new less now number
-settling_more es named old new rest less x number last seen now part e falls raised shown k s a =
-    subst (IsSettling s (generation_in named) (noted_in named new) less now) (sym e) (settles_one s (generation_in named) (noted_in named old) (noted_in named new) rest less x last seen now part (subst (λ (m : ℕ). m ≤ last) e falls)
+    ((s : Sheet) → AreEdgesOf es s → (c : ℕ) → now c ≡ (seen c || (in_cone s (x ∷ []) c && not (seen c)))) → IsFlushingOver es named old rest seen last → IsFlushingOver es named new less now number
+flushing_more es named old new rest less x number last seen now part e falls raised shown k s a =
+    subst (IsFlushing s (generation_in named) (noted_in named new) less now) (sym e) (flushes_one s (generation_in named) (noted_in named old) (noted_in named new) rest less x last seen now part (subst (λ (m : ℕ). m ≤ last) e falls)
     (λ c. shown s a c ∙ or_new (seen c) (in_cone s (x ∷ []) c)) (λ c. ap (λ (m : ℕ). max (generation_in named c) m) (raised s a c) ∙ over c (in_cone s (x ∷ []) c && not (seen c))) (k s a))
   where
     over : (c : ℕ) (b : Bool) → max (generation_in named c) (cond b (max (generation_in old c) number) (generation_in old c)) ≡ cond b (max (noted_in named old c) (generation_in named x)) (noted_in named old c)
@@ -46,11 +46,11 @@ settling_more es named old new rest less x number last seen now part e falls rai
     over c false = refl
 
 -- cells that come back into view where a later edit comes behind an earlier one
-pub settling_again : (es : Edges) (named noted : Generations) (rest : List ℕ) (last number : ℕ) (seen now : ℕ → Bool) → ((c : ℕ) → now c ≡ cond (nat_lt last number) false (seen c)) → IsSettlingOver es named noted rest seen last → IsSettlingOver es named noted rest now (max last number)
-settling_again es named noted rest last number seen now e k s a = at (nat_lt last number) refl
+pub flushing_again : (es : Edges) (named noted : Generations) (rest : List ℕ) (last number : ℕ) (seen now : ℕ → Bool) → ((c : ℕ) → now c ≡ cond (nat_lt last number) false (seen c)) → IsFlushingOver es named noted rest seen last → IsFlushingOver es named noted rest now (max last number)
+flushing_again es named noted rest last number seen now e k s a = at (nat_lt last number) refl
   where
-    at : (b : Bool) → nat_lt last number ≡ b → IsSettling s (generation_in named) (noted_in named noted) rest now (max last number)
-    at true t = settling_begins s (generation_in named) (noted_in named noted) rest now (max last number) (λ c. e c ∙ ap (λ (b : Bool). cond b false (seen c)) t) (k s a).owed
+    at : (b : Bool) → nat_lt last number ≡ b → IsFlushing s (generation_in named) (noted_in named noted) rest now (max last number)
+    at true t = flushing_begins s (generation_in named) (noted_in named noted) rest now (max last number) (λ c. e c ∙ ap (λ (b : Bool). cond b false (seen c)) t) (k s a).owed
     at false t =
         let l : number ≤ last = ltb-false last number t in
         let m : max last number ≡ last = omega (arith, l) in
@@ -82,22 +82,22 @@ pub part_within : (rest less : List (ℕ × ℕ)) (e : ℕ × ℕ) → rest ≡ 
 part_within rest less e i y h = ap (λ (ys : List ℕ). is_one_of ys y) (ap second_cells i ∙ map-append (λ (z : ℕ × ℕ). z.1) less (e ∷ [])) ∙ in_front (second_cells less) (e.1 ∷ []) y h
 
 -- at first all that is owed is listed, and nothing was seen
-pub settling_first : {X : Type 0} (es : Edges) (named noted : Generations) (owed : List ℕ) (order : List (ℕ × ℕ)) (seen : CellEntries X) (last : ℕ) → ((x : ℕ) → is_one_of owed x ≡ is_one_of (second_cells order) x) → seen.entries ≡ [] →
-    ((s : Sheet) → AreEdgesOf es s → AreOwed s (generation_in named) owed (noted_in named noted)) → IsSettlingOver es named noted (second_cells order) (has_seen seen) last
-settling_first {X} es named noted owed order seen last same empty o s a =
-    settling_begins s (generation_in named) (noted_in named noted) (second_cells order) (has_seen seen) last (λ c. ap (λ (xs : List (ℕ × X)). is_some (lookup (is_at (nat_cmp c)) xs)) empty)
+pub flushing_first : {X : Type 0} (es : Edges) (named noted : Generations) (owed : List ℕ) (order : List (ℕ × ℕ)) (seen : CellEntries X) (last : ℕ) → ((x : ℕ) → is_one_of owed x ≡ is_one_of (second_cells order) x) → seen.entries ≡ [] →
+    ((s : Sheet) → AreEdgesOf es s → AreOwed s (generation_in named) owed (noted_in named noted)) → IsFlushingOver es named noted (second_cells order) (has_seen seen) last
+flushing_first {X} es named noted owed order seen last same empty o s a =
+    flushing_begins s (generation_in named) (noted_in named noted) (second_cells order) (has_seen seen) last (λ c. ap (λ (xs : List (ℕ × X)). is_some (lookup (is_at (nat_cmp c)) xs)) empty)
     (owed_stays s (generation_in named) (noted_in named noted) (noted_in named noted) owed (second_cells order) (λ x h. sym (same x) ∙ h) (λ c n l. (omega arith, (o s a c n l).no_later)) (o s a))
 
 -- What is owed by the rest is owed by all, also where memory ran out, and what is noted is as before.
-pub settling_stays : (es : Edges) (named old new : Generations) (owed rest : List ℕ) (seen : ℕ → Bool) (last : ℕ) → ((c : ℕ) → generation_in new c ≡ generation_in old c) → ((x : ℕ) → is_one_of rest x ≡ true → is_one_of owed x ≡ true) → IsSettlingOver es named old rest seen last →
+pub flushing_stays : (es : Edges) (named old new : Generations) (owed rest : List ℕ) (seen : ℕ → Bool) (last : ℕ) → ((c : ℕ) → generation_in new c ≡ generation_in old c) → ((x : ℕ) → is_one_of rest x ≡ true → is_one_of owed x ≡ true) → IsFlushingOver es named old rest seen last →
     (s : Sheet) → AreEdgesOf es s → AreOwed s (generation_in named) owed (noted_in named new)
-settling_stays es named old new owed rest seen last same g k s a =
+flushing_stays es named old new owed rest seen last same g k s a =
     owed_stays s (generation_in named) (noted_in named old) (noted_in named new) rest owed g (λ c n l. let e = same c in let b = ((k s a).owed c n l).no_later in (omega (arith, e), omega (arith, e, b))) (k s a).owed
 
 -- and where none is left, none is owed
-pub settling_ends : (es : Edges) (named noted : Generations) (order : List (ℕ × ℕ)) (seen : ℕ → Bool) (last : ℕ) → order ≡ [] → IsSettlingOver es named noted (second_cells order) seen last →
+pub flushing_ends : (es : Edges) (named noted : Generations) (order : List (ℕ × ℕ)) (seen : ℕ → Bool) (last : ℕ) → order ≡ [] → IsFlushingOver es named noted (second_cells order) seen last →
     (s : Sheet) → AreEdgesOf es s → AreOwed s (generation_in named) [] (noted_in named noted)
-settling_ends es named noted order seen last e k s a = subst (λ (ys : List (ℕ × ℕ)). AreOwed s (generation_in named) (second_cells ys) (noted_in named noted)) e (k s a).owed
+flushing_ends es named noted order seen last e k s a = subst (λ (ys : List (ℕ × ℕ)). AreOwed s (generation_in named) (second_cells ys) (noted_in named noted)) e (k s a).owed
 
 -- ---- sheets with the same edges
 

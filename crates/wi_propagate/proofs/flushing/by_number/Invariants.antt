@@ -1,5 +1,5 @@
 use Rattle.wi_propagate.proofs.Words.{◌≡◌, ◌||◌, ◌+◌, ℕ, length, keys_of, is_one_of, second_cells}
-use Rattle.wi_propagate.proofs.settling.by_number.Given as goal
+use Rattle.wi_propagate.proofs.flushing.by_number.Given as goal
 
 -- those that were listed, with those still to come, are all
 abbrev pub invariant-loop : goal.invariant-loop

@@ -1,7 +1,7 @@
 use Rattle.wi_engine.proofs.Words.{inl, refl, sym, subst, ◌∙◌, arith, MemoState, IsMemoOf, case_at}
 use Rattle.wi_engine.proofs.engine.NextValues.{may_read_here, next_here, awaits_next, lacks_less, lacked_next}
 use Rattle.wi_engine.proofs.engine.Steps.{steps_none, steps_err, steps_less, steps_wait, steps_cell}
-use Rattle.wi_engine.proofs.engine.settle_cells.Goals as goal
+use Rattle.wi_engine.proofs.engine.resolve_cells.Goals as goal
 
 pub value_now-requires-clause-memo : goal.value_now-requires-clause-memo
 value_now-requires-clause-memo g c = subst (λ (x : MemoState). IsMemoOf c.args.store.now.sheet x) (sym c.cells.invariant.steps.same) c.requires.memo

@@ -1,6 +1,6 @@
 use Rattle.wi_engine.proofs.Words.{◌≡◌, ℕ, true, ◌⊎◌, is_one_of, lacks_cell, Awaits, case_at, lacks, FrameSteps}
 use Rattle.wi_engine.specs.declared.frame.Waiting.TheVariants as states
-use Rattle.wi_engine.proofs.engine.settle_cells.Given as goal
+use Rattle.wi_engine.proofs.engine.resolve_cells.Given as goal
 
 abbrev pub invariant-cells : goal.invariant-cells
 invariant-cells g l = record {

@@ -1,7 +1,7 @@
 use Rattle.wi_propagate.proofs.Words.{◌∙◌, ℕ, max, ap, HasGeneration, sym, has_at}
 use Rattle.wi_propagate.proofs.GenerationSteps.{replaced, still_there}
-use Rattle.wi_propagate.proofs.SettlingSteps.{lifted_more}
-use Rattle.wi_propagate.proofs.settling.lift.Goals as goal
+use Rattle.wi_propagate.proofs.FlushingSteps.{lifted_more}
+use Rattle.wi_propagate.proofs.flushing.lift.Goals as goal
 
 pub loop-cell-preserved : goal.loop-cell-preserved
 loop-cell-preserved c =

@@ -1,7 +1,7 @@
 use Rattle.wi_engine.proofs.Words.{refl, sym, subst, ◌∙◌, MemoState, IsMemoOf, FoundWhatIf}
 use Rattle.wi_engine.proofs.engine.NextValues.{may_read_what_if, may_read_inputs, next_input, next_inner}
 use Rattle.wi_engine.proofs.engine.Steps.{steps_none, steps_err, steps_wait, steps_what_if}
-use Rattle.wi_engine.proofs.engine.settle_what_if.Goals as goal
+use Rattle.wi_engine.proofs.engine.resolve_what_if.Goals as goal
 
 pub world_of_what_if-requires-clause-memo : goal.world_of_what_if-requires-clause-memo
 world_of_what_if-requires-clause-memo g c = c.requires.memo

@@ -1,6 +1,6 @@
 use Rattle.wi_propagate.proofs.Words.{◌≡◌, ◌∙◌, ℕ, length, arith, nil_from_length, keys_of, is_one_of, second_cells}
-use Rattle.wi_propagate.proofs.SettlingSteps.{lists_all, sorted_same}
-use Rattle.wi_propagate.proofs.settling.by_number.Goals as goal
+use Rattle.wi_propagate.proofs.FlushingSteps.{lists_all, sorted_same}
+use Rattle.wi_propagate.proofs.flushing.by_number.Goals as goal
 
 pub returns : goal.returns
 returns c =

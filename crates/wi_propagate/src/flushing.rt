@@ -12,7 +12,7 @@ ghost use Rattle.wi_graph.specs.Inner.Below.{has_seen};
 ghost use Rattle.wi_propagate.specs.KeptSheet.{generation_in};
 ghost use Rattle.wi_propagate.specs.Inner.Keeping.{HasGeneration};
 ghost use Rattle.wi_propagate.specs.Inner.Noted.{noted_in};
-ghost use Rattle.wi_propagate.specs.Inner.Settling.{second_cells};
+ghost use Rattle.wi_propagate.specs.Inner.Flushing.{second_cells};
 
 use crate::generations::{Numbers, greater, number_at, reserve};
 use std::alloc::{AllocError, Global};
@@ -38,7 +38,7 @@ impl<'a> Watch for Seen<'a> {
 
 /// Notes of each cell that reaches some of those that are owed the greatest of their numbers, and none is owed then. If memory runs out,
 /// they are owed still.
-pub(crate) fn settle_all(
+pub(crate) fn flush_all(
     alloc: Global,
     graph: &Graph,
     named: &Numbers,
@@ -52,7 +52,7 @@ pub(crate) fn settle_all(
     ensures owed { (s : Sheet) → AreEdgesOf graph.now.now s
         → AreOwed s (generation_in named.now.entries)
         (keys_of owed.new.entries) (noted_in named.now.entries noted.new.entries) }
-    ensures settled { OnOk result (keys_of owed.new.entries ≡ []) }
+    ensures clean { OnOk result (keys_of owed.new.entries ≡ []) }
 {
     let mut order = by_number(alloc, named, owed)?;
     let mut seen = CellMap::new(alloc);
@@ -61,7 +61,7 @@ pub(crate) fn settle_all(
         let number = number_at(named, entry.1);
         forget(&mut seen, last, number);
         last = number;
-        settle_one(graph, noted, &mut seen, entry.1, number)?;
+        flush_one(graph, noted, &mut seen, entry.1, number)?;
     }
     owed.clear();
     Ok(())
@@ -100,7 +100,7 @@ fn by_number(
 
 /// Notes the number of a cell's last edit of those cells of its cone that weren't seen, and they are seen then. If memory runs out,
 /// what is noted is as before.
-fn settle_one(
+fn flush_one(
     graph: &Graph,
     noted: &mut Numbers,
     seen: &mut CellMap<()>,

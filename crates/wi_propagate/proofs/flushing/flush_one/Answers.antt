@@ -1,5 +1,5 @@
 use Rattle.wi_propagate.proofs.Words.{◌∙◌, ◌&&◌, ◌||◌, not, [], ◌∷◌, ℕ, Bool, List, max, ap, sym, if◌then◌else◌, is_one_of, in_cone, generation_in, has_seen}
-use Rattle.wi_propagate.proofs.settling.settle_one.Goals as goal
+use Rattle.wi_propagate.proofs.flushing.flush_one.Goals as goal
 
 pub lift-requires : goal.lift-requires
 lift-requires c = λ d m. c.in_ok-reserve.ensures.there d (ap (λ (xs : List ℕ). is_one_of xs d) (c.deref-2.ensures ∙ sym c.deref-3.ensures) ∙ m)

@@ -1,5 +1,5 @@
 use Rattle.wi_propagate.proofs.Words.{◌≡◌, ℕ, max, take, if◌then◌else◌, is_one_of, generation_in, HasGeneration}
-use Rattle.wi_propagate.proofs.settling.lift.Given as goal
+use Rattle.wi_propagate.proofs.flushing.lift.Given as goal
 
 abbrev pub invariant-loop-cell : goal.invariant-loop-cell
 invariant-loop-cell l = record {

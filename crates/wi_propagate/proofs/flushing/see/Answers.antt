@@ -1,5 +1,5 @@
-use Rattle.wi_propagate.proofs.SettlingSteps.{seen_more}
-use Rattle.wi_propagate.proofs.settling.see.Goals as goal
+use Rattle.wi_propagate.proofs.FlushingSteps.{seen_more}
+use Rattle.wi_propagate.proofs.flushing.see.Goals as goal
 
 pub loop-cell-preserved : goal.loop-cell-preserved
 loop-cell-preserved c =

@@ -1,10 +1,10 @@
 use Rattle.wi_propagate.proofs.Words.{◌≡◌, ℕ, true, length, keys_of, is_one_of, second_cells, has_seen}
-use Rattle.wi_propagate.proofs.SettlingSteps.{IsSettlingOver}
-use Rattle.wi_propagate.proofs.settling.settle_all.Given as goal
+use Rattle.wi_propagate.proofs.FlushingSteps.{IsFlushingOver}
+use Rattle.wi_propagate.proofs.flushing.flush_all.Given as goal
 
 abbrev pub invariant-cells : goal.invariant-cells
 invariant-cells l = record {
-  settling : IsSettlingOver l.graph.now l.named.entries l.noted.entries (second_cells l.order.items) (has_seen l.seen) l.last;
+  flushing : IsFlushingOver l.graph.now l.named.entries l.noted.entries (second_cells l.order.items) (has_seen l.seen) l.last;
   within : (x : ℕ) → is_one_of (second_cells l.order.items) x ≡ true → is_one_of (keys_of l.owed.entries) x ≡ true;
 }
 
