@@ -1,10 +1,10 @@
 -- Steps of a search over readers: one that stops at watched cells, and one that stops nowhere.
-use Rattle.wi_graph.proofs.Words.{◌≡◌, ◌==◌, ◌&&◌, ◌||◌, ◌⊎◌, inl, inr, not, ℕ, ◌+◌, ◌<◌, ◌↔◌, Bool, true, false, List, [], ◌∷◌, ◌++◌, length, take, get_or, ap, sym, ◌∙◌, subst, arith, or_cases, or_left, or_right, and_parts, and_from, cases_Bool, not-true, not_from_false, false_from_ne_true, length-append, any-filter_same, filter-append, list_any, Contains, nat_cmp, is_at, BTreeSet, contains, IsStrictlyIncreasing, one_truth, Sheet, content_of, content_reads, Bag, IsReader, IsRead, taken_more, is_one_of, in_cone, IsClosedUp, IsUnread, AreEdgesOf, Rooms, edges_in, IsGraph, HasAll, GoesToReaders, IsLeast, IsConeBeyond, IsListBeyond, beyond, as_set, missing, AreNoted, has_key, has-from_Contains, Contains-from_has, refl, IsConeSet}
+use Rattle.wi_graph.proofs.Words.{◌≡◌, ◌==◌, ◌&&◌, ◌||◌, ◌⊎◌, inl, inr, not, ℕ, ◌+◌, ◌<◌, ◌↔◌, Bool, true, false, List, [], ◌∷◌, ◌++◌, length, take, get_or, ap, sym, ◌∙◌, subst, arith, or_cases, or_left, or_right, and_parts, and_from, cases_Bool, not-true, not_from_false, false_from_ne_true, length-append, any-filter_same, filter-append, list_any, Contains, nat_cmp, is_at, BTreeSet, contains, IsStrictlyIncreasing, one_truth, Sheet, content_of, content_reads, Bag, IsReader, IsRead, taken_more, is_one_of, in_cone, IsClosedUp, IsUnread, AreEdgesOf, Rooms, edges_in, IsGraph, HasAll, GoesToReaders, IsLeast, IsConeBeyond, IsListBeyond, beyond, as_set, missing, AreEnqueued, has_key, has-from_Contains, Contains-from_has, refl, IsConeSet}
 use Rattle.wi_values.proofs.Lists.{filter_all}
 use Rattle.wi_graph.proofs.Tests.{is_itself, clash}
 use Rattle.wi_graph.proofs.Walks.{same_cell}
 use Rattle.wi_graph.proofs.SetSteps.{in_last, in_front, in_back}
-use Rattle.wi_graph.proofs.SearchSteps.{AreReaders, all_readers, readers_there, noted_both}
+use Rattle.wi_graph.proofs.SearchSteps.{AreReaders, all_readers, readers_there, enqueued_both}
 use Rattle.wi_graph.proofs.Cones.{cone_has, cone_closed, cone_least}
 use Rattle.wi_graph.proofs.GraphSteps.{graph_readers}
 
@@ -21,11 +21,11 @@ in_beyond w xs c h =
 beyond_in : (w : ℕ → Bool) (xs : List ℕ) (c : ℕ) → is_one_of xs c ≡ true → w c ≡ false → is_one_of (beyond w xs) c ≡ true
 beyond_in w xs c h n = among w xs c ∙ and_from (not (w c)) (is_one_of xs c) (not_from_false (w c) n) h
 
--- one more of some cells is noted
-pub beyond_more : (w : ℕ → Bool) (cells : List ℕ) (i x : ℕ) (old mid new : BTreeSet ℕ) (before work more : List ℕ) → i < length cells → x ≡ get_or cells i x → AreNoted (beyond w (take i cells)) old mid before work → AreNoted (beyond w (x ∷ [])) mid new work more →
-    AreNoted (beyond w (take (i + 1) cells)) old new before more
+-- one more of some cells is enqueued
+pub beyond_more : (w : ℕ → Bool) (cells : List ℕ) (i x : ℕ) (old mid new : BTreeSet ℕ) (before work more : List ℕ) → i < length cells → x ≡ get_or cells i x → AreEnqueued (beyond w (take i cells)) old mid before work → AreEnqueued (beyond w (x ∷ [])) mid new work more →
+    AreEnqueued (beyond w (take (i + 1) cells)) old new before more
 beyond_more w cells i x old mid new before work more l e m n =
-    subst (λ (xs : List ℕ). AreNoted xs old new before more) (sym (ap (beyond w) (taken_more cells i x l e) ∙ filter-append (λ c. not (w c)) (take i cells) (x ∷ []))) (noted_both (beyond w (take i cells)) (beyond w (x ∷ [])) old mid new before work more m n)
+    subst (λ (xs : List ℕ). AreEnqueued xs old new before more) (sym (ap (beyond w) (taken_more cells i x l e) ∙ filter-append (λ c. not (w c)) (take i cells) (x ∷ []))) (enqueued_both (beyond w (take i cells)) (beyond w (x ∷ [])) old mid new before work more m n)
 
 -- ---- the search
 
@@ -36,7 +36,7 @@ pub record IsSearchingBeyond (readers : Bag) (w : ℕ → Bool) (cells : List �
   pub unwatched : (c : ℕ) → contains nat_cmp found c ≡ true → w c ≡ false
   pub least : IsLeast readers cells found
 
-pub beyond_start : (readers : Bag) (w : ℕ → Bool) (cells : List ℕ) (none found : BTreeSet ℕ) (empty work : List ℕ) → none.keys ≡ [] → empty ≡ [] → ((c : ℕ) → is_one_of cells c ≡ true → w c ≡ false) → AreNoted cells none found empty work →
+pub beyond_start : (readers : Bag) (w : ℕ → Bool) (cells : List ℕ) (none found : BTreeSet ℕ) (empty work : List ℕ) → none.keys ≡ [] → empty ≡ [] → ((c : ℕ) → is_one_of cells c ≡ true → w c ≡ false) → AreEnqueued cells none found empty work →
     IsSearchingBeyond readers w cells found work
 beyond_start readers w cells none found empty work e f k n = record {
   all = λ c i. n.found c ∙ or_right (contains nat_cmp none c) _ (in_beyond w cells c i).0;
@@ -60,9 +60,9 @@ beyond_start readers w cells none found empty work e f k n = record {
     first : (c : ℕ) → contains nat_cmp found c ≡ true → is_one_of cells c ≡ true
     first c i = is_first c (or_cases (contains nat_cmp none c) _ (sym (n.found c) ∙ i))
 
-pub beyond_step : (readers : Bag) (w : ℕ → Bool) (cells : List ℕ) (found more : BTreeSet ℕ) (work less after next noted : List ℕ) (cell : ℕ) → work ≡ less ++ cell ∷ [] → AreReaders readers cell next → noted ≡ next →
-    AreNoted (beyond w noted) found more less after → IsSearchingBeyond readers w cells found work → IsSearchingBeyond readers w cells more after
-beyond_step readers w cells found more work less after next noted cell e r q m s = record {
+pub beyond_step : (readers : Bag) (w : ℕ → Bool) (cells : List ℕ) (found more : BTreeSet ℕ) (work less after next enqueued : List ℕ) (cell : ℕ) → work ≡ less ++ cell ∷ [] → AreReaders readers cell next → enqueued ≡ next →
+    AreEnqueued (beyond w enqueued) found more less after → IsSearchingBeyond readers w cells found work → IsSearchingBeyond readers w cells more after
+beyond_step readers w cells found more work less after next enqueued cell e r q m s = record {
   all = λ c i. still c (s.all c i);
   opened = λ a d i j u. opened a d i j u (cases_Bool (contains nat_cmp found a));
   within = λ c i. within c (n.within c i);
@@ -70,8 +70,8 @@ beyond_step readers w cells found more work less after next noted cell e r q m s
   least = λ p i g c j. first p i g c (or_cases (contains nat_cmp found c) _ (sym (n.found c) ∙ j));
 }
   where
-    n : AreNoted (beyond w next) found more less after
-    n = subst (λ (xs : List ℕ). AreNoted xs found more less after) (ap (beyond w) q) m
+    n : AreEnqueued (beyond w next) found more less after
+    n = subst (λ (xs : List ℕ). AreEnqueued xs found more less after) (ap (beyond w) q) m
 
     still : (c : ℕ) → contains nat_cmp found c ≡ true → contains nat_cmp more c ≡ true
     still c i = n.found c ∙ or_left (contains nat_cmp found c) _ i
@@ -116,10 +116,10 @@ beyond_end readers w cells found work e s = record {
     at a r (inr k) = k
 
 -- it ends
-pub beyond_ends : (readers : Bag) (w : ℕ → Bool) (found more : BTreeSet ℕ) (work less after next noted : List ℕ) (cell : ℕ) → work ≡ less ++ cell ∷ [] → AreReaders readers cell next → noted ≡ next → AreNoted (beyond w noted) found more less after →
+pub beyond_ends : (readers : Bag) (w : ℕ → Bool) (found more : BTreeSet ℕ) (work less after next enqueued : List ℕ) (cell : ℕ) → work ≡ less ++ cell ∷ [] → AreReaders readers cell next → enqueued ≡ next → AreEnqueued (beyond w enqueued) found more less after →
     length (missing more (all_readers readers)) + length after < length (missing found (all_readers readers)) + length work
-beyond_ends readers w found more work less after next noted cell e r q m =
-    let n = subst (λ (xs : List ℕ). AreNoted xs found more less after) (ap (beyond w) q) m in
+beyond_ends readers w found more work less after next enqueued cell e r q m =
+    let n = subst (λ (xs : List ℕ). AreEnqueued xs found more less after) (ap (beyond w) q) m in
     let f = n.fewer (all_readers readers) (λ c i. readers_there readers cell c ((r c).0 (Contains-from_has next c (in_beyond w next c i).0))) in
     let t : length work ≡ length less + 1 = ap (λ (xs : List ℕ). length xs) e ∙ length-append less (cell ∷ []) in
     omega (arith, f, t)
@@ -132,19 +132,19 @@ no_watch c = false
 abbrev pub IsSearching : Bag → List ℕ → BTreeSet ℕ → List ℕ → Type 0
 IsSearching readers cells found work = IsSearchingBeyond readers no_watch cells found work
 
-all_beyond : (noted : List ℕ) (found more : BTreeSet ℕ) (less after : List ℕ) → AreNoted noted found more less after → AreNoted (beyond no_watch noted) found more less after
-all_beyond noted found more less after n = subst (λ (xs : List ℕ). AreNoted xs found more less after) (sym (filter_all noted)) n
+all_beyond : (enqueued : List ℕ) (found more : BTreeSet ℕ) (less after : List ℕ) → AreEnqueued enqueued found more less after → AreEnqueued (beyond no_watch enqueued) found more less after
+all_beyond enqueued found more less after n = subst (λ (xs : List ℕ). AreEnqueued xs found more less after) (sym (filter_all enqueued)) n
 
-pub search_start : (readers : Bag) (cells : List ℕ) (none found : BTreeSet ℕ) (empty work : List ℕ) → none.keys ≡ [] → empty ≡ [] → AreNoted cells none found empty work → IsSearching readers cells found work
+pub search_start : (readers : Bag) (cells : List ℕ) (none found : BTreeSet ℕ) (empty work : List ℕ) → none.keys ≡ [] → empty ≡ [] → AreEnqueued cells none found empty work → IsSearching readers cells found work
 search_start readers cells none found empty work e f n = beyond_start readers no_watch cells none found empty work e f (λ c i. refl) n
 
-pub search_step : (readers : Bag) (cells : List ℕ) (found more : BTreeSet ℕ) (work less after next noted : List ℕ) (cell : ℕ) → work ≡ less ++ cell ∷ [] → AreReaders readers cell next → noted ≡ next → AreNoted noted found more less after →
+pub search_step : (readers : Bag) (cells : List ℕ) (found more : BTreeSet ℕ) (work less after next enqueued : List ℕ) (cell : ℕ) → work ≡ less ++ cell ∷ [] → AreReaders readers cell next → enqueued ≡ next → AreEnqueued enqueued found more less after →
     IsSearching readers cells found work → IsSearching readers cells more after
-search_step readers cells found more work less after next noted cell e r q m s = beyond_step readers no_watch cells found more work less after next noted cell e r q (all_beyond noted found more less after m) s
+search_step readers cells found more work less after next enqueued cell e r q m s = beyond_step readers no_watch cells found more work less after next enqueued cell e r q (all_beyond enqueued found more less after m) s
 
-pub search_ends : (readers : Bag) (found more : BTreeSet ℕ) (work less after next noted : List ℕ) (cell : ℕ) → work ≡ less ++ cell ∷ [] → AreReaders readers cell next → noted ≡ next → AreNoted noted found more less after →
+pub search_ends : (readers : Bag) (found more : BTreeSet ℕ) (work less after next enqueued : List ℕ) (cell : ℕ) → work ≡ less ++ cell ∷ [] → AreReaders readers cell next → enqueued ≡ next → AreEnqueued enqueued found more less after →
     length (missing more (all_readers readers)) + length after < length (missing found (all_readers readers)) + length work
-search_ends readers found more work less after next noted cell e r q m = beyond_ends readers no_watch found more work less after next noted cell e r q (all_beyond noted found more less after m)
+search_ends readers found more work less after next enqueued cell e r q m = beyond_ends readers no_watch found more work less after next enqueued cell e r q (all_beyond enqueued found more less after m)
 
 -- what is found so is the cone
 pub whole_cone : (readers : Bag) (cells : List ℕ) (found : BTreeSet ℕ) → IsConeBeyond readers no_watch cells found → IsConeSet readers cells found

@@ -1,5 +1,5 @@
 -- Laws of the latest edit that a cell's value may rest on.
-use Rattle.wi_graph.proofs.Words.{◌≡◌, ◌⊎◌, inl, inr, ◌<◌, ◌≤◌, ◌==◌, ◌&&◌, ◌||◌, not, max, ℕ, zero, suc, Bool, true, false, cond, List, [], ◌∷◌, Option, ap, sym, ◌∙◌, refl, subst, arith, Content, Sheet, content_of, content_reads, Walks, Reaches, is_one_of, SameOff, reaches, in_cone, numbered, IsLatest, LatestOfCone, OneIsLatest, LatestRises, LatestByStep, IsOwed, IsUnread, EditOwes, NoneIsOwed, FlushesOne, FlushingBegins, OwedStays, latest_among, LatestIsAmong, false_from_ne_true, cases_Bool, cases_lt, or_cases, or_left, or_right, or-false}
+use Rattle.wi_graph.proofs.Words.{◌≡◌, ◌⊎◌, inl, inr, ◌<◌, ◌≤◌, ◌==◌, ◌&&◌, ◌||◌, not, max, ℕ, zero, suc, Bool, true, false, cond, List, [], ◌∷◌, Option, ap, sym, ◌∙◌, refl, subst, arith, Content, Sheet, content_of, content_reads, Walks, Reaches, is_one_of, SameOff, reaches, in_cone, numbered, IsLatest, LatestOfCone, OneIsLatest, LatestRises, LatestByStep, IsDirty, IsUnread, EditDirties, NoneIsDirty, FlushesOne, FlushingBegins, DirtyStays, latest_among, LatestIsAmong, false_from_ne_true, cases_Bool, cases_lt, or_cases, or_left, or_right, or-false}
 use Rattle.wi_graph.proofs.Tests.{clash, is_itself}
 use Rattle.wi_graph.proofs.Walks.{same_cell}
 use Rattle.wi_graph.proofs.ReachTest.{reaches_true, true_reaches, in_cone_true, true_in_cone, not_in_cone}
@@ -100,17 +100,17 @@ latest_by_step s number latest c n k own read found = record { most = λ d w. mo
     at (inl e) = inr (c, (0, refl), e)
     at (inr x) = by x.0 x.1 x.2 (k x.0 x.1).reached
 
--- ---- what is owed
+-- ---- what is dirty
 
-owed_outside : (s t : Sheet) (xs owed more : List ℕ) (number noted : ℕ → ℕ) (k c n : ℕ) → SameOff s t xs → ((x : ℕ) → is_one_of owed x ≡ true → is_one_of more x ≡ true) → in_cone s xs c ≡ false → IsOwed s number owed noted c n →
-    IsOwed t (numbered xs k number) more (numbered xs k noted) c n
-owed_outside s t xs owed more number noted k c n same g out o =
-    let e = at_other xs k noted c (not_named s t xs c same out c (0, refl)) in
+dirty_outside : (s t : Sheet) (xs dirty more : List ℕ) (number stamped : ℕ → ℕ) (k c n : ℕ) → SameOff s t xs → ((x : ℕ) → is_one_of dirty x ≡ true → is_one_of more x ≡ true) → in_cone s xs c ≡ false → IsDirty s number dirty stamped c n →
+    IsDirty t (numbered xs k number) more (numbered xs k stamped) c n
+dirty_outside s t xs dirty more number stamped k c n same g out o =
+    let e = at_other xs k stamped c (not_named s t xs c same out c (0, refl)) in
     let b = o.no_later in
-    record { no_later = omega (arith, e, b); noted_or_owed = at o.noted_or_owed }
+    record { no_later = omega (arith, e, b); stamped_or_dirty = at o.stamped_or_dirty }
   where
-    at : (noted c ≡ n) ⊎ ((x : ℕ) × (is_one_of owed x ≡ true) × Reaches s c x × (number x ≡ n)) → (numbered xs k noted c ≡ n) ⊎ ((x : ℕ) × (is_one_of more x ≡ true) × Reaches t c x × (numbered xs k number x ≡ n))
-    at (inl e) = inl (at_other xs k noted c (not_named s t xs c same out c (0, refl)) ∙ e)
+    at : (stamped c ≡ n) ⊎ ((x : ℕ) × (is_one_of dirty x ≡ true) × Reaches s c x × (number x ≡ n)) → (numbered xs k stamped c ≡ n) ⊎ ((x : ℕ) × (is_one_of more x ≡ true) × Reaches t c x × (numbered xs k number x ≡ n))
+    at (inl e) = inl (at_other xs k stamped c (not_named s t xs c same out c (0, refl)) ∙ e)
     at (inr x) = inr (x.0, g x.0 x.1, reached_after s t xs c same out x.0 x.2, at_other xs k number x.0 (not_named s t xs c same out x.0 x.2) ∙ x.3)
 
 -- a cell of the cone reaches an edited cell before the edit and after it
@@ -129,38 +129,38 @@ unread_alone (suc n) s c a u w =
     let e = unread_alone n s w.0 a u w.2 in
     clash (content_reads (content_of s c) a) (subst (λ (d : ℕ). content_reads (content_of s c) d ≡ true) e w.1) (u c)
 
-pub edit_owes : EditOwes
-edit_owes s t xs owed more number noted k same l f g there o c n h = at (in_cone s xs c) refl
+pub edit_owes : EditDirties
+edit_owes s t xs dirty more number stamped k same l f g there o c n h = at (in_cone s xs c) refl
   where
-    inside : k ≡ n → (b : ℕ) → is_one_of xs b ≡ true → Reaches s c b → Reaches t c b → (is_one_of more b ≡ true) ⊎ IsUnread s b → (numbered xs k noted c ≡ n) ⊎ ((x : ℕ) × (is_one_of more x ≡ true) × Reaches t c x × (numbered xs k number x ≡ n))
+    inside : k ≡ n → (b : ℕ) → is_one_of xs b ≡ true → Reaches s c b → Reaches t c b → (is_one_of more b ≡ true) ⊎ IsUnread s b → (numbered xs k stamped c ≡ n) ⊎ ((x : ℕ) × (is_one_of more x ≡ true) × Reaches t c x × (numbered xs k number x ≡ n))
     inside e b m w v (inl r) = inr (b, r, v, at_named xs k number b m ∙ e)
-    inside e b m w v (inr u) = inl (at_named xs k noted c (ap (is_one_of xs) (unread_alone w.0 s c b u w.1) ∙ m) ∙ e)
+    inside e b m w v (inr u) = inl (at_named xs k stamped c (ap (is_one_of xs) (unread_alone w.0 s c b u w.1) ∙ m) ∙ e)
 
-    before : (m : ℕ) → IsLatest s number c m → noted c ≤ k
+    before : (m : ℕ) → IsLatest s number c m → stamped c ≤ k
     before m i = at_most m (o c m i).no_later i.reached
       where
-        at_most : (m : ℕ) → noted c ≤ m → (m ≡ 0) ⊎ ((d : ℕ) × Reaches s c d × (number d ≡ m)) → noted c ≤ k
+        at_most : (m : ℕ) → stamped c ≤ m → (m ≡ 0) ⊎ ((d : ℕ) × Reaches s c d × (number d ≡ m)) → stamped c ≤ k
         at_most m b (inl z) = omega (arith, b, z)
         at_most m b (inr x) = let y = l x.0 in omega (arith, b, y, x.2)
 
-    at : (b : Bool) → in_cone s xs c ≡ b → IsOwed t (numbered xs k number) more (numbered xs k noted) c n
+    at : (b : Bool) → in_cone s xs c ≡ b → IsDirty t (numbered xs k number) more (numbered xs k stamped) c n
     at true i =
         let e = one_is_latest t (numbered xs k number) c k n (in_its_cone s t xs number k c same l i) h in
         let j = in_cone_true s xs c i in
         let w = first_edited j.2.0 s t xs c j.0 same j.1 j.2.1 in
-        let b = no_later_than xs k noted c (before (there c).0 (there c).1) in
-        record { no_later = omega (arith, b, e); noted_or_owed = inside e w.0 w.1 w.2 w.3 (f w.0 w.1) }
+        let b = no_later_than xs k stamped c (before (there c).0 (there c).1) in
+        record { no_later = omega (arith, b, e); stamped_or_dirty = inside e w.0 w.1 w.2 w.3 (f w.0 w.1) }
     at false i =
         let b = there c in
         let e = one_is_latest t (numbered xs k number) c b.0 n (outside_its_cone s t xs number k c b.0 same i b.1) h in
-        subst (IsOwed t (numbered xs k number) more (numbered xs k noted) c) e (owed_outside s t xs owed more number noted k c b.0 same g i (o c b.0 b.1))
+        subst (IsDirty t (numbered xs k number) more (numbered xs k stamped) c) e (dirty_outside s t xs dirty more number stamped k c b.0 same g i (o c b.0 b.1))
 
-pub none_is_owed : NoneIsOwed
-none_is_owed s number noted owed c n none o l = at (o c n l).noted_or_owed
+pub none_is_dirty : NoneIsDirty
+none_is_dirty s number stamped dirty c n none o l = at (o c n l).stamped_or_dirty
   where
-    at : (noted c ≡ n) ⊎ ((x : ℕ) × (is_one_of owed x ≡ true) × Reaches s c x × (number x ≡ n)) → noted c ≡ n
+    at : (stamped c ≡ n) ⊎ ((x : ℕ) × (is_one_of dirty x ≡ true) × Reaches s c x × (number x ≡ n)) → stamped c ≡ n
     at (inl e) = e
-    at (inr x) = clash (is_one_of owed x.0) x.1 (none x.0)
+    at (inr x) = clash (is_one_of dirty x.0) x.1 (none x.0)
 
 -- ---- one after another
 
@@ -174,8 +174,8 @@ one_reached : (s : Sheet) (x c : ℕ) → Reaches s c x → in_cone s (x ∷ [])
 one_reached s x c w = true_in_cone s (x ∷ []) c (x, or_left (x == x) false (is_itself x), w)
 
 pub flushes_one : FlushesOne
-flushes_one s number noted after rest less x last seen now part falls shown raised k = record {
-  owed = λ c n l. owed c n l;
+flushes_one s number stamped after rest less x last seen now part falls shown raised k = record {
+  dirty = λ c n l. dirty c n l;
   closed = λ c d r h. shown c ∙ up c d r (or_cases (seen d) (in_cone s (x ∷ []) d) (sym (shown d) ∙ h));
   high = λ c h. high c (or_cases (seen c) (in_cone s (x ∷ []) c) (sym (shown c) ∙ h));
 }
@@ -184,17 +184,17 @@ flushes_one s number noted after rest less x last seen now part falls shown rais
     up c d r (inl h) = or_left (seen c) _ (k.closed c d r h)
     up c d r (inr h) = or_right (seen c) _ (cone_closed s (x ∷ []) c d r h)
 
-    no_less : (c : ℕ) → noted c ≤ after c
+    no_less : (c : ℕ) → stamped c ≤ after c
     no_less c = at (in_cone s (x ∷ []) c && not (seen c)) (raised c)
       where
-        at : (b : Bool) → after c ≡ cond b (max (noted c) (number x)) (noted c) → noted c ≤ after c
+        at : (b : Bool) → after c ≡ cond b (max (stamped c) (number x)) (stamped c) → stamped c ≤ after c
         at true e = omega (arith, e)
         at false e = omega (arith, e)
 
     in_it : (c : ℕ) → in_cone s (x ∷ []) c ≡ true → (seen c ≡ true) ⊎ (seen c ≡ false) → number x ≤ after c
     in_it c i (inl u) = let a = k.high c u in let b = no_less c in omega (arith, a, b, falls)
     in_it c i (inr u) =
-        let e : after c ≡ max (noted c) (number x) = raised c ∙ ap (λ (b : Bool). cond (b && not (seen c)) (max (noted c) (number x)) (noted c)) i ∙ ap (λ (b : Bool). cond (true && not b) (max (noted c) (number x)) (noted c)) u in
+        let e : after c ≡ max (stamped c) (number x) = raised c ∙ ap (λ (b : Bool). cond (b && not (seen c)) (max (stamped c) (number x)) (stamped c)) i ∙ ap (λ (b : Bool). cond (true && not b) (max (stamped c) (number x)) (stamped c)) u in
         omega (arith, e)
 
     high : (c : ℕ) → (seen c ≡ true) ⊎ (in_cone s (x ∷ []) c ≡ true) → number x ≤ after c
@@ -204,19 +204,19 @@ flushes_one s number noted after rest less x last seen now part falls shown rais
     no_more : (c n : ℕ) → IsLatest s number c n → after c ≤ n
     no_more c n l = at (cases_Bool (in_cone s (x ∷ []) c))
       where
-        before : noted c ≤ n
-        before = (k.owed c n l).no_later
+        before : stamped c ≤ n
+        before = (k.dirty c n l).no_later
 
-        there : number x ≤ n → (b : Bool) → after c ≡ cond b (max (noted c) (number x)) (noted c) → after c ≤ n
+        there : number x ≤ n → (b : Bool) → after c ≡ cond b (max (stamped c) (number x)) (stamped c) → after c ≤ n
         there m true e = let b = before in omega (arith, e, m, b)
         there m false e = let b = before in omega (arith, e, b)
 
         at : (in_cone s (x ∷ []) c ≡ true) ⊎ (in_cone s (x ∷ []) c ≡ false) → after c ≤ n
         at (inl i) = there (l.most x (reaches_one s x c i)) (in_cone s (x ∷ []) c && not (seen c)) (raised c)
-        at (inr i) = let e = raised c ∙ ap (λ (b : Bool). cond (b && not (seen c)) (max (noted c) (number x)) (noted c)) i in let b = before in omega (arith, e, b)
+        at (inr i) = let e = raised c ∙ ap (λ (b : Bool). cond (b && not (seen c)) (max (stamped c) (number x)) (stamped c)) i in let b = before in omega (arith, e, b)
 
-    owed : (c n : ℕ) → IsLatest s number c n → IsOwed s number less after c n
-    owed c n l = record { no_later = no_more c n l; noted_or_owed = at (k.owed c n l).noted_or_owed }
+    dirty : (c n : ℕ) → IsLatest s number c n → IsDirty s number less after c n
+    dirty c n l = record { no_later = no_more c n l; stamped_or_dirty = at (k.dirty c n l).stamped_or_dirty }
       where
         of_it : (y : ℕ) → Reaches s c y → number y ≡ n → x ≡ y → after c ≡ n
         of_it y w e q =
@@ -229,21 +229,21 @@ flushes_one s number noted after rest less x last seen now part falls shown rais
         by y w e (inl q) = inl (of_it y w e q)
         by y w e (inr m) = inr (y, m, w, e)
 
-        at : (noted c ≡ n) ⊎ ((y : ℕ) × (is_one_of rest y ≡ true) × Reaches s c y × (number y ≡ n)) → (after c ≡ n) ⊎ ((z : ℕ) × (is_one_of less z ≡ true) × Reaches s c z × (number z ≡ n))
+        at : (stamped c ≡ n) ⊎ ((y : ℕ) × (is_one_of rest y ≡ true) × Reaches s c y × (number y ≡ n)) → (after c ≡ n) ⊎ ((z : ℕ) × (is_one_of less z ≡ true) × Reaches s c z × (number z ≡ n))
         at (inl e) = let a = no_less c in let b = no_more c n l in inl (omega (arith, a, b, e))
         at (inr y) = by y.0 y.2 y.3 (part y.0 y.1)
 
 pub flushing_begins : FlushingBegins
-flushing_begins s number noted rest seen last none o = record {
-  owed = o;
+flushing_begins s number stamped rest seen last none o = record {
+  dirty = o;
   closed = λ c d r h. clash (seen d) h (none d);
   high = λ c h. clash (seen c) h (none c);
 }
 
-pub owed_stays : OwedStays
-owed_stays s number noted after owed more g b o c n l = record { no_later = (b c n l).1; noted_or_owed = at (o c n l).noted_or_owed }
+pub dirty_stays : DirtyStays
+dirty_stays s number stamped after dirty more g b o c n l = record { no_later = (b c n l).1; stamped_or_dirty = at (o c n l).stamped_or_dirty }
   where
-    at : (noted c ≡ n) ⊎ ((x : ℕ) × (is_one_of owed x ≡ true) × Reaches s c x × (number x ≡ n)) → (after c ≡ n) ⊎ ((x : ℕ) × (is_one_of more x ≡ true) × Reaches s c x × (number x ≡ n))
+    at : (stamped c ≡ n) ⊎ ((x : ℕ) × (is_one_of dirty x ≡ true) × Reaches s c x × (number x ≡ n)) → (after c ≡ n) ⊎ ((x : ℕ) × (is_one_of more x ≡ true) × Reaches s c x × (number x ≡ n))
     at (inl e) = let p = (b c n l).0 in let q = (b c n l).1 in inl (omega (arith, e, p, q))
     at (inr x) = inr (x.0, g x.0 x.1, x.2, x.3)
 

@@ -1,14 +1,14 @@
 -- Steps of a search over readers.
-use Rattle.wi_graph.proofs.Words.{◌≡◌, ◌==◌, ◌||◌, ◌⊎◌, inl, inr, not, ℕ, ◌+◌, ◌<◌, ◌↔◌, Bool, true, false, cond, List, [], ◌∷◌, ◌++◌, map, length, take, get_or, Some, Result, Ok, Err, IfOk, refl, ap, sym, ◌∙◌, subst, arith, or-false, or_assoc, list_any-append, or_cases, or_left, or_right, cases_Bool, not-true, not_from_false, length-append, Vec, Contains, lookup, unwrap_or, nat_cmp, BTreeSet, contains, IsStrictlyIncreasing, Sheet, content_of, content_reads, RangePair, Bag, IsReader, IsRead, is_same, count_of, same_is, is_one_of, in_cone, HasAll, HasReaders, IsLeast, IsConeOf, IsConeSet, as_set, missing, AreNoted, one_truth, taken_more, has_key, has-from_Contains, Contains-from_has}
+use Rattle.wi_graph.proofs.Words.{◌≡◌, ◌==◌, ◌||◌, ◌⊎◌, inl, inr, not, ℕ, ◌+◌, ◌<◌, ◌↔◌, Bool, true, false, cond, List, [], ◌∷◌, ◌++◌, map, length, take, get_or, Some, Result, Ok, Err, IfOk, refl, ap, sym, ◌∙◌, subst, arith, or-false, or_assoc, list_any-append, or_cases, or_left, or_right, cases_Bool, not-true, not_from_false, length-append, Vec, Contains, lookup, unwrap_or, nat_cmp, BTreeSet, contains, IsStrictlyIncreasing, Sheet, content_of, content_reads, RangePair, Bag, IsReader, IsRead, is_same, count_of, same_is, is_one_of, in_cone, HasAll, HasReaders, IsLeast, IsConeOf, IsConeSet, as_set, missing, AreEnqueued, one_truth, taken_more, has_key, has-from_Contains, Contains-from_has}
 use Rattle.wi_graph.proofs.Tests.{is_itself, clash}
 use Rattle.wi_graph.proofs.Walks.{same_cell, shrinks, Same}
 use Rattle.wi_graph.proofs.SetSteps.{in_last, in_front, in_back, Gains, gains, gains_stays, gains_one, gains_cases, taken}
 use Rattle.wi_graph.proofs.Cones.{cone_has, cone_closed, cone_least}
 
--- ---- cells are noted
+-- ---- cells are enqueued
 
-pub noted_none : (s : BTreeSet ℕ) (work : List ℕ) → AreNoted [] s s work work
-noted_none s work = record {
+pub enqueued_none : (s : BTreeSet ℕ) (work : List ℕ) → AreEnqueued [] s s work work
+enqueued_none s work = record {
   found = λ c. sym (or-false (contains nat_cmp s c));
   stays = λ c h. h;
   fresh = λ c h n. clash (contains nat_cmp s c) h n;
@@ -48,8 +48,8 @@ fewer_missing all mid new x g n m = at (shrinks (λ c. not (contains nat_cmp mid
     at (inr s) = clash (contains nat_cmp new x) (gains_one mid new x g) (not-true (contains nat_cmp new x) (s.1 x m (not_from_false (contains nat_cmp mid x) n)))
 
 -- one that is new
-pub noted_new : (x : ℕ) (old new : BTreeSet ℕ) (work more : List ℕ) → contains nat_cmp old x ≡ false → Gains old new x → more ≡ work ++ x ∷ [] → AreNoted (x ∷ []) old new work more
-noted_new x old new work more h g w = record {
+pub enqueued_new : (x : ℕ) (old new : BTreeSet ℕ) (work more : List ℕ) → contains nat_cmp old x ≡ false → Gains old new x → more ≡ work ++ x ∷ [] → AreEnqueued (x ∷ []) old new work more
+enqueued_new x old new work more h g w = record {
   found = has_more old new x g;
   stays = λ c k. ap (λ (xs : List ℕ). is_one_of xs c) w ∙ in_front work (x ∷ []) c k;
   fresh = λ c k u. ap (λ (xs : List ℕ). is_one_of xs c) w ∙ new_one c u (gains_cases old new x g c k);
@@ -69,8 +69,8 @@ noted_new x old new work more h g w = record {
     at c (inr k) = inr (ap (λ (y : ℕ). contains nat_cmp new y) (sym k) ∙ gains_one old new x g)
 
 -- some, and then others
-pub noted_both : (xs ys : List ℕ) (old mid new : BTreeSet ℕ) (before between after : List ℕ) → AreNoted xs old mid before between → AreNoted ys mid new between after → AreNoted (xs ++ ys) old new before after
-noted_both xs ys old mid new before between after m n = record {
+pub enqueued_both : (xs ys : List ℕ) (old mid new : BTreeSet ℕ) (before between after : List ℕ) → AreEnqueued xs old mid before between → AreEnqueued ys mid new between after → AreEnqueued (xs ++ ys) old new before after
+enqueued_both xs ys old mid new before between after m n = record {
   found = λ c.
       n.found c ∙ ap (λ (b : Bool). b || is_one_of ys c) (m.found c) ∙ or_assoc (contains nat_cmp old c) (is_one_of xs c) (is_one_of ys c)
       ∙ ap (λ (b : Bool). contains nat_cmp old c || b) (sym (list_any-append (λ (y : ℕ). y == c) xs ys));
@@ -96,9 +96,9 @@ noted_both xs ys old mid new before between after m n = record {
     last c (inr h) = inr h
 
 -- one more of some cells
-pub noted_more : (cells : List ℕ) (i x : ℕ) (old mid new : BTreeSet ℕ) (before work more : List ℕ) → i < length cells → x ≡ get_or cells i x → AreNoted (take i cells) old mid before work → AreNoted (x ∷ []) mid new work more →
-    AreNoted (take (i + 1) cells) old new before more
-noted_more cells i x old mid new before work more l e m n = subst (λ (xs : List ℕ). AreNoted xs old new before more) (sym (taken_more cells i x l e)) (noted_both (take i cells) (x ∷ []) old mid new before work more m n)
+pub enqueued_more : (cells : List ℕ) (i x : ℕ) (old mid new : BTreeSet ℕ) (before work more : List ℕ) → i < length cells → x ≡ get_or cells i x → AreEnqueued (take i cells) old mid before work → AreEnqueued (x ∷ []) mid new work more →
+    AreEnqueued (take (i + 1) cells) old new before more
+enqueued_more cells i x old mid new before work more l e m n = subst (λ (xs : List ℕ). AreEnqueued xs old new before more) (sym (taken_more cells i x l e)) (enqueued_both (take i cells) (x ∷ []) old mid new before work more m n)
 
 -- ---- those that read a cell
 

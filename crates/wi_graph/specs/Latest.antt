@@ -35,51 +35,51 @@ LatestByStep = (s : Sheet) (number latest : ℕ → ℕ) (c n : ℕ) → ((d : �
     number c ≤ n → ((d : ℕ) → content_reads (content_of s c) d ≡ true → latest d ≤ n) →
     (number c ≡ n) ⊎ ((d : ℕ) × (content_reads (content_of s c) d ≡ true) × (latest d ≡ n)) → IsLatest s number c n
 
--- ---- latest edits that are noted late
+-- ---- latest edits that are stamped late
 
--- Of each cell the latest is noted, or it is that of one of some cells which it reaches; what is noted is no later.
-pub record IsOwed (s : Sheet) (number : ℕ → ℕ) (owed : List ℕ) (noted : ℕ → ℕ) (c n : ℕ) : Type 0 where
-  pub no_later : noted c ≤ n
-  pub noted_or_owed : (noted c ≡ n) ⊎ ((x : ℕ) × (is_one_of owed x ≡ true) × Reaches s c x × (number x ≡ n))
+-- Each cell is stamped with its latest, or it is that of a dirty cell which it reaches; no stamp is later.
+pub record IsDirty (s : Sheet) (number : ℕ → ℕ) (dirty : List ℕ) (stamped : ℕ → ℕ) (c n : ℕ) : Type 0 where
+  pub no_later : stamped c ≤ n
+  pub stamped_or_dirty : (stamped c ≡ n) ⊎ ((x : ℕ) × (is_one_of dirty x ≡ true) × Reaches s c x × (number x ≡ n))
 
-abbrev pub AreOwed : Sheet → (ℕ → ℕ) → List ℕ → (ℕ → ℕ) → Type 0
-AreOwed s number owed noted = (c n : ℕ) → IsLatest s number c n → IsOwed s number owed noted c n
+abbrev pub AreDirty : Sheet → (ℕ → ℕ) → List ℕ → (ℕ → ℕ) → Type 0
+AreDirty s number dirty stamped = (c n : ℕ) → IsLatest s number c n → IsDirty s number dirty stamped c n
 
 -- no formula reads the cell
 abbrev pub IsUnread : Sheet → ℕ → Type 0
 IsUnread s x = (c : ℕ) → content_reads (content_of s c) x ≡ false
 
--- An edit notes its number of its cells, and owes those of them that are read, beside those that were owed.
-abbrev pub EditOwes : Type 0
-EditOwes = (s t : Sheet) (xs owed more : List ℕ) (number noted : ℕ → ℕ) (k : ℕ) → SameOff s t xs → ((d : ℕ) → number d ≤ k) →
-    ((x : ℕ) → is_one_of xs x ≡ true → (is_one_of more x ≡ true) ⊎ IsUnread s x) → ((x : ℕ) → is_one_of owed x ≡ true → is_one_of more x ≡ true) → ((c : ℕ) → (n : ℕ) × IsLatest s number c n) →
-    AreOwed s number owed noted → AreOwed t (numbered xs k number) more (numbered xs k noted)
+-- An edit stamps its cells, and those of them that are read are dirty, beside those that were.
+abbrev pub EditDirties : Type 0
+EditDirties = (s t : Sheet) (xs dirty more : List ℕ) (number stamped : ℕ → ℕ) (k : ℕ) → SameOff s t xs → ((d : ℕ) → number d ≤ k) →
+    ((x : ℕ) → is_one_of xs x ≡ true → (is_one_of more x ≡ true) ⊎ IsUnread s x) → ((x : ℕ) → is_one_of dirty x ≡ true → is_one_of more x ≡ true) → ((c : ℕ) → (n : ℕ) × IsLatest s number c n) →
+    AreDirty s number dirty stamped → AreDirty t (numbered xs k number) more (numbered xs k stamped)
 
--- where none is owed, the latest is what is noted
-abbrev pub NoneIsOwed : Type 0
-NoneIsOwed = (s : Sheet) (number noted : ℕ → ℕ) (owed : List ℕ) (c n : ℕ) → ((x : ℕ) → is_one_of owed x ≡ false) → AreOwed s number owed noted → IsLatest s number c n → noted c ≡ n
+-- where none is dirty, the latest is the stamp
+abbrev pub NoneIsDirty : Type 0
+NoneIsDirty = (s : Sheet) (number stamped : ℕ → ℕ) (dirty : List ℕ) (c n : ℕ) → ((x : ℕ) → is_one_of dirty x ≡ false) → AreDirty s number dirty stamped → IsLatest s number c n → stamped c ≡ n
 
--- The rest owe what isn't noted, and of the cells that were seen no earlier edit than this is noted.
-pub record IsFlushing (s : Sheet) (number noted : ℕ → ℕ) (rest : List ℕ) (seen : ℕ → Bool) (last : ℕ) : Type 0 where
-  pub owed : AreOwed s number rest noted
+-- The rest is dirty, and no visited cell has a stamp earlier than this.
+pub record IsFlushing (s : Sheet) (number stamped : ℕ → ℕ) (rest : List ℕ) (seen : ℕ → Bool) (last : ℕ) : Type 0 where
+  pub dirty : AreDirty s number rest stamped
   pub closed : IsClosedUp s seen
-  pub high : (c : ℕ) → seen c ≡ true → last ≤ noted c
+  pub high : (c : ℕ) → seen c ≡ true → last ≤ stamped c
 
--- So the cells are settled one after another, later edits first: the number of each is noted of those cells of its cone that weren't seen.
+-- So the cells are flushed one after another, later edits first: each stamps those cells of its cone that weren't visited.
 abbrev pub FlushesOne : Type 0
-FlushesOne = (s : Sheet) (number noted after : ℕ → ℕ) (rest less : List ℕ) (x last : ℕ) (seen now : ℕ → Bool) →
+FlushesOne = (s : Sheet) (number stamped after : ℕ → ℕ) (rest less : List ℕ) (x last : ℕ) (seen now : ℕ → Bool) →
     ((y : ℕ) → is_one_of rest y ≡ true → (x ≡ y) ⊎ (is_one_of less y ≡ true)) → number x ≤ last →
-    ((c : ℕ) → now c ≡ (seen c || in_cone s (x ∷ []) c)) → ((c : ℕ) → after c ≡ cond (in_cone s (x ∷ []) c && not (seen c)) (max (noted c) (number x)) (noted c)) →
-    IsFlushing s number noted rest seen last → IsFlushing s number after less now (number x)
+    ((c : ℕ) → now c ≡ (seen c || in_cone s (x ∷ []) c)) → ((c : ℕ) → after c ≡ cond (in_cone s (x ∷ []) c && not (seen c)) (max (stamped c) (number x)) (stamped c)) →
+    IsFlushing s number stamped rest seen last → IsFlushing s number after less now (number x)
 
--- Before the first, nothing was seen. So it may begin again where a later edit comes behind an earlier one.
+-- Before the first, none was visited. So it may begin again where a later edit comes behind an earlier one.
 abbrev pub FlushingBegins : Type 0
-FlushingBegins = (s : Sheet) (number noted : ℕ → ℕ) (rest : List ℕ) (seen : ℕ → Bool) (last : ℕ) → ((c : ℕ) → seen c ≡ false) → AreOwed s number rest noted → IsFlushing s number noted rest seen last
+FlushingBegins = (s : Sheet) (number stamped : ℕ → ℕ) (rest : List ℕ) (seen : ℕ → Bool) (last : ℕ) → ((c : ℕ) → seen c ≡ false) → AreDirty s number rest stamped → IsFlushing s number stamped rest seen last
 
--- What is owed stays so where more is noted, but nothing later than the latest, and more cells are owed: also where memory ran out half way.
-abbrev pub OwedStays : Type 0
-OwedStays = (s : Sheet) (number noted after : ℕ → ℕ) (owed more : List ℕ) → ((x : ℕ) → is_one_of owed x ≡ true → is_one_of more x ≡ true) →
-    ((c n : ℕ) → IsLatest s number c n → (noted c ≤ after c) × (after c ≤ n)) → AreOwed s number owed noted → AreOwed s number more after
+-- What is dirty stays so where more is stamped, but nothing later than the latest, and more cells are dirty: also where memory ran out half way.
+abbrev pub DirtyStays : Type 0
+DirtyStays = (s : Sheet) (number stamped after : ℕ → ℕ) (dirty more : List ℕ) → ((x : ℕ) → is_one_of dirty x ≡ true → is_one_of more x ≡ true) →
+    ((c n : ℕ) → IsLatest s number c n → (stamped c ≤ after c) × (after c ≤ n)) → AreDirty s number dirty stamped → AreDirty s number more after
 
 -- ---- a list of numbers
 

@@ -2,9 +2,9 @@
 
 ghost use Rattle.std.specs.Prelude.{◌≡◌, ◌∷◌, ℕ, [], true, false, IfOk, OnOk};
 ghost use Rattle.wi_values.specs.Address.{is_one_of};
-ghost use Rattle.wi_graph.specs.Inner.Search.{IsConeBeyond, IsListBeyond, AreNoted, beyond};
+ghost use Rattle.wi_graph.specs.Inner.Search.{IsConeBeyond, IsListBeyond, AreEnqueued, beyond};
 
-use crate::cone::{are_alone, note, note_one};
+use crate::cone::{are_alone, enqueue, enqueue_one};
 use crate::watch::Watch;
 use smallvec::SmallVec;
 use std::alloc::{AllocError, Global};
@@ -48,44 +48,44 @@ pub(crate) fn cone_beyond<W: Watch>(
 {
     let mut found = RisingSet::new(alloc);
     let mut work = Vec::new(alloc);
-    note(cells, &mut found, &mut work)?;
+    enqueue(cells, &mut found, &mut work)?;
     'cells: while let Some(cell) = work.pop() {
         let next = readers.readers_of(cell)?;
-        note_beyond(&next, watch, &mut found, &mut work)?;
+        enqueue_beyond(&next, watch, &mut found, &mut work)?;
     }
     Ok(found)
 }
 
 /// Puts those of some cells that aren't watched into a set, and those that are new there at the end of a list.
-fn note_beyond<W: Watch>(
+fn enqueue_beyond<W: Watch>(
     cells: &[Address],
     watch: &W,
     found: &mut RisingSet,
     work: &mut Vec<Address>,
 ) -> Result<(), AllocError>
-    ensures { OnOk result (AreNoted (beyond (W.watched watch.now) cells.now)
+    ensures { OnOk result (AreEnqueued (beyond (W.watched watch.now) cells.now)
         found.old found.new work.old.items work.new.items) }
 {
     for cell in cells {
-        note_unwatched(*cell, watch, found, work)?;
+        enqueue_unwatched(*cell, watch, found, work)?;
     }
     Ok(())
 }
 
 /// The same of one cell.
-fn note_unwatched<W: Watch>(
+fn enqueue_unwatched<W: Watch>(
     cell: Address,
     watch: &W,
     found: &mut RisingSet,
     work: &mut Vec<Address>,
 ) -> Result<(), AllocError>
-    ensures { OnOk result (AreNoted (beyond (W.watched watch.now) (cell ∷ []))
+    ensures { OnOk result (AreEnqueued (beyond (W.watched watch.now) (cell ∷ []))
         found.old found.new work.old.items work.new.items) }
 {
     if watch.has(cell) {
         return Ok(());
     }
-    note_one(cell, found, work)
+    enqueue_one(cell, found, work)
 }
 
 /// Those of the cells that aren't watched.

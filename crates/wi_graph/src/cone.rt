@@ -4,7 +4,7 @@ ghost use Rattle.std.specs.Prelude.{◌≡◌, ◌∷◌, ℕ, [], true, false, 
 ghost use Rattle.std.specs.List.Sorted.{IsStrictlyIncreasing};
 ghost use Rattle.wi_ranges.specs.Bag.{IsReader, IsRead};
 ghost use Rattle.wi_values.specs.Address.{is_one_of};
-ghost use Rattle.wi_graph.specs.Inner.Search.{IsConeOf, AreNoted};
+ghost use Rattle.wi_graph.specs.Inner.Search.{IsConeOf, AreEnqueued};
 
 use crate::beyond::cone_beyond;
 use crate::watch::Unwatched;
@@ -55,26 +55,28 @@ pub(crate) fn any_is_read(readers: &RangeIndex, cells: &[Address]) -> bool
 }
 
 /// Puts cells into a set, and those that are new there at the end of a list.
-pub(crate) fn note(
+pub(crate) fn enqueue(
     cells: &[Address],
     found: &mut RisingSet,
     work: &mut Vec<Address>,
 ) -> Result<(), AllocError>
-    ensures { OnOk result (AreNoted cells.now found.old found.new work.old.items work.new.items) }
+    ensures { OnOk result
+        (AreEnqueued cells.now found.old found.new work.old.items work.new.items) }
 {
     for cell in cells {
-        note_one(*cell, found, work)?;
+        enqueue_one(*cell, found, work)?;
     }
     Ok(())
 }
 
 /// Puts a cell into a set, and at the end of a list if it is new there.
-pub(crate) fn note_one(
+pub(crate) fn enqueue_one(
     cell: Address,
     found: &mut RisingSet,
     work: &mut Vec<Address>,
 ) -> Result<(), AllocError>
-    ensures { OnOk result (AreNoted (cell ∷ []) found.old found.new work.old.items work.new.items) }
+    ensures { OnOk result (AreEnqueued
+        (cell ∷ []) found.old found.new work.old.items work.new.items) }
 {
     if found.insert(cell)? {
         work.push(cell)?;

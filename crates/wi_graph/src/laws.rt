@@ -6,7 +6,7 @@ ghost use Rattle.wi_parser.specs.Sheet.{Sheet, content_of, has_formula, cells_wi
 ghost use Rattle.wi_graph.specs.Circular.{circular};
 ghost use Rattle.wi_graph.specs.Reach.{Walks};
 ghost use Rattle.wi_graph.specs.Edges.{Edges, AreEdgesOf, edges_after, sheet_after};
-ghost use Rattle.wi_graph.specs.Latest.{LatestOfCone, OneIsLatest, LatestRises, LatestByStep, LatestIsAmong, EditOwes, NoneIsOwed, OwedStays, FlushingBegins, FlushesOne};
+ghost use Rattle.wi_graph.specs.Latest.{LatestOfCone, OneIsLatest, LatestRises, LatestByStep, LatestIsAmong, EditDirties, NoneIsDirty, DirtyStays, FlushingBegins, FlushesOne};
 
 /// A cell is circular exactly where walks of references of every length begin with it, and exactly where one does that has as many
 /// steps as there are formulas and ends with a formula.
@@ -33,11 +33,11 @@ pub fn latest_is_reached()
     ensures among { LatestIsAmong }
 {}
 
-/// It may be noted late, as long as it is known which edits are owed.
-pub fn latest_may_be_owed()
-    ensures edit { EditOwes }
-    ensures none { NoneIsOwed }
-    ensures stays { OwedStays }
+/// It may be stamped late, as long as it is known which cells are dirty.
+pub fn latest_may_be_dirty()
+    ensures edit { EditDirties }
+    ensures none { NoneIsDirty }
+    ensures stays { DirtyStays }
     ensures begins { FlushingBegins }
     ensures flushes { FlushesOne }
 {}

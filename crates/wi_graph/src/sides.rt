@@ -13,7 +13,7 @@ use crate::below::{begin_below, go_below, is_clear};
 use crate::cell_set::CellSet;
 use crate::changes::changed_cells;
 use crate::closing::meets_circle;
-use crate::cone::{listed_cone, note};
+use crate::cone::{enqueue, listed_cone};
 use crate::rooms::{Brought, Rooms};
 use std::alloc::{AllocError, Global};
 use wi_parser::NewContent;
@@ -93,7 +93,7 @@ fn both_sides(
 {
     let mut found = RisingSet::new(alloc);
     let mut work = Vec::new(alloc);
-    note(cells, &mut found, &mut work)?;
+    enqueue(cells, &mut found, &mut work)?;
     let mut below = begin_below(alloc, entry.0, &entry.1)?;
     let mut steps = 1;
     'cells: while let Some(cell) = work.pop() {
@@ -102,7 +102,7 @@ fn both_sides(
             return Ok(None);
         }
         let next = readers.readers_of(cell)?;
-        note(&next, &mut found, &mut work)?;
+        enqueue(&next, &mut found, &mut work)?;
         steps = next.len().max(1);
     }
     Ok(Some(found))

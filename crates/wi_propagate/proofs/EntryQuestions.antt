@@ -9,10 +9,10 @@ replacing_cell_read (p ∷ ps) zero x less = or_left (p.1 == p.1) (is_one_of (ma
 replacing_cell_read (p ∷ ps) (suc i) x less = or_right (p.1 == (get_or ps i x).1) (is_one_of (map (λ q. q.1) ps) (get_or ps i x).1) (replacing_cell_read ps i x (omega arith))
 
 -- the cells whose values an entry asks for, none of which is circular
-module _ (s : Sheet) (f : ℕ) (pairs : List (ℕ × ℕ)) (cells : List ℕ) (named : cells ≡ f ∷ map (λ p. p.1) pairs) (clear : list_any (circular s) cells ≡ false) where
+module _ (s : Sheet) (f : ℕ) (pairs : List (ℕ × ℕ)) (cells : List ℕ) (edited_at : cells ≡ f ∷ map (λ p. p.1) pairs) (clear : list_any (circular s) cells ≡ false) where
   -- none of them is
   pub open_cells_of : (circular s f ≡ false) × All (λ x. circular s x.1 ≡ false) pairs
-  open_cells_of = cells_open s f pairs (test_of_cells s f pairs cells named ∙ clear)
+  open_cells_of = cells_open s f pairs (test_of_cells s f pairs cells edited_at ∙ clear)
 
   -- its replacement cells may be valued, where keys are made for all cells with a formula among them
   pub replacing_readable : (order : List ℕ) (q : OneQuestion) → q ≡ remembered s order [] → ((c : ℕ) → is_one_of cells c ≡ true → has_formula (content_of s c) ≡ true → is_one_of order c ≡ true) →
@@ -22,7 +22,7 @@ module _ (s : Sheet) (f : ℕ) (pairs : List (ℕ × ℕ)) (cells : List ℕ) (n
       let read = or_right (f == c) (is_one_of (map (λ p. p.1) pairs) c) (replacing_cell_read pairs i x less) in
       record {
         open_cell = open_cells_of.1 i x less;
-        covered = λ h. ap (λ (y : OneQuestion). is_one_of y.cells c) e ∙ roots c (ap (λ (xs : List ℕ). is_one_of xs c) named ∙ read) h;
+        covered = λ h. ap (λ (y : OneQuestion). is_one_of y.cells c) e ∙ roots c (ap (λ (xs : List ℕ). is_one_of xs c) edited_at ∙ read) h;
       }
 
   -- and so may its formula cell
@@ -31,7 +31,7 @@ module _ (s : Sheet) (f : ℕ) (pairs : List (ℕ × ℕ)) (cells : List ℕ) (n
       let read = or_left (f == f) (is_one_of (map (λ p. p.1) pairs) f) (eq-eqb f f refl) in
       record {
         open_cell = open_cells_of.0;
-        covered = λ h. ap (λ (y : OneQuestion). is_one_of y.cells f) e ∙ roots f (ap (λ (xs : List ℕ). is_one_of xs f) named ∙ read) h;
+        covered = λ h. ap (λ (y : OneQuestion). is_one_of y.cells f) e ∙ roots f (ap (λ (xs : List ℕ). is_one_of xs f) edited_at ∙ read) h;
       }
 
 -- ---- one replacement cell more

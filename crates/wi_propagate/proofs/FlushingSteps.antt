@@ -1,8 +1,8 @@
--- What is owed is noted, one edit after another.
-use Rattle.wi_propagate.proofs.Words.{◌≡◌, ◌==◌, ◌||◌, ◌&&◌, ◌⊎◌, inl, inr, not, ◌≤◌, ◌<◌, ◌+◌, max, ℕ, Bool, true, false, cond, List, [], ◌∷◌, length, take, get_or, ◌++◌, nat_lt, Option, Some, is_some, refl, ap, sym, ◌∙◌, subst, arith, eqb-true, or-false, map-append, list_any-IsPermutation, IsPermutation-map, IsPermutation, unwrap_or, nat_cmp, keys_of, lookup, is_at, insert_entry, CellEntries, get, Sheet, Reaches, is_one_of, reaches, in_cone, Edges, AreEdgesOf, IsLatest, IsOwed, AreOwed, IsFlushing, reaches_true, true_reaches, same_reaches, in_last, in_front, flushes_one, flushing_begins, owed_stays, Generations, generation_in, noted_in, second_cells, has_seen, ltb-false, seen_one, has_one_more, or_assoc, or_new}
+-- Dirty cells are flushed, one edit after another.
+use Rattle.wi_propagate.proofs.Words.{◌≡◌, ◌==◌, ◌||◌, ◌&&◌, ◌⊎◌, inl, inr, not, ◌≤◌, ◌<◌, ◌+◌, max, ℕ, Bool, true, false, cond, List, [], ◌∷◌, length, take, get_or, ◌++◌, nat_lt, Option, Some, is_some, refl, ap, sym, ◌∙◌, subst, arith, eqb-true, or-false, map-append, list_any-IsPermutation, IsPermutation-map, IsPermutation, unwrap_or, nat_cmp, keys_of, lookup, is_at, insert_entry, CellEntries, get, Sheet, Reaches, is_one_of, reaches, in_cone, Edges, AreEdgesOf, IsLatest, IsDirty, AreDirty, IsFlushing, reaches_true, true_reaches, same_reaches, in_last, in_front, flushes_one, flushing_begins, dirty_stays, Generations, generation_in, stamped_in, second_cells, has_seen, ltb-false, seen_one, has_one_more, or_assoc, or_new}
 use Rattle.wi_propagate.proofs.GenerationSteps.{IsGiven}
 
--- ---- one cell more is seen
+-- ---- one cell more is visited
 
 pub seen_more : {X : Type 0} (first old new : CellEntries X) (xs : List ℕ) (i a : ℕ) (v : X) → i < length xs → a ≡ get_or xs i a → new.entries ≡ cond (is_some (get nat_cmp old a)) old.entries (insert_entry nat_cmp old.entries a v) →
     ((c : ℕ) → has_seen old c ≡ (has_seen first c || is_one_of (take i xs) c)) → (c : ℕ) → has_seen new c ≡ (has_seen first c || is_one_of (take (i + 1) xs) c)
@@ -28,34 +28,34 @@ lifted_more old new first xs i a number lifted l e w u h c =
     at false true t k = here false t k
     at false false t k = k
 
--- ---- one edit more is settled
+-- ---- one edit more is flushed
 
 -- of each sheet with these edges
 abbrev pub IsFlushingOver : Edges → Generations → Generations → List ℕ → (ℕ → Bool) → ℕ → Type 0
-IsFlushingOver es named noted rest seen last = (s : Sheet) → AreEdgesOf es s → IsFlushing s (generation_in named) (noted_in named noted) rest seen last
+IsFlushingOver es edited_at valid_since rest seen last = (s : Sheet) → AreEdgesOf es s → IsFlushing s (generation_in edited_at) (stamped_in edited_at valid_since) rest seen last
 
-pub flushing_more : (es : Edges) (named old new : Generations) (rest less : List ℕ) (x number last : ℕ) (seen now : ℕ → Bool) → ((y : ℕ) → is_one_of rest y ≡ true → (x ≡ y) ⊎ (is_one_of less y ≡ true)) → number ≡ generation_in named x → number ≤ last →
+pub flushing_more : (es : Edges) (edited_at old new : Generations) (rest less : List ℕ) (x number last : ℕ) (seen now : ℕ → Bool) → ((y : ℕ) → is_one_of rest y ≡ true → (x ≡ y) ⊎ (is_one_of less y ≡ true)) → number ≡ generation_in edited_at x → number ≤ last →
     ((s : Sheet) → AreEdgesOf es s → (c : ℕ) → generation_in new c ≡ cond (in_cone s (x ∷ []) c && not (seen c)) (max (generation_in old c) number) (generation_in old c)) →
-    ((s : Sheet) → AreEdgesOf es s → (c : ℕ) → now c ≡ (seen c || (in_cone s (x ∷ []) c && not (seen c)))) → IsFlushingOver es named old rest seen last → IsFlushingOver es named new less now number
-flushing_more es named old new rest less x number last seen now part e falls raised shown k s a =
-    subst (IsFlushing s (generation_in named) (noted_in named new) less now) (sym e) (flushes_one s (generation_in named) (noted_in named old) (noted_in named new) rest less x last seen now part (subst (λ (m : ℕ). m ≤ last) e falls)
-    (λ c. shown s a c ∙ or_new (seen c) (in_cone s (x ∷ []) c)) (λ c. ap (λ (m : ℕ). max (generation_in named c) m) (raised s a c) ∙ over c (in_cone s (x ∷ []) c && not (seen c))) (k s a))
+    ((s : Sheet) → AreEdgesOf es s → (c : ℕ) → now c ≡ (seen c || (in_cone s (x ∷ []) c && not (seen c)))) → IsFlushingOver es edited_at old rest seen last → IsFlushingOver es edited_at new less now number
+flushing_more es edited_at old new rest less x number last seen now part e falls raised shown k s a =
+    subst (IsFlushing s (generation_in edited_at) (stamped_in edited_at new) less now) (sym e) (flushes_one s (generation_in edited_at) (stamped_in edited_at old) (stamped_in edited_at new) rest less x last seen now part (subst (λ (m : ℕ). m ≤ last) e falls)
+    (λ c. shown s a c ∙ or_new (seen c) (in_cone s (x ∷ []) c)) (λ c. ap (λ (m : ℕ). max (generation_in edited_at c) m) (raised s a c) ∙ over c (in_cone s (x ∷ []) c && not (seen c))) (k s a))
   where
-    over : (c : ℕ) (b : Bool) → max (generation_in named c) (cond b (max (generation_in old c) number) (generation_in old c)) ≡ cond b (max (noted_in named old c) (generation_in named x)) (noted_in named old c)
+    over : (c : ℕ) (b : Bool) → max (generation_in edited_at c) (cond b (max (generation_in old c) number) (generation_in old c)) ≡ cond b (max (stamped_in edited_at old c) (generation_in edited_at x)) (stamped_in edited_at old c)
     over c true = omega (arith, e)
     over c false = refl
 
 -- cells that come back into view where a later edit comes behind an earlier one
-pub flushing_again : (es : Edges) (named noted : Generations) (rest : List ℕ) (last number : ℕ) (seen now : ℕ → Bool) → ((c : ℕ) → now c ≡ cond (nat_lt last number) false (seen c)) → IsFlushingOver es named noted rest seen last → IsFlushingOver es named noted rest now (max last number)
-flushing_again es named noted rest last number seen now e k s a = at (nat_lt last number) refl
+pub flushing_again : (es : Edges) (edited_at valid_since : Generations) (rest : List ℕ) (last number : ℕ) (seen now : ℕ → Bool) → ((c : ℕ) → now c ≡ cond (nat_lt last number) false (seen c)) → IsFlushingOver es edited_at valid_since rest seen last → IsFlushingOver es edited_at valid_since rest now (max last number)
+flushing_again es edited_at valid_since rest last number seen now e k s a = at (nat_lt last number) refl
   where
-    at : (b : Bool) → nat_lt last number ≡ b → IsFlushing s (generation_in named) (noted_in named noted) rest now (max last number)
-    at true t = flushing_begins s (generation_in named) (noted_in named noted) rest now (max last number) (λ c. e c ∙ ap (λ (b : Bool). cond b false (seen c)) t) (k s a).owed
+    at : (b : Bool) → nat_lt last number ≡ b → IsFlushing s (generation_in edited_at) (stamped_in edited_at valid_since) rest now (max last number)
+    at true t = flushing_begins s (generation_in edited_at) (stamped_in edited_at valid_since) rest now (max last number) (λ c. e c ∙ ap (λ (b : Bool). cond b false (seen c)) t) (k s a).dirty
     at false t =
         let l : number ≤ last = ltb-false last number t in
         let m : max last number ≡ last = omega (arith, l) in
         record {
-          owed = (k s a).owed;
+          dirty = (k s a).dirty;
           closed = λ c d r h. same c ∙ (k s a).closed c d r (sym (same d) ∙ h);
           high = λ c h. let z = (k s a).high c (sym (same c) ∙ h) in omega (arith, z, m);
         }
@@ -63,7 +63,7 @@ flushing_again es named noted rest last number seen now e k s a = at (nat_lt las
         same : (c : ℕ) → now c ≡ seen c
         same c = e c ∙ ap (λ (b : Bool). cond b false (seen c)) t
 
--- ---- the cells that are owed, as a list
+-- ---- the dirty cells, as a list
 
 pub lists_all : {X : Type 0} (order : List (ℕ × ℕ)) (rest all : List (ℕ × X)) → rest ≡ [] → ((x : ℕ) → (is_one_of (second_cells order) x || is_one_of (keys_of rest) x) ≡ is_one_of (keys_of all) x) → (x : ℕ) → is_one_of (keys_of all) x ≡ is_one_of (second_cells order) x
 lists_all {X} order rest all e h x = sym (h x) ∙ ap (λ (ys : List (ℕ × X)). is_one_of (second_cells order) x || is_one_of (keys_of ys) x) e ∙ or-false (is_one_of (second_cells order) x)
@@ -81,23 +81,23 @@ last_part rest less e i y h = turned (in_last (second_cells less) e.1 y (ap (λ 
 pub part_within : (rest less : List (ℕ × ℕ)) (e : ℕ × ℕ) → rest ≡ less ++ e ∷ [] → (y : ℕ) → is_one_of (second_cells less) y ≡ true → is_one_of (second_cells rest) y ≡ true
 part_within rest less e i y h = ap (λ (ys : List ℕ). is_one_of ys y) (ap second_cells i ∙ map-append (λ (z : ℕ × ℕ). z.1) less (e ∷ [])) ∙ in_front (second_cells less) (e.1 ∷ []) y h
 
--- at first all that is owed is listed, and nothing was seen
-pub flushing_first : {X : Type 0} (es : Edges) (named noted : Generations) (owed : List ℕ) (order : List (ℕ × ℕ)) (seen : CellEntries X) (last : ℕ) → ((x : ℕ) → is_one_of owed x ≡ is_one_of (second_cells order) x) → seen.entries ≡ [] →
-    ((s : Sheet) → AreEdgesOf es s → AreOwed s (generation_in named) owed (noted_in named noted)) → IsFlushingOver es named noted (second_cells order) (has_seen seen) last
-flushing_first {X} es named noted owed order seen last same empty o s a =
-    flushing_begins s (generation_in named) (noted_in named noted) (second_cells order) (has_seen seen) last (λ c. ap (λ (xs : List (ℕ × X)). is_some (lookup (is_at (nat_cmp c)) xs)) empty)
-    (owed_stays s (generation_in named) (noted_in named noted) (noted_in named noted) owed (second_cells order) (λ x h. sym (same x) ∙ h) (λ c n l. (omega arith, (o s a c n l).no_later)) (o s a))
+-- at first all dirty cells are listed, and none was visited
+pub flushing_first : {X : Type 0} (es : Edges) (edited_at valid_since : Generations) (dirty : List ℕ) (order : List (ℕ × ℕ)) (seen : CellEntries X) (last : ℕ) → ((x : ℕ) → is_one_of dirty x ≡ is_one_of (second_cells order) x) → seen.entries ≡ [] →
+    ((s : Sheet) → AreEdgesOf es s → AreDirty s (generation_in edited_at) dirty (stamped_in edited_at valid_since)) → IsFlushingOver es edited_at valid_since (second_cells order) (has_seen seen) last
+flushing_first {X} es edited_at valid_since dirty order seen last same empty o s a =
+    flushing_begins s (generation_in edited_at) (stamped_in edited_at valid_since) (second_cells order) (has_seen seen) last (λ c. ap (λ (xs : List (ℕ × X)). is_some (lookup (is_at (nat_cmp c)) xs)) empty)
+    (dirty_stays s (generation_in edited_at) (stamped_in edited_at valid_since) (stamped_in edited_at valid_since) dirty (second_cells order) (λ x h. sym (same x) ∙ h) (λ c n l. (omega arith, (o s a c n l).no_later)) (o s a))
 
--- What is owed by the rest is owed by all, also where memory ran out, and what is noted is as before.
-pub flushing_stays : (es : Edges) (named old new : Generations) (owed rest : List ℕ) (seen : ℕ → Bool) (last : ℕ) → ((c : ℕ) → generation_in new c ≡ generation_in old c) → ((x : ℕ) → is_one_of rest x ≡ true → is_one_of owed x ≡ true) → IsFlushingOver es named old rest seen last →
-    (s : Sheet) → AreEdgesOf es s → AreOwed s (generation_in named) owed (noted_in named new)
-flushing_stays es named old new owed rest seen last same g k s a =
-    owed_stays s (generation_in named) (noted_in named old) (noted_in named new) rest owed g (λ c n l. let e = same c in let b = ((k s a).owed c n l).no_later in (omega (arith, e), omega (arith, e, b))) (k s a).owed
+-- What the rest leaves dirty all leave, also where memory ran out, and the stamps are as before.
+pub flushing_stays : (es : Edges) (edited_at old new : Generations) (dirty rest : List ℕ) (seen : ℕ → Bool) (last : ℕ) → ((c : ℕ) → generation_in new c ≡ generation_in old c) → ((x : ℕ) → is_one_of rest x ≡ true → is_one_of dirty x ≡ true) → IsFlushingOver es edited_at old rest seen last →
+    (s : Sheet) → AreEdgesOf es s → AreDirty s (generation_in edited_at) dirty (stamped_in edited_at new)
+flushing_stays es edited_at old new dirty rest seen last same g k s a =
+    dirty_stays s (generation_in edited_at) (stamped_in edited_at old) (stamped_in edited_at new) rest dirty g (λ c n l. let e = same c in let b = ((k s a).dirty c n l).no_later in (omega (arith, e), omega (arith, e, b))) (k s a).dirty
 
--- and where none is left, none is owed
-pub flushing_ends : (es : Edges) (named noted : Generations) (order : List (ℕ × ℕ)) (seen : ℕ → Bool) (last : ℕ) → order ≡ [] → IsFlushingOver es named noted (second_cells order) seen last →
-    (s : Sheet) → AreEdgesOf es s → AreOwed s (generation_in named) [] (noted_in named noted)
-flushing_ends es named noted order seen last e k s a = subst (λ (ys : List (ℕ × ℕ)). AreOwed s (generation_in named) (second_cells ys) (noted_in named noted)) e (k s a).owed
+-- and where none is left, none is dirty
+pub flushing_ends : (es : Edges) (edited_at valid_since : Generations) (order : List (ℕ × ℕ)) (seen : ℕ → Bool) (last : ℕ) → order ≡ [] → IsFlushingOver es edited_at valid_since (second_cells order) seen last →
+    (s : Sheet) → AreEdgesOf es s → AreDirty s (generation_in edited_at) [] (stamped_in edited_at valid_since)
+flushing_ends es edited_at valid_since order seen last e k s a = subst (λ (ys : List (ℕ × ℕ)). AreDirty s (generation_in edited_at) (second_cells ys) (stamped_in edited_at valid_since)) e (k s a).dirty
 
 -- ---- sheets with the same edges
 
@@ -108,15 +108,15 @@ latest_over s t f c n e l = record { most = λ d w. l.most d (reaches_true s c d
     at (inl z) = inl z
     at (inr x) = inr (x.0, reaches_true t c x.0 (sym (e x.0) ∙ true_reaches s c x.0 x.1), x.2)
 
-pub owed_over : (es : Edges) (s t : Sheet) (f : ℕ → ℕ) (owed : List ℕ) (noted : ℕ → ℕ) → AreEdgesOf es s → AreEdgesOf es t → AreOwed s f owed noted → AreOwed t f owed noted
-owed_over es s t f owed noted a b o c n l = record { no_later = before.no_later; noted_or_owed = at before.noted_or_owed }
+pub dirty_over : (es : Edges) (s t : Sheet) (f : ℕ → ℕ) (dirty : List ℕ) (valid_since : ℕ → ℕ) → AreEdgesOf es s → AreEdgesOf es t → AreDirty s f dirty valid_since → AreDirty t f dirty valid_since
+dirty_over es s t f dirty valid_since a b o c n l = record { no_later = before.no_later; stamped_or_dirty = at before.stamped_or_dirty }
   where
     same : (x : ℕ) → reaches s c x ≡ reaches t c x
     same x = same_reaches s t (λ d. sym (a d) ∙ b d) c x
 
-    before : IsOwed s f owed noted c n
+    before : IsDirty s f dirty valid_since c n
     before = o c n (latest_over t s f c n (λ x. sym (same x)) l)
 
-    at : (noted c ≡ n) ⊎ ((x : ℕ) × (is_one_of owed x ≡ true) × Reaches s c x × (f x ≡ n)) → (noted c ≡ n) ⊎ ((x : ℕ) × (is_one_of owed x ≡ true) × Reaches t c x × (f x ≡ n))
+    at : (valid_since c ≡ n) ⊎ ((x : ℕ) × (is_one_of dirty x ≡ true) × Reaches s c x × (f x ≡ n)) → (valid_since c ≡ n) ⊎ ((x : ℕ) × (is_one_of dirty x ≡ true) × Reaches t c x × (f x ≡ n))
     at (inl h) = inl h
     at (inr x) = inr (x.0, x.1, reaches_true t c x.0 (sym (same x.0) ∙ true_reaches s c x.0 x.2), x.3)

@@ -1,6 +1,6 @@
 -- What the proofs use, in the order in which the lemmas rest on each other. Of cells and cones:
--- `EmptyCells`, passed on from `wi_sheet`; `GenerationSteps`, how numbers are given and raised; over it `NotedSteps`, what generations they tell and
--- what is owed, and `FlushingSteps`, how what is owed is noted; `ReplacedCones`, `KeptCones`.
+-- `EmptyCells`, passed on from `wi_sheet`; `GenerationSteps`, how numbers are given and raised; over it `StampSteps`, what generations they tell and
+-- what is owed, and `FlushingSteps`, how what is dirty is flushed; `ReplacedCones`, `KeptCones`.
 -- Of what is kept:
 -- `RightValues`: values that are kept stay right, over an edit, where one is kept, and where a question begins.
 -- `KeepSteps`: what is so where one value is kept; over it `PlaceCounts`, each value takes one place, and `ValuesAtHand`, what is kept or was
@@ -13,7 +13,7 @@
 -- And `Words`: all that these proofs are written in and don't say themselves: names of the library, of the crates below and of the definitions.
 pub mod EmptyCells
 pub mod GenerationSteps
-pub mod NotedSteps
+pub mod StampSteps
 pub mod FlushingSteps
 pub mod ReplacedCones
 pub mod KeptCones

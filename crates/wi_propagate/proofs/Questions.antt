@@ -1,11 +1,11 @@
 -- A question asked of a calculator that keeps values.
-use Rattle.wi_propagate.proofs.Words.{◌≡◌, ◌≤◌, ◌<◌, ◌+◌, ◌-◌, ◌^◌, inl, inr, length, All, filter, not, is_some, ℕ, Bool, true, false, List, [], Option, refl, ap, sym, ◌∙◌, subst, arith, keys_of, cases_lt, true≢false, Value, Fault, Circular, Replacement, Sheet, content_of, put_all, has_formula, Counts, Stored, Key, KeptValues, kept, value_for, IfSome, circular, clash, Case, reaching, asks_circular, table_entry, IsWhatIfSettled, IsClosed, SpentOn, left_is_unkept, sum_ones, never_fall-same, spent_unkept, cells_open, entry_circular, none_circular, MayBeRead, KeepsFound, WhereSpace, TakesNoMore, GivesUpWhenFull, NeedsNoEvaluation, IsValuedAnew, IsSameBeside, Saved, SpendsAtMost, what_if_more, rests_more, none_went, Generations, generation_in, KeptSheet, key_in, stands, is_kept, unkept, gone, IsAtHand, HasSpaceFor, KeepsAll, KeepsNoMore, KeepsOld, KeepsWhileSpace, emptied, AreRight, IsKeptFor, AreKeptRight, Box, Carried, kept_sheet, values_in, Keeping, keeping, begun, state_in, ArePlaced, IsKeepingRight, Owes, told, or_none, Some, None, IsSome, Noted, noted_in, Staging, AreEdgesOf, AreOwed, AreCarriedCones, AreKeptUp, AreAllCones, ArePlans}
+use Rattle.wi_propagate.proofs.Words.{◌≡◌, ◌≤◌, ◌<◌, ◌+◌, ◌-◌, ◌^◌, inl, inr, length, All, filter, not, is_some, ℕ, Bool, true, false, List, [], Option, refl, ap, sym, ◌∙◌, subst, arith, keys_of, cases_lt, true≢false, Value, Fault, Circular, Replacement, Sheet, content_of, put_all, has_formula, Counts, Stored, Key, KeptValues, kept, value_for, IfSome, circular, clash, Case, reaching, asks_circular, table_entry, IsWhatIfSettled, IsClosed, SpentOn, left_is_unkept, sum_ones, never_fall-same, spent_unkept, cells_open, entry_circular, none_circular, MayBeRead, KeepsFound, WhereSpace, TakesNoMore, GivesUpWhenFull, NeedsNoEvaluation, IsValuedAnew, IsSameBeside, Saved, SpendsAtMost, what_if_more, rests_more, none_went, Generations, generation_in, KeptSheet, key_in, stands, is_kept, unkept, gone, IsAtHand, HasSpaceFor, KeepsAll, KeepsNoMore, KeepsOld, KeepsWhileSpace, emptied, AreRight, IsKeptFor, AreKeptRight, Box, Carried, kept_sheet, values_in, Keeping, keeping, begun, state_in, ArePlaced, IsKeepingRight, Owes, told, or_none, Some, None, IsSome, Stamps, stamped_in, Staging, AreEdgesOf, AreDirty, AreCarriedCones, AreKeptUp, AreAllCones, ArePlans}
 use Rattle.wi_engine.specs.Inner.Saving as saving
 use Rattle.wi_propagate.specs.declared.plans.Plans.{Plans}
-use Rattle.wi_propagate.proofs.NotedSteps.{flushed_up}
+use Rattle.wi_propagate.proofs.StampSteps.{flushed_up}
 use Rattle.wi_propagate.proofs.PlaceCounts.{all_stand}
 
--- ---- what is owed is settled first
+-- ---- what is dirty is flushed first
 
 -- where the numbers of edits are the same, so is the calculator
 module _ {s : Stored} {old new : Generations} (e : new ≡ old) (o : Option (Box Carried)) (n : Counts) where
@@ -145,27 +145,27 @@ module _ {k : KeptSheet} {q : Keeping} (e : Begins k q) (last : Keeping) (values
 
 -- ---- what always holds of the calculator, by its parts
 
-abbrev pub AlwaysHolds : Option (Box Carried) → Staging → Stored → Noted → Counts → Type 0
-AlwaysHolds o graph s g n = IsSome o × AreEdgesOf graph.now s.sheet × (graph.staged ≡ None) × AreKeptRight (kept_sheet s (told s.sheet g.named) o n) × AreCarriedCones s.sheet o × AreKeptUp s.sheet s.edits g
+abbrev pub AlwaysHolds : Option (Box Carried) → Staging → Stored → Stamps → Counts → Type 0
+AlwaysHolds o graph s g n = IsSome o × AreEdgesOf graph.now s.sheet × (graph.staged ≡ None) × AreKeptRight (kept_sheet s (told s.sheet g.edited_at) o n) × AreCarriedCones s.sheet o × AreKeptUp s.sheet s.edits g
 
--- once what is owed is settled
-pub holds_settled : (o : Option (Box Carried)) (graph : Staging) (s : Stored) (old new : Noted) (n : Counts) → new.named ≡ old.named → AreOwed s.sheet (generation_in new.named) new.owed (noted_in new.named new.noted) →
+-- once what is dirty is flushed
+pub holds_settled : (o : Option (Box Carried)) (graph : Staging) (s : Stored) (old new : Stamps) (n : Counts) → new.edited_at ≡ old.edited_at → AreDirty s.sheet (generation_in new.edited_at) new.dirty (stamped_in new.edited_at new.valid_since) →
     AlwaysHolds o graph s old n → AlwaysHolds o graph s new n
-holds_settled o graph s old new n e owed h = (h.0, h.1, h.2, settled_right {s = s} e o n h.3, h.4, flushed_up s.sheet s.edits old new e owed h.5)
+holds_settled o graph s old new n e dirty h = (h.0, h.1, h.2, settled_right {s = s} e o n h.3, h.4, flushed_up s.sheet s.edits old new e dirty h.5)
 
 -- and once a question is answered
-pub holds_asked : (o : Option (Box Carried)) (graph : Staging) (s : Stored) (g : Noted) (n counts : Counts) (q last : Keeping) (b : Box Carried) → Begins (kept_sheet s (told s.sheet g.named) o n) q →
+pub holds_asked : (o : Option (Box Carried)) (graph : Staging) (s : Stored) (g : Stamps) (n counts : Counts) (q last : Keeping) (b : Box Carried) → Begins (kept_sheet s (told s.sheet g.edited_at) o n) q →
     IsSameBeside (state_in q) (state_in last) → b.value.kept ≡ last.values → last.sheet ≡ s.sheet → IsKeepingRight last → AreAllCones last.sheet b.value.cones → AlwaysHolds o graph s g n → AlwaysHolds (Some b) graph s g counts
 holds_asked o graph s g n counts q last b e beside same sheet right cones h = (refl, h.1, h.2, right_then e last b.value.kept counts beside same sheet h.3 right, subst (λ (x : Sheet). AreAllCones x b.value.cones) sheet cones, h.5)
 
 -- its plans too
-abbrev pub AlwaysPlans : Option (Box Carried) → Staging → Stored → Noted → Counts → Plans → Type 0
-AlwaysPlans o graph s g n ps = IsSome o × AreEdgesOf graph.now s.sheet × (graph.staged ≡ None) × AreKeptRight (kept_sheet s (told s.sheet g.named) o n) × AreCarriedCones s.sheet o × AreKeptUp s.sheet s.edits g × ArePlans s.sheet ps
+abbrev pub AlwaysPlans : Option (Box Carried) → Staging → Stored → Stamps → Counts → Plans → Type 0
+AlwaysPlans o graph s g n ps = IsSome o × AreEdgesOf graph.now s.sheet × (graph.staged ≡ None) × AreKeptRight (kept_sheet s (told s.sheet g.edited_at) o n) × AreCarriedCones s.sheet o × AreKeptUp s.sheet s.edits g × ArePlans s.sheet ps
 
-pub with_plans : (o : Option (Box Carried)) (graph : Staging) (s : Stored) (g : Noted) (n : Counts) (ps : Plans) → AlwaysHolds o graph s g n → ArePlans s.sheet ps → AlwaysPlans o graph s g n ps
+pub with_plans : (o : Option (Box Carried)) (graph : Staging) (s : Stored) (g : Stamps) (n : Counts) (ps : Plans) → AlwaysHolds o graph s g n → ArePlans s.sheet ps → AlwaysPlans o graph s g n ps
 with_plans o graph s g n ps h k = (h.0, h.1, h.2, h.3, h.4, h.5, k)
 
-pub but_plans : (o : Option (Box Carried)) (graph : Staging) (s : Stored) (g : Noted) (n : Counts) (ps : Plans) → AlwaysPlans o graph s g n ps → AlwaysHolds o graph s g n
+pub but_plans : (o : Option (Box Carried)) (graph : Staging) (s : Stored) (g : Stamps) (n : Counts) (ps : Plans) → AlwaysPlans o graph s g n ps → AlwaysHolds o graph s g n
 but_plans o graph s g n ps h = (h.0, h.1, h.2, h.3, h.4, h.5)
 
 -- ---- what is carried goes
@@ -174,8 +174,8 @@ module _ (o p : Option (Box Carried)) (none : values_in p ≡ kept [] (values_in
   pub emptied_view : (gs : Generations) → kept_sheet s gs p n ≡ emptied (kept_sheet s gs o n)
   emptied_view gs = λ i. record { stored = s; generations = gs; values = none i; counts = n }
 
-  pub holds_emptied : (graph : Staging) (g : Noted) → (IsSome o → IsSome p) → AreCarriedCones s.sheet p → AlwaysHolds o graph s g n → AlwaysHolds p graph s g n
-  holds_emptied graph g there cones h = (there h.0, h.1, h.2, right (told s.sheet g.named) h.3, cones, h.5)
+  pub holds_emptied : (graph : Staging) (g : Stamps) → (IsSome o → IsSome p) → AreCarriedCones s.sheet p → AlwaysHolds o graph s g n → AlwaysHolds p graph s g n
+  holds_emptied graph g there cones h = (there h.0, h.1, h.2, right (told s.sheet g.edited_at) h.3, cones, h.5)
     where
       right : (gs : Generations) → AreKeptRight (kept_sheet s gs o n) → AreKeptRight (kept_sheet s gs p n)
       right gs k = record {
@@ -244,7 +244,7 @@ owes_none k cases done = record {
   keeps = λ d space. record { added = omega arith; stays = λ j i. i; settled = λ c w i o. absurd (true≢false (sym i ∙ o)) };
 }
 
--- and where it was settled alone
+-- and where it was flushed alone
 pub owes_flushed : (old new : KeptSheet) (cases : List Case) (done : Bool) → new ≡ old → Owes old new cases done
 owes_flushed old new cases done e = subst (λ (k : KeptSheet). Owes k new cases done) e (owes_none new cases done)
 

@@ -45,7 +45,7 @@ pub use Rattle.wi_graph.proofs.Cones.{cone_closed, cone_has, cone_stays, outside
 pub use Rattle.wi_graph.proofs.EdgeLemmas.{content_of-with, edges_follow}
 pub use Rattle.wi_graph.proofs.GraphSteps.{same_reaches}
 pub use Rattle.wi_graph.proofs.Graphs.{stripped}
-pub use Rattle.wi_graph.proofs.LatestLaws.{edit_owes, latest_is_among, latest_of_cone, none_is_owed, one_is_latest, owed_stays, flushes_one, flushing_begins}
+pub use Rattle.wi_graph.proofs.LatestLaws.{edit_owes, latest_is_among, latest_of_cone, none_is_dirty, one_is_latest, dirty_stays, flushes_one, flushing_begins}
 pub use Rattle.wi_graph.proofs.ReachTest.{in_cone_true, reaches_true, true_in_cone, true_reaches}
 pub use Rattle.wi_graph.proofs.SetSteps.{in_back, in_front, in_last}
 pub use Rattle.wi_graph.proofs.Tests.{clash}
@@ -53,7 +53,7 @@ pub use Rattle.wi_graph.proofs.Walks.{formula_cell, reader_formula, same_cell}
 pub use Rattle.wi_graph.specs.Circular.{circular}
 pub use Rattle.wi_graph.specs.Edges.{AreEdgesOf, Edges, Staging, brought, edges_after, sheet_after, staging}
 pub use Rattle.wi_graph.specs.Inner.Below.{has_seen}
-pub use Rattle.wi_graph.specs.Latest.{AreOwed, IsLatest, IsOwed, IsFlushing, IsUnread, latest_among, numbered}
+pub use Rattle.wi_graph.specs.Latest.{AreDirty, IsLatest, IsDirty, IsFlushing, IsUnread, latest_among, numbered}
 pub use Rattle.wi_graph.specs.Reach.{IsInCone, Reaches, SameOff, Walks, in_cone, reaches}
 pub use Rattle.wi_graph.specs.Watched.{IsClosedUp}
 pub use Rattle.wi_parser.specs.Sheet.{Sheet, cells_with_formula, content_of, has_formula, put_all, with_content}
@@ -61,8 +61,8 @@ pub use Rattle.wi_parser.specs.declared.content.Content.{Content}
 pub use Rattle.wi_parser.specs.declared.content.Content.TheVariants.{Constant, Formula}
 pub use Rattle.wi_propagate.specs.Inner.Cones.{AreAllCones}
 pub use Rattle.wi_propagate.specs.Inner.Keeping.{AreCarriedCones, ArePlaced, HasGeneration, IsKeepingRight, Keeping, TakesOver, begun, keeping, kept_sheet, state_in, value_in, values_in}
-pub use Rattle.wi_propagate.specs.Inner.Noted.{AreAllNoted, AreKeptUp, Noted, noted_in}
-unfoldable pub use Rattle.wi_propagate.specs.Inner.Noted.{told}
+pub use Rattle.wi_propagate.specs.Inner.Stamps.{AreAllStamped, AreKeptUp, Stamps, stamped_in}
+unfoldable pub use Rattle.wi_propagate.specs.Inner.Stamps.{told}
 pub use Rattle.wi_propagate.specs.Inner.Planned.{ArePlans}
 pub use Rattle.wi_propagate.specs.Inner.Owes.{Owes}
 pub use Rattle.wi_propagate.specs.Inner.Flushing.{second_cells}

@@ -4,6 +4,6 @@ pub mod Cones
 pub mod Keeping
 pub mod Owes
 pub mod Planned
-pub mod Noted
+pub mod Stamps
 pub mod Flushing
 pub mod Standing

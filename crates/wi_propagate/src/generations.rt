@@ -1,14 +1,14 @@
-//! Generations of cells: the numbers of the last accepted edits in whose cones they were. An edit notes its number of the cells that it
-//! names; of those that reach them it is noted when a question asks.
+//! Generations of cells: the numbers of the last accepted edits in whose cones they were. An edit stamps the cells that it
+//! names at once, and those that reach them when a question asks.
 
 ghost use Rattle.std.specs.Prelude.{◌≡◌, ◌⊎◌, ℕ, [], max, true, None, if◌then◌else◌, OnOk};
 ghost use Rattle.wi_values.specs.Address.{is_one_of};
 ghost use Rattle.wi_parser.specs.Sheet.{Sheet};
 ghost use Rattle.wi_graph.specs.Edges.{AreEdgesOf};
-ghost use Rattle.wi_graph.specs.Latest.{AreOwed, IsUnread};
+ghost use Rattle.wi_graph.specs.Latest.{AreDirty, IsUnread};
 ghost use Rattle.wi_propagate.specs.KeptSheet.{generation_in};
 ghost use Rattle.wi_propagate.specs.Inner.Keeping.{HasGeneration};
-ghost use Rattle.wi_propagate.specs.Inner.Noted.{noted_in};
+ghost use Rattle.wi_propagate.specs.Inner.Stamps.{stamped_in};
 
 use crate::flushing::flush_all;
 use std::alloc::{AllocError, Global};
@@ -23,113 +23,117 @@ pub type Numbers = CellMap<u64>;
 /// The generations of cells.
 #[derive(Drop)]
 pub struct Generations {
-    // The numbers of the last edits that named cells.
-    named: Numbers,
-    // Numbers of edits that named what cells reach.
-    noted: Numbers,
-    // The cells whose last edits are owed to those that reach them, each with 0.
-    owed: Numbers,
+    // The number of the last edit that named a cell.
+    edited_at: Numbers,
+    // The number of the last edit that named what a cell reaches, as far as it is stamped.
+    valid_since: Numbers,
+    // The cells whose dependents aren't stamped with their last edits yet, each with 0.
+    dirty: Numbers,
     alloc: Global,
 }
 
 impl Model for Generations {
     ghost use Rattle.std.specs.Coded.{codes};
     ghost use Rattle.std.specs.Map.{keys_of};
-    ghost use Rattle.wi_propagate.specs.Inner.Noted.{Noted};
+    ghost use Rattle.wi_propagate.specs.Inner.Stamps.{Stamps};
 
-    ghost Value = { Noted };
+    ghost Value = { Stamps };
 
     ghost coded = { Prim.hlevel codes };
 
     ghost view = { λ g. record {
-      named = g.named.entries;
-      noted = g.noted.entries;
-      owed = keys_of g.owed.entries;
+      edited_at = g.edited_at.entries;
+      valid_since = g.valid_since.entries;
+      dirty = keys_of g.dirty.entries;
     } };
 }
 
 impl Generations {
     /// No edits yet. Takes no memory.
     pub(crate) fn new(alloc: Global) -> Generations
-        ensures { result ≡ record { named = []; noted = []; owed = [] } }
+        ensures { result ≡ record { edited_at = []; valid_since = []; dirty = [] } }
     {
         Generations {
-            named: Numbers::new(alloc),
-            noted: Numbers::new(alloc),
-            owed: Numbers::new(alloc),
+            edited_at: Numbers::new(alloc),
+            valid_since: Numbers::new(alloc),
+            dirty: Numbers::new(alloc),
             alloc,
         }
     }
 
-    /// What is noted of a cell: its generation, where none is owed.
+    /// What a cell is stamped with: its generation, where none is dirty.
     #[inline(always)]
     pub(crate) fn generation_of(&self, at: Address) -> u64
-        ensures { result ≡ noted_in self.now.named self.now.noted at }
+        ensures { result ≡ stamped_in self.now.edited_at self.now.valid_since at }
     {
-        greater(number_at(&self.named, at), number_at(&self.noted, at))
+        greater(
+            number_at(&self.edited_at, at),
+            number_at(&self.valid_since, at),
+        )
     }
 
-    /// Makes room for the number of an edit of these cells, and owes it where some formula reads one of them. The work is
-    /// that of `any_is_read`. If memory runs out, some may be owed; after an edit that is refused, its cells stay owed.
-    pub(crate) fn owe(&mut self, graph: &Graph, cells: &[Address]) -> Result<(), AllocError>
+    /// Makes an entry for each of these cells, and marks them dirty where some formula reads one of them. The work is
+    /// that of `any_is_read`. If memory runs out, some may be dirty; after an edit that is refused, its cells stay dirty.
+    pub(crate) fn mark_dirty(&mut self, graph: &Graph, cells: &[Address]) -> Result<(), AllocError>
         requires { graph.now.staged ≡ None }
-        ensures named { (c : ℕ) → generation_in self.new.named c ≡ generation_in self.old.named c }
-        ensures noted { self.new.noted ≡ self.old.noted }
-        ensures stays { (c : ℕ) → is_one_of self.old.owed c ≡ true
-            → is_one_of self.new.owed c ≡ true }
+        ensures edited_at { (c : ℕ) → generation_in self.new.edited_at c
+            ≡ generation_in self.old.edited_at c }
+        ensures valid_since { self.new.valid_since ≡ self.old.valid_since }
+        ensures stays { (c : ℕ) → is_one_of self.old.dirty c ≡ true
+            → is_one_of self.new.dirty c ≡ true }
         ensures there { OnOk result ((c : ℕ) → is_one_of cells.now c ≡ true
-            → HasGeneration self.new.named c) }
-        ensures owed { OnOk result ((s : Sheet) → AreEdgesOf graph.now.now s
+            → HasGeneration self.new.edited_at c) }
+        ensures dirty { OnOk result ((s : Sheet) → AreEdgesOf graph.now.now s
             → (x : ℕ) → is_one_of cells.now x ≡ true
-            → (is_one_of self.new.owed x ≡ true) ⊎ IsUnread s x) }
+            → (is_one_of self.new.dirty x ≡ true) ⊎ IsUnread s x) }
     {
-        owe_read(&mut self.owed, graph, cells)?;
-        reserve(&mut self.named, cells)
+        mark_read(&mut self.dirty, graph, cells)?;
+        reserve(&mut self.edited_at, cells)
     }
 
     /// An edit of this number named these cells. Takes no memory.
-    pub(crate) fn name(&mut self, cells: &[Address], edit: u64)
-        requires { (c : ℕ) → is_one_of cells.now c ≡ true → HasGeneration self.old.named c }
-        ensures named { (c : ℕ) → generation_in self.new.named c
-            ≡ (if is_one_of cells.now c then edit else generation_in self.old.named c) }
-        ensures noted { self.new.noted ≡ self.old.noted }
-        ensures owed { self.new.owed ≡ self.old.owed }
+    pub(crate) fn stamp(&mut self, cells: &[Address], edit: u64)
+        requires { (c : ℕ) → is_one_of cells.now c ≡ true → HasGeneration self.old.edited_at c }
+        ensures edited_at { (c : ℕ) → generation_in self.new.edited_at c
+            ≡ (if is_one_of cells.now c then edit else generation_in self.old.edited_at c) }
+        ensures valid_since { self.new.valid_since ≡ self.old.valid_since }
+        ensures dirty { self.new.dirty ≡ self.old.dirty }
     {
-        raise(&mut self.named, cells, edit);
+        raise(&mut self.edited_at, cells, edit);
     }
 
-    /// Notes what is owed. The work grows with the cone of what is owed, beside a sort and a search for the readers of each owed cell. If
-    /// memory runs out, all is owed still.
+    /// Stamps the dependents of dirty cells. The work grows with their cone, beside a sort and a search for the readers of each dirty cell. If
+    /// memory runs out, all are dirty still.
     pub(crate) fn flush(&mut self, graph: &Graph) -> Result<(), AllocError>
         requires staged { graph.now.staged ≡ None }
-        requires owed { (s : Sheet) → AreEdgesOf graph.now.now s
-            → AreOwed s (generation_in self.old.named)
-            self.old.owed (noted_in self.old.named self.old.noted) }
-        ensures named { self.new.named ≡ self.old.named }
-        ensures owed { (s : Sheet) → AreEdgesOf graph.now.now s
-            → AreOwed s (generation_in self.new.named)
-            self.new.owed (noted_in self.new.named self.new.noted) }
-        ensures clean { OnOk result (self.new.owed ≡ []) }
+        requires dirty { (s : Sheet) → AreEdgesOf graph.now.now s
+            → AreDirty s (generation_in self.old.edited_at)
+            self.old.dirty (stamped_in self.old.edited_at self.old.valid_since) }
+        ensures edited_at { self.new.edited_at ≡ self.old.edited_at }
+        ensures dirty { (s : Sheet) → AreEdgesOf graph.now.now s
+            → AreDirty s (generation_in self.new.edited_at)
+            self.new.dirty (stamped_in self.new.edited_at self.new.valid_since) }
+        ensures clean { OnOk result (self.new.dirty ≡ []) }
     {
-        if self.owed.is_empty() {
+        if self.dirty.is_empty() {
             return Ok(());
         }
         flush_all(
             self.alloc,
             graph,
-            &self.named,
-            &mut self.noted,
-            &mut self.owed,
+            &self.edited_at,
+            &mut self.valid_since,
+            &mut self.dirty,
         )
     }
 }
 
-/// Owes an edit of these cells where some formula reads one of them.
-fn owe_read(generations: &mut Numbers, graph: &Graph, cells: &[Address]) -> Result<(), AllocError>
+/// Marks these cells dirty where some formula reads one of them.
+fn mark_read(generations: &mut Numbers, graph: &Graph, cells: &[Address]) -> Result<(), AllocError>
     requires { graph.now.staged ≡ None }
     ensures stay { (c : ℕ) → HasGeneration generations.old.entries c
         → HasGeneration generations.new.entries c }
-    ensures owed { OnOk result ((s : Sheet) → AreEdgesOf graph.now.now s
+    ensures dirty { OnOk result ((s : Sheet) → AreEdgesOf graph.now.now s
         → (x : ℕ) → is_one_of cells.now x ≡ true
         → HasGeneration generations.new.entries x ⊎ IsUnread s x) }
 {
@@ -154,7 +158,7 @@ pub(crate) fn greater(a: u64, b: u64) -> u64
     if a < b { b } else { a }
 }
 
-/// Makes room for the numbers of these cells: each that has none gets 0. If memory runs out, the rooms made so far stay.
+/// Makes an entry for each of these cells: one that has none gets 0. If memory runs out, the entries made so far stay.
 #[inline(always)]
 pub(crate) fn reserve(generations: &mut Numbers, cells: &[Address]) -> Result<(), AllocError>
     ensures same { (c : ℕ)

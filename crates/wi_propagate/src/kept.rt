@@ -77,17 +77,17 @@ impl Model for KeptCalculator {
     ghost use Rattle.wi_graph.specs.Edges.{AreEdgesOf};
     ghost use Rattle.wi_propagate.specs.Right.{AreKeptRight};
     ghost use Rattle.wi_propagate.specs.Inner.Keeping.{kept_sheet, AreCarriedCones};
-    ghost use Rattle.wi_propagate.specs.Inner.Noted.{told, AreKeptUp};
+    ghost use Rattle.wi_propagate.specs.Inner.Stamps.{told, AreKeptUp};
     ghost use Rattle.wi_propagate.specs.Inner.Planned.{ArePlans};
 
     ghost view = { λ k. kept_sheet k.store
-        (told k.store.sheet k.generations.named) k.carried k.meter };
+        (told k.store.sheet k.generations.edited_at) k.carried k.meter };
 
     ghost invariant = { λ k. IsSome k.carried
         × AreEdgesOf k.graph.now k.store.sheet
         × (k.graph.staged ≡ None)
         × AreKeptRight (kept_sheet k.store
-        (told k.store.sheet k.generations.named) k.carried k.meter)
+        (told k.store.sheet k.generations.edited_at) k.carried k.meter)
         × AreCarriedCones k.store.sheet k.carried
         × AreKeptUp k.store.sheet k.store.edits k.generations
         × ArePlans k.store.sheet k.plans };
@@ -148,13 +148,13 @@ impl KeptCalculator {
             (applied self.old.stored changes.old) result self.old.stored self.new.stored }
         ensures edited { IsEdit self.old self.new (keys_of changes.old) (is_ok result) }
     {
-        self.generations.owe(&self.graph, cells)?;
+        self.generations.mark_dirty(&self.graph, cells)?;
         self.graph.stage(changes)?;
         match self.store.apply_slice(changes) {
             Ok(()) => {
                 carry_over_edit(self.alloc, &self.graph, &mut self.carried);
                 self.graph.commit();
-                self.generations.name(cells, self.store.edits());
+                self.generations.stamp(cells, self.store.edits());
                 self.plans.forget(self.alloc);
                 Ok(())
             }
@@ -289,8 +289,8 @@ impl Calculator for KeptCalculator {
     }
 
     /// One edit. The work grows with what the edited cells read and who reads them; with their cone, what its cells read and who reads
-    /// them, times logarithms, only where several cells read something new, or a cycle may be closed or opened. An accepted edit is the new generation of each cell of the cone;
-    /// it is noted when a question asks. What is kept stays; so do the cones that are known, if each cell reads what it read before.
+    /// them, times logarithms, only where several cells read something new, or a cycle may be closed or opened. An accepted edit gives a new generation to each cell of the cone;
+    /// dependents are stamped when a question asks. What is kept stays; so do the cones that are known, if each cell reads what it read before.
     fn apply(&mut self, mut changes: Vec<NewContent>) -> Result<(), StoreFault>
         ensures applied { Applies
             (applied self.old.stored changes.items) result self.old.stored self.new.stored }
@@ -315,7 +315,7 @@ impl Calculator for KeptCalculator {
     /// compares the replaced cells with those that are known, and finds the cone of one that isn't. Those that the formula reaches
     /// are looked up at once, with work that grows with their count where they are few, and where they are many with that of all.
     /// They are copied and hashed where they aren't all, and aren't the same as for the last such key. Before a key is made, what
-    /// edits owe is noted, with all that depends on what was edited since the last such question.
+    /// edits left dirty is flushed, with all that depends on what was edited since the last such question.
     fn value(&mut self, put: &[Replacement], at: Address) -> Result<Value, AllocError>
         requires { IsInOrder put.now }
         ensures value { IfOk result (λ v. v ≡ show.shown self.old.stored.sheet put.now at) }
@@ -354,7 +354,7 @@ impl Calculator for KeptCalculator {
     }
 
     /// What an entry of a data table shows under replacements. A formula is evaluated where its value is not kept, and its value
-    /// is kept then. The replacements, and what edits owe, cost what they do in `value`; with the inputs put in, they are copied and
+    /// is kept then. The replacements, and what edits left dirty, cost what they do in `value`; with the inputs put in, they are copied and
     /// hashed for each entry.
     fn what_if_value(
         &mut self,

@@ -25,7 +25,7 @@ const LEAST: u64 = 8;
 
 /// A cell that was asked for where some cells are replaced.
 #[derive(Clone, Copy)]
-struct Note {
+struct Sighting {
     root: Address,
     /// A hash of the addresses of the replaced cells.
     inputs: u64,
@@ -38,7 +38,7 @@ struct Note {
 #[derive(Drop)]
 pub struct Plans {
     pub plans: Vec<Plan>,
-    notes: Vec<Note>,
+    sightings: Vec<Sighting>,
 }
 
 impl Plans {
@@ -48,7 +48,7 @@ impl Plans {
     {
         Plans {
             plans: Vec::new(alloc),
-            notes: Vec::new(alloc),
+            sightings: Vec::new(alloc),
         }
     }
 
@@ -81,8 +81,8 @@ impl Plans {
                 return true;
             }
         }
-        for note in &self.notes {
-            if note.root == root && note.times >= TIMES {
+        for sighting in &self.sightings {
+            if sighting.root == root && sighting.times >= TIMES {
                 return false;
             }
         }
@@ -91,7 +91,7 @@ impl Plans {
 
     /// Notes that a cell is asked for where a world's cells are replaced, and makes a plan for it the third time. Where memory runs
     /// out, or a plan would evaluate more than was evaluated without it, none is made.
-    pub(crate) fn note<M: Memo + Drop>(
+    pub(crate) fn sighting<M: Memo + Drop>(
         &mut self,
         question: &mut Question<M>,
         store: &Store,
@@ -139,16 +139,16 @@ impl Plans {
     fn evaluations_at_last(&mut self, root: Address, inputs: u64) -> Option<u64>
         ensures { self.new.plans ≡ self.old.plans }
     {
-        for note in self.notes.iter_mut() {
-            if note.root == root && note.inputs == inputs {
-                note.times = note.times.saturating_add(1);
-                return (note.times == TIMES).then_some(note.evaluations);
+        for sighting in self.sightings.iter_mut() {
+            if sighting.root == root && sighting.inputs == inputs {
+                sighting.times = sighting.times.saturating_add(1);
+                return (sighting.times == TIMES).then_some(sighting.evaluations);
             }
         }
-        if self.notes.len() >= MOST {
-            self.notes.clear();
+        if self.sightings.len() >= MOST {
+            self.sightings.clear();
         }
-        let _ = self.notes.push(Note {
+        let _ = self.sightings.push(Sighting {
             root,
             inputs,
             times: 1,
@@ -161,9 +161,9 @@ impl Plans {
     pub(crate) fn evaluated(&mut self, root: Address, count: u64)
         ensures { self.new.plans ≡ self.old.plans }
     {
-        for note in self.notes.iter_mut() {
-            if note.root == root {
-                note.evaluations = count;
+        for sighting in self.sightings.iter_mut() {
+            if sighting.root == root {
+                sighting.evaluations = count;
             }
         }
     }

@@ -194,7 +194,7 @@ fn entry_by_plan<M: Memo + Drop>(
     match plans.find(formula_cell, &inside) {
         Some(plan) => question.planned_value(store, &inside, plan),
         None => {
-            plans.note(question, store, &inside, formula_cell);
+            plans.sighting(question, store, &inside, formula_cell);
             Ok(None)
         }
     }

@@ -39,9 +39,9 @@ module _ (changed cells : List ℕ) (u : Unread) (c : ℕ) (l : u.from ≤ lengt
   unread_new h = unread_behind (changed ++ cells) u c (longer ∙ or_right (behind changed u c) (is_one_of cells c) h)
 
 -- own cells noted
-pub unread_noted : (changed cells : List ℕ) (u v : Unread) → v.anywhere ≡ u.anywhere → v.from ≡ u.from → v.own.items ≡ u.own.items ++ cells
+pub unread_tracked : (changed cells : List ℕ) (u v : Unread) → v.anywhere ≡ u.anywhere → v.from ≡ u.from → v.own.items ≡ u.own.items ++ cells
     → (c : ℕ) → (is_unread changed u c || is_one_of cells c) ≡ true → is_unread changed v c ≡ true
-unread_noted changed cells u v a f o c h =
+unread_tracked changed cells u v a f o c h =
     ⊎_elim (λ k. unread_cases changed u c k (λ t. unread_anywhere changed v c (a ∙ t))
     (λ s. unread_behind changed v c (ap (λ (n : ℕ). is_one_of (drop n changed) c) f ∙ s))
     (λ t. unread_own changed v c (more ∙ or_left (own changed u c) (is_one_of cells c) t)))
@@ -144,8 +144,8 @@ alone_looks unread u one anywhere cells changed = λ i c d m s.
     (subst (λ (v : Unread). is_unread changed v c ≡ true) (sym (get_or-set_same unread 0 u d (omega (arith, one)))) (unread_anywhere changed u c anywhere))
 
 -- cells of its own noted
-pub place_noted : (words : Words) (changed : List ℕ) (i : ℕ) (u v : Unread) → HasPlace words changed i u → v.from ≡ u.from → ((c : ℕ) → is_unread changed u c ≡ true → is_unread changed v c ≡ true) → HasPlace words changed i v
-place_noted words changed i u v p f stay = record { within = subst (λ (n : ℕ). n ≤ length changed) (sym f) p.within; found = λ c s. stay c (p.found c s) }
+pub place_tracked : (words : Words) (changed : List ℕ) (i : ℕ) (u v : Unread) → HasPlace words changed i u → v.from ≡ u.from → ((c : ℕ) → is_unread changed u c ≡ true → is_unread changed v c ≡ true) → HasPlace words changed i v
+place_tracked words changed i u v p f stay = record { within = subst (λ (n : ℕ). n ≤ length changed) (sym f) p.within; found = λ c s. stay c (p.found c s) }
 
 -- that of the i-th, as the code reads it
 pub place_read : (words : Words) (changed : List ℕ) (unread : List Unread) (i : ℕ) (u : Unread) → HavePlaces words changed unread → i < length unread → u ≡ get_or unread i u → HasPlace words changed i u

@@ -64,8 +64,8 @@ kept_pending s n t u v e f = ap (λ b. b && not v) e ∙ ap (λ b. (s || t) && n
 pub pending_stay : (test : ℕ → ℕ → Bool) (words staged more rooms : Words) → HasMade test words staged more rooms → SamePending words staged more rooms
 pending_stay test words staged more rooms h = λ i c. kept_pending (is_in words i c) (is_staged staged i c) (test i c) (is_in more i c) (is_staged rooms i c) (h.put i c) (h.made i c)
 
-pub pending_then : (words staged more rooms wider noted : Words) → SamePending words staged more rooms → SamePending more rooms wider noted → SamePending words staged wider noted
-pending_then words staged more rooms wider noted h k = λ i c. k i c ∙ h i c
+pub pending_then : (words staged more rooms wider tracked : Words) → SamePending words staged more rooms → SamePending more rooms wider tracked → SamePending words staged wider tracked
+pending_then words staged more rooms wider tracked h k = λ i c. k i c ∙ h i c
 
 -- a room listed once more
 pub staged_more : (staged rooms : Words) (at more : ℕ) → rooms ≡ staged ++ (at, more) ∷ [] → (i c : ℕ) → is_staged rooms i c ≡ (is_staged staged i c || ((at == c) && has_bit i more))
@@ -149,9 +149,9 @@ joined a v t x m r e f = ap (λ b. b || (x && not m)) f ∙ ap (λ b. (v || (t &
     by false false false x = refl
 
 -- room for two groups of cells, one after the other
-pub made_both : (t u v : ℕ → ℕ → Bool) (words staged more rooms wider noted : Words) → ((i c : ℕ) → v i c ≡ (t i c || u i c))
-    → HasMade t words staged more rooms → HasMade u more rooms wider noted → HasMade v words staged wider noted
-made_both t u v words staged more rooms wider noted e h k = record {
+pub made_both : (t u v : ℕ → ℕ → Bool) (words staged more rooms wider tracked : Words) → ((i c : ℕ) → v i c ≡ (t i c || u i c))
+    → HasMade t words staged more rooms → HasMade u more rooms wider tracked → HasMade v words staged wider tracked
+made_both t u v words staged more rooms wider tracked e h k = record {
   put = λ i c.
       k.put i c ∙ ap (λ b. b || u i c) (h.put i c) ∙ or_assoc (is_in words i c) (t i c) (u i c) ∙ ap (λ b. is_in words i c || b) (sym (e i c));
   made = λ i c.
@@ -166,11 +166,11 @@ one_more_cell cells k at bits l is i c =
     ap (λ b. b && has_bit i bits) (list_any_more (λ d. d == c) cells k at l ∙ ap (λ d. is_one_of (take k cells) c || (d == c)) (sym is))
     ∙ and-or_distrib_right (is_one_of (take k cells) c) (at == c) (has_bit i bits)
 
-pub made_more : (cells : List ℕ) (k at bits : ℕ) (words staged more rooms wider noted : Words) → k < length cells → at ≡ get_or cells k at
-    → HasMade (at_cells (take k cells) bits) words staged more rooms → HasMade (λ i c. (at == c) && has_bit i bits) more rooms wider noted
-    → HasMade (at_cells (take (k + 1) cells) bits) words staged wider noted
-made_more cells k at bits words staged more rooms wider noted l is h m =
-    made_both (at_cells (take k cells) bits) (λ i c. (at == c) && has_bit i bits) (at_cells (take (k + 1) cells) bits) words staged more rooms wider noted
+pub made_more : (cells : List ℕ) (k at bits : ℕ) (words staged more rooms wider tracked : Words) → k < length cells → at ≡ get_or cells k at
+    → HasMade (at_cells (take k cells) bits) words staged more rooms → HasMade (λ i c. (at == c) && has_bit i bits) more rooms wider tracked
+    → HasMade (at_cells (take (k + 1) cells) bits) words staged wider tracked
+made_more cells k at bits words staged more rooms wider tracked l is h m =
+    made_both (at_cells (take k cells) bits) (λ i c. (at == c) && has_bit i bits) (at_cells (take (k + 1) cells) bits) words staged more rooms wider tracked
     (one_more_cell cells k at bits l is) h m
 
 pub made_all : (cells : List ℕ) (k bits : ℕ) (words staged more rooms : Words) → length cells ≤ k → HasMade (at_cells (take k cells) bits) words staged more rooms
@@ -196,8 +196,8 @@ others_as_made bits test words staged more rooms h = λ i c n.
       h.made i c ∙ ap (λ b. is_staged staged i c || (b && not (is_in words i c))) none ∙ or-false (is_staged staged i c),
     )
 
-pub others_then : (bits : ℕ) (words staged more rooms wider noted : Words) → OthersStay bits words staged more rooms → OthersStay bits more rooms wider noted → OthersStay bits words staged wider noted
-others_then bits words staged more rooms wider noted h k = λ i c n. ((k i c n).0 ∙ (h i c n).0, (k i c n).1 ∙ (h i c n).1)
+pub others_then : (bits : ℕ) (words staged more rooms wider tracked : Words) → OthersStay bits words staged more rooms → OthersStay bits more rooms wider tracked → OthersStay bits words staged wider tracked
+others_then bits words staged more rooms wider tracked h k = λ i c n. ((k i c n).0 ∙ (h i c n).0, (k i c n).1 ∙ (h i c n).1)
 
 -- ---- rooms that one call makes
 
@@ -213,12 +213,12 @@ nothing_staged {test} {bits} {words} {staged} {more} {rooms} r k e f = record {
   others = λ i c n. (ap (λ (ws : Words). is_in ws i c) e, ap (λ (rs : Words). is_staged rs i c) f);
 }
 
-pub some_rooms : {test one : ℕ → Bool} {bits : ℕ} {y : Result (Unit {0}) AllocError} {words staged more rooms wider noted : Words} (before : ℕ → Bool) (r : Result (Unit {0}) AllocError) → IsErr r
-    → HasMade (λ i c. before c && has_bit i bits) words staged more rooms → MakesRooms one bits y more rooms wider noted → MakesRooms test bits r words staged wider noted
-some_rooms {test} {one} {bits} {y} {words} {staged} {more} {rooms} {wider} {noted} before r k h m = record {
-  pending = pending_then words staged more rooms wider noted (pending_stay (λ i c. before c && has_bit i bits) words staged more rooms h) m.pending;
+pub some_rooms : {test one : ℕ → Bool} {bits : ℕ} {y : Result (Unit {0}) AllocError} {words staged more rooms wider tracked : Words} (before : ℕ → Bool) (r : Result (Unit {0}) AllocError) → IsErr r
+    → HasMade (λ i c. before c && has_bit i bits) words staged more rooms → MakesRooms one bits y more rooms wider tracked → MakesRooms test bits r words staged wider tracked
+some_rooms {test} {one} {bits} {y} {words} {staged} {more} {rooms} {wider} {tracked} before r k h m = record {
+  pending = pending_then words staged more rooms wider tracked (pending_stay (λ i c. before c && has_bit i bits) words staged more rooms h) m.pending;
   room = IfOk-from_err r _ k;
-  others = others_then bits words staged more rooms wider noted (others_as_made bits before words staged more rooms h) m.others;
+  others = others_then bits words staged more rooms wider tracked (others_as_made bits before words staged more rooms h) m.others;
 }
 
 -- ---- bits taken away

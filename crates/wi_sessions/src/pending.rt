@@ -18,7 +18,7 @@ use crate::cells::{
     StagedBits, Words, clear_each, drop_rooms, found, give_back, is_staged, push_those,
     put_in_order, stage, stage_each, staged_of, walked,
 };
-use crate::unread::{Unread, note};
+use crate::unread::{Unread, track};
 use std::alloc::{AllocError, Global};
 use std::marker::Model;
 use wi_tiles::CellMap;
@@ -315,14 +315,14 @@ fn forget(words: &mut Words, all: &[Address], i: usize, count: usize)
     clear_each(words, all, bit_of(i));
 }
 
-/// Where the cells of a new session stand, which are noted as its own.
+/// Where the cells of a new session stand, which are tracked as its own.
 fn begun(alloc: Global, from: usize, cells: &[Address], limit: usize) -> Result<Unread, AllocError>
     ensures from { IfOk result (λ u. u.from ≡ from) }
     ensures own { IfOk result (λ u. (changed : List ℕ) (c : ℕ) → is_one_of cells.now c ≡ true
         → is_unread changed u c ≡ true) }
 {
     let mut unread = Unread::new(alloc, from);
-    unread.note(cells, limit)?;
+    unread.track(cells, limit)?;
     Ok(unread)
 }
 
@@ -342,7 +342,7 @@ fn put_in(alloc: Global, words: &mut Words, cells: &[Address], bits: u64) -> Res
     }
 }
 
-/// Notes cells as a session's own, and makes room for them. If memory runs out, there is room for a part of them.
+/// Tracks cells as a session's own, and makes room for them. If memory runs out, there is room for a part of them.
 fn stage_own(
     words: &mut Words,
     staged: &mut Vec<StagedBits>,
@@ -361,12 +361,12 @@ fn stage_own(
     ensures own { OnOk result ((changed : List ℕ) (c : ℕ) → is_one_of cells.now c ≡ true
         → is_unread changed own.new c ≡ true) }
 {
-    own.note(cells, limit)?;
+    own.track(cells, limit)?;
     stage_each(words, staged, cells, bit)?;
     Ok(())
 }
 
-/// Notes cells that an edit may change, and makes room for them for each session. If memory runs out, there is room for a part of them.
+/// Tracks cells that an edit may change, and makes room for them for each session. If memory runs out, there is room for a part of them.
 fn stage_all(
     words: &mut Words,
     staged: &mut Vec<StagedBits>,
@@ -390,7 +390,7 @@ fn stage_all(
         ((all : List (ℕ × ℕ)) → HavePlaces all changed.old.items unread.old.items
         → AreLookedAt cells.now changed.new.items unread.new.items) }
 {
-    note(changed, unread, cells, limit)?;
+    track(changed, unread, cells, limit)?;
     let bits = bits_of(unread.len());
     stage_each(words, staged, cells, bits)?;
     Ok(())

@@ -28,8 +28,8 @@ impl Unread {
         }
     }
 
-    /// Notes cells of its own; where there are more than so many, they may stand anywhere.
-    pub(crate) fn note(&mut self, cells: &[Address], limit: usize) -> Result<(), AllocError>
+    /// Tracks cells of its own; where there are more than so many, they may stand anywhere.
+    pub(crate) fn track(&mut self, cells: &[Address], limit: usize) -> Result<(), AllocError>
         ensures from { self.new.from ≡ self.old.from }
         ensures stay { (changed : List ℕ) (c : ℕ) → is_unread changed self.old c ≡ true
             → is_unread changed self.new c ≡ true }
@@ -102,7 +102,7 @@ fn begin_anew(unread: &mut Vec<Unread>, count: usize)
 }
 
 /// A session that is alone looks anywhere: all cells are pending for it, so that no list of them is wanted. Takes no memory.
-fn note_alone(unread: &mut Vec<Unread>)
+fn track_alone(unread: &mut Vec<Unread>)
     requires { length unread.old.items ≡ 1 }
     ensures lists { length unread.new.items ≡ length unread.old.items }
     ensures places { (words : List (ℕ × ℕ)) (changed : List ℕ)
@@ -112,8 +112,8 @@ fn note_alone(unread: &mut Vec<Unread>)
     unread[0].look_anywhere();
 }
 
-/// Notes changed cells. Where their list would be longer than so many, it begins anew, and who hasn't read it has to look anywhere.
-pub(crate) fn note(
+/// Tracks changed cells. Where their list would be longer than so many, it begins anew, and who hasn't read it has to look anywhere.
+pub(crate) fn track(
     changed: &mut Vec<Address>,
     unread: &mut Vec<Unread>,
     cells: &[Address],
@@ -128,18 +128,18 @@ pub(crate) fn note(
 {
     let count = unread.len();
     if count == 1 {
-        note_alone(unread);
+        track_alone(unread);
         return Ok(());
     }
     if is_longer(changed.len(), cells.len(), limit) {
-        return note_anew(changed, unread, cells);
+        return track_anew(changed, unread, cells);
     }
     changed.extend_from_slice(cells)?;
     Ok(())
 }
 
 /// The same, where the list begins anew.
-fn note_anew(
+fn track_anew(
     changed: &mut Vec<Address>,
     unread: &mut Vec<Unread>,
     cells: &[Address],

@@ -56,7 +56,7 @@ abbrev pub missing : BTreeSet ℕ → List ℕ → List ℕ
 missing found cells = filter (λ c. not (contains nat_cmp found c)) cells
 
 -- cells were put into a set, and those that were new there at the end of a list
-pub record AreNoted (cells : List ℕ) (old new : BTreeSet ℕ) (before after : List ℕ) : Type 0 where
+pub record AreEnqueued (cells : List ℕ) (old new : BTreeSet ℕ) (before after : List ℕ) : Type 0 where
   pub found : (c : ℕ) → contains nat_cmp new c ≡ (contains nat_cmp old c || is_one_of cells c)
   pub stays : (c : ℕ) → is_one_of before c ≡ true → is_one_of after c ≡ true
   pub fresh : (c : ℕ) → contains nat_cmp new c ≡ true → contains nat_cmp old c ≡ false → is_one_of after c ≡ true

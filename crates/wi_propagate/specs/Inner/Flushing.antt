@@ -1,4 +1,4 @@
--- What is noted while it is settled what was owed.
+-- What is stamped while dirty cells are flushed.
 use Rattle.std.specs.Prelude.{ℕ, List, map}
 
 -- the cells of numbered cells

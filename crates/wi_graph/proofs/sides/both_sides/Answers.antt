@@ -6,19 +6,19 @@ use Rattle.wi_graph.proofs.sides.both_sides.Goals as goal
 pub cells-init : goal.cells-init
 cells-init c =
     let start = c.in_ok-below.below in (
-      search_start c.args.readers.now c.args.cells.now c.new-found.result c.note.new.found c.new-work.result.items c.note.new.work.items c.new-found.ensures c.new-work.ensures.items c.in_ok-note.ensures,
+      search_start c.args.readers.now c.args.cells.now c.new-found.result c.enqueue.new.found c.new-work.result.items c.enqueue.new.work.items c.new-found.ensures c.new-work.ensures.items c.in_ok-enqueue.ensures,
       λ t. below_start c.args.rooms.now c.args.entry.now.0 (areas_of (items_of c.args.entry.now.1)) (has_seen start.seen) start.ahead.items (none_seen start.seen c.in_ok-below.ensures.seen) (c.in_ok-below.ensures.ahead t),
     )
 
 pub cells-smaller : goal.cells-smaller
 cells-smaller c =
-    search_ends c.args.readers.now c.cells.found c.note-in-Some.new.found c.cells.work.items c.pop.new.self.items c.note-in-Some.new.work.items c.in_ok-next.next.items c.deref.result.now c.in-Some.cell c.in-Some.ensures.items
-    c.in_ok-next.ensures.readers c.deref.ensures.value c.in_ok-note-2.ensures
+    search_ends c.args.readers.now c.cells.found c.enqueue-in-Some.new.found c.cells.work.items c.pop.new.self.items c.enqueue-in-Some.new.work.items c.in_ok-next.next.items c.deref.result.now c.in-Some.cell c.in-Some.ensures.items
+    c.in_ok-next.ensures.readers c.deref.ensures.value c.in_ok-enqueue-2.ensures
 
 pub cells-preserved : goal.cells-preserved
 cells-preserved c = (
-  search_step c.args.readers.now c.args.cells.now c.cells.found c.note-in-Some.new.found c.cells.work.items c.pop.new.self.items _ c.in_ok-next.next.items c.deref.result.now c.in-Some.cell c.in-Some.ensures.items
-      c.in_ok-next.ensures.readers c.deref.ensures.value c.in_ok-note-2.ensures c.cells.invariant.0,
+  search_step c.args.readers.now c.args.cells.now c.cells.found c.enqueue-in-Some.new.found c.cells.work.items c.pop.new.self.items _ c.in_ok-next.next.items c.deref.result.now c.in-Some.cell c.in-Some.ensures.items
+      c.in_ok-next.ensures.readers c.deref.ensures.value c.in_ok-enqueue-2.ensures c.cells.invariant.0,
   c.in_ok-go_below.ensures (areas_of (items_of c.args.entry.now.1)) c.cells.invariant.1,
 )
 

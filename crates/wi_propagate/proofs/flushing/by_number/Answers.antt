@@ -6,7 +6,7 @@ pub returns : goal.returns
 returns c =
     let none : length c.loop.rest ≡ 0 = omega (arith, c.loop.invariant.left) in
     let sorted = c.sort_unstable_by_key.new.self.items in
-    let whole : (x : ℕ) → is_one_of (keys_of c.args.owed.now.entries) x ≡ is_one_of (second_cells sorted) x = λ x.
-    lists_all c.loop.order.items c.loop.rest c.args.owed.now.entries (nil_from_length c.loop.rest none) c.loop.invariant.cells x
+    let whole : (x : ℕ) → is_one_of (keys_of c.args.dirty.now.entries) x ≡ is_one_of (second_cells sorted) x = λ x.
+    lists_all c.loop.order.items c.loop.rest c.args.dirty.now.entries (nil_from_length c.loop.rest none) c.loop.invariant.cells x
     ∙ sorted_same c.loop.order.items sorted c.sort_unstable_by_key.ensures.permutation x in
     search whole

@@ -4,8 +4,8 @@ use Rattle.wi_propagate.proofs.flushing.flush_all.Given as goal
 
 abbrev pub invariant-cells : goal.invariant-cells
 invariant-cells l = record {
-  flushing : IsFlushingOver l.graph.now l.named.entries l.noted.entries (second_cells l.order.items) (has_seen l.seen) l.last;
-  within : (x : ℕ) → is_one_of (second_cells l.order.items) x ≡ true → is_one_of (keys_of l.owed.entries) x ≡ true;
+  flushing : IsFlushingOver l.graph.now l.edited_at.entries l.valid_since.entries (second_cells l.order.items) (has_seen l.seen) l.last;
+  within : (x : ℕ) → is_one_of (second_cells l.order.items) x ≡ true → is_one_of (keys_of l.dirty.entries) x ≡ true;
 }
 
 abbrev pub decreases-cells : goal.decreases-cells

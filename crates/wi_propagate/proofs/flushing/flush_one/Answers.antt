@@ -4,8 +4,8 @@ use Rattle.wi_propagate.proofs.flushing.flush_one.Goals as goal
 pub lift-requires : goal.lift-requires
 lift-requires c = λ d m. c.in_ok-reserve.ensures.there d (ap (λ (xs : List ℕ). is_one_of xs d) (c.deref-2.ensures ∙ sym c.deref-3.ensures) ∙ m)
 
-pub returns-clause-noted : goal.returns-clause-noted
-returns-clause-noted c = λ s a d.
+pub returns-clause-valid_since : goal.returns-clause-valid_since
+returns-clause-valid_since c = λ s a d.
     let made = c.reserve.new.generations.entries in
     c.lift.ensures d ∙ ap (λ (xs : List ℕ). if is_one_of xs d then max (generation_in made d) c.args.number else generation_in made d) c.deref-3.ensures
     ∙ ap (λ (b : Bool). if b then max (generation_in made d) c.args.number else generation_in made d) (c.in_ok-cone.ensures s a d)

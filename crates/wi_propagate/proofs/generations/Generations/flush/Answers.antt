@@ -1,8 +1,8 @@
-use Rattle.wi_propagate.proofs.Words.{subst, sym, Sheet, AreEdgesOf, AreOwed, generation_in, Noted, noted_in}
+use Rattle.wi_propagate.proofs.Words.{subst, sym, Sheet, AreEdgesOf, AreDirty, generation_in, Stamps, stamped_in}
 use Rattle.wi_propagate.proofs.generations.Generations.flush.Goals as goal
 
-pub flush_all-requires-clause-owed : goal.flush_all-requires-clause-owed
-flush_all-requires-clause-owed c = subst (λ (g : Noted). (s : Sheet) → AreEdgesOf c.args.graph.now.now s → AreOwed s (generation_in g.named) g.owed (noted_in g.named g.noted)) (sym c.self.view_is) c.requires.owed
+pub flush_all-requires-clause-dirty : goal.flush_all-requires-clause-dirty
+flush_all-requires-clause-dirty c = subst (λ (g : Stamps). (s : Sheet) → AreEdgesOf c.args.graph.now.now s → AreDirty s (generation_in g.edited_at) g.dirty (stamped_in g.edited_at g.valid_since)) (sym c.self.view_is) c.requires.dirty
 
-pub returns-clause-owed : goal.returns-clause-owed
-returns-clause-owed c = c.flush_all.ensures.owed
+pub returns-clause-dirty : goal.returns-clause-dirty
+returns-clause-dirty c = c.flush_all.ensures.dirty

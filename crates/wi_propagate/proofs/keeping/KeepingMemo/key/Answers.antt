@@ -1,6 +1,6 @@
 use Rattle.wi_propagate.proofs.Words.{◌∙◌, ap, sym, subst, reaching, AreAllCones, Entries, Carried, Keeping, generation_in, keeping, state_in, told}
 use Rattle.wi_propagate.proofs.ReplacedCones.{worlds_all}
-use Rattle.wi_propagate.proofs.NotedSteps.{noted_is_told}
+use Rattle.wi_propagate.proofs.StampSteps.{stamped_is_flushed}
 use Rattle.wi_propagate.proofs.keeping.KeepingMemo.key.Goals as goal
 
 pub returns-clause-world : goal.returns-clause-world
@@ -14,18 +14,18 @@ returns-clause-world c =
 pub returns-clause-generation : goal.returns-clause-generation
 returns-clause-generation c =
     let i = c.self.inside in
-    c.generation_of.ensures ∙ noted_is_told i.store.now.sheet i.store.now.edits i.generations.now c.self.invariant.4.kept_up c.self.invariant.4.none_owed c.args.at ∙ ap (λ (q : Keeping). generation_in q.generations c.args.at) c.self.view_is
+    c.generation_of.ensures ∙ stamped_is_flushed i.store.now.sheet i.store.now.edits i.generations.now c.self.invariant.4.kept_up c.self.invariant.4.none_dirty c.args.at ∙ ap (λ (q : Keeping). generation_in q.generations c.args.at) c.self.view_is
 
 pub returns-clause-same : goal.returns-clause-same
 returns-clause-same c =
     let i = c.self.inside in
-    let gs = told i.store.now.sheet i.generations.now.named in
+    let gs = told i.store.now.sheet i.generations.now.edited_at in
     let view = ap (λ (x : Carried). keeping i.store.now.sheet i.store.now.edits gs x.given_up.entries x.kept) c.deref_mut-carried.ensures.value ∙ c.self.view_is in
     ap state_in (ap (λ (es : Entries). keeping i.store.now.sheet i.store.now.edits gs es c.deref_mut-carried.result.now.kept) c.catch_up.ensures ∙ view)
 
 pub returns-in_err-catch_up-clause-same : goal.returns-in_err-catch_up-clause-same
 returns-in_err-catch_up-clause-same c =
     let i = c.self.inside in
-    let gs = told i.store.now.sheet i.generations.now.named in
+    let gs = told i.store.now.sheet i.generations.now.edited_at in
     let view = ap (λ (x : Carried). keeping i.store.now.sheet i.store.now.edits gs x.given_up.entries x.kept) c.deref_mut-carried.ensures.value ∙ c.self.view_is in
     ap state_in (ap (λ (es : Entries). keeping i.store.now.sheet i.store.now.edits gs es c.deref_mut-carried.result.now.kept) c.catch_up.ensures ∙ view)

@@ -1,5 +1,5 @@
 use Rattle.wi_propagate.proofs.Words.{[], refl, ap, sym, subst, Sheet, AreEdgesOf, Staging}
-use Rattle.wi_propagate.proofs.NotedSteps.{told_none, none_kept_up}
+use Rattle.wi_propagate.proofs.StampSteps.{told_none, none_kept_up}
 use Rattle.wi_propagate.proofs.Editing.{begins_right}
 use Rattle.wi_propagate.proofs.kept.KeptCalculator.new.Goals as goal
 

@@ -1,6 +1,6 @@
-use Rattle.wi_propagate.proofs.Words.{Some, spends_at_most, is_ok, ◌≡◌, ◌∙◌, inl, inr, IfOk, OnOk, List, false, true, refl, ap, sym, subst, IfOk-weaker, Replacement, content_of, has_formula, put_all, circular, shown, case_of, reaching, demanded, HasCase, demands_itself, different_closed, shown_circular, shown_value, KeptSheet, generation_in, IsAtHand, is_kept, told, noted_in, Owes}
-use Rattle.wi_propagate.proofs.NotedSteps.{all_noted}
-use Rattle.wi_propagate.proofs.FlushingSteps.{owed_over}
+use Rattle.wi_propagate.proofs.Words.{Some, spends_at_most, is_ok, ◌≡◌, ◌∙◌, inl, inr, IfOk, OnOk, List, false, true, refl, ap, sym, subst, IfOk-weaker, Replacement, content_of, has_formula, put_all, circular, shown, case_of, reaching, demanded, HasCase, demands_itself, different_closed, shown_circular, shown_value, KeptSheet, generation_in, IsAtHand, is_kept, told, stamped_in, Owes}
+use Rattle.wi_propagate.proofs.StampSteps.{all_stamped}
+use Rattle.wi_propagate.proofs.FlushingSteps.{dirty_over}
 use Rattle.wi_propagate.proofs.Questions.{but_plans, with_plans, begins, begun_right, may_be_read, asked_kept, at_hand_is, owes_none, owes_flushed, owes_spent, flushed_view, settled_right, holds_asked, holds_settled}
 use Rattle.wi_propagate.proofs.kept.KeptCalculator.value_of.Goals as goal
 
@@ -45,13 +45,13 @@ formula_value-result-requires-clause-formula c =
 
 pub new-memo-requires-clause-right : goal.new-memo-requires-clause-right
 new-memo-requires-clause-right c =
-    begun_right c.self.inside.store (told c.self.inside.store.sheet c.flush.new.self.named) c.self.inside.carried c.self.inside.meter _ c.take_carried-carried.ensures.values (settled_right {s = c.self.inside.store} c.in_ok-flush.ensures.named c.self.inside.carried c.self.inside.meter c.self.invariant.3)
+    begun_right c.self.inside.store (told c.self.inside.store.sheet c.flush.new.self.edited_at) c.self.inside.carried c.self.inside.meter _ c.take_carried-carried.ensures.values (settled_right {s = c.self.inside.store} c.in_ok-flush.ensures.edited_at c.self.inside.carried c.self.inside.meter c.self.invariant.3)
 
 pub formula_value-result-requires-clause-read : goal.formula_value-result-requires-clause-read
 formula_value-result-requires-clause-read c =
     let i = c.self.inside in
     let o : circular i.store.sheet c.args.at ≡ false = sym (c.is_circular.ensures i.store.sheet c.self.invariant.1) ∙ c.if-is_circular.false in
-    let q = begins i.store (told i.store.sheet c.flush.new.self.named) i.carried i.meter _ c.new-memo.result c.take_carried-carried.ensures.values c.new-memo.ensures.value c.new-memo.ensures.placed in
+    let q = begins i.store (told i.store.sheet c.flush.new.self.edited_at) i.carried i.meter _ c.new-memo.result c.take_carried-carried.ensures.values c.new-memo.ensures.value c.new-memo.ensures.placed in
     may_be_read q c.args.at o
 
 pub invariant_of-self-2 : goal.invariant_of-self-2
@@ -59,9 +59,9 @@ invariant_of-self-2 c =
     let i = c.self.inside in
     let e = c.formula_value-result.ensures in
     with_plans (Some c.into_carried.result) i.graph i.store c.flush.new.self c.formula_value-result.new.self.meter i.plans (holds_asked i.carried i.graph i.store c.flush.new.self i.meter c.formula_value-result.new.self.meter c.new-memo.result c.formula_value-result.new.self.memo c.into_carried.result
-    (begins i.store (told i.store.sheet c.flush.new.self.named) i.carried i.meter _ c.new-memo.result c.take_carried-carried.ensures.values c.new-memo.ensures.value c.new-memo.ensures.placed)
+    (begins i.store (told i.store.sheet c.flush.new.self.edited_at) i.carried i.meter _ c.new-memo.result c.take_carried-carried.ensures.values c.new-memo.ensures.value c.new-memo.ensures.placed)
     e.spends.same c.into_carried.ensures.kept e.spends.right.sheet c.into_carried.ensures.right c.into_carried.ensures.cones
-    (holds_settled i.carried i.graph i.store i.generations c.flush.new.self i.meter c.in_ok-flush.ensures.named (c.in_ok-flush.ensures.owed i.store.sheet c.self.invariant.1) (but_plans i.carried i.graph i.store i.generations i.meter i.plans c.self.invariant))) c.self.invariant.6
+    (holds_settled i.carried i.graph i.store i.generations c.flush.new.self i.meter c.in_ok-flush.ensures.edited_at (c.in_ok-flush.ensures.dirty i.store.sheet c.self.invariant.1) (but_plans i.carried i.graph i.store i.generations i.meter i.plans c.self.invariant))) c.self.invariant.6
 
 pub returns-clause-value : goal.returns-clause-value
 returns-clause-value c =
@@ -73,19 +73,19 @@ returns-clause-value c =
 pub returns-clause-easy : goal.returns-clause-easy
 returns-clause-easy c =
     let i = c.self.inside in
-    let view = flushed_view {s = i.store} c.in_ok-flush.ensures.named i.carried i.meter c.args.self.now c.self.view_is in
+    let view = flushed_view {s = i.store} c.in_ok-flush.ensures.edited_at i.carried i.meter c.args.self.now c.self.view_is in
     let o : circular i.store.sheet c.args.at ≡ false = sym (c.is_circular.ensures i.store.sheet c.self.invariant.1) ∙ c.if-is_circular.false in
-    let q = begins i.store (told i.store.sheet c.flush.new.self.named) i.carried i.meter _ c.new-memo.result c.take_carried-carried.ensures.values c.new-memo.ensures.value c.new-memo.ensures.placed in
+    let q = begins i.store (told i.store.sheet c.flush.new.self.edited_at) i.carried i.meter _ c.new-memo.result c.take_carried-carried.ensures.values c.new-memo.ensures.value c.new-memo.ensures.placed in
     subst (λ (x : KeptSheet). IsAtHand x c.args.put.now c.args.at → c.formula_value-result.new.self.meter ≡ x.counts) view
     (λ h. c.formula_value-result.ensures.uncounted (at_hand_is q c.in_ok-world.world c.args.put.now c.args.at o c.in_ok-world.ensures h))
 
 pub returns-clause-kept : goal.returns-clause-kept
 returns-clause-kept c =
     let i = c.self.inside in
-    let view = flushed_view {s = i.store} c.in_ok-flush.ensures.named i.carried i.meter c.args.self.now c.self.view_is in
+    let view = flushed_view {s = i.store} c.in_ok-flush.ensures.edited_at i.carried i.meter c.args.self.now c.self.view_is in
     let o : circular i.store.sheet c.args.at ≡ false = sym (c.is_circular.ensures i.store.sheet c.self.invariant.1) ∙ c.if-is_circular.false in
-    let q = begins i.store (told i.store.sheet c.flush.new.self.named) i.carried i.meter _ c.new-memo.result c.take_carried-carried.ensures.values c.new-memo.ensures.value c.new-memo.ensures.placed in
-    let new : KeptSheet = record { stored = i.store; generations = told i.store.sheet c.flush.new.self.named; values = c.into_carried.result.value.kept; counts = c.formula_value-result.new.self.meter } in
+    let q = begins i.store (told i.store.sheet c.flush.new.self.edited_at) i.carried i.meter _ c.new-memo.result c.take_carried-carried.ensures.values c.new-memo.ensures.value c.new-memo.ensures.placed in
+    let new : KeptSheet = record { stored = i.store; generations = told i.store.sheet c.flush.new.self.edited_at; values = c.into_carried.result.value.kept; counts = c.formula_value-result.new.self.meter } in
     let e = c.formula_value-result.ensures in
     subst (λ (x : KeptSheet). OnOk c.formula_value-result.result ((IsAtHand x c.args.put.now c.args.at → ⊥) → is_kept new c.args.at (reaching x.stored.sheet c.args.at c.args.put.now) ≡ true)) view
     (IfOk-weaker c.formula_value-result.result _ _ (λ v h. asked_kept q c.in_ok-world.world c.args.put.now c.args.at o c.in_ok-world.ensures c.formula_value-result.new.self.memo c.into_carried.result.value.kept c.formula_value-result.new.self.meter
@@ -118,27 +118,27 @@ returns-in_err-world-clause-owes c = owes_none c.args.self.now _ _
 pub returns-clause-owes : goal.returns-clause-owes
 returns-clause-owes c =
     let i = c.self.inside in
-    let view = flushed_view {s = i.store} c.in_ok-flush.ensures.named i.carried i.meter c.args.self.now c.self.view_is in
+    let view = flushed_view {s = i.store} c.in_ok-flush.ensures.edited_at i.carried i.meter c.args.self.now c.self.view_is in
     let o : circular i.store.sheet c.args.at ≡ false = sym (c.is_circular.ensures i.store.sheet c.self.invariant.1) ∙ c.if-is_circular.false in
-    let q = begins i.store (told i.store.sheet c.flush.new.self.named) i.carried i.meter _ c.new-memo.result c.take_carried-carried.ensures.values c.new-memo.ensures.value c.new-memo.ensures.placed in
+    let q = begins i.store (told i.store.sheet c.flush.new.self.edited_at) i.carried i.meter _ c.new-memo.result c.take_carried-carried.ensures.values c.new-memo.ensures.value c.new-memo.ensures.placed in
     let has = demands_itself i.store.sheet c.in_ok-world.world c.args.put.now c.args.at o c.in_ok-world.ensures in
     let closed = different_closed i.store.sheet (case_of i.store.sheet c.args.put.now c.args.at) in
     let Has = HasCase i.store.sheet c.in_ok-world.world c.args.at in
-    let new : KeptSheet = record { stored = i.store; generations = told i.store.sheet c.flush.new.self.named; values = c.into_carried.result.value.kept; counts = c.formula_value-result.new.self.meter } in
+    let new : KeptSheet = record { stored = i.store; generations = told i.store.sheet c.flush.new.self.edited_at; values = c.into_carried.result.value.kept; counts = c.formula_value-result.new.self.meter } in
     subst (λ (x : KeptSheet). Owes x new (demanded x.stored.sheet c.args.put.now c.args.at) (is_ok c.formula_value-result.result)) view
     (owes_spent q c.formula_value-result.new.self.memo c.into_carried.result.value.kept c.formula_value-result.new.self.meter c.into_carried.ensures.kept c.into_carried.ensures.within Has (demanded i.store.sheet c.args.put.now c.args.at) closed has _ (spends_at_most c.formula_value-result.ensures.spends))
 
-pub flush-requires-clause-owed : goal.flush-requires-clause-owed
-flush-requires-clause-owed c =
-    λ s a. owed_over c.self.inside.graph.now c.self.inside.store.sheet s (generation_in c.self.inside.generations.named) c.self.inside.generations.owed (noted_in c.self.inside.generations.named c.self.inside.generations.noted) c.self.invariant.1 a c.self.invariant.5.owed
+pub flush-requires-clause-dirty : goal.flush-requires-clause-dirty
+flush-requires-clause-dirty c =
+    λ s a. dirty_over c.self.inside.graph.now c.self.inside.store.sheet s (generation_in c.self.inside.generations.edited_at) c.self.inside.generations.dirty (stamped_in c.self.inside.generations.edited_at c.self.inside.generations.valid_since) c.self.invariant.1 a c.self.invariant.5.dirty
 
-pub new-memo-requires-clause-noted : goal.new-memo-requires-clause-noted
-new-memo-requires-clause-noted c =
-    all_noted c.self.inside.store.sheet c.self.inside.store.edits c.self.inside.generations c.flush.new.self c.in_ok-flush.ensures.named (c.in_ok-flush.ensures.owed c.self.inside.store.sheet c.self.invariant.1) c.in_ok-flush.ensures.clean c.self.invariant.5
+pub new-memo-requires-clause-valid_since : goal.new-memo-requires-clause-valid_since
+new-memo-requires-clause-valid_since c =
+    all_stamped c.self.inside.store.sheet c.self.inside.store.edits c.self.inside.generations c.flush.new.self c.in_ok-flush.ensures.edited_at (c.in_ok-flush.ensures.dirty c.self.inside.store.sheet c.self.invariant.1) c.in_ok-flush.ensures.clean c.self.invariant.5
 
 pub returns-in_err-flush-clause-owes : goal.returns-in_err-flush-clause-owes
 returns-in_err-flush-clause-owes c =
-    owes_flushed c.args.self.now _ _ _ (flushed_view {s = c.self.inside.store} c.flush.ensures.named c.self.inside.carried c.self.inside.meter c.args.self.now c.self.view_is)
+    owes_flushed c.args.self.now _ _ _ (flushed_view {s = c.self.inside.store} c.flush.ensures.edited_at c.self.inside.carried c.self.inside.meter c.args.self.now c.self.view_is)
 
 pub returns-in_err-flush-clause-easy : goal.returns-in_err-flush-clause-easy
 returns-in_err-flush-clause-easy c = λ h. ap (λ (k : KeptSheet). k.counts) c.self.view_is
@@ -146,4 +146,4 @@ returns-in_err-flush-clause-easy c = λ h. ap (λ (k : KeptSheet). k.counts) c.s
 pub invariant_of-self : goal.invariant_of-self
 invariant_of-self c =
     let i = c.self.inside in
-    with_plans i.carried i.graph i.store c.flush.new.self i.meter i.plans (holds_settled i.carried i.graph i.store i.generations c.flush.new.self i.meter c.flush.ensures.named (c.flush.ensures.owed i.store.sheet c.self.invariant.1) (but_plans i.carried i.graph i.store i.generations i.meter i.plans c.self.invariant)) c.self.invariant.6
+    with_plans i.carried i.graph i.store c.flush.new.self i.meter i.plans (holds_settled i.carried i.graph i.store i.generations c.flush.new.self i.meter c.flush.ensures.edited_at (c.flush.ensures.dirty i.store.sheet c.self.invariant.1) (but_plans i.carried i.graph i.store i.generations i.meter i.plans c.self.invariant)) c.self.invariant.6

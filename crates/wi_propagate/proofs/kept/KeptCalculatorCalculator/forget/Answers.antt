@@ -11,4 +11,4 @@ invariant_of-self c =
 pub returns : goal.returns
 returns c =
     let i = c.self.inside in
-    emptied_view i.carried c.forget_carried.new.carried c.forget_carried.ensures.values i.store i.meter (told i.store.sheet i.generations.named) ∙ ap emptied c.self.view_is
+    emptied_view i.carried c.forget_carried.new.carried c.forget_carried.ensures.values i.store i.meter (told i.store.sheet i.generations.edited_at) ∙ ap emptied c.self.view_is

@@ -1,5 +1,5 @@
 use Rattle.wi_sessions.proofs.Words.{◌<◌, length, refl, arith, rules, length-set, AreKept}
-use Rattle.wi_sessions.proofs.PlaceLemmas.{kept_at, place_noted, place_read, places_set}
+use Rattle.wi_sessions.proofs.PlaceLemmas.{kept_at, place_tracked, place_read, places_set}
 use Rattle.wi_sessions.proofs.PendingLemmas.{dropped_kept, kept_here, more_room, no_room, within_unread}
 use Rattle.wi_sessions.proofs.pending.Pending.make_room.Goals as goal
 
@@ -35,7 +35,7 @@ invariant_of-self c =
     let k = c.self.invariant in
     kept_here i.words.entries i.staged.items c.stage_own.new.words.entries c.stage_own.new.staged.items c.args.i (length us) c.bit_of-bit.result c.args.cells.now k.order c.stage_own.ensures.order l c.bit_of-bit.ensures
     c.in-Ok.ensures.rooms.room i.changed.items us c.stage_own.new.own refl k
-    (place_noted i.words.entries i.changed.items c.args.i c.index_mut.result.now c.stage_own.new.own (place_read i.words.entries i.changed.items us c.args.i c.index_mut.result.now k.places l c.index_mut.ensures.value)
+    (place_tracked i.words.entries i.changed.items c.args.i c.index_mut.result.now c.stage_own.new.own (place_read i.words.entries i.changed.items us c.args.i c.index_mut.result.now k.places l c.index_mut.ensures.value)
     c.stage_own.ensures.from (c.stage_own.ensures.stay i.changed.items))
     (c.in-Ok.ensures.own i.changed.items)
 
@@ -61,5 +61,5 @@ invariant_of-self-in-Err c =
     let k : AreKept less rooms i.changed.items us = dropped_kept i.words.entries i.staged.items c.stage_own.new.words.entries rooms less c.args.i (length us) c.bit_of-bit.result c.self.invariant.order c.drop_rooms.ensures.order l c.bit_of-bit.ensures part.pending part.others (search rules) i.changed.items us refl c.self.invariant in
     kept_at less rooms i.changed.items us k i.changed.items _ (length-set us c.args.i c.stage_own.new.own)
     (places_set less i.changed.items us c.args.i c.stage_own.new.own l k.places
-    (place_noted less i.changed.items c.args.i c.index_mut.result.now c.stage_own.new.own (place_read less i.changed.items us c.args.i c.index_mut.result.now k.places l c.index_mut.ensures.value)
+    (place_tracked less i.changed.items c.args.i c.index_mut.result.now c.stage_own.new.own (place_read less i.changed.items us c.args.i c.index_mut.result.now k.places l c.index_mut.ensures.value)
     c.stage_own.ensures.from (c.stage_own.ensures.stay i.changed.items)))

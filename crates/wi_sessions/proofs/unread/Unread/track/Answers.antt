@@ -1,6 +1,6 @@
 use Rattle.wi_sessions.proofs.Words.{◌||◌, ◌∙◌, ℕ, List, drop, refl, ap, or_left, or_right, is_one_of, is_unread}
-use Rattle.wi_sessions.proofs.PlaceLemmas.{unread_noted}
-use Rattle.wi_sessions.proofs.unread.Unread.note.Goals as goal
+use Rattle.wi_sessions.proofs.PlaceLemmas.{unread_tracked}
+use Rattle.wi_sessions.proofs.unread.Unread.track.Goals as goal
 
 pub returns-then-is_longer-clause-stay : goal.returns-then-is_longer-clause-stay
 returns-then-is_longer-clause-stay c = λ changed q h. refl
@@ -14,10 +14,10 @@ returns-in_err-extend_from_slice-clause-stay c =
 
 pub returns-clause-stay : goal.returns-clause-stay
 returns-clause-stay c =
-    λ changed q h. unread_noted changed c.args.cells.now c.args.self.now (record c.args.self.now { own = c.extend_from_slice.new.self }) refl refl c.in_ok-extend_from_slice.ensures.items q
+    λ changed q h. unread_tracked changed c.args.cells.now c.args.self.now (record c.args.self.now { own = c.extend_from_slice.new.self }) refl refl c.in_ok-extend_from_slice.ensures.items q
     (or_left (is_unread changed c.args.self.now q) (is_one_of c.args.cells.now q) h)
 
 pub returns-clause-own : goal.returns-clause-own
 returns-clause-own c =
-    λ changed q h. unread_noted changed c.args.cells.now c.args.self.now (record c.args.self.now { own = c.extend_from_slice.new.self }) refl refl c.in_ok-extend_from_slice.ensures.items q
+    λ changed q h. unread_tracked changed c.args.cells.now c.args.self.now (record c.args.self.now { own = c.extend_from_slice.new.self }) refl refl c.in_ok-extend_from_slice.ensures.items q
     (or_right (is_unread changed c.args.self.now q) (is_one_of c.args.cells.now q) h)

@@ -1,15 +1,15 @@
 use Rattle.wi_sessions.proofs.Words.{arith, ℕ, List, sym, subst, AreLookedAt, HavePlaces}
 use Rattle.wi_sessions.proofs.PlaceLemmas.{places_longer, places_looked}
-use Rattle.wi_sessions.proofs.unread.note.Goals as goal
+use Rattle.wi_sessions.proofs.unread.track.Goals as goal
 
-pub note_alone-requires : goal.note_alone-requires
-note_alone-requires c = omega (arith, c.len-count.ensures, c.args.unread.now.ok.0, c.if-count-eq1.true)
+pub track_alone-requires : goal.track_alone-requires
+track_alone-requires c = omega (arith, c.len-count.ensures, c.args.unread.now.ok.0, c.if-count-eq1.true)
 
 pub returns-then-count-eq1-clause-places : goal.returns-then-count-eq1-clause-places
-returns-then-count-eq1-clause-places c = λ words h. c.note_alone.ensures.places words c.args.changed.now.items h
+returns-then-count-eq1-clause-places c = λ words h. c.track_alone.ensures.places words c.args.changed.now.items h
 
 pub returns-then-count-eq1-clause-looked : goal.returns-then-count-eq1-clause-looked
-returns-then-count-eq1-clause-looked c = λ words h. c.note_alone.ensures.looked c.args.cells.now c.args.changed.now.items
+returns-then-count-eq1-clause-looked c = λ words h. c.track_alone.ensures.looked c.args.cells.now c.args.changed.now.items
 
 pub returns-in_err-extend_from_slice-clause-places : goal.returns-in_err-extend_from_slice-clause-places
 returns-in_err-extend_from_slice-clause-places c =

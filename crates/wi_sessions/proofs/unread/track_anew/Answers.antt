@@ -1,6 +1,6 @@
 use Rattle.wi_sessions.proofs.Words.{◌∙◌, ◌++◌, ℕ, List, [], ap, sym, subst, AreLookedAt, HavePlaces}
 use Rattle.wi_sessions.proofs.PlaceLemmas.{places_longer, places_looked}
-use Rattle.wi_sessions.proofs.unread.note_anew.Goals as goal
+use Rattle.wi_sessions.proofs.unread.track_anew.Goals as goal
 
 pub returns-in_err-extend_from_slice-clause-places : goal.returns-in_err-extend_from_slice-clause-places
 returns-in_err-extend_from_slice-clause-places c =

@@ -1,6 +1,6 @@
 use Rattle.wi_sessions.proofs.Words.{◌<◌, length, arith, length-set}
-use Rattle.wi_sessions.proofs.PlaceLemmas.{alone_looks, place_noted, place_read, places_set, unread_anywhere}
-use Rattle.wi_sessions.proofs.unread.note_alone.Goals as goal
+use Rattle.wi_sessions.proofs.PlaceLemmas.{alone_looks, place_tracked, place_read, places_set, unread_anywhere}
+use Rattle.wi_sessions.proofs.unread.track_alone.Goals as goal
 
 pub index_mut-requires : goal.index_mut-requires
 index_mut-requires c = omega (arith, c.requires, c.args.unread.now.ok.0)
@@ -14,7 +14,7 @@ returns-clause-places c =
     let u = c.look_anywhere.new.self in
     let within : 0 < length us = omega (arith, c.requires) in
     λ words changed h. places_set words changed us 0 u within h
-    (place_noted words changed 0 c.index_mut.result.now u (place_read words changed us 0 c.index_mut.result.now h within c.index_mut.ensures.value) c.look_anywhere.ensures.from
+    (place_tracked words changed 0 c.index_mut.result.now u (place_read words changed us 0 c.index_mut.result.now h within c.index_mut.ensures.value) c.look_anywhere.ensures.from
     (λ q s. unread_anywhere changed u q c.look_anywhere.ensures.anywhere))
 
 pub returns-clause-looked : goal.returns-clause-looked

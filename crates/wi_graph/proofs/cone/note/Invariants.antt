@@ -1,5 +1,0 @@
-use Rattle.wi_graph.proofs.Words.{take, AreNoted}
-use Rattle.wi_graph.proofs.cone.note.Given as goal
-
-abbrev pub invariant-loop-cell : goal.invariant-loop-cell
-invariant-loop-cell l = AreNoted (take l.cell-index l.cells) l.initial.found l.found l.initial.work.items l.work.items
