@@ -44,7 +44,7 @@ pub use Rattle.wi_engine.specs.Inner.Lists.{first_for, first_of, pairs_of, same_
 pub use Rattle.wi_engine.specs.Inner.MemoState.{AreKnownRight, IsClosedUnderReads, IsMemoOf, IsTold, MemoState}
 pub use Rattle.wi_engine.specs.Inner.Remembered.{AreCones, OneQuestion, key_of, question_state, remembered}
 pub use Rattle.wi_engine.specs.Inner.Saving.{GivesUpWhenFull, IsValuedAnew, KeepsFound, NeedsNoEvaluation, TakesNoMore, TakesPlaces, WhereSpace, not_kept}
-pub use Rattle.wi_engine.specs.Inner.Seen.{content_seen}
+pub use Rattle.wi_engine.specs.Inner.ContentRef.{as_content}
 pub use Rattle.wi_engine.specs.Inner.SettledFrames.{AreFoundSettled, HasOneMeaning, IsFrameSettled}
 pub use Rattle.wi_engine.specs.Inner.Spends.{IsSameBeside, Saved, Spends, SpendsAtMost, ValuesCell}
 pub use Rattle.wi_engine.specs.Inner.StackLists.{HasLast, HaveRests, HaveSpace, IsWithFrame, count_more, frame_of, frames_in, rests_behind, stack_state, with_its_rest, with_rest}
@@ -62,7 +62,7 @@ pub use Rattle.wi_engine.specs.declared.frame.Waiting.{Waiting}
 pub use Rattle.wi_engine.specs.declared.frame.Waiting.TheVariants.{Cells, Nothing}
 pub use Rattle.wi_engine.specs.declared.known.Known.{Known}
 pub use Rattle.wi_engine.specs.declared.lists.FoundWhatIf.{FoundWhatIf}
-pub use Rattle.wi_engine.specs.declared.seen.Seen.{Seen}
+pub use Rattle.wi_engine.specs.declared.content_ref.ContentRef.{ContentRef}
 pub use Rattle.wi_engine.specs.declared.stack.Beside.{Beside}
 pub use Rattle.wi_engine.specs.declared.stack.Beside.TheVariants.{More, OneCell}
 pub use Rattle.wi_engine.specs.declared.stack.Entry.{Entry}

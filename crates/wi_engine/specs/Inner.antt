@@ -10,7 +10,7 @@ pub mod MemoState
 pub mod Plans
 pub mod Remembered
 pub mod Saving
-pub mod Seen
+pub mod ContentRef
 pub mod SettledFrames
 pub mod Spends
 pub mod StackLists

@@ -8,10 +8,10 @@ ghost use Rattle.wi_engine.specs.Inner.Steps.{FrameSteps};
 ghost use Rattle.wi_engine.specs.declared.frame.Waiting.TheVariants as waiting;
 
 use crate::asked::remembered_value;
+use crate::content_ref::formula_in;
 use crate::frame::{Asked, Frame, Unvalued, Waiting};
 use crate::memo::Memo;
 use crate::pool::Pool;
-use crate::seen::formula_in;
 use std::alloc::AllocError;
 use wi_functions::first_cell;
 use wi_store::Store;

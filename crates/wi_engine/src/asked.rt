@@ -6,9 +6,9 @@ ghost use Rattle.wi_engine.specs.Inner.MemoState.{IsMemoOf};
 ghost use Rattle.wi_engine.specs.Inner.Frames.{MayBeRead};
 ghost use Rattle.wi_engine.specs.Inner.Steps.{IsAskedOf};
 
+use crate::content_ref::{ContentRef, replaced, stored};
 use crate::frame::{Asked, Unvalued};
 use crate::memo::Memo;
-use crate::seen::{Seen, replaced, stored};
 use std::alloc::{AllocError, Global};
 use wi_parser::{Content, Formula};
 use wi_store::Store;
@@ -34,9 +34,9 @@ pub(crate) fn value_now<'a, M: Memo>(
         return Ok(Asked::Known(value.copy(alloc)?));
     }
     match stored(store, at) {
-        Seen::Nothing => Ok(Asked::Known(Value::Empty)),
-        Seen::Constant(value) => Ok(Asked::Known(value.copy(alloc)?)),
-        Seen::Formula(formula) => remembered_value(alloc, world, at, formula, memo),
+        ContentRef::Nothing => Ok(Asked::Known(Value::Empty)),
+        ContentRef::Constant(value) => Ok(Asked::Known(value.copy(alloc)?)),
+        ContentRef::Formula(formula) => remembered_value(alloc, world, at, formula, memo),
     }
 }
 

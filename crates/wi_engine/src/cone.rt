@@ -14,8 +14,8 @@ ghost use Rattle.wi_sheet.specs.Inner.ReadCells.{rectangles_in, occupied_within}
 ghost use Rattle.wi_sheet.specs.Inner.ReadOrder.{IsReadOrder};
 ghost use Rattle.wi_engine.specs.Inner.Remembered.{AreCones};
 
+use crate::content_ref::formula_at;
 use crate::occupied::next_within;
-use crate::seen::formula_at;
 use std::alloc::{AllocError, Global};
 use std::collections::{BTreeMap, BTreeSet};
 use wi_store::Store;

@@ -9,10 +9,10 @@ ghost use Rattle.wi_values.specs.Replacements.{IsInOrder, as_map, replaced};
 ghost use Rattle.wi_parser.specs.Sheet.{content_of, put_all};
 ghost use Rattle.wi_store.specs.Store.{is_ahead};
 ghost use Rattle.wi_arguments.specs.Filled.{ComesBefore};
-ghost use Rattle.wi_engine.specs.Inner.Seen.{content_seen};
+ghost use Rattle.wi_engine.specs.Inner.ContentRef.{as_content};
 ghost use Rattle.wi_engine.specs.Inner.Touched.{earlier};
 
-use crate::seen::{Seen, as_seen, constant};
+use crate::content_ref::{ContentRef, constant, content_ref};
 use wi_parser::Content;
 use wi_store::Store;
 use wi_values::{Address, Rect, Replacement};
@@ -25,10 +25,10 @@ pub(crate) fn next_touched<'a>(
     world: &'a World,
     area: Rect,
     from: Address,
-) -> Option<(Address, Seen<'a>)>
+) -> Option<(Address, ContentRef<'a>)>
     ensures inside { IfSome result (λ x. (is_within area x.0 ≡ true) × (from ≤ x.0)) }
     ensures seen { IfSome result (λ x.
-        content_seen x.1 ≡ content_of (put_all store.now.sheet world.now) x.0) }
+        as_content x.1 ≡ content_of (put_all store.now.sheet world.now) x.0) }
     ensures nothing_before { (a : ℕ) → is_within area a ≡ true → from ≤ a
         → ComesBefore a (option_map (λ x. x.0) result)
         → content_of (put_all store.now.sheet world.now) a ≡ None }
@@ -77,19 +77,19 @@ fn first_within(replacements: &[Replacement], area: Rect) -> Option<&Replacement
 fn earlier<'a>(
     occupied: &Option<(Address, &'a Content)>,
     replaced: Option<&'a Replacement>,
-) -> Option<(Address, Seen<'a>)>
-    ensures { option_map (λ x. (x.0, content_seen x.1)) result
+) -> Option<(Address, ContentRef<'a>)>
+    ensures { option_map (λ x. (x.0, as_content x.1)) result
         ≡ earlier (option_map (λ x. (x.0, x.1.now)) occupied.now) (option_copied replaced.entry) }
 {
     match (occupied, replaced) {
         (Some((at, content)), Some(replacement)) => {
             if *at < replacement.at {
-                Some((*at, as_seen(content)))
+                Some((*at, content_ref(content)))
             } else {
                 Some((replacement.at, constant(&replacement.value)))
             }
         }
-        (Some((at, content)), None) => Some((*at, as_seen(content))),
+        (Some((at, content)), None) => Some((*at, content_ref(content))),
         (None, Some(replacement)) => Some((replacement.at, constant(&replacement.value))),
         (None, None) => None,
     }

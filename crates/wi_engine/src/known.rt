@@ -13,11 +13,11 @@ ghost use Rattle.wi_arguments.specs.Walk.{HasTaken};
 ghost use Rattle.wi_sheet.specs.CellValue as values;
 ghost use Rattle.wi_engine.specs.Inner.Attempt.{cell_known, known_in};
 ghost use Rattle.wi_engine.specs.Inner.Findings.{AreAllRight, found_value};
-ghost use Rattle.wi_engine.specs.Inner.Seen.{content_seen};
+ghost use Rattle.wi_engine.specs.Inner.ContentRef.{as_content};
 
+use crate::content_ref::{ContentRef, constant, content_ref, replaced, stored};
 use crate::filled::{next_replaced, next_touched};
 use crate::findings::Findings;
-use crate::seen::{Seen, as_seen, constant, replaced, stored};
 use wi_arguments::{LookedUp, Lookup, TakesCells, successor};
 use wi_parser::Pair;
 use wi_store::Store;
@@ -59,25 +59,25 @@ impl<'a> Known<'a> {
 
     /// What is known of a cell in which this stands.
     #[inline(always)]
-    fn known(&self, at: Address, seen: Seen<'a>) -> LookedUp<'_>
+    fn known(&self, at: Address, seen: ContentRef<'a>) -> LookedUp<'_>
         ensures { value_if_known result
-            ≡ known_in (content_seen seen.entry) (found_value self.now.found.now at) }
+            ≡ known_in (as_content seen.entry) (found_value self.now.found.now at) }
     {
         match seen {
-            Seen::Nothing => LookedUp::Known(&self.empty),
-            Seen::Constant(value) => LookedUp::Known(value),
-            Seen::Formula(_) => looked_up(self.found.cell(at)),
+            ContentRef::Nothing => LookedUp::Known(&self.empty),
+            ContentRef::Constant(value) => LookedUp::Known(value),
+            ContentRef::Formula(_) => looked_up(self.found.cell(at)),
         }
     }
 
     /// What is known of a cell in which this stands, and of which no value was found.
-    fn standing(&self, seen: Seen<'a>) -> LookedUp<'_>
-        ensures { value_if_known result ≡ known_in (content_seen seen.entry) None }
+    fn standing(&self, seen: ContentRef<'a>) -> LookedUp<'_>
+        ensures { value_if_known result ≡ known_in (as_content seen.entry) None }
     {
         match seen {
-            Seen::Nothing => LookedUp::Known(&self.empty),
-            Seen::Constant(value) => LookedUp::Known(value),
-            Seen::Formula(_) => LookedUp::Missing,
+            ContentRef::Nothing => LookedUp::Known(&self.empty),
+            ContentRef::Constant(value) => LookedUp::Known(value),
+            ContentRef::Formula(_) => LookedUp::Missing,
         }
     }
 
@@ -120,7 +120,7 @@ impl<'a> Known<'a> {
             if is_reached(replaced, at) {
                 return Ok(());
             }
-            match self.known(at, as_seen(content)) {
+            match self.known(at, content_ref(content)) {
                 LookedUp::Known(value) => {
                     if taker.take(at, value).is_break() {
                         return Ok(());

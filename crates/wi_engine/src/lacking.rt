@@ -3,9 +3,9 @@
 ghost use Rattle.std.specs.Prelude.{◌≡◌, ◌∷◌, [], ◌-◌, IfOk, IfSome, IfNone, take};
 ghost use Rattle.wi_engine.specs.Inner.Attempt.{lacks_cell, lacking_after};
 
+use crate::content_ref::formula_in;
 use crate::frame::Frame;
 use crate::occupied::next_within;
-use crate::seen::formula_in;
 use std::alloc::{AllocError, Global};
 use wi_store::Store;
 use wi_values::{Address, Rect};

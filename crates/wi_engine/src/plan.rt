@@ -14,12 +14,12 @@ ghost use Rattle.wi_engine.specs.Inner.Saving.{NeedsNoEvaluation};
 ghost use Rattle.wi_engine.specs.Inner.Spends.{SpendsAtMost};
 
 use crate::asked::value_now;
+use crate::content_ref::formula_in;
 use crate::findings::Findings;
 use crate::frame::Asked;
 use crate::known::Known;
 use crate::memo::Memo;
 use crate::question::Question;
-use crate::seen::formula_in;
 use std::alloc::{AllocError, Global};
 use wi_functions::{Meter, Outcome, evaluate};
 use wi_store::Store;

@@ -16,10 +16,10 @@ ghost use Rattle.wi_engine.specs.Inner.Frames.{MayBeRead, content_reads_here};
 ghost use Rattle.wi_engine.specs.Inner.MemoState.{IsMemoOf};
 ghost use Rattle.wi_engine.specs.Inner.Plans.{IsWholePlan, MayBeNext, RestsOnSettled, begun_reading, comes_later, is_unsettled, is_what_if, planned_cells};
 
+use crate::content_ref::{formula_at, formula_in};
 use crate::memo::Memo;
 use crate::occupied::next_within;
 use crate::plan::{Plan, Planned};
-use crate::seen::{formula_at, formula_in};
 use std::alloc::{AllocError, Global};
 use std::collections::{BTreeMap, BTreeSet};
 use wi_parser::{Content, Expr, Formula};
@@ -429,7 +429,8 @@ impl Draft {
 
     /// Begins with a cell's formula.
     fn go_into(&mut self, cell: Address) -> Result<(), AllocError>
-        ensures { OnOk result (self.new.path.items ≡ self.old.path.items ++ begun_reading cell ∷ []) }
+        ensures { OnOk result (self.new.path.items
+            ≡ self.old.path.items ++ begun_reading cell ∷ []) }
     {
         self.path.push(Reading {
             cell,

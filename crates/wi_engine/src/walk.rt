@@ -14,8 +14,8 @@ ghost use Rattle.wi_sheet.specs.Inner.ReadOrder.{IsReadOrder};
 ghost use Rattle.wi_engine.specs.Inner.Walk.{IsBelow, Enter, GoesOn, HasCycle, begun, tasks_in, tasks_left, unread};
 ghost use Rattle.wi_engine.specs.declared.walk.Progress.TheVariants.{Open, Done};
 
+use crate::content_ref::formula_at;
 use crate::occupied::next_within;
-use crate::seen::formula_at;
 use std::alloc::{AllocError, Global};
 use std::collections::BTreeMap;
 use wi_store::Store;

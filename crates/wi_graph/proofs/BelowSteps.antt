@@ -1,5 +1,5 @@
 -- Steps of a search among what a cell reads.
-use Rattle.wi_graph.proofs.Words.{◌≡◌, ◌==◌, ◌&&◌, ◌||◌, ◌⊎◌, inl, inr, ℕ, ◌+◌, ◌<◌, ◌≤◌, Bool, true, false, cond, filter, nat_le, List, [], ◌∷◌, ◌++◌, take, get_or, length, Option, Some, None, is_some, refl, ap, sym, ◌∙◌, subst, arith, or-false, or_assoc, or_cases, or_left, or_right, and_parts, and_from, cases_lt, false_from_ne_true, le-leb, leb-true, list_any-append, sorted_head, sorted_tail, find, AllByRecursion, IsStrictlySortedBy, keys_of, lookup, nat_cmp, Less, is_at, insert_entry, Area, is_within, found-insert, below_from_Less, within_between, taken_more, CellEntries, get, IsOrdered, is_one_of, Rooms, in_room, room_at, areas_of, is_within_one, is_ahead, has_seen, HasAreas, HasRest, IsLookedAt, IsSearchingBelow, ReachesNot}
+use Rattle.wi_graph.proofs.Words.{◌≡◌, ◌==◌, ◌&&◌, ◌||◌, ◌⊎◌, inl, inr, ℕ, ◌+◌, ◌<◌, ◌≤◌, Bool, true, false, cond, filter, nat_le, List, [], ◌∷◌, ◌++◌, take, get_or, length, Option, Some, None, is_some, refl, ap, sym, ◌∙◌, subst, arith, or-false, or_assoc, or_cases, or_left, or_right, and_parts, and_from, cases_lt, false_from_ne_true, le-leb, leb-true, list_any-append, sorted_head, sorted_tail, find, AllByRecursion, IsStrictlySortedBy, keys_of, lookup, nat_cmp, Less, is_at, insert_entry, Area, is_within, found-insert, below_from_Less, within_between, taken_more, CellEntries, get, IsOrdered, is_one_of, Rooms, in_room, room_at, areas_of, is_within_one, is_ahead, has_visited, HasAreas, HasRest, IsLookedAt, IsSearchingBelow, ReachesNot}
 use Rattle.std.proofs.lemmas.List.{take_all}
 use Rattle.wi_graph.proofs.Tests.{is_itself, turn_test, clash}
 use Rattle.wi_graph.proofs.Walks.{same_cell}
@@ -100,30 +100,30 @@ all_areas cell areas i old new l a = subst (λ (xs : List Area). HasAreas cell x
 
 -- ---- a step
 
-goes_on : (rooms : Rooms) (cell : ℕ) (areas : List Area) (seen more : ℕ → Bool) (before after : List (Area × ℕ)) → IsSearchingBelow rooms cell areas seen before → ((d : ℕ) → seen d ≡ true → more d ≡ true) →
+goes_on : (rooms : Rooms) (cell : ℕ) (areas : List Area) (visited more : ℕ → Bool) (before after : List (Area × ℕ)) → IsSearchingBelow rooms cell areas visited before → ((d : ℕ) → visited d ≡ true → more d ≡ true) →
     ((d : ℕ) → is_ahead before d ≡ true → (room_at rooms d ≡ None) ⊎ ((more d ≡ true) ⊎ (is_ahead after d ≡ true))) →
-    ((e : ℕ) → more e ≡ true → (seen e ≡ true) ⊎ ((is_ahead before e ≡ true) × ((d : ℕ) → is_within_one (areas_of (room_at rooms e)) d ≡ true → ((cell == d) ≡ false) × (is_ahead after d ≡ true)))) →
+    ((e : ℕ) → more e ≡ true → (visited e ≡ true) ⊎ ((is_ahead before e ≡ true) × ((d : ℕ) → is_within_one (areas_of (room_at rooms e)) d ≡ true → ((cell == d) ≡ false) × (is_ahead after d ≡ true)))) →
     ((d : ℕ) → is_ahead after d ≡ true → (cell == d) ≡ false) → IsSearchingBelow rooms cell areas more after
-goes_on rooms cell areas seen more before after s stays known fresh apart = record {
+goes_on rooms cell areas visited more before after s stays known fresh apart = record {
   first = λ d i. looked d (s.first d i);
   reads = λ e d i j. read e d j (fresh e i);
   apart = λ e i. other e (fresh e i);
   apart_ahead = apart;
 }
   where
-    at : (d : ℕ) → (room_at rooms d ≡ None) ⊎ ((seen d ≡ true) ⊎ (is_ahead before d ≡ true)) → (room_at rooms d ≡ None) ⊎ ((more d ≡ true) ⊎ (is_ahead after d ≡ true))
+    at : (d : ℕ) → (room_at rooms d ≡ None) ⊎ ((visited d ≡ true) ⊎ (is_ahead before d ≡ true)) → (room_at rooms d ≡ None) ⊎ ((more d ≡ true) ⊎ (is_ahead after d ≡ true))
     at d (inl n) = inl n
     at d (inr (inl i)) = inr (inl (stays d i))
     at d (inr (inr i)) = known d i
 
-    looked : (d : ℕ) → IsLookedAt rooms cell seen before d → IsLookedAt rooms cell more after d
+    looked : (d : ℕ) → IsLookedAt rooms cell visited before d → IsLookedAt rooms cell more after d
     looked d k = (k.0, at d k.1)
 
-    read : (e d : ℕ) → is_within_one (areas_of (room_at rooms e)) d ≡ true → (seen e ≡ true) ⊎ ((is_ahead before e ≡ true) × ((x : ℕ) → is_within_one (areas_of (room_at rooms e)) x ≡ true → ((cell == x) ≡ false) × (is_ahead after x ≡ true))) → IsLookedAt rooms cell more after d
+    read : (e d : ℕ) → is_within_one (areas_of (room_at rooms e)) d ≡ true → (visited e ≡ true) ⊎ ((is_ahead before e ≡ true) × ((x : ℕ) → is_within_one (areas_of (room_at rooms e)) x ≡ true → ((cell == x) ≡ false) × (is_ahead after x ≡ true))) → IsLookedAt rooms cell more after d
     read e d j (inl i) = looked d (s.reads e d i j)
     read e d j (inr k) = let x = k.1 d j in (x.0, inr (inr x.1))
 
-    other : (e : ℕ) → (seen e ≡ true) ⊎ ((is_ahead before e ≡ true) × ((x : ℕ) → is_within_one (areas_of (room_at rooms e)) x ≡ true → ((cell == x) ≡ false) × (is_ahead after x ≡ true))) → (cell == e) ≡ false
+    other : (e : ℕ) → (visited e ≡ true) ⊎ ((is_ahead before e ≡ true) × ((x : ℕ) → is_within_one (areas_of (room_at rooms e)) x ≡ true → ((cell == x) ≡ false) × (is_ahead after x ≡ true))) → (cell == e) ≡ false
     other e (inl i) = s.apart e i
     other e (inr k) = s.apart_ahead e k.0
 
@@ -131,16 +131,16 @@ roomless : (rooms : Rooms) (d : ℕ) → is_one_of (keys_of rooms.entries) d ≡
 roomless rooms d h = ap in_room (no_key rooms.entries d h)
 
 -- a rectangle has no more
-pub below_none : (rooms : Rooms) (cell : ℕ) (areas : List Area) (seen : ℕ → Bool) (ahead : List (Area × ℕ)) (area : Area) (from : ℕ) → find (λ a. nat_le from a) (filter (is_within area) (keys_of rooms.entries)) ≡ None →
-    IsSearchingBelow rooms cell areas seen (ahead ++ (area, from) ∷ []) → IsSearchingBelow rooms cell areas seen ahead
-below_none rooms cell areas seen ahead area from h s =
-    goes_on rooms cell areas seen seen (ahead ++ (area, from) ∷ []) ahead s (λ d i. i) (λ d i. known d (or_cases (is_ahead ahead d) _ (sym (ahead_last ahead area from d) ∙ i))) (λ e i. inl i) (λ d i. s.apart_ahead d (ahead_last ahead area from d ∙ or_left (is_ahead ahead d) _ i))
+pub below_none : (rooms : Rooms) (cell : ℕ) (areas : List Area) (visited : ℕ → Bool) (ahead : List (Area × ℕ)) (area : Area) (from : ℕ) → find (λ a. nat_le from a) (filter (is_within area) (keys_of rooms.entries)) ≡ None →
+    IsSearchingBelow rooms cell areas visited (ahead ++ (area, from) ∷ []) → IsSearchingBelow rooms cell areas visited ahead
+below_none rooms cell areas visited ahead area from h s =
+    goes_on rooms cell areas visited visited (ahead ++ (area, from) ∷ []) ahead s (λ d i. i) (λ d i. known d (or_cases (is_ahead ahead d) _ (sym (ahead_last ahead area from d) ∙ i))) (λ e i. inl i) (λ d i. s.apart_ahead d (ahead_last ahead area from d ∙ or_left (is_ahead ahead d) _ i))
   where
     no : (d : ℕ) → is_within area d ≡ true → nat_le from d ≡ true → (b : Bool) → is_one_of (keys_of rooms.entries) d ≡ b → room_at rooms d ≡ None
     no d w l true m = clash (nat_le from d) l (find_none (λ a. nat_le from a) (is_within area) (keys_of rooms.entries) h d m w)
     no d w l false m = roomless rooms d m
 
-    known : (d : ℕ) → (is_ahead ahead d ≡ true) ⊎ ((is_within area d && nat_le from d) ≡ true) → (room_at rooms d ≡ None) ⊎ ((seen d ≡ true) ⊎ (is_ahead ahead d ≡ true))
+    known : (d : ℕ) → (is_ahead ahead d ≡ true) ⊎ ((is_within area d && nat_le from d) ≡ true) → (room_at rooms d ≡ None) ⊎ ((visited d ≡ true) ⊎ (is_ahead ahead d ≡ true))
     known d (inl i) = inr (inr i)
     known d (inr k) = let x = and_parts (is_within area d) (nat_le from d) k in inl (no d x.0 x.1 (is_one_of (keys_of rooms.entries) d) refl)
 
@@ -161,9 +161,9 @@ read_known rooms area from read ahead mid after more o f r g u d i = at (or_case
     at (inl j) = inr (inr (u d (r.stays d j)))
     at (inr k) = let x = and_parts (is_within area d) (nat_le from d) k in known x.0 x.1 (is_one_of (keys_of rooms.entries) d) refl
 
-read_apart : (rooms : Rooms) (cell : ℕ) (areas : List Area) (seen : ℕ → Bool) (ahead mid : List (Area × ℕ)) (area : Area) (from read : ℕ) → nat_le from read ≡ true → HasRest area read ahead mid → IsSearchingBelow rooms cell areas seen (ahead ++ (area, from) ∷ []) →
+read_apart : (rooms : Rooms) (cell : ℕ) (areas : List Area) (visited : ℕ → Bool) (ahead mid : List (Area × ℕ)) (area : Area) (from read : ℕ) → nat_le from read ≡ true → HasRest area read ahead mid → IsSearchingBelow rooms cell areas visited (ahead ++ (area, from) ∷ []) →
     (d : ℕ) → is_ahead mid d ≡ true → (cell == d) ≡ false
-read_apart rooms cell areas seen ahead mid area from read l r s d i = at (r.within d i)
+read_apart rooms cell areas visited ahead mid area from read l r s d i = at (r.within d i)
   where
     at : (is_ahead ahead d ≡ true) ⊎ ((is_within area d ≡ true) × (read < d)) → (cell == d) ≡ false
     at (inl j) = s.apart_ahead d (ahead_last ahead area from d ∙ or_left (is_ahead ahead d) _ j)
@@ -172,30 +172,30 @@ read_apart rooms cell areas seen ahead mid area from read l r s d i = at (r.with
         let n : from ≤ d = omega (arith, m, k.1) in
         s.apart_ahead d (ahead_last ahead area from d ∙ or_right (is_ahead ahead d) _ (and_from (is_within area d) (nat_le from d) k.0 (le-leb from d n)))
 
-more_cases : (seen more : ℕ → Bool) (read : ℕ) → ((d : ℕ) → more d ≡ (seen d || (read == d))) → (e : ℕ) → more e ≡ true → (read ≡ e) ⊎ (seen e ≡ true)
-more_cases seen more read g e i = at (or_cases (seen e) (read == e) (sym (g e) ∙ i))
+more_cases : (visited more : ℕ → Bool) (read : ℕ) → ((d : ℕ) → more d ≡ (visited d || (read == d))) → (e : ℕ) → more e ≡ true → (read ≡ e) ⊎ (visited e ≡ true)
+more_cases visited more read g e i = at (or_cases (visited e) (read == e) (sym (g e) ∙ i))
   where
-    at : (seen e ≡ true) ⊎ ((read == e) ≡ true) → (read ≡ e) ⊎ (seen e ≡ true)
+    at : (visited e ≡ true) ⊎ ((read == e) ≡ true) → (read ≡ e) ⊎ (visited e ≡ true)
     at (inl k) = inr k
     at (inr k) = inl (same_cell e read k)
 
 -- that was found before
-pub below_old : (rooms : Rooms) (cell : ℕ) (areas : List Area) (seen more : ℕ → Bool) (ahead mid : List (Area × ℕ)) (area : Area) (from read : ℕ) → IsOrdered nat_cmp rooms → find (λ a. nat_le from a) (filter (is_within area) (keys_of rooms.entries)) ≡ Some read →
-    HasRest area read ahead mid → seen read ≡ true → ((d : ℕ) → more d ≡ (seen d || (read == d))) → IsSearchingBelow rooms cell areas seen (ahead ++ (area, from) ∷ []) → IsSearchingBelow rooms cell areas more mid
-below_old rooms cell areas seen more ahead mid area from read o f r h g s =
-    goes_on rooms cell areas seen more (ahead ++ (area, from) ∷ []) mid s (λ d i. g d ∙ or_left (seen d) _ i) (read_known rooms area from read ahead mid mid more o f r (g read ∙ or_right (seen read) _ (is_itself read)) (λ d i. i)) (λ e i. inl (was e (more_cases seen more read g e i)))
-    (read_apart rooms cell areas seen ahead mid area from read (find_first (λ a. nat_le from a) (is_within area) (keys_of rooms.entries) read f).1 r s)
+pub below_old : (rooms : Rooms) (cell : ℕ) (areas : List Area) (visited more : ℕ → Bool) (ahead mid : List (Area × ℕ)) (area : Area) (from read : ℕ) → IsOrdered nat_cmp rooms → find (λ a. nat_le from a) (filter (is_within area) (keys_of rooms.entries)) ≡ Some read →
+    HasRest area read ahead mid → visited read ≡ true → ((d : ℕ) → more d ≡ (visited d || (read == d))) → IsSearchingBelow rooms cell areas visited (ahead ++ (area, from) ∷ []) → IsSearchingBelow rooms cell areas more mid
+below_old rooms cell areas visited more ahead mid area from read o f r h g s =
+    goes_on rooms cell areas visited more (ahead ++ (area, from) ∷ []) mid s (λ d i. g d ∙ or_left (visited d) _ i) (read_known rooms area from read ahead mid mid more o f r (g read ∙ or_right (visited read) _ (is_itself read)) (λ d i. i)) (λ e i. inl (was e (more_cases visited more read g e i)))
+    (read_apart rooms cell areas visited ahead mid area from read (find_first (λ a. nat_le from a) (is_within area) (keys_of rooms.entries) read f).1 r s)
   where
-    was : (e : ℕ) → (read ≡ e) ⊎ (seen e ≡ true) → seen e ≡ true
-    was e (inl k) = subst (λ (x : ℕ). seen x ≡ true) k h
+    was : (e : ℕ) → (read ≡ e) ⊎ (visited e ≡ true) → visited e ≡ true
+    was e (inl k) = subst (λ (x : ℕ). visited x ≡ true) k h
     was e (inr k) = k
 
 -- that is new
-pub below_new : (rooms : Rooms) (cell : ℕ) (areas : List Area) (seen more : ℕ → Bool) (ahead mid after : List (Area × ℕ)) (area : Area) (from read : ℕ) → IsOrdered nat_cmp rooms → find (λ a. nat_le from a) (filter (is_within area) (keys_of rooms.entries)) ≡ Some read →
-    HasRest area read ahead mid → HasAreas cell (areas_of (room_at rooms read)) mid after → ((d : ℕ) → more d ≡ (seen d || (read == d))) → IsSearchingBelow rooms cell areas seen (ahead ++ (area, from) ∷ []) → IsSearchingBelow rooms cell areas more after
-below_new rooms cell areas seen more ahead mid after area from read o f r a g s =
-    goes_on rooms cell areas seen more (ahead ++ (area, from) ∷ []) after s (λ d i. g d ∙ or_left (seen d) _ i) (read_known rooms area from read ahead mid after more o f r (g read ∙ or_right (seen read) _ (is_itself read)) (λ d i. a.more d ∙ or_left (is_ahead mid d) _ i))
-    (λ e i. fresh e (more_cases seen more read g e i)) (λ d i. apart d (or_cases (is_ahead mid d) _ (sym (a.more d) ∙ i)))
+pub below_new : (rooms : Rooms) (cell : ℕ) (areas : List Area) (visited more : ℕ → Bool) (ahead mid after : List (Area × ℕ)) (area : Area) (from read : ℕ) → IsOrdered nat_cmp rooms → find (λ a. nat_le from a) (filter (is_within area) (keys_of rooms.entries)) ≡ Some read →
+    HasRest area read ahead mid → HasAreas cell (areas_of (room_at rooms read)) mid after → ((d : ℕ) → more d ≡ (visited d || (read == d))) → IsSearchingBelow rooms cell areas visited (ahead ++ (area, from) ∷ []) → IsSearchingBelow rooms cell areas more after
+below_new rooms cell areas visited more ahead mid after area from read o f r a g s =
+    goes_on rooms cell areas visited more (ahead ++ (area, from) ∷ []) after s (λ d i. g d ∙ or_left (visited d) _ i) (read_known rooms area from read ahead mid after more o f r (g read ∙ or_right (visited read) _ (is_itself read)) (λ d i. a.more d ∙ or_left (is_ahead mid d) _ i))
+    (λ e i. fresh e (more_cases visited more read g e i)) (λ d i. apart d (or_cases (is_ahead mid d) _ (sym (a.more d) ∙ i)))
   where
     first : (is_within area read ≡ true) × (nat_le from read ≡ true)
     first = find_first (λ a. nat_le from a) (is_within area) (keys_of rooms.entries) read f
@@ -209,46 +209,46 @@ below_new rooms cell areas seen more ahead mid after area from read o f r a g s 
     given : (d : ℕ) → is_within_one (areas_of (room_at rooms read)) d ≡ true → ((cell == d) ≡ false) × (is_ahead after d ≡ true)
     given d j = (not_it d j, a.more d ∙ or_right (is_ahead mid d) _ j)
 
-    fresh : (e : ℕ) → (read ≡ e) ⊎ (seen e ≡ true) → (seen e ≡ true) ⊎ ((is_ahead (ahead ++ (area, from) ∷ []) e ≡ true) × ((d : ℕ) → is_within_one (areas_of (room_at rooms e)) d ≡ true → ((cell == d) ≡ false) × (is_ahead after d ≡ true)))
+    fresh : (e : ℕ) → (read ≡ e) ⊎ (visited e ≡ true) → (visited e ≡ true) ⊎ ((is_ahead (ahead ++ (area, from) ∷ []) e ≡ true) × ((d : ℕ) → is_within_one (areas_of (room_at rooms e)) d ≡ true → ((cell == d) ≡ false) × (is_ahead after d ≡ true)))
     fresh e (inl k) = inr (subst (λ (x : ℕ). is_ahead (ahead ++ (area, from) ∷ []) x ≡ true) k here, λ d j. given d (subst (λ (x : ℕ). is_within_one (areas_of (room_at rooms x)) d ≡ true) (sym k) j))
     fresh e (inr k) = inl k
 
     apart : (d : ℕ) → (is_ahead mid d ≡ true) ⊎ (is_within_one (areas_of (room_at rooms read)) d ≡ true) → (cell == d) ≡ false
-    apart d (inl j) = read_apart rooms cell areas seen ahead mid area from read first.1 r s d j
+    apart d (inl j) = read_apart rooms cell areas visited ahead mid area from read first.1 r s d j
     apart d (inr j) = not_it d j
 
 -- ---- the cells that were found
 
-pub none_seen : {X : Type 0} (cells : CellEntries X) → cells.entries ≡ [] → (d : ℕ) → has_seen cells d ≡ false
-none_seen {X} cells e d = ap (λ (es : List (ℕ × X)). is_some (lookup (is_at (nat_cmp d)) es)) e
+pub none_visited : {X : Type 0} (cells : CellEntries X) → cells.entries ≡ [] → (d : ℕ) → has_visited cells d ≡ false
+none_visited {X} cells e d = ap (λ (es : List (ℕ × X)). is_some (lookup (is_at (nat_cmp d)) es)) e
 
-pub seen_one : {X : Type 0} (old new : CellEntries X) (a : ℕ) (v : X) → new.entries ≡ cond (is_some (get nat_cmp old a)) old.entries (insert_entry nat_cmp old.entries a v) → (c : ℕ) → has_seen new c ≡ (has_seen old c || (a == c))
-seen_one {X} old new a v e c = at (get nat_cmp old a) refl e
+pub visited_one : {X : Type 0} (old new : CellEntries X) (a : ℕ) (v : X) → new.entries ≡ cond (is_some (get nat_cmp old a)) old.entries (insert_entry nat_cmp old.entries a v) → (c : ℕ) → has_visited new c ≡ (has_visited old c || (a == c))
+visited_one {X} old new a v e c = at (get nat_cmp old a) refl e
   where
-    there : (b : Bool) → (a == c) ≡ b → is_some (get nat_cmp old a) ≡ true → has_seen old c ≡ (has_seen old c || b)
-    there true t h = let z : has_seen old c ≡ true = ap (λ (x : ℕ). is_some (get nat_cmp old x)) (sym (same_cell c a t)) ∙ h in z ∙ sym (or_left (has_seen old c) true z)
-    there false t h = sym (or-false (has_seen old c))
+    there : (b : Bool) → (a == c) ≡ b → is_some (get nat_cmp old a) ≡ true → has_visited old c ≡ (has_visited old c || b)
+    there true t h = let z : has_visited old c ≡ true = ap (λ (x : ℕ). is_some (get nat_cmp old x)) (sym (same_cell c a t)) ∙ h in z ∙ sym (or_left (has_visited old c) true z)
+    there false t h = sym (or-false (has_visited old c))
 
-    put : (b : Bool) → is_some (cond b (Some v) (lookup (is_at (nat_cmp c)) old.entries)) ≡ (has_seen old c || b)
-    put true = sym (or_right (has_seen old c) true refl)
-    put false = sym (or-false (has_seen old c))
+    put : (b : Bool) → is_some (cond b (Some v) (lookup (is_at (nat_cmp c)) old.entries)) ≡ (has_visited old c || b)
+    put true = sym (or_right (has_visited old c) true refl)
+    put false = sym (or-false (has_visited old c))
 
-    at : (o : Option X) → get nat_cmp old a ≡ o → new.entries ≡ cond (is_some o) old.entries (insert_entry nat_cmp old.entries a v) → has_seen new c ≡ (has_seen old c || (a == c))
+    at : (o : Option X) → get nat_cmp old a ≡ o → new.entries ≡ cond (is_some o) old.entries (insert_entry nat_cmp old.entries a v) → has_visited new c ≡ (has_visited old c || (a == c))
     at (Some w) h k = ap (λ (es : List (ℕ × X)). is_some (lookup (is_at (nat_cmp c)) es)) k ∙ there (a == c) refl (ap (λ (o : Option X). is_some o) h)
     at None h k = ap (λ (es : List (ℕ × X)). is_some (lookup (is_at (nat_cmp c)) es)) k ∙ ap (λ (o : Option X). is_some o) (found-insert old.entries a v c ∙ ap (λ (b : Bool). cond b (Some v) (lookup (is_at (nat_cmp c)) old.entries)) (turn_test c a)) ∙ put (a == c)
 
 -- ---- how it begins and ends
 
-pub below_start : (rooms : Rooms) (cell : ℕ) (areas : List Area) (seen : ℕ → Bool) (ahead : List (Area × ℕ)) → ((x : ℕ) → seen x ≡ false) → HasAreas cell areas [] ahead → IsSearchingBelow rooms cell areas seen ahead
-below_start rooms cell areas seen ahead e a = record {
+pub below_start : (rooms : Rooms) (cell : ℕ) (areas : List Area) (visited : ℕ → Bool) (ahead : List (Area × ℕ)) → ((x : ℕ) → visited x ≡ false) → HasAreas cell areas [] ahead → IsSearchingBelow rooms cell areas visited ahead
+below_start rooms cell areas visited ahead e a = record {
   first = λ d i. (not_it d i, inr (inr (a.more d ∙ i)));
-  reads = λ x d i j. clash (seen x) i (e x);
-  apart = λ x i. clash (seen x) i (e x);
+  reads = λ x d i j. clash (visited x) i (e x);
+  apart = λ x i. clash (visited x) i (e x);
   apart_ahead = λ d i. not_it d (sym (a.more d) ∙ i);
 }
   where
     not_it : (d : ℕ) → is_within_one areas d ≡ true → (cell == d) ≡ false
     not_it d i = false_from_ne_true (cell == d) (λ k. clash (is_within_one areas cell) (ap (is_within_one areas) (same_cell d cell k) ∙ i) a.apart)
 
-pub below_end : (rooms : Rooms) (cell : ℕ) (areas : List Area) (seen : ℕ → Bool) (ahead : List (Area × ℕ)) → ahead ≡ [] → IsSearchingBelow rooms cell areas seen ahead → ReachesNot rooms cell areas
-below_end rooms cell areas seen ahead e s = (seen, subst (IsSearchingBelow rooms cell areas seen) e s)
+pub below_end : (rooms : Rooms) (cell : ℕ) (areas : List Area) (visited : ℕ → Bool) (ahead : List (Area × ℕ)) → ahead ≡ [] → IsSearchingBelow rooms cell areas visited ahead → ReachesNot rooms cell areas
+below_end rooms cell areas visited ahead e s = (visited, subst (IsSearchingBelow rooms cell areas visited) e s)

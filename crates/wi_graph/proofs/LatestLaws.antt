@@ -174,32 +174,32 @@ one_reached : (s : Sheet) (x c : ℕ) → Reaches s c x → in_cone s (x ∷ [])
 one_reached s x c w = true_in_cone s (x ∷ []) c (x, or_left (x == x) false (is_itself x), w)
 
 pub flushes_one : FlushesOne
-flushes_one s number stamped after rest less x last seen now part falls shown raised k = record {
+flushes_one s number stamped after rest less x last visited now part falls shown raised k = record {
   dirty = λ c n l. dirty c n l;
-  closed = λ c d r h. shown c ∙ up c d r (or_cases (seen d) (in_cone s (x ∷ []) d) (sym (shown d) ∙ h));
-  high = λ c h. high c (or_cases (seen c) (in_cone s (x ∷ []) c) (sym (shown c) ∙ h));
+  closed = λ c d r h. shown c ∙ up c d r (or_cases (visited d) (in_cone s (x ∷ []) d) (sym (shown d) ∙ h));
+  high = λ c h. high c (or_cases (visited c) (in_cone s (x ∷ []) c) (sym (shown c) ∙ h));
 }
   where
-    up : (c d : ℕ) → content_reads (content_of s c) d ≡ true → (seen d ≡ true) ⊎ (in_cone s (x ∷ []) d ≡ true) → (seen c || in_cone s (x ∷ []) c) ≡ true
-    up c d r (inl h) = or_left (seen c) _ (k.closed c d r h)
-    up c d r (inr h) = or_right (seen c) _ (cone_closed s (x ∷ []) c d r h)
+    up : (c d : ℕ) → content_reads (content_of s c) d ≡ true → (visited d ≡ true) ⊎ (in_cone s (x ∷ []) d ≡ true) → (visited c || in_cone s (x ∷ []) c) ≡ true
+    up c d r (inl h) = or_left (visited c) _ (k.closed c d r h)
+    up c d r (inr h) = or_right (visited c) _ (cone_closed s (x ∷ []) c d r h)
 
     no_less : (c : ℕ) → stamped c ≤ after c
-    no_less c = at (in_cone s (x ∷ []) c && not (seen c)) (raised c)
+    no_less c = at (in_cone s (x ∷ []) c && not (visited c)) (raised c)
       where
         at : (b : Bool) → after c ≡ cond b (max (stamped c) (number x)) (stamped c) → stamped c ≤ after c
         at true e = omega (arith, e)
         at false e = omega (arith, e)
 
-    in_it : (c : ℕ) → in_cone s (x ∷ []) c ≡ true → (seen c ≡ true) ⊎ (seen c ≡ false) → number x ≤ after c
+    in_it : (c : ℕ) → in_cone s (x ∷ []) c ≡ true → (visited c ≡ true) ⊎ (visited c ≡ false) → number x ≤ after c
     in_it c i (inl u) = let a = k.high c u in let b = no_less c in omega (arith, a, b, falls)
     in_it c i (inr u) =
-        let e : after c ≡ max (stamped c) (number x) = raised c ∙ ap (λ (b : Bool). cond (b && not (seen c)) (max (stamped c) (number x)) (stamped c)) i ∙ ap (λ (b : Bool). cond (true && not b) (max (stamped c) (number x)) (stamped c)) u in
+        let e : after c ≡ max (stamped c) (number x) = raised c ∙ ap (λ (b : Bool). cond (b && not (visited c)) (max (stamped c) (number x)) (stamped c)) i ∙ ap (λ (b : Bool). cond (true && not b) (max (stamped c) (number x)) (stamped c)) u in
         omega (arith, e)
 
-    high : (c : ℕ) → (seen c ≡ true) ⊎ (in_cone s (x ∷ []) c ≡ true) → number x ≤ after c
+    high : (c : ℕ) → (visited c ≡ true) ⊎ (in_cone s (x ∷ []) c ≡ true) → number x ≤ after c
     high c (inl u) = let a = k.high c u in let b = no_less c in omega (arith, a, b, falls)
-    high c (inr i) = in_it c i (cases_Bool (seen c))
+    high c (inr i) = in_it c i (cases_Bool (visited c))
 
     no_more : (c n : ℕ) → IsLatest s number c n → after c ≤ n
     no_more c n l = at (cases_Bool (in_cone s (x ∷ []) c))
@@ -212,15 +212,15 @@ flushes_one s number stamped after rest less x last seen now part falls shown ra
         there m false e = let b = before in omega (arith, e, b)
 
         at : (in_cone s (x ∷ []) c ≡ true) ⊎ (in_cone s (x ∷ []) c ≡ false) → after c ≤ n
-        at (inl i) = there (l.most x (reaches_one s x c i)) (in_cone s (x ∷ []) c && not (seen c)) (raised c)
-        at (inr i) = let e = raised c ∙ ap (λ (b : Bool). cond (b && not (seen c)) (max (stamped c) (number x)) (stamped c)) i in let b = before in omega (arith, e, b)
+        at (inl i) = there (l.most x (reaches_one s x c i)) (in_cone s (x ∷ []) c && not (visited c)) (raised c)
+        at (inr i) = let e = raised c ∙ ap (λ (b : Bool). cond (b && not (visited c)) (max (stamped c) (number x)) (stamped c)) i in let b = before in omega (arith, e, b)
 
     dirty : (c n : ℕ) → IsLatest s number c n → IsDirty s number less after c n
     dirty c n l = record { no_later = no_more c n l; stamped_or_dirty = at (k.dirty c n l).stamped_or_dirty }
       where
         of_it : (y : ℕ) → Reaches s c y → number y ≡ n → x ≡ y → after c ≡ n
         of_it y w e q =
-            let a = in_it c (one_reached s x c (subst (Reaches s c) (sym q) w)) (cases_Bool (seen c)) in
+            let a = in_it c (one_reached s x c (subst (Reaches s c) (sym q) w)) (cases_Bool (visited c)) in
             let b = no_more c n l in
             let f = ap number q in
             omega (arith, a, b, e, f)
@@ -234,10 +234,10 @@ flushes_one s number stamped after rest less x last seen now part falls shown ra
         at (inr y) = by y.0 y.2 y.3 (part y.0 y.1)
 
 pub flushing_begins : FlushingBegins
-flushing_begins s number stamped rest seen last none o = record {
+flushing_begins s number stamped rest visited last none o = record {
   dirty = o;
-  closed = λ c d r h. clash (seen d) h (none d);
-  high = λ c h. clash (seen c) h (none c);
+  closed = λ c d r h. clash (visited d) h (none d);
+  high = λ c h. clash (visited c) h (none c);
 }
 
 pub dirty_stays : DirtyStays

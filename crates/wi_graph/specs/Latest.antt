@@ -60,21 +60,21 @@ abbrev pub NoneIsDirty : Type 0
 NoneIsDirty = (s : Sheet) (number stamped : ℕ → ℕ) (dirty : List ℕ) (c n : ℕ) → ((x : ℕ) → is_one_of dirty x ≡ false) → AreDirty s number dirty stamped → IsLatest s number c n → stamped c ≡ n
 
 -- The rest is dirty, and no visited cell has a stamp earlier than this.
-pub record IsFlushing (s : Sheet) (number stamped : ℕ → ℕ) (rest : List ℕ) (seen : ℕ → Bool) (last : ℕ) : Type 0 where
+pub record IsFlushing (s : Sheet) (number stamped : ℕ → ℕ) (rest : List ℕ) (visited : ℕ → Bool) (last : ℕ) : Type 0 where
   pub dirty : AreDirty s number rest stamped
-  pub closed : IsClosedUp s seen
-  pub high : (c : ℕ) → seen c ≡ true → last ≤ stamped c
+  pub closed : IsClosedUp s visited
+  pub high : (c : ℕ) → visited c ≡ true → last ≤ stamped c
 
 -- So the cells are flushed one after another, later edits first: each stamps those cells of its cone that weren't visited.
 abbrev pub FlushesOne : Type 0
-FlushesOne = (s : Sheet) (number stamped after : ℕ → ℕ) (rest less : List ℕ) (x last : ℕ) (seen now : ℕ → Bool) →
+FlushesOne = (s : Sheet) (number stamped after : ℕ → ℕ) (rest less : List ℕ) (x last : ℕ) (visited now : ℕ → Bool) →
     ((y : ℕ) → is_one_of rest y ≡ true → (x ≡ y) ⊎ (is_one_of less y ≡ true)) → number x ≤ last →
-    ((c : ℕ) → now c ≡ (seen c || in_cone s (x ∷ []) c)) → ((c : ℕ) → after c ≡ cond (in_cone s (x ∷ []) c && not (seen c)) (max (stamped c) (number x)) (stamped c)) →
-    IsFlushing s number stamped rest seen last → IsFlushing s number after less now (number x)
+    ((c : ℕ) → now c ≡ (visited c || in_cone s (x ∷ []) c)) → ((c : ℕ) → after c ≡ cond (in_cone s (x ∷ []) c && not (visited c)) (max (stamped c) (number x)) (stamped c)) →
+    IsFlushing s number stamped rest visited last → IsFlushing s number after less now (number x)
 
 -- Before the first, none was visited. So it may begin again where a later edit comes behind an earlier one.
 abbrev pub FlushingBegins : Type 0
-FlushingBegins = (s : Sheet) (number stamped : ℕ → ℕ) (rest : List ℕ) (seen : ℕ → Bool) (last : ℕ) → ((c : ℕ) → seen c ≡ false) → AreDirty s number rest stamped → IsFlushing s number stamped rest seen last
+FlushingBegins = (s : Sheet) (number stamped : ℕ → ℕ) (rest : List ℕ) (visited : ℕ → Bool) (last : ℕ) → ((c : ℕ) → visited c ≡ false) → AreDirty s number rest stamped → IsFlushing s number stamped rest visited last
 
 -- What is dirty stays so where more is stamped, but nothing later than the latest, and more cells are dirty: also where memory ran out half way.
 abbrev pub DirtyStays : Type 0

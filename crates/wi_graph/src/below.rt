@@ -5,7 +5,7 @@ ghost use Rattle.std.specs.Ordering.{nat_cmp};
 ghost use Rattle.wi_values.specs.Address.{Area, is_within};
 ghost use Rattle.wi_tiles.specs.Entries.{IsOrdered};
 ghost use Rattle.wi_graph.specs.Inner.Rooms.{items_of, areas_of, room_at};
-ghost use Rattle.wi_graph.specs.Inner.Below.{HasAreas, HasRest, has_seen, IsSearchingBelow, IsBelow};
+ghost use Rattle.wi_graph.specs.Inner.Below.{HasAreas, HasRest, has_visited, IsSearchingBelow, IsBelow};
 
 use crate::rooms::{Rectangles, Rooms, rectangles_in};
 use crate::within::place_after;
@@ -20,7 +20,7 @@ type Ahead = Vec<(Rect, Address)>;
 #[derive(Drop)]
 pub(crate) struct Below {
     // The cells with a formula that were found.
-    pub(crate) seen: CellMap<()>,
+    pub(crate) visited: CellMap<()>,
     pub(crate) ahead: Ahead,
     // Whether the cell wasn't met. Once it was, the search is over.
     pub(crate) clear: bool,
@@ -32,14 +32,18 @@ pub(crate) fn begin_below(
     cell: Address,
     room: &Option<Rectangles>,
 ) -> Result<Below, AllocError>
-    ensures seen { IfOk result (λ below. below.seen.entries ≡ []) }
+    ensures visited { IfOk result (λ below. below.visited.entries ≡ []) }
     ensures ahead { IfOk result (λ below. IsTrue below.clear
         → HasAreas cell (areas_of (items_of room.now)) [] below.ahead.items) }
 {
-    let seen = CellMap::new(alloc);
+    let visited = CellMap::new(alloc);
     let mut ahead = Vec::new(alloc);
     let clear = push_room(room, cell, &mut ahead)?;
-    Ok(Below { seen, ahead, clear })
+    Ok(Below {
+        visited,
+        ahead,
+        clear,
+    })
 }
 
 /// Whether all was looked at, and the cell wasn't met.
@@ -96,14 +100,14 @@ fn look(
 ) -> Result<(), AllocError>
     requires { IsOrdered nat_cmp rooms.now }
     ensures { OnOk result ((areas : List Area) → IsSearchingBelow rooms.now cell areas
-        (has_seen below.old.seen) (below.old.ahead.items ++ (area, from) ∷ [])
+        (has_visited below.old.visited) (below.old.ahead.items ++ (area, from) ∷ [])
         → IsBelow rooms.now cell areas below.new) }
 {
     let Some(read) = rooms.next_in(area, from) else {
         return Ok(());
     };
     go_on(area, read, &mut below.ahead)?;
-    if below.seen.put_new(read, ())? {
+    if below.visited.put_new(read, ())? {
         below.clear = push_read(rooms, read, cell, &mut below.ahead)?;
     }
     Ok(())

@@ -137,24 +137,24 @@ pub record KeptAtHand (old new : Keeping) (k : Key) (v : Value) : Type 0 where
 
 -- what is carried into a question, as the code reads it
 module _ (s : Sheet) (edits : ℕ) (g : Generations) (carried was : Carried) (q : Keeping) (read : carried ≡ was) (view : keeping s edits g was.given_up.entries was.kept ≡ q) (k : Key) (v : Value) where
-  seen : keeping s edits g carried.given_up.entries carried.kept ≡ q
-  seen = ap (λ (x : Carried). keeping s edits g x.given_up.entries x.kept) read ∙ view
+  visited : keeping s edits g carried.given_up.entries carried.kept ≡ q
+  visited = ap (λ (x : Carried). keeping s edits g x.given_up.entries x.kept) read ∙ view
 
   -- memory ran out
   pub out_of_memory : (fs : Entries) (n : KeptValues) → fs ≡ carried.given_up.entries → n ≡ carried.kept → Remembers q (keeping s edits g fs n) k v
   out_of_memory fs n e f =
-      keeps_nothing q (keeping s edits g fs n) k v (ap (λ (x : KeptValues). keeping s edits g fs x) f ∙ ap (λ (x : Entries). keeping s edits g x carried.kept) e ∙ seen)
+      keeps_nothing q (keeping s edits g fs n) k v (ap (λ (x : KeptValues). keeping s edits g fs x) f ∙ ap (λ (x : Entries). keeping s edits g x carried.kept) e ∙ visited)
 
   -- the value is kept
   module _ (n : KeptValues) (h : KeepsIn carried.kept n k v) (generation : k.generation ≡ generation_in q.generations k.cell) where
     present : k.generation ≡ generation_in g k.cell
-    present = generation ∙ ap (λ (x : Keeping). generation_in x.generations k.cell) (sym seen)
+    present = generation ∙ ap (λ (x : Keeping). generation_in x.generations k.cell) (sym visited)
 
     pub kept_at_hand : (fs : Entries) → HasOneEach carried.kept.entries → TakesOver (going carried.kept k) carried.given_up.entries fs → KeptAtHand q (keeping s edits g fs n) k v
     kept_at_hand fs one_each takes =
         let es = carried.given_up.entries in
         let m = carried.kept in
-        subst (λ (x : Keeping). KeptAtHand x (keeping s edits g fs n) k v) seen (record {
+        subst (λ (x : Keeping). KeptAtHand x (keeping s edits g fs n) k v) visited (record {
           remembers = record {
             keeps = record {
               sheet = refl;
@@ -172,7 +172,7 @@ module _ (s : Sheet) (edits : ℕ) (g : Generations) (carried was : Carried) (q 
 
     pub keeps_right : (fs : Entries) → IsKeepingRight (keeping s edits g was.given_up.entries was.kept) → circular q.sheet k.cell ≡ false → v ≡ cell_value (put_all q.sheet k.world) k.cell → IsKeepingRight (keeping s edits g fs n)
     keeps_right fs r o e =
-        let leaf : circular s k.cell ≡ false = ap (λ (x : Keeping). circular x.sheet k.cell) seen ∙ o in
-        let is : v ≡ cell_value (put_all s k.world) k.cell = e ∙ ap (λ (x : Keeping). cell_value (put_all x.sheet k.world) k.cell) (sym seen) in
+        let leaf : circular s k.cell ≡ false = ap (λ (x : Keeping). circular x.sheet k.cell) visited ∙ o in
+        let is : v ≡ cell_value (put_all s k.world) k.cell = e ∙ ap (λ (x : Keeping). cell_value (put_all x.sheet k.world) k.cell) (sym visited) in
         let right : AreRight s edits (generation_in g) carried.kept.entries = subst (λ (x : Carried). AreRight s edits (generation_in g) x.kept.entries) (sym read) r.right in
         record { past = r.past; right = right_after s edits (generation_in g) carried.kept n k v h (found_is_kept s edits (generation_in g) k v r.past leaf present is) right }

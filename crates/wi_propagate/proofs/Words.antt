@@ -40,7 +40,7 @@ pub use Rattle.wi_engine.specs.Inner.Spends.{IsSameBeside, Saved, Spends, Spends
 pub use Rattle.wi_functions.specs.Counts.{Counts}
 pub use Rattle.wi_functions.specs.Meaning.{zero_for_empty}
 pub use Rattle.wi_graph.proofs.Agreement.{circular_same}
-pub use Rattle.wi_graph.proofs.BelowSteps.{seen_one}
+pub use Rattle.wi_graph.proofs.BelowSteps.{visited_one}
 pub use Rattle.wi_graph.proofs.Cones.{cone_closed, cone_has, cone_stays, outside_circular, outside_content, outside_reaches}
 pub use Rattle.wi_graph.proofs.EdgeLemmas.{content_of-with, edges_follow}
 pub use Rattle.wi_graph.proofs.GraphSteps.{same_reaches}
@@ -52,7 +52,7 @@ pub use Rattle.wi_graph.proofs.Tests.{clash}
 pub use Rattle.wi_graph.proofs.Walks.{formula_cell, reader_formula, same_cell}
 pub use Rattle.wi_graph.specs.Circular.{circular}
 pub use Rattle.wi_graph.specs.Edges.{AreEdgesOf, Edges, Staging, brought, edges_after, sheet_after, staging}
-pub use Rattle.wi_graph.specs.Inner.Below.{has_seen}
+pub use Rattle.wi_graph.specs.Inner.Below.{has_visited}
 pub use Rattle.wi_graph.specs.Latest.{AreDirty, IsLatest, IsDirty, IsFlushing, IsUnread, latest_among, numbered}
 pub use Rattle.wi_graph.specs.Reach.{IsInCone, Reaches, SameOff, Walks, in_cone, reaches}
 pub use Rattle.wi_graph.specs.Watched.{IsClosedUp}

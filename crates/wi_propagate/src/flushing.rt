@@ -8,7 +8,7 @@ ghost use Rattle.wi_graph.specs.Reach.{in_cone};
 ghost use Rattle.wi_graph.specs.Edges.{AreEdgesOf};
 ghost use Rattle.wi_graph.specs.Watched.{IsClosedUp};
 ghost use Rattle.wi_graph.specs.Latest.{AreDirty};
-ghost use Rattle.wi_graph.specs.Inner.Below.{has_seen};
+ghost use Rattle.wi_graph.specs.Inner.Below.{has_visited};
 ghost use Rattle.wi_propagate.specs.KeptSheet.{generation_in};
 ghost use Rattle.wi_propagate.specs.Inner.Keeping.{HasGeneration};
 ghost use Rattle.wi_propagate.specs.Inner.Stamps.{stamped_in};
@@ -22,14 +22,14 @@ use wi_values::Address;
 
 /// Cells that were visited.
 #[derive(Drop)]
-struct Seen<'a> {
+struct Visited<'a> {
     cells: &'a CellMap<()>,
 }
 
-impl<'a> Watch for Seen<'a> {
-    ghost use Rattle.wi_graph.specs.Inner.Below.{has_seen};
+impl<'a> Watch for Visited<'a> {
+    ghost use Rattle.wi_graph.specs.Inner.Below.{has_visited};
 
-    ghost watched = { λ w. has_seen w.cells.now };
+    ghost watched = { λ w. has_visited w.cells.now };
 
     fn has(&self, at: Address) -> bool {
         self.cells.get(at).is_some()
@@ -55,25 +55,25 @@ pub(crate) fn flush_all(
     ensures clean { OnOk result (keys_of dirty.new.entries ≡ []) }
 {
     let mut order = by_number(alloc, edited_at, dirty)?;
-    let mut seen = CellMap::new(alloc);
+    let mut visited = CellMap::new(alloc);
     let mut last = 0;
     'cells: while let Some(entry) = order.pop() {
         let number = number_at(edited_at, entry.1);
-        forget(&mut seen, last, number);
+        forget(&mut visited, last, number);
         last = number;
-        flush_one(graph, valid_since, &mut seen, entry.1, number)?;
+        flush_one(graph, valid_since, &mut visited, entry.1, number)?;
     }
     dirty.clear();
     Ok(())
 }
 
 /// The visited cells are forgotten where a later edit comes behind an earlier one.
-fn forget(seen: &mut CellMap<()>, last: u64, number: u64)
-    ensures { (c : ℕ) → has_seen seen.new c
-        ≡ (if nat_lt last number then false else has_seen seen.old c) }
+fn forget(visited: &mut CellMap<()>, last: u64, number: u64)
+    ensures { (c : ℕ) → has_visited visited.new c
+        ≡ (if nat_lt last number then false else has_visited visited.old c) }
 {
     if last < number {
-        seen.clear();
+        visited.clear();
     }
 }
 
@@ -103,47 +103,51 @@ fn by_number(
 fn flush_one(
     graph: &Graph,
     valid_since: &mut Numbers,
-    seen: &mut CellMap<()>,
+    visited: &mut CellMap<()>,
     at: Address,
     number: u64,
 ) -> Result<(), AllocError>
     requires staged { graph.now.staged ≡ None }
-    requires closed { (s : Sheet) → AreEdgesOf graph.now.now s → IsClosedUp s (has_seen seen.old) }
+    requires closed { (s : Sheet) → AreEdgesOf graph.now.now s
+        → IsClosedUp s (has_visited visited.old) }
     ensures valid_since { OnOk result ((s : Sheet) → AreEdgesOf graph.now.now s
         → (c : ℕ) → generation_in valid_since.new.entries c
-        ≡ (if in_cone s (at ∷ []) c && not (has_seen seen.old c)
+        ≡ (if in_cone s (at ∷ []) c && not (has_visited visited.old c)
         then max (generation_in valid_since.old.entries c) number
         else generation_in valid_since.old.entries c)) }
-    ensures seen { OnOk result ((s : Sheet) → AreEdgesOf graph.now.now s
-        → (c : ℕ) → has_seen seen.new c
-        ≡ (has_seen seen.old c || (in_cone s (at ∷ []) c && not (has_seen seen.old c)))) }
+    ensures visited { OnOk result ((s : Sheet) → AreEdgesOf graph.now.now s
+        → (c : ℕ) → has_visited visited.new c
+        ≡ (has_visited visited.old c || (in_cone s (at ∷ []) c
+        && not (has_visited visited.old c)))) }
     ensures err { OnErr result ((c : ℕ) → generation_in valid_since.new.entries c
         ≡ generation_in valid_since.old.entries c) }
 {
-    let cone = beyond_seen(graph, seen, at)?;
-    see(seen, &cone)?;
+    let cone = beyond_visited(graph, visited, at)?;
+    visit(visited, &cone)?;
     reserve(valid_since, &cone)?;
     lift(valid_since, &cone, number);
     Ok(())
 }
 
 /// The cells of a cell's cone that weren't visited.
-fn beyond_seen(graph: &Graph, seen: &CellMap<()>, at: Address) -> Result<Cells, AllocError>
+fn beyond_visited(graph: &Graph, visited: &CellMap<()>, at: Address) -> Result<Cells, AllocError>
     requires staged { graph.now.staged ≡ None }
-    requires closed { (s : Sheet) → AreEdgesOf graph.now.now s → IsClosedUp s (has_seen seen.now) }
+    requires closed { (s : Sheet) → AreEdgesOf graph.now.now s
+        → IsClosedUp s (has_visited visited.now) }
     ensures { IfOk result (λ cone. (s : Sheet) → AreEdgesOf graph.now.now s
-        → (c : ℕ) → is_one_of cone.items c ≡ (in_cone s (at ∷ []) c && not (has_seen seen.now c))) }
+        → (c : ℕ) → is_one_of cone.items c
+        ≡ (in_cone s (at ∷ []) c && not (has_visited visited.now c))) }
 {
-    graph.cone_beyond(&[at], &Seen { cells: seen })
+    graph.cone_beyond(&[at], &Visited { cells: visited })
 }
 
 /// These cells are visited.
-fn see(seen: &mut CellMap<()>, cells: &[Address]) -> Result<(), AllocError>
-    ensures { OnOk result ((c : ℕ) → has_seen seen.new c
-        ≡ (has_seen seen.old c || is_one_of cells.now c)) }
+fn visit(visited: &mut CellMap<()>, cells: &[Address]) -> Result<(), AllocError>
+    ensures { OnOk result ((c : ℕ) → has_visited visited.new c
+        ≡ (has_visited visited.old c || is_one_of cells.now c)) }
 {
     for cell in cells {
-        seen.put_new(*cell, ())?;
+        visited.put_new(*cell, ())?;
     }
     Ok(())
 }

@@ -1,5 +1,5 @@
 -- The cells before the first one that is occupied or replaced.
-use Rattle.wi_engine.proofs.Words.{◌≡◌, ℕ, ◌<◌, ◌≤◌, ◌+◌, Bool, true, false, cond, List, [], ◌∷◌, filter, Option, Some, None, IfSome, IfNone, refl, sym, ap, ◌∙◌, subst, arith, nat_le, nat_lt, option_map, option_copied, Bor, find, lookup, keys_of, is_at, nat_cmp, and_parts, and_from, le-leb, leb-true, ltb-true, ltb-false, IsStrictlyIncreasing, sorted_from_strictly_increasing, Area, is_within, Value, Replacement, IsInOrder, as_map, replaced, Ascends, at_same, lookup_after, come_after_earlier, Ascends-from_order, sorted_from_order, Content, Sheet, constant, content_of, put_all, is_ahead, find_ahead, ComesBefore, is_known_empty, Passed, passed_on, over, content_in_order, content_seen, earlier, Seen, cell_known, known_in, found_value, Findings}
+use Rattle.wi_engine.proofs.Words.{◌≡◌, ℕ, ◌<◌, ◌≤◌, ◌+◌, Bool, true, false, cond, List, [], ◌∷◌, filter, Option, Some, None, IfSome, IfNone, refl, sym, ap, ◌∙◌, subst, arith, nat_le, nat_lt, option_map, option_copied, Bor, find, lookup, keys_of, is_at, nat_cmp, and_parts, and_from, le-leb, leb-true, ltb-true, ltb-false, IsStrictlyIncreasing, sorted_from_strictly_increasing, Area, is_within, Value, Replacement, IsInOrder, as_map, replaced, Ascends, at_same, lookup_after, come_after_earlier, Ascends-from_order, sorted_from_order, Content, Sheet, constant, content_of, put_all, is_ahead, find_ahead, ComesBefore, is_known_empty, Passed, passed_on, over, content_in_order, as_content, earlier, ContentRef, cell_known, known_in, found_value, Findings}
 
 pub found_passes : (p : ℕ → Bool) (xs : List ℕ) → IfSome (find p xs) (λ c. p c ≡ true)
 found_passes p [] = tt
@@ -140,34 +140,34 @@ module _ (s : Sheet) (w : List Replacement) (r : Area) (from : ℕ) (p : Option 
 
   -- ---- as it is answered
 
-  pub touched_inside : (o : Option (ℕ × Seen)) → option_map (λ (x : ℕ × Seen). (x.0, content_seen x.1)) o ≡ earlier p q → IfSome o (λ x. (is_within r x.0 ≡ true) × (from ≤ x.0))
+  pub touched_inside : (o : Option (ℕ × ContentRef)) → option_map (λ (x : ℕ × ContentRef). (x.0, as_content x.1)) o ≡ earlier p q → IfSome o (λ x. (is_within r x.0 ≡ true) × (from ≤ x.0))
   touched_inside o e =
-      of_mapped (λ (x : ℕ × Seen). (x.0, content_seen x.1)) (λ x. (is_within r x.0 ≡ true) × (from ≤ x.0)) o
+      of_mapped (λ (x : ℕ × ContentRef). (x.0, as_content x.1)) (λ x. (is_within r x.0 ≡ true) × (from ≤ x.0)) o
       (subst (λ (z : Option (ℕ × Option Content)). IfSome z (λ x. (is_within r x.0 ≡ true) × (from ≤ x.0))) (sym e) lies_inside)
 
-  pub touched_seen : (o : Option (ℕ × Seen)) → option_map (λ (x : ℕ × Seen). (x.0, content_seen x.1)) o ≡ earlier p q → IfSome o (λ x. content_seen x.1 ≡ content_of (put_all s w) x.0)
+  pub touched_seen : (o : Option (ℕ × ContentRef)) → option_map (λ (x : ℕ × ContentRef). (x.0, as_content x.1)) o ≡ earlier p q → IfSome o (λ x. as_content x.1 ≡ content_of (put_all s w) x.0)
   touched_seen o e =
-      of_mapped (λ (x : ℕ × Seen). (x.0, content_seen x.1)) (λ x. x.1 ≡ content_of (put_all s w) x.0) o
+      of_mapped (λ (x : ℕ × ContentRef). (x.0, as_content x.1)) (λ x. x.1 ≡ content_of (put_all s w) x.0) o
       (subst (λ (z : Option (ℕ × Option Content)). IfSome z (λ x. x.1 ≡ content_of (put_all s w) x.0)) (sym e) is_seen)
 
-  pub untouched_before : (o : Option (ℕ × Seen)) → option_map (λ (x : ℕ × Seen). (x.0, content_seen x.1)) o ≡ earlier p q → (a : ℕ) → is_within r a ≡ true → from ≤ a → ComesBefore a (option_map (λ (x : ℕ × Seen). x.0) o) → content_of (put_all s w) a ≡ None
+  pub untouched_before : (o : Option (ℕ × ContentRef)) → option_map (λ (x : ℕ × ContentRef). (x.0, as_content x.1)) o ≡ earlier p q → (a : ℕ) → is_within r a ≡ true → from ≤ a → ComesBefore a (option_map (λ (x : ℕ × ContentRef). x.0) o) → content_of (put_all s w) a ≡ None
   untouched_before o e a i l b =
       nothing_before a i l
-      (subst (ComesBefore a) (sym (map_twice (λ (x : ℕ × Seen). (x.0, content_seen x.1)) (λ (x : ℕ × Option Content). x.0) o) ∙ ap seen_cell e) b)
+      (subst (ComesBefore a) (sym (map_twice (λ (x : ℕ × ContentRef). (x.0, as_content x.1)) (λ (x : ℕ × Option Content). x.0) o) ∙ ap seen_cell e) b)
 
 -- where nothing stands, it is known to be Empty
 pub empty_before : (s : Sheet) (w : List Replacement) (f : Findings) (r : Area) (from : ℕ) (found : Option ℕ) → ((a : ℕ) → is_within r a ≡ true → from ≤ a → ComesBefore a found → content_of (put_all s w) a ≡ None) →
     (a : ℕ) → is_within r a ≡ true → from ≤ a → ComesBefore a found → is_known_empty (cell_known s w f a) ≡ true
 empty_before s w f r from found h a i l b = ap (λ (o : Option Content). is_known_empty (known_in o (found_value f a))) (h a i l b)
 
-cell_inside : (r : Area) (from c : ℕ) (o : Option (ℕ × Seen)) → IfSome o (λ x. (is_within r x.0 ≡ true) × (from ≤ x.0)) → option_map (λ (x : ℕ × Seen). x.0) o ≡ Some c → from ≤ c
+cell_inside : (r : Area) (from c : ℕ) (o : Option (ℕ × ContentRef)) → IfSome o (λ x. (is_within r x.0 ≡ true) × (from ≤ x.0)) → option_map (λ (x : ℕ × ContentRef). x.0) o ≡ Some c → from ≤ c
 cell_inside r from c None h e = absurd (let z = e in cc)
 cell_inside r from c (Some x) h e = let same : x.0 ≡ c = cc in subst (λ (n : ℕ). from ≤ n) same h.1
 
 -- on past a cell in which something may stand, and which is known to be Empty
-pub passed_over : (s : Sheet) (w : List Replacement) (f : Findings) (r : Area) (from start c last : ℕ) (o : Option (ℕ × Seen)) (ahead next : Option ℕ) → Passed (cell_known s w f) r from ahead → ahead ≡ Some start → last ≡ r.last →
-    IfSome o (λ x. (is_within r x.0 ≡ true) × (start ≤ x.0)) → ((a : ℕ) → is_within r a ≡ true → start ≤ a → ComesBefore a (option_map (λ (x : ℕ × Seen). x.0) o) → content_of (put_all s w) a ≡ None) →
-    option_map (λ (x : ℕ × Seen). x.0) o ≡ Some c → is_known_empty (cell_known s w f c) ≡ true →
+pub passed_over : (s : Sheet) (w : List Replacement) (f : Findings) (r : Area) (from start c last : ℕ) (o : Option (ℕ × ContentRef)) (ahead next : Option ℕ) → Passed (cell_known s w f) r from ahead → ahead ≡ Some start → last ≡ r.last →
+    IfSome o (λ x. (is_within r x.0 ≡ true) × (start ≤ x.0)) → ((a : ℕ) → is_within r a ≡ true → start ≤ a → ComesBefore a (option_map (λ (x : ℕ × ContentRef). x.0) o) → content_of (put_all s w) a ≡ None) →
+    option_map (λ (x : ℕ × ContentRef). x.0) o ≡ Some c → is_known_empty (cell_known s w f c) ≡ true →
     IfSome next (λ d. (d ≡ c + 1) × (d ≤ last)) → IfNone next (last ≤ c) → Passed (cell_known s w f) r from next
 passed_over s w f r from start c last o ahead next h a e inside nothing found empty some none =
     passed_on (cell_known s w f) r from start c last ahead next h a e (cell_inside r start c o inside found)

@@ -15,8 +15,8 @@ abbrev pub is_ahead : List (Area × ℕ) → ℕ → Bool
 is_ahead ahead d = list_any (λ (t : Area × ℕ). is_within t.0 d && nat_le t.1 d) ahead
 
 -- the cell was found
-abbrev pub has_seen : {X : Type 0} → CellEntries X → ℕ → Bool
-has_seen cells d = is_some (get nat_cmp cells d)
+abbrev pub has_visited : {X : Type 0} → CellEntries X → ℕ → Bool
+has_visited cells d = is_some (get nat_cmp cells d)
 
 -- rectangles that don't have the cell were put ahead
 pub record HasAreas (cell : ℕ) (areas : List Area) (old new : List (Area × ℕ)) : Type 0 where
@@ -31,22 +31,22 @@ pub record HasRest (area : Area) (read : ℕ) (old new : List (Area × ℕ)) : T
 
 -- d isn't the cell, and it has no formula, or was found, or is still to be looked at
 abbrev pub IsLookedAt : Rooms → ℕ → (ℕ → Bool) → List (Area × ℕ) → ℕ → Type 0
-IsLookedAt rooms cell seen ahead d = ((cell == d) ≡ false) × ((room_at rooms d ≡ None) ⊎ ((seen d ≡ true) ⊎ (is_ahead ahead d ≡ true)))
+IsLookedAt rooms cell visited ahead d = ((cell == d) ≡ false) × ((room_at rooms d ≡ None) ⊎ ((visited d ≡ true) ⊎ (is_ahead ahead d ≡ true)))
 
 -- so it is of each cell of these rectangles, and of each that a cell reads which was found
-pub record IsSearchingBelow (rooms : Rooms) (cell : ℕ) (areas : List Area) (seen : ℕ → Bool) (ahead : List (Area × ℕ)) : Type 0 where
-  pub first : (d : ℕ) → is_within_one areas d ≡ true → IsLookedAt rooms cell seen ahead d
-  pub reads : (e d : ℕ) → seen e ≡ true → is_within_one (areas_of (room_at rooms e)) d ≡ true → IsLookedAt rooms cell seen ahead d
-  pub apart : (e : ℕ) → seen e ≡ true → (cell == e) ≡ false
+pub record IsSearchingBelow (rooms : Rooms) (cell : ℕ) (areas : List Area) (visited : ℕ → Bool) (ahead : List (Area × ℕ)) : Type 0 where
+  pub first : (d : ℕ) → is_within_one areas d ≡ true → IsLookedAt rooms cell visited ahead d
+  pub reads : (e d : ℕ) → visited e ≡ true → is_within_one (areas_of (room_at rooms e)) d ≡ true → IsLookedAt rooms cell visited ahead d
+  pub apart : (e : ℕ) → visited e ≡ true → (cell == e) ≡ false
   pub apart_ahead : (d : ℕ) → is_ahead ahead d ≡ true → (cell == d) ≡ false
 
 -- while the cell wasn't met
 abbrev pub IsBelow : Rooms → ℕ → List Area → Below → Type 0
-IsBelow rooms cell areas below = below.clear ≡ true → IsSearchingBelow rooms cell areas (has_seen below.seen) below.ahead.items
+IsBelow rooms cell areas below = below.clear ≡ true → IsSearchingBelow rooms cell areas (has_visited below.visited) below.ahead.items
 
 -- all was looked at
 abbrev pub ReachesNot : Rooms → ℕ → List Area → Type 0
-ReachesNot rooms cell areas = (seen : ℕ → Bool) × IsSearchingBelow rooms cell areas seen []
+ReachesNot rooms cell areas = (visited : ℕ → Bool) × IsSearchingBelow rooms cell areas visited []
 
 -- something is next for one cell, which isn't circular; what it reads then, at any remove, isn't circular and isn't the cell
 pub record ReadsApart (rooms : Rooms) (next : Coming) (circles : BTreeSet ℕ) : Type 0 where

@@ -1,13 +1,13 @@
-use Rattle.wi_graph.proofs.Words.{rules, items_of, areas_of, has_seen}
+use Rattle.wi_graph.proofs.Words.{rules, items_of, areas_of, has_visited}
 use Rattle.wi_graph.proofs.BeyondSteps.{search_start, search_step, search_end, search_ends}
-use Rattle.wi_graph.proofs.BelowSteps.{none_seen, below_start, below_end}
+use Rattle.wi_graph.proofs.BelowSteps.{none_visited, below_start, below_end}
 use Rattle.wi_graph.proofs.sides.both_sides.Goals as goal
 
 pub cells-init : goal.cells-init
 cells-init c =
     let start = c.in_ok-below.below in (
       search_start c.args.readers.now c.args.cells.now c.new-found.result c.enqueue.new.found c.new-work.result.items c.enqueue.new.work.items c.new-found.ensures c.new-work.ensures.items c.in_ok-enqueue.ensures,
-      λ t. below_start c.args.rooms.now c.args.entry.now.0 (areas_of (items_of c.args.entry.now.1)) (has_seen start.seen) start.ahead.items (none_seen start.seen c.in_ok-below.ensures.seen) (c.in_ok-below.ensures.ahead t),
+      λ t. below_start c.args.rooms.now c.args.entry.now.0 (areas_of (items_of c.args.entry.now.1)) (has_visited start.visited) start.ahead.items (none_visited start.visited c.in_ok-below.ensures.visited) (c.in_ok-below.ensures.ahead t),
     )
 
 pub cells-smaller : goal.cells-smaller
@@ -25,7 +25,7 @@ cells-preserved c = (
 pub returns-then-is_clear-clause-apart : goal.returns-then-is_clear-clause-apart
 returns-then-is_clear-clause-apart c =
     let on = c.go_below.new.below in
-    below_end c.args.rooms.now c.args.entry.now.0 (areas_of (items_of c.args.entry.now.1)) (has_seen on.seen) on.ahead.items (c.is_clear.ensures.done (search rules)) (c.in_ok-go_below.ensures (areas_of (items_of c.args.entry.now.1)) c.cells.invariant.1 (c.is_clear.ensures.clear (search rules)))
+    below_end c.args.rooms.now c.args.entry.now.0 (areas_of (items_of c.args.entry.now.1)) (has_visited on.visited) on.ahead.items (c.is_clear.ensures.done (search rules)) (c.in_ok-go_below.ensures (areas_of (items_of c.args.entry.now.1)) c.cells.invariant.1 (c.is_clear.ensures.clear (search rules)))
 
 pub returns-clause-cone : goal.returns-clause-cone
 returns-clause-cone c = search_end c.args.readers.now c.args.cells.now c.cells.found c.cells.work.items (search rules) c.cells.invariant.0

@@ -2,7 +2,7 @@
 
 ghost use Rattle.std.specs.Prelude.{◌≡◌, false, Some, IfSome, IfNone};
 ghost use Rattle.wi_parser.specs.Sheet.{Sheet, constant, content_of, has_formula, put_all};
-ghost use Rattle.wi_engine.specs.Inner.Seen.{content_seen};
+ghost use Rattle.wi_engine.specs.Inner.ContentRef.{as_content};
 
 use wi_parser::{Content, Formula};
 use wi_store::Store;
@@ -11,7 +11,7 @@ use wi_worlds::World;
 
 /// What stands in a cell.
 #[derive(Clone, Copy)]
-pub enum Seen<'a> {
+pub enum ContentRef<'a> {
     Nothing,
     Constant(&'a Value),
     Formula(&'a Formula),
@@ -19,8 +19,8 @@ pub enum Seen<'a> {
 
 /// What stands in a cell under the replacements of a world. The work grows with the logarithms of the counts of
 /// replacements and of occupied cells.
-pub(crate) fn content_in<'a>(store: &'a Store, world: &'a World, at: Address) -> Seen<'a>
-    ensures { content_seen result ≡ content_of (put_all store.now.sheet world.now) at }
+pub(crate) fn content_in<'a>(store: &'a Store, world: &'a World, at: Address) -> ContentRef<'a>
+    ensures { as_content result ≡ content_of (put_all store.now.sheet world.now) at }
 {
     match replaced(world, at) {
         Some(value) => constant(value),
@@ -55,35 +55,35 @@ pub(crate) fn replaced(world: &World, at: Address) -> Option<&Value>
 }
 
 /// What a cell has where a constant is put.
-pub(crate) fn constant(value: &Value) -> Seen<'_>
-    ensures { content_seen result ≡ constant value.now }
+pub(crate) fn constant(value: &Value) -> ContentRef<'_>
+    ensures { as_content result ≡ constant value.now }
 {
     match value {
-        Value::Empty => Seen::Nothing,
-        Value::Number(_) => Seen::Constant(value),
-        Value::Text(_) => Seen::Constant(value),
-        Value::Logical(_) => Seen::Constant(value),
-        Value::Fault(_) => Seen::Constant(value),
+        Value::Empty => ContentRef::Nothing,
+        Value::Number(_) => ContentRef::Constant(value),
+        Value::Text(_) => ContentRef::Constant(value),
+        Value::Logical(_) => ContentRef::Constant(value),
+        Value::Fault(_) => ContentRef::Constant(value),
     }
 }
 
 /// What stands in a cell.
-pub(crate) fn stored(store: &Store, at: Address) -> Seen<'_>
-    ensures { content_seen result ≡ content_of store.now.sheet at }
+pub(crate) fn stored(store: &Store, at: Address) -> ContentRef<'_>
+    ensures { as_content result ≡ content_of store.now.sheet at }
 {
     match store.get(at) {
-        None => Seen::Nothing,
-        Some(content) => as_seen(content),
+        None => ContentRef::Nothing,
+        Some(content) => content_ref(content),
     }
 }
 
 /// A content, as it is seen.
-pub(crate) fn as_seen(content: &Content) -> Seen<'_>
-    ensures { content_seen result ≡ Some content.now }
+pub(crate) fn content_ref(content: &Content) -> ContentRef<'_>
+    ensures { as_content result ≡ Some content.now }
 {
     match content {
-        Content::Constant(value) => Seen::Constant(value),
-        Content::Formula(formula) => Seen::Formula(formula),
+        Content::Constant(value) => ContentRef::Constant(value),
+        Content::Formula(formula) => ContentRef::Formula(formula),
     }
 }
 
@@ -94,8 +94,8 @@ pub(crate) fn formula_at(store: &Store, at: Address) -> Option<&Formula>
     ensures none { IfNone result (has_formula (content_of store.now.sheet at) ≡ false) }
 {
     match stored(store, at) {
-        Seen::Nothing => None,
-        Seen::Constant(_) => None,
-        Seen::Formula(formula) => Some(formula),
+        ContentRef::Nothing => None,
+        ContentRef::Constant(_) => None,
+        ContentRef::Formula(formula) => Some(formula),
     }
 }
