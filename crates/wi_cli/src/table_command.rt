@@ -11,7 +11,7 @@ use wi_values::{Address, AddressFault, Rect};
 
 type OneCell = Result<Address, AddressFault>;
 
-type Cells = Result<Rect, AddressFault>;
+type CellRange = Result<Rect, AddressFault>;
 
 /// `table F R XCOLUMN` and `table F R XCOLUMN C YROW`.
 pub(crate) fn read_table(operands: &str) -> Result<Command<'_>, Refusal>
@@ -32,7 +32,7 @@ pub(crate) fn read_table(operands: &str) -> Result<Command<'_>, Refusal>
 fn table_behind(
     formula_cell: OneCell,
     input: OneCell,
-    column: Cells,
+    column: CellRange,
     more: &str,
 ) -> Result<Command<'_>, Refusal>
     ensures { IsCommandOf (table_behind formula_cell input column more.now) result }
@@ -55,7 +55,7 @@ fn table_behind(
 fn table_of_one<'a>(
     formula_cell: OneCell,
     input: OneCell,
-    column: Cells,
+    column: CellRange,
 ) -> Result<Command<'a>, Refusal>
     ensures { IsCommandOf (table_of_one formula_cell input column) result }
 {
@@ -75,9 +75,9 @@ fn table_of_one<'a>(
 fn table_of_two<'a>(
     formula_cell: OneCell,
     input: OneCell,
-    column: Cells,
+    column: CellRange,
     second: OneCell,
-    row: Cells,
+    row: CellRange,
 ) -> Result<Command<'a>, Refusal>
     ensures { IsCommandOf (table_of_two formula_cell input column second row) result }
 {

@@ -17,7 +17,7 @@ const FEW: u64 = 32;
 /// The rectangles that an edit names, seen as their list as it was given.
 #[derive(Drop)]
 pub struct Named {
-    areas: Areas,
+    areas: Repr,
 }
 
 /// Rectangles of which there are more than one, or none. They stand behind a box, so that an edit of one rectangle takes little.
@@ -28,7 +28,7 @@ struct Several {
 
 /// Rectangles as they are kept.
 #[derive(Drop)]
-enum Areas {
+enum Repr {
     /// One takes no memory of its own.
     One([Rect; 1]),
     /// Each lies below the one before.
@@ -56,7 +56,7 @@ impl Named {
         ensures { result ≡ area ∷ [] }
     {
         Named {
-            areas: Areas::One([area]),
+            areas: Repr::One([area]),
         }
     }
 
@@ -73,11 +73,11 @@ impl Named {
         let several = Box::new(alloc, Several { areas: cells })?;
         if rise {
             return Ok(Named {
-                areas: Areas::Rising(several),
+                areas: Repr::Rising(several),
             });
         }
         Ok(Named {
-            areas: Areas::Any(several),
+            areas: Repr::Any(several),
         })
     }
 
@@ -86,9 +86,9 @@ impl Named {
         ensures { result.now ≡ self.now }
     {
         match &self.areas {
-            Areas::One(areas) => areas,
-            Areas::Rising(several) => &several.areas,
-            Areas::Any(several) => &several.areas,
+            Repr::One(areas) => areas,
+            Repr::Rising(several) => &several.areas,
+            Repr::Any(several) => &several.areas,
         }
     }
 
@@ -99,9 +99,9 @@ impl Named {
         ensures { IsFirst (in_each self.now others.now) result }
     {
         match &self.areas {
-            Areas::One(areas) => first_between(areas, false, others, others_rise),
-            Areas::Rising(several) => first_between(&several.areas, true, others, others_rise),
-            Areas::Any(several) => first_between(&several.areas, false, others, others_rise),
+            Repr::One(areas) => first_between(areas, false, others, others_rise),
+            Repr::Rising(several) => first_between(&several.areas, true, others, others_rise),
+            Repr::Any(several) => first_between(&several.areas, false, others, others_rise),
         }
     }
 }

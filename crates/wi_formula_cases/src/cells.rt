@@ -10,13 +10,13 @@ use wi_values::{Address, Rect, Value};
 
 /// Knows the values of A1 and B1, and that each what-if of A1 has that of A1 and each of B1 is Empty.
 #[derive(Drop)]
-struct Cells {
+struct KnownCells {
     a1: Value,
     b1: Value,
     empty: Value,
 }
 
-impl Lookup for Cells {
+impl Lookup for KnownCells {
     ghost use Rattle.std.specs.Prelude.{◌==◌, if◌then◌else◌, Some, None};
 
     ghost known_cell = { λ k a. if a == 0 then Some k.a1 else if a == 1 then Some k.b1 else None };
@@ -68,8 +68,8 @@ fn push_want(want: &Want, line: &mut String) -> Result<(), AllocError> {
 }
 
 /// What is known where A1 and B1 have these values.
-fn known(a1: Value, b1: Value) -> Cells {
-    Cells {
+fn known(a1: Value, b1: Value) -> KnownCells {
+    KnownCells {
         a1,
         b1,
         empty: Value::Empty,
@@ -80,7 +80,7 @@ fn known(a1: Value, b1: Value) -> Cells {
 fn push_value_of(
     alloc: Global,
     formula: &Formula,
-    known: &Cells,
+    known: &KnownCells,
     line: &mut String,
 ) -> Result<(), AllocError> {
     match evaluate(alloc, formula, known, &mut Meter::new())? {
@@ -93,7 +93,7 @@ fn push_value_of(
 fn push_count(
     alloc: Global,
     formula: &Formula,
-    known: &Cells,
+    known: &KnownCells,
     meter: &mut Meter,
     line: &mut String,
 ) -> Result<(), AllocError> {
@@ -107,7 +107,7 @@ fn push_count(
 fn push_counts(
     alloc: Global,
     formula: &Formula,
-    known: &Cells,
+    known: &KnownCells,
     line: &mut String,
 ) -> Result<(), AllocError> {
     let mut meter = Meter::new();
@@ -122,7 +122,7 @@ fn push_evaluated(
     alloc: Global,
     operation: &str,
     formula: &Formula,
-    known: &Cells,
+    known: &KnownCells,
     line: &mut String,
 ) -> Result<(), AllocError> {
     match operation {
@@ -136,7 +136,7 @@ fn push_of_text(
     alloc: Global,
     operation: &str,
     text: &str,
-    known: &Cells,
+    known: &KnownCells,
     line: &mut String,
 ) -> Result<(), AllocError> {
     match parse(alloc, text) {
@@ -146,7 +146,7 @@ fn push_of_text(
 }
 
 /// What is known where parts of a case spell the values of A1 and B1.
-fn spelled_cells(alloc: Global, left: &str, right: &str) -> Option<Cells> {
+fn spelled_cells(alloc: Global, left: &str, right: &str) -> Option<KnownCells> {
     let a1 = spelled_value(alloc, left)?;
     Some(known(a1, spelled_value(alloc, right)?))
 }
@@ -156,7 +156,7 @@ fn push_spelled(
     alloc: Global,
     operation: &str,
     part: &str,
-    known: &Cells,
+    known: &KnownCells,
     line: &mut String,
 ) -> Option<()> {
     push_of_text(alloc, operation, &spelled(alloc, part)?, known, line).ok()

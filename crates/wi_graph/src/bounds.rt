@@ -42,7 +42,7 @@ pub(crate) fn with_cell(area: Rect, cell: Address) -> Rect
 }
 
 /// What two rectangles have in common, if they meet.
-pub(crate) fn common(a: Rect, b: Rect) -> Option<Rect>
+pub(crate) fn intersection(a: Rect, b: Rect) -> Option<Rect>
     ensures { (c : ℕ) → is_in_part result c ≡ (is_within a c && is_within b c) }
 {
     let top = a.first().row().max(b.first().row());

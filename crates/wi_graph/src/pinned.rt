@@ -8,7 +8,7 @@ ghost use Rattle.wi_graph.specs.Inner.Turning.{has_circle_outside, reads_outside
 
 use crate::cell_set::CellSet;
 use crate::sets::set_of;
-use crate::stripping::Areas;
+use crate::stripping::ReadsByCell;
 use crate::within::{next_after, next_within};
 use std::alloc::{AllocError, Global};
 use wi_values::{Address, Rect};
@@ -17,7 +17,7 @@ use wi_values::{Address, Rect};
 /// a search among the circular cells for each that the cone and the rectangle have, and one more.
 pub(crate) fn pinned_set(
     alloc: Global,
-    reads: &Areas,
+    reads: &ReadsByCell,
     circles: &CellSet,
     cells: &CellSet,
 ) -> Result<CellSet, AllocError>
@@ -31,7 +31,7 @@ pub(crate) fn pinned_set(
 /// The same as a list.
 fn pinned_cells(
     alloc: Global,
-    reads: &Areas,
+    reads: &ReadsByCell,
     circles: &CellSet,
     cells: &CellSet,
 ) -> Result<Vec<Address>, AllocError>
@@ -47,7 +47,7 @@ fn pinned_cells(
 }
 
 /// Whether a cell reads a circular cell outside the cone.
-fn is_pinned(reads: &Areas, cell: Address, circles: &CellSet, cells: &CellSet) -> bool
+fn is_pinned(reads: &ReadsByCell, cell: Address, circles: &CellSet, cells: &CellSet) -> bool
     ensures { result ≡ reads_outside reads.now circles.now cells.now cell }
 {
     match reads.get(&cell) {

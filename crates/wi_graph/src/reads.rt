@@ -8,7 +8,7 @@ ghost use Rattle.wi_graph.specs.Inner.Rooms.{room_at, room_over, areas_of, items
 ghost use Rattle.wi_graph.specs.Inner.Stripping.{items_there};
 
 use crate::rooms::{Brought, Rectangles, Rooms, rectangles_in};
-use crate::stripping::Areas;
+use crate::stripping::ReadsByCell;
 use std::alloc::{AllocError, Global};
 use std::collections::BTreeMap;
 use wi_values::{Address, Rect};
@@ -19,7 +19,7 @@ pub(crate) fn reads_of(
     rooms: &Rooms,
     next: &[Brought],
     cells: &[Address],
-) -> Result<Areas, AllocError>
+) -> Result<ReadsByCell, AllocError>
     requires { AreInOrder next.now }
     ensures { IfOk result (λ reads. (c : ℕ) → is_one_of cells.now c ≡ true
         → items_there (get nat_cmp reads c) ≡ areas_of (room_over next.now rooms.now c)) }
@@ -33,7 +33,7 @@ pub(crate) fn reads_of(
 }
 
 /// What some cells read before that.
-fn reads_before(alloc: Global, rooms: &Rooms, cells: &[Address]) -> Result<Areas, AllocError>
+fn reads_before(alloc: Global, rooms: &Rooms, cells: &[Address]) -> Result<ReadsByCell, AllocError>
     ensures { IfOk result (λ reads. (c : ℕ) → is_one_of cells.now c ≡ true
         → items_there (get nat_cmp reads c) ≡ areas_of (room_at rooms.now c)) }
 {

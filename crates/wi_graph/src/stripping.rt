@@ -14,7 +14,7 @@ use std::collections::BTreeMap;
 use wi_values::{Address, Rect};
 
 /// The rectangles that formulas read, by their cells.
-pub(crate) type Areas = BTreeMap<Address, Vec<Rect>>;
+pub(crate) type ReadsByCell = BTreeMap<Address, Vec<Rect>>;
 
 /// Cells that wait, by a cell that they read.
 type Waiters = BTreeMap<Address, Vec<Address>>;
@@ -25,7 +25,7 @@ type Waiters = BTreeMap<Address, Vec<Address>>;
 /// out, some that could go stay.
 pub(crate) fn strip(
     alloc: Global,
-    mut areas: Areas,
+    mut areas: ReadsByCell,
     pinned: &CellSet,
     rest: &mut CellSet,
 ) -> Result<(), AllocError>
@@ -52,7 +52,7 @@ pub(crate) fn strip(
 /// The next of the cells to be looked at that reads none of the set. Those before it wait for a cell that they read.
 fn next_free(
     alloc: Global,
-    areas: &mut Areas,
+    areas: &mut ReadsByCell,
     pinned: &CellSet,
     rest: &CellSet,
     work: &mut Vec<Address>,
@@ -79,7 +79,7 @@ fn next_free(
 
 /// One of a set that a cell reads, if it reads one. Of what it reads, the part that has none of the set is forgotten.
 fn open_read(
-    areas: &mut Areas,
+    areas: &mut ReadsByCell,
     cell: Address,
     rest: &CellSet,
 ) -> Result<Option<Address>, AllocError>

@@ -8,7 +8,7 @@ ghost use Rattle.wi_ranges.specs.Inner.Rising.{as_set};
 ghost use Rattle.wi_graph.specs.Inner.Bounds.{AreWithin};
 ghost use Rattle.wi_graph.specs.Inner.Within.{IsAhead, IsBetween, IsFoundBy};
 
-use crate::bounds::common;
+use crate::bounds::intersection;
 use crate::cell_set::CellSet;
 use std::collections::BTreeSet;
 use std::ops::Bound;
@@ -21,7 +21,7 @@ pub(crate) fn next_within(cells: &CellSet, area: Rect, from: Address) -> Option<
     ensures found { IfSome result (IsAhead cells.now area from) }
     ensures first { (c : ℕ) → IsAhead cells.now area from c → IsFoundBy result c }
 {
-    let part = common(area, cells.around())?;
+    let part = intersection(area, cells.around())?;
     next_in_part(cells.set(), part, from)
 }
 
@@ -60,7 +60,7 @@ pub(crate) fn first_listed(cells: &[Address], bounds: Rect, area: Rect) -> Optio
     ensures found { IfSome result (IsAhead (as_set cells.now) area area.first) }
     ensures first { (c : ℕ) → IsAhead (as_set cells.now) area area.first c → IsFoundBy result c }
 {
-    let part = common(area, bounds)?;
+    let part = intersection(area, bounds)?;
     next_in_part(&cells, part, area.first())
 }
 

@@ -357,8 +357,8 @@ module _ (text : Bytes) where
       not_more : (b : Bool) → is_all_spaces more ≡ b → is_all_spaces more ≡ false
       not_more b e = e ∙ not_spaces more y.0 h.1.1.1.0 b e
 
-  abbrev Cells : Type 0
-  Cells = Chosen text table_form (table_command text)
+  abbrev CellRange : Type 0
+  CellRange = Chosen text table_form (table_command text)
 
   -- whether each operand has the wrong shape
   abbrev bad_f : Bool
@@ -392,7 +392,7 @@ module _ (text : Bytes) where
   abbrev Rect : Bytes → Type 0
   Rect word = ((r : Corners) × IsRect word r) ⊎ (read_rect word ≡ Err Shape)
 
-  one_or : is_all_spaces more ≡ true → Addr (first_word text) → Addr second_word → Rect third_word → Cells
+  one_or : is_all_spaces more ≡ true → Addr (first_word text) → Addr second_word → Rect third_word → CellRange
   one_or e (inr bad) r xs = inr (λ x h. no_addr (first_word text) x.0 bad h.0, one_bad e (inl (shape_of _ bad)))
   one_or e (inl f) (inr bad) xs = inr (λ x h. no_addr second_word x.1 bad h.1.0, one_bad e (inr (inl (shape_of _ bad))))
   one_or e (inl f) (inl r) (inr bad) =
@@ -404,7 +404,7 @@ module _ (text : Bytes) where
   none_more e none None h = both_ways _ e h
   none_more e none (Some y) h = none y h
 
-  two_or : is_all_spaces more ≡ false → is_all_spaces (after_word (after_word more)) ≡ true → Addr (first_word text) → Addr second_word → Rect third_word → Addr (first_word more) → Rect (first_word (after_word more)) → Cells
+  two_or : is_all_spaces more ≡ false → is_all_spaces (after_word (after_word more)) ≡ true → Addr (first_word text) → Addr second_word → Rect third_word → Addr (first_word more) → Rect (first_word (after_word more)) → CellRange
   two_or e g (inr bad) r xs c ys = inr (λ x h. no_addr (first_word text) x.0 bad h.0, two_bad e g (inl (shape_of _ bad)))
   two_or e g (inl f) (inr bad) xs c ys = inr (λ x h. no_addr second_word x.1 bad h.1.0, two_bad e g (inr (inl (shape_of _ bad))))
   two_or e g (inl f) (inl r) (inr bad) c ys =
@@ -418,11 +418,11 @@ module _ (text : Bytes) where
       )
   two_or e g (inl f) (inl r) (inl xs) (inl c) (inl ys) = inl ((f.0, r.0, xs.0, Some (c.0, ys.0)), (f.1, (r.1, (xs.1, (c.1, (ys.1, g))))))
 
-  by_words : (b c : Bool) → is_all_spaces more ≡ b → is_all_spaces (after_word (after_word more)) ≡ c → Cells
+  by_words : (b c : Bool) → is_all_spaces more ≡ b → is_all_spaces (after_word (after_word more)) ≡ c → CellRange
   by_words true c e g = one_or e (addr_or (first_word text)) (addr_or second_word) (rect_or third_word)
   by_words false true e g = two_or e g (addr_or (first_word text)) (addr_or second_word) (rect_or third_word) (addr_or (first_word more)) (rect_or (first_word (after_word more)))
   by_words false false e g =
       inr (λ x h. none_more e (λ y k. both_ways _ g k.1.1) x.3 h.1.1.1, by_more false e ∙ end_false (after_word (after_word more)) read_two g)
 
-  pub table_or : Cells
+  pub table_or : CellRange
   table_or = by_words (is_all_spaces more) (is_all_spaces (after_word (after_word more))) refl refl

@@ -2,9 +2,9 @@ use Rattle.std.proofs.Common.{rules, ◌≡◌, true}
 use Rattle.wi_values.specs.Address.{is_within}
 use Rattle.wi_arguments.specs.Filled.{is_known_empty}
 use Rattle.wi_arguments.proofs.Passing.{passed_one}
-use Rattle.wi_formula_cases.proofs.cells.CellsLookup.next_value.Goals.{else-contains-via-then-contains+else-not-is_known_empty, else-contains-via-else-contains}
-use Rattle.wi_formula_cases.proofs.cells.CellsLookup.next_value.Invariants.{of_two}
-use Rattle.wi_formula_cases.proofs.cells.CellsLookup.next_value.Goals as goal
+use Rattle.wi_formula_cases.proofs.cells.KnownCellsLookup.next_value.Goals.{else-contains-via-then-contains+else-not-is_known_empty, else-contains-via-else-contains}
+use Rattle.wi_formula_cases.proofs.cells.KnownCellsLookup.next_value.Invariants.{of_two}
+use Rattle.wi_formula_cases.proofs.cells.KnownCellsLookup.next_value.Goals as goal
 
 pub loop-ahead-preserved : goal.loop-ahead-preserved
 loop-ahead-preserved c =

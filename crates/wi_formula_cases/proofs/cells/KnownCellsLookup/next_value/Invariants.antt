@@ -2,7 +2,7 @@ use Rattle.std.specs.Prelude.{◌==◌, ℕ, ◌+◌, ◌-◌, Option, Some, Non
 use Rattle.wi_values.specs.declared.value.Value.{Value}
 use Rattle.wi_values.specs.Address.{Area}
 use Rattle.wi_arguments.proofs.Passing.{Passed}
-use Rattle.wi_formula_cases.proofs.cells.CellsLookup.next_value.Given as goal
+use Rattle.wi_formula_cases.proofs.cells.KnownCellsLookup.next_value.Given as goal
 
 abbrev pub of_two : Value → Value → ℕ → Option Value
 of_two a1 b1 a = if a == 0 then Some a1 else if a == 1 then Some b1 else None

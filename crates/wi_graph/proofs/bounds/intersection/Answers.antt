@@ -1,6 +1,6 @@
 use Rattle.wi_graph.proofs.Words.{ap, ◌∙◌, arith, row_of, column_of, max_below}
 use Rattle.wi_graph.proofs.BoundsSteps.{sides_of, max_of, min_of, min_below, common_part, no_part}
-use Rattle.wi_graph.proofs.bounds.common.Goals as goal
+use Rattle.wi_graph.proofs.bounds.intersection.Goals as goal
 
 pub at-requires-clause-row_within : goal.at-requires-clause-row_within
 at-requires-clause-row_within c = max_below c.max-top.result _ _ _ c.max-top.ensures c.row.ensures.within c.row-2.ensures.within
