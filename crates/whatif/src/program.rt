@@ -2,7 +2,7 @@
 
 ghost use Rattle.std.specs.Prelude.{◌≤◌};
 
-use crate::tell::{tell_ending, tell_fault, tell_folder, tell_unopened, tell_unread};
+use crate::tell::{tell_exit, tell_fault, tell_folder, tell_unopened, tell_unread};
 use std::env::{Env, args};
 use std::fs::{File, Files};
 use std::io::{Eprint, Input, Print};
@@ -20,7 +20,7 @@ fn run_input<R: AllocGlobal + Input + Print + Eprint>(rt: &R, keep: usize) -> u8
 {
     let mut reader = ReadFrom::new(rt.reader());
     let mut writer = WriteTo::new(io::writer(rt));
-    tell_ending(rt, run_new(rt.alloc(), keep, &mut reader, &mut writer))
+    tell_exit(rt, run_new(rt.alloc(), keep, &mut reader, &mut writer))
 }
 
 /// Opens the file of the path, and runs its script and then that of standard input.
@@ -42,7 +42,7 @@ fn run_loaded<R: AllocGlobal + Files + Input + Print + Eprint>(
     let mut load = ReadFrom::new(file);
     let mut reader = ReadFrom::new(rt.reader());
     let mut writer = WriteTo::new(io::writer(rt));
-    tell_ending(
+    tell_exit(
         rt,
         run_new_in_turn(rt.alloc(), keep, &mut load, &mut reader, &mut writer),
     )

@@ -4,7 +4,7 @@ use crate::own::is_proved;
 use std::fs::Files;
 use std::io;
 use std::io::{Eprint, ErrorKind, Print};
-use wi_cli::{Ending, OptionsFault, RunFault, fault_status, options_status};
+use wi_cli::{Exit, OptionsFault, RunFault, fault_status, options_status};
 
 /// The exit status where a word can't be read, as after words that are no options.
 const USAGE: u8 = 2;
@@ -22,11 +22,11 @@ fn advice(fault: &RunFault) -> &'static str {
 }
 
 /// Tells how a run ended, where it ended by a fault.
-pub fn tell_ending<R: Eprint>(rt: &R, ending: Ending) -> u8 {
-    if let Err(fault) = ending.outcome {
+pub fn tell_exit<R: Eprint>(rt: &R, exit: Exit) -> u8 {
+    if let Err(fault) = exit.outcome {
         let _ = eprintln!(rt; "whatif: {fault}; {}", advice(&fault));
     }
-    ending.status
+    exit.status
 }
 
 /// Tells why a file can't be opened.

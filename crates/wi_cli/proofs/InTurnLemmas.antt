@@ -1,6 +1,6 @@
 -- Two runs in turn.
 use Rattle.wi_cli.proofs.Vocabulary.{◌≡◌, ℕ, Bool, List, refl, subst, Option, Result, Ok, Err, State, new_state, RunFault, Memory, IsRun, RunInTurn}
-use Rattle.wi_cli.proofs.EndingLemmas.{not_run}
+use Rattle.wi_cli.proofs.ExitLemmas.{not_run}
 
 -- a run that ended by a fault
 abbrev pub faulted : RunFault → Result (Unit {0}) RunFault

@@ -11,6 +11,6 @@ status_of ScriptLimit = 4
 status_of Memory = 5
 
 -- 0 where the script was run to its end
-abbrev pub ending_status : Result (Unit {0}) RunFault → ℕ
-ending_status (Ok _) = 0
-ending_status (Err fault) = status_of fault
+abbrev pub exit_status : Result (Unit {0}) RunFault → ℕ
+exit_status (Ok _) = 0
+exit_status (Err fault) = status_of fault

@@ -3,9 +3,9 @@
 ghost use Rattle.std.specs.Prelude.{◌≡◌, ◌≤◌, false};
 ghost use Rattle.wi_scenarios.specs.State.{State, new_state};
 ghost use Rattle.wi_cli.specs.InTurn.{RunInTurn};
-ghost use Rattle.wi_cli.specs.Status.{ending_status};
+ghost use Rattle.wi_cli.specs.Status.{exit_status};
 
-use crate::ending::{Ending, new_workbook};
+use crate::exit::{Exit, new_workbook};
 use crate::fault::RunFault;
 use crate::runs::run;
 use std::alloc::Global;
@@ -44,7 +44,7 @@ pub fn run_new_in_turn<L: Source, R: Source, W: Sink>(
     load: &mut L,
     reader: &mut R,
     writer: &mut W,
-) -> Ending
+) -> Exit
     requires keep { 1 ≤ keep }
     requires loads { L.has_failed load.old ≡ false }
     requires reads { R.has_failed reader.old ≡ false }
@@ -55,12 +55,12 @@ pub fn run_new_in_turn<L: Source, R: Source, W: Sink>(
         × RunInTurn L.remaining L.has_failed R.remaining R.has_failed
         W.contents W.has_failed W.flushed result.outcome load.old load.new
         reader.old reader.new writer.old writer.new new_state last }
-    ensures status { result.status ≡ ending_status result.outcome }
+    ensures status { result.status ≡ exit_status result.outcome }
 {
     let Ok(mut book) = new_workbook(alloc, keep) else {
-        return Ending::new(Err(RunFault::Memory));
+        return Exit::new(Err(RunFault::Memory));
     };
     let outcome = run_in_turn(alloc, load, reader, writer, &mut book);
     forget(book);
-    Ending::new(outcome)
+    Exit::new(outcome)
 }

@@ -7,7 +7,7 @@ mod command;
 mod csv_line;
 mod data_lines;
 mod edit_commands;
-mod ending;
+mod exit;
 mod fault;
 mod in_turn;
 pub mod laws;
@@ -26,7 +26,7 @@ mod words;
 mod write;
 mod write_address;
 
-pub use ending::{Ending, run_new};
+pub use exit::{Exit, run_new};
 pub use fault::{RunFault, fault_status};
 pub use in_turn::{run_in_turn, run_new_in_turn};
 pub use lines::MAX_LINES;

@@ -47,9 +47,9 @@ pub use Rattle.wi_standard_functions.specs.Lookup.{choose_value, chosen}
 pub use Rattle.wi_standard_functions.specs.Steps.{◌>>=◌}
 pub use Rattle.wi_value_functions.proofs.ValuesAlone.{values_alone}
 pub use Rattle.wi_value_functions.specs.Applied.{applied_to_arguments, applied_to_values}
-pub use Rattle.wi_value_functions.specs.Endings.{IfMissing}
-pub use Rattle.wi_value_functions.specs.declared.ending.Stop.{Stop}
-pub use Rattle.wi_value_functions.specs.declared.ending.Stop.TheVariants.{Memory, Missing}
+pub use Rattle.wi_value_functions.specs.NoValues.{IfMissing}
+pub use Rattle.wi_value_functions.specs.declared.no_value.Stop.{Stop}
+pub use Rattle.wi_value_functions.specs.declared.no_value.Stop.TheVariants.{Memory, Missing}
 pub use Rattle.wi_value_functions.specs.declared.function.Function.{Function}
 pub use Rattle.wi_value_functions.specs.declared.function.Function.TheVariants.{Lazy, References}
 pub use Rattle.wi_values.proofs.Corners.{corners_may_turn}

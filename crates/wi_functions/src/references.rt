@@ -5,7 +5,7 @@ ghost use Rattle.wi_parser.specs.View.{tree_of};
 ghost use Rattle.wi_value_functions.specs.Applied.{applied_to_arguments};
 ghost use Rattle.wi_value_functions.specs.declared.function.Function.TheVariants.{References};
 ghost use Rattle.wi_arguments.specs.Arguments.{IsOfArguments, IsMissing};
-ghost use Rattle.wi_value_functions.specs.Endings.{IfMissing};
+ghost use Rattle.wi_value_functions.specs.NoValues.{IfMissing};
 ghost use Rattle.wi_functions.specs.Meaning as formulas;
 
 use std::alloc::Global;

@@ -1,5 +1,5 @@
 -- What SUMPRODUCT makes of the cells at each place, and of all places.
-use Rattle.wi_lookup_functions.proofs.Words.{◌≡◌, ℕ, ◌<◌, ◌≤◌, ◌+◌, Bool, true, false, ◌&&◌, List, [], ◌∷◌, fold, drop, get_or, length, Option, Some, None, IfSome, refl, sym, ap, ◌∙◌, subst, arith, Result, slice_get, nat_lt, if◌then◌else◌, list_all, list_any_at, and_parts, and_from, ltb-true, nat_tests, drop_more, drop_all, Area, cells_of, is_within, ErrorKind, Value, Empty, Logical, addition, zero_number, one_number, is_empty_value, and_then, places_left, within_between, Missing, KnownAgrees, ComesBefore, IsNextFilled, is_known_empty, after_cells, known_is, first_of, Stop, Ending, Error, Stopped, Agrees, ComesAfter, IsNextPlace, product_there, sum_through, with_factor, with_place, IsMissingInAny, same_extent, same_place}
+use Rattle.wi_lookup_functions.proofs.Words.{◌≡◌, ℕ, ◌<◌, ◌≤◌, ◌+◌, Bool, true, false, ◌&&◌, List, [], ◌∷◌, fold, drop, get_or, length, Option, Some, None, IfSome, refl, sym, ap, ◌∙◌, subst, arith, Result, slice_get, nat_lt, if◌then◌else◌, list_all, list_any_at, and_parts, and_from, ltb-true, nat_tests, drop_more, drop_all, Area, cells_of, is_within, ErrorKind, Value, Empty, Logical, addition, zero_number, one_number, is_empty_value, and_then, places_left, within_between, Missing, KnownAgrees, ComesBefore, IsNextFilled, is_known_empty, after_cells, known_is, first_of, Stop, NoValue, Error, Stopped, Agrees, ComesAfter, IsNextPlace, product_there, sum_through, with_factor, with_place, IsMissingInAny, same_extent, same_place}
 use Rattle.std.specs.Prelude.{Ok, Err}
 use Rattle.wi_fraction.specs.Number as numbers
 use Rattle.wi_arguments.proofs.Walking as walk
@@ -37,18 +37,18 @@ module _ (known : ℕ → Option Value) (r : Area) (rs : List Area) (c : ℕ) wh
   goes_on product more i s other v l is k e m h = λ cells a. ap (λ (o : Result numbers.Number ErrorKind). fold (times cells) o (drop (i + 1) rs)) m ∙ taken product i s other v l is k e h cells a
 
   -- the outcome is the product
-  abbrev pub IsProduct : Result numbers.Number (Ending (Stop ℕ)) → Type 0
+  abbrev pub IsProduct : Result numbers.Number (NoValue (Stop ℕ)) → Type 0
   IsProduct o = Agrees known (IsMissingInAny known rs) (λ (x : numbers.Number). x) (λ cells. product_there cells r rs c) o
 
-  pub fails : (product : numbers.Number) (i : ℕ) (s : Area) (other : ℕ) (v : Value) (e : ErrorKind) (x : Ending (Stop ℕ)) → x ≡ Error e → i < length rs → s ≡ get_or rs i s → Some v ≡ known other → other ≡ same_place r s c → Err e ≡ with_factor product v → Left product (drop i rs) → IsProduct (Err x)
+  pub fails : (product : numbers.Number) (i : ℕ) (s : Area) (other : ℕ) (v : Value) (e : ErrorKind) (x : NoValue (Stop ℕ)) → x ≡ Error e → i < length rs → s ≡ get_or rs i s → Some v ≡ known other → other ≡ same_place r s c → Err e ≡ with_factor product v → Left product (drop i rs) → IsProduct (Err x)
   fails product i s other v e x n l is k o m h =
-      subst (λ (y : Ending (Stop ℕ)). IsProduct (Err y)) (sym n) (λ cells a.
+      subst (λ (y : NoValue (Stop ℕ)). IsProduct (Err y)) (sym n) (λ cells a.
       sym (taken product i s other v l is k o h cells a)
       ∙ ap (λ (q : Result numbers.Number ErrorKind). fold (times cells) q (drop (i + 1) rs)) (sym m)
       ∙ failed cells e (drop (i + 1) rs))
 
-  pub misses : (i : ℕ) (s : Area) (other d : ℕ) (x : Ending (Stop ℕ)) → x ≡ Stopped (Missing d) → is_within r c ≡ true → list_all (same_extent r) rs ≡ true → i < length rs → s ≡ get_or rs i s → other ≡ same_place r s c → d ≡ other → known d ≡ None → IsProduct (Err x)
-  misses i s other d x n w k l is o e m = subst (λ (y : Ending (Stop ℕ)). IsProduct (Err y)) (sym n) (m, list_any_at (λ t. is_within t d) rs i s l (ap (λ (t : Area). is_within t d) (sym is) ∙ subst (λ (b : ℕ). is_within s b ≡ true) (sym (e ∙ o)) (same_place_inside r s c w (all_at (same_extent r) rs i s l is k))))
+  pub misses : (i : ℕ) (s : Area) (other d : ℕ) (x : NoValue (Stop ℕ)) → x ≡ Stopped (Missing d) → is_within r c ≡ true → list_all (same_extent r) rs ≡ true → i < length rs → s ≡ get_or rs i s → other ≡ same_place r s c → d ≡ other → known d ≡ None → IsProduct (Err x)
+  misses i s other d x n w k l is o e m = subst (λ (y : NoValue (Stop ℕ)). IsProduct (Err y)) (sym n) (m, list_any_at (λ t. is_within t d) rs i s l (ap (λ (t : Area). is_within t d) (sym is) ∙ subst (λ (b : ℕ). is_within s b ≡ true) (sym (e ∙ o)) (same_place_inside r s c w (all_at (same_extent r) rs i s l is k))))
 
   pub ends : (product : numbers.Number) (i : ℕ) → length rs ≤ i → Left product (drop i rs) → IsProduct (Ok product)
   ends product i l h = λ cells a. sym (h cells a) ∙ ap (fold (times cells) (Ok product)) (drop_all i rs l)
@@ -178,7 +178,7 @@ module _ (known : ℕ → Option Value) (r : Area) (all : List Area) where
   }
 
   -- the outcome is the sum
-  abbrev pub IsSum : Result numbers.Number (Ending (Stop ℕ)) → Type 0
+  abbrev pub IsSum : Result numbers.Number (NoValue (Stop ℕ)) → Type 0
   IsSum o = Agrees known (IsMissingInAny known all) (λ (x : numbers.Number). x) (λ cells. sum_through cells r all) o
 
   -- and each place comes after the one before
@@ -224,16 +224,16 @@ module _ (known : ℕ → Option Value) (r : Area) (all : List Area) where
         ∙ sym (walk.stops (after cells) (all_known cells) r (Ok zero_number) (Ok sum) (Err e) ahead c (shown cells c) (h.whole cells l) a refl (sym m ∙ sym (after_place cells (Ok sum) c)) (λ d w. error_stays cells e d w) (shown cells) (λ d. refl))
 
     -- the product at a place fails or a cell is missing
-    pub product_fails : (sum : numbers.Number) (ahead : Option ℕ) (c : ℕ) (y x : Ending (Stop ℕ)) → x ≡ y → Rest sum ahead → ahead ≡ Some c → IsProduct known r all c (Err y) → IsSum (Err x)
-    product_fails sum ahead c y x n h a p = subst (λ (z : Ending (Stop ℕ)). IsSum (Err z)) (sym n) (at y p)
+    pub product_fails : (sum : numbers.Number) (ahead : Option ℕ) (c : ℕ) (y x : NoValue (Stop ℕ)) → x ≡ y → Rest sum ahead → ahead ≡ Some c → IsProduct known r all c (Err y) → IsSum (Err x)
+    product_fails sum ahead c y x n h a p = subst (λ (z : NoValue (Stop ℕ)). IsSum (Err z)) (sym n) (at y p)
       where
-        at : (z : Ending (Stop ℕ)) → IsProduct known r all c (Err z) → IsSum (Err z)
+        at : (z : NoValue (Stop ℕ)) → IsProduct known r all c (Err z) → IsSum (Err z)
         at (Error e) q = λ cells l. stopped sum e ahead c h a cells l (ap (and_then (addition sum)) (q cells l))
         at (Stopped t) q = q
 
     -- or the sum doesn't fit
-    pub sum_fails : (sum product : numbers.Number) (ahead : Option ℕ) (c : ℕ) (e : ErrorKind) (x : Ending (Stop ℕ)) → x ≡ Error e → Rest sum ahead → ahead ≡ Some c → IsProduct known r all c (Ok product) → Err e ≡ addition sum product → IsSum (Err x)
-    sum_fails sum product ahead c e x n h a p m = subst (λ (z : Ending (Stop ℕ)). IsSum (Err z)) (sym n) (λ cells l. stopped sum e ahead c h a cells l (ap (and_then (addition sum)) (p cells l) ∙ sym m))
+    pub sum_fails : (sum product : numbers.Number) (ahead : Option ℕ) (c : ℕ) (e : ErrorKind) (x : NoValue (Stop ℕ)) → x ≡ Error e → Rest sum ahead → ahead ≡ Some c → IsProduct known r all c (Ok product) → Err e ≡ addition sum product → IsSum (Err x)
+    sum_fails sum product ahead c e x n h a p m = subst (λ (z : NoValue (Stop ℕ)). IsSum (Err z)) (sym n) (λ cells l. stopped sum e ahead c h a cells l (ap (and_then (addition sum)) (p cells l) ∙ sym m))
 
     pub sum_ends : (sum : numbers.Number) (ahead : Option ℕ) → Rest sum ahead → ahead ≡ None → IsSum (Ok sum)
     sum_ends sum ahead h a = λ cells l. sym (walked_is cells (Ok zero_number) (cells_of r)) ∙ sym (walk.ends (after cells) (all_known cells) r (Ok zero_number) (Ok sum) ahead (h.whole cells l) a (shown cells) (λ d. refl))

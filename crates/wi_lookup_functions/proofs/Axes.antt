@@ -4,7 +4,7 @@ use Rattle.std.proofs.Common.{Result}
 use Rattle.wi_arguments.specs.declared.argument.Argument as given
 use Rattle.wi_arguments.proofs.Given as arguments
 use Rattle.wi_lookup_functions.proofs.Chains.{IsAsked, order_in, sought_in}
-use Rattle.wi_lookup_functions.proofs.Endings.{nth_within}
+use Rattle.wi_lookup_functions.proofs.NoValues.{nth_within}
 use Rattle.wi_lookup_functions.proofs.CellsByPlace.{cell_at}
 
 pub width_is : (axis : Axis) (cells : ℕ → Value) (r : Area) → width_in axis (region_of cells r) ≡ line_width axis r

@@ -1,5 +1,5 @@
 -- What COUNTIF counts.
-use Rattle.wi_lookup_functions.proofs.Words.{◌≡◌, ℕ, ◌+◌, cond, List, [], ◌∷◌, map, Option, refl, sym, ap, ◌∙◌, subst, add_assoc, add-zero, zero-add, ◌^◌, Result, count_by, sum_by-cons, Area, cells_of, ErrorKind, Value, Argument, Region, region_at, value_at, whole_value, meets_criterion, no_error, count_if_value, ◌>>=◌, arguments_in, KnownAgrees, region_in, after_cells, counted, IsCut, cut_counted, cut_value, Criterion, criterion_held, is_met, Counting, Stop, Ending, Error, Stopped, criterion_argument, Gives}
+use Rattle.wi_lookup_functions.proofs.Words.{◌≡◌, ℕ, ◌+◌, cond, List, [], ◌∷◌, map, Option, refl, sym, ap, ◌∙◌, subst, add_assoc, add-zero, zero-add, ◌^◌, Result, count_by, sum_by-cons, Area, cells_of, ErrorKind, Value, Argument, Region, region_at, value_at, whole_value, meets_criterion, no_error, count_if_value, ◌>>=◌, arguments_in, KnownAgrees, region_in, after_cells, counted, IsCut, cut_counted, cut_value, Criterion, criterion_held, is_met, Counting, Stop, NoValue, Error, Stopped, criterion_argument, Gives}
 use Rattle.std.specs.Prelude.{◌-◌, min, Ok, Err}
 use Rattle.wi_standard_functions.specs.Criterion as defined
 use Rattle.wi_arguments.specs.declared.argument.Argument as given
@@ -42,13 +42,13 @@ module _ (known : ℕ → Option Value) (args : List given.Argument) where
   abbrev pub IsAreaAt : Result Area ErrorKind → Type 0
   IsAreaAt r = (cells : ℕ → Value) → region_at (arguments_in cells args) 0 ≡ region_in cells r
 
-  pub ends_at_area : (e : ErrorKind) (x : Ending (Stop ℕ)) → x ≡ Error e → IsAreaAt (Err e) → Gives known count_if_value args (Err x)
-  ends_at_area e x m h = subst (λ (y : Ending (Stop ℕ)). Gives known count_if_value args (Err y)) (sym m) (λ cells k. sym (by_steps (arguments_in cells args) (Err e) (criterion_argument (value_at (arguments_in cells args) 1)) (h cells) refl))
+  pub ends_at_area : (e : ErrorKind) (x : NoValue (Stop ℕ)) → x ≡ Error e → IsAreaAt (Err e) → Gives known count_if_value args (Err x)
+  ends_at_area e x m h = subst (λ (y : NoValue (Stop ℕ)). Gives known count_if_value args (Err y)) (sym m) (λ cells k. sym (by_steps (arguments_in cells args) (Err e) (criterion_argument (value_at (arguments_in cells args) 1)) (h cells) refl))
 
-  pub ends_at_criterion : (r : Area) (y x : Ending (Stop ℕ)) → x ≡ y → IsAreaAt (Ok r) → IsCriterionAt known args 1 (Err y) → Gives known count_if_value args (Err x)
-  ends_at_criterion r y x m h g = subst (λ (z : Ending (Stop ℕ)). Gives known count_if_value args (Err z)) (sym m) (at y g)
+  pub ends_at_criterion : (r : Area) (y x : NoValue (Stop ℕ)) → x ≡ y → IsAreaAt (Ok r) → IsCriterionAt known args 1 (Err y) → Gives known count_if_value args (Err x)
+  ends_at_criterion r y x m h g = subst (λ (z : NoValue (Stop ℕ)). Gives known count_if_value args (Err z)) (sym m) (at y g)
     where
-      at : (z : Ending (Stop ℕ)) → IsCriterionAt known args 1 (Err z) → Gives known count_if_value args (Err z)
+      at : (z : NoValue (Stop ℕ)) → IsCriterionAt known args 1 (Err z) → Gives known count_if_value args (Err z)
       at (Error e) k = λ cells a. sym (by_steps (arguments_in cells args) (region_in cells (Ok r)) (Err e) (h cells) (k cells a))
       at (Stopped s) k = k
 

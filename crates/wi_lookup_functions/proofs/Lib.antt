@@ -7,7 +7,7 @@ pub mod FirstLines
 pub mod Finding
 pub mod Asked
 pub mod Chains
-pub mod Endings
+pub mod NoValues
 pub mod Axes
 pub mod AllPlaces
 pub mod Counts

@@ -1,5 +1,5 @@
 -- The sum over all places is SUMPRODUCT, and how SUMPRODUCT ends.
-use Rattle.wi_lookup_functions.proofs.Words.{◌≡◌, ℕ, suc, ◌+◌, ◌-◌, ◌==◌, Bool, true, false, ◌&&◌, ◌||◌, List, [], ◌∷◌, ◌++◌, map, fold, length, Option, Some, None, refl, sym, ap, ◌∙◌, subst, arith, Result, slice_get, unwrap_or, if◌then◌else◌, list_all, list_any, range_with_len, and_parts, and_from, eq-eqb, length-map, list_all-map, slice_get-map, Area, cells_of, is_within, is_within_one, row_of, column_of, ErrorKind, BadValue, Value, Empty, Number, Region, region_of, region_referred, addition, multiplication, zero_number, one_number, same_size, of_one_size, factor, product_at, products, sum_of_items, sum_product_value, Item, scalar, number_of_item, with_number, ◌>>=◌, and_then, map_until_error, Missing, Memory, arguments_in, refers_to, Stop, Ending, Error, Stopped, Agrees, Gives, areas_of, product_there, sum_over, sum_through, with_factor, with_place, IsAreaError, IsMissingInAny, same_extent, same_place}
+use Rattle.wi_lookup_functions.proofs.Words.{◌≡◌, ℕ, suc, ◌+◌, ◌-◌, ◌==◌, Bool, true, false, ◌&&◌, ◌||◌, List, [], ◌∷◌, ◌++◌, map, fold, length, Option, Some, None, refl, sym, ap, ◌∙◌, subst, arith, Result, slice_get, unwrap_or, if◌then◌else◌, list_all, list_any, range_with_len, and_parts, and_from, eq-eqb, length-map, list_all-map, slice_get-map, Area, cells_of, is_within, is_within_one, row_of, column_of, ErrorKind, BadValue, Value, Empty, Number, Region, region_of, region_referred, addition, multiplication, zero_number, one_number, same_size, of_one_size, factor, product_at, products, sum_of_items, sum_product_value, Item, scalar, number_of_item, with_number, ◌>>=◌, and_then, map_until_error, Missing, Memory, arguments_in, refers_to, Stop, NoValue, Error, Stopped, Agrees, Gives, areas_of, product_there, sum_over, sum_through, with_factor, with_place, IsAreaError, IsMissingInAny, same_extent, same_place}
 use Rattle.std.proofs.Common.{option_map}
 use Rattle.std.specs.Prelude.{Ok, Err}
 use Rattle.wi_fraction.specs.Number as numbers
@@ -68,7 +68,7 @@ module _ (cells : ℕ → Value) (r : Area) where
 -- ---- rectangles, of which one is the first
 
 -- the outcome is the sum over the rectangles
-abbrev pub Summed : (ℕ → Option Value) → List Area → Result numbers.Number (Ending (Stop ℕ)) → Type 0
+abbrev pub Summed : (ℕ → Option Value) → List Area → Result numbers.Number (NoValue (Stop ℕ)) → Type 0
 Summed known rs o = Agrees known (IsMissingInAny known rs) (λ (x : numbers.Number). x) (λ cells. sum_over (map (region_of cells) rs)) o
 
 itself : (r : Area) → same_extent r r ≡ true
@@ -114,7 +114,7 @@ module _ (known : ℕ → Option Value) (rs : List Area) where
     pub sizes_differ : list_all (same_extent r) rs ≡ false → Summed known rs (Err (Error BadValue))
     sizes_differ h = λ cells l. sum_is false cells h
 
-    pub through_is : (o : Result numbers.Number (Ending (Stop ℕ))) → list_all (same_extent r) rs ≡ true → Agrees known (IsMissingInAny known rs) (λ (x : numbers.Number). x) (λ cells. sum_through cells r rs) o → Summed known rs o
+    pub through_is : (o : Result numbers.Number (NoValue (Stop ℕ))) → list_all (same_extent r) rs ≡ true → Agrees known (IsMissingInAny known rs) (λ (x : numbers.Number). x) (λ cells. sum_through cells r rs) o → Summed known rs o
     through_is (Ok x) h q = λ cells l. sum_is true cells h ∙ q cells l
     through_is (Err (Error e)) h q = λ cells l. sum_is true cells h ∙ q cells l
     through_is (Err (Stopped t)) h q = q
@@ -161,10 +161,10 @@ module _ (args : List given.Argument) where
   at_sum cells rs o e h = at_areas cells (Ok rs) e ∙ shown_sum (of_one_size (map (region_of cells) rs)) ∙ ap (λ (p : Result numbers.Number ErrorKind). p >>= (λ x. Number x)) h
 
   module _ (known : ℕ → Option Value) where
-    pub ends_at_areas : (y x : Ending (Stop ℕ)) → x ≡ y → IsAreaError args y → Gives known sum_product_value args (Err x)
-    ends_at_areas y x m h = subst (λ (z : Ending (Stop ℕ)). Gives known sum_product_value args (Err z)) (sym m) (at y h)
+    pub ends_at_areas : (y x : NoValue (Stop ℕ)) → x ≡ y → IsAreaError args y → Gives known sum_product_value args (Err x)
+    ends_at_areas y x m h = subst (λ (z : NoValue (Stop ℕ)). Gives known sum_product_value args (Err z)) (sym m) (at y h)
       where
-        at : (z : Ending (Stop ℕ)) → IsAreaError args z → Gives known sum_product_value args (Err z)
+        at : (z : NoValue (Stop ℕ)) → IsAreaError args z → Gives known sum_product_value args (Err z)
         at (Error e) k = λ cells l. sym (at_areas cells (Err e) k)
         at (Stopped (Missing c)) k = cc
         at (Stopped Memory) k = tt
@@ -172,10 +172,10 @@ module _ (args : List given.Argument) where
     pub ends_summed : (rs : List Area) (x : numbers.Number) → areas_of args ≡ Ok rs → Summed known rs (Ok x) → Gives known sum_product_value args (Ok (Number x))
     ends_summed rs x e q = λ cells l. sym (at_sum cells rs (Ok x) e (q cells l))
 
-    pub ends_in_sum : (rs : List Area) (y x : Ending (Stop ℕ)) → x ≡ y → areas_of args ≡ Ok rs → Summed known rs (Err y) → Gives known sum_product_value args (Err x)
-    ends_in_sum rs y x m e q = subst (λ (z : Ending (Stop ℕ)). Gives known sum_product_value args (Err z)) (sym m) (at y q)
+    pub ends_in_sum : (rs : List Area) (y x : NoValue (Stop ℕ)) → x ≡ y → areas_of args ≡ Ok rs → Summed known rs (Err y) → Gives known sum_product_value args (Err x)
+    ends_in_sum rs y x m e q = subst (λ (z : NoValue (Stop ℕ)). Gives known sum_product_value args (Err z)) (sym m) (at y q)
       where
-        at : (z : Ending (Stop ℕ)) → Summed known rs (Err z) → Gives known sum_product_value args (Err z)
+        at : (z : NoValue (Stop ℕ)) → Summed known rs (Err z) → Gives known sum_product_value args (Err z)
         at (Error n) p = λ cells l. sym (at_sum cells rs (Err n) e (p cells l))
         at (Stopped (Missing c)) p = (p.0, referred c args rs e ∙ p.1)
         at (Stopped Memory) p = tt

@@ -1,5 +1,5 @@
 -- What SUMIF adds.
-use Rattle.wi_lookup_functions.proofs.Words.{◌≡◌, ℕ, Bool, true, false, cond, ◌||◌, List, [], ◌∷◌, map, filter, fold, Option, Some, None, IfSome, refl, sym, ap, ◌∙◌, subst, Result, zip, if◌then◌else◌, list_any, or_left, or_right, Area, cells_of, is_within, ErrorKind, BadValue, Value, Empty, Number, Argument, Region, region_of, region_at, region_or, value_at, addition, zero_number, no_error, same_size, chosen_cells, sum_of_items, sum_if_value, Item, from_cell, number_of_item, with_number, ◌>>=◌, and_then, Missing, Memory, arguments_in, refers_to, KnownAgrees, region_in, IsReferred, IsNextFilled, after_cells, IsNextAfter, known_agrees, taken_for_known, Criterion, criterion_held, is_met, empty_meets_none, Stop, Ending, Error, Stopped, criterion_argument, Agrees, Gives, same_extent, same_place, values_where, with_cell, with_met, IsMissingInEither}
+use Rattle.wi_lookup_functions.proofs.Words.{◌≡◌, ℕ, Bool, true, false, cond, ◌||◌, List, [], ◌∷◌, map, filter, fold, Option, Some, None, IfSome, refl, sym, ap, ◌∙◌, subst, Result, zip, if◌then◌else◌, list_any, or_left, or_right, Area, cells_of, is_within, ErrorKind, BadValue, Value, Empty, Number, Argument, Region, region_of, region_at, region_or, value_at, addition, zero_number, no_error, same_size, chosen_cells, sum_of_items, sum_if_value, Item, from_cell, number_of_item, with_number, ◌>>=◌, and_then, Missing, Memory, arguments_in, refers_to, KnownAgrees, region_in, IsReferred, IsNextFilled, after_cells, IsNextAfter, known_agrees, taken_for_known, Criterion, criterion_held, is_met, empty_meets_none, Stop, NoValue, Error, Stopped, criterion_argument, Agrees, Gives, same_extent, same_place, values_where, with_cell, with_met, IsMissingInEither}
 use Rattle.std.specs.Prelude.{Ok, Err}
 use Rattle.wi_fraction.specs.Number as numbers
 use Rattle.wi_standard_functions.specs.Criterion as defined
@@ -74,15 +74,15 @@ module _ (known : ℕ → Option Value) (criterion : Criterion) (r s : Area) whe
   error_stays false cells e w = refl
 
   -- a cell to be added is an error or missing
-  pub stops : (sum : numbers.Number) (ahead : Option ℕ) (c other : ℕ) (v : Value) (y x : Ending (Stop ℕ)) → x ≡ y → same_extent r s ≡ true → Rest sum ahead → ahead ≡ Some c → Some v ≡ known c → other ≡ same_place r s c →
+  pub stops : (sum : numbers.Number) (ahead : Option ℕ) (c other : ℕ) (v : Value) (y x : NoValue (Stop ℕ)) → x ≡ y → same_extent r s ≡ true → Rest sum ahead → ahead ≡ Some c → Some v ≡ known c → other ≡ same_place r s c →
       Agrees known (λ d. (d ≡ other) × (known d ≡ None)) (λ (z : numbers.Number). z) (λ cells. if is_met criterion v then with_cell (Ok sum) (cells other) else Ok sum) (Err y) →
       Agrees known (IsMissingInEither known r s) (λ (z : numbers.Number). z) sum_where (Err x)
-  stops sum ahead c other v y x m k h a f o g = subst (λ (z : Ending (Stop ℕ)). Agrees known (IsMissingInEither known r s) (λ (n : numbers.Number). n) sum_where (Err z)) (sym m) (at y g)
+  stops sum ahead c other v y x m k h a f o g = subst (λ (z : NoValue (Stop ℕ)). Agrees known (IsMissingInEither known r s) (λ (n : numbers.Number). n) sum_where (Err z)) (sym m) (at y g)
     where
       inside : is_within r c ≡ true
       inside = subst (λ (p : Option ℕ). IfSome p (λ d. is_within r d ≡ true)) a h.inside
 
-      at : (z : Ending (Stop ℕ)) → Agrees known (λ d. (d ≡ other) × (known d ≡ None)) (λ (n : numbers.Number). n) (λ cells. if is_met criterion v then with_cell (Ok sum) (cells other) else Ok sum) (Err z) →
+      at : (z : NoValue (Stop ℕ)) → Agrees known (λ d. (d ≡ other) × (known d ≡ None)) (λ (n : numbers.Number). n) (λ cells. if is_met criterion v then with_cell (Ok sum) (cells other) else Ok sum) (Err z) →
           Agrees known (IsMissingInEither known r s) (λ (n : numbers.Number). n) sum_where (Err z)
       at (Error e) q = λ cells l.
           walked_is k cells
@@ -93,8 +93,8 @@ module _ (known : ℕ → Option Value) (criterion : Criterion) (r s : Area) whe
       at (Stopped Memory) q = tt
 
   -- a cell is missing
-  pub misses : (sum : numbers.Number) (ahead : Option ℕ) (c d : ℕ) (x : Ending (Stop ℕ)) → x ≡ Stopped (Missing d) → Rest sum ahead → ahead ≡ Some c → d ≡ c → known d ≡ None → Agrees known (IsMissingInEither known r s) (λ (z : numbers.Number). z) sum_where (Err x)
-  misses sum ahead c d x m h a e k = subst (λ (z : Ending (Stop ℕ)). Agrees known (IsMissingInEither known r s) (λ (n : numbers.Number). n) sum_where (Err z)) (sym m) (k, or_left (is_within r d) (is_within s d) (subst (λ (b : ℕ). is_within r b ≡ true) (sym e) inside))
+  pub misses : (sum : numbers.Number) (ahead : Option ℕ) (c d : ℕ) (x : NoValue (Stop ℕ)) → x ≡ Stopped (Missing d) → Rest sum ahead → ahead ≡ Some c → d ≡ c → known d ≡ None → Agrees known (IsMissingInEither known r s) (λ (z : numbers.Number). z) sum_where (Err x)
+  misses sum ahead c d x m h a e k = subst (λ (z : NoValue (Stop ℕ)). Agrees known (IsMissingInEither known r s) (λ (n : numbers.Number). n) sum_where (Err z)) (sym m) (k, or_left (is_within r d) (is_within s d) (subst (λ (b : ℕ). is_within r b ≡ true) (sym e) inside))
     where
       inside : is_within r c ≡ true
       inside = subst (λ (p : Option ℕ). IfSome p (λ b. is_within r b ≡ true)) a h.inside
@@ -131,19 +131,19 @@ module _ (known : ℕ → Option Value) (args : List given.Argument) where
   abbrev pub IsAdded : Area → Result Area ErrorKind → Type 0
   IsAdded r s = (cells : ℕ → Value) → region_or (region_in cells (Ok r)) (arguments_in cells args) 2 ≡ region_in cells s
 
-  pub ends_at_area : (e : ErrorKind) (x : Ending (Stop ℕ)) → x ≡ Error e → IsAreaAt (Err e) → Gives known sum_if_value args (Err x)
-  ends_at_area e x m h = subst (λ (y : Ending (Stop ℕ)). Gives known sum_if_value args (Err y)) (sym m) (λ cells k. sym (at_region (arguments_in cells args) (Err e) (h cells)))
+  pub ends_at_area : (e : ErrorKind) (x : NoValue (Stop ℕ)) → x ≡ Error e → IsAreaAt (Err e) → Gives known sum_if_value args (Err x)
+  ends_at_area e x m h = subst (λ (y : NoValue (Stop ℕ)). Gives known sum_if_value args (Err y)) (sym m) (λ cells k. sym (at_region (arguments_in cells args) (Err e) (h cells)))
 
-  pub ends_at_criterion : (r : Area) (y x : Ending (Stop ℕ)) → x ≡ y → IsAreaAt (Ok r) → IsCriterionAt known args 1 (Err y) → Gives known sum_if_value args (Err x)
-  ends_at_criterion r y x m h g = subst (λ (z : Ending (Stop ℕ)). Gives known sum_if_value args (Err z)) (sym m) (at y g)
+  pub ends_at_criterion : (r : Area) (y x : NoValue (Stop ℕ)) → x ≡ y → IsAreaAt (Ok r) → IsCriterionAt known args 1 (Err y) → Gives known sum_if_value args (Err x)
+  ends_at_criterion r y x m h g = subst (λ (z : NoValue (Stop ℕ)). Gives known sum_if_value args (Err z)) (sym m) (at y g)
     where
-      at : (z : Ending (Stop ℕ)) → IsCriterionAt known args 1 (Err z) → Gives known sum_if_value args (Err z)
+      at : (z : NoValue (Stop ℕ)) → IsCriterionAt known args 1 (Err z) → Gives known sum_if_value args (Err z)
       at (Error e) k = λ cells a. sym (at_criterion (arguments_in cells args) (region_of cells r) (Err e) (h cells) (k cells a))
       at (Stopped s) k = k
 
   module _ (r : Area) (c : Criterion) (first : IsAreaAt (Ok r)) (second : IsCriterionAt known args 1 (Ok c)) where
-    pub ends_at_added : (e : ErrorKind) (x : Ending (Stop ℕ)) → x ≡ Error e → IsAdded r (Err e) → Gives known sum_if_value args (Err x)
-    ends_at_added e x m h = subst (λ (y : Ending (Stop ℕ)). Gives known sum_if_value args (Err y)) (sym m) (λ cells k. sym (at_added (arguments_in cells args) (region_of cells r) (criterion_held c) (Err e) (first cells) (second cells k) (h cells)))
+    pub ends_at_added : (e : ErrorKind) (x : NoValue (Stop ℕ)) → x ≡ Error e → IsAdded r (Err e) → Gives known sum_if_value args (Err x)
+    ends_at_added e x m h = subst (λ (y : NoValue (Stop ℕ)). Gives known sum_if_value args (Err y)) (sym m) (λ cells k. sym (at_added (arguments_in cells args) (region_of cells r) (criterion_held c) (Err e) (first cells) (second cells k) (h cells)))
 
     module _ (s : Area) (third : IsAdded r (Ok s)) where
       at_size : (b : Bool) → same_extent r s ≡ b → (cells : ℕ → Value) → KnownAgrees known cells →
@@ -158,14 +158,14 @@ module _ (known : ℕ → Option Value) (args : List given.Argument) where
       pub ends_summed : same_extent r s ≡ true → (x : numbers.Number) → Agrees known (IsMissingInEither known r s) (λ (z : numbers.Number). z) (sum_where known c r s) (Ok x) → Gives known sum_if_value args (Ok (Number x))
       ends_summed e x g = λ cells k. sym (at_size true e cells k ∙ ap (λ (p : Result numbers.Number ErrorKind). p >>= (λ y. Number y)) (g cells k))
 
-      pub ends_in_sum : same_extent r s ≡ true → IsReferred args r → IsReferred args s → (y x : Ending (Stop ℕ)) → x ≡ y → Agrees known (IsMissingInEither known r s) (λ (z : numbers.Number). z) (sum_where known c r s) (Err y) → Gives known sum_if_value args (Err x)
-      ends_in_sum e f g y x m h = subst (λ (z : Ending (Stop ℕ)). Gives known sum_if_value args (Err z)) (sym m) (at y h)
+      pub ends_in_sum : same_extent r s ≡ true → IsReferred args r → IsReferred args s → (y x : NoValue (Stop ℕ)) → x ≡ y → Agrees known (IsMissingInEither known r s) (λ (z : numbers.Number). z) (sum_where known c r s) (Err y) → Gives known sum_if_value args (Err x)
+      ends_in_sum e f g y x m h = subst (λ (z : NoValue (Stop ℕ)). Gives known sum_if_value args (Err z)) (sym m) (at y h)
         where
           in_one : (d : ℕ) (a b : Bool) → is_within r d ≡ a → is_within s d ≡ b → (a || b) ≡ true → list_any (refers_to d) args ≡ true
           in_one d true b i j k = f d i
           in_one d false b i j k = g d (j ∙ k)
 
-          at : (z : Ending (Stop ℕ)) → Agrees known (IsMissingInEither known r s) (λ (n : numbers.Number). n) (sum_where known c r s) (Err z) → Gives known sum_if_value args (Err z)
+          at : (z : NoValue (Stop ℕ)) → Agrees known (IsMissingInEither known r s) (λ (n : numbers.Number). n) (sum_where known c r s) (Err z) → Gives known sum_if_value args (Err z)
           at (Error n) q = λ cells k. sym (at_size true e cells k ∙ ap (λ (p : Result numbers.Number ErrorKind). p >>= (λ w. Number w)) (q cells k))
           at (Stopped (Missing d)) q = (q.0, in_one d (is_within r d) (is_within s d) refl refl q.1)
           at (Stopped Memory) q = tt

@@ -71,12 +71,12 @@ pub use Rattle.wi_standard_functions.specs.Mathematical.{chosen_cells, factor, o
 pub use Rattle.wi_standard_functions.specs.Sequence.{Item, from_cell, number_of_item, scalar, with_number}
 pub use Rattle.wi_standard_functions.specs.Steps.{and_then, map_until_error, ◌>>=◌}
 pub use Rattle.wi_value_functions.proofs.Counts.{cut_counted, cut_value}
-pub use Rattle.wi_value_functions.specs.Endings.{IfMissing, as_value}
+pub use Rattle.wi_value_functions.specs.NoValues.{IfMissing, as_value}
 pub use Rattle.wi_value_functions.specs.Inner.Counts.{IsCut, counted}
-pub use Rattle.wi_value_functions.specs.declared.ending.Ending.{Ending}
-pub use Rattle.wi_value_functions.specs.declared.ending.Ending.TheVariants.{Error, Stopped}
-pub use Rattle.wi_value_functions.specs.declared.ending.Stop.{Stop}
-pub use Rattle.wi_value_functions.specs.declared.ending.Stop.TheVariants.{Memory, Missing}
+pub use Rattle.wi_value_functions.specs.declared.no_value.NoValue.{NoValue}
+pub use Rattle.wi_value_functions.specs.declared.no_value.NoValue.TheVariants.{Error, Stopped}
+pub use Rattle.wi_value_functions.specs.declared.no_value.Stop.{Stop}
+pub use Rattle.wi_value_functions.specs.declared.no_value.Stop.TheVariants.{Memory, Missing}
 pub use Rattle.wi_values.proofs.Within.{column_of_place, column_within, places_left, row_of_place, within_between, within_from, within_parts}
 pub use Rattle.wi_values.specs.Address.{Area, cells_of, column_of, height, is_within, is_within_one, place, rect_of, row_of, width}
 pub use Rattle.wi_values.specs.Inner.Cells.{sooner}

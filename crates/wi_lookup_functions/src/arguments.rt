@@ -12,7 +12,7 @@ ghost use Rattle.wi_lookup_functions.specs.Inner.Finding.{Agrees};
 
 use wi_arguments::{Argument, Lookup};
 use wi_fraction::Fraction;
-use wi_value_functions::{Ending, to_logical, to_number, to_whole};
+use wi_value_functions::{NoValue, to_logical, to_number, to_whole};
 use wi_values::{Address, ErrorKind, Rect, Value};
 
 /// The rectangle that the argument at a place refers to, counted from 0.
@@ -31,7 +31,7 @@ fn value_or<'a, L: Lookup>(
     arguments: &'a [Argument],
     place: usize,
     lookup: &'a L,
-) -> Result<&'a Value, Ending<Address>>
+) -> Result<&'a Value, NoValue<Address>>
     ensures { Agrees (L.known_cell lookup.now) (IsMissing (L.known_cell lookup.now) arguments.now)
         (λ v. v.now)
         (λ cells. no_error (value_or default.now (arguments_in cells arguments.now) place))
@@ -42,7 +42,7 @@ fn value_or<'a, L: Lookup>(
         None => default,
     };
     match given {
-        Value::Fault(e) => Err(Ending::Error(*e)),
+        Value::Fault(e) => Err(NoValue::Error(*e)),
         _ => Ok(given),
     }
 }
@@ -53,7 +53,7 @@ pub(crate) fn sought_at<'a, L: Lookup>(
     arguments: &'a [Argument],
     place: usize,
     lookup: &'a L,
-) -> Result<&'a Value, Ending<Address>>
+) -> Result<&'a Value, NoValue<Address>>
     requires { zero.now ≡ Number zero_number }
     ensures { Agrees (L.known_cell lookup.now) (IsMissing (L.known_cell lookup.now) arguments.now)
         (λ v. v.now)
@@ -72,7 +72,7 @@ pub(crate) fn whole_at<L: Lookup>(
     arguments: &[Argument],
     place: usize,
     lookup: &L,
-) -> Result<i128, Ending<Address>>
+) -> Result<i128, NoValue<Address>>
     ensures { Agrees (L.known_cell lookup.now) (IsMissing (L.known_cell lookup.now) arguments.now)
         (λ k. k)
         (λ cells. to_whole (value_at (arguments_in cells arguments.now) place))
@@ -89,7 +89,7 @@ pub(crate) fn number_or<L: Lookup>(
     arguments: &[Argument],
     place: usize,
     lookup: &L,
-) -> Result<Fraction, Ending<Address>>
+) -> Result<Fraction, NoValue<Address>>
     ensures { Agrees (L.known_cell lookup.now) (IsMissing (L.known_cell lookup.now) arguments.now)
         (λ x. x)
         (λ cells. to_number (value_or (Number default) (arguments_in cells arguments.now) place))
@@ -106,7 +106,7 @@ pub(crate) fn logical_or<L: Lookup>(
     arguments: &[Argument],
     place: usize,
     lookup: &L,
-) -> Result<bool, Ending<Address>>
+) -> Result<bool, NoValue<Address>>
     ensures { Agrees (L.known_cell lookup.now) (IsMissing (L.known_cell lookup.now) arguments.now)
         (λ b. b)
         (λ cells. to_logical (value_or (Logical default) (arguments_in cells arguments.now) place))

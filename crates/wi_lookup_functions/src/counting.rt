@@ -5,7 +5,7 @@ ghost use Rattle.std.proofs.Common.{ap};
 ghost use Rattle.wi_values.specs.Address.{cells_of, is_within};
 ghost use Rattle.wi_values.specs.declared.value.Value.{Value as Values};
 ghost use Rattle.wi_standard_functions.specs.Information.{count_if_value};
-ghost use Rattle.wi_value_functions.specs.Endings.{IfMissing};
+ghost use Rattle.wi_value_functions.specs.NoValues.{IfMissing};
 ghost use Rattle.wi_arguments.specs.Arguments.{IsMissing, IsOfArguments, KnownAgrees};
 ghost use Rattle.wi_value_functions.specs.Inner.Counts.{counted, IsCut};
 ghost use Rattle.wi_lookup_functions.specs.Inner.Meeting.{is_met};
@@ -18,7 +18,7 @@ use crate::criterion::Criterion;
 use std::alloc::Global;
 use std::ops::ControlFlow;
 use wi_arguments::{Argument, Lookup, TakesCells, take_cells};
-use wi_value_functions::{Ending, Stop, as_value, counted, whole_value};
+use wi_value_functions::{NoValue, Stop, as_value, counted, whole_value};
 use wi_values::{Address, Rect, Value};
 
 /// COUNTIF: how many cells of the first argument meet the criterion that the second is. It walks through the filled
@@ -40,7 +40,7 @@ fn count_if<L: Lookup>(
     alloc: Global,
     arguments: &[Argument],
     lookup: &L,
-) -> Result<Value, Ending<Stop<Address>>>
+) -> Result<Value, NoValue<Stop<Address>>>
     ensures { Gives (L.known_cell lookup.now) count_if_value arguments.now result }
 {
     let area = area_at(arguments, 0)?;

@@ -11,7 +11,7 @@ ghost use Rattle.wi_lookup_functions.specs.Inner.Giving.{criterion_argument, Agr
 use crate::criterion::Criterion;
 use std::alloc::Global;
 use wi_arguments::{Argument, Lookup};
-use wi_value_functions::{Ending, Stop, no_error};
+use wi_value_functions::{NoValue, Stop, no_error};
 use wi_values::{Address, ErrorKind, Rect, Value};
 
 /// The rectangle that the argument at a place refers to, counted from 0, or the default where there is no such argument.
@@ -38,7 +38,7 @@ pub(crate) fn criterion_at<L: Lookup>(
     arguments: &[Argument],
     place: usize,
     lookup: &L,
-) -> Result<Criterion, Ending<Stop<Address>>>
+) -> Result<Criterion, NoValue<Stop<Address>>>
     ensures { Agrees (L.known_cell lookup.now) (IsMissing (L.known_cell lookup.now) arguments.now)
         criterion_held
         (λ cells. criterion_argument (value_at (arguments_in cells arguments.now) place))
@@ -55,7 +55,7 @@ fn criterion_in<L: Lookup>(
     alloc: Global,
     argument: &Argument,
     lookup: &L,
-) -> Result<Criterion, Ending<Stop<Address>>>
+) -> Result<Criterion, NoValue<Stop<Address>>>
     ensures { Agrees (L.known_cell lookup.now)
         (IsMissing (L.known_cell lookup.now) (argument.now ∷ []))
         criterion_held
@@ -68,7 +68,7 @@ fn criterion_in<L: Lookup>(
 }
 
 /// The criterion that a value is, unless that is an error.
-fn criterion_of(alloc: Global, value: &Value) -> Result<Criterion, Ending<Stop<Address>>>
+fn criterion_of(alloc: Global, value: &Value) -> Result<Criterion, NoValue<Stop<Address>>>
     ensures { IsCriterionOf value.now result }
 {
     no_error(value)?;

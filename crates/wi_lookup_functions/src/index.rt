@@ -3,7 +3,7 @@
 ghost use Rattle.std.specs.Prelude.{IfOk, IfErr};
 ghost use Rattle.wi_standard_functions.specs.Lookup.{index_along, index_by_both, index_value, nth_cell, nth_cell_along};
 ghost use Rattle.wi_arguments.specs.Arguments.{IsMissing, IsOfArguments};
-ghost use Rattle.wi_value_functions.specs.Endings.{IfMissing};
+ghost use Rattle.wi_value_functions.specs.NoValues.{IfMissing};
 ghost use Rattle.wi_lookup_functions.specs.Inner.Finding.{Finds, IsPlacedIn};
 
 use crate::arguments::{area_at, whole_at};
@@ -11,7 +11,7 @@ use crate::outcome::value_found;
 use crate::region::{cell_at, place_among};
 use std::alloc::Global;
 use wi_arguments::{Argument, Lookup};
-use wi_value_functions::{Ending, Stop};
+use wi_value_functions::{NoValue, Stop};
 use wi_values::{Address, ErrorKind, Rect, Value};
 
 /// The value of a cell by its row and its column in a rectangle, or by its place along a row or a column. One cell is looked
@@ -28,7 +28,7 @@ pub(crate) fn index_value<L: Lookup>(
     value_found(alloc, index(arguments, lookup), lookup)
 }
 
-fn index<L: Lookup>(arguments: &[Argument], lookup: &L) -> Result<Address, Ending<Address>>
+fn index<L: Lookup>(arguments: &[Argument], lookup: &L) -> Result<Address, NoValue<Address>>
     ensures { Finds (L.known_cell lookup.now) arguments.now index_value result }
 {
     if arguments.len() <= 2 {
@@ -38,7 +38,7 @@ fn index<L: Lookup>(arguments: &[Argument], lookup: &L) -> Result<Address, Endin
     }
 }
 
-fn index_along<L: Lookup>(arguments: &[Argument], lookup: &L) -> Result<Address, Ending<Address>>
+fn index_along<L: Lookup>(arguments: &[Argument], lookup: &L) -> Result<Address, NoValue<Address>>
     ensures { Finds (L.known_cell lookup.now) arguments.now index_along result }
 {
     let area = area_at(arguments, 0)?;
@@ -46,7 +46,7 @@ fn index_along<L: Lookup>(arguments: &[Argument], lookup: &L) -> Result<Address,
     Ok(nth_cell_along(area, k)?)
 }
 
-fn index_by_both<L: Lookup>(arguments: &[Argument], lookup: &L) -> Result<Address, Ending<Address>>
+fn index_by_both<L: Lookup>(arguments: &[Argument], lookup: &L) -> Result<Address, NoValue<Address>>
     ensures { Finds (L.known_cell lookup.now) arguments.now index_by_both result }
 {
     let area = area_at(arguments, 0)?;

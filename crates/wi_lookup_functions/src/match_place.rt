@@ -11,7 +11,7 @@ use crate::region::is_line;
 use crate::rule::Rule;
 use crate::search::place_along;
 use wi_arguments::{Argument, Lookup};
-use wi_value_functions::{Ending, one, zero};
+use wi_value_functions::{NoValue, one, zero};
 use wi_values::{Address, ErrorKind, Value};
 
 /// The place, counted from 1, of a value in one row or one column. The filled cells of it are looked up one after another: for
@@ -24,7 +24,7 @@ pub(crate) fn match_value<L: Lookup>(arguments: &[Argument], lookup: &L) -> Resu
 }
 
 /// The place, counted from 0.
-fn match_place<L: Lookup>(arguments: &[Argument], lookup: &L) -> Result<u32, Ending<Address>>
+fn match_place<L: Lookup>(arguments: &[Argument], lookup: &L) -> Result<u32, NoValue<Address>>
     ensures { Places (L.known_cell lookup.now) arguments.now match_value result }
 {
     let zero = Value::Number(zero());
@@ -32,7 +32,7 @@ fn match_place<L: Lookup>(arguments: &[Argument], lookup: &L) -> Result<u32, End
     let area = area_at(arguments, 1)?;
     let match_type = number_or(one(), arguments, 2, lookup)?;
     if !is_line(area) {
-        return Err(Ending::Error(ErrorKind::BadValue));
+        return Err(NoValue::Error(ErrorKind::BadValue));
     }
     place_along(Rule::of_match_type(match_type), sought, area, lookup)
 }

@@ -5,7 +5,7 @@ ghost use Rattle.std.specs.List.{list_all};
 ghost use Rattle.wi_values.specs.Address.{is_within};
 ghost use Rattle.wi_standard_functions.specs.Arguments.{region_of};
 ghost use Rattle.wi_standard_functions.specs.Mathematical.{sum_product_value};
-ghost use Rattle.wi_value_functions.specs.Endings.{IfMissing};
+ghost use Rattle.wi_value_functions.specs.NoValues.{IfMissing};
 ghost use Rattle.wi_arguments.specs.Arguments.{IsMissing, IsOfArguments};
 ghost use Rattle.wi_lookup_functions.specs.Inner.Giving.{Agrees, Gives};
 ghost use Rattle.wi_lookup_functions.specs.Inner.Products.{areas_of, product_there, sum_over, sum_through, with_factor, IsAreaError, IsMissingInAny};
@@ -17,7 +17,7 @@ use crate::places::{have_one_size, next_place};
 use std::alloc::Global;
 use wi_arguments::{Argument, Lookup};
 use wi_fraction::Fraction;
-use wi_value_functions::{Ending, Stop, add, as_value, multiply, one, zero};
+use wi_value_functions::{NoValue, Stop, add, as_value, multiply, one, zero};
 use wi_values::{Address, ErrorKind, Rect, Value};
 
 /// SUMPRODUCT: the sum, over the places of rectangles of one size, of the products of the cells that stand there; a cell that isn't
@@ -41,7 +41,7 @@ fn sum_product<L: Lookup>(
     alloc: Global,
     arguments: &[Argument],
     lookup: &L,
-) -> Result<Value, Ending<Stop<Address>>>
+) -> Result<Value, NoValue<Stop<Address>>>
     ensures { Gives (L.known_cell lookup.now) sum_product_value arguments.now result }
 {
     let areas = areas_of(alloc, arguments)?;
@@ -50,7 +50,7 @@ fn sum_product<L: Lookup>(
 }
 
 /// The rectangles that all arguments refer to.
-fn areas_of(alloc: Global, arguments: &[Argument]) -> Result<Vec<Rect>, Ending<Stop<Address>>>
+fn areas_of(alloc: Global, arguments: &[Argument]) -> Result<Vec<Rect>, NoValue<Stop<Address>>>
     ensures done { IfOk result (λ areas. areas_of arguments.now ≡ Ok areas.items) }
     ensures error { IfErr result (IsAreaError arguments.now) }
 {
@@ -62,7 +62,7 @@ fn areas_of(alloc: Global, arguments: &[Argument]) -> Result<Vec<Rect>, Ending<S
 }
 
 /// The sum of the products at all places of rectangles, where these have one size.
-fn sum_over<L: Lookup>(areas: &[Rect], lookup: &L) -> Result<Fraction, Ending<Stop<Address>>>
+fn sum_over<L: Lookup>(areas: &[Rect], lookup: &L) -> Result<Fraction, NoValue<Stop<Address>>>
     ensures { Agrees (L.known_cell lookup.now) (IsMissingInAny (L.known_cell lookup.now) areas.now)
         (λ x. x) (λ cells. sum_over (map (region_of cells) areas.now)) result }
 {
@@ -70,7 +70,7 @@ fn sum_over<L: Lookup>(areas: &[Rect], lookup: &L) -> Result<Fraction, Ending<St
         return Ok(zero());
     };
     if !have_one_size(first, areas) {
-        return Err(Ending::Error(ErrorKind::BadValue));
+        return Err(NoValue::Error(ErrorKind::BadValue));
     }
     sum_of_products(first, areas, lookup)
 }
@@ -86,7 +86,7 @@ fn sum_of_products<L: Lookup>(
     first: Rect,
     areas: &[Rect],
     lookup: &L,
-) -> Result<Fraction, Ending<Stop<Address>>>
+) -> Result<Fraction, NoValue<Stop<Address>>>
     requires head { Some first ≡ slice_get areas.now 0 }
     requires size { list_all (same_extent first) areas.now ≡ true }
     ensures { Agrees (L.known_cell lookup.now) (IsMissingInAny (L.known_cell lookup.now) areas.now)
@@ -110,7 +110,7 @@ fn product_at<L: Lookup>(
     areas: &[Rect],
     at: Address,
     lookup: &L,
-) -> Result<Fraction, Ending<Stop<Address>>>
+) -> Result<Fraction, NoValue<Stop<Address>>>
     requires within { is_within first at ≡ true }
     requires size { list_all (same_extent first) areas.now ≡ true }
     ensures { Agrees (L.known_cell lookup.now) (IsMissingInAny (L.known_cell lookup.now) areas.now)

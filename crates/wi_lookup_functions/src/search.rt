@@ -13,7 +13,7 @@ use crate::region::steps;
 use crate::rule::Rule;
 use std::ops::ControlFlow;
 use wi_arguments::{Lookup, TakesCells, take_cells};
-use wi_value_functions::Ending;
+use wi_value_functions::NoValue;
 use wi_values::{Address, ErrorKind, Rect, Value};
 
 /// A search, and what it has found so far.
@@ -74,7 +74,7 @@ pub(crate) fn place_along<L: Lookup>(
     sought: &Value,
     line: Rect,
     lookup: &L,
-) -> Result<u32, Ending<Address>>
+) -> Result<u32, NoValue<Address>>
     requires { is_line line ≡ true }
     ensures within { IfOk result (λ i. i < length (cells_of line)) }
     ensures place { Agrees (L.known_cell lookup.now) (IsMissingIn (L.known_cell lookup.now) line)
@@ -90,8 +90,8 @@ pub(crate) fn place_along<L: Lookup>(
     match take_cells(line, lookup, &mut search) {
         Ok(()) => match search.found {
             Some(cell) => Ok(steps(line, cell)),
-            None => Err(Ending::Error(ErrorKind::NotAvailable)),
+            None => Err(NoValue::Error(ErrorKind::NotAvailable)),
         },
-        Err(cell) => Err(Ending::Stopped(cell)),
+        Err(cell) => Err(NoValue::Stopped(cell)),
     }
 }

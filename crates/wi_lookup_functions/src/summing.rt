@@ -3,7 +3,7 @@
 ghost use Rattle.std.specs.Prelude.{◌≡◌, true, None, Ok, IfOk, IfErr, if◌then◌else◌};
 ghost use Rattle.wi_standard_functions.specs.Arguments.{region_of};
 ghost use Rattle.wi_standard_functions.specs.Mathematical.{sum_if_value, sum_of_items};
-ghost use Rattle.wi_value_functions.specs.Endings.{IfMissing};
+ghost use Rattle.wi_value_functions.specs.NoValues.{IfMissing};
 ghost use Rattle.wi_arguments.specs.Arguments.{IsMissing, IsOfArguments};
 ghost use Rattle.wi_lookup_functions.specs.Inner.Meeting.{is_met};
 ghost use Rattle.wi_lookup_functions.specs.Inner.Giving.{Agrees, Gives};
@@ -17,7 +17,7 @@ use crate::extent::{same_extent, same_place};
 use std::alloc::Global;
 use wi_arguments::{Argument, Lookup};
 use wi_fraction::Fraction;
-use wi_value_functions::{Ending, Stop, add, as_value, zero};
+use wi_value_functions::{NoValue, Stop, add, as_value, zero};
 use wi_values::{Address, ErrorKind, Rect, Value};
 
 /// SUMIF: the sum of the third argument's cells at the places where the first's meet the criterion that the second is; without a
@@ -40,14 +40,14 @@ fn sum_if<L: Lookup>(
     alloc: Global,
     arguments: &[Argument],
     lookup: &L,
-) -> Result<Value, Ending<Stop<Address>>>
+) -> Result<Value, NoValue<Stop<Address>>>
     ensures { Gives (L.known_cell lookup.now) sum_if_value arguments.now result }
 {
     let area = area_at(arguments, 0)?;
     let criterion = criterion_at(alloc, arguments, 1, lookup)?;
     let added = area_or(area, arguments, 2)?;
     if !same_extent(area, added) {
-        return Err(Ending::Error(ErrorKind::BadValue));
+        return Err(NoValue::Error(ErrorKind::BadValue));
     }
     let sum = sum_met(&criterion, area, added, lookup)?;
     Ok(Value::Number(sum))
@@ -59,7 +59,7 @@ fn sum_met<L: Lookup>(
     area: Rect,
     added: Rect,
     lookup: &L,
-) -> Result<Fraction, Ending<Stop<Address>>>
+) -> Result<Fraction, NoValue<Stop<Address>>>
     requires { same_extent area added ≡ true }
     ensures { Agrees (L.known_cell lookup.now)
         (IsMissingInEither (L.known_cell lookup.now) area added)
@@ -86,7 +86,7 @@ fn with_met<L: Lookup>(
     sum: Fraction,
     other: Address,
     lookup: &L,
-) -> Result<Fraction, Ending<Stop<Address>>>
+) -> Result<Fraction, NoValue<Stop<Address>>>
     ensures { Agrees (L.known_cell lookup.now)
         (λ c. (c ≡ other) × (L.known_cell lookup.now c ≡ None))
         (λ x. x)

@@ -3,7 +3,7 @@
 ghost use Rattle.std.specs.Prelude.{IfOk, IfErr};
 ghost use Rattle.wi_standard_functions.specs.Lookup.{h_lookup_value, v_lookup_value};
 ghost use Rattle.wi_arguments.specs.Arguments.{IsMissing, IsOfArguments};
-ghost use Rattle.wi_value_functions.specs.Endings.{IfMissing};
+ghost use Rattle.wi_value_functions.specs.NoValues.{IfMissing};
 ghost use Rattle.wi_lookup_functions.specs.Inner.Axis.{look_up_by};
 ghost use Rattle.wi_lookup_functions.specs.Inner.Finding.{Finds};
 
@@ -15,7 +15,7 @@ use crate::rule::Rule;
 use crate::search::place_along;
 use std::alloc::Global;
 use wi_arguments::{Argument, Lookup};
-use wi_value_functions::{Ending, Stop, zero};
+use wi_value_functions::{NoValue, Stop, zero};
 use wi_values::{Address, Value};
 
 /// The value in a column of a rectangle, in the row whose first cell is found. The filled cells of the first column are looked
@@ -53,7 +53,7 @@ fn look_up<L: Lookup>(
     axis: Axis,
     arguments: &[Argument],
     lookup: &L,
-) -> Result<Address, Ending<Address>>
+) -> Result<Address, NoValue<Address>>
     ensures { Finds (L.known_cell lookup.now) arguments.now (look_up_by axis) result }
 {
     let zero = Value::Number(zero());

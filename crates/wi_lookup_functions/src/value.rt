@@ -2,7 +2,7 @@
 
 ghost use Rattle.std.specs.Prelude.{IfOk, IfErr};
 ghost use Rattle.wi_value_functions.specs.Applied.{applied_to_arguments};
-ghost use Rattle.wi_value_functions.specs.Endings.{IfMissing};
+ghost use Rattle.wi_value_functions.specs.NoValues.{IfMissing};
 ghost use Rattle.wi_value_functions.specs.declared.function.Function.TheVariants.{References};
 ghost use Rattle.wi_value_functions.specs.declared.function.ReferenceFunction.TheVariants.{Lookup as ByLookup};
 ghost use Rattle.wi_arguments.specs.Arguments.{IsMissing, IsOfArguments};

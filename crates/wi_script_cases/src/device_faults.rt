@@ -55,9 +55,9 @@ const KINDS: [Kind; 5] = [
 
 /// What is amiss of a run that should have ended by a fault.
 fn amiss_by(told: &Told, fault: RunFault, is_written: bool) -> Option<&'static str> {
-    if told.ending.outcome != Err(fault) {
+    if told.exit.outcome != Err(fault) {
         Some("another outcome")
-    } else if told.ending.status != STATUS {
+    } else if told.exit.status != STATUS {
         Some("another exit status")
     } else if !is_written {
         Some("other replies")
@@ -100,9 +100,9 @@ fn amiss_at_end(
     told: &Told,
     written: &[u8],
 ) -> Option<&'static str> {
-    if told.ending.outcome != Ok(()) {
+    if told.exit.outcome != Ok(()) {
         Some("a fault where no call fails")
-    } else if told.ending.status != 0 {
+    } else if told.exit.status != 0 {
         Some("another exit status where no call fails")
     } else if !told.flushed {
         Some("not flushed")

@@ -5,7 +5,7 @@ ghost use Rattle.std.specs.Prelude.{◌≡◌, false};
 use crate::failing_devices::{Calls, FailingReader, FailingWriter};
 use crate::runs::KEEP;
 use std::alloc::Global;
-use wi_cli::{Ending, ReadFrom, Sink, Source, WriteTo, run_new, run_new_in_turn};
+use wi_cli::{Exit, ReadFrom, Sink, Source, WriteTo, run_new, run_new_in_turn};
 
 /// The script that is run behind one that is loaded.
 const NEXT: &[u8] = b"frob\n";
@@ -35,7 +35,7 @@ pub struct Plan {
 /// What is told of a run beside what it writes.
 #[derive(Clone, Copy)]
 pub struct Told {
-    pub ending: Ending,
+    pub exit: Exit,
     /// How many bytes of the script were read.
     pub read: usize,
     /// How many calls were made of those of which one fails.
@@ -79,7 +79,7 @@ impl Plan {
 }
 
 /// Runs what a source gives on an empty sheet, and where it is loaded another script behind it.
-fn end<R: Source, W: Sink>(alloc: Global, failing: Failing, source: &mut R, sink: &mut W) -> Ending
+fn end<R: Source, W: Sink>(alloc: Global, failing: Failing, source: &mut R, sink: &mut W) -> Exit
     requires reads { R.has_failed source.old ≡ false }
     requires writes { W.has_failed sink.old ≡ false }
 {
@@ -105,14 +105,14 @@ pub fn run_planned(alloc: Global, script: &[u8], plan: &Plan, written: &mut Vec<
         flushed: false,
     };
     let mut source = ReadFrom::new(&mut reader);
-    let ending = end(
+    let exit = end(
         alloc,
         plan.failing,
         &mut source,
         &mut WriteTo::new(&mut writer),
     );
     Told {
-        ending,
+        exit,
         read: script.len().saturating_sub(reader.bytes.len()),
         made: plan.made(reader.reads.made, writer.writes.made, writer.flushes.made),
         flushed: writer.flushed,

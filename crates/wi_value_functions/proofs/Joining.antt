@@ -1,5 +1,5 @@
 -- Texts one after another, and one text many times.
-use Rattle.wi_value_functions.proofs.Words.{◌≡◌, refl, sym, ap, subst, ◌∙◌, ℕ, suc, zero, ◌+◌, ◌*◌, ◌≤◌, ◌<◌, List, [], ◌∷◌, ◌++◌, drop, get_or, length, arith, le-leb, lt-leb, sub-add-min_cancel, mul-le-mul_right, BadValue, min, ◌^◌, Result, Ok, Err, concat, repeat, append_assoc, append-nil, drop_more, drop_all, limited_text, to_text, ◌>>=◌, and_then, map_until_error, Gives, Ending, Error, Stopped, Agrees, shown_text, ErrorKind, Value, Text, Fault}
+use Rattle.wi_value_functions.proofs.Words.{◌≡◌, refl, sym, ap, subst, ◌∙◌, ℕ, suc, zero, ◌+◌, ◌*◌, ◌≤◌, ◌<◌, List, [], ◌∷◌, ◌++◌, drop, get_or, length, arith, le-leb, lt-leb, sub-add-min_cancel, mul-le-mul_right, BadValue, min, ◌^◌, Result, Ok, Err, concat, repeat, append_assoc, append-nil, drop_more, drop_all, limited_text, to_text, ◌>>=◌, and_then, map_until_error, Gives, NoValue, Error, Stopped, Agrees, shown_text, ErrorKind, Value, Text, Fault}
 use Rattle.std.specs.Prelude.{◌-◌}
 use Rattle.std.proofs.lemmas.List.{length-append}
 
@@ -35,11 +35,11 @@ joined_more front more vs i v all l e t m h =
 pub joined_all : (front : List ℕ) (vs : List Value) (i : ℕ) (all : Value) → length vs ≤ i → joined_to front (map_until_error to_text (drop i vs)) ≡ all → limited_text front ≡ all
 joined_all front vs i all l h = sym (join_none front) ∙ ap (λ (xs : List Value). joined_to front (map_until_error to_text xs)) (sym (drop_all i vs l)) ∙ h
 
-pub joined_stops : {S : Type 0} (front : List ℕ) (vs : List Value) (i : ℕ) (v all : Value) (stop end : Ending S) → i < length vs → v ≡ get_or vs i v → Agrees (λ (_ : Unit {0}). shown_text v) (Err stop) (to_text v) → end ≡ stop
+pub joined_stops : {S : Type 0} (front : List ℕ) (vs : List Value) (i : ℕ) (v all : Value) (stop end : NoValue S) → i < length vs → v ≡ get_or vs i v → Agrees (λ (_ : Unit {0}). shown_text v) (Err stop) (to_text v) → end ≡ stop
     → joined_to front (map_until_error to_text (drop i vs)) ≡ all → Gives (Err end) all
 joined_stops {S} front vs i v all (Error k) end l e t s h =
-    subst (λ (x : Ending S). Gives (Err x) all) (sym s) (sym (join_stops front v (drop (i + 1) vs) k t) ∙ sym (left_to_join front vs i v l e) ∙ h)
-joined_stops {S} front vs i v all (Stopped m) end l e t s h = subst (λ (x : Ending S). Gives (Err x) all) (sym s) tt
+    subst (λ (x : NoValue S). Gives (Err x) all) (sym s) (sym (join_stops front v (drop (i + 1) vs) k t) ∙ sym (left_to_join front vs i v l e) ∙ h)
+joined_stops {S} front vs i v all (Stopped m) end l e t s h = subst (λ (x : NoValue S). Gives (Err x) all) (sym s) tt
 
 pub length-repeat : (n : ℕ) (t : List ℕ) → length (repeat n t) ≡ n * length t
 length-repeat zero t = omega arith

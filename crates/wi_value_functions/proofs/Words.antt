@@ -49,12 +49,12 @@ pub use Rattle.wi_standard_functions.specs.Rounding.{int_value, round_value}
 pub use Rattle.wi_standard_functions.specs.Steps.{and_then, map_until_error, ◌>>=◌}
 pub use Rattle.wi_standard_functions.specs.Text.{at_least, concatenate_value, exact_value, find_value, first_position, left_value, len_value, mid_value, of_chars, rept_value, right_value}
 pub use Rattle.wi_value_functions.specs.Applied.{applied_to_arguments, applied_to_values, arguments_of, passes}
-pub use Rattle.wi_value_functions.specs.Endings.{Gives}
+pub use Rattle.wi_value_functions.specs.NoValues.{Gives}
 pub use Rattle.wi_value_functions.specs.Inner.Counts.{IsCut, counted}
 pub use Rattle.wi_value_functions.specs.Inner.Gives.{Agrees, EndsWith}
 pub use Rattle.wi_value_functions.specs.Inner.Rows.{function_of}
-pub use Rattle.wi_value_functions.specs.declared.ending.Ending.{Ending}
-pub use Rattle.wi_value_functions.specs.declared.ending.Ending.TheVariants.{Error, Stopped}
+pub use Rattle.wi_value_functions.specs.declared.no_value.NoValue.{NoValue}
+pub use Rattle.wi_value_functions.specs.declared.no_value.NoValue.TheVariants.{Error, Stopped}
 pub use Rattle.wi_value_functions.specs.declared.function.Function.TheVariants.{Values}
 pub use Rattle.wi_value_functions.specs.declared.function.TextFunction.TheVariants.{Concatenate, Exact, Find, Left, Len, Mid, Rept, Right}
 pub use Rattle.wi_value_functions.specs.declared.function.ValueFunction.{ValueFunction}

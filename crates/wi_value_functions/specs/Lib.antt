@@ -1,3 +1,3 @@
-pub mod Endings
+pub mod NoValues
 pub mod Applied
 pub mod Inner

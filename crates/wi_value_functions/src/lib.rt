@@ -5,12 +5,12 @@
 mod arithmetic;
 mod convert;
 mod count;
-mod ending;
 mod first_error;
 mod function;
 mod information;
 mod logical;
 mod mathematical;
+mod no_value;
 mod rounding;
 mod table;
 mod text;
@@ -19,7 +19,6 @@ mod value;
 pub use arithmetic::{add, divide, multiply, number_value, subtract};
 pub use convert::{one, to_logical, to_number, to_whole, zero};
 pub use count::{counted, whole_number, whole_value};
-pub use ending::{Ending, Stop, as_value};
 pub use first_error::{both, no_error};
 pub use function::{
     FoldFunction, Function, LazyFunction, LookupFunction, ReferenceFunction, Test, TextFunction,
@@ -27,6 +26,7 @@ pub use function::{
 };
 pub use information::{is_empty_value, is_number_value};
 pub use mathematical::power_value;
+pub use no_value::{NoValue, Stop, as_value};
 pub use table::function_for;
 pub use text::limited_text;
 pub use value::value_of_values;

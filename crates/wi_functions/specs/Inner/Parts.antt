@@ -5,9 +5,9 @@ use Rattle.wi_parser.specs.Tree.{Tree, Trees}
 use Rattle.wi_parser.specs.Leaves.{Leaf, leaves, all_leaves}
 use Rattle.wi_standard_functions.specs.Arguments.{Argument}
 use Rattle.wi_arguments.specs.Assignment.{Assignment}
-use Rattle.wi_value_functions.specs.Endings.{IfMissing}
-use Rattle.wi_value_functions.specs.declared.ending.Stop.{Stop}
-use Rattle.wi_value_functions.specs.declared.ending.Stop.TheVariants.{Missing, Memory}
+use Rattle.wi_value_functions.specs.NoValues.{IfMissing}
+use Rattle.wi_value_functions.specs.declared.no_value.Stop.{Stop}
+use Rattle.wi_value_functions.specs.declared.no_value.Stop.TheVariants.{Missing, Memory}
 use Rattle.wi_functions.specs.Meaning.{meaning, arguments}
 use Rattle.wi_functions.specs.Evaluation.{ByAll, IsWanted}
 use Rattle.wi_functions.specs.declared.evaluation.Want.{Want}

@@ -11,11 +11,11 @@ use Rattle.wi_standard_functions.specs.Mathematical.{factor, of_one_size, produc
 use Rattle.wi_standard_functions.specs.Sequence.{number_of_item, with_number}
 use Rattle.wi_standard_functions.specs.Steps.{and_then, map_until_error}
 use Rattle.wi_arguments.specs.declared.argument.Argument as given
-use Rattle.wi_value_functions.specs.declared.ending.Stop.TheVariants.{Memory}
+use Rattle.wi_value_functions.specs.declared.no_value.Stop.TheVariants.{Memory}
 use Rattle.wi_arguments.specs.Arguments.{area_referred}
-use Rattle.wi_value_functions.specs.declared.ending.Stop.{Stop}
-use Rattle.wi_value_functions.specs.declared.ending.Ending.{Ending}
-use Rattle.wi_value_functions.specs.declared.ending.Ending.TheVariants.{Error, Stopped}
+use Rattle.wi_value_functions.specs.declared.no_value.Stop.{Stop}
+use Rattle.wi_value_functions.specs.declared.no_value.NoValue.{NoValue}
+use Rattle.wi_value_functions.specs.declared.no_value.NoValue.TheVariants.{Error, Stopped}
 use Rattle.wi_lookup_functions.specs.Inner.Sums.{same_place}
 
 -- the rectangles that all arguments refer to
@@ -23,7 +23,7 @@ abbrev pub areas_of : List given.Argument → Result (List Area) ErrorKind
 areas_of args = map_until_error area_referred args
 
 -- why there are none
-abbrev pub IsAreaError : List given.Argument → Ending (Stop ℕ) → Type 0
+abbrev pub IsAreaError : List given.Argument → NoValue (Stop ℕ) → Type 0
 IsAreaError args (Error e) = areas_of args ≡ Err e
 IsAreaError args (Stopped s) = s ≡ Memory
 

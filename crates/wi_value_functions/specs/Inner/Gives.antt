@@ -3,11 +3,11 @@ use Rattle.std.specs.Prelude.{◌≡◌, ℕ, ◌++◌, List, Result, Ok, Err, �
 use Rattle.wi_values.specs.declared.value.ErrorKind.{ErrorKind}
 use Rattle.wi_value_functions.specs.declared.text.convert.Shown.{Shown}
 use Rattle.wi_value_functions.specs.declared.text.convert.Shown.TheVariants.{Lent, Written}
-use Rattle.wi_value_functions.specs.declared.ending.Ending.{Ending}
-use Rattle.wi_value_functions.specs.declared.ending.Ending.TheVariants.{Error, Stopped}
+use Rattle.wi_value_functions.specs.declared.no_value.NoValue.{NoValue}
+use Rattle.wi_value_functions.specs.declared.no_value.NoValue.TheVariants.{Error, Stopped}
 
 -- a step's result, as f sees it, or its error, unless memory is wanting
-abbrev pub Agrees : {A B S : Type 0} → (A → B) → Result A (Ending S) → Result B ErrorKind → Type 0
+abbrev pub Agrees : {A B S : Type 0} → (A → B) → Result A (NoValue S) → Result B ErrorKind → Type 0
 Agrees f (Ok x) r = r ≡ Ok (f x)
 Agrees f (Err (Error e)) r = r ≡ Err e
 Agrees f (Err (Stopped s)) r = ⊤

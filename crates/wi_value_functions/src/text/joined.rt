@@ -6,10 +6,10 @@ ghost use Rattle.wi_values.specs.Value.{shown_text};
 ghost use Rattle.wi_standard_functions.specs.Arithmetic.{limited_text};
 ghost use Rattle.wi_standard_functions.specs.Convert.{to_text};
 ghost use Rattle.wi_standard_functions.specs.Text.{concatenate_value, rept_value};
-ghost use Rattle.wi_value_functions.specs.Endings.{Gives};
+ghost use Rattle.wi_value_functions.specs.NoValues.{Gives};
 ghost use Rattle.wi_value_functions.specs.Inner.Gives.{Agrees};
 
-use crate::ending::{Ending, as_value};
+use crate::no_value::{NoValue, as_value};
 use crate::text::convert::{at_least, to_text, to_whole};
 use crate::text::limited_text;
 use std::alloc::{AllocError, Global};
@@ -29,7 +29,7 @@ pub(crate) fn rept_value(alloc: Global, text: &Value, number: &Value) -> Result<
     as_value(rept(alloc, text, number))
 }
 
-fn concatenate(alloc: Global, values: &[Value]) -> Result<Value, Ending<AllocError>>
+fn concatenate(alloc: Global, values: &[Value]) -> Result<Value, NoValue<AllocError>>
     ensures { Gives result (concatenate_value values.now) }
 {
     let mut joined = String::new(alloc);
@@ -40,18 +40,18 @@ fn concatenate(alloc: Global, values: &[Value]) -> Result<Value, Ending<AllocErr
 }
 
 /// Appends what a value is as a text.
-fn push_text(value: &Value, text: &mut String) -> Result<(), Ending<AllocError>>
+fn push_text(value: &Value, text: &mut String) -> Result<(), NoValue<AllocError>>
     ensures taken { Agrees (λ _. shown_text value.now) result (to_text value.now) }
     ensures done { OnOk result
         (string_bytes text.new ≡ string_bytes text.old ++ shown_text value.now) }
 {
     match value {
-        Value::Fault(e) => Err(Ending::Error(*e)),
+        Value::Fault(e) => Err(NoValue::Error(*e)),
         _ => Ok(value.push_shown(text)?),
     }
 }
 
-fn rept(alloc: Global, text: &Value, number: &Value) -> Result<Value, Ending<AllocError>>
+fn rept(alloc: Global, text: &Value, number: &Value) -> Result<Value, NoValue<AllocError>>
     ensures { Gives result (rept_value text.now number.now) }
 {
     let shown = to_text(alloc, text)?;
@@ -61,12 +61,12 @@ fn rept(alloc: Global, text: &Value, number: &Value) -> Result<Value, Ending<All
 
 /// A text so many times, where that is not too long. More times than the longest text has bytes are too many of any text
 /// but the empty one, and of that they change nothing.
-fn repeated(alloc: Global, text: &str, number: u128) -> Result<Value, Ending<AllocError>>
+fn repeated(alloc: Global, text: &str, number: u128) -> Result<Value, NoValue<AllocError>>
     ensures { Gives result (limited_text (repeat number text.now)) }
 {
     let times = number.min(MAX_TEXT as u128 + 1) as usize;
     if times.saturating_mul(text.len()) > MAX_TEXT {
-        return Err(Ending::Error(ErrorKind::BadValue));
+        return Err(NoValue::Error(ErrorKind::BadValue));
     }
     let all = text.repeat(alloc, times)?;
     Ok(Value::Text(Text::new(all)))

@@ -2,10 +2,10 @@
 
 ghost use Rattle.std.specs.Prelude.{◌≡◌, IfOk};
 ghost use Rattle.wi_standard_functions.specs.Text.{len_value, left_value, right_value, mid_value};
-ghost use Rattle.wi_value_functions.specs.Endings.{Gives};
+ghost use Rattle.wi_value_functions.specs.NoValues.{Gives};
 
 use crate::count::whole_value;
-use crate::ending::{Ending, as_value};
+use crate::no_value::{NoValue, as_value};
 use crate::text::characters::{after, before, count};
 use crate::text::convert::{at_least, to_text, to_whole};
 use crate::text::limited::limited_copy;
@@ -45,14 +45,14 @@ pub(crate) fn mid_value(
     as_value(mid(alloc, text, start, number))
 }
 
-fn len(alloc: Global, text: &Value) -> Result<Value, Ending<AllocError>>
+fn len(alloc: Global, text: &Value) -> Result<Value, NoValue<AllocError>>
     ensures { Gives result (len_value text.now) }
 {
     let shown = to_text(alloc, text)?;
     Ok(whole_value(count(shown.as_str()) as u128))
 }
 
-fn left(alloc: Global, text: &Value, number: &Value) -> Result<Value, Ending<AllocError>>
+fn left(alloc: Global, text: &Value, number: &Value) -> Result<Value, NoValue<AllocError>>
     ensures { Gives result (left_value text.now number.now) }
 {
     let shown = to_text(alloc, text)?;
@@ -60,7 +60,7 @@ fn left(alloc: Global, text: &Value, number: &Value) -> Result<Value, Ending<All
     limited_copy(alloc, before(shown.as_str(), number))
 }
 
-fn right(alloc: Global, text: &Value, number: &Value) -> Result<Value, Ending<AllocError>>
+fn right(alloc: Global, text: &Value, number: &Value) -> Result<Value, NoValue<AllocError>>
     ensures { Gives result (right_value text.now number.now) }
 {
     let shown = to_text(alloc, text)?;
@@ -74,7 +74,7 @@ fn mid(
     text: &Value,
     start: &Value,
     number: &Value,
-) -> Result<Value, Ending<AllocError>>
+) -> Result<Value, NoValue<AllocError>>
     ensures { Gives result (mid_value text.now start.now number.now) }
 {
     let shown = to_text(alloc, text)?;

@@ -2,10 +2,10 @@
 
 ghost use Rattle.std.specs.Prelude.{◌≡◌, ◌≤◌, IfOk, IfSome, length, chars};
 ghost use Rattle.wi_standard_functions.specs.Text.{exact_value, find_value, first_position, position_from};
-ghost use Rattle.wi_value_functions.specs.Endings.{Gives};
+ghost use Rattle.wi_value_functions.specs.NoValues.{Gives};
 
 use crate::count::whole_value;
-use crate::ending::{Ending, as_value};
+use crate::no_value::{NoValue, as_value};
 use crate::text::characters::{after, count};
 use crate::text::convert::{at_least, to_text, to_whole};
 use std::alloc::{AllocError, Global};
@@ -18,7 +18,7 @@ pub(crate) fn exact_value(alloc: Global, left: &Value, right: &Value) -> Result<
     as_value(exact(alloc, left, right))
 }
 
-fn exact(alloc: Global, left: &Value, right: &Value) -> Result<Value, Ending<AllocError>>
+fn exact(alloc: Global, left: &Value, right: &Value) -> Result<Value, NoValue<AllocError>>
     ensures { Gives result (exact_value left.now right.now) }
 {
     let left = to_text(alloc, left)?;
@@ -43,7 +43,7 @@ fn find(
     sought: &Value,
     text: &Value,
     start: &Value,
-) -> Result<Value, Ending<AllocError>>
+) -> Result<Value, NoValue<AllocError>>
     ensures { Gives result (find_value sought.now text.now start.now) }
 {
     let sought = to_text(alloc, sought)?;
@@ -51,7 +51,7 @@ fn find(
     let start = at_least(1, to_whole(start)?)?;
     match place_from(start - 1, sought.as_str(), text.as_str()) {
         Some(place) => Ok(whole_value(place as u128 + 1)),
-        None => Err(Ending::Error(ErrorKind::BadValue)),
+        None => Err(NoValue::Error(ErrorKind::BadValue)),
     }
 }
 

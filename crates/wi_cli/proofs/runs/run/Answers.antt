@@ -1,6 +1,6 @@
 use Rattle.wi_cli.proofs.Vocabulary.{rules, arith, err_from_is_err_and}
 use Rattle.wi_cli.proofs.OutcomeLemmas.{going_none, going_on, ends_sent, ends_stopped, still_few, one_more, all_read, run_is}
-use Rattle.wi_cli.proofs.EndingLemmas.{not_run}
+use Rattle.wi_cli.proofs.ExitLemmas.{not_run}
 use Rattle.wi_cli.proofs.ReadingLemmas.{failed_unread}
 use Rattle.wi_cli.proofs.runs.run.Goals as goal
 

@@ -1,6 +1,6 @@
 use Rattle.wi_lookup_functions.proofs.Words.{refl, sym, ap, ◌∙◌, arguments_in, value_or, to_logical, Logical}
 use Rattle.wi_lookup_functions.proofs.Asked.{itself}
-use Rattle.wi_lookup_functions.proofs.Endings.{taken_fails, taken_halts}
+use Rattle.wi_lookup_functions.proofs.NoValues.{taken_fails, taken_halts}
 use Rattle.wi_lookup_functions.proofs.arguments.logical_or.Goals as goal
 
 pub returns-in_err-value : goal.returns-in_err-value

@@ -1,4 +1,4 @@
-use Rattle.wi_lookup_functions.proofs.Endings.{sought_halts}
+use Rattle.wi_lookup_functions.proofs.NoValues.{sought_halts}
 use Rattle.wi_lookup_functions.proofs.arguments.sought_at.Goals as goal
 
 pub returns-in_err-value : goal.returns-in_err-value

@@ -2,7 +2,7 @@ use Rattle.wi_lookup_functions.proofs.Words.{◌≡◌, ◌∙◌, ℕ, Some, No
 use Rattle.wi_standard_functions.specs.Arguments as given
 use Rattle.wi_lookup_functions.specs.Inner.Finding.{Agrees}
 use Rattle.wi_lookup_functions.proofs.Asked.{no_fault}
-use Rattle.wi_lookup_functions.proofs.Endings.{ends_so}
+use Rattle.wi_lookup_functions.proofs.NoValues.{ends_so}
 use Rattle.wi_lookup_functions.proofs.arguments.value_or.Goals.{in-Some+in_ok-value-in-Some+in_ok-given-in-Some, in-None}
 use Rattle.wi_lookup_functions.proofs.arguments.value_or.Goals as goal
 

@@ -1,5 +1,5 @@
 use Rattle.wi_lookup_functions.proofs.Words.{refl, to_whole, Empty}
-use Rattle.wi_lookup_functions.proofs.Endings.{taken_fails, taken_halts}
+use Rattle.wi_lookup_functions.proofs.NoValues.{taken_fails, taken_halts}
 use Rattle.wi_lookup_functions.proofs.arguments.whole_at.Goals as goal
 
 pub returns-in_err-value : goal.returns-in_err-value

@@ -1,5 +1,5 @@
 use Rattle.wi_lookup_functions.proofs.Words.{◌<◌, ◌≤◌, length, arith, index_along, index_by_both, index_value}
-use Rattle.wi_lookup_functions.proofs.Endings.{finds_same, with_three, with_two}
+use Rattle.wi_lookup_functions.proofs.NoValues.{finds_same, with_three, with_two}
 use Rattle.wi_lookup_functions.proofs.index.index.Goals as goal
 
 pub returns-then-arguments-le2 : goal.returns-then-arguments-le2

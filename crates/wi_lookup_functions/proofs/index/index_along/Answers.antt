@@ -1,6 +1,6 @@
 use Rattle.wi_lookup_functions.proofs.Words.{sym, ◌∙◌, ℤ, ap, rules, Ok, Err, to_z-of_z, w128, arguments_in, IsMissing, region_of, value_at, to_whole, index_along, nth_cell_along, Error, is_referred, region_is, Finds}
 use Rattle.wi_lookup_functions.proofs.Chains.{along, along_area, along_number}
-use Rattle.wi_lookup_functions.proofs.Endings.{ended, ends_so}
+use Rattle.wi_lookup_functions.proofs.NoValues.{ended, ends_so}
 use Rattle.wi_lookup_functions.proofs.index.index_along.Goals as goal
 
 pub returns-in_err-k : goal.returns-in_err-k

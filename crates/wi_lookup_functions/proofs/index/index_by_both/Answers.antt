@@ -1,6 +1,6 @@
 use Rattle.wi_lookup_functions.proofs.Words.{sym, ◌∙◌, ℤ, ◌≡◌, ap, rules, Ok, Err, to_z-of_z, w128, arguments_in, IsMissing, region_of, value_at, to_whole, index_by_both, nth_cell, Value, Error, is_referred, region_is, Finds}
 use Rattle.wi_lookup_functions.proofs.Chains.{both, both_area, both_column, both_row}
-use Rattle.wi_lookup_functions.proofs.Endings.{ended, ends_so}
+use Rattle.wi_lookup_functions.proofs.NoValues.{ended, ends_so}
 use Rattle.wi_lookup_functions.proofs.index.index_by_both.Goals as goal
 
 turned : (f : ℤ → ℤ → Value) (j i k l : ℤ) → i ≡ j → l ≡ k → f j k ≡ f i l

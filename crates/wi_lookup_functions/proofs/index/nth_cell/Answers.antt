@@ -1,5 +1,5 @@
 use Rattle.wi_lookup_functions.proofs.Words.{arith, ◌≡◌, ℕ, ◌<◌, ◌||◌, true, false, Ok, sym, ap, ◌∙◌, subst, ℤ, FitsSigned, rules, pos, int_lt, or_from, to_z-of_z, w128, common_steps, is_within, position_among, height, width}
-use Rattle.wi_lookup_functions.proofs.Endings.{nth_is, nth_no_row, nth_within}
+use Rattle.wi_lookup_functions.proofs.NoValues.{nth_is, nth_no_row, nth_within}
 use Rattle.wi_lookup_functions.proofs.index.nth_cell.Goals as goal
 
 pub returns : goal.returns

@@ -1,6 +1,6 @@
 use Rattle.wi_lookup_functions.proofs.Words.{◌≡◌, ◌==◌, false, arith, ℤ, rules, subst, to_z-of_z, w128, nat_tests, nth_cell, nth_cell_along, IsPlacedIn, height, width}
 use Rattle.std.proofs.Common.{pos}
-use Rattle.wi_lookup_functions.proofs.Endings.{in_one_column, in_one_row, placed_same}
+use Rattle.wi_lookup_functions.proofs.NoValues.{in_one_column, in_one_row, placed_same}
 use Rattle.wi_lookup_functions.proofs.index.nth_cell_along.Goals as goal
 
 pub returns-then-width-eq1 : goal.returns-then-width-eq1

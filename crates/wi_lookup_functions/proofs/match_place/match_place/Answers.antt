@@ -1,7 +1,7 @@
 use Rattle.wi_lookup_functions.proofs.Words.{Bor, Value, ◌≡◌, true, false, Ok, Err, map, subst, ok_or, arguments_in, IsMissing, region_of, value_or, to_number, match_value, cells_of, NotAvailable, Number, Error, IsMissingIn, is_line, position_by, is_referred, region_is, Places}
 use Rattle.wi_fraction.specs.Number as numbers
 use Rattle.wi_lookup_functions.proofs.Chains.{match_no_area, match_no_sought, match_no_type, match_off_line, match_on_line, sought_in}
-use Rattle.wi_lookup_functions.proofs.Endings.{placed, ends_so, placing_ended}
+use Rattle.wi_lookup_functions.proofs.NoValues.{placed, ends_so, placing_ended}
 use Rattle.wi_lookup_functions.proofs.match_place.match_place.Goals as goal
 
 pub returns-in_err-sought : goal.returns-in_err-sought

@@ -1,7 +1,7 @@
 use Rattle.wi_lookup_functions.proofs.Words.{Bor, Value, ◌≡◌, ◌<◌, true, Ok, Err, map, sym, ap, ◌∙◌, subst, arith, rules, ℕ, ℤ, Bool, to_z-of_z, w128, ok_or, arguments_in, IsMissing, region_of, value_at, to_whole, position_among, cells_of, is_within, NotAvailable, Error, line_count, line_width, look_up_by, IsMissingIn, position_by, is_referred, region_is, Finds}
 use Rattle.wi_lookup_functions.proofs.Axes.{along_is, along_within, asked, placed_along}
 use Rattle.wi_lookup_functions.proofs.Chains.{first_cells_in, no_area, no_number, no_order, no_place, no_sought, not_seen, order_in, seen, seen_along, sought_in}
-use Rattle.wi_lookup_functions.proofs.Endings.{ended, ends_so}
+use Rattle.wi_lookup_functions.proofs.NoValues.{ended, ends_so}
 use Rattle.wi_lookup_functions.proofs.FirstLines.{IsFirstLine, first_line}
 use Rattle.wi_lookup_functions.proofs.tables.look_up.Goals as goal
 

@@ -3,7 +3,7 @@
 ghost use Rattle.std.specs.Prelude.{◌≡◌, ◌≤◌, [], IfOk, false};
 ghost use Rattle.wi_scenarios.specs.State.{State, new_state, state_over};
 ghost use Rattle.wi_cli.specs.Outcome.{IsRun};
-ghost use Rattle.wi_cli.specs.Status.{ending_status};
+ghost use Rattle.wi_cli.specs.Status.{exit_status};
 
 use crate::fault::{RunFault, fault_status};
 use crate::runs::run;
@@ -16,23 +16,23 @@ use wi_store::Limits;
 
 /// How a program ends.
 #[derive(Clone, Copy)]
-pub struct Ending {
+pub struct Exit {
     /// Whether the script was run to its end.
     pub outcome: Result<(), RunFault>,
     /// The exit status.
     pub status: u8,
 }
 
-impl Ending {
-    pub(crate) fn new(outcome: Result<(), RunFault>) -> Ending
+impl Exit {
+    pub(crate) fn new(outcome: Result<(), RunFault>) -> Exit
         ensures outcome { result.outcome ≡ outcome }
-        ensures status { result.status ≡ ending_status outcome }
+        ensures status { result.status ≡ exit_status outcome }
     {
         let status = match &outcome {
             Ok(()) => 0,
             Err(fault) => fault_status(fault),
         };
-        Ending { outcome, status }
+        Exit { outcome, status }
     }
 }
 
@@ -65,7 +65,7 @@ pub fn run_new<R: Source, W: Sink>(
     keep: usize,
     reader: &mut R,
     writer: &mut W,
-) -> Ending
+) -> Exit
     requires keep { 1 ≤ keep }
     requires reads { R.has_failed reader.old ≡ false }
     requires writes { W.has_failed writer.old ≡ false }
@@ -74,12 +74,12 @@ pub fn run_new<R: Source, W: Sink>(
     ensures runs { (last : State)
         × IsRun R.remaining R.has_failed W.contents W.has_failed W.flushed result.outcome
         reader.old reader.new writer.old writer.new new_state last }
-    ensures status { result.status ≡ ending_status result.outcome }
+    ensures status { result.status ≡ exit_status result.outcome }
 {
     let Ok(mut book) = new_workbook(alloc, keep) else {
-        return Ending::new(Err(RunFault::Memory));
+        return Exit::new(Err(RunFault::Memory));
     };
     let outcome = run(alloc, reader, writer, &mut book);
     forget(book);
-    Ending::new(outcome)
+    Exit::new(outcome)
 }

@@ -1,5 +1,5 @@
 -- How a function ends at a step that fails, and from the parts of a function to the whole.
-use Rattle.wi_lookup_functions.proofs.Words.{◌≡◌, ℕ, ℤ, ◌+◌, ◌-◌, ◌<◌, ◌≤◌, ◌==◌, ◌||◌, Bool, true, false, cond, List, length, Option, Ok, Err, refl, sym, ap, ◌∙◌, subst, arith, pos, int_lt, nat_lt, IsErrAnd, unsigned_abs, Bor, or_from, eq-eqb, le-leb, lt-leb, length-map, Area, place, row_of, column_of, is_within, ErrorKind, BadValue, BadReference, Value, Number, Fault, row_of_place, column_of_place, column_within, within_from, argument_in, arguments_in, KnownAgrees, IsMissing, Argument, Region, region_of, value_or, value_at, whole_value, zero_number, no_error, cell_in, index_value, index_along, index_by_both, nth_cell, nth_cell_along, position_among, sought_for, ◌>>=◌, and_then, Ending, Error, Stopped, WhateverHeld, Finds, Places, IsPlacedIn, height, width}
+use Rattle.wi_lookup_functions.proofs.Words.{◌≡◌, ℕ, ℤ, ◌+◌, ◌-◌, ◌<◌, ◌≤◌, ◌==◌, ◌||◌, Bool, true, false, cond, List, length, Option, Ok, Err, refl, sym, ap, ◌∙◌, subst, arith, pos, int_lt, nat_lt, IsErrAnd, unsigned_abs, Bor, or_from, eq-eqb, le-leb, lt-leb, length-map, Area, place, row_of, column_of, is_within, ErrorKind, BadValue, BadReference, Value, Number, Fault, row_of_place, column_of_place, column_within, within_from, argument_in, arguments_in, KnownAgrees, IsMissing, Argument, Region, region_of, value_or, value_at, whole_value, zero_number, no_error, cell_in, index_value, index_along, index_by_both, nth_cell, nth_cell_along, position_among, sought_for, ◌>>=◌, and_then, NoValue, Error, Stopped, WhateverHeld, Finds, Places, IsPlacedIn, height, width}
 use Rattle.std.proofs.Common.{Result}
 use Rattle.wi_arguments.specs.declared.argument.Argument as given
 use Rattle.wi_lookup_functions.specs.Inner.Finding.{Agrees}
@@ -8,36 +8,36 @@ use Rattle.wi_lookup_functions.proofs.CellsByPlace.{cell_at}
 
 -- ---- at the exit of a `?`
 
-pub ends_so : {A : Type 0} (P : Result A (Ending ℕ) → Type 0) (r : Result A (Ending ℕ)) (h : Ending ℕ) → IsErrAnd r (λ y. y ≡ h) → P (Err h) → P r
+pub ends_so : {A : Type 0} (P : Result A (NoValue ℕ) → Type 0) (r : Result A (NoValue ℕ)) (h : NoValue ℕ) → IsErrAnd r (λ y. y ≡ h) → P (Err h) → P r
 ends_so P (Ok x) h k g = absurd k
-ends_so P (Err y) h k g = subst (λ (z : Ending ℕ). P (Err z)) (sym k) g
+ends_so P (Err y) h k g = subst (λ (z : NoValue ℕ). P (Err z)) (sym k) g
 
-pub passes_on : {A B C D : Type 0} (known : ℕ → Option Value) (P : ℕ → Type 0) (view : A → B) (other : C → D) (asked : (ℕ → Value) → Result B ErrorKind) (asks : (ℕ → Value) → Result D ErrorKind) (h : Ending ℕ) →
+pub passes_on : {A B C D : Type 0} (known : ℕ → Option Value) (P : ℕ → Type 0) (view : A → B) (other : C → D) (asked : (ℕ → Value) → Result B ErrorKind) (asks : (ℕ → Value) → Result D ErrorKind) (h : NoValue ℕ) →
     ((cells : ℕ → Value) (e : ErrorKind) → asked cells ≡ Err e → asks cells ≡ Err e) → Agrees {A = A} {B = B} known P view asked (Err h) → Agrees {A = C} {B = D} known P other asks (Err h)
 passes_on known P view other asked asks (Error e) k g = λ cells a. k cells e (g cells a)
 passes_on known P view other asked asks (Stopped c) k g = g
 
-pub ended : {A B : Type 0} (known : ℕ → Option Value) (args : List given.Argument) (f : List Argument → Value) (P : ℕ → Type 0) (view : A → B) (asked : (ℕ → Value) → Result B ErrorKind) (h : Ending ℕ) →
+pub ended : {A B : Type 0} (known : ℕ → Option Value) (args : List given.Argument) (f : List Argument → Value) (P : ℕ → Type 0) (view : A → B) (asked : (ℕ → Value) → Result B ErrorKind) (h : NoValue ℕ) →
     ((c : ℕ) → P c → IsMissing known args c) → ((cells : ℕ → Value) → KnownAgrees known cells → (e : ErrorKind) → asked cells ≡ Err e → f (arguments_in cells args) ≡ Fault e) →
     Agrees {A = A} {B = B} known P view asked (Err h) → Finds known args f (Err h)
 ended known args f P view asked (Error e) m k g = λ cells a. k cells a e (g cells a)
 ended known args f P view asked (Stopped c) m k g = m c g
 
-pub placing_ended : {A B : Type 0} (known : ℕ → Option Value) (args : List given.Argument) (f : List Argument → Value) (P : ℕ → Type 0) (view : A → B) (asked : (ℕ → Value) → Result B ErrorKind) (h : Ending ℕ) →
+pub placing_ended : {A B : Type 0} (known : ℕ → Option Value) (args : List given.Argument) (f : List Argument → Value) (P : ℕ → Type 0) (view : A → B) (asked : (ℕ → Value) → Result B ErrorKind) (h : NoValue ℕ) →
     ((c : ℕ) → P c → IsMissing known args c) → ((cells : ℕ → Value) → KnownAgrees known cells → (e : ErrorKind) → asked cells ≡ Err e → f (arguments_in cells args) ≡ Fault e) →
     Agrees {A = A} {B = B} known P view asked (Err h) → Places known args f (Err h)
 placing_ended known args f P view asked (Error e) m k g = λ cells a. k cells a e (g cells a)
 placing_ended known args f P view asked (Stopped c) m k g = m c g
 
 -- from a place that is given to the function's
-pub placed : (known : ℕ → Option Value) (args : List given.Argument) (f : List Argument → Value) (P : ℕ → Type 0) (asked : (ℕ → Value) → Result ℕ ErrorKind) (r : Result ℕ (Ending ℕ)) →
+pub placed : (known : ℕ → Option Value) (args : List given.Argument) (f : List Argument → Value) (P : ℕ → Type 0) (asked : (ℕ → Value) → Result ℕ ErrorKind) (r : Result ℕ (NoValue ℕ)) →
     ((c : ℕ) → P c → IsMissing known args c) → ((cells : ℕ → Value) → KnownAgrees known cells → f (arguments_in cells args) ≡ (asked cells >>= (λ i. whole_value (i + 1)))) →
     Agrees {A = ℕ} {B = ℕ} known P (λ i. i) asked r → Places known args f r
 placed known args f P asked (Ok i) m k g = λ cells a. k cells a ∙ ap (λ (o : Result ℕ ErrorKind). o >>= (λ i. whole_value (i + 1))) (g cells a)
 placed known args f P asked (Err (Error e)) m k g = λ cells a. k cells a ∙ ap (λ (o : Result ℕ ErrorKind). o >>= (λ i. whole_value (i + 1))) (g cells a)
 placed known args f P asked (Err (Stopped c)) m k g = m c g
 
-pub finds_same : (known : ℕ → Option Value) (args : List given.Argument) (f g : List Argument → Value) (r : Result ℕ (Ending ℕ)) → ((cells : ℕ → Value) → g (arguments_in cells args) ≡ f (arguments_in cells args)) → Finds known args f r → Finds known args g r
+pub finds_same : (known : ℕ → Option Value) (args : List given.Argument) (f g : List Argument → Value) (r : Result ℕ (NoValue ℕ)) → ((cells : ℕ → Value) → g (arguments_in cells args) ≡ f (arguments_in cells args)) → Finds known args f r → Finds known args g r
 finds_same known args f g (Ok c) e h = (λ cells a. e cells ∙ h.0 cells a, h.1)
 finds_same known args f g (Err (Error x)) e h = λ cells a. e cells ∙ h cells a
 finds_same known args f g (Err (Stopped c)) e h = h
@@ -48,7 +48,7 @@ placed_same r f g (Err x) e h = λ cells. e cells ∙ h cells
 
 -- ---- what is taken for a number or a truth value
 
-pub taken_halts : {B : Type 0} (known : ℕ → Option Value) (args : List given.Argument) (i : ℕ) (default : Value) (convert : Value → Result B ErrorKind) (r : Result B (Ending ℕ)) (h : Ending ℕ) →
+pub taken_halts : {B : Type 0} (known : ℕ → Option Value) (args : List given.Argument) (i : ℕ) (default : Value) (convert : Value → Result B ErrorKind) (r : Result B (NoValue ℕ)) (h : NoValue ℕ) →
     ((e : ErrorKind) → convert (Fault e) ≡ Err e) → IsErrAnd r (λ y. y ≡ h) → Agrees {A = Bor Value} {B = Value} known (IsMissing known args) (λ v. v.now) (λ cells. no_error (value_or default (arguments_in cells args) i)) (Err h) →
     Agrees {A = B} {B = B} known (IsMissing known args) (λ x. x) (λ cells. convert (value_or default (arguments_in cells args) i)) r
 taken_halts {B} known args i default convert r h c k g =
@@ -56,14 +56,14 @@ taken_halts {B} known args i default convert r h c k g =
     (passes_on {A = Bor Value} {B = Value} {C = B} {D = B} known (IsMissing known args) (λ v. v.now) (λ x. x) (λ cells. no_error (value_or default (arguments_in cells args) i)) (λ cells. convert (value_or default (arguments_in cells args) i)) h
     (λ cells e q. ap convert (fault (value_or default (arguments_in cells args) i) e q) ∙ c e) g)
 
-pub taken_fails : {B : Type 0} (known : ℕ → Option Value) (args : List given.Argument) (i : ℕ) (default : Value) (convert : Value → Result B ErrorKind) (r : Result B (Ending ℕ)) (v : Value) (e : ErrorKind) →
+pub taken_fails : {B : Type 0} (known : ℕ → Option Value) (args : List given.Argument) (i : ℕ) (default : Value) (convert : Value → Result B ErrorKind) (r : Result B (NoValue ℕ)) (v : Value) (e : ErrorKind) →
     IsErrAnd r (λ y. y ≡ Error e) → WhateverHeld known (λ cells. no_error (value_or default (arguments_in cells args) i) ≡ Ok v) → Err e ≡ convert v →
     Agrees {A = B} {B = B} known (IsMissing known args) (λ x. x) (λ cells. convert (value_or default (arguments_in cells args) i)) r
 taken_fails {B} known args i default convert r v e k g t =
     ends_so (Agrees {A = B} {B = B} known (IsMissing known args) (λ x. x) (λ cells. convert (value_or default (arguments_in cells args) i))) r (Error e) k
     (λ cells a. ap convert (itself (value_or default (arguments_in cells args) i) v (g cells a)) ∙ sym t)
 
-pub sought_halts : (known : ℕ → Option Value) (args : List given.Argument) (i : ℕ) (zero : Value) (r : Result (Bor Value) (Ending ℕ)) (h : Ending ℕ) →
+pub sought_halts : (known : ℕ → Option Value) (args : List given.Argument) (i : ℕ) (zero : Value) (r : Result (Bor Value) (NoValue ℕ)) (h : NoValue ℕ) →
     zero ≡ Number zero_number → IsErrAnd r (λ y. y ≡ h) → Agrees {A = Bor Value} {B = Value} known (IsMissing known args) (λ v. v.now) (λ cells. no_error (value_or zero (arguments_in cells args) i)) (Err h) →
     Agrees {A = Bor Value} {B = Value} known (IsMissing known args) (λ v. v.now) (λ cells. and_then (λ v. Ok (sought_for v)) (no_error (value_at (arguments_in cells args) i))) r
 sought_halts known args i zero r h z k g =

@@ -1,5 +1,5 @@
 use Rattle.wi_cli.proofs.Vocabulary.{rules}
-use Rattle.wi_cli.proofs.ending.Ending.new.Goals as goal
+use Rattle.wi_cli.proofs.exit.Exit.new.Goals as goal
 
 pub returns-in-Err-clause-status : goal.returns-in-Err-clause-status
 returns-in-Err-clause-status c = search rules

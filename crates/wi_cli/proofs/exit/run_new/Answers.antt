@@ -1,5 +1,5 @@
-use Rattle.wi_cli.proofs.EndingLemmas.{not_begun, ends_new}
-use Rattle.wi_cli.proofs.ending.run_new.Goals as goal
+use Rattle.wi_cli.proofs.ExitLemmas.{not_begun, ends_new}
+use Rattle.wi_cli.proofs.exit.run_new.Goals as goal
 
 pub returns-in_default-clause-runs : goal.returns-in_default-clause-runs
 returns-in_default-clause-runs g c = not_begun _ _ _ _ _ _ _ _ c.new.ensures.outcome
