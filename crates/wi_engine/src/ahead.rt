@@ -9,7 +9,7 @@ ghost use Rattle.wi_engine.specs.declared.frame.Waiting.TheVariants as waiting;
 
 use crate::asked::remembered_value;
 use crate::content_ref::formula_in;
-use crate::frame::{Asked, Frame, Unvalued, Waiting};
+use crate::frame::{CellStep, Frame, Unvalued, Waiting};
 use crate::memo::Memo;
 use crate::pool::Pool;
 use std::alloc::AllocError;
@@ -44,11 +44,11 @@ pub(crate) fn look_ahead<'a, M: Memo>(
     };
     let alloc = pool.allocator();
     match remembered_value(alloc, &frame.key.world, at, formula, memo)? {
-        Asked::Known(value) => {
+        CellStep::Ready(value) => {
             frame.found.add_cell(at, value, pool)?;
             Ok(None)
         }
-        Asked::Unvalued(first) => {
+        CellStep::First(first) => {
             frame.waiting = Waiting::Cells(at, Vec::new(alloc));
             Ok(Some(first))
         }

@@ -101,23 +101,23 @@ pub struct Unvalued<'a> {
 
 /// What a cell shows under replacements, as far as it is there.
 #[derive(Drop)]
-pub enum Asked<'a> {
-    Known(Value),
-    Unvalued(Unvalued<'a>),
+pub enum CellStep<'a> {
+    Ready(Value),
+    First(Unvalued<'a>),
 }
 
 /// Replacements with those of a what-if put in, as far as its inputs' values are there.
 #[derive(Drop)]
-pub enum Inputs<'a> {
-    Known(World),
+pub enum WorldStep<'a> {
+    Ready(World),
     /// It has to be evaluated first.
-    Unvalued(Unvalued<'a>),
+    First(Unvalued<'a>),
 }
 
 /// How far a frame has come.
 #[derive(Drop)]
-pub enum Advance<'a> {
-    Done(Value),
+pub enum FrameStep<'a> {
+    Ready(Value),
     /// It has to be evaluated first.
-    Unvalued(Unvalued<'a>),
+    First(Unvalued<'a>),
 }

@@ -17,43 +17,43 @@ pub value_now-requires-clause-read : goal.value_now-requires-clause-read
 value_now-requires-clause-read g c =
     may_read_what_if c.args.store.now.sheet (g.M.Memo.state c.args.memo.now) (g.M.Memo.state c.world_of_what_if.new.memo) c.args.frame.now.key c.args.at c.args.pairs c.requires.memo c.in_ok-first.ensures.same c.requires.frame.key c.requires.awaits.1
 
-pub returns-in-Unvalued-clause-next : goal.returns-in-Unvalued-clause-next
-returns-in-Unvalued-clause-next g c =
+pub returns-in-First-clause-next : goal.returns-in-First-clause-next
+returns-in-First-clause-next g c =
     let next =
-    next_input c.args.store.now.sheet (g.M.Memo.state c.args.memo.now) c.args.frame.now.key c.in-Unvalued.first c.args.at c.args.pairs c.deref.result.now c.requires.awaits.1 c.deref.ensures.value (rw c.in-Unvalued.is at c.in_ok-first.ensures.inputs) in
+    next_input c.args.store.now.sheet (g.M.Memo.state c.args.memo.now) c.args.frame.now.key c.in-First.first c.args.at c.args.pairs c.deref.result.now c.requires.awaits.1 c.deref.ensures.value (rw c.in-First.is at c.in_ok-first.ensures.inputs) in
     record { next = next; awaited = tt }
 
-pub returns-in-Unvalued-2-clause-next : goal.returns-in-Unvalued-2-clause-next
-returns-in-Unvalued-2-clause-next g c =
-    let world = rw c.in-Known.is at c.in_ok-first.ensures.inputs in
+pub returns-in-First-2-clause-next : goal.returns-in-First-2-clause-next
+returns-in-First-2-clause-next g c =
+    let world = rw c.in-Ready.is at c.in_ok-first.ensures.inputs in
     let next =
-    next_inner c.args.store.now.sheet (g.M.Memo.state c.args.memo.now) (g.M.Memo.state c.world_of_what_if.new.memo) c.args.frame.now.key c.in-Unvalued-2.first c.args.at c.args.pairs c.deref.result.now _
-    c.in_ok-first.ensures.same c.requires.awaits.1 c.deref.ensures.value world (rw c.in-Unvalued-2.is at c.in_ok-first-in-Known.ensures.asked) in
+    next_inner c.args.store.now.sheet (g.M.Memo.state c.args.memo.now) (g.M.Memo.state c.world_of_what_if.new.memo) c.args.frame.now.key c.in-First-2.first c.args.at c.args.pairs c.deref.result.now _
+    c.in_ok-first.ensures.same c.requires.awaits.1 c.deref.ensures.value world (rw c.in-First-2.is at c.in_ok-first-in-Ready.ensures.asked) in
     record { next = next; awaited = tt }
 
 -- ---- what is left
 
-pub returns-in-Unvalued-clause-steps : goal.returns-in-Unvalued-clause-steps
-returns-in-Unvalued-clause-steps g c = steps_wait (steps_none c.requires.frame refl) c.in_ok-first.ensures.same c.requires.waiting (record { key = refl; formula = refl; found = refl; awaits = λ d. c.requires.awaits }) refl
+pub returns-in-First-clause-steps : goal.returns-in-First-clause-steps
+returns-in-First-clause-steps g c = steps_wait (steps_none c.requires.frame refl) c.in_ok-first.ensures.same c.requires.waiting (record { key = refl; formula = refl; found = refl; awaits = λ d. c.requires.awaits }) refl
 
-pub returns-in-Unvalued-2-clause-steps : goal.returns-in-Unvalued-2-clause-steps
-returns-in-Unvalued-2-clause-steps g c =
-    steps_wait (steps_none c.requires.frame c.in_ok-first.ensures.same) c.in_ok-first-in-Known.ensures.same c.requires.waiting (record { key = refl; formula = refl; found = refl; awaits = λ d. c.requires.awaits }) refl
+pub returns-in-First-2-clause-steps : goal.returns-in-First-2-clause-steps
+returns-in-First-2-clause-steps g c =
+    steps_wait (steps_none c.requires.frame c.in_ok-first.ensures.same) c.in_ok-first-in-Ready.ensures.same c.requires.waiting (record { key = refl; formula = refl; found = refl; awaits = λ d. c.requires.awaits }) refl
 
 pub returns-clause-steps : goal.returns-clause-steps
 returns-clause-steps g c =
-    let world = rw c.in-Known.is at c.in_ok-first.ensures.inputs in
-    let shown = rw c.in-Known-2.is at c.in_ok-first-in-Known.ensures.asked in
-    let x : FoundWhatIf = record { at = c.args.at; pairs = c.args.pairs; value = c.in-Known-2.value } in
-    steps_what_if {x = x} c.requires.memo c.in_ok-first.ensures.same c.in_ok-first-in-Known.ensures.same c.requires.frame c.requires.waiting refl refl c.requires.waiting c.in_ok-add_what_if-in-Known-2.ensures c.requires.awaits.0 c.requires.awaits.1
+    let world = rw c.in-Ready.is at c.in_ok-first.ensures.inputs in
+    let shown = rw c.in-Ready-2.is at c.in_ok-first-in-Ready.ensures.asked in
+    let x : FoundWhatIf = record { at = c.args.at; pairs = c.args.pairs; value = c.in-Ready-2.value } in
+    steps_what_if {x = x} c.requires.memo c.in_ok-first.ensures.same c.in_ok-first-in-Ready.ensures.same c.requires.frame c.requires.waiting refl refl c.requires.waiting c.in_ok-add_what_if-in-Ready-2.ensures c.requires.awaits.0 c.requires.awaits.1
     c.deref.ensures.value world c.in_ok-first.ensures.order shown
 
 pub returns-in_err-first-clause-steps : goal.returns-in_err-first-clause-steps
 returns-in_err-first-clause-steps g c = steps_err c.from_residual.result c.from_residual.ensures.0 c.world_of_what_if.ensures.same refl
 
-pub returns-in_err-first-in-Known-clause-steps : goal.returns-in_err-first-in-Known-clause-steps
-returns-in_err-first-in-Known-clause-steps g c = steps_err c.from_residual-in_err-first-in-Known.result c.from_residual-in_err-first-in-Known.ensures.0 (c.value_now.ensures.same ∙ c.in_ok-first.ensures.same) refl
+pub returns-in_err-first-in-Ready-clause-steps : goal.returns-in_err-first-in-Ready-clause-steps
+returns-in_err-first-in-Ready-clause-steps g c = steps_err c.from_residual-in_err-first-in-Ready.result c.from_residual-in_err-first-in-Ready.ensures.0 (c.value_now.ensures.same ∙ c.in_ok-first.ensures.same) refl
 
-pub returns-in_err-add_what_if-in-Known-2-clause-steps : goal.returns-in_err-add_what_if-in-Known-2-clause-steps
-returns-in_err-add_what_if-in-Known-2-clause-steps g c =
-    steps_err c.from_residual-in_err-add_what_if-in-Known-2.result c.from_residual-in_err-add_what_if-in-Known-2.ensures.0 (c.in_ok-first-in-Known.ensures.same ∙ c.in_ok-first.ensures.same) refl
+pub returns-in_err-add_what_if-in-Ready-2-clause-steps : goal.returns-in_err-add_what_if-in-Ready-2-clause-steps
+returns-in_err-add_what_if-in-Ready-2-clause-steps g c =
+    steps_err c.from_residual-in_err-add_what_if-in-Ready-2.result c.from_residual-in_err-add_what_if-in-Ready-2.ensures.0 (c.in_ok-first-in-Ready.ensures.same ∙ c.in_ok-first.ensures.same) refl

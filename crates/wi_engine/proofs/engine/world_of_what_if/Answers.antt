@@ -9,18 +9,18 @@ loop-pair-preserved g c =
     let m = g.M.Memo.state c.args.memo.now in
     let w = c.args.world.now in
     let i = c.loop-pair.invariant in
-    let shown = rw c.in-Known.is at c.in_ok-value.ensures.asked in
+    let shown = rw c.in-Ready.is at c.in_ok-value.ensures.asked in
     let P : Pair → Type 0 = λ p. IsSettled s m.kept w p.replacement.at in
     record {
-      inputs = one_more_input s w c.args.pairs.now c.loop-pair.pair-index c.pair-item.result c.in-Known.value c.loop-pair.inputs.items _ c.loop-pair-test.true c.pair-item.is i.inputs (search shown.value) (search rules);
+      inputs = one_more_input s w c.args.pairs.now c.loop-pair.pair-index c.pair-item.result c.in-Ready.value c.loop-pair.inputs.items _ c.loop-pair-test.true c.pair-item.is i.inputs (search shown.value) (search rules);
       settled = λ whole. All-more P c.args.pairs.now c.loop-pair.pair-index c.pair-item.result c.loop-pair-test.true (i.settled whole) (subst P c.pair-item.is (settled_now s m (g.M.Memo.state c.loop-pair.memo) w c.pair-item.result.replacement.at c.requires.memo i.same whole shown.easy));
       same = c.in_ok-value.ensures.same ∙ i.same;
     }
 
-pub returns-in-Unvalued-clause-inputs : goal.returns-in-Unvalued-clause-inputs
-returns-in-Unvalued-clause-inputs g c =
-    input_unvalued c.args.store.now.sheet (g.M.Memo.state c.args.memo.now) (g.M.Memo.state c.loop-pair.memo) c.args.world.now c.args.pairs.now c.loop-pair.pair-index c.pair-item.result c.in-Unvalued.input
-    c.loop-pair-test.true c.pair-item.is c.loop-pair.invariant.same (rw c.in-Unvalued.is at c.in_ok-value.ensures.asked)
+pub returns-in-First-clause-inputs : goal.returns-in-First-clause-inputs
+returns-in-First-clause-inputs g c =
+    input_unvalued c.args.store.now.sheet (g.M.Memo.state c.args.memo.now) (g.M.Memo.state c.loop-pair.memo) c.args.world.now c.args.pairs.now c.loop-pair.pair-index c.pair-item.result c.in-First.input
+    c.loop-pair-test.true c.pair-item.is c.loop-pair.invariant.same (rw c.in-First.is at c.in_ok-value.ensures.asked)
 
 pub returns-clause-inputs : goal.returns-clause-inputs
 returns-clause-inputs g c =

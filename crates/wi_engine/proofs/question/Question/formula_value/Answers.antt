@@ -18,25 +18,25 @@ run-requires-clause-memo g c = subst (λ (x : MemoState). IsMemoOf c.args.store.
 
 pub run-requires-clause-key : goal.run-requires-clause-key
 run-requires-clause-key g c =
-    let there = rw (c.in-Unvalued.is, c.requires.memo.sheet) at c.in_ok-remembered.ensures.asked in
-    subst (λ (x : MemoState). IsUnvaluedKey c.args.store.now.sheet x c.in-Unvalued.cell.key) (sym c.in_ok-remembered.ensures.same) there.unvalued.to_find
+    let there = rw (c.in-First.is, c.requires.memo.sheet) at c.in_ok-remembered.ensures.asked in
+    subst (λ (x : MemoState). IsUnvaluedKey c.args.store.now.sheet x c.in-First.cell.key) (sym c.in_ok-remembered.ensures.same) there.unvalued.to_find
 
 pub run-requires-clause-formula : goal.run-requires-clause-formula
 run-requires-clause-formula g c =
-    let there = rw (c.in-Unvalued.is, c.requires.memo.sheet) at c.in_ok-remembered.ensures.asked in
+    let there = rw (c.in-First.is, c.requires.memo.sheet) at c.in_ok-remembered.ensures.asked in
     there.stands
 
 -- ---- a value that is remembered, one that has to be found, and where memory runs out
 
-pub returns-in-Known : goal.returns-in-Known
-returns-in-Known g c =
-    let shown = rw (c.in-Known.is, c.requires.memo.sheet) at c.in_ok-remembered.ensures.asked in
+pub returns-in-Ready : goal.returns-in-Ready
+returns-in-Ready g c =
+    let shown = rw (c.in-Ready.is, c.requires.memo.sheet) at c.in_ok-remembered.ensures.asked in
     let there = values_known {c = c.args.self.now.meter} c.requires.memo c.in_ok-remembered.ensures.same shown in
     search there
 
-pub returns-in-Unvalued : goal.returns-in-Unvalued
-returns-in-Unvalued g c =
-    let there = rw (c.in-Unvalued.is, c.requires.memo.sheet) at c.in_ok-remembered.ensures.asked in
+pub returns-in-First : goal.returns-in-First
+returns-in-First g c =
+    let there = rw (c.in-First.is, c.requires.memo.sheet) at c.in_ok-remembered.ensures.asked in
     let r = c.run.ensures in
     values_then there.unvalued c.run.result c.requires.memo c.in_ok-remembered.ensures.same r.value r.spends r.kept r.settled
 

@@ -19,18 +19,18 @@ advance-requires-clause-memo g c = c.frames.invariant.going.running.memo
 pub advance-requires-clause-frame : goal.advance-requires-clause-frame
 advance-requires-clause-frame g c = c.frames.invariant.going.running.begun.frame
 
-pub frames-smaller-in-Unvalued : goal.frames-smaller-in-Unvalued
-frames-smaller-in-Unvalued g c =
+pub frames-smaller-in-First : goal.frames-smaller-in-First
+frames-smaller-in-First g c =
     let a = c.in_ok-next.ensures in
-    deeper_smaller c.frames.invariant.going.running (g.M.Memo.state c.advance.new.memo) c.push_reserved.new.frame a.steps.same (next_before a.steps.key (rw c.in-Unvalued.is at a.gives).0) c.push_reserved.ensures.begins.key
+    deeper_smaller c.frames.invariant.going.running (g.M.Memo.state c.advance.new.memo) c.push_reserved.new.frame a.steps.same (next_before a.steps.key (rw c.in-First.is at a.gives).0) c.push_reserved.ensures.begins.key
 
-pub frames-preserved-in-Unvalued : goal.frames-preserved-in-Unvalued
-frames-preserved-in-Unvalued g c =
+pub frames-preserved-in-First : goal.frames-preserved-in-First
+frames-preserved-in-First g c =
     let s = c.args.store.now.sheet in
     let n = c.push_reserved.ensures.begins in
     let a = c.in_ok-next.ensures in
-    let u = rw c.in-Unvalued.is at a.gives in
-    let turn : GoesDeeper s (g.M.Memo.state c.frames.self.memo) c.frames.self.meter c.advance.new.meter c.frames.frame c.advance.new.frame c.push_reserved.new.frame c.in-Unvalued.next.key = record {
+    let u = rw c.in-First.is at a.gives in
+    let turn : GoesDeeper s (g.M.Memo.state c.frames.self.memo) c.frames.self.meter c.advance.new.meter c.frames.frame c.advance.new.frame c.push_reserved.new.frame c.in-First.next.key = record {
       steps = rw a.steps.same at a.steps;
       rises = a.counts.rises;
       evaluations = u.1;
@@ -42,7 +42,7 @@ frames-preserved-in-Unvalued g c =
     rw a.steps.same (over_deeper c.frames.invariant turn more)
 
 pub push_reserved-requires : goal.push_reserved-requires
-push_reserved-requires g c = c.in_ok-reserve-in-Unvalued.ensures.space
+push_reserved-requires g c = c.in_ok-reserve-in-First.ensures.space
 
 pub take_in-requires-clause-awaits : goal.take_in-requires-clause-awaits
 take_in-requires-clause-awaits g c = below_awaits (over_below c.pop.new.frame c.frames.invariant c.in-Some.ensures.frames)
@@ -52,13 +52,13 @@ take_in-requires-clause-awaited g c = rw (c.in-Some.ensures.key, c.in_ok-next.en
 
 pub take_in-requires-clause-right : goal.take_in-requires-clause-right
 take_in-requires-clause-right g c =
-    rw (c.in-Some.ensures.key, c.in_ok-next.ensures.steps.key) (rw c.in-Done.is at c.in_ok-next.ensures.gives).0.value
+    rw (c.in-Some.ensures.key, c.in_ok-next.ensures.steps.key) (rw c.in-Ready.is at c.in_ok-next.ensures.gives).0.value
 
 pub frames-smaller : goal.frames-smaller
 frames-smaller g c =
     let a = c.in_ok-next.ensures in
     let k = c.in_ok-remember-in-Some.ensures in
-    let turn = comes_back a.steps.same (c.in-Some.ensures.key ∙ a.steps.key) k.keeps k.found (rw c.in-Done.is at a.gives) a.counts in
+    let turn = comes_back a.steps.same (c.in-Some.ensures.key ∙ a.steps.key) k.keeps k.found (rw c.in-Ready.is at a.gives) a.counts in
     back_smaller c.frames.invariant.going.running (g.M.Memo.state c.remember.new.self) c.take_in.new.frame turn.found.found c.requires.key.key.open_cell c.requires.key.key.formula
 
 pub frames-preserved : goal.frames-preserved
@@ -66,7 +66,7 @@ frames-preserved g c =
     let a = c.in_ok-next.ensures in
     let k = c.in_ok-remember-in-Some.ensures in
     let key = c.in-Some.ensures.key ∙ a.steps.key in
-    let turn = comes_back a.steps.same key k.keeps k.found (rw c.in-Done.is at a.gives) a.counts in
+    let turn = comes_back a.steps.same key k.keeps k.found (rw c.in-Ready.is at a.gives) a.counts in
     over_back (over_below c.pop.new.frame c.frames.invariant c.in-Some.ensures.frames) turn (rw key at c.in_ok-take_in-in-Some.ensures)
 
 -- ---- what is asked of the memory
@@ -81,7 +81,7 @@ keep-requires-clause-open_cell g c =
 
 pub keep-requires-clause-right : goal.keep-requires-clause-right
 keep-requires-clause-right g c =
-    rw (c.retire-root.ensures, c.in-None.ensures.key, c.in_ok-next.ensures.steps.key, c.in_ok-next.ensures.steps.same, c.frames.invariant.going.running.memo.sheet) (rw c.in-Done.is at c.in_ok-next.ensures.gives).0.value
+    rw (c.retire-root.ensures, c.in-None.ensures.key, c.in_ok-next.ensures.steps.key, c.in_ok-next.ensures.steps.same, c.frames.invariant.going.running.memo.sheet) (rw c.in-Ready.is at c.in_ok-next.ensures.gives).0.value
 
 pub remember-requires-clause-generation : goal.remember-requires-clause-generation
 remember-requires-clause-generation g c =
@@ -93,27 +93,27 @@ remember-requires-clause-open_cell g c =
 
 pub remember-requires-clause-right : goal.remember-requires-clause-right
 remember-requires-clause-right g c =
-    rw (c.in-Some.ensures.key, c.in_ok-next.ensures.steps.key, c.in_ok-next.ensures.steps.same, c.frames.invariant.going.running.memo.sheet) (rw c.in-Done.is at c.in_ok-next.ensures.gives).0.value
+    rw (c.in-Some.ensures.key, c.in_ok-next.ensures.steps.key, c.in_ok-next.ensures.steps.same, c.frames.invariant.going.running.memo.sheet) (rw c.in-Ready.is at c.in_ok-next.ensures.gives).0.value
 
 -- ---- the end, where the root's value is kept
 
 pub returns-in-None-clause-value : goal.returns-in-None-clause-value
 returns-in-None-clause-value g c =
     let going = over_root c.frames.invariant c.in-None.ensures.frames in
-    run_value c.args.key going.running (c.in_ok-shown-in-None.ensures ∙ (rw c.in-Done.is at c.in_ok-next.ensures.gives).0.value)
+    run_value c.args.key going.running (c.in_ok-shown-in-None.ensures ∙ (rw c.in-Ready.is at c.in_ok-next.ensures.gives).0.value)
 
 pub returns-in-None-clause-spends : goal.returns-in-None-clause-spends
 returns-in-None-clause-spends g c =
     let a = c.in_ok-next.ensures in
     let k = c.in_ok-keep-in-None.ensures in
-    let turn = comes_back a.steps.same (c.retire-root.ensures ∙ ap (λ (f : Frame). f.key) c.in-None.ensures.key ∙ a.steps.key) k.keeps k.found (rw c.in-Done.is at a.gives) a.counts in
+    let turn = comes_back a.steps.same (c.retire-root.ensures ∙ ap (λ (f : Frame). f.key) c.in-None.ensures.key ∙ a.steps.key) k.keeps k.found (rw c.in-Ready.is at a.gives) a.counts in
     going_ends (over_root c.frames.invariant c.in-None.ensures.frames) turn
 
 pub returns-in-None-clause-kept : goal.returns-in-None-clause-kept
 returns-in-None-clause-kept g c =
     let a = c.in_ok-next.ensures in
     let k = c.in_ok-keep-in-None.ensures in
-    let turn = comes_back a.steps.same (c.retire-root.ensures ∙ ap (λ (f : Frame). f.key) c.in-None.ensures.key ∙ a.steps.key) k.keeps k.found (rw c.in-Done.is at a.gives) a.counts in
+    let turn = comes_back a.steps.same (c.retire-root.ensures ∙ ap (λ (f : Frame). f.key) c.in-None.ensures.key ∙ a.steps.key) k.keeps k.found (rw c.in-Ready.is at a.gives) a.counts in
     let key = c.retire-root.ensures ∙ ap (λ (f : Frame). f.key) c.in-None.ensures.key ∙ a.steps.key in
     root_there (over_root c.frames.invariant c.in-None.ensures.frames) turn (rw (a.steps.same, key) at k.there)
 
@@ -121,7 +121,7 @@ pub returns-in-None-clause-settled : goal.returns-in-None-clause-settled
 returns-in-None-clause-settled g c =
     let a = c.in_ok-next.ensures in
     let k = c.in_ok-keep-in-None.ensures in
-    let turn = comes_back a.steps.same (c.retire-root.ensures ∙ ap (λ (f : Frame). f.key) c.in-None.ensures.key ∙ a.steps.key) k.keeps k.found (rw c.in-Done.is at a.gives) a.counts in
+    let turn = comes_back a.steps.same (c.retire-root.ensures ∙ ap (λ (f : Frame). f.key) c.in-None.ensures.key ∙ a.steps.key) k.keeps k.found (rw c.in-Ready.is at a.gives) a.counts in
     root_kept (over_root c.frames.invariant c.in-None.ensures.frames) turn
 
 -- ---- where memory runs out
@@ -130,9 +130,9 @@ pub returns-in_err-next-clause-spends : goal.returns-in_err-next-clause-spends
 returns-in_err-next-clause-spends g c =
     going_stops c.frames.invariant.going (turn_same c.frames.invariant.going.running.memo c.in_err-next.ensures.steps.same (counts_less c.in_err-next.ensures.counts)) c.from_residual.result c.from_residual.ensures.0
 
-pub returns-in_err-reserve-in-Unvalued-clause-spends : goal.returns-in_err-reserve-in-Unvalued-clause-spends
-returns-in_err-reserve-in-Unvalued-clause-spends g c =
-    going_stops c.frames.invariant.going (turn_same c.frames.invariant.going.running.memo c.in_ok-next.ensures.steps.same c.in_ok-next.ensures.counts) c.from_residual-in_err-reserve-in-Unvalued.result c.from_residual-in_err-reserve-in-Unvalued.ensures.0
+pub returns-in_err-reserve-in-First-clause-spends : goal.returns-in_err-reserve-in-First-clause-spends
+returns-in_err-reserve-in-First-clause-spends g c =
+    going_stops c.frames.invariant.going (turn_same c.frames.invariant.going.running.memo c.in_ok-next.ensures.steps.same c.in_ok-next.ensures.counts) c.from_residual-in_err-reserve-in-First.result c.from_residual-in_err-reserve-in-First.ensures.0
 
 pub returns-in_err-shown-in-None-clause-spends : goal.returns-in_err-shown-in-None-clause-spends
 returns-in_err-shown-in-None-clause-spends g c =
@@ -146,12 +146,12 @@ pub returns-in_err-remember-in-Some-clause-spends : goal.returns-in_err-remember
 returns-in_err-remember-in-Some-clause-spends g c =
     let a = c.in_ok-next.ensures in
     let i = c.frames.invariant.going in
-    let turn = turn_kept i.running.memo a.steps.same (c.in-Some.ensures.key ∙ a.steps.key) (rw c.in-Done.is at a.gives) c.in_err-remember-in-Some.ensures.keeps a.counts in
+    let turn = turn_kept i.running.memo a.steps.same (c.in-Some.ensures.key ∙ a.steps.key) (rw c.in-Ready.is at a.gives) c.in_err-remember-in-Some.ensures.keeps a.counts in
     going_stops i turn c.from_residual-in_err-remember-in-Some.result c.from_residual-in_err-remember-in-Some.ensures.0
 
 pub returns-in_err-keep-in-None-clause-spends : goal.returns-in_err-keep-in-None-clause-spends
 returns-in_err-keep-in-None-clause-spends g c =
     let a = c.in_ok-next.ensures in
     let i = c.frames.invariant.going in
-    let turn = turn_kept i.running.memo a.steps.same (c.retire-root.ensures ∙ ap (λ (f : Frame). f.key) c.in-None.ensures.key ∙ a.steps.key) (rw c.in-Done.is at a.gives) c.in_err-keep-in-None.ensures.keeps a.counts in
+    let turn = turn_kept i.running.memo a.steps.same (c.retire-root.ensures ∙ ap (λ (f : Frame). f.key) c.in-None.ensures.key ∙ a.steps.key) (rw c.in-Ready.is at a.gives) c.in_err-keep-in-None.ensures.keeps a.counts in
     going_stops i turn c.from_residual-in_err-keep-in-None.result c.from_residual-in_err-keep-in-None.ensures.0

@@ -15,22 +15,22 @@ run-requires-clause-memo g c = subst (λ (x : MemoState). IsMemoOf c.args.store.
 
 pub run-requires-clause-key : goal.run-requires-clause-key
 run-requires-clause-key g c =
-    let u = (rw c.in-Unvalued.is at c.in_ok-value.ensures.asked).unvalued in
-    subst (λ (x : MemoState). IsUnvaluedKey c.args.store.now.sheet x c.in-Unvalued.cell.key) (sym c.in_ok-value.ensures.same) u.to_find
+    let u = (rw c.in-First.is at c.in_ok-value.ensures.asked).unvalued in
+    subst (λ (x : MemoState). IsUnvaluedKey c.args.store.now.sheet x c.in-First.cell.key) (sym c.in_ok-value.ensures.same) u.to_find
 
 pub run-requires-clause-formula : goal.run-requires-clause-formula
-run-requires-clause-formula g c = (rw c.in-Unvalued.is at c.in_ok-value.ensures.asked).stands
+run-requires-clause-formula g c = (rw c.in-First.is at c.in_ok-value.ensures.asked).stands
 
 -- ---- a value that is there, a formula that has to be valued, and where memory runs out
 
-pub returns-in-Known : goal.returns-in-Known
-returns-in-Known g c =
-    let shown = rw c.in-Known.is at c.in_ok-value.ensures.asked in
+pub returns-in-Ready : goal.returns-in-Ready
+returns-in-Ready g c =
+    let shown = rw c.in-Ready.is at c.in_ok-value.ensures.asked in
     values_known c.requires.memo c.in_ok-value.ensures.same shown
 
-pub returns-in-Unvalued : goal.returns-in-Unvalued
-returns-in-Unvalued g c =
-    let u = (rw c.in-Unvalued.is at c.in_ok-value.ensures.asked).unvalued in
+pub returns-in-First : goal.returns-in-First
+returns-in-First g c =
+    let u = (rw c.in-First.is at c.in_ok-value.ensures.asked).unvalued in
     let r = c.run.ensures in
     values_then u c.run.result c.requires.memo c.in_ok-value.ensures.same r.value r.spends r.kept r.settled
 
