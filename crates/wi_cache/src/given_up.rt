@@ -195,13 +195,13 @@ fn move_all(
     table.reserve(list.len())?;
     list.reverse();
     'moved: while let Some(entry) = list.pop() {
-        put_in(table, entry.0, entry.1);
+        put_value(table, entry.0, entry.1);
     }
     Ok(())
 }
 
 /// Puts a value into the table for a key, in the place of an earlier one. Takes no memory. Expected constant time, beside the hash of the key.
-fn put_in(table: &mut IndexMap<Key, Value>, key: Key, value: Value)
+fn put_value(table: &mut IndexMap<Key, Value>, key: Key, value: Value)
     requires { 1 ≤ spare table.old }
     ensures entries { table.new.entries ≡ insert_entry same_key table.old.entries key value }
     ensures space { spare table.old ≤ spare table.new + 1 }

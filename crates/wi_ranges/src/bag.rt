@@ -7,7 +7,7 @@ ghost use Rattle.wi_ranges.specs.Inner.Index.{AddsNumbered, AddsPair, AreWhole, 
 
 use crate::block::Block;
 use crate::pair::{Numbered, RangePair};
-use crate::pieces::{Pieces, put_in, take_out};
+use crate::pieces::{Pieces, add_pieces, take_out};
 use std::alloc::AllocError;
 
 /// Whether a piece is one of a pair at a block.
@@ -51,7 +51,7 @@ fn add_numbered(
     ensures { AddsNumbered numbered.now result pieces.old.keys pieces.new.keys }
 {
     let before = pieces.len();
-    match put_in(pieces, numbered, around) {
+    match add_pieces(pieces, numbered, around) {
         Ok(()) => Ok(before < pieces.len()),
         Err(refused) => {
             take_out(pieces, numbered, around);

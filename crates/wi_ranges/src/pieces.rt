@@ -14,7 +14,7 @@ pub(crate) type Pieces = BTreeSet<(Block, Numbered)>;
 
 /// Puts a pair in at each of its blocks within a block. Takes memory only for those where it is new; if that runs out, it may be
 /// in at some of them.
-pub(crate) fn put_in(
+pub(crate) fn add_pieces(
     pieces: &mut Pieces,
     numbered: &Numbered,
     block: &Block,
@@ -26,8 +26,8 @@ pub(crate) fn put_in(
     if block.lies_within(&numbered.pair) {
         pieces.insert((*block, *numbered))?;
     } else if block.level > 0 && block.meets(&numbered.pair) {
-        put_in(pieces, numbered, &block.upper())?;
-        put_in(pieces, numbered, &block.lower())?;
+        add_pieces(pieces, numbered, &block.upper())?;
+        add_pieces(pieces, numbered, &block.lower())?;
     }
     Ok(())
 }

@@ -12,7 +12,7 @@ pub(crate) type ValueMap = BTreeMap<Address, Value>;
 
 /// Puts copies of a map's entries into another, in the place of what it had at their addresses. If memory runs out, those put
 /// in so far stay.
-pub(crate) fn put_in(alloc: Global, map: &mut ValueMap, others: &ValueMap) -> Result<(), AllocError>
+pub(crate) fn merge(alloc: Global, map: &mut ValueMap, others: &ValueMap) -> Result<(), AllocError>
     ensures put { OnOk result (map.new.entries
         ≡ overridden map.old.entries (as_replacements others.now.entries)) }
     ensures order { OnOk result (IsInOrder (as_replacements others.now.entries)) }
@@ -29,7 +29,7 @@ pub(crate) fn copied(alloc: Global, map: &ValueMap) -> Result<ValueMap, AllocErr
     ensures { IfOk result (λ m. m.entries ≡ map.now.entries) }
 {
     let mut copy = BTreeMap::new(alloc);
-    put_in(alloc, &mut copy, map)?;
+    merge(alloc, &mut copy, map)?;
     Ok(copy)
 }
 
@@ -43,6 +43,6 @@ pub(crate) fn with_entries(
         m.entries ≡ overridden map.entries (as_replacements others.now.entries)) }
 {
     let mut all = map;
-    put_in(alloc, &mut all, others)?;
+    merge(alloc, &mut all, others)?;
     Ok(all)
 }

@@ -130,7 +130,7 @@ impl Scenarios {
         if self.is_full(name, at) {
             return Err(ScenarioFault::TooMany);
         }
-        self.put_in(name, at, value)?;
+        self.set_value(name, at, value)?;
         Ok(())
     }
 
@@ -216,7 +216,7 @@ impl Scenarios {
     }
 
     /// Puts a replacement into a scenario, however many there are. If memory runs out, all is as before.
-    fn put_in(&mut self, name: &str, at: Address, value: Value) -> Result<(), AllocError>
+    fn set_value(&mut self, name: &str, at: Address, value: Value) -> Result<(), AllocError>
         ensures ok { OnOk result (self.new ≡ with_scenario self.old
             (with_own (scenario_for self.old name.now) (record { at = at; value = value } ∷ []))) }
         ensures err { OnErr result (self.new ≡ self.old) }

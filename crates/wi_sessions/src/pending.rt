@@ -89,7 +89,7 @@ impl Pending {
         self.unread.reserve(1)?;
         let limit = self.words.len() / 16 + 64;
         let unread = begun(self.alloc, self.changed.len(), cells, limit)?;
-        put_in(self.alloc, &mut self.words, cells, bit_of(i))?;
+        add_bits(self.alloc, &mut self.words, cells, bit_of(i))?;
         self.unread.push(unread).unwrap();
         Ok(())
     }
@@ -327,7 +327,12 @@ fn begun(alloc: Global, from: usize, cells: &[Address], limit: usize) -> Result<
 }
 
 /// Puts bits into cells. If memory runs out, all is as before.
-fn put_in(alloc: Global, words: &mut Words, cells: &[Address], bits: u64) -> Result<(), AllocError>
+fn add_bits(
+    alloc: Global,
+    words: &mut Words,
+    cells: &[Address],
+    bits: u64,
+) -> Result<(), AllocError>
     requires { IsOrdered nat_cmp words.old }
     ensures order { IsOrdered nat_cmp words.new }
     ensures put { OnOk result ((i c : ℕ) → is_in words.new.entries i c

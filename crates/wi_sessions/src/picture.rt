@@ -99,7 +99,7 @@ fn put_changes(values: &mut CellMap<Value>, changes: &mut [Change]) -> Result<()
         return Ok(());
     }
     let before = values.len() as u64;
-    let answer = put_in(values, before, changes);
+    let answer = exchange_values(values, before, changes);
     release(values, changes, answer.unwrap_or(before));
     answer?;
     Ok(())
@@ -107,7 +107,7 @@ fn put_changes(values: &mut CellMap<Value>, changes: &mut [Change]) -> Result<()
 
 /// Puts changes in, one after another, and answers how many cells have a value then, or leaves the values as they were; `before` is
 /// how many have one before. Rooms of the changed cells may be vacant after either.
-fn put_in(
+fn exchange_values(
     values: &mut CellMap<Value>,
     before: u64,
     changes: &mut [Change],

@@ -107,7 +107,7 @@ impl<V> Tile<V> {
         ensures err { OnErr result (self.new ≡ self.old) }
     {
         let place = place_of(self.bits, self.values.len(), bit);
-        put_in(&mut self.values, place, value)?;
+        insert_value(&mut self.values, place, value)?;
         self.bits |= 1 << bit;
         Ok(())
     }
@@ -195,7 +195,7 @@ fn room_for_column<V>(values: &mut Vec<V>) -> Result<(), AllocError>
 
 /// Puts a value in at a place, and moves those behind it. If memory runs out, all is as before.
 #[inline(always)]
-fn put_in<V>(values: &mut Vec<V>, place: usize, value: V) -> Result<(), AllocFailed<V>>
+fn insert_value<V>(values: &mut Vec<V>, place: usize, value: V) -> Result<(), AllocFailed<V>>
     requires { place ≤ length values.old.items }
     ensures { values.new.items
         ≡ (if is_ok result then insert values.old.items place value else values.old.items) }

@@ -22,7 +22,7 @@ pub(crate) fn copied(alloc: Global, replacement: &Replacement) -> Result<Replace
 }
 
 /// Puts copies of replacements into a map, one after another. If memory runs out, those put in so far stay.
-pub(crate) fn put_in(
+pub(crate) fn insert_copies(
     alloc: Global,
     map: &mut ValueMap,
     replacements: &[Replacement],

@@ -9,7 +9,7 @@ ghost use Rattle.wi_worlds.specs.Inner.Compared.{digest_of};
 ghost use Rattle.wi_worlds.specs.Reached.{is_reached_by, reached_by};
 ghost use Rattle.wi_worlds.specs.Reaching.{cone_has, is_reached};
 
-use crate::entries::{copied, listed, put_in};
+use crate::entries::{copied, insert_copies, listed};
 use crate::lookup::value_at;
 use crate::part::{Part, copies_of, part_of};
 use crate::reaches::Reaches;
@@ -141,8 +141,8 @@ impl World {
     {
         let alloc = self.alloc;
         let mut all = BTreeMap::new(alloc);
-        put_in(alloc, &mut all, self.replacements())?;
-        put_in(alloc, &mut all, others)?;
+        insert_copies(alloc, &mut all, self.replacements())?;
+        insert_copies(alloc, &mut all, others)?;
         let replacements = listed(alloc, all)?;
         World::of(alloc, replacements)
     }

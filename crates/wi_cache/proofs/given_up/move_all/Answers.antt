@@ -20,17 +20,17 @@ moved-init c =
       space = omega (arith, long, counted, c.len.ensures, space);
     }
 
-pub put_in-requires : goal.put_in-requires
-put_in-requires c =
+pub put_value-requires : goal.put_value-requires
+put_value-requires c =
     omega (arith, c.moved.invariant.space, one_popped c.moved.list.items c.pop.new.self.items c.in-Some.entry c.in-Some.ensures.items)
 
 pub moved-preserved : goal.moved-preserved
 moved-preserved c =
     let popped = one_popped c.moved.list.items c.pop.new.self.items c.in-Some.entry c.in-Some.ensures.items in
-    let put : c.put_in.new.table.entries ≡ insert_entry same_key c.moved.table.entries c.in-Some.entry.0 c.in-Some.entry.1 = search rules in
+    let put : c.put_value.new.table.entries ≡ insert_entry same_key c.moved.table.entries c.in-Some.entry.0 c.in-Some.entry.1 = search rules in
     record {
-      whole = next_moved c.moved.table.entries c.put_in.new.table.entries c.moved.list.items c.pop.new.self.items c.in-Some.entry _ c.in-Some.ensures.items put c.moved.invariant.whole;
-      space = omega (arith, c.moved.invariant.space, popped, c.put_in.ensures.space);
+      whole = next_moved c.moved.table.entries c.put_value.new.table.entries c.moved.list.items c.pop.new.self.items c.in-Some.entry _ c.in-Some.ensures.items put c.moved.invariant.whole;
+      space = omega (arith, c.moved.invariant.space, popped, c.put_value.ensures.space);
     }
 
 pub returns-in_err-reserve : goal.returns-in_err-reserve

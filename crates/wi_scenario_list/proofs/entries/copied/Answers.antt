@@ -4,5 +4,5 @@ use Rattle.wi_scenario_list.proofs.entries.copied.Goals as goal
 
 pub returns : goal.returns
 returns c =
-    c.in_ok-put_in.ensures.put ∙ ap (λ (es : List (ℕ × Value)). overridden es (as_replacements c.args.map.now.entries)) c.new-copy.ensures.empty
-    ∙ put_into_nothing c.args.map.now.entries c.in_ok-put_in.ensures.order
+    c.in_ok-merge.ensures.put ∙ ap (λ (es : List (ℕ × Value)). overridden es (as_replacements c.args.map.now.entries)) c.new-copy.ensures.empty
+    ∙ put_into_nothing c.args.map.now.entries c.in_ok-merge.ensures.order

@@ -2,10 +2,10 @@ use Rattle.wi_worlds.proofs.Words.{◌≡◌, ◌∙◌, ℕ, List, [], IfOk, Ok
 use Rattle.wi_worlds.proofs.world.World.with_all.Goals as goal
 
 -- the old replacements are put into an empty map, then the others
-put_in_twice : (v old others w : List Replacement) (none first second : List (ℕ × Value)) → IsInOrder old → old ≡ v
+insert_copies_twice : (v old others w : List Replacement) (none first second : List (ℕ × Value)) → IsInOrder old → old ≡ v
     → none ≡ [] → first ≡ overridden none old → second ≡ overridden first others → as_map w ≡ second
     → as_map w ≡ overridden (as_map v) others
-put_in_twice v old others w none first second order same empty e f g =
+insert_copies_twice v old others w none first second order same empty e f g =
     g ∙ f ∙ ap (λ (es : List (ℕ × Value)). overridden es others)
     (e ∙ ap (λ (es : List (ℕ × Value)). overridden es old) empty ∙ overridden-nothing old order ∙ ap as_map same)
 
@@ -24,10 +24,10 @@ pub returns-clause-list : goal.returns-clause-list
 returns-clause-list c =
     let old = c.args.self.now in
     list_of old c.args.others.now c.in_ok-replacements.replacements.items c.of.result c.of.ensures
-    (put_in_twice old c.replacements.result.now c.args.others.now c.in_ok-replacements.replacements.items
-    c.new-all.result.entries c.put_in.new.map.entries c.put_in-2.new.map.entries
+    (insert_copies_twice old c.replacements.result.now c.args.others.now c.in_ok-replacements.replacements.items
+    c.new-all.result.entries c.insert_copies.new.map.entries c.insert_copies-2.new.map.entries
     (subst IsInOrder (sym c.replacements.ensures.value) c.replacements.ensures.order) c.replacements.ensures.value
-    c.new-all.ensures.empty c.in_ok-put_in.ensures c.in_ok-put_in-2.ensures c.in_ok-replacements.ensures.value)
+    c.new-all.ensures.empty c.in_ok-insert_copies.ensures c.in_ok-insert_copies-2.ensures c.in_ok-replacements.ensures.value)
 
 pub returns-clause-each : goal.returns-clause-each
 returns-clause-each c = each_of c.args.self.now c.args.others.now c.of.result (returns-clause-list c)

@@ -1,6 +1,6 @@
 use Rattle.wi_sessions.proofs.Words.{sym, ◌∙◌, on_err}
 use Rattle.wi_sessions.proofs.PictureLemmas.{values_after, count_kept}
-use Rattle.wi_sessions.proofs.picture.put_in.Goals as goal
+use Rattle.wi_sessions.proofs.picture.exchange_values.Goals as goal
 
 pub returns-in_err-make_rooms-clause-refused : goal.returns-in_err-make_rooms-clause-refused
 returns-in_err-make_rooms-clause-refused c = on_err c.from_residual.result c.make_rooms.ensures.same

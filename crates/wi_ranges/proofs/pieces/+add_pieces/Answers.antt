@@ -2,8 +2,8 @@ use Rattle.wi_ranges.proofs.Words.{IfOk-from_err, IsStrictlySortedBy, Piece, pie
 use Rattle.wi_ranges.proofs.BlockLemmas.{blocks_within-apart, blocks_within-row, halves_of}
 use Rattle.wi_ranges.proofs.Apart.{halves_apart}
 use Rattle.wi_ranges.proofs.PieceLemmas.{absent_here, absent_lower, absent_upper, gains_here, gains_both, gains_none, told_here, stays_told, kept_here, told_both, kept_both, kept_first, piece_of_none}
-use Rattle.wi_ranges.proofs.pieces.+put_in.Goals as goal
-use Rattle.wi_ranges.proofs.pieces.+put_in.Goals.{else-block-gt0-via-then-block-gt0+else-meets, else-block-gt0-via-else-block-gt0}
+use Rattle.wi_ranges.proofs.pieces.+add_pieces.Goals as goal
+use Rattle.wi_ranges.proofs.pieces.+add_pieces.Goals.{else-block-gt0-via-then-block-gt0+else-meets, else-block-gt0-via-else-block-gt0}
 
 pub upper-requires-clause-level : goal.upper-requires-clause-level
 upper-requires-clause-level t c = c.if-block-gt0.true
@@ -44,53 +44,53 @@ returns-in_ok-insert t c =
       gains = gains_here m x ks ls within c.in_ok-insert.ensures.keys;
     }
 
-pub returns-in_err-put_in : goal.returns-in_err-put_in
-returns-in_err-put_in t c =
+pub returns-in_err-add_pieces : goal.returns-in_err-add_pieces
+returns-in_err-add_pieces t c =
     let m = c.args.numbered.now in
     let x = c.args.block.now in
     let ks = c.args.pieces.now.keys in
     let lower = block (x.level - 1) (x.first + 2 ^ (x.level - 1)) in
     let halves = halves_of m.pair x c.upper.result lower c.upper.ensures.value refl (sym c.lies_within.ensures ∙ c.if-lies_within.false) c.if-block-gt0.true (sym c.meets.ensures ∙ c.if-meets.true) in
-    let upper = c.in_err-put_in.ensures in
+    let upper = c.in_err-add_pieces.ensures in
     record {
-      put = IfOk-from_err c.from_residual-in_err-put_in.result _ c.from_residual-in_err-put_in.ensures.0;
-      kept = kept_first m x c.upper.result lower ks c.put_in.new.pieces.keys halves upper.kept;
+      put = IfOk-from_err c.from_residual-in_err-add_pieces.result _ c.from_residual-in_err-add_pieces.ensures.0;
+      kept = kept_first m x c.upper.result lower ks c.add_pieces.new.pieces.keys halves upper.kept;
       stays = upper.stays;
       order = upper.order;
-      absent = on_err c.from_residual-in_err-put_in.result (absent_upper m x c.upper.result lower ks halves upper.absent);
-      gains = IfOk-from_err c.from_residual-in_err-put_in.result _ c.from_residual-in_err-put_in.ensures.0;
+      absent = on_err c.from_residual-in_err-add_pieces.result (absent_upper m x c.upper.result lower ks halves upper.absent);
+      gains = IfOk-from_err c.from_residual-in_err-add_pieces.result _ c.from_residual-in_err-add_pieces.ensures.0;
     }
 
-pub returns-in_err-put_in-2 : goal.returns-in_err-put_in-2
-returns-in_err-put_in-2 t c =
+pub returns-in_err-add_pieces-2 : goal.returns-in_err-add_pieces-2
+returns-in_err-add_pieces-2 t c =
     let m = c.args.numbered.now in
     let x = c.args.block.now in
     let ks = c.args.pieces.now.keys in
-    let ls = c.put_in.new.pieces.keys in
+    let ls = c.add_pieces.new.pieces.keys in
     let halves = halves_of m.pair x c.upper.result c.lower.result c.upper.ensures.value c.lower.ensures.value (sym c.lies_within.ensures ∙ c.if-lies_within.false) c.if-block-gt0.true (sym c.meets.ensures ∙ c.if-meets.true) in
-    let upper = c.in_ok-put_in.ensures in
-    let lower = c.in_err-put_in-2.ensures in
+    let upper = c.in_ok-add_pieces.ensures in
+    let lower = c.in_err-add_pieces-2.ensures in
     record {
-      put = IfOk-from_err c.from_residual-in_err-put_in-2.result _ c.from_residual-in_err-put_in-2.ensures.0;
-      kept = kept_both m x c.upper.result c.lower.result ks ls c.put_in-then-meets.new.pieces.keys halves upper.kept lower.kept;
+      put = IfOk-from_err c.from_residual-in_err-add_pieces-2.result _ c.from_residual-in_err-add_pieces-2.ensures.0;
+      kept = kept_both m x c.upper.result c.lower.result ks ls c.add_pieces-then-meets.new.pieces.keys halves upper.kept lower.kept;
       stays = λ q h. lower.stays q (upper.stays q h);
       order = λ h. lower.order (upper.order h);
       absent =
-          on_err c.from_residual-in_err-put_in-2.result
+          on_err c.from_residual-in_err-add_pieces-2.result
           (absent_lower m x c.upper.result c.lower.result ks ls halves upper.kept (halves_apart x c.upper.result c.lower.result m c.upper.ensures.value c.lower.ensures.value) lower.absent);
-      gains = IfOk-from_err c.from_residual-in_err-put_in-2.result _ c.from_residual-in_err-put_in-2.ensures.0;
+      gains = IfOk-from_err c.from_residual-in_err-add_pieces-2.result _ c.from_residual-in_err-add_pieces-2.ensures.0;
     }
 
-pub returns-in_ok-put_in-2 : goal.returns-in_ok-put_in-2
-returns-in_ok-put_in-2 t c =
+pub returns-in_ok-add_pieces-2 : goal.returns-in_ok-add_pieces-2
+returns-in_ok-add_pieces-2 t c =
     let m = c.args.numbered.now in
     let x = c.args.block.now in
     let ks = c.args.pieces.now.keys in
-    let ls = c.put_in.new.pieces.keys in
-    let us = c.put_in-then-meets.new.pieces.keys in
+    let ls = c.add_pieces.new.pieces.keys in
+    let us = c.add_pieces-then-meets.new.pieces.keys in
     let halves = halves_of m.pair x c.upper.result c.lower.result c.upper.ensures.value c.lower.ensures.value (sym c.lies_within.ensures ∙ c.if-lies_within.false) c.if-block-gt0.true (sym c.meets.ensures ∙ c.if-meets.true) in
-    let upper = c.in_ok-put_in.ensures in
-    let lower = c.in_ok-put_in-2.ensures in
+    let upper = c.in_ok-add_pieces.ensures in
+    let lower = c.in_ok-add_pieces-2.ensures in
     record {
       put = told_both m x c.upper.result c.lower.result ls us true halves upper.put lower.put lower.stays;
       kept = kept_both m x c.upper.result c.lower.result ks ls us halves upper.kept lower.kept;

@@ -1,5 +1,5 @@
 use Rattle.wi_scenario_list.proofs.Words.{◌≡◌, overridden, as_replacements}
-use Rattle.wi_scenario_list.proofs.entries.put_in.Given as goal
+use Rattle.wi_scenario_list.proofs.entries.merge.Given as goal
 
 -- what is left to be put in leads to the whole
 abbrev pub invariant-loop-at : goal.invariant-loop-at

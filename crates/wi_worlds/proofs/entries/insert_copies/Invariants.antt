@@ -1,5 +1,5 @@
 use Rattle.wi_worlds.proofs.Words.{◌≡◌, drop, overridden}
-use Rattle.wi_worlds.proofs.entries.put_in.Given as goal
+use Rattle.wi_worlds.proofs.entries.insert_copies.Given as goal
 
 -- what is left to be put in leads to the whole
 abbrev pub invariant-loop-replacement : goal.invariant-loop-replacement

@@ -1,6 +1,6 @@
 use Rattle.wi_scenario_list.proofs.Words.{List, ℕ, sym, ap, ◌∙◌, nat_cmp, insert_entry, Value, overridden, as_replacements}
 use Rattle.wi_scenario_list.proofs.Own.{order_of_entries}
-use Rattle.wi_scenario_list.proofs.entries.put_in.Goals as goal
+use Rattle.wi_scenario_list.proofs.entries.merge.Goals as goal
 
 pub returns-clause-order : goal.returns-clause-order
 returns-clause-order c = order_of_entries c.args.others.now.entries c.into_iter-at-iterator.ensures.into_iter_gives.5

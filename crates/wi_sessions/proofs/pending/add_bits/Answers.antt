@@ -1,7 +1,7 @@
 use Rattle.wi_sessions.proofs.Words.{subst, SamePending}
 use Rattle.wi_sessions.proofs.WordLemmas.{Words}
 use Rattle.wi_sessions.proofs.PendingLemmas.{same_bits}
-use Rattle.wi_sessions.proofs.pending.put_in.Goals as goal
+use Rattle.wi_sessions.proofs.pending.add_bits.Goals as goal
 
 pub returns-in-Ok-clause-put : goal.returns-in-Ok-clause-put
 returns-in-Ok-clause-put c = c.in-Ok.ensures.room.put
