@@ -36,7 +36,7 @@ pub use Rattle.wi_cache.specs.Entries.{Entries, PutsIn, same_key, value_for}
 pub use Rattle.wi_cache.specs.declared.key.Key.{Key}
 pub use Rattle.wi_engine.specs.Inner.Attempt.{AsksAt, IsLacking, cell_known, known_in, lacking, lacking_after, lacks_cell}
 pub use Rattle.wi_engine.specs.Inner.Attempts.{IsAttemptOf}
-pub use Rattle.wi_engine.specs.Inner.Courses.{AreTogether, IsCourseTo, IsSmallestWith, is_next, part}
+pub use Rattle.wi_engine.specs.Inner.Scans.{AreTogether, IsScanTo, IsSmallestWith, is_next, part}
 pub use Rattle.wi_engine.specs.Inner.Findings.{AreAllRight, IsWithCell, IsWithWhatIf, found_value, found_what_ifs, what_if_found}
 pub use Rattle.wi_engine.specs.Inner.Frames.{AreBelow, AreLinked, AreReadHere, Awaits, BottomIs, IsAwaited, IsBegun, IsDemanded, IsFormulaKey, IsFrame, IsNext, IsNextFormula, IsStack, IsUnvalued, IsUnvaluedFormula, IsUnvaluedKey, IsWaitedFor, MayBeRead, StandsAt, at_most, case_at, content_reads_here, frame_cost, frames_cost, key_above, lacks, spare, taken, waits}
 pub use Rattle.wi_engine.specs.Inner.Keeps.{HasFound, Keeps}
@@ -52,9 +52,9 @@ pub use Rattle.wi_engine.specs.Inner.Stacked.{HasSpaceForOne, StackState, Stacke
 pub use Rattle.wi_engine.specs.Inner.Steps.{FrameCounts, FrameSteps, FrameTakes, FrameWaits, IsFrameValue, IsShownNow, IsWorldWith}
 pub use Rattle.wi_engine.specs.Inner.Touched.{earlier}
 pub use Rattle.wi_engine.specs.Inner.Walk.{EachLeave, Enter, GoesOn, HasCycle, IsBelow, IsOpen, IsWalk, LeadsTo, Leave, Task, begun, cells_ahead, enters, has_leave, has_task, leaves, progress_of, task_cell, tasks_at, tasks_in, tasks_left, tasks_of, unread}
-pub use Rattle.wi_engine.specs.declared.course.Course.{Course}
-pub use Rattle.wi_engine.specs.declared.course.Way.{Way}
-pub use Rattle.wi_engine.specs.declared.course.Way.TheVariants.{Alone, Column, Row, Whole}
+pub use Rattle.wi_engine.specs.declared.scan.Scan.{Scan}
+pub use Rattle.wi_engine.specs.declared.scan.Way.{Way}
+pub use Rattle.wi_engine.specs.declared.scan.Way.TheVariants.{Alone, Column, Row, Whole}
 pub use Rattle.wi_engine.specs.declared.findings.Findings.{Findings}
 pub use Rattle.wi_engine.specs.declared.frame.Frame.{Frame}
 pub use Rattle.wi_engine.specs.declared.frame.Unvalued.{Unvalued}

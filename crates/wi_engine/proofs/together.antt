@@ -1,3 +1,3 @@
 -- What the proofs about the cells that are found together use.
-pub mod Courses
+pub mod Scans
 pub mod Smallest

@@ -1,7 +1,7 @@
 -- Words of the code's own contracts, and readers that laws tie to the definitions. Nothing here needs belief.
 pub mod Attempt
 pub mod Attempts
-pub mod Courses
+pub mod Scans
 pub mod Findings
 pub mod Frames
 pub mod Keeps

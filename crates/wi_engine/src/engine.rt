@@ -197,7 +197,7 @@ fn wait_for(pool: &mut Pool, store: &Store, frame: &mut Frame, want: Want) -> Re
     match want {
         Want::Cell(at) => {
             let batch = together(pool.allocator(), store, frame, at)?;
-            frame.keep_course(batch.course, pool)?;
+            frame.keep_scan(batch.scan, pool)?;
             frame.waiting = Waiting::Cells(at, batch.cells);
             Ok(())
         }

@@ -3,9 +3,9 @@
 ghost use Rattle.std.specs.Prelude.{◌≡◌, Contains, IfSome};
 ghost use Rattle.wi_engine.specs.Inner.Frames.{IsNewFrame};
 
-use crate::course::Course;
 use crate::findings::Findings;
 use crate::pool::Pool;
+use crate::scan::Scan;
 use std::alloc::{AllocError, Global};
 use wi_cache::Key;
 use wi_parser::{Formula, Pair};
@@ -30,7 +30,7 @@ pub struct Frame<'a> {
     pub found: Findings,
     pub waiting: Waiting,
     /// One for each of the formula's rectangles from which a cell was wanted.
-    pub courses: Vec<Course>,
+    pub scans: Vec<Scan>,
 }
 
 impl<'a> Frame<'a> {
@@ -44,40 +44,40 @@ impl<'a> Frame<'a> {
             formula,
             found: Findings::new(),
             waiting: Waiting::Nothing,
-            courses: Vec::new(alloc),
+            scans: Vec::new(alloc),
         }
     }
 
-    /// The course through a rectangle. The work grows with the count of courses.
-    pub(crate) fn course_through(&self, rectangle: Rect) -> Option<Course>
-        ensures { IfSome result (λ c. Contains self.now.courses.items c
+    /// The scan through a rectangle. The work grows with the count of scans.
+    pub(crate) fn scan_through(&self, rectangle: Rect) -> Option<Scan>
+        ensures { IfSome result (λ c. Contains self.now.scans.items c
             × (c.rectangle ≡ rectangle)) }
     {
-        for course in &self.courses {
-            if course.rectangle == rectangle {
-                return Some(*course);
+        for scan in &self.scans {
+            if scan.rectangle == rectangle {
+                return Some(*scan);
             }
         }
         None
     }
 
-    /// Keeps a course, in the place of an earlier one through its rectangle. For the first one a list is taken from a pool. The work
-    /// grows with the count of courses.
-    pub(crate) fn keep_course(&mut self, course: Course, pool: &mut Pool) -> Result<(), AllocError>
+    /// Keeps a scan, in the place of an earlier one through its rectangle. For the first one a list is taken from a pool. The work
+    /// grows with the count of scans.
+    pub(crate) fn keep_scan(&mut self, scan: Scan, pool: &mut Pool) -> Result<(), AllocError>
         ensures key { self.new.key ≡ self.old.key }
         ensures formula { self.new.formula.now ≡ self.old.formula.now }
         ensures found { self.new.found ≡ self.old.found }
     {
-        if self.courses.is_empty() {
-            self.courses = pool.take_courses();
+        if self.scans.is_empty() {
+            self.scans = pool.take_scans();
         }
-        for kept in self.courses.iter_mut() {
-            if kept.rectangle == course.rectangle {
-                *kept = course;
+        for kept in self.scans.iter_mut() {
+            if kept.rectangle == scan.rectangle {
+                *kept = scan;
                 return Ok(());
             }
         }
-        self.courses.push(course)?;
+        self.scans.push(scan)?;
         Ok(())
     }
 
@@ -87,7 +87,7 @@ impl<'a> Frame<'a> {
         ensures { result ≡ self.entry.key }
     {
         self.found.give_back(pool);
-        pool.put_courses(self.courses);
+        pool.put_scans(self.scans);
         self.key
     }
 }

@@ -3,21 +3,21 @@
 ghost use Rattle.std.specs.Prelude.{◌≡◌, ℕ, [], None, IfOk};
 ghost use Rattle.wi_engine.specs.Inner.Lists.{listed_value};
 
-use crate::course::Course;
 use crate::lists::Lists;
+use crate::scan::Scan;
 use std::alloc::{AllocError, Global};
 
-/// How many lists of values are kept, and of courses. Formulas that are evaluated one after another seldom stand deeper in one another.
+/// How many lists of values are kept, and of scans. Formulas that are evaluated one after another seldom stand deeper in one another.
 const MAX_KEPT: usize = 64;
 
-/// How many values or courses an array may have that is kept. A pool takes less than a megabyte then.
+/// How many values or scans an array may have that is kept. A pool takes less than a megabyte then.
 const MAX_FILLED: usize = 64;
 
 /// Arrays whose memory is used again, by later formulas of a question and by later questions.
 #[derive(Drop)]
 pub struct Pool {
     lists: Vec<Box<Lists>>,
-    courses: Vec<Vec<Course>>,
+    scans: Vec<Vec<Scan>>,
     alloc: Global,
 }
 
@@ -26,7 +26,7 @@ impl Pool {
     pub fn new(alloc: Global) -> Pool {
         Pool {
             lists: Vec::new(alloc),
-            courses: Vec::new(alloc),
+            scans: Vec::new(alloc),
             alloc,
         }
     }
@@ -63,23 +63,23 @@ impl Pool {
         }
     }
 
-    /// The courses that were put in last, or a new list, without courses. Takes no memory.
-    pub(crate) fn take_courses(&mut self) -> Vec<Course> {
-        match self.courses.pop() {
-            Some(courses) => courses,
+    /// The scans that were put in last, or a new list, without scans. Takes no memory.
+    pub(crate) fn take_scans(&mut self) -> Vec<Scan> {
+        match self.scans.pop() {
+            Some(scans) => scans,
             None => Vec::new(self.alloc),
         }
     }
 
-    /// Puts a list of courses in, as `put`, if it has any.
+    /// Puts a list of scans in, as `put`, if it has any.
     #[inline(always)]
-    pub(crate) fn put_courses(&mut self, mut courses: Vec<Course>) {
-        if courses.is_empty() {
+    pub(crate) fn put_scans(&mut self, mut scans: Vec<Scan>) {
+        if scans.is_empty() {
             return;
         }
-        if self.courses.len() < MAX_KEPT && courses.len() <= MAX_FILLED {
-            courses.clear();
-            let _ = self.courses.push(courses);
+        if self.scans.len() < MAX_KEPT && scans.len() <= MAX_FILLED {
+            scans.clear();
+            let _ = self.scans.push(scans);
         }
     }
 }

@@ -5,10 +5,10 @@ ghost use Rattle.wi_engine.specs.Inner.Frames.{IsNewFrame};
 ghost use Rattle.wi_engine.specs.Inner.Stacked.{HasSpaceForOne, stacked, waits_for_one};
 ghost use Rattle.wi_engine.specs.Inner.StackLists.{HasLast, HaveRests, HaveSpace, IsWithFrame, count_more, frames_in};
 
-use crate::course::Course;
 use crate::findings::Findings;
 use crate::frame::{Frame, Unvalued, Waiting};
 use crate::pool::Pool;
+use crate::scan::Scan;
 use std::alloc::{AllocError, Global};
 use std::marker::Model;
 use std::mem;
@@ -38,7 +38,7 @@ struct Entry<'a> {
 struct Rest {
     found: Findings,
     waiting: Waiting,
-    courses: Vec<Course>,
+    scans: Vec<Scan>,
 }
 
 /// Frames of which each waits for the next one, and the last for one that isn't here. Those of a long chain all wait at once, and nearly
@@ -58,12 +58,12 @@ impl<'a> Model for Stack<'a> {
     ghost use Rattle.wi_parser.specs.Inner.TreeCode.{tree_code};
     ghost use Rattle.wi_engine.specs.contracts.findings.Findings as findings;
     ghost use Rattle.wi_engine.specs.contracts.frame.Waiting as waiting;
-    ghost use Rattle.wi_engine.specs.contracts.course.Course as course;
+    ghost use Rattle.wi_engine.specs.contracts.scan.Scan as scan;
 
     ghost Value = { StackState };
 
     ghost coded = { stack_code (frame_code key.the_row.coded tree_code findings.the_row.coded
-        waiting.the_row.coded course.the_row.coded) };
+        waiting.the_row.coded scan.the_row.coded) };
 
     ghost use Rattle.wi_engine.specs.Inner.StackLists.{HaveRests, stack_state};
 
@@ -171,15 +171,15 @@ fn only_cell(frame: &Frame) -> Option<Address>
     Some(*at)
 }
 
-/// Whether no value was found for a frame, and it keeps no course.
+/// Whether no value was found for a frame, and it keeps no scan.
 #[inline(always)]
 fn is_bare(frame: &Frame) -> bool
     ensures found { result ≡ true → frame.now.found.lists ≡ None }
-    ensures courses { result ≡ true → frame.now.courses.items ≡ [] }
+    ensures scans { result ≡ true → frame.now.scans.items ≡ [] }
 {
     match frame.found.lists {
         Some(_) => false,
-        None => frame.courses.is_empty(),
+        None => frame.scans.is_empty(),
     }
 }
 
@@ -219,7 +219,7 @@ fn put_with_rest<'a>(entries: &mut Vec<Entry<'a>>, rests: &mut Vec<Rest>, frame:
     rests.push_reserved(Rest {
         found: frame.found,
         waiting: frame.waiting,
-        courses: frame.courses,
+        scans: frame.scans,
     });
     entries.push_reserved(Entry {
         key: frame.key,
@@ -272,7 +272,7 @@ fn take_one_cell<'a>(
 {
     let alloc = pool.allocator();
     mem::replace(&mut frame.found, Findings { lists: None }).give_back(pool);
-    pool.put_courses(mem::replace(&mut frame.courses, Vec::new(alloc)));
+    pool.put_scans(mem::replace(&mut frame.scans, Vec::new(alloc)));
     frame.waiting = Waiting::Cells(at, Vec::new(alloc));
     frame.formula = formula;
     mem::replace(&mut frame.key, key)
@@ -290,7 +290,7 @@ fn with_last<'a>(key: Key, formula: &'a Formula, rests: &mut Vec<Rest>) -> Frame
             formula,
             found: rest.found,
             waiting: rest.waiting,
-            courses: rest.courses,
+            scans: rest.scans,
         },
         None => unreachable!(),
     }

@@ -9,20 +9,20 @@ ghost use Rattle.std.specs.Prelude.{◌≡◌, ℕ, true, nat_lt, if◌then◌el
 ghost use Rattle.wi_values.specs.Address.{is_one_of, is_within_one, size_of};
 ghost use Rattle.wi_parser.specs.Sheet.{content_of, has_formula};
 ghost use Rattle.wi_sheet.specs.Demand.{reads_here};
-ghost use Rattle.wi_engine.specs.Inner.Courses.{AreTogether, IsCourseTo, IsSmallestWith, is_next};
+ghost use Rattle.wi_engine.specs.Inner.Scans.{AreTogether, IsScanTo, IsSmallestWith, is_next};
 
-use crate::course::{Course, Way, part};
 use crate::frame::Frame;
 use crate::lacking::{next_lacking_in, with_next_lacking};
+use crate::scan::{Scan, Way, part};
 use std::alloc::{AllocError, Global};
 use wi_store::Store;
 use wi_values::{Address, Rect};
 
-/// Cells that are to be found together, and the course that they take.
+/// Cells that are to be found together, and the scan that they take.
 #[derive(Drop)]
 pub struct Batch {
     pub cells: Vec<Address>,
-    pub course: Course,
+    pub scan: Scan,
 }
 
 /// The cells that are to be found together with one that a frame's formula lacks, that one first. They lie in the smallest of
@@ -41,66 +41,66 @@ pub(crate) fn together(
         × (has_formula (content_of store.now.sheet d) ≡ true)) }
     ensures wanted { IfOk result (λ b. is_one_of b.cells.items at ≡ true) }
     ensures following { IfOk result (λ b.
-        AreTogether store.now.sheet frame.now frame.now.formula.now at b.course b.cells.items) }
+        AreTogether store.now.sheet frame.now frame.now.formula.now at b.scan b.cells.items) }
 {
     let rectangle = smallest_with(frame.formula.rectangles(), at);
-    let course = course_to(store, frame, rectangle, at);
-    let area = part(rectangle, course.way, at);
-    let cells = with_next_lacking(alloc, store, frame, area, at, course.count)?;
+    let scan = scan_to(store, frame, rectangle, at);
+    let area = part(rectangle, scan.way, at);
+    let cells = with_next_lacking(alloc, store, frame, area, at, scan.count)?;
     let last = *cells.last().unwrap_or(&at);
     Ok(Batch {
         cells,
-        course: Course { last, ..course },
+        scan: Scan { last, ..scan },
     })
 }
 
-/// The course through a rectangle with one more cell that is wanted.
-fn course_to(store: &Store, frame: &Frame, rectangle: Rect, at: Address) -> Course
+/// The scan through a rectangle with one more cell that is wanted.
+fn scan_to(store: &Store, frame: &Frame, rectangle: Rect, at: Address) -> Scan
     ensures rectangle { result.rectangle ≡ rectangle }
-    ensures count { IsCourseTo store.now.sheet frame.now at result }
+    ensures count { IsScanTo store.now.sheet frame.now at result }
 {
-    match frame.course_through(rectangle) {
-        None => Course::begun(rectangle, at),
-        Some(course) => match way_on(store, frame, &course, at) {
-            Some(way) => course.led_on(way),
-            None => course.broken(),
+    match frame.scan_through(rectangle) {
+        None => Scan::begun(rectangle, at),
+        Some(scan) => match way_on(store, frame, &scan, at) {
+            Some(way) => scan.led_on(way),
+            None => scan.broken(),
         },
     }
 }
 
-/// The way in which a cell follows the last one of a course.
-fn way_on(store: &Store, frame: &Frame, course: &Course, at: Address) -> Option<Way>
-    ensures { IfSome result (λ way. is_next store.now.sheet frame.now course.now way at ≡ true) }
+/// The way in which a cell follows the last one of a scan.
+fn way_on(store: &Store, frame: &Frame, scan: &Scan, at: Address) -> Option<Way>
+    ensures { IfSome result (λ way. is_next store.now.sheet frame.now scan.now way at ≡ true) }
 {
-    if leads_to(store, frame, course, Way::Row, at) {
+    if leads_to(store, frame, scan, Way::Row, at) {
         return Some(Way::Row);
     }
-    if leads_to(store, frame, course, Way::Column, at) {
+    if leads_to(store, frame, scan, Way::Column, at) {
         return Some(Way::Column);
     }
-    if leads_to(store, frame, course, Way::Whole, at) {
+    if leads_to(store, frame, scan, Way::Whole, at) {
         return Some(Way::Whole);
     }
     None
 }
 
-/// Whether a course goes on to a cell in this way.
-fn leads_to(store: &Store, frame: &Frame, course: &Course, way: Way, at: Address) -> bool
-    ensures { result ≡ true → is_next store.now.sheet frame.now course.now way at ≡ true }
+/// Whether a scan goes on to a cell in this way.
+fn leads_to(store: &Store, frame: &Frame, scan: &Scan, way: Way, at: Address) -> bool
+    ensures { result ≡ true → is_next store.now.sheet frame.now scan.now way at ≡ true }
 {
-    course.way.may_become(way) && is_next(store, frame, course, way, at)
+    scan.way.may_become(way) && is_next(store, frame, scan, way, at)
 }
 
-/// Whether a cell is the next one that is lacking after the last one of a course, in the part of its rectangle through which this
+/// Whether a cell is the next one that is lacking after the last one of a scan, in the part of its rectangle through which this
 /// way leads.
-fn is_next(store: &Store, frame: &Frame, course: &Course, way: Way, at: Address) -> bool
-    ensures { result ≡ is_next store.now.sheet frame.now course.now way at }
+fn is_next(store: &Store, frame: &Frame, scan: &Scan, way: Way, at: Address) -> bool
+    ensures { result ≡ is_next store.now.sheet frame.now scan.now way at }
 {
-    let area = part(course.rectangle, way, at);
-    if !area.contains(course.last) || at <= course.last {
+    let area = part(scan.rectangle, way, at);
+    if !area.contains(scan.last) || at <= scan.last {
         return false;
     }
-    match next_lacking_in(store, frame, area, course.last) {
+    match next_lacking_in(store, frame, area, scan.last) {
         Some(next) => next == at,
         None => false,
     }

@@ -15,11 +15,11 @@ none_there v z = nothing_there v.items (vec_len v) v.ok.0 z
 pub none_told : {X : Type 0} (v : Vec X) (b : Bool) → b ≡ (vec_len v == 0) → b ≡ true → v.items ≡ []
 none_told v b told t = none_there v (eqb-true (vec_len v) 0 (sym told ∙ t))
 
-pub only_one : (f : Frame) (a : ℕ) (others : Vec ℕ) → f.found.lists ≡ None → f.waiting ≡ Cells a others → others.items ≡ [] → f.courses.items ≡ [] → stacked f ≡ waits_for_one f.key f.formula.now a
-only_one f a others found waits alone courses =
+pub only_one : (f : Frame) (a : ℕ) (others : Vec ℕ) → f.found.lists ≡ None → f.waiting ≡ Cells a others → others.items ≡ [] → f.scans.items ≡ [] → stacked f ≡ waits_for_one f.key f.formula.now a
+only_one f a others found waits alone scans =
     let cells : cells_of f.waiting ≡ Some (a, []) = ap cells_of waits ∙ ap (λ (xs : List ℕ). Some (a, xs)) alone in
     let otherwise : other_than_cells f.waiting ≡ Nothing = ap other_than_cells waits in
-    λ i. seen_as f.key f.formula.now (record { lists = found i }) (cells i) (otherwise i) (courses i)
+    λ i. seen_as f.key f.formula.now (record { lists = found i }) (cells i) (otherwise i) (scans i)
 
 -- ---- the frames of entries, with other rests behind their own
 

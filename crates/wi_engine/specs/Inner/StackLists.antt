@@ -14,7 +14,7 @@ use Rattle.wi_engine.specs.declared.stack.Rest.{Rest}
 
 -- with what stands for it in the second list
 abbrev pub with_rest : Key → Tree → Rest → StackedFrame
-with_rest k t r = seen_as k t r.found (cells_of r.waiting) (other_than_cells r.waiting) r.courses.items
+with_rest k t r = seen_as k t r.found (cells_of r.waiting) (other_than_cells r.waiting) r.scans.items
 
 -- with the first in the second list; where there is none, which is never so (`HaveRests`), it is some frame
 abbrev pub with_first : Key → Tree → List Rest → StackedFrame

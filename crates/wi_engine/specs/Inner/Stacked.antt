@@ -3,7 +3,7 @@ use Rattle.std.specs.Prelude.{ℕ, ◌≤◌, List, [], Option, Some, None, refl
 use Rattle.std.specs.Coded.{Coded, code_by, coded×, coded_list, coded_option, coded_ℕ}
 use Rattle.wi_parser.specs.Tree.{Tree}
 use Rattle.wi_cache.specs.declared.key.Key.{Key}
-use Rattle.wi_engine.specs.declared.course.Course.{Course}
+use Rattle.wi_engine.specs.declared.scan.Scan.{Scan}
 use Rattle.wi_engine.specs.declared.findings.Findings.{Findings}
 use Rattle.wi_engine.specs.declared.frame.Frame.{Frame}
 use Rattle.wi_engine.specs.declared.frame.Waiting.{Waiting}
@@ -29,13 +29,13 @@ pub record StackedFrame : Type 0 where
   pub found : Findings
   pub cells : Option (ℕ × List ℕ)
   pub otherwise : Waiting
-  pub courses : List Course
+  pub scans : List Scan
 
-abbrev pub seen_as : Key → Tree → Findings → Option (ℕ × List ℕ) → Waiting → List Course → StackedFrame
-seen_as k t f c w cs = record { key = k; formula = t; found = f; cells = c; otherwise = w; courses = cs }
+abbrev pub seen_as : Key → Tree → Findings → Option (ℕ × List ℕ) → Waiting → List Scan → StackedFrame
+seen_as k t f c w cs = record { key = k; formula = t; found = f; cells = c; otherwise = w; scans = cs }
 
 abbrev pub stacked : Frame → StackedFrame
-stacked f = seen_as f.key f.formula.now f.found (cells_of f.waiting) (other_than_cells f.waiting) f.courses.items
+stacked f = seen_as f.key f.formula.now f.found (cells_of f.waiting) (other_than_cells f.waiting) f.scans.items
 
 -- one that waits for this cell alone, with nothing found
 abbrev pub waits_for_one : Key → Tree → ℕ → StackedFrame
@@ -54,11 +54,11 @@ HasSpaceForOne s = (1 ≤ s.space) × (1 ≤ s.more_space)
 
 -- ---- their codes
 
-abbrev pub frame_code : Coded Key → Coded Tree → Coded Findings → Coded Waiting → Coded Course → Coded StackedFrame
+abbrev pub frame_code : Coded Key → Coded Tree → Coded Findings → Coded Waiting → Coded Scan → Coded StackedFrame
 frame_code k t f w c =
-    code_by (Key × (Tree × (Findings × (Option (ℕ × List ℕ) × (Waiting × List Course)))))
+    code_by (Key × (Tree × (Findings × (Option (ℕ × List ℕ) × (Waiting × List Scan)))))
     (coded× k (coded× t (coded× f (coded× (coded_option (coded× coded_ℕ (coded_list coded_ℕ))) (coded× w (coded_list c))))))
-    (λ h. (h.key, (h.formula, (h.found, (h.cells, (h.otherwise, h.courses))))))
+    (λ h. (h.key, (h.formula, (h.found, (h.cells, (h.otherwise, h.scans))))))
     (λ p. seen_as p.0 p.1.0 p.1.1.0 p.1.1.1.0 p.1.1.1.1.0 p.1.1.1.1.1) (λ _. refl)
 
 abbrev pub stack_code : Coded StackedFrame → Coded StackState

@@ -10,9 +10,9 @@ together-requires-clause-formula c =
     let lacking = rw c.in-Cell.is at c.requires.lacking in
     put_formula c.args.store.now.sheet c.args.frame.now.key.world c.in-Cell.at lacking.0
 
-pub returns-in_ok-keep_course-in-Cell-clause-awaits : goal.returns-in_ok-keep_course-in-Cell-clause-awaits
-returns-in_ok-keep_course-in-Cell-clause-awaits c =
-    let kept = c.keep_course.ensures in
+pub returns-in_ok-keep_scan-in-Cell-clause-awaits : goal.returns-in_ok-keep_scan-in-Cell-clause-awaits
+returns-in_ok-keep_scan-in-Cell-clause-awaits c =
+    let kept = c.keep_scan.ensures in
     record {
       key = kept.key;
       formula = kept.formula;
@@ -30,7 +30,7 @@ returns-in-WhatIf-clause-awaits c =
 pub returns-in_err-batch-in-Cell-clause-awaits : goal.returns-in_err-batch-in-Cell-clause-awaits
 returns-in_err-batch-in-Cell-clause-awaits c = waits_err c.from_residual.result c.from_residual.ensures.0 refl refl refl
 
-pub returns-in_err-keep_course-in-Cell-clause-awaits : goal.returns-in_err-keep_course-in-Cell-clause-awaits
-returns-in_err-keep_course-in-Cell-clause-awaits c =
-    let kept = c.keep_course.ensures in
-    waits_err c.from_residual-in_err-keep_course-in-Cell.result c.from_residual-in_err-keep_course-in-Cell.ensures.0 kept.key kept.formula kept.found
+pub returns-in_err-keep_scan-in-Cell-clause-awaits : goal.returns-in_err-keep_scan-in-Cell-clause-awaits
+returns-in_err-keep_scan-in-Cell-clause-awaits c =
+    let kept = c.keep_scan.ensures in
+    waits_err c.from_residual-in_err-keep_scan-in-Cell.result c.from_residual-in_err-keep_scan-in-Cell.ensures.0 kept.key kept.formula kept.found

@@ -1,5 +1,5 @@
 use Rattle.wi_engine.proofs.Words.{refl, in_one_of}
-use Rattle.wi_engine.proofs.together.Courses.{among_them, they_are_read, of_rectangle}
+use Rattle.wi_engine.proofs.together.Scans.{among_them, they_are_read, of_rectangle}
 use Rattle.wi_engine.proofs.together.together.Goals as goal
 
 pub smallest_with-rectangle-requires : goal.smallest_with-rectangle-requires
@@ -7,7 +7,7 @@ smallest_with-rectangle-requires c = in_one_of c.args.frame.now.formula.now c.re
 
 pub returns-clause-read : goal.returns-clause-read
 returns-clause-read c =
-    they_are_read c.args.store.now.sheet c.args.frame.now.key.world c.args.frame.now.found c.args.frame.now.formula.now c.rectangles.result.now c.smallest_with-rectangle.result c.part-area.result c.course_to-course.result.way
+    they_are_read c.args.store.now.sheet c.args.frame.now.key.world c.args.frame.now.found c.args.frame.now.formula.now c.rectangles.result.now c.smallest_with-rectangle.result c.part-area.result c.scan_to-scan.result.way
     c.in_ok-cells.cells.items c.args.at _ c.rectangles.ensures c.smallest_with-rectangle.ensures c.part-area.ensures c.in_ok-cells.ensures c.requires.read c.requires.formula
 
 pub returns-clause-wanted : goal.returns-clause-wanted
@@ -15,5 +15,5 @@ returns-clause-wanted c = among_them c.in_ok-cells.cells.items _ c.args.at c.in_
 
 pub returns-clause-following : goal.returns-clause-following
 returns-clause-following c =
-    of_rectangle c.args.store.now.sheet c.args.frame.now c.args.frame.now.formula.now c.rectangles.result.now c.smallest_with-rectangle.result c.part-area.result c.in_ok-cells.cells.items c.args.at _ c.course_to-course.result
-    c.rectangles.ensures c.smallest_with-rectangle.ensures c.course_to-course.ensures.rectangle c.part-area.ensures c.in_ok-cells.ensures c.course_to-course.ensures.count refl refl refl
+    of_rectangle c.args.store.now.sheet c.args.frame.now c.args.frame.now.formula.now c.rectangles.result.now c.smallest_with-rectangle.result c.part-area.result c.in_ok-cells.cells.items c.args.at _ c.scan_to-scan.result
+    c.rectangles.ensures c.smallest_with-rectangle.ensures c.scan_to-scan.ensures.rectangle c.part-area.ensures c.in_ok-cells.ensures c.scan_to-scan.ensures.count refl refl refl

@@ -1,11 +1,11 @@
 //! Which cells of a rectangle a formula wanted one after another, and in which direction they go on.
 
 ghost use Rattle.std.specs.Prelude.{◌≡◌, ◌≤◌, ◌*◌, ◌⊎◌, nat_lt, if◌then◌else◌};
-ghost use Rattle.wi_engine.specs.Inner.Courses.{leaves_line, max_breaks, part, twice_as_many};
+ghost use Rattle.wi_engine.specs.Inner.Scans.{leaves_line, max_breaks, part, twice_as_many};
 
 use wi_values::{Address, Rect};
 
-/// How often a course may break off before more than one cell is found there. A formula may look up some cells here and there.
+/// How often a scan may break off before more than one cell is found there. A formula may look up some cells here and there.
 /// One that wants many cells apart, as SUMIF does at the places where its criterion is met, is then begun anew no more often
 /// than the logarithm of their count.
 const MAX_BREAKS: usize = 8;
@@ -21,7 +21,7 @@ pub enum Way {
 }
 
 impl Way {
-    /// Whether a course of this way may go on in another: in the same, or in a wider one.
+    /// Whether a scan of this way may go on in another: in the same, or in a wider one.
     pub(crate) fn may_become(self, way: Way) -> bool {
         match self {
             Way::Alone => !matches!(way, Way::Alone),
@@ -31,7 +31,7 @@ impl Way {
         }
     }
 
-    /// Whether a course leaves a line of the rectangle for those beside it, where it goes on in another way.
+    /// Whether a scan leaves a line of the rectangle for those beside it, where it goes on in another way.
     fn leaves_line(self, way: Way) -> bool
         ensures { result ≡ leaves_line self way }
     {
@@ -41,7 +41,7 @@ impl Way {
 
 /// What a formula wanted of a rectangle, as far as that tells what it will want.
 #[derive(Clone, Copy)]
-pub struct Course {
+pub struct Scan {
     pub rectangle: Rect,
     pub way: Way,
     /// The last cell that was found.
@@ -52,13 +52,13 @@ pub struct Course {
     pub breaks: usize,
 }
 
-impl Course {
-    /// The course that begins at a cell.
-    pub(crate) fn begun(rectangle: Rect, at: Address) -> Course
+impl Scan {
+    /// The scan that begins at a cell.
+    pub(crate) fn begun(rectangle: Rect, at: Address) -> Scan
         ensures rectangle { result.rectangle ≡ rectangle }
         ensures count { result.count ≤ 1 }
     {
-        Course {
+        Scan {
             rectangle,
             way: Way::Alone,
             last: at,
@@ -67,9 +67,9 @@ impl Course {
         }
     }
 
-    /// The course where the cell that is wanted follows in this way: twice as many cells are found. Where it leaves a row or a column
+    /// The scan where the cell that is wanted follows in this way: twice as many cells are found. Where it leaves a row or a column
     /// it may be that no more of the next one is wanted, so it begins with one cell again.
-    pub(crate) fn led_on(self, way: Way) -> Course
+    pub(crate) fn led_on(self, way: Way) -> Scan
         ensures rectangle { result.rectangle ≡ self.rectangle }
         ensures way { result.way ≡ way }
         ensures count { (result.count ≤ 1) ⊎ (result.count ≤ 2 * self.count) }
@@ -81,11 +81,11 @@ impl Course {
         } else {
             self.count.saturating_mul(2)
         };
-        Course { way, count, ..self }
+        Scan { way, count, ..self }
     }
 
-    /// The course where the cell that is wanted doesn't follow.
-    pub(crate) fn broken(self) -> Course
+    /// The scan where the cell that is wanted doesn't follow.
+    pub(crate) fn broken(self) -> Scan
         ensures rectangle { result.rectangle ≡ self.rectangle }
         ensures count { (result.count ≤ 1)
             ⊎ ((max_breaks ≤ self.breaks) × (result.count ≤ 2 * self.count)) }
@@ -93,14 +93,14 @@ impl Course {
             ≡ (if nat_lt self.breaks max_breaks then 1 else twice_as_many self.count) }
     {
         if self.breaks < MAX_BREAKS {
-            Course {
+            Scan {
                 way: Way::Alone,
                 count: 1,
                 breaks: self.breaks + 1,
                 ..self
             }
         } else {
-            Course {
+            Scan {
                 way: Way::Whole,
                 count: self.count.saturating_mul(2),
                 ..self

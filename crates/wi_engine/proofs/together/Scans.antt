@@ -1,5 +1,5 @@
--- The cells that are found together with one, and the course that they make.
-use Rattle.wi_engine.proofs.Words.{◌≡◌, ◌==◌, ◌-◌, ◌≤◌, ◌*◌, ℕ, ◌||◌, Bool, true, false, List, ◌∷◌, filter, take, Some, Contains, refl, ap, sym, ◌∙◌, subst, inl, inr, ◌⊎◌, eq-eqb, arith, and_parts, or_left, keys_of, Area, row_of, column_of, is_within, Replacement, Tree, Sheet, content_of, has_formula, put_all, rectangles_of, one_cell, is_one_of, same_cell, reads_here, cells_after, is_after, put_formula, IsWhole, rectangle_whole, in_corners, lacks_cell, lacking_after, IsSmallestWith, AreTogether, IsCourseTo, is_next, part, Course, Way, Alone, Row, Column, Whole, Findings, Frame, column_within, within_from, within_parts, has_taken, has-filter}
+-- The cells that are found together with one, and the scan that they make.
+use Rattle.wi_engine.proofs.Words.{◌≡◌, ◌==◌, ◌-◌, ◌≤◌, ◌*◌, ℕ, ◌||◌, Bool, true, false, List, ◌∷◌, filter, take, Some, Contains, refl, ap, sym, ◌∙◌, subst, inl, inr, ◌⊎◌, eq-eqb, arith, and_parts, or_left, keys_of, Area, row_of, column_of, is_within, Replacement, Tree, Sheet, content_of, has_formula, put_all, rectangles_of, one_cell, is_one_of, same_cell, reads_here, cells_after, is_after, put_formula, IsWhole, rectangle_whole, in_corners, lacks_cell, lacking_after, IsSmallestWith, AreTogether, IsScanTo, is_next, part, Scan, Way, Alone, Row, Column, Whole, Findings, Frame, column_within, within_from, within_parts, has_taken, has-filter}
 
 -- ---- the parts of a rectangle through which ways lead lie in it
 
@@ -16,10 +16,10 @@ part_within r Column a d h m =
     within_from r d b.0 b.1 (omega (arith, at.2, b.2)) (omega (arith, at.3, b.3))
 part_within r Whole a d h m = m
 
--- ---- a course that is led on with the next cell that is lacking
+-- ---- a scan that is led on with the next cell that is lacking
 
-pub led_to : (s : Sheet) (f : Frame) (a : ℕ) (old c : Course) (way : Way) → Contains f.courses.items old → c.rectangle ≡ old.rectangle → c.way ≡ way → (c.count ≤ 1) ⊎ (c.count ≤ 2 * old.count) →
-    is_next s f old way a ≡ true → IsCourseTo s f a c
+pub led_to : (s : Sheet) (f : Frame) (a : ℕ) (old c : Scan) (way : Way) → Contains f.scans.items old → c.rectangle ≡ old.rectangle → c.way ≡ way → (c.count ≤ 1) ⊎ (c.count ≤ 2 * old.count) →
+    is_next s f old way a ≡ true → IsScanTo s f a c
 led_to s f a old c way one same is (inl alone) next = inl alone
 led_to s f a old c way one same is (inr twice) next = inr (old, record { one_of = one; rectangle = sym same; twice = twice; next = inl (rw is next) })
 
@@ -56,15 +56,15 @@ they_are_read s w f t rs r area way cells a more e k p i h g d m = by (a == d) r
         (beside (rectangle_whole t r (subst (λ (xs : List Area). Contains xs r) e k.one_of)) (part_within r way a d k.holds (sym (ap (λ (x : Area). is_within x d) p) ∙ there.0)), there.1)
 
 -- they are of one rectangle
-pub of_rectangle : (s : Sheet) (f : Frame) (t : Tree) (rs : List Area) (r area : Area) (cells : List ℕ) (a : ℕ) (c course : Course) → rs ≡ rectangles_of t → IsSmallestWith rs a r → course.rectangle ≡ r →
-    area ≡ part r course.way a → cells ≡ a ∷ take (course.count - 1) (lacking_after s f.key.world f.found area a) → IsCourseTo s f a course →
-    c.rectangle ≡ course.rectangle → c.way ≡ course.way → c.count ≡ course.count → AreTogether s f t a c cells
-of_rectangle s f t rs r area cells a c course e k same p i to x y z = record {
+pub of_rectangle : (s : Sheet) (f : Frame) (t : Tree) (rs : List Area) (r area : Area) (cells : List ℕ) (a : ℕ) (c scan : Scan) → rs ≡ rectangles_of t → IsSmallestWith rs a r → scan.rectangle ≡ r →
+    area ≡ part r scan.way a → cells ≡ a ∷ take (scan.count - 1) (lacking_after s f.key.world f.found area a) → IsScanTo s f a scan →
+    c.rectangle ≡ scan.rectangle → c.way ≡ scan.way → c.count ≡ scan.count → AreTogether s f t a c cells
+of_rectangle s f t rs r area cells a c scan e k same p i to x y z = record {
   smallest = subst (λ (q : Area). IsSmallestWith (rectangles_of t) a q) (sym (x ∙ same)) (subst (λ (xs : List Area). IsSmallestWith xs a r) e k);
   cells = i ∙ rw (p, x, same, y, z) refl;
   count = led_by to;
 }
   where
-    led_by : IsCourseTo s f a course → IsCourseTo s f a c
+    led_by : IsScanTo s f a scan → IsScanTo s f a c
     led_by (inl l) = inl (rw z l)
     led_by (inr h) = inr (h.0, record { one_of = h.1.one_of; rectangle = h.1.rectangle ∙ sym x; twice = rw z h.1.twice; next = rw y h.1.next })
