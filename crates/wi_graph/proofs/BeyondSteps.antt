@@ -230,16 +230,16 @@ beyond_all readers w cells list looked found e q k = record {
 }
 
 -- by the edges
-pub edge_beyond : (rooms : Rooms) (readers : Bag) (circles : BTreeSet ℕ) (w : ℕ → Bool) (cells list : List ℕ) → IsGraph rooms readers circles → ((s : Sheet) → AreEdgesOf (edges_in rooms.entries) s → IsClosedUp s w) → IsListBeyond readers w cells list →
+pub edge_beyond : (rooms : Rooms) (readers : Bag) (cyclic : BTreeSet ℕ) (w : ℕ → Bool) (cells list : List ℕ) → IsGraph rooms readers cyclic → ((s : Sheet) → AreEdgesOf (edges_in rooms.entries) s → IsClosedUp s w) → IsListBeyond readers w cells list →
     (s : Sheet) → AreEdgesOf (edges_in rooms.entries) s → (c : ℕ) → is_one_of list c ≡ (in_cone s cells c && not (w c))
-edge_beyond rooms readers circles w cells list g k m s h = found_beyond s readers w cells (as_set list) (graph_readers rooms readers g.ordered g.pairs s h) (k s h) m.cone
+edge_beyond rooms readers cyclic w cells list g k m s h = found_beyond s readers w cells (as_set list) (graph_readers rooms readers g.ordered g.pairs s h) (k s h) m.cone
 
 -- ---- cells that nothing reads
 
-pub unread_cells : (rooms : Rooms) (readers : Bag) (circles : BTreeSet ℕ) (cells : List ℕ) → IsGraph rooms readers circles → ((a r : ℕ) → is_one_of cells a ≡ true → IsReader readers a r → ⊥) →
+pub unread_cells : (rooms : Rooms) (readers : Bag) (cyclic : BTreeSet ℕ) (cells : List ℕ) → IsGraph rooms readers cyclic → ((a r : ℕ) → is_one_of cells a ≡ true → IsReader readers a r → ⊥) →
     (s : Sheet) → AreEdgesOf (edges_in rooms.entries) s → (x : ℕ) → is_one_of cells x ≡ true → IsUnread s x
-unread_cells rooms readers circles cells g n s h x m c = false_from_ne_true (content_reads (content_of s c) x) (λ r. n x c m ((graph_readers rooms readers g.ordered g.pairs s h x c).0 r))
+unread_cells rooms readers cyclic cells g n s h x m c = false_from_ne_true (content_reads (content_of s c) x) (λ r. n x c m ((graph_readers rooms readers g.ordered g.pairs s h x c).0 r))
 
-pub read_cell : (rooms : Rooms) (readers : Bag) (circles : BTreeSet ℕ) (cells : List ℕ) → IsGraph rooms readers circles → (a : ℕ) × (is_one_of cells a ≡ true) × IsRead readers a →
+pub read_cell : (rooms : Rooms) (readers : Bag) (cyclic : BTreeSet ℕ) (cells : List ℕ) → IsGraph rooms readers cyclic → (a : ℕ) × (is_one_of cells a ≡ true) × IsRead readers a →
     (s : Sheet) → AreEdgesOf (edges_in rooms.entries) s → (x : ℕ) × (is_one_of cells x ≡ true) × (c : ℕ) × (content_reads (content_of s c) x ≡ true)
-read_cell rooms readers circles cells g f s h = (f.0, f.1, f.2.0, (graph_readers rooms readers g.ordered g.pairs s h f.0 f.2.0).1 f.2.1)
+read_cell rooms readers cyclic cells g f s h = (f.0, f.1, f.2.0, (graph_readers rooms readers g.ordered g.pairs s h f.0 f.2.0).1 f.2.1)

@@ -1,5 +1,5 @@
 -- Edits that close no cycle.
-use Rattle.wi_graph.proofs.Words.{◌≡◌, ◌==◌, ◌&&◌, ◌||◌, ◌⊎◌, inl, inr, ℕ, Bool, true, false, cond, filter, nat_le, get_or, length, arith, List, [], ◌∷◌, Option, Some, None, IfSome, is_some, refl, ap, sym, ◌∙◌, subst, or_cases, or_left, or_right, or_parts, or-false, and_parts, and_from, false_from_ne_true, le-leb, nil_from_length, list_any, find, keys_of, lookup, nat_cmp, is_at, BTreeSet, btree_set_len, contains, SmallVec, one_truth, Area, is_within, within_between, Content, Sheet, content_of, content_reads, circular, is_one_of, areas_in, Turns, areas_then, Brings, IsEditCone, Rooms, Coming, brought_to, in_room, items_of, room_at, put_over, room_over, areas_of, AreCircles, is_within_one, reads_cell, has_one, reads_one_of, meets_one_of, has_room_in, StandsApart, AreTurns, as_set, is_ahead, IsLookedAt, ReachesNot, ReadsApart, IsAhead, IsFoundBy, has_key}
+use Rattle.wi_graph.proofs.Words.{◌≡◌, ◌==◌, ◌&&◌, ◌||◌, ◌⊎◌, inl, inr, ℕ, Bool, true, false, cond, filter, nat_le, get_or, length, arith, List, [], ◌∷◌, Option, Some, None, IfSome, is_some, refl, ap, sym, ◌∙◌, subst, or_cases, or_left, or_right, or_parts, or-false, and_parts, and_from, false_from_ne_true, le-leb, nil_from_length, list_any, find, keys_of, lookup, nat_cmp, is_at, BTreeSet, btree_set_len, contains, SmallVec, one_truth, Area, is_within, within_between, Content, Sheet, content_of, content_reads, circular, is_one_of, areas_in, Turns, areas_then, Brings, IsEditCone, Rooms, Coming, brought_to, in_room, items_of, room_at, put_over, room_over, areas_of, AreCyclic, is_within_one, reads_cell, has_one, reads_one_of, meets_one_of, has_room_in, StandsApart, AreTurns, as_set, is_ahead, IsLookedAt, ReachesNot, ReadsApart, IsAhead, IsFoundBy, has_key}
 use Rattle.wi_graph.proofs.Tests.{is_at-eq, turn_test, is_itself, clash}
 use Rattle.wi_graph.proofs.Walks.{found, same_cell}
 use Rattle.wi_graph.proofs.Graphs.{left_circular}
@@ -8,7 +8,7 @@ use Rattle.wi_graph.proofs.ReachTest.{not_in_cone}
 use Rattle.wi_graph.proofs.CircularAfter.{reads_circular}
 use Rattle.wi_graph.proofs.ChangeSteps.{then_sheet, then_contents, then_same}
 use Rattle.wi_graph.proofs.GraphSteps.{reads_areas}
-use Rattle.wi_graph.proofs.TurningSteps.{brought, none_came, none_turned}
+use Rattle.wi_graph.proofs.TurningSteps.{brought, none_became, none_turned}
 
 -- ---- whether a rectangle has one of the cells
 
@@ -79,13 +79,13 @@ none_met cells (x ∷ xs) c r e h = at (is_at (nat_cmp c) x.0) (is_at-eq c x.0) 
 -- ---- so no cycle is closed, and none is opened
 
 -- no cell that gets something else is circular, and what it reads then isn't circular after the edit
-record IsApart (rooms : Rooms) (next : Coming) (circles : BTreeSet ℕ) (then : Sheet) : Type 0 where
-  before : AreCircles (room_at rooms) (contains nat_cmp circles)
+record IsApart (rooms : Rooms) (next : Coming) (cyclic : BTreeSet ℕ) (then : Sheet) : Type 0 where
+  before : AreCyclic (room_at rooms) (contains nat_cmp cyclic)
   after : (c : ℕ) → room_over next rooms c ≡ areas_in (content_of then c)
-  named : (c : ℕ) (v : Option (SmallVec Area)) → brought_to next c ≡ Some v → contains nat_cmp circles c ≡ false
+  named : (c : ℕ) (v : Option (SmallVec Area)) → brought_to next c ≡ Some v → contains nat_cmp cyclic c ≡ false
   reads : (c : ℕ) (v : Option (SmallVec Area)) → brought_to next c ≡ Some v → (d : ℕ) → is_within_one (areas_of (items_of v)) d ≡ true → circular then d ≡ false
 
-module _ {rooms : Rooms} {next : Coming} {circles : BTreeSet ℕ} {then : Sheet} (k : IsApart rooms next circles then) where
+module _ {rooms : Rooms} {next : Coming} {cyclic : BTreeSet ℕ} {then : Sheet} (k : IsApart rooms next cyclic then) where
   reads_then : (c : ℕ) (o : Option (Option (SmallVec Area))) → brought_to next c ≡ o → (d : ℕ) → content_reads (content_of then c) d ≡ is_within_one (areas_of (put_over o (room_at rooms c))) d
   reads_then c o e d =
       reads_areas (content_of then c) d
@@ -108,35 +108,35 @@ module _ {rooms : Rooms} {next : Coming} {circles : BTreeSet ℕ} {then : Sheet}
     where
       at : (d : ℕ) → content_reads (content_of k.before.sheet c) d ≡ true → circular k.before.sheet d ≡ true → (o : Option (Option (SmallVec Area))) → brought_to next c ≡ o → (d : ℕ) × (content_reads (content_of then c) d ≡ true) × (circular k.before.sheet d ≡ true)
       at d r u None e = (d, reads_then c None e d ∙ sym (reads_before c d) ∙ r, u)
-      at d r u (Some v) e = clash (circular k.before.sheet c) h (sym (k.before.circles c) ∙ k.named c v e)
+      at d r u (Some v) e = clash (circular k.before.sheet c) h (sym (k.before.cyclic c) ∙ k.named c v e)
 
-  same_circles : (c : ℕ) → contains nat_cmp circles c ≡ circular then c
-  same_circles c =
-      k.before.circles c
+  same_cyclic : (c : ℕ) → contains nat_cmp cyclic c ≡ circular then c
+  same_cyclic c =
+      k.before.cyclic c
       ∙ one_truth (circular k.before.sheet c) (circular then c) (left_circular then (circular k.before.sheet) reads_still c) (left_circular k.before.sheet (circular then) still_reads c)
 
-  none_turns : (turns : Turns) → turns.came.items ≡ [] → turns.went.items ≡ [] → AreTurns rooms next circles turns
+  none_turns : (turns : Turns) → turns.became.items ≡ [] → turns.ceased.items ≡ [] → AreTurns rooms next cyclic turns
   none_turns turns f h = record {
-    fresh = none_came circles turns f;
-    after = record { sheet = then; are = k.after; circles = λ c. none_turned circles turns f h c ∙ same_circles c };
+    fresh = none_became cyclic turns f;
+    after = record { sheet = then; are = k.after; cyclic = λ c. none_turned cyclic turns f h c ∙ same_cyclic c };
   }
 
 -- where no circular cell is met, and none of the cone is read
-pub none_turn : (rooms : Rooms) (next : Coming) (circles cone : BTreeSet ℕ) (turns : Turns) → AreCircles (room_at rooms) (contains nat_cmp circles) → IsEditCone rooms next (contains nat_cmp cone) → meets_one_of next circles ≡ false → reads_one_of next cone ≡ false → turns.came.items ≡ [] → turns.went.items ≡ [] →
-    AreTurns rooms next circles turns
-none_turn rooms next circles cone turns g e m n f h = none_turns {then = then_sheet g.sheet e.changes} (record {
+pub none_turn : (rooms : Rooms) (next : Coming) (cyclic cone : BTreeSet ℕ) (turns : Turns) → AreCyclic (room_at rooms) (contains nat_cmp cyclic) → IsEditCone rooms next (contains nat_cmp cone) → meets_one_of next cyclic ≡ false → reads_one_of next cone ≡ false → turns.became.items ≡ [] → turns.ceased.items ≡ [] →
+    AreTurns rooms next cyclic turns
+none_turn rooms next cyclic cone turns g e m n f h = none_turns {then = then_sheet g.sheet e.changes} (record {
   before = g;
-  after = brought rooms next circles cone g e;
-  named = λ c v k. (none_met circles next c v k m).0;
+  after = brought rooms next cyclic cone g e;
+  named = λ c v k. (none_met cyclic next c v k m).0;
   reads = λ c v k d i.
       sym (outside_circular g.sheet (then_sheet g.sheet e.changes) (keys_of e.changes) d (then_same g.sheet e.changes) (not_in_cone g.sheet (keys_of e.changes) d (sym (e.is_cone g.sheet g.are d) ∙ apart_from cone (areas_of (items_of v)) d (none_read cone next c v k n) i)))
-      ∙ sym (g.circles d) ∙ apart_from circles (areas_of (items_of v)) d (none_met circles next c v k m).1 i;
+      ∙ sym (g.cyclic d) ∙ apart_from cyclic (areas_of (items_of v)) d (none_met cyclic next c v k m).1 i;
 }) turns f h
 
 -- where what is next reads no formula
-pub apart_turn : (rooms : Rooms) (next : Coming) (circles : BTreeSet ℕ) (changes : List (ℕ × Option Content)) (turns : Turns) → AreCircles (room_at rooms) (contains nat_cmp circles) → Brings rooms next changes → StandsApart rooms next circles → turns.came.items ≡ [] → turns.went.items ≡ [] →
-    AreTurns rooms next circles turns
-apart_turn rooms next circles changes turns g b a f h = none_turns {then = then_sheet g.sheet changes} (record {
+pub apart_turn : (rooms : Rooms) (next : Coming) (cyclic : BTreeSet ℕ) (changes : List (ℕ × Option Content)) (turns : Turns) → AreCyclic (room_at rooms) (contains nat_cmp cyclic) → Brings rooms next changes → StandsApart rooms next cyclic → turns.became.items ≡ [] → turns.ceased.items ≡ [] →
+    AreTurns rooms next cyclic turns
+apart_turn rooms next cyclic changes turns g b a f h = none_turns {then = then_sheet g.sheet changes} (record {
   before = g;
   after = after;
   named = λ c v e. (a c v e).0;
@@ -188,29 +188,29 @@ no_room_there rooms cell (r ∷ rs) d n h = at (or_cases (is_within r d) _ h) (o
         )
     at (inr w) p ih = ih p.1 w
 
-pub one_stands_apart : (rooms : Rooms) (next : Coming) (circles : BTreeSet ℕ) (x : ℕ × Option (SmallVec Area)) → length next ≡ 1 → x ≡ get_or next 0 x → contains nat_cmp circles x.0 ≡ false → list_any (has_room_in rooms x.0) (areas_of (items_of x.1)) ≡ false → StandsApart rooms next circles
-one_stands_apart rooms [] circles x l e n m c v h = cc
-one_stands_apart rooms (y ∷ []) circles x l e n m c v h = at (is_at (nat_cmp c) y.0) (is_at-eq c y.0) h
+pub one_stands_apart : (rooms : Rooms) (next : Coming) (cyclic : BTreeSet ℕ) (x : ℕ × Option (SmallVec Area)) → length next ≡ 1 → x ≡ get_or next 0 x → contains nat_cmp cyclic x.0 ≡ false → list_any (has_room_in rooms x.0) (areas_of (items_of x.1)) ≡ false → StandsApart rooms next cyclic
+one_stands_apart rooms [] cyclic x l e n m c v h = cc
+one_stands_apart rooms (y ∷ []) cyclic x l e n m c v h = at (is_at (nat_cmp c) y.0) (is_at-eq c y.0) h
   where
     is_y : x ≡ y
     is_y = e
 
-    at : (b : Bool) → b ≡ (c == y.0) → cond b (Some y.1) None ≡ Some v → (contains nat_cmp circles c ≡ false) × ((d : ℕ) → is_within_one (areas_of (items_of v)) d ≡ true → room_over (y ∷ []) rooms d ≡ None)
+    at : (b : Bool) → b ≡ (c == y.0) → cond b (Some y.1) None ≡ Some v → (contains nat_cmp cyclic c ≡ false) × ((d : ℕ) → is_within_one (areas_of (items_of v)) d ≡ true → room_over (y ∷ []) rooms d ≡ None)
     at false t k = cc
     at true t k =
         let z : y.1 ≡ v = cc in
         let s : y.0 ≡ c = sym (same_cell y.0 c (sym t)) in
-        (ap (contains nat_cmp circles) (sym s ∙ sym (ap (λ (w : ℕ × Option (SmallVec Area)). w.0) is_y)) ∙ n, λ d i. none d (no_room_there rooms x.0 (areas_of (items_of x.1)) d m (ap (λ (w : Option (SmallVec Area)). is_within_one (areas_of (items_of w)) d) (ap (λ (w : ℕ × Option (SmallVec Area)). w.1) is_y ∙ z) ∙ i)))
+        (ap (contains nat_cmp cyclic) (sym s ∙ sym (ap (λ (w : ℕ × Option (SmallVec Area)). w.0) is_y)) ∙ n, λ d i. none d (no_room_there rooms x.0 (areas_of (items_of x.1)) d m (ap (λ (w : Option (SmallVec Area)). is_within_one (areas_of (items_of w)) d) (ap (λ (w : ℕ × Option (SmallVec Area)). w.1) is_y ∙ z) ∙ i)))
       where
         none : (d : ℕ) → ((x.0 == d) ≡ false) × (is_one_of (keys_of rooms.entries) d ≡ false) → room_over (y ∷ []) rooms d ≡ None
         none d p =
             ap (λ (b : Bool). put_over (cond b (Some y.1) None) (room_at rooms d)) (is_at-eq d y.0 ∙ turn_test d y.0 ∙ ap (λ (w : ℕ). w == d) (sym (ap (λ (w : ℕ × Option (SmallVec Area)). w.0) is_y)) ∙ p.0)
             ∙ ap in_room (no_key rooms.entries d p.1)
-one_stands_apart rooms (y ∷ z ∷ zs) circles x l e n m c v h = absurd (omega arith)
+one_stands_apart rooms (y ∷ z ∷ zs) cyclic x l e n m c v h = absurd (omega arith)
 
 -- where no cell is circular, none is met
-pub no_circle_met : (es : Coming) (cells : BTreeSet ℕ) → btree_set_len cells ≡ 0 → false ≡ meets_one_of es cells
-no_circle_met es cells z = subst (λ (ks : List ℕ). false ≡ meets_one_of es (record { keys = ks })) (sym (nil_from_length cells.keys z)) (sym (nothing_met es))
+pub no_cyclic_met : (es : Coming) (cells : BTreeSet ℕ) → btree_set_len cells ≡ 0 → false ≡ meets_one_of es cells
+no_cyclic_met es cells z = subst (λ (ks : List ℕ). false ≡ meets_one_of es (record { keys = ks })) (sym (nil_from_length cells.keys z)) (sym (nothing_met es))
   where
     none_in : (rs : List Area) → list_any (has_one (record { keys = [] })) rs ≡ false
     none_in [] = refl
@@ -222,12 +222,12 @@ no_circle_met es cells z = subst (λ (ks : List ℕ). false ≡ meets_one_of es 
 
 -- ---- where what one cell is to read, at any remove, isn't circular and isn't the cell
 
-pub reach_turn : (rooms : Rooms) (next : Coming) (circles : BTreeSet ℕ) (changes : List (ℕ × Option Content)) (turns : Turns) → AreCircles (room_at rooms) (contains nat_cmp circles) → Brings rooms next changes → ReadsApart rooms next circles → turns.came.items ≡ [] → turns.went.items ≡ [] →
-    AreTurns rooms next circles turns
-reach_turn rooms next circles changes turns g b k f h = none_turns {then = then_sheet g.sheet changes} (record {
+pub reach_turn : (rooms : Rooms) (next : Coming) (cyclic : BTreeSet ℕ) (changes : List (ℕ × Option Content)) (turns : Turns) → AreCyclic (room_at rooms) (contains nat_cmp cyclic) → Brings rooms next changes → ReadsApart rooms next cyclic → turns.became.items ≡ [] → turns.ceased.items ≡ [] →
+    AreTurns rooms next cyclic turns
+reach_turn rooms next cyclic changes turns g b k f h = none_turns {then = then_sheet g.sheet changes} (record {
   before = g;
   after = after;
-  named = λ c v e. (none_met circles next c v e k.unmet).0;
+  named = λ c v e. (none_met cyclic next c v e k.unmet).0;
   reads = λ c v e d i. false_from_ne_true (circular (then_sheet g.sheet changes) d) (λ u. clash (circular g.sheet d) (was_circular d (first c v e d i) u) (is_open c v e d i));
 }) turns f h
   where
@@ -235,7 +235,7 @@ reach_turn rooms next circles changes turns g b k f h = none_turns {then = then_
     after c = b c ∙ ap (areas_then changes c) (g.are c) ∙ sym (then_contents g.sheet changes c)
 
     is_open : (c : ℕ) (v : Option (SmallVec Area)) → brought_to next c ≡ Some v → (d : ℕ) → is_within_one (areas_of (items_of v)) d ≡ true → circular g.sheet d ≡ false
-    is_open c v e d i = sym (g.circles d) ∙ apart_from circles (areas_of (items_of v)) d (none_met circles next c v e k.unmet).1 i
+    is_open c v e d i = sym (g.cyclic d) ∙ apart_from cyclic (areas_of (items_of v)) d (none_met cyclic next c v e k.unmet).1 i
 
     -- nothing is next for another cell
     others : (d : ℕ) → (k.cell == d) ≡ false → brought_to next d ≡ None
@@ -280,13 +280,13 @@ reach_turn rooms next circles changes turns g b k f h = none_turns {then = then_
     was_circular d l u = left_circular g.sheet both down d (and_from (circular (then_sheet g.sheet changes) d) (k.not_met.0 d) u (found_at d l.0 u l.1))
 
 -- one cell gets something
-pub reads_apart : (rooms : Rooms) (next : Coming) (circles : BTreeSet ℕ) (x : ℕ × Option (SmallVec Area)) → length next ≡ 1 → x ≡ get_or next 0 x → meets_one_of next circles ≡ false → ReachesNot rooms x.0 (areas_of (items_of x.1)) → ReadsApart rooms next circles
-reads_apart rooms [] circles x l e m n = absurd (omega arith)
-reads_apart rooms (y ∷ []) circles x l e m n = record {
+pub reads_apart : (rooms : Rooms) (next : Coming) (cyclic : BTreeSet ℕ) (x : ℕ × Option (SmallVec Area)) → length next ≡ 1 → x ≡ get_or next 0 x → meets_one_of next cyclic ≡ false → ReachesNot rooms x.0 (areas_of (items_of x.1)) → ReadsApart rooms next cyclic
+reads_apart rooms [] cyclic x l e m n = absurd (omega arith)
+reads_apart rooms (y ∷ []) cyclic x l e m n = record {
   cell = x.0;
   room = x.1;
   alone = ap (λ (w : ℕ × Option (SmallVec Area)). w ∷ []) (sym e);
   unmet = m;
   not_met = n;
 }
-reads_apart rooms (y ∷ z ∷ zs) circles x l e m n = absurd (omega arith)
+reads_apart rooms (y ∷ z ∷ zs) cyclic x l e m n = absurd (omega arith)

@@ -47,9 +47,9 @@ same_reaches s t e c a = one_truth (reaches s c a) (reaches t c a)
 pub rooms_areas : (rooms : Rooms) (s : Sheet) → IsOrdered nat_cmp rooms → AreEdgesOf (edges_in rooms.entries) s → (c : ℕ) → room_at rooms c ≡ areas_in (content_of s c)
 rooms_areas rooms s o e c = sym (areas_rooms rooms.entries (Ascends-from_order rooms.entries o) c) ∙ e c
 
-pub graph_circular : (rooms : Rooms) (readers : Bag) (circles : BTreeSet ℕ) → IsGraph rooms readers circles → (s : Sheet) → AreEdgesOf (edges_in rooms.entries) s → (c : ℕ) → contains nat_cmp circles c ≡ circular s c
-graph_circular rooms readers circles g s e c =
-    g.circular.circles c ∙ same_circular g.circular.sheet s (λ d. sym (g.circular.are d) ∙ rooms_areas rooms s g.ordered e d) c
+pub graph_circular : (rooms : Rooms) (readers : Bag) (cyclic : BTreeSet ℕ) → IsGraph rooms readers cyclic → (s : Sheet) → AreEdgesOf (edges_in rooms.entries) s → (c : ℕ) → contains nat_cmp cyclic c ≡ circular s c
+graph_circular rooms readers cyclic g s e c =
+    g.circular.cyclic c ∙ same_circular g.circular.sheet s (λ d. sym (g.circular.are d) ∙ rooms_areas rooms s g.ordered e d) c
 
 -- ---- who reads a cell
 

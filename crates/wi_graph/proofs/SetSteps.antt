@@ -122,13 +122,13 @@ keeps_others rest less cell l c n h = l c ∙ at (is_at (nat_cmp cell) c) refl
 -- ---- cells that are new in a set
 
 abbrev pub AreNew : List ℕ → BTreeSet ℕ → Type 0
-AreNew came set = (c : ℕ) → is_one_of came c ≡ true → contains nat_cmp set c ≡ false
+AreNew became set = (c : ℕ) → is_one_of became c ≡ true → contains nat_cmp set c ≡ false
 
 -- they are taken back, also where only some are in
-pub came_undone : (old new back : BTreeSet ℕ) (came : List ℕ) → AreNew came old → ((c : ℕ) → contains nat_cmp old c ≡ true → contains nat_cmp new c ≡ true) →
-    ((c : ℕ) → contains nat_cmp new c ≡ true → (contains nat_cmp old c || is_one_of came c) ≡ true) → ((c : ℕ) → contains nat_cmp back c ≡ less_these new came c) →
+pub became_undone : (old new back : BTreeSet ℕ) (became : List ℕ) → AreNew became old → ((c : ℕ) → contains nat_cmp old c ≡ true → contains nat_cmp new c ≡ true) →
+    ((c : ℕ) → contains nat_cmp new c ≡ true → (contains nat_cmp old c || is_one_of became c) ≡ true) → ((c : ℕ) → contains nat_cmp back c ≡ less_these new became c) →
     (c : ℕ) → contains nat_cmp back c ≡ contains nat_cmp old c
-came_undone old new back came e s o b c = b c ∙ at (contains nat_cmp new c) (is_one_of came c) (contains nat_cmp old c) (e c) (s c) (o c)
+became_undone old new back became e s o b c = b c ∙ at (contains nat_cmp new c) (is_one_of became c) (contains nat_cmp old c) (e c) (s c) (o c)
   where
     at : (n w f : Bool) → (w ≡ true → f ≡ false) → (f ≡ true → n ≡ true) → (n ≡ true → (f || w) ≡ true) → (n && not w) ≡ f
     at true true true r s o = let z = r refl in cc
@@ -138,9 +138,9 @@ came_undone old new back came e s o b c = b c ∙ at (contains nat_cmp new c) (i
     at false w true r s o = let z = s refl in cc
     at false w false r s o = refl
 
-pub came_before : (old new : BTreeSet ℕ) (came : List ℕ) → AreNew came old → ((c : ℕ) → contains nat_cmp new c ≡ (contains nat_cmp old c || is_one_of came c)) →
-    (c : ℕ) → less_these new came c ≡ contains nat_cmp old c
-came_before old new came e n c = at (contains nat_cmp new c) (is_one_of came c) (contains nat_cmp old c) (e c) (n c)
+pub came_before : (old new : BTreeSet ℕ) (became : List ℕ) → AreNew became old → ((c : ℕ) → contains nat_cmp new c ≡ (contains nat_cmp old c || is_one_of became c)) →
+    (c : ℕ) → less_these new became c ≡ contains nat_cmp old c
+came_before old new became e n c = at (contains nat_cmp new c) (is_one_of became c) (contains nat_cmp old c) (e c) (n c)
   where
     at : (n w f : Bool) → (w ≡ true → f ≡ false) → n ≡ (f || w) → (n && not w) ≡ f
     at n true true r m = let z = r refl in cc

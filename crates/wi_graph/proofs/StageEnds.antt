@@ -2,44 +2,44 @@
 use Rattle.wi_graph.proofs.Words.{◌≡◌, ℕ, Bool, ◌&&◌, ◌||◌, List, not, Option, Some, None, option_map, IfSome, IfNone, refl, ap, sym, ◌∙◌, nat_cmp, BTreeSet, contains, IsOrdered, Content, Bag, is_one_of, Edges, Staging, staging, edges_after, Staged, Turns, Rooms, Coming, brought_to, room_at, put_over, room_over, edges_in, edges_over, AreInOrder, HasNoIdle, HasRooms, HasPairs, HasBoth, less_these, IsGraph, IsStaged, ReadsStay, turned_by, AreTurns}
 use Rattle.wi_graph.proofs.ChangeSteps.{stay_edges, edges_stay}
 use Rattle.wi_graph.proofs.SetSteps.{AreNew, came_before}
-use Rattle.wi_graph.proofs.GraphEnds.{view_of, circles_over}
+use Rattle.wi_graph.proofs.GraphEnds.{view_of, cyclic_over}
 
 -- the edit is staged
-pub staged_graph : (rooms new : Rooms) (next : Coming) (readers more : Bag) (circles has : BTreeSet ℕ) (turns : Turns) → IsGraph rooms readers circles → AreInOrder next → HasNoIdle rooms next → IsOrdered nat_cmp new → HasRooms new next → HasBoth more new next →
-    ((c : ℕ) → room_at new c ≡ room_at rooms c) → AreTurns rooms next circles turns →
-    ((c : ℕ) → contains nat_cmp has c ≡ (contains nat_cmp circles c || is_one_of turns.came.items c)) → IsStaged new next more has turns
-staged_graph rooms new next readers more circles has turns g r n o hr hb e t h = record {
+pub staged_graph : (rooms new : Rooms) (next : Coming) (readers more : Bag) (cyclic has : BTreeSet ℕ) (turns : Turns) → IsGraph rooms readers cyclic → AreInOrder next → HasNoIdle rooms next → IsOrdered nat_cmp new → HasRooms new next → HasBoth more new next →
+    ((c : ℕ) → room_at new c ≡ room_at rooms c) → AreTurns rooms next cyclic turns →
+    ((c : ℕ) → contains nat_cmp has c ≡ (contains nat_cmp cyclic c || is_one_of turns.became.items c)) → IsStaged new next more has turns
+staged_graph rooms new next readers more cyclic has turns g r n o hr hb e t h = record {
   ordered = o;
   order = r;
   no_idle = λ c i. n c (i ∙ e c);
   has_rooms = hr;
   pairs = hb;
-  before = circles_over (room_at new) (room_at rooms) (less_these has turns.came.items) (contains nat_cmp circles) e (came_before circles has turns.came.items t.fresh h) g.circular;
-  after = circles_over (room_over next new) (room_over next rooms) (less_these has turns.went.items) (turned_by circles turns)
+  before = cyclic_over (room_at new) (room_at rooms) (less_these has turns.became.items) (contains nat_cmp cyclic) e (came_before cyclic has turns.became.items t.fresh h) g.circular;
+  after = cyclic_over (room_over next new) (room_over next rooms) (less_these has turns.ceased.items) (turned_by cyclic turns)
       (λ c. ap (put_over (brought_to next c)) (e c))
-      (λ c. ap (λ (b : Bool). b && not (is_one_of turns.went.items c)) (h c)) t.after;
+      (λ c. ap (λ (b : Bool). b && not (is_one_of turns.ceased.items c)) (h c)) t.after;
 }
 
 -- or refused
-pub same_graph : (rooms : Rooms) (readers : Bag) (circles has : BTreeSet ℕ) → IsGraph rooms readers circles → ((c : ℕ) → contains nat_cmp has c ≡ contains nat_cmp circles c) → IsGraph rooms readers has
-same_graph rooms readers circles has g h = record {
+pub same_graph : (rooms : Rooms) (readers : Bag) (cyclic has : BTreeSet ℕ) → IsGraph rooms readers cyclic → ((c : ℕ) → contains nat_cmp has c ≡ contains nat_cmp cyclic c) → IsGraph rooms readers has
+same_graph rooms readers cyclic has g h = record {
   ordered = g.ordered;
   pairs = g.pairs;
-  circular = circles_over (room_at rooms) (room_at rooms) (contains nat_cmp has) (contains nat_cmp circles) (λ c. refl) h g.circular;
+  circular = cyclic_over (room_at rooms) (room_at rooms) (contains nat_cmp has) (contains nat_cmp cyclic) (λ c. refl) h g.circular;
 }
 
-pub refused_graph : (old new : Rooms) (before after : Bag) (circles mid has : BTreeSet ℕ) (came taken : List ℕ) → IsGraph old before circles → IsOrdered nat_cmp new → ((c : ℕ) → room_at new c ≡ room_at old c) → HasPairs after new →
-    AreNew came circles → ((c : ℕ) → contains nat_cmp mid c ≡ (contains nat_cmp circles c || is_one_of came c)) → taken ≡ came → ((c : ℕ) → contains nat_cmp has c ≡ less_these mid taken c) → IsGraph new after has
-refused_graph old new before after circles mid has came taken g o e p k m t h = record {
+pub refused_graph : (old new : Rooms) (before after : Bag) (cyclic mid has : BTreeSet ℕ) (became taken : List ℕ) → IsGraph old before cyclic → IsOrdered nat_cmp new → ((c : ℕ) → room_at new c ≡ room_at old c) → HasPairs after new →
+    AreNew became cyclic → ((c : ℕ) → contains nat_cmp mid c ≡ (contains nat_cmp cyclic c || is_one_of became c)) → taken ≡ became → ((c : ℕ) → contains nat_cmp has c ≡ less_these mid taken c) → IsGraph new after has
+refused_graph old new before after cyclic mid has became taken g o e p k m t h = record {
   ordered = o;
   pairs = p;
-  circular = circles_over (room_at new) (room_at old) (contains nat_cmp has) (contains nat_cmp circles) e (λ c. h c ∙ ap (λ (xs : List ℕ). less_these mid xs c) t ∙ came_before circles mid came k m c) g.circular;
+  circular = cyclic_over (room_at new) (room_at old) (contains nat_cmp has) (contains nat_cmp cyclic) e (λ c. h c ∙ ap (λ (xs : List ℕ). less_these mid xs c) t ∙ came_before cyclic mid became k m c) g.circular;
 }
 
-pub refused_invariant : (old new : Rooms) (readers : Bag) (circles : BTreeSet ℕ) (o : Option Staged) → option_map (λ x. edges_over (edges_in old.entries) x.next.items) o ≡ None → IsGraph new readers circles →
-    IfNone o (IsGraph new readers circles) × IfSome o (λ x. IsStaged new x.next.items readers circles x.turns)
-refused_invariant old new readers circles None e g = (g, tt)
-refused_invariant old new readers circles (Some x) e g = cc
+pub refused_invariant : (old new : Rooms) (readers : Bag) (cyclic : BTreeSet ℕ) (o : Option Staged) → option_map (λ x. edges_over (edges_in old.entries) x.next.items) o ≡ None → IsGraph new readers cyclic →
+    IfNone o (IsGraph new readers cyclic) × IfSome o (λ x. IsStaged new x.next.items readers cyclic x.turns)
+refused_invariant old new readers cyclic None e g = (g, tt)
+refused_invariant old new readers cyclic (Some x) e g = cc
 
 pub refused_view : (old new : Rooms) (o : Option Staged) (now : Staging) → view_of old o ≡ now → edges_in new.entries ≡ edges_in old.entries → view_of new o ≡ now
 refused_view old new o now v k = ap (λ (es : Edges). staging es (option_map (λ x. edges_over es x.next.items) o)) k ∙ v

@@ -37,12 +37,12 @@ unfoldable pub use Rattle.wi_graph.specs.Circular.{circular}
 pub use Rattle.wi_graph.specs.Edges.{AreEdgesOf, Edges, Staging, areas_at, areas_in, brought, edges_after, sheet_after, staging, with_areas}
 pub use Rattle.wi_graph.specs.Inner.Below.{HasAreas, HasRest, IsBelow, IsLookedAt, IsSearchingBelow, ReachesNot, ReadsApart, has_visited, is_ahead}
 pub use Rattle.wi_graph.specs.Inner.Bounds.{AreWithin}
-pub use Rattle.wi_graph.specs.Inner.Changes.{Brings, IsEditCone, ReadsStay, areas_then, went_from}
-pub use Rattle.wi_graph.specs.Inner.Rooms.{AreCircles, AreInOrder, Coming, HasBoth, HasNoIdle, HasPairs, HasRooms, IsGraph, IsStaged, Rooms, areas_of, brought_to, coming_at, edges_in, edges_over, in_room, items_of, less_these, put_over, room_at, room_over, times, times_coming, times_in, with_room}
+pub use Rattle.wi_graph.specs.Inner.Changes.{Brings, IsEditCone, ReadsStay, areas_then, ceased_from}
+pub use Rattle.wi_graph.specs.Inner.Rooms.{AreCyclic, AreInOrder, Coming, HasBoth, HasNoIdle, HasPairs, HasRooms, IsGraph, IsStaged, Rooms, areas_of, brought_to, coming_at, edges_in, edges_over, in_room, items_of, less_these, put_over, room_at, room_over, times, times_coming, times_in, with_room}
 pub use Rattle.wi_graph.specs.Inner.Search.{AreEnqueued, GoesToReaders, HasAll, HasReaders, IsConeBeyond, IsConeOf, IsConeSet, IsLeast, IsListBeyond, beyond, missing}
 pub use Rattle.wi_graph.specs.Inner.Staging.{HasThese, times_among}
 pub use Rattle.wi_graph.specs.Inner.Stripping.{AreStripped, EachReadsOne, IsFree, IsTracking, IsWithin, KeepsReads, ReadsOne, Waits, items_there, reads_in, waiting_for, waits_for}
-pub use Rattle.wi_graph.specs.Inner.Turning.{AreTurns, FindsCyclic, StandsApart, has_circle_outside, has_one, has_room_in, meets_one_of, reads_cell, reads_one_of, reads_outside, turned_by}
+pub use Rattle.wi_graph.specs.Inner.Turning.{AreTurns, FindsCyclic, StandsApart, has_cyclic_outside, has_one, has_room_in, meets_one_of, reads_cell, reads_one_of, reads_outside, turned_by}
 pub use Rattle.wi_graph.specs.Inner.Walks.{has_walk}
 pub use Rattle.wi_graph.specs.Inner.Within.{IsAhead, IsBetween, IsFoundBy}
 pub use Rattle.wi_graph.specs.Latest.{EditDirties, IsLatest, IsDirty, IsUnread, LatestByStep, LatestIsAmong, LatestOfCone, LatestRises, NoneIsDirty, OneIsLatest, DirtyStays, FlushesOne, FlushingBegins, latest_among, numbered}

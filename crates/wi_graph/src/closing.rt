@@ -69,57 +69,57 @@ fn has_one(area: Rect, cells: &[Address], bounds: Rect) -> bool
 /// Whether what is next is for a circular cell, or reads one. The work for each rectangle that is read grows with the logarithm of the
 /// count of circular cells, once and for each of its rows beside which one of them stands; where no cell is circular, it is constant.
 #[inline(always)]
-pub(crate) fn meets_circle(next: &[Brought], circles: &CellSet) -> bool
-    ensures { result ≡ meets_one_of next.now circles.now }
+pub(crate) fn meets_cyclic(next: &[Brought], cyclic: &CellSet) -> bool
+    ensures { result ≡ meets_one_of next.now cyclic.now }
 {
-    if circles.is_empty() {
+    if cyclic.is_empty() {
         return false;
     }
-    next.iter().any(|entry| is_met(entry.0, &entry.1, circles))
+    next.iter().any(|entry| is_met(entry.0, &entry.1, cyclic))
 }
 
 /// Whether a cell is circular, or its room reads a circular cell.
-fn is_met(cell: Address, room: &Option<Rectangles>, circles: &CellSet) -> bool
-    ensures { result ≡ (contains nat_cmp circles.now cell
-        || list_any (has_one circles.now) (areas_of (items_of room.now))) }
+fn is_met(cell: Address, room: &Option<Rectangles>, cyclic: &CellSet) -> bool
+    ensures { result ≡ (contains nat_cmp cyclic.now cell
+        || list_any (has_one cyclic.now) (areas_of (items_of room.now))) }
 {
-    circles.contains(&cell) || reads_circle(room, circles)
+    cyclic.contains(&cell) || reads_cyclic(room, cyclic)
 }
 
 /// Whether the rectangles of a room have a circular cell.
-fn reads_circle(room: &Option<Rectangles>, circles: &CellSet) -> bool
-    ensures { result ≡ list_any (has_one circles.now) (areas_of (items_of room.now)) }
+fn reads_cyclic(room: &Option<Rectangles>, cyclic: &CellSet) -> bool
+    ensures { result ≡ list_any (has_one cyclic.now) (areas_of (items_of room.now)) }
 {
     rectangles_in(room)
         .iter()
-        .any(|area| has_circle(*area, circles))
+        .any(|area| has_cyclic(*area, cyclic))
 }
 
 /// Whether a rectangle has a circular cell.
-fn has_circle(area: Rect, circles: &CellSet) -> bool
-    ensures { result ≡ has_one circles.now area }
+fn has_cyclic(area: Rect, cyclic: &CellSet) -> bool
+    ensures { result ≡ has_one cyclic.now area }
 {
-    next_within(circles, area, area.first()).is_some()
+    next_within(cyclic, area, area.first()).is_some()
 }
 
 /// Whether what is next is for one cell that isn't circular, and reads neither that cell nor a formula. It takes a search among the
 /// rooms for each rectangle that is read.
-pub(crate) fn stands_apart(rooms: &Rooms, circles: &CellSet, next: &[Brought]) -> bool
-    ensures { IsTrue result → StandsApart rooms.now next.now circles.now }
+pub(crate) fn stands_apart(rooms: &Rooms, cyclic: &CellSet, next: &[Brought]) -> bool
+    ensures { IsTrue result → StandsApart rooms.now next.now cyclic.now }
 {
     if next.len() != 1 {
         return false;
     }
-    is_apart(rooms, circles, &next[0])
+    is_apart(rooms, cyclic, &next[0])
 }
 
 /// The same of what one cell gets.
-fn is_apart(rooms: &Rooms, circles: &CellSet, entry: &Brought) -> bool
-    ensures open_cell { IsTrue result → contains nat_cmp circles.now entry.now.0 ≡ false }
+fn is_apart(rooms: &Rooms, cyclic: &CellSet, entry: &Brought) -> bool
+    ensures open_cell { IsTrue result → contains nat_cmp cyclic.now entry.now.0 ≡ false }
     ensures reads { IsTrue result
         → list_any (has_room_in rooms.now entry.now.0) (areas_of (items_of entry.now.1)) ≡ false }
 {
-    if circles.contains(&entry.0) {
+    if cyclic.contains(&entry.0) {
         return false;
     }
     !reads_room(rooms, entry.0, &entry.1)

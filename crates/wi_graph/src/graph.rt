@@ -24,7 +24,7 @@ use crate::cone::{any_is_read, listed_cone};
 use crate::rooms::{Coming, Rooms, take_back, take_over};
 use crate::sets::take_away;
 use crate::staging::bring_in;
-use crate::turning::{Turns, bring_circles, turns_of};
+use crate::turning::{Turns, bring_cyclic, turns_of};
 use crate::watch::Watch;
 use std::alloc::{AllocError, Global};
 use std::marker::Model;
@@ -46,7 +46,7 @@ struct Staged {
 pub struct Graph {
     rooms: Rooms,
     readers: RangeIndex,
-    circles: CellSet,
+    cyclic: CellSet,
     staged: Option<Staged>,
     alloc: Global,
 }
@@ -62,8 +62,8 @@ impl Model for Graph {
     ghost view = { λ g. staging (edges_in g.rooms.entries)
         (option_map (λ x. edges_over (edges_in g.rooms.entries) x.next.items) g.staged) };
 
-    ghost invariant = { λ g. IfNone g.staged (IsGraph g.rooms g.readers g.circles)
-        × IfSome g.staged (λ x. IsStaged g.rooms x.next.items g.readers g.circles x.turns) };
+    ghost invariant = { λ g. IfNone g.staged (IsGraph g.rooms g.readers g.cyclic)
+        × IfSome g.staged (λ x. IsStaged g.rooms x.next.items g.readers g.cyclic x.turns) };
 }
 
 impl Graph {
@@ -74,7 +74,7 @@ impl Graph {
         Graph {
             rooms: CellMap::new(alloc),
             readers: RangeIndex::new(alloc),
-            circles: CellSet::new(alloc),
+            cyclic: CellSet::new(alloc),
             staged: None,
             alloc,
         }
@@ -96,7 +96,7 @@ impl Graph {
             self.alloc,
             &mut self.rooms,
             &mut self.readers,
-            &mut self.circles,
+            &mut self.cyclic,
             changes,
         )?;
         self.staged = Some(staged);
@@ -121,7 +121,7 @@ impl Graph {
             return;
         };
         take_over(&mut self.rooms, &mut self.readers, &mut staged.next);
-        take_away(&mut self.circles, &staged.turns.went);
+        take_away(&mut self.cyclic, &staged.turns.ceased);
         self.staged = None;
     }
 
@@ -131,7 +131,7 @@ impl Graph {
     {
         if let Some(mut staged) = self.staged.take() {
             take_back(&mut self.rooms, &mut self.readers, &mut staged.next);
-            take_away(&mut self.circles, &staged.turns.came);
+            take_away(&mut self.cyclic, &staged.turns.became);
         }
     }
 
@@ -140,7 +140,7 @@ impl Graph {
         requires { self.now.staged ≡ None }
         ensures { (s : Sheet) → AreEdgesOf self.now.now s → result ≡ circular s at }
     {
-        self.circles.contains(&at)
+        self.cyclic.contains(&at)
     }
 
     /// The cells that read one of these, at any remove, with themselves: each once, in row-major order. The work grows with
@@ -188,46 +188,46 @@ fn make_ready(
     alloc: Global,
     rooms: &mut Rooms,
     readers: &mut RangeIndex,
-    circles: &mut CellSet,
+    cyclic: &mut CellSet,
     changes: &[NewContent],
 ) -> Result<Staged, AllocError>
-    requires { IsGraph rooms.old readers.old circles.old }
+    requires { IsGraph rooms.old readers.old cyclic.old }
     ensures ordered { IsOrdered nat_cmp rooms.new }
     ensures rooms { (c : ℕ) → room_at rooms.new c ≡ room_at rooms.old c }
     ensures brings { IfOk result (λ staged. Brings rooms.old staged.next.items changes.now) }
     ensures staged { IfOk result (λ staged.
-        IsStaged rooms.new staged.next.items readers.new circles.new staged.turns) }
-    ensures err { OnErr result (IsGraph rooms.new readers.new circles.new) }
+        IsStaged rooms.new staged.next.items readers.new cyclic.new staged.turns) }
+    ensures err { OnErr result (IsGraph rooms.new readers.new cyclic.new) }
 {
     let next = rooms_of(alloc, rooms, changes)?;
-    let turns = turns_of(alloc, rooms, readers, circles, &next, changes)?;
-    bring(rooms, readers, circles, next, turns)
+    let turns = turns_of(alloc, rooms, readers, cyclic, &next, changes)?;
+    bring(rooms, readers, cyclic, next, turns)
 }
 
 /// Brings in what is next, with the cells that it turns. If memory runs out, all is as before.
 fn bring(
     rooms: &mut Rooms,
     readers: &mut RangeIndex,
-    circles: &mut CellSet,
+    cyclic: &mut CellSet,
     next: Coming,
     turns: Turns,
 ) -> Result<Staged, AllocError>
-    requires graph { IsGraph rooms.old readers.old circles.old }
+    requires graph { IsGraph rooms.old readers.old cyclic.old }
     requires order { AreInOrder next.items }
     requires no_idle { HasNoIdle rooms.old next.items }
-    requires turns { AreTurns rooms.old next.items circles.old turns }
+    requires turns { AreTurns rooms.old next.items cyclic.old turns }
     ensures ordered { IsOrdered nat_cmp rooms.new }
     ensures rooms { (c : ℕ) → room_at rooms.new c ≡ room_at rooms.old c }
     ensures next { IfOk result (λ staged. staged.next ≡ next) }
     ensures staged { IfOk result (λ staged.
-        IsStaged rooms.new staged.next.items readers.new circles.new staged.turns) }
-    ensures err { OnErr result (IsGraph rooms.new readers.new circles.new) }
+        IsStaged rooms.new staged.next.items readers.new cyclic.new staged.turns) }
+    ensures err { OnErr result (IsGraph rooms.new readers.new cyclic.new) }
 {
-    bring_circles(circles, &turns.came)?;
+    bring_cyclic(cyclic, &turns.became)?;
     match bring_in(rooms, readers, &next) {
         Ok(()) => Ok(Staged { next, turns }),
         Err(error) => {
-            take_away(circles, &turns.came);
+            take_away(cyclic, &turns.became);
             Err(error)
         }
     }

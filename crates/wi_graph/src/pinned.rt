@@ -4,7 +4,7 @@ ghost use Rattle.std.specs.Prelude.{◌≡◌, ℕ, filter, IfOk};
 ghost use Rattle.std.specs.Ordering.{nat_cmp};
 ghost use Rattle.std.specs.BTreeSet.{contains};
 ghost use Rattle.wi_values.specs.Address.{is_one_of};
-ghost use Rattle.wi_graph.specs.Inner.Turning.{has_circle_outside, reads_outside};
+ghost use Rattle.wi_graph.specs.Inner.Turning.{has_cyclic_outside, reads_outside};
 
 use crate::cell_set::CellSet;
 use crate::sets::set_of;
@@ -18,13 +18,13 @@ use wi_values::{Address, Rect};
 pub(crate) fn pinned_set(
     alloc: Global,
     reads: &ReadsByCell,
-    circles: &CellSet,
+    cyclic: &CellSet,
     cells: &CellSet,
 ) -> Result<CellSet, AllocError>
     ensures { IfOk result (λ pinned. (c : ℕ) → contains nat_cmp pinned c
-        ≡ is_one_of (filter (reads_outside reads.now circles.now cells.now) cells.now.keys) c) }
+        ≡ is_one_of (filter (reads_outside reads.now cyclic.now cells.now) cells.now.keys) c) }
 {
-    let pinned = pinned_cells(alloc, reads, circles, cells)?;
+    let pinned = pinned_cells(alloc, reads, cyclic, cells)?;
     set_of(alloc, &pinned)
 }
 
@@ -32,43 +32,43 @@ pub(crate) fn pinned_set(
 fn pinned_cells(
     alloc: Global,
     reads: &ReadsByCell,
-    circles: &CellSet,
+    cyclic: &CellSet,
     cells: &CellSet,
 ) -> Result<Vec<Address>, AllocError>
     ensures { IfOk result (λ v. v.items
-        ≡ filter (reads_outside reads.now circles.now cells.now) cells.now.keys) }
+        ≡ filter (reads_outside reads.now cyclic.now cells.now) cells.now.keys) }
 {
     cells
         .set()
         .iter()
-        .filter(|cell| is_pinned(reads, **cell, circles, cells))
+        .filter(|cell| is_pinned(reads, **cell, cyclic, cells))
         .copied()
         .collect(alloc)
 }
 
 /// Whether a cell reads a circular cell outside the cone.
-fn is_pinned(reads: &ReadsByCell, cell: Address, circles: &CellSet, cells: &CellSet) -> bool
-    ensures { result ≡ reads_outside reads.now circles.now cells.now cell }
+fn is_pinned(reads: &ReadsByCell, cell: Address, cyclic: &CellSet, cells: &CellSet) -> bool
+    ensures { result ≡ reads_outside reads.now cyclic.now cells.now cell }
 {
     match reads.get(&cell) {
         Some(areas) => areas
             .iter()
-            .any(|area| has_circle_outside(*area, circles, cells)),
+            .any(|area| has_cyclic_outside(*area, cyclic, cells)),
         None => false,
     }
 }
 
 /// Whether a rectangle has a circular cell outside the cone. It takes at most a search among the circular cells for each
 /// that the cone and the rectangle have, and one more.
-fn has_circle_outside(area: Rect, circles: &CellSet, cells: &CellSet) -> bool
-    ensures { result ≡ has_circle_outside circles.now cells.now area }
+fn has_cyclic_outside(area: Rect, cyclic: &CellSet, cells: &CellSet) -> bool
+    ensures { result ≡ has_cyclic_outside cyclic.now cells.now area }
 {
-    let mut ahead = next_within(circles, area, area.first());
-    while let Some(circle) = ahead {
-        if !cells.contains(&circle) {
+    let mut ahead = next_within(cyclic, area, area.first());
+    while let Some(cyclic_cell) = ahead {
+        if !cells.contains(&cyclic_cell) {
             return true;
         }
-        ahead = next_after(circles, area, circle);
+        ahead = next_after(cyclic, area, cyclic_cell);
     }
     false
 }

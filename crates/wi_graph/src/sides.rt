@@ -12,7 +12,7 @@ ghost use Rattle.wi_graph.specs.Inner.Below.{ReachesNot, ReadsApart};
 use crate::below::{begin_below, go_below, is_clear};
 use crate::cell_set::CellSet;
 use crate::changes::changed_cells;
-use crate::closing::meets_circle;
+use crate::closing::meets_cyclic;
 use crate::cone::{enqueue, listed_cone};
 use crate::rooms::{Brought, Rooms};
 use std::alloc::{AllocError, Global};
@@ -27,17 +27,17 @@ pub(crate) fn cone_unless_apart(
     alloc: Global,
     rooms: &Rooms,
     readers: &RangeIndex,
-    circles: &CellSet,
+    cyclic: &CellSet,
     next: &[Brought],
     changes: &[NewContent],
 ) -> Result<Option<Vec<Address>>, AllocError>
     requires { IsOrdered nat_cmp rooms.now }
     ensures cone { IfOk result (λ o.
         IfSome o (λ cone. IsConeOf readers.now (keys_of changes.now) cone.items)) }
-    ensures apart { IfOk result (λ o. IfNone o (ReadsApart rooms.now next.now circles.now)) }
+    ensures apart { IfOk result (λ o. IfNone o (ReadsApart rooms.now next.now cyclic.now)) }
 {
     let cells = changed_cells(alloc, changes)?;
-    listed_unless_apart(alloc, rooms, readers, circles, next, &cells)
+    listed_unless_apart(alloc, rooms, readers, cyclic, next, &cells)
 }
 
 /// The same of the cells of an edit.
@@ -45,15 +45,15 @@ fn listed_unless_apart(
     alloc: Global,
     rooms: &Rooms,
     readers: &RangeIndex,
-    circles: &CellSet,
+    cyclic: &CellSet,
     next: &[Brought],
     cells: &[Address],
 ) -> Result<Option<Vec<Address>>, AllocError>
     requires { IsOrdered nat_cmp rooms.now }
     ensures cone { IfOk result (λ o. IfSome o (λ cone. IsConeOf readers.now cells.now cone.items)) }
-    ensures apart { IfOk result (λ o. IfNone o (ReadsApart rooms.now next.now circles.now)) }
+    ensures apart { IfOk result (λ o. IfNone o (ReadsApart rooms.now next.now cyclic.now)) }
 {
-    if !is_for_open_cell(circles, next) {
+    if !is_for_open_cell(cyclic, next) {
         let own = listed_cone(alloc, readers, cells)?;
         return Ok(Some(own));
     }
@@ -67,14 +67,14 @@ fn listed_unless_apart(
 }
 
 /// Whether what is next is for one cell, and meets no circular cell.
-fn is_for_open_cell(circles: &CellSet, next: &[Brought]) -> bool
+fn is_for_open_cell(cyclic: &CellSet, next: &[Brought]) -> bool
     ensures one { IsTrue result → length next.now ≡ 1 }
-    ensures unmet { IsTrue result → meets_one_of next.now circles.now ≡ false }
+    ensures unmet { IsTrue result → meets_one_of next.now cyclic.now ≡ false }
 {
     if next.len() != 1 {
         return false;
     }
-    !meets_circle(next, circles)
+    !meets_cyclic(next, cyclic)
 }
 
 /// The cells that read one of these, at any remove, with themselves; none where what one cell is to read, at any remove, isn't the

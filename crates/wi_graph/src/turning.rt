@@ -7,13 +7,13 @@ ghost use Rattle.std.specs.BTreeSet.{contains};
 ghost use Rattle.std.specs.Map.{keys_of};
 ghost use Rattle.wi_ranges.specs.Bag.{IsRead};
 ghost use Rattle.wi_values.specs.Address.{is_one_of};
-ghost use Rattle.wi_graph.specs.Inner.Changes.{Brings, IsEditCone, went_from};
-ghost use Rattle.wi_graph.specs.Inner.Rooms.{room_at, AreCircles, AreInOrder, IsGraph};
+ghost use Rattle.wi_graph.specs.Inner.Changes.{Brings, IsEditCone, ceased_from};
+ghost use Rattle.wi_graph.specs.Inner.Rooms.{room_at, AreCyclic, AreInOrder, IsGraph};
 ghost use Rattle.wi_graph.specs.Inner.Stripping.{IsWithin};
 ghost use Rattle.wi_graph.specs.Inner.Turning.{AreTurns, FindsCyclic};
 
 use crate::cell_set::CellSet;
-use crate::closing::{closes_cycle, meets_circle, stands_apart};
+use crate::closing::{closes_cycle, meets_cyclic, stands_apart};
 use crate::pinned::pinned_set;
 use crate::reads::reads_of;
 use crate::rooms::{Brought, Rooms};
@@ -28,8 +28,8 @@ use wi_values::Address;
 /// The cells that are circular after an edit alone, and those that are circular before it alone.
 #[derive(Drop)]
 pub(crate) struct Turns {
-    pub(crate) came: Vec<Address>,
-    pub(crate) went: Vec<Address>,
+    pub(crate) became: Vec<Address>,
+    pub(crate) ceased: Vec<Address>,
 }
 
 /// The cells that turn, circular or no longer so, once what is next is put in. Where nothing is next there are none. Of one cell that no
@@ -41,21 +41,21 @@ pub(crate) fn turns_of(
     alloc: Global,
     rooms: &Rooms,
     readers: &RangeIndex,
-    circles: &CellSet,
+    cyclic: &CellSet,
     next: &[Brought],
     changes: &[NewContent],
 ) -> Result<Turns, AllocError>
-    requires graph { IsGraph rooms.now readers.now circles.now }
+    requires graph { IsGraph rooms.now readers.now cyclic.now }
     requires order { AreInOrder next.now }
     requires brings { Brings rooms.now next.now changes.now }
-    ensures { IfOk result (AreTurns rooms.now next.now circles.now) }
+    ensures { IfOk result (AreTurns rooms.now next.now cyclic.now) }
 {
     if next.is_empty() {
         return Ok(no_turns(alloc));
     }
     match lone_unread(readers, changes) {
-        Some(cell) => turns_in(alloc, rooms, circles, next, &[cell]),
-        None => turns_sought(alloc, rooms, readers, circles, next, changes),
+        Some(cell) => turns_in(alloc, rooms, cyclic, next, &[cell]),
+        None => turns_sought(alloc, rooms, readers, cyclic, next, changes),
     }
 }
 
@@ -79,20 +79,20 @@ fn turns_sought(
     alloc: Global,
     rooms: &Rooms,
     readers: &RangeIndex,
-    circles: &CellSet,
+    cyclic: &CellSet,
     next: &[Brought],
     changes: &[NewContent],
 ) -> Result<Turns, AllocError>
-    requires graph { IsGraph rooms.now readers.now circles.now }
+    requires graph { IsGraph rooms.now readers.now cyclic.now }
     requires order { AreInOrder next.now }
     requires brings { Brings rooms.now next.now changes.now }
-    ensures { IfOk result (AreTurns rooms.now next.now circles.now) }
+    ensures { IfOk result (AreTurns rooms.now next.now cyclic.now) }
 {
-    if stands_apart(rooms, circles, next) {
+    if stands_apart(rooms, cyclic, next) {
         return Ok(no_turns(alloc));
     }
-    match cone_unless_apart(alloc, rooms, readers, circles, next, changes)? {
-        Some(cone) => turns_in(alloc, rooms, circles, next, &cone),
+    match cone_unless_apart(alloc, rooms, readers, cyclic, next, changes)? {
+        Some(cone) => turns_in(alloc, rooms, cyclic, next, &cone),
         None => Ok(no_turns(alloc)),
     }
 }
@@ -105,20 +105,20 @@ fn turns_sought(
 fn turns_in(
     alloc: Global,
     rooms: &Rooms,
-    circles: &CellSet,
+    cyclic: &CellSet,
     next: &[Brought],
     cone: &[Address],
 ) -> Result<Turns, AllocError>
-    requires circles { AreCircles (room_at rooms.now) (contains nat_cmp circles.now) }
+    requires cyclic { AreCyclic (room_at rooms.now) (contains nat_cmp cyclic.now) }
     requires order { IsStrictlyIncreasing cone.now }
     requires cone { IsEditCone rooms.now next.now (is_one_of cone.now) }
-    ensures { IfOk result (AreTurns rooms.now next.now circles.now) }
+    ensures { IfOk result (AreTurns rooms.now next.now cyclic.now) }
 {
-    if !meets_circle(next, circles) && !closes_cycle(next, cone) {
+    if !meets_cyclic(next, cyclic) && !closes_cycle(next, cone) {
         return Ok(no_turns(alloc));
     }
     let cone = set_of(alloc, cone)?;
-    turns_among(alloc, rooms, circles, next, &cone)
+    turns_among(alloc, rooms, cyclic, next, &cone)
 }
 
 /// The same, where a cycle may be closed or opened, of a cone as a set. It stands apart, since most edits don't come to it.
@@ -126,44 +126,44 @@ fn turns_in(
 fn turns_among(
     alloc: Global,
     rooms: &Rooms,
-    circles: &CellSet,
+    cyclic: &CellSet,
     next: &[Brought],
     cone: &CellSet,
 ) -> Result<Turns, AllocError>
-    requires circles { AreCircles (room_at rooms.now) (contains nat_cmp circles.now) }
+    requires cyclic { AreCyclic (room_at rooms.now) (contains nat_cmp cyclic.now) }
     requires cone { IsEditCone rooms.now next.now (contains nat_cmp cone.now) }
-    ensures { IfOk result (AreTurns rooms.now next.now circles.now) }
+    ensures { IfOk result (AreTurns rooms.now next.now cyclic.now) }
 {
-    let rest = circular_in_cone(alloc, rooms, next, circles, cone)?;
-    let came = without(alloc, &rest, circles)?;
-    let went = went_of(alloc, circles, cone, &rest)?;
-    Ok(Turns { came, went })
+    let rest = circular_in_cone(alloc, rooms, next, cyclic, cone)?;
+    let became = without(alloc, &rest, cyclic)?;
+    let ceased = ceased_of(alloc, cyclic, cone, &rest)?;
+    Ok(Turns { became, ceased })
 }
 
 /// No cells that turn.
 fn no_turns(alloc: Global) -> Turns
-    ensures came { result.came.items ≡ [] }
-    ensures went { result.went.items ≡ [] }
+    ensures became { result.became.items ≡ [] }
+    ensures ceased { result.ceased.items ≡ [] }
 {
     Turns {
-        came: Vec::new(alloc),
-        went: Vec::new(alloc),
+        became: Vec::new(alloc),
+        ceased: Vec::new(alloc),
     }
 }
 
 /// The cells of a cone that were circular and are not among the rest.
-fn went_of(
+fn ceased_of(
     alloc: Global,
-    circles: &CellSet,
+    cyclic: &CellSet,
     cells: &CellSet,
     rest: &CellSet,
 ) -> Result<Vec<Address>, AllocError>
-    ensures { IfOk result (λ v. v.items ≡ went_from circles.now cells.now rest.now) }
+    ensures { IfOk result (λ v. v.items ≡ ceased_from cyclic.now cells.now rest.now) }
 {
     cells
         .set()
         .iter()
-        .filter(|cell| circles.contains(*cell) && !rest.contains(*cell))
+        .filter(|cell| cyclic.contains(*cell) && !rest.contains(*cell))
         .copied()
         .collect(alloc)
 }
@@ -173,33 +173,33 @@ fn circular_in_cone(
     alloc: Global,
     rooms: &Rooms,
     next: &[Brought],
-    circles: &CellSet,
+    cyclic: &CellSet,
     cells: &CellSet,
 ) -> Result<CellSet, AllocError>
     requires { AreInOrder next.now }
     ensures within { IfOk result (λ rest. IsWithin rest cells.now) }
-    ensures found_cyclic { IfOk result (FindsCyclic rooms.now next.now circles.now cells.now) }
+    ensures found_cyclic { IfOk result (FindsCyclic rooms.now next.now cyclic.now cells.now) }
 {
     let list = listed(alloc, cells.set())?;
     let reads = reads_of(alloc, rooms, next, &list)?;
-    let pinned = pinned_set(alloc, &reads, circles, cells)?;
+    let pinned = pinned_set(alloc, &reads, cyclic, cells)?;
     let mut rest = set_of(alloc, &list)?;
     strip(alloc, reads, &pinned, &mut rest)?;
     Ok(rest)
 }
 
 /// Puts cells that turn circular into the circular cells. If memory runs out, these are as before.
-pub(crate) fn bring_circles(circles: &mut CellSet, came: &[Address]) -> Result<(), AllocError>
-    requires { (c : ℕ) → is_one_of came.now c ≡ true → contains nat_cmp circles.old c ≡ false }
-    ensures ok { OnOk result ((c : ℕ) → contains nat_cmp circles.new c
-        ≡ (contains nat_cmp circles.old c || is_one_of came.now c)) }
-    ensures err { OnErr result ((c : ℕ) → contains nat_cmp circles.new c
-        ≡ contains nat_cmp circles.old c) }
+pub(crate) fn bring_cyclic(cyclic: &mut CellSet, became: &[Address]) -> Result<(), AllocError>
+    requires { (c : ℕ) → is_one_of became.now c ≡ true → contains nat_cmp cyclic.old c ≡ false }
+    ensures ok { OnOk result ((c : ℕ) → contains nat_cmp cyclic.new c
+        ≡ (contains nat_cmp cyclic.old c || is_one_of became.now c)) }
+    ensures err { OnErr result ((c : ℕ) → contains nat_cmp cyclic.new c
+        ≡ contains nat_cmp cyclic.old c) }
 {
-    match insert_all(circles, came) {
+    match insert_all(cyclic, became) {
         Ok(()) => Ok(()),
         Err(error) => {
-            take_away(circles, came);
+            take_away(cyclic, became);
             Err(error)
         }
     }

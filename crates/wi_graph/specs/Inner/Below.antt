@@ -49,9 +49,9 @@ abbrev pub ReachesNot : Rooms → ℕ → List Area → Type 0
 ReachesNot rooms cell areas = (visited : ℕ → Bool) × IsSearchingBelow rooms cell areas visited []
 
 -- something is next for one cell, which isn't circular; what it reads then, at any remove, isn't circular and isn't the cell
-pub record ReadsApart (rooms : Rooms) (next : Coming) (circles : BTreeSet ℕ) : Type 0 where
+pub record ReadsApart (rooms : Rooms) (next : Coming) (cyclic : BTreeSet ℕ) : Type 0 where
   pub cell : ℕ
   pub room : Option (SmallVec Area)
   pub alone : next ≡ (cell, room) ∷ []
-  pub unmet : meets_one_of next circles ≡ false
+  pub unmet : meets_one_of next cyclic ≡ false
   pub not_met : ReachesNot rooms cell (areas_of (items_of room))

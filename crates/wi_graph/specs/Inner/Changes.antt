@@ -38,5 +38,5 @@ pub record IsEditCone (rooms : Rooms) (next : Coming) (test : ℕ → Bool) : Ty
   pub is_cone : (s : Sheet) → ((c : ℕ) → room_at rooms c ≡ areas_in (content_of s c)) → (c : ℕ) → test c ≡ in_cone s (keys_of changes) c
 
 -- the circular cells of a cone that are not among the rest
-abbrev pub went_from : BTreeSet ℕ → BTreeSet ℕ → BTreeSet ℕ → List ℕ
-went_from circles cells rest = filter (λ c. contains nat_cmp circles c && not (contains nat_cmp rest c)) cells.keys
+abbrev pub ceased_from : BTreeSet ℕ → BTreeSet ℕ → BTreeSet ℕ → List ℕ
+ceased_from cyclic cells rest = filter (λ c. contains nat_cmp cyclic c && not (contains nat_cmp rest c)) cells.keys

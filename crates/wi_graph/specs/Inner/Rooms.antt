@@ -110,23 +110,23 @@ abbrev pub less_these : BTreeSet ℕ → List ℕ → ℕ → Bool
 less_these set xs c = contains nat_cmp set c && not (is_one_of xs c)
 
 -- the test finds the circular cells where formulas read this
-pub record AreCircles (f : ℕ → Option (List Area)) (test : ℕ → Bool) : Type 0 where
+pub record AreCyclic (f : ℕ → Option (List Area)) (test : ℕ → Bool) : Type 0 where
   pub sheet : Sheet
   pub are : (c : ℕ) → f c ≡ areas_in (content_of sheet c)
-  pub circles : (c : ℕ) → test c ≡ circular sheet c
+  pub cyclic : (c : ℕ) → test c ≡ circular sheet c
 
 -- nothing is staged: the index has the pairs of the rooms, and the set their circular cells
-pub record IsGraph (rooms : Rooms) (readers : Bag) (circles : BTreeSet ℕ) : Type 0 where
+pub record IsGraph (rooms : Rooms) (readers : Bag) (cyclic : BTreeSet ℕ) : Type 0 where
   pub ordered : IsOrdered nat_cmp rooms
   pub pairs : HasPairs readers rooms
-  pub circular : AreCircles (room_at rooms) (contains nat_cmp circles)
+  pub circular : AreCyclic (room_at rooms) (contains nat_cmp cyclic)
 
 -- the set has the cells that are circular before or after
-pub record IsStaged (rooms : Rooms) (next : Coming) (readers : Bag) (circles : BTreeSet ℕ) (turns : Turns) : Type 0 where
+pub record IsStaged (rooms : Rooms) (next : Coming) (readers : Bag) (cyclic : BTreeSet ℕ) (turns : Turns) : Type 0 where
   pub ordered : IsOrdered nat_cmp rooms
   pub order : AreInOrder next
   pub no_idle : HasNoIdle rooms next
   pub has_rooms : HasRooms rooms next
   pub pairs : HasBoth readers rooms next
-  pub before : AreCircles (room_at rooms) (less_these circles turns.came.items)
-  pub after : AreCircles (room_over next rooms) (less_these circles turns.went.items)
+  pub before : AreCyclic (room_at rooms) (less_these cyclic turns.became.items)
+  pub after : AreCyclic (room_over next rooms) (less_these cyclic turns.ceased.items)

@@ -10,4 +10,4 @@ returns-in_ok-cone-in-Some-clause-cone c =
 
 pub returns-in-None-clause-apart : goal.returns-in-None-clause-apart
 returns-in-None-clause-apart c =
-    reads_apart c.args.rooms.now c.args.next.now c.args.circles.now c.index-next-0.result (c.is_for_open_cell.ensures.one (search rules)) (search rules) (c.is_for_open_cell.ensures.unmet (search rules)) (rw c.in-None.is at c.in_ok-found.ensures.apart)
+    reads_apart c.args.rooms.now c.args.next.now c.args.cyclic.now c.index-next-0.result (c.is_for_open_cell.ensures.one (search rules)) (search rules) (c.is_for_open_cell.ensures.unmet (search rules)) (rw c.in-None.is at c.in_ok-found.ensures.apart)

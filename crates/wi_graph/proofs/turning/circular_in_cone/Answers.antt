@@ -8,5 +8,5 @@ returns-clause-within c =
 
 pub returns-clause-found_cyclic : goal.returns-clause-found_cyclic
 returns-clause-found_cyclic c =
-    found_cyclic c.args.rooms.now c.args.next.now c.args.circles.now c.args.cells.now c.in_ok-pinned.pinned c.in_ok-rest.rest c.strip.new.rest c.in_ok-list.list.items _ c.in_ok-reads.reads (rw c.set.ensures at c.in_ok-list.ensures.items)
+    found_cyclic c.args.rooms.now c.args.next.now c.args.cyclic.now c.args.cells.now c.in_ok-pinned.pinned c.in_ok-rest.rest c.strip.new.rest c.in_ok-list.list.items _ c.in_ok-reads.reads (rw c.set.ensures at c.in_ok-list.ensures.items)
     (rw c.deref.ensures.value at c.in_ok-reads.ensures) refl c.in_ok-pinned.ensures (rw c.deref-2.ensures.value at c.in_ok-rest.ensures) c.strip.ensures.within c.strip.ensures.gone c.in_ok-strip.ensures.left

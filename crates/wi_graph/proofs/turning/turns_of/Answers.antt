@@ -6,10 +6,10 @@ use Rattle.wi_graph.proofs.turning.turns_of.Goals as goal
 pub returns-then-is_empty : goal.returns-then-is_empty
 returns-then-is_empty c =
     let none : length c.args.next.now ≡ 0 = grind (arith, common_steps) in
-    nothing_turns c.args.rooms.now c.args.next.now c.args.circles.now c.no_turns.result c.requires.graph.circular (nil_from_length c.args.next.now none) c.no_turns.ensures.came c.no_turns.ensures.went
+    nothing_turns c.args.rooms.now c.args.next.now c.args.cyclic.now c.no_turns.result c.requires.graph.circular (nil_from_length c.args.next.now none) c.no_turns.ensures.became c.no_turns.ensures.ceased
 
-pub turns_in-requires-clause-circles : goal.turns_in-requires-clause-circles
-turns_in-requires-clause-circles c = c.requires.graph.circular
+pub turns_in-requires-clause-cyclic : goal.turns_in-requires-clause-cyclic
+turns_in-requires-clause-cyclic c = c.requires.graph.circular
 
 pub turns_in-requires-clause-order : goal.turns_in-requires-clause-order
 turns_in-requires-clause-order c = (lone_cone c.args.readers.now c.in-Some.cell c.in-Some.ensures.unread).order

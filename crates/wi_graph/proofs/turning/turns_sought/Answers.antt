@@ -5,15 +5,15 @@ use Rattle.wi_graph.proofs.turning.turns_sought.Goals as goal
 
 pub returns-then-stands_apart : goal.returns-then-stands_apart
 returns-then-stands_apart c =
-    apart_turn c.args.rooms.now c.args.next.now c.args.circles.now c.args.changes.now c.no_turns.result c.requires.graph.circular c.requires.brings (c.stands_apart.ensures c.if-stands_apart.true)
-    c.no_turns.ensures.came c.no_turns.ensures.went
+    apart_turn c.args.rooms.now c.args.next.now c.args.cyclic.now c.args.changes.now c.no_turns.result c.requires.graph.circular c.requires.brings (c.stands_apart.ensures c.if-stands_apart.true)
+    c.no_turns.ensures.became c.no_turns.ensures.ceased
 
 pub returns-in-None : goal.returns-in-None
 returns-in-None c =
-    reach_turn c.args.rooms.now c.args.next.now c.args.circles.now c.args.changes.now c.no_turns-in-None.result c.requires.graph.circular c.requires.brings (rw c.in-None.is at c.in_ok-cone.ensures.apart) c.no_turns-in-None.ensures.came c.no_turns-in-None.ensures.went
+    reach_turn c.args.rooms.now c.args.next.now c.args.cyclic.now c.args.changes.now c.no_turns-in-None.result c.requires.graph.circular c.requires.brings (rw c.in-None.is at c.in_ok-cone.ensures.apart) c.no_turns-in-None.ensures.became c.no_turns-in-None.ensures.ceased
 
-pub turns_in-requires-clause-circles : goal.turns_in-requires-clause-circles
-turns_in-requires-clause-circles c = c.requires.graph.circular
+pub turns_in-requires-clause-cyclic : goal.turns_in-requires-clause-cyclic
+turns_in-requires-clause-cyclic c = c.requires.graph.circular
 
 pub turns_in-requires-clause-order : goal.turns_in-requires-clause-order
 turns_in-requires-clause-order c =

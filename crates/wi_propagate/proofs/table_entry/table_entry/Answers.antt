@@ -6,8 +6,8 @@ pub returns-in_default-clause-value : goal.returns-in_default-clause-value
 returns-in_default-clause-value c =
     let s = c.args.store.now.sheet in
     let test = test_of_cells s c.args.formula_cell c.args.pairs.now c.deref.result.now (c.deref.ensures.value ∙ c.in_ok-cells.ensures) in
-    let circles : list_any (circular s) c.deref.result.now ≡ true = sym (rw c.in_default.is at c.in_ok-order.ensures.circular) in
-    sym (entry_circular s c.args.put.now c.args.formula_cell c.args.pairs.now (test ∙ circles))
+    let cyclic : list_any (circular s) c.deref.result.now ≡ true = sym (rw c.in_default.is at c.in_ok-order.ensures.circular) in
+    sym (entry_circular s c.args.put.now c.args.formula_cell c.args.pairs.now (test ∙ cyclic))
 
 pub open_entry-result-requires-clause-replacing : goal.open_entry-result-requires-clause-replacing
 open_entry-result-requires-clause-replacing c =

@@ -3,8 +3,8 @@ use Rattle.wi_propagate.proofs.value.shown.Goals as goal
 
 pub returns-in_default-clause-value : goal.returns-in_default-clause-value
 returns-in_default-clause-value c =
-    let circles : circular c.args.store.now.sheet c.args.at ≡ true = sym (rw c.in_default.is at c.in_ok-order.ensures.circular) in
-    sym (shown_circular c.args.store.now.sheet c.args.put.now c.args.at circles)
+    let cyclic : circular c.args.store.now.sheet c.args.at ≡ true = sym (rw c.in_default.is at c.in_ok-order.ensures.circular) in
+    sym (shown_circular c.args.store.now.sheet c.args.put.now c.args.at cyclic)
 
 pub returns-clause-value : goal.returns-clause-value
 returns-clause-value c =

@@ -10,6 +10,6 @@ pub returns-clause-cells : goal.returns-clause-cells
 returns-clause-cells c =
     let g = c.self.inside in
     let cells = c.args.cells.now in
-    let old = unstaged g.rooms g.readers g.circles g.staged (ap (λ (x : Staging). x.staged) c.self.view_is ∙ c.requires) c.self.invariant.0 in
+    let old = unstaged g.rooms g.readers g.cyclic g.staged (ap (λ (x : Staging). x.staged) c.self.view_is ∙ c.requires) c.self.invariant.0 in
     IfOk-weaker c.listed_cone.result (λ (list : Vec ℕ). IsConeOf g.readers cells list.items) (λ list. (s : Sheet) → AreEdgesOf c.args.self.now.now s → (d : ℕ) → is_one_of list.items d ≡ in_cone s cells d)
-    (λ list k s h. listed_cone g.rooms g.readers g.circles cells list.items old k s (subst (λ (x : Staging). AreEdgesOf x.now s) (sym c.self.view_is) h)) c.listed_cone.ensures
+    (λ list k s h. listed_cone g.rooms g.readers g.cyclic cells list.items old k s (subst (λ (x : Staging). AreEdgesOf x.now s) (sym c.self.view_is) h)) c.listed_cone.ensures

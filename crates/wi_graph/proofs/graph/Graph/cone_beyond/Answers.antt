@@ -12,6 +12,6 @@ returns-clause-cells g c =
     let i = c.self.inside in
     let cells = c.args.cells.now in
     let w = g.W.Watch.watched c.args.watch.now in
-    let old = unstaged i.rooms i.readers i.circles i.staged (ap (λ (x : Staging). x.staged) c.self.view_is ∙ c.requires.staged) c.self.invariant.0 in
+    let old = unstaged i.rooms i.readers i.cyclic i.staged (ap (λ (x : Staging). x.staged) c.self.view_is ∙ c.requires.staged) c.self.invariant.0 in
     IfOk-weaker c.listed_beyond.result (λ (list : SmallVec ℕ). IsListBeyond i.readers w cells list.items) (λ list. (s : Sheet) → AreEdgesOf c.args.self.now.now s → (d : ℕ) → is_one_of list.items d ≡ (in_cone s cells d && not (w d)))
-    (λ list k s h. edge_beyond i.rooms i.readers i.circles w cells list.items old (λ t u. c.requires.closed t (subst (λ (x : Staging). AreEdgesOf x.now t) c.self.view_is u)) k s (subst (λ (x : Staging). AreEdgesOf x.now s) (sym c.self.view_is) h)) c.listed_beyond.ensures
+    (λ list k s h. edge_beyond i.rooms i.readers i.cyclic w cells list.items old (λ t u. c.requires.closed t (subst (λ (x : Staging). AreEdgesOf x.now t) c.self.view_is u)) k s (subst (λ (x : Staging). AreEdgesOf x.now s) (sym c.self.view_is) h)) c.listed_beyond.ensures

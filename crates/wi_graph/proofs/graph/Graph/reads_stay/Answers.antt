@@ -8,7 +8,7 @@ pub returns-in-Some : goal.returns-in-Some
 returns-in-Some c =
     let g = c.self.inside in
     let x = c.in-Some.staged in
-    let s = staged_is g.rooms g.readers g.circles g.staged x c.in-Some.is c.self.invariant.1 in (
+    let s = staged_is g.rooms g.readers g.cyclic g.staged x c.in-Some.is c.self.invariant.1 in (
       λ r. let none : length x.next.items ≡ 0 = grind (arith, common_steps) in
           stays_view g.rooms g.staged c.args.self.now x c.in-Some.is c.self.view_is s.ordered (nothing_next g.rooms x.next.items (nil_from_length x.next.items none)),
       λ r. let none : length x.next.items ≡ 0 =

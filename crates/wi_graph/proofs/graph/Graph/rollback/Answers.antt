@@ -7,5 +7,5 @@ pub returns-in-Some : goal.returns-in-Some
 returns-in-Some c =
     let g = c.self.inside in
     let e = sym c.take.ensures.value ∙ c.in-Some.is in
-    let s = staged_is g.rooms g.readers g.circles g.staged c.in-Some.staged e c.self.invariant.1 in
+    let s = staged_is g.rooms g.readers g.cyclic g.staged c.in-Some.staged e c.self.invariant.1 in
     taken_back_view g.rooms c.take_back.new.rooms g.staged c.take.new.self c.args.self.now c.take.ensures.after c.self.view_is (rooms_same g.rooms c.take_back.new.rooms s.ordered c.take_back.ensures.ordered c.take_back.ensures.rooms)

@@ -8,7 +8,7 @@ use Rattle.wi_graph.proofs.graph.Graph.stage.Goals as goal
 pub make_ready-requires : goal.make_ready-requires
 make_ready-requires c =
     let g = c.self.inside in
-    unstaged g.rooms g.readers g.circles g.staged (ap (λ (x : Staging). x.staged) c.self.view_is ∙ c.requires) c.self.invariant.0
+    unstaged g.rooms g.readers g.cyclic g.staged (ap (λ (x : Staging). x.staged) c.self.view_is ∙ c.requires) c.self.invariant.0
 
 pub invariant_of-self-2 : goal.invariant_of-self-2
 invariant_of-self-2 c = (tt, c.in_ok-staged.ensures.staged)
@@ -16,7 +16,7 @@ invariant_of-self-2 c = (tt, c.in_ok-staged.ensures.staged)
 pub returns-clause-ok : goal.returns-clause-ok
 returns-clause-ok c =
     let g = c.self.inside in
-    let old = unstaged g.rooms g.readers g.circles g.staged (ap (λ (x : Staging). x.staged) c.self.view_is ∙ c.requires) c.self.invariant.0 in
+    let old = unstaged g.rooms g.readers g.cyclic g.staged (ap (λ (x : Staging). x.staged) c.self.view_is ∙ c.requires) c.self.invariant.0 in
     staged_view g.rooms c.make_ready.new.rooms c.in_ok-staged.staged.next.items g.staged c.args.self.now c.args.changes.now c.self.view_is (rooms_same g.rooms c.make_ready.new.rooms old.ordered c.make_ready.ensures.ordered c.make_ready.ensures.rooms)
     (staged_edges g.rooms c.make_ready.new.rooms c.in_ok-staged.staged.next.items c.in_ok-staged.staged.next.items c.args.changes.now old.ordered c.make_ready.ensures.ordered c.in_ok-staged.ensures.brings c.make_ready.ensures.rooms (λ d. refl))
 
@@ -24,10 +24,10 @@ pub invariant_of-self : goal.invariant_of-self
 invariant_of-self c =
     let g = c.self.inside in
     let none = ap (λ (x : Staging). x.staged) c.self.view_is ∙ c.requires in
-    refused_invariant g.rooms c.make_ready.new.rooms c.make_ready.new.readers c.make_ready.new.circles g.staged none c.in_err-staged.ensures.err
+    refused_invariant g.rooms c.make_ready.new.rooms c.make_ready.new.readers c.make_ready.new.cyclic g.staged none c.in_err-staged.ensures.err
 
 pub returns-in_err-staged-clause-err : goal.returns-in_err-staged-clause-err
 returns-in_err-staged-clause-err c =
     let g = c.self.inside in
-    let old = unstaged g.rooms g.readers g.circles g.staged (ap (λ (x : Staging). x.staged) c.self.view_is ∙ c.requires) c.self.invariant.0 in
+    let old = unstaged g.rooms g.readers g.cyclic g.staged (ap (λ (x : Staging). x.staged) c.self.view_is ∙ c.requires) c.self.invariant.0 in
     on_err c.from_residual.result (refused_view g.rooms c.make_ready.new.rooms g.staged c.args.self.now c.self.view_is (rooms_same g.rooms c.make_ready.new.rooms old.ordered c.make_ready.ensures.ordered c.make_ready.ensures.rooms))
