@@ -64,16 +64,17 @@ pub trait Calculator {
 
     /// What a cell shows under replacements, which stand in the order of their addresses, one for each. No sheet is
     /// copied.
-    fn value(&mut self, put: &[Replacement], at: Address) -> Result<Value, AllocError>
-        requires { IsInOrder put.now }
-        ensures value { IfOk result (λ v. v ≡ show.shown (stored self.old).sheet put.now at) }
+    fn value(&mut self, replacements: &[Replacement], at: Address) -> Result<Value, AllocError>
+        requires { IsInOrder replacements.now }
+        ensures value { IfOk result (λ v. v
+            ≡ show.shown (stored self.old).sheet replacements.now at) }
         ensures same { stored self.new ≡ stored self.old }
 
         // No more is evaluated than what the value demands, also where memory runs out.
-        ensures evaluations { let cases = demanded (stored self.old).sheet put.now at in
+        ensures evaluations { let cases = demanded (stored self.old).sheet replacements.now at in
             evaluated self.new ≤ evaluated self.old + length cases }
         ensures restarts { let sheet = (stored self.old).sheet in
-            let cases = demanded sheet put.now at in
+            let cases = demanded sheet replacements.now at in
             restarted self.new ≤ restarted self.old + sum_by (wants sheet) cases }
         ensures evaluations_never_fall { evaluated self.old ≤ evaluated self.new }
         ensures restarts_never_fall { restarted self.old ≤ restarted self.new };
@@ -83,21 +84,21 @@ pub trait Calculator {
     /// An entry stands in no cell, so the sheet stays as it is, and no cell reads it.
     fn what_if_value(
         &mut self,
-        put: &[Replacement],
+        replacements: &[Replacement],
         formula_cell: Address,
         pairs: &[(Address, Address)],
     ) -> Result<Value, AllocError>
-        requires { IsInOrder put.now }
+        requires { IsInOrder replacements.now }
         ensures value { let sheet = (stored self.old).sheet in
-            IfOk result (λ v. v ≡ table_entry sheet put.now formula_cell pairs.now) }
+            IfOk result (λ v. v ≡ table_entry sheet replacements.now formula_cell pairs.now) }
         ensures same { stored self.new ≡ stored self.old }
 
         // No more is evaluated than what the entry demands, also where memory runs out.
         ensures evaluations { let cases =
-            entry_demanded (stored self.old).sheet put.now formula_cell pairs.now in
+            entry_demanded (stored self.old).sheet replacements.now formula_cell pairs.now in
             evaluated self.new ≤ evaluated self.old + length cases }
         ensures restarts { let sheet = (stored self.old).sheet in
-            let cases = entry_demanded sheet put.now formula_cell pairs.now in
+            let cases = entry_demanded sheet replacements.now formula_cell pairs.now in
             restarted self.new ≤ restarted self.old + sum_by (wants sheet) cases }
         ensures evaluations_never_fall { evaluated self.old ≤ evaluated self.new }
         ensures restarts_never_fall { restarted self.old ≤ restarted self.new };

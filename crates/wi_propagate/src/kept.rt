@@ -166,26 +166,27 @@ impl KeptCalculator {
     }
 
     // The value of a cell, with what `value` of `Calculator` promises of it in one record.
-    fn value_of(&mut self, put: &[Replacement], at: Address) -> Result<Value, AllocError>
-        requires { IsInOrder put.now }
-        ensures value { IfOk result (λ v. v ≡ show.shown self.old.stored.sheet put.now at) }
-        ensures owes { Owes self.old self.new (demanded self.old.stored.sheet put.now at)
+    fn value_of(&mut self, replacements: &[Replacement], at: Address) -> Result<Value, AllocError>
+        requires { IsInOrder replacements.now }
+        ensures value { IfOk result (λ v. v
+            ≡ show.shown self.old.stored.sheet replacements.now at) }
+        ensures owes { Owes self.old self.new (demanded self.old.stored.sheet replacements.now at)
             (is_ok result) }
-        ensures easy { IsAtHand self.old put.now at → self.new.counts ≡ self.old.counts }
+        ensures easy { IsAtHand self.old replacements.now at → self.new.counts ≡ self.old.counts }
         ensures kept { let sheet = self.old.stored.sheet in
-            OnOk result ((IsAtHand self.old put.now at → ⊥)
-            → is_kept self.new at (reaching sheet at put.now) ≡ true) }
+            OnOk result ((IsAtHand self.old replacements.now at → ⊥)
+            → is_kept self.new at (reaching sheet at replacements.now) ≡ true) }
     {
         if self.graph.is_circular(at) {
             return Ok(Value::Fault(ErrorKind::Circular));
         }
-        let formula = match standing_value(self.alloc, &self.store, put, at)? {
+        let formula = match standing_value(self.alloc, &self.store, replacements, at)? {
             Standing::Value(value) => return Ok(value),
             Standing::Formula(formula) => formula,
         };
-        let world = self.worlds.world_for(self.alloc, put)?;
+        let world = self.worlds.world_for(self.alloc, replacements)?;
         self.generations.flush(&self.graph)?;
-        self.widest = self.widest.max(put.len());
+        self.widest = self.widest.max(replacements.len());
         let carried = take_carried(self.alloc, self.widest, &mut self.carried);
         let memo = Keeping::new(
             self.alloc,
@@ -193,7 +194,7 @@ impl KeptCalculator {
             &self.graph,
             &self.generations,
             carried,
-            put.len(),
+            replacements.len(),
         );
         let mut question = Question {
             memo,
@@ -211,28 +212,28 @@ impl KeptCalculator {
     // The value of an entry, with what `what_if_value` of `Calculator` promises of it in one record.
     fn value_of_entry(
         &mut self,
-        put: &[Replacement],
+        replacements: &[Replacement],
         formula_cell: Address,
         pairs: &[(Address, Address)],
     ) -> Result<Value, AllocError>
-        requires { IsInOrder put.now }
+        requires { IsInOrder replacements.now }
         ensures value { let sheet = self.old.stored.sheet in
-            IfOk result (λ v. v ≡ table_entry sheet put.now formula_cell pairs.now) }
+            IfOk result (λ v. v ≡ table_entry sheet replacements.now formula_cell pairs.now) }
         ensures owes { let cases =
-            entry_demanded self.old.stored.sheet put.now formula_cell pairs.now in
+            entry_demanded self.old.stored.sheet replacements.now formula_cell pairs.now in
             Owes self.old self.new cases (is_ok result) }
         ensures settled { let sheet = self.old.stored.sheet in
-            let cases = entry_demanded sheet put.now formula_cell pairs.now in
+            let cases = entry_demanded sheet replacements.now formula_cell pairs.now in
             OnOk result (HasSpaceFor self.old cases
             → circular sheet formula_cell ≡ false → All (λ x. circular sheet x.1 ≡ false) pairs.now
-            → IsWhatIfSettled sheet (is_kept self.new) put.now (formula_cell, pairs.now)) }
+            → IsWhatIfSettled sheet (is_kept self.new) replacements.now (formula_cell, pairs.now)) }
     {
         if entry_is_circular(&self.graph, formula_cell, pairs) {
             return Ok(Value::Fault(ErrorKind::Circular));
         }
-        let world = self.worlds.world_for(self.alloc, put)?;
+        let world = self.worlds.world_for(self.alloc, replacements)?;
         self.generations.flush(&self.graph)?;
-        self.widest = self.widest.max(put.len());
+        self.widest = self.widest.max(replacements.len());
         let carried = take_carried(self.alloc, self.widest, &mut self.carried);
         let memo = Keeping::new(
             self.alloc,
@@ -240,7 +241,7 @@ impl KeptCalculator {
             &self.graph,
             &self.generations,
             carried,
-            put.len(),
+            replacements.len(),
         );
         let mut question = Question {
             memo,
@@ -316,41 +317,43 @@ impl Calculator for KeptCalculator {
     /// are looked up at once, with work that grows with their count where they are few, and where they are many with that of all.
     /// They are copied and hashed where they aren't all, and aren't the same as for the last such key. Before a key is made, what
     /// edits left dirty is flushed, with all that depends on what was edited since the last such question.
-    fn value(&mut self, put: &[Replacement], at: Address) -> Result<Value, AllocError>
-        requires { IsInOrder put.now }
-        ensures value { IfOk result (λ v. v ≡ show.shown self.old.stored.sheet put.now at) }
+    fn value(&mut self, replacements: &[Replacement], at: Address) -> Result<Value, AllocError>
+        requires { IsInOrder replacements.now }
+        ensures value { IfOk result (λ v. v
+            ≡ show.shown self.old.stored.sheet replacements.now at) }
         ensures same { self.new.stored ≡ self.old.stored }
         ensures same_generations { self.new.generations ≡ self.old.generations }
         ensures same_space { self.new.values.capacity ≡ self.old.values.capacity }
 
         // No more is evaluated than what the value demands, and where there is room no more than what of that is not kept, also
         // where memory runs out.
-        ensures evaluations { let cases = demanded self.old.stored.sheet put.now at in
+        ensures evaluations { let cases = demanded self.old.stored.sheet replacements.now at in
             self.new.counts.evaluations ≤ self.old.counts.evaluations + length cases }
         ensures restarts { let sheet = self.old.stored.sheet in
-            let cases = demanded sheet put.now at in
+            let cases = demanded sheet replacements.now at in
             self.new.counts.restarts ≤ self.old.counts.restarts + sum_by (wants sheet) cases }
         ensures evaluations_never_fall { self.old.counts.evaluations ≤ self.new.counts.evaluations }
         ensures restarts_never_fall { self.old.counts.restarts ≤ self.new.counts.restarts }
-        ensures unkept_evaluations { let cases = demanded self.old.stored.sheet put.now at in
+        ensures unkept_evaluations { let cases = demanded self.old.stored.sheet replacements.now at
+            in
             HasSpaceFor self.old cases → self.new.counts.evaluations
             ≤ self.old.counts.evaluations + length (unkept self.old cases) }
         ensures unkept_restarts { let sheet = self.old.stored.sheet in
-            let cases = demanded sheet put.now at in
+            let cases = demanded sheet replacements.now at in
             HasSpaceFor self.old cases → self.new.counts.restarts
             ≤ self.old.counts.restarts + sum_by (wants sheet) (unkept self.old cases) }
 
         // What is kept, what comes to be kept, and that nothing goes while there is room, also where memory runs out.
-        ensures easy { IsAtHand self.old put.now at → self.new.counts ≡ self.old.counts }
+        ensures easy { IsAtHand self.old replacements.now at → self.new.counts ≡ self.old.counts }
         ensures kept { let sheet = self.old.stored.sheet in
-            OnOk result ((IsAtHand self.old put.now at → ⊥)
-            → is_kept self.new at (reaching sheet at put.now) ≡ true) }
+            OnOk result ((IsAtHand self.old replacements.now at → ⊥)
+            → is_kept self.new at (reaching sheet at replacements.now) ≡ true) }
         ensures no_more { KeepsNoMore self.old self.new }
         ensures while_space { KeepsWhileSpace self.old self.new }
-        ensures keeps { let cases = demanded self.old.stored.sheet put.now at in
+        ensures keeps { let cases = demanded self.old.stored.sheet replacements.now at in
             OnOk result (HasSpaceFor self.old cases → KeepsAll self.old self.new) }
     {
-        self.value_of(put, at)
+        self.value_of(replacements, at)
     }
 
     /// What an entry of a data table shows under replacements. A formula is evaluated where its value is not kept, and its value
@@ -358,13 +361,13 @@ impl Calculator for KeptCalculator {
     /// hashed for each entry.
     fn what_if_value(
         &mut self,
-        put: &[Replacement],
+        replacements: &[Replacement],
         formula_cell: Address,
         pairs: &[(Address, Address)],
     ) -> Result<Value, AllocError>
-        requires { IsInOrder put.now }
+        requires { IsInOrder replacements.now }
         ensures value { let sheet = self.old.stored.sheet in
-            IfOk result (λ v. v ≡ table_entry sheet put.now formula_cell pairs.now) }
+            IfOk result (λ v. v ≡ table_entry sheet replacements.now formula_cell pairs.now) }
         ensures same { self.new.stored ≡ self.old.stored }
         ensures same_generations { self.new.generations ≡ self.old.generations }
         ensures same_space { self.new.values.capacity ≡ self.old.values.capacity }
@@ -372,19 +375,19 @@ impl Calculator for KeptCalculator {
         // No more is evaluated than what the entry demands, and where there is room no more than what of that is not kept, also
         // where memory runs out.
         ensures evaluations { let cases =
-            entry_demanded self.old.stored.sheet put.now formula_cell pairs.now in
+            entry_demanded self.old.stored.sheet replacements.now formula_cell pairs.now in
             self.new.counts.evaluations ≤ self.old.counts.evaluations + length cases }
         ensures restarts { let sheet = self.old.stored.sheet in
-            let cases = entry_demanded sheet put.now formula_cell pairs.now in
+            let cases = entry_demanded sheet replacements.now formula_cell pairs.now in
             self.new.counts.restarts ≤ self.old.counts.restarts + sum_by (wants sheet) cases }
         ensures evaluations_never_fall { self.old.counts.evaluations ≤ self.new.counts.evaluations }
         ensures restarts_never_fall { self.old.counts.restarts ≤ self.new.counts.restarts }
         ensures unkept_evaluations { let cases =
-            entry_demanded self.old.stored.sheet put.now formula_cell pairs.now in
+            entry_demanded self.old.stored.sheet replacements.now formula_cell pairs.now in
             HasSpaceFor self.old cases → self.new.counts.evaluations
             ≤ self.old.counts.evaluations + length (unkept self.old cases) }
         ensures unkept_restarts { let sheet = self.old.stored.sheet in
-            let cases = entry_demanded sheet put.now formula_cell pairs.now in
+            let cases = entry_demanded sheet replacements.now formula_cell pairs.now in
             HasSpaceFor self.old cases → self.new.counts.restarts
             ≤ self.old.counts.restarts + sum_by (wants sheet) (unkept self.old cases) }
 
@@ -392,15 +395,15 @@ impl Calculator for KeptCalculator {
         ensures no_more { KeepsNoMore self.old self.new }
         ensures while_space { KeepsWhileSpace self.old self.new }
         ensures keeps { let cases =
-            entry_demanded self.old.stored.sheet put.now formula_cell pairs.now in
+            entry_demanded self.old.stored.sheet replacements.now formula_cell pairs.now in
             OnOk result (HasSpaceFor self.old cases → KeepsAll self.old self.new) }
         ensures settled { let sheet = self.old.stored.sheet in
-            let cases = entry_demanded sheet put.now formula_cell pairs.now in
+            let cases = entry_demanded sheet replacements.now formula_cell pairs.now in
             OnOk result (HasSpaceFor self.old cases
             → circular sheet formula_cell ≡ false → All (λ x. circular sheet x.1 ≡ false) pairs.now
-            → IsWhatIfSettled sheet (is_kept self.new) put.now (formula_cell, pairs.now)) }
+            → IsWhatIfSettled sheet (is_kept self.new) replacements.now (formula_cell, pairs.now)) }
     {
-        self.value_of_entry(put, formula_cell, pairs)
+        self.value_of_entry(replacements, formula_cell, pairs)
     }
 
     /// Exactly the cells that reach one of these, each once, in row-major order.

@@ -29,17 +29,21 @@ impl LastWorlds {
     /// These replacements, which stand in order. They are compared with those of the last two questions, texts byte by byte, and
     /// shared with the question that had the same, which takes no memory. Else they are copied, texts too, and hashed, and the
     /// work for each grows with the logarithm of their count.
-    pub(crate) fn world_for(&self, alloc: Global, put: &[Replacement]) -> Result<World, AllocError>
-        requires { IsInOrder put.now }
-        ensures { IfOk result (λ w. w ≡ put.now) }
+    pub(crate) fn world_for(
+        &self,
+        alloc: Global,
+        replacements: &[Replacement],
+    ) -> Result<World, AllocError>
+        requires { IsInOrder replacements.now }
+        ensures { IfOk result (λ w. w ≡ replacements.now) }
     {
-        if has_exactly(&self.last, put) {
+        if has_exactly(&self.last, replacements) {
             return self.last.copy();
         }
-        if has_exactly(&self.before, put) {
+        if has_exactly(&self.before, replacements) {
             return self.before.copy();
         }
-        World::new(alloc).with(put)
+        World::new(alloc).with(replacements)
     }
 
     /// Keeps the replacements of one question more, in the place of those of the last but one. Takes no memory.
@@ -51,8 +55,8 @@ impl LastWorlds {
 }
 
 // Whether a world has these replacements, and no others.
-fn has_exactly(world: &World, put: &[Replacement]) -> bool
-    ensures { IsTrue result ↔ (world.now ≡ put.now) }
+fn has_exactly(world: &World, replacements: &[Replacement]) -> bool
+    ensures { IsTrue result ↔ (world.now ≡ replacements.now) }
 {
-    world.replacements() == put
+    world.replacements() == replacements
 }

@@ -71,8 +71,8 @@ impl Calculator for PlainCalculator {
     /// What a cell shows under replacements. A formula is evaluated once for each list of replacements of cells that it
     /// reaches under which its value is asked for, and begun again where it lacks a value. No sheet is copied: the
     /// replacements are carried along. What was found is forgotten at the end.
-    fn value(&mut self, put: &[Replacement], at: Address) -> Result<Value, AllocError> {
-        shown(self.alloc, &self.store, put, at, &mut self.meter)
+    fn value(&mut self, replacements: &[Replacement], at: Address) -> Result<Value, AllocError> {
+        shown(self.alloc, &self.store, replacements, at, &mut self.meter)
     }
 
     /// What an entry of a data table shows under replacements. A formula is evaluated once for each list of replacements of
@@ -80,14 +80,14 @@ impl Calculator for PlainCalculator {
     /// the end.
     fn what_if_value(
         &mut self,
-        put: &[Replacement],
+        replacements: &[Replacement],
         formula_cell: Address,
         pairs: &[(Address, Address)],
     ) -> Result<Value, AllocError> {
         table_entry(
             self.alloc,
             &self.store,
-            put,
+            replacements,
             formula_cell,
             pairs,
             &mut self.meter,

@@ -24,13 +24,13 @@ pub enum Standing<'a> {
 pub(crate) fn standing_value<'a>(
     alloc: Global,
     store: &'a Store,
-    put: &[Replacement],
+    replacements: &[Replacement],
     at: Address,
 ) -> Result<Standing<'a>, AllocError>
-    requires { IsInOrder put.now }
-    ensures { IfOk result (IsStandingOf (put_all store.now.sheet put.now) at) }
+    requires { IsInOrder replacements.now }
+    ensures { IfOk result (IsStandingOf (put_all store.now.sheet replacements.now) at) }
 {
-    if let Some(value) = value_at(put, at) {
+    if let Some(value) = value_at(replacements, at) {
         return Ok(Standing::Value(value.copy(alloc)?));
     }
     match store.get(at) {

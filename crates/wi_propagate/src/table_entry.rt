@@ -27,23 +27,24 @@ use wi_worlds::World;
 
 /// What an entry of a data table shows under replacements, which stand in the order of their addresses, one for each: the
 /// value of the formula cell if each input, the first of a pair, had the value of its replacement cell, the second. All
-/// these values are taken before any is put, and of two pairs for one input the later counts. A formula is evaluated once for
+/// these values are taken before any is replacements, and of two pairs for one input the later counts. A formula is evaluated once for
 /// each list of replacements of cells that its cell reaches under which its value is asked for, for whichever of these cells.
 /// What is found is forgotten at the end.
 pub(crate) fn table_entry(
     alloc: Global,
     store: &Store,
-    put: &[Replacement],
+    replacements: &[Replacement],
     formula_cell: Address,
     pairs: &[(Address, Address)],
     meter: &mut Meter,
 ) -> Result<Value, AllocError>
-    requires { IsInOrder put.now }
+    requires { IsInOrder replacements.now }
     ensures value { IfOk result
-        (λ v. v ≡ table.table_entry store.now.sheet put.now formula_cell pairs.now) }
+        (λ v. v ≡ table.table_entry store.now.sheet replacements.now formula_cell pairs.now) }
 
     // No more than what the entry demands is evaluated, also where memory runs out.
-    ensures spends { let cases = entry_demanded store.now.sheet put.now formula_cell pairs.now in
+    ensures spends { let cases = entry_demanded store.now.sheet replacements.now formula_cell
+        pairs.now in
         NeverFall meter.old meter.new
         × NeverFall meter.new (plus meter.old (price store.now.sheet cases)) }
 {
@@ -51,7 +52,7 @@ pub(crate) fn table_entry(
     let Some(order) = reached_from(alloc, store, &cells)? else {
         return Ok(Value::Fault(ErrorKind::Circular));
     };
-    let world = World::new(alloc).with(put)?;
+    let world = World::new(alloc).with(replacements)?;
     let memo = Remembered::new(alloc, store, order);
     let mut question = Question {
         memo,

@@ -19,22 +19,22 @@ use wi_worlds::World;
 pub(crate) fn shown(
     alloc: Global,
     store: &Store,
-    put: &[Replacement],
+    replacements: &[Replacement],
     at: Address,
     meter: &mut Meter,
 ) -> Result<Value, AllocError>
-    requires { IsInOrder put.now }
-    ensures value { IfOk result (λ v. v ≡ show.shown store.now.sheet put.now at) }
+    requires { IsInOrder replacements.now }
+    ensures value { IfOk result (λ v. v ≡ show.shown store.now.sheet replacements.now at) }
 
     // No more than what the cell demands is evaluated, also where memory runs out.
-    ensures within { let cases = demanded store.now.sheet put.now at in
+    ensures within { let cases = demanded store.now.sheet replacements.now at in
         NeverFall meter.new (plus meter.old (price store.now.sheet cases)) }
     ensures counts { NeverFall meter.old meter.new }
 {
     let Some(order) = reached(alloc, store, at)? else {
         return Ok(Value::Fault(ErrorKind::Circular));
     };
-    let world = World::new(alloc).with(put)?;
+    let world = World::new(alloc).with(replacements)?;
     let memo = Remembered::new(alloc, store, order);
     let pool = Pool::new(alloc);
     let mut question = Question {

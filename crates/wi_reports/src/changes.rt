@@ -22,12 +22,12 @@ use wi_values::{Address, Replacement, Value};
 pub fn find_changes<C: Calculator>(
     alloc: Global,
     calculator: &mut C,
-    put: &[Replacement],
+    replacements: &[Replacement],
     picture: &Picture,
     cells: &[Address],
 ) -> Result<Vec<Change>, AllocError>
-    requires { IsInOrder put.now }
-    ensures found { let shown = show.shown (C.stored calculator.old).sheet put.now in
+    requires { IsInOrder replacements.now }
+    ensures found { let shown = show.shown (C.stored calculator.old).sheet replacements.now in
         IfOk result (λ found. found.items ≡ changes_among cells.now picture.now shown) }
     ensures same { C.stored calculator.new ≡ C.stored calculator.old }
     ensures quiet { cells.now ≡ []
@@ -36,13 +36,13 @@ pub fn find_changes<C: Calculator>(
 
     // No more is evaluated than what these cells demand, also where memory runs out.
     ensures cost { let sheet = (C.stored calculator.old).sheet in
-        Costs sheet (cells_cases sheet put.now cells.now)
+        Costs sheet (cells_cases sheet replacements.now cells.now)
         (C.evaluated calculator.old, C.restarted calculator.old)
         (C.evaluated calculator.new, C.restarted calculator.new) }
 {
     let mut found = Vec::new(alloc);
     for at in cells {
-        let value = calculator.value(put, *at)?;
+        let value = calculator.value(replacements, *at)?;
         if !picture.has(*at, &value) {
             found.push((*at, value))?;
         }

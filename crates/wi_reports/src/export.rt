@@ -18,22 +18,22 @@ use wi_values::{Rect, Replacement};
 pub fn push_export<C: Calculator>(
     alloc: Global,
     calculator: &mut C,
-    put: &[Replacement],
+    replacements: &[Replacement],
     area: Rect,
     out: &mut Vec<u8>,
 ) -> Result<(), AllocError>
-    requires { IsInOrder put.now }
-    ensures ok { let records = rows_shown (C.stored calculator.old).sheet put.now area in
+    requires { IsInOrder replacements.now }
+    ensures ok { let records = rows_shown (C.stored calculator.old).sheet replacements.now area in
         OnOk result (out.new.items ≡ out.old.items ++ export_of records) }
     ensures err { OnErr result (out.new.items ≡ out.old.items) }
     ensures same { C.stored calculator.new ≡ C.stored calculator.old }
     ensures cost { let sheet = (C.stored calculator.old).sheet in
-        Costs sheet (rows_cases sheet put.now area)
+        Costs sheet (rows_cases sheet replacements.now area)
         (C.evaluated calculator.old, C.restarted calculator.old)
         (C.evaluated calculator.new, C.restarted calculator.new) }
 {
     let mut records = Vec::new(alloc);
-    push_rows(alloc, calculator, put, area, &mut records)?;
+    push_rows(alloc, calculator, replacements, area, &mut records)?;
     let before = out.len();
     let pushed = push_all(&records, out);
     if pushed.is_err() {

@@ -20,22 +20,22 @@ use wi_values::{Rect, Replacement};
 pub fn push_rows<C: Calculator>(
     alloc: Global,
     calculator: &mut C,
-    put: &[Replacement],
+    replacements: &[Replacement],
     area: Rect,
     out: &mut Vec<u8>,
 ) -> Result<(), AllocError>
-    requires { IsInOrder put.now }
+    requires { IsInOrder replacements.now }
     ensures ok { OnOk result (out.new.items
-        ≡ out.old.items ++ rows_shown (C.stored calculator.old).sheet put.now area) }
+        ≡ out.old.items ++ rows_shown (C.stored calculator.old).sheet replacements.now area) }
     ensures err { OnErr result (out.new.items ≡ out.old.items) }
     ensures same { C.stored calculator.new ≡ C.stored calculator.old }
     ensures cost { let sheet = (C.stored calculator.old).sheet in
-        Costs sheet (rows_cases sheet put.now area)
+        Costs sheet (rows_cases sheet replacements.now area)
         (C.evaluated calculator.old, C.restarted calculator.old)
         (C.evaluated calculator.new, C.restarted calculator.new) }
 {
     let before = out.len();
-    let pushed = push_all(alloc, calculator, put, area, out);
+    let pushed = push_all(alloc, calculator, replacements, area, out);
     if pushed.is_err() {
         out.truncate(before);
     }
@@ -46,23 +46,23 @@ pub fn push_rows<C: Calculator>(
 fn push_all<C: Calculator>(
     alloc: Global,
     calculator: &mut C,
-    put: &[Replacement],
+    replacements: &[Replacement],
     area: Rect,
     out: &mut Vec<u8>,
 ) -> Result<(), AllocError>
-    requires { IsInOrder put.now }
+    requires { IsInOrder replacements.now }
     ensures ok { OnOk result (out.new.items
-        ≡ out.old.items ++ rows_shown (C.stored calculator.old).sheet put.now area) }
+        ≡ out.old.items ++ rows_shown (C.stored calculator.old).sheet replacements.now area) }
     ensures kept { StartsWith out.new.items out.old.items }
     ensures same { C.stored calculator.new ≡ C.stored calculator.old }
     ensures cost { let sheet = (C.stored calculator.old).sheet in
-        Costs sheet (rows_cases sheet put.now area)
+        Costs sheet (rows_cases sheet replacements.now area)
         (C.evaluated calculator.old, C.restarted calculator.old)
         (C.evaluated calculator.new, C.restarted calculator.new) }
 {
     let first = area.first().row();
     for row in first..area.last().row() + 1 {
-        push_row(alloc, calculator, put, row, area, out)?;
+        push_row(alloc, calculator, replacements, row, area, out)?;
     }
     Ok(())
 }
@@ -71,23 +71,23 @@ fn push_all<C: Calculator>(
 fn push_row<C: Calculator>(
     alloc: Global,
     calculator: &mut C,
-    put: &[Replacement],
+    replacements: &[Replacement],
     row: u32,
     area: Rect,
     out: &mut Vec<u8>,
 ) -> Result<(), AllocError>
-    requires order { IsInOrder put.now }
+    requires order { IsInOrder replacements.now }
     requires within { row < rows }
     ensures ok { OnOk result (out.new.items
-        ≡ out.old.items ++ row_shown (C.stored calculator.old).sheet put.now area row) }
+        ≡ out.old.items ++ row_shown (C.stored calculator.old).sheet replacements.now area row) }
     ensures kept { StartsWith out.new.items out.old.items }
     ensures same { C.stored calculator.new ≡ C.stored calculator.old }
     ensures cost { let sheet = (C.stored calculator.old).sheet in
-        Costs sheet (cells_cases sheet put.now (cells_of_row row area))
+        Costs sheet (cells_cases sheet replacements.now (cells_of_row row area))
         (C.evaluated calculator.old, C.restarted calculator.old)
         (C.evaluated calculator.new, C.restarted calculator.new) }
 {
     let mut texts = Vec::new(alloc);
-    push_texts(alloc, calculator, put, row, area, &mut texts)?;
+    push_texts(alloc, calculator, replacements, row, area, &mut texts)?;
     push_record(&texts, out)
 }

@@ -108,26 +108,26 @@ impl DataTable {
 pub fn push_table<C: Calculator>(
     alloc: Global,
     calculator: &mut C,
-    put: &[Replacement],
+    replacements: &[Replacement],
     table: &DataTable,
     out: &mut Vec<u8>,
 ) -> Result<(), AllocError>
-    requires order { IsInOrder put.now }
+    requires order { IsInOrder replacements.now }
     requires shaped { (is_column table.now.column && shape.has_row table.now.second) ≡ true }
     ensures ok { let sheet = (C.stored calculator.old).sheet in
-        let records = spec.table_of sheet put.now table.now.formula_cell
+        let records = spec.table_of sheet replacements.now table.now.formula_cell
         table.now.input table.now.column table.now.second in
         OnOk result (out.new.items ≡ out.old.items ++ records) }
     ensures err { OnErr result (out.new.items ≡ out.old.items) }
     ensures same { C.stored calculator.new ≡ C.stored calculator.old }
     ensures cost { let sheet = (C.stored calculator.old).sheet in
-        Costs sheet (table_cases sheet put.now table.now.formula_cell table.now.input
+        Costs sheet (table_cases sheet replacements.now table.now.formula_cell table.now.input
         table.now.column table.now.second)
         (C.evaluated calculator.old, C.restarted calculator.old)
         (C.evaluated calculator.new, C.restarted calculator.new) }
 {
     let before = out.len();
-    let pushed = push_all(alloc, calculator, put, table, out);
+    let pushed = push_all(alloc, calculator, replacements, table, out);
     if pushed.is_err() {
         out.truncate(before);
     }
@@ -138,28 +138,28 @@ pub fn push_table<C: Calculator>(
 fn push_all<C: Calculator>(
     alloc: Global,
     calculator: &mut C,
-    put: &[Replacement],
+    replacements: &[Replacement],
     table: &DataTable,
     out: &mut Vec<u8>,
 ) -> Result<(), AllocError>
-    requires order { IsInOrder put.now }
+    requires order { IsInOrder replacements.now }
     requires shaped { (is_column table.now.column && shape.has_row table.now.second) ≡ true }
     ensures ok { let sheet = (C.stored calculator.old).sheet in
-        let records = spec.table_of sheet put.now table.now.formula_cell
+        let records = spec.table_of sheet replacements.now table.now.formula_cell
         table.now.input table.now.column table.now.second in
         OnOk result (out.new.items ≡ out.old.items ++ records) }
     ensures kept { StartsWith out.new.items out.old.items }
     ensures same { C.stored calculator.new ≡ C.stored calculator.old }
     ensures cost { let sheet = (C.stored calculator.old).sheet in
-        Costs sheet (table_cases sheet put.now table.now.formula_cell table.now.input
+        Costs sheet (table_cases sheet replacements.now table.now.formula_cell table.now.input
         table.now.column table.now.second)
         (C.evaluated calculator.old, C.restarted calculator.old)
         (C.evaluated calculator.new, C.restarted calculator.new) }
 {
     if let Some(second) = table.second {
-        push_head(alloc, calculator, put, second.row, out)?;
+        push_head(alloc, calculator, replacements, second.row, out)?;
     }
-    push_rows(alloc, calculator, put, table, out)
+    push_rows(alloc, calculator, replacements, table, out)
 }
 
 /// Appends the record above a table of two inputs: an empty field, and the texts of the row. On an error the bytes are as
@@ -167,25 +167,25 @@ fn push_all<C: Calculator>(
 fn push_head<C: Calculator>(
     alloc: Global,
     calculator: &mut C,
-    put: &[Replacement],
+    replacements: &[Replacement],
     cells: Rect,
     out: &mut Vec<u8>,
 ) -> Result<(), AllocError>
-    requires { IsInOrder put.now }
-    ensures ok { let text = text_under (C.stored calculator.old).sheet put.now in
+    requires { IsInOrder replacements.now }
+    ensures ok { let text = text_under (C.stored calculator.old).sheet replacements.now in
         OnOk result (out.new.items
         ≡ out.old.items ++ row ([] ∷ map text (cells_of_row (row_of cells.first) cells))) }
     ensures kept { StartsWith out.new.items out.old.items }
     ensures same { C.stored calculator.new ≡ C.stored calculator.old }
     ensures cost { let sheet = (C.stored calculator.old).sheet in
-        Costs sheet (cells_cases sheet put.now (cells_of_row (row_of cells.first) cells))
+        Costs sheet (cells_cases sheet replacements.now (cells_of_row (row_of cells.first) cells))
         (C.evaluated calculator.old, C.restarted calculator.old)
         (C.evaluated calculator.new, C.restarted calculator.new) }
 {
     let row = cells.first().row();
     let mut texts = Vec::new(alloc);
     texts.push(String::new(alloc))?;
-    push_texts(alloc, calculator, put, row, cells, &mut texts)?;
+    push_texts(alloc, calculator, replacements, row, cells, &mut texts)?;
     push_record(&texts, out)
 }
 
@@ -193,20 +193,22 @@ fn push_head<C: Calculator>(
 fn push_rows<C: Calculator>(
     alloc: Global,
     calculator: &mut C,
-    put: &[Replacement],
+    replacements: &[Replacement],
     table: &DataTable,
     out: &mut Vec<u8>,
 ) -> Result<(), AllocError>
-    requires order { IsInOrder put.now }
+    requires order { IsInOrder replacements.now }
     requires column { is_column table.now.column ≡ true }
     requires row { shape.has_row table.now.second ≡ true }
     ensures ok { let sheet = (C.stored calculator.old).sheet in
-        let row = table_row sheet put.now table.now.formula_cell table.now.input table.now.second in
+        let row = table_row sheet replacements.now table.now.formula_cell table.now.input
+        table.now.second in
         OnOk result (out.new.items ≡ out.old.items ++ flat_map row (cells_of table.now.column)) }
     ensures kept { StartsWith out.new.items out.old.items }
     ensures same { C.stored calculator.new ≡ C.stored calculator.old }
     ensures cost { let sheet = (C.stored calculator.old).sheet in
-        let cases = beside_cases sheet put.now table.now.formula_cell table.now.input table.now.second in
+        let cases = beside_cases sheet replacements.now table.now.formula_cell table.now.input
+        table.now.second in
         Costs sheet (flat_map cases (cells_of table.now.column))
         (C.evaluated calculator.old, C.restarted calculator.old)
         (C.evaluated calculator.new, C.restarted calculator.new) }
@@ -214,7 +216,14 @@ fn push_rows<C: Calculator>(
     let column = table.column.first().column();
     let first = table.column.first().row();
     for row in first..table.column.last().row() + 1 {
-        push_row(alloc, calculator, put, table, Address::at(row, column), out)?;
+        push_row(
+            alloc,
+            calculator,
+            replacements,
+            table,
+            Address::at(row, column),
+            out,
+        )?;
     }
     Ok(())
 }
@@ -223,26 +232,28 @@ fn push_rows<C: Calculator>(
 fn push_row<C: Calculator>(
     alloc: Global,
     calculator: &mut C,
-    put: &[Replacement],
+    replacements: &[Replacement],
     table: &DataTable,
     x: Address,
     out: &mut Vec<u8>,
 ) -> Result<(), AllocError>
-    requires order { IsInOrder put.now }
+    requires order { IsInOrder replacements.now }
     requires row { shape.has_row table.now.second ≡ true }
     ensures ok { let sheet = (C.stored calculator.old).sheet in
         OnOk result (out.new.items ≡ out.old.items
-        ++ table_row sheet put.now table.now.formula_cell table.now.input table.now.second x) }
+        ++ table_row sheet replacements.now table.now.formula_cell table.now.input table.now.second
+        x) }
     ensures kept { StartsWith out.new.items out.old.items }
     ensures same { C.stored calculator.new ≡ C.stored calculator.old }
     ensures cost { let sheet = (C.stored calculator.old).sheet in
-        Costs sheet (beside_cases sheet put.now table.now.formula_cell table.now.input table.now.second x)
+        Costs sheet (beside_cases sheet replacements.now table.now.formula_cell table.now.input
+        table.now.second x)
         (C.evaluated calculator.old, C.restarted calculator.old)
         (C.evaluated calculator.new, C.restarted calculator.new) }
 {
     let mut texts = Vec::new(alloc);
-    push_text_under(alloc, calculator, put, x, &mut texts)?;
-    push_entries(alloc, calculator, put, table, x, &mut texts)?;
+    push_text_under(alloc, calculator, replacements, x, &mut texts)?;
+    push_entries(alloc, calculator, replacements, table, x, &mut texts)?;
     push_record(&texts, out)
 }
 
@@ -250,28 +261,36 @@ fn push_row<C: Calculator>(
 fn push_entries<C: Calculator>(
     alloc: Global,
     calculator: &mut C,
-    put: &[Replacement],
+    replacements: &[Replacement],
     table: &DataTable,
     x: Address,
     texts: &mut Vec<String>,
 ) -> Result<(), AllocError>
-    requires order { IsInOrder put.now }
+    requires order { IsInOrder replacements.now }
     requires row { shape.has_row table.now.second ≡ true }
     ensures texts { let sheet = (C.stored calculator.old).sheet in
-        let entries = spec.entries_beside sheet put.now table.now.formula_cell
+        let entries = spec.entries_beside sheet replacements.now table.now.formula_cell
         table.now.input table.now.second x in
         OnOk result (map string_bytes texts.new.items
         ≡ map string_bytes texts.old.items ++ entries) }
     ensures same { C.stored calculator.new ≡ C.stored calculator.old }
     ensures cost { let sheet = (C.stored calculator.old).sheet in
-        Costs sheet (entries_cases sheet put.now table.now.formula_cell table.now.input table.now.second x)
+        Costs sheet (entries_cases sheet replacements.now table.now.formula_cell table.now.input
+        table.now.second x)
         (C.evaluated calculator.old, C.restarted calculator.old)
         (C.evaluated calculator.new, C.restarted calculator.new) }
 {
     match table.second {
         None => {
             let pairs = [(table.input, x)];
-            push_entry(alloc, calculator, put, table.formula_cell, &pairs, texts)
+            push_entry(
+                alloc,
+                calculator,
+                replacements,
+                table.formula_cell,
+                &pairs,
+                texts,
+            )
         }
         Some(second) => {
             let given = TableRow {
@@ -280,7 +299,7 @@ fn push_entries<C: Calculator>(
                 x,
                 second: second.input,
             };
-            push_row_entries(alloc, calculator, put, &given, second.row, texts)
+            push_row_entries(alloc, calculator, replacements, &given, second.row, texts)
         }
     }
 }
@@ -299,20 +318,20 @@ struct TableRow {
 fn push_row_entries<C: Calculator>(
     alloc: Global,
     calculator: &mut C,
-    put: &[Replacement],
+    replacements: &[Replacement],
     given: &TableRow,
     cells: Rect,
     texts: &mut Vec<String>,
 ) -> Result<(), AllocError>
-    requires { IsInOrder put.now }
+    requires { IsInOrder replacements.now }
     ensures texts { let sheet = (C.stored calculator.old).sheet in
-        let text = λ (y : ℕ). spec.entry_text sheet put.now given.now.formula_cell
+        let text = λ (y : ℕ). spec.entry_text sheet replacements.now given.now.formula_cell
         (pairs_at given.now.input given.now.x given.now.second y) in
         OnOk result (map string_bytes texts.new.items
         ≡ map string_bytes texts.old.items ++ map text (cells_of_row (row_of cells.first) cells)) }
     ensures same { C.stored calculator.new ≡ C.stored calculator.old }
     ensures cost { let sheet = (C.stored calculator.old).sheet in
-        let cases = λ (y : ℕ). entry_demanded sheet put.now given.now.formula_cell
+        let cases = λ (y : ℕ). entry_demanded sheet replacements.now given.now.formula_cell
         (pairs_at given.now.input given.now.x given.now.second y) in
         Costs sheet (flat_map cases (cells_of_row (row_of cells.first) cells))
         (C.evaluated calculator.old, C.restarted calculator.old)
@@ -322,7 +341,7 @@ fn push_row_entries<C: Calculator>(
     let first = cells.first().column();
     for column in first..cells.last().column() + 1 {
         let y = Address::at(row, column);
-        push_entry_at(alloc, calculator, put, given, y, texts)?;
+        push_entry_at(alloc, calculator, replacements, given, y, texts)?;
     }
     Ok(())
 }
@@ -331,48 +350,55 @@ fn push_row_entries<C: Calculator>(
 fn push_entry_at<C: Calculator>(
     alloc: Global,
     calculator: &mut C,
-    put: &[Replacement],
+    replacements: &[Replacement],
     given: &TableRow,
     y: Address,
     texts: &mut Vec<String>,
 ) -> Result<(), AllocError>
-    requires { IsInOrder put.now }
+    requires { IsInOrder replacements.now }
     ensures text { let sheet = (C.stored calculator.old).sheet in
-        let text = spec.entry_text sheet put.now given.now.formula_cell
+        let text = spec.entry_text sheet replacements.now given.now.formula_cell
         (pairs_at given.now.input given.now.x given.now.second y) in
         OnOk result (map string_bytes texts.new.items
         ≡ map string_bytes texts.old.items ++ text ∷ []) }
     ensures same { C.stored calculator.new ≡ C.stored calculator.old }
     ensures cost { let sheet = (C.stored calculator.old).sheet in
-        Costs sheet (entry_demanded sheet put.now given.now.formula_cell
+        Costs sheet (entry_demanded sheet replacements.now given.now.formula_cell
         (pairs_at given.now.input given.now.x given.now.second y))
         (C.evaluated calculator.old, C.restarted calculator.old)
         (C.evaluated calculator.new, C.restarted calculator.new) }
 {
     let pairs = [(given.input, given.x), (given.second, y)];
-    push_entry(alloc, calculator, put, given.formula_cell, &pairs, texts)
+    push_entry(
+        alloc,
+        calculator,
+        replacements,
+        given.formula_cell,
+        &pairs,
+        texts,
+    )
 }
 
 /// Appends the text of an entry, for pairs of an input and the cell whose value takes its place.
 fn push_entry<C: Calculator>(
     alloc: Global,
     calculator: &mut C,
-    put: &[Replacement],
+    replacements: &[Replacement],
     formula_cell: Address,
     pairs: &[(Address, Address)],
     texts: &mut Vec<String>,
 ) -> Result<(), AllocError>
-    requires { IsInOrder put.now }
+    requires { IsInOrder replacements.now }
     ensures text { let text = spec.entry_text
-        (C.stored calculator.old).sheet put.now formula_cell pairs.now in
+        (C.stored calculator.old).sheet replacements.now formula_cell pairs.now in
         OnOk result (map string_bytes texts.new.items
         ≡ map string_bytes texts.old.items ++ text ∷ []) }
     ensures same { C.stored calculator.new ≡ C.stored calculator.old }
     ensures cost { let sheet = (C.stored calculator.old).sheet in
-        Costs sheet (entry_demanded sheet put.now formula_cell pairs.now)
+        Costs sheet (entry_demanded sheet replacements.now formula_cell pairs.now)
         (C.evaluated calculator.old, C.restarted calculator.old)
         (C.evaluated calculator.new, C.restarted calculator.new) }
 {
-    let value = calculator.what_if_value(put, formula_cell, pairs)?;
+    let value = calculator.what_if_value(replacements, formula_cell, pairs)?;
     push_text_of(alloc, &value, texts)
 }

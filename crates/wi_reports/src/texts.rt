@@ -38,21 +38,21 @@ pub(crate) fn push_text_of(
 pub(crate) fn push_text_under<C: Calculator>(
     alloc: Global,
     calculator: &mut C,
-    put: &[Replacement],
+    replacements: &[Replacement],
     at: Address,
     texts: &mut Vec<String>,
 ) -> Result<(), AllocError>
-    requires { IsInOrder put.now }
-    ensures text { let text = text_under (C.stored calculator.old).sheet put.now at in
+    requires { IsInOrder replacements.now }
+    ensures text { let text = text_under (C.stored calculator.old).sheet replacements.now at in
         OnOk result (map string_bytes texts.new.items
         ≡ map string_bytes texts.old.items ++ text ∷ []) }
     ensures same { C.stored calculator.new ≡ C.stored calculator.old }
     ensures cost { let sheet = (C.stored calculator.old).sheet in
-        Costs sheet (demanded sheet put.now at)
+        Costs sheet (demanded sheet replacements.now at)
         (C.evaluated calculator.old, C.restarted calculator.old)
         (C.evaluated calculator.new, C.restarted calculator.new) }
 {
-    let value = calculator.value(put, at)?;
+    let value = calculator.value(replacements, at)?;
     push_text_of(alloc, &value, texts)
 }
 
@@ -60,24 +60,31 @@ pub(crate) fn push_text_under<C: Calculator>(
 pub(crate) fn push_texts<C: Calculator>(
     alloc: Global,
     calculator: &mut C,
-    put: &[Replacement],
+    replacements: &[Replacement],
     row: u32,
     area: Rect,
     texts: &mut Vec<String>,
 ) -> Result<(), AllocError>
-    requires order { IsInOrder put.now }
+    requires order { IsInOrder replacements.now }
     requires within { row < rows }
     ensures texts { OnOk result (map string_bytes texts.new.items ≡ map string_bytes texts.old.items
-        ++ map (text_under (C.stored calculator.old).sheet put.now) (cells_of_row row area)) }
+        ++ map (text_under (C.stored calculator.old).sheet replacements.now)
+        (cells_of_row row area)) }
     ensures same { C.stored calculator.new ≡ C.stored calculator.old }
     ensures cost { let sheet = (C.stored calculator.old).sheet in
-        Costs sheet (cells_cases sheet put.now (cells_of_row row area))
+        Costs sheet (cells_cases sheet replacements.now (cells_of_row row area))
         (C.evaluated calculator.old, C.restarted calculator.old)
         (C.evaluated calculator.new, C.restarted calculator.new) }
 {
     let first = area.first().column();
     for column in first..area.last().column() + 1 {
-        push_text_under(alloc, calculator, put, Address::at(row, column), texts)?;
+        push_text_under(
+            alloc,
+            calculator,
+            replacements,
+            Address::at(row, column),
+            texts,
+        )?;
     }
     Ok(())
 }

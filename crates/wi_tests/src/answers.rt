@@ -117,18 +117,18 @@ fn asked<C: Calculator>(
 pub fn expect_under<C: Calculator>(
     rt: &impl Abort,
     calculator: &mut C,
-    put: &[Replacement],
+    replacements: &[Replacement],
     at: Address,
     wanted: bool,
 ) -> bool
-    requires { IsInOrder put.now }
+    requires { IsInOrder replacements.now }
 {
     let mut at_once = true;
-    let value = match calculator.value(put, at) {
+    let value = match calculator.value(replacements, at) {
         Ok(value) => value,
         Err(_) => {
             at_once = false;
-            calculator.value(put, at).expect(rt, "a value")
+            calculator.value(replacements, at).expect(rt, "a value")
         }
     };
     expect_that(rt, truth(value) == Some(wanted), "under replacements");

@@ -7,7 +7,7 @@ returns-in_default-clause-value c =
     let s = c.args.store.now.sheet in
     let test = test_of_cells s c.args.formula_cell c.args.pairs.now c.deref.result.now (c.deref.ensures.value ∙ c.in_ok-cells.ensures) in
     let cyclic : list_any (circular s) c.deref.result.now ≡ true = sym (rw c.in_default.is at c.in_ok-order.ensures.circular) in
-    sym (entry_circular s c.args.put.now c.args.formula_cell c.args.pairs.now (test ∙ cyclic))
+    sym (entry_circular s c.args.replacements.now c.args.formula_cell c.args.pairs.now (test ∙ cyclic))
 
 pub open_entry-result-requires-clause-replacing : goal.open_entry-result-requires-clause-replacing
 open_entry-result-requires-clause-replacing c =
@@ -20,19 +20,19 @@ pub returns-clause-value : goal.returns-clause-value
 returns-clause-value c =
     let s = c.args.store.now.sheet in
     let clear : list_any (circular s) c.deref.result.now ≡ false = sym (rw c.in-Some.is at c.in_ok-order.ensures.circular) in
-    let same = put_alone c.in_ok-world.world c.new.result c.args.put.now c.requires c.new.ensures c.in_ok-world.ensures.list in
+    let same = put_alone c.in_ok-world.world c.new.result c.args.replacements.now c.requires c.new.ensures c.in_ok-world.ensures.list in
     let open_cells = open_cells_of s c.args.formula_cell c.args.pairs.now c.deref.result.now (c.deref.ensures.value ∙ c.in_ok-cells.ensures) clear in
-    IfOk-weaker c.open_entry-result.result _ _ (λ v h. entry_shown s c.in_ok-world.world c.args.put.now c.args.formula_cell c.args.pairs.now v open_cells same c.requires h) c.open_entry-result.ensures.value
+    IfOk-weaker c.open_entry-result.result _ _ (λ v h. entry_shown s c.in_ok-world.world c.args.replacements.now c.args.formula_cell c.args.pairs.now v open_cells same c.requires h) c.open_entry-result.ensures.value
 
 pub returns-clause-spends : goal.returns-clause-spends
 returns-clause-spends c =
     let s = c.args.store.now.sheet in
     let clear : list_any (circular s) c.deref.result.now ≡ false = sym (rw c.in-Some.is at c.in_ok-order.ensures.circular) in
-    let same = put_alone c.in_ok-world.world c.new.result c.args.put.now c.requires c.new.ensures c.in_ok-world.ensures.list in
+    let same = put_alone c.in_ok-world.world c.new.result c.args.replacements.now c.requires c.new.ensures c.in_ok-world.ensures.list in
     let open_cells = open_cells_of s c.args.formula_cell c.args.pairs.now c.deref.result.now (c.deref.ensures.value ∙ c.in_ok-cells.ensures) clear in
-    let has = entry_has s c.in_ok-world.world c.args.put.now c.args.formula_cell c.args.pairs.now open_cells same in
+    let has = entry_has s c.in_ok-world.world c.args.replacements.now c.args.formula_cell c.args.pairs.now open_cells same in
     let spends = c.open_entry-result.ensures.spends in
-    (spends.counts, spent_price (spends.on_found (entry_demanded s c.args.put.now c.args.formula_cell c.args.pairs.now) (table_closed s c.args.put.now c.args.formula_cell c.args.pairs.now) has))
+    (spends.counts, spent_price (spends.on_found (entry_demanded s c.args.replacements.now c.args.formula_cell c.args.pairs.now) (table_closed s c.args.replacements.now c.args.formula_cell c.args.pairs.now) has))
 
 pub returns-in_err-cells-clause-spends : goal.returns-in_err-cells-clause-spends
 returns-in_err-cells-clause-spends c = (never_fall-same c.args.meter.now, spent_nothing _ _)

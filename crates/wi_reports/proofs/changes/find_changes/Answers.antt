@@ -9,7 +9,7 @@ value-requires g c = c.requires
 pub loop-at-preserved : goal.loop-at-preserved
 loop-at-preserved g c =
     let old = c.loop-at.invariant in
-    let put = c.args.put.now in
+    let put = c.args.replacements.now in
     let cells = c.args.cells.now in
     let i = c.loop-at.at-index in
     let a = c.at-item.result in
@@ -40,7 +40,7 @@ pub returns-in_err-value-clause-cost : goal.returns-in_err-value-clause-cost
 returns-in_err-value-clause-cost g c =
     let cells = c.args.cells.now in
     let i = c.loop-at.at-index in
-    within_all (cell_asked (λ s. demanded s.sheet c.args.put.now) _ _ c.at-item.result (drop (i + 1) cells) c.loop-at.invariant.same (left_more cells i c.at-item.result c.loop-at-test.true c.at-item.is) c.loop-at.invariant.cost
+    within_all (cell_asked (λ s. demanded s.sheet c.args.replacements.now) _ _ c.at-item.result (drop (i + 1) cells) c.loop-at.invariant.same (left_more cells i c.at-item.result c.loop-at-test.true c.at-item.is) c.loop-at.invariant.cost
     (asked _ _ c.in_err-value.ensures.evaluations c.in_err-value.ensures.restarts))
 
 pub returns-in_err-push-clause-same : goal.returns-in_err-push-clause-same
@@ -53,5 +53,5 @@ pub returns-in_err-push-clause-cost : goal.returns-in_err-push-clause-cost
 returns-in_err-push-clause-cost g c =
     let cells = c.args.cells.now in
     let i = c.loop-at.at-index in
-    within_all (cell_asked (λ s. demanded s.sheet c.args.put.now) _ _ c.at-item.result (drop (i + 1) cells) c.loop-at.invariant.same (left_more cells i c.at-item.result c.loop-at-test.true c.at-item.is) c.loop-at.invariant.cost
+    within_all (cell_asked (λ s. demanded s.sheet c.args.replacements.now) _ _ c.at-item.result (drop (i + 1) cells) c.loop-at.invariant.same (left_more cells i c.at-item.result c.loop-at-test.true c.at-item.is) c.loop-at.invariant.cost
     (asked _ _ c.in_ok-value.ensures.evaluations c.in_ok-value.ensures.restarts))

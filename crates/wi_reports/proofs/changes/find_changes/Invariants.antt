@@ -9,10 +9,10 @@ invariant-loop-at g l =
     let evaluated = g.C.Calculator.evaluated in
     let restarted = g.C.Calculator.restarted in
     let sheet = (stored l.fn.calculator).sheet in
-    let shown_now = shown sheet l.put in
+    let shown_now = shown sheet l.replacements in
     record {
       same : stored l.calculator ≡ stored l.fn.calculator;
       found : l.found.items ++ changes_among (drop l.at-index l.cells) l.picture shown_now ≡ changes_among l.cells l.picture shown_now;
       quiet : l.cells ≡ [] → (evaluated l.calculator ≡ evaluated l.fn.calculator) × (restarted l.calculator ≡ restarted l.fn.calculator);
-      cost : Leaves sheet (cells_cases sheet l.put (drop l.at-index l.cells)) (cells_cases sheet l.put l.cells) (evaluated l.fn.calculator, restarted l.fn.calculator) (evaluated l.calculator, restarted l.calculator);
+      cost : Leaves sheet (cells_cases sheet l.replacements (drop l.at-index l.cells)) (cells_cases sheet l.replacements l.cells) (evaluated l.fn.calculator, restarted l.fn.calculator) (evaluated l.calculator, restarted l.calculator);
     }

@@ -11,15 +11,15 @@ loop-row-preserved g c =
     record {
       within = omega arith;
       same = c.in_ok-push_row.ensures.same ∙ old.same;
-      written = rows_more c.args.put.now _ _ c.args.area first (row - first) (row + 1 - first) row _ _ _ (omega arith) (omega arith) old.same old.written c.in_ok-push_row.ensures.ok;
+      written = rows_more c.args.replacements.now _ _ c.args.area first (row - first) (row + 1 - first) row _ _ _ (omega arith) (omega arith) old.same old.written c.in_ok-push_row.ensures.ok;
       kept = starts_with_trans _ _ _ c.in_ok-push_row.ensures.kept old.kept;
-      cost = cells_asked (λ s. demanded s.sheet c.args.put.now) _ _ (cells_of_row row c.args.area) (rows_from c.args.area (row + 1) ((c.row-row-end.result + 1) - (row + 1))) old.same (rows_left c.args.area row (c.row-row-end.result + 1) c.loop-row-test.true) old.cost c.in_ok-push_row.ensures.cost;
+      cost = cells_asked (λ s. demanded s.sheet c.args.replacements.now) _ _ (cells_of_row row c.args.area) (rows_from c.args.area (row + 1) ((c.row-row-end.result + 1) - (row + 1))) old.same (rows_left c.args.area row (c.row-row-end.result + 1) c.loop-row-test.true) old.cost c.in_ok-push_row.ensures.cost;
     }
 
 pub returns-clause-ok : goal.returns-clause-ok
 returns-clause-ok g c =
     let first = c.row-first.result in
-    all_rows (flat_map (row_shown (g.C.Calculator.stored c.args.calculator.now).sheet c.args.put.now c.args.area)) c.args.area _ first _ c.row-row-end.result (c.loop-row.row - first) _ _
+    all_rows (flat_map (row_shown (g.C.Calculator.stored c.args.calculator.now).sheet c.args.replacements.now c.args.area)) c.args.area _ first _ c.row-row-end.result (c.loop-row.row - first) _ _
     c.first.ensures c.row-first.ensures.value c.last.ensures c.row-row-end.ensures.value (omega arith) c.loop-row.invariant.written
 
 pub loop-row-init : goal.loop-row-init
@@ -31,7 +31,7 @@ loop-row-init g c =
       same = refl;
       written = grind (arith, common_steps);
       kept = starts_itself _;
-      cost = all_left stored.sheet _ (ap (cells_cases stored.sheet c.args.put.now)
+      cost = all_left stored.sheet _ (ap (cells_cases stored.sheet c.args.replacements.now)
           (rows_are c.args.area _ first _ c.row-row-end.result _ c.first.ensures c.row-first.ensures.value c.last.ensures c.row-row-end.ensures.value (omega arith)));
     }
 
@@ -47,5 +47,5 @@ returns-clause-cost g c = within_all c.loop-row.invariant.cost
 pub returns-in_err-push_row-clause-cost : goal.returns-in_err-push_row-clause-cost
 returns-in_err-push_row-clause-cost g c =
     let row = c.loop-row.row in
-    within_all (cells_asked (λ s. demanded s.sheet c.args.put.now) _ _ (cells_of_row row c.args.area) (rows_from c.args.area (row + 1) ((c.row-row-end.result + 1) - (row + 1))) c.loop-row.invariant.same
+    within_all (cells_asked (λ s. demanded s.sheet c.args.replacements.now) _ _ (cells_of_row row c.args.area) (rows_from c.args.area (row + 1) ((c.row-row-end.result + 1) - (row + 1))) c.loop-row.invariant.same
     (rows_left c.args.area row (c.row-row-end.result + 1) c.loop-row-test.true) c.loop-row.invariant.cost c.in_err-push_row.ensures.cost)

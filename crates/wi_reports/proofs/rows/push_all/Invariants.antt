@@ -10,8 +10,8 @@ invariant-loop-row g l =
     record {
       within : l.row ≤ l.first + (l.row-end - l.first);
       same : stored l.calculator ≡ stored l.fn.calculator;
-      written : l.out.items ≡ l.fn.out.items ++ flat_map (row_shown (stored l.fn.calculator).sheet l.fn.put l.fn.area) (range_with_len l.first (l.row - l.first));
+      written : l.out.items ≡ l.fn.out.items ++ flat_map (row_shown (stored l.fn.calculator).sheet l.fn.replacements l.fn.area) (range_with_len l.first (l.row - l.first));
       kept : StartsWith l.out.items l.fn.out.items;
-      cost : Leaves (stored l.fn.calculator).sheet (cells_cases (stored l.fn.calculator).sheet l.fn.put (rows_from l.fn.area l.row (l.row-end - l.row))) (rows_cases (stored l.fn.calculator).sheet l.fn.put l.fn.area)
+      cost : Leaves (stored l.fn.calculator).sheet (cells_cases (stored l.fn.calculator).sheet l.fn.replacements (rows_from l.fn.area l.row (l.row-end - l.row))) (rows_cases (stored l.fn.calculator).sheet l.fn.replacements l.fn.area)
           (g.C.Calculator.evaluated l.fn.calculator, g.C.Calculator.restarted l.fn.calculator) (g.C.Calculator.evaluated l.calculator, g.C.Calculator.restarted l.calculator);
     }

@@ -5,7 +5,7 @@ use Rattle.wi_reports.proofs.rows.push_row.Goals as goal
 pub returns-clause-ok : goal.returns-clause-ok
 returns-clause-ok g c =
     let sheet = (g.C.Calculator.stored c.args.calculator.now).sheet in
-    row_done string_bytes c.push_record.result (text_under sheet c.args.put.now) (cells_of_row c.args.row c.args.area) _ _ _ _ _
+    row_done string_bytes c.push_record.result (text_under sheet c.args.replacements.now) (cells_of_row c.args.row c.args.area) _ _ _ _ _
     c.new-texts.ensures.items c.deref.ensures.value c.in_ok-push_texts.ensures.texts c.push_record.ensures.ok
 
 pub push_texts-requires-clause-order : goal.push_texts-requires-clause-order

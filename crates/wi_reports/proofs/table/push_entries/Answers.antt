@@ -13,4 +13,4 @@ returns-in-None-clause-texts g c = grind (arith, common_steps)
 
 pub returns-in-None-clause-cost : goal.returns-in-None-clause-cost
 returns-in-None-clause-cost g c =
-    asked_same (ap (λ o. entries_cases (g.C.Calculator.stored c.args.calculator.now).sheet c.args.put.now c.args.table.now.formula_cell c.args.table.now.input o c.args.x) (sym c.in-None.is)) c.push_entry.ensures.cost
+    asked_same (ap (λ o. entries_cases (g.C.Calculator.stored c.args.calculator.now).sheet c.args.replacements.now c.args.table.now.formula_cell c.args.table.now.input o c.args.x) (sym c.in-None.is)) c.push_entry.ensures.cost

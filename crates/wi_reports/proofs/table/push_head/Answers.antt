@@ -9,7 +9,7 @@ push_texts-requires-clause-order g c = c.requires
 pub returns-clause-ok : goal.returns-clause-ok
 returns-clause-ok g c =
     let cells = c.args.cells in
-    let text = text_under (g.C.Calculator.stored c.args.calculator.now).sheet c.args.put.now in
+    let text = text_under (g.C.Calculator.stored c.args.calculator.now).sheet c.args.replacements.now in
     let texts = map text (cells_of_row (row_of cells.first) cells) in
     let all = c.in_ok-push_texts.ensures.texts ∙ ap (λ r. map string_bytes c.push.new.self.items ++ map text (cells_of_row r cells)) (c.row-row.ensures.value ∙ ap row_of c.first.ensures) in
     written_as string_bytes c.push_record.result ([] ∷ texts) _ _ _ _ c.deref.ensures.value
@@ -25,10 +25,10 @@ pub returns-in_err-push_texts-clause-kept : goal.returns-in_err-push_texts-claus
 returns-in_err-push_texts-clause-kept g c = starts_itself _
 
 pub returns-clause-cost : goal.returns-clause-cost
-returns-clause-cost g c = asked_same (ap (λ r. cells_cases (g.C.Calculator.stored c.args.calculator.now).sheet c.args.put.now (cells_of_row r c.args.cells)) (c.row-row.ensures.value ∙ ap row_of c.first.ensures)) c.in_ok-push_texts.ensures.cost
+returns-clause-cost g c = asked_same (ap (λ r. cells_cases (g.C.Calculator.stored c.args.calculator.now).sheet c.args.replacements.now (cells_of_row r c.args.cells)) (c.row-row.ensures.value ∙ ap row_of c.first.ensures)) c.in_ok-push_texts.ensures.cost
 
 pub returns-in_err-push_texts-clause-cost : goal.returns-in_err-push_texts-clause-cost
-returns-in_err-push_texts-clause-cost g c = asked_same (ap (λ r. cells_cases (g.C.Calculator.stored c.args.calculator.now).sheet c.args.put.now (cells_of_row r c.args.cells)) (c.row-row.ensures.value ∙ ap row_of c.first.ensures)) c.in_err-push_texts.ensures.cost
+returns-in_err-push_texts-clause-cost g c = asked_same (ap (λ r. cells_cases (g.C.Calculator.stored c.args.calculator.now).sheet c.args.replacements.now (cells_of_row r c.args.cells)) (c.row-row.ensures.value ∙ ap row_of c.first.ensures)) c.in_err-push_texts.ensures.cost
 
 pub returns-in_err-push-clause-cost : goal.returns-in_err-push-clause-cost
 returns-in_err-push-clause-cost g c = nothing_asked _ _ _

@@ -12,7 +12,7 @@ invariant-loop-column g l =
       within : l.column ≤ l.first + (l.column-end - l.first);
       same : stored l.calculator ≡ stored l.fn.calculator;
       texts : map string_bytes l.texts.items ≡ map string_bytes l.fn.texts.items
-          ++ texts (λ y. entry_text (stored l.fn.calculator).sheet l.fn.put l.fn.given.formula_cell (pairs_at l.fn.given.input l.fn.given.x l.fn.given.second y)) l.row l.first (l.column - l.first);
-      cost : Leaves (stored l.fn.calculator).sheet (flat_map (λ y. entry_demanded (stored l.fn.calculator).sheet l.fn.put l.fn.given.formula_cell (pairs_at l.fn.given.input l.fn.given.x l.fn.given.second y)) (cells_in l.row l.column (l.column-end - l.column))) (flat_map (λ y. entry_demanded (stored l.fn.calculator).sheet l.fn.put l.fn.given.formula_cell (pairs_at l.fn.given.input l.fn.given.x l.fn.given.second y)) (cells_of_row (row_of l.fn.cells.first) l.fn.cells))
+          ++ texts (λ y. entry_text (stored l.fn.calculator).sheet l.fn.replacements l.fn.given.formula_cell (pairs_at l.fn.given.input l.fn.given.x l.fn.given.second y)) l.row l.first (l.column - l.first);
+      cost : Leaves (stored l.fn.calculator).sheet (flat_map (λ y. entry_demanded (stored l.fn.calculator).sheet l.fn.replacements l.fn.given.formula_cell (pairs_at l.fn.given.input l.fn.given.x l.fn.given.second y)) (cells_in l.row l.column (l.column-end - l.column))) (flat_map (λ y. entry_demanded (stored l.fn.calculator).sheet l.fn.replacements l.fn.given.formula_cell (pairs_at l.fn.given.input l.fn.given.x l.fn.given.second y)) (cells_of_row (row_of l.fn.cells.first) l.fn.cells))
           (g.C.Calculator.evaluated l.fn.calculator, g.C.Calculator.restarted l.fn.calculator) (g.C.Calculator.evaluated l.calculator, g.C.Calculator.restarted l.calculator);
     }

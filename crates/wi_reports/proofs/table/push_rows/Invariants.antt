@@ -11,9 +11,9 @@ invariant-loop-row g l =
     record {
       within : l.row ≤ l.first + (l.row-end - l.first);
       same : stored l.calculator ≡ stored l.fn.calculator;
-      written : l.out.items ≡ l.fn.out.items ++ flat_map (table_row (stored l.fn.calculator).sheet l.fn.put table.formula_cell table.input table.second) (rows_from table.column l.first (l.row - l.first));
+      written : l.out.items ≡ l.fn.out.items ++ flat_map (table_row (stored l.fn.calculator).sheet l.fn.replacements table.formula_cell table.input table.second) (rows_from table.column l.first (l.row - l.first));
       kept : StartsWith l.out.items l.fn.out.items;
-      cost : Leaves (stored l.fn.calculator).sheet (flat_map (beside_cases (stored l.fn.calculator).sheet l.fn.put table.formula_cell table.input table.second) (rows_from table.column l.row (l.row-end - l.row)))
-          (flat_map (beside_cases (stored l.fn.calculator).sheet l.fn.put table.formula_cell table.input table.second) (cells_of table.column))
+      cost : Leaves (stored l.fn.calculator).sheet (flat_map (beside_cases (stored l.fn.calculator).sheet l.fn.replacements table.formula_cell table.input table.second) (rows_from table.column l.row (l.row-end - l.row)))
+          (flat_map (beside_cases (stored l.fn.calculator).sheet l.fn.replacements table.formula_cell table.input table.second) (cells_of table.column))
           (g.C.Calculator.evaluated l.fn.calculator, g.C.Calculator.restarted l.fn.calculator) (g.C.Calculator.evaluated l.calculator, g.C.Calculator.restarted l.calculator);
     }

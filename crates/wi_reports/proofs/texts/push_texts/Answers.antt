@@ -12,15 +12,15 @@ loop-column-preserved g c =
     record {
       within = omega arith;
       same = c.in_ok-push_text_under.ensures.same ∙ old.same;
-      texts = one_text string_bytes (λ s. text_under s.sheet c.args.put.now) _ _ _ c.args.row first (column - first) (column + 1 - first) column c.at.result _ _ (omega arith) (omega arith) old.same c.at.ensures
+      texts = one_text string_bytes (λ s. text_under s.sheet c.args.replacements.now) _ _ _ c.args.row first (column - first) (column + 1 - first) column c.at.result _ _ (omega arith) (omega arith) old.same c.at.ensures
           old.texts c.in_ok-push_text_under.ensures.text;
-      cost = cell_asked (λ s. demanded s.sheet c.args.put.now) _ _ c.at.result (cells_in c.args.row (column + 1) ((c.column-column-end.result + 1) - (column + 1))) old.same (row_left c.args.row column (c.column-column-end.result + 1) c.at.result c.loop-column-test.true c.at.ensures) old.cost c.in_ok-push_text_under.ensures.cost;
+      cost = cell_asked (λ s. demanded s.sheet c.args.replacements.now) _ _ c.at.result (cells_in c.args.row (column + 1) ((c.column-column-end.result + 1) - (column + 1))) old.same (row_left c.args.row column (c.column-column-end.result + 1) c.at.result c.loop-column-test.true c.at.ensures) old.cost c.in_ok-push_text_under.ensures.cost;
     }
 
 pub returns-clause-texts : goal.returns-clause-texts
 returns-clause-texts g c =
     let first = c.column-first.result in
-    all_texts (text_under (g.C.Calculator.stored c.args.calculator.now).sheet c.args.put.now) c.args.area c.args.row _ first _ c.column-column-end.result (c.loop-column.column - first) _ _
+    all_texts (text_under (g.C.Calculator.stored c.args.calculator.now).sheet c.args.replacements.now) c.args.area c.args.row _ first _ c.column-column-end.result (c.loop-column.column - first) _ _
     c.first.ensures c.column-first.ensures.value c.last.ensures c.column-column-end.ensures.value (omega arith) c.loop-column.invariant.texts
 
 pub push_text_under-requires : goal.push_text_under-requires
@@ -36,7 +36,7 @@ loop-column-init g c =
       within = omega arith;
       same = refl;
       texts = grind (arith, common_steps);
-      cost = all_left (g.C.Calculator.stored c.args.calculator.now).sheet _ (ap (cells_cases (g.C.Calculator.stored c.args.calculator.now).sheet c.args.put.now)
+      cost = all_left (g.C.Calculator.stored c.args.calculator.now).sheet _ (ap (cells_cases (g.C.Calculator.stored c.args.calculator.now).sheet c.args.replacements.now)
           (row_is c.args.area c.args.row _ first _ c.column-column-end.result _ c.first.ensures c.column-first.ensures.value c.last.ensures c.column-column-end.ensures.value (omega arith)));
     }
 
@@ -46,5 +46,5 @@ returns-clause-cost g c = within_all c.loop-column.invariant.cost
 pub returns-in_err-push_text_under-clause-cost : goal.returns-in_err-push_text_under-clause-cost
 returns-in_err-push_text_under-clause-cost g c =
     let column = c.loop-column.column in
-    within_all (cell_asked (λ s. demanded s.sheet c.args.put.now) _ _ c.at.result (cells_in c.args.row (column + 1) ((c.column-column-end.result + 1) - (column + 1))) c.loop-column.invariant.same
+    within_all (cell_asked (λ s. demanded s.sheet c.args.replacements.now) _ _ c.at.result (cells_in c.args.row (column + 1) ((c.column-column-end.result + 1) - (column + 1))) c.loop-column.invariant.same
     (row_left c.args.row column (c.column-column-end.result + 1) c.at.result c.loop-column-test.true c.at.ensures) c.loop-column.invariant.cost c.in_err-push_text_under.ensures.cost)

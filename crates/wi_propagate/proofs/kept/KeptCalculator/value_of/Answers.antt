@@ -7,7 +7,7 @@ use Rattle.wi_propagate.proofs.kept.KeptCalculator.value_of.Goals as goal
 pub returns-then-is_circular-clause-value : goal.returns-then-is_circular-clause-value
 returns-then-is_circular-clause-value c =
     let is : circular c.self.inside.store.sheet c.args.at ≡ true = sym (c.is_circular.ensures c.self.inside.store.sheet c.self.invariant.1) ∙ c.if-is_circular.true in
-    sym (shown_circular c.args.self.now.stored.sheet c.args.put.now c.args.at (ap (λ (k : KeptSheet). circular k.stored.sheet c.args.at) (sym c.self.view_is) ∙ is))
+    sym (shown_circular c.args.self.now.stored.sheet c.args.replacements.now c.args.at (ap (λ (k : KeptSheet). circular k.stored.sheet c.args.at) (sym c.self.view_is) ∙ is))
 
 pub returns-then-is_circular-clause-kept : goal.returns-then-is_circular-clause-kept
 returns-then-is_circular-clause-kept c =
@@ -21,8 +21,8 @@ returns-in-Value-clause-value c =
     let s = c.self.inside.store.sheet in
     let o : circular s c.args.at ≡ false = sym (c.is_circular.ensures s c.self.invariant.1) ∙ c.if-is_circular.false in
     let there = rw c.in-Value.is at c.in_ok-value.ensures in
-    subst (λ (x : KeptSheet). c.in-Value.value ≡ shown x.stored.sheet c.args.put.now c.args.at) c.self.view_is
-    (shown_value s c.args.put.now c.args.put.now c.args.at c.in-Value.value o refl there.0)
+    subst (λ (x : KeptSheet). c.in-Value.value ≡ shown x.stored.sheet c.args.replacements.now c.args.at) c.self.view_is
+    (shown_value s c.args.replacements.now c.args.replacements.now c.args.at c.in-Value.value o refl there.0)
 
 pub returns-in-Value-clause-easy : goal.returns-in-Value-clause-easy
 returns-in-Value-clause-easy c = λ h. refl
@@ -33,7 +33,7 @@ returns-in-Value-clause-owes c = owes_none c.args.self.now _ _
 pub returns-in-Value-clause-kept : goal.returns-in-Value-clause-kept
 returns-in-Value-clause-kept c =
     let there = rw c.in-Value.is at c.in_ok-value.ensures in
-    let none = ap (λ (k : KeptSheet). has_formula (content_of (put_all k.stored.sheet c.args.put.now) c.args.at)) (sym c.self.view_is) ∙ there.1 in
+    let none = ap (λ (k : KeptSheet). has_formula (content_of (put_all k.stored.sheet c.args.replacements.now) c.args.at)) (sym c.self.view_is) ∙ there.1 in
     λ h. absurd (h (inr (inl none)))
 
 -- ---- what a formula gives
@@ -67,8 +67,8 @@ pub returns-clause-value : goal.returns-clause-value
 returns-clause-value c =
     let i = c.self.inside in
     let o : circular i.store.sheet c.args.at ≡ false = sym (c.is_circular.ensures i.store.sheet c.self.invariant.1) ∙ c.if-is_circular.false in
-    subst (λ (x : KeptSheet). IfOk c.formula_value-result.result (λ v. v ≡ shown x.stored.sheet c.args.put.now c.args.at)) c.self.view_is
-    (IfOk-weaker c.formula_value-result.result _ _ (λ v e. shown_value i.store.sheet c.in_ok-world.world c.args.put.now c.args.at v o c.in_ok-world.ensures e) c.formula_value-result.ensures.value)
+    subst (λ (x : KeptSheet). IfOk c.formula_value-result.result (λ v. v ≡ shown x.stored.sheet c.args.replacements.now c.args.at)) c.self.view_is
+    (IfOk-weaker c.formula_value-result.result _ _ (λ v e. shown_value i.store.sheet c.in_ok-world.world c.args.replacements.now c.args.at v o c.in_ok-world.ensures e) c.formula_value-result.ensures.value)
 
 pub returns-clause-easy : goal.returns-clause-easy
 returns-clause-easy c =
@@ -76,8 +76,8 @@ returns-clause-easy c =
     let view = flushed_view {s = i.store} c.in_ok-flush.ensures.edited_at i.carried i.meter c.args.self.now c.self.view_is in
     let o : circular i.store.sheet c.args.at ≡ false = sym (c.is_circular.ensures i.store.sheet c.self.invariant.1) ∙ c.if-is_circular.false in
     let q = begins i.store (told i.store.sheet c.flush.new.self.edited_at) i.carried i.meter _ c.new-memo.result c.take_carried-carried.ensures.values c.new-memo.ensures.value c.new-memo.ensures.placed in
-    subst (λ (x : KeptSheet). IsAtHand x c.args.put.now c.args.at → c.formula_value-result.new.self.meter ≡ x.counts) view
-    (λ h. c.formula_value-result.ensures.uncounted (at_hand_is q c.in_ok-world.world c.args.put.now c.args.at o c.in_ok-world.ensures h))
+    subst (λ (x : KeptSheet). IsAtHand x c.args.replacements.now c.args.at → c.formula_value-result.new.self.meter ≡ x.counts) view
+    (λ h. c.formula_value-result.ensures.uncounted (at_hand_is q c.in_ok-world.world c.args.replacements.now c.args.at o c.in_ok-world.ensures h))
 
 pub returns-clause-kept : goal.returns-clause-kept
 returns-clause-kept c =
@@ -87,8 +87,8 @@ returns-clause-kept c =
     let q = begins i.store (told i.store.sheet c.flush.new.self.edited_at) i.carried i.meter _ c.new-memo.result c.take_carried-carried.ensures.values c.new-memo.ensures.value c.new-memo.ensures.placed in
     let new : KeptSheet = record { stored = i.store; generations = told i.store.sheet c.flush.new.self.edited_at; values = c.into_carried.result.value.kept; counts = c.formula_value-result.new.self.meter } in
     let e = c.formula_value-result.ensures in
-    subst (λ (x : KeptSheet). OnOk c.formula_value-result.result ((IsAtHand x c.args.put.now c.args.at → ⊥) → is_kept new c.args.at (reaching x.stored.sheet c.args.at c.args.put.now) ≡ true)) view
-    (IfOk-weaker c.formula_value-result.result _ _ (λ v h. asked_kept q c.in_ok-world.world c.args.put.now c.args.at o c.in_ok-world.ensures c.formula_value-result.new.self.memo c.into_carried.result.value.kept c.formula_value-result.new.self.meter
+    subst (λ (x : KeptSheet). OnOk c.formula_value-result.result ((IsAtHand x c.args.replacements.now c.args.at → ⊥) → is_kept new c.args.at (reaching x.stored.sheet c.args.at c.args.replacements.now) ≡ true)) view
+    (IfOk-weaker c.formula_value-result.result _ _ (λ v h. asked_kept q c.in_ok-world.world c.args.replacements.now c.args.at o c.in_ok-world.ensures c.formula_value-result.new.self.memo c.into_carried.result.value.kept c.formula_value-result.new.self.meter
     e.spends.same c.into_carried.ensures.kept c.self.invariant.3.space h) e.kept)
 
 pub new-memo-requires-clause-cones : goal.new-memo-requires-clause-cones
@@ -121,12 +121,12 @@ returns-clause-owes c =
     let view = flushed_view {s = i.store} c.in_ok-flush.ensures.edited_at i.carried i.meter c.args.self.now c.self.view_is in
     let o : circular i.store.sheet c.args.at ≡ false = sym (c.is_circular.ensures i.store.sheet c.self.invariant.1) ∙ c.if-is_circular.false in
     let q = begins i.store (told i.store.sheet c.flush.new.self.edited_at) i.carried i.meter _ c.new-memo.result c.take_carried-carried.ensures.values c.new-memo.ensures.value c.new-memo.ensures.placed in
-    let has = demands_itself i.store.sheet c.in_ok-world.world c.args.put.now c.args.at o c.in_ok-world.ensures in
-    let closed = different_closed i.store.sheet (case_of i.store.sheet c.args.put.now c.args.at) in
+    let has = demands_itself i.store.sheet c.in_ok-world.world c.args.replacements.now c.args.at o c.in_ok-world.ensures in
+    let closed = different_closed i.store.sheet (case_of i.store.sheet c.args.replacements.now c.args.at) in
     let Has = HasCase i.store.sheet c.in_ok-world.world c.args.at in
     let new : KeptSheet = record { stored = i.store; generations = told i.store.sheet c.flush.new.self.edited_at; values = c.into_carried.result.value.kept; counts = c.formula_value-result.new.self.meter } in
-    subst (λ (x : KeptSheet). Owes x new (demanded x.stored.sheet c.args.put.now c.args.at) (is_ok c.formula_value-result.result)) view
-    (owes_spent q c.formula_value-result.new.self.memo c.into_carried.result.value.kept c.formula_value-result.new.self.meter c.into_carried.ensures.kept c.into_carried.ensures.within Has (demanded i.store.sheet c.args.put.now c.args.at) closed has _ (spends_at_most c.formula_value-result.ensures.spends))
+    subst (λ (x : KeptSheet). Owes x new (demanded x.stored.sheet c.args.replacements.now c.args.at) (is_ok c.formula_value-result.result)) view
+    (owes_spent q c.formula_value-result.new.self.memo c.into_carried.result.value.kept c.formula_value-result.new.self.meter c.into_carried.ensures.kept c.into_carried.ensures.within Has (demanded i.store.sheet c.args.replacements.now c.args.at) closed has _ (spends_at_most c.formula_value-result.ensures.spends))
 
 pub flush-requires-clause-dirty : goal.flush-requires-clause-dirty
 flush-requires-clause-dirty c =

@@ -6,7 +6,7 @@ use Rattle.wi_propagate.proofs.kept.KeptCalculator.value_of_entry.Goals as goal
 
 pub returns-then-entry_is_circular-clause-value : goal.returns-then-entry_is_circular-clause-value
 returns-then-entry_is_circular-clause-value c =
-    circular_entry c.self.inside.store.sheet c.args.self.now.stored.sheet c.args.put.now c.args.formula_cell c.args.pairs.now c.entry_is_circular.result (ap (λ (x : KeptSheet). x.stored.sheet) c.self.view_is) (c.entry_is_circular.ensures c.self.inside.store.sheet c.self.invariant.1) c.if-entry_is_circular.true
+    circular_entry c.self.inside.store.sheet c.args.self.now.stored.sheet c.args.replacements.now c.args.formula_cell c.args.pairs.now c.entry_is_circular.result (ap (λ (x : KeptSheet). x.stored.sheet) c.self.view_is) (c.entry_is_circular.ensures c.self.inside.store.sheet c.self.invariant.1) c.if-entry_is_circular.true
 
 pub returns-then-entry_is_circular-clause-settled : goal.returns-then-entry_is_circular-clause-settled
 returns-then-entry_is_circular-clause-settled c = λ space one all.
@@ -45,8 +45,8 @@ pub returns-clause-value : goal.returns-clause-value
 returns-clause-value c =
     let s = c.self.inside.store.sheet in
     let o = open_cells s c.args.formula_cell c.args.pairs.now c.entry_is_circular.result (c.entry_is_circular.ensures s c.self.invariant.1) c.if-entry_is_circular.false in
-    subst (λ (x : KeptSheet). IfOk c.planned_entry-result.result (λ v. v ≡ table_entry x.stored.sheet c.args.put.now c.args.formula_cell c.args.pairs.now)) c.self.view_is
-    (IfOk-weaker c.planned_entry-result.result _ _ (λ v e. entry_shown s c.in_ok-world.world c.args.put.now c.args.formula_cell c.args.pairs.now v o c.in_ok-world.ensures c.requires e) c.planned_entry-result.ensures.value)
+    subst (λ (x : KeptSheet). IfOk c.planned_entry-result.result (λ v. v ≡ table_entry x.stored.sheet c.args.replacements.now c.args.formula_cell c.args.pairs.now)) c.self.view_is
+    (IfOk-weaker c.planned_entry-result.result _ _ (λ v e. entry_shown s c.in_ok-world.world c.args.replacements.now c.args.formula_cell c.args.pairs.now v o c.in_ok-world.ensures c.requires e) c.planned_entry-result.ensures.value)
 
 pub returns-clause-settled : goal.returns-clause-settled
 returns-clause-settled c =
@@ -55,16 +55,16 @@ returns-clause-settled c =
     let q = begins i.store (told i.store.sheet c.flush.new.self.edited_at) i.carried i.meter _ c.new-memo.result c.take_carried-carried.ensures.values c.new-memo.ensures.value c.new-memo.ensures.placed in
     let s = i.store.sheet in
     let o = open_cells s c.args.formula_cell c.args.pairs.now c.entry_is_circular.result (c.entry_is_circular.ensures s c.self.invariant.1) c.if-entry_is_circular.false in
-    let cases = entry_demanded s c.args.put.now c.args.formula_cell c.args.pairs.now in
-    let has = entry_has s c.in_ok-world.world c.args.put.now c.args.formula_cell c.args.pairs.now o c.in_ok-world.ensures in
-    let closed = table_closed s c.args.put.now c.args.formula_cell c.args.pairs.now in
+    let cases = entry_demanded s c.args.replacements.now c.args.formula_cell c.args.pairs.now in
+    let has = entry_has s c.in_ok-world.world c.args.replacements.now c.args.formula_cell c.args.pairs.now o c.in_ok-world.ensures in
+    let closed = table_closed s c.args.replacements.now c.args.formula_cell c.args.pairs.now in
     let Has = HasEntry s c.in_ok-world.world c.args.formula_cell c.args.pairs.now in
     let new : KeptSheet = record { stored = i.store; generations = told i.store.sheet c.flush.new.self.edited_at; values = c.into_carried.result.value.kept; counts = c.planned_entry-result.new.question.meter } in
     let e = c.planned_entry-result.ensures in
     let x : ℕ × List (ℕ × ℕ) = (c.args.formula_cell, c.args.pairs.now) in
-    subst (λ (y : KeptSheet). OnOk c.planned_entry-result.result (HasSpaceFor y (entry_demanded y.stored.sheet c.args.put.now c.args.formula_cell c.args.pairs.now) → circular y.stored.sheet c.args.formula_cell ≡ false → All (λ p. circular y.stored.sheet p.1 ≡ false) c.args.pairs.now
-    → IsWhatIfSettled y.stored.sheet (is_kept new) c.args.put.now x)) view
-    (IfOk-weaker c.planned_entry-result.result _ _ (λ v g space a b. asked_settled q c.planned_entry-result.new.question.memo c.into_carried.result.value.kept c.planned_entry-result.new.question.meter e.spends.same c.into_carried.ensures.kept c.in_ok-world.world c.args.put.now x c.in_ok-world.ensures
+    subst (λ (y : KeptSheet). OnOk c.planned_entry-result.result (HasSpaceFor y (entry_demanded y.stored.sheet c.args.replacements.now c.args.formula_cell c.args.pairs.now) → circular y.stored.sheet c.args.formula_cell ≡ false → All (λ p. circular y.stored.sheet p.1 ≡ false) c.args.pairs.now
+    → IsWhatIfSettled y.stored.sheet (is_kept new) c.args.replacements.now x)) view
+    (IfOk-weaker c.planned_entry-result.result _ _ (λ v g space a b. asked_settled q c.planned_entry-result.new.question.memo c.into_carried.result.value.kept c.planned_entry-result.new.question.meter e.spends.same c.into_carried.ensures.kept c.in_ok-world.world c.args.replacements.now x c.in_ok-world.ensures
     (asked_where q (λ ks. IsWhatIfSettled s (state_in c.planned_entry-result.new.question.memo).kept c.in_ok-world.world x) cases Has g closed has space)) e.settled)
 
 pub new-memo-requires-clause-cones : goal.new-memo-requires-clause-cones
@@ -86,12 +86,12 @@ returns-clause-owes c =
     let q = begins i.store (told i.store.sheet c.flush.new.self.edited_at) i.carried i.meter _ c.new-memo.result c.take_carried-carried.ensures.values c.new-memo.ensures.value c.new-memo.ensures.placed in
     let s = i.store.sheet in
     let o = open_cells s c.args.formula_cell c.args.pairs.now c.entry_is_circular.result (c.entry_is_circular.ensures s c.self.invariant.1) c.if-entry_is_circular.false in
-    let cases = entry_demanded s c.args.put.now c.args.formula_cell c.args.pairs.now in
-    let has = entry_has s c.in_ok-world.world c.args.put.now c.args.formula_cell c.args.pairs.now o c.in_ok-world.ensures in
-    let closed = table_closed s c.args.put.now c.args.formula_cell c.args.pairs.now in
+    let cases = entry_demanded s c.args.replacements.now c.args.formula_cell c.args.pairs.now in
+    let has = entry_has s c.in_ok-world.world c.args.replacements.now c.args.formula_cell c.args.pairs.now o c.in_ok-world.ensures in
+    let closed = table_closed s c.args.replacements.now c.args.formula_cell c.args.pairs.now in
     let Has = HasEntry s c.in_ok-world.world c.args.formula_cell c.args.pairs.now in
     let new : KeptSheet = record { stored = i.store; generations = told i.store.sheet c.flush.new.self.edited_at; values = c.into_carried.result.value.kept; counts = c.planned_entry-result.new.question.meter } in
-    subst (λ (x : KeptSheet). Owes x new (entry_demanded x.stored.sheet c.args.put.now c.args.formula_cell c.args.pairs.now) (is_ok c.planned_entry-result.result)) view
+    subst (λ (x : KeptSheet). Owes x new (entry_demanded x.stored.sheet c.args.replacements.now c.args.formula_cell c.args.pairs.now) (is_ok c.planned_entry-result.result)) view
     (owes_spent q c.planned_entry-result.new.question.memo c.into_carried.result.value.kept c.planned_entry-result.new.question.meter c.into_carried.ensures.kept c.into_carried.ensures.within Has cases closed has _ c.planned_entry-result.ensures.spends)
 
 pub flush-requires-clause-dirty : goal.flush-requires-clause-dirty

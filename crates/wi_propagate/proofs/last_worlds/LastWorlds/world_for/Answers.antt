@@ -8,4 +8,4 @@ pub returns-then-has_exactly-2 : goal.returns-then-has_exactly-2
 returns-then-has_exactly-2 c = IfOk-weaker c.copy-then-has_exactly-2.result _ _ (λ w h. h ∙ c.has_exactly-2.ensures.0 c.if-has_exactly-2.true) c.copy-then-has_exactly-2.ensures
 
 pub returns : goal.returns
-returns c = IfOk-weaker c.with-2.result _ _ (λ w h. put_alone w c.new.result c.args.put.now c.requires c.new.ensures h) c.with-2.ensures.list
+returns c = IfOk-weaker c.with-2.result _ _ (λ w h. put_alone w c.new.result c.args.replacements.now c.requires c.new.ensures h) c.with-2.ensures.list
